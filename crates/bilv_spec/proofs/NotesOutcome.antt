@@ -1,0 +1,332 @@
+-- A text is notes, or it has a first fault.
+use Rattle.std.proofs.Common.{◌≡◌, ◌≢◌, ℕ, zero, suc, ◌<◌, ◌≤◌, ◌+◌, ◌%◌, ◌^◌, refl, ap, sym, ◌∙◌, subst, arith, List, [], ◌∷◌, ◌++◌, Option, ◌⊎◌, inl, inr, length, get_or, All, AllPairs, Contains, count_by, append_assoc, append-nil, length-append, lit<, lit≤}
+use Rattle.bilv_spec.specs.Notes.{Expr, Notes, At, Named, Function, Targets}
+use Rattle.bilv_spec.specs.NotesGrammar.{Token, NumberToken, NameToken, SignToken, BadByte, BadText, tokens_of, lines_of, is_depth, IsGood, IsAligned, Says, Nothing, EntryIs, RequireIs, EnsureIs, AssertIs, TargetsAre, FixedIs, IsSaid, IsLine, AreLines, AreAligned, IsRange, IsNotesText, entries, requires_of, ensures_of, asserts_of, targets_of, fixed_of}
+use Rattle.bilv_spec.specs.NotesFaults.{NoteFault, LimitFault, ByteFault, TokenFault, NumberFault, DepthFault, WordFault, SyntaxFault, NameFault, AlignFault, RangeFault, EntryFault, note_fault_rank, any_name, line_words, IsLineWord, BeginsBadly, Repeats, NoteFaultApplies, NoneRepeats, AreGood, IsFirstNoteFault, at_line, no_entry}
+use Rattle.bilv_spec.specs.NotesLaws.{KeepsReserved}
+use Rattle.bilv_spec.proofs.Decided.{Decided, through, both, either, negation, same_text, same_number, is_less, is_at_most}
+use Rattle.bilv_spec.proofs.NotesDecided.{same_tokens, Said, is_said}
+use Rattle.bilv_spec.proofs.NotesNames.{any_keeps}
+use Rattle.bilv_spec.proofs.NotesSaid.{one_saying}
+use Rattle.bilv_spec.proofs.NotesFirst.{of_rank, ranked, entries_append, targets_append}
+use Rattle.std.proofs.lemmas.List.Elements.{Contains-append_left, Contains-append_right}
+
+-- an element of which something holds
+abbrev Found : {X : Type 0} → (X → Type 0) → List X → Type 0
+Found {X} P xs = (x : X) × Contains xs x × P x
+
+into : {X : Type 0} (P : X → Type 0) (x : X) (xs : List X) → P x ⊎ Found P xs → Found P (x ∷ xs)
+into P x xs (inl p) = (x, (0, omega arith, refl), p)
+into P x xs (inr s) = (s.0, (suc s.1.0, omega (arith, s.1.1), s.1.2), s.2)
+
+out_of : {X : Type 0} (P : X → Type 0) (x : X) (xs : List X) (y : X) → Contains (x ∷ xs) y → P y → P x ⊎ Found P xs
+out_of P x xs y (zero, less, is) p = inl (subst P (sym is) p)
+out_of P x xs y (suc k, less, is) p = inr (y, (k, omega (arith, less), is), p)
+
+some_element : {X : Type 0} (P : X → Type 0) → ((x : X) → Decided (P x)) → (xs : List X) → Decided (Found P xs)
+some_element P d [] = inr (λ s. omega (arith, s.1.1))
+some_element P d (x ∷ xs) = through (into P x xs) (λ s. out_of P x xs s.0 s.1 s.2) (either (d x) (some_element P d xs))
+
+contains : {X : Type 0} → ((x y : X) → Decided (x ≡ y)) → (xs : List X) (x : X) → Decided (Contains xs x)
+contains {X} d xs x = through (λ s. subst (λ y. Contains xs y) s.2 s.1) (λ c. (x, c, refl)) (some_element (λ y. y ≡ x) (λ y. d y x) xs)
+
+join : {X : Type 0} (P : X → Type 0) (x : X) (xs : List X) → P x → All P xs → All P (x ∷ xs)
+join P x xs p all zero d less = p
+join P x xs p all (suc k) d less = all k d (omega (arith, less))
+
+every_one : {X : Type 0} (P : X → Type 0) → ((x : X) → Decided (P x)) → (xs : List X) → Decided (All P xs)
+every_one P d [] = inl (λ k x less. absurd (omega (arith, less)))
+every_one P d (x ∷ xs) = through (λ p. join P x xs p.0 p.1) (λ all. (all 0 x (omega arith), λ k y less. all (suc k) y (omega (arith, less)))) (both (d x) (every_one P d xs))
+
+-- the parts of a line's claim
+aligned : (a : ℕ) → Decided (IsAligned a)
+aligned a = same_number (a % 4) 0
+
+are_aligned : (s : Says) → Decided (AreAligned s)
+are_aligned (EntryIs (At a)) = aligned a
+are_aligned (EntryIs (Named w)) = inl tt
+are_aligned (AssertIs a e) = aligned a
+are_aligned (TargetsAre a to) = both (aligned a) (every_one IsAligned aligned to)
+are_aligned Nothing = inl tt
+are_aligned (RequireIs e) = inl tt
+are_aligned (EnsureIs e) = inl tt
+are_aligned (FixedIs low high) = inl tt
+
+is_range : (s : Says) → Decided (IsRange s)
+is_range (FixedIs low high) = is_at_most low high
+is_range (EntryIs e) = inl tt
+is_range (AssertIs a e) = inl tt
+is_range (TargetsAre a to) = inl tt
+is_range Nothing = inl tt
+is_range (RequireIs e) = inl tt
+is_range (EnsureIs e) = inl tt
+
+none : (xs : List Function) → Decided (xs ≡ [])
+none [] = inl refl
+none (x ∷ xs) = inr (λ e. let b : ⊥ = cc in b)
+
+repeats : (before : List Says) (s : Says) → Decided (Repeats before s)
+repeats before (EntryIs e) = negation (none (entries before))
+repeats before (TargetsAre a to) = some_element (λ t. t.at ≡ a) (λ t. same_number t.at a) (targets_of before)
+repeats before Nothing = inr (λ r. r)
+repeats before (RequireIs e) = inr (λ r. r)
+repeats before (EnsureIs e) = inr (λ r. r)
+repeats before (AssertIs a e) = inr (λ r. r)
+repeats before (FixedIs low high) = inr (λ r. r)
+
+-- of the one thing that a line says
+of_said : (names : List ℕ → Option Expr) → KeepsReserved names → (ts : List Token) (Q : Says → Type 0) → ((s : Says) → Decided (Q s)) → Decided (Said names ts) →
+    Decided ((s : Says) × IsSaid names ts s × Q s)
+of_said names keeps ts Q d (inl p) = through (λ q. (p.0, p.1, q)) (λ r. subst Q (one_saying names keeps ts r.0 p.0 r.1 p.1) r.2) (d p.0)
+of_said names keeps ts Q d (inr not_said) = inr (λ r. not_said (r.0, r.1))
+
+large : (t : Token) → Decided ((v : ℕ) × (t ≡ NumberToken v) × (2 ^ 32 ≤ v))
+large (NumberToken n) = through (λ le. (n, refl, le)) (λ p. let x = p.1 in let is : p.0 ≡ n = cc in subst (λ v. 2 ^ 32 ≤ v) is p.2) (is_at_most (2 ^ 32) n)
+large t = inr (λ p. let x = p.1 in let y : ⊥ = cc in y)
+
+line_word : (t : Token) → Decided (IsLineWord t)
+line_word (NameToken w) = contains same_text line_words w
+line_word (NumberToken n) = inr (λ b. b)
+line_word (SignToken s) = inr (λ b. b)
+line_word BadByte = inr (λ b. b)
+line_word BadText = inr (λ b. b)
+
+badly : (ts : List Token) → Decided (BeginsBadly ts)
+badly [] = inr (λ b. b)
+badly (t ∷ ts) = negation (line_word t)
+
+applies : (names : List ℕ → Option Expr) → KeepsReserved names → (n : ℕ) (before : List Says) (text : List ℕ) (f : NoteFault) → Decided (NoteFaultApplies names n before text f)
+applies names keeps n before text LimitFault = either (is_less 4096 n) (is_less 1024 (length text))
+applies names keeps n before text ByteFault = contains same_tokens (tokens_of text) BadByte
+applies names keeps n before text TokenFault = contains same_tokens (tokens_of text) BadText
+applies names keeps n before text NumberFault =
+    through (λ s. (s.2.0, subst (λ t. Contains (tokens_of text) t) s.2.1 s.1, s.2.2)) (λ p. (NumberToken p.0, p.1, (p.0, refl, p.2)))
+    (some_element (λ t. (v : ℕ) × (t ≡ NumberToken v) × (2 ^ 32 ≤ v)) large (tokens_of text))
+applies names keeps n before text DepthFault = is_less 64 (count_by is_depth (tokens_of text))
+applies names keeps n before text WordFault = badly (tokens_of text)
+applies names keeps n before text SyntaxFault = through (λ f s p. f (s, p)) (λ f p. f p.0 p.1) (negation (is_said any_name any_keeps (tokens_of text)))
+applies names keeps n before text NameFault = through (λ f s p. f (s, p)) (λ f p. f p.0 p.1) (negation (is_said names keeps (tokens_of text)))
+applies names keeps n before text AlignFault = of_said names keeps (tokens_of text) (λ s. AreAligned s → ⊥) (λ s. negation (are_aligned s)) (is_said names keeps (tokens_of text))
+applies names keeps n before text RangeFault = of_said names keeps (tokens_of text) (λ s. IsRange s → ⊥) (λ s. negation (is_range s)) (is_said names keeps (tokens_of text))
+applies names keeps n before text EntryFault = of_said names keeps (tokens_of text) (Repeats before) (repeats before) (is_said names keeps (tokens_of text))
+
+-- the least fault below a rank
+abbrev Least : (NoteFault → Type 0) → Type 0
+Least P = (f : NoteFault) × P f × ((g : NoteFault) → note_fault_rank g < note_fault_rank f → P g → ⊥)
+
+abbrev Free : (NoteFault → Type 0) → ℕ → Type 0
+Free P k = (g : NoteFault) → note_fault_rank g < k → P g → ⊥
+
+not_less : (a b : ℕ) → (a < b → ⊥) → b ≤ a
+not_less a b p = grind arith
+
+by_order : (P : NoteFault → Type 0) (k : ℕ) → Free P k → ((note_fault_rank (of_rank k) ≡ k) × P (of_rank k) → ⊥) → (g : NoteFault) → Decided (note_fault_rank g < k) → note_fault_rank g < suc k → P g → ⊥
+by_order P k free f g (inl less) le q = free g less q
+by_order P k free f g (inr above) le q =
+    let is : note_fault_rank g ≡ k = let ge = not_less (note_fault_rank g) k above in omega (arith, ge, le) in
+    let g_is : g ≡ of_rank k = sym (ranked g) ∙ ap of_rank is in
+    f (sym (ap note_fault_rank g_is) ∙ is, subst P g_is q)
+
+next_rank : (P : NoteFault → Type 0) (k : ℕ) → Free P k → Decided ((note_fault_rank (of_rank k) ≡ k) × P (of_rank k)) → Least P ⊎ Free P (suc k)
+next_rank P k free (inl p) = inl (of_rank k, p.1, λ g less q. free g (omega (arith, less, p.0)) q)
+next_rank P k free (inr f) = inr (λ g less q. by_order P k free f g (is_less (note_fault_rank g) k) less q)
+
+after : (P : NoteFault → Type 0) → ((f : NoteFault) → Decided (P f)) → (k : ℕ) → Least P ⊎ Free P k → Least P ⊎ Free P (suc k)
+after P d k (inl l) = inl l
+after P d k (inr free) = next_rank P k free (both (same_number (note_fault_rank (of_rank k)) k) (d (of_rank k)))
+
+below : (P : NoteFault → Type 0) → ((f : NoteFault) → Decided (P f)) → (k : ℕ) → Least P ⊎ Free P k
+below P d zero = inr (λ g less q. omega (arith, less))
+below P d (suc k) = after P d k (below P d k)
+
+rank_below : (f : NoteFault) → note_fault_rank f < 12
+rank_below LimitFault = lit< tt
+rank_below ByteFault = lit< tt
+rank_below TokenFault = lit< tt
+rank_below NumberFault = lit< tt
+rank_below DepthFault = lit< tt
+rank_below WordFault = lit< tt
+rank_below SyntaxFault = lit< tt
+rank_below NameFault = lit< tt
+rank_below AlignFault = lit< tt
+rank_below RangeFault = lit< tt
+rank_below EntryFault = lit< tt
+
+least_or_none : (P : NoteFault → Type 0) → Least P ⊎ Free P 12 → Least P ⊎ ((f : NoteFault) → P f → ⊥)
+least_or_none P (inl l) = inl l
+least_or_none P (inr free) = inr (λ f p. free f (rank_below f) p)
+
+less_if : (v : ℕ) → (2 ^ 32 ≤ v → ⊥) → v < 2 ^ 32
+less_if v f = grind arith
+
+surely : (P : Type 0) → Decided P → ((P → ⊥) → ⊥) → P
+surely P (inl p) f = p
+surely P (inr g) f = absurd (f g)
+
+-- a line to which no fault applies says something new
+record Good (names : List ℕ → Option Expr) (n : ℕ) (before : List Says) (text : List ℕ) : Type 0 where
+  says : Says
+  line : IsLine names text says
+  new : Repeats before says → ⊥
+  count : n ≤ 4096
+
+free_default : {X : Type 0} (xs : List X) (k : ℕ) (d e : X) → k < length xs → get_or xs k d ≡ get_or xs k e
+free_default [] k d e less = absurd (omega (arith, less))
+free_default (x ∷ xs) zero d e less = refl
+free_default (x ∷ xs) (suc k) d e less = free_default xs k d e (omega (arith, less))
+
+good_token : (ts : List Token) (t : Token) → Contains ts t → (Contains ts BadByte → ⊥) → (Contains ts BadText → ⊥) → ((v : ℕ) × Contains ts (NumberToken v) × (2 ^ 32 ≤ v) → ⊥) → IsGood t
+good_token ts (NumberToken v) c f g h = less_if v (λ le. h (v, c, le))
+good_token ts (NameToken w) c f g h = tt
+good_token ts (SignToken w) c f g h = tt
+good_token ts BadByte c f g h = f c
+good_token ts BadText c f g h = g c
+
+no_fault_good : (names : List ℕ → Option Expr) → KeepsReserved names → (n : ℕ) (before : List Says) (text : List ℕ) → ((f : NoteFault) → NoteFaultApplies names n before text f → ⊥) →
+    Decided (Said names (tokens_of text)) → Good names n before text
+no_fault_good names keeps n before text f (inr not_said) = absurd (f NameFault (λ s p. not_said (s, p)))
+no_fault_good names keeps n before text f (inl p) = record {
+  says = p.0;
+  line = record {
+    short = not_less 1024 (length text) (λ less. f LimitFault (inr less));
+    good = λ k d less. good_token (tokens_of text) (get_or (tokens_of text) k d) (k, less, free_default (tokens_of text) k (get_or (tokens_of text) k d) d less)
+        (f ByteFault) (f TokenFault) (f NumberFault);
+    depth = not_less 64 (count_by is_depth (tokens_of text)) (f DepthFault);
+    said = p.1;
+    aligned = surely (AreAligned p.0) (are_aligned p.0) (λ g. f AlignFault (p.0, p.1, g));
+    range = surely (IsRange p.0) (is_range p.0) (λ g. f RangeFault (p.0, p.1, g));
+  };
+  new = λ r. f EntryFault (p.0, p.1, r);
+  count = not_less 4096 n (λ less. f LimitFault (inl less));
+}
+
+-- one more good line
+lines_and : (names : List ℕ → Option Expr) (texts : List (List ℕ)) (says : List Says) (text : List ℕ) (s : Says) → AreLines names texts says → IsLine names text s →
+    AreLines names (texts ++ text ∷ []) (says ++ s ∷ [])
+lines_and names [] [] text s p q = (q, tt)
+lines_and names [] (t ∷ says) text s p q = absurd p
+lines_and names (x ∷ texts) [] text s p q = absurd p
+lines_and names (x ∷ texts) (t ∷ says) text s p q = (p.0, lines_and names texts says text s p.1 q)
+
+none_and : (first says : List Says) (s : Says) → NoneRepeats first says → (Repeats (first ++ says) s → ⊥) → NoneRepeats first (says ++ s ∷ [])
+none_and first [] s p new = (λ r. new (subst (λ l. Repeats l s) (sym (append-nil first)) r), tt)
+none_and first (t ∷ says) s p new = (p.0, none_and (first ++ t ∷ []) says s p.1 (λ r. new (subst (λ l. Repeats l s) (append_assoc first (t ∷ []) says) r)))
+
+good_and : (names : List ℕ → Option Expr) (texts : List (List ℕ)) (says : List Says) (text : List ℕ) → AreGood names texts says → (g : Good names (length texts + 1) says text) →
+    AreGood names (texts ++ text ∷ []) (says ++ g.says ∷ [])
+good_and names texts says text p g = record {
+  count = let n = length-append texts (text ∷ []) in omega (arith, n, g.count);
+  lines = lines_and names texts says text g.says p.lines g.line;
+  none_repeats = none_and [] says g.says p.none_repeats g.new;
+}
+
+-- lines that are all good, or the first that is not
+data Judged (names : List ℕ → Option Expr) (texts : List (List ℕ)) : Type 0 where
+  all_good : (says : List Says) → AreGood names texts says → Judged names texts
+  bad_at : (good rest : List (List ℕ)) (bad : List ℕ) (says : List Says) → texts ≡ good ++ bad ∷ rest → AreGood names good says →
+      Least (NoteFaultApplies names (length good + 1) says bad) → Judged names texts
+
+on_line : (names : List ℕ → Option Expr) (texts good rest : List (List ℕ)) (text : List ℕ) (says : List Says) → texts ≡ good ++ text ∷ rest → AreGood names good says →
+    Least (NoteFaultApplies names (length good + 1) says text) ⊎ ((f : NoteFault) → NoteFaultApplies names (length good + 1) says text f → ⊥) →
+    (((f : NoteFault) → NoteFaultApplies names (length good + 1) says text f → ⊥) → Judged names texts) → Judged names texts
+on_line names texts good rest text says is g (inl l) next = bad_at good rest text says is g l
+on_line names texts good rest text says is g (inr f) next = next f
+
+judge : (names : List ℕ → Option Expr) → KeepsReserved names → (texts good rest : List (List ℕ)) (says : List Says) → texts ≡ good ++ rest → AreGood names good says → Judged names texts
+judge names keeps texts good [] says is g = all_good says (subst (λ l. AreGood names l says) (sym (is ∙ append-nil good)) g)
+judge names keeps texts good (text ∷ rest) says is g =
+    on_line names texts good rest text says is g
+    (least_or_none (NoteFaultApplies names (length good + 1) says text) (below (NoteFaultApplies names (length good + 1) says text) (applies names keeps (length good + 1) says text) 12))
+    (λ f. let next = no_fault_good names keeps (length good + 1) says text f (is_said names keeps (tokens_of text)) in
+    judge names keeps texts (good ++ text ∷ []) rest (says ++ next.says ∷ []) (is ∙ sym (append_assoc good (text ∷ []) rest)) (good_and names good says text g next))
+
+-- functions that do not repeat
+grown : (before : List Says) (s : Says) (fs : List Function) → entries (s ∷ []) ≡ [] → entries before ≡ fs → entries (before ++ s ∷ []) ≡ fs
+grown before s fs silent is = entries_append before (s ∷ []) ∙ (ap (λ l. entries before ++ l) silent ∙ (append-nil (entries before) ∙ is))
+
+no_entry_after : (before says : List Says) (e : Function) → entries before ≡ e ∷ [] → NoneRepeats before says → entries says ≡ []
+no_entry_after before [] e is p = refl
+no_entry_after before (EntryIs f ∷ says) e is p = absurd (p.0 (λ empty. let b : ⊥ = cc in b))
+no_entry_after before (Nothing ∷ says) e is p = no_entry_after (before ++ Nothing ∷ []) says e (grown before Nothing (e ∷ []) refl is) p.1
+no_entry_after before (RequireIs x ∷ says) e is p = no_entry_after (before ++ RequireIs x ∷ []) says e (grown before (RequireIs x) (e ∷ []) refl is) p.1
+no_entry_after before (EnsureIs x ∷ says) e is p = no_entry_after (before ++ EnsureIs x ∷ []) says e (grown before (EnsureIs x) (e ∷ []) refl is) p.1
+no_entry_after before (AssertIs a x ∷ says) e is p = no_entry_after (before ++ AssertIs a x ∷ []) says e (grown before (AssertIs a x) (e ∷ []) refl is) p.1
+no_entry_after before (TargetsAre a to ∷ says) e is p = no_entry_after (before ++ TargetsAre a to ∷ []) says e (grown before (TargetsAre a to) (e ∷ []) refl is) p.1
+no_entry_after before (FixedIs low high ∷ says) e is p = no_entry_after (before ++ FixedIs low high ∷ []) says e (grown before (FixedIs low high) (e ∷ []) refl is) p.1
+
+one_entry : (before says : List Says) (e : Function) (es : List Function) → entries before ≡ [] → NoneRepeats before says → entries says ≡ e ∷ es → es ≡ []
+one_entry before [] e es is p has = absurd (let b : ⊥ = cc in b)
+one_entry before (EntryIs f ∷ says) e es is p has =
+    let rest : es ≡ entries says = cc in
+    rest ∙ no_entry_after (before ++ EntryIs f ∷ []) says f (entries_append before (EntryIs f ∷ []) ∙ ap (λ l. l ++ f ∷ []) is) p.1
+one_entry before (Nothing ∷ says) e es is p has = one_entry (before ++ Nothing ∷ []) says e es (grown before Nothing [] refl is) p.1 has
+one_entry before (RequireIs x ∷ says) e es is p has = one_entry (before ++ RequireIs x ∷ []) says e es (grown before (RequireIs x) [] refl is) p.1 has
+one_entry before (EnsureIs x ∷ says) e es is p has = one_entry (before ++ EnsureIs x ∷ []) says e es (grown before (EnsureIs x) [] refl is) p.1 has
+one_entry before (AssertIs a x ∷ says) e es is p has = one_entry (before ++ AssertIs a x ∷ []) says e es (grown before (AssertIs a x) [] refl is) p.1 has
+one_entry before (TargetsAre a to ∷ says) e es is p has = one_entry (before ++ TargetsAre a to ∷ []) says e es (grown before (TargetsAre a to) [] refl is) p.1 has
+one_entry before (FixedIs low high ∷ says) e es is p has = one_entry (before ++ FixedIs low high ∷ []) says e es (grown before (FixedIs low high) [] refl is) p.1 has
+
+-- targets that do not repeat
+kept : (before : List Says) (s : Says) (t : Targets) → Contains (targets_of before) t → Contains (targets_of (before ++ s ∷ [])) t
+kept before s t c = subst (λ l. Contains l t) (sym (targets_append before (s ∷ []))) (Contains-append_left (targets_of before) (targets_of (s ∷ [])) t c)
+
+added : (before : List Says) (a : ℕ) (to : List ℕ) → Contains (targets_of (before ++ TargetsAre a to ∷ [])) (record { at = a; to = to })
+added before a to =
+    subst (λ l. Contains l (record { at = a; to = to })) (sym (targets_append before (TargetsAre a to ∷ [])))
+    (Contains-append_right (targets_of before) (record { at = a; to = to } ∷ []) (record { at = a; to = to }) (0, omega arith, refl))
+
+apart_after : (before says : List Says) (t u : Targets) → NoneRepeats before says → Contains (targets_of before) t → Contains (targets_of says) u → t.at ≡ u.at → ⊥
+apart_after before [] t u p c d same_at = omega (arith, d.1)
+apart_after before (TargetsAre a to ∷ says) t u p c (zero, less, is) same_at = p.0 (t, c, same_at ∙ sym (ap (λ t. t.at) is))
+apart_after before (TargetsAre a to ∷ says) t u p c (suc k, less, is) same_at =
+    apart_after (before ++ TargetsAre a to ∷ []) says t u p.1 (kept before (TargetsAre a to) t c) (k, omega (arith, less), is) same_at
+apart_after before (Nothing ∷ says) t u p c d same_at = apart_after (before ++ Nothing ∷ []) says t u p.1 (kept before Nothing t c) d same_at
+apart_after before (EntryIs e ∷ says) t u p c d same_at = apart_after (before ++ EntryIs e ∷ []) says t u p.1 (kept before (EntryIs e) t c) d same_at
+apart_after before (RequireIs x ∷ says) t u p c d same_at = apart_after (before ++ RequireIs x ∷ []) says t u p.1 (kept before (RequireIs x) t c) d same_at
+apart_after before (EnsureIs x ∷ says) t u p c d same_at = apart_after (before ++ EnsureIs x ∷ []) says t u p.1 (kept before (EnsureIs x) t c) d same_at
+apart_after before (AssertIs a x ∷ says) t u p c d same_at = apart_after (before ++ AssertIs a x ∷ []) says t u p.1 (kept before (AssertIs a x) t c) d same_at
+apart_after before (FixedIs low high ∷ says) t u p c d same_at = apart_after (before ++ FixedIs low high ∷ []) says t u p.1 (kept before (FixedIs low high) t c) d same_at
+
+cons_pairs : (x : Targets) (xs : List Targets) → ((u : Targets) → Contains xs u → x.at ≡ u.at → ⊥) → AllPairs (λ s t. s.at ≢ t.at) xs → AllPairs (λ s t. s.at ≢ t.at) (x ∷ xs)
+cons_pairs x xs f all zero zero d less below = absurd (omega (arith, less))
+cons_pairs x xs f all zero (suc j) d less below =
+    let b : j < length xs = omega (arith, below) in f (get_or xs j d) (j, b, free_default xs j (get_or xs j d) d b)
+cons_pairs x xs f all (suc i) zero d less below = absurd (omega (arith, less))
+cons_pairs x xs f all (suc i) (suc j) d less below = all i j d (omega (arith, less)) (omega (arith, below))
+
+pairs : (before says : List Says) → NoneRepeats before says → AllPairs (λ s t. s.at ≢ t.at) (targets_of says)
+pairs before [] p = λ i j d less below. absurd (omega (arith, below))
+pairs before (TargetsAre a to ∷ says) p =
+    cons_pairs (record { at = a; to = to }) (targets_of says)
+    (λ u c. apart_after (before ++ TargetsAre a to ∷ []) says (record { at = a; to = to }) u p.1 (added before a to) c) (pairs (before ++ TargetsAre a to ∷ []) says p.1)
+pairs before (Nothing ∷ says) p = pairs (before ++ Nothing ∷ []) says p.1
+pairs before (EntryIs e ∷ says) p = pairs (before ++ EntryIs e ∷ []) says p.1
+pairs before (RequireIs x ∷ says) p = pairs (before ++ RequireIs x ∷ []) says p.1
+pairs before (EnsureIs x ∷ says) p = pairs (before ++ EnsureIs x ∷ []) says p.1
+pairs before (AssertIs a x ∷ says) p = pairs (before ++ AssertIs a x ∷ []) says p.1
+pairs before (FixedIs low high ∷ says) p = pairs (before ++ FixedIs low high ∷ []) says p.1
+
+-- good lines are notes, unless no line names the function
+abbrev Outcome : (List ℕ → Option Expr) → List ℕ → Type 0
+Outcome names text = ((m : Notes) × IsNotesText names text m) ⊎ ((line : ℕ) × (f : NoteFault) × IsFirstNoteFault names text line f)
+
+by_entries : (names : List ℕ → Option Expr) (text : List ℕ) (says : List Says) → AreGood names (lines_of text) says → (fs : List Function) → entries says ≡ fs → Outcome names text
+by_entries names text says g [] is = inr (length (lines_of text) + 1, EntryFault, no_entry says g is)
+by_entries names text says g (e ∷ es) is =
+    inl (
+      record { entry = e; requires = requires_of 1 says; ensures = ensures_of 1 says; asserts = asserts_of 1 says; targets = targets_of says; fixed = fixed_of says },
+      record {
+        short = g.count;
+        says = says;
+        lines = g.lines;
+        notes_are = (is ∙ ap (λ l. e ∷ l) (one_entry [] says e es refl g.none_repeats is), refl, refl, refl, refl, refl, pairs [] says g.none_repeats);
+      },
+    )
+
+of_judged : (names : List ℕ → Option Expr) (text : List ℕ) → Judged names (lines_of text) → Outcome names text
+of_judged names text (all_good says g) = by_entries names text says g (entries says) refl
+of_judged names text (bad_at good rest bad says is g l) = inr (length good + 1, l.0, at_line good rest bad says is g l.1 l.2)
+
+-- a text is notes, or it has a first fault
+pub one_of_both : (names : List ℕ → Option Expr) → KeepsReserved names → (text : List ℕ) → Outcome names text
+one_of_both names keeps text = of_judged names text (judge names keeps (lines_of text) [] (lines_of text) [] refl (record { count = lit≤ tt; lines = tt; none_repeats = tt }))

@@ -1,0 +1,161 @@
+-- Worked notes: lines, tokens, an expression, a text and the values of operators.
+use Rattle.std.proofs.Common.{◌≡◌, ℕ, zero, suc, refl, List, [], ◌∷◌, ◌++◌, Option, Some, None, arith, All, map, codes, lit<, lit≤, ◌%◌}
+use Rattle.bilv_spec.specs.Memory.{Little, Big}
+use Rattle.bilv_spec.specs.State.{State}
+use Rattle.bilv_spec.specs.Notes.{Expr, BitOr, BitXor, BitAnd, Number, Register, Flag, Pc, Old, Not, Binary, Op, Or, And, Equal, Below, SignedBelow, SignedAtLeast, ShiftLeft, ShiftRight, ShiftSigned, Plus, Minus, Times, Notes, At, apply, value}
+use Rattle.bilv_spec.specs.Notes as notes
+use Rattle.bilv_spec.specs.NotesGrammar.{NumberToken, NameToken, SignToken, BadText, BadByte, tokens_of, lines_of, Parses, IsGood, EntryIs, EnsureIs, IsLine, IsNotesText}
+use Rattle.bilv_spec.specs.RvNames.{rv_names, rv_table}
+use Rattle.bilv_spec.specs.ArmNames.{arm_names, arm_table}
+use Rattle.bilv_spec.proofs.NotesTables.{Each}
+use Rattle.bilv_spec.proofs.NotesParser.{Level, work, all_read}
+use Rattle.bilv_spec.proofs.ParserEnds.{by_reading}
+
+-- the tokens of a line with a comment, of a comparison, and of what is no token
+tokens_1 : tokens_of (codes "require a0 <=u 0x1F # 5") ≡ NameToken (codes "require") ∷ NameToken (codes "a0") ∷ SignToken (codes "<=u") ∷ NumberToken 31 ∷ []
+tokens_1 = refl
+
+tokens_2 : tokens_of (codes "a0 <ux") ≡ NameToken (codes "a0") ∷ BadText ∷ NameToken (codes "ux") ∷ []
+tokens_2 = refl
+
+tokens_3 : tokens_of (codes "12ab >>> -1") ≡ BadText ∷ NameToken (codes "ab") ∷ SignToken (codes ">>>") ∷ SignToken (codes "-") ∷ NumberToken 1 ∷ []
+tokens_3 = refl
+
+-- a number ends where its digits end; only a letter there is a fault
+tokens_4 : tokens_of (codes "5_ 5.x 0x1_") ≡
+    NumberToken 5 ∷ NameToken (codes "_") ∷ NumberToken 5 ∷ NameToken (codes ".x") ∷ NumberToken 1 ∷ NameToken (codes "_") ∷ []
+tokens_4 = refl
+
+tokens_5 : map (λ text. tokens_of text) (codes "0x" ∷ codes "0X1" ∷ codes "0x1g" ∷ codes "<=" ∷ codes ">" ∷ []) ≡
+    (BadText ∷ NameToken (codes "x") ∷ []) ∷ (BadText ∷ NameToken (codes "X1") ∷ []) ∷ (BadText ∷ NameToken (codes "g") ∷ []) ∷
+    (BadText ∷ SignToken (codes "=") ∷ []) ∷ (BadText ∷ []) ∷ []
+tokens_5 = refl
+
+-- a comment has any bytes; elsewhere 7F and bytes below 20 are faults but for the tab
+tokens_6 : tokens_of (codes "sp" ++ 9 ∷ 127 ∷ 13 ∷ codes "#" ++ 0 ∷ 255 ∷ []) ≡ NameToken (codes "sp") ∷ BadByte ∷ BadByte ∷ []
+tokens_6 = refl
+
+-- the longest operator first; the letter of a comparison belongs to it only where no name goes on
+tokens_7 : tokens_of (codes "<<u>>>>s<=s(>=u5") ≡
+    SignToken (codes "<<") ∷ NameToken (codes "u") ∷ SignToken (codes ">>>") ∷ SignToken (codes ">s") ∷ SignToken (codes "<=s") ∷ SignToken (codes "(") ∷
+    BadText ∷ SignToken (codes "=") ∷ NameToken (codes "u5") ∷ []
+tokens_7 = refl
+
+-- the lines of a text: a CR before LF is dropped and every other one stays, and nothing behind the last LF is a line
+lines_1 : lines_of (codes "a" ++ 13 ∷ 10 ∷ 10 ∷ codes "b") ≡ codes "a" ∷ [] ∷ codes "b" ∷ []
+lines_1 = refl
+
+lines_2 : lines_of (13 ∷ 13 ∷ 10 ∷ codes "c" ++ 13 ∷ codes "d" ++ 10 ∷ 10 ∷ []) ≡ (13 ∷ []) ∷ (codes "c" ++ 13 ∷ codes "d") ∷ [] ∷ []
+lines_2 = refl
+
+lines_3 : (lines_of [] ≡ []) × (lines_of (10 ∷ []) ≡ [] ∷ []) × (lines_of (codes "e" ++ 13 ∷ []) ≡ (codes "e" ++ 13 ∷ []) ∷ [])
+lines_3 = (refl, refl, refl)
+
+-- expressions: the levels, the grouping to the left, `not`, loads, and the names of both machines
+abbrev read : (List ℕ → Option Expr) → List ℕ → Option Expr
+read names text = all_read (work names 60 (Level 1) (tokens_of text))
+
+levels : read rv_names (codes "1 | 2 ^ 3 & 4 << 5 + 6 * 7") ≡
+    Some (Binary BitOr (Number 1) (Binary BitXor (Number 2) (Binary BitAnd (Number 3) (Binary ShiftLeft (Number 4) (Binary Plus (Number 5) (Binary Times (Number 6) (Number 7)))))))
+levels = refl
+
+grouping : read rv_names (codes "1 - 2 + 3 - (4 - 5)") ≡
+    Some (Binary Minus (Binary Plus (Binary Minus (Number 1) (Number 2)) (Number 3)) (Binary Minus (Number 4) (Number 5)))
+grouping = refl
+
+logic : read rv_names (codes "1 or not 2 = 3 and not not 4") ≡ Some (Binary Or (Number 1) (Binary And (Not (Binary Equal (Number 2) (Number 3))) (Not (Not (Number 4)))))
+logic = refl
+
+of_rv : read rv_names (codes "mem32[sp + 4] >=s old(mem8[pc] - x0)") ≡
+    Some (Binary SignedAtLeast (notes.Memory 4 (Binary Plus (Register 2) (Number 4))) (Old (Binary Minus (notes.Memory 1 Pc) (Number 0))))
+unfolding rv_table
+of_rv = refl
+
+of_arm : read arm_names (codes "N and r15 = lr") ≡ Some (Binary And (Flag 3) (Binary Equal Pc (Register 14)))
+unfolding arm_table
+of_arm = refl
+
+-- a name of one machine is none of the other
+other_machine : (read rv_names (codes "r0") ≡ None) × (read arm_names (codes "a0") ≡ None)
+unfolding rv_table arm_table
+other_machine = (refl, refl)
+
+abbrev one_larger : Expr
+one_larger = Binary Equal (Register 10) (Binary Plus (Old (Register 10)) (Number 1))
+
+line_says : Parses rv_names 1 (tokens_of (codes "a0 = old(a0) + 1")) one_larger
+unfolding rv_table
+line_says = by_reading rv_names 40 (tokens_of (codes "a0 = old(a0) + 1")) one_larger refl
+
+-- the value of an operator at some words
+values : map (λ (o : Op). apply o 0x80000000 32) (ShiftLeft ∷ ShiftRight ∷ ShiftSigned ∷ SignedBelow ∷ Below ∷ Minus ∷ Times ∷ []) ≡ 0 ∷ 0 ∷ 0xffffffff ∷ 1 ∷ 0 ∷ 0x7fffffe0 ∷ 0 ∷ []
+values = refl
+
+truths : map (λ (o : Op). apply o 5 0) (Or ∷ And ∷ Equal ∷ SignedAtLeast ∷ []) ≡ 1 ∷ 0 ∷ 0 ∷ 1 ∷ []
+truths = refl
+
+-- a load wraps, in the order of the image, and `old` takes the whole expression from the state at entry
+abbrev now : State
+now = record { pc = 0x10008; regs = λ r. 7; flags = λ f. 1; mem = λ a. a % 251 }
+
+abbrev entry : State
+entry = record { pc = 0x10000; regs = λ r. 9; flags = λ f. 0; mem = λ a. 0 }
+
+loaded : value Little (notes.Memory 4 (Number 0xfffffffe)) now entry ≡ 0x01007a79
+loaded = refl
+
+loaded_big : value Big (notes.Memory 4 (Number 0xfffffffe)) now entry ≡ 0x797a0001
+loaded_big = refl
+
+at_entry : value Little (Old (Binary Plus Pc (Binary Plus (Register 10) (Flag 1)))) now entry ≡ 0x10009
+at_entry = refl
+
+at_now : value Little (Binary Plus Pc (Binary Plus (Register 10) (Flag 1))) now entry ≡ 0x10010
+at_now = refl
+
+-- two lines, and the notes that they are
+abbrev two_lines : List ℕ
+two_lines = codes "entry 0x10000" ++ 10 ∷ codes "ensure a0 = old(a0) + 1" ++ 10 ∷ []
+
+abbrev one_more : Notes
+one_more = record {
+  entry = At 0x10000;
+  requires = [];
+  ensures = record { line = 2; says = one_larger } ∷ [];
+  asserts = [];
+  targets = [];
+  fixed = [];
+}
+
+every : {X : Type 0} (P : X → Type 0) (xs : List X) → Each P xs → All P xs
+every P [] each k d below = absurd (omega (arith, below))
+every P (x ∷ xs) each zero d below = each.0
+every P (x ∷ xs) each (suc k) d below = every P xs each.1 k d (omega (arith, below))
+
+pub line_1 : IsLine rv_names (codes "entry 0x10000") (EntryIs (At 0x10000))
+line_1 = record {
+  short = lit≤ tt;
+  good = every IsGood (tokens_of (codes "entry 0x10000")) (tt, (lit< tt, tt));
+  depth = lit≤ tt;
+  said = refl;
+  aligned = refl;
+  range = tt;
+}
+
+line_2 : IsLine rv_names (codes "ensure a0 = old(a0) + 1") (EnsureIs one_larger)
+line_2 = record {
+  short = lit≤ tt;
+  good = every IsGood (tokens_of (codes "ensure a0 = old(a0) + 1")) (tt, (tt, (tt, (tt, (tt, (tt, (tt, (tt, (lit< tt, tt)))))))));
+  depth = lit≤ tt;
+  said = (tokens_of (codes "a0 = old(a0) + 1"), refl, line_says);
+  aligned = tt;
+  range = tt;
+}
+
+notes_of_two_lines : IsNotesText rv_names two_lines one_more
+notes_of_two_lines = record {
+  short = lit≤ tt;
+  says = EntryIs (At 0x10000) ∷ EnsureIs one_larger ∷ [];
+  lines = (line_1, (line_2, tt));
+  notes_are = (refl, refl, refl, refl, refl, refl, λ i j d less below. absurd (omega (arith, below)));
+}

@@ -1,0 +1,68 @@
+-- The program of two files: its entry is aligned, and its rows are lawful.
+use Rattle.std.proofs.Common.{◌≡◌, ℕ, ◌<◌, ◌%◌, ◌^◌, List, [], ◌∷◌, Option, Some, None, Bool, true, false, refl, sym, ap, ◌∙◌, subst, arith}
+use Rattle.std.specs.Prelude.{slice_index, if◌then◌else◌, nat_lt, ◌-◌, ◌+◌}
+use Rattle.bilv_spec.specs.Memory.{Endian}
+use Rattle.bilv_spec.specs.Elf.{file_endian, Segment, cell_in}
+use Rattle.bilv_spec.specs.Machine.{Machine, Row}
+use Rattle.bilv_spec.specs.MachineLaws.{IsLawfulMachine}
+use Rattle.bilv_spec.specs.Run.{Program, fetchable}
+use Rattle.bilv_spec.specs.Rv.{rv32}
+use Rattle.bilv_spec.specs.Arm.{arm}
+use Rattle.bilv_spec.specs.Points.{byte_of_cell, file_word}
+use Rattle.bilv_spec.specs.Notes.{Expr, Function, At, Named}
+use Rattle.bilv_spec.specs.NotesGrammar.{Says, Nothing, EntryIs, RequireIs, EnsureIs, AssertIs, TargetsAre, FixedIs, AreLines, entries, lines_of}
+use Rattle.bilv_spec.specs.Files.{is_rv, IsProgram, IsFunctionAt, program_of}
+use Rattle.bilv_spec.specs.PointLaws.{HasLawfulRows}
+use Rattle.bilv_spec.proofs.WordBounds.{load_below}
+use Rattle.bilv_spec.proofs.RvLawful.{rv_is_lawful}
+use Rattle.bilv_spec.proofs.ArmLawful.{arm_is_lawful}
+
+-- the function's address of lines that say one is aligned
+said_aligned : (names : List ℕ → Option Expr) (texts : List (List ℕ)) (says : List Says) (a : ℕ) → AreLines names texts says → entries says ≡ At a ∷ [] → a % 4 ≡ 0
+said_aligned names [] [] a lines e = absurd (cc)
+said_aligned names [] (s ∷ says) a lines e = absurd lines
+said_aligned names (t ∷ texts) [] a lines e = absurd lines
+said_aligned names (t ∷ texts) (EntryIs (At b) ∷ says) a lines e = let same : b ≡ a = cc in ap (λ n. n % 4) (sym same) ∙ lines.0.aligned
+said_aligned names (t ∷ texts) (EntryIs (Named n) ∷ says) a lines e = absurd (cc)
+said_aligned names (t ∷ texts) (Nothing ∷ says) a lines e = said_aligned names texts says a lines.1 e
+said_aligned names (t ∷ texts) (RequireIs x ∷ says) a lines e = said_aligned names texts says a lines.1 e
+said_aligned names (t ∷ texts) (EnsureIs x ∷ says) a lines e = said_aligned names texts says a lines.1 e
+said_aligned names (t ∷ texts) (AssertIs b x ∷ says) a lines e = said_aligned names texts says a lines.1 e
+said_aligned names (t ∷ texts) (TargetsAre b to ∷ says) a lines e = said_aligned names texts says a lines.1 e
+said_aligned names (t ∷ texts) (FixedIs low high ∷ says) a lines e = said_aligned names texts says a lines.1 e
+
+at_aligned : (file text : List ℕ) (names : List ℕ → Option Expr) (says : List Says) (f : Function) (entry : ℕ) →
+    AreLines names (lines_of text) says → entries says ≡ f ∷ [] → IsFunctionAt file f entry → entry % 4 ≡ 0
+at_aligned file text names says (At a) entry lines e is = ap (λ n. n % 4) (sym is) ∙ said_aligned names (lines_of text) says a lines e
+at_aligned file text names says (Named name) entry lines e is = is.0.4.4
+
+pub entry_is_aligned : (file text : List ℕ) (p : Program) → IsProgram file text p → p.entry % 4 ≡ 0
+entry_is_aligned file text p is =
+    ap (λ q. q.entry % 4) is.4 ∙ at_aligned file text _ is.2.says is.0.entry is.1 is.2.lines is.2.notes_are.0 is.3
+
+-- bytes of a file of bytes
+chosen_small : (b : Bool) (n : ℕ) → n < 256 → (if b then n else 0) < 256
+chosen_small true n h = h
+chosen_small false n h = omega arith
+
+cell_small : (file : List ℕ) → ((i : ℕ) → slice_index file i < 256) → (a : ℕ) (o : Option Segment) → byte_of_cell (cell_in file a o) < 256
+cell_small file small a None = omega arith
+cell_small file small a (Some s) = chosen_small (nat_lt (a - s.address) s.in_file) (slice_index file (s.offset + (a - s.address))) (small _)
+
+word_small : (p : Program) → ((a : ℕ) → byte_of_cell (p.loaded a) < 256) → (a : ℕ) → file_word p a < 2 ^ 32
+word_small p small a = load_below p.machine.endian 32 (λ x. byte_of_cell (p.loaded x)) a refl small
+
+machine_lawful : (b : Bool) (e : Endian) → IsLawfulMachine (if b then rv32 else arm e)
+machine_lawful true e = rv_is_lawful
+machine_lawful false e = arm_is_lawful e
+
+row_of_word : (m : Machine) (b : Bool) (w : ℕ) (row : Row) → (if b then m.row w else None) ≡ Some row → m.row w ≡ Some row
+row_of_word m true w row e = e
+row_of_word m false w row e = absurd (cc)
+
+rows_lawful : (p : Program) → IsLawfulMachine p.machine → ((a : ℕ) → byte_of_cell (p.loaded a) < 256) → HasLawfulRows p
+rows_lawful p lawful small a row e = lawful.rows (file_word p a) row (word_small p small a) (row_of_word p.machine (fetchable p a) (file_word p a) row e)
+
+pub program_rows_are_lawful : (file text : List ℕ) (p : Program) → ((i : ℕ) → slice_index file i < 256) → IsProgram file text p → HasLawfulRows p
+program_rows_are_lawful file text p small is =
+    subst HasLawfulRows (sym is.4) (rows_lawful (program_of file is.0 is.1) (machine_lawful (is_rv file) (file_endian file)) (λ a. cell_small file small a _))

@@ -1,0 +1,5 @@
+use Rattle.bilv_spec.proofs.StateTold.{told_is_printed}
+use Rattle.bilv_spec.proofs.states.told_is_printed.Goals as goal
+
+pub returns : goal.returns
+returns c = told_is_printed

@@ -1,0 +1,44 @@
+-- The program of two files: an ELF file and notes.
+use Rattle.std.specs.Prelude.{ℕ, ◌≡◌, ◌==◌, Bool, List, Option, if◌then◌else◌}
+use Rattle.bilv_spec.specs.Machine.{Machine}
+use Rattle.bilv_spec.specs.Elf.{field, file_endian, loaded}
+use Rattle.bilv_spec.specs.ElfFaults.{Finds}
+use Rattle.bilv_spec.specs.Notes.{Notes, Expr, Function, At, Named}
+use Rattle.bilv_spec.specs.NotesGrammar.{IsNotesText}
+use Rattle.bilv_spec.specs.Run.{Program, in_memory}
+use Rattle.bilv_spec.specs.Rv.{rv32}
+use Rattle.bilv_spec.specs.Arm.{arm}
+use Rattle.bilv_spec.specs.RvNames.{rv_names}
+use Rattle.bilv_spec.specs.ArmNames.{arm_names}
+use Rattle.bilv_spec.specs.StateText.{Layout, rv_layout, arm_layout}
+
+-- e_machine is 243 for RISC-V, and 40 for ARM
+abbrev pub is_rv : List ℕ → Bool
+is_rv file = field file 2 18 == 243
+
+-- the machine of a file
+abbrev pub machine_of : List ℕ → Machine
+machine_of file = if is_rv file then rv32 else arm (file_endian file)
+
+-- what notes call its registers and flags
+abbrev pub names_of : List ℕ → List ℕ → Option Expr
+names_of file w = if is_rv file then rv_names w else arm_names w
+
+-- the layout of its state texts
+abbrev pub layout_of : List ℕ → Layout
+layout_of file = if is_rv file then rv_layout else arm_layout (file_endian file)
+
+-- the program of an ELF file, notes and the address of their function
+abbrev pub program_of : List ℕ → Notes → ℕ → Program
+program_of file notes entry =
+    record { machine = machine_of file; word = in_memory (machine_of file); loaded = loaded file; entry = entry; notes = notes }
+
+-- the address of the function: the number that the notes give, or what their name finds
+abbrev pub IsFunctionAt : List ℕ → Function → ℕ → Type 0
+IsFunctionAt file (At a) entry = a ≡ entry
+IsFunctionAt file (Named name) entry = Finds file name entry
+
+-- the two texts are this program
+abbrev pub IsProgram : List ℕ → List ℕ → Program → Type 0
+IsProgram file text p =
+    (notes : Notes) × (entry : ℕ) × IsNotesText (names_of file) text notes × IsFunctionAt file notes.entry entry × (p ≡ program_of file notes entry)

@@ -1,0 +1,57 @@
+-- The text of a file's lifted words.
+use Rattle.std.specs.Prelude.{ℕ, ◌≡◌, ◌<◌, ◌+◌, ◌-◌, ◌%◌, ◌==◌, ◌&&◌, Bool, true, false, nat_lt, ◌↔◌, ◌^◌, List, [], ◌∷◌, ◌++◌, Option, Some, None, codes, length, slice_index, Contains, find}
+use Rattle.std.specs.List.{list_all, flat_map}
+use Rattle.bilv_spec.specs.Memory.{number}
+use Rattle.bilv_spec.specs.Machine.{Row}
+use Rattle.bilv_spec.specs.MachineLaws.{IsLifting}
+use Rattle.bilv_spec.specs.Elf.{Segment, Cell, segments, covers, loaded, executable}
+use Rattle.bilv_spec.specs.Files.{machine_of, is_rv}
+use Rattle.bilv_spec.specs.Bil.{Bank, XRegisters, RRegisters, Statements}
+use Rattle.bilv_spec.specs.BilText.{list_text}
+use Rattle.bilv_spec.specs.Texts.{word_text, hex_digits, line}
+
+-- the segment at an address is executable, and the file itself gives the byte there
+abbrev pub is_given_by : ℕ → Option Segment → Bool
+is_given_by a None = false
+is_given_by a (Some s) = executable s.flags && nat_lt (a - s.address) s.in_file
+
+-- the byte at an address is executable and given by the file
+abbrev pub is_given : List ℕ → ℕ → Bool
+is_given file a = is_given_by a (find (covers a) (segments file))
+
+-- a multiple of 4 whose four bytes are executable and given by the file
+abbrev pub is_word_at : List ℕ → ℕ → Bool
+is_word_at file a = (a % 4 == 0) && list_all (λ i. is_given file (a + i)) (0 ∷ 1 ∷ 2 ∷ 3 ∷ [])
+
+-- the byte that is loaded
+abbrev pub byte_at : Option Cell → ℕ
+byte_at None = 0
+byte_at (Some c) = c.byte
+
+-- the word at an address
+abbrev pub word_in : List ℕ → ℕ → ℕ
+word_in file a = number (machine_of file).endian 4 (λ i. byte_at (loaded file (a + i)))
+
+-- the address, and the bytes in the file's order
+abbrev pub word_words : List ℕ → ℕ → List ℕ
+word_words file a = word_text a ++ 32 ∷ flat_map (λ i. hex_digits 2 (byte_at (loaded file (a + i)))) (0 ∷ 1 ∷ 2 ∷ 3 ∷ [])
+
+-- the registers that the file's machine names
+abbrev pub bank_by : Bool → Bank
+bank_by true = XRegisters
+bank_by false = RRegisters
+
+-- what is printed for the word at an address: none where no row matches, and else a list that does what the row does, two blanks deep
+abbrev pub IsWordText : List ℕ → ℕ → Option Row → List ℕ → Type 0
+IsWordText file a None text = text ≡ line (word_words file a ++ codes " none")
+IsWordText file a (Some row) text =
+    (list : Statements) × IsLifting (machine_of file) (bank_by (is_rv file)) row a list × (text ≡ line (word_words file a) ++ list_text 1 list)
+
+-- the text of all words, by rising addresses
+pub record IsLiftText (file text : List ℕ) : Type 0 where
+  pub words : List ℕ
+  pub texts : ℕ → List ℕ
+  pub all : (a : ℕ) → Contains words a ↔ ((a < 2 ^ 32) × (is_word_at file a ≡ true))
+  pub rising : (i j : ℕ) → i < j → j < length words → slice_index words i < slice_index words j
+  pub each : (a : ℕ) → Contains words a → IsWordText file a ((machine_of file).row (word_in file a)) (texts a)
+  pub text_is : text ≡ flat_map texts words

@@ -1,0 +1,106 @@
+-- What the program answers to a command: its status, what it writes, and its evidence.
+use Rattle.std.specs.Prelude.{ℕ, ◌≡◌, ◌<◌, ◌≤◌, ◌^◌, ◌++◌, List, [], Option, Some, None, codes, length, take, Contains}
+use Rattle.bilv_spec.specs.Outside.{Held, Agrees, Rose, Appends}
+use Rattle.bilv_spec.specs.Run.{Program}
+use Rattle.bilv_spec.specs.Questions.{Question}
+use Rattle.bilv_spec.specs.Files.{layout_of}
+use Rattle.bilv_spec.specs.Answers.{Budget, IsBudget, Evidence, NoEvidence, Answer, plain_answer, IsReported, default_budget}
+use Rattle.bilv_spec.specs.Verified.{AfterImage, AfterNotes, IsVerified, usage_text}
+use Rattle.bilv_spec.specs.LiftText.{IsLiftText}
+use Rattle.bilv_spec.specs.GraphText.{IsGraphText}
+use Rattle.bilv_spec.specs.Scripts.{IsScriptAnswer}
+use Rattle.bilv_spec.specs.Certified.{IsCertified}
+use Rattle.bilv_spec.specs.Replays.{replay_answer, IsChecked}
+use Rattle.bilv_spec.specs.Work.{work_file, work_notes, work_text}
+use Rattle.bilv_spec.specs.Texts.{line, line_feed}
+
+-- a command, its files by their names
+pub data Command : Type 0 where
+  Verify : (elf notes : List ℕ) → Budget → Command
+  Lift : (elf : List ℕ) → Command
+  Graph : (elf notes : List ℕ) → Command
+  Script : (elf notes : List ℕ) → Question → Budget → Command
+  Replay : (elf notes state : List ℕ) → Command
+  Certify : (elf notes : List ℕ) → Question → Budget → Command
+  Check : (certificate : List ℕ) → Command
+  SelfRun : (seed count : ℕ) → Command
+
+-- the numbers that a command may have
+abbrev pub IsLawfulCommand : Command → Type 0
+IsLawfulCommand (Verify elf notes b) = IsBudget b
+IsLawfulCommand (Script elf notes kind b) = IsBudget b
+IsLawfulCommand (Certify elf notes kind b) = IsBudget b
+IsLawfulCommand (SelfRun seed count) = (seed < 2 ^ 31) × (1 ≤ count) × (count ≤ 16000)
+IsLawfulCommand other = Unit {0}
+
+-- what a call meets outside: what the shelf tells of each name, its counts of faults before and after the call; what the sink tells of the bytes written before and
+-- after, and its counts
+pub record Surroundings : Type 0 where
+  pub held : List ℕ → Held
+  pub shelf_before : List ℕ → ℕ
+  pub shelf_after : List ℕ → ℕ
+  pub text_before : Option (List ℕ)
+  pub text_after : Option (List ℕ)
+  pub sink_before : ℕ
+  pub sink_after : ℕ
+
+-- the answer where a file can't be read
+abbrev pub read_fault : Answer
+read_fault = plain_answer 6 (line (codes "read fault"))
+
+-- The answer behind the reading of a file: a fault, only where the count of its name rose, or what comes next for its bytes. Of a name that the shelf doesn't tell
+-- of they may be any bytes; a name that no file has allows the fault alone.
+pub data AfterRead (s : Surroundings) (name : List ℕ) (Next : List ℕ → Answer → Type 0) (a : Answer) : Type 0 where
+  read_failed : Rose (s.shelf_before name) (s.shelf_after name) → a ≡ read_fault → AfterRead s name Next a
+  was_read : (bytes : List ℕ) → Agrees (s.held name) bytes → Next bytes a → AfterRead s name Next a
+
+-- the answer behind the reading of an ELF file, and its refusals
+abbrev pub AfterElf : Surroundings → (elf : List ℕ) → (Next : List ℕ → Answer → Type 0) → Answer → Type 0
+AfterElf s elf Next = AfterRead s elf (λ file. AfterImage file (Next file))
+
+-- The answer behind the reading of an ELF file and of notes, in this order: the notes are read once the file is accepted.
+abbrev pub AfterBoth : Surroundings → (elf notes : List ℕ) → (Next : List ℕ → Program → Answer → Type 0) → Answer → Type 0
+AfterBoth s elf notes Next = AfterElf s elf (λ file. AfterRead s notes (λ text. AfterNotes file text (Next file)))
+
+-- the answer that prints the lifted words of an accepted file
+abbrev pub IsLifted : List ℕ → Answer → Type 0
+IsLifted file a = (written : List ℕ) × IsLiftText file written × (a ≡ plain_answer 0 written)
+
+-- the answer that prints a program's graph
+abbrev pub IsGraphed : Program → Answer → Type 0
+IsGraphed p a = (written : List ℕ) × IsGraphText p written × (a ≡ plain_answer 0 written)
+
+-- a text's first line
+abbrev pub IsFirstLine : List ℕ → List ℕ → Type 0
+IsFirstLine text first = (rest : List ℕ) × (text ≡ line first ++ rest) × ¬ Contains first line_feed
+
+-- the answer to work that was made: its verdict's status and evidence, with the first line of its text
+abbrev pub IsSelfRun : (seed count : ℕ) → Answer → Type 0
+IsSelfRun seed count a =
+    (inner : Answer) × (first : List ℕ) × IsVerified (work_file seed count) (work_notes seed count) default_budget inner × IsFirstLine inner.text first
+    × (a ≡ record inner { text = line (work_text seed count ++ first) })
+
+-- The right answer to a command: refusals come in the order in which files are read, and a report's text is read once the program is found.
+abbrev pub IsRightAnswer : Surroundings → Command → Answer → Type 0
+IsRightAnswer s (Verify elf notes b) = AfterBoth s elf notes (λ file p. IsReported p (layout_of file) b)
+IsRightAnswer s (Lift elf) = AfterElf s elf IsLifted
+IsRightAnswer s (Graph elf notes) = AfterBoth s elf notes (λ file p. IsGraphed p)
+IsRightAnswer s (Script elf notes kind b) = AfterBoth s elf notes (λ file p. IsScriptAnswer p (layout_of file) b kind)
+IsRightAnswer s (Replay elf notes report) =
+    AfterBoth s elf notes (λ file p. AfterRead s report (λ text a. a ≡ replay_answer p (layout_of file) text))
+IsRightAnswer s (Certify elf notes kind b) = AfterBoth s elf notes (λ file p a. IsCertified p b kind a.status a.text a.evidence)
+IsRightAnswer s (Check certificate) = AfterRead s certificate (λ text a. IsChecked text a.status a.text × (a.evidence ≡ NoEvidence))
+IsRightAnswer s (SelfRun seed count) = IsSelfRun seed count
+
+-- the answer that is due: the usage where the words are no lawful command
+abbrev pub IsDueAnswer : Surroundings → Option Command → Answer → Type 0
+IsDueAnswer s None a = a ≡ plain_answer 2 usage_text
+IsDueAnswer s (Some c) a = IsRightAnswer s c a
+
+-- The outcome of a call: a due answer, written whole; or a failed write behind a proper front of its text, only where the sink's count rose; or want of memory,
+-- which may come at any time, with nothing written.
+pub data IsOutcome (s : Surroundings) (c : Option Command) (status : ℕ) (evidence : Evidence) : Type 0 where
+  whole : (a : Answer) → IsDueAnswer s c a → Appends s.text_before a.text s.text_after → status ≡ a.status → evidence ≡ a.evidence → IsOutcome s c status evidence
+  cut : (a : Answer) (n : ℕ) → IsDueAnswer s c a → n < length a.text → Appends s.text_before (take n a.text) s.text_after → Rose s.sink_before s.sink_after →
+      status ≡ 7 → evidence ≡ NoEvidence → IsOutcome s c status evidence
+  no_memory : Appends s.text_before [] s.text_after → status ≡ 8 → evidence ≡ NoEvidence → IsOutcome s c status evidence

@@ -1,0 +1,77 @@
+-- How a verdict's ending and the end of a run are written.
+use Rattle.std.specs.Prelude.{ℕ, ◌+◌, List, [], ◌∷◌, ◌++◌, Option, Some, None, codes}
+use Rattle.bilv_spec.specs.Run.{Program, Start, Event, AssertFails, FetchFails, NoRow, HalfwordFails, CodeWritten, Trapped, AlignFails, JumpFails, EnsureFails, Run, Going, Exited, Failed, Turned, run}
+use Rattle.bilv_spec.specs.Texts.{word_text, number_text, joined}
+
+-- an event
+abbrev pub event_words : Event → List (List ℕ)
+event_words (AssertFails n) = codes "assert" ∷ number_text n ∷ []
+event_words FetchFails = codes "fetch" ∷ []
+event_words NoRow = codes "norow" ∷ []
+event_words HalfwordFails = codes "halfword" ∷ []
+event_words CodeWritten = codes "codewrite" ∷ []
+event_words Trapped = codes "trap" ∷ []
+event_words AlignFails = codes "align" ∷ []
+event_words JumpFails = codes "jump" ∷ []
+event_words (EnsureFails n) = codes "ensure" ∷ number_text n ∷ []
+
+-- the address of a step, and its number
+abbrev pub place_words : ℕ → ℕ → List (List ℕ)
+place_words at step = codes "at" ∷ word_text at ∷ codes "step" ∷ number_text step ∷ []
+
+-- the ending that a report names: an event, or the (k + 1)th backward transfer
+pub data NamedEnding : Type 0 where
+  FailsBy : Event → (at step : ℕ) → NamedEnding
+  UnknownBy : (k at step : ℕ) → NamedEnding
+
+-- the words of a named ending
+abbrev pub named_words : NamedEnding → List (List ℕ)
+named_words (FailsBy e at step) = codes "fails" ∷ event_words e ++ place_words at step
+named_words (UnknownBy k at step) = codes "unknown" ∷ codes "unroll" ∷ number_text k ∷ place_words at step
+
+-- its line
+abbrev pub named_line : NamedEnding → List ℕ
+named_line n = joined (named_words n)
+
+-- the number of its step
+abbrev pub named_step : NamedEnding → ℕ
+named_step (FailsBy e at step) = step
+named_step (UnknownBy k at step) = step
+
+-- What a run of a bounded number of steps is found to end in, each with the address and the number of the last step that was made: the exit, an event, one
+-- backward transfer too many, or nothing: its steps were made, and it would go on.
+pub data Found : Type 0 where
+  FoundExit : (at step : ℕ) → Found
+  FoundEvent : Event → (at step : ℕ) → Found
+  FoundTurn : (at step : ℕ) → Found
+  FoundLeft : (at step : ℕ) → Found
+
+-- the address and the number of the step that a run is to make; a run that has ended makes none
+abbrev pub found_going : Run → Found
+found_going (Going turns n c) = FoundLeft c.state.pc n
+found_going (Exited at n) = FoundExit at n
+found_going (Failed e at n) = FoundEvent e at n
+found_going (Turned at n) = FoundTurn at n
+
+-- what is found by the run before its last step, and behind it
+abbrev pub found_by : (before behind : Run) → Found
+found_by before (Going turns n c) = found_going before
+found_by before (Exited at n) = FoundExit at n
+found_by before (Failed e at n) = FoundEvent e at n
+found_by before (Turned at n) = FoundTurn at n
+
+-- how many backward transfers are allowed within the steps up to a last one: those of a bound, and without one more than there are steps
+abbrev pub turns_within : (last : ℕ) → Option ℕ → ℕ
+turns_within last None = last + 1
+turns_within last (Some k) = k
+
+-- what the run from a start comes to in the steps 0 to last, for a bound on backward transfers or without one
+abbrev pub found : Program → Option ℕ → Start → (last : ℕ) → Found
+found p bound start last = found_by (run p (turns_within last bound) start last) (run p (turns_within last bound) start (last + 1))
+
+-- the words of what is found, where so many backward transfers were allowed
+abbrev pub found_words : (k : ℕ) → Found → List (List ℕ)
+found_words k (FoundExit at step) = codes "exit" ∷ place_words at step
+found_words k (FoundEvent e at step) = named_words (FailsBy e at step)
+found_words k (FoundTurn at step) = named_words (UnknownBy k at step)
+found_words k (FoundLeft at step) = codes "running" ∷ place_words at step

@@ -1,0 +1,13 @@
+-- Laws of the machine of RV32IM.
+use Rattle.std.specs.Prelude.{◌≡◌, ℕ, true, Some, Contains}
+use Rattle.bilv_spec.specs.Machine.{Row}
+use Rattle.bilv_spec.specs.Rv.{Instruction, table, fits, fields, rv_row, rv32}
+use Rattle.bilv_spec.specs.MachineLaws.{IsLawfulMachine}
+
+-- the row of a word is that of an instruction of the table that the word is of, for the word's fields
+abbrev pub RowsAreOfTheTable : Type 0
+RowsAreOfTheTable = (w : ℕ) (row : Row) → rv_row w ≡ Some row → (i : Instruction) × Contains table i × (fits i w ≡ true) × (row ≡ i.row (fields i.imm w))
+
+-- each row of RV32IM is lawful
+abbrev pub RvIsLawful : Type 0
+RvIsLawful = IsLawfulMachine rv32

@@ -1,0 +1,20 @@
+//! Laws of the machines.
+ghost use Rattle.bilv_spec.specs.ArmMachineLaws.{ArmIsLawful};
+ghost use Rattle.bilv_spec.specs.RvMachineLaws.{RowsAreOfTheTable, RvIsLawful};
+
+/// The row of a word of RV32IM is that of an instruction of the table.
+pub fn rows_are_of_the_table()
+    ensures { RowsAreOfTheTable }
+{}
+
+/// Each row of RV32IM is lawful.
+#[tactic(auto, using(crate::proofs::RvLawful::rv_is_lawful))]
+pub fn rv_is_lawful()
+    ensures { RvIsLawful }
+{}
+
+/// Each row of ARM state is lawful, in both byte orders.
+#[tactic(auto, using(crate::proofs::ArmLawful::arm_is_lawful))]
+pub fn arm_is_lawful()
+    ensures { ArmIsLawful }
+{}

@@ -1,0 +1,6 @@
+pub mod Counts
+pub mod Files
+pub mod Places
+pub mod WriteFaults
+pub mod Shelves
+pub mod Sinks

@@ -1,0 +1,5 @@
+pub mod Shapes
+pub mod Lines
+pub mod NoRows
+pub mod Words
+pub mod Cuts

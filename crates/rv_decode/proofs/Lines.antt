@@ -1,0 +1,228 @@
+-- Each instruction stands at its place in the table, so a word is of one line at most.
+use Rattle.std.proofs.Common.{◌≡◌, ◌⊎◌, inl, inr, ℕ, zero, suc, refl, sym, ap, ◌∙◌, Bool, true, false, List, [], ◌∷◌, Option, Some, None, map}
+use Rattle.std.specs.Prelude.{slice_get, MatchOption}
+use Rattle.std.specs.Option.{option_map}
+use Rattle.std.proofs.lemmas.Option.{slice_get-map}
+use Rattle.bilv_spec.specs.Rv.{Instruction, table, fits, fields, row_in, rv_row}
+use Rattle.bilv_spec.proofs.RvTable.{one_row}
+use Rattle.rv_decode.specs.declared.insn.BranchOp.{BranchOp}
+use Rattle.rv_decode.specs.declared.insn.BranchOp.TheVariants.{Beq, Bne, Blt, Bge, Bltu, Bgeu}
+use Rattle.rv_decode.specs.declared.insn.LoadOp.{LoadOp}
+use Rattle.rv_decode.specs.declared.insn.LoadOp.TheVariants.{Lb, Lh, Lw, Lbu, Lhu}
+use Rattle.rv_decode.specs.declared.insn.StoreOp.{StoreOp}
+use Rattle.rv_decode.specs.declared.insn.StoreOp.TheVariants.{Sb, Sh, Sw}
+use Rattle.rv_decode.specs.declared.insn.ImmediateOp.{ImmediateOp}
+use Rattle.rv_decode.specs.declared.insn.ImmediateOp.TheVariants.{Addi, Slti, Sltiu, Xori, Ori, Andi}
+use Rattle.rv_decode.specs.declared.insn.ShiftOp.{ShiftOp}
+use Rattle.rv_decode.specs.declared.insn.ShiftOp.TheVariants.{Slli, Srli, Srai}
+use Rattle.rv_decode.specs.declared.insn.RegisterOp.{RegisterOp}
+use Rattle.rv_decode.specs.declared.insn.RegisterOp.TheVariants.{Add, Sub, Sll, Slt, Sltu, Xor, Srl, Sra, Or, And, Mul, Mulh, Mulhsu, Mulhu, Div, Divu, Rem, Remu}
+use Rattle.rv_decode.specs.declared.insn.Insn.{Insn}
+use Rattle.rv_decode.specs.declared.insn.Insn.TheVariants.{Lui, Auipc, Jal, Jalr, Branch, Load, Store, Immediate, Shift, Computation, Fence, Ecall, Ebreak}
+use Rattle.rv_decode.specs.Insns.{line_of, row_of, HasFields, Decodes}
+use Rattle.rv_decode.proofs.Shapes.{register_at, amount_at, blank, line_of-blank, same_insn}
+
+-- an instruction of each line, in the order of the table
+lines : List Insn
+lines =
+    let r = register_at 0 in
+    Lui r 0 ∷
+    Auipc r 0 ∷
+    Jal r 0 ∷
+    Jalr r r 0 ∷
+    Branch Beq r r 0 ∷ Branch Bne r r 0 ∷ Branch Blt r r 0 ∷ Branch Bge r r 0 ∷ Branch Bltu r r 0 ∷ Branch Bgeu r r 0 ∷
+    Load Lb r r 0 ∷ Load Lh r r 0 ∷ Load Lw r r 0 ∷ Load Lbu r r 0 ∷ Load Lhu r r 0 ∷
+    Store Sb r r 0 ∷ Store Sh r r 0 ∷ Store Sw r r 0 ∷
+    Immediate Addi r r 0 ∷ Immediate Slti r r 0 ∷ Immediate Sltiu r r 0 ∷ Immediate Xori r r 0 ∷ Immediate Ori r r 0 ∷ Immediate Andi r r 0 ∷
+    Shift Slli r r (amount_at 0) ∷ Shift Srli r r (amount_at 0) ∷ Shift Srai r r (amount_at 0) ∷
+    Computation Add r r r ∷ Computation Sub r r r ∷ Computation Sll r r r ∷ Computation Slt r r r ∷ Computation Sltu r r r ∷ Computation Xor r r r ∷ Computation Srl r r r ∷ Computation Sra r r r ∷ Computation Or r r r ∷ Computation And r r r ∷ Computation Mul r r r ∷ Computation Mulh r r r ∷ Computation Mulhsu r r r ∷ Computation Mulhu r r r ∷ Computation Div r r r ∷ Computation Divu r r r ∷ Computation Rem r r r ∷ Computation Remu r r r ∷
+    Fence 0 ∷
+    Ecall ∷
+    Ebreak ∷ []
+
+abbrev branch_index : BranchOp → ℕ
+branch_index Beq = 4
+branch_index Bne = 5
+branch_index Blt = 6
+branch_index Bge = 7
+branch_index Bltu = 8
+branch_index Bgeu = 9
+
+abbrev load_index : LoadOp → ℕ
+load_index Lb = 10
+load_index Lh = 11
+load_index Lw = 12
+load_index Lbu = 13
+load_index Lhu = 14
+
+abbrev store_index : StoreOp → ℕ
+store_index Sb = 15
+store_index Sh = 16
+store_index Sw = 17
+
+abbrev immediate_index : ImmediateOp → ℕ
+immediate_index Addi = 18
+immediate_index Slti = 19
+immediate_index Sltiu = 20
+immediate_index Xori = 21
+immediate_index Ori = 22
+immediate_index Andi = 23
+
+abbrev shift_index : ShiftOp → ℕ
+shift_index Slli = 24
+shift_index Srli = 25
+shift_index Srai = 26
+
+abbrev register_index : RegisterOp → ℕ
+register_index Add = 27
+register_index Sub = 28
+register_index Sll = 29
+register_index Slt = 30
+register_index Sltu = 31
+register_index Xor = 32
+register_index Srl = 33
+register_index Sra = 34
+register_index Or = 35
+register_index And = 36
+register_index Mul = 37
+register_index Mulh = 38
+register_index Mulhsu = 39
+register_index Mulhu = 40
+register_index Div = 41
+register_index Divu = 42
+register_index Rem = 43
+register_index Remu = 44
+
+-- the place of its line
+abbrev place : Insn → ℕ
+place (Lui rd imm) = 0
+place (Auipc rd imm) = 1
+place (Jal rd offset) = 2
+place (Jalr rd rs1 offset) = 3
+place (Branch op rs1 rs2 offset) = branch_index op
+place (Load op rd rs1 offset) = load_index op
+place (Store op rs1 rs2 offset) = store_index op
+place (Immediate op rd rs1 imm) = immediate_index op
+place (Shift op rd rs1 amount) = shift_index op
+place (Computation op rd rs1 rs2) = register_index op
+place (Fence fields) = 45
+place Ecall = 46
+place Ebreak = 47
+
+at_place : (i : Insn) → slice_get lines (place i) ≡ Some (blank i)
+unfolding lines
+at_place (Lui rd imm) = refl
+at_place (Auipc rd imm) = refl
+at_place (Jal rd offset) = refl
+at_place (Jalr rd rs1 offset) = refl
+at_place (Branch Beq rs1 rs2 offset) = refl
+at_place (Branch Bne rs1 rs2 offset) = refl
+at_place (Branch Blt rs1 rs2 offset) = refl
+at_place (Branch Bge rs1 rs2 offset) = refl
+at_place (Branch Bltu rs1 rs2 offset) = refl
+at_place (Branch Bgeu rs1 rs2 offset) = refl
+at_place (Load Lb rd rs1 offset) = refl
+at_place (Load Lh rd rs1 offset) = refl
+at_place (Load Lw rd rs1 offset) = refl
+at_place (Load Lbu rd rs1 offset) = refl
+at_place (Load Lhu rd rs1 offset) = refl
+at_place (Store Sb rs1 rs2 offset) = refl
+at_place (Store Sh rs1 rs2 offset) = refl
+at_place (Store Sw rs1 rs2 offset) = refl
+at_place (Immediate Addi rd rs1 imm) = refl
+at_place (Immediate Slti rd rs1 imm) = refl
+at_place (Immediate Sltiu rd rs1 imm) = refl
+at_place (Immediate Xori rd rs1 imm) = refl
+at_place (Immediate Ori rd rs1 imm) = refl
+at_place (Immediate Andi rd rs1 imm) = refl
+at_place (Shift Slli rd rs1 amount) = refl
+at_place (Shift Srli rd rs1 amount) = refl
+at_place (Shift Srai rd rs1 amount) = refl
+at_place (Computation Add rd rs1 rs2) = refl
+at_place (Computation Sub rd rs1 rs2) = refl
+at_place (Computation Sll rd rs1 rs2) = refl
+at_place (Computation Slt rd rs1 rs2) = refl
+at_place (Computation Sltu rd rs1 rs2) = refl
+at_place (Computation Xor rd rs1 rs2) = refl
+at_place (Computation Srl rd rs1 rs2) = refl
+at_place (Computation Sra rd rs1 rs2) = refl
+at_place (Computation Or rd rs1 rs2) = refl
+at_place (Computation And rd rs1 rs2) = refl
+at_place (Computation Mul rd rs1 rs2) = refl
+at_place (Computation Mulh rd rs1 rs2) = refl
+at_place (Computation Mulhsu rd rs1 rs2) = refl
+at_place (Computation Mulhu rd rs1 rs2) = refl
+at_place (Computation Div rd rs1 rs2) = refl
+at_place (Computation Divu rd rs1 rs2) = refl
+at_place (Computation Rem rd rs1 rs2) = refl
+at_place (Computation Remu rd rs1 rs2) = refl
+at_place (Fence fields) = refl
+at_place Ecall = refl
+at_place Ebreak = refl
+
+table_of_lines : map line_of lines ≡ table
+unfolding lines table
+table_of_lines = refl
+
+line_at : (i : Insn) → slice_get table (place i) ≡ Some (line_of i)
+line_at i =
+    ap (λ t. slice_get t (place i)) (sym table_of_lines) ∙ slice_get-map line_of lines (place i)
+    ∙ ap (option_map line_of) (at_place i) ∙ ap Some (line_of-blank i)
+
+-- a word is of one instruction at most
+pub one_insn : (w : ℕ) (i j : Insn) → Decodes w i → Decodes w j → i ≡ j
+one_insn w i j h k =
+    let e = one_row w (place i) (place j) (line_of i) (line_of j) (line_at i) (line_at j) h.line k.line in
+    let same : Some (blank i) ≡ Some (blank j) = sym (at_place i) ∙ ap (slice_get lines) e ∙ at_place j in
+    same_insn i j w (cc) h.fields k.fields
+
+truth : (b : Bool) → (b ≡ true) ⊎ (b ≡ false)
+truth true = inl refl
+truth false = inr refl
+
+record One (is : List Instruction) (w : ℕ) : Type 0 where
+  same : (i j : ℕ) (a b : Instruction) → slice_get is i ≡ Some a → slice_get is j ≡ Some b → fits a w ≡ true → fits b w ≡ true → i ≡ j
+
+behind : (x : Instruction) (xs : List Instruction) (w : ℕ) → One (x ∷ xs) w → One xs w
+behind x xs w one = record { same = λ i j a b p q r s. let e = one.same (suc i) (suc j) a b p q r s in cc }
+
+-- the row of a word is that of the line which it fits
+row_at : (is : List Instruction) (w k : ℕ) (a : Instruction) → One is w → slice_get is k ≡ Some a → fits a w ≡ true → row_in is w ≡ Some (a.row (fields a.imm w))
+row_at [] w k a one at h = cc
+row_at (x ∷ xs) w zero a one at h =
+    let e : x ≡ a = cc in let t : fits x w ≡ true = ap (λ y. fits y w) e ∙ h in rw t (ap (λ y. Some (y.row (fields y.imm w))) e)
+row_at (x ∷ xs) w (suc k) a one at h =
+    elim (truth (fits x w)) [
+      | inl t ↦ let e : zero ≡ suc k = one.same zero (suc k) x a refl at t h in cc
+      | inr f ↦ rw f (row_at xs w k a (behind x xs w one) at h)
+    ]
+
+-- a line's row reads the fields that its instruction has
+same_row : (i : Insn) (w : ℕ) → HasFields i w → (line_of i).row (fields (line_of i).imm w) ≡ row_of i
+same_row (Lui rd imm) w h = rw (← h.0, ← h.1) refl
+same_row (Auipc rd imm) w h = rw (← h.0, ← h.1) refl
+same_row (Jal rd offset) w h = rw (← h.0, ← h.1) refl
+same_row (Jalr rd rs1 offset) w h = rw (← h.0, ← h.1, ← h.2) refl
+same_row (Branch op rs1 rs2 offset) w h = rw (← h.0, ← h.1, ← h.2) refl
+same_row (Load op rd rs1 offset) w h = rw (← h.0, ← h.1, ← h.2) refl
+same_row (Store op rs1 rs2 offset) w h = rw (← h.0, ← h.1, ← h.2) refl
+same_row (Immediate op rd rs1 imm) w h = rw (← h.0, ← h.1, ← h.2) refl
+same_row (Shift op rd rs1 amount) w h = rw (← h.0, ← h.1, ← h.2) refl
+same_row (Computation op rd rs1 rs2) w h = rw (← h.0, ← h.1, ← h.2) refl
+same_row (Fence fields) w h = refl
+same_row Ecall w h = refl
+same_row Ebreak w h = refl
+
+only_row : (w : ℕ) (i : Insn) → Decodes w i → rv_row w ≡ Some (row_of i)
+unfolding rv_row
+only_row w i h =
+    row_at table w (place i) (line_of i) (record { same = one_row w }) (line_at i) h.line ∙ ap Some (same_row i w h.fields)
+
+-- what `decode` ensures, from the answer of its parts
+pub row_is : (w : ℕ) (r : Option Insn) → MatchOption r (rv_row w ≡ None) (Decodes w) → option_map row_of r ≡ rv_row w
+row_is w None h = sym h
+row_is w (Some i) h = sym (only_row w i h)
+
+pub only_is : (w : ℕ) (r : Option Insn) → MatchOption r (rv_row w ≡ None) (Decodes w) → (i : Insn) → Decodes w i → r ≡ Some i
+only_is w None h i d = let e = only_row w i d in cc
+only_is w (Some j) h i d = ap Some (one_insn w j i h d)

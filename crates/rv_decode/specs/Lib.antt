@@ -1,0 +1,3 @@
+pub mod Insns
+pub mod Encodings
+pub mod Formats

@@ -1,0 +1,296 @@
+//! From a word to its instruction: by its opcode, then by funct3 and funct7.
+ghost use Rattle.std.specs.Prelude.{◌≡◌, ◌≢◌, ◌⊎◌, ◌<◌, ◌^◌, MatchOption, IfSome, IfNone};
+ghost use Rattle.std.specs.Option.{option_map};
+ghost use Rattle.bilv_spec.specs.Words.{bits};
+ghost use Rattle.bilv_spec.specs.Rv.{rv_row};
+ghost use Rattle.rv_decode.specs.declared.insn.Insn.{Insn};
+ghost use Rattle.rv_decode.specs.Insns.{row_of, Decodes, branch_code, load_code, store_code, immediate_code, shift_code, shift_upper_code, register_code, register_upper_code};
+
+use crate::fields::{
+    amount, b_immediate, field, i_immediate, j_immediate, rd, rs1, rs2, s_immediate, u_immediate,
+};
+use crate::insn::{BranchOp, ImmediateOp, Insn, LoadOp, RegisterOp, ShiftOp, StoreOp};
+
+/// The instruction of a word, or `None` where the table has no row for it.
+///
+/// The row of the instruction is the word's, and its fields are the word's too: no other instruction is of the word.
+#[tactic(auto, using(crate::proofs::Lines::row_is, crate::proofs::Lines::only_is))]
+pub fn decode(word: u32) -> Option<Insn>
+    ensures row { option_map row_of result ≡ rv_row word }
+    ensures fields { IfSome result (Decodes word) }
+    ensures only { (i : Insn) → Decodes word i → result ≡ Some i }
+{
+    decode_by_opcode(word)
+}
+
+// As each of its parts, it says no more than whose row the word has: the other clauses of `decode` follow.
+#[tactic(auto, using(crate::proofs::NoRows::no_opcode))]
+fn decode_by_opcode(word: u32) -> Option<Insn>
+    ensures { MatchOption result (rv_row word ≡ None) (Decodes word) }
+{
+    match field(word, 6, 0) {
+        0b0110111 => Some(Insn::Lui {
+            rd: rd(word),
+            imm: u_immediate(word),
+        }),
+        0b0010111 => Some(Insn::Auipc {
+            rd: rd(word),
+            imm: u_immediate(word),
+        }),
+        0b1101111 => Some(Insn::Jal {
+            rd: rd(word),
+            offset: j_immediate(word),
+        }),
+        0b1100111 => decode_jalr(word),
+        0b1100011 => decode_branch(word),
+        0b0000011 => decode_load(word),
+        0b0100011 => decode_store(word),
+        0b0010011 => decode_immediate(word),
+        0b0110011 => decode_computation(word),
+        0b0001111 => decode_fence(word),
+        0b1110011 => decode_system(word),
+        _ => None,
+    }
+}
+
+#[tactic(auto, using(crate::proofs::NoRows::no_jalr))]
+fn decode_jalr(word: u32) -> Option<Insn>
+    requires { bits 6 0 word ≡ 0b1100111 }
+    ensures { MatchOption result (rv_row word ≡ None) (Decodes word) }
+{
+    if field(word, 14, 12) != 0 {
+        return None;
+    }
+    Some(Insn::Jalr {
+        rd: rd(word),
+        rs1: rs1(word),
+        offset: i_immediate(word),
+    })
+}
+
+fn branch_op(funct3: u32) -> Option<BranchOp>
+    requires { funct3 < 8 }
+    ensures { MatchOption result ((funct3 ≡ 2) ⊎ (funct3 ≡ 3)) (λ op. funct3 ≡ branch_code op) }
+{
+    match funct3 {
+        0 => Some(BranchOp::Beq),
+        1 => Some(BranchOp::Bne),
+        4 => Some(BranchOp::Blt),
+        5 => Some(BranchOp::Bge),
+        6 => Some(BranchOp::Bltu),
+        7 => Some(BranchOp::Bgeu),
+        _ => None,
+    }
+}
+
+#[tactic(auto, using(crate::proofs::NoRows::no_branch))]
+fn decode_branch(word: u32) -> Option<Insn>
+    requires { bits 6 0 word ≡ 0b1100011 }
+    ensures { MatchOption result (rv_row word ≡ None) (Decodes word) }
+{
+    let op = branch_op(field(word, 14, 12))?;
+    Some(Insn::Branch {
+        op,
+        rs1: rs1(word),
+        rs2: rs2(word),
+        offset: b_immediate(word),
+    })
+}
+
+fn load_op(funct3: u32) -> Option<LoadOp>
+    requires { funct3 < 8 }
+    ensures { MatchOption result ((funct3 ≡ 3) ⊎ (5 < funct3)) (λ op. funct3 ≡ load_code op) }
+{
+    match funct3 {
+        0 => Some(LoadOp::Lb),
+        1 => Some(LoadOp::Lh),
+        2 => Some(LoadOp::Lw),
+        4 => Some(LoadOp::Lbu),
+        5 => Some(LoadOp::Lhu),
+        _ => None,
+    }
+}
+
+#[tactic(auto, using(crate::proofs::NoRows::no_load))]
+fn decode_load(word: u32) -> Option<Insn>
+    requires { bits 6 0 word ≡ 0b0000011 }
+    ensures { MatchOption result (rv_row word ≡ None) (Decodes word) }
+{
+    let op = load_op(field(word, 14, 12))?;
+    Some(Insn::Load {
+        op,
+        rd: rd(word),
+        rs1: rs1(word),
+        offset: i_immediate(word),
+    })
+}
+
+fn store_op(funct3: u32) -> Option<StoreOp>
+    ensures { MatchOption result (2 < funct3) (λ op. funct3 ≡ store_code op) }
+{
+    match funct3 {
+        0 => Some(StoreOp::Sb),
+        1 => Some(StoreOp::Sh),
+        2 => Some(StoreOp::Sw),
+        _ => None,
+    }
+}
+
+#[tactic(auto, using(crate::proofs::NoRows::no_store))]
+fn decode_store(word: u32) -> Option<Insn>
+    requires { bits 6 0 word ≡ 0b0100011 }
+    ensures { MatchOption result (rv_row word ≡ None) (Decodes word) }
+{
+    let op = store_op(field(word, 14, 12))?;
+    Some(Insn::Store {
+        op,
+        rs1: rs1(word),
+        rs2: rs2(word),
+        offset: s_immediate(word),
+    })
+}
+
+fn immediate_op(funct3: u32) -> Option<ImmediateOp>
+    requires { funct3 < 8 }
+    ensures { MatchOption result ((funct3 ≡ 1) ⊎ (funct3 ≡ 5)) (λ op. funct3 ≡ immediate_code op) }
+{
+    match funct3 {
+        0 => Some(ImmediateOp::Addi),
+        2 => Some(ImmediateOp::Slti),
+        3 => Some(ImmediateOp::Sltiu),
+        4 => Some(ImmediateOp::Xori),
+        6 => Some(ImmediateOp::Ori),
+        7 => Some(ImmediateOp::Andi),
+        _ => None,
+    }
+}
+
+fn decode_immediate(word: u32) -> Option<Insn>
+    requires { bits 6 0 word ≡ 0b0010011 }
+    ensures { MatchOption result (rv_row word ≡ None) (Decodes word) }
+{
+    match immediate_op(field(word, 14, 12)) {
+        Some(op) => Some(Insn::Immediate {
+            op,
+            rd: rd(word),
+            rs1: rs1(word),
+            imm: i_immediate(word),
+        }),
+        None => decode_shift(word),
+    }
+}
+
+fn shift_op(funct3: u32, funct7: u32) -> Option<ShiftOp>
+    requires { (funct3 ≡ 1) ⊎ (funct3 ≡ 5) }
+    ensures some { IfSome result (λ op. (funct3 ≡ shift_code op) × (funct7 ≡ shift_upper_code op)) }
+    ensures none { IfNone result ((funct7 ≢ 0) × ((funct3 ≡ 1) ⊎ (funct7 ≢ 32))) }
+{
+    match (funct3, funct7) {
+        (1, 0) => Some(ShiftOp::Slli),
+        (5, 0) => Some(ShiftOp::Srli),
+        (5, 32) => Some(ShiftOp::Srai),
+        _ => None,
+    }
+}
+
+#[tactic(auto, using(crate::proofs::NoRows::no_shift))]
+fn decode_shift(word: u32) -> Option<Insn>
+    requires opcode { bits 6 0 word ≡ 0b0010011 }
+    requires funct3 { (bits 14 12 word ≡ 1) ⊎ (bits 14 12 word ≡ 5) }
+    ensures { MatchOption result (rv_row word ≡ None) (Decodes word) }
+{
+    let op = shift_op(field(word, 14, 12), field(word, 31, 25))?;
+    Some(Insn::Shift {
+        op,
+        rd: rd(word),
+        rs1: rs1(word),
+        amount: amount(word),
+    })
+}
+
+fn base_op(funct3: u32) -> RegisterOp
+    requires { funct3 < 8 }
+    ensures { (funct3 ≡ register_code result) × (0 ≡ register_upper_code result) }
+{
+    match funct3 {
+        0 => RegisterOp::Add,
+        1 => RegisterOp::Sll,
+        2 => RegisterOp::Slt,
+        3 => RegisterOp::Sltu,
+        4 => RegisterOp::Xor,
+        5 => RegisterOp::Srl,
+        6 => RegisterOp::Or,
+        _ => RegisterOp::And,
+    }
+}
+
+fn multiply_op(funct3: u32) -> RegisterOp
+    requires { funct3 < 8 }
+    ensures { (funct3 ≡ register_code result) × (1 ≡ register_upper_code result) }
+{
+    match funct3 {
+        0 => RegisterOp::Mul,
+        1 => RegisterOp::Mulh,
+        2 => RegisterOp::Mulhsu,
+        3 => RegisterOp::Mulhu,
+        4 => RegisterOp::Div,
+        5 => RegisterOp::Divu,
+        6 => RegisterOp::Rem,
+        _ => RegisterOp::Remu,
+    }
+}
+
+fn register_op(funct3: u32, funct7: u32) -> Option<RegisterOp>
+    requires { funct3 < 8 }
+    ensures some { IfSome result (λ op. (funct3 ≡ register_code op) × (funct7 ≡ register_upper_code op)) }
+    ensures none { IfNone result
+        ((funct7 ≢ 0) × (funct7 ≢ 1) × ((funct7 ≢ 32) ⊎ ((funct3 ≢ 0) × (funct3 ≢ 5)))) }
+{
+    match (funct7, funct3) {
+        (0, _) => Some(base_op(funct3)),
+        (1, _) => Some(multiply_op(funct3)),
+        (32, 0) => Some(RegisterOp::Sub),
+        (32, 5) => Some(RegisterOp::Sra),
+        _ => None,
+    }
+}
+
+#[tactic(auto, using(crate::proofs::NoRows::no_computation))]
+fn decode_computation(word: u32) -> Option<Insn>
+    requires { bits 6 0 word ≡ 0b0110011 }
+    ensures { MatchOption result (rv_row word ≡ None) (Decodes word) }
+{
+    let op = register_op(field(word, 14, 12), field(word, 31, 25))?;
+    Some(Insn::Computation {
+        op,
+        rd: rd(word),
+        rs1: rs1(word),
+        rs2: rs2(word),
+    })
+}
+
+#[tactic(auto, using(crate::proofs::NoRows::no_fence))]
+fn decode_fence(word: u32) -> Option<Insn>
+    requires { bits 6 0 word ≡ 0b0001111 }
+    ensures { MatchOption result (rv_row word ≡ None) (Decodes word) }
+{
+    if field(word, 14, 12) == 0 {
+        Some(Insn::Fence {
+            fields: field(word, 31, 15) * 32 + field(word, 11, 7),
+        })
+    } else {
+        None
+    }
+}
+
+#[tactic(auto, using(crate::proofs::NoRows::no_system))]
+fn decode_system(word: u32) -> Option<Insn>
+    requires { bits 6 0 word ≡ 0b1110011 }
+    ensures { MatchOption result (rv_row word ≡ None) (Decodes word) }
+{
+    match word {
+        0x73 => Some(Insn::Ecall),
+        0x100073 => Some(Insn::Ebreak),
+        _ => None,
+    }
+}
