@@ -1,0 +1,13 @@
+pub mod Loaded
+pub mod Straight
+pub mod First
+pub mod Traced
+pub mod Back
+pub mod Files
+pub mod Digits
+pub mod Parts
+pub mod Text
+pub mod Accepted
+pub mod Judged
+pub mod Limits
+pub mod Cut
