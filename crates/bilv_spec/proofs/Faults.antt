@@ -2,7 +2,7 @@
 use Rattle.std.proofs.Common.{◌≡◌, ℕ, zero, suc, ◌<◌, refl, ap, sym, ◌∙◌, arith, List}
 use Rattle.bilv_spec.specs.ElfFaults.{FileFault, ShortFile, BadMagic, BadClass, BadData, BadVersion, BadType, BadMachine, BadHeaderTable, BadSegmentRange, BadFileSize, SegmentsOverlap, BadSymbolTable, file_fault_rank, IsFirstFileFault}
 
--- the fault of a file_fault_rank
+-- the fault of a rank
 abbrev of_rank : ℕ → FileFault
 of_rank (suc zero) = ShortFile
 of_rank (suc (suc zero)) = BadMagic
@@ -40,3 +40,7 @@ same_rank (suc a) (suc b) p q = ap suc (same_rank a b (λ x. p (omega arith)) (�
 pub one_fault : (file : List ℕ) (f g : FileFault) → IsFirstFileFault file f → IsFirstFileFault file g → f ≡ g
 one_fault file f g a b =
     sym (ranked f) ∙ ap of_rank (same_rank (file_fault_rank f) (file_fault_rank g) (λ less. b.1 f less a.0) (λ less. a.1 g less b.0)) ∙ ranked g
+
+-- the rank tells the fault
+pub same_fault : (f g : FileFault) → file_fault_rank f ≡ file_fault_rank g → f ≡ g
+same_fault f g e = sym (ranked f) ∙ ap of_rank e ∙ ranked g

@@ -1,5 +1,5 @@
 -- What an ELF32 file loads (System V ABI, chapters 4, object files, and 5, program loading).
-use Rattle.std.specs.Prelude.{ℕ, zero, suc, ◌+◌, ◌-◌, ◌/◌, ◌%◌, Bool, List, [], ◌∷◌, Option, Some, None, ◌==◌, ◌&&◌, ◌||◌, not, nat_lt, nat_le, if◌then◌else◌, slice_index, find}
+use Rattle.std.specs.Prelude.{ℕ, zero, suc, ◌≡◌, ◌≤◌, ◌<◌, ◌↔◌, true, false, length, slice_index_or, ◌+◌, ◌-◌, ◌/◌, ◌%◌, Bool, List, [], ◌∷◌, Option, Some, None, ◌==◌, ◌&&◌, ◌||◌, not, nat_lt, nat_le, if◌then◌else◌, slice_index, find}
 use Rattle.bilv_spec.specs.Memory.{number, Endian, endian}
 
 -- the file's numbers have their highest byte first, by e_ident (System V ABI, ELF header)
@@ -79,3 +79,45 @@ writable flags = flags / 2 % 2 == 1
 -- a byte that no run changes: it is executable, or not writable
 abbrev pub kept : Cell → Bool
 kept c = executable c.flags || not (writable c.flags)
+
+-- the byte is loaded and executable
+abbrev pub is_executable : Option Cell → Bool
+is_executable None = false
+is_executable (Some c) = executable c.flags
+
+-- the byte is loaded and kept
+abbrev pub is_kept : Option Cell → Bool
+is_kept None = false
+is_kept (Some c) = kept c
+
+-- the byte that was found, if one was
+abbrev pub byte_in : Option Cell → Option ℕ
+byte_in None = None
+byte_in (Some c) = Some c.byte
+
+-- the byte at an address, where one is loaded
+abbrev pub byte_at : List ℕ → ℕ → Option ℕ
+byte_at file a = byte_in (loaded file a)
+
+-- the flags of what was found, 0 where nothing was
+abbrev pub flags_in : Option Cell → ℕ
+flags_in None = 0
+flags_in (Some c) = c.flags
+
+-- the flags at an address, 0 where no byte is loaded
+abbrev pub flags_at : List ℕ → ℕ → ℕ
+flags_at file a = flags_in (loaded file a)
+
+-- the byte at an address is kept
+abbrev pub kept_at : List ℕ → ℕ → Bool
+kept_at file a = is_kept (loaded file a)
+
+-- an address lies in one of the runs, each of which is a first and a last address
+abbrev pub IsInRuns : List (ℕ × ℕ) → ℕ → Type 0
+IsInRuns runs a = (i : ℕ) × (i < length runs) × ((slice_index_or runs i (0, 0)).0 ≤ a) × (a ≤ (slice_index_or runs i (0, 0)).1)
+
+-- the maximal runs of kept addresses, rising: no run is empty, a gap stands between two, and they hold the kept addresses
+pub record IsKeptRuns (file : List ℕ) (runs : List (ℕ × ℕ)) : Type 0 where
+  pub filled : (i : ℕ) → i < length runs → (slice_index_or runs i (0, 0)).0 ≤ (slice_index_or runs i (0, 0)).1
+  pub apart : (i : ℕ) → i + 1 < length runs → (slice_index_or runs i (0, 0)).1 + 1 < (slice_index_or runs (i + 1) (0, 0)).0
+  pub exact : (a : ℕ) → (kept_at file a ≡ true) ↔ IsInRuns runs a

@@ -42,13 +42,16 @@ IsName file table at name =
     (at + length name < table.size) × (take (length name) (drop (table.offset + at) file) ≡ name)
     × (slice_index file (table.offset + at + length name) ≡ 0) × ((i : ℕ) → i < length name → slice_index name i ≢ 0)
 
--- symbol k of the section i is the function name at the address a
-abbrev pub IsFunction : List ℕ → List ℕ → ℕ → Type 0
-IsFunction file name a =
-    (i k : ℕ) × IsSymbols file i × (16 * k < (section file i).size)
-    × (let at = (section file i).offset + 16 * k in
+-- symbol k of section i is the function name at the address a: STT_FUNC is 2, and it is defined in some section
+abbrev pub IsFunctionSymbol : List ℕ → ℕ → ℕ → List ℕ → ℕ → Type 0
+IsFunctionSymbol file i k name a =
+    let at = (section file i).offset + 16 * k in
     IsName file (section file (section file i).link) (field file 4 at) name
-    × (field file 4 (at + 4) ≡ a) × (slice_index file (at + 12) % 16 ≡ 2) × (field file 2 (at + 14) ≢ 0) × (a % 4 ≡ 0))
+    × (field file 4 (at + 4) ≡ a) × (slice_index file (at + 12) % 16 ≡ 2) × (field file 2 (at + 14) ≢ 0) × (a % 4 ≡ 0)
+
+-- a symbol is the function name at the address a
+abbrev pub IsFunction : List ℕ → List ℕ → ℕ → Type 0
+IsFunction file name a = (i k : ℕ) × IsSymbols file i × (16 * k < (section file i).size) × IsFunctionSymbol file i k name a
 
 -- a symbol table that is refused
 abbrev pub IsBadSymbols : List ℕ → ℕ → Type 0

@@ -5,7 +5,8 @@ use Rattle.bilv_spec.specs.Words.{add, sub}
 use Rattle.bilv_spec.specs.Memory.{Endian, load}
 use Rattle.bilv_spec.specs.State.{State}
 use Rattle.bilv_spec.specs.Machine.{Machine, Row, How, On, Direct, DirectCall, Indirect, IndirectCall, Exception, EnvironmentCall, Breakpoint, SoftwareInterrupt, OddHalfword, UnalignedLoad, Outcome, Goes, Raises, addresses, pair_of}
-use Rattle.bilv_spec.specs.Elf.{Cell, kept, executable}
+pub use Rattle.bilv_spec.specs.Elf.{is_kept, is_executable}
+use Rattle.bilv_spec.specs.Elf.{Cell}
 use Rattle.bilv_spec.specs.Notes.{Notes, NoteLine, Assert, Targets, value, is_true}
 
 -- What is verified: a machine, the word that is executed at an address in a state, the bytes that the file loads, the address of the function, and the notes.
@@ -50,16 +51,6 @@ false_assert e (a ∷ rest) now entry =
 abbrev pub false_line : Endian → List NoteLine → State → State → Option ℕ
 false_line e [] now entry = None
 false_line e (l ∷ rest) now entry = if is_true (value e l.says now entry) then false_line e rest now entry else Some l.line
-
--- the byte is loaded and executable
-abbrev pub is_executable : Option Cell → Bool
-is_executable None = false
-is_executable (Some c) = executable c.flags
-
--- the byte is loaded and kept
-abbrev pub is_kept : Option Cell → Bool
-is_kept None = false
-is_kept (Some c) = kept c
 
 -- the four bytes from an address on are loaded and executable
 abbrev pub fetchable : Program → ℕ → Bool
