@@ -1,0 +1,168 @@
+//! The state of RV32IM.
+ghost use Rattle.std.specs.Prelude.{◌≡◌, ◌≤◌, ◌<◌, ◌*◌, ◌+◌, ◌==◌, OnOk, OnErr, IfOk};
+ghost use Rattle.bilv_spec.specs.Memory.{Little, load, store, memory_of};
+ghost use Rattle.bilv_spec.specs.State.{with_pc};
+ghost use Rattle.bilv_spec.specs.Rv.{reg, with_reg};
+ghost use Rattle.bilv_spec.specs.Words.{add};
+ghost use Rattle.byte_mem.specs.Views.{endian_of};
+ghost use Rattle.rv_step.specs.States.{state_of, spare_of};
+
+use crate::registers::Registers;
+use bv_word::Word;
+use byte_mem::{Bytes32, Endian, How, StepOut, View};
+use rv_decode::Register;
+use std::alloc::{AllocError, Global};
+
+/// The program counter, the registers x1 to x31, and the memory.
+#[derive(Drop)]
+pub struct State {
+    pc: u32,
+    registers: Registers,
+    memory: Bytes32,
+}
+
+impl View for State {
+    ghost use Rattle.bilv_spec.specs.Rv.{rv32};
+    ghost use Rattle.rv_step.specs.States.{state_of};
+
+    ghost view = { state_of };
+
+    ghost link_register = { rv32.link };
+
+    ghost has_register = { rv32.has_register };
+
+    fn reg(&self, r: u8) -> u32 {
+        self.registers.read(r)
+    }
+
+    fn flag(&self, f: u8) -> bool {
+        false
+    }
+
+    fn pc(&self) -> u32 {
+        self.pc
+    }
+
+    fn link(&self) -> u32 {
+        self.registers.read(1)
+    }
+
+    fn load(&self, a: u32, n: u8, endian: Endian) -> Word {
+        self.memory.load(a, n, endian)
+    }
+}
+
+impl State {
+    /// The state with a memory at an address, its registers 0.
+    pub fn new(pc: u32, memory: Bytes32) -> State
+        ensures state { state_of result ≡ record { pc = pc; regs = λ r. 0; flags = λ f. 0; mem = memory_of memory.entries } }
+        ensures spare { spare_of result ≡ memory.spare }
+    {
+        State {
+            pc,
+            registers: Registers::new(),
+            memory,
+        }
+    }
+
+    /// Changes a register; x0 keeps its value.
+    pub fn set(&mut self, rd: Register, value: u32)
+        ensures state { state_of self.new ≡ with_reg (state_of self.old) rd.number value }
+        ensures spare { spare_of self.new ≡ spare_of self.old }
+    {
+        self.registers.write(rd, value);
+    }
+
+    /// Makes room for stores of `n` bytes. The error is want of memory, and nothing has changed.
+    pub fn reserve(&mut self, n: usize) -> Result<(), AllocError>
+        ensures state { OnOk result (state_of self.new ≡ state_of self.old) }
+        ensures room { OnOk result (n ≤ spare_of self.new) }
+        ensures spare { OnOk result (spare_of self.old ≤ spare_of self.new) }
+        ensures err { OnErr result (self.new ≡ self.old) }
+    {
+        self.memory.reserve(n)?;
+        Ok(())
+    }
+
+    /// An equal state. The error is want of memory.
+    pub fn copy(&self, alloc: Global) -> Result<State, AllocError>
+        ensures { IfOk result (λ copy. state_of copy ≡ state_of self.now) }
+    {
+        let memory = self.memory.copy(alloc)?;
+        Ok(State {
+            pc: self.pc,
+            registers: self.registers,
+            memory,
+        })
+    }
+
+    /// The memory.
+    pub fn memory(&self) -> &Bytes32
+        ensures { memory_of result.now.entries ≡ (state_of self.now).mem }
+    {
+        &self.memory
+    }
+
+    /// What a register reads.
+    #[tactic(auto, using(crate::proofs::X0::reads))]
+    pub(crate) fn read(&self, r: Register) -> u32
+        ensures { result ≡ reg (state_of self.now) r.number }
+    {
+        self.registers.read(r.number())
+    }
+
+    /// Goes on to the next address.
+    pub(crate) fn go_on(&mut self) -> StepOut
+        ensures out { result ≡ StepOut.Next }
+        ensures state { state_of self.new ≡ with_pc (state_of self.old) (add 32 (state_of self.old).pc 4) }
+        ensures spare { spare_of self.new ≡ spare_of self.old }
+    {
+        self.pc = self.pc.wrapping_add(4);
+        StepOut::Next
+    }
+
+    /// Jumps.
+    pub(crate) fn jump(&mut self, to: u32, how: How) -> StepOut
+        ensures out { result ≡ StepOut.Jump to how }
+        ensures state { state_of self.new ≡ with_pc (state_of self.old) to }
+        ensures spare { spare_of self.new ≡ spare_of self.old }
+    {
+        self.pc = to;
+        StepOut::Jump { to, how }
+    }
+
+    /// Sets a register, and goes on to the next address.
+    pub(crate) fn set_and_go_on(&mut self, rd: Register, value: u32) -> StepOut
+        ensures out { result ≡ StepOut.Next }
+        ensures state { state_of self.new ≡ with_pc (with_reg (state_of self.old) rd.number value) (add 32 (state_of self.old).pc 4) }
+        ensures spare { spare_of self.new ≡ spare_of self.old }
+    {
+        self.set(rd, value);
+        self.go_on()
+    }
+
+    /// Sets a register to the address behind, and jumps.
+    pub(crate) fn link_and_jump(&mut self, rd: Register, to: u32, how: How) -> StepOut
+        ensures out { result ≡ StepOut.Jump to how }
+        ensures state { state_of self.new ≡ with_pc (with_reg (state_of self.old) rd.number (add 32 (state_of self.old).pc 4)) to }
+        ensures spare { spare_of self.new ≡ spare_of self.old }
+    {
+        let behind = self.pc.wrapping_add(4);
+        self.set(rd, behind);
+        self.jump(to, how)
+    }
+
+    /// Stores the low `n` bytes of a word, and goes on to the next address.
+    pub(crate) fn store_and_go_on(&mut self, a: u32, n: u8, value: u32) -> StepOut
+        requires some { 1 ≤ n }
+        requires few { n ≤ 4 }
+        requires room { n ≤ spare_of self.old }
+        ensures out { result ≡ StepOut.Next }
+        ensures state { state_of self.new ≡ with_pc (record (state_of self.old) { mem = store Little n (state_of self.old).mem a value }) (add 32 (state_of self.old).pc 4) }
+        ensures spare { spare_of self.old ≤ spare_of self.new + n }
+    {
+        let low = Word::new(32, value as u64).low(8 * n);
+        self.memory.store_reserved(a, n, Endian::Little, low);
+        self.go_on()
+    }
+}
