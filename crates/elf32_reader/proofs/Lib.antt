@@ -1,0 +1,9 @@
+pub mod Numbers
+pub mod Order
+pub mod Layers
+pub mod Headers
+pub mod Apart
+pub mod Tables
+pub mod Least
+pub mod Tied
+pub mod KeptRuns

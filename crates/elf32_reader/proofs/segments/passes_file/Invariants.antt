@@ -1,0 +1,8 @@
+use Rattle.std.proofs.Common.{ℕ, ◌≡◌, ◌<◌, ◌≤◌, ◌+◌, length}
+use Rattle.elf32_reader.specs.Loads.{header}
+use Rattle.elf32_reader.proofs.segments.passes_file.Given as goal
+
+abbrev pub invariant-loop-i : goal.invariant-loop-i
+invariant-loop-i l =
+    (k : ℕ) → k < l.i → (header l.file k).kind ≡ 1
+    → ((header l.file k).in_file ≤ (header l.file k).in_memory) × ((header l.file k).offset + (header l.file k).in_file ≤ length l.file)

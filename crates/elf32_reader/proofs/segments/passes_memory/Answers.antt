@@ -1,0 +1,6 @@
+use Rattle.std.proofs.Common.{arith}
+use Rattle.elf32_reader.proofs.Headers.{no_range_fault}
+use Rattle.elf32_reader.proofs.segments.passes_memory.Goals as goal
+
+pub returns : goal.returns
+returns c = no_range_fault c.args.file.now (λ k w. c.loop-i.invariant k (omega arith))

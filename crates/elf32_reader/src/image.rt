@@ -1,0 +1,182 @@
+//! The image of a file: what it loads, and where its functions are.
+ghost use Rattle.std.specs.Prelude.{ℕ, ◌≡◌, ◌≤◌, ◌<◌, ◌+◌, length, IfOk, IfErr, OnOk, MatchResult, IsTrue, ◌↔◌};
+ghost use Rattle.bilv_spec.specs.Elf.{field, is_big, byte_at, flags_at, kept_at, IsKeptRuns};
+ghost use Rattle.bilv_spec.specs.ElfFaults.{IsImage, Finds};
+ghost use Rattle.elf32_reader.specs.Refusals.{IsRefused, IsClear};
+ghost use Rattle.elf32_reader.specs.Symbols.{IsMissed};
+ghost use Rattle.elf32_reader.specs.Images.{IsTied};
+
+use crate::fault::ElfFault;
+use crate::fields::half;
+use crate::header::check_header;
+use crate::runs::{is_kept, kept_runs};
+use crate::segments::{
+    ProgramHeader, covering, overlaps, passes_file, passes_memory, sorted_segments,
+};
+use crate::symbols::{SymFault, find_function, has_bad_symbols};
+use std::alloc::Global;
+use std::marker::Model;
+
+/// An ELF32 file that no fault refuses. In contracts it is the list of the file's bytes.
+#[derive(Drop)]
+pub struct Image<'a> {
+    file: &'a [u8],
+    found: Vec<ProgramHeader>,
+    runs: Vec<(u32, u32)>,
+}
+
+impl<'a> Model for Image<'a> {
+    ghost use Rattle.std.specs.Prelude.{ℕ, List};
+    ghost use Rattle.elf32_reader.specs.Images.{IsRead};
+
+    ghost Value = { List ℕ };
+
+    ghost view = { λ i. i.file.now };
+
+    ghost invariant = { λ i. IsRead i.file.now i.found.items i.runs.items };
+}
+
+/// The segments of a file whose header has no fault.
+fn load_segments(alloc: Global, file: &[u8]) -> Result<Vec<ProgramHeader>, ElfFault>
+    requires { IsClear file.now 8 }
+    ensures tied { IfOk result (λ v. IsTied file.now v.items) }
+    ensures clear { OnOk result (IsClear file.now 11) }
+    ensures refused { IfErr result (IsRefused file.now) }
+{
+    if passes_memory(file) {
+        return Err(ElfFault::SegmentRange);
+    }
+    if passes_file(file) {
+        return Err(ElfFault::FileSize);
+    }
+    match sorted_segments(alloc, file) {
+        Err(_) => Err(ElfFault::Memory),
+        Ok(found) => {
+            if overlaps(&found) {
+                return Err(ElfFault::Overlap);
+            }
+            Ok(found)
+        }
+    }
+}
+
+/// Reads a file (System V ABI, object files and program loading). The image borrows the file's bytes; memory is
+/// taken for its loaded segments and its kept runs alone.
+///
+/// # Errors
+///
+/// The first fault of the file in the order of [`ElfFault`], or `Memory` where memory ran out.
+pub fn read_image<'a>(alloc: Global, bytes: &'a [u8]) -> Result<Image<'a>, ElfFault>
+    ensures accepted { OnOk result (IsImage bytes.now) }
+    ensures image { IfOk result (λ i. i ≡ bytes.now) }
+    ensures refused { IfErr result (IsRefused bytes.now) }
+{
+    check_header(bytes)?;
+    let found = load_segments(alloc, bytes)?;
+    if has_bad_symbols(bytes) {
+        return Err(ElfFault::SymbolTable);
+    }
+    match kept_runs(alloc, &found) {
+        Err(_) => Err(ElfFault::Memory),
+        Ok(runs) => Ok(Image {
+            file: bytes,
+            found,
+            runs,
+        }),
+    }
+}
+
+/// The byte that segments load at an address.
+fn byte_of(file: &[u8], found: &[ProgramHeader], a: u32) -> Option<u8>
+    requires { IsTied file.now found.now }
+    ensures { result ≡ byte_at file.now a }
+{
+    match covering(found, a) {
+        None => None,
+        Some(h) => {
+            let at = a - h.address;
+            if at < h.in_file {
+                return Some(file[h.offset as usize + at as usize]);
+            }
+            Some(0)
+        }
+    }
+}
+
+/// The flags of the segment that is loaded at an address, else 0.
+fn flags_of(file: &[u8], found: &[ProgramHeader], a: u32) -> u32
+    requires { IsTied file.now found.now }
+    ensures { result ≡ flags_at file.now a }
+{
+    match covering(found, a) {
+        None => 0,
+        Some(h) => h.flags,
+    }
+}
+
+/// The byte at an address is loaded and no run changes it.
+fn kept_of(file: &[u8], found: &[ProgramHeader], a: u32) -> bool
+    requires { IsTied file.now found.now }
+    ensures { result ≡ kept_at file.now a }
+{
+    match covering(found, a) {
+        None => false,
+        Some(h) => is_kept(h.flags),
+    }
+}
+
+impl<'a> Image<'a> {
+    /// The byte that is loaded at an address.
+    pub fn byte(&self, a: u32) -> Option<u8>
+        ensures { result ≡ byte_at self.now a }
+    {
+        byte_of(self.file, &self.found, a)
+    }
+
+    /// The flags of the segment at an address: X is 1, W is 2, R is 4; 0 where no byte is loaded.
+    pub fn flags(&self, a: u32) -> u32
+        ensures { result ≡ flags_at self.now a }
+    {
+        flags_of(self.file, &self.found, a)
+    }
+
+    /// The byte at an address is loaded, and is executable or not writable.
+    pub fn kept(&self, a: u32) -> bool
+        ensures { result ≡ kept_at self.now a }
+    {
+        kept_of(self.file, &self.found, a)
+    }
+
+    /// The maximal runs of kept addresses, rising: the first and the last address of each.
+    pub fn kept_runs(&self) -> &[(u32, u32)]
+        ensures { IsKeptRuns self.now result.now }
+    {
+        &self.runs
+    }
+
+    /// The machine: 40 is ARM, 243 is RISC-V.
+    pub fn machine(&self) -> u16
+        ensures { result ≡ field self.now 2 18 }
+    {
+        half(self.file, 18)
+    }
+
+    /// The byte order is big.
+    pub fn big(&self) -> bool
+        ensures { result ≡ is_big self.now }
+    {
+        self.file[5] == 2
+    }
+
+    /// The address of the function of this name: a symbol of STT_FUNC that is defined in a section and has a
+    /// multiple of 4 as its value (System V ABI, object files: symbol table).
+    ///
+    /// # Errors
+    ///
+    /// `NoFunction` where there is none, and `Ambiguous` where there are several addresses.
+    pub fn function(&self, name: &str) -> Result<u32, SymFault>
+        ensures { MatchResult result (Finds self.now name.now) (IsMissed self.now name.now) }
+    {
+        find_function(self.file, name.as_bytes())
+    }
+}

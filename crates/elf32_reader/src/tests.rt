@@ -1,0 +1,232 @@
+//! What no clause says: worked files, and that calls succeed.
+use super::{ElfFault, SymFault, read_image};
+use std::alloc::{AllocError, Global};
+
+/// Two instructions for RISC-V at 0x10000: `addi a0,a0,1` and `ret`.
+const ROW: [u8; 92] = [
+    0x7f, 0x45, 0x4c, 0x46, 0x01, 0x01, 0x01, 0x00, 0x00, 0x00, 0x00, 0x00, 0x00, 0x00, 0x00, 0x00,
+    0x02, 0x00, 0xf3, 0x00, 0x01, 0x00, 0x00, 0x00, 0x00, 0x00, 0x01, 0x00, 0x34, 0x00, 0x00, 0x00,
+    0x00, 0x00, 0x00, 0x00, 0x00, 0x00, 0x00, 0x00, 0x34, 0x00, 0x20, 0x00, 0x01, 0x00, 0x00, 0x00,
+    0x00, 0x00, 0x00, 0x00, 0x01, 0x00, 0x00, 0x00, 0x54, 0x00, 0x00, 0x00, 0x00, 0x00, 0x01, 0x00,
+    0x00, 0x00, 0x01, 0x00, 0x08, 0x00, 0x00, 0x00, 0x08, 0x00, 0x00, 0x00, 0x05, 0x00, 0x00, 0x00,
+    0x04, 0x00, 0x00, 0x00, 0x13, 0x05, 0x15, 0x00, 0x67, 0x80, 0x00, 0x00,
+];
+
+/// One instruction for big-endian ARM at 0x8000, `bx lr`, and two bytes of zeros behind it; readable and writable.
+const BIG: [u8; 88] = [
+    0x7f, 0x45, 0x4c, 0x46, 0x01, 0x02, 0x01, 0x00, 0x00, 0x00, 0x00, 0x00, 0x00, 0x00, 0x00, 0x00,
+    0x00, 0x02, 0x00, 0x28, 0x00, 0x00, 0x00, 0x01, 0x00, 0x00, 0x80, 0x00, 0x00, 0x00, 0x00, 0x34,
+    0x00, 0x00, 0x00, 0x00, 0x00, 0x00, 0x00, 0x00, 0x00, 0x34, 0x00, 0x20, 0x00, 0x01, 0x00, 0x00,
+    0x00, 0x00, 0x00, 0x00, 0x00, 0x00, 0x00, 0x01, 0x00, 0x00, 0x00, 0x54, 0x00, 0x00, 0x80, 0x00,
+    0x00, 0x00, 0x80, 0x00, 0x00, 0x00, 0x00, 0x04, 0x00, 0x00, 0x00, 0x06, 0x00, 0x00, 0x00, 0x06,
+    0x00, 0x00, 0x00, 0x04, 0xe1, 0x2f, 0xff, 0x1e,
+];
+
+/// A second table of program headers behind the row's file: the row's segment, and one of a byte at 0x10007.
+const SECOND: [(usize, u8); 16] = [
+    (28, 92),
+    (44, 2),
+    (92, 1),
+    (96, 84),
+    (102, 1),
+    (108, 8),
+    (112, 8),
+    (116, 5),
+    (124, 1),
+    (128, 84),
+    (132, 7),
+    (134, 1),
+    (140, 1),
+    (144, 1),
+    (148, 4),
+    (152, 4),
+];
+
+/// Sections behind the row's file: `f` at 0x10004 and at 0x10000, `g` at 0x10004.
+const SYMBOLS: [(usize, u8); 32] = [
+    (32, 92),
+    (46, 40),
+    (48, 3),
+    (136, 2),
+    (148, 212),
+    (152, 48),
+    (156, 2),
+    (168, 16),
+    (176, 3),
+    (188, 4),
+    (189, 1),
+    (192, 5),
+    (212, 1),
+    (216, 4),
+    (218, 1),
+    (224, 2),
+    (226, 1),
+    (228, 1),
+    (234, 1),
+    (240, 2),
+    (242, 1),
+    (244, 3),
+    (248, 4),
+    (250, 1),
+    (256, 2),
+    (258, 1),
+    (260, 0),
+    (261, 0x66),
+    (262, 0),
+    (263, 0x67),
+    (264, 0),
+    (0, 0x7f),
+];
+
+fn byte_of(base: &[u8], edits: &[(usize, u8)], i: usize) -> u8 {
+    for edit in edits {
+        if edit.0 == i {
+            return edit.1;
+        }
+    }
+    match base.get(i) {
+        Some(byte) => *byte,
+        None => 0,
+    }
+}
+
+/// The first `len` bytes of a file, with zeros behind its end, and some bytes changed.
+fn edited(
+    alloc: Global,
+    base: &[u8],
+    edits: &[(usize, u8)],
+    len: usize,
+) -> Result<Vec<u8>, AllocError> {
+    let mut file = Vec::new(alloc);
+    for i in 0..len {
+        file.push(byte_of(base, edits, i))?;
+    }
+    Ok(file)
+}
+
+#[test]
+fn each_fault_is_answered(rt: HostRuntime) -> Result<(), AllocError> {
+    let cases: [(&[(usize, u8)], usize, ElfFault); 18] = [
+        (&[], 51, ElfFault::Short),
+        (&[(0, 0)], 92, ElfFault::Magic),
+        (&[(4, 2)], 92, ElfFault::Class),
+        (&[(5, 3)], 92, ElfFault::Data),
+        (&[(6, 0)], 92, ElfFault::Version),
+        (&[(20, 2)], 92, ElfFault::Version),
+        (&[(16, 1)], 92, ElfFault::Type),
+        (&[(18, 0)], 92, ElfFault::Machine),
+        (&[], 52, ElfFault::HeaderTable),
+        (&[(42, 40)], 92, ElfFault::HeaderTable),
+        (&[(44, 0xff), (45, 0xff)], 92, ElfFault::HeaderTable),
+        (
+            &[(28, 0xff), (29, 0xff), (30, 0xff), (31, 0xff)],
+            92,
+            ElfFault::HeaderTable,
+        ),
+        (
+            &[(60, 0xfc), (61, 0xff), (62, 0xff), (63, 0xff)],
+            92,
+            ElfFault::SegmentRange,
+        ),
+        (
+            &[(60, 0xfc), (61, 0xff), (62, 0xff), (63, 0xff)],
+            91,
+            ElfFault::SegmentRange,
+        ),
+        (&[], 91, ElfFault::FileSize),
+        (&[(72, 7)], 92, ElfFault::FileSize),
+        (&SECOND, 156, ElfFault::Overlap),
+        (&[(32, 92), (46, 40), (48, 1)], 131, ElfFault::SymbolTable),
+    ];
+    for (edits, len, want) in cases {
+        let file = edited(rt.alloc(), &ROW, edits, len)?;
+        match read_image(rt.alloc(), &file) {
+            Ok(_) => assert!(rt; false, "no fault {want:?}"),
+            Err(fault) => assert_eq!(rt; fault, want),
+        }
+    }
+    Ok(())
+}
+
+#[test]
+fn the_row_is_read(rt: HostRuntime) -> Result<(), ElfFault> {
+    let image = read_image(rt.alloc(), &ROW)?;
+    assert_eq!(rt; image.machine(), 243);
+    assert!(rt; !image.big());
+    assert_eq!(rt; image.byte(0x10000), Some(0x13));
+    assert_eq!(rt; image.byte(0x10007), Some(0));
+    assert_eq!(rt; image.byte(0x10008), None);
+    assert_eq!(rt; image.byte(0xffff), None);
+    assert_eq!(rt; image.flags(0x10004), 5);
+    assert_eq!(rt; image.flags(0x10008), 0);
+    assert!(rt; image.kept(0x10000));
+    assert!(rt; !image.kept(0x10008));
+    assert_eq!(rt; image.kept_runs(), [(0x10000, 0x10007)].as_slice());
+    assert_eq!(rt; image.function("f"), Err(SymFault::NoFunction));
+    Ok(())
+}
+
+#[test]
+fn big_endian_arm_is_read(rt: HostRuntime) -> Result<(), ElfFault> {
+    let image = read_image(rt.alloc(), &BIG)?;
+    assert_eq!(rt; image.machine(), 40);
+    assert!(rt; image.big());
+    assert_eq!(rt; image.byte(0x8001), Some(0x2f));
+    assert_eq!(rt; image.byte(0x8005), Some(0));
+    assert_eq!(rt; image.byte(0x8006), None);
+    assert_eq!(rt; image.flags(0x8000), 6);
+    assert!(rt; !image.kept(0x8000));
+    assert_eq!(rt; image.kept_runs().len(), 0);
+    Ok(())
+}
+
+#[test]
+fn neighbours_and_large_segments_are_read(rt: HostRuntime) -> Result<(), AllocError> {
+    let mut apart = SECOND;
+    apart[10] = (132, 8);
+    let file = edited(rt.alloc(), &ROW, &apart, 156)?;
+    match read_image(rt.alloc(), &file) {
+        Ok(image) => {
+            assert_eq!(rt; image.kept_runs(), [(0x10000, 0x10008)].as_slice());
+            assert_eq!(rt; image.flags(0x10008), 4);
+        }
+        Err(fault) => assert!(rt; false, "{fault}"),
+    }
+    let edits: [(usize, u8); 5] = [(62, 0), (72, 0xff), (73, 0xff), (74, 0xff), (75, 0xff)];
+    let file = edited(rt.alloc(), &ROW, &edits, 92)?;
+    match read_image(rt.alloc(), &file) {
+        Ok(image) => {
+            assert_eq!(rt; image.byte(0), Some(0x13));
+            assert_eq!(rt; image.byte(0xffff_fffe), Some(0));
+            assert_eq!(rt; image.byte(0xffff_ffff), None);
+            assert_eq!(rt; image.kept_runs(), [(0, 0xffff_fffe)].as_slice());
+        }
+        Err(fault) => assert!(rt; false, "{fault}"),
+    }
+    Ok(())
+}
+
+#[test]
+fn functions_are_found(rt: HostRuntime) -> Result<(), AllocError> {
+    let file = edited(rt.alloc(), &ROW, &SYMBOLS, 265)?;
+    match read_image(rt.alloc(), &file) {
+        Ok(image) => {
+            assert_eq!(rt;
+                image.function("f"),
+                Err(SymFault::Ambiguous(0x10000, 0x10004))
+            );
+            assert_eq!(rt; image.function("g"), Ok(0x10004));
+            assert_eq!(rt; image.function("fg"), Err(SymFault::NoFunction));
+            assert_eq!(rt; image.function("g\0"), Err(SymFault::NoFunction));
+        }
+        Err(fault) => assert!(rt; false, "{fault}"),
+    }
+    let mut unnamed = SYMBOLS;
+    unnamed[30] = (264, 1);
+    let file = edited(rt.alloc(), &ROW, &unnamed, 265)?;
+    match read_image(rt.alloc(), &file) {
+        Ok(_) => assert!(rt; false, "a name has no end"),
+        Err(fault) => assert_eq!(rt; fault, ElfFault::SymbolTable),
+    }
+    Ok(())
+}
