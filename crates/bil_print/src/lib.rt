@@ -1,0 +1,26 @@
+//! The text of lists of statements (A Formal Specification for BIL, in this project's profile): one statement a line, two blanks for each depth of blocks.
+#![tactic(auto)]
+
+ghost use Rattle.std.specs.Prelude.{◌≡◌, IfOk};
+ghost use Rattle.bilv_spec.specs.BilText as text;
+ghost use Rattle.bil_ast.specs.Views.{statements};
+
+mod expressions;
+mod names;
+mod statements;
+
+use bil_ast::Stmt;
+use statements::append_list;
+use std::alloc::{AllocError, Global};
+
+/// The text of a list of statements. The error is want of memory.
+pub fn print_stmts(alloc: Global, list: &[Stmt]) -> Result<Vec<u8>, AllocError>
+    ensures { IfOk result (λ bytes. bytes.items ≡ text.list_text 0 (statements list.now)) }
+{
+    let mut out = String::new(alloc);
+    append_list(list, &mut out, alloc, "")?;
+    Ok(out.into_bytes())
+}
+
+#[cfg(test)]
+mod tests;

@@ -1,0 +1,6 @@
+pub mod Ended
+pub mod NumbersRead
+pub mod Cuts
+pub mod Capped
+pub mod Splits
+pub mod OnVariables

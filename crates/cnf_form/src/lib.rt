@@ -1,0 +1,24 @@
+//! Clauses, logs and proofs as values, and the text of clauses.
+//!
+//! A set of clauses is read from and printed as DIMACS CNF, and a log of a proof has the lines of LRAT.
+#![tactic(auto)]
+
+#[cfg(test)]
+use std::alloc::{AllocError, Global};
+
+pub mod clause;
+pub mod form;
+pub mod lists;
+pub mod lit;
+pub mod number;
+pub mod print;
+pub mod range;
+#[cfg(test)]
+mod tests;
+pub mod words;
+
+pub use clause::Clause;
+pub use form::{Cnf, Hint, Log, LogLine, Proof};
+pub use lit::Lit;
+pub use print::print_cnf;
+pub use range::are_on_variables;

@@ -1,0 +1,10 @@
+pub mod Seen
+pub mod SlotLaws
+pub mod Places
+pub mod Hints
+pub mod Pushes
+pub mod Starts
+pub mod Taken
+pub mod Checks
+pub mod Lists
+pub mod Caps

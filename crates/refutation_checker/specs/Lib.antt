@@ -1,0 +1,5 @@
+pub mod Answers
+pub mod Slots
+pub mod Entries
+pub mod Known
+pub mod Readings

@@ -1,0 +1,96 @@
+//! The values that a line gives to variables.
+//!
+//! Each value carries the number of the line that set it, and says nothing at another line. So no line has to take back what it set.
+ghost use Rattle.std.specs.Prelude.{◌≡◌, ℕ, ◌<◌, true, false, length};
+ghost use Rattle.bilv_spec.specs.Clauses.{Literal, opposite};
+ghost use Rattle.bilv_spec.specs.UnitPropagation.{negations};
+ghost use Rattle.bilv_spec.specs.Refutation.{added, look_of, is_tautology};
+ghost use Rattle.refutation_checker.specs.Slots.{true_in, AreUpTo, IsWithin, seen_as};
+
+use cnf_form::Lit;
+
+/// The last value of a variable, and the line that set it; lines count from 1.
+#[derive(Clone, Copy)]
+pub struct Slot {
+    pub line: usize,
+    pub positive: bool,
+}
+
+/// What a clause is under the values of a line.
+#[derive(Clone, Copy)]
+pub enum Look {
+    /// Every literal is false.
+    Conflict,
+    /// One literal has no value, and every other is false.
+    Unit(Lit),
+    Other,
+}
+
+/// Whether the literal is true at the line.
+pub fn is_true(slots: &[Slot], line: usize, lit: Lit) -> bool
+    requires { lit.variable < length slots.now }
+    ensures { result ≡ true_in line slots.now lit }
+{
+    let slot = slots[lit.variable() as usize];
+    slot.line == line && slot.positive == lit.is_positive()
+}
+
+/// Makes a literal true at the line.
+pub fn assign(slots: &mut [Slot], line: usize, lit: Lit)
+    requires within { lit.variable < length slots.old }
+    requires not_false { true_in line slots.old (opposite lit) ≡ false }
+    ensures values { (m : Literal) → true_in line slots.new m ≡ added lit (true_in line slots.old) m }
+    ensures lines { AreUpTo line slots.old → AreUpTo line slots.new }
+{
+    slots[lit.variable() as usize] = Slot {
+        line,
+        positive: lit.is_positive(),
+    };
+}
+
+/// What the clause is at the line.
+pub fn look_at(slots: &[Slot], line: usize, clause: &[Lit]) -> Look
+    requires { IsWithin (length slots.now) clause.now }
+    ensures { seen_as result ≡ look_of (true_in line slots.now) clause.now }
+{
+    let mut open = None;
+    for lit in clause {
+        if !is_true(slots, line, lit.opposite()) {
+            match open {
+                None => open = Some(*lit),
+                Some(first) => {
+                    if !lit.is_same(first) {
+                        return Look::Other;
+                    }
+                }
+            }
+        }
+    }
+    match open {
+        None => Look::Conflict,
+        Some(lit) => {
+            if is_true(slots, line, lit) {
+                Look::Other
+            } else {
+                Look::Unit(lit)
+            }
+        }
+    }
+}
+
+/// Makes every literal of a clause false at a line that has set nothing, and says whether that failed: whether a literal stands beside its opposite.
+pub fn deny(slots: &mut [Slot], line: usize, clause: &[Lit]) -> bool
+    requires within { IsWithin (length slots.old) clause.now }
+    requires empty { (m : Literal) → true_in line slots.old m ≡ false }
+    ensures tautology { result ≡ is_tautology clause.now }
+    ensures values { result ≡ false → (m : Literal) → true_in line slots.new m ≡ negations clause.now m }
+    ensures lines { AreUpTo line slots.old → AreUpTo line slots.new }
+{
+    for lit in clause {
+        if is_true(slots, line, *lit) {
+            return true;
+        }
+        assign(slots, line, lit.opposite());
+    }
+    false
+}

@@ -1,0 +1,4 @@
+pub mod Numbers
+pub mod Lexing
+pub mod Appends
+pub mod Printing

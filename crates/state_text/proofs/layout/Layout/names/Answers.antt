@@ -1,0 +1,18 @@
+use Rattle.std.proofs.Common.{ap, sym}
+use Rattle.std.specs.Fmt.{digits}
+use Rattle.bilv_spec.specs.StateText.{value_names}
+use Rattle.state_text.specs.Starts.{layout_of}
+use Rattle.state_text.specs.declared.layout.Layout.{Layout}
+use Rattle.state_text.proofs.layout.Layout.names.Goals as goal
+
+pub returns-in-Rv32 : goal.returns-in-Rv32
+unfolding digits
+returns-in-Rv32 c = ap (λ (l : Layout). value_names (layout_of l)) (sym c.in-Rv32.is)
+
+pub returns-in-ArmLittle : goal.returns-in-ArmLittle
+unfolding digits
+returns-in-ArmLittle c = ap (λ (l : Layout). value_names (layout_of l)) (sym c.in-ArmLittle.is)
+
+pub returns-in-ArmBig : goal.returns-in-ArmBig
+unfolding digits
+returns-in-ArmBig c = ap (λ (l : Layout). value_names (layout_of l)) (sym c.in-ArmBig.is)

@@ -1,0 +1,9 @@
+use Rattle.std.proofs.Common.{◌≡◌, ◌++◌, drop}
+use Rattle.bilv_spec.specs.StateText.{register_lines}
+use Rattle.state_text.specs.Starts.{layout_of, lines_text}
+use Rattle.state_text.proofs.printer.push_registers.Given as goal
+
+abbrev pub invariant-loop-place : goal.invariant-loop-place
+invariant-loop-place l =
+    l.out.items ++ lines_text (layout_of l.layout) (register_lines l.place (drop l.place l.regs))
+    ≡ l.initial.out.items ++ lines_text (layout_of l.layout) (register_lines 0 l.regs)

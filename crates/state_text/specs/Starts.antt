@@ -1,0 +1,54 @@
+-- The definitions' values that layouts, starts and endings stand for.
+use Rattle.std.specs.Prelude.{ℕ, List, map}
+use Rattle.bilv_spec.specs.Texts.{joined, lines}
+use Rattle.bilv_spec.specs.Memory.{Little, Big}
+use Rattle.bilv_spec.specs.Run as run
+use Rattle.bilv_spec.specs.Reports as reports
+use Rattle.bilv_spec.specs.StateText as texts
+use Rattle.state_text.specs.declared.layout.Layout.{Layout}
+use Rattle.state_text.specs.declared.layout.Layout.TheVariants.{Rv32, ArmLittle, ArmBig}
+use Rattle.state_text.specs.declared.start.Event.{Event}
+use Rattle.state_text.specs.declared.start.Event.TheVariants.{AssertFails, FetchFails, NoRow, HalfwordFails, CodeWritten, Trapped, AlignFails, JumpFails, EnsureFails}
+use Rattle.state_text.specs.declared.start.NamedEnding.{NamedEnding}
+use Rattle.state_text.specs.declared.start.NamedEnding.TheVariants.{FailsBy, UnknownBy}
+use Rattle.state_text.specs.declared.start.Start.{Start}
+use Rattle.state_text.specs.declared.start.StateText.{StateText}
+
+-- the layout
+abbrev pub layout_of : Layout → texts.Layout
+layout_of Rv32 = texts.rv_layout
+layout_of ArmLittle = texts.arm_layout Little
+layout_of ArmBig = texts.arm_layout Big
+
+-- the event
+abbrev pub event_of : Event → run.Event
+event_of (AssertFails line) = run.AssertFails line
+event_of FetchFails = run.FetchFails
+event_of NoRow = run.NoRow
+event_of HalfwordFails = run.HalfwordFails
+event_of CodeWritten = run.CodeWritten
+event_of Trapped = run.Trapped
+event_of AlignFails = run.AlignFails
+event_of JumpFails = run.JumpFails
+event_of (EnsureFails line) = run.EnsureFails line
+
+-- the ending
+abbrev pub named_of : NamedEnding → reports.NamedEnding
+named_of (FailsBy event at step) = reports.FailsBy (event_of event) at step
+named_of (UnknownBy k at step) = reports.UnknownBy k at step
+
+-- the start as it is written
+abbrev pub written_of : Start → texts.Written
+written_of s = record { regs = s.regs.items; flags = s.flags; bytes = s.bytes.items; choices = s.choices.items }
+
+-- the start with its ending
+abbrev pub text_of : StateText → texts.StateText
+text_of t = record { named = named_of t.named; start = written_of t.start }
+
+-- the text of a line, without its line feed
+abbrev pub line_text : texts.Layout → texts.StateLine → List ℕ
+line_text layout l = joined (texts.words_of_line layout l)
+
+-- the text of lines
+abbrev pub lines_text : texts.Layout → List texts.StateLine → List ℕ
+lines_text layout ls = lines (map (λ l. line_text layout l) ls)

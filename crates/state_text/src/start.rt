@@ -1,0 +1,53 @@
+//! Starts and the endings that reports name.
+
+/// How a run fails.
+#[derive(Clone, Copy, PartialEq, Eq, Debug)]
+pub enum Event {
+    /// An assert line of the notes, by its number, is false.
+    AssertFails { line: u64 },
+    /// The program counter is outside the code.
+    FetchFails,
+    /// The word is no instruction of the machine.
+    NoRow,
+    /// A halfword at an odd address.
+    HalfwordFails,
+    /// A store to the code.
+    CodeWritten,
+    /// The instruction raises an exception.
+    Trapped,
+    /// A jump to an address that is no multiple of 4.
+    AlignFails,
+    /// A jump that the notes do not allow.
+    JumpFails,
+    /// An ensure line of the notes, by its number, is false.
+    EnsureFails { line: u64 },
+}
+
+/// The ending that a report names, with the address and the number of its step.
+#[derive(Clone, Copy, PartialEq, Eq, Debug)]
+pub enum NamedEnding {
+    /// An event.
+    FailsBy { event: Event, at: u32, step: u64 },
+    /// One backward transfer more than `k`.
+    UnknownBy { k: u64, at: u32, step: u64 },
+}
+
+/// The state from which a run begins, and its choices.
+#[derive(Drop, Debug)]
+pub struct Start {
+    /// The registers in order: x1 to x31, or r0 to r14.
+    pub regs: Vec<u32>,
+    /// The flags, as N 8, Z 4, C 2 and V 1.
+    pub flags: u8,
+    /// Bytes by their addresses.
+    pub bytes: Vec<(u32, u8)>,
+    /// Choices by the numbers of their steps.
+    pub choices: Vec<(u64, u8)>,
+}
+
+/// A start with the ending that its report names.
+#[derive(Drop, Debug)]
+pub struct StateText {
+    pub named: NamedEnding,
+    pub start: Start,
+}
