@@ -15,60 +15,60 @@ use Rattle.bilv_spec.specs.BilCounts.{names_only, list_names_only, is_local}
 use Rattle.bilv_spec.specs.BilLaws.{TypedIsSound, WellTypedIsSound, EndHolds}
 
 -- what a rule that gave a type found
-same : {k j : BilType} → Has k ≡ Has j → k ≡ j
+pub same : {k j : BilType} → Has k ≡ Has j → k ≡ j
 same h = cc
 
-of_operand_gave : (x : Typed) (rule : BilType → Typed) (k : BilType) → of_operand x rule ≡ Has k → (t : BilType) × (x ≡ Has t) × (rule t ≡ Has k)
+pub of_operand_gave : (x : Typed) (rule : BilType → Typed) (k : BilType) → of_operand x rule ≡ Has k → (t : BilType) × (x ≡ Has t) × (rule t ≡ Has k)
 of_operand_gave (Has t) rule k h = (t, refl, h)
 of_operand_gave (Faulty f) rule k h = cc
 
-of_two : (x y : Typed) (rule : BilType → BilType → Typed) (k : BilType) → of_operand x (λ t. of_operand y (λ u. rule t u)) ≡ Has k →
+pub of_two : (x y : Typed) (rule : BilType → BilType → Typed) (k : BilType) → of_operand x (λ t. of_operand y (λ u. rule t u)) ≡ Has k →
     (t : BilType) × (u : BilType) × (x ≡ Has t) × (y ≡ Has u) × (rule t u ≡ Has k)
 of_two (Has t) (Has u) rule k h = (t, u, refl, refl, h)
 of_two (Has t) (Faulty f) rule k h = cc
 of_two (Faulty f) y rule k h = cc
 
-of_three : (x y z : Typed) (rule : BilType → BilType → BilType → Typed) (k : BilType) →
+pub of_three : (x y z : Typed) (rule : BilType → BilType → BilType → Typed) (k : BilType) →
     of_operand x (λ t. of_operand y (λ u. of_operand z (λ w. rule t u w))) ≡ Has k →
     (t : BilType) × (u : BilType) × (w : BilType) × (x ≡ Has t) × (y ≡ Has u) × (z ≡ Has w) × (rule t u w ≡ Has k)
 of_three (Has t) y z rule k h = let i = of_two y z (rule t) k h in (t, i.0, i.1, refl, i.2, i.3, i.4)
 of_three (Faulty f) y z rule k h = cc
 
-if_gave : (b : Bool) (x y : Typed) (k : BilType) → (y ≡ Has k → ⊥) → (if b then x else y) ≡ Has k → (b ≡ true) × (x ≡ Has k)
+pub if_gave : (b : Bool) (x y : Typed) (k : BilType) → (y ≡ Has k → ⊥) → (if b then x else y) ≡ Has k → (b ≡ true) × (x ≡ Has k)
 if_gave true x y k never h = (refl, h)
 if_gave false x y k never h = absurd (never h)
 
-bits_gave : (at n : ℕ) (t : BilType) (x : Typed) (k : BilType) → asks_bits at n t x ≡ Has k → (t ≡ Bits n) × (x ≡ Has k)
+pub bits_gave : (at n : ℕ) (t : BilType) (x : Typed) (k : BilType) → asks_bits at n t x ≡ Has k → (t ≡ Bits n) × (x ≡ Has k)
 bits_gave at n (Bits m) x k h = let i = if_gave (m == n) x _ k (λ e. cc) h in (ap (λ z. Bits z) (eqb-true m n i.0), i.1)
 bits_gave at n Memory x k h = cc
 
-any_gave : (at : ℕ) (t : BilType) (rest : ℕ → Typed) (k : BilType) → asks_any at t rest ≡ Has k → (n : ℕ) × (t ≡ Bits n) × (rest n ≡ Has k)
+pub any_gave : (at : ℕ) (t : BilType) (rest : ℕ → Typed) (k : BilType) → asks_any at t rest ≡ Has k → (n : ℕ) × (t ≡ Bits n) × (rest n ≡ Has k)
 any_gave at (Bits n) rest k h = (n, refl, h)
 any_gave at Memory rest k h = cc
 
-memory_gave : (at : ℕ) (t : BilType) (x : Typed) (k : BilType) → asks_memory at t x ≡ Has k → (t ≡ Memory) × (x ≡ Has k)
+pub memory_gave : (at : ℕ) (t : BilType) (x : Typed) (k : BilType) → asks_memory at t x ≡ Has k → (t ≡ Memory) × (x ≡ Has k)
 memory_gave at Memory x k h = (refl, h)
 memory_gave at (Bits n) x k h = cc
 
-type_gave : (at : ℕ) (t u : BilType) (x : Typed) (k : BilType) → asks_type at t u x ≡ Has k → (u ≡ t) × (x ≡ Has k)
+pub type_gave : (at : ℕ) (t u : BilType) (x : Typed) (k : BilType) → asks_type at t u x ≡ Has k → (u ≡ t) × (x ≡ Has k)
 type_gave at (Bits n) u x k h = bits_gave at n u x k h
 type_gave at Memory u x k h = memory_gave at u x k h
 
-fit_gave : (at : ℕ) (b : Bool) (t : BilType) (x : Typed) (k : BilType) → asks_fit at b t x ≡ Has k → (b ≡ true) × (x ≡ Has k)
+pub fit_gave : (at : ℕ) (b : Bool) (t : BilType) (x : Typed) (k : BilType) → asks_fit at b t x ≡ Has k → (b ≡ true) × (x ≡ Has k)
 fit_gave at true t x k h = (refl, h)
 fit_gave at false t x k h = cc
 
-both : (a b : Bool) → (a && b) ≡ true → (a ≡ true) × (b ≡ true)
+pub both : (a b : Bool) → (a && b) ≡ true → (a ≡ true) × (b ≡ true)
 both true b h = (refl, h)
 both false b h = cc
 
 -- a value of a type, by its form
-word_of : (n : ℕ) (v : Value) → IsOfType (Bits n) v → (a : ℕ) × (v ≡ Word n a) × (a < 2 ^ n)
+pub word_of : (n : ℕ) (v : Value) → IsOfType (Bits n) v → (a : ℕ) × (v ≡ Word n a) × (a < 2 ^ n)
 word_of n (Word m a) (e, h) = (a, ap (λ z. Word z a) (sym e), h)
 word_of n (Bytes m) h = absurd h
 word_of n Stuck h = absurd h
 
-memory_of : (v : Value) → IsOfType Memory v → (m : ℕ → ℕ) × (v ≡ Bytes m) × ((a : ℕ) → m a < 256)
+pub memory_of : (v : Value) → IsOfType Memory v → (m : ℕ → ℕ) × (v ≡ Bytes m) × ((a : ℕ) → m a < 256)
 memory_of (Word n a) h = absurd h
 memory_of (Bytes m) h = (m, refl, h)
 memory_of Stuck h = absurd h
@@ -131,11 +131,11 @@ store_of o n m a v p q r =
     rw (x.1, y.1, z.1, t) (λ k. stored_below o (n / 8) x.0 y.0 z.0 k (x.2 k))
 
 -- an environment after an assignment
-below_if : (b : Bool) (x y m : ℕ) → x < m → y < m → (if b then x else y) < m
+pub below_if : (b : Bool) (x y m : ℕ) → x < m → y < m → (if b then x else y) < m
 below_if true x y m p q = p
 below_if false x y m p q = q
 
-local_if : (b k : Bool) (t : BilType) (u w : Value) → (b ≡ true → IsOfType t u) → (k ≡ true → IsOfType t w) → (b || k) ≡ true → IsOfType t (if b then u else w)
+pub local_if : (b k : Bool) (t : BilType) (u w : Value) → (b ≡ true → IsOfType t u) → (k ≡ true → IsOfType t w) → (b || k) ≡ true → IsOfType t (if b then u else w)
 local_if true k t u w p q h = p refl
 local_if false k t u w p q h = q h
 
@@ -143,7 +143,7 @@ or_right : (b k : Bool) → k ≡ true → (b || k) ≡ true
 or_right true k h = refl
 or_right false k h = h
 
-has_local : (x n a y m : ℕ) → a < 2 ^ n → ((y == x) && (m == n)) ≡ true → IsOfType (Bits m) (Word n a)
+pub has_local : (x n a y m : ℕ) → a < 2 ^ n → ((y == x) && (m == n)) ≡ true → IsOfType (Bits m) (Word n a)
 has_local x n a y m l h = let e = eqb-true m n (both (y == x) (m == n) h).1 in (e, subst (λ (z : ℕ). a < 2 ^ z) (sym e) l)
 
 pub let_holds : (x n : ℕ) (v : Value) (known : BilVariable → Bool) (e : Env) → HoldsVariables known e → IsOfType (Bits n) v →
@@ -313,15 +313,15 @@ sound (Concat a q) at k known e c d b h =
     (concat_of_types f.0 g.0 _ _ (subst (λ (z : BilType). IsOfType z (evaluate a c e)) f.1 x) (subst (λ (z : BilType). IsOfType z (evaluate q c e)) g.1 y))
 
 -- and of lists
-no_fault : (x : Typed) → fault_in x ≡ None → (k : BilType) × (x ≡ Has k)
+pub no_fault : (x : Typed) → fault_in x ≡ None → (k : BilType) × (x ≡ Has k)
 no_fault (Has k) h = (k, refl)
 no_fault (Faulty f) h = cc
 
-neither : (a b : Option TypeFault) → or_fault a b ≡ None → (a ≡ None) × (b ≡ None)
+pub neither : (a b : Option TypeFault) → or_fault a b ≡ None → (a ≡ None) × (b ≡ None)
 neither None b h = (refl, h)
 neither (Some f) b h = cc
 
-wants_gave : (at : ℕ) (t : BilType) (x : Typed) → wants at t x ≡ None → x ≡ Has t
+pub wants_gave : (at : ℕ) (t : BilType) (x : Typed) → wants at t x ≡ None → x ≡ Has t
 wants_gave at t (Has u) h =
     let i = no_fault _ h in let j = type_gave at t u (Has u) i.0 i.1 in ap (λ z. Has z) j.0
 wants_gave at t (Faulty f) h = cc
@@ -400,7 +400,7 @@ list_sound (If e x y rest) at known c d b p h =
     (list_sound x _ known c j.0 bu.1 p h) (list_sound y _ known c k.0 bt.1 p h))
     (list_sound rest (at + 1 + size e + list_size x + list_size y) known c l.1 bs.1)
 
-type_in_gave : (x : Typed) (t : BilType) → type_in x ≡ Some t → x ≡ Has t
+pub type_in_gave : (x : Typed) (t : BilType) → type_in x ≡ Some t → x ≡ Has t
 type_in_gave (Has u) t h = cc
 type_in_gave (Faulty f) t h = cc
 

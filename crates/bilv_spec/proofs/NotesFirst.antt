@@ -57,7 +57,7 @@ is_good : (ts : List Token) (t : Token) → All IsGood ts → Contains ts t → 
 is_good ts t all c = subst IsGood c.2 (all c.0 t c.1)
 
 -- no fault applies to a line without fault
-not_faulty : (names : List ℕ → Option Expr) → KeepsReserved names → (n : ℕ) (before : List Says) (text : List ℕ) (s : Says) (f : NoteFault) →
+pub not_faulty : (names : List ℕ → Option Expr) → KeepsReserved names → (n : ℕ) (before : List Says) (text : List ℕ) (s : Says) (f : NoteFault) →
     n ≤ 4096 → IsLine names text s → (Repeats before s → ⊥) → NoteFaultApplies names n before text f → ⊥
 not_faulty names keeps n before text s LimitFault le line new (inl above) = omega (arith, le, above)
 not_faulty names keeps n before text s LimitFault le line new (inr above) = omega (arith, line.short, above)

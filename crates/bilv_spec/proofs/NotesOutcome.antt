@@ -201,14 +201,14 @@ no_fault_good names keeps n before text f (inl p) = record {
 }
 
 -- one more good line
-lines_and : (names : List ℕ → Option Expr) (texts : List (List ℕ)) (says : List Says) (text : List ℕ) (s : Says) → AreLines names texts says → IsLine names text s →
+pub lines_and : (names : List ℕ → Option Expr) (texts : List (List ℕ)) (says : List Says) (text : List ℕ) (s : Says) → AreLines names texts says → IsLine names text s →
     AreLines names (texts ++ text ∷ []) (says ++ s ∷ [])
 lines_and names [] [] text s p q = (q, tt)
 lines_and names [] (t ∷ says) text s p q = absurd p
 lines_and names (x ∷ texts) [] text s p q = absurd p
 lines_and names (x ∷ texts) (t ∷ says) text s p q = (p.0, lines_and names texts says text s p.1 q)
 
-none_and : (first says : List Says) (s : Says) → NoneRepeats first says → (Repeats (first ++ says) s → ⊥) → NoneRepeats first (says ++ s ∷ [])
+pub none_and : (first says : List Says) (s : Says) → NoneRepeats first says → (Repeats (first ++ says) s → ⊥) → NoneRepeats first (says ++ s ∷ [])
 none_and first [] s p new = (λ r. new (subst (λ l. Repeats l s) (sym (append-nil first)) r), tt)
 none_and first (t ∷ says) s p new = (p.0, none_and (first ++ t ∷ []) says s p.1 (λ r. new (subst (λ l. Repeats l s) (append_assoc first (t ∷ []) says) r)))
 
@@ -294,7 +294,7 @@ cons_pairs x xs f all zero (suc j) d less below =
 cons_pairs x xs f all (suc i) zero d less below = absurd (omega (arith, less))
 cons_pairs x xs f all (suc i) (suc j) d less below = all i j d (omega (arith, less)) (omega (arith, below))
 
-pairs : (before says : List Says) → NoneRepeats before says → AllPairs (λ s t. s.at ≢ t.at) (targets_of says)
+pub pairs : (before says : List Says) → NoneRepeats before says → AllPairs (λ s t. s.at ≢ t.at) (targets_of says)
 pairs before [] p = λ i j d less below. absurd (omega (arith, below))
 pairs before (TargetsAre a to ∷ says) p =
     cons_pairs (record { at = a; to = to }) (targets_of says)
