@@ -31,7 +31,7 @@ others_false-more h k i l (x ∷ xs) e =
     ])
     (others_false-more h k i l xs p.1)
 
-given-unit : (cs : List Clause) (given holds : Literal → Bool) (c : Clause) (l : Literal) → IsGiven cs given holds → Contains cs c → look_of holds c ≡ UnitOf l
+pub given-unit : (cs : List Clause) (given holds : Literal → Bool) (c : Clause) (l : Literal) → IsGiven cs given holds → Contains cs c → look_of holds c ≡ UnitOf l
     → IsGiven cs given (added l holds)
 given-unit cs given holds c l g k u = λ s i d m p.
     let q = look-unit holds c l u in
@@ -41,7 +41,7 @@ given-unit cs given holds c l g k u = λ s i d m p.
       | inr e ↦ sub m e
     ]
 
-given-conflict : (cs : List Clause) (given holds : Literal → Bool) (c : Clause) → IsGiven cs given holds → Contains cs c → look_of holds c ≡ Conflict
+pub given-conflict : (cs : List Clause) (given holds : Literal → Bool) (c : Clause) → IsGiven cs given holds → Contains cs c → look_of holds c ≡ Conflict
     → Conflicts cs given
 given-conflict cs given holds c g k u =
     (c, k, λ m p s i d. g s i d (opposite m) (all_false-lit holds c (look-conflict holds c u) m p))

@@ -12,11 +12,11 @@ twice : (b : Bool) → not (not b) ≡ b
 twice true = refl
 twice false = refl
 
-opposite_twice : (l : Literal) → opposite (opposite l) ≡ l
+pub opposite_twice : (l : Literal) → opposite (opposite l) ≡ l
 opposite_twice l = ap (λ b. record { variable = l.variable; positive = b }) (twice l.positive)
 
 -- two literals in the other order
-differ_swap : (l m : Literal) → same m l ≡ false → same l m ≡ false
+pub differ_swap : (l m : Literal) → same m l ≡ false → same l m ≡ false
 differ_swap l m h = elim (cases_Bool (same l m)) [
   | inl e ↦ absurd (both_ways (same m l) h (ap (λ k. same m k) (same-true l m e) ∙ same-self m))
   | inr e ↦ e

@@ -80,7 +80,7 @@ module _ (v : ℕ → Bool) where
       hints-found holds i (λ l. judge_hints p (added l holds) hs)
       (λ l lt g. hints-sound p t hs (added l holds) (more holds i l lt) g) (p j) (t j) h
 
-  clause_false-lit : (c : Clause) → clause_value v c ≡ false → (m : Literal) → has c m ≡ true → literal_value v m ≡ false
+  pub clause_false-lit : (c : Clause) → clause_value v c ≡ false → (m : Literal) → has c m ≡ true → literal_value v m ≡ false
   clause_false-lit [] h m g = absurd (cc)
   clause_false-lit (x ∷ xs) h m g = elim (cases_Bool (literal_value v x)) [
     | inl e ↦ absurd (both_ways (clause_value v (x ∷ xs)) h (or_left (literal_value v x) (clause_value v xs) e))
