@@ -1,7 +1,7 @@
 //! Memory by addresses of 32 bits, and what every machine's state and step look like.
 #![tactic(auto)]
 
-ghost use Rattle.std.specs.Prelude.{◌≡◌, ℕ, ◌≤◌, ◌*◌, ◌==◌, Bool, IsTrue};
+ghost use Rattle.std.specs.Prelude.{◌≡◌, ℕ, ◌≤◌, ◌<◌, ◌*◌, ◌==◌, Bool, IsTrue};
 ghost use Rattle.bilv_spec.specs.State.{State};
 ghost use Rattle.bilv_spec.specs.Memory as memory;
 ghost use Rattle.byte_mem.specs.Views.{endian_of};
@@ -57,7 +57,8 @@ pub trait View {
     /// Whether a flag is set, N being 3, Z 2, C 1 and V 0.
     fn flag(&self, f: u8) -> bool
         requires { f ≤ 3 }
-        ensures { result ≡ ((view self.now).flags f == 1) };
+        ensures set { result ≡ ((view self.now).flags f == 1) }
+        ensures bit { (view self.now).flags f < 2 };
 
     /// The address of the step at hand.
     fn pc(&self) -> u32
