@@ -1,21 +1,17 @@
 -- What a write that failed leaves.
-use Rattle.std.proofs.Common.{◌≡◌, ℕ, List, Option, arith, subst}
-use Rattle.bilv_spec.specs.Outside.{Held}
+use Rattle.std.proofs.Common.{◌≡◌, ℕ, List, Option, arith}
+use Rattle.bilv_spec.specs.Answers.{Answer}
+use Rattle.bilv_spec.specs.Outcomes.{Surroundings, Command}
 use Rattle.io_edges.specs.WriteFaults.{Stopped}
 use Rattle.io_edges.specs.declared.WriteFault.{WriteFault}
 use Rattle.io_edges.specs.declared.WriteFault.TheVariants.{Failed, Stuck}
-use Rattle.bilv_top.specs.Due.{IsDueFor, IsCut, text_of}
+use Rattle.bilv_top.specs.Due.{IsDue, IsCut}
 
-cut_by : (words : List (List ℕ)) (held : List ℕ → Held) (old new : List ℕ → ℕ) (before after : Option (List ℕ)) (due : ℕ) (e : WriteFault) →
-    IsDueFor words held old new due → Stopped before (text_of due) after e → IsCut words held old new before after
-cut_by words held old new before after due (Failed written) right told =
-    record { due = due; is_due = right; written = written; some_left = told.some_left; appends = told.appends }
-cut_by words held old new before after due (Stuck written offered) right told =
+pub cut_of : (s : Surroundings) (c : Option Command) (before after : Option (List ℕ)) (a : Answer) (e : WriteFault) → IsDue s c a → Stopped before a.text after e →
+    IsCut s c before after
+cut_of s c before after a (Failed written) due told =
+    record { due = a; is_due = due; written = written; some_left = told.some_left; appends = told.appends }
+cut_of s c before after a (Stuck written offered) due told =
     let some = told.some_offered in
     let all = told.all in
-    record { due = due; is_due = right; written = written; some_left = omega arith; appends = told.appends }
-
-pub cut_of : (words : List (List ℕ)) (held : List ℕ → Held) (old new : List ℕ → ℕ) (before after : Option (List ℕ)) (due : ℕ) (e : WriteFault) (text : List ℕ) →
-    text ≡ text_of due → IsDueFor words held old new due → Stopped before text after e → IsCut words held old new before after
-cut_of words held old new before after due e text is right told =
-    cut_by words held old new before after due e right (subst (λ t. Stopped before t after e) is told)
+    record { due = a; is_due = due; written = written; some_left = omega arith; appends = told.appends }

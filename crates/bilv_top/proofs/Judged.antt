@@ -9,7 +9,7 @@ use Rattle.bilv_spec.specs.Verdict.{IsRight, Holds}
 use Rattle.bilv_spec.proofs.NotesNames.{machines_keep_reserved}
 use Rattle.bilv_spec.proofs.NotesSaid.{one_reading}
 use Rattle.bilv_top.specs.FirstForm.{Fits, regs_at, first_program, notes_of, IsStraight, IsFirstText, IsFirst, HoldsFor}
-use Rattle.bilv_top.specs.Due.{IsNotBuilt}
+use Rattle.bilv_top.specs.FirstForm.{IsNotBuilt}
 use Rattle.bilv_top.proofs.First.{is_holds, not_holds}
 use Rattle.bilv_top.proofs.Text.{reads_first}
 use Rattle.bilv_top.proofs.Files.{file_once}

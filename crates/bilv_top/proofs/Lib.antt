@@ -9,5 +9,7 @@ pub mod Parts
 pub mod Text
 pub mod Accepted
 pub mod Judged
-pub mod Limits
+pub mod Checked
+pub mod Dues
+pub mod Verifies
 pub mod Cut

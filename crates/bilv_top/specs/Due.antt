@@ -1,69 +1,51 @@
--- What the program answers: the status that is due, and its text.
-use Rattle.std.specs.Prelude.{ℕ, ◌≡◌, ◌<◌, ◌==◌, ◌&&◌, ◌⊎◌, not, if◌then◌else◌, List, [], ◌∷◌, Option, Some, None, codes, length, take}
-use Rattle.std.specs.Str.{bytes_eq}
-use Rattle.bilv_spec.specs.NotesGrammar.{begins_with}
+-- What the program answers, as far as it is built: each command's right answer, or that it is not built.
+use Rattle.std.specs.Prelude.{ℕ, ◌≡◌, ◌<◌, List, Option, Some, None, codes, length, take}
 use Rattle.bilv_spec.specs.Outside.{Held, Agrees, IsLonger, Rose, Appends}
+use Rattle.bilv_spec.specs.Run.{Program}
+use Rattle.bilv_spec.specs.Verdict.{IsRight, Holds}
+use Rattle.bilv_spec.specs.Answers.{Budget, default_budget, Answer, plain_answer}
+use Rattle.bilv_spec.specs.Outcomes.{Surroundings, Command, Verify, Check, read_fault, AfterRead, AfterElf, IsRightAnswer}
+use Rattle.bilv_spec.specs.Verified.{AfterNotes, usage_text}
 use Rattle.bilv_spec.specs.Texts.{line}
-use Rattle.bilv_spec.specs.Verified.{usage_text}
-use Rattle.bilv_top.specs.declared.status.Status.{Status}
-use Rattle.bilv_top.specs.declared.status.Status.TheVariants.{Holds, Usage, ReadFault, NotBuilt}
-use Rattle.bilv_top.specs.FirstForm.{IsFirst, HoldsFor}
+use Rattle.bilv_top.specs.FirstForm.{IsFirst}
 
--- the names of the two files, where the words are a lawful line
-abbrev pub files_of : List (List ℕ) → Option (List ℕ × List ℕ)
-files_of (program ∷ command ∷ file ∷ notes ∷ []) =
-    if bytes_eq command (codes "verify") && not (begins_with 45 file) && not (begins_with 45 notes) then Some (file, notes) else None
-files_of _ = None
+-- the answer to what is not built
+abbrev pub not_built : Answer
+not_built = plain_answer 10 (line (codes "not built"))
 
--- the exit status of an answer
-abbrev pub code_of : Status → ℕ
-code_of Holds = 0
-code_of Usage = 2
-code_of ReadFault = 6
-code_of NotBuilt = 10
+-- The answer to a program that two files are. So far it is holds alone, for files of the first form and the default budget; and it is not built for every other
+-- program, those of the first form for which another verdict is right among them.
+pub data IsVerifiedSoFar (file text : List ℕ) (b : Budget) (p : Program) (a : Answer) : Type 0 where
+  holds : b ≡ default_budget → IsFirst file text → IsRight p b.unroll Holds → a ≡ plain_answer 0 (line (codes "holds")) → IsVerifiedSoFar file text b p a
+  beyond : (b ≡ default_budget → IsFirst file text → ¬ IsRight p b.unroll Holds) → a ≡ not_built → IsVerifiedSoFar file text b p a
 
--- the text of an exit status
-abbrev pub text_of : ℕ → List ℕ
-text_of status =
-    if status == 0 then line (codes "holds") else
-    if status == 2 then usage_text else
-    if status == 6 then line (codes "read fault") else
-    if status == 10 then line (codes "not built") else []
+-- the answer that is due to a command
+abbrev pub IsDueTo : Surroundings → Command → Answer → Type 0
+IsDueTo s (Verify elf notes b) a = AfterElf s elf (λ file. AfterRead s notes (λ text. AfterNotes file text (IsVerifiedSoFar file text b))) a
+IsDueTo s (Check certificate) a = IsRightAnswer s (Check certificate) a
+IsDueTo s other a = a ≡ not_built
 
--- what was read of a file: its bytes, or that it has more than the limit
-abbrev pub IsKnown : Held → ℕ → Option (List ℕ) → Type 0
-IsKnown held limit None = IsLonger held limit
-IsKnown held limit (Some bytes) = Agrees held bytes
+-- the answer that is due: the usage where the words are no lawful command
+abbrev pub IsDue : Surroundings → Option Command → Answer → Type 0
+IsDue s None a = a ≡ plain_answer 2 usage_text
+IsDue s (Some c) a = IsDueTo s c a
 
--- the files are of another form, or the verdict over them is another one than holds
-abbrev pub IsNotBuilt : List ℕ → List ℕ → Type 0
-IsNotBuilt file text = IsFirst file text → ¬ HoldsFor file text
+-- a due answer was written whole, and its status is the exit's
+pub record IsWhole (s : Surroundings) (c : Option Command) (before after : Option (List ℕ)) (status : ℕ) : Type 0 where
+  pub due : Answer
+  pub is_due : IsDue s c due
+  pub status_is : status ≡ due.status
+  pub appends : Appends before due.text after
 
--- the status of what was read of both files
-abbrev pub IsAnswer : Option (List ℕ) → Option (List ℕ) → ℕ → Type 0
-IsAnswer (Some file) (Some text) status = ((status ≡ 0) × IsFirst file text × HoldsFor file text) ⊎ ((status ≡ 10) × IsNotBuilt file text)
-IsAnswer _ _ status = status ≡ 10
-
--- The status that is due over the files of two names, by what is told of the names and by the counts of faults before and after, in the order of reading.
-pub data IsDue (held : List ℕ → Held) (old new : List ℕ → ℕ) (elf notes : List ℕ) : ℕ → Type 0 where
-  elf_unread : Rose (old elf) (new elf) → IsDue held old new elf notes 6
-  notes_unread : (file : List ℕ) → Agrees (held elf) file → Rose (old notes) (new notes) → IsDue held old new elf notes 6
-  holds : (file text : List ℕ) → Agrees (held elf) file → Agrees (held notes) text → IsFirst file text → HoldsFor file text → IsDue held old new elf notes 0
-  not_built : (file text : List ℕ) → Agrees (held elf) file → Agrees (held notes) text → IsNotBuilt file text → IsDue held old new elf notes 10
-
--- the status that is due: the usage's for an unlawful line alone
-abbrev pub IsDueOver : Option (List ℕ × List ℕ) → (List ℕ → Held) → (old new : List ℕ → ℕ) → ℕ → Type 0
-IsDueOver None held old new status = status ≡ 2
-IsDueOver (Some names) held old new status = IsDue held old new names.0 names.1 status
-
--- the status that is due for the words
-abbrev pub IsDueFor : List (List ℕ) → (List ℕ → Held) → (old new : List ℕ → ℕ) → ℕ → Type 0
-IsDueFor words held old new status = IsDueOver (files_of words) held old new status
-
--- a write failed: a proper front of the text of a status that is due was written
-pub record IsCut (words : List (List ℕ)) (held : List ℕ → Held) (old new : List ℕ → ℕ) (before after : Option (List ℕ)) : Type 0 where
-  pub due : ℕ
-  pub is_due : IsDueFor words held old new due
+-- a write failed: a proper front of the text of a due answer was written
+pub record IsCut (s : Surroundings) (c : Option Command) (before after : Option (List ℕ)) : Type 0 where
+  pub due : Answer
+  pub is_due : IsDue s c due
   pub written : ℕ
-  pub some_left : written < length (text_of due)
-  pub appends : Appends before (take written (text_of due)) after
+  pub some_left : written < length due.text
+  pub appends : Appends before (take written due.text) after
+
+-- the bytes of a name were not read: a read failed, or there are more than the limit, which has an answer of its own
+pub data IsUnread (held : Held) (before after limit : ℕ) (large : Answer) (a : Answer) : Type 0 where
+  failed : Rose before after → a ≡ read_fault → IsUnread held before after limit large a
+  longer : IsLonger held limit → a ≡ large → IsUnread held before after limit large a

@@ -98,3 +98,7 @@ first_program words a b v = program_of (rv_file words) (notes_of a b v) 0x10000
 -- the two files are accepted, and the program that they are has the verdict holds
 abbrev pub HoldsFor : List ℕ → List ℕ → Type 0
 HoldsFor file text = (p : Program) × IsFound file text p × IsRight p 64 Holds
+
+-- the files are of another form, or the verdict over them is another one than holds
+abbrev pub IsNotBuilt : List ℕ → List ℕ → Type 0
+IsNotBuilt file text = IsFirst file text → ¬ HoldsFor file text

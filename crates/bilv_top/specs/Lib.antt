@@ -1,2 +1,5 @@
-pub mod FirstForm
+pub mod Answers
 pub mod Due
+pub mod FirstForm
+pub mod Names
+pub mod Read

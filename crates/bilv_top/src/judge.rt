@@ -1,7 +1,6 @@
 //! The verdict over the two files.
 ghost use Rattle.std.specs.Prelude.{◌≡◌, IfOk, MatchBool};
-ghost use Rattle.bilv_top.specs.FirstForm.{IsFirst, HoldsFor};
-ghost use Rattle.bilv_top.specs.Due.{IsNotBuilt};
+ghost use Rattle.bilv_top.specs.FirstForm.{IsFirst, HoldsFor, IsNotBuilt};
 
 use crate::first_notes::notes_of;
 use crate::line::keeps;

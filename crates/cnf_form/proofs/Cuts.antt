@@ -2,7 +2,7 @@
 use Rattle.std.proofs.Common.{◌≡◌, ℕ, zero, suc, ◌<◌, ◌≤◌, ◌+◌, ◌-◌, Bool, true, false, not, List, [], ◌∷◌, ◌++◌, refl, arith, sym, ap, ◌∙◌, length, take, drop, drop-cons, length-drop, get_or, add-one, append_assoc, take-append-drop}
 use Rattle.std.specs.Prelude.{◌==◌, filter}
 use Rattle.std.specs.List.{list_all}
-use Rattle.std.proofs.lemmas.List.{take_all, drop_all}
+use Rattle.std.proofs.lemmas.List.{take_all, drop_all, drop-drop}
 use Rattle.std.proofs.lemmas.Bool.{and_parts, both_ways}
 use Rattle.bilv_spec.specs.NotesGrammar.{is_blank}
 use Rattle.bilv_spec.specs.Texts.{split_lines, in_front, line}
@@ -12,6 +12,31 @@ use Rattle.bilv_spec.proofs.PrintedWords.{in_line, split_line, parts_cut, parts_
 -- what the code writes for all that stands behind a place
 pub behind : (xs : List ℕ) (n : ℕ) → take (length xs - n) (drop n xs) ≡ drop n xs
 behind xs n = take_all (length xs - n) (drop n xs) (omega (arith, length-drop n xs))
+
+-- a length of what stands behind a place names the place
+pub behind-by-length : (xs : List ℕ) (n : ℕ) → n ≤ length xs → take (length xs - n) (drop n xs) ≡ drop (length xs - length (take (length xs - n) (drop n xs))) xs
+behind-by-length xs n le =
+    let e : length (take (length xs - n) (drop n xs)) ≡ length xs - n = ap (λ (ys : List ℕ). length ys) (behind xs n) ∙ length-drop n xs in
+    let q : n ≡ length xs - length (take (length xs - n) (drop n xs)) = omega arith in
+    behind xs n ∙ ap (λ k. drop k xs) q
+
+-- what stands behind a place of what stands behind a place
+pub behind-twice : (xs ys zs : List ℕ) → ys ≡ drop (length xs - length ys) xs → zs ≡ drop (length ys - length zs) ys → length zs ≤ length ys → length ys ≤ length xs →
+    zs ≡ drop (length xs - length zs) xs
+behind-twice xs ys zs e f h g =
+    let q : (length xs - length ys) + (length ys - length zs) ≡ length xs - length zs = omega arith in
+    f ∙ ap (drop (length ys - length zs)) e ∙ drop-drop (length ys - length zs) (length xs - length ys) xs ∙ ap (λ k. drop k xs) q
+
+-- one more line
+pub line-dropped : (rest behind line : List ℕ) (text : List ℕ) (n : ℕ) → split_lines rest ≡ drop n (split_lines text) → split_lines rest ≡ line ∷ split_lines behind →
+    split_lines behind ≡ drop (n + 1) (split_lines text)
+line-dropped rest more line text n e f = ap (drop 1) (sym f ∙ e) ∙ drop-drop 1 n (split_lines text)
+
+-- no more lines
+pub no-line-dropped : (rest text : List ℕ) (n m : ℕ) → split_lines rest ≡ drop n (split_lines text) → split_lines rest ≡ [] → n ≤ m → split_lines rest ≡ drop m (split_lines text)
+no-line-dropped rest text n m e f le =
+    let q : n + (m - n) ≡ m = omega arith in
+    f ∙ sym (drop_all (m - n) [] (omega arith)) ∙ ap (drop (m - n)) (sym f ∙ e) ∙ drop-drop (m - n) n (split_lines text) ∙ ap (λ k. drop k (split_lines text)) q
 
 around : (xs : List ℕ) (i : ℕ) → i < length xs → xs ≡ take i xs ++ get_or xs i 0 ∷ drop (i + 1) xs
 around xs i lt =

@@ -4,3 +4,5 @@ pub mod Cuts
 pub mod Capped
 pub mod Splits
 pub mod OnVariables
+pub mod Gatherings
+pub mod ReadLines

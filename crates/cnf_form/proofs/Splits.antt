@@ -5,7 +5,7 @@ use Rattle.std.proofs.lemmas.List.{take_all}
 use Rattle.bilv_spec.specs.CertificateGrammar.{Integer, parts, is_zero, is_ended}
 use Rattle.bilv_spec.proofs.PrintedWords.{parts_cut}
 
-ended-behind : (xs : List Integer) (x : Integer) (rest : List Integer) → is_zero x ≡ true → is_ended (xs ++ x ∷ rest) ≡ is_ended rest
+pub ended-behind : (xs : List Integer) (x : Integer) (rest : List Integer) → is_zero x ≡ true → is_ended (xs ++ x ∷ rest) ≡ is_ended rest
 ended-behind [] x [] h = h
 ended-behind [] x (y ∷ rest) h = refl
 ended-behind (y ∷ []) x rest h = ended-behind [] x rest h

@@ -1,3 +1,5 @@
 pub mod Views
 pub mod Numbers
 pub mod Ranges
+pub mod Faults
+pub mod Gathers

@@ -7,18 +7,24 @@
 use std::alloc::{AllocError, Global};
 
 pub mod clause;
+pub mod fault;
 pub mod form;
+mod gather;
+mod header;
 pub mod lists;
 pub mod lit;
 pub mod number;
 pub mod print;
 pub mod range;
+mod read;
 #[cfg(test)]
 mod tests;
 pub mod words;
 
 pub use clause::Clause;
+pub use fault::{CnfError, CnfFault};
 pub use form::{Cnf, Hint, Log, LogLine, Proof};
 pub use lit::Lit;
 pub use print::print_cnf;
 pub use range::are_on_variables;
+pub use read::{behind_lines, read_cnf};

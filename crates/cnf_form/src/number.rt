@@ -64,7 +64,7 @@ fn digit(byte: u8) -> Option<u64>
 }
 
 /// The number of decimal digits, of which there is at least one; `CAP` where it is as large or larger.
-fn digits_size(digits: &[u8]) -> Option<u64>
+pub(crate) fn digits_size(digits: &[u8]) -> Option<u64>
     ensures { MatchOption result (are_digits 10 digits.now ≡ false)
         (λ n. (are_digits 10 digits.now ≡ true) × (n ≡ min (digits_value 10 digits.now) (2 ^ 62 + 1))) }
 {

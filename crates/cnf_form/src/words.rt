@@ -1,5 +1,5 @@
 //! The lines of a text, the words of a line, and the numbers that words are.
-ghost use Rattle.std.specs.Prelude.{◌≡◌, ◌<◌, ◌≤◌, [], ◌∷◌, ℕ, List, map, length, slice_index, true, false, IfOk, IfSome, MatchOption, option_map};
+ghost use Rattle.std.specs.Prelude.{◌≡◌, ◌<◌, ◌≤◌, ◌-◌, [], ◌∷◌, ℕ, List, map, length, drop, slice_index, true, false, IfOk, IfSome, MatchOption, option_map};
 ghost use Rattle.bilv_spec.specs.NotesGrammar.{is_blank};
 ghost use Rattle.bilv_spec.specs.StateText.{split_lines};
 ghost use Rattle.bilv_spec.specs.CertificateGrammar.{Integer, words_of, numbers_of};
@@ -13,6 +13,7 @@ pub fn next_line(text: &[u8]) -> Option<(&[u8], &[u8])>
     ensures lines { MatchOption result (split_lines text.now ≡ [])
         (λ parts. split_lines text.now ≡ parts.0.now ∷ split_lines parts.1.now) }
     ensures shorter { IfSome result (λ parts. length parts.1.now < length text.now) }
+    ensures behind { IfSome result (λ parts. parts.1.now ≡ drop (length text.now - length parts.1.now) text.now) }
 {
     for (i, byte) in text.iter().enumerate() {
         if *byte == b'\n' {

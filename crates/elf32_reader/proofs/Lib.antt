@@ -7,3 +7,4 @@ pub mod Tables
 pub mod Least
 pub mod Tied
 pub mod KeptRuns
+pub mod Portions

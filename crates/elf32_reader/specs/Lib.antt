@@ -2,3 +2,4 @@ pub mod Refusals
 pub mod Loads
 pub mod Symbols
 pub mod Images
+pub mod Portions

@@ -1,14 +1,16 @@
 //! The image of a file: what it loads, and where its functions are.
-ghost use Rattle.std.specs.Prelude.{ℕ, ◌≡◌, ◌≤◌, ◌<◌, ◌+◌, length, IfOk, IfErr, OnOk, MatchResult, IsTrue, ◌↔◌};
-ghost use Rattle.bilv_spec.specs.Elf.{field, is_big, byte_at, flags_at, kept_at, IsKeptRuns};
+ghost use Rattle.std.specs.Prelude.{ℕ, ◌≡◌, ◌≤◌, ◌<◌, ◌+◌, length, IfOk, IfErr, OnOk, MatchOption, MatchResult, IsTrue, ◌↔◌, None};
+ghost use Rattle.bilv_spec.specs.Elf.{field, is_big, loaded, byte_at, flags_at, kept_at, IsKeptRuns};
 ghost use Rattle.bilv_spec.specs.ElfFaults.{IsImage, Finds};
 ghost use Rattle.elf32_reader.specs.Refusals.{IsRefused, IsClear};
 ghost use Rattle.elf32_reader.specs.Symbols.{IsMissed};
 ghost use Rattle.elf32_reader.specs.Images.{IsTied};
+ghost use Rattle.elf32_reader.specs.Portions.{IsFirstPart};
 
 use crate::fault::ElfFault;
 use crate::fields::half;
 use crate::header::check_header;
+use crate::parts::{Part, first_part};
 use crate::runs::{is_kept, kept_runs};
 use crate::segments::{
     ProgramHeader, covering, overlaps, passes_file, passes_memory, sorted_segments,
@@ -147,6 +149,14 @@ impl<'a> Image<'a> {
         kept_of(self.file, &self.found, a)
     }
 
+    /// The first loaded addresses of one segment from an address on, with the bytes that the file has for them; none where no address from there on is
+    /// loaded. Each call takes one search, however many addresses the part has.
+    pub fn part_from(&self, a: u32) -> Option<Part<'a>>
+        ensures { MatchOption result ((x : ℕ) → a ≤ x → loaded self.now x ≡ None) (IsFirstPart self.now a) }
+    {
+        first_part(self.file, &self.found, a)
+    }
+
     /// The maximal runs of kept addresses, rising: the first and the last address of each.
     pub fn kept_runs(&self) -> &[(u32, u32)]
         ensures { IsKeptRuns self.now result.now }
@@ -177,6 +187,17 @@ impl<'a> Image<'a> {
     pub fn function(&self, name: &str) -> Result<u32, SymFault>
         ensures { MatchResult result (Finds self.now name.now) (IsMissed self.now name.now) }
     {
-        find_function(self.file, name.as_bytes())
+        self.function_named(name.as_bytes())
+    }
+
+    /// The same for a name that is given as bytes.
+    ///
+    /// # Errors
+    ///
+    /// As those of [`Image::function`].
+    pub fn function_named(&self, name: &[u8]) -> Result<u32, SymFault>
+        ensures { MatchResult result (Finds self.now name.now) (IsMissed self.now name.now) }
+    {
+        find_function(self.file, name)
     }
 }

@@ -8,12 +8,14 @@ mod fault;
 mod fields;
 mod header;
 mod image;
+mod parts;
 mod runs;
 mod segments;
 mod symbols;
 
 pub use fault::ElfFault;
 pub use image::{Image, read_image};
+pub use parts::Part;
 pub use symbols::SymFault;
 
 #[cfg(test)]

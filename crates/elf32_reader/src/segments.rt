@@ -141,7 +141,7 @@ pub(crate) fn overlaps(found: &[ProgramHeader]) -> bool
 }
 
 /// How many segments begin at or before an address.
-fn begun(found: &[ProgramHeader], a: u32) -> usize
+pub(crate) fn begun(found: &[ProgramHeader], a: u32) -> usize
     requires { IsNonDecreasingBy (λ h. h.address) found.now }
     ensures within { result ≤ length found.now }
     ensures before { AllWithin (λ h. h.address ≤ a) found.now 0 result }

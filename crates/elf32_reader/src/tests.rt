@@ -206,6 +206,62 @@ fn neighbours_and_large_segments_are_read(rt: HostRuntime) -> Result<(), AllocEr
     Ok(())
 }
 
+/// The parts from an address on: first and last address, whether they are kept, and how many bytes the file has for them.
+fn parts_from(
+    alloc: Global,
+    file: &[u8],
+    a: u32,
+) -> Result<Vec<(u32, u32, bool, usize)>, AllocError> {
+    let mut parts = Vec::new(alloc);
+    let Ok(image) = read_image(alloc, file) else {
+        return Ok(parts);
+    };
+    let mut at = a;
+    for _ in 0..8 {
+        let Some(part) = image.part_from(at) else {
+            return Ok(parts);
+        };
+        parts.push((part.first, part.last, part.kept, part.bytes.len()))?;
+        if part.last == u32::MAX {
+            return Ok(parts);
+        }
+        at = part.last + 1;
+    }
+    Ok(parts)
+}
+
+#[test]
+fn parts_are_read(rt: HostRuntime) -> Result<(), AllocError> {
+    let mut apart = SECOND;
+    apart[10] = (132, 16);
+    let large: [(usize, u8); 5] = [(62, 0), (72, 0xff), (73, 0xff), (74, 0xff), (75, 0xff)];
+    let top: [(usize, u8); 4] = [(60, 0xf8), (61, 0xff), (62, 0xff), (63, 0xff)];
+    let two = edited(rt.alloc(), &ROW, &apart, 156)?;
+    let large = edited(rt.alloc(), &ROW, &large, 92)?;
+    let top = edited(rt.alloc(), &ROW, &top, 92)?;
+    let first = (0x10000, 0x10007, true, 8);
+    let second = (0x10010, 0x10010, true, 1);
+    let cases: [(&[u8], u32, &[(u32, u32, bool, usize)]); 9] = [
+        (&two, 0, &[first, second]),
+        (&two, 0x10000, &[first, second]),
+        (&two, 0x10005, &[(0x10005, 0x10007, true, 3), second]),
+        (&two, 0x10008, &[second]),
+        (&two, 0x10011, &[]),
+        (&BIG, 0x8004, &[(0x8004, 0x8005, false, 0)]),
+        (&large, 0, &[(0, 0xffff_fffe, true, 8)]),
+        (&large, 0xffff_ffff, &[]),
+        (&top, 0, &[(0xffff_fff8, 0xffff_ffff, true, 8)]),
+    ];
+    for (file, a, want) in cases {
+        assert_eq!(rt;
+            parts_from(rt.alloc(), file, a)?.as_slice(),
+            want,
+            "from {a}"
+        );
+    }
+    Ok(())
+}
+
 #[test]
 fn functions_are_found(rt: HostRuntime) -> Result<(), AllocError> {
     let file = edited(rt.alloc(), &ROW, &SYMBOLS, 265)?;

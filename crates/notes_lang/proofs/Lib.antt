@@ -1,1 +1,10 @@
-pub mod Flags
+pub mod Tables
+pub mod Steps
+pub mod Whole
+pub mod Forms
+pub mod Lists
+pub mod FirstLines
+pub mod Judged
+pub mod Growing
+pub mod SoFar
+pub mod Finished

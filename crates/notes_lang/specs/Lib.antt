@@ -1,2 +1,9 @@
-pub mod Reads
 pub mod Views
+pub mod Reads
+pub mod Named
+pub mod Reading
+pub mod Saying
+pub mod Lines
+pub mod Judging
+pub mod Drafting
+pub mod Parsing

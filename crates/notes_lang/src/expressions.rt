@@ -1,6 +1,7 @@
 //! Expressions of notes.
 
-/// The binary operators. Shifts by 32 and above give all fill; comparisons, `Or` and `And` give 1 or 0.
+/// The binary operators on words of 32 bits. Sums, differences and products wrap; shifts by 32 and above give all fill; comparisons, `Or` and `And` give 1 or 0. Comparisons are
+/// of unsigned numbers but for those that say `Signed`.
 #[derive(Clone, Copy, PartialEq, Eq, Debug)]
 pub enum Operator {
     Or,
@@ -35,7 +36,7 @@ pub enum Size {
 }
 
 /// An expression over a state and the state at entry; its value is a word of 32 bits.
-#[derive(Drop)]
+#[derive(Drop, Debug)]
 pub enum Expr {
     /// A number.
     Number(u32),

@@ -1,5 +1,5 @@
 //! The registers x0 to x31.
-ghost use Rattle.std.specs.Prelude.{◌≡◌, ◌<◌, get_or};
+ghost use Rattle.std.specs.Prelude.{◌≡◌, ◌<◌, ◌∷◌, get_or, length};
 ghost use Rattle.bilv_spec.specs.Rv.{put_reg};
 ghost use Rattle.rv_step.specs.RegisterFile.{registers_of};
 
@@ -18,6 +18,16 @@ impl Registers {
         ensures { registers_of result.words ≡ (λ r. 0) }
     {
         Registers { words: [0; 32] }
+    }
+
+    /// The registers whose words x1 to x31 are given in order.
+    pub fn of(words: &[u32]) -> Registers
+        requires { length words.now ≡ 31 }
+        ensures { result.words ≡ 0 ∷ words.now }
+    {
+        let mut all = [0; 32];
+        all[1..].copy_from_slice(words);
+        Registers { words: all }
     }
 
     /// A register.

@@ -1,10 +1,11 @@
 //! The state of RV32IM.
-ghost use Rattle.std.specs.Prelude.{◌≡◌, ◌≤◌, ◌<◌, ◌*◌, ◌+◌, ◌==◌, OnOk, OnErr, IfOk};
+ghost use Rattle.std.specs.Prelude.{◌≡◌, ◌≤◌, ◌<◌, ◌*◌, ◌+◌, ◌∷◌, ◌==◌, length, OnOk, OnErr, IfOk};
 ghost use Rattle.bilv_spec.specs.Memory.{Little, load, store, memory_of};
 ghost use Rattle.bilv_spec.specs.State.{with_pc};
 ghost use Rattle.bilv_spec.specs.Rv.{reg, with_reg};
 ghost use Rattle.bilv_spec.specs.Words.{add};
 ghost use Rattle.byte_mem.specs.Views.{endian_of};
+ghost use Rattle.rv_step.specs.RegisterFile.{registers_of};
 ghost use Rattle.rv_step.specs.States.{state_of, spare_of};
 
 use crate::registers::Registers;
@@ -61,6 +62,19 @@ impl State {
         State {
             pc,
             registers: Registers::new(),
+            memory,
+        }
+    }
+
+    /// The state with a memory at an address, whose registers x1 to x31 are given in order.
+    pub fn from_registers(pc: u32, registers: &[u32], memory: Bytes32) -> State
+        requires { length registers.now ≡ 31 }
+        ensures state { state_of result ≡ record { pc = pc; regs = registers_of (0 ∷ registers.now); flags = λ f. 0; mem = memory_of memory.entries } }
+        ensures spare { spare_of result ≡ memory.spare }
+    {
+        State {
+            pc,
+            registers: Registers::of(registers),
             memory,
         }
     }

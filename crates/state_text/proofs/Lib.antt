@@ -2,3 +2,9 @@ pub mod Numbers
 pub mod Lexing
 pub mod Appends
 pub mod Printing
+pub mod Splitting
+pub mod Said
+pub mod SaidLines
+pub mod Judging
+pub mod Keeping
+pub mod Telling

@@ -1,2 +1,5 @@
 pub mod Tokens
 pub mod Starts
+pub mod Words
+pub mod Lines
+pub mod Readings

@@ -1,6 +1,6 @@
 //! What state texts call a machine, its registers and its flags.
 ghost use Rattle.std.specs.Prelude.{◌≡◌, length, map};
-ghost use Rattle.bilv_spec.specs.StateText.{value_names};
+ghost use Rattle.bilv_spec.specs.StateText.{value_names, lines_of_head};
 ghost use Rattle.state_text.specs.Starts.{layout_of};
 
 /// The machine of a text: RV32IM, or ARM version 4 in a byte order.
@@ -66,6 +66,17 @@ impl Layout {
             Layout::Rv32 => 0,
             Layout::ArmLittle => 4,
             Layout::ArmBig => 4,
+        }
+    }
+
+    /// How many lines of a text stand before its bytes: the ending's, the machine's, and one for each register and flag.
+    pub fn head_lines(self) -> u64
+        ensures { result ≡ lines_of_head (layout_of self) }
+    {
+        match self {
+            Layout::Rv32 => 33,
+            Layout::ArmLittle => 21,
+            Layout::ArmBig => 21,
         }
     }
 }

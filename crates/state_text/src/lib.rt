@@ -2,16 +2,24 @@
 #![tactic(auto)]
 
 mod bytes;
+mod draft;
 mod layout;
 mod lexer;
+mod parser;
 mod printer;
+mod progress;
 mod sign;
 mod start;
+mod state_fault;
+mod state_line;
 #[cfg(test)]
 mod tests;
+mod words;
 
 pub use layout::Layout;
 pub use lexer::{Token, tokens};
-pub use printer::print_state;
+pub use parser::parse_state;
+pub use printer::{print_state, push_word};
 pub use sign::Sign;
 pub use start::{Event, NamedEnding, Start, StateText};
+pub use state_fault::{ParseFault, StateFault};

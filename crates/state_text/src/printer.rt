@@ -26,7 +26,7 @@ fn push_text(out: &mut Vec<u8>, text: &[u8]) -> Result<(), AllocError>
     Ok(())
 }
 
-/// Appends the `count` lowest hexadecimal digits of a number, the highest first.
+/// Appends the `count` lowest hexadecimal digits of a number, the highest first. What an `Err` leaves is open.
 fn push_hex(out: &mut Vec<u8>, count: u8, v: u32) -> Result<(), AllocError>
     ensures { OnOk result (out.new.items ≡ out.old.items ++ hex_digits count v) }
 {
@@ -38,8 +38,8 @@ fn push_hex(out: &mut Vec<u8>, count: u8, v: u32) -> Result<(), AllocError>
     Ok(())
 }
 
-/// Appends an address, or a word of 32 bits.
-fn push_word(out: &mut Vec<u8>, v: u32) -> Result<(), AllocError>
+/// Appends an address, or a word of 32 bits: 0x and eight digits. What an `Err` leaves is open.
+pub fn push_word(out: &mut Vec<u8>, v: u32) -> Result<(), AllocError>
     ensures { OnOk result (out.new.items ≡ out.old.items ++ word_text v) }
 {
     push_text(out, b"0x")?;

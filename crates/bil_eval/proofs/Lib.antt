@@ -1,0 +1,4 @@
+pub mod Bits
+pub mod Locals
+pub mod Runs
+pub mod Typed

@@ -1,0 +1,12 @@
+use Rattle.std.proofs.Common.{◌≡◌, ◌≤◌, length, take}
+use Rattle.bil_eval.specs.Views.{values}
+use Rattle.bil_eval.proofs.env.read_local.Given as goal
+
+abbrev pub invariant-loop-i : goal.invariant-loop-i
+invariant-loop-i l = record {
+  within : l.i ≤ length l.locals;
+  value : values (take l.i l.locals) l.local.number l.local.width.bits ≡ values l.locals l.local.number l.local.width.bits;
+}
+
+abbrev pub decreases-loop-i : goal.decreases-loop-i
+decreases-loop-i l = l.i

@@ -1,0 +1,5 @@
+pub mod Answers
+pub mod Checked
+pub mod Passes
+pub mod Runs
+pub mod Views

@@ -1,0 +1,15 @@
+//! Runs lists of statements (A Formal Specification for BIL, in this project's profile).
+#![tactic(auto)]
+
+mod env;
+mod expressions;
+mod faults;
+mod lists;
+mod operators;
+mod statements;
+#[cfg(test)]
+mod tests;
+
+pub use env::{Env, LocalWord, Machine};
+pub use faults::EvalFault;
+pub use lists::{End, eval};

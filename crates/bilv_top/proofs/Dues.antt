@@ -1,0 +1,93 @@
+-- Answers that are due.
+use Rattle.std.proofs.Common.{◌≡◌, ◌≢◌, ℕ, ◌≤◌, ◌<◌, List, length, Bool, true, false, Option, Some, None, refl, ap, sym, subst, ◌∙◌, arith}
+use Rattle.std.specs.Prelude.{codes, if◌then◌else◌}
+use Rattle.bilv_spec.specs.Outside.{Held, Agrees, IsLonger, Rose}
+use Rattle.bilv_spec.specs.Run.{Program}
+use Rattle.bilv_spec.specs.Notes.{Notes, Function, At, Named, Expr}
+use Rattle.bilv_spec.specs.NotesGrammar.{IsNotesText}
+use Rattle.bilv_spec.specs.NotesLaws.{KeepsReserved}
+use Rattle.bilv_spec.specs.ElfFaults.{IsImage, Finds}
+use Rattle.bilv_spec.specs.Files.{names_of, is_rv, program_of, IsFunctionAt, IsProgram}
+use Rattle.bilv_spec.specs.RvNames.{rv_names}
+use Rattle.bilv_spec.specs.ArmNames.{arm_names}
+use Rattle.bilv_spec.specs.Refutation.{Cause}
+use Rattle.bilv_spec.specs.Replays.{IsChecked, large, refused, checked, check_status}
+use Rattle.bilv_spec.specs.Answers.{Answer, Budget, plain_answer}
+use Rattle.bilv_spec.specs.Outcomes.{Surroundings, Command, Verify, Lift, Graph, Script, Replay, Certify, Check, SelfRun, read_fault, AfterRead, read_failed, was_read}
+use Rattle.bilv_spec.specs.Verified.{AfterImage, elf_refused, elf_accepted, AfterNotes, notes_refused, program_found}
+use Rattle.bilv_spec.proofs.NotesNames.{machines_keep_reserved}
+use Rattle.bilv_spec.proofs.NotesSaid.{one_reading}
+use Rattle.bilv_top.specs.Due.{IsDue, IsDueTo, IsVerifiedSoFar, holds, beyond, not_built}
+
+-- neither machine names anything by a reserved word
+chosen_keeps : (b : Bool) (w : List ℕ) → (rv_names w ≡ None) → (arm_names w ≡ None) → (if b then rv_names w else arm_names w) ≡ None
+chosen_keeps true w a c = a
+chosen_keeps false w a c = c
+
+pub names_keep : (file : List ℕ) → KeepsReserved (names_of file)
+names_keep file w reserved = chosen_keeps (is_rv file) w (machines_keep_reserved.0 w reserved) (machines_keep_reserved.1 w reserved)
+
+one_place : (file : List ℕ) (f : Function) (a b : ℕ) → IsFunctionAt file f a → IsFunctionAt file f b → a ≡ b
+one_place file (At at) a b p q = sym p ∙ q
+one_place file (Named name) a b p q = q.1 a p.0
+
+-- two files are one program at most
+pub one_program : (file text : List ℕ) (p q : Program) → IsProgram file text p → IsProgram file text q → p ≡ q
+one_program file text p q a b =
+    let notes : a.0 ≡ b.0 = one_reading (names_of file) (names_keep file) text a.0 b.0 a.2 b.2 in
+    let entry : a.1 ≡ b.1 = one_place file b.0.entry a.1 b.1 (subst (λ n. IsFunctionAt file n.entry a.1) notes a.3) b.3 in
+    a.4 ∙ ap (λ n. program_of file n a.1) notes ∙ ap (program_of file b.0) entry ∙ sym b.4
+
+-- the statuses 7 and 8 are due to nothing
+abbrev pub IsPlain : ℕ → Type 0
+IsPlain status = (status ≢ 7) × (status ≢ 8)
+
+plain_at : (a : Answer) (status : ℕ) (text : List ℕ) → a ≡ plain_answer status text → IsPlain status → IsPlain a.status
+plain_at a status text is p = subst IsPlain (sym (ap (λ x. x.status) is)) p
+
+plain_number : (n : ℕ) → (n < 7) → IsPlain n
+plain_number n less = (λ e. omega (arith, e, less), λ e. omega (arith, e, less))
+
+plain_check : (r : Option (ℕ × Cause)) → IsPlain (check_status r)
+plain_check None = plain_number 0 (omega arith)
+plain_check (Some r) = (λ e. omega (arith, e), λ e. omega (arith, e))
+
+plain_checked : (text written : List ℕ) (status : ℕ) → IsChecked text status written → IsPlain status
+plain_checked text written status (large a) = (λ e. omega (arith, e), λ e. omega (arith, e))
+plain_checked text written status (refused n f a b) = (λ e. omega (arith, e), λ e. omega (arith, e))
+plain_checked text written status (checked cnf n a b) = plain_check _
+
+plain_not_built : (a : Answer) → a ≡ not_built → IsPlain a.status
+plain_not_built a is = plain_at a 10 (not_built.text) is (λ e. omega (arith, e), λ e. omega (arith, e))
+
+after_read : (s : Surroundings) (name : List ℕ) (Next : List ℕ → Answer → Type 0) (a : Answer) → ((file : List ℕ) → Next file a → IsPlain a.status) →
+    AfterRead s name Next a → IsPlain a.status
+after_read s name Next a step (read_failed rose is) = plain_at a 6 read_fault.text is (plain_number 6 (omega arith))
+after_read s name Next a step (was_read file agrees next) = step file next
+
+so_far : (file text : List ℕ) (b : Budget) (p : Program) (a : Answer) → IsVerifiedSoFar file text b p a → IsPlain a.status
+so_far file text b p a (holds x y z is) = plain_at a 0 _ is (plain_number 0 (omega arith))
+so_far file text b p a (beyond x is) = plain_not_built a is
+
+after_notes : (file text : List ℕ) (b : Budget) (a : Answer) → AfterNotes file text (IsVerifiedSoFar file text b) a → IsPlain a.status
+after_notes file text b a (notes_refused written x is) = plain_at a 5 written is (plain_number 5 (omega arith))
+after_notes file text b a (program_found p x next) = so_far file text b p a next
+
+after_image : (file : List ℕ) (Next : Answer → Type 0) (a : Answer) → (Next a → IsPlain a.status) → AfterImage file Next a → IsPlain a.status
+after_image file Next a step (elf_refused written x is) = plain_at a 4 written is (plain_number 4 (omega arith))
+after_image file Next a step (elf_accepted x next) = step next
+
+pub due_is_plain : (s : Surroundings) (c : Option Command) (a : Answer) → IsDue s c a → IsPlain a.status
+due_is_plain s None a is = plain_at a 2 _ is (plain_number 2 (omega arith))
+due_is_plain s (Some (Verify elf notes b)) a due =
+    after_read s elf (λ file. AfterImage file (AfterRead s notes (λ text. AfterNotes file text (IsVerifiedSoFar file text b)))) a
+    (λ file. after_image file (AfterRead s notes (λ text. AfterNotes file text (IsVerifiedSoFar file text b))) a
+    (after_read s notes (λ text. AfterNotes file text (IsVerifiedSoFar file text b)) a (λ text. after_notes file text b a))) due
+due_is_plain s (Some (Check name)) a due =
+    after_read s name _ a (λ text p. plain_checked text a.text a.status p.0) due
+due_is_plain s (Some (Lift elf)) a is = plain_not_built a is
+due_is_plain s (Some (Graph elf notes)) a is = plain_not_built a is
+due_is_plain s (Some (Script elf notes q b)) a is = plain_not_built a is
+due_is_plain s (Some (Replay elf notes state)) a is = plain_not_built a is
+due_is_plain s (Some (Certify elf notes q b)) a is = plain_not_built a is
+due_is_plain s (Some (SelfRun seed count)) a is = plain_not_built a is

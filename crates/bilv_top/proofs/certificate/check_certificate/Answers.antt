@@ -1,0 +1,21 @@
+use Rattle.std.proofs.Common.{subst, sym}
+use Rattle.std.proofs.lemmas.Result.{IfOk-weaker}
+use Rattle.bilv_spec.specs.Outside.{Agrees}
+use Rattle.bilv_top.specs.Answers.{answer_of, seen}
+use Rattle.bilv_top.proofs.Checked.{too_large, judged}
+use Rattle.bilv_top.proofs.certificate.check_certificate.Goals as goal
+
+pub returns-in-TooLarge : goal.returns-in-TooLarge
+returns-in-TooLarge g c =
+    let longer = rw c.in-TooLarge.is at c.in_ok-read_within.ensures.read in
+    IfOk-weaker c.answer.result _ _
+    (λ a is. too_large (seen (g.H.Shelf.holds c.args.shelf.now) (g.H.Shelf.faults c.args.shelf.now) (g.H.Shelf.faults c.read_within.new.shelf)) c.args.name.now
+    (answer_of a) longer is) c.answer.ensures
+
+pub returns-in-Bytes : goal.returns-in-Bytes
+returns-in-Bytes g c =
+    let read = rw c.in-Bytes.is at c.in_ok-read_within.ensures.read in
+    IfOk-weaker c.judge.result _ _
+    (λ a is. judged (seen (g.H.Shelf.holds c.args.shelf.now) (g.H.Shelf.faults c.args.shelf.now) (g.H.Shelf.faults c.read_within.new.shelf)) c.args.name.now
+    c.deref.result.now a.text.items a.status
+    (subst (λ x. Agrees (g.H.Shelf.holds c.args.shelf.now c.args.name.now) x) (sym c.deref.ensures.value) read.0) is) c.judge.ensures

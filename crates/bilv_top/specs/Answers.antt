@@ -1,0 +1,57 @@
+-- Answers, as the definitions have them, and what is met on the way to one.
+use Rattle.std.specs.Prelude.{ℕ, ◌≡◌, ◌<◌, ◌≤◌, List, [], Option, Some, None, codes, length}
+use Rattle.bilv_spec.specs.Outside.{Held, Agrees, Rose}
+use Rattle.bilv_spec.specs.Answers as spec
+use Rattle.bilv_spec.specs.Answers.{plain_answer}
+use Rattle.bilv_spec.specs.Outcomes.{Surroundings, read_fault}
+use Rattle.bilv_spec.specs.Texts.{line}
+use Rattle.bilv_spec.specs.Verified.{IsElfRefused, elf_limit}
+use Rattle.bilv_spec.specs.Verified.{elf_fault_text}
+use Rattle.bilv_spec.specs.ElfFaults.{ShortFile, BadMagic, BadClass, BadData, BadVersion, BadType, BadMachine, BadHeaderTable, BadSegmentRange, BadFileSize, SegmentsOverlap, BadSymbolTable}
+use Rattle.elf32_reader.specs.declared.fault.ElfFault.{ElfFault}
+use Rattle.elf32_reader.specs.declared.fault.ElfFault.TheVariants.{Short, Magic, Class, Data, Version, «Type», Machine, HeaderTable, SegmentRange, FileSize, Overlap, SymbolTable, Memory}
+use Rattle.bilv_top.specs.declared.answer.Answer.{Answer}
+use Rattle.bilv_top.specs.declared.answer.Step.{Step}
+use Rattle.bilv_top.specs.declared.answer.Step.TheVariants.{Answered, Go}
+
+-- an answer; it has no evidence yet
+abbrev pub answer_of : Answer → spec.Answer
+answer_of a = plain_answer a.status a.text.items
+
+-- what a call meets of files: what is told of their names, and the counts of their faults before and after
+abbrev pub seen : (List ℕ → Held) → (before after : List ℕ → ℕ) → Surroundings
+seen held before after = record {
+  held = held;
+  shelf_before = before;
+  shelf_after = after;
+  text_before = None;
+  text_after = None;
+  sink_before = 0;
+  sink_after = 0;
+}
+
+-- a step that answered at once, or what it goes on with
+abbrev pub IfStep : {T : Type 0} → Step T → (spec.Answer → Type 0) → (T → Type 0) → Type 0
+IfStep (Answered a) answered go = answered (answer_of a)
+IfStep (Go t) answered go = go t
+
+-- the text of a refused ELF file; want of memory has none
+abbrev pub elf_text_of : ElfFault → List ℕ
+elf_text_of Short = elf_fault_text ShortFile
+elf_text_of Magic = elf_fault_text BadMagic
+elf_text_of Class = elf_fault_text BadClass
+elf_text_of Data = elf_fault_text BadData
+elf_text_of Version = elf_fault_text BadVersion
+elf_text_of «Type» = elf_fault_text BadType
+elf_text_of Machine = elf_fault_text BadMachine
+elf_text_of HeaderTable = elf_fault_text BadHeaderTable
+elf_text_of SegmentRange = elf_fault_text BadSegmentRange
+elf_text_of FileSize = elf_fault_text BadFileSize
+elf_text_of Overlap = elf_fault_text SegmentsOverlap
+elf_text_of SymbolTable = elf_fault_text BadSymbolTable
+elf_text_of Memory = []
+
+-- a file is refused, and memory did not run out
+abbrev pub IsOfFile : ElfFault → Type 0
+IsOfFile Memory = ⊥
+IsOfFile other = Unit {0}

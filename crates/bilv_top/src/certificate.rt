@@ -1,0 +1,75 @@
+//! The command that checks a certificate.
+ghost use Rattle.std.specs.Prelude.{◌≡◌, ◌≤◌, length, IfOk};
+ghost use Rattle.bilv_spec.specs.Certificates.{check_text};
+ghost use Rattle.bilv_spec.specs.Outcomes.{Check, IsRightAnswer};
+ghost use Rattle.bilv_spec.specs.Replays.{IsChecked, check_status, text_limit};
+ghost use Rattle.refutation_checker.specs.Answers.{refusal_of};
+ghost use Rattle.bilv_top.specs.Answers.{answer_of, seen};
+
+use crate::answer::Answer;
+use crate::reading::{FileRead, answer, read_within, unread};
+use crate::texts::{cause_text, cnf_fault_text, refused_line};
+use cnf_form::{CnfError, behind_lines, read_cnf};
+use io_edges::Shelf;
+use refutation_checker::{Checked, check, read_lrat};
+use std::alloc::{AllocError, Global};
+
+/// The most bytes of a certificate.
+const TEXT_LIMIT: u64 = 268_435_456;
+
+/// The status of a certificate that is not accepted.
+const REFUSED: u8 = 9;
+
+/// The answer to what a check says.
+fn say(alloc: Global, checked: Checked) -> Result<Answer, AllocError>
+    ensures status { IfOk result (λ a. a.status ≡ check_status (refusal_of checked)) }
+    ensures text { IfOk result (λ a. a.text.items ≡ check_text (refusal_of checked)) }
+{
+    match checked {
+        Checked::Yes => answer(alloc, 0, b"accepted\n"),
+        Checked::No { line, cause } => {
+            let text = refused_line(alloc, b"proof: line", line as u64, cause_text(cause))?;
+            Ok(Answer {
+                status: REFUSED,
+                text,
+            })
+        }
+    }
+}
+
+/// The answer to the text of a certificate.
+fn judge(alloc: Global, text: &[u8]) -> Result<Answer, AllocError>
+    requires { length text.now ≤ text_limit }
+    ensures { IfOk result (λ a. IsChecked text.now a.status a.text.items) }
+{
+    let (cnf, lines) = match read_cnf(alloc, text) {
+        Ok(read) => read,
+        Err(CnfError::Refused { line, fault }) => {
+            let text = refused_line(alloc, b"cnf: line", line as u64, cnf_fault_text(fault))?;
+            return Ok(Answer {
+                status: REFUSED,
+                text,
+            });
+        }
+        Err(CnfError::Memory) => return Err(AllocError),
+    };
+    let log = read_lrat(alloc, behind_lines(text, lines))?;
+    let checked = check(alloc, &cnf, &log)?;
+    let answer = say(alloc, checked)?;
+    Ok(answer)
+}
+
+/// Checks the certificate of a name. The error is want of memory.
+pub fn check_certificate<H: Shelf>(
+    alloc: Global,
+    shelf: &mut H,
+    name: &str,
+) -> Result<Answer, AllocError>
+    ensures { IfOk result (λ a. IsRightAnswer (seen (H.holds shelf.old) (H.faults shelf.old) (H.faults shelf.new)) (Check name.now) (answer_of a)) }
+{
+    match read_within(alloc, shelf, name, TEXT_LIMIT)? {
+        FileRead::Failed => unread(alloc),
+        FileRead::TooLarge => answer(alloc, REFUSED, b"cert: TooLarge\n"),
+        FileRead::Bytes(text) => judge(alloc, &text),
+    }
+}

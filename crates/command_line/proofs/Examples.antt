@@ -1,0 +1,91 @@
+-- Command lines, and what they ask for.
+use Rattle.std.proofs.Common.{◌≡◌, refl, codes, [], ◌∷◌, Some, None}
+use Rattle.bilv_spec.specs.Answers.{default_budget}
+use Rattle.bilv_spec.specs.Outcomes.{Lift, Graph, Script, SelfRun, Verify}
+use Rattle.bilv_spec.specs.Questions.{FailQuestion}
+use Rattle.clap.proofs.OnLiterals.{clap_on_literals}
+use Rattle.command_line.specs.Lines.{bilv_app, command_named, lawful_command, takes_line}
+
+verify_plain : lawful_command (codes "bilv" ∷ codes "verify" ∷ codes "e" ∷ codes "n" ∷ []) ≡ Some (Verify (codes "e") (codes "n") default_budget)
+unfolding clap_on_literals bilv_app takes_line command_named
+verify_plain = refl
+
+verify_most : lawful_command (codes "bilv" ∷ codes "verify" ∷ codes "e" ∷ codes "n" ∷ codes "--unroll" ∷ codes "4096" ∷ []) ≡ Some (Verify (codes "e") (codes "n") (record default_budget { unroll = 4096 }))
+unfolding clap_on_literals bilv_app takes_line command_named
+verify_most = refl
+
+verify_attached : lawful_command (codes "bilv" ∷ codes "verify" ∷ codes "--unroll=+007" ∷ codes "e" ∷ codes "n" ∷ []) ≡ Some (Verify (codes "e") (codes "n") (record default_budget { unroll = 7 }))
+unfolding clap_on_literals bilv_app takes_line command_named
+verify_attached = refl
+
+smt_fail : lawful_command (codes "bilv" ∷ codes "smt" ∷ codes "e" ∷ codes "n" ∷ codes "--question" ∷ codes "fail" ∷ codes "--size" ∷ codes "5" ∷ []) ≡ Some (Script (codes "e") (codes "n") FailQuestion (record default_budget { size = 5 }))
+unfolding clap_on_literals bilv_app takes_line command_named
+smt_fail = refl
+
+graph_by_dashes : lawful_command (codes "bilv" ∷ codes "graph" ∷ codes "--" ∷ codes "-e" ∷ codes "--n" ∷ []) ≡ Some (Graph (codes "-e") (codes "--n"))
+unfolding clap_on_literals bilv_app takes_line command_named
+graph_by_dashes = refl
+
+help_is_a_name : lawful_command (codes "bilv" ∷ codes "lift" ∷ codes "help" ∷ []) ≡ Some (Lift (codes "help"))
+unfolding clap_on_literals bilv_app takes_line command_named
+help_is_a_name = refl
+
+selfrun_most : lawful_command (codes "bilv" ∷ codes "selfrun" ∷ codes "2147483647" ∷ codes "16000" ∷ []) ≡ Some (SelfRun 2147483647 16000)
+unfolding clap_on_literals bilv_app takes_line command_named
+selfrun_most = refl
+
+verify_above : lawful_command (codes "bilv" ∷ codes "verify" ∷ codes "e" ∷ codes "n" ∷ codes "--unroll" ∷ codes "4097" ∷ []) ≡ None
+unfolding clap_on_literals bilv_app takes_line command_named
+verify_above = refl
+
+verify_twice : lawful_command (codes "bilv" ∷ codes "verify" ∷ codes "e" ∷ codes "n" ∷ codes "--unroll" ∷ codes "5" ∷ codes "--unroll" ∷ codes "5" ∷ []) ≡ None
+unfolding clap_on_literals bilv_app takes_line command_named
+verify_twice = refl
+
+no_subcommand : lawful_command (codes "bilv" ∷ []) ≡ None
+unfolding clap_on_literals bilv_app takes_line command_named
+no_subcommand = refl
+
+verify_one : lawful_command (codes "bilv" ∷ codes "verify" ∷ codes "e" ∷ []) ≡ None
+unfolding clap_on_literals bilv_app takes_line command_named
+verify_one = refl
+
+help_asked : lawful_command (codes "bilv" ∷ codes "help" ∷ []) ≡ None
+unfolding clap_on_literals bilv_app takes_line command_named
+help_asked = refl
+
+help_flag : lawful_command (codes "bilv" ∷ codes "--help" ∷ []) ≡ None
+unfolding clap_on_literals bilv_app takes_line command_named
+help_flag = refl
+
+help_flag_behind : lawful_command (codes "bilv" ∷ codes "lift" ∷ codes "-h" ∷ []) ≡ None
+unfolding clap_on_literals bilv_app takes_line command_named
+help_flag_behind = refl
+
+hyphen_name : lawful_command (codes "bilv" ∷ codes "verify" ∷ codes "e" ∷ codes "-n" ∷ []) ≡ None
+unfolding clap_on_literals bilv_app takes_line command_named
+hyphen_name = refl
+
+check_two : lawful_command (codes "bilv" ∷ codes "check" ∷ codes "a" ∷ codes "b" ∷ []) ≡ None
+unfolding clap_on_literals bilv_app takes_line command_named
+check_two = refl
+
+other_question : lawful_command (codes "bilv" ∷ codes "smt" ∷ codes "e" ∷ codes "n" ∷ codes "--question" ∷ codes "exit" ∷ []) ≡ None
+unfolding clap_on_literals bilv_app takes_line command_named
+other_question = refl
+
+no_question : lawful_command (codes "bilv" ∷ codes "cert" ∷ codes "e" ∷ codes "n" ∷ []) ≡ None
+unfolding clap_on_literals bilv_app takes_line command_named
+no_question = refl
+
+selfrun_none : lawful_command (codes "bilv" ∷ codes "selfrun" ∷ codes "0" ∷ codes "0" ∷ []) ≡ None
+unfolding clap_on_literals bilv_app takes_line command_named
+selfrun_none = refl
+
+other_name : lawful_command (codes "bilv" ∷ codes "decide" ∷ codes "e" ∷ codes "n" ∷ []) ≡ None
+unfolding clap_on_literals bilv_app takes_line command_named
+other_name = refl
+
+no_words : lawful_command [] ≡ None
+unfolding clap_on_literals bilv_app takes_line command_named
+no_words = refl

@@ -1,0 +1,4 @@
+pub mod Made
+pub mod Wholes
+pub mod Faults
+pub mod Examples

@@ -1,0 +1,199 @@
+-- Which command lines are lawful, and what command each is.
+use Rattle.std.specs.Prelude.{ℕ, ◌≡◌, ◌^◌, ◌&&◌, List, [], ◌∷◌, Option, Some, None, Bool, true, false, codes, fold, if◌then◌else◌, nat_le}
+use Rattle.std.specs.Str.{bytes_eq}
+use Rattle.std.specs.Str.Parse.{digits_value, without_leading_plus}
+use Rattle.bilv_spec.specs.Questions.{Question, EntryQuestion, FailQuestion, TurnQuestion}
+use Rattle.bilv_spec.specs.Answers.{Budget}
+use Rattle.bilv_spec.specs.Outcomes as of
+use Rattle.clap.specs.Words.{App, Row, Rule, Text, app_of, fault_of, first_of, new_app, new_rule, one_of, subcommand_of, with_rule}
+use Rattle.clap.specs.Simple.{new_shape}
+use Rattle.clap.specs.Walk.{is_empty}
+use Rattle.clap.specs.ValueTests.{is_unsigned_in}
+use Rattle.clap.specs.declared.builder.command.Command.{Command}
+use Rattle.clap.specs.declared.builder.command.Command.TheViews.{out-Command}
+use Rattle.clap.specs.declared.builder.value_parser.ValueParser.TheVariants as vp
+
+-- ---- the program's command, as `clap` sees it
+
+-- a required file name
+abbrev pub file_argument : Text → Rule
+file_argument name = record (new_rule name) { required = true }
+
+-- a required whole number from low to high
+abbrev pub number_argument : Text → (low high : ℕ) → Rule
+number_argument name low high = record (new_rule name) { required = true; parser = Some (vp.Unsigned low high) }
+
+-- an option whose value is a whole number from low to high
+abbrev pub number_option : Text → (low high : ℕ) → (default : Text) → Rule
+number_option name low high default = record (new_rule name) { long = Some name; parser = Some (vp.Unsigned low high); defaults = default ∷ [] }
+
+-- the required option that names a question
+abbrev pub question_option : Rule
+question_option = record (new_rule (codes "question")) { long = Some (codes "question"); required = true }
+
+-- the options for the four budgets
+abbrev pub budgets : List Rule
+budgets = number_option (codes "unroll") 0 4096 (codes "64")
+    ∷ number_option (codes "points") 1 16777216 (codes "65536")
+    ∷ number_option (codes "size") 1 (2 ^ 62) (codes "1073741824")
+    ∷ number_option (codes "conflicts") 1 4294967295 (codes "200000") ∷ []
+
+abbrev pub with_rules : App → List Rule → App
+with_rules = fold with_rule
+
+abbrev pub command_with : (name : Text) → List Rule → App
+command_with name rules = with_rules (new_app name) rules
+
+abbrev pub elf : Rule
+elf = file_argument (codes "elf")
+
+abbrev pub notes : Rule
+notes = file_argument (codes "notes")
+
+abbrev pub verify : App
+verify = command_with (codes "verify") (elf ∷ notes ∷ budgets)
+
+abbrev pub lift : App
+lift = command_with (codes "lift") (elf ∷ [])
+
+abbrev pub graph : App
+graph = command_with (codes "graph") (elf ∷ notes ∷ [])
+
+abbrev pub smt : App
+smt = command_with (codes "smt") (elf ∷ notes ∷ question_option ∷ budgets)
+
+abbrev pub replay : App
+replay = command_with (codes "replay") (elf ∷ notes ∷ file_argument (codes "state") ∷ [])
+
+abbrev pub cert : App
+cert = command_with (codes "cert") (elf ∷ notes ∷ question_option ∷ budgets)
+
+abbrev pub check : App
+check = command_with (codes "check") (file_argument (codes "certificate") ∷ [])
+
+abbrev pub selfrun : App
+selfrun = command_with (codes "selfrun") (number_argument (codes "seed") 0 2147483647 ∷ number_argument (codes "count") 1 16000 ∷ [])
+
+-- the program: it needs one of its subcommands
+unfoldable pub bilv_app : App
+bilv_app = record {
+  top = record (new_shape (codes "bilv")) { is_leaf = false; subcommand_required = true };
+  subs = verify.top ∷ lift.top ∷ graph.top ∷ smt.top ∷ replay.top ∷ cert.top ∷ check.top ∷ selfrun.top ∷ [];
+}
+
+-- a command of the code is this one to `clap`, and shares no argument with its subcommands
+pub record IsMade (a : App) (c : Command) : Type 0 where
+  pub app : app_of c ≡ a
+  pub globals : (out-Command c).has_globals ≡ false
+
+-- ---- what the words ask for
+
+infixl 10 ◌>>=◌
+abbrev pub ◌>>=◌ : {A B : Type 0} → Option A → (A → Option B) → Option B
+None >>= f = None
+Some x >>= f = f x
+
+-- the whole number below 2^64 that a text is: decimal digits, with a plus in front or none
+abbrev pub whole_number : Text → Option ℕ
+whole_number text = if is_unsigned_in 0 18446744073709551615 text then Some (digits_value 10 (without_leading_plus text)) else None
+
+-- the whole number that was found for an argument
+abbrev pub whole_in : (id : Text) → List Row → Option ℕ
+whole_in id rows = one_of id rows >>= whole_number
+
+-- The number from low to high that was found for an argument. `clap` has asked the same of its text, so this refuses no line that it takes; it stands here that the
+-- range of each number is seen where the number is read.
+abbrev pub number_in : (low high : ℕ) → (id : Text) → List Row → Option ℕ
+number_in low high id rows = whole_in id rows >>= λ n. if nat_le low n && nat_le n high then Some n else None
+
+abbrev pub budget_in : List Row → Option Budget
+budget_in rows = do
+  unroll ← number_in 0 4096 (codes "unroll") rows
+  points ← number_in 1 16777216 (codes "points") rows
+  size ← number_in 1 (2 ^ 62) (codes "size") rows
+  conflicts ← number_in 1 4294967295 (codes "conflicts") rows
+  Some (record { unroll = unroll; points = points; size = size; conflicts = conflicts })
+
+abbrev pub question_named : Text → Option Question
+question_named name = if bytes_eq name (codes "entry") then Some EntryQuestion
+    else if bytes_eq name (codes "fail") then Some FailQuestion
+    else if bytes_eq name (codes "turn") then Some TurnQuestion else None
+
+abbrev pub question_in : List Row → Option Question
+question_in rows = first_of (codes "question") rows >>= question_named
+
+-- each command, from what was found for its arguments
+abbrev pub verify_in : List Row → Option of.Command
+verify_in rows = do
+  elf ← first_of (codes "elf") rows
+  notes ← first_of (codes "notes") rows
+  budget ← budget_in rows
+  Some (of.Verify elf notes budget)
+
+abbrev pub lift_in : List Row → Option of.Command
+lift_in rows = do
+  elf ← first_of (codes "elf") rows
+  Some (of.Lift elf)
+
+abbrev pub graph_in : List Row → Option of.Command
+graph_in rows = do
+  elf ← first_of (codes "elf") rows
+  notes ← first_of (codes "notes") rows
+  Some (of.Graph elf notes)
+
+abbrev pub smt_in : List Row → Option of.Command
+smt_in rows = do
+  elf ← first_of (codes "elf") rows
+  notes ← first_of (codes "notes") rows
+  question ← question_in rows
+  budget ← budget_in rows
+  Some (of.Script elf notes question budget)
+
+abbrev pub replay_in : List Row → Option of.Command
+replay_in rows = do
+  elf ← first_of (codes "elf") rows
+  notes ← first_of (codes "notes") rows
+  state ← first_of (codes "state") rows
+  Some (of.Replay elf notes state)
+
+abbrev pub cert_in : List Row → Option of.Command
+cert_in rows = do
+  elf ← first_of (codes "elf") rows
+  notes ← first_of (codes "notes") rows
+  question ← question_in rows
+  budget ← budget_in rows
+  Some (of.Certify elf notes question budget)
+
+abbrev pub check_in : List Row → Option of.Command
+check_in rows = do
+  certificate ← first_of (codes "certificate") rows
+  Some (of.Check certificate)
+
+abbrev pub selfrun_in : List Row → Option of.Command
+selfrun_in rows = do
+  seed ← number_in 0 2147483647 (codes "seed") rows
+  count ← number_in 1 16000 (codes "count") rows
+  Some (of.SelfRun seed count)
+
+-- the command of a subcommand, by its name and what was found for its arguments
+unfoldable pub command_named : Text → List Row → Option of.Command
+command_named name rows = if bytes_eq name (codes "verify") then verify_in rows
+    else if bytes_eq name (codes "lift") then lift_in rows
+    else if bytes_eq name (codes "graph") then graph_in rows
+    else if bytes_eq name (codes "smt") then smt_in rows
+    else if bytes_eq name (codes "replay") then replay_in rows
+    else if bytes_eq name (codes "cert") then cert_in rows
+    else if bytes_eq name (codes "check") then check_in rows
+    else if bytes_eq name (codes "selfrun") then selfrun_in rows else None
+
+abbrev pub command_in : Option (Text × List Row) → Option of.Command
+command_in found = found >>= λ p. command_named p.0 p.1
+
+-- `clap` takes the words: of all that may be wrong with them by its rules it finds nothing
+unfoldable pub takes_line : List Text → Bool
+takes_line words = is_empty (fault_of bilv_app words)
+
+-- The command of a line, by its words, the first of which is the program's name. A line is lawful where `clap` takes it and its question, if it has one, is one of
+-- the three.
+abbrev pub lawful_command : List Text → Option of.Command
+lawful_command words = if takes_line words then command_in (subcommand_of bilv_app words) else None

@@ -1,0 +1,175 @@
+//! Commands, from what was found for a subcommand.
+ghost use Rattle.std.specs.Prelude.{◌≡◌, ◌≤◌, IfSome, option_map};
+ghost use Rattle.bilv_spec.specs.Answers.{IsBudget};
+ghost use Rattle.bilv_spec.specs.Outcomes.{IsLawfulCommand};
+ghost use Rattle.clap.specs.Words.{first_of, found_of, rows_of};
+ghost use Rattle.command_line.specs.Commands.{budget_of, command_of, question_of};
+ghost use Rattle.command_line.specs.Lines as lines;
+
+use crate::command::{Budget, Command, Question};
+use clap::ArgMatches;
+
+fn text<'a>(matches: &ArgMatches<'a>, id: &str) -> Option<&'a str>
+    ensures { option_map (λ s. s.now) result ≡ first_of id.now (rows_of (found_of matches.now)) }
+{
+    matches.get_str(id)
+}
+
+fn whole(matches: &ArgMatches<'_>, id: &str) -> Option<u64>
+    ensures { result ≡ lines.whole_in id.now (rows_of (found_of matches.now)) }
+{
+    matches.get_one::<u64>(id)
+}
+
+fn number(matches: &ArgMatches<'_>, id: &str, low: u64, high: u64) -> Option<u64>
+    ensures value { result ≡ lines.number_in low high id.now (rows_of (found_of matches.now)) }
+    ensures range { IfSome result (λ n. (low ≤ n) × (n ≤ high)) }
+{
+    let number = whole(matches, id)?;
+    if low <= number && number <= high {
+        Some(number)
+    } else {
+        None
+    }
+}
+
+fn budget(matches: &ArgMatches<'_>) -> Option<Budget>
+    ensures value { option_map budget_of result ≡ lines.budget_in (rows_of (found_of matches.now)) }
+    ensures range { IfSome result (λ b. IsBudget (budget_of b)) }
+{
+    let unroll = number(matches, "unroll", 0, 4096)?;
+    let points = number(matches, "points", 1, 16777216)?;
+    let size = number(matches, "size", 1, 1 << 62)?;
+    let conflicts = number(matches, "conflicts", 1, 4294967295)?;
+    Some(Budget {
+        unroll,
+        points,
+        size,
+        conflicts,
+    })
+}
+
+fn question_named(name: &str) -> Option<Question>
+    ensures { option_map question_of result ≡ lines.question_named name.now }
+{
+    match name {
+        "entry" => Some(Question::Entry),
+        "fail" => Some(Question::Fail),
+        "turn" => Some(Question::Turn),
+        _ => None,
+    }
+}
+
+fn question(matches: &ArgMatches<'_>) -> Option<Question>
+    ensures { option_map question_of result ≡ lines.question_in (rows_of (found_of matches.now)) }
+{
+    question_named(text(matches, "question")?)
+}
+
+fn verify<'a>(matches: &ArgMatches<'a>) -> Option<Command<'a>>
+    ensures value { option_map command_of result ≡ lines.verify_in (rows_of (found_of matches.now)) }
+    ensures lawful { IfSome result (λ c. IsLawfulCommand (command_of c)) }
+{
+    let elf = text(matches, "elf")?;
+    let notes = text(matches, "notes")?;
+    let budget = budget(matches)?;
+    Some(Command::Verify { elf, notes, budget })
+}
+
+fn lift<'a>(matches: &ArgMatches<'a>) -> Option<Command<'a>>
+    ensures value { option_map command_of result ≡ lines.lift_in (rows_of (found_of matches.now)) }
+    ensures lawful { IfSome result (λ c. IsLawfulCommand (command_of c)) }
+{
+    let elf = text(matches, "elf")?;
+    Some(Command::Lift { elf })
+}
+
+fn graph<'a>(matches: &ArgMatches<'a>) -> Option<Command<'a>>
+    ensures value { option_map command_of result ≡ lines.graph_in (rows_of (found_of matches.now)) }
+    ensures lawful { IfSome result (λ c. IsLawfulCommand (command_of c)) }
+{
+    let elf = text(matches, "elf")?;
+    let notes = text(matches, "notes")?;
+    Some(Command::Graph { elf, notes })
+}
+
+fn smt<'a>(matches: &ArgMatches<'a>) -> Option<Command<'a>>
+    ensures value { option_map command_of result ≡ lines.smt_in (rows_of (found_of matches.now)) }
+    ensures lawful { IfSome result (λ c. IsLawfulCommand (command_of c)) }
+{
+    let elf = text(matches, "elf")?;
+    let notes = text(matches, "notes")?;
+    let question = question(matches)?;
+    let budget = budget(matches)?;
+    Some(Command::Script {
+        elf,
+        notes,
+        question,
+        budget,
+    })
+}
+
+fn replay<'a>(matches: &ArgMatches<'a>) -> Option<Command<'a>>
+    ensures value { option_map command_of result ≡ lines.replay_in (rows_of (found_of matches.now)) }
+    ensures lawful { IfSome result (λ c. IsLawfulCommand (command_of c)) }
+{
+    let elf = text(matches, "elf")?;
+    let notes = text(matches, "notes")?;
+    let state = text(matches, "state")?;
+    Some(Command::Replay { elf, notes, state })
+}
+
+fn cert<'a>(matches: &ArgMatches<'a>) -> Option<Command<'a>>
+    ensures value { option_map command_of result ≡ lines.cert_in (rows_of (found_of matches.now)) }
+    ensures lawful { IfSome result (λ c. IsLawfulCommand (command_of c)) }
+{
+    let elf = text(matches, "elf")?;
+    let notes = text(matches, "notes")?;
+    let question = question(matches)?;
+    let budget = budget(matches)?;
+    Some(Command::Certify {
+        elf,
+        notes,
+        question,
+        budget,
+    })
+}
+
+fn check<'a>(matches: &ArgMatches<'a>) -> Option<Command<'a>>
+    ensures value { option_map command_of result ≡ lines.check_in (rows_of (found_of matches.now)) }
+    ensures lawful { IfSome result (λ c. IsLawfulCommand (command_of c)) }
+{
+    let certificate = text(matches, "certificate")?;
+    Some(Command::Check { certificate })
+}
+
+fn selfrun<'a>(matches: &ArgMatches<'a>) -> Option<Command<'a>>
+    ensures value { option_map command_of result ≡ lines.selfrun_in (rows_of (found_of matches.now)) }
+    ensures lawful { IfSome result (λ c. IsLawfulCommand (command_of c)) }
+{
+    let seed = number(matches, "seed", 0, 2147483647)?;
+    let count = number(matches, "count", 1, 16000)?;
+    Some(Command::SelfRun {
+        seed: seed as u32,
+        count: count as u32,
+    })
+}
+
+/// The command of a subcommand's name and what was found for it.
+#[tactic(auto, unfolding(crate::specs::Lines::command_named))]
+pub(crate) fn command_named<'a>(name: &str, matches: &ArgMatches<'a>) -> Option<Command<'a>>
+    ensures value { option_map command_of result ≡ lines.command_named name.now (rows_of (found_of matches.now)) }
+    ensures lawful { IfSome result (λ c. IsLawfulCommand (command_of c)) }
+{
+    match name {
+        "verify" => verify(matches),
+        "lift" => lift(matches),
+        "graph" => graph(matches),
+        "smt" => smt(matches),
+        "replay" => replay(matches),
+        "cert" => cert(matches),
+        "check" => check(matches),
+        "selfrun" => selfrun(matches),
+        _ => None,
+    }
+}

@@ -1,0 +1,34 @@
+-- What is told of an instruction, as the definitions have it.
+use Rattle.std.specs.Prelude.{ℕ, ◌≡◌, ◌<◌, ◌^◌, ◌==◌, List, length}
+use Rattle.bilv_spec.specs.Words.{bit_at}
+use Rattle.bilv_spec.specs.Memory.{memory_of}
+use Rattle.bilv_spec.specs.State.{State}
+use Rattle.bilv_spec.specs.Machine as table
+use Rattle.bilv_spec.specs.StateText.{Layout, Written, register_at}
+use Rattle.machine_law.specs.declared.facts.Succ.{Succ}
+use Rattle.machine_law.specs.declared.facts.Cost.{Cost}
+use Rattle.machine_law.specs.declared.facts.FlagUse.{FlagUse}
+
+-- static successors
+abbrev pub successors_of : Succ → table.Successors
+successors_of s = record { next = s.next; direct = s.direct; indirect = s.indirect; call = s.call }
+
+-- a cost
+abbrev pub cost_of : Cost → table.Cost
+cost_of c = record { row = c.row; loads = c.loads; stores = c.stores }
+
+-- the flags below 4 that the bits of three numbers say, and no others
+pub record IsFlagUse (found : FlagUse) (flags : table.FlagUse) : Type 0 where
+  pub small : (found.reads < 16) × (found.assigns < 16) × (found.surely < 16)
+  pub reads : (f : ℕ) → f < 4 → (bit_at f found.reads == 1) ≡ flags.reads f
+  pub assigns : (f : ℕ) → f < 4 → (bit_at f found.assigns == 1) ≡ flags.assigns f
+  pub surely : (f : ℕ) → f < 4 → (bit_at f found.surely == 1) ≡ flags.surely f
+
+-- a start has the registers and the flags of a form
+pub record IsFit (form : Layout) (w : Written) : Type 0 where
+  pub registers : length w.regs ≡ length form.registers
+  pub flags : w.flags < 2 ^ length form.flags
+
+-- the state of a start at an address, with the memory of entries
+abbrev pub made : Layout → Written → (pc : ℕ) → List (ℕ × ℕ) → State
+made form w pc entries = record { pc = pc; regs = register_at form w.regs; flags = λ f. bit_at f w.flags; mem = memory_of entries }

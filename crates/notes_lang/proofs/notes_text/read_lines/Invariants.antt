@@ -1,0 +1,11 @@
+use Rattle.std.proofs.Common.{length, drop, ◌-◌, ◌≤◌}
+use Rattle.notes_lang.specs.Named.{names_of}
+use Rattle.notes_lang.specs.Parsing.{IsSoFar}
+use Rattle.notes_lang.proofs.notes_text.read_lines.Given as goal
+
+-- the lines so far are good, and the draft is what they say
+abbrev pub invariant-loop-at : goal.invariant-loop-at
+invariant-loop-at l = record { within : l.at ≤ length l.text; so_far : IsSoFar (names_of l.names) l.text (drop l.at l.text) l.line l.draft }
+
+abbrev pub decreases-loop-at : goal.decreases-loop-at
+decreases-loop-at l = length l.text - l.at

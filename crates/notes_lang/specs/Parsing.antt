@@ -1,0 +1,44 @@
+-- Notes that were read.
+use Rattle.std.specs.Prelude.{ℕ, ◌≡◌, ◌+◌, List, ◌++◌, Option, Result, Ok, Err, length}
+use Rattle.bilv_spec.specs.Notes.{Expr}
+use Rattle.bilv_spec.specs.NotesGrammar.{lines_of, Says}
+use Rattle.bilv_spec.specs.NotesFaults.{AreGood, IsFirstNoteFault}
+use Rattle.bilv_spec.specs.RvNames.{rv_names}
+use Rattle.bilv_spec.specs.ArmNames.{arm_names}
+use Rattle.state_text.specs.declared.layout.Layout.{Layout}
+use Rattle.state_text.specs.declared.layout.Layout.TheVariants.{Rv32, ArmLittle, ArmBig}
+use Rattle.notes_lang.specs.declared.drafts.Draft.{Draft}
+use Rattle.notes_lang.specs.declared.notes_text.NoteFault.{NoteFault}
+use Rattle.notes_lang.specs.declared.notes_text.NotesError.{NotesError}
+use Rattle.notes_lang.specs.declared.notes_text.NotesError.TheVariants.{Fault, Memory}
+use Rattle.notes_lang.specs.Judging.{fault_of}
+use Rattle.notes_lang.specs.Drafting.{IsDraft}
+
+-- the names of a machine
+abbrev pub layout_names : Layout → List ℕ → Option Expr
+layout_names Rv32 = rv_names
+layout_names ArmLittle = arm_names
+layout_names ArmBig = arm_names
+
+-- lines without fault, and what they say
+pub record IsGoodDraft (names : List ℕ → Option Expr) (texts : List (List ℕ)) (draft : Draft) : Type 0 where
+  pub says : List Says
+  pub good : AreGood names texts says
+  pub is : IsDraft says draft
+
+-- the lines of a text are all good, and this is the number of the line behind them; or one is the first that is not good
+abbrev pub IsLinesRead : (List ℕ → Option Expr) → List ℕ → Result (Draft × ℕ) NoteFault → Type 0
+IsLinesRead names text (Ok d) = IsGoodDraft names (lines_of text) d.0 × (d.1 ≡ length (lines_of text) + 1)
+IsLinesRead names text (Err f) = IsFirstNoteFault names text f.line (fault_of f.kind)
+
+-- lines so far, and the text that is left
+pub record IsSoFar (names : List ℕ → Option Expr) (text rest : List ℕ) (line : ℕ) (draft : Draft) : Type 0 where
+  pub texts : List (List ℕ)
+  pub split : lines_of text ≡ texts ++ lines_of rest
+  pub number : line ≡ length texts + 1
+  pub read : IsGoodDraft names texts draft
+
+-- why notes were not read: the first fault of the text, or want of memory, of which nothing is said
+abbrev pub IsRefused : (List ℕ → Option Expr) → List ℕ → NotesError → Type 0
+IsRefused names text (Fault f) = IsFirstNoteFault names text f.line (fault_of f.kind)
+IsRefused names text Memory = Unit {0}

@@ -1,0 +1,115 @@
+//! The text of notes.
+ghost use Rattle.std.specs.Prelude.{◌≡◌, IfOk, IfErr};
+ghost use Rattle.bilv_spec.specs.NotesGrammar.{IsNotesText};
+ghost use Rattle.notes_lang.specs.Named.{names_of};
+ghost use Rattle.notes_lang.specs.Drafting.{notes_of};
+ghost use Rattle.notes_lang.specs.Parsing.{IsLinesRead, IsRefused, layout_names};
+
+use crate::drafts::Draft;
+use crate::faults::{FaultKind, judge};
+use crate::names::Names;
+use crate::notes::Notes;
+use crate::texts::first_line;
+use state_text::Layout;
+use std::alloc::{AllocError, Global};
+use thiserror::Error;
+
+/// The first line of notes that is refused, with its first fault.
+#[derive(Clone, Copy, PartialEq, Eq, Debug, Error)]
+#[error("line {line} {kind}")]
+pub struct NoteFault {
+    /// The line, counted from 1.
+    pub line: u32,
+    /// Why it is refused.
+    pub kind: FaultKind,
+}
+
+/// Why notes were not read.
+#[derive(Drop, Debug, Error)]
+pub enum NotesError {
+    /// The notes are refused.
+    #[error("{0}")]
+    Fault(NoteFault),
+    /// Want of memory.
+    #[error("out of memory")]
+    Memory,
+}
+
+/// The names of a machine.
+fn names_for(layout: Layout) -> Names
+    ensures { names_of result ≡ layout_names layout }
+{
+    match layout {
+        Layout::Rv32 => Names::Rv32,
+        Layout::ArmLittle => Names::Arm,
+        Layout::ArmBig => Names::Arm,
+    }
+}
+
+/// What the lines of a text say, with the number of the line behind the last, or the first line that is refused.
+fn read_lines(
+    alloc: Global,
+    names: Names,
+    text: &[u8],
+) -> Result<Result<(Draft, u32), NoteFault>, AllocError>
+    ensures { IfOk result (λ r. IsLinesRead (names_of names) text.now r) }
+{
+    let mut draft = Draft::new(alloc);
+    let mut at = 0usize;
+    let mut line = 1u32;
+    while at < text.len() {
+        let rest = &text[at..];
+        let (first, behind) = first_line(rest);
+        let says = match judge(alloc, names, line, first)? {
+            Ok(says) => says,
+            Err(kind) => return Ok(Err(NoteFault { line, kind })),
+        };
+        if draft.repeats(&says) {
+            return Ok(Err(NoteFault {
+                line,
+                kind: FaultKind::Entry,
+            }));
+        }
+        draft.add(line, says)?;
+        at = text.len() - behind.len();
+        line += 1;
+    }
+    Ok(Ok((draft, line)))
+}
+
+/// The notes that a text says, for the machine of a layout. `Fault` tells the first line that is refused, with the first of its faults; where each line is good but none names
+/// the function, it is the line behind the last.
+pub fn parse(alloc: Global, bytes: &[u8], layout: Layout) -> Result<Notes, NotesError>
+    ensures ok { IfOk result (λ notes. IsNotesText (layout_names layout) bytes.now (notes_of notes)) }
+    ensures err { IfErr result (λ error. IsRefused (layout_names layout) bytes.now error) }
+{
+    let Ok(read) = read_lines(alloc, names_for(layout), bytes) else {
+        return Err(NotesError::Memory);
+    };
+    let (draft, line) = match read {
+        Ok(read) => read,
+        Err(fault) => return Err(NotesError::Fault(fault)),
+    };
+    let Draft {
+        entry,
+        required,
+        ensured,
+        asserts,
+        targets,
+        fixed,
+    } = draft;
+    let Some(entry) = entry else {
+        return Err(NotesError::Fault(NoteFault {
+            line,
+            kind: FaultKind::Entry,
+        }));
+    };
+    Ok(Notes {
+        entry,
+        required,
+        ensured,
+        asserts,
+        targets,
+        fixed,
+    })
+}

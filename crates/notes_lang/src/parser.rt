@@ -1,0 +1,340 @@
+//! The expressions of notes, read from tokens from the left to the right.
+ghost use Rattle.std.specs.Prelude.{◌≡◌, ◌≢◌, ◌≤◌, ◌<◌, option_map, drop, IfOk, IfSome, is_some, codes};
+ghost use Rattle.std.specs.Str.{bytes_eq};
+ghost use Rattle.bilv_spec.specs.NotesGrammar.{operators, SignToken, NameToken};
+ghost use Rattle.bilv_spec.proofs.NotesTables.{line_of, same_token, size_of};
+ghost use Rattle.bilv_spec.proofs.NotesParser.{Ends, Level, atom_at, negated_at, of_level, word_at, work};
+ghost use Rattle.state_text.specs.Tokens.{token_of, sign_text};
+ghost use Rattle.notes_lang.specs.Named.{names_of};
+ghost use Rattle.notes_lang.specs.Views.{op_of};
+ghost use Rattle.notes_lang.specs.Reading.{AreGood, IsEnclosed, IsLeft, IsRest, Settles, begins, operator_at, read_of, size_or_zero, tokens_view};
+
+use crate::expressions::{Expr, Operator, Size};
+use crate::names::{Names, named};
+use state_text::{Sign, Token};
+use std::alloc::{AllocError, Global};
+
+/// An expression, and the tokens behind it.
+#[derive(Drop)]
+pub(crate) struct Reading<'t, 'a> {
+    pub(crate) expr: Expr,
+    pub(crate) rest: &'t [Token<'a>],
+}
+
+/// Whether a token is this sign.
+pub(crate) fn is_sign(token: &Token, sign: Sign) -> bool
+    ensures { result ≡ same_token (token_of token.now) (SignToken (sign_text sign)) }
+{
+    match token {
+        Token::Sign(other) => other.text() == sign.text(),
+        _ => false,
+    }
+}
+
+/// Whether a token is this word.
+pub(crate) fn is_word(token: &Token, word: &[u8]) -> bool
+    ensures { result ≡ same_token (token_of token.now) (NameToken word.now) }
+{
+    match token {
+        Token::Name(other) => *other == word,
+        _ => false,
+    }
+}
+
+/// The level and the meaning of an operator that is a sign.
+fn operator_of_sign(sign: Sign) -> Option<(u8, Operator)>
+    ensures { option_map (λ o. (o.0, op_of o.1)) result ≡ line_of operators (SignToken (sign_text sign)) }
+{
+    match sign {
+        Sign::Equal => Some((4, Operator::Equal)),
+        Sign::NotEqual => Some((4, Operator::NotEqual)),
+        Sign::Below => Some((4, Operator::Below)),
+        Sign::AtMost => Some((4, Operator::AtMost)),
+        Sign::Above => Some((4, Operator::Above)),
+        Sign::AtLeast => Some((4, Operator::AtLeast)),
+        Sign::SignedBelow => Some((4, Operator::SignedBelow)),
+        Sign::SignedAtMost => Some((4, Operator::SignedAtMost)),
+        Sign::SignedAbove => Some((4, Operator::SignedAbove)),
+        Sign::SignedAtLeast => Some((4, Operator::SignedAtLeast)),
+        Sign::BitOr => Some((5, Operator::BitOr)),
+        Sign::BitXor => Some((6, Operator::BitXor)),
+        Sign::BitAnd => Some((7, Operator::BitAnd)),
+        Sign::ShiftLeft => Some((8, Operator::ShiftLeft)),
+        Sign::ShiftRight => Some((8, Operator::ShiftRight)),
+        Sign::ShiftSigned => Some((8, Operator::ShiftSigned)),
+        Sign::Plus => Some((9, Operator::Plus)),
+        Sign::Minus => Some((9, Operator::Minus)),
+        Sign::Times => Some((10, Operator::Times)),
+        Sign::OpenRound => None,
+        Sign::CloseRound => None,
+        Sign::OpenSquare => None,
+        Sign::CloseSquare => None,
+    }
+}
+
+/// The level and the meaning of an operator that is a word.
+fn operator_of_word(word: &[u8]) -> Option<(u8, Operator)>
+    ensures { option_map (λ o. (o.0, op_of o.1)) result ≡ line_of operators (NameToken word.now) }
+{
+    if word == b"or".as_slice() {
+        return Some((1, Operator::Or));
+    }
+    if word == b"and".as_slice() {
+        return Some((2, Operator::And));
+    }
+    None
+}
+
+/// The level and the meaning of an operator.
+fn operator_of(token: &Token) -> Option<(u8, Operator)>
+    ensures { option_map (λ o. (o.0, op_of o.1)) result ≡ line_of operators (token_of token.now) }
+{
+    match token {
+        Token::Sign(sign) => operator_of_sign(*sign),
+        Token::Name(word) => operator_of_word(word),
+        _ => None,
+    }
+}
+
+/// The operator of a level, if it is this one's.
+fn of_this_level(operator: Option<(u8, Operator)>, level: u8) -> Option<Operator>
+    ensures { option_map op_of result ≡ of_level (option_map (λ o. (o.0, op_of o.1)) operator) level }
+{
+    match operator {
+        Some((of, op)) => if of == level { Some(op) } else { None },
+        None => None,
+    }
+}
+
+/// The operator of a level with which tokens begin, and the tokens behind it.
+fn operator<'t, 'a>(level: u8, tokens: &'t [Token<'a>]) -> Option<(Operator, &'t [Token<'a>])>
+    ensures operator { option_map (λ o. op_of o.0) result ≡ operator_at level (tokens_view tokens.now) }
+    ensures rest { IfSome result (λ o. o.1.now ≡ drop 1 tokens.now) }
+{
+    let (first, rest) = tokens.split_first()?;
+    let op = of_this_level(operator_of(first), level)?;
+    Some((op, rest))
+}
+
+/// The tokens behind a sign, if they begin with it.
+fn behind_sign<'t, 'a>(sign: Sign, tokens: &'t [Token<'a>]) -> Option<&'t [Token<'a>]>
+    ensures found { is_some result ≡ begins (SignToken (sign_text sign)) (tokens_view tokens.now) }
+    ensures rest { IfSome result (λ rest. rest.now ≡ drop 1 tokens.now) }
+{
+    let (first, rest) = tokens.split_first()?;
+    if is_sign(first, sign) {
+        Some(rest)
+    } else {
+        None
+    }
+}
+
+/// How many bytes a word loads.
+fn load_size(word: &[u8]) -> Option<Size>
+    ensures { size_or_zero result ≡ size_of word.now }
+{
+    if word == b"mem8".as_slice() {
+        return Some(Size::Byte);
+    }
+    if word == b"mem16".as_slice() {
+        return Some(Size::Half);
+    }
+    if word == b"mem32".as_slice() {
+        return Some(Size::Word);
+    }
+    None
+}
+
+/// Whether a word asks for the value at entry.
+fn is_old(word: &[u8]) -> bool
+    ensures { result ≡ bytes_eq word.now (codes "old") }
+{
+    word == b"old".as_slice()
+}
+
+/// An expression of a level, from the front of tokens.
+#[cycle(parser)]
+pub(crate) fn read<'t, 'a>(
+    alloc: Global,
+    names: Names,
+    level: u8,
+    tokens: &'t [Token<'a>],
+) -> Result<Option<Reading<'t, 'a>>, AllocError>
+    requires level { level ≤ 11 }
+    requires good { AreGood tokens.now }
+    ensures read { IfOk result (λ o. Ends (names_of names) (Level level) (tokens_view tokens.now) (read_of o)) }
+    ensures left { IfOk result (λ o. IsLeft tokens.now o) }
+{
+    if level == 3 {
+        let read = negation(alloc, names, tokens)?;
+        return Ok(read);
+    }
+    if level == 11 {
+        let read = atom(alloc, names, tokens)?;
+        return Ok(read);
+    }
+    let read = chain(alloc, names, level, tokens)?;
+    Ok(read)
+}
+
+/// An expression that `not` may begin.
+#[cycle(parser)]
+fn negation<'t, 'a>(
+    alloc: Global,
+    names: Names,
+    tokens: &'t [Token<'a>],
+) -> Result<Option<Reading<'t, 'a>>, AllocError>
+    requires { AreGood tokens.now }
+    ensures read { IfOk result (λ o. Settles (λ m. negated_at (work (names_of names) m) (tokens_view tokens.now)) (read_of o)) }
+    ensures left { IfOk result (λ o. IsLeft tokens.now o) }
+{
+    let Some((first, rest)) = tokens.split_first() else {
+        return Ok(None);
+    };
+    if !is_word(first, b"not") {
+        let read = read(alloc, names, 4, tokens)?;
+        return Ok(read);
+    }
+    let Some(inner) = read(alloc, names, 3, rest)? else {
+        return Ok(None);
+    };
+    let negated = Expr::Not(Box::new(alloc, inner.expr)?);
+    Ok(Some(Reading {
+        expr: negated,
+        rest: inner.rest,
+    }))
+}
+
+/// Operators of one level, which group to the left; comparisons are not chained.
+#[cycle(parser)]
+fn chain<'t, 'a>(
+    alloc: Global,
+    names: Names,
+    level: u8,
+    tokens: &'t [Token<'a>],
+) -> Result<Option<Reading<'t, 'a>>, AllocError>
+    requires level { level < 11 }
+    requires not_three { level ≢ 3 }
+    requires good { AreGood tokens.now }
+    ensures read { IfOk result (λ o. Ends (names_of names) (Level level) (tokens_view tokens.now) (read_of o)) }
+    ensures left { IfOk result (λ o. IsLeft tokens.now o) }
+{
+    let Some(first) = read(alloc, names, level + 1, tokens)? else {
+        return Ok(None);
+    };
+    let mut expr = first.expr;
+    let mut rest = first.rest;
+    while let Some((op, behind)) = operator(level, rest) {
+        let Some(right) = read(alloc, names, level + 1, behind)? else {
+            return Ok(None);
+        };
+        expr = Expr::Binary(op, Box::new(alloc, expr)?, Box::new(alloc, right.expr)?);
+        rest = right.rest;
+        if level == 4 {
+            return Ok(Some(Reading { expr, rest }));
+        }
+    }
+    Ok(Some(Reading { expr, rest }))
+}
+
+/// What stands alone or in brackets.
+#[cycle(parser)]
+fn atom<'t, 'a>(
+    alloc: Global,
+    names: Names,
+    tokens: &'t [Token<'a>],
+) -> Result<Option<Reading<'t, 'a>>, AllocError>
+    requires { AreGood tokens.now }
+    ensures read { IfOk result (λ o. Settles (λ m. atom_at (names_of names) (work (names_of names) m) (tokens_view tokens.now)) (read_of o)) }
+    ensures left { IfOk result (λ o. IsLeft tokens.now o) }
+{
+    let Some((first, rest)) = tokens.split_first() else {
+        return Ok(None);
+    };
+    match first {
+        Token::Number(n) => Ok(Some(Reading {
+            expr: Expr::Number(*n),
+            rest,
+        })),
+        Token::Name(word) => {
+            let read = word_atom(alloc, names, word, rest)?;
+            Ok(read)
+        }
+        Token::Sign(_) => {
+            if !is_sign(first, Sign::OpenRound) {
+                return Ok(None);
+            }
+            let read = enclosed(alloc, names, Sign::CloseRound, rest)?;
+            Ok(read)
+        }
+        _ => Ok(None),
+    }
+}
+
+/// A load, `old` or a name, by its word and the tokens behind it.
+#[cycle(parser)]
+fn word_atom<'t, 'a>(
+    alloc: Global,
+    names: Names,
+    word: &[u8],
+    tokens: &'t [Token<'a>],
+) -> Result<Option<Reading<'t, 'a>>, AllocError>
+    requires { AreGood tokens.now }
+    ensures read { IfOk result (λ o. Settles (λ m. word_at (names_of names) (work (names_of names) m) (size_of word.now) (bytes_eq word.now (codes "old")) word.now (tokens_view tokens.now)) (read_of o)) }
+    ensures left { IfOk result (λ o. IsRest tokens.now o) }
+{
+    if let Some(size) = load_size(word) {
+        let Some(behind) = behind_sign(Sign::OpenSquare, tokens) else {
+            return Ok(None);
+        };
+        let Some(inner) = enclosed(alloc, names, Sign::CloseSquare, behind)? else {
+            return Ok(None);
+        };
+        let load = Expr::Memory(size, Box::new(alloc, inner.expr)?);
+        return Ok(Some(Reading {
+            expr: load,
+            rest: inner.rest,
+        }));
+    }
+    if is_old(word) {
+        let Some(behind) = behind_sign(Sign::OpenRound, tokens) else {
+            return Ok(None);
+        };
+        let Some(inner) = enclosed(alloc, names, Sign::CloseRound, behind)? else {
+            return Ok(None);
+        };
+        let old = Expr::Old(Box::new(alloc, inner.expr)?);
+        return Ok(Some(Reading {
+            expr: old,
+            rest: inner.rest,
+        }));
+    }
+    match named(names, word) {
+        Some(expr) => Ok(Some(Reading { expr, rest: tokens })),
+        None => Ok(None),
+    }
+}
+
+/// An expression behind a bracket, and the sign that closes it.
+#[cycle(parser)]
+fn enclosed<'t, 'a>(
+    alloc: Global,
+    names: Names,
+    close: Sign,
+    tokens: &'t [Token<'a>],
+) -> Result<Option<Reading<'t, 'a>>, AllocError>
+    requires { AreGood tokens.now }
+    ensures read { IfOk result (λ o. IsEnclosed (names_of names) (SignToken (sign_text close)) (tokens_view tokens.now) o) }
+    ensures left { IfOk result (λ o. IsLeft tokens.now o) }
+{
+    let Some(inner) = read(alloc, names, 1, tokens)? else {
+        return Ok(None);
+    };
+    let Some(rest) = behind_sign(close, inner.rest) else {
+        return Ok(None);
+    };
+    Ok(Some(Reading {
+        expr: inner.expr,
+        rest,
+    }))
+}

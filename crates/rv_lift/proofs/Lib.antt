@@ -1,0 +1,5 @@
+pub mod Values
+pub mod Plain
+pub mod Shapes
+pub mod Rows
+pub mod Registers

@@ -1,0 +1,104 @@
+-- What the lifted expressions evaluate to.
+use Rattle.std.proofs.Common.{◌≡◌, ℕ, zero, suc, ◌+◌, ◌/◌, ◌%◌, ◌^◌, nat_lt, not, Bool, true, false, refl, ap, ◌∙◌, arith, bit_and}
+use Rattle.std.proofs.lemmas.Nat.{and_mask}
+use Rattle.std.proofs.lemmas.Nat.Bits.{and_high}
+use Rattle.bilv_spec.specs.Words.{add, bit, signed_lt, complement}
+use Rattle.bilv_spec.specs.Memory.{Little, load, store}
+use Rattle.bilv_spec.specs.State.{State}
+use Rattle.bilv_spec.specs.Machine.{even}
+use Rattle.bilv_spec.specs.Rv.{reg}
+use Rattle.bilv_spec.specs.Bil.{Expression}
+use Rattle.bilv_spec.specs.BilMeaning.{Word, Bytes, Env, evaluate}
+use Rattle.bilv_spec.specs.Simulation.{Locals, env_of}
+use Rattle.byte_mem.proofs.Numbers.{store_cut}
+use Rattle.rv_decode.specs.declared.insn.BranchOp.{BranchOp}
+use Rattle.rv_decode.specs.declared.insn.BranchOp.TheVariants.{Beq, Bne, Blt, Bge, Bltu, Bgeu}
+use Rattle.rv_decode.specs.declared.insn.LoadOp.{LoadOp}
+use Rattle.rv_decode.specs.declared.insn.LoadOp.TheVariants.{Lb, Lh, Lw, Lbu, Lhu}
+use Rattle.rv_decode.specs.declared.insn.StoreOp.{StoreOp}
+use Rattle.rv_decode.specs.declared.insn.StoreOp.TheVariants.{Sb, Sh, Sw}
+use Rattle.rv_decode.specs.declared.insn.ImmediateOp.{ImmediateOp}
+use Rattle.rv_decode.specs.declared.insn.ImmediateOp.TheVariants.{Addi, Slti, Sltiu, Xori, Ori, Andi}
+use Rattle.rv_decode.specs.declared.insn.ShiftOp.{ShiftOp}
+use Rattle.rv_decode.specs.declared.insn.ShiftOp.TheVariants.{Slli, Srli, Srai}
+use Rattle.rv_decode.specs.declared.insn.RegisterOp.{RegisterOp}
+use Rattle.rv_decode.specs.declared.insn.RegisterOp.TheVariants.{Add, Sub, Sll, Slt, Sltu, Xor, Srl, Sra, Or, And, Mul, Mulh, Mulhsu, Mulhu, Div, Divu, Rem, Remu}
+use Rattle.rv_decode.specs.Insns.{register_value, immediate_value, shift_value, test_of, loaded_bytes, extended, stored_bytes}
+use Rattle.rv_lift.specs.Lifted as lifts
+
+-- the upper half of a product of 64 bits
+upper_of : (p : ℕ) → p % 2 ^ 64 / 2 ^ 32 % 2 ^ 32 ≡ p / 2 ^ 32 % 2 ^ 32
+upper_of p = omega arith
+
+pub register_value_is : (r c : ℕ) (l : Locals) (s : State) → evaluate (lifts.register r) c (env_of l s) ≡ Word 32 (reg s r)
+register_value_is zero c l s = refl
+register_value_is (suc r) c l s = refl
+
+pub address_is : (r v c : ℕ) (l : Locals) (s : State) → evaluate (lifts.address r v) c (env_of l s) ≡ Word 32 (add 32 (reg s r) v)
+address_is r v c l s = rw (register_value_is r c l s) refl
+
+pub computation_is : (o : RegisterOp) (a b : Expression) (c : ℕ) (e : Env) (x y : ℕ) → evaluate a c e ≡ Word 32 x → evaluate b c e ≡ Word 32 y →
+    evaluate (lifts.computation o a b) c e ≡ Word 32 (register_value o x y)
+computation_is Add a b c e x y p q = rw (p, q) refl
+computation_is Sub a b c e x y p q = rw (p, q) refl
+computation_is Sll a b c e x y p q = rw (p, q, and_mask y 5) refl
+computation_is Slt a b c e x y p q = rw (p, q) refl
+computation_is Sltu a b c e x y p q = rw (p, q) refl
+computation_is Xor a b c e x y p q = rw (p, q) refl
+computation_is Srl a b c e x y p q = rw (p, q, and_mask y 5) refl
+computation_is Sra a b c e x y p q = rw (p, q, and_mask y 5) refl
+computation_is Or a b c e x y p q = rw (p, q) refl
+computation_is And a b c e x y p q = rw (p, q) refl
+computation_is Mul a b c e x y p q = rw (p, q) refl
+computation_is Mulh a b c e x y p q = rw (p, q) (ap (λ z. Word 32 z) (upper_of _))
+computation_is Mulhsu a b c e x y p q = rw (p, q) (ap (λ z. Word 32 z) (upper_of _))
+computation_is Mulhu a b c e x y p q = rw (p, q) (ap (λ z. Word 32 z) (upper_of _))
+computation_is Div a b c e x y p q = rw (p, q) refl
+computation_is Divu a b c e x y p q = rw (p, q) refl
+computation_is Rem a b c e x y p q = rw (p, q) refl
+computation_is Remu a b c e x y p q = rw (p, q) refl
+
+pub immediate_is : (o : ImmediateOp) (a b : Expression) (c : ℕ) (e : Env) (x y : ℕ) → evaluate a c e ≡ Word 32 x → evaluate b c e ≡ Word 32 y →
+    evaluate (lifts.immediate o a b) c e ≡ Word 32 (immediate_value o x y)
+immediate_is Addi a b c e x y p q = rw (p, q) refl
+immediate_is Slti a b c e x y p q = rw (p, q) refl
+immediate_is Sltiu a b c e x y p q = rw (p, q) refl
+immediate_is Xori a b c e x y p q = rw (p, q) refl
+immediate_is Ori a b c e x y p q = rw (p, q) refl
+immediate_is Andi a b c e x y p q = rw (p, q) refl
+
+pub shift_is : (o : ShiftOp) (a b : Expression) (c : ℕ) (e : Env) (x y : ℕ) → evaluate a c e ≡ Word 32 x → evaluate b c e ≡ Word 32 y →
+    evaluate (lifts.shift o a b) c e ≡ Word 32 (shift_value o x y)
+shift_is Slli a b c e x y p q = rw (p, q) refl
+shift_is Srli a b c e x y p q = rw (p, q) refl
+shift_is Srai a b c e x y p q = rw (p, q) refl
+
+turned : (b : Bool) → Word 1 (complement 1 (bit b)) ≡ Word 1 (bit (not b))
+turned true = refl
+turned false = refl
+
+pub test_is : (o : BranchOp) (a b : Expression) (c : ℕ) (e : Env) (x y : ℕ) → evaluate a c e ≡ Word 32 x → evaluate b c e ≡ Word 32 y →
+    evaluate (lifts.test o a b) c e ≡ Word 1 (bit (test_of o x y))
+test_is Beq a b c e x y p q = rw (p, q) refl
+test_is Bne a b c e x y p q = rw (p, q) refl
+test_is Blt a b c e x y p q = rw (p, q) refl
+test_is Bge a b c e x y p q = rw (p, q) (turned (signed_lt 32 x y))
+test_is Bltu a b c e x y p q = rw (p, q) refl
+test_is Bgeu a b c e x y p q = rw (p, q) (turned (nat_lt x y))
+
+pub load_is : (o : LoadOp) (t : Expression) (a c : ℕ) (l : Locals) (s : State) → evaluate t c (env_of l s) ≡ Word 32 a →
+    evaluate (lifts.loaded o t) c (env_of l s) ≡ Word 32 (extended o (load Little (loaded_bytes o) s.mem a))
+load_is Lb t a c l s h = rw h refl
+load_is Lh t a c l s h = rw h refl
+load_is Lw t a c l s h = rw h refl
+load_is Lbu t a c l s h = rw h refl
+load_is Lhu t a c l s h = rw h refl
+
+pub store_is : (o : StoreOp) (t u : Expression) (a x c : ℕ) (l : Locals) (s : State) → evaluate t c (env_of l s) ≡ Word 32 a → evaluate u c (env_of l s) ≡ Word 32 x →
+    evaluate (lifts.stored o t u) c (env_of l s) ≡ Bytes (store Little (stored_bytes o) s.mem a x)
+store_is Sb t u a x c l s h k = rw (h, k) (ap Bytes (store_cut Little 1 s.mem a x))
+store_is Sh t u a x c l s h k = rw (h, k) (ap Bytes (store_cut Little 2 s.mem a x))
+store_is Sw t u a x c l s h k = rw (h, k) refl
+
+pub even_is : (m v : ℕ) → bit_and ((m + v) % 2 ^ 32) 0xfffffffe ≡ even ((m + v) % 2 ^ 32)
+even_is m v = and_high ((m + v) % 2 ^ 32) 31 1 ∙ omega arith

@@ -1,0 +1,137 @@
+//! What is told of an instruction without a state.
+ghost use Rattle.std.specs.Prelude.{◌≡◌, Some, None, true, false};
+ghost use Rattle.bilv_spec.specs.Machine as table;
+ghost use Rattle.bilv_spec.specs.Rv.{Fields, links};
+ghost use Rattle.machine_law.specs.Facts.{cost_of, successors_of};
+ghost use Rattle.rv_decode.specs.Insns as insns;
+ghost use Rattle.rv_decode.specs.Insns.{row_of};
+
+use machine_law::{Cost, Succ};
+use rv_decode::{Insn, LoadOp, Register, RegisterOp, StoreOp};
+
+/// Whether a jump that sets this register is a call (section 2.5).
+fn is_link(rd: Register) -> bool
+    ensures { result ≡ links rd.number }
+{
+    rd.number() == 1 || rd.number() == 5
+}
+
+/// Successors with a direct jump, which may not be made where `next`.
+fn direct(next: bool, to: u32, call: bool) -> Succ
+    ensures { successors_of result ≡ record { next = next; direct = Some to; indirect = false; call = call } }
+{
+    Succ {
+        next,
+        direct: Some(to),
+        indirect: false,
+        call,
+    }
+}
+
+/// Successors without a direct jump.
+fn no_direct(next: bool, indirect: bool, call: bool) -> Succ
+    ensures { successors_of result ≡ record { next = next; direct = None; indirect = indirect; call = call } }
+{
+    Succ {
+        next,
+        direct: None,
+        indirect,
+        call,
+    }
+}
+
+/// The static successors of an instruction that stands at an address.
+pub(crate) fn successors(insn: &Insn, at: u32) -> Succ
+    ensures { successors_of result ≡ (row_of insn.now).successors at }
+{
+    match *insn {
+        Insn::Jal { rd, offset } => direct(false, at.wrapping_add(offset), is_link(rd)),
+        Insn::Jalr { rd, .. } => no_direct(false, true, is_link(rd)),
+        Insn::Branch { offset, .. } => direct(true, at.wrapping_add(offset), false),
+        Insn::Ecall | Insn::Ebreak => no_direct(false, false, false),
+        _ => no_direct(true, false, false),
+    }
+}
+
+/// The target of JALR at an address behind AUIPC, where it jumps through the register that AUIPC sets.
+pub(crate) fn pair(before: &Insn, insn: &Insn, at: u32) -> Option<u32>
+    ensures { result ≡ table.pair_of (Some (row_of before.now)) (Some (row_of insn.now)) at }
+{
+    match (*before, *insn) {
+        (Insn::Auipc { rd, imm }, Insn::Jalr { rs1, offset, .. }) => {
+            if rd.number() == rs1.number() {
+                let sum = at.wrapping_sub(4).wrapping_add(imm).wrapping_add(offset);
+                Some(sum - sum % 2)
+            } else {
+                None
+            }
+        }
+        _ => None,
+    }
+}
+
+/// How many bytes a load reads.
+fn loaded_bytes(op: LoadOp) -> u64
+    ensures { result ≡ insns.loaded_bytes op }
+{
+    match op {
+        LoadOp::Lb | LoadOp::Lbu => 1,
+        LoadOp::Lh | LoadOp::Lhu => 2,
+        LoadOp::Lw => 4,
+    }
+}
+
+/// How many bytes a store writes.
+fn stored_bytes(op: StoreOp) -> u64
+    ensures { result ≡ insns.stored_bytes op }
+{
+    match op {
+        StoreOp::Sb => 1,
+        StoreOp::Sh => 2,
+        StoreOp::Sw => 4,
+    }
+}
+
+/// A cost without stores.
+fn loading(row: u64, loads: u64) -> Cost
+    ensures { cost_of result ≡ record { row = row; loads = loads; stores = 0 } }
+{
+    Cost {
+        row,
+        loads,
+        stores: 0,
+    }
+}
+
+/// The cost of a computation with two registers: multiplications and divisions are dear.
+fn computation_cost(op: RegisterOp) -> Cost
+    ensures { (x : Fields) → cost_of result ≡ (insns.computes op x).cost }
+{
+    match op {
+        RegisterOp::Mul
+        | RegisterOp::Mulh
+        | RegisterOp::Mulhsu
+        | RegisterOp::Mulhu
+        | RegisterOp::Div
+        | RegisterOp::Divu
+        | RegisterOp::Rem
+        | RegisterOp::Remu => loading(20000, 0),
+        _ => loading(1024, 0),
+    }
+}
+
+/// The price of an instruction's point, and its byte loads and stores.
+pub(crate) fn cost(insn: &Insn) -> Cost
+    ensures { cost_of result ≡ (row_of insn.now).cost }
+{
+    match *insn {
+        Insn::Load { op, .. } => loading(1024, loaded_bytes(op)),
+        Insn::Store { op, .. } => Cost {
+            row: 1024,
+            loads: 0,
+            stores: stored_bytes(op),
+        },
+        Insn::Computation { op, .. } => computation_cost(op),
+        _ => loading(1024, 0),
+    }
+}

@@ -1,0 +1,12 @@
+//! The machine of RV32IM (RISC-V Unprivileged ISA 20191213, chapters 2 and 7): its rows, and for each a list of statements that does the same.
+#![tactic(auto)]
+
+mod expressions;
+mod facts;
+mod lifting;
+mod machine;
+mod statements;
+#[cfg(test)]
+mod tests;
+
+pub use machine::Rv32;

@@ -1,0 +1,109 @@
+//! The machine.
+ghost use Rattle.std.specs.Prelude.{◌≡◌};
+ghost use Rattle.rv_step.specs.States.{state_of, spare_of};
+
+use crate::facts;
+use crate::lifting::list_of;
+use bil_ast::Stmt;
+use byte_mem::{Bytes32, StepOut};
+use machine_law::{Cost, FlagUse, Machine, Succ};
+use rv_decode::Insn;
+use rv_step::State;
+use state_text::{Layout, Start};
+use std::alloc::{AllocError, Global};
+
+/// RV32IM.
+pub struct Rv32;
+
+impl Machine for Rv32 {
+    ghost use Rattle.bilv_spec.specs.Rv.{rv32};
+    ghost use Rattle.bilv_spec.specs.Bil.{XRegisters};
+    ghost use Rattle.bilv_spec.specs.StateText.{rv_layout};
+    ghost use Rattle.rv_decode.specs.Insns.{row_of};
+    ghost use Rattle.rv_step.specs.States.{spare_of};
+    ghost use Rattle.std.specs.Prelude.{refl};
+    ghost use Rattle.bilv_spec.proofs.RvLawful.{rv_is_lawful};
+    ghost use Rattle.rv_lift.specs.Laws.{four_bytes};
+
+    type Insn = Insn;
+
+    type State = State;
+
+    ghost machine = { rv32 };
+
+    ghost bank = { XRegisters };
+
+    ghost form = { rv_layout };
+
+    ghost row = { row_of };
+
+    ghost spare = { spare_of };
+
+    fn decode(word: u32) -> Option<Insn> {
+        rv_decode::decode(word)
+    }
+
+    fn step(insn: &Insn, state: &mut State, choice: u8) -> StepOut {
+        rv_step::step(insn, state, choice)
+    }
+
+    fn stored(insn: &Insn, state: &State) -> Option<(u32, u8)> {
+        rv_step::stored(insn, state)
+    }
+
+    fn lift(alloc: Global, insn: &Insn, at: u32) -> Result<Vec<Stmt>, AllocError> {
+        list_of(alloc, insn, at)
+    }
+
+    fn successors(insn: &Insn, at: u32) -> Succ {
+        facts::successors(insn, at)
+    }
+
+    fn pair(before: &Insn, insn: &Insn, at: u32) -> Option<u32> {
+        facts::pair(before, insn, at)
+    }
+
+    fn literal(insn: &Insn, at: u32) -> Option<u32> {
+        None
+    }
+
+    fn cost(insn: &Insn) -> Cost {
+        facts::cost(insn)
+    }
+
+    fn flags(insn: &Insn) -> FlagUse {
+        FlagUse {
+            reads: 0,
+            assigns: 0,
+            surely: 0,
+        }
+    }
+
+    fn draws(insn: &Insn) -> bool {
+        false
+    }
+
+    fn layout() -> Layout {
+        Layout::Rv32
+    }
+
+    fn make(start: &Start, pc: u32, memory: Bytes32) -> State {
+        State::from_registers(pc, &start.regs, memory)
+    }
+
+    fn copy(alloc: Global, state: &State) -> Result<State, AllocError> {
+        state.copy(alloc)
+    }
+
+    fn reserve(state: &mut State, n: usize) -> Result<(), AllocError> {
+        state.reserve(n)
+    }
+
+    ghost lawful = { rv_is_lawful };
+
+    ghost four_bytes = { four_bytes };
+
+    ghost same_link = { refl };
+
+    ghost same_registers = { refl };
+}

@@ -1,0 +1,9 @@
+pub mod Literals
+pub mod Quiet
+pub mod Places
+pub mod Seen
+pub mod Backwards
+pub mod Shorter
+pub mod Learning
+pub mod Taken
+pub mod Logs

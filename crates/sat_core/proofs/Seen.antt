@@ -1,0 +1,30 @@
+-- A look at a clause that has met one literal that is not false, or none.
+use Rattle.std.proofs.Common.{◌≡◌, ℕ, ◌+◌, ◌<◌, Bool, true, false, ◌∷◌, Option, Some, None, refl, length, get_or, drop, drop-cons, add-one, ap}
+use Rattle.std.specs.Prelude.{if◌then◌else◌}
+use Rattle.bilv_spec.specs.Clauses.{Literal, Clause, same, opposite, has}
+use Rattle.bilv_spec.specs.Refutation.{Look, left_over, look_left}
+
+-- a look that has met one literal that is not false, or none, and has `ls` left
+abbrev pub resume : (Literal → Bool) → Option Literal → Clause → Look
+resume holds None ls = look_left holds ls
+resume holds (Some x) ls = look_left holds (x ∷ ls)
+
+abbrev pub IsOpenIn : Clause → Option Literal → Type 0
+IsOpenIn c None = Unit {0}
+IsOpenIn c (Some x) = has c x ≡ true
+
+module _ (h : Literal → Bool) (c : Clause) (i : ℕ) (x : Literal) (lt : i < length c) (is : x ≡ get_or c i x) where
+  here : drop i c ≡ x ∷ drop (i + 1) c
+  here = rw (add-one, drop-cons c i x, ← is) refl
+
+  left_over-step : left_over h (drop i c) ≡ (if h (opposite x) then left_over h (drop (i + 1) c) else x ∷ left_over h (drop (i + 1) c))
+  left_over-step = ap (left_over h) here
+
+  pub resume-false : (o : Option Literal) → h (opposite x) ≡ true → resume h o (left_over h (drop i c)) ≡ resume h o (left_over h (drop (i + 1) c))
+  resume-false o e = rw (left_over-step, e) refl
+
+  pub resume-first : h (opposite x) ≡ false → resume h None (left_over h (drop i c)) ≡ resume h (Some x) (left_over h (drop (i + 1) c))
+  resume-first e = rw (left_over-step, e) refl
+
+  pub resume-same : (y : Literal) → same x y ≡ true → h (opposite x) ≡ false → resume h (Some y) (left_over h (drop i c)) ≡ resume h (Some y) (left_over h (drop (i + 1) c))
+  resume-same y q e = rw (left_over-step, e, q) refl

@@ -1,0 +1,70 @@
+use Rattle.std.proofs.Common.{◌≡◌, ◌+◌, ◌≤◌, ◌^◌, ◌∙◌, length, arith, sym, ap, map, true, false}
+use Rattle.std.proofs.lemmas.List.{length-map}
+use Rattle.std.proofs.lemmas.Bool.{both_ways}
+use Rattle.std.specs.Prelude.{◌==◌}
+use Rattle.bilv_spec.specs.Refutation.{first_refusal, known_at_start}
+use Rattle.cnf_form.specs.Views.{line_of}
+use Rattle.sat_core.proofs.Logs.{searched-start, searched-step, searched-end, searched-spent, line-pushed}
+use Rattle.sat_core.proofs.search.solve.Goals as goal
+use Rattle.sat_core.proofs.search.solve.Goals.{else-not-is_last-via-then-not-is_last+else-len-conflicts, else-not-is_last-via-else-not-is_last}
+
+pub loop-lines-init : goal.loop-lines-init
+loop-lines-init c = record {
+  searched = searched-start c.args.cnf.now.variables c.args.cnf.now.clauses.items c.in_ok-clauses.clauses.items (map line_of c.new-lines.result.items) c.requires.over
+      (c.in_ok-clauses.ensures ∙ c.deref.ensures.value) (ap (map line_of) c.new-lines.ensures.items);
+  few = (let a = c.new-lines.ensures.len in omega arith);
+}
+
+pub returns-in-Model : goal.returns-in-Model
+returns-in-Model c =
+    let r = rw (c.in-Model.is, c.deref-in-loop-lines.ensures.value) at c.in_ok-list.ensures in
+    (r.0, λ x k. r.1 x (c.loop-lines.invariant.searched.more x k))
+
+pub returns-then-len-conflicts : goal.returns-then-len-conflicts
+returns-then-len-conflicts c = (
+  searched-spent c.args.cnf.now.variables c.args.cnf.now.clauses.items c.loop-lines.clauses.items (map line_of c.loop-lines.lines.items) c.loop-lines.invariant.searched,
+  length-map c.loop-lines.lines.items line_of ∙ sym c.loop-lines.lines.ok.0 ∙ sym c.len.ensures ∙ c.if-len-conflicts.true,
+)
+
+pub returns-then-is_last : goal.returns-then-is_last
+returns-then-is_last c =
+    let cs = c.loop-lines.clauses.items in
+    let n = c.args.cnf.now.variables in
+    let first = c.args.cnf.now.clauses.items in
+    let lines = map line_of c.loop-lines.lines.items in
+    let lits = c.in-Clause.learned.lits.items in
+    let hints = c.in-Clause.learned.hints in
+    let h = rw (c.in-Clause.is, c.deref-in-loop-lines.ensures.value) at c.in_ok-list.ensures in
+    let few : n ≤ 2 ^ 62 = c.if-cnf-gt-GREATEST_NUMBER.false in
+    let id : c.len-in-loop-lines.result + 1 ≡ length cs + 1 = (let a = c.len-in-loop-lines.ensures in let b = c.loop-lines.clauses.ok.0 in omega arith) in
+    let small : length cs + 1 ≤ 2 ^ 62 = (let a : c.len-in-loop-lines.result + 1 ≤ 2 ^ 62 = c.if-id-gt-GREATEST_NUMBER.false in omega arith) in
+    let d : c.in_ok-clause.clause ≡ lits = c.in_ok-clause.ensures ∙ c.deref-in-loop-lines-2.ensures.value in
+    let p = line-pushed cs lits c.in_ok-clause.clause hints (c.len-in-loop-lines.result + 1) c.loop-lines.lines.items c.push.new.self.items c.in_ok-push.ensures.items id d in
+    let z : (length lits == 0) ≡ true = rw (← c.in-Clause.learned.lits.ok.0) (sym c.is_empty-is_last.ensures ∙ c.if-is_last.true) in
+    ap (first_refusal n (known_at_start first) 1) p ∙ searched-end n first cs lines c.loop-lines.invariant.searched lits hints.items h few small z
+
+pub loop-lines-preserved : goal.loop-lines-preserved
+loop-lines-preserved c =
+    let cs = c.loop-lines.clauses.items in
+    let n = c.args.cnf.now.variables in
+    let first = c.args.cnf.now.clauses.items in
+    let lines = map line_of c.loop-lines.lines.items in
+    let lits = c.in-Clause.learned.lits.items in
+    let hints = c.in-Clause.learned.hints in
+    let h = rw (c.in-Clause.is, c.deref-in-loop-lines.ensures.value) at c.in_ok-list.ensures in
+    let few : n ≤ 2 ^ 62 = c.if-cnf-gt-GREATEST_NUMBER.false in
+    let id : c.len-in-loop-lines.result + 1 ≡ length cs + 1 = (let a = c.len-in-loop-lines.ensures in let b = c.loop-lines.clauses.ok.0 in omega arith) in
+    let small : length cs + 1 ≤ 2 ^ 62 = (let a : c.len-in-loop-lines.result + 1 ≤ 2 ^ 62 = c.if-id-gt-GREATEST_NUMBER.false in omega arith) in
+    let d : c.in_ok-clause.clause ≡ lits = c.in_ok-clause.ensures ∙ c.deref-in-loop-lines-2.ensures.value in
+    let p = line-pushed cs lits c.in_ok-clause.clause hints (c.len-in-loop-lines.result + 1) c.loop-lines.lines.items c.push.new.self.items c.in_ok-push.ensures.items id d in
+    let z : (length lits == 0) ≡ false = rw (← c.in-Clause.learned.lits.ok.0) (sym c.is_empty-is_last.ensures ∙ c.if-is_last.false) in
+    let e : c.in_ok-from_slice.field-0 ≡ lits = c.in_ok-from_slice.ensures ∙ c.deref-in-loop-lines-3.ensures.value in
+    let inv = c.loop-lines.invariant in
+    let more = c.in_ok-push.ensures.len in
+    record {
+      searched = rw (c.in_ok-push-2.ensures.items, e, p) (searched-step n first cs lines inv.searched lits hints.items h few small z);
+      few = elim c.else-not-is_last.branch [
+        | else-not-is_last-via-then-not-is_last+else-len-conflicts w ↦ omega (arith, more, inv.few, w.len.ensures, w.if-len-conflicts.false)
+        | else-not-is_last-via-else-not-is_last w ↦ absurd (both_ways c.is_empty-is_last.result c.if-is_last.false w.if-not-is_last.false)
+      ];
+    }

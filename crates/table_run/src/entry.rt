@@ -1,0 +1,112 @@
+//! Whether a state may be the one at entry.
+ghost use Rattle.std.specs.Prelude.{◌≡◌, ℕ, ◌≤◌, ◌+◌, ◌%◌, ◌^◌, MatchOption, IfErr, OnOk, None};
+ghost use Rattle.bilv_spec.specs.State.{IsState};
+ghost use Rattle.bilv_spec.specs.Files.{machine_of, program_of as program_of_files};
+ghost use Rattle.bilv_spec.specs.Verdict.{IsEntryState};
+ghost use Rattle.bilv_spec.specs.EntryFaults.{IsEntryStateFault, false_require};
+ghost use Rattle.notes_lang.specs.Drafting.{notes_of};
+ghost use Rattle.table_run.specs.Programs.{program_of, AreReadable};
+ghost use Rattle.table_run.specs.Endings.{fault_of, IsLinesFault};
+ghost use Rattle.table_run.specs.Known.{HasBytesTo, IsFirstOther, IsRightTo, IsFirstWrong};
+
+use crate::ending::EntryFault;
+use crate::known::{byte_in, first_known};
+use crate::lines::false_line;
+use crate::program::{Program, is_big};
+use crate::words::byte;
+use byte_mem::View;
+use elf32_reader::{Image, Part};
+use machine_law::Machine;
+use notes_lang::Notes;
+
+/// The first address of a part at which a state has another byte.
+fn first_other<V: View>(part: &Part, state: &V) -> Option<u32>
+    requires { part.now.first ≤ part.now.last }
+    ensures { MatchOption result (HasBytesTo (V.view state.now).mem part.now (part.now.last + 1)) (IsFirstOther (V.view state.now).mem part.now) }
+{
+    let mut at = part.first;
+    loop {
+        if byte(state, at) != byte_in(part, at) {
+            return Some(at);
+        }
+        if at == part.last {
+            return None;
+        }
+        at += 1;
+    }
+}
+
+/// The first known address at which a state has another byte than the file.
+fn first_wrong<M: Machine>(p: &Program, state: &M::State) -> Option<u32>
+    ensures { MatchOption result (IsRightTo (program_of M.machine p.now) (M.State.view state.now) (2 ^ 32)) (IsFirstWrong (program_of M.machine p.now) (M.State.view state.now)) }
+{
+    let mut at = 0u32;
+    loop {
+        let part = match first_known(p, at) {
+            None => return None,
+            Some(part) => part,
+        };
+        if let Some(wrong) = first_other(&part, state) {
+            return Some(wrong);
+        }
+        if part.last == u32::MAX {
+            return None;
+        }
+        at = part.last + 1;
+    }
+}
+
+/// The link register of a state is a multiple of 4, and each require line is true: for a state whose memory is known to agree with the file. It takes no memory.
+///
+/// # Errors
+///
+/// `Link`, else `Require` with the number of the first line that is false.
+pub fn lines_ok<M: Machine>(
+    image: &Image,
+    notes: &Notes,
+    state: &M::State,
+) -> Result<(), EntryFault>
+    requires machine { machine_of image.now ≡ M.machine }
+    requires readable { AreReadable M.machine.has_register (notes_of notes.now) }
+    ensures link { OnOk result ((M.State.view state.now).regs M.machine.link % 4 ≡ 0) }
+    ensures lines { OnOk result (false_require (program_of_files image.now (notes_of notes.now) (M.State.view state.now).pc) (M.State.view state.now) ≡ None) }
+    ensures fault { IfErr result (λ f. IsEntryStateFault (program_of_files image.now (notes_of notes.now) (M.State.view state.now).pc) (M.State.view state.now) (fault_of f)) }
+    ensures kind { IfErr result IsLinesFault }
+{
+    if state.link() % 4 != 0 {
+        return Err(EntryFault::Link);
+    }
+    match false_line(&notes.required, state, state, is_big(image)) {
+        None => Ok(()),
+        Some(line) => Err(EntryFault::Require { line }),
+    }
+}
+
+/// The state may be the one at entry, the function's address being its own: its link register is a multiple of 4, each require line is true, and its memory agrees
+/// with the file on the bytes that are kept or fixed. It takes no memory; its time is that of the loaded bytes that are kept or fixed.
+///
+/// # Errors
+///
+/// The first fault in the order of [`EntryFault`].
+pub fn entry_ok<M: Machine>(
+    image: &Image,
+    notes: &Notes,
+    state: &M::State,
+) -> Result<(), EntryFault>
+    requires machine { machine_of image.now ≡ M.machine }
+    requires readable { AreReadable M.machine.has_register (notes_of notes.now) }
+    ensures ok { OnOk result (IsState (M.State.view state.now) → IsEntryState (program_of_files image.now (notes_of notes.now) (M.State.view state.now).pc) (M.State.view state.now)) }
+    ensures fault { IfErr result (λ f. IsEntryStateFault (program_of_files image.now (notes_of notes.now) (M.State.view state.now).pc) (M.State.view state.now) (fault_of f)) }
+{
+    lines_ok::<M>(image, notes, state)?;
+    let p = Program {
+        image,
+        notes,
+        big: is_big(image),
+        function: state.pc(),
+    };
+    match first_wrong::<M>(&p, state) {
+        None => Ok(()),
+        Some(at) => Err(EntryFault::Byte { at }),
+    }
+}

@@ -1,0 +1,109 @@
+//! The addresses whose byte the file gives: those that are kept, and those of fixed ranges.
+ghost use Rattle.std.specs.Prelude.{◌≡◌, ℕ, ◌≤◌, ◌<◌, ◌⊎◌, ◌-◌, ◌^◌, false, MatchOption, map, true, length, slice_index};
+ghost use Rattle.bilv_spec.specs.Verdict.{fixed};
+ghost use Rattle.notes_lang.specs.Drafting.{fixed_of};
+ghost use Rattle.table_run.specs.Known.{is_known, IsFirstKnown};
+
+use crate::program::Program;
+use elf32_reader::Part;
+use notes_lang::FixedRange;
+
+/// What ranges say of an address and those behind it, as far as they were read: whether one holds it, the last address up to which that range goes, and the last
+/// one up to which no range begins.
+#[derive(Clone, Copy)]
+struct Reach {
+    inside: bool,
+    high: u32,
+    free: u32,
+}
+
+/// One more range, for the address `a`.
+fn with_range(s: Reach, range: FixedRange, a: u32) -> Reach
+    requires high { a ≤ s.high }
+    requires free { a ≤ s.free }
+    ensures high { a ≤ result.high }
+    ensures free { a ≤ result.free }
+    ensures less { result.free ≤ s.free }
+    ensures outside { a < range.low → result.free < range.low }
+    ensures kept { s.inside ≡ true → result.inside ≡ true }
+    ensures passed { range.low ≤ a → a ≤ range.high → result.inside ≡ true }
+    ensures inside { result.inside ≡ true → ((range.low ≤ a) × (result.high ≤ range.high)) ⊎ ((s.inside ≡ true) × (result.high ≡ s.high)) }
+{
+    if range.low > a {
+        if range.low <= s.free {
+            return Reach {
+                free: range.low - 1,
+                ..s
+            };
+        }
+        return s;
+    }
+    if range.high < a {
+        return s;
+    }
+    if s.inside && range.high <= s.high {
+        return s;
+    }
+    Reach {
+        inside: true,
+        high: range.high,
+        free: s.free,
+    }
+}
+
+/// Whether an address lies in a fixed range, and a last address up to which all from it on do as it does.
+fn stretch(ranges: &[FixedRange], a: u32) -> (bool, u32)
+    ensures last { a ≤ result.1 }
+    ensures same { (x : ℕ) → a ≤ x → x ≤ result.1 → fixed (map fixed_of ranges.now) x ≡ result.0 }
+{
+    let mut s = Reach {
+        inside: false,
+        high: a,
+        free: u32::MAX,
+    };
+    for range in ranges {
+        s = with_range(s, *range, a);
+    }
+    if s.inside {
+        (true, s.high)
+    } else {
+        (false, s.free)
+    }
+}
+
+/// The first known addresses from one on that stand together, with their bytes.
+pub(crate) fn first_known<'a>(p: &Program<'_, 'a>, a: u32) -> Option<Part<'a>>
+    ensures { MatchOption result ((x : ℕ) → a ≤ x → x < 2 ^ 32 → is_known p.now.image.now (map fixed_of p.now.notes.now.fixed.items) x ≡ false) (IsFirstKnown p.now.image.now (map fixed_of p.now.notes.now.fixed.items) a) }
+{
+    let mut at = a;
+    loop {
+        let part = match p.image.part_from(at) {
+            None => return None,
+            Some(part) => part,
+        };
+        if part.kept {
+            return Some(part);
+        }
+        let (inside, end) = stretch(&p.notes.fixed, part.first);
+        let last = u32::min(end, part.last);
+        if inside {
+            return Some(Part { last, ..part });
+        }
+        if last == u32::MAX {
+            return None;
+        }
+        at = last + 1;
+    }
+}
+
+/// The byte that a part has at one of its addresses.
+pub(crate) fn byte_in(part: &Part, a: u32) -> u8
+    requires { part.now.first ≤ a }
+    ensures { result ≡ slice_index part.now.bytes.now (a - part.now.first) }
+{
+    let place = (a - part.first) as usize;
+    if place < part.bytes.len() {
+        return part.bytes[place];
+    }
+    0
+}
