@@ -1,5 +1,6 @@
 -- Budgets, reports with their evidence, the texts of reports, and answers.
 use Rattle.std.specs.Prelude.{ℕ, ◌≡◌, ◌≤◌, ◌<◌, ◌+◌, ◌^◌, List, [], ◌∷◌, Option, Some, None, codes, if◌then◌else◌}
+use Rattle.bilv_spec.specs.Words.{word}
 use Rattle.bilv_spec.specs.Run.{Program, Start, Event, Run, Failed, Turned, run}
 use Rattle.bilv_spec.specs.Verdict.{Holds, Vacuous, Fails, Unroll, IsRight, IsEntryState, IsStart}
 use Rattle.bilv_spec.specs.Points.{HasMore, IsPrice, is_known_at, byte_of_cell}
@@ -57,9 +58,9 @@ pub record IsWithin (p : Program) (b : Budget) : Type 0 where
 abbrev pub known_byte : Program → ℕ → Option ℕ
 known_byte p a = if is_known_at p a then Some (byte_of_cell (p.loaded a)) else None
 
--- the start that is written
+-- The start that is written. A machine's memory wraps its addresses, so the byte that the file gives is that of the wrapped one.
 abbrev pub start_in : Program → Layout → Written → Start
-start_in p layout w = start_of layout p.entry (known_byte p) w
+start_in p layout w = start_of layout p.entry (λ a. known_byte p (word 32 a)) w
 
 -- its run ends like this
 abbrev pub EndsAs : Program → ℕ → Start → Run → Type 0
