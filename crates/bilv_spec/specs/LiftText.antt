@@ -47,11 +47,15 @@ IsWordText file a None text = text ≡ line (word_words file a ++ codes " none")
 IsWordText file a (Some row) text =
     (list : Statements) × IsLifting (machine_of file) (bank_by (is_rv file)) row a list × (text ≡ line (word_words file a) ++ list_text 1 list)
 
--- the text of all words, by rising addresses
-pub record IsLiftText (file text : List ℕ) : Type 0 where
+-- the text of all words, by rising addresses, for the rows of a table
+pub record IsLiftTextBy (row : ℕ → Option Row) (file text : List ℕ) : Type 0 where
   pub words : List ℕ
   pub texts : ℕ → List ℕ
   pub all : (a : ℕ) → Contains words a ↔ ((a < 2 ^ 32) × (is_word_at file a ≡ true))
   pub rising : (i j : ℕ) → i < j → j < length words → slice_index words i < slice_index words j
-  pub each : (a : ℕ) → Contains words a → IsWordText file a ((machine_of file).row (word_in file a)) (texts a)
+  pub each : (a : ℕ) → Contains words a → IsWordText file a (row (word_in file a)) (texts a)
   pub text_is : text ≡ flat_map texts words
+
+-- the text by the file's machine
+abbrev pub IsLiftText : List ℕ → List ℕ → Type 0
+IsLiftText file text = IsLiftTextBy (machine_of file).row file text
