@@ -7,8 +7,6 @@ mod faults;
 mod lists;
 mod operators;
 mod statements;
-#[cfg(test)]
-mod tests;
 
 pub use env::{Env, LocalWord, Machine};
 pub use faults::EvalFault;

@@ -1,7 +1,7 @@
 //! The text of lists of statements (A Formal Specification for BIL, in this project's profile): one statement a line, two blanks for each depth of blocks.
 #![tactic(auto)]
 
-ghost use Rattle.std.specs.Prelude.{◌≡◌, IfOk};
+ghost use Rattle.std.specs.Prelude.{◌≡◌, ◌++◌, string_bytes, IfOk, OnOk};
 ghost use Rattle.bilv_spec.specs.BilText as text;
 ghost use Rattle.bil_ast.specs.Views.{statements};
 
@@ -10,7 +10,7 @@ mod names;
 mod statements;
 
 use bil_ast::Stmt;
-use statements::append_list;
+use statements::{append_list, blanks_of};
 use std::alloc::{AllocError, Global};
 
 /// The text of a list of statements. The error is want of memory.
@@ -22,5 +22,16 @@ pub fn print_stmts(alloc: Global, list: &[Stmt]) -> Result<Vec<u8>, AllocError>
     Ok(out.into_bytes())
 }
 
-#[cfg(test)]
-mod tests;
+/// Appends the text of a list of statements at a depth, two blanks deep for each step. The error is want of memory, and leaves open what was appended.
+pub fn append_stmts(
+    alloc: Global,
+    out: &mut String,
+    list: &[Stmt],
+    depth: u32,
+) -> Result<(), AllocError>
+    ensures { OnOk result (string_bytes out.new ≡ string_bytes out.old ++ text.list_text depth (statements list.now)) }
+{
+    let blanks = blanks_of(alloc, depth)?;
+    append_list(list, out, alloc, &blanks)?;
+    Ok(())
+}

@@ -1,6 +1,6 @@
 //! Statements.
 
-ghost use Rattle.std.specs.Prelude.{◌≡◌, ℕ, ◌+◌, ◌++◌, codes, string_bytes, OnOk};
+ghost use Rattle.std.specs.Prelude.{◌≡◌, ℕ, ◌+◌, ◌++◌, codes, string_bytes, IfOk, OnOk};
 ghost use Rattle.bilv_spec.specs.Bil.{Statements};
 ghost use Rattle.bilv_spec.specs.BilText.{indent, line_at, list_text, text_of};
 ghost use Rattle.bil_ast.specs.Views.{expression, statement, statements};
@@ -9,6 +9,17 @@ use crate::expressions::append_expression;
 use crate::names::append_variable;
 use bil_ast::{Exp, Stmt};
 use std::alloc::{AllocError, Global};
+
+/// The blanks of a depth.
+pub fn blanks_of(alloc: Global, depth: u32) -> Result<String, AllocError>
+    ensures { IfOk result (λ blanks. string_bytes blanks ≡ indent depth) }
+{
+    let mut blanks = String::new(alloc);
+    for _ in 0..depth {
+        blanks.push_str("  ")?;
+    }
+    Ok(blanks)
+}
 
 /// Appends a line.
 fn append_line(out: &mut String, blanks: &str, text: &str) -> Result<(), AllocError>

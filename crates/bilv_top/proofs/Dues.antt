@@ -7,17 +7,20 @@ use Rattle.bilv_spec.specs.Notes.{Notes, Function, At, Named, Expr}
 use Rattle.bilv_spec.specs.NotesGrammar.{IsNotesText}
 use Rattle.bilv_spec.specs.NotesLaws.{KeepsReserved}
 use Rattle.bilv_spec.specs.ElfFaults.{IsImage, Finds}
-use Rattle.bilv_spec.specs.Files.{names_of, is_rv, program_of, IsFunctionAt, IsProgram}
+use Rattle.bilv_spec.specs.Files.{names_of, is_rv, layout_of, program_of, IsFunctionAt, IsProgram}
 use Rattle.bilv_spec.specs.RvNames.{rv_names}
 use Rattle.bilv_spec.specs.ArmNames.{arm_names}
 use Rattle.bilv_spec.specs.Refutation.{Cause}
-use Rattle.bilv_spec.specs.Replays.{IsChecked, large, refused, checked, check_status}
+use Rattle.bilv_spec.specs.Run.{Start}
+use Rattle.bilv_spec.specs.Reports.{NamedEnding, Found}
+use Rattle.bilv_spec.specs.StateText.{Layout, Told, StateIs, StateRefused}
+use Rattle.bilv_spec.specs.Replays.{IsChecked, large, refused, checked, check_status, ending_answer, require_answer, start_answer, told_answer, sized_answer, replay_answer}
 use Rattle.bilv_spec.specs.Answers.{Answer, Budget, plain_answer}
 use Rattle.bilv_spec.specs.Outcomes.{Surroundings, Command, Verify, Lift, Graph, Script, Replay, Certify, Check, SelfRun, read_fault, AfterRead, read_failed, was_read}
 use Rattle.bilv_spec.specs.Verified.{AfterImage, elf_refused, elf_accepted, AfterNotes, notes_refused, program_found}
 use Rattle.bilv_spec.proofs.NotesNames.{machines_keep_reserved}
 use Rattle.bilv_spec.proofs.NotesSaid.{one_reading}
-use Rattle.bilv_top.specs.Due.{IsDue, IsDueTo, IsVerifiedSoFar, holds, beyond, not_built}
+use Rattle.bilv_top.specs.Due.{IsDue, IsDueTo, IsVerifiedSoFar, holds, beyond, not_built, IsLiftedSoFar, IsReplayedSoFar, replayed, unbuilt}
 
 -- neither machine names anything by a reserved word
 chosen_keeps : (b : Bool) (w : List ℕ) → (rv_names w ≡ None) → (arm_names w ≡ None) → (if b then rv_names w else arm_names w) ≡ None
@@ -69,9 +72,40 @@ so_far : (file text : List ℕ) (b : Budget) (p : Program) (a : Answer) → IsVe
 so_far file text b p a (holds x y z is) = plain_at a 0 _ is (plain_number 0 (omega arith))
 so_far file text b p a (beyond x is) = plain_not_built a is
 
-after_notes : (file text : List ℕ) (b : Budget) (a : Answer) → AfterNotes file text (IsVerifiedSoFar file text b) a → IsPlain a.status
-after_notes file text b a (notes_refused written x is) = plain_at a 5 written is (plain_number 5 (omega arith))
-after_notes file text b a (program_found p x next) = so_far file text b p a next
+after_notes : (file text : List ℕ) (Next : Program → Answer → Type 0) (a : Answer) → ((p : Program) → Next p a → IsPlain a.status) → AfterNotes file text Next a →
+    IsPlain a.status
+after_notes file text Next a step (notes_refused written x is) = plain_at a 5 written is (plain_number 5 (omega arith))
+after_notes file text Next a step (program_found p x next) = step p next
+
+plain_nine : IsPlain 9
+plain_nine = (λ e. omega (arith, e), λ e. omega (arith, e))
+
+-- the statuses of a replay
+plain_ending : (b : Bool) (n : NamedEnding) (f : Found) → IsPlain (ending_answer b n f).status
+plain_ending true n f = plain_number 0 (omega arith)
+plain_ending false n f = plain_nine
+
+plain_required : (o : Option ℕ) (n : NamedEnding) (f : Found) → IsPlain (require_answer o n f).status
+plain_required None n f = plain_ending _ n f
+plain_required (Some line) n f = plain_nine
+
+plain_started : (b : Bool) (p : Program) (n : NamedEnding) (start : Start) → IsPlain (start_answer b p n start).status
+plain_started true p n start = plain_required _ n _
+plain_started false p n start = plain_nine
+
+plain_told : (p : Program) (layout : Layout) (t : Told) → IsPlain (told_answer p layout t).status
+plain_told p layout (StateIs t) = plain_started _ p t.named _
+plain_told p layout (StateRefused n f) = plain_nine
+
+plain_sized : (b : Bool) (p : Program) (layout : Layout) (text : List ℕ) → IsPlain (sized_answer b p layout text).status
+plain_sized true p layout text = plain_nine
+plain_sized false p layout text = plain_told p layout _
+
+replayed_so_far : (s : Surroundings) (report file : List ℕ) (p : Program) (a : Answer) → IsReplayedSoFar s report file p a → IsPlain a.status
+replayed_so_far s report file p a (replayed x due) =
+    after_read s report (λ text b. b ≡ replay_answer p (layout_of file) text) a
+    (λ text is. subst IsPlain (sym (ap (λ x. x.status) is)) (plain_sized _ p (layout_of file) text)) due
+replayed_so_far s report file p a (unbuilt x is) = plain_not_built a is
 
 after_image : (file : List ℕ) (Next : Answer → Type 0) (a : Answer) → (Next a → IsPlain a.status) → AfterImage file Next a → IsPlain a.status
 after_image file Next a step (elf_refused written x is) = plain_at a 4 written is (plain_number 4 (omega arith))
@@ -82,12 +116,18 @@ due_is_plain s None a is = plain_at a 2 _ is (plain_number 2 (omega arith))
 due_is_plain s (Some (Verify elf notes b)) a due =
     after_read s elf (λ file. AfterImage file (AfterRead s notes (λ text. AfterNotes file text (IsVerifiedSoFar file text b)))) a
     (λ file. after_image file (AfterRead s notes (λ text. AfterNotes file text (IsVerifiedSoFar file text b))) a
-    (after_read s notes (λ text. AfterNotes file text (IsVerifiedSoFar file text b)) a (λ text. after_notes file text b a))) due
+    (after_read s notes (λ text. AfterNotes file text (IsVerifiedSoFar file text b)) a (λ text. after_notes file text (IsVerifiedSoFar file text b) a (λ p. so_far file text b p a)))) due
 due_is_plain s (Some (Check name)) a due =
     after_read s name _ a (λ text p. plain_checked text a.text a.status p.0) due
-due_is_plain s (Some (Lift elf)) a is = plain_not_built a is
+due_is_plain s (Some (Lift elf)) a due =
+    after_read s elf (λ file. AfterImage file (IsLiftedSoFar file)) a
+    (λ file. after_image file (IsLiftedSoFar file) a (λ is. plain_at a 0 is.0 is.2 (plain_number 0 (omega arith)))) due
 due_is_plain s (Some (Graph elf notes)) a is = plain_not_built a is
 due_is_plain s (Some (Script elf notes q b)) a is = plain_not_built a is
-due_is_plain s (Some (Replay elf notes state)) a is = plain_not_built a is
+due_is_plain s (Some (Replay elf notes report)) a due =
+    after_read s elf (λ file. AfterImage file (AfterRead s notes (λ text. AfterNotes file text (λ p. IsReplayedSoFar s report file p)))) a
+    (λ file. after_image file (AfterRead s notes (λ text. AfterNotes file text (λ p. IsReplayedSoFar s report file p))) a
+    (after_read s notes (λ text. AfterNotes file text (λ p. IsReplayedSoFar s report file p)) a
+    (λ text. after_notes file text (λ p. IsReplayedSoFar s report file p) a (λ p. replayed_so_far s report file p a)))) due
 due_is_plain s (Some (Certify elf notes q b)) a is = plain_not_built a is
 due_is_plain s (Some (SelfRun seed count)) a is = plain_not_built a is

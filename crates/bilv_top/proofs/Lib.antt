@@ -11,5 +11,8 @@ pub mod Accepted
 pub mod Judged
 pub mod Checked
 pub mod Dues
+pub mod Refused
+pub mod Reported
+pub mod Lifts
 pub mod Verifies
 pub mod Cut

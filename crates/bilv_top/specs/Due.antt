@@ -1,12 +1,21 @@
 -- What the program answers, as far as it is built: each command's right answer, or that it is not built.
-use Rattle.std.specs.Prelude.{ℕ, ◌≡◌, ◌<◌, List, Option, Some, None, codes, length, take}
+use Rattle.std.specs.Prelude.{ℕ, ◌≡◌, ◌<◌, ◌≤◌, Bool, true, false, List, Option, Some, None, codes, length, take}
 use Rattle.bilv_spec.specs.Outside.{Held, Agrees, IsLonger, Rose, Appends}
+use Rattle.bilv_spec.specs.Machine.{Row}
+use Rattle.bilv_spec.specs.Rv.{rv32}
 use Rattle.bilv_spec.specs.Run.{Program}
 use Rattle.bilv_spec.specs.Verdict.{IsRight, Holds}
+use Rattle.bilv_spec.specs.Files.{is_rv, machine_of, names_of, layout_of, IsFunctionAt}
+use Rattle.bilv_spec.specs.NotesGrammar.{IsNotesText}
+use Rattle.bilv_spec.specs.LiftText.{IsLiftTextBy}
+use Rattle.bilv_spec.specs.Replays.{replay_answer}
 use Rattle.bilv_spec.specs.Answers.{Budget, default_budget, Answer, plain_answer}
-use Rattle.bilv_spec.specs.Outcomes.{Surroundings, Command, Verify, Check, read_fault, AfterRead, AfterElf, IsRightAnswer}
-use Rattle.bilv_spec.specs.Verified.{AfterNotes, usage_text}
+use Rattle.bilv_spec.specs.Outcomes.{Surroundings, Command, Verify, Lift, Replay, Check, read_fault, AfterRead, AfterElf, AfterBoth, IsRightAnswer}
+use Rattle.bilv_spec.specs.Verified.{AfterNotes, AreNotesRefused, notes_limit, usage_text}
 use Rattle.bilv_spec.specs.Texts.{line}
+use Rattle.notes_lang.specs.Drafting.{notes_of}
+use Rattle.notes_value.specs.Reads.{AreReadable}
+use Rattle.bilv_top.specs.declared.inputs.Found.{Found}
 use Rattle.bilv_top.specs.FirstForm.{IsFirst}
 
 -- the answer to what is not built
@@ -19,9 +28,25 @@ pub data IsVerifiedSoFar (file text : List ℕ) (b : Budget) (p : Program) (a : 
   holds : b ≡ default_budget → IsFirst file text → IsRight p b.unroll Holds → a ≡ plain_answer 0 (line (codes "holds")) → IsVerifiedSoFar file text b p a
   beyond : (b ≡ default_budget → IsFirst file text → ¬ IsRight p b.unroll Holds) → a ≡ not_built → IsVerifiedSoFar file text b p a
 
+-- the rows that are built: those of RV32IM
+abbrev pub rows_by : (of_rv : Bool) → ℕ → Option Row
+rows_by true w = rv32.row w
+rows_by false w = None
+
+-- the answer that prints the lifted words of an accepted file, by the rows that are built
+abbrev pub IsLiftedSoFar : List ℕ → Answer → Type 0
+IsLiftedSoFar file a = (written : List ℕ) × IsLiftTextBy (rows_by (is_rv file)) file written × (a ≡ plain_answer 0 written)
+
+-- The answer to a report over a program: the right one where the file is of RISC-V. For ARM it isn't built, and the report isn't read.
+pub data IsReplayedSoFar (s : Surroundings) (report file : List ℕ) (p : Program) (a : Answer) : Type 0 where
+  replayed : is_rv file ≡ true → AfterRead s report (λ text b. b ≡ replay_answer p (layout_of file) text) a → IsReplayedSoFar s report file p a
+  unbuilt : is_rv file ≡ false → a ≡ not_built → IsReplayedSoFar s report file p a
+
 -- the answer that is due to a command
 abbrev pub IsDueTo : Surroundings → Command → Answer → Type 0
 IsDueTo s (Verify elf notes b) a = AfterElf s elf (λ file. AfterRead s notes (λ text. AfterNotes file text (IsVerifiedSoFar file text b))) a
+IsDueTo s (Lift elf) a = AfterElf s elf IsLiftedSoFar a
+IsDueTo s (Replay elf notes report) a = AfterBoth s elf notes (λ file p. IsReplayedSoFar s report file p) a
 IsDueTo s (Check certificate) a = IsRightAnswer s (Check certificate) a
 IsDueTo s other a = a ≡ not_built
 
@@ -49,3 +74,18 @@ pub record IsCut (s : Surroundings) (c : Option Command) (before after : Option 
 pub data IsUnread (held : Held) (before after limit : ℕ) (large : Answer) (a : Answer) : Type 0 where
   failed : Rose before after → a ≡ read_fault → IsUnread held before after limit large a
   longer : IsLonger held limit → a ≡ large → IsUnread held before after limit large a
+
+-- notes are refused over an accepted file, with this answer
+abbrev pub AreNotesAnswered : (file text : List ℕ) → Answer → Type 0
+AreNotesAnswered file text a = (written : List ℕ) × AreNotesRefused file text written × (a ≡ plain_answer 5 written)
+
+-- the answer where no program is found over an accepted file: the notes of a name were not read, or are refused
+pub data IsNotesAnswer (held : Held) (before after : ℕ) (file : List ℕ) (a : Answer) : Type 0 where
+  unread : IsUnread held before after notes_limit (plain_answer 5 (line (codes "notes: TooLarge"))) a → IsNotesAnswer held before after file a
+  refused : (text : List ℕ) → Agrees held text → AreNotesAnswered file text a → IsNotesAnswer held before after file a
+
+-- what was found over a file: the notes that the text says, the address of their function, and that the machine has the registers that they name
+pub record IsFoundBy (file : List ℕ) (f : Found) : Type 0 where
+  pub says : IsNotesText (names_of file) f.text.items (notes_of f.notes)
+  pub at : IsFunctionAt file (notes_of f.notes).entry f.entry
+  pub readable : AreReadable (machine_of file).has_register (notes_of f.notes)

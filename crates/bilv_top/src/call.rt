@@ -8,7 +8,9 @@ ghost use Rattle.bilv_top.specs.Due.{IsCut, IsDue, IsDueTo, IsWhole};
 
 use crate::answer::Answer;
 use crate::certificate::check_certificate;
+use crate::lift::lift;
 use crate::reading::answer;
+use crate::replay::replay;
 use crate::verify::verify;
 use command_line::{Command, LineError, read_command};
 use io_edges::{Shelf, Sink, write_all};
@@ -23,8 +25,8 @@ pub enum Evidence {
 
 /// The answer of the program: its exit status, and what shows that it is right.
 ///
-/// The exit status is 0 for the verdict `holds` and for a certificate that is accepted, 2 for an unlawful line, 4 for a refused ELF file, 5 for refused notes,
-/// 6 for a file that could not be read, 7 for a write that failed, 8 for want of memory, 9 for a certificate that is not accepted, and 10 for what is not built.
+/// The exit status is 0 for the verdict `holds`, for lifted words, for a report that was replayed and for a certificate that is accepted, 2 for an unlawful line, 4 for a refused ELF file, 5 for refused notes,
+/// 6 for a file that could not be read, 7 for a write that failed, 8 for want of memory, 9 for a report that is not what its replay finds and for a certificate that is not accepted, and 10 for what is not built.
 #[derive(Clone, Copy, Debug, PartialEq, Eq)]
 pub struct Outcome {
     pub status: u8,
@@ -37,6 +39,8 @@ fn obey<H: Shelf>(alloc: Global, command: Command, shelf: &mut H) -> Result<Answ
 {
     match command {
         Command::Verify { elf, notes, budget } => verify(alloc, shelf, elf, notes, budget),
+        Command::Lift { elf } => lift(alloc, shelf, elf),
+        Command::Replay { elf, notes, state } => replay(alloc, shelf, elf, notes, state),
         Command::Check { certificate } => check_certificate(alloc, shelf, certificate),
         _ => answer(alloc, 10, b"not built\n"),
     }

@@ -5,14 +5,14 @@ mod answer;
 mod call;
 mod certificate;
 mod first_notes;
+mod inputs;
 mod judge;
+mod lift;
 mod line;
 mod reading;
+mod replay;
 mod row_file;
 mod texts;
 mod verify;
 
 pub use call::{Evidence, Outcome, bilv};
-
-#[cfg(test)]
-mod tests;

@@ -3,9 +3,6 @@
 //! A set of clauses is read from and printed as DIMACS CNF, and a log of a proof has the lines of LRAT.
 #![tactic(auto)]
 
-#[cfg(test)]
-use std::alloc::{AllocError, Global};
-
 pub mod clause;
 pub mod fault;
 pub mod form;
@@ -17,8 +14,6 @@ pub mod number;
 pub mod print;
 pub mod range;
 mod read;
-#[cfg(test)]
-mod tests;
 pub mod words;
 
 pub use clause::Clause;

@@ -1,15 +1,16 @@
 -- The parts of the loaded addresses.
-use Rattle.std.proofs.Common.{◌≡◌, ℕ, zero, suc, ◌+◌, ◌-◌, ◌≤◌, ◌<◌, List, length, get_or, refl, ap, sym, subst, ◌∙◌, arith, true, Some}
+use Rattle.std.proofs.Common.{◌≡◌, ℕ, zero, suc, ◌+◌, ◌-◌, ◌≤◌, ◌<◌, List, length, get_or, refl, ap, sym, subst, ◌∙◌, ◌&&◌, nat_lt, arith, true, Some}
 use Rattle.std.specs.List.{AllWithin}
 use Rattle.std.proofs.lemmas.List.{get_or_default}
-use Rattle.bilv_spec.specs.Elf.{is_kept, byte_in}
+use Rattle.bilv_spec.specs.Elf.{is_kept, byte_in, flags_in, executable}
+use Rattle.bilv_spec.specs.LiftText.{is_given_by}
 use Rattle.elf32_reader.specs.declared.segments.ProgramHeader.{ProgramHeader}
 use Rattle.elf32_reader.specs.declared.parts.Part.{Part}
 use Rattle.elf32_reader.specs.Loads.{segment, has_addresses, IsApart, layers}
 use Rattle.elf32_reader.specs.Images.{IsTied}
 use Rattle.elf32_reader.specs.Portions.{IsFirstPart, IsPartOf}
 use Rattle.elf32_reader.proofs.Apart.{none_before, none_across, covers_in, has-kind}
-use Rattle.elf32_reader.proofs.Tied.{loaded_some, loaded_none}
+use Rattle.elf32_reader.proofs.Tied.{found_some, loaded_some, loaded_none}
 
 -- an address that no segment covers: those that begin at or before a end at or before it, and the others begin behind the address
 pub uncovered : (found : List ProgramHeader) (a x place : ℕ) → IsApart found → place ≤ length found → a ≤ x
@@ -40,13 +41,18 @@ first_part file found a first k h part tie within at behind low high is gap =
     let begins = is.first in
     let ends = is.last in
     let solid : has_addresses (segment h) ≡ true = subst (λ (y : ProgramHeader). has_addresses (segment y) ≡ true) at (tie.listed.solid k h within) in
-    let here = λ (x : ℕ) (l : part.first ≤ x) (m : x ≤ part.last).
-    loaded_some file found x k h tie within at (covers_in x (segment h) (has-kind (segment h) solid) (omega arith) (omega arith)) in
+    let over = λ (x : ℕ) (l : part.first ≤ x) (m : x ≤ part.last). covers_in x (segment h) (has-kind (segment h) solid) (omega arith) (omega arith) in
+    let here = λ (x : ℕ) (l : part.first ≤ x) (m : x ≤ part.last). loaded_some file found x k h tie within at (over x l m) in
     record {
       behind = omega arith;
       some = omega arith;
       gap = λ x l m. loaded_none file found x tie (gap x l (omega arith));
       kept = λ x l m. ap is_kept (here x l m) ∙ sym is.kept;
+      flags = λ x l m. ap flags_in (here x l m) ∙ sym is.flags;
+      given = λ x l m.
+          ap (is_given_by x) (found_some file found x k h tie within at (over x l m))
+          ∙ ap (λ b. executable h.flags && b) (is.given x (omega arith) ∙ ap (λ n. nat_lt (x - n) (length part.bytes.now)) (sym begins))
+          ∙ ap (λ n. executable n && nat_lt (x - part.first) (length part.bytes.now)) (sym is.flags);
       bytes = λ x l m.
           ap byte_in (here x l m)
           ∙ sym (ap Some (ap (λ n. get_or part.bytes.now (x - n) 0) begins ∙ is.bytes x (omega arith)));

@@ -2,7 +2,7 @@
 use Rattle.std.proofs.Common.{◌≡◌, ℕ, ◌+◌, ◌-◌, ◌*◌, ◌≤◌, ◌<◌, ◌^◌, ◌↔◌, List, length, get_or, map, ap, sym, ◌∙◌, subst, arith, inl, inr, Some, None, true, false, cond}
 use Rattle.std.proofs.lemmas.List.{length-map}
 use Rattle.std.proofs.Math.ListN.{get_or-map}
-use Rattle.std.specs.Prelude.{slice_get}
+use Rattle.std.specs.Prelude.{find, slice_get}
 use Rattle.std.specs.List.{count_by, filter, All, Contains}
 use Rattle.std.specs.List.Sorted.{IsNonDecreasingBy, IsPermutation}
 use Rattle.std.proofs.lemmas.Option.{slice_get-get_or, slice_get_within, get_or_from_slice_get}
@@ -129,15 +129,19 @@ no_overlap file found list apart o =
     omega arith
 
 -- what the file loads where a segment covers the address
-pub loaded_some : (file : List ℕ) (found : List ProgramHeader) (a k : ℕ) (h : ProgramHeader) → IsTied file found
-    → k < length found → get_or found k h ≡ h → covers a (segment h) ≡ true → loaded file a ≡ Some (cell file a (segment h))
-loaded_some file found a k h tie within at over =
+pub found_some : (file : List ℕ) (found : List ProgramHeader) (a k : ℕ) (h : ProgramHeader) → IsTied file found
+    → k < length found → get_or found k h ≡ h → covers a (segment h) ≡ true → find (covers a) (segments file) ≡ Some (segment h)
+found_some file found a k h tie within at over =
     let place : (i : ℕ) × (slice_get (segments file) i ≡ Some (segment h)) =
     subst (λ (x : ProgramHeader). (i : ℕ) × (slice_get (segments file) i ≡ Some (segment x))) at (tie.listed.members k h within) in
     let once = apart_once found a tie.apart in
     let same = tie.listed.layered a in
     let few : count_by (covers a) (segments file) ≤ 1 = omega arith in
-    ap (cell_in file a) (found_only (covers a) (segments file) place.0 (segment h) few place.1 over)
+    found_only (covers a) (segments file) place.0 (segment h) few place.1 over
+
+pub loaded_some : (file : List ℕ) (found : List ProgramHeader) (a k : ℕ) (h : ProgramHeader) → IsTied file found
+    → k < length found → get_or found k h ≡ h → covers a (segment h) ≡ true → loaded file a ≡ Some (cell file a (segment h))
+loaded_some file found a k h tie within at over = ap (cell_in file a) (found_some file found a k h tie within at over)
 
 pub loaded_none : (file : List ℕ) (found : List ProgramHeader) (a : ℕ) → IsTied file found → layers a found ≡ 0 → loaded file a ≡ None
 loaded_none file found a tie none =

@@ -17,6 +17,3 @@ pub use fault::ElfFault;
 pub use image::{Image, read_image};
 pub use parts::Part;
 pub use symbols::SymFault;
-
-#[cfg(test)]
-mod tests;

@@ -16,7 +16,10 @@ pub struct Part<'a> {
     pub last: u32,
     /// No run changes these bytes: they are executable, or not writable.
     pub kept: bool,
-    /// The bytes from the first address on that the file has; bytes behind them are 0, and those past the last address are no part.
+    /// The flags of the segment: X is 1, W is 2, R is 4.
+    pub flags: u32,
+    /// The bytes from the first address on that the file gives; bytes of the part behind them are 0. A part that ends early has more of them than addresses:
+    /// those past its last address do not belong to it.
     pub bytes: &'a [u8],
 }
 
@@ -39,6 +42,7 @@ fn part_of<'a>(file: &'a [u8], h: ProgramHeader, a: u32) -> Part<'a>
         first: a,
         last: h.address + (h.in_memory - 1),
         kept: is_kept(h.flags),
+        flags: h.flags,
         bytes: &file[from..end],
     }
 }

@@ -1,10 +1,15 @@
 -- What is told of an instruction, as the definitions have it.
-use Rattle.std.specs.Prelude.{ℕ, ◌≡◌, ◌<◌, ◌^◌, ◌==◌, List, length}
+use Rattle.std.specs.Prelude.{ℕ, ◌≡◌, ◌<◌, ◌^◌, ◌==◌, List, Option, Some, None, length}
+use Rattle.std.specs.Global.{Vec}
 use Rattle.bilv_spec.specs.Words.{bit_at}
 use Rattle.bilv_spec.specs.Memory.{memory_of}
 use Rattle.bilv_spec.specs.State.{State}
 use Rattle.bilv_spec.specs.Machine as table
+use Rattle.bilv_spec.specs.MachineLaws.{IsLifting}
+use Rattle.bilv_spec.specs.Bil.{Bank}
 use Rattle.bilv_spec.specs.StateText.{Layout, Written, register_at}
+use Rattle.bil_ast.specs.declared.statements.Stmt.{Stmt}
+use Rattle.bil_ast.specs.Views.{statements}
 use Rattle.machine_law.specs.declared.facts.Succ.{Succ}
 use Rattle.machine_law.specs.declared.facts.Cost.{Cost}
 use Rattle.machine_law.specs.declared.facts.FlagUse.{FlagUse}
@@ -32,3 +37,10 @@ pub record IsFit (form : Layout) (w : Written) : Type 0 where
 -- the state of a start at an address, with the memory of entries
 abbrev pub made : Layout → Written → (pc : ℕ) → List (ℕ × ℕ) → State
 made form w pc entries = record { pc = pc; regs = register_at form w.regs; flags = λ f. bit_at f w.flags; mem = memory_of entries }
+
+-- the list of a word by its row: one that does what the row does where it stands at an address, and none where there is no row
+abbrev pub IsLiftedWord : table.Machine → Bank → Option table.Row → (at : ℕ) → Option (Vec Stmt) → Type 0
+IsLiftedWord m bank None at None = Unit {0}
+IsLiftedWord m bank (Some row) at (Some v) = IsLifting m bank row at (statements v.items)
+IsLiftedWord m bank None at (Some v) = ⊥
+IsLiftedWord m bank (Some row) at None = ⊥

@@ -6,6 +6,7 @@
 ghost use Rattle.std.specs.Prelude.{◌≡◌, ◌≤◌, ◌<◌, ◌+◌, ◌^◌, ℕ, Some, length, option_map, IfOk, OnOk, OnErr};
 ghost use Rattle.bilv_spec.specs.Machine as table;
 ghost use Rattle.bilv_spec.specs.MachineLaws.{IsLawfulMachine, IsLifting};
+ghost use Rattle.bilv_spec.specs.State.{IsState};
 ghost use Rattle.bilv_spec.specs.Bil as bil;
 ghost use Rattle.bilv_spec.specs.StateText as texts;
 ghost use Rattle.bil_ast.specs.Views.{statements};
@@ -14,12 +15,14 @@ ghost use Rattle.state_text.specs.Starts.{layout_of, written_of};
 ghost use Rattle.machine_law.specs.Facts.{cost_of, successors_of, IsFlagUse, IsFit, made};
 
 mod facts;
+mod words;
 
 use bil_ast::Stmt;
 use byte_mem::{Bytes32, StepOut, View};
 pub use facts::{Cost, FlagUse, Succ};
 use state_text::{Layout, Start};
 use std::alloc::{AllocError, Global};
+pub use words::lift_word;
 
 /// A machine with a table of instructions.
 pub trait Machine {
@@ -109,6 +112,9 @@ pub trait Machine {
 
     /// Every row of the table is lawful.
     ghost lawful: { IsLawfulMachine machine };
+
+    /// The parts of every state are in range.
+    ghost states: { (s : Self.State) → IsState (Self.State.view s) };
 
     /// Every row has 4 bytes.
     ghost four_bytes: { (i : Self.Insn) → (row i).length ≡ 4 };

@@ -1,15 +1,19 @@
 -- What one more line adds to what was said.
-use Rattle.std.proofs.Common.{◌≡◌, ℕ, ◌+◌, refl, ap, sym, ◌∙◌, subst, arith, List, [], ◌∷◌, ◌++◌, Option, Some, None, zero, suc, Bool, true, false, ◌||◌, ◌==◌, IsTrue, ◌↔◌, Contains, length, map, append-nil}
+use Rattle.std.proofs.Common.{◌≡◌, ℕ, ◌+◌, refl, ap, sym, ◌∙◌, subst, arith, List, [], ◌∷◌, ◌++◌, Option, Some, None, zero, suc, Bool, true, false, if◌then◌else◌, ◌||◌, ◌==◌, IsTrue, ◌↔◌, Contains, length, map, append-nil}
 use Rattle.std.specs.List.{list_any}
+use Rattle.std.specs.Ordering.{is_eq, nat_cmp}
+use Rattle.std.specs.BTreeSet.{BTreeSet, contains}
 use Rattle.bilv_spec.specs.NotesFaults.{Repeats}
 use Rattle.notes_lang.specs.declared.notes.Targets.{Targets}
+use Rattle.std.proofs.lemmas.Bool.Decides.{nat_tests}
 use Rattle.std.proofs.lemmas.List.{map-append}
+use Rattle.std.proofs.lemmas.List.Folds.{list_any-append}
 use Rattle.bilv_spec.specs.Notes as notes
 use Rattle.bilv_spec.specs.NotesGrammar.{Says, EntryIs, RequireIs, EnsureIs, AssertIs, FixedIs, entries, requires_of, ensures_of, asserts_of, targets_of as targets_in, fixed_of as fixed_in}
 use Rattle.bilv_spec.proofs.NotesFirst.{entries_append, targets_append}
 use Rattle.notes_lang.specs.declared.drafts.Draft.{Draft}
 use Rattle.notes_lang.specs.declared.notes.Function.{Function}
-use Rattle.notes_lang.specs.Drafting.{HasTargets, IsDraft, place_list, note_line_of, assert_of, targets_of, fixed_of}
+use Rattle.notes_lang.specs.Drafting.{HasAddresses, HasTargets, IsDraft, place_list, note_line_of, assert_of, targets_of, fixed_of}
 
 requires_and : (n : ℕ) (xs : List Says) (y : Says) → requires_of n (xs ++ y ∷ []) ≡ requires_of n xs ++ requires_of (n + length xs) (y ∷ [])
 requires_and n [] y = ap (λ m. requires_of m (y ∷ [])) (let e : n ≡ n + 0 = omega arith in e)
@@ -52,15 +56,32 @@ numbered f s says line whole before after number is so_far then_is =
 pub grows : (says : List Says) (s : Says) (d e : Draft) (line : ℕ) → line ≡ length says + 1 → IsDraft says d → place_list e.entry ≡ place_list d.entry ++ entries (s ∷ []) →
     map note_line_of e.required.items ≡ map note_line_of d.required.items ++ requires_of line (s ∷ []) → map note_line_of e.ensured.items ≡ map note_line_of d.ensured.items ++ ensures_of line (s ∷ []) →
     map assert_of e.asserts.items ≡ map assert_of d.asserts.items ++ asserts_of line (s ∷ []) → map targets_of e.targets.items ≡ map targets_of d.targets.items ++ targets_in (s ∷ []) →
-    map fixed_of e.fixed.items ≡ map fixed_of d.fixed.items ++ fixed_in (s ∷ []) → IsDraft (says ++ s ∷ []) e
-grows says s d e line number p entry required ensured asserts targets fixed = record {
+    map fixed_of e.fixed.items ≡ map fixed_of d.fixed.items ++ fixed_in (s ∷ []) → HasAddresses e.targets.items e.addresses → IsDraft (says ++ s ∷ []) e
+grows says s d e line number p entry required ensured asserts targets fixed addresses = record {
   entry = entries_append says (s ∷ []) ∙ (ap (λ l. l ++ entries (s ∷ [])) p.entry ∙ sym entry);
   requires = numbered requires_of s says line _ (map note_line_of d.required.items) _ number (requires_and 1 says s) p.requires required;
   ensures = numbered ensures_of s says line _ (map note_line_of d.ensured.items) _ number (ensures_and 1 says s) p.ensures ensured;
   asserts = numbered asserts_of s says line _ (map assert_of d.asserts.items) _ number (asserts_and 1 says s) p.asserts asserts;
   targets = targets_append says (s ∷ []) ∙ (ap (λ l. l ++ targets_in (s ∷ [])) p.targets ∙ sym targets);
   fixed = fixed_and says s ∙ (ap (λ l. l ++ fixed_in (s ∷ [])) p.fixed ∙ sym fixed);
+  addresses = addresses;
 }
+
+-- one more address
+at_either : (b c : Bool) → (if b then true else c) ≡ (c || (b || false))
+at_either true true = refl
+at_either true false = refl
+at_either false true = refl
+at_either false false = refl
+
+same_address : (a q : ℕ) → is_eq (nat_cmp a q) ≡ (a == q)
+same_address a q = grind (arith, nat_tests)
+
+pub one_more : (old new : BTreeSet ℕ) (xs ys : List Targets) (t : Targets) (a : ℕ) → a ≡ t.at → ys ≡ xs ++ t ∷ [] → ((q : ℕ) → contains nat_cmp new q ≡ (if is_eq (nat_cmp a q) then true else contains nat_cmp old q)) →
+    HasAddresses xs old → HasAddresses ys new
+one_more old new xs ys t a is more updates has q =
+    updates q ∙ (ap (λ b. if is_eq (nat_cmp a q) then true else b) (has q) ∙ (ap (λ b. if b then true else list_any (λ t. t.at == q) xs) (same_address a q ∙ ap (λ a. a == q) is)
+    ∙ (at_either (t.at == q) (list_any (λ t. t.at == q) xs) ∙ (sym (list_any-append (λ t. t.at == q) xs (t ∷ [])) ∙ ap (list_any (λ t. t.at == q)) (sym more)))))
 
 -- no place so far
 place_by : (says : List Says) (o : Option Function) → entries says ≡ place_list o → ((entries says ≡ [] → ⊥) → ⊥) → place_list o ≡ []

@@ -8,9 +8,9 @@ use Rattle.bilv_spec.specs.NotesLaws.{KeepsReserved}
 use Rattle.bilv_spec.proofs.Decided.{Decided, is_less, neither}
 use Rattle.bilv_spec.proofs.NotesFirst.{of_rank, ranked, said_by_any}
 use Rattle.bilv_spec.proofs.NotesSaid.{one_saying}
-use Rattle.state_text.specs.declared.lexer.Token as code
-use Rattle.state_text.specs.declared.lexer.Token.TheVariants.{Number, TooLarge, Name, Sign, BadByte as ABadByte, BadText as ABadText}
-use Rattle.state_text.specs.Tokens.{capped, token_of}
+use Rattle.line_tokens.specs.declared.lexer.Token as code
+use Rattle.line_tokens.specs.declared.lexer.Token.TheVariants.{Number, TooLarge, Name, Sign, BadByte as ABadByte, BadText as ABadText}
+use Rattle.line_tokens.specs.Tokens.{capped, token_of}
 use Rattle.notes_lang.specs.Judging.{is_bad_byte, is_bad_text, is_large, fault_of, IsTokenFault, IsRefusal, IsLeast}
 use Rattle.notes_lang.specs.declared.faults.FaultKind.{FaultKind}
 use Rattle.notes_lang.specs.declared.faults.FaultKind.TheVariants as kind

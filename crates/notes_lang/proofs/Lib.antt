@@ -8,3 +8,4 @@ pub mod Judged
 pub mod Growing
 pub mod SoFar
 pub mod Finished
+pub mod Readable

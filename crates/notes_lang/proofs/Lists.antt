@@ -1,9 +1,9 @@
 -- Tokens that are numbers.
 use Rattle.std.proofs.Common.{◌≡◌, ℕ, zero, suc, ◌<◌, refl, arith, List, [], ◌∷◌, map, length, get_or}
 use Rattle.bilv_spec.specs.NotesGrammar.{Token}
-use Rattle.state_text.specs.declared.lexer.Token as code
-use Rattle.state_text.specs.declared.lexer.Token.TheVariants.{Number, TooLarge, Name, Sign, BadByte, BadText}
-use Rattle.state_text.specs.Tokens.{token_of}
+use Rattle.line_tokens.specs.declared.lexer.Token as code
+use Rattle.line_tokens.specs.declared.lexer.Token.TheVariants.{Number, TooLarge, Name, Sign, BadByte, BadText}
+use Rattle.line_tokens.specs.Tokens.{token_of}
 use Rattle.notes_lang.specs.Reading.{AreGood, tokens_view}
 use Rattle.notes_lang.specs.Saying.{number_token}
 

@@ -4,12 +4,12 @@ use Rattle.bilv_spec.specs.Notes.{Op, Expr, Memory, Old, Binary}
 use Rattle.bilv_spec.specs.NotesGrammar.{Token, NameToken, SignToken}
 use Rattle.bilv_spec.proofs.NotesTables.{is_false, same_token, size_of}
 use Rattle.bilv_spec.proofs.NotesParser.{Level, Behind, Read, Fails, Reads, then_read, opened_if, opened, word_at, atom_at, negated_at, Sort, Negation, Tightest, Chains, NoLevel, sort, level_at, again, behind_by, work, Ends, by_step}
-use Rattle.state_text.specs.declared.lexer.Token as code
-use Rattle.state_text.specs.Tokens.{token_of}
+use Rattle.line_tokens.specs.declared.lexer.Token as code
+use Rattle.line_tokens.specs.Tokens.{token_of}
 use Rattle.notes_lang.specs.declared.parser.Reading.{Reading}
-use Rattle.notes_lang.specs.declared.expressions.Size.{Size}
-use Rattle.notes_lang.specs.declared.expressions.Size.TheVariants.{Byte, Half, Word}
-use Rattle.notes_lang.specs.Views.{bytes_of, expr_of}
+use Rattle.notes_value.specs.declared.expressions.Size.{Size}
+use Rattle.notes_value.specs.declared.expressions.Size.TheVariants.{Byte, Half, Word}
+use Rattle.notes_value.specs.Views.{bytes_of, expr_of}
 use Rattle.notes_lang.specs.Reading.{Settles, AreGood, IsEnclosed, IsLeft, begins, operator_at, read_as, read_of, tokens_view}
 
 -- how the tokens of one level are read, as far as they were: what is read behind the expression so far is what is read of all

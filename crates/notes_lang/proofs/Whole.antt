@@ -8,12 +8,12 @@ use Rattle.bilv_spec.proofs.NotesNames.{machines_keep_reserved, any_keeps}
 use Rattle.bilv_spec.proofs.NotesParser.{Level, Read, Fails, Reads, Ends, all_read, is_ready}
 use Rattle.bilv_spec.proofs.ParserFinds.{reads_all}
 use Rattle.bilv_spec.proofs.ParserEnds.{by_reading}
-use Rattle.state_text.specs.declared.lexer.Token as code
+use Rattle.line_tokens.specs.declared.lexer.Token as code
 use Rattle.notes_lang.specs.declared.names.Names.{Names}
 use Rattle.notes_lang.specs.declared.names.Names.TheVariants.{Rv32, Arm, Any}
 use Rattle.notes_lang.specs.declared.parser.Reading.{Reading}
 use Rattle.notes_lang.specs.Named.{names_of}
-use Rattle.notes_lang.specs.Views.{expr_of}
+use Rattle.notes_value.specs.Views.{expr_of}
 use Rattle.notes_lang.specs.Reading.{read_of, tokens_view}
 
 -- no reserved word is a name

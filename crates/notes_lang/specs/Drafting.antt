@@ -1,8 +1,11 @@
 -- Notes, and notes as far as their lines were read, as definitions see them.
-use Rattle.std.specs.Prelude.{ℕ, ◌≡◌, List, [], ◌∷◌, Option, Some, None, map, Contains}
+use Rattle.std.specs.Prelude.{ℕ, ◌≡◌, ◌==◌, List, [], ◌∷◌, Option, Some, None, map, Contains}
+use Rattle.std.specs.List.{list_any}
+use Rattle.std.specs.Ordering.{nat_cmp}
+use Rattle.std.specs.BTreeSet.{BTreeSet, contains}
 use Rattle.bilv_spec.specs.Notes as notes
 use Rattle.bilv_spec.specs.NotesGrammar.{Says, entries, requires_of, ensures_of, asserts_of, targets_of as targets_in, fixed_of as fixed_in}
-use Rattle.notes_lang.specs.Views.{expr_of}
+use Rattle.notes_value.specs.Views.{expr_of}
 use Rattle.notes_lang.specs.Saying.{function_of}
 use Rattle.notes_lang.specs.declared.notes.Function.{Function}
 use Rattle.notes_lang.specs.declared.notes.NoteLine.{NoteLine}
@@ -44,6 +47,10 @@ abbrev pub place_list : Option Function → List notes.Function
 place_list None = []
 place_list (Some f) = function_of f ∷ []
 
+-- the set has the addresses of the targets
+abbrev pub HasAddresses : List Targets → BTreeSet ℕ → Type 0
+HasAddresses ts addresses = (at : ℕ) → contains nat_cmp addresses at ≡ list_any (λ t. t.at == at) ts
+
 -- what is said is what the draft has
 pub record IsDraft (says : List Says) (draft : Draft) : Type 0 where
   pub entry : entries says ≡ place_list draft.entry
@@ -52,6 +59,7 @@ pub record IsDraft (says : List Says) (draft : Draft) : Type 0 where
   pub asserts : asserts_of 1 says ≡ map assert_of draft.asserts.items
   pub targets : targets_in says ≡ map targets_of draft.targets.items
   pub fixed : fixed_in says ≡ map fixed_of draft.fixed.items
+  pub addresses : HasAddresses draft.targets.items draft.addresses
 
 -- some targets line names the address
 abbrev pub HasTargets : List Says → ℕ → Type 0

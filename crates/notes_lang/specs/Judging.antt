@@ -4,8 +4,8 @@ use Rattle.std.specs.List.{list_any}
 use Rattle.bilv_spec.specs.Notes.{Expr}
 use Rattle.bilv_spec.specs.NotesGrammar.{Token, NumberToken, NameToken, SignToken, BadByte, BadText, Says, IsSaid, IsLine, is_depth}
 use Rattle.bilv_spec.specs.NotesFaults as faults
-use Rattle.state_text.specs.declared.lexer.Token as code
-use Rattle.state_text.specs.Tokens.{token_of}
+use Rattle.line_tokens.specs.declared.lexer.Token as code
+use Rattle.line_tokens.specs.Tokens.{token_of}
 use Rattle.notes_lang.specs.declared.faults.FaultKind.{FaultKind}
 use Rattle.notes_lang.specs.declared.faults.FaultKind.TheVariants as kind
 use Rattle.notes_lang.specs.declared.sayings.Says as code_says

@@ -1,5 +1,3 @@
-pub mod Views
-pub mod Reads
 pub mod Named
 pub mod Reading
 pub mod Saying

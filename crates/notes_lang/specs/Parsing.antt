@@ -1,8 +1,11 @@
 -- Notes that were read.
-use Rattle.std.specs.Prelude.{ℕ, ◌≡◌, ◌+◌, List, ◌++◌, Option, Result, Ok, Err, length}
+use Rattle.std.specs.Prelude.{ℕ, Bool, ◌≡◌, ◌+◌, List, ◌++◌, Option, Result, Ok, Err, length}
+use Rattle.bilv_spec.specs.Memory.{Little, Big}
 use Rattle.bilv_spec.specs.Notes.{Expr}
 use Rattle.bilv_spec.specs.NotesGrammar.{lines_of, Says}
 use Rattle.bilv_spec.specs.NotesFaults.{AreGood, IsFirstNoteFault}
+use Rattle.bilv_spec.specs.Rv.{rv32}
+use Rattle.bilv_spec.specs.Arm.{arm}
 use Rattle.bilv_spec.specs.RvNames.{rv_names}
 use Rattle.bilv_spec.specs.ArmNames.{arm_names}
 use Rattle.state_text.specs.declared.layout.Layout.{Layout}
@@ -19,6 +22,12 @@ abbrev pub layout_names : Layout → List ℕ → Option Expr
 layout_names Rv32 = rv_names
 layout_names ArmLittle = arm_names
 layout_names ArmBig = arm_names
+
+-- the registers that it has
+abbrev pub layout_registers : Layout → ℕ → Bool
+layout_registers Rv32 = rv32.has_register
+layout_registers ArmLittle = (arm Little).has_register
+layout_registers ArmBig = (arm Big).has_register
 
 -- lines without fault, and what they say
 pub record IsGoodDraft (names : List ℕ → Option Expr) (texts : List (List ℕ)) (draft : Draft) : Type 0 where

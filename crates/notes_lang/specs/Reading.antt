@@ -5,10 +5,10 @@ use Rattle.bilv_spec.specs.NotesGrammar as grammar
 use Rattle.bilv_spec.specs.NotesGrammar.{IsGood, operators}
 use Rattle.bilv_spec.proofs.NotesTables.{line_of, same_token}
 use Rattle.bilv_spec.proofs.NotesParser.{Read, Fails, Reads, of_level, opened_if, work}
-use Rattle.state_text.specs.declared.lexer.Token.{Token}
-use Rattle.state_text.specs.Tokens.{token_of}
-use Rattle.notes_lang.specs.Views.{bytes_of, expr_of}
-use Rattle.notes_lang.specs.declared.expressions.Size.{Size}
+use Rattle.line_tokens.specs.declared.lexer.Token.{Token}
+use Rattle.line_tokens.specs.Tokens.{token_of}
+use Rattle.notes_value.specs.Views.{bytes_of, expr_of}
+use Rattle.notes_value.specs.declared.expressions.Size.{Size}
 use Rattle.notes_lang.specs.declared.parser.Reading.{Reading}
 
 -- tokens

@@ -2,7 +2,7 @@
 use Rattle.std.specs.Prelude.{ℕ, List, Option, Some, None, codes}
 use Rattle.bilv_spec.specs.Notes as notes
 use Rattle.bilv_spec.specs.NotesGrammar as grammar
-use Rattle.notes_lang.specs.Views.{expr_of}
+use Rattle.notes_value.specs.Views.{expr_of}
 use Rattle.notes_lang.specs.declared.notes.Function.{Function}
 use Rattle.notes_lang.specs.declared.notes.Function.TheVariants.{At, Named}
 use Rattle.notes_lang.specs.declared.sayings.Says.{Says}

@@ -1,6 +1,5 @@
 //! Notes as far as their lines were read.
-ghost use Rattle.std.specs.Prelude.{◌≡◌, ◌+◌, ◌++◌, ◌∷◌, ◌↔◌, [], List, length, ◌==◌, OnOk, IsTrue};
-ghost use Rattle.std.specs.List.{list_any};
+ghost use Rattle.std.specs.Prelude.{◌≡◌, ◌+◌, ◌++◌, ◌∷◌, ◌↔◌, [], List, length, OnOk, IsTrue};
 ghost use Rattle.bilv_spec.specs.NotesGrammar as grammar;
 ghost use Rattle.bilv_spec.specs.NotesFaults.{Repeats};
 ghost use Rattle.notes_lang.specs.Saying.{says_of};
@@ -9,6 +8,7 @@ ghost use Rattle.notes_lang.specs.Drafting.{HasTargets, IsDraft};
 use crate::notes::{Assert, FixedRange, Function, NoteLine, Targets};
 use crate::sayings::Says;
 use std::alloc::{AllocError, Global};
+use std::collections::BTreeSet;
 
 /// What the lines so far said.
 #[derive(Drop)]
@@ -19,13 +19,8 @@ pub(crate) struct Draft {
     pub(crate) asserts: Vec<Assert>,
     pub(crate) targets: Vec<Targets>,
     pub(crate) fixed: Vec<FixedRange>,
-}
-
-/// Whether some of the targets are those of an address.
-fn name_address(targets: &[Targets], at: u32) -> bool
-    ensures { result ≡ list_any (λ t. t.at == at) targets.now }
-{
-    targets.iter().any(|targets| targets.at == at)
+    /// The addresses of the targets.
+    pub(crate) addresses: BTreeSet<u32>,
 }
 
 impl Draft {
@@ -40,6 +35,7 @@ impl Draft {
             asserts: Vec::new(alloc),
             targets: Vec::new(alloc),
             fixed: Vec::new(alloc),
+            addresses: BTreeSet::new(alloc),
         }
     }
 
@@ -47,7 +43,7 @@ impl Draft {
     fn has_targets(&self, at: u32) -> bool
         ensures { (says : List grammar.Says) → IsDraft says self.now → IsTrue result ↔ HasTargets says at }
     {
-        name_address(&self.targets, at)
+        self.addresses.contains(&at)
     }
 
     /// Whether a line repeats what the lines so far said: the function's place, or the targets of an address.
@@ -71,7 +67,10 @@ impl Draft {
             Says::Require(says) => self.required.push(NoteLine { line, says })?,
             Says::Ensure(says) => self.ensured.push(NoteLine { line, says })?,
             Says::Assert(at, says) => self.asserts.push(Assert { line, at, says })?,
-            Says::Targets(at, to) => self.targets.push(Targets { at, to })?,
+            Says::Targets(at, to) => {
+                self.targets.push(Targets { at, to })?;
+                self.addresses.insert(at)?;
+            }
             Says::Fixed(low, high) => self.fixed.push(FixedRange { low, high })?,
         }
         Ok(())

@@ -2,7 +2,7 @@
 ghost use Rattle.std.specs.Prelude.{◌≡◌, ◌≤◌, ◌↔◌, ℕ, List, map, count_by, length, All, IfOk, IsTrue};
 ghost use Rattle.std.specs.List.{list_any};
 ghost use Rattle.bilv_spec.specs.NotesGrammar.{AreAligned, IsAligned, IsRange, is_depth, tokens_of};
-ghost use Rattle.state_text.specs.Tokens.{capped, token_of};
+ghost use Rattle.line_tokens.specs.Tokens.{capped, token_of};
 ghost use Rattle.notes_lang.specs.Named.{names_of};
 ghost use Rattle.notes_lang.specs.Reading.{AreGood, tokens_view};
 ghost use Rattle.notes_lang.specs.Saying.{says_of};
@@ -13,7 +13,7 @@ use crate::names::Names;
 use crate::notes::Function;
 use crate::parser::{is_sign, is_word};
 use crate::sayings::{Says, line_word, said};
-use state_text::{Sign, Token, tokens};
+use line_tokens::{Sign, Token, tokens};
 use std::alloc::{AllocError, Global};
 use thiserror::Error;
 

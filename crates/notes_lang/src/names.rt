@@ -5,10 +5,10 @@ ghost use Rattle.std.specs.Str.{bytes_eq};
 ghost use Rattle.bilv_spec.specs.NotesFaults.{any_name, reserved};
 ghost use Rattle.bilv_spec.specs.RvNames.{name_in, rv_names};
 ghost use Rattle.bilv_spec.specs.ArmNames.{arm_names};
-ghost use Rattle.notes_lang.specs.Views.{expr_of};
+ghost use Rattle.notes_value.specs.Views.{expr_of};
 ghost use Rattle.notes_lang.specs.Named.{meaning_of, named_of, names_of};
 
-use crate::expressions::Expr;
+use notes_value::Expr;
 
 /// What a name stands for.
 #[derive(Clone, Copy)]

@@ -1,5 +1,5 @@
 //! Notes.
-use crate::expressions::Expr;
+use notes_value::Expr;
 
 /// Where the function begins: an address, or the name of a symbol.
 #[derive(Drop, Debug)]

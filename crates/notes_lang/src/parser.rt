@@ -4,14 +4,14 @@ ghost use Rattle.std.specs.Str.{bytes_eq};
 ghost use Rattle.bilv_spec.specs.NotesGrammar.{operators, SignToken, NameToken};
 ghost use Rattle.bilv_spec.proofs.NotesTables.{line_of, same_token, size_of};
 ghost use Rattle.bilv_spec.proofs.NotesParser.{Ends, Level, atom_at, negated_at, of_level, word_at, work};
-ghost use Rattle.state_text.specs.Tokens.{token_of, sign_text};
+ghost use Rattle.line_tokens.specs.Tokens.{token_of, sign_text};
 ghost use Rattle.notes_lang.specs.Named.{names_of};
-ghost use Rattle.notes_lang.specs.Views.{op_of};
+ghost use Rattle.notes_value.specs.Views.{op_of};
 ghost use Rattle.notes_lang.specs.Reading.{AreGood, IsEnclosed, IsLeft, IsRest, Settles, begins, operator_at, read_of, size_or_zero, tokens_view};
 
-use crate::expressions::{Expr, Operator, Size};
 use crate::names::{Names, named};
-use state_text::{Sign, Token};
+use line_tokens::{Sign, Token};
+use notes_value::{Expr, Operator, Size};
 use std::alloc::{AllocError, Global};
 
 /// An expression, and the tokens behind it.

@@ -3,17 +3,17 @@ ghost use Rattle.std.specs.Prelude.{◌≡◌, ◌∷◌, [], ℕ, List, Option,
 ghost use Rattle.bilv_spec.specs.Notes as meaning;
 ghost use Rattle.bilv_spec.specs.NotesGrammar.{IsSaid, NameToken, NumberToken, Parses};
 ghost use Rattle.bilv_spec.specs.NotesFaults.{IsLineWord, line_words};
-ghost use Rattle.state_text.specs.Tokens.{token_of};
+ghost use Rattle.line_tokens.specs.Tokens.{token_of};
 ghost use Rattle.notes_lang.specs.Named.{names_of};
-ghost use Rattle.notes_lang.specs.Views.{expr_of};
+ghost use Rattle.notes_value.specs.Views.{expr_of};
 ghost use Rattle.notes_lang.specs.Reading.{AreGood, tokens_view};
 ghost use Rattle.notes_lang.specs.Saying.{Tells, number_token, says_of, word_text};
 
-use crate::expressions::Expr;
 use crate::names::Names;
 use crate::notes::Function;
 use crate::parser::read;
-use state_text::Token;
+use line_tokens::Token;
+use notes_value::Expr;
 use std::alloc::{AllocError, Global};
 
 /// What a line says.

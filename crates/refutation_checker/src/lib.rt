@@ -4,11 +4,6 @@
 //! A log that adds the empty clause in this way is a refutation: no values satisfy the clauses.
 #![tactic(auto)]
 
-#[cfg(test)]
-use cnf_form::{Clause, Cnf, Lit, are_on_variables};
-#[cfg(test)]
-use std::alloc::{AllocError, Global};
-
 mod cause;
 mod entries;
 mod judge;
@@ -16,8 +11,6 @@ mod marks;
 mod print;
 mod read;
 mod slots;
-#[cfg(test)]
-mod tests;
 
 pub use cause::{Cause, Checked};
 pub use marks::{Marks, check, check_line};

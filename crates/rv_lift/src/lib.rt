@@ -6,7 +6,5 @@ mod facts;
 mod lifting;
 mod machine;
 mod statements;
-#[cfg(test)]
-mod tests;
 
 pub use machine::Rv32;

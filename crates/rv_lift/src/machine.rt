@@ -20,6 +20,7 @@ impl Machine for Rv32 {
     ghost use Rattle.bilv_spec.specs.Bil.{XRegisters};
     ghost use Rattle.bilv_spec.specs.StateText.{rv_layout};
     ghost use Rattle.rv_decode.specs.Insns.{row_of};
+    ghost use Rattle.rv_step.proofs.Ranges.{in_range};
     ghost use Rattle.rv_step.specs.States.{spare_of};
     ghost use Rattle.std.specs.Prelude.{refl};
     ghost use Rattle.bilv_spec.proofs.RvLawful.{rv_is_lawful};
@@ -100,6 +101,8 @@ impl Machine for Rv32 {
     }
 
     ghost lawful = { rv_is_lawful };
+
+    ghost states = { in_range };
 
     ghost four_bytes = { four_bytes };
 

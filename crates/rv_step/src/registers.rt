@@ -1,5 +1,5 @@
 //! The registers x0 to x31.
-ghost use Rattle.std.specs.Prelude.{◌≡◌, ◌<◌, ◌∷◌, get_or, length};
+ghost use Rattle.std.specs.Prelude.{◌≡◌, ℕ, ◌<◌, ◌^◌, ◌∷◌, get_or, length};
 ghost use Rattle.bilv_spec.specs.Rv.{put_reg};
 ghost use Rattle.rv_step.specs.RegisterFile.{registers_of};
 
@@ -10,6 +10,7 @@ use rv_decode::Register;
 pub struct Registers {
     words: [u32; 32],
     ghost zero: { get_or words 0 0 ≡ 0 },
+    ghost in_range: { (r : ℕ) → registers_of words r < 2 ^ 32 },
 }
 
 impl Registers {

@@ -1,12 +1,6 @@
 //! The state of RV32IM.
-ghost use Rattle.std.specs.Prelude.{◌≡◌, ◌≤◌, ◌<◌, ◌*◌, ◌+◌, ◌∷◌, ◌==◌, length, OnOk, OnErr, IfOk};
-ghost use Rattle.bilv_spec.specs.Memory.{Little, load, store, memory_of};
-ghost use Rattle.bilv_spec.specs.State.{with_pc};
-ghost use Rattle.bilv_spec.specs.Rv.{reg, with_reg};
-ghost use Rattle.bilv_spec.specs.Words.{add};
-ghost use Rattle.byte_mem.specs.Views.{endian_of};
-ghost use Rattle.rv_step.specs.RegisterFile.{registers_of};
-ghost use Rattle.rv_step.specs.States.{state_of, spare_of};
+ghost use Rattle.std.specs.Prelude.{ℕ, ◌<◌, ◌^◌};
+ghost use Rattle.bilv_spec.specs.Memory.{memory_of};
 
 use crate::registers::Registers;
 use bv_word::Word;
@@ -20,6 +14,17 @@ pub struct State {
     pc: u32,
     registers: Registers,
     memory: Bytes32,
+    ghost pc_in_range: { pc < 2 ^ 32 },
+    ghost bytes_in_range: { (a : ℕ) → memory_of memory.entries a < 256 },
+}
+
+/// Each byte of entries is below 256, which is known of a byte once it is read: the loop has no other effect.
+fn bytes_in_range(entries: &[(u32, u8)])
+    ensures { (a : ℕ) → memory_of entries.now a < 256 }
+{
+    for (_, byte) in entries {
+        prove!(*byte <= u8::MAX);
+    }
 }
 
 impl View for State {
@@ -54,11 +59,20 @@ impl View for State {
 }
 
 impl State {
+    ghost use Rattle.std.specs.Prelude.{◌≡◌, ◌≤◌, ◌+◌, ◌∷◌, length, OnOk, OnErr, IfOk};
+    ghost use Rattle.bilv_spec.specs.Memory.{Little, store};
+    ghost use Rattle.bilv_spec.specs.State.{with_pc};
+    ghost use Rattle.bilv_spec.specs.Rv.{reg, with_reg};
+    ghost use Rattle.bilv_spec.specs.Words.{add};
+    ghost use Rattle.rv_step.specs.RegisterFile.{registers_of};
+    ghost use Rattle.rv_step.specs.States.{state_of, spare_of};
+
     /// The state with a memory at an address, its registers 0.
     pub fn new(pc: u32, memory: Bytes32) -> State
         ensures state { state_of result ≡ record { pc = pc; regs = λ r. 0; flags = λ f. 0; mem = memory_of memory.entries } }
         ensures spare { spare_of result ≡ memory.spare }
     {
+        bytes_in_range(memory.entries());
         State {
             pc,
             registers: Registers::new(),
@@ -72,6 +86,7 @@ impl State {
         ensures state { state_of result ≡ record { pc = pc; regs = registers_of (0 ∷ registers.now); flags = λ f. 0; mem = memory_of memory.entries } }
         ensures spare { spare_of result ≡ memory.spare }
     {
+        bytes_in_range(memory.entries());
         State {
             pc,
             registers: Registers::of(registers),

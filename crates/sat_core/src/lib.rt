@@ -4,11 +4,6 @@
 //! with the log of as many learned clauses as it was given conflicts.
 #![tactic(auto)]
 
-#[cfg(test)]
-use cnf_form::{Clause, Cnf, Hint, Lit, LogLine, are_on_variables};
-#[cfg(test)]
-use std::alloc::{AllocError, Global};
-
 mod answer;
 mod decide;
 mod hints;
@@ -16,8 +11,6 @@ mod minimise;
 mod propagate;
 mod search;
 mod table;
-#[cfg(test)]
-mod tests;
 
 pub use answer::Answer;
 pub use search::solve;

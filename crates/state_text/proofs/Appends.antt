@@ -1,9 +1,9 @@
 -- Texts to which texts are appended.
-use Rattle.std.proofs.Common.{◌≡◌, ℕ, zero, suc, ◌-◌, ◌/◌, ◌%◌, ◌≢◌, refl, ap, sym, ◌∙◌, arith, List, [], ◌∷◌, ◌++◌, append_assoc, append-nil}
+use Rattle.std.proofs.Common.{◌≡◌, ℕ, zero, suc, ◌-◌, ◌/◌, ◌%◌, ◌≢◌, refl, ap, ◌∙◌, arith, List, [], ◌∷◌, ◌++◌, append_assoc, append-nil}
 use Rattle.std.specs.Prelude.{codes}
-use Rattle.bilv_spec.specs.Texts.{hex_digit, hex_digits, joined, spaced, line, number_text}
+use Rattle.bilv_spec.specs.Texts.{hex_digit, hex_digits, joined, spaced, number_text}
 use Rattle.bilv_spec.specs.Run.{Event, AssertFails, FetchFails, NoRow, HalfwordFails, CodeWritten, Trapped, AlignFails, JumpFails, EnsureFails}
-use Rattle.bilv_spec.specs.Reports.{FailsBy, UnknownBy, event_words, place_words, named_line}
+use Rattle.bilv_spec.specs.Reports.{FailsBy, event_words, place_words, named_line}
 
 -- one text behind another
 pub two : (start first all a b : List ℕ) → first ≡ start ++ a → all ≡ first ++ b → all ≡ start ++ (a ++ b)
@@ -12,6 +12,11 @@ two start first all a b e f = f ∙ ap (λ t. t ++ b) e ∙ append_assoc start a
 -- three texts
 pub three : (start first second all a b c : List ℕ) → first ≡ start ++ a → second ≡ first ++ b → all ≡ second ++ c → all ≡ start ++ (a ++ (b ++ c))
 three start first second all a b c e f g = two start first all a (b ++ c) e (two first second all b c f g)
+
+-- four texts
+pub four : (start first second third all a b c d : List ℕ) → first ≡ start ++ a → second ≡ first ++ b → third ≡ second ++ c → all ≡ third ++ d →
+    all ≡ start ++ (a ++ (b ++ (c ++ d)))
+four start first second third all a b c d e f g h = three start first second all a b (c ++ d) e f (two second third all c d g h)
 
 -- five texts
 pub five : (start first second third fourth all a b c d t : List ℕ) → first ≡ start ++ a → second ≡ first ++ b → third ≡ second ++ c → fourth ≡ third ++ d →
@@ -24,16 +29,12 @@ pub hex_more : (count v : ℕ) → count ≢ 0 → hex_digits (count - 1) (v / 1
 hex_more zero v some = absurd (some refl)
 hex_more (suc n) v some = let same : suc n - 1 ≡ n = omega arith in ap (λ k. hex_digits k (v / 16) ++ hex_digit (v % 16) ∷ []) same
 
--- a number that ends its line
-pub number_ends : (n : List ℕ) → n ++ 10 ∷ [] ≡ (n ++ []) ++ 10 ∷ []
-number_ends n = ap (λ l. l ++ 10 ∷ []) (sym (append-nil n))
-
-moved : (n s t : List ℕ) → (n ++ []) ++ (s ++ t) ≡ (n ++ s) ++ t
-moved n s t = ap (λ l. l ++ (s ++ t)) (append-nil n) ∙ (sym (append_assoc n s t))
+unended : (n s : List ℕ) → (n ++ []) ++ s ≡ n ++ s
+unended n s = ap (λ l. l ++ s) (append-nil n)
 
 -- the line of an event
-pub fails_line : (e : Event) (at step : ℕ) → codes "fails " ++ (joined (event_words e) ++ (spaced (place_words at step) ++ 10 ∷ [])) ≡ line (named_line (FailsBy e at step))
-fails_line (AssertFails n) at step = ap (λ l. codes "fails assert " ++ l) (moved (number_text n) (spaced (place_words at step)) (10 ∷ []))
+pub fails_line : (e : Event) (at step : ℕ) → codes "fails " ++ (joined (event_words e) ++ (codes " " ++ joined (place_words at step))) ≡ named_line (FailsBy e at step)
+fails_line (AssertFails n) at step = ap (λ l. codes "fails assert " ++ l) (unended (number_text n) (spaced (place_words at step)))
 fails_line FetchFails at step = refl
 fails_line NoRow at step = refl
 fails_line HalfwordFails at step = refl
@@ -41,12 +42,7 @@ fails_line CodeWritten at step = refl
 fails_line Trapped at step = refl
 fails_line AlignFails at step = refl
 fails_line JumpFails at step = refl
-fails_line (EnsureFails n) at step = ap (λ l. codes "fails ensure " ++ l) (moved (number_text n) (spaced (place_words at step)) (10 ∷ []))
-
--- the line of one backward transfer too many
-pub unknown_line : (k at step : ℕ) → codes "unknown unroll " ++ (number_text k ++ (spaced (place_words at step) ++ 10 ∷ [])) ≡ line (named_line (UnknownBy k at step))
-unknown_line k at step =
-    ap (λ l. codes "unknown unroll " ++ l) (sym (append_assoc (number_text k) (spaced (place_words at step)) (10 ∷ [])))
+fails_line (EnsureFails n) at step = ap (λ l. codes "fails ensure " ++ l) (unended (number_text n) (spaced (place_words at step)))
 
 -- seven texts
 pub seven : (start first second third fourth fifth sixth all a b c d t u v : List ℕ) → first ≡ start ++ a → second ≡ first ++ b → third ≡ second ++ c →

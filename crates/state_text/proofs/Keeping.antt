@@ -2,6 +2,7 @@
 use Rattle.std.proofs.Common.{◌≡◌, ℕ, suc, ◌+◌, ◌-◌, ◌*◌, ◌^◌, ◌<◌, ◌≤◌, refl, ap, sym, ◌∙◌, subst, arith, Bool, true, false, List, [], ◌∷◌, ◌++◌, Option, Some, None, length, take, drop, get_or, min, map, append_assoc, append-nil, length-append, length-take, zero}
 use Rattle.std.specs.Option.{option_map}
 use Rattle.std.proofs.Math.Nat.{pow-suc}
+use Rattle.std.proofs.Math.Seq.{take-append_seam}
 use Rattle.std.specs.Prelude.{Result, Ok, Err, IfOk, IfErr, IfSome, IfNone, ◌==◌, ◌&&◌, not, nat_lt, if◌then◌else◌}
 use Rattle.std.specs.List.{list_any, list_all}
 use Rattle.std.proofs.lemmas.Bool.Decides.{nat_tests}
@@ -13,7 +14,6 @@ use Rattle.state_text.specs.Readings.{told_but, IsBehind, refusal_of, written_by
 use Rattle.state_text.specs.declared.progress.Progress.{Progress}
 use Rattle.state_text.specs.declared.draft.Draft.{Draft}
 use Rattle.state_text.proofs.Judging.{none}
-use Rattle.state_text.proofs.Splitting.{front_of}
 
 -- lines in their order, before others
 abbrev pub back : List StateLine → List (Option StateLine) → List (Option StateLine)
@@ -229,7 +229,9 @@ pub stands_bytes : (layout : Layout) (all : List (Option StateLine)) (p : Progre
 stands_bytes layout all p d rest before line s e =
     let left : List (Option StateLine) = map (line_of layout) (split_lines rest) in
     let long : length (back before []) ≡ line - 1 = omega (arith, back_long before, s.behind.count, e) in
-    sym (append-nil d.bytes.items) ∙ sym (s.kept.bytes []) ∙ ap bytes_in (sym (front_of (line - 1) (back before []) left long))
+    let front : take (line - 1) (back before [] ++ left) ≡ back before [] =
+    ap (λ k. take k (back before [] ++ left)) (sym long) ∙ take-append_seam (back before []) left in
+    sym (append-nil d.bytes.items) ∙ sym (s.kept.bytes []) ∙ ap bytes_in (sym front)
     ∙ ap (λ x. bytes_in (take (line - 1) x)) (sym (back_before before left) ∙ s.whole)
 
 -- the next line is refused

@@ -1,9 +1,5 @@
-pub mod Numbers
-pub mod Lexing
 pub mod Appends
 pub mod Printing
-pub mod Splitting
-pub mod Said
 pub mod SaidLines
 pub mod Judging
 pub mod Keeping

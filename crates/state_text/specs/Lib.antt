@@ -1,5 +1,4 @@
-pub mod Tokens
 pub mod Starts
-pub mod Words
 pub mod Lines
 pub mod Readings
+pub use Rattle.line_tokens.specs.Tokens

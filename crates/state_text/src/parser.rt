@@ -13,7 +13,7 @@ use crate::progress::Progress;
 use crate::start::{NamedEnding, StateText};
 use crate::state_fault::{ParseFault, StateFault};
 use crate::state_line::{StateLine, state_line};
-use crate::words::first_line;
+use line_tokens::first_line;
 use std::alloc::{AllocError, Global};
 
 /// The ending that a first line says; any other line is a line fault there.

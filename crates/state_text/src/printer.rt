@@ -1,6 +1,6 @@
 //! Prints state texts.
 ghost use Rattle.std.specs.Prelude.{◌≡◌, ◌+◌, ◌++◌, ◌≤◌, ◌<◌, ◌*◌, ◌%◌, ◌^◌, List, [], ◌∷◌, OnOk, IfOk, slice_index_or, map, length, codes};
-ghost use Rattle.bilv_spec.specs.Texts.{hex_digit, hex_digits, word_text, byte_text, number_text, line, lines, joined, spaced};
+ghost use Rattle.bilv_spec.specs.Texts.{hex_digit, hex_digits, word_text, byte_text, number_text, line, lines, joined};
 ghost use Rattle.bilv_spec.specs.Reports.{event_words, named_line, place_words};
 ghost use Rattle.bilv_spec.specs.StateText.{printed, value_names, value_text, words_of_line, StateLine, RegisterLine, ByteLine, ChoiceLine, EndLine, MachineLine, NamedLine, register_lines, flag_bits, lines_behind};
 ghost use Rattle.bilv_spec.specs.StateText as texts;
@@ -90,36 +90,46 @@ fn push_event(alloc: Global, out: &mut Vec<u8>, event: Event) -> Result<(), Allo
     }
 }
 
-/// Appends the address and the number of a step, and ends the line.
-fn push_place(alloc: Global, out: &mut Vec<u8>, at: u32, step: u64) -> Result<(), AllocError>
-    ensures { OnOk result (out.new.items ≡ out.old.items ++ (spaced (place_words at step) ++ 10 ∷ [])) }
+/// Appends the address and the number of a step, as `at 0x00010004 step 1`. What an `Err` leaves is open.
+pub fn push_step(alloc: Global, out: &mut Vec<u8>, at: u32, step: u64) -> Result<(), AllocError>
+    ensures { OnOk result (out.new.items ≡ out.old.items ++ joined (place_words at step)) }
 {
-    push_text(out, b" at ")?;
+    push_text(out, b"at ")?;
     push_word(out, at)?;
     push_text(out, b" step ")?;
     push_number(alloc, out, step)?;
-    push_text(out, b"\n")?;
     Ok(())
+}
+
+/// Appends the line of an ending, without its line feed. What an `Err` leaves is open.
+pub fn push_ending(alloc: Global, out: &mut Vec<u8>, named: NamedEnding) -> Result<(), AllocError>
+    ensures { OnOk result (out.new.items ≡ out.old.items ++ named_line (named_of named)) }
+{
+    match named {
+        NamedEnding::FailsBy { event, at, step } => {
+            push_text(out, b"fails ")?;
+            push_event(alloc, out, event)?;
+            push_text(out, b" ")?;
+            push_step(alloc, out, at, step)?;
+            Ok(())
+        }
+        NamedEnding::UnknownBy { k, at, step } => {
+            push_text(out, b"unknown unroll ")?;
+            push_number(alloc, out, k)?;
+            push_text(out, b" ")?;
+            push_step(alloc, out, at, step)?;
+            Ok(())
+        }
+    }
 }
 
 /// Appends the line of an ending.
 fn push_named(alloc: Global, out: &mut Vec<u8>, named: NamedEnding) -> Result<(), AllocError>
     ensures { OnOk result (out.new.items ≡ out.old.items ++ line (named_line (named_of named))) }
 {
-    match named {
-        NamedEnding::FailsBy { event, at, step } => {
-            push_text(out, b"fails ")?;
-            push_event(alloc, out, event)?;
-            push_place(alloc, out, at, step)?;
-            Ok(())
-        }
-        NamedEnding::UnknownBy { k, at, step } => {
-            push_text(out, b"unknown unroll ")?;
-            push_number(alloc, out, k)?;
-            push_place(alloc, out, at, step)?;
-            Ok(())
-        }
-    }
+    push_ending(alloc, out, named)?;
+    push_text(out, b"\n")?;
+    Ok(())
 }
 
 /// Appends the line of the machine.

@@ -10,7 +10,7 @@ ghost use Rattle.state_text.specs.Lines.{line_said, capped_line};
 
 use crate::layout::Layout;
 use crate::start::{Event, NamedEnding};
-use crate::words::{decimal_at_most, hex_word, is_decimal, words};
+use line_tokens::{decimal_at_most, first_words, hex_word, is_decimal};
 use std::alloc::{AllocError, Global};
 
 /// What a line of the grammar says. A choice above 3 is taken for 4, which no line may have.
@@ -283,6 +283,6 @@ pub(crate) fn state_line(
 ) -> Result<Option<StateLine>, AllocError>
     ensures { IfOk result (λ line. option_map line_said line ≡ option_map capped_line (line_of (layout_of layout) text.now)) }
 {
-    let words = words(alloc, text)?;
+    let words = first_words(alloc, text)?;
     Ok(line_of_words(layout, &words))
 }

@@ -1,19 +1,16 @@
 -- What a run is found to come to.
-use Rattle.std.proofs.Common.{◌≡◌, ℕ, suc, ◌+◌, ◌-◌, ◌≤◌, sym, ap, ◌∙◌, subst, arith, List, [], ◌<◌, ◌/◌, ◌^◌, length, get_or, true, false, mod-lt, lit<, inl, inr}
-use Rattle.std.specs.Prelude.{Bool, Option, Some, None, nat_le, nat_lt, reverse, if◌then◌else◌}
+use Rattle.std.proofs.Common.{◌≡◌, ℕ, suc, ◌+◌, ◌-◌, ◌≤◌, sym, ap, ◌∙◌, subst, arith, List, []}
+use Rattle.std.specs.Prelude.{Option, Some, None, nat_le, reverse}
 use Rattle.std.proofs.Math.Path.{fun_ext}
-use Rattle.std.proofs.lemmas.Bool.{cases_lt}
-use Rattle.std.proofs.lemmas.List.{get_or_past}
 use Rattle.bilv_spec.specs.Words.{word}
 use Rattle.bilv_spec.specs.Memory.{memory_of, byte_in}
-use Rattle.bilv_spec.specs.State.{State, IsState}
+use Rattle.bilv_spec.specs.State.{State}
 use Rattle.bilv_spec.specs.Run.{Program, Start, Place, Stops, Arrives, Exits, Event, Run, Going, Exited, Failed, Turned, IsOver, run, one_more, after_step, arrive, step}
 use Rattle.bilv_spec.specs.Reports.{Found, FoundExit, FoundEvent, FoundTurn, FoundLeft, found, found_by, turns_within}
-use Rattle.bilv_spec.specs.StateText.{Layout, Written, IsWritten, known_or}
-use Rattle.bilv_spec.specs.Answers.{known_byte}
+use Rattle.bilv_spec.specs.StateText.{Layout, Written, known_or}
+use Rattle.bilv_spec.specs.Answers.{known_byte, start_in}
 use Rattle.bilv_spec.proofs.Over.{over_stays}
 use Rattle.machine_law.specs.Facts.{made}
-use Rattle.table_run.specs.Endings.{start_at}
 
 pub first_run : (p : Program) (k : ℕ) (s : Start) (state : State) (stack : List ℕ) → state ≡ s.state → stack ≡ [] →
     run p k s 0 ≡ Going 0 0 (record { state = state; stack = reverse stack })
@@ -73,13 +70,16 @@ found_same p q s t bound last k f programs starts bounds is =
     ∙ ap (λ (r : Start). found q k r last) starts
 
 -- the state that the code makes is that of the start
-pub start_is : (p : Program) (form : Layout) (w : Written) (entries : List (ℕ × ℕ)) (s : State) (choices : List (ℕ × ℕ)) → s ≡ made form w p.entry entries
-    → choices ≡ w.choices → ((x : ℕ) → memory_of entries x ≡ known_or (known_byte p (word 32 x)) w.bytes x)
-    → record { state = s; choices = byte_in choices } ≡ start_at p form w
-start_is p form w entries s choices is drawn h =
-    ap (λ (t : State). record { state = t; choices = byte_in choices }) is
-    ∙ ap (λ (cs : List (ℕ × ℕ)). record { state = made form w p.entry entries; choices = byte_in cs }) drawn
-    ∙ ap (λ (mem : ℕ → ℕ). record { state = record (made form w p.entry entries) { mem = mem }; choices = byte_in w.choices }) (fun_ext h)
+pub state_is : (p : Program) (form : Layout) (w : Written) (entries : List (ℕ × ℕ)) (s : State) → s ≡ made form w p.entry entries
+    → ((x : ℕ) → memory_of entries x ≡ known_or (known_byte p (word 32 x)) w.bytes x) → s ≡ (start_in p form w).state
+state_is p form w entries s is h = is ∙ ap (λ (mem : ℕ → ℕ). record (made form w p.entry entries) { mem = mem }) (fun_ext h)
+
+-- the start is that state with its choices
+pub start_is : (start : Start) (s : State) (drawn choices : List (ℕ × ℕ)) → s ≡ start.state → start.choices ≡ byte_in choices → drawn ≡ choices
+    → record { state = s; choices = byte_in drawn } ≡ start
+start_is start s drawn choices is given same =
+    ap (λ (t : State). record { state = t; choices = byte_in drawn }) is
+    ∙ ap (λ (cs : ℕ → ℕ). record { state = start.state; choices = cs }) (ap byte_in same ∙ sym given)
 
 -- the bound for no number
 pub no_bound : (limit bound : ℕ) (k : Option ℕ) → 1 ≤ limit → k ≡ None → bound ≡ limit → bound ≡ turns_within (limit - 1) k
@@ -87,21 +87,3 @@ no_bound limit bound k some none is = let full : limit ≡ limit - 1 + 1 = omega
 
 pub some_bound : (limit bound n : ℕ) (k : Option ℕ) → k ≡ Some n → bound ≡ n → bound ≡ turns_within (limit - 1) k
 some_bound limit bound n k some is = is ∙ sym (ap (turns_within (limit - 1)) some)
-
--- the state of a start that can be written
-pub made_state : (form : Layout) (known : ℕ → Bool) (w : Written) (pc : ℕ) (entries : List (ℕ × ℕ)) (s : State) → s ≡ made form w pc entries → pc < 2 ^ 32
-    → IsWritten form known w → ((x : ℕ) → memory_of entries x < 256) → IsState s
-made_state form known w pc entries s is fits written small =
-    subst IsState (sym is) (record {
-      pc = fits;
-      regs = λ r. register (nat_lt r form.first) (r - form.first);
-      flags = λ f. mod-lt (w.flags / 2 ^ f) (omega arith);
-      mem = small;
-    })
-  where
-    register : (b : Bool) (i : ℕ) → (if b then 0 else get_or w.regs i 0) < 2 ^ 32
-    register true i = lit< tt
-    register false i = elim (cases_lt i (length w.regs)) as (λ _. get_or w.regs i 0 < 2 ^ 32) [
-      | inl l ↦ written.words i 0 l
-      | inr r ↦ rw (get_or_past w.regs i 0 r) (lit< tt)
-    ]

@@ -8,7 +8,7 @@ use Rattle.bilv_spec.specs.Memory.{Endian}
 use Rattle.bilv_spec.specs.State.{State}
 use Rattle.bilv_spec.specs.Notes as notes
 use Rattle.bilv_spec.specs.Run.{false_assert, targets_at}
-use Rattle.notes_lang.specs.Views.{expr_of}
+use Rattle.notes_value.specs.Views.{expr_of}
 use Rattle.notes_lang.specs.Drafting.{assert_of, targets_of}
 use Rattle.notes_lang.specs.declared.notes.Assert.{Assert}
 use Rattle.notes_lang.specs.declared.notes.Targets.{Targets}

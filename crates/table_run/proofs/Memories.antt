@@ -1,6 +1,6 @@
 -- Memories that have the bytes of a file and of a start.
-use Rattle.std.proofs.Common.{◌≡◌, ℕ, zero, suc, ◌+◌, ◌-◌, ◌≤◌, ◌<◌, ◌^◌, ◌/◌, List, [], ◌∷◌, length, get_or, true, false, Some, None, refl, sym, ap, ◌∙◌, arith, inl, inr, mod-lt, ne_eqb, eq-eqb}
-use Rattle.std.specs.Prelude.{Bool, Option, ◌==◌, nat_lt, if◌then◌else◌}
+use Rattle.std.proofs.Common.{◌≡◌, ℕ, zero, suc, ◌+◌, ◌-◌, ◌≤◌, ◌<◌, ◌^◌, List, [], ◌∷◌, length, get_or, true, false, Some, None, refl, sym, ap, ◌∙◌, arith, inl, inr, ne_eqb, eq-eqb}
+use Rattle.std.specs.Prelude.{Option, ◌==◌, nat_lt, if◌then◌else◌}
 use Rattle.std.specs.List.{All}
 use Rattle.std.proofs.lemmas.Bool.{cases_lt, cases_eq}
 use Rattle.std.proofs.lemmas.Bool.Decides.{nat_tests}
@@ -14,7 +14,7 @@ use Rattle.bilv_spec.specs.Notes.{FixedRange}
 use Rattle.bilv_spec.specs.StateText.{AreRising, known_or}
 use Rattle.byte_mem.proofs.Spans.{byte_none}
 use Rattle.elf32_reader.specs.declared.parts.Part.{Part}
-use Rattle.table_run.specs.Known.{is_known, given, IsFirstKnown, IsPut, HasFirst, HasByte, Fills, FillsTo, HasGiven, IsSmall}
+use Rattle.table_run.specs.Known.{is_known, given, IsFirstKnown, IsPut, HasFirst, HasByte, Fills, FillsTo, HasGiven}
 
 -- a store of one byte
 pub put_of : (old new : List (ℕ × ℕ)) (a value bits : ℕ) → a < 2 ^ 32 → value < 256 → bits ≡ value → memory_of new ≡ store Little 1 (memory_of old) a bits → IsPut old a value new
@@ -27,15 +27,6 @@ put_of old new a value bits low small is e = record {
       let away : nat_lt (sub 32 x a) 1 ≡ false = grind (arith, nat_tests) in
       ap (λ (f : ℕ → ℕ). f x) e ∙ ap (λ b. if b then byte_of Little 1 bits (sub 32 x a) else memory_of old x) away;
 }
-
-pub put_small : (old new : List (ℕ × ℕ)) (a bits : ℕ) → memory_of new ≡ store Little 1 (memory_of old) a bits → IsSmall old → IsSmall new
-put_small old new a bits e small x =
-    let below : byte_of Little 1 bits (sub 32 x a) < 256 = mod-lt (bits / 256 ^ sub 32 x a) (omega arith) in
-    rw (ap (λ (f : ℕ → ℕ). f x) e) (either (nat_lt (sub 32 x a) 1) (byte_of Little 1 bits (sub 32 x a)) (memory_of old x) below (small x))
-  where
-    either : (b : Bool) (m n : ℕ) → m < 256 → n < 256 → (if b then m else n) < 256
-    either true m n l k = l
-    either false m n l k = k
 
 -- one more byte of the list
 pub first_more : (bytes old new : List (ℕ × ℕ)) (i : ℕ) (d : ℕ × ℕ) → AreRising bytes → i < length bytes → (get_or bytes i d).0 < 2 ^ 32

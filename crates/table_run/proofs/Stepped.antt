@@ -4,7 +4,7 @@ use Rattle.std.specs.Prelude.{Bool, Option, Some, None}
 use Rattle.bilv_spec.specs.State.{State, IsState}
 use Rattle.bilv_spec.specs.Machine as machine
 use Rattle.bilv_spec.specs.Machine.{Row, Outcome, Goes, Raises, Exception, EnvironmentCall, Breakpoint, SoftwareInterrupt, OddHalfword, UnalignedLoad}
-use Rattle.bilv_spec.specs.MachineLaws.{IsLawful, IsLawfulMachine, IsWay, IsSuccessor, LeavesState}
+use Rattle.bilv_spec.specs.MachineLaws.{IsLawful, IsLawfulMachine, IsWay, IsSuccessor}
 use Rattle.bilv_spec.specs.Run as run
 use Rattle.byte_mem.specs.Views.{exception_out, goes_out, IsStep}
 use Rattle.byte_mem.specs.declared.How.{How}
@@ -53,16 +53,6 @@ pub row_goes : (p : run.Program) (entry : State) (row : Row) (old new : State) (
 row_goes p entry row old new stack after choice out how end lawful state is ways free here =
     subst (λ (b : Bool). IsStepEnd end new after (run.after_row p entry row old stack b (row.effect old choice))) (sym free)
     (went p entry row old new stack after out how end (row.effect old choice) is (lawful.successors old choice state) ways here)
-
-left_state : (old new : State) (out : StepOut) (o : Outcome) → IsStep old new out o → LeavesState o → IsState old → IsState new
-left_state old new out (Goes w s) is leaves state = subst IsState (sym is.0) leaves
-left_state old new out (Raises e) is leaves state = subst IsState (sym is.0) state
-
--- a lawful row leaves a state
-pub still_state : (row : Row) (old mid new : State) (choice : ℕ) (out : StepOut) → mid ≡ old → IsLawful row → IsState old → IsStep mid new out (row.effect mid choice) → IsState new
-still_state row old mid new choice out same lawful state is =
-    let here = subst IsState (sym same) state in
-    left_state mid new out (row.effect mid choice) is (lawful.states mid choice here) here
 
 -- the machine's row of a word is lawful
 pub lawful_row : (m : machine.Machine) (w : ℕ) (row : Row) → IsLawfulMachine m → w < 2 ^ 32 → Some row ≡ m.row w → IsLawful row

@@ -1,10 +1,6 @@
 -- The definitions' values that endings and faults stand for.
-use Rattle.bilv_spec.specs.Words.{word}
-use Rattle.bilv_spec.specs.Run as run
 use Rattle.bilv_spec.specs.EntryFaults as faults
 use Rattle.bilv_spec.specs.Reports as reports
-use Rattle.bilv_spec.specs.StateText.{Layout, Written, start_of}
-use Rattle.bilv_spec.specs.Answers.{known_byte}
 use Rattle.state_text.specs.Starts.{event_of}
 use Rattle.table_run.specs.declared.ending.EntryFault.{EntryFault}
 use Rattle.table_run.specs.declared.ending.EntryFault.TheVariants as fault
@@ -23,10 +19,6 @@ found_of (ending.Exit at step) = reports.FoundExit at step
 found_of (ending.Failed event at step) = reports.FoundEvent (event_of event) at step
 found_of (ending.Turned at step) = reports.FoundTurn at step
 found_of (ending.Left at step) = reports.FoundLeft at step
-
--- The start that is written. A machine's memory wraps its address, so the byte that the file gives is that of the wrapped one.
-abbrev pub start_at : run.Program → Layout → Written → run.Start
-start_at p form w = start_of form p.entry (λ a. known_byte p (word 32 a)) w
 
 -- a fault that the bytes have no part in
 abbrev pub IsLinesFault : EntryFault → Type 0

@@ -51,10 +51,6 @@ IsRightTo p s upto = (x : ℕ) → x < upto → ¬ IsWrongByte p s x
 abbrev pub IsFirstWrong : Program → State → ℕ → Type 0
 IsFirstWrong p s a = IsWrongByte p s a × IsRightTo p s a
 
--- a memory of bytes
-abbrev pub IsSmall : List (ℕ × ℕ) → Type 0
-IsSmall entries = (x : ℕ) → memory_of entries x < 256
-
 -- a byte was stored at an address
 pub record IsPut (old : List (ℕ × ℕ)) (a value : ℕ) (new : List (ℕ × ℕ)) : Type 0 where
   pub here : memory_of new a ≡ value

@@ -1,12 +1,11 @@
 -- A program of the code, as definitions see it.
 use Rattle.std.specs.Prelude.{ℕ, Bool, List, [], ◌∷◌}
-use Rattle.std.specs.List.{list_all, All}
+use Rattle.std.specs.List.{list_all}
 use Rattle.bilv_spec.specs.Words.{add}
 use Rattle.bilv_spec.specs.Elf.{loaded}
 use Rattle.bilv_spec.specs.Machine.{Machine}
 use Rattle.bilv_spec.specs.Notes as notes
 use Rattle.bilv_spec.specs.Run as run
-use Rattle.notes_lang.specs.Reads.{IsReadable}
 use Rattle.notes_lang.specs.Drafting.{notes_of}
 use Rattle.table_run.specs.declared.program.Program.{Program}
 
@@ -21,9 +20,3 @@ program_of m p = program m p.image.now (notes_of p.notes.now) p.function
 -- a test passes at the four addresses from one on
 abbrev pub four : (ℕ → Bool) → ℕ → Bool
 four test a = list_all (λ i. test (add 32 a i)) (0 ∷ 1 ∷ 2 ∷ 3 ∷ [])
-
--- what the lines of notes read are registers of a machine, and flags
-pub record AreReadable (has_register : ℕ → Bool) (n : notes.Notes) : Type 0 where
-  pub requires : All (λ l. IsReadable has_register l.says) n.requires
-  pub ensures : All (λ l. IsReadable has_register l.says) n.ensures
-  pub asserts : All (λ l. IsReadable has_register l.says) n.asserts

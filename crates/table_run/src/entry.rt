@@ -1,11 +1,11 @@
 //! Whether a state may be the one at entry.
 ghost use Rattle.std.specs.Prelude.{◌≡◌, ℕ, ◌≤◌, ◌+◌, ◌%◌, ◌^◌, MatchOption, IfErr, OnOk, None};
-ghost use Rattle.bilv_spec.specs.State.{IsState};
 ghost use Rattle.bilv_spec.specs.Files.{machine_of, program_of as program_of_files};
 ghost use Rattle.bilv_spec.specs.Verdict.{IsEntryState};
 ghost use Rattle.bilv_spec.specs.EntryFaults.{IsEntryStateFault, false_require};
 ghost use Rattle.notes_lang.specs.Drafting.{notes_of};
-ghost use Rattle.table_run.specs.Programs.{program_of, AreReadable};
+ghost use Rattle.notes_value.specs.Reads.{AreReadable};
+ghost use Rattle.table_run.specs.Programs.{program_of};
 ghost use Rattle.table_run.specs.Endings.{fault_of, IsLinesFault};
 ghost use Rattle.table_run.specs.Known.{HasBytesTo, IsFirstOther, IsRightTo, IsFirstWrong};
 
@@ -95,7 +95,7 @@ pub fn entry_ok<M: Machine>(
 ) -> Result<(), EntryFault>
     requires machine { machine_of image.now ≡ M.machine }
     requires readable { AreReadable M.machine.has_register (notes_of notes.now) }
-    ensures ok { OnOk result (IsState (M.State.view state.now) → IsEntryState (program_of_files image.now (notes_of notes.now) (M.State.view state.now).pc) (M.State.view state.now)) }
+    ensures ok { OnOk result (IsEntryState (program_of_files image.now (notes_of notes.now) (M.State.view state.now).pc) (M.State.view state.now)) }
     ensures fault { IfErr result (λ f. IsEntryStateFault (program_of_files image.now (notes_of notes.now) (M.State.view state.now).pc) (M.State.view state.now) (fault_of f)) }
 {
     lines_ok::<M>(image, notes, state)?;

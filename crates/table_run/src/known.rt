@@ -1,12 +1,14 @@
 //! The addresses whose byte the file gives: those that are kept, and those of fixed ranges.
 ghost use Rattle.std.specs.Prelude.{◌≡◌, ℕ, ◌≤◌, ◌<◌, ◌⊎◌, ◌-◌, ◌^◌, false, MatchOption, map, true, length, slice_index};
 ghost use Rattle.bilv_spec.specs.Verdict.{fixed};
-ghost use Rattle.notes_lang.specs.Drafting.{fixed_of};
+ghost use Rattle.bilv_spec.specs.Files.{program_of};
+ghost use Rattle.bilv_spec.specs.Points.{is_known_at};
+ghost use Rattle.notes_lang.specs.Drafting.{fixed_of, notes_of};
 ghost use Rattle.table_run.specs.Known.{is_known, IsFirstKnown};
 
 use crate::program::Program;
-use elf32_reader::Part;
-use notes_lang::FixedRange;
+use elf32_reader::{Image, Part};
+use notes_lang::{FixedRange, Notes};
 
 /// What ranges say of an address and those behind it, as far as they were read: whether one holds it, the last address up to which that range goes, and the last
 /// one up to which no range begins.
@@ -94,6 +96,22 @@ pub(crate) fn first_known<'a>(p: &Program<'_, 'a>, a: u32) -> Option<Part<'a>>
         }
         at = last + 1;
     }
+}
+
+/// The byte at an address is one that the file gives: it is kept, or it is loaded and lies in a fixed range. One search, and a look at each range.
+pub fn is_known(image: &Image, notes: &Notes, at: u32) -> bool
+    ensures { (entry : ℕ) → result ≡ is_known_at (program_of image.now (notes_of notes.now) entry) at }
+{
+    let Some(part) = image.part_from(at) else {
+        return false;
+    };
+    if part.first > at {
+        return false;
+    }
+    if part.kept {
+        return true;
+    }
+    stretch(&notes.fixed, at).0
 }
 
 /// The byte that a part has at one of its addresses.

@@ -16,7 +16,5 @@ mod words;
 
 pub use ending::{Ending, EntryFault};
 pub use entry::{entry_ok, lines_ok};
-pub use runs::run;
-
-#[cfg(test)]
-mod tests;
+pub use known::is_known;
+pub use runs::{run, start_state};

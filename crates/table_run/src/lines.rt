@@ -2,8 +2,8 @@
 ghost use Rattle.std.specs.Prelude.{◌≡◌, map, All};
 ghost use Rattle.bilv_spec.specs.Memory as memory;
 ghost use Rattle.bilv_spec.specs.Run as meaning;
-ghost use Rattle.notes_lang.specs.Views.{expr_of};
-ghost use Rattle.notes_lang.specs.Reads.{IsReadable};
+ghost use Rattle.notes_value.specs.Views.{expr_of};
+ghost use Rattle.notes_value.specs.Reads.{IsReadable};
 ghost use Rattle.notes_lang.specs.Drafting.{note_line_of, assert_of};
 ghost use Rattle.table_run.specs.Indexed.{assert_places, IsIndex};
 

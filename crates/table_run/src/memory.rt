@@ -4,7 +4,7 @@ ghost use Rattle.bilv_spec.specs.Words.{word};
 ghost use Rattle.bilv_spec.specs.Memory.{memory_of};
 ghost use Rattle.bilv_spec.specs.StateText.{AreRising, known_or};
 ghost use Rattle.notes_lang.specs.Drafting.{fixed_of};
-ghost use Rattle.table_run.specs.Known.{is_known, given, IsPut, HasFirst, Fills, IsSmall};
+ghost use Rattle.table_run.specs.Known.{is_known, given, IsPut, HasFirst, Fills};
 
 use crate::known::first_known;
 use crate::program::Program;
@@ -15,8 +15,7 @@ use std::alloc::{AllocError, Global};
 
 /// Stores a byte. The error is want of memory.
 fn put(memory: &mut Bytes32, a: u32, value: u8) -> Result<(), AllocError>
-    ensures put { OnOk result (IsPut memory.old.entries a value memory.new.entries) }
-    ensures small { OnOk result (IsSmall memory.old.entries → IsSmall memory.new.entries) }
+    ensures { OnOk result (IsPut memory.old.entries a value memory.new.entries) }
 {
     memory.store(a, 1, Endian::Little, Word::new(8, value as u64))?;
     Ok(())
@@ -25,8 +24,7 @@ fn put(memory: &mut Bytes32, a: u32, value: u8) -> Result<(), AllocError>
 /// The memory of bytes by their addresses. The error is want of memory.
 fn of_bytes(alloc: Global, bytes: &[(u32, u8)]) -> Result<Bytes32, AllocError>
     requires { AreRising bytes.now }
-    ensures bytes { IfOk result (λ memory. HasFirst bytes.now (length bytes.now) memory.entries) }
-    ensures small { IfOk result (λ memory. IsSmall memory.entries) }
+    ensures { IfOk result (λ memory. HasFirst bytes.now (length bytes.now) memory.entries) }
 {
     let mut memory = Bytes32::new(alloc);
     for i in 0..bytes.len() {
@@ -39,8 +37,7 @@ fn of_bytes(alloc: Global, bytes: &[(u32, u8)]) -> Result<Bytes32, AllocError>
 /// Stores the bytes that the file has for a part. The error is want of memory.
 fn fill(memory: &mut Bytes32, part: &Part) -> Result<(), AllocError>
     requires { part.now.first ≤ part.now.last }
-    ensures fills { OnOk result (Fills part.now memory.old.entries memory.new.entries) }
-    ensures small { OnOk result (IsSmall memory.old.entries → IsSmall memory.new.entries) }
+    ensures { OnOk result (Fills part.now memory.old.entries memory.new.entries) }
 {
     let room = (part.last - part.first) as usize + 1;
     let count = usize::min(part.bytes.len(), room);
@@ -58,7 +55,6 @@ pub(crate) fn memory_at(
 ) -> Result<Bytes32, AllocError>
     requires rising { AreRising bytes.now }
     requires unknown { All (λ b. is_known p.now.image.now (map fixed_of p.now.notes.now.fixed.items) b.0 ≡ false) bytes.now }
-    ensures small { IfOk result (λ memory. IsSmall memory.entries) }
     ensures bytes { IfOk result (λ memory. (x : ℕ) → memory_of memory.entries x ≡ known_or (given p.now.image.now (map fixed_of p.now.notes.now.fixed.items) (word 32 x)) bytes.now x) }
 {
     let mut memory = of_bytes(alloc, bytes)?;

@@ -2,16 +2,17 @@
 ghost use Rattle.std.specs.Prelude.{◌≡◌, ℕ, ◌≤◌, ◌<◌, ◌+◌, ◌-◌, ◌^◌, IfOk, IfSome, MatchOption, nat_le};
 ghost use Rattle.bilv_spec.specs.Memory as memory;
 ghost use Rattle.bilv_spec.specs.Memory.{byte_in};
-ghost use Rattle.bilv_spec.specs.State.{IsState};
 ghost use Rattle.bilv_spec.specs.Files.{machine_of, program_of as program_of_files};
 ghost use Rattle.bilv_spec.specs.Run as meaning;
 ghost use Rattle.bilv_spec.specs.Points.{is_known_at};
 ghost use Rattle.bilv_spec.specs.StateText.{AreRising, IsWritten};
 ghost use Rattle.bilv_spec.specs.Reports.{found, found_by};
+ghost use Rattle.bilv_spec.specs.Answers.{start_in};
 ghost use Rattle.state_text.specs.Starts.{written_of};
 ghost use Rattle.notes_lang.specs.Drafting.{notes_of};
-ghost use Rattle.table_run.specs.Programs.{program_of, AreReadable};
-ghost use Rattle.table_run.specs.Endings.{found_of, start_at};
+ghost use Rattle.notes_value.specs.Reads.{AreReadable};
+ghost use Rattle.table_run.specs.Programs.{program_of};
+ghost use Rattle.table_run.specs.Endings.{found_of};
 ghost use Rattle.table_run.specs.Indexed.{AreIndexed};
 
 use crate::choices::choice_at;
@@ -65,7 +66,6 @@ fn follow<M: Machine>(
     requires rising { AreRising choices.now }
     requires some { 1 ≤ limits.steps }
     requires same { M.State.view state ≡ M.State.view entry.now }
-    requires state { IsState (M.State.view entry.now) }
     ensures { IfOk result (λ e. found_of e ≡ found_by (meaning.run (program_of M.machine p.now) limits.turns (record { state = M.State.view entry.now; choices = byte_in choices.now }) (limits.steps - 1)) (meaning.run (program_of M.machine p.now) limits.turns (record { state = M.State.view entry.now; choices = byte_in choices.now }) (limits.steps - 1 + 1))) }
 {
     let mut stack = Vec::new(alloc);
@@ -90,6 +90,33 @@ fn follow<M: Machine>(
     }
 }
 
+/// The state of a start at an address: its registers and flags, and in memory the file's byte where it is kept or fixed, else the start's, else 0. The start is one
+/// that can be written. It takes memory for that state.
+///
+/// # Errors
+///
+/// Want of memory.
+pub fn start_state<M: Machine>(
+    alloc: Global,
+    image: &Image,
+    notes: &Notes,
+    entry: u32,
+    start: &Start,
+) -> Result<M::State, AllocError>
+    requires machine { machine_of image.now ≡ M.machine }
+    requires start { IsWritten M.form (is_known_at (program_of_files image.now (notes_of notes.now) entry)) (written_of start.now) }
+    ensures { IfOk result (λ s. M.State.view s ≡ (start_in (program_of_files image.now (notes_of notes.now) entry) M.form (written_of start.now)).state) }
+{
+    let p = Program {
+        image,
+        notes,
+        big: is_big(image),
+        function: entry,
+    };
+    let memory = memory_at(alloc, &p, &start.bytes)?;
+    Ok(M::make(start, entry, memory))
+}
+
 /// What the run from a start at an address comes to, within `limit` steps, and within `k` backward transfers or, for none, any number of them. The start has the
 /// registers and flags of the machine's form, bytes that are not 0 at rising addresses whose byte the file does not give, and choices for rising steps. It takes memory for
 /// two states, for an index of the notes, and for the calls that have not returned; its time beside that is for each step what its row costs.
@@ -110,7 +137,7 @@ pub fn run<M: Machine>(
     requires readable { AreReadable M.machine.has_register (notes_of notes.now) }
     requires some { 1 ≤ limit }
     requires start { IsWritten M.form (is_known_at (program_of_files image.now (notes_of notes.now) entry)) (written_of start.now) }
-    ensures { IfOk result (λ e. found_of e ≡ found (program_of_files image.now (notes_of notes.now) entry) k (start_at (program_of_files image.now (notes_of notes.now) entry) M.form (written_of start.now)) (limit - 1)) }
+    ensures { IfOk result (λ e. found_of e ≡ found (program_of_files image.now (notes_of notes.now) entry) k (start_in (program_of_files image.now (notes_of notes.now) entry) M.form (written_of start.now)) (limit - 1)) }
 {
     let p = Program {
         image,
@@ -119,8 +146,7 @@ pub fn run<M: Machine>(
         function: entry,
     };
     let index = index_of(alloc, notes)?;
-    let memory = memory_at(alloc, &p, &start.bytes)?;
-    let state = M::make(start, entry, memory);
+    let state = start_state::<M>(alloc, image, notes, entry, start)?;
     let first = M::copy(alloc, &state)?;
     let bound = match k {
         None => limit,

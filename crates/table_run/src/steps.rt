@@ -1,13 +1,14 @@
 //! One step of a run.
-ghost use Rattle.std.specs.Prelude.{◌≡◌, false, List, true, IfOk, OnOk, reverse, ℕ, if◌then◌else◌};
+ghost use Rattle.std.specs.Prelude.{◌≡◌, false, List, true, IfOk, reverse, ℕ, if◌then◌else◌};
 ghost use Rattle.bilv_spec.specs.Memory as memory;
-ghost use Rattle.bilv_spec.specs.State.{State, IsState};
+ghost use Rattle.bilv_spec.specs.State.{State};
 ghost use Rattle.bilv_spec.specs.Machine.{Row};
 ghost use Rattle.bilv_spec.specs.MachineLaws.{IsLawful, IsWay};
 ghost use Rattle.bilv_spec.specs.Run as meaning;
 ghost use Rattle.byte_mem.specs.Views.{IsStep};
 ghost use Rattle.notes_lang.specs.Drafting.{notes_of};
-ghost use Rattle.table_run.specs.Programs.{program_of, AreReadable};
+ghost use Rattle.notes_value.specs.Reads.{AreReadable};
+ghost use Rattle.table_run.specs.Programs.{program_of};
 ghost use Rattle.table_run.specs.Indexed.{AreIndexed};
 ghost use Rattle.table_run.specs.Steps.{IsStepEnd, IsBefore, way_of};
 
@@ -107,10 +108,7 @@ fn advance<M: Machine>(
     state: &mut M::State,
     choice: u8,
 ) -> Result<StepOut, AllocError>
-    requires lawful { IsLawful (M.Machine.row insn.now) }
-    requires state { IsState (M.State.view state.old) }
-    ensures step { IfOk result (λ out. IsStep (M.State.view state.old) (M.State.view state.new) out ((M.Machine.row insn.now).effect (M.State.view state.old) choice)) }
-    ensures state { OnOk result (IsState (M.State.view state.new)) }
+    ensures { IfOk result (λ out. IsStep (M.State.view state.old) (M.State.view state.new) out ((M.Machine.row insn.now).effect (M.State.view state.old) choice)) }
 {
     M::reserve(state, 64)?;
     let out = M::step(insn, state, choice);
@@ -141,9 +139,7 @@ fn row_step<M: Machine>(
     requires readable { AreReadable M.State.has_register (notes_of p.now.notes.now) }
     requires index { AreIndexed p.now.notes.now index.now }
     requires lawful { IsLawful (M.Machine.row insn.now) }
-    requires state { IsState (M.State.view state.old) }
-    ensures state { OnOk result (IsState (M.State.view state.new)) }
-    ensures end { IfOk result (λ end. IsStepEnd end (M.State.view state.new) (reverse stack.new.items) (meaning.after_row (program_of M.machine p.now) (M.State.view entry.now) (M.Machine.row insn.now) (M.State.view state.old) (reverse stack.old.items) (meaning.writes_kept (program_of M.machine p.now) (M.Machine.row insn.now) (M.State.view state.old)) ((M.Machine.row insn.now).effect (M.State.view state.old) choice))) }
+    ensures { IfOk result (λ end. IsStepEnd end (M.State.view state.new) (reverse stack.new.items) (meaning.after_row (program_of M.machine p.now) (M.State.view entry.now) (M.Machine.row insn.now) (M.State.view state.old) (reverse stack.old.items) (meaning.writes_kept (program_of M.machine p.now) (M.Machine.row insn.now) (M.State.view state.old)) ((M.Machine.row insn.now).effect (M.State.view state.old) choice))) }
 {
     let before = look::<M>(p, insn, state);
     let writes = writes_kept(p.image, M::stored(insn, state));
@@ -175,8 +171,6 @@ pub(crate) fn step<M: Machine>(
     requires order { memory.endian p.now.big ≡ M.machine.endian }
     requires readable { AreReadable M.State.has_register (notes_of p.now.notes.now) }
     requires index { AreIndexed p.now.notes.now index.now }
-    requires state { IsState (M.State.view state.old) }
-    ensures state { OnOk result (IsState (M.State.view state.new)) }
     ensures end { IfOk result (λ end. IsStepEnd end (M.State.view state.new) (reverse stack.new.items) (meaning.step (program_of M.machine p.now) (M.State.view entry.now) (record { state = M.State.view state.old; stack = reverse stack.old.items }) choice)) }
 {
     if let Some(line) = false_assert(&p.notes.asserts, &index.asserts, state, entry, p.big) {

@@ -1,8 +1,8 @@
 use Rattle.std.proofs.Common.{ap, sym, ◌∙◌}
 use Rattle.notes_lang.proofs.Steps as steps
-use Rattle.state_text.specs.Tokens.{token_of}
+use Rattle.line_tokens.specs.Tokens.{token_of}
 use Rattle.notes_lang.specs.Named.{names_of}
-use Rattle.notes_lang.specs.Views.{expr_of, op_of}
+use Rattle.notes_value.specs.Views.{expr_of, op_of}
 use Rattle.notes_lang.proofs.parser.+parser.Goals as goal
 
 pub atom-returns-in_ok-read-in-Name-clause-read : goal.atom-returns-in_ok-read-in-Name-clause-read

@@ -1,7 +1,7 @@
 use Rattle.std.proofs.Common.{◌+◌, ◌-◌, ◌*◌, length}
 use Rattle.notes_lang.proofs.Steps.{Chained}
 use Rattle.notes_lang.specs.Named.{names_of}
-use Rattle.notes_lang.specs.Views.{expr_of}
+use Rattle.notes_value.specs.Views.{expr_of}
 use Rattle.notes_lang.proofs.parser.+parser.Given as goal
 
 -- Fewer tokens, or a tighter level of the same: each function calls one with a lower number.

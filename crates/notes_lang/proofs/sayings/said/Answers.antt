@@ -1,5 +1,5 @@
 use Rattle.std.proofs.Common.{ap}
-use Rattle.state_text.specs.Tokens.{token_of}
+use Rattle.line_tokens.specs.Tokens.{token_of}
 use Rattle.notes_lang.specs.Named.{names_of}
 use Rattle.notes_lang.specs.Reading.{tokens_view}
 use Rattle.notes_lang.proofs.Forms.{not_said}

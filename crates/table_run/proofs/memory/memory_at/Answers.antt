@@ -5,25 +5,21 @@ use Rattle.table_run.proofs.memory.memory_at.Goals as goal
 
 pub loop-memory-init : goal.loop-memory-init
 loop-memory-init c = record {
-  has = record {
-    before = λ x below less. absurd (omega arith);
-    behind = λ x below more. has_all c.args.bytes.now c.in_ok-memory.memory.entries x below c.in_ok-memory.ensures.bytes;
-  };
-  small = c.in_ok-memory.ensures.small;
+  before = λ x below less. absurd (omega arith);
+  behind = λ x below more. has_all c.args.bytes.now c.in_ok-memory.memory.entries x below c.in_ok-memory.ensures;
 }
 
-pub returns-then-part-clause-bytes : goal.returns-then-part-clause-bytes
-returns-then-part-clause-bytes c =
-    given_all c.args.p.now.image.now (map fixed_of c.args.p.now.notes.now.fixed.items) c.args.bytes.now c.fill.new.memory.entries
-    (λ x below.
-    let has = given_more c.args.p.now.image.now (map fixed_of c.args.p.now.notes.now.fixed.items) c.args.bytes.now c.loop-memory.at c.in-Some.part c.loop-memory.memory.entries c.fill.new.memory.entries
-    c.requires.unknown c.in-Some.ensures c.loop-memory.invariant.has c.in_ok-fill.ensures.fills in
-    has.before x below (omega arith))
+pub returns-then-part : goal.returns-then-part
+returns-then-part c = record {
+  bytes =
+      given_all c.args.p.now.image.now (map fixed_of c.args.p.now.notes.now.fixed.items) c.args.bytes.now c.fill.new.memory.entries
+      (λ x below.
+      let has = given_more c.args.p.now.image.now (map fixed_of c.args.p.now.notes.now.fixed.items) c.args.bytes.now c.loop-memory.at c.in-Some.part c.loop-memory.memory.entries c.fill.new.memory.entries
+      c.requires.unknown c.in-Some.ensures c.loop-memory.invariant c.in_ok-fill.ensures in
+      has.before x below (omega arith));
+}
 
 pub loop-memory-preserved : goal.loop-memory-preserved
-loop-memory-preserved c = record {
-  has =
-      given_more c.args.p.now.image.now (map fixed_of c.args.p.now.notes.now.fixed.items) c.args.bytes.now c.loop-memory.at c.in-Some.part c.loop-memory.memory.entries
-      c.fill.new.memory.entries c.requires.unknown c.in-Some.ensures c.loop-memory.invariant.has c.in_ok-fill.ensures.fills;
-  small = c.in_ok-fill.ensures.small c.loop-memory.invariant.small;
-}
+loop-memory-preserved c =
+    given_more c.args.p.now.image.now (map fixed_of c.args.p.now.notes.now.fixed.items) c.args.bytes.now c.loop-memory.at c.in-Some.part c.loop-memory.memory.entries
+    c.fill.new.memory.entries c.requires.unknown c.in-Some.ensures c.loop-memory.invariant c.in_ok-fill.ensures

@@ -1,7 +1,6 @@
-use Rattle.std.proofs.Common.{◌≡◌, ◌-◌, sym, subst, arith}
+use Rattle.std.proofs.Common.{◌≡◌, ◌-◌, arith}
 use Rattle.std.specs.Prelude.{reverse}
 use Rattle.bilv_spec.specs.Memory.{byte_in}
-use Rattle.bilv_spec.specs.State.{IsState}
 use Rattle.bilv_spec.specs.Run.{Place}
 use Rattle.state_text.specs.Starts.{event_of}
 use Rattle.table_run.specs.Programs.{program_of}
@@ -13,7 +12,6 @@ pub loop-stack-init : goal.loop-stack-init
 loop-stack-init g c = record {
   few = omega arith;
   within = omega arith;
-  state = subst IsState (sym c.requires.same) c.requires.state;
   run =
       first_run (program_of g.M.Machine.machine c.args.p.now) c.args.limits.turns (record { state = g.M.State.View.view c.args.entry.now; choices = byte_in c.args.choices.now })
       (g.M.State.View.view c.args.state) c.new-stack.result.items c.requires.same c.new-stack.ensures.items;
@@ -63,7 +61,6 @@ loop-stack-preserved g c =
     record {
       few = omega arith;
       within = omega arith;
-      state = c.in_ok-event.ensures.state;
       run =
           one_step (program_of g.M.Machine.machine c.args.p.now) c.args.limits.turns (record { state = g.M.State.View.view c.args.entry.now; choices = byte_in c.args.choices.now })
           c.loop-stack.turns c.loop-stack.n (c.args.limits.steps - 1) c.choice_at-choice.result c.pc-at.result

@@ -1,7 +1,6 @@
 use Rattle.std.proofs.Common.{◌≡◌, ◌≤◌, ◌<◌, ◌-◌}
 use Rattle.std.specs.Prelude.{reverse}
 use Rattle.bilv_spec.specs.Memory.{byte_in}
-use Rattle.bilv_spec.specs.State.{IsState}
 use Rattle.bilv_spec.specs.Run.{run, Going}
 use Rattle.table_run.specs.Programs.{program_of}
 use Rattle.table_run.proofs.runs.follow.Given as goal
@@ -10,7 +9,6 @@ abbrev pub invariant-loop-stack : goal.invariant-loop-stack
 invariant-loop-stack g l = record {
   few : l.turns ≤ l.n;
   within : l.n < l.limits.steps;
-  state : IsState (g.M.State.View.view l.state);
   run :
       run (program_of g.M.Machine.machine l.p) l.limits.turns (record { state = g.M.State.View.view l.entry; choices = byte_in l.choices }) l.n
       ≡ Going l.turns l.n (record { state = g.M.State.View.view l.state; stack = reverse l.stack.items });

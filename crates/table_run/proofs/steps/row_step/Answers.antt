@@ -9,8 +9,8 @@ use Rattle.table_run.proofs.Stepped.{Ways, row_goes}
 use Rattle.table_run.proofs.steps.row_step.Goals as goal
 use Rattle.table_run.proofs.steps.row_step.Goals.{in-Next, in-Jump}
 
-pub returns-clause-end : goal.returns-clause-end
-returns-clause-end g c =
+pub returns : goal.returns
+returns g c =
     let free = sym (ap (λ (s : Option (ℕ × ℕ)). list_any (λ x. is_kept (loaded c.args.p.now.image.now x)) (addresses s)) c.stored.ensures) ∙ sym c.writes_kept-writes.ensures ∙ c.if-writes.false in
     let ways : Ways c.in_ok-out.out c.match-out.how =
     elim c.match-out.branch [
@@ -19,5 +19,5 @@ returns-clause-end g c =
     ] in
     row_goes (program_of g.M.Machine.machine c.args.p.now) (g.M.State.View.view c.args.entry.now) (g.M.Machine.row c.args.insn.now) (g.M.State.View.view c.args.state.now)
     (g.M.State.View.view c.advance.new.state) (reverse c.args.stack.now.items) (reverse c.go_on.new.stack.items) c.args.choice
-    c.in_ok-out.out c.match-out.how c.in_ok-end.end c.requires.lawful c.requires.state c.in_ok-out.ensures.step ways free
+    c.in_ok-out.out c.match-out.how c.in_ok-end.end c.requires.lawful (g.met.M.Machine.states c.args.state.now) c.in_ok-out.ensures ways free
     (c.in_ok-end.ensures (g.M.Machine.row c.args.insn.now) (g.M.State.View.view c.args.state.now) c.look-before.ensures)

@@ -1,5 +1,5 @@
 use Rattle.std.proofs.Common.{arith}
-use Rattle.notes_lang.specs.Reads.{IsReadable}
+use Rattle.notes_value.specs.Reads.{IsReadable}
 use Rattle.notes_lang.specs.Drafting.{assert_of}
 use Rattle.table_run.proofs.Stepped.{lawful_row}
 use Rattle.table_run.proofs.Lists.{unmapped}

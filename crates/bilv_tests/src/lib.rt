@@ -1,0 +1,5 @@
+//! Tests of the public call `bilv`: whole runs of each command over files in memory.
+#![tactic(auto)]
+
+#[cfg(test)]
+mod calls;

@@ -1,0 +1,134 @@
+-- What is answered where the inputs of a command are refused.
+use Rattle.std.proofs.Common.{◌≡◌, ℕ, ◌≤◌, ◌<◌, List, ◌∷◌, [], ◌++◌, length, Bool, true, false, refl, ap, sym, subst, ◌∙◌, arith}
+use Rattle.std.specs.Prelude.{codes, if◌then◌else◌}
+use mathlib.Core.Path.{fun_ext}
+use Rattle.bilv_spec.specs.Outside.{Held, Agrees, IsLonger, Rose}
+use Rattle.bilv_spec.specs.Memory.{Little, Big}
+use Rattle.bilv_spec.specs.Rv.{rv32}
+use Rattle.bilv_spec.specs.Arm.{arm}
+use Rattle.bilv_spec.specs.Elf.{file_endian, is_big}
+use Rattle.bilv_spec.specs.Run.{Program}
+use Rattle.bilv_spec.specs.Notes.{Notes, Function, At, Named, Expr}
+use Rattle.bilv_spec.specs.NotesGrammar.{IsNotesText}
+use Rattle.bilv_spec.specs.NotesFaults.{NoteFault, IsFirstNoteFault}
+use Rattle.bilv_spec.specs.Files.{names_of, machine_of, is_rv, program_of, IsFunctionAt}
+use Rattle.bilv_spec.specs.RvNames.{rv_names}
+use Rattle.bilv_spec.specs.ArmNames.{arm_names}
+use Rattle.bilv_spec.specs.Texts.{line, spaced, number_text}
+use Rattle.bilv_spec.specs.Answers.{Answer, plain_answer}
+use Rattle.bilv_spec.specs.Outcomes.{Surroundings, read_fault, AfterRead, read_failed, was_read, AfterElf}
+use Rattle.bilv_spec.specs.Verified.{AfterImage, elf_refused, elf_accepted, AfterNotes, notes_refused, program_found, IsElfRefused, elf_large, elf_fault, AreNotesRefused, notes_large, notes_fault, no_function, ambiguous, note_fault_text, ambiguous_text, elf_fault_text, IsFound, IsAccepted, elf_limit, notes_limit}
+use Rattle.bilv_spec.specs.ElfFaults as elf
+use Rattle.elf32_reader.specs.declared.fault.ElfFault.{ElfFault}
+use Rattle.elf32_reader.specs.declared.fault.ElfFault.TheVariants.{Short, Magic, Class, Data, Version, «Type», Machine, HeaderTable, SegmentRange, FileSize, Overlap, SymbolTable, Memory}
+use Rattle.elf32_reader.specs.Refusals.{IsRefused}
+use Rattle.elf32_reader.specs.declared.symbols.SymFault.{SymFault}
+use Rattle.elf32_reader.specs.declared.symbols.SymFault.TheVariants.{NoFunction, Ambiguous}
+use Rattle.bilv_top.specs.Answers.{IsOfFile, IfStep, elf_text_of}
+use Rattle.bilv_top.specs.declared.answer.Step.{Step}
+use Rattle.bilv_top.specs.declared.answer.Step.TheVariants.{Answered, Go}
+use Rattle.bilv_top.specs.declared.inputs.Found.{Found}
+use Rattle.bilv_top.specs.Due.{IsUnread, failed, longer, AreNotesAnswered, IsNotesAnswer, unread, refused, IsFoundBy}
+use Rattle.bilv_top.specs.Names.{IsMissedFunction, missed_text}
+
+-- the names of a file are those of its machine
+pub rv_named : (file : List ℕ) → is_rv file ≡ true → rv_names ≡ names_of file
+rv_named file is = fun_ext (λ w. sym (ap (λ b. if b then rv_names w else arm_names w) is))
+
+pub arm_named : (file : List ℕ) → is_rv file ≡ false → arm_names ≡ names_of file
+arm_named file is = fun_ext (λ w. sym (ap (λ b. if b then rv_names w else arm_names w) is))
+
+-- the first fault of a file is its refusal
+refused_as : (file : List ℕ) (f : elf.FileFault) → length file ≤ elf_limit → elf.IsFirstFileFault file f → IsElfRefused file (elf_fault_text f)
+refused_as file f le is = elf_fault f le is
+
+pub elf_is_refused : (file : List ℕ) (fault : ElfFault) → IsOfFile fault → length file ≤ elf_limit → IsRefused file fault → IsElfRefused file (elf_text_of fault)
+elf_is_refused file Short some le is = refused_as file elf.ShortFile le is
+elf_is_refused file Magic some le is = refused_as file elf.BadMagic le is
+elf_is_refused file Class some le is = refused_as file elf.BadClass le is
+elf_is_refused file Data some le is = refused_as file elf.BadData le is
+elf_is_refused file Version some le is = refused_as file elf.BadVersion le is
+elf_is_refused file «Type» some le is = refused_as file elf.BadType le is
+elf_is_refused file Machine some le is = refused_as file elf.BadMachine le is
+elf_is_refused file HeaderTable some le is = refused_as file elf.BadHeaderTable le is
+elf_is_refused file SegmentRange some le is = refused_as file elf.BadSegmentRange le is
+elf_is_refused file FileSize some le is = refused_as file elf.BadFileSize le is
+elf_is_refused file Overlap some le is = refused_as file elf.SegmentsOverlap le is
+elf_is_refused file SymbolTable some le is = refused_as file elf.BadSymbolTable le is
+elf_is_refused file Memory some le is = absurd some
+
+-- a line of the notes is refused
+pub line_answered : (file text : List ℕ) (n : ℕ) (f : NoteFault) (a : Answer) → length text ≤ notes_limit → IsFirstNoteFault (names_of file) text n f →
+    a ≡ plain_answer 5 (note_fault_text n f) → AreNotesAnswered file text a
+line_answered file text n f a le is a_is = (note_fault_text n f, notes_fault n f le is, a_is)
+
+missed_by : (file text : List ℕ) (notes : Notes) (f : Function) (fault : SymFault) → length text ≤ notes_limit → IsNotesText (names_of file) text notes → notes.entry ≡ f →
+    IsMissedFunction file f fault → AreNotesRefused file text (missed_text fault)
+missed_by file text notes (At a) fault le is e missed = absurd missed
+missed_by file text notes (Named name) NoFunction le is e missed = no_function notes name le is e missed
+missed_by file text notes (Named name) (Ambiguous a c) le is e missed = ambiguous notes name a c le is e missed
+
+-- their function is not found
+pub name_answered : (file text : List ℕ) (notes : Notes) (fault : SymFault) (a : Answer) → length text ≤ notes_limit →
+    IsNotesText (names_of file) text notes → IsMissedFunction file notes.entry fault → a ≡ plain_answer 5 (missed_text fault) → AreNotesAnswered file text a
+name_answered file text notes fault a le is missed a_is = (missed_text fault, missed_by file text notes notes.entry fault le is refl missed, a_is)
+
+module _ (s : Surroundings) (elf : List ℕ) (Next : List ℕ → Answer → Type 0) (a : Answer) where
+  -- the ELF file was not read
+  pub elf_unread : IsUnread (s.held elf) (s.shelf_before elf) (s.shelf_after elf) elf_limit (plain_answer 4 (line (codes "elf: TooLarge"))) a → AfterElf s elf Next a
+  elf_unread (failed rose is) = read_failed rose is
+  elf_unread (longer long is) = was_read long.0 long.1 (elf_refused (line (codes "elf: TooLarge")) (elf_large long.2) is)
+
+  -- it is refused
+  pub elf_refuses : (file : List ℕ) (fault : ElfFault) → Agrees (s.held elf) file → length file ≤ elf_limit → IsOfFile fault → IsRefused file fault →
+      a ≡ plain_answer 4 (elf_text_of fault) → AfterElf s elf Next a
+  elf_refuses file fault agrees le some first a_is = was_read file agrees (elf_refused (elf_text_of fault) (elf_is_refused file fault some le first) a_is)
+
+  -- it is accepted
+  pub elf_accepts : (file : List ℕ) → Agrees (s.held elf) file → IsAccepted file → Next file a → AfterElf s elf Next a
+  elf_accepts file agrees accepted next = was_read file agrees (elf_accepted accepted next)
+
+module _ (s : Surroundings) (notes file : List ℕ) (Next : List ℕ → Program → Answer → Type 0) (a : Answer) where
+  -- no program is found
+  pub notes_answered : IsNotesAnswer (s.held notes) (s.shelf_before notes) (s.shelf_after notes) file a → AfterRead s notes (λ text. AfterNotes file text (Next text)) a
+  notes_answered (unread (failed rose is)) = read_failed rose is
+  notes_answered (unread (longer long is)) = was_read long.0 long.1 (notes_refused (line (codes "notes: TooLarge")) (notes_large long.2) is)
+  notes_answered (refused text agrees answered) = was_read text agrees (notes_refused answered.0 answered.1 answered.2)
+
+  -- a program is found
+  pub notes_found : (text : List ℕ) (found : Notes) (entry : ℕ) → Agrees (s.held notes) text → length text ≤ notes_limit → IsAccepted file →
+      IsNotesText (names_of file) text found → IsFunctionAt file found.entry entry →
+      (IsFound file text (program_of file found entry) → Next text (program_of file found entry) a) → AfterRead s notes (λ text. AfterNotes file text (Next text)) a
+  notes_found text found entry agrees le accepted says at next =
+      let is : IsFound file text (program_of file found entry) = (accepted, le, (found, entry, says, at, refl)) in
+      was_read text agrees (program_found (program_of file found entry) is (next is))
+
+-- what rises behind a count that never falls has risen from before
+pub rose_since : (a b c : ℕ) → a ≤ b → Rose b c → Rose a c
+rose_since a b c h r = omega arith
+
+pub unread_since : (held : Held) (a b c limit : ℕ) (large answer : Answer) → a ≤ b → IsUnread held b c limit large answer → IsUnread held a c limit large answer
+unread_since held a b c limit large answer le (failed rose is) = failed (rose_since a b c le rose) is
+unread_since held a b c limit large answer le (longer long is) = longer long is
+
+pub answer_since : (held : Held) (a b c : ℕ) (file : List ℕ) (answer : Answer) → a ≤ b → IsNotesAnswer held b c file answer → IsNotesAnswer held a c file answer
+answer_since held a b c file answer le (unread is) = unread (unread_since held a b c notes_limit _ answer le is)
+answer_since held a b c file answer le (refused text agrees answered) = refused text agrees answered
+
+-- what is read of a file whose count never fell before
+pub read_since : (s t : Surroundings) (name : List ℕ) (Next : List ℕ → Answer → Type 0) (a : Answer) → s.held name ≡ t.held name →
+    t.shelf_before name ≤ s.shelf_before name → s.shelf_after name ≡ t.shelf_after name → AfterRead s name Next a → AfterRead t name Next a
+read_since s t name Next a held le same (read_failed rose is) =
+    read_failed (subst (λ n. Rose (t.shelf_before name) n) same (rose_since (t.shelf_before name) (s.shelf_before name) (s.shelf_after name) le rose)) is
+read_since s t name Next a held le same (was_read bytes agrees next) = was_read bytes (subst (λ h. Agrees h bytes) held agrees) next
+
+pub two_falls : (a b c : ℕ) → a ≤ b → b ≤ c → a ≤ c
+two_falls a b c h k = omega arith
+
+-- a step that found a program in the text of notes, or answered
+pub step_found : (held : Held) (before after : ℕ) (file text : List ℕ) (step : Step Found) → Agrees held text → length text ≤ notes_limit →
+    IfStep step (AreNotesAnswered file text) (λ f. (f.text.items ≡ text) × IsFoundBy file f) →
+    IfStep step (IsNotesAnswer held before after file) (λ f. Agrees held f.text.items × (length f.text.items ≤ notes_limit) × IsFoundBy file f)
+step_found held before after file text (Answered a) agrees le is = refused text agrees is
+step_found held before after file text (Go f) agrees le is =
+    (subst (Agrees held) (sym is.0) agrees, subst (λ t. length t ≤ notes_limit) (sym is.0) le, is.1)

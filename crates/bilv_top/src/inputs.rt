@@ -1,0 +1,168 @@
+//! The inputs of commands: an ELF file, and notes over it; and the answers where they are refused.
+ghost use Rattle.std.specs.Prelude.{◌≡◌, ◌≤◌, ℕ, List, IfOk, MatchResult, codes, length};
+ghost use Rattle.bilv_spec.specs.Answers.{plain_answer};
+ghost use Rattle.bilv_spec.specs.Files.{IsFunctionAt, is_rv, machine_of, names_of};
+ghost use Rattle.bilv_spec.specs.Outside.{Agrees};
+ghost use Rattle.bilv_spec.specs.Texts.{line};
+ghost use Rattle.bilv_spec.specs.Verified as verified;
+ghost use Rattle.notes_lang.specs.Judging.{fault_of};
+ghost use Rattle.notes_lang.specs.Parsing.{layout_names, layout_registers};
+ghost use Rattle.notes_lang.specs.Saying.{function_of};
+ghost use Rattle.bilv_top.specs.Answers.{IsOfFile, IfStep, answer_of, elf_text_of};
+ghost use Rattle.bilv_top.specs.Due.{AreNotesAnswered, IsFoundBy, IsNotesAnswer, IsUnread};
+ghost use Rattle.bilv_top.specs.Names.{missed_text, IsMissedFunction};
+
+use crate::answer::{Answer, Step};
+use crate::reading::{answer, read_or_answer};
+use crate::texts::{ambiguous_line, elf_fault_line, note_fault_words, refused_line};
+use elf32_reader::{ElfFault, Image, SymFault};
+use io_edges::Shelf;
+use notes_lang::{Function, NoteFault, Notes, NotesError, parse};
+use state_text::Layout;
+use std::alloc::{AllocError, Global};
+
+/// The most bytes of an ELF file.
+const ELF_LIMIT: u64 = 16_777_216;
+
+/// The most bytes of notes.
+const NOTES_LIMIT: u64 = 262_144;
+
+/// The machine number of RISC-V (System V ABI, ELF header).
+const RISC_V: u16 = 243;
+
+/// The status of a refused ELF file.
+const ELF_REFUSED: u8 = 4;
+
+/// The status of refused notes.
+const NOTES_REFUSED: u8 = 5;
+
+/// Notes over an image, their text, and the address of their function.
+#[derive(Drop)]
+pub struct Found {
+    pub text: Vec<u8>,
+    pub notes: Notes,
+    pub entry: u32,
+}
+
+/// Whether a file is one of RISC-V.
+pub fn is_risc_v(image: &Image) -> bool
+    ensures { result ≡ is_rv image.now }
+{
+    image.machine() == RISC_V
+}
+
+/// The form of a file's machine.
+fn layout(image: &Image) -> Layout
+    ensures names { layout_names result ≡ names_of image.now }
+    ensures registers { layout_registers result ≡ (machine_of image.now).has_register }
+{
+    if is_risc_v(image) {
+        Layout::Rv32
+    } else if image.big() {
+        Layout::ArmBig
+    } else {
+        Layout::ArmLittle
+    }
+}
+
+/// Reads an ELF file, or answers.
+pub fn read_elf<H: Shelf>(
+    alloc: Global,
+    shelf: &mut H,
+    elf: &str,
+) -> Result<Step<Vec<u8>>, AllocError>
+    ensures keeps { (n : List ℕ) → H.holds shelf.new n ≡ H.holds shelf.old n }
+    ensures never_falls { (n : List ℕ) → H.faults shelf.old n ≤ H.faults shelf.new n }
+    ensures read { IfOk result (λ step. IfStep step
+        (IsUnread (H.holds shelf.old elf.now) (H.faults shelf.old elf.now) (H.faults shelf.new elf.now) verified.elf_limit (plain_answer 4 (line (codes "elf: TooLarge"))))
+        (λ v. Agrees (H.holds shelf.old elf.now) v.items × (length v.items ≤ verified.elf_limit))) }
+{
+    let large = b"elf: TooLarge\n";
+    let step = read_or_answer(alloc, shelf, elf, ELF_LIMIT, ELF_REFUSED, large)?;
+    Ok(step)
+}
+
+/// The answer to a refused ELF file. The error is want of memory.
+pub fn refuse_elf(alloc: Global, fault: ElfFault) -> Result<Answer, AllocError>
+    ensures { IfOk result (λ a. IsOfFile fault × (answer_of a ≡ plain_answer 4 (elf_text_of fault))) }
+{
+    match elf_fault_line(fault) {
+        Some(text) => answer(alloc, ELF_REFUSED, text),
+        None => Err(AllocError),
+    }
+}
+
+/// The address of the function of notes.
+fn entry_of(image: &Image, notes: &Notes) -> Result<u32, SymFault>
+    ensures { MatchResult result (IsFunctionAt image.now (function_of notes.now.entry)) (IsMissedFunction image.now (function_of notes.now.entry)) }
+{
+    match &notes.entry {
+        Function::At(at) => Ok(*at),
+        Function::Named(name) => image.function_named(name),
+    }
+}
+
+/// The answer to notes with a faulty line. The error is want of memory.
+fn refuse_line(alloc: Global, fault: NoteFault) -> Result<Answer, AllocError>
+    ensures { IfOk result (λ a. answer_of a ≡ plain_answer 5 (verified.note_fault_text fault.line (fault_of fault.kind))) }
+{
+    let words = note_fault_words(fault.kind);
+    let text = refused_line(alloc, b"notes: line", fault.line as u64, words)?;
+    Ok(Answer {
+        status: NOTES_REFUSED,
+        text,
+    })
+}
+
+/// The answer to notes whose function is not found. The error is want of memory.
+fn refuse_name(alloc: Global, fault: SymFault) -> Result<Answer, AllocError>
+    ensures { IfOk result (λ a. answer_of a ≡ plain_answer 5 (missed_text fault)) }
+{
+    match fault {
+        SymFault::NoFunction => answer(alloc, NOTES_REFUSED, b"notes: NoFunction\n"),
+        SymFault::Ambiguous(a, b) => {
+            let text = ambiguous_line(alloc, a, b)?;
+            Ok(Answer {
+                status: NOTES_REFUSED,
+                text,
+            })
+        }
+    }
+}
+
+/// The notes that a text says and the address of their function, or the answer that refuses them.
+fn find_program(alloc: Global, image: &Image, text: Vec<u8>) -> Result<Step<Found>, AllocError>
+    requires short { length text.items ≤ verified.notes_limit }
+    ensures { IfOk result (λ step. IfStep step (AreNotesAnswered image.now text.items) (λ f. (f.text.items ≡ text.items) × IsFoundBy image.now f)) }
+{
+    let notes = match parse(alloc, &text, layout(image)) {
+        Ok(notes) => notes,
+        Err(NotesError::Fault(fault)) => return Ok(Step::Answered(refuse_line(alloc, fault)?)),
+        Err(NotesError::Memory) => return Err(AllocError),
+    };
+    match entry_of(image, &notes) {
+        Ok(entry) => Ok(Step::Go(Found { text, notes, entry })),
+        Err(fault) => Ok(Step::Answered(refuse_name(alloc, fault)?)),
+    }
+}
+
+/// Reads notes over an image and finds their function, or answers. The error is want of memory.
+pub fn read_notes<H: Shelf>(
+    alloc: Global,
+    shelf: &mut H,
+    image: &Image,
+    name: &str,
+) -> Result<Step<Found>, AllocError>
+    ensures keeps { (n : List ℕ) → H.holds shelf.new n ≡ H.holds shelf.old n }
+    ensures never_falls { (n : List ℕ) → H.faults shelf.old n ≤ H.faults shelf.new n }
+    ensures read { IfOk result (λ step. IfStep step
+        (IsNotesAnswer (H.holds shelf.old name.now) (H.faults shelf.old name.now) (H.faults shelf.new name.now) image.now)
+        (λ f. Agrees (H.holds shelf.old name.now) f.text.items × (length f.text.items ≤ verified.notes_limit) × IsFoundBy image.now f)) }
+{
+    let large = b"notes: TooLarge\n";
+    let step = match read_or_answer(alloc, shelf, name, NOTES_LIMIT, NOTES_REFUSED, large)? {
+        Step::Go(text) => find_program(alloc, image, text)?,
+        Step::Answered(answer) => Step::Answered(answer),
+    };
+    Ok(step)
+}

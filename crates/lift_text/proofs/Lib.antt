@@ -1,0 +1,4 @@
+pub mod Givens
+pub mod Digits
+pub mod Texts
+pub mod Written

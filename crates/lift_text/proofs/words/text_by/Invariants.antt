@@ -1,0 +1,13 @@
+use Rattle.std.proofs.Common.{◌≡◌, ◌-◌, ◌≤◌, ◌%◌, ◌^◌}
+use Rattle.lift_text.specs.Progress.{IsTextTo}
+use Rattle.lift_text.proofs.words.text_by.Given as goal
+
+abbrev pub invariant-loop-at : goal.invariant-loop-at
+invariant-loop-at g l = record {
+  within : l.at ≤ 2 ^ 32;
+  aligned : l.at % 4 ≡ 0;
+  text : IsTextTo g.R.Rows.row_of l.image l.at l.out.items;
+}
+
+abbrev pub decreases-loop-at : goal.decreases-loop-at
+decreases-loop-at g l = 4294967296 - l.at

@@ -1,0 +1,68 @@
+//! The line of a word.
+
+ghost use Rattle.std.specs.Prelude.{◌≡◌, ◌++◌, ◌∷◌, length, slice_index, OnOk};
+ghost use Rattle.bilv_spec.specs.Memory as memory;
+ghost use Rattle.bilv_spec.specs.Texts.{word_text};
+ghost use Rattle.bilv_spec.specs.Files.{machine_of};
+ghost use Rattle.lift_text.specs.Found.{bytes_text};
+
+use elf32_reader::Image;
+use state_text::push_word;
+use std::alloc::{AllocError, Global};
+
+/// What e_machine is for RISC-V.
+const RISCV: u16 = 243;
+
+/// Whether the byte order of a file's machine is big.
+pub(crate) fn is_big(image: &Image) -> bool
+    ensures { memory.endian result ≡ (machine_of image.now).endian }
+{
+    if image.machine() == RISCV {
+        return false;
+    }
+    image.big()
+}
+
+/// The word of four bytes in a byte order.
+pub(crate) fn word_of(bytes: [u8; 4], big: bool) -> u32
+    ensures { result ≡ memory.number (memory.endian big) 4 (λ i. slice_index bytes i) }
+{
+    if big {
+        u32::from_be_bytes(bytes)
+    } else {
+        u32::from_le_bytes(bytes)
+    }
+}
+
+/// Appends a text.
+pub(crate) fn push_text(out: &mut Vec<u8>, text: &[u8]) -> Result<(), AllocError>
+    ensures { OnOk result (out.new.items ≡ out.old.items ++ text.now) }
+{
+    out.extend_from_slice(text)?;
+    Ok(())
+}
+
+/// Appends two hexadecimal digits for each byte of a word.
+fn push_bytes(alloc: Global, out: &mut Vec<u8>, bytes: &[u8]) -> Result<(), AllocError>
+    requires { length bytes.now ≡ 4 }
+    ensures { OnOk result (out.new.items ≡ out.old.items ++ bytes_text bytes.now) }
+{
+    let digits = hex::encode(alloc, bytes)?;
+    push_text(out, digits.as_bytes())?;
+    Ok(())
+}
+
+/// Appends the address of a word, and its bytes in the file's order.
+pub(crate) fn push_word_line(
+    alloc: Global,
+    out: &mut Vec<u8>,
+    at: u32,
+    bytes: [u8; 4],
+) -> Result<(), AllocError>
+    ensures { OnOk result (out.new.items ≡ out.old.items ++ (word_text at ++ 32 ∷ bytes_text bytes)) }
+{
+    push_word(out, at)?;
+    push_text(out, b" ")?;
+    push_bytes(alloc, out, &bytes)?;
+    Ok(())
+}

@@ -1,0 +1,87 @@
+//! The words of a file, one behind the other.
+
+ghost use Rattle.std.specs.Prelude.{ℕ, ◌≡◌, ◌++◌, ◌%◌, List, IfOk, OnOk};
+ghost use Rattle.bilv_spec.specs.Files.{machine_of, is_rv};
+ghost use Rattle.bilv_spec.specs.LiftText.{bank_by, IsLiftTextBy};
+ghost use Rattle.lift_text.specs.Found.{IsWordFound};
+ghost use Rattle.lift_text.specs.Rest.{rest_text};
+ghost use Rattle.lift_text.specs.Progress.{IsAppended, IsAdvance};
+
+use crate::candidates::{Candidate, END, look_at};
+use crate::lines::{is_big, push_text, push_word_line, word_of};
+use crate::rows::Rows;
+use bil_ast::Stmt;
+use bil_print::append_stmts;
+use elf32_reader::Image;
+use std::alloc::{AllocError, Global};
+
+/// Appends what stands behind a word's bytes: ` none`, or its statements on lines of their own.
+fn push_rest(alloc: Global, out: &mut Vec<u8>, lifted: Option<Vec<Stmt>>) -> Result<(), AllocError>
+    ensures { OnOk result (out.new.items ≡ out.old.items ++ rest_text lifted) }
+{
+    match lifted {
+        None => {
+            push_text(out, b" none\n")?;
+            Ok(())
+        }
+        Some(list) => {
+            let mut text = String::new(alloc);
+            append_stmts(alloc, &mut text, &list, 1)?;
+            push_text(out, b"\n")?;
+            push_text(out, text.as_bytes())?;
+            Ok(())
+        }
+    }
+}
+
+/// Appends the lines of a word.
+fn push_word<R: Rows>(
+    alloc: Global,
+    image: &Image,
+    out: &mut Vec<u8>,
+    at: u32,
+    bytes: [u8; 4],
+) -> Result<(), AllocError>
+    requires rows { R.IsFor (machine_of image.now) (bank_by (is_rv image.now)) }
+    requires found { IsWordFound image.now at bytes }
+    ensures { OnOk result (IsAppended R.row_of image.now at out.old.items out.new.items) }
+{
+    let word = word_of(bytes, is_big(image));
+    let lifted = R::lift(alloc, word, at)?;
+    push_word_line(alloc, out, at, bytes)?;
+    push_rest(alloc, out, lifted)?;
+    Ok(())
+}
+
+/// Appends the lines of the word at a multiple of 4, if one stands there. The result is the multiple of 4 to look at next, 2^32 behind the last.
+fn push_next<R: Rows>(
+    alloc: Global,
+    image: &Image,
+    out: &mut Vec<u8>,
+    at: u32,
+) -> Result<u64, AllocError>
+    requires rows { R.IsFor (machine_of image.now) (bank_by (is_rv image.now)) }
+    requires aligned { at % 4 ≡ 0 }
+    ensures { IfOk result (λ next. IsAdvance R.row_of image.now at out.old.items next out.new.items) }
+{
+    match look_at(image, at) {
+        Candidate::Next(next) => Ok(next),
+        Candidate::Word(bytes) => {
+            push_word::<R>(alloc, image, out, at, bytes)?;
+            Ok(at as u64 + 4)
+        }
+    }
+}
+
+/// The text of all words.
+pub(crate) fn text_by<R: Rows>(alloc: Global, image: &Image) -> Result<Vec<u8>, AllocError>
+    requires { R.IsFor (machine_of image.now) (bank_by (is_rv image.now)) }
+    ensures { IfOk result (λ v. IsLiftTextBy R.row_of image.now v.items) }
+{
+    let mut out = Vec::new(alloc);
+    let mut at: u64 = 0;
+    while at < END {
+        at = push_next::<R>(alloc, image, &mut out, at as u32)?;
+    }
+    Ok(out)
+}

@@ -1,0 +1,4 @@
+pub mod Numbers
+pub mod Lexing
+pub mod Splitting
+pub mod Said

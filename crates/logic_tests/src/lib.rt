@@ -1,0 +1,15 @@
+//! Tests of BIL, clauses, refutations and the search, each by its public calls: worked cases, and that calls which may run out of memory succeed with ample memory.
+//!
+//! They stand apart so that each part is proved once, and not again with its tests.
+#![tactic(auto)]
+
+#[cfg(test)]
+mod clauses;
+#[cfg(test)]
+mod evaluation;
+#[cfg(test)]
+mod printing;
+#[cfg(test)]
+mod refutations;
+#[cfg(test)]
+mod search;

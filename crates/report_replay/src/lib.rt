@@ -1,0 +1,11 @@
+//! The judgement of a report by running it again: its text is read, and the run from its state has to end as the text says.
+#![tactic(auto)]
+
+mod comparing;
+mod reading;
+mod replays;
+mod running;
+mod texts;
+
+pub use replays::replay;
+pub use texts::Replay;

@@ -1,0 +1,79 @@
+//! What the text of a report says, where the file gives some bytes.
+ghost use Rattle.std.specs.Prelude.{◌≡◌, ℕ, ◌+◌, ◌<◌, ◌^◌, IfOk, MatchOption, length};
+ghost use Rattle.bilv_spec.specs.Files.{program_of};
+ghost use Rattle.bilv_spec.specs.Points.{is_known_at};
+ghost use Rattle.bilv_spec.specs.StateText.{Told, StateRefused, StateByteFault, state_of};
+ghost use Rattle.state_text.specs.Starts.{layout_of};
+ghost use Rattle.state_text.specs.Readings.{told_but};
+ghost use Rattle.notes_lang.specs.Drafting.{notes_of};
+ghost use Rattle.report_replay.specs.Readings.{told_of};
+
+use elf32_reader::Image;
+use notes_lang::Notes;
+use state_text::{Layout, ParseFault, StateFault, StateText, parse_state};
+use std::alloc::{AllocError, Global};
+use table_run::is_known;
+
+/// What a text says: a state, or nothing, refused at a line.
+#[derive(Drop)]
+pub(crate) enum Reading {
+    State(StateText),
+    Refused { line: u64, kind: StateFault },
+}
+
+/// The number of the first line of a byte that the file gives, for bytes on lines that follow each other from a number on.
+fn known_line(image: &Image, notes: &Notes, bytes: &[(u32, u8)], first: u64) -> Option<u64>
+    requires { first < 2 ^ 32 }
+    ensures { (entry : ℕ) (told : Told) →
+        let known = is_known_at (program_of image.now (notes_of notes.now) entry) in
+        MatchOption result (told_but known first bytes.now told ≡ told) (λ n. told_but known first bytes.now told ≡ StateRefused n StateByteFault) }
+{
+    for i in 0..bytes.len() {
+        if is_known(image, notes, bytes[i].0) {
+            return Some(first + i as u64);
+        }
+    }
+    None
+}
+
+/// A reading of a text with these bytes, but for one that the file gives, whose line is refused.
+fn unless_known(image: &Image, notes: &Notes, bytes: &[(u32, u8)], first: u64) -> Option<Reading>
+    requires { first < 2 ^ 32 }
+    ensures { (entry : ℕ) (told : Told) →
+        let known = is_known_at (program_of image.now (notes_of notes.now) entry) in
+        MatchOption result (told_but known first bytes.now told ≡ told) (λ r. told_but known first bytes.now told ≡ told_of r) }
+{
+    match known_line(image, notes, bytes, first) {
+        None => None,
+        Some(line) => Some(Reading::Refused {
+            line,
+            kind: StateFault::Byte,
+        }),
+    }
+}
+
+/// What a text says. The error is want of memory.
+pub(crate) fn read_text(
+    alloc: Global,
+    image: &Image,
+    notes: &Notes,
+    layout: Layout,
+    text: &[u8],
+) -> Result<Reading, AllocError>
+    ensures { (entry : ℕ) → IfOk result (λ r. state_of (layout_of layout) (is_known_at (program_of image.now (notes_of notes.now) entry)) text.now ≡ told_of r) }
+{
+    let first = layout.head_lines() + 1;
+    match parse_state(alloc, text, layout) {
+        Ok(state) => match unless_known(image, notes, &state.start.bytes, first) {
+            None => Ok(Reading::State(state)),
+            Some(refused) => Ok(refused),
+        },
+        Err(ParseFault::Refused { line, kind, bytes }) => {
+            match unless_known(image, notes, &bytes, first) {
+                None => Ok(Reading::Refused { line, kind }),
+                Some(refused) => Ok(refused),
+            }
+        }
+        Err(ParseFault::Memory) => Err(AllocError),
+    }
+}

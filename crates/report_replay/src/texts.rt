@@ -1,0 +1,189 @@
+//! The texts of answers.
+ghost use Rattle.std.specs.Prelude.{◌≡◌, ℕ, ◌+◌, ◌++◌, ◌≤◌, List, Option, Some, None, true, false, IfOk, OnOk, codes};
+ghost use Rattle.bilv_spec.specs.Run.{Program, Start};
+ghost use Rattle.bilv_spec.specs.StateText.{Layout, StateRefused, last_step};
+ghost use Rattle.bilv_spec.specs.Reports as reports;
+ghost use Rattle.bilv_spec.specs.Reports.{named_step, found_words};
+ghost use Rattle.bilv_spec.specs.Texts.{line, joined, number_text};
+ghost use Rattle.bilv_spec.specs.Answers.{plain_answer};
+ghost use Rattle.bilv_spec.specs.Replays.{sized_answer, told_answer, start_answer, require_answer, ending_answer, state_fault_words, bound_of};
+ghost use Rattle.state_text.specs.Starts.{named_of};
+ghost use Rattle.state_text.specs.Readings.{fault_of};
+ghost use Rattle.table_run.specs.Endings.{found_of};
+
+use crate::comparing::is_found;
+use state_text::{NamedEnding, StateFault, push_ending, push_step};
+use std::alloc::{AllocError, Global};
+use table_run::Ending;
+
+/// What is answered to a report.
+#[derive(Drop, Debug)]
+pub struct Replay {
+    /// The exit status: 0 where the run ends as is named, else 9.
+    pub status: u8,
+    /// The text that is printed, with its line feed.
+    pub text: Vec<u8>,
+}
+
+/// The exit status of a report that was replayed.
+const REPLAYED: u8 = 0;
+
+/// The exit status of each other report.
+const REFUSED: u8 = 9;
+
+/// Appends a decimal number.
+fn push_number(alloc: Global, out: &mut Vec<u8>, n: u64) -> Result<(), AllocError>
+    ensures { OnOk result (out.new.items ≡ out.old.items ++ number_text n) }
+{
+    let text = n.to_string(alloc)?;
+    out.extend_from_slice(text.as_bytes())?;
+    Ok(())
+}
+
+/// The refusal with a text.
+fn refusal(alloc: Global, text: &[u8]) -> Result<Replay, AllocError>
+    ensures { IfOk result (λ r. plain_answer r.status r.text.items ≡ plain_answer 9 text.now) }
+{
+    let mut out = Vec::new(alloc);
+    out.extend_from_slice(text)?;
+    Ok(Replay {
+        status: REFUSED,
+        text: out,
+    })
+}
+
+/// The answer to a text that is too long.
+pub(crate) fn too_large(alloc: Global) -> Result<Replay, AllocError>
+    ensures { (p : Program) (layout : Layout) (text : List ℕ) → IfOk result (λ r. plain_answer r.status r.text.items ≡ sized_answer true p layout text) }
+{
+    refusal(alloc, b"state: TooLarge\n")
+}
+
+/// The answer where the link register is no multiple of 4.
+pub(crate) fn unaligned(alloc: Global) -> Result<Replay, AllocError>
+    ensures { (p : Program) (named : reports.NamedEnding) (start : Start) → IfOk result (λ r. plain_answer r.status r.text.items ≡ start_answer false p named start) }
+{
+    refusal(alloc, b"state: link\n")
+}
+
+/// A fault behind the number of its line, with the line feed.
+fn fault_text(kind: StateFault) -> &'static [u8]
+    ensures { result.now ≡ line (codes " " ++ state_fault_words (fault_of kind)) }
+{
+    match kind {
+        StateFault::Line => b" S1 Line\n",
+        StateFault::Register => b" S2 Register\n",
+        StateFault::Byte => b" S3 Byte\n",
+        StateFault::Choice => b" S4 Choice\n",
+        StateFault::End => b" S5 End\n",
+    }
+}
+
+/// The answer to a text that is refused at a line.
+pub(crate) fn refused(alloc: Global, line: u64, kind: StateFault) -> Result<Replay, AllocError>
+    ensures { (p : Program) (layout : Layout) → IfOk result (λ r. plain_answer r.status r.text.items ≡ told_answer p layout (StateRefused line (fault_of kind))) }
+{
+    let mut out = Vec::new(alloc);
+    out.extend_from_slice(b"state: line ")?;
+    push_number(alloc, &mut out, line)?;
+    out.extend_from_slice(fault_text(kind))?;
+    Ok(Replay {
+        status: REFUSED,
+        text: out,
+    })
+}
+
+/// The answer where a require line is the first that is false.
+pub(crate) fn false_require(alloc: Global, line: u32) -> Result<Replay, AllocError>
+    ensures { (named : reports.NamedEnding) (found : reports.Found) → IfOk result (λ r. plain_answer r.status r.text.items ≡ require_answer (Some line) named found) }
+{
+    let mut out = Vec::new(alloc);
+    out.extend_from_slice(b"state: require ")?;
+    push_number(alloc, &mut out, line as u64)?;
+    out.push(b'\n')?;
+    Ok(Replay {
+        status: REFUSED,
+        text: out,
+    })
+}
+
+/// The answer where the run ends as is named.
+fn replayed(alloc: Global, named: NamedEnding) -> Result<Replay, AllocError>
+    ensures { (found : reports.Found) → IfOk result (λ r. plain_answer r.status r.text.items ≡ ending_answer true (named_of named) found) }
+{
+    let mut out = Vec::new(alloc);
+    out.extend_from_slice(b"replayed ")?;
+    push_ending(alloc, &mut out, named)?;
+    out.push(b'\n')?;
+    Ok(Replay {
+        status: REPLAYED,
+        text: out,
+    })
+}
+
+/// How many backward transfers the run of a named ending is allowed: those of its bound, and without one more than there are steps.
+fn turns_within(named: NamedEnding) -> u64
+    requires { named_step (named_of named) ≤ last_step }
+    ensures { result ≡ reports.turns_within (named_step (named_of named)) (bound_of (named_of named)) }
+{
+    match named {
+        NamedEnding::FailsBy { step, .. } => step + 1,
+        NamedEnding::UnknownBy { k, .. } => k,
+    }
+}
+
+/// Appends what a run came to that was allowed `k` backward transfers.
+fn push_found(alloc: Global, out: &mut Vec<u8>, k: u64, ending: Ending) -> Result<(), AllocError>
+    ensures { OnOk result (out.new.items ≡ out.old.items ++ joined (found_words k (found_of ending))) }
+{
+    match ending {
+        Ending::Exit { at, step } => {
+            out.extend_from_slice(b"exit ")?;
+            push_step(alloc, out, at, step)?;
+            Ok(())
+        }
+        Ending::Failed { event, at, step } => {
+            push_ending(alloc, out, NamedEnding::FailsBy { event, at, step })
+        }
+        Ending::Turned { at, step } => {
+            push_ending(alloc, out, NamedEnding::UnknownBy { k, at, step })
+        }
+        Ending::Left { at, step } => {
+            out.extend_from_slice(b"running ")?;
+            push_step(alloc, out, at, step)?;
+            Ok(())
+        }
+    }
+}
+
+/// The answer where the run comes to something else than is named.
+fn found_other(alloc: Global, named: NamedEnding, ending: Ending) -> Result<Replay, AllocError>
+    requires { named_step (named_of named) ≤ last_step }
+    ensures { IfOk result (λ r. plain_answer r.status r.text.items ≡ ending_answer false (named_of named) (found_of ending)) }
+{
+    let mut out = Vec::new(alloc);
+    out.extend_from_slice(b"replay: named ")?;
+    push_ending(alloc, &mut out, named)?;
+    out.extend_from_slice(b", found ")?;
+    push_found(alloc, &mut out, turns_within(named), ending)?;
+    out.push(b'\n')?;
+    Ok(Replay {
+        status: REFUSED,
+        text: out,
+    })
+}
+
+/// The answer by what the run of a named ending came to.
+pub(crate) fn compared(
+    alloc: Global,
+    named: NamedEnding,
+    ending: Ending,
+) -> Result<Replay, AllocError>
+    requires { named_step (named_of named) ≤ last_step }
+    ensures { IfOk result (λ r. plain_answer r.status r.text.items ≡ require_answer None (named_of named) (found_of ending)) }
+{
+    if is_found(named, ending) {
+        return replayed(alloc, named);
+    }
+    found_other(alloc, named, ending)
+}

@@ -1,6 +1,0 @@
-use Rattle.std.proofs.Common.{◌≡◌, ◌^◌, min, take}
-use Rattle.std.specs.Str.Parse.{digits_value}
-use Rattle.state_text.proofs.bytes.capped_value.Given as goal
-
-abbrev pub invariant-loop-b : goal.invariant-loop-b
-invariant-loop-b l = l.value ≡ min (digits_value l.base (take l.b-index l.digits)) (2 ^ 32)
