@@ -22,10 +22,11 @@ const ADDITION: u32 = 0x0015_0513;
 /// JALR x0, 0(ra).
 const RETURN: u32 = 0x0000_8067;
 
-/// What the files hold: `e`, a row file of these words of which so many bytes are left; `n`, the notes; `t`, a report or a certificate.
+/// What the files hold: `e`, a row file of these words that names so many segments, of which so many bytes are left; `n`, the notes; `t`, a report or a certificate.
 #[derive(Clone, Copy)]
 struct Files<'a> {
     words: &'a [u32],
+    segments: u8,
     bytes: usize,
     notes: &'a str,
     text: &'a [u8],
@@ -34,6 +35,7 @@ struct Files<'a> {
 /// The file of one addition, its notes, and a certificate.
 const ONE: Files<'static> = Files {
     words: &[ADDITION, RETURN],
+    segments: 1,
     bytes: usize::MAX,
     notes: "entry 0x10000\nensure a0 = old(a0) + 1\n",
     text: b"",
@@ -47,6 +49,9 @@ fn row_file(alloc: Global, files: &Files) -> Result<Vec<u8>, Fail> {
     bytes.extend_from_slice(&[5, 0, 0, 0, 4, 0, 0, 0])?;
     for word in files.words {
         bytes.extend_from_slice(&word.to_le_bytes())?;
+    }
+    if let Some(count) = bytes.get_mut(44) {
+        *count = files.segments;
     }
     bytes.truncate(files.bytes);
     Ok(bytes)
@@ -129,6 +134,36 @@ fn verifies(rt: HostRuntime) -> Result<(), Fail> {
         };
         let (found, written) = answer(rt.alloc(), "bilv verify e n", &files, u64::MAX, u64::MAX)?;
         assert_eq!(rt; found, status, "at {notes}");
+        assert_eq!(rt; written.as_slice(), text.as_bytes());
+    }
+    Ok(())
+}
+
+/// The words of a second program header, of a segment within the first.
+const SECOND: [u32; 8] = [1, 84, 0x1_0004, 0, 4, 4, 5, 4];
+
+#[test]
+fn refuses_overlaps_and_large_notes(rt: HostRuntime) -> Result<(), Fail> {
+    let mut notes = String::from_str(rt.alloc(), ONE.notes)?;
+    for _ in 0..262_145usize - 38 {
+        notes.push('\n')?;
+    }
+    let overlapping = Files {
+        words: &SECOND,
+        segments: 2,
+        ..ONE
+    };
+    let large = Files {
+        notes: &notes,
+        ..ONE
+    };
+    let cases = [
+        (overlapping, 4, "elf: E11 Overlap\n"),
+        (large, 5, "notes: TooLarge\n"),
+    ];
+    for (files, status, text) in cases {
+        let (found, written) = answer(rt.alloc(), "bilv verify e n", &files, u64::MAX, u64::MAX)?;
+        assert_eq!(rt; found, status, "at {text}");
         assert_eq!(rt; written.as_slice(), text.as_bytes());
     }
     Ok(())
