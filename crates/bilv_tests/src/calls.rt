@@ -94,7 +94,7 @@ fn answer(
     let words = words_of(alloc, line)?;
     let mut shelf = shelf_of(alloc, files, failing_read)?;
     let failing = vec![in alloc; failing_write]?;
-    let mut sink = MemSink::new(alloc, 100, 3, failing)?;
+    let mut sink = MemSink::new(alloc, 4000, 3, failing)?;
     let outcome = bilv(alloc, &words, &mut shelf, &mut sink);
     Ok((outcome.status, sink.text().to_vec(alloc)?))
 }
@@ -263,6 +263,146 @@ fn lifts(rt: HostRuntime) -> Result<(), Fail> {
     let (found, written) = answer(rt.alloc(), "bilv lift e", &files, u64::MAX, u64::MAX)?;
     assert_eq!(rt; found, 0);
     assert_eq!(rt; written.as_slice(), text.as_bytes());
+    Ok(())
+}
+
+/// One word for each instruction of RV32IM.
+const EACH: [u32; 48] = [
+    0x12345537, 0x00001597, 0x008000ef, 0x004280e7, 0x00b50463, 0xfeb51ee3, 0x00b54463, 0x00b55463,
+    0x00b56463, 0x00b57463, 0xfff58503, 0x00259503, 0x0045a503, 0x0015c503, 0x0025d503, 0xfea58fa3,
+    0x00a59123, 0x00a5a223, 0xfff58513, 0xffb5a513, 0xffb5b513, 0xfff5c513, 0x0105e513, 0x0ff5f513,
+    0x00359513, 0x0045d513, 0x4055d513, 0x00c58533, 0x40c58533, 0x00c59533, 0x00c5a533, 0x00c5b533,
+    0x00c5c533, 0x00c5d533, 0x40c5d533, 0x00c5e533, 0x00c5f533, 0x0ff0000f, 0x00000073, 0x00100073,
+    0x02c58533, 0x02c59533, 0x02c5a533, 0x02c5b533, 0x02c5c533, 0x02c5d533, 0x02c5e533, 0x02c5f533,
+];
+
+/// Their lifted text, which was read and judged once.
+const LIFTED: &str = "\
+0x00010000 37553412\n\
+\x20 x10 := 0x12345000:32\n\
+0x00010004 97150000\n\
+\x20 x11 := 0x11004:32\n\
+0x00010008 ef008000\n\
+\x20 jmp 0x10010:32\n\
+\x20 x1 := 0x1000c:32\n\
+0x0001000c e7804200\n\
+\x20 jmp (x5 + 0x4:32) & 0xfffffffe:32\n\
+\x20 x1 := 0x10010:32\n\
+0x00010010 6304b500\n\
+\x20 if x10 = x11 {\n\
+\x20   jmp 0x10018:32\n\
+\x20 } else {\n\
+\x20 }\n\
+0x00010014 e31eb5fe\n\
+\x20 if x10 <> x11 {\n\
+\x20   jmp 0x10010:32\n\
+\x20 } else {\n\
+\x20 }\n\
+0x00010018 6344b500\n\
+\x20 if x10 s< x11 {\n\
+\x20   jmp 0x10020:32\n\
+\x20 } else {\n\
+\x20 }\n\
+0x0001001c 6354b500\n\
+\x20 if ~(x10 s< x11) {\n\
+\x20   jmp 0x10024:32\n\
+\x20 } else {\n\
+\x20 }\n\
+0x00010020 6364b500\n\
+\x20 if x10 < x11 {\n\
+\x20   jmp 0x10028:32\n\
+\x20 } else {\n\
+\x20 }\n\
+0x00010024 6374b500\n\
+\x20 if ~(x10 < x11) {\n\
+\x20   jmp 0x1002c:32\n\
+\x20 } else {\n\
+\x20 }\n\
+0x00010028 0385f5ff\n\
+\x20 x10 := signed:32[mem[x11 + 0xffffffff:32, el]:8]\n\
+0x0001002c 03952500\n\
+\x20 x10 := signed:32[mem[x11 + 0x2:32, el]:16]\n\
+0x00010030 03a54500\n\
+\x20 x10 := mem[x11 + 0x4:32, el]:32\n\
+0x00010034 03c51500\n\
+\x20 x10 := unsigned:32[mem[x11 + 0x1:32, el]:8]\n\
+0x00010038 03d52500\n\
+\x20 x10 := unsigned:32[mem[x11 + 0x2:32, el]:16]\n\
+0x0001003c a38fa5fe\n\
+\x20 mem := mem with [x11 + 0xffffffff:32, el]:8 <- low:8[x10]\n\
+0x00010040 2391a500\n\
+\x20 mem := mem with [x11 + 0x2:32, el]:16 <- low:16[x10]\n\
+0x00010044 23a2a500\n\
+\x20 mem := mem with [x11 + 0x4:32, el]:32 <- x10\n\
+0x00010048 1385f5ff\n\
+\x20 x10 := x11 + 0xffffffff:32\n\
+0x0001004c 13a5b5ff\n\
+\x20 x10 := unsigned:32[x11 s< 0xfffffffb:32]\n\
+0x00010050 13b5b5ff\n\
+\x20 x10 := unsigned:32[x11 < 0xfffffffb:32]\n\
+0x00010054 13c5f5ff\n\
+\x20 x10 := x11 ^ 0xffffffff:32\n\
+0x00010058 13e50501\n\
+\x20 x10 := x11 | 0x10:32\n\
+0x0001005c 13f5f50f\n\
+\x20 x10 := x11 & 0xff:32\n\
+0x00010060 13953500\n\
+\x20 x10 := x11 << 0x3:32\n\
+0x00010064 13d54500\n\
+\x20 x10 := x11 >> 0x4:32\n\
+0x00010068 13d55540\n\
+\x20 x10 := x11 ~>> 0x5:32\n\
+0x0001006c 3385c500\n\
+\x20 x10 := x11 + x12\n\
+0x00010070 3385c540\n\
+\x20 x10 := x11 - x12\n\
+0x00010074 3395c500\n\
+\x20 x10 := x11 << (x12 & 0x1f:32)\n\
+0x00010078 33a5c500\n\
+\x20 x10 := unsigned:32[x11 s< x12]\n\
+0x0001007c 33b5c500\n\
+\x20 x10 := unsigned:32[x11 < x12]\n\
+0x00010080 33c5c500\n\
+\x20 x10 := x11 ^ x12\n\
+0x00010084 33d5c500\n\
+\x20 x10 := x11 >> (x12 & 0x1f:32)\n\
+0x00010088 33d5c540\n\
+\x20 x10 := x11 ~>> (x12 & 0x1f:32)\n\
+0x0001008c 33e5c500\n\
+\x20 x10 := x11 | x12\n\
+0x00010090 33f5c500\n\
+\x20 x10 := x11 & x12\n\
+0x00010094 0f00f00f\n\
+0x00010098 73000000\n\
+\x20 cpuexn (1)\n\
+0x0001009c 73001000\n\
+\x20 cpuexn (2)\n\
+0x000100a0 3385c502\n\
+\x20 x10 := x11 * x12\n\
+0x000100a4 3395c502\n\
+\x20 x10 := extract:63:32[signed:64[x11] * signed:64[x12]]\n\
+0x000100a8 33a5c502\n\
+\x20 x10 := extract:63:32[signed:64[x11] * unsigned:64[x12]]\n\
+0x000100ac 33b5c502\n\
+\x20 x10 := extract:63:32[unsigned:64[x11] * unsigned:64[x12]]\n\
+0x000100b0 33c5c502\n\
+\x20 x10 := x11 sdiv x12\n\
+0x000100b4 33d5c502\n\
+\x20 x10 := x11 / x12\n\
+0x000100b8 33e5c502\n\
+\x20 x10 := x11 smod x12\n\
+0x000100bc 33f5c502\n\
+\x20 x10 := x11 % x12\n";
+
+#[test]
+fn lifts_each_instruction(rt: HostRuntime) -> Result<(), Fail> {
+    let files = Files {
+        words: &EACH,
+        ..ONE
+    };
+    let (found, written) = answer(rt.alloc(), "bilv lift e", &files, u64::MAX, u64::MAX)?;
+    assert_eq!(rt; found, 0);
+    assert!(rt; written.as_slice() == LIFTED.as_bytes());
     Ok(())
 }
 

@@ -1,4 +1,4 @@
-//! Steps of RV32IM: results at the edges, worked out by hand from the standard (RISC-V Unprivileged ISA 20191213, chapters 2 and 7).
+//! Steps of RV32IM: results at the edges, computed by a script that was written from the standard alone (RISC-V Unprivileged ISA 20191213, chapters 2 and 7).
 ghost use Rattle.std.specs.Prelude.{◌≤◌, IfOk};
 ghost use Rattle.rv_step.specs.States.{spare_of};
 
