@@ -1,9 +1,10 @@
 -- Worked runs, by computation alone.
-use Rattle.std.proofs.Common.{◌≡◌, ℕ, ◌+◌, refl, List, [], ◌∷◌, Option}
+use Rattle.std.proofs.Common.{◌≡◌, ℕ, ◌+◌, refl, List, [], ◌∷◌, ◌++◌, Option}
 use Rattle.std.specs.Prelude.{◌==◌, if◌then◌else◌}
 use Rattle.bilv_spec.specs.Memory.{Little, Big, memory_of, byte_in}
 use Rattle.bilv_spec.specs.Machine.{Machine}
-use Rattle.bilv_spec.specs.RowFiles.{rv_file, arm_file, arm_big_file}
+use Rattle.bilv_spec.specs.RowFiles.{rv_file, arm_file, arm_big_file, bytes_of}
+use Rattle.std.specs.List.{flat_map}
 use Rattle.bilv_spec.specs.Arm.{arm, arm_row}
 use Rattle.bilv_spec.specs.Arm as arm_rows
 use Rattle.bilv_spec.specs.Elf.{loaded, Cell}
@@ -133,6 +134,54 @@ row_20 = refl
 row_21 : runs rv32 (rv_file (0x73 ∷ [])) [] [] 64 (start_of (rv_file (0x73 ∷ [])) ((1, 0x40) ∷ []) [] []) 1 ≡ Failed Trapped 0x10000 0
 unfolding run table rv_row
 row_21 = refl
+
+-- Two segments that meet at the wrap of addresses: the last two words of the memory, and one word at 0. Each is executable and can't be written.
+abbrev file_22 : ℕ → ℕ → ℕ → List ℕ
+file_22 second_last last first =
+    (0x7f ∷ 0x45 ∷ 0x4c ∷ 0x46 ∷ 1 ∷ 1 ∷ 1 ∷ 0 ∷ 0 ∷ 0 ∷ 0 ∷ 0 ∷ 0 ∷ 0 ∷ 0 ∷ 0 ∷ [])
+    ++ flat_map (bytes_of Little 2) (2 ∷ 243 ∷ []) ++ flat_map (bytes_of Little 4) (1 ∷ 0xfffffff8 ∷ 52 ∷ 0 ∷ 0 ∷ [])
+    ++ flat_map (bytes_of Little 2) (52 ∷ 32 ∷ 2 ∷ 0 ∷ 0 ∷ 0 ∷ [])
+    ++ flat_map (bytes_of Little 4) (1 ∷ 124 ∷ 0 ∷ 0 ∷ 4 ∷ 4 ∷ 5 ∷ 4 ∷ 1 ∷ 116 ∷ 0xfffffff8 ∷ 0xfffffff8 ∷ 8 ∷ 8 ∷ 5 ∷ 4 ∷ [])
+    ++ flat_map (bytes_of Little 4) (second_last ∷ last ∷ first ∷ [])
+
+abbrev program_22 : List ℕ → List NoteLine → Program
+program_22 file ensures = record {
+  machine = rv32;
+  word = in_memory rv32;
+  loaded = loaded file;
+  entry = 0xfffffff8;
+  notes = record { entry = At 0xfffffff8; requires = []; ensures = ensures; asserts = []; targets = []; fixed = [] };
+}
+
+abbrev start_22 : List ℕ → Start
+start_22 file = record {
+  state = record { pc = 0xfffffff8; regs = memory_of ((10, 7) ∷ (1, 0x40) ∷ []); flags = λ f. 0; mem = λ a. or_cell [] (loaded file a) a };
+  choices = λ n. 0;
+}
+
+-- lw a1,-2(zero); addi a0,a0,1; ret: the load reads two bytes of each segment, the word behind the last one is that at 0, and the step to it is a backward
+-- transfer
+abbrev file_22_load : List ℕ
+file_22_load = file_22 0xffe02583 0x00150513 0x00008067
+
+row_22 : run (program_22 file_22_load (record {
+  line = 2;
+  says = Binary And (Binary Equal (Register 10) (Number 8)) (Binary Equal (Register 11) (Number 0x80670015));
+} ∷ [])) 1 (start_22 file_22_load) 3 ≡ Exited 0 2
+unfolding run table rv_row
+row_22 = refl
+
+row_22_turned : run (program_22 file_22_load []) 0 (start_22 file_22_load) 2 ≡ Turned 0xfffffffc 1
+unfolding run table rv_row
+row_22_turned = refl
+
+-- sh zero,-1(zero): the second byte of the store is that at 0
+abbrev file_22_store : List ℕ
+file_22_store = file_22 0x00150513 0xfe001fa3 0x00008067
+
+row_22_store : run (program_22 file_22_store []) 1 (start_22 file_22_store) 2 ≡ Failed CodeWritten 0xfffffffc 1
+unfolding run table rv_row
+row_22_store = refl
 
 -- a row file, byte for byte
 file_is : file_1 ≡
