@@ -6,8 +6,6 @@
 mod expressions;
 mod names;
 mod statements;
-#[cfg(test)]
-mod tests;
 mod width;
 
 pub use expressions::Exp;

@@ -8,8 +8,6 @@ mod expressions;
 mod faults;
 mod rules;
 mod statements;
-#[cfg(test)]
-mod tests;
 
 pub use expressions::type_of;
 pub use faults::{Need, TypeFault};

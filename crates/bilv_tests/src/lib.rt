@@ -3,3 +3,7 @@
 
 #[cfg(test)]
 mod calls;
+#[cfg(test)]
+mod edges;
+#[cfg(test)]
+mod lines;

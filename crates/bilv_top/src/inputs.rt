@@ -1,7 +1,7 @@
 //! The inputs of commands: an ELF file, and notes over it; and the answers where they are refused.
 ghost use Rattle.std.specs.Prelude.{◌≡◌, ◌≤◌, ℕ, List, IfOk, MatchResult, codes, length};
 ghost use Rattle.bilv_spec.specs.Answers.{plain_answer};
-ghost use Rattle.bilv_spec.specs.Files.{IsFunctionAt, is_rv, machine_of, names_of};
+ghost use Rattle.bilv_spec.specs.Files.{IsFunctionAt, machine_of, names_of};
 ghost use Rattle.bilv_spec.specs.Outside.{Agrees};
 ghost use Rattle.bilv_spec.specs.Texts.{line};
 ghost use Rattle.bilv_spec.specs.Verified as verified;
@@ -27,9 +27,6 @@ const ELF_LIMIT: u64 = 16_777_216;
 /// The most bytes of notes.
 const NOTES_LIMIT: u64 = 262_144;
 
-/// The machine number of RISC-V (System V ABI, ELF header).
-const RISC_V: u16 = 243;
-
 /// The status of a refused ELF file.
 const ELF_REFUSED: u8 = 4;
 
@@ -44,19 +41,12 @@ pub struct Found {
     pub entry: u32,
 }
 
-/// Whether a file is one of RISC-V.
-pub fn is_risc_v(image: &Image) -> bool
-    ensures { result ≡ is_rv image.now }
-{
-    image.machine() == RISC_V
-}
-
 /// The form of a file's machine.
 fn layout(image: &Image) -> Layout
     ensures names { layout_names result ≡ names_of image.now }
     ensures registers { layout_registers result ≡ (machine_of image.now).has_register }
 {
-    if is_risc_v(image) {
+    if image.is_risc_v() {
         Layout::Rv32
     } else if image.big() {
         Layout::ArmBig

@@ -5,7 +5,7 @@ ghost use Rattle.bilv_top.specs.Answers.{answer_of, seen};
 ghost use Rattle.bilv_top.specs.Due.{IsDueTo, IsLiftedSoFar};
 
 use crate::answer::{Answer, Step};
-use crate::inputs::{is_risc_v, read_elf, refuse_elf};
+use crate::inputs::{read_elf, refuse_elf};
 use elf32_reader::{Image, read_image};
 use io_edges::Shelf;
 use lift_text::{bare_text, lift_text};
@@ -16,7 +16,7 @@ use std::alloc::{AllocError, Global};
 fn lift_image(alloc: Global, image: &Image) -> Result<Answer, AllocError>
     ensures { IfOk result (λ a. IsLiftedSoFar image.now (answer_of a)) }
 {
-    if is_risc_v(image) {
+    if image.is_risc_v() {
         let text = lift_text::<Rv32>(alloc, image)?;
         return Ok(Answer { status: 0, text });
     }

@@ -9,7 +9,7 @@ ghost use Rattle.bilv_top.specs.Answers.{answer_of, seen};
 ghost use Rattle.bilv_top.specs.Due.{IsDueTo, IsFoundBy, IsReplayedSoFar};
 
 use crate::answer::{Answer, Step};
-use crate::inputs::{Found, is_risc_v, read_elf, read_notes, refuse_elf};
+use crate::inputs::{Found, read_elf, read_notes, refuse_elf};
 use crate::reading::{answer, read_or_answer};
 use elf32_reader::{Image, read_image};
 use io_edges::Shelf;
@@ -63,7 +63,7 @@ fn replay_program<H: Shelf>(
     ensures { IfOk result (λ a. IsReplayedSoFar (seen (H.holds shelf.old) (H.faults shelf.old) (H.faults shelf.new)) name.now image.now
         (program_of image.now (notes_of found.now.notes) found.now.entry) (answer_of a)) }
 {
-    if is_risc_v(image) {
+    if image.is_risc_v() {
         replay_report(alloc, shelf, image, found, name)
     } else {
         answer(alloc, NOT_BUILT, b"not built\n")

@@ -8,6 +8,3 @@ mod values;
 
 pub use command::{Budget, Command, Question};
 pub use reader::{LineError, read_command};
-
-#[cfg(test)]
-mod tests;

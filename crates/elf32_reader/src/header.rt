@@ -8,9 +8,11 @@ use crate::fields::{half, word};
 
 const MAGIC: [u8; 4] = [0x7f, 0x45, 0x4c, 0x46];
 
+/// What e_machine is for ARM.
 const ARM: u16 = 40;
 
-const RISC_V: u16 = 243;
+/// What e_machine is for RISC-V.
+pub(crate) const RISC_V: u16 = 243;
 
 fn is_short(file: &[u8]) -> bool
     ensures { IsTrue result ↔ FileFaultApplies file.now ShortFile }

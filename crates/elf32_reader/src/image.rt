@@ -2,6 +2,8 @@
 ghost use Rattle.std.specs.Prelude.{ℕ, ◌≡◌, ◌≤◌, ◌<◌, ◌+◌, length, IfOk, IfErr, OnOk, MatchOption, MatchResult, IsTrue, ◌↔◌, None};
 ghost use Rattle.bilv_spec.specs.Elf.{field, is_big, loaded, byte_at, flags_at, kept_at, IsKeptRuns};
 ghost use Rattle.bilv_spec.specs.ElfFaults.{IsImage, Finds};
+ghost use Rattle.bilv_spec.specs.Files.{is_rv, machine_of};
+ghost use Rattle.bilv_spec.specs.Memory as memory;
 ghost use Rattle.elf32_reader.specs.Refusals.{IsRefused, IsClear};
 ghost use Rattle.elf32_reader.specs.Symbols.{IsMissed};
 ghost use Rattle.elf32_reader.specs.Images.{IsTied};
@@ -9,7 +11,7 @@ ghost use Rattle.elf32_reader.specs.Portions.{IsFirstPart};
 
 use crate::fault::ElfFault;
 use crate::fields::half;
-use crate::header::check_header;
+use crate::header::{RISC_V, check_header};
 use crate::parts::{Part, first_part};
 use crate::runs::{is_kept, kept_runs};
 use crate::segments::{
@@ -171,11 +173,28 @@ impl<'a> Image<'a> {
         half(self.file, 18)
     }
 
-    /// The byte order is big.
+    /// The machine is RISC-V.
+    pub fn is_risc_v(&self) -> bool
+        ensures { result ≡ is_rv self.now }
+    {
+        self.machine() == RISC_V
+    }
+
+    /// The byte order of the file's numbers is big.
     pub fn big(&self) -> bool
         ensures { result ≡ is_big self.now }
     {
         self.file[5] == 2
+    }
+
+    /// The byte order of the file's machine is big: that of RISC-V is little, that of ARM is the order of the file's numbers.
+    pub fn is_big_machine(&self) -> bool
+        ensures { memory.endian result ≡ (machine_of self.now).endian }
+    {
+        if self.is_risc_v() {
+            return false;
+        }
+        self.big()
     }
 
     /// The address of the function of this name: a symbol of STT_FUNC that is defined in a section and has a

@@ -14,8 +14,6 @@ mod mem_shelf;
 mod mem_sink;
 mod never_fail;
 mod system;
-#[cfg(test)]
-mod tests;
 
 pub use files::MemFile;
 pub use mem_shelf::MemShelf;

@@ -3,25 +3,10 @@
 ghost use Rattle.std.specs.Prelude.{◌≡◌, ◌++◌, ◌∷◌, length, slice_index, OnOk};
 ghost use Rattle.bilv_spec.specs.Memory as memory;
 ghost use Rattle.bilv_spec.specs.Texts.{word_text};
-ghost use Rattle.bilv_spec.specs.Files.{machine_of};
 ghost use Rattle.lift_text.specs.Found.{bytes_text};
 
-use elf32_reader::Image;
 use state_text::push_word;
 use std::alloc::{AllocError, Global};
-
-/// What e_machine is for RISC-V.
-const RISCV: u16 = 243;
-
-/// Whether the byte order of a file's machine is big.
-pub(crate) fn is_big(image: &Image) -> bool
-    ensures { memory.endian result ≡ (machine_of image.now).endian }
-{
-    if image.machine() == RISCV {
-        return false;
-    }
-    image.big()
-}
 
 /// The word of four bytes in a byte order.
 pub(crate) fn word_of(bytes: [u8; 4], big: bool) -> u32

@@ -8,7 +8,7 @@ ghost use Rattle.lift_text.specs.Rest.{rest_text};
 ghost use Rattle.lift_text.specs.Progress.{IsAppended, IsAdvance};
 
 use crate::candidates::{Candidate, END, look_at};
-use crate::lines::{is_big, push_text, push_word_line, word_of};
+use crate::lines::{push_text, push_word_line, word_of};
 use crate::rows::Rows;
 use bil_ast::Stmt;
 use bil_print::append_stmts;
@@ -46,7 +46,7 @@ fn push_word<R: Rows>(
     requires found { IsWordFound image.now at bytes }
     ensures { OnOk result (IsAppended R.row_of image.now at out.old.items out.new.items) }
 {
-    let word = word_of(bytes, is_big(image));
+    let word = word_of(bytes, image.is_big_machine());
     let lifted = R::lift(alloc, word, at)?;
     push_word_line(alloc, out, at, bytes)?;
     push_rest(alloc, out, lifted)?;

@@ -8,8 +8,14 @@ mod clauses;
 #[cfg(test)]
 mod evaluation;
 #[cfg(test)]
+mod memory;
+#[cfg(test)]
 mod printing;
 #[cfg(test)]
 mod refutations;
 #[cfg(test)]
 mod search;
+#[cfg(test)]
+mod trees;
+#[cfg(test)]
+mod typing;

@@ -18,6 +18,3 @@ pub use formats::fitting_is_decodable;
 pub use insn::{BranchOp, ImmediateOp, Insn, LoadOp, RegisterOp, ShiftOp, StoreOp};
 pub use register::Register;
 pub use shift_amount::ShiftAmount;
-
-#[cfg(test)]
-mod tests;

@@ -12,7 +12,7 @@ ghost use Rattle.table_run.specs.Known.{HasBytesTo, IsFirstOther, IsRightTo, IsF
 use crate::ending::EntryFault;
 use crate::known::{byte_in, first_known};
 use crate::lines::false_line;
-use crate::program::{Program, is_big};
+use crate::program::Program;
 use crate::words::byte;
 use byte_mem::View;
 use elf32_reader::{Image, Part};
@@ -76,7 +76,7 @@ pub fn lines_ok<M: Machine>(
     if state.link() % 4 != 0 {
         return Err(EntryFault::Link);
     }
-    match false_line(&notes.required, state, state, is_big(image)) {
+    match false_line(&notes.required, state, state, image.is_big_machine()) {
         None => Ok(()),
         Some(line) => Err(EntryFault::Require { line }),
     }
@@ -102,7 +102,7 @@ pub fn entry_ok<M: Machine>(
     let p = Program {
         image,
         notes,
-        big: is_big(image),
+        big: image.is_big_machine(),
         function: state.pc(),
     };
     match first_wrong::<M>(&p, state) {

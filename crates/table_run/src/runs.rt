@@ -19,7 +19,7 @@ use crate::choices::choice_at;
 use crate::ending::{Ending, StepEnd};
 use crate::index::{Index, index_of};
 use crate::memory::memory_at;
-use crate::program::{Program, is_big};
+use crate::program::Program;
 use crate::steps::step;
 use byte_mem::View;
 use elf32_reader::Image;
@@ -110,7 +110,7 @@ pub fn start_state<M: Machine>(
     let p = Program {
         image,
         notes,
-        big: is_big(image),
+        big: image.is_big_machine(),
         function: entry,
     };
     let memory = memory_at(alloc, &p, &start.bytes)?;
@@ -142,7 +142,7 @@ pub fn run<M: Machine>(
     let p = Program {
         image,
         notes,
-        big: is_big(image),
+        big: image.is_big_machine(),
         function: entry,
     };
     let index = index_of(alloc, notes)?;

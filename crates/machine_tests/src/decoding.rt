@@ -1,8 +1,8 @@
 //! Words that assemblers print for known instructions, both ways.
-use crate::insn::{BranchOp, ImmediateOp, Insn, LoadOp, RegisterOp, ShiftOp, StoreOp};
-use crate::register::Register;
-use crate::shift_amount::ShiftAmount;
-use crate::{decode, encode};
+use rv_decode::{
+    BranchOp, ImmediateOp, Insn, LoadOp, Register, RegisterOp, ShiftAmount, ShiftOp, StoreOp,
+    decode, encode,
+};
 use std::process::Abort;
 
 // `decode` gives the instruction, and `encode` gives the word back.

@@ -1,4 +1,5 @@
-use super::*;
+//! Trees of BIL: their sizes, and copies.
+use bil_ast::{Bank, BilType, BinaryOp, CastKind, Exp, Local, Stmt, UnaryOp, Var, Width};
 use bv_word::Word;
 use byte_mem::Endian;
 use std::alloc::{AllocError, Global};

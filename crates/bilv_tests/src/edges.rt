@@ -1,5 +1,9 @@
-use super::*;
-use std::alloc::AllocError;
+//! Files that are read whole, and text that is written whole, or how much of it was.
+use io_edges::{
+    Failed, FileShelf, MemFile, MemShelf, MemSink, NeverFailShelf, NeverFailSink, OutSink,
+    ReadFault, Shelf, Sink, WriteFault, read_all, write_all,
+};
+use std::alloc::{AllocError, Global};
 use std::fs;
 use std::test::Fail;
 

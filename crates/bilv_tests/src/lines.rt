@@ -1,5 +1,5 @@
-//! What no clause says: that calls succeed, over worked lines.
-use super::{Budget, Command, LineError, Question, read_command};
+//! Command lines, read and refused.
+use command_line::{Budget, Command, LineError, Question, read_command};
 use std::alloc::{AllocError, Global};
 use std::test::Fail;
 

@@ -1,7 +1,8 @@
+//! Types of expressions and of lists, and the first fault of those that have none.
 ghost use Rattle.std.specs.Prelude.{◌≤◌, ◌<◌, ◌^◌};
 
-use super::*;
 use bil_ast::{Bank, BilType, BinaryOp, CastKind, Exp, Stmt, Var, Width};
+use bil_types::{Need, TypeFault, check, type_of};
 use bv_word::Word;
 use byte_mem::Endian;
 use std::alloc::{AllocError, Global};
