@@ -1,23 +1,11 @@
 //! The line of a word.
 
-ghost use Rattle.std.specs.Prelude.{◌≡◌, ◌++◌, ◌∷◌, length, slice_index, OnOk};
-ghost use Rattle.bilv_spec.specs.Memory as memory;
+ghost use Rattle.std.specs.Prelude.{◌≡◌, ◌++◌, ◌∷◌, length, OnOk};
 ghost use Rattle.bilv_spec.specs.Texts.{word_text};
 ghost use Rattle.lift_text.specs.Found.{bytes_text};
 
 use state_text::push_word;
 use std::alloc::{AllocError, Global};
-
-/// The word of four bytes in a byte order.
-pub(crate) fn word_of(bytes: [u8; 4], big: bool) -> u32
-    ensures { result ≡ memory.number (memory.endian big) 4 (λ i. slice_index bytes i) }
-{
-    if big {
-        u32::from_be_bytes(bytes)
-    } else {
-        u32::from_le_bytes(bytes)
-    }
-}
 
 /// Appends a text.
 pub(crate) fn push_text(out: &mut Vec<u8>, text: &[u8]) -> Result<(), AllocError>

@@ -8,11 +8,12 @@ ghost use Rattle.lift_text.specs.Rest.{rest_text};
 ghost use Rattle.lift_text.specs.Progress.{IsAppended, IsAdvance};
 
 use crate::candidates::{Candidate, END, look_at};
-use crate::lines::{push_text, push_word_line, word_of};
+use crate::lines::{push_text, push_word_line};
 use crate::rows::Rows;
 use bil_ast::Stmt;
 use bil_print::append_stmts;
 use elf32_reader::Image;
+use file_words::word_of;
 use std::alloc::{AllocError, Global};
 
 /// Appends what stands behind a word's bytes: ` none`, or its statements on lines of their own.

@@ -1,7 +1,6 @@
 pub mod Lists
 pub mod Reaches
 pub mod Memories
-pub mod Indexes
 pub mod Hits
 pub mod Stepped
 pub mod Founds

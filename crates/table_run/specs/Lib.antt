@@ -1,5 +1,5 @@
 pub mod Programs
 pub mod Endings
 pub mod Known
-pub mod Indexed
+pub mod Asserts
 pub mod Steps

@@ -1,7 +1,5 @@
 -- A program of the code, as definitions see it.
-use Rattle.std.specs.Prelude.{ℕ, Bool, List, [], ◌∷◌}
-use Rattle.std.specs.List.{list_all}
-use Rattle.bilv_spec.specs.Words.{add}
+use Rattle.std.specs.Prelude.{ℕ, List}
 use Rattle.bilv_spec.specs.Elf.{loaded}
 use Rattle.bilv_spec.specs.Machine.{Machine}
 use Rattle.bilv_spec.specs.Notes as notes
@@ -16,7 +14,3 @@ program m file n entry = record { machine = m; word = run.in_memory m; loaded = 
 -- the program, over a machine
 abbrev pub program_of : Machine → Program → run.Program
 program_of m p = program m p.image.now (notes_of p.notes.now) p.function
-
--- a test passes at the four addresses from one on
-abbrev pub four : (ℕ → Bool) → ℕ → Bool
-four test a = list_all (λ i. test (add 32 a i)) (0 ∷ 1 ∷ 2 ∷ 3 ∷ [])

@@ -8,12 +8,13 @@ ghost use Rattle.bilv_spec.specs.Run.{some_of, row_at, targets_at, literal_targe
 ghost use Rattle.notes_lang.specs.Drafting.{targets_of};
 ghost use Rattle.table_run.specs.Programs.{program_of};
 ghost use Rattle.table_run.specs.Steps.{IsBefore};
-ghost use Rattle.table_run.specs.Indexed.{targets_places, IsIndex};
+ghost use Rattle.notes_index.specs.Indexed.{targets_places, IsIndex};
 
-use crate::index::group;
+use notes_index::group;
 use crate::program::Program;
-use crate::words::{all_kept, fetchable, word};
+use crate::words::word;
 use byte_mem::View;
+use file_words::{all_kept, fetchable};
 use machine_law::Machine;
 use notes_lang::Targets;
 

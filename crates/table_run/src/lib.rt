@@ -4,7 +4,6 @@
 mod choices;
 mod ending;
 mod entry;
-mod index;
 mod jumps;
 mod known;
 mod lines;

@@ -5,9 +5,9 @@ ghost use Rattle.bilv_spec.specs.Run as meaning;
 ghost use Rattle.notes_value.specs.Views.{expr_of};
 ghost use Rattle.notes_value.specs.Reads.{IsReadable};
 ghost use Rattle.notes_lang.specs.Drafting.{note_line_of, assert_of};
-ghost use Rattle.table_run.specs.Indexed.{assert_places, IsIndex};
+ghost use Rattle.notes_index.specs.Indexed.{assert_places, IsIndex};
 
-use crate::index::group;
+use notes_index::group;
 use byte_mem::View;
 use notes_lang::{Assert, NoteLine, value};
 

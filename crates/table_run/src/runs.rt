@@ -13,11 +13,11 @@ ghost use Rattle.notes_lang.specs.Drafting.{notes_of};
 ghost use Rattle.notes_value.specs.Reads.{AreReadable};
 ghost use Rattle.table_run.specs.Programs.{program_of};
 ghost use Rattle.table_run.specs.Endings.{found_of};
-ghost use Rattle.table_run.specs.Indexed.{AreIndexed};
+ghost use Rattle.notes_index.specs.Indexed.{AreIndexed};
 
 use crate::choices::choice_at;
 use crate::ending::{Ending, StepEnd};
-use crate::index::{Index, index_of};
+use notes_index::{Index, index_of};
 use crate::memory::memory_at;
 use crate::program::Program;
 use crate::steps::step;

@@ -2,9 +2,9 @@ use Rattle.std.proofs.Common.{List, length, sym, subst}
 use Rattle.std.proofs.lemmas.List.{length-map}
 use Rattle.notes_lang.specs.declared.notes.Assert.{Assert}
 use Rattle.notes_lang.specs.declared.notes.Targets.{Targets}
-use Rattle.table_run.specs.Indexed.{assert_places, targets_places, IsNumbered}
-use Rattle.table_run.proofs.Indexes.{index_is}
-use Rattle.table_run.proofs.index.index_of.Goals as goal
+use Rattle.notes_index.specs.Indexed.{assert_places, targets_places, IsNumbered}
+use Rattle.notes_index.proofs.Indexes.{index_is}
+use Rattle.notes_index.proofs.index.index_of.Goals as goal
 
 pub returns : goal.returns
 returns c =

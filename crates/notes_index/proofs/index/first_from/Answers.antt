@@ -2,7 +2,7 @@ use Rattle.std.proofs.Common.{ℕ, rules}
 use Rattle.std.specs.Prelude.{nat_lt}
 use Rattle.std.proofs.lemmas.List.Sorted.{IsPartitionPoint-from_clause, IsPartitionedBy-ltb}
 use Rattle.std.proofs.lemmas.Bool.{ltb-true, ltb-false}
-use Rattle.table_run.proofs.index.first_from.Goals as goal
+use Rattle.notes_index.proofs.index.first_from.Goals as goal
 
 pub returns-clause-before : goal.returns-clause-before
 returns-clause-before c k d low high =

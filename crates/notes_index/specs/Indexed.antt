@@ -1,15 +1,10 @@
 -- Places of lines of notes by their addresses.
-use Rattle.std.specs.Prelude.{ℕ, ◌≡◌, ◌≤◌, ◌<◌, ◌==◌, ◌&&◌, not, Bool, List, length, map, slice_index, slice_index_or, All, Contains}
-use Rattle.std.specs.List.{AllWithin}
+use Rattle.std.specs.Prelude.{ℕ, ◌≡◌, ◌≤◌, ◌<◌, List, length, map, slice_index, slice_index_or, All, Contains}
 use Rattle.std.specs.List.Sorted.{IsNonDecreasingBy}
-use Rattle.bilv_spec.specs.Memory.{Endian}
-use Rattle.bilv_spec.specs.State.{State}
-use Rattle.bilv_spec.specs.Notes as notes
-use Rattle.notes_value.specs.Views.{expr_of}
 use Rattle.notes_lang.specs.declared.notes.Assert.{Assert}
 use Rattle.notes_lang.specs.declared.notes.Targets.{Targets}
 use Rattle.notes_lang.specs.declared.notes.Notes.{Notes}
-use Rattle.table_run.specs.declared.index.Index.{Index}
+use Rattle.notes_index.specs.declared.index.Index.{Index}
 
 -- the addresses of assert lines, and of targets lines
 abbrev pub assert_places : List Assert → List ℕ
@@ -34,14 +29,7 @@ pub record AreIndexed (n : Notes) (index : Index) : Type 0 where
   pub asserts : IsIndex (assert_places n.asserts.items) index.asserts.items
   pub targets : IsIndex (targets_places n.targets.items) index.targets.items
 
--- where an address stands among rising ones
-pub record IsGroup (index : List (ℕ × ℕ)) (at low high : ℕ) : Type 0 where
-  pub ordered : low ≤ high
-  pub fits : high ≤ length index
-  pub before : AllWithin (λ x. x.0 < at) index 0 low
-  pub within : AllWithin (λ x. x.0 ≡ at) index low high
-  pub behind : AllWithin (λ x. at < x.0) index high (length index)
-
--- an assert line is one of the state's address, and is false
-abbrev pub is_hit : Endian → State → State → Assert → Bool
-is_hit e now entry a = (a.at == now.pc) && not (notes.is_true (notes.value e (expr_of a.says) now entry))
+-- between two bounds an index has the places of an address, all of them and no others
+pub record ArePlacesOf (places : List ℕ) (index : List (ℕ × ℕ)) (at low high : ℕ) : Type 0 where
+  pub only : (j : ℕ) (d : ℕ × ℕ) → low ≤ j → j < high → ((slice_index_or index j d).1 < length places) × (slice_index places (slice_index_or index j d).1 ≡ at)
+  pub all : (k : ℕ) → k < length places → slice_index places k ≡ at → (j : ℕ) × (low ≤ j) × (j < high) × ((d : ℕ × ℕ) → (slice_index_or index j d).1 ≡ k)

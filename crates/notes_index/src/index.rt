@@ -1,17 +1,17 @@
 //! The places of lines of notes by the addresses that they name.
-ghost use Rattle.std.specs.Prelude.{◌≡◌, ◌≤◌, ◌<◌, ℕ, IfOk, OnOk, map, length};
+ghost use Rattle.std.specs.Prelude.{◌≡◌, ◌≤◌, ◌<◌, ℕ, List, IfOk, length};
 ghost use Rattle.std.specs.List.{AllWithin};
 ghost use Rattle.std.specs.List.Sorted.{IsNonDecreasingBy, IsPermutation};
-ghost use Rattle.table_run.specs.Indexed.{assert_places, targets_places, IsNumbered, IsIndex, IsGroup, AreIndexed};
+ghost use Rattle.notes_index.specs.Indexed.{assert_places, targets_places, IsNumbered, IsIndex, ArePlacesOf, AreIndexed};
 
 use notes_lang::{Assert, Notes, Targets};
 use std::alloc::{AllocError, Global};
 
 /// The places of assert lines and of targets lines, each with the line's address, by rising addresses.
 #[derive(Drop)]
-pub(crate) struct Index {
-    pub(crate) asserts: Vec<(u32, usize)>,
-    pub(crate) targets: Vec<(u32, usize)>,
+pub struct Index {
+    pub asserts: Vec<(u32, usize)>,
+    pub targets: Vec<(u32, usize)>,
 }
 
 /// The address and the place of each assert line. The error is want of memory.
@@ -45,8 +45,12 @@ fn sorted(mut places: Vec<(u32, usize)>) -> Result<Vec<(u32, usize)>, AllocError
     Ok(places)
 }
 
-/// The index of notes. The error is want of memory.
-pub(crate) fn index_of(alloc: Global, notes: &Notes) -> Result<Index, AllocError>
+/// The index of notes.
+///
+/// # Errors
+///
+/// Want of memory.
+pub fn index_of(alloc: Global, notes: &Notes) -> Result<Index, AllocError>
     ensures { IfOk result (λ index. AreIndexed notes.now index) }
 {
     let asserts = sorted(numbered_asserts(alloc, &notes.asserts)?)?;
@@ -74,10 +78,13 @@ fn first_above(index: &[(u32, usize)], at: u32) -> usize
     index.partition_point(|x| x.0 <= at)
 }
 
-/// Where the places of an address stand.
-pub(crate) fn group(index: &[(u32, usize)], at: u32) -> (usize, usize)
+/// Where the places of an address stand among places by rising addresses: from the first number up to the second, which is none of them. Two binary searches.
+pub fn group(index: &[(u32, usize)], at: u32) -> (usize, usize)
     requires { IsNonDecreasingBy (λ x. x.0) index.now }
-    ensures { IsGroup index.now at result.0 result.1 }
+    ensures ordered { result.0 ≤ result.1 }
+    ensures within { result.1 ≤ length index.now }
+    ensures here { AllWithin (λ x. x.0 ≡ at) index.now result.0 result.1 }
+    ensures places { (places : List ℕ) → IsIndex places index.now → ArePlacesOf places index.now at result.0 result.1 }
 {
     (first_from(index, at), first_above(index, at))
 }

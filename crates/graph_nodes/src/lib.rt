@@ -1,0 +1,8 @@
+//! The flow graph of a program as a value: its addresses, the successors of each, and the flags that are read and assigned there.
+//!
+//! It names no machine: what reads it needs no table of instructions.
+#![tactic(auto)]
+
+mod nodes;
+
+pub use nodes::{Graph, Letter, Node, Successor};
