@@ -1,7 +1,13 @@
 -- What is read of the text of a report, as definitions see it.
+use Rattle.std.specs.Prelude.{ℕ, ◌≡◌, ◌≤◌, List}
+use Rattle.bilv_spec.specs.Files.{program_of}
+use Rattle.bilv_spec.specs.Points.{is_known_at}
 use Rattle.bilv_spec.specs.StateText as texts
 use Rattle.state_text.specs.Starts.{text_of}
 use Rattle.state_text.specs.Readings.{fault_of}
+use Rattle.notes_lang.specs.Drafting.{notes_of}
+use Rattle.notes_lang.specs.declared.notes.Notes.{Notes}
+use Rattle.report_replay.specs.declared.reading.Alike.{Alike}
 use Rattle.report_replay.specs.declared.reading.Reading.{Reading}
 use Rattle.report_replay.specs.declared.reading.Reading.TheVariants.{State, Refused}
 
@@ -9,3 +15,8 @@ use Rattle.report_replay.specs.declared.reading.Reading.TheVariants.{State, Refu
 abbrev pub told_of : Reading → texts.Told
 told_of (State text) = texts.StateIs (text_of text)
 told_of (Refused line kind) = texts.StateRefused line (fault_of kind)
+
+-- each of the addresses is known, or none is
+abbrev pub AreAlike : List ℕ → Notes → Alike → Type 0
+AreAlike file notes seen =
+    (entry x : ℕ) → seen.first ≤ x → x ≤ seen.stretch.last → is_known_at (program_of file (notes_of notes) entry) x ≡ seen.stretch.known

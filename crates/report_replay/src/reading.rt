@@ -1,24 +1,48 @@
 //! What the text of a report says, where the file gives some bytes.
-ghost use Rattle.std.specs.Prelude.{◌≡◌, ℕ, ◌+◌, ◌<◌, ◌^◌, IfOk, MatchOption, length};
+ghost use Rattle.std.specs.Prelude.{◌≡◌, ℕ, ◌+◌, ◌≤◌, ◌<◌, ◌^◌, IfOk, MatchOption, length};
 ghost use Rattle.bilv_spec.specs.Files.{program_of};
 ghost use Rattle.bilv_spec.specs.Points.{is_known_at};
 ghost use Rattle.bilv_spec.specs.StateText.{Told, StateRefused, StateByteFault, state_of};
 ghost use Rattle.state_text.specs.Starts.{layout_of};
 ghost use Rattle.state_text.specs.Readings.{told_but};
 ghost use Rattle.notes_lang.specs.Drafting.{notes_of};
-ghost use Rattle.report_replay.specs.Readings.{told_of};
+ghost use Rattle.report_replay.specs.Readings.{told_of, AreAlike};
 
 use elf32_reader::Image;
 use notes_lang::Notes;
 use state_text::{Layout, ParseFault, StateFault, StateText, parse_state};
 use std::alloc::{AllocError, Global};
-use table_run::is_known;
+use table_run::{Stretch, known_stretch};
 
 /// What a text says: a state, or nothing, refused at a line.
 #[derive(Drop)]
 pub(crate) enum Reading {
     State(StateText),
     Refused { line: u64, kind: StateFault },
+}
+
+/// Addresses from a first one on that are alike: the file gives the byte of each, or of none.
+#[derive(Clone, Copy)]
+struct Alike {
+    first: u32,
+    stretch: Stretch,
+}
+
+/// The alike addresses among which one is: those that were seen last where it is one of them, and else those from it on. So rising addresses are asked for once in each
+/// stretch.
+fn alike_at(image: &Image, notes: &Notes, seen: Alike, at: u32) -> Alike
+    requires { AreAlike image.now notes.now seen }
+    ensures alike { AreAlike image.now notes.now result }
+    ensures low { result.first ≤ at }
+    ensures high { at ≤ result.stretch.last }
+{
+    if seen.first <= at && at <= seen.stretch.last {
+        return seen;
+    }
+    Alike {
+        first: at,
+        stretch: known_stretch(image, notes, at),
+    }
 }
 
 /// The number of the first line of a byte that the file gives, for bytes on lines that follow each other from a number on.
@@ -28,8 +52,13 @@ fn known_line(image: &Image, notes: &Notes, bytes: &[(u32, u8)], first: u64) -> 
         let known = is_known_at (program_of image.now (notes_of notes.now) entry) in
         MatchOption result (told_but known first bytes.now told ≡ told) (λ n. told_but known first bytes.now told ≡ StateRefused n StateByteFault) }
 {
+    let mut seen = Alike {
+        first: 0,
+        stretch: known_stretch(image, notes, 0),
+    };
     for i in 0..bytes.len() {
-        if is_known(image, notes, bytes[i].0) {
+        seen = alike_at(image, notes, seen, bytes[i].0);
+        if seen.stretch.known {
             return Some(first + i as u64);
         }
     }

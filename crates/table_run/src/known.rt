@@ -10,6 +10,15 @@ use crate::program::Program;
 use elf32_reader::{Image, Part};
 use notes_lang::{FixedRange, Notes};
 
+/// What is told of an address and those behind it.
+#[derive(Clone, Copy)]
+pub struct Stretch {
+    /// Whether the file gives their bytes.
+    pub known: bool,
+    /// The last of them, at or above the address.
+    pub last: u32,
+}
+
 /// What ranges say of an address and those behind it, as far as they were read: whether one holds it, the last address up to which that range goes, and the last
 /// one up to which no range begins.
 #[derive(Clone, Copy)]
@@ -54,7 +63,7 @@ fn with_range(s: Reach, range: FixedRange, a: u32) -> Reach
 }
 
 /// Whether an address lies in a fixed range, and a last address up to which all from it on do as it does.
-fn stretch(ranges: &[FixedRange], a: u32) -> (bool, u32)
+fn fixed_stretch(ranges: &[FixedRange], a: u32) -> (bool, u32)
     ensures last { a ≤ result.1 }
     ensures same { (x : ℕ) → a ≤ x → x ≤ result.1 → fixed (map fixed_of ranges.now) x ≡ result.0 }
 {
@@ -86,7 +95,7 @@ pub(crate) fn first_known<'a>(p: &Program<'_, 'a>, a: u32) -> Option<Part<'a>>
         if part.kept {
             return Some(part);
         }
-        let (inside, end) = stretch(&p.notes.fixed, part.first);
+        let (inside, end) = fixed_stretch(&p.notes.fixed, part.first);
         let last = u32::min(end, part.last);
         if inside {
             return Some(Part { last, ..part });
@@ -98,20 +107,35 @@ pub(crate) fn first_known<'a>(p: &Program<'_, 'a>, a: u32) -> Option<Part<'a>>
     }
 }
 
-/// The byte at an address is one that the file gives: it is kept, or it is loaded and lies in a fixed range. One search, and a look at each range.
-pub fn is_known(image: &Image, notes: &Notes, at: u32) -> bool
-    ensures { (entry : ℕ) → result ≡ is_known_at (program_of image.now (notes_of notes.now) entry) at }
+/// Whether the byte at an address is one that the file gives (kept, or loaded and fixed), and a last address up to which the bytes behind it are as it is. One search, and
+/// a look at each range.
+pub fn known_stretch(image: &Image, notes: &Notes, at: u32) -> Stretch
+    ensures last { at ≤ result.last }
+    ensures same { (entry x : ℕ) → at ≤ x → x ≤ result.last → is_known_at (program_of image.now (notes_of notes.now) entry) x ≡ result.known }
 {
     let Some(part) = image.part_from(at) else {
-        return false;
+        return Stretch {
+            known: false,
+            last: u32::MAX,
+        };
     };
     if part.first > at {
-        return false;
+        return Stretch {
+            known: false,
+            last: part.first - 1,
+        };
     }
     if part.kept {
-        return true;
+        return Stretch {
+            known: true,
+            last: part.last,
+        };
     }
-    stretch(&notes.fixed, at).0
+    let (known, end) = fixed_stretch(&notes.fixed, at);
+    Stretch {
+        known,
+        last: u32::min(end, part.last),
+    }
 }
 
 /// The byte that a part has at one of its addresses.

@@ -15,5 +15,5 @@ mod words;
 
 pub use ending::{Ending, EntryFault};
 pub use entry::{entry_ok, lines_ok};
-pub use known::is_known;
+pub use known::{Stretch, known_stretch};
 pub use runs::{run, start_state};

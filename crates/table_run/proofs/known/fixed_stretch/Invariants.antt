@@ -1,7 +1,7 @@
 use Rattle.std.proofs.Common.{◌≡◌, ℕ, ◌≤◌, ◌<◌, get_or, true}
 use Rattle.notes_lang.specs.declared.notes.FixedRange.{FixedRange}
 use Rattle.table_run.specs.Known.{IsHeld}
-use Rattle.table_run.proofs.known.stretch.Given as goal
+use Rattle.table_run.proofs.known.fixed_stretch.Given as goal
 
 abbrev pub invariant-loop-range : goal.invariant-loop-range
 invariant-loop-range l = record {

@@ -1,6 +1,6 @@
 use Rattle.table_run.proofs.Reaches.{held_fixed, free_fixed}
 use Rattle.std.proofs.Common.{arith}
-use Rattle.table_run.proofs.known.stretch.Goals as goal
+use Rattle.table_run.proofs.known.fixed_stretch.Goals as goal
 
 pub returns-then-s-clause-same : goal.returns-then-s-clause-same
 returns-then-s-clause-same c x low high = held_fixed c.args.ranges.now c.args.a c.loop-range.s.high x (c.loop-range.invariant.held c.if-s.true) low high
