@@ -10,12 +10,12 @@ ghost use Rattle.table_run.specs.Programs.{program_of};
 ghost use Rattle.table_run.specs.Steps.{IsBefore};
 ghost use Rattle.notes_index.specs.Indexed.{targets_places, IsIndex};
 
-use notes_index::group;
 use crate::program::Program;
 use crate::words::word;
 use byte_mem::View;
 use file_words::{all_kept, fetchable};
 use machine_law::Machine;
+use notes_index::group;
 use notes_lang::Targets;
 
 /// What is known of a step before it is made: its address, and the targets of its row's pair and of its literal, which are sought only where the row may jump to an

@@ -7,8 +7,8 @@ ghost use Rattle.notes_value.specs.Reads.{IsReadable};
 ghost use Rattle.notes_lang.specs.Drafting.{note_line_of, assert_of};
 ghost use Rattle.notes_index.specs.Indexed.{assert_places, IsIndex};
 
-use notes_index::group;
 use byte_mem::View;
+use notes_index::group;
 use notes_lang::{Assert, NoteLine, value};
 
 /// The number of the first line that is false in the state now, for a run that began in the state at entry.

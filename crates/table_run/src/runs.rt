@@ -17,13 +17,13 @@ ghost use Rattle.notes_index.specs.Indexed.{AreIndexed};
 
 use crate::choices::choice_at;
 use crate::ending::{Ending, StepEnd};
-use notes_index::{Index, index_of};
 use crate::memory::memory_at;
 use crate::program::Program;
 use crate::steps::step;
 use byte_mem::View;
 use elf32_reader::Image;
 use machine_law::Machine;
+use notes_index::{Index, index_of};
 use notes_lang::Notes;
 use state_text::Start;
 use std::alloc::{AllocError, Global};
@@ -103,8 +103,7 @@ pub fn start_state<M: Machine>(
     entry: u32,
     start: &Start,
 ) -> Result<M::State, AllocError>
-    requires machine { machine_of image.now ≡ M.machine }
-    requires start { IsWritten M.form (is_known_at (program_of_files image.now (notes_of notes.now) entry)) (written_of start.now) }
+    requires { IsWritten M.form (is_known_at (program_of_files image.now (notes_of notes.now) entry)) (written_of start.now) }
     ensures { IfOk result (λ s. M.State.view s ≡ (start_in (program_of_files image.now (notes_of notes.now) entry) M.form (written_of start.now)).state) }
 {
     let p = Program {

@@ -13,7 +13,6 @@ ghost use Rattle.notes_index.specs.Indexed.{AreIndexed};
 ghost use Rattle.table_run.specs.Steps.{IsStepEnd, IsBefore, way_of};
 
 use crate::ending::StepEnd;
-use notes_index::Index;
 use crate::jumps::{Before, is_named, look};
 use crate::lines::{false_assert, false_line};
 use crate::program::Program;
@@ -21,6 +20,7 @@ use crate::words::{word, writes_kept};
 use byte_mem::{How, StepOut, View};
 use file_words::fetchable;
 use machine_law::Machine;
+use notes_index::Index;
 use state_text::Event;
 use std::alloc::AllocError;
 
