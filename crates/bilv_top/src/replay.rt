@@ -13,12 +13,9 @@ use crate::inputs::{Found, read_elf, read_notes, refuse_elf};
 use crate::reading::{answer, read_or_answer};
 use elf32_reader::{Image, read_image};
 use io_edges::Shelf;
-use report_replay::replay as replay_text;
+use report_replay::{REPORT_LIMIT, replay as replay_text};
 use rv_lift::Rv32;
 use std::alloc::{AllocError, Global};
-
-/// The most bytes of a report.
-const TEXT_LIMIT: u64 = 268_435_456;
 
 /// The status of a report that is not what its replay finds.
 const REFUSED: u8 = 9;
@@ -40,7 +37,7 @@ fn replay_report<H: Shelf>(
         (λ text b. b ≡ replay_answer (program_of image.now (notes_of found.now.notes) found.now.entry) (layout_of image.now) text) (answer_of a)) }
 {
     let large = b"state: TooLarge\n";
-    let text = match read_or_answer(alloc, shelf, name, TEXT_LIMIT, REFUSED, large)? {
+    let text = match read_or_answer(alloc, shelf, name, REPORT_LIMIT as u64, REFUSED, large)? {
         Step::Go(text) => text,
         Step::Answered(answer) => return Ok(answer),
     };

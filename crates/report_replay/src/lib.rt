@@ -7,5 +7,5 @@ mod replays;
 mod running;
 mod texts;
 
-pub use replays::replay;
+pub use replays::{REPORT_LIMIT, replay};
 pub use texts::Replay;

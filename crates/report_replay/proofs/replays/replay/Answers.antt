@@ -11,11 +11,11 @@ use Rattle.report_replay.specs.Readings.{told_of}
 use Rattle.report_replay.proofs.Answers.{large_is, told_is, told_written, told_step}
 use Rattle.report_replay.proofs.replays.replay.Goals as goal
 
-pub returns-then-text-gt-TEXT_LIMIT : goal.returns-then-text-gt-TEXT_LIMIT
-returns-then-text-gt-TEXT_LIMIT g c =
+pub returns-then-text-gt-REPORT_LIMIT : goal.returns-then-text-gt-REPORT_LIMIT
+returns-then-text-gt-REPORT_LIMIT g c =
     let p = program_of c.args.image.now (notes_of c.args.notes.now) c.args.entry in
     subst (λ (a : Answer). IfOk c.too_large.result (λ r. plain_answer r.status r.text.items ≡ a))
-    (large_is p (layout_of c.args.image.now) c.args.text.now c.if-text-gt-TEXT_LIMIT.true) (c.too_large.ensures p (layout_of c.args.image.now) c.args.text.now)
+    (large_is p (layout_of c.args.image.now) c.args.text.now c.if-text-gt-REPORT_LIMIT.true) (c.too_large.ensures p (layout_of c.args.image.now) c.args.text.now)
 
 pub returns-in-Refused : goal.returns-in-Refused
 returns-in-Refused g c =
