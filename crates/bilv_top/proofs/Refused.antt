@@ -122,9 +122,6 @@ read_since s t name Next a held le same (read_failed rose is) =
     read_failed (subst (λ n. Rose (t.shelf_before name) n) same (rose_since (t.shelf_before name) (s.shelf_before name) (s.shelf_after name) le rose)) is
 read_since s t name Next a held le same (was_read bytes agrees next) = was_read bytes (subst (λ h. Agrees h bytes) held agrees) next
 
-pub two_falls : (a b c : ℕ) → a ≤ b → b ≤ c → a ≤ c
-two_falls a b c h k = omega arith
-
 -- a step that found a program in the text of notes, or answered
 pub step_found : (held : Held) (before after : ℕ) (file text : List ℕ) (step : Step Found) → Agrees held text → length text ≤ notes_limit →
     IfStep step (AreNotesAnswered file text) (λ f. (f.text.items ≡ text) × IsFoundBy file f) →

@@ -1,4 +1,5 @@
 use Rattle.std.proofs.Common.{◌≤◌, length, refl, sym, subst, ◌∙◌}
+use Rattle.std.proofs.Math.Nat.{le_trans}
 use Rattle.std.proofs.lemmas.Result.{IfOk-weaker}
 use Rattle.bilv_spec.specs.Outside.{Agrees}
 use Rattle.bilv_spec.specs.Files.{program_of}
@@ -7,7 +8,7 @@ use Rattle.bilv_spec.specs.Verified.{AfterNotes}
 use Rattle.notes_lang.specs.Drafting.{notes_of}
 use Rattle.bilv_top.specs.Answers.{answer_of, seen}
 use Rattle.bilv_top.specs.Due.{IsNotesAnswer, IsReplayedSoFar, IsFoundBy}
-use Rattle.bilv_top.proofs.Refused.{elf_unread, elf_refuses, elf_accepts, notes_answered, notes_found, answer_since, two_falls}
+use Rattle.bilv_top.proofs.Refused.{elf_unread, elf_refuses, elf_accepts, notes_answered, notes_found, answer_since}
 use Rattle.bilv_top.proofs.Reported.{replayed_since}
 use Rattle.bilv_top.proofs.replay.replay.Goals as goal
 
@@ -50,7 +51,7 @@ returns-in-Go-2 g c =
     (short, c.in-Ok.ensures.accepted) by.says by.at
     (λ is. replayed_since (seen (g.H.Shelf.holds c.read_notes.new.shelf) later after) s report file (program_of file (notes_of f.notes) f.entry) (answer_of a)
     (c.read_notes.ensures.keeps report ∙ c.read_elf.ensures.keeps report)
-    (two_falls (before report) (middle report) (later report) (c.read_elf.ensures.never_falls report) (c.read_notes.ensures.never_falls report)) refl
+    (le_trans (c.read_elf.ensures.never_falls report) (c.read_notes.ensures.never_falls report)) refl
     (subst (λ x. IsReplayedSoFar (seen (g.H.Shelf.holds c.read_notes.new.shelf) later after) report x (program_of x (notes_of f.notes) f.entry) (answer_of a))
     c.in-Ok.ensures.image done)))) c.replay_program.ensures
 
