@@ -424,10 +424,11 @@ fn report_text(
     Ok(text)
 }
 
-/// Words, notes behind the line of the entry, and of a report the ending, the register that is not 0, its value, and the lines behind the registers.
+/// Words, how many segments they name, notes, and of a report the ending, the register that is not 0, its value, and the lines behind the registers.
 #[derive(Clone, Copy)]
 struct Report<'a> {
     words: &'a [u32],
+    segments: u8,
     notes: &'a str,
     named: &'a str,
     register: usize,
@@ -438,6 +439,7 @@ struct Report<'a> {
 /// A report that the addition wraps.
 const WRAPS: Report<'static> = Report {
     words: &[ADDITION, RETURN],
+    segments: 1,
     notes: "entry 0x10000\nensure a0 >u old(a0)\n",
     named: "fails ensure 2 at 0x00010004 step 1",
     register: 10,
@@ -450,6 +452,7 @@ fn replayed(alloc: Global, r: &Report) -> Result<(u8, Vec<u8>), Fail> {
     let text = report_text(alloc, r.named, r.register, r.value, r.behind)?;
     let files = Files {
         words: r.words,
+        segments: r.segments,
         notes: r.notes,
         text: text.as_bytes(),
         ..ONE
@@ -652,6 +655,168 @@ fn replays_endings(rt: HostRuntime) -> Result<(), Fail> {
         text.push_str(named)?;
         text.push_str("\n")?;
         assert_eq!(rt; found, 0, "at {named}");
+        assert_eq!(rt; written.as_slice(), text.as_bytes());
+    }
+    Ok(())
+}
+
+/// The header of a second segment, a load of a0 from the address in a1, a return, and the bytes 1 to 4 of that segment, which has four zeros behind them and can be
+/// written.
+const LOADS: [u32; 11] = [
+    1,
+    124,
+    0x2_0000,
+    0,
+    4,
+    8,
+    6,
+    4,
+    0x0005_a503,
+    RETURN,
+    0x0403_0201,
+];
+
+/// A report that the four bytes are loaded.
+const LOADED: Report<'static> = Report {
+    words: &LOADS,
+    segments: 2,
+    notes: "entry 0x10020\nfixed 0x20000 0x20003\nensure a0 != 0x4030201\n",
+    named: "fails ensure 3 at 0x00010024 step 1",
+    register: 11,
+    value: "0x00020000",
+    behind: "",
+};
+
+#[test]
+fn replays_fixed_bytes(rt: HostRuntime) -> Result<(), Fail> {
+    let none = "entry 0x10020\n\nensure a0 != 0x4030201\n";
+    let three = "entry 0x10020\nfixed 0x20001 0x20003\nensure a0 != 0x4030205\n";
+    let second_and_fourth =
+        "entry 0x10020\nfixed 0x20003 0x20003\nensure a0 != 0x4030201\nfixed 0x20001 0x20001\n";
+    let beyond = "entry 0x10020\nfixed 0x20000 0x2ffff\nensure a0 != 0x4030201\n";
+    let replayed_as_named = "replayed fails ensure 3 at 0x00010024 step 1\n";
+    let zeros =
+        "replay: named fails ensure 3 at 0x00010024 step 1, found exit at 0x00010024 step 1\n";
+    let cases = [
+        (LOADED.notes, "", 0, replayed_as_named),
+        (none, "", 9, zeros),
+        (
+            LOADED.notes,
+            "byte 0x00020000 0x05\n",
+            9,
+            "state: line 34 S3 Byte\n",
+        ),
+        (three, "byte 0x00020000 0x05\n", 0, replayed_as_named),
+        (
+            second_and_fourth,
+            "byte 0x00020000 0x01\nbyte 0x00020002 0x03\nbyte 0x00020004 0x01\n",
+            0,
+            replayed_as_named,
+        ),
+        (
+            second_and_fourth,
+            "byte 0x00020000 0x01\nbyte 0x00020002 0x03\nbyte 0x00020003 0x04\n",
+            9,
+            "state: line 36 S3 Byte\n",
+        ),
+        (
+            beyond,
+            "byte 0x00020007 0x01\n",
+            9,
+            "state: line 34 S3 Byte\n",
+        ),
+        (beyond, "byte 0x00020008 0x01\n", 0, replayed_as_named),
+        (
+            LOADED.notes,
+            "byte 0x0000ffff 0x01\nbyte 0x0001002b 0x01\n",
+            9,
+            "state: line 35 S3 Byte\n",
+        ),
+        (
+            LOADED.notes,
+            "byte 0x0000ffff 0x01\nbyte 0x0001002c 0x01\n",
+            0,
+            replayed_as_named,
+        ),
+    ];
+    for (notes, behind, status, text) in cases {
+        let report = Report {
+            notes,
+            behind,
+            ..LOADED
+        };
+        let (found, written) = replayed(rt.alloc(), &report)?;
+        assert_eq!(rt; found, status, "at {behind}");
+        assert_eq!(rt; written.as_slice(), text.as_bytes());
+    }
+    Ok(())
+}
+
+#[test]
+fn replays_asserts_of_one_address(rt: HostRuntime) -> Result<(), Fail> {
+    let second = "entry 0x10000\nassert 0x10004 a0 = 0\nassert 0x10004 a0 = 1\n";
+    let apart =
+        "entry 0x10000\nassert 0x10004 a0 = 0\nassert 0x10000 a0 != 0\nassert 0x10004 a0 = 1\n";
+    let both = "entry 0x10000\nassert 0x10004 a0 = 2\nassert 0x10004 a0 = 1\n";
+    let cases = [
+        (
+            second,
+            "fails assert 3 at 0x00010004 step 1",
+            0,
+            "replayed fails assert 3 at 0x00010004 step 1\n",
+        ),
+        (
+            apart,
+            "fails assert 4 at 0x00010004 step 1",
+            0,
+            "replayed fails assert 4 at 0x00010004 step 1\n",
+        ),
+        (
+            both,
+            "fails assert 2 at 0x00010004 step 1",
+            0,
+            "replayed fails assert 2 at 0x00010004 step 1\n",
+        ),
+        (
+            both,
+            "fails assert 3 at 0x00010004 step 1",
+            9,
+            "replay: named fails assert 3 at 0x00010004 step 1, found fails assert 2 at 0x00010004 step 1\n",
+        ),
+    ];
+    for (notes, named, status, text) in cases {
+        let report = Report {
+            notes,
+            named,
+            ..WRAPS
+        };
+        let (found, written) = replayed(rt.alloc(), &report)?;
+        assert_eq!(rt; found, status, "at {named}");
+        assert_eq!(rt; written.as_slice(), text.as_bytes());
+    }
+    Ok(())
+}
+
+#[test]
+fn replays_choices(rt: HostRuntime) -> Result<(), Fail> {
+    let cases = [
+        (
+            "choice 0 1\nchoice 1 3\nchoice 16777215 2\n",
+            0,
+            "replayed fails ensure 2 at 0x00010004 step 1\n",
+        ),
+        ("choice 0 4\n", 9, "state: line 34 S4 Choice\n"),
+        ("choice 1 1\nchoice 1 1\n", 9, "state: line 35 S4 Choice\n"),
+        ("choice 16777216 1\n", 9, "state: line 34 S1 Line\n"),
+        (
+            "choice 0 1\nbyte 0x00020000 0x01\n",
+            9,
+            "state: line 35 S3 Byte\n",
+        ),
+    ];
+    for (behind, status, text) in cases {
+        let (found, written) = replayed(rt.alloc(), &Report { behind, ..WRAPS })?;
+        assert_eq!(rt; found, status, "at {behind}");
         assert_eq!(rt; written.as_slice(), text.as_bytes());
     }
     Ok(())
