@@ -9,6 +9,7 @@ mod inputs;
 mod judge;
 mod lift;
 mod line;
+mod program;
 mod reading;
 mod replay;
 mod row_file;
@@ -16,3 +17,4 @@ mod texts;
 mod verify;
 
 pub use call::{Evidence, Outcome, bilv};
+pub use program::answer_words;
