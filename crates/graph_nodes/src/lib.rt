@@ -3,6 +3,8 @@
 //! It names no machine: what reads it needs no table of instructions.
 #![tactic(auto)]
 
+mod flags;
 mod nodes;
 
+pub use flags::has_flag;
 pub use nodes::{Graph, Letter, Node, Successor};

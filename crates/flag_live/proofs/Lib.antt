@@ -1,0 +1,7 @@
+pub mod Added
+pub mod Begun
+pub mod Graphs
+pub mod Lives
+pub mod Located
+pub mod Readings
+pub mod Walks

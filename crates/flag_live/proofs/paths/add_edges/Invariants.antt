@@ -1,0 +1,6 @@
+use Rattle.flag_live.specs.Vertices.{AreRising, IsEdgeAmong, Adds}
+use Rattle.flag_live.proofs.paths.add_edges.Given as goal
+
+abbrev pub invariant-loop-successor : goal.invariant-loop-successor
+invariant-loop-successor l =
+    Adds l.initial.edges.items l.edges.items (AreRising l.nodes) (IsEdgeAmong l.nodes l.from l.assigned l.node.successors.items l.successor-index)

@@ -1,0 +1,4 @@
+pub mod Keeps
+pub mod Meanings
+pub mod Reachable
+pub mod Vertices

@@ -1,0 +1,9 @@
+//! The assignments of flags that a flow graph's static paths read.
+#![tactic(auto)]
+
+mod live;
+mod paths;
+mod trimmed;
+mod walk;
+
+pub use trimmed::trim;

@@ -1,0 +1,6 @@
+pub mod Members
+pub mod Orders
+pub mod Groups
+pub mod FlagSets
+pub mod Nodal
+pub mod Walking

@@ -1,0 +1,10 @@
+use Rattle.std.proofs.Common.{rules}
+use Rattle.std.proofs.lemmas.List.Sorted.{IsNonDecreasingBy-from_sort_by_key}
+use Rattle.graph_nodes.specs.declared.nodes.Successor.{Successor}
+use Rattle.graph_nodes.specs.Graphs.{successor_of}
+use Rattle.flow_graph.specs.Programs.{place}
+use Rattle.flow_graph.proofs.listing.sorted.Goals as goal
+
+pub returns-clause-rising : goal.returns-clause-rising
+returns-clause-rising c =
+    IsNonDecreasingBy-from_sort_by_key (λ (s : Successor). place (successor_of s)) _ c.in_ok-sort_by_key.ensures.sorted (λ a r q k. search rules)

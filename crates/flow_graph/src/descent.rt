@@ -1,0 +1,96 @@
+//! The descent from the function's address to every address of the flow graph.
+ghost use Rattle.std.specs.Prelude.{◌≡◌, IfOk, OnOk, map};
+ghost use Rattle.std.specs.List.Sorted.{IsNonDecreasingBy, IsPermutation};
+ghost use Rattle.bilv_spec.specs.Files.{machine_of, program_of};
+ghost use Rattle.notes_lang.specs.Drafting.{notes_of};
+ghost use Rattle.notes_index.specs.Indexed.{AreIndexed};
+ghost use Rattle.graph_nodes.specs.Graphs.{IsGraph, AllStay};
+ghost use Rattle.flow_graph.specs.Programs.{program};
+ghost use Rattle.flow_graph.specs.Walks.{IsSeen, IsMore, IsWhole};
+
+use crate::flags::ensured;
+use crate::node::node;
+use crate::program::Program;
+use elf32_reader::Image;
+use graph_nodes::{Graph, Node, Successor};
+use machine_law::Machine;
+use notes_index::{Index, index_of};
+use notes_lang::Notes;
+use std::alloc::{AllocError, Global};
+use std::collections::BTreeSet;
+
+/// Adds each address of successors that is not found yet. The error is want of memory.
+fn find_all(
+    found: &mut Vec<u32>,
+    seen: &mut BTreeSet<u32>,
+    successors: &[Successor],
+) -> Result<(), AllocError>
+    requires { IsSeen found.old.items seen.old }
+    ensures seen { OnOk result (IsSeen found.new.items seen.new) }
+    ensures more { OnOk result (IsMore found.old.items (map (λ s. s.to) successors.now) found.new.items) }
+{
+    for successor in successors {
+        let to = successor.to;
+        if !seen.contains(&to) {
+            seen.insert(to)?;
+            found.push(to)?;
+        }
+    }
+    Ok(())
+}
+
+/// The nodes of all addresses of the graph, in the order in which they are found. The error is want of memory.
+fn all_nodes<M: Machine>(alloc: Global, p: &Program, index: &Index) -> Result<Vec<Node>, AllocError>
+    requires machine { machine_of p.now.image.now ≡ M.machine }
+    requires index { AreIndexed p.now.notes.now index.now }
+    ensures { IfOk result (λ v. IsWhole (program M.machine p.now) v.items) }
+{
+    let mut found = Vec::new(alloc);
+    let mut seen = BTreeSet::new(alloc);
+    found.push(p.entry)?;
+    seen.insert(p.entry)?;
+    let mut nodes: Vec<Node> = Vec::new(alloc);
+    'descent: while nodes.len() < found.len() {
+        let next = node::<M>(alloc, p, index, found[nodes.len()])?;
+        find_all(&mut found, &mut seen, &next.successors)?;
+        nodes.push(next)?;
+    }
+    Ok(nodes)
+}
+
+/// The nodes by rising addresses. The error is want of memory.
+fn sorted(mut nodes: Vec<Node>) -> Result<Vec<Node>, AllocError>
+    ensures moved { IfOk result (λ v. IsPermutation nodes.items v.items) }
+    ensures rising { IfOk result (λ v. IsNonDecreasingBy (λ n. n.at) v.items) }
+{
+    nodes.sort_by_key(|n| n.at)?;
+    Ok(nodes)
+}
+
+/// The flow graph of a machine's program over a file and notes whose function is at an address; each assignment of a flag stays.
+///
+/// # Errors
+///
+/// Want of memory.
+pub fn descend<M: Machine>(
+    alloc: Global,
+    image: &Image,
+    notes: &Notes,
+    entry: u32,
+) -> Result<Graph, AllocError>
+    requires machine { machine_of image.now ≡ M.machine }
+    ensures graph { IfOk result (λ g. IsGraph (program_of image.now (notes_of notes.now) entry) g) }
+    ensures stay { IfOk result (λ g. AllStay g) }
+{
+    let index = index_of(alloc, notes)?;
+    let p = Program {
+        image,
+        notes,
+        entry,
+    };
+    let nodes = sorted(all_nodes::<M>(alloc, &p, &index)?)?;
+    Ok(Graph {
+        nodes,
+        ensured: ensured(&notes.ensured),
+    })
+}

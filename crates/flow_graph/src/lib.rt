@@ -1,0 +1,13 @@
+//! The flow graph of a program: from the function's address along static successors to every address of it.
+#![tactic(auto)]
+
+mod descent;
+mod flags;
+mod listing;
+mod node;
+mod program;
+mod rows;
+mod successors;
+mod targets;
+
+pub use descent::descend;

@@ -1,0 +1,74 @@
+//! The node of an address.
+ghost use Rattle.std.specs.Prelude.{◌≡◌, ◌&&◌, not, IfOk};
+ghost use Rattle.bilv_spec.specs.Files.{machine_of};
+ghost use Rattle.notes_index.specs.Indexed.{AreIndexed};
+ghost use Rattle.graph_nodes.specs.Graphs.{IsNode};
+ghost use Rattle.flow_graph.specs.Programs.{program};
+
+use crate::flags::asserted;
+use crate::program::Program;
+use crate::rows::{row, word};
+use crate::successors::successors;
+use file_words::fetchable;
+use graph_nodes::Node;
+use machine_law::{FlagUse, Machine, Succ};
+use notes_index::Index;
+use std::alloc::{AllocError, Global};
+
+/// The flags of an address without a row: a run does not go on behind it.
+const NO_ROW: FlagUse = FlagUse {
+    reads: 0,
+    assigns: 0,
+    surely: 15,
+};
+
+/// The row whose ways on these are may return or exit.
+fn may_return(ways: Succ) -> bool
+    ensures { result ≡ (ways.indirect && not ways.call) }
+{
+    ways.indirect && !ways.call
+}
+
+/// The node of an address, where each assignment of a flag stays. The error is want of memory.
+pub(crate) fn node<M: Machine>(
+    alloc: Global,
+    p: &Program,
+    index: &Index,
+    at: u32,
+) -> Result<Node, AllocError>
+    requires machine { machine_of p.now.image.now ≡ M.machine }
+    requires index { AreIndexed p.now.notes.now index.now }
+    ensures at { IfOk result (λ n. n.at ≡ at) }
+    ensures is { IfOk result (λ n. IsNode (program M.machine p.now) n) }
+    ensures stay { IfOk result (λ n. n.keeps ≡ n.flags.assigns) }
+{
+    let fetchable = fetchable(p.image, at);
+    let asserted = asserted(&p.notes.asserts, &index.asserts, at);
+    let insn = match row::<M>(p, at) {
+        None => {
+            return Ok(Node {
+                at,
+                fetchable,
+                word: None,
+                successors: Vec::new(alloc),
+                returns: false,
+                flags: NO_ROW,
+                asserted,
+                keeps: 0,
+            });
+        }
+        Some(insn) => insn,
+    };
+    let ways = M::successors(&insn, at);
+    let flags = M::flags(&insn);
+    Ok(Node {
+        at,
+        fetchable,
+        word: Some(word::<M>(p, at)),
+        successors: successors::<M>(alloc, p, index, &insn, at, ways)?,
+        returns: may_return(ways),
+        flags,
+        asserted,
+        keeps: flags.assigns,
+    })
+}

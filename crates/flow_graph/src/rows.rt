@@ -1,0 +1,28 @@
+//! Words and instructions, by the file.
+ghost use Rattle.std.specs.Prelude.{◌≡◌, option_map};
+ghost use Rattle.bilv_spec.specs.Files.{machine_of};
+ghost use Rattle.bilv_spec.specs.Points as points;
+ghost use Rattle.flow_graph.specs.Programs.{program};
+
+use crate::program::Program;
+use file_words::{fetchable, file_word};
+use machine_law::Machine;
+
+/// The word that the file has at an address.
+pub(crate) fn word<M: Machine>(p: &Program, at: u32) -> u32
+    requires { machine_of p.now.image.now ≡ M.machine }
+    ensures { result ≡ points.file_word (program M.machine p.now) at }
+{
+    file_word(p.image, at)
+}
+
+/// The instruction at an address, where a word may be fetched there and the table has a row for it.
+pub(crate) fn row<M: Machine>(p: &Program, at: u32) -> Option<M::Insn>
+    requires { machine_of p.now.image.now ≡ M.machine }
+    ensures { option_map M.Machine.row result ≡ points.file_row (program M.machine p.now) at }
+{
+    if !fetchable(p.image, at) {
+        return None;
+    }
+    M::decode(word::<M>(p, at))
+}

@@ -1,0 +1,66 @@
+//! The successors of an instruction.
+ghost use Rattle.std.specs.Prelude.{◌≡◌, ◌%◌, ◌==◌, map, filter, IfOk, Some, if◌then◌else◌};
+ghost use Rattle.bilv_spec.specs.Files.{machine_of};
+ghost use Rattle.bilv_spec.specs.Graph as graph;
+ghost use Rattle.machine_law.specs.Facts as facts;
+ghost use Rattle.notes_index.specs.Indexed.{targets_places, IsIndex};
+ghost use Rattle.graph_nodes.specs.Graphs.{successor_of};
+ghost use Rattle.flow_graph.specs.Programs.{program, IsSameSet};
+
+use crate::listing::{ordered, push_each, push_some};
+use crate::program::Program;
+use crate::targets::indirect_targets;
+use graph_nodes::{Letter, Successor};
+use machine_law::{Machine, Succ};
+use notes_index::Index;
+use std::alloc::{AllocError, Global};
+
+/// The letter of a jump to another address.
+fn jump_letter(call: bool) -> Letter
+    ensures { result ≡ (if call then Letter.Call else Letter.Jump) }
+{
+    if call { Letter::Call } else { Letter::Jump }
+}
+
+/// All successors of an instruction at an address, in no order. The error is want of memory.
+fn all_successors<M: Machine>(
+    alloc: Global,
+    p: &Program,
+    index: &Index,
+    insn: &M::Insn,
+    at: u32,
+    ways: Succ,
+) -> Result<Vec<Successor>, AllocError>
+    requires machine { machine_of p.now.image.now ≡ M.machine }
+    requires index { IsIndex (targets_places p.now.notes.now.targets.items) index.now.targets.items }
+    ensures { IfOk result (λ v. IsSameSet (map successor_of v.items) (graph.successors_of (program M.machine p.now) at (M.Machine.row insn.now) (facts.successors_of ways))) }
+{
+    let behind = at.wrapping_add(4);
+    let letter = jump_letter(ways.call);
+    let targets = indirect_targets::<M>(alloc, p, index, insn, at, ways.indirect)?;
+    let mut found = Vec::new(alloc);
+    push_some(&mut found, Letter::Next, ways.next.then_some(behind))?;
+    push_some(&mut found, letter, ways.direct)?;
+    push_each(&mut found, letter, &targets)?;
+    push_some(&mut found, Letter::Return, ways.call.then_some(behind))?;
+    Ok(found)
+}
+
+/// The successors of an instruction at an address, whose ways on are these, by rising addresses and in the order of their letters. The error is want of memory.
+pub(crate) fn successors<M: Machine>(
+    alloc: Global,
+    p: &Program,
+    index: &Index,
+    insn: &M::Insn,
+    at: u32,
+    ways: Succ,
+) -> Result<Vec<Successor>, AllocError>
+    requires machine { machine_of p.now.image.now ≡ M.machine }
+    requires index { IsIndex (targets_places p.now.notes.now.targets.items) index.now.targets.items }
+    requires ways { facts.successors_of ways ≡ (M.Machine.row insn.now).successors at }
+    ensures { IfOk result (λ v. map successor_of v.items ≡ graph.sort (graph.successors_by (program M.machine p.now) at (Some (M.Machine.row insn.now)))) }
+{
+    let found = all_successors::<M>(alloc, p, index, insn, at, ways)?;
+    let found = ordered(found)?;
+    Ok(found)
+}
