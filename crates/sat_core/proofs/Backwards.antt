@@ -13,7 +13,7 @@ use Rattle.bilv_spec.proofs.RefutationSound.{get-contains}
 use Rattle.cnf_form.specs.declared.form.Hint as code
 use Rattle.cnf_form.specs.declared.form.Hint.TheVariants as variants
 use Rattle.cnf_form.specs.Views.{hint_of}
-use Rattle.sat_core.specs.declared.propagate.Step.{Step}
+use Rattle.sat_core.specs.declared.trail.Step.{Step}
 use Rattle.sat_core.specs.Steps.{IsStep, told, AreSteps, IsWay}
 use Rattle.sat_core.specs.Kept.{names}
 use Rattle.sat_core.proofs.Literals.{fun_ext}
@@ -79,7 +79,7 @@ no-items [] h = refl
 no-items (x ∷ xs) h = absurd (omega arith)
 
 -- the last of a list stands first in the reverse
-last-first : {X : Type 0} (items fewer : List X) (x : X) → items ≡ fewer ++ x ∷ [] → reverse items ≡ x ∷ reverse fewer
+pub last-first : {X : Type 0} (items fewer : List X) (x : X) → items ≡ fewer ++ x ∷ [] → reverse items ≡ x ∷ reverse fewer
 last-first items fewer x e = ap reverse e ∙ reverse-append fewer (x ∷ [])
 
 module _ (cs : List Clause) (given : Literal → Bool) (items more : List Step) (s : Step) (is : more ≡ items ++ s ∷ []) (holds : Literal → Bool)

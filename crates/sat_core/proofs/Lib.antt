@@ -7,3 +7,11 @@ pub mod Shorter
 pub mod Learning
 pub mod Taken
 pub mod Logs
+pub mod Chains
+pub mod Adding
+pub mod Closing
+pub mod Visiting
+pub mod Keeping
+pub mod Detaching
+pub mod Watching
+pub mod Stepping

@@ -1,11 +1,11 @@
 -- Literals and clauses.
-use Rattle.std.proofs.Common.{◌≡◌, ℕ, zero, suc, ◌+◌, ◌<◌, Bool, true, false, not, ◌&&◌, ◌||◌, [], ◌∷◌, ◌++◌, refl, arith, sym, ap, ◌∙◌, length, inl, inr, ◌⊎◌, get_or, take}
+use Rattle.std.proofs.Common.{◌≡◌, ℕ, zero, suc, ◌+◌, ◌-◌, ◌<◌, Bool, true, false, not, ◌&&◌, ◌||◌, [], ◌∷◌, ◌++◌, refl, arith, sym, ap, ◌∙◌, length, inl, inr, ◌⊎◌, get_or, take}
 use Rattle.std.specs.Prelude.{◌==◌}
 use Rattle.std.proofs.lemmas.Bool.{cases_Bool, or_cases, and_parts, both_ways}
 use Rattle.bilv_spec.specs.Clauses.{Literal, Clause, same, same_sign, opposite, has}
 use Rattle.bilv_spec.specs.UnitPropagation.{negations}
 use Rattle.bilv_spec.specs.Refutation.{is_tautology, added}
-use Rattle.std.proofs.lemmas.List.{take_more}
+use Rattle.std.proofs.lemmas.List.{take_more, take_all}
 use Rattle.bilv_spec.proofs.Looks.{same-true, same-self, or_left, or_right}
 use Rattle.bilv_spec.proofs.NewClauses.{opposite_twice, differ_swap}
 use Rattle.sat_core.specs.Kept.{others}
@@ -151,3 +151,40 @@ others-plain (y ∷ ys) x h =
         | inr f ↦ rw (e, f) (others-plain ys x p.1)
       ]
     ]
+
+-- a literal that is true already
+pub added-same : (l : Literal) (h : Literal → Bool) → h l ≡ true → (m : Literal) → h m ≡ added l h m
+added-same l h t m = elim (cases_Bool (same l m)) [
+  | inl e ↦ rw e (ap h (sym (same-true l m e)) ∙ t)
+  | inr e ↦ rw e refl
+]
+
+split_behind : (y : Literal) (ys : Clause) (x : Literal) → x ≡ get_or (y ∷ ys) (length (y ∷ ys) - 1) x → y ∷ ys ≡ take (length (y ∷ ys) - 1) (y ∷ ys) ++ x ∷ []
+split_behind y ys x is =
+    let n : length (y ∷ ys) - 1 ≡ length ys = omega arith in
+    let lt : length ys < length (y ∷ ys) = omega arith in
+    let e = ap (λ i. get_or (y ∷ ys) i x) n in
+    sym (take_all (length ys + 1) (y ∷ ys) (omega arith)) ∙ front (y ∷ ys) (length ys) x lt (is ∙ e) ∙ ap (λ i. take i (y ∷ ys) ++ x ∷ []) (sym n)
+
+-- a clause without its last literal
+pub split-last : (c : Clause) (x : Literal) → 0 < length c → x ≡ get_or c (length c - 1) x → c ≡ take (length c - 1) c ++ x ∷ []
+split-last [] x lt is = absurd (omega arith)
+split-last (y ∷ ys) x lt is = split_behind y ys x is
+
+pub plain-front : (c : Clause) (l : Literal) → is_tautology (c ++ l ∷ []) ≡ false → is_tautology c ≡ false
+plain-front [] l h = refl
+plain-front (x ∷ xs) l h =
+    let p = or_false_parts (has (xs ++ l ∷ []) (opposite x)) (is_tautology (xs ++ l ∷ [])) h in
+    elim (cases_Bool (has xs (opposite x))) [
+      | inl e ↦ absurd (both_ways (has (xs ++ l ∷ []) (opposite x)) p.0 (last-front xs l (opposite x) e))
+      | inr e ↦ rw e (plain-front xs l p.1)
+    ]
+
+-- a clause whose literals are all false has no literal beside its opposite
+pub false-plain : (h : Literal → Bool) → ((l : Literal) → h l ≡ true → h (opposite l) ≡ true → ⊥) → (c : Clause) → ((m : Literal) → has c m ≡ true → h (opposite m) ≡ true) →
+    is_tautology c ≡ false
+false-plain h one [] f = refl
+false-plain h one (x ∷ xs) f = elim (cases_Bool (has xs (opposite x))) [
+  | inl e ↦ absurd (one (opposite x) (f x (or_left (same x x) (has xs x) (same-self x))) (f (opposite x) (or_right (same x (opposite x)) (has xs (opposite x)) e)))
+  | inr e ↦ rw e (false-plain h one xs (λ m p. f m (or_right (same x m) (has xs m) p)))
+]

@@ -47,7 +47,7 @@ listed-hints n (ById i ∷ hs) few h =
     let r = listed-hints n hs few p.1 in
     (rw b r.0, r.1)
 
-get-last : (cs : List Clause) (c : Clause) (i : ℕ) → slice_get (cs ++ c ∷ []) i ≡ (if i == length cs then Some c else slice_get cs i)
+pub get-last : (cs : List Clause) (c : Clause) (i : ℕ) → slice_get (cs ++ c ∷ []) i ≡ (if i == length cs then Some c else slice_get cs i)
 get-last [] c zero = refl
 get-last [] c (suc i) = rw (ne_eqb (suc i) 0 (λ e. omega (arith, e))) refl
 get-last (x ∷ xs) c zero = rw (ne_eqb 0 (length (x ∷ xs)) (λ e. omega (arith, e))) refl

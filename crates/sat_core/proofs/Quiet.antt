@@ -8,7 +8,7 @@ use Rattle.bilv_spec.proofs.Looks.{same-true, same-self, or_left, or_right, left
 use Rattle.sat_core.specs.ClosedSets.{IsQuiet}
 
 module _ (holds : Literal → Bool) where
-  all_same-from : (x : Literal) (xs : Clause) → ((m : Literal) → has xs m ≡ true → m ≡ x) → all_same x xs ≡ true
+  pub all_same-from : (x : Literal) (xs : Clause) → ((m : Literal) → has xs m ≡ true → m ≡ x) → all_same x xs ≡ true
   all_same-from x [] f = refl
   all_same-from x (y ∷ ys) f =
       and_from (same y x) (all_same x ys) (rw (f y (or_left (same y y) (has ys y) (same-self y))) (same-self x))
@@ -30,7 +30,7 @@ module _ (holds : Literal → Bool) where
       ]
 
   -- a clause whose literals are all false has nothing left
-  nothing-left : (c : Clause) → ((m : Literal) → has c m ≡ true → holds (opposite m) ≡ true) → left_over holds c ≡ []
+  pub nothing-left : (c : Clause) → ((m : Literal) → has c m ≡ true → holds (opposite m) ≡ true) → left_over holds c ≡ []
   nothing-left [] f = refl
   nothing-left (y ∷ ys) f = rw (f y (or_left (same y y) (has ys y) (same-self y))) (nothing-left ys (λ m h. f m (or_right (same y m) (has ys m) h)))
 

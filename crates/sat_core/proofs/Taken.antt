@@ -1,5 +1,5 @@
 -- Decisions: one more, and what propagation adds.
-use Rattle.std.proofs.Common.{◌≡◌, ℕ, ◌≤◌, Bool, false, List, [], ◌∷◌, ◌++◌, sym, ap, ◌∙◌, inl, inr}
+use Rattle.std.proofs.Common.{◌≡◌, ℕ, ◌≤◌, Bool, false, List, [], ◌∷◌, ◌++◌, refl, sym, ap, ◌∙◌, inl, inr}
 use Rattle.std.proofs.lemmas.Bool.{cases_Bool, both_ways, or_cases}
 use Rattle.bilv_spec.specs.Clauses.{Literal, Clause, same, opposite, has}
 use Rattle.bilv_spec.specs.UnitPropagation.{Includes, negations}
@@ -34,3 +34,17 @@ module _ (cs : List Clause) (n : ℕ) (full : Clause) (h k : Literal → Bool) (
       | inr e ↦ t.given s (λ j q. i j (last-front full (opposite d) (opposite j) q)) c m e
     ];
   }
+
+no-last : (e : Clause) (l : Literal) → [] ≡ e ++ l ∷ [] → ⊥
+no-last [] l q = cc
+no-last (x ∷ xs) l q = cc
+
+-- no decisions
+pub taken-start : (cs : List Clause) (n : ℕ) (h : Literal → Bool) → ((m : Literal) → h m ≡ false) → IsTaken cs n [] h
+taken-start cs n h none = record {
+  over = λ m p. absurd (cc);
+  plain = refl;
+  decided = λ e l q. absurd (no-last e l q);
+  included = λ m p. absurd (cc);
+  given = λ s i c m p. absurd (both_ways (h m) (none m) p);
+}

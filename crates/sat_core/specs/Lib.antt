@@ -4,3 +4,8 @@ pub mod Steps
 pub mod Kept
 pub mod Descents
 pub mod Answers
+pub mod Links
+pub mod Trails
+pub mod Moves
+pub mod Propagators
+pub mod Solvers

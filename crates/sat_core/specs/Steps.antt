@@ -1,13 +1,8 @@
 -- Steps of propagation, and how it ends.
-use Rattle.std.specs.Prelude.{◌≡◌, ℕ, Bool, List, [], ◌∷◌, Some, slice_get, reverse}
+use Rattle.std.specs.Prelude.{◌≡◌, ℕ, Bool, List, [], ◌∷◌, Some, slice_get}
 use Rattle.bilv_spec.specs.Clauses.{Literal, Clause}
 use Rattle.bilv_spec.specs.Refutation.{look_of, UnitOf, Conflict, added}
-use Rattle.sat_core.specs.ClosedSets.{IsQuiet}
-use Rattle.sat_core.specs.declared.propagate.Step.{Step}
-use Rattle.sat_core.specs.declared.propagate.Found.{Found}
-use Rattle.sat_core.specs.declared.propagate.Found.TheVariants.{Quiet, Unit as UnitAt, Conflict as ConflictAt}
-use Rattle.sat_core.specs.declared.propagate.Ending.{Ending}
-use Rattle.sat_core.specs.declared.propagate.Ending.TheVariants.{Quiet as QuietEnd, Conflict as ConflictEnd}
+use Rattle.sat_core.specs.declared.trail.Step.{Step}
 
 -- the clause at the place is a unit, and this literal is what is left of it
 abbrev pub IsStep : List Clause → (Literal → Bool) → ℕ → Literal → Type 0
@@ -30,14 +25,3 @@ AreSteps cs given (s ∷ before) = IsStep cs (told given before) s.clause s.lit 
 -- steps that lead to a conflict, the last of which stands first
 abbrev pub IsWay : List Clause → (Literal → Bool) → List Step → ℕ → Type 0
 IsWay cs given steps k = AreSteps cs given steps × IsConflictAt cs (told given steps) k
-
--- what is found under a test of the literals that are true
-abbrev pub IsFound : List Clause → (Literal → Bool) → Found → Type 0
-IsFound cs holds Quiet = IsQuiet cs holds
-IsFound cs holds (UnitAt k l) = IsStep cs holds k l
-IsFound cs holds (ConflictAt k) = IsConflictAt cs holds k
-
--- how propagation ends, where one test tells the literals that were true, and another those that are true now
-abbrev pub IsEnding : List Clause → (Literal → Bool) → (Literal → Bool) → Ending → Type 0
-IsEnding cs given holds QuietEnd = IsQuiet cs holds
-IsEnding cs given holds (ConflictEnd steps k) = IsWay cs given (reverse steps.items) k × IsConflictAt cs holds k

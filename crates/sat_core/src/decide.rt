@@ -1,12 +1,12 @@
 //! Decides variables, the greatest first.
-ghost use Rattle.std.specs.Prelude.{◌≡◌, ◌+◌, ◌≢◌, ◌-◌, ◌<◌, ◌≤◌, ◌^◌, ℕ, false, None, length, slice_index_or, IfOk, IfSome, IfNone};
-ghost use Rattle.bilv_spec.specs.Clauses.{Literal, AreOnVariables};
-ghost use Rattle.sat_core.specs.Tables.{true_in, IsFilled};
+ghost use Rattle.std.specs.Prelude.{◌≡◌, ◌+◌, ◌≢◌, ◌-◌, ◌<◌, ◌≤◌, ◌^◌, ℕ, [], None, length, slice_index_or, IfOk, OnOk, IfSome, IfNone};
+ghost use Rattle.sat_core.specs.Tables.{IsFilled};
 ghost use Rattle.sat_core.specs.Descents.{IsDescent};
+ghost use Rattle.sat_core.specs.Propagators.{IsSound};
 
-use crate::propagate::{Ending, propagate};
-use crate::table::assign;
-use cnf_form::{Clause, Lit};
+use crate::propagator::Propagator;
+use crate::trail::NO_CLAUSE;
+use cnf_form::Lit;
 use std::alloc::{AllocError, Global};
 
 /// What a descent ends in.
@@ -19,7 +19,7 @@ pub enum Descent {
 }
 
 /// The greatest variable that is open.
-fn pick(table: &[Option<bool>]) -> Option<usize>
+pub fn pick(table: &[Option<bool>]) -> Option<usize>
     ensures filled { IfNone result (IsFilled table.now) }
     ensures open { IfSome result (λ v. (1 ≤ v) × (v < length table.now) × (slice_index_or table.now v None ≡ None)) }
     ensures greatest { IfSome result (λ v. (k : ℕ) → v < k → k < length table.now → slice_index_or table.now k None ≢ None) }
@@ -32,29 +32,28 @@ fn pick(table: &[Option<bool>]) -> Option<usize>
     None
 }
 
-/// Propagates and decides by turns, from a table in which all is open. A variable is decided true. What an `Err` leaves in the table is open.
-pub fn descend(
-    alloc: Global,
-    clauses: &[Clause],
-    table: &mut [Option<bool>],
-) -> Result<Descent, AllocError>
-    requires all { AreOnVariables (length table.old - 1) clauses.now }
-    requires open { (m : Literal) → true_in table.old m ≡ false }
-    requires few { length table.old ≤ 2 ^ 62 + 1 }
-    ensures { IfOk result (IsDescent clauses.now table.new) }
+/// Propagates and decides by turns, on a trail without steps. A variable is decided true. What an `Err` leaves is open.
+pub fn descend(alloc: Global, propagator: &mut Propagator) -> Result<Descent, AllocError>
+    requires sound { IsSound propagator.old }
+    requires empty { propagator.old.trail.steps.items ≡ [] }
+    requires few { length propagator.old.trail.table.items ≤ 2 ^ 62 + 1 }
+    ensures sound { OnOk result (IsSound propagator.new) }
+    ensures clauses { propagator.new.clauses ≡ propagator.old.clauses }
+    ensures size { length propagator.new.trail.table.items ≡ length propagator.old.trail.table.items }
+    ensures descent { IfOk result (IsDescent propagator.old.clauses.items propagator.new.trail.table.items) }
 {
     let mut full = Vec::new(alloc);
+    let mut from = 0;
     loop {
-        match propagate(alloc, clauses, table)? {
-            Ending::Conflict { .. } => return Ok(Descent::Blocked(full)),
-            Ending::Quiet => {
-                let Some(variable) = pick(table) else {
-                    return Ok(Descent::Model);
-                };
-                let decision = Lit::new(variable as u64, true);
-                full.push(decision.opposite())?;
-                assign(table, decision);
-            }
+        if let Some(_) = propagator.propagate(from) {
+            return Ok(Descent::Blocked(full));
         }
+        let Some(variable) = pick(&propagator.trail.table) else {
+            return Ok(Descent::Model);
+        };
+        let decision = Lit::new(variable as u64, true);
+        full.push(decision.opposite())?;
+        from = propagator.trail.steps.len();
+        propagator.trail.push(NO_CLAUSE, decision);
     }
 }

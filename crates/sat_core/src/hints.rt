@@ -7,7 +7,7 @@ ghost use Rattle.cnf_form.specs.Views.{hint_of};
 ghost use Rattle.sat_core.specs.Steps.{IsWay};
 ghost use Rattle.sat_core.specs.Kept.{names};
 
-use crate::propagate::Step;
+use crate::trail::Step;
 use cnf_form::{Clause, Hint, Lit};
 use std::alloc::{AllocError, Global};
 

@@ -4,13 +4,21 @@
 //! with the log of as many learned clauses as it was given conflicts.
 #![tactic(auto)]
 
+mod analysis;
 mod answer;
 mod decide;
 mod hints;
+mod learn;
 mod minimise;
 mod propagate;
+mod propagator;
 mod search;
+mod solver;
 mod table;
+mod trail;
+mod visit;
+mod watches;
 
 pub use answer::Answer;
 pub use search::solve;
+pub use solver::Solver;

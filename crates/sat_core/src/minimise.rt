@@ -1,14 +1,14 @@
 //! Makes a learned clause smaller.
-ghost use Rattle.std.specs.Prelude.{◌≡◌, ◌-◌, false, IfOk, MatchOption};
-ghost use Rattle.bilv_spec.specs.Clauses.{Literal, AreOnVariables, IsOnVariables};
+ghost use Rattle.std.specs.Prelude.{◌≡◌, ◌-◌, [], false, length, IfOk, OnOk, MatchOption};
+ghost use Rattle.bilv_spec.specs.Clauses.{Literal, IsOnVariables};
 ghost use Rattle.bilv_spec.specs.UnitPropagation.{Conflicts, negations};
 ghost use Rattle.bilv_spec.specs.Refutation.{is_tautology};
+ghost use Rattle.sat_core.specs.Propagators.{IsSound};
 ghost use Rattle.sat_core.specs.Kept.{AreHintsOf, others, IsKept, IsNeeded};
 
 use crate::hints::prune;
-use crate::propagate::{Ending, propagate};
-use crate::table::deny;
-use cnf_form::{Clause, Hint, Lit};
+use crate::propagator::Propagator;
+use cnf_form::{Hint, Lit};
 use std::alloc::{AllocError, Global};
 
 /// A clause that is learned, and the hints by which it follows.
@@ -18,26 +18,35 @@ pub struct Learned {
     pub hints: Vec<Hint>,
 }
 
-/// The hints by which a clause follows by unit propagation, if it does. `size` is one more than the number of variables.
-fn refute(
+/// The hints by which a clause follows by unit propagation, if it does. The trail has no steps, before and after. What an `Err` leaves is open.
+pub fn refute(
     alloc: Global,
-    clauses: &[Clause],
-    size: usize,
+    propagator: &mut Propagator,
     lits: &[Lit],
 ) -> Result<Option<Vec<Hint>>, AllocError>
-    requires all { AreOnVariables (size - 1) clauses.now }
-    requires within { IsOnVariables (size - 1) lits.now }
+    requires sound { IsSound propagator.old }
+    requires empty { propagator.old.trail.steps.items ≡ [] }
+    requires within { IsOnVariables (length propagator.old.trail.table.items - 1) lits.now }
     requires plain { is_tautology lits.now ≡ false }
-    ensures { IfOk result (λ o. MatchOption o (Conflicts clauses.now (negations lits.now) → ⊥)
-        (λ hints. AreHintsOf clauses.now lits.now hints.items)) }
+    ensures sound { OnOk result (IsSound propagator.new) }
+    ensures empty { OnOk result (propagator.new.trail.steps.items ≡ []) }
+    ensures clauses { propagator.new.clauses ≡ propagator.old.clauses }
+    ensures size { length propagator.new.trail.table.items ≡ length propagator.old.trail.table.items }
+    ensures hints { IfOk result (λ o. MatchOption o (Conflicts propagator.old.clauses.items (negations lits.now) → ⊥)
+        (λ hints. AreHintsOf propagator.old.clauses.items lits.now hints.items)) }
 {
-    let mut slots = vec![in alloc; None; size]?;
-    let table = slots.as_mut_slice();
-    deny(table, lits);
-    match propagate(alloc, clauses, table)? {
-        Ending::Quiet => Ok(None),
-        Ending::Conflict { steps, clause } => {
-            let hints = prune(alloc, clauses, size, steps, clause)?;
+    propagator.trail.deny(lits);
+    let base = propagator.trail.steps.len();
+    match propagator.propagate(0) {
+        None => {
+            propagator.trail.back_to(0);
+            Ok(None)
+        }
+        Some(clause) => {
+            let steps = Vec::from_slice(alloc, &propagator.trail.steps[base..])?;
+            let size = propagator.trail.table.len();
+            let hints = prune(alloc, &propagator.clauses, size, steps, clause)?;
+            propagator.trail.back_to(0);
             Ok(Some(hints))
         }
     }
@@ -56,28 +65,32 @@ fn without(alloc: Global, lits: &[Lit], lit: Lit) -> Result<Vec<Lit>, AllocError
     Ok(rest)
 }
 
-/// Leaves out each literal without which the clause still follows. `size` is one more than the number of variables.
+/// Leaves out each literal without which the clause still follows. The trail has no steps, before and after. What an `Err` leaves is open.
 pub fn minimise(
     alloc: Global,
-    clauses: &[Clause],
-    size: usize,
+    propagator: &mut Propagator,
     full: &[Lit],
 ) -> Result<Learned, AllocError>
-    requires all { AreOnVariables (size - 1) clauses.now }
-    requires within { IsOnVariables (size - 1) full.now }
+    requires sound { IsSound propagator.old }
+    requires empty { propagator.old.trail.steps.items ≡ [] }
+    requires within { IsOnVariables (length propagator.old.trail.table.items - 1) full.now }
     requires plain { is_tautology full.now ≡ false }
-    requires conflict { Conflicts clauses.now (negations full.now) }
-    ensures kept { IfOk result (λ r. IsKept clauses.now full.now r.lits.items r.hints.items) }
-    ensures minimal { IfOk result (λ r. (l : Literal) → IsNeeded clauses.now r.lits.items l) }
+    requires conflict { Conflicts propagator.old.clauses.items (negations full.now) }
+    ensures sound { OnOk result (IsSound propagator.new) }
+    ensures empty { OnOk result (propagator.new.trail.steps.items ≡ []) }
+    ensures clauses { propagator.new.clauses ≡ propagator.old.clauses }
+    ensures size { length propagator.new.trail.table.items ≡ length propagator.old.trail.table.items }
+    ensures kept { IfOk result (λ r. IsKept propagator.old.clauses.items full.now r.lits.items r.hints.items) }
+    ensures minimal { IfOk result (λ r. (l : Literal) → IsNeeded propagator.old.clauses.items r.lits.items l) }
 {
-    let mut hints = match refute(alloc, clauses, size, full)? {
+    let mut hints = match refute(alloc, propagator, full)? {
         Some(hints) => hints,
         None => unreachable!(),
     };
     let mut kept = Vec::from_slice(alloc, full)?;
     for lit in full {
         let fewer = without(alloc, &kept, *lit)?;
-        if let Some(found) = refute(alloc, clauses, size, &fewer)? {
+        if let Some(found) = refute(alloc, propagator, &fewer)? {
             kept = fewer;
             hints = found;
         }

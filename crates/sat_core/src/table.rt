@@ -3,8 +3,7 @@
 //! A table has a place for each variable, and one for the number 0, which is no variable.
 ghost use Rattle.std.specs.Prelude.{◌≡◌, ◌+◌, ◌-◌, ◌<◌, ◌≤◌, false, length, map, drop, slice_index_or, IfOk};
 ghost use Rattle.bilv_spec.specs.Clauses.{Literal, opposite, IsOnVariables};
-ghost use Rattle.bilv_spec.specs.UnitPropagation.{negations};
-ghost use Rattle.bilv_spec.specs.Refutation.{added, look_of, is_tautology};
+ghost use Rattle.bilv_spec.specs.Refutation.{added, look_of};
 ghost use Rattle.sat_core.specs.Tables.{true_in, open_count, seen_as, is_set};
 
 use cnf_form::Lit;
@@ -68,18 +67,6 @@ pub fn look_at(table: &[Option<bool>], clause: &[Lit]) -> Look
                 Look::Unit(lit)
             }
         }
-    }
-}
-
-/// Makes every literal of a clause false in a table in which all is open.
-pub fn deny(table: &mut [Option<bool>], clause: &[Lit])
-    requires within { IsOnVariables (length table.old - 1) clause.now }
-    requires plain { is_tautology clause.now ≡ false }
-    requires empty { (m : Literal) → true_in table.old m ≡ false }
-    ensures { (m : Literal) → true_in table.new m ≡ negations clause.now m }
-{
-    for lit in clause {
-        assign(table, lit.opposite());
     }
 }
 

@@ -3,7 +3,7 @@ use Rattle.std.specs.Prelude.{reverse}
 use Rattle.std.proofs.lemmas.Option.{slice_get_within}
 use Rattle.bilv_spec.proofs.RefutationSound.{get-contains}
 use Rattle.cnf_form.specs.Views.{hint_of}
-use Rattle.sat_core.specs.declared.propagate.Step.{Step}
+use Rattle.sat_core.specs.declared.trail.Step.{Step}
 use Rattle.sat_core.specs.Steps.{told}
 use Rattle.sat_core.proofs.Backwards.{IsLed, step-within, step-now, back-first, back-skip, back-more, named-more, clause-read, no-items}
 use Rattle.sat_core.proofs.hints.prune.Goals as goal

@@ -11,7 +11,7 @@ pub refute-requires-in-loop-lit-clause-within : goal.refute-requires-in-loop-lit
 refute-requires-in-loop-lit-clause-within c =
     let i = c.loop-lit.invariant.kept in
     rw (c.deref-in-loop-lit.ensures.value, c.in_ok-fewer.ensures, c.deref.ensures.value)
-    (λ l h. c.requires.within l (i.part l (others-part c.loop-lit.kept.items c.lit-item.result l h)))
+    (rw c.loop-lit.invariant.size (λ l h. c.requires.within l (i.part l (others-part c.loop-lit.kept.items c.lit-item.result l h))))
 
 pub refute-requires-in-loop-lit-clause-plain : goal.refute-requires-in-loop-lit-clause-plain
 refute-requires-in-loop-lit-clause-plain c =
@@ -20,30 +20,39 @@ refute-requires-in-loop-lit-clause-plain c =
 
 pub loop-lit-preserved : goal.loop-lit-preserved
 loop-lit-preserved c =
-    let cs = c.args.clauses.now in
+    let cs = c.args.propagator.now.clauses.items in
     let full = c.args.full.now in
     let y = c.lit-item.result in
     let kept = c.loop-lit.kept.items in
     let inv = c.loop-lit.invariant in
     let old = has-taken full c.loop-lit.lit-index y c.loop-lit-test.true c.lit-item.is in
     let f = rw c.deref.ensures.value at c.in_ok-fewer.ensures in
+    let e = c.in_ok-found.ensures in
     elim c.match-branch-6.branch [
       | in-Some-2 w ↦
-          let a = rw (w.in-Some-2.is, c.deref-in-loop-lit.ensures.value, f) at c.in_ok-found.ensures in
+          let a = rw (w.in-Some-2.is, c.deref-in-loop-lit.ensures.value, f, inv.clauses) at e.hints in
           rw (w.kept-is, w.hints-is, f) record {
+            sound = e.sound;
+            empty = e.empty;
+            clauses = e.clauses ∙ inv.clauses;
+            size = e.size ∙ inv.size;
             kept = kept-drop cs kept full c.loop-lit.hints.items y _ inv.kept a;
             tested = λ m h. elim (old m h) [
-              | inl e ↦ needed-drop cs kept y m (inv.tested m e)
-              | inr e ↦ subst (IsNeeded cs (others kept y)) e (needed-dropped cs kept y)
+              | inl d ↦ needed-drop cs kept y m (inv.tested m d)
+              | inr d ↦ subst (IsNeeded cs (others kept y)) d (needed-dropped cs kept y)
             ];
           }
       | in_default w ↦
-          let n = rw (w.in_default.is, c.deref-in-loop-lit.ensures.value, f) at c.in_ok-found.ensures in
+          let n = rw (w.in_default.is, c.deref-in-loop-lit.ensures.value, f, inv.clauses) at e.hints in
           rw (w.kept-is, w.hints-is) record {
+            sound = e.sound;
+            empty = e.empty;
+            clauses = e.clauses ∙ inv.clauses;
+            size = e.size ∙ inv.size;
             kept = inv.kept;
             tested = λ m h. elim (old m h) [
-              | inl e ↦ inv.tested m e
-              | inr e ↦ subst (IsNeeded cs kept) e (needed-stays cs kept y n)
+              | inl d ↦ inv.tested m d
+              | inr d ↦ subst (IsNeeded cs kept) d (needed-stays cs kept y n)
             ];
           }
     ]

@@ -1,21 +1,27 @@
-use Rattle.std.proofs.Common.{◌≡◌, ◌≤◌, Bool, length}
+use Rattle.std.proofs.Common.{◌≡◌, ◌≤◌, ◌-◌, Bool, [], length, take, vec_capacity}
 use Rattle.std.specs.Prelude.{reverse}
 use Rattle.bilv_spec.specs.Clauses.{Literal}
 use Rattle.bilv_spec.specs.UnitPropagation.{Includes}
-use Rattle.sat_core.specs.Tables.{true_in, open_count}
-use Rattle.sat_core.specs.ClosedSets.{IsGiven}
-use Rattle.sat_core.specs.Steps.{told, AreSteps}
+use Rattle.sat_core.specs.Tables.{true_in}
+use Rattle.sat_core.specs.Steps.{told}
+use Rattle.sat_core.specs.Trails.{nothing, IsTrail, IsRun}
+use Rattle.sat_core.specs.Links.{AreKept}
+use Rattle.sat_core.specs.Moves.{AreMet, AreReady}
 use Rattle.sat_core.proofs.propagate.propagate.Given as goal
 
-abbrev pub invariant-loop-steps : goal.invariant-loop-steps
-invariant-loop-steps l = record {
-  same_length : length l.table ≡ length l.fn.table;
-  grows : Includes (true_in l.fn.table) (true_in l.table);
-  given : (g : Literal → Bool) → IsGiven l.clauses g (true_in l.fn.table) → IsGiven l.clauses g (true_in l.table);
-  fewer : open_count l.table ≤ open_count l.fn.table;
-  steps : AreSteps l.clauses (true_in l.fn.table) (reverse l.steps.items);
-  told : (m : Literal) → true_in l.table m ≡ told (true_in l.fn.table) (reverse l.steps.items) m;
+abbrev pub invariant-loop-done : goal.invariant-loop-done
+invariant-loop-done l = record {
+  ready : AreReady l.clauses l.watches.heads.items l.watches.links.items l.watches.owners.items l.short l.watches.watched.items (length l.trail.table.items);
+  trail : IsTrail l.trail.table.items l.trail.steps.items (vec_capacity l.trail.steps);
+  size : length l.trail.table.items ≡ length l.fn.trail.table.items;
+  grows : Includes (true_in l.fn.trail.table.items) (true_in l.trail.table.items);
+  run : IsRun l.clauses l.fn.trail.steps.items l.trail.steps.items;
+  few : l.done ≤ length l.trail.steps.items;
+  kept : AreKept l.watches.watched.items [] (told nothing (reverse (take l.done l.trail.steps.items))) (true_in l.trail.table.items);
+  met : AreMet l.clauses l.short (true_in l.trail.table.items);
+  cuts : (done holds : Literal → Bool) → Includes done (true_in l.fn.trail.table.items) → Includes holds (true_in l.fn.trail.table.items) →
+      AreKept l.fn.watches.watched.items [] done holds → AreKept l.watches.watched.items [] done holds;
 }
 
-abbrev pub decreases-loop-steps : goal.decreases-loop-steps
-decreases-loop-steps l = open_count l.table
+abbrev pub decreases-loop-done : goal.decreases-loop-done
+decreases-loop-done l = length l.trail.table.items - l.done
