@@ -1,4 +1,4 @@
-use bilv_top::bilv;
+use bilv_top::{Evidence, Outcome, bilv};
 use io_edges::{MemFile, MemShelf, MemSink};
 use std::alloc::Global;
 use std::test::Fail;
@@ -22,10 +22,18 @@ const ADDITION: u32 = 0x0015_0513;
 /// JALR x0, 0(ra).
 const RETURN: u32 = 0x0000_8067;
 
-/// What the files hold: `e`, a row file of these words that names so many segments, of which so many bytes are left; `n`, the notes; `t`, a report or a certificate.
+/// The number of RISC-V.
+const RISC_V: u8 = 243;
+
+/// The number of ARM.
+const ARM: u8 = 40;
+
+/// What the files hold: `e`, a row file of these words that names a machine and so many segments, of which so many bytes are left; `n`, the notes; `t`, a report or a
+/// certificate.
 #[derive(Clone, Copy)]
 struct Files<'a> {
     words: &'a [u32],
+    machine: u8,
     segments: u8,
     bytes: usize,
     notes: &'a str,
@@ -35,6 +43,7 @@ struct Files<'a> {
 /// The file of one addition, its notes, and a certificate.
 const ONE: Files<'static> = Files {
     words: &[ADDITION, RETURN],
+    machine: RISC_V,
     segments: 1,
     bytes: usize::MAX,
     notes: "entry 0x10000\nensure a0 = old(a0) + 1\n",
@@ -49,6 +58,9 @@ fn row_file(alloc: Global, files: &Files) -> Result<Vec<u8>, Fail> {
     bytes.extend_from_slice(&[5, 0, 0, 0, 4, 0, 0, 0])?;
     for word in files.words {
         bytes.extend_from_slice(&word.to_le_bytes())?;
+    }
+    if let Some(machine) = bytes.get_mut(18) {
+        *machine = files.machine;
     }
     if let Some(count) = bytes.get_mut(44) {
         *count = files.segments;
@@ -83,7 +95,23 @@ fn words_of(alloc: Global, line: &str) -> Result<Vec<String>, Fail> {
     Ok(words)
 }
 
-/// The status, and what the sink took: at most three bytes in a write, of which one may fail, as may a read.
+/// The outcome, and what the sink took: at most three bytes in a write, of which one may fail, as may a read.
+fn outcome(
+    alloc: Global,
+    line: &str,
+    files: &Files,
+    failing_read: u64,
+    failing_write: u64,
+) -> Result<(Outcome, Vec<u8>), Fail> {
+    let words = words_of(alloc, line)?;
+    let mut shelf = shelf_of(alloc, files, failing_read)?;
+    let failing = vec![in alloc; failing_write]?;
+    let mut sink = MemSink::new(alloc, 4000, 3, failing)?;
+    let outcome = bilv(alloc, &words, &mut shelf, &mut sink);
+    Ok((outcome, sink.text().to_vec(alloc)?))
+}
+
+/// The status, and what the sink took.
 fn answer(
     alloc: Global,
     line: &str,
@@ -91,12 +119,8 @@ fn answer(
     failing_read: u64,
     failing_write: u64,
 ) -> Result<(u8, Vec<u8>), Fail> {
-    let words = words_of(alloc, line)?;
-    let mut shelf = shelf_of(alloc, files, failing_read)?;
-    let failing = vec![in alloc; failing_write]?;
-    let mut sink = MemSink::new(alloc, 4000, 3, failing)?;
-    let outcome = bilv(alloc, &words, &mut shelf, &mut sink);
-    Ok((outcome.status, sink.text().to_vec(alloc)?))
+    let (outcome, written) = outcome(alloc, line, files, failing_read, failing_write)?;
+    Ok((outcome.status, written))
 }
 
 #[test]
@@ -192,7 +216,7 @@ fn reads_and_writes(rt: HostRuntime) -> Result<(), Fail> {
             2,
             USAGE,
         ),
-        ("bilv graph e n", u64::MAX, u64::MAX, 10, "not built\n"),
+        ("bilv selfrun 0 1", u64::MAX, u64::MAX, 10, "not built\n"),
         ("bilv check m", u64::MAX, u64::MAX, 6, "read fault\n"),
     ];
     for (line, read, write, status, text) in cases {
@@ -819,5 +843,152 @@ fn replays_choices(rt: HostRuntime) -> Result<(), Fail> {
         assert_eq!(rt; found, status, "at {behind}");
         assert_eq!(rt; written.as_slice(), text.as_bytes());
     }
+    Ok(())
+}
+
+/// The words of a program, its notes, and the text of its flow graph.
+const GRAPHS: [(&[u32], &str, &str); 6] = [
+    (
+        &[ADDITION, RETURN],
+        "entry 0x10000\n",
+        "0x00010000 n 0x00010004\n0x00010004 x\n",
+    ),
+    (
+        &[0xfff5_0513, 0xfe05_1ee3, RETURN],
+        "entry 0x10000\n",
+        "0x00010000 n 0x00010004\n0x00010004 j 0x00010000 n 0x00010008\n0x00010008 x\n",
+    ),
+    (
+        &CALL,
+        "entry 0x10000\n",
+        "0x00010000 n 0x00010004\n0x00010004 n 0x00010008\n\
+        0x00010008 r 0x0001000c c 0x00010010\n0x0001000c x\n\
+        0x00010010 n 0x00010014\n0x00010014 x\n",
+    ),
+    (
+        &[ADDITION, 0],
+        "entry 0x10000\n",
+        "0x00010000 n 0x00010004\n0x00010004 norow\n",
+    ),
+    (
+        &[RETURN, ADDITION],
+        "entry 0x10004\n",
+        "0x00010004 n 0x00010008\n0x00010008 fetch\n",
+    ),
+    (&[RETURN], "entry 0x20000\n", "0x00020000 fetch\n"),
+];
+
+#[test]
+fn prints_graphs(rt: HostRuntime) -> Result<(), Fail> {
+    for (words, notes, text) in GRAPHS {
+        let files = Files {
+            words,
+            notes,
+            ..ONE
+        };
+        let (found, written) = answer(rt.alloc(), "bilv graph e n", &files, u64::MAX, u64::MAX)?;
+        assert_eq!(rt; found, 0, "at {text}");
+        assert_eq!(rt; written.as_slice(), text.as_bytes());
+    }
+    Ok(())
+}
+
+#[test]
+fn refuses_graphs(rt: HostRuntime) -> Result<(), Fail> {
+    let cases = [
+        (Files { bytes: 51, ..ONE }, 4, "elf: E1 Short\n"),
+        (
+            Files {
+                notes: "entry 0x10000\nreq a0\n",
+                ..ONE
+            },
+            5,
+            "notes: line 2 N6 Word\n",
+        ),
+        (
+            Files {
+                notes: "function f\n",
+                ..ONE
+            },
+            5,
+            "notes: NoFunction\n",
+        ),
+        (
+            Files {
+                machine: ARM,
+                notes: "function f\n",
+                ..ONE
+            },
+            5,
+            "notes: NoFunction\n",
+        ),
+        (
+            Files {
+                machine: ARM,
+                notes: "entry 0x10000\n",
+                ..ONE
+            },
+            10,
+            "not built\n",
+        ),
+    ];
+    for (files, status, text) in cases {
+        let (found, written) = answer(rt.alloc(), "bilv graph e n", &files, u64::MAX, u64::MAX)?;
+        assert_eq!(rt; found, status, "at {text}");
+        assert_eq!(rt; written.as_slice(), text.as_bytes());
+    }
+    for line in ["bilv graph m n", "bilv graph e m"] {
+        let (found, written) = answer(rt.alloc(), line, &ONE, u64::MAX, u64::MAX)?;
+        assert_eq!(rt; found, 6, "at {line}");
+        assert_eq!(rt; written.as_slice(), b"read fault\n".as_slice());
+    }
+    Ok(())
+}
+
+/// ADDI a0, a0, -1 and BNE a0, x0 back to it, and the return.
+const COUNTDOWN: [u32; 3] = [0xfff5_0513, 0xfe05_1ee3, RETURN];
+
+/// AUIPC ra, 0 and JALR ra, 0(ra): the pair calls its own address.
+const CALLS_ITSELF: [u32; 2] = [0x0000_0097, 0x0000_80e7];
+
+#[test]
+fn counts_points(rt: HostRuntime) -> Result<(), Fail> {
+    let countdown = COUNTDOWN.as_slice();
+    let calls = CALLS_ITSELF.as_slice();
+    let cases = [
+        ("--points 1", ONE.words, "unknown points 1\n", 2),
+        (
+            "--points 1 --size 1 --conflicts 1",
+            ONE.words,
+            "unknown points 1\n",
+            2,
+        ),
+        ("--points 2", ONE.words, "not built\n", 0),
+        ("--unroll 2 --points 8", countdown, "unknown points 8\n", 9),
+        ("--unroll 2 --points 9", countdown, "not built\n", 0),
+        ("--points 129", calls, "unknown points 129\n", 130),
+        ("--points 130", calls, "not built\n", 0),
+    ];
+    for (options, words, text, count) in cases {
+        let files = Files { words, ..ONE };
+        let line = format!(in rt.alloc(); "bilv verify e n {options}")?;
+        let (found, written) = outcome(rt.alloc(), &line, &files, u64::MAX, u64::MAX)?;
+        let expected = if count > 0 {
+            (3, Evidence::Count(count))
+        } else {
+            (10, Evidence::None)
+        };
+        assert_eq!(rt; (found.status, found.evidence), expected, "at {options}");
+        assert_eq!(rt; written.as_slice(), text.as_bytes());
+    }
+    let arm = Files {
+        machine: ARM,
+        notes: "entry 0x10000\n",
+        ..ONE
+    };
+    let line = "bilv verify e n --points 1";
+    let (found, written) = answer(rt.alloc(), line, &arm, u64::MAX, u64::MAX)?;
+    assert_eq!(rt; found, 10);
+    assert_eq!(rt; written.as_slice(), b"not built\n".as_slice());
     Ok(())
 }

@@ -1,5 +1,5 @@
 -- What a check of a certificate answers.
-use Rattle.std.proofs.Common.{◌≡◌, ℕ, ◌<◌, ◌≤◌, List, [], ◌∷◌, ◌++◌, length, refl, ap, sym, subst, ◌∙◌, Option}
+use Rattle.std.proofs.Common.{◌≡◌, ℕ, ◌≤◌, List, [], ◌∷◌, ◌++◌, length, refl, ap, sym, subst, ◌∙◌, Option}
 use Rattle.std.specs.Prelude.{codes, drop}
 use Rattle.bilv_spec.specs.Outside.{Agrees, IsLonger}
 use Rattle.bilv_spec.specs.Clauses.{Cnf}
@@ -9,7 +9,7 @@ use Rattle.bilv_spec.specs.CertificateGrammar.{CnfFault, Clauses, RefusedAt, cnf
 use Rattle.bilv_spec.specs.StateText.{split_lines}
 use Rattle.bilv_spec.specs.Texts.{line, spaced, number_text}
 use Rattle.bilv_spec.specs.Replays.{IsChecked, large, refused, checked, check_status, log_refusal, cnf_fault_words, text_limit}
-use Rattle.bilv_spec.specs.Answers.{Answer, plain_answer}
+use Rattle.bilv_spec.specs.Answers.{NoEvidence, Answer, plain_answer}
 use Rattle.bilv_spec.specs.Outcomes.{Surroundings, Check, IsRightAnswer, was_read}
 
 -- the clauses are refused
@@ -33,6 +33,6 @@ pub too_large : (s : Surroundings) (name : List ℕ) (a : Answer) → IsLonger (
 too_large s name a longer is = subst (λ x. IsRightAnswer s (Check name) x) (sym is) (was_read longer.0 longer.1 (large longer.2, refl))
 
 -- its text is judged
-pub judged : (s : Surroundings) (name file written : List ℕ) (status : ℕ) → Agrees (s.held name) file → IsChecked file status written →
-    IsRightAnswer s (Check name) (plain_answer status written)
-judged s name file written status agrees is = was_read file agrees (is, refl)
+pub judged : (s : Surroundings) (name file : List ℕ) (a : Answer) → Agrees (s.held name) file → IsChecked file a.status a.text → a.evidence ≡ NoEvidence →
+    IsRightAnswer s (Check name) a
+judged s name file a agrees is bare = was_read file agrees (is, bare)

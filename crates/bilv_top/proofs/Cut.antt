@@ -1,5 +1,5 @@
 -- What a write that failed leaves.
-use Rattle.std.proofs.Common.{◌≡◌, ℕ, List, Option, arith}
+use Rattle.std.proofs.Common.{ℕ, List, Option, arith}
 use Rattle.bilv_spec.specs.Answers.{Answer}
 use Rattle.bilv_spec.specs.Outcomes.{Surroundings, Command}
 use Rattle.io_edges.specs.WriteFaults.{Stopped}

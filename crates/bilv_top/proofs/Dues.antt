@@ -1,12 +1,9 @@
 -- Answers that are due.
-use Rattle.std.proofs.Common.{◌≡◌, ◌≢◌, ℕ, ◌≤◌, ◌<◌, List, length, Bool, true, false, Option, Some, None, refl, ap, sym, subst, ◌∙◌, arith}
-use Rattle.std.specs.Prelude.{codes, if◌then◌else◌}
-use Rattle.bilv_spec.specs.Outside.{Held, Agrees, IsLonger, Rose}
+use Rattle.std.proofs.Common.{◌≡◌, ◌≢◌, ℕ, ◌<◌, List, Bool, true, false, Option, Some, None, ap, sym, subst, ◌∙◌, arith}
+use Rattle.std.specs.Prelude.{if◌then◌else◌}
 use Rattle.bilv_spec.specs.Run.{Program}
-use Rattle.bilv_spec.specs.Notes.{Notes, Function, At, Named, Expr}
-use Rattle.bilv_spec.specs.NotesGrammar.{IsNotesText}
+use Rattle.bilv_spec.specs.Notes.{Function, At, Named}
 use Rattle.bilv_spec.specs.NotesLaws.{KeepsReserved}
-use Rattle.bilv_spec.specs.ElfFaults.{IsImage, Finds}
 use Rattle.bilv_spec.specs.Files.{names_of, is_rv, layout_of, program_of, IsFunctionAt, IsProgram}
 use Rattle.bilv_spec.specs.RvNames.{rv_names}
 use Rattle.bilv_spec.specs.ArmNames.{arm_names}
@@ -16,11 +13,11 @@ use Rattle.bilv_spec.specs.Reports.{NamedEnding, Found}
 use Rattle.bilv_spec.specs.StateText.{Layout, Told, StateIs, StateRefused}
 use Rattle.bilv_spec.specs.Replays.{IsChecked, large, refused, checked, check_status, ending_answer, require_answer, start_answer, told_answer, sized_answer, replay_answer}
 use Rattle.bilv_spec.specs.Answers.{Answer, Budget, plain_answer}
-use Rattle.bilv_spec.specs.Outcomes.{Surroundings, Command, Verify, Lift, Graph, Script, Replay, Certify, Check, SelfRun, read_fault, AfterRead, read_failed, was_read}
+use Rattle.bilv_spec.specs.Outcomes.{Surroundings, Command, Verify, Lift, Graph, Script, Replay, Certify, Check, SelfRun, read_fault, AfterRead, read_failed, was_read, AfterBoth}
 use Rattle.bilv_spec.specs.Verified.{AfterImage, elf_refused, elf_accepted, AfterNotes, notes_refused, program_found}
 use Rattle.bilv_spec.proofs.NotesNames.{machines_keep_reserved}
 use Rattle.bilv_spec.proofs.NotesSaid.{one_reading}
-use Rattle.bilv_top.specs.Due.{IsDue, IsDueTo, IsVerifiedSoFar, holds, beyond, not_built, IsLiftedSoFar, IsReplayedSoFar, replayed, unbuilt}
+use Rattle.bilv_top.specs.Due.{IsDue, IsVerifiedSoFar, points, holds, beyond, not_built, IsLiftedSoFar, IsReplayedSoFar, replayed, unbuilt, IsGraphedSoFar, printed, bare}
 
 -- neither machine names anything by a reserved word
 chosen_keeps : (b : Bool) (w : List ℕ) → (rv_names w ≡ None) → (arm_names w ≡ None) → (if b then rv_names w else arm_names w) ≡ None
@@ -69,8 +66,9 @@ after_read s name Next a step (read_failed rose is) = plain_at a 6 read_fault.te
 after_read s name Next a step (was_read file agrees next) = step file next
 
 so_far : (file text : List ℕ) (b : Budget) (p : Program) (a : Answer) → IsVerifiedSoFar file text b p a → IsPlain a.status
-so_far file text b p a (holds x y z is) = plain_at a 0 _ is (plain_number 0 (omega arith))
-so_far file text b p a (beyond x is) = plain_not_built a is
+so_far file text b p a (points x more is) = subst IsPlain (sym (ap (λ x. x.status) is)) (plain_number 3 (omega arith))
+so_far file text b p a (holds few x y z is) = plain_at a 0 _ is (plain_number 0 (omega arith))
+so_far file text b p a (beyond few x is) = plain_not_built a is
 
 after_notes : (file text : List ℕ) (Next : Program → Answer → Type 0) (a : Answer) → ((p : Program) → Next p a → IsPlain a.status) → AfterNotes file text Next a →
     IsPlain a.status
@@ -107,9 +105,20 @@ replayed_so_far s report file p a (replayed x due) =
     (λ text is. subst IsPlain (sym (ap (λ x. x.status) is)) (plain_sized _ p (layout_of file) text)) due
 replayed_so_far s report file p a (unbuilt x is) = plain_not_built a is
 
+graphed_so_far : (file : List ℕ) (p : Program) (a : Answer) → IsGraphedSoFar file p a → IsPlain a.status
+graphed_so_far file p a (printed x is) = plain_at a 0 is.0 is.2 (plain_number 0 (omega arith))
+graphed_so_far file p a (bare x is) = plain_not_built a is
+
 after_image : (file : List ℕ) (Next : Answer → Type 0) (a : Answer) → (Next a → IsPlain a.status) → AfterImage file Next a → IsPlain a.status
 after_image file Next a step (elf_refused written x is) = plain_at a 4 written is (plain_number 4 (omega arith))
 after_image file Next a step (elf_accepted x next) = step next
+
+after_both : (s : Surroundings) (elf notes : List ℕ) (Next : List ℕ → Program → Answer → Type 0) (a : Answer) →
+    ((file : List ℕ) (p : Program) → Next file p a → IsPlain a.status) → AfterBoth s elf notes Next a → IsPlain a.status
+after_both s elf notes Next a step =
+    after_read s elf (λ file. AfterImage file (AfterRead s notes (λ text. AfterNotes file text (Next file)))) a
+    (λ file. after_image file (AfterRead s notes (λ text. AfterNotes file text (Next file))) a
+    (after_read s notes (λ text. AfterNotes file text (Next file)) a (λ text. after_notes file text (Next file) a (step file))))
 
 pub due_is_plain : (s : Surroundings) (c : Option Command) (a : Answer) → IsDue s c a → IsPlain a.status
 due_is_plain s None a is = plain_at a 2 _ is (plain_number 2 (omega arith))
@@ -122,12 +131,9 @@ due_is_plain s (Some (Check name)) a due =
 due_is_plain s (Some (Lift elf)) a due =
     after_read s elf (λ file. AfterImage file (IsLiftedSoFar file)) a
     (λ file. after_image file (IsLiftedSoFar file) a (λ is. plain_at a 0 is.0 is.2 (plain_number 0 (omega arith)))) due
-due_is_plain s (Some (Graph elf notes)) a is = plain_not_built a is
+due_is_plain s (Some (Graph elf notes)) a due = after_both s elf notes IsGraphedSoFar a (λ file p. graphed_so_far file p a) due
 due_is_plain s (Some (Script elf notes q b)) a is = plain_not_built a is
 due_is_plain s (Some (Replay elf notes report)) a due =
-    after_read s elf (λ file. AfterImage file (AfterRead s notes (λ text. AfterNotes file text (λ p. IsReplayedSoFar s report file p)))) a
-    (λ file. after_image file (AfterRead s notes (λ text. AfterNotes file text (λ p. IsReplayedSoFar s report file p))) a
-    (after_read s notes (λ text. AfterNotes file text (λ p. IsReplayedSoFar s report file p)) a
-    (λ text. after_notes file text (λ p. IsReplayedSoFar s report file p) a (λ p. replayed_so_far s report file p a)))) due
+    after_both s elf notes (λ file p. IsReplayedSoFar s report file p) a (λ file p. replayed_so_far s report file p a) due
 due_is_plain s (Some (Certify elf notes q b)) a is = plain_not_built a is
 due_is_plain s (Some (SelfRun seed count)) a is = plain_not_built a is

@@ -14,5 +14,8 @@ pub mod Dues
 pub mod Refused
 pub mod Reported
 pub mod Lifts
+pub mod Graphed
 pub mod Verifies
+pub mod OneWay
+pub mod Counted
 pub mod Cut

@@ -1,7 +1,6 @@
 -- Files of RISC-V, and their lifted words.
-use Rattle.std.proofs.Common.{◌≡◌, ℕ, List, Bool, true, false, None, refl, ap, sym, subst, ◌∙◌}
+use Rattle.std.proofs.Common.{◌≡◌, ℕ, List, true, false, None, ap, sym, subst}
 use Rattle.std.specs.Prelude.{if◌then◌else◌}
-use Rattle.bilv_spec.specs.Machine.{Machine}
 use Rattle.bilv_spec.specs.Elf.{file_endian}
 use Rattle.bilv_spec.specs.Rv.{rv32}
 use Rattle.bilv_spec.specs.Arm.{arm}

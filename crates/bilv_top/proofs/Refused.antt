@@ -1,25 +1,22 @@
 -- What is answered where the inputs of a command are refused.
-use Rattle.std.proofs.Common.{◌≡◌, ℕ, ◌≤◌, ◌<◌, List, ◌∷◌, [], ◌++◌, length, Bool, true, false, refl, ap, sym, subst, ◌∙◌, arith}
+use Rattle.std.proofs.Common.{◌≡◌, ℕ, ◌≤◌, List, length, true, false, refl, ap, sym, subst, arith}
 use Rattle.std.specs.Prelude.{codes, if◌then◌else◌}
 use mathlib.Core.Path.{fun_ext}
-use Rattle.bilv_spec.specs.Outside.{Held, Agrees, IsLonger, Rose}
-use Rattle.bilv_spec.specs.Memory.{Little, Big}
-use Rattle.bilv_spec.specs.Rv.{rv32}
-use Rattle.bilv_spec.specs.Arm.{arm}
-use Rattle.bilv_spec.specs.Elf.{file_endian, is_big}
+use Rattle.bilv_spec.specs.Outside.{Held, Agrees, Rose}
 use Rattle.bilv_spec.specs.Run.{Program}
-use Rattle.bilv_spec.specs.Notes.{Notes, Function, At, Named, Expr}
+use Rattle.bilv_spec.specs.Notes.{Notes, Function, At, Named}
 use Rattle.bilv_spec.specs.NotesGrammar.{IsNotesText}
 use Rattle.bilv_spec.specs.NotesFaults.{NoteFault, IsFirstNoteFault}
-use Rattle.bilv_spec.specs.Files.{names_of, machine_of, is_rv, program_of, IsFunctionAt}
+use Rattle.bilv_spec.specs.Files.{names_of, is_rv, program_of, IsFunctionAt}
 use Rattle.bilv_spec.specs.RvNames.{rv_names}
 use Rattle.bilv_spec.specs.ArmNames.{arm_names}
-use Rattle.bilv_spec.specs.Texts.{line, spaced, number_text}
+use Rattle.bilv_spec.specs.Texts.{line}
 use Rattle.bilv_spec.specs.Answers.{Answer, plain_answer}
-use Rattle.bilv_spec.specs.Outcomes.{Surroundings, read_fault, AfterRead, read_failed, was_read, AfterElf}
-use Rattle.bilv_spec.specs.Verified.{AfterImage, elf_refused, elf_accepted, AfterNotes, notes_refused, program_found, IsElfRefused, elf_large, elf_fault, AreNotesRefused, notes_large, notes_fault, no_function, ambiguous, note_fault_text, ambiguous_text, elf_fault_text, IsFound, IsAccepted, elf_limit, notes_limit}
+use Rattle.bilv_spec.specs.Outcomes.{Surroundings, AfterRead, read_failed, was_read, AfterElf}
+use Rattle.bilv_spec.specs.Verified.{AfterImage, elf_refused, elf_accepted, AfterNotes, notes_refused, program_found, IsElfRefused, elf_large, elf_fault, AreNotesRefused, notes_large, notes_fault, no_function, ambiguous, note_fault_text, elf_fault_text, IsFound, IsAccepted, elf_limit, notes_limit}
 use Rattle.bilv_spec.specs.ElfFaults as elf
 use Rattle.elf32_reader.specs.declared.fault.ElfFault.{ElfFault}
+use Rattle.notes_lang.specs.Drafting.{notes_of}
 use Rattle.elf32_reader.specs.declared.fault.ElfFault.TheVariants.{Short, Magic, Class, Data, Version, «Type», Machine, HeaderTable, SegmentRange, FileSize, Overlap, SymbolTable, Memory}
 use Rattle.elf32_reader.specs.Refusals.{IsRefused}
 use Rattle.elf32_reader.specs.declared.symbols.SymFault.{SymFault}
@@ -129,3 +126,22 @@ pub step_found : (held : Held) (before after : ℕ) (file text : List ℕ) (step
 step_found held before after file text (Answered a) agrees le is = refused text agrees is
 step_found held before after file text (Go f) agrees le is =
     (subst (Agrees held) (sym is.0) agrees, subst (λ t. length t ≤ notes_limit) (sym is.0) le, is.1)
+
+module _ (s : Surroundings) (elf notes file : List ℕ) (Next : List ℕ → List ℕ → Program → Answer → Type 0) (a : Answer) (held : Held) (before : ℕ)
+    (agrees : Agrees (s.held elf) file) (same : held ≡ s.held notes) (le : s.shelf_before notes ≤ before) where
+  -- no program is found over an ELF file that was read, by what is told of the notes behind that
+  pub both_answered : AfterImage file (IsNotesAnswer held before (s.shelf_after notes) file) a
+      → AfterElf s elf (λ file. AfterRead s notes (λ text. AfterNotes file text (Next file text))) a
+  both_answered (elf_refused written is a_is) = was_read file agrees (elf_refused written is a_is)
+  both_answered (elf_accepted accepted is) =
+      elf_accepts s elf (λ file. AfterRead s notes (λ text. AfterNotes file text (Next file text))) a file agrees accepted
+      (notes_answered s notes file (Next file) a
+      (answer_since (s.held notes) (s.shelf_before notes) before (s.shelf_after notes) file a le (subst (λ h. IsNotesAnswer h before (s.shelf_after notes) file a) same is)))
+
+  -- a program is found
+  pub both_found : (f : Found) → IsAccepted file → Agrees held f.text.items → length f.text.items ≤ notes_limit → IsFoundBy file f
+      → (IsFound file f.text.items (program_of file (notes_of f.notes) f.entry) → Next file f.text.items (program_of file (notes_of f.notes) f.entry) a)
+      → AfterElf s elf (λ file. AfterRead s notes (λ text. AfterNotes file text (Next file text))) a
+  both_found f accepted told short by next =
+      elf_accepts s elf (λ file. AfterRead s notes (λ text. AfterNotes file text (Next file text))) a file agrees accepted
+      (notes_found s notes file (Next file) a f.text.items (notes_of f.notes) f.entry (subst (λ h. Agrees h f.text.items) same told) short accepted by.says by.at next)

@@ -1,22 +1,26 @@
 -- Answers, as the definitions have them, and what is met on the way to one.
-use Rattle.std.specs.Prelude.{ℕ, ◌≡◌, ◌<◌, ◌≤◌, List, [], Option, Some, None, codes, length}
-use Rattle.bilv_spec.specs.Outside.{Held, Agrees, Rose}
+use Rattle.std.specs.Prelude.{ℕ, List, [], None}
+use Rattle.bilv_spec.specs.Outside.{Held}
 use Rattle.bilv_spec.specs.Answers as spec
-use Rattle.bilv_spec.specs.Answers.{plain_answer}
-use Rattle.bilv_spec.specs.Outcomes.{Surroundings, read_fault}
-use Rattle.bilv_spec.specs.Texts.{line}
-use Rattle.bilv_spec.specs.Verified.{IsElfRefused, elf_limit}
+use Rattle.bilv_spec.specs.Outcomes.{Surroundings}
 use Rattle.bilv_spec.specs.Verified.{elf_fault_text}
 use Rattle.bilv_spec.specs.ElfFaults.{ShortFile, BadMagic, BadClass, BadData, BadVersion, BadType, BadMachine, BadHeaderTable, BadSegmentRange, BadFileSize, SegmentsOverlap, BadSymbolTable}
 use Rattle.elf32_reader.specs.declared.fault.ElfFault.{ElfFault}
 use Rattle.elf32_reader.specs.declared.fault.ElfFault.TheVariants.{Short, Magic, Class, Data, Version, «Type», Machine, HeaderTable, SegmentRange, FileSize, Overlap, SymbolTable, Memory}
 use Rattle.bilv_top.specs.declared.answer.Answer.{Answer}
+use Rattle.bilv_top.specs.declared.answer.Evidence.{Evidence}
+use Rattle.bilv_top.specs.declared.answer.Evidence.TheVariants.{None as Nothing, Count as Counted}
 use Rattle.bilv_top.specs.declared.answer.Step.{Step}
 use Rattle.bilv_top.specs.declared.answer.Step.TheVariants.{Answered, Go}
 
--- an answer; it has no evidence yet
+-- what shows that an answer is right
+abbrev pub evidence_of : Evidence → spec.Evidence
+evidence_of Nothing = spec.NoEvidence
+evidence_of (Counted n) = spec.Count n
+
+-- an answer
 abbrev pub answer_of : Answer → spec.Answer
-answer_of a = plain_answer a.status a.text.items
+answer_of a = record { status = a.status; text = a.text.items; evidence = evidence_of a.evidence }
 
 -- what a call meets of files: what is told of their names, and the counts of their faults before and after
 abbrev pub seen : (List ℕ → Held) → (before after : List ℕ → ℕ) → Surroundings

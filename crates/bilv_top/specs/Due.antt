@@ -1,16 +1,17 @@
 -- What the program answers, as far as it is built: each command's right answer, or that it is not built.
-use Rattle.std.specs.Prelude.{ℕ, ◌≡◌, ◌<◌, ◌≤◌, Bool, true, false, List, Option, Some, None, codes, length, take}
+use Rattle.std.specs.Prelude.{ℕ, ◌≡◌, ◌<◌, ◌+◌, Bool, true, false, List, Option, Some, None, codes, length, take}
 use Rattle.bilv_spec.specs.Outside.{Held, Agrees, IsLonger, Rose, Appends}
 use Rattle.bilv_spec.specs.Machine.{Row}
 use Rattle.bilv_spec.specs.Rv.{rv32}
 use Rattle.bilv_spec.specs.Run.{Program}
 use Rattle.bilv_spec.specs.Verdict.{IsRight, Holds}
+use Rattle.bilv_spec.specs.Points.{HasMore}
 use Rattle.bilv_spec.specs.Files.{is_rv, machine_of, names_of, layout_of, IsFunctionAt}
 use Rattle.bilv_spec.specs.NotesGrammar.{IsNotesText}
 use Rattle.bilv_spec.specs.LiftText.{IsLiftTextBy}
 use Rattle.bilv_spec.specs.Replays.{replay_answer}
-use Rattle.bilv_spec.specs.Answers.{Budget, default_budget, Answer, plain_answer}
-use Rattle.bilv_spec.specs.Outcomes.{Surroundings, Command, Verify, Lift, Replay, Check, read_fault, AfterRead, AfterElf, AfterBoth, IsRightAnswer}
+use Rattle.bilv_spec.specs.Answers.{Budget, default_budget, PointsReport, Evidence, Count, Answer, plain_answer, report_answer}
+use Rattle.bilv_spec.specs.Outcomes.{Surroundings, Command, Verify, Lift, Graph, Replay, Check, read_fault, AfterRead, AfterElf, AfterBoth, IsGraphed, IsRightAnswer}
 use Rattle.bilv_spec.specs.Verified.{AfterNotes, AreNotesRefused, notes_limit, usage_text}
 use Rattle.bilv_spec.specs.Texts.{line}
 use Rattle.notes_lang.specs.Drafting.{notes_of}
@@ -22,11 +23,13 @@ use Rattle.bilv_top.specs.FirstForm.{IsFirst}
 abbrev pub not_built : Answer
 not_built = plain_answer 10 (line (codes "not built"))
 
--- The answer to a program that two files are. So far it is holds alone, for files of the first form and the default budget; and it is not built for every other
--- program, those of the first form for which another verdict is right among them.
+-- The answer to a program that two files are. For RISC-V it is first that there are more points than the budget, wherever there are, with their count. Else it is
+-- so far holds alone, for files of the first form and the default budget; and it is not built for every other program, those of the first form for which another
+-- verdict is right among them.
 pub data IsVerifiedSoFar (file text : List ℕ) (b : Budget) (p : Program) (a : Answer) : Type 0 where
-  holds : b ≡ default_budget → IsFirst file text → IsRight p b.unroll Holds → a ≡ plain_answer 0 (line (codes "holds")) → IsVerifiedSoFar file text b p a
-  beyond : (b ≡ default_budget → IsFirst file text → ¬ IsRight p b.unroll Holds) → a ≡ not_built → IsVerifiedSoFar file text b p a
+  points : is_rv file ≡ true → HasMore p b.unroll b.points → a ≡ report_answer (layout_of file) b PointsReport (Count (b.points + 1)) → IsVerifiedSoFar file text b p a
+  holds : (is_rv file ≡ true → ¬ HasMore p b.unroll b.points) → b ≡ default_budget → IsFirst file text → IsRight p b.unroll Holds → a ≡ plain_answer 0 (line (codes "holds")) → IsVerifiedSoFar file text b p a
+  beyond : (is_rv file ≡ true → ¬ HasMore p b.unroll b.points) → (b ≡ default_budget → IsFirst file text → ¬ IsRight p b.unroll Holds) → a ≡ not_built → IsVerifiedSoFar file text b p a
 
 -- the rows that are built: those of RV32IM
 abbrev pub rows_by : (of_rv : Bool) → ℕ → Option Row
@@ -42,10 +45,16 @@ pub data IsReplayedSoFar (s : Surroundings) (report file : List ℕ) (p : Progra
   replayed : is_rv file ≡ true → AfterRead s report (λ text b. b ≡ replay_answer p (layout_of file) text) a → IsReplayedSoFar s report file p a
   unbuilt : is_rv file ≡ false → a ≡ not_built → IsReplayedSoFar s report file p a
 
+-- The answer that prints the flow graph of a program: its text where the file is of RISC-V. For ARM it isn't built.
+pub data IsGraphedSoFar (file : List ℕ) (p : Program) (a : Answer) : Type 0 where
+  printed : is_rv file ≡ true → IsGraphed p a → IsGraphedSoFar file p a
+  bare : is_rv file ≡ false → a ≡ not_built → IsGraphedSoFar file p a
+
 -- the answer that is due to a command
 abbrev pub IsDueTo : Surroundings → Command → Answer → Type 0
 IsDueTo s (Verify elf notes b) a = AfterElf s elf (λ file. AfterRead s notes (λ text. AfterNotes file text (IsVerifiedSoFar file text b))) a
 IsDueTo s (Lift elf) a = AfterElf s elf IsLiftedSoFar a
+IsDueTo s (Graph elf notes) a = AfterBoth s elf notes IsGraphedSoFar a
 IsDueTo s (Replay elf notes report) a = AfterBoth s elf notes (λ file p. IsReplayedSoFar s report file p) a
 IsDueTo s (Check certificate) a = IsRightAnswer s (Check certificate) a
 IsDueTo s other a = a ≡ not_built
@@ -55,11 +64,12 @@ abbrev pub IsDue : Surroundings → Option Command → Answer → Type 0
 IsDue s None a = a ≡ plain_answer 2 usage_text
 IsDue s (Some c) a = IsDueTo s c a
 
--- a due answer was written whole, and its status is the exit's
-pub record IsWhole (s : Surroundings) (c : Option Command) (before after : Option (List ℕ)) (status : ℕ) : Type 0 where
+-- a due answer was written whole, and its status and its evidence are those of the call
+pub record IsWhole (s : Surroundings) (c : Option Command) (before after : Option (List ℕ)) (status : ℕ) (evidence : Evidence) : Type 0 where
   pub due : Answer
   pub is_due : IsDue s c due
   pub status_is : status ≡ due.status
+  pub evidence_is : evidence ≡ due.evidence
   pub appends : Appends before due.text after
 
 -- a write failed: a proper front of the text of a due answer was written

@@ -1,5 +1,5 @@
 -- What was read of a file.
-use Rattle.std.specs.Prelude.{ℕ, ◌≡◌, ◌≤◌, length}
+use Rattle.std.specs.Prelude.{ℕ, ◌≤◌, length}
 use Rattle.bilv_spec.specs.Outside.{Held, Agrees, IsLonger, Rose}
 use Rattle.bilv_top.specs.declared.reading.FileRead.{FileRead}
 use Rattle.bilv_top.specs.declared.reading.FileRead.TheVariants.{Bytes, TooLarge, Failed}

@@ -1,13 +1,15 @@
 //! The public call.
-ghost use Rattle.std.specs.Prelude.{◌≡◌, ◌≢◌, IfOk, map, string_bytes, Option};
+ghost use Rattle.std.specs.Prelude.{◌≡◌, ◌≢◌, ◌⊎◌, IfOk, map, string_bytes, Option};
+ghost use Rattle.bilv_spec.specs.Outcomes.{IsLawfulCommand};
 ghost use Rattle.bilv_spec.specs.Outside.{Rose};
 ghost use Rattle.command_line.specs.Commands.{command_of};
 ghost use Rattle.command_line.specs.Lines.{lawful_command};
-ghost use Rattle.bilv_top.specs.Answers.{answer_of, seen};
+ghost use Rattle.bilv_top.specs.Answers.{answer_of, evidence_of, seen};
 ghost use Rattle.bilv_top.specs.Due.{IsCut, IsDue, IsDueTo, IsWhole};
 
-use crate::answer::Answer;
+use crate::answer::{Answer, Evidence};
 use crate::certificate::check_certificate;
+use crate::graph::graph;
 use crate::lift::lift;
 use crate::reading::answer;
 use crate::replay::replay;
@@ -16,16 +18,9 @@ use command_line::{Command, LineError, read_command};
 use io_edges::{Shelf, Sink, write_all};
 use std::alloc::{AllocError, Global};
 
-/// What shows that an answer is right.
-#[derive(Clone, Copy, Debug, PartialEq, Eq)]
-pub enum Evidence {
-    /// Nothing: the answer needs none.
-    None,
-}
-
 /// The answer of the program: its exit status, and what shows that it is right.
 ///
-/// The exit status is 0 for the verdict `holds`, for lifted words, for a report that was replayed and for a certificate that is accepted, 2 for an unlawful line, 4 for a refused ELF file, 5 for refused notes,
+/// The exit status is 0 for the verdict `holds`, for lifted words, for a flow graph, for a report that was replayed and for a certificate that is accepted, 2 for an unlawful line, 3 for a program with more points than the budget, 4 for a refused ELF file, 5 for refused notes,
 /// 6 for a file that could not be read, 7 for a write that failed, 8 for want of memory, 9 for a report that is not what its replay finds and for a certificate that is not accepted, and 10 for what is not built.
 #[derive(Clone, Copy, Debug, PartialEq, Eq)]
 pub struct Outcome {
@@ -35,11 +30,13 @@ pub struct Outcome {
 
 /// The answer that is due to a command.
 fn obey<H: Shelf>(alloc: Global, command: Command, shelf: &mut H) -> Result<Answer, AllocError>
+    requires { IsLawfulCommand (command_of command) }
     ensures { IfOk result (λ a. IsDueTo (seen (H.holds shelf.old) (H.faults shelf.old) (H.faults shelf.new)) (command_of command.entry) (answer_of a)) }
 {
     match command {
         Command::Verify { elf, notes, budget } => verify(alloc, shelf, elf, notes, budget),
         Command::Lift { elf } => lift(alloc, shelf, elf),
+        Command::Graph { elf, notes } => graph(alloc, shelf, elf, notes),
         Command::Replay { elf, notes, state } => replay(alloc, shelf, elf, notes, state),
         Command::Check { certificate } => check_certificate(alloc, shelf, certificate),
         _ => answer(alloc, 10, b"not built\n"),
@@ -69,15 +66,16 @@ pub fn bilv<H: Shelf, K: Sink>(
     shelf: &mut H,
     out: &mut K,
 ) -> Outcome
-    // Where the status is neither 7 nor 8, a due answer of this status was written whole.
+    // Where the status is neither 7 nor 8, a due answer of this status and this evidence was written whole.
     ensures whole { result.status ≢ 7 → result.status ≢ 8 → IsWhole (seen (H.holds shelf.old) (H.faults shelf.old) (H.faults shelf.new))
-        (lawful_command (map (λ w. string_bytes w) words.now)) (K.written out.old) (K.written out.new) result.status }
+        (lawful_command (map (λ w. string_bytes w) words.now)) (K.written out.old) (K.written out.new) result.status (evidence_of result.evidence) }
     // 7: a write failed, and a proper front of the text of a due answer was written.
     ensures cut { result.status ≡ 7 → IsCut (seen (H.holds shelf.old) (H.faults shelf.old) (H.faults shelf.new))
         (lawful_command (map (λ w. string_bytes w) words.now)) (K.written out.old) (K.written out.new) }
     ensures sink_fault { result.status ≡ 7 → Rose (K.faults out.old) (K.faults out.new) }
     // 8: want of memory, and nothing was written.
     ensures memory { result.status ≡ 8 → K.written out.new ≡ K.written out.old }
+    ensures bare { (result.status ≡ 7) ⊎ (result.status ≡ 8) → result.evidence ≡ Evidence.None }
 {
     let Ok(answer) = due(alloc, words, shelf) else {
         return Outcome {
@@ -88,7 +86,7 @@ pub fn bilv<H: Shelf, K: Sink>(
     match write_all(out, &answer.text) {
         Ok(()) => Outcome {
             status: answer.status,
-            evidence: Evidence::None,
+            evidence: answer.evidence,
         },
         Err(_) => Outcome {
             status: 7,

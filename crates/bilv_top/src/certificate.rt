@@ -1,12 +1,13 @@
 //! The command that checks a certificate.
 ghost use Rattle.std.specs.Prelude.{◌≡◌, ◌≤◌, length, IfOk};
+ghost use Rattle.bilv_spec.specs.Answers.{NoEvidence};
 ghost use Rattle.bilv_spec.specs.Certificates.{check_text};
 ghost use Rattle.bilv_spec.specs.Outcomes.{Check, IsRightAnswer};
 ghost use Rattle.bilv_spec.specs.Replays.{IsChecked, check_status, text_limit};
 ghost use Rattle.refutation_checker.specs.Answers.{refusal_of};
-ghost use Rattle.bilv_top.specs.Answers.{answer_of, seen};
+ghost use Rattle.bilv_top.specs.Answers.{answer_of, evidence_of, seen};
 
-use crate::answer::Answer;
+use crate::answer::{Answer, Evidence};
 use crate::reading::{FileRead, answer, read_within, unread};
 use crate::texts::{cause_text, cnf_fault_text, refused_line};
 use cnf_form::{CnfError, behind_lines, read_cnf};
@@ -24,6 +25,7 @@ const REFUSED: u8 = 9;
 fn say(alloc: Global, checked: Checked) -> Result<Answer, AllocError>
     ensures status { IfOk result (λ a. a.status ≡ check_status (refusal_of checked)) }
     ensures text { IfOk result (λ a. a.text.items ≡ check_text (refusal_of checked)) }
+    ensures bare { IfOk result (λ a. evidence_of a.evidence ≡ NoEvidence) }
 {
     match checked {
         Checked::Yes => answer(alloc, 0, b"accepted\n"),
@@ -32,6 +34,7 @@ fn say(alloc: Global, checked: Checked) -> Result<Answer, AllocError>
             Ok(Answer {
                 status: REFUSED,
                 text,
+                evidence: Evidence::None,
             })
         }
     }
@@ -40,7 +43,7 @@ fn say(alloc: Global, checked: Checked) -> Result<Answer, AllocError>
 /// The answer to the text of a certificate.
 fn judge(alloc: Global, text: &[u8]) -> Result<Answer, AllocError>
     requires { length text.now ≤ text_limit }
-    ensures { IfOk result (λ a. IsChecked text.now a.status a.text.items) }
+    ensures { IfOk result (λ a. IsChecked text.now a.status a.text.items × (evidence_of a.evidence ≡ NoEvidence)) }
 {
     let (cnf, lines) = match read_cnf(alloc, text) {
         Ok(read) => read,
@@ -49,6 +52,7 @@ fn judge(alloc: Global, text: &[u8]) -> Result<Answer, AllocError>
             return Ok(Answer {
                 status: REFUSED,
                 text,
+                evidence: Evidence::None,
             });
         }
         Err(CnfError::Memory) => return Err(AllocError),

@@ -5,6 +5,7 @@ ghost use Rattle.bilv_spec.specs.Files.{IsFunctionAt, machine_of, names_of};
 ghost use Rattle.bilv_spec.specs.Outside.{Agrees};
 ghost use Rattle.bilv_spec.specs.Texts.{line};
 ghost use Rattle.bilv_spec.specs.Verified as verified;
+ghost use Rattle.bilv_spec.specs.Verified.{AfterImage, IsAccepted};
 ghost use Rattle.notes_lang.specs.Judging.{fault_of};
 ghost use Rattle.notes_lang.specs.Parsing.{layout_names, layout_registers};
 ghost use Rattle.notes_lang.specs.Saying.{function_of};
@@ -12,10 +13,10 @@ ghost use Rattle.bilv_top.specs.Answers.{IsOfFile, IfStep, answer_of, elf_text_o
 ghost use Rattle.bilv_top.specs.Due.{AreNotesAnswered, IsFoundBy, IsNotesAnswer, IsUnread};
 ghost use Rattle.bilv_top.specs.Names.{missed_text, IsMissedFunction};
 
-use crate::answer::{Answer, Step};
+use crate::answer::{Answer, Evidence, Step};
 use crate::reading::{answer, read_or_answer};
 use crate::texts::{ambiguous_line, elf_fault_line, note_fault_words, refused_line};
-use elf32_reader::{ElfFault, Image, SymFault};
+use elf32_reader::{ElfFault, Image, SymFault, read_image};
 use io_edges::Shelf;
 use notes_lang::{Function, NoteFault, Notes, NotesError, parse};
 use state_text::Layout;
@@ -101,6 +102,7 @@ fn refuse_line(alloc: Global, fault: NoteFault) -> Result<Answer, AllocError>
     Ok(Answer {
         status: NOTES_REFUSED,
         text,
+        evidence: Evidence::None,
     })
 }
 
@@ -115,6 +117,7 @@ fn refuse_name(alloc: Global, fault: SymFault) -> Result<Answer, AllocError>
             Ok(Answer {
                 status: NOTES_REFUSED,
                 text,
+                evidence: Evidence::None,
             })
         }
     }
@@ -155,4 +158,29 @@ pub fn read_notes<H: Shelf>(
         Step::Answered(answer) => Step::Answered(answer),
     };
     Ok(step)
+}
+
+/// Reads the image of an ELF file that was read and notes over it, and finds their function, or answers. The error is want of memory.
+pub fn read_program<'a, H: Shelf>(
+    alloc: Global,
+    shelf: &mut H,
+    file: &'a [u8],
+    notes: &str,
+) -> Result<Step<(Image<'a>, Found)>, AllocError>
+    requires short { length file.now ≤ verified.elf_limit }
+    ensures keeps { (n : List ℕ) → H.holds shelf.new n ≡ H.holds shelf.old n }
+    ensures never_falls { (n : List ℕ) → H.faults shelf.old n ≤ H.faults shelf.new n }
+    ensures read { IfOk result (λ step. IfStep step
+        (AfterImage file.now (IsNotesAnswer (H.holds shelf.old notes.now) (H.faults shelf.old notes.now) (H.faults shelf.new notes.now) file.now))
+        (λ x. (x.0 ≡ file.now) × IsAccepted file.now × Agrees (H.holds shelf.old notes.now) x.1.text.items × (length x.1.text.items ≤ verified.notes_limit)
+        × IsFoundBy file.now x.1)) }
+{
+    let image = match read_image(alloc, file) {
+        Ok(image) => image,
+        Err(fault) => return Ok(Step::Answered(refuse_elf(alloc, fault)?)),
+    };
+    match read_notes(alloc, shelf, &image, notes)? {
+        Step::Go(found) => Ok(Step::Go((image, found))),
+        Step::Answered(answer) => Ok(Step::Answered(answer)),
+    }
 }

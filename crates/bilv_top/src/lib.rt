@@ -5,6 +5,8 @@ mod answer;
 mod call;
 mod certificate;
 mod first_notes;
+mod flow;
+mod graph;
 mod inputs;
 mod judge;
 mod lift;
@@ -16,5 +18,6 @@ mod row_file;
 mod texts;
 mod verify;
 
-pub use call::{Evidence, Outcome, bilv};
+pub use answer::Evidence;
+pub use call::{Outcome, bilv};
 pub use program::answer_words;

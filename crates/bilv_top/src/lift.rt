@@ -4,7 +4,7 @@ ghost use Rattle.bilv_spec.specs.Outcomes.{Lift};
 ghost use Rattle.bilv_top.specs.Answers.{answer_of, seen};
 ghost use Rattle.bilv_top.specs.Due.{IsDueTo, IsLiftedSoFar};
 
-use crate::answer::{Answer, Step};
+use crate::answer::{Answer, Evidence, Step};
 use crate::inputs::{read_elf, refuse_elf};
 use elf32_reader::{Image, read_image};
 use io_edges::Shelf;
@@ -18,10 +18,18 @@ fn lift_image(alloc: Global, image: &Image) -> Result<Answer, AllocError>
 {
     if image.is_risc_v() {
         let text = lift_text::<Rv32>(alloc, image)?;
-        return Ok(Answer { status: 0, text });
+        return Ok(Answer {
+            status: 0,
+            text,
+            evidence: Evidence::None,
+        });
     }
     let text = bare_text(alloc, image)?;
-    Ok(Answer { status: 0, text })
+    Ok(Answer {
+        status: 0,
+        text,
+        evidence: Evidence::None,
+    })
 }
 
 /// Lifts the words of the ELF file of a name. The error is want of memory.

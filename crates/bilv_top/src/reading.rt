@@ -7,7 +7,7 @@ ghost use Rattle.bilv_top.specs.Answers.{IfStep, answer_of};
 ghost use Rattle.bilv_top.specs.Due.{IsUnread};
 ghost use Rattle.bilv_top.specs.Read.{IsFileRead};
 
-use crate::answer::{Answer, Step};
+use crate::answer::{Answer, Evidence, Step};
 use io_edges::{ReadFault, Shelf, read_all};
 use std::alloc::{AllocError, Global};
 
@@ -43,7 +43,11 @@ pub fn answer(alloc: Global, status: u8, text: &[u8]) -> Result<Answer, AllocErr
     ensures { IfOk result (λ a. answer_of a ≡ plain_answer status text.now) }
 {
     let text = text.to_vec(alloc)?;
-    Ok(Answer { status, text })
+    Ok(Answer {
+        status,
+        text,
+        evidence: Evidence::None,
+    })
 }
 
 /// The answer where a file can't be read.

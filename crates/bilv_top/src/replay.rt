@@ -8,10 +8,10 @@ ghost use Rattle.notes_lang.specs.Drafting.{notes_of};
 ghost use Rattle.bilv_top.specs.Answers.{answer_of, seen};
 ghost use Rattle.bilv_top.specs.Due.{IsDueTo, IsFoundBy, IsReplayedSoFar};
 
-use crate::answer::{Answer, Step};
-use crate::inputs::{Found, read_elf, read_notes, refuse_elf};
+use crate::answer::{Answer, Evidence, Step};
+use crate::inputs::{Found, read_elf, read_program};
 use crate::reading::{answer, read_or_answer};
-use elf32_reader::{Image, read_image};
+use elf32_reader::Image;
 use io_edges::Shelf;
 use report_replay::{REPORT_LIMIT, replay as replay_text};
 use rv_lift::Rv32;
@@ -45,6 +45,7 @@ fn replay_report<H: Shelf>(
     Ok(Answer {
         status: replayed.status,
         text: replayed.text,
+        evidence: Evidence::None,
     })
 }
 
@@ -82,12 +83,8 @@ pub fn replay<H: Shelf>(
         Step::Go(file) => file,
         Step::Answered(answer) => return Ok(answer),
     };
-    let image = match read_image(alloc, &file) {
-        Ok(image) => image,
-        Err(fault) => return refuse_elf(alloc, fault),
-    };
-    match read_notes(alloc, shelf, &image, notes)? {
-        Step::Go(found) => replay_program(alloc, shelf, &image, &found, report),
+    match read_program(alloc, shelf, &file, notes)? {
+        Step::Go((image, found)) => replay_program(alloc, shelf, &image, &found, report),
         Step::Answered(answer) => Ok(answer),
     }
 }

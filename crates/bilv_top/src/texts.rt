@@ -1,5 +1,6 @@
-//! The texts of refusals.
-ghost use Rattle.std.specs.Prelude.{◌≡◌, ◌++◌, ◌∷◌, [], IfOk, MatchOption};
+//! The texts of refusals and of budgets that are exceeded.
+ghost use Rattle.std.specs.Prelude.{◌≡◌, ◌++◌, ◌∷◌, [], IfOk, MatchOption, codes};
+ghost use Rattle.bilv_spec.specs.Answers.{budget_text};
 ghost use Rattle.bilv_spec.specs.Texts.{line, spaced, number_text};
 ghost use Rattle.bilv_spec.specs.Certificates.{cause_words};
 ghost use Rattle.bilv_spec.specs.Replays.{cnf_fault_words};
@@ -69,6 +70,16 @@ pub fn refused_line(
     print_number(&mut text, number)?;
     text.extend_from_slice(b" ")?;
     text.extend_from_slice(words)?;
+    text.extend_from_slice(b"\n")?;
+    Ok(text)
+}
+
+/// The line that says that there are more points than the budget of points. The error is want of memory.
+pub fn points_line(alloc: Global, budget: u64) -> Result<Vec<u8>, AllocError>
+    ensures { IfOk result (λ v. v.items ≡ budget_text (codes "points") budget) }
+{
+    let mut text = b"unknown points ".to_vec(alloc)?;
+    print_number(&mut text, budget)?;
     text.extend_from_slice(b"\n")?;
     Ok(text)
 }

@@ -17,5 +17,5 @@ returns-in-Bytes g c =
     let read = rw c.in-Bytes.is at c.in_ok-read_within.ensures.read in
     IfOk-weaker c.judge.result _ _
     (λ a is. judged (seen (g.H.Shelf.holds c.args.shelf.now) (g.H.Shelf.faults c.args.shelf.now) (g.H.Shelf.faults c.read_within.new.shelf)) c.args.name.now
-    c.deref.result.now a.text.items a.status
-    (subst (λ x. Agrees (g.H.Shelf.holds c.args.shelf.now c.args.name.now) x) (sym c.deref.ensures.value) read.0) is) c.judge.ensures
+    c.deref.result.now (answer_of a)
+    (subst (λ x. Agrees (g.H.Shelf.holds c.args.shelf.now c.args.name.now) x) (sym c.deref.ensures.value) read.0) is.0 is.1) c.judge.ensures

@@ -1,4 +1,3 @@
-use Rattle.std.proofs.Common.{sym, subst}
 use Rattle.bilv_top.specs.Due.{unread}
 use Rattle.bilv_top.proofs.Refused.{step_found}
 use Rattle.bilv_top.proofs.inputs.read_notes.Goals as goal

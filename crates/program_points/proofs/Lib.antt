@@ -1,0 +1,13 @@
+pub mod Ordered
+pub mod Keys
+pub mod Lists
+pub mod Tabled
+pub mod Added
+pub mod Ending
+pub mod Searched
+pub mod Edges
+pub mod Stacked
+pub mod Ended
+pub mod Walked
+pub mod Expanded
+pub mod Pinned

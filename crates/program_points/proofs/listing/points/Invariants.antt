@@ -1,0 +1,19 @@
+use Rattle.std.proofs.Common.{◌≡◌, ◌≤◌, ◌+◌, ◌-◌, length}
+use Rattle.bilv_spec.specs.Run.{Program}
+use Rattle.graph_nodes.specs.Graphs.{IsGraph}
+use Rattle.program_points.specs.Listed.{HasOneWay}
+use Rattle.program_points.specs.Tables.{IsTable, IsListed}
+use Rattle.program_points.specs.Walks.{Walk}
+use Rattle.program_points.proofs.listing.points.Given as goal
+
+abbrev pub invariant-listing : goal.invariant-listing
+invariant-listing l = record {
+  table : IsTable l.stacks.frames.items l.stacks.numbers;
+  listed : IsListed l.k (length l.stacks.frames.items) l.found.points.items l.found.seen;
+  place : l.next ≤ length l.found.points.items;
+  low : l.next ≤ l.max + 1;
+  walk : (p : Program) → IsGraph p l.graph → p.entry ≡ l.entry → HasOneWay p → Walk p l.k l.max l.stacks.frames.items l.found.points.items l.next;
+}
+
+abbrev pub decreases-listing : goal.decreases-listing
+decreases-listing l = l.max + 2 - l.next

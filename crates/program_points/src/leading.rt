@@ -1,0 +1,121 @@
+//! The ends of a point's edges.
+ghost use Rattle.std.specs.Prelude.{◌≡◌, ◌≤◌, IfOk, length};
+ghost use Rattle.std.specs.List.{list_any};
+ghost use Rattle.program_points.specs.Tables as tables;
+ghost use Rattle.program_points.specs.Tables.{frame_at, ends_of, is_call, IsTable, IsCalled};
+
+use crate::stacks::{Stacks, pushed};
+use crate::values::{End, Frame};
+use graph_nodes::{Letter, Node, Successor};
+use std::alloc::{AllocError, Global};
+
+/// The frame of a stack by number; the empty stack has none.
+fn frame(frames: &[Frame], stack: usize) -> Option<Frame>
+    ensures { result ≡ frame_at frames.now stack }
+{
+    if stack == 0 {
+        return None;
+    }
+    frames.get(stack - 1).copied()
+}
+
+/// Whether a stack has the address as its top.
+fn has_top(frame: Option<Frame>, a: u32) -> bool
+    ensures { result ≡ tables.has_top frame a }
+{
+    match frame {
+        None => false,
+        Some(f) => f.top == a,
+    }
+}
+
+/// The end that a successor is. A jump to the stack's top from a row that may return is the return; the address behind a call is none.
+fn successor_end(
+    returns: bool,
+    frame: Option<Frame>,
+    stack: usize,
+    called: usize,
+    successor: Successor,
+) -> Option<End>
+    ensures { result ≡ tables.successor_end returns frame stack called successor }
+{
+    let at = successor.to;
+    match successor.letter {
+        Letter::Next => Some(End { stack, at }),
+        Letter::Jump => {
+            if returns && has_top(frame, at) {
+                return None;
+            }
+            Some(End { stack, at })
+        }
+        Letter::Call => Some(End { stack: called, at }),
+        Letter::Return => None,
+    }
+}
+
+/// The end of a return, where the row may return and the stack has a top that is a multiple of 4.
+fn back_end(returns: bool, frame: Option<Frame>) -> Option<End>
+    ensures { result ≡ tables.back_end returns frame }
+{
+    if !returns {
+        return None;
+    }
+    match frame {
+        None => None,
+        Some(f) => {
+            if f.top % 4 == 0 {
+                Some(End {
+                    stack: f.below,
+                    at: f.top,
+                })
+            } else {
+                None
+            }
+        }
+    }
+}
+
+/// The number of the stack behind a call of a node, or 0 where it has no call. The error is want of memory.
+pub fn called(stacks: &mut Stacks, node: &Node, stack: usize) -> Result<usize, AllocError>
+    requires table { IsTable stacks.old.frames.items stacks.old.numbers }
+    requires stack { stack ≤ length stacks.old.frames.items }
+    ensures table { IfOk result (λ n. IsTable stacks.new.frames.items stacks.new.numbers) }
+    ensures called { IfOk result (λ n. IsCalled node.now stack stacks.old.frames.items stacks.new.frames.items n) }
+{
+    if !calls(&node.successors) {
+        return Ok(0);
+    }
+    let number = pushed(stacks, node.at.wrapping_add(4), stack)?;
+    Ok(number)
+}
+
+/// Whether a call is among successors.
+fn calls(successors: &[Successor]) -> bool
+    ensures { result ≡ list_any (λ s. is_call s.letter) successors.now }
+{
+    successors.iter().any(|s| s.letter == Letter::Call)
+}
+
+/// The ends of a point at a node, but for the exit: the stacks of the point and behind a call are given by number. The error is want of memory.
+pub fn ends(
+    alloc: Global,
+    node: &Node,
+    frames: &[Frame],
+    stack: usize,
+    called: usize,
+) -> Result<Vec<End>, AllocError>
+    ensures { IfOk result (λ v. v.items ≡ ends_of node.now (frame_at frames.now stack) stack called) }
+{
+    let frame = frame(frames, stack);
+    let returns = node.returns;
+    let mut found: Vec<End> = Vec::new(alloc);
+    for successor in &node.successors {
+        if let Some(end) = successor_end(returns, frame, stack, called, *successor) {
+            found.push(end)?;
+        }
+    }
+    if let Some(end) = back_end(returns, frame) {
+        found.push(end)?;
+    }
+    Ok(found)
+}
