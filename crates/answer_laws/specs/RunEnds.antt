@@ -1,0 +1,16 @@
+-- After how many steps a run has ended.
+use Rattle.std.specs.Prelude.{ℕ, List, length}
+use Rattle.bilv_spec.specs.Run.{Program, Start, run, IsOver}
+use Rattle.bilv_spec.specs.Verdict.{IsEntryState}
+use Rattle.bilv_spec.specs.Points.{Point, ArePoints, HasMore}
+use Rattle.bilv_spec.specs.PointLaws.{HasLawfulRows, ReadsMemory}
+
+-- From an entry state a run has ended after as many steps as there are points, since it meets each point at most once.
+abbrev pub RunsEndWithin : Type 0
+RunsEndWithin = (p : Program) → HasLawfulRows p → ReadsMemory p → (k : ℕ) (start : Start) → IsEntryState p start.state →
+    (points : List Point) → ArePoints p k points → IsOver (run p k start (length points))
+
+-- where there are at most so many points, it has ended after so many steps
+abbrev pub FewPointsEndRuns : Type 0
+FewPointsEndRuns = (p : Program) → HasLawfulRows p → ReadsMemory p → (k : ℕ) (start : Start) → IsEntryState p start.state →
+    (max : ℕ) → ¬ HasMore p k max → IsOver (run p k start max)

@@ -1,0 +1,5 @@
+//! Laws of runs, questions, reports and answers that the contracts of whole commands stand on. A law is a public function without a body to speak of: its
+//! contract is the law.
+#![tactic(auto)]
+
+pub mod runs;
