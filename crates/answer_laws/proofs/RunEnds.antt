@@ -1,10 +1,12 @@
 -- A run that goes on has met as many points as it made steps, each once.
-use Rattle.std.proofs.Common.{◌≡◌, ◌⊎◌, inl, inr, ℕ, zero, suc, ◌+◌, ◌<◌, ◌≤◌, refl, ap, sym, ◌∙◌, subst, arith, List, [], ◌∷◌, length, Some}
+use Rattle.std.proofs.Common.{◌≡◌, ◌⊎◌, inl, inr, ℕ, zero, suc, ◌+◌, ◌-◌, ◌<◌, ◌≤◌, refl, ap, sym, ◌∙◌, subst, arith, List, [], ◌∷◌, length, Some}
 use Rattle.std.specs.Prelude.{Contains, slice_get}
 use Rattle.bilv_spec.specs.Run.{Program, Start, Run, Going, Exited, Failed, Turned, Place, run, one_more, IsOver}
 use Rattle.bilv_spec.specs.Points.{Point, IsPoint, ArePoints, HasMore}
 use Rattle.bilv_spec.specs.Verdict.{IsEntryState}
 use Rattle.bilv_spec.specs.Questions.{by_file, point_of}
+use Rattle.bilv_spec.specs.Reports.{found, found_by, found_going}
+use Rattle.bilv_spec.specs.Answers.{EndsAs}
 use Rattle.bilv_spec.specs.PointLaws.{HasLawfulRows, ReadsMemory, ComesBefore}
 use Rattle.bilv_spec.proofs.Pigeons.{Once, at_in}
 use Rattle.bilv_spec.proofs.AllPoints.{no_more_points}
@@ -110,3 +112,21 @@ pub runs_end_within : (p : Program) → HasLawfulRows p → ReadsMemory p → (k
     (points : List Point) → ArePoints p k points → IsOver (run p k start (length points))
 runs_end_within p lawful memory k start is points are =
     few_points_end_runs p lawful memory k start is (length points) (no_more_points p k (length points) points are (let l : length points ≤ length points = omega arith in l))
+
+found_over : (before behind : Run) → IsOver behind → found_by before behind ≡ found_going behind
+found_over before (Going turns n c) over = absurd over
+found_over before (Exited at n) over = refl
+found_over before (Failed e at n) over = refl
+found_over before (Turned at n) over = refl
+
+pub few_points_are_found : (p : Program) → HasLawfulRows p → ReadsMemory p → (k : ℕ) (start : Start) → IsEntryState p start.state →
+    (max : ℕ) → 1 ≤ max → ¬ HasMore p k max → (r : Run) × IsOver r × EndsAs p k start r × (found p (Some k) start (max - 1) ≡ found_going r)
+few_points_are_found p lawful memory k start is max some few =
+    let over = few_points_end_runs p lawful memory k start is max few in
+    let last : max - 1 + 1 ≡ max = omega arith in
+    (
+      run p k start max,
+      over,
+      (max, refl),
+      ap (λ n. found_by (run p k start (max - 1)) (run p k start n)) last ∙ found_over (run p k start (max - 1)) (run p k start max) over,
+    )

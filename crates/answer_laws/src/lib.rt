@@ -2,4 +2,5 @@
 //! contract is the law.
 #![tactic(auto)]
 
+pub mod readings;
 pub mod runs;

@@ -1,0 +1,17 @@
+-- From the question over asked bytes to the question, and from choices along a reading's run to a start that follows it.
+use Rattle.std.specs.Prelude.{ℕ, ◌≡◌, Bool}
+use Rattle.bilv_spec.specs.Run.{Program, Start, Place, Going}
+use Rattle.bilv_spec.specs.Points.{is_known_at}
+use Rattle.bilv_spec.specs.Questions.{Reading, Question, IsTrue, IsTrueOver, point_of, read_run}
+use Rattle.bilv_spec.specs.QuestionLaws.{Follows}
+use Rattle.bilv_spec.specs.Evidence.{AgreesOn}
+
+-- A question that is true over some asked bytes of a reading whose memory agrees with the file on all known bytes is true of the reading.
+abbrev pub AgreementIsEnough : Type 0
+AgreementIsEnough = (p : Program) (asked : ℕ → Bool) (k : ℕ) (r : Reading) (question : Question) → AgreesOn p (is_known_at p) r.state →
+    IsTrueOver p asked k r question → IsTrue p k r question
+
+-- A start in the reading's state follows the reading if it takes, at each step of the reading's run, the choice of the point at which that run stands.
+abbrev pub ChoicesFollow : Type 0
+ChoicesFollow = (p : Program) (k : ℕ) (r : Reading) (start : Start) → start.state ≡ r.state →
+    ((n turns : ℕ) (c : Place) → read_run p k r n ≡ Going turns n c → start.choices n ≡ r.choice (point_of turns c)) → Follows p k r start
