@@ -1,2 +1,4 @@
 pub mod RunEnds
 pub mod Agreements
+pub mod NoteLines
+pub mod EndingNames

@@ -3,4 +3,5 @@
 #![tactic(auto)]
 
 pub mod readings;
+pub mod reports;
 pub mod runs;

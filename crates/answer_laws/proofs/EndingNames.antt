@@ -1,0 +1,101 @@
+-- What a right report names can be written.
+use Rattle.std.proofs.Common.{◌≡◌, ℕ, zero, suc, ◌+◌, ◌<◌, ◌≤◌, ◌^◌, refl, ap, sym, ◌∙◌, subst, arith, Bool, true, false, List, Option, Some, None, length}
+use Rattle.std.specs.Prelude.{◌==◌, ◌++◌, nat_le, slice_index, codes}
+use Rattle.bilv_spec.specs.Run.{Program, Start, Run, Event, Going, Exited, Failed, Turned, Place, Step, Stops, Arrives, Exits, run, one_more, after_step, arrive, turn, step, in_memory, IsOver}
+use Rattle.bilv_spec.specs.Points.{HasMore}
+use Rattle.bilv_spec.specs.Verdict.{IsEntryState, IsStart}
+use Rattle.bilv_spec.specs.Questions.{by_file}
+use Rattle.bilv_spec.specs.PointLaws.{HasLawfulRows, ReadsMemory}
+use Rattle.bilv_spec.specs.Files.{IsProgram, layout_of, machine_of}
+use Rattle.bilv_spec.specs.StateText.{Layout, IsEvent, IsNamed}
+use Rattle.bilv_spec.specs.Reports.{NamedEnding, FailsBy, UnknownBy, named_line}
+use Rattle.bilv_spec.specs.Texts.{line}
+use Rattle.bilv_spec.specs.Answers.{Budget, Report, HoldsReport, VacuousReport, FailsReport, UnrollReport, PointsReport, SizeReport, ConflictsReport, Evidence, RunOf, IsRightReport, EndsAs, report_text, plain_answer}
+use Rattle.bilv_spec.specs.Replays.{text_limit, replay_answer}
+use Rattle.bilv_spec.specs.AnswerLaws.{named_of}
+use Rattle.bilv_spec.proofs.Over.{one_end}
+use Rattle.bilv_spec.proofs.PointRuns.{Stands, stands}
+use Rattle.bilv_spec.proofs.ReadingRuns.{Numbered, numbered}
+use Rattle.bilv_spec.proofs.FileWords.{runs_by_file}
+use Rattle.bilv_spec.proofs.ProgramRows.{program_rows_are_lawful}
+use Rattle.bilv_spec.proofs.Replayed.{report_replays}
+use Rattle.answer_laws.specs.Replayed.{AreBytes, IsReplayable}
+use Rattle.answer_laws.proofs.RunEnds.{few_points_end_runs}
+use Rattle.answer_laws.proofs.NoteLines.{HasFewLines, few_note_lines, IsFineStep, steps_are_fine}
+
+-- the end of a run after so many steps can be written, but for the size of its step's number, which is below theirs
+abbrev IsFine : ℕ → Run → Type 0
+IsFine n (Going turns m c) = Unit {0}
+IsFine n (Exited at m) = Unit {0}
+IsFine n (Failed e at m) = IsEvent e × (at < 2 ^ 32) × (m < n)
+IsFine n (Turned at m) = (at < 2 ^ 32) × (m < n)
+
+turned : (b : Bool) (n turns m at : ℕ) (c : Place) → m ≡ n → at < 2 ^ 32 → IsFine (suc n) (turn b turns m at c)
+turned true n turns m at c e l = (l, omega arith)
+turned false n turns m at c e l = tt
+
+arrived : (b : Bool) (n k turns m at : ℕ) (c : Place) → m ≡ n → at < 2 ^ 32 → IsFine (suc n) (arrive b k turns m at c)
+arrived false n k turns m at c e l = tt
+arrived true n k turns m at c e l = turned (turns == k) n turns m at c e l
+
+stepped : (n k turns m at : ℕ) (s : Step) → IsFineStep s → m ≡ n → at < 2 ^ 32 → IsFine (suc n) (after_step k turns m at s)
+stepped n k turns m at (Stops e) f h l = (f, l, omega arith)
+stepped n k turns m at (Exits s) f h l = tt
+stepped n k turns m at (Arrives c) f h l = arrived (nat_le c.state.pc at) n k turns m at c h l
+
+module _ (p : Program) (k : ℕ) (lawful : HasLawfulRows p) (few : HasFewLines p) (start : Start) where
+  by_few : HasFewLines (by_file p)
+  by_few = record { asserts = few.asserts; ensures = few.ensures }
+
+  more : (n : ℕ) (x : Run) → IsFine n x → Stands p k x → Numbered n x → IsFine (suc n) (one_more (by_file p) k start x)
+  more n (Going turns m c) h s e =
+      stepped n k turns m c.state.pc (step (by_file p) start.state c (start.choices m)) (steps_are_fine (by_file p) by_few start.state c (start.choices m)) e s.1.pc
+  more n (Exited at m) h s e = tt
+  more n (Failed v at m) h s e = (h.0, h.1, let l = h.2 in omega arith)
+  more n (Turned at m) h s e = (h.0, let l = h.1 in omega arith)
+
+  fine : IsEntryState p start.state → (n : ℕ) → IsFine n (run (by_file p) k start n)
+  unfolding run
+  fine is zero = tt
+  fine is (suc n) = more n (run (by_file p) k start n) (fine is n) (stands p k lawful start is.state is.pc n) (numbered (by_file p) k start n)
+
+  -- the end of a run can be written
+  pub end_is_fine : ReadsMemory p → IsEntryState p start.state → (max : ℕ) → ¬ HasMore p k max → (r : Run) → IsOver r → EndsAs p k start r → IsFine max r
+  end_is_fine memory is max enough r over ends =
+      let last = few_points_end_runs p lawful memory k start is max enough in
+      let same : run p k start max ≡ r = one_end p k start max ends.0 (run p k start max) r last over refl ends.1 in
+      subst (IsFine max) (sym (runs_by_file p lawful memory k start is max) ∙ same) (fine is max)
+
+reads_memory : (file text : List ℕ) (p : Program) → IsProgram file text p → ReadsMemory p
+reads_memory file text p is = subst ReadsMemory (sym is.4) (λ s a. refl)
+
+no_name : (n : NamedEnding) → ◌≡◌ {A = Option NamedEnding} None (Some n) → ⊥
+no_name n e = cc
+
+below_last : (m max : ℕ) → m < max → max ≤ 16777216 → m ≤ 16777215
+below_last m max l h = omega arith
+
+pub names_can_be_written : (file text : List ℕ) (p : Program) → AreBytes file → IsProgram file text p → (layout : Layout) (b : Budget) → IsReplayable b →
+    (r : Report) (e : Evidence) (n : NamedEnding) → IsRightReport p layout b r e → named_of b r ≡ Some n → IsNamed n
+names_can_be_written file text p bytes is layout b small HoldsReport e n a f = absurd (no_name n f)
+names_can_be_written file text p bytes is layout b small VacuousReport e n a f = absurd (no_name n f)
+names_can_be_written file text p bytes is layout b small PointsReport e n a f = absurd (no_name n f)
+names_can_be_written file text p bytes is layout b small SizeReport e n a f = absurd (no_name n f)
+names_can_be_written file text p bytes is layout b small ConflictsReport e n a f = absurd (no_name n f)
+names_can_be_written file text p bytes is layout b small (FailsReport event at j) (RunOf w) n a f =
+    let same : FailsBy event at j ≡ n = cc in
+    let end = end_is_fine p b.unroll (program_rows_are_lawful file text p bytes is) (few_note_lines file text p is) _ (reads_memory file text p is) a.3.entry b.points a.0.points (Failed event at j) tt a.4 in
+    subst IsNamed same (end.0, end.1, below_last j b.points end.2 small.1)
+names_can_be_written file text p bytes is layout b small (FailsReport event at j) other n a f = absurd a
+names_can_be_written file text p bytes is layout b small (UnrollReport at j) (RunOf w) n a f =
+    let same : UnknownBy b.unroll at j ≡ n = cc in
+    let end = end_is_fine p b.unroll (program_rows_are_lawful file text p bytes is) (few_note_lines file text p is) _ (reads_memory file text p is) a.3.entry b.points a.0.points (Turned at j) tt a.4 in
+    subst IsNamed same (small.0, end.0, below_last j b.points end.1 small.1)
+names_can_be_written file text p bytes is layout b small (UnrollReport at j) other n a f = absurd a
+
+pub right_report_replays : (file text : List ℕ) (p : Program) → AreBytes file → IsProgram file text p → (b : Budget) → IsReplayable b →
+    (r : Report) (e : Evidence) (n : NamedEnding) → IsRightReport p (layout_of file) b r e → named_of b r ≡ Some n →
+    length (report_text (layout_of file) b r e) ≤ text_limit →
+    replay_answer p (layout_of file) (report_text (layout_of file) b r e) ≡ plain_answer 0 (line (codes "replayed " ++ named_line n))
+right_report_replays file text p bytes is b small r e n right name room =
+    report_replays file p b r e n right name (names_can_be_written file text p bytes is (layout_of file) b small r e n right name) room

@@ -1,0 +1,158 @@
+-- The lines that events name are lines of the notes, whose numbers are small.
+use Rattle.std.proofs.Common.{◌≡◌, ℕ, zero, suc, ◌+◌, ◌<◌, ◌≤◌, ◌^◌, refl, ap, sym, ◌∙◌, subst, arith, Bool, true, false, List, [], ◌∷◌, Option, Some, None, length}
+use Rattle.std.specs.Prelude.{◌==◌, ◌&&◌, not, if◌then◌else◌}
+use Rattle.bilv_spec.specs.Memory.{Endian}
+use Rattle.bilv_spec.specs.State.{State}
+use Rattle.bilv_spec.specs.Machine.{Row, How, On, Direct, DirectCall, Indirect, IndirectCall, Exception, EnvironmentCall, Breakpoint, SoftwareInterrupt, OddHalfword, UnalignedLoad, Outcome, Goes, Raises}
+use Rattle.bilv_spec.specs.Notes.{Expr, NoteLine, Assert, Notes, value, is_true}
+use Rattle.bilv_spec.specs.NotesGrammar.{Says, Nothing, EntryIs, RequireIs, EnsureIs, AssertIs, TargetsAre, FixedIs, AreLines, lines_of, ensures_of, asserts_of}
+use Rattle.bilv_spec.specs.Files.{IsProgram, names_of, program_of}
+use Rattle.bilv_spec.specs.StateText.{IsEvent}
+use Rattle.bilv_spec.specs.Run.{Program, Place, Step, Stops, Arrives, Exits, false_assert, false_line, step, after_asserts, by_fetch, by_row, after_row, exception_event, going_on, aligned_transfer, transfer, leave, exit_or, exit_by, return_or, allowed, exit}
+
+-- the numbers of lines are small
+abbrev AreFewAsserts : List Assert → Type 0
+AreFewAsserts [] = Unit {0}
+AreFewAsserts (a ∷ rest) = (a.line < 2 ^ 64) × AreFewAsserts rest
+
+abbrev AreFewLines : List NoteLine → Type 0
+AreFewLines [] = Unit {0}
+AreFewLines (l ∷ rest) = (l.line < 2 ^ 64) × AreFewLines rest
+
+pub record HasFewLines (p : Program) : Type 0 where
+  pub asserts : AreFewAsserts p.notes.asserts
+  pub ensures : AreFewLines p.notes.ensures
+
+few_asserts : (n : ℕ) (says : List Says) → n + length says ≤ 8192 → AreFewAsserts (asserts_of n says)
+few_asserts n [] h = tt
+few_asserts n (Nothing ∷ says) h = few_asserts (n + 1) says (omega arith)
+few_asserts n (EntryIs e ∷ says) h = few_asserts (n + 1) says (omega arith)
+few_asserts n (RequireIs e ∷ says) h = few_asserts (n + 1) says (omega arith)
+few_asserts n (EnsureIs e ∷ says) h = few_asserts (n + 1) says (omega arith)
+few_asserts n (AssertIs a e ∷ says) h = (omega arith, few_asserts (n + 1) says (omega arith))
+few_asserts n (TargetsAre a to ∷ says) h = few_asserts (n + 1) says (omega arith)
+few_asserts n (FixedIs low high ∷ says) h = few_asserts (n + 1) says (omega arith)
+
+few_lines : (n : ℕ) (says : List Says) → n + length says ≤ 8192 → AreFewLines (ensures_of n says)
+few_lines n [] h = tt
+few_lines n (Nothing ∷ says) h = few_lines (n + 1) says (omega arith)
+few_lines n (EntryIs e ∷ says) h = few_lines (n + 1) says (omega arith)
+few_lines n (RequireIs e ∷ says) h = few_lines (n + 1) says (omega arith)
+few_lines n (EnsureIs e ∷ says) h = (omega arith, few_lines (n + 1) says (omega arith))
+few_lines n (AssertIs a e ∷ says) h = few_lines (n + 1) says (omega arith)
+few_lines n (TargetsAre a to ∷ says) h = few_lines (n + 1) says (omega arith)
+few_lines n (FixedIs low high ∷ says) h = few_lines (n + 1) says (omega arith)
+
+as_many : (names : List ℕ → Option Expr) (texts : List (List ℕ)) (says : List Says) → AreLines names texts says → length says ≡ length texts
+as_many names [] [] lines = refl
+as_many names [] (s ∷ says) lines = absurd lines
+as_many names (t ∷ texts) [] lines = absurd lines
+as_many names (t ∷ texts) (s ∷ says) lines = ap suc (as_many names texts says lines.1)
+
+pub few_note_lines : (file text : List ℕ) (p : Program) → IsProgram file text p → HasFewLines p
+few_note_lines file text p is =
+    let text_is = is.2 in
+    let count = as_many (names_of file) (lines_of text) text_is.says text_is.lines in
+    let short = text_is.short in
+    let few : 1 + length text_is.says ≤ 8192 = omega arith in
+    subst HasFewLines (sym is.4) (record {
+      asserts = subst AreFewAsserts text_is.notes_are.3 (few_asserts 1 text_is.says few);
+      ensures = subst AreFewLines text_is.notes_are.2 (few_lines 1 text_is.says few);
+    })
+
+some_line : (b : Bool) (o : Option ℕ) (n l : ℕ) → n < 2 ^ 64 → (o ≡ Some l → l < 2 ^ 64) → (if b then o else Some n) ≡ Some l → l < 2 ^ 64
+some_line true o n l h f e = f e
+some_line false o n l h f e = let same : n ≡ l = cc in omega arith
+
+other_line : (b : Bool) (o : Option ℕ) (n l : ℕ) → n < 2 ^ 64 → (o ≡ Some l → l < 2 ^ 64) → (if b then Some n else o) ≡ Some l → l < 2 ^ 64
+other_line true o n l h f e = let same : n ≡ l = cc in omega arith
+other_line false o n l h f e = f e
+
+line_is_few : (e : Endian) (lines : List NoteLine) (now entry : State) (l : ℕ) → AreFewLines lines → false_line e lines now entry ≡ Some l → l < 2 ^ 64
+line_is_few e [] now entry l few is = absurd (cc)
+line_is_few e (x ∷ rest) now entry l few is =
+    some_line (is_true (value e x.says now entry)) (false_line e rest now entry) x.line l few.0 (λ i. line_is_few e rest now entry l few.1 i) is
+
+assert_is_few : (e : Endian) (asserts : List Assert) (now entry : State) (l : ℕ) → AreFewAsserts asserts → false_assert e asserts now entry ≡ Some l → l < 2 ^ 64
+assert_is_few e [] now entry l few is = absurd (cc)
+assert_is_few e (a ∷ rest) now entry l few is =
+    other_line ((a.at == now.pc) && not (is_true (value e a.says now entry))) (false_assert e rest now entry) a.line l few.0
+    (λ i. assert_is_few e rest now entry l few.1 i) is
+
+-- the event of a step can be written
+abbrev pub IsFineStep : Step → Type 0
+IsFineStep (Stops e) = IsEvent e
+IsFineStep (Arrives c) = Unit {0}
+IsFineStep (Exits s) = Unit {0}
+
+raised : (w : Bool) (e : Exception) → IsEvent (exception_event w e)
+raised true EnvironmentCall = tt
+raised true Breakpoint = tt
+raised true SoftwareInterrupt = tt
+raised true OddHalfword = tt
+raised true UnalignedLoad = tt
+raised false EnvironmentCall = tt
+raised false Breakpoint = tt
+raised false SoftwareInterrupt = tt
+raised false OddHalfword = tt
+raised false UnalignedLoad = tt
+
+may_go : (b : Bool) (c : Place) → IsFineStep (allowed b c)
+may_go true c = tt
+may_go false c = tt
+
+module _ (p : Program) (few : HasFewLines p) (entry : State) where
+  judged : (o : Option ℕ) (s : State) → ((l : ℕ) → o ≡ Some l → l < 2 ^ 64) → IsFineStep (exit_by o s)
+  judged None s h = tt
+  judged (Some l) s h = h l refl
+
+  exits : (new : State) → IsFineStep (exit p entry new)
+  exits new = judged (false_line p.machine.endian p.notes.ensures new entry) new (λ l. line_is_few p.machine.endian p.notes.ensures new entry l few.ensures)
+
+  left : (b c : Bool) (old new : State) → IsFineStep (exit_or b p entry new c)
+  left true c old new = exits new
+  left false c old new = may_go c (record { state = new; stack = [] })
+
+  returned : (b c : Bool) (top : ℕ) (below : List ℕ) (new : State) → IsFineStep (return_or b top below new c)
+  returned true c top below new = tt
+  returned false c top below new = may_go c (record { state = new; stack = top ∷ below })
+
+  leaves : (row : Row) (old : State) (stack : List ℕ) (new : State) → IsFineStep (leave p entry row old stack new)
+  leaves row old [] new = left _ _ old new
+  leaves row old (top ∷ below) new = returned _ _ top below new
+
+  goes : (row : Row) (old : State) (stack : List ℕ) (how : How) (new : State) → IsFineStep (transfer p entry row old stack how new)
+  goes row old stack On new = tt
+  goes row old stack Direct new = tt
+  goes row old stack DirectCall new = tt
+  goes row old stack Indirect new = leaves row old stack new
+  goes row old stack IndirectCall new = may_go _ _
+
+  aligned : (b : Bool) (row : Row) (old : State) (stack : List ℕ) (how : How) (new : State) → IsFineStep (aligned_transfer b p entry row old stack how new)
+  aligned true row old stack how new = goes row old stack how new
+  aligned false row old stack how new = tt
+
+  on : (w : Bool) (row : Row) (old : State) (stack : List ℕ) (how : How) (new : State) → IsFineStep (going_on w p entry row old stack how new)
+  on true row old stack how new = tt
+  on false row old stack how new = aligned _ row old stack how new
+
+  behind : (row : Row) (old : State) (stack : List ℕ) (w : Bool) (o : Outcome) → IsFineStep (after_row p entry row old stack w o)
+  behind row old stack w (Raises e) = raised w e
+  behind row old stack w (Goes how new) = on w row old stack how new
+
+  by : (c : Place) (choice : ℕ) (o : Option Row) → IsFineStep (by_row p entry c choice o)
+  by c choice None = tt
+  by c choice (Some row) = behind row c.state c.stack _ (row.effect c.state choice)
+
+  fetched : (b : Bool) (c : Place) (choice : ℕ) → IsFineStep (by_fetch b p entry c choice)
+  fetched true c choice = by c choice (p.machine.row (p.word c.state c.state.pc))
+  fetched false c choice = tt
+
+  asserted : (o : Option ℕ) (c : Place) (choice : ℕ) → ((l : ℕ) → o ≡ Some l → l < 2 ^ 64) → IsFineStep (after_asserts o p entry c choice)
+  asserted (Some l) c choice h = h l refl
+  asserted None c choice h = fetched _ c choice
+
+  pub steps_are_fine : (c : Place) (choice : ℕ) → IsFineStep (step p entry c choice)
+  steps_are_fine c choice =
+      asserted (false_assert p.machine.endian p.notes.asserts c.state entry) c choice
+      (λ l. assert_is_few p.machine.endian p.notes.asserts c.state entry l few.asserts)
