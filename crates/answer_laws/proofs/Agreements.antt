@@ -1,10 +1,9 @@
 -- Memory that agrees with the file on all known bytes, and starts that take a reading's choices.
-use Rattle.std.proofs.Common.{◌≡◌, ℕ, zero, suc, ◌<◌, ◌^◌, refl, ap, sym, ◌∙◌, subst, Bool, true, false, Option, Some}
+use Rattle.std.proofs.Common.{◌≡◌, ℕ, zero, suc, refl, ap, sym, ◌∙◌, subst, Bool, true, false, Some}
 use Rattle.std.specs.Prelude.{◌||◌, ◌&&◌, is_some}
-use Rattle.bilv_spec.specs.State.{State}
 use Rattle.bilv_spec.specs.Elf.{Cell, kept}
 use Rattle.bilv_spec.specs.Run.{Program, Start, Run, Going, Exited, Failed, Turned, Place, run, one_more, is_kept}
-use Rattle.bilv_spec.specs.Verdict.{IsEntryState, fixed}
+use Rattle.bilv_spec.specs.Verdict.{fixed}
 use Rattle.bilv_spec.specs.Points.{is_known_at}
 use Rattle.bilv_spec.specs.Questions.{Reading, Question, IsTrue, IsTrueOver, by_file, point_of, read_run, read_on}
 use Rattle.bilv_spec.specs.QuestionLaws.{Follows}
@@ -43,7 +42,7 @@ agreement_is_enough p asked k r question agrees t = record {
 }
 
 module _ (p : Program) (k : ℕ) (r : Reading) (start : Start) (same : start.state ≡ r.state)
-  (choices : (n turns : ℕ) (c : Place) → read_run p k r n ≡ Going turns n c → start.choices n ≡ r.choice (point_of turns c)) where
+    (choices : (n turns : ℕ) (c : Place) → read_run p k r n ≡ Going turns n c → start.choices n ≡ r.choice (point_of turns c)) where
   same_step : (n : ℕ) (x : Run) → Numbered n x → read_run p k r n ≡ x → one_more (by_file p) k start x ≡ read_on p k r x
   same_step n (Going turns m c) h e =
       let at : read_run p k r m ≡ Going turns m c = ap (read_run p k r) h ∙ e in rw (same, choices m turns c at) refl

@@ -1,12 +1,12 @@
 -- What a right report names can be written.
-use Rattle.std.proofs.Common.{◌≡◌, ℕ, zero, suc, ◌+◌, ◌<◌, ◌≤◌, ◌^◌, refl, ap, sym, ◌∙◌, subst, arith, Bool, true, false, List, Option, Some, None, length}
-use Rattle.std.specs.Prelude.{◌==◌, ◌++◌, nat_le, slice_index, codes}
-use Rattle.bilv_spec.specs.Run.{Program, Start, Run, Event, Going, Exited, Failed, Turned, Place, Step, Stops, Arrives, Exits, run, one_more, after_step, arrive, turn, step, in_memory, IsOver}
+use Rattle.std.proofs.Common.{◌≡◌, ℕ, zero, suc, ◌<◌, ◌≤◌, ◌^◌, refl, sym, ◌∙◌, subst, arith, Bool, true, false, List, Option, Some, None, length}
+use Rattle.std.specs.Prelude.{◌==◌, ◌++◌, nat_le, codes}
+use Rattle.bilv_spec.specs.Run.{Program, Start, Run, Going, Exited, Failed, Turned, Place, Step, Stops, Arrives, Exits, run, one_more, after_step, arrive, turn, step, IsOver}
 use Rattle.bilv_spec.specs.Points.{HasMore}
-use Rattle.bilv_spec.specs.Verdict.{IsEntryState, IsStart}
+use Rattle.bilv_spec.specs.Verdict.{IsEntryState}
 use Rattle.bilv_spec.specs.Questions.{by_file}
 use Rattle.bilv_spec.specs.PointLaws.{HasLawfulRows, ReadsMemory}
-use Rattle.bilv_spec.specs.Files.{IsProgram, layout_of, machine_of}
+use Rattle.bilv_spec.specs.Files.{IsProgram, layout_of}
 use Rattle.bilv_spec.specs.StateText.{Layout, IsEvent, IsNamed}
 use Rattle.bilv_spec.specs.Reports.{NamedEnding, FailsBy, UnknownBy, named_line}
 use Rattle.bilv_spec.specs.Texts.{line}

@@ -1,6 +1,6 @@
 -- A run that goes on has met as many points as it made steps, each once.
 use Rattle.std.proofs.Common.{◌≡◌, ◌⊎◌, inl, inr, ℕ, zero, suc, ◌+◌, ◌-◌, ◌<◌, ◌≤◌, refl, ap, sym, ◌∙◌, subst, arith, List, [], ◌∷◌, length, Some}
-use Rattle.std.specs.Prelude.{Contains, slice_get}
+use Rattle.std.specs.Prelude.{Contains}
 use Rattle.bilv_spec.specs.Run.{Program, Start, Run, Going, Exited, Failed, Turned, Place, run, one_more, IsOver}
 use Rattle.bilv_spec.specs.Points.{Point, IsPoint, ArePoints, HasMore}
 use Rattle.bilv_spec.specs.Verdict.{IsEntryState}
@@ -10,7 +10,7 @@ use Rattle.bilv_spec.specs.Answers.{EndsAs}
 use Rattle.bilv_spec.specs.PointLaws.{HasLawfulRows, ReadsMemory, ComesBefore}
 use Rattle.bilv_spec.proofs.Pigeons.{Once, at_in}
 use Rattle.bilv_spec.proofs.AllPoints.{no_more_points}
-use Rattle.bilv_spec.proofs.PointOrder.{before_trans, Later, Between, one_later}
+use Rattle.bilv_spec.proofs.PointOrder.{before_trans, Between, one_later}
 use Rattle.bilv_spec.proofs.PointRuns.{Stands, stands}
 use Rattle.bilv_spec.proofs.FileWords.{runs_by_file}
 
@@ -68,8 +68,7 @@ module _ (p : Program) (k : ℕ) where
   -- a run that goes on after so many steps has met more points than that
   has_more : (n turns m : ℕ) (c : Place) → Met n turns m c → IsPoint p k (point_of turns c) → HasMore p k n
   has_more n turns m c h is =
-      let l : n < length (point_of turns c ∷ h.list) = let e = h.count in omega arith in
-      (
+      let l : n < length (point_of turns c ∷ h.list) = let e = h.count in omega arith in (
         point_of turns c ∷ h.list,
         l,
         (λ q i. elim (head_or_tail (point_of turns c) h.list q i) [ inl e ↦ subst (IsPoint p k) e is | inr t ↦ h.points q t ]),
@@ -123,8 +122,7 @@ pub few_points_are_found : (p : Program) → HasLawfulRows p → ReadsMemory p �
     (max : ℕ) → 1 ≤ max → ¬ HasMore p k max → (r : Run) × IsOver r × EndsAs p k start r × (found p (Some k) start (max - 1) ≡ found_going r)
 few_points_are_found p lawful memory k start is max some few =
     let over = few_points_end_runs p lawful memory k start is max few in
-    let last : max - 1 + 1 ≡ max = omega arith in
-    (
+    let last : max - 1 + 1 ≡ max = omega arith in (
       run p k start max,
       over,
       (max, refl),

@@ -1,3 +1,4 @@
 pub mod RunEnds
 pub mod Readings
 pub mod Replayed
+pub mod Completeness

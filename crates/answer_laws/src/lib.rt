@@ -5,3 +5,4 @@
 pub mod readings;
 pub mod reports;
 pub mod runs;
+pub mod verify;

@@ -1,0 +1,223 @@
+-- A verification's answer is the report of what the program comes to, and there is one such answer but for the run that it shows.
+use Rattle.std.proofs.Common.{◌≡◌, ◌≢◌, ℕ, ◌<◌, ◌≤◌, refl, ap, sym, ◌∙◌, subst, arith, List, Some}
+use Rattle.bilv_spec.specs.Outside.{Held, Bytes, Agrees, Rose, Appends}
+use Rattle.bilv_spec.specs.Run.{Program, Event, Run, Failed, Turned, IsOver}
+use Rattle.bilv_spec.specs.Verdict.{Holds, Vacuous, Fails, Unroll}
+use Rattle.bilv_spec.specs.Points.{IsPrice}
+use Rattle.bilv_spec.specs.StateText.{Layout, Written}
+use Rattle.bilv_spec.specs.Files.{layout_of}
+use Rattle.bilv_spec.specs.Answers.{Budget, Report, HoldsReport, VacuousReport, FailsReport, UnrollReport, PointsReport, SizeReport, ConflictsReport, Evidence, Refutations, EntryRefuted, RunOf, SpentOn, Count, IsRightReport, EndsAs, start_in, Answer, plain_answer, report_answer, IsReported}
+use Rattle.bilv_spec.specs.Verified.{IsAccepted, IsFound, AfterImage, elf_refused, elf_accepted, AfterNotes, notes_refused, program_found}
+use Rattle.bilv_spec.specs.Outcomes.{Surroundings, Verify, AfterRead, read_failed, was_read, IsOutcome, whole, cut, no_memory}
+use Rattle.bilv_spec.proofs.AllPoints.{one_price}
+use Rattle.bilv_spec.proofs.One.{one_verdict}
+use Rattle.bilv_spec.proofs.Over.{one_end}
+use Rattle.answer_laws.specs.Completeness.{Finding, TooManyPoints, TooLarge, HasVerdict, ComesTo, Says, IsSpentEvidence, ShowsRun, Answers, elf_is_refused, notes_are_refused, is_reported, AreTold, AreSameButRun}
+use Rattle.answer_laws.proofs.OneProgram.{one_program, one_elf_refusal, refused_or_accepted, one_notes_refusal, refused_or_found}
+
+-- two prices of a program are one, so that it can't be both within the size and above it
+one_above : (p : Program) (k n m size : ℕ) → IsPrice p k n → IsPrice p k m → n ≤ size → size < m → ⊥
+one_above p k n m size x y a b = let e = one_price p k n m x y in omega arith
+
+pub one_finding : (p : Program) (b : Budget) (f g : Finding) → ComesTo p b f → ComesTo p b g → f ≡ g
+one_finding p b TooManyPoints TooManyPoints x y = refl
+one_finding p b TooManyPoints (TooLarge m) x y = absurd (y.0 x)
+one_finding p b TooManyPoints (HasVerdict w) x y = absurd (y.0.points x)
+one_finding p b (TooLarge n) TooManyPoints x y = absurd (x.0 y)
+one_finding p b (TooLarge n) (TooLarge m) x y = ap TooLarge (one_price p b.unroll n m x.1 y.1)
+one_finding p b (TooLarge n) (HasVerdict w) x y = absurd (one_above p b.unroll y.0.price n b.size y.0.is_price x.1 y.0.size x.2)
+one_finding p b (HasVerdict v) TooManyPoints x y = absurd (x.0.points y)
+one_finding p b (HasVerdict v) (TooLarge m) x y = absurd (one_above p b.unroll x.0.price m b.size x.0.is_price y.1 x.0.size y.2)
+one_finding p b (HasVerdict v) (HasVerdict w) x y = ap HasVerdict (one_verdict p b.unroll v w x.1 y.1)
+
+-- a right report without spent conflicts says what its program comes to
+finding_of : (p : Program) (layout : Layout) (b : Budget) (r : Report) (e : Evidence) → (¬ IsSpentEvidence e) → IsRightReport p layout b r e →
+    (f : Finding) × ComesTo p b f × Says r f
+finding_of p layout b PointsReport (Count n) s a = (TooManyPoints, a.0, tt)
+finding_of p layout b PointsReport other s a = absurd a
+finding_of p layout b SizeReport (Count n) s a = (TooLarge n, (a.0, a.1, a.2), tt)
+finding_of p layout b SizeReport other s a = absurd a
+finding_of p layout b ConflictsReport (SpentOn kind proof) s a = absurd (s tt)
+finding_of p layout b ConflictsReport other s a = absurd a
+finding_of p layout b HoldsReport (Refutations w fail turn) s a = (HasVerdict Holds, (a.0, a.1), tt)
+finding_of p layout b HoldsReport other s a = absurd a
+finding_of p layout b VacuousReport (EntryRefuted proof) s a = (HasVerdict Vacuous, (a.0, a.1), tt)
+finding_of p layout b VacuousReport other s a = absurd a
+finding_of p layout b (FailsReport event at step) (RunOf w) s a = (HasVerdict Fails, (a.0, a.1), tt)
+finding_of p layout b (FailsReport event at step) other s a = absurd a
+finding_of p layout b (UnrollReport at step) (RunOf w) s a = (HasVerdict Unroll, (a.0, a.1), tt)
+finding_of p layout b (UnrollReport at step) other s a = absurd a
+
+reported : (file text : List ℕ) (b : Budget) (a : Answer) (p : Program) → (¬ IsSpentEvidence a.evidence) → IsFound file text p → IsReported p (layout_of file) b a →
+    Answers file text b a
+reported file text b a p unspent found (r, e, right, is) =
+    let f = finding_of p (layout_of file) b r e (λ s. unspent (subst (λ (x : Answer). IsSpentEvidence x.evidence) (sym is) s)) right in
+    is_reported p f.0 r e found f.1 f.2 right is
+
+by_notes : (file text : List ℕ) (b : Budget) (a : Answer) → (¬ IsSpentEvidence a.evidence) → IsAccepted file → AfterNotes file text (λ p. IsReported p (layout_of file) b) a → Answers file text b a
+by_notes file text b a unspent accepted (notes_refused written h is) = notes_are_refused written accepted h is
+by_notes file text b a unspent accepted (program_found p found next) = reported file text b a p unspent found next
+
+read_calm : {Next : List ℕ → Answer → Type 0} {a : Answer} (s : Surroundings) (name file : List ℕ) → s.held name ≡ Bytes file →
+    (¬ Rose (s.shelf_before name) (s.shelf_after name)) → AfterRead s name Next a → Next file a
+read_calm {Next} {a} s name file held calm (read_failed rose is) = absurd (calm rose)
+read_calm {Next} {a} s name file held calm (was_read bytes agrees next) =
+    let is : bytes ≡ file = subst (λ (h : Held). Agrees h bytes) held agrees in subst (λ (x : List ℕ). Next x a) is next
+
+by_image : (s : Surroundings) (elf notes file text : List ℕ) (b : Budget) (a : Answer) → AreTold s elf notes file text → (¬ IsSpentEvidence a.evidence) →
+    AfterImage file (AfterRead s notes (λ text. AfterNotes file text (λ p. IsReported p (layout_of file) b))) a → Answers file text b a
+by_image s elf notes file text b a told unspent (elf_refused written h is) = elf_is_refused written h is
+by_image s elf notes file text b a told unspent (elf_accepted accepted next) =
+    by_notes file text b a unspent accepted (read_calm s notes text told.notes_held told.notes_calm next)
+
+pub verify_is_complete : (s : Surroundings) (elf notes file text : List ℕ) (b : Budget) (status : ℕ) (shown : Evidence) → AreTold s elf notes file text →
+    (status ≡ 7 → ¬ Rose s.sink_before s.sink_after) → status ≢ 8 → (¬ IsSpentEvidence shown) → IsOutcome s (Some (Verify elf notes b)) status shown →
+    (a : Answer) × Answers file text b a × (status ≡ a.status) × (shown ≡ a.evidence) × Appends s.text_before a.text s.text_after
+verify_is_complete s elf notes file text b status shown told calm memory unspent (whole a due appends e d) = (
+  a,
+  by_image s elf notes file text b a told (λ h. unspent (subst IsSpentEvidence (sym d) h)) (read_calm s elf file told.elf_held told.elf_calm due),
+  e,
+  d,
+  appends,
+)
+verify_is_complete s elf notes file text b status shown told calm memory unspent (cut a n due l appends rose e d) = absurd (calm e rose)
+verify_is_complete s elf notes file text b status shown told calm memory unspent (no_memory appends e d) = absurd (memory e)
+
+-- equal answers
+same_answer : (a c : Answer) → a ≡ c → AreSameButRun a c
+same_answer a c e = record {
+  status = ap (λ x. x.status) e;
+  shows = (λ h. subst (λ (x : Answer). ShowsRun x.evidence) e h, λ h. subst (λ (x : Answer). ShowsRun x.evidence) (sym e) h);
+  text = λ none. ap (λ x. x.text) e;
+  whole = λ d. e;
+}
+
+-- two reports of one finding
+module _ (p : Program) (layout : Layout) (b : Budget) where
+  abbrev Same : (r : Report) (e : Evidence) (t : Report) (d : Evidence) → Type 0
+  Same r e t d = AreSameButRun (report_answer layout b r e) (report_answer layout b t d)
+
+  run_end : (w : Written) (x y : Run) → EndsAs p b.unroll (start_in p layout w) x → EndsAs p b.unroll (start_in p layout w) y → IsOver x → IsOver y → x ≡ y
+  run_end w x y i j over_x over_y = one_end p b.unroll (start_in p layout w) i.0 j.0 x y over_x over_y i.1 j.1
+
+  by_fails : (event other : Event) (at step at' step' : ℕ) (w v : Written) → EndsAs p b.unroll (start_in p layout w) (Failed event at step) →
+      EndsAs p b.unroll (start_in p layout v) (Failed other at' step') → Same (FailsReport event at step) (RunOf w) (FailsReport other at' step') (RunOf v)
+  by_fails event other at step at' step' w v x y = record {
+    status = refl;
+    shows = (λ h. h, λ h. h);
+    text = λ none. absurd (none tt);
+    whole = λ e.
+        let same : w ≡ v = cc in
+        let ends : Failed event at step ≡ Failed other at' step' =
+        run_end v (Failed event at step) (Failed other at' step') (subst (λ (z : Written). EndsAs p b.unroll (start_in p layout z) (Failed event at step)) same x) y tt tt in
+        let first : event ≡ other = cc in
+        let second : at ≡ at' = cc in
+        let third : step ≡ step' = cc in
+        ap (λ z. report_answer layout b (FailsReport z at step) (RunOf w)) first ∙ ap (λ z. report_answer layout b (FailsReport other z step) (RunOf w)) second
+        ∙ ap (λ z. report_answer layout b (FailsReport other at' z) (RunOf w)) third ∙ ap (λ z. report_answer layout b (FailsReport other at' step') (RunOf z)) same;
+  }
+
+  by_turns : (at step at' step' : ℕ) (w v : Written) → EndsAs p b.unroll (start_in p layout w) (Turned at step) →
+      EndsAs p b.unroll (start_in p layout v) (Turned at' step') → Same (UnrollReport at step) (RunOf w) (UnrollReport at' step') (RunOf v)
+  by_turns at step at' step' w v x y = record {
+    status = refl;
+    shows = (λ h. h, λ h. h);
+    text = λ none. absurd (none tt);
+    whole = λ e.
+        let same : w ≡ v = cc in
+        let ends : Turned at step ≡ Turned at' step' =
+        run_end v (Turned at step) (Turned at' step') (subst (λ (z : Written). EndsAs p b.unroll (start_in p layout z) (Turned at step)) same x) y tt tt in
+        let second : at ≡ at' = cc in
+        let third : step ≡ step' = cc in
+        ap (λ z. report_answer layout b (UnrollReport z step) (RunOf w)) second ∙ ap (λ z. report_answer layout b (UnrollReport at' z) (RunOf w)) third
+        ∙ ap (λ z. report_answer layout b (UnrollReport at' step') (RunOf z)) same;
+  }
+
+  by_points : (r t : Report) (e d : Evidence) → Says r TooManyPoints → Says t TooManyPoints → IsRightReport p layout b r e → IsRightReport p layout b t d → Same r e t d
+  by_points PointsReport PointsReport (Count n) (Count m) s u x y =
+      let same : n ≡ m = x.1 ∙ sym y.1 in
+      same_answer (report_answer layout b PointsReport (Count n)) (report_answer layout b PointsReport (Count m)) (ap (λ z. report_answer layout b PointsReport (Count z)) same)
+  by_points PointsReport PointsReport (Count n) d s u x y = absurd y
+  by_points PointsReport PointsReport e d s u x y = absurd x
+  by_points PointsReport t e d s u x y = absurd u
+  by_points r t e d s u x y = absurd s
+
+  by_size : (price : ℕ) (r t : Report) (e d : Evidence) → Says r (TooLarge price) → Says t (TooLarge price) → IsRightReport p layout b r e → IsRightReport p layout b t d →
+      Same r e t d
+  by_size price SizeReport SizeReport (Count n) (Count m) s u x y =
+      let same : n ≡ m = one_price p b.unroll n m x.1 y.1 in
+      same_answer (report_answer layout b SizeReport (Count n)) (report_answer layout b SizeReport (Count m)) (ap (λ z. report_answer layout b SizeReport (Count z)) same)
+  by_size price SizeReport SizeReport (Count n) d s u x y = absurd y
+  by_size price SizeReport SizeReport e d s u x y = absurd x
+  by_size price SizeReport t e d s u x y = absurd u
+  by_size price r t e d s u x y = absurd s
+
+  by_holds : (r t : Report) (e d : Evidence) → Says r (HasVerdict Holds) → Says t (HasVerdict Holds) → IsRightReport p layout b r e → IsRightReport p layout b t d → Same r e t d
+  by_holds HoldsReport HoldsReport (Refutations w fail turn) (Refutations v left over) s u x y = record {
+    status = refl;
+    shows = (λ h. h, λ h. h);
+    text = λ none. refl;
+    whole = λ e. ap (λ z. report_answer layout b HoldsReport z) e;
+  }
+  by_holds HoldsReport HoldsReport (Refutations w fail turn) d s u x y = absurd y
+  by_holds HoldsReport HoldsReport e d s u x y = absurd x
+  by_holds HoldsReport t e d s u x y = absurd u
+  by_holds r t e d s u x y = absurd s
+
+  by_vacuous : (r t : Report) (e d : Evidence) → Says r (HasVerdict Vacuous) → Says t (HasVerdict Vacuous) → IsRightReport p layout b r e → IsRightReport p layout b t d → Same r e t d
+  by_vacuous VacuousReport VacuousReport (EntryRefuted proof) (EntryRefuted other) s u x y = record {
+    status = refl;
+    shows = (λ h. h, λ h. h);
+    text = λ none. refl;
+    whole = λ e. ap (λ z. report_answer layout b VacuousReport z) e;
+  }
+  by_vacuous VacuousReport VacuousReport (EntryRefuted proof) d s u x y = absurd y
+  by_vacuous VacuousReport VacuousReport e d s u x y = absurd x
+  by_vacuous VacuousReport t e d s u x y = absurd u
+  by_vacuous r t e d s u x y = absurd s
+
+  by_failing : (r t : Report) (e d : Evidence) → Says r (HasVerdict Fails) → Says t (HasVerdict Fails) → IsRightReport p layout b r e → IsRightReport p layout b t d → Same r e t d
+  by_failing (FailsReport event at step) (FailsReport other at' step') (RunOf w) (RunOf v) s u x y = by_fails event other at step at' step' w v x.4 y.4
+  by_failing (FailsReport event at step) (FailsReport other at' step') (RunOf w) d s u x y = absurd y
+  by_failing (FailsReport event at step) (FailsReport other at' step') e d s u x y = absurd x
+  by_failing (FailsReport event at step) t e d s u x y = absurd u
+  by_failing r t e d s u x y = absurd s
+
+  by_turning : (r t : Report) (e d : Evidence) → Says r (HasVerdict Unroll) → Says t (HasVerdict Unroll) → IsRightReport p layout b r e → IsRightReport p layout b t d → Same r e t d
+  by_turning (UnrollReport at step) (UnrollReport at' step') (RunOf w) (RunOf v) s u x y = by_turns at step at' step' w v x.4 y.4
+  by_turning (UnrollReport at step) (UnrollReport at' step') (RunOf w) d s u x y = absurd y
+  by_turning (UnrollReport at step) (UnrollReport at' step') e d s u x y = absurd x
+  by_turning (UnrollReport at step) t e d s u x y = absurd u
+  by_turning r t e d s u x y = absurd s
+
+  pub one_report : (f : Finding) (r t : Report) (e d : Evidence) → Says r f → Says t f → IsRightReport p layout b r e → IsRightReport p layout b t d → Same r e t d
+  one_report TooManyPoints r t e d s u x y = by_points r t e d s u x y
+  one_report (TooLarge price) r t e d s u x y = by_size price r t e d s u x y
+  one_report (HasVerdict Holds) r t e d s u x y = by_holds r t e d s u x y
+  one_report (HasVerdict Vacuous) r t e d s u x y = by_vacuous r t e d s u x y
+  one_report (HasVerdict Fails) r t e d s u x y = by_failing r t e d s u x y
+  one_report (HasVerdict Unroll) r t e d s u x y = by_turning r t e d s u x y
+
+-- two reports of two files
+two_reports : (file : List ℕ) (b : Budget) (p q : Program) (f g : Finding) (r t : Report) (e d : Evidence) → p ≡ q → ComesTo p b f → ComesTo q b g → Says r f → Says t g →
+    IsRightReport p (layout_of file) b r e → IsRightReport q (layout_of file) b t d →
+    AreSameButRun (report_answer (layout_of file) b r e) (report_answer (layout_of file) b t d)
+two_reports file b p q f g r t e d same x y s u right other =
+    let finding : f ≡ g = one_finding q b f g (subst (λ (z : Program). ComesTo z b f) same x) y in
+    one_report q (layout_of file) b g r t e d (subst (Says r) finding s) u (subst (λ (z : Program). IsRightReport z (layout_of file) b r e) same right) other
+
+pub one_answer : (file text : List ℕ) (b : Budget) (a c : Answer) → Answers file text b a → Answers file text b c → AreSameButRun a c
+one_answer file text b a c (elf_is_refused v x i) (elf_is_refused w y j) =
+    same_answer a c (i ∙ ap (plain_answer 4) (one_elf_refusal file v w x y) ∙ sym j)
+one_answer file text b a c (elf_is_refused v x i) (notes_are_refused w accepted y j) = absurd (refused_or_accepted file v x accepted)
+one_answer file text b a c (elf_is_refused v x i) (is_reported p f r e found y s right j) = absurd (refused_or_accepted file v x found.0)
+one_answer file text b a c (notes_are_refused v accepted x i) (elf_is_refused w y j) = absurd (refused_or_accepted file w y accepted)
+one_answer file text b a c (notes_are_refused v accepted x i) (notes_are_refused w too y j) =
+    same_answer a c (i ∙ ap (plain_answer 5) (one_notes_refusal file text v w x y) ∙ sym j)
+one_answer file text b a c (notes_are_refused v accepted x i) (is_reported p f r e found y s right j) = absurd (refused_or_found file text v p x found)
+one_answer file text b a c (is_reported p f r e found x s right i) (elf_is_refused w y j) = absurd (refused_or_accepted file w y found.0)
+one_answer file text b a c (is_reported p f r e found x s right i) (notes_are_refused w accepted y j) = absurd (refused_or_found file text w p y found)
+one_answer file text b a c (is_reported p f r e found x s right i) (is_reported q g t d too y u other j) =
+    subst (λ (z : Answer). AreSameButRun z c) (sym i)
+    (subst (λ (z : Answer). AreSameButRun (report_answer (layout_of file) b r e) z) (sym j)
+    (two_reports file b p q f g r t e d (one_program file text p q found too) x y s u right other))
