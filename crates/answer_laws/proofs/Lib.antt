@@ -4,3 +4,6 @@ pub mod NoteLines
 pub mod EndingNames
 pub mod OneProgram
 pub mod Completeness
+pub mod RowFileBytes
+pub mod PlainSteps
+pub mod ItemRows

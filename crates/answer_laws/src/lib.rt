@@ -6,3 +6,4 @@ pub mod readings;
 pub mod reports;
 pub mod runs;
 pub mod verify;
+pub mod work;
