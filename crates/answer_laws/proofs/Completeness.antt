@@ -6,7 +6,7 @@ use Rattle.bilv_spec.specs.Verdict.{Holds, Vacuous, Fails, Unroll}
 use Rattle.bilv_spec.specs.Points.{IsPrice}
 use Rattle.bilv_spec.specs.StateText.{Layout, Written}
 use Rattle.bilv_spec.specs.Files.{layout_of}
-use Rattle.bilv_spec.specs.Answers.{Budget, Report, HoldsReport, VacuousReport, FailsReport, UnrollReport, PointsReport, SizeReport, ConflictsReport, Evidence, Refutations, EntryRefuted, RunOf, SpentOn, Count, IsRightReport, EndsAs, start_in, Answer, plain_answer, report_answer, IsReported}
+use Rattle.bilv_spec.specs.Answers.{Budget, Report, HoldsReport, VacuousReport, FailsReport, UnrollReport, PointsReport, SizeReport, ConflictsReport, Evidence, Refutations, EntryRefuted, RunOf, SpentOn, Count, IsRightReport, EndsAs, start_in, Answer, plain_answer, report_answer, report_text, status_of, IsReported}
 use Rattle.bilv_spec.specs.Verified.{IsAccepted, IsFound, AfterImage, elf_refused, elf_accepted, AfterNotes, notes_refused, program_found}
 use Rattle.bilv_spec.specs.Outcomes.{Surroundings, Verify, AfterRead, read_failed, was_read, IsOutcome, whole, cut, no_memory}
 use Rattle.bilv_spec.proofs.AllPoints.{one_price}
@@ -221,3 +221,30 @@ one_answer file text b a c (is_reported p f r e found x s right i) (is_reported 
     subst (λ (z : Answer). AreSameButRun z c) (sym i)
     (subst (λ (z : Answer). AreSameButRun (report_answer (layout_of file) b r e) z) (sym j)
     (two_reports file b p q f g r t e d (one_program file text p q found too) x y s u right other))
+
+-- what is reported of the files' program is what it comes to
+reported_as : (s : Surroundings) (file text : List ℕ) (b : Budget) (status : ℕ) (shown : Evidence) (p : Program) → IsFound file text p → (f : Finding) → ComesTo p b f →
+    (a : Answer) → Answers file text b a → status ≡ a.status → shown ≡ a.evidence → Appends s.text_before a.text s.text_after →
+    (r : Report) × Says r f × IsRightReport p (layout_of file) b r shown × (status ≡ status_of r)
+    × Appends s.text_before (report_text (layout_of file) b r shown) s.text_after
+reported_as s file text b status shown p found f comes a (elf_is_refused w x i) e d appends = absurd (refused_or_accepted file w x found.0)
+reported_as s file text b status shown p found f comes a (notes_are_refused w accepted x i) e d appends = absurd (refused_or_found file text w p x found)
+reported_as s file text b status shown p found f comes a (is_reported q g r t too other says right i) e d appends =
+    let same : q ≡ p = one_program file text q p too found in
+    let finding : g ≡ f = one_finding p b g f (subst (λ (z : Program). ComesTo z b g) same other) comes in
+    let evidence_is : t ≡ shown = sym (d ∙ ap (λ x. x.evidence) i) in (
+      r,
+      subst (Says r) finding says,
+      subst (λ (z : Evidence). IsRightReport p (layout_of file) b r z) evidence_is (subst (λ (z : Program). IsRightReport z (layout_of file) b r t) same right),
+      e ∙ ap (λ x. x.status) i,
+      subst (λ (z : List ℕ). Appends s.text_before z s.text_after) (ap (λ x. x.text) i ∙ ap (report_text (layout_of file) b r) evidence_is) appends,
+    )
+
+pub finding_is_reported : (s : Surroundings) (elf notes file text : List ℕ) (b : Budget) (status : ℕ) (shown : Evidence) → AreTold s elf notes file text →
+    (status ≡ 7 → ¬ Rose s.sink_before s.sink_after) → status ≢ 8 → (¬ IsSpentEvidence shown) → (p : Program) → IsFound file text p →
+    (f : Finding) → ComesTo p b f → IsOutcome s (Some (Verify elf notes b)) status shown →
+    (r : Report) × Says r f × IsRightReport p (layout_of file) b r shown × (status ≡ status_of r)
+    × Appends s.text_before (report_text (layout_of file) b r shown) s.text_after
+finding_is_reported s elf notes file text b status shown told calm memory unspent p found f comes outcome =
+    let c = verify_is_complete s elf notes file text b status shown told calm memory unspent outcome in
+    reported_as s file text b status shown p found f comes c.0 c.1 c.2 c.3 c.4

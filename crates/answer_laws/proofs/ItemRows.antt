@@ -1,11 +1,11 @@
 -- The rows of made words, and their results.
-use Rattle.std.proofs.Common.{◌≡◌, ◌≢◌, ℕ, zero, suc, ◌+◌, ◌-◌, ◌*◌, ◌/◌, ◌%◌, ◌^◌, ◌<◌, ◌≤◌, refl, ap, sym, ◌∙◌, subst, arith, lit<, Bool, true, false, List, [], ◌∷◌, length, get_or, Option, Some, None}
+use Rattle.std.proofs.Common.{◌≡◌, ◌≢◌, ℕ, zero, suc, ◌+◌, ◌*◌, ◌^◌, ◌<◌, refl, ap, sym, ◌∙◌, arith, lit<, Bool, true, false, length, get_or, Some, None}
 use Rattle.std.specs.Prelude.{◌==◌, nat_le, if◌then◌else◌, bit_xor}
 use Rattle.std.proofs.lemmas.Bool.{ne_eqb}
 use Rattle.std.proofs.lemmas.Bool.Decides.{nat_tests}
 use Rattle.bilv_spec.specs.Words.{add, shl, bits, sign_extend}
 use Rattle.bilv_spec.specs.State.{State, put}
-use Rattle.bilv_spec.specs.Machine.{Row, On, Indirect, Goes}
+use Rattle.bilv_spec.specs.Machine.{Row, On, Goes}
 use Rattle.bilv_spec.specs.Notes.{BitXor}
 use Rattle.bilv_spec.specs.Rv.{reg, with_reg, on, rv_row, table, sets, fields, imm_i, jalr}
 use Rattle.bilv_spec.specs.Work.{next_item, item_kind, item_number, item_word, result_of, item_words, result_from}

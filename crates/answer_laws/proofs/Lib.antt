@@ -7,3 +7,6 @@ pub mod Completeness
 pub mod RowFileBytes
 pub mod PlainSteps
 pub mod ItemRows
+pub mod WorkRuns
+pub mod WorkNotes
+pub mod WorkHolds

@@ -1,10 +1,10 @@
 -- One step of a row that goes on to the next address, and of a return that exits.
-use Rattle.std.proofs.Common.{◌≡◌, ℕ, refl, ap, ◌∙◌, Bool, true, false, List, [], Option, Some, None}
+use Rattle.std.proofs.Common.{◌≡◌, ℕ, ap, ◌∙◌, true, false, [], Some, None}
 use Rattle.std.specs.Prelude.{◌==◌, ◌%◌}
 use Rattle.std.specs.List.{list_any}
 use Rattle.bilv_spec.specs.State.{State}
 use Rattle.bilv_spec.specs.Machine.{Row, On, Indirect, Goes, addresses}
-use Rattle.bilv_spec.specs.Run.{Program, Place, Step, Arrives, Exits, step, fetchable, false_assert, false_line, after_asserts, by_fetch, by_row, after_row, going_on, aligned_transfer, exit_or, exit_by, is_named, is_kept}
+use Rattle.bilv_spec.specs.Run.{Program, Place, Arrives, Exits, step, fetchable, false_assert, false_line, after_asserts, by_fetch, by_row, after_row, aligned_transfer, exit_or, exit_by, is_named, is_kept}
 
 -- a row without asserts before it that may be fetched, stores nothing, and goes on or jumps to an address that is a multiple of 4
 pub record IsPlainStep (p : Program) (c : Place) (row : Row) : Type 0 where

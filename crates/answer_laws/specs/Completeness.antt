@@ -5,7 +5,7 @@ use Rattle.bilv_spec.specs.Run.{Program}
 use Rattle.bilv_spec.specs.Verdict.{Verdict, Holds, Vacuous, Fails, Unroll, IsRight}
 use Rattle.bilv_spec.specs.Points.{HasMore, IsPrice}
 use Rattle.bilv_spec.specs.Files.{layout_of}
-use Rattle.bilv_spec.specs.Answers.{Budget, IsWithin, Report, HoldsReport, VacuousReport, FailsReport, UnrollReport, PointsReport, SizeReport, Evidence, RunOf, SpentOn, IsRightReport, Answer, plain_answer, report_answer}
+use Rattle.bilv_spec.specs.Answers.{Budget, IsWithin, Report, HoldsReport, VacuousReport, FailsReport, UnrollReport, PointsReport, SizeReport, Evidence, RunOf, SpentOn, IsRightReport, Answer, plain_answer, report_answer, report_text, status_of}
 use Rattle.bilv_spec.specs.Verified.{IsAccepted, IsElfRefused, AreNotesRefused, IsFound}
 use Rattle.bilv_spec.specs.Outcomes.{Surroundings, Verify, IsOutcome}
 
@@ -66,6 +66,15 @@ VerifyIsComplete =
     (s : Surroundings) (elf notes file text : List ℕ) (b : Budget) (status : ℕ) (evidence : Evidence) → AreTold s elf notes file text →
     (status ≡ 7 → ¬ Rose s.sink_before s.sink_after) → status ≢ 8 → (¬ IsSpentEvidence evidence) → IsOutcome s (Some (Verify elf notes b)) status evidence →
     (a : Answer) × Answers file text b a × (status ≡ a.status) × (evidence ≡ a.evidence) × Appends s.text_before a.text s.text_after
+
+-- So a program that both files are is reported as what it comes to, and in no other way.
+abbrev pub FindingIsReported : Type 0
+FindingIsReported =
+    (s : Surroundings) (elf notes file text : List ℕ) (b : Budget) (status : ℕ) (evidence : Evidence) → AreTold s elf notes file text →
+    (status ≡ 7 → ¬ Rose s.sink_before s.sink_after) → status ≢ 8 → (¬ IsSpentEvidence evidence) → (p : Program) → IsFound file text p →
+    (f : Finding) → ComesTo p b f → IsOutcome s (Some (Verify elf notes b)) status evidence →
+    (r : Report) × Says r f × IsRightReport p (layout_of file) b r evidence × (status ≡ status_of r)
+    × Appends s.text_before (report_text (layout_of file) b r evidence) s.text_after
 
 -- The same answer but for the run that is shown: one status; a run is shown by both or by neither; the same text where none is shown; and all the same where the
 -- evidence is, so that the text is that of the start that it shows.

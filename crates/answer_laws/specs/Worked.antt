@@ -6,7 +6,8 @@ use Rattle.bilv_spec.specs.Verified.{IsFound}
 use Rattle.bilv_spec.specs.Work.{work_file, work_notes}
 use Rattle.bilv_spec.specs.Outcomes.{SelfRun, IsLawfulCommand}
 
--- The file and the notes that are made are accepted, and are a program that holds, for every number of backward transfers.
+-- The file and the notes that are made are a program, and their program holds for every number of backward transfers.
 abbrev pub WorkHolds : Type 0
 WorkHolds = (seed count : ℕ) → IsLawfulCommand (SelfRun seed count) →
-    (p : Program) × IsFound (work_file seed count) (work_notes seed count) p × ((k : ℕ) → IsRight p k Holds)
+    ((p : Program) × IsFound (work_file seed count) (work_notes seed count) p)
+    × ((p : Program) → IsFound (work_file seed count) (work_notes seed count) p → (k : ℕ) → IsRight p k Holds)

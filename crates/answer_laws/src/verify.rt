@@ -1,5 +1,5 @@
 //! Laws of the right answer to two files.
-ghost use Rattle.answer_laws.specs.Completeness.{OneAnswer, OneFinding, OneProgram, VerifyIsComplete};
+ghost use Rattle.answer_laws.specs.Completeness.{FindingIsReported, OneAnswer, OneFinding, OneProgram, VerifyIsComplete};
 
 /// A program comes within a budget to too many points, to one price above the size, or to one verdict.
 pub fn one_finding()
@@ -14,6 +14,11 @@ pub fn one_program()
 /// Where nothing fails, and no question spends its conflicts, the answer is the refusal that is due or the report of what the program comes to.
 pub fn verify_is_complete()
     ensures { VerifyIsComplete }
+{}
+
+/// A program that both files are is then reported as what it comes to, and in no other way.
+pub fn finding_is_reported()
+    ensures { FindingIsReported }
 {}
 
 /// Two files and a budget have one such answer, but for the run that it shows.
