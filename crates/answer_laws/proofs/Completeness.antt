@@ -48,13 +48,14 @@ finding_of p layout b (FailsReport event at step) other s a = absurd a
 finding_of p layout b (UnrollReport at step) (RunOf w) s a = (HasVerdict Unroll, (a.0, a.1), tt)
 finding_of p layout b (UnrollReport at step) other s a = absurd a
 
-reported : (file text : List ℕ) (b : Budget) (a : Answer) (p : Program) → (¬ IsSpentEvidence a.evidence) → IsFound file text p → IsReported p (layout_of file) b a →
-    Answers file text b a
+reported : (file text : List ℕ) (b : Budget) (a : Answer) (p : Program) → (¬ IsSpentEvidence a.evidence) → IsFound file text p →
+    IsReported p (layout_of file) b a → Answers file text b a
 reported file text b a p unspent found (r, e, right, is) =
     let f = finding_of p (layout_of file) b r e (λ s. unspent (subst (λ (x : Answer). IsSpentEvidence x.evidence) (sym is) s)) right in
     is_reported p f.0 r e found f.1 f.2 right is
 
-by_notes : (file text : List ℕ) (b : Budget) (a : Answer) → (¬ IsSpentEvidence a.evidence) → IsAccepted file → AfterNotes file text (λ p. IsReported p (layout_of file) b) a → Answers file text b a
+by_notes : (file text : List ℕ) (b : Budget) (a : Answer) → (¬ IsSpentEvidence a.evidence) → IsAccepted file →
+    AfterNotes file text (λ p. IsReported p (layout_of file) b) a → Answers file text b a
 by_notes file text b a unspent accepted (notes_refused written h is) = notes_are_refused written accepted h is
 by_notes file text b a unspent accepted (program_found p found next) = reported file text b a p unspent found next
 
@@ -109,12 +110,14 @@ module _ (p : Program) (layout : Layout) (b : Budget) where
     whole = λ e.
         let same : w ≡ v = cc in
         let ends : Failed event at step ≡ Failed other at' step' =
-        run_end v (Failed event at step) (Failed other at' step') (subst (λ (z : Written). EndsAs p b.unroll (start_in p layout z) (Failed event at step)) same x) y tt tt in
+        run_end v (Failed event at step) (Failed other at' step')
+        (subst (λ (z : Written). EndsAs p b.unroll (start_in p layout z) (Failed event at step)) same x) y tt tt in
         let first : event ≡ other = cc in
         let second : at ≡ at' = cc in
         let third : step ≡ step' = cc in
         ap (λ z. report_answer layout b (FailsReport z at step) (RunOf w)) first ∙ ap (λ z. report_answer layout b (FailsReport other z step) (RunOf w)) second
-        ∙ ap (λ z. report_answer layout b (FailsReport other at' z) (RunOf w)) third ∙ ap (λ z. report_answer layout b (FailsReport other at' step') (RunOf z)) same;
+        ∙ ap (λ z. report_answer layout b (FailsReport other at' z) (RunOf w)) third
+        ∙ ap (λ z. report_answer layout b (FailsReport other at' step') (RunOf z)) same;
   }
 
   by_turns : (at step at' step' : ℕ) (w v : Written) → EndsAs p b.unroll (start_in p layout w) (Turned at step) →
@@ -133,26 +136,31 @@ module _ (p : Program) (layout : Layout) (b : Budget) where
         ∙ ap (λ z. report_answer layout b (UnrollReport at' step') (RunOf z)) same;
   }
 
-  by_points : (r t : Report) (e d : Evidence) → Says r TooManyPoints → Says t TooManyPoints → IsRightReport p layout b r e → IsRightReport p layout b t d → Same r e t d
+  -- two right reports that say one finding are the same
+  abbrev AreOne : Finding → (r t : Report) → (e d : Evidence) → Type 0
+  AreOne f r t e d = Says r f → Says t f → IsRightReport p layout b r e → IsRightReport p layout b t d → Same r e t d
+
+  by_points : (r t : Report) (e d : Evidence) → AreOne TooManyPoints r t e d
   by_points PointsReport PointsReport (Count n) (Count m) s u x y =
       let same : n ≡ m = x.1 ∙ sym y.1 in
-      same_answer (report_answer layout b PointsReport (Count n)) (report_answer layout b PointsReport (Count m)) (ap (λ z. report_answer layout b PointsReport (Count z)) same)
+      same_answer (report_answer layout b PointsReport (Count n)) (report_answer layout b PointsReport (Count m))
+      (ap (λ z. report_answer layout b PointsReport (Count z)) same)
   by_points PointsReport PointsReport (Count n) d s u x y = absurd y
   by_points PointsReport PointsReport e d s u x y = absurd x
   by_points PointsReport t e d s u x y = absurd u
   by_points r t e d s u x y = absurd s
 
-  by_size : (price : ℕ) (r t : Report) (e d : Evidence) → Says r (TooLarge price) → Says t (TooLarge price) → IsRightReport p layout b r e → IsRightReport p layout b t d →
-      Same r e t d
+  by_size : (price : ℕ) (r t : Report) (e d : Evidence) → AreOne (TooLarge price) r t e d
   by_size price SizeReport SizeReport (Count n) (Count m) s u x y =
       let same : n ≡ m = one_price p b.unroll n m x.1 y.1 in
-      same_answer (report_answer layout b SizeReport (Count n)) (report_answer layout b SizeReport (Count m)) (ap (λ z. report_answer layout b SizeReport (Count z)) same)
+      same_answer (report_answer layout b SizeReport (Count n)) (report_answer layout b SizeReport (Count m))
+      (ap (λ z. report_answer layout b SizeReport (Count z)) same)
   by_size price SizeReport SizeReport (Count n) d s u x y = absurd y
   by_size price SizeReport SizeReport e d s u x y = absurd x
   by_size price SizeReport t e d s u x y = absurd u
   by_size price r t e d s u x y = absurd s
 
-  by_holds : (r t : Report) (e d : Evidence) → Says r (HasVerdict Holds) → Says t (HasVerdict Holds) → IsRightReport p layout b r e → IsRightReport p layout b t d → Same r e t d
+  by_holds : (r t : Report) (e d : Evidence) → AreOne (HasVerdict Holds) r t e d
   by_holds HoldsReport HoldsReport (Refutations w fail turn) (Refutations v left over) s u x y = record {
     status = refl;
     shows = (λ h. h, λ h. h);
@@ -164,7 +172,7 @@ module _ (p : Program) (layout : Layout) (b : Budget) where
   by_holds HoldsReport t e d s u x y = absurd u
   by_holds r t e d s u x y = absurd s
 
-  by_vacuous : (r t : Report) (e d : Evidence) → Says r (HasVerdict Vacuous) → Says t (HasVerdict Vacuous) → IsRightReport p layout b r e → IsRightReport p layout b t d → Same r e t d
+  by_vacuous : (r t : Report) (e d : Evidence) → AreOne (HasVerdict Vacuous) r t e d
   by_vacuous VacuousReport VacuousReport (EntryRefuted proof) (EntryRefuted other) s u x y = record {
     status = refl;
     shows = (λ h. h, λ h. h);
@@ -176,21 +184,21 @@ module _ (p : Program) (layout : Layout) (b : Budget) where
   by_vacuous VacuousReport t e d s u x y = absurd u
   by_vacuous r t e d s u x y = absurd s
 
-  by_failing : (r t : Report) (e d : Evidence) → Says r (HasVerdict Fails) → Says t (HasVerdict Fails) → IsRightReport p layout b r e → IsRightReport p layout b t d → Same r e t d
+  by_failing : (r t : Report) (e d : Evidence) → AreOne (HasVerdict Fails) r t e d
   by_failing (FailsReport event at step) (FailsReport other at' step') (RunOf w) (RunOf v) s u x y = by_fails event other at step at' step' w v x.4 y.4
   by_failing (FailsReport event at step) (FailsReport other at' step') (RunOf w) d s u x y = absurd y
   by_failing (FailsReport event at step) (FailsReport other at' step') e d s u x y = absurd x
   by_failing (FailsReport event at step) t e d s u x y = absurd u
   by_failing r t e d s u x y = absurd s
 
-  by_turning : (r t : Report) (e d : Evidence) → Says r (HasVerdict Unroll) → Says t (HasVerdict Unroll) → IsRightReport p layout b r e → IsRightReport p layout b t d → Same r e t d
+  by_turning : (r t : Report) (e d : Evidence) → AreOne (HasVerdict Unroll) r t e d
   by_turning (UnrollReport at step) (UnrollReport at' step') (RunOf w) (RunOf v) s u x y = by_turns at step at' step' w v x.4 y.4
   by_turning (UnrollReport at step) (UnrollReport at' step') (RunOf w) d s u x y = absurd y
   by_turning (UnrollReport at step) (UnrollReport at' step') e d s u x y = absurd x
   by_turning (UnrollReport at step) t e d s u x y = absurd u
   by_turning r t e d s u x y = absurd s
 
-  pub one_report : (f : Finding) (r t : Report) (e d : Evidence) → Says r f → Says t f → IsRightReport p layout b r e → IsRightReport p layout b t d → Same r e t d
+  pub one_report : (f : Finding) (r t : Report) (e d : Evidence) → AreOne f r t e d
   one_report TooManyPoints r t e d s u x y = by_points r t e d s u x y
   one_report (TooLarge price) r t e d s u x y = by_size price r t e d s u x y
   one_report (HasVerdict Holds) r t e d s u x y = by_holds r t e d s u x y
@@ -199,8 +207,8 @@ module _ (p : Program) (layout : Layout) (b : Budget) where
   one_report (HasVerdict Unroll) r t e d s u x y = by_turning r t e d s u x y
 
 -- two reports of two files
-two_reports : (file : List ℕ) (b : Budget) (p q : Program) (f g : Finding) (r t : Report) (e d : Evidence) → p ≡ q → ComesTo p b f → ComesTo q b g → Says r f → Says t g →
-    IsRightReport p (layout_of file) b r e → IsRightReport q (layout_of file) b t d →
+two_reports : (file : List ℕ) (b : Budget) (p q : Program) (f g : Finding) (r t : Report) (e d : Evidence) → p ≡ q →
+    ComesTo p b f → ComesTo q b g → Says r f → Says t g → IsRightReport p (layout_of file) b r e → IsRightReport q (layout_of file) b t d →
     AreSameButRun (report_answer (layout_of file) b r e) (report_answer (layout_of file) b t d)
 two_reports file b p q f g r t e d same x y s u right other =
     let finding : f ≡ g = one_finding q b f g (subst (λ (z : Program). ComesTo z b f) same x) y in
@@ -223,8 +231,8 @@ one_answer file text b a c (is_reported p f r e found x s right i) (is_reported 
     (two_reports file b p q f g r t e d (one_program file text p q found too) x y s u right other))
 
 -- what is reported of the files' program is what it comes to
-reported_as : (s : Surroundings) (file text : List ℕ) (b : Budget) (status : ℕ) (shown : Evidence) (p : Program) → IsFound file text p → (f : Finding) → ComesTo p b f →
-    (a : Answer) → Answers file text b a → status ≡ a.status → shown ≡ a.evidence → Appends s.text_before a.text s.text_after →
+reported_as : (s : Surroundings) (file text : List ℕ) (b : Budget) (status : ℕ) (shown : Evidence) (p : Program) → IsFound file text p →
+    (f : Finding) → ComesTo p b f → (a : Answer) → Answers file text b a → status ≡ a.status → shown ≡ a.evidence → Appends s.text_before a.text s.text_after →
     (r : Report) × Says r f × IsRightReport p (layout_of file) b r shown × (status ≡ status_of r)
     × Appends s.text_before (report_text (layout_of file) b r shown) s.text_after
 reported_as s file text b status shown p found f comes a (elf_is_refused w x i) e d appends = absurd (refused_or_accepted file w x found.0)
@@ -235,7 +243,8 @@ reported_as s file text b status shown p found f comes a (is_reported q g r t to
     let evidence_is : t ≡ shown = sym (d ∙ ap (λ x. x.evidence) i) in (
       r,
       subst (Says r) finding says,
-      subst (λ (z : Evidence). IsRightReport p (layout_of file) b r z) evidence_is (subst (λ (z : Program). IsRightReport z (layout_of file) b r t) same right),
+      subst (λ (z : Evidence). IsRightReport p (layout_of file) b r z) evidence_is
+          (subst (λ (z : Program). IsRightReport z (layout_of file) b r t) same right),
       e ∙ ap (λ x. x.status) i,
       subst (λ (z : List ℕ). Appends s.text_before z s.text_after) (ap (λ x. x.text) i ∙ ap (report_text (layout_of file) b r) evidence_is) appends,
     )

@@ -49,7 +49,8 @@ module _ (p : Program) (k : ℕ) (lawful : HasLawfulRows p) (few : HasFewLines p
 
   more : (n : ℕ) (x : Run) → IsFine n x → Stands p k x → Numbered n x → IsFine (suc n) (one_more (by_file p) k start x)
   more n (Going turns m c) h s e =
-      stepped n k turns m c.state.pc (step (by_file p) start.state c (start.choices m)) (steps_are_fine (by_file p) by_few start.state c (start.choices m)) e s.1.pc
+      stepped n k turns m c.state.pc (step (by_file p) start.state c (start.choices m))
+      (steps_are_fine (by_file p) by_few start.state c (start.choices m)) e s.1.pc
   more n (Exited at m) h s e = tt
   more n (Failed v at m) h s e = (h.0, h.1, let l = h.2 in omega arith)
   more n (Turned at m) h s e = (h.0, let l = h.1 in omega arith)
@@ -84,12 +85,14 @@ names_can_be_written file text p bytes is layout b small SizeReport e n a f = ab
 names_can_be_written file text p bytes is layout b small ConflictsReport e n a f = absurd (no_name n f)
 names_can_be_written file text p bytes is layout b small (FailsReport event at j) (RunOf w) n a f =
     let same : FailsBy event at j ≡ n = cc in
-    let end = end_is_fine p b.unroll (program_rows_are_lawful file text p bytes is) (few_note_lines file text p is) _ (reads_memory file text p is) a.3.entry b.points a.0.points (Failed event at j) tt a.4 in
+    let end = end_is_fine p b.unroll (program_rows_are_lawful file text p bytes is) (few_note_lines file text p is) _ (reads_memory file text p is)
+    a.3.entry b.points a.0.points (Failed event at j) tt a.4 in
     subst IsNamed same (end.0, end.1, below_last j b.points end.2 small.1)
 names_can_be_written file text p bytes is layout b small (FailsReport event at j) other n a f = absurd a
 names_can_be_written file text p bytes is layout b small (UnrollReport at j) (RunOf w) n a f =
     let same : UnknownBy b.unroll at j ≡ n = cc in
-    let end = end_is_fine p b.unroll (program_rows_are_lawful file text p bytes is) (few_note_lines file text p is) _ (reads_memory file text p is) a.3.entry b.points a.0.points (Turned at j) tt a.4 in
+    let end = end_is_fine p b.unroll (program_rows_are_lawful file text p bytes is) (few_note_lines file text p is) _ (reads_memory file text p is)
+    a.3.entry b.points a.0.points (Turned at j) tt a.4 in
     subst IsNamed same (small.0, end.0, below_last j b.points end.1 small.1)
 names_can_be_written file text p bytes is layout b small (UnrollReport at j) other n a f = absurd a
 

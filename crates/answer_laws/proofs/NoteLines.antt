@@ -73,7 +73,8 @@ line_is_few e [] now entry l few is = absurd (cc)
 line_is_few e (x ∷ rest) now entry l few is =
     some_line (is_true (value e x.says now entry)) (false_line e rest now entry) x.line l few.0 (λ i. line_is_few e rest now entry l few.1 i) is
 
-assert_is_few : (e : Endian) (asserts : List Assert) (now entry : State) (l : ℕ) → AreFewAsserts asserts → false_assert e asserts now entry ≡ Some l → l < 2 ^ 64
+assert_is_few : (e : Endian) (asserts : List Assert) (now entry : State) (l : ℕ) → AreFewAsserts asserts →
+    false_assert e asserts now entry ≡ Some l → l < 2 ^ 64
 assert_is_few e [] now entry l few is = absurd (cc)
 assert_is_few e (a ∷ rest) now entry l few is =
     other_line ((a.at == now.pc) && not (is_true (value e a.says now entry))) (false_assert e rest now entry) a.line l few.0

@@ -97,7 +97,9 @@ module _ (p : Program) (k : ℕ) where
     met : (n : ℕ) → HasMet n (run (by_file p) k start n)
     unfolding run
     met zero = none_yet
-    met (suc n) = more n (run (by_file p) k start n) (one_more (by_file p) k start (run (by_file p) k start n)) (met n) (all n) (one_later (by_file p) k start (run (by_file p) k start n))
+    met (suc n) =
+        more n (run (by_file p) k start n) (one_more (by_file p) k start (run (by_file p) k start n)) (met n) (all n)
+        (one_later (by_file p) k start (run (by_file p) k start n))
 
     over_by_file : (n : ℕ) → ¬ HasMore p k n → IsOver (run (by_file p) k start n)
     over_by_file n few = ended n (run (by_file p) k start n) (met n) (all n) few
@@ -110,7 +112,8 @@ few_points_end_runs p lawful memory k start is max few =
 pub runs_end_within : (p : Program) → HasLawfulRows p → ReadsMemory p → (k : ℕ) (start : Start) → IsEntryState p start.state →
     (points : List Point) → ArePoints p k points → IsOver (run p k start (length points))
 runs_end_within p lawful memory k start is points are =
-    few_points_end_runs p lawful memory k start is (length points) (no_more_points p k (length points) points are (let l : length points ≤ length points = omega arith in l))
+    few_points_end_runs p lawful memory k start is (length points)
+    (no_more_points p k (length points) points are (let l : length points ≤ length points = omega arith in l))
 
 found_over : (before behind : Run) → IsOver behind → found_by before behind ≡ found_going behind
 found_over before (Going turns n c) over = absurd over

@@ -25,6 +25,7 @@ pub work_holds : (seed count : ℕ) → IsLawfulCommand (SelfRun seed count) →
 work_holds seed count lawful = (
   (made_program seed count, made_found seed count lawful),
   λ p found k.
-      subst (λ (q : Program). IsRight q k Holds) (one_program (work_file seed count) (work_notes seed count) (made_program seed count) p (made_found seed count lawful) found)
+      subst (λ (q : Program). IsRight q k Holds)
+      (one_program (work_file seed count) (work_notes seed count) (made_program seed count) p (made_found seed count lawful) found)
       (made_holds seed count lawful.0 lawful.2 k),
 )

@@ -205,7 +205,14 @@ good_said : (word : List ℕ) (k n : ℕ) → n < 2 ^ 32 → All IsGood (NameTok
 good_said word k n h = all_good (NameToken word ∷ said_by k n) (tt, (tt, (tt, (h, tt))))
 
 entry_line : IsLine rv_names (codes "entry 0x10000") (EntryIs (At 65536))
-entry_line = record { short = lit≤ tt; good = all_good (NameToken (codes "entry") ∷ NumberToken 65536 ∷ []) (tt, (lit< tt, tt)); depth = lit≤ tt; said = refl; aligned = refl; range = tt }
+entry_line = record {
+  short = lit≤ tt;
+  good = all_good (NameToken (codes "entry") ∷ NumberToken 65536 ∷ []) (tt, (lit< tt, tt));
+  depth = lit≤ tt;
+  said = refl;
+  aligned = refl;
+  range = tt;
+}
 
 -- a line of the first words and a number
 abbrev require_text : (k n : ℕ) → List ℕ
@@ -297,12 +304,18 @@ module _ (seed count : ℕ) (seed_small : seed < 2 ^ 31) (few : count ≤ 16000)
   reads_made = record {
     short = subst (λ (ls : List (List ℕ)). length ls ≤ 4096) (sym lines_are) (lit≤ tt);
     says = says;
-    lines = subst (λ (ls : List (List ℕ)). AreLines rv_names ls says) (sym lines_are)
-        (entry_line, (require_line 0 seed (lit< tt) (omega arith), (require_line 1 count (lit< tt) (omega arith), (ensure_line (result seed count) small, tt))));
+    lines = subst (λ (ls : List (List ℕ)). AreLines rv_names ls says) (sym lines_are) (
+      entry_line,
+      (
+        require_line 0 seed (lit< tt) (omega arith),
+        (require_line 1 count (lit< tt) (omega arith), (ensure_line (result seed count) small, tt)),
+      ),
+    );
     notes_are = (refl, refl, refl, refl, refl, refl, λ i q d h l e. absurd (omega arith));
   }
 
   pub made_short : length (work_notes seed count) ≤ 262144
   made_short =
-      let l = lines_short texts (lit≤ tt, (require_short 0 seed (omega arith), (require_short 1 count (omega arith), (ensure_short (result seed count), tt)))) in
+      let l = lines_short texts
+      (lit≤ tt, (require_short 0 seed (omega arith), (require_short 1 count (omega arith), (ensure_short (result seed count), tt)))) in
       omega arith

@@ -76,8 +76,8 @@ FindingIsReported =
     (r : Report) × Says r f × IsRightReport p (layout_of file) b r evidence × (status ≡ status_of r)
     × Appends s.text_before (report_text (layout_of file) b r evidence) s.text_after
 
--- The same answer but for the run that is shown: one status; a run is shown by both or by neither; the same text where none is shown; and all the same where the
--- evidence is, so that the text is that of the start that it shows.
+-- The same answer but for the run that is shown: one status; a run is shown by both or by neither; the same text where none is shown; and all the same
+-- where the evidence is, so that the text is that of the start that it shows.
 pub record AreSameButRun (a c : Answer) : Type 0 where
   pub status : a.status ≡ c.status
   pub shows : ShowsRun a.evidence ↔ ShowsRun c.evidence

@@ -17,8 +17,8 @@ AreBytes file = (i : ℕ) → slice_index file i < 256
 abbrev pub IsReplayable : Budget → Type 0
 IsReplayable b = (b.unroll ≤ 4096) × (b.points ≤ 16777216)
 
--- What a right report of a file's program names can be written: the number of its step is below that of the points, its address is a word, and notes have at most
--- 4096 lines.
+-- What a right report of a file's program names can be written: the number of its step is below that of the points, its address is a word, and notes have at
+-- most 4096 lines.
 abbrev pub NamesCanBeWritten : Type 0
 NamesCanBeWritten =
     (file text : List ℕ) (p : Program) → AreBytes file → IsProgram file text p → (layout : Layout) (b : Budget) → IsReplayable b →
