@@ -1,5 +1,5 @@
 -- The rows of ARM that use no flag but by their condition are lawful: SWP, LDR and STR, halfwords, LDM and STM, B and BL, SWI.
-use Rattle.std.proofs.Common.{◌≡◌, ℕ, zero, suc, ◌+◌, ◌*◌, ◌%◌, ◌^◌, ◌<◌, refl, sym, ap, subst, ◌∙◌, true, false, Bool, arith, Option, Some, None, List, [], ◌∷◌, length}
+use Rattle.std.proofs.Common.{◌≡◌, ℕ, zero, suc, ◌+◌, ◌*◌, ◌%◌, ◌^◌, ◌<◌, ◌≤◌, refl, sym, ap, subst, ◌∙◌, true, false, Bool, arith, Option, Some, None, List, [], ◌∷◌, length}
 use Rattle.std.specs.Prelude.{◌==◌, ◌&&◌, not, if◌then◌else◌, Contains}
 use Rattle.std.proofs.lemmas.Bool.{ne_eqb, eq-eqb}
 use Rattle.bilv_spec.proofs.WordBounds.{stored_below, sign_extend_below}
@@ -10,7 +10,7 @@ use Rattle.bilv_spec.specs.Memory.{Endian, Memory, load, store}
 use Rattle.bilv_spec.specs.State.{State, IsState, put}
 use Rattle.bilv_spec.specs.Machine.{Outcome, Goes, Raises, SoftwareInterrupt, Successors, only_next, addresses}
 use Rattle.bilv_spec.specs.Arm.{on, reg, stored_reg, has_bit, is_always, when_stored, write_by, may_write_pc, none, flag_set, by_number, load_by, store_by, access_of, is_byte, is_load, bit_i, kind_of, amount_of, field_n, field_d, field_m, swapped, swap, base_written, transfer_offset, transfer_address, address, is_pre, moved, loaded_by, transferred, single_transfer, literal_address, halfword_offset, halfword_address, halfword_value, halfword_size, halfword_by, halfword_done, halfword, listed, listed_from, block_start, block_base, store_all, block_loaded, block_done, block, bit_w, branch_target, branched, branch, is_linked, software_interrupt}
-use Rattle.bilv_spec.specs.MachineLaws.{IsLawful, IfGoes, IfRaises, with_flag, OutcomesAgreeBut}
+use Rattle.bilv_spec.specs.MachineLaws.{IsLawful, IsPriced, IfGoes, IfRaises, with_flag, OutcomesAgreeBut}
 
 -- one outcome that stores the bytes, goes to the successors, and leaves the flags
 record Fine (s : State) (e : Outcome) (places : Option (ℕ × ℕ)) (successors : Successors) : Type 0 where
@@ -27,8 +27,9 @@ fine_done : (w : ℕ) (effect : State → ℕ → Outcome) (stored : Bool → St
     ((s : State) (c : ℕ) → IfGoes (effect s c) (λ how new. new.flags ≡ s.flags)) →
     ((s : State) (c f v : ℕ) → reads f ≡ false → OutcomesAgreeBut f (effect s c) (effect (with_flag s f v) c)) →
     (drawing ≡ false → (s : State) (c d : ℕ) → effect s c ≡ effect s d) →
+    ((b : Bool) (s : State) (f v : ℕ) → reads f ≡ false → stored b s ≡ stored b (with_flag s f v)) →
     IsDone w effect stored successors reads none none drawing
-fine_done w effect stored successors reads drawing fine skips one_way flags unread draws = record {
+fine_done w effect stored successors reads drawing fine skips one_way flags unread draws same = record {
   kept = λ s c is. (fine s c is).kept;
   raised = λ s c is. (fine s c is).raised;
   ways = λ s c is. (fine s c is).ways;
@@ -39,6 +40,8 @@ fine_done w effect stored successors reads drawing fine skips one_way flags unre
   unread = λ s c f v lt no_use. unread s c f v no_use;
   sure = λ s c f v lt no_use surely. cc;
   draws = draws;
+  plain = λ f assigned b s. cc;
+  stored_unread = same;
 }
   where
     flag_of : (e : Outcome) (s : State) (f : ℕ) → IfGoes e (λ how new. new.flags ≡ s.flags) → IfGoes e (λ how new. new.flags f ≡ s.flags f)
@@ -55,8 +58,9 @@ pub software_interrupt_lawful : (w : ℕ) → IsLawful (software_interrupt w)
 software_interrupt_lawful w =
     conditional w (λ s c. Raises SoftwareInterrupt) (λ b s. None) (λ at. record { next = not (is_always w); direct = None; indirect = false; call = false }) (λ at. None)
     (record { row = 4096; loads = 0; stores = 0 }) none none none false
+    (record { least = omega arith; most = omega arith; loads = omega arith; stores = omega arith })
     (fine_done w _ _ _ none false (λ s c is. record { kept = tt; raised = refl; ways = tt; states = tt }) (λ at h. rw h refl) (λ at h. refl) (λ s c. tt)
-    (λ s c f v h. refl) (λ h s c d. refl))
+    (λ s c f v h. refl) (λ h s c d. refl) (λ b s f v h. refl))
 
 -- B and BL
 branched_fine : (l : Bool) (w : ℕ) (s : State) → IsState s →
@@ -87,15 +91,45 @@ branch_lawful w =
     conditional w (λ s c. branched (is_linked w) w s) (λ b s. None)
     (λ at. record { next = not (is_always w); direct = Some (branch_target w at); indirect = false; call = is_linked w }) (λ at. None)
     (record { row = 4096; loads = 0; stores = 0 }) none none none false
+    (record { least = omega arith; most = omega arith; loads = omega arith; stores = omega arith })
     (fine_done w _ _ _ none false (λ s c is. branched_fine (is_linked w) w s is) (λ at h. rw h refl) (λ at h. cc) (λ s c. branched_flags (is_linked w) w s)
-    (λ s c f v h. branched_agree (is_linked w) w s f v) (λ h s c d. refl))
+    (λ s c f v h. branched_agree (is_linked w) w s f v) (λ h s c d. refl) (λ b s f v h. refl))
+
+-- costs are within their bounds
+swap_priced : (same byte : Bool) → IsPriced (record { row = 4096; loads = if same then 3 * (if byte then 1 else 4) else (if byte then 1 else 4); stores = if byte then 1 else 4 })
+swap_priced true true = record { least = omega arith; most = omega arith; loads = omega arith; stores = omega arith }
+swap_priced true false = record { least = omega arith; most = omega arith; loads = omega arith; stores = omega arith }
+swap_priced false true = record { least = omega arith; most = omega arith; loads = omega arith; stores = omega arith }
+swap_priced false false = record { least = omega arith; most = omega arith; loads = omega arith; stores = omega arith }
+
+access_priced : (load : Bool) (row loaded stored : ℕ) → 64 ≤ row → row ≤ 20000 → loaded ≤ 64 → stored ≤ 64 →
+    IsPriced (record { row = row; loads = if load then loaded else 0; stores = if load then 0 else stored })
+access_priced true row loaded stored p q r t = record { least = p; most = q; loads = r; stores = omega arith }
+access_priced false row loaded stored p q r t = record { least = p; most = q; loads = omega arith; stores = t }
+
+one_or_four : (byte : Bool) → (if byte then 1 else 4) ≤ 64
+one_or_four true = omega arith
+one_or_four false = omega arith
+
+one_or_two : (byte : Bool) → (if byte then 1 else 2) ≤ 64
+one_or_two true = omega arith
+one_or_two false = omega arith
+
+-- a list has at most as many registers as are looked at
+few_listed : (w r n : ℕ) → length (listed_from w r n) ≤ n
+few_listed w r zero = omega arith
+few_listed w r (suc n) = by_bit (has_bit r w) (few_listed w (r + 1) n)
+  where
+    by_bit : (b : Bool) → length (listed_from w (r + 1) n) ≤ n → length (if b then r ∷ listed_from w (r + 1) n else listed_from w (r + 1) n) ≤ suc n
+    by_bit true h = omega arith
+    by_bit false h = omega arith
 
 -- SWP
 pub swap_lawful : (e : Endian) (w : ℕ) → IsLawful (swap e w)
 swap_lawful e w =
     conditional w (λ s c. swapped e w s) (λ b s. when_stored b (access_of (is_byte w) (reg s (field_n w)))) only_next (λ at. None)
     (record { row = 4096; loads = if field_d w == field_m w then 3 * (if is_byte w then 1 else 4) else (if is_byte w then 1 else 4); stores = if is_byte w then 1 else 4 })
-    none none none false
+    none none none false (swap_priced (field_d w == field_m w) (is_byte w))
     (fine_done w _ (λ b s. when_stored b (access_of (is_byte w) (reg s (field_n w)))) only_next none false
     (λ s c is. record {
       kept = λ a lt out. store_by_keeps (is_byte w) e s.mem (reg s (field_n w)) (reg s (field_m w)) a (reg_small s (field_n w) is) lt out;
@@ -108,7 +142,7 @@ swap_lawful e w =
         mem = λ a. store_by_small (is_byte w) e s.mem (reg s (field_n w)) (reg s (field_m w)) a (is.mem a);
       };
     })
-    (λ at h. refl) (λ at h. refl) (λ s c. refl) (λ s c f v h. (refl, agrees _ _ f v refl refl refl refl)) (λ h s c d. refl))
+    (λ at h. refl) (λ at h. refl) (λ s c. refl) (λ s c f v h. (refl, agrees _ _ f v refl refl refl refl)) (λ h s c d. refl) (λ b s f v h. refl))
 
 -- a written register
 write_fine : (pc : Bool) (w : ℕ) (s : State) (regs : ℕ → ℕ) (r v : ℕ) → IsState s → ((k : ℕ) → regs k < 2 ^ 32) → v < 2 ^ 32 →
@@ -236,11 +270,13 @@ transfer_lawful e w =
     conditional w (transferred (is_load w) e w) (λ b s. when_stored (b && not (is_load w)) (access_of (is_byte w) (transfer_address w s)))
     (may_write_pc w (is_load w && (field_d w == 15))) (literal_address w)
     (record { row = 4096; loads = if is_load w then n else 0; stores = if is_load w then 0 else n }) reads none none (not (is_load w) && (field_d w == 15))
+    (access_priced (is_load w) 4096 (if is_byte w then 1 else 4) (if is_byte w then 1 else 4) (omega arith) (omega arith) (one_or_four (is_byte w)) (one_or_four (is_byte w)))
     (fine_done w (transferred (is_load w) e w) (λ b s. when_stored (b && not (is_load w)) (access_of (is_byte w) (transfer_address w s)))
     (may_write_pc w (is_load w && (field_d w == 15))) reads (not (is_load w) && (field_d w == 15))
     (λ s c is. transferred_fine (is_load w) _ e w s c is refl)
     (skips_pc w (is_load w && (field_d w == 15))) (λ at h. refl) (λ s c. transferred_flags (is_load w) e w s c)
-    (λ s c f v h. transferred_agree (is_load w) e w s c f v (offset_same w s f v h)) (λ h s c d. transferred_draws (is_load w) e w s c d h))
+    (λ s c f v h. transferred_agree (is_load w) e w s c f v (offset_same w s f v h)) (λ h s c d. transferred_draws (is_load w) e w s c d h)
+    (λ b s f v h. ap (λ z. when_stored (b && not (is_load w)) (access_of (is_byte w) (address w (reg s (field_n w)) z))) (offset_same w s f v h)))
 
 -- halfwords and signed bytes
 halfword_value_small : (e : Endian) (w : ℕ) (m : Memory) (a : ℕ) → ((i : ℕ) → m i < 256) → halfword_value e w m a < 2 ^ 32
@@ -300,9 +336,10 @@ pub halfword_lawful : (e : Endian) (w : ℕ) → (is_load w ≡ false → halfwo
 halfword_lawful e w two =
     conditional w (λ s c. halfword_done e w s) (λ b s. when_stored (b && not (is_load w) && (halfword_address w s % 2 == 0)) (halfword_address w s, 2)) only_next (λ at. None)
     (record { row = 4096; loads = if is_load w then halfword_size w else 0; stores = if is_load w then 0 else 2 }) none none none false
+    (access_priced (is_load w) 4096 (halfword_size w) 2 (omega arith) (omega arith) (one_or_two (kind_of w == 2)) (omega arith))
     (fine_done w (λ s c. halfword_done e w s) (λ b s. when_stored (b && not (is_load w) && (halfword_address w s % 2 == 0)) (halfword_address w s, 2)) only_next none false
     (λ s c is. halfword_fine _ (is_load w) e w s is refl two) (λ at h. refl) (λ at h. refl) (λ s c. halfword_flags _ (is_load w) e w s)
-    (λ s c f v h. halfword_agree _ (is_load w) e w s f v) (λ h s c d. refl))
+    (λ s c f v h. halfword_agree _ (is_load w) e w s f v) (λ h s c d. refl) (λ b s f v h. refl))
 
 -- LDM and STM
 block_start_small : (w : ℕ) (s : State) → block_start w s < 2 ^ 32
@@ -405,7 +442,8 @@ block_lawful e w =
     conditional w (block_done (is_load w) e w) (λ b s. when_stored (b && not (is_load w)) (block_start w s, 4 * length (listed w)))
     (may_write_pc w (is_load w && has_bit 15 w)) (λ at. None)
     (record { row = 4096 + 512 * n; loads = if is_load w then 4 * n else 0; stores = if is_load w then 0 else 4 * n }) none none none (not (is_load w) && has_bit 15 w)
+    (let few = few_listed w 0 16 in access_priced (is_load w) (4096 + 512 * n) (4 * n) (4 * n) (omega arith) (omega arith) (omega arith) (omega arith))
     (fine_done w (block_done (is_load w) e w) (λ b s. when_stored (b && not (is_load w)) (block_start w s, 4 * length (listed w)))
     (may_write_pc w (is_load w && has_bit 15 w)) none (not (is_load w) && has_bit 15 w)
     (λ s c is. block_fine (is_load w) e w s c is) (skips_pc w (is_load w && has_bit 15 w)) (λ at h. refl) (λ s c. block_flags (is_load w) e w s c)
-    (λ s c f v h. block_agree (is_load w) e w s c f v) (λ h s c d. block_draws (is_load w) e w s c d h))
+    (λ s c f v h. block_agree (is_load w) e w s c f v) (λ h s c d. block_draws (is_load w) e w s c d h) (λ b s f v h. refl))

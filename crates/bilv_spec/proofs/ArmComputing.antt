@@ -401,7 +401,8 @@ computing_lawful w =
     conditional w (λ s c. computed w s) (λ b s. None) (may_write_pc w (not (is_test w) && (field_d w == 15))) (λ at. None) (record { row = 4096; loads = 0; stores = 0 })
     (flag_set false (adds_carry w || is_rrx w) false)
     (flag_set (sets_flags w) (sets_flags w && not (is_logical w && keeps_carry w)) (sets_flags w && not (is_logical w)))
-    (flag_set (sets_flags w) (sets_flags w && not (is_logical w && (keeps_carry w || by_a_register w))) (sets_flags w && not (is_logical w))) false (record {
+    (flag_set (sets_flags w) (sets_flags w && not (is_logical w && (keeps_carry w || by_a_register w))) (sets_flags w && not (is_logical w))) false
+    (record { least = omega arith; most = omega arith; loads = omega arith; stores = omega arith }) (record {
       kept = λ s c is. any_computed (is_test w) w s (result_in w s) (λ how new. (a : ℕ) → a < 2 ^ 32 → (Contains (addresses None) a → ⊥) → new.mem a ≡ s.mem a)
           (λ a lt out. refl) (λ a lt out. refl) (λ a lt out. refl);
       raised = λ s c is. computed_raises (is_test w) w s (result_in w s) _;
@@ -421,4 +422,6 @@ computing_lawful w =
       unread = λ s c f v lt h. unread_computed w s f v h;
       sure = λ s c f v lt h surely. sure_computed w s f v lt h surely;
       draws = λ h s c d. refl;
+      plain = λ f h b s. refl;
+      stored_unread = λ b s f v h. refl;
     })

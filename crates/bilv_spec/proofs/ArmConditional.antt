@@ -6,7 +6,7 @@ use Rattle.bilv_spec.specs.Words.{add}
 use Rattle.bilv_spec.specs.State.{State, IsState, put, with_pc}
 use Rattle.bilv_spec.specs.Machine.{Cost, On, Direct, DirectCall, Indirect, IndirectCall, How, Outcome, Successors, addresses, Goes, Raises}
 use Rattle.bilv_spec.specs.Arm.{row_of, when, holds, is_always, condition_code, conditions, nth, condition_reads, condition_flags, flag_use}
-use Rattle.bilv_spec.specs.MachineLaws.{IsLawful, IsWay, IfGoes, IfRaises, with_flag, AgreeBut, OutcomesAgreeBut, HaveSameFlag}
+use Rattle.bilv_spec.specs.MachineLaws.{IsLawful, IsPriced, IsWay, IfGoes, IfRaises, with_flag, AgreeBut, OutcomesAgreeBut, HaveSameFlag}
 
 other_flag : (g : ℕ → ℕ) (f v k : ℕ) → (k ≡ f → ⊥) → g k ≡ put g f v k
 other_flag g f v k other = rw (ne_eqb k f other) refl
@@ -93,6 +93,8 @@ pub record IsDone (w : ℕ) (effect : State → ℕ → Outcome) (stored : Bool 
   pub unread : (s : State) (c f v : ℕ) → f < 4 → reads f ≡ false → OutcomesAgreeBut f (effect s c) (effect (with_flag s f v) c)
   pub sure : (s : State) (c f v : ℕ) → f < 4 → reads f ≡ false → surely f ≡ true → HaveSameFlag f (effect s c) (effect (with_flag s f v) c)
   pub draws : drawing ≡ false → (s : State) (c d : ℕ) → effect s c ≡ effect s d
+  pub plain : (f : ℕ) → assigns f ≡ true → (b : Bool) (s : State) → stored b s ≡ None
+  pub stored_unread : (b : Bool) (s : State) (f v : ℕ) → reads f ≡ false → stored b s ≡ stored b (with_flag s f v)
 
 -- where the condition doesn't hold, the row goes on
 goes_when : (b : Bool) (s : State) (e : Outcome) (claim : Bool → How → State → Type 0) → IfGoes e (claim true) →
@@ -120,7 +122,7 @@ both true b h = (refl, h)
 both false b h = cc
 
 pub conditional : (w : ℕ) (effect : State → ℕ → Outcome) (stored : Bool → State → Option (ℕ × ℕ)) (successors : ℕ → Successors) (literal : ℕ → Option ℕ)
-    (cost : Cost) (reads assigns surely : ℕ → Bool) (draws : Bool) → IsDone w effect stored successors reads assigns surely draws →
+    (cost : Cost) (reads assigns surely : ℕ → Bool) (draws : Bool) → IsPriced cost → IsDone w effect stored successors reads assigns surely draws →
     IsLawful (record (row_of w effect) {
       stored = λ s. stored (holds w s) s;
       successors = successors;
@@ -129,7 +131,7 @@ pub conditional : (w : ℕ) (effect : State → ℕ → Outcome) (stored : Bool 
       flags = flag_use w reads assigns surely;
       draws = draws;
     })
-conditional w effect stored successors literal cost reads assigns surely draws h = record {
+conditional w effect stored successors literal cost reads assigns surely draws priced h = record {
   stored = λ s c is. goes_when (holds w s) s (effect s c)
       (λ b how new. (a : ℕ) → a < 2 ^ 32 → (Contains (addresses (stored b s)) a → ⊥) → new.mem a ≡ s.mem a) (h.kept s c is) (λ e a lt out. refl);
   raised = λ s c is. raises_when (holds w s) s (effect s c) (λ b. stored b s ≡ None) (h.raised s c is);
@@ -148,6 +150,11 @@ conditional w effect stored successors literal cost reads assigns surely draws h
       same_when (holds w s) (holds w (with_flag s f v)) s f v (effect s c) (effect (with_flag s f v) c) (always_holds w s a.0) (always_holds w (with_flag s f v) a.0)
       (h.sure s c f v lt n.1 a.1);
   draws = λ none s c d. ap (λ z. when (holds w s) s z) (h.draws none s c d);
+  plain = λ f lt assigned s. h.plain f assigned (holds w s) s;
+  stored_unread = λ s f v lt no_use.
+      let n = neither (condition_reads condition_flags (condition_code w) f) (reads f) no_use in
+      ap (λ b. stored b s) (same_holds w s f v n.0) ∙ h.stored_unread (holds w (with_flag s f v)) s f v n.1;
+  priced = priced;
 }
   where
     ways : (s : State) (c : ℕ) → IsState s → IfGoes (when (holds w s) s (effect s c)) (λ how new. Way (successors s.pc) (add 32 s.pc 4) how new.pc)

@@ -64,7 +64,8 @@ mul_sure true g h n z c v u (suc (suc (suc (suc f)))) lt e = absurd (omega arith
 pub multiply_lawful : (w : ℕ) → IsLawful (multiply w)
 multiply_lawful w =
     conditional w (multiplied w) (λ b s. None) only_next (λ at. None) (record { row = 20000; loads = 0; stores = 0 })
-    none (flag_set (sets_flags w) (sets_flags w) false) (flag_set (sets_flags w) (sets_flags w) false) (sets_flags w) (record {
+    none (flag_set (sets_flags w) (sets_flags w) false) (flag_set (sets_flags w) (sets_flags w) false) (sets_flags w)
+    (record { least = omega arith; most = omega arith; loads = omega arith; stores = omega arith }) (record {
       kept = λ s c is a lt out. refl;
       raised = λ s c is. tt;
       ways = λ s c is. (refl, refl);
@@ -88,6 +89,8 @@ multiply_lawful w =
       );
       sure = λ s c f v lt h surely. mul_sure (sets_flags w) s.flags (put s.flags f v) _ _ (bit_at 0 c) (s.flags 0) (put s.flags f v 0) f lt surely;
       draws = λ h s c d. rw h refl;
+      plain = λ f h b s. refl;
+      stored_unread = λ b s f v h. refl;
     })
 
 -- UMULL to SMLAL
@@ -114,7 +117,8 @@ upper_small a = omega arith
 pub multiply_long_lawful : (w : ℕ) → IsLawful (multiply_long w)
 multiply_long_lawful w =
     conditional w (multiplied_long w) (λ b s. None) only_next (λ at. None) (record { row = 20000; loads = 0; stores = 0 })
-    none (flag_set (sets_flags w) (sets_flags w) (sets_flags w)) (flag_set (sets_flags w) (sets_flags w) (sets_flags w)) (sets_flags w) (record {
+    none (flag_set (sets_flags w) (sets_flags w) (sets_flags w)) (flag_set (sets_flags w) (sets_flags w) (sets_flags w)) (sets_flags w)
+    (record { least = omega arith; most = omega arith; loads = omega arith; stores = omega arith }) (record {
       kept = λ s c is a lt out. refl;
       raised = λ s c is. tt;
       ways = λ s c is. (refl, refl);
@@ -138,4 +142,6 @@ multiply_long_lawful w =
       );
       sure = λ s c f v lt h surely. long_sure (sets_flags w) s.flags (put s.flags f v) _ _ (bit_at 0 c) (bit_at 1 c) f lt surely;
       draws = λ h s c d. rw h refl;
+      plain = λ f h b s. refl;
+      stored_unread = λ b s f v h. refl;
     })

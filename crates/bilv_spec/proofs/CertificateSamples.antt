@@ -239,5 +239,5 @@ has_flags : map (arm Big).has_flag (0 ∷ 3 ∷ 4 ∷ []) ≡ true ∷ true ∷ 
 has_flags = refl
 
 -- a question's list of inputs is not empty
-not_empty : (p : Program) (k : ℕ) → p.machine.has_register 1 ≡ true → AreInputs p k [] → ⊥
-not_empty p k h is = let c = is.all (OfRegister 1 0) (h, omega arith) refl in omega arith
+not_empty : (p : Program) (k loads : ℕ) → p.machine.has_register 1 ≡ true → AreInputs p k loads [] → ⊥
+not_empty p k loads h is = let c = is.all (OfRegister 1 0) (h, omega arith) refl in omega arith

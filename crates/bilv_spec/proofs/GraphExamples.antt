@@ -1,4 +1,4 @@
--- Worked points, edges, prices, graph lines and walks, by computation alone.
+-- Worked points, edges, prices and graph lines, by computation alone.
 use Rattle.std.proofs.Common.{◌≡◌, ℕ, ◌+◌, ◌*◌, arith, refl, List, [], ◌∷◌, ◌++◌, Some, None, Bool, true, false}
 use Rattle.std.specs.Prelude.{◌==◌, codes, if◌then◌else◌}
 use Rattle.bilv_spec.specs.GraphText.{graph_line}
@@ -15,7 +15,6 @@ use Rattle.bilv_spec.specs.Points.{price_of, Point, ToAddress, ToExit, edges, Ar
 use Rattle.bilv_spec.specs.Questions.{Reading}
 use Rattle.bilv_spec.specs.Bil.{Expression, Var, Constant, Assign, JumpTo, Empty}
 use Rattle.bilv_spec.specs.Bil as bil
-use Rattle.bilv_spec.specs.Walk.{UnrolledProgram, Raising, WritingKept, Unaligned, Along, OnTo, Outward, WalkExits, WalkFails, walk}
 use Rattle.bilv_spec.proofs.PointTests.{points_by_test}
 use Rattle.bilv_spec.proofs.AllPoints.{no_more_points}
 
@@ -209,45 +208,3 @@ not_three = no_more_points (rv adds [] [] []) 64 2 (point [] 0x10000 ∷ point [
 
 more_than_one : HasMore (rv adds [] [] []) 64 1
 more_than_one = (point [] 0x10000 ∷ point [] 0x10004 ∷ [], omega arith, two_points.only, two_points.once)
-
--- the unrolled program of the sum: its walk from the largest word exits, or fails where the sum is to be greater
-abbrev a0 : Expression
-a0 = Var (bil.Register bil.XRegisters 10)
-
-abbrev unrolled : List NoteLine → UnrolledProgram
-unrolled ensures = record {
-  endian = Little;
-  link = 1;
-  entry = 0x10000;
-  requires = [];
-  ensures = ensures;
-  kept = record { low = 0x10000; high = 0x10007 } ∷ [];
-  known = record { at = 0x10000; count = 8; bytes = 0x13 ∷ 0x05 ∷ 0x15 ∷ 0 ∷ 0x67 ∷ 0x80 ∷ [] } ∷ [];
-  points =
-      record {
-        point = point [] 0x10000;
-        length = 4;
-        list = Assign (bil.Register bil.XRegisters 10) (bil.Binary bil.Plus a0 (Constant 32 1)) Empty;
-        exits = Raising ∷ WritingKept ∷ Unaligned ∷ Along true false (Some 0x10004) (OnTo 1) ∷ [];
-      } ∷
-      record {
-        point = point [] 0x10004;
-        length = 4;
-        list = JumpTo (bil.Binary bil.And (Var (bil.Register bil.XRegisters 1)) (Constant 32 0xfffffffe)) Empty;
-        exits = Raising ∷ WritingKept ∷ Unaligned ∷ Along false true None Outward ∷ [];
-      } ∷ [];
-}
-
-abbrev reading : ℕ → Reading
-reading link = record {
-  state = record { pc = 0x10000; regs = λ r. if r == 10 then 0xffffffff else if r == 1 then link else 0; flags = λ f. 0; mem = λ a. 0 };
-  choice = λ q. 0;
-}
-
-walk_exits : walk (unrolled (record { line = 2; says = Binary Equal (Register 10) (Binary Plus (Old (Register 10)) (Number 1)) } ∷ [])) (reading 0x40) 2 ≡ WalkExits
-unfolding walk
-walk_exits = refl
-
-walk_fails : walk (unrolled (record { line = 2; says = Binary Above (Register 10) (Old (Register 10)) } ∷ [])) (reading 0x40) 2 ≡ WalkFails (EnsureFails 2)
-unfolding walk
-walk_fails = refl

@@ -1,5 +1,5 @@
 -- Each form of row of RV32IM is lawful.
-use Rattle.std.proofs.Common.{◌≡◌, ◌≢◌, ℕ, zero, suc, ◌+◌, ◌*◌, ◌/◌, ◌%◌, ◌^◌, ◌<◌, refl, sym, ap, subst, ◌∙◌, true, false, Bool, arith, Some, None, List, ◌∷◌}
+use Rattle.std.proofs.Common.{◌≡◌, ◌≢◌, ℕ, zero, suc, ◌+◌, ◌*◌, ◌/◌, ◌%◌, ◌^◌, ◌<◌, ◌≤◌, refl, sym, ap, subst, ◌∙◌, true, false, Bool, arith, Some, None, List, ◌∷◌}
 use Rattle.std.specs.Prelude.{◌==◌, if◌then◌else◌, nat_lt, Contains}
 use Rattle.std.proofs.lemmas.Bool.Decides.{nat_tests}
 use Rattle.std.proofs.lemmas.Bool.{ne_eqb, eqb-true}
@@ -9,7 +9,7 @@ use Rattle.bilv_spec.specs.Memory.{Little, load, store, span}
 use Rattle.bilv_spec.specs.State.{State, IsState, put}
 use Rattle.bilv_spec.specs.Machine.{On, Row, Cost, Exception, addresses, even}
 use Rattle.bilv_spec.specs.Rv.{Fields, row_of, sets, auipc, reg, put_reg, with_reg, on, branches, branch_by, loads, stores, jal, jalr, links, direct_by, indirect_by, fence, raises}
-use Rattle.bilv_spec.specs.MachineLaws.{IsLawful, IsWay, IsSuccessor, ComesNext, IfGoes, IfRaises, with_flag, AgreeBut, OutcomesAgreeBut}
+use Rattle.bilv_spec.specs.MachineLaws.{IsLawful, IsPriced, IsWay, IsSuccessor, ComesNext, IfGoes, IfRaises, with_flag, AgreeBut, OutcomesAgreeBut}
 
 -- ranges
 one_small : (b : Bool) (v w : ℕ) → v < 2 ^ 32 → w < 2 ^ 32 → (if b then v else w) < 2 ^ 32
@@ -60,11 +60,14 @@ sets_lawful f x small same = record {
   unread = λ s c g v lt no_use. (refl, agrees _ _ g v refl (ap (λ z. put_reg s.regs x.rd z) (same s g v)) refl refl);
   sure = λ s c g v lt no_use surely. cc;
   draws = λ none s c d. refl;
+  plain = λ f lt assigned s. cc;
+  stored_unread = λ s f v lt no_use. refl;
+  priced = record { least = omega arith; most = omega arith; loads = omega arith; stores = omega arith };
 }
 
--- the laws do not speak of the price, nor of pairs
-pub with_price : (row : Row) (cost : Cost) → IsLawful row → IsLawful (record row { cost = cost })
-with_price row cost h = record {
+-- the laws ask of the price only that it is within its bounds, and do not speak of pairs
+pub with_price : (row : Row) (cost : Cost) → IsPriced cost → IsLawful row → IsLawful (record row { cost = cost })
+with_price row cost within h = record {
   stored = h.stored;
   raised = h.raised;
   successors = h.successors;
@@ -75,6 +78,9 @@ with_price row cost h = record {
   unread = h.unread;
   sure = h.sure;
   draws = h.draws;
+  plain = h.plain;
+  stored_unread = h.stored_unread;
+  priced = within;
 }
 
 pub auipc_lawful : (x : Fields) → IsLawful (auipc x)
@@ -91,6 +97,9 @@ auipc_lawful x =
       unread = h.unread;
       sure = h.sure;
       draws = h.draws;
+      plain = h.plain;
+      stored_unread = h.stored_unread;
+      priced = h.priced;
     }
 
 -- a jump does not go on to the next address
@@ -143,12 +152,16 @@ branches_lawful test x = record {
       (branch_agrees _ s x.imm g v);
   sure = λ s c g v lt no_use surely. cc;
   draws = λ none s c d. refl;
+  plain = λ f lt assigned s. cc;
+  stored_unread = λ s f v lt no_use. refl;
+  priced = record { least = omega arith; most = omega arith; loads = omega arith; stores = omega arith };
 }
 
 -- a load of n bytes, 1, 2 or 4
-pub loads_lawful : (n : ℕ) (extend : ℕ → ℕ) (x : Fields) → ((v : ℕ) → v < 2 ^ (8 * n) → extend v < 2 ^ 32) → IsLawful (loads n extend x)
-loads_lawful n extend x small =
+pub loads_lawful : (n : ℕ) (extend : ℕ → ℕ) (x : Fields) → n ≤ 4 → ((v : ℕ) → v < 2 ^ (8 * n) → extend v < 2 ^ 32) → IsLawful (loads n extend x)
+loads_lawful n extend x few small =
     with_price (row_of (λ s. on s (with_reg s x.rd (extend (load Little n s.mem (add 32 (reg s x.rs1) x.imm)))))) (record { row = 1024; loads = n; stores = 0 })
+    (record { least = omega arith; most = omega arith; loads = omega arith; stores = omega arith })
     (sets_lawful (λ y s. extend (load Little n s.mem (add 32 (reg s y.rs1) y.imm))) x
     (λ s is. small _ (loaded_below n s.mem (add 32 (reg s x.rs1) x.imm) is.mem))
     (λ s g v. ap (λ z. extend (load Little n s.mem (add 32 z x.imm))) (reg_flag s x.rs1 g v)))
@@ -177,8 +190,8 @@ untouched n a v x m p q out = by_test (nat_lt (sub 32 x a) n) refl
     by_test true e = absurd (out (in_span n a x p q (grind (arith, nat_tests))))
     by_test false e = rw e refl
 
-pub stores_lawful : (n : ℕ) (x : Fields) → IsLawful (stores n x)
-stores_lawful n x = record {
+pub stores_lawful : (n : ℕ) (x : Fields) → n ≤ 4 → IsLawful (stores n x)
+stores_lawful n x few = record {
   stored = λ s c is a lt out. untouched n (add 32 (reg s x.rs1) x.imm) (reg s x.rs2) a s.mem (mod_small _) lt out;
   raised = λ s c is. tt;
   successors = λ s c is. refl;
@@ -199,6 +212,9 @@ stores_lawful n x = record {
   );
   sure = λ s c g v lt no_use surely. cc;
   draws = λ none s c d. refl;
+  plain = λ f lt assigned s. cc;
+  stored_unread = λ s f v lt no_use. ap (λ z. Some (add 32 z x.imm, n)) (reg_flag s x.rs1 f v);
+  priced = record { least = omega arith; most = omega arith; loads = omega arith; stores = omega arith };
 }
 
 direct_goes : (call : Bool) (to : ℕ) → IsWay (record { next = false; direct = Some to; indirect = false; call = call }) (direct_by call) to
@@ -221,6 +237,9 @@ jal_lawful x = record {
   unread = λ s c g v lt no_use. (refl, agrees _ _ g v refl refl refl refl);
   sure = λ s c g v lt no_use surely. cc;
   draws = λ none s c d. refl;
+  plain = λ f lt assigned s. cc;
+  stored_unread = λ s f v lt no_use. refl;
+  priced = record { least = omega arith; most = omega arith; loads = omega arith; stores = omega arith };
 }
 
 pub jalr_lawful : (x : Fields) → IsLawful (jalr x)
@@ -235,6 +254,9 @@ jalr_lawful x = record {
   unread = λ s c g v lt no_use. (refl, agrees _ _ g v (ap (λ z. even (add 32 z x.imm)) (reg_flag s x.rs1 g v)) refl refl refl);
   sure = λ s c g v lt no_use surely. cc;
   draws = λ none s c d. refl;
+  plain = λ f lt assigned s. cc;
+  stored_unread = λ s f v lt no_use. refl;
+  priced = record { least = omega arith; most = omega arith; loads = omega arith; stores = omega arith };
 }
 
 pub fence_lawful : (x : Fields) → IsLawful (fence x)
@@ -249,6 +271,9 @@ fence_lawful x = record {
   unread = λ s c g v lt no_use. (refl, agrees _ _ g v refl refl refl refl);
   sure = λ s c g v lt no_use surely. cc;
   draws = λ none s c d. refl;
+  plain = λ f lt assigned s. cc;
+  stored_unread = λ s f v lt no_use. refl;
+  priced = record { least = omega arith; most = omega arith; loads = omega arith; stores = omega arith };
 }
 
 pub raises_lawful : (e : Exception) (x : Fields) → IsLawful (raises e x)
@@ -263,4 +288,7 @@ raises_lawful e x = record {
   unread = λ s c g v lt no_use. refl;
   sure = λ s c g v lt no_use surely. cc;
   draws = λ none s c d. refl;
+  plain = λ f lt assigned s. cc;
+  stored_unread = λ s f v lt no_use. refl;
+  priced = record { least = omega arith; most = omega arith; loads = omega arith; stores = omega arith };
 }

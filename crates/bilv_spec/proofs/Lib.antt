@@ -43,12 +43,6 @@ pub mod GraphExamples
 pub mod Ends
 pub mod Deciding
 pub mod PointsInGraph
-pub mod WalkEdges
-pub mod WalkSteps
-pub mod WalkRuns
-pub mod WalkQuestions
-pub mod WalkExample
-pub mod WalkOrder
 pub mod StateSamples
 pub mod Spelling
 pub mod StateLines
@@ -79,3 +73,4 @@ pub mod NotesWords
 pub mod RvTable
 pub mod ArmTable
 pub mod ProgramRows
+pub mod Fitted

@@ -2,14 +2,14 @@
 use Rattle.std.proofs.Common.{◌≡◌, ℕ, zero, suc, refl, sym, subst, true, None, Some, ◌↔◌, List, [], arith, ◌<◌}
 use Rattle.std.specs.Prelude.{Contains, not}
 use Rattle.bilv_spec.specs.Words.{add}
-use Rattle.bilv_spec.specs.Memory.{Little}
+use Rattle.bilv_spec.specs.Memory.{Little, Big}
 use Rattle.bilv_spec.specs.State.{State}
 use Rattle.bilv_spec.specs.MachineLaws.{IsLifting}
 use Rattle.bilv_spec.specs.Rv.{rv32, rv_row, table, fields, imm_i, Fields, sets, reg, loads, stores, raises}
 use Rattle.bilv_spec.specs.Machine.{Row, EnvironmentCall}
-use Rattle.bilv_spec.specs.Bil.{BilVariable, Register, Flag, XRegisters, RRegisters, Mem, Statements, Assign, Raise, If, Empty, Expression, Var, Constant, Binary, Plus, Load, Store}
+use Rattle.bilv_spec.specs.Bil.{BilVariable, Register, Flag, XRegisters, RRegisters, Mem, Statements, Assign, Raise, If, Empty, Expression, Var, Constant, Binary, Plus, Load, Store, Choose}
 use Rattle.bilv_spec.specs.BilStores.{list_stored}
-use Rattle.bilv_spec.specs.BilCounts.{reads_within}
+use Rattle.bilv_spec.specs.BilCounts.{reads_within, other_loads, memory_choices}
 use Rattle.bilv_spec.specs.Simulation.{Simulates, Locals, position, of_list, of_row}
 use Rattle.bilv_spec.specs.BilMeaning.{execute}
 use Rattle.bilv_spec.specs.Arm.{computing, arm}
@@ -75,6 +75,8 @@ addi_lifting at = record {
   reads = λ f small. refl;
   reads_first = λ f small. refl;
   draws = λ e. refl;
+  picks = refl;
+  literal = λ a e. cc;
   weight = omega arith;
   loads = omega arith;
   stores = omega arith;
@@ -98,6 +100,8 @@ sw_lifting at = record {
   reads = λ f small. refl;
   reads_first = λ f small. refl;
   draws = λ e. refl;
+  picks = refl;
+  literal = λ a e. cc;
   weight = omega arith;
   loads = omega arith;
   stores = omega arith;
@@ -118,6 +122,8 @@ ecall_lifting at y = record {
   reads = λ f small. refl;
   reads_first = λ f small. refl;
   draws = λ e. refl;
+  picks = refl;
+  literal = λ a e. cc;
   weight = omega arith;
   loads = omega arith;
   stores = omega arith;
@@ -153,7 +159,29 @@ moveq_lifting at = record {
   reads = moveq_reads;
   reads_first = λ f small. refl;
   draws = λ e. refl;
+  picks = refl;
+  literal = λ a e. cc;
   weight = omega arith;
   loads = omega arith;
   stores = omega arith;
 }
+
+-- a literal's load is of the word at its address, in the machine's byte order, and of no other
+abbrev literal_load : ℕ → Statements
+literal_load a = Assign (Register RRegisters 0) (Load (Var Mem) (Constant 32 a) Little 32) Empty
+
+of_literal : other_loads Little 0x10008 (literal_load 0x10008) ≡ 0
+of_literal = refl
+
+of_other_address : other_loads Little 0x10008 (literal_load 0x1000c) ≡ 1
+of_other_address = refl
+
+of_other_order : other_loads Big 0x10008 (literal_load 0x10008) ≡ 1
+of_other_order = refl
+
+-- a choice between memories is told from one between words
+memory_choice : memory_choices (Assign Mem (Choose (Constant 1 1) (Var Mem) (Var Mem)) Empty) ≡ 1
+memory_choice = refl
+
+word_choice : memory_choices (Assign (Register RRegisters 0) (Choose (Constant 1 1) (Constant 32 1) (Constant 32 2)) Empty) ≡ 0
+word_choice = refl

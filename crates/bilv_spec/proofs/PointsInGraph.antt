@@ -35,7 +35,7 @@ module _ {X Y : Type 0} where
   of_map f (x ∷ xs) y (zero, h, e) = (x, here x xs, e)
   of_map f (x ∷ xs) y (suc i, h, e) = let q = of_map f xs y (i, omega arith, e) in (q.0, there x xs q.0 q.1, q.2)
 
-of_distinct : (xs : List EdgeEnd) (x : EdgeEnd) → Contains (distinct xs) x → Contains xs x
+pub of_distinct : (xs : List EdgeEnd) (x : EdgeEnd) → Contains (distinct xs) x → Contains xs x
 of_distinct [] x h = none_in x h
 of_distinct (t ∷ xs) x (zero, h, e) = (0, omega arith, e)
 of_distinct (t ∷ xs) x (suc i, h, e) =
@@ -89,7 +89,7 @@ insert_keeps : (x : Successor) (ys : List Successor) (z : Successor) → Contain
 insert_keeps x [] z h = none_in z h
 insert_keeps x (y ∷ ys) z h = keep_by x y ys (insert x ys) z (comes_before x y) (comes_before y x) (insert_keeps x ys z) h
 
-in_sort : (xs : List Successor) (x : Successor) → Contains xs x → Contains (sort xs) x
+pub in_sort : (xs : List Successor) (x : Successor) → Contains xs x → Contains (sort xs) x
 in_sort [] x h = h
 in_sort (y ∷ xs) x (zero, h, e) = subst (λ (z : Successor). Contains (insert y (sort xs)) z) e (inserted y (sort xs))
 in_sort (y ∷ xs) x (suc i, h, e) = insert_keeps y (sort xs) x (in_sort xs x (i, omega arith, e))

@@ -49,7 +49,8 @@ registers_lawful funct3 funct7 f h w =
     ∙ ap (λ z. f (reg (with_flag s g v) (bits 19 15 w)) z) (reg_flag s (bits 24 20 w) g v))
 
 dear_lawful : (funct3 : ℕ) (f : ℕ → ℕ → ℕ) → GivesWords f → IsLawfulInstruction (dear_registers funct3 f)
-dear_lawful funct3 f h w = with_price (sets (λ y s. f (reg s y.rs1) (reg s y.rs2)) (fields imm_i w)) (record { row = 20000; loads = 0; stores = 0 }) (registers_lawful funct3 1 f h w)
+dear_lawful funct3 f h w = with_price (sets (λ y s. f (reg s y.rs1) (reg s y.rs2)) (fields imm_i w)) (record { row = 20000; loads = 0; stores = 0 })
+    (record { least = omega arith; most = omega arith; loads = omega arith; stores = omega arith }) (registers_lawful funct3 1 f h w)
 
 -- the whole table
 abbrev AreLawful : List Instruction → Type 0
@@ -79,21 +80,21 @@ table_lawful = (
                   (
                     λ w. branches_lawful (λ a b. not (nat_lt a b)) (fields imm_b w),
                     (
-                      λ w. loads_lawful 1 (sign_extend 8 32) (fields imm_i w) (λ v l. sign_extend_below 8 32 v l (omega arith)),
+                      λ w. loads_lawful 1 (sign_extend 8 32) (fields imm_i w) (omega arith) (λ v l. sign_extend_below 8 32 v l (omega arith)),
                       (
-                        λ w. loads_lawful 2 (sign_extend 16 32) (fields imm_i w) (λ v l. sign_extend_below 16 32 v l (omega arith)),
+                        λ w. loads_lawful 2 (sign_extend 16 32) (fields imm_i w) (omega arith) (λ v l. sign_extend_below 16 32 v l (omega arith)),
                         (
-                          λ w. loads_lawful 4 (λ v. v) (fields imm_i w) (λ v l. l),
+                          λ w. loads_lawful 4 (λ v. v) (fields imm_i w) (omega arith) (λ v l. l),
                           (
-                            λ w. loads_lawful 1 (λ v. v) (fields imm_i w) (λ v l. omega arith),
+                            λ w. loads_lawful 1 (λ v. v) (fields imm_i w) (omega arith) (λ v l. omega arith),
                             (
-                              λ w. loads_lawful 2 (λ v. v) (fields imm_i w) (λ v l. omega arith),
+                              λ w. loads_lawful 2 (λ v. v) (fields imm_i w) (omega arith) (λ v l. omega arith),
                               (
-                                λ w. stores_lawful 1 (fields imm_s w),
+                                λ w. stores_lawful 1 (fields imm_s w) (omega arith),
                                 (
-                                  λ w. stores_lawful 2 (fields imm_s w),
+                                  λ w. stores_lawful 2 (fields imm_s w) (omega arith),
                                   (
-                                    λ w. stores_lawful 4 (fields imm_s w),
+                                    λ w. stores_lawful 4 (fields imm_s w) (omega arith),
                                     (
                                       immediate_lawful 0 (add 32) (λ a b p q. mod_word (a + b)),
                                       (

@@ -1,5 +1,6 @@
 -- What lists of statements have in them: a weight, loads and stores, unknowns, nesting, variables, and the flags that they read and assign.
-use Rattle.std.specs.Prelude.{ℕ, ◌+◌, ◌*◌, ◌-◌, ◌/◌, Bool, true, false, ◌&&◌, ◌||◌, not, ◌==◌, max}
+use Rattle.std.specs.Prelude.{ℕ, ◌+◌, ◌*◌, ◌-◌, ◌/◌, Bool, true, false, ◌&&◌, ◌||◌, not, ◌==◌, max, if◌then◌else◌}
+use Rattle.bilv_spec.specs.Memory.{Endian, Little, Big}
 use Rattle.bilv_spec.specs.Machine.{Machine}
 use Rattle.bilv_spec.specs.Bil.{Bank, XRegisters, RRegisters, BilVariable, Register, Flag, Mem, Local, BinaryOp, Plus, Minus, Times, Divide, SignedDivide, Modulo, SignedModulo, And, Or, Xor, ShiftLeft, ShiftRight, ShiftSigned, Equal, NotEqual, Less, LessEqual, SignedLess, SignedLessEqual, Negate, Expression, Var, Constant, Load, Store, Binary, Unary, Cast, Let, Unknown, Choose, Extract, Concat, Statements, Empty, Assign, JumpTo, Raise, Special, While, If, type_of, total, list_total}
 use Rattle.bilv_spec.specs.BilTyping.{result_width, type_width}
@@ -80,6 +81,31 @@ own_stores e = 0
 -- how many bytes a list stores
 abbrev pub byte_stores : Statements → ℕ
 byte_stores list = list_total (total own_stores) list
+
+-- a node is a choice between memories, which no weight pays for
+abbrev pub own_memory_choices : Expression → ℕ
+own_memory_choices (Choose c a b) = if width a == 0 then 1 else 0
+own_memory_choices e = 0
+
+-- how many choices between memories a list has
+abbrev pub memory_choices : Statements → ℕ
+memory_choices list = list_total (total own_memory_choices) list
+
+-- two byte orders are one
+abbrev pub same_order : Endian → Endian → Bool
+same_order Little Little = true
+same_order Big Big = true
+same_order e f = false
+
+-- a node is a load, but not of the word at a constant address, in a byte order, out of the machine's memory
+abbrev pub own_other_loads : Endian → (address : ℕ) → Expression → ℕ
+own_other_loads e a (Load (Var Mem) (Constant w v) f n) = if same_order e f && (w == 32) && (v == a) && (n == 32) then 0 else 1
+own_other_loads e a (Load m b f n) = 1
+own_other_loads e a x = 0
+
+-- how many loads of a list are not of that word
+abbrev pub other_loads : Endian → (address : ℕ) → Statements → ℕ
+other_loads e a list = list_total (total (own_other_loads e a)) list
 
 -- a node is an unknown
 abbrev pub own_unknowns : Expression → ℕ

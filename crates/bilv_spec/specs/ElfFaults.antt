@@ -1,5 +1,6 @@
 -- Which files are refused, and the functions that the symbols name (System V ABI, chapters 4 and 5).
 use Rattle.std.specs.Prelude.{ℕ, ◌≡◌, ◌≢◌, ◌≤◌, ◌<◌, ◌+◌, ◌*◌, ◌%◌, ◌^◌, ◌⊎◌, List, [], ◌∷◌, length, take, drop, slice_index, slice_get, Some}
+use Rattle.bilv_spec.specs.Machine.{IsAtPlace}
 use Rattle.bilv_spec.specs.Elf.{field, Segment, segments}
 
 -- a section header (System V ABI, object files: sections)
@@ -47,7 +48,7 @@ abbrev pub IsFunctionSymbol : List ℕ → ℕ → ℕ → List ℕ → ℕ → 
 IsFunctionSymbol file i k name a =
     let at = (section file i).offset + 16 * k in
     IsName file (section file (section file i).link) (field file 4 at) name
-    × (field file 4 (at + 4) ≡ a) × (slice_index file (at + 12) % 16 ≡ 2) × (field file 2 (at + 14) ≢ 0) × (a % 4 ≡ 0)
+    × (field file 4 (at + 4) ≡ a) × (slice_index file (at + 12) % 16 ≡ 2) × (field file 2 (at + 14) ≢ 0) × IsAtPlace a
 
 -- a symbol is the function name at the address a
 abbrev pub IsFunction : List ℕ → List ℕ → ℕ → Type 0

@@ -1,5 +1,6 @@
 -- Why a state at the entry address is no entry state.
-use Rattle.std.specs.Prelude.{ℕ, ◌≡◌, ◌≢◌, ◌<◌, ◌%◌, ◌^◌, true, Option, Some, None}
+use Rattle.std.specs.Prelude.{ℕ, ◌≡◌, ◌≢◌, ◌<◌, ◌^◌, true, Option, Some, None}
+use Rattle.bilv_spec.specs.Machine.{IsAtPlace}
 use Rattle.bilv_spec.specs.State.{State}
 use Rattle.bilv_spec.specs.Run.{Program, false_line}
 use Rattle.bilv_spec.specs.Points.{is_known_at, byte_of_cell}
@@ -20,7 +21,7 @@ false_require p s = false_line p.machine.endian p.notes.requires s s
 
 -- the first fault, in the order link, require lines by their numbers, bytes by their addresses
 abbrev pub IsEntryStateFault : Program → State → EntryStateFault → Type 0
-IsEntryStateFault p s UnalignedLink = s.regs p.machine.link % 4 ≢ 0
-IsEntryStateFault p s (FalseRequire n) = (s.regs p.machine.link % 4 ≡ 0) × (false_require p s ≡ Some n)
+IsEntryStateFault p s UnalignedLink = ¬ IsAtPlace (s.regs p.machine.link)
+IsEntryStateFault p s (FalseRequire n) = IsAtPlace (s.regs p.machine.link) × (false_require p s ≡ Some n)
 IsEntryStateFault p s (WrongByte a) =
-    (s.regs p.machine.link % 4 ≡ 0) × (false_require p s ≡ None) × IsWrongByte p s a × ((c : ℕ) → c < a → ¬ IsWrongByte p s c)
+    IsAtPlace (s.regs p.machine.link) × (false_require p s ≡ None) × IsWrongByte p s a × ((c : ℕ) → c < a → ¬ IsWrongByte p s c)

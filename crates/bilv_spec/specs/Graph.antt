@@ -1,7 +1,7 @@
 -- The flow graph of a program: its addresses, the successors of each, and the flags whose assignments stay.
-use Rattle.std.specs.Prelude.{ℕ, ◌≡◌, ◌≢◌, ◌%◌, Bool, true, false, ◌==◌, ◌&&◌, ◌||◌, not, nat_lt, if◌then◌else◌, List, [], ◌∷◌, ◌++◌, Option, Some, None, map, filter, Contains}
+use Rattle.std.specs.Prelude.{ℕ, ◌≡◌, ◌≢◌, Bool, true, false, ◌==◌, ◌&&◌, ◌||◌, not, nat_lt, if◌then◌else◌, List, [], ◌∷◌, ◌++◌, Option, Some, None, map, filter, Contains}
 use Rattle.bilv_spec.specs.Words.{add}
-use Rattle.bilv_spec.specs.Machine.{Row, Successors}
+use Rattle.bilv_spec.specs.Machine.{Row, Successors, is_place}
 use Rattle.bilv_spec.specs.Run.{Program, named, some_of}
 use Rattle.bilv_spec.specs.Points.{file_row, file_word}
 
@@ -39,7 +39,7 @@ successors_of p at row s =
 -- the successors by the row at the address that are multiples of 4; any other next address ends a run
 abbrev pub successors_by : Program → ℕ → Option Row → List Successor
 successors_by p at None = []
-successors_by p at (Some row) = filter (λ x. x.to % 4 == 0) (successors_of p at row (row.successors at))
+successors_by p at (Some row) = filter (λ x. is_place x.to) (successors_of p at row (row.successors at))
 
 -- one successor stands before another: its address is less, or it is the same and its letter comes first
 abbrev pub comes_before : Successor → Successor → Bool

@@ -45,7 +45,6 @@ pub mod LiftText
 pub mod Graph
 pub mod LiveFlags
 pub mod GraphText
-pub mod Terms
 pub mod Certificates
 pub mod CertificateGrammar
 pub mod CertificateLaws
@@ -55,9 +54,6 @@ pub mod Work
 pub mod Outside
 pub mod Outcomes
 pub mod PointLaws
-pub mod Walk
-pub mod Unrolling
-pub mod WalkLaws
 pub mod StateLaws
 pub mod AnswerLaws
 pub mod EntryFaults

@@ -1,8 +1,8 @@
 -- The text of a file's lifted words.
-use Rattle.std.specs.Prelude.{ℕ, ◌≡◌, ◌<◌, ◌+◌, ◌-◌, ◌%◌, ◌==◌, ◌&&◌, Bool, true, false, nat_lt, ◌↔◌, ◌^◌, List, [], ◌∷◌, ◌++◌, Option, Some, None, codes, length, slice_index, Contains, find}
+use Rattle.std.specs.Prelude.{ℕ, ◌≡◌, ◌<◌, ◌+◌, ◌-◌, ◌==◌, ◌&&◌, Bool, true, false, nat_lt, ◌↔◌, ◌^◌, List, [], ◌∷◌, ◌++◌, Option, Some, None, codes, length, slice_index, Contains, find}
 use Rattle.std.specs.List.{list_all, flat_map}
 use Rattle.bilv_spec.specs.Memory.{number}
-use Rattle.bilv_spec.specs.Machine.{Row}
+use Rattle.bilv_spec.specs.Machine.{Row, is_place}
 use Rattle.bilv_spec.specs.MachineLaws.{IsLifting}
 use Rattle.bilv_spec.specs.Elf.{Segment, Cell, segments, covers, loaded, executable}
 use Rattle.bilv_spec.specs.Files.{machine_of, is_rv}
@@ -21,7 +21,7 @@ is_given file a = is_given_by a (find (covers a) (segments file))
 
 -- a multiple of 4 whose four bytes are executable and given by the file
 abbrev pub is_word_at : List ℕ → ℕ → Bool
-is_word_at file a = (a % 4 == 0) && list_all (λ i. is_given file (a + i)) (0 ∷ 1 ∷ 2 ∷ 3 ∷ [])
+is_word_at file a = is_place a && list_all (λ i. is_given file (a + i)) (0 ∷ 1 ∷ 2 ∷ 3 ∷ [])
 
 -- the byte that is loaded
 abbrev pub byte_at : Option Cell → ℕ

@@ -1,5 +1,5 @@
 -- A machine as a table of rows, one for each instruction.
-use Rattle.std.specs.Prelude.{ℕ, ◌-◌, ◌%◌, Bool, true, false, List, [], Option, Some, None, ◌==◌, if◌then◌else◌}
+use Rattle.std.specs.Prelude.{ℕ, ◌≡◌, ◌-◌, ◌%◌, Bool, true, false, List, [], Option, Some, None, ◌==◌, if◌then◌else◌}
 use Rattle.bilv_spec.specs.Words.{add, sub}
 use Rattle.bilv_spec.specs.Memory.{Endian, span}
 use Rattle.bilv_spec.specs.State.{State}
@@ -41,6 +41,13 @@ pub record Successors : Type 0 where
   pub direct : Option ℕ
   pub indirect : Bool
   pub call : Bool
+
+-- a row can stand at the address, which is a multiple of 4, as rows have 4 bytes: as a test, and as a fact
+abbrev pub is_place : ℕ → Bool
+is_place a = a % 4 == 0
+
+abbrev pub IsAtPlace : ℕ → Type 0
+IsAtPlace a = a % 4 ≡ 0
 
 -- a row that only goes on
 abbrev pub only_next : ℕ → Successors

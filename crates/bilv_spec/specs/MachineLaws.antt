@@ -1,11 +1,12 @@
 -- The laws of a row, of a machine, and of a row's lifted list.
-use Rattle.std.specs.Prelude.{◌≡◌, ◌↔◌, ℕ, ◌≤◌, ◌<◌, ◌^◌, true, false, not, Some, None, List, Contains}
+use Rattle.std.specs.Prelude.{◌≡◌, ◌↔◌, ℕ, ◌≤◌, ◌<◌, ◌+◌, ◌^◌, ◌&&◌, nat_le, nat_lt, length, true, false, not, Some, None, List, Contains}
 use Rattle.bilv_spec.specs.Words.{add}
 use Rattle.bilv_spec.specs.State.{State, IsState, put}
-use Rattle.bilv_spec.specs.Machine.{Row, Successors, How, On, Direct, DirectCall, Indirect, IndirectCall, Outcome, Goes, Raises, addresses, Machine}
+use Rattle.bilv_spec.specs.Machine.{Row, Cost, Successors, How, On, Direct, DirectCall, Indirect, IndirectCall, Outcome, Goes, Raises, addresses, Machine}
+use Rattle.bilv_spec.specs.StateText.{Layout}
 use Rattle.bilv_spec.specs.Bil.{Bank, Statements}
 use Rattle.bilv_spec.specs.BilTyping.{IsWellTyped}
-use Rattle.bilv_spec.specs.BilCounts.{list_weight, byte_loads, byte_stores, unknowns, has_no_loop, has_no_special, nesting, list_names_only, is_own, may_assign, surely_assigns, reads_within, reads_first}
+use Rattle.bilv_spec.specs.BilCounts.{list_weight, byte_loads, byte_stores, memory_choices, other_loads, unknowns, has_no_loop, has_no_special, nesting, list_names_only, is_own, may_assign, surely_assigns, reads_within, reads_first}
 use Rattle.bilv_spec.specs.BilStores.{list_stored}
 use Rattle.bilv_spec.specs.Simulation.{Locals, position, Simulates}
 
@@ -67,11 +68,19 @@ HaveSameFlag f (Goes how s) (Goes other t) = s.flags f ≡ t.flags f
 HaveSameFlag f (Raises d) other = Unit {0}
 HaveSameFlag f (Goes how s) (Raises e) = Unit {0}
 
+-- The price of a row's point, within bounds by which the price of a program fits 128 bits. The least of it pays for what a point costs besides its list.
+pub record IsPriced (cost : Cost) : Type 0 where
+  pub least : 64 ≤ cost.row
+  pub most : cost.row ≤ 20000
+  pub loads : cost.loads ≤ 64
+  pub stores : cost.stores ≤ 64
+
 -- What a row does in any state, under any choice.
 -- stored, raised: where it goes on, it changes only the bytes that it says; where it raises an exception, it says none. successors, next, one_way: it goes on only
 -- to a static successor, comes to the address behind it where it does not jump, and has no direct and no indirect successor at once. states: what it leaves is a
 -- state. unassigned, unread, sure: a flag that it doesn't assign is unchanged; a flag that it doesn't read changes nothing but that flag itself, and not even that
--- where it surely assigns it. draws: it reads the choice only where it says so.
+-- where it surely assigns it. draws: it reads the choice only where it says so. plain: one that may assign a flag stores no byte. stored_unread: a flag that it
+-- doesn't read does not change which bytes it stores. priced: its cost is within the bounds.
 pub record IsLawful (row : Row) : Type 0 where
   pub stored : (s : State) (c : ℕ) → IsState s → KeepsOthers (addresses (row.stored s)) s (row.effect s c)
   pub raised : (s : State) (c : ℕ) → IsState s → IfRaises (row.effect s c) (row.stored s ≡ None)
@@ -84,16 +93,29 @@ pub record IsLawful (row : Row) : Type 0 where
   pub sure : (s : State) (c f v : ℕ) → f < 4 → row.flags.reads f ≡ false → row.flags.surely f ≡ true →
       HaveSameFlag f (row.effect s c) (row.effect (with_flag s f v) c)
   pub draws : row.draws ≡ false → (s : State) (c d : ℕ) → row.effect s c ≡ row.effect s d
+  pub plain : (f : ℕ) → f < 4 → row.flags.assigns f ≡ true → (s : State) → row.stored s ≡ None
+  pub stored_unread : (s : State) (f v : ℕ) → f < 4 → row.flags.reads f ≡ false → row.stored s ≡ row.stored (with_flag s f v)
+  pub priced : IsPriced row.cost
 
 -- each word of 32 bits that has a row has a lawful one
 pub record IsLawfulMachine (m : Machine) : Type 0 where
   pub rows : (w : ℕ) (row : Row) → w < 2 ^ 32 → m.row w ≡ Some row → IsLawful row
 
+-- The form of state texts is the machine's: the registers are those from the form's first on, at most 31; the flags are those below the number of the form's, at
+-- most 4; the link register is one of the registers.
+pub record IsFitted (m : Machine) (form : Layout) : Type 0 where
+  pub registers : (r : ℕ) → m.has_register r ≡ (nat_le form.first r && nat_lt r (form.first + length form.registers))
+  pub few_registers : length form.registers ≤ 31
+  pub flags : (f : ℕ) → m.has_flag f ≡ nat_lt f (length form.flags)
+  pub few_flags : length form.flags ≤ 4
+  pub link : m.has_register m.link ≡ true
+
 -- The list of a row that stands at an address, of a machine whose registers have the letter of a bank.
 -- simulates: it does what the row does. stored: it stores just the bytes that the row stores, and none before an exception, since a lawful row then stores none.
 -- typed, no_loop, no_special, nests, names: it is well typed, has neither loop nor special, ifs at most two deep, and only the machine's variables.
 -- assigns, surely, reads, reads_first: it uses the flags as the row does, and reads none that it has assigned. draws: it has an unknown only where the row draws.
--- weight, loads, stores: they are within the row's cost.
+-- picks: it chooses between words alone. literal: where the row loads a literal, each of its loads is of that word, at a constant address, and it stores nothing.
+-- weight, loads, stores: they are within the row's cost, of which 64 are left for the exits of the row's point.
 pub record IsLifting (m : Machine) (bank : Bank) (row : Row) (at : ℕ) (list : Statements) : Type 0 where
   pub simulates : Simulates row.effect at list
   pub stored : (s : State) → IsState s → s.pc ≡ at → (choice turns : ℕ) → choice < 4 → (l : Locals) → (a : ℕ) →
@@ -108,6 +130,8 @@ pub record IsLifting (m : Machine) (bank : Bank) (row : Row) (at : ℕ) (list : 
   pub reads : (f : ℕ) → f < 4 → reads_within f (row.flags.reads f) (not (row.flags.surely f)) list ≡ true
   pub reads_first : (f : ℕ) → f < 4 → reads_first f false list ≡ true
   pub draws : row.draws ≡ false → unknowns list ≡ 0
-  pub weight : list_weight list ≤ row.cost.row
+  pub picks : memory_choices list ≡ 0
+  pub literal : (a : ℕ) → row.literal at ≡ Some a → (other_loads m.endian a list ≡ 0) × (byte_stores list ≡ 0)
+  pub weight : list_weight list + 64 ≤ row.cost.row
   pub loads : byte_loads list ≤ row.cost.loads
   pub stores : byte_stores list ≤ row.cost.stores

@@ -1,9 +1,10 @@
 -- The text of notes: lines, tokens, expressions.
-use Rattle.std.specs.Prelude.{ℕ, zero, suc, ◌≡◌, ◌≤◌, ◌<◌, ◌+◌, ◌-◌, ◌%◌, ◌^◌, Bool, true, false, List, [], ◌∷◌, ◌++◌, Option, Some, None, ◌==◌, ◌&&◌, ◌||◌, not, nat_eq, nat_lt, nat_le, if◌then◌else◌, length, map, find, codes, drop, count_by, take_while, All, AllPairs, Contains, ◌≢◌}
+use Rattle.std.specs.Prelude.{ℕ, zero, suc, ◌≡◌, ◌≤◌, ◌<◌, ◌+◌, ◌-◌, ◌^◌, Bool, true, false, List, [], ◌∷◌, ◌++◌, Option, Some, None, ◌==◌, ◌&&◌, ◌||◌, not, nat_eq, nat_lt, nat_le, if◌then◌else◌, length, map, find, codes, drop, count_by, take_while, All, AllPairs, Contains, ◌≢◌}
 use Rattle.std.specs.List.{starts_with, list_any, list_all}
 use Rattle.std.specs.Str.{bytes_eq}
 use Rattle.std.specs.Char.{digit_value}
 use Rattle.std.specs.Str.Parse.{digits_value}
+use Rattle.bilv_spec.specs.Machine.{IsAtPlace}
 use Rattle.bilv_spec.specs.Notes.{Op, Or, And, Equal, NotEqual, Below, AtMost, Above, AtLeast, SignedBelow, SignedAtMost, SignedAbove, SignedAtLeast, BitOr, BitXor, BitAnd, ShiftLeft, ShiftRight, ShiftSigned, Plus, Minus, Times, Expr, Number, Memory, Old, Not, Binary, NoteLine, Assert, Targets, FixedRange, Function, At, Named, Notes}
 
 -- the first line with a byte before it
@@ -201,7 +202,7 @@ pub data Says : Type 0 where
 
 -- a multiple of 4
 abbrev pub IsAligned : ℕ → Type 0
-IsAligned a = a % 4 ≡ 0
+IsAligned a = IsAtPlace a
 
 -- the tokens say this
 abbrev pub IsSaid : (List ℕ → Option Expr) → List Token → Says → Type 0

@@ -1,7 +1,7 @@
 -- Laws of points: runs go along edges, meet each point at most once, and there is one price.
-use Rattle.std.specs.Prelude.{ℕ, ◌≡◌, ◌≤◌, ◌<◌, ◌%◌, ◌⊎◌, true, List, Some, Contains, length}
+use Rattle.std.specs.Prelude.{ℕ, ◌≡◌, ◌≤◌, ◌<◌, ◌⊎◌, true, List, Some, Contains, length}
 use Rattle.bilv_spec.specs.State.{State, IsState}
-use Rattle.bilv_spec.specs.Machine.{Row}
+use Rattle.bilv_spec.specs.Machine.{Row, IsAtPlace}
 use Rattle.bilv_spec.specs.MachineLaws.{IsLawful}
 use Rattle.bilv_spec.specs.Run.{Program, EnsureFails, Start, Place, Step, Stops, Arrives, Exits, Going, step, run, in_memory, IsOver}
 use Rattle.bilv_spec.specs.Verdict.{IsEntryState}
@@ -55,7 +55,7 @@ IsReturnAddress p b = (a : ℕ) × IsAddress p a × Contains (successors_at p a)
 -- gone to); each edge is a static path; and where an edge is the exit, the row may return.
 pub record IsInGraph (p : Program) (point : Point) : Type 0 where
   pub at : IsAddress p point.at
-  pub stack : (b : ℕ) → Contains point.stack b → b % 4 ≡ 0 → IsReturnAddress p b
+  pub stack : (b : ℕ) → Contains point.stack b → IsAtPlace b → IsReturnAddress p b
   pub leads : (stack : List ℕ) (a : ℕ) → Contains (edges p point) (ToAddress stack a) → LeadsTo p point.at a
   pub exits : Contains (edges p point) ToExit → may_return p point.at ≡ true
 

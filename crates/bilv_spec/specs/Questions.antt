@@ -1,5 +1,6 @@
 -- Readings, and the three questions that are asked of them. A question is true of exactly those readings that its clauses and its script are satisfied by.
-use Rattle.std.specs.Prelude.{ℕ, zero, suc, ◌≡◌, ◌<◌, ◌%◌, ◌^◌, Bool, true, [], Some, None}
+use Rattle.std.specs.Prelude.{ℕ, zero, suc, ◌≡◌, ◌<◌, ◌^◌, Bool, true, [], Some, None}
+use Rattle.bilv_spec.specs.Machine.{IsAtPlace}
 use Rattle.bilv_spec.specs.State.{State, IsState}
 use Rattle.bilv_spec.specs.Elf.{Cell}
 use Rattle.bilv_spec.specs.Run.{Program, Event, Place, Run, Going, Exited, Failed, Turned, step, after_step, false_line}
@@ -66,7 +67,7 @@ pub record IsTrue (p : Program) (k : ℕ) (r : Reading) (question : Question) : 
 pub record IsEntryStateOver (p : Program) (asked : ℕ → Bool) (s : State) : Type 0 where
   pub state : IsState s
   pub pc : s.pc ≡ p.entry
-  pub link : s.regs p.machine.link % 4 ≡ 0
+  pub link : IsAtPlace (s.regs p.machine.link)
   pub bytes : (a : ℕ) (c : Cell) → a < 2 ^ 32 → p.loaded a ≡ Some c → asked a ≡ true → s.mem a ≡ c.byte
   pub requires : false_line p.machine.endian p.notes.requires s s ≡ None
 

@@ -1,5 +1,6 @@
 -- What the commands that replay a report and check a certificate answer.
-use Rattle.std.specs.Prelude.{ℕ, ◌≡◌, ◌<◌, ◌≤◌, ◌%◌, Bool, true, false, ◌==◌, ◌&&◌, nat_lt, List, [], ◌∷◌, ◌++◌, codes, Option, Some, None, length, drop}
+use Rattle.std.specs.Prelude.{ℕ, ◌≡◌, ◌<◌, ◌≤◌, Bool, true, false, ◌==◌, ◌&&◌, nat_lt, List, [], ◌∷◌, ◌++◌, codes, Option, Some, None, length, drop}
+use Rattle.bilv_spec.specs.Machine.{is_place}
 use Rattle.bilv_spec.specs.Run.{Program, Start, Event, AssertFails, FetchFails, NoRow, HalfwordFails, CodeWritten, Trapped, AlignFails, JumpFails, EnsureFails}
 use Rattle.bilv_spec.specs.Points.{is_known_at}
 use Rattle.bilv_spec.specs.EntryFaults.{false_require}
@@ -74,7 +75,7 @@ start_answer true p n start = require_answer (false_require p start.state) n (fo
 
 -- the answer to a named ending with a start
 abbrev pub run_answer : Program → NamedEnding → Start → Answer
-run_answer p n start = start_answer (start.state.regs p.machine.link % 4 == 0) p n start
+run_answer p n start = start_answer (is_place (start.state.regs p.machine.link)) p n start
 
 -- the answer to what a text says
 abbrev pub told_answer : Program → Layout → Told → Answer

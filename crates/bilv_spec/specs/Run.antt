@@ -1,10 +1,10 @@
 -- One step of a run of the instruction table, and a run.
-use Rattle.std.specs.Prelude.{ℕ, zero, suc, ◌+◌, ◌%◌, Bool, true, false, List, [], ◌∷◌, ◌++◌, Option, Some, None, ◌==◌, ◌&&◌, not, nat_le, if◌then◌else◌, nat_eq}
+use Rattle.std.specs.Prelude.{ℕ, zero, suc, ◌+◌, Bool, true, false, List, [], ◌∷◌, ◌++◌, Option, Some, None, ◌==◌, ◌&&◌, not, nat_le, if◌then◌else◌, nat_eq}
 use Rattle.std.specs.List.{list_any, list_all}
 use Rattle.bilv_spec.specs.Words.{add, sub}
 use Rattle.bilv_spec.specs.Memory.{Endian, load}
 use Rattle.bilv_spec.specs.State.{State}
-use Rattle.bilv_spec.specs.Machine.{Machine, Row, How, On, Direct, DirectCall, Indirect, IndirectCall, Exception, EnvironmentCall, Breakpoint, SoftwareInterrupt, OddHalfword, UnalignedLoad, Outcome, Goes, Raises, addresses, pair_of}
+use Rattle.bilv_spec.specs.Machine.{Machine, Row, How, On, Direct, DirectCall, Indirect, IndirectCall, Exception, EnvironmentCall, Breakpoint, SoftwareInterrupt, OddHalfword, UnalignedLoad, Outcome, Goes, Raises, addresses, pair_of, is_place}
 pub use Rattle.bilv_spec.specs.Elf.{is_kept, is_executable}
 use Rattle.bilv_spec.specs.Elf.{Cell}
 use Rattle.bilv_spec.specs.Notes.{Notes, NoteLine, Assert, Targets, value, is_true}
@@ -155,7 +155,7 @@ exception_event false e = event_of e
 -- a row that goes on
 abbrev pub going_on : (writes_kept : Bool) → Program → State → Row → State → List ℕ → How → State → Step
 going_on true p entry row old stack how new = Stops CodeWritten
-going_on false p entry row old stack how new = aligned_transfer (new.pc % 4 == 0) p entry row old stack how new
+going_on false p entry row old stack how new = aligned_transfer (is_place new.pc) p entry row old stack how new
 
 -- what a row comes to, in the order: an odd address, a kept byte that is written, a trap, an unaligned target, a jump that isn't allowed, the row's effect
 abbrev pub after_row : Program → State → Row → State → List ℕ → (writes_kept : Bool) → Outcome → Step

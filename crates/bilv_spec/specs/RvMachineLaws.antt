@@ -2,7 +2,8 @@
 use Rattle.std.specs.Prelude.{◌≡◌, ℕ, true, Some, Contains}
 use Rattle.bilv_spec.specs.Machine.{Row}
 use Rattle.bilv_spec.specs.Rv.{Instruction, table, fits, fields, rv_row, rv32}
-use Rattle.bilv_spec.specs.MachineLaws.{IsLawfulMachine}
+use Rattle.bilv_spec.specs.StateText.{rv_layout}
+use Rattle.bilv_spec.specs.MachineLaws.{IsLawfulMachine, IsFitted}
 
 -- the row of a word is that of an instruction of the table that the word is of, for the word's fields
 abbrev pub RowsAreOfTheTable : Type 0
@@ -11,3 +12,7 @@ RowsAreOfTheTable = (w : ℕ) (row : Row) → rv_row w ≡ Some row → (i : Ins
 -- each row of RV32IM is lawful
 abbrev pub RvIsLawful : Type 0
 RvIsLawful = IsLawfulMachine rv32
+
+-- its state texts name its registers
+abbrev pub RvIsFitted : Type 0
+RvIsFitted = IsFitted rv32 rv_layout

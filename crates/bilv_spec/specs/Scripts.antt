@@ -1,5 +1,5 @@
 -- The script of a question, in SMT-LIB 2.6 (logic QF_ABV), and the answer that prints it.
-use Rattle.std.specs.Prelude.{ℕ, ◌≡◌, ◌<◌, ◌+◌, ◌-◌, Bool, true, false, ◌==◌, ◌&&◌, ◌||◌, nat_lt, if◌then◌else◌, ◌↔◌, List, [], ◌∷◌, ◌++◌, Option, Some, None, is_some, codes, length, map, AllPairs, slice_get, Contains}
+use Rattle.std.specs.Prelude.{ℕ, ◌≡◌, ◌<◌, ◌+◌, ◌-◌, Bool, true, false, ◌==◌, ◌&&◌, ◌||◌, ◌⊎◌, not, nat_lt, if◌then◌else◌, ◌↔◌, List, [], ◌∷◌, ◌++◌, Option, Some, None, is_some, codes, length, map, AllPairs, slice_get, Contains}
 use Rattle.std.specs.Str.{bytes_eq}
 use Rattle.bilv_spec.specs.RowFiles.{from_to}
 use Rattle.bilv_spec.specs.Machine.{Row}
@@ -8,7 +8,7 @@ use Rattle.bilv_spec.specs.Points.{Point, ArePoints, HasMore, IsPrice, file_row}
 use Rattle.bilv_spec.specs.Questions.{Reading, Question, IsTrue, IsReading}
 use Rattle.bilv_spec.specs.StateText.{Layout, value_names, place_in}
 use Rattle.bilv_spec.specs.Answers.{Budget, Count, IsWithin, Answer, plain_answer, budget_text}
-use Rattle.bilv_spec.specs.SmtLib.{Sexp, sexps_of, declared_symbols, commands_truth, SmtValue, WordValue, ArrayValue}
+use Rattle.bilv_spec.specs.SmtLib.{Sexp, sexps_of, declared_symbols, defined_symbols, commands_truth, SmtValue, WordValue, ArrayValue}
 use Rattle.bilv_spec.specs.Texts.{number_text, line}
 
 -- the order of lists of one length, by their last elements first
@@ -78,16 +78,32 @@ drawn_names p n (point ∷ rest) =
 abbrev pub symbols_of : Program → Layout → List Point → List (List ℕ)
 symbols_of p layout points = value_names layout ++ codes "mem" ∷ drawn_names p 0 points
 
+-- a byte that begins no quoted symbol, no comment and no string, which are read otherwise by a solver than word by word (SMT-LIB 2.6, section 3.1)
+abbrev pub is_plain_byte : ℕ → Bool
+is_plain_byte b = not ((b == 124) || (b == 59) || (b == 34))
+
+-- whole lines: nothing, or a text that ends with a line feed
+abbrev pub AreWholeLines : List ℕ → Type 0
+AreWholeLines text = (text ≡ []) ⊎ ((front : List ℕ) × (text ≡ front ++ 10 ∷ []))
+
+-- the name of a shared term: t and a decimal number, so that no word of the theories and no declared symbol is defined anew
+abbrev pub IsTermName : List ℕ → Type 0
+IsTermName w = (n : ℕ) × (w ≡ codes "t" ++ number_text n)
+
 -- A script begins with its logic and ends with the check, declares these symbols, is well formed for the values of each reading, and is satisfied by exactly those
--- of the readings that make the question true. The address of the entry is no symbol.
+-- of the readings that make the question true. The address of the entry is no symbol. What it says by these words a solver reads too: its bytes are plain, its
+-- commands whole lines between the first and the last, and what it defines has the names of terms.
 pub record IsScript (p : Program) (layout : Layout) (k : ℕ) (kind : Question) (text : List ℕ) : Type 0 where
   pub points : List Point
   pub are_numbered : AreNumbered p k points
   pub middle : List ℕ
   pub text_is : text ≡ line (codes "(set-logic QF_ABV)") ++ middle ++ line (codes "(check-sat)")
+  pub whole_lines : AreWholeLines middle
+  pub plain : (b : ℕ) → Contains text b → is_plain_byte b ≡ true
   pub commands : Sexp
   pub commands_are : sexps_of text ≡ Some commands
   pub declares : (w : List ℕ) → Contains (declared_symbols commands) w ↔ Contains (symbols_of p layout points) w
+  pub defines : (w : List ℕ) → Contains (defined_symbols commands) w → IsTermName w
   pub well_formed : (r : Reading) → IsReading r → is_some (commands_truth (values_of layout points r) commands) ≡ true
   pub means : (r : Reading) → IsReading r → r.state.pc ≡ p.entry → (commands_truth (values_of layout points r) commands ≡ Some true) ↔ IsTrue p k r kind
 

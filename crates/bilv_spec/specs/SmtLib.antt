@@ -285,3 +285,9 @@ declared_symbols (Cons (Cons (Atom c) (Cons (Atom x) others)) rest) =
     (if bytes_eq c (codes "declare-const") || bytes_eq c (codes "declare-fun") then x ∷ [] else []) ++ declared_symbols rest
 declared_symbols (Cons command rest) = declared_symbols rest
 declared_symbols other = []
+
+-- the symbols that commands define
+abbrev pub defined_symbols : Sexp → List (List ℕ)
+defined_symbols (Cons (Cons (Atom c) (Cons (Atom x) others)) rest) = (if bytes_eq c (codes "define-fun") then x ∷ [] else []) ++ defined_symbols rest
+defined_symbols (Cons command rest) = defined_symbols rest
+defined_symbols other = []

@@ -15,4 +15,3 @@ pub mod questions;
 pub mod runs;
 pub mod states;
 pub mod tables;
-pub mod walks;

@@ -1,6 +1,6 @@
 //! Laws of the machines.
-ghost use Rattle.bilv_spec.specs.ArmMachineLaws.{ArmIsLawful};
-ghost use Rattle.bilv_spec.specs.RvMachineLaws.{RowsAreOfTheTable, RvIsLawful};
+ghost use Rattle.bilv_spec.specs.ArmMachineLaws.{ArmIsFitted, ArmIsLawful};
+ghost use Rattle.bilv_spec.specs.RvMachineLaws.{RowsAreOfTheTable, RvIsFitted, RvIsLawful};
 
 /// The row of a word of RV32IM is that of an instruction of the table.
 pub fn rows_are_of_the_table()
@@ -17,4 +17,16 @@ pub fn rv_is_lawful()
 #[tactic(auto, using(crate::proofs::ArmLawful::arm_is_lawful))]
 pub fn arm_is_lawful()
     ensures { ArmIsLawful }
+{}
+
+/// The state texts of RV32IM name its registers.
+#[tactic(auto, using(crate::proofs::Fitted::rv_is_fitted))]
+pub fn rv_is_fitted()
+    ensures { RvIsFitted }
+{}
+
+/// The state texts of ARM name its registers and flags, in both byte orders.
+#[tactic(auto, using(crate::proofs::Fitted::arm_is_fitted))]
+pub fn arm_is_fitted()
+    ensures { ArmIsFitted }
 {}
