@@ -11,7 +11,7 @@ use Rattle.bilv_spec.specs.PointLaws.{IsReturnAddress, IsInGraph}
 use Rattle.bilv_spec.proofs.PointSteps.{same_number, here, there, in_left, in_right, in_filter, in_map}
 
 module _ {X : Type 0} where
-  none_in : {P : Type 0} (x : X) → Contains [] x → P
+  pub none_in : {P : Type 0} (x : X) → Contains [] x → P
   none_in x (i, h, e) = absurd (omega arith)
 
   pub split_in : (xs ys : List X) (x : X) → Contains (xs ++ ys) x → Contains xs x ⊎ Contains ys x
@@ -74,7 +74,7 @@ insert_by x y ys zs true c h g i = here x (y ∷ ys)
 insert_by x y ys zs false true h g i = there y zs x i
 insert_by x y ys zs false false h g i = (0, omega arith, same_place x y h g)
 
-inserted : (x : Successor) (ys : List Successor) → Contains (insert x ys) x
+pub inserted : (x : Successor) (ys : List Successor) → Contains (insert x ys) x
 inserted x [] = here x []
 inserted x (y ∷ ys) = insert_by x y ys (insert x ys) (comes_before x y) (comes_before y x) refl refl (inserted x ys)
 
@@ -85,7 +85,7 @@ keep_by x y ys zs z false true f (zero, h, e) = (0, omega arith, e)
 keep_by x y ys zs z false true f (suc i, h, e) = there y zs z (f (i, omega arith, e))
 keep_by x y ys zs z false false f h = h
 
-insert_keeps : (x : Successor) (ys : List Successor) (z : Successor) → Contains ys z → Contains (insert x ys) z
+pub insert_keeps : (x : Successor) (ys : List Successor) (z : Successor) → Contains ys z → Contains (insert x ys) z
 insert_keeps x [] z h = none_in z h
 insert_keeps x (y ∷ ys) z h = keep_by x y ys (insert x ys) z (comes_before x y) (comes_before y x) (insert_keeps x ys z) h
 

@@ -101,10 +101,11 @@ pub record IsLawful (row : Row) : Type 0 where
 pub record IsLawfulMachine (m : Machine) : Type 0 where
   pub rows : (w : ℕ) (row : Row) → w < 2 ^ 32 → m.row w ≡ Some row → IsLawful row
 
--- The form of state texts is the machine's: the registers are those from the form's first on, at most 31; the flags are those below the number of the form's, at
--- most 4; the link register is one of the registers.
+-- The form of state texts is the machine's: the registers are those from the form's first on, at least 15 and at most 31, for which prices and bounds are meant; the
+-- flags are those below the number of the form's, at most 4; the link register is one of the registers.
 pub record IsFitted (m : Machine) (form : Layout) : Type 0 where
   pub registers : (r : ℕ) → m.has_register r ≡ (nat_le form.first r && nat_lt r (form.first + length form.registers))
+  pub enough_registers : 15 ≤ length form.registers
   pub few_registers : length form.registers ≤ 31
   pub flags : (f : ℕ) → m.has_flag f ≡ nat_lt f (length form.flags)
   pub few_flags : length form.flags ≤ 4

@@ -5,7 +5,7 @@
 
 ghost use Rattle.std.specs.Prelude.{◌≡◌, ◌≤◌, ◌<◌, ◌+◌, ◌^◌, ℕ, Some, length, option_map, IfOk, OnOk, OnErr};
 ghost use Rattle.bilv_spec.specs.Machine as table;
-ghost use Rattle.bilv_spec.specs.MachineLaws.{IsLawfulMachine, IsLifting};
+ghost use Rattle.bilv_spec.specs.MachineLaws.{IsFitted, IsLawfulMachine, IsLifting};
 ghost use Rattle.bilv_spec.specs.State.{IsState};
 ghost use Rattle.bilv_spec.specs.Bil as bil;
 ghost use Rattle.bilv_spec.specs.StateText as texts;
@@ -124,4 +124,7 @@ pub trait Machine {
 
     /// A state's registers are the machine's.
     ghost same_registers: { Self.State.has_register ≡ machine.has_register };
+
+    /// The form of its state texts names its registers and flags, at most 31 and 4, among them the link register.
+    ghost fitted: { IsFitted machine form };
 }

@@ -8,7 +8,7 @@ use Rattle.bilv_spec.specs.Bil.{Bits, XRegisters, Mem, BinaryOp, UnaryOp, Not, C
 use Rattle.bilv_spec.specs.Bil as bil
 use Rattle.bilv_spec.specs.BilMeaning.{Env}
 use Rattle.bilv_spec.specs.BilTyping.{Has, type_or_fault, result_width, cast_fits, is_width, is_load_width}
-use Rattle.bilv_spec.specs.BilCounts.{width, op_weight, weight, own_loads, own_stores, own_unknowns, names_only, is_own, reads_flag}
+use Rattle.bilv_spec.specs.BilCounts.{width, op_weight, weight, own_loads, own_stores, own_unknowns, own_memory_choices, names_only, is_own, reads_flag}
 use Rattle.bilv_spec.specs.BilStores.{stored_by}
 use Rattle.rv_decode.specs.declared.insn.BranchOp.{BranchOp}
 use Rattle.rv_decode.specs.declared.insn.BranchOp.TheVariants.{Beq, Bne, Blt, Bge, Bltu, Bgeu}
@@ -34,6 +34,7 @@ pub record IsPlain (n w l : ℕ) (e : Expression) : Type 0 where
   pub loads : total own_loads e ≤ l
   pub stores : total own_stores e ≡ 0
   pub unknowns : total own_unknowns e ≡ 0
+  pub picks : total own_memory_choices e ≡ 0
   pub stored : (c : ℕ) (v : Env) → stored_by e c v ≡ []
   pub names : names_only e own ≡ true
   pub flags : (f : ℕ) → reads_flag f e ≡ false
@@ -46,6 +47,7 @@ number_plain v h = record {
   loads = omega arith;
   stores = refl;
   unknowns = refl;
+  picks = refl;
   stored = λ c e. refl;
   names = refl;
   flags = λ f. refl;
@@ -63,6 +65,7 @@ register_plain (suc r) h = record {
   loads = omega arith;
   stores = refl;
   unknowns = refl;
+  picks = refl;
   stored = λ c e. refl;
   names = own_register r h;
   flags = λ f. refl;
@@ -78,6 +81,7 @@ binary_plain o n w v u a b p q e h = record {
   loads = omega arith;
   stores = omega arith;
   unknowns = omega arith;
+  picks = omega arith;
   stored = λ c z. rw (p.stored c z, q.stored c z) refl;
   names = rw (p.names, q.names) refl;
   flags = λ f. rw (p.flags f, q.flags f) refl;
@@ -86,15 +90,16 @@ binary_plain o n w v u a b p q e h = record {
 -- a node over one word that only picks, turns or adds bits
 over_plain : (m n w l : ℕ) (e a : Expression) → IsPlain n w l a → ((at : ℕ) → type_or_fault at e ≡ Has (Bits m)) → width e ≡ m →
     weight e ≡ 0 + weight a → total own_loads e ≡ 0 + total own_loads a → total own_stores e ≡ 0 + total own_stores a →
-    total own_unknowns e ≡ 0 + total own_unknowns a → ((c : ℕ) (v : Env) → stored_by e c v ≡ stored_by a c v) →
+    total own_unknowns e ≡ 0 + total own_unknowns a → total own_memory_choices e ≡ 0 + total own_memory_choices a → ((c : ℕ) (v : Env) → stored_by e c v ≡ stored_by a c v) →
     names_only e own ≡ names_only a own → ((f : ℕ) → reads_flag f e ≡ reads_flag f a) → IsPlain m w l e
-over_plain m n w l e a p t wide weighs loads stores unknowns stored names flags = record {
+over_plain m n w l e a p t wide weighs loads stores unknowns picks stored names flags = record {
   typed = t;
   width = wide;
   weight = omega arith;
   loads = omega arith;
   stores = omega arith;
   unknowns = omega arith;
+  picks = omega arith;
   stored = λ c v. stored c v ∙ p.stored c v;
   names = names ∙ p.names;
   flags = λ f. flags f ∙ p.flags f;
@@ -102,15 +107,15 @@ over_plain m n w l e a p t wide weighs loads stores unknowns stored names flags 
 
 pub not_plain : (n w l : ℕ) (a : Expression) → IsPlain n w l a → IsPlain n w l (Unary Not a)
 not_plain n w l a p =
-    over_plain n n w l (Unary Not a) a p (λ at. rw (p.typed (at + 1)) refl) p.width refl refl refl refl (λ c v. refl) refl (λ f. refl)
+    over_plain n n w l (Unary Not a) a p (λ at. rw (p.typed (at + 1)) refl) p.width refl refl refl refl refl (λ c v. refl) refl (λ f. refl)
 
 pub cast_plain : (k : CastKind) (m n w l : ℕ) (a : Expression) → IsPlain n w l a → (cast_fits k m n && is_width m) ≡ true → IsPlain m w l (Cast k m a)
 cast_plain k m n w l a p e =
-    over_plain m n w l (Cast k m a) a p (λ at. rw (p.typed (at + 1), e) refl) refl refl refl refl refl (λ c v. refl) refl (λ f. refl)
+    over_plain m n w l (Cast k m a) a p (λ at. rw (p.typed (at + 1), e) refl) refl refl refl refl refl refl (λ c v. refl) refl (λ f. refl)
 
 upper_plain : (w l : ℕ) (a : Expression) → IsPlain 64 w l a → IsPlain 32 w l (Extract 63 32 a)
 upper_plain w l a p =
-    over_plain 32 64 w l (Extract 63 32 a) a p (λ at. rw (p.typed (at + 1)) refl) refl refl refl refl refl (λ c v. refl) refl (λ f. refl)
+    over_plain 32 64 w l (Extract 63 32 a) a p (λ at. rw (p.typed (at + 1)) refl) refl refl refl refl refl refl (λ c v. refl) refl (λ f. refl)
 
 load_plain : (n w : ℕ) (a : Expression) → IsPlain 32 w 0 a → is_load_width n ≡ true → IsPlain n w (n / 8) (Load (Var Mem) a Little n)
 load_plain n w a p e = record {
@@ -120,6 +125,7 @@ load_plain n w a p e = record {
   loads = let h = p.loads in omega arith;
   stores = let h = p.stores in omega arith;
   unknowns = let h = p.unknowns in omega arith;
+  picks = let h = p.picks in omega arith;
   stored = p.stored;
   names = p.names;
   flags = p.flags;
@@ -139,15 +145,15 @@ amount_plain : (b : Expression) → IsPlain 32 0 0 b → IsPlain 32 32 0 (lifts.
 amount_plain b q = op bil.And 32 refl b (lifts.number 31) q (number_plain 31 (omega arith))
 
 product_plain : (j k : CastKind) → (cast_fits j 64 32 && true) ≡ true → (cast_fits k 64 32 && true) ≡ true →
-    OfWords 32 19936 (λ a b. lifts.upper (Cast j 64 a) (Cast k 64 b))
+    OfWords 32 19872 (λ a b. lifts.upper (Cast j 64 a) (Cast k 64 b))
 product_plain j k i h a b p q =
-    upper_plain _ _ _ (binary_plain bil.Times 64 0 0 19936 _ _ (cast_plain j 64 32 0 0 a p i) (cast_plain k 64 32 0 0 b q h) refl refl)
+    upper_plain _ _ _ (binary_plain bil.Times 64 0 0 19872 _ _ (cast_plain j 64 32 0 0 a p i) (cast_plain k 64 32 0 0 b q h) refl refl)
 
--- what the row's price leaves beside an assignment to a register
+-- what the row's price leaves beside an assignment to a register and what the row's exits take
 abbrev pub room : RegisterOp → ℕ
-room o = (computes o (record { rd = 0; rs1 = 0; rs2 = 0; imm = 0 })).cost.row - 64
+room o = (computes o (record { rd = 0; rs1 = 0; rs2 = 0; imm = 0 })).cost.row - 128
 
-pub room_fits : (o : RegisterOp) (x : Fields) → room o + 64 ≤ (computes o x).cost.row
+pub room_fits : (o : RegisterOp) (x : Fields) → room o + 128 ≤ (computes o x).cost.row
 room_fits Mul x = omega arith
 room_fits Mulh x = omega arith
 room_fits Mulhsu x = omega arith
@@ -178,7 +184,7 @@ computation_plain Divu = op bil.Divide _ refl
 computation_plain Rem = op bil.SignedModulo _ refl
 computation_plain Remu = op bil.Modulo _ refl
 
-pub immediate_plain : (o : ImmediateOp) → OfWords 32 960 (lifts.immediate o)
+pub immediate_plain : (o : ImmediateOp) → OfWords 32 896 (lifts.immediate o)
 immediate_plain Addi = op bil.Plus _ refl
 immediate_plain Slti = λ a b p q. cast_plain bil.Unsigned 32 1 _ 0 _ (op bil.SignedLess _ refl a b p q) refl
 immediate_plain Sltiu = λ a b p q. cast_plain bil.Unsigned 32 1 _ 0 _ (op bil.Less _ refl a b p q) refl
@@ -186,7 +192,7 @@ immediate_plain Xori = op bil.Xor _ refl
 immediate_plain Ori = op bil.Or _ refl
 immediate_plain Andi = op bil.And _ refl
 
-pub shift_plain : (o : ShiftOp) → OfWords 32 960 (lifts.shift o)
+pub shift_plain : (o : ShiftOp) → OfWords 32 896 (lifts.shift o)
 shift_plain Slli = op bil.ShiftLeft _ refl
 shift_plain Srli = op bil.ShiftRight _ refl
 shift_plain Srai = op bil.ShiftSigned _ refl

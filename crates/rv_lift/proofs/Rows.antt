@@ -63,6 +63,8 @@ raise_lifting e x at = record {
   reads = λ g few. refl;
   reads_first = λ g few. refl;
   draws = λ t. refl;
+  picks = refl;
+  literal = λ a t. cc;
   weight = omega arith;
   loads = omega arith;
   stores = omega arith;
@@ -94,11 +96,11 @@ lifted_is_lifting (Load op rd rs1 offset) at h =
     (omega arith) (omega arith)
 lifted_is_lifting (Store op rs1 rs2 offset) at h = stores_lifting op (fields_of (Store op rs1 rs2 offset)) at rs1.in_range rs2.in_range h
 lifted_is_lifting (Immediate op rd rs1 imm) at h =
-    assigned_lifting rd.number 960 0 (lifts.immediate op (register rs1.number) (number imm)) (λ s. immediate_value op (reg s rs1.number) imm) plain_cost None at
+    assigned_lifting rd.number 896 0 (lifts.immediate op (register rs1.number) (number imm)) (λ s. immediate_value op (reg s rs1.number) imm) plain_cost None at
     rd.in_range (immediate_plain op _ _ (register_plain rs1.number rs1.in_range) (number_plain imm h))
     (λ s here c l. immediate_is op (register rs1.number) (number imm) c (env_of l s) _ _ (register_value_is rs1.number c l s) refl) (omega arith) (omega arith)
 lifted_is_lifting (Shift op rd rs1 amount) at h =
-    assigned_lifting rd.number 960 0 (lifts.shift op (register rs1.number) (number amount.bits)) (λ s. shift_value op (reg s rs1.number) amount.bits) plain_cost None
+    assigned_lifting rd.number 896 0 (lifts.shift op (register rs1.number) (number amount.bits)) (λ s. shift_value op (reg s rs1.number) amount.bits) plain_cost None
     at rd.in_range (shift_plain op _ _ (register_plain rs1.number rs1.in_range) (let k = amount.in_range in number_plain amount.bits (omega arith)))
     (λ s here c l. shift_is op (register rs1.number) (number amount.bits) c (env_of l s) _ _ (register_value_is rs1.number c l s) refl) (omega arith) (omega arith)
 lifted_is_lifting (Computation op rd rs1 rs2) at h =

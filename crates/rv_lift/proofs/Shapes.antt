@@ -26,7 +26,7 @@ same xs ys a e = (subst (λ (z : List ℕ). Contains z a) e, subst (λ (z : List
 
 -- rd takes a word
 pub assigned_lifting : (d w l : ℕ) (e : Expression) (f : State → ℕ) (k : Cost) (p : Option Offset) (at : ℕ) → d < 32 → IsPlain 32 w l e → HasValue 32 e f at →
-    w + 64 ≤ k.row → l ≤ k.loads →
+    w + 128 ≤ k.row → l ≤ k.loads →
     IsLifting rv32 XRegisters (record (row_of (λ s. on s (with_reg s d (f s)))) { cost = k; adds_pc = p }) at (lifts.assigned d e)
 assigned_lifting zero w l e f k p at small plain value h i = record {
   simulates = λ s is here c turns few locals. refl;
@@ -41,6 +41,8 @@ assigned_lifting zero w l e f k p at small plain value h i = record {
   reads = λ g few. refl;
   reads_first = λ g few. refl;
   draws = λ t. refl;
+  picks = refl;
+  literal = λ a t. cc;
   weight = omega arith;
   loads = omega arith;
   stores = omega arith;
@@ -58,6 +60,8 @@ assigned_lifting (suc d) w l e f k p at small plain value h i = record {
   reads = λ g few. rw (plain.flags g) refl;
   reads_first = λ g few. refl;
   draws = λ t. omega arith;
+  picks = let h = plain.picks in omega arith;
+  literal = λ a t. cc;
   weight = omega arith;
   loads = omega arith;
   stores = omega arith;
@@ -76,7 +80,7 @@ branch_stores true to c s = refl
 branch_stores false to c s = refl
 
 -- a jump where a test holds
-pub branch_lifting : (e : Expression) (f : State → Bool) (w to : ℕ) (next : ℕ → Successors) (at : ℕ) → IsPlain 1 w 0 e → HasValue 1 e (λ s. bit (f s)) at → w ≤ 956 →
+pub branch_lifting : (e : Expression) (f : State → Bool) (w to : ℕ) (next : ℕ → Successors) (at : ℕ) → IsPlain 1 w 0 e → HasValue 1 e (λ s. bit (f s)) at → w ≤ 892 →
     IsLifting rv32 XRegisters (record (row_of (λ s. branch_by (f s) s to)) { successors = next }) at (If e (JumpTo (lifts.number (add 32 at to)) Empty) Empty Empty)
 branch_lifting e f w to next at plain value h = record {
   simulates = λ s is here c turns few locals. rw (value s here c locals, ← here) (branch_ends (f s) to c turns locals s);
@@ -91,6 +95,8 @@ branch_lifting e f w to next at plain value h = record {
   reads = λ g few. rw (plain.flags g) refl;
   reads_first = λ g few. refl;
   draws = λ t. omega arith;
+  picks = let h = plain.picks in omega arith;
+  literal = λ a t. cc;
   weight = omega arith;
   loads = omega arith;
   stores = omega arith;
@@ -118,7 +124,7 @@ link_lifting d v at h k = assigned_lifting d 0 0 (lifts.number v) (λ s. v) plai
 
 -- a jump, and rd takes the address behind
 pub jump_lifting : (e : Expression) (f : State → ℕ) (d w : ℕ) (how : How) (next : ℕ → Successors) (p : Option Offset) (at : ℕ) → d < 32 → IsPlain 32 w 0 e →
-    HasValue 32 e f at → w ≤ 896 → ((s : State) → jump_of how s ≡ Some s.pc) →
+    HasValue 32 e f at → w ≤ 832 → ((s : State) → jump_of how s ≡ Some s.pc) →
     IsLifting rv32 XRegisters (record (row_of (λ s. Goes how (with_pc (with_reg s d (add 32 s.pc 4)) (f s)))) { successors = next; jumps_to = p }) at
     (JumpTo e (lifts.assigned d (lifts.number (add 32 at 4))))
 jump_lifting e f d w how next p at small plain value h jumps =
@@ -136,6 +142,8 @@ jump_lifting e f d w how next p at small plain value h jumps =
       reads = λ g few. rw (plain.flags g) (rest.reads g few);
       reads_first = rest.reads_first;
       draws = λ t. let r = rest.draws t in omega arith;
+      picks = let h = plain.picks in let r = rest.picks in omega arith;
+      literal = λ a t. cc;
       weight = let r = link_weight d (add 32 at 4) in omega arith;
       loads = let r = rest.loads in omega arith;
       stores = let r = rest.stores in omega arith;
@@ -144,7 +152,7 @@ jump_lifting e f d w how next p at small plain value h jumps =
 -- a store of the low n / 8 bytes of a word
 pub store_lifting : (n w v : ℕ) (t u : Expression) (f g : State → ℕ) (at : ℕ) → IsPlain 32 w 0 t → IsPlain n v 0 u → HasValue 32 t f at →
     ((s : State) → s.pc ≡ at → (c : ℕ) (l : Locals) → evaluate (Store (Var Mem) t Little n u) c (env_of l s) ≡ Bytes (store Little (n / 8) s.mem (f s) (g s))) →
-    w + v ≤ 1024 → (n == n) ≡ true → is_load_width n ≡ true →
+    w + v ≤ 960 → (n == n) ≡ true → is_load_width n ≡ true →
     IsLifting rv32 XRegisters (record (row_of (λ s. on s (record s { mem = store Little (n / 8) s.mem (f s) (g s) }))) { stored = λ s. Some (f s, n / 8); cost = record { row = 1024; loads = 0; stores = n / 8 } }) at
     (Assign Mem (Store (Var Mem) t Little n u) Empty)
 store_lifting n w v t u f g at p q value result h same_width wide = record {
@@ -161,6 +169,8 @@ store_lifting n w v t u f g at p q value result h same_width wide = record {
   reads = λ k few. rw (p.flags k, q.flags k) refl;
   reads_first = λ k few. refl;
   draws = λ x. omega arith;
+  picks = let h = p.picks in let i = q.picks in omega arith;
+  literal = λ a x. cc;
   weight = omega arith;
   loads = omega arith;
   stores = omega arith;

@@ -23,6 +23,7 @@ impl Machine for Rv32 {
     ghost use Rattle.rv_step.proofs.Ranges.{in_range};
     ghost use Rattle.rv_step.specs.States.{spare_of};
     ghost use Rattle.std.specs.Prelude.{refl};
+    ghost use Rattle.bilv_spec.proofs.Fitted.{rv_is_fitted};
     ghost use Rattle.bilv_spec.proofs.RvLawful.{rv_is_lawful};
     ghost use Rattle.rv_lift.specs.Laws.{four_bytes};
 
@@ -109,4 +110,6 @@ impl Machine for Rv32 {
     ghost same_link = { refl };
 
     ghost same_registers = { refl };
+
+    ghost fitted = { rv_is_fitted };
 }
