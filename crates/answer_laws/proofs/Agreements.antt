@@ -1,13 +1,16 @@
 -- Memory that agrees with the file on all known bytes, and starts that take a reading's choices.
-use Rattle.std.proofs.Common.{◌≡◌, ℕ, zero, suc, refl, ap, sym, ◌∙◌, subst, Bool, true, false, Some}
-use Rattle.std.specs.Prelude.{◌||◌, ◌&&◌, is_some}
+use Rattle.std.proofs.Common.{◌≡◌, ℕ, zero, suc, refl, ap, sym, ◌∙◌, subst, arith, Bool, true, false, Some, None}
+use Rattle.std.specs.Prelude.{◌||◌, ◌&&◌, is_some, if◌then◌else◌}
 use Rattle.bilv_spec.specs.Elf.{Cell, kept}
 use Rattle.bilv_spec.specs.Run.{Program, Start, Run, Going, Exited, Failed, Turned, Place, run, one_more, is_kept}
 use Rattle.bilv_spec.specs.Verdict.{fixed}
-use Rattle.bilv_spec.specs.Points.{is_known_at}
+use Rattle.bilv_spec.specs.Points.{is_known_at, byte_of_cell}
 use Rattle.bilv_spec.specs.Questions.{Reading, Question, IsTrue, IsTrueOver, by_file, point_of, read_run, read_on}
 use Rattle.bilv_spec.specs.QuestionLaws.{Follows}
 use Rattle.bilv_spec.specs.Evidence.{AgreesOn}
+use Rattle.bilv_spec.specs.StateText.{Layout, Written, known_or}
+use Rattle.bilv_spec.specs.Answers.{known_byte, start_in}
+use Rattle.bilv_spec.specs.Words.{word}
 use Rattle.bilv_spec.proofs.ReadingRuns.{Numbered, numbered}
 
 or_left : (x y : Bool) → x ≡ true → (x || y) ≡ true
@@ -25,6 +28,13 @@ kept_is_known p a c at e =
 fixed_is_known : (p : Program) (a : ℕ) (c : Cell) → p.loaded a ≡ Some c → fixed p.notes.fixed a ≡ true → is_known_at p a ≡ true
 fixed_is_known p a c at e =
     ap (λ o. is_kept o || (is_some o && fixed p.notes.fixed a)) at ∙ or_right (kept c) (fixed p.notes.fixed a) e
+
+pub written_agrees : (p : Program) (layout : Layout) (w : Written) → AgreesOn p (is_known_at p) (start_in p layout w).state
+written_agrees p layout w a c low at known =
+    let same : word 32 a ≡ a = omega arith in
+    ap (λ x. known_or (known_byte p x) w.bytes a) same
+    ∙ ap (λ b. known_or (if b then Some (byte_of_cell (p.loaded a)) else None) w.bytes a) known
+    ∙ ap byte_of_cell at
 
 pub agreement_is_enough : (p : Program) (asked : ℕ → Bool) (k : ℕ) (r : Reading) (question : Question) → AgreesOn p (is_known_at p) r.state →
     IsTrueOver p asked k r question → IsTrue p k r question

@@ -7,7 +7,7 @@ use Rattle.std.proofs.Math.Nat.{mod-lt}
 use Rattle.bilv_spec.specs.Words.{add, bit}
 use Rattle.bilv_spec.specs.Memory.{Little, load}
 use Rattle.bilv_spec.specs.State.{State, put}
-use Rattle.bilv_spec.specs.Machine.{Indirect, Goes}
+use Rattle.bilv_spec.specs.Machine.{Indirect, Goes, is_place, IsAtPlace}
 use Rattle.bilv_spec.specs.Elf.{loaded}
 use Rattle.bilv_spec.specs.Notes.{Notes, At, Register, Number, Binary, Equal, is_true}
 use Rattle.bilv_spec.specs.Rv.{jalr, fields, imm_i, rv_row}
@@ -71,17 +71,17 @@ at_byte i j h k = omega arith
 next_is : (i : ℕ) → i < 65536 → add 32 (65536 + 4 * i) 4 ≡ 65536 + 4 * suc i
 next_is i h = omega arith
 
-aligned : (i : ℕ) → ((65536 + 4 * i) % 4 == 0) ≡ true
+aligned : (i : ℕ) → is_place (65536 + 4 * i) ≡ true
 aligned i = let e : (65536 + 4 * i) % 4 ≡ 0 = omega arith in grind (arith, nat_tests)
 
 forward : (i : ℕ) → nat_le (65536 + 4 * suc i) (65536 + 4 * i) ≡ false
 forward i = grind (arith, nat_tests)
 
 -- a return to an address that is a multiple of 4
-ret_to : (x : ℕ) → x < 2 ^ 32 → x % 4 ≡ 0 → add 32 x 0 - add 32 x 0 % 2 ≡ x
+ret_to : (x : ℕ) → x < 2 ^ 32 → IsAtPlace x → add 32 x 0 - add 32 x 0 % 2 ≡ x
 ret_to x h e = omega arith
 
-is_multiple : (x : ℕ) → x % 4 ≡ 0 → (x % 4 == 0) ≡ true
+is_multiple : (x : ℕ) → IsAtPlace x → is_place x ≡ true
 is_multiple x e = grind (arith, nat_tests)
 
 same : (x : ℕ) → (x == x) ≡ true
@@ -146,7 +146,7 @@ module _ (seed count : ℕ) (seed_small : seed < 2 ^ 31) (few : count ≤ 16000)
         let next = next_is i (omega arith) in
         let new = moved (result_of (item seed i)) (state_at seed s i) in
         step_on (made_program seed count) s (place_at i) choice sets.row plain new (sets.effect (state_at seed s i) choice)
-        (ap (λ a. a % 4 == 0) next ∙ aligned (suc i))
+        (ap is_place next ∙ aligned (suc i))
         ∙ ap (λ a. Arrives (record { state = record (state_at seed s (suc i)) { pc = a }; stack = [] })) next
 
     require_lines : (s.regs 10 ≡ seed) × (s.regs 11 ≡ count)

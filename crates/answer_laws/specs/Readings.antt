@@ -1,10 +1,16 @@
--- From the question over asked bytes to the question, and from choices along a reading's run to a start that follows it.
+-- From a written start to a reading of which the question is true: memory that agrees with the file, and choices along the reading's run.
 use Rattle.std.specs.Prelude.{ℕ, ◌≡◌, Bool}
 use Rattle.bilv_spec.specs.Run.{Program, Start, Place, Going}
 use Rattle.bilv_spec.specs.Points.{is_known_at}
 use Rattle.bilv_spec.specs.Questions.{Reading, Question, IsTrue, IsTrueOver, point_of, read_run}
 use Rattle.bilv_spec.specs.QuestionLaws.{Follows}
 use Rattle.bilv_spec.specs.Evidence.{AgreesOn}
+use Rattle.bilv_spec.specs.StateText.{Layout, Written}
+use Rattle.bilv_spec.specs.Answers.{start_in}
+
+-- the memory of a start that is written agrees with the file on all known bytes
+abbrev pub WrittenAgrees : Type 0
+WrittenAgrees = (p : Program) (layout : Layout) (w : Written) → AgreesOn p (is_known_at p) (start_in p layout w).state
 
 -- A question that is true over some asked bytes of a reading whose memory agrees with the file on all known bytes is true of the reading.
 abbrev pub AgreementIsEnough : Type 0
