@@ -1,5 +1,5 @@
 -- The state texts of both machines name their registers and flags, and no others.
-use Rattle.std.proofs.Common.{◌≡◌, ℕ, ◌+◌, ◌<◌, ◌≤◌, refl, true, false, Bool, arith}
+use Rattle.std.proofs.Common.{◌≡◌, ℕ, refl, false, arith}
 use Rattle.std.specs.Prelude.{◌&&◌, nat_le, nat_lt}
 use Rattle.std.proofs.lemmas.Bool.Decides.{nat_tests}
 use Rattle.bilv_spec.specs.RvMachineLaws.{RvIsFitted}

@@ -1,6 +1,6 @@
 -- Worked points, edges, prices and graph lines, by computation alone.
-use Rattle.std.proofs.Common.{◌≡◌, ℕ, ◌+◌, ◌*◌, arith, refl, List, [], ◌∷◌, ◌++◌, Some, None, Bool, true, false}
-use Rattle.std.specs.Prelude.{◌==◌, codes, if◌then◌else◌}
+use Rattle.std.proofs.Common.{◌≡◌, ℕ, ◌+◌, ◌*◌, arith, refl, List, [], ◌∷◌, ◌++◌, Bool, true, false}
+use Rattle.std.specs.Prelude.{◌==◌, codes}
 use Rattle.bilv_spec.specs.GraphText.{graph_line}
 use Rattle.bilv_spec.specs.Memory.{Little}
 use Rattle.bilv_spec.specs.Machine.{Machine}
@@ -9,12 +9,9 @@ use Rattle.bilv_spec.specs.Arm.{arm, arm_row}
 use Rattle.bilv_spec.specs.Arm as arm_rows
 use Rattle.bilv_spec.specs.Elf.{loaded}
 use Rattle.bilv_spec.specs.Rv.{rv32, table, rv_row}
-use Rattle.bilv_spec.specs.Notes.{NoteLine, Targets, At, Number, Register, Memory, Old, Binary, Equal, Above, Plus, BitAnd}
-use Rattle.bilv_spec.specs.Run.{Program, EnsureFails, in_memory}
+use Rattle.bilv_spec.specs.Notes.{NoteLine, Targets, At, Number, Register, Memory, Old, Binary, Equal, Plus, BitAnd}
+use Rattle.bilv_spec.specs.Run.{Program, in_memory}
 use Rattle.bilv_spec.specs.Points.{price_of, Point, ToAddress, ToExit, edges, ArePoints, HasMore}
-use Rattle.bilv_spec.specs.Questions.{Reading}
-use Rattle.bilv_spec.specs.Bil.{Expression, Var, Constant, Assign, JumpTo, Empty}
-use Rattle.bilv_spec.specs.Bil as bil
 use Rattle.bilv_spec.proofs.PointTests.{points_by_test}
 use Rattle.bilv_spec.proofs.AllPoints.{no_more_points}
 

@@ -1,18 +1,15 @@
 -- Laws of reports, replays and answers.
-use Rattle.std.specs.Prelude.{ℕ, ◌≡◌, ◌≤◌, ◌++◌, List, Option, Some, None, codes, length}
+use Rattle.std.specs.Prelude.{ℕ, ◌≡◌, List, Option, Some, None}
 use Rattle.bilv_spec.specs.Outside.{Absent, Bytes, Rose}
 use Rattle.bilv_spec.specs.Run.{Program}
 use Rattle.bilv_spec.specs.State.{State}
 use Rattle.bilv_spec.specs.EntryFaults.{EntryStateFault, IsEntryStateFault}
 use Rattle.bilv_spec.specs.Verdict.{IsEntryState, Verdict, Holds, Vacuous, Fails, Unroll}
-use Rattle.bilv_spec.specs.Reports.{NamedEnding, FailsBy, UnknownBy, named_line}
-use Rattle.bilv_spec.specs.StateText.{Layout, IsNamed}
-use Rattle.bilv_spec.specs.Files.{layout_of}
-use Rattle.bilv_spec.specs.Answers.{Budget, Report, HoldsReport, VacuousReport, FailsReport, UnrollReport, PointsReport, Evidence, IsRightReport, report_text, Answer, plain_answer}
-use Rattle.bilv_spec.specs.Replays.{text_limit, replay_answer}
+use Rattle.bilv_spec.specs.Reports.{NamedEnding, FailsBy, UnknownBy}
+use Rattle.bilv_spec.specs.StateText.{Layout}
+use Rattle.bilv_spec.specs.Answers.{Budget, Report, HoldsReport, VacuousReport, FailsReport, UnrollReport, PointsReport, Evidence, IsRightReport, Answer, plain_answer}
 use Rattle.bilv_spec.specs.Outcomes.{Command, Verify, Lift, Graph, Script, Replay, Certify, Check, SelfRun, Surroundings, read_fault, IsRightAnswer}
 use Rattle.bilv_spec.specs.Verified.{IsElfRefused}
-use Rattle.bilv_spec.specs.Texts.{line}
 
 -- the verdict that a report gives
 abbrev pub verdict_of : Report → Option Verdict
@@ -39,13 +36,6 @@ abbrev pub named_of : Budget → Report → Option NamedEnding
 named_of b (FailsReport e at step) = Some (FailsBy e at step)
 named_of b (UnrollReport at step) = Some (UnknownBy b.unroll at step)
 named_of b other = None
-
--- the text of a right report that names an ending within a text's bounds is replayed
-abbrev pub ReportReplays : Type 0
-ReportReplays =
-    (file : List ℕ) (p : Program) (b : Budget) (r : Report) (e : Evidence) (n : NamedEnding) → IsRightReport p (layout_of file) b r e → named_of b r ≡ Some n → IsNamed n →
-    length (report_text (layout_of file) b r e) ≤ text_limit →
-    replay_answer p (layout_of file) (report_text (layout_of file) b r e) ≡ plain_answer 0 (line (codes "replayed " ++ named_line n))
 
 -- the file that a command reads first
 abbrev pub first_file : Command → Option (List ℕ)

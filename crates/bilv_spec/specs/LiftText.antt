@@ -1,5 +1,5 @@
 -- The text of a file's lifted words.
-use Rattle.std.specs.Prelude.{ℕ, ◌≡◌, ◌<◌, ◌+◌, ◌-◌, ◌==◌, ◌&&◌, Bool, true, false, nat_lt, ◌↔◌, ◌^◌, List, [], ◌∷◌, ◌++◌, Option, Some, None, codes, length, slice_index, Contains, find}
+use Rattle.std.specs.Prelude.{ℕ, ◌≡◌, ◌<◌, ◌+◌, ◌-◌, ◌&&◌, Bool, true, false, nat_lt, ◌↔◌, ◌^◌, List, [], ◌∷◌, ◌++◌, Option, Some, None, codes, length, slice_index, Contains, find}
 use Rattle.std.specs.List.{list_all, flat_map}
 use Rattle.bilv_spec.specs.Memory.{number}
 use Rattle.bilv_spec.specs.Machine.{Row, is_place}

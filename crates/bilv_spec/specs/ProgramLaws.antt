@@ -1,5 +1,5 @@
 -- Laws of the program of two files.
-use Rattle.std.specs.Prelude.{ℕ, ◌≡◌, ◌<◌, List, slice_index}
+use Rattle.std.specs.Prelude.{ℕ, ◌<◌, List, slice_index}
 use Rattle.bilv_spec.specs.Machine.{IsAtPlace}
 use Rattle.bilv_spec.specs.Run.{Program}
 use Rattle.bilv_spec.specs.Files.{IsProgram}

@@ -1,5 +1,5 @@
 //! Laws of reports, replays and answers.
-ghost use Rattle.bilv_spec.specs.AnswerLaws.{AbsentFails, ElfRefusedOnce, OneEntryFault, OneReportedVerdict, PointsComeFirst, ReportReplays};
+ghost use Rattle.bilv_spec.specs.AnswerLaws.{AbsentFails, ElfRefusedOnce, OneEntryFault, OneReportedVerdict, PointsComeFirst};
 
 /// Two right reports of one program that give a verdict give the same one.
 pub fn one_reported_verdict()
@@ -9,11 +9,6 @@ pub fn one_reported_verdict()
 /// Where there are more points than the budget, each right report says so.
 pub fn points_come_first()
     ensures { PointsComeFirst }
-{}
-
-/// The text of a right report that names an ending is replayed.
-pub fn report_replays()
-    ensures { ReportReplays }
 {}
 
 /// Where no file has the name that a command reads first, its answer is a read fault.
