@@ -4,6 +4,8 @@ pub mod Places
 pub mod Hints
 pub mod Pushes
 pub mod Starts
+pub mod Occurs
+pub mod Assigns
 pub mod Taken
 pub mod Checks
 pub mod Lists

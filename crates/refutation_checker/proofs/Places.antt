@@ -34,10 +34,10 @@ above-more ids m id r lt v q h k le in_range = elim (cases_eq k m) [
   | inr e ↦ let s = r m k (omega (arith, e)) in_range in omega arith
 ]
 
-rising-tail : (i : ℕ) (ids : List ℕ) → IsRising (i ∷ ids) → IsRising ids
+pub rising-tail : (i : ℕ) (ids : List ℕ) → IsRising (i ∷ ids) → IsRising ids
 rising-tail i ids r j k lt le = r (suc j) (suc k) (omega arith) (omega arith)
 
-head-below : (i : ℕ) (ids : List ℕ) (k : ℕ) → IsRising (i ∷ ids) → k < length ids → i < get_or ids k 0
+pub head-below : (i : ℕ) (ids : List ℕ) (k : ℕ) → IsRising (i ∷ ids) → k < length ids → i < get_or ids k 0
 head-below i ids k r lt = r 0 (suc k) (omega arith) (omega arith)
 
 -- the entry at a place is what its id finds

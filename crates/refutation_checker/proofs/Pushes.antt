@@ -8,7 +8,6 @@ use Rattle.bilv_spec.specs.Clauses.{Clause}
 use Rattle.bilv_spec.specs.Refutation.{Hint, Known, Present, Add, is_empty_clause, present_after, known_after_line}
 use Rattle.refutation_checker.specs.declared.entries.Entry.{Entry}
 use Rattle.refutation_checker.specs.Entries.{look_up, ids_of, IsRising}
-use Rattle.refutation_checker.specs.Slots.{IsWithin}
 use Rattle.refutation_checker.proofs.Hints.{fun_ext}
 
 -- what is known, of its parts
@@ -59,7 +58,7 @@ look-more (x ∷ xs) e i p b = elim (cases_Bool (i == x.id)) [
   | inr a ↦ rw (a, look-more xs e i p b.1) refl
 ]
 
-module _ (es new : List Entry) (e : Entry) (last n : ℕ) (set : new ≡ es ++ e ∷ []) (p : e.is_present ≡ true) (h : (j : ℕ) → get_or (ids_of es) j 0 ≤ last) (lt : last < e.id) where
+module _ (es new : List Entry) (e : Entry) (last : ℕ) (set : new ≡ es ++ e ∷ []) (p : e.is_present ≡ true) (h : (j : ℕ) → get_or (ids_of es) j 0 ≤ last) (lt : last < e.id) where
   ids : ids_of new ≡ ids_of es ++ e.id ∷ []
   ids = ap ids_of set ∙ map-append (λ (x : Entry). x.id) es (e ∷ [])
 
@@ -72,9 +71,9 @@ module _ (es new : List Entry) (e : Entry) (last n : ℕ) (set : new ≡ es ++ e
   pub pushed-highest : (k : ℕ) → get_or (ids_of new) k 0 ≤ max last e.id
   pushed-highest k = subst (λ (xs : List ℕ). get_or xs k 0 ≤ max last e.id) (sym ids) (highest-more (ids_of es) e.id last h k)
 
-  pub pushed-within : ((i : ℕ) (c : Clause) → look_up es i ≡ Some c → IsWithin n c) → IsWithin n e.clause.now → (i : ℕ) (c : Clause) → look_up new i ≡ Some c → IsWithin n c
-  pushed-within w we i c f = elim (cases_Bool (i == e.id)) [
-    | inl a ↦ let g : Some e.clause.now ≡ Some c = sym (looks i ∙ rw a refl) ∙ f in let q : e.clause.now ≡ c = cc in subst (IsWithin n) q we
+  pub pushed-all : (P : Clause → Type 0) → ((i : ℕ) (c : Clause) → look_up es i ≡ Some c → P c) → P e.clause.now → (i : ℕ) (c : Clause) → look_up new i ≡ Some c → P c
+  pushed-all P w we i c f = elim (cases_Bool (i == e.id)) [
+    | inl a ↦ let g : Some e.clause.now ≡ Some c = sym (looks i ∙ rw a refl) ∙ f in let q : e.clause.now ≡ c = cc in subst P q we
     | inr a ↦ w i c (sym (looks i ∙ rw a refl) ∙ f)
   ]
 

@@ -8,17 +8,18 @@ use Rattle.bilv_spec.specs.UnitPropagation.{negations}
 use Rattle.bilv_spec.specs.Refutation.{is_tautology, some_above, added}
 use Rattle.bilv_spec.proofs.Looks.{same-true, or_left, or_right}
 use Rattle.refutation_checker.specs.declared.slots.Slot.{Slot}
-use Rattle.refutation_checker.specs.Slots.{unset, true_in, AreUpTo, IsWithin}
+use Rattle.refutation_checker.specs.Slots.{unset, true_in, place_of, AreUpTo}
 
 -- slots that were set by earlier lines tell nothing
-pub fresh : (slots : List Slot) (n line : ℕ) → AreUpTo n slots → n < line → (m : Literal) → true_in line slots m ≡ false
-fresh slots n line up lt m =
-    let h = up m.variable in
-    let q : ((get_or slots m.variable unset).line == line) ≡ false = ne_eqb (get_or slots m.variable unset).line line (λ e. omega (arith, e, h)) in
+pub fresh : (names : List ℕ) (slots : List Slot) (n line : ℕ) → AreUpTo n slots → n < line → (m : Literal) → true_in line names slots m ≡ false
+fresh names slots n line up lt m =
+    let k = place_of names m.variable in
+    let h = up k in
+    let q : ((get_or slots k unset).line == line) ≡ false = ne_eqb (get_or slots k unset).line line (λ e. omega (arith, e, h)) in
     rw q refl
 
--- literals below n are those that are not above what is one less
-pub none_above-within : (n : ℕ) (c : Clause) → some_above n c ≡ false → IsWithin (n + 1) c
+-- no literal of a clause of which none is above n is above n
+pub none_above-within : (n : ℕ) (c : Clause) → some_above n c ≡ false → (l : Literal) → has c l ≡ true → l.variable ≤ n
 none_above-within n [] h l g = absurd (cc)
 none_above-within n (x ∷ xs) h l g = elim (cases_Bool (nat_lt n x.variable)) [
   | inl a ↦ absurd (let b = rw a at h in cc)

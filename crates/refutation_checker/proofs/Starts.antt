@@ -3,10 +3,9 @@ use Rattle.std.proofs.Common.{◌≡◌, ℕ, zero, suc, ◌<◌, ◌≤◌, ◌
 use Rattle.std.specs.Prelude.{◌==◌, slice_get, if◌then◌else◌}
 use Rattle.std.proofs.lemmas.Bool.{ne_eqb, cases_order}
 use Rattle.std.proofs.lemmas.Option.{slice_get_past, slice_get-get_or}
-use Rattle.bilv_spec.specs.Clauses.{Clause, AreOnVariables}
+use Rattle.bilv_spec.specs.Clauses.{Clause}
 use Rattle.bilv_spec.specs.Refutation.{at_start}
-use Rattle.bilv_spec.proofs.RefutationSound.{get-contains}
-use Rattle.refutation_checker.specs.Slots.{IsWithin, unset}
+use Rattle.refutation_checker.specs.Slots.{unset}
 
 get-take : (cs : List Clause) (k i : ℕ) (d : Clause) → i < k → k ≤ length cs → slice_get (take k cs) i ≡ Some (get_or cs i d)
 get-take cs k i d h w =
@@ -39,10 +38,6 @@ pub more : (cs : List Clause) (k : ℕ) (x : Clause) (o : Option Clause) (i : �
     (if i == k + 1 then Some x else o) ≡ at_start (take (k + 1) cs) i
 more cs k x o i lt is e =
     ap (λ (y : Clause). if i == k + 1 then Some y else o) is ∙ ap (λ (p : Option Clause). if i == k + 1 then Some (get_or cs k x) else p) e ∙ start-more cs k x i lt
-
-pub start-within : (n : ℕ) (cs : List Clause) → AreOnVariables n cs → (i : ℕ) (c : Clause) → at_start cs i ≡ Some c → IsWithin (n + 1) c
-start-within n cs on zero c h l has = absurd (cc)
-start-within n cs on (suc i) c h l has = let w = on c (get-contains cs i c h) l has in let high = w.1 in omega arith
 
 -- slots that no line has set
 pub unset-up : (n k : ℕ) → (get_or (replicate n unset) k unset).line ≤ 0

@@ -1,5 +1,6 @@
 pub mod Answers
 pub mod Slots
+pub mod Occurrences
 pub mod Entries
 pub mod Known
 pub mod Readings

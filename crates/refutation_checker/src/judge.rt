@@ -19,13 +19,15 @@ const GREATEST_NUMBER: u64 = 1 << 62;
 /// Takes the hints in order at a line, and says why they are refused.
 pub fn follow(
     entries: &[Entry<'_>],
+    names: &[u64],
     slots: &mut [Slot],
     line: usize,
     hints: &[Hint],
 ) -> Option<Cause>
     requires rising { IsRising (ids_of entries.now) }
-    requires within { (i : ℕ) (c : SpecClause) → look_up entries.now i ≡ Some c → IsWithin (length slots.old) c }
-    ensures judged { option_map cause_of result ≡ judge_hints (look_up entries.now) (true_in line slots.old) (map hint_of hints.now) }
+    requires named { IsRising names.now }
+    requires within { (i : ℕ) (c : SpecClause) → look_up entries.now i ≡ Some c → IsWithin names.now (length slots.old) c }
+    ensures judged { option_map cause_of result ≡ judge_hints (look_up entries.now) (true_in line names.now slots.old) (map hint_of hints.now) }
     ensures lines { AreUpTo line slots.old → AreUpTo line slots.new }
 {
     for hint in hints {
@@ -36,9 +38,9 @@ pub fn follow(
         let Some(clause) = find(entries, id) else {
             return Some(Cause::UnknownHint);
         };
-        match look_at(slots, line, clause.lits()) {
+        match look_at(names, slots, line, clause.lits()) {
             Look::Conflict => return None,
-            Look::Unit(lit) => assign(slots, line, lit),
+            Look::Unit(lit) => assign(names, slots, line, lit),
             Look::Other => return Some(Cause::NotUnit),
         }
     }
@@ -70,6 +72,7 @@ fn has_negative(hints: &[Hint]) -> bool
 /// The first cause for which an added clause is refused at a line that has set nothing.
 pub fn judge_clause(
     entries: &[Entry<'_>],
+    names: &[u64],
     slots: &mut [Slot],
     line: usize,
     variables: u64,
@@ -78,10 +81,11 @@ pub fn judge_clause(
     clause: &[Lit],
     hints: &[Hint],
 ) -> Option<Cause>
-    requires size { length slots.old ≡ variables + 1 }
     requires rising { IsRising (ids_of entries.now) }
-    requires within { (i : ℕ) (c : SpecClause) → look_up entries.now i ≡ Some c → IsWithin (variables + 1) c }
-    requires empty { (m : Literal) → true_in line slots.old m ≡ false }
+    requires named { IsRising names.now }
+    requires within { (i : ℕ) (c : SpecClause) → look_up entries.now i ≡ Some c → IsWithin names.now (length slots.old) c }
+    requires ready { some_above variables clause.now ≡ false → IsWithin names.now (length slots.old) clause.now }
+    requires empty { (m : Literal) → true_in line names.now slots.old m ≡ false }
     ensures judged { option_map cause_of result ≡ judge_added variables (record { last = last; present = look_up entries.now; ended = false }) id clause.now (map hint_of hints.now) }
     ensures lines { AreUpTo line slots.old → AreUpTo line slots.new }
 {
@@ -91,13 +95,13 @@ pub fn judge_clause(
     if has_above(clause, variables) {
         return Some(Cause::VariableAbove);
     }
-    if deny(slots, line, clause) {
+    if deny(names, slots, line, clause) {
         return Some(Cause::Tautology);
     }
     if has_negative(hints) {
         return Some(Cause::NegativeHint);
     }
-    follow(entries, slots, line, hints)
+    follow(entries, names, slots, line, hints)
 }
 
 /// Whether a number may stand in a list of the grammar.

@@ -8,6 +8,7 @@ mod cause;
 mod entries;
 mod judge;
 mod marks;
+mod names;
 mod print;
 mod read;
 mod slots;

@@ -10,14 +10,15 @@ ghost use Rattle.refutation_checker.specs.Slots.{IsWithin};
 use crate::cause::{Cause, Checked};
 use crate::entries::{Entry, delete};
 use crate::judge::{is_lawful, judge_clause};
+use crate::names::names_and_size;
 use crate::slots::Slot;
 use cnf_form::{Clause, Cnf, Log, LogLine};
 use std::alloc::{AllocError, Global};
 
-/// What a checker keeps between two lines of a log: the clauses by their ids, and the last value of each variable.
+/// What a checker keeps between two lines of a log: the clauses by their ids, and the last value of each variable that has a slot.
 #[derive(Drop)]
 pub struct Marks<'a> {
-    variables: u64,
+    names: Vec<u64>,
     slots: Vec<Slot>,
     entries: Vec<Entry<'a>>,
     last: u64,
@@ -28,12 +29,12 @@ pub struct Marks<'a> {
 fn add<'a>(marks: &mut Marks<'a>, id: u64, clause: &'a Clause)
     requires good { IsGood marks.old }
     requires above { marks.old.last < id }
-    requires within { IsWithin (marks.old.variables + 1) clause.now }
+    requires within { IsWithin marks.old.names.items (length marks.old.slots.items) clause.now }
     requires room { vec_len marks.old.entries < vec_capacity marks.old.entries }
     ensures good { IsGood marks.new }
     ensures known { (hints : List spec.Hint) →
         known_of marks.new ≡ spec.known_after_line (known_of marks.old) (spec.Add id clause.now hints) }
-    ensures variables { marks.new.variables ≡ marks.old.variables }
+    ensures names { marks.new.names ≡ marks.old.names }
     ensures slots { marks.new.slots ≡ marks.old.slots }
     ensures len { vec_len marks.new.entries ≡ vec_len marks.old.entries + 1 }
     ensures capacity { vec_capacity marks.old.entries ≤ vec_capacity marks.new.entries }
@@ -56,7 +57,7 @@ fn remove(marks: &mut Marks<'_>, id: u64, ids: &[u64])
     requires good { IsGood marks.old }
     ensures good { IsGood marks.new }
     ensures known { known_of marks.new ≡ spec.known_after_line (known_of marks.old) (spec.Delete id ids.now) }
-    ensures variables { marks.new.variables ≡ marks.old.variables }
+    ensures names { marks.new.names ≡ marks.old.names }
     ensures slots { marks.new.slots ≡ marks.old.slots }
     ensures len { vec_len marks.new.entries ≡ vec_len marks.old.entries }
     ensures capacity { vec_capacity marks.old.entries ≤ vec_capacity marks.new.entries }
@@ -71,7 +72,7 @@ impl<'a> Marks<'a> {
         requires { AreOnVariables cnf.now.variables cnf.now.clauses.items }
         ensures { IfOk result (λ m. HaveTaken m (cnf_of cnf.now) (lines_of log.now) 0) }
     {
-        let size = (cnf.variables as usize).checked_add(1).ok_or(AllocError)?;
+        let (names, size) = names_and_size(alloc, cnf, log)?;
         let room = cnf
             .clauses
             .len()
@@ -94,7 +95,7 @@ impl<'a> Marks<'a> {
             }
         }
         Ok(Marks {
-            variables: cnf.variables,
+            names,
             slots,
             entries,
             last: cnf.clauses.len() as u64,
@@ -136,6 +137,7 @@ pub fn check_line<'a>(
             let lits = clause.lits();
             let cause = judge_clause(
                 &marks.entries,
+                &marks.names,
                 &mut marks.slots,
                 line,
                 cnf.variables,

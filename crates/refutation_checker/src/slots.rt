@@ -1,12 +1,15 @@
 //! The values that a line gives to variables.
 //!
 //! Each value carries the number of the line that set it, and says nothing at another line. So no line has to take back what it set.
-ghost use Rattle.std.specs.Prelude.{◌≡◌, ℕ, ◌<◌, true, false, length};
+//! A variable has its slot at its place among the names.
+ghost use Rattle.std.specs.Prelude.{◌≡◌, ℕ, ◌<◌, ◌^◌, true, false, length};
 ghost use Rattle.bilv_spec.specs.Clauses.{Literal, opposite};
 ghost use Rattle.bilv_spec.specs.UnitPropagation.{negations};
 ghost use Rattle.bilv_spec.specs.Refutation.{added, look_of, is_tautology};
-ghost use Rattle.refutation_checker.specs.Slots.{true_in, AreUpTo, IsWithin, seen_as};
+ghost use Rattle.refutation_checker.specs.Entries.{IsRising};
+ghost use Rattle.refutation_checker.specs.Slots.{true_in, place_of, AreUpTo, IsWithin, seen_as};
 
+use crate::names::place;
 use cnf_form::Lit;
 
 /// The last value of a variable, and the line that set it; lines count from 1.
@@ -27,35 +30,38 @@ pub enum Look {
 }
 
 /// Whether the literal is true at the line.
-pub fn is_true(slots: &[Slot], line: usize, lit: Lit) -> bool
-    requires { lit.variable < length slots.now }
-    ensures { result ≡ true_in line slots.now lit }
+pub fn is_true(names: &[u64], slots: &[Slot], line: usize, lit: Lit) -> bool
+    requires rising { IsRising names.now }
+    requires within { place_of names.now lit.variable < length slots.now }
+    ensures { result ≡ true_in line names.now slots.now lit }
 {
-    let slot = slots[lit.variable() as usize];
+    let slot = slots[place(names, lit.variable())];
     slot.line == line && slot.positive == lit.is_positive()
 }
 
 /// Makes a literal true at the line.
-pub fn assign(slots: &mut [Slot], line: usize, lit: Lit)
-    requires within { lit.variable < length slots.old }
-    requires not_false { true_in line slots.old (opposite lit) ≡ false }
-    ensures values { (m : Literal) → true_in line slots.new m ≡ added lit (true_in line slots.old) m }
+pub fn assign(names: &[u64], slots: &mut [Slot], line: usize, lit: Lit)
+    requires rising { IsRising names.now }
+    requires within { place_of names.now lit.variable < length slots.old }
+    requires not_false { true_in line names.now slots.old (opposite lit) ≡ false }
+    ensures values { (m : Literal) → true_in line names.now slots.new m ≡ added lit (true_in line names.now slots.old) m }
     ensures lines { AreUpTo line slots.old → AreUpTo line slots.new }
 {
-    slots[lit.variable() as usize] = Slot {
+    slots[place(names, lit.variable())] = Slot {
         line,
         positive: lit.is_positive(),
     };
 }
 
 /// What the clause is at the line.
-pub fn look_at(slots: &[Slot], line: usize, clause: &[Lit]) -> Look
-    requires { IsWithin (length slots.now) clause.now }
-    ensures { seen_as result ≡ look_of (true_in line slots.now) clause.now }
+pub fn look_at(names: &[u64], slots: &[Slot], line: usize, clause: &[Lit]) -> Look
+    requires rising { IsRising names.now }
+    requires within { IsWithin names.now (length slots.now) clause.now }
+    ensures { seen_as result ≡ look_of (true_in line names.now slots.now) clause.now }
 {
     let mut open = None;
     for lit in clause {
-        if !is_true(slots, line, lit.opposite()) {
+        if !is_true(names, slots, line, lit.opposite()) {
             match open {
                 None => open = Some(*lit),
                 Some(first) => {
@@ -69,7 +75,7 @@ pub fn look_at(slots: &[Slot], line: usize, clause: &[Lit]) -> Look
     match open {
         None => Look::Conflict,
         Some(lit) => {
-            if is_true(slots, line, lit) {
+            if is_true(names, slots, line, lit) {
                 Look::Other
             } else {
                 Look::Unit(lit)
@@ -79,18 +85,19 @@ pub fn look_at(slots: &[Slot], line: usize, clause: &[Lit]) -> Look
 }
 
 /// Makes every literal of a clause false at a line that has set nothing, and says whether that failed: whether a literal stands beside its opposite.
-pub fn deny(slots: &mut [Slot], line: usize, clause: &[Lit]) -> bool
-    requires within { IsWithin (length slots.old) clause.now }
-    requires empty { (m : Literal) → true_in line slots.old m ≡ false }
+pub fn deny(names: &[u64], slots: &mut [Slot], line: usize, clause: &[Lit]) -> bool
+    requires rising { IsRising names.now }
+    requires within { IsWithin names.now (length slots.old) clause.now }
+    requires empty { (m : Literal) → true_in line names.now slots.old m ≡ false }
     ensures tautology { result ≡ is_tautology clause.now }
-    ensures values { result ≡ false → (m : Literal) → true_in line slots.new m ≡ negations clause.now m }
+    ensures values { result ≡ false → (m : Literal) → true_in line names.now slots.new m ≡ negations clause.now m }
     ensures lines { AreUpTo line slots.old → AreUpTo line slots.new }
 {
     for lit in clause {
-        if is_true(slots, line, *lit) {
+        if is_true(names, slots, line, *lit) {
             return true;
         }
-        assign(slots, line, lit.opposite());
+        assign(names, slots, line, lit.opposite());
     }
     false
 }
