@@ -1,8 +1,6 @@
-//! Tests of the public call `bilv`: whole runs of each command over files in memory.
+//! Tests of reading and writing whole files, and of the values of command lines. What the public call answers is told by the tables of `bilv_cases`.
 #![tactic(auto)]
 
-#[cfg(test)]
-mod calls;
 #[cfg(test)]
 mod edges;
 #[cfg(test)]

@@ -66,53 +66,6 @@ fn check_printed(rt: &(impl Abort + AllocGlobal), cases: &[Case]) -> Result<(), 
 }
 
 #[test]
-fn no_nodes_have_no_lines(rt: HostRuntime) -> Result<(), AllocError> {
-    check_printed(&rt, &[])
-}
-
-#[test]
-fn successors_and_returns(rt: HostRuntime) -> Result<(), AllocError> {
-    let cases = [
-        Case {
-            successors: &[(Letter::Next, 0x1_0004)],
-            line: "0x00010000 n 0x00010004\n",
-            ..BARE
-        },
-        Case {
-            at: 0x1_0004,
-            successors: &[(Letter::Jump, 0x1_0000), (Letter::Next, 0x1_0008)],
-            line: "0x00010004 j 0x00010000 n 0x00010008\n",
-            ..BARE
-        },
-        Case {
-            at: 0x1_0008,
-            successors: &[(Letter::Call, 0x1_0010), (Letter::Return, 0x1_000c)],
-            line: "0x00010008 c 0x00010010 r 0x0001000c\n",
-            ..BARE
-        },
-        Case {
-            at: 0x1_000c,
-            returns: true,
-            line: "0x0001000c x\n",
-            ..BARE
-        },
-        Case {
-            at: 0x1_0010,
-            line: "0x00010010\n",
-            ..BARE
-        },
-        Case {
-            at: 0xffff_fffc,
-            successors: &[(Letter::Next, 0), (Letter::Jump, 0xabcd_ef00)],
-            returns: true,
-            line: "0xfffffffc n 0x00000000 j 0xabcdef00 x\n",
-            ..BARE
-        },
-    ];
-    check_printed(&rt, &cases)
-}
-
-#[test]
 fn kept_flags(rt: HostRuntime) -> Result<(), AllocError> {
     let next = [(Letter::Next, 0x1_0004)];
     let cases = [
@@ -139,26 +92,6 @@ fn kept_flags(rt: HostRuntime) -> Result<(), AllocError> {
             at: 0x1_000c,
             keeps: 5,
             line: "0x0001000c keeps Z V\n",
-            ..BARE
-        },
-    ];
-    check_printed(&rt, &cases)
-}
-
-#[test]
-fn rowless_addresses(rt: HostRuntime) -> Result<(), AllocError> {
-    let cases = [
-        Case {
-            at: 0x2_0000,
-            row: false,
-            line: "0x00020000 norow\n",
-            ..BARE
-        },
-        Case {
-            at: 0x3_0000,
-            row: false,
-            fetchable: false,
-            line: "0x00030000 fetch\n",
             ..BARE
         },
     ];

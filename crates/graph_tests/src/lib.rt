@@ -7,8 +7,6 @@
 #[cfg(test)]
 mod graph_texts;
 #[cfg(test)]
-mod graphs;
-#[cfg(test)]
 mod liveness;
 #[cfg(test)]
 mod points;

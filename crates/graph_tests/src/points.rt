@@ -1,6 +1,6 @@
 use graph_nodes::{Graph, Letter, Node, Successor};
 use machine_law::FlagUse;
-use program_points::{Points, PointsFault, points};
+use program_points::{Points, points};
 use std::alloc::{AllocError, AllocGlobal, Global};
 use std::process::Abort;
 
@@ -72,65 +72,6 @@ fn check(
     Ok(())
 }
 
-/// There are more points of a graph from 0x10000 on than may be listed.
-fn check_more(
-    rt: &(impl Abort + AllocGlobal),
-    rows: &[Row],
-    k: u64,
-    max: u16,
-    count: u64,
-) -> Result<(), AllocError> {
-    let graph = graph(rt.alloc(), rows)?;
-    match points(rt.alloc(), &graph, 0x10000, k, max as u64) {
-        Ok(_) => assert!(rt; false, "a list of points"),
-        Err(fault) => assert_eq!(rt; fault, PointsFault::TooMany { count }),
-    }
-    Ok(())
-}
-
-/// A loop that counts down, and returns behind it.
-const COUNTDOWN: &[Row<'static>] = &[
-    (0x10000, &[(Letter::Next, 0x10004)], false),
-    (
-        0x10004,
-        &[(Letter::Jump, 0x10000), (Letter::Next, 0x10008)],
-        false,
-    ),
-    (0x10008, &[], true),
-];
-
-/// A function that calls itself without end.
-const CALLS_ITSELF: &[Row<'static>] = &[
-    (0x10000, &[(Letter::Next, 0x10004)], false),
-    (
-        0x10004,
-        &[(Letter::Call, 0x10000), (Letter::Return, 0x10008)],
-        false,
-    ),
-    (0x10008, &[], true),
-];
-
-#[test]
-fn turns_are_counted(rt: HostRuntime) -> Result<(), AllocError> {
-    check(&rt, COUNTDOWN, 0, 3, ";0 0 10000;0 0 10004;0 0 10008")?;
-    check(
-        &rt,
-        COUNTDOWN,
-        2,
-        9,
-        ";0 0 10000;0 0 10004;1 0 10000;0 0 10008;1 0 10004;2 0 10000;1 0 10008;2 0 10004;2 0 10008",
-    )
-}
-
-#[test]
-fn more_points_than_may_be(rt: HostRuntime) -> Result<(), AllocError> {
-    check_more(&rt, COUNTDOWN, 2, 8, 9)?;
-    check_more(&rt, COUNTDOWN, 0, 2, 3)?;
-    check_more(&rt, COUNTDOWN, 0, 0, 1)?;
-    check_more(&rt, &[], 0, 0, 1)?;
-    check_more(&rt, CALLS_ITSELF, 64, 129, 130)
-}
-
 #[test]
 fn calls_return(rt: HostRuntime) -> Result<(), AllocError> {
     let rows: [Row; 6] = [
@@ -159,46 +100,4 @@ fn calls_return(rt: HostRuntime) -> Result<(), AllocError> {
         6,
         ";1000c 0;0 0 10000;0 0 10004;0 0 10008;0 1 10010;0 1 10014",
     )
-}
-
-#[test]
-fn return_comes_before_its_named_target(rt: HostRuntime) -> Result<(), AllocError> {
-    let rows: [Row; 4] = [
-        (
-            0x10000,
-            &[(Letter::Return, 0x10004), (Letter::Call, 0x10008)],
-            false,
-        ),
-        (0x10004, &[], true),
-        (
-            0x10008,
-            &[(Letter::Jump, 0x10004), (Letter::Jump, 0x1000c)],
-            true,
-        ),
-        (0x1000c, &[], true),
-    ];
-    check(
-        &rt,
-        &rows,
-        1,
-        9,
-        ";10004 0;0 0 10000;0 1 10008;0 1 1000c;1 0 10004",
-    )
-}
-
-#[test]
-fn deep_stacks_are_listed(rt: HostRuntime) -> Result<(), AllocError> {
-    let graph = graph(rt.alloc(), CALLS_ITSELF)?;
-    match points(rt.alloc(), &graph, 0x10000, 64, 130) {
-        Ok(list) => {
-            assert_eq!(rt; list.points.len(), 130);
-            for (i, point) in list.points.iter().enumerate() {
-                assert_eq!(rt; point.turns, i as u64 / 2);
-                assert_eq!(rt; point.stack, i / 2);
-                assert_eq!(rt; point.at, if i % 2 == 0 { 0x10000 } else { 0x10004 });
-            }
-        }
-        Err(_) => assert!(rt; false, "no list of points"),
-    }
-    Ok(())
 }

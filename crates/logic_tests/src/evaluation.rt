@@ -81,12 +81,6 @@ fn set(register: u8, value: Exp) -> Stmt
     Stmt::Assign(Var::Register(Bank::XRegisters, register), value)
 }
 
-fn jump(target: u32) -> Stmt
-    ensures { (rest : bil.Statements) → list_names_only (statement result rest) is_machine ≡ list_names_only rest is_machine }
-{
-    Stmt::Jump(number(target))
-}
-
 /// Adds 1 to a register.
 fn count(alloc: Global, register: u8) -> Result<Stmt, AllocError>
     requires { register < 32 }
@@ -106,33 +100,6 @@ fn below(alloc: Global, register: u8, bound: u32, body: Vec<Stmt>) -> Result<Stm
     Ok(Stmt::repeat(less, body))
 }
 
-/// Jumps, and assigns behind them.
-fn jumps(alloc: Global) -> Result<Vec<Stmt>, AllocError>
-    ensures { IfOk result (λ list. list_names_only (statements list.items) is_machine ≡ true) }
-{
-    let list = vec![in alloc;
-        jump(0x100),
-        set(10, number(7)),
-        jump(0x200),
-        set(11, x(10)),
-    ]?;
-    Ok(list)
-}
-
-/// Raises an exception between two assignments.
-fn raises(alloc: Global) -> Result<Vec<Stmt>, AllocError>
-    ensures { IfOk result (λ list. list_names_only (statements list.items) is_machine ≡ true) }
-{
-    let remark = Stmt::Special(String::from_str(alloc, "seen")?);
-    let list = vec![in alloc;
-        remark,
-        set(10, number(1)),
-        Stmt::Raise(3),
-        set(10, number(2)),
-    ]?;
-    Ok(list)
-}
-
 /// Counts `x10` up to 2, and in each turn `x11` up to 3.
 fn nested(alloc: Global) -> Result<Vec<Stmt>, AllocError>
     ensures { IfOk result (λ list. list_names_only (statements list.items) is_machine ≡ true) }
@@ -149,17 +116,6 @@ fn spins(alloc: Global) -> Result<Vec<Stmt>, AllocError>
 {
     let one = Exp::Constant(Word::new(1, 1));
     let list = vec![in alloc; Stmt::repeat(one, Vec::new(alloc))]?;
-    Ok(list)
-}
-
-/// Whether `x10` is 0: then `x11` is 1, and else 2.
-fn chooses(alloc: Global) -> Result<Vec<Stmt>, AllocError>
-    ensures { IfOk result (λ list. list_names_only (statements list.items) is_machine ≡ true) }
-{
-    let is_zero = binary(alloc, BinaryOp::Equal, x(10), number(0))?;
-    let when_true = vec![in alloc; set(11, number(1))]?;
-    let when_false = vec![in alloc; set(11, number(2))]?;
-    let list = vec![in alloc; Stmt::choose(is_zero, when_true, when_false)]?;
     Ok(list)
 }
 
@@ -229,28 +185,6 @@ fn binds(alloc: Global) -> Result<Vec<Stmt>, AllocError>
 }
 
 #[test]
-fn runs_statements(rt: HostRuntime) -> Result<(), Fail> {
-    let alloc = rt.alloc();
-    let list = vec![in alloc; count(alloc, 10)?]?;
-    assert_eq!(rt;
-        outcome(alloc, &list, 0xffff_ffff, 0),
-        (Some(Ok(End::Next)), 0, 0)
-    );
-    assert_eq!(rt;
-        outcome(alloc, &jumps(alloc)?, 0, 0),
-        (Some(Ok(End::Jump(0x200))), 7, 7)
-    );
-    assert_eq!(rt;
-        outcome(alloc, &raises(alloc)?, 0, 0),
-        (Some(Ok(End::Exn(3))), 1, 0)
-    );
-    let list = chooses(alloc)?;
-    assert_eq!(rt; outcome(alloc, &list, 0, 0), (Some(Ok(End::Next)), 0, 1));
-    assert_eq!(rt; outcome(alloc, &list, 5, 0), (Some(Ok(End::Next)), 5, 2));
-    Ok(())
-}
-
-#[test]
 fn counts_turns(rt: HostRuntime) -> Result<(), Fail> {
     let alloc = rt.alloc();
     let out = Some(Err(EvalFault::OutOfTurns));
@@ -271,58 +205,5 @@ fn evaluates(rt: HostRuntime) -> Result<(), Fail> {
         (next, 0x1122_bbaa, 0x4433_2211)
     );
     assert_eq!(rt; outcome(alloc, &binds(alloc)?, 4, 0), (next, 31, 10));
-    Ok(())
-}
-
-/// The lowest bits.
-fn cut(width: u8, bits: u64) -> Word
-    requires some { 1 ≤ width }
-    requires few { width ≤ 64 }
-    ensures { result.width ≡ width }
-{
-    Word::new(64, bits).low(width)
-}
-
-/// Whether an operator gives a word: then `x11` is 1, and else 0.
-fn gives(alloc: Global, op: BinaryOp, a: Word, b: Word, want: Word) -> Result<Vec<Stmt>, AllocError>
-    ensures { IfOk result (λ list. list_names_only (statements list.items) is_machine ≡ true) }
-{
-    let value = binary(alloc, op, Exp::Constant(a), Exp::Constant(b))?;
-    let same = binary(alloc, BinaryOp::Equal, value, Exp::Constant(want))?;
-    let list = vec![in alloc;
-        set(
-            11,
-            Exp::cast(alloc, CastKind::Unsigned, Width::new(32), same)?
-        ),
-    ]?;
-    Ok(list)
-}
-
-#[test]
-fn operates_at_edges(rt: HostRuntime) -> Result<(), Fail> {
-    let alloc = rt.alloc();
-    let next = Some(Ok(End::Next));
-    for width in [1, 8, 32, 33, 64] {
-        let ones = cut(width, u64::MAX);
-        let least = cut(width, 1 << (width - 1));
-        let zero = cut(width, 0);
-        let one = cut(width, 1);
-        let many = cut(width, width as u64);
-        for (op, a, b, want) in [
-            (BinaryOp::Divide, least, zero, ones),
-            (BinaryOp::SignedDivide, least, zero, ones),
-            (BinaryOp::Modulo, least, zero, least),
-            (BinaryOp::SignedModulo, least, zero, least),
-            (BinaryOp::SignedDivide, least, ones, least),
-            (BinaryOp::SignedModulo, least, ones, zero),
-            (BinaryOp::ShiftSigned, least, many, ones),
-            (BinaryOp::ShiftRight, least, many, zero),
-            (BinaryOp::ShiftLeft, least, many, zero),
-            (BinaryOp::Plus, ones, one, zero),
-        ] {
-            let list = gives(alloc, op, a, b, want)?;
-            assert_eq!(rt; outcome(alloc, &list, 0, 0), (next, 0, 1), "width {width}");
-        }
-    }
     Ok(())
 }

@@ -1,8 +1,8 @@
 //! The text of one statement of each kind.
 ghost use Rattle.std.specs.Prelude.{◌≤◌, ◌<◌, ◌^◌};
 
-use bil_ast::{Bank, BilType, BinaryOp, CastKind, Exp, Local, Stmt, UnaryOp, Var, Width};
-use bil_print::{append_stmts, print_stmts};
+use bil_ast::{Bank, BilType, BinaryOp, CastKind, Exp, Stmt, UnaryOp, Var, Width};
+use bil_print::print_stmts;
 use bv_word::Word;
 use byte_mem::Endian;
 use std::alloc::{AllocError, Global};
@@ -93,39 +93,5 @@ if 0x1:1 {
         Ok(text) => assert_eq!(rt; text.as_str(), expected),
         Err(_) => assert!(rt; false, "no text"),
     }
-    Ok(())
-}
-
-#[test]
-fn prints_each_form_of_expression(rt: HostRuntime) -> Result<(), AllocError> {
-    let alloc = rt.alloc();
-    let local = Local {
-        number: 7,
-        width: Width::new(8),
-    };
-    let upper = Exp::extract(alloc, 15, 8, Exp::Var(X10))?;
-    let both = Exp::concat(alloc, upper, Exp::Var(Var::Local(local)))?;
-    let low = Exp::cast(
-        alloc,
-        CastKind::Low,
-        Width::new(8),
-        Exp::Var(Var::Register(Bank::RRegisters, 3)),
-    )?;
-    let bound = Exp::bind(alloc, local, low, both)?;
-    let chosen = Exp::choose(alloc, Exp::Var(Var::Flag(3)), bound, word(16, 0))?;
-    let list = one(alloc, Stmt::Jump(chosen))?;
-    let text = String::from_utf8(print_stmts(alloc, &list)?);
-    let expected =
-        "jmp if N then (let v7_8 = low:8[r3] in (extract:15:8[x10] @ v7_8)) else 0x0:16\n";
-    match text {
-        Ok(text) => assert_eq!(rt; text.as_str(), expected),
-        Err(_) => assert!(rt; false, "no text"),
-    }
-    let mut out = String::from_str(alloc, "one deep:\n")?;
-    append_stmts(alloc, &mut out, &list, 1)?;
-    let expected = "one deep:
-  jmp if N then (let v7_8 = low:8[r3] in (extract:15:8[x10] @ v7_8)) else 0x0:16
-";
-    assert_eq!(rt; out.as_str(), expected);
     Ok(())
 }

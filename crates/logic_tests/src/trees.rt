@@ -58,15 +58,6 @@ fn every(alloc: Global) -> Result<Vec<Stmt>, AllocError> {
 }
 
 #[test]
-fn counts_nodes(rt: HostRuntime) -> Result<(), Fail> {
-    let alloc = rt.alloc();
-    assert_eq!(rt; stored(alloc)?.size(), 11);
-    assert_eq!(rt; bound(alloc)?.size(), 8);
-    assert_eq!(rt; Stmt::list_size(&every(alloc)?), 20);
-    Ok(())
-}
-
-#[test]
 fn copies_are_alike(rt: HostRuntime) -> Result<(), Fail> {
     let alloc = rt.alloc();
     let copy = stored(alloc)?.copy(alloc)?;

@@ -15,9 +15,3 @@ mod lifting;
 mod notes;
 #[cfg(test)]
 mod state_texts;
-#[cfg(test)]
-mod steps;
-#[cfg(test)]
-mod tokens;
-#[cfg(test)]
-mod values;

@@ -1,5 +1,4 @@
-//! Words of every row, the list of ADDI, and the machine's calls.
-use bil_ast::{Bank, BinaryOp, Exp, Stmt, Var};
+//! The machine's calls.
 use byte_mem::{Bytes32, StepOut, View};
 use machine_law::Machine;
 use rv_decode::Insn;
@@ -8,102 +7,9 @@ use state_text::Start;
 use std::alloc::AllocError;
 use std::process::Abort;
 
-/// A word of each instruction, with rd x3 (x1 in the jumps), rs1 x1 and rs2 x2, and how many nodes its list has: each statement, operator, constant, register
-/// and memory is one.
-const LISTS: [(u32, u64); 48] = [
-    // LUI, AUIPC, JAL, JALR
-    (0x1234_51B7, 2),
-    (0x1234_5197, 2),
-    (0x0080_00EF, 4),
-    (0x0080_80E7, 8),
-    // BEQ, BNE, BLT, BGE, BLTU, BGEU
-    (0x0020_8463, 6),
-    (0x0020_9463, 6),
-    (0x0020_C463, 6),
-    (0x0020_D463, 7),
-    (0x0020_E463, 6),
-    (0x0020_F463, 7),
-    // LB, LH, LW, LBU, LHU
-    (0x0080_8183, 7),
-    (0x0080_9183, 7),
-    (0x0080_A183, 6),
-    (0x0080_C183, 7),
-    (0x0080_D183, 7),
-    // SB, SH, SW
-    (0x0020_8423, 8),
-    (0x0020_9423, 8),
-    (0x0020_A423, 7),
-    // ADDI, SLTI, SLTIU, XORI, ORI, ANDI
-    (0x0080_8193, 4),
-    (0x0080_A193, 5),
-    (0x0080_B193, 5),
-    (0x0080_C193, 4),
-    (0x0080_E193, 4),
-    (0x0080_F193, 4),
-    // SLLI, SRLI, SRAI
-    (0x0020_9193, 4),
-    (0x0020_D193, 4),
-    (0x4020_D193, 4),
-    // ADD, SUB, SLL, SLT, SLTU, XOR, SRL, SRA, OR, AND
-    (0x0020_81B3, 4),
-    (0x4020_81B3, 4),
-    (0x0020_91B3, 6),
-    (0x0020_A1B3, 5),
-    (0x0020_B1B3, 5),
-    (0x0020_C1B3, 4),
-    (0x0020_D1B3, 6),
-    (0x4020_D1B3, 6),
-    (0x0020_E1B3, 4),
-    (0x0020_F1B3, 4),
-    // MUL, MULH, MULHSU, MULHU, DIV, DIVU, REM, REMU
-    (0x0220_81B3, 4),
-    (0x0220_91B3, 7),
-    (0x0220_A1B3, 7),
-    (0x0220_B1B3, 7),
-    (0x0220_C1B3, 4),
-    (0x0220_D1B3, 4),
-    (0x0220_E1B3, 4),
-    (0x0220_F1B3, 4),
-    // FENCE, ECALL, EBREAK
-    (0x0FF0_000F, 0),
-    (0x0000_0073, 1),
-    (0x0010_0073, 1),
-];
-
 // The instruction of a word that has one.
 fn insn(rt: &impl Abort, word: u32) -> Insn {
     Rv32::decode(word).expect(rt, "a row")
-}
-
-#[test]
-fn lists_have_their_sizes(rt: HostRuntime) -> Result<(), AllocError> {
-    for (word, size) in LISTS {
-        let list = Rv32::lift(rt.alloc(), &insn(&rt, word), 0x1000)?;
-        assert_eq!(rt; Stmt::list_size(&list), size, "at {word}");
-    }
-    // addi x0,x0,0 assigns nothing
-    let list = Rv32::lift(rt.alloc(), &insn(&rt, 0x0000_0013), 0x1000)?;
-    assert!(rt; list.is_empty());
-    Ok(())
-}
-
-// addi a0,a0,1 is x10 := x10 + 0x1:32.
-#[test]
-fn addi_adds(rt: HostRuntime) -> Result<(), AllocError> {
-    let list = Rv32::lift(rt.alloc(), &insn(&rt, 0x0015_0513), 0x1000)?;
-    assert_eq!(rt; list.len(), 1);
-    for stmt in &list {
-        assert!(rt;
-            matches!(
-                stmt,
-                Stmt::Assign(
-                    Var::Register(Bank::XRegisters, 10),
-                    Exp::Binary(BinaryOp::Plus, _, _),
-                )
-            )
-        );
-    }
-    Ok(())
 }
 
 #[test]

@@ -1,7 +1,5 @@
-//! The whole texts of both machines, and texts that are refused.
-use state_text::{
-    Event, Layout, NamedEnding, ParseFault, Start, StateFault, StateText, parse_state, print_state,
-};
+//! The whole texts of both machines, printed and read again.
+use state_text::{Event, Layout, NamedEnding, Start, StateText, parse_state, print_state};
 use std::alloc::AllocError;
 use std::process::Abort;
 
@@ -17,116 +15,6 @@ fn check_read(
             let printed = print_state(rt.alloc(), &state, layout)?;
             assert!(rt; printed.as_slice() == text);
         }
-    }
-    Ok(())
-}
-
-// The text is refused at a line, behind so many bytes.
-fn check_refused(
-    rt: &(impl Abort + AllocGlobal),
-    text: &str,
-    line: u64,
-    kind: StateFault,
-    bytes: usize,
-) -> Result<(), AllocError> {
-    match parse_state(rt.alloc(), text.as_bytes(), Layout::ArmLittle) {
-        Ok(_state) => assert!(rt; false),
-        Err(fault) => match fault {
-            ParseFault::Memory => return Err(AllocError),
-            ParseFault::Refused {
-                line: at,
-                kind: cause,
-                bytes: before,
-            } => {
-                assert_eq!(rt; at, line);
-                assert_eq!(rt; cause, kind);
-                assert_eq!(rt; before.len(), bytes);
-            }
-        },
-    }
-    Ok(())
-}
-
-// The lines of a text before its bytes.
-const HEAD: &str = "fails trap at 0x00008000 step 3\nstate armv4-le\n\
-    r0 0x00000001\nr1 0x00000001\nr2 0x00000001\nr3 0x00000001\nr4 0x00000001\n\
-    r5 0x00000001\nr6 0x00000001\nr7 0x00000001\nr8 0x00000001\nr9 0x00000001\nr10 0x00000001\n\
-    r11 0x00000001\nr12 0x00000001\nr13 0x00000001\nr14 0x00000001\nN 0\nZ 1\nC 1\nV 0\n";
-
-#[test]
-fn refused_heads(rt: HostRuntime) -> Result<(), AllocError> {
-    for (text, line, kind) in [
-        ("", 1, StateFault::Register),
-        ("end\n", 1, StateFault::Line),
-        (
-            "fails trap at 0x00008000 step 16777216\n",
-            1,
-            StateFault::Line,
-        ),
-        ("fails trap at 0x00008000 step 3\n", 2, StateFault::Register),
-        (
-            "fails trap at 0x00008000 step 3\nstate rv32im\n",
-            2,
-            StateFault::Line,
-        ),
-        (
-            "fails trap at 0x00008000 step 3\nstate armv4-le\nend\n",
-            3,
-            StateFault::Register,
-        ),
-        (
-            "fails trap at 0x00008000 step 3\nstate armv4-le\nr1 0x00000000\n",
-            3,
-            StateFault::Register,
-        ),
-    ] {
-        check_refused(&rt, text, line, kind, 0)?;
-    }
-    Ok(())
-}
-
-#[test]
-fn refused_tails(rt: HostRuntime) -> Result<(), AllocError> {
-    for (tail, line, kind, bytes) in [
-        ("", 22, StateFault::End, 0),
-        ("byte 0x00000001 0x01\n", 23, StateFault::End, 1),
-        ("x0 0x00000000\nend\n", 22, StateFault::Line, 0),
-        ("C 2\nend\n", 22, StateFault::Line, 0),
-        ("C 1\nend\n", 22, StateFault::Register, 0),
-        ("byte 0x0000000A 0x01\nend\n", 22, StateFault::Line, 0),
-        ("byte 0x00000001 0x00\nend\n", 22, StateFault::Byte, 0),
-        (
-            "byte 0x00000001 0x02\nbyte 0x00000001 0x02\nend\n",
-            23,
-            StateFault::Byte,
-            1,
-        ),
-        (
-            "choice 0 1\nbyte 0x00000001 0x01\nend\n",
-            23,
-            StateFault::Byte,
-            0,
-        ),
-        ("choice 0 0\nend\n", 22, StateFault::Choice, 0),
-        ("choice 0 9\nend\n", 22, StateFault::Choice, 0),
-        ("choice 5 1\nchoice 5 1\nend\n", 23, StateFault::Choice, 0),
-        ("choice 16777216 1\nend\n", 22, StateFault::Line, 0),
-        ("end\nend\n", 23, StateFault::End, 0),
-        ("end\nbyte 0x00000001 0x01\n", 23, StateFault::Byte, 0),
-        ("end\n\n", 23, StateFault::Line, 0),
-    ] {
-        let text = format!(in rt.alloc(); "{HEAD}{tail}")?;
-        check_refused(&rt, &text, line, kind, bytes)?;
-    }
-    Ok(())
-}
-
-#[test]
-fn last_line_feed_may_lack(rt: HostRuntime) -> Result<(), AllocError> {
-    let text = format!(in rt.alloc(); "{HEAD}end")?;
-    match parse_state(rt.alloc(), text.as_bytes(), Layout::ArmLittle) {
-        Err(_) => assert!(rt; false),
-        Ok(state) => assert_eq!(rt; state.start.flags, 6),
     }
     Ok(())
 }
