@@ -1,0 +1,37 @@
+-- Laws of unrolled programs and their walks.
+use Rattle.std.specs.Prelude.{ℕ, ◌≡◌, ◌<◌, ◌↔◌, Bool, true, length}
+use Rattle.bilv_spec.specs.Words.{add}
+use Rattle.bilv_spec.specs.State.{State}
+use Rattle.bilv_spec.specs.Run.{Program}
+use Rattle.bilv_spec.specs.Points.{is_known_at}
+use Rattle.bilv_spec.specs.Verdict.{IsEntryState}
+use Rattle.bilv_spec.specs.Questions.{Reading, IsEntryStateOver}
+use Rattle.walk_spec.specs.Unrolled.{Carried, UnrolledProgram, WalkIsAt, walk, ExitsLeadLater}
+use Rattle.walk_spec.specs.Unrolling.{IsLiteralOf, IsUnrolling}
+use Rattle.walk_spec.specs.WalkQuestions.{MeetsEntry, MeetsEntryOver}
+
+-- the bytes of the kept literals that the rows at points load are asked
+abbrev pub AsksLiterals : Program → (k : ℕ) → (ℕ → Bool) → Type 0
+AsksLiterals p k asked = (a i : ℕ) → IsLiteralOf p k a → i < 4 → asked (add 32 a i) ≡ true
+
+-- each byte that is asked is known
+abbrev pub AsksKnown : Program → (ℕ → Bool) → Type 0
+AsksKnown p asked = (a : ℕ) → asked a ≡ true → is_known_at p a ≡ true
+
+-- the entry condition of the unrolled program is that of the program
+abbrev pub EntryIsSame : Type 0
+EntryIsSame = (p : Program) (k : ℕ) (u : UnrolledProgram) → IsUnrolling p k u → (s : State) → MeetsEntry u s ↔ IsEntryState p s
+
+-- so is its entry condition over the known bytes that are asked
+abbrev pub EntryIsSameOver : Type 0
+EntryIsSameOver = (p : Program) (k : ℕ) (u : UnrolledProgram) → IsUnrolling p k u → (asked : ℕ → Bool) → AsksKnown p asked → (s : State) →
+    MeetsEntryOver u asked s ↔ IsEntryStateOver p asked s
+
+-- the edges of the unrolled program of a program lead to later places
+abbrev pub PlacesRise : Type 0
+PlacesRise = (p : Program) (k : ℕ) (u : UnrolledProgram) → IsUnrolling p k u → (0 < length u.points) × ExitsLeadLater u
+
+-- a walk meets the point at a place at most once
+abbrev pub MeetsOnce : Type 0
+MeetsOnce = (u : UnrolledProgram) → 0 < length u.points → ExitsLeadLater u → (r : Reading) (i m n : ℕ) (c d : Carried) →
+    walk u r m ≡ WalkIsAt i c → walk u r n ≡ WalkIsAt i d → (m ≡ n) × (c ≡ d)
