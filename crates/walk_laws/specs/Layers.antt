@@ -1,0 +1,53 @@
+-- What joins the layers below the clauses of a question to what is claimed of a program.
+use Rattle.std.specs.Prelude.{ℕ, ◌≡◌, ◌≤◌, ◌<◌, ◌^◌, Bool, Some, length}
+use Rattle.bilv_spec.specs.RowFiles.{from_to}
+use Rattle.bilv_spec.specs.Clauses.{Cnf, Satisfies}
+use Rattle.bilv_spec.specs.StateText.{Layout, Written}
+use Rattle.bilv_spec.specs.Run.{Program}
+use Rattle.bilv_spec.specs.Questions.{Reading, Question, IsTrue}
+use Rattle.bilv_spec.specs.QuestionLaws.{Follows}
+use Rattle.bilv_spec.specs.PointLaws.{HasLawfulRows}
+use Rattle.bilv_spec.specs.Answers.{start_in}
+use Rattle.bilv_spec.specs.Evidence.{AreOfQuestion}
+use Rattle.walk_spec.specs.Unrolled.{UnrolledProgram, byte_of_runs}
+use Rattle.walk_spec.specs.Unrolling.{IsUnrolling}
+use Rattle.walk_spec.specs.WalkQuestions.{QuestionTerm, TellsQuestion}
+use Rattle.walk_spec.specs.Cells.{Cells, TellsCells}
+use Rattle.walk_spec.specs.ClauseForm.{TellsClauses, IsBroken, IsStartOf, IsReadingOf, reading}
+use Rattle.walk_spec.specs.WalkLaws.{AsksKnown, AsksLiterals}
+
+-- What is had of a machine and of a file: at most 31 registers and 4 flags, so that the inputs are within the price; an entry that a state can be at, without which
+-- every term would tell a question; and known bytes that a memory can hold, without which no start would have those that are not asked.
+pub record IsFitting (u : UnrolledProgram) : Type 0 where
+  pub entry : u.entry < 2 ^ 32
+  pub known : (a b : ℕ) → byte_of_runs u.known a ≡ Some b → b < 256
+  pub registers : length u.registers ≤ 31
+  pub flags : u.flags ≤ 4
+
+-- the layout of states is that of the program: its registers and flags, and no more
+pub record IsLaidOut (layout : Layout) (u : UnrolledProgram) : Type 0 where
+  pub registers : u.registers ≡ from_to layout.first (length layout.registers)
+  pub flags : u.flags ≡ length layout.flags
+
+-- what the layers below the clauses have said of a question of a program, over known bytes that are asked
+pub record IsLayered (p : Program) (k : ℕ) (question : Question) (asked : ℕ → Bool) (u : UnrolledProgram) (t : QuestionTerm) (c : Cells) : Type 0 where
+  pub lawful : HasLawfulRows p
+  pub unrolling : IsUnrolling p k u
+  pub fitting : IsFitting u
+  pub asks_known : AsksKnown p asked
+  pub asks_literals : AsksLiterals p k asked
+  pub term : TellsQuestion u question t
+  pub cells : TellsCells u t asked c
+
+-- the clauses of the cells are those of the question
+abbrev pub ClausesOfQuestion : Type 0
+ClausesOfQuestion = (p : Program) (k : ℕ) (question : Question) (asked : ℕ → Bool) (u : UnrolledProgram) (t : QuestionTerm) (c : Cells) →
+    IsLayered p k question asked u t c → (cnf : Cnf) → TellsClauses u c cnf → AreOfQuestion p k question cnf
+
+-- values that satisfy the clauses, with no read that has another byte than the known one, and a start that is theirs: its reading makes the question true, and it
+-- follows the reading
+abbrev pub ValuesGiveStart : Type 0
+ValuesGiveStart = (p : Program) (k : ℕ) (question : Question) (asked : ℕ → Bool) (u : UnrolledProgram) (t : QuestionTerm) (c : Cells) →
+    IsLayered p k question asked u t c → (cnf : Cnf) → TellsClauses u c cnf → (layout : Layout) → IsLaidOut layout u →
+    (v : ℕ → Bool) → Satisfies v cnf.clauses → ((a : ℕ) → ¬ IsBroken u c (reading u c v) a) → (w : Written) → IsStartOf u c v w →
+    (r : Reading) × IsReadingOf u c v w r × IsTrue p k r question × Follows p k r (start_in p layout w)

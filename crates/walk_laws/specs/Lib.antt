@@ -1,0 +1,2 @@
+pub mod RunOfWalk
+pub mod Layers

@@ -1,0 +1,12 @@
+//! The walk of an unrolled program and the runs of its program.
+ghost use Rattle.walk_laws.specs.RunOfWalk.{WalkAnswersOver, WalkIsRun};
+
+/// The walk of a reading is its run, step by step.
+pub fn walk_is_run()
+    ensures { WalkIsRun }
+{}
+
+/// The questions of an unrolled program are those of its program, over each set of known bytes that has its literals.
+pub fn walk_answers_over()
+    ensures { WalkAnswersOver }
+{}
