@@ -1,6 +1,5 @@
 -- What joins the layers below the clauses of a question to what is claimed of a program.
 use Rattle.std.specs.Prelude.{ℕ, ◌≡◌, ◌≤◌, ◌<◌, ◌^◌, Bool, Some, length}
-use Rattle.bilv_spec.specs.RowFiles.{from_to}
 use Rattle.bilv_spec.specs.Clauses.{Cnf, Satisfies}
 use Rattle.bilv_spec.specs.StateText.{Layout, Written}
 use Rattle.bilv_spec.specs.Run.{Program}
@@ -10,7 +9,7 @@ use Rattle.bilv_spec.specs.PointLaws.{HasLawfulRows}
 use Rattle.bilv_spec.specs.Answers.{start_in}
 use Rattle.bilv_spec.specs.Evidence.{AreOfQuestion}
 use Rattle.walk_spec.specs.Unrolled.{UnrolledProgram, byte_of_runs}
-use Rattle.walk_spec.specs.Unrolling.{IsUnrolling}
+use Rattle.walk_spec.specs.Unrolling.{IsUnrolling, IsLaidOut}
 use Rattle.walk_spec.specs.WalkQuestions.{QuestionTerm, TellsQuestion}
 use Rattle.walk_spec.specs.Cells.{Cells, TellsCells}
 use Rattle.walk_spec.specs.ClauseForm.{TellsClauses, IsBroken, IsStartOf, IsReadingOf, reading}
@@ -23,11 +22,6 @@ pub record IsFitting (u : UnrolledProgram) : Type 0 where
   pub known : (a b : ℕ) → byte_of_runs u.known a ≡ Some b → b < 256
   pub registers : length u.registers ≤ 31
   pub flags : u.flags ≤ 4
-
--- the layout of states is that of the program: its registers and flags, and no more
-pub record IsLaidOut (layout : Layout) (u : UnrolledProgram) : Type 0 where
-  pub registers : u.registers ≡ from_to layout.first (length layout.registers)
-  pub flags : u.flags ≡ length layout.flags
 
 -- what the layers below the clauses have said of a question of a program, over known bytes that are asked
 pub record IsLayered (p : Program) (k : ℕ) (question : Question) (asked : ℕ → Bool) (u : UnrolledProgram) (t : QuestionTerm) (c : Cells) : Type 0 where

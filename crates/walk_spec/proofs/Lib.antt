@@ -12,3 +12,4 @@ pub mod PriceLaw
 pub mod PassiveSample
 pub mod StartSample
 pub mod EntrySame
+pub mod Walkable

@@ -4,11 +4,13 @@ use Rattle.std.specs.List.{list_any, AllZip}
 use Rattle.bilv_spec.specs.Words.{bit}
 use Rattle.bilv_spec.specs.State.{State, IsState}
 use Rattle.bilv_spec.specs.Machine.{How, On, Direct, DirectCall, Indirect, IndirectCall, Outcome, Goes, Raises, Row, addresses, exception_number}
-use Rattle.bilv_spec.specs.Notes.{Expr, Number, Register, Flag, Pc, Memory, Old, Not, Binary, NoteLine}
+use Rattle.bilv_spec.specs.Notes.{Expr, Number, Register, Flag, Pc, Memory, Old, Not, Binary, NoteLine, Assert, Notes}
 use Rattle.bilv_spec.specs.Bil as bil
 use Rattle.bilv_spec.specs.Bil.{BilVariable, Statements, Empty}
 use Rattle.bilv_spec.specs.BilTyping.{IsWellTyped}
 use Rattle.bilv_spec.specs.BilCounts.{list_weight, byte_loads, byte_stores, memory_choices, unknowns, has_no_loop, has_no_special, nesting, list_names_only}
+use Rattle.bilv_spec.specs.RowFiles.{from_to}
+use Rattle.bilv_spec.specs.StateText.{Layout}
 use Rattle.bilv_spec.specs.Run.{Program, Event, FetchFails, NoRow, fetchable, all_kept, in_memory}
 use Rattle.bilv_spec.specs.Points.{Point, EdgeEnd, ToAddress, ToExit, end_of, edges, fall_ends, jump_ends, same_end, file_row, file_word, row_price, loads_at, stores_at, IsPoint, ArePoints, IsCount, is_kept_at, is_known_at, begins_run, byte_of_cell}
 use Rattle.bilv_spec.specs.LiveFlags.{IsRead, IsReadAfter}
@@ -181,10 +183,21 @@ IsReadable u (Old a) = IsReadable u a
 IsReadable u (Not a) = IsReadable u a
 IsReadable u (Binary op a b) = IsReadable u a × IsReadable u b
 
+-- the lines of notes can be read by the program
+pub record AreReadableBy (u : UnrolledProgram) (n : Notes) : Type 0 where
+  pub requires : (l : NoteLine) → Contains n.requires l → IsReadable u l.says
+  pub ensures : (l : NoteLine) → Contains n.ensures l → IsReadable u l.says
+  pub asserts : (a : Assert) → Contains n.asserts a → IsReadable u a.says
+
 -- the line of an exit is readable
 abbrev pub ExitIsReadable : UnrolledProgram → PointExit → Type 0
 ExitIsReadable u (FalseAssert line e) = IsReadable u e
 ExitIsReadable u x = Unit {0}
+
+-- the layout of states is that of the program: its registers and flags, and no more
+pub record IsLaidOut (layout : Layout) (u : UnrolledProgram) : Type 0 where
+  pub registers : u.registers ≡ from_to layout.first (length layout.registers)
+  pub flags : u.flags ≡ length layout.flags
 
 -- The size of a machine's state for which the prices and bounds are meant: an edge pays for selections of at most 31 words and 4 flags, and what is counted for the
 -- nodes of an edge, 4 for each variable, leaves room for its own tests where there are at least 15 registers.

@@ -1,13 +1,15 @@
 -- Laws of unrolled programs and their walks.
-use Rattle.std.specs.Prelude.{ℕ, ◌≡◌, ◌<◌, ◌↔◌, Bool, true, length}
+use Rattle.std.specs.Prelude.{ℕ, ◌≡◌, ◌≤◌, ◌<◌, ◌^◌, ◌↔◌, Bool, true, length}
 use Rattle.bilv_spec.specs.Words.{add}
 use Rattle.bilv_spec.specs.State.{State}
+use Rattle.bilv_spec.specs.MachineLaws.{IsFitted}
+use Rattle.bilv_spec.specs.StateText.{Layout}
 use Rattle.bilv_spec.specs.Run.{Program}
 use Rattle.bilv_spec.specs.Points.{is_known_at}
 use Rattle.bilv_spec.specs.Verdict.{IsEntryState}
 use Rattle.bilv_spec.specs.Questions.{Reading, IsEntryStateOver}
-use Rattle.walk_spec.specs.Unrolled.{Carried, UnrolledProgram, WalkIsAt, walk, ExitsLeadLater}
-use Rattle.walk_spec.specs.Unrolling.{IsLiteralOf, IsUnrolling}
+use Rattle.walk_spec.specs.Unrolled.{Carried, UnrolledProgram, WalkIsAt, point_at, walk, ExitsLeadLater}
+use Rattle.walk_spec.specs.Unrolling.{IsLiteralOf, IsUnrolling, AreReadableBy, IsLaidOut, IsWalkable}
 use Rattle.walk_spec.specs.WalkQuestions.{MeetsEntry, MeetsEntryOver}
 
 -- the bytes of the kept literals that the rows at points load are asked
@@ -35,3 +37,8 @@ PlacesRise = (p : Program) (k : ℕ) (u : UnrolledProgram) → IsUnrolling p k u
 abbrev pub MeetsOnce : Type 0
 MeetsOnce = (u : UnrolledProgram) → 0 < length u.points → ExitsLeadLater u → (r : Reading) (i m n : ℕ) (c d : Carried) →
     walk u r m ≡ WalkIsAt i c → walk u r n ≡ WalkIsAt i d → (m ≡ n) × (c ≡ d)
+
+-- An unrolled program of a program is walkable where the machine has a form with at least 15 registers, the notes can be read, and its addresses are words.
+abbrev pub UnrollingIsWalkable : Type 0
+UnrollingIsWalkable = (p : Program) (k : ℕ) (u : UnrolledProgram) → IsUnrolling p k u → (form : Layout) → IsFitted p.machine form → IsLaidOut form u →
+    15 ≤ length form.registers → AreReadableBy u p.notes → p.entry < 2 ^ 32 → ((i : ℕ) → i < length u.points → (point_at u i).point.at < 2 ^ 32) → IsWalkable u

@@ -2,11 +2,16 @@
 ghost use Rattle.walk_spec.specs.Passive.{HeldAnswers};
 ghost use Rattle.walk_spec.specs.Prices.{PartsAddUp, PriceIsPrice};
 ghost use Rattle.walk_spec.specs.Sweep.{SweepIsWalk};
-ghost use Rattle.walk_spec.specs.WalkLaws.{EntryIsSame, EntryIsSameOver, MeetsOnce, PlacesRise};
+ghost use Rattle.walk_spec.specs.WalkLaws.{EntryIsSame, EntryIsSameOver, MeetsOnce, PlacesRise, UnrollingIsWalkable};
 
 /// The edges of an unrolled program lead to later places.
 pub fn places_rise()
     ensures { PlacesRise }
+{}
+
+/// An unrolled program has what its terms need, where its machine and its notes have it.
+pub fn unrolling_is_walkable()
+    ensures { UnrollingIsWalkable }
 {}
 
 /// A walk meets the point at a place at most once.
