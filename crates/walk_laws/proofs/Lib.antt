@@ -4,4 +4,8 @@ pub mod WalkSteps
 pub mod WalkRuns
 pub mod WalkQuestions
 pub mod InputsWithin
+pub mod CellValues
 pub mod BaseBytes
+pub mod InputBits
+pub mod InputOrder
+pub mod InputPlaces
