@@ -32,7 +32,7 @@ number_at : (xs : List ℕ) (i n : ℕ) → slice_get xs i ≡ Some n → slice_
 number_at xs i n e = get_or_from_slice_get xs i n 0 e
 
 -- the place of a number that is in a list
-place_found : (rs : List ℕ) (n : ℕ) → list_any (nat_eq n) rs ≡ true → (place_in rs n < length rs) × (slice_index rs (place_in rs n) ≡ n)
+pub place_found : (rs : List ℕ) (n : ℕ) → list_any (nat_eq n) rs ≡ true → (place_in rs n < length rs) × (slice_index rs (place_in rs n) ≡ n)
 place_found [] n h = absurd (cc)
 place_found (r ∷ rs) n h = by (r == n) refl (λ g. place_found rs n g)
   where
@@ -74,7 +74,7 @@ spot_found (q ∷ qs) x i l e = by (same_point q.point x) refl i l e (λ j m f. 
         let m = r.0 in
         (omega arith, ap (λ z. (slice_index_or (q ∷ qs) z no_point).point) (let s : spot_in qs x + 1 ≡ suc (spot_in qs x) = omega arith in s) ∙ r.1)
 
-map_get : (qs : List UnrolledPoint) (i : ℕ) → i < length qs → slice_get (map (λ q. q.point) qs) i ≡ Some ((slice_index_or qs i no_point).point)
+pub map_get : (qs : List UnrolledPoint) (i : ℕ) → i < length qs → slice_get (map (λ q. q.point) qs) i ≡ Some ((slice_index_or qs i no_point).point)
 map_get [] i l = absurd (omega arith)
 map_get (q ∷ qs) zero l = refl
 map_get (q ∷ qs) (suc i) l = map_get qs i (omega arith)

@@ -9,3 +9,5 @@ pub mod BaseBytes
 pub mod InputBits
 pub mod InputOrder
 pub mod InputPlaces
+pub mod InputReadings
+pub mod QuestionClauses

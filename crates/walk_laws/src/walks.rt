@@ -1,4 +1,5 @@
 //! The walk of an unrolled program and the runs of its program.
+ghost use Rattle.walk_laws.specs.Layers.{ClausesOfQuestion};
 ghost use Rattle.walk_laws.specs.RunOfWalk.{WalkAnswersOver, WalkIsRun};
 
 /// The walk of a reading is its run, step by step.
@@ -9,4 +10,9 @@ pub fn walk_is_run()
 /// The questions of an unrolled program are those of its program, over each set of known bytes that has its literals.
 pub fn walk_answers_over()
     ensures { WalkAnswersOver }
+{}
+
+/// The clauses of the cells of a question are those of the question.
+pub fn clauses_of_question()
+    ensures { ClausesOfQuestion }
 {}

@@ -165,7 +165,7 @@ module _ (p : Program) (k : ℕ) (u : UnrolledProgram) (un : IsUnrolling p k u) 
   row_sum : sum_by (λ q. q.row) u.points ≡ sum_by (λ point. row_price (file_row p point.at)) (map (λ q. q.point) u.points)
   row_sum = sum_points Place (λ q. q.row) (λ point. row_price (file_row p point.at)) (λ q h. h.1.counted.row_cost) u.points each
 
-  load_sum : sum_by (λ q. q.loads) u.points ≡ sum_by (λ point. loads_at p point.at (file_row p point.at)) (map (λ q. q.point) u.points)
+  pub load_sum : sum_by (λ q. q.loads) u.points ≡ sum_by (λ point. loads_at p point.at (file_row p point.at)) (map (λ q. q.point) u.points)
   load_sum = sum_points Place (λ q. q.loads) (λ point. loads_at p point.at (file_row p point.at)) (λ q h. h.1.counted.loads) u.points each
 
   store_sum : stores_of u ≡ sum_by (λ point. stores_at (file_row p point.at)) (map (λ q. q.point) u.points)
@@ -174,7 +174,7 @@ module _ (p : Program) (k : ℕ) (u : UnrolledProgram) (un : IsUnrolling p k u) 
   end_sum : edges_of u ≡ sum_by (λ point. length (edges p point)) (map (λ q. q.point) u.points)
   end_sum = sum_points Place (λ q. sum_by is_edge q.exits) (λ point. length (edges p point)) (λ q h. (count_of q h).ends) u.points each
 
-  line_list : lines_of u ≡ map (λ l. l.says) p.notes.requires ++ flat_map (evaluated p) (map (λ q. q.point) u.points)
+  pub line_list : lines_of u ≡ map (λ l. l.says) p.notes.requires ++ flat_map (evaluated p) (map (λ q. q.point) u.points)
   line_list =
       ap (λ z. map (λ l. l.says) z ++ flat_map (lines_at u) u.points) un.requires
       ∙ ap (λ z. map (λ l. l.says) p.notes.requires ++ z) (lines_points Place (lines_at u) (evaluated p) (λ q h. (count_of q h).lines) u.points each)
