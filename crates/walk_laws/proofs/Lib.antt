@@ -11,3 +11,4 @@ pub mod InputOrder
 pub mod InputPlaces
 pub mod InputReadings
 pub mod QuestionClauses
+pub mod StartReadings

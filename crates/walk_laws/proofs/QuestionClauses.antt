@@ -91,7 +91,7 @@ module _ (p : Program) (k : ℕ) (question : Question) (asked : ℕ → Bool) (u
   pub is_reading : (r : Reading) → IsTrueOver p asked k r question → IsReading r
   is_reading r h = record { state = h.entry.state; choice = h.choice }
 
-  walk_true : (r : Reading) → IsTrueOver p asked k r question → IsTrueOfWalkOver u asked r question
+  pub walk_true : (r : Reading) → IsTrueOver p asked k r question → IsTrueOfWalkOver u asked r question
   walk_true r h = (walk_answers_over p layered.lawful k u un asked layered.asks_known layered.asks_literals r question).1 h
 
   pub has_of : (r : Reading) → IsTrueOver p asked k r question → HasAsked u asked r.state.mem

@@ -1,8 +1,9 @@
 -- What joins the layers below the clauses of a question to what is claimed of a program.
-use Rattle.std.specs.Prelude.{ℕ, ◌≡◌, ◌≤◌, ◌<◌, ◌^◌, Bool, Some, length}
+use Rattle.std.specs.Prelude.{ℕ, ◌≡◌, ◌≤◌, ◌<◌, ◌+◌, ◌^◌, Bool, Some, length}
 use Rattle.bilv_spec.specs.Clauses.{Cnf, Satisfies}
-use Rattle.bilv_spec.specs.StateText.{Layout, Written}
+use Rattle.bilv_spec.specs.StateText.{Layout, Written, IsWritten, last_step}
 use Rattle.bilv_spec.specs.Run.{Program}
+use Rattle.bilv_spec.specs.Points.{is_known_at}
 use Rattle.bilv_spec.specs.Questions.{Reading, Question, IsTrue}
 use Rattle.bilv_spec.specs.QuestionLaws.{Follows}
 use Rattle.bilv_spec.specs.PointLaws.{HasLawfulRows}
@@ -11,7 +12,7 @@ use Rattle.bilv_spec.specs.Evidence.{AreOfQuestion}
 use Rattle.walk_spec.specs.Unrolled.{UnrolledProgram, byte_of_runs}
 use Rattle.walk_spec.specs.Unrolling.{IsUnrolling, IsLaidOut}
 use Rattle.walk_spec.specs.WalkQuestions.{QuestionTerm, TellsQuestion}
-use Rattle.walk_spec.specs.Cells.{Cells, TellsCells}
+use Rattle.walk_spec.specs.Cells.{Cells, AreFormed, TellsCells}
 use Rattle.walk_spec.specs.ClauseForm.{TellsClauses, IsBroken, IsStartOf, IsReadingOf, reading}
 use Rattle.walk_spec.specs.WalkLaws.{AsksKnown, AsksLiterals}
 
@@ -38,10 +39,19 @@ abbrev pub ClausesOfQuestion : Type 0
 ClausesOfQuestion = (p : Program) (k : ℕ) (question : Question) (asked : ℕ → Bool) (u : UnrolledProgram) (t : QuestionTerm) (c : Cells) →
     IsLayered p k question asked u t c → (cnf : Cnf) → TellsClauses u c cnf → AreOfQuestion p k question cnf
 
--- values that satisfy the clauses, with no read that has another byte than the known one, and a start that is theirs: its reading makes the question true, and it
--- follows the reading
+-- Values that satisfy the clauses, and a start that is theirs: its reading makes the question true, and it follows the reading. There is such a start only where no
+-- base read has another byte than the known one.
 abbrev pub ValuesGiveStart : Type 0
 ValuesGiveStart = (p : Program) (k : ℕ) (question : Question) (asked : ℕ → Bool) (u : UnrolledProgram) (t : QuestionTerm) (c : Cells) →
     IsLayered p k question asked u t c → (cnf : Cnf) → TellsClauses u c cnf → (layout : Layout) → IsLaidOut layout u →
-    (v : ℕ → Bool) → Satisfies v cnf.clauses → ((a : ℕ) → ¬ IsBroken u c (reading u c v) a) → (w : Written) → IsStartOf u c v w →
+    (v : ℕ → Bool) → Satisfies v cnf.clauses → (w : Written) → IsStartOf u c v w →
     (r : Reading) × IsReadingOf u c v w r × IsTrue p k r question × Follows p k r (start_in p layout w)
+
+-- a start of values can be written, where the steps of so many points can be
+abbrev pub StartIsWritten : Type 0
+StartIsWritten = (p : Program) (k : ℕ) (u : UnrolledProgram) → IsUnrolling p k u → (layout : Layout) → IsLaidOut layout u → length u.points ≤ last_step + 1 →
+    (c : Cells) (v : ℕ → Bool) (w : Written) → IsStartOf u c v w → IsWritten layout (is_known_at p) w
+
+-- and where there is one, no base read has another byte than the known one
+abbrev pub StartBreaksNone : Type 0
+StartBreaksNone = (u : UnrolledProgram) (c : Cells) → AreFormed u c → (v : ℕ → Bool) (w : Written) → IsStartOf u c v w → (a : ℕ) → ¬ IsBroken u c (reading u c v) a

@@ -1,5 +1,5 @@
 //! The walk of an unrolled program and the runs of its program.
-ghost use Rattle.walk_laws.specs.Layers.{ClausesOfQuestion};
+ghost use Rattle.walk_laws.specs.Layers.{ClausesOfQuestion, StartBreaksNone, StartIsWritten, ValuesGiveStart};
 ghost use Rattle.walk_laws.specs.RunOfWalk.{WalkAnswersOver, WalkIsRun};
 
 /// The walk of a reading is its run, step by step.
@@ -15,4 +15,19 @@ pub fn walk_answers_over()
 /// The clauses of the cells of a question are those of the question.
 pub fn clauses_of_question()
     ensures { ClausesOfQuestion }
+{}
+
+/// The start of values that satisfy the clauses has a run by which the question is true.
+pub fn values_give_start()
+    ensures { ValuesGiveStart }
+{}
+
+/// A start of values can be written.
+pub fn start_is_written()
+    ensures { StartIsWritten }
+{}
+
+/// Where values have a start, none of their base reads has another byte than the known one.
+pub fn start_breaks_none()
+    ensures { StartBreaksNone }
 {}
