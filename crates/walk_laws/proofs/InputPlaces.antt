@@ -48,7 +48,7 @@ place_found (r ∷ rs) n h = by (r == n) refl (λ g. place_found rs n g)
 pub any_number : (rs : List ℕ) (q : ℕ) → q < length rs → list_any (nat_eq (slice_index rs q)) rs ≡ true
 any_number rs q l = elim (truth (list_any (nat_eq (slice_index rs q)) rs)) [
   | inl t ↦ t
-  | inr f ↦ absurd (not_any (nat_eq (slice_index rs q)) rs f (slice_index rs q) (at_in rs q (slice_index rs q) (slice_get-get_or rs q 0 l)) (let n = slice_index rs q in let e : nat_eq (slice_index rs q) (slice_index rs q) ≡ true = same (slice_index rs q) in e))
+  | inr f ↦ absurd (not_any (nat_eq (slice_index rs q)) rs f (slice_index rs q) (at_in rs q (slice_index rs q) (slice_get-get_or rs q 0 l)) (same (slice_index rs q)))
 ]
   where
     same : (n : ℕ) → nat_eq n n ≡ true
@@ -187,7 +187,6 @@ module _ (p : Program) (k : ℕ) (u : UnrolledProgram) (un : IsUnrolling p k u) 
   pub stands_at : (x : Input) → IsInputOf x → slice_get (input_list u c) (place x) ≡ Some x
   stands_at (OfRegister n b) h =
       let f = place_found u.registers n h.0 in
-      let q = place_in u.registers n in
       get_left register_list (flag_list ++ (choice_list ++ byte_list)) (32 * place_in u.registers n + b) (let r = registers_long in let l = f.0 in let m = h.1 in omega arith)
       ∙ block_get OfRegister 32 u.registers (place_in u.registers n) b f.0 h.1 ∙ ap (λ z. Some (OfRegister z b)) f.1
   stands_at (OfFlag f) h =
@@ -238,7 +237,6 @@ module _ (p : Program) (k : ℕ) (u : UnrolledProgram) (un : IsUnrolling p k u) 
   choice_says : (i : ℕ) (x : Input) → slice_get choice_list i ≡ Some x → Says (first_choice u + i) x
   choice_says i x e =
       let r = block_is choice_of 2 (drawn_places u) i x e in
-      let at = slice_index (drawn_places u) r.0 in
       let d = passed_is draws (length u.points) r.0 (slice_index (drawn_places u) r.0) (slice_get-get_or (drawn_places u) r.0 0 r.2) in
       let s = spot_is (slice_index (drawn_places u) r.0) d.0 in
       let n : drawn_below u (spot (point_at u (slice_index (drawn_places u) r.0)).point) ≡ r.0 = ap (drawn_below u) s ∙ drawn_is (slice_index (drawn_places u) r.0) ∙ sym d.2 in

@@ -229,7 +229,6 @@ module _ (p : Program) (k : ℕ) (question : Question) (asked : ℕ → Bool) (u
 
     byte_inputs : length (filter is_of_byte (input_list u c)) ≤ 8 * length c.addresses
     byte_inputs =
-        let regs = blocks OfRegister 32 u.registers in
         let a = count_append (blocks OfRegister 32 u.registers) (map OfFlag (from_to 0 u.flags) ++ (blocks (λ i b. OfChoice (point_at u i).point b) 2 (drawn_places u) ++ blocks OfByte 8 (from_to 0 (length c.addresses)))) in
         let b = count_append (map OfFlag (from_to 0 u.flags)) (blocks (λ i b. OfChoice (point_at u i).point b) 2 (drawn_places u) ++ blocks OfByte 8 (from_to 0 (length c.addresses))) in
         let d = count_append (blocks (λ i b. OfChoice (point_at u i).point b) 2 (drawn_places u)) (blocks OfByte 8 (from_to 0 (length c.addresses))) in

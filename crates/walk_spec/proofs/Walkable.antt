@@ -106,12 +106,12 @@ module _ (p : Program) (k : ℕ) (u : UnrolledProgram) (i : ℕ) where
         (split_in (assert_exits p q.point) (Raising ∷ WritingKept ∷ Unaligned ∷ h.0) x (subst (λ (z : List PointExit). Contains z x) h.1 c))
 
 pub unrolling_is_walkable : UnrollingIsWalkable
-unrolling_is_walkable p k u un form fits laid enough readable entry at =
+unrolling_is_walkable p k u un form fits laid readable entry at =
     let order = places_rise p k u un in
     let count : length u.registers ≡ length form.registers = ap (λ (z : List ℕ). length z) laid.registers ∙ count_of form.first (length form.registers) in
     let few = fits.few_registers in
     record {
-      sized = record { enough = subst (λ (z : ℕ). 15 ≤ z) (sym count) enough; registers = subst (λ (z : ℕ). z ≤ 31) (sym count) few; flags = subst (λ (z : ℕ). z ≤ 4) (sym laid.flags) fits.few_flags };
+      sized = record { enough = subst (λ (z : ℕ). 15 ≤ z) (sym count) fits.enough_registers; registers = subst (λ (z : ℕ). z ≤ 31) (sym count) few; flags = subst (λ (z : ℕ). z ≤ 4) (sym laid.flags) fits.few_flags };
       some = order.0;
       later = order.1;
       one_out = λ i l. place_outs p k u i (point_at u i) (file_row p (point_at u i).point.at) (un.places i l).does;

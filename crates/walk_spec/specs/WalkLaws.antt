@@ -1,5 +1,5 @@
 -- Laws of unrolled programs and their walks.
-use Rattle.std.specs.Prelude.{ℕ, ◌≡◌, ◌≤◌, ◌<◌, ◌^◌, ◌↔◌, Bool, true, length}
+use Rattle.std.specs.Prelude.{ℕ, ◌≡◌, ◌<◌, ◌^◌, ◌↔◌, Bool, true, length}
 use Rattle.bilv_spec.specs.Words.{add}
 use Rattle.bilv_spec.specs.State.{State}
 use Rattle.bilv_spec.specs.MachineLaws.{IsFitted}
@@ -38,7 +38,7 @@ abbrev pub MeetsOnce : Type 0
 MeetsOnce = (u : UnrolledProgram) → 0 < length u.points → ExitsLeadLater u → (r : Reading) (i m n : ℕ) (c d : Carried) →
     walk u r m ≡ WalkIsAt i c → walk u r n ≡ WalkIsAt i d → (m ≡ n) × (c ≡ d)
 
--- An unrolled program of a program is walkable where the machine has a form with at least 15 registers, the notes can be read, and its addresses are words.
+-- An unrolled program of a program is walkable where it is laid out as the form of the machine, the notes can be read, and its addresses are words.
 abbrev pub UnrollingIsWalkable : Type 0
 UnrollingIsWalkable = (p : Program) (k : ℕ) (u : UnrolledProgram) → IsUnrolling p k u → (form : Layout) → IsFitted p.machine form → IsLaidOut form u →
-    15 ≤ length form.registers → AreReadableBy u p.notes → p.entry < 2 ^ 32 → ((i : ℕ) → i < length u.points → (point_at u i).point.at < 2 ^ 32) → IsWalkable u
+    AreReadableBy u p.notes → p.entry < 2 ^ 32 → ((i : ℕ) → i < length u.points → (point_at u i).point.at < 2 ^ 32) → IsWalkable u
