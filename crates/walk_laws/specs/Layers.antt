@@ -16,8 +16,8 @@ use Rattle.walk_spec.specs.Cells.{Cells, AreFormed, TellsCells}
 use Rattle.walk_spec.specs.ClauseForm.{TellsClauses, IsBroken, IsStartOf, IsReadingOf, reading}
 use Rattle.walk_spec.specs.WalkLaws.{AsksKnown, AsksLiterals}
 
--- What is had of a machine and of a file: at most 31 registers and 4 flags, so that the inputs are within the price; an entry that a state can be at, without which
--- every term would tell a question; and known bytes that a memory can hold, without which no start would have those that are not asked.
+-- What is had of a machine and of a file: at most 31 registers and 4 flags, so that the inputs are within the price; an entry that a state can be at, without
+-- which every term would tell a question; and known bytes that a memory can hold, without which no start would have those that are not asked.
 pub record IsFitting (u : UnrolledProgram) : Type 0 where
   pub entry : u.entry < 2 ^ 32
   pub known : (a b : ℕ) → byte_of_runs u.known a ≡ Some b → b < 256
@@ -39,8 +39,8 @@ abbrev pub ClausesOfQuestion : Type 0
 ClausesOfQuestion = (p : Program) (k : ℕ) (question : Question) (asked : ℕ → Bool) (u : UnrolledProgram) (t : QuestionTerm) (c : Cells) →
     IsLayered p k question asked u t c → (cnf : Cnf) → TellsClauses u c cnf → AreOfQuestion p k question cnf
 
--- Values that satisfy the clauses, and a start that is theirs: its reading makes the question true, and it follows the reading. There is such a start only where no
--- base read has another byte than the known one.
+-- Values that satisfy the clauses, and a start that is theirs: its reading makes the question true, and it follows the reading. There is such a start only
+-- where no base read has another byte than the known one.
 abbrev pub ValuesGiveStart : Type 0
 ValuesGiveStart = (p : Program) (k : ℕ) (question : Question) (asked : ℕ → Bool) (u : UnrolledProgram) (t : QuestionTerm) (c : Cells) →
     IsLayered p k question asked u t c → (cnf : Cnf) → TellsClauses u c cnf → (layout : Layout) → IsLaidOut layout u →
@@ -54,4 +54,5 @@ StartIsWritten = (p : Program) (k : ℕ) (u : UnrolledProgram) → IsUnrolling p
 
 -- and where there is one, no base read has another byte than the known one
 abbrev pub StartBreaksNone : Type 0
-StartBreaksNone = (u : UnrolledProgram) (c : Cells) → AreFormed u c → (v : ℕ → Bool) (w : Written) → IsStartOf u c v w → (a : ℕ) → ¬ IsBroken u c (reading u c v) a
+StartBreaksNone = (u : UnrolledProgram) (c : Cells) → AreFormed u c → (v : ℕ → Bool) (w : Written) → IsStartOf u c v w →
+    (a : ℕ) → ¬ IsBroken u c (reading u c v) a

@@ -12,7 +12,8 @@ use Rattle.walk_spec.specs.WalkLaws.{AsksKnown, AsksLiterals}
 
 -- the walk is where the run is, with the same registers and memory and the flags that are read later, or it has ended as the run has
 abbrev pub IsSame : Program → UnrolledProgram → Walk → Run → Type 0
-IsSame p u (WalkIsAt i c) (Going turns n d) = (i < length u.points) × ((point_at u i).point ≡ point_of turns d) × IsCarriedOf (λ f. IsRead p f d.state.pc) d.state c
+IsSame p u (WalkIsAt i c) (Going turns n d) =
+    (i < length u.points) × ((point_at u i).point ≡ point_of turns d) × IsCarriedOf (λ f. IsRead p f d.state.pc) d.state c
 IsSame p u WalkExits (Exited at n) = Unit {0}
 IsSame p u (WalkFails e) (Failed f at n) = e ≡ f
 IsSame p u WalkTurns (Turned at n) = Unit {0}
@@ -21,9 +22,11 @@ IsSame p u w r = ⊥
 -- the walk of a reading is its run, step by step, where the reading has the kept literals of the file
 abbrev pub WalkIsRun : Type 0
 WalkIsRun = (p : Program) → HasLawfulRows p → (k : ℕ) (u : UnrolledProgram) → IsUnrolling p k u → (asked : ℕ → Bool) → AsksLiterals p k asked →
-    (r : Reading) → ((point : Point) → r.choice point < 4) → IsEntryStateOver p asked r.state → (steps : ℕ) → IsSame p u (walk u r steps) (read_run p k r steps)
+    (r : Reading) → ((point : Point) → r.choice point < 4) → IsEntryStateOver p asked r.state →
+    (steps : ℕ) → IsSame p u (walk u r steps) (read_run p k r steps)
 
 -- the questions of the unrolled program are those of the program, over each set of known bytes that has the literals
 abbrev pub WalkAnswersOver : Type 0
-WalkAnswersOver = (p : Program) → HasLawfulRows p → (k : ℕ) (u : UnrolledProgram) → IsUnrolling p k u → (asked : ℕ → Bool) → AsksKnown p asked → AsksLiterals p k asked →
+WalkAnswersOver = (p : Program) → HasLawfulRows p → (k : ℕ) (u : UnrolledProgram) → IsUnrolling p k u →
+    (asked : ℕ → Bool) → AsksKnown p asked → AsksLiterals p k asked →
     (r : Reading) (question : Question) → IsTrueOfWalkOver u asked r question ↔ IsTrueOver p asked k r question

@@ -12,8 +12,8 @@ use Rattle.walk_spec.specs.Unrolled.{Carried, UnrolledProgram, is_register_of, i
 use Rattle.walk_spec.specs.Cells.{Cells, Gives, IsAllowed, read_address}
 use Rattle.bilv_spec.specs.Evidence.{Input, OfRegister, OfFlag, OfChoice, OfByte}
 
--- The inputs are the first variables: the bits of the registers in their order, the flags, the choices that are drawn in the order of their places, and the bytes of
--- the base reads, each with its lowest bit first. They count from 0, so that input i is variable i + 1.
+-- The inputs are the first variables: the bits of the registers in their order, the flags, the choices that are drawn in the order of their places, and the
+-- bytes of the base reads, each with its lowest bit first. They count from 0, so that input i is variable i + 1.
 
 -- how many of the first places draw
 abbrev pub drawn_below : UnrolledProgram → ℕ → ℕ
@@ -72,8 +72,8 @@ reading u c v = record {
 abbrev pub MakesTrue : UnrolledProgram → Cells → (ℕ → Bool) → Type 0
 MakesTrue u c v = IsAllowed c (reading u c v) × (term_word (reading u c v) c.nodes c.root ≡ 1)
 
--- Clauses tell cells: a valuation of the inputs extends in at most one way, and exactly where it makes the question true. Besides the inputs there is a variable for
--- each gate, and one more.
+-- Clauses tell cells: a valuation of the inputs extends in at most one way, and exactly where it makes the question true. Besides the inputs there is a
+-- variable for each gate, and one more.
 pub record TellsClauses (u : UnrolledProgram) (c : Cells) (cnf : Cnf) : Type 0 where
   pub extends : ExtendsOnceWhere (inputs u c) cnf (MakesTrue u c)
   pub all : inputs u c ≤ cnf.variables
@@ -95,9 +95,9 @@ pub record IsReadingOf (u : UnrolledProgram) (c : Cells) (v : ℕ → Bool) (w :
   pub mem : r.state.mem ≡ start_memory u w
   pub choice : (i : ℕ) → i < length u.points → r.choice (point_at u i).point ≡ (reading u c v).choice i
 
--- The start is that of a valuation: it has its registers and flags; over the known bytes its memory gives each base read its byte; where the walk is at a place after
--- some points, it has at that step the choice of the place. It can be written: bytes that are not 0 at unknown addresses, and choices that are not 0, at steps below
--- the number of points, both in rising order.
+-- The start is that of a valuation: it has its registers and flags; over the known bytes its memory gives each base read its byte; where the walk is at a
+-- place after some points, it has at that step the choice of the place. It can be written: bytes that are not 0 at unknown addresses, and choices that are
+-- not 0, at steps below the number of points, both in rising order.
 pub record IsStartOf (u : UnrolledProgram) (c : Cells) (v : ℕ → Bool) (w : Written) : Type 0 where
   pub regs : w.regs ≡ map (reading u c v).regs u.registers
   pub flags : (f : ℕ) → f < u.flags → bit_at f w.flags ≡ (reading u c v).flags f

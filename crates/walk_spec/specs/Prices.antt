@@ -96,8 +96,8 @@ list_nodes u = sum_by (λ q. action_size q.does) u.points
 abbrev pub line_steps : List Expr → ℕ
 line_steps lines = sum_by (λ e. line_size e + 4) lines
 
--- The bound on the nodes of a question's term: four for each node of a list, for each variable at each edge, and for each other step. Those are each variable and 16
--- more, 16 at each point, the steps of the evaluated lines, and 4 for each byte store with each run of kept bytes.
+-- The bound on the nodes of a question's term: four for each node of a list, for each variable at each edge, and for each other step. Those are each variable
+-- and 16 more, 16 at each point, the steps of the evaluated lines, and 4 for each byte store with each run of kept bytes.
 abbrev pub node_bound : UnrolledProgram → ℕ
 node_bound u =
     4 * (list_nodes u + variables_of u * edges_of u
@@ -113,8 +113,8 @@ point_bound u =
 abbrev pub entry_bound : UnrolledProgram → ℕ
 entry_bound u = 2 * variables_of u + 16 + 4 * line_steps (entry_lines u)
 
--- What a question's term may have is what the terms of the points may, and what is left for the entry condition: 1024 gates and the price of each required line, the
--- bytes that those lines load, and its part of the nodes. So nothing is paid for twice.
+-- What a question's term may have is what the terms of the points may, and what is left for the entry condition: 1024 gates and the price of each required
+-- line, the bytes that those lines load, and its part of the nodes. So nothing is paid for twice.
 abbrev pub PartsAddUp : Type 0
 PartsAddUp =
     (u : UnrolledProgram) →

@@ -35,9 +35,9 @@ pub data Aim : Type 0 where
   OverLast : Aim
   ToEvent : Event → Aim
 
--- The exits of a point: an assert line that is false, by its number; an event whatever the state is; an exception that is raised; a kept byte that is stored; a
--- next address that is no multiple of 4; and an edge, which may be taken without a jump, by a jump, or by both, to an address, or to the entry's link value where
--- there is none.
+-- The exits of a point: an assert line that is false, by its number; an event whatever the state is; an exception that is raised; a kept byte that is stored;
+-- a next address that is no multiple of 4; and an edge, which may be taken without a jump, by a jump, or by both, to an address, or to the entry's link value
+-- where there is none.
 pub data PointExit : Type 0 where
   FalseAssert : (line : ℕ) → Expr → PointExit
   Always : Event → PointExit
@@ -65,8 +65,8 @@ goes_out x = false
 pub data Action : Type 0 where
   Executes : Statements → Action
 
--- A point: the length of its row in bytes; what it does; whether its row reads the choice; what the price counts of it, which is the row's cost and the bytes that
--- the row loads and stores; and its exits in the order in which they are tried.
+-- A point: the length of its row in bytes; what it does; whether its row reads the choice; what the price counts of it, which is the row's cost and the bytes
+-- that the row loads and stores; and its exits in the order in which they are tried.
 pub record UnrolledPoint : Type 0 where
   pub point : Point
   pub length : ℕ
@@ -88,9 +88,10 @@ pub record ByteRun : Type 0 where
   pub count : ℕ
   pub bytes : List ℕ
 
--- An unrolled program: its byte order; the registers of its machine in the order in which a state lists them, and how many flags it has; its entry condition (the
--- number of the link register, the address of the function, the lines that are required, the kept and the fixed bytes as runs); the lines that are ensured at the
--- exit; the runs of kept bytes; the addresses of the words whose constants stand for their loads; and its points, of which the first is the entry's.
+-- An unrolled program: its byte order; the registers of its machine in the order in which a state lists them, and how many flags it has; its entry condition
+-- (the number of the link register, the address of the function, the lines that are required, the kept and the fixed bytes as runs); the lines that are
+-- ensured at the exit; the runs of kept bytes; the addresses of the words whose constants stand for their loads; and its points, of which the first is the
+-- entry's.
 pub record UnrolledProgram : Type 0 where
   pub endian : Endian
   pub registers : List ℕ
@@ -142,8 +143,8 @@ no_point = record {
 abbrev pub point_at : UnrolledProgram → ℕ → UnrolledPoint
 point_at u i = slice_index_or u.points i no_point
 
--- How a point is left: it goes on to an address, by a jump or without one, and carries something on; or an exception is raised. A list that is well typed and has
--- no loop does one of the two.
+-- How a point is left: it goes on to an address, by a jump or without one, and carries something on; or an exception is raised. A list that is well typed and
+-- has no loop does one of the two.
 pub data Leaving : Type 0 where
   GoesOn : (jumped : Bool) → (to : ℕ) → Carried → Leaving
   RaisesOne : ℕ → Leaving

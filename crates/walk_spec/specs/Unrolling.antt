@@ -48,9 +48,9 @@ is_variable_of u (bil.Flag f) = is_flag_of u f
 is_variable_of u bil.Mem = true
 is_variable_of u (bil.Local x n) = false
 
--- A list that terms can be made of within the price of its point: well typed, without loops and specials, ifs at most two deep, no choice between memories, over
--- the program's variables, with an unknown only where the row draws, and no heavier than the price counts. Of the row's price 64 are left for the exits of the
--- point, so that a point without an edge can pay for them, and a point without a row, whose price is 64, has no list.
+-- A list that terms can be made of within the price of its point: well typed, without loops and specials, ifs at most two deep, no choice between memories,
+-- over the program's variables, with an unknown only where the row draws, and no heavier than the price counts. Of the row's price 64 are left for the exits
+-- of the point, so that a point without an edge can pay for them, and a point without a row, whose price is 64, has no list.
 pub record IsRunnable (u : UnrolledProgram) (q : UnrolledPoint) (list : Statements) : Type 0 where
   pub typed : IsWellTyped list
   pub no_loop : has_no_loop list ≡ true
@@ -91,9 +91,11 @@ IsAim u k i point t aim = ⊥
 pub record IsEdge (p : Program) (k : ℕ) (u : UnrolledProgram) (i : ℕ) (point : Point) (row : Row) (t : EdgeEnd) (x : PointExit) : Type 0 where
   pub aim : Aim
   pub leads : IsAim u k i point t aim
-  pub is : x ≡ Along (list_any (same_end t) (fall_ends point row (row.successors point.at))) (list_any (same_end t) (jump_ends p point row (row.successors point.at))) (address_of t) aim
+  pub is : x ≡ Along (list_any (same_end t) (fall_ends point row (row.successors point.at)))
+      (list_any (same_end t) (jump_ends p point row (row.successors point.at))) (address_of t) aim
 
--- The ends of a point's edges in some order, each once, of which only one thing matters: the exit comes before a named target of the same address, so it comes first.
+-- The ends of a point's edges in some order, each once, of which only one thing matters: the exit comes before a named target of the same address, so it
+-- comes first.
 pub record AreEdgesOf (p : Program) (point : Point) (ends : List EdgeEnd) : Type 0 where
   pub same : (t : EdgeEnd) → Contains (edges p point) t ↔ Contains ends t
   pub count : length ends ≡ length (edges p point)
@@ -120,8 +122,8 @@ pub record IsCounted (p : Program) (q : UnrolledPoint) (row : Option Row) : Type
   pub loads : q.loads ≡ loads_at p q.point.at row
   pub stores : q.stores ≡ stores_at row
 
--- What stands at a place, by the row at its address: its exits in the order of a step, with an edge for each of the program's, and what it does. Where there is no
--- row it does nothing.
+-- What stands at a place, by the row at its address: its exits in the order of a step, with an edge for each of the program's, and what it does. Where there
+-- is no row it does nothing.
 abbrev pub DoesPlace : Program → (k : ℕ) → UnrolledProgram → (i : ℕ) → UnrolledPoint → Option Row → Type 0
 DoesPlace p k u i q None = (q.does ≡ Executes Empty) × (q.exits ≡ assert_exits p q.point ++ Always (stop_event (fetchable p q.point.at)) ∷ [])
 DoesPlace p k u i q (Some row) =
@@ -151,8 +153,8 @@ pub record IsLiteralOf (p : Program) (k a : ℕ) : Type 0 where
 abbrev pub AreRuns : List AddressRun → Type 0
 AreRuns runs = (r : AddressRun) → Contains runs r → (r.low ≤ r.high) × (r.high < 2 ^ 32)
 
--- The unrolled program of a program: the same machine, entry condition and notes, its points each once with their edges, which lead to later places, and no more
--- runs and known bytes than the price counts.
+-- The unrolled program of a program: the same machine, entry condition and notes, its points each once with their edges, which lead to later places, and no
+-- more runs and known bytes than the price counts.
 pub record IsUnrolling (p : Program) (k : ℕ) (u : UnrolledProgram) : Type 0 where
   pub endian : u.endian ≡ p.machine.endian
   pub registers : (r : ℕ) → is_register_of u r ≡ p.machine.has_register r
@@ -199,15 +201,15 @@ pub record IsLaidOut (layout : Layout) (u : UnrolledProgram) : Type 0 where
   pub registers : u.registers ≡ from_to layout.first (length layout.registers)
   pub flags : u.flags ≡ length layout.flags
 
--- The size of a machine's state for which the prices and bounds are meant: an edge pays for selections of at most 31 words and 4 flags, and what is counted for the
--- nodes of an edge, 4 for each variable, leaves room for its own tests where there are at least 15 registers.
+-- The size of a machine's state for which the prices and bounds are meant: an edge pays for selections of at most 31 words and 4 flags, and what is counted
+-- for the nodes of an edge, 4 for each variable, leaves room for its own tests where there are at least 15 registers.
 pub record IsSized (u : UnrolledProgram) : Type 0 where
   pub enough : 15 ≤ length u.registers
   pub registers : length u.registers ≤ 31
   pub flags : u.flags ≤ 4
 
--- What terms need of an unrolled program, without the program that it is of: a state of the right size, exits that lead to later places, at most one of them out of
--- the function, points that can be made terms, notes that can be read, and addresses that are words.
+-- What terms need of an unrolled program, without the program that it is of: a state of the right size, exits that lead to later places, at most one of them
+-- out of the function, points that can be made terms, notes that can be read, and addresses that are words.
 pub record IsWalkable (u : UnrolledProgram) : Type 0 where
   pub sized : IsSized u
   pub some : 0 < length u.points

@@ -89,8 +89,8 @@ point_room u = record { gates = point_price u; loads = point_loads u; nodes = po
 abbrev pub question_room : UnrolledProgram → Room
 question_room u = record { gates = term_price u - 1; loads = loads_of u; nodes = node_bound u }
 
--- The nodes are terms over an unrolled program: typed, and over its inputs without base reads; they are within the room, with no more byte stores than are counted, and
--- a join for each edge and two for each byte store.
+-- The nodes are terms over an unrolled program: typed, and over its inputs without base reads; they are within the room, with no more byte stores than are
+-- counted, and a join for each edge and two for each byte store.
 pub record AreTermsWithin (u : UnrolledProgram) (room : Room) (nodes : List TermNode) : Type 0 where
   pub typed : AreTyped nodes
   pub named : AreNamedBelow u 0 nodes
