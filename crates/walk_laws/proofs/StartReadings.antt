@@ -9,7 +9,7 @@ use Rattle.std.proofs.Math.Nat.{pow-le-pow_right, div-eq_of_lt}
 use Rattle.std.proofs.Math.Path.{fun_ext}
 use Rattle.bilv_spec.specs.RowFiles.{from_to}
 use Rattle.bilv_spec.specs.Words.{bit_at, word}
-use Rattle.bilv_spec.specs.Memory.{byte_in}
+use Rattle.bilv_spec.specs.Memory.{Memory, byte_in}
 use Rattle.bilv_spec.specs.Clauses.{Cnf, Satisfies}
 use Rattle.bilv_spec.specs.StateText.{Layout, Written, register_at, known_or}
 use Rattle.bilv_spec.specs.Run.{Program, Start, Run, Going, Exited, Failed, Turned, Place, run, one_more}
@@ -26,7 +26,7 @@ use Rattle.walk_spec.specs.WalkQuestions.{QuestionTerm, term_reading}
 use Rattle.walk_spec.specs.Cells.{Cells}
 use Rattle.walk_spec.specs.ClauseForm.{TellsClauses, IsStartOf, IsReadingOf, reading, start_memory, first_flag, bits_from, place_in}
 use Rattle.walk_spec.proofs.EntrySame.{entry_is_same}
-use Rattle.walk_laws.specs.Layers.{IsLayered, ValuesGiveStart, StartIsWritten, StartBreaksNone}
+use Rattle.walk_laws.specs.Layers.{IsLayered, ValuesGiveStart, StartIsWritten, StartBreaksNone, BrokenIsNew}
 use Rattle.walk_laws.specs.RunOfWalk.{IsSame}
 use Rattle.walk_laws.proofs.CellValues.{Agree, word_same, word_fits}
 use Rattle.walk_laws.proofs.BaseBytes.{gives, agree_all}
@@ -254,3 +254,16 @@ start_breaks_none u c formed v w starts a (j, b, l, at, known, other) =
   where
     same_address : (t : ℕ) → t < length c.nodes → term_word (with_mem (reading u c v) (start_memory u w)) c.nodes t ≡ term_word (reading u c v) c.nodes t
     same_address t l = word_same u c formed (with_mem (reading u c v) (start_memory u w)) (reading u c v) (record { regs = λ n h. refl; flags = λ f h. refl; choice = λ i h. refl; base = λ i h. refl }) t l
+
+pub broken_is_new : BrokenIsNew
+broken_is_new u t asked c cells cnf tells v sat a (j, b, l, at, known, other) =
+    let range = reading_in_range u c v in
+    let m = cells.complete (reading u c v) range (tells.extends.only v sat).0 in
+    let small : a < 2 ^ 32 = subst (λ (z : ℕ). z < 2 ^ 32) at (word_fits u c cells.formed (reading u c v) range 32 _ (cells.formed.addresses j l)) in
+    elim (truth (asked a)) [
+      | inl ask ↦ absurd (other (m.3 j l ∙ ap m.0 (same_address m.0 (slice_index c.addresses j) (cells.formed.addresses j l).0 ∙ at) ∙ m.2 a b small known ask))
+      | inr free ↦ free
+    ]
+  where
+    same_address : (m : Memory) (t : ℕ) → t < length c.nodes → term_word (with_mem (reading u c v) m) c.nodes t ≡ term_word (reading u c v) c.nodes t
+    same_address m t l = word_same u c cells.formed (with_mem (reading u c v) m) (reading u c v) (record { regs = λ n h. refl; flags = λ f h. refl; choice = λ i h. refl; base = λ i h. refl }) t l

@@ -1,5 +1,5 @@
 -- What joins the layers below the clauses of a question to what is claimed of a program.
-use Rattle.std.specs.Prelude.{ℕ, ◌≡◌, ◌≤◌, ◌<◌, ◌+◌, ◌^◌, Bool, Some, length}
+use Rattle.std.specs.Prelude.{ℕ, ◌≡◌, ◌≤◌, ◌<◌, ◌+◌, ◌^◌, Bool, false, Some, length}
 use Rattle.bilv_spec.specs.Clauses.{Cnf, Satisfies}
 use Rattle.bilv_spec.specs.StateText.{Layout, Written, IsWritten, last_step}
 use Rattle.bilv_spec.specs.Run.{Program}
@@ -56,3 +56,8 @@ StartIsWritten = (p : Program) (k : ℕ) (u : UnrolledProgram) → IsUnrolling p
 abbrev pub StartBreaksNone : Type 0
 StartBreaksNone = (u : UnrolledProgram) (c : Cells) → AreFormed u c → (v : ℕ → Bool) (w : Written) → IsStartOf u c v w →
     (a : ℕ) → ¬ IsBroken u c (reading u c v) a
+
+-- A known byte that a base read of satisfying values has not is one that was not asked: asking it too rules these values out.
+abbrev pub BrokenIsNew : Type 0
+BrokenIsNew = (u : UnrolledProgram) (t : QuestionTerm) (asked : ℕ → Bool) (c : Cells) → TellsCells u t asked c → (cnf : Cnf) → TellsClauses u c cnf →
+    (v : ℕ → Bool) → Satisfies v cnf.clauses → (a : ℕ) → IsBroken u c (reading u c v) a → asked a ≡ false

@@ -1,5 +1,5 @@
 //! The walk of an unrolled program and the runs of its program.
-ghost use Rattle.walk_laws.specs.Layers.{ClausesOfQuestion, StartBreaksNone, StartIsWritten, ValuesGiveStart};
+ghost use Rattle.walk_laws.specs.Layers.{BrokenIsNew, ClausesOfQuestion, StartBreaksNone, StartIsWritten, ValuesGiveStart};
 ghost use Rattle.walk_laws.specs.RunOfWalk.{WalkAnswersOver, WalkIsRun};
 
 /// The walk of a reading is its run, step by step.
@@ -30,4 +30,9 @@ pub fn start_is_written()
 /// Where values have a start, none of their base reads has another byte than the known one.
 pub fn start_breaks_none()
     ensures { StartBreaksNone }
+{}
+
+/// A known byte that satisfying values have not was not asked.
+pub fn broken_is_new()
+    ensures { BrokenIsNew }
 {}

@@ -13,3 +13,4 @@ pub mod PassiveSample
 pub mod StartSample
 pub mod EntrySame
 pub mod Walkable
+pub mod Asked

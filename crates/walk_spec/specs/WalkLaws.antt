@@ -1,5 +1,5 @@
 -- Laws of unrolled programs and their walks.
-use Rattle.std.specs.Prelude.{ℕ, ◌≡◌, ◌<◌, ◌^◌, ◌↔◌, Bool, true, length}
+use Rattle.std.specs.Prelude.{ℕ, ◌≡◌, ◌<◌, ◌^◌, ◌↔◌, Bool, true, List, length, Contains}
 use Rattle.bilv_spec.specs.Words.{add}
 use Rattle.bilv_spec.specs.State.{State}
 use Rattle.bilv_spec.specs.MachineLaws.{IsFitted}
@@ -10,7 +10,7 @@ use Rattle.bilv_spec.specs.Verdict.{IsEntryState}
 use Rattle.bilv_spec.specs.Questions.{Reading, IsEntryStateOver}
 use Rattle.walk_spec.specs.Unrolled.{Carried, UnrolledProgram, WalkIsAt, point_at, walk, ExitsLeadLater}
 use Rattle.walk_spec.specs.Unrolling.{IsLiteralOf, IsUnrolling, AreReadableBy, IsLaidOut, IsWalkable}
-use Rattle.walk_spec.specs.WalkQuestions.{MeetsEntry, MeetsEntryOver}
+use Rattle.walk_spec.specs.WalkQuestions.{is_asked, MeetsEntry, MeetsEntryOver}
 
 -- the bytes of the kept literals that the rows at points load are asked
 abbrev pub AsksLiterals : Program → (k : ℕ) → (ℕ → Bool) → Type 0
@@ -19,6 +19,11 @@ AsksLiterals p k asked = (a i : ℕ) → IsLiteralOf p k a → i < 4 → asked (
 -- each byte that is asked is known
 abbrev pub AsksKnown : Program → (ℕ → Bool) → Type 0
 AsksKnown p asked = (a : ℕ) → asked a ≡ true → is_known_at p a ≡ true
+
+-- what is asked on demand is known, and has the literals
+abbrev pub AskedIsRight : Type 0
+AskedIsRight = (p : Program) (k : ℕ) (u : UnrolledProgram) → IsUnrolling p k u → (added : List ℕ) → ((a : ℕ) → Contains added a → is_known_at p a ≡ true) →
+    AsksKnown p (is_asked added u.literals) × AsksLiterals p k (is_asked added u.literals)
 
 -- the entry condition of the unrolled program is that of the program
 abbrev pub EntryIsSame : Type 0

@@ -1,5 +1,7 @@
 -- The questions of an unrolled program, over a walk, and what a term of a question says.
-use Rattle.std.specs.Prelude.{ℕ, ◌≡◌, ◌≤◌, ◌<◌, ◌+◌, ◌-◌, ◌*◌, ◌^◌, ◌↔◌, Bool, true, List, Some, None, length, Contains}
+use Rattle.std.specs.Prelude.{ℕ, ◌≡◌, ◌≤◌, ◌<◌, ◌+◌, ◌-◌, ◌*◌, ◌^◌, ◌↔◌, Bool, true, ◌==◌, ◌||◌, nat_eq, List, [], ◌∷◌, Some, None, length, Contains}
+use Rattle.std.specs.List.{list_any}
+use Rattle.bilv_spec.specs.Words.{add}
 use Rattle.bilv_spec.specs.State.{State, IsState}
 use Rattle.bilv_spec.specs.Machine.{IsAtPlace}
 use Rattle.bilv_spec.specs.Run.{Event, false_line}
@@ -19,6 +21,10 @@ WalkEndsBy u r TurnQuestion = (points : ℕ) × (walk u r points ≡ WalkTurns)
 pub record MeetsLines (u : UnrolledProgram) (s : State) : Type 0 where
   pub link : IsAtPlace (s.regs u.link)
   pub requires : false_line u.endian u.requires s s ≡ None
+
+-- the known bytes that are asked on demand: some that were added, and the four of each literal
+abbrev pub is_asked : (added literals : List ℕ) → ℕ → Bool
+is_asked added literals a = list_any (nat_eq a) added || list_any (λ l. list_any (λ i. a == add 32 l i) (0 ∷ 1 ∷ 2 ∷ 3 ∷ [])) literals
 
 -- the memory has the known bytes that are asked
 abbrev pub HasAsked : UnrolledProgram → (asked : ℕ → Bool) → (ℕ → ℕ) → Type 0

@@ -2,7 +2,7 @@
 ghost use Rattle.walk_spec.specs.Passive.{HeldAnswers};
 ghost use Rattle.walk_spec.specs.Prices.{PartsAddUp, PriceIsPrice};
 ghost use Rattle.walk_spec.specs.Sweep.{SweepIsWalk};
-ghost use Rattle.walk_spec.specs.WalkLaws.{EntryIsSame, EntryIsSameOver, MeetsOnce, PlacesRise, UnrollingIsWalkable};
+ghost use Rattle.walk_spec.specs.WalkLaws.{AskedIsRight, EntryIsSame, EntryIsSameOver, MeetsOnce, PlacesRise, UnrollingIsWalkable};
 
 /// The edges of an unrolled program lead to later places.
 pub fn places_rise()
@@ -12,6 +12,11 @@ pub fn places_rise()
 /// An unrolled program has what its terms need, where its machine and its notes have it.
 pub fn unrolling_is_walkable()
     ensures { UnrollingIsWalkable }
+{}
+
+/// What is asked on demand is known, and has the literals of the points.
+pub fn asked_is_right()
+    ensures { AskedIsRight }
 {}
 
 /// A walk meets the point at a place at most once.
