@@ -29,6 +29,12 @@ layout_registers Rv32 = rv32.has_register
 layout_registers ArmLittle = (arm Little).has_register
 layout_registers ArmBig = (arm Big).has_register
 
+-- the flags that it has
+abbrev pub layout_flags : Layout → ℕ → Bool
+layout_flags Rv32 = rv32.has_flag
+layout_flags ArmLittle = (arm Little).has_flag
+layout_flags ArmBig = (arm Big).has_flag
+
 -- lines without fault, and what they say
 pub record IsGoodDraft (names : List ℕ → Option Expr) (texts : List (List ℕ)) (draft : Draft) : Type 0 where
   pub says : List Says

@@ -1,10 +1,10 @@
 //! The text of notes.
 ghost use Rattle.std.specs.Prelude.{◌≡◌, IfOk, IfErr};
 ghost use Rattle.bilv_spec.specs.NotesGrammar.{IsNotesText};
-ghost use Rattle.notes_value.specs.Reads.{AreReadable};
+ghost use Rattle.notes_value.specs.Reads.{AreOver, AreReadable};
 ghost use Rattle.notes_lang.specs.Named.{names_of};
 ghost use Rattle.notes_lang.specs.Drafting.{notes_of};
-ghost use Rattle.notes_lang.specs.Parsing.{IsLinesRead, IsRefused, layout_names, layout_registers};
+ghost use Rattle.notes_lang.specs.Parsing.{IsLinesRead, IsRefused, layout_flags, layout_names, layout_registers};
 
 use crate::drafts::Draft;
 use crate::faults::{FaultKind, judge};
@@ -79,10 +79,11 @@ fn read_lines(
 }
 
 /// The notes that a text says, for the machine of a layout. `Fault` tells the first line that is refused, with the first of its faults; where each line is good but none names
-/// the function, it is the line behind the last. What the expressions of the notes read, the machine has.
+/// the function, it is the line behind the last. What the expressions of the notes read, the machine has; their numbers have 32 bits.
 pub fn parse(alloc: Global, bytes: &[u8], layout: Layout) -> Result<Notes, NotesError>
     ensures ok { IfOk result (λ notes. IsNotesText (layout_names layout) bytes.now (notes_of notes)) }
     ensures readable { IfOk result (λ notes. AreReadable (layout_registers layout) (notes_of notes)) }
+    ensures over { IfOk result (λ notes. AreOver (layout_registers layout) (layout_flags layout) (notes_of notes)) }
     ensures err { IfErr result (λ error. IsRefused (layout_names layout) bytes.now error) }
 {
     let Ok(read) = read_lines(alloc, names_for(layout), bytes) else {

@@ -1,5 +1,5 @@
 -- What expressions read of a state.
-use Rattle.std.specs.Prelude.{ℕ, ◌≤◌, Bool, IsTrue}
+use Rattle.std.specs.Prelude.{ℕ, ◌≤◌, ◌<◌, ◌^◌, Bool, IsTrue}
 use Rattle.std.specs.List.{All}
 use Rattle.bilv_spec.specs.Notes as notes
 use Rattle.bilv_spec.specs.Notes.{Expr, Number, Register, Flag, Pc, Memory, Old, Not, Binary}
@@ -20,3 +20,20 @@ pub record AreReadable (has_register : ℕ → Bool) (n : notes.Notes) : Type 0 
   pub requires : All (λ l. IsReadable has_register l.says) n.requires
   pub ensures : All (λ l. IsReadable has_register l.says) n.ensures
   pub asserts : All (λ l. IsReadable has_register l.says) n.asserts
+
+-- An expression over the words of a machine: it names registers and flags of the machine alone, its numbers have 32 bits, and it loads 1 to 4 bytes at once.
+abbrev pub IsOver : (has_register has_flag : ℕ → Bool) → Expr → Type 0
+IsOver has_register has_flag (Number n) = n < 2 ^ 32
+IsOver has_register has_flag (Register r) = IsTrue (has_register r)
+IsOver has_register has_flag (Flag f) = IsTrue (has_flag f)
+IsOver has_register has_flag Pc = Unit {0}
+IsOver has_register has_flag (Memory n a) = (1 ≤ n) × (n ≤ 4) × IsOver has_register has_flag a
+IsOver has_register has_flag (Old a) = IsOver has_register has_flag a
+IsOver has_register has_flag (Not a) = IsOver has_register has_flag a
+IsOver has_register has_flag (Binary op a b) = IsOver has_register has_flag a × IsOver has_register has_flag b
+
+-- the lines of notes are
+pub record AreOver (has_register has_flag : ℕ → Bool) (n : notes.Notes) : Type 0 where
+  pub requires : All (λ l. IsOver has_register has_flag l.says) n.requires
+  pub ensures : All (λ l. IsOver has_register has_flag l.says) n.ensures
+  pub asserts : All (λ l. IsOver has_register has_flag l.says) n.asserts

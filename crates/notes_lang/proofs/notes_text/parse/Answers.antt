@@ -2,7 +2,7 @@ use Rattle.std.proofs.Common.{subst}
 use Rattle.notes_lang.specs.Named.{names_of}
 use Rattle.notes_lang.specs.Parsing.{IsLinesRead, layout_names}
 use Rattle.notes_lang.proofs.Finished.{finished, unnamed}
-use Rattle.notes_lang.proofs.Readable.{notes_readable}
+use Rattle.notes_lang.proofs.Readable.{notes_over, notes_readable}
 use Rattle.notes_lang.proofs.notes_text.parse.Goals as goal
 
 pub returns-in_default-entry-clause-err : goal.returns-in_default-entry-clause-err
@@ -17,3 +17,6 @@ returns-clause-ok c =
 
 pub returns-clause-readable : goal.returns-clause-readable
 returns-clause-readable c = notes_readable c.args.layout c.args.bytes.now _ (returns-clause-ok c)
+
+pub returns-clause-over : goal.returns-clause-over
+returns-clause-over c = notes_over c.args.layout c.args.bytes.now _ (returns-clause-ok c)
