@@ -37,6 +37,13 @@ front_longer Untold bytes limit front over = (bytes, tt, over)
 front_longer Absent bytes limit front over = absurd (omega arith)
 front_longer (Bytes file) bytes limit front over = (file, refl, omega arith)
 
+-- a piece more is longer than the limit
+pub front_over : (held : Held) (bytes piece : List ℕ) (n limit : ℕ) → n ≤ length piece → length bytes ≤ limit → limit - length bytes < n → IsFront held bytes
+    → Reads held (length bytes) piece n → IsLonger held limit
+front_over held bytes piece n limit within fits over front reads =
+    let long : length (bytes ++ take n piece) ≡ length bytes + n = grind (arith, common_steps) in
+    front_longer held (bytes ++ take n piece) limit (front_more held bytes piece n within front reads) (omega arith)
+
 -- the rest of a slice
 rest_is : (bytes : List ℕ) (done : ℕ) → take (length bytes - done) (drop done bytes) ≡ drop done bytes
 rest_is bytes done = grind (arith, common_steps)

@@ -1,3 +1,4 @@
 pub mod Fronts
 pub mod FilePlaces
 pub mod FileCounts
+pub mod Named

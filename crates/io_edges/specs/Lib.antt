@@ -4,3 +4,5 @@ pub mod Places
 pub mod WriteFaults
 pub mod Shelves
 pub mod Sinks
+pub mod Takes
+

@@ -1,11 +1,12 @@
 -- What shelves tell, and their counts.
-use Rattle.std.specs.Prelude.{ℕ, ◌≡◌, ◌⊎◌, List, [], ◌∷◌, Contains, string_bytes, if◌then◌else◌}
+use Rattle.std.specs.Prelude.{ℕ, ◌≡◌, ◌⊎◌, List, [], ◌∷◌, Option, Contains, string_bytes, if◌then◌else◌}
 use Rattle.std.specs.Str.{bytes_eq}
 use Rattle.bilv_spec.specs.Outside.{Held, Absent}
 use Rattle.io_edges.specs.declared.files.MemFile.{MemFile}
 use Rattle.io_edges.specs.declared.mem_shelf.MemShelf.{MemShelf}
 use Rattle.io_edges.specs.declared.never_fail.NeverFailShelf.{NeverFailShelf}
 use Rattle.io_edges.specs.declared.system.FileShelf.{FileShelf}
+use Rattle.io_edges.specs.declared.system.NamedFile.{NamedFile}
 use Rattle.io_edges.specs.Files.{held_by, or_empty}
 
 -- the count of the first file of a name, or that of the names that no file has
@@ -39,5 +40,9 @@ abbrev pub kept_in : NeverFailShelf → List ℕ → Held
 kept_in s name = or_empty (held_by s.files.items name)
 
 -- how many reads of a shelf of the file system failed
-abbrev pub file_faults : {R : Type 0} → FileShelf R → ℕ
+abbrev pub file_faults : {R F D : Type 0} → FileShelf R F D → ℕ
 file_faults s = s.faults
+
+-- the file that it read last
+abbrev pub last_file : {R F D : Type 0} → FileShelf R F D → Option (NamedFile F)
+last_file s = s.last

@@ -31,6 +31,10 @@ writes_made s = s.calls
 abbrev pub write_faults : MemSink → ℕ
 write_faults s = s.faults
 
+-- how many writes failed
+abbrev pub write_errors : MemSink → ℕ
+write_errors s = s.errors
+
 -- the writer that a sink passes its pieces to
 abbrev pub writer_of : {W : Type 0} → OutSink W → W
 writer_of s = s.to
@@ -38,3 +42,7 @@ writer_of s = s.to
 -- how many writes to a writer failed, or took nothing of a piece
 abbrev pub out_faults : {W : Type 0} → OutSink W → ℕ
 out_faults s = s.faults
+
+-- how many writes to a writer failed
+abbrev pub out_errors : {W : Type 0} → OutSink W → ℕ
+out_errors s = s.errors

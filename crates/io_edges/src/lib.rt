@@ -1,9 +1,9 @@
 //! What a program reads and writes: files by name, and a sink of text, each with a count of its faults.
 #![tactic(auto)]
 
-ghost use Rattle.std.specs.Prelude.{◌≡◌, ℕ, ◌≤◌, ◌<◌, List, Option, length, take, IfOk, IfErr, OnOk, OnErr, IsErrOf};
+ghost use Rattle.std.specs.Prelude.{◌≡◌, ◌≢◌, ℕ, ◌≤◌, ◌<◌, List, Option, length, take, IfOk, IfErr, OnOk, OnErr, IsErrOf};
 ghost use Rattle.bilv_spec.specs.Outside.{Held, Agrees, IsLonger, Rose, Reads, Appends};
-ghost use Rattle.io_edges.specs.WriteFaults.{Stopped};
+ghost use Rattle.io_edges.specs.WriteFaults.{Stopped, CountsError};
 
 use std::alloc::Global;
 use thiserror::Error;
@@ -13,12 +13,14 @@ mod files;
 mod mem_shelf;
 mod mem_sink;
 mod never_fail;
+mod placed;
 mod system;
 
 pub use files::MemFile;
 pub use mem_shelf::MemShelf;
 pub use mem_sink::MemSink;
 pub use never_fail::{NeverFailShelf, NeverFailSink};
+pub use placed::PlacedFile;
 pub use system::{FileShelf, OutSink};
 
 /// A read or a write that failed.
@@ -42,7 +44,8 @@ pub trait Shelf {
         ensures never_falls { (n : List ℕ) → faults self.old n ≤ faults self.new n }
         ensures within { IfOk result (λ n. n ≤ length into.new) }
         ensures ok { IfOk result (λ n. Reads (holds self.old name.now) at into.new n) }
-        ensures failed { OnErr result (Rose (faults self.old name.now) (faults self.new name.now)) };
+        ensures failed { OnErr result (Rose (faults self.old name.now) (faults self.new name.now)) }
+        ensures steady { OnOk result ((n : List ℕ) → faults self.new n ≡ faults self.old n) };
 }
 
 /// What takes the text of an answer.
@@ -52,6 +55,9 @@ pub trait Sink {
 
     /// How many writes failed, or took none of a nonempty piece. It never falls, and may stay at the last value of 64 bits.
     ghost faults: { Self → ℕ };
+
+    /// How many writes failed. It never falls, and may stay at the last value of 64 bits.
+    ghost errors: { Self → ℕ };
 
     /// Takes bytes from the front of a piece, and says how many it took.
     /// To take none of a nonempty piece counts as a fault. After an `Err` the text is as it was.
@@ -63,8 +69,13 @@ pub trait Sink {
         ensures nothing { IfOk result
             (λ n. n ≡ 0 → 0 < length bytes.now → Rose (faults self.old) (faults self.new)) }
         ensures failed { OnErr result (Rose (faults self.old) (faults self.new)) }
-        ensures same { OnErr result (written self.new ≡ written self.old) };
+        ensures same { OnErr result (written self.new ≡ written self.old) }
+        ensures error { OnErr result (Rose (errors self.old) (errors self.new)) }
+        ensures no_error { OnOk result (errors self.new ≡ errors self.old) };
 }
+
+/// How many bytes of a file are asked for at once.
+const PIECE: usize = 65536;
 
 /// Why a file was not read.
 #[derive(Clone, Copy, Debug, PartialEq, Eq, Error)]
@@ -93,7 +104,7 @@ pub enum WriteFault {
 
 /// The whole of a file of at most `limit` bytes.
 /// It is `TooLarge` once more than `limit` bytes were read, `Failed` at the first read that fails,
-/// and `Memory` where the bytes that were read find no room.
+/// and `Memory` where the bytes that were read are at most `limit` and find no room.
 #[tactic(auto, using(crate::proofs::Fronts::front_start, crate::proofs::Fronts::front_more, crate::proofs::Fronts::front_whole, crate::proofs::Fronts::front_longer))]
 pub fn read_all<H: Shelf>(
     alloc: Global,
@@ -109,10 +120,12 @@ pub fn read_all<H: Shelf>(
         IsLonger (H.holds shelf.old name.now) limit }
     ensures failed { IsErrOf result ReadFault.Failed →
         Rose (H.faults shelf.old name.now) (H.faults shelf.new name.now) }
+    // So a read that failed is answered as nothing else.
+    ensures steady { result ≢ Err ReadFault.Failed → (n : List ℕ) → H.faults shelf.new n ≡ H.faults shelf.old n }
 {
     let mut bytes = Vec::new(alloc);
-    let mut piece = [0u8; 4096];
-    while bytes.len() as u64 <= limit {
+    let mut piece = [0u8; PIECE];
+    loop {
         let at = bytes.len() as u64;
         let Ok(count) = shelf.read(name, at, &mut piece) else {
             return Err(ReadFault::Failed);
@@ -120,11 +133,13 @@ pub fn read_all<H: Shelf>(
         if count == 0 {
             return Ok(bytes);
         }
+        if count as u64 > limit - at {
+            return Err(ReadFault::TooLarge);
+        }
         let Ok(()) = bytes.extend_from_slice(&piece[..count]) else {
             return Err(ReadFault::Memory);
         };
     }
-    Err(ReadFault::TooLarge)
 }
 
 /// Writes all the bytes, in as many writes as the sink wants.
@@ -135,6 +150,8 @@ pub fn write_all<K: Sink>(sink: &mut K, bytes: &[u8]) -> Result<(), WriteFault>
     ensures ok { OnOk result (Appends (K.written sink.old) bytes.now (K.written sink.new)) }
     ensures by_fault { IfErr result (Stopped (K.written sink.old) bytes.now (K.written sink.new)) }
     ensures risen { OnErr result (Rose (K.faults sink.old) (K.faults sink.new)) }
+    ensures by_error { IfErr result (CountsError (K.errors sink.old) (K.errors sink.new)) }
+    ensures no_error { OnOk result (K.errors sink.new ≡ K.errors sink.old) }
 {
     let mut written = 0usize;
     while written < bytes.len() {

@@ -14,13 +14,14 @@ pub struct MemSink {
     failing: Vec<u64>,
     calls: u64,
     faults: u64,
+    errors: u64,
     ghost fits: { vec_len text ≤ room },
     ghost has_room: { room ≤ vec_capacity text },
 }
 
 impl MemSink {
     ghost use Rattle.std.specs.Prelude.{◌≡◌, [], length, IfOk};
-    ghost use Rattle.io_edges.specs.Sinks.{text_in, room_of, most_of, failing_writes, writes_made, write_faults};
+    ghost use Rattle.io_edges.specs.Sinks.{text_in, room_of, most_of, failing_writes, writes_made, write_faults, write_errors};
 
     /// A sink of at most `room` bytes, which takes at most `most` of them in a write.
     /// Its writes are numbered from 0, and those of the numbers in `failing` fail.
@@ -36,6 +37,7 @@ impl MemSink {
         ensures failing { IfOk result (λ s. failing_writes s ≡ failing.items) }
         ensures no_writes { IfOk result (λ s. writes_made s ≡ 0) }
         ensures no_faults { IfOk result (λ s. write_faults s ≡ 0) }
+        ensures no_errors { IfOk result (λ s. write_errors s ≡ 0) }
     {
         let text = Vec::with_capacity(alloc, room)?;
         Ok(MemSink {
@@ -45,6 +47,7 @@ impl MemSink {
             failing,
             calls: 0,
             faults: 0,
+            errors: 0,
         })
     }
 
@@ -65,14 +68,16 @@ impl MemSink {
 }
 
 impl Sink for MemSink {
-    ghost use Rattle.std.specs.Prelude.{◌≡◌, ◌<◌, ◌↔◌, length, take, Some, Contains, IsErr, IfOk, OnErr};
+    ghost use Rattle.std.specs.Prelude.{◌≡◌, ◌<◌, ◌↔◌, length, take, Some, Contains, IsErr, IfOk, OnOk, OnErr};
     ghost use Rattle.bilv_spec.specs.Outside.{Rose, Appends};
     ghost use Rattle.io_edges.specs.Counts.{one_more, count_after};
-    ghost use Rattle.io_edges.specs.Sinks.{text_in, room_of, most_of, taken_of, failing_writes, writes_made, write_faults};
+    ghost use Rattle.io_edges.specs.Sinks.{text_in, room_of, most_of, taken_of, failing_writes, writes_made, write_faults, write_errors};
 
     ghost written = { λ s. Some (text_in s) };
 
     ghost faults = { write_faults };
+
+    ghost errors = { write_errors };
 
     fn write(&mut self, bytes: &[u8]) -> Result<usize, Failed>
         ensures never_falls { write_faults self.old ≤ write_faults self.new }
@@ -83,11 +88,14 @@ impl Sink for MemSink {
             Rose (write_faults self.old) (write_faults self.new)) }
         ensures failed { OnErr result (Rose (write_faults self.old) (write_faults self.new)) }
         ensures same { OnErr result (Some (text_in self.new) ≡ Some (text_in self.old)) }
+        ensures error { OnErr result (Rose (write_errors self.old) (write_errors self.new)) }
+        ensures no_error { OnOk result (write_errors self.new ≡ write_errors self.old) }
 
         // It fails at its chosen numbers, and nowhere else.
         ensures fails { IsErr result ↔ Contains (failing_writes self.old) (writes_made self.old) }
         ensures takes { IfOk result (λ n. n ≡ taken_of self.old bytes.now) }
         ensures raises { OnErr result (write_faults self.new ≡ one_more (write_faults self.old)) }
+        ensures raises_errors { OnErr result (write_errors self.new ≡ one_more (write_errors self.old)) }
         ensures stuck { IfOk result
             (λ n. write_faults self.new ≡ count_after (write_faults self.old) bytes.now n) }
 
@@ -101,6 +109,7 @@ impl Sink for MemSink {
         self.calls = raised(self.calls);
         if fails {
             self.faults = raised(self.faults);
+            self.errors = raised(self.errors);
             return Err(Failed);
         }
         let left = self.room - self.text.len();

@@ -57,6 +57,8 @@ impl Sink for NeverFailSink {
 
     ghost faults = { λ _. 0 };
 
+    ghost errors = { λ _. 0 };
+
     fn write(&mut self, bytes: &[u8]) -> Result<usize, Failed>
         ensures { result ≡ Ok (length bytes.now) }
     {

@@ -1,30 +1,45 @@
 //! The file system, and a writer as standard output. What they hold is not told: they are trusted.
-ghost use Rattle.std.specs.Prelude.{◌≡◌, ℕ, ◌≤◌, ◌<◌, List, None, length, IfSome, IfOk, OnOk, OnErr};
+ghost use Rattle.std.specs.Prelude.{◌≡◌, ◌⊎◌, ℕ, ◌≤◌, ◌<◌, List, None, Some, length, IfOk, OnOk, OnErr};
 ghost use Rattle.std.specs.Io.KnownBytes.{WriteAppends};
 ghost use Rattle.bilv_spec.specs.Outside.{Untold, Reads, Rose};
 ghost use Rattle.io_edges.specs.Counts.{one_more, count_after};
-ghost use Rattle.io_edges.specs.Shelves.{file_faults};
-ghost use Rattle.io_edges.specs.Sinks.{writer_of, out_faults};
+ghost use Rattle.io_edges.specs.Shelves.{file_faults, last_file};
+ghost use Rattle.io_edges.specs.Sinks.{writer_of, out_faults, out_errors};
+ghost use Rattle.io_edges.specs.Takes.{name_of, place_of, TakesNamed};
 
 use crate::counts::raised;
-use crate::{Failed, Shelf, Sink};
+use crate::{Failed, PlacedFile, Shelf, Sink};
 use std::fs::File;
-use std::io::{Read, Seek, SeekFrom, Write};
+use std::io::Write;
 use std::rt::Files;
 
-/// Files by path. Its one count, of all reads that failed, stands for every name.
+/// A file of the file system, with the name under which it was opened.
 #[derive(Drop)]
-pub struct FileShelf<'a, R> {
+struct NamedFile<F> {
+    name: String,
+    placed: PlacedFile<F>,
+}
+
+/// Files by path. Its one count, of all reads that failed, stands for every name.
+/// The file that was read last stays open, so a file that is read piece by piece is opened once, and may be a pipe.
+#[derive(Drop)]
+pub struct FileShelf<'a, R: Files> {
     files: &'a R,
+    last: Option<NamedFile<R::File>>,
     faults: u64,
 }
 
-impl<'a, R: Files> FileShelf<'a, R> {
+impl<'a, R: Files + AllocGlobal> FileShelf<'a, R> {
     /// A shelf over the files of a runtime.
     pub fn new(files: &'a R) -> FileShelf<'a, R>
-        ensures { file_faults result ≡ 0 }
+        ensures no_faults { file_faults result ≡ 0 }
+        ensures none { last_file result ≡ None }
     {
-        FileShelf { files, faults: 0 }
+        FileShelf {
+            files,
+            last: None,
+            faults: 0,
+        }
     }
 
     /// How many reads failed.
@@ -34,20 +49,38 @@ impl<'a, R: Files> FileShelf<'a, R> {
         self.faults
     }
 
-    /// A read, or nothing where the file can't be opened, for want of memory too, or read.
-    fn try_read(&self, name: &str, at: u64, into: &mut [u8]) -> Option<usize>
-        ensures { IfSome result (λ n. n ≤ length into.new) }
+    /// The file of a name: the last one where that has the name, else one that is opened. The error is a file that can't be opened, or want of memory.
+    fn opened(&mut self, name: &str) -> Result<NamedFile<R::File>, Failed>
+        ensures named { IfOk result (λ f. name_of f ≡ name.now) }
+        ensures is { IfOk result (λ f. (last_file self.old ≡ Some f) ⊎ (place_of f.placed ≡ Some 0)) }
+        ensures same { file_faults self.new ≡ file_faults self.old }
     {
-        let mut file = File::open(self.files, name).ok()?;
-        let place = file.seek(SeekFrom::Start(at)).ok()?;
-        if place != at {
-            return None;
+        match self.last.take() {
+            Some(last) if last.name.as_str() == name => Ok(last),
+            _ => match (File::open(self.files, name), String::from_str(self.files.alloc(), name)) {
+                (Ok(file), Ok(name)) => Ok(NamedFile {
+                    name,
+                    placed: PlacedFile::new(file),
+                }),
+                _ => Err(Failed),
+            },
         }
-        file.read(into).ok()
+    }
+
+    /// A read of the file of a name, which is the last one then.
+    fn read_named(&mut self, name: &str, at: u64, into: &mut [u8]) -> Result<usize, Failed>
+        ensures within { IfOk result (λ n. n ≤ length into.new) }
+        ensures takes { IfOk result (TakesNamed R.File.remaining R.File.stream_position (last_file self.old) name.now at into.new (last_file self.new)) }
+        ensures same { file_faults self.new ≡ file_faults self.old }
+    {
+        let mut file = self.opened(name)?;
+        let read = file.placed.read_at(at, into);
+        self.last = Some(file);
+        read
     }
 }
 
-impl<R: Files> Shelf for FileShelf<'_, R> {
+impl<R: Files + AllocGlobal> Shelf for FileShelf<'_, R> {
     ghost holds = { λ _ _. Untold };
 
     ghost faults = { λ s _. file_faults s };
@@ -57,12 +90,15 @@ impl<R: Files> Shelf for FileShelf<'_, R> {
         ensures within { IfOk result (λ n. n ≤ length into.new) }
         ensures ok { IfOk result (λ n. Reads Untold at into.new n) }
         ensures failed { OnErr result (Rose (file_faults self.old) (file_faults self.new)) }
+
+        // The bytes are those that the open file gave at the place.
+        ensures takes { IfOk result (TakesNamed R.File.remaining R.File.stream_position (last_file self.old) name.now at into.new (last_file self.new)) }
         ensures raises { OnErr result (file_faults self.new ≡ one_more (file_faults self.old)) }
-        ensures steady { OnOk result (file_faults self.new ≡ file_faults self.old) }
+        ensures steady { OnOk result ((n : List ℕ) → file_faults self.new ≡ file_faults self.old) }
     {
-        match self.try_read(name, at, into) {
-            Some(count) => Ok(count),
-            None => {
+        match self.read_named(name, at, into) {
+            Ok(count) => Ok(count),
+            Err(Failed) => {
                 self.faults = raised(self.faults);
                 Err(Failed)
             }
@@ -75,6 +111,7 @@ impl<R: Files> Shelf for FileShelf<'_, R> {
 pub struct OutSink<W> {
     to: W,
     faults: u64,
+    errors: u64,
 }
 
 impl<W: Write> OutSink<W> {
@@ -82,8 +119,13 @@ impl<W: Write> OutSink<W> {
     pub fn new(to: W) -> OutSink<W>
         ensures writer { writer_of result ≡ to }
         ensures no_faults { out_faults result ≡ 0 }
+        ensures no_errors { out_errors result ≡ 0 }
     {
-        OutSink { to, faults: 0 }
+        OutSink {
+            to,
+            faults: 0,
+            errors: 0,
+        }
     }
 
     /// How many writes failed, or took nothing of a nonempty piece.
@@ -99,17 +141,22 @@ impl<W: Write> Sink for OutSink<W> {
 
     ghost faults = { λ s. out_faults s };
 
+    ghost errors = { λ s. out_errors s };
+
     fn write(&mut self, bytes: &[u8]) -> Result<usize, Failed>
         ensures never_falls { out_faults self.old ≤ out_faults self.new }
         ensures within { IfOk result (λ n. n ≤ length bytes.now) }
         ensures nothing { IfOk result (λ n. n ≡ 0 → 0 < length bytes.now →
             Rose (out_faults self.old) (out_faults self.new)) }
         ensures failed { OnErr result (Rose (out_faults self.old) (out_faults self.new)) }
+        ensures error { OnErr result (Rose (out_errors self.old) (out_errors self.new)) }
+        ensures no_error { OnOk result (out_errors self.new ≡ out_errors self.old) }
 
         // The writer took what the result says.
         ensures passes { WriteAppends (W.contents (writer_of self.old)) (W.contents (writer_of self.new))
             result bytes.now }
         ensures raises { OnErr result (out_faults self.new ≡ one_more (out_faults self.old)) }
+        ensures raises_errors { OnErr result (out_errors self.new ≡ one_more (out_errors self.old)) }
         ensures stuck { IfOk result
             (λ n. out_faults self.new ≡ count_after (out_faults self.old) bytes.now n) }
     {
@@ -121,6 +168,7 @@ impl<W: Write> Sink for OutSink<W> {
             Ok(count) => Ok(count),
             Err(_) => {
                 self.faults = raised(self.faults);
+                self.errors = raised(self.errors);
                 Err(Failed)
             }
         }

@@ -1,14 +1,15 @@
-use Rattle.std.proofs.Common.{◌≡◌, ℕ, ◌+◌, ◌-◌, ◌≤◌, List, length, vec_len}
+use Rattle.std.proofs.Common.{◌≡◌, ℕ, ◌-◌, ◌≤◌, List, length, vec_len}
 use Rattle.io_edges.proofs.Fronts.{IsFront}
 use Rattle.io_edges.proofs.read_all.Given as goal
 
-abbrev pub invariant-loop-piece : goal.invariant-loop-piece
-invariant-loop-piece g l = record {
+abbrev pub invariant-loop-count : goal.invariant-loop-count
+invariant-loop-count g l = record {
   keeps : (n : List ℕ) → g.H.Shelf.holds l.shelf n ≡ g.H.Shelf.holds l.fn.shelf n;
-  never_falls : (n : List ℕ) → g.H.Shelf.faults l.fn.shelf n ≤ g.H.Shelf.faults l.shelf n;
+  steady : (n : List ℕ) → g.H.Shelf.faults l.shelf n ≡ g.H.Shelf.faults l.fn.shelf n;
   front : IsFront (g.H.Shelf.holds l.fn.shelf l.name) l.bytes.items;
-  room : length l.piece ≡ 4096;
+  room : length l.piece ≡ 65536;
+  within : vec_len l.bytes ≤ l.limit;
 }
 
-abbrev pub decreases-loop-piece : goal.decreases-loop-piece
-decreases-loop-piece g l = l.limit + 1 - vec_len l.bytes
+abbrev pub decreases-loop-count : goal.decreases-loop-count
+decreases-loop-count g l = l.limit - vec_len l.bytes
