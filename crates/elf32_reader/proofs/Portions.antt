@@ -1,8 +1,9 @@
 -- The parts of the loaded addresses.
 use Rattle.std.proofs.Common.{◌≡◌, ℕ, zero, suc, ◌+◌, ◌-◌, ◌≤◌, ◌<◌, List, length, get_or, refl, ap, sym, subst, ◌∙◌, ◌&&◌, nat_lt, arith, true, Some}
+use Rattle.std.specs.Prelude.{slice_get}
 use Rattle.std.specs.List.{AllWithin}
 use Rattle.std.proofs.lemmas.List.{get_or_default}
-use Rattle.bilv_spec.specs.Elf.{is_kept, byte_in, flags_in, executable}
+use Rattle.bilv_spec.specs.Elf.{segments, is_kept, byte_in, flags_in, executable}
 use Rattle.bilv_spec.specs.LiftText.{is_given_by}
 use Rattle.elf32_reader.specs.declared.segments.ProgramHeader.{ProgramHeader}
 use Rattle.elf32_reader.specs.declared.parts.Part.{Part}
@@ -46,6 +47,11 @@ first_part file found a first k h part tie within at behind low high is gap =
     record {
       behind = omega arith;
       some = omega arith;
+      loads = segment h;
+      of_file = subst (λ (y : ProgramHeader). (i : ℕ) × (slice_get (segments file) i ≡ Some (segment y))) at (tie.listed.members k h within);
+      covered = over part.first (omega arith) (omega arith);
+      ends = omega arith;
+      stored = λ x l. is.given x (omega arith) ∙ ap (λ n. nat_lt (x - n) (length part.bytes.now)) (sym begins);
       gap = λ x l m. loaded_none file found x tie (gap x l (omega arith));
       kept = λ x l m. ap is_kept (here x l m) ∙ sym is.kept;
       flags = λ x l m. ap flags_in (here x l m) ∙ sym is.flags;

@@ -3,3 +3,4 @@ pub mod Loads
 pub mod Symbols
 pub mod Images
 pub mod Portions
+pub mod Marks

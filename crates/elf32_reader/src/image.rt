@@ -1,7 +1,7 @@
 //! The image of a file: what it loads, and where its functions are.
 ghost use Rattle.std.specs.Prelude.{ℕ, ◌≡◌, ◌≤◌, ◌<◌, ◌+◌, length, IfOk, IfErr, OnOk, MatchOption, MatchResult, IsTrue, ◌↔◌, None};
 ghost use Rattle.bilv_spec.specs.Elf.{field, is_big, loaded, byte_at, flags_at, kept_at, IsKeptRuns};
-ghost use Rattle.bilv_spec.specs.ElfFaults.{IsImage, Finds};
+ghost use Rattle.bilv_spec.specs.ElfFaults.{IsImage, Finds, BadSymbolTable, FileFaultApplies};
 ghost use Rattle.bilv_spec.specs.Files.{is_rv, machine_of};
 ghost use Rattle.bilv_spec.specs.Memory as memory;
 ghost use Rattle.elf32_reader.specs.Refusals.{IsRefused, IsClear};
@@ -64,8 +64,21 @@ fn load_segments(alloc: Global, file: &[u8]) -> Result<Vec<ProgramHeader>, ElfFa
     }
 }
 
+/// The fault of the symbol tables, in a file of which no fault before it applies.
+fn check_symbols(alloc: Global, file: &[u8]) -> Result<(), ElfFault>
+    requires { IsClear file.now 11 }
+    ensures clear { OnOk result (¬ FileFaultApplies file.now BadSymbolTable) }
+    ensures refused { IfErr result (IsRefused file.now) }
+{
+    match has_bad_symbols(alloc, file) {
+        Err(_) => Err(ElfFault::Memory),
+        Ok(true) => Err(ElfFault::SymbolTable),
+        Ok(false) => Ok(()),
+    }
+}
+
 /// Reads a file (System V ABI, object files and program loading). The image borrows the file's bytes; memory is
-/// taken for its loaded segments and its kept runs alone.
+/// taken for its loaded segments and its kept runs, and, while it is read, one number for each 4,096 bytes of the file.
 ///
 /// # Errors
 ///
@@ -77,9 +90,7 @@ pub fn read_image<'a>(alloc: Global, bytes: &'a [u8]) -> Result<Image<'a>, ElfFa
 {
     check_header(bytes)?;
     let found = load_segments(alloc, bytes)?;
-    if has_bad_symbols(bytes) {
-        return Err(ElfFault::SymbolTable);
-    }
+    check_symbols(alloc, bytes)?;
     match kept_runs(alloc, &found) {
         Err(_) => Err(ElfFault::Memory),
         Ok(runs) => Ok(Image {
@@ -151,8 +162,8 @@ impl<'a> Image<'a> {
         kept_of(self.file, &self.found, a)
     }
 
-    /// The first loaded addresses of one segment from an address on, with the bytes that the file has for them; none where no address from there on is
-    /// loaded. Each call takes one search, however many addresses the part has.
+    /// The first loaded addresses of one segment from an address on, up to the segment's last, with the bytes that the file has for them; none where no address
+    /// from there on is loaded. Each call takes one search, however many addresses the part has.
     pub fn part_from(&self, a: u32) -> Option<Part<'a>>
         ensures { MatchOption result ((x : ℕ) → a ≤ x → loaded self.now x ≡ None) (IsFirstPart self.now a) }
     {

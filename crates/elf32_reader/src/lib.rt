@@ -8,6 +8,7 @@ mod fault;
 mod fields;
 mod header;
 mod image;
+mod marks;
 mod parts;
 mod runs;
 mod segments;

@@ -7,7 +7,7 @@ ghost use Rattle.elf32_reader.specs.Portions.{IsFirstPart, IsPartOf};
 use crate::runs::is_kept;
 use crate::segments::{ProgramHeader, begun};
 
-/// Loaded addresses of one segment that stand together.
+/// The loaded addresses of one segment from one of them on.
 #[derive(Clone, Copy, Debug)]
 pub struct Part<'a> {
     /// The first address.
@@ -18,8 +18,7 @@ pub struct Part<'a> {
     pub kept: bool,
     /// The flags of the segment: X is 1, W is 2, R is 4.
     pub flags: u32,
-    /// The bytes from the first address on that the file gives; bytes of the part behind them are 0. A part that ends early has more of them than addresses:
-    /// those past its last address do not belong to it.
+    /// The bytes that the file has for the addresses from the first on; bytes of the part behind them are 0.
     pub bytes: &'a [u8],
 }
 

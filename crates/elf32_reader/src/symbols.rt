@@ -1,11 +1,14 @@
 //! Sections and symbols (System V ABI, object files: sections, symbol table).
-ghost use Rattle.std.specs.Prelude.{ℕ, ◌≡◌, ◌≢◌, ◌≤◌, ◌<◌, ◌+◌, ◌-◌, ◌*◌, ◌↔◌, IsTrue, length, take, drop, MatchOption, MatchResult, slice_index};
+ghost use Rattle.std.specs.Prelude.{ℕ, ◌≡◌, ◌≢◌, ◌≤◌, ◌<◌, ◌+◌, ◌*◌, ◌↔◌, IsTrue, IfOk, length, take, drop, MatchOption, MatchResult, slice_index};
 ghost use Rattle.std.specs.Bool.{MatchBool};
 ghost use Rattle.bilv_spec.specs.Elf.{field};
 ghost use Rattle.bilv_spec.specs.ElfFaults.{BadSymbolTable, FileFaultApplies, section, section_count, HasSections, IsSymbols, IsBadSymbols, IsName, IsFunction, IsFunctionSymbol, Finds};
+ghost use Rattle.elf32_reader.specs.Marks.{AreMarks};
 ghost use Rattle.elf32_reader.specs.Symbols.{IsHeader, IsNamed, IsUnnamed, IsReadable, IsSeen, IsLeast, Adds, IsMissed};
 
 use crate::fields::{half, word};
+use crate::marks::{names_end, nul_marks};
+use std::alloc::{AllocError, Global};
 use thiserror::Error;
 
 /// SHT_SYMTAB.
@@ -61,26 +64,10 @@ fn section_header(file: &[u8], i: u32) -> SectionHeader
     }
 }
 
-/// The offsets in a table of names below which each name ends inside the table.
-fn names_end(file: &[u8], offset: usize, size: usize) -> usize
-    requires { offset + size ≤ length file.now }
-    ensures within { result ≤ size }
-    ensures ended { 0 < result → slice_index file.now (offset + (result - 1)) ≡ 0 }
-    ensures behind { (j : ℕ) → result ≤ j → j < size → slice_index file.now (offset + j) ≢ 0 }
-{
-    let mut end = size;
-    while end > 0 {
-        if file[offset + (end - 1)] == 0 {
-            return end;
-        }
-        end -= 1;
-    }
-    0
-}
-
 /// A symbol of section `i` has no name that ends in its table.
-fn is_unnamed(file: &[u8], i: u32) -> bool
+fn is_unnamed(file: &[u8], marks: &[usize], i: u32) -> bool
     requires order { 52 ≤ length file.now }
+    requires marks { AreMarks file.now marks.now }
     requires table { field file.now 4 32 + 40 * section_count file.now ≤ length file.now }
     requires within { i < section_count file.now }
     requires readable { IsReadable file.now i }
@@ -88,7 +75,7 @@ fn is_unnamed(file: &[u8], i: u32) -> bool
 {
     let symbols = section_header(file, i);
     let names = section_header(file, symbols.link);
-    let end = names_end(file, names.offset as usize, names.size as usize);
+    let end = names_end(file, marks, names.offset as usize, names.size as usize);
     for k in 0..symbols.size / 16 {
         if word(file, symbols.offset as usize + 16 * k as usize) as usize >= end {
             return true;
@@ -98,8 +85,9 @@ fn is_unnamed(file: &[u8], i: u32) -> bool
 }
 
 /// The symbol table of section `i` is not as it has to be.
-fn is_bad_table(file: &[u8], i: u32) -> bool
+fn is_bad_table(file: &[u8], marks: &[usize], i: u32) -> bool
     requires order { 52 ≤ length file.now }
+    requires marks { AreMarks file.now marks.now }
     requires table { field file.now 4 32 + 40 * section_count file.now ≤ length file.now }
     requires within { i < section_count file.now }
     ensures { MatchBool result (IsBadSymbols file.now i) (¬ IsBadSymbols file.now i) }
@@ -124,12 +112,13 @@ fn is_bad_table(file: &[u8], i: u32) -> bool
     if (file.len() as u64) < names.offset as u64 + names.size as u64 {
         return true;
     }
-    is_unnamed(file, i)
+    is_unnamed(file, marks, i)
 }
 
 /// Section `i` is a symbol table that is not as it has to be.
-fn is_bad_section(file: &[u8], i: u32) -> bool
+fn is_bad_section(file: &[u8], marks: &[usize], i: u32) -> bool
     requires order { 52 ≤ length file.now }
+    requires marks { AreMarks file.now marks.now }
     requires table { field file.now 4 32 + 40 * section_count file.now ≤ length file.now }
     requires within { i < section_count file.now }
     ensures { MatchBool result (((section file.now i).kind ≡ 2) × IsBadSymbols file.now i)
@@ -138,31 +127,45 @@ fn is_bad_section(file: &[u8], i: u32) -> bool
     if section_header(file, i).kind != SYMBOLS {
         return false;
     }
-    is_bad_table(file, i)
+    is_bad_table(file, marks, i)
 }
 
-/// The sections or a symbol table are not as they have to be.
-pub(crate) fn has_bad_symbols(file: &[u8]) -> bool
-    requires { 52 ≤ length file.now }
+/// A symbol table is not as it has to be, in a file with a table of sections.
+fn has_bad_section(file: &[u8], marks: &[usize]) -> bool
+    requires order { 52 ≤ length file.now }
+    requires marks { AreMarks file.now marks.now }
+    requires sections { HasSections file.now }
+    requires entry { field file.now 2 46 ≡ 40 }
+    requires table { field file.now 4 32 + 40 * section_count file.now ≤ length file.now }
     ensures { MatchBool result (FileFaultApplies file.now BadSymbolTable) (¬ FileFaultApplies file.now BadSymbolTable) }
 {
-    let count = half(file, 48);
-    let start = word(file, 32);
-    if start == 0 || count == 0 {
-        return false;
-    }
-    if half(file, 46) != 40 {
-        return true;
-    }
-    if (file.len() as u64) < start as u64 + 40 * count as u64 {
-        return true;
-    }
-    for i in 0..count as u32 {
-        if is_bad_section(file, i) {
+    for i in 0..half(file, 48) as u32 {
+        if is_bad_section(file, marks, i) {
             return true;
         }
     }
     false
+}
+
+/// The sections or a symbol table are not as they have to be. The error is want of memory.
+pub(crate) fn has_bad_symbols(alloc: Global, file: &[u8]) -> Result<bool, AllocError>
+    requires { 52 ≤ length file.now }
+    ensures { IfOk result (λ bad. MatchBool bad (FileFaultApplies file.now BadSymbolTable) (¬ FileFaultApplies file.now BadSymbolTable)) }
+{
+    let count = half(file, 48);
+    let start = word(file, 32);
+    if start == 0 || count == 0 {
+        return Ok(false);
+    }
+    if half(file, 46) != 40 {
+        return Ok(true);
+    }
+    if (file.len() as u64) < start as u64 + 40 * count as u64 {
+        return Ok(true);
+    }
+    let marks = nul_marks(alloc, file)?;
+    let bad = has_bad_section(file, &marks);
+    Ok(bad)
 }
 
 /// The bytes `name` stand in the file at `start`.
