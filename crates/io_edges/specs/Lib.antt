@@ -5,4 +5,3 @@ pub mod WriteFaults
 pub mod Shelves
 pub mod Sinks
 pub mod Takes
-

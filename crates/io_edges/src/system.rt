@@ -57,7 +57,10 @@ impl<'a, R: Files + AllocGlobal> FileShelf<'a, R> {
     {
         match self.last.take() {
             Some(last) if last.name.as_str() == name => Ok(last),
-            _ => match (File::open(self.files, name), String::from_str(self.files.alloc(), name)) {
+            _ => match (
+                File::open(self.files, name),
+                String::from_str(self.files.alloc(), name),
+            ) {
                 (Ok(file), Ok(name)) => Ok(NamedFile {
                     name,
                     placed: PlacedFile::new(file),
