@@ -4,13 +4,14 @@ use Rattle.std.specs.List.{AllWithin}
 use Rattle.std.specs.List.Sorted.{IsPermutation, IsNonDecreasingBy}
 use Rattle.std.proofs.lemmas.Bool.{cases_lt}
 use Rattle.std.proofs.lemmas.List.{get_or_default}
-use Rattle.std.proofs.lemmas.List.Sorted.{All-permutation, Contains-permutation}
+use Rattle.std.proofs.lemmas.List.Sorted.{All-permutation, Contains-permutation, length_permutation}
 use Rattle.notes_index.specs.Indexed.{IsNumbered, IsIndex, ArePlacesOf}
 
 -- sorted places are an index
 pub index_is : (places : List ℕ) (numbered index : List (ℕ × ℕ)) (n : ℕ) → n ≡ length places → IsNumbered places numbered n → IsPermutation numbered index
     → IsNonDecreasingBy (λ x. x.0) index → IsIndex places index
 index_is places numbered index n full is moved rising = record {
+  count = length_permutation numbered index moved ∙ is.count ∙ full;
   rising = rising;
   all = λ k w.
       let less : k < n = omega arith in

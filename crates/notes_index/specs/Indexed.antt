@@ -18,8 +18,9 @@ pub record IsNumbered (places : List ℕ) (numbered : List (ℕ × ℕ)) (n : �
   pub count : length numbered ≡ n
   pub each : (k : ℕ) (d : ℕ × ℕ) → k < n → slice_index_or numbered k d ≡ (slice_index places k, k)
 
--- each address with its place, by rising addresses, and nothing else
+-- each address with its place, once, by rising addresses, and nothing else
 pub record IsIndex (places : List ℕ) (index : List (ℕ × ℕ)) : Type 0 where
+  pub count : length index ≡ length places
   pub rising : IsNonDecreasingBy (λ x. x.0) index
   pub all : (k : ℕ) → k < length places → Contains index (slice_index places k, k)
   pub only : All (λ x. (x.1 < length places) × (x.0 ≡ slice_index places x.1)) index

@@ -84,6 +84,8 @@ pub fn group(index: &[(u32, usize)], at: u32) -> (usize, usize)
     ensures ordered { result.0 ≤ result.1 }
     ensures within { result.1 ≤ length index.now }
     ensures here { AllWithin (λ x. x.0 ≡ at) index.now result.0 result.1 }
+    ensures before { AllWithin (λ x. x.0 < at) index.now 0 result.0 }
+    ensures behind { AllWithin (λ x. at < x.0) index.now result.1 (length index.now) }
     ensures places { (places : List ℕ) → IsIndex places index.now → ArePlacesOf places index.now at result.0 result.1 }
 {
     (first_from(index, at), first_above(index, at))
