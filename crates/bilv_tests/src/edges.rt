@@ -1,10 +1,11 @@
 //! Files that are read whole, and text that is written whole, or how much of it was.
 use io_edges::{
     Failed, FileShelf, MemFile, MemShelf, MemSink, NeverFailShelf, NeverFailSink, OutSink,
-    ReadFault, Shelf, Sink, WriteFault, read_all, write_all,
+    PlacedFile, ReadFault, Shelf, Sink, WriteFault, read_all, write_all,
 };
 use std::alloc::{AllocError, Global};
 use std::fs;
+use std::io::{self, ErrorKind, Read, Seek, SeekFrom, Write};
 use std::test::Fail;
 
 fn file(alloc: Global, name: &str, bytes: &[u8]) -> Result<MemFile, AllocError> {
@@ -21,7 +22,7 @@ fn files(alloc: Global) -> Result<Vec<MemFile>, AllocError> {
     files.push(file(alloc, "short", b"hidden")?)?;
     files.push(MemFile {
         name: String::from_str(alloc, "long")?,
-        bytes: vec![in alloc; 9u8; 5000]?,
+        bytes: vec![in alloc; 9u8; 70000]?,
     })?;
     Ok(files)
 }
@@ -34,8 +35,8 @@ fn reads_files_whole(rt: HostRuntime) -> Result<(), Fail> {
         ("short", 6, Err(ReadFault::TooLarge)),
         ("short", 0, Err(ReadFault::TooLarge)),
         ("short", u64::MAX, Ok(7)),
-        ("long", 5000, Ok(5000)),
-        ("long", 4999, Err(ReadFault::TooLarge)),
+        ("long", 70000, Ok(70000)),
+        ("long", 69999, Err(ReadFault::TooLarge)),
         ("none", 9, Err(ReadFault::Failed)),
     ];
     for (name, limit, want) in table {
@@ -55,10 +56,10 @@ fn reads_files_whole(rt: HostRuntime) -> Result<(), Fail> {
 fn counts_failed_reads(rt: HostRuntime) -> Result<(), Fail> {
     let alloc = rt.alloc();
     let mut shelf = MemShelf::new(alloc, files(alloc)?, vec![in alloc; 1u64]?)?;
-    let read = read_all(alloc, &mut shelf, "long", 5000).map(|bytes| bytes.len());
+    let read = read_all(alloc, &mut shelf, "long", 70000).map(|bytes| bytes.len());
     assert_eq!(rt; read, Err(ReadFault::Failed));
     assert_eq!(rt; shelf.read("none", 0, &mut []), Err(Failed));
-    assert_eq!(rt; read_all(alloc, &mut shelf, "long", 5000)?.len(), 5000);
+    assert_eq!(rt; read_all(alloc, &mut shelf, "long", 70000)?.len(), 70000);
     for (name, want) in [("long", 1), ("short", 0), ("none", 1), ("other", 1)] {
         assert_eq!(rt; shelf.fault_count(name), want, "{name}");
     }
@@ -90,18 +91,133 @@ fn writes_all_or_says_how_much(rt: HostRuntime) -> Result<(), Fail> {
 
 #[test]
 fn reads_the_file_system(rt: HostRuntime) -> Result<(), Fail> {
-    let name = "io_edges_test.txt";
+    let (name, other) = ("io_edges_test.txt", "io_edges_other.txt");
     fs::write(&rt, name, "seven 7")?;
+    fs::write(&rt, other, "8 eight")?;
     let mut shelf = FileShelf::new(&rt);
     let mut piece = [0u8; 3];
-    assert_eq!(rt; shelf.read(name, 2, &mut piece), Ok(3));
-    assert_eq!(rt; piece.as_slice(), b"ven".as_slice());
-    assert_eq!(rt; shelf.read(name, 7, &mut piece), Ok(0));
+    let reads = [
+        (name, 2, Ok(3), "ven"),
+        (name, 5, Ok(2), " 7n"),
+        (other, 5, Ok(2), "htn"),
+        (name, 0, Ok(3), "sev"),
+        (name, 7, Ok(0), "sev"),
+        (name, 7, Ok(0), "sev"),
+        (name, 1, Ok(3), "eve"),
+    ];
+    for (name, at, want, text) in reads {
+        assert_eq!(rt; shelf.read(name, at, &mut piece), want, "{name} at {at}");
+        assert_eq!(rt; piece.as_slice(), text.as_bytes(), "{name} at {at}");
+    }
     assert_eq!(rt; read_all(rt.alloc(), &mut shelf, name, 7)?.len(), 7);
     assert_eq!(rt; shelf.fault_count(), 0);
     fs::remove_file(&rt, name)?;
-    assert_eq!(rt; shelf.read(name, 0, &mut piece), Err(Failed));
+    fs::remove_file(&rt, other)?;
+    assert_eq!(rt; shelf.read(other, 0, &mut piece), Err(Failed));
     assert_eq!(rt; shelf.fault_count(), 1);
+    Ok(())
+}
+
+/// Bytes that are read and written in calls numbered from 0, of which one fails. A write takes three bytes at most.
+#[derive(Drop)]
+struct Flaky {
+    at: usize,
+    calls: usize,
+    failing: usize,
+}
+
+impl Flaky {
+    /// Counts a call, and fails at the chosen one.
+    fn call(&mut self) -> io::Result<()> {
+        let fails = self.calls == self.failing;
+        self.calls = self.calls.saturating_add(1);
+        if fails {
+            return Err(io::Error::from(ErrorKind::Other));
+        }
+        Ok(())
+    }
+}
+
+impl Read for Flaky {
+    fn read(&mut self, into: &mut [u8]) -> io::Result<usize> {
+        self.call()?;
+        let text = b"seven 7";
+        let rest = &text[self.at.min(7)..];
+        let count = rest.len().min(into.len());
+        into[..count].copy_from_slice(&rest[..count]);
+        self.at = self.at.saturating_add(count);
+        Ok(count)
+    }
+}
+
+impl Seek for Flaky {
+    fn seek(&mut self, to: SeekFrom) -> io::Result<u64> {
+        self.call()?;
+        match to {
+            SeekFrom::Start(at) => {
+                self.at = at as usize;
+                Ok(at)
+            }
+            _ => Err(io::Error::from(ErrorKind::Unsupported)),
+        }
+    }
+}
+
+impl Write for Flaky {
+    fn write(&mut self, bytes: &[u8]) -> io::Result<usize> {
+        self.call()?;
+        Ok(bytes.len().min(3))
+    }
+
+    fn flush(&mut self) -> io::Result<()> {
+        Ok(())
+    }
+}
+
+#[test]
+fn each_call_on_a_file_may_fail(rt: HostRuntime) -> Result<(), Fail> {
+    let failed = Err(Failed);
+    // What the reads at 0, at 5 and at 7 give. The calls are a read, a seek and a read, and a read that goes on; after one that failed a read seeks.
+    let table = [
+        (0, [failed, Ok(2), Ok(0)]),
+        (1, [Ok(3), failed, Ok(0)]),
+        (2, [Ok(3), failed, Ok(0)]),
+        (3, [Ok(3), Ok(2), failed]),
+        (9, [Ok(3), Ok(2), Ok(0)]),
+    ];
+    for (failing, want) in table {
+        let mut file = PlacedFile::new(Flaky {
+            at: 0,
+            calls: 0,
+            failing,
+        });
+        let mut piece = [0u8; 3];
+        for (at, want) in [(0, want[0]), (5, want[1]), (7, want[2])] {
+            assert_eq!(rt;
+                file.read_at(at, &mut piece),
+                want,
+                "call {failing}, at {at}"
+            );
+        }
+    }
+    Ok(())
+}
+
+#[test]
+fn each_call_on_a_writer_may_fail(rt: HostRuntime) -> Result<(), Fail> {
+    let table = [
+        (0, Err(WriteFault::Failed { written: 0 })),
+        (2, Err(WriteFault::Failed { written: 6 })),
+        (3, Ok(())),
+    ];
+    for (failing, want) in table {
+        let mut sink = OutSink::new(Flaky {
+            at: 0,
+            calls: 0,
+            failing,
+        });
+        assert_eq!(rt; write_all(&mut sink, b"seven 7"), want, "call {failing}");
+    }
     Ok(())
 }
 

@@ -4,4 +4,6 @@
 #[cfg(test)]
 mod edges;
 #[cfg(test)]
+mod error_texts;
+#[cfg(test)]
 mod lines;

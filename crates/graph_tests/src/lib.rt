@@ -5,6 +5,8 @@
 #![tactic(auto)]
 
 #[cfg(test)]
+mod error_texts;
+#[cfg(test)]
 mod graph_texts;
 #[cfg(test)]
 mod liveness;

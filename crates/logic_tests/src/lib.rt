@@ -6,6 +6,8 @@
 #[cfg(test)]
 mod clauses;
 #[cfg(test)]
+mod error_texts;
+#[cfg(test)]
 mod evaluation;
 #[cfg(test)]
 mod memory;

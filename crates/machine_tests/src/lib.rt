@@ -6,6 +6,8 @@
 #[cfg(test)]
 mod decoding;
 #[cfg(test)]
+mod error_texts;
+#[cfg(test)]
 mod images;
 #[cfg(test)]
 mod lift_texts;
