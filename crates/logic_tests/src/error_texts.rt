@@ -8,7 +8,10 @@ use std::alloc::{AllocError, Global};
 use std::fmt::Display;
 
 /// The first text that is another than the one beside its error.
-fn other_text<E: Display>(alloc: Global, cases: &[(E, &str)]) -> Result<Option<String>, AllocError> {
+fn other_text<E: Display>(
+    alloc: Global,
+    cases: &[(E, &str)],
+) -> Result<Option<String>, AllocError> {
     for case in cases {
         let text = format!(in alloc; "{}", case.0)?;
         if text.as_str() != case.1 {
@@ -21,9 +24,14 @@ fn other_text<E: Display>(alloc: Global, cases: &[(E, &str)]) -> Result<Option<S
 #[test]
 fn errors_are_printed(rt: HostRuntime) -> Result<(), AllocError> {
     let alloc = rt.alloc();
-    let typing = [
-        (TypeFault { place: 0, need: Need::Memory, found: BilType::Memory }, "a rule of typing is broken"),
-    ];
+    let typing = [(
+        TypeFault {
+            place: 0,
+            need: Need::Memory,
+            found: BilType::Memory,
+        },
+        "a rule of typing is broken",
+    )];
     assert_eq!(rt; other_text(alloc, &typing)?, None);
     let evaluation = [
         (EvalFault::OutOfTurns, "a loop was out of turns"),
@@ -39,7 +47,13 @@ fn errors_are_printed(rt: HostRuntime) -> Result<(), AllocError> {
     ];
     assert_eq!(rt; other_text(alloc, &lines)?, None);
     let clauses = [
-        (CnfError::Refused { line: 7, fault: CnfFault::Count }, "line 7 K4 Count"),
+        (
+            CnfError::Refused {
+                line: 7,
+                fault: CnfFault::Count,
+            },
+            "line 7 K4 Count",
+        ),
         (CnfError::Memory, "memory"),
     ];
     assert_eq!(rt; other_text(alloc, &clauses)?, None);

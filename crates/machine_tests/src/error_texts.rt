@@ -6,7 +6,10 @@ use std::alloc::{AllocError, Global};
 use std::fmt::Display;
 
 /// The first text that is another than the one beside its error.
-fn other_text<E: Display>(alloc: Global, cases: &[(E, &str)]) -> Result<Option<String>, AllocError> {
+fn other_text<E: Display>(
+    alloc: Global,
+    cases: &[(E, &str)],
+) -> Result<Option<String>, AllocError> {
     for case in cases {
         let text = format!(in alloc; "{}", case.0)?;
         if text.as_str() != case.1 {
@@ -54,12 +57,22 @@ fn errors_are_printed(rt: HostRuntime) -> Result<(), AllocError> {
         (FaultKind::Entry, "N11 Entry"),
     ];
     assert_eq!(rt; other_text(alloc, &kinds)?, None);
-    let lines = [
-        (NoteFault { line: 3, kind: FaultKind::Name }, "line 3 N8 Name"),
-    ];
+    let lines = [(
+        NoteFault {
+            line: 3,
+            kind: FaultKind::Name,
+        },
+        "line 3 N8 Name",
+    )];
     assert_eq!(rt; other_text(alloc, &lines)?, None);
     let notes = [
-        (NotesError::Fault(NoteFault { line: 3, kind: FaultKind::Name }), "line 3 N8 Name"),
+        (
+            NotesError::Fault(NoteFault {
+                line: 3,
+                kind: FaultKind::Name,
+            }),
+            "line 3 N8 Name",
+        ),
         (NotesError::Memory, "out of memory"),
     ];
     assert_eq!(rt; other_text(alloc, &notes)?, None);
@@ -72,7 +85,14 @@ fn errors_are_printed(rt: HostRuntime) -> Result<(), AllocError> {
     ];
     assert_eq!(rt; other_text(alloc, &state_lines)?, None);
     let states = [
-        (ParseFault::Refused { line: 34, kind: StateFault::Byte, bytes: Vec::new(alloc) }, "line 34: S3 Byte"),
+        (
+            ParseFault::Refused {
+                line: 34,
+                kind: StateFault::Byte,
+                bytes: Vec::new(alloc),
+            },
+            "line 34: S3 Byte",
+        ),
         (ParseFault::Memory, "out of memory"),
     ];
     assert_eq!(rt; other_text(alloc, &states)?, None);
