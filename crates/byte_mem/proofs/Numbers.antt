@@ -1,23 +1,47 @@
 -- The bytes of numbers, and numbers of bytes.
-use Rattle.std.proofs.Common.{◌≡◌, ℕ, zero, suc, ◌+◌, ◌-◌, ◌*◌, ◌/◌, ◌%◌, ◌≤◌, ◌<◌, ◌^◌, List, length, get_or, take, drop, length-drop, refl, sym, ap, ◌∙◌, arith, lit<}
-use Rattle.std.specs.Prelude.{nat_lt, if◌then◌else◌}
+use Rattle.std.proofs.Common.{◌≡◌, ◌≢◌, inl, inr, ℕ, zero, suc, ◌+◌, ◌-◌, ◌*◌, ◌/◌, ◌%◌, ◌≤◌, ◌<◌, ◌^◌, List, length, get_or, take, drop, length-drop, refl, sym, ap, ◌∙◌, arith, lit<}
+use Rattle.std.specs.Prelude.{nat_lt, ◌==◌, true, false, if◌then◌else◌}
+use Rattle.std.proofs.lemmas.Bool.{ne_eqb, eq-eqb, cases_eq}
 use Rattle.std.specs.Int.{byte_at, bytes_low_first, bytes_high_first, to_le_bytes, to_be_bytes, w64}
 use Rattle.std.proofs.lemmas.Bool.Decides.{nat_tests}
 use Rattle.std.proofs.lemmas.List.{get_or-take, get_or-drop, length-take-le, length-take}
 use Rattle.std.proofs.Math.Nat.{div-one, pow-suc, pow-le-pow_right}
 use Rattle.std.proofs.lemmas.Nat.{pow-add, field_of, mod-pow-add, mod_low}
 use Rattle.std.proofs.Math.Path.{fun_ext}
-use Rattle.bilv_spec.specs.Words.{sub}
-use Rattle.bilv_spec.specs.Memory.{Endian, Little, Big, Memory, place, byte_of, memory_of, store, little}
-use Rattle.byte_mem.specs.Runs.{PutsWrapping}
+use Rattle.bilv_spec.specs.Words.{add, sub}
+use Rattle.bilv_spec.specs.Memory.{Endian, Little, Big, Memory, place, byte_of, byte_in, memory_of, store, little}
+use Rattle.byte_mem.specs.Puts.{IsPut, PutsTo}
 
 -- what is asked for where the test holds is asked for there alone
 agree : (i n a b m : ℕ) → (i < n → a ≡ b) → (if nat_lt i n then a else m) ≡ (if nat_lt i n then b else m)
 agree i n a b m h = grind (arith, nat_tests)
 
+-- nothing is written yet, and one more byte
+pub none_put : (old : List (ℕ × ℕ)) (first : ℕ) (bytes : List ℕ) → PutsTo old first bytes 0 old
+none_put old first bytes = record { each = λ x below. let none : nat_lt (sub 32 x first) 0 ≡ false = grind (arith, nat_tests) in rw none refl }
+
+pub more_put : (old mid new : List (ℕ × ℕ)) (first i byte : ℕ) (bytes : List ℕ) → first < 2 ^ 32 → i < 2 ^ 32 → byte ≡ get_or bytes i 0 → PutsTo old first bytes i mid →
+    IsPut mid (add 32 first i) byte new → PutsTo old first bytes (i + 1) new
+more_put old mid new first i byte bytes low few is before put = record {
+  each = λ x below.
+      put x ∙ elim (cases_eq x (add 32 first i)) as
+      (λ _. (if x == add 32 first i then byte else byte_in mid x) ≡ (if nat_lt (sub 32 x first) (i + 1) then get_or bytes (sub 32 x first) 0 else byte_in old x)) [
+        | inl at ↦
+            let t : (x == add 32 first i) ≡ true = eq-eqb x (add 32 first i) at in
+            let place : sub 32 x first ≡ i = omega arith in
+            let within : nat_lt (sub 32 x first) (i + 1) ≡ true = grind (arith, nat_tests) in
+            rw (t, within) (is ∙ ap (λ k. get_or bytes k 0) (sym place))
+        | inr ne ↦
+            let f : (x == add 32 first i) ≡ false = ne_eqb x (add 32 first i) ne in
+            let other : sub 32 x first ≢ i = (λ h. ne (omega arith)) in
+            let same : nat_lt (sub 32 x first) (i + 1) ≡ nat_lt (sub 32 x first) i = grind (arith, nat_tests) in
+            rw (f, same) (before.each x below)
+      ];
+}
+
 -- the memory after a write of the bytes of a number
 pub stores : (e : Endian) (n : ℕ) (old : List (ℕ × ℕ)) (first v : ℕ) (bytes : List ℕ) (new : List (ℕ × ℕ)) → length bytes ≡ n →
-    ((i : ℕ) → i < n → get_or bytes i 0 ≡ byte_of e n v i) → PutsWrapping old first bytes new → memory_of new ≡ store e n (memory_of old) first v
+    ((i : ℕ) → i < n → get_or bytes i 0 ≡ byte_of e n v i) → PutsTo old first bytes (length bytes) new → memory_of new ≡ store e n (memory_of old) first v
 stores e n old first v bytes new len each p = fun_ext (λ x.
     let at : sub 32 (x % 2 ^ 32) first ≡ sub 32 x first = omega arith in
     let i = sub 32 x first in
@@ -72,7 +96,7 @@ lower_below number byte n i some few small h =
 
 -- the bytes of a number in 8 bytes, the lowest first and the highest first
 pub stores_low : (n : ℕ) (old : List (ℕ × ℕ)) (first v : ℕ) (bytes : List ℕ) (new : List (ℕ × ℕ)) → n ≤ 8 → bytes ≡ to_le_bytes w64 v →
-    PutsWrapping old first (take n bytes) new → memory_of new ≡ store Little n (memory_of old) first v
+    PutsTo old first (take n bytes) (length (take n bytes)) new → memory_of new ≡ store Little n (memory_of old) first v
 stores_low n old first v bytes new few is p =
     stores Little n old first v (take n bytes) new (length-take-le n bytes (let len = ap length is in omega arith))
     (λ i l. get_or-take n bytes i 0 l ∙ ap (λ b. get_or b i 0) is ∙ low_first 0 i 8 v (omega arith)
@@ -80,7 +104,7 @@ stores_low n old first v bytes new few is p =
     p
 
 pub stores_high : (n : ℕ) (old : List (ℕ × ℕ)) (first v : ℕ) (bytes : List ℕ) (new : List (ℕ × ℕ)) → n ≤ 8 → bytes ≡ to_be_bytes w64 v →
-    PutsWrapping old first (take (8 - (8 - n)) (drop (8 - n) bytes)) new → memory_of new ≡ store Big n (memory_of old) first v
+    PutsTo old first (take (8 - (8 - n)) (drop (8 - n) bytes)) (length (take (8 - (8 - n)) (drop (8 - n) bytes))) new → memory_of new ≡ store Big n (memory_of old) first v
 stores_high n old first v bytes new few is p =
     let len = ap length is in
     stores Big n old first v _ new

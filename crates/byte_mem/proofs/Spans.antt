@@ -1,13 +1,13 @@
 -- Entries whose addresses rise from one address on and stay below another.
-use Rattle.std.proofs.Common.{◌≡◌, ◌≢◌, ℕ, zero, suc, ◌+◌, ◌-◌, ◌≤◌, ◌<◌, ◌^◌, List, [], ◌∷◌, ◌++◌, length, get_or, take, drop, true, false, refl, sym, ap, ◌∙◌, subst, arith, inl, inr}
+use Rattle.std.proofs.Common.{◌≡◌, ◌≢◌, ℕ, zero, suc, ◌+◌, ◌≤◌, ◌<◌, ◌^◌, List, [], ◌∷◌, ◌++◌, length, get_or, take, drop, true, false, refl, sym, ap, ◌∙◌, subst, arith, inl, inr}
 use Rattle.std.specs.Prelude.{◌==◌, if◌then◌else◌}
-use Rattle.std.proofs.lemmas.Bool.{ne_eqb, eq-eqb}
+use Rattle.std.proofs.lemmas.Bool.{ne_eqb, eq-eqb, cases_eq}
 use Rattle.std.proofs.Math.Nat.{eq-or-lt_of_le}
 use Rattle.std.proofs.Math.ListN.{take-append-drop}
 use Rattle.bilv_spec.specs.Memory.{byte_in}
 use Rattle.byte_mem.proofs.Places.{side}
 use Rattle.byte_mem.specs.Kept.{IsKept, IsRising}
-use Rattle.byte_mem.specs.Runs.{run_of, Puts, AreAround}
+use Rattle.byte_mem.specs.Puts.{AreAround, IsMemory, IsPut, entries_at}
 
 -- addresses from low on and below high, rising, with bytes that are not 0
 abbrev pub Spans : ℕ → ℕ → List (ℕ × ℕ) → Type 0
@@ -114,42 +114,24 @@ small_of low high (e ∷ es) s (suc i) d w = small_of (e.0 + 1) high es s.2 i d 
 pub kept_of : (es : List (ℕ × ℕ)) → Spans 0 (2 ^ 32) es → IsKept es
 kept_of es s = record { rising = rising_of 0 (2 ^ 32) es s; nonzero = nonzero_of 0 (2 ^ 32) es s; small = small_of 0 (2 ^ 32) es s }
 
-pub run_zero : (a b : ℕ) (bs : List ℕ) → b ≡ 0 → run_of a (b ∷ bs) ≡ run_of (a + 1) bs
-run_zero a b bs e = rw e refl
-
-pub run_some : (a b : ℕ) (bs : List ℕ) → b ≢ 0 → run_of a (b ∷ bs) ≡ (a, b) ∷ run_of (a + 1) bs
-run_some a b bs ne = rw (ne_eqb b 0 ne) refl
-
 some : (b : ℕ) → suc b ≢ 0
 some b e = absurd (omega arith)
 
-pub run_spans : (a : ℕ) (bs : List ℕ) → Spans a (a + length bs) (run_of a bs)
-run_spans a [] = omega arith
-run_spans a (zero ∷ bs) = from_lower (a + 1) a _ _ (omega arith) (subst (λ h. Spans (a + 1) h (run_of (a + 1) bs)) (omega arith) (run_spans (a + 1) bs))
-run_spans a (suc b ∷ bs) =
-    subst (Spans a (a + length (suc b ∷ bs))) (sym (run_some a (suc b) bs (some b)))
-    (omega arith, omega arith, subst (λ h. Spans (a + 1) h (run_of (a + 1) bs)) (omega arith) (run_spans (a + 1) bs))
+pub no_entry : (a b : ℕ) → b ≡ 0 → entries_at a b ≡ []
+no_entry a b e = rw e refl
 
-next_of : (x a : ℕ) → a < x → x - a ≡ suc (x - (a + 1))
-next_of x a l = omega arith
+pub one_entry : (a b : ℕ) → b ≢ 0 → entries_at a b ≡ (a, b) ∷ []
+one_entry a b ne = rw (ne_eqb b 0 ne) refl
 
-pub run_reads : (a x : ℕ) (bs : List ℕ) → a ≤ x → byte_in (run_of a bs) x ≡ get_or bs (x - a) 0
-run_reads a x [] l = refl
-run_reads a x (zero ∷ bs) l = elim (eq-or-lt_of_le l) [
-  | inl e ↦
-      let z : x - a ≡ 0 = omega arith in
-      before (a + 1) (a + 1 + length bs) (run_of (a + 1) bs) x (run_spans (a + 1) bs) (omega arith) ∙ rw z refl
-  | inr h ↦ run_reads (a + 1) x bs (omega arith) ∙ rw (next_of x a h) refl
-]
-run_reads a x (suc b ∷ bs) l = ap (λ r. byte_in r x) (run_some a (suc b) bs (some b)) ∙ elim (eq-or-lt_of_le l) [
-  | inl e ↦
-      let z : x - a ≡ 0 = omega arith in
-      let t : (x == a) ≡ true = eq-eqb x a (sym e) in
-      rw (t, z) refl
-  | inr h ↦
-      let f : (x == a) ≡ false = ne_eqb x a (λ q. absurd (omega arith)) in
-      rw (f, next_of x a h) (run_reads (a + 1) x bs (omega arith))
-]
+at_spans : (a b : ℕ) → Spans a (a + 1) (entries_at a b)
+at_spans a zero = omega arith
+at_spans a (suc b) = subst (Spans a (a + 1)) (sym (one_entry a (suc b) (some b))) (omega arith, omega arith, omega arith)
+
+at_reads : (a b x : ℕ) → x ≡ a → byte_in (entries_at a b) x ≡ b
+at_reads a zero x e = refl
+at_reads a (suc b) x e =
+    let t : (x == a) ≡ true = eq-eqb x a e in
+    ap (λ r. byte_in r x) (one_entry a (suc b) (some b)) ∙ rw t refl
 
 -- entries with a run in the place of those at its addresses
 pub replaced : (es run : List (ℕ × ℕ)) (low high a b : ℕ) → Spans 0 (2 ^ 32) es → low ≤ length es → high ≤ length es → a ≤ b → b ≤ 2 ^ 32 →
@@ -202,34 +184,74 @@ byte_none (x ∷ es) a none =
     let f : (a == x.0) ≡ false = ne_eqb a x.0 (λ q. none 0 (0, 0) (omega arith) (sym q)) in
     rw f (byte_none es a (λ k d h. none (suc k) d (omega arith)))
 
-pub run_length : (a c : ℕ) (bs : List ℕ) → length (run_of a bs) ≡ length (run_of c bs)
-run_length a c [] = refl
-run_length a c (zero ∷ bs) = run_length (a + 1) (c + 1) bs
-run_length a c (suc b ∷ bs) =
-    ap length (run_some a (suc b) bs (some b)) ∙ ap suc (run_length (a + 1) (c + 1) bs) ∙ sym (ap length (run_some c (suc b) bs (some b)))
+module _ (es : List (ℕ × ℕ)) (a b : ℕ) (new : List (ℕ × ℕ)) (low high : ℕ) (memory : IsMemory es) (w : AreAround es a low high) (under : a < 2 ^ 32) (fits : b < 256)
+    (e : new ≡ take low es ++ (entries_at a b ++ drop high es)) where
+  s : Spans 0 (2 ^ 32) es
+  s = spans_of 0 es memory.kept (omega arith) (λ k d h. omega arith)
 
-pub run_short : (a : ℕ) (bs : List ℕ) → length (run_of a bs) ≤ length bs
-run_short a [] = omega arith
-run_short a (zero ∷ bs) = let h = run_short (a + 1) bs in omega arith
-run_short a (suc b ∷ bs) = let h = run_short (a + 1) bs in let e = ap length (run_some a (suc b) bs (some b)) in omega arith
+  w1 : low ≤ length es
+  w1 = let o = w.ordered in let i = w.within in omega arith
 
--- the replaced entries
-pub puts : (es : List (ℕ × ℕ)) (bytes : List ℕ) (new : List (ℕ × ℕ)) (low high a : ℕ) → IsKept es → AreAround es a (length bytes) low high →
-    a + length bytes ≤ 2 ^ 32 → new ≡ take low es ++ (run_of a bytes ++ drop high es) → Puts es a bytes new × IsKept new
-puts es bytes new low high a kept w top e =
-    let s = spans_of 0 es kept (omega arith) (λ k d h. omega arith) in
-    let run = run_of a bytes in
-    let r = run_spans a bytes in
-    let b = a + length bytes in
-    let up : a ≤ b = omega arith in
-    let w1 : low ≤ length es = omega arith in (
-      record {
-        before = λ x l. ap (λ n. byte_in n x) e ∙ replaced_below es run low high a b x s w1 w.within up top w.before_low w.from_low w.from_high r l;
-        within = λ x l h. ap (λ n. byte_in n x) e ∙ replaced_within es run low high a b x s w1 top w.before_low w.from_high r l h ∙ run_reads a x bytes l;
-        behind = λ x l. ap (λ n. byte_in n x) e ∙ replaced_above es run low high a b x s w1 w.within up w.before_low w.before_high r l;
-      },
-      rw e (kept_of _ (replaced es run low high a b s w1 w.within up top w.before_low w.from_low w.before_high w.from_high r)),
-    )
+  top : a + 1 ≤ 2 ^ 32
+  top = omega arith
+
+  up : a ≤ a + 1
+  up = omega arith
+
+  reads : (x : ℕ) → x ≢ a → byte_in new x ≡ byte_in es x
+  reads x ne = ap (λ n. byte_in n x) e ∙ elim (side x a) [
+    | inl le ↦
+        replaced_below es (entries_at a b) low high a (a + 1) x s w1 w.within up top w.before_low w.from_low w.from_high (at_spans a b)
+        (elim (eq-or-lt_of_le le) [ inl is ↦ absurd (ne is) | inr l ↦ l ])
+    | inr l ↦ replaced_above es (entries_at a b) low high a (a + 1) x s w1 w.within up w.before_low w.before_high (at_spans a b) (omega arith)
+  ]
+
+  -- the entries with a byte written
+  pub written : IsPut es a b new
+  written x = elim (cases_eq x a) as (λ _. byte_in new x ≡ (if x == a then b else byte_in es x)) [
+    | inl is ↦
+        let t : (x == a) ≡ true = eq-eqb x a is in
+        rw t (ap (λ n. byte_in n x) e ∙ replaced_within es (entries_at a b) low high a (a + 1) x s w1 top w.before_low w.from_high (at_spans a b) (omega arith) (omega arith) ∙ at_reads a b x is)
+    | inr ne ↦ let f : (x == a) ≡ false = ne_eqb x a ne in rw f (reads x ne)
+  ]
+
+  pub still : IsMemory new
+  still = record {
+    kept = rw e (kept_of _ (replaced es (entries_at a b) low high a (a + 1) s w1 w.within up top w.before_low w.from_low w.before_high w.from_high (at_spans a b)));
+    fits = λ x. elim (cases_eq x a) as (λ _. byte_in new x < 256) [
+      | inl is ↦ let t : (x == a) ≡ true = eq-eqb x a is in let h = rw t at (written x) in omega arith
+      | inr ne ↦ let h = reads x ne in let f = memory.fits x in omega arith
+    ];
+  }
+
+-- an entry put in, put in the place of another, and taken out
+pub put_in : (es : List (ℕ × ℕ)) (i a b : ℕ) (new : List (ℕ × ℕ)) → IsMemory es → AreAround es a i i → a < 2 ^ 32 → b < 256 → b ≢ 0 →
+    new ≡ take i es ++ (a, b) ∷ drop i es → IsPut es a b new × IsMemory new
+put_in es i a b new memory w under fits ne e =
+    let f : new ≡ take i es ++ (entries_at a b ++ drop i es) = e ∙ ap (λ l. take i es ++ (l ++ drop i es)) (sym (one_entry a b ne)) in
+    (written es a b new i i memory w under fits f, still es a b new i i memory w under fits f)
+
+pub put_over : (es : List (ℕ × ℕ)) (i a b : ℕ) (new : List (ℕ × ℕ)) → IsMemory es → AreAround es a i (i + 1) → a < 2 ^ 32 → b < 256 → b ≢ 0 →
+    new ≡ take i es ++ (a, b) ∷ drop (i + 1) es → IsPut es a b new × IsMemory new
+put_over es i a b new memory w under fits ne e =
+    let f : new ≡ take i es ++ (entries_at a b ++ drop (i + 1) es) = e ∙ ap (λ l. take i es ++ (l ++ drop (i + 1) es)) (sym (one_entry a b ne)) in
+    (written es a b new i (i + 1) memory w under fits f, still es a b new i (i + 1) memory w under fits f)
+
+pub taken_out : (es : List (ℕ × ℕ)) (i a b : ℕ) (new : List (ℕ × ℕ)) → IsMemory es → AreAround es a i (i + 1) → a < 2 ^ 32 → b ≡ 0 →
+    new ≡ take i es ++ drop (i + 1) es → IsPut es a b new × IsMemory new
+taken_out es i a b new memory w under nil e =
+    let f : new ≡ take i es ++ (entries_at a b ++ drop (i + 1) es) = e ∙ ap (λ l. take i es ++ (l ++ drop (i + 1) es)) (sym (no_entry a b nil)) in
+    let fits : b < 256 = omega arith in
+    (written es a b new i (i + 1) memory w under fits f, still es a b new i (i + 1) memory w under fits f)
+
+-- a 0 where there is no entry
+pub put_nothing : (es : List (ℕ × ℕ)) (a b : ℕ) → b ≡ 0 → ((k : ℕ) (d : ℕ × ℕ) → k < length es → (get_or es k d).0 ≢ a) → IsPut es a b es
+put_nothing es a b nil none x = elim (cases_eq x a) as (λ _. byte_in es x ≡ (if x == a then b else byte_in es x)) [
+  | inl is ↦
+      let t : (x == a) ≡ true = eq-eqb x a is in
+      rw t (ap (byte_in es) is ∙ byte_none es a none ∙ sym nil)
+  | inr ne ↦ let f : (x == a) ≡ false = ne_eqb x a ne in rw f refl
+]
 
 -- an entry whose address the other entries do not have
 alone : (low : ℕ) (e : ℕ × ℕ) (es other : List (ℕ × ℕ)) → Spans low (2 ^ 32) (e ∷ es) → Spans (e.0 + 1) (2 ^ 32) other →

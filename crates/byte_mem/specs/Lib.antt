@@ -1,4 +1,5 @@
+pub mod Gaps
 pub mod Kept
 pub mod Laws
-pub mod Runs
+pub mod Puts
 pub mod Views

@@ -1,44 +1,51 @@
 //! A memory that keeps the bytes that are not 0.
-ghost use Rattle.std.specs.Prelude.{◌≡◌, ℕ, ◌≤◌, ◌<◌, ◌+◌, ◌-◌, ◌*◌, ◌^◌, ◌++◌, [], length, get_or, take, drop, vec_len, vec_capacity, OnOk, OnErr, IfOk};
+ghost use Rattle.std.specs.Prelude.{◌≡◌, ℕ, ◌≤◌, ◌<◌, ◌+◌, ◌*◌, ◌^◌, true, false, [], length, get_or, OnOk, OnErr, IfOk};
 ghost use Rattle.bilv_spec.specs.Memory as memory;
 ghost use Rattle.bilv_spec.specs.Memory.{byte_in};
 ghost use Rattle.bilv_spec.specs.Words.{add};
+ghost use Rattle.byte_mem.specs.Gaps.{entries_of, HasRoom, IsStored};
 ghost use Rattle.byte_mem.specs.Kept.{Contents, IsKept, IsRising};
 ghost use Rattle.byte_mem.specs.Laws.{OneList};
-ghost use Rattle.byte_mem.specs.Runs.{run_of, Puts, PutsWrapping, AreAround};
+ghost use Rattle.byte_mem.specs.Puts.{IsAt, IsMemory, IsPut, PutsTo};
 ghost use Rattle.byte_mem.specs.Views.{endian_of};
 
 use crate::Endian;
+use crate::gapped::{Gapped, copied, count, entry, insert, listed, make_room, remove, replace};
 use bv_word::Word;
 use std::alloc::{AllocError, Global};
 use std::marker::Model;
 
-/// A byte at each address of 32 bits. Bytes that were never stored are 0.
+/// A byte at each address of 32 bits. Bytes that were never stored are 0. A store moves the gap from the place of the one before, so that stores that go on
+/// upwards or downwards move few entries; one that changes a byte that is not 0 into another moves none.
 #[derive(Drop)]
 pub struct Bytes32 {
-    entries: Vec<(u32, u8)>,
+    entries: Gapped,
+    /// How many more entries fit in.
+    room: usize,
 }
 
 impl Model for Bytes32 {
     ghost Value = { Contents };
 
-    ghost view = { λ s. record { entries = s.entries.items; spare = vec_capacity s.entries - vec_len s.entries } };
+    ghost view = { λ s. record { entries = entries_of s.entries; spare = s.room } };
 
-    ghost invariant = { λ s. IsKept s.entries.items };
+    ghost invariant = { λ s. IsStored s.entries s.room };
 }
 
 /// The place of the first entry whose address is not below this one.
-fn place(entries: &[(u32, u8)], address: u64) -> usize
-    requires { IsRising entries.now }
-    ensures within { result ≤ length entries.now }
-    ensures below { (i : ℕ) (d : ℕ × ℕ) → i < result → (get_or entries.now i d).0 < address }
-    ensures from { (i : ℕ) (d : ℕ × ℕ) → result ≤ i → i < length entries.now → address ≤ (get_or entries.now i d).0 }
+fn place(g: &Gapped, address: u32) -> usize
+    requires room { HasRoom g.now 0 }
+    requires rising { IsRising (entries_of g.now) }
+    ensures within { result ≤ length (entries_of g.now) }
+    ensures below { (i : ℕ) (d : ℕ × ℕ) → i < result → (get_or (entries_of g.now) i d).0 < address }
+    ensures from { (i : ℕ) (d : ℕ × ℕ) → result ≤ i → i < length (entries_of g.now) → address ≤ (get_or (entries_of g.now) i d).0 }
 {
     let mut low = 0usize;
-    let mut high = entries.len();
+    let mut high = count(g);
     while low < high {
         let middle = low + (high - low) / 2;
-        if (entries[middle].0 as u64) < address {
+        let at = entry(g, middle).0;
+        if at < address {
             low = middle + 1;
         } else {
             high = middle;
@@ -47,183 +54,135 @@ fn place(entries: &[(u32, u8)], address: u64) -> usize
     low
 }
 
+/// Whether the entry of an address stands at a place.
+fn is_at(g: &Gapped, i: usize, address: u32) -> bool
+    requires { HasRoom g.now 0 }
+    ensures at { result ≡ true → IsAt (entries_of g.now) i address }
+    ensures away { result ≡ false → ¬ IsAt (entries_of g.now) i address }
+{
+    if i >= count(g) {
+        return false;
+    }
+    entry(g, i).0 == address
+}
+
 /// The byte that the entries have at an address.
-fn byte(entries: &[(u32, u8)], address: u32) -> u8
-    requires { IsRising entries.now }
-    ensures { result ≡ byte_in entries.now address }
+fn byte(g: &Gapped, address: u32) -> u8
+    requires room { HasRoom g.now 0 }
+    requires rising { IsRising (entries_of g.now) }
+    ensures { result ≡ byte_in (entries_of g.now) address }
 {
-    let i = place(entries, address as u64);
-    if i == entries.len() {
+    let i = place(g, address);
+    if !is_at(g, i, address) {
         return 0;
     }
-    if entries[i].0 != address {
-        return 0;
-    }
-    entries[i].1
+    entry(g, i).1
 }
 
-/// How many of the bytes are not 0.
-fn count_nonzero(bytes: &[u8]) -> usize
-    ensures { result ≡ length (run_of 0 bytes.now) }
+/// Writes a byte.
+fn put(g: &mut Gapped, address: u32, byte: u8)
+    requires memory { IsMemory (entries_of g.old) }
+    requires room { HasRoom g.old 1 }
+    ensures puts { IsPut (entries_of g.old) address byte (entries_of g.new) }
+    ensures memory { IsMemory (entries_of g.new) }
+    ensures room { (n : ℕ) → HasRoom g.old (n + 1) → HasRoom g.new n }
 {
-    let mut count = 0usize;
-    for byte in bytes {
-        if *byte != 0 {
-            count += 1;
+    let i = place(g, address);
+    if is_at(g, i, address) {
+        if byte == 0 {
+            remove(g, i);
+            return;
         }
-    }
-    count
-}
-
-/// Makes `count` entries of those from `low` up to `high`; those before and behind them stay.
-fn open(entries: &mut Vec<(u32, u8)>, low: usize, high: usize, count: usize)
-    requires ordered { low ≤ high }
-    requires within { high ≤ vec_len entries.old }
-    requires room { vec_len entries.old + count ≤ vec_capacity entries.old }
-    ensures len { vec_len entries.new + (high - low) ≡ vec_len entries.old + count }
-    ensures front { take low entries.new.items ≡ take low entries.old.items }
-    ensures back { drop (low + count) entries.new.items ≡ drop high entries.old.items }
-    ensures capacity { vec_capacity entries.old ≤ vec_capacity entries.new }
-{
-    if count == high - low {
+        replace(g, i, (address, byte));
         return;
     }
-    let len = entries.len();
-    let padded = entries.resize(len + count, (0, 0));
-    if padded.is_err() {
-        unreachable!();
+    if byte == 0 {
+        return;
     }
-    entries.copy_within(high..len, low + count);
-    entries.truncate(len + count - (high - low));
-}
-
-/// Writes the entries of the bytes from an address on over those from `low` on.
-fn fill(entries: &mut Vec<(u32, u8)>, low: usize, first: u32, bytes: &[u8])
-    requires room { low + length (run_of first bytes.now) ≤ vec_len entries.old }
-    requires top { first + length bytes.now ≤ 2 ^ 32 }
-    ensures items { entries.new.items ≡ take low entries.old.items ++ (run_of first bytes.now ++ drop (low + length (run_of first bytes.now)) entries.old.items) }
-    ensures len { vec_len entries.new ≡ vec_len entries.old }
-    ensures capacity { vec_capacity entries.new ≡ vec_capacity entries.old }
-{
-    let mut at = low;
-    for i in 0..bytes.len() {
-        let byte = bytes[i];
-        if byte != 0 {
-            entries[at] = (first + i as u32, byte);
-            at += 1;
-        }
-    }
-}
-
-/// The places of the first entry from an address on, and of the first behind so many bytes.
-fn places(entries: &[(u32, u8)], first: u32, count: usize) -> (usize, usize)
-    requires rising { IsRising entries.now }
-    requires top { first + count ≤ 2 ^ 32 }
-    ensures { AreAround entries.now first count result.0 result.1 }
-{
-    let low = place(entries, first as u64);
-    let high = place(entries, first as u64 + count as u64);
-    (low, high)
-}
-
-/// Writes bytes from an address on. They end before the wrap of addresses.
-fn put(entries: &mut Vec<(u32, u8)>, first: u32, bytes: &[u8])
-    requires kept { IsKept entries.old.items }
-    requires room { vec_len entries.old + length bytes.now ≤ vec_capacity entries.old }
-    requires top { first + length bytes.now ≤ 2 ^ 32 }
-    ensures puts { Puts entries.old.items first bytes.now entries.new.items }
-    ensures kept { IsKept entries.new.items }
-    ensures len { vec_len entries.new ≤ vec_len entries.old + length bytes.now }
-    ensures capacity { vec_capacity entries.old ≤ vec_capacity entries.new }
-{
-    let (low, high) = places(entries, first, bytes.len());
-    open(entries, low, high, count_nonzero(bytes));
-    fill(entries, low, first, bytes);
+    insert(g, i, (address, byte));
 }
 
 /// Writes bytes from an address on. Their addresses wrap.
-fn put_wrapping(entries: &mut Vec<(u32, u8)>, first: u32, bytes: &[u8])
-    requires kept { IsKept entries.old.items }
-    requires room { vec_len entries.old + length bytes.now ≤ vec_capacity entries.old }
+fn put_bytes(g: &mut Gapped, first: u32, bytes: &[u8])
+    requires memory { IsMemory (entries_of g.old) }
+    requires room { HasRoom g.old (length bytes.now) }
     requires few { length bytes.now ≤ 2 ^ 32 }
-    ensures puts { PutsWrapping entries.old.items first bytes.now entries.new.items }
-    ensures kept { IsKept entries.new.items }
-    ensures len { vec_len entries.new ≤ vec_len entries.old + length bytes.now }
-    ensures capacity { vec_capacity entries.old ≤ vec_capacity entries.new }
+    ensures puts { PutsTo (entries_of g.old) first bytes.now (length bytes.now) (entries_of g.new) }
+    ensures memory { IsMemory (entries_of g.new) }
+    ensures room { (n : ℕ) → HasRoom g.old (n + length bytes.now) → HasRoom g.new n }
 {
-    let up_to_wrap = u32::MAX as usize + 1 - first as usize;
-    if bytes.len() <= up_to_wrap {
-        put(entries, first, bytes);
-        return;
+    for i in 0..bytes.len() {
+        put(g, first.wrapping_add(i as u32), bytes[i]);
     }
-    put(entries, first, &bytes[..up_to_wrap]);
-    put(entries, 0, &bytes[up_to_wrap..]);
 }
 
 /// Writes the `n` bytes of a number at an address.
-fn put_number(entries: &mut Vec<(u32, u8)>, first: u32, n: u8, endian: Endian, number: u64)
-    requires kept { IsKept entries.old.items }
-    requires room { vec_len entries.old + n ≤ vec_capacity entries.old }
+fn put_number(g: &mut Gapped, first: u32, n: u8, endian: Endian, number: u64)
+    requires memory { IsMemory (entries_of g.old) }
+    requires room { HasRoom g.old n }
     requires few { n ≤ 8 }
-    ensures memory { memory.memory_of entries.new.items ≡ memory.store (endian_of endian) n (memory.memory_of entries.old.items) first number }
-    ensures kept { IsKept entries.new.items }
-    ensures len { vec_len entries.new ≤ vec_len entries.old + n }
-    ensures capacity { vec_capacity entries.old ≤ vec_capacity entries.new }
+    ensures stores { memory.memory_of (entries_of g.new) ≡ memory.store (endian_of endian) n (memory.memory_of (entries_of g.old)) first number }
+    ensures memory { IsMemory (entries_of g.new) }
+    ensures room { (m : ℕ) → HasRoom g.old (m + n) → HasRoom g.new m }
 {
     match endian {
-        Endian::Little => put_wrapping(entries, first, &number.to_le_bytes()[..n as usize]),
-        Endian::Big => put_wrapping(entries, first, &number.to_be_bytes()[8 - n as usize..]),
+        Endian::Little => put_bytes(g, first, &number.to_le_bytes()[..n as usize]),
+        Endian::Big => put_bytes(g, first, &number.to_be_bytes()[8 - n as usize..]),
     }
 }
 
 /// The byte that many addresses behind one. Addresses wrap.
-fn byte_behind(entries: &[(u32, u8)], first: u32, i: u8) -> u8
-    requires { IsRising entries.now }
-    ensures { result ≡ memory.memory_of entries.now (add 32 first i) }
+fn byte_behind(g: &Gapped, first: u32, i: u8) -> u8
+    requires room { HasRoom g.now 0 }
+    requires rising { IsRising (entries_of g.now) }
+    ensures { result ≡ memory.memory_of (entries_of g.now) (add 32 first i) }
 {
-    byte(entries, first.wrapping_add(i as u32))
+    byte(g, first.wrapping_add(i as u32))
 }
 
 /// The number of `n` bytes from an address on, the first the lowest.
 #[tactic(auto, using(crate::proofs::Numbers::next_power, crate::proofs::Numbers::low_power))]
-fn lowest_first(entries: &[(u32, u8)], first: u32, n: u8) -> u64
-    requires rising { IsRising entries.now }
+fn lowest_first(g: &Gapped, first: u32, n: u8) -> u64
+    requires room { HasRoom g.now 0 }
+    requires rising { IsRising (entries_of g.now) }
     requires few { n ≤ 8 }
-    ensures number { result ≡ memory.little n (λ i. memory.memory_of entries.now (add 32 first i)) }
+    ensures number { result ≡ memory.little n (λ i. memory.memory_of (entries_of g.now) (add 32 first i)) }
     ensures below { result < 256 ^ n }
 {
     let mut number = 0u64;
     for i in (0..n).rev() {
-        number = number * 256 + byte_behind(entries, first, i) as u64;
+        number = number * 256 + byte_behind(g, first, i) as u64;
     }
     number
 }
 
 /// The number of `n` bytes from an address on, the first the highest.
 #[tactic(auto, using(crate::proofs::Numbers::next_power, crate::proofs::Numbers::low_power))]
-fn highest_first(entries: &[(u32, u8)], first: u32, n: u8) -> u64
-    requires rising { IsRising entries.now }
+fn highest_first(g: &Gapped, first: u32, n: u8) -> u64
+    requires room { HasRoom g.now 0 }
+    requires rising { IsRising (entries_of g.now) }
     requires few { n ≤ 8 }
-    ensures number { result ≡ memory.big n (λ i. memory.memory_of entries.now (add 32 first i)) }
+    ensures number { result ≡ memory.big n (λ i. memory.memory_of (entries_of g.now) (add 32 first i)) }
     ensures below { result < 256 ^ n }
 {
     let mut number = 0u64;
     for i in 0..n {
-        number = number * 256 + byte_behind(entries, first, i) as u64;
+        number = number * 256 + byte_behind(g, first, i) as u64;
     }
     number
 }
 
 /// The number of `n` bytes at an address.
-fn get_number(entries: &[(u32, u8)], first: u32, n: u8, endian: Endian) -> u64
-    requires rising { IsRising entries.now }
+fn get_number(g: &Gapped, first: u32, n: u8, endian: Endian) -> u64
+    requires room { HasRoom g.now 0 }
+    requires rising { IsRising (entries_of g.now) }
     requires few { n ≤ 8 }
-    ensures number { result ≡ memory.load (endian_of endian) n (memory.memory_of entries.now) first }
+    ensures number { result ≡ memory.load (endian_of endian) n (memory.memory_of (entries_of g.now)) first }
     ensures below { result < 256 ^ n }
 {
     match endian {
-        Endian::Little => lowest_first(entries, first, n),
-        Endian::Big => highest_first(entries, first, n),
+        Endian::Little => lowest_first(g, first, n),
+        Endian::Big => highest_first(g, first, n),
     }
 }
 
@@ -233,7 +192,11 @@ impl Bytes32 {
         ensures { result.entries ≡ [] }
     {
         Bytes32 {
-            entries: Vec::new(alloc),
+            entries: Gapped {
+                below: Vec::new(alloc),
+                above: Vec::new(alloc),
+            },
+            room: 0,
         }
     }
 
@@ -269,7 +232,11 @@ impl Bytes32 {
         ensures spare { OnOk result (self.old.spare ≤ self.new.spare) }
         ensures err { OnErr result (self.new ≡ self.old) }
     {
-        self.entries.reserve(n)?;
+        if n <= self.room {
+            return Ok(());
+        }
+        make_room(&mut self.entries, n)?;
+        self.room = n;
         Ok(())
     }
 
@@ -283,23 +250,31 @@ impl Bytes32 {
         ensures spare { self.old.spare ≤ self.new.spare + n }
     {
         put_number(&mut self.entries, a, n, endian, v.bits);
+        self.room -= n as usize;
     }
 
-    /// The bytes that are not 0 with their addresses, which rise. Equal memories have equal entries.
-    pub fn entries(&self) -> &[(u32, u8)]
-        ensures entries { result.now ≡ self.now.entries }
+    /// The bytes that are not 0 with their addresses, which rise. Equal memories have equal entries. The error is want of memory.
+    pub fn entries(&self, alloc: Global) -> Result<Vec<(u32, u8)>, AllocError>
+        ensures entries { IfOk result (λ v. v.items ≡ self.now.entries) }
         ensures kept { IsKept self.now.entries }
     {
-        self.entries.as_slice()
+        let entries = listed(alloc, &self.entries)?;
+        Ok(entries)
+    }
+
+    /// Each byte is below 256. The call has no other effect.
+    pub fn bytes_fit(&self)
+        ensures { (a : ℕ) → memory.memory_of self.now.entries a < 256 }
+    {
+        let _ = &self.entries;
     }
 
     /// A memory with the same bytes. The error is want of memory.
     pub fn copy(&self, alloc: Global) -> Result<Bytes32, AllocError>
         ensures { IfOk result (λ copy. copy.entries ≡ self.now.entries) }
     {
-        let mut entries = Vec::with_capacity(alloc, self.entries.len())?;
-        entries.extend_from_slice(&self.entries)?;
-        Ok(Bytes32 { entries })
+        let entries = copied(alloc, &self.entries)?;
+        Ok(Bytes32 { entries, room: 0 })
     }
 }
 

@@ -7,6 +7,7 @@ ghost use Rattle.bilv_spec.specs.Memory as memory;
 ghost use Rattle.byte_mem.specs.Views.{endian_of};
 
 mod bytes;
+mod gapped;
 
 use bv_word::Word;
 pub use bytes::{Bytes32, one_list};

@@ -1,19 +1,16 @@
-use Rattle.std.proofs.Common.{◌<◌, length, sym, arith}
-use Rattle.byte_mem.proofs.Places.{nowhere}
+use Rattle.std.proofs.Common.{ℕ, sym, ap, ◌∙◌}
+use Rattle.byte_mem.specs.Gaps.{entries_of}
+use Rattle.byte_mem.proofs.Places.{none_at}
 use Rattle.byte_mem.proofs.Spans.{byte_at, byte_none}
 use Rattle.byte_mem.proofs.bytes.byte.Goals as goal
 
-pub returns-then-i-entries : goal.returns-then-i-entries
-returns-then-i-entries c =
-    sym (byte_none c.args.entries.now c.args.address (λ k d h is. let b = c.place-i.ensures.below k d (omega arith) in absurd (omega arith)))
-
-pub returns-then-entries-i : goal.returns-then-entries-i
-returns-then-entries-i c =
-    let inside : c.place-i.result < length c.args.entries.now = omega arith in
-    sym (byte_none c.args.entries.now c.args.address
-    (nowhere _ _ _ (0, 0) c.requires c.place-i.ensures.below c.place-i.ensures.from inside c.if-entries-i.true))
+pub returns-then-not-is_at : goal.returns-then-not-is_at
+returns-then-not-is_at c =
+    let p = c.place-i.ensures in
+    sym (byte_none (entries_of c.args.g.now) c.args.address
+    (none_at (entries_of c.args.g.now) c.place-i.result c.args.address c.requires.rising p.within p.below p.from (c.is_at.ensures.away c.if-not-is_at.true)))
 
 pub returns : goal.returns
 returns c =
-    let inside : c.place-i.result < length c.args.entries.now = omega arith in
-    sym (byte_at c.args.entries.now c.place-i.result c.args.address (0, 0) c.place-i.ensures.below inside c.if-entries-i.false)
+    let at = c.is_at.ensures.at c.if-not-is_at.false in
+    sym (byte_at (entries_of c.args.g.now) c.place-i.result c.args.address (0, 0) c.place-i.ensures.below at.0 at.1 ∙ ap (λ (e : ℕ × ℕ). e.1) (c.entry.ensures (0, 0)))

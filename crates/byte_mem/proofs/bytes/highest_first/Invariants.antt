@@ -1,10 +1,11 @@
 use Rattle.std.proofs.Common.{◌≡◌, ◌<◌, ◌^◌}
+use Rattle.byte_mem.specs.Gaps.{entries_of}
 use Rattle.bilv_spec.specs.Words.{add}
 use Rattle.bilv_spec.specs.Memory.{big, memory_of}
 use Rattle.byte_mem.proofs.bytes.highest_first.Given as goal
 
 abbrev pub invariant-loop-i : goal.invariant-loop-i
 invariant-loop-i l = record {
-  number : l.number ≡ big l.i (λ i. memory_of l.entries (add 32 l.first i));
+  number : l.number ≡ big l.i (λ i. memory_of (entries_of l.g) (add 32 l.first i));
   below : l.number < 256 ^ l.i;
 }
