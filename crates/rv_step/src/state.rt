@@ -18,15 +18,6 @@ pub struct State {
     ghost bytes_in_range: { (a : ℕ) → memory_of memory.entries a < 256 },
 }
 
-/// Each byte of entries is below 256, which is known of a byte once it is read: the loop has no other effect.
-fn bytes_in_range(entries: &[(u32, u8)])
-    ensures { (a : ℕ) → memory_of entries.now a < 256 }
-{
-    for (_, byte) in entries {
-        prove!(*byte <= u8::MAX);
-    }
-}
-
 impl View for State {
     ghost use Rattle.bilv_spec.specs.Rv.{rv32};
     ghost use Rattle.rv_step.specs.States.{state_of};
@@ -72,7 +63,7 @@ impl State {
         ensures state { state_of result ≡ record { pc = pc; regs = λ r. 0; flags = λ f. 0; mem = memory_of memory.entries } }
         ensures spare { spare_of result ≡ memory.spare }
     {
-        bytes_in_range(memory.entries());
+        memory.bytes_fit();
         State {
             pc,
             registers: Registers::new(),
@@ -86,7 +77,7 @@ impl State {
         ensures state { state_of result ≡ record { pc = pc; regs = registers_of (0 ∷ registers.now); flags = λ f. 0; mem = memory_of memory.entries } }
         ensures spare { spare_of result ≡ memory.spare }
     {
-        bytes_in_range(memory.entries());
+        memory.bytes_fit();
         State {
             pc,
             registers: Registers::of(registers),
