@@ -5,6 +5,8 @@
 
 mod flags;
 mod nodes;
+mod search;
 
 pub use flags::has_flag;
 pub use nodes::{Graph, Letter, Node, Successor};
+pub use search::{node_at, place};
