@@ -296,6 +296,115 @@ module _ (next : Bool) (direct : Option ℕ) (indirect call : Bool) (names : Lis
   of_edge s a (calls h e) = subst (λ (z : List ℕ). Contains ends (ToAddress z a)) (sym e) (calling call refl a h)
   of_edge s a (backs r e m) = returning indirect call refl refl r s a e
 
+  -- going on leads to the next address with the same stack
+  to_fall : (b : Bool) → next ≡ b → (s : List ℕ) (a : ℕ) → Contains (if b then ToAddress stack (add 32 at length) ∷ [] else []) (ToAddress s a) →
+      (s ≡ stack) × Contains all (successor NextLetter a)
+  to_fall false n s a h = none_in (ToAddress s a) h
+  to_fall true n s a h =
+      let t = only_in (ToAddress stack (add 32 at length)) (ToAddress s a) h in
+      let g : Contains (if true then successor NextLetter (add 32 at length) ∷ [] else []) (successor NextLetter a) = (0, omega arith, ap (successor NextLetter) (ap at_of t)) in
+      (sym (ap stack_of t), in_nexts (successor NextLetter a) (subst (λ (z : Bool). Contains (if z then successor NextLetter (add 32 at length) ∷ [] else []) (successor NextLetter a)) (sym n) g))
+
+  pub fall_to : (s : List ℕ) (a : ℕ) → Contains ends_next (ToAddress s a) → (s ≡ stack) × Contains all (successor NextLetter a)
+  fall_to s a h = to_fall next refl s a h
+
+  pub fall_of : (a : ℕ) → Contains all (successor NextLetter a) → Contains ends_next (ToAddress stack a)
+  fall_of a h = elim (part (successor NextLetter a) h) [
+    | of_next n q ↦
+        let g : Contains (if true then ToAddress stack (add 32 at length) ∷ [] else []) (ToAddress stack a) = (0, omega arith, ap (ToAddress stack) (ap to_at q)) in
+        subst (λ (z : Bool). Contains (if z then ToAddress stack (add 32 at length) ∷ [] else []) (ToAddress stack a)) (sym n) g
+    | of_direct b g q ↦ absurd (other call (ap letter_at q))
+    | of_named i b g q ↦ absurd (other call (ap letter_at q))
+    | of_back q ↦ absurd (let r : ReturnLetter ≡ NextLetter = ap letter_at q in cc)
+  ]
+
+-- the letter is that of the next address
+abbrev pub goes_on : Letter → Bool
+goes_on NextLetter = true
+goes_on JumpLetter = false
+goes_on CallLetter = false
+goes_on ReturnLetter = false
+
+-- the successors by jumps, calls and returns
+abbrev pub jumping_from : List Successor → List Successor
+jumping_from xs = filter (λ x. not (goes_on x.letter)) xs
+
+-- jumps alone: the same row without going on
+module _ (next : Bool) (direct : Option ℕ) (indirect call : Bool) (names : List ℕ) (at length : ℕ) (stack : List ℕ) (one : indirect ≡ true → direct ≡ None) where
+  abbrev front : List Successor
+  front = nexts next direct indirect call names at length stack one
+
+  abbrev middle : List Successor
+  middle = straight next direct indirect call names at length stack one
+
+  abbrev named_ones : List Successor
+  named_ones = through next direct indirect call names at length stack one
+
+  abbrev last : List Successor
+  last = behind next direct indirect call names at length stack one
+
+  abbrev whole : List Successor
+  whole = all next direct indirect call names at length stack one
+
+  abbrev alone : List Successor
+  alone = all false direct indirect call names at length stack one
+
+  not_on : (b : Bool) → goes_on (if b then CallLetter else JumpLetter) ≡ false
+  not_on true = refl
+  not_on false = refl
+
+  jumps_on : (x : Successor) → Part false direct indirect call names at length stack one x → not (goes_on x.letter) ≡ true
+  jumps_on x (of_next n q) = absurd (cc)
+  jumps_on x (of_direct b h q) = ap (λ (z : Successor). not (goes_on z.letter)) (sym q) ∙ ap not (not_on call)
+  jumps_on x (of_named i b h q) = ap (λ (z : Successor). not (goes_on z.letter)) (sym q) ∙ ap not (not_on call)
+  jumps_on x (of_back q) = ap (λ (z : Successor). not (goes_on z.letter)) (sym q)
+
+  alone_in : (x : Successor) → Contains alone x → Contains (jumping_from whole) x
+  alone_in x h =
+      in_filter (λ (y : Successor). not (goes_on y.letter)) whole x
+      (elim (split_in (middle ++ named_ones) last x h) as (λ _. Contains whole x) [
+        | inr b ↦ in_right (front ++ middle ++ named_ones) last x b
+        | inl g ↦ in_left (front ++ middle ++ named_ones) last x (elim (split_in middle named_ones x g) as (λ _. Contains (front ++ middle ++ named_ones) x) [
+          | inr t ↦ in_right (front ++ middle) named_ones x t
+          | inl m ↦ in_left (front ++ middle) named_ones x (in_right front middle x m)
+        ])
+      ])
+      (jumps_on x (part false direct indirect call names at length stack one x h))
+
+  going : (b : Bool) (x : Successor) → Contains (if b then successor NextLetter (add 32 at length) ∷ [] else []) x → goes_on x.letter ≡ true
+  going true x h = ap (λ (z : Successor). goes_on z.letter) (sym (only_in (successor NextLetter (add 32 at length)) x h))
+  going false x h = none_in x h
+
+  in_alone : (x : Successor) → Contains (jumping_from whole) x → Contains alone x
+  in_alone x h =
+      let q = of_filter (λ (y : Successor). not (goes_on y.letter)) whole x h in
+      elim (split_in (front ++ middle ++ named_ones) last x q.0) as (λ _. Contains alone x) [
+        | inr b ↦ in_right (middle ++ named_ones) last x b
+        | inl g ↦ in_left (middle ++ named_ones) last x (elim (split_in (front ++ middle) named_ones x g) as (λ _. Contains (middle ++ named_ones) x) [
+          | inr t ↦ in_right middle named_ones x t
+          | inl f ↦ in_left middle named_ones x (elim (split_in front middle x f) as (λ _. Contains middle x) [
+            | inr m ↦ m
+            | inl n ↦ absurd (let t = going next x n in let u : not (goes_on x.letter) ≡ true = q.1 in let v : not (goes_on x.letter) ≡ false = ap not t in cc)
+          ])
+        ])
+      ]
+
+  abbrev jump_list : List EdgeEnd
+  jump_list = ends_direct next direct indirect call names at length stack one ++ ends_through next direct indirect call names at length stack one
+
+  pub jump_to : (s : List ℕ) (a : ℕ) → a % 4 ≡ 0 → Contains jump_list (ToAddress s a) → IsEdge (indirect && not call) (add 32 at length) stack (jumping_from whole) s a
+  jump_to s a m h =
+      moved (indirect && not call) (add 32 at length) stack alone (jumping_from whole) s a (λ x to i. alone_in x i)
+      (to_edge false direct indirect call names at length stack one s a m (in_left jump_list [] (ToAddress s a) h))
+
+  pub jump_of : (s : List ℕ) (a : ℕ) → IsEdge (indirect && not call) (add 32 at length) stack (jumping_from whole) s a → Contains jump_list (ToAddress s a)
+  jump_of s a e =
+      elim (split_in jump_list [] (ToAddress s a) (of_edge false direct indirect call names at length stack one s a
+      (moved (indirect && not call) (add 32 at length) stack (jumping_from whole) alone s a (λ x to i. in_alone x i) e))) as (λ _. Contains jump_list (ToAddress s a)) [
+        | inl j ↦ j
+        | inr n ↦ none_in (ToAddress s a) n
+      ]
+
 module _ (p : Program) (way : HasOneWay p) (turns at : ℕ) (stack : List ℕ) where
   abbrev point : points.Point
   point = record { turns = turns; stack = stack; at = at }
@@ -332,6 +441,43 @@ module _ (p : Program) (way : HasOneWay p) (turns at : ℕ) (stack : List ℕ) w
         let q = of_filter (λ y. y.to % 4 == 0) found x
         (of_sort (filter (λ y. y.to % 4 == 0) found) x (subst (λ (z : Option Row). Contains (sort (successors_by p at z)) x) is h)) in
         (q.0, same_number (x.to % 4) 0 q.1)
+
+    jumping_more : (x : Successor) → x.to % 4 ≡ 0 → Contains (jumping_from found) x → Contains (jumping_from (successors_at p at)) x
+    jumping_more x m h =
+        let q = of_filter (λ (y : Successor). not (goes_on y.letter)) found x h in in_filter (λ (y : Successor). not (goes_on y.letter)) (successors_at p at) x (listed x m q.0) q.1
+
+    jumping_less : (x : Successor) → Contains (jumping_from (successors_at p at)) x → Contains (jumping_from found) x
+    jumping_less x h =
+        let q = of_filter (λ (y : Successor). not (goes_on y.letter)) (successors_at p at) x h in in_filter (λ (y : Successor). not (goes_on y.letter)) found x (unlisted x q.0).0 q.1
+
+    -- the ends of jumps are those that the other successors give
+    pub jump_from : (t : List ℕ) (a : ℕ) → a % 4 ≡ 0 → Contains (points.jump_ends p point row s) (ToAddress t a)
+        → IsEdge (may_return p at) (add 32 at 4) stack (jumping_from (successors_at p at)) t a
+    jump_from t a m h =
+        subst (λ (z : Bool). IsEdge z (add 32 at 4) stack (jumping_from (successors_at p at)) t a) (sym returns)
+        (subst (λ (z : ℕ). IsEdge (s.indirect && not s.call) z stack (jumping_from (successors_at p at)) t a) four_on
+        (moved (s.indirect && not s.call) (add 32 at row.length) stack (jumping_from found) (jumping_from (successors_at p at)) t a
+        (λ x to i. jumping_more x (ap (λ z. z % 4) to ∙ m) i)
+        (jump_to s.next s.direct s.indirect s.call (named p (file_word p) row at) at row.length stack (way.direct at row is) t a m h)))
+
+    pub jump_into : (t : List ℕ) (a : ℕ) → IsEdge (may_return p at) (add 32 at 4) stack (jumping_from (successors_at p at)) t a
+        → Contains (points.jump_ends p point row s) (ToAddress t a)
+    jump_into t a e =
+        jump_of s.next s.direct s.indirect s.call (named p (file_word p) row at) at row.length stack (way.direct at row is) t a
+        (subst (λ (z : Bool). IsEdge z (add 32 at row.length) stack (jumping_from found) t a) returns
+        (subst (λ (z : ℕ). IsEdge (may_return p at) z stack (jumping_from found) t a) (sym four_on)
+        (moved (may_return p at) (add 32 at 4) stack (jumping_from (successors_at p at)) (jumping_from found) t a (λ x to i. jumping_less x i) e)))
+
+    -- and the end of going on is the next address, with the same stack
+    pub fall_from : (t : List ℕ) (a : ℕ) → a % 4 ≡ 0 → Contains (points.fall_ends point row s) (ToAddress t a) → (t ≡ stack) × Contains (successors_at p at) (successor NextLetter a)
+    fall_from t a m h =
+        let q = fall_to s.next s.direct s.indirect s.call (named p (file_word p) row at) at row.length stack (way.direct at row is) t a h in
+        (q.0, listed (successor NextLetter a) m q.1)
+
+    pub fall_into : (t : List ℕ) (a : ℕ) → t ≡ stack → Contains (successors_at p at) (successor NextLetter a) → Contains (points.fall_ends point row s) (ToAddress t a)
+    fall_into t a e h =
+        subst (λ (z : List ℕ). Contains (points.fall_ends point row s) (ToAddress z a)) (sym e)
+        (fall_of s.next s.direct s.indirect s.call (named p (file_word p) row at) at row.length stack (way.direct at row is) a (unlisted (successor NextLetter a) h).0)
 
     row_edge : (t : List ℕ) (a : ℕ) → a % 4 ≡ 0 → RowEdge t a → PointEdge t a
     row_edge t a m e =

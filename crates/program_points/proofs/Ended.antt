@@ -1,6 +1,6 @@
 -- The ends of a node are the edges that its successors give.
 use Rattle.std.proofs.Common.{◌≡◌, inl, inr, ℕ, zero, suc, ◌%◌, ◌<◌, ◌≤◌, refl, ap, sym, ◌∙◌, subst, arith, List, [], ◌∷◌, length, get_or, Option, Some, None, Bool, true, false}
-use Rattle.std.specs.Prelude.{slice_get, Contains, ◌==◌, ◌&&◌, if◌then◌else◌}
+use Rattle.std.specs.Prelude.{map, slice_get, Contains, ◌==◌, ◌&&◌, if◌then◌else◌}
 use Rattle.std.specs.List.{filter_map, cons_option}
 use Rattle.std.proofs.lemmas.Bool.Decides.{nat_tests}
 use Rattle.std.proofs.lemmas.Option.{slice_get-get_or, slice_get_within}
@@ -13,11 +13,10 @@ use Rattle.bilv_spec.proofs.PointsInGraph.{of_map, split_in}
 use Rattle.graph_nodes.specs.declared.nodes.Letter.{Letter}
 use Rattle.graph_nodes.specs.declared.nodes.Letter.TheVariants.{Next, Jump, Call, Return}
 use Rattle.graph_nodes.specs.declared.nodes.Successor.{Successor}
-use Rattle.graph_nodes.specs.declared.nodes.Node.{Node}
-use Rattle.graph_nodes.specs.Graphs.{letter_of, successor_of, successors_of}
+use Rattle.graph_nodes.specs.Graphs.{letter_of, successor_of}
 use Rattle.program_points.specs.declared.values.Frame.{Frame}
 use Rattle.program_points.specs.declared.values.End.{End}
-use Rattle.program_points.specs.Tables.{end, has_top, jump_end, letter_end, successor_end, return_end, back_end, listed, ends_of, frame, frame_at, stack_at}
+use Rattle.program_points.specs.Tables.{end, has_top, jump_end, letter_end, successor_end, return_end, back_end, listed, ends_from, frame, frame_at, stack_at}
 use Rattle.program_points.proofs.Edges.{IsEdge, goes, jumps, calls, backs}
 use Rattle.program_points.proofs.Stacked.{stack_none, stack_next}
 
@@ -83,40 +82,40 @@ module _ (frames : List Frame) (low : (i : ℕ) (f : Frame) → slice_get frames
   top_by None n a le e = ap (λ l. is_top l a) (no_frame n le e)
   top_by (Some f) n a le e = ap (λ l. is_top l a) (stack_frame n f e)
 
-  module _ (n : Node) (stack called : ℕ) (fits : stack ≤ length frames)
-      (pushes : (x : Successor) → Contains n.successors.items x → x.letter ≡ Call → frame_at frames called ≡ Some (frame (add 32 n.at 4) stack)) where
+  module _ (returns : Bool) (items : List Successor) (at : ℕ) (stack called : ℕ) (fits : stack ≤ length frames)
+      (pushes : (x : Successor) → Contains items x → x.letter ≡ Call → frame_at frames called ≡ Some (frame (add 32 at 4) stack)) where
     abbrev top : Option Frame
     top = frame_at frames stack
 
     abbrev Edge : List ℕ → ℕ → Type 0
-    Edge s a = IsEdge n.returns (add 32 n.at 4) (stack_at frames stack) (successors_of n) s a
+    Edge s a = IsEdge returns (add 32 at 4) (stack_at frames stack) (map successor_of items) s a
 
     abbrev ends : List End
-    ends = ends_of n top stack called
+    ends = ends_from returns items top stack called
 
-    tops : (a : ℕ) → (n.returns && is_top (stack_at frames stack) a) ≡ (n.returns && has_top top a)
-    tops a = ap (λ b. n.returns && b) (top_by top stack a fits refl)
+    tops : (a : ℕ) → (returns && is_top (stack_at frames stack) a) ≡ (returns && has_top top a)
+    tops a = ap (λ b. returns && b) (top_by top stack a fits refl)
 
-    called_stack : (x : Successor) → Contains n.successors.items x → x.letter ≡ Call → stack_at frames called ≡ add 32 n.at 4 ∷ stack_at frames stack
-    called_stack x h l = stack_frame called (frame (add 32 n.at 4) stack) (pushes x h l)
+    called_stack : (x : Successor) → Contains items x → x.letter ≡ Call → stack_at frames called ≡ add 32 at 4 ∷ stack_at frames stack
+    called_stack x h l = stack_frame called (frame (add 32 at 4) stack) (pushes x h l)
 
-    as_letter : (x : Successor) → Contains n.successors.items x → (l : Letter) → x.letter ≡ l → Contains (successors_of n) (graph.successor (letter_of l) x.to)
+    as_letter : (x : Successor) → Contains items x → (l : Letter) → x.letter ≡ l → Contains (map successor_of items) (graph.successor (letter_of l) x.to)
     as_letter x h l e =
-        subst (λ (z : Letter). Contains (successors_of n) (graph.successor (letter_of z) x.to)) e (in_map successor_of n.successors.items x h)
+        subst (λ (z : Letter). Contains (map successor_of items) (graph.successor (letter_of z) x.to)) e (in_map successor_of items x h)
 
-    jump_by : (x : Successor) → Contains n.successors.items x → x.letter ≡ Jump → (b : Bool) → (n.returns && has_top top x.to) ≡ b → (e : End) → jump_end b stack x.to ≡ Some e
+    jump_by : (x : Successor) → Contains items x → x.letter ≡ Jump → (b : Bool) → (returns && has_top top x.to) ≡ b → (e : End) → jump_end b stack x.to ≡ Some e
         → Edge (stack_at frames e.stack) e.at
     jump_by x h l true t e q = absurd (cc)
     jump_by x h l false t e q =
         let r : end stack x.to ≡ e = (cc) in
         subst (λ (z : End). Edge (stack_at frames z.stack) z.at) r (jumps (as_letter x h Jump l) (tops x.to ∙ t) refl)
 
-    by_letter : (x : Successor) → Contains n.successors.items x → (l : Letter) → x.letter ≡ l → (e : End) → letter_end n.returns top stack called l x.to ≡ Some e
+    by_letter : (x : Successor) → Contains items x → (l : Letter) → x.letter ≡ l → (e : End) → letter_end returns top stack called l x.to ≡ Some e
         → Edge (stack_at frames e.stack) e.at
     by_letter x h Next l e q =
         let r : end stack x.to ≡ e = (cc) in
         subst (λ (z : End). Edge (stack_at frames z.stack) z.at) r (goes (as_letter x h Next l) refl)
-    by_letter x h Jump l e q = jump_by x h l (n.returns && has_top top x.to) refl e q
+    by_letter x h Jump l e q = jump_by x h l (returns && has_top top x.to) refl e q
     by_letter x h Call l e q =
         let r : end called x.to ≡ e = (cc) in
         subst (λ (z : End). Edge (stack_at frames z.stack) z.at) r (calls (as_letter x h Call l) (called_stack x h l))
@@ -126,13 +125,13 @@ module _ (frames : List Frame) (low : (i : ℕ) (f : Frame) → slice_get frames
     aligned_by true f e t q = (same_number (f.top % 4) 0 t, (cc))
     aligned_by false f e t q = absurd (cc)
 
-    return_by : (o : Option Frame) → top ≡ o → n.returns ≡ true → (e : End) → return_end o ≡ Some e → Edge (stack_at frames e.stack) e.at
+    return_by : (o : Option Frame) → top ≡ o → returns ≡ true → (e : End) → return_end o ≡ Some e → Edge (stack_at frames e.stack) e.at
     return_by None is r e q = absurd (cc)
     return_by (Some f) is r e q =
         let t = aligned_by (f.top % 4 == 0) f e refl q in
         subst (λ (z : End). Edge (stack_at frames z.stack) z.at) t.1 (backs r (stack_frame stack f is) t.0)
 
-    back_by : (b : Bool) → n.returns ≡ b → (e : End) → Contains (listed (back_end b top)) e → Edge (stack_at frames e.stack) e.at
+    back_by : (b : Bool) → returns ≡ b → (e : End) → Contains (listed (back_end b top)) e → Edge (stack_at frames e.stack) e.at
     back_by false r e (i, h, q) = absurd (omega arith)
     back_by true r e h = one (return_end top) refl h
       where
@@ -143,32 +142,32 @@ module _ (frames : List Frame) (low : (i : ℕ) (f : Frame) → slice_get frames
 
     -- each end is an edge
     pub end_edge : (e : End) → Contains ends e → Edge (stack_at frames e.stack) e.at
-    end_edge e h = elim (split_in (filter_map (successor_end n.returns top stack called) n.successors.items) (listed (back_end n.returns top)) e h) [
-      | inl s ↦ (let q = of_some (successor_end n.returns top stack called) n.successors.items e s in by_letter q.0 q.1 q.0.letter refl e q.2)
-      | inr b ↦ back_by n.returns refl e b
+    end_edge e h = elim (split_in (filter_map (successor_end returns top stack called) items) (listed (back_end returns top)) e h) [
+      | inl s ↦ (let q = of_some (successor_end returns top stack called) items e s in by_letter q.0 q.1 q.0.letter refl e q.2)
+      | inr b ↦ back_by returns refl e b
     ]
 
-    of_letter : (l : Letter) (a : ℕ) → Contains (successors_of n) (graph.successor (letter_of l) a) → (x : Successor) × Contains n.successors.items x × (x.letter ≡ l) × (x.to ≡ a)
+    pub of_letter : (l : Letter) (a : ℕ) → Contains (map successor_of items) (graph.successor (letter_of l) a) → (x : Successor) × Contains items x × (x.letter ≡ l) × (x.to ≡ a)
     of_letter l a h =
-        let q = of_map successor_of n.successors.items (graph.successor (letter_of l) a) h in
+        let q = of_map successor_of items (graph.successor (letter_of l) a) h in
         (q.0, q.1, same_letter q.0.letter l (ap (λ (z : graph.Successor). z.letter) q.2), ap (λ (z : graph.Successor). z.to) q.2)
 
-    from_successor : (x : Successor) → Contains n.successors.items x → (s a : ℕ) → x.to ≡ a → letter_end n.returns top stack called x.letter a ≡ Some (end s a) → Contains ends (end s a)
+    from_successor : (x : Successor) → Contains items x → (s a : ℕ) → x.to ≡ a → letter_end returns top stack called x.letter a ≡ Some (end s a) → Contains ends (end s a)
     from_successor x h s a t e =
-        in_left (filter_map (successor_end n.returns top stack called) n.successors.items) (listed (back_end n.returns top)) (end s a)
-        (in_some (successor_end n.returns top stack called) n.successors.items x (end s a) h (ap (letter_end n.returns top stack called x.letter) t ∙ e))
+        in_left (filter_map (successor_end returns top stack called) items) (listed (back_end returns top)) (end s a)
+        (in_some (successor_end returns top stack called) items x (end s a) h (ap (letter_end returns top stack called x.letter) t ∙ e))
 
     -- each edge is an end
     pub edge_end : (s : List ℕ) (a : ℕ) → Edge s a → (e : End) × Contains ends e × (stack_at frames e.stack ≡ s) × (e.at ≡ a)
     edge_end s a (goes h e) =
         let q = of_letter Next a h in
-        (end stack a, from_successor q.0 q.1 stack a q.3 (ap (λ l. letter_end n.returns top stack called l a) q.2), sym e, refl)
+        (end stack a, from_successor q.0 q.1 stack a q.3 (ap (λ l. letter_end returns top stack called l a) q.2), sym e, refl)
     edge_end s a (jumps h t e) =
         let q = of_letter Jump a h in
-        (end stack a, from_successor q.0 q.1 stack a q.3 (ap (λ l. letter_end n.returns top stack called l a) q.2 ∙ ap (λ b. jump_end b stack a) (sym (tops a) ∙ t)), sym e, refl)
+        (end stack a, from_successor q.0 q.1 stack a q.3 (ap (λ l. letter_end returns top stack called l a) q.2 ∙ ap (λ b. jump_end b stack a) (sym (tops a) ∙ t)), sym e, refl)
     edge_end s a (calls h e) =
         let q = of_letter Call a h in
-        (end called a, from_successor q.0 q.1 called a q.3 (ap (λ l. letter_end n.returns top stack called l a) q.2), called_stack q.0 q.1 q.2 ∙ sym e, refl)
+        (end called a, from_successor q.0 q.1 called a q.3 (ap (λ l. letter_end returns top stack called l a) q.2), called_stack q.0 q.1 q.2 ∙ sym e, refl)
     edge_end s a (backs r e m) = popped top refl
       where
         aligned : (f : Frame) → f.top ≡ a → (f.top % 4 == 0) ≡ true
@@ -179,9 +178,9 @@ module _ (frames : List Frame) (low : (i : ℕ) (f : Frame) → slice_get frames
         popped (Some f) is =
             let q = both f.top a (stack_at frames f.below) s (sym (stack_frame stack f is) ∙ e) in
             let w : return_end top ≡ Some (end f.below f.top) = ap return_end is ∙ ap (λ b. if b then Some (end f.below f.top) else None) (aligned f q.0) in
-            let v : back_end n.returns top ≡ Some (end f.below f.top) = ap (λ b. back_end b top) r ∙ w in (
+            let v : back_end returns top ≡ Some (end f.below f.top) = ap (λ b. back_end b top) r ∙ w in (
               end f.below f.top,
-              in_right (filter_map (successor_end n.returns top stack called) n.successors.items) (listed (back_end n.returns top)) (end f.below f.top)
+              in_right (filter_map (successor_end returns top stack called) items) (listed (back_end returns top)) (end f.below f.top)
                   (subst (λ (z : Option End). Contains (listed z) (end f.below f.top)) (sym v) (0, omega arith, refl)),
               q.1,
               q.0,
@@ -198,10 +197,10 @@ module _ (frames : List Frame) (low : (i : ℕ) (f : Frame) → slice_get frames
     low_jump a true e q = absurd (cc)
     low_jump a false e q = low_as stack a e fits (let r : end stack a ≡ e = (cc) in r)
 
-    low_letter : (x : Successor) → Contains n.successors.items x → (l : Letter) → x.letter ≡ l → (e : End) → letter_end n.returns top stack called l x.to ≡ Some e → e.stack ≤ length frames
+    low_letter : (x : Successor) → Contains items x → (l : Letter) → x.letter ≡ l → (e : End) → letter_end returns top stack called l x.to ≡ Some e → e.stack ≤ length frames
     low_letter x h Next l e q = low_as stack x.to e fits (let r : end stack x.to ≡ e = (cc) in r)
-    low_letter x h Jump l e q = low_jump x.to (n.returns && has_top top x.to) e q
-    low_letter x h Call l e q = low_as called x.to e (frame_low called (frame (add 32 n.at 4) stack) (pushes x h l)).0 (let r : end called x.to ≡ e = (cc) in r)
+    low_letter x h Jump l e q = low_jump x.to (returns && has_top top x.to) e q
+    low_letter x h Call l e q = low_as called x.to e (frame_low called (frame (add 32 at 4) stack) (pushes x h l)).0 (let r : end called x.to ≡ e = (cc) in r)
     low_letter x h Return l e q = absurd (cc)
 
     low_return : (o : Option Frame) → top ≡ o → (e : End) → return_end o ≡ Some e → e.stack ≤ length frames
@@ -219,7 +218,7 @@ module _ (frames : List Frame) (low : (i : ℕ) (f : Frame) → slice_get frames
 
     -- the stack of each end has a number
     pub end_low : (e : End) → Contains ends e → e.stack ≤ length frames
-    end_low e h = elim (split_in (filter_map (successor_end n.returns top stack called) n.successors.items) (listed (back_end n.returns top)) e h) [
-      | inl s ↦ (let q = of_some (successor_end n.returns top stack called) n.successors.items e s in low_letter q.0 q.1 q.0.letter refl e q.2)
-      | inr b ↦ low_back n.returns e b
+    end_low e h = elim (split_in (filter_map (successor_end returns top stack called) items) (listed (back_end returns top)) e h) [
+      | inl s ↦ (let q = of_some (successor_end returns top stack called) items e s in low_letter q.0 q.1 q.0.letter refl e q.2)
+      | inr b ↦ low_back returns e b
     ]

@@ -1,5 +1,5 @@
 -- The ends of a node, so far, and the calls of it.
-use Rattle.std.proofs.Common.{◌≡◌, ℕ, zero, suc, ◌+◌, ◌<◌, ◌≤◌, refl, ap, sym, ◌∙◌, arith, List, [], ◌∷◌, ◌++◌, length, take, get_or, Option, Some, None, Bool, true, false}
+use Rattle.std.proofs.Common.{◌≡◌, inl, ℕ, zero, suc, ◌+◌, ◌<◌, ◌≤◌, refl, ap, sym, ◌∙◌, arith, List, [], ◌∷◌, ◌++◌, length, take, get_or, Option, Some, None, Bool, true, false}
 use Rattle.std.specs.Prelude.{Contains, ◌||◌}
 use Rattle.std.specs.List.{filter_map, list_any}
 use Rattle.std.proofs.lemmas.List.{take_more}
@@ -41,11 +41,12 @@ no_call (y ∷ xs) x h (suc i, w, e) c = no_call xs x (rest (is_call y.letter) (
     rest false b q = q
 
 pub called_none : (n : Node) (stack : ℕ) (frames : List Frame) → list_any (λ s. is_call s.letter) n.successors.items ≡ false → IsCalled n stack frames frames 0
-called_none n stack frames h = record { rest = []; begins = nothing_more frames; pushes = λ x c l. absurd (no_call n.successors.items x h c l) }
+called_none n stack frames h = record { rest = []; begins = nothing_more frames; only = inl refl; pushes = λ x c l. absurd (no_call n.successors.items x h c l) }
 
 pub called_pushed : (n : Node) (stack number : ℕ) (old new : List Frame) → IsPushed old new (add 32 n.at 4) stack number → IsCalled n stack old new number
 called_pushed n stack number old new is = record {
   rest = is.rest;
   begins = is.begins;
+  only = is.only;
   pushes = λ x c l. (let s : number ≡ suc is.index = (let q = is.number_is in omega arith) in ap (frame_at new) s ∙ is.frame_is);
 }

@@ -32,7 +32,7 @@ expanded k max point node called old_frames frames lent numbers old found seen m
     let fits : point.stack ≤ length frames = omega arith in
     let e : given ≡ ends_of node (frame_at frames point.stack) point.stack called = give ∙ is ∙ ap (λ f. ends_of node (frame_at f point.stack) point.stack called) lend in
     let r = add (length frames) (wider k k (length old_frames) (length frames) old seen (omega arith) l listing)
-    (λ z h. end_low frames table.below node point.stack called fits pushed.pushes z (subst (λ (y : List End). Contains y z) e h)) in
+    (λ z h. end_low frames table.below node.returns node.successors.items node.at point.stack called fits pushed.pushes z (subst (λ (y : List End). Contains y z) e h)) in
     (r.0, subst (λ (y : List End). AreAdded k max point y old found) e r.1)
 
 -- no point is lost

@@ -4,10 +4,10 @@ pub mod Lists
 pub mod Tabled
 pub mod Added
 pub mod Ending
-pub mod Searched
 pub mod Edges
 pub mod Stacked
 pub mod Ended
 pub mod Walked
 pub mod Expanded
 pub mod Pinned
+pub mod Ways

@@ -1,5 +1,5 @@
 -- The table of stacks, with one more.
-use Rattle.std.proofs.Common.{◌≡◌, inl, inr, ℕ, ◌+◌, ◌≤◌, ap, sym, ◌∙◌, subst, arith, List, [], ◌∷◌, ◌++◌, length, Some, None, false, cond}
+use Rattle.std.proofs.Common.{◌≡◌, inl, inr, ℕ, ◌+◌, ◌≤◌, refl, ap, sym, ◌∙◌, subst, arith, List, [], ◌∷◌, ◌++◌, length, Some, None, false, cond}
 use Rattle.std.specs.Prelude.{slice_get}
 use Rattle.std.specs.Ordering.{is_eq}
 use Rattle.std.specs.BTreeMap.{BTreeMap}
@@ -19,12 +19,13 @@ table_none frames numbers e none = subst (λ (l : List Frame). IsTable l numbers
 pub had : (frames : List Frame) (numbers : BTreeMap (ℕ × ℕ) ℕ) (t b n : ℕ) → tree.get pair_cmp numbers (t, b) ≡ Some n → IsTable frames numbers → IsPushed frames frames t b n
 had frames numbers t b n e is =
     let q = is.only t b n e in
-    record { rest = []; begins = nothing_more frames; index = q.0; number_is = q.1; frame_is = q.2 }
+    record { rest = []; begins = nothing_more frames; only = inl refl; index = q.0; number_is = q.1; frame_is = q.2 }
 
 pub pushed_last : (frames new : List Frame) (t b n : ℕ) → new ≡ frames ++ frame t b ∷ [] → n ≡ length frames + 1 → IsPushed frames new t b n
 pushed_last frames new t b n e is = record {
   rest = frame t b ∷ [];
   begins = e;
+  only = inr refl;
   index = length frames;
   number_is = is;
   frame_is = ap (λ l. slice_get l (length frames)) e ∙ at_push frames (frame t b);

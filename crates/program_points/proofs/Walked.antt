@@ -113,7 +113,7 @@ module _ (p : Program) (g : Graph) (k max : ℕ) (is : IsGraph p g) (way : HasOn
         | inl o ↦ subst (λ z. IsPoint p k z) (sym (keeps q o)) (w.reached q o)
         | inr (e, ce, is_target, small) ↦
             (let edge = edge_to p way point.turns point.at (stack_at frames point.stack) (stack_at frames e.stack) e.at
-            (to_point (stack_at frames e.stack) e.at (end_edge frames table.below node point.stack called fits more.pushes e ce)) in
+            (to_point (stack_at frames e.stack) e.at (end_edge frames table.below node.returns node.successors.items node.at point.stack called fits more.pushes e ce)) in
             let turns : (target point e).turns ≤ k = subst (λ (z : Point). z.turns ≤ k) is_target small in
             let r : IsPoint p k (of frames (target point e)) = next reached_point edge turns in
             subst (λ (z : Point). IsPoint p k (of frames z)) (sym is_target) r)
@@ -138,7 +138,7 @@ module _ (p : Program) (g : Graph) (k max : ℕ) (is : IsGraph p g) (way : HasOn
 
       closed_here : (s : List ℕ) (a : ℕ) → length found ≤ max → Contains (edges p (of frames point)) (ToAddress s a) → (end_of (of frames point) s a).turns ≤ k → Leads point s a
       closed_here s a le c small =
-          let e = edge_end frames table.below node point.stack called fits more.pushes s a
+          let e = edge_end frames table.below node.returns node.successors.items node.at point.stack called fits more.pushes s a
           (to_node s a (edge_from p way point.turns point.at (stack_at frames point.stack) s a c)) in
           let same = target_of frames point e.0 s a e.2 e.3 in
           let turns : (target point e.0).turns ≤ k = subst (λ (z : points.Point). z.turns ≤ k) (sym same) small in
@@ -214,7 +214,7 @@ module _ (p : Program) (g : Graph) (k max : ℕ) (is : IsGraph p g) (way : HasOn
           (subst (λ (z : points.Point). (end_of z stack a).turns ≤ k) (sym q.2) within) in
           subst (λ (z : points.Point). Contains (map (of frames) found) z) (t.2 ∙ ap (λ (z : points.Point). end_of z stack a) q.2) (in_map (of frames) found t.0 t.1)
 
-      pub are_points : (v : Points) → v.frames.items ≡ frames → v.points.items ≡ found → ArePointsOf p k v
+      pub are_points : (v : Points) → v.stacks.frames.items ≡ frames → v.points.items ≡ found → ArePointsOf p k v
       are_points v e f = (
         stacks_of frames,
         subst (λ (l : List Frame). AreStacks l (stacks_of frames)) (sym e) (are_stacks frames numbers table),

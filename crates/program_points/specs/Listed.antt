@@ -28,7 +28,7 @@ point_of stacks q = record { turns = q.turns; stack = slice_index_or stacks q.st
 
 -- the list is that of all points, each once
 abbrev pub ArePointsOf : Program → ℕ → Points → Type 0
-ArePointsOf p k v = (stacks : List (List ℕ)) × AreStacks v.frames.items stacks × ArePoints p k (map (point_of stacks) v.points.items)
+ArePointsOf p k v = (stacks : List (List ℕ)) × AreStacks v.stacks.frames.items stacks × ArePoints p k (map (point_of stacks) v.points.items)
 
 -- there are more points than may be listed
 abbrev pub IsTooMany : Program → ℕ → ℕ → PointsFault → Type 0

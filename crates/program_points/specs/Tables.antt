@@ -1,5 +1,5 @@
 -- Tables of stacks, the ends of a point, and points that are added.
-use Rattle.std.specs.Prelude.{ℕ, zero, suc, nat_le, ◌↔◌, ◌≡◌, ◌≢◌, ◌+◌, ◌<◌, ◌≤◌, ◌%◌, ◌==◌, ◌&&◌, ◌++◌, ◌⊎◌, Bool, true, false, List, [], ◌∷◌, Option, Some, None, Contains, length, slice_get, slice_index_or, if◌then◌else◌}
+use Rattle.std.specs.Prelude.{ℕ, zero, suc, nat_le, ◌↔◌, ◌≡◌, ◌≢◌, ◌+◌, ◌<◌, ◌≤◌, ◌%◌, ◌==◌, ◌&&◌, ◌++◌, ◌⊎◌, not, filter, Bool, true, false, List, [], ◌∷◌, Option, Some, None, Contains, length, slice_get, slice_index_or, if◌then◌else◌}
 use Rattle.std.specs.List.{filter_map}
 use Rattle.std.specs.BTreeMap.{BTreeMap}
 use Rattle.std.specs.BTreeMap as tree
@@ -29,10 +29,11 @@ pub record IsTable (frames : List Frame) (numbers : BTreeMap (ℕ × ℕ) ℕ) :
   pub known : (i : ℕ) (f : Frame) → slice_get frames i ≡ Some f → tree.get pair_cmp numbers (f.top, f.below) ≡ Some (i + 1)
   pub only : (t b n : ℕ) → tree.get pair_cmp numbers (t, b) ≡ Some n → (i : ℕ) × (n ≡ i + 1) × (slice_get frames i ≡ Some (frame t b))
 
--- the frames begin with the old ones, and one is that of the number
+-- the frames are the old ones, or have the pushed one behind them, and the number's is the pushed one
 pub record IsPushed (old new : List Frame) (top below number : ℕ) : Type 0 where
   pub rest : List Frame
   pub begins : new ≡ old ++ rest
+  pub only : (rest ≡ []) ⊎ (rest ≡ frame top below ∷ [])
   pub index : ℕ
   pub number_is : number ≡ index + 1
   pub frame_is : slice_get new index ≡ Some (frame top below)
@@ -95,19 +96,33 @@ abbrev pub listed : Option End → List End
 listed None = []
 listed (Some e) = e ∷ []
 
+-- the ends by successors and by a return, where the row may return
+abbrev pub ends_from : Bool → List Successor → Option Frame → (stack called : ℕ) → List End
+ends_from returns successors f stack called = filter_map (successor_end returns f stack called) successors ++ listed (back_end returns f)
+
 -- the ends of a point at a node, but for the exit
 abbrev pub ends_of : Node → Option Frame → (stack called : ℕ) → List End
-ends_of n f stack called = filter_map (successor_end n.returns f stack called) n.successors.items ++ listed (back_end n.returns f)
+ends_of n f stack called = ends_from n.returns n.successors.items f stack called
+
+-- the letter is that of the next address
+abbrev pub is_next : Letter → Bool
+is_next Next = true
+is_next _ = false
+
+-- the ends of a point at a node by jumps, calls and returns
+abbrev pub jumps_of : Node → Option Frame → (stack called : ℕ) → List End
+jumps_of n f stack called = ends_from n.returns (filter (λ s. not (is_next s.letter)) n.successors.items) f stack called
 
 -- the letter is a call's
 abbrev pub is_call : Letter → Bool
 is_call Call = true
 is_call _ = false
 
--- the frames begin with the old ones, and the number is that of the stack behind a call of the node
+-- the frames are the old ones, or have that of the stack behind a call of the node behind them, and where the node has a call the number is that stack's
 pub record IsCalled (n : Node) (stack : ℕ) (old new : List Frame) (number : ℕ) : Type 0 where
   pub rest : List Frame
   pub begins : new ≡ old ++ rest
+  pub only : (rest ≡ []) ⊎ (rest ≡ frame (add 32 n.at 4) stack ∷ [])
   pub pushes : (x : Successor) → Contains n.successors.items x → x.letter ≡ Call → frame_at new number ≡ Some (frame (add 32 n.at 4) stack)
 
 -- the order of the keys of points

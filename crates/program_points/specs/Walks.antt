@@ -1,15 +1,18 @@
 -- How far the listing of points has come.
-use Rattle.std.specs.Prelude.{ℕ, ◌≡◌, ◌<◌, ◌≤◌, List, Some, Contains, length, slice_get, slice_index, ◌↔◌}
+use Rattle.std.specs.Prelude.{ℕ, ◌%◌, ◌≡◌, ◌<◌, ◌≤◌, List, Some, Contains, length, slice_get, ◌↔◌}
 use Rattle.bilv_spec.specs.Run.{Program}
-use Rattle.bilv_spec.specs.Points.{ToAddress, edges, end_of, IsPoint}
+use Rattle.bilv_spec.specs.Machine.{Row}
+use Rattle.bilv_spec.specs.Points.{ToAddress, edges, end_of, file_row, fall_ends, jump_ends, IsPoint}
+use Rattle.bilv_spec.specs.Points as points
 use Rattle.program_points.specs.declared.values.Frame.{Frame}
 use Rattle.program_points.specs.declared.values.Point.{Point}
 use Rattle.program_points.specs.Listed.{point_of, HasOneWay}
-use Rattle.program_points.specs.Tables.{frame, stack_at, stacks_of, frame_at, ends_of, IsCalled, AreAdded}
+use Rattle.program_points.specs.Tables.{frame, stack_at, stacks_of, frame_at, ends_of, jumps_of, IsCalled, AreAdded}
 use Rattle.graph_nodes.specs.declared.nodes.Node.{Node}
 use Rattle.graph_nodes.specs.declared.nodes.Graph.{Graph}
 use Rattle.graph_nodes.specs.Graphs.{addresses_of, IsNode}
-use Rattle.graph_nodes.specs.declared.nodes.Letter.TheVariants.{Call}
+use Rattle.graph_nodes.specs.Places.{AreRising}
+use Rattle.graph_nodes.specs.declared.nodes.Letter.TheVariants.{Next, Call}
 use Rattle.graph_nodes.specs.declared.nodes.Successor.{Successor}
 use Rattle.bilv_spec.specs.Words.{add}
 use Rattle.program_points.specs.declared.values.End.{End}
@@ -22,13 +25,9 @@ pub record Walk (p : Program) (k max : ℕ) (frames : List Frame) (points : List
       Contains (edges p (point_of (stacks_of frames) q)) (ToAddress s a) → (end_of (point_of (stacks_of frames) q) s a).turns ≤ k →
       (t : Point) × Contains points t × (point_of (stacks_of frames) t ≡ end_of (point_of (stacks_of frames) q) s a)
 
--- the addresses of the graph rise
-abbrev pub IsRising : Graph → Type 0
-IsRising g = (i j : ℕ) → i < j → j < length g.nodes.items → slice_index (addresses_of g) i < slice_index (addresses_of g) j
-
 -- the frames and the points are as before, and the graph has no node of the point's address; or they are more by the ends of the point at the node
 pub data IsStep (g : Graph) (k max : ℕ) (point : Point) (old_frames frames : List Frame) (old points : List Point) : Type 0 where
-  nowhere : (IsRising g → ¬ Contains (addresses_of g) point.at) → frames ≡ old_frames → points ≡ old → IsStep g k max point old_frames frames old points
+  nowhere : (AreRising g.nodes.items → ¬ Contains (addresses_of g) point.at) → frames ≡ old_frames → points ≡ old → IsStep g k max point old_frames frames old points
   somewhere : (n : Node) (called : ℕ) → n.at ≡ point.at → Contains g.nodes.items n → IsCalled n point.stack old_frames frames called
       → AreAdded k max point (ends_of n (frame_at frames point.stack) point.stack called) old points → IsStep g k max point old_frames frames old points
 
@@ -42,3 +41,15 @@ EndsAreEdges = (p : Program) (n : Node) (frames : List Frame) (turns stack calle
     ((x : Successor) → Contains n.successors.items x → x.letter ≡ Call → frame_at frames called ≡ Some (frame (add 32 n.at 4) stack)) → (s : List ℕ) (a : ℕ) →
     Contains (edges p (record { turns = turns; stack = stack_at frames stack; at = n.at })) (ToAddress s a)
     ↔ ((e : End) × Contains (ends_of n (frame_at frames stack) stack called) e × (stack_at frames e.stack ≡ s) × (e.at ≡ a))
+
+-- Which ends of a point at its node are taken by going on, and which by a jump: going on leads to the node's next address with the point's stack, and jumps lead to the
+-- ends by the other successors and by the return. One end may be both.
+abbrev pub EndsAreWays : Type 0
+EndsAreWays = (p : Program) (n : Node) (frames : List Frame) (turns stack called : ℕ) (row : Row) → IsNode p n → HasOneWay p → IsLow frames → stack ≤ length frames →
+    ((x : Successor) → Contains n.successors.items x → x.letter ≡ Call → frame_at frames called ≡ Some (frame (add 32 n.at 4) stack)) → file_row p n.at ≡ Some row →
+    (s : List ℕ) (a : ℕ) → a % 4 ≡ 0 →
+    let point : points.Point = record { turns = turns; stack = stack_at frames stack; at = n.at } in
+    (Contains (fall_ends point row (row.successors n.at)) (ToAddress s a)
+    ↔ ((s ≡ stack_at frames stack) × Contains n.successors.items (record { letter = Next; to = a })))
+    × (Contains (jump_ends p point row (row.successors n.at)) (ToAddress s a)
+    ↔ ((e : End) × Contains (jumps_of n (frame_at frames stack) stack called) e × (stack_at frames e.stack ≡ s) × (e.at ≡ a)))

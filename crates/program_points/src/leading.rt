@@ -1,5 +1,5 @@
 //! The ends of a point's edges.
-ghost use Rattle.std.specs.Prelude.{◌≡◌, ◌≤◌, IfOk, length};
+ghost use Rattle.std.specs.Prelude.{◌≡◌, ◌≤◌, IfOk, false, length};
 ghost use Rattle.std.specs.List.{list_any};
 ghost use Rattle.program_points.specs.Tables as tables;
 ghost use Rattle.program_points.specs.Tables.{frame_at, ends_of, is_call, IsTable, IsCalled};
@@ -75,11 +75,13 @@ fn back_end(returns: bool, frame: Option<Frame>) -> Option<End>
     }
 }
 
-/// The number of the stack behind a call of a node, or 0 where it has no call. The error is want of memory.
+/// The number of the stack behind a call of a node, which is added where it was not among the stacks; without a call 0, and the stacks are as they were. The error is
+/// want of memory.
 pub fn called(stacks: &mut Stacks, node: &Node, stack: usize) -> Result<usize, AllocError>
     requires table { IsTable stacks.old.frames.items stacks.old.numbers }
     requires stack { stack ≤ length stacks.old.frames.items }
     ensures table { IfOk result (λ n. IsTable stacks.new.frames.items stacks.new.numbers) }
+    ensures none { list_any (λ s. is_call s.letter) node.now.successors.items ≡ false → (result ≡ Ok 0) × (stacks.new ≡ stacks.old) }
     ensures called { IfOk result (λ n. IsCalled node.now stack stacks.old.frames.items stacks.new.frames.items n) }
 {
     if !calls(&node.successors) {

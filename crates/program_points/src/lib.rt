@@ -5,11 +5,10 @@ mod adding;
 mod laws;
 mod leading;
 mod listing;
-mod search;
 mod stacks;
 mod values;
 
-pub use laws::ends_are_edges;
+pub use laws::{ends_are_edges, ends_are_ways};
 pub use leading::{called, ends};
 pub use listing::points;
 pub use stacks::{Stacks, no_frames, pushed};

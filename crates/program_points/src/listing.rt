@@ -2,16 +2,16 @@
 ghost use Rattle.std.specs.Prelude.{◌≡◌, ◌≤◌, ◌∷◌, [], IfOk, IfErr, OnOk, Contains, length};
 ghost use Rattle.bilv_spec.specs.Run.{Program};
 ghost use Rattle.graph_nodes.specs.Graphs.{IsGraph};
+ghost use Rattle.program_points.specs.declared.values.Point.{Point};
 ghost use Rattle.program_points.specs.Listed.{ArePointsOf, HasOneWay, IsTooMany};
 ghost use Rattle.program_points.specs.Tables.{IsTable, IsListed};
 ghost use Rattle.program_points.specs.Walks.{IsStep};
 
 use crate::adding::{Found, add, add_ends};
 use crate::leading::{called, ends};
-use crate::search::node_at;
 use crate::stacks::{Stacks, no_frames};
 use crate::values::{Point, Points, PointsFault};
-use graph_nodes::Graph;
+use graph_nodes::{Graph, node_at};
 use std::alloc::{AllocError, Global};
 use std::collections::BTreeSet;
 
@@ -75,6 +75,8 @@ pub fn points(
     requires max { max ≤ 16777216 }
     ensures points { (p : Program) → IsGraph p graph.now → p.entry ≡ entry → HasOneWay p → IfOk result (λ v. ArePointsOf p k v) }
     ensures few { IfOk result (λ v. length v.points.items ≤ max) }
+    ensures table { IfOk result (λ v. IsTable v.stacks.frames.items v.stacks.numbers) }
+    ensures numbered { IfOk result (λ v. (q : Point) → Contains v.points.items q → q.stack ≤ length v.stacks.frames.items) }
     ensures more { (p : Program) → IsGraph p graph.now → p.entry ≡ entry → HasOneWay p → IfErr result (IsTooMany p k max) }
 {
     let mut stacks = no_frames(alloc);
@@ -86,7 +88,7 @@ pub fn points(
         }
         if next == found.points.len() {
             return Ok(Points {
-                frames: stacks.frames,
+                stacks,
                 points: found.points,
             });
         }

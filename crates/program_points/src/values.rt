@@ -1,6 +1,7 @@
 //! Points and stacks as values.
 ghost use Rattle.std.specs.Prelude.{◌≡◌};
 
+use crate::stacks::Stacks;
 use std::alloc::AllocError;
 use thiserror::Error;
 
@@ -29,7 +30,7 @@ pub struct End {
 /// The points of a program. Stack 0 is empty; stack i + 1 is frame i. Equal stacks have equal numbers.
 #[derive(Drop, Debug)]
 pub struct Points {
-    pub frames: Vec<Frame>,
+    pub stacks: Stacks,
     pub points: Vec<Point>,
 }
 

@@ -26,7 +26,7 @@ pub returns-then-next-len-clause-points : goal.returns-then-next-len-clause-poin
 returns-then-next-len-clause-points c = λ p is e way.
     are_points p c.args.graph.now c.args.k c.args.max is way c.listing.stacks.frames.items c.listing.stacks.numbers c.listing.found.points.items c.listing.found.seen c.listing.next
     c.listing.invariant.table c.listing.invariant.listed (c.listing.invariant.walk p is e way) (omega arith) (omega arith)
-    (record { frames = c.listing.stacks.frames; points = c.listing.found.points }) refl refl
+    (record { stacks = c.listing.stacks; points = c.listing.found.points }) refl refl
 
 pub listing-preserved : goal.listing-preserved
 listing-preserved c = record {
@@ -42,3 +42,6 @@ listing-preserved c = record {
       (slice_get_read c.listing.found.points.items (length c.listing.found.points.items) c.listing.next c.index-point.result.now refl (omega arith) c.index-point.ensures)
       (c.listing.invariant.walk p is e way) c.in_ok-expand.ensures.step;
 }
+
+pub returns-then-next-len-clause-numbered : goal.returns-then-next-len-clause-numbered
+returns-then-next-len-clause-numbered c = λ q h. (c.listing.invariant.listed.within q h).0
