@@ -44,7 +44,7 @@ fn graph(alloc: Global, rows: &[Row]) -> Result<Graph, AllocError> {
 /// The frames, each behind a `;` with its top and the number below, and the points, each with its turns, the number of its stack and its address.
 fn text(alloc: Global, points: &Points) -> Result<String, AllocError> {
     let mut text = String::new(alloc);
-    for frame in &points.frames {
+    for frame in &points.stacks.frames {
         text = format!(in alloc; "{text};{:x} {}", frame.top, frame.below)?;
     }
     for point in &points.points {
