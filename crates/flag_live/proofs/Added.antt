@@ -8,7 +8,8 @@ use Rattle.std.proofs.lemmas.List.Elements.{Contains-append_left, Contains-appen
 use Rattle.graph_nodes.specs.Graphs.{has_flag}
 use Rattle.graph_nodes.specs.declared.nodes.Successor.{Successor}
 use Rattle.graph_nodes.specs.declared.nodes.Node.{Node}
-use Rattle.flag_live.specs.Vertices.{AreRising, IsNodeAt, IsEdgeBy, IsEdgeAmong, at, IsEdgeOf, by_successor, by_exit, IsEdge, of, Adds}
+use Rattle.flag_live.specs.Vertices.{IsNodeAt, IsEdgeBy, IsEdgeAmong, at, IsEdgeOf, by_successor, by_exit, IsEdge, of, Adds}
+use Rattle.graph_nodes.specs.Places.{AreRising}
 use Rattle.flag_live.proofs.Located.{node_is}
 
 pub in_none : {X : Type 0} (e : X) → Contains [] e → ⊥

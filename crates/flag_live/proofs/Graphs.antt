@@ -11,8 +11,9 @@ use Rattle.graph_nodes.specs.declared.nodes.Letter.TheVariants.{Next, Jump, Call
 use Rattle.graph_nodes.specs.declared.nodes.Successor.{Successor}
 use Rattle.graph_nodes.specs.declared.nodes.Node.{Node}
 use Rattle.graph_nodes.specs.declared.nodes.Graph.{Graph}
-use Rattle.flag_live.specs.Vertices.{ats, IsPlace, IsNodeAt}
-use Rattle.flag_live.proofs.Located.{at_is, some_node}
+use Rattle.flag_live.specs.Vertices.{IsNodeAt}
+use Rattle.graph_nodes.specs.Places.{ats, IsPlace}
+use Rattle.graph_nodes.proofs.Places.{at_is, some_node}
 
 -- the node at the place of an address
 pub place_node : (nodes : List Node) (a i : ℕ) → IsPlace nodes a i → (n : Node) × IsNodeAt nodes i n × (n.at ≡ a)

@@ -15,7 +15,8 @@ use Rattle.graph_nodes.specs.declared.nodes.Letter.TheVariants.{Return}
 use Rattle.graph_nodes.specs.declared.nodes.Node.{Node}
 use Rattle.graph_nodes.specs.declared.nodes.Graph.{Graph}
 use Rattle.flag_live.specs.Reachable.{Reaches, IsMarked}
-use Rattle.flag_live.specs.Vertices.{AreRising, IsNodeAt, IsEdge, IsStart}
+use Rattle.flag_live.specs.Vertices.{IsNodeAt, IsEdge, IsStart}
+use Rattle.graph_nodes.specs.Places.{AreRising}
 use Rattle.flag_live.specs.Meanings.{AreReads, LeadsOn, IsOn, on_successor, on_exit, IsLiveNode, AreLiveBelow, AreLive}
 use Rattle.flag_live.specs.Keeps.{IsSetOf}
 use Rattle.flag_live.proofs.Located.{node_is}

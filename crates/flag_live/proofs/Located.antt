@@ -1,46 +1,11 @@
 -- Nodes by their places and addresses.
-use Rattle.std.proofs.Common.{◌≡◌, ℕ, ◌≤◌, ◌<◌, List, [], ◌∷◌, length, get_or, sym, ap, ◌∙◌, arith, inl, inr}
-use Rattle.std.specs.List.{AllWithin}
-use Rattle.std.specs.List.Sorted.{IsNonDecreasingBy}
+use Rattle.std.proofs.Common.{◌≡◌, ℕ, ◌<◌, List, length, get_or, sym, ap, ◌∙◌, arith, inl, inr}
 use Rattle.std.proofs.lemmas.Bool.{cases_lt}
-use Rattle.std.proofs.lemmas.List.{get_or-map, get_or_default}
+use Rattle.std.proofs.lemmas.List.{get_or_default}
+use Rattle.graph_nodes.proofs.Places.{at_is}
 use Rattle.graph_nodes.specs.declared.nodes.Node.{Node}
-use Rattle.flag_live.specs.Vertices.{ats, AreRising, IsPlace, IsNodeAt}
-
-pub at_is : (nodes : List Node) (i : ℕ) (d : Node) → i < length nodes → get_or (ats nodes) i 0 ≡ (get_or nodes i d).at
-at_is nodes i d w = get_or-map (λ (n : Node). n.at) nodes i d 0 w
-
--- some node of nodes
-pub some_node : (nodes : List Node) → 0 < length nodes → Node
-some_node [] w = absurd (omega arith)
-some_node (n ∷ nodes) w = n
-
--- rising addresses do not fall
-pub not_falling : (nodes : List Node) → AreRising nodes → IsNonDecreasingBy (λ n. n.at) nodes
-not_falling nodes rising i j d le w = elim (cases_lt i j) as (λ _. (get_or nodes i d).at ≤ (get_or nodes j d).at) [
-  | inl less ↦ (let one = at_is nodes i d (omega arith) in let other = at_is nodes j d w in let up = rising i j less w in omega arith)
-  | inr same ↦ (let e : i ≡ j = omega arith in let f : (get_or nodes i d).at ≡ (get_or nodes j d).at = ap (λ (k : ℕ). (get_or nodes k d).at) e in omega arith)
-]
-
--- where the addresses from one on begin is the address's only place
-pub place_is : (nodes : List Node) (a i : ℕ) → AllWithin (λ n. n.at < a) nodes 0 i → AllWithin (λ n. a ≤ n.at) nodes i (length nodes)
-    → AreRising nodes → (j : ℕ) → IsPlace nodes a j → i ≡ j
-place_is nodes a i before behind rising j place =
-    let within = place.within in
-    let is = place.is in
-    let d = some_node nodes (omega arith) in
-    let here = at_is nodes j d within in
-    elim (cases_lt j i) as (λ _. i ≡ j) [
-      | inl low ↦ (let b = before j d (omega arith) low in absurd (omega arith))
-      | inr from ↦ elim (cases_lt i j) as (λ _. i ≡ j) [
-        | inl high ↦
-            let up = rising i j high within in
-            let there = at_is nodes i d (omega arith) in
-            let b = behind i d (omega arith) (omega arith) in
-            absurd (omega arith)
-        | inr le ↦ omega arith
-      ]
-    ]
+use Rattle.flag_live.specs.Vertices.{IsNodeAt}
+use Rattle.graph_nodes.specs.Places.{AreRising, IsPlace}
 
 -- a place has one node
 pub node_is : (nodes : List Node) (i : ℕ) (m n : Node) → IsNodeAt nodes i m → IsNodeAt nodes i n → m ≡ n
@@ -63,11 +28,3 @@ place_once nodes a i j rising one other =
       | inl less ↦ (let up = rising i j less v in absurd (omega arith))
       | inr le ↦ elim (cases_lt j i) as (λ _. i ≡ j) [ inl less ↦ (let up = rising j i less w in absurd (omega arith)) | inr ge ↦ omega arith ]
     ]
-
-place_here : (nodes : List Node) (a i j : ℕ) (n : Node) → n ≡ get_or nodes i n → i ≡ j → IsPlace nodes a j → n.at ≡ a
-place_here nodes a i j n at e place =
-    ap (λ (m : Node). m.at) at ∙ ap (λ (k : ℕ). (get_or nodes k n).at) e ∙ sym (at_is nodes j n place.within) ∙ place.is
-
--- a node with another address does not stand at the address's place
-pub other_place : (nodes : List Node) (a i j : ℕ) (n : Node) → n ≡ get_or nodes i n → i ≡ j → IsPlace nodes a j → ((get_or nodes i n).at ≡ a → ⊥) → ⊥
-other_place nodes a i j n at e place other = other (ap (λ (m : Node). m.at) (sym at) ∙ place_here nodes a i j n at e place)

@@ -15,7 +15,8 @@ use Rattle.graph_nodes.specs.declared.nodes.Graph.{Graph}
 use Rattle.flag_live.specs.Reachable as reachable
 use Rattle.flag_live.specs.Reachable.{Reaches, IsMarked}
 use Rattle.flag_live.specs.Vertices as vertices
-use Rattle.flag_live.specs.Vertices.{IsPlace, IsNodeAt, IsEdgeBy, IsEdgeAmong, IsEdgeOf, by_successor, by_exit, IsEdge, of, IsStartAt, IsStartBelow, IsStart, at_node}
+use Rattle.flag_live.specs.Vertices.{IsNodeAt, IsEdgeBy, IsEdgeAmong, IsEdgeOf, by_successor, by_exit, IsEdge, of, IsStartAt, IsStartBelow, IsStart, at_node}
+use Rattle.graph_nodes.specs.Places.{IsPlace}
 use Rattle.flag_live.specs.Meanings.{IsReadBack, ensured, behind, AreReads, IsLiveNode, IsOn, on_successor, on_exit}
 use Rattle.flag_live.proofs.Located.{node_is, node_place}
 use Rattle.flag_live.proofs.Graphs.{place_node, node_of, address_place, node_address, successor_has, successor_at, return_letter, goes_letter, letter_goes}

@@ -9,7 +9,8 @@ use Rattle.graph_nodes.specs.declared.nodes.Successor.{Successor}
 use Rattle.graph_nodes.specs.declared.nodes.Node.{Node}
 use Rattle.graph_nodes.specs.declared.nodes.Graph.{Graph}
 use Rattle.flag_live.specs.Reachable.{IsMarked}
-use Rattle.flag_live.specs.Vertices.{AreRising, IsPlace, IsNodeAt}
+use Rattle.flag_live.specs.Vertices.{IsNodeAt}
+use Rattle.graph_nodes.specs.Places.{AreRising, IsPlace}
 
 -- the flag is read after a return: at an exit, or behind a call
 pub data IsReadBack (p : Program) (f : ℕ) : Type 0 where

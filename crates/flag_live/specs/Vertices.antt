@@ -1,23 +1,11 @@
 -- The edges along which a read of a flag goes back over a graph, by the places of its nodes; the number of the nodes stands for a read after a return.
-use Rattle.std.specs.Prelude.{ℕ, ◌≡◌, ◌≢◌, ◌<◌, ◌⊎◌, Bool, true, false, List, map, length, slice_index, slice_index_or, Contains}
+use Rattle.std.specs.Prelude.{ℕ, ◌≡◌, ◌≢◌, ◌<◌, ◌⊎◌, Bool, true, false, List, length, slice_index_or, Contains}
 use Rattle.graph_nodes.specs.Graphs.{has_flag}
+use Rattle.graph_nodes.specs.Places.{IsPlace}
 use Rattle.graph_nodes.specs.declared.nodes.Letter.TheVariants.{Return}
 use Rattle.graph_nodes.specs.declared.nodes.Successor.{Successor}
 use Rattle.graph_nodes.specs.declared.nodes.Node.{Node}
 use Rattle.graph_nodes.specs.declared.nodes.Graph.{Graph}
-
--- the addresses of nodes
-abbrev pub ats : List Node → List ℕ
-ats nodes = map (λ n. n.at) nodes
-
--- each address is above those before it
-abbrev pub AreRising : List Node → Type 0
-AreRising nodes = (i j : ℕ) → i < j → j < length nodes → slice_index (ats nodes) i < slice_index (ats nodes) j
-
--- the node at a place has the address
-pub record IsPlace (nodes : List Node) (a i : ℕ) : Type 0 where
-  pub within : i < length nodes
-  pub is : slice_index (ats nodes) i ≡ a
 
 -- a node stands at a place
 pub record IsNodeAt (nodes : List Node) (i : ℕ) (n : Node) : Type 0 where

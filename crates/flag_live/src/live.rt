@@ -3,12 +3,12 @@ ghost use Rattle.std.specs.Prelude.{◌≡◌, ◌<◌, ◌+◌, ◌↔◌, ℕ,
 ghost use Rattle.std.specs.List.Sorted.{IsNonDecreasingBy, IsPermutation};
 ghost use Rattle.bilv_spec.specs.Run.{Program};
 ghost use Rattle.graph_nodes.specs.Graphs.{IsGraph};
-ghost use Rattle.flag_live.specs.Vertices.{AreRising};
+ghost use Rattle.graph_nodes.specs.Places.{AreRising};
 ghost use Rattle.flag_live.specs.Meanings.{AreReads, LeadsOn, IsOn, IsLiveNode, AreLive};
 
-use crate::paths::{edges_of, place, starts_of};
+use crate::paths::{edges_of, starts_of};
 use crate::walk::reach;
-use graph_nodes::{Graph, Letter, Node, Successor, has_flag};
+use graph_nodes::{Graph, Letter, Node, Successor, has_flag, place};
 use std::alloc::{AllocError, Global};
 
 /// The edges by rising first vertices. The error is want of memory.

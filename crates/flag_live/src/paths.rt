@@ -4,25 +4,11 @@
 //! after a return.
 ghost use Rattle.std.specs.Prelude.{◌≡◌, ◌<◌, ◌↔◌, ◌++◌, ℕ, IfOk, IfSome, Contains, length};
 ghost use Rattle.std.specs.Option.{option_to_list};
-ghost use Rattle.flag_live.specs.Vertices.{IsPlace, AreRising, IsEdgeBy, IsEdgeOf, IsEdge, IsStartAt, IsStart, Adds};
+ghost use Rattle.graph_nodes.specs.Places.{AreRising};
+ghost use Rattle.flag_live.specs.Vertices.{IsEdgeBy, IsEdgeOf, IsEdge, IsStartAt, IsStart, Adds};
 
-use graph_nodes::{Graph, Letter, Node, Successor, has_flag};
+use graph_nodes::{Graph, Letter, Node, Successor, has_flag, place};
 use std::alloc::{AllocError, Global};
-
-/// The place of the node at an address, by binary search.
-pub fn place(nodes: &[Node], at: u32) -> Option<usize>
-    ensures found { IfSome result (λ i. IsPlace nodes.now at i) }
-    ensures only { AreRising nodes.now → (i : ℕ) → IsPlace nodes.now at i → result ≡ Some i }
-{
-    let i = nodes.partition_point(|node| node.at < at);
-    if i >= nodes.len() {
-        return None;
-    }
-    if nodes[i].at != at {
-        return None;
-    }
-    Some(i)
-}
 
 /// Puts an item at the end of a list, if there is one. The error is want of memory.
 fn add<T: Drop>(list: &mut Vec<T>, item: Option<T>) -> Result<(), AllocError>

@@ -1,6 +1,6 @@
 use Rattle.std.proofs.Common.{ℕ, ◌<◌, get_or}
 use Rattle.graph_nodes.specs.declared.nodes.Successor.{Successor}
-use Rattle.flag_live.specs.Vertices.{AreRising}
+use Rattle.graph_nodes.specs.Places.{AreRising}
 use Rattle.flag_live.specs.Meanings.{LeadsOn}
 use Rattle.flag_live.proofs.live.is_on.Given as goal
 

@@ -1,6 +1,6 @@
 use Rattle.std.proofs.Common.{◌≡◌, ◌<◌, List, Bool, true, length, arith, subst}
 use Rattle.graph_nodes.specs.declared.nodes.Node.{Node}
-use Rattle.flag_live.specs.Vertices.{AreRising}
+use Rattle.graph_nodes.specs.Places.{AreRising}
 use Rattle.flag_live.specs.Meanings.{IsLiveNode}
 use Rattle.flag_live.proofs.Located.{node_from_read}
 use Rattle.flag_live.proofs.Lives.{live_more, lives_are}

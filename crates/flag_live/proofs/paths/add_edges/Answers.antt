@@ -2,7 +2,8 @@ use Rattle.std.proofs.Common.{◌≡◌, ◌+◌, List, length, sym, ap, ◌∙�
 use Rattle.std.proofs.lemmas.Bool.{both_ways}
 use Rattle.graph_nodes.specs.declared.nodes.Successor.{Successor}
 use Rattle.graph_nodes.specs.declared.nodes.Letter.TheVariants.{Next}
-use Rattle.flag_live.specs.Vertices.{AreRising, IsEdgeAmong, Adds}
+use Rattle.flag_live.specs.Vertices.{IsEdgeAmong, Adds}
+use Rattle.graph_nodes.specs.Places.{AreRising}
 use Rattle.flag_live.proofs.Added.{adds_successor, node_assigned, node_returns}
 use Rattle.flag_live.proofs.paths.add_edges.Goals as goal
 

@@ -1,4 +1,5 @@
-use Rattle.flag_live.specs.Vertices.{AreRising, IsEdgeAmong, Adds}
+use Rattle.flag_live.specs.Vertices.{IsEdgeAmong, Adds}
+use Rattle.graph_nodes.specs.Places.{AreRising}
 use Rattle.flag_live.proofs.paths.add_edges.Given as goal
 
 abbrev pub invariant-loop-successor : goal.invariant-loop-successor
