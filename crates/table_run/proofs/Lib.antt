@@ -1,5 +1,4 @@
 pub mod Lists
-pub mod Reaches
 pub mod Memories
 pub mod Hits
 pub mod Stepped

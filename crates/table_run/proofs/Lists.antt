@@ -1,7 +1,7 @@
 -- Lists of notes and of addresses.
-use Rattle.std.proofs.Common.{◌≡◌, ℕ, ◌+◌, ◌-◌, ◌<◌, List, ◌∷◌, length, get_or, map, refl, sym, ◌∙◌, subst, arith}
+use Rattle.std.proofs.Common.{◌≡◌, ℕ, ◌+◌, ◌-◌, ◌<◌, List, ◌∷◌, length, get_or, map, refl, subst, arith}
 use Rattle.std.specs.List.{All}
-use Rattle.std.proofs.lemmas.List.{length-map, get_or_default}
+use Rattle.std.proofs.lemmas.List.{length-map}
 use Rattle.std.proofs.Math.Numerals.{add-one}
 use Rattle.std.proofs.Math.ListN.{get_or-map}
 use Rattle.bilv_spec.specs.Words.{add}
@@ -13,12 +13,6 @@ unmapped Q f xs ys is h k d w =
     let within : k < length xs = subst (λ zs. k < length zs) is w in
     let at : Q (f (get_or xs k d)) = rw (← get_or-map f xs k d) (h k (f d) (rw (length-map xs f) within)) in
     rw is at
-
--- and back
-pub mapped : {X Y : Type 0} (Q : Y → Type 0) (f : X → Y) (e : X) (xs : List X) → All (λ x. Q (f x)) xs → All Q (map f xs)
-mapped Q f e xs h k d w =
-    let within : k < length xs = rw (length-map xs f) at w in
-    subst Q (sym (get_or-map f xs k e) ∙ get_or_default (map f xs) k (f e) d w) (h k e within)
 
 -- the addresses that are left of so many bytes, one of them apart
 pub span_more : (a n i : ℕ) → i < n → span a (n - i) ≡ a ∷ span (add 32 a 1) (n - (i + 1))

@@ -14,7 +14,8 @@ use Rattle.bilv_spec.specs.Notes.{FixedRange}
 use Rattle.bilv_spec.specs.StateText.{AreRising, known_or}
 use Rattle.byte_mem.proofs.Spans.{byte_none}
 use Rattle.elf32_reader.specs.declared.parts.Part.{Part}
-use Rattle.table_run.specs.Known.{is_known, given, IsFirstKnown, IsPut, HasFirst, HasByte, Fills, FillsTo, HasGiven}
+use Rattle.known_bytes.specs.Known.{is_known, given, IsFirstKnown}
+use Rattle.table_run.specs.Known.{IsPut, HasFirst, HasByte, Fills, FillsTo, HasGiven}
 
 -- a store of one byte
 pub put_of : (old new : List (ℕ × ℕ)) (a value bits : ℕ) → a < 2 ^ 32 → value < 256 → bits ≡ value → memory_of new ≡ store Little 1 (memory_of old) a bits → IsPut old a value new

@@ -1,32 +1,13 @@
--- Addresses whose byte the file gives, and memories that have it.
-use Rattle.std.specs.Prelude.{ℕ, ◌≡◌, ◌≤◌, ◌<◌, ◌^◌, ◌+◌, ◌-◌, ◌⊎◌, ◌||◌, ◌&&◌, Bool, true, false, List, Option, Some, None, is_some, slice_index, slice_index_or, length, if◌then◌else◌}
+-- Memories that have the bytes that the file gives.
+use Rattle.std.specs.Prelude.{ℕ, ◌≡◌, ◌≤◌, ◌<◌, ◌^◌, ◌+◌, ◌-◌, ◌⊎◌, List, slice_index, slice_index_or}
 use Rattle.bilv_spec.specs.Memory.{memory_of}
 use Rattle.bilv_spec.specs.State.{State}
-use Rattle.bilv_spec.specs.Elf.{loaded, is_kept}
 use Rattle.bilv_spec.specs.Notes.{FixedRange}
-use Rattle.bilv_spec.specs.Verdict.{fixed}
 use Rattle.bilv_spec.specs.Run.{Program}
-use Rattle.bilv_spec.specs.Points.{byte_of_cell}
 use Rattle.bilv_spec.specs.EntryFaults.{IsWrongByte}
 use Rattle.bilv_spec.specs.StateText.{known_or}
-use Rattle.notes_lang.specs.declared.notes.FixedRange as declared
+use Rattle.known_bytes.specs.Known.{given}
 use Rattle.elf32_reader.specs.declared.parts.Part.{Part}
-
--- the byte at an address is kept or fixed, by a file and fixed ranges
-abbrev pub is_known : List ℕ → List FixedRange → ℕ → Bool
-is_known file ranges a = is_kept (loaded file a) || (is_some (loaded file a) && fixed ranges a)
-
--- the byte that the file gives at an address
-abbrev pub given : List ℕ → List FixedRange → ℕ → Option ℕ
-given file ranges a = if is_known file ranges a then Some (byte_of_cell (loaded file a)) else None
-
--- the first known addresses from one on: those from the part's first to its last, whose bytes it has, 0 where its own have ended
-pub record IsFirstKnown (file : List ℕ) (ranges : List FixedRange) (a : ℕ) (part : Part) : Type 0 where
-  pub behind : a ≤ part.first
-  pub some : part.first ≤ part.last
-  pub gap : (x : ℕ) → a ≤ x → x < part.first → is_known file ranges x ≡ false
-  pub known : (x : ℕ) → part.first ≤ x → x ≤ part.last → is_known file ranges x ≡ true
-  pub bytes : (x : ℕ) → part.first ≤ x → x ≤ part.last → byte_of_cell (loaded file x) ≡ slice_index part.bytes.now (x - part.first)
 
 -- a memory has the part's byte at an address
 abbrev pub HasByte : (ℕ → ℕ) → Part → ℕ → Type 0
@@ -65,11 +46,6 @@ pub record HasFirst (bytes : List (ℕ × ℕ)) (n : ℕ) (entries : List (ℕ �
 pub record Fills (part : Part) (old new : List (ℕ × ℕ)) : Type 0 where
   pub within : (x : ℕ) → part.first ≤ x → x ≤ part.last → memory_of old x ≡ 0 → HasByte (memory_of new) part x
   pub without : (x : ℕ) → x < 2 ^ 32 → (x < part.first) ⊎ (part.last < x) → memory_of new x ≡ memory_of old x
-
--- one of the ranges holds the addresses from one up to another
-abbrev pub IsHeld : List declared.FixedRange → ℕ → ℕ → Type 0
-IsHeld ranges a high =
-    (k : ℕ) × (k < length ranges) × ((d : declared.FixedRange) → ((slice_index_or ranges k d).low ≤ a) × (high ≤ (slice_index_or ranges k d).high))
 
 -- so many of the part's own bytes were stored, and all others are as they were
 pub record FillsTo (part : Part) (count : ℕ) (old new : List (ℕ × ℕ)) : Type 0 where

@@ -10,12 +10,12 @@ ghost use Rattle.table_run.specs.Endings.{fault_of, IsLinesFault};
 ghost use Rattle.table_run.specs.Known.{HasBytesTo, IsFirstOther, IsRightTo, IsFirstWrong};
 
 use crate::ending::EntryFault;
-use crate::known::{byte_in, first_known};
 use crate::lines::false_line;
 use crate::program::Program;
 use crate::words::byte;
 use byte_mem::View;
 use elf32_reader::{Image, Part};
+use known_bytes::{byte_in, first_known};
 use machine_law::Machine;
 use notes_lang::Notes;
 
@@ -42,7 +42,7 @@ fn first_wrong<M: Machine>(p: &Program, state: &M::State) -> Option<u32>
 {
     let mut at = 0u32;
     loop {
-        let part = match first_known(p, at) {
+        let part = match first_known(p.image, p.notes, at) {
             None => return None,
             Some(part) => part,
         };

@@ -5,7 +5,6 @@ mod choices;
 mod ending;
 mod entry;
 mod jumps;
-mod known;
 mod lines;
 mod memory;
 mod program;
@@ -15,5 +14,4 @@ mod words;
 
 pub use ending::{Ending, EntryFault};
 pub use entry::{entry_ok, lines_ok};
-pub use known::{Stretch, known_stretch};
 pub use runs::{run, start_state};

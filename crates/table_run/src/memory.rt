@@ -4,13 +4,14 @@ ghost use Rattle.bilv_spec.specs.Words.{word};
 ghost use Rattle.bilv_spec.specs.Memory.{memory_of};
 ghost use Rattle.bilv_spec.specs.StateText.{AreRising, known_or};
 ghost use Rattle.notes_lang.specs.Drafting.{fixed_of};
-ghost use Rattle.table_run.specs.Known.{is_known, given, IsPut, HasFirst, Fills};
+ghost use Rattle.known_bytes.specs.Known.{is_known, given};
+ghost use Rattle.table_run.specs.Known.{IsPut, HasFirst, Fills};
 
-use crate::known::first_known;
 use crate::program::Program;
 use bv_word::Word;
 use byte_mem::{Bytes32, Endian};
 use elf32_reader::Part;
+use known_bytes::first_known;
 use std::alloc::{AllocError, Global};
 
 /// Stores a byte. The error is want of memory.
@@ -60,7 +61,7 @@ pub(crate) fn memory_at(
     let mut memory = of_bytes(alloc, bytes)?;
     let mut at = 0u32;
     loop {
-        let part = match first_known(p, at) {
+        let part = match first_known(p.image, p.notes, at) {
             None => return Ok(memory),
             Some(part) => part,
         };
