@@ -9,10 +9,10 @@ ghost use Rattle.notes_lang.specs.Drafting.{notes_of};
 ghost use Rattle.report_replay.specs.Readings.{told_of, AreAlike};
 
 use elf32_reader::Image;
+use known_bytes::{Stretch, known_stretch};
 use notes_lang::Notes;
 use state_text::{Layout, ParseFault, StateFault, StateText, parse_state};
 use std::alloc::{AllocError, Global};
-use table_run::{Stretch, known_stretch};
 
 /// What a text says: a state, or nothing, refused at a line.
 #[derive(Drop)]
