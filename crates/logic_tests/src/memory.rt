@@ -66,8 +66,16 @@ fn keeps_what_is_not_zero(rt: HostRuntime) -> Result<(), AllocError> {
         stored.store(a, n, endian, word)?;
         reserved.reserve(n as usize)?;
         reserved.store_reserved(a, n, endian, word);
-        assert_eq!(rt; stored.entries(rt.alloc())?.as_slice(), entries, "stored at {a}");
-        assert_eq!(rt; reserved.entries(rt.alloc())?.as_slice(), entries, "stored with room at {a}");
+        assert_eq!(rt;
+            stored.entries(rt.alloc())?.as_slice(),
+            entries,
+            "stored at {a}"
+        );
+        assert_eq!(rt;
+            reserved.entries(rt.alloc())?.as_slice(),
+            entries,
+            "stored with room at {a}"
+        );
         assert_eq!(rt;
             stored.copy(rt.alloc())?.entries(rt.alloc())?.as_slice(),
             entries,

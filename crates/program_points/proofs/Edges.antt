@@ -9,8 +9,7 @@ use Rattle.bilv_spec.specs.Points.{EdgeEnd, ToAddress, ToExit, edges, edges_by, 
 use Rattle.bilv_spec.specs.Points as points
 use Rattle.bilv_spec.specs.Graph.{Letter, NextLetter, JumpLetter, CallLetter, ReturnLetter, Successor, successor, successors_of, successors_by, comes_before, insert, sort, successors_at, may_return, returns_by}
 use Rattle.bilv_spec.proofs.PointSteps.{same_number, here, there, in_left, in_right, in_filter, in_map, in_edges}
-use Rattle.bilv_spec.proofs.PointsInGraph.{split_in, of_filter, of_map}
-use Rattle.program_points.proofs.Ordered.{of_distinct, in_sort}
+use Rattle.bilv_spec.proofs.PointsInGraph.{split_in, of_distinct, of_filter, of_map, in_sort}
 use Rattle.program_points.specs.Listed.{HasOneWay}
 
 -- an edge to an address with a stack, as successors say: back is the address behind a call

@@ -1,4 +1,3 @@
-pub mod Ordered
 pub mod Keys
 pub mod Lists
 pub mod Tabled
