@@ -1,18 +1,18 @@
 -- The clauses of a circuit.
-use Rattle.std.proofs.Common.{◌≡◌, ℕ, zero, suc, ◌+◌, ◌<◌, ◌≤◌, Bool, true, false, ◌&&◌, ◌||◌, List, [], ◌∷◌, length, take, get_or, refl, sym, ◌∙◌, ap, arith, length-take}
+use Rattle.std.proofs.Common.{◌≡◌, ℕ, zero, suc, ◌+◌, ◌<◌, ◌≤◌, Bool, true, false, ◌&&◌, ◌||◌, List, [], ◌∷◌, length, map, take, get_or, refl, sym, ◌∙◌, ap, arith, length-take}
 use Rattle.std.specs.Bool.{beq}
 use Rattle.std.proofs.lemmas.Bool.{and_parts, and_from}
 use Rattle.std.proofs.lemmas.List.{take_more, take_all}
-use Rattle.bilv_spec.specs.Clauses.{Clause, Cnf, Satisfies, AreOnVariables, AgreeUpTo, ExtendsOnceWhere}
+use Rattle.bilv_spec.specs.Clauses.{Clause, Cnf, Satisfies, AreOnVariables, AgreeUpTo, ExtendsOnceWhere, IsOnVariables}
 use Rattle.cnf_form.proofs.OnVariables.{on-sound, on-complete}
 use Rattle.gates.specs.declared.bit.Bit.{Bit}
 use Rattle.gates.specs.declared.gate.Gate.{Gate}
 use Rattle.gates.specs.declared.gate.Gate.TheVariants.{And, Xor, Ite, Parity, Majority, Same}
-use Rattle.gates.specs.Circuits.{Netlist, next, holds, Holds, InOrder, IsGateBelow, gate_value, bit_value}
+use Rattle.gates.specs.Circuits.{Netlist, next, holds, Holds, InOrder, IsGateBelow, gate_value, bit_value, literal_of, Within}
 use Rattle.gates.specs.Defined.{IsDefined}
 use Rattle.gates.specs.Pushes.{satisfied, AreOver}
 use Rattle.gates.proofs.Netlists.{and_true, holds_push}
-use Rattle.gates.proofs.Pushes.{satisfies-from, satisfies-to}
+use Rattle.gates.proofs.Pushes.{satisfies-from, satisfies-to, bits_over}
 use Rattle.gates.proofs.Valuations.{once, extends}
 
 or_false : (b : Bool) → (b || false) ≡ b
@@ -88,3 +88,7 @@ extends_once_where c ties root cnf Fact d i t f =
           let r = f v e.2 (i a v (λ k l m. sym (e.1 k l m)) x) in
           (v, e.1, d.where_met v (record { gates = e.2; each = r.0; top = r.1 }));
     }
+
+-- the clause of bits of the circuit is over its variables
+pub tie_over : (n : ℕ) (bs : List Bit) → Within n bs → IsOnVariables n (map literal_of bs)
+tie_over n bs w = on-sound n (map literal_of bs ∷ []) (and_from _ _ (bits_over n bs w.each) refl) (map literal_of bs) (0, omega arith, refl)

@@ -28,7 +28,7 @@ satisfied_push v cs bs =
 one_over : (m x : ℕ) → x < m → (nat_le 1 (suc x) && nat_le (suc x) m) ≡ true
 one_over m x h = let f : suc x ≤ m = omega arith in let g : 1 ≤ suc x = omega arith in grind (arith, nat_tests, f, g)
 
-bits_over : (m : ℕ) (bs : List Bit) → ((k : ℕ) (d : Bit) → k < length bs → variable_of (get_or bs k d) < m) → is_on_variables m (map literal_of bs) ≡ true
+pub bits_over : (m : ℕ) (bs : List Bit) → ((k : ℕ) (d : Bit) → k < length bs → variable_of (get_or bs k d) < m) → is_on_variables m (map literal_of bs) ≡ true
 bits_over m [] h = refl
 bits_over m (b ∷ bs) h = and_from _ _ (one_over m (variable_of b) (h 0 b (omega arith))) (bits_over m bs (λ k d l. h (suc k) d (omega arith)))
 
