@@ -3,6 +3,7 @@ use Rattle.std.proofs.Common.{◌≡◌, Bool, true, false, not, List, [], ◌�
 use Rattle.std.proofs.lemmas.Bool.{cases_Bool, and_parts, both_ways, not-true}
 use Rattle.bilv_spec.specs.Clauses.{Literal, Clause, same, opposite, has}
 use Rattle.bilv_spec.specs.UnitPropagation.{Includes, Conflicts, negations, negations_but}
+use Rattle.bilv_spec.specs.Refutation.{is_tautology}
 use Rattle.bilv_spec.specs.Empowering.{IsEmpowering}
 use Rattle.bilv_spec.proofs.Looks.{same-true, same-self}
 use Rattle.bilv_spec.proofs.NewClauses.{opposite_twice}
@@ -10,19 +11,20 @@ use Rattle.cnf_form.specs.declared.form.Hint.{Hint}
 use Rattle.sat_core.specs.ClosedSets.{IsQuiet}
 use Rattle.sat_core.specs.Kept.{IsKept, IsNeeded}
 use Rattle.sat_core.specs.Descents.{IsDecided}
-use Rattle.sat_core.proofs.Literals.{has-last, last-self, cases-last, none-has}
+use Rattle.sat_core.proofs.Literals.{has-last, last-self, cases-last, none-has, plain-apart}
 use Rattle.sat_core.proofs.Quiet.{quiet-no_conflict, quiet-not_given}
 
 -- Propagation has nothing to do in a set in which all literals of the clause but l are false, and l is not true. Where without each of the others nothing
 -- follows, the clause is empowering.
-pub empowering-at : (cs : List Clause) (kept : Clause) (l : Literal) (holds : Literal → Bool) → IsQuiet cs holds → has kept l ≡ true → holds l ≡ false →
-    ((m : Literal) → has kept m ≡ true → same l m ≡ false → holds (opposite m) ≡ true) →
+pub empowering-at : (cs : List Clause) (kept : Clause) (l : Literal) (holds : Literal → Bool) → IsQuiet cs holds → is_tautology kept ≡ false → has kept l ≡ true →
+    holds l ≡ false → ((m : Literal) → has kept m ≡ true → same l m ≡ false → holds (opposite m) ≡ true) →
     ((m : Literal) → has kept m ≡ true → same l m ≡ false → Conflicts cs (negations_but kept m) → ⊥) → IsEmpowering cs kept
-empowering-at cs kept l holds q hl o f n =
+empowering-at cs kept l holds q p hl o f n =
     let part : Includes (negations_but kept l) holds = λ m p.
     (let r = and_parts (has kept (opposite m)) (not (same l (opposite m))) p in
     ap holds (sym (opposite_twice m)) ∙ f (opposite m) r.0 (not-true (same l (opposite m)) r.1)) in
     record {
+      plain = plain-apart kept p;
       no_conflict = λ x hx c. elim (cases_Bool (same l x)) [
         | inl e ↦ quiet-no_conflict cs (negations_but kept l) holds q part (rw (← same-true l x e) at c)
         | inr e ↦ n x hx e c
@@ -43,7 +45,7 @@ module _ (cs : List Clause) (full kept : Clause) (hints : List Hint) (k : IsKept
       let but : Includes (negations_but full l) holds = λ m p.
       (let r = and_parts (has full (opposite m)) (not (same l (opposite m))) p in inc m (last (opposite m) r.0 (not-true (same l (opposite m)) r.1))) in
       let among : has full l ≡ true = ap (λ (z : Clause). has z l) q ∙ last-self e l in
-      empowering-at cs kept l holds quiet (k.needed l among (quiet-no_conflict cs (negations_but full l) holds quiet but)) free
+      empowering-at cs kept l holds quiet k.plain (k.needed l among (quiet-no_conflict cs (negations_but full l) holds quiet but)) free
       (λ m h d. inc (opposite m) (ap (has e) (opposite_twice m) ∙ last m (k.part m h) d))
       (λ m h d. n m h)
 

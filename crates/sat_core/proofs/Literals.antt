@@ -188,3 +188,23 @@ false-plain h one (x ∷ xs) f = elim (cases_Bool (has xs (opposite x))) [
   | inl e ↦ absurd (one (opposite x) (f x (or_left (same x x) (has xs x) (same-self x))) (f (opposite x) (or_right (same x (opposite x)) (has xs (opposite x)) e)))
   | inr e ↦ rw e (false-plain h one xs (λ m p. f m (or_right (same x m) (has xs m) p)))
 ]
+
+own-sign : (b : Bool) → b ≡ not b → ⊥
+own-sign true e = cc
+own-sign false e = cc
+
+-- a clause that is no tautology has no literal beside its opposite
+pub plain-apart : (c : Clause) → is_tautology c ≡ false → (l : Literal) → has c l ≡ true → has c (opposite l) ≡ true → ⊥
+plain-apart [] h l p q = cc
+plain-apart (x ∷ xs) h l p q =
+    let r = or_false_parts (has xs (opposite x)) (is_tautology xs) h in
+    elim (or_cases (same x l) (has xs l) p) [
+      | inl e ↦ elim (or_cases (same x (opposite l)) (has xs (opposite l)) q) [
+        | inl f ↦ own-sign l.positive (ap (λ (z : Literal). z.positive) (sym (same-true x l e) ∙ same-true x (opposite l) f))
+        | inr f ↦ both_ways (has xs (opposite x)) r.0 (ap (λ z. has xs (opposite z)) (same-true x l e) ∙ f)
+      ]
+      | inr e ↦ elim (or_cases (same x (opposite l)) (has xs (opposite l)) q) [
+        | inl f ↦ both_ways (has xs (opposite x)) r.0 (ap (λ z. has xs (opposite z)) (same-true x (opposite l) f) ∙ ap (has xs) (opposite_twice l) ∙ e)
+        | inr f ↦ plain-apart xs r.1 l e f
+      ]
+    ]
