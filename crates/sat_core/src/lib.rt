@@ -7,12 +7,14 @@
 mod analysis;
 mod answer;
 mod decide;
+mod explore;
 mod hints;
 mod learn;
 mod minimise;
 mod propagate;
 mod propagator;
 mod search;
+mod settle;
 mod solver;
 mod table;
 mod trail;

@@ -14,6 +14,7 @@ use crate::decide::{Descent, descend, pick};
 use crate::learn::learn;
 use crate::minimise::{Learned, minimise};
 use crate::propagator::Propagator;
+use crate::settle::settle;
 use crate::solver::{GREATEST_NUMBER, Solver};
 use crate::table::values;
 use cnf_form::{Clause, Cnf, Lit, Log, LogLine};
@@ -106,6 +107,9 @@ pub fn solve(alloc: Global, cnf: &Cnf, conflicts: u64) -> Result<Answer, AllocEr
     requires over { AreOnVariables cnf.now.variables cnf.now.clauses.items }
     ensures { IfOk result (IsAnswer (cnf_of cnf.now) conflicts) }
 {
+    if let Some(answer) = settle(alloc, cnf, conflicts)? {
+        return Ok(answer);
+    }
     let mut solver = Solver::new(alloc, cnf, conflicts)?;
     let mut lines = Vec::new(alloc);
     loop {

@@ -1,0 +1,63 @@
+//! Answers by the fast search, where what it finds is right.
+ghost use Rattle.std.specs.Prelude.{◌≡◌, IfOk, IfSome};
+ghost use Rattle.std.specs.List.{list_all};
+ghost use Rattle.bilv_spec.specs.Clauses.{AreOnVariables, literal_value, clause_value, valuation};
+ghost use Rattle.cnf_form.specs.Views.{cnf_of};
+ghost use Rattle.sat_core.specs.Answers.{IsAnswer};
+
+use crate::answer::Answer;
+use crate::explore::{Finding, explore};
+use cnf_form::{Clause, Cnf, Lit};
+use refutation_checker::{Checked, check};
+use std::alloc::{AllocError, Global};
+
+/// Whether a literal is true.
+fn holds(values: &[bool], lit: Lit) -> bool
+    ensures { result ≡ literal_value (valuation values.now) lit }
+{
+    let place = lit.variable() as usize - 1;
+    let value = if place < values.len() { values[place] } else { false };
+    value == lit.is_positive()
+}
+
+/// Whether some literal of a clause is true.
+fn is_satisfied(values: &[bool], clause: &[Lit]) -> bool
+    ensures { result ≡ clause_value (valuation values.now) clause.now }
+{
+    for lit in clause {
+        if holds(values, *lit) {
+            return true;
+        }
+    }
+    false
+}
+
+/// Whether every clause has a literal that is true.
+fn are_satisfied(values: &[bool], clauses: &[Clause]) -> bool
+    ensures { result ≡ list_all (clause_value (valuation values.now)) clauses.now }
+{
+    for clause in clauses {
+        if !is_satisfied(values, clause.lits()) {
+            return false;
+        }
+    }
+    true
+}
+
+/// Values or a refutation, if the fast search finds them with so many conflicts.
+pub fn settle(alloc: Global, cnf: &Cnf, conflicts: u64) -> Result<Option<Answer>, AllocError>
+    requires over { AreOnVariables cnf.now.variables cnf.now.clauses.items }
+    ensures { IfOk result (λ o. IfSome o (IsAnswer (cnf_of cnf.now) conflicts)) }
+{
+    match explore(alloc, cnf, conflicts)? {
+        Finding::Values(values) => {
+            let is_right = values.len() as u64 == cnf.variables && are_satisfied(&values, &cnf.clauses);
+            if is_right { Ok(Some(Answer::Sat(values))) } else { Ok(None) }
+        }
+        Finding::Refutation(log) => match check(alloc, cnf, &log)? {
+            Checked::Yes => Ok(Some(Answer::Unsat(log))),
+            Checked::No { line: _, cause: _ } => Ok(None),
+        },
+        Finding::Nothing => Ok(None),
+    }
+}
