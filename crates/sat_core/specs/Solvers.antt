@@ -7,13 +7,9 @@ use Rattle.sat_core.specs.Trails.{nothing}
 use Rattle.sat_core.specs.Links.{AreKept}
 use Rattle.sat_core.specs.Propagators.{IsSound}
 
--- The clauses are propagated on the trail of the search, whose first `done` steps are visited, and on a trail for trials, which has no steps.
+-- The clauses are propagated on a trail, whose first `done` steps are visited.
 pub record IsSolver (s : Solver) : Type 0 where
   pub main : IsSound s.main
-  pub trial : IsSound s.trial
-  pub empty : s.trial.trail.steps.items ≡ []
-  pub alike : s.trial.clauses.items ≡ s.main.clauses.items
-  pub sizes : length s.trial.trail.table.items ≡ length s.main.trail.table.items
   pub size : length s.main.trail.table.items ≡ s.variables + 1
   pub small : s.variables ≤ 2 ^ 62
   pub few : s.done ≤ length s.main.trail.steps.items

@@ -3,6 +3,7 @@ mod arena;
 mod assignment;
 mod cells;
 mod explorer;
+mod guide;
 mod load;
 mod names;
 mod order;
@@ -10,6 +11,7 @@ mod record;
 mod resolution;
 mod restarts;
 mod trimming;
+mod trying;
 mod watching;
 
 use crate::explore::assignment::Assignment;
@@ -20,6 +22,8 @@ use crate::explore::record::Record;
 use crate::explore::trimming::log_of;
 use cnf_form::{Cnf, Log};
 use std::alloc::{AllocError, Global};
+
+pub use crate::explore::guide::{Guide, Proposal};
 
 /// What the fast search says.
 #[derive(Drop)]

@@ -4,7 +4,6 @@
 //! with the log of as many learned clauses as it was given conflicts.
 #![tactic(auto)]
 
-mod analysis;
 mod answer;
 mod decide;
 mod explore;

@@ -1,7 +1,7 @@
 //! Answers by the fast search, where what it finds is right.
-ghost use Rattle.std.specs.Prelude.{◌≡◌, IfOk, IfSome};
+ghost use Rattle.std.specs.Prelude.{◌≡◌, true, length, IfOk, IfSome};
 ghost use Rattle.std.specs.List.{list_all};
-ghost use Rattle.bilv_spec.specs.Clauses.{AreOnVariables, literal_value, clause_value, valuation};
+ghost use Rattle.bilv_spec.specs.Clauses.{AreOnVariables, Satisfies, literal_value, clause_value, valuation};
 ghost use Rattle.cnf_form.specs.Views.{cnf_of};
 ghost use Rattle.sat_core.specs.Answers.{IsAnswer};
 
@@ -44,6 +44,17 @@ fn are_satisfied(values: &[bool], clauses: &[Clause]) -> bool
     true
 }
 
+/// Whether there is a value for each of so many variables, and every clause has a literal that is true.
+pub fn are_model(values: &[bool], variables: u64, clauses: &[Clause]) -> bool
+    ensures size { result ≡ true → length values.now ≡ variables }
+    ensures satisfied { result ≡ true → Satisfies (valuation values.now) clauses.now }
+{
+    if values.len() as u64 != variables {
+        return false;
+    }
+    are_satisfied(values, clauses)
+}
+
 /// Values or a refutation, if the fast search finds them with so many conflicts.
 pub fn settle(alloc: Global, cnf: &Cnf, conflicts: u64) -> Result<Option<Answer>, AllocError>
     requires over { AreOnVariables cnf.now.variables cnf.now.clauses.items }
@@ -51,8 +62,11 @@ pub fn settle(alloc: Global, cnf: &Cnf, conflicts: u64) -> Result<Option<Answer>
 {
     match explore(alloc, cnf, conflicts)? {
         Finding::Values(values) => {
-            let is_right = values.len() as u64 == cnf.variables && are_satisfied(&values, &cnf.clauses);
-            if is_right { Ok(Some(Answer::Sat(values))) } else { Ok(None) }
+            if are_model(&values, cnf.variables, &cnf.clauses) {
+                Ok(Some(Answer::Sat(values)))
+            } else {
+                Ok(None)
+            }
         }
         Finding::Refutation(log) => match check(alloc, cnf, &log)? {
             Checked::Yes => Ok(Some(Answer::Unsat(log))),

@@ -165,4 +165,40 @@ impl Explorer {
         self.resolution.lits = lits;
         Ok(())
     }
+
+    /// The clause of a conflict's implication point, its literals by their levels, the lowest first; that of the point is the last.
+    pub fn resolve(&mut self, conflict: u32, lits: &mut Vec<u32>) -> Result<(), AllocError> {
+        self.resolution
+            .resolve(&self.arena, &self.assignment, &mut self.order, conflict)?;
+        self.resolution.sort(&self.assignment)?;
+        lits.clear();
+        lits.extend_from_slice(&self.resolution.lits)
+    }
+
+    /// Whether all literals are false, the last one alone at a level above this one.
+    fn is_asserting(&self, lits: &[u32], level: u32) -> bool {
+        for (i, lit) in lits.iter().enumerate() {
+            if !self.assignment.is_false(*lit) {
+                return false;
+            }
+            let here = self.assignment.origin(variable_of(*lit)).level;
+            if i + 1 == lits.len() && here <= level {
+                return false;
+            }
+        }
+        true
+    }
+
+    /// Learns a clause that was made of a proposed one.
+    pub fn take(&mut self, lits: &mut [u32]) -> Result<(), AllocError> {
+        let (level, _) = self.greatest_level(lits);
+        if lits.is_empty() || !self.is_asserting(lits, level) {
+            self.back_to(0)?;
+            self.assignment.visited = 0;
+            return self.add(0, lits);
+        }
+        let level = self.arrange(lits);
+        let clause = self.arena.add(0, lits)?;
+        self.assert_first(clause, level, lits)
+    }
 }

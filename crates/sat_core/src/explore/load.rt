@@ -2,6 +2,7 @@
 use crate::explore::cells::count_of;
 use crate::explore::explorer::Explorer;
 use crate::explore::names::Names;
+use crate::explore::trying::Trying;
 use cnf_form::{Clause, Lit};
 use std::alloc::{AllocError, Global};
 
@@ -37,4 +38,21 @@ pub fn load(alloc: Global, clauses: &[Clause], names: &Names) -> Result<Explorer
         }
     }
     Ok(explorer)
+}
+
+/// The clauses for trials. Those that are always true are left out.
+pub fn load_trying(
+    alloc: Global,
+    trying: &mut Trying,
+    clauses: &[Clause],
+    names: &Names,
+) -> Result<(), AllocError> {
+    let mut codes = Vec::new(alloc);
+    for clause in clauses {
+        codes_of(&mut codes, clause.lits(), names)?;
+        if !has_both(&codes) {
+            trying.add(&codes)?;
+        }
+    }
+    Ok(())
 }

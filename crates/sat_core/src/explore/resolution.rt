@@ -17,6 +17,8 @@ pub struct Resolution {
     /// The variables that were met.
     met: Vec<u32>,
     stack: Vec<u32>,
+    /// Literals with their levels.
+    keys: Vec<u64>,
     /// How many literals of the last level were met and not resolved.
     open: usize,
 }
@@ -29,6 +31,7 @@ impl Resolution {
             marks: vec![in alloc; false; variables]?,
             met: Vec::new(alloc),
             stack: Vec::new(alloc),
+            keys: Vec::new(alloc),
             open: 0,
         })
     }
@@ -184,6 +187,25 @@ impl Resolution {
         self.shorten(arena, assignment)?;
         self.forget(0);
         order.age();
+        Ok(())
+    }
+
+    /// Orders the literals by their levels, the lowest first. The last one stays.
+    pub fn sort(&mut self, assignment: &Assignment) -> Result<(), AllocError> {
+        let Some(last) = self.lits.pop() else {
+            return Ok(());
+        };
+        self.keys.clear();
+        for lit in &self.lits {
+            let level = assignment.origin(variable_of(*lit)).level;
+            self.keys.push(level as u64 * 4294967296 + *lit as u64)?;
+        }
+        self.keys.sort_unstable();
+        self.lits.clear();
+        for key in &self.keys {
+            self.lits.push((*key % 4294967296) as u32)?;
+        }
+        self.lits.push(last)?;
         Ok(())
     }
 }

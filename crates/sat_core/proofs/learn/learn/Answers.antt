@@ -1,24 +1,9 @@
-use Rattle.std.proofs.Common.{◌∙◌}
+use Rattle.std.proofs.Common.{◌≡◌, ◌∙◌, length}
 use Rattle.bilv_spec.specs.Clauses.{Literal}
 use Rattle.sat_core.specs.Kept.{IsKept, IsNeeded}
-use Rattle.sat_core.specs.Tables.{true_in}
-use Rattle.sat_core.proofs.Literals.{false-plain}
 use Rattle.sat_core.proofs.Learning.{learned-useful}
-use Rattle.sat_core.proofs.Visiting.{consistent}
 use Rattle.sat_core.proofs.Shorter.{hints-follow}
 use Rattle.sat_core.proofs.learn.learn.Goals as goal
-
-pub is_news-requires-clause-plain : goal.is_news-requires-clause-plain
-is_news-requires-clause-plain c =
-    false-plain (true_in c.args.table.now) (consistent c.args.table.now) c.args.lits.now (c.are_false.ensures.all c.if-not-are_false.false)
-
-pub refute-requires-clause-plain : goal.refute-requires-clause-plain
-refute-requires-clause-plain c =
-    false-plain (true_in c.args.table.now) (consistent c.args.table.now) c.args.lits.now (c.are_false.ensures.all c.if-not-are_false.false)
-
-pub minimise-requires-clause-plain : goal.minimise-requires-clause-plain
-minimise-requires-clause-plain c =
-    false-plain (true_in c.args.table.now) (consistent c.args.table.now) c.args.lits.now (c.are_false.ensures.all c.if-not-are_false.false)
 
 pub minimise-requires-clause-conflict : goal.minimise-requires-clause-conflict
 minimise-requires-clause-conflict c =
@@ -33,7 +18,8 @@ returns-clause-learned c =
     let same_clauses = c.in_ok-_hints.ensures.clauses ∙ c.is_news.ensures.clauses in
     let k : IsKept cs lits c.in_ok-learned.learned.lits.items c.in_ok-learned.learned.hints.items = rw same_clauses at m.kept in
     let n : (l : Literal) → IsNeeded cs c.in_ok-learned.learned.lits.items l = rw same_clauses at m.minimal in
-    let w = c.are_false.ensures.within c.if-not-are_false.false in
+    let e : c.len.result ≡ length c.args.propagator.now.trail.table.items = c.len.ensures ∙ c.args.propagator.now.trail.table.ok.0 in
+    let w = rw e at (c.are_over.ensures c.if-not-are_over.false) in
     record {
       hinted = k.hinted;
       over = λ l p. w l (k.part l p);
