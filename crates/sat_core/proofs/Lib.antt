@@ -15,3 +15,4 @@ pub mod Keeping
 pub mod Detaching
 pub mod Watching
 pub mod Stepping
+pub mod Trials

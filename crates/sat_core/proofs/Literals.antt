@@ -26,7 +26,7 @@ signs-opposite false false = refl
 same-opposite : (x m : Literal) → same (opposite x) m ≡ same x (opposite m)
 same-opposite x m = ap (λ b. (x.variable == m.variable) && b) (signs-opposite x.positive m.positive)
 
-has-append : (xs ys : Clause) (l : Literal) → has (xs ++ ys) l ≡ (has xs l || has ys l)
+pub has-append : (xs ys : Clause) (l : Literal) → has (xs ++ ys) l ≡ (has xs l || has ys l)
 has-append [] ys l = refl
 has-append (x ∷ xs) ys l = grind (arith, has-append xs ys l)
 

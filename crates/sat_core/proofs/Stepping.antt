@@ -138,3 +138,8 @@ run-run cs first second third r t = (
       (steps-append cs (told nothing (reverse first)) (reverse r.0) (reverse t.0) r.2
       (subst (λ (h : Literal → Bool). AreSteps cs h (reverse t.0)) (sym (told-after cs first second r.0 r.1)) t.2)),
 )
+
+-- one more step behind others
+pub steps-more : (first middle last : List Step) (s : Step) → ((more : List Step) × (middle ≡ first ++ more)) → last ≡ middle ++ s ∷ [] →
+    (more : List Step) × (last ≡ first ++ more)
+steps-more first middle last s m e = (m.0 ++ s ∷ [], e ∙ ap (λ (z : List Step). z ++ s ∷ []) m.1 ∙ append_assoc first m.0 (s ∷ []))

@@ -9,3 +9,4 @@ pub mod Trails
 pub mod Moves
 pub mod Propagators
 pub mod Solvers
+pub mod Trials

@@ -16,14 +16,13 @@ mod watching;
 
 use crate::explore::assignment::Assignment;
 use crate::explore::cells::count_of;
+pub use crate::explore::guide::{Guide, Proposal};
 use crate::explore::load::load;
 use crate::explore::names::Names;
 use crate::explore::record::Record;
 use crate::explore::trimming::log_of;
 use cnf_form::{Cnf, Log};
 use std::alloc::{AllocError, Global};
-
-pub use crate::explore::guide::{Guide, Proposal};
 
 /// What the fast search says.
 #[derive(Drop)]

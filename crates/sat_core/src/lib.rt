@@ -10,6 +10,7 @@ mod explore;
 mod hints;
 mod learn;
 mod minimise;
+mod needed;
 mod propagate;
 mod propagator;
 mod search;

@@ -7,6 +7,7 @@ ghost use Rattle.sat_core.specs.Propagators.{IsSound};
 ghost use Rattle.sat_core.specs.Kept.{AreHintsOf, others, IsKept, IsNeeded};
 
 use crate::hints::prune;
+use crate::needed::is_least;
 use crate::propagator::Propagator;
 use cnf_form::{Hint, Lit};
 use std::alloc::{AllocError, Global};
@@ -87,6 +88,10 @@ pub fn minimise(
         Some(hints) => hints,
         None => unreachable!(),
     };
+    if is_least(propagator, full) {
+        let lits = Vec::from_slice(alloc, full)?;
+        return Ok(Learned { lits, hints });
+    }
     let mut kept = Vec::from_slice(alloc, full)?;
     for lit in full {
         let fewer = without(alloc, &kept, *lit)?;

@@ -16,7 +16,11 @@ fn holds(values: &[bool], lit: Lit) -> bool
     ensures { result ≡ literal_value (valuation values.now) lit }
 {
     let place = lit.variable() as usize - 1;
-    let value = if place < values.len() { values[place] } else { false };
+    let value = if place < values.len() {
+        values[place]
+    } else {
+        false
+    };
     value == lit.is_positive()
 }
 

@@ -1,10 +1,11 @@
 //! The literals that became true, in order.
-ghost use Rattle.std.specs.Prelude.{◌≡◌, ◌-◌, ◌≤◌, ◌+◌, ◌<◌, ◌^◌, ◌∷◌, ◌++◌, [], false, length, take, IfOk, vec_capacity};
+ghost use Rattle.std.specs.Prelude.{◌≡◌, ◌-◌, ◌≤◌, ◌+◌, ◌<◌, ◌^◌, ◌∷◌, ◌++◌, [], false, List, length, take, IfOk, vec_capacity};
 ghost use Rattle.bilv_spec.specs.Clauses.{Literal, opposite, IsOnVariables};
 ghost use Rattle.bilv_spec.specs.Refutation.{added, is_tautology};
-ghost use Rattle.bilv_spec.specs.UnitPropagation.{negations};
+ghost use Rattle.bilv_spec.specs.UnitPropagation.{Includes, negations};
 ghost use Rattle.sat_core.specs.Tables.{true_in};
 ghost use Rattle.sat_core.specs.Trails.{IsTrail};
+ghost use Rattle.sat_core.specs.declared.trail.Step.{Step};
 
 use crate::table::{assign, is_true};
 use cnf_form::Lit;
@@ -89,5 +90,27 @@ impl Trail {
             }
             self.push(NO_CLAUSE, lit.opposite());
         }
+    }
+
+    /// Makes every literal of a clause false. `true` is the answer where it comes to one that is true. Takes no memory.
+    pub fn refuse(&mut self, clause: &[Lit]) -> bool
+        requires trail { IsTrail self.old.table.items self.old.steps.items (vec_capacity self.old.steps) }
+        requires within { IsOnVariables (length self.old.table.items - 1) clause.now }
+        ensures trail { IsTrail self.new.table.items self.new.steps.items (vec_capacity self.new.steps) }
+        ensures steps { (more : List Step) × (self.new.steps.items ≡ self.old.steps.items ++ more) }
+        ensures size { length self.new.table.items ≡ length self.old.table.items }
+        ensures grows { Includes (true_in self.old.table.items) (true_in self.new.table.items) }
+        ensures denied { result ≡ false → Includes (negations clause.now) (true_in self.new.table.items) }
+    {
+        for lit in clause {
+            if is_true(&self.table, *lit) {
+                return true;
+            }
+            if is_true(&self.table, lit.opposite()) {
+                continue;
+            }
+            self.push(NO_CLAUSE, lit.opposite());
+        }
+        false
     }
 }

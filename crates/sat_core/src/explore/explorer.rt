@@ -97,7 +97,11 @@ impl Explorer {
                 break;
             };
             let even = variable.saturating_mul(2);
-            let lit = if self.order.sign(variable) { even } else { negation(even) };
+            let lit = if self.order.sign(variable) {
+                even
+            } else {
+                negation(even)
+            };
             self.assignment.decide(lit)?;
         }
         Ok(None)

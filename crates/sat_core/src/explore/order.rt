@@ -83,7 +83,9 @@ impl Order {
                 break;
             }
             let next = below.saturating_add(1);
-            if next < self.heap.len() && self.is_before(at(&self.heap, next), at(&self.heap, below)) {
+            if next < self.heap.len()
+                && self.is_before(at(&self.heap, next), at(&self.heap, below))
+            {
                 below = next;
             }
             let other = at(&self.heap, below);

@@ -49,7 +49,10 @@ impl Record {
 
     /// The id of the next line.
     pub fn next_id(&self) -> Result<u32, AllocError> {
-        let id = self.given.checked_add(count_of(self.lines.len())).ok_or(AllocError)?;
+        let id = self
+            .given
+            .checked_add(count_of(self.lines.len()))
+            .ok_or(AllocError)?;
         id.checked_add(1).ok_or(AllocError)
     }
 

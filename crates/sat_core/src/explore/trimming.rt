@@ -51,13 +51,7 @@ fn hints_of(
     for hint in old {
         let id = match record.line_of(*hint) {
             None => *hint as u64,
-            Some(before) => {
-                if before < ids.len() {
-                    ids[before]
-                } else {
-                    0
-                }
-            }
+            Some(before) => { if before < ids.len() { ids[before] } else { 0 } }
         };
         hints.push(Hint::ById(id))?;
     }

@@ -1,6 +1,6 @@
-use Rattle.std.proofs.Common.{◌∙◌, ap, subst, inl, inr}
+use Rattle.std.proofs.Common.{◌∙◌, ap, refl, subst, inl, inr}
 use Rattle.std.proofs.lemmas.List.{take_all}
-use Rattle.bilv_spec.specs.Clauses.{Clause, has}
+use Rattle.bilv_spec.specs.Clauses.{Literal, Clause, has}
 use Rattle.sat_core.specs.Kept.{others, IsNeeded}
 use Rattle.sat_core.proofs.Literals.{others-part, others-plain, has-taken}
 use Rattle.sat_core.proofs.Shorter.{kept-drop, needed-drop, needed-dropped, needed-stays}
@@ -28,7 +28,7 @@ loop-lit-preserved c =
     let old = has-taken full c.loop-lit.lit-index y c.loop-lit-test.true c.lit-item.is in
     let f = rw c.deref.ensures.value at c.in_ok-fewer.ensures in
     let e = c.in_ok-found.ensures in
-    elim c.match-branch-6.branch [
+    elim c.match-branch-7.branch [
       | in-Some-2 w ↦
           let a = rw (w.in-Some-2.is, c.deref-in-loop-lit.ensures.value, f, inv.clauses) at e.hints in
           rw (w.kept-is, w.hints-is, f) record {
@@ -60,3 +60,8 @@ loop-lit-preserved c =
 pub returns-clause-minimal : goal.returns-clause-minimal
 returns-clause-minimal c = λ l h.
     c.loop-lit.invariant.tested l (ap (λ (z : Clause). has z l) (take_all c.loop-lit.lit-index c.args.full.now c.loop-lit-test.false) ∙ c.loop-lit.invariant.kept.part l h) h
+
+pub returns-then-is_least-clause-minimal : goal.returns-then-is_least-clause-minimal
+returns-then-is_least-clause-minimal c =
+    let n : (l : Literal) → IsNeeded c.args.propagator.now.clauses.items c.args.full.now l = rw c.in_ok-hints.ensures.clauses at (c.if-is_least.ensures.needed refl) in
+    rw c.in_ok-lits.ensures.items n
