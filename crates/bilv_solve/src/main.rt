@@ -1,0 +1,13 @@
+//! The program: it answers its command line by one text and the exit status.
+#![tactic(auto)]
+
+use cnf_solver::answer_words;
+use io_edges::{FileShelf, OutSink};
+use std::io;
+use std::process::ExitCode;
+
+fn main(rt: HostRuntime) -> ExitCode {
+    let mut shelf = FileShelf::new(&rt);
+    let mut out = OutSink::new(io::writer(&rt));
+    answer_words(&rt, &mut shelf, &mut out)
+}

@@ -1,0 +1,4 @@
+pub mod Requests
+pub mod Solutions
+pub mod Met
+pub mod Ends
