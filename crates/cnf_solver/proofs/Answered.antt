@@ -12,7 +12,8 @@ use Rattle.cnf_solver.specs.Met.{met}
 
 module _ (s : Surroundings) (before after : Option (List ℕ)) (sink_before sink_after : ℕ) where
   -- what is written changes no answer that is due
-  read_met : (name : List ℕ) (Next : List ℕ → Answer → Type 0) (a : Answer) → AfterRead s name Next a → AfterRead (met s before after sink_before sink_after) name Next a
+  read_met : (name : List ℕ) (Next : List ℕ → Answer → Type 0) (a : Answer) → AfterRead s name Next a →
+      AfterRead (met s before after sink_before sink_after) name Next a
   read_met name Next a (read_failed risen is) = read_failed risen is
   read_met name Next a (was_read bytes agrees next) = was_read bytes agrees next
 
@@ -20,7 +21,8 @@ module _ (s : Surroundings) (before after : Option (List ℕ)) (sink_before sink
   due_met None a due = due
   due_met (Some r) a due = read_met r.file _ a due
 
-  pub whole_of : (r : Option Request) (a : Answer) → IsDue s r a → Appends before a.text after → IsOutcome (met s before after sink_before sink_after) r a.status
+  pub whole_of : (r : Option Request) (a : Answer) → IsDue s r a → Appends before a.text after →
+      IsOutcome (met s before after sink_before sink_after) r a.status
   whole_of r a due appends = whole a (due_met r a due) appends refl
 
   pub cut_of : (r : Option Request) (a : Answer) (e : WriteFault) → IsDue s r a → Stopped before a.text after e → Rose sink_before sink_after →

@@ -9,7 +9,8 @@ plain : lawful_request (codes "s" ∷ codes "f" ∷ []) ≡ Some (record { file 
 unfolding clap_on_literals solve_app takes_line
 plain = refl
 
-certified : lawful_request (codes "s" ∷ codes "--certificate" ∷ codes "f" ∷ codes "--conflicts" ∷ codes "4294967295" ∷ []) ≡ Some (record { file = codes "f"; conflicts = 4294967295; certificate = true })
+certified : lawful_request (codes "s" ∷ codes "--certificate" ∷ codes "f" ∷ codes "--conflicts" ∷ codes "4294967295" ∷ [])
+    ≡ Some (record { file = codes "f"; conflicts = 4294967295; certificate = true })
 unfolding clap_on_literals solve_app takes_line
 certified = refl
 

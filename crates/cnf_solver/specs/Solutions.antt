@@ -37,8 +37,8 @@ abbrev pub unsatisfiable_text : (certificate : Bool) → Cnf → List LogLine �
 unsatisfiable_text false cnf log = line (codes "s UNSATISFIABLE")
 unsatisfiable_text true cnf log = line (codes "s UNSATISFIABLE") ++ certificate_text cnf log
 
--- What is said of clauses: a value for each variable, so that every clause is true; or that no values make every clause true, with a refutation; or that so many
--- clauses were learned, each of them new to unit propagation.
+-- What is said of clauses: a value for each variable, so that every clause is true; or that no values make every clause true, with a refutation; or that so
+-- many clauses were learned, each of them new to unit propagation.
 pub data IsSaid (cnf : Cnf) (conflicts : ℕ) (certificate : Bool) (a : Answer) : Type 0 where
   satisfiable : (vs : List Bool) → length vs ≡ cnf.variables → Satisfies (valuation vs) cnf.clauses → a ≡ plain_answer 10 (satisfiable_text vs) →
       IsSaid cnf conflicts certificate a

@@ -33,12 +33,12 @@ fn due<H: Shelf>(alloc: Global, words: &[String], shelf: &mut H) -> Result<Answe
     }
 }
 
-/// Answers a command line, `bilv_solve FILE [--conflicts C] [--certificate]`: reads the file's clauses (DIMACS CNF), searches, writes one text, and gives the exit
-/// status.
+/// Answers a command line, `bilv_solve FILE [--conflicts C] [--certificate]`: reads the file's clauses (DIMACS CNF), searches, writes one text,
+/// and gives the exit status.
 ///
-/// The status is 10 with `s SATISFIABLE` and satisfying values, 20 with `s UNSATISFIABLE` and the certificate where it is asked for, and 0 with `s UNKNOWN` where
-/// the search learned `C` clauses (1 to 4294967295, else 200000); 2 for an unlawful line, 6 for a file that could not be read, 7 for a write that failed, 8 for want
-/// of memory, and 9 for clauses that are refused.
+/// The status is 10 with `s SATISFIABLE` and satisfying values, 20 with `s UNSATISFIABLE` and the certificate where it is asked for, and 0 with
+/// `s UNKNOWN` where the search learned `C` clauses (1 to 4294967295, else 200000); 2 for an unlawful line, 6 for a file that could not be read,
+/// 7 for a write that failed, 8 for want of memory, and 9 for clauses that are refused.
 pub fn bilv_solve<H: Shelf, K: Sink>(
     alloc: Global,
     words: &[String],

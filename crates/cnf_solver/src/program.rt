@@ -24,8 +24,8 @@ fn words<R: Env + AllocGlobal>(rt: &R) -> Result<Vec<String>, AllocError> {
     Ok(words)
 }
 
-/// Answers the words with which the program was started, over files and a sink, and gives the status with which it is to end. What the words are is not told by
-/// any contract.
+/// Answers the words with which the program was started, over files and a sink, and gives the status with which it is to end. What the words are
+/// is not told by any contract.
 pub fn answer_words<R: Env + AllocGlobal, H: Shelf, K: Sink>(
     rt: &R,
     shelf: &mut H,
