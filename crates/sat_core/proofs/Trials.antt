@@ -1,11 +1,11 @@
 -- Trials: what a trail with more steps keeps, and what is tested half by half.
-use Rattle.std.proofs.Common.{◌≡◌, ℕ, ◌<◌, ◌-◌, Bool, true, false, not, List, [], ◌∷◌, ◌++◌, refl, sym, ap, ◌∙◌, subst, arith, length, length-drop, take, drop, append_assoc, append-nil, inl, inr, ◌⊎◌, vec_capacity}
+use Rattle.std.proofs.Common.{◌≡◌, ℕ, ◌<◌, ◌-◌, Bool, true, false, not, List, [], ◌∷◌, ◌++◌, sym, ap, ◌∙◌, subst, arith, length, length-drop, take, drop, append_assoc, append-nil, inl, inr, ◌⊎◌, vec_capacity}
 use Rattle.std.specs.Prelude.{reverse}
 use Rattle.std.proofs.lemmas.Bool.{or_cases, and_parts, not-true, both_ways}
 use Rattle.std.proofs.lemmas.List.{take-append-drop, take_all}
 use Rattle.bilv_spec.specs.Clauses.{Literal, Clause, same, opposite, has}
-use Rattle.bilv_spec.specs.UnitPropagation.{Includes, Conflicts, negations_but}
-use Rattle.bilv_spec.proofs.Looks.{same-true, same-self, or_left, or_right}
+use Rattle.bilv_spec.specs.UnitPropagation.{Includes, negations_but}
+use Rattle.bilv_spec.proofs.Looks.{same-true, or_left, or_right}
 use Rattle.bilv_spec.proofs.NewClauses.{opposite_twice}
 use Rattle.sat_core.specs.declared.propagator.Propagator.{Propagator}
 use Rattle.sat_core.specs.declared.trail.Step.{Step}

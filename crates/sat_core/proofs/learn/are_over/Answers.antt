@@ -1,4 +1,4 @@
-use Rattle.std.proofs.Common.{◌≡◌, ◌≤◌, ◌<◌, ◌∙◌, true, length, ap, arith, subst, inl, inr}
+use Rattle.std.proofs.Common.{◌≤◌, ◌<◌, ◌∙◌, ap, arith, subst, inl, inr}
 use Rattle.std.proofs.lemmas.List.{take_all}
 use Rattle.bilv_spec.specs.Clauses.{Literal, Clause, has}
 use Rattle.sat_core.proofs.Literals.{has-taken}

@@ -1,8 +1,7 @@
-use Rattle.std.proofs.Common.{◌≡◌, ◌<◌, ◌/◌, ◌-◌, ◌∙◌, true, ◌≤◌, ap, length, length-drop, take, drop, arith, refl}
+use Rattle.std.proofs.Common.{◌≡◌, ◌<◌, ◌/◌, ◌-◌, ◌∙◌, ◌≤◌, ap, length, length-drop, take, drop, arith, refl}
 use Rattle.std.proofs.lemmas.List.{length-take-le}
-use Rattle.bilv_spec.specs.Clauses.{Literal, has}
 use Rattle.sat_core.specs.Tables.{true_in}
-use Rattle.sat_core.specs.Trials.{IsLater, also, AreTested}
+use Rattle.sat_core.specs.Trials.{also, AreTested}
 use Rattle.sat_core.proofs.Trials.{later-includes, later-later, back-later, calm-back, also-includes, also-more, tested-more, tested-one, tested-halves, in-front, in-back, whole-back}
 use Rattle.sat_core.proofs.needed.+needed.Goals as goal
 
