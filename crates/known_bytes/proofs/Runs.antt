@@ -10,7 +10,7 @@ use Rattle.std.proofs.Math.Seq.{get_or-append_seam}
 use Rattle.bilv_spec.specs.Elf.{loaded}
 use Rattle.bilv_spec.specs.Notes.{FixedRange}
 use Rattle.bilv_spec.specs.Points.{byte_of_cell}
-use Rattle.bilv_spec.specs.Walk.{ByteRun, byte_in_run, byte_of_runs}
+use Rattle.walk_spec.specs.Unrolled.{ByteRun, byte_in_run, byte_of_runs}
 use Rattle.elf32_reader.specs.declared.parts.Part.{Part}
 use Rattle.known_bytes.specs.declared.listing.Known.{Known}
 use Rattle.known_bytes.specs.Known.{is_known, given, IsFirstKnown}

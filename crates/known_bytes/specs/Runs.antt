@@ -1,7 +1,7 @@
 -- Runs of known bytes.
 use Rattle.std.specs.Prelude.{ℕ, ◌≡◌, ◌≤◌, ◌<◌, ◌+◌, ◌-◌, ◌↔◌, Bool, true, List, None, Contains, length, map, sum_by, nat_lt, slice_index, slice_index_or, if◌then◌else◌}
 use Rattle.bilv_spec.specs.Notes.{FixedRange}
-use Rattle.bilv_spec.specs.Walk.{ByteRun, byte_of_runs}
+use Rattle.walk_spec.specs.Unrolled.{ByteRun, byte_of_runs}
 use Rattle.known_bytes.specs.declared.listing.Known.{Known}
 use Rattle.known_bytes.specs.Known.{is_known, given}
 

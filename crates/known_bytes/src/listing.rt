@@ -3,8 +3,8 @@ ghost use Rattle.std.specs.Prelude.{◌≡◌, ℕ, ◌<◌, ◌^◌, IfOk, map}
 ghost use Rattle.bilv_spec.specs.Notes as notes_of_program;
 ghost use Rattle.bilv_spec.specs.Files.{program_of};
 ghost use Rattle.bilv_spec.specs.Points.{IsCount, is_known_at, begins_run};
-ghost use Rattle.bilv_spec.specs.Walk.{byte_of_runs};
-ghost use Rattle.bilv_spec.specs.Unrolling.{file_known};
+ghost use Rattle.walk_spec.specs.Unrolled.{byte_of_runs};
+ghost use Rattle.walk_spec.specs.Unrolling.{file_known};
 ghost use Rattle.notes_lang.specs.Drafting.{notes_of};
 ghost use Rattle.known_bytes.specs.Runs.{AreRuns, run_of, sum_of};
 
