@@ -1,0 +1,3 @@
+mod Mixed
+mod Named
+mod Rows
