@@ -1,0 +1,15 @@
+-- The form of an unrolled program as a value.
+use Rattle.std.specs.Prelude.{ℕ, ◌≤◌, ◌<◌, ◌+◌, length, drop, slice_index_or}
+use Rattle.question_form.specs.declared.unrolled.Code.{Code}
+use Rattle.question_form.specs.declared.unrolled.Point.{Point}
+use Rattle.question_form.specs.declared.unrolled.Unrolled.{Unrolled}
+use Rattle.question_form.specs.Views.{edges_from}
+
+-- Places are those of lists: each point has a code, and its edges end where those of the next point begin; each code has a part of the assert lines by address.
+pub record IsFormed (u : Unrolled) : Type 0 where
+  pub codes : (i : ℕ) (d : Point) → i < length u.points.items → (slice_index_or u.points.items i d).code < length u.codes.items
+  pub edges : (i : ℕ) (d : Point) → i < length u.points.items → (slice_index_or u.points.items i d).edges ≤ edges_from u (drop (i + 1) u.points.items)
+  pub within : (i : ℕ) (d : Point) → i < length u.points.items → (slice_index_or u.points.items i d).edges ≤ length u.edges.items
+  pub asserts : (i : ℕ) (d : Code) → i < length u.codes.items →
+      ((slice_index_or u.codes.items i d).asserts.0 ≤ (slice_index_or u.codes.items i d).asserts.1) × ((slice_index_or u.codes.items i d).asserts.1 ≤ length u.asserts.items)
+  pub lines : (i : ℕ) (d : ℕ × ℕ) → i < length u.asserts.items → (slice_index_or u.asserts.items i d).1 < length u.notes.now.asserts.items
