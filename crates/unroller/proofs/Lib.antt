@@ -1,3 +1,5 @@
+mod Capped
 mod Mixed
 mod Named
+mod Priced
 mod Rows

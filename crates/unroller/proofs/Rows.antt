@@ -1,11 +1,11 @@
 -- The list of a lawful row does what the row does, as far as it is read later.
-use Rattle.std.proofs.Common.{◌≡◌, refl, ap, sym, ◌∙◌, subst, arith, ℕ, zero, suc, ◌+◌, ◌^◌, ◌<◌, ◌≤◌, Option, Some, None, Bool, true, false, List}
-use Rattle.std.specs.Prelude.{if◌then◌else◌, ◌==◌, ◌&&◌, ◌||◌, nat_lt, ◌↔◌, Contains, length}
+use Rattle.std.proofs.Common.{◌≡◌, refl, ap, sym, ◌∙◌, subst, arith, ℕ, zero, suc, ◌+◌, ◌<◌, ◌≤◌, Option, Some, None, Bool, true, false, List}
+use Rattle.std.specs.Prelude.{if◌then◌else◌, ◌==◌, nat_lt, ◌↔◌, Contains, length}
 use Rattle.std.proofs.lemmas.Bool.Decides.{nat_tests}
 use mathlib.Core.Path.{fun_ext}
 use Rattle.bilv_spec.specs.Words.{add}
-use Rattle.bilv_spec.specs.State.{State, IsState, put}
-use Rattle.bilv_spec.specs.Machine.{Machine, Row, How, On, Direct, DirectCall, Indirect, IndirectCall, Outcome, Goes, Raises, addresses, exception_number}
+use Rattle.bilv_spec.specs.State.{State, IsState}
+use Rattle.bilv_spec.specs.Machine.{Row, How, On, Direct, DirectCall, Indirect, IndirectCall, Outcome, Goes, Raises, addresses, exception_number}
 use Rattle.bilv_spec.specs.MachineLaws.{IsLawful, IsFitted, IsLifting, with_flag, AgreeBut, OutcomesAgreeBut, HaveSameFlag, IfGoes}
 use Rattle.bilv_spec.specs.StateText.{Layout}
 use Rattle.bilv_spec.specs.Bil.{Bank, Statements}
@@ -13,15 +13,15 @@ use Rattle.bilv_spec.specs.Bil as bil
 use Rattle.bilv_spec.specs.BilCounts.{is_own, list_weight, byte_loads, byte_stores}
 use Rattle.bilv_spec.specs.BilMeaning.{Stuck, Position, Ending, Ends, RaisesException, OutOfTurns, Wrong, execute}
 use Rattle.bilv_spec.specs.BilStores.{list_stored}
-use Rattle.bilv_spec.specs.Simulation.{Locals, position, jump_of, Compared, Finished, Raised, Unfinished, of_list, of_row}
+use Rattle.bilv_spec.specs.Simulation.{position, jump_of, Finished, Raised, of_list, of_row}
 use Rattle.bilv_spec.specs.Run.{Program, literal_target}
-use Rattle.bilv_spec.specs.Points.{file_row, file_word, is_empty, loads_at}
+use Rattle.bilv_spec.specs.Points.{file_row, file_word, is_empty}
 use Rattle.bilv_spec.specs.LiveFlags.{IsRead, by_row, later, IsReadAfter, reads_by, surely_by}
 use Rattle.walk_spec.specs.Unrolled.{Carried, state_at, Action, Executes, UnrolledPoint, UnrolledProgram, Leaving, GoesOn, RaisesOne, IsStuck, leaving, leaving_by, left_by, stored_at, is_register_of, is_flag_of}
 use Rattle.walk_spec.specs.Unrolled as walk
-use Rattle.walk_spec.specs.Unrolling.{IsCarriedOf, jumps, LeavesAs, DoesRow, IsRunnable, IsCounted}
+use Rattle.walk_spec.specs.Unrolling.{IsCarriedOf, jumps, LeavesAs}
 use Rattle.unroller.specs.Rows.{IsPlain, LiftingsDoRows}
-use Rattle.unroller.proofs.Mixed.{mix_at, mix_end, list_same, list_stores_same}
+use Rattle.unroller.proofs.Mixed.{mix_end, list_same, list_stores_same}
 use Rattle.unroller.proofs.Named.{list_wider}
 
 pub put_other : (f : ℕ → ℕ) (at v x : ℕ) (b : Bool) → (x == at) ≡ b → (x ≡ at → ⊥) → (if b then v else f x) ≡ f x

@@ -1,6 +1,10 @@
 //! The unrolled program of a program: its points in an order in which every edge leads to a later one, with what is done at each and how it is left; and its price.
 #![tactic(auto)]
 
+mod costs;
 mod laws;
+mod lines;
+mod prices;
 
 pub use laws::liftings_do_rows;
+pub use prices::price;
