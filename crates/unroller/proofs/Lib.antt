@@ -1,5 +1,6 @@
 mod Capped
 mod Mixed
 mod Named
+mod Placed
 mod Priced
 mod Rows

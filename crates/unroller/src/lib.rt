@@ -6,5 +6,5 @@ mod laws;
 mod lines;
 mod prices;
 
-pub use laws::liftings_do_rows;
+pub use laws::{liftings_do_rows, places_are_right};
 pub use prices::price;

@@ -1,0 +1,64 @@
+-- What stands at a place is what the definitions want there.
+use Rattle.std.proofs.Common.{◌≡◌, refl, ap, sym, ◌∙◌, subst, arith, ℕ, ◌+◌, ◌≤◌, Option, Some, None, Bool, true, false, List, [], ◌∷◌, ◌++◌}
+use Rattle.std.specs.Prelude.{map}
+use Rattle.std.specs.Global.{Vec}
+use Rattle.bilv_spec.specs.Machine.{Row}
+use Rattle.bilv_spec.specs.MachineLaws.{IsFitted, IsLifting}
+use Rattle.bilv_spec.specs.StateText.{Layout}
+use Rattle.bilv_spec.specs.Bil.{Bank, Statements, Empty}
+use Rattle.bilv_spec.specs.Run.{Program, fetchable}
+use Rattle.bilv_spec.specs.Points.{file_row, row_price, loads_at, stores_at}
+use Rattle.bil_ast.specs.declared.statements.Stmt.{Stmt}
+use Rattle.bil_ast.specs.Views.{statements}
+use Rattle.walk_spec.specs.Unrolled.{PointExit, Always, Raising, WritingKept, Unaligned, Executes, UnrolledPoint, UnrolledProgram, is_register_of, is_flag_of}
+use Rattle.walk_spec.specs.Unrolling.{IsPlace, IsRunnable, IsCounted, DoesPlace, assert_exits, stop_event, row_draws}
+use Rattle.machine_law.specs.Facts.{IsLiftedWord}
+use Rattle.question_form.specs.declared.unrolled.Code.{Code}
+use Rattle.question_form.specs.declared.unrolled.Edge.{Edge}
+use Rattle.question_form.specs.declared.unrolled.Point as declared
+use Rattle.question_form.specs.declared.unrolled.Unrolled.{Unrolled}
+use Rattle.question_form.specs.Views.{edge_of, row_exits, point_by, unrolled_of}
+use Rattle.unroller.specs.Places.{IsCode, AreEdgesAt, HasFitRow, PlacesAreRight}
+use Rattle.unroller.proofs.Rows.{liftings_do_rows}
+
+module _ (p : Program) (k : ℕ) (u : Unrolled) (form : Layout) (bank : Bank) (i : ℕ) (q : declared.Point) (edges : List Edge) (fitted : IsFitted p.machine form)
+    (registers : (r : ℕ) → is_register_of (unrolled_of u) r ≡ p.machine.has_register r) (flags : (f : ℕ) → is_flag_of (unrolled_of u) f ≡ p.machine.has_flag f) where
+  place_by : (at : ℕ) (f : Bool) (list : Option (Vec Stmt)) (draws : Bool) (row loads stores : ℕ) (asserts : ℕ × ℕ) →
+      let c : Code = record { at = at; fetchable = f; list = list; draws = draws; row = row; loads = loads; stores = stores; asserts = asserts } in
+      HasFitRow p at → IsCode p bank u q c edges → ((r : Row) → file_row p at ≡ Some r → AreEdgesAt p k (unrolled_of u) i (point_by u q c edges).point r edges) →
+      (o : Option Row) → file_row p at ≡ o → IsPlace p k (unrolled_of u) i (point_by u q c edges) o
+  place_by at f None draws row loads stores asserts fit code led None is =
+      let x = (point_by u q (record { at = at; fetchable = f; list = None; draws = draws; row = row; loads = loads; stores = stores; asserts = asserts }) edges) in
+      record {
+        does = (refl, ap (λ (z : List PointExit). z ++ Always (stop_event f) ∷ []) code.asserts ∙ ap (λ (b : Bool). assert_exits p x.point ++ Always (stop_event b) ∷ []) code.fetchable);
+        terms = record {
+          typed = refl;
+          no_loop = refl;
+          no_special = refl;
+          nests = omega arith;
+          picks = refl;
+          names = refl;
+          draws = λ e. refl;
+          weight = subst (λ (z : ℕ). 0 + 64 ≤ z) (sym (code.row ∙ ap row_price is)) (omega arith);
+          loads = omega arith;
+          byte_stores = omega arith;
+        };
+        counted = record { draws = code.draws ∙ ap row_draws is; row_cost = code.row ∙ ap row_price is; loads = code.loads ∙ ap (λ (z : Option Row). loads_at p at z) is; stores = code.stores ∙ ap stores_at is };
+      }
+  place_by at f None draws row loads stores asserts fit code led (Some r) is = absurd (subst (λ (z : Option Row). IsLiftedWord p.machine bank z at None) is code.list)
+  place_by at f (Some v) draws row loads stores asserts fit code led None is = absurd (subst (λ (z : Option Row). IsLiftedWord p.machine bank z at (Some v)) is code.list)
+  place_by at f (Some v) draws row loads stores asserts fit code led (Some r) is =
+      let x = (point_by u q (record { at = at; fetchable = f; list = Some v; draws = draws; row = row; loads = loads; stores = stores; asserts = asserts }) edges) in
+      let counted : IsCounted p x (Some r) =
+      record { draws = code.draws ∙ ap row_draws is; row_cost = code.row ∙ ap row_price is; loads = code.loads ∙ ap (λ (z : Option Row). loads_at p at z) is; stores = code.stores ∙ ap stores_at is } in
+      let lifting : IsLifting p.machine bank r at (statements v.items) = subst (λ (z : Option Row). IsLiftedWord p.machine bank z at (Some v)) is code.list in
+      let law = liftings_do_rows p (unrolled_of u) form bank x r (statements v.items) fitted registers flags is (fit.lawful r is) (fit.plain r is) lifting refl (sym (fit.four r is)) counted in
+      record {
+        does = (map edge_of edges, ap (λ (z : List PointExit). z ++ Raising ∷ WritingKept ∷ Unaligned ∷ map edge_of edges) code.asserts, led r is, law.0);
+        terms = law.1;
+        counted = counted;
+      }
+
+pub places_are_right : PlacesAreRight
+places_are_right p k u form bank i q c edges fitted registers flags fit code led =
+    place_by p k u form bank i q edges fitted registers flags c.at c.fetchable c.list c.draws c.row c.loads c.stores c.asserts fit code led (file_row p c.at) refl

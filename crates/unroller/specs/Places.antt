@@ -1,0 +1,47 @@
+-- What stands at the places of an unrolled program.
+use Rattle.std.specs.Prelude.{ℕ, ◌≡◌, List, Option, Some, None, map}
+use Rattle.std.specs.List.{AllZip}
+use Rattle.bilv_spec.specs.Machine.{Row}
+use Rattle.bilv_spec.specs.MachineLaws.{IsLawful, IsFitted}
+use Rattle.bilv_spec.specs.StateText.{Layout}
+use Rattle.bilv_spec.specs.Bil.{Bank}
+use Rattle.bilv_spec.specs.Run.{Program, fetchable}
+use Rattle.bilv_spec.specs.Points.{Point, EdgeEnd, file_row, row_price, loads_at, stores_at}
+use Rattle.walk_spec.specs.Unrolled.{UnrolledProgram, is_register_of, is_flag_of}
+use Rattle.walk_spec.specs.Unrolling.{AreEdgesOf, IsEdge, IsPlace, assert_exits, row_draws}
+use Rattle.notes_lang.specs.Drafting.{notes_of}
+use Rattle.machine_law.specs.Facts.{IsLiftedWord}
+use Rattle.question_form.specs.declared.unrolled.Code.{Code}
+use Rattle.question_form.specs.declared.unrolled.Edge.{Edge}
+use Rattle.question_form.specs.declared.unrolled.Point as declared
+use Rattle.question_form.specs.declared.unrolled.Unrolled.{Unrolled}
+use Rattle.question_form.specs.Views.{asserts_between, edge_of, point_by, unrolled_of}
+use Rattle.unroller.specs.Rows.{IsPlain}
+
+-- The code is that of its address: what the file gives there, the list of the row as it is lifted, the row's cost, and the exits by the assert lines of the address.
+pub record IsCode (p : Program) (bank : Bank) (u : Unrolled) (q : declared.Point) (c : Code) (edges : List Edge) : Type 0 where
+  pub fetchable : c.fetchable ≡ fetchable p c.at
+  pub list : IsLiftedWord p.machine bank (file_row p c.at) c.at c.list
+  pub draws : c.draws ≡ row_draws (file_row p c.at)
+  pub row : c.row ≡ row_price (file_row p c.at)
+  pub loads : c.loads ≡ loads_at p c.at (file_row p c.at)
+  pub stores : c.stores ≡ stores_at (file_row p c.at)
+  pub asserts : asserts_between (notes_of u.notes.now).asserts u.asserts.items c.asserts ≡ assert_exits p (point_by u q c edges).point
+
+-- the edges are those of a point at a place, in some order with the exit first
+abbrev pub AreEdgesAt : Program → (k : ℕ) → UnrolledProgram → (i : ℕ) → Point → Row → List Edge → Type 0
+AreEdgesAt p k u i point row edges = (ends : List EdgeEnd) × AreEdgesOf p point ends × AllZip (IsEdge p k u i point row) ends (map edge_of edges)
+
+-- the row at an address, if there is one, is lawful, has 4 bytes, and is one whose list may stand as it is lifted
+pub record HasFitRow (p : Program) (at : ℕ) : Type 0 where
+  pub lawful : (row : Row) → file_row p at ≡ Some row → IsLawful row
+  pub plain : (row : Row) → file_row p at ≡ Some row → IsPlain row
+  pub four : (row : Row) → file_row p at ≡ Some row → row.length ≡ 4
+
+-- a point of the code of its address, with its edges, is what the definitions want at its place
+abbrev pub PlacesAreRight : Type 0
+PlacesAreRight = (p : Program) (k : ℕ) (u : Unrolled) (form : Layout) (bank : Bank) (i : ℕ) (q : declared.Point) (c : Code) (edges : List Edge) →
+    IsFitted p.machine form → ((r : ℕ) → is_register_of (unrolled_of u) r ≡ p.machine.has_register r) → ((f : ℕ) → is_flag_of (unrolled_of u) f ≡ p.machine.has_flag f) →
+    HasFitRow p c.at → IsCode p bank u q c edges →
+    ((row : Row) → file_row p c.at ≡ Some row → AreEdgesAt p k (unrolled_of u) i (point_by u q c edges).point row edges) →
+    IsPlace p k (unrolled_of u) i (point_by u q c edges) (file_row p c.at)
