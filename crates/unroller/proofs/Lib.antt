@@ -1,4 +1,6 @@
 mod Capped
+mod EdgeLists
+mod Looked
 mod Mixed
 mod Named
 mod Placed

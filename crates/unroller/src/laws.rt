@@ -1,4 +1,6 @@
-//! Laws of lifted lists and of places.
+//! Laws of lifted lists, of places and of edges.
+ghost use Rattle.unroller.specs.Edges.{EndsMakeEdges, ExitsAreReturns};
+ghost use Rattle.unroller.specs.Lookups.{FormsAreRight, PointsAreAt};
 ghost use Rattle.unroller.specs.Places.{PlacesAreRight};
 ghost use Rattle.unroller.specs.Rows.{LiftingsDoRows};
 
@@ -10,4 +12,24 @@ pub fn liftings_do_rows()
 /// A point of the code of its address, with its edges, is what the definitions want at its place.
 pub fn places_are_right()
     ensures { PlacesAreRight }
+{}
+
+/// Ends that are those of the edges of a point, each once and none before the exit, are the ends of its edges.
+pub fn ends_make_edges()
+    ensures { EndsMakeEdges }
+{}
+
+/// An edge of a point is the exit exactly where its row may return and its stack is empty.
+pub fn exits_are_returns()
+    ensures { ExitsAreReturns }
+{}
+
+/// The point of the definitions at a place is that of the value at the place.
+pub fn points_are_at()
+    ensures { PointsAreAt }
+{}
+
+/// The registers and the flags are the machine's that the form is fitted to.
+pub fn forms_are_right()
+    ensures { FormsAreRight }
 {}

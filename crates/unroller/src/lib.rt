@@ -6,5 +6,8 @@ mod laws;
 mod lines;
 mod prices;
 
-pub use laws::{liftings_do_rows, places_are_right};
+pub use laws::{
+    ends_make_edges, exits_are_returns, forms_are_right, liftings_do_rows, places_are_right,
+    points_are_at,
+};
 pub use prices::price;
