@@ -1,15 +1,14 @@
 -- Lists of the edges of a point.
-use Rattle.std.proofs.Common.{◌≡◌, ◌≢◌, ⊎_elim, inl, inr, refl, ap, sym, ◌∙◌, subst, arith, ℕ, zero, suc, ◌+◌, ◌<◌, ◌≤◌, Option, Some, None, Bool, true, false, List, [], ◌∷◌, ◌++◌, length}
-use Rattle.std.specs.Prelude.{map, filter, not, ◌&&◌, ◌⊎◌, ◌↔◌, Contains, slice_get, if◌then◌else◌}
+use Rattle.std.proofs.Common.{◌≡◌, ⊎_elim, refl, ap, sym, ◌∙◌, subst, arith, ℕ, zero, suc, Option, Some, None, Bool, true, false, List, [], ◌∷◌}
+use Rattle.std.specs.Prelude.{map, filter, not, ◌&&◌, Contains, if◌then◌else◌}
 use Rattle.bilv_spec.specs.Words.{add}
 use Rattle.bilv_spec.specs.Machine.{Row, Successors}
 use Rattle.bilv_spec.specs.Run.{Program, some_of, named}
-use Rattle.bilv_spec.specs.Points.{Point, EdgeEnd, ToAddress, ToExit, distinct, same_end, leads_on, is_top, after_call, return_ends, indirect_ends, fall_ends, jump_ends, edges_of, edges_by, edges, file_row, file_word}
-use Rattle.bilv_spec.specs.Graph.{may_return, returns_by}
+use Rattle.bilv_spec.specs.Points.{Point, EdgeEnd, ToAddress, ToExit, distinct, same_end, leads_on, is_top, after_call, return_ends, indirect_ends, fall_ends, jump_ends, edges_by, edges, file_row, file_word}
+use Rattle.bilv_spec.specs.Graph.{returns_by}
 use Rattle.bilv_spec.proofs.Pigeons.{Once, at_in, no_longer}
 use Rattle.bilv_spec.proofs.PointSteps.{same_end_self, in_distinct, in_filter, in_left, in_right}
 use Rattle.bilv_spec.proofs.PointsInGraph.{none_in, split_in, of_filter, of_map, of_distinct}
-use Rattle.walk_spec.specs.Unrolling.{AreEdgesOf}
 use Rattle.unroller.specs.Edges.{EndsMakeEdges, ExitsAreReturns}
 
 -- each element is none of those behind it

@@ -1,4 +1,5 @@
 mod Capped
+mod Coded
 mod EdgeLists
 mod Looked
 mod Mixed

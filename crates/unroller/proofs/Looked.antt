@@ -1,17 +1,15 @@
 -- What an unrolled program as a value says at a place, and of its form.
-use Rattle.std.proofs.Common.{◌≡◌, refl, ap, sym, ◌∙◌, subst, arith, ℕ, zero, suc, ◌+◌, ◌<◌, ◌≤◌, Option, Some, None, Bool, true, false, List, [], ◌∷◌, length, drop, get_or}
-use Rattle.std.specs.Prelude.{◌||◌, ◌&&◌, nat_eq, nat_le, nat_lt, slice_get, slice_index}
+use Rattle.std.proofs.Common.{◌≡◌, refl, ap, sym, ◌∙◌, arith, ℕ, zero, suc, ◌+◌, ◌<◌, Some, Bool, List, [], ◌∷◌, length, drop, get_or}
+use Rattle.std.specs.Prelude.{◌||◌, ◌&&◌, nat_eq, nat_le, nat_lt, slice_get}
 use Rattle.std.specs.List.{list_any}
 use Rattle.std.proofs.lemmas.Bool.Decides.{nat_tests}
-use Rattle.bilv_spec.specs.Machine.{Machine}
-use Rattle.bilv_spec.specs.MachineLaws.{IsFitted}
 use Rattle.bilv_spec.specs.RowFiles.{from_to}
 use Rattle.state_text.specs.Starts.{layout_of}
-use Rattle.walk_spec.specs.Unrolled.{UnrolledPoint, no_point}
+use Rattle.walk_spec.specs.Unrolled.{no_point}
 use Rattle.question_form.specs.declared.unrolled.Point.{Point}
 use Rattle.question_form.specs.declared.unrolled.Unrolled.{Unrolled}
-use Rattle.question_form.specs.Views.{point_of, points_of, unrolled_of}
-use Rattle.unroller.specs.Lookups.{PointsAreAt, HasForm, FormsAreRight}
+use Rattle.question_form.specs.Views.{point_of, points_of}
+use Rattle.unroller.specs.Lookups.{PointsAreAt, FormsAreRight}
 
 same_length : (u : Unrolled) (ps : List Point) → length (points_of u ps) ≡ length ps
 same_length u [] = refl

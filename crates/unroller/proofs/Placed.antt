@@ -1,23 +1,23 @@
 -- What stands at a place is what the definitions want there.
-use Rattle.std.proofs.Common.{◌≡◌, refl, ap, sym, ◌∙◌, subst, arith, ℕ, ◌+◌, ◌≤◌, Option, Some, None, Bool, true, false, List, [], ◌∷◌, ◌++◌}
+use Rattle.std.proofs.Common.{◌≡◌, refl, ap, sym, ◌∙◌, subst, arith, ℕ, ◌+◌, ◌≤◌, Option, Some, None, Bool, List, [], ◌∷◌, ◌++◌}
 use Rattle.std.specs.Prelude.{map}
 use Rattle.std.specs.Global.{Vec}
 use Rattle.bilv_spec.specs.Machine.{Row}
 use Rattle.bilv_spec.specs.MachineLaws.{IsFitted, IsLifting}
 use Rattle.bilv_spec.specs.StateText.{Layout}
-use Rattle.bilv_spec.specs.Bil.{Bank, Statements, Empty}
-use Rattle.bilv_spec.specs.Run.{Program, fetchable}
+use Rattle.bilv_spec.specs.Bil.{Bank}
+use Rattle.bilv_spec.specs.Run.{Program}
 use Rattle.bilv_spec.specs.Points.{file_row, row_price, loads_at, stores_at}
 use Rattle.bil_ast.specs.declared.statements.Stmt.{Stmt}
 use Rattle.bil_ast.specs.Views.{statements}
-use Rattle.walk_spec.specs.Unrolled.{PointExit, Always, Raising, WritingKept, Unaligned, Executes, UnrolledPoint, UnrolledProgram, is_register_of, is_flag_of}
-use Rattle.walk_spec.specs.Unrolling.{IsPlace, IsRunnable, IsCounted, DoesPlace, assert_exits, stop_event, row_draws}
+use Rattle.walk_spec.specs.Unrolled.{PointExit, Always, Raising, WritingKept, Unaligned, is_register_of, is_flag_of}
+use Rattle.walk_spec.specs.Unrolling.{IsPlace, IsCounted, assert_exits, stop_event, row_draws}
 use Rattle.machine_law.specs.Facts.{IsLiftedWord}
 use Rattle.question_form.specs.declared.unrolled.Code.{Code}
 use Rattle.question_form.specs.declared.unrolled.Edge.{Edge}
 use Rattle.question_form.specs.declared.unrolled.Point as declared
 use Rattle.question_form.specs.declared.unrolled.Unrolled.{Unrolled}
-use Rattle.question_form.specs.Views.{edge_of, row_exits, point_by, unrolled_of}
+use Rattle.question_form.specs.Views.{edge_of, point_by, unrolled_of}
 use Rattle.unroller.specs.Places.{IsCode, AreEdgesAt, HasFitRow, PlacesAreRight}
 use Rattle.unroller.proofs.Rows.{liftings_do_rows}
 
@@ -30,7 +30,7 @@ module _ (p : Program) (k : ℕ) (u : Unrolled) (form : Layout) (bank : Bank) (i
   place_by at f None draws row loads stores asserts fit code led None is =
       let x = (point_by u q (record { at = at; fetchable = f; list = None; draws = draws; row = row; loads = loads; stores = stores; asserts = asserts }) edges) in
       record {
-        does = (refl, ap (λ (z : List PointExit). z ++ Always (stop_event f) ∷ []) code.asserts ∙ ap (λ (b : Bool). assert_exits p x.point ++ Always (stop_event b) ∷ []) code.fetchable);
+        does = (refl, ap (λ (z : List PointExit). z ++ Always (stop_event f) ∷ []) code.asserts ∙ ap (λ (b : Bool). assert_exits p x.point ++ Always (stop_event b) ∷ []) code.own.fetchable);
         terms = record {
           typed = refl;
           no_loop = refl;
@@ -39,19 +39,19 @@ module _ (p : Program) (k : ℕ) (u : Unrolled) (form : Layout) (bank : Bank) (i
           picks = refl;
           names = refl;
           draws = λ e. refl;
-          weight = subst (λ (z : ℕ). 0 + 64 ≤ z) (sym (code.row ∙ ap row_price is)) (omega arith);
+          weight = subst (λ (z : ℕ). 0 + 64 ≤ z) (sym (code.own.row ∙ ap row_price is)) (omega arith);
           loads = omega arith;
           byte_stores = omega arith;
         };
-        counted = record { draws = code.draws ∙ ap row_draws is; row_cost = code.row ∙ ap row_price is; loads = code.loads ∙ ap (λ (z : Option Row). loads_at p at z) is; stores = code.stores ∙ ap stores_at is };
+        counted = record { draws = code.own.draws ∙ ap row_draws is; row_cost = code.own.row ∙ ap row_price is; loads = code.own.loads ∙ ap (λ (z : Option Row). loads_at p at z) is; stores = code.own.stores ∙ ap stores_at is };
       }
-  place_by at f None draws row loads stores asserts fit code led (Some r) is = absurd (subst (λ (z : Option Row). IsLiftedWord p.machine bank z at None) is code.list)
-  place_by at f (Some v) draws row loads stores asserts fit code led None is = absurd (subst (λ (z : Option Row). IsLiftedWord p.machine bank z at (Some v)) is code.list)
+  place_by at f None draws row loads stores asserts fit code led (Some r) is = absurd (subst (λ (z : Option Row). IsLiftedWord p.machine bank z at None) is code.own.list)
+  place_by at f (Some v) draws row loads stores asserts fit code led None is = absurd (subst (λ (z : Option Row). IsLiftedWord p.machine bank z at (Some v)) is code.own.list)
   place_by at f (Some v) draws row loads stores asserts fit code led (Some r) is =
       let x = (point_by u q (record { at = at; fetchable = f; list = Some v; draws = draws; row = row; loads = loads; stores = stores; asserts = asserts }) edges) in
       let counted : IsCounted p x (Some r) =
-      record { draws = code.draws ∙ ap row_draws is; row_cost = code.row ∙ ap row_price is; loads = code.loads ∙ ap (λ (z : Option Row). loads_at p at z) is; stores = code.stores ∙ ap stores_at is } in
-      let lifting : IsLifting p.machine bank r at (statements v.items) = subst (λ (z : Option Row). IsLiftedWord p.machine bank z at (Some v)) is code.list in
+      record { draws = code.own.draws ∙ ap row_draws is; row_cost = code.own.row ∙ ap row_price is; loads = code.own.loads ∙ ap (λ (z : Option Row). loads_at p at z) is; stores = code.own.stores ∙ ap stores_at is } in
+      let lifting : IsLifting p.machine bank r at (statements v.items) = subst (λ (z : Option Row). IsLiftedWord p.machine bank z at (Some v)) is code.own.list in
       let law = liftings_do_rows p (unrolled_of u) form bank x r (statements v.items) fitted registers flags is (fit.lawful r is) (fit.plain r is) lifting refl (sym (fit.four r is)) counted in
       record {
         does = (map edge_of edges, ap (λ (z : List PointExit). z ++ Raising ∷ WritingKept ∷ Unaligned ∷ map edge_of edges) code.asserts, led r is, law.0);

@@ -1,5 +1,5 @@
 -- What an unrolled program as a value says at a place, and of its form.
-use Rattle.std.specs.Prelude.{ℕ, ◌≡◌, ◌+◌, ◌<◌, List, Some, length, drop, slice_get, slice_index}
+use Rattle.std.specs.Prelude.{ℕ, ◌≡◌, ◌+◌, ◌<◌, Some, length, drop, slice_get, slice_index}
 use Rattle.bilv_spec.specs.Machine.{Machine}
 use Rattle.bilv_spec.specs.MachineLaws.{IsFitted}
 use Rattle.state_text.specs.Starts.{layout_of}

@@ -1,5 +1,5 @@
 -- What stands at the places of an unrolled program.
-use Rattle.std.specs.Prelude.{ℕ, ◌≡◌, List, Option, Some, None, map}
+use Rattle.std.specs.Prelude.{ℕ, ◌≡◌, List, Some, map}
 use Rattle.std.specs.List.{AllZip}
 use Rattle.bilv_spec.specs.Machine.{Row}
 use Rattle.bilv_spec.specs.MachineLaws.{IsLawful, IsFitted}
@@ -18,14 +18,18 @@ use Rattle.question_form.specs.declared.unrolled.Unrolled.{Unrolled}
 use Rattle.question_form.specs.Views.{asserts_between, edge_of, point_by, unrolled_of}
 use Rattle.unroller.specs.Rows.{IsPlain}
 
--- The code is that of its address: what the file gives there, the list of the row as it is lifted, the row's cost, and the exits by the assert lines of the address.
-pub record IsCode (p : Program) (bank : Bank) (u : Unrolled) (q : declared.Point) (c : Code) (edges : List Edge) : Type 0 where
+-- The code is that of its address, whatever its assert lines are: what the file gives there, the list of the row as it is lifted, and the row's cost.
+pub record IsRowCode (p : Program) (bank : Bank) (c : Code) : Type 0 where
   pub fetchable : c.fetchable ≡ fetchable p c.at
   pub list : IsLiftedWord p.machine bank (file_row p c.at) c.at c.list
   pub draws : c.draws ≡ row_draws (file_row p c.at)
   pub row : c.row ≡ row_price (file_row p c.at)
   pub loads : c.loads ≡ loads_at p c.at (file_row p c.at)
   pub stores : c.stores ≡ stores_at (file_row p c.at)
+
+-- the code is that of its address, with the exits by the assert lines there
+pub record IsCode (p : Program) (bank : Bank) (u : Unrolled) (q : declared.Point) (c : Code) (edges : List Edge) : Type 0 where
+  pub own : IsRowCode p bank c
   pub asserts : asserts_between (notes_of u.notes.now).asserts u.asserts.items c.asserts ≡ assert_exits p (point_by u q c edges).point
 
 -- the edges are those of a point at a place, in some order with the exit first

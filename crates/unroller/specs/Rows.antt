@@ -1,6 +1,6 @@
 -- What the lists of rows do at points.
-use Rattle.std.specs.Prelude.{ℕ, ◌≡◌, ◌≤◌, false, Some, None}
-use Rattle.bilv_spec.specs.Machine.{Row}
+use Rattle.std.specs.Prelude.{ℕ, ◌≡◌, ◌≤◌, ◌<◌, ◌^◌, false, Some, None}
+use Rattle.bilv_spec.specs.Machine.{Machine, Row}
 use Rattle.bilv_spec.specs.MachineLaws.{IsLawful, IsFitted, IsLifting}
 use Rattle.bilv_spec.specs.StateText.{Layout}
 use Rattle.bilv_spec.specs.Bil.{Bank, Statements}
@@ -13,6 +13,10 @@ use Rattle.walk_spec.specs.Unrolling.{DoesRow, IsRunnable, IsCounted}
 pub record IsPlain (row : Row) : Type 0 where
   pub literal : (at : ℕ) → row.literal at ≡ None
   pub flags : (f : ℕ) → 4 ≤ f → row.flags.surely f ≡ false
+
+-- each word of 32 bits that has a row has such a one
+pub record IsPlainMachine (m : Machine) : Type 0 where
+  pub rows : (w : ℕ) (row : Row) → w < 2 ^ 32 → m.row w ≡ Some row → IsPlain row
 
 -- The list of a lawful row, at a point of the row's address, does what the row does as far as it is read later. Terms can be made of it.
 abbrev pub LiftingsDoRows : Type 0

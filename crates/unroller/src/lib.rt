@@ -1,11 +1,13 @@
 //! The unrolled program of a program: its points in an order in which every edge leads to a later one, with what is done at each and how it is left; and its price.
 #![tactic(auto)]
 
+mod codes;
 mod costs;
 mod laws;
 mod lines;
 mod prices;
 
+pub use codes::code_at;
 pub use laws::{
     ends_make_edges, exits_are_returns, forms_are_right, liftings_do_rows, places_are_right,
     points_are_at,
