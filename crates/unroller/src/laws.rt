@@ -1,5 +1,6 @@
 //! Laws of lifted lists, of places and of edges.
 ghost use Rattle.unroller.specs.Edges.{EndsMakeEdges, ExitsAreReturns};
+ghost use Rattle.unroller.specs.Kept.{KeptRunsAreRight};
 ghost use Rattle.unroller.specs.Lookups.{FormsAreRight, PointsAreAt};
 ghost use Rattle.unroller.specs.Places.{PlacesAreRight};
 ghost use Rattle.unroller.specs.Rows.{LiftingsDoRows};
@@ -32,4 +33,9 @@ pub fn points_are_at()
 /// The registers and the flags are the machine's that the form is fitted to.
 pub fn forms_are_right()
     ensures { FormsAreRight }
+{}
+
+/// The maximal runs of kept addresses of a file are runs of the definitions.
+pub fn kept_runs_are_right()
+    ensures { KeptRunsAreRight }
 {}
