@@ -1,6 +1,7 @@
 mod Capped
 mod Coded
 mod EdgeLists
+mod FirstPoints
 mod KeptRuns
 mod Looked
 mod Mixed

@@ -1,5 +1,6 @@
 //! Laws of lifted lists, of places and of edges.
 ghost use Rattle.unroller.specs.Edges.{EndsMakeEdges, ExitsAreReturns};
+ghost use Rattle.unroller.specs.FirstPoint.{EntryComesFirst};
 ghost use Rattle.unroller.specs.Kept.{KeptRunsAreRight};
 ghost use Rattle.unroller.specs.Lookups.{FormsAreRight, PointsAreAt};
 ghost use Rattle.unroller.specs.Places.{PlacesAreRight};
@@ -38,4 +39,9 @@ pub fn forms_are_right()
 /// The maximal runs of kept addresses of a file are runs of the definitions.
 pub fn kept_runs_are_right()
     ensures { KeptRunsAreRight }
+{}
+
+/// By backward transfers and address the entry's point is the first.
+pub fn entry_comes_first()
+    ensures { EntryComesFirst }
 {}
