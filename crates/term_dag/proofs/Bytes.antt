@@ -1,0 +1,106 @@
+-- Bytes of memory terms, one node after another.
+use Rattle.std.proofs.Common.{◌≡◌, ℕ, zero, suc, ◌^◌, ◌<◌, ◌≤◌, Bool, List, [], length, refl, ap, sym, ◌∙◌, arith}
+use Rattle.std.specs.Prelude.{nat_lt, if◌then◌else◌, slice_index}
+use Rattle.std.proofs.lemmas.Bool.Decides.{nat_tests}
+use Rattle.std.proofs.lemmas.Nat.{mod_below, pow_pos}
+use Rattle.bilv_spec.specs.Words as words
+use Rattle.bilv_spec.specs.Memory.{endian, byte_of}
+use Rattle.walk_spec.specs.Terms.{TermReading, InRange, TermNode, MemoryNode, StoreNode, JoinNode, TermValue, node_value, values_from, term_value, term_word, node_at, AreTyped, select}
+use Rattle.term_dag.specs.declared.nodes.Term.{Term}
+use Rattle.term_dag.specs.declared.nodes.Node.{Node}
+use Rattle.term_dag.specs.declared.nodes.Node.TheVariants as node
+use Rattle.term_dag.specs.Nodes.{node_of}
+use Rattle.term_dag.specs.declared.values.Reading.{Reading}
+use Rattle.term_dag.specs.Readings.{AreWords, reading_of}
+use Rattle.term_dag.proofs.ListLaws.{by_node, typed_here, typed_before, place_before}
+
+stored_here : (k n b m : ℕ) → k < n → (if nat_lt k n then b else m) ≡ b
+stored_here k n b m h = grind (arith, nat_tests)
+
+stored_past : (k n b m : ℕ) → n ≤ k → (if nat_lt k n then b else m) ≡ m
+stored_past k n b m h = grind (arith, nat_tests)
+
+chosen_first : (c a b : ℕ) → 0 < c → select c a b ≡ a
+chosen_first zero a b h = absurd (omega arith)
+chosen_first (suc c) a b h = refl
+
+chosen_second : (c a b : ℕ) → c ≤ 0 → select c a b ≡ b
+chosen_second zero a b h = refl
+chosen_second (suc c) a b h = absurd (omega arith)
+
+module _ (x : TermReading) (ns : List TermNode) (ws : List ℕ) (t i : ℕ) (h : AreTyped ns) (w : AreWords x ns ws) (l : t < length ns) where
+  pub entry_byte : MemoryNode ≡ node_at ns t → x.mem i ≡ (term_value x ns t).bytes i
+  entry_byte e = sym (ap (λ z. z.bytes i) (by_node x ns t MemoryNode h l e))
+
+  module _ (n : ℕ) (big : Bool) (m a v k : ℕ) (e : StoreNode n (endian big) m a v ≡ node_at ns t) (f : words.sub 32 i (slice_index ws a) ≡ k) where
+    pub address_within : a < length ns
+    address_within = (typed_here ns t (StoreNode n (endian big) m a v) h l e).2.0
+
+    at_word : words.sub 32 i (term_word x ns a) ≡ k
+    at_word = ap (words.sub 32 i) (sym (w.each a address_within)) ∙ f
+
+    pub in_store : k < n → byte_of (endian big) n (slice_index ws v) k ≡ (term_value x ns t).bytes i
+    in_store q =
+        let y = typed_here ns t (StoreNode n (endian big) m a v) h l e in
+        ap (λ z. byte_of (endian big) n z k) (w.each v y.3.0)
+        ∙ sym (
+        ap (λ z. z.bytes i) (by_node x ns t (StoreNode n (endian big) m a v) h l e)
+        ∙ ap (λ z. if nat_lt z n then byte_of (endian big) n (term_word x ns v) z else (term_value x ns m).bytes i) at_word ∙ stored_here k n _ _ q)
+
+    pub past_store : n ≤ k → (term_value x ns m).bytes i ≡ (term_value x ns t).bytes i
+    past_store q =
+        sym (
+        ap (λ z. z.bytes i) (by_node x ns t (StoreNode n (endian big) m a v) h l e)
+        ∙ ap (λ z. if nat_lt z n then byte_of (endian big) n (term_word x ns v) z else (term_value x ns m).bytes i) at_word ∙ stored_past k n _ _ q)
+
+    pub store_before : m < t
+    store_before = place_before ns t 0 m l (typed_before ns t (StoreNode n (endian big) m a v) h l e).1
+
+  module _ (c a b : ℕ) (e : JoinNode c a b ≡ node_at ns t) where
+    pub join_within : (c < length ns) × (a < length ns) × (b < length ns)
+    join_within = let y = typed_here ns t (JoinNode c a b) h l e in (y.0.0, y.1.0, y.2.0)
+
+    pub first_before : a < t
+    first_before = place_before ns t 0 a l (typed_before ns t (JoinNode c a b) h l e).1
+
+    pub second_before : b < t
+    second_before = place_before ns t 0 b l (typed_before ns t (JoinNode c a b) h l e).2
+
+    pub join_first : 0 < slice_index ws c → (term_value x ns a).bytes i ≡ (term_value x ns t).bytes i
+    join_first q = sym (ap (λ z. z.bytes i) (by_node x ns t (JoinNode c a b) h l e) ∙ chosen_first (term_word x ns c) _ _ (omega (arith, w.each c join_within.0, q)))
+
+    pub join_second : slice_index ws c ≤ 0 → (term_value x ns b).bytes i ≡ (term_value x ns t).bytes i
+    join_second q = sym (ap (λ z. z.bytes i) (by_node x ns t (JoinNode c a b) h l e) ∙ chosen_second (term_word x ns c) _ _ (omega (arith, w.each c join_within.0, q)))
+
+word_bytes : (x : TermReading) (vs : List TermValue) (n : Node) (i : ℕ) → (n ≡ node.Memory → ⊥) → ((k : ℕ) (g : Bool) (m a v : Term) → n ≡ node.Store k g m a v → ⊥) →
+    ((c a b : Term) → n ≡ node.Join c a b → ⊥) → 0 ≡ (node_value x vs (node_of n)).bytes i
+word_bytes x vs (node.Register r) i p q s = refl
+word_bytes x vs (node.Flag f) i p q s = refl
+word_bytes x vs (node.Choice j) i p q s = refl
+word_bytes x vs (node.Base j) i p q s = refl
+word_bytes x vs node.Memory i p q s = absurd (p refl)
+word_bytes x vs (node.Constant w v) i p q s = refl
+word_bytes x vs (node.Binary o w a b) i p q s = refl
+word_bytes x vs (node.Not w a) i p q s = refl
+word_bytes x vs (node.Select w c a b) i p q s = refl
+word_bytes x vs (node.Extract hi lo a) i p q s = refl
+word_bytes x vs (node.Concat high low a b) i p q s = refl
+word_bytes x vs (node.Extend g n m a) i p q s = refl
+word_bytes x vs (node.Load n g m a) i p q s = refl
+word_bytes x vs (node.Store n g m a v) i p q s = absurd (q n g m a v refl)
+word_bytes x vs (node.Join c a b) i p q s = absurd (s c a b refl)
+
+-- a word has no bytes
+pub no_bytes : (x : TermReading) (ns : List TermNode) (t : ℕ) (n : Node) (i : ℕ) → AreTyped ns → t < length ns → node_of n ≡ node_at ns t → (n ≡ node.Memory → ⊥) →
+    ((k : ℕ) (g : Bool) (m a v : Term) → n ≡ node.Store k g m a v → ⊥) → ((c a b : Term) → n ≡ node.Join c a b → ⊥) → 0 ≡ (term_value x ns t).bytes i
+no_bytes x ns t n i h l e p q s = word_bytes x (values_from x [] ns) n i p q s ∙ sym (ap (λ z. z.bytes i) (by_node x ns t (node_of n) h l e))
+
+-- what data stand for is in range
+pub in_range : (r : Reading) → InRange (reading_of r)
+in_range r = record {
+  regs = λ n. mod_below _ (2 ^ 32) (pow_pos 32);
+  flags = λ f. mod_below _ 2 (omega arith);
+  mem = λ a. mod_below _ 256 (omega arith);
+  choice = λ i. mod_below _ 4 (omega arith);
+  base = λ j. mod_below _ 256 (omega arith);
+}

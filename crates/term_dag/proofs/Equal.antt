@@ -1,0 +1,123 @@
+-- Nodes that `==` finds equal are equal, and so are nodes that are seen as one.
+use Rattle.std.proofs.Common.{◌≡◌, Bool, true, false, rules, refl, sym, ap, ◌∙◌, subst}
+use Rattle.bilv_spec.specs.Bil as bil
+use Rattle.bilv_spec.specs.Memory as memory
+use Rattle.walk_spec.specs.Terms.{TermNode, RegisterNode, FlagNode, ChoiceNode, BaseNode, MemoryNode, ConstantNode, BinaryNode, NotNode, SelectNode, ExtractNode, ConcatNode, ExtendNode, LoadNode, StoreNode, JoinNode}
+use Rattle.term_dag.specs.declared.nodes.Op.{Op}
+use Rattle.term_dag.specs.declared.nodes.Op.TheVariants as op
+use Rattle.term_dag.specs.declared.nodes.Node.{Node}
+use Rattle.term_dag.specs.declared.nodes.Node.TheVariants as node
+use Rattle.term_dag.specs.contracts.nodes.NodePartialEq.TheImpl.{eq-value}
+use Rattle.term_dag.specs.Nodes.{op_of, node_of}
+
+pub same : (x y : Node) → (eq-value).it x y ≡ true → x ≡ y
+same x y h = search rules
+
+itself : (x : Node) → (eq-value).it x x ≡ true
+itself (node.Register r) = search rules
+itself (node.Flag f) = search rules
+itself (node.Choice i) = search rules
+itself (node.Base j) = search rules
+itself node.Memory = search rules
+itself (node.Constant w v) = search rules
+itself (node.Binary o w a b) = search rules
+itself (node.Not w a) = search rules
+itself (node.Select w c a b) = search rules
+itself (node.Extract hi lo a) = search rules
+itself (node.Concat high low a b) = search rules
+itself (node.Extend s n m a) = search rules
+itself (node.Load n big m a) = search rules
+itself (node.Store n big m a v) = search rules
+itself (node.Join c a b) = search rules
+
+-- the operator that is seen so
+abbrev back_op : bil.BinaryOp → Op
+back_op bil.Plus = op.Plus
+back_op bil.Minus = op.Minus
+back_op bil.Times = op.Times
+back_op bil.Divide = op.Divide
+back_op bil.SignedDivide = op.SignedDivide
+back_op bil.Modulo = op.Modulo
+back_op bil.SignedModulo = op.SignedModulo
+back_op bil.And = op.And
+back_op bil.Or = op.Or
+back_op bil.Xor = op.Xor
+back_op bil.ShiftLeft = op.ShiftLeft
+back_op bil.ShiftRight = op.ShiftRight
+back_op bil.ShiftSigned = op.ShiftSigned
+back_op bil.Equal = op.Equal
+back_op bil.NotEqual = op.NotEqual
+back_op bil.Less = op.Less
+back_op bil.LessEqual = op.LessEqual
+back_op bil.SignedLess = op.SignedLess
+back_op bil.SignedLessEqual = op.SignedLessEqual
+
+back_op_of : (o : Op) → back_op (op_of o) ≡ o
+back_op_of op.Plus = refl
+back_op_of op.Minus = refl
+back_op_of op.Times = refl
+back_op_of op.Divide = refl
+back_op_of op.SignedDivide = refl
+back_op_of op.Modulo = refl
+back_op_of op.SignedModulo = refl
+back_op_of op.And = refl
+back_op_of op.Or = refl
+back_op_of op.Xor = refl
+back_op_of op.ShiftLeft = refl
+back_op_of op.ShiftRight = refl
+back_op_of op.ShiftSigned = refl
+back_op_of op.Equal = refl
+back_op_of op.NotEqual = refl
+back_op_of op.Less = refl
+back_op_of op.LessEqual = refl
+back_op_of op.SignedLess = refl
+back_op_of op.SignedLessEqual = refl
+
+abbrev is_big : memory.Endian → Bool
+is_big memory.Little = false
+is_big memory.Big = true
+
+is_big_of : (b : Bool) → is_big (memory.endian b) ≡ b
+is_big_of true = refl
+is_big_of false = refl
+
+-- the node that is seen so
+abbrev back : TermNode → Node
+back (RegisterNode r) = node.Register r
+back (FlagNode f) = node.Flag f
+back (ChoiceNode i) = node.Choice i
+back (BaseNode j) = node.Base j
+back MemoryNode = node.Memory
+back (ConstantNode w v) = node.Constant w v
+back (BinaryNode o w a b) = node.Binary (back_op o) w (record { 0 = a }) (record { 0 = b })
+back (NotNode w a) = node.Not w (record { 0 = a })
+back (SelectNode w c a b) = node.Select w (record { 0 = c }) (record { 0 = a }) (record { 0 = b })
+back (ExtractNode hi lo a) = node.Extract hi lo (record { 0 = a })
+back (ConcatNode high low a b) = node.Concat high low (record { 0 = a }) (record { 0 = b })
+back (ExtendNode s n m a) = node.Extend s n m (record { 0 = a })
+back (LoadNode n e m a) = node.Load n (is_big e) (record { 0 = m }) (record { 0 = a })
+back (StoreNode n e m a v) = node.Store n (is_big e) (record { 0 = m }) (record { 0 = a }) (record { 0 = v })
+back (JoinNode c a b) = node.Join (record { 0 = c }) (record { 0 = a }) (record { 0 = b })
+
+back_of : (x : Node) → back (node_of x) ≡ x
+back_of (node.Register r) = refl
+back_of (node.Flag f) = refl
+back_of (node.Choice i) = refl
+back_of (node.Base j) = refl
+back_of node.Memory = refl
+back_of (node.Constant w v) = refl
+back_of (node.Binary o w a b) = ap (λ z. node.Binary z w a b) (back_op_of o)
+back_of (node.Not w a) = refl
+back_of (node.Select w c a b) = refl
+back_of (node.Extract hi lo a) = refl
+back_of (node.Concat high low a b) = refl
+back_of (node.Extend s n m a) = refl
+back_of (node.Load n big m a) = ap (λ z. node.Load n z m a) (is_big_of big)
+back_of (node.Store n big m a v) = ap (λ z. node.Store n z m a v) (is_big_of big)
+back_of (node.Join c a b) = refl
+
+-- nodes that are seen as one are found equal
+pub seen_same : (x y : Node) → node_of x ≡ node_of y → (eq-value).it x y ≡ true
+seen_same x y h =
+    let e : x ≡ y = sym (back_of x) ∙ ap back h ∙ back_of y in
+    subst (λ (z : Node). (eq-value).it x z ≡ true) e (itself x)

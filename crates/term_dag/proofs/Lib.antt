@@ -1,0 +1,11 @@
+pub mod ListLaws
+pub mod Ranges
+pub mod WordFolds
+pub mod Sharing
+pub mod Equal
+pub mod WordLaws
+pub mod Shapes
+pub mod Cubes
+pub mod Joins
+pub mod Bytes
+pub mod Prefixes

@@ -1,0 +1,169 @@
+-- A list of nodes in which a node has been looked up or added.
+use Rattle.std.proofs.Common.{inl, inr, ◌⊎◌, ◌≡◌, ℕ, zero, suc, ◌<◌, List, [], ◌∷◌, ◌++◌, length, slice_get, Some, Bool, true, false, refl, ap, sym, ◌∙◌, subst, arith, true≢false, append-nil, append_assoc}
+use Rattle.std.specs.Prelude.{if◌then◌else◌}
+use Rattle.std.specs.List.{IsDistinct, AllByRecursion}
+use Rattle.std.proofs.lemmas.List.Sums.{sum_by-append}
+use Rattle.walk_spec.specs.Terms.{TermReading, TermNode, ConstantNode, BinaryNode, node_value, values_from, term_value, width_of, node_at, HasWidth, IsTypedOver, AreTyped, value_at, own_gates, own_loads, own_stores, own_joins}
+use Rattle.term_dag.specs.declared.nodes.Node.{Node}
+use Rattle.term_dag.specs.declared.nodes.Op.{Op}
+use Rattle.term_dag.specs.declared.folds.Folded.TheVariants.{Old, New, Onto}
+use Rattle.term_dag.specs.Nodes.{op_of, node_of, nodes_of}
+use Rattle.term_dag.specs.Made.{Extends, IsWithinCost, IsMade, AreDistinct, IsInterned}
+use Rattle.term_dag.specs.Folds.{IsFold}
+use Rattle.term_dag.proofs.ListLaws.{keeps, keeps_node, typed_push, by_node, same, has_width_more, longer}
+
+nodes_append : (ns ms : List Node) → nodes_of (ns ++ ms) ≡ nodes_of ns ++ nodes_of ms
+nodes_append [] ms = refl
+nodes_append (n ∷ ns) ms = ap (λ l. node_of n ∷ l) (nodes_append ns ms)
+
+-- the list that is left where a node is there, and the longer one where it is not
+looked_up : (b : Bool) (old new : List Node) (n : Node) → new ≡ (if b then old else old ++ n ∷ []) → (nodes_of new ≡ nodes_of old) ⊎ (nodes_of new ≡ nodes_of old ++ node_of n ∷ [])
+looked_up true old new n e = inl (ap nodes_of e)
+looked_up false old new n e = inr (ap nodes_of e ∙ nodes_append old (n ∷ []))
+
+at_place : (ns : List Node) (i : ℕ) (n : Node) → slice_get ns i ≡ Some n → node_at (nodes_of ns) i ≡ node_of n
+at_place [] i n h = cc
+at_place (x ∷ xs) zero n h = let e : x ≡ n = cc in ap node_of e
+at_place (x ∷ xs) (suc i) n h = at_place xs i n h
+
+within : (ns : List Node) (i : ℕ) (n : Node) → slice_get ns i ≡ Some n → i < length (nodes_of ns)
+within [] i n h = cc
+within (x ∷ xs) zero n h = omega arith
+within (x ∷ xs) (suc i) n h = omega (arith, within xs i n h)
+
+no_more : (ns : List TermNode) (n : TermNode) → IsWithinCost ns ns n
+no_more ns n = record { gates = omega arith; loads = omega arith; stores = omega arith; joins = omega arith }
+
+one_more : (ns : List TermNode) (n : TermNode) → IsWithinCost ns (ns ++ n ∷ []) n
+one_more ns n = record {
+  gates = omega (arith, sum_by-append own_gates ns (n ∷ []));
+  loads = omega (arith, sum_by-append own_loads ns (n ∷ []));
+  stores = omega (arith, sum_by-append own_stores ns (n ∷ []));
+  joins = omega (arith, sum_by-append own_joins ns (n ∷ []));
+}
+
+pub typed_new : (b : Bool) (old new : List Node) (n : Node) → new ≡ (if b then old else old ++ n ∷ []) → AreTyped (nodes_of old) → IsTypedOver (nodes_of old) (node_of n) → AreTyped (nodes_of new)
+typed_new b old new n e h t =
+    elim (looked_up b old new n e) [
+      | inl q ↦ subst AreTyped (sym q) h
+      | inr q ↦ subst AreTyped (sym q) (typed_push (nodes_of old) (node_of n) h t)
+    ]
+
+-- the place that a node has got
+pub interned : (b : Bool) (old new : List Node) (n : Node) (t : ℕ) → new ≡ (if b then old else old ++ n ∷ []) → AreTyped (nodes_of old) → IsTypedOver (nodes_of old) (node_of n) →
+    slice_get new t ≡ Some n → IsInterned (nodes_of old) (nodes_of new) (node_of n) t
+interned b old new n t e h o s = record {
+  extends = elim (looked_up b old new n e) [ inl q ↦ ([], q ∙ sym (append-nil (nodes_of old))) | inr q ↦ (node_of n ∷ [], q) ];
+  typed = typed_new b old new n e h o;
+  within = within new t n s;
+  stored = at_place new t n s;
+  few = elim (looked_up b old new n e) [ inl q ↦ omega (arith, ap length q) | inr q ↦ omega (arith, ap length q, longer (nodes_of old) (node_of n)) ];
+  cost = elim (looked_up b old new n e) [
+    | inl q ↦ subst (λ (l : List TermNode). IsWithinCost (nodes_of old) l (node_of n)) (sym q) (no_more (nodes_of old) (node_of n))
+    | inr q ↦ subst (λ (l : List TermNode). IsWithinCost (nodes_of old) l (node_of n)) (sym q) (one_more (nodes_of old) (node_of n))
+  ];
+}
+
+-- what an extension keeps
+pub kept_values : (old new : List TermNode) → Extends old new → (x : TermReading) (i : ℕ) → i < length old → term_value x new i ≡ term_value x old i
+kept_values old new e x i l = ap (λ ns. term_value x ns i) e.1 ∙ keeps x old e.0 i l
+
+pub kept_nodes : (old new : List TermNode) → Extends old new → (i : ℕ) → i < length old → node_at new i ≡ node_at old i
+kept_nodes old new e i l = ap (λ ns. node_at ns i) e.1 ∙ keeps_node old e.0 i l
+
+pub kept_width : (old new : List TermNode) → Extends old new → (w t : ℕ) → HasWidth old w t → HasWidth new w t
+kept_width old new e w t h = subst (λ (ns : List TermNode). HasWidth ns w t) (sym e.1) (has_width_more old e.0 w t h)
+
+pub both_extend : (a b c : List TermNode) → Extends a b → Extends b c → Extends a c
+both_extend a b c p q = (p.0 ++ q.0, q.1 ∙ ap (λ l. l ++ q.0) p.1 ∙ append_assoc a p.0 q.0)
+
+-- an interned node has its value over the old terms
+pub interned_value : (old new : List TermNode) (n : TermNode) (t : ℕ) → IsInterned old new n t → IsTypedOver old n → (x : TermReading) →
+    term_value x new t ≡ node_value x (values_from x [] old) n
+interned_value old new n t k o x =
+    by_node x new t n k.typed k.within (sym k.stored)
+    ∙ same x (values_from x [] new) (values_from x [] old) old n o (λ i l. kept_values old new k.extends x i l)
+
+-- a term that was there
+pub made_old : (ns : List TermNode) (n : TermNode) (t : _) → IsFold ns n (Old t) → IsMade ns ns n t.0
+made_old ns n t f = record {
+  extends = ([], sym (append-nil ns));
+  keeps = λ x i l. refl;
+  widths = λ i l. refl;
+  within = f.within;
+  width = f.width;
+  value = f.value;
+  few = omega arith;
+  cost = no_more ns n;
+}
+
+-- a node that was looked up or added
+pub made_new : (old new : List TermNode) (n : TermNode) (m : Node) (t : ℕ) → IsFold old n (New m) → IsInterned old new (node_of m) t → IsMade old new n t
+made_new old new n m t f k = record {
+  extends = k.extends;
+  keeps = kept_values old new k.extends;
+  widths = λ i l. ap width_of (kept_nodes old new k.extends i l);
+  within = k.within;
+  width = ap width_of k.stored ∙ f.width;
+  value = λ x g. interned_value old new (node_of m) t k f.typed x ∙ f.value x g;
+  few = omega (arith, k.few);
+  cost = record {
+    gates = omega (arith, k.cost.gates, f.gates);
+    loads = omega (arith, k.cost.loads, f.loads);
+    stores = omega (arith, k.cost.stores, f.stores);
+    joins = omega (arith, k.cost.joins, f.joins);
+  };
+}
+
+-- the operator between a term and a constant is typed over the list that has the constant
+pub onto_typed : (old mid : List TermNode) (n : TermNode) (o : Op) (w c : ℕ) (t : _) (k : ℕ) → IsFold old n (Onto o w t c) → IsInterned old mid (ConstantNode w c) k →
+    IsTypedOver mid (BinaryNode (op_of o) w t.0 k)
+onto_typed old mid n o w c t k f i = (f.some, kept_width old mid i.extends w t.0 f.first, (i.within, ap width_of i.stored))
+
+-- that operator
+pub made_onto : (old mid new : List TermNode) (n : TermNode) (o : Op) (w c : ℕ) (t : _) (k r : ℕ) → IsFold old n (Onto o w t c) → IsInterned old mid (ConstantNode w c) k →
+    IsInterned mid new (BinaryNode (op_of o) w t.0 k) r → IsMade old new n r
+made_onto old mid new n o w c t k r f i j =
+    let e = both_extend old mid new i.extends j.extends in
+    let typed = onto_typed old mid n o w c t k f i in
+    record {
+      extends = e;
+      keeps = kept_values old new e;
+      widths = λ a l. ap width_of (kept_nodes old new e a l);
+      within = j.within;
+      width = ap width_of j.stored ∙ f.width;
+      value = λ x g.
+          interned_value mid new (BinaryNode (op_of o) w t.0 k) r j typed x
+          ∙ ap (λ (z : _). node_value x (z ∷ value_at (values_from x [] mid) k ∷ []) (BinaryNode (op_of o) w 0 1)) (kept_values old mid i.extends x t.0 f.first.0)
+          ∙ ap (λ (z : _). node_value x (term_value x old t.0 ∷ z ∷ []) (BinaryNode (op_of o) w 0 1)) (interned_value old mid (ConstantNode w c) k i (f.some, f.second) x)
+          ∙ f.value x g;
+      few = omega (arith, i.few, j.few);
+      cost = record {
+        gates = omega (arith, i.cost.gates, j.cost.gates, f.gates);
+        loads = omega (arith, i.cost.loads, j.cost.loads);
+        stores = omega (arith, i.cost.stores, j.cost.stores);
+        joins = omega (arith, i.cost.joins, j.cost.joins);
+      };
+    }
+
+module _ (eq : Node → Node → Bool) (itself : (x y : Node) → node_of x ≡ node_of y → eq x y ≡ true) where
+  apart : (x : Node) (xs : List Node) (j : ℕ) → AllByRecursion (λ y. eq x y ≡ false) xs → j < length (nodes_of xs) → Some (node_of x) ≡ slice_get (nodes_of xs) j → ⊥
+  apart x [] j d h e = absurd (omega arith)
+  apart x (y ∷ ys) zero d h e = let p : node_of x ≡ node_of y = cc in true≢false (sym (itself x y p) ∙ d.0)
+  apart x (y ∷ ys) (suc j) d h e = apart x ys j d.1 (omega arith) e
+
+  pub distinct : (ns : List Node) → IsDistinct eq ns → AreDistinct (nodes_of ns)
+  unfolding IsDistinct
+  distinct [] d i j l h e = absurd (omega arith)
+  distinct (x ∷ xs) d zero zero l h e = absurd (omega arith)
+  distinct (x ∷ xs) d zero (suc j) l h e = apart x xs j d.0 (omega arith) e
+  distinct (x ∷ xs) d (suc i) zero l h e = absurd (omega arith)
+  distinct (x ∷ xs) d (suc i) (suc j) l h e = distinct xs d.1 i j (omega arith) (omega arith) e
+
+-- the two kinds of made terms over a view of the list
+pub made_by_node : (old view new : List TermNode) (n : TermNode) (m : Node) (t : ℕ) → view ≡ old → IsFold view n (New m) → IsInterned old new (node_of m) t → IsMade old new n t
+made_by_node old view new n m t e f k = made_new old new n m t (subst (λ (ns : List TermNode). IsFold ns n (New m)) e f) k
+
+pub made_by_onto : (old view mid new : List TermNode) (n : TermNode) (o : Op) (w c : ℕ) (t : _) (k r : ℕ) → view ≡ old → IsFold view n (Onto o w t c) →
+    IsInterned old mid (ConstantNode w c) k → IsInterned mid new (BinaryNode (op_of o) w t.0 k) r → IsMade old new n r
+made_by_onto old view mid new n o w c t k r e f i j = made_onto old mid new n o w c t k r (subst (λ (ns : List TermNode). IsFold ns n (Onto o w t c)) e f) i j

@@ -1,0 +1,16 @@
+use Rattle.std.proofs.Common.{arith}
+use Rattle.term_dag.specs.Readings.{reading_of}
+use Rattle.term_dag.proofs.Bytes.{in_range}
+use Rattle.term_dag.proofs.Ranges.{word_fits}
+use Rattle.term_dag.proofs.values.operand.Goals as goal
+
+pub bounds-words-term : goal.bounds-words-term
+bounds-words-term c = omega (arith, c.requires.place.0, c.requires.words.count)
+
+pub returns-clause-value : goal.returns-clause-value
+returns-clause-value c = c.requires.words.each c.args.term.0 c.requires.place.0
+
+pub returns-clause-below : goal.returns-clause-below
+returns-clause-below c =
+    let f = word_fits (reading_of c.args.reading.now) _ c.args.width c.args.term.0 (in_range c.args.reading.now) c.requires.typed c.requires.place in
+    omega (arith, f, c.requires.words.each c.args.term.0 c.requires.place.0)

@@ -1,0 +1,4 @@
+pub mod Nodes
+pub mod Made
+pub mod Folds
+pub mod Readings

@@ -1,0 +1,45 @@
+-- What it means that a list of nodes has got a node, and that a term stands for one.
+use Rattle.std.specs.Prelude.{◌≡◌, ℕ, ◌+◌, ◌<◌, ◌≤◌, List, [], ◌++◌, length, slice_get}
+use Rattle.walk_spec.specs.Terms.{TermReading, InRange, TermNode, node_value, values_from, term_value, term_word, width_of, node_at, AreTyped, term_gates, term_loads, term_stores, term_joins, own_gates, own_loads, own_stores, own_joins}
+
+-- the new list is the old one with more nodes behind
+abbrev pub Extends : (old new : List TermNode) → Type 0
+Extends old new = (more : List TermNode) × (new ≡ old ++ more)
+
+-- what new nodes cost is within that of a node
+pub record IsWithinCost (old new : List TermNode) (n : TermNode) : Type 0 where
+  pub gates : term_gates new ≤ term_gates old + own_gates n
+  pub loads : term_loads new ≤ term_loads old + own_loads n
+  pub stores : term_stores new ≤ term_stores old + own_stores n
+  pub joins : term_joins new ≤ term_joins old + own_joins n
+
+-- The new list has a term for a node over the old one. Terms of the old list keep their places, values and widths; the term has the node's width, and under every
+-- reading in range the node's value. At most two nodes are new, and they cost no more than the node.
+pub record IsMade (old new : List TermNode) (n : TermNode) (t : ℕ) : Type 0 where
+  pub extends : Extends old new
+  pub keeps : (x : TermReading) (i : ℕ) → i < length old → term_value x new i ≡ term_value x old i
+  pub widths : (i : ℕ) → i < length old → width_of (node_at new i) ≡ width_of (node_at old i)
+  pub within : t < length new
+  pub width : width_of (node_at new t) ≡ width_of n
+  pub value : (x : TermReading) → InRange x → term_value x new t ≡ node_value x (values_from x [] old) n
+  pub few : length new ≤ length old + 2
+  pub cost : IsWithinCost old new n
+
+-- no two places hold equal nodes
+abbrev pub AreDistinct : List TermNode → Type 0
+AreDistinct nodes = (i j : ℕ) → i < j → j < length nodes → slice_get nodes i ≡ slice_get nodes j → ⊥
+
+-- a separator: it is 1 where the condition is, and 0 where the condition is 0 and the other bit is 1
+pub record Separates (nodes : List TermNode) (condition met t : ℕ) : Type 0 where
+  pub bit : (t < length nodes) × (width_of (node_at nodes t) ≡ 1)
+  pub first : (x : TermReading) → InRange x → term_word x nodes condition ≡ 1 → term_word x nodes t ≡ 1
+  pub second : (x : TermReading) → InRange x → term_word x nodes met ≡ 1 → term_word x nodes condition ≡ 0 → term_word x nodes t ≡ 0
+
+-- The new list has a place for a node over the old one, which it extends by at most that node.
+pub record IsInterned (old new : List TermNode) (n : TermNode) (t : ℕ) : Type 0 where
+  pub extends : Extends old new
+  pub typed : AreTyped new
+  pub within : t < length new
+  pub stored : node_at new t ≡ n
+  pub few : length new ≤ length old + 1
+  pub cost : IsWithinCost old new n

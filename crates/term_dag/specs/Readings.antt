@@ -1,0 +1,28 @@
+-- The reading that stands for data, and the words of terms under it.
+use Rattle.std.specs.Prelude.{◌≡◌, ℕ, ◌%◌, ◌^◌, ◌<◌, List, length, slice_index}
+use Rattle.bilv_spec.specs.Memory.{memory_of}
+use Rattle.walk_spec.specs.Terms.{TermReading, TermNode, RegisterNode, FlagNode, ChoiceNode, BaseNode, term_word}
+use Rattle.term_dag.specs.declared.values.Reading.{Reading}
+
+-- what the data stand for: what is not listed is 0, and of each number those bits count that a reading has
+abbrev pub reading_of : Reading → TermReading
+reading_of r = record {
+  regs = λ n. slice_index r.registers.items n % 2 ^ 32;
+  flags = λ f. slice_index r.flags.items f % 2;
+  mem = λ a. memory_of r.memory.entries a % 256;
+  choice = λ i. slice_index r.choices.items i % 4;
+  base = λ j. slice_index r.base.items j % 256;
+}
+
+-- the words are those of the terms of a list
+pub record AreWords (x : TermReading) (nodes : List TermNode) (ws : List ℕ) : Type 0 where
+  pub count : length ws ≡ length nodes
+  pub each : (t : ℕ) → t < length nodes → slice_index ws t ≡ term_word x nodes t
+
+-- the node is an input that is a word
+abbrev pub IsInput : TermNode → Type 0
+IsInput (RegisterNode n) = Unit {0}
+IsInput (FlagNode f) = Unit {0}
+IsInput (ChoiceNode i) = Unit {0}
+IsInput (BaseNode j) = Unit {0}
+IsInput n = ⊥

@@ -1,0 +1,222 @@
+//! Folds of `and` and `or` between bits, one level deep.
+
+ghost use Rattle.std.specs.Prelude.{◌≡◌, ℕ, ◌+◌, ◌<◌, ◌≤◌, ◌⊎◌, bit_and, bit_or, IsTrue, IfSome};
+ghost use Rattle.walk_spec.specs.Terms.{TermReading, term_word, HasWidth, AreTyped};
+ghost use Rattle.term_dag.specs.Nodes.{nodes_of};
+ghost use Rattle.term_dag.specs.Made.{Separates};
+ghost use Rattle.term_dag.specs.Folds.{AreBits, IsCube, IsLiteral, IsPair, IsWordFold, cube_value, literal_value};
+
+use crate::folds::{Folded, look};
+use crate::operators::truth;
+use crate::{Node, Op, Term};
+
+/// A bit, or its negation.
+#[derive(Clone, Copy)]
+pub struct Literal {
+    pub term: Term,
+    pub negated: bool,
+}
+
+/// Two bits, as terms and as literals, of which another bit is the conjunction.
+#[derive(Clone, Copy)]
+pub struct Cube {
+    pub left: Term,
+    pub right: Term,
+    pub first: Literal,
+    pub second: Literal,
+}
+
+/// Whether two literals are the same.
+fn is_same(one: Literal, other: Literal) -> bool
+    ensures { IsTrue result → (v : ℕ → ℕ) → literal_value one v ≡ literal_value other v }
+{
+    one.term.0 == other.term.0 && one.negated == other.negated
+}
+
+/// Whether one literal is the other's negation.
+fn is_opposite(one: Literal, other: Literal) -> bool
+    ensures { IsTrue result → (v : ℕ → ℕ) → v one.term.0 < 2 → literal_value one v + literal_value other v ≡ 1 }
+{
+    one.term.0 == other.term.0 && one.negated != other.negated
+}
+
+/// A bit as a literal.
+fn literal_of(nodes: &[Node], term: Term) -> Literal
+    requires typed { AreTyped (nodes_of nodes.now) }
+    requires place { HasWidth (nodes_of nodes.now) 1 term.0 }
+    ensures { IsLiteral (nodes_of nodes.now) term.0 result }
+{
+    match look(nodes, term) {
+        Node::Not { term: inner, .. } => Literal {
+            term: inner,
+            negated: true,
+        },
+        _ => Literal {
+            term,
+            negated: false,
+        },
+    }
+}
+
+/// A conjunction of two bits.
+fn cube_of(nodes: &[Node], left: Term, right: Term) -> Cube
+    requires typed { AreTyped (nodes_of nodes.now) }
+    requires left { HasWidth (nodes_of nodes.now) 1 left.0 }
+    requires right { HasWidth (nodes_of nodes.now) 1 right.0 }
+    ensures pair { IsPair (nodes_of nodes.now) result }
+    ensures left { result.left ≡ left }
+    ensures right { result.right ≡ right }
+{
+    Cube {
+        left,
+        right,
+        first: literal_of(nodes, left),
+        second: literal_of(nodes, right),
+    }
+}
+
+/// A bit as a conjunction: of the operands of an `and`, or of itself with itself.
+fn split(nodes: &[Node], term: Term) -> Cube
+    requires typed { AreTyped (nodes_of nodes.now) }
+    requires place { HasWidth (nodes_of nodes.now) 1 term.0 }
+    ensures { IsCube (nodes_of nodes.now) term.0 result }
+{
+    match look(nodes, term) {
+        Node::Binary {
+            op: Op::And,
+            left,
+            right,
+            ..
+        } => cube_of(nodes, left, right),
+        _ => cube_of(nodes, term, term),
+    }
+}
+
+/// Whether a conjunction has a literal.
+fn has(cube: Cube, literal: Literal) -> bool
+    ensures { IsTrue result → (v : ℕ → ℕ) → (literal_value literal v ≡ literal_value cube.first v) ⊎ (literal_value literal v ≡ literal_value cube.second v) }
+{
+    is_same(literal, cube.first) || is_same(literal, cube.second)
+}
+
+/// Whether a conjunction has the literals of another, which then follows from it.
+fn implies(cube: Cube, other: Cube) -> bool
+    ensures { IsTrue result → (v : ℕ → ℕ) → AreBits v cube → AreBits v other → cube_value cube v ≤ cube_value other v }
+{
+    has(cube, other.first) && has(cube, other.second)
+}
+
+/// Whether a literal of a conjunction is the negation of one of another, so that not both are 1.
+fn excludes(cube: Cube, other: Cube) -> bool
+    ensures { IsTrue result → (v : ℕ → ℕ) → AreBits v cube → AreBits v other → cube_value cube v + cube_value other v ≤ 1 }
+{
+    is_opposite(cube.first, other.first)
+        || is_opposite(cube.first, other.second)
+        || is_opposite(cube.second, other.first)
+        || is_opposite(cube.second, other.second)
+}
+
+/// Whether two conjunctions, of two literals each, have the same first literal, and else each other's negation.
+fn rejoins(first: Literal, second: Literal, other_first: Literal, other_second: Literal) -> bool
+    ensures { IsTrue result → (v : ℕ → ℕ) → v first.term.0 < 2 → v second.term.0 < 2 → bit_and (literal_value first v) (literal_value second v) + bit_and (literal_value other_first v) (literal_value other_second v) ≡ literal_value first v }
+{
+    is_same(first, other_first) && is_opposite(second, other_second)
+}
+
+/// Whether two conjunctions have the first literal of one, and else each other's negation: one of them is 1 exactly where that literal is.
+#[tactic(auto, using(std::proofs::lemmas::Nat::and_comm))]
+fn shares_first(cube: Cube, other: Cube) -> bool
+    ensures { IsTrue result → (v : ℕ → ℕ) → AreBits v cube → AreBits v other → cube_value cube v + cube_value other v ≡ literal_value cube.first v }
+{
+    if rejoins(cube.first, cube.second, other.first, other.second) {
+        return true;
+    }
+    rejoins(cube.first, cube.second, other.second, other.first)
+}
+
+/// Whether two conjunctions have the second literal of one, and else each other's negation.
+#[tactic(auto, using(std::proofs::lemmas::Nat::and_comm))]
+fn shares_second(cube: Cube, other: Cube) -> bool
+    ensures { IsTrue result → (v : ℕ → ℕ) → AreBits v cube → AreBits v other → cube_value cube v + cube_value other v ≡ literal_value cube.second v }
+{
+    if rejoins(cube.second, cube.first, other.second, other.first) {
+        return true;
+    }
+    rejoins(cube.second, cube.first, other.first, other.second)
+}
+
+/// Whether two conjunctions are each of one literal, and each other's negation: exactly one of them is 1.
+fn covers(cube: Cube, other: Cube) -> bool
+    ensures { IsTrue result → (v : ℕ → ℕ) → AreBits v cube → AreBits v other → cube_value cube v + cube_value other v ≡ 1 }
+{
+    is_opposite(cube.first, other.first)
+        && is_opposite(cube.second, other.second)
+        && is_opposite(cube.first, other.second)
+}
+
+/// An `and` of two bits.
+pub fn conjunction(nodes: &[Node], left: Term, right: Term) -> Option<Folded>
+    requires typed { AreTyped (nodes_of nodes.now) }
+    requires left { HasWidth (nodes_of nodes.now) 1 left.0 }
+    requires right { HasWidth (nodes_of nodes.now) 1 right.0 }
+    ensures { IfSome result (λ f. IsWordFold (nodes_of nodes.now) 1 (λ x. bit_and (term_word x (nodes_of nodes.now) left.0) (term_word x (nodes_of nodes.now) right.0)) 0 f) }
+{
+    let a = split(nodes, left);
+    let b = split(nodes, right);
+    if excludes(a, b) {
+        return Some(truth(false));
+    }
+    if implies(a, b) {
+        return Some(Folded::Old(left));
+    }
+    if implies(b, a) {
+        return Some(Folded::Old(right));
+    }
+    None
+}
+
+/// An `or` of two bits.
+pub fn disjunction(nodes: &[Node], left: Term, right: Term) -> Option<Folded>
+    requires typed { AreTyped (nodes_of nodes.now) }
+    requires left { HasWidth (nodes_of nodes.now) 1 left.0 }
+    requires right { HasWidth (nodes_of nodes.now) 1 right.0 }
+    ensures { IfSome result (λ f. IsWordFold (nodes_of nodes.now) 1 (λ x. bit_or (term_word x (nodes_of nodes.now) left.0) (term_word x (nodes_of nodes.now) right.0)) 0 f) }
+{
+    let a = split(nodes, left);
+    let b = split(nodes, right);
+    if implies(a, b) {
+        return Some(Folded::Old(right));
+    }
+    if implies(b, a) {
+        return Some(Folded::Old(left));
+    }
+    if covers(a, b) {
+        return Some(truth(true));
+    }
+    if shares_first(a, b) {
+        return Some(Folded::Old(a.left));
+    }
+    if shares_second(a, b) {
+        return Some(Folded::Old(a.right));
+    }
+    None
+}
+
+/// A bit that is 1 where the condition is, and 0 where the condition is not and `met` is. Of a conjunction of two bits that is the one of them that `met` has
+/// negated beside the other; else it is the condition itself.
+pub fn separator(nodes: &[Node], condition: Term, met: Term) -> Term
+    requires typed { AreTyped (nodes_of nodes.now) }
+    requires condition { HasWidth (nodes_of nodes.now) 1 condition.0 }
+    requires met { HasWidth (nodes_of nodes.now) 1 met.0 }
+    ensures { Separates (nodes_of nodes.now) condition.0 met.0 result.0 }
+{
+    let a = split(nodes, condition);
+    let b = split(nodes, met);
+    if shares_first(a, b) {
+        return a.right;
+    }
+    if shares_second(a, b) {
+        return a.left;
+    }
+    condition
+}

@@ -1,0 +1,168 @@
+//! What a node comes to, where something is known of its operands.
+
+ghost use Rattle.std.specs.Prelude.{◌≡◌, ℕ, ◌<◌, ◌≤◌, ◌^◌, ◌-◌, length, IfNone, IfSome};
+ghost use Rattle.bilv_spec.specs.BilTyping.{result_width};
+ghost use Rattle.walk_spec.specs.Terms.{ConstantNode, operate, width_of, node_at, AreTyped, IsTypedOver};
+ghost use Rattle.term_dag.specs.Nodes.{node_of, nodes_of, op_of};
+ghost use Rattle.term_dag.specs.Folds.{IsConstant, IsFold};
+
+use crate::{Node, Op, Term, memories, operators, selections, slices};
+use bv_word::Word;
+
+/// What a node comes to: a term that is there, a node, or an operator of a width between a term and a constant.
+#[derive(Clone, Copy)]
+pub enum Folded {
+    Old(Term),
+    New(Node),
+    Onto(Op, u8, Term, u64),
+}
+
+/// The node of a term.
+pub fn look(nodes: &[Node], term: Term) -> Node
+    requires { term.0 < length (nodes_of nodes.now) }
+    ensures { node_of result ≡ node_at (nodes_of nodes.now) term.0 }
+{
+    nodes[term.0 as usize]
+}
+
+/// A constant's bits.
+pub fn constant(nodes: &[Node], term: Term) -> Option<u64>
+    requires typed { AreTyped (nodes_of nodes.now) }
+    requires within { term.0 < length (nodes_of nodes.now) }
+    ensures some { IfSome result (λ c. IsConstant (nodes_of nodes.now) term.0 c) }
+    ensures none { IfNone result ((w v : ℕ) → node_at (nodes_of nodes.now) term.0 ≡ ConstantNode w v → ⊥) }
+{
+    match look(nodes, term) {
+        Node::Constant { value, .. } => Some(value),
+        _ => None,
+    }
+}
+
+/// All ones.
+pub fn ones(width: u8) -> u64
+    requires some { 1 ≤ width }
+    requires few { width ≤ 64 }
+    ensures { result ≡ 2 ^ width - 1 }
+{
+    Word::new(width, 0).not().bits
+}
+
+/// The width of an operator's result.
+pub fn result_width(op: Op, width: u8) -> u8
+    ensures { result ≡ result_width (op_of op) width }
+{
+    match op {
+        Op::Equal
+        | Op::NotEqual
+        | Op::Less
+        | Op::LessEqual
+        | Op::SignedLess
+        | Op::SignedLessEqual => 1,
+        _ => width,
+    }
+}
+
+/// An operator on two words of a width.
+pub fn apply(op: Op, width: u8, left: u64, right: u64) -> u64
+    requires some { 1 ≤ width }
+    requires few { width ≤ 64 }
+    requires left { left < 2 ^ width }
+    requires right { right < 2 ^ width }
+    ensures value { result ≡ operate (op_of op) width left right }
+    ensures below { result < 2 ^ result_width (op_of op) width }
+{
+    let a = Word::new(width, left);
+    let b = Word::new(width, right);
+    let word = match op {
+        Op::Plus => a.add(b),
+        Op::Minus => a.sub(b),
+        Op::Times => a.mul(b),
+        Op::Divide => a.udiv(b),
+        Op::SignedDivide => a.sdiv(b),
+        Op::Modulo => a.urem(b),
+        Op::SignedModulo => a.srem(b),
+        Op::And => a.and(b),
+        Op::Or => a.or(b),
+        Op::Xor => a.xor(b),
+        Op::ShiftLeft => a.shl(b),
+        Op::ShiftRight => a.shr(b),
+        Op::ShiftSigned => a.sar(b),
+        Op::Equal => a.eq(b),
+        Op::NotEqual => a.eq(b).not(),
+        Op::Less => a.ult(b),
+        Op::LessEqual => a.ule(b),
+        Op::SignedLess => a.slt(b),
+        Op::SignedLessEqual => a.sle(b),
+    };
+    word.bits
+}
+
+/// The width of a node's word, and 0 for a memory.
+pub fn width_of_node(nodes: &[Node], node: Node) -> u8
+    requires typed { AreTyped (nodes_of nodes.now) }
+    requires over { IsTypedOver (nodes_of nodes.now) (node_of node) }
+    ensures { result ≡ width_of (node_of node) }
+{
+    match node {
+        Node::Register(_) => 32,
+        Node::Flag(_) => 1,
+        Node::Choice(_) => 2,
+        Node::Base(_) => 8,
+        Node::Memory | Node::Store { .. } | Node::Join { .. } => 0,
+        Node::Constant { width, .. } | Node::Not { width, .. } | Node::Select { width, .. } =>
+            width,
+        Node::Binary { op, width, .. } => result_width(op, width),
+        Node::Extract { hi, lo, .. } => hi + 1 - lo,
+        Node::Concat { high, low, .. } => high + low,
+        Node::Extend { to, .. } => to,
+        Node::Load { bytes, .. } => 8 * bytes,
+    }
+}
+
+/// What a node comes to.
+pub fn fold(nodes: &[Node], node: Node) -> Folded
+    requires typed { AreTyped (nodes_of nodes.now) }
+    requires over { IsTypedOver (nodes_of nodes.now) (node_of node) }
+    ensures { IsFold (nodes_of nodes.now) (node_of node) result }
+{
+    match node {
+        Node::Binary {
+            op,
+            width,
+            left,
+            right,
+        } => operators::binary(nodes, op, width, left, right),
+        Node::Not { width, term } => operators::negation(nodes, width, term),
+        Node::Select {
+            width,
+            condition,
+            when_true,
+            when_false,
+        } => selections::select(nodes, width, condition, when_true, when_false),
+        Node::Extract { hi, lo, term } => slices::extract(nodes, hi, lo, term),
+        Node::Concat {
+            high,
+            low,
+            upper,
+            lower,
+        } => slices::concat(nodes, high, low, upper, lower),
+        Node::Extend {
+            signed,
+            from,
+            to,
+            term,
+        } => slices::extend(nodes, signed, from, to, term),
+        Node::Load {
+            bytes,
+            big,
+            memory,
+            address,
+        } => memories::load(nodes, bytes, big, memory, address),
+        Node::Join {
+            condition,
+            when_true,
+            when_false,
+        } => selections::join(nodes, condition, when_true, when_false),
+        _ => Folded::New(node),
+    }
+}

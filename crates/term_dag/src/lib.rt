@@ -1,0 +1,16 @@
+//! Terms over words and memory: nodes over earlier nodes, each kept once and folded as it comes.
+#![tactic(auto)]
+
+mod conditions;
+mod dag;
+mod folds;
+mod memories;
+mod nodes;
+mod operators;
+mod selections;
+mod slices;
+mod values;
+
+pub use dag::Dag;
+pub use nodes::{Node, Op, Term};
+pub use values::Reading;

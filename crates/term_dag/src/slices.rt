@@ -1,0 +1,210 @@
+//! Folds of what picks bits and puts them together.
+
+ghost use Rattle.std.specs.Prelude.{◌≡◌, ◌+◌, ◌-◌, ◌<◌, ◌≤◌, length, IfSome};
+ghost use Rattle.bilv_spec.specs.Words as words;
+ghost use Rattle.walk_spec.specs.Terms.{term_word, extend, node_at, width_of, HasWidth, IsWidth, AreTyped};
+ghost use Rattle.term_dag.specs.Nodes.{nodes_of};
+ghost use Rattle.term_dag.specs.Folds.{AreNeighbours, IsSlice, IsWordFold};
+
+use crate::folds::{Folded, constant, look, width_of_node};
+use crate::{Node, Term};
+use bv_word::Word;
+
+/// The bits of a term from `hi` down to `lo`.
+#[derive(Clone, Copy)]
+struct Slice {
+    hi: u8,
+    lo: u8,
+    term: Term,
+}
+
+/// The same bits of an operand, where the term has them from one.
+fn inner(nodes: &[Node], hi: u8, lo: u8, term: Term) -> Option<Slice>
+    requires typed { AreTyped (nodes_of nodes.now) }
+    requires within { term.0 < length (nodes_of nodes.now) }
+    requires order { lo ≤ hi }
+    requires fits { hi < width_of (node_at (nodes_of nodes.now) term.0) }
+    ensures before { IfSome result (λ s. s.term.0 < term.0) }
+    ensures slice { IfSome result (λ s. IsSlice (nodes_of nodes.now) hi lo term.0 s.hi s.lo s.term.0) }
+{
+    match look(nodes, term) {
+        Node::Extract { lo: from, term, .. } => Some(Slice {
+            hi: hi + from,
+            lo: lo + from,
+            term,
+        }),
+        Node::Concat {
+            low,
+            upper,
+            lower,
+            ..
+        } => {
+            if hi < low {
+                return Some(Slice {
+                    hi,
+                    lo,
+                    term: lower,
+                });
+            }
+            if lo >= low {
+                return Some(Slice {
+                    hi: hi - low,
+                    lo: lo - low,
+                    term: upper,
+                });
+            }
+            None
+        }
+        Node::Extend { from, term, .. } => {
+            if hi < from {
+                return Some(Slice { hi, lo, term });
+            }
+            None
+        }
+        _ => None,
+    }
+}
+
+/// Bits of a term that has them from no operand alone.
+fn outer(nodes: &[Node], hi: u8, lo: u8, term: Term) -> Folded
+    requires typed { AreTyped (nodes_of nodes.now) }
+    requires within { term.0 < length (nodes_of nodes.now) }
+    requires order { lo ≤ hi }
+    requires fits { hi < width_of (node_at (nodes_of nodes.now) term.0) }
+    ensures { IsWordFold (nodes_of nodes.now) (hi + 1 - lo) (λ x. words.bits hi lo (term_word x (nodes_of nodes.now) term.0)) 0 result }
+{
+    let node = look(nodes, term);
+    let width = width_of_node(nodes, node);
+    if lo == 0 && hi + 1 == width {
+        return Folded::Old(term);
+    }
+    match node {
+        Node::Constant { width: full, value } => Folded::New(Node::Constant {
+            width: hi + 1 - lo,
+            value: Word::new(full, value).extract(hi, lo).bits,
+        }),
+        Node::Extend { signed, from, .. } => {
+            if signed {
+                return Folded::New(Node::Extract { hi, lo, term });
+            }
+            if lo < from {
+                return Folded::New(Node::Extract { hi, lo, term });
+            }
+            Folded::New(Node::Constant {
+                width: hi + 1 - lo,
+                value: 0,
+            })
+        }
+        _ => Folded::New(Node::Extract { hi, lo, term }),
+    }
+}
+
+/// The bits of a word from `hi` down to `lo`.
+pub fn extract(nodes: &[Node], hi: u8, lo: u8, term: Term) -> Folded
+    requires typed { AreTyped (nodes_of nodes.now) }
+    requires within { term.0 < length (nodes_of nodes.now) }
+    requires order { lo ≤ hi }
+    requires fits { hi < width_of (node_at (nodes_of nodes.now) term.0) }
+    ensures { IsWordFold (nodes_of nodes.now) (hi + 1 - lo) (λ x. words.bits hi lo (term_word x (nodes_of nodes.now) term.0)) 0 result }
+{
+    let mut slice = Slice { hi, lo, term };
+    while let Some(next) = inner(nodes, slice.hi, slice.lo, slice.term) {
+        slice = next;
+    }
+    outer(nodes, slice.hi, slice.lo, slice.term)
+}
+
+/// The bits of one term, if two terms are neighbouring bits of it.
+fn neighbours(nodes: &[Node], upper: Term, lower: Term) -> Option<Slice>
+    requires typed { AreTyped (nodes_of nodes.now) }
+    requires upper { upper.0 < length (nodes_of nodes.now) }
+    requires lower { lower.0 < length (nodes_of nodes.now) }
+    ensures { IfSome result (λ s. AreNeighbours (nodes_of nodes.now) upper.0 lower.0 s.hi s.lo s.term.0) }
+{
+    let Node::Extract {
+        hi,
+        lo: middle,
+        term,
+    } = look(nodes, upper)
+    else {
+        return None;
+    };
+    let Node::Extract {
+        hi: below,
+        lo,
+        term: other,
+    } = look(nodes, lower)
+    else {
+        return None;
+    };
+    if term.0 == other.0 && middle == below + 1 {
+        return Some(Slice { hi, lo, term });
+    }
+    None
+}
+
+/// A word above another.
+pub fn concat(nodes: &[Node], high: u8, low: u8, upper: Term, lower: Term) -> Folded
+    requires typed { AreTyped (nodes_of nodes.now) }
+    requires some_high { IsWidth high }
+    requires some_low { IsWidth low }
+    requires few { high + low ≤ 64 }
+    requires upper { HasWidth (nodes_of nodes.now) high upper.0 }
+    requires lower { HasWidth (nodes_of nodes.now) low lower.0 }
+    ensures { IsWordFold (nodes_of nodes.now) (high + low) (λ x. words.concat low (term_word x (nodes_of nodes.now) upper.0) (term_word x (nodes_of nodes.now) lower.0)) 0 result }
+{
+    if let Some(slice) = neighbours(nodes, upper, lower) {
+        return extract(nodes, slice.hi, slice.lo, slice.term);
+    }
+    let kept = Folded::New(Node::Concat {
+        high,
+        low,
+        upper,
+        lower,
+    });
+    let Some(above) = constant(nodes, upper) else {
+        return kept;
+    };
+    if above == 0 {
+        return extend(nodes, false, low, high + low, lower);
+    }
+    let Some(below) = constant(nodes, lower) else {
+        return kept;
+    };
+    Folded::New(Node::Constant {
+        width: high + low,
+        value: Word::new(high, above).concat(Word::new(low, below)).bits,
+    })
+}
+
+/// A word in more bits.
+pub fn extend(nodes: &[Node], signed: bool, from: u8, to: u8, term: Term) -> Folded
+    requires typed { AreTyped (nodes_of nodes.now) }
+    requires some { IsWidth from }
+    requires more { from ≤ to }
+    requires few { to ≤ 64 }
+    requires place { HasWidth (nodes_of nodes.now) from term.0 }
+    ensures { IsWordFold (nodes_of nodes.now) to (λ x. extend signed from to (term_word x (nodes_of nodes.now) term.0)) 0 result }
+{
+    if from == to {
+        return Folded::Old(term);
+    }
+    let Some(bits) = constant(nodes, term) else {
+        return Folded::New(Node::Extend {
+            signed,
+            from,
+            to,
+            term,
+        });
+    };
+    let word = Word::new(from, bits);
+    let wide = if signed {
+        word.signed(to)
+    } else {
+        word.unsigned(to)
+    };
+    Folded::New(Node::Constant {
+        width: to,
+        value: wide.bits,
+    })
+}

@@ -1,0 +1,296 @@
+//! Values of terms.
+
+ghost use Rattle.std.specs.Prelude.{◌≡◌, ◌%◌, ◌*◌, ◌+◌, ◌^◌, ◌<◌, ◌≤◌, List, length, slice_index, IfOk};
+ghost use Rattle.bilv_spec.specs.Words.{add};
+ghost use Rattle.bilv_spec.specs.Memory as memory;
+ghost use Rattle.bilv_spec.specs.Memory.{endian};
+ghost use Rattle.walk_spec.specs.Terms.{TermNode, term_value, term_word, HasWidth, IsBytes, IsTypedOver, AreTyped};
+ghost use Rattle.term_dag.specs.Nodes.{node_of, nodes_of};
+ghost use Rattle.term_dag.specs.Folds.{value_over};
+ghost use Rattle.term_dag.specs.Readings.{AreWords, IsInput, reading_of};
+
+use crate::folds::{apply, look, width_of_node};
+use crate::{Node, Term};
+use bv_word::Word;
+use byte_mem::{Bytes32, Endian};
+use std::alloc::{AllocError, Global};
+
+/// What terms are read under. A register, a flag, a choice or a base byte that is not listed is 0; of a flag the lowest bit counts, of a choice the lowest two.
+#[derive(Drop)]
+pub struct Reading {
+    /// The registers at entry, by number.
+    pub registers: Vec<u32>,
+    /// The flags at entry, by number.
+    pub flags: Vec<u8>,
+    /// The memory at entry.
+    pub memory: Bytes32,
+    /// The choices, by the place of their point.
+    pub choices: Vec<u8>,
+    /// The bytes of base reads, by the number of the read.
+    pub base: Vec<u8>,
+}
+
+/// A register of a list, 0 behind it.
+fn register(registers: &[u32], number: u8) -> u64
+    ensures { result ≡ slice_index registers.now number }
+{
+    if (number as usize) < registers.len() {
+        registers[number as usize] as u64
+    } else {
+        0
+    }
+}
+
+/// A byte of a list, 0 behind it.
+fn small(bytes: &[u8], place: u32) -> u64
+    ensures { result ≡ slice_index bytes.now place }
+{
+    if (place as usize) < bytes.len() {
+        bytes[place as usize] as u64
+    } else {
+        0
+    }
+}
+
+/// The byte at a place of the bytes of a number.
+#[tactic(auto, using(crate::proofs::Joins::power))]
+fn stored_byte(number: u64, bytes: u8, big: bool, place: u8) -> u8
+    requires few { bytes ≤ 8 }
+    requires within { place < bytes }
+    ensures { result ≡ memory.byte_of (endian big) bytes number place }
+{
+    let from_lowest = if big { bytes - 1 - place } else { place };
+    ((number >> (8 * from_lowest)) % 256) as u8
+}
+
+/// The byte at an address of a memory; 0 of a word.
+pub fn byte(nodes: &[Node], words: &[u64], reading: &Reading, term: Term, address: u32) -> u8
+    requires typed { AreTyped (nodes_of nodes.now) }
+    requires words { AreWords (reading_of reading.now) (nodes_of nodes.now) words.now }
+    requires within { term.0 < length (nodes_of nodes.now) }
+    ensures { result ≡ (term_value (reading_of reading.now) (nodes_of nodes.now) term.0).bytes address }
+{
+    let mut at = term;
+    loop {
+        match look(nodes, at) {
+            Node::Memory => return reading.memory.load(address, 1, Endian::Little).bits as u8,
+            Node::Store {
+                bytes,
+                big,
+                memory,
+                address: first,
+                value,
+            } => {
+                let place = address.wrapping_sub(words[first.0 as usize] as u32);
+                if place < bytes as u32 {
+                    return stored_byte(words[value.0 as usize], bytes, big, place as u8);
+                }
+                at = memory;
+            }
+            Node::Join {
+                condition,
+                when_true,
+                when_false,
+            } => {
+                if words[condition.0 as usize] > 0 {
+                    at = when_true;
+                } else {
+                    at = when_false;
+                }
+            }
+            _ => return 0,
+        }
+    }
+}
+
+/// The number of the bytes of a memory from an address on, the lowest first.
+#[tactic(auto, using(byte_mem::proofs::Numbers::next_power, byte_mem::proofs::Numbers::low_power))]
+fn lowest_first(
+    nodes: &[Node],
+    words: &[u64],
+    reading: &Reading,
+    term: Term,
+    first: u32,
+    count: u8,
+) -> u64
+    requires typed { AreTyped (nodes_of nodes.now) }
+    requires words { AreWords (reading_of reading.now) (nodes_of nodes.now) words.now }
+    requires within { term.0 < length (nodes_of nodes.now) }
+    requires few { count ≤ 8 }
+    ensures number { result ≡ memory.little count (λ i. (term_value (reading_of reading.now) (nodes_of nodes.now) term.0).bytes (add 32 first i)) }
+    ensures below { result < 256 ^ count }
+{
+    let mut number = 0u64;
+    for i in (0..count).rev() {
+        number = number * 256
+            + byte(nodes, words, reading, term, first.wrapping_add(i as u32)) as u64;
+    }
+    number
+}
+
+/// The number of the bytes of a memory from an address on, the highest first.
+#[tactic(auto, using(byte_mem::proofs::Numbers::next_power, byte_mem::proofs::Numbers::low_power))]
+fn highest_first(
+    nodes: &[Node],
+    words: &[u64],
+    reading: &Reading,
+    term: Term,
+    first: u32,
+    count: u8,
+) -> u64
+    requires typed { AreTyped (nodes_of nodes.now) }
+    requires words { AreWords (reading_of reading.now) (nodes_of nodes.now) words.now }
+    requires within { term.0 < length (nodes_of nodes.now) }
+    requires few { count ≤ 8 }
+    ensures number { result ≡ memory.big count (λ i. (term_value (reading_of reading.now) (nodes_of nodes.now) term.0).bytes (add 32 first i)) }
+    ensures below { result < 256 ^ count }
+{
+    let mut number = 0u64;
+    for i in 0..count {
+        number = number * 256
+            + byte(nodes, words, reading, term, first.wrapping_add(i as u32)) as u64;
+    }
+    number
+}
+
+/// The word of a term.
+fn operand(nodes: &[Node], words: &[u64], reading: &Reading, width: u8, term: Term) -> u64
+    requires typed { AreTyped (nodes_of nodes.now) }
+    requires words { AreWords (reading_of reading.now) (nodes_of nodes.now) words.now }
+    requires place { HasWidth (nodes_of nodes.now) width term.0 }
+    ensures value { result ≡ term_word (reading_of reading.now) (nodes_of nodes.now) term.0 }
+    ensures below { result < 2 ^ width }
+{
+    words[term.0 as usize]
+}
+
+/// The word of an input.
+fn input(reading: &Reading, node: Node) -> u64
+    requires { IsInput (node_of node) }
+    ensures { (nodes : List TermNode) → result ≡ (value_over nodes (node_of node) (reading_of reading.now)).word }
+{
+    match node {
+        Node::Register(number) => register(&reading.registers, number) % 4294967296,
+        Node::Flag(number) => small(&reading.flags, number as u32) % 2,
+        Node::Choice(place) => small(&reading.choices, place) % 4,
+        Node::Base(read) => small(&reading.base, read) % 256,
+        _ => unreachable!(),
+    }
+}
+
+/// The bytes that a node loads, as a number.
+fn loaded(
+    nodes: &[Node],
+    words: &[u64],
+    reading: &Reading,
+    bytes: u8,
+    big: bool,
+    from: Term,
+    address: Term,
+) -> u64
+    requires typed { AreTyped (nodes_of nodes.now) }
+    requires words { AreWords (reading_of reading.now) (nodes_of nodes.now) words.now }
+    requires some { IsBytes bytes }
+    requires from { HasWidth (nodes_of nodes.now) 0 from.0 }
+    requires address { HasWidth (nodes_of nodes.now) 32 address.0 }
+    ensures { result ≡ memory.load (endian big) bytes (term_value (reading_of reading.now) (nodes_of nodes.now) from.0).bytes (term_word (reading_of reading.now) (nodes_of nodes.now) address.0) }
+{
+    let first = operand(nodes, words, reading, 32, address) as u32;
+    if big {
+        highest_first(nodes, words, reading, from, first, bytes)
+    } else {
+        lowest_first(nodes, words, reading, from, first, bytes)
+    }
+}
+
+/// The word of a node over terms whose words are given; 0 of a memory.
+fn word_of(nodes: &[Node], words: &[u64], reading: &Reading, node: Node) -> u64
+    requires typed { AreTyped (nodes_of nodes.now) }
+    requires words { AreWords (reading_of reading.now) (nodes_of nodes.now) words.now }
+    requires over { IsTypedOver (nodes_of nodes.now) (node_of node) }
+    ensures { result ≡ (value_over (nodes_of nodes.now) (node_of node) (reading_of reading.now)).word }
+{
+    match node {
+        Node::Register(_) => input(reading, node),
+        Node::Flag(_) => input(reading, node),
+        Node::Choice(_) => input(reading, node),
+        Node::Base(_) => input(reading, node),
+        Node::Memory => 0,
+        Node::Store { .. } => 0,
+        Node::Join { .. } => 0,
+        Node::Constant { value, .. } => value,
+        Node::Binary {
+            op,
+            width,
+            left,
+            right,
+        } => {
+            let left = operand(nodes, words, reading, width, left);
+            let right = operand(nodes, words, reading, width, right);
+            apply(op, width, left, right)
+        }
+        Node::Not { width, term } => {
+            let word = operand(nodes, words, reading, width, term);
+            Word::new(width, word).not().bits
+        }
+        Node::Select {
+            width,
+            condition,
+            when_true,
+            when_false,
+        } => {
+            if operand(nodes, words, reading, 1, condition) > 0 {
+                operand(nodes, words, reading, width, when_true)
+            } else {
+                operand(nodes, words, reading, width, when_false)
+            }
+        }
+        Node::Extract { hi, lo, term } => {
+            let width = width_of_node(nodes, look(nodes, term));
+            let word = operand(nodes, words, reading, width, term);
+            Word::new(width, word).extract(hi, lo).bits
+        }
+        Node::Concat {
+            high,
+            low,
+            upper,
+            lower,
+        } => {
+            let upper = operand(nodes, words, reading, high, upper);
+            let lower = operand(nodes, words, reading, low, lower);
+            Word::new(high, upper).concat(Word::new(low, lower)).bits
+        }
+        Node::Extend {
+            signed,
+            from,
+            to,
+            term,
+        } => {
+            let word = operand(nodes, words, reading, from, term);
+            if signed {
+                Word::new(from, word).signed(to).bits
+            } else {
+                word
+            }
+        }
+        Node::Load {
+            bytes,
+            big,
+            memory,
+            address,
+        } => loaded(nodes, words, reading, bytes, big, memory, address),
+    }
+}
+
+/// The words of nodes, each over those before it. The error is want of memory.
+pub fn words_of(alloc: Global, nodes: &[Node], reading: &Reading) -> Result<Vec<u64>, AllocError>
+    requires { AreTyped (nodes_of nodes.now) }
+    ensures { IfOk result (λ ws. AreWords (reading_of reading.now) (nodes_of nodes.now) ws.items) }
+{
+    let mut words = Vec::with_capacity(alloc, nodes.len())?;
+    for i in 0..nodes.len() {
+        let word = word_of(&nodes[..i], &words, reading, nodes[i]);
+        words.push(word)?;
+    }
+    Ok(words)
+}
