@@ -6,7 +6,7 @@ ghost use Rattle.term_dag.specs.Nodes.{node_of, nodes_of};
 ghost use Rattle.term_dag.specs.Readings.{AreWords, reading_of};
 ghost use Rattle.term_dag.specs.Made.{AreDistinct, IsInterned, IsMade, Separates};
 
-use crate::folds::{Folded, constant, fold, look, width_of_node};
+use crate::folds::{Folded, fold, look, width_of_node};
 use crate::values::{byte, words_of};
 use crate::{Node, Reading, Term, conditions};
 use indexmap::IndexSet;
@@ -63,7 +63,11 @@ impl Dag {
         ensures some { IfSome result (λ c. (x : TermReading) → term_word x self.now term.0 ≡ c) }
         ensures none { IfNone result ((w v : ℕ) → node_at self.now term.0 ≡ ConstantNode w v → ⊥) }
     {
-        constant(self.nodes.as_slice(), term)
+        let _ = &self.nodes;
+        match self.node(term) {
+            Node::Constant { value, .. } => Some(value),
+            _ => None,
+        }
     }
 
     /// The width of a term in bits, 0 of a memory.

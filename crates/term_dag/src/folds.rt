@@ -1,8 +1,8 @@
 //! What a node comes to, where something is known of its operands.
 
-ghost use Rattle.std.specs.Prelude.{◌≡◌, ℕ, ◌<◌, ◌≤◌, ◌^◌, ◌-◌, length, IfNone, IfSome};
+ghost use Rattle.std.specs.Prelude.{◌≡◌, ◌<◌, ◌≤◌, ◌^◌, ◌-◌, length, IfSome};
 ghost use Rattle.bilv_spec.specs.BilTyping.{result_width};
-ghost use Rattle.walk_spec.specs.Terms.{ConstantNode, operate, width_of, node_at, AreTyped, IsTypedOver};
+ghost use Rattle.walk_spec.specs.Terms.{operate, width_of, node_at, AreTyped, IsTypedOver};
 ghost use Rattle.term_dag.specs.Nodes.{node_of, nodes_of, op_of};
 ghost use Rattle.term_dag.specs.Folds.{IsConstant, IsFold};
 
@@ -29,8 +29,7 @@ pub fn look(nodes: &[Node], term: Term) -> Node
 pub fn constant(nodes: &[Node], term: Term) -> Option<u64>
     requires typed { AreTyped (nodes_of nodes.now) }
     requires within { term.0 < length (nodes_of nodes.now) }
-    ensures some { IfSome result (λ c. IsConstant (nodes_of nodes.now) term.0 c) }
-    ensures none { IfNone result ((w v : ℕ) → node_at (nodes_of nodes.now) term.0 ≡ ConstantNode w v → ⊥) }
+    ensures { IfSome result (λ c. IsConstant (nodes_of nodes.now) term.0 c) }
 {
     match look(nodes, term) {
         Node::Constant { value, .. } => Some(value),

@@ -1,5 +1,5 @@
 use Rattle.term_dag.proofs.WordFolds.{constant_term}
 use Rattle.term_dag.proofs.folds.constant.Goals as goal
 
-pub returns-in-Constant-clause-some : goal.returns-in-Constant-clause-some
-returns-in-Constant-clause-some c = constant_term _ _ _ _ c.requires.typed c.requires.within c.in-Constant.ensures
+pub returns-in-Constant : goal.returns-in-Constant
+returns-in-Constant c = constant_term _ _ _ _ c.requires.typed c.requires.within c.in-Constant.ensures
