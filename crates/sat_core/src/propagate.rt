@@ -22,6 +22,7 @@ fn assert_short(clauses: &[Clause], short: &[usize], trail: &mut Trail) -> Optio
     requires short { (j : ℕ) → j < length short.now → (c : Clause) × (slice_get clauses.now (slice_index_or short.now j 0) ≡ Some c) × IsShort c }
     ensures trail { IsTrail trail.new.table.items trail.new.steps.items (vec_capacity trail.new.steps) }
     ensures size { length trail.new.table.items ≡ length trail.old.table.items }
+    ensures room { vec_capacity trail.new.steps ≡ vec_capacity trail.old.steps }
     ensures grows { Includes (true_in trail.old.table.items) (true_in trail.new.table.items) }
     ensures run { IsRun clauses.now trail.old.steps.items trail.new.steps.items }
     ensures met { IfNone result (AreMet clauses.now short.now (true_in trail.new.table.items)) }
@@ -56,6 +57,7 @@ pub fn propagate(
         (length trail.new.table.items) }
     ensures trail { IsTrail trail.new.table.items trail.new.steps.items (vec_capacity trail.new.steps) }
     ensures size { length trail.new.table.items ≡ length trail.old.table.items }
+    ensures room { vec_capacity trail.new.steps ≡ vec_capacity trail.old.steps }
     ensures grows { Includes (true_in trail.old.table.items) (true_in trail.new.table.items) }
     ensures run { IsRun clauses.now trail.old.steps.items trail.new.steps.items }
     ensures kept { IfNone result (AreKept watches.new.watched.items [] (true_in trail.new.table.items) (true_in trail.new.table.items)) }

@@ -1,5 +1,5 @@
 //! Clauses that are propagated.
-ghost use Rattle.std.specs.Prelude.{◌≡◌, Bool, take, reverse, ◌-◌, ◌+◌, ◌≤◌, ◌^◌, ◌∷◌, ◌++◌, [], false, true, length, IfOk, OnOk, IfSome, IfNone};
+ghost use Rattle.std.specs.Prelude.{◌≡◌, Bool, take, reverse, ◌-◌, ◌+◌, ◌≤◌, ◌^◌, ◌∷◌, ◌++◌, [], false, true, length, vec_capacity, IfOk, OnOk, IfSome, IfNone};
 ghost use Rattle.bilv_spec.specs.Clauses.{Literal, same, has, IsOnVariables};
 ghost use Rattle.bilv_spec.specs.UnitPropagation.{Includes};
 ghost use Rattle.sat_core.specs.ClosedSets.{IsQuiet};
@@ -96,6 +96,7 @@ impl Propagator {
         ensures clauses { self.new.clauses ≡ self.old.clauses }
         ensures short { self.new.short ≡ self.old.short }
         ensures size { length self.new.trail.table.items ≡ length self.old.trail.table.items }
+        ensures room { vec_capacity self.new.trail.steps ≡ vec_capacity self.old.trail.steps }
         ensures grows { Includes (true_in self.old.trail.table.items) (true_in self.new.trail.table.items) }
         ensures run { IsRun self.old.clauses.items self.old.trail.steps.items self.new.trail.steps.items }
         ensures kept { IfNone result (AreKept self.new.watches.watched.items [] (true_in self.new.trail.table.items) (true_in self.new.trail.table.items)) }

@@ -1,5 +1,5 @@
 //! The state of a search.
-ghost use Rattle.std.specs.Prelude.{◌≡◌, ◌+◌, ◌≤◌, ◌^◌, [], length, IfOk, IfSome, IfNone};
+ghost use Rattle.std.specs.Prelude.{◌≡◌, ◌+◌, ◌≤◌, ◌^◌, [], length, vec_capacity, IfOk, IfSome, IfNone};
 ghost use Rattle.bilv_spec.specs.Clauses.{AreOnVariables};
 ghost use Rattle.sat_core.specs.ClosedSets.{IsQuiet};
 ghost use Rattle.sat_core.specs.Tables.{true_in};
@@ -81,6 +81,7 @@ impl Solver {
         ensures clauses { self.new.main.clauses ≡ self.old.main.clauses }
         ensures variables { self.new.variables ≡ self.old.variables }
         ensures conflicts { self.new.conflicts ≡ self.old.conflicts }
+        ensures room { vec_capacity self.new.main.trail.steps ≡ vec_capacity self.old.main.trail.steps }
         ensures grows { Includes (true_in self.old.main.trail.table.items) (true_in self.new.main.trail.table.items) }
         ensures run { IsRun self.old.main.clauses.items self.old.main.trail.steps.items self.new.main.trail.steps.items }
         ensures more { length self.old.main.trail.steps.items ≤ length self.new.main.trail.steps.items }

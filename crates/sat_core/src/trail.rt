@@ -53,6 +53,7 @@ impl Trail {
         ensures trail { IsTrail self.new.table.items self.new.steps.items (vec_capacity self.new.steps) }
         ensures steps { self.new.steps.items ≡ self.old.steps.items ++ record { clause = clause; lit = lit } ∷ [] }
         ensures size { length self.new.table.items ≡ length self.old.table.items }
+        ensures room { vec_capacity self.new.steps ≡ vec_capacity self.old.steps }
         ensures values { (m : Literal) → true_in self.new.table.items m ≡ added lit (true_in self.old.table.items) m }
     {
         assign(self.table.as_mut_slice(), lit);

@@ -52,6 +52,7 @@ fn examine(clauses: &[Clause], watches: &Watches, trail: &mut Trail, watch: usiz
     requires within { lit.variable < length trail.old.table.items }
     ensures trail { IsTrail trail.new.table.items trail.new.steps.items (vec_capacity trail.new.steps) }
     ensures size { length trail.new.table.items ≡ length trail.old.table.items }
+    ensures room { vec_capacity trail.new.steps ≡ vec_capacity trail.old.steps }
     ensures grows { Includes (true_in trail.old.table.items) (true_in trail.new.table.items) }
     ensures run { IsRun clauses.now trail.old.steps.items trail.new.steps.items }
     ensures moved { IsMoved clauses.now (slice_index watches.now.owners.items (watch / 2)) watches.now.watched.items (watched_at watches.now.watched.items (mate watch))
@@ -110,6 +111,7 @@ pub fn visit(
     requires placed { IsPlaced clauses.now watches.old.owners.items watches.old.watched.items }
     ensures trail { IsTrail trail.new.table.items trail.new.steps.items (vec_capacity trail.new.steps) }
     ensures size { length trail.new.table.items ≡ length trail.old.table.items }
+    ensures room { vec_capacity trail.new.steps ≡ vec_capacity trail.old.steps }
     ensures grows { Includes (true_in trail.old.table.items) (true_in trail.new.table.items) }
     ensures run { IsRun clauses.now trail.old.steps.items trail.new.steps.items }
     ensures heads { length watches.new.heads.items ≡ length watches.old.heads.items }

@@ -71,6 +71,7 @@ loop-k-preserved c =
           rw w.trail-is record {
             trail = p.trail;
             size = p.size ∙ inv.size;
+            room = p.room ∙ inv.room;
             grows = λ l t. p.values l ∙ or_right (same w.in-Unit.lit l) (h l) (inv.grows l t);
             run = run-step cs c.args.trail.now.steps.items c.loop-k.trail.steps.items _ step h inv.run inv.trail.told_by (s.0, s.1, e) p.steps;
             met = below_more _ _ (λ j lt. met-more cs h _ _ (λ l t. p.values l ∙ or_right (same w.in-Unit.lit l) (h l) t) (inv.met j lt))
@@ -82,6 +83,7 @@ loop-k-preserved c =
           rw w.trail-is record {
             trail = inv.trail;
             size = inv.size;
+            room = inv.room;
             grows = inv.grows;
             run = inv.run;
             met = below_more _ _ inv.met (met-at cs h k s.0 m.0 s.1 m.1 m.2);

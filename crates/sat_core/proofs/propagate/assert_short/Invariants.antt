@@ -9,6 +9,7 @@ abbrev pub invariant-loop-k : goal.invariant-loop-k
 invariant-loop-k l = record {
   trail : IsTrail l.trail.table.items l.trail.steps.items (vec_capacity l.trail.steps);
   size : length l.trail.table.items ≡ length l.fn.trail.table.items;
+  room : vec_capacity l.trail.steps ≡ vec_capacity l.fn.trail.steps;
   grows : Includes (true_in l.fn.trail.table.items) (true_in l.trail.table.items);
   run : IsRun l.clauses l.fn.trail.steps.items l.trail.steps.items;
   met : (j : ℕ) → j < l.k-index → IsMetAt l.clauses (true_in l.trail.table.items) (get_or l.short j 0);

@@ -22,6 +22,7 @@ loop-done-init c =
       ready = rw e.size c.requires.ready;
       trail = e.trail;
       size = e.size;
+      room = e.room;
       grows = e.grows;
       run = r;
       few = (let n = ap length r.1 in omega (arith, length-append c.args.trail.now.steps.items r.0));
@@ -96,6 +97,7 @@ loop-done-preserved c =
       };
       trail = e.trail;
       size = e.size ∙ inv.size;
+      room = e.room ∙ inv.room;
       grows = λ l p. e.grows l (inv.grows l p);
       run = run-run c.args.clauses.now c.args.trail.now.steps.items steps c.visit.new.trail.steps.items inv.run e.run;
       few = (let n = ap length e.run.1 in omega (arith, length-append steps e.run.0));

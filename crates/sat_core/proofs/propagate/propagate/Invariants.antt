@@ -14,6 +14,7 @@ invariant-loop-done l = record {
   ready : AreReady l.clauses l.watches.heads.items l.watches.links.items l.watches.owners.items l.short l.watches.watched.items (length l.trail.table.items);
   trail : IsTrail l.trail.table.items l.trail.steps.items (vec_capacity l.trail.steps);
   size : length l.trail.table.items ≡ length l.fn.trail.table.items;
+  room : vec_capacity l.trail.steps ≡ vec_capacity l.fn.trail.steps;
   grows : Includes (true_in l.fn.trail.table.items) (true_in l.trail.table.items);
   run : IsRun l.clauses l.fn.trail.steps.items l.trail.steps.items;
   few : l.done ≤ length l.trail.steps.items;

@@ -21,6 +21,7 @@ loop-watch-init c =
     record {
       trail = c.requires.trail;
       size = refl;
+      room = refl;
       grows = λ l h. h;
       run = run-nothing c.args.clauses.now c.args.trail.now.steps.items;
       heads = ap length e.heads ∙ length-set w.heads.items p _;
@@ -118,6 +119,7 @@ loop-watch-preserved c =
     record {
       trail = c.examine.ensures.trail;
       size = c.examine.ensures.size ∙ inv.size;
+      room = c.examine.ensures.room ∙ inv.room;
       grows = λ l p. grows l (inv.grows l p);
       run = run-run cs c.args.trail.now.steps.items c.loop-watch.trail.steps.items c.examine.new.trail.steps.items inv.run c.examine.ensures.run;
       heads = ap length c.link.ensures.heads ∙ length-set w.heads.items (place c.in-To.target) c.loop-watch.watch ∙ inv.heads;

@@ -12,6 +12,7 @@ abbrev pub invariant-loop-watch : goal.invariant-loop-watch
 invariant-loop-watch l = record {
   trail : IsTrail l.trail.table.items l.trail.steps.items (vec_capacity l.trail.steps);
   size : length l.trail.table.items ≡ length l.fn.trail.table.items;
+  room : vec_capacity l.trail.steps ≡ vec_capacity l.fn.trail.steps;
   grows : Includes (true_in l.fn.trail.table.items) (true_in l.trail.table.items);
   run : IsRun l.clauses l.fn.trail.steps.items l.trail.steps.items;
   heads : length l.watches.heads.items ≡ length l.fn.watches.heads.items;
