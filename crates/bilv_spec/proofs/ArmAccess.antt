@@ -39,6 +39,7 @@ fine_done w effect stored successors reads drawing fine skips one_way flags unre
   unassigned = λ s c f lt no_use. flag_of (effect s c) s f (flags s c);
   unread = λ s c f v lt no_use. unread s c f v no_use;
   sure = λ s c f v lt no_use surely. cc;
+  sure_flags = λ f surely. cc;
   draws = draws;
   plain = λ f assigned b s. cc;
   stored_unread = same;

@@ -8,7 +8,7 @@ use Rattle.bilv_spec.proofs.WordBounds.{bit_below, and_below, complement_below, 
 use Rattle.bilv_spec.proofs.ArmConditional.{Way, conditional, neither}
 use Rattle.bilv_spec.proofs.ArmRanges.{below_if, mod_word, put_below, reg_small, ror_small}
 use Rattle.bilv_spec.proofs.ArmAccess.{shift_same, skips_pc}
-use Rattle.bilv_spec.proofs.ArmFlags.{bit_at_small, flags_if, flags_if_small, flags_agree, kept_flag}
+use Rattle.bilv_spec.proofs.ArmFlags.{bit_at_small, set_low, flags_if, flags_if_small, flags_agree, kept_flag}
 use Rattle.bilv_spec.specs.Words.{add, bit, bit_at, bits, complement}
 use Rattle.bilv_spec.specs.State.{State, IsState, put, with_pc}
 use Rattle.bilv_spec.specs.Machine.{How, On, Indirect, addresses}
@@ -421,6 +421,7 @@ computing_lawful w =
           any_computed (is_test w) w s (result_in w s) (λ how new. new.flags f ≡ s.flags f) e e e;
       unread = λ s c f v lt h. unread_computed w s f v h;
       sure = λ s c f v lt h surely. sure_computed w s f v lt h surely;
+      sure_flags = λ f surely. set_low (sets_flags w) (sets_flags w && not (is_logical w && (keeps_carry w || by_a_register w))) (sets_flags w && not (is_logical w)) f surely;
       draws = λ h s c d. refl;
       plain = λ f h b s. refl;
       stored_unread = λ b s f v h. refl;

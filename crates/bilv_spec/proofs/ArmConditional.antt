@@ -92,6 +92,7 @@ pub record IsDone (w : ℕ) (effect : State → ℕ → Outcome) (stored : Bool 
   pub unassigned : (s : State) (c f : ℕ) → f < 4 → assigns f ≡ false → IfGoes (effect s c) (λ how new. new.flags f ≡ s.flags f)
   pub unread : (s : State) (c f v : ℕ) → f < 4 → reads f ≡ false → OutcomesAgreeBut f (effect s c) (effect (with_flag s f v) c)
   pub sure : (s : State) (c f v : ℕ) → f < 4 → reads f ≡ false → surely f ≡ true → HaveSameFlag f (effect s c) (effect (with_flag s f v) c)
+  pub sure_flags : (f : ℕ) → surely f ≡ true → f < 4
   pub draws : drawing ≡ false → (s : State) (c d : ℕ) → effect s c ≡ effect s d
   pub plain : (f : ℕ) → assigns f ≡ true → (b : Bool) (s : State) → stored b s ≡ None
   pub stored_unread : (b : Bool) (s : State) (f v : ℕ) → reads f ≡ false → stored b s ≡ stored b (with_flag s f v)
@@ -149,6 +150,7 @@ conditional w effect stored successors literal cost reads assigns surely draws p
       let a = both (is_always w) (surely f) sure in
       same_when (holds w s) (holds w (with_flag s f v)) s f v (effect s c) (effect (with_flag s f v) c) (always_holds w s a.0) (always_holds w (with_flag s f v) a.0)
       (h.sure s c f v lt n.1 a.1);
+  sure_flags = λ f sure. h.sure_flags f (both (is_always w) (surely f) sure).1;
   draws = λ none s c d. ap (λ z. when (holds w s) s z) (h.draws none s c d);
   plain = λ f lt assigned s. h.plain f assigned (holds w s) s;
   stored_unread = λ s f v lt no_use.

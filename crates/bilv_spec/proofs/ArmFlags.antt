@@ -1,6 +1,6 @@
 -- The rows of ARM that set flags are lawful: multiplies.
-use Rattle.std.proofs.Common.{◌≡◌, ℕ, zero, suc, ◌/◌, ◌%◌, ◌^◌, ◌<◌, refl, ◌∙◌, true, false, Bool, arith, None}
-use Rattle.std.specs.Prelude.{◌==◌, if◌then◌else◌}
+use Rattle.std.proofs.Common.{◌≡◌, ℕ, zero, suc, ◌/◌, ◌%◌, ◌^◌, ◌<◌, refl, sym, ◌∙◌, true, false, Bool, arith, None}
+use Rattle.std.specs.Prelude.{◌==◌, ◌&&◌, ◌||◌, if◌then◌else◌}
 use Rattle.std.proofs.lemmas.Bool.{ne_eqb, eqb-true}
 use Rattle.bilv_spec.proofs.WordBounds.{bit_below}
 use Rattle.bilv_spec.proofs.ArmConditional.{conditional}
@@ -13,6 +13,30 @@ use Rattle.bilv_spec.specs.MachineLaws.{IsLawful}
 
 pub bit_at_small : (i v : ℕ) → bit_at i v < 2
 bit_at_small i v = omega arith
+
+-- a set of flags has none but the four lowest
+-- as one test after another, a set of flags has none but the four lowest
+set_by : (nz c v n z b d : Bool) → n ≡ false → z ≡ false → b ≡ false → d ≡ false → (nz && (n || (z || false))) || (c && b) || (v && d) ≡ false
+set_by true true true n z b d p q r t = rw p (rw q (rw r (rw t refl)))
+set_by true true false n z b d p q r t = rw p (rw q (rw r refl))
+set_by true false true n z b d p q r t = rw p (rw q (rw t refl))
+set_by true false false n z b d p q r t = rw p (rw q refl)
+set_by false true true n z b d p q r t = rw r (rw t refl)
+set_by false true false n z b d p q r t = rw r refl
+set_by false false true n z b d p q r t = t
+set_by false false false n z b d p q r t = refl
+
+high_unset : (nz c v : Bool) (f : ℕ) → flag_set nz c v (suc (suc (suc (suc f)))) ≡ false
+high_unset nz c v f =
+    let g = suc (suc (suc (suc f))) in
+    set_by nz c v (3 == g) (2 == g) (g == 1) (g == 0) (ne_eqb 3 g (λ e. omega arith)) (ne_eqb 2 g (λ e. omega arith)) (ne_eqb g 1 (λ e. omega arith)) (ne_eqb g 0 (λ e. omega arith))
+
+pub set_low : (nz c v : Bool) (f : ℕ) → flag_set nz c v f ≡ true → f < 4
+set_low nz c v zero h = omega arith
+set_low nz c v (suc zero) h = omega arith
+set_low nz c v (suc (suc zero)) h = omega arith
+set_low nz c v (suc (suc (suc zero))) h = omega arith
+set_low nz c v (suc (suc (suc (suc f)))) h = let e : false ≡ true = sym (high_unset nz c v f) ∙ h in cc
 
 -- the flags where a row sets them, or not
 abbrev pub flags_if : (sets : Bool) → (ℕ → ℕ) → (n z c v : ℕ) → ℕ → ℕ
@@ -88,6 +112,7 @@ multiply_lawful w =
         },
       );
       sure = λ s c f v lt h surely. mul_sure (sets_flags w) s.flags (put s.flags f v) _ _ (bit_at 0 c) (s.flags 0) (put s.flags f v 0) f lt surely;
+      sure_flags = λ f surely. set_low (sets_flags w) (sets_flags w) false f surely;
       draws = λ h s c d. rw h refl;
       plain = λ f h b s. refl;
       stored_unread = λ b s f v h. refl;
@@ -141,6 +166,7 @@ multiply_long_lawful w =
         },
       );
       sure = λ s c f v lt h surely. long_sure (sets_flags w) s.flags (put s.flags f v) _ _ (bit_at 0 c) (bit_at 1 c) f lt surely;
+      sure_flags = λ f surely. set_low (sets_flags w) (sets_flags w) (sets_flags w) f surely;
       draws = λ h s c d. rw h refl;
       plain = λ f h b s. refl;
       stored_unread = λ b s f v h. refl;

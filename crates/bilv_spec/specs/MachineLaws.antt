@@ -79,7 +79,7 @@ pub record IsPriced (cost : Cost) : Type 0 where
 -- stored, raised: where it goes on, it changes only the bytes that it says; where it raises an exception, it says none. successors, next, one_way: it goes on only
 -- to a static successor, comes to the address behind it where it does not jump, and has no direct and no indirect successor at once. states: what it leaves is a
 -- state. unassigned, unread, sure: a flag that it doesn't assign is unchanged; a flag that it doesn't read changes nothing but that flag itself, and not even that
--- where it surely assigns it. draws: it reads the choice only where it says so. plain: one that may assign a flag stores no byte. stored_unread: a flag that it
+-- where it surely assigns it. sure_flags: it surely assigns none but the four lowest. draws: it reads the choice only where it says so. plain: one that may assign a flag stores no byte. stored_unread: a flag that it
 -- doesn't read does not change which bytes it stores. priced: its cost is within the bounds.
 pub record IsLawful (row : Row) : Type 0 where
   pub stored : (s : State) (c : ℕ) → IsState s → KeepsOthers (addresses (row.stored s)) s (row.effect s c)
@@ -92,6 +92,7 @@ pub record IsLawful (row : Row) : Type 0 where
   pub unread : (s : State) (c f v : ℕ) → f < 4 → row.flags.reads f ≡ false → OutcomesAgreeBut f (row.effect s c) (row.effect (with_flag s f v) c)
   pub sure : (s : State) (c f v : ℕ) → f < 4 → row.flags.reads f ≡ false → row.flags.surely f ≡ true →
       HaveSameFlag f (row.effect s c) (row.effect (with_flag s f v) c)
+  pub sure_flags : (f : ℕ) → row.flags.surely f ≡ true → f < 4
   pub draws : row.draws ≡ false → (s : State) (c d : ℕ) → row.effect s c ≡ row.effect s d
   pub plain : (f : ℕ) → f < 4 → row.flags.assigns f ≡ true → (s : State) → row.stored s ≡ None
   pub stored_unread : (s : State) (f v : ℕ) → f < 4 → row.flags.reads f ≡ false → row.stored s ≡ row.stored (with_flag s f v)

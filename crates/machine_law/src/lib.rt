@@ -90,6 +90,10 @@ pub trait Machine {
     fn draws(insn: &Self::Insn) -> bool
         ensures { result ≡ (row insn.now).draws };
 
+    /// The number of the link register.
+    fn link() -> u8
+        ensures { result ≡ machine.link };
+
     /// The form of the machine's state texts.
     fn layout() -> Layout
         ensures { layout_of result ≡ form };

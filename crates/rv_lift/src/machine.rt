@@ -85,6 +85,10 @@ impl Machine for Rv32 {
         false
     }
 
+    fn link() -> u8 {
+        1
+    }
+
     fn layout() -> Layout {
         Layout::Rv32
     }

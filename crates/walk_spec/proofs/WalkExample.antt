@@ -91,6 +91,7 @@ lawful = record {
   unassigned = λ s c f l h. refl;
   unread = λ s c f v l h. (refl, record { pc = refl; regs = refl; flags = other_flag s f v; mem = refl });
   sure = λ s c f v l h k. absurd (cc);
+  sure_flags = λ f k. absurd (cc);
   states = λ s c is. record { pc = is.regs 1; regs = is.regs; flags = is.flags; mem = is.mem };
   draws = λ no s c d. refl;
   plain = λ f l h s. refl;
