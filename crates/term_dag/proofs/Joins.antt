@@ -10,6 +10,7 @@ use Rattle.bilv_spec.specs.Memory.{Memory, Endian, Little, Big, endian, little, 
 use Rattle.walk_spec.specs.Terms.{TermReading, InRange, TermNode, LoadNode, StoreNode, JoinNode, word_value, bytes_value, term_value, term_word, node_at, HasWidth, AreTyped}
 use Rattle.term_dag.specs.declared.folds.Folded.{Folded}
 use Rattle.term_dag.specs.declared.folds.Folded.TheVariants.{Old, New, Onto}
+use Rattle.term_dag.specs.Nodes.{IsInput}
 use Rattle.term_dag.specs.Folds.{IsTermFor, IsNodeFor, IsFold, IsSide, IsConstant, value_over}
 use Rattle.term_dag.proofs.ListLaws.{by_node, typed_here}
 use Rattle.term_dag.proofs.Ranges.{word_fits, word_only, memory_only}
@@ -44,6 +45,7 @@ module _ (ns : List TermNode) (c a b : ℕ) (h : AreTyped ns) (p : HasWidth ns 1
     loads = omega arith;
     stores = omega arith;
     joins = omega arith;
+    named = λ z. absurd z;
   }
 
   -- a join by the negated condition
@@ -55,7 +57,7 @@ module _ (ns : List TermNode) (c a b : ℕ) (h : AreTyped ns) (p : HasWidth ns 1
 
       turned : (z : Folded) → IsFold ns (JoinNode u b a) z → IsFold ns (JoinNode c a b) z
       turned (Old t) k = record { within = k.within; width = k.width; value = λ x i. k.value x i ∙ same x i }
-      turned (New m) k = record { typed = k.typed; width = k.width; value = λ x i. k.value x i ∙ same x i; gates = k.gates; loads = k.loads; stores = k.stores; joins = k.joins }
+      turned (New m) k = record { typed = k.typed; width = k.width; value = λ x i. k.value x i ∙ same x i; gates = k.gates; loads = k.loads; stores = k.stores; joins = k.joins; named = λ e. absurd (subst IsInput (k.named e) e) }
       turned (Onto o n t d) k = record { some = k.some; first = k.first; second = k.second; width = k.width; value = λ x i. k.value x i ∙ same x i; gates = k.gates }
 
 pub power : (n : ℕ) → 256 ^ n ≡ 2 ^ (8 * n)

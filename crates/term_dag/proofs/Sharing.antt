@@ -1,16 +1,18 @@
 -- A list of nodes in which a node has been looked up or added.
-use Rattle.std.proofs.Common.{inl, inr, ◌⊎◌, ◌≡◌, ℕ, zero, suc, ◌<◌, List, [], ◌∷◌, ◌++◌, length, slice_get, Some, Bool, true, false, refl, ap, sym, ◌∙◌, subst, arith, true≢false, append-nil, append_assoc}
+use Rattle.std.proofs.Common.{inl, inr, ◌⊎◌, ◌≡◌, ℕ, zero, suc, ◌<◌, List, [], ◌∷◌, ◌++◌, length, slice_get, Some, Bool, true, false, refl, ap, sym, ◌∙◌, subst, arith, true≢false, append-nil}
 use Rattle.std.specs.Prelude.{if◌then◌else◌}
-use Rattle.std.specs.List.{IsDistinct, AllByRecursion}
+use Rattle.std.specs.List.{Contains, IsDistinct, AllByRecursion}
+use Rattle.std.proofs.lemmas.List.Elements.{Contains-push_cases}
 use Rattle.std.proofs.lemmas.List.Sums.{sum_by-append}
 use Rattle.walk_spec.specs.Terms.{TermReading, TermNode, ConstantNode, BinaryNode, node_value, values_from, term_value, width_of, node_at, HasWidth, IsTypedOver, AreTyped, value_at, own_gates, own_loads, own_stores, own_joins}
 use Rattle.term_dag.specs.declared.nodes.Node.{Node}
 use Rattle.term_dag.specs.declared.nodes.Op.{Op}
 use Rattle.term_dag.specs.declared.folds.Folded.TheVariants.{Old, New, Onto}
-use Rattle.term_dag.specs.Nodes.{op_of, node_of, nodes_of}
+use Rattle.term_dag.specs.Nodes.{IsInput, op_of, node_of, nodes_of}
 use Rattle.term_dag.specs.Made.{Extends, IsWithinCost, IsMade, AreDistinct, IsInterned}
 use Rattle.term_dag.specs.Folds.{IsFold}
 use Rattle.term_dag.proofs.ListLaws.{keeps, keeps_node, typed_push, by_node, same, has_width_more, longer}
+use Rattle.term_dag.proofs.Growth.{both_extend}
 
 nodes_append : (ns ms : List Node) → nodes_of (ns ++ ms) ≡ nodes_of ns ++ nodes_of ms
 nodes_append [] ms = refl
@@ -49,21 +51,6 @@ typed_new b old new n e h t =
       | inr q ↦ subst AreTyped (sym q) (typed_push (nodes_of old) (node_of n) h t)
     ]
 
--- the place that a node has got
-pub interned : (b : Bool) (old new : List Node) (n : Node) (t : ℕ) → new ≡ (if b then old else old ++ n ∷ []) → AreTyped (nodes_of old) → IsTypedOver (nodes_of old) (node_of n) →
-    slice_get new t ≡ Some n → IsInterned (nodes_of old) (nodes_of new) (node_of n) t
-interned b old new n t e h o s = record {
-  extends = elim (looked_up b old new n e) [ inl q ↦ ([], q ∙ sym (append-nil (nodes_of old))) | inr q ↦ (node_of n ∷ [], q) ];
-  typed = typed_new b old new n e h o;
-  within = within new t n s;
-  stored = at_place new t n s;
-  few = elim (looked_up b old new n e) [ inl q ↦ omega (arith, ap length q) | inr q ↦ omega (arith, ap length q, longer (nodes_of old) (node_of n)) ];
-  cost = elim (looked_up b old new n e) [
-    | inl q ↦ subst (λ (l : List TermNode). IsWithinCost (nodes_of old) l (node_of n)) (sym q) (no_more (nodes_of old) (node_of n))
-    | inr q ↦ subst (λ (l : List TermNode). IsWithinCost (nodes_of old) l (node_of n)) (sym q) (one_more (nodes_of old) (node_of n))
-  ];
-}
-
 -- what an extension keeps
 pub kept_values : (old new : List TermNode) → Extends old new → (x : TermReading) (i : ℕ) → i < length old → term_value x new i ≡ term_value x old i
 kept_values old new e x i l = ap (λ ns. term_value x ns i) e.1 ∙ keeps x old e.0 i l
@@ -74,19 +61,44 @@ kept_nodes old new e i l = ap (λ ns. node_at ns i) e.1 ∙ keeps_node old e.0 i
 pub kept_width : (old new : List TermNode) → Extends old new → (w t : ℕ) → HasWidth old w t → HasWidth new w t
 kept_width old new e w t h = subst (λ (ns : List TermNode). HasWidth ns w t) (sym e.1) (has_width_more old e.0 w t h)
 
-pub both_extend : (a b c : List TermNode) → Extends a b → Extends b c → Extends a c
-both_extend a b c p q = (p.0 ++ q.0, q.1 ∙ ap (λ l. l ++ q.0) p.1 ∙ append_assoc a p.0 q.0)
-
--- an interned node has its value over the old terms
-pub interned_value : (old new : List TermNode) (n : TermNode) (t : ℕ) → IsInterned old new n t → IsTypedOver old n → (x : TermReading) →
+-- a node that is held has its value over the old terms
+held_value : (old new : List TermNode) (n : TermNode) (t : ℕ) → Extends old new → AreTyped new → t < length new → node_at new t ≡ n → IsTypedOver old n → (x : TermReading) →
     term_value x new t ≡ node_value x (values_from x [] old) n
-interned_value old new n t k o x =
-    by_node x new t n k.typed k.within (sym k.stored)
-    ∙ same x (values_from x [] new) (values_from x [] old) old n o (λ i l. kept_values old new k.extends x i l)
+held_value old new n t e h l s o x =
+    by_node x new t n h l (sym s)
+    ∙ same x (values_from x [] new) (values_from x [] old) old n o (λ i k. kept_values old new e x i k)
+
+one_more_holds : (ns : List TermNode) (n m : TermNode) → Contains (ns ++ n ∷ []) m → Contains ns m ⊎ (m ≡ n)
+one_more_holds ns n m h = elim (Contains-push_cases ns n m h) [ inl k ↦ inl k | inr e ↦ inr (sym e) ]
+
+-- the place that a node has got
+pub interned : (b : Bool) (old new : List Node) (n : Node) (t : ℕ) → new ≡ (if b then old else old ++ n ∷ []) → AreTyped (nodes_of old) → IsTypedOver (nodes_of old) (node_of n) →
+    slice_get new t ≡ Some n → IsInterned (nodes_of old) (nodes_of new) (node_of n) t
+interned b old new n t e h o s = record {
+  extends = longer_or_same;
+  keeps = kept_values (nodes_of old) (nodes_of new) longer_or_same;
+  widths = λ i l. ap width_of (kept_nodes (nodes_of old) (nodes_of new) longer_or_same i l);
+  typed = typed_new b old new n e h o;
+  within = within new t n s;
+  stored = at_place new t n s;
+  value = held_value (nodes_of old) (nodes_of new) (node_of n) t longer_or_same (typed_new b old new n e h o) (within new t n s) (at_place new t n s) o;
+  few = elim (looked_up b old new n e) [ inl q ↦ omega (arith, ap length q) | inr q ↦ omega (arith, ap length q, longer (nodes_of old) (node_of n)) ];
+  cost = elim (looked_up b old new n e) [
+    | inl q ↦ subst (λ (l : List TermNode). IsWithinCost (nodes_of old) l (node_of n)) (sym q) (no_more (nodes_of old) (node_of n))
+    | inr q ↦ subst (λ (l : List TermNode). IsWithinCost (nodes_of old) l (node_of n)) (sym q) (one_more (nodes_of old) (node_of n))
+  ];
+  only = λ m k. elim (looked_up b old new n e) [
+    | inl q ↦ inl (subst (λ (l : List TermNode). Contains l m) q k)
+    | inr q ↦ one_more_holds (nodes_of old) (node_of n) m (subst (λ (l : List TermNode). Contains l m) q k)
+  ];
+}
+  where
+    longer_or_same : Extends (nodes_of old) (nodes_of new)
+    longer_or_same = elim (looked_up b old new n e) [ inl q ↦ ([], q ∙ sym (append-nil (nodes_of old))) | inr q ↦ (node_of n ∷ [], q) ]
 
 -- a term that was there
-pub made_old : (ns : List TermNode) (n : TermNode) (t : _) → IsFold ns n (Old t) → IsMade ns ns n t.0
-made_old ns n t f = record {
+pub made_old : (ns : List TermNode) (n : TermNode) (t : _) → AreTyped ns → IsFold ns n (Old t) → IsMade ns ns n t.0
+made_old ns n t h f = record {
   extends = ([], sym (append-nil ns));
   keeps = λ x i l. refl;
   widths = λ i l. refl;
@@ -95,17 +107,19 @@ made_old ns n t f = record {
   value = f.value;
   few = omega arith;
   cost = no_more ns n;
+  typed = h;
+  named = λ m k i. inl k;
 }
 
 -- a node that was looked up or added
 pub made_new : (old new : List TermNode) (n : TermNode) (m : Node) (t : ℕ) → IsFold old n (New m) → IsInterned old new (node_of m) t → IsMade old new n t
 made_new old new n m t f k = record {
   extends = k.extends;
-  keeps = kept_values old new k.extends;
-  widths = λ i l. ap width_of (kept_nodes old new k.extends i l);
+  keeps = k.keeps;
+  widths = k.widths;
   within = k.within;
   width = ap width_of k.stored ∙ f.width;
-  value = λ x g. interned_value old new (node_of m) t k f.typed x ∙ f.value x g;
+  value = λ x g. k.value x ∙ f.value x g;
   few = omega (arith, k.few);
   cost = record {
     gates = omega (arith, k.cost.gates, f.gates);
@@ -113,6 +127,8 @@ made_new old new n m t f k = record {
     stores = omega (arith, k.cost.stores, f.stores);
     joins = omega (arith, k.cost.joins, f.joins);
   };
+  typed = k.typed;
+  named = λ p q i. elim (k.only p q) [ inl c ↦ inl c | inr e ↦ inr (e ∙ f.named (subst IsInput e i)) ];
 }
 
 -- the operator between a term and a constant is typed over the list that has the constant
@@ -125,7 +141,6 @@ pub made_onto : (old mid new : List TermNode) (n : TermNode) (o : Op) (w c : ℕ
     IsInterned mid new (BinaryNode (op_of o) w t.0 k) r → IsMade old new n r
 made_onto old mid new n o w c t k r f i j =
     let e = both_extend old mid new i.extends j.extends in
-    let typed = onto_typed old mid n o w c t k f i in
     record {
       extends = e;
       keeps = kept_values old new e;
@@ -133,9 +148,9 @@ made_onto old mid new n o w c t k r f i j =
       within = j.within;
       width = ap width_of j.stored ∙ f.width;
       value = λ x g.
-          interned_value mid new (BinaryNode (op_of o) w t.0 k) r j typed x
-          ∙ ap (λ (z : _). node_value x (z ∷ value_at (values_from x [] mid) k ∷ []) (BinaryNode (op_of o) w 0 1)) (kept_values old mid i.extends x t.0 f.first.0)
-          ∙ ap (λ (z : _). node_value x (term_value x old t.0 ∷ z ∷ []) (BinaryNode (op_of o) w 0 1)) (interned_value old mid (ConstantNode w c) k i (f.some, f.second) x)
+          j.value x
+          ∙ ap (λ (z : _). node_value x (z ∷ value_at (values_from x [] mid) k ∷ []) (BinaryNode (op_of o) w 0 1)) (i.keeps x t.0 f.first.0)
+          ∙ ap (λ (z : _). node_value x (term_value x old t.0 ∷ z ∷ []) (BinaryNode (op_of o) w 0 1)) (i.value x)
           ∙ f.value x g;
       few = omega (arith, i.few, j.few);
       cost = record {
@@ -144,6 +159,11 @@ made_onto old mid new n o w c t k r f i j =
         stores = omega (arith, i.cost.stores, j.cost.stores);
         joins = omega (arith, i.cost.joins, j.cost.joins);
       };
+      typed = j.typed;
+      named = λ m p q. elim (j.only m p) [
+        | inl a ↦ elim (i.only m a) [ inl b ↦ inl b | inr z ↦ absurd (subst IsInput z q) ]
+        | inr z ↦ absurd (subst IsInput z q)
+      ];
     }
 
 module _ (eq : Node → Node → Bool) (itself : (x y : Node) → node_of x ≡ node_of y → eq x y ≡ true) where

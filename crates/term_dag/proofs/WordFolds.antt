@@ -33,6 +33,7 @@ word_fold ns n w f g (New m) h s e v b p = record {
   loads = omega (arith, p.loads);
   stores = omega (arith, p.stores);
   joins = omega (arith, p.joins);
+  named = λ z. absurd (p.derived z);
 }
 word_fold ns n w f g (Onto o k t c) h s e v b p = record {
   some = p.some;
@@ -55,6 +56,7 @@ same_fold ns w f k g b (New m) e l p = record {
   loads = p.loads;
   stores = p.stores;
   joins = p.joins;
+  derived = p.derived;
 }
 same_fold ns w f k g b (Onto o q t c) e l p = record {
   some = p.some;
@@ -76,6 +78,7 @@ fixed ns w f g c s l b e = record {
   loads = refl;
   stores = refl;
   joins = refl;
+  derived = λ z. z;
 }
 
 -- a term that is a constant
@@ -95,6 +98,7 @@ kept ns m h = record {
   loads = omega arith;
   stores = omega arith;
   joins = omega arith;
+  named = λ z. refl;
 }
 
 -- the test whether a sum is a constant, as that of its base
@@ -120,6 +124,7 @@ kept_binary ns o w a b s p q = record {
   loads = refl;
   stores = refl;
   joins = refl;
+  derived = λ z. z;
 }
 
 -- a fold that was found, or another one

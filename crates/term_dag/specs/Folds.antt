@@ -10,7 +10,7 @@ use Rattle.term_dag.specs.declared.folds.Folded.{Folded}
 use Rattle.term_dag.specs.declared.folds.Folded.TheVariants.{Old, New, Onto}
 use Rattle.term_dag.specs.declared.conditions.Literal.{Literal}
 use Rattle.term_dag.specs.declared.conditions.Cube.{Cube}
-use Rattle.term_dag.specs.Nodes.{op_of, node_of}
+use Rattle.term_dag.specs.Nodes.{IsInput, op_of, node_of}
 
 -- the value of a node over the terms of a list
 abbrev pub value_over : List TermNode → TermNode → TermReading → TermValue
@@ -22,7 +22,7 @@ pub record IsTermFor (ns : List TermNode) (n : TermNode) (t : ℕ) : Type 0 wher
   pub width : width_of (node_at ns t) ≡ width_of n
   pub value : (x : TermReading) → InRange x → term_value x ns t ≡ value_over ns n x
 
--- another node
+-- another node, which is no input that the node itself is not
 pub record IsNodeFor (ns : List TermNode) (n m : TermNode) : Type 0 where
   pub typed : IsTypedOver ns m
   pub width : width_of m ≡ width_of n
@@ -31,6 +31,7 @@ pub record IsNodeFor (ns : List TermNode) (n m : TermNode) : Type 0 where
   pub loads : own_loads m ≤ own_loads n
   pub stores : own_stores m ≤ own_stores n
   pub joins : own_joins m ≤ own_joins n
+  pub named : IsInput m → m ≡ n
 
 -- an operator between a term and a constant
 pub record IsOntoFor (ns : List TermNode) (n : TermNode) (o : BinaryOp) (w t c : ℕ) : Type 0 where
@@ -52,7 +53,7 @@ pub record IsTermWord (ns : List TermNode) (w : ℕ) (f : TermReading → ℕ) (
   pub place : HasWidth ns w t
   pub value : (x : TermReading) → InRange x → term_word x ns t ≡ f x
 
--- a node that has a value, within so many gates
+-- a node that is no input and has a value, within so many gates
 pub record IsNodeWord (ns : List TermNode) (w : ℕ) (f : TermReading → ℕ) (g : ℕ) (m : TermNode) : Type 0 where
   pub typed : IsTypedOver ns m
   pub width : width_of m ≡ w
@@ -61,6 +62,7 @@ pub record IsNodeWord (ns : List TermNode) (w : ℕ) (f : TermReading → ℕ) (
   pub loads : own_loads m ≡ 0
   pub stores : own_stores m ≡ 0
   pub joins : own_joins m ≡ 0
+  pub derived : IsInput m → ⊥
 
 -- an operator between a term and a constant that has a value, within so many gates
 pub record IsOntoWord (ns : List TermNode) (w : ℕ) (f : TermReading → ℕ) (g : ℕ) (o : BinaryOp) (k t c : ℕ) : Type 0 where

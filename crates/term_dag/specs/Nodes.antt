@@ -1,4 +1,4 @@
--- The nodes of the code as those of the definitions.
+-- The nodes of the code as those of the definitions, and which of them are inputs.
 use Rattle.std.specs.Prelude.{List, map}
 use Rattle.bilv_spec.specs.Bil as bil
 use Rattle.bilv_spec.specs.Memory.{endian}
@@ -51,3 +51,11 @@ node_of (node.Join c a b) = JoinNode c.0 a.0 b.0
 -- the nodes of a list
 abbrev pub nodes_of : List Node → List TermNode
 nodes_of ns = map node_of ns
+
+-- the node is an input that is a word
+abbrev pub IsInput : TermNode → Type 0
+IsInput (RegisterNode n) = Unit {0}
+IsInput (FlagNode f) = Unit {0}
+IsInput (ChoiceNode i) = Unit {0}
+IsInput (BaseNode j) = Unit {0}
+IsInput n = ⊥

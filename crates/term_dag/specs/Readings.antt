@@ -1,7 +1,7 @@
 -- The reading that stands for data, and the words of terms under it.
 use Rattle.std.specs.Prelude.{◌≡◌, ℕ, ◌%◌, ◌^◌, ◌<◌, List, length, slice_index}
 use Rattle.bilv_spec.specs.Memory.{memory_of}
-use Rattle.walk_spec.specs.Terms.{TermReading, TermNode, RegisterNode, FlagNode, ChoiceNode, BaseNode, term_word}
+use Rattle.walk_spec.specs.Terms.{TermReading, TermNode, term_word}
 use Rattle.term_dag.specs.declared.values.Reading.{Reading}
 
 -- what the data stand for: what is not listed is 0, and of each number those bits count that a reading has
@@ -18,11 +18,3 @@ reading_of r = record {
 pub record AreWords (x : TermReading) (nodes : List TermNode) (ws : List ℕ) : Type 0 where
   pub count : length ws ≡ length nodes
   pub each : (t : ℕ) → t < length nodes → slice_index ws t ≡ term_word x nodes t
-
--- the node is an input that is a word
-abbrev pub IsInput : TermNode → Type 0
-IsInput (RegisterNode n) = Unit {0}
-IsInput (FlagNode f) = Unit {0}
-IsInput (ChoiceNode i) = Unit {0}
-IsInput (BaseNode j) = Unit {0}
-IsInput n = ⊥

@@ -114,8 +114,8 @@ impl Dag {
         byte(self.nodes.as_slice(), words, reading, term, address)
     }
 
-    /// The place of a node, which is added where it is not there. The error is want of memory, or of numbers for terms.
-    fn intern(&mut self, node: Node) -> Result<Term, AllocError>
+    /// The place of a node as it is, which is added where it is not there: nothing is folded. The error is want of memory; then nothing is said of the terms.
+    pub fn keep(&mut self, node: Node) -> Result<Term, AllocError>
         requires { IsTypedOver self.old (node_of node) }
         ensures { IfOk result (λ t. IsInterned self.old self.new (node_of node) t.0) }
     {
@@ -135,12 +135,12 @@ impl Dag {
         match fold(self.nodes.as_slice(), node) {
             Folded::Old(term) => Ok(term),
             Folded::New(node) => {
-                let term = self.intern(node)?;
+                let term = self.keep(node)?;
                 Ok(term)
             }
             Folded::Onto(op, width, left, value) => {
-                let right = self.intern(Node::Constant { width, value })?;
-                let term = self.intern(Node::Binary {
+                let right = self.keep(Node::Constant { width, value })?;
+                let term = self.keep(Node::Binary {
                     op,
                     width,
                     left,

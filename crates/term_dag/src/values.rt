@@ -5,9 +5,9 @@ ghost use Rattle.bilv_spec.specs.Words.{add};
 ghost use Rattle.bilv_spec.specs.Memory as memory;
 ghost use Rattle.bilv_spec.specs.Memory.{endian};
 ghost use Rattle.walk_spec.specs.Terms.{TermNode, term_value, term_word, HasWidth, IsBytes, IsTypedOver, AreTyped};
-ghost use Rattle.term_dag.specs.Nodes.{node_of, nodes_of};
+ghost use Rattle.term_dag.specs.Nodes.{IsInput, node_of, nodes_of};
 ghost use Rattle.term_dag.specs.Folds.{value_over};
-ghost use Rattle.term_dag.specs.Readings.{AreWords, IsInput, reading_of};
+ghost use Rattle.term_dag.specs.Readings.{AreWords, reading_of};
 
 use crate::folds::{apply, look, width_of_node};
 use crate::{Node, Term};

@@ -22,4 +22,5 @@ returns-then-second-eq0 c = record {
   loads = refl;
   stores = refl;
   joins = refl;
+  derived = λ z. z;
 }

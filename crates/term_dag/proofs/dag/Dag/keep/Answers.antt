@@ -1,7 +1,7 @@
 use Rattle.std.proofs.Common.{Some, ap, sym, ◌∙◌}
 use Rattle.term_dag.proofs.Equal.{same}
 use Rattle.term_dag.proofs.Sharing.{interned, typed_new}
-use Rattle.term_dag.proofs.dag.Dag.intern.Goals as goal
+use Rattle.term_dag.proofs.dag.Dag.keep.Goals as goal
 
 pub invariant_of-self-2 : goal.invariant_of-self-2
 invariant_of-self-2 c = typed_new _ _ _ _ c.in_ok-place.ensures.keys c.self.invariant (rw (← c.self.view_is) at c.requires)
