@@ -1,8 +1,10 @@
 //! The values that the layers between the points of a program and the clauses of its questions hand on. They name no machine and no row of a table.
 #![tactic(auto)]
 
+mod questions;
 mod unrolled;
 
 pub use known_bytes::Known;
 pub use program_points::Frame;
+pub use questions::{Passive, Question};
 pub use unrolled::{Aim, Code, Edge, Kind, Point, Unrolled};

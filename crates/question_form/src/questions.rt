@@ -1,0 +1,26 @@
+//! What the condition of a function hands on: its points as terms, and its questions.
+use crate::{Kind, Unrolled};
+use term_dag::{Dag, Term};
+
+/// A passive program: one bit for each point, which says whether it is met, and one each for an event and for one backward transfer too many. Whether the
+/// entry condition is met is no part of it.
+#[derive(Drop)]
+pub struct Passive<'a> {
+    pub unrolled: &'a Unrolled<'a>,
+    pub dag: Dag,
+    /// For each point, in their order, whether it is met.
+    pub met: Vec<Term>,
+    /// Whether an event comes.
+    pub fails: Term,
+    /// Whether one backward transfer too many comes.
+    pub turns: Term,
+}
+
+/// A question of a passive program: the bit that says whether it is true, over nodes of its own.
+#[derive(Drop)]
+pub struct Question<'a> {
+    pub passive: &'a Passive<'a>,
+    pub kind: Kind,
+    pub dag: Dag,
+    pub root: Term,
+}
