@@ -2,6 +2,7 @@ pub mod ListLaws
 pub mod Ranges
 pub mod WordFolds
 pub mod Growth
+pub mod Copies
 pub mod Sharing
 pub mod Equal
 pub mod WordLaws

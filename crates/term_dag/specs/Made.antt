@@ -1,6 +1,6 @@
 -- What it means that a list of nodes has got a node, that a term stands for one, and that a list has grown.
-use Rattle.std.specs.Prelude.{◌≡◌, ℕ, ◌+◌, ◌<◌, ◌≤◌, ◌⊎◌, List, [], ◌++◌, length, slice_get, Contains}
-use Rattle.walk_spec.specs.Terms.{TermReading, InRange, TermNode, node_value, values_from, term_value, term_word, width_of, node_at, AreTyped, term_gates, term_loads, term_stores, term_joins, own_gates, own_loads, own_stores, own_joins}
+use Rattle.std.specs.Prelude.{◌≡◌, ℕ, ◌+◌, ◌<◌, ◌≤◌, ◌⊎◌, List, [], ◌∷◌, ◌++◌, length, slice_get, Contains}
+use Rattle.walk_spec.specs.Terms.{TermReading, InRange, TermNode, BinaryNode, NotNode, SelectNode, ExtractNode, ConcatNode, ExtendNode, LoadNode, StoreNode, JoinNode, node_value, values_from, term_value, term_word, width_of, node_at, AreTyped, term_gates, term_loads, term_stores, term_joins, own_gates, own_loads, own_stores, own_joins}
 use Rattle.term_dag.specs.Nodes.{IsInput}
 
 -- the new list is the old one with more nodes behind
@@ -66,3 +66,29 @@ pub record Grew (old new : List TermNode) (g l s j n : ℕ) : Type 0 where
   pub stores : term_stores new ≤ term_stores old + s
   pub joins : term_joins new ≤ term_joins old + j
   pub few : length new ≤ length old + n
+
+-- the places that a node is over
+abbrev pub operands : TermNode → List ℕ
+operands (BinaryNode o w a b) = a ∷ b ∷ []
+operands (NotNode w a) = a ∷ []
+operands (SelectNode w c a b) = c ∷ a ∷ b ∷ []
+operands (ExtractNode hi lo a) = a ∷ []
+operands (ConcatNode high low a b) = a ∷ b ∷ []
+operands (ExtendNode signed n m a) = a ∷ []
+operands (LoadNode n e m a) = m ∷ a ∷ []
+operands (StoreNode n e m a v) = m ∷ a ∷ v ∷ []
+operands (JoinNode c a b) = c ∷ a ∷ b ∷ []
+operands n = []
+
+-- the node over other places
+abbrev pub moved : (ℕ → ℕ) → TermNode → TermNode
+moved f (BinaryNode o w a b) = BinaryNode o w (f a) (f b)
+moved f (NotNode w a) = NotNode w (f a)
+moved f (SelectNode w c a b) = SelectNode w (f c) (f a) (f b)
+moved f (ExtractNode hi lo a) = ExtractNode hi lo (f a)
+moved f (ConcatNode high low a b) = ConcatNode high low (f a) (f b)
+moved f (ExtendNode signed n m a) = ExtendNode signed n m (f a)
+moved f (LoadNode n e m a) = LoadNode n e (f m) (f a)
+moved f (StoreNode n e m a v) = StoreNode n e (f m) (f a) (f v)
+moved f (JoinNode c a b) = JoinNode (f c) (f a) (f b)
+moved f n = n
