@@ -109,6 +109,7 @@ made_old ns n t h f = record {
   cost = no_more ns n;
   typed = h;
   named = λ m k i. inl k;
+  words = λ w m k. inl k;
 }
 
 -- a node that was looked up or added
@@ -129,6 +130,7 @@ made_new old new n m t f k = record {
   };
   typed = k.typed;
   named = λ p q i. elim (k.only p q) [ inl c ↦ inl c | inr e ↦ inr (e ∙ f.named (subst IsInput e i)) ];
+  words = λ w p q. elim (k.only p q) [ inl c ↦ inl c | inr e ↦ inr (omega (arith, w, f.width, ap width_of e)) ];
 }
 
 -- the operator between a term and a constant is typed over the list that has the constant
@@ -163,6 +165,10 @@ made_onto old mid new n o w c t k r f i j =
       named = λ m p q. elim (j.only m p) [
         | inl a ↦ elim (i.only m a) [ inl b ↦ inl b | inr z ↦ absurd (subst IsInput z q) ]
         | inr z ↦ absurd (subst IsInput z q)
+      ];
+      words = λ l m p. elim (j.only m p) [
+        | inl a ↦ elim (i.only m a) [ inl b ↦ inl b | inr z ↦ inr (omega (arith, ap width_of z, f.some.0)) ]
+        | inr z ↦ inr (omega (arith, ap width_of z, f.width, l))
       ];
     }
 

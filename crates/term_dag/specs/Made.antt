@@ -19,7 +19,8 @@ pub record IsWithinCost (old new : List TermNode) (n : TermNode) : Type 0 where
   pub joins : term_joins new ≤ term_joins old + own_joins n
 
 -- The new list has a term for a node over the old one. Terms of the old list keep their places, values and widths; the term has the node's width, and under every
--- reading in range the node's value. At most two nodes are new, they cost no more than the node, and none is an input but for the node itself.
+-- reading in range the node's value. At most two nodes are new, they cost no more than the node, and none is an input but for the node itself. Where the node is a word, so is
+-- each new node.
 pub record IsMade (old new : List TermNode) (n : TermNode) (t : ℕ) : Type 0 where
   pub extends : Extends old new
   pub keeps : (x : TermReading) (i : ℕ) → i < length old → term_value x new i ≡ term_value x old i
@@ -31,6 +32,7 @@ pub record IsMade (old new : List TermNode) (n : TermNode) (t : ℕ) : Type 0 wh
   pub cost : IsWithinCost old new n
   pub typed : AreTyped new
   pub named : InputsFrom old new (λ m. m ≡ n)
+  pub words : 1 ≤ width_of n → (m : TermNode) → Contains new m → Contains old m ⊎ (1 ≤ width_of m)
 
 -- no two places hold equal nodes
 abbrev pub AreDistinct : List TermNode → Type 0
