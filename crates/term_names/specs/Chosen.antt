@@ -1,0 +1,89 @@
+-- The terms of the entry state, and of one of two states.
+use Rattle.std.specs.Prelude.{ℕ, ◌≡◌, ◌≤◌, ◌<◌, ◌+◌, ◌*◌, List, length, slice_index}
+use Rattle.walk_spec.specs.Terms.{TermReading, InRange, TermNode, RegisterNode, FlagNode, HasMemory, term_value, term_word}
+use Rattle.walk_spec.specs.Unrolled.{Carried}
+use Rattle.walk_spec.specs.Passive.{AreNames, Denotes}
+use Rattle.term_dag.specs.Made.{Grew, InputsFrom}
+use Rattle.term_names.specs.Views.{form_of, names_of}
+use Rattle.term_names.specs.Choices.{AreWide, differs, differing}
+use Rattle.term_names.specs.declared.names.Names.{Names}
+
+-- the same terms
+pub record HaveSameTerms (a b : Names) : Type 0 where
+  pub first : a.first ≡ b.first
+  pub registers : a.registers.items ≡ b.registers.items
+  pub flags : a.flags.items ≡ b.flags.items
+  pub memory : a.memory ≡ b.memory
+
+-- terms for the same registers and flags
+pub record HaveSameForm (a b : Names) : Type 0 where
+  pub first : a.first ≡ b.first
+  pub registers : length a.registers.items ≡ length b.registers.items
+  pub flags : length a.flags.items ≡ length b.flags.items
+
+-- a register or a flag of the form
+abbrev pub IsOfForm : (first registers flags : ℕ) → TermNode → Type 0
+IsOfForm first registers flags (RegisterNode r) = (first ≤ r) × (r < first + registers)
+IsOfForm first registers flags (FlagNode f) = f < flags
+IsOfForm first registers flags m = ⊥
+
+-- what a reading gives at entry
+abbrev pub at_entry : TermReading → Carried
+at_entry x = record { regs = x.regs; flags = x.flags; mem = x.mem }
+
+-- The terms are those of the registers at entry, from a first one on.
+pub record AreEntryRegisters (old new : List TermNode) (low number : ℕ) (ts : List ℕ) : Type 0 where
+  pub grew : Grew old new 0 0 0 0 number
+  pub inputs : InputsFrom old new (IsOfForm low number 0)
+  pub count : length ts ≡ number
+  pub wide : AreWide new 32 ts
+  pub value : (x : TermReading) (i : ℕ) → i < number → term_word x new (slice_index ts i) ≡ x.regs (low + i)
+
+-- The terms are those of the flags at entry.
+pub record AreEntryFlags (old new : List TermNode) (number : ℕ) (ts : List ℕ) : Type 0 where
+  pub grew : Grew old new 0 0 0 0 number
+  pub inputs : InputsFrom old new (IsOfForm 0 0 number)
+  pub count : length ts ≡ number
+  pub wide : AreWide new 1 ts
+  pub value : (x : TermReading) (i : ℕ) → i < number → term_word x new (slice_index ts i) ≡ x.flags i
+
+-- The terms are those of the state at entry, for so many registers from a first one on and so many flags. They cost nothing.
+pub record AreEntryNames (old new : List TermNode) (low words bits : ℕ) (n : Names) : Type 0 where
+  pub first : n.first ≡ low
+  pub registers : length n.registers.items ≡ words
+  pub flags : length n.flags.items ≡ bits
+  pub grew : Grew old new 0 0 0 0 (words + bits + 1)
+  pub inputs : InputsFrom old new (IsOfForm low words bits)
+  pub names : AreNames (form_of n) new (names_of n)
+  pub denotes : (x : TermReading) → InRange x → Denotes (form_of n) new x (names_of n) (at_entry x)
+
+-- the bits of registers and flags that differ
+abbrev pub differing_bits : Names → Names → ℕ
+differing_bits a b = 32 * differing (names_of a).registers (names_of b).registers + differing (names_of a).flags (names_of b).flags
+
+-- whether the memories differ
+abbrev pub differing_memory : Names → Names → ℕ
+differing_memory a b = differs a.memory.0 b.memory.0
+
+-- how many terms differ
+abbrev pub differing_terms : Names → Names → ℕ
+differing_terms a b = differing (names_of a).registers (names_of b).registers + differing (names_of a).flags (names_of b).flags + differing_memory a b
+
+-- A memory is one of two, by a condition.
+pub record IsSelectedMemory (old new : List TermNode) (condition a b t : ℕ) : Type 0 where
+  pub grew : Grew old new 0 0 0 (differs a b) (2 * differs a b)
+  pub inputs : InputsFrom old new (λ m. ⊥)
+  pub place : HasMemory new t
+  pub when_true : (x : TermReading) → InRange x → term_word x old condition ≡ 1 → (term_value x new t).bytes ≡ (term_value x old a).bytes
+  pub when_false : (x : TermReading) → InRange x → term_word x old condition ≡ 0 → (term_value x new t).bytes ≡ (term_value x old b).bytes
+
+-- The terms of one of two states, by a condition: where it is 1 they have the values of the first, where it is 0 those of the second. Only what differs costs.
+pub record AreSelected (old new : List TermNode) (condition : ℕ) (a b n : Names) : Type 0 where
+  pub form : HaveSameForm a n
+  pub grew : Grew old new (differing_bits a b) 0 0 (differing_memory a b) (2 * differing_terms a b)
+  pub inputs : InputsFrom old new (λ m. ⊥)
+  pub names : AreNames (form_of n) new (names_of n)
+  pub when_true : (x : TermReading) → InRange x → term_word x old condition ≡ 1 → (c : Carried) →
+      Denotes (form_of a) old x (names_of a) c → Denotes (form_of n) new x (names_of n) c
+  pub when_false : (x : TermReading) → InRange x → term_word x old condition ≡ 0 → (c : Carried) →
+      Denotes (form_of b) old x (names_of b) c → Denotes (form_of n) new x (names_of n) c

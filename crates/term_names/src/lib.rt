@@ -1,0 +1,8 @@
+//! Terms for what a state has: its registers, its flags and its memory.
+#![tactic(auto)]
+
+mod names;
+mod rows;
+
+pub use names::{Names, copied, entry_names, selected};
+pub use rows::selected_word;
