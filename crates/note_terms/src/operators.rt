@@ -1,0 +1,231 @@
+//! Operators of notes as those of terms.
+
+ghost use Rattle.std.specs.Prelude.{◌≡◌, ℕ, if◌then◌else◌, not, true, false, IfOk};
+ghost use Rattle.bilv_spec.specs.Bil as bil;
+ghost use Rattle.bilv_spec.specs.Words.{bit};
+ghost use Rattle.bilv_spec.specs.Notes as notes;
+ghost use Rattle.bilv_spec.specs.Notes.{apply, is_true};
+ghost use Rattle.walk_spec.specs.Terms.{TermReading, BinaryNode, AreTyped, HasWidth, term_word};
+ghost use Rattle.term_dag.specs.Nodes.{node_of, op_of};
+ghost use Rattle.notes_value.specs.Views as views;
+ghost use Rattle.note_terms.specs.Steps.{IsNarrow, IsOnWords, IsOperation, IsShown, IsStep, IsValueAt, IsZero, operator_gates};
+
+use notes_value::Operator;
+use std::alloc::AllocError;
+use term_dag::{Dag, Node, Op, Term};
+
+/// An operator between two words, whose operands may have to change places.
+#[derive(Clone, Copy)]
+struct Operation {
+    op: Op,
+    swapped: bool,
+}
+
+/// An operator whose operands stay in their places.
+fn plain(op: Op) -> Operation
+    ensures op { result.op ≡ op }
+    ensures swapped { result.swapped ≡ false }
+{
+    Operation { op, swapped: false }
+}
+
+/// An operator whose operands change places.
+fn swapped(op: Op) -> Operation
+    ensures op { result.op ≡ op }
+    ensures swapped { result.swapped ≡ true }
+{
+    Operation { op, swapped: true }
+}
+
+/// A word of at most 32 bits as one of 32.
+pub fn widened(dag: &mut Dag, term: Term) -> Result<Term, AllocError>
+    requires typed { AreTyped dag.old }
+    requires narrow { IsNarrow dag.old term.0 }
+    ensures { IfOk result (λ t. IsStep dag.old dag.new 0 0 1 (λ w. w ≡ 32) (λ x. term_word x dag.old term.0) t.0) }
+{
+    let from = dag.width(term);
+    if from == 32 {
+        return Ok(term);
+    }
+    match dag.constant(term) {
+        Some(value) => {
+            let word = dag.keep(Node::Constant { width: 32, value })?;
+            Ok(word)
+        }
+        None => {
+            let word = dag.keep(Node::Extend {
+                signed: false,
+                from,
+                to: 32,
+                term,
+            })?;
+            Ok(word)
+        }
+    }
+}
+
+/// Whether a value counts as true.
+pub fn truth(dag: &mut Dag, zero: Term, term: Term) -> Result<Term, AllocError>
+    requires typed { AreTyped dag.old }
+    requires zero { IsZero dag.old zero.0 }
+    requires term { IsValueAt dag.old term.0 }
+    ensures { IfOk result (λ t. IsStep dag.old dag.new 32 0 2 (λ w. w ≡ 1) (λ x. bit (is_true (term_word x dag.old term.0))) t.0) }
+{
+    if dag.width(term) == 1 {
+        return Ok(term);
+    }
+    let bit = dag.mk(Node::Binary {
+        op: Op::NotEqual,
+        width: 32,
+        left: term,
+        right: zero,
+    })?;
+    Ok(bit)
+}
+
+/// Whether a value does not count as true.
+pub fn falsity(dag: &mut Dag, zero: Term, term: Term) -> Result<Term, AllocError>
+    requires typed { AreTyped dag.old }
+    requires zero { IsZero dag.old zero.0 }
+    requires term { IsValueAt dag.old term.0 }
+    ensures { IfOk result (λ t. IsStep dag.old dag.new 32 0 2 (λ w. w ≡ 1) (λ x. bit (not (is_true (term_word x dag.old term.0)))) t.0) }
+{
+    if dag.width(term) == 1 {
+        let bit = dag.mk(Node::Not { width: 1, term })?;
+        return Ok(bit);
+    }
+    let bit = dag.mk(Node::Binary {
+        op: Op::Equal,
+        width: 32,
+        left: term,
+        right: zero,
+    })?;
+    Ok(bit)
+}
+
+/// The operator between bits.
+fn connective(both: bool) -> Op
+    ensures { op_of result ≡ (if both then bil.And else bil.Or) }
+{
+    if both { Op::And } else { Op::Or }
+}
+
+/// Whether both of two values count as true, or one of them.
+fn connected(
+    dag: &mut Dag,
+    zero: Term,
+    both: bool,
+    left: Term,
+    right: Term,
+) -> Result<Term, AllocError>
+    requires typed { AreTyped dag.old }
+    requires zero { IsZero dag.old zero.0 }
+    requires left { IsValueAt dag.old left.0 }
+    requires right { IsValueAt dag.old right.0 }
+    ensures { IfOk result (λ t. IsStep dag.old dag.new 384 0 6 IsShown (λ x. apply (if both then notes.And else notes.Or) (term_word x dag.old left.0) (term_word x dag.old right.0)) t.0) }
+{
+    let left = truth(dag, zero, left)?;
+    let right = truth(dag, zero, right)?;
+    let bit = dag.mk(Node::Binary {
+        op: connective(both),
+        width: 1,
+        left,
+        right,
+    })?;
+    Ok(bit)
+}
+
+/// The operator of terms that one on words is.
+fn on_words(op: Operator) -> Operation
+    requires { IsOnWords (views.op_of op) }
+    ensures { IsOperation (views.op_of op) (op_of result.op) result.swapped }
+{
+    match op {
+        Operator::Or | Operator::And => unreachable!(),
+        Operator::Equal => plain(Op::Equal),
+        Operator::NotEqual => plain(Op::NotEqual),
+        Operator::Below => plain(Op::Less),
+        Operator::AtMost => plain(Op::LessEqual),
+        Operator::Above => swapped(Op::Less),
+        Operator::AtLeast => swapped(Op::LessEqual),
+        Operator::SignedBelow => plain(Op::SignedLess),
+        Operator::SignedAtMost => plain(Op::SignedLessEqual),
+        Operator::SignedAbove => swapped(Op::SignedLess),
+        Operator::SignedAtLeast => swapped(Op::SignedLessEqual),
+        Operator::BitOr => plain(Op::Or),
+        Operator::BitXor => plain(Op::Xor),
+        Operator::BitAnd => plain(Op::And),
+        Operator::ShiftLeft => plain(Op::ShiftLeft),
+        Operator::ShiftRight => plain(Op::ShiftRight),
+        Operator::ShiftSigned => plain(Op::ShiftSigned),
+        Operator::Plus => plain(Op::Plus),
+        Operator::Minus => plain(Op::Minus),
+        Operator::Times => plain(Op::Times),
+    }
+}
+
+/// The node of an operator between two words.
+fn binary(operation: Operation, left: Term, right: Term) -> Node
+    ensures { node_of result ≡ BinaryNode (op_of operation.op) 32 (if operation.swapped then right.0 else left.0) (if operation.swapped then left.0 else right.0) }
+{
+    let op = operation.op;
+    let width = 32;
+    if operation.swapped {
+        return Node::Binary {
+            op,
+            width,
+            left: right,
+            right: left,
+        };
+    }
+    Node::Binary {
+        op,
+        width,
+        left,
+        right,
+    }
+}
+
+/// An operator between two values as words.
+fn operated(dag: &mut Dag, op: Operator, left: Term, right: Term) -> Result<Term, AllocError>
+    requires words { IsOnWords (views.op_of op) }
+    requires typed { AreTyped dag.old }
+    requires left { IsValueAt dag.old left.0 }
+    requires right { IsValueAt dag.old right.0 }
+    ensures { IfOk result (λ t. IsStep dag.old dag.new (operator_gates (views.op_of op)) 0 6 IsShown (λ x. apply (views.op_of op) (term_word x dag.old left.0) (term_word x dag.old right.0)) t.0) }
+{
+    let left = widened(dag, left)?;
+    let right = widened(dag, right)?;
+    let term = dag.mk(binary(on_words(op), left, right))?;
+    Ok(term)
+}
+
+/// A binary operator between two values.
+pub fn applied(
+    dag: &mut Dag,
+    zero: Term,
+    op: Operator,
+    left: Term,
+    right: Term,
+) -> Result<Term, AllocError>
+    requires typed { AreTyped dag.old }
+    requires zero { IsZero dag.old zero.0 }
+    requires left { IsValueAt dag.old left.0 }
+    requires right { IsValueAt dag.old right.0 }
+    ensures { IfOk result (λ t. IsStep dag.old dag.new (operator_gates (views.op_of op)) 0 6 IsShown (λ x. apply (views.op_of op) (term_word x dag.old left.0) (term_word x dag.old right.0)) t.0) }
+{
+    match op {
+        Operator::And => {
+            let term = connected(dag, zero, true, left, right)?;
+            Ok(term)
+        }
+        Operator::Or => {
+            let term = connected(dag, zero, false, left, right)?;
+            Ok(term)
+        }
+        _ => {
+            let term = operated(dag, op, left, right)?;
+            Ok(term)
+        }
+    }
+}

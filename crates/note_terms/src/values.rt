@@ -1,0 +1,123 @@
+//! The values of expressions as terms.
+
+ghost use Rattle.std.specs.Prelude.{◌≡◌, ◌<◌, ◌≤◌, ◌-◌, ◌+◌, true, length, slice_index, IfOk};
+ghost use Rattle.bilv_spec.specs.Memory.{endian, load};
+ghost use Rattle.walk_spec.specs.Terms.{TermReading, AreTyped, HasMemory, HasWidth, term_value, term_word};
+ghost use Rattle.walk_spec.specs.Unrolled.{is_flag_of, is_register_of};
+ghost use Rattle.walk_spec.specs.Unrolling.{IsReadable};
+ghost use Rattle.notes_value.specs.Views.{bytes_of, expr_of};
+ghost use Rattle.term_names.specs.Views.{form_of, names_of};
+ghost use Rattle.term_names.specs.Chosen.{HaveSameForm};
+ghost use Rattle.note_terms.specs.Steps.{IsStep, IsValueAt, IsZero};
+ghost use Rattle.note_terms.specs.Lines.{AreStateTerms, IsValue};
+
+use crate::Now;
+use crate::operators::{applied, falsity, widened};
+use notes_value::{Expr, Size};
+use std::alloc::AllocError;
+use term_dag::{Dag, Node, Term};
+use term_names::Names;
+
+/// The term of a register.
+fn register(names: &Names, number: u8) -> Term
+    requires { is_register_of (form_of names.now) number ≡ true }
+    ensures first { names.now.first ≤ number }
+    ensures within { number < names.now.first + length names.now.registers.items }
+    ensures term { result.0 ≡ slice_index (names_of names.now).registers (number - names.now.first) }
+{
+    names.registers[(number - names.first) as usize]
+}
+
+/// The term of a flag.
+fn flag(names: &Names, number: u8) -> Term
+    requires { is_flag_of (form_of names.now) number ≡ true }
+    ensures { result.0 ≡ slice_index (names_of names.now).flags number }
+{
+    names.flags[number as usize]
+}
+
+/// How many bytes a load has.
+fn bytes(size: Size) -> u8
+    ensures { result ≡ bytes_of size }
+{
+    match size {
+        Size::Byte => 1,
+        Size::Half => 2,
+        Size::Word => 4,
+    }
+}
+
+/// The number of the bytes at an address.
+fn loaded(
+    dag: &mut Dag,
+    memory: Term,
+    size: Size,
+    big: bool,
+    address: Term,
+) -> Result<Term, AllocError>
+    requires typed { AreTyped dag.old }
+    requires memory { HasMemory dag.old memory.0 }
+    requires address { IsValueAt dag.old address.0 }
+    ensures { IfOk result (λ t. IsStep dag.old dag.new 0 (bytes_of size) 4 (λ w. w ≡ 32) (λ x. load (endian big) (bytes_of size) (term_value x dag.old memory.0).bytes (term_word x dag.old address.0)) t.0) }
+{
+    let address = widened(dag, address)?;
+    let found = dag.mk(Node::Load {
+        bytes: bytes(size),
+        big,
+        memory,
+        address,
+    })?;
+    let word = widened(dag, found)?;
+    Ok(word)
+}
+
+/// The value of an expression in the state now, with a state at entry. It is a bit where the expression is a flag, a comparison, `and`, `or` or `not`.
+pub fn value<'a>(
+    says: &Expr,
+    dag: &mut Dag,
+    now: &Now<'a>,
+    entry: &Now<'a>,
+    big: bool,
+    zero: Term,
+) -> Result<Term, AllocError>
+    requires reads { IsReadable (form_of now.now.names.now) (expr_of says.now) }
+    requires same { HaveSameForm now.now.names.now entry.now.names.now }
+    requires now { AreStateTerms dag.old now.now }
+    requires entry { AreStateTerms dag.old entry.now }
+    requires typed { AreTyped dag.old }
+    requires zero { IsZero dag.old zero.0 }
+    ensures { IfOk result (λ t. IsValue dag.old dag.new big (expr_of says.now) now.now entry.now t.0) }
+{
+    match says {
+        Expr::Number(number) => {
+            let term = dag.keep(Node::Constant {
+                width: 32,
+                value: *number as u64,
+            })?;
+            Ok(term)
+        }
+        Expr::Register(number) => Ok(register(now.names, *number)),
+        Expr::Flag(number) => Ok(flag(now.names, *number)),
+        Expr::Pc => Ok(now.pc),
+        Expr::Memory(size, address) => {
+            let address = value(address, dag, now, entry, big, zero)?;
+            let term = loaded(dag, now.names.memory, *size, big, address)?;
+            Ok(term)
+        }
+        Expr::Old(inner) => {
+            let term = value(inner, dag, entry, entry, big, zero)?;
+            Ok(term)
+        }
+        Expr::Not(inner) => {
+            let inner = value(inner, dag, now, entry, big, zero)?;
+            let term = falsity(dag, zero, inner)?;
+            Ok(term)
+        }
+        Expr::Binary(op, left, right) => {
+            let left = value(left, dag, now, entry, big, zero)?;
+            let right = value(right, dag, now, entry, big, zero)?;
+            let term = applied(dag, zero, *op, left, right)?;
+            Ok(term)
+        }
+    }
+}
