@@ -1,11 +1,12 @@
 -- Steps by which a line becomes a term, and what they may cost.
 use Rattle.std.specs.Prelude.{ℕ, ◌≡◌, ◌<◌, ◌≤◌, ◌+◌, ◌⊎◌, Bool, if◌then◌else◌, List, length}
+use Rattle.bilv_spec.specs.Memory.{Endian, load}
 use Rattle.bilv_spec.specs.Bil.{BinaryOp}
 use Rattle.bilv_spec.specs.BilTyping.{result_width}
 use Rattle.bilv_spec.specs.BilCounts.{op_weight}
 use Rattle.bilv_spec.specs.Notes as notes
 use Rattle.bilv_spec.specs.Notes.{Expr, Op, Number, Register, Flag, Pc, Memory, Old, Not, Binary, apply}
-use Rattle.walk_spec.specs.Terms.{TermReading, InRange, TermNode, AreTyped, HasWidth, term_word, width_of, node_at, operate}
+use Rattle.walk_spec.specs.Terms.{TermReading, InRange, TermNode, AreTyped, HasWidth, term_value, term_word, width_of, node_at, operate}
 use Rattle.term_dag.specs.Made.{Grew, InputsFrom}
 
 -- A value is a bit, where an expression has no other values, or a word of 32 bits.
@@ -69,3 +70,15 @@ nodes_of (Old e) = 4 + nodes_of e
 nodes_of (Not e) = 4 + nodes_of e
 nodes_of (Binary o a b) = 7 + nodes_of a + nodes_of b
 nodes_of e = 1
+
+-- a binary operator between two values
+abbrev pub IsApplied : (old new : List TermNode) → Op → (left right t : ℕ) → Type 0
+IsApplied old new o l r t = IsStep old new (operator_gates o) 0 6 IsShown (λ x. apply o (term_word x old l) (term_word x old r)) t
+
+-- whether both of two values count as true, or one of them
+abbrev pub IsConnected : (old new : List TermNode) → (both : Bool) → (left right t : ℕ) → Type 0
+IsConnected old new both l r t = IsStep old new 384 0 6 IsShown (λ x. apply (if both then notes.And else notes.Or) (term_word x old l) (term_word x old r)) t
+
+-- the number of bytes at an address
+abbrev pub IsLoaded : (old new : List TermNode) → (bytes : ℕ) → Endian → (memory address t : ℕ) → Type 0
+IsLoaded old new n e m a t = IsStep old new 0 n 4 (λ w. w ≡ 32) (λ x. load e n (term_value x old m).bytes (term_word x old a)) t

@@ -21,6 +21,7 @@ use term_dag::{Dag, Node, Term};
 use term_names::Names;
 
 /// A state as terms: what it has, and the address at which it is, of 32 bits.
+#[derive(Clone, Copy)]
 pub struct Now<'a> {
     pub names: &'a Names,
     pub pc: Term,

@@ -8,7 +8,7 @@ ghost use Rattle.bilv_spec.specs.Notes.{apply, is_true};
 ghost use Rattle.walk_spec.specs.Terms.{TermReading, BinaryNode, AreTyped, HasWidth, term_word};
 ghost use Rattle.term_dag.specs.Nodes.{node_of, op_of};
 ghost use Rattle.notes_value.specs.Views as views;
-ghost use Rattle.note_terms.specs.Steps.{IsNarrow, IsOnWords, IsOperation, IsShown, IsStep, IsValueAt, IsZero, operator_gates};
+ghost use Rattle.note_terms.specs.Steps.{IsApplied, IsConnected, IsNarrow, IsOnWords, IsOperation, IsShown, IsStep, IsValueAt, IsZero, operator_gates};
 
 use notes_value::Operator;
 use std::alloc::AllocError;
@@ -122,7 +122,7 @@ fn connected(
     requires zero { IsZero dag.old zero.0 }
     requires left { IsValueAt dag.old left.0 }
     requires right { IsValueAt dag.old right.0 }
-    ensures { IfOk result (λ t. IsStep dag.old dag.new 384 0 6 IsShown (λ x. apply (if both then notes.And else notes.Or) (term_word x dag.old left.0) (term_word x dag.old right.0)) t.0) }
+    ensures { IfOk result (λ t. IsConnected dag.old dag.new both left.0 right.0 t.0) }
 {
     let left = truth(dag, zero, left)?;
     let right = truth(dag, zero, right)?;
@@ -192,7 +192,7 @@ fn operated(dag: &mut Dag, op: Operator, left: Term, right: Term) -> Result<Term
     requires typed { AreTyped dag.old }
     requires left { IsValueAt dag.old left.0 }
     requires right { IsValueAt dag.old right.0 }
-    ensures { IfOk result (λ t. IsStep dag.old dag.new (operator_gates (views.op_of op)) 0 6 IsShown (λ x. apply (views.op_of op) (term_word x dag.old left.0) (term_word x dag.old right.0)) t.0) }
+    ensures { IfOk result (λ t. IsApplied dag.old dag.new (views.op_of op) left.0 right.0 t.0) }
 {
     let left = widened(dag, left)?;
     let right = widened(dag, right)?;
@@ -212,7 +212,7 @@ pub fn applied(
     requires zero { IsZero dag.old zero.0 }
     requires left { IsValueAt dag.old left.0 }
     requires right { IsValueAt dag.old right.0 }
-    ensures { IfOk result (λ t. IsStep dag.old dag.new (operator_gates (views.op_of op)) 0 6 IsShown (λ x. apply (views.op_of op) (term_word x dag.old left.0) (term_word x dag.old right.0)) t.0) }
+    ensures { IfOk result (λ t. IsApplied dag.old dag.new (views.op_of op) left.0 right.0 t.0) }
 {
     match op {
         Operator::And => {

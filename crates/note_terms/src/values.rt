@@ -8,7 +8,7 @@ ghost use Rattle.walk_spec.specs.Unrolling.{IsReadable};
 ghost use Rattle.notes_value.specs.Views.{bytes_of, expr_of};
 ghost use Rattle.term_names.specs.Views.{form_of, names_of};
 ghost use Rattle.term_names.specs.Chosen.{HaveSameForm};
-ghost use Rattle.note_terms.specs.Steps.{IsStep, IsValueAt, IsZero};
+ghost use Rattle.note_terms.specs.Steps.{IsLoaded, IsStep, IsValueAt, IsZero};
 ghost use Rattle.note_terms.specs.Lines.{AreStateTerms, IsValue};
 
 use crate::Now;
@@ -58,7 +58,7 @@ fn loaded(
     requires typed { AreTyped dag.old }
     requires memory { HasMemory dag.old memory.0 }
     requires address { IsValueAt dag.old address.0 }
-    ensures { IfOk result (λ t. IsStep dag.old dag.new 0 (bytes_of size) 4 (λ w. w ≡ 32) (λ x. load (endian big) (bytes_of size) (term_value x dag.old memory.0).bytes (term_word x dag.old address.0)) t.0) }
+    ensures { IfOk result (λ t. IsLoaded dag.old dag.new (bytes_of size) (endian big) memory.0 address.0 t.0) }
 {
     let address = widened(dag, address)?;
     let found = dag.mk(Node::Load {
