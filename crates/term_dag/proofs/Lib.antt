@@ -6,6 +6,7 @@ pub mod Copies
 pub mod Sharing
 pub mod Equal
 pub mod WordLaws
+pub mod ShiftLaws
 pub mod Shapes
 pub mod Cubes
 pub mod Joins

@@ -9,10 +9,11 @@ use Rattle.bilv_spec.specs.Bil.{BinaryOp, Plus}
 use Rattle.bilv_spec.specs.BilTyping.{result_width}
 use Rattle.walk_spec.specs.Terms.{TermReading, TermNode, RegisterNode, FlagNode, ChoiceNode, BaseNode, MemoryNode, ConstantNode, BinaryNode, NotNode, SelectNode, ExtractNode, ConcatNode, ExtendNode, LoadNode, StoreNode, JoinNode, word_value, bytes_value, term_value, term_word, width_of, node_at, HasWidth, IsTypedOver, AreTypedFrom, AreTyped, operate, select, extend}
 use Rattle.term_dag.specs.declared.nodes.Term.{Term}
-use Rattle.term_dag.specs.Folds.{IsConstant, IsSum, IsSlice, IsSide, IsLiteral, AreNeighbours}
+use Rattle.term_dag.specs.Folds.{IsConstant, IsNodeWord, IsSum, IsSlice, IsSide, IsLiteral, AreNeighbours}
 use Rattle.term_dag.proofs.ListLaws.{by_node, typed_here, typed_before, place_before, width_by_node, longer, last}
 use Rattle.std.proofs.lemmas.List.{get_or_append_left}
 use Rattle.term_dag.proofs.Ranges.{word_only, word_fits, memory_only, result_few}
+use Rattle.term_dag.proofs.ShiftLaws.{sign_then_sign, zeros_then_sign}
 use Rattle.term_dag.proofs.WordLaws.{add_zero, bits_of_bits, lower_bits, upper_bits, extended_bits, joined_bits}
 
 -- words have at most 64 bits
@@ -237,3 +238,52 @@ neighbours_of ns a b hi middle t below lo u y p q e f g h =
           ∙ ap (λ z. words.concat (width_of (node_at ns b)) (term_word x ns a) z)
           (ap (λ z. words.bits below lo (term_word x ns z)) g ∙ sym (ap (λ z. z.word) (by_node x ns b (ExtractNode below lo u) y q f)));
     }
+
+-- bits of a word that a constant shifts
+pub slice_of_shift : (ns : List TermNode) (o : BinaryOp) (hi lo t w l r k h j : ℕ) → AreTyped ns → t < length ns → BinaryNode o w l r ≡ node_at ns t → IsConstant ns r k → j ≤ h → h < w →
+    h + 1 - j ≡ hi + 1 - lo → ((v : ℕ) → v < 2 ^ w → words.bits hi lo (operate o w v k) ≡ words.bits h j v) → (l < t) × IsSlice ns hi lo t h j l
+slice_of_shift ns o hi lo t w l r k h j y p e c q f g v =
+    let a = typed_here ns t (BinaryNode o w l r) y p e in
+    let b = typed_before ns t (BinaryNode o w l r) y p e in (
+      place_before ns t w l p b.1,
+      record {
+        order = q;
+        width = g;
+        within = a.1.0;
+        fits = omega (arith, a.1.1);
+        value = λ x i.
+            ap (λ z. words.bits hi lo z.word) (by_node x ns t (BinaryNode o w l r) y p e) ∙ ap (λ z. words.bits hi lo (operate o w (term_word x ns l) z)) (c.value x)
+            ∙ v (term_word x ns l) (word_fits x ns w l i y a.1);
+      },
+    )
+
+-- an extension of an extension, which has the value of one extension
+further : (ns : List TermNode) (w n t : ℕ) (s b : Bool) (f m u : ℕ) → AreTyped ns → HasWidth ns n t → w ≤ 64 → n ≤ w → ExtendNode b f m u ≡ node_at ns t →
+    ((v : ℕ) → v < 2 ^ f → 1 ≤ f → f ≤ n → extend b f w v ≡ extend s n w (extend b f n v)) → IsNodeWord ns w (λ x. extend s n w (term_word x ns t)) 0 (ExtendNode b f w u)
+further ns w n t s b f m u h p few q e v =
+    let y = typed_here ns t (ExtendNode b f m u) h p.0 e in
+    let i : m ≡ n = width_by_node ns t n (ExtendNode b f m u) p e in
+    record {
+      typed = (y.0, omega (arith, y.1), few, y.3);
+      width = refl;
+      value = λ x r. ap word_value (
+          v (term_word x ns u) (word_fits x ns f u r h y.3) y.0.0 (omega (arith, y.1))
+          ∙ ap (λ z. extend s n w (extend b f z (term_word x ns u))) (sym i) ∙ ap (extend s n w) (sym (ap (λ z. z.word) (by_node x ns t (ExtendNode b f m u) h p.0 e))));
+      gates = omega arith;
+      loads = refl;
+      stores = refl;
+      joins = refl;
+      derived = λ z. z;
+    }
+
+pub extended_zeros : (ns : List TermNode) (w n t : ℕ) (s b : Bool) (f m u : ℕ) → AreTyped ns → HasWidth ns n t → w ≤ 64 → n ≤ w → ExtendNode b f m u ≡ node_at ns t → s ≡ false → b ≡ false →
+    IsNodeWord ns w (λ x. extend s n w (term_word x ns t)) 0 (ExtendNode b f w u)
+extended_zeros ns w n t s b f m u h p few q e i j = further ns w n t s b f m u h p few q e (λ v l k r. rw (i, j) refl)
+
+pub extended_signs : (ns : List TermNode) (w n t : ℕ) (s b : Bool) (f m u : ℕ) → AreTyped ns → HasWidth ns n t → w ≤ 64 → n ≤ w → ExtendNode b f m u ≡ node_at ns t → s ≡ true → b ≡ true →
+    IsNodeWord ns w (λ x. extend s n w (term_word x ns t)) 0 (ExtendNode b f w u)
+extended_signs ns w n t s b f m u h p few q e i j = further ns w n t s b f m u h p few q e (λ v l k r. rw (i, j) (sign_then_sign f n w v l k r q))
+
+pub signed_zeros : (ns : List TermNode) (w n t : ℕ) (s b : Bool) (f m u : ℕ) → AreTyped ns → HasWidth ns n t → w ≤ 64 → n ≤ w → ExtendNode b f m u ≡ node_at ns t → s ≡ true → b ≡ false → f < n →
+    IsNodeWord ns w (λ x. extend s n w (term_word x ns t)) 0 (ExtendNode b f w u)
+signed_zeros ns w n t s b f m u h p few q e i j g = further ns w n t s b f m u h p few q e (λ v l k r. rw (i, j) (zeros_then_sign f n w v l g))

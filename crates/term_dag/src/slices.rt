@@ -3,11 +3,11 @@
 ghost use Rattle.std.specs.Prelude.{◌≡◌, ◌+◌, ◌-◌, ◌<◌, ◌≤◌, length, IfSome};
 ghost use Rattle.bilv_spec.specs.Words as words;
 ghost use Rattle.walk_spec.specs.Terms.{term_word, extend, node_at, width_of, HasWidth, IsWidth, AreTyped};
-ghost use Rattle.term_dag.specs.Nodes.{nodes_of};
-ghost use Rattle.term_dag.specs.Folds.{AreNeighbours, IsSlice, IsWordFold};
+ghost use Rattle.term_dag.specs.Nodes.{node_of, nodes_of};
+ghost use Rattle.term_dag.specs.Folds.{AreNeighbours, IsNodeWord, IsSlice, IsWordFold};
 
 use crate::folds::{Folded, constant, look, width_of_node};
-use crate::{Node, Term};
+use crate::{Node, Op, Term};
 use bv_word::Word;
 
 /// The bits of a term from `hi` down to `lo`.
@@ -16,6 +16,62 @@ struct Slice {
     hi: u8,
     lo: u8,
     term: Term,
+}
+
+/// Bits that are `amount` places higher, where a word of the width has them all.
+fn higher(hi: u8, lo: u8, width: u8, amount: u64, term: Term) -> Option<Slice>
+    requires order { lo ≤ hi }
+    requires fits { hi < width }
+    ensures term { IfSome result (λ s. s.term ≡ term) }
+    ensures hi { IfSome result (λ s. s.hi ≡ hi + amount) }
+    ensures lo { IfSome result (λ s. s.lo ≡ lo + amount) }
+    ensures within { IfSome result (λ s. s.hi < width) }
+{
+    if amount >= (width - hi) as u64 {
+        return None;
+    }
+    let more = amount as u8;
+    Some(Slice {
+        hi: hi + more,
+        lo: lo + more,
+        term,
+    })
+}
+
+/// The same bits of the word that is shifted, where the term is a shift by a constant that moves them all.
+fn unshifted(nodes: &[Node], hi: u8, lo: u8, term: Term) -> Option<Slice>
+    requires typed { AreTyped (nodes_of nodes.now) }
+    requires within { term.0 < length (nodes_of nodes.now) }
+    requires order { lo ≤ hi }
+    requires fits { hi < width_of (node_at (nodes_of nodes.now) term.0) }
+    ensures before { IfSome result (λ s. s.term.0 < term.0) }
+    ensures slice { IfSome result (λ s. IsSlice (nodes_of nodes.now) hi lo term.0 s.hi s.lo s.term.0) }
+{
+    let Node::Binary {
+        op,
+        width,
+        left,
+        right,
+    } = look(nodes, term)
+    else {
+        return None;
+    };
+    let amount = constant(nodes, right)?;
+    match op {
+        Op::ShiftLeft => {
+            if amount > lo as u64 {
+                return None;
+            }
+            Some(Slice {
+                hi: hi - amount as u8,
+                lo: lo - amount as u8,
+                term: left,
+            })
+        }
+        Op::ShiftRight => higher(hi, lo, width, amount, left),
+        Op::ShiftSigned => higher(hi, lo, width, amount, left),
+        _ => None,
+    }
 }
 
 /// The same bits of an operand, where the term has them from one.
@@ -61,7 +117,7 @@ fn inner(nodes: &[Node], hi: u8, lo: u8, term: Term) -> Option<Slice>
             }
             None
         }
-        _ => None,
+        _ => unshifted(nodes, hi, lo, term),
     }
 }
 
@@ -177,6 +233,45 @@ pub fn concat(nodes: &[Node], high: u8, low: u8, upper: Term, lower: Term) -> Fo
     })
 }
 
+/// An extension of an extension, where one extension does for both: with the sign twice, or with zeros, above which there is no sign.
+fn further(nodes: &[Node], signed: bool, from: u8, to: u8, term: Term) -> Option<Node>
+    requires typed { AreTyped (nodes_of nodes.now) }
+    requires some { IsWidth from }
+    requires more { from ≤ to }
+    requires few { to ≤ 64 }
+    requires place { HasWidth (nodes_of nodes.now) from term.0 }
+    ensures { IfSome result (λ m. IsNodeWord (nodes_of nodes.now) to (λ x. extend signed from to (term_word x (nodes_of nodes.now) term.0)) 0 (node_of m)) }
+{
+    let Node::Extend {
+        signed: before,
+        from: first,
+        term: inner,
+        ..
+    } = look(nodes, term)
+    else {
+        return None;
+    };
+    let whole = Node::Extend {
+        signed: before,
+        from: first,
+        to,
+        term: inner,
+    };
+    if !signed {
+        if before {
+            return None;
+        }
+        return Some(whole);
+    }
+    if before {
+        return Some(whole);
+    }
+    if first < from {
+        return Some(whole);
+    }
+    None
+}
+
 /// A word in more bits.
 pub fn extend(nodes: &[Node], signed: bool, from: u8, to: u8, term: Term) -> Folded
     requires typed { AreTyped (nodes_of nodes.now) }
@@ -190,12 +285,13 @@ pub fn extend(nodes: &[Node], signed: bool, from: u8, to: u8, term: Term) -> Fol
         return Folded::Old(term);
     }
     let Some(bits) = constant(nodes, term) else {
-        return Folded::New(Node::Extend {
+        let kept = Node::Extend {
             signed,
             from,
             to,
             term,
-        });
+        };
+        return Folded::New(further(nodes, signed, from, to, term).unwrap_or(kept));
     };
     let word = Word::new(from, bits);
     let wide = if signed {
