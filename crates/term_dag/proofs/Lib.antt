@@ -7,6 +7,7 @@ pub mod Sharing
 pub mod Equal
 pub mod WordLaws
 pub mod ShiftLaws
+pub mod Comparisons
 pub mod Shapes
 pub mod Cubes
 pub mod Joins

@@ -155,3 +155,11 @@ sign_then_sign n m k v h s l r =
           let c : words.is_negative m (v + (2 ^ m - 2 ^ n)) ≡ true = grind (arith, nat_tests) in
           rw b (rw c (omega arith)))
     ]
+
+-- the last place of a word is one of its numbers
+pub last_place : (w : ℕ) → 1 ≤ w → w - 1 < 2 ^ w
+last_place w s = omega (arith, below_power w)
+  where
+    below_power : (n : ℕ) → n < 2 ^ n
+    below_power zero = omega arith
+    below_power (suc n) = let h = below_power n in let e = half_of (suc n) (omega arith) in omega arith

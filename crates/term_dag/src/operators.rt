@@ -1,6 +1,6 @@
 //! Folds of operators on words.
 
-ghost use Rattle.std.specs.Prelude.{◌≡◌, ℕ, ◌*◌, ◌<◌, ◌≤◌, ◌^◌, ◌==◌, ◌⊎◌, List, length, if◌then◌else◌, IsTrue, IfSome};
+ghost use Rattle.std.specs.Prelude.{◌≡◌, ℕ, ◌*◌, ◌<◌, ◌≤◌, ◌^◌, ◌==◌, ◌⊎◌, List, length, if◌then◌else◌, nat_lt, IsTrue, IfSome};
 ghost use Rattle.bilv_spec.specs.Words as words;
 ghost use Rattle.bilv_spec.specs.Bil as bil;
 ghost use Rattle.bilv_spec.specs.BilTyping.{result_width};
@@ -68,6 +68,9 @@ fn is_neutral(op: Op, width: u8, right: u64) -> bool
         Op::Minus => right == 0,
         Op::Or => right == 0,
         Op::Xor => right == 0,
+        Op::ShiftLeft => right == 0,
+        Op::ShiftRight => right == 0,
+        Op::ShiftSigned => right == 0,
         Op::And => right == ones(width),
         _ => false,
     }
@@ -223,6 +226,107 @@ fn equality(nodes: &[Node], differs: bool, width: u8, left: Term, right: u64) ->
     Some(Folded::Onto(equality_op(differs), width, sum.base, difference))
 }
 
+/// Whether a word is 0, or is not.
+fn zero_test(nodes: &[Node], differs: bool, width: u8, term: Term) -> Folded
+    requires typed { AreTyped (nodes_of nodes.now) }
+    requires some { IsWidth width }
+    requires place { HasWidth (nodes_of nodes.now) width term.0 }
+    ensures { IsWordFold (nodes_of nodes.now) 1 (λ x. words.bit (words.differ differs (term_word x (nodes_of nodes.now) term.0 == 0))) width result }
+{
+    let kept = Folded::Onto(equality_op(differs), width, term, 0);
+    equality(nodes, differs, width, term, 0).unwrap_or(kept)
+}
+
+/// Whether a word is below a constant: nothing is below 0, only 0 is below 1, and a bit with zeros above is below all others.
+fn is_below(nodes: &[Node], width: u8, left: Term, right: u64) -> Option<Folded>
+    requires typed { AreTyped (nodes_of nodes.now) }
+    requires some { IsWidth width }
+    requires left { HasWidth (nodes_of nodes.now) width left.0 }
+    ensures { IfSome result (λ f. IsWordFold (nodes_of nodes.now) 1 (λ x. words.bit (nat_lt (term_word x (nodes_of nodes.now) left.0) right)) width f) }
+{
+    if right == 0 {
+        return Some(truth(false));
+    }
+    if right == 1 {
+        return Some(zero_test(nodes, false, width, left));
+    }
+    let _bit = bit_below(nodes, left)?;
+    Some(truth(true))
+}
+
+/// Whether a word is above a constant.
+fn is_above(nodes: &[Node], width: u8, left: u64, right: Term) -> Option<Folded>
+    requires typed { AreTyped (nodes_of nodes.now) }
+    requires some { IsWidth width }
+    requires right { HasWidth (nodes_of nodes.now) width right.0 }
+    ensures { IfSome result (λ f. IsWordFold (nodes_of nodes.now) 1 (λ x. words.bit (nat_lt left (term_word x (nodes_of nodes.now) right.0))) width f) }
+{
+    if left == 0 {
+        return Some(zero_test(nodes, true, width, right));
+    }
+    if left == ones(width) {
+        return Some(truth(false));
+    }
+    let _bit = bit_below(nodes, right)?;
+    Some(truth(false))
+}
+
+/// A comparison between a constant and a word.
+fn from_constant(nodes: &[Node], op: Op, width: u8, left: u64, right: Term) -> Option<Folded>
+    requires typed { AreTyped (nodes_of nodes.now) }
+    requires some { IsWidth width }
+    requires right { HasWidth (nodes_of nodes.now) width right.0 }
+    ensures { IfSome result (λ f. IsWordFold (nodes_of nodes.now) (result_width (op_of op) width) (λ x. operate (op_of op) width left (term_word x (nodes_of nodes.now) right.0)) (op_weight (op_of op) width) f) }
+{
+    match op {
+        Op::Less => is_above(nodes, width, left, right),
+        Op::LessEqual => {
+            if left == 0 {
+                return Some(truth(true));
+            }
+            is_above(nodes, width, left - 1, right)
+        }
+        _ => None,
+    }
+}
+
+/// A comparison between a word and a constant.
+fn to_constant(nodes: &[Node], op: Op, width: u8, left: Term, right: u64) -> Option<Folded>
+    requires typed { AreTyped (nodes_of nodes.now) }
+    requires some { IsWidth width }
+    requires left { HasWidth (nodes_of nodes.now) width left.0 }
+    requires below { right < 2 ^ width }
+    ensures { IfSome result (λ f. IsWordFold (nodes_of nodes.now) (result_width (op_of op) width) (λ x. operate (op_of op) width (term_word x (nodes_of nodes.now) left.0) right) (op_weight (op_of op) width) f) }
+{
+    match op {
+        Op::Less => is_below(nodes, width, left, right),
+        Op::LessEqual => {
+            if right == ones(width) {
+                return Some(truth(true));
+            }
+            is_below(nodes, width, left, right + 1)
+        }
+        _ => None,
+    }
+}
+
+/// A shift by a constant that is at least the width: no bit is left, but for the sign.
+fn shifted_out(op: Op, width: u8, left: Term, right: u64) -> Option<Folded>
+    requires { IsWidth width }
+    ensures { IfSome result (λ f. (ns : List TermNode) → AreTyped ns → HasWidth ns width left.0 → IsWordFold ns (result_width (op_of op) width) (λ x. operate (op_of op) width (term_word x ns left.0) right) (op_weight (op_of op) width) f) }
+{
+    if right < width as u64 {
+        return None;
+    }
+    let zero = Folded::New(Node::Constant { width, value: 0 });
+    match op {
+        Op::ShiftLeft => Some(zero),
+        Op::ShiftRight => Some(zero),
+        Op::ShiftSigned => Some(Folded::Onto(op, width, left, width as u64 - 1)),
+        _ => None,
+    }
+}
+
 /// An operator between a word and a constant.
 fn with_constant(nodes: &[Node], op: Op, width: u8, left: Term, right: u64) -> Option<Folded>
     requires typed { AreTyped (nodes_of nodes.now) }
@@ -242,7 +346,8 @@ fn with_constant(nodes: &[Node], op: Op, width: u8, left: Term, right: u64) -> O
         }
         Op::Equal => equality(nodes, false, width, left, right),
         Op::NotEqual => equality(nodes, true, width, left, right),
-        _ => None,
+        Op::ShiftLeft | Op::ShiftRight | Op::ShiftSigned => shifted_out(op, width, left, right),
+        _ => to_constant(nodes, op, width, left, right),
     }
 }
 
@@ -309,6 +414,9 @@ fn between(nodes: &[Node], op: Op, width: u8, left: Term, right: Term) -> Option
 {
     if left.0 == right.0 {
         return with_itself(nodes, op, width, left);
+    }
+    if let Some(value) = constant(nodes, left) {
+        return from_constant(nodes, op, width, value, right);
     }
     match op {
         Op::Equal => sums(nodes, false, width, left, right),
