@@ -1,16 +1,16 @@
 -- Conjunctions of two literals, as words.
-use Rattle.std.proofs.Common.{◌≡◌, ℕ, ◌+◌, ◌<◌, ◌≤◌, List, refl, ap, sym, ◌∙◌, arith, bit_and, bit_or}
+use Rattle.std.proofs.Common.{inl, inr, ◌⊎◌, ◌≡◌, ℕ, ◌+◌, ◌<◌, ◌≤◌, List, refl, ap, sym, ◌∙◌, arith, bit_and, bit_or}
 use Rattle.std.specs.Int.Bits.{and_self}
-use Rattle.std.proofs.lemmas.Nat.{and_comm}
-use Rattle.bilv_spec.specs.Bil.{And}
+use Rattle.std.proofs.lemmas.Nat.{and_comm, or_comm}
+use Rattle.bilv_spec.specs.Bil.{And, Or}
 use Rattle.walk_spec.specs.Terms.{TermReading, InRange, TermNode, BinaryNode, term_word, node_at, HasWidth, AreTyped}
 use Rattle.term_dag.specs.declared.conditions.Literal.{Literal}
 use Rattle.term_dag.specs.declared.conditions.Cube.{Cube}
 use Rattle.term_dag.specs.Made.{Separates}
-use Rattle.term_dag.specs.Folds.{IsPair, IsCube, AreBits, cube_value, literal_value}
+use Rattle.term_dag.specs.Folds.{IsLiteral, IsPair, IsCube, AreBits, cube_value, literal_value}
 use Rattle.term_dag.proofs.Ranges.{word_fits}
 use Rattle.term_dag.proofs.Shapes.{binary_sides}
-use Rattle.term_dag.proofs.WordLaws.{and_apart, and_least, and_none, and_one, or_apart, or_greatest, signed_below}
+use Rattle.term_dag.proofs.WordLaws.{and_apart, and_beside, and_with, or_beside, and_least, and_none, and_one, or_apart, or_greatest, signed_below}
 
 -- the conjunction of two bits
 pub cube_from : (ns : List TermNode) (t : ℕ) (c : Cube) → IsPair ns c → ((x : TermReading) → term_word x ns t ≡ bit_and (term_word x ns c.left.0) (term_word x ns c.right.0)) → IsCube ns t c
@@ -108,3 +108,65 @@ module _ (ns : List TermNode) (c m : ℕ) (k j : Cube) (h : AreTyped ns) (s : Is
         let o : second x ≡ 1 = omega (arith, g, s.value x i, t.value x i) in
         s.pair.first.value x i ∙ and_none (second x) (first x) (second_bit x i) (first_bit x i) o (and_comm (second x) (first x) ∙ sym (s.value x i) ∙ z);
   }
+
+-- a bit, and a conjunction
+module _ (ns : List TermNode) (s t : ℕ) (l : Literal) (k : Cube) (h : AreTyped ns) (p : HasWidth ns 1 s) (a : IsLiteral ns s l) (c : IsCube ns t k) where
+  conjoined : (x : TermReading) → InRange x → bit_and (term_word x ns k.left.0) (term_word x ns k.right.0) ≡ term_word x ns t
+  conjoined x i =
+      ap (λ z. bit_and z (term_word x ns k.right.0)) (c.pair.first.value x i) ∙ ap (bit_and (literal_value k.first (term_word x ns))) (c.pair.second.value x i)
+      ∙ sym (c.value x i)
+
+  -- that is without the bit
+  pub without_first : ((v : ℕ → ℕ) → v l.term.0 < 2 → literal_value l v + literal_value k.first v ≡ 1) → (x : TermReading) → InRange x →
+      bit_or (term_word x ns s) (term_word x ns k.right.0) ≡ bit_or (term_word x ns s) (term_word x ns t)
+  without_first f x i =
+      let g = f (term_word x ns) (word_fits x ns 1 l.term.0 i h a.place) in
+      or_beside (term_word x ns s) (term_word x ns k.left.0) (term_word x ns k.right.0) (word_fits x ns 1 s i h p) (word_fits x ns 1 k.right.0 i h c.pair.right)
+      (omega (arith, g, a.value x i, c.pair.first.value x i)) ∙ ap (bit_or (term_word x ns s)) (conjoined x i)
+
+  pub without_second : ((v : ℕ → ℕ) → v l.term.0 < 2 → literal_value l v + literal_value k.second v ≡ 1) → (x : TermReading) → InRange x →
+      bit_or (term_word x ns s) (term_word x ns k.left.0) ≡ bit_or (term_word x ns s) (term_word x ns t)
+  without_second f x i =
+      let g = f (term_word x ns) (word_fits x ns 1 l.term.0 i h a.place) in
+      or_beside (term_word x ns s) (term_word x ns k.right.0) (term_word x ns k.left.0) (word_fits x ns 1 s i h p) (word_fits x ns 1 k.left.0 i h c.pair.left)
+      (omega (arith, g, a.value x i, c.pair.second.value x i)) ∙ ap (bit_or (term_word x ns s)) (and_comm (term_word x ns k.right.0) (term_word x ns k.left.0) ∙ conjoined x i)
+
+-- a bit, and a disjunction
+module _ (ns : List TermNode) (s t v a b : ℕ) (l : Literal) (k : Cube) (h : AreTyped ns) (p : HasWidth ns 1 s) (q : HasWidth ns 1 t) (e : BinaryNode Or v a b ≡ node_at ns t) (c : IsLiteral ns s l) (d : IsPair ns k) (f : k.left.0 ≡ a) (g : k.right.0 ≡ b) where
+  disjoined : (x : TermReading) → bit_or (term_word x ns k.left.0) (term_word x ns k.right.0) ≡ term_word x ns t
+  disjoined x =
+      ap (λ z. bit_or (term_word x ns z) (term_word x ns k.right.0)) f ∙ ap (λ z. bit_or (term_word x ns a) (term_word x ns z)) g ∙ sym ((binary_sides ns 1 t Or v a b h q e refl).2 x)
+
+  -- with the bit
+  pub within_both : ((v : ℕ → ℕ) → (literal_value l v ≡ literal_value k.first v) ⊎ (literal_value l v ≡ literal_value k.second v)) → (x : TermReading) → InRange x →
+      bit_and (term_word x ns s) (term_word x ns s) ≡ bit_and (term_word x ns s) (term_word x ns t)
+  within_both y x i =
+      elim (y (term_word x ns)) [
+        | inl o ↦ (
+            let m : term_word x ns s ≡ term_word x ns k.left.0 = c.value x i ∙ o ∙ sym (d.first.value x i) in
+            and_with (term_word x ns s) (term_word x ns k.right.0) (word_fits x ns 1 s i h p) (word_fits x ns 1 k.right.0 i h d.right)
+            ∙ ap (λ z. bit_and (term_word x ns s) (bit_or z (term_word x ns k.right.0))) m ∙ ap (bit_and (term_word x ns s)) (disjoined x))
+        | inr o ↦ (
+            let m : term_word x ns s ≡ term_word x ns k.right.0 = c.value x i ∙ o ∙ sym (d.second.value x i) in
+            and_with (term_word x ns s) (term_word x ns k.left.0) (word_fits x ns 1 s i h p) (word_fits x ns 1 k.left.0 i h d.left)
+            ∙ ap (λ z. bit_and (term_word x ns s) (bit_or z (term_word x ns k.left.0))) m
+            ∙ ap (bit_and (term_word x ns s)) (or_comm (term_word x ns k.right.0) (term_word x ns k.left.0) ∙ disjoined x))
+      ]
+
+  -- with its negation
+  pub within_second : ((v : ℕ → ℕ) → v l.term.0 < 2 → literal_value l v + literal_value k.first v ≡ 1) → (x : TermReading) → InRange x →
+      bit_and (term_word x ns s) (term_word x ns b) ≡ bit_and (term_word x ns s) (term_word x ns t)
+  within_second y x i =
+      let m = y (term_word x ns) (word_fits x ns 1 l.term.0 i h c.place) in
+      ap (λ z. bit_and (term_word x ns s) (term_word x ns z)) (sym g)
+      ∙ and_beside (term_word x ns s) (term_word x ns k.left.0) (term_word x ns k.right.0) (word_fits x ns 1 s i h p) (word_fits x ns 1 k.right.0 i h d.right)
+      (omega (arith, m, c.value x i, d.first.value x i)) ∙ ap (bit_and (term_word x ns s)) (disjoined x)
+
+  pub within_first : ((v : ℕ → ℕ) → v l.term.0 < 2 → literal_value l v + literal_value k.second v ≡ 1) → (x : TermReading) → InRange x →
+      bit_and (term_word x ns s) (term_word x ns a) ≡ bit_and (term_word x ns s) (term_word x ns t)
+  within_first y x i =
+      let m = y (term_word x ns) (word_fits x ns 1 l.term.0 i h c.place) in
+      ap (λ z. bit_and (term_word x ns s) (term_word x ns z)) (sym f)
+      ∙ and_beside (term_word x ns s) (term_word x ns k.right.0) (term_word x ns k.left.0) (word_fits x ns 1 s i h p) (word_fits x ns 1 k.left.0 i h d.left)
+      (omega (arith, m, c.value x i, d.second.value x i))
+      ∙ ap (bit_and (term_word x ns s)) (or_comm (term_word x ns k.right.0) (term_word x ns k.left.0) ∙ disjoined x)

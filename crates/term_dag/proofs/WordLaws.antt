@@ -279,3 +279,20 @@ and_one p q h k = bits (λ s. bit_and s q ≡ 1 → q ≡ 1) (bits (λ t. bit_an
 
 pub and_none : (p q : ℕ) → p < 2 → q < 2 → p ≡ 1 → bit_and p q ≡ 0 → q ≡ 0
 and_none p q h k e f = sym (bits (λ t. bit_and 1 t ≡ t) refl refl q k) ∙ ap (λ z. bit_and z q) (sym e) ∙ f
+
+-- what a bit says of another beside it
+pub or_beside : (p a b : ℕ) → p < 2 → b < 2 → p + a ≡ 1 → bit_or p b ≡ bit_or p (bit_and a b)
+or_beside p a b h l e =
+    let f : a ≡ 1 - p = omega arith in
+    bits (λ s. bit_or s b ≡ bit_or s (bit_and (1 - s) b)) (bits (λ t. bit_or 0 t ≡ bit_or 0 (bit_and 1 t)) refl refl b l) (bits (λ t. bit_or 1 t ≡ bit_or 1 (bit_and 0 t)) refl refl b l) p h
+    ∙ ap (λ z. bit_or p (bit_and z b)) (sym f)
+
+pub and_beside : (p a b : ℕ) → p < 2 → b < 2 → p + a ≡ 1 → bit_and p b ≡ bit_and p (bit_or a b)
+and_beside p a b h l e =
+    let f : a ≡ 1 - p = omega arith in
+    bits (λ s. bit_and s b ≡ bit_and s (bit_or (1 - s) b)) (bits (λ t. bit_and 0 t ≡ bit_and 0 (bit_or 1 t)) refl refl b l) (bits (λ t. bit_and 1 t ≡ bit_and 1 (bit_or 0 t)) refl refl b l) p h
+    ∙ ap (λ z. bit_and p (bit_or z b)) (sym f)
+
+pub and_with : (p b : ℕ) → p < 2 → b < 2 → bit_and p p ≡ bit_and p (bit_or p b)
+and_with p b h l =
+    bits (λ s. bit_and s s ≡ bit_and s (bit_or s b)) (bits (λ t. 0 ≡ bit_and 0 (bit_or 0 t)) refl refl b l) (bits (λ t. 1 ≡ bit_and 1 (bit_or 1 t)) refl refl b l) p h

@@ -1,13 +1,15 @@
 //! Folds of `and` and `or` between bits, one level deep.
 
 ghost use Rattle.std.specs.Prelude.{◌≡◌, ℕ, ◌+◌, ◌<◌, ◌≤◌, ◌⊎◌, bit_and, bit_or, IsTrue, IfSome};
-ghost use Rattle.walk_spec.specs.Terms.{TermReading, term_word, HasWidth, AreTyped};
-ghost use Rattle.term_dag.specs.Nodes.{nodes_of};
+ghost use Rattle.bilv_spec.specs.BilTyping.{result_width};
+ghost use Rattle.bilv_spec.specs.BilCounts.{op_weight};
+ghost use Rattle.walk_spec.specs.Terms.{TermReading, InRange, operate, term_word, HasWidth, AreTyped};
+ghost use Rattle.term_dag.specs.Nodes.{nodes_of, op_of};
 ghost use Rattle.term_dag.specs.Made.{Separates};
 ghost use Rattle.term_dag.specs.Folds.{AreBits, IsCube, IsLiteral, IsPair, IsWordFold, cube_value, literal_value};
 
 use crate::folds::{Folded, look};
-use crate::operators::truth;
+use crate::operators::{ordered, truth};
 use crate::{Node, Op, Term};
 
 /// A bit, or its negation.
@@ -154,12 +156,120 @@ fn covers(cube: Cube, other: Cube) -> bool
         && is_opposite(cube.first, other.second)
 }
 
+/// A bit that does for another in an `or`: of a conjunction with the negation of the other side, what stands beside that.
+fn without(nodes: &[Node], side: Term, term: Term) -> Term
+    requires typed { AreTyped (nodes_of nodes.now) }
+    requires side { HasWidth (nodes_of nodes.now) 1 side.0 }
+    requires place { HasWidth (nodes_of nodes.now) 1 term.0 }
+    ensures place { HasWidth (nodes_of nodes.now) 1 result.0 }
+    ensures value { (x : TermReading) → InRange x → bit_or (term_word x (nodes_of nodes.now) side.0) (term_word x (nodes_of nodes.now) result.0) ≡ bit_or (term_word x (nodes_of nodes.now) side.0) (term_word x (nodes_of nodes.now) term.0) }
+{
+    let literal = literal_of(nodes, side);
+    let cube = split(nodes, term);
+    if is_opposite(literal, cube.first) {
+        return cube.right;
+    }
+    if is_opposite(literal, cube.second) {
+        return cube.left;
+    }
+    term
+}
+
+/// A bit that does for another in an `and`: of a disjunction with the other side that side, and with its negation what stands beside that.
+fn within(nodes: &[Node], side: Term, term: Term) -> Term
+    requires typed { AreTyped (nodes_of nodes.now) }
+    requires side { HasWidth (nodes_of nodes.now) 1 side.0 }
+    requires place { HasWidth (nodes_of nodes.now) 1 term.0 }
+    ensures place { HasWidth (nodes_of nodes.now) 1 result.0 }
+    ensures value { (x : TermReading) → InRange x → bit_and (term_word x (nodes_of nodes.now) side.0) (term_word x (nodes_of nodes.now) result.0) ≡ bit_and (term_word x (nodes_of nodes.now) side.0) (term_word x (nodes_of nodes.now) term.0) }
+{
+    let Node::Binary {
+        op: Op::Or,
+        left,
+        right,
+        ..
+    } = look(nodes, term)
+    else {
+        return term;
+    };
+    let literal = literal_of(nodes, side);
+    let either = cube_of(nodes, left, right);
+    if has(either, literal) {
+        return side;
+    }
+    if is_opposite(literal, either.first) {
+        return right;
+    }
+    if is_opposite(literal, either.second) {
+        return left;
+    }
+    term
+}
+
+/// An `and` or an `or` of two bits, in their order.
+fn pair(nodes: &[Node], op: Op, left: Term, right: Term) -> Folded
+    requires typed { AreTyped (nodes_of nodes.now) }
+    requires left { HasWidth (nodes_of nodes.now) 1 left.0 }
+    requires right { HasWidth (nodes_of nodes.now) 1 right.0 }
+    ensures { IsWordFold (nodes_of nodes.now) (result_width (op_of op) 1) (λ x. operate (op_of op) 1 (term_word x (nodes_of nodes.now) left.0) (term_word x (nodes_of nodes.now) right.0)) (op_weight (op_of op) 1) result }
+{
+    let (first, second) = ordered(nodes, op, left, right);
+    Folded::New(Node::Binary {
+        op,
+        width: 1,
+        left: first,
+        right: second,
+    })
+}
+
+/// An `and` of two bits, one of which does with less beside the other.
+fn narrowed(nodes: &[Node], left: Term, right: Term) -> Option<Folded>
+    requires typed { AreTyped (nodes_of nodes.now) }
+    requires left { HasWidth (nodes_of nodes.now) 1 left.0 }
+    requires right { HasWidth (nodes_of nodes.now) 1 right.0 }
+    ensures { IfSome result (λ f. IsWordFold (nodes_of nodes.now) 1 (λ x. bit_and (term_word x (nodes_of nodes.now) left.0) (term_word x (nodes_of nodes.now) right.0)) 1 f) }
+{
+    let second = within(nodes, left, right);
+    if second.0 == left.0 {
+        return Some(Folded::Old(left));
+    }
+    if second.0 != right.0 {
+        return Some(pair(nodes, Op::And, left, second));
+    }
+    let first = within(nodes, right, left);
+    if first.0 == right.0 {
+        return Some(Folded::Old(right));
+    }
+    if first.0 != left.0 {
+        return Some(pair(nodes, Op::And, first, right));
+    }
+    None
+}
+
+/// An `or` of two bits, one of which does with less beside the other.
+fn widened(nodes: &[Node], left: Term, right: Term) -> Option<Folded>
+    requires typed { AreTyped (nodes_of nodes.now) }
+    requires left { HasWidth (nodes_of nodes.now) 1 left.0 }
+    requires right { HasWidth (nodes_of nodes.now) 1 right.0 }
+    ensures { IfSome result (λ f. IsWordFold (nodes_of nodes.now) 1 (λ x. bit_or (term_word x (nodes_of nodes.now) left.0) (term_word x (nodes_of nodes.now) right.0)) 1 f) }
+{
+    let second = without(nodes, left, right);
+    if second.0 != right.0 {
+        return Some(pair(nodes, Op::Or, left, second));
+    }
+    let first = without(nodes, right, left);
+    if first.0 != left.0 {
+        return Some(pair(nodes, Op::Or, first, right));
+    }
+    None
+}
+
 /// An `and` of two bits.
 pub fn conjunction(nodes: &[Node], left: Term, right: Term) -> Option<Folded>
     requires typed { AreTyped (nodes_of nodes.now) }
     requires left { HasWidth (nodes_of nodes.now) 1 left.0 }
     requires right { HasWidth (nodes_of nodes.now) 1 right.0 }
-    ensures { IfSome result (λ f. IsWordFold (nodes_of nodes.now) 1 (λ x. bit_and (term_word x (nodes_of nodes.now) left.0) (term_word x (nodes_of nodes.now) right.0)) 0 f) }
+    ensures { IfSome result (λ f. IsWordFold (nodes_of nodes.now) 1 (λ x. bit_and (term_word x (nodes_of nodes.now) left.0) (term_word x (nodes_of nodes.now) right.0)) 1 f) }
 {
     let a = split(nodes, left);
     let b = split(nodes, right);
@@ -172,7 +282,7 @@ pub fn conjunction(nodes: &[Node], left: Term, right: Term) -> Option<Folded>
     if implies(b, a) {
         return Some(Folded::Old(right));
     }
-    None
+    narrowed(nodes, left, right)
 }
 
 /// An `or` of two bits.
@@ -180,7 +290,7 @@ pub fn disjunction(nodes: &[Node], left: Term, right: Term) -> Option<Folded>
     requires typed { AreTyped (nodes_of nodes.now) }
     requires left { HasWidth (nodes_of nodes.now) 1 left.0 }
     requires right { HasWidth (nodes_of nodes.now) 1 right.0 }
-    ensures { IfSome result (λ f. IsWordFold (nodes_of nodes.now) 1 (λ x. bit_or (term_word x (nodes_of nodes.now) left.0) (term_word x (nodes_of nodes.now) right.0)) 0 f) }
+    ensures { IfSome result (λ f. IsWordFold (nodes_of nodes.now) 1 (λ x. bit_or (term_word x (nodes_of nodes.now) left.0) (term_word x (nodes_of nodes.now) right.0)) 1 f) }
 {
     let a = split(nodes, left);
     let b = split(nodes, right);
@@ -199,7 +309,7 @@ pub fn disjunction(nodes: &[Node], left: Term, right: Term) -> Option<Folded>
     if shares_second(a, b) {
         return Some(Folded::Old(a.right));
     }
-    None
+    widened(nodes, left, right)
 }
 
 /// A bit that is 1 where the condition is, and 0 where the condition is not and `met` is. Of a conjunction of two bits that is the one of them that `met` has

@@ -36,7 +36,7 @@ fn is_symmetric(op: Op) -> bool
 }
 
 /// The operands of a symmetric operator in their order: a constant last, else the later term last.
-fn ordered(nodes: &[Node], op: Op, left: Term, right: Term) -> (Term, Term)
+pub fn ordered(nodes: &[Node], op: Op, left: Term, right: Term) -> (Term, Term)
     requires typed { AreTyped (nodes_of nodes.now) }
     requires left { left.0 < length (nodes_of nodes.now) }
     requires right { right.0 < length (nodes_of nodes.now) }

@@ -6,7 +6,7 @@ use Rattle.term_dag.proofs.conditions.conjunction.Goals as goal
 
 pub returns-then-excludes : goal.returns-then-excludes
 returns-then-excludes c =
-    same_fold _ 1 _ _ 0 0 _ (λ x i. excluded _ _ _ _ _ x i c.requires.typed c.requires.left c.requires.right c.split-a.ensures c.split-b.ensures (c.if-excludes.ensures refl)) (omega arith) (c.truth.ensures _)
+    same_fold _ 1 _ _ 0 1 _ (λ x i. excluded _ _ _ _ _ x i c.requires.typed c.requires.left c.requires.right c.split-a.ensures c.split-b.ensures (c.if-excludes.ensures refl)) (omega arith) (c.truth.ensures _)
 
 pub returns-then-implies : goal.returns-then-implies
 returns-then-implies c = record {

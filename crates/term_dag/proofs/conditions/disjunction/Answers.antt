@@ -20,7 +20,7 @@ returns-then-implies-2 c = record {
 
 pub returns-then-covers : goal.returns-then-covers
 returns-then-covers c =
-    same_fold _ 1 _ _ 0 0 _ (λ x i. covered _ _ _ _ _ x i c.requires.typed c.requires.left c.requires.right c.split-a.ensures c.split-b.ensures (c.if-covers.ensures refl)) (omega arith) (c.truth.ensures _)
+    same_fold _ 1 _ _ 0 1 _ (λ x i. covered _ _ _ _ _ x i c.requires.typed c.requires.left c.requires.right c.split-a.ensures c.split-b.ensures (c.if-covers.ensures refl)) (omega arith) (c.truth.ensures _)
 
 pub returns-then-shares_first : goal.returns-then-shares_first
 returns-then-shares_first c =
