@@ -1,5 +1,5 @@
 -- What a term is, by the shape of its node.
-use Rattle.std.proofs.Common.{◌≡◌, ℕ, ◌+◌, ◌-◌, ◌^◌, ◌<◌, ◌≤◌, Bool, true, false, List, [], ◌∷◌, ◌++◌, length, take, refl, ap, sym, ◌∙◌, subst, arith, append_assoc, append-nil, inl, inr}
+use Rattle.std.proofs.Common.{◌≡◌, ℕ, ◌+◌, ◌-◌, ◌^◌, ◌<◌, ◌≤◌, Bool, true, false, List, [], ◌∷◌, ◌++◌, length, refl, ap, sym, ◌∙◌, subst, arith, append_assoc, append-nil, inl, inr}
 use Rattle.std.specs.Prelude.{if◌then◌else◌}
 use Rattle.std.proofs.lemmas.Bool.{cases_lt}
 use Rattle.std.proofs.lemmas.Nat.{pow_pos}
@@ -10,7 +10,7 @@ use Rattle.bilv_spec.specs.BilTyping.{result_width}
 use Rattle.walk_spec.specs.Terms.{TermReading, TermNode, RegisterNode, FlagNode, ChoiceNode, BaseNode, MemoryNode, ConstantNode, BinaryNode, NotNode, SelectNode, ExtractNode, ConcatNode, ExtendNode, LoadNode, StoreNode, JoinNode, word_value, bytes_value, term_value, term_word, width_of, node_at, HasWidth, IsTypedOver, AreTypedFrom, AreTyped, operate, select, extend}
 use Rattle.term_dag.specs.declared.nodes.Term.{Term}
 use Rattle.term_dag.specs.Folds.{IsConstant, IsNodeWord, IsSum, IsSlice, IsSide, IsLiteral, AreNeighbours}
-use Rattle.term_dag.proofs.ListLaws.{by_node, typed_here, typed_before, place_before, width_by_node, longer, last}
+use Rattle.term_dag.proofs.ListLaws.{by_node, typed_here, width_by_node, longer, last}
 use Rattle.std.proofs.lemmas.List.{get_or_append_left}
 use Rattle.term_dag.proofs.Ranges.{word_only, word_fits, memory_only, result_few}
 use Rattle.term_dag.proofs.ShiftLaws.{sign_then_sign, zeros_then_sign}
@@ -147,71 +147,59 @@ own_side ns w c t holds p = record { place = p; value = λ x i q. refl }
 
 -- bits of bits
 pub slice_of_extract : (ns : List TermNode) (hi lo t h l u : ℕ) → AreTyped ns → t < length ns → lo ≤ hi → hi < width_of (node_at ns t) → ExtractNode h l u ≡ node_at ns t →
-    (u < t) × IsSlice ns hi lo t (hi + l) (lo + l) u
+    IsSlice ns hi lo t (hi + l) (lo + l) u
 slice_of_extract ns hi lo t h l u y p q f e =
     let k = typed_here ns t (ExtractNode h l u) y p e in
-    let z = typed_before ns t (ExtractNode h l u) y p e in
-    let g : hi < h + 1 - l = subst (λ (n : TermNode). hi < width_of n) (sym e) f in (
-      place_before ns t (width_of (node_at (take t ns) u)) u p (z.2, refl),
-      record {
-        order = omega arith;
-        width = omega arith;
-        within = k.2;
-        fits = omega (arith, k.1);
-        value = λ x i. ap (λ v. words.bits hi lo v.word) (by_node x ns t (ExtractNode h l u) y p e) ∙ bits_of_bits hi lo h l (term_word x ns u) q (omega arith);
-      },
-    )
+    let g : hi < h + 1 - l = subst (λ (n : TermNode). hi < width_of n) (sym e) f in
+    record {
+      order = omega arith;
+      width = omega arith;
+      within = k.2;
+      fits = omega (arith, k.1);
+      value = λ x i. ap (λ v. words.bits hi lo v.word) (by_node x ns t (ExtractNode h l u) y p e) ∙ bits_of_bits hi lo h l (term_word x ns u) q (omega arith);
+    }
 
 -- bits of the lower side
 pub slice_of_lower : (ns : List TermNode) (hi lo t high low a b : ℕ) → AreTyped ns → t < length ns → lo ≤ hi → hi < low → ConcatNode high low a b ≡ node_at ns t →
-    (b < t) × IsSlice ns hi lo t hi lo b
+    IsSlice ns hi lo t hi lo b
 slice_of_lower ns hi lo t high low a b y p q f e =
     let k = typed_here ns t (ConcatNode high low a b) y p e in
-    let z = typed_before ns t (ConcatNode high low a b) y p e in (
-      place_before ns t low b p z.4,
-      record {
-        order = q;
-        width = refl;
-        within = k.4.0;
-        fits = omega (arith, k.4.1);
-        value = λ x i. ap (λ v. words.bits hi lo v.word) (by_node x ns t (ConcatNode high low a b) y p e) ∙ lower_bits hi lo low (term_word x ns a) (term_word x ns b) q f;
-      },
-    )
+    record {
+      order = q;
+      width = refl;
+      within = k.4.0;
+      fits = omega (arith, k.4.1);
+      value = λ x i. ap (λ v. words.bits hi lo v.word) (by_node x ns t (ConcatNode high low a b) y p e) ∙ lower_bits hi lo low (term_word x ns a) (term_word x ns b) q f;
+    }
 
 -- bits of the upper side
 pub slice_of_upper : (ns : List TermNode) (hi lo t high low a b : ℕ) → AreTyped ns → t < length ns → lo ≤ hi → hi < width_of (node_at ns t) → low ≤ lo → ConcatNode high low a b ≡ node_at ns t →
-    (a < t) × IsSlice ns hi lo t (hi - low) (lo - low) a
+    IsSlice ns hi lo t (hi - low) (lo - low) a
 slice_of_upper ns hi lo t high low a b y p q f g e =
     let k = typed_here ns t (ConcatNode high low a b) y p e in
-    let z = typed_before ns t (ConcatNode high low a b) y p e in
-    let j : hi < high + low = subst (λ (n : TermNode). hi < width_of n) (sym e) f in (
-      place_before ns t high a p z.3,
-      record {
-        order = omega arith;
-        width = omega arith;
-        within = k.3.0;
-        fits = omega (arith, k.3.1);
-        value = λ x i.
-            ap (λ v. words.bits hi lo v.word) (by_node x ns t (ConcatNode high low a b) y p e)
-            ∙ upper_bits hi lo low (term_word x ns a) (term_word x ns b) q g (word_fits x ns low b i y k.4);
-      },
-    )
+    let j : hi < high + low = subst (λ (n : TermNode). hi < width_of n) (sym e) f in
+    record {
+      order = omega arith;
+      width = omega arith;
+      within = k.3.0;
+      fits = omega (arith, k.3.1);
+      value = λ x i.
+          ap (λ v. words.bits hi lo v.word) (by_node x ns t (ConcatNode high low a b) y p e)
+          ∙ upper_bits hi lo low (term_word x ns a) (term_word x ns b) q g (word_fits x ns low b i y k.4);
+    }
 
 -- bits below an extension
 pub slice_of_extend : (ns : List TermNode) (hi lo t : ℕ) (s : Bool) (n m u : ℕ) → AreTyped ns → t < length ns → lo ≤ hi → hi < n → ExtendNode s n m u ≡ node_at ns t →
-    (u < t) × IsSlice ns hi lo t hi lo u
+    IsSlice ns hi lo t hi lo u
 slice_of_extend ns hi lo t s n m u y p q f e =
     let k = typed_here ns t (ExtendNode s n m u) y p e in
-    let z = typed_before ns t (ExtendNode s n m u) y p e in (
-      place_before ns t n u p z.3,
-      record {
-        order = q;
-        width = refl;
-        within = k.3.0;
-        fits = omega (arith, k.3.1);
-        value = λ x i. ap (λ v. words.bits hi lo v.word) (by_node x ns t (ExtendNode s n m u) y p e) ∙ extended_bits s hi lo n m (term_word x ns u) q f k.1;
-      },
-    )
+    record {
+      order = q;
+      width = refl;
+      within = k.3.0;
+      fits = omega (arith, k.3.1);
+      value = λ x i. ap (λ v. words.bits hi lo v.word) (by_node x ns t (ExtendNode s n m u) y p e) ∙ extended_bits s hi lo n m (term_word x ns u) q f k.1;
+    }
 
 pub own_slice : (ns : List TermNode) (hi lo t : ℕ) → t < length ns → lo ≤ hi → hi < width_of (node_at ns t) → IsSlice ns hi lo t hi lo t
 own_slice ns hi lo t p q f = record { order = q; width = refl; within = p; fits = f; value = λ x i. refl }
@@ -241,21 +229,18 @@ neighbours_of ns a b hi middle t below lo u y p q e f g h =
 
 -- bits of a word that a constant shifts
 pub slice_of_shift : (ns : List TermNode) (o : BinaryOp) (hi lo t w l r k h j : ℕ) → AreTyped ns → t < length ns → BinaryNode o w l r ≡ node_at ns t → IsConstant ns r k → j ≤ h → h < w →
-    h + 1 - j ≡ hi + 1 - lo → ((v : ℕ) → v < 2 ^ w → words.bits hi lo (operate o w v k) ≡ words.bits h j v) → (l < t) × IsSlice ns hi lo t h j l
+    h + 1 - j ≡ hi + 1 - lo → ((v : ℕ) → v < 2 ^ w → words.bits hi lo (operate o w v k) ≡ words.bits h j v) → IsSlice ns hi lo t h j l
 slice_of_shift ns o hi lo t w l r k h j y p e c q f g v =
     let a = typed_here ns t (BinaryNode o w l r) y p e in
-    let b = typed_before ns t (BinaryNode o w l r) y p e in (
-      place_before ns t w l p b.1,
-      record {
-        order = q;
-        width = g;
-        within = a.1.0;
-        fits = omega (arith, a.1.1);
-        value = λ x i.
-            ap (λ z. words.bits hi lo z.word) (by_node x ns t (BinaryNode o w l r) y p e) ∙ ap (λ z. words.bits hi lo (operate o w (term_word x ns l) z)) (c.value x)
-            ∙ v (term_word x ns l) (word_fits x ns w l i y a.1);
-      },
-    )
+    record {
+      order = q;
+      width = g;
+      within = a.1.0;
+      fits = omega (arith, a.1.1);
+      value = λ x i.
+          ap (λ z. words.bits hi lo z.word) (by_node x ns t (BinaryNode o w l r) y p e) ∙ ap (λ z. words.bits hi lo (operate o w (term_word x ns l) z)) (c.value x)
+          ∙ v (term_word x ns l) (word_fits x ns w l i y a.1);
+    }
 
 -- an extension of an extension, which has the value of one extension
 further : (ns : List TermNode) (w n t : ℕ) (s b : Bool) (f m u : ℕ) → AreTyped ns → HasWidth ns n t → w ≤ 64 → n ≤ w → ExtendNode b f m u ≡ node_at ns t →

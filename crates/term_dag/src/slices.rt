@@ -10,6 +10,9 @@ use crate::folds::{Folded, constant, look, width_of_node};
 use crate::{Node, Op, Term};
 use bv_word::Word;
 
+/// How many operands deep bits are looked for.
+const DEEPEST: u32 = 64;
+
 /// The bits of a term from `hi` down to `lo`.
 #[derive(Clone, Copy)]
 struct Slice {
@@ -44,8 +47,7 @@ fn unshifted(nodes: &[Node], hi: u8, lo: u8, term: Term) -> Option<Slice>
     requires within { term.0 < length (nodes_of nodes.now) }
     requires order { lo ≤ hi }
     requires fits { hi < width_of (node_at (nodes_of nodes.now) term.0) }
-    ensures before { IfSome result (λ s. s.term.0 < term.0) }
-    ensures slice { IfSome result (λ s. IsSlice (nodes_of nodes.now) hi lo term.0 s.hi s.lo s.term.0) }
+    ensures { IfSome result (λ s. IsSlice (nodes_of nodes.now) hi lo term.0 s.hi s.lo s.term.0) }
 {
     let Node::Binary {
         op,
@@ -80,8 +82,7 @@ fn inner(nodes: &[Node], hi: u8, lo: u8, term: Term) -> Option<Slice>
     requires within { term.0 < length (nodes_of nodes.now) }
     requires order { lo ≤ hi }
     requires fits { hi < width_of (node_at (nodes_of nodes.now) term.0) }
-    ensures before { IfSome result (λ s. s.term.0 < term.0) }
-    ensures slice { IfSome result (λ s. IsSlice (nodes_of nodes.now) hi lo term.0 s.hi s.lo s.term.0) }
+    ensures { IfSome result (λ s. IsSlice (nodes_of nodes.now) hi lo term.0 s.hi s.lo s.term.0) }
 {
     match look(nodes, term) {
         Node::Extract { lo: from, term, .. } => Some(Slice {
@@ -121,7 +122,25 @@ fn inner(nodes: &[Node], hi: u8, lo: u8, term: Term) -> Option<Slice>
     }
 }
 
-/// Bits of a term that has them from no operand alone.
+/// The same bits of an operand, of its operand, and so on, but no deeper than `DEEPEST`, so that the time of a call is bounded.
+fn innermost(nodes: &[Node], hi: u8, lo: u8, term: Term) -> Slice
+    requires typed { AreTyped (nodes_of nodes.now) }
+    requires within { term.0 < length (nodes_of nodes.now) }
+    requires order { lo ≤ hi }
+    requires fits { hi < width_of (node_at (nodes_of nodes.now) term.0) }
+    ensures { IsSlice (nodes_of nodes.now) hi lo term.0 result.hi result.lo result.term.0 }
+{
+    let mut slice = Slice { hi, lo, term };
+    for _step in 0..DEEPEST {
+        let Some(next) = inner(nodes, slice.hi, slice.lo, slice.term) else {
+            return slice;
+        };
+        slice = next;
+    }
+    slice
+}
+
+/// Bits of a term, where no operand is looked at for them.
 fn outer(nodes: &[Node], hi: u8, lo: u8, term: Term) -> Folded
     requires typed { AreTyped (nodes_of nodes.now) }
     requires within { term.0 < length (nodes_of nodes.now) }
@@ -163,10 +182,7 @@ pub fn extract(nodes: &[Node], hi: u8, lo: u8, term: Term) -> Folded
     requires fits { hi < width_of (node_at (nodes_of nodes.now) term.0) }
     ensures { IsWordFold (nodes_of nodes.now) (hi + 1 - lo) (λ x. words.bits hi lo (term_word x (nodes_of nodes.now) term.0)) 0 result }
 {
-    let mut slice = Slice { hi, lo, term };
-    while let Some(next) = inner(nodes, slice.hi, slice.lo, slice.term) {
-        slice = next;
-    }
+    let slice = innermost(nodes, hi, lo, term);
     outer(nodes, slice.hi, slice.lo, slice.term)
 }
 

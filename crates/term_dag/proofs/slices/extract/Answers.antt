@@ -3,20 +3,13 @@ use Rattle.bilv_spec.specs.Words as words
 use Rattle.walk_spec.specs.Terms.{term_word}
 use Rattle.term_dag.specs.Nodes.{nodes_of}
 use Rattle.term_dag.specs.Folds.{IsWordFold}
-use Rattle.term_dag.proofs.Shapes.{own_slice, slice_of_slice}
 use Rattle.term_dag.proofs.WordFolds.{same_fold}
 use Rattle.term_dag.proofs.slices.extract.Goals as goal
 
-pub loop-next-init : goal.loop-next-init
-loop-next-init c = own_slice _ _ _ _ c.requires.within c.requires.order c.requires.fits
-
-pub loop-next-preserved : goal.loop-next-preserved
-loop-next-preserved c = slice_of_slice _ _ _ _ _ _ _ _ _ _ c.loop-next.invariant c.in-Some.ensures.slice
-
 pub returns : goal.returns
 returns c =
-    let v = c.loop-next.invariant in
+    let v = c.innermost-slice.ensures in
     let ns = nodes_of c.args.nodes.now in
-    let s = c.loop-next.slice in
+    let s = c.innermost-slice.result in
     same_fold ns (c.args.hi + 1 - c.args.lo) (λ x. words.bits s.hi s.lo (term_word x ns s.term.0)) _ 0 0 _ (λ x i. sym (v.value x i)) (omega arith)
     (subst (λ (w : ℕ). IsWordFold ns w (λ x. words.bits s.hi s.lo (term_word x ns s.term.0)) 0 c.outer.result) v.width c.outer.ensures)
