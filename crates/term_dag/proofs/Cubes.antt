@@ -2,15 +2,16 @@
 use Rattle.std.proofs.Common.{inl, inr, ◌⊎◌, ◌≡◌, ℕ, ◌+◌, ◌<◌, ◌≤◌, List, refl, ap, sym, ◌∙◌, arith, bit_and, bit_or}
 use Rattle.std.specs.Int.Bits.{and_self}
 use Rattle.std.proofs.lemmas.Nat.{and_comm, or_comm}
+use Rattle.bilv_spec.specs.Words as words
 use Rattle.bilv_spec.specs.Bil.{And, Or}
-use Rattle.walk_spec.specs.Terms.{TermReading, InRange, TermNode, BinaryNode, term_word, node_at, HasWidth, AreTyped}
+use Rattle.walk_spec.specs.Terms.{TermReading, InRange, TermNode, BinaryNode, NotNode, term_word, node_at, HasWidth, AreTyped}
 use Rattle.term_dag.specs.declared.conditions.Literal.{Literal}
 use Rattle.term_dag.specs.declared.conditions.Cube.{Cube}
 use Rattle.term_dag.specs.Made.{Separates}
 use Rattle.term_dag.specs.Folds.{IsLiteral, IsPair, IsCube, AreBits, cube_value, literal_value}
 use Rattle.term_dag.proofs.Ranges.{word_fits}
-use Rattle.term_dag.proofs.Shapes.{binary_sides}
-use Rattle.term_dag.proofs.WordLaws.{and_apart, and_beside, and_with, or_beside, and_least, and_none, and_one, or_apart, or_greatest, signed_below}
+use Rattle.term_dag.proofs.Shapes.{binary_sides, not_side}
+use Rattle.term_dag.proofs.WordLaws.{and_apart, and_beside, and_denied, and_with, or_beside, and_least, and_none, and_one, or_apart, or_greatest, signed_below}
 
 -- the conjunction of two bits
 pub cube_from : (ns : List TermNode) (t : ℕ) (c : Cube) → IsPair ns c → ((x : TermReading) → term_word x ns t ≡ bit_and (term_word x ns c.left.0) (term_word x ns c.right.0)) → IsCube ns t c
@@ -130,6 +131,26 @@ module _ (ns : List TermNode) (s t : ℕ) (l : Literal) (k : Cube) (h : AreTyped
       let g = f (term_word x ns) (word_fits x ns 1 l.term.0 i h a.place) in
       or_beside (term_word x ns s) (term_word x ns k.right.0) (term_word x ns k.left.0) (word_fits x ns 1 s i h p) (word_fits x ns 1 k.left.0 i h c.pair.left)
       (omega (arith, g, a.value x i, c.pair.second.value x i)) ∙ ap (bit_or (term_word x ns s)) (and_comm (term_word x ns k.right.0) (term_word x ns k.left.0) ∙ conjoined x i)
+
+  -- and that is negated
+  denied_by : (x : TermReading) (u v : ℕ) → HasWidth ns 1 u → NotNode v t ≡ node_at ns u → bit_and (term_word x ns s) (words.complement 1 (term_word x ns t)) ≡ bit_and (term_word x ns s) (term_word x ns u)
+  denied_by x u v w e = ap (bit_and (term_word x ns s)) (sym ((not_side ns 1 u v t h w e).1 x))
+
+  pub denied_first : (u v : ℕ) → HasWidth ns 1 u → NotNode v t ≡ node_at ns u → ((v : ℕ → ℕ) → literal_value l v ≡ literal_value k.first v) → (x : TermReading) → InRange x →
+      bit_and (term_word x ns s) (words.complement 1 (term_word x ns k.right.0)) ≡ bit_and (term_word x ns s) (term_word x ns u)
+  denied_first u v w e f x i =
+      let m : term_word x ns s ≡ term_word x ns k.left.0 = a.value x i ∙ f (term_word x ns) ∙ sym (c.pair.first.value x i) in
+      and_denied (term_word x ns s) (term_word x ns k.right.0) (word_fits x ns 1 s i h p) (word_fits x ns 1 k.right.0 i h c.pair.right)
+      ∙ ap (λ z. bit_and (term_word x ns s) (words.complement 1 (bit_and z (term_word x ns k.right.0)))) m
+      ∙ ap (λ z. bit_and (term_word x ns s) (words.complement 1 z)) (conjoined x i) ∙ denied_by x u v w e
+
+  pub denied_second : (u v : ℕ) → HasWidth ns 1 u → NotNode v t ≡ node_at ns u → ((v : ℕ → ℕ) → literal_value l v ≡ literal_value k.second v) → (x : TermReading) → InRange x →
+      bit_and (term_word x ns s) (words.complement 1 (term_word x ns k.left.0)) ≡ bit_and (term_word x ns s) (term_word x ns u)
+  denied_second u v w e f x i =
+      let m : term_word x ns s ≡ term_word x ns k.right.0 = a.value x i ∙ f (term_word x ns) ∙ sym (c.pair.second.value x i) in
+      and_denied (term_word x ns s) (term_word x ns k.left.0) (word_fits x ns 1 s i h p) (word_fits x ns 1 k.left.0 i h c.pair.left)
+      ∙ ap (λ z. bit_and (term_word x ns s) (words.complement 1 (bit_and z (term_word x ns k.left.0)))) m
+      ∙ ap (λ z. bit_and (term_word x ns s) (words.complement 1 z)) (and_comm (term_word x ns k.right.0) (term_word x ns k.left.0) ∙ conjoined x i) ∙ denied_by x u v w e
 
 -- a bit, and a disjunction
 module _ (ns : List TermNode) (s t v a b : ℕ) (l : Literal) (k : Cube) (h : AreTyped ns) (p : HasWidth ns 1 s) (q : HasWidth ns 1 t) (e : BinaryNode Or v a b ≡ node_at ns t) (c : IsLiteral ns s l) (d : IsPair ns k) (f : k.left.0 ≡ a) (g : k.right.0 ≡ b) where

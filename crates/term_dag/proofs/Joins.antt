@@ -9,7 +9,7 @@ use Rattle.bilv_spec.specs.Words as words
 use Rattle.bilv_spec.specs.Memory.{Memory, Endian, Little, Big, endian, little, big, number, load, store, byte_of}
 use Rattle.walk_spec.specs.Terms.{TermReading, InRange, TermNode, LoadNode, StoreNode, JoinNode, word_value, bytes_value, term_value, term_word, node_at, HasWidth, AreTyped}
 use Rattle.term_dag.specs.declared.folds.Folded.{Folded}
-use Rattle.term_dag.specs.declared.folds.Folded.TheVariants.{Old, New, Onto}
+use Rattle.term_dag.specs.declared.folds.Folded.TheVariants.{Old, New, Onto, Unless}
 use Rattle.term_dag.specs.Nodes.{IsInput}
 use Rattle.term_dag.specs.Folds.{IsTermFor, IsNodeFor, IsFold, IsSide, IsConstant, value_over}
 use Rattle.term_dag.proofs.ListLaws.{by_node, typed_here}
@@ -59,6 +59,7 @@ module _ (ns : List TermNode) (c a b : ℕ) (h : AreTyped ns) (p : HasWidth ns 1
       turned (Old t) k = record { within = k.within; width = k.width; value = λ x i. k.value x i ∙ same x i }
       turned (New m) k = record { typed = k.typed; width = k.width; value = λ x i. k.value x i ∙ same x i; gates = k.gates; loads = k.loads; stores = k.stores; joins = k.joins; named = λ e. absurd (subst IsInput (k.named e) e) }
       turned (Onto o n t d) k = record { some = k.some; first = k.first; second = k.second; width = k.width; value = λ x i. k.value x i ∙ same x i; gates = k.gates }
+      turned (Unless d t) k = record { first = k.first; second = k.second; width = k.width; value = λ x i. k.value x i ∙ same x i; gates = k.gates }
 
 pub power : (n : ℕ) → 256 ^ n ≡ 2 ^ (8 * n)
 power zero = refl

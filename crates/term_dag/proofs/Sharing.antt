@@ -1,13 +1,16 @@
 -- A list of nodes in which a node has been looked up or added.
-use Rattle.std.proofs.Common.{inl, inr, ◌⊎◌, ◌≡◌, ℕ, zero, suc, ◌<◌, List, [], ◌∷◌, ◌++◌, length, slice_get, Some, Bool, true, false, refl, ap, sym, ◌∙◌, subst, arith, true≢false, append-nil}
+use Rattle.std.proofs.Common.{inl, inr, ◌⊎◌, ◌≡◌, ℕ, zero, suc, ◌<◌, List, [], ◌∷◌, ◌++◌, length, slice_get, Some, Bool, true, false, refl, ap, sym, ◌∙◌, subst, arith, true≢false, append-nil, bit_and}
 use Rattle.std.specs.Prelude.{if◌then◌else◌}
 use Rattle.std.specs.List.{Contains, IsDistinct, AllByRecursion}
 use Rattle.std.proofs.lemmas.List.Elements.{Contains-push_cases}
 use Rattle.std.proofs.lemmas.List.Sums.{sum_by-append}
-use Rattle.walk_spec.specs.Terms.{TermReading, TermNode, ConstantNode, BinaryNode, node_value, values_from, term_value, width_of, node_at, HasWidth, IsTypedOver, AreTyped, value_at, own_gates, own_loads, own_stores, own_joins}
+use Rattle.std.proofs.lemmas.Nat.{and_comm}
+use Rattle.bilv_spec.specs.Bil.{And}
+use Rattle.walk_spec.specs.Terms.{TermReading, TermNode, ConstantNode, BinaryNode, NotNode, word_value, term_word, node_value, values_from, term_value, width_of, node_at, HasWidth, IsTypedOver, AreTyped, value_at, own_gates, own_loads, own_stores, own_joins}
 use Rattle.term_dag.specs.declared.nodes.Node.{Node}
+use Rattle.term_dag.specs.declared.nodes.Term.{Term}
 use Rattle.term_dag.specs.declared.nodes.Op.{Op}
-use Rattle.term_dag.specs.declared.folds.Folded.TheVariants.{Old, New, Onto}
+use Rattle.term_dag.specs.declared.folds.Folded.TheVariants.{Old, New, Onto, Unless}
 use Rattle.term_dag.specs.Nodes.{IsInput, op_of, node_of, nodes_of}
 use Rattle.term_dag.specs.Made.{Extends, IsWithinCost, IsMade, AreDistinct, IsInterned}
 use Rattle.term_dag.specs.Folds.{IsFold}
@@ -172,6 +175,47 @@ made_onto old mid new n o w c t k r f i j =
       ];
     }
 
+-- the operands of that `and` stand in either order
+conjoined : (x : TermReading) (ns : List TermNode) (a b : ℕ) (t p q : Term) → ((p.0 ≡ a) × (q ≡ t)) ⊎ ((p ≡ t) × (q.0 ≡ a)) → t.0 ≡ b →
+    bit_and (term_word x ns p.0) (term_word x ns q.0) ≡ bit_and (term_word x ns a) (term_word x ns b)
+conjoined x ns a b t p q (inl (e, f)) g = ap (λ z. bit_and (term_word x ns z) (term_word x ns q.0)) e ∙ ap (λ z. bit_and (term_word x ns a) (term_word x ns z)) (ap (λ z. z.0) f ∙ g)
+conjoined x ns a b t p q (inr (e, f)) g =
+    ap (λ z. bit_and (term_word x ns z) (term_word x ns q.0)) (ap (λ z. z.0) e ∙ g) ∙ ap (λ z. bit_and (term_word x ns b) (term_word x ns z)) f ∙ and_comm (term_word x ns b) (term_word x ns a)
+
+-- a bit `and` the negation of another
+pub made_unless : (old mid new : List TermNode) (n : TermNode) (a b k p q : Term) (r : ℕ) → IsFold old n (Unless a b) → IsInterned old mid (NotNode 1 b.0) k.0 →
+    ((p ≡ a) × (q ≡ k)) ⊎ ((p ≡ k) × (q ≡ a)) → IsInterned mid new (BinaryNode And 1 p.0 q.0) r → IsMade old new n r
+made_unless old mid new n a b k p q r f i o j =
+    let e = both_extend old mid new i.extends j.extends in
+    record {
+      extends = e;
+      keeps = kept_values old new e;
+      widths = λ t l. ap width_of (kept_nodes old new e t l);
+      within = j.within;
+      width = ap width_of j.stored ∙ f.width;
+      value = λ x g.
+          j.value x ∙ ap word_value (
+          conjoined x mid a.0 k.0 k p q (elim o [ inl z ↦ inl (ap (λ t. t.0) z.0, z.1) | inr z ↦ inr (z.0, ap (λ t. t.0) z.1) ]) refl
+          ∙ ap (λ z. bit_and z.word (term_word x mid k.0)) (i.keeps x a.0 f.first.0) ∙ ap (λ z. bit_and (term_word x old a.0) z.word) (i.value x))
+          ∙ f.value x g;
+      few = omega (arith, i.few, j.few);
+      cost = record {
+        gates = omega (arith, i.cost.gates, j.cost.gates, f.gates);
+        loads = omega (arith, i.cost.loads, j.cost.loads);
+        stores = omega (arith, i.cost.stores, j.cost.stores);
+        joins = omega (arith, i.cost.joins, j.cost.joins);
+      };
+      typed = j.typed;
+      named = λ m c d. elim (j.only m c) [
+        | inl u ↦ elim (i.only m u) [ inl v ↦ inl v | inr z ↦ absurd (subst IsInput z d) ]
+        | inr z ↦ absurd (subst IsInput z d)
+      ];
+      words = λ l m c. elim (j.only m c) [
+        | inl u ↦ elim (i.only m u) [ inl v ↦ inl v | inr z ↦ inr (omega (arith, ap width_of z)) ]
+        | inr z ↦ inr (omega (arith, ap width_of z))
+      ];
+    }
+
 module _ (eq : Node → Node → Bool) (itself : (x y : Node) → node_of x ≡ node_of y → eq x y ≡ true) where
   apart : (x : Node) (xs : List Node) (j : ℕ) → AllByRecursion (λ y. eq x y ≡ false) xs → j < length (nodes_of xs) → Some (node_of x) ≡ slice_get (nodes_of xs) j → ⊥
   apart x [] j d h e = absurd (omega arith)
@@ -193,3 +237,7 @@ made_by_node old view new n m t e f k = made_new old new n m t (subst (λ (ns : 
 pub made_by_onto : (old view mid new : List TermNode) (n : TermNode) (o : Op) (w c : ℕ) (t : _) (k r : ℕ) → view ≡ old → IsFold view n (Onto o w t c) →
     IsInterned old mid (ConstantNode w c) k → IsInterned mid new (BinaryNode (op_of o) w t.0 k) r → IsMade old new n r
 made_by_onto old view mid new n o w c t k r e f i j = made_onto old mid new n o w c t k r (subst (λ (ns : List TermNode). IsFold ns n (Onto o w t c)) e f) i j
+
+pub made_by_unless : (old view mid new : List TermNode) (n : TermNode) (a b k p q : Term) (r : ℕ) → view ≡ old → IsFold view n (Unless a b) → IsInterned old mid (NotNode 1 b.0) k.0 →
+    ((p ≡ a) × (q ≡ k)) ⊎ ((p ≡ k) × (q ≡ a)) → IsInterned mid new (BinaryNode And 1 p.0 q.0) r → IsMade old new n r
+made_by_unless old view mid new n a b k p q r e f i o j = made_unless old mid new n a b k p q r (subst (λ (ns : List TermNode). IsFold ns n (Unless a b)) e f) i o j

@@ -10,7 +10,7 @@ use Rattle.bilv_spec.specs.BilCounts.{op_weight}
 use Rattle.walk_spec.specs.Terms.{TermReading, InRange, TermNode, ConstantNode, BinaryNode, word_value, term_word, width_of, node_at, HasWidth, IsWidth, IsTypedOver, AreTyped, operate, own_gates}
 use Rattle.term_dag.specs.declared.nodes.Node.TheVariants as node
 use Rattle.term_dag.specs.declared.folds.Folded.{Folded}
-use Rattle.term_dag.specs.declared.folds.Folded.TheVariants.{Old, New, Onto}
+use Rattle.term_dag.specs.declared.folds.Folded.TheVariants.{Old, New, Onto, Unless}
 use Rattle.term_dag.specs.Nodes.{node_of}
 use Rattle.term_dag.specs.Folds.{value_over, IsFold, IsNodeWord, IsOntoWord, IsWordFold, IsConstant, IsSum}
 use Rattle.term_dag.proofs.ListLaws.{by_node, typed_here}
@@ -43,6 +43,13 @@ word_fold ns n w f g (Onto o k t c) h s e v b p = record {
   value = λ x i. ap word_value (p.value x i) ∙ sym (v x);
   gates = omega (arith, p.gates);
 }
+word_fold ns n w f g (Unless a c) h s e v b p = record {
+  first = p.first;
+  second = p.second;
+  width = p.width ∙ sym e;
+  value = λ x i. ap word_value (p.value x i) ∙ sym (v x);
+  gates = omega (arith, p.gates);
+}
 
 -- a fold of a word is one of each word with the same value, and within each greater bound
 pub same_fold : (ns : List TermNode) (w : ℕ) (f k : TermReading → ℕ) (g b : ℕ) (r : Folded) → ((x : TermReading) → InRange x → f x ≡ k x) → g ≤ b →
@@ -60,6 +67,13 @@ same_fold ns w f k g b (New m) e l p = record {
 }
 same_fold ns w f k g b (Onto o q t c) e l p = record {
   some = p.some;
+  first = p.first;
+  second = p.second;
+  width = p.width;
+  value = λ x i. p.value x i ∙ e x i;
+  gates = omega (arith, p.gates);
+}
+same_fold ns w f k g b (Unless a c) e l p = record {
   first = p.first;
   second = p.second;
   width = p.width;

@@ -296,3 +296,8 @@ and_beside p a b h l e =
 pub and_with : (p b : ℕ) → p < 2 → b < 2 → bit_and p p ≡ bit_and p (bit_or p b)
 and_with p b h l =
     bits (λ s. bit_and s s ≡ bit_and s (bit_or s b)) (bits (λ t. 0 ≡ bit_and 0 (bit_or 0 t)) refl refl b l) (bits (λ t. 1 ≡ bit_and 1 (bit_or 1 t)) refl refl b l) p h
+
+pub and_denied : (p q : ℕ) → p < 2 → q < 2 → bit_and p (words.complement 1 q) ≡ bit_and p (words.complement 1 (bit_and p q))
+and_denied p q h l =
+    bits (λ s. bit_and s (words.complement 1 q) ≡ bit_and s (words.complement 1 (bit_and s q))) (bits (λ t. bit_and 0 (words.complement 1 t) ≡ bit_and 0 (words.complement 1 (bit_and 0 t))) refl refl q l)
+    (bits (λ t. bit_and 1 (words.complement 1 t) ≡ bit_and 1 (words.complement 1 (bit_and 1 t))) refl refl q l) p h

@@ -7,7 +7,7 @@ use Rattle.bilv_spec.specs.BilTyping.{result_width}
 use Rattle.bilv_spec.specs.BilCounts.{op_weight}
 use Rattle.walk_spec.specs.Terms.{TermReading, InRange, TermValue, TermNode, word_value, operate, node_value, values_from, term_value, term_word, width_of, node_at, HasWidth, IsWidth, IsTypedOver, own_gates, own_loads, own_stores, own_joins}
 use Rattle.term_dag.specs.declared.folds.Folded.{Folded}
-use Rattle.term_dag.specs.declared.folds.Folded.TheVariants.{Old, New, Onto}
+use Rattle.term_dag.specs.declared.folds.Folded.TheVariants.{Old, New, Onto, Unless}
 use Rattle.term_dag.specs.declared.conditions.Literal.{Literal}
 use Rattle.term_dag.specs.declared.conditions.Cube.{Cube}
 use Rattle.term_dag.specs.Nodes.{IsInput, op_of, node_of}
@@ -42,11 +42,20 @@ pub record IsOntoFor (ns : List TermNode) (n : TermNode) (o : BinaryOp) (w t c :
   pub value : (x : TermReading) → InRange x → word_value (operate o w (term_word x ns t) c) ≡ value_over ns n x
   pub gates : op_weight o w ≤ own_gates n
 
+-- a bit `and` the negation of another
+pub record IsUnlessFor (ns : List TermNode) (n : TermNode) (a b : ℕ) : Type 0 where
+  pub first : HasWidth ns 1 a
+  pub second : HasWidth ns 1 b
+  pub width : 1 ≡ width_of n
+  pub value : (x : TermReading) → InRange x → word_value (bit_and (term_word x ns a) (words.complement 1 (term_word x ns b))) ≡ value_over ns n x
+  pub gates : 1 ≤ own_gates n
+
 -- what a node is folded to
 abbrev pub IsFold : List TermNode → TermNode → Folded → Type 0
 IsFold ns n (Old t) = IsTermFor ns n t.0
 IsFold ns n (New m) = IsNodeFor ns n (node_of m)
 IsFold ns n (Onto o w t c) = IsOntoFor ns n (op_of o) w t.0 c
+IsFold ns n (Unless a b) = IsUnlessFor ns n a.0 b.0
 
 -- a word of a width: a term that has a value
 pub record IsTermWord (ns : List TermNode) (w : ℕ) (f : TermReading → ℕ) (t : ℕ) : Type 0 where
@@ -73,11 +82,20 @@ pub record IsOntoWord (ns : List TermNode) (w : ℕ) (f : TermReading → ℕ) (
   pub value : (x : TermReading) → InRange x → operate o k (term_word x ns t) c ≡ f x
   pub gates : op_weight o k ≤ g
 
+-- a bit `and` the negation of another, where that has a value, within so many gates
+pub record IsUnlessWord (ns : List TermNode) (w : ℕ) (f : TermReading → ℕ) (g a b : ℕ) : Type 0 where
+  pub first : HasWidth ns 1 a
+  pub second : HasWidth ns 1 b
+  pub width : 1 ≡ w
+  pub value : (x : TermReading) → InRange x → bit_and (term_word x ns a) (words.complement 1 (term_word x ns b)) ≡ f x
+  pub gates : 1 ≤ g
+
 -- what a word of a width, a value and a bound on its gates is folded to
 abbrev pub IsWordFold : List TermNode → (w : ℕ) → (f : TermReading → ℕ) → (g : ℕ) → Folded → Type 0
 IsWordFold ns w f g (Old t) = IsTermWord ns w f t.0
 IsWordFold ns w f g (New m) = IsNodeWord ns w f g (node_of m)
 IsWordFold ns w f g (Onto o k t c) = IsOntoWord ns w f g (op_of o) k t.0 c
+IsWordFold ns w f g (Unless a b) = IsUnlessWord ns w f g a.0 b.0
 
 -- a term is a constant
 pub record IsConstant (ns : List TermNode) (t c : ℕ) : Type 0 where

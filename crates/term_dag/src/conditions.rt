@@ -1,6 +1,7 @@
 //! Folds of `and` and `or` between bits, one level deep.
 
 ghost use Rattle.std.specs.Prelude.{◌≡◌, ℕ, ◌+◌, ◌<◌, ◌≤◌, ◌⊎◌, bit_and, bit_or, IsTrue, IfSome};
+ghost use Rattle.bilv_spec.specs.Words as words;
 ghost use Rattle.bilv_spec.specs.BilTyping.{result_width};
 ghost use Rattle.bilv_spec.specs.BilCounts.{op_weight};
 ghost use Rattle.walk_spec.specs.Terms.{TermReading, InRange, operate, term_word, HasWidth, AreTyped};
@@ -222,6 +223,41 @@ fn pair(nodes: &[Node], op: Op, left: Term, right: Term) -> Folded
     })
 }
 
+/// A bit whose negation does for another bit in an `and`: of a negated conjunction with the other side, what stands beside that.
+fn denied(nodes: &[Node], side: Term, term: Term) -> Option<Term>
+    requires typed { AreTyped (nodes_of nodes.now) }
+    requires side { HasWidth (nodes_of nodes.now) 1 side.0 }
+    requires place { HasWidth (nodes_of nodes.now) 1 term.0 }
+    ensures place { IfSome result (λ r. HasWidth (nodes_of nodes.now) 1 r.0) }
+    ensures value { IfSome result (λ r. (x : TermReading) → InRange x → bit_and (term_word x (nodes_of nodes.now) side.0) (words.complement 1 (term_word x (nodes_of nodes.now) r.0)) ≡ bit_and (term_word x (nodes_of nodes.now) side.0) (term_word x (nodes_of nodes.now) term.0)) }
+{
+    let Node::Not { term: inner, .. } = look(nodes, term) else {
+        return None;
+    };
+    let literal = literal_of(nodes, side);
+    let cube = split(nodes, inner);
+    if is_same(literal, cube.first) {
+        return Some(cube.right);
+    }
+    if is_same(literal, cube.second) {
+        return Some(cube.left);
+    }
+    None
+}
+
+/// A bit `and` the negation of another.
+fn unless(nodes: &[Node], side: Term, term: Term) -> Folded
+    requires typed { AreTyped (nodes_of nodes.now) }
+    requires side { HasWidth (nodes_of nodes.now) 1 side.0 }
+    requires place { HasWidth (nodes_of nodes.now) 1 term.0 }
+    ensures { IsWordFold (nodes_of nodes.now) 1 (λ x. bit_and (term_word x (nodes_of nodes.now) side.0) (words.complement 1 (term_word x (nodes_of nodes.now) term.0))) 1 result }
+{
+    match look(nodes, term) {
+        Node::Not { term: inner, .. } => pair(nodes, Op::And, side, inner),
+        _ => Folded::Unless(side, term),
+    }
+}
+
 /// An `and` of two bits, one of which does with less beside the other.
 fn narrowed(nodes: &[Node], left: Term, right: Term) -> Option<Folded>
     requires typed { AreTyped (nodes_of nodes.now) }
@@ -242,6 +278,12 @@ fn narrowed(nodes: &[Node], left: Term, right: Term) -> Option<Folded>
     }
     if first.0 != left.0 {
         return Some(pair(nodes, Op::And, first, right));
+    }
+    if let Some(term) = denied(nodes, left, right) {
+        return Some(unless(nodes, left, term));
+    }
+    if let Some(term) = denied(nodes, right, left) {
+        return Some(unless(nodes, right, term));
     }
     None
 }

@@ -1,6 +1,6 @@
 //! The list of nodes, each kept once.
 
-ghost use Rattle.std.specs.Prelude.{◌≡◌, ℕ, ◌<◌, ◌≤◌, ◌^◌, List, [], length, IfNone, IfSome, IfOk};
+ghost use Rattle.std.specs.Prelude.{◌≡◌, ℕ, ◌<◌, ◌≤◌, ◌^◌, ◌⊎◌, List, [], length, IfNone, IfSome, IfOk};
 ghost use Rattle.walk_spec.specs.Terms.{ConstantNode, TermNode, TermReading, node_at, term_value, term_word, width_of, HasWidth, IsTypedOver, AreTyped};
 ghost use Rattle.term_dag.specs.Nodes.{node_of, nodes_of};
 ghost use Rattle.term_dag.specs.Readings.{AreWords, reading_of};
@@ -8,13 +8,23 @@ ghost use Rattle.term_dag.specs.Made.{AreDistinct, IsInterned, IsMade, Separates
 
 use crate::folds::{Folded, fold, look, width_of_node};
 use crate::values::{byte, words_of};
-use crate::{Node, Reading, Term, conditions};
+use crate::{Node, Op, Reading, Term, conditions};
 use indexmap::IndexSet;
 use std::alloc::{AllocError, Global};
 use std::marker::Model;
 
 /// The most nodes that a `Dag` has, so that 32 bits name each.
 const MOST: usize = 4294967295;
+
+/// Two terms, the one of the earlier node first.
+fn by_place(one: Term, other: Term) -> (Term, Term)
+    ensures { ((result.0 ≡ one) × (result.1 ≡ other)) ⊎ ((result.0 ≡ other) × (result.1 ≡ one)) }
+{
+    if one.0 <= other.0 {
+        return (one, other);
+    }
+    (other, one)
+}
 
 /// Nodes, each over those before it, and no two of them equal.
 #[derive(Drop)]
@@ -143,6 +153,20 @@ impl Dag {
                 let term = self.keep(Node::Binary {
                     op,
                     width,
+                    left,
+                    right,
+                })?;
+                Ok(term)
+            }
+            Folded::Unless(bit, other) => {
+                let negation = self.keep(Node::Not {
+                    width: 1,
+                    term: other,
+                })?;
+                let (left, right) = by_place(bit, negation);
+                let term = self.keep(Node::Binary {
+                    op: Op::And,
+                    width: 1,
                     left,
                     right,
                 })?;

@@ -9,12 +9,13 @@ ghost use Rattle.term_dag.specs.Folds.{IsConstant, IsFold};
 use crate::{Node, Op, Term, memories, operators, selections, slices};
 use bv_word::Word;
 
-/// What a node comes to: a term that is there, a node, or an operator of a width between a term and a constant.
+/// What a node comes to: a term that is there, a node, an operator of a width between a term and a constant, or a bit `and` the negation of another.
 #[derive(Clone, Copy)]
 pub enum Folded {
     Old(Term),
     New(Node),
     Onto(Op, u8, Term, u64),
+    Unless(Term, Term),
 }
 
 /// The node of a term.
