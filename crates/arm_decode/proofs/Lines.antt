@@ -1,0 +1,159 @@
+-- An instruction has the row of its word, and each word one instruction at most.
+use Rattle.std.proofs.Common.{◌≡◌, ◌⊎◌, inl, inr, ℕ, zero, suc, refl, sym, ap, subst, ◌∙◌, Bool, true, false, List, [], ◌∷◌, Option, Some, None}
+use Rattle.std.specs.Prelude.{◌≢◌, slice_get, MatchOption, ◌==◌, if◌then◌else◌}
+use Rattle.std.specs.Option.{option_map}
+use Rattle.std.proofs.lemmas.Bool.{ne_eqb}
+use denote.Struct.Props.{props}
+use Rattle.bilv_spec.specs.Memory.{Endian, Little}
+use Rattle.bilv_spec.specs.Arm as rows
+use Rattle.bilv_spec.specs.Arm.{Instruction, table, row_in, arm_row, condition_code}
+use Rattle.bilv_spec.proofs.ArmTable.{one_row}
+use Rattle.arm_decode.specs.declared.classes.Computing as computing
+use Rattle.arm_decode.specs.declared.classes.Multiply as multiply
+use Rattle.arm_decode.specs.declared.classes.MultiplyLong as multiply_long
+use Rattle.arm_decode.specs.declared.classes.Swap as swap
+use Rattle.arm_decode.specs.declared.classes.Transfer as transfer
+use Rattle.arm_decode.specs.declared.classes.Halfword as halfword
+use Rattle.arm_decode.specs.declared.classes.Block as block
+use Rattle.arm_decode.specs.declared.classes.Branch as branch
+use Rattle.arm_decode.specs.declared.classes.SoftwareInterrupt as interrupt
+use Rattle.arm_decode.specs.declared.insn.Insn.{Insn}
+use Rattle.arm_decode.specs.declared.insn.Insn.TheVariants.{Computing, Multiply, MultiplyLong, Swap, Transfer, Halfword, Block, Branch, SoftwareInterrupt}
+use Rattle.arm_decode.specs.Insns.{word_of, row_of}
+
+-- the condition code 15 has no row
+pub no_condition : (w : ℕ) → condition_code w ≡ 15 → (e : Endian) → arm_row e w ≡ None
+unfolding arm_row
+no_condition w h e = rw h refl
+
+-- a word of no line has no row
+no_line : (w : ℕ) (never : Bool) → rows.is_computing w ≡ false → rows.is_multiply w ≡ false → rows.is_multiply_long w ≡ false → rows.is_swap w ≡ false →
+    rows.is_transfer w ≡ false → rows.is_halfword w ≡ false → rows.is_block w ≡ false → rows.is_branch w ≡ false → rows.is_software_interrupt w ≡ false →
+    (e : Endian) → (if never then None else row_in (table e) w) ≡ None
+unfolding table
+no_line w true a b c d f g h i j e = refl
+no_line w false a b c d f g h i j e = rw (a, b, c, d, f, g, h, i, j) refl
+
+pub no_row : (w : ℕ) → rows.is_computing w ≡ false → rows.is_multiply w ≡ false → rows.is_multiply_long w ≡ false → rows.is_swap w ≡ false →
+    rows.is_transfer w ≡ false → rows.is_halfword w ≡ false → rows.is_block w ≡ false → rows.is_branch w ≡ false → rows.is_software_interrupt w ≡ false →
+    (e : Endian) → arm_row e w ≡ None
+unfolding arm_row
+no_row w a b c d f g h i j e = no_line w (condition_code w == 15) a b c d f g h i j e
+
+-- the place of its line in the table
+abbrev place : Insn → ℕ
+place (Computing x) = 0
+place (Multiply x) = 1
+place (MultiplyLong x) = 2
+place (Swap x) = 3
+place (Transfer x) = 4
+place (Halfword x) = 5
+place (Block x) = 6
+place (Branch x) = 7
+place (SoftwareInterrupt x) = 8
+
+-- an instruction stands on the line at a place
+record IsOn (e : Endian) (i : Insn) : Type 0 where
+  line : Instruction
+  at : slice_get (table e) (place i) ≡ Some line
+  of_word : line.is (word_of i) ≡ true
+  same_row : line.row (word_of i) ≡ row_of e i
+  conditional : condition_code (word_of i) ≢ 15
+
+on_line : (e : Endian) (i : Insn) → IsOn e i
+unfolding table
+on_line e (Computing x) = record { line = record { is = rows.is_computing; row = rows.computing }; at = refl; of_word = x.row.1; same_row = refl; conditional = x.row.0 }
+on_line e (Multiply x) = record { line = record { is = rows.is_multiply; row = rows.multiply }; at = refl; of_word = x.row.1; same_row = refl; conditional = x.row.0 }
+on_line e (MultiplyLong x) = record { line = record { is = rows.is_multiply_long; row = rows.multiply_long }; at = refl; of_word = x.row.1; same_row = refl; conditional = x.row.0 }
+on_line e (Swap x) = record { line = record { is = rows.is_swap; row = rows.swap e }; at = refl; of_word = x.row.1; same_row = refl; conditional = x.row.0 }
+on_line e (Transfer x) = record { line = record { is = rows.is_transfer; row = rows.single_transfer e }; at = refl; of_word = x.row.1; same_row = refl; conditional = x.row.0 }
+on_line e (Halfword x) = record { line = record { is = rows.is_halfword; row = rows.halfword e }; at = refl; of_word = x.row.1; same_row = refl; conditional = x.row.0 }
+on_line e (Block x) = record { line = record { is = rows.is_block; row = rows.block e }; at = refl; of_word = x.row.1; same_row = refl; conditional = x.row.0 }
+on_line e (Branch x) = record { line = record { is = rows.is_branch; row = rows.branch }; at = refl; of_word = x.row.1; same_row = refl; conditional = x.row.0 }
+on_line e (SoftwareInterrupt x) = record { line = record { is = rows.is_software_interrupt; row = rows.software_interrupt }; at = refl; of_word = x.row.1; same_row = refl; conditional = x.row.0 }
+
+truth : (b : Bool) → (b ≡ true) ⊎ (b ≡ false)
+truth true = inl refl
+truth false = inr refl
+
+-- no word is of two lines
+record One (is : List Instruction) (w : ℕ) : Type 0 where
+  same : (i j : ℕ) (a b : Instruction) → slice_get is i ≡ Some a → slice_get is j ≡ Some b → a.is w ≡ true → b.is w ≡ true → i ≡ j
+
+behind : (x : Instruction) (xs : List Instruction) (w : ℕ) → One (x ∷ xs) w → One xs w
+behind x xs w one = record { same = λ i j a b p q r s. let e = one.same (suc i) (suc j) a b p q r s in cc }
+
+-- the row of a word is that of its line
+row_at : (is : List Instruction) (w k : ℕ) (a : Instruction) → One is w → slice_get is k ≡ Some a → a.is w ≡ true → row_in is w ≡ Some (a.row w)
+row_at [] w k a one at h = cc
+row_at (x ∷ xs) w zero a one at h =
+    let e : x ≡ a = cc in let t : x.is w ≡ true = ap (λ y. y.is w) e ∙ h in rw t (ap (λ y. Some (y.row w)) e)
+row_at (x ∷ xs) w (suc k) a one at h =
+    elim (truth (x.is w)) [
+      | inl t ↦ let e : zero ≡ suc k = one.same zero (suc k) x a refl at t h in cc
+      | inr f ↦ rw f (row_at xs w k a (behind x xs w one) at h)
+    ]
+
+has_row : (e : Endian) (i : Insn) → arm_row e (word_of i) ≡ Some (row_of e i)
+unfolding arm_row
+has_row e i =
+    let o = on_line e i in
+    rw (ne_eqb (condition_code (word_of i)) 15 o.conditional)
+    (row_at (table e) (word_of i) (place i) o.line (record { same = one_row e (word_of i) }) o.at o.of_word ∙ ap Some o.same_row)
+
+-- what `decode` ensures, from the answer by classes
+pub row_is : (w : ℕ) (r : Option Insn) → MatchOption r ((e : Endian) → arm_row e w ≡ None) (λ i. word_of i ≡ w) →
+    (e : Endian) → option_map (row_of e) r ≡ arm_row e w
+row_is w None h e = sym (h e)
+row_is w (Some i) h e = sym (has_row e i) ∙ ap (arm_row e) h
+
+-- what is made of a number and a fact of it is the same for the same number
+same_made : {A : Type 0} (P : ℕ → Type 0) (make : (n : ℕ) → P n → A) → ((n : ℕ) → IsProp (P n)) → (n m : ℕ) → n ≡ m → (p : P n) (q : P m) → make n p ≡ make m q
+same_made P make prop n m e = subst (λ k. (p : P n) (q : P k) → make n p ≡ make k q) e (λ p q. ap (make n) (prop n p q))
+
+-- instructions of one line with one word
+-- what the word of an instruction of a line is
+abbrev Lined : (ℕ → Bool) → ℕ → Type 0
+Lined is n = (condition_code n ≢ 15) × (is n ≡ true)
+
+lined_prop : (is : ℕ → Bool) (n : ℕ) → IsProp (Lined is n)
+lined_prop is n = hlevel props
+
+same_insn : (i j : Insn) → place i ≡ place j → word_of i ≡ word_of j → i ≡ j
+same_insn (Computing x) (Computing y) p h =
+    ap Computing (same_made (Lined rows.is_computing) (λ n r. let a : computing.Computing = record { word = n; row = r } in a) (lined_prop rows.is_computing) x.word y.word h x.row y.row)
+same_insn (Multiply x) (Multiply y) p h =
+    ap Multiply (same_made (Lined rows.is_multiply) (λ n r. let a : multiply.Multiply = record { word = n; row = r } in a) (lined_prop rows.is_multiply) x.word y.word h x.row y.row)
+same_insn (MultiplyLong x) (MultiplyLong y) p h =
+    ap MultiplyLong (same_made (Lined rows.is_multiply_long) (λ n r. let a : multiply_long.MultiplyLong = record { word = n; row = r } in a) (lined_prop rows.is_multiply_long) x.word y.word h x.row y.row)
+same_insn (Swap x) (Swap y) p h =
+    ap Swap (same_made (Lined rows.is_swap) (λ n r. let a : swap.Swap = record { word = n; row = r } in a) (lined_prop rows.is_swap) x.word y.word h x.row y.row)
+same_insn (Transfer x) (Transfer y) p h =
+    ap Transfer (same_made (Lined rows.is_transfer) (λ n r. let a : transfer.Transfer = record { word = n; row = r } in a) (lined_prop rows.is_transfer) x.word y.word h x.row y.row)
+same_insn (Halfword x) (Halfword y) p h =
+    ap Halfword (same_made (Lined rows.is_halfword) (λ n r. let a : halfword.Halfword = record { word = n; row = r } in a) (lined_prop rows.is_halfword) x.word y.word h x.row y.row)
+same_insn (Block x) (Block y) p h =
+    ap Block (same_made (Lined rows.is_block) (λ n r. let a : block.Block = record { word = n; row = r } in a) (lined_prop rows.is_block) x.word y.word h x.row y.row)
+same_insn (Branch x) (Branch y) p h =
+    ap Branch (same_made (Lined rows.is_branch) (λ n r. let a : branch.Branch = record { word = n; row = r } in a) (lined_prop rows.is_branch) x.word y.word h x.row y.row)
+same_insn (SoftwareInterrupt x) (SoftwareInterrupt y) p h =
+    ap SoftwareInterrupt (same_made (Lined rows.is_software_interrupt) (λ n r. let a : interrupt.SoftwareInterrupt = record { word = n; row = r } in a) (lined_prop rows.is_software_interrupt) x.word y.word h x.row y.row)
+same_insn (Computing x) j p h = cc
+same_insn (Multiply x) j p h = cc
+same_insn (MultiplyLong x) j p h = cc
+same_insn (Swap x) j p h = cc
+same_insn (Transfer x) j p h = cc
+same_insn (Halfword x) j p h = cc
+same_insn (Block x) j p h = cc
+same_insn (Branch x) j p h = cc
+same_insn (SoftwareInterrupt x) j p h = cc
+
+one_insn : (i j : Insn) → word_of i ≡ word_of j → i ≡ j
+one_insn i j h =
+    let a = on_line Little i in
+    let b = on_line Little j in
+    same_insn i j (one_row Little (word_of i) (place i) (place j) a.line b.line a.at b.at a.of_word (ap b.line.is h ∙ b.of_word)) h
+
+pub only_is : (w : ℕ) (r : Option Insn) → MatchOption r ((e : Endian) → arm_row e w ≡ None) (λ i. word_of i ≡ w) → (i : Insn) → word_of i ≡ w → r ≡ Some i
+only_is w None h i k = let e = has_row Little i in let f = h Little in let g : arm_row Little (word_of i) ≡ arm_row Little w = ap (arm_row Little) k in cc
+only_is w (Some j) h i k = ap Some (one_insn j i (h ∙ sym k))
