@@ -8,7 +8,7 @@
 mod classes;
 mod decoder;
 mod fields;
-
+mod forms;
 mod insn;
 mod parts;
 mod register;
@@ -18,6 +18,10 @@ pub use classes::{
     Block, Branch, Computing, Halfword, Multiply, MultiplyLong, SoftwareInterrupt, Swap, Transfer,
 };
 pub use decoder::{decode, encode};
+pub use forms::{
+    BlockFields, BranchFields, ComputingFields, HalfwordFields, MultiplyFields, MultiplyLongFields,
+    SwapFields, TransferFields,
+};
 pub use insn::Insn;
 pub use parts::{
     Addressing, Condition, HalfwordOffset, HalfwordOp, Indexing, Offset, Opcode, Operand, ShiftKind,

@@ -126,7 +126,10 @@ impl ShiftKind {
 #[derive(Clone, Copy, PartialEq, Eq, Debug)]
 pub enum Operand {
     /// A number of 8 bits, rotated to the right by twice the rotation, 0 to 15.
-    Number { byte: u8, rotation: u8 },
+    Number {
+        byte: u8,
+        rotation: u8,
+    },
     /// A register, shifted by a number.
     ByNumber {
         register: AnyRegister,

@@ -27,11 +27,9 @@ fn by_a_register(word: u32) -> bool
 
 /// Whether the fields that the opcode does not use are 0, and only a row that writes no register 15 sets the flags.
 fn has_fields_of_opcode(word: u32) -> bool
-    ensures {
-        result ≡ (not (rows.is_test word && (not (rows.sets_flags word) || not (rows.field_d word == 0)))
-            && not (((rows.opcode word == 13) || (rows.opcode word == 15)) && not (rows.field_n word == 0))
-            && not (rows.sets_flags word && (rows.field_d word == 15)))
-    }
+    ensures { result ≡ (not (rows.is_test word && (not (rows.sets_flags word) || not (rows.field_d word == 0)))
+        && not (((rows.opcode word == 13) || (rows.opcode word == 15)) && not (rows.field_n word == 0))
+        && not (rows.sets_flags word && (rows.field_d word == 15))) }
 {
     let (n, d) = (field(word, 19, 16), field(word, 15, 12));
     let opcode = field(word, 24, 21);
@@ -152,16 +150,15 @@ fn first_listed(word: u32, end: u32) -> u32
 
 /// Whether the base of LDM or STM with write-back is not in the list, or is one that STM can store.
 fn has_block_base(word: u32) -> bool
-    ensures {
-        result ≡ (not (rows.is_load word && rows.bit_w word && rows.has_bit (rows.field_n word) word)
-            && not (not (rows.is_load word) && rows.bit_w word && rows.has_bit (rows.field_n word) word
-            && not (rows.first_of (rows.listed word) == rows.field_n word)))
-    }
+    ensures { result ≡ (not (rows.is_load word && rows.bit_w word && rows.has_bit (rows.field_n word) word)
+        && not (not (rows.is_load word) && rows.bit_w word && rows.has_bit (rows.field_n word) word
+        && not (rows.first_of (rows.listed word) == rows.field_n word))) }
 {
     let n = field(word, 19, 16);
     let is_load = is_set(word, 20);
     let is_written_in_list = is_set(word, 21) && is_set(word, n);
-    !(is_load && is_written_in_list) && !(!is_load && is_written_in_list && first_listed(word, 16) != n)
+    !(is_load && is_written_in_list)
+        && !(!is_load && is_written_in_list && first_listed(word, 16) != n)
 }
 
 /// Whether the word has a row of LDM or STM.
