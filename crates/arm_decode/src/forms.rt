@@ -373,6 +373,15 @@ impl Branch {
     }
 }
 
+impl Branch {
+    /// The target, from the address where it stands.
+    pub fn target(self, at: u32) -> u32
+        ensures { result ≡ rows.branch_target self.word at }
+    {
+        at.wrapping_add(8).wrapping_add(self.fields().offset)
+    }
+}
+
 impl SoftwareInterrupt {
     /// The number that it hands over, of 24 bits.
     pub fn number(self) -> u32

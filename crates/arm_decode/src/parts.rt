@@ -1,6 +1,7 @@
 //! The parts of instructions.
-ghost use Rattle.std.specs.Prelude.{◌≡◌, ◌<◌};
-ghost use Rattle.arm_decode.specs.Parts.{condition_number, opcode_number, kind_number};
+ghost use Rattle.std.specs.Prelude.{◌≡◌, ◌<◌, ◌/◌, ◌==◌, ℕ};
+ghost use Rattle.bilv_spec.specs.Arm.{is_load, is_pre, writes_back};
+ghost use Rattle.arm_decode.specs.Parts.{condition_number, opcode_number, kind_number, HasIndexing, HasHalfwordOp};
 
 use crate::register::{AnyRegister, Register, ShiftAmount};
 
@@ -96,6 +97,16 @@ impl Opcode {
             _ => Opcode::Mvn,
         }
     }
+
+    /// Whether it is one of TST, TEQ, CMP and CMN, which write no register.
+    pub fn is_test(self) -> bool
+        ensures { result ≡ (opcode_number self / 4 == 2) }
+    {
+        match self {
+            Opcode::Tst | Opcode::Teq | Opcode::Cmp | Opcode::Cmn => true,
+            _ => false,
+        }
+    }
 }
 
 /// How a register is shifted (section A5.1).
@@ -155,6 +166,28 @@ pub enum Indexing {
     Post,
 }
 
+impl Indexing {
+    /// Whether the offset is added before the access.
+    pub fn is_before(self) -> bool
+        ensures { (w : ℕ) → HasIndexing w self → result ≡ is_pre w }
+    {
+        match self {
+            Indexing::Offset | Indexing::Pre => true,
+            Indexing::Post => false,
+        }
+    }
+
+    /// Whether the base is written back.
+    pub fn writes_back(self) -> bool
+        ensures { (w : ℕ) → HasIndexing w self → result ≡ writes_back w }
+    {
+        match self {
+            Indexing::Offset => false,
+            Indexing::Pre | Indexing::Post => true,
+        }
+    }
+}
+
 /// How the address of an access is made of a base and an offset (section A5.2).
 #[derive(Clone, Copy, PartialEq, Eq, Debug)]
 pub struct Addressing {
@@ -191,4 +224,16 @@ pub enum HalfwordOp {
     Ldrsb,
     Ldrsh,
     Strh,
+}
+
+impl HalfwordOp {
+    /// Whether it is a load.
+    pub fn is_load(self) -> bool
+        ensures { (w : ℕ) → HasHalfwordOp w self → result ≡ is_load w }
+    {
+        match self {
+            HalfwordOp::Ldrh | HalfwordOp::Ldrsb | HalfwordOp::Ldrsh => true,
+            HalfwordOp::Strh => false,
+        }
+    }
 }

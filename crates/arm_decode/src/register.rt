@@ -1,5 +1,5 @@
 //! Numbers of registers, lists of them, and amounts of shifts.
-ghost use Rattle.std.specs.Prelude.{◌≡◌, ◌≢◌, ◌<◌, ◌^◌};
+ghost use Rattle.std.specs.Prelude.{◌≡◌, ◌≢◌, ◌<◌, MatchOption};
 ghost use Rattle.bilv_spec.specs.Arm.{has_bit};
 
 /// The number of a register that is not the program counter, r0 to r14 (section A2.3).
@@ -49,6 +49,19 @@ impl AnyRegister {
         ensures in_range { result < 16 }
     {
         self.number
+    }
+
+    /// The register, unless it is r15.
+    pub fn but_pc(self) -> Option<Register>
+        ensures { MatchOption result (self.number ≡ 15) (λ r. r.number ≡ self.number) }
+    {
+        if self.number == 15 {
+            None
+        } else {
+            Some(Register {
+                number: self.number,
+            })
+        }
     }
 }
 

@@ -1,0 +1,32 @@
+-- What an instruction does and stores where its condition holds, by the table's parts for its class.
+use Rattle.std.specs.Prelude.{ℕ, ◌*◌, ◌%◌, ◌==◌, ◌&&◌, not, Option, None, Some, length}
+use Rattle.bilv_spec.specs.Memory.{Endian}
+use Rattle.bilv_spec.specs.State.{State}
+use Rattle.bilv_spec.specs.Machine.{Outcome, Raises, SoftwareInterrupt}
+use Rattle.bilv_spec.specs.Arm as rows
+use Rattle.arm_decode.specs.declared.insn.Insn.{Insn}
+use Rattle.arm_decode.specs.declared.insn.Insn.TheVariants as insn
+
+-- what it does
+abbrev pub action_of : Endian → Insn → State → ℕ → Outcome
+action_of e (insn.Computing x) s c = rows.computed x.word s
+action_of e (insn.Multiply x) s c = rows.multiplied x.word s c
+action_of e (insn.MultiplyLong x) s c = rows.multiplied_long x.word s c
+action_of e (insn.Swap x) s c = rows.swapped e x.word s
+action_of e (insn.Transfer x) s c = rows.transferred (rows.is_load x.word) e x.word s c
+action_of e (insn.Halfword x) s c = rows.halfword_done e x.word s
+action_of e (insn.Block x) s c = rows.block_done (rows.is_load x.word) e x.word s c
+action_of e (insn.Branch x) s c = rows.branched (rows.is_linked x.word) x.word s
+action_of e (insn.SoftwareInterrupt x) s c = Raises SoftwareInterrupt
+
+-- the first address and the number of the bytes that it stores
+abbrev pub stores_of : Insn → State → Option (ℕ × ℕ)
+stores_of (insn.Computing x) s = None
+stores_of (insn.Multiply x) s = None
+stores_of (insn.MultiplyLong x) s = None
+stores_of (insn.Swap x) s = Some (rows.access_of (rows.is_byte x.word) (rows.reg s (rows.field_n x.word)))
+stores_of (insn.Transfer x) s = rows.when_stored (not (rows.is_load x.word)) (rows.access_of (rows.is_byte x.word) (rows.transfer_address x.word s))
+stores_of (insn.Halfword x) s = rows.when_stored (not (rows.is_load x.word) && (rows.halfword_address x.word s % 2 == 0)) (rows.halfword_address x.word s, 2)
+stores_of (insn.Block x) s = rows.when_stored (not (rows.is_load x.word)) (rows.block_start x.word s, 4 * length (rows.listed x.word))
+stores_of (insn.Branch x) s = None
+stores_of (insn.SoftwareInterrupt x) s = None

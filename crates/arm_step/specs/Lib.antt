@@ -1,0 +1,4 @@
+pub mod Actions
+pub mod Parts
+pub mod RegisterFile
+pub mod States
