@@ -13,7 +13,7 @@ use crate::parts::{
     Addressing, HalfwordOffset, HalfwordOp, Indexing, Offset, Opcode, Operand, ShiftKind,
 };
 use crate::register::{AnyRegister, Register, RegisterList, ShiftAmount};
-use crate::tests::writes_back;
+use crate::tests::{is_test, writes_back};
 
 /// The fields of data processing.
 #[derive(Clone, Copy, PartialEq, Eq, Debug)]
@@ -246,6 +246,15 @@ impl Computing {
     }
 }
 
+impl Computing {
+    /// Whether its opcode is TST, TEQ, CMP or CMN.
+    pub fn is_test(self) -> bool
+        ensures { result ≡ rows.is_test self.word }
+    {
+        is_test(self.word())
+    }
+}
+
 impl Multiply {
     /// Its fields.
     #[tactic(auto, using(crate::proofs::Registers::multiply_registers))]
@@ -351,6 +360,15 @@ impl Block {
             rn: register(word, 16),
             list: RegisterList::new(field(word, 15, 0) as u16),
         }
+    }
+}
+
+impl Block {
+    /// Whether r15 is in its list.
+    pub fn has_pc(self) -> bool
+        ensures { result ≡ rows.has_bit 15 self.word }
+    {
+        is_set(self.word(), 15)
     }
 }
 

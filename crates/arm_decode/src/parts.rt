@@ -49,6 +49,16 @@ impl Condition {
             _ => Condition::Al,
         }
     }
+
+    /// Whether it always holds.
+    pub fn is_always(self) -> bool
+        ensures { result ≡ (condition_number self == 14) }
+    {
+        match self {
+            Condition::Al => true,
+            _ => false,
+        }
+    }
 }
 
 /// What data processing makes (section A3.4).

@@ -1,5 +1,5 @@
 -- What an instruction does and stores where its condition holds, by the table's parts for its class.
-use Rattle.std.specs.Prelude.{ℕ, ◌*◌, ◌%◌, ◌==◌, ◌&&◌, not, Option, None, Some, length}
+use Rattle.std.specs.Prelude.{ℕ, Bool, false, ◌*◌, ◌%◌, ◌==◌, ◌&&◌, not, Option, None, Some, length}
 use Rattle.bilv_spec.specs.Memory.{Endian}
 use Rattle.bilv_spec.specs.State.{State}
 use Rattle.bilv_spec.specs.Machine.{Outcome, Raises, SoftwareInterrupt}
@@ -30,3 +30,15 @@ stores_of (insn.Halfword x) s = rows.when_stored (not (rows.is_load x.word) && (
 stores_of (insn.Block x) s = rows.when_stored (not (rows.is_load x.word)) (rows.block_start x.word s, 4 * length (rows.listed x.word))
 stores_of (insn.Branch x) s = None
 stores_of (insn.SoftwareInterrupt x) s = None
+
+-- it writes the program counter, and is no branch
+abbrev pub writes_pc_of : Insn → Bool
+writes_pc_of (insn.Computing x) = not (rows.is_test x.word) && (rows.field_d x.word == 15)
+writes_pc_of (insn.Multiply x) = false
+writes_pc_of (insn.MultiplyLong x) = false
+writes_pc_of (insn.Swap x) = false
+writes_pc_of (insn.Transfer x) = rows.is_load x.word && (rows.field_d x.word == 15)
+writes_pc_of (insn.Halfword x) = false
+writes_pc_of (insn.Block x) = rows.is_load x.word && rows.has_bit 15 x.word
+writes_pc_of (insn.Branch x) = false
+writes_pc_of (insn.SoftwareInterrupt x) = false

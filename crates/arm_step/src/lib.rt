@@ -4,6 +4,7 @@
 mod access;
 mod blocks;
 mod data;
+mod facts;
 mod flags;
 mod registers;
 mod shifter;
@@ -14,6 +15,7 @@ mod transfers;
 mod words;
 
 pub use access::{address, halfword_offset_of, load_by, offset_of, operand};
+pub use facts::{cost, draws, literal, successors};
 pub use flags::Flags;
 pub use shifter::{Shifted, by_number};
 pub use state::State;
