@@ -1,5 +1,5 @@
 //! The fields of each class of instructions.
-ghost use Rattle.std.specs.Prelude.{◌≡◌, ◌≤◌, ◌<◌, ◌+◌, true, false};
+ghost use Rattle.std.specs.Prelude.{◌≡◌, ◌≤◌, ◌<◌, ◌+◌, ◌==◌, ◌&&◌, true, false};
 ghost use Rattle.bilv_spec.specs.Arm as rows;
 ghost use Rattle.bilv_spec.specs.Words.{bits};
 ghost use Rattle.arm_decode.specs.Forms as forms;
@@ -13,7 +13,7 @@ use crate::parts::{
     Addressing, HalfwordOffset, HalfwordOp, Indexing, Offset, Opcode, Operand, ShiftKind,
 };
 use crate::register::{AnyRegister, Register, RegisterList, ShiftAmount};
-use crate::tests::{is_test, writes_back};
+use crate::tests::{by_a_register, is_test, writes_back};
 
 /// The fields of data processing.
 #[derive(Clone, Copy, PartialEq, Eq, Debug)]
@@ -253,6 +253,49 @@ impl Computing {
     {
         is_test(self.word())
     }
+
+    /// Whether its opcode is a logical one.
+    pub fn is_logical(self) -> bool
+        ensures { result ≡ rows.is_logical self.word }
+    {
+        let k = field(self.word(), 24, 21);
+        k == 0 || k == 1 || k == 8 || k == 9 || k == 12 || k == 13 || k == 14 || k == 15
+    }
+
+    /// Whether its opcode is ADC, SBC or RSC.
+    pub fn adds_carry(self) -> bool
+        ensures { result ≡ rows.adds_carry self.word }
+    {
+        let k = field(self.word(), 24, 21);
+        k == 5 || k == 6 || k == 7
+    }
+
+    /// Whether its operand is a rotation through the carry.
+    pub fn is_rrx(self) -> bool
+        ensures { result ≡ rows.is_rrx self.word }
+    {
+        let word = self.word();
+        !is_set(word, 25) && !is_set(word, 4) && field(word, 6, 5) == 3 && field(word, 11, 7) == 0
+    }
+
+    /// Whether the carry of its shifter is the flag C, whatever the registers are.
+    pub fn keeps_carry(self) -> bool
+        ensures { result ≡ rows.keeps_carry self.word }
+    {
+        let word = self.word();
+        if is_set(word, 25) {
+            field(word, 11, 8) == 0
+        } else {
+            !is_set(word, 4) && field(word, 6, 5) == 0 && field(word, 11, 7) == 0
+        }
+    }
+
+    /// Whether its operand is shifted by a register.
+    pub fn is_by_register(self) -> bool
+        ensures { result ≡ rows.by_a_register self.word }
+    {
+        by_a_register(self.word())
+    }
 }
 
 impl Multiply {
@@ -325,6 +368,16 @@ impl Transfer {
             rd: any_register(word, 12),
             offset: offset(word),
         }
+    }
+}
+
+impl Transfer {
+    /// Whether its offset is a rotation through the carry.
+    pub fn is_rrx(self) -> bool
+        ensures { result ≡ (rows.bit_i self.word && (rows.kind_of self.word == 3) && (rows.amount_of self.word == 0)) }
+    {
+        let word = self.word();
+        is_set(word, 25) && field(word, 6, 5) == 3 && field(word, 11, 7) == 0
     }
 }
 

@@ -19,7 +19,7 @@ pub(crate) fn is_test(word: u32) -> bool
 }
 
 /// Whether the operand of data processing is shifted by a register.
-fn by_a_register(word: u32) -> bool
+pub(crate) fn by_a_register(word: u32) -> bool
     ensures { result ≡ rows.by_a_register word }
 {
     !is_set(word, 25) && is_set(word, 4)

@@ -1,5 +1,5 @@
 -- Conditions.
-use Rattle.std.proofs.Common.{◌≡◌, ℕ, Bool, true, false, refl, ap}
+use Rattle.std.proofs.Common.{◌≡◌, Bool, true, false, refl}
 use Rattle.std.specs.Prelude.{◌==◌}
 use Rattle.bilv_spec.specs.Words.{bit}
 

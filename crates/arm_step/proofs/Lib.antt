@@ -6,3 +6,4 @@ pub mod Operands
 pub mod ReadRegisters
 pub mod RegisterLists
 pub mod WholeRows
+pub mod FlagNumbers

@@ -1,6 +1,5 @@
 -- The operand by its kind, offsets, and what is written back.
-use Rattle.std.proofs.Common.{◌≡◌, ℕ, ◌+◌, ◌%◌, ◌^◌, ◌<◌, refl, ap, sym, ◌∙◌, Bool, true, false, arith}
-use Rattle.std.specs.Prelude.{◌==◌, if◌then◌else◌}
+use Rattle.std.proofs.Common.{◌≡◌, ℕ, ◌%◌, ◌<◌, refl, ap, sym, ◌∙◌, Bool, true, false, arith}
 use Rattle.std.proofs.lemmas.Bool.{ne_eqb}
 use Rattle.bilv_spec.specs.Words.{add, aligned}
 use Rattle.bilv_spec.specs.Memory.{Endian, Memory, store}

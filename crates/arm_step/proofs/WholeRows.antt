@@ -1,5 +1,5 @@
 -- Rows as wholes: the condition, and what is done where it holds.
-use Rattle.std.proofs.Common.{◌≡◌, ℕ, ◌+◌, ◌*◌, refl, ap, sym, subst, ◌∙◌, Bool, true, false, Some, None, length}
+use Rattle.std.proofs.Common.{◌≡◌, ℕ, ◌*◌, refl, ap, sym, subst, ◌∙◌, Bool, true, false, Some, None, length}
 use Rattle.std.specs.Prelude.{not}
 use Rattle.bilv_spec.specs.Words.{add}
 use Rattle.bilv_spec.specs.Memory.{Endian}

@@ -14,7 +14,7 @@ use arm_decode::{Insn, Offset, TransferFields};
 use machine_law::{Cost, Succ};
 
 /// Whether the instruction's condition always holds.
-fn is_always(insn: &Insn) -> bool
+pub(crate) fn is_always(insn: &Insn) -> bool
     ensures { result ≡ rows.is_always (word_of insn.now) }
 {
     insn.condition().is_always()

@@ -12,6 +12,7 @@ mod state;
 mod steps;
 mod sums;
 mod transfers;
+mod used_flags;
 mod words;
 
 pub use access::{address, halfword_offset_of, load_by, offset_of, operand};
@@ -21,3 +22,4 @@ pub use shifter::{Shifted, by_number};
 pub use state::State;
 pub use steps::{holds, step, stored};
 pub use sums::{Computed, result_of, sum};
+pub use used_flags::flag_use;

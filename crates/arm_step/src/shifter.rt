@@ -112,10 +112,9 @@ pub fn by_number(kind: ShiftKind, amount: ShiftAmount, value: u32, carry: bool) 
 pub(crate) fn by_register(kind: ShiftKind, amount: u8, value: u32, carry: bool) -> Shifted
     ensures { shifted_of result ≡ rows.by_register (kind_number kind) amount value (bit carry) }
 {
-    if amount == 0 {
-        Shifted { value, carry }
-    } else {
-        shift(kind, value, amount as u32)
+    match amount {
+        0 => Shifted { value, carry },
+        _ => shift(kind, value, amount as u32),
     }
 }
 

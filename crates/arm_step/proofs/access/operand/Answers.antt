@@ -1,4 +1,4 @@
-use Rattle.std.proofs.Common.{◌∙◌, ℕ, ◌%◌, ap, subst}
+use Rattle.std.proofs.Common.{◌∙◌, ◌%◌, ap, subst}
 use Rattle.bilv_spec.specs.State.{flag_c}
 use Rattle.bilv_spec.specs.Words.{bit}
 use Rattle.bilv_spec.specs.Arm.{reg}

@@ -1,4 +1,4 @@
-use Rattle.std.proofs.Common.{◌<◌, ◌∙◌, sym, subst, ℕ}
+use Rattle.std.proofs.Common.{◌<◌, subst, ℕ}
 use Rattle.arm_step.specs.States.{state_of}
 use Rattle.arm_step.proofs.Operands.{wrote, jumped}
 use Rattle.arm_step.proofs.access.write.Goals as goal

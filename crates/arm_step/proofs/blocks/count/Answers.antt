@@ -1,4 +1,4 @@
-use Rattle.std.proofs.Common.{◌∙◌, ◌≡◌, ◌≤◌, ◌+◌, ◌-◌, ap, sym, arith, length, subst, ℕ}
+use Rattle.std.proofs.Common.{◌∙◌, ◌+◌, ◌-◌, ap, sym, arith, length}
 use Rattle.bilv_spec.specs.Arm.{listed_from}
 use Rattle.arm_step.proofs.RegisterLists.{counted_hit, counted_miss}
 use Rattle.arm_step.proofs.blocks.count.Goals as goal

@@ -1,4 +1,4 @@
-use Rattle.std.proofs.Common.{◌∙◌, ◌≡◌, ℕ, ◌+◌, ◌-◌, ap, sym}
+use Rattle.std.proofs.Common.{◌∙◌, ◌+◌, ◌-◌, ap, sym}
 use Rattle.bilv_spec.specs.State.{State}
 use Rattle.bilv_spec.specs.Arm as rows
 use Rattle.byte_mem.specs.Views.{endian_of}

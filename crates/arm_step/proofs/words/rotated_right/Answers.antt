@@ -1,4 +1,4 @@
-use Rattle.std.proofs.Common.{◌+◌, ◌-◌, ◌*◌, ◌/◌, ◌%◌, ◌^◌, ◌<◌, arith}
+use Rattle.std.proofs.Common.{◌-◌, ◌%◌, arith}
 use Rattle.arm_step.proofs.Bits.{power, rotated_fits}
 use Rattle.arm_step.proofs.words.rotated_right.Goals as goal
 
