@@ -1,0 +1,6 @@
+pub mod Chains
+pub mod Growing
+pub mod LoadedBytes
+pub mod Marks
+pub mod Puts
+pub mod Splits

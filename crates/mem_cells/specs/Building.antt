@@ -1,0 +1,88 @@
+-- Cells as they are built: nodes over words with base reads, which grow.
+use Rattle.std.specs.Prelude.{ℕ, ◌≡◌, ◌≤◌, ◌<◌, ◌+◌, ◌*◌, ◌^◌, List, ◌++◌, length, map, slice_index, Contains}
+use Rattle.walk_spec.specs.Terms.{TermReading, InRange, TermNode, AreTyped, HasWidth, IsTypedOver, width_of, node_at, term_word, term_gates, term_loads, own_loads, values_from, node_value}
+use Rattle.walk_spec.specs.Unrolled.{UnrolledProgram}
+use Rattle.walk_spec.specs.WalkQuestions.{IsNamedBelow, AreNamedBelow}
+use Rattle.term_dag.specs.Made.{Extends}
+use Rattle.question_form.specs.Questions.{program_of_question}
+use Rattle.mem_cells.specs.declared.building.Build.{Build}
+use Rattle.mem_cells.specs.declared.pieces.StoredByte.{StoredByte}
+use Rattle.mem_cells.specs.declared.pieces.Piece.{Piece}
+use Rattle.bilv_spec.specs.Memory.{Memory, Endian, Little, Big}
+use Rattle.mem_cells.specs.Pieces.{piece_at, piece_byte}
+
+-- Nodes over words without loads, that name the program's inputs and the base reads; the address of each read is a word over reads before it.
+pub record Cellular (u : UnrolledProgram) (nodes : List TermNode) (places : List ℕ) : Type 0 where
+  pub typed : AreTyped nodes
+  pub named : AreNamedBelow u (length places) nodes
+  pub words : (n : TermNode) → Contains nodes n → 1 ≤ width_of n
+  pub loads : term_loads nodes ≡ 0
+  pub addresses : (j : ℕ) → j < length places → HasWidth nodes 32 (slice_index places j)
+  pub early : (j i : ℕ) → j < length places → i ≤ slice_index places j → IsNamedBelow u j (node_at nodes i)
+
+-- the program of what is built
+abbrev pub program_of_build : Build → UnrolledProgram
+program_of_build b = program_of_question b.question.now
+
+-- the places of the addresses of its reads
+abbrev pub read_places : Build → List ℕ
+read_places b = map (λ t. t.0) b.addresses.items
+
+-- what is built are cells
+abbrev pub IsBuilt : Build → Type 0
+IsBuilt b = Cellular (program_of_build b) b.dag (read_places b)
+
+-- the memory at entry has the bytes of the reads
+abbrev pub GivesAll : Build → TermReading → Type 0
+GivesAll b x = (j : ℕ) → j < length (read_places b) → x.base j ≡ x.mem (term_word x b.dag (slice_index (read_places b) j))
+
+-- more was built, with at most so many gates and reads
+pub record Grown (old new : Build) (g r : ℕ) : Type 0 where
+  pub question : new.question ≡ old.question
+  pub built : IsBuilt new
+  pub extends : Extends old.dag new.dag
+  pub more : (rest : List ℕ) × (read_places new ≡ read_places old ++ rest)
+  pub gates : term_gates new.dag ≤ term_gates old.dag + g
+  pub reads : length (read_places new) ≤ length (read_places old) + r
+
+-- a node that cells may have: a word that is no load, and an input only if it is one of theirs
+pub record IsOwnNode (u : UnrolledProgram) (reads : ℕ) (nodes : List TermNode) (n : TermNode) : Type 0 where
+  pub typed : IsTypedOver nodes n
+  pub word : 1 ≤ width_of n
+  pub loads : own_loads n ≡ 0
+  pub named : IsNamedBelow u reads n
+
+-- a term has a width and a value
+pub record IsWord (nodes : List TermNode) (w t : ℕ) (f : TermReading → ℕ) : Type 0 where
+  pub place : HasWidth nodes w t
+  pub value : (x : TermReading) → InRange x → term_word x nodes t ≡ f x
+
+-- a term has a byte that hangs on the memory at entry
+pub record IsByte (b : Build) (t : ℕ) (f : TermReading → ℕ) : Type 0 where
+  pub place : HasWidth b.dag 8 t
+  pub value : (x : TermReading) → InRange x → GivesAll b x → term_word x b.dag t ≡ f x
+
+-- bytes at an address, one for each piece, are those of the pieces
+abbrev pub FollowPieces : (ℕ → ℕ) → Memory → List StoredByte → List Piece → (address : ℕ) → (bytes : ℕ → ℕ) → Type 0
+FollowPieces w m stored pieces i bytes = (q : ℕ) → q < length pieces → bytes q ≡ piece_byte w m bytes stored (piece_at pieces q) i
+
+-- a term has the byte of a piece at the address of a term that was there before
+pub record IsByteOf (old new : Build) (stored : List StoredByte) (pieces : List Piece) (q address t : ℕ) : Type 0 where
+  pub place : HasWidth new.dag 8 t
+  pub value : (x : TermReading) → InRange x → GivesAll new x → (bytes : ℕ → ℕ) → FollowPieces (term_word x old.dag) x.mem stored pieces (term_word x old.dag address) bytes →
+      term_word x new.dag t ≡ bytes q
+
+-- memories, one for each piece, are those of the pieces
+abbrev pub AreMemories : (ℕ → ℕ) → Memory → List StoredByte → List Piece → (ℕ → Memory) → Type 0
+AreMemories w m stored pieces memories = (i : ℕ) → i < 2 ^ 32 → FollowPieces w m stored pieces i (λ q. memories q i)
+
+-- a term has the word of a width that hangs on the memory of a piece
+pub record IsOfMemory (old new : Build) (stored : List StoredByte) (pieces : List Piece) (q w t : ℕ) (f : TermReading → Memory → ℕ) : Type 0 where
+  pub place : HasWidth new.dag w t
+  pub value : (x : TermReading) → InRange x → GivesAll new x → (memories : ℕ → Memory) → AreMemories (term_word x old.dag) x.mem stored pieces memories →
+      term_word x new.dag t ≡ f x (memories q)
+
+-- the number of some bytes with one more
+abbrev pub with_byte : Endian → (bytes : ℕ) → (number byte : ℕ) → ℕ
+with_byte Little n a b = a + b * 256 ^ n
+with_byte Big n a b = a * 256 + b

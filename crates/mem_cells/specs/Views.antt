@@ -1,0 +1,30 @@
+-- Cells as those of the definitions.
+use Rattle.std.specs.Prelude.{map}
+use Rattle.walk_spec.specs.Cells as walk
+use Rattle.walk_spec.specs.Unrolled.{UnrolledProgram}
+use Rattle.question_form.specs.Questions.{program_of_question}
+use Rattle.mem_cells.specs.declared.cells.Agreement.{Agreement}
+use Rattle.mem_cells.specs.declared.cells.AskedByte.{AskedByte}
+use Rattle.mem_cells.specs.declared.cells.Celled.{Celled}
+
+-- two reads that agree
+abbrev pub agreement_of : Agreement → walk.Agreement
+agreement_of a = record { condition = a.condition.0; read = a.read; other = a.other }
+
+-- a byte that is asked
+abbrev pub asked_of : AskedByte → walk.AskedByte
+asked_of a = record { condition = a.condition.0; read = a.read; byte = a.byte }
+
+-- cells
+abbrev pub cells_of : Celled → walk.Cells
+cells_of c = record {
+  nodes = c.dag;
+  addresses = map (λ t. t.0) c.addresses.items;
+  agrees = map agreement_of c.agrees.items;
+  asked = map asked_of c.asked.items;
+  root = c.root.0;
+}
+
+-- the unrolled program that cells are of
+abbrev pub program_of_cells : Celled → UnrolledProgram
+program_of_cells c = program_of_question c.question.now

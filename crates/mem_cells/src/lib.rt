@@ -1,0 +1,9 @@
+//! The memory of a question as bytes that are read once: nodes over words, base reads, and what ties these to each other and to the bytes of the file.
+#![tactic(auto)]
+
+mod building;
+mod cells;
+mod loads;
+mod pieces;
+
+pub use cells::{Agreement, AskedByte, Celled};
