@@ -17,7 +17,7 @@ use Rattle.mem_cells.specs.declared.pieces.Piece.TheVariants.{Entry, Store, Join
 use Rattle.mem_cells.specs.Pieces.{puts, put_bytes, piece_byte, piece_at, piece_gates, piece_reads, stored_at, ends_in, bool_at, link, IsSplit, AreBytes, IsStored, IsPiece, ArePieces, AreRising, IsRising, HasLinks, Needs, AreClosed}
 use Rattle.mem_cells.specs.Building.{IsBuilt, GivesAll, Grown, IsByte, FollowPieces, IsByteOf}
 use Rattle.mem_cells.proofs.Growing.{grown_on, grown_more, grown_word, grown_width, gives_before}
-use Rattle.mem_cells.proofs.Puts.{put_within}
+use Rattle.mem_cells.proofs.Puts.{puts_same, put_within}
 
 -- what is kept of pieces as cells grow
 pub stored_kept : (a b : Build) (g r : ℕ) (stored : List StoredByte) (s : Split) (f n : ℕ) → Grown a b g r → IsStored a.dag stored s f n → IsStored b.dag stored s f n
@@ -58,13 +58,6 @@ piece_rises nodes stored q (Join c a b) h = (h.1, h.2)
 
 pub pieces_rise : (nodes : List TermNode) (stored : List StoredByte) (pieces : List Piece) → ArePieces nodes stored pieces → AreRising pieces
 pieces_rise nodes stored pieces h q l = piece_rises nodes stored q (piece_at pieces q) (h q l)
-
-puts_same : (i : ℕ) (at av v w : ℕ → ℕ) (n b : ℕ) → ((k : ℕ) → k < n → at k ≡ av k) → ((k : ℕ) → k < n → v k ≡ w k) → puts i at v n b ≡ puts i av w n b
-puts_same i at av v w zero b f g = refl
-puts_same i at av v w (suc n) b f g =
-    ap (λ z. if i == z then v n else puts i at v n b) (f n (omega arith))
-    ∙ ap (λ z. if i == av n then z else puts i at v n b) (g n (omega arith))
-    ∙ ap (λ z. if i == av n then w n else z) (puts_same i at av v w n b (λ k l. f k (omega (arith, l))) (λ k l. g k (omega (arith, l))))
 
 -- stored bytes have their words as cells grow
 bytes_same : (a b : Build) (g r : ℕ) (x : TermReading) (stored : List StoredByte) (f n t y : ℕ) → Grown a b g r → AreBytes a.dag stored f n → t < length a.dag →

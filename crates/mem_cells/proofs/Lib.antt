@@ -4,3 +4,4 @@ pub mod LoadedBytes
 pub mod Marks
 pub mod Puts
 pub mod Splits
+pub mod StoredWords

@@ -19,7 +19,7 @@ test : (a b : ℕ) → ((a == b) ≡ true) × (a ≡ b) ⊎ ((a == b) ≡ false)
 test a b = elim (cases_eq a b) [ inl e ↦ inl (grind (arith, nat_tests), e) | inr n ↦ inr (grind (arith, nat_tests), n) ]
 
 -- bytes at other addresses are none
-puts_apart : (i : ℕ) (at v : ℕ → ℕ) (n b : ℕ) → ((k : ℕ) → k < n → i ≡ at k → ⊥) → puts i at v n b ≡ b
+pub puts_apart : (i : ℕ) (at v : ℕ → ℕ) (n b : ℕ) → ((k : ℕ) → k < n → i ≡ at k → ⊥) → puts i at v n b ≡ b
 puts_apart i at v zero b h = refl
 puts_apart i at v (suc n) b h = elim (test i (at n)) [
   | inl e ↦ absurd (h n (omega arith) e.1)
@@ -27,7 +27,7 @@ puts_apart i at v (suc n) b h = elim (test i (at n)) [
 ]
 
 -- a byte at the address alone is the one
-puts_here : (i : ℕ) (at v : ℕ → ℕ) (n b d : ℕ) → d < n → i ≡ at d → ((k : ℕ) → k < n → i ≡ at k → k ≡ d) → puts i at v n b ≡ v d
+pub puts_here : (i : ℕ) (at v : ℕ → ℕ) (n b d : ℕ) → d < n → i ≡ at d → ((k : ℕ) → k < n → i ≡ at k → k ≡ d) → puts i at v n b ≡ v d
 puts_here i at v zero b d l e h = absurd (omega (arith, l))
 puts_here i at v (suc n) b d l e h = elim (test i (at n)) [
   | inl t ↦ ap (λ z. if z then v n else puts i at v n b) t.0 ∙ ap v (h n (omega arith) t.1)
@@ -36,6 +36,14 @@ puts_here i at v (suc n) b d l e h = elim (test i (at n)) [
   where
     apart : (i ≡ at n → ⊥) → (d ≡ n) → ⊥
     apart f q = f (e ∙ ap at q)
+
+-- bytes that are the same at the same addresses
+pub puts_same : (i : ℕ) (at av v w : ℕ → ℕ) (n b : ℕ) → ((k : ℕ) → k < n → at k ≡ av k) → ((k : ℕ) → k < n → v k ≡ w k) → puts i at v n b ≡ puts i av w n b
+puts_same i at av v w zero b f g = refl
+puts_same i at av v w (suc n) b f g =
+    ap (λ z. if i == z then v n else puts i at v n b) (f n (omega arith))
+    ∙ ap (λ z. if i == av n then z else puts i at v n b) (g n (omega arith))
+    ∙ ap (λ z. if i == av n then w n else z) (puts_same i at av v w n b (λ k l. f k (omega (arith, l))) (λ k l. g k (omega (arith, l))))
 
 -- sums of one base
 there : (b o s : ℕ) → b < 2 ^ 32 → o < 2 ^ 32 → s < 2 ^ 32 → add 32 b o ≡ add 32 (add 32 b s) (sub 32 o s)

@@ -8,8 +8,11 @@ use Rattle.question_form.specs.Questions.{program_of_question}
 use Rattle.mem_cells.specs.declared.building.Build.{Build}
 use Rattle.mem_cells.specs.declared.pieces.StoredByte.{StoredByte}
 use Rattle.mem_cells.specs.declared.pieces.Piece.{Piece}
-use Rattle.bilv_spec.specs.Memory.{Memory, Endian, Little, Big}
-use Rattle.mem_cells.specs.Pieces.{piece_at, piece_byte}
+use Rattle.bilv_spec.specs.Memory.{Memory, Endian, Little, Big, byte_of, store}
+use Rattle.bilv_spec.specs.Words.{add}
+use Rattle.mem_cells.specs.declared.pieces.Split.{Split}
+use Rattle.mem_cells.specs.declared.pieces.Piece.TheVariants.{Entry, Store, Join}
+use Rattle.mem_cells.specs.Pieces.{piece_at, piece_byte, puts, stored_at, IsStored}
 
 -- Nodes over words without loads, that name the program's inputs and the base reads; the address of each read is a word over reads before it.
 pub record Cellular (u : UnrolledProgram) (nodes : List TermNode) (places : List ℕ) : Type 0 where
@@ -86,3 +89,21 @@ pub record IsOfMemory (old new : Build) (stored : List StoredByte) (pieces : Lis
 abbrev pub with_byte : Endian → (bytes : ℕ) → (number byte : ℕ) → ℕ
 with_byte Little n a b = a + b * 256 ^ n
 with_byte Big n a b = a * 256 + b
+
+-- the first bytes of a word are written, from a place of a list on: their addresses are those from one on
+pub record IsWritten (old new : Build) (stored : List StoredByte) (first count a v n : ℕ) (e : Endian) : Type 0 where
+  pub addresses : (j : ℕ) → j < count → IsWord new.dag 32 (stored_at stored (first + j)).address.0 (λ x. add 32 (term_word x old.dag a) j)
+  pub values : (j : ℕ) → j < count → IsWord new.dag 8 (stored_at stored (first + j)).value.0 (λ x. byte_of e n (term_word x old.dag v) j)
+
+-- a piece stores the bytes of a word in another
+pub record StoresWord (old new : Build) (stored : List StoredByte) (m a v n : ℕ) (e : Endian) (first : ℕ) (to : Split) : Type 0 where
+  pub stored_bytes : IsStored new.dag stored to first n
+  pub bytes : (x : TermReading) → InRange x → (i : ℕ) → i < 2 ^ 32 → (memory : Memory) →
+      puts i (λ k. term_word x new.dag (stored_at stored (first + k)).address.0) (λ k. term_word x new.dag (stored_at stored (first + k)).value.0) n (memory i)
+      ≡ store e n memory (term_word x old.dag a) (term_word x old.dag v) i
+
+-- so does the piece
+abbrev pub IsStore : (old new : Build) → List StoredByte → (m a v n : ℕ) → Endian → Piece → Type 0
+IsStore old new stored m a v n e Entry = ⊥
+IsStore old new stored m a v n e (Store p to f k) = (p ≡ m) × (k ≡ n) × StoresWord old new stored m a v n e f to
+IsStore old new stored m a v n e (Join c p q) = ⊥

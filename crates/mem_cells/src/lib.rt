@@ -5,5 +5,6 @@ mod building;
 mod cells;
 mod loads;
 mod pieces;
+mod stores;
 
 pub use cells::{Agreement, AskedByte, Celled};

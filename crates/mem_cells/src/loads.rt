@@ -13,7 +13,7 @@ use std::alloc::{AllocError, Global};
 use term_dag::{Node, Op, Term};
 
 /// The address some bytes behind another.
-fn raised(build: &mut Build, address: Term, bytes: u8) -> Result<Term, AllocError>
+pub fn raised(build: &mut Build, address: Term, bytes: u8) -> Result<Term, AllocError>
     requires built { IsBuilt build.old }
     requires address { HasWidth build.old.dag 32 address.0 }
     ensures grown { OnOk result (Grown build.old build.new 64 0) }
