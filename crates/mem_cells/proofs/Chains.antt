@@ -1,10 +1,10 @@
 -- The bytes of pieces, one after another.
-use Rattle.std.proofs.Common.{◌≡◌, ℕ, zero, suc, ◌+◌, ◌-◌, ◌<◌, ◌≤◌, ◌==◌, Bool, true, false, List, [], ◌∷◌, ◌++◌, length, length-append, take, get_or, true≢false, refl, ap, sym, ◌∙◌, subst, arith, inl, inr}
-use Rattle.std.specs.Prelude.{if◌then◌else◌, sum_by}
+use Rattle.std.proofs.Common.{◌≡◌, ℕ, zero, suc, ◌+◌, ◌<◌, ◌≤◌, Bool, true, false, List, [], ◌∷◌, ◌++◌, length, take, get_or, true≢false, refl, ap, sym, ◌∙◌, subst, arith, inl, inr}
+use Rattle.std.specs.Prelude.{sum_by}
 use Rattle.std.proofs.lemmas.Bool.{cases_lt}
 use Rattle.std.proofs.lemmas.List.{get_or_append_left}
 use Rattle.std.proofs.lemmas.List.Sums.{sum_by-append}
-use Rattle.bilv_spec.specs.Words.{add, sub}
+use Rattle.bilv_spec.specs.Words.{add}
 use Rattle.bilv_spec.specs.Memory.{Memory}
 use Rattle.walk_spec.specs.Terms.{TermReading, InRange, TermNode, HasWidth, term_word, select}
 use Rattle.term_dag.specs.declared.nodes.Term.{Term}
@@ -14,9 +14,9 @@ use Rattle.mem_cells.specs.declared.pieces.Split.{Split}
 use Rattle.mem_cells.specs.declared.pieces.StoredByte.{StoredByte}
 use Rattle.mem_cells.specs.declared.pieces.Piece.{Piece}
 use Rattle.mem_cells.specs.declared.pieces.Piece.TheVariants.{Entry, Store, Join}
-use Rattle.mem_cells.specs.Pieces.{puts, put_bytes, piece_byte, piece_at, piece_gates, piece_reads, stored_at, ends_in, bool_at, link, IsSplit, AreBytes, IsStored, IsPiece, ArePieces, AreRising, IsRising, HasLinks, Needs, AreClosed}
-use Rattle.mem_cells.specs.Building.{IsBuilt, GivesAll, Grown, IsByte, FollowPieces, IsByteOf}
-use Rattle.mem_cells.proofs.Growing.{grown_on, grown_more, grown_word, grown_width, gives_before}
+use Rattle.mem_cells.specs.Pieces.{puts, put_bytes, piece_byte, piece_at, piece_reads, stored_at, ends_in, bool_at, link, IsSplit, AreBytes, IsStored, IsPiece, ArePieces, AreRising, IsRising, HasLinks, Needs, AreClosed}
+use Rattle.mem_cells.specs.Building.{IsBuilt, Grown, IsByte, IsByteOf}
+use Rattle.mem_cells.proofs.Growing.{grown_word, grown_width, gives_before}
 use Rattle.mem_cells.proofs.Puts.{puts_same, put_within}
 
 -- what is kept of pieces as cells grow

@@ -1,20 +1,20 @@
 -- Cells that grow by nodes and reads.
-use Rattle.std.proofs.Common.{◌≡◌, ℕ, zero, suc, ◌+◌, ◌<◌, ◌≤◌, List, [], ◌∷◌, ◌++◌, length, length-append, refl, ap, sym, ◌∙◌, subst, arith, inl, inr, append-nil, append_assoc}
-use Rattle.std.specs.Prelude.{Contains, slice_index, map}
+use Rattle.std.proofs.Common.{◌≡◌, ℕ, ◌+◌, ◌<◌, ◌≤◌, List, [], ◌∷◌, ◌++◌, length, length-append, refl, ap, sym, ◌∙◌, subst, arith, inl, inr, append-nil, append_assoc}
+use Rattle.std.specs.Prelude.{slice_index, map}
 use Rattle.term_dag.specs.declared.nodes.Term.{Term}
 use Rattle.std.proofs.lemmas.Bool.{cases_lt}
 use Rattle.std.proofs.lemmas.List.{get_or_append_left}
 use Rattle.std.proofs.lemmas.List.Elements.{Contains-get_or}
-use Rattle.walk_spec.specs.Terms.{TermReading, InRange, TermNode, RegisterNode, FlagNode, ChoiceNode, BaseNode, MemoryNode, ConstantNode, BinaryNode, NotNode, SelectNode, ExtractNode, ConcatNode, ExtendNode, LoadNode, StoreNode, JoinNode, HasWidth, node_at, term_word, width_of, own_loads, own_gates, term_loads, term_gates, values_from, node_value}
+use Rattle.walk_spec.specs.Terms.{TermReading, TermNode, RegisterNode, FlagNode, ChoiceNode, BaseNode, MemoryNode, ConstantNode, BinaryNode, NotNode, SelectNode, ExtractNode, ConcatNode, ExtendNode, LoadNode, StoreNode, JoinNode, HasWidth, node_at, term_word, width_of}
 use Rattle.walk_spec.specs.Unrolled.{UnrolledProgram}
 use Rattle.walk_spec.specs.WalkQuestions.{IsNamedBelow}
 use Rattle.term_dag.specs.Nodes.{IsInput}
 use Rattle.term_dag.specs.Made.{Extends, IsMade, IsInterned}
 use Rattle.term_dag.proofs.ListLaws.{last}
-use Rattle.term_dag.proofs.Growth.{both_extend, still_within}
+use Rattle.term_dag.proofs.Growth.{both_extend}
 use Rattle.term_dag.proofs.Sharing.{kept_values, kept_nodes, kept_width}
 use Rattle.mem_cells.specs.declared.building.Build.{Build}
-use Rattle.mem_cells.specs.Building.{Cellular, read_places, program_of_build, IsBuilt, GivesAll, Grown, IsOwnNode, IsWord, IsByte}
+use Rattle.mem_cells.specs.Building.{Cellular, read_places, IsBuilt, GivesAll, Grown, IsOwnNode}
 
 -- only inputs have to be named
 named_by : (u : UnrolledProgram) (r : ℕ) (n : TermNode) → (IsInput n → IsNamedBelow u r n) → IsNamedBelow u r n

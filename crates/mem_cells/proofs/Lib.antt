@@ -1,4 +1,5 @@
 pub mod Chains
+pub mod Gathered
 pub mod Growing
 pub mod LoadedBytes
 pub mod Marks

@@ -1,18 +1,16 @@
 -- Loads of several bytes.
-use Rattle.std.proofs.Common.{◌≡◌, ◌⊎◌, inl, inr, [], ℕ, zero, suc, ◌+◌, ◌*◌, ◌%◌, ◌^◌, ◌<◌, ◌≤◌, Bool, true, false, List, length, refl, ap, sym, ◌∙◌, subst, arith}
-use Rattle.std.proofs.Math.Nat.{mul_comm}
-use Rattle.bilv_spec.specs.Words as words
+use Rattle.std.proofs.Common.{◌≡◌, ◌⊎◌, inl, inr, [], ℕ, suc, ◌+◌, ◌*◌, ◌^◌, ◌<◌, Bool, true, false, List, ap, sym, ◌∙◌, arith}
 use Rattle.bilv_spec.specs.Words.{add}
 use Rattle.bilv_spec.specs.Memory.{Memory, Endian, Little, Big, endian, load, number}
 use Rattle.bilv_spec.specs.Bil.{Plus}
-use Rattle.walk_spec.specs.Terms.{TermReading, InRange, TermNode, BinaryNode, ConstantNode, ConcatNode, HasWidth, term_word, values_from, node_value, width_of}
+use Rattle.walk_spec.specs.Terms.{TermReading, TermNode, BinaryNode, ConstantNode, ConcatNode, HasWidth, term_word, values_from, node_value, width_of}
 use Rattle.term_dag.proofs.Joins.{power}
 use Rattle.mem_cells.specs.declared.building.Build.{Build}
 use Rattle.mem_cells.specs.declared.pieces.StoredByte.{StoredByte}
 use Rattle.mem_cells.specs.declared.pieces.Piece.{Piece}
 use Rattle.mem_cells.specs.Pieces.{ArePieces, piece_at}
-use Rattle.mem_cells.specs.Building.{IsBuilt, GivesAll, Grown, IsWord, IsByteOf, IsOfMemory, AreMemories, with_byte}
-use Rattle.mem_cells.proofs.Growing.{grown_word, grown_width, gives_before}
+use Rattle.mem_cells.specs.Building.{Grown, IsWord, IsByteOf, IsOfMemory, AreMemories, with_byte}
+use Rattle.mem_cells.proofs.Growing.{grown_word, gives_before}
 use Rattle.mem_cells.proofs.Chains.{piece_words}
 
 -- a sum with a constant

@@ -1,6 +1,6 @@
 -- Marks on the memories that a byte needs.
-use Rattle.std.proofs.Common.{◌≡◌, ℕ, suc, ◌+◌, ◌<◌, ◌≤◌, Bool, true, false, List, length, refl, ap, sym, ◌∙◌, subst, arith, inl, inr, true≢false}
-use Rattle.std.proofs.lemmas.Bool.{cases_lt, cases_eq}
+use Rattle.std.proofs.Common.{◌≡◌, ℕ, ◌+◌, ◌≤◌, Bool, true, false, List, length, ap, sym, ◌∙◌, subst, arith, inl, inr, true≢false}
+use Rattle.std.proofs.lemmas.Bool.{cases_lt}
 use Rattle.mem_cells.specs.declared.pieces.Split.{Split}
 use Rattle.mem_cells.specs.declared.pieces.Piece.{Piece}
 use Rattle.mem_cells.specs.declared.pieces.Piece.TheVariants.{Entry, Store, Join}

@@ -1,19 +1,18 @@
 -- Bytes that are put over others.
-use Rattle.std.proofs.Common.{◌≡◌, ◌⊎◌, [], ℕ, zero, suc, ◌+◌, ◌-◌, ◌%◌, ◌^◌, ◌*◌, ◌<◌, ◌≤◌, ◌==◌, Bool, true, false, List, length, refl, ap, sym, ◌∙◌, subst, arith, inl, inr}
+use Rattle.std.proofs.Common.{◌≡◌, ◌⊎◌, [], ℕ, zero, suc, ◌+◌, ◌^◌, ◌<◌, ◌≤◌, ◌==◌, Bool, true, false, List, refl, ap, sym, ◌∙◌, arith, inl, inr}
 use Rattle.std.specs.Prelude.{if◌then◌else◌}
-use Rattle.std.proofs.lemmas.Bool.{cases_eq, cases_lt}
+use Rattle.std.proofs.lemmas.Bool.{cases_eq}
 use Rattle.std.proofs.lemmas.Bool.Decides.{nat_tests}
 use Rattle.bilv_spec.specs.Words.{add, sub, bit}
 use Rattle.bilv_spec.specs.Bil.{Equal}
-use Rattle.walk_spec.specs.Unrolled.{UnrolledProgram}
-use Rattle.walk_spec.specs.Terms.{TermReading, InRange, TermNode, BinaryNode, SelectNode, HasWidth, AreTyped, term_word, values_from, node_value, select}
+use Rattle.walk_spec.specs.Terms.{TermReading, InRange, BinaryNode, SelectNode, HasWidth, term_word, values_from, node_value, select}
 use Rattle.term_dag.proofs.Ranges.{word_fits}
 use Rattle.mem_cells.specs.declared.building.Build.{Build}
 use Rattle.mem_cells.specs.declared.pieces.Split.{Split}
 use Rattle.mem_cells.specs.declared.pieces.StoredByte.{StoredByte}
 use Rattle.mem_cells.specs.Pieces.{puts, put_bytes, stored_at, ends_in, lies_apart, IsSplit, AreBytes, IsStored}
-use Rattle.mem_cells.specs.Building.{IsBuilt, GivesAll, Grown, IsOwnNode, IsWord, IsByte}
-use Rattle.mem_cells.proofs.Growing.{grown_on, grown_more, grown_word, grown_width}
+use Rattle.mem_cells.specs.Building.{IsBuilt, Grown, IsWord, IsByte}
+use Rattle.mem_cells.proofs.Growing.{grown_word}
 
 test : (a b : ℕ) → ((a == b) ≡ true) × (a ≡ b) ⊎ ((a == b) ≡ false) × (a ≡ b → ⊥)
 test a b = elim (cases_eq a b) [ inl e ↦ inl (grind (arith, nat_tests), e) | inr n ↦ inr (grind (arith, nat_tests), n) ]

@@ -1,8 +1,8 @@
 -- Words as sums of a term and a constant.
-use Rattle.std.proofs.Common.{◌≡◌, ℕ, ◌+◌, ◌%◌, ◌^◌, ◌<◌, List, refl, ap, sym, ◌∙◌, subst, arith}
+use Rattle.std.proofs.Common.{◌≡◌, ℕ, ◌+◌, ◌%◌, ◌^◌, ◌<◌, List, ap, sym, ◌∙◌, subst, arith}
 use Rattle.bilv_spec.specs.Words.{add}
 use Rattle.bilv_spec.specs.Bil.{Plus}
-use Rattle.walk_spec.specs.Terms.{TermReading, InRange, TermNode, BinaryNode, HasWidth, AreTyped, node_at, width_of, term_word, values_from, node_value, operate}
+use Rattle.walk_spec.specs.Terms.{TermReading, InRange, TermNode, BinaryNode, HasWidth, AreTyped, node_at, width_of, term_word}
 use Rattle.term_dag.proofs.ListLaws.{by_node, typed_here}
 use Rattle.term_dag.proofs.Ranges.{word_fits}
 use Rattle.mem_cells.specs.Pieces.{IsSplit, IsZero}

@@ -1,19 +1,19 @@
 -- Words that are stored byte by byte.
-use Rattle.std.proofs.Common.{◌≡◌, ◌⊎◌, inl, inr, ℕ, zero, suc, ◌+◌, ◌-◌, ◌*◌, ◌/◌, ◌%◌, ◌^◌, ◌<◌, ◌≤◌, Bool, true, false, List, [], ◌∷◌, ◌++◌, length, length-append, get_or, refl, ap, sym, ◌∙◌, subst, arith}
+use Rattle.std.proofs.Common.{◌≡◌, inl, inr, ℕ, ◌+◌, ◌-◌, ◌*◌, ◌/◌, ◌%◌, ◌^◌, ◌<◌, ◌≤◌, true, false, List, [], ◌∷◌, ◌++◌, length, ap, sym, ◌∙◌, subst, arith}
 use Rattle.std.specs.Prelude.{if◌then◌else◌, nat_lt}
 use Rattle.std.proofs.lemmas.Bool.{cases_lt}
 use Rattle.std.proofs.lemmas.Bool.Decides.{nat_tests}
 use Rattle.std.proofs.lemmas.List.{get_or_append_left}
 use Rattle.bilv_spec.specs.Words.{add, sub}
-use Rattle.bilv_spec.specs.Memory.{Memory, Endian, Little, Big, endian, place, byte_of, store}
-use Rattle.walk_spec.specs.Terms.{TermReading, InRange, TermNode, ExtractNode, HasWidth, term_word, values_from, node_value, width_of}
+use Rattle.bilv_spec.specs.Memory.{Memory, Endian, place, byte_of, store}
+use Rattle.walk_spec.specs.Terms.{TermReading, InRange, ExtractNode, HasWidth, term_word, values_from, node_value}
 use Rattle.term_dag.proofs.Joins.{power}
 use Rattle.term_dag.proofs.ListLaws.{last}
 use Rattle.term_dag.proofs.Ranges.{word_fits}
 use Rattle.mem_cells.specs.declared.building.Build.{Build}
 use Rattle.mem_cells.specs.declared.pieces.Split.{Split}
 use Rattle.mem_cells.specs.declared.pieces.StoredByte.{StoredByte}
-use Rattle.mem_cells.specs.Pieces.{puts, stored_at, no_byte, IsSplit, AreBytes, IsStored}
+use Rattle.mem_cells.specs.Pieces.{puts, stored_at, no_byte, IsSplit, IsStored}
 use Rattle.mem_cells.specs.Building.{IsBuilt, Grown, IsWord, IsWritten}
 use Rattle.mem_cells.proofs.Growing.{grown_on, grown_word, grown_width}
 use Rattle.mem_cells.proofs.Puts.{puts_here, puts_apart, puts_same}

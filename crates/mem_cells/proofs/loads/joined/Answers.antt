@@ -1,4 +1,4 @@
-use Rattle.std.proofs.Common.{inl, inr, ap, ◌∙◌}
+use Rattle.std.proofs.Common.{inl, inr, ap}
 use Rattle.term_dag.specs.Nodes.{node_of}
 use Rattle.mem_cells.proofs.LoadedBytes.{joined_word}
 use Rattle.mem_cells.proofs.loads.joined.Goals as goal

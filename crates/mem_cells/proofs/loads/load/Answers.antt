@@ -1,4 +1,4 @@
-use Rattle.std.proofs.Common.{◌≡◌, ◌+◌, ◌*◌, arith}
+use Rattle.std.proofs.Common.{◌+◌, ◌*◌, arith}
 use Rattle.std.specs.Prelude.{sum_by}
 use Rattle.bilv_spec.specs.Memory.{endian}
 use Rattle.mem_cells.specs.Pieces.{piece_gates}

@@ -1,4 +1,4 @@
-use Rattle.std.proofs.Common.{◌≡◌, ◌*◌, ◌+◌}
+use Rattle.std.proofs.Common.{◌*◌, ◌+◌}
 use Rattle.std.specs.Prelude.{sum_by}
 use Rattle.bilv_spec.specs.Memory.{endian, load}
 use Rattle.walk_spec.specs.Terms.{term_word}

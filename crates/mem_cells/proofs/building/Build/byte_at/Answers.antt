@@ -1,4 +1,4 @@
-use Rattle.std.proofs.Common.{◌≡◌, ◌-◌, length, ap, ◌∙◌, arith}
+use Rattle.std.proofs.Common.{length, ap, arith}
 use Rattle.mem_cells.proofs.Chains.{pieces_kept, byte_before}
 use Rattle.mem_cells.proofs.building.Build.byte_at.Goals as goal
 

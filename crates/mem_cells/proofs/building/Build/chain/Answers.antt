@@ -1,9 +1,9 @@
-use Rattle.std.proofs.Common.{◌≡◌, ◌+◌, ◌<◌, Bool, true, false, take, length, get_or, refl, ap, sym, ◌∙◌, subst, arith, ◌∷◌, [], ◌++◌}
+use Rattle.std.proofs.Common.{◌≡◌, ◌+◌, ◌<◌, take, length, ap, sym, ◌∙◌, subst, arith, ◌∷◌, [], ◌++◌}
 use Rattle.std.specs.Prelude.{sum_by}
 use Rattle.std.proofs.lemmas.List.Sums.{sum_by-take-le}
 use Rattle.mem_cells.specs.declared.pieces.Piece.TheVariants.{Entry}
 use Rattle.mem_cells.specs.declared.building.Build.{Build}
-use Rattle.mem_cells.specs.Pieces.{piece_gates, piece_reads, piece_at, bool_at, link}
+use Rattle.mem_cells.specs.Pieces.{piece_gates, piece_reads, piece_at}
 use Rattle.mem_cells.specs.Building.{Grown}
 use Rattle.term_dag.proofs.ListLaws.{longer}
 use Rattle.mem_cells.proofs.Growing.{grown_on, grown_more}

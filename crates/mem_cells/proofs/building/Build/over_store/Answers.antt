@@ -1,4 +1,4 @@
-use Rattle.std.proofs.Common.{◌≡◌, ◌+◌, ◌*◌, arith}
+use Rattle.std.proofs.Common.{◌+◌, ◌*◌, arith}
 use Rattle.mem_cells.proofs.Growing.{grown_on, grown_more}
 use Rattle.mem_cells.proofs.Puts.{put_next}
 use Rattle.mem_cells.proofs.building.Build.over_store.Goals as goal

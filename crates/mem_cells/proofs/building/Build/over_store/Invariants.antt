@@ -1,4 +1,4 @@
-use Rattle.std.proofs.Common.{◌≡◌, ◌*◌}
+use Rattle.std.proofs.Common.{◌*◌}
 use Rattle.walk_spec.specs.Terms.{term_word}
 use Rattle.mem_cells.specs.Pieces.{put_bytes}
 use Rattle.mem_cells.specs.Building.{Grown, IsWord}
