@@ -1,0 +1,76 @@
+-- The places of the inputs of cells: the reading of a valuation is at them, and the cells' nodes name inputs that have places.
+use Rattle.std.proofs.Common.{◌≡◌, ℕ, ◌+◌, ◌-◌, ◌*◌, ◌<◌, Bool, true, false, List, length, ap, sym, ◌∙◌, subst, arith}
+use Rattle.std.specs.Prelude.{nat_lt, nat_eq, slice_index_or, if◌then◌else◌, Option, Some, None, unwrap_or}
+use Rattle.std.specs.List.{list_any}
+use Rattle.std.proofs.lemmas.Bool.Decides.{nat_tests}
+use Rattle.walk_spec.specs.Terms.{TermNode, RegisterNode, FlagNode, ChoiceNode, BaseNode, MemoryNode, ConstantNode, BinaryNode, NotNode, SelectNode, ExtractNode, ConcatNode, ExtendNode, LoadNode, StoreNode, JoinNode}
+use Rattle.walk_spec.specs.Unrolled.{UnrolledProgram, point_at, is_register_of, is_flag_of}
+use Rattle.walk_spec.specs.WalkQuestions.{IsNamedBelow}
+use Rattle.walk_spec.specs.Cells.{Cells}
+use Rattle.walk_spec.specs.ClauseForm.{bits_from, drawn_below, first_flag, first_choice, first_byte, inputs, place_in, reading}
+use Rattle.walk_laws.proofs.InputPlaces.{range_length}
+use Rattle.word_gates.specs.Numbers.{input_number}
+use Rattle.bit_blast.specs.declared.input_places.InputPlaces.{InputPlaces}
+use Rattle.bit_blast.specs.Places.{IsNamed, IsReadingAt}
+use Rattle.bit_blast.specs.Laid.{ArePlaces}
+use Rattle.bit_blast.proofs.InputNumbers.{bits_are, in_range, any_in_range, place_in_range, drawn_less}
+
+module _ (u : UnrolledProgram) (c : Cells) (p : InputPlaces) (is : ArePlaces u c p) where
+  registers_are : length u.registers ≡ p.registers
+  registers_are = ap length is.registers ∙ range_length p.first_register p.registers
+
+  pub flag_first : p.first_flag ≡ first_flag u
+  flag_first = omega (arith, is.order.flag, registers_are)
+
+  pub choice_first : p.first_choice ≡ first_choice u
+  choice_first = omega (arith, is.order.choice, flag_first, is.flags)
+
+  pub byte_first : p.first_byte ≡ first_byte u
+  byte_first = omega (arith, is.order.byte, choice_first, is.drawn.all)
+
+  pub inputs_are : p.inputs ≡ inputs u c
+  inputs_are = omega (arith, is.order.all, byte_first, is.reads)
+
+  -- a node of the cells names an input that has a place
+  pub named : (n : TermNode) → IsNamedBelow u (length c.addresses) n → IsNamed p n
+  named (RegisterNode n) h = in_range p.first_register p.registers n (subst (λ (z : List ℕ). list_any (nat_eq n) z ≡ true) is.registers h)
+  named (FlagNode f) h = let l : f < u.flags = grind (arith, nat_tests) in omega (arith, is.flags)
+  named (ChoiceNode i) h =
+      let e = is.drawn.each i h.0 ∙ ap (λ z. if z then Some (drawn_below u i) else None) h.1 in
+      (drawn_below u i, (omega (arith, h.0, is.drawn.places), e, omega (arith, is.drawn.all, drawn_less u i (length u.points) h.1 h.0)))
+  named (BaseNode j) h = omega (arith, is.reads, h)
+  named MemoryNode h = tt
+  named (ConstantNode w v) h = tt
+  named (BinaryNode o w a b) h = tt
+  named (NotNode w a) h = tt
+  named (SelectNode w d a b) h = tt
+  named (ExtractNode hi lo a) h = tt
+  named (ConcatNode high low a b) h = tt
+  named (ExtendNode s n m a) h = tt
+  named (LoadNode n e m a) h = tt
+  named (StoreNode n e m a v) h = tt
+  named (JoinNode d a b) h = tt
+
+  chosen : (v : ℕ → Bool) (i k : ℕ) (b : Bool) (o : Option ℕ) → o ≡ (if b then Some (drawn_below u i) else None) → o ≡ Some k →
+      (if b then bits_from v (first_choice u + 2 * drawn_below u i) 2 else 0) ≡ input_number v (p.first_choice + 2 * k) 2
+  chosen v i k true o e f =
+      let g : drawn_below u i ≡ k = ap (λ z. unwrap_or z 0) (sym e ∙ f) in
+      let h : first_choice u + 2 * drawn_below u i ≡ p.first_choice + 2 * k = omega (arith, choice_first) in
+      bits_are v (first_choice u + 2 * drawn_below u i) 2 ∙ ap (λ z. input_number v z 2) h
+  chosen v i k false o e f = absurd (let g : None ≡ Some k = sym e ∙ f in cc)
+
+  -- the reading of a valuation
+  pub reading_at : (v : ℕ → Bool) → IsReadingAt p v (reading u c v)
+  reading_at v = record {
+    registers = λ n l m.
+        let e : is_register_of u n ≡ true = subst (λ (z : List ℕ). list_any (nat_eq n) z ≡ true) (sym is.registers) (any_in_range p.first_register p.registers n l m) in
+        let f : place_in u.registers n ≡ n - p.first_register = ap (λ z. place_in z n) is.registers ∙ place_in_range p.first_register p.registers n l m in
+        ap (λ z. if z then bits_from v (32 * place_in u.registers n) 32 else 0) e ∙ ap (λ z. bits_from v (32 * z) 32) f ∙ bits_are v (32 * (n - p.first_register)) 32;
+    flags = λ f l.
+        let e : is_flag_of u f ≡ true = (let k : f < u.flags = omega (arith, is.flags) in grind (arith, nat_tests)) in
+        ap (λ z. if z then bits_from v (first_flag u + f) 1 else 0) e ∙ ap (λ z. bits_from v (z + f) 1) (sym flag_first) ∙ bits_are v (p.first_flag + f) 1;
+    choices = λ i k d. chosen v i k ((point_at u i).draws) (slice_index_or p.drawn.items i None) (is.drawn.each i (omega (arith, d.0, is.drawn.places))) d.1;
+    bytes = λ j l.
+        let e : nat_lt j (length c.addresses) ≡ true = (let k : j < length c.addresses = omega (arith, is.reads) in grind (arith, nat_tests)) in
+        ap (λ z. if z then bits_from v (first_byte u + 8 * j) 8 else 0) e ∙ ap (λ z. bits_from v (z + 8 * j) 8) (sym byte_first) ∙ bits_are v (p.first_byte + 8 * j) 8;
+  }

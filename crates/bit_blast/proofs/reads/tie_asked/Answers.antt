@@ -1,0 +1,23 @@
+use Rattle.std.proofs.Common.{◌<◌, ◌∙◌, refl, ap, subst, sym, length, arith}
+use Rattle.gates.specs.Circuits.{next, Within}
+use Rattle.word_gates.specs.Numbers.{number}
+use Rattle.word_gates.proofs.Words.{no_bit}
+use Rattle.bit_blast.specs.Said.{asked_at}
+use Rattle.bit_blast.proofs.Allowed.{no_asked, all_more, asks_is}
+use Rattle.bit_blast.proofs.reads.tie_asked.Goals as goal
+
+pub loop-i-preserved : goal.loop-i-preserved
+loop-i-preserved c =
+    let i = c.loop-i.i in
+    let l : i < length c.args.asked.now = omega arith in
+    let can = c.requires.said i no_asked l in
+    let one = c.operand-condition.ensures.len ∙ can.condition.1 in
+    record {
+      value = λ v.
+          c.in_ok-tie_byte.ensures.value v
+          ∙ all_more (asked_at c.args.places.now c.args.words.now v) c.args.asked.now i no_asked _ _ _ l (c.loop-i.invariant.value v)
+          (asks_is v c.operand-condition.result.now _ _ _ _ _ one (c.operand-condition.ensures.value v) (ap (number v) c.deref.ensures.value ∙ c.in_ok-bits.ensures.value v) refl);
+      over = λ o.
+          c.in_ok-tie_byte.ensures.over (next c.args.circuit.now) ((c.operand-condition.ensures.within _ c.requires.within).each 0 no_bit (omega (arith, one)))
+          (subst (Within (next c.args.circuit.now)) (sym c.deref.ensures.value) c.in_ok-bits.ensures.made.within) (c.loop-i.invariant.over o);
+    }

@@ -1,0 +1,14 @@
+use Rattle.std.proofs.Common.{◌≡◌, ◌==◌, ℕ, ◌<◌, ◌&&◌, Bool, drop}
+use Rattle.gates.specs.Circuits.{Within, bit_value, variable_of}
+use Rattle.gates.specs.Pushes.{satisfied, AreOver}
+use Rattle.word_gates.specs.Numbers.{number}
+use Rattle.bit_blast.proofs.TiedBits.{asks}
+use Rattle.bit_blast.proofs.ties.tie_words.Given as goal
+
+abbrev pub invariant-loop-i : goal.invariant-loop-i
+invariant-loop-i l = record {
+  value : (v : ℕ → Bool) →
+      (satisfied v l.ties.items && asks (bit_value v l.fn.condition) (number v (drop l.i l.a) == number v (drop l.i l.b)))
+      ≡ (satisfied v l.fn.ties.items && asks (bit_value v l.fn.condition) (number v l.a == number v l.b));
+  over : (n : ℕ) → variable_of l.fn.condition < n → Within n l.a → Within n l.b → AreOver n l.fn.ties.items → AreOver n l.ties.items;
+}

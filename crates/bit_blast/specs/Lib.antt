@@ -1,0 +1,4 @@
+pub mod BitWords
+pub mod Laid
+pub mod Places
+pub mod Said

@@ -1,0 +1,31 @@
+-- Where inputs stand, and the readings that give them the numbers of their variables.
+use Rattle.std.specs.Prelude.{ℕ, ◌≡◌, ◌≤◌, ◌<◌, ◌+◌, ◌-◌, ◌*◌, Bool, Some, None, length, slice_index_or}
+use Rattle.walk_spec.specs.Terms.{TermReading, TermNode, RegisterNode, FlagNode, ChoiceNode, BaseNode}
+use Rattle.word_gates.specs.Numbers.{input_number}
+use Rattle.bit_blast.specs.declared.input_places.InputPlaces.{InputPlaces}
+
+-- each kind of input begins where the one before it ends
+pub record AreInOrder (p : InputPlaces) : Type 0 where
+  pub flag : p.first_flag ≡ 32 * p.registers
+  pub choice : p.first_choice ≡ p.first_flag + p.flags
+  pub byte : p.first_byte ≡ p.first_choice + 2 * p.choices
+  pub all : p.inputs ≡ p.first_byte + 8 * p.reads
+
+-- the number of a choice among those that are drawn
+abbrev pub IsDrawn : InputPlaces → (place choice : ℕ) → Type 0
+IsDrawn p i k = (i < length p.drawn.items) × (slice_index_or p.drawn.items i None ≡ Some k) × (k < p.choices)
+
+-- the node names no input but those that have places
+abbrev pub IsNamed : InputPlaces → TermNode → Type 0
+IsNamed p (RegisterNode n) = (p.first_register ≤ n) × (n < p.first_register + p.registers)
+IsNamed p (FlagNode f) = f < p.flags
+IsNamed p (ChoiceNode i) = (k : ℕ) × IsDrawn p i k
+IsNamed p (BaseNode j) = j < p.reads
+IsNamed p n = Unit {0}
+
+-- the reading gives each input the number that its variables have under a valuation
+pub record IsReadingAt (p : InputPlaces) (v : ℕ → Bool) (x : TermReading) : Type 0 where
+  pub registers : (n : ℕ) → p.first_register ≤ n → n < p.first_register + p.registers → x.regs n ≡ input_number v (32 * (n - p.first_register)) 32
+  pub flags : (f : ℕ) → f < p.flags → x.flags f ≡ input_number v (p.first_flag + f) 1
+  pub choices : (i k : ℕ) → IsDrawn p i k → x.choice i ≡ input_number v (p.first_choice + 2 * k) 2
+  pub bytes : (j : ℕ) → j < p.reads → x.base j ≡ input_number v (p.first_byte + 8 * j) 8

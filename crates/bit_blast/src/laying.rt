@@ -1,0 +1,92 @@
+//! Where the inputs of cells stand.
+ghost use Rattle.std.specs.Prelude.{◌≡◌, ◌<◌, ◌≤◌, ◌^◌, length, slice_index_or, IfOk};
+ghost use Rattle.question_form.specs.Views.{no_code, unrolled_of};
+ghost use Rattle.state_text.specs.Starts.{layout_of};
+ghost use Rattle.mem_cells.specs.Views.{cells_of, program_of_cells};
+ghost use Rattle.bit_blast.specs.Laid.{AreDrawn, ArePlaces};
+
+use crate::input_places::InputPlaces;
+use mem_cells::Celled;
+use question_form::Unrolled;
+use state_text::Layout;
+use std::alloc::{AllocError, Global};
+
+/// How many points or base reads there are at most, so that 32 bits name each input.
+const MOST: usize = 1 << 28;
+
+/// The choices that are drawn.
+#[derive(Drop)]
+struct Choices {
+    drawn: Vec<Option<u32>>,
+    count: u32,
+}
+
+/// The number of the first register.
+fn first_register(form: Layout) -> u8
+    ensures { result ≡ (layout_of form).first }
+{
+    match form {
+        Layout::Rv32 => 1,
+        Layout::ArmLittle => 0,
+        Layout::ArmBig => 0,
+    }
+}
+
+/// Whether the row of a code reads the choice; there is nothing behind the last code.
+fn draws(unrolled: &Unrolled, code: u32) -> bool
+    ensures { result ≡ (slice_index_or unrolled.now.codes.items code no_code).draws }
+{
+    let place = code as usize;
+    if place < unrolled.codes.len() {
+        unrolled.codes[place].draws
+    } else {
+        false
+    }
+}
+
+/// The choices that are drawn, in the order of their places.
+fn choices_of(alloc: Global, unrolled: &Unrolled) -> Result<Choices, AllocError>
+    requires { length unrolled.now.points.items ≤ 2 ^ 28 }
+    ensures { IfOk result (λ c. AreDrawn (unrolled_of unrolled.now) (length (unrolled_of unrolled.now).points) c.drawn.items c.count) }
+{
+    let mut drawn = Vec::with_capacity(alloc, unrolled.points.len())?;
+    let mut count = 0u32;
+    for i in 0..unrolled.points.len() {
+        if draws(unrolled, unrolled.points[i].code) {
+            drawn.push(Some(count))?;
+            count += 1;
+        } else {
+            drawn.push(None)?;
+        }
+    }
+    Ok(Choices { drawn, count })
+}
+
+/// Where the inputs of cells stand. The error is want of memory, which 2^28 points or base reads are.
+pub fn places_of(alloc: Global, c: &Celled) -> Result<InputPlaces, AllocError>
+    ensures { IfOk result (λ p. ArePlaces (program_of_cells c.now) (cells_of c.now) p) }
+{
+    let unrolled = c.question.passive.unrolled;
+    if unrolled.points.len() > MOST || c.addresses.len() > MOST {
+        return Err(AllocError);
+    }
+    let choices = choices_of(alloc, unrolled)?;
+    let registers = unrolled.form.register_count() as u8;
+    let flags = unrolled.form.flag_count();
+    let first_flag = 32 * registers as u32;
+    let first_choice = first_flag + flags as u32;
+    let first_byte = first_choice + 2 * choices.count;
+    let reads = c.addresses.len() as u32;
+    Ok(InputPlaces {
+        first_register: first_register(unrolled.form),
+        registers,
+        flags,
+        drawn: choices.drawn,
+        choices: choices.count,
+        reads,
+        first_flag,
+        first_choice,
+        first_byte,
+        inputs: first_byte + 8 * reads,
+    })
+}
