@@ -326,3 +326,7 @@ line_made a b c d big e now entry z l t h h' k v s =
           s.value x ok
           ∙ ap (λ w. bit (is_true w)) (v.value x ok m n at from (is_state_stays a b _ _ _ _ _ now x m at first.grew h g) (is_state_stays a b _ _ _ _ _ entry x n from first.grew h' f));
     }
+
+-- a line costs 64 gates at least
+pub line_enough : (e : Expr) → 64 ≤ line_price e
+line_enough e = let enough = price_enough (operations e) (products e) (gates_of e) (products_few e) (gates_few e) in omega (arith, enough)

@@ -29,11 +29,11 @@ pub struct Now<'a> {
 
 /// Whether a line of notes is true in the state now, with a state at entry, as a term of 1 bit; `big` is the machine's byte order. The error is want of memory; then
 /// nothing is said of the terms.
-pub fn line(
+pub fn line<'a>(
     dag: &mut Dag,
     says: &Expr,
-    now: &Now,
-    entry: &Now,
+    now: &Now<'a>,
+    entry: &Now<'a>,
     big: bool,
 ) -> Result<Term, AllocError>
     requires reads { IsReadable (form_of now.now.names.now) (expr_of says.now) }
