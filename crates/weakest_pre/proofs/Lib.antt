@@ -1,0 +1,4 @@
+pub mod Marks
+pub mod Copying
+pub mod Entries
+pub mod Told

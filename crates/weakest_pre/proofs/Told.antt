@@ -1,0 +1,187 @@
+-- What the term of a question says, from that of the entry condition and a passive program.
+use Rattle.std.proofs.Common.{inl, inr, ◌≡◌, ◌↔◌, ℕ, ◌+◌, ◌<◌, Bool, true, false, ◌&&◌, if◌then◌else◌, bit_and, List, [], ◌∷◌, length, map, Contains, refl, ap, sym, ◌∙◌, arith, Option, None, Some}
+use Rattle.std.specs.List.{list_all}
+use Rattle.std.proofs.lemmas.Bool.{false≢true, eqb-true, eq-eqb}
+use Rattle.bilv_spec.specs.Words.{bit}
+use Rattle.bilv_spec.specs.Memory.{Endian}
+use Rattle.bilv_spec.specs.Bil as bil
+use Rattle.bilv_spec.specs.State.{State}
+use Rattle.bilv_spec.specs.Notes.{NoteLine, value, is_true}
+use Rattle.bilv_spec.specs.Run.{false_line}
+use Rattle.bilv_spec.specs.Questions.{Reading, IsReading, Question, EntryQuestion}
+use Rattle.walk_spec.specs.Terms.{InRange, TermNode, RegisterNode, FlagNode, ChoiceNode, BaseNode, MemoryNode, ConstantNode, BinaryNode, NotNode, SelectNode, ExtractNode, ConcatNode, ExtendNode, LoadNode, StoreNode, JoinNode, HasWidth, term_word, term_gates, term_loads, term_stores, term_joins}
+use Rattle.walk_spec.specs.Unrolled.{UnrolledProgram, state_at}
+use Rattle.walk_spec.specs.Unrolling.{IsWalkable}
+use Rattle.walk_spec.specs.Sweep.{swept}
+use Rattle.walk_spec.specs.Passive.{Passive, UnderAll, Tells, IsPassive, ends_held}
+use Rattle.walk_spec.specs.WalkQuestions.{MeetsLines, IsTrueButBytes, IsNamedBelow, term_reading, TellsQuestion}
+use Rattle.walk_spec.proofs.SweepWalk.{held_answers}
+use Rattle.walk_spec.proofs.PriceSums.{parts_add_up}
+use Rattle.term_dag.specs.Nodes.{IsInput}
+use Rattle.term_dag.specs.Made.{IsMade}
+use Rattle.term_dag.proofs.Growth.{grew_on, grew_more, inputs_on, inputs_more}
+use Rattle.term_names.specs.Chosen.{at_entry}
+use Rattle.note_terms.specs.Steps.{IsStep}
+use Rattle.note_terms.proofs.Steps.{step_made, bits_and}
+use Rattle.weakest_pre.specs.Copies.{IsCopyOf}
+use Rattle.weakest_pre.specs.Entry.{meets, IsEntryBit}
+use Rattle.weakest_pre.specs.Roots.{IsTied}
+use Rattle.weakest_pre.proofs.Copying.{copied_inputs}
+
+-- a bit tied to the copy of another
+pub tied_made : (source a b c : List TermNode) (p s q t : ℕ) → p < length a → HasWidth source 1 s → IsCopyOf source a b s q → IsMade b c (BinaryNode bil.And 1 p q) t →
+    IsTied source a c p s t
+tied_made source a b c p s q t h bit_s copy made =
+    let last : IsStep b c 1 0 2 (λ w. w ≡ 1) (λ x. bit_and (term_word x b p) (term_word x b q)) t =
+    step_made b c 1 0 _ _ (BinaryNode bil.And 1 p q) t made (omega arith) (omega arith) refl refl (λ i. i) (λ w e. e) (λ x r. refl) in
+    record {
+      grew = grew_more a c (term_gates source + 1) (term_loads source + 0) (term_stores source + 0) (term_joins source + 0) (length source + 2)
+          (term_gates source + 1) (term_loads source) (term_stores source) (term_joins source) (length source + 2)
+          (omega arith) (omega arith) (omega arith) (omega arith) (omega arith)
+          (grew_on a b c (term_gates source) (term_loads source) (term_stores source) (term_joins source) (length source) 1 0 0 0 2 copy.grew last.grew);
+      inputs = inputs_on a b c (Contains source) (copied_inputs source a b s q copy) (inputs_more b c (λ m. ⊥) (Contains source) (λ m i e. absurd e) last.inputs);
+      typed = last.typed;
+      width = (last.within, last.fits);
+      value = λ x r.
+          last.value x r ∙ ap (λ (v : ℕ). bit_and v (term_word x b q)) (ap (λ v. v.word) (copy.grew.keeps x p h))
+          ∙ ap (bit_and (term_word x a p)) (ap (λ v. v.word) (copy.value x));
+    }
+
+-- the first false line, of one line and more
+no_line_by : (b all : Bool) (found : Option ℕ) (n : ℕ) → (b && all) ≡ true → (all ≡ true → found ≡ None) → (if b then found else Some n) ≡ None
+no_line_by true all found n h k = k h
+no_line_by false all found n h k = cc
+
+-- there is none where all are true
+no_line : (e : Endian) (lines : List NoteLine) (s : State) → list_all (λ l. is_true (value e l s s)) (map (λ l. l.says) lines) ≡ true → false_line e lines s s ≡ None
+no_line e [] s h = refl
+no_line e (l ∷ lines) s h = no_line_by (is_true (value e l.says s s)) _ _ l.line h (no_line e lines s)
+
+all_lines_by : (b all : Bool) (found : Option ℕ) (n : ℕ) → (if b then found else Some n) ≡ None → (found ≡ None → all ≡ true) → (b && all) ≡ true
+all_lines_by true all found n h k = k h
+all_lines_by false all found n h k = cc
+
+-- and all are where there is none
+all_lines : (e : Endian) (lines : List NoteLine) (s : State) → false_line e lines s s ≡ None → list_all (λ l. is_true (value e l s s)) (map (λ l. l.says) lines) ≡ true
+all_lines e [] s h = refl
+all_lines e (l ∷ lines) s h = all_lines_by (is_true (value e l.says s s)) _ (false_line e lines s s) l.line h (all_lines e lines s)
+
+-- two tests that are both true
+both_true : (p q : Bool) → (p && q) ≡ true → (p ≡ true) × (q ≡ true)
+both_true true q h = (refl, h)
+both_true false q h = absurd (false≢true h)
+
+true_both : (p q : Bool) → p ≡ true → q ≡ true → (p && q) ≡ true
+true_both true q h k = k
+true_both false q h k = h
+
+-- the test of the entry condition
+lines_met : (u : UnrolledProgram) (s : State) → (meets u s ≡ true) ↔ MeetsLines u s
+lines_met u s = (
+  (λ h. let k = both_true _ _ h in record { link = eqb-true _ _ k.0; requires = no_line u.endian u.requires s k.1 }),
+  (λ m. true_both _ _ (eq-eqb _ _ m.link) (all_lines u.endian u.requires s m.requires)),
+)
+
+-- a reading is in range
+reading_in_range : (u : UnrolledProgram) (r : Reading) → IsReading r → InRange (term_reading u r)
+reading_in_range u r h = record { regs = h.state.regs; flags = h.state.flags; mem = h.state.mem; choice = λ i. h.choice _; base = λ j. omega arith }
+
+-- what the entry condition's bit is under a reading
+entry_tells : (u : UnrolledProgram) (old new : List TermNode) (t : ℕ) → IsEntryBit u old new t → (r : Reading) → IsReading r → r.state.pc ≡ u.entry →
+    term_word (term_reading u r) new t ≡ bit (meets u r.state)
+entry_tells u old new t h r k e =
+    let x = term_reading u r in
+    let same : r.state ≡ state_at (at_entry x) u.entry = ap (λ (p : ℕ). state_at (at_entry x) p) e in
+    h.value x (reading_in_range u r k) ∙ ap (λ (s : State). bit (meets u s)) (sym same)
+
+-- a bit that is 1
+bit_one : (b : Bool) → bit b ≡ 1 → b ≡ true
+bit_one true h = refl
+bit_one false h = absurd (omega arith)
+
+-- a question by the tests of the entry condition and of what is held in the end
+question_by : (u : UnrolledProgram) (r : Reading) (question : Question) (word : ℕ) → IsWalkable u → word ≡ bit (meets u r.state && ends_held question (swept u r)) →
+    (word ≡ 1) ↔ IsTrueButBytes u r question
+question_by u r question word walkable is =
+    let law = held_answers u walkable.some walkable.later r question in
+    let lines = lines_met u r.state in (
+      (λ h. let k = both_true _ _ (bit_one _ (sym is ∙ h)) in law.1 (lines.0 k.0, k.1)),
+      (λ h. let k = law.0 h in is ∙ ap bit (true_both _ _ (lines.1 k.0) k.1)),
+    )
+
+-- nodes that name inputs name nothing else
+named_all : (u : UnrolledProgram) (m : TermNode) → (IsInput m → IsNamedBelow u 0 m) → IsNamedBelow u 0 m
+named_all u (RegisterNode r) h = h tt
+named_all u (FlagNode f) h = h tt
+named_all u (ChoiceNode i) h = h tt
+named_all u (BaseNode j) h = h tt
+named_all u MemoryNode h = tt
+named_all u (ConstantNode w v) h = tt
+named_all u (BinaryNode o w a b) h = tt
+named_all u (NotNode w a) h = tt
+named_all u (SelectNode w c a b) h = tt
+named_all u (ExtractNode hi lo a) h = tt
+named_all u (ConcatNode hi lo a b) h = tt
+named_all u (ExtendNode s n k a) h = tt
+named_all u (LoadNode n e k a) h = tt
+named_all u (StoreNode n e k a v) h = tt
+named_all u (JoinNode c a b) h = tt
+
+-- an empty list has no node
+nothing_there : (m : TermNode) (A : Type 0) → Contains [] m → A
+nothing_there m A c = let l = c.1 in absurd (omega arith)
+
+-- the inputs of the entry condition
+entry_named : (u : UnrolledProgram) (new : List TermNode) (t : ℕ) → IsEntryBit u [] new t → (m : TermNode) → Contains new m → IsInput m → IsNamedBelow u 0 m
+entry_named u new t h m c i = elim (h.inputs m c i) [ inl none ↦ nothing_there m (IsNamedBelow u 0 m) none | inr named ↦ named ]
+
+-- a test with nothing more
+and_true : (b : Bool) → b ≡ (b && true)
+and_true true = refl
+and_true false = refl
+
+-- the question whether there is an entry state
+pub entry_told : (u : UnrolledProgram) (new : List TermNode) (t : ℕ) → IsWalkable u → IsEntryBit u [] new t → TellsQuestion u EntryQuestion (record { nodes = new; root = t })
+entry_told u new t walkable h =
+    let parts = parts_add_up u in
+    let grew = h.grew in
+    record {
+      terms = record {
+        typed = h.typed;
+        named = λ m c. named_all u m (entry_named u new t h m c);
+        gates = omega (arith, grew.gates, parts.0);
+        loads = omega (arith, grew.loads, parts.1);
+        stores = omega (arith, grew.stores);
+        joins = omega (arith, grew.joins);
+        few = omega (arith, grew.few, parts.2);
+      };
+      root = h.width;
+      means = λ r k e. question_by u r EntryQuestion _ walkable (entry_tells u [] new t h r k e ∙ ap bit (and_true (meets u r.state)));
+    }
+
+-- the questions about the run
+pub end_told : (u : UnrolledProgram) (q : Passive) (mid new : List TermNode) (question : Question) (entry end t : ℕ) → IsWalkable u → IsPassive u q → IsEntryBit u [] mid entry →
+    UnderAll u (λ r. Tells q.nodes (term_reading u r) end (ends_held question (swept u r))) → IsTied q.nodes mid new entry end t →
+    TellsQuestion u question (record { nodes = new; root = t })
+end_told u q mid new question entry end t walkable passive h tells tied =
+    let parts = parts_add_up u in
+    let grew = h.grew in
+    let more = tied.grew in
+    let room = passive.terms in
+    record {
+      terms = record {
+        typed = tied.typed;
+        named = λ m c. named_all u m (λ i. elim (tied.inputs m c i) [ inl old ↦ entry_named u mid entry h m old i | inr copied ↦ room.named m copied ]);
+        gates = omega (arith, grew.gates, more.gates, room.gates, parts.0);
+        loads = omega (arith, grew.loads, more.loads, room.loads, parts.1);
+        stores = omega (arith, grew.stores, more.stores, room.stores);
+        joins = omega (arith, grew.joins, more.joins, room.joins);
+        few = omega (arith, grew.few, more.few, room.few, parts.2);
+      };
+      root = tied.width;
+      means = λ r k e.
+          let x = term_reading u r in
+          question_by u r question _ walkable
+          (tied.value x (reading_in_range u r k) ∙ ap (λ (v : ℕ). bit_and v (term_word x q.nodes end)) (entry_tells u [] mid entry h r k e)
+          ∙ ap (bit_and (bit (meets u r.state))) (tells r k e) ∙ bits_and (meets u r.state) (ends_held question (swept u r)));
+    }

@@ -1,0 +1,81 @@
+-- Copies of a term with all that it is over.
+use Rattle.std.specs.Prelude.{ℕ, ◌≡◌, ◌<◌, ◌≤◌, ◌+◌, ◌⊎◌, Bool, true, false, if◌then◌else◌, List, [], ◌∷◌, length, Contains, slice_index_or, slice_set}
+use Rattle.std.specs.List.{AllByRecursion}
+use Rattle.walk_spec.specs.Terms.{TermReading, TermNode, AreTyped, HasWidth, term_value, width_of, node_at, own_gates, own_loads, own_stores, own_joins, term_gates, term_loads, term_stores, term_joins}
+use Rattle.term_dag.specs.Made.{Grew, operands, moved}
+use Rattle.term_dag.specs.declared.nodes.Term.{Term}
+
+-- no term
+abbrev pub no_term : Term
+no_term = record { 0 = 0 }
+
+-- the place of the copy of a term
+abbrev pub copy_at : List Term → ℕ → ℕ
+copy_at copies i = (slice_index_or copies i no_term).0
+
+-- the place is marked
+abbrev pub is_marked : List Bool → ℕ → Bool
+is_marked marks i = slice_index_or marks i false
+
+-- the marks with more places marked
+abbrev pub marked : List Bool → List ℕ → List Bool
+marked marks [] = marks
+marked marks (i ∷ rest) = marked (slice_set marks i true) rest
+
+-- the marks with the places that a place is over, if that is marked
+abbrev pub visited : List TermNode → List Bool → (place : ℕ) → List Bool
+visited nodes marks i = if is_marked marks i then marked marks (operands (node_at nodes i)) else marks
+
+-- the place is a root, or one that such a place is over
+pub data IsReached (nodes : List TermNode) (root : ℕ) : ℕ → Type 0 where
+  itself : IsReached nodes root root
+  under : {i : ℕ} (a : ℕ) → IsReached nodes root i → Contains (operands (node_at nodes i)) a → IsReached nodes root a
+
+-- All places from one on are done: what a marked one of them is over is marked.
+pub record AreMarkedFrom (nodes : List TermNode) (root from : ℕ) (marks : List Bool) : Type 0 where
+  pub count : length marks ≡ root + 1
+  pub few : from ≤ root + 1
+  pub first : is_marked marks root ≡ true
+  pub only : (i : ℕ) → is_marked marks i ≡ true → IsReached nodes root i
+  pub closed : (i : ℕ) → from ≤ i → i < length marks → is_marked marks i ≡ true → AllByRecursion (λ a. is_marked marks a ≡ true) (operands (node_at nodes i))
+
+-- The marks are those of the places that a root reaches.
+abbrev pub AreReached : List TermNode → (root : ℕ) → List Bool → Type 0
+AreReached nodes root marks = AreMarkedFrom nodes root 0 marks
+
+-- of each marked place among the first there is a copy, with its width and its value
+pub record AreCopies (source new : List TermNode) (marks : List Bool) (copies : List Term) : Type 0 where
+  pub widths : (i : ℕ) → i < length copies → is_marked marks i ≡ true → HasWidth new (width_of (node_at source i)) (copy_at copies i)
+  pub values : (x : TermReading) (i : ℕ) → i < length copies → is_marked marks i ≡ true → term_value x new (copy_at copies i) ≡ term_value x source i
+
+-- a node is that of a marked place, over other places
+pub record IsOfMarked (source : List TermNode) (marks : List Bool) (m : TermNode) : Type 0 where
+  pub at : ℕ
+  pub mark : is_marked marks at ≡ true
+  pub within : at < length source
+  pub over : ℕ → ℕ
+  pub is : m ≡ moved over (node_at source at)
+
+-- a node is that of a place that a root reaches, over other places
+pub record IsOfReached (source : List TermNode) (root : ℕ) (m : TermNode) : Type 0 where
+  pub at : ℕ
+  pub reached : IsReached source root at
+  pub within : at < length source
+  pub over : ℕ → ℕ
+  pub is : m ≡ moved over (node_at source at)
+
+-- The copy of a place, if it is marked: its node, and no other is new.
+pub record IsCopy (source old new : List TermNode) (marks : List Bool) (i t : ℕ) : Type 0 where
+  pub grew : Grew old new (own_gates (node_at source i)) (own_loads (node_at source i)) (own_stores (node_at source i)) (own_joins (node_at source i)) 1
+  pub only : (m : TermNode) → Contains new m → Contains old m ⊎ IsOfMarked source marks m
+  pub typed : AreTyped new
+  pub width : is_marked marks i ≡ true → HasWidth new (width_of (node_at source i)) t
+  pub value : (x : TermReading) → is_marked marks i ≡ true → term_value x new t ≡ term_value x source i
+
+-- A term of a list has its copy in another, with the same width and value. What is new are nodes that the term reaches, which cost no more than the list.
+pub record IsCopyOf (source old new : List TermNode) (root t : ℕ) : Type 0 where
+  pub grew : Grew old new (term_gates source) (term_loads source) (term_stores source) (term_joins source) (length source)
+  pub only : (m : TermNode) → Contains new m → Contains old m ⊎ IsOfReached source root m
+  pub typed : AreTyped new
+  pub width : HasWidth new (width_of (node_at source root)) t
+  pub value : (x : TermReading) → term_value x new t ≡ term_value x source root

@@ -1,0 +1,48 @@
+-- The entry condition as a term.
+use Rattle.std.specs.Prelude.{ℕ, ◌≡◌, ◌+◌, ◌*◌, Bool, ◌&&◌, List, map, sum_by}
+use Rattle.std.specs.List.{list_all}
+use Rattle.bilv_spec.specs.Words.{bit}
+use Rattle.bilv_spec.specs.Memory.{Endian, endian}
+use Rattle.bilv_spec.specs.Machine.{is_place}
+use Rattle.bilv_spec.specs.State.{State}
+use Rattle.bilv_spec.specs.Notes.{Expr, value, is_true}
+use Rattle.bilv_spec.specs.Points.{line_price, bytes_loaded}
+use Rattle.walk_spec.specs.Terms.{TermReading, InRange, TermNode, AreTyped, HasWidth, term_word}
+use Rattle.walk_spec.specs.Unrolled.{Carried, UnrolledProgram, state_at}
+use Rattle.walk_spec.specs.Prices.{entry_lines, line_steps, variables_of}
+use Rattle.walk_spec.specs.WalkQuestions.{IsNamedBelow}
+use Rattle.term_dag.specs.Made.{Grew, InputsFrom}
+use Rattle.notes_lang.specs.declared.notes.NoteLine.{NoteLine}
+use Rattle.notes_value.specs.Views.{expr_of}
+use Rattle.term_names.specs.Chosen.{at_entry}
+use Rattle.note_terms.specs.declared.Now.{Now}
+use Rattle.note_terms.specs.Lines.{IsStateOf}
+
+-- what lines say
+abbrev pub said : List NoteLine → List Expr
+said lines = map (λ l. expr_of l.says) lines
+
+-- all lines are true in a state
+abbrev pub all_true : Endian → List Expr → State → Bool
+all_true e lines s = list_all (λ l. is_true (value e l s s)) lines
+
+-- A bit says whether a first one is 1 and all lines are true in the state. It costs the lines' prices.
+pub record AreTrue (old new : List TermNode) (big : Bool) (now : Now) (first : ℕ) (lines : List Expr) (t : ℕ) : Type 0 where
+  pub grew : Grew old new (sum_by line_price lines) (sum_by bytes_loaded lines) 0 0 (4 * line_steps lines)
+  pub inputs : InputsFrom old new (λ m. ⊥)
+  pub typed : AreTyped new
+  pub width : HasWidth new 1 t
+  pub value : (x : TermReading) → InRange x → (c : Carried) (at : ℕ) → IsStateOf old x now c at → (b : Bool) → term_word x old first ≡ bit b →
+      term_word x new t ≡ bit (b && all_true (endian big) lines (state_at c at))
+
+-- whether the entry condition is met, but for the bytes of the file
+abbrev pub meets : UnrolledProgram → State → Bool
+meets u s = is_place (s.regs u.link) && all_true u.endian (entry_lines u) s
+
+-- A bit says whether the entry condition is met, but for the bytes of the file. It costs two gates and the required lines' prices.
+pub record IsEntryBit (u : UnrolledProgram) (old new : List TermNode) (t : ℕ) : Type 0 where
+  pub grew : Grew old new (2 + sum_by line_price (entry_lines u)) (sum_by bytes_loaded (entry_lines u)) 0 0 (2 * variables_of u + 8 + 4 * line_steps (entry_lines u))
+  pub inputs : InputsFrom old new (IsNamedBelow u 0)
+  pub typed : AreTyped new
+  pub width : HasWidth new 1 t
+  pub value : (x : TermReading) → InRange x → term_word x new t ≡ bit (meets u (state_at (at_entry x) u.entry))

@@ -1,0 +1,113 @@
+//! The entry condition as a term.
+
+ghost use Rattle.std.specs.Prelude.{◌≡◌, ◌<◌, ℕ, IfOk, length, map, Contains};
+ghost use Rattle.bilv_spec.specs.Words.{bit};
+ghost use Rattle.bilv_spec.specs.Machine.{is_place};
+ghost use Rattle.bilv_spec.specs.Bil.{And};
+ghost use Rattle.walk_spec.specs.Terms.{TermReading, BinaryNode, AreTyped, HasWidth, term_word};
+ghost use Rattle.term_dag.specs.Made.{IsMade};
+ghost use Rattle.walk_spec.specs.Unrolling.{IsReadable, IsWalkable};
+ghost use Rattle.state_text.specs.Starts.{layout_of};
+ghost use Rattle.notes_value.specs.Views.{expr_of};
+ghost use Rattle.notes_lang.specs.declared.notes.NoteLine as declared;
+ghost use Rattle.question_form.specs.Views.{unrolled_of};
+ghost use Rattle.term_names.specs.Views.{form_of};
+ghost use Rattle.note_terms.specs.Steps.{IsStep};
+ghost use Rattle.note_terms.specs.Lines.{AreStateTerms};
+ghost use Rattle.weakest_pre.specs.Entry.{AreTrue, IsEntryBit, said};
+
+use note_terms::{Now, line};
+use notes_lang::NoteLine;
+use question_form::Unrolled;
+use state_text::Layout;
+use std::alloc::{AllocError, Global};
+use term_dag::{Dag, Node, Op, Term};
+use term_names::entry_names;
+
+/// The number of the first register of a layout, and how many registers it has.
+fn registers(form: Layout) -> (u8, u8)
+    ensures first { result.0 ≡ (layout_of form).first }
+    ensures count { result.1 ≡ length (layout_of form).registers }
+{
+    match form {
+        Layout::Rv32 => (1, 31),
+        Layout::ArmLittle | Layout::ArmBig => (0, 15),
+    }
+}
+
+/// Whether both bits are 1.
+pub fn both(dag: &mut Dag, left: Term, right: Term) -> Result<Term, AllocError>
+    requires left { HasWidth dag.old 1 left.0 }
+    requires right { HasWidth dag.old 1 right.0 }
+    ensures { IfOk result (λ t. IsMade dag.old dag.new (BinaryNode And 1 left.0 right.0) t.0) }
+{
+    let bit = dag.mk(Node::Binary {
+        op: Op::And,
+        width: 1,
+        left,
+        right,
+    })?;
+    Ok(bit)
+}
+
+/// Whether a word is a multiple of 4.
+fn is_at_place(dag: &mut Dag, word: Term) -> Result<Term, AllocError>
+    requires typed { AreTyped dag.old }
+    requires word { HasWidth dag.old 32 word.0 }
+    ensures { IfOk result (λ t. IsStep dag.old dag.new 2 0 5 (λ w. w ≡ 1) (λ x. bit (is_place (term_word x dag.old word.0))) t.0) }
+{
+    let low = dag.mk(Node::Extract {
+        hi: 1,
+        lo: 0,
+        term: word,
+    })?;
+    let zero = dag.keep(Node::Constant { width: 2, value: 0 })?;
+    let bit = dag.mk(Node::Binary {
+        op: Op::Equal,
+        width: 2,
+        left: low,
+        right: zero,
+    })?;
+    Ok(bit)
+}
+
+/// Whether a bit is 1 and all lines are true in a state. The error is want of memory.
+fn all_true(
+    dag: &mut Dag,
+    lines: &[NoteLine],
+    now: &Now,
+    big: bool,
+    first: Term,
+) -> Result<Term, AllocError>
+    requires reads { (l : declared.NoteLine) → Contains lines.now l → IsReadable (form_of now.now.names.now) (expr_of l.says) }
+    requires typed { AreTyped dag.old }
+    requires now { AreStateTerms dag.old now.now }
+    requires first { HasWidth dag.old 1 first.0 }
+    ensures { IfOk result (λ t. AreTrue dag.old dag.new big now.now first.0 (said lines.now) t.0) }
+{
+    let mut all = first;
+    for each in lines {
+        let bit = line(dag, &each.says, now, now, big)?;
+        all = both(dag, all, bit)?;
+    }
+    Ok(all)
+}
+
+/// Whether the entry condition is met, but for the bytes of the file. The error is want of memory.
+pub fn entry_bit(alloc: Global, dag: &mut Dag, unrolled: &Unrolled) -> Result<Term, AllocError>
+    requires walkable { IsWalkable (unrolled_of unrolled.now) }
+    requires typed { AreTyped dag.old }
+    ensures { IfOk result (λ t. IsEntryBit (unrolled_of unrolled.now) dag.old dag.new t.0) }
+{
+    let (first, count) = registers(unrolled.form);
+    let names = entry_names(alloc, dag, first, count, unrolled.form.flag_count())?;
+    let pc = dag.keep(Node::Constant {
+        width: 32,
+        value: unrolled.entry as u64,
+    })?;
+    let link = names.registers[(unrolled.link - first) as usize];
+    let aligned = is_at_place(dag, link)?;
+    let now = Now { names: &names, pc };
+    let bit = all_true(dag, &unrolled.notes.required, &now, unrolled.big, aligned)?;
+    Ok(bit)
+}
