@@ -1,16 +1,46 @@
 -- Places by their addresses.
-use Rattle.std.proofs.Common.{◌≡◌, ℕ, ◌≤◌, ◌<◌, List, length, get_or, refl, sym, ap, ◌∙◌, subst, arith, inl, inr}
+use Rattle.std.proofs.Common.{◌≡◌, ℕ, zero, suc, ◌+◌, ◌≤◌, ◌<◌, List, [], ◌∷◌, length, get_or, refl, sym, ap, ◌∙◌, subst, arith, inl, inr, Bool}
+use Rattle.std.specs.Prelude.{not, ◌&&◌, ◌==◌, filter, if◌then◌else◌}
+use Rattle.std.specs.Ordering.{nat_cmp, is_lt}
+use Rattle.std.proofs.lemmas.Bool.Decides.{nat_tests}
 use Rattle.std.specs.List.{AllWithin}
-use Rattle.std.specs.List.Sorted.{IsPermutation, IsNonDecreasingBy}
+use Rattle.std.specs.List.Sorted.{IsPermutation, IsNonDecreasingBy, IsStableByKey}
 use Rattle.std.proofs.lemmas.Bool.{cases_lt}
 use Rattle.std.proofs.lemmas.List.{get_or_default}
 use Rattle.std.proofs.lemmas.List.Sorted.{All-permutation, Contains-permutation, length_permutation}
-use Rattle.notes_index.specs.Indexed.{IsNumbered, IsIndex, ArePlacesOf}
+use Rattle.notes_index.specs.Indexed.{IsNumbered, IsIndex, ArePlacesOf, numbered_from}
+
+same_filter : (f g : ℕ × ℕ → Bool) → ((x : ℕ × ℕ) → f x ≡ g x) → (xs : List (ℕ × ℕ)) → filter f xs ≡ filter g xs
+same_filter f g h [] = refl
+same_filter f g h (x ∷ xs) =
+    ap (λ (b : Bool). if b then x ∷ filter f xs else filter f xs) (h x) ∙ ap (λ (l : List (ℕ × ℕ)). if g x then x ∷ l else l) (same_filter f g h xs)
+
+tied : (a b : ℕ) → (not (is_lt (nat_cmp a b)) && not (is_lt (nat_cmp b a))) ≡ (b == a)
+tied a b = grind (arith, nat_tests)
+
+numbered_is : (places : List ℕ) (j : ℕ) (xs : List (ℕ × ℕ)) → length xs ≡ length places → ((k : ℕ) (d : ℕ × ℕ) → k < length places → get_or xs k d ≡ (get_or places k 0, j + k))
+    → xs ≡ numbered_from j places
+numbered_is [] j [] size each = refl
+numbered_is [] j (x ∷ xs) size each = absurd (omega arith)
+numbered_is (a ∷ places) j [] size each = absurd (omega arith)
+numbered_is (a ∷ places) j (x ∷ xs) size each =
+    let z : j + 0 ≡ j = omega arith in
+    let first : x ≡ (a, j) = each 0 x (omega arith) ∙ ap (λ (k : ℕ). (a, k)) z in
+    let rest = numbered_is places (j + 1) xs (omega arith) (λ k d w. let e : j + suc k ≡ j + 1 + k = omega arith in each (suc k) d (omega arith) ∙ ap (λ (i : ℕ). (get_or places k 0, i)) e) in
+    ap (λ (y : ℕ × ℕ). y ∷ xs) first ∙ ap (λ (l : List (ℕ × ℕ)). (a, j) ∷ l) rest
+
+-- what a stable sort by address leaves of the places of an address
+in_order : (places : List ℕ) (numbered index : List (ℕ × ℕ)) → numbered ≡ numbered_from 0 places → IsStableByKey (λ x. x.0) nat_cmp numbered index
+    → (at : ℕ) → filter (λ x. x.0 == at) index ≡ filter (λ x. x.0 == at) (numbered_from 0 places)
+in_order places numbered index e stable at =
+    let by : ℕ × ℕ → Bool = λ y. not (is_lt (nat_cmp at y.0)) && not (is_lt (nat_cmp y.0 at)) in
+    sym (same_filter by (λ (x : ℕ × ℕ). x.0 == at) (λ x. tied at x.0) index) ∙ stable (at, 0) ∙ same_filter by (λ (x : ℕ × ℕ). x.0 == at) (λ x. tied at x.0) numbered
+    ∙ ap (filter (λ (x : ℕ × ℕ). x.0 == at)) e
 
 -- sorted places are an index
 pub index_is : (places : List ℕ) (numbered index : List (ℕ × ℕ)) (n : ℕ) → n ≡ length places → IsNumbered places numbered n → IsPermutation numbered index
-    → IsNonDecreasingBy (λ x. x.0) index → IsIndex places index
-index_is places numbered index n full is moved rising = record {
+    → IsNonDecreasingBy (λ x. x.0) index → IsStableByKey (λ x. x.0) nat_cmp numbered index → IsIndex places index
+index_is places numbered index n full is moved rising stable = record {
   count = length_permutation numbered index moved ∙ is.count ∙ full;
   rising = rising;
   all = λ k w.
@@ -24,6 +54,10 @@ index_is places numbered index n full is moved rising = record {
       let less : k < n = omega arith in
       let here : k < length places = omega arith in
       subst (λ (x : ℕ × ℕ). (x.1 < length places) × (x.0 ≡ get_or places x.1 0)) (sym (is.each k d less)) (here, refl));
+  order =
+      in_order places numbered index
+      (numbered_is places 0 numbered (is.count ∙ full) (λ k d w. let less : k < n = omega arith in let z : 0 + k ≡ k = omega arith in is.each k d less ∙ ap (λ (i : ℕ). (get_or places k 0, i)) (sym z)))
+      stable;
 }
 
 -- the bounds are in order

@@ -1,5 +1,5 @@
 -- Places of lines of notes by their addresses.
-use Rattle.std.specs.Prelude.{ℕ, ◌≡◌, ◌≤◌, ◌<◌, List, length, map, slice_index, slice_index_or, All, Contains}
+use Rattle.std.specs.Prelude.{ℕ, ◌≡◌, ◌≤◌, ◌<◌, ◌+◌, ◌==◌, List, [], ◌∷◌, length, map, filter, slice_index, slice_index_or, All, Contains}
 use Rattle.std.specs.List.Sorted.{IsNonDecreasingBy}
 use Rattle.notes_lang.specs.declared.notes.Assert.{Assert}
 use Rattle.notes_lang.specs.declared.notes.Targets.{Targets}
@@ -18,12 +18,18 @@ pub record IsNumbered (places : List ℕ) (numbered : List (ℕ × ℕ)) (n : �
   pub count : length numbered ≡ n
   pub each : (k : ℕ) (d : ℕ × ℕ) → k < n → slice_index_or numbered k d ≡ (slice_index places k, k)
 
--- each address with its place, once, by rising addresses, and nothing else
+-- each address with its place, from a place on
+abbrev pub numbered_from : ℕ → List ℕ → List (ℕ × ℕ)
+numbered_from k [] = []
+numbered_from k (a ∷ places) = (a, k) ∷ numbered_from (k + 1) places
+
+-- each address with its place, once, by rising addresses, and those of one address in their order; and nothing else
 pub record IsIndex (places : List ℕ) (index : List (ℕ × ℕ)) : Type 0 where
   pub count : length index ≡ length places
   pub rising : IsNonDecreasingBy (λ x. x.0) index
   pub all : (k : ℕ) → k < length places → Contains index (slice_index places k, k)
   pub only : All (λ x. (x.1 < length places) × (x.0 ≡ slice_index places x.1)) index
+  pub order : (at : ℕ) → filter (λ x. x.0 == at) index ≡ filter (λ x. x.0 == at) (numbered_from 0 places)
 
 -- the index of notes
 pub record AreIndexed (n : Notes) (index : Index) : Type 0 where

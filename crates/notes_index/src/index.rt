@@ -1,7 +1,8 @@
 //! The places of lines of notes by the addresses that they name.
 ghost use Rattle.std.specs.Prelude.{◌≡◌, ◌≤◌, ◌<◌, ℕ, List, IfOk, length};
 ghost use Rattle.std.specs.List.{AllWithin};
-ghost use Rattle.std.specs.List.Sorted.{IsNonDecreasingBy, IsPermutation};
+ghost use Rattle.std.specs.List.Sorted.{IsNonDecreasingBy, IsPermutation, IsStableByKey};
+ghost use Rattle.std.specs.Ordering.{nat_cmp};
 ghost use Rattle.notes_index.specs.Indexed.{assert_places, targets_places, IsNumbered, IsIndex, ArePlacesOf, AreIndexed};
 
 use notes_lang::{Assert, Notes, Targets};
@@ -36,10 +37,11 @@ fn numbered_targets(alloc: Global, targets: &[Targets]) -> Result<Vec<(u32, usiz
     Ok(places)
 }
 
-/// The places by rising addresses.
+/// The places by rising addresses; those of one address stay in their order.
 fn sorted(mut places: Vec<(u32, usize)>) -> Result<Vec<(u32, usize)>, AllocError>
     ensures moved { IfOk result (λ v. IsPermutation places.items v.items) }
     ensures rising { IfOk result (λ v. IsNonDecreasingBy (λ x. x.0) v.items) }
+    ensures stable { IfOk result (λ v. IsStableByKey (λ x. x.0) nat_cmp places.items v.items) }
 {
     places.sort_by_key(|x| x.0)?;
     Ok(places)

@@ -1,7 +1,7 @@
 -- The ends of a node, so far, and the calls of it.
 use Rattle.std.proofs.Common.{◌≡◌, inl, ℕ, zero, suc, ◌+◌, ◌<◌, ◌≤◌, refl, ap, sym, ◌∙◌, arith, List, [], ◌∷◌, ◌++◌, length, take, get_or, Option, Some, None, Bool, true, false}
-use Rattle.std.specs.Prelude.{Contains, ◌||◌}
-use Rattle.std.specs.List.{filter_map, list_any}
+use Rattle.std.specs.Prelude.{Contains, ◌||◌, not, filter, if◌then◌else◌}
+use Rattle.std.specs.List.{filter_map, cons_option, list_any}
 use Rattle.std.proofs.lemmas.List.{take_more}
 use Rattle.std.proofs.lemmas.List.Elements.{filter_map-append}
 use Rattle.bilv_spec.specs.Words.{add}
@@ -10,7 +10,7 @@ use Rattle.graph_nodes.specs.declared.nodes.Successor.{Successor}
 use Rattle.graph_nodes.specs.declared.nodes.Node.{Node}
 use Rattle.program_points.specs.declared.values.Frame.{Frame}
 use Rattle.program_points.specs.declared.values.End.{End}
-use Rattle.program_points.specs.Tables.{listed, is_call, frame_at, IsPushed, IsCalled}
+use Rattle.program_points.specs.Tables.{listed, is_call, is_next, frame_at, successor_end, way_end, back_end, ends_from, IsPushed, IsCalled}
 use Rattle.program_points.proofs.Lists.{nothing_more, take_whole}
 
 one : {X : Type 0} (f : X → Option End) (x : X) → filter_map f (x ∷ []) ≡ listed (f x)
@@ -50,3 +50,24 @@ called_pushed n stack number old new is = record {
   only = is.only;
   pushes = λ x c l. (let s : number ≡ suc is.index = (let q = is.number_is in omega arith) in ap (frame_at new) s ∙ is.frame_is);
 }
+
+kept_by : (f : Successor → Option End) (s : Successor) (b : Bool) (xs : List Successor) → is_next s.letter ≡ b →
+    filter_map (λ x. if is_next x.letter then None else f x) xs ≡ filter_map f (filter (λ x. not (is_next x.letter)) xs) →
+    cons_option (if b then None else f s) (filter_map (λ x. if is_next x.letter then None else f x) xs) ≡ filter_map f (if not b then s ∷ filter (λ x. not (is_next x.letter)) xs else filter (λ x. not (is_next x.letter)) xs)
+kept_by f s true xs e h = h
+kept_by f s false xs e h = ap (λ (l : List End). cons_option (f s) l) h
+
+-- ends of successors that are not the next address
+pub ways_kept : (f : Successor → Option End) (xs : List Successor) → filter_map (λ x. if is_next x.letter then None else f x) xs ≡ filter_map f (filter (λ x. not (is_next x.letter)) xs)
+ways_kept f [] = refl
+ways_kept f (s ∷ xs) = kept_by f s (is_next s.letter) xs refl (ways_kept f xs)
+
+-- the ends so far and the return's are those of the successors that are not the next address
+pub ways_whole : (returns : Bool) (f o : Option Frame) (stack called : ℕ) (items xs : List Successor) (i : ℕ) (back : Option End) (found grown : List End) → xs ≡ items → f ≡ o → length xs ≤ i
+    → back_end returns f ≡ back → found ≡ filter_map (way_end returns f stack called) (take i xs) → grown ≡ found ++ listed back
+    → grown ≡ ends_from returns (filter (λ s. not (is_next s.letter)) items) o stack called
+ways_whole returns f o stack called items xs i back found grown same top le e is more =
+    ends_whole (way_end returns f stack called) xs i (back_end returns f) back found grown le e is more
+    ∙ ap (λ (l : List End). l ++ listed (back_end returns f)) (ways_kept (successor_end returns f stack called) xs)
+    ∙ ap (λ (l : List Successor). ends_from returns (filter (λ s. not (is_next s.letter)) l) f stack called) same
+    ∙ ap (λ (t : Option Frame). ends_from returns (filter (λ s. not (is_next s.letter)) items) t stack called) top

@@ -109,6 +109,10 @@ abbrev pub is_next : Letter → Bool
 is_next Next = true
 is_next _ = false
 
+-- the end that a successor is, if it is not the next address
+abbrev pub way_end : Bool → Option Frame → (stack called : ℕ) → Successor → Option End
+way_end returns f stack called s = if is_next s.letter then None else successor_end returns f stack called s
+
 -- the ends of a point at a node by jumps, calls and returns
 abbrev pub jumps_of : Node → Option Frame → (stack called : ℕ) → List End
 jumps_of n f stack called = ends_from n.returns (filter (λ s. not (is_next s.letter)) n.successors.items) f stack called

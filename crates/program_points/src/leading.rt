@@ -2,7 +2,7 @@
 ghost use Rattle.std.specs.Prelude.{◌≡◌, ◌≤◌, IfOk, false, length};
 ghost use Rattle.std.specs.List.{list_any};
 ghost use Rattle.program_points.specs.Tables as tables;
-ghost use Rattle.program_points.specs.Tables.{frame_at, ends_of, is_call, IsTable, IsCalled};
+ghost use Rattle.program_points.specs.Tables.{frame_at, ends_of, jumps_of, is_call, IsTable, IsCalled};
 
 use crate::stacks::{Stacks, pushed};
 use crate::values::{End, Frame};
@@ -51,6 +51,22 @@ fn successor_end(
         Letter::Call => Some(End { stack: called, at }),
         Letter::Return => None,
     }
+}
+
+/// The end that a successor is, if it is not the next address.
+fn jump_end(
+    returns: bool,
+    frame: Option<Frame>,
+    stack: usize,
+    called: usize,
+    successor: Successor,
+) -> Option<End>
+    ensures { result ≡ tables.way_end returns frame stack called successor }
+{
+    if successor.letter == Letter::Next {
+        return None;
+    }
+    successor_end(returns, frame, stack, called, successor)
 }
 
 /// The end of a return, where the row may return and the stack has a top that is a multiple of 4.
@@ -113,6 +129,31 @@ pub fn ends(
     let mut found: Vec<End> = Vec::new(alloc);
     for successor in &node.successors {
         if let Some(end) = successor_end(returns, frame, stack, called, *successor) {
+            found.push(end)?;
+        }
+    }
+    if let Some(end) = back_end(returns, frame) {
+        found.push(end)?;
+    }
+    Ok(found)
+}
+
+/// The ends of a point at a node by jumps, calls and returns, but for the exit: those of its edges that are not taken by going on to the next address. The stacks of the
+/// point and behind a call are given by number. The error is want of memory.
+pub fn jumps(
+    alloc: Global,
+    node: &Node,
+    frames: &[Frame],
+    stack: usize,
+    called: usize,
+) -> Result<Vec<End>, AllocError>
+    ensures { IfOk result (λ v. v.items ≡ jumps_of node.now (frame_at frames.now stack) stack called) }
+{
+    let frame = frame(frames, stack);
+    let returns = node.returns;
+    let mut found: Vec<End> = Vec::new(alloc);
+    for successor in &node.successors {
+        if let Some(end) = jump_end(returns, frame, stack, called, *successor) {
             found.push(end)?;
         }
     }

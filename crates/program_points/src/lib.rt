@@ -9,7 +9,7 @@ mod stacks;
 mod values;
 
 pub use laws::{ends_are_edges, ends_are_ways};
-pub use leading::{called, ends};
+pub use leading::{called, ends, jumps};
 pub use listing::points;
 pub use stacks::{Stacks, no_frames, pushed};
 pub use values::{End, Frame, Point, Points, PointsFault};
