@@ -1,6 +1,6 @@
 mod Capped
 mod Coded
-mod EdgeLists
+pub mod EdgeLists
 mod FirstPoints
 mod KeptRuns
 mod Looked
@@ -9,3 +9,9 @@ mod Named
 mod Placed
 mod Priced
 mod Rows
+pub mod Ordered
+pub mod Adding
+pub mod Places
+pub mod Coding
+pub mod Ends
+pub mod Leads

@@ -1,6 +1,6 @@
 -- What stands at the places of an unrolled program.
-use Rattle.std.specs.Prelude.{ℕ, ◌≡◌, List, Some, map}
-use Rattle.std.specs.List.{AllZip}
+use Rattle.std.specs.Prelude.{ℕ, ◌≡◌, ◌≤◌, ◌<◌, List, Some, map, length, slice_index, slice_index_or}
+use Rattle.std.specs.List.{AllZip, AllWithin}
 use Rattle.bilv_spec.specs.Machine.{Row}
 use Rattle.bilv_spec.specs.MachineLaws.{IsLawful, IsFitted}
 use Rattle.bilv_spec.specs.StateText.{Layout}
@@ -49,3 +49,22 @@ PlacesAreRight = (p : Program) (k : ℕ) (u : Unrolled) (form : Layout) (bank : 
     HasFitRow p c.at → IsCode p bank u q c edges →
     ((row : Row) → file_row p c.at ≡ Some row → AreEdgesAt p k (unrolled_of u) i (point_by u q c edges).point row edges) →
     IsPlace p k (unrolled_of u) i (point_by u q c edges) (file_row p c.at)
+
+-- the bounds are those of the places of an address among places by rising addresses
+pub record IsGroup (index : List (ℕ × ℕ)) (at : ℕ) (bounds : ℕ × ℕ) : Type 0 where
+  pub ordered : bounds.0 ≤ bounds.1
+  pub within : bounds.1 ≤ length index
+  pub here : AllWithin (λ x. x.0 ≡ at) index bounds.0 bounds.1
+  pub before : AllWithin (λ x. x.0 < at) index 0 bounds.0
+  pub behind : AllWithin (λ x. at < x.0) index bounds.1 (length index)
+
+-- the code is that of an address, with its part of the assert lines by address
+pub record IsCodeOf (p : Program) (bank : Bank) (at : ℕ) (asserts : List (ℕ × ℕ)) (c : Code) : Type 0 where
+  pub here : c.at ≡ at
+  pub row : IsRowCode p bank c
+  pub group : IsGroup asserts at c.asserts
+
+-- the codes are those of the first n of some addresses
+pub record AreCodes (p : Program) (bank : Bank) (addresses : List ℕ) (asserts : List (ℕ × ℕ)) (n : ℕ) (codes : List Code) : Type 0 where
+  pub count : length codes ≡ n
+  pub each : (i : ℕ) (d : Code) → i < n → IsCodeOf p bank (slice_index addresses i) asserts (slice_index_or codes i d)

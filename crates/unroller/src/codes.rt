@@ -1,12 +1,15 @@
 //! What stands at an address.
-ghost use Rattle.std.specs.Prelude.{◌≡◌, IfOk, None, false};
+ghost use Rattle.std.specs.Prelude.{◌≡◌, ℕ, IfOk, None, false, Contains, length};
+ghost use Rattle.std.specs.List.Sorted.{IsNonDecreasingBy};
 ghost use Rattle.bilv_spec.specs.Run.{Program};
-ghost use Rattle.graph_nodes.specs.Graphs.{IsNode};
-ghost use Rattle.unroller.specs.Places.{IsRowCode};
+ghost use Rattle.graph_nodes.specs.Graphs.{IsGraph, IsNode, addresses_of};
+ghost use Rattle.graph_nodes.specs.Places.{AreRising};
+ghost use Rattle.unroller.specs.Places.{AreCodes, IsRowCode};
 ghost use Rattle.unroller.specs.Rows.{IsPlainMachine};
 
-use graph_nodes::Node;
+use graph_nodes::{Graph, Node, node_at};
 use machine_law::Machine;
+use notes_index::group;
 use question_form::Code;
 use std::alloc::{AllocError, Global};
 
@@ -58,4 +61,29 @@ pub fn code_at<M: Machine>(
         stores: cost.stores,
         asserts,
     })
+}
+
+/// What stands at addresses of a graph, each with its part of the assert lines by address. The error is want of memory.
+pub fn codes_at<M: Machine>(
+    alloc: Global,
+    graph: &Graph,
+    addresses: &[u32],
+    asserts: &[(u32, usize)],
+) -> Result<Vec<Code>, AllocError>
+    requires plain { IsPlainMachine M.machine }
+    requires nodes { AreRising graph.now.nodes.items }
+    requires among { (a : ℕ) → Contains addresses.now a → Contains (addresses_of graph.now) a }
+    requires sorted { IsNonDecreasingBy (λ x. x.0) asserts.now }
+    ensures { (p : Program) → p.machine ≡ M.machine → IsGraph p graph.now → IfOk result (λ v. AreCodes p M.bank addresses.now asserts.now (length addresses.now) v.items) }
+{
+    let mut codes: Vec<Code> = Vec::with_capacity(alloc, addresses.len())?;
+    for at in addresses {
+        let node = match node_at(graph, *at) {
+            None => unreachable!(),
+            Some(node) => node,
+        };
+        let code = code_at::<M>(alloc, node, group(asserts, *at))?;
+        codes.push(code)?;
+    }
+    Ok(codes)
 }

@@ -2,7 +2,7 @@
 ghost use Rattle.std.specs.Prelude.{◌≡◌, ◌↔◌, ◌≤◌, ◌<◌, ℕ, IfOk, MatchOption, Contains, length, map, slice_index, slice_index_or};
 ghost use Rattle.std.specs.List.Sorted.{IsStrictlyIncreasing};
 ghost use Rattle.program_points.specs.declared.values.Point.{Point as ListedPoint};
-ghost use Rattle.unroller.specs.Keys as keys;
+ghost use Rattle.unroller.specs.Keys as numbers;
 ghost use Rattle.unroller.specs.Keys.{IsAimAt};
 
 use program_points::{End, Point};
@@ -17,36 +17,38 @@ const ADDRESS: u128 = 18_446_744_073_709_551_616;
 
 /// The number of a point: by its backward transfers, then by its address, then by the number of its stack.
 fn key_of(turns: u32, at: u32, stack: usize) -> u128
-    ensures { result ≡ keys.key_of turns at stack }
+    ensures { result ≡ numbers.key_of turns at stack }
 {
     turns as u128 * TURN + at as u128 * ADDRESS + stack as u128
 }
 
 /// The backward transfers of the point of a number.
 pub fn turns_of(key: u128) -> u32
-    ensures { result ≡ keys.turns_of key }
+    ensures { result ≡ numbers.turns_of key }
 {
     (key / TURN) as u32
 }
 
 /// The address of the point of a number.
 pub fn address_of(key: u128) -> u32
-    ensures { result ≡ keys.address_of key }
+    ensures { result ≡ numbers.address_of key }
 {
     (key / ADDRESS % 4_294_967_296) as u32
 }
 
 /// The number of the stack of the point of a number.
 pub fn stack_of(key: u128) -> usize
-    ensures { result ≡ keys.stack_of key }
+    ensures { result ≡ numbers.stack_of key }
 {
     (key % ADDRESS) as usize
 }
 
 /// The number of the point at an end of a point.
 pub fn target_key(own: u128, end: End) -> u128
-    requires { keys.turns_of own ≤ 4096 }
-    ensures { result ≡ keys.target_key own end }
+    requires { numbers.turns_of own ≤ 4096 }
+    ensures value { result ≡ numbers.target_key own end }
+    ensures address { numbers.address_of result ≡ end.at }
+    ensures stack { numbers.stack_of result ≡ end.stack }
 {
     let turns = turns_of(own);
     if end.at <= address_of(own) {
@@ -58,7 +60,7 @@ pub fn target_key(own: u128, end: End) -> u128
 /// The numbers of points. The error is want of memory.
 pub fn point_keys(alloc: Global, points: &[Point]) -> Result<Vec<u128>, AllocError>
     requires { (q : ListedPoint) → Contains points.now q → q.turns ≤ 4096 }
-    ensures { IfOk result (λ v. v.items ≡ map keys.point_key points.now) }
+    ensures { IfOk result (λ v. v.items ≡ map numbers.point_key points.now) }
 {
     let mut found: Vec<u128> = Vec::new(alloc);
     for point in points {
@@ -93,7 +95,7 @@ pub fn addresses_in_order(mut found: Vec<u32>) -> Result<Vec<u32>, AllocError>
 /// The addresses of the points of numbers, each once and rising. The error is want of memory.
 pub fn addresses(alloc: Global, keys: &[u128]) -> Result<Vec<u32>, AllocError>
     ensures rise { IfOk result (λ v. IsStrictlyIncreasing v.items) }
-    ensures same { IfOk result (λ v. (x : ℕ) → Contains (map keys.address_of keys.now) x ↔ Contains v.items x) }
+    ensures same { IfOk result (λ v. (x : ℕ) → Contains (map numbers.address_of keys.now) x ↔ Contains v.items x) }
     ensures few { IfOk result (λ v. length v.items ≤ length keys.now) }
 {
     let mut found: Vec<u32> = Vec::with_capacity(alloc, keys.len())?;

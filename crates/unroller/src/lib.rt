@@ -3,8 +3,11 @@
 
 mod codes;
 mod costs;
+mod edges;
+mod keys;
 mod laws;
 mod lines;
+mod placing;
 mod prices;
 
 pub use codes::code_at;

@@ -1,0 +1,146 @@
+-- Edges that are added one by one, and calls.
+use Rattle.std.proofs.Common.{◌≡◌, ⊎_elim, inl, inr, refl, ap, sym, ◌∙◌, subst, arith, ℕ, zero, suc, ◌+◌, ◌-◌, ◌/◌, ◌%◌, ◌<◌, ◌≤◌, Bool, true, false, Option, Some, None, List, [], ◌∷◌, ◌++◌, length, get_or, take, drop, map}
+use Rattle.std.specs.Prelude.{Contains, ◌↔◌, ◌||◌, slice_get, slice_range}
+use Rattle.std.specs.List.{AllZip, list_any}
+use Rattle.std.specs.List.Sorted.{IsStrictlyIncreasing}
+use Rattle.std.proofs.lemmas.List.{take_more, get_or_default}
+use Rattle.std.proofs.lemmas.Bool.{cases_lt}
+use Rattle.bilv_spec.specs.Words.{add}
+use Rattle.bilv_spec.proofs.PointsInGraph.{split_in}
+use Rattle.graph_nodes.specs.declared.nodes.Node.{Node}
+use Rattle.graph_nodes.specs.declared.nodes.Graph.{Graph}
+use Rattle.graph_nodes.specs.declared.nodes.Successor.{Successor}
+use Rattle.graph_nodes.specs.declared.nodes.Letter.TheVariants.{Call}
+use Rattle.program_points.specs.declared.values.Frame.{Frame}
+use Rattle.program_points.specs.declared.values.End.{End}
+use Rattle.program_points.specs.Tables.{frame, frame_at, jumps_of, listed, IsCalled}
+use Rattle.program_points.proofs.Lists.{regroup, take_whole, keeps, or_left, or_last, grown as push_length, nothing_more}
+use Rattle.question_form.specs.declared.unrolled.Edge.{Edge}
+use Rattle.unroller.specs.Keys.{address_of, stack_of, target_key}
+use Rattle.unroller.specs.Led.{is_same, is_among, is_both, next_of, exits_by, IsLedTo, AreAddedTo, AreLed, HasLed, IsCalledBy, AreCalled}
+
+map_append : {X Y : Type 0} (f : X → Y) (us vs : List X) → map f (us ++ vs) ≡ map f us ++ map f vs
+map_append f [] vs = refl
+map_append f (u ∷ us) vs = ap (λ l. f u ∷ l) (map_append f us vs)
+
+-- the numbers of some ends and of one more, if there is one
+pub map_listed : (f : End → ℕ) (jumps : List End) (i : ℕ) (next o : Option End) (found grown : List ℕ) → length jumps ≤ i → found ≡ map f (take i jumps) → next ≡ o
+    → grown ≡ found ++ map f (listed o) → grown ≡ map f (jumps ++ listed next)
+map_listed f jumps i next o found grown le is e more =
+    more ∙ ap (λ (l : List ℕ). l ++ map f (listed o)) (is ∙ ap (map f) (take_whole jumps i le)) ∙ sym (map_append f jumps (listed o)) ∙ ap (λ (z : Option End). map f (jumps ++ listed z)) (sym e)
+
+-- an end is looked for from the front on
+any_drop : (other : End) (ends : List End) (i : ℕ) (d : End) → i < length ends → is_among (drop i ends) other ≡ (is_same (get_or ends i d) other || is_among (drop (i + 1) ends) other)
+any_drop other [] i d w = absurd (omega arith)
+any_drop other (e ∷ ends) zero d w = refl
+any_drop other (e ∷ ends) (suc i) d w = let z : suc (i + 1) ≡ suc i + 1 = omega arith in any_drop other ends i d (omega arith) ∙ ap (λ (n : ℕ). is_same (get_or ends i d) other || is_among (drop n (e ∷ ends)) other) z
+
+pub found_here : (other : End) (ends : List End) (i : ℕ) (d : End) → i < length ends → is_among ends other ≡ is_among (drop i ends) other → is_same (get_or ends i d) other ≡ true → is_among ends other ≡ true
+found_here other ends i d w so e = so ∙ any_drop other ends i d w ∙ ap (λ (b : Bool). b || is_among (drop (i + 1) ends) other) e
+
+pub not_here : (other : End) (ends : List End) (i : ℕ) (d : End) → i < length ends → is_among ends other ≡ is_among (drop i ends) other → is_same (get_or ends i d) other ≡ false
+    → is_among ends other ≡ is_among (drop (i + 1) ends) other
+not_here other ends i d w so e = so ∙ any_drop other ends i d w ∙ ap (λ (b : Bool). b || is_among (drop (i + 1) ends) other) e
+
+pub none_left : (other : End) (ends : List End) (i : ℕ) → length ends ≤ i → is_among (drop i ends) other ≡ false
+none_left other [] zero le = refl
+none_left other [] (suc i) le = refl
+none_left other (e ∷ ends) zero le = absurd (omega arith)
+none_left other (e ∷ ends) (suc i) le = none_left other ends i (omega arith)
+
+zip_more : {A B : Type 0} (R : A → B → Type 0) (xs : List A) (ys : List B) (x : A) (y : B) → AllZip R xs ys → R x y → AllZip R (xs ++ x ∷ []) (ys ++ y ∷ [])
+zip_more R [] [] x y h r = (r, tt)
+zip_more R [] (b ∷ ys) x y h r = absurd h
+zip_more R (a ∷ xs) [] x y h r = absurd h
+zip_more R (a ∷ xs) (b ∷ ys) x y h r = (h.0, zip_more R xs ys x y h.1 r)
+
+pub added_none : (keys : List ℕ) (next : Option End) (both : Bool) (targets : List ℕ) (old : List Edge) → AreAddedTo keys next both (take 0 targets) old old
+added_none keys next both [] old = ([], nothing_more old, tt)
+added_none keys next both (t ∷ targets) old = ([], nothing_more old, tt)
+
+pub added_more : (keys : List ℕ) (next : Option End) (both : Bool) (targets : List ℕ) (i : ℕ) (old new newer : List Edge) (e : Edge) → i < length targets
+    → IsLedTo keys next both (get_or targets i 0) e → AreAddedTo keys next both (take i targets) old new → newer ≡ new ++ e ∷ [] → AreAddedTo keys next both (take (i + 1) targets) old newer
+added_more keys next both targets i old new newer e w led so more = (
+  so.0 ++ e ∷ [],
+  more ∙ ap (λ (l : List Edge). l ++ e ∷ []) so.1 ∙ regroup old so.0 (e ∷ []),
+  subst (λ (l : List ℕ). AllZip (IsLedTo keys next both) l (so.0 ++ e ∷ [])) (sym (take_more targets i 0 w)) (zip_more (IsLedTo keys next both) (take i targets) so.0 (get_or targets i 0) e so.2 led),
+)
+
+pub added_all : (keys : List ℕ) (next : Option End) (both : Bool) (targets : List ℕ) (i : ℕ) (old new : List Edge) → length targets ≤ i → AreAddedTo keys next both (take i targets) old new
+    → AreAddedTo keys next both targets old new
+added_all keys next both targets i old new le so = subst (λ (l : List ℕ). AreAddedTo keys next both l old new) (take_whole targets i le) so
+
+frame_keeps : (frames rest : List Frame) (n : ℕ) (f : Frame) → frame_at frames n ≡ Some f → frame_at (frames ++ rest) n ≡ Some f
+frame_keeps frames rest zero f e = absurd (cc)
+frame_keeps frames rest (suc i) f e = keeps frames rest i f e
+
+called_keeps : (n : Node) (stack : ℕ) (frames rest grown : List Frame) (called : ℕ) → grown ≡ frames ++ rest → IsCalledBy n stack frames called → IsCalledBy n stack grown called
+called_keeps n stack frames rest grown called is by x c l =
+    subst (λ (z : List Frame). frame_at z called ≡ Some (frame (add 32 n.at 4) stack)) (sym is) (frame_keeps frames rest called (frame (add 32 n.at 4) stack) (by x c l))
+
+pub called_more : (g : Graph) (keys : List ℕ) (frames grown : List Frame) (i : ℕ) (found more : List ℕ) (n : Node) (number : ℕ) → AreCalled g keys frames i found
+    → more ≡ found ++ number ∷ [] → Contains g.nodes.items n → n.at ≡ address_of (get_or keys i 0) → IsCalled n (stack_of (get_or keys i 0)) frames grown number → AreCalled g keys grown (i + 1) more
+called_more g keys frames grown i found more n number are is among at called =
+    let count = are.count in
+    record {
+      count = grown_by ∙ ap (λ (z : ℕ). z + 1) are.count;
+      each = λ j w. elim (cases_lt j i) as (λ _. (m : Node) × Contains g.nodes.items m × (m.at ≡ address_of (get_or keys j 0)) × IsCalledBy m (stack_of (get_or keys j 0)) grown (get_or more j 0)) [
+        | inl low ↦
+            let q = are.each j low in
+            let same : get_or more j 0 ≡ get_or found j 0 = ap (λ (l : List ℕ). get_or l j 0) is ∙ or_left found (number ∷ []) j 0 (omega arith) in
+            (q.0, q.1, q.2, subst (λ (z : ℕ). IsCalledBy q.0 (stack_of (get_or keys j 0)) grown z) (sym same) (called_keeps q.0 (stack_of (get_or keys j 0)) frames called.rest grown (get_or found j 0) called.begins q.3))
+        | inr high ↦
+            let here : j ≡ i = omega arith in
+            let last : get_or more i 0 ≡ number =
+            ap (λ (l : List ℕ). get_or l i 0) is ∙ ap (λ (z : ℕ). get_or (found ++ number ∷ []) z 0) (sym are.count) ∙ or_last found number 0 in
+            subst (λ (z : ℕ). (m : Node) × Contains g.nodes.items m × (m.at ≡ address_of (get_or keys z 0)) × IsCalledBy m (stack_of (get_or keys z 0)) grown (get_or more z 0)) (sym here)
+            (n, among, at, subst (λ (z : ℕ). IsCalledBy n (stack_of (get_or keys i 0)) grown z) (sym last) called.pushes)
+      ];
+    }
+  where
+    grown_by : length more ≡ length found + 1
+    grown_by = push_length found more number is
+
+-- the edges of a point, from those to its targets and the one out of the function
+pub led_all : (n : Node) (frames : List Frame) (keys : List ℕ) (own called : ℕ) (jumps : List End) (next : Option End) (both : Bool) (targets : List ℕ) (old mid new : List Edge)
+    → jumps ≡ jumps_of n (frame_at frames (stack_of own)) (stack_of own) called → next ≡ next_of n (stack_of own) → both ≡ is_both jumps next → IsStrictlyIncreasing targets
+    → ((x : ℕ) → Contains (map (target_key own) (jumps ++ listed next)) x ↔ Contains targets x) → ((e : End) → Contains jumps e → (e.at < 4294967296) × (e.stack < 18446744073709551616)) → mid ≡ old ++ exits_by n.returns (stack_of own) → AreAddedTo keys next both targets mid new
+    → HasLed n frames keys own called old new
+led_all n frames keys own called jumps next both targets old mid new e f g rise same small exit so = (
+  exits_by n.returns (stack_of own) ++ so.0,
+  so.1 ∙ ap (λ (l : List Edge). l ++ so.0) exit ∙ regroup old (exits_by n.returns (stack_of own)) so.0,
+  record {
+    targets = targets;
+    rise = rise;
+    same =
+        subst (λ (l : List End). (x : ℕ) → Contains (map (target_key own) (l ++ listed (next_of n (stack_of own)))) x ↔ Contains targets x) e
+        (subst (λ (o : Option End). (x : ℕ) → Contains (map (target_key own) (jumps ++ listed o)) x ↔ Contains targets x) f same);
+    small = subst (λ (l : List End). (z : End) → Contains l z → (z.at < 4294967296) × (z.stack < 18446744073709551616)) e small;
+    rest = so.0;
+    is = refl;
+    each =
+        subst (λ (l : List End). AllZip (IsLedTo keys (next_of n (stack_of own)) (is_both l (next_of n (stack_of own)))) targets so.0) e
+        (subst (λ (o : Option End). AllZip (IsLedTo keys o (is_both jumps o)) targets so.0) f (subst (λ (b : Bool). AllZip (IsLedTo keys next b) targets so.0) g so.2));
+  },
+)
+
+
+pub take_none : {X : Type 0} (xs : List X) → take 0 xs ≡ []
+take_none [] = refl
+take_none (x ∷ xs) = refl
+
+-- one more end has an address and a stack in range, since its number says them
+pub small_more : (own : ℕ) (jumps : List End) (i : ℕ) → i < length jumps → (none : End) (key : ℕ) → key / 18446744073709551616 % 4294967296 ≡ (get_or jumps i none).at → key % 18446744073709551616 ≡ (get_or jumps i none).stack
+    → ((e : End) → Contains (take i jumps) e → (e.at < 4294967296) × (e.stack < 18446744073709551616))
+    → (e : End) → Contains (take (i + 1) jumps) e → (e.at < 4294967296) × (e.stack < 18446744073709551616)
+small_more own jumps i w none key at stack before e h =
+    elim (split_in (take i jumps) (get_or jumps i none ∷ []) e (subst (λ (l : List End). Contains l e) (take_more jumps i none w) h)) [
+      | inl q ↦ before e q
+      | inr q ↦ last q
+    ]
+  where
+    last : Contains (get_or jumps i none ∷ []) e → (e.at < 4294967296) × (e.stack < 18446744073709551616)
+    last (zero, l, q) =
+        subst (λ (z : End). (z.at < 4294967296) × (z.stack < 18446744073709551616)) q
+        ((let a = (get_or jumps i none).at in let x : (get_or jumps i none).at < 4294967296 = omega arith in x), (let y : (get_or jumps i none).stack < 18446744073709551616 = omega arith in y))
+    last (suc i, l, q) = absurd (omega arith)

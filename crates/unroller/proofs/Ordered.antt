@@ -1,0 +1,57 @@
+-- Numbers in order, each once.
+use Rattle.std.proofs.Common.{◌≡◌, ⊎_elim, inl, inr, refl, ap, sym, ◌∙◌, subst, arith, ℕ, zero, suc, ◌+◌, ◌<◌, ◌≤◌, List, [], ◌∷◌, ◌++◌, length, get_or, take}
+use Rattle.std.specs.Prelude.{◌↔◌, Contains, map, Result, Ok, Err, MatchResult, eqb}
+use Rattle.std.specs.Ordering.{nat_cmp}
+use Rattle.std.specs.List.{dedup}
+use Rattle.std.specs.List.Sorted.{IsStrictlyIncreasing, IsPermutation, IsSorted, IsBinarySearchResult}
+use Rattle.std.proofs.lemmas.List.Sorted.{Contains-permutation, IsPermutation-sym, searched}
+use Rattle.std.proofs.lemmas.List.Kept.{Contains-dedup_nat, Contains-from_dedup}
+use Rattle.std.proofs.lemmas.Map.Keys.{IsStrictlyIncreasing-dedup}
+use Rattle.std.proofs.lemmas.Bool.{cases_lt}
+use Rattle.std.proofs.lemmas.List.{get_or_default, take_more}
+
+-- each number is below all later ones
+pub rises : (xs : List ℕ) → IsStrictlyIncreasing xs → (i j : ℕ) → i < j → j < length xs → get_or xs i 0 < get_or xs j 0
+rises xs up i zero l w = absurd (omega arith)
+rises xs up i (suc j) l w =
+    let e : j + 1 ≡ suc j = omega arith in
+    let near : get_or xs j 0 < get_or xs (suc j) 0 = subst (λ (n : ℕ). get_or xs j 0 < get_or xs n 0) e (up j (omega arith)) in
+    elim (cases_lt i j) as (λ _. get_or xs i 0 < get_or xs (suc j) 0) [
+      | inl less ↦ (let far = rises xs up i j less (omega arith) in omega arith)
+      | inr le ↦ (let same : i ≡ j = omega arith in subst (λ (n : ℕ). get_or xs n 0 < get_or xs (suc j) 0) (sym same) near)
+    ]
+
+-- what a sort and the removal of equal neighbours leave
+pub ordered_same : (xs ys zs : List ℕ) → IsPermutation xs ys → zs ≡ dedup eqb ys → (x : ℕ) → Contains xs x ↔ Contains zs x
+ordered_same xs ys zs moved is x = (
+  (λ h. subst (λ (l : List ℕ). Contains l x) (sym is) (Contains-dedup_nat ys x (Contains-permutation xs ys x moved h))),
+  (λ h. Contains-permutation ys xs x (IsPermutation-sym xs ys moved) (Contains-from_dedup eqb ys x (subst (λ (l : List ℕ). Contains l x) is h))),
+)
+
+pub ordered_rise : (ys zs : List ℕ) → IsSorted nat_cmp ys → zs ≡ dedup eqb ys → IsStrictlyIncreasing zs
+ordered_rise ys zs up is = subst IsStrictlyIncreasing (sym is) (IsStrictlyIncreasing-dedup ys up)
+
+-- a search that fails
+pub absent : (xs : List ℕ) (x i : ℕ) → IsBinarySearchResult (λ y. nat_cmp y x) xs (Err i) → IsStrictlyIncreasing xs → ¬ Contains xs x
+absent xs x i searching up (k, w, e) =
+    let q = searched xs x (Err i) searching (λ a b le l. not_falling a b le l) in
+    let here : get_or xs k 0 ≡ x = get_or_default xs k 0 x w ∙ e in
+    elim (cases_lt k i) as (λ _. ⊥) [
+      | inl low ↦ (let b = q.1 k low in absurd (omega arith))
+      | inr high ↦ (let b = q.2 k high w in absurd (omega arith))
+    ]
+  where
+    not_falling : (a b : ℕ) → a ≤ b → b < length xs → get_or xs a 0 ≤ get_or xs b 0
+    not_falling a b le l = elim (cases_lt a b) as (λ _. get_or xs a 0 ≤ get_or xs b 0) [
+      | inl less ↦ (let z = rises xs up a b less l in omega arith)
+      | inr more ↦ (let z : a ≡ b = omega arith in let s : get_or xs a 0 ≡ get_or xs b 0 = ap (λ (n : ℕ). get_or xs n 0) z in omega arith)
+    ]
+
+-- one more element of a list that is mapped
+pub map_more : {X : Type 0} (f : X → ℕ) (xs : List X) (i : ℕ) (d : X) (ys zs : List ℕ) → i < length xs → ys ≡ map f (take i xs) → zs ≡ ys ++ f (get_or xs i d) ∷ [] → zs ≡ map f (take (i + 1) xs)
+map_more f xs i d ys zs w is more =
+    more ∙ ap (λ (l : List ℕ). l ++ f (get_or xs i d) ∷ []) is ∙ sym (map_append f (take i xs) (get_or xs i d ∷ [])) ∙ sym (ap (map f) (take_more xs i d w))
+  where
+    map_append : {X : Type 0} (f : X → ℕ) (us vs : List X) → map f (us ++ vs) ≡ map f us ++ map f vs
+    map_append f [] vs = refl
+    map_append f (u ∷ us) vs = ap (λ (l : List ℕ). f u ∷ l) (map_append f us vs)

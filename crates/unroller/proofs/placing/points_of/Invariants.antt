@@ -1,0 +1,6 @@
+use Rattle.std.proofs.Common.{}
+use Rattle.unroller.specs.Led.{ArePlaced}
+use Rattle.unroller.proofs.placing.points_of.Given as goal
+
+abbrev pub invariant-loop-place : goal.invariant-loop-place
+invariant-loop-place l = ArePlaced l.graph l.frames l.keys l.addresses l.called l.place l.points.items l.edges.items

@@ -1,0 +1,109 @@
+-- The edges of a point at its node, by the numbers of points.
+use Rattle.std.specs.Prelude.{ℕ, ◌≡◌, ◌<◌, ◌≤◌, ◌+◌, ◌==◌, ◌&&◌, ◌||◌, ◌↔◌, not, Bool, true, false, List, [], ◌∷◌, ◌++◌, Option, Some, None, Contains, map, length, drop, slice_index, slice_index_or, slice_range, if◌then◌else◌}
+use Rattle.std.specs.List.{AllZip, list_any}
+use Rattle.std.specs.List.Sorted.{IsStrictlyIncreasing}
+use Rattle.bilv_spec.specs.Words.{add}
+use Rattle.graph_nodes.specs.declared.nodes.Node.{Node}
+use Rattle.graph_nodes.specs.declared.nodes.Graph.{Graph}
+use Rattle.graph_nodes.specs.declared.nodes.Successor.{Successor}
+use Rattle.graph_nodes.specs.declared.nodes.Letter.TheVariants.{Call}
+use Rattle.program_points.specs.declared.values.Frame.{Frame}
+use Rattle.program_points.specs.declared.values.End.{End}
+use Rattle.program_points.specs.Tables.{end, frame, frame_at, is_next, jumps_of, listed}
+use Rattle.question_form.specs.declared.unrolled.Edge.{Edge}
+use Rattle.question_form.specs.declared.unrolled.Point.{Point}
+use Rattle.question_form.specs.declared.unrolled.Aim.TheVariants.{Outward}
+use Rattle.unroller.specs.Keys.{address_of, stack_of, turns_of, target_key, IsAimAt}
+
+-- one of the successors is the next address
+abbrev pub goes_on : List Successor → Bool
+goes_on successors = list_any (λ s. is_next s.letter) successors
+
+-- the end by going on to the next address, with the point's stack, if the row may
+abbrev pub next_of : Node → (stack : ℕ) → Option End
+next_of n stack = if goes_on n.successors.items then Some (end stack (add 32 n.at 4)) else None
+
+-- the end is that of a number's point
+abbrev pub is_key_of : ℕ → End → Bool
+is_key_of key e = (e.at == address_of key) && (e.stack == stack_of key)
+
+-- it is the end by going on
+abbrev pub is_next_key : Option End → ℕ → Bool
+is_next_key None key = false
+is_next_key (Some e) key = is_key_of key e
+
+-- two ends are the same
+abbrev pub is_same : End → End → Bool
+is_same e other = (e.stack == other.stack) && (e.at == other.at)
+
+-- an end is among ends
+abbrev pub is_among : List End → End → Bool
+is_among ends other = list_any (λ e. is_same e other) ends
+
+-- the end by going on is that of a jump too
+abbrev pub is_both : List End → Option End → Bool
+is_both jumps None = false
+is_both jumps (Some next) = is_among jumps next
+
+-- the edge is that to the point of a number: by going on, by a jump, or by both
+pub record IsLedTo (keys : List ℕ) (next : Option End) (both : Bool) (key : ℕ) (e : Edge) : Type 0 where
+  pub falls : e.falls ≡ is_next_key next key
+  pub jumps : e.jumps ≡ (not (is_next_key next key) || both)
+  pub to : e.to ≡ Some (address_of key)
+  pub aim : IsAimAt keys key e.aim
+
+-- the edge out of the function
+abbrev pub exit_edge : Edge
+exit_edge = record { falls = false; jumps = true; to = None; aim = Outward }
+
+-- it is there where the row may return and the stack is empty
+abbrev pub exits_by : (returns : Bool) → (stack : ℕ) → List Edge
+exits_by returns stack = if returns && (stack == 0) then exit_edge ∷ [] else []
+
+-- The edges of the point of a number at its node: the one out of the function first, then one for each point at an end, each once.
+pub record AreLed (n : Node) (frames : List Frame) (keys : List ℕ) (own called : ℕ) (led : List Edge) : Type 0 where
+  pub targets : List ℕ
+  pub rise : IsStrictlyIncreasing targets
+  pub same : (x : ℕ) → Contains (map (target_key own) (jumps_of n (frame_at frames (stack_of own)) (stack_of own) called ++ listed (next_of n (stack_of own)))) x ↔ Contains targets x
+  pub small : (e : End) → Contains (jumps_of n (frame_at frames (stack_of own)) (stack_of own) called) e → (e.at < 4294967296) × (e.stack < 18446744073709551616)
+  pub rest : List Edge
+  pub is : led ≡ exits_by n.returns (stack_of own) ++ rest
+  pub each : AllZip (IsLedTo keys (next_of n (stack_of own)) (is_both (jumps_of n (frame_at frames (stack_of own)) (stack_of own) called) (next_of n (stack_of own)))) targets rest
+
+-- edges are added that are those of targets
+abbrev pub AreAddedTo : List ℕ → Option End → Bool → List ℕ → (old new : List Edge) → Type 0
+AreAddedTo keys next both targets old new = (led : List Edge) × (new ≡ old ++ led) × AllZip (IsLedTo keys next both) targets led
+
+-- the edges of a point are added
+abbrev pub HasLed : Node → List Frame → List ℕ → (own called : ℕ) → (old new : List Edge) → Type 0
+HasLed n frames keys own called old new = (led : List Edge) × (new ≡ old ++ led) × AreLed n frames keys own called led
+
+-- where the edges of the points behind one begin
+abbrev pub begins_at : List Edge → List Point → ℕ
+begins_at edges [] = length edges
+begins_at edges (q ∷ rest) = q.edges
+
+-- the number of a stack behind a call of the node
+abbrev pub IsCalledBy : Node → (stack : ℕ) → List Frame → (called : ℕ) → Type 0
+IsCalledBy n stack frames called = (x : Successor) → Contains n.successors.items x → x.letter ≡ Call → frame_at frames called ≡ Some (frame (add 32 n.at 4) stack)
+
+-- the first n numbers of stacks are those behind the calls at the points of numbers
+pub record AreCalled (g : Graph) (keys : List ℕ) (frames : List Frame) (n : ℕ) (called : List ℕ) : Type 0 where
+  pub count : length called ≡ n
+  pub each : (i : ℕ) → i < n → (m : Node) × Contains g.nodes.items m × (m.at ≡ address_of (slice_index keys i)) × IsCalledBy m (stack_of (slice_index keys i)) frames (slice_index called i)
+
+-- the point is that of a number, of the code of its address, with its edges, which end where those of the next one begin
+pub record IsPlacedAt (g : Graph) (frames : List Frame) (keys addresses : List ℕ) (key called : ℕ) (q : Point) (bound : ℕ) (edges : List Edge) : Type 0 where
+  pub turns : q.turns ≡ turns_of key
+  pub stack : q.stack ≡ stack_of key
+  pub coded : q.code < length addresses
+  pub code : slice_index addresses q.code ≡ address_of key
+  pub ordered : q.edges ≤ bound
+  pub within : bound ≤ length edges
+  pub led : (n : Node) × Contains g.nodes.items n × (n.at ≡ address_of key) × AreLed n frames keys key called (slice_range edges q.edges bound)
+
+-- the first n points
+pub record ArePlaced (g : Graph) (frames : List Frame) (keys addresses called : List ℕ) (n : ℕ) (points : List Point) (edges : List Edge) : Type 0 where
+  pub count : length points ≡ n
+  pub each : (i : ℕ) (d : Point) → i < n →
+      IsPlacedAt g frames keys addresses (slice_index keys i) (slice_index called i) (slice_index_or points i d) (begins_at edges (drop (i + 1) points)) edges

@@ -1,0 +1,168 @@
+//! The edges of a point.
+ghost use Rattle.std.specs.Prelude.{◌≡◌, ◌↔◌, ◌≤◌, ◌<◌, ◌++◌, ℕ, IfOk, OnOk, Contains, length, map};
+ghost use Rattle.std.specs.List.Sorted.{IsStrictlyIncreasing};
+ghost use Rattle.program_points.specs.declared.values.End.{End as JumpEnd};
+ghost use Rattle.program_points.specs.Tables.{listed};
+ghost use Rattle.unroller.specs.Keys as numbers;
+ghost use Rattle.unroller.specs.Led as leads;
+ghost use Rattle.unroller.specs.Led.{AreAddedTo, HasLed, IsLedTo, exit_edge, exits_by, is_both, is_next_key, next_of};
+
+use crate::keys::{address_of, aim, keys_in_order, stack_of, target_key};
+use graph_nodes::{Letter, Node, Successor};
+use program_points::{End, Frame, jumps};
+use question_form::{Aim, Edge};
+use std::alloc::{AllocError, Global};
+
+/// Whether the next address is among successors.
+fn goes_on(successors: &[Successor]) -> bool
+    ensures { result ≡ leads.goes_on successors.now }
+{
+    successors.iter().any(|s| s.letter == Letter::Next)
+}
+
+/// The end by going on to the next address with the point's stack, if the row may.
+fn next_end(node: &Node, stack: usize) -> Option<End>
+    ensures { result ≡ next_of node.now stack }
+{
+    if !goes_on(&node.successors) {
+        return None;
+    }
+    let at = node.at.wrapping_add(4);
+    Some(End { stack, at })
+}
+
+/// Whether two ends are the same.
+fn is_same(e: End, other: End) -> bool
+    ensures { result ≡ leads.is_same e other }
+{
+    e.stack == other.stack && e.at == other.at
+}
+
+/// Whether an end is among ends.
+fn is_among(ends: &[End], other: End) -> bool
+    ensures { result ≡ leads.is_among ends.now other }
+{
+    for end in ends {
+        if is_same(*end, other) {
+            return true;
+        }
+    }
+    false
+}
+
+/// Whether the end by going on is that of a jump too.
+fn also_jumps(jumps: &[End], next: Option<End>) -> bool
+    ensures { result ≡ is_both jumps.now next }
+{
+    match next {
+        None => false,
+        Some(next) => is_among(jumps, next),
+    }
+}
+
+/// Whether the point of a number is at the end by going on.
+fn is_next(next: Option<End>, key: u128) -> bool
+    ensures { result ≡ is_next_key next key }
+{
+    match next {
+        None => false,
+        Some(e) => e.at == address_of(key) && e.stack == stack_of(key),
+    }
+}
+
+/// The edge to the point of a number.
+fn edge(keys: &[u128], next: Option<End>, both: bool, key: u128) -> Edge
+    requires rise { IsStrictlyIncreasing keys.now }
+    requires few { length keys.now ≤ 16777216 }
+    ensures { IsLedTo keys.now next both key result }
+{
+    let falls = is_next(next, key);
+    Edge {
+        falls,
+        jumps: !falls || both,
+        to: Some(address_of(key)),
+        aim: aim(keys, key),
+    }
+}
+
+/// The numbers of the points at ends of a point, each once and rising. The error is want of memory.
+fn targets(
+    alloc: Global,
+    own: u128,
+    jumps: &[End],
+    next: Option<End>,
+) -> Result<Vec<u128>, AllocError>
+    requires { numbers.turns_of own ≤ 4096 }
+    ensures rise { IfOk result (λ v. IsStrictlyIncreasing v.items) }
+    ensures same { IfOk result (λ v. (x : ℕ) → Contains (map (numbers.target_key own) (jumps.now ++ listed next)) x ↔ Contains v.items x) }
+    ensures small { IfOk result (λ v. (e : JumpEnd) → Contains jumps.now e → (e.at < 4294967296) × (e.stack < 18446744073709551616)) }
+{
+    let mut found: Vec<u128> = Vec::new(alloc);
+    for end in jumps {
+        found.push(target_key(own, *end))?;
+    }
+    if let Some(end) = next {
+        found.push(target_key(own, end))?;
+    }
+    let ordered = keys_in_order(found)?;
+    Ok(ordered)
+}
+
+/// Adds the edge out of the function, where the row may return and the stack is empty. The error is want of memory.
+fn add_exit(edges: &mut Vec<Edge>, returns: bool, stack: usize) -> Result<(), AllocError>
+    ensures { OnOk result (edges.new.items ≡ edges.old.items ++ exits_by returns stack) }
+{
+    if returns && stack == 0 {
+        let exit = Edge {
+            falls: false,
+            jumps: true,
+            to: None,
+            aim: Aim::Outward,
+        };
+        edges.push(exit)?;
+    }
+    Ok(())
+}
+
+/// Adds the edges to the points of numbers. The error is want of memory.
+fn add_targets(
+    edges: &mut Vec<Edge>,
+    keys: &[u128],
+    next: Option<End>,
+    both: bool,
+    targets: &[u128],
+) -> Result<(), AllocError>
+    requires rise { IsStrictlyIncreasing keys.now }
+    requires few { length keys.now ≤ 16777216 }
+    ensures { OnOk result (AreAddedTo keys.now next both targets.now edges.old.items edges.new.items) }
+{
+    for key in targets {
+        edges.push(edge(keys, next, both, *key))?;
+    }
+    Ok(())
+}
+
+/// Adds the edges of the point of a number at its node, with the number of the stack behind a call. The error is want of memory.
+pub fn add_edges(
+    alloc: Global,
+    edges: &mut Vec<Edge>,
+    node: &Node,
+    frames: &[Frame],
+    keys: &[u128],
+    own: u128,
+    called: usize,
+) -> Result<(), AllocError>
+    requires low { numbers.turns_of own ≤ 4096 }
+    requires rise { IsStrictlyIncreasing keys.now }
+    requires few { length keys.now ≤ 16777216 }
+    ensures { OnOk result (HasLed node.now frames.now keys.now own called edges.old.items edges.new.items) }
+{
+    let stack = stack_of(own);
+    let jumps = jumps(alloc, node, frames, stack, called)?;
+    let next = next_end(node, stack);
+    let targets = targets(alloc, own, &jumps, next)?;
+    let both = also_jumps(&jumps, next);
+    add_exit(edges, node.returns, stack)?;
+    add_targets(edges, keys, next, both, &targets)?;
+    Ok(())
+}
