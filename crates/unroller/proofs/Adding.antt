@@ -13,6 +13,7 @@ use Rattle.graph_nodes.specs.declared.nodes.Successor.{Successor}
 use Rattle.graph_nodes.specs.declared.nodes.Letter.TheVariants.{Call}
 use Rattle.program_points.specs.declared.values.Frame.{Frame}
 use Rattle.program_points.specs.declared.values.End.{End}
+use Rattle.program_points.specs.declared.values.Point.{Point}
 use Rattle.program_points.specs.Tables.{frame, frame_at, jumps_of, listed, IsCalled}
 use Rattle.program_points.proofs.Lists.{regroup, take_whole, keeps, or_left, or_last, grown as push_length, nothing_more}
 use Rattle.question_form.specs.declared.unrolled.Edge.{Edge}
@@ -124,7 +125,6 @@ led_all n frames keys own called jumps next both targets old mid new e f g rise 
   },
 )
 
-
 pub take_none : {X : Type 0} (xs : List X) → take 0 xs ≡ []
 take_none [] = refl
 take_none (x ∷ xs) = refl
@@ -144,3 +144,18 @@ small_more own jumps i w none key at stack before e h =
         subst (λ (z : End). (z.at < 4294967296) × (z.stack < 18446744073709551616)) q
         ((let a = (get_or jumps i none).at in let x : (get_or jumps i none).at < 4294967296 = omega arith in x), (let y : (get_or jumps i none).stack < 18446744073709551616 = omega arith in y))
     last (suc i, l, q) = absurd (omega arith)
+
+pub point_small : (points : List Point) (i : ℕ) → i < length points → (none : Point) (key : ℕ) → key / 18446744073709551616 % 4294967296 ≡ (get_or points i none).at → key % 18446744073709551616 ≡ (get_or points i none).stack
+    → ((q : Point) → Contains (take i points) q → (q.at < 4294967296) × (q.stack < 18446744073709551616))
+    → (q : Point) → Contains (take (i + 1) points) q → (q.at < 4294967296) × (q.stack < 18446744073709551616)
+point_small points i w none key at stack before q h =
+    elim (split_in (take i points) (get_or points i none ∷ []) q (subst (λ (l : List Point). Contains l q) (take_more points i none w) h)) [
+      | inl c ↦ before q c
+      | inr c ↦ last c
+    ]
+  where
+    last : Contains (get_or points i none ∷ []) q → (q.at < 4294967296) × (q.stack < 18446744073709551616)
+    last (zero, l, e) =
+        subst (λ (z : Point). (z.at < 4294967296) × (z.stack < 18446744073709551616)) e
+        ((let x : (get_or points i none).at < 4294967296 = omega arith in x), (let y : (get_or points i none).stack < 18446744073709551616 = omega arith in y))
+    last (suc j, l, e) = absurd (omega arith)

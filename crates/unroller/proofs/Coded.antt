@@ -3,7 +3,7 @@ use Rattle.std.proofs.Common.{◌≡◌, refl, ap, sym, ◌∙◌, subst, ℕ, O
 use Rattle.std.specs.Prelude.{is_some, if◌then◌else◌}
 use Rattle.std.specs.Global.{Vec}
 use Rattle.bilv_spec.specs.Machine.{Row}
-use Rattle.bilv_spec.specs.MachineLaws.{IsLifting}
+use Rattle.bilv_spec.specs.MachineLaws.{IsLawful, IsLifting}
 use Rattle.bilv_spec.specs.Bil.{Bank}
 use Rattle.bilv_spec.specs.Run.{Program, fetchable, literal_target}
 use Rattle.bilv_spec.specs.Points.{file_row, file_word, is_empty, row_price, loads_at, stores_at}
@@ -45,6 +45,7 @@ bare_code p bank n asserts c is none e =
       row = ap row_price (sym none);
       loads = ap (λ (o : Option Row). loads_at p n.at o) (sym none);
       stores = ap stores_at (sym none);
+      fit = λ r e. absurd (cc);
     })
 
 pub no_word : (p : Program) (bank : Bank) (n : Node) (asserts : ℕ × ℕ) (c : Code) → IsNode p n → n.word ≡ None →
@@ -52,9 +53,9 @@ pub no_word : (p : Program) (bank : Bank) (n : Node) (asserts : ℕ × ℕ) (c :
 no_word p bank n asserts c is h e = bare_code p bank n asserts c is (none_word (file_row p n.at) (file_word p n.at) (sym is.word ∙ h)) e
 
 pub lifted_code : (p : Program) (bank : Bank) (n : Node) (r : Row) (list : Vec Stmt) (draws : Bool) (row loads stores : ℕ) (asserts : ℕ × ℕ) → IsNode p n → file_row p n.at ≡ Some r →
-    IsPlain r → IsLifting p.machine bank r n.at (statements list.items) → draws ≡ r.draws → row ≡ r.cost.row → loads ≡ r.cost.loads → stores ≡ r.cost.stores →
+    IsLawful r → IsPlain r → IsLifting p.machine bank r n.at (statements list.items) → draws ≡ r.draws → row ≡ r.cost.row → loads ≡ r.cost.loads → stores ≡ r.cost.stores →
     IsRowCode p bank (record { at = n.at; fetchable = n.fetchable; list = Some list; draws = draws; row = row; loads = loads; stores = stores; asserts = asserts })
-lifted_code p bank n r list draws row loads stores asserts is some plain lifting d a b e =
+lifted_code p bank n r list draws row loads stores asserts is some lawful plain lifting d a b e =
     record {
       fetchable = is.fetchable;
       list = subst (λ (o : Option Row). IsLiftedWord p.machine bank o n.at (Some list)) (sym some) lifting;
@@ -64,4 +65,5 @@ lifted_code p bank n r list draws row loads stores asserts is some plain lifting
           b ∙ ap (λ (o : Option ℕ). if is_empty (literal_target p (file_word p) o) then r.cost.loads else 0) (sym (plain.literal n.at))
           ∙ ap (λ (o : Option Row). loads_at p n.at o) (sym some);
       stores = e ∙ ap stores_at (sym some);
+      fit = λ s h. (let same : r ≡ s = cc in subst (λ (z : Row). IsLawful z × IsPlain z) same (lawful, plain));
     }

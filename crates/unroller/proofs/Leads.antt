@@ -223,11 +223,14 @@ module _ (p : Program) (k : ℕ) (n : Node) (frames : List Frame) (numbers : BTr
 
   lead_aim : (e : End) → Contains all e → (a : Aim) → IsAimAt keys (target_key own e) a → IsAim u k i point (end_at e) (aim_of a)
   lead_aim e h (OnTo j) q =
-      let up = above own e (small e h).0 in
-      ((elim (cases_lt i j) as (λ _. i < j) [
-        | inl l ↦ l
-        | inr le ↦ (let far : get_or keys j 0 ≤ own = not_above j le in let z = q.1 in absurd (omega arith))
-      ]), (let s = size in let l = q.0 in omega arith), points j q.0 ∙ ap (point_of frames) q.1 ∙ point_is e h)
+      let up = above own e (small e h).0 in (
+        (elim (cases_lt i j) as (λ _. i < j) [
+          | inl l ↦ l
+          | inr le ↦ (let far : get_or keys j 0 ≤ own = not_above j le in let z = q.1 in absurd (omega arith))
+        ]),
+        (let s = size in let l = q.0 in omega arith),
+        points j q.0 ∙ ap (point_of frames) q.1 ∙ point_is e h,
+      )
     where
       not_above : (j : ℕ) → j ≤ i → get_or keys j 0 ≤ own
       not_above j le = elim (cases_lt j i) as (λ _. get_or keys j 0 ≤ own) [

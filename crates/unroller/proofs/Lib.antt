@@ -1,12 +1,12 @@
 mod Capped
 mod Coded
 pub mod EdgeLists
-mod FirstPoints
-mod KeptRuns
-mod Looked
+pub mod FirstPoints
+pub mod KeptRuns
+pub mod Looked
 mod Mixed
 mod Named
-mod Placed
+pub mod Placed
 mod Priced
 mod Rows
 pub mod Ordered
@@ -15,3 +15,6 @@ pub mod Places
 pub mod Coding
 pub mod Ends
 pub mod Leads
+pub mod Listing
+pub mod Grouped
+pub mod Whole

@@ -18,7 +18,8 @@ use Rattle.question_form.specs.declared.unrolled.Unrolled.{Unrolled}
 use Rattle.question_form.specs.Views.{asserts_between, edge_of, point_by, unrolled_of}
 use Rattle.unroller.specs.Rows.{IsPlain}
 
--- The code is that of its address, whatever its assert lines are: what the file gives there, the list of the row as it is lifted, and the row's cost.
+-- The code is that of its address, whatever its assert lines are: what the file gives there, the list of the row as it is lifted, and the row's cost; and
+-- the row is lawful, and one whose list may stand so.
 pub record IsRowCode (p : Program) (bank : Bank) (c : Code) : Type 0 where
   pub fetchable : c.fetchable ≡ fetchable p c.at
   pub list : IsLiftedWord p.machine bank (file_row p c.at) c.at c.list
@@ -26,6 +27,7 @@ pub record IsRowCode (p : Program) (bank : Bank) (c : Code) : Type 0 where
   pub row : c.row ≡ row_price (file_row p c.at)
   pub loads : c.loads ≡ loads_at p c.at (file_row p c.at)
   pub stores : c.stores ≡ stores_at (file_row p c.at)
+  pub fit : (row : Row) → file_row p c.at ≡ Some row → IsLawful row × IsPlain row
 
 -- the code is that of its address, with the exits by the assert lines there
 pub record IsCode (p : Program) (bank : Bank) (u : Unrolled) (q : declared.Point) (c : Code) (edges : List Edge) : Type 0 where

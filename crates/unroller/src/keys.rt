@@ -17,7 +17,9 @@ const ADDRESS: u128 = 18_446_744_073_709_551_616;
 
 /// The number of a point: by its backward transfers, then by its address, then by the number of its stack.
 fn key_of(turns: u32, at: u32, stack: usize) -> u128
-    ensures { result ≡ numbers.key_of turns at stack }
+    ensures value { result ≡ numbers.key_of turns at stack }
+    ensures address { numbers.address_of result ≡ at }
+    ensures stack { numbers.stack_of result ≡ stack }
 {
     turns as u128 * TURN + at as u128 * ADDRESS + stack as u128
 }
@@ -60,7 +62,8 @@ pub fn target_key(own: u128, end: End) -> u128
 /// The numbers of points. The error is want of memory.
 pub fn point_keys(alloc: Global, points: &[Point]) -> Result<Vec<u128>, AllocError>
     requires { (q : ListedPoint) → Contains points.now q → q.turns ≤ 4096 }
-    ensures { IfOk result (λ v. v.items ≡ map numbers.point_key points.now) }
+    ensures listed { IfOk result (λ v. v.items ≡ map numbers.point_key points.now) }
+    ensures small { IfOk result (λ v. (q : ListedPoint) → Contains points.now q → (q.at < 4294967296) × (q.stack < 18446744073709551616)) }
 {
     let mut found: Vec<u128> = Vec::new(alloc);
     for point in points {

@@ -1,0 +1,257 @@
+-- The value is the unrolled program of a program.
+use Rattle.std.proofs.Common.{◌≡◌, ◌≢◌, inl, inr, refl, ap, sym, ◌∙◌, subst, arith, ℕ, zero, suc, ◌+◌, ◌/◌, ◌%◌, ◌<◌, ◌≤◌, ◌^◌, Option, Some, None, List, [], ◌∷◌, ◌++◌, length, get_or, drop, map}
+use Rattle.std.specs.Prelude.{Contains, ◌↔◌, ◌==◌, filter, slice_get, slice_range}
+use Rattle.std.specs.BTreeMap.{BTreeMap}
+use Rattle.std.proofs.lemmas.Bool.{cases_lt}
+use Rattle.std.proofs.lemmas.List.{get_or_default, get_or-map}
+use Rattle.std.proofs.lemmas.Option.{slice_get-get_or}
+use Rattle.bilv_spec.specs.Machine.{Row}
+use Rattle.bilv_spec.specs.MachineLaws.{IsFitted}
+use Rattle.bilv_spec.specs.Bil.{Bank}
+use Rattle.bilv_spec.specs.Notes as notes
+use Rattle.bilv_spec.specs.Run.{Program}
+use Rattle.bilv_spec.specs.Points as spec
+use Rattle.bilv_spec.specs.Points.{IsPoint, ArePoints, file_row}
+use Rattle.bilv_spec.specs.PointLaws.{IsInGraph}
+use Rattle.bilv_spec.proofs.PointsInGraph.{points_are_in_graph, of_map}
+use Rattle.bilv_spec.proofs.PointSteps.{in_map}
+use Rattle.graph_nodes.specs.declared.nodes.Node.{Node}
+use Rattle.graph_nodes.specs.declared.nodes.Graph.{Graph}
+use Rattle.graph_nodes.specs.Graphs.{IsGraph, addresses_of}
+use Rattle.graph_nodes.proofs.Places.{at_is}
+use Rattle.notes_lang.specs.declared.notes.Assert.{Assert}
+use Rattle.notes_lang.specs.Drafting.{notes_of, assert_of}
+use Rattle.notes_index.specs.Indexed.{assert_places, numbered_from}
+use Rattle.program_points.specs.Listed.{HasOneWay}
+use Rattle.program_points.specs.Tables.{stack_at, IsTable}
+use Rattle.program_points.proofs.Stacked.{one_number, stack_none}
+use Rattle.state_text.specs.Starts.{layout_of}
+use Rattle.walk_spec.specs.Unrolled.{PointExit, FalseAssert, no_point, UnrolledPoint, UnrolledProgram, point_at, is_register_of, is_flag_of}
+use Rattle.walk_spec.specs.Unrolling.{IsPlace, IsLiteralOf, assert_exits}
+use Rattle.question_form.specs.declared.unrolled.Code.{Code}
+use Rattle.question_form.specs.declared.unrolled.Edge.{Edge}
+use Rattle.question_form.specs.declared.unrolled.Point.{Point}
+use Rattle.question_form.specs.declared.unrolled.Unrolled.{Unrolled}
+use Rattle.question_form.specs.Views.{point_by, code_of, edges_from, no_code, unrolled_of, point_of as view_of, asserts_between}
+use Rattle.question_form.specs.Forms.{IsFormed}
+use Rattle.unroller.specs.Keys.{turns_of, address_of, stack_of, point_of, AreKeys}
+use Rattle.unroller.specs.Led.{AreLed, IsCalledBy, AreCalled, IsPlacedAt, ArePlaced, begins_at}
+use Rattle.unroller.specs.Places.{IsGroup, IsCode, IsCodeOf, AreCodes, HasFitRow, AreEdgesAt}
+use Rattle.unroller.proofs.Coding.{of_nodes}
+use Rattle.unroller.proofs.FirstPoints.{entry_comes_first}
+use Rattle.unroller.proofs.Grouped.{asserts_are}
+use Rattle.unroller.proofs.Leads.{edges_at}
+use Rattle.unroller.proofs.Looked.{points_are_at}
+use Rattle.unroller.proofs.Placed.{places_are_right}
+
+-- the address of each number is one of the graph
+pub address_in : (p : Program) (k : ℕ) (g : Graph) → IsGraph p g → (point : spec.Point) → IsPoint p k point → Contains (addresses_of g) point.at
+address_in p k g graph point is = (graph.all point.at).1 (points_are_in_graph p k point is).at
+
+one_node : (g : Graph) → ((i j : ℕ) → i < j → j < length g.nodes.items → get_or (addresses_of g) i 0 < get_or (addresses_of g) j 0) → (m n : Node) → Contains g.nodes.items m → Contains g.nodes.items n → m.at ≡ n.at → m ≡ n
+one_node g rising m n (i, w, e) (j, v, f) same =
+    let a : get_or (addresses_of g) i 0 ≡ m.at = at_is g.nodes.items i m w ∙ ap (λ (z : Node). z.at) e in
+    let b : get_or (addresses_of g) j 0 ≡ n.at = at_is g.nodes.items j n v ∙ ap (λ (z : Node). z.at) f in
+    elim (cases_lt i j) as (λ _. m ≡ n) [
+      | inl l ↦ absurd (let z = rising i j l v in omega arith)
+      | inr le ↦ elim (cases_lt j i) as (λ _. m ≡ n) [
+        | inl l ↦ absurd (let z = rising j i l w in omega arith)
+        | inr ge ↦ (let z : i ≡ j = omega arith in sym e ∙ ap (λ (x : ℕ). get_or g.nodes.items x m) z ∙ get_or_default g.nodes.items j m n v ∙ f)
+      ]
+    ]
+
+begins_same : (u : Unrolled) (ps : List Point) → edges_from u ps ≡ begins_at u.edges.items ps
+begins_same u [] = refl
+begins_same u (q ∷ ps) = refl
+
+map_at : (xs : List Assert) → map (λ (a : notes.Assert). a.at) (map assert_of xs) ≡ map (λ (a : Assert). a.at) xs
+map_at [] = refl
+map_at (x ∷ xs) = ap (λ (l : List ℕ). x.at ∷ l) (map_at xs)
+
+module _ (p : Program) (k : ℕ) (bank : Bank) (g : Graph) (u : Unrolled) (numbers : BTreeMap (ℕ × ℕ) ℕ) (keys addresses called : List ℕ) (graph : IsGraph p g) (way : HasOneWay p)
+    (fitted : IsFitted p.machine (layout_of u.form)) (registers : (r : ℕ) → is_register_of (unrolled_of u) r ≡ p.machine.has_register r) (flags : (f : ℕ) → is_flag_of (unrolled_of u) f ≡ p.machine.has_flag f)
+    (table : IsTable u.frames.items numbers) (are : AreKeys p k u.frames.items keys) (calls : AreCalled g keys u.frames.items (length keys) called)
+    (codes : AreCodes p bank addresses u.asserts.items (length addresses) u.codes.items)
+    (placed : ArePlaced g u.frames.items keys addresses called (length keys) u.points.items u.edges.items)
+    (index : (at : ℕ) → filter (λ x. x.0 == at) u.asserts.items ≡ filter (λ x. x.0 == at) (numbered_from 0 (assert_places u.notes.now.asserts.items))) (noted : p.notes ≡ notes_of u.notes.now) where
+  abbrev none : Point
+  none = record { turns = 0; code = 0; stack = 0; edges = 0 }
+
+  abbrev own : ℕ → Point
+  own i = get_or u.points.items i none
+
+  abbrev rest : ℕ → List Point
+  rest i = drop (i + 1) u.points.items
+
+  abbrev led : ℕ → List Edge
+  led i = slice_range u.edges.items (own i).edges (edges_from u (rest i))
+
+  abbrev code : ℕ → Code
+  code i = code_of u (own i)
+
+  abbrev key : ℕ → ℕ
+  key i = get_or keys i 0
+
+  pub size : length (unrolled_of u).points ≡ length keys
+  size = (points_are_at u).0 ∙ placed.count
+
+  at : (i : ℕ) → i < length keys → IsPlacedAt g u.frames.items keys addresses (key i) (get_or called i 0) (own i) (begins_at u.edges.items (rest i)) u.edges.items
+  at i w = placed.each i none w
+
+  point_is : (i : ℕ) → i < length keys → point_at (unrolled_of u) i ≡ point_by u (own i) (code i) (led i)
+  point_is i w = (points_are_at u).1 i (own i) (slice_get-get_or u.points.items i none (let c = placed.count in omega arith))
+
+  code_is : (i : ℕ) → i < length keys → IsCodeOf p bank (get_or addresses (own i).code 0) u.asserts.items (code i)
+  code_is i w = codes.each (own i).code no_code (at i w).coded
+
+  code_at : (i : ℕ) → i < length keys → (code i).at ≡ address_of (key i)
+  code_at i w = (code_is i w).here ∙ (at i w).code
+
+  own_is : (i : ℕ) → i < length keys → (point_by u (own i) (code i) (led i)).point ≡ point_of u.frames.items (key i)
+  own_is i w =
+      let q = at i w in
+      ap (λ (z : ℕ). let r : spec.Point = record { turns = z; stack = stack_at u.frames.items (own i).stack; at = (code i).at } in r) q.turns
+      ∙ ap (λ (z : ℕ). let r : spec.Point = record { turns = turns_of (key i); stack = stack_at u.frames.items z; at = (code i).at } in r) q.stack
+      ∙ ap (λ (z : ℕ). let r : spec.Point = record { turns = turns_of (key i); stack = stack_at u.frames.items (stack_of (key i)); at = z } in r) (code_at i w)
+
+  pub points_are : (i : ℕ) → i < length keys → (point_at (unrolled_of u) i).point ≡ point_of u.frames.items (key i)
+  points_are i w = ap (λ (z : UnrolledPoint). z.point) (point_is i w) ∙ own_is i w
+
+  asserts : (i : ℕ) → i < length keys → asserts_between (notes_of u.notes.now).asserts u.asserts.items (code i).asserts ≡ assert_exits p (point_by u (own i) (code i) (led i)).point
+  asserts i w =
+      let c = code_is i w in
+      let all = (notes_of u.notes.now).asserts in
+      let group = subst (λ (z : ℕ). Group z (code i).asserts) (sym c.here) c.group in
+      asserts_are (code i).at all u.asserts.items (code i).asserts group
+      (index (code i).at ∙ ap (λ (l : List ℕ). filter (λ (x : ℕ × ℕ). x.0 == (code i).at) (numbered_from 0 l)) (sym (map_at u.notes.now.asserts.items)))
+      ∙ ap (λ (n : notes.Notes). exits_of n (code i).at) (sym noted)
+    where
+      Group : ℕ → ℕ × ℕ → Type 0
+      Group z b = IsGroup u.asserts.items z b
+
+      exits_of : notes.Notes → ℕ → List PointExit
+      exits_of n a = map (λ (b : notes.Assert). FalseAssert b.line b.says) (filter (λ (b : notes.Assert). b.at == a) n.asserts)
+
+  fit : (i : ℕ) → i < length keys → HasFitRow p (code i).at
+  fit i w = record {
+    lawful = λ r e. ((code_is i w).row.fit r e).0;
+    plain = λ r e. ((code_is i w).row.fit r e).1;
+    four = λ r e. way.four (code i).at r e;
+  }
+
+  edges_are : (i : ℕ) → i < length keys → (row : Row) → file_row p (code i).at ≡ Some row → AreEdgesAt p k (unrolled_of u) i (point_by u (own i) (code i) (led i)).point row (led i)
+  edges_are i w row some =
+      let q = at i w in
+      let l = q.led in
+      let n = l.0 in
+      let c = calls.each i w in
+      let same : c.0 ≡ n = one_node g graph.rising c.0 n c.1 l.1 (c.2 ∙ sym l.2) in
+      let by : IsCalledBy n (stack_of (key i)) u.frames.items (get_or called i 0) = subst (λ (z : Node). IsCalledBy z (stack_of (key i)) u.frames.items (get_or called i 0)) same c.3 in
+      let here : n.at ≡ (code i).at = l.2 ∙ sym (code_at i w) in
+      let leads : AreLed n u.frames.items keys (key i) (get_or called i 0) (led i) =
+      subst (λ (z : ℕ). AreLed n u.frames.items keys (key i) (get_or called i 0) (slice_range u.edges.items (own i).edges z)) (sym (begins_same u (rest i))) l.3 in
+      let row_here : file_row p n.at ≡ Some row = ap (file_row p) here ∙ some in
+      subst (λ (z : spec.Point). AreEdgesAt p k (unrolled_of u) i z row (led i))
+      (ap (λ (z : ℕ). let r : spec.Point = record { turns = turns_of (key i); stack = stack_at u.frames.items (stack_of (key i)); at = z } in r) l.2 ∙ sym (own_is i w))
+      (edges_at p k n u.frames.items numbers keys (key i) (get_or called i 0) i row (of_nodes p g n graph l.1) way table (are.fits i w) by row_here (sym l.2) are w refl (unrolled_of u) size points_are
+      (led i) leads)
+
+  pub places : (i : ℕ) → i < length keys → IsPlace p k (unrolled_of u) i (point_at (unrolled_of u) i) (file_row p (point_at (unrolled_of u) i).point.at)
+  places i w =
+      subst (λ (z : UnrolledPoint). IsPlace p k (unrolled_of u) i z (file_row p z.point.at)) (sym (point_is i w))
+      (places_are_right p k u (layout_of u.form) bank i (own i) (code i) (led i) fitted registers flags (fit i w) (record { own = (code_is i w).row; asserts = asserts i w }) (edges_are i w))
+
+  pub words : (i : ℕ) → i < length (unrolled_of u).points → (point_at (unrolled_of u) i).point.at < 2 ^ 32
+  words i w =
+      let inside : i < length keys = (let s = size in omega arith) in
+      let e : (point_at (unrolled_of u) i).point.at ≡ address_of (key i) = ap (λ (z : spec.Point). z.at) (points_are i inside) in
+      omega arith
+
+  same_key : (x y : ℕ) → stack_of x ≤ length u.frames.items → stack_of y ≤ length u.frames.items → point_of u.frames.items x ≡ point_of u.frames.items y → x ≡ y
+  same_key x y a b e =
+      let t : turns_of x ≡ turns_of y = ap (λ (z : spec.Point). z.turns) e in
+      let l : address_of x ≡ address_of y = ap (λ (z : spec.Point). z.at) e in
+      let q : stack_at u.frames.items (stack_of x) ≡ stack_at u.frames.items (stack_of y) = ap (λ (z : spec.Point). z.stack) e in
+      let s = one_number u.frames.items numbers table (stack_of x) (stack_of x) (stack_of y) (omega arith) a b q in
+      omega arith
+
+  abbrev all : List spec.Point
+  all = map (λ (q : UnrolledPoint). q.point) (unrolled_of u).points
+
+  map_size : (xs : List UnrolledPoint) → length (map (λ (q : UnrolledPoint). q.point) xs) ≡ length xs
+  map_size [] = refl
+  map_size (x ∷ xs) = ap suc (map_size xs)
+
+  all_at : (i : ℕ) (d : spec.Point) → i < length keys → get_or all i d ≡ point_of u.frames.items (key i)
+  all_at i d w = get_or-map (λ (q : UnrolledPoint). q.point) (unrolled_of u).points i no_point d (let s = size in omega arith) ∙ points_are i w
+
+  pub are_points : ArePoints p k all
+  are_points = record {
+    all = λ point is.
+        let q = are.all point is in
+        (q.0, (let s = size in let m = map_size (unrolled_of u).points in let l = q.1 in omega arith), all_at q.0 point q.1 ∙ q.2);
+    only = λ point (i, w, e).
+        let inside : i < length keys = (let s = size in let m = map_size (unrolled_of u).points in omega arith) in
+        subst (λ (z : spec.Point). IsPoint p k z) (sym (all_at i point inside) ∙ e) (are.only i inside);
+    once = λ i j l w e.
+        let s = size in
+        let m = map_size (unrolled_of u).points in
+        let a : i < length keys = omega arith in
+        let b : j < length keys = omega arith in
+        let first = point_of u.frames.items (key i) in
+        let x : slice_get all i ≡ Some (get_or all i first) = slice_get-get_or all i first (omega arith) in
+        let y : slice_get all j ≡ Some (get_or all j first) = slice_get-get_or all j first w in
+        let z : get_or all i first ≡ get_or all j first = some_same (get_or all i first) (get_or all j first) (sym x ∙ e ∙ y) in
+        let same = same_key (key i) (key j) (are.fits i a) (are.fits j b) (sym (all_at i first a) ∙ z ∙ all_at j first b) in
+        let up = are.rise i j l b in absurd (omega arith);
+  }
+    where
+      some_same : (a b : spec.Point) → Some a ≡ Some b → a ≡ b
+      some_same a b e = cc
+
+  pub first : (point_at (unrolled_of u) 0).point ≡ record { turns = 0; stack = []; at = p.entry }
+  first =
+      let q = are.all (record { turns = 0; stack = []; at = p.entry }) spec.first in
+      let some : 0 < length keys = (let l = q.1 in omega arith) in
+      points_are 0 some ∙ elim ((entry_comes_first p k (point_of u.frames.items (key 0)) (are.only 0 some)).1 (no_turns q.0 q.1 q.2)) as (λ _. point_of u.frames.items (key 0) ≡ record { turns = 0; stack = []; at = p.entry }) [
+        | inl far ↦ absurd (let z = not_far q.0 q.1 q.2 in omega arith)
+        | inr e ↦ e
+      ]
+    where
+      least : (i : ℕ) → i < length keys → key 0 ≤ key i
+      least zero w = omega arith
+      least (suc i) w = let z = are.rise 0 (suc i) (omega arith) w in omega arith
+
+      no_turns : (i : ℕ) → i < length keys → point_of u.frames.items (key i) ≡ record { turns = 0; stack = []; at = p.entry } → turns_of (key 0) ≡ 0
+      no_turns i w e =
+          let t : turns_of (key i) ≡ 0 = ap (λ (z : spec.Point). z.turns) e in
+          let l = least i w in
+          omega arith
+
+      not_far : (i : ℕ) → i < length keys → point_of u.frames.items (key i) ≡ record { turns = 0; stack = []; at = p.entry } → address_of (key 0) ≤ p.entry
+      not_far i w e =
+          let t : turns_of (key i) ≡ 0 = ap (λ (z : spec.Point). z.turns) e in
+          let a : address_of (key i) ≡ p.entry = ap (λ (z : spec.Point). z.at) e in
+          let l = least i w in
+          omega arith
+
+  pub formed : ((i : ℕ) (d : ℕ × ℕ) → i < length u.asserts.items → (get_or u.asserts.items i d).1 < length u.notes.now.asserts.items) → IsFormed u
+  formed lines = record {
+    codes = λ i d w.
+        let q = placed.each i d (let c = placed.count in omega arith) in
+        let c = codes.count in let l = q.coded in omega arith;
+    edges = λ i d w.
+        let q = placed.each i d (let c = placed.count in omega arith) in
+        let l = q.ordered in let s = begins_same u (drop (i + 1) u.points.items) in omega arith;
+    within = λ i d w. (let q = placed.each i d (let c = placed.count in omega arith) in let l = q.ordered in let m = q.within in omega arith);
+    asserts = λ i d w. (let c = codes.each i d (let n = codes.count in omega arith) in (c.group.ordered, c.group.within));
+    lines = lines;
+  }
+
+  -- no row at a point loads a literal
+  pub no_literal : (a : ℕ) → IsLiteralOf p k a → ⊥
+  no_literal a l =
+      let q = are.all l.point l.is_point in
+      let e : (code q.0).at ≡ l.point.at = code_at q.0 q.1 ∙ ap (λ (z : spec.Point). z.at) q.2 in
+      let plain = ((code_is q.0 q.1).row.fit l.row (ap (file_row p) e ∙ l.is_row)).1 in
+      absurd (let n = plain.literal l.point.at in let s = l.loads in cc)

@@ -1,0 +1,225 @@
+use Rattle.std.proofs.Common.{◌≡◌, ℕ, List, Some, refl, ap, sym, ◌∙◌, subst, arith, [], length, map, get_or}
+use Rattle.std.specs.Prelude.{Contains}
+use Rattle.std.proofs.lemmas.List.{length-map, get_or_default}
+use Rattle.bilv_spec.specs.Machine.{Machine}
+use Rattle.bilv_spec.specs.MachineLaws.{IsFitted}
+use Rattle.bilv_spec.specs.StateText.{Layout}
+use Rattle.bilv_spec.specs.Files.{program_of}
+use Rattle.bilv_spec.specs.Run.{Program}
+use Rattle.bilv_spec.specs.Points.{IsCount, begins_run, is_known_at}
+use Rattle.bilv_spec.proofs.PointsInGraph.{none_in}
+use Rattle.known_bytes.proofs.Counts.{run_starts}
+use Rattle.notes_lang.specs.Drafting.{notes_of}
+use Rattle.program_points.specs.declared.values.Frame.{Frame}
+use Rattle.program_points.proofs.Lists.{nothing_more}
+use Rattle.state_text.specs.Starts.{layout_of}
+use Rattle.question_form.specs.declared.unrolled.Unrolled.{Unrolled}
+use Rattle.question_form.specs.Views.{kept_of}
+use Rattle.unroller.specs.Led.{AreCalled, ArePlaced}
+use Rattle.unroller.specs.Lookups.{HasForm}
+use Rattle.unroller.specs.Places.{AreCodes}
+use Rattle.unroller.proofs.KeptRuns.{kept_runs_are_right}
+use Rattle.unroller.proofs.Looked.{forms_are_right}
+use Rattle.unroller.proofs.Listing.{low_turns, keys_of, among_graph, addresses_among, keys_coded, keys_fit, keys_low}
+use Rattle.unroller.proofs.Whole.{size, places, words, are_points, first, formed, no_literal}
+use Rattle.unroller.proofs.unrolling.unroll.Goals as goal
+
+pub point_keys-requires : goal.point_keys-requires
+point_keys-requires g c =
+    let notes = notes_of c.args.notes.now in
+    let p : Program = program_of c.args.image.now notes c.args.entry in
+    low_turns p c.args.k c.in_ok-listed.listed c.deref.result.now (c.in_ok-listed.ensures.points p c.requires.graph refl c.requires.one_way) c.deref.ensures.value c.requires.k
+
+pub calls-requires-clause-among : goal.calls-requires-clause-among
+calls-requires-clause-among g c =
+    let notes = notes_of c.args.notes.now in
+    let p : Program = program_of c.args.image.now notes c.args.entry in
+    let v = c.in_ok-listed.listed in
+    let keys = c.in_ok-keys.keys.items in
+    let listed = c.in_ok-listed.ensures.points p c.requires.graph refl c.requires.one_way in
+    let are =
+    keys_of p c.args.k v v.stacks.frames.items v.stacks.numbers [] keys c.in_ok-point_keys.field-0.items c.deref.result.now (nothing_more v.stacks.frames.items) c.deref.ensures.value listed
+    c.in_ok-listed.ensures.numbered c.in_ok-point_keys.ensures.small c.in_ok-point_keys.ensures.listed c.in_ok-keys.ensures.same c.in_ok-keys.ensures.rise in
+    among_graph p c.args.k c.args.graph.now v.stacks.frames.items keys c.deref-3.result.now c.requires.graph are c.deref-3.ensures.value
+
+pub calls-requires-clause-fits : goal.calls-requires-clause-fits
+calls-requires-clause-fits g c =
+    let notes = notes_of c.args.notes.now in
+    let p : Program = program_of c.args.image.now notes c.args.entry in
+    let v = c.in_ok-listed.listed in
+    let keys = c.in_ok-keys.keys.items in
+    let listed = c.in_ok-listed.ensures.points p c.requires.graph refl c.requires.one_way in
+    let are =
+    keys_of p c.args.k v v.stacks.frames.items v.stacks.numbers [] keys c.in_ok-point_keys.field-0.items c.deref.result.now (nothing_more v.stacks.frames.items) c.deref.ensures.value listed
+    c.in_ok-listed.ensures.numbered c.in_ok-point_keys.ensures.small c.in_ok-point_keys.ensures.listed c.in_ok-keys.ensures.same c.in_ok-keys.ensures.rise in
+    keys_fit p c.args.k v.stacks.frames.items keys c.deref-3.result.now are c.deref-3.ensures.value
+
+pub codes_at-requires-clause-among : goal.codes_at-requires-clause-among
+codes_at-requires-clause-among g c =
+    let notes = notes_of c.args.notes.now in
+    let p : Program = program_of c.args.image.now notes c.args.entry in
+    let v = c.in_ok-listed.listed in
+    let keys = c.in_ok-keys.keys.items in
+    let listed = c.in_ok-listed.ensures.points p c.requires.graph refl c.requires.one_way in
+    let are =
+    keys_of p c.args.k v v.stacks.frames.items v.stacks.numbers [] keys c.in_ok-point_keys.field-0.items c.deref.result.now (nothing_more v.stacks.frames.items) c.deref.ensures.value listed
+    c.in_ok-listed.ensures.numbered c.in_ok-point_keys.ensures.small c.in_ok-point_keys.ensures.listed c.in_ok-keys.ensures.same c.in_ok-keys.ensures.rise in
+    addresses_among p c.args.k c.args.graph.now v.stacks.frames.items keys c.deref-2.result.now c.in_ok-addresses.addresses.items c.deref-4.result.now c.requires.graph are c.deref-2.ensures.value
+    c.deref-4.ensures.value c.in_ok-addresses.ensures.same
+
+pub points_of-requires-clause-low : goal.points_of-requires-clause-low
+points_of-requires-clause-low g c =
+    let notes = notes_of c.args.notes.now in
+    let p : Program = program_of c.args.image.now notes c.args.entry in
+    let v = c.in_ok-listed.listed in
+    let keys = c.in_ok-keys.keys.items in
+    let listed = c.in_ok-listed.ensures.points p c.requires.graph refl c.requires.one_way in
+    let are =
+    keys_of p c.args.k v v.stacks.frames.items v.stacks.numbers [] keys c.in_ok-point_keys.field-0.items c.deref.result.now (nothing_more v.stacks.frames.items) c.deref.ensures.value listed
+    c.in_ok-listed.ensures.numbered c.in_ok-point_keys.ensures.small c.in_ok-point_keys.ensures.listed c.in_ok-keys.ensures.same c.in_ok-keys.ensures.rise in
+    keys_low p c.args.k v.stacks.frames.items keys c.deref-7.result.now are c.deref-7.ensures.value c.requires.k
+
+pub points_of-requires-clause-among : goal.points_of-requires-clause-among
+points_of-requires-clause-among g c =
+    let notes = notes_of c.args.notes.now in
+    let p : Program = program_of c.args.image.now notes c.args.entry in
+    let v = c.in_ok-listed.listed in
+    let keys = c.in_ok-keys.keys.items in
+    let listed = c.in_ok-listed.ensures.points p c.requires.graph refl c.requires.one_way in
+    let are =
+    keys_of p c.args.k v v.stacks.frames.items v.stacks.numbers [] keys c.in_ok-point_keys.field-0.items c.deref.result.now (nothing_more v.stacks.frames.items) c.deref.ensures.value listed
+    c.in_ok-listed.ensures.numbered c.in_ok-point_keys.ensures.small c.in_ok-point_keys.ensures.listed c.in_ok-keys.ensures.same c.in_ok-keys.ensures.rise in
+    among_graph p c.args.k c.args.graph.now v.stacks.frames.items keys c.deref-7.result.now c.requires.graph are c.deref-7.ensures.value
+
+pub points_of-requires-clause-coded : goal.points_of-requires-clause-coded
+points_of-requires-clause-coded g c =
+    keys_coded c.in_ok-keys.keys.items c.deref-2.result.now c.deref-7.result.now c.in_ok-addresses.addresses.items c.deref-8.result.now c.deref-2.ensures.value c.deref-7.ensures.value
+    c.deref-8.ensures.value c.in_ok-addresses.ensures.same
+
+pub returns-clause-unrolled : goal.returns-clause-unrolled
+returns-clause-unrolled g c =
+    let notes = notes_of c.args.notes.now in
+    let p : Program = program_of c.args.image.now notes c.args.entry in
+    let v = c.in_ok-listed.listed in
+    let keys = c.in_ok-keys.keys.items in
+    let addresses = c.in_ok-addresses.addresses.items in
+    let called = c.in_ok-called.called.items in
+    let frames = c.calls.new.stacks.frames.items in
+    let begins = c.in_ok-called.ensures.begins in
+    let u : Unrolled = record { form = c.layout.result; big = c.is_big_machine.result; link = c.link.result; entry = c.args.entry; notes = c.args.notes; asserts = c.in_ok-index.index.asserts; kept = c.kept.result; known = c.in_ok-known.known.runs; literals = c.new.result; frames = c.calls.new.stacks.frames; codes = c.in_ok-codes.codes; points = c.in_ok-placed.placed.points; edges = c.in_ok-placed.placed.edges } in
+    let listed = c.in_ok-listed.ensures.points p c.requires.graph refl c.requires.one_way in
+    let are =
+    keys_of p c.args.k v frames v.stacks.numbers begins.0 keys c.in_ok-point_keys.field-0.items c.deref.result.now begins.1 c.deref.ensures.value listed
+    c.in_ok-listed.ensures.numbered c.in_ok-point_keys.ensures.small c.in_ok-point_keys.ensures.listed c.in_ok-keys.ensures.same c.in_ok-keys.ensures.rise in
+    let mach = c.requires.machine in
+    let fitted : IsFitted g.M.Machine.machine (layout_of c.layout.result) = subst (λ (z : Layout). IsFitted g.M.Machine.machine z) (sym c.layout.ensures) g.met.M.Machine.fitted in
+    let form : HasForm g.M.Machine.machine u = forms_are_right g.M.Machine.machine u fitted in
+    let here : IsFitted p.machine (layout_of c.layout.result) = subst (λ (z : Machine). IsFitted z (layout_of c.layout.result)) (sym mach) fitted in
+    let registers = λ (r : ℕ). form.registers r ∙ ap (λ (z : Machine). z.has_register r) (sym mach) in
+    let flags = λ (f : ℕ). form.flags f ∙ ap (λ (z : Machine). z.has_flag f) (sym mach) in
+    let calls : AreCalled c.args.graph.now keys frames (length keys) called = subst (λ (l : List ℕ). AreCalled c.args.graph.now l frames (length l) called) c.deref-3.ensures.value c.in_ok-called.ensures.called in
+    let codes : AreCodes p g.M.Machine.bank addresses u.asserts.items (length addresses) u.codes.items =
+    subst (λ (l : List ℕ). AreCodes p g.M.Machine.bank l u.asserts.items (length l) u.codes.items) c.deref-4.ensures.value
+    (subst (λ (l : List (ℕ × ℕ)). AreCodes p g.M.Machine.bank c.deref-4.result.now l (length c.deref-4.result.now) u.codes.items) c.deref-5.ensures.value (c.in_ok-codes.ensures p mach c.requires.graph)) in
+    let placed : ArePlaced c.args.graph.now frames keys addresses called (length keys) u.points.items u.edges.items =
+    subst (λ (l : List ℕ). ArePlaced c.args.graph.now frames l addresses called (length l) u.points.items u.edges.items) c.deref-7.ensures.value
+    (subst (λ (l : List ℕ). ArePlaced c.args.graph.now frames c.deref-7.result.now l called (length c.deref-7.result.now) u.points.items u.edges.items) c.deref-8.ensures.value
+    (subst (λ (l : List ℕ). ArePlaced c.args.graph.now frames c.deref-7.result.now c.deref-8.result.now l (length c.deref-7.result.now) u.points.items u.edges.items) c.deref-9.ensures.value
+    (subst (λ (l : List Frame). ArePlaced c.args.graph.now l c.deref-7.result.now c.deref-8.result.now c.deref-9.result.now (length c.deref-7.result.now) u.points.items u.edges.items) c.deref-6.ensures.value
+    c.in_ok-placed.ensures))) in
+    let runs = kept_runs_are_right c.args.image.now c.kept.result.now c.kept.ensures.runs (λ i w. (c.kept.ensures.words i w).1) in
+    record {
+      endian = c.is_big_machine.ensures;
+      registers = registers;
+      registers_rise = form.rise;
+      flags = flags;
+      link = c.link.ensures ∙ ap (λ (z : Machine). z.link) (sym mach);
+      entry = refl;
+      requires = refl;
+      ensures = refl;
+      kept = runs.0;
+      runs = runs.1;
+      kept_runs =
+          subst (λ (z : ℕ). IsCount (begins_run p) z) (sym (length-map c.kept.result.now kept_of))
+          (run_starts c.args.image.now c.kept.result.now c.kept.ensures.runs (λ i w. (c.kept.ensures.words i w).0) notes c.args.entry);
+      known = λ a w. c.in_ok-known.ensures.bytes c.args.entry a w;
+      known_bytes = subst (λ (z : ℕ). IsCount (is_known_at p) z) (sym c.in_ok-known.ensures.sum) (c.in_ok-known.ensures.count c.args.entry);
+      literals = λ a. (
+        (λ h. absurd (none_in a (subst (λ (l : List ℕ). Contains l a) c.new.ensures.items h))),
+        (λ l. absurd (no_literal p c.args.k g.M.Machine.bank c.args.graph.now u c.calls.new.stacks.numbers keys addresses called c.requires.graph c.requires.one_way here registers flags c.in_ok-called.ensures.table are calls codes placed c.in_ok-index.ensures.asserts.order refl a l)),
+      );
+      points = are_points p c.args.k g.M.Machine.bank c.args.graph.now u c.calls.new.stacks.numbers keys addresses called c.requires.graph c.requires.one_way here registers flags c.in_ok-called.ensures.table are calls codes placed c.in_ok-index.ensures.asserts.order refl;
+      first = first p c.args.k g.M.Machine.bank c.args.graph.now u c.calls.new.stacks.numbers keys addresses called c.requires.graph c.requires.one_way here registers flags c.in_ok-called.ensures.table are calls codes placed c.in_ok-index.ensures.asserts.order refl;
+      places = λ i w. places p c.args.k g.M.Machine.bank c.args.graph.now u c.calls.new.stacks.numbers keys addresses called c.requires.graph c.requires.one_way here registers flags c.in_ok-called.ensures.table are calls codes placed c.in_ok-index.ensures.asserts.order refl i (let s = size p c.args.k g.M.Machine.bank c.args.graph.now u c.calls.new.stacks.numbers keys addresses called c.requires.graph c.requires.one_way here registers flags c.in_ok-called.ensures.table are calls codes placed c.in_ok-index.ensures.asserts.order refl in omega arith);
+    }
+
+pub returns-clause-formed : goal.returns-clause-formed
+returns-clause-formed g c =
+    let notes = notes_of c.args.notes.now in
+    let p : Program = program_of c.args.image.now notes c.args.entry in
+    let v = c.in_ok-listed.listed in
+    let keys = c.in_ok-keys.keys.items in
+    let addresses = c.in_ok-addresses.addresses.items in
+    let called = c.in_ok-called.called.items in
+    let frames = c.calls.new.stacks.frames.items in
+    let begins = c.in_ok-called.ensures.begins in
+    let u : Unrolled = record { form = c.layout.result; big = c.is_big_machine.result; link = c.link.result; entry = c.args.entry; notes = c.args.notes; asserts = c.in_ok-index.index.asserts; kept = c.kept.result; known = c.in_ok-known.known.runs; literals = c.new.result; frames = c.calls.new.stacks.frames; codes = c.in_ok-codes.codes; points = c.in_ok-placed.placed.points; edges = c.in_ok-placed.placed.edges } in
+    let listed = c.in_ok-listed.ensures.points p c.requires.graph refl c.requires.one_way in
+    let are =
+    keys_of p c.args.k v frames v.stacks.numbers begins.0 keys c.in_ok-point_keys.field-0.items c.deref.result.now begins.1 c.deref.ensures.value listed
+    c.in_ok-listed.ensures.numbered c.in_ok-point_keys.ensures.small c.in_ok-point_keys.ensures.listed c.in_ok-keys.ensures.same c.in_ok-keys.ensures.rise in
+    let mach = c.requires.machine in
+    let fitted : IsFitted g.M.Machine.machine (layout_of c.layout.result) = subst (λ (z : Layout). IsFitted g.M.Machine.machine z) (sym c.layout.ensures) g.met.M.Machine.fitted in
+    let form : HasForm g.M.Machine.machine u = forms_are_right g.M.Machine.machine u fitted in
+    let here : IsFitted p.machine (layout_of c.layout.result) = subst (λ (z : Machine). IsFitted z (layout_of c.layout.result)) (sym mach) fitted in
+    let registers = λ (r : ℕ). form.registers r ∙ ap (λ (z : Machine). z.has_register r) (sym mach) in
+    let flags = λ (f : ℕ). form.flags f ∙ ap (λ (z : Machine). z.has_flag f) (sym mach) in
+    let calls : AreCalled c.args.graph.now keys frames (length keys) called = subst (λ (l : List ℕ). AreCalled c.args.graph.now l frames (length l) called) c.deref-3.ensures.value c.in_ok-called.ensures.called in
+    let codes : AreCodes p g.M.Machine.bank addresses u.asserts.items (length addresses) u.codes.items =
+    subst (λ (l : List ℕ). AreCodes p g.M.Machine.bank l u.asserts.items (length l) u.codes.items) c.deref-4.ensures.value
+    (subst (λ (l : List (ℕ × ℕ)). AreCodes p g.M.Machine.bank c.deref-4.result.now l (length c.deref-4.result.now) u.codes.items) c.deref-5.ensures.value (c.in_ok-codes.ensures p mach c.requires.graph)) in
+    let placed : ArePlaced c.args.graph.now frames keys addresses called (length keys) u.points.items u.edges.items =
+    subst (λ (l : List ℕ). ArePlaced c.args.graph.now frames l addresses called (length l) u.points.items u.edges.items) c.deref-7.ensures.value
+    (subst (λ (l : List ℕ). ArePlaced c.args.graph.now frames c.deref-7.result.now l called (length c.deref-7.result.now) u.points.items u.edges.items) c.deref-8.ensures.value
+    (subst (λ (l : List ℕ). ArePlaced c.args.graph.now frames c.deref-7.result.now c.deref-8.result.now l (length c.deref-7.result.now) u.points.items u.edges.items) c.deref-9.ensures.value
+    (subst (λ (l : List Frame). ArePlaced c.args.graph.now l c.deref-7.result.now c.deref-8.result.now c.deref-9.result.now (length c.deref-7.result.now) u.points.items u.edges.items) c.deref-6.ensures.value
+    c.in_ok-placed.ensures))) in
+    formed p c.args.k g.M.Machine.bank c.args.graph.now u c.calls.new.stacks.numbers keys addresses called c.requires.graph c.requires.one_way here registers flags c.in_ok-called.ensures.table are calls codes placed c.in_ok-index.ensures.asserts.order refl
+    (λ i d w. (let q = (c.in_ok-index.ensures.asserts.only i d w).0 in let l = length-map c.args.notes.now.asserts.items (λ a. a.at) in omega arith))
+
+pub returns-clause-form : goal.returns-clause-form
+returns-clause-form g c =
+    forms_are_right g.M.Machine.machine _ (subst (λ (z : Layout). IsFitted g.M.Machine.machine z) (sym c.layout.ensures) g.met.M.Machine.fitted)
+
+pub returns-clause-addresses : goal.returns-clause-addresses
+returns-clause-addresses g c =
+    let notes = notes_of c.args.notes.now in
+    let p : Program = program_of c.args.image.now notes c.args.entry in
+    let v = c.in_ok-listed.listed in
+    let keys = c.in_ok-keys.keys.items in
+    let addresses = c.in_ok-addresses.addresses.items in
+    let called = c.in_ok-called.called.items in
+    let frames = c.calls.new.stacks.frames.items in
+    let begins = c.in_ok-called.ensures.begins in
+    let u : Unrolled = record { form = c.layout.result; big = c.is_big_machine.result; link = c.link.result; entry = c.args.entry; notes = c.args.notes; asserts = c.in_ok-index.index.asserts; kept = c.kept.result; known = c.in_ok-known.known.runs; literals = c.new.result; frames = c.calls.new.stacks.frames; codes = c.in_ok-codes.codes; points = c.in_ok-placed.placed.points; edges = c.in_ok-placed.placed.edges } in
+    let listed = c.in_ok-listed.ensures.points p c.requires.graph refl c.requires.one_way in
+    let are =
+    keys_of p c.args.k v frames v.stacks.numbers begins.0 keys c.in_ok-point_keys.field-0.items c.deref.result.now begins.1 c.deref.ensures.value listed
+    c.in_ok-listed.ensures.numbered c.in_ok-point_keys.ensures.small c.in_ok-point_keys.ensures.listed c.in_ok-keys.ensures.same c.in_ok-keys.ensures.rise in
+    let mach = c.requires.machine in
+    let fitted : IsFitted g.M.Machine.machine (layout_of c.layout.result) = subst (λ (z : Layout). IsFitted g.M.Machine.machine z) (sym c.layout.ensures) g.met.M.Machine.fitted in
+    let form : HasForm g.M.Machine.machine u = forms_are_right g.M.Machine.machine u fitted in
+    let here : IsFitted p.machine (layout_of c.layout.result) = subst (λ (z : Machine). IsFitted z (layout_of c.layout.result)) (sym mach) fitted in
+    let registers = λ (r : ℕ). form.registers r ∙ ap (λ (z : Machine). z.has_register r) (sym mach) in
+    let flags = λ (f : ℕ). form.flags f ∙ ap (λ (z : Machine). z.has_flag f) (sym mach) in
+    let calls : AreCalled c.args.graph.now keys frames (length keys) called = subst (λ (l : List ℕ). AreCalled c.args.graph.now l frames (length l) called) c.deref-3.ensures.value c.in_ok-called.ensures.called in
+    let codes : AreCodes p g.M.Machine.bank addresses u.asserts.items (length addresses) u.codes.items =
+    subst (λ (l : List ℕ). AreCodes p g.M.Machine.bank l u.asserts.items (length l) u.codes.items) c.deref-4.ensures.value
+    (subst (λ (l : List (ℕ × ℕ)). AreCodes p g.M.Machine.bank c.deref-4.result.now l (length c.deref-4.result.now) u.codes.items) c.deref-5.ensures.value (c.in_ok-codes.ensures p mach c.requires.graph)) in
+    let placed : ArePlaced c.args.graph.now frames keys addresses called (length keys) u.points.items u.edges.items =
+    subst (λ (l : List ℕ). ArePlaced c.args.graph.now frames l addresses called (length l) u.points.items u.edges.items) c.deref-7.ensures.value
+    (subst (λ (l : List ℕ). ArePlaced c.args.graph.now frames c.deref-7.result.now l called (length c.deref-7.result.now) u.points.items u.edges.items) c.deref-8.ensures.value
+    (subst (λ (l : List ℕ). ArePlaced c.args.graph.now frames c.deref-7.result.now c.deref-8.result.now l (length c.deref-7.result.now) u.points.items u.edges.items) c.deref-9.ensures.value
+    (subst (λ (l : List Frame). ArePlaced c.args.graph.now l c.deref-7.result.now c.deref-8.result.now c.deref-9.result.now (length c.deref-7.result.now) u.points.items u.edges.items) c.deref-6.ensures.value
+    c.in_ok-placed.ensures))) in
+    words p c.args.k g.M.Machine.bank c.args.graph.now u c.calls.new.stacks.numbers keys addresses called c.requires.graph c.requires.one_way here registers flags c.in_ok-called.ensures.table are calls codes placed c.in_ok-index.ensures.asserts.order refl

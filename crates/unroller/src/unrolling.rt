@@ -1,0 +1,95 @@
+//! The unrolled program of a program.
+ghost use Rattle.std.specs.Prelude.{◌≡◌, ◌≤◌, ◌<◌, ◌^◌, ℕ, IfOk, IfErr, length, slice_index_or};
+ghost use Rattle.bilv_spec.specs.Elf.{IsKeptRuns};
+ghost use Rattle.bilv_spec.specs.Files.{machine_of, program_of};
+ghost use Rattle.graph_nodes.specs.Graphs.{IsGraph};
+ghost use Rattle.notes_lang.specs.Drafting.{notes_of};
+ghost use Rattle.program_points.specs.Listed.{HasOneWay, IsTooMany};
+ghost use Rattle.question_form.specs.Forms.{IsFormed};
+ghost use Rattle.question_form.specs.Views.{unrolled_of};
+ghost use Rattle.unroller.specs.Lookups.{HasForm};
+ghost use Rattle.unroller.specs.Rows.{IsPlainMachine};
+ghost use Rattle.walk_spec.specs.Unrolled.{point_at};
+ghost use Rattle.walk_spec.specs.Unrolling.{IsUnrolling};
+
+use crate::codes::codes_at;
+use crate::keys::{addresses, keys_in_order, point_keys};
+use crate::placing::{calls, points_of};
+use elf32_reader::Image;
+use graph_nodes::Graph;
+use known_bytes::known_bytes;
+use machine_law::Machine;
+use notes_index::index_of;
+use notes_lang::Notes;
+use program_points::{PointsFault, points};
+use question_form::Unrolled;
+use std::alloc::Global;
+
+/// The runs of kept addresses, which are words.
+fn kept<'a>(image: &'a Image<'a>) -> &'a [(u32, u32)]
+    ensures runs { IsKeptRuns image.now result.now }
+    ensures words { (i : ℕ) → i < length result.now → ((slice_index_or result.now i (0, 0)).0 < 2 ^ 32) × ((slice_index_or result.now i (0, 0)).1 < 2 ^ 32) }
+{
+    let runs = image.kept_runs();
+    for (first, last) in runs {
+        prove!(*first <= u32::MAX);
+        prove!(*last <= u32::MAX);
+    }
+    runs
+}
+
+/// The unrolled program of a program with at most `k` backward transfers, from its flow graph: every point once, by backward transfers, address and stack, with its
+/// exits in the order of a step and an edge for each of the program's. Lists stand once for each address; known bytes are borrowed from the file.
+///
+/// The rows of the machine load no literal, so that each list may stand as it is lifted.
+///
+/// # Errors
+///
+/// `TooMany` with the count `max + 1` exactly where there are more than `max` points; want of memory.
+pub fn unroll<'a, M: Machine>(
+    alloc: Global,
+    graph: &Graph,
+    image: &'a Image<'a>,
+    notes: &'a Notes,
+    entry: u32,
+    k: u64,
+    max: u64,
+) -> Result<Unrolled<'a>, PointsFault>
+    requires machine { machine_of image.now ≡ M.machine }
+    requires plain { IsPlainMachine M.machine }
+    requires max { max ≤ 16777216 }
+    requires k { k ≤ 4096 }
+    requires graph { IsGraph (program_of image.now (notes_of notes.now) entry) graph.now }
+    requires one_way { HasOneWay (program_of image.now (notes_of notes.now) entry) }
+    ensures unrolled { IfOk result (λ u. IsUnrolling (program_of image.now (notes_of notes.now) entry) k (unrolled_of u)) }
+    ensures formed { IfOk result (λ u. IsFormed u) }
+    ensures few { IfOk result (λ u. length u.points.items ≤ max) }
+    ensures form { IfOk result (λ u. HasForm M.machine u) }
+    ensures addresses { IfOk result (λ u. (i : ℕ) → i < length (unrolled_of u).points → (point_at (unrolled_of u) i).point.at < 2 ^ 32) }
+    ensures more { IfErr result (IsTooMany (program_of image.now (notes_of notes.now) entry) k max) }
+{
+    let listed = points(alloc, graph, entry, k, max)?;
+    let mut stacks = listed.stacks;
+    let keys = keys_in_order(point_keys(alloc, &listed.points)?)?;
+    let addresses = addresses(alloc, &keys)?;
+    let index = index_of(alloc, notes)?;
+    let called = calls(alloc, graph, &mut stacks, &keys)?;
+    let codes = codes_at::<M>(alloc, graph, &addresses, &index.asserts)?;
+    let placed = points_of(alloc, graph, &stacks.frames, &keys, &addresses, &called)?;
+    let known = known_bytes(alloc, image, notes)?;
+    Ok(Unrolled {
+        form: M::layout(),
+        big: image.is_big_machine(),
+        link: M::link(),
+        entry,
+        notes,
+        asserts: index.asserts,
+        kept: kept(image),
+        known: known.runs,
+        literals: Vec::new(alloc),
+        frames: stacks.frames,
+        codes,
+        points: placed.points,
+        edges: placed.edges,
+    })
+}
