@@ -24,6 +24,11 @@ use Rattle.unroller.specs.Rows.{IsPlain, LiftingsDoRows}
 use Rattle.unroller.proofs.Mixed.{mix_end, list_same, list_stores_same}
 use Rattle.unroller.proofs.Named.{list_wider}
 
+-- a lawful row surely assigns no flag that no machine has
+not_sure : (row : Row) → IsLawful row → (f : ℕ) → 4 ≤ f → (b : Bool) → row.flags.surely f ≡ b → row.flags.surely f ≡ false
+not_sure row lawful f up true e = absurd (let low = lawful.sure_flags f e in omega arith)
+not_sure row lawful f up false e = e
+
 pub put_other : (f : ℕ → ℕ) (at v x : ℕ) (b : Bool) → (x == at) ≡ b → (x ≡ at → ⊥) → (if b then v else f x) ≡ f x
 put_other f at v x true e ne = absurd (ne (grind arith))
 put_other f at v x false e ne = refl
@@ -242,7 +247,7 @@ module _ (p : Program) (form : Layout) (bank : Bank) (q : UnrolledPoint) (row : 
         let up : 4 ≤ f = grind (arith, nat_tests) in
         let same = of_ends _ _ (sym ends ∙ own_ends ∙ ap (λ (z : Ending). mix_end low_flag s4.flags z) ends) in
         let flag : new.flags f ≡ (if low_flag f then new.flags f else s4.flags f) = ap (λ (z : Position). z.env.flags f) same in
-        agrees f (read_later p row q.point.at is lawful plain f (plain.flags f up) after) ∙ sym (lower_beyond s g f e)
+        agrees f (read_later p row q.point.at is lawful plain f (not_sure row lawful f up (row.flags.surely f) refl) after) ∙ sym (lower_beyond s g f e)
         ∙ sym (flag ∙ pick (low_flag f) (new.flags f) (s4.flags f) (s4.flags f) (λ t. absurd (cc)) (λ t. refl))
 
     carried_of_new : (how : How) (new : State) → row.effect s4 choice ≡ Goes how new → x4 ≡ Ends (position (λ x w. Stuck) 0 (jump_of how new) new) → IsCarriedOf After new (mixed new)

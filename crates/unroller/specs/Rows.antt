@@ -1,5 +1,5 @@
 -- What the lists of rows do at points.
-use Rattle.std.specs.Prelude.{ℕ, ◌≡◌, ◌≤◌, ◌<◌, ◌^◌, false, Some, None}
+use Rattle.std.specs.Prelude.{ℕ, ◌≡◌, ◌<◌, ◌^◌, Some, None}
 use Rattle.bilv_spec.specs.Machine.{Machine, Row}
 use Rattle.bilv_spec.specs.MachineLaws.{IsLawful, IsFitted, IsLifting}
 use Rattle.bilv_spec.specs.StateText.{Layout}
@@ -9,10 +9,9 @@ use Rattle.bilv_spec.specs.Points.{file_row}
 use Rattle.walk_spec.specs.Unrolled.{Executes, UnrolledPoint, UnrolledProgram, is_register_of, is_flag_of}
 use Rattle.walk_spec.specs.Unrolling.{DoesRow, IsRunnable, IsCounted}
 
--- A row whose list may stand as it is lifted: it loads no literal, and surely assigns no flag that no machine has.
+-- A row whose list may stand as it is lifted: it loads no literal.
 pub record IsPlain (row : Row) : Type 0 where
   pub literal : (at : ℕ) → row.literal at ≡ None
-  pub flags : (f : ℕ) → 4 ≤ f → row.flags.surely f ≡ false
 
 -- each word of 32 bits that has a row has such a one
 pub record IsPlainMachine (m : Machine) : Type 0 where
