@@ -1,16 +1,14 @@
 -- Edges that are added one by one, and calls.
-use Rattle.std.proofs.Common.{◌≡◌, ⊎_elim, inl, inr, refl, ap, sym, ◌∙◌, subst, arith, ℕ, zero, suc, ◌+◌, ◌-◌, ◌/◌, ◌%◌, ◌<◌, ◌≤◌, Bool, true, false, Option, Some, None, List, [], ◌∷◌, ◌++◌, length, get_or, take, drop, map}
-use Rattle.std.specs.Prelude.{Contains, ◌↔◌, ◌||◌, slice_get, slice_range}
-use Rattle.std.specs.List.{AllZip, list_any}
+use Rattle.std.proofs.Common.{◌≡◌, inl, inr, refl, ap, sym, ◌∙◌, subst, arith, ℕ, zero, suc, ◌+◌, ◌/◌, ◌%◌, ◌<◌, ◌≤◌, Bool, true, false, Option, Some, List, [], ◌∷◌, ◌++◌, length, get_or, take, drop, map}
+use Rattle.std.specs.Prelude.{Contains, ◌↔◌, ◌||◌}
+use Rattle.std.specs.List.{AllZip}
 use Rattle.std.specs.List.Sorted.{IsStrictlyIncreasing}
-use Rattle.std.proofs.lemmas.List.{take_more, get_or_default}
+use Rattle.std.proofs.lemmas.List.{take_more}
 use Rattle.std.proofs.lemmas.Bool.{cases_lt}
 use Rattle.bilv_spec.specs.Words.{add}
 use Rattle.bilv_spec.proofs.PointsInGraph.{split_in}
 use Rattle.graph_nodes.specs.declared.nodes.Node.{Node}
 use Rattle.graph_nodes.specs.declared.nodes.Graph.{Graph}
-use Rattle.graph_nodes.specs.declared.nodes.Successor.{Successor}
-use Rattle.graph_nodes.specs.declared.nodes.Letter.TheVariants.{Call}
 use Rattle.program_points.specs.declared.values.Frame.{Frame}
 use Rattle.program_points.specs.declared.values.End.{End}
 use Rattle.program_points.specs.declared.values.Point.{Point}
@@ -18,7 +16,7 @@ use Rattle.program_points.specs.Tables.{frame, frame_at, jumps_of, listed, IsCal
 use Rattle.program_points.proofs.Lists.{regroup, take_whole, keeps, or_left, or_last, grown as push_length, nothing_more}
 use Rattle.question_form.specs.declared.unrolled.Edge.{Edge}
 use Rattle.unroller.specs.Keys.{address_of, stack_of, target_key}
-use Rattle.unroller.specs.Led.{is_same, is_among, is_both, next_of, exits_by, IsLedTo, AreAddedTo, AreLed, HasLed, IsCalledBy, AreCalled}
+use Rattle.unroller.specs.Led.{is_same, is_among, is_both, next_of, exits_by, IsLedTo, AreAddedTo, HasLed, IsCalledBy, AreCalled}
 
 map_append : {X Y : Type 0} (f : X → Y) (us vs : List X) → map f (us ++ vs) ≡ map f us ++ map f vs
 map_append f [] vs = refl

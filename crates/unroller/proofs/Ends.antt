@@ -1,16 +1,15 @@
 -- The ends of a point at its node are its edges, by number.
-use Rattle.std.proofs.Common.{◌≡◌, ⊎_elim, inl, inr, refl, ap, sym, ◌∙◌, subst, arith, ℕ, zero, suc, ◌+◌, ◌*◌, ◌/◌, ◌%◌, ◌<◌, ◌≤◌, Bool, true, false, Option, Some, None, List, [], ◌∷◌, ◌++◌, length, get_or, map}
-use Rattle.std.specs.Prelude.{Contains, ◌↔◌, ◌==◌, ◌&&◌, ◌||◌, not, nat_le, filter, slice_get, if◌then◌else◌}
-use Rattle.std.specs.List.{list_any, filter_map, cons_option}
+use Rattle.std.proofs.Common.{◌≡◌, inl, inr, refl, ap, sym, ◌∙◌, subst, arith, ℕ, zero, suc, ◌%◌, ◌<◌, ◌≤◌, Bool, true, false, Option, Some, None, List, [], ◌∷◌, ◌++◌, length}
+use Rattle.std.specs.Prelude.{Contains, ◌↔◌, ◌||◌, not, filter, if◌then◌else◌}
+use Rattle.std.specs.List.{filter_map, cons_option}
 use Rattle.std.specs.BTreeMap.{BTreeMap}
 use Rattle.std.proofs.lemmas.Bool.Decides.{nat_tests}
-use Rattle.std.proofs.lemmas.Bool.{cases_lt}
 use Rattle.bilv_spec.specs.Words.{add}
 use Rattle.bilv_spec.specs.Machine.{Row}
 use Rattle.bilv_spec.specs.Run.{Program}
-use Rattle.bilv_spec.specs.Points.{Point, EdgeEnd, ToAddress, ToExit, edges, edges_by, end_of, leads_on, distinct, fall_ends, jump_ends, file_row, IsPoint, next}
-use Rattle.bilv_spec.proofs.PointSteps.{there, in_map, in_left, in_right}
-use Rattle.bilv_spec.proofs.PointsInGraph.{of_map, split_in, of_filter, of_distinct, none_in}
+use Rattle.bilv_spec.specs.Points.{Point, EdgeEnd, ToAddress, edges, edges_by, leads_on, fall_ends, jump_ends, file_row}
+use Rattle.bilv_spec.proofs.PointSteps.{there, in_left, in_right}
+use Rattle.bilv_spec.proofs.PointsInGraph.{split_in, of_filter, of_distinct}
 use Rattle.graph_nodes.specs.declared.nodes.Node.{Node}
 use Rattle.graph_nodes.specs.declared.nodes.Letter.{Letter}
 use Rattle.graph_nodes.specs.declared.nodes.Letter.TheVariants.{Next, Jump, Call, Return}
@@ -19,12 +18,12 @@ use Rattle.graph_nodes.specs.Graphs.{IsNode}
 use Rattle.program_points.specs.declared.values.Frame.{Frame}
 use Rattle.program_points.specs.declared.values.End.{End}
 use Rattle.program_points.specs.Listed.{HasOneWay}
-use Rattle.program_points.specs.Tables.{end, frame_at, stack_at, is_next, jumps_of, ends_of, ends_from, successor_end, back_end, listed, IsTable}
+use Rattle.program_points.specs.Tables.{end, frame_at, stack_at, is_next, jumps_of, ends_of, successor_end, back_end, listed, IsTable}
 use Rattle.program_points.proofs.Pinned.{are as ends_are}
 use Rattle.program_points.proofs.Ways.{ways as ways_are}
 use Rattle.program_points.proofs.Ended.{end_low}
 use Rattle.program_points.proofs.Stacked.{one_number}
-use Rattle.unroller.specs.Keys.{key_of, turns_of, address_of, stack_of, target_key, point_of}
+use Rattle.unroller.specs.Keys.{key_of, turns_of, address_of, stack_of}
 use Rattle.unroller.specs.Led.{goes_on, next_of, IsCalledBy}
 
 pub address_is : (t a s : ℕ) → a < 4294967296 → s < 18446744073709551616 → address_of (key_of t a s) ≡ a

@@ -1,9 +1,9 @@
 -- The entry's point is the first.
-use Rattle.std.proofs.Common.{◌≡◌, ⊎_elim, inl, inr, refl, ap, sym, ◌∙◌, subst, arith, ℕ, zero, suc, ◌+◌, ◌<◌, ◌≤◌, Bool, true, false, List, []}
-use Rattle.std.specs.Prelude.{◌⊎◌, nat_le, if◌then◌else◌, Contains}
+use Rattle.std.proofs.Common.{◌≡◌, ⊎_elim, inl, inr, refl, ap, arith, ℕ, ◌+◌, ◌<◌, Bool, true, false, []}
+use Rattle.std.specs.Prelude.{◌⊎◌, nat_le, if◌then◌else◌}
 use Rattle.std.proofs.lemmas.Bool.Decides.{nat_tests}
 use Rattle.bilv_spec.specs.Run.{Program}
-use Rattle.bilv_spec.specs.Points.{Point, ToAddress, edges, end_of, IsPoint, first, next}
+use Rattle.bilv_spec.specs.Points.{Point, first, next}
 use Rattle.unroller.specs.FirstPoint.{EntryComesFirst}
 
 rises : (b : Bool) (turns at a : ℕ) → nat_le a at ≡ b → (if b then turns + 1 else turns) ≡ 0 → (turns ≡ 0) × (at < a)

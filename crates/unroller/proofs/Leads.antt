@@ -1,8 +1,7 @@
 -- The edges of the point of a number are those that the definitions want at its place.
-use Rattle.std.proofs.Common.{◌≡◌, ◌≢◌, ⊎_elim, inl, inr, refl, ap, sym, ◌∙◌, subst, arith, ℕ, zero, suc, ◌+◌, ◌*◌, ◌/◌, ◌%◌, ◌<◌, ◌≤◌, Bool, true, false, Option, Some, None, List, [], ◌∷◌, ◌++◌, length, get_or, map}
+use Rattle.std.proofs.Common.{◌≡◌, ◌≢◌, inl, inr, refl, ap, sym, ◌∙◌, subst, arith, ℕ, zero, suc, ◌+◌, ◌<◌, ◌≤◌, Bool, true, false, Option, Some, None, List, [], ◌∷◌, ◌++◌, length, get_or, map}
 use Rattle.std.specs.Prelude.{Contains, ◌↔◌, ◌==◌, ◌&&◌, ◌||◌, not, nat_le, filter, slice_get, if◌then◌else◌}
 use Rattle.std.specs.List.{AllZip, list_any}
-use Rattle.std.specs.List.Sorted.{IsStrictlyIncreasing}
 use Rattle.std.specs.BTreeMap.{BTreeMap}
 use Rattle.std.proofs.lemmas.Bool.Decides.{nat_tests}
 use Rattle.std.proofs.lemmas.Bool.{cases_lt}
@@ -10,26 +9,25 @@ use Rattle.std.proofs.lemmas.List.{get_or_default}
 use Rattle.bilv_spec.specs.Words.{add}
 use Rattle.bilv_spec.specs.Machine.{Row, Successors}
 use Rattle.bilv_spec.specs.Run.{Program}
-use Rattle.bilv_spec.specs.Points.{Point, EdgeEnd, ToAddress, ToExit, edges, edges_by, end_of, leads_on, distinct, same_end, fall_ends, jump_ends, file_row, IsPoint, next}
-use Rattle.bilv_spec.specs.Graph.{may_return}
-use Rattle.bilv_spec.proofs.PointSteps.{there, in_map, in_left, in_right, same_end_self, same_end_is}
-use Rattle.bilv_spec.proofs.PointsInGraph.{of_map, split_in, of_filter, of_distinct, none_in}
+use Rattle.bilv_spec.specs.Points.{Point, EdgeEnd, ToAddress, ToExit, edges, edges_by, end_of, leads_on, same_end, fall_ends, jump_ends, file_row, IsPoint, next}
+use Rattle.bilv_spec.proofs.PointSteps.{there, in_map, in_right, same_end_self, same_end_is}
+use Rattle.bilv_spec.proofs.PointsInGraph.{of_map, split_in, of_filter, of_distinct}
 use Rattle.graph_nodes.specs.declared.nodes.Node.{Node}
 use Rattle.graph_nodes.specs.Graphs.{IsNode}
 use Rattle.program_points.specs.declared.values.Frame.{Frame}
 use Rattle.program_points.specs.declared.values.End.{End}
 use Rattle.program_points.specs.Listed.{HasOneWay}
 use Rattle.program_points.specs.Tables.{end, frame_at, stack_at, jumps_of, listed, IsTable}
-use Rattle.program_points.proofs.Stacked.{one_number, stack_none, stack_next}
+use Rattle.program_points.proofs.Stacked.{one_number, stack_none}
 use Rattle.walk_spec.specs.Unrolled as walk
 use Rattle.walk_spec.specs.Unrolled.{PointExit, Along, UnrolledProgram, point_at}
-use Rattle.walk_spec.specs.Unrolling.{AreEdgesOf, IsAim, IsEdge, address_of as end_address}
+use Rattle.walk_spec.specs.Unrolling.{IsAim, IsEdge}
 use Rattle.question_form.specs.declared.unrolled.Aim.{Aim}
 use Rattle.question_form.specs.declared.unrolled.Aim.TheVariants.{OnTo, Outward, OverLast}
 use Rattle.question_form.specs.declared.unrolled.Edge.{Edge}
 use Rattle.question_form.specs.Views.{aim_of, edge_of}
 use Rattle.unroller.specs.Keys.{key_of, turns_of, address_of, stack_of, target_key, point_of, IsAimAt, AreKeys}
-use Rattle.unroller.specs.Led.{next_of, is_same, is_among, is_both, is_key_of, is_next_key, exits_by, exit_edge, IsLedTo, AreLed, IsCalledBy}
+use Rattle.unroller.specs.Led.{next_of, is_same, is_among, is_both, is_next_key, exit_edge, IsLedTo, AreLed, IsCalledBy}
 use Rattle.unroller.specs.Places.{AreEdgesAt}
 use Rattle.unroller.proofs.EdgeLists.{ends_make_edges, exits_are_returns}
 use Rattle.unroller.proofs.Ordered.{rises}

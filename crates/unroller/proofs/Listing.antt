@@ -1,5 +1,5 @@
 -- The numbers of all points, from their list.
-use Rattle.std.proofs.Common.{◌≡◌, inl, inr, refl, ap, sym, ◌∙◌, subst, arith, ℕ, zero, suc, ◌+◌, ◌<◌, ◌≤◌, Some, List, [], ◌∷◌, ◌++◌, length, get_or, map}
+use Rattle.std.proofs.Common.{◌≡◌, ap, sym, ◌∙◌, subst, arith, ℕ, zero, suc, ◌+◌, ◌<◌, ◌≤◌, Some, List, [], ◌∷◌, ◌++◌, length, get_or, map}
 use Rattle.std.specs.Prelude.{Contains, ◌↔◌, slice_get}
 use Rattle.std.specs.List.Sorted.{IsStrictlyIncreasing}
 use Rattle.std.specs.BTreeMap.{BTreeMap}
@@ -18,7 +18,7 @@ use Rattle.program_points.specs.declared.values.Point.{Point}
 use Rattle.program_points.specs.declared.values.Points.{Points}
 use Rattle.program_points.specs.Listed as listing
 use Rattle.program_points.specs.Listed.{AreStacks, ArePointsOf}
-use Rattle.program_points.specs.Tables.{frame, stack_at, IsTable}
+use Rattle.program_points.specs.Tables.{frame, stack_at}
 use Rattle.program_points.proofs.Stacked.{stack_none, stack_next, stack_keeps}
 use Rattle.unroller.specs.Keys.{point_key, point_of, turns_of, address_of, stack_of, AreKeys}
 use Rattle.unroller.proofs.Ends.{address_is, stack_is, turns_is}

@@ -1,6 +1,6 @@
 -- The value is the unrolled program of a program.
-use Rattle.std.proofs.Common.{◌≡◌, ◌≢◌, inl, inr, refl, ap, sym, ◌∙◌, subst, arith, ℕ, zero, suc, ◌+◌, ◌/◌, ◌%◌, ◌<◌, ◌≤◌, ◌^◌, Option, Some, None, List, [], ◌∷◌, ◌++◌, length, get_or, drop, map}
-use Rattle.std.specs.Prelude.{Contains, ◌↔◌, ◌==◌, filter, slice_get, slice_range}
+use Rattle.std.proofs.Common.{◌≡◌, inl, inr, refl, ap, sym, ◌∙◌, subst, arith, ℕ, zero, suc, ◌+◌, ◌<◌, ◌≤◌, ◌^◌, Some, List, [], ◌∷◌, length, get_or, drop, map}
+use Rattle.std.specs.Prelude.{Contains, ◌==◌, filter, slice_get, slice_range}
 use Rattle.std.specs.BTreeMap.{BTreeMap}
 use Rattle.std.proofs.lemmas.Bool.{cases_lt}
 use Rattle.std.proofs.lemmas.List.{get_or_default, get_or-map}
@@ -12,9 +12,7 @@ use Rattle.bilv_spec.specs.Notes as notes
 use Rattle.bilv_spec.specs.Run.{Program}
 use Rattle.bilv_spec.specs.Points as spec
 use Rattle.bilv_spec.specs.Points.{IsPoint, ArePoints, file_row}
-use Rattle.bilv_spec.specs.PointLaws.{IsInGraph}
-use Rattle.bilv_spec.proofs.PointsInGraph.{points_are_in_graph, of_map}
-use Rattle.bilv_spec.proofs.PointSteps.{in_map}
+use Rattle.bilv_spec.proofs.PointsInGraph.{points_are_in_graph}
 use Rattle.graph_nodes.specs.declared.nodes.Node.{Node}
 use Rattle.graph_nodes.specs.declared.nodes.Graph.{Graph}
 use Rattle.graph_nodes.specs.Graphs.{IsGraph, addresses_of}
@@ -24,19 +22,19 @@ use Rattle.notes_lang.specs.Drafting.{notes_of, assert_of}
 use Rattle.notes_index.specs.Indexed.{assert_places, numbered_from}
 use Rattle.program_points.specs.Listed.{HasOneWay}
 use Rattle.program_points.specs.Tables.{stack_at, IsTable}
-use Rattle.program_points.proofs.Stacked.{one_number, stack_none}
+use Rattle.program_points.proofs.Stacked.{one_number}
 use Rattle.state_text.specs.Starts.{layout_of}
-use Rattle.walk_spec.specs.Unrolled.{PointExit, FalseAssert, no_point, UnrolledPoint, UnrolledProgram, point_at, is_register_of, is_flag_of}
+use Rattle.walk_spec.specs.Unrolled.{PointExit, FalseAssert, no_point, UnrolledPoint, point_at, is_register_of, is_flag_of}
 use Rattle.walk_spec.specs.Unrolling.{IsPlace, IsLiteralOf, assert_exits}
 use Rattle.question_form.specs.declared.unrolled.Code.{Code}
 use Rattle.question_form.specs.declared.unrolled.Edge.{Edge}
 use Rattle.question_form.specs.declared.unrolled.Point.{Point}
 use Rattle.question_form.specs.declared.unrolled.Unrolled.{Unrolled}
-use Rattle.question_form.specs.Views.{point_by, code_of, edges_from, no_code, unrolled_of, point_of as view_of, asserts_between}
+use Rattle.question_form.specs.Views.{point_by, code_of, edges_from, no_code, unrolled_of, asserts_between}
 use Rattle.question_form.specs.Forms.{IsFormed}
 use Rattle.unroller.specs.Keys.{turns_of, address_of, stack_of, point_of, AreKeys}
 use Rattle.unroller.specs.Led.{AreLed, IsCalledBy, AreCalled, IsPlacedAt, ArePlaced, begins_at}
-use Rattle.unroller.specs.Places.{IsGroup, IsCode, IsCodeOf, AreCodes, HasFitRow, AreEdgesAt}
+use Rattle.unroller.specs.Places.{IsGroup, IsCodeOf, AreCodes, HasFitRow, AreEdgesAt}
 use Rattle.unroller.proofs.Coding.{of_nodes}
 use Rattle.unroller.proofs.FirstPoints.{entry_comes_first}
 use Rattle.unroller.proofs.Grouped.{asserts_are}

@@ -1,7 +1,5 @@
-use Rattle.std.proofs.Common.{◌≡◌, ◌∙◌, ap, sym, ℕ, subst, get_or, arith, length}
-use Rattle.std.specs.Prelude.{Contains}
+use Rattle.std.proofs.Common.{◌≡◌, ◌∙◌, sym, ℕ, subst, get_or, arith, length}
 use Rattle.std.proofs.lemmas.List.{get_or_default}
-use Rattle.graph_nodes.specs.Graphs.{addresses_of}
 use Rattle.unroller.specs.Places.{IsGroup, AreCodes}
 use Rattle.unroller.proofs.Coding.{codes_none, codes_more, of_nodes}
 use Rattle.unroller.proofs.codes.codes_at.Goals as goal

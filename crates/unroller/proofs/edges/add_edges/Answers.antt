@@ -1,4 +1,4 @@
-use Rattle.std.proofs.Common.{◌≡◌, ℕ, List, Bool, ap, sym, ◌∙◌, subst, map, ◌++◌, ◌<◌}
+use Rattle.std.proofs.Common.{ℕ, List, ap, ◌∙◌, subst, map, ◌++◌, ◌<◌}
 use Rattle.std.specs.Prelude.{Contains, ◌↔◌}
 use Rattle.program_points.specs.declared.values.End.{End}
 use Rattle.program_points.specs.Tables.{frame_at, jumps_of, listed}

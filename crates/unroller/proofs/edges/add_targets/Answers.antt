@@ -1,4 +1,4 @@
-use Rattle.unroller.proofs.Adding.{added_none, added_more, added_all}
+use Rattle.unroller.proofs.Adding.{added_more}
 use Rattle.unroller.proofs.edges.add_targets.Goals as goal
 
 pub loop-key-preserved : goal.loop-key-preserved

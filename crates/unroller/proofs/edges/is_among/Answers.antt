@@ -1,4 +1,4 @@
-use Rattle.std.proofs.Common.{sym, ◌∙◌, arith}
+use Rattle.std.proofs.Common.{sym, ◌∙◌}
 use Rattle.unroller.proofs.Adding.{found_here, not_here, none_left}
 use Rattle.unroller.proofs.edges.is_among.Goals as goal
 

@@ -1,4 +1,4 @@
-use Rattle.std.proofs.Common.{List, arith, get_or, take, map, ap, sym, ◌∙◌, subst, [], ◌∷◌, ◌++◌}
+use Rattle.std.proofs.Common.{List, arith, get_or, map, ap, sym, ◌∙◌, subst, [], ◌∷◌, ◌++◌}
 use Rattle.std.specs.Prelude.{Contains}
 use Rattle.std.proofs.lemmas.List.{get_or_default}
 use Rattle.program_points.specs.declared.values.Point.{Point}

@@ -1,4 +1,4 @@
-use Rattle.std.proofs.Common.{ℕ, List, ap, sym, ◌∙◌, subst, ◌++◌, get_or}
+use Rattle.std.proofs.Common.{ℕ, List, ap, sym, ◌∙◌, subst, ◌++◌}
 use Rattle.std.specs.Prelude.{Contains}
 use Rattle.graph_nodes.specs.Graphs.{addresses_of}
 use Rattle.program_points.specs.declared.values.Frame.{Frame}

@@ -1,6 +1,6 @@
-use Rattle.std.proofs.Common.{◌≡◌, ℕ, List, Some, refl, ap, sym, ◌∙◌, subst, arith, [], length, map, get_or}
+use Rattle.std.proofs.Common.{ℕ, List, refl, ap, sym, ◌∙◌, subst, arith, [], length}
 use Rattle.std.specs.Prelude.{Contains}
-use Rattle.std.proofs.lemmas.List.{length-map, get_or_default}
+use Rattle.std.proofs.lemmas.List.{length-map}
 use Rattle.bilv_spec.specs.Machine.{Machine}
 use Rattle.bilv_spec.specs.MachineLaws.{IsFitted}
 use Rattle.bilv_spec.specs.StateText.{Layout}
