@@ -177,6 +177,12 @@ known_all file ranges runs count h = (
   h.count_is,
 )
 
+-- and none from 2^32 on
+pub known_beyond : (file : List ℕ) (ranges : List FixedRange) (runs : List Known) (count : ℕ) → HasKnownTo file ranges (2 ^ 32) runs count →
+    (x : ℕ) → 2 ^ 32 ≤ x → byte_of_runs (map run_of runs) x ≡ None
+known_beyond file ranges runs count h x l =
+    let behind : nat_lt x (2 ^ 32) ≡ false = grind (arith, nat_tests) in h.bytes x ∙ ap (λ b. if b then given file ranges x else None) behind
+
 -- one more part
 pub part_more : (file : List ℕ) (ranges : List FixedRange) (at : ℕ) (part : Part) (runs new : List Known) (count more : ℕ) (k : Known) → k.first ≡ part.first → k.last ≡ part.last
     → k.bytes.now ≡ part.bytes.now → IsFirstKnown file ranges at part → HasKnownTo file ranges at runs count → new ≡ runs ++ k ∷ []
@@ -193,4 +199,11 @@ pub part_last : (file : List ℕ) (ranges : List FixedRange) (at : ℕ) (part : 
     → ((x : ℕ) → x < 2 ^ 32 → byte_of_runs (map run_of new) x ≡ given file ranges x) × IsCountTo (is_known file ranges) (2 ^ 32) more
 part_last file ranges at part runs new count more k starts ends own first h pushed counted full =
     known_all file ranges new more
+    (subst (λ (n : ℕ). HasKnownTo file ranges n new more) full (part_more file ranges at part runs new count more k starts ends own first h pushed counted))
+
+pub part_beyond : (file : List ℕ) (ranges : List FixedRange) (at : ℕ) (part : Part) (runs new : List Known) (count more : ℕ) (k : Known) → k.first ≡ part.first → k.last ≡ part.last
+    → k.bytes.now ≡ part.bytes.now → IsFirstKnown file ranges at part → HasKnownTo file ranges at runs count → new ≡ runs ++ k ∷ []
+    → more ≡ count + (part.last - part.first + 1) → part.last + 1 ≡ 2 ^ 32 → (x : ℕ) → 2 ^ 32 ≤ x → byte_of_runs (map run_of new) x ≡ None
+part_beyond file ranges at part runs new count more k starts ends own first h pushed counted full =
+    known_beyond file ranges new more
     (subst (λ (n : ℕ). HasKnownTo file ranges n new more) full (part_more file ranges at part runs new count more k starts ends own first h pushed counted))

@@ -1,5 +1,5 @@
 //! The known bytes as runs.
-ghost use Rattle.std.specs.Prelude.{◌≡◌, ℕ, ◌<◌, ◌^◌, IfOk, map};
+ghost use Rattle.std.specs.Prelude.{◌≡◌, ℕ, ◌<◌, ◌≤◌, ◌^◌, None, IfOk, map};
 ghost use Rattle.bilv_spec.specs.Notes as notes_of_program;
 ghost use Rattle.bilv_spec.specs.Files.{program_of};
 ghost use Rattle.bilv_spec.specs.Points.{IsCount, is_known_at, begins_run};
@@ -45,6 +45,7 @@ pub fn known_bytes<'a>(
 ) -> Result<KnownBytes<'a>, AllocError>
     ensures rising { IfOk result (λ k. AreRuns k.runs.items) }
     ensures bytes { (entry x : ℕ) → x < 2 ^ 32 → IfOk result (λ k. byte_of_runs (map run_of k.runs.items) x ≡ file_known (program_of image.now (notes_of notes.now) entry) x) }
+    ensures beyond { (x : ℕ) → 2 ^ 32 ≤ x → IfOk result (λ k. byte_of_runs (map run_of k.runs.items) x ≡ None) }
     ensures sum { IfOk result (λ k. sum_of k.runs.items ≡ k.count) }
     ensures count { (entry : ℕ) → IfOk result (λ k. IsCount (is_known_at (program_of image.now (notes_of notes.now) entry)) k.count) }
 {

@@ -1,6 +1,6 @@
 use Rattle.std.proofs.Common.{◌^◌, map, refl, arith, rules}
 use Rattle.notes_lang.specs.Drafting.{fixed_of}
-use Rattle.known_bytes.proofs.Runs.{known_none, known_gap, known_all, part_more, part_last}
+use Rattle.known_bytes.proofs.Runs.{known_none, known_gap, known_all, known_beyond, part_more, part_last, part_beyond}
 use Rattle.known_bytes.proofs.listing.known_bytes.Goals as goal
 
 pub loop-runs-init : goal.loop-runs-init
@@ -51,3 +51,14 @@ loop-runs-preserved c = record {
       c.loop-runs.invariant.known c.in_ok-push.ensures.items refl;
   below = search rules;
 }
+
+pub returns-in-None-clause-beyond : goal.returns-in-None-clause-beyond
+returns-in-None-clause-beyond c =
+    let below = c.loop-runs.invariant.below in
+    known_beyond _ _ _ _
+    (known_gap c.args.image.now (map fixed_of c.args.notes.now.fixed.items) c.loop-runs.at (2 ^ 32) _ _ (omega arith) c.in-None.ensures c.loop-runs.invariant.known)
+
+pub returns-then-part-clause-beyond : goal.returns-then-part-clause-beyond
+returns-then-part-clause-beyond c =
+    part_beyond c.args.image.now (map fixed_of c.args.notes.now.fixed.items) c.loop-runs.at c.in-Some.part _ _ c.loop-runs.count _ _ refl refl refl c.in-Some.ensures
+    c.loop-runs.invariant.known c.in_ok-push.ensures.items refl (omega arith)
