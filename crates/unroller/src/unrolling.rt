@@ -1,5 +1,5 @@
 //! The unrolled program of a program.
-ghost use Rattle.std.specs.Prelude.{◌≡◌, ◌≤◌, ◌<◌, ◌^◌, ℕ, IfOk, IfErr, length, slice_index_or};
+ghost use Rattle.std.specs.Prelude.{◌≡◌, ◌≤◌, ◌<◌, ◌^◌, ℕ, None, IfOk, IfErr, length, slice_index_or};
 ghost use Rattle.bilv_spec.specs.Elf.{IsKeptRuns};
 ghost use Rattle.bilv_spec.specs.Files.{machine_of, program_of};
 ghost use Rattle.graph_nodes.specs.Graphs.{IsGraph};
@@ -9,7 +9,9 @@ ghost use Rattle.question_form.specs.Forms.{IsFormed};
 ghost use Rattle.question_form.specs.Views.{unrolled_of};
 ghost use Rattle.unroller.specs.Lookups.{HasForm};
 ghost use Rattle.unroller.specs.Rows.{IsPlainMachine};
-ghost use Rattle.walk_spec.specs.Unrolled.{point_at};
+ghost use Rattle.known_bytes.specs.Runs.{AreRuns};
+ghost use Rattle.state_text.specs.Starts.{layout_of};
+ghost use Rattle.walk_spec.specs.Unrolled.{byte_of_runs, point_at};
 ghost use Rattle.walk_spec.specs.Unrolling.{IsUnrolling};
 
 use crate::codes::codes_at;
@@ -66,6 +68,9 @@ pub fn unroll<'a, M: Machine>(
     ensures few { IfOk result (λ u. length u.points.items ≤ max) }
     ensures form { IfOk result (λ u. HasForm M.machine u) }
     ensures addresses { IfOk result (λ u. (i : ℕ) → i < length (unrolled_of u).points → (point_at (unrolled_of u) i).point.at < 2 ^ 32) }
+    ensures layout { IfOk result (λ u. layout_of u.form ≡ M.form) }
+    ensures runs { IfOk result (λ u. AreRuns u.known.items) }
+    ensures beyond { (x : ℕ) → 2 ^ 32 ≤ x → IfOk result (λ u. byte_of_runs (unrolled_of u).known x ≡ None) }
     ensures more { IfErr result (IsTooMany (program_of image.now (notes_of notes.now) entry) k max) }
 {
     let listed = points(alloc, graph, entry, k, max)?;

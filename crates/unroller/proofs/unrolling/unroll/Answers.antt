@@ -223,3 +223,12 @@ returns-clause-addresses g c =
     (subst (λ (l : List Frame). ArePlaced c.args.graph.now l c.deref-7.result.now c.deref-8.result.now c.deref-9.result.now (length c.deref-7.result.now) u.points.items u.edges.items) c.deref-6.ensures.value
     c.in_ok-placed.ensures))) in
     words p c.args.k g.M.Machine.bank c.args.graph.now u c.calls.new.stacks.numbers keys addresses called c.requires.graph c.requires.one_way here registers flags c.in_ok-called.ensures.table are calls codes placed c.in_ok-index.ensures.asserts.order refl
+
+pub returns-clause-layout : goal.returns-clause-layout
+returns-clause-layout g c = c.layout.ensures
+
+pub returns-clause-runs : goal.returns-clause-runs
+returns-clause-runs g c = c.in_ok-known.ensures.rising
+
+pub returns-clause-beyond : goal.returns-clause-beyond
+returns-clause-beyond g c = c.in_ok-known.ensures.beyond
