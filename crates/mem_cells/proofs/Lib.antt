@@ -1,8 +1,8 @@
+pub mod Agreements
 pub mod Chains
 pub mod Gathered
 pub mod Growing
 pub mod LoadedBytes
-pub mod Marks
 pub mod Puts
 pub mod Splits
 pub mod StoredWords

@@ -1,3 +1,4 @@
 pub mod Building
 pub mod Pieces
+pub mod Ties
 pub mod Views

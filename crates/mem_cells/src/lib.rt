@@ -6,5 +6,6 @@ mod cells;
 mod loads;
 mod pieces;
 mod stores;
+mod ties;
 
 pub use cells::{Agreement, AskedByte, Celled};

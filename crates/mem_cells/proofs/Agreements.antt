@@ -1,0 +1,151 @@
+-- Agreements of base reads, one after another.
+use Rattle.std.proofs.Common.{◌≡◌, ◌⊎◌, inl, inr, ℕ, zero, suc, ◌+◌, ◌<◌, ◌≤◌, ◌^◌, ◌==◌, true, List, [], ◌∷◌, ◌++◌, length, length-append, append-nil, get_or, refl, ap, sym, ◌∙◌, subst, arith}
+use Rattle.std.specs.Prelude.{slice_index, map}
+use Rattle.term_dag.specs.declared.nodes.Term.{Term}
+use Rattle.std.proofs.lemmas.Bool.{cases_lt}
+use Rattle.std.proofs.lemmas.Bool.Decides.{nat_tests}
+use Rattle.std.proofs.lemmas.List.Elements.{Contains-push_cases, Contains-push, Contains-append_left}
+use Rattle.bilv_spec.specs.Words.{add, sub, bit}
+use Rattle.walk_spec.specs.Terms.{TermReading, HasWidth, term_word}
+use Rattle.term_dag.proofs.Ranges.{word_fits}
+use Rattle.mem_cells.specs.declared.building.Build.{Build}
+use Rattle.mem_cells.specs.declared.cells.Agreement.{Agreement}
+use Rattle.mem_cells.specs.declared.pieces.Split.{Split}
+use Rattle.mem_cells.specs.Pieces.{IsSplit, lies_apart}
+use Rattle.mem_cells.specs.Building.{read_places, IsBuilt, Grown, IsWord}
+use Rattle.mem_cells.specs.Ties.{address_of, sum_at, AreSums, AreTies, Before}
+use Rattle.mem_cells.proofs.Growing.{grown_word, grown_width}
+use Rattle.mem_cells.proofs.Chains.{split_kept}
+
+-- addresses stay as nodes are added
+address_kept : (a b : Build) (g r : ℕ) (x : TermReading) (j : ℕ) → IsBuilt a → Grown a b g r → read_places b ≡ read_places a → j < length (read_places a) → address_of b x j ≡ address_of a x j
+address_kept a b g r x j c p e l = ap (λ z. term_word x b.dag (slice_index z j)) e ∙ grown_word a b g r x (slice_index (read_places a) j) p (c.addresses j l).0
+
+-- agreements stay as nodes are added
+pub ties_kept : (a b : Build) (g r : ℕ) (ts : List Agreement) (pairs : ℕ → ℕ → Type 0) → IsBuilt a → Grown a b g r → read_places b ≡ read_places a →
+    ((i j : ℕ) → pairs i j → (i < length (read_places a)) × (j < length (read_places a))) → AreTies a ts pairs → AreTies b ts pairs
+ties_kept a b g r ts pairs c p e within h = record {
+  formed = λ t k. let f = h.formed t k in (grown_width a b g r 1 t.condition.0 p f.0, omega (arith, f.1, ap length e), omega (arith, f.2, ap length e));
+  sound = λ x i t k o.
+      let f = h.formed t k in
+      address_kept a b g r x t.read c p e f.1 ∙ h.sound x i t k (sym (grown_word a b g r x t.condition.0 p f.0.0) ∙ o) ∙ sym (address_kept a b g r x t.other c p e f.2);
+  complete = λ x i base q m n s z.
+      h.complete x i base (λ t k o. q t k (grown_word a b g r x t.condition.0 p (h.formed t k).0.0 ∙ o)) m n s
+      (sym (address_kept a b g r x m c p e (within m n s).0) ∙ z ∙ address_kept a b g r x n c p e (within m n s).1);
+}
+
+one_is : (a b : ℕ) → bit (a == b) ≡ 1 → a ≡ b
+one_is a b h = grind (arith, nat_tests)
+
+is_one : (a b : ℕ) → a ≡ b → bit (a == b) ≡ 1
+is_one a b h = grind (arith, nat_tests)
+
+-- one more agreement
+pub ties_next : (b : Build) (ts : List Agreement) (pairs : ℕ → ℕ → Type 0) (t : Agreement) → AreTies b ts pairs → t.read < length (read_places b) → t.other < length (read_places b) →
+    IsWord b.dag 1 t.condition.0 (λ x. bit (address_of b x t.read == address_of b x t.other)) → AreTies b (ts ++ t ∷ []) (λ i j. pairs i j ⊎ (i ≡ t.read) × (j ≡ t.other))
+ties_next b ts pairs t h lr lo w = record {
+  formed = λ a k. elim (Contains-push_cases ts t a k) [
+    | inl m ↦ h.formed a m
+    | inr e ↦ subst (λ (z : Agreement). HasWidth b.dag 1 z.condition.0 × (z.read < length (read_places b)) × (z.other < length (read_places b))) e (w.place, lr, lo)
+  ];
+  sound = λ x i a k. elim (Contains-push_cases ts t a k) [
+    | inl m ↦ h.sound x i a m
+    | inr e ↦ subst (λ (z : Agreement). term_word x b.dag z.condition.0 ≡ 1 → address_of b x z.read ≡ address_of b x z.other) e (λ o. one_is _ _ (sym (w.value x i) ∙ o))
+  ];
+  complete = λ x i base q m n s z. elim s [
+    | inl p ↦ h.complete x i base (λ a k. q a (Contains-append_left ts (t ∷ []) a k)) m n p z
+    | inr p ↦ ap base p.0 ∙ q t (Contains-push ts t) (w.value x i ∙ is_one _ _ (ap (address_of b x) (sym p.0) ∙ z ∙ ap (address_of b x) p.1)) ∙ sym (ap base p.1)
+  ];
+}
+
+sums_differ : (b o s : ℕ) → b < 2 ^ 32 → o < 2 ^ 32 → s < 2 ^ 32 → 1 ≤ sub 32 o s → add 32 b o ≡ add 32 b s → ⊥
+sums_differ b o s hb ho hs h e = absurd (omega (arith, hb, ho, hs, h, e))
+
+apart_is : (p q : Split) → lies_apart p q 1 ≡ true → (p.base.0 ≡ q.base.0) × (1 ≤ sub 32 p.offset q.offset)
+apart_is p q h = grind (arith, nat_tests)
+
+-- two reads that are surely apart need none
+pub ties_apart : (b : Build) (ts : List Agreement) (pairs : ℕ → ℕ → Type 0) (sums : List Split) (i j : ℕ) → IsBuilt b → AreSums b sums → i < length (read_places b) → j < length (read_places b) →
+    lies_apart (sum_at sums i) (sum_at sums j) 1 ≡ true → AreTies b ts pairs → AreTies b ts (λ m n. pairs m n ⊎ (m ≡ i) × (n ≡ j))
+ties_apart b ts pairs sums i j c a li lj t h = record {
+  formed = h.formed;
+  sound = h.sound;
+  complete = λ x r base q m n s z. elim s [
+    | inl p ↦ h.complete x r base q m n p z
+    | inr p ↦ (
+        let d = apart_is (sum_at sums i) (sum_at sums j) t in
+        let f = a i li in
+        let g = a j lj in
+        let y = term_word x b.dag (sum_at sums j).base.0 in
+        let e : add 32 y (sum_at sums i).offset ≡ add 32 y (sum_at sums j).offset =
+        ap (λ k. add 32 (term_word x b.dag k) (sum_at sums i).offset) (sym d.0) ∙ sym (f.value x r) ∙ ap (address_of b x) (sym p.0) ∙ z ∙ ap (address_of b x) p.1 ∙ g.value x r in
+        absurd (sums_differ y (sum_at sums i).offset (sum_at sums j).offset (word_fits x b.dag 32 (sum_at sums j).base.0 r c.typed g.place) f.below g.below d.1 e))
+  ];
+}
+
+-- fewer pairs
+pub ties_fewer : (b : Build) (ts : List Agreement) (ps qs : ℕ → ℕ → Type 0) → ((i j : ℕ) → qs i j → ps i j) → AreTies b ts ps → AreTies b ts qs
+ties_fewer b ts ps qs f h = record { formed = h.formed; sound = h.sound; complete = λ x i base q m n s z. h.complete x i base q m n (f m n s) z }
+
+-- one pair more
+pub one_pair : (other read i j : ℕ) → Before other (read + 1) i j → Before other read i j ⊎ (i ≡ read) × (j ≡ other)
+one_pair other read i j (l, inl h) = inl (l, inl h)
+one_pair other read i j (l, inr h) = elim (cases_lt i read) [ inl k ↦ inl (l, inr (h.0, k)) | inr k ↦ inr (let e : i ≡ read = omega (arith, h.1, k) in e, h.0) ]
+
+-- a whole row
+pub whole_row : (other i j : ℕ) → Before (other + 1) 0 i j → Before other other i j
+whole_row other i j (l, inl h) = elim (cases_lt j other) [ inl k ↦ (l, inl k) | inr k ↦ (let e : j ≡ other = omega (arith, h, k) in (l, inr (e, omega (arith, e, l)))) ]
+whole_row other i j (l, inr h) = absurd (omega (arith, h.1))
+
+pub pairs_within : (n other read : ℕ) → other < n → (i j : ℕ) → Before other read i j → (i < n) × (j < n)
+pairs_within n other read l i j (k, inl h) = (omega (arith, l, k, h), omega (arith, l, h))
+pairs_within n other read l i j (k, inr h) = (omega (arith, l, k, h.0), omega (arith, l, h.0))
+
+no_rest : (ps rest qs : List ℕ) → qs ≡ ps ++ rest → length qs ≤ length ps + 0 → qs ≡ ps
+no_rest ps [] qs e l = e ∙ append-nil ps
+no_rest ps (x ∷ rest) qs e l = absurd (omega (arith, ap length e, length-append ps (x ∷ rest), l))
+
+-- without reads the addresses stay the same
+pub same_reads : (a b : Build) (g : ℕ) → Grown a b g 0 → read_places b ≡ read_places a
+same_reads a b g p = no_rest (read_places a) p.more.0 (read_places b) p.more.1 p.reads
+
+-- sums stay
+pub sums_kept : (a b : Build) (g : ℕ) (sums : List Split) → IsBuilt a → Grown a b g 0 → AreSums a sums → AreSums b sums
+sums_kept a b g sums c p h j l =
+    let e = same_reads a b g p in
+    let k : j < length (read_places a) = omega (arith, l, ap length e) in
+    subst (λ (z : List ℕ). IsSplit b.dag (slice_index z j) (sum_at sums j).base.0 (sum_at sums j).offset) (sym e)
+    (split_kept a b g 0 (slice_index (read_places a) j) (sum_at sums j).base.0 (sum_at sums j).offset p (c.addresses j k).0 (h j k))
+
+-- a tie of two reads
+pub tied : (a b : Build) (g : ℕ) (ts us : List Agreement) (t : Agreement) (left right other read : ℕ) → IsBuilt a → Grown a b g 0 → us ≡ ts ++ t ∷ [] → t.read ≡ read → t.other ≡ other → read < other → other < length (read_places a) →
+    left ≡ slice_index (read_places a) read → right ≡ slice_index (read_places a) other → IsWord b.dag 1 t.condition.0 (λ x. bit (term_word x a.dag left == term_word x a.dag right)) →
+    AreTies a ts (Before other read) → AreTies b us (Before other (read + 1))
+tied a b g ts us t left right other read c p e er eo l lo hl hr w h =
+    let s = same_reads a b g p in
+    let lr : t.read < length (read_places a) = omega (arith, er, l, lo) in
+    let lt : t.other < length (read_places a) = omega (arith, eo, lo) in
+    subst (λ (z : List Agreement). AreTies b z (Before other (read + 1))) (sym e)
+    (ties_fewer b (ts ++ t ∷ []) (λ i j. Before other read i j ⊎ (i ≡ t.read) × (j ≡ t.other)) (Before other (read + 1))
+    (λ i j k. elim (one_pair other read i j k) [ inl m ↦ inl m | inr m ↦ inr (m.0 ∙ sym er, m.1 ∙ sym eo) ])
+    (ties_next b ts (Before other read) t (ties_kept a b g 0 ts (Before other read) c p s (pairs_within _ other read lo) h) (omega (arith, lr, ap length s)) (omega (arith, lt, ap length s))
+    (record {
+      place = w.place;
+      value = λ x i.
+          w.value x i
+          ∙ ap (λ z. bit (z == term_word x a.dag right)) (ap (term_word x a.dag) (hl ∙ ap (slice_index (read_places a)) (sym er)) ∙ sym (address_kept a b g 0 x t.read c p s lr))
+          ∙ ap (λ z. bit (address_of b x t.read == z)) (ap (term_word x a.dag) (hr ∙ ap (slice_index (read_places a)) (sym eo)) ∙ sym (address_kept a b g 0 x t.other c p s lt));
+    })))
+
+-- two reads that are surely apart
+pub untied : (a : Build) (ts : List Agreement) (sums : List Split) (other read : ℕ) → IsBuilt a → AreSums a sums → read < other → other < length (read_places a) →
+    lies_apart (sum_at sums read) (sum_at sums other) 1 ≡ true → AreTies a ts (Before other read) → AreTies a ts (Before other (read + 1))
+untied a ts sums other read c s l lo t h =
+    ties_fewer a ts (λ i j. Before other read i j ⊎ (i ≡ read) × (j ≡ other)) (Before other (read + 1)) (one_pair other read)
+    (ties_apart a ts (Before other read) sums read other c s (omega (arith, l, lo)) lo t h)
+
+-- an address of a list of terms, by its place
+pub mapped_at : (ts : List Term) (i : ℕ) (d : Term) → i < length ts → (get_or ts i d).0 ≡ slice_index (map (λ (z : Term). z.0) ts) i
+mapped_at [] i d l = absurd (omega (arith, l))
+mapped_at (t ∷ ts) zero d l = refl
+mapped_at (t ∷ ts) (suc i) d l = mapped_at ts i d (omega (arith, l))

@@ -1,0 +1,10 @@
+use Rattle.std.proofs.Common.{◌*◌}
+use Rattle.mem_cells.specs.Building.{Grown}
+use Rattle.mem_cells.specs.Ties.{AreTies, Before}
+use Rattle.mem_cells.proofs.ties.row.Given as goal
+
+abbrev pub invariant-loop-read : goal.invariant-loop-read
+invariant-loop-read l = record {
+  grown : Grown l.fn.build l.build (32 * l.read) 0;
+  ties : AreTies l.build l.agrees.items (Before l.other l.read);
+}
