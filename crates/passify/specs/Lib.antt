@@ -1,0 +1,4 @@
+pub mod Bits
+pub mod Exits
+pub mod Situations
+pub mod Sweeps

@@ -1,0 +1,142 @@
+//! The exits of a point, tried one by one.
+
+ghost use Rattle.std.specs.Prelude.{◌≡◌, ◌≤◌, ◌<◌, ◌+◌, ◌*◌, not, IfOk, [], length, map, slice_index_or};
+ghost use Rattle.walk_spec.specs.Terms.{HasWidth};
+ghost use Rattle.bilv_spec.specs.Points.{line_price, bytes_loaded};
+ghost use Rattle.walk_spec.specs.Passive.{Tells};
+ghost use Rattle.walk_spec.specs.Prices.{line_size};
+ghost use Rattle.walk_spec.specs.Unrolling.{IsReadable};
+ghost use Rattle.notes_value.specs.Views.{expr_of};
+ghost use Rattle.notes_lang.specs.Drafting.{assert_of, note_line_of};
+ghost use Rattle.question_form.specs.Views.{no_assert};
+ghost use Rattle.term_names.specs.Views.{form_of};
+ghost use Rattle.passify.specs.Situations.{LinesTried, no_line, assert_lines, goes_asserts, goes_out_by};
+ghost use Rattle.passify.specs.Bits.{IsSplit};
+ghost use Rattle.passify.specs.Exits.{LineFails, Narrows, Tries};
+ghost use Rattle.passify.specs.Sweeps.{AreTermsOf, AreWell, ComesTo, Hands, HasEvent, Steps, bits_of, terms_of};
+
+use crate::bits::{both, turned};
+use crate::sweep::{Sweep, arrive, fail, turn};
+use note_terms::{Now, line};
+use notes_lang::{Assert, NoteLine};
+use notes_value::Expr;
+use std::alloc::{AllocError, Global};
+use term_dag::{Dag, Term};
+
+/// Where a bit is 1, and where it is not, as far as another is.
+#[derive(Clone, Copy)]
+pub struct Parts {
+    pub on: Term,
+    pub off: Term,
+}
+
+/// What is left of a bit where another is 1, and where it is not.
+pub fn split(dag: &mut Dag, rest: Term, bit: Term) -> Result<Parts, AllocError>
+    requires rest { HasWidth dag.old 1 rest.0 }
+    requires bit { HasWidth dag.old 1 bit.0 }
+    ensures { IfOk result (λ s. IsSplit dag.old dag.new rest.0 bit.0 s.on.0 s.off.0) }
+{
+    let on = both(dag, rest, bit)?;
+    let missed = turned(dag, bit)?;
+    let off = both(dag, rest, missed)?;
+    Ok(Parts { on, off })
+}
+
+/// An exit to an event is tried, which is taken where a bit is 1; what is left.
+pub fn event(dag: &mut Dag, sweep: &mut Sweep, rest: Term, taken: Term) -> Result<Term, AllocError>
+    requires well { AreWell dag.old sweep.old }
+    requires rest { HasWidth dag.old 1 rest.0 }
+    requires taken { HasWidth dag.old 1 taken.0 }
+    ensures steps { IfOk result (λ t. Steps dag.old dag.new sweep.old sweep.new 3 0 0 0 8 (λ m. ⊥)) }
+    ensures bit { IfOk result (λ t. HasWidth dag.new 1 t.0) }
+    ensures tries { IfOk result (λ t. Tries dag.old dag.new sweep.old sweep.new rest.0 t.0 (λ x q. Tells dag.old x taken.0 q) (λ from x w b. HasEvent w)) }
+    ensures narrows { IfOk result (λ t. Narrows dag.old dag.new rest.0 t.0 (λ x q. Tells dag.old x taken.0 q)) }
+{
+    let parts = split(dag, rest, taken)?;
+    fail(dag, sweep, parts.on)?;
+    Ok(parts.off)
+}
+
+/// An exit to an event is tried, which is taken where a line is false in a state; what is left.
+pub fn denied(
+    dag: &mut Dag,
+    sweep: &mut Sweep,
+    says: &Expr,
+    now: &Now,
+    rest: Term,
+    big: bool,
+) -> Result<Term, AllocError>
+    requires well { AreWell dag.old sweep.old }
+    requires reads { IsReadable (form_of now.now.names.now) (expr_of says.now) }
+    requires now { AreTermsOf sweep.old.entry dag.old now.now.names.now }
+    requires pc { HasWidth dag.old 32 now.now.pc.0 }
+    requires rest { HasWidth dag.old 1 rest.0 }
+    ensures steps { IfOk result (λ t. Steps dag.old dag.new sweep.old sweep.new (line_price (expr_of says.now)) (bytes_loaded (expr_of says.now)) 0 0 (4 * (line_size (expr_of says.now) + 4)) (λ m. ⊥)) }
+    ensures bit { IfOk result (λ t. HasWidth dag.new 1 t.0) }
+    ensures tries { IfOk result (λ t. Tries dag.old dag.new sweep.old sweep.new rest.0 t.0 (LineFails dag.old sweep.old big (expr_of says.now) now.now) (λ from x w b. HasEvent w)) }
+    ensures narrows { IfOk result (λ t. Narrows dag.old dag.new rest.0 t.0 (λ x q. Unit)) }
+{
+    let here = Now {
+        names: now.names,
+        pc: now.pc,
+    };
+    let entry = Now {
+        names: &sweep.entry,
+        pc: sweep.pc,
+    };
+    let bit = line(dag, says, &here, &entry, big)?;
+    let parts = split(dag, rest, bit)?;
+    fail(dag, sweep, parts.off)?;
+    Ok(parts.on)
+}
+
+/// The exits by assert lines are tried, those of some entries of the lines by address; what is left.
+pub fn asserts(
+    dag: &mut Dag,
+    sweep: &mut Sweep,
+    lines: &[Assert],
+    index: &[(u32, usize)],
+    now: &Now,
+    rest: Term,
+    big: bool,
+) -> Result<Term, AllocError>
+    requires well { AreWell dag.old sweep.old }
+    requires places { (i : _) → i < length index.now → (slice_index_or index.now i (0, 0)).1 < length lines.now }
+    requires reads { (i : _) → i < length lines.now → IsReadable (form_of now.now.names.now) (slice_index_or (map assert_of lines.now) i no_assert).says }
+    requires now { AreTermsOf sweep.old.entry dag.old now.now.names.now }
+    requires pc { HasWidth dag.old 32 now.now.pc.0 }
+    requires rest { HasWidth dag.old 1 rest.0 }
+    ensures { IfOk result (λ t. LinesTried dag.old dag.new sweep.old sweep.new rest.0 t.0 big now.now (λ S. S.now) (assert_lines (map assert_of lines.now) index.now) []
+        (goes_asserts (map assert_of lines.now) index.now) (goes_asserts (map assert_of lines.now) [])) }
+{
+    let mut left = rest;
+    for i in 0..index.len() {
+        let place = index[i].1;
+        left = denied(dag, sweep, &lines[place].says, now, left, big)?;
+    }
+    Ok(left)
+}
+
+/// The ensure lines are tried in the state that a point goes on to out of the function, where a bit is 1.
+pub fn judged(
+    dag: &mut Dag,
+    sweep: &mut Sweep,
+    lines: &[NoteLine],
+    next: &Now,
+    out: Term,
+    big: bool,
+) -> Result<Term, AllocError>
+    requires well { AreWell dag.old sweep.old }
+    requires reads { (i : _) → i < length lines.now → IsReadable (form_of next.now.names.now) (slice_index_or (map note_line_of lines.now) i no_line).says }
+    requires next { AreTermsOf sweep.old.entry dag.old next.now.names.now }
+    requires pc { HasWidth dag.old 32 next.now.pc.0 }
+    requires out { HasWidth dag.old 1 out.0 }
+    ensures { IfOk result (λ t. LinesTried dag.old dag.new sweep.old sweep.new out.0 t.0 big next.now (λ S. S.next) (map (λ l. l.says) (map note_line_of lines.now)) []
+        (goes_out_by (map note_line_of lines.now)) (goes_out_by [])) }
+{
+    let mut left = out;
+    for i in 0..lines.len() {
+        left = denied(dag, sweep, &lines[i].says, next, left, big)?;
+    }
+    Ok(left)
+}
