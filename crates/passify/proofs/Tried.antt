@@ -26,7 +26,7 @@ use Rattle.passify.specs.Sweeps.{AreWell, AreLike, ShowsAt, Steps, Hands, HasEve
 use Rattle.passify.specs.Exits.{IsPending, Tries, Narrows, LineFails}
 use Rattle.passify.proofs.Kept.{truth, tells_some, tells_keep, word_keeps, shows_keep, well_keeps}
 
-bit_true : (b : Bool) → bit b ≡ 1 → b ≡ true
+pub bit_true : (b : Bool) → bit b ≡ 1 → b ≡ true
 bit_true true e = refl
 bit_true false e = absurd (omega arith)
 

@@ -1,4 +1,5 @@
 pub mod Bits
+pub mod Edges
 pub mod Exits
 pub mod Situations
 pub mod Sweeps

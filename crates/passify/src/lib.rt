@@ -2,5 +2,6 @@
 #![tactic(auto)]
 
 mod bits;
+mod edges;
 mod exits;
 mod sweep;
