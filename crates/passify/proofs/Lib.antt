@@ -1,5 +1,6 @@
 pub mod Along
 pub mod Followed
+pub mod GoneOn
 pub mod Joined
 pub mod Kept
 pub mod Lines

@@ -4,4 +4,5 @@
 mod bits;
 mod edges;
 mod exits;
+mod leaving;
 mod sweep;
