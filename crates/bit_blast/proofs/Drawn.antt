@@ -1,8 +1,9 @@
 -- The choices that are drawn, place by place.
-use Rattle.std.proofs.Common.{◌≡◌, ℕ, zero, suc, ◌+◌, ◌<◌, ◌≤◌, Bool, true, false, List, [], ◌∷◌, ◌++◌, length, get_or, refl, ap, sym, ◌∙◌, subst, arith, inl, inr}
+use Rattle.std.proofs.Common.{◌≡◌, ℕ, zero, suc, ◌+◌, ◌<◌, ◌≤◌, Bool, true, false, List, [], ◌∷◌, ◌++◌, length, map, get_or, refl, ap, sym, ◌∙◌, subst, arith, inl, inr}
 use Rattle.std.specs.Prelude.{Option, Some, None, slice_index_or, if◌then◌else◌}
 use Rattle.std.proofs.lemmas.Bool.{cases_lt}
-use Rattle.std.proofs.lemmas.List.{get_or_append_left, length_push}
+use Rattle.std.proofs.lemmas.List.{get_or_append_left, length_push, map-append}
+use Rattle.bilv_spec.specs.RowFiles.{from_to}
 use Rattle.bilv_spec.specs.Words.{bit}
 use Rattle.walk_spec.specs.Unrolled.{UnrolledProgram, no_point, point_at}
 use Rattle.walk_spec.specs.ClauseForm.{drawn_below}
@@ -70,3 +71,13 @@ draws_none u n ds es k m h d e f =
     subst (λ (z : List (Option ℕ)). AreDrawn u (n + 1) z m) (sym e)
     (next_place u n ds k None m h (sym (ap (λ z. if z then Some (drawn_below u n) else None) d))
     (let g : drawn_below u (suc n) ≡ drawn_below u n + 0 = ap (λ z. drawn_below u n + bit z) d in omega (arith, h.all)))
+
+-- one more number of a range
+pub range_push : (f k : ℕ) → from_to f (suc k) ≡ from_to f k ++ (f + k) ∷ []
+range_push f zero = ap (λ z. z ∷ []) (let e : f ≡ f + 0 = omega arith in e)
+range_push f (suc k) = ap (λ z. f ∷ z) (range_push (f + 1) k ∙ ap (λ z. from_to (f + 1) k ++ z ∷ []) (let e : f + 1 + k ≡ f + suc k = omega arith in e))
+
+pub mapped_push : (g : ℕ → ℕ) (k : ℕ) → map g (from_to 0 (k + 1)) ≡ map g (from_to 0 k) ++ g k ∷ []
+mapped_push g k =
+    ap (λ z. map g (from_to 0 z)) (let e : k + 1 ≡ suc k = omega arith in e) ∙ ap (map g) (range_push 0 k) ∙ map-append g (from_to 0 k) ((0 + k) ∷ [])
+    ∙ ap (λ z. map g (from_to 0 k) ++ g z ∷ []) (let e : 0 + k ≡ k = omega arith in e)

@@ -6,3 +6,7 @@ pub mod Placed
 pub mod Allowed
 pub mod Told
 pub mod Drawn
+pub mod StepChoices
+pub mod StoredBytes
+pub mod Follows
+pub mod StartInputs

@@ -1,0 +1,14 @@
+use Rattle.std.proofs.Common.{◌≡◌, ℕ, ◌-◌, drop, length, map}
+use Rattle.bilv_spec.specs.Words.{word}
+use Rattle.bilv_spec.specs.Memory.{memory_of}
+use Rattle.bilv_spec.specs.StateText.{known_or}
+use Rattle.walk_spec.specs.Unrolled.{byte_of_runs}
+use Rattle.known_bytes.specs.Runs.{run_of}
+use Rattle.bit_blast.specs.Stored.{AreBytes}
+use Rattle.bit_blast.proofs.memories.start_memory.Given as goal
+
+abbrev pub invariant-loop-i : goal.invariant-loop-i
+invariant-loop-i l = record {
+  value : (x : ℕ) → memory_of l.memory.entries x ≡ known_or (byte_of_runs (map run_of (drop (length l.runs - l.i) l.runs)) (word 32 x)) l.bytes x;
+  below : AreBytes (memory_of l.memory.entries);
+}

@@ -1,0 +1,9 @@
+use Rattle.std.proofs.Common.{◌*◌, sym}
+use Rattle.bilv_spec.specs.Clauses.{valuation}
+use Rattle.walk_spec.specs.ClauseForm.{bits_from}
+use Rattle.bit_blast.proofs.Drawn.{mapped_push}
+use Rattle.bit_blast.proofs.starts.registers_of.Goals as goal
+
+pub loop-i-preserved : goal.loop-i-preserved
+loop-i-preserved c =
+    rw (c.in_ok-push.ensures.items, c.loop-i.invariant, c.number_at.ensures.value) (sym (mapped_push (λ q. bits_from (valuation c.args.values.now) (32 * q) 32) c.loop-i.i))
