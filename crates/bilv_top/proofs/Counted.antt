@@ -1,27 +1,54 @@
--- What a list of points, or too many of them, says of a budget.
-use Rattle.std.proofs.Common.{◌≡◌, ℕ, ◌+◌, ◌≤◌, length, map, ap, subst, ◌∙◌}
-use Rattle.std.specs.Prelude.{codes}
-use Rattle.std.proofs.lemmas.List.{length-map}
+-- What an unrolled program, or too many points, say of the budgets.
+use Rattle.std.proofs.Common.{◌≡◌, ℕ, suc, ◌+◌, ◌<◌, ◌≤◌, List, [], ◌∷◌, length, map, refl, ap, subst, ◌∙◌, arith, true, Option, Some, None}
+use Rattle.std.specs.Prelude.{codes, MatchOption}
 use Rattle.bilv_spec.specs.Run.{Program}
 use Rattle.bilv_spec.specs.Points.{HasMore}
-use Rattle.bilv_spec.specs.Answers.{Answer, Count, budget_text}
+use Rattle.bilv_spec.specs.Files.{is_rv}
+use Rattle.bilv_spec.specs.Answers.{Budget, IsWithin, Answer, Count, budget_text}
 use Rattle.bilv_spec.proofs.AllPoints.{no_more_points}
-use Rattle.program_points.specs.Listed.{ArePointsOf, IsTooMany, point_of}
-use Rattle.program_points.specs.declared.values.Points.{Points}
+use Rattle.program_points.specs.Listed.{IsTooMany}
 use Rattle.program_points.specs.declared.values.PointsFault.{PointsFault}
 use Rattle.program_points.specs.declared.values.PointsFault.TheVariants.{TooMany}
+use Rattle.question_form.specs.Views.{points_of, unrolled_of}
+use Rattle.question_form.specs.declared.unrolled.Point.{Point}
+use Rattle.question_form.specs.declared.unrolled.Unrolled.{Unrolled}
+use Rattle.walk_spec.specs.Prices.{unrolled_price}
+use Rattle.walk_spec.specs.Unrolling.{IsUnrolling}
+use Rattle.walk_spec.proofs.PriceLaw.{price_is_price}
+use Rattle.bilv_top.specs.Answers.{answer_of}
+use Rattle.bilv_top.specs.Due.{IsVerifiedSoFar, points, size}
+use Rattle.bilv_top.specs.declared.answer.Answer.{Answer as Told}
 
--- the report that a budget of points is exceeded, by so many that were found
-abbrev pub reported : (budget count : ℕ) → Answer
-reported budget count = record { status = 3; text = budget_text (codes "points") budget; evidence = Count count }
+-- the report that a budget is exceeded, by what was found
+abbrev pub reported : (name : List ℕ) (budget found : ℕ) → Answer
+reported name budget found = record { status = 3; text = budget_text name budget; evidence = Count found }
 
--- a list of all points that has at most so many
-pub few_points : (p : Program) (k max : ℕ) (v : Points) → ArePointsOf p k v → length v.points.items ≤ max → ¬ HasMore p k max
-few_points p k max v are few = no_more_points p k max (map (point_of are.0) v.points.items) are.2 (simp length-map few)
+points_length : (u : Unrolled) (qs : List Point) → length (map (λ q. q.point) (points_of u qs)) ≡ length qs
+points_length u [] = refl
+points_length u (q ∷ qs) = ap suc (points_length u qs)
 
--- more were found
-pub more_points : (p : Program) (k max count : ℕ) (f : PointsFault) (a : Answer) → f ≡ TooMany count → IsTooMany p k max f → a ≡ reported max count →
-    HasMore p k max × (a ≡ reported max (max + 1))
-more_points p k max count f a f_is too is =
-    let many : IsTooMany p k max (TooMany count) = subst (IsTooMany p k max) f_is too in
-    (many.0, is ∙ ap (reported max) many.1)
+few_points : (p : Program) (k max : ℕ) (u : Unrolled) → IsUnrolling p k (unrolled_of u) → length u.points.items ≤ max → ¬ HasMore p k max
+few_points p k max u is few =
+    let e = points_length u u.points.items in
+    no_more_points p k max (map (λ q. q.point) (unrolled_of u).points) is.points (omega arith)
+
+-- the points are within their budget, and the price within the size or reported
+pub priced : (file : List ℕ) (p : Program) (b : Budget) (u : Unrolled) (o : Option Told) → is_rv file ≡ true → IsUnrolling p b.unroll (unrolled_of u) →
+    length u.points.items ≤ b.points →
+    MatchOption o (unrolled_price (unrolled_of u) ≤ b.size) (λ a. (b.size < unrolled_price (unrolled_of u)) × (answer_of a ≡ reported (codes "size") b.size (unrolled_price (unrolled_of u)))) →
+    MatchOption o (IsWithin p b) (λ a. (text : List ℕ) → IsVerifiedSoFar file text b p (answer_of a))
+priced file p b u None rv is few le = record {
+  points = few_points p b.unroll b.points u is few;
+  price = unrolled_price (unrolled_of u);
+  is_price = price_is_price p b.unroll (unrolled_of u) is;
+  size = le;
+}
+priced file p b u (Some a) rv is few above = λ text.
+    size rv (few_points p b.unroll b.points u is few) (unrolled_price (unrolled_of u)) (price_is_price p b.unroll (unrolled_of u) is) above.0 above.1
+
+-- more points were found
+pub more_points : (file : List ℕ) (p : Program) (b : Budget) (count : ℕ) (f : PointsFault) (a : Answer) → is_rv file ≡ true → f ≡ TooMany count →
+    IsTooMany p b.unroll b.points f → a ≡ reported (codes "points") b.points count → (text : List ℕ) → IsVerifiedSoFar file text b p a
+more_points file p b count f a rv f_is too is text =
+    let many : IsTooMany p b.unroll b.points (TooMany count) = subst (IsTooMany p b.unroll b.points) f_is too in
+    points rv many.0 (is ∙ ap (reported (codes "points") b.points) many.1)

@@ -17,7 +17,7 @@ use Rattle.bilv_spec.specs.Outcomes.{Surroundings, Command, Verify, Lift, Graph,
 use Rattle.bilv_spec.specs.Verified.{AfterImage, elf_refused, elf_accepted, AfterNotes, notes_refused, program_found}
 use Rattle.bilv_spec.proofs.NotesNames.{machines_keep_reserved}
 use Rattle.bilv_spec.proofs.NotesSaid.{one_reading}
-use Rattle.bilv_top.specs.Due.{IsDue, IsVerifiedSoFar, points, holds, beyond, not_built, IsLiftedSoFar, IsReplayedSoFar, replayed, unbuilt, IsGraphedSoFar, printed, bare}
+use Rattle.bilv_top.specs.Due.{IsDue, IsVerifiedSoFar, points, size, holds, beyond, not_built, IsLiftedSoFar, IsReplayedSoFar, replayed, unbuilt, IsGraphedSoFar, printed, bare}
 
 -- neither machine names anything by a reserved word
 chosen_keeps : (b : Bool) (w : List ℕ) → (rv_names w ≡ None) → (arm_names w ≡ None) → (if b then rv_names w else arm_names w) ≡ None
@@ -67,8 +67,9 @@ after_read s name Next a step (was_read file agrees next) = step file next
 
 so_far : (file text : List ℕ) (b : Budget) (p : Program) (a : Answer) → IsVerifiedSoFar file text b p a → IsPlain a.status
 so_far file text b p a (points x more is) = subst IsPlain (sym (ap (λ x. x.status) is)) (plain_number 3 (omega arith))
-so_far file text b p a (holds few x y z is) = plain_at a 0 _ is (plain_number 0 (omega arith))
-so_far file text b p a (beyond few x is) = plain_not_built a is
+so_far file text b p a (size x few price is_price above is) = subst IsPlain (sym (ap (λ x. x.status) is)) (plain_number 3 (omega arith))
+so_far file text b p a (holds within x y z is) = plain_at a 0 _ is (plain_number 0 (omega arith))
+so_far file text b p a (beyond within x is) = plain_not_built a is
 
 after_notes : (file text : List ℕ) (Next : Program → Answer → Type 0) (a : Answer) → ((p : Program) → Next p a → IsPlain a.status) → AfterNotes file text Next a →
     IsPlain a.status

@@ -5,12 +5,12 @@ use Rattle.bilv_spec.specs.Machine.{Row}
 use Rattle.bilv_spec.specs.Rv.{rv32}
 use Rattle.bilv_spec.specs.Run.{Program}
 use Rattle.bilv_spec.specs.Verdict.{IsRight, Holds}
-use Rattle.bilv_spec.specs.Points.{HasMore}
+use Rattle.bilv_spec.specs.Points.{HasMore, IsPrice}
 use Rattle.bilv_spec.specs.Files.{is_rv, machine_of, names_of, layout_of, IsFunctionAt}
 use Rattle.bilv_spec.specs.NotesGrammar.{IsNotesText}
 use Rattle.bilv_spec.specs.LiftText.{IsLiftTextBy}
 use Rattle.bilv_spec.specs.Replays.{replay_answer}
-use Rattle.bilv_spec.specs.Answers.{Budget, default_budget, PointsReport, Evidence, Count, Answer, plain_answer, report_answer}
+use Rattle.bilv_spec.specs.Answers.{Budget, IsWithin, default_budget, PointsReport, SizeReport, Evidence, Count, Answer, plain_answer, report_answer}
 use Rattle.bilv_spec.specs.Outcomes.{Surroundings, Command, Verify, Lift, Graph, Replay, Check, read_fault, AfterRead, AfterElf, AfterBoth, IsGraphed, IsRightAnswer}
 use Rattle.bilv_spec.specs.Verified.{AfterNotes, AreNotesRefused, notes_limit, usage_text}
 use Rattle.bilv_spec.specs.Texts.{line}
@@ -23,13 +23,15 @@ use Rattle.bilv_top.specs.FirstForm.{IsFirst}
 abbrev pub not_built : Answer
 not_built = plain_answer 10 (line (codes "not built"))
 
--- The answer to a program that two files are. For RISC-V it is first that there are more points than the budget, wherever there are, with their count. Else it is
--- so far holds alone, for files of the first form and the default budget; and it is not built for every other program, those of the first form for which another
--- verdict is right among them.
+-- The answer to a program that two files are. For RISC-V it is first that there are more points than the budget, wherever there are, with their count; then that
+-- the price is above the budget's size, wherever it is, with the price. Else it is so far holds alone, for files of the first form and the default budget; and it is
+-- not built for every other program, those of the first form for which another verdict is right among them.
 pub data IsVerifiedSoFar (file text : List ℕ) (b : Budget) (p : Program) (a : Answer) : Type 0 where
   points : is_rv file ≡ true → HasMore p b.unroll b.points → a ≡ report_answer (layout_of file) b PointsReport (Count (b.points + 1)) → IsVerifiedSoFar file text b p a
-  holds : (is_rv file ≡ true → ¬ HasMore p b.unroll b.points) → b ≡ default_budget → IsFirst file text → IsRight p b.unroll Holds → a ≡ plain_answer 0 (line (codes "holds")) → IsVerifiedSoFar file text b p a
-  beyond : (is_rv file ≡ true → ¬ HasMore p b.unroll b.points) → (b ≡ default_budget → IsFirst file text → ¬ IsRight p b.unroll Holds) → a ≡ not_built → IsVerifiedSoFar file text b p a
+  size : is_rv file ≡ true → ¬ HasMore p b.unroll b.points → (price : ℕ) → IsPrice p b.unroll price → b.size < price →
+      a ≡ report_answer (layout_of file) b SizeReport (Count price) → IsVerifiedSoFar file text b p a
+  holds : (is_rv file ≡ true → IsWithin p b) → b ≡ default_budget → IsFirst file text → IsRight p b.unroll Holds → a ≡ plain_answer 0 (line (codes "holds")) → IsVerifiedSoFar file text b p a
+  beyond : (is_rv file ≡ true → IsWithin p b) → (b ≡ default_budget → IsFirst file text → ¬ IsRight p b.unroll Holds) → a ≡ not_built → IsVerifiedSoFar file text b p a
 
 -- the rows that are built: those of RV32IM
 abbrev pub rows_by : (of_rv : Bool) → ℕ → Option Row

@@ -5,7 +5,7 @@
 pub enum Evidence {
     /// Nothing: the answer needs none.
     None,
-    /// So many points, one more than the budget, were found.
+    /// So many points, one more than the budget, were found; or this is the price, which is above the budget's size.
     Count(u128),
 }
 

@@ -20,7 +20,7 @@ use std::alloc::{AllocError, Global};
 
 /// The answer of the program: its exit status, and what shows that it is right.
 ///
-/// The exit status is 0 for the verdict `holds`, for lifted words, for a flow graph, for a report that was replayed and for a certificate that is accepted, 2 for an unlawful line, 3 for a program with more points than the budget, 4 for a refused ELF file, 5 for refused notes,
+/// The exit status is 0 for the verdict `holds`, for lifted words, for a flow graph, for a report that was replayed and for a certificate that is accepted, 2 for an unlawful line, 3 for a program with more points than the budget or a price above its size, 4 for a refused ELF file, 5 for refused notes,
 /// 6 for a file that could not be read, 7 for a write that failed, 8 for want of memory, 9 for a report that is not what its replay finds and for a certificate that is not accepted, and 10 for what is not built.
 #[derive(Clone, Copy, Debug, PartialEq, Eq)]
 pub struct Outcome {

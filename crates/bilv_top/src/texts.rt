@@ -1,5 +1,5 @@
 //! The texts of refusals and of budgets that are exceeded.
-ghost use Rattle.std.specs.Prelude.{◌≡◌, ◌++◌, ◌∷◌, [], IfOk, MatchOption, codes};
+ghost use Rattle.std.specs.Prelude.{◌≡◌, ◌++◌, ◌∷◌, [], IfOk, MatchOption};
 ghost use Rattle.bilv_spec.specs.Answers.{budget_text};
 ghost use Rattle.bilv_spec.specs.Texts.{line, spaced, number_text};
 ghost use Rattle.bilv_spec.specs.Certificates.{cause_words};
@@ -74,12 +74,14 @@ pub fn refused_line(
     Ok(text)
 }
 
-/// The line that says that there are more points than the budget of points. The error is want of memory.
-pub fn points_line(alloc: Global, budget: u64) -> Result<Vec<u8>, AllocError>
-    ensures { IfOk result (λ v. v.items ≡ budget_text (codes "points") budget) }
+/// The line that says that the budget of a name, which allows so much, is exceeded. The error is want of memory.
+pub fn budget_line(alloc: Global, name: &[u8], most: u64) -> Result<Vec<u8>, AllocError>
+    ensures { IfOk result (λ v. v.items ≡ budget_text name.now most) }
 {
-    let mut text = b"unknown points ".to_vec(alloc)?;
-    print_number(&mut text, budget)?;
+    let mut text = b"unknown ".to_vec(alloc)?;
+    text.extend_from_slice(name)?;
+    text.extend_from_slice(b" ")?;
+    print_number(&mut text, most)?;
     text.extend_from_slice(b"\n")?;
     Ok(text)
 }

@@ -16,8 +16,11 @@ returns-then-not-is_risc_v c =
 
 pub returns-in-None : goal.returns-in-None
 returns-in-None c =
-    let few = rw c.in-None.is at c.in_ok-report.ensures in
+    let within = rw c.in-None.is at c.in_ok-report.ensures in
     IfOk-weaker c.judge_within-in-None.result _ _
     (λ a done. program_within c.args.file.now c.args.image.now c.deref-in-None.result.now c.args.found.now.text.items (budget_of c.args.budget)
     (program_of c.args.image.now (notes_of c.args.found.now.notes) c.args.found.now.entry) (answer_of a) c.requires.same c.deref-in-None.ensures.value
-    (λ yes. few) done) c.judge_within-in-None.ensures
+    (λ yes. within) done) c.judge_within-in-None.ensures
+
+pub returns-in-Some : goal.returns-in-Some
+returns-in-Some c = λ found. (rw c.in-Some.is at c.in_ok-report.ensures) c.args.found.now.text.items
