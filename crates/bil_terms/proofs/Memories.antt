@@ -8,7 +8,7 @@ use Rattle.bilv_spec.specs.Memory as memory
 use Rattle.bilv_spec.specs.Memory.{load, store, span}
 use Rattle.bilv_spec.specs.Bil.{BilVariable, Register, Flag, Mem, Local, CastKind, Low, High, Signed, Unsigned, Expression, Var, Constant, Load, Store, Binary, Unary, Cast, Let, Unknown, Choose, Extract, Concat, total}
 use Rattle.bilv_spec.specs.BilTyping.{cast_fits, is_width, is_load_width}
-use Rattle.bilv_spec.specs.BilCounts.{width, own_stores}
+use Rattle.bilv_spec.specs.BilCounts.{width, own_stores, own_chosen_stores}
 use Rattle.bilv_spec.specs.BilMeaning.{Value, Word, Bytes, Stuck, Env, assign, evaluate, put_local, load_from, store_to, extract_from, choose, cast_to, in_env}
 use Rattle.bilv_spec.specs.BilStores.{bytes_at, chosen, stored_in, stored_by}
 use Rattle.walk_spec.specs.Terms.{TermReading, InRange, TermNode, TermValue, SelectNode, ExtractNode, ExtendNode, LoadNode, StoreNode, HasWidth, HasMemory, IsWidth, term_value, term_word, width_of, node_at, select, own_gates, own_loads, own_joins}
@@ -23,7 +23,7 @@ use Rattle.bil_terms.specs.declared.stored.Stored.{Stored}
 use Rattle.bil_terms.specs.declared.variables.LocalTerm.{LocalTerm}
 use Rattle.bil_terms.specs.Naming.{IsScope, Holds}
 use Rattle.bil_terms.specs.Gathered.{expression_cost, IsAmong, Gathered}
-use Rattle.bil_terms.specs.Lowered.{IsWordTerm, IsMemoryTerm, cast_node, own_chosen_stores}
+use Rattle.bil_terms.specs.Lowered.{IsWordTerm, IsMemoryTerm, cast_node}
 use Rattle.bil_terms.proofs.Scopes.{word_kept, holds_kept, holds_back, holds_push, scope_kept}
 use Rattle.bil_terms.proofs.Gathering.{gathered_none, gathered_on, gathered_then, gathered_as, gathered_made, gathered_store}
 use Rattle.bil_terms.proofs.Operations.{load_is, store_is, choose_is, extract_is, cast_is, cast_word}

@@ -1,8 +1,8 @@
 -- What it means that an expression has become a term.
 use Rattle.std.specs.Prelude.{ℕ, ◌≡◌, ◌+◌, ◌-◌, ◌*◌, true, false, List}
-use Rattle.bilv_spec.specs.Bil.{BilType, UnaryOp, Negate, Not, CastKind, Low, High, Signed, Unsigned, Expression, Choose, total}
+use Rattle.bilv_spec.specs.Bil.{BilType, UnaryOp, Negate, Not, CastKind, Low, High, Signed, Unsigned, Expression, total}
 use Rattle.bilv_spec.specs.BilTyping.{type_width}
-use Rattle.bilv_spec.specs.BilCounts.{width, own_stores, own_memory_choices}
+use Rattle.bilv_spec.specs.BilCounts.{width, own_stores, own_memory_choices, own_chosen_stores}
 use Rattle.bilv_spec.specs.BilMeaning.{Word, Bytes, Env, evaluate, unary, unknown}
 use Rattle.bilv_spec.specs.BilStores.{stored_by}
 use Rattle.walk_spec.specs.Terms.{TermReading, InRange, TermNode, ChoiceNode, ExtractNode, ExtendNode, HasWidth, HasMemory, IsWidth, term_value, term_word}
@@ -12,11 +12,6 @@ use Rattle.bil_terms.specs.declared.stored.Stored.{Stored}
 use Rattle.bil_terms.specs.declared.variables.LocalTerm.{LocalTerm}
 use Rattle.bil_terms.specs.Naming.{Holds}
 use Rattle.bil_terms.specs.Gathered.{Gathered, expression_cost}
-
--- how many bytes the sides of a choice store, which no weight pays guards for
-abbrev pub own_chosen_stores : Expression → ℕ
-own_chosen_stores (Choose c a b) = total own_stores a + total own_stores b
-own_chosen_stores e = 0
 
 -- no choice is between memories, and none has a store in a side
 abbrev pub IsSteady : Expression → Type 0

@@ -45,7 +45,7 @@ chosen_small : (b : Bool) (n : ℕ) → n < 256 → (if b then n else 0) < 256
 chosen_small true n h = h
 chosen_small false n h = omega arith
 
-cell_small : (file : List ℕ) → ((i : ℕ) → slice_index file i < 256) → (a : ℕ) (o : Option Segment) → byte_of_cell (cell_in file a o) < 256
+pub cell_small : (file : List ℕ) → ((i : ℕ) → slice_index file i < 256) → (a : ℕ) (o : Option Segment) → byte_of_cell (cell_in file a o) < 256
 cell_small file small a None = omega arith
 cell_small file small a (Some s) = chosen_small (nat_lt (a - s.address) s.in_file) (slice_index file (s.offset + (a - s.address))) (small _)
 
@@ -56,11 +56,11 @@ machine_lawful : (b : Bool) (e : Endian) → IsLawfulMachine (if b then rv32 els
 machine_lawful true e = rv_is_lawful
 machine_lawful false e = arm_is_lawful e
 
-row_of_word : (m : Machine) (b : Bool) (w : ℕ) (row : Row) → (if b then m.row w else None) ≡ Some row → m.row w ≡ Some row
+pub row_of_word : (m : Machine) (b : Bool) (w : ℕ) (row : Row) → (if b then m.row w else None) ≡ Some row → m.row w ≡ Some row
 row_of_word m true w row e = e
 row_of_word m false w row e = absurd (cc)
 
-rows_lawful : (p : Program) → IsLawfulMachine p.machine → ((a : ℕ) → byte_of_cell (p.loaded a) < 256) → HasLawfulRows p
+pub rows_lawful : (p : Program) → IsLawfulMachine p.machine → ((a : ℕ) → byte_of_cell (p.loaded a) < 256) → HasLawfulRows p
 rows_lawful p lawful small a row e = lawful.rows (file_word p a) row (word_small p small a) (row_of_word p.machine (fetchable p a) (file_word p a) row e)
 
 pub program_rows_are_lawful : (file text : List ℕ) (p : Program) → ((i : ℕ) → slice_index file i < 256) → IsProgram file text p → HasLawfulRows p

@@ -91,6 +91,15 @@ own_memory_choices e = 0
 abbrev pub memory_choices : Statements → ℕ
 memory_choices list = list_total (total own_memory_choices) list
 
+-- how many bytes the sides of a choice store, under guards that no weight pays for
+abbrev pub own_chosen_stores : Expression → ℕ
+own_chosen_stores (Choose c a b) = total own_stores a + total own_stores b
+own_chosen_stores e = 0
+
+-- how many bytes the sides of a list's choices store
+abbrev pub chosen_stores : Statements → ℕ
+chosen_stores list = list_total (total own_chosen_stores) list
+
 -- two byte orders are one
 abbrev pub same_order : Endian → Endian → Bool
 same_order Little Little = true

@@ -6,7 +6,7 @@ use Rattle.bilv_spec.specs.Machine.{Row, Cost, Successors, How, On, Direct, Dire
 use Rattle.bilv_spec.specs.StateText.{Layout}
 use Rattle.bilv_spec.specs.Bil.{Bank, Statements}
 use Rattle.bilv_spec.specs.BilTyping.{IsWellTyped}
-use Rattle.bilv_spec.specs.BilCounts.{list_weight, byte_loads, byte_stores, memory_choices, other_loads, unknowns, has_no_loop, has_no_special, nesting, list_names_only, is_own, may_assign, surely_assigns, reads_within, reads_first}
+use Rattle.bilv_spec.specs.BilCounts.{list_weight, byte_loads, byte_stores, memory_choices, chosen_stores, other_loads, unknowns, has_no_loop, has_no_special, nesting, list_names_only, is_own, may_assign, surely_assigns, reads_within, reads_first}
 use Rattle.bilv_spec.specs.BilStores.{list_stored}
 use Rattle.bilv_spec.specs.Simulation.{Locals, position, Simulates}
 
@@ -116,7 +116,7 @@ pub record IsFitted (m : Machine) (form : Layout) : Type 0 where
 -- simulates: it does what the row does. stored: it stores just the bytes that the row stores, and none before an exception, since a lawful row then stores none.
 -- typed, no_loop, no_special, nests, names: it is well typed, has neither loop nor special, ifs at most two deep, and only the machine's variables.
 -- assigns, surely, reads, reads_first: it uses the flags as the row does, and reads none that it has assigned. draws: it has an unknown only where the row draws.
--- picks: it chooses between words alone. literal: where the row loads a literal, each of its loads is of that word, at a constant address, and it stores nothing.
+-- picks, steady: it chooses between words alone, and no side of a choice has a store. literal: where the row loads a literal, each of its loads is of that word, at a constant address, and it stores nothing.
 -- weight, loads, stores: they are within the row's cost, of which 64 are left for the exits of the row's point.
 pub record IsLifting (m : Machine) (bank : Bank) (row : Row) (at : ℕ) (list : Statements) : Type 0 where
   pub simulates : Simulates row.effect at list
@@ -133,6 +133,7 @@ pub record IsLifting (m : Machine) (bank : Bank) (row : Row) (at : ℕ) (list : 
   pub reads_first : (f : ℕ) → f < 4 → reads_first f false list ≡ true
   pub draws : row.draws ≡ false → unknowns list ≡ 0
   pub picks : memory_choices list ≡ 0
+  pub steady : chosen_stores list ≡ 0
   pub literal : (a : ℕ) → row.literal at ≡ Some a → (other_loads m.endian a list ≡ 0) × (byte_stores list ≡ 0)
   pub weight : list_weight list + 64 ≤ row.cost.row
   pub loads : byte_loads list ≤ row.cost.loads

@@ -8,7 +8,7 @@ use Rattle.bilv_spec.specs.Bil.{Bits, XRegisters, Mem, BinaryOp, UnaryOp, Not, C
 use Rattle.bilv_spec.specs.Bil as bil
 use Rattle.bilv_spec.specs.BilMeaning.{Env}
 use Rattle.bilv_spec.specs.BilTyping.{Has, type_or_fault, result_width, cast_fits, is_width, is_load_width}
-use Rattle.bilv_spec.specs.BilCounts.{width, op_weight, weight, own_loads, own_stores, own_unknowns, own_memory_choices, names_only, is_own, reads_flag}
+use Rattle.bilv_spec.specs.BilCounts.{width, op_weight, weight, own_loads, own_stores, own_unknowns, own_memory_choices, own_chosen_stores, names_only, is_own, reads_flag}
 use Rattle.bilv_spec.specs.BilStores.{stored_by}
 use Rattle.rv_decode.specs.declared.insn.BranchOp.{BranchOp}
 use Rattle.rv_decode.specs.declared.insn.BranchOp.TheVariants.{Beq, Bne, Blt, Bge, Bltu, Bgeu}
@@ -35,6 +35,7 @@ pub record IsPlain (n w l : ℕ) (e : Expression) : Type 0 where
   pub stores : total own_stores e ≡ 0
   pub unknowns : total own_unknowns e ≡ 0
   pub picks : total own_memory_choices e ≡ 0
+  pub steady : total own_chosen_stores e ≡ 0
   pub stored : (c : ℕ) (v : Env) → stored_by e c v ≡ []
   pub names : names_only e own ≡ true
   pub flags : (f : ℕ) → reads_flag f e ≡ false
@@ -48,6 +49,7 @@ number_plain v h = record {
   stores = refl;
   unknowns = refl;
   picks = refl;
+  steady = refl;
   stored = λ c e. refl;
   names = refl;
   flags = λ f. refl;
@@ -66,6 +68,7 @@ register_plain (suc r) h = record {
   stores = refl;
   unknowns = refl;
   picks = refl;
+  steady = refl;
   stored = λ c e. refl;
   names = own_register r h;
   flags = λ f. refl;
@@ -82,6 +85,7 @@ binary_plain o n w v u a b p q e h = record {
   stores = omega arith;
   unknowns = omega arith;
   picks = omega arith;
+  steady = omega arith;
   stored = λ c z. rw (p.stored c z, q.stored c z) refl;
   names = rw (p.names, q.names) refl;
   flags = λ f. rw (p.flags f, q.flags f) refl;
@@ -90,9 +94,10 @@ binary_plain o n w v u a b p q e h = record {
 -- a node over one word that only picks, turns or adds bits
 over_plain : (m n w l : ℕ) (e a : Expression) → IsPlain n w l a → ((at : ℕ) → type_or_fault at e ≡ Has (Bits m)) → width e ≡ m →
     weight e ≡ 0 + weight a → total own_loads e ≡ 0 + total own_loads a → total own_stores e ≡ 0 + total own_stores a →
-    total own_unknowns e ≡ 0 + total own_unknowns a → total own_memory_choices e ≡ 0 + total own_memory_choices a → ((c : ℕ) (v : Env) → stored_by e c v ≡ stored_by a c v) →
+    total own_unknowns e ≡ 0 + total own_unknowns a → total own_memory_choices e ≡ 0 + total own_memory_choices a →
+    total own_chosen_stores e ≡ 0 + total own_chosen_stores a → ((c : ℕ) (v : Env) → stored_by e c v ≡ stored_by a c v) →
     names_only e own ≡ names_only a own → ((f : ℕ) → reads_flag f e ≡ reads_flag f a) → IsPlain m w l e
-over_plain m n w l e a p t wide weighs loads stores unknowns picks stored names flags = record {
+over_plain m n w l e a p t wide weighs loads stores unknowns picks steady stored names flags = record {
   typed = t;
   width = wide;
   weight = omega arith;
@@ -100,6 +105,7 @@ over_plain m n w l e a p t wide weighs loads stores unknowns picks stored names 
   stores = omega arith;
   unknowns = omega arith;
   picks = omega arith;
+  steady = omega arith;
   stored = λ c v. stored c v ∙ p.stored c v;
   names = names ∙ p.names;
   flags = λ f. flags f ∙ p.flags f;
@@ -107,15 +113,15 @@ over_plain m n w l e a p t wide weighs loads stores unknowns picks stored names 
 
 pub not_plain : (n w l : ℕ) (a : Expression) → IsPlain n w l a → IsPlain n w l (Unary Not a)
 not_plain n w l a p =
-    over_plain n n w l (Unary Not a) a p (λ at. rw (p.typed (at + 1)) refl) p.width refl refl refl refl refl (λ c v. refl) refl (λ f. refl)
+    over_plain n n w l (Unary Not a) a p (λ at. rw (p.typed (at + 1)) refl) p.width refl refl refl refl refl refl (λ c v. refl) refl (λ f. refl)
 
 pub cast_plain : (k : CastKind) (m n w l : ℕ) (a : Expression) → IsPlain n w l a → (cast_fits k m n && is_width m) ≡ true → IsPlain m w l (Cast k m a)
 cast_plain k m n w l a p e =
-    over_plain m n w l (Cast k m a) a p (λ at. rw (p.typed (at + 1), e) refl) refl refl refl refl refl refl (λ c v. refl) refl (λ f. refl)
+    over_plain m n w l (Cast k m a) a p (λ at. rw (p.typed (at + 1), e) refl) refl refl refl refl refl refl refl (λ c v. refl) refl (λ f. refl)
 
 upper_plain : (w l : ℕ) (a : Expression) → IsPlain 64 w l a → IsPlain 32 w l (Extract 63 32 a)
 upper_plain w l a p =
-    over_plain 32 64 w l (Extract 63 32 a) a p (λ at. rw (p.typed (at + 1)) refl) refl refl refl refl refl refl (λ c v. refl) refl (λ f. refl)
+    over_plain 32 64 w l (Extract 63 32 a) a p (λ at. rw (p.typed (at + 1)) refl) refl refl refl refl refl refl refl (λ c v. refl) refl (λ f. refl)
 
 load_plain : (n w : ℕ) (a : Expression) → IsPlain 32 w 0 a → is_load_width n ≡ true → IsPlain n w (n / 8) (Load (Var Mem) a Little n)
 load_plain n w a p e = record {
@@ -126,6 +132,7 @@ load_plain n w a p e = record {
   stores = let h = p.stores in omega arith;
   unknowns = let h = p.unknowns in omega arith;
   picks = let h = p.picks in omega arith;
+  steady = let h = p.steady in omega arith;
   stored = p.stored;
   names = p.names;
   flags = p.flags;

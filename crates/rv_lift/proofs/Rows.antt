@@ -64,6 +64,7 @@ raise_lifting e x at = record {
   reads_first = λ g few. refl;
   draws = λ t. refl;
   picks = refl;
+  steady = refl;
   literal = λ a t. cc;
   weight = omega arith;
   loads = omega arith;

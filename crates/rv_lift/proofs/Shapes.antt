@@ -42,6 +42,7 @@ assigned_lifting zero w l e f k p at small plain value h i = record {
   reads_first = λ g few. refl;
   draws = λ t. refl;
   picks = refl;
+  steady = refl;
   literal = λ a t. cc;
   weight = omega arith;
   loads = omega arith;
@@ -61,6 +62,7 @@ assigned_lifting (suc d) w l e f k p at small plain value h i = record {
   reads_first = λ g few. refl;
   draws = λ t. omega arith;
   picks = let h = plain.picks in omega arith;
+  steady = let h = plain.steady in omega arith;
   literal = λ a t. cc;
   weight = omega arith;
   loads = omega arith;
@@ -96,6 +98,7 @@ branch_lifting e f w to next at plain value h = record {
   reads_first = λ g few. refl;
   draws = λ t. omega arith;
   picks = let h = plain.picks in omega arith;
+  steady = let h = plain.steady in omega arith;
   literal = λ a t. cc;
   weight = omega arith;
   loads = omega arith;
@@ -143,6 +146,7 @@ jump_lifting e f d w how next p at small plain value h jumps =
       reads_first = rest.reads_first;
       draws = λ t. let r = rest.draws t in omega arith;
       picks = let h = plain.picks in let r = rest.picks in omega arith;
+      steady = let h = plain.steady in let r = rest.steady in omega arith;
       literal = λ a t. cc;
       weight = let r = link_weight d (add 32 at 4) in omega arith;
       loads = let r = rest.loads in omega arith;
@@ -170,6 +174,7 @@ store_lifting n w v t u f g at p q value result h same_width wide = record {
   reads_first = λ k few. refl;
   draws = λ x. omega arith;
   picks = let h = p.picks in let i = q.picks in omega arith;
+  steady = let h = p.steady in let i = q.steady in omega arith;
   literal = λ a x. cc;
   weight = omega arith;
   loads = omega arith;

@@ -37,6 +37,7 @@ module _ (p : Program) (k : ℕ) (u : Unrolled) (form : Layout) (bank : Bank) (i
           no_special = refl;
           nests = omega arith;
           picks = refl;
+          steady = refl;
           names = refl;
           draws = λ e. refl;
           weight = subst (λ (z : ℕ). 0 + 64 ≤ z) (sym (code.own.row ∙ ap row_price is)) (omega arith);

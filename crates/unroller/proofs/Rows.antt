@@ -338,6 +338,7 @@ liftings_do_rows p u form bank q row list fitted registers flags is lawful plain
     no_special = lifting.no_special;
     nests = lifting.nests;
     picks = lifting.picks;
+    steady = lifting.steady;
     names = list_wider p.machine bank u registers flags list lifting.names;
     draws = λ e. lifting.draws (sym counted.draws ∙ e);
     weight = subst (λ (z : ℕ). list_weight list + 64 ≤ z) (sym counted.row_cost) lifting.weight;

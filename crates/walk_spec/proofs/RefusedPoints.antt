@@ -1,6 +1,7 @@
 -- Wrong points of unrolled programs, and that what a point has to be refuses them.
 use Rattle.std.proofs.Common.{refl, arith, ℕ, [], ◌∷◌, None, true, false}
-use Rattle.bilv_spec.specs.Bil.{Var, Constant, Binary, Choose, Plus, Divide, Register, Mem, XRegisters, Statements, Empty, Assign, If, BilVariable}
+use Rattle.bilv_spec.specs.Memory.{Little}
+use Rattle.bilv_spec.specs.Bil.{Var, Constant, Load, Store, Binary, Cast, Choose, Unsigned, Plus, Divide, Register, Mem, XRegisters, Statements, Empty, Assign, If, BilVariable}
 use Rattle.bilv_spec.specs.Run.{Program}
 use Rattle.bilv_spec.specs.Points.{Point, ToAddress, ToExit}
 use Rattle.walk_spec.specs.Unrolled.{UnrolledPoint, UnrolledProgram, Executes, Raising, WritingKept, Unaligned, Along, Outward}
@@ -43,6 +44,14 @@ picks_memory = Assign Mem (Choose (Constant 1 1) (Var Mem) (Var Mem)) Empty
 
 pub picks_memory_refused : (u : UnrolledProgram) (q : UnrolledPoint) → IsRunnable u q picks_memory → ⊥
 picks_memory_refused u q h = let e = h.picks in absurd (omega arith)
+
+-- a store in a side of a choice, under a guard that no weight pays for
+abbrev stores_chosen : Statements
+stores_chosen =
+    Assign (reg 10) (Cast Unsigned 32 (Choose (Constant 1 1) (Load (Store (Var Mem) (Constant 32 0) Little 8 (Constant 8 1)) (Constant 32 0) Little 8) (Constant 8 2))) Empty
+
+pub stores_chosen_refused : (u : UnrolledProgram) (q : UnrolledPoint) → IsRunnable u q stores_chosen → ⊥
+stores_chosen_refused u q h = let e = h.steady in absurd (omega arith)
 
 -- a named target before the exit of its address
 pub exit_late_refused : (p : Program) (point : Point) (a : ℕ) → AreEdgesOf p point (ToAddress [] a ∷ ToExit ∷ []) → ⊥

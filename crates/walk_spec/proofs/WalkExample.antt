@@ -235,6 +235,7 @@ runs = record {
   no_special = refl;
   nests = omega arith;
   picks = refl;
+  steady = refl;
   names = refl;
   draws = λ h. refl;
   weight = omega arith;

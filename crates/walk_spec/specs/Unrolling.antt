@@ -8,7 +8,7 @@ use Rattle.bilv_spec.specs.Notes.{Expr, Number, Register, Flag, Pc, Memory, Old,
 use Rattle.bilv_spec.specs.Bil as bil
 use Rattle.bilv_spec.specs.Bil.{BilVariable, Statements, Empty}
 use Rattle.bilv_spec.specs.BilTyping.{IsWellTyped}
-use Rattle.bilv_spec.specs.BilCounts.{list_weight, byte_loads, byte_stores, memory_choices, unknowns, has_no_loop, has_no_special, nesting, list_names_only}
+use Rattle.bilv_spec.specs.BilCounts.{list_weight, byte_loads, byte_stores, memory_choices, chosen_stores, unknowns, has_no_loop, has_no_special, nesting, list_names_only}
 use Rattle.bilv_spec.specs.RowFiles.{from_to}
 use Rattle.bilv_spec.specs.StateText.{Layout}
 use Rattle.bilv_spec.specs.Run.{Program, Event, FetchFails, NoRow, fetchable, all_kept, in_memory}
@@ -48,8 +48,8 @@ is_variable_of u (bil.Flag f) = is_flag_of u f
 is_variable_of u bil.Mem = true
 is_variable_of u (bil.Local x n) = false
 
--- A list that terms can be made of within the price of its point: well typed, without loops and specials, ifs at most two deep, no choice between memories,
--- over the program's variables, with an unknown only where the row draws, and no heavier than the price counts. Of the row's price 64 are left for the exits
+-- A list that terms can be made of within the price of its point: well typed, without loops and specials, ifs at most two deep, no choice between memories and no
+-- store in a side of a choice, over the program's variables, with an unknown only where the row draws, and no heavier than the price counts. Of the row's price 64 are left for the exits
 -- of the point, so that a point without an edge can pay for them, and a point without a row, whose price is 64, has no list.
 pub record IsRunnable (u : UnrolledProgram) (q : UnrolledPoint) (list : Statements) : Type 0 where
   pub typed : IsWellTyped list
@@ -57,6 +57,7 @@ pub record IsRunnable (u : UnrolledProgram) (q : UnrolledPoint) (list : Statemen
   pub no_special : has_no_special list ≡ true
   pub nests : nesting list ≤ 2
   pub picks : memory_choices list ≡ 0
+  pub steady : chosen_stores list ≡ 0
   pub names : list_names_only list (is_variable_of u) ≡ true
   pub draws : q.draws ≡ false → unknowns list ≡ 0
   pub weight : list_weight list + 64 ≤ q.row
