@@ -22,6 +22,7 @@ chosen_same ns w c a b e h = record {
   grew = grew_more ns ns 0 0 0 0 0 (w * differs a b) 0 0 0 (2 * differs a b) (omega arith) (omega arith) (omega arith) (omega arith) (omega arith) (grew_none ns);
   inputs = inputs_none ns (λ m. ⊥);
   place = h;
+  kept = λ k. refl;
   when_true = λ x g k. refl;
   when_false = λ x g k. ap (term_word x ns) e;
 }
@@ -35,6 +36,7 @@ chosen_made old new w c a b t h k =
       grew = grew_more old new w 0 0 0 2 (w * differs a b) 0 0 0 (2 * differs a b) (omega (arith, e)) (omega arith) (omega arith) (omega arith) (omega (arith, d)) (made_grew old new (SelectNode w c a b) t k);
       inputs = made_inputs old new (SelectNode w c a b) t (λ m. ⊥) k (λ i. i);
       place = made_width old new (SelectNode w c a b) t w k refl;
+      kept = λ e. absurd (h e);
       when_true = λ x g e. v x g ∙ ap (λ z. select z (term_word x old a) (term_word x old b)) e;
       when_false = λ x g e. v x g ∙ ap (λ z. select z (term_word x old a) (term_word x old b)) e;
     }
@@ -46,6 +48,7 @@ none_chosen ns w c = record {
   inputs = inputs_none ns (λ m. ⊥);
   count = refl;
   wide = λ i h. absurd (omega arith);
+  kept = λ i h e. absurd (omega arith);
   when_true = λ x g e i h. absurd (omega arith);
   when_false = λ x g e i h. absurd (omega arith);
 }
@@ -80,6 +83,16 @@ more_chosen old mid new w c xs ys ts a b t e hc ha hb p q =
       inputs = inputs_on old mid new (λ m. ⊥) p.inputs q.inputs;
       count = omega (arith, p.count);
       wide = λ i h. each_more (λ j v. HasWidth new w v) ts t (λ j k. grew_width mid new _ _ _ _ _ w (slice_index ts j) q.grew (p.wide j k)) q.place i (omega arith);
+      kept = λ i h.
+          each_more (λ j v. slice_index (xs ++ a ∷ []) j ≡ slice_index (ys ++ b ∷ []) j → v ≡ slice_index (xs ++ a ∷ []) j) ts t
+          (λ j k s.
+          let x = get_or_append_left xs (a ∷ []) 0 j (omega (arith, p.count)) in
+          let y = get_or_append_left ys (b ∷ []) 0 j (omega (arith, p.count, e)) in
+          p.kept j (omega (arith, p.count)) (sym x ∙ s ∙ y) ∙ sym x)
+          (λ s.
+          let x = ap (slice_index (xs ++ a ∷ [])) p.count ∙ last xs a 0 in
+          let y = ap (slice_index (ys ++ b ∷ [])) (p.count ∙ e) ∙ last ys b 0 in
+          q.kept (sym x ∙ s ∙ y) ∙ sym x) i (omega arith);
       when_true = λ x g s i h.
           each_more (λ j v. term_word x new v ≡ term_word x old (slice_index (xs ++ a ∷ []) j)) ts t
           (λ j k. ap (λ z. z.word) (q.grew.keeps x (slice_index ts j) (p.wide j k).0) ∙ p.when_true x g s j (omega (arith, p.count))

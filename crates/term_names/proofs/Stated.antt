@@ -69,6 +69,9 @@ states_selected old one two new c a b n hc form na nb first p q r =
       inputs = inputs_on old two new (λ m. ⊥) (inputs_on old one two (λ m. ⊥) p.inputs q.inputs) r.inputs;
       names = rows_are_names new n (λ i h. grew_width one new _ _ _ _ _ 32 (slice_index (places n.registers.items) i) last (p.wide i h))
           (λ i h. grew_width two new _ _ _ _ _ 1 (slice_index (places n.flags.items) i) r.grew (q.wide i h)) r.place;
+      kept_registers = λ i h. p.kept i (omega arith);
+      kept_flags = λ f h. q.kept f (omega arith);
+      kept_memory = r.kept;
       when_true = λ x g e v d. record {
         registers = λ i h. word x (slice_index (places n.registers.items) i) (p.wide i (omega arith)).0 ∙ p.when_true x g e i (omega arith) ∙ d.registers i (omega arith)
             ∙ ap (λ z. v.regs (slice_index z i)) (sym ranges);

@@ -74,15 +74,22 @@ pub record IsSelectedMemory (old new : List TermNode) (condition a b t : ℕ) : 
   pub grew : Grew old new 0 0 0 (differs a b) (2 * differs a b)
   pub inputs : InputsFrom old new (λ m. ⊥)
   pub place : HasMemory new t
+  pub kept : a ≡ b → t ≡ a
   pub when_true : (x : TermReading) → InRange x → term_word x old condition ≡ 1 → (term_value x new t).bytes ≡ (term_value x old a).bytes
   pub when_false : (x : TermReading) → InRange x → term_word x old condition ≡ 0 → (term_value x new t).bytes ≡ (term_value x old b).bytes
 
--- The terms of one of two states, by a condition: where it is 1 they have the values of the first, where it is 0 those of the second. Only what differs costs.
+-- The terms of one of two states, by a condition: where it is 1 they have the values of the first, where it is 0 those of the second. Only what differs costs;
+-- what is one term in both stays so.
 pub record AreSelected (old new : List TermNode) (condition : ℕ) (a b n : Names) : Type 0 where
   pub form : HaveSameForm a n
   pub grew : Grew old new (differing_bits a b) 0 0 (differing_memory a b) (2 * differing_terms a b)
   pub inputs : InputsFrom old new (λ m. ⊥)
   pub names : AreNames (form_of n) new (names_of n)
+  pub kept_registers : (i : ℕ) → i < length a.registers.items → slice_index (names_of a).registers i ≡ slice_index (names_of b).registers i →
+      slice_index (names_of n).registers i ≡ slice_index (names_of a).registers i
+  pub kept_flags : (f : ℕ) → f < length a.flags.items → slice_index (names_of a).flags f ≡ slice_index (names_of b).flags f →
+      slice_index (names_of n).flags f ≡ slice_index (names_of a).flags f
+  pub kept_memory : a.memory.0 ≡ b.memory.0 → n.memory.0 ≡ a.memory.0
   pub when_true : (x : TermReading) → InRange x → term_word x old condition ≡ 1 → (c : Carried) →
       Denotes (form_of a) old x (names_of a) c → Denotes (form_of n) new x (names_of n) c
   pub when_false : (x : TermReading) → InRange x → term_word x old condition ≡ 0 → (c : Carried) →
