@@ -1,4 +1,4 @@
-//! Tests of BIL, clauses, refutations, the search and points, each by its public calls: worked cases, and that calls which may run out of memory succeed with ample memory.
+//! Tests of BIL, clauses and refutations, each by its public calls: worked cases, and that calls which may run out of memory succeed with ample memory.
 //!
 //! They stand apart so that each part is proved once, and not again with its tests.
 #![tactic(auto)]
@@ -15,8 +15,6 @@ mod memory;
 mod printing;
 #[cfg(test)]
 mod refutations;
-#[cfg(test)]
-mod search;
 #[cfg(test)]
 mod trees;
 #[cfg(test)]
