@@ -6,3 +6,6 @@ pub mod Words
 pub mod Memories
 pub mod Leaves
 pub mod Calls
+pub mod Rows
+pub mod Steps
+pub mod Flags

@@ -1,3 +1,5 @@
 pub mod Naming
 pub mod Gathered
 pub mod Lowered
+pub mod Costs
+pub mod Runs

@@ -1,8 +1,11 @@
-//! Expressions of lists as terms.
+//! Expressions and lists as terms.
 #![tactic(auto)]
 
+mod assignments;
 mod expressions;
+mod jumps;
 mod operators;
+mod run;
 mod stored;
 mod variables;
 
