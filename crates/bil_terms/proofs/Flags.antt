@@ -1,15 +1,14 @@
 -- Assignments to flags and to the memory, jumps and exceptions.
-use Rattle.std.proofs.Common.{◌≡◌, ℕ, zero, suc, ◌+◌, ◌<◌, ◌≤◌, List, [], ◌∷◌, ◌++◌, length, set, Vec, Global, Some, None, refl, sym, ap, ◌∙◌, subst, arith, append-nil}
-use Rattle.std.specs.Prelude.{◌↔◌, Contains, slice_index}
+use Rattle.std.proofs.Common.{◌≡◌, ℕ, zero, suc, ◌<◌, ◌≤◌, List, [], ◌++◌, length, set, Vec, Global, Some, refl, sym, ap, ◌∙◌, subst, arith, append-nil}
+use Rattle.std.specs.Prelude.{slice_index}
 use Rattle.std.proofs.lemmas.List.{length-set}
 use Rattle.bilv_spec.specs.State.{put}
-use Rattle.bilv_spec.specs.Bil.{Flag, Mem, Expression, Statements, Empty, Assign, JumpTo, Raise, Special, total}
-use Rattle.bilv_spec.specs.BilCounts.{width, own_stores, unknowns}
+use Rattle.bilv_spec.specs.Bil.{Flag, Mem, Expression, Empty, Assign, JumpTo, Raise, total}
+use Rattle.bilv_spec.specs.BilCounts.{width, own_stores}
 use Rattle.bilv_spec.specs.BilMeaning.{Value, Word, Bytes, Env, Position, Ending, Ends, assign, assigned, jumped, evaluate, execute, then_do}
 use Rattle.bilv_spec.specs.BilStores.{stored_by}
-use Rattle.walk_spec.specs.Terms.{TermReading, InRange, TermNode, TermValue, HasWidth, HasMemory, term_word, term_value}
+use Rattle.walk_spec.specs.Terms.{TermReading, TermNode, HasWidth, term_word, term_value}
 use Rattle.walk_spec.specs.Passive.{Denotes}
-use Rattle.term_dag.specs.Made.{Grew}
 use Rattle.term_dag.specs.declared.nodes.Term.{Term}
 use Rattle.term_dag.proofs.Growth.{grew_none, grew_width, inputs_none}
 use Rattle.term_names.specs.Views.{form_of, names_of}
@@ -21,7 +20,7 @@ use Rattle.bil_terms.specs.declared.run.Run.{Run}
 use Rattle.bil_terms.specs.declared.run.Bits.{Bits}
 use Rattle.bil_terms.specs.declared.stored.Stored.{Stored}
 use Rattle.bil_terms.specs.Lowered.{IsWordTerm, IsMemoryTerm}
-use Rattle.bil_terms.specs.Runs.{IsRun, AreBits, Stands, Comes, IsStoredBy, IsLed}
+use Rattle.bil_terms.specs.Runs.{IsRun, AreBits, Comes, IsLed}
 use Rattle.bil_terms.proofs.Rows.{differs_most, differing_same, differing_set, wide_set, word_set}
 use Rattle.bil_terms.proofs.Scopes.{contains_none, word_kept, denotes_kept}
 use Rattle.bil_terms.proofs.Gathering.{Draws}

@@ -9,3 +9,14 @@ pub mod Calls
 pub mod Rows
 pub mod Steps
 pub mod Flags
+pub mod Distances
+pub mod Entered
+pub mod Joined
+pub mod Stores
+pub mod Ifs
+pub mod Joining
+pub mod Prices
+pub mod Leads
+pub mod Sides
+pub mod Asked
+pub mod Leaving

@@ -1,36 +1,36 @@
 -- Statements of one expression.
-use Rattle.std.proofs.Common.{◌≡◌, ℕ, ◌+◌, ◌-◌, ◌<◌, ◌≤◌, true, List, [], ◌∷◌, ◌++◌, length, set, Vec, Global, Some, None, refl, sym, ap, ◌∙◌, subst, arith, append-nil}
+use Rattle.std.proofs.Common.{◌≡◌, ℕ, ◌+◌, ◌<◌, ◌≤◌, List, [], ◌++◌, length, set, Vec, Global, Some, None, refl, sym, ap, ◌∙◌, subst, arith, append-nil}
 use Rattle.std.specs.Prelude.{◌↔◌, Option, Contains, slice_index}
 use Rattle.std.proofs.lemmas.List.{length-map, length-set}
 use Rattle.bilv_spec.specs.RowFiles.{from_to}
 use Rattle.bilv_spec.specs.State.{put}
-use Rattle.bilv_spec.specs.Bil.{Bank, Register, Flag, Mem, Expression, Statements, Empty, Assign, JumpTo, Raise, total}
+use Rattle.bilv_spec.specs.Bil.{Bank, Register, Expression, Statements, Empty, Assign, total}
 use Rattle.bilv_spec.specs.BilCounts.{width, weight, own_loads, own_stores, own_unknowns, byte_loads, byte_stores, unknowns}
-use Rattle.bilv_spec.specs.BilMeaning.{Value, Word, Bytes, Env, Position, Ending, Ends, RaisesException, OutOfTurns, Wrong, assign, assigned, jumped, evaluate, execute, then_do}
+use Rattle.bilv_spec.specs.BilMeaning.{Value, Word, Env, Position, Ending, Ends, RaisesException, OutOfTurns, Wrong, assign, assigned, jumped, evaluate, execute, then_do}
 use Rattle.bilv_spec.specs.BilStores.{stored_by, list_stored, then_stored}
-use Rattle.walk_spec.specs.Terms.{TermReading, InRange, TermNode, TermValue, ChoiceNode, HasWidth, HasMemory, term_word, term_value}
+use Rattle.walk_spec.specs.Terms.{TermReading, InRange, TermNode, HasWidth, term_word}
 use Rattle.walk_spec.specs.Unrolling.{is_variable_of}
 use Rattle.walk_spec.specs.Passive.{AreNames, Denotes}
-use Rattle.term_dag.specs.Made.{Grew, InputsFrom}
+use Rattle.term_dag.specs.Made.{Grew}
 use Rattle.term_dag.specs.declared.nodes.Term.{Term}
-use Rattle.term_dag.proofs.Growth.{grew_none, grew_more, grew_width, inputs_none, inputs_more}
+use Rattle.term_dag.proofs.Growth.{grew_more, grew_width, inputs_more}
 use Rattle.term_names.specs.Views.{form_of, names_of}
 use Rattle.term_names.specs.declared.names.Names.{Names}
-use Rattle.term_names.specs.Choices.{places, AreWide, differs, differing}
-use Rattle.term_names.specs.Chosen.{HaveSameForm, differing_bits, differing_memory, differing_terms}
+use Rattle.term_names.specs.Choices.{places, AreWide, differing}
+use Rattle.term_names.specs.Chosen.{HaveSameForm, differing_memory}
 use Rattle.term_names.proofs.Choices.{differs_same}
 use Rattle.term_names.proofs.Stated.{count_of, number_at, rows_are_names}
 use Rattle.bil_terms.specs.declared.run.Run.{Run}
 use Rattle.bil_terms.specs.declared.stored.Stored.{Stored}
 use Rattle.bil_terms.specs.declared.variables.LocalTerm.{LocalTerm}
 use Rattle.bil_eval.specs.Checked.{IsWord, IsMemory}
-use Rattle.bil_terms.specs.Naming.{Holds, IsScope, known}
+use Rattle.bil_terms.specs.Naming.{IsScope, known}
 use Rattle.bil_terms.specs.Gathered.{IsAmong, Gathered, own_nodes, expression_cost}
-use Rattle.bil_terms.specs.Lowered.{IsWordTerm, IsMemoryTerm}
-use Rattle.bil_terms.specs.Costs.{changed_bits, changes, list_gates, list_nodes, list_joins}
+use Rattle.bil_terms.specs.Lowered.{IsWordTerm}
+use Rattle.bil_terms.specs.Costs.{changed_bits, changes, list_gates, list_nodes}
 use Rattle.bil_terms.specs.Runs.{IsRun, Jumps, Stands, Comes, IsStoredBy, IsLed, bits_apart, terms_apart}
-use Rattle.bil_terms.proofs.Rows.{differs_most, differing_same, differing_set, wide_set, word_set}
-use Rattle.bil_terms.proofs.Scopes.{contains_none, register_within, flag_within, word_kept, denotes_kept}
+use Rattle.bil_terms.proofs.Rows.{differing_same, differing_set, wide_set, word_set}
+use Rattle.bil_terms.proofs.Scopes.{contains_none, word_kept, denotes_kept}
 use Rattle.bil_terms.proofs.Gathering.{Draws}
 
 -- a run is a scope without locals
@@ -45,11 +45,11 @@ pub memory_without : (n : Names) (ls : List LocalTerm) (e : Expression) → ls �
 memory_without n ls e h k = subst (λ (z : List LocalTerm). IsMemory e (known n z)) (sym h) k
 
 -- what an expression stores is stored where the run comes by
-among_stored : (d : List TermNode) (x : TermReading) (live : ℕ) (more : List Stored) (a : ℕ) → ((s : Stored) → Contains more s → s.guard.0 ≡ live) → term_word x d live ≡ 1 →
+pub among_stored : (d : List TermNode) (x : TermReading) (live : ℕ) (more : List Stored) (a : ℕ) → ((s : Stored) → Contains more s → s.guard.0 ≡ live) → term_word x d live ≡ 1 →
     IsAmong d x more a ↔ IsStoredBy d x more a
 among_stored d x live more a h e = (λ c. (c.0, c.1, ap (term_word x d) (h c.0 c.1) ∙ e, c.2), λ c. (c.0, c.1, c.3))
 
-same_bytes : (d : List TermNode) (x : TermReading) (more : List Stored) (a : ℕ) (ps qs : List ℕ) → qs ≡ ps → Contains ps a ↔ IsAmong d x more a → IsAmong d x more a ↔ IsStoredBy d x more a →
+pub same_bytes : (d : List TermNode) (x : TermReading) (more : List Stored) (a : ℕ) (ps qs : List ℕ) → qs ≡ ps → Contains ps a ↔ IsAmong d x more a → IsAmong d x more a ↔ IsStoredBy d x more a →
     Contains qs a ↔ IsStoredBy d x more a
 same_bytes d x more a ps qs e f k = (
   λ c. k.0 (f.0 (subst (λ (z : List ℕ). Contains z a) e c)),

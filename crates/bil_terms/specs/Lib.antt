@@ -3,3 +3,8 @@ pub mod Gathered
 pub mod Lowered
 pub mod Costs
 pub mod Runs
+pub mod Left
+pub mod Merged
+pub mod Leading
+pub mod Entered
+pub mod Begun

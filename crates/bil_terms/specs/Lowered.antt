@@ -1,5 +1,5 @@
 -- What it means that an expression has become a term.
-use Rattle.std.specs.Prelude.{ℕ, ◌≡◌, ◌+◌, ◌-◌, ◌*◌, true, false, List}
+use Rattle.std.specs.Prelude.{ℕ, ◌≡◌, ◌-◌, ◌*◌, true, false, List}
 use Rattle.bilv_spec.specs.Bil.{BilType, UnaryOp, Negate, Not, CastKind, Low, High, Signed, Unsigned, Expression, total}
 use Rattle.bilv_spec.specs.BilTyping.{type_width}
 use Rattle.bilv_spec.specs.BilCounts.{width, own_stores, own_memory_choices, own_chosen_stores}

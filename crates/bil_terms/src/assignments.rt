@@ -35,15 +35,7 @@ pub fn assign_register(
         (bil.Assign (bil.Register bank number) (expression value.now) bil.Empty)) }
 {
     let mut locals = Vec::new(alloc);
-    let term = word_term(
-        value,
-        dag,
-        &run.names,
-        &mut locals,
-        place,
-        run.live,
-        stored,
-    )?;
+    let term = word_term(value, dag, &run.names, &mut locals, place, run.live, stored)?;
     run.names.registers[(number - run.names.first) as usize] = term;
     Ok(())
 }
@@ -65,15 +57,7 @@ pub fn assign_flag(
     ensures { IfOk result (λ u. IsLed dag.old dag.new place run.old run.new stored.old.items stored.new.items (bil.Assign (bil.Flag number) (expression value.now) bil.Empty)) }
 {
     let mut locals = Vec::new(alloc);
-    let term = word_term(
-        value,
-        dag,
-        &run.names,
-        &mut locals,
-        place,
-        run.live,
-        stored,
-    )?;
+    let term = word_term(value, dag, &run.names, &mut locals, place, run.live, stored)?;
     run.names.flags[number as usize] = term;
     Ok(())
 }
@@ -93,15 +77,7 @@ pub fn assign_memory(
     ensures { IfOk result (λ u. IsLed dag.old dag.new place run.old run.new stored.old.items stored.new.items (bil.Assign bil.Mem (expression value.now) bil.Empty)) }
 {
     let mut locals = Vec::new(alloc);
-    let term = memory_term(
-        value,
-        dag,
-        &run.names,
-        &mut locals,
-        place,
-        run.live,
-        stored,
-    )?;
+    let term = memory_term(value, dag, &run.names, &mut locals, place, run.live, stored)?;
     run.names.memory = term;
     Ok(())
 }
