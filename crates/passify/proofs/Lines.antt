@@ -103,7 +103,7 @@ tried_none ns s rest big n state all go w b = record {
   narrows = λ x r h. (h, tt);
 }
 
-event_by : (q : Bool) (u : UnrolledProgram) (entry next : State) (ev : Event) (a : Aim) (h : Held) →
+pub event_by : (q : Bool) (u : UnrolledProgram) (entry next : State) (ev : Event) (a : Aim) (h : Held) →
     hand (walk_to u entry next (if q then ToEvent ev else a)) h ≡ held_if q (hand (WalkFails ev) h) (hand (walk_to u entry next a) h)
 event_by true u entry next ev a h = refl
 event_by false u entry next ev a h = refl

@@ -1,5 +1,9 @@
 pub mod Bits
 pub mod Edges
 pub mod Exits
+pub mod Handled
+pub mod Made
+pub mod Rows
 pub mod Situations
 pub mod Sweeps
+pub mod Swept

@@ -102,7 +102,7 @@ pub fn asserts(
 ) -> Result<Term, AllocError>
     requires well { AreWell dag.old sweep.old }
     requires places { (i : _) → i < length index.now → (slice_index_or index.now i (0, 0)).1 < length lines.now }
-    requires reads { (i : _) → i < length lines.now → IsReadable (form_of now.now.names.now) (slice_index_or (map assert_of lines.now) i no_assert).says }
+    requires reads { (i : _) → i < length index.now → IsReadable (form_of now.now.names.now) (slice_index_or (map assert_of lines.now) (slice_index_or index.now i (0, 0)).1 no_assert).says }
     requires now { AreTermsOf sweep.old.entry dag.old now.now.names.now }
     requires pc { HasWidth dag.old 32 now.now.pc.0 }
     requires rest { HasWidth dag.old 1 rest.0 }

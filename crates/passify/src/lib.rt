@@ -5,4 +5,9 @@ mod bits;
 mod edges;
 mod exits;
 mod leaving;
+mod point;
 mod sweep;
+mod sweeping;
+mod writing;
+
+pub use sweeping::passive;

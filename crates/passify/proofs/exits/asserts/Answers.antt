@@ -13,7 +13,7 @@ pub denied-requires-clause-reads : goal.denied-requires-clause-reads
 denied-requires-clause-reads c =
     let x = get_or c.args.index.now c.loop-i.i (0, 0) in
     let within = c.requires.places c.loop-i.i c.loop-i-test.true in
-    subst (λ (q : notes.Assert). IsReadable (form_of c.args.now.now.names.now) q.says) (at_map assert_of c.args.lines.now x.1 (get_or c.args.lines.now x.1 c.index-lines-place.result) no_assert within (ap (λ z. get_or c.args.lines.now x.1 z) c.index-lines-place.is)) (c.requires.reads x.1 within)
+    subst (λ (q : notes.Assert). IsReadable (form_of c.args.now.now.names.now) q.says) (at_map assert_of c.args.lines.now x.1 (get_or c.args.lines.now x.1 c.index-lines-place.result) no_assert within (ap (λ z. get_or c.args.lines.now x.1 z) c.index-lines-place.is)) (c.requires.reads c.loop-i.i c.loop-i-test.true)
 
 pub loop-i-preserved : goal.loop-i-preserved
 loop-i-preserved c =

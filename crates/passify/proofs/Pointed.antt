@@ -1,0 +1,279 @@
+-- A point that is handled.
+use Rattle.std.proofs.Common.{◌≡◌, ℕ, suc, ◌+◌, ◌*◌, ◌<◌, ◌≤◌, Bool, true, List, [], Option, Some, None, length, refl, ap, sym, ◌∙◌, subst, arith, get_or}
+use Rattle.std.specs.Prelude.{◌-◌, not, if◌then◌else◌, slice_index, sum_by}
+use Rattle.std.specs.Global.{Vec}
+use Rattle.bilv_spec.specs.Words.{add}
+use Rattle.bilv_spec.specs.Machine.{is_place}
+use Rattle.bilv_spec.specs.Bil.{Empty}
+use Rattle.bilv_spec.specs.Notes as notes
+use Rattle.bilv_spec.specs.Notes.{Expr, NoteLine}
+use Rattle.bilv_spec.specs.Points.{line_price, bytes_loaded}
+use Rattle.bilv_spec.specs.Questions.{Reading, IsReading}
+use Rattle.bil_ast.specs.declared.statements.Stmt.{Stmt}
+use Rattle.bil_ast.specs.Views.{statements}
+use Rattle.bil_terms.specs.declared.left.Left.{Left}
+use Rattle.bil_terms.specs.declared.stored.Stored.{Stored}
+use Rattle.bil_terms.specs.Left.{IsLeft}
+use Rattle.walk_spec.specs.Terms.{TermReading, InRange, TermNode, ChoiceNode, ConstantNode, HasWidth, term_word}
+use Rattle.walk_spec.specs.Unrolled.{UnrolledProgram, UnrolledPoint, Action, state_at, point_at, walk_from}
+use Rattle.walk_spec.specs.Unrolling.{CanBeTerms, IsRunnable, IsSized, IsWalkable}
+use Rattle.walk_spec.specs.Sweep.{Held, held_if, hand}
+use Rattle.walk_spec.specs.Passive.{Denotes, Tells}
+use Rattle.walk_spec.specs.Prices.{line_steps, variables_of}
+use Rattle.walk_spec.specs.WalkQuestions.{term_reading}
+use Rattle.notes_lang.specs.Drafting.{notes_of}
+use Rattle.term_dag.specs.declared.nodes.Term.{Term}
+use Rattle.term_dag.specs.Made.{Grew, IsInterned}
+use Rattle.term_dag.proofs.Growth.{grew_more, grew_none, inputs_none, inputs_more, interned_grew, interned_inputs}
+use Rattle.question_form.specs.declared.unrolled.Code.{Code}
+use Rattle.question_form.specs.declared.unrolled.Edge.{Edge}
+use Rattle.question_form.specs.declared.unrolled.Unrolled.{Unrolled}
+use Rattle.question_form.specs.Forms.{IsFormed}
+use Rattle.question_form.specs.Views.{action_of, row_exits, unrolled_of}
+use Rattle.term_names.specs.declared.names.Names.{Names}
+use Rattle.term_names.specs.Views.{AreFor, form_of, names_of}
+use Rattle.term_names.specs.Chosen.{HaveSameForm, at_entry}
+use Rattle.note_terms.specs.declared.Now.{Now}
+use Rattle.note_terms.proofs.Valued.{range_length}
+use Rattle.passify.specs.declared.sweep.Sweep.{Sweep}
+use Rattle.passify.specs.Bits.{Makes}
+use Rattle.passify.specs.Sweeps.{AreWell, AreTermsOf, Steps, Hands, HasEvent, ShowsAt, term_at}
+use Rattle.passify.specs.Exits.{IsPending}
+use Rattle.passify.specs.Situations.{Situation, LinesTried, IsThere, assert_lines, goes, goes_asserts}
+use Rattle.passify.specs.Handled.{IsHandled, IsSweepOf, TellsKept, point_gates, point_loaded, point_joins, point_nodes}
+use Rattle.passify.specs.Rows.{IsLeaving, IsRowTried, own_code, own_edges, own_index, own_lines, placed, situation_at}
+use Rattle.passify.proofs.Kept.{word_keeps, denotes_keep, names_keep, well_keeps}
+use Rattle.passify.proofs.Tried.{bit_true}
+use Rattle.passify.proofs.Followed.{lines_steps}
+use Rattle.passify.proofs.Lines.{steps_on}
+use Rattle.passify.proofs.Counted.{AreSized, ArePaid, row_paid, stored_few}
+use Rattle.passify.proofs.Rowed.{row_led}
+use Rattle.passify.proofs.Quit.{pending_keep, pending_start, pending_end}
+use Rattle.passify.proofs.Pushed.{other_default}
+use Rattle.passify.proofs.Standing.{placed_is, points_length, point_terms, one_out, edges_later, link_for, link_word}
+
+-- a reading is in range
+reading_range : (u : UnrolledProgram) (r : Reading) → IsReading r → InRange (term_reading u r)
+reading_range u r i = record { regs = i.state.regs; flags = i.state.flags; mem = i.state.mem; choice = λ j. i.choice (point_at u j).point; base = λ j. omega arith }
+
+-- the size of a state's terms
+pub sized_for : (u : UnrolledProgram) (a b c : Names) → IsSized u → AreFor u a → HaveSameForm a b → HaveSameForm b c → AreSized (variables_of u) c
+sized_for u a b c s f h k =
+    let e : length u.registers ≡ length a.registers.items = ap (λ (l : List ℕ). length l) f.registers ∙ range_length a.first (length a.registers.items) in
+    let r : length u.registers ≡ length c.registers.items = e ∙ h.registers ∙ k.registers in
+    let g : u.flags ≡ length c.flags.items = f.flags ∙ h.flags ∙ k.flags in
+    let n = s.enough in let m = s.registers in let o = s.flags in
+    record { bits = omega (arith, r, g, m, o); terms = omega (arith, r, g); enough = omega (arith, n) }
+
+-- a place of which nothing is tried
+pub row_none : (u : Unrolled) (place : ℕ) (n : Names) (ns : List TermNode) (s : Sweep) (rest : ℕ) → AreWell ns s → HasWidth ns 1 rest → (own_code u place).list ≡ None → ArePaid u
+    place 0 0 0 0 0 → IsRowTried u place n ns ns s s rest rest
+row_none u place n ns s rest w wr none paid = record {
+  gates = 0;
+  loads = 0;
+  stores = 0;
+  joins = 0;
+  nodes = 0;
+  steps = record {
+    grew = grew_none ns;
+    inputs = inputs_none ns (λ m. (m ≡ ChoiceNode place) × ((placed u place).draws ≡ true));
+    well = w;
+    like = record
+        { entry = refl; pc = refl; at = refl; places = refl };
+  };
+  few_gates = paid.few_gates;
+  few_loads = paid.few_loads;
+  few_stores = paid.few_stores;
+  few_joins = paid.few_joins;
+  few_nodes = paid.few_nodes;
+  bit = wr;
+  tries = λ x r entry en c den before after p.
+      subst (λ (o : Option (Vec Stmt)). IsPending ns s (suc place) x rest before after (goes (situation_at (unrolled_of u) (placed u place) entry (x.choice place) c)
+      (row_exits (own_code u place).fetchable o (own_edges u place)) before)) none p;
+}
+
+-- a place of the program has a bit
+pub place_met : (u : Unrolled) (s : Sweep) (i : ℕ) → IsSweepOf u s → i < length u.points.items → i < length s.met.items
+place_met u s i of h = let e = of.places in let l = points_length u u.points.items in omega (arith, e, l, h)
+
+pub met_at : (s : Sweep) (i : ℕ) (t : Term) → i < length s.met.items → t ≡ get_or s.met.items i t → t.0 ≡ term_at s.met.items i
+met_at s i t h e = ap (λ (z : Term). z.0) (e ∙ other_default s.met.items i t (record { 0 = 0 }) h)
+
+pub gone_at : (u : Unrolled) (place : ℕ) (c d : List TermNode) (to jumped target : ℕ) (k : Code) → k ≡ own_code u place →
+    Makes c d 32 3 32 to (λ x. (j : Bool) → Tells c x jumped j → term_word x d to ≡ (if j then term_word x c target else add 32 k.at 4)) →
+    Makes c d 32 3 32 to (λ x. (j : Bool) → Tells c x jumped j → term_word x d to ≡ (if j then term_word x c target else add 32 (own_code u place).at 4))
+gone_at u place c d to jumped target k e m =
+    subst (λ (q : Code). Makes c d 32 3 32 to (λ x. (j : Bool) → Tells c x jumped j → term_word x d to ≡ (if j then term_word x c target else add 32 q.at 4))) e m
+
+-- What is made of a row: its list, its bits and its exits.
+pub record RowMade (u : Unrolled) (place : ℕ) (n : Names) (a b c d e f : List TermNode) (s z : Sweep) (rest last : ℕ) (list : Vec Stmt) (items : List Stmt) (l : Left)
+    (stored : List Stored) (wrote odd : ℕ) (next : Now)
+    (to link : ℕ) (lines : List NoteLine) (edges : List Edge) : Type 0 where
+  pub walkable : IsWalkable (unrolled_of u)
+  pub formed : IsFormed u
+  pub within : place < length u.points.items
+  pub of : IsSweepOf u s
+  pub well : AreWell a s
+  pub names : AreTermsOf s.entry a n
+  pub rest_bit : HasWidth a 1 rest
+  pub code : (own_code u place).list ≡ Some list
+  pub items_are : items ≡ list.items
+  pub stored_are : stored ≡ l.stored.items
+  pub lines_are : lines ≡ (unrolled_of u).ensures
+  pub edges_are : edges ≡ own_edges u place
+  pub left : IsLeft a b place n (statements items) l
+  pub kept : TellsKept b c stored (unrolled_of u).kept wrote
+  pub gone : Makes c d 32 3 32 to (λ x. (j : Bool) → Tells c x l.jumped.0 j → term_word x d to ≡ (if j then term_word x c l.target.0 else add 32 (own_code u place).at 4))
+  pub off : Makes d e 2 5 1 odd (λ x. Tells e x odd (not (is_place (term_word x d to))))
+  pub leaving : IsLeaving e f s z rest last u.big lines l.raised.0 wrote odd next l.jumped.0 link edges
+  pub next_names : next.names.now ≡ l.names
+  pub next_pc : next.pc.0 ≡ to
+  pub link_is : link ≡ slice_index (names_of s.entry).registers (u.link - s.entry.first)
+
+pub row_from : (u : Unrolled) (place : ℕ) (n : Names) (a b c d e f : List TermNode) (s z : Sweep) (rest last : ℕ) (list : Vec Stmt) (items : List Stmt) (l : Left)
+    (stored : List Stored) (wrote odd : ℕ) (next : Now)
+    (to link : ℕ) (lines : List NoteLine) (edges : List Edge) → RowMade u place n a b c d e f s z rest last list items l stored wrote odd next to link lines edges → IsRowTried u
+    place n a f s z rest last
+row_from u place n a b c d e f s z rest last list items l stored wrote odd next to link lines edges k =
+    let m1 : IsLeft a b place n (statements list.items) l = subst (λ (q : List Stmt). IsLeft a b place n (statements q) l) k.items_are k.left in
+    let m2 : TellsKept b c l.stored.items (unrolled_of u).kept wrote = subst (λ (q : List Stored). TellsKept b c q (unrolled_of u).kept wrote) k.stored_are k.kept in
+    let v : IsLeaving e f s z rest last u.big (unrolled_of u).ensures l.raised.0 wrote odd next l.jumped.0 link (own_edges u place) =
+    subst (λ (q : List Edge). IsLeaving e f s z rest last u.big (unrolled_of u).ensures l.raised.0 wrote odd next l.jumped.0 link q) k.edges_are
+    (subst (λ (q : List NoteLine). IsLeaving e f s z rest last u.big q l.raised.0 wrote odd next l.jumped.0 link edges) k.lines_are k.leaving) in
+    let runs : IsRunnable (unrolled_of u) (placed u place) (statements list.items) =
+    subst (λ (q : Action). CanBeTerms (unrolled_of u) (placed u place) q) (ap action_of k.code) (point_terms u place k.walkable k.formed k.within) in
+    let sized : AreSized (variables_of (unrolled_of u)) next.names.now =
+    subst (λ (m : Names). AreSized (variables_of (unrolled_of u)) m) (sym k.next_names) (sized_for (unrolled_of u) s.entry n l.names k.walkable.sized k.of.form k.names.same m1.form) in
+    let few = stored_few l.stored.items (λ t h. (m1.stores t h).some) in
+    let bytes = m1.bytes in
+    let well : AreWell e s = well_keeps k.off.grew s k.off.typed (well_keeps k.gone.grew s k.gone.typed (well_keeps m2.grew s m2.typed (well_keeps m1.grew s m1.typed k.well))) in
+    row_led u place n a b c d e f s z rest last list l wrote odd next to link k.well k.rest_bit k.code (edges_later u place k.walkable k.formed k.within list k.code) m1 m2 k.gone
+    k.off v k.next_names k.next_pc
+    (λ x r. ap (λ (i : ℕ). term_word x e i) k.link_is ∙ link_word e s well u.link (link_for u s k.walkable k.of) x r) runs.draws
+    (row_paid u place list k.code next.names.now (length l.stored.items) (length l.stored.items * length (unrolled_of u).kept) sized (one_out u place k.walkable k.formed k.within)
+    (omega (arith, few, bytes)) refl
+    runs.weight runs.loads runs.byte_stores)
+
+-- where there is no row, the price of the point pays for it
+pub none_priced : (u : Unrolled) (place : ℕ) → (own_code u place).list ≡ None → CanBeTerms (unrolled_of u) (placed u place) (placed u place).does → 64 ≤ (placed u place).row
+none_priced u place none t =
+    let runs : IsRunnable (unrolled_of u) (placed u place) Empty = subst (λ (q : Action). CanBeTerms (unrolled_of u) (placed u place) q) (ap action_of none) t in
+    let h = runs.weight in omega (arith, h)
+
+module _ (u : Unrolled) (place : ℕ) (n : Names) (a b c d e : List TermNode) (s s1 s2 z : Sweep) (met rest left v pc : ℕ) (asserts : List notes.Assert) (index : List (ℕ × ℕ))
+    (now : Now) (within : place < length u.points.items)
+    (of : IsSweepOf u s) (w : AreWell a s) (names : AreTermsOf s.entry a n) (met_is : met ≡ term_at s.met.items place) (here : place < length s.met.items)
+    (value : v ≡ (own_code u place).at)
+    (m1 : IsInterned a b (ConstantNode 32 v) pc) (lines_are : asserts ≡ (notes_of u.notes.now).asserts) (index_are : index ≡ own_index u place)
+    (tried : LinesTried b c s s1 met rest u.big now (λ S. S.now) (assert_lines asserts index) [] (goes_asserts asserts index) (goes_asserts asserts []))
+    (same : now.names.now ≡ n) (pc_is : now.pc.0 ≡ pc)
+    (m3 : IsRowTried u place n c d s1 s2 rest left) (m4 : Steps d e s2 z 1 0 0 0 2 (λ m. ⊥)) (hands : Hands d e s2 z left (λ from x y t. HasEvent y)) where
+  m2 : LinesTried b c s s1 met rest u.big now (λ S. S.now) (own_lines u place) [] (goes_asserts (notes_of u.notes.now).asserts (own_index u place))
+      (goes_asserts (notes_of u.notes.now).asserts [])
+  m2 =
+      subst (λ (q : List (ℕ × ℕ)). LinesTried b c s s1 met rest u.big now (λ S. S.now) (assert_lines (notes_of u.notes.now).asserts q) []
+      (goes_asserts (notes_of u.notes.now).asserts q) (goes_asserts (notes_of u.notes.now).asserts []))
+      index_are (subst (λ (q : List notes.Assert). LinesTried b c s s1 met rest u.big now (λ S. S.now) (assert_lines q index) [] (goes_asserts q index) (goes_asserts q []))
+      lines_are tried)
+
+  g1 : Grew a b 0 0 0 0 1
+  g1 = interned_grew a b (ConstantNode 32 v) pc m1
+
+  met_width : HasWidth a 1 met
+  met_width = subst (λ (t : ℕ). HasWidth a 1 t) (sym met_is) (w.bits place here)
+
+  module _ (r : Reading) (reads : IsReading r) (begins : r.state.pc ≡ u.entry) (h : Held) (shows : ShowsAt a s (suc place) (term_reading (unrolled_of u) r) h)
+      (den : h.met place ≡ true → Denotes (form_of n) a (term_reading (unrolled_of u) r) (names_of n) (h.carried place)) where
+    abbrev x : TermReading
+    x = term_reading (unrolled_of u) r
+
+    range : InRange x
+    range = reading_range (unrolled_of u) r reads
+
+    abbrev S : Situation
+    S = situation_at (unrolled_of u) (placed u place) r.state (x.choice place) (h.carried place)
+
+    abbrev go : Held
+    go = goes S (placed u place).exits h
+
+    tells_met : Tells a x met (h.met place)
+    tells_met = subst (λ (t : ℕ). Tells a x t (h.met place)) (sym met_is) (shows.mets place here)
+
+    is_met : term_word x b met ≡ 1 → h.met place ≡ true
+    is_met k = bit_true (h.met place) (sym tells_met ∙ sym (word_keeps g1 x met met_width.0) ∙ k)
+
+    entry_is : r.state ≡ state_at (at_entry x) s.at
+    entry_is = ap (state_at (at_entry x)) (begins ∙ sym of.at)
+
+    den_b : h.met place ≡ true → Denotes (form_of n) b x (names_of n) (h.carried place)
+    den_b k = denotes_keep g1 x n (h.carried place) names.names (den k)
+
+    there : term_word x b met ≡ 1 → IsThere b s u.big now (λ T. T.now) x S
+    there k = record {
+      endian = refl;
+      entry = entry_is;
+      is = record {
+        carried = subst (λ (m : Names). Denotes (form_of m) b x (names_of m) (h.carried place)) (sym same) (den_b (is_met k));
+        pc = ap (λ (i : ℕ). term_word x b i) pc_is ∙ ap (λ t. t.word) (m1.value x) ∙ value;
+      };
+    }
+
+    den_c : term_word x c rest ≡ 1 → Denotes (form_of n) c x (names_of n) (h.carried place)
+    den_c k = denotes_keep m2.lines.steps.grew x n (h.carried place) (names_keep g1 n names.names) (den_b (is_met (m2.narrows x range k).0))
+
+    shown : ShowsAt e z (suc place) x (held_if (h.met place) go h)
+    shown =
+        let p0 = pending_start a s (suc place) x met (h.met place) h go tells_met shows in
+        let p1 = pending_keep a b 0 0 0 0 1 s (suc place) x met h (held_if (h.met place) go h) go g1 w met_width p0 in
+        let p2 = m2.tries x range (suc place) S there h (held_if (h.met place) go h) (row_exits (own_code u place).fetchable (own_code u place).list (own_edges u place)) p1 in
+        let p3 = m3.tries x range r.state (entry_is ∙ ap (state_at (at_entry x)) (sym m2.lines.steps.like.at)) (h.carried place) den_c h (held_if (h.met place) go h) p2 in
+        pending_end d e s2 z (suc place) x left h (held_if (h.met place) go h) S range hands p3
+
+  steps1 : Steps a b s s 0 0 0 0 1 (λ m. ⊥)
+  steps1 = record {
+    grew = g1;
+    inputs = interned_inputs a b (ConstantNode 32 v) pc (λ m. ⊥) m1 (λ i. i);
+    well = well_keeps g1 s m1.typed w;
+    like = record
+        { entry = refl; pc = refl; at = refl; places = refl };
+  }
+
+  abbrev Drawn : TermNode → Type 0
+  Drawn m = (m ≡ ChoiceNode place) × ((placed u place).draws ≡ true)
+
+  more : (old new : List TermNode) (t y : Sweep) (g l st j k : ℕ) → Steps old new t y g l st j k (λ m. ⊥) → Steps old new t y g l st j k Drawn
+  more old new t y g l st j k q = record { grew = q.grew; inputs = inputs_more old new (λ m. ⊥) Drawn (λ m i f. absurd f) q.inputs; well = q.well; like = q.like }
+
+  steps2 : Steps a c s s1 (0 + sum_by line_price (own_lines u place)) (0 + sum_by bytes_loaded (own_lines u place)) (0 + 0) (0 + 0) (1 + 4 * line_steps (own_lines u place)) (λ m. ⊥)
+  steps2 = steps_on a b c s s s1 (λ m. ⊥) 0 0 0 0 1 (sum_by line_price (own_lines u place)) (sum_by bytes_loaded (own_lines u place)) 0 0 (4 * line_steps (own_lines u place))
+      steps1 (lines_steps m2.lines)
+
+  steps34 : Steps c e s1 z (m3.gates + 1) (m3.loads + 0) (m3.stores + 0) (m3.joins + 0) (m3.nodes + 2) Drawn
+  steps34 = steps_on c d e s1 s2 z Drawn m3.gates m3.loads m3.stores m3.joins m3.nodes 1 0 0 0 2 m3.steps (more d e s2 z 1 0 0 0 2 m4)
+
+  steps_all : Steps a e s z (point_gates (unrolled_of u) (placed u place)) (point_loaded (unrolled_of u) (placed u place)) (placed u place).stores (point_joins (placed u place))
+      (point_nodes (unrolled_of u) (placed u place)) Drawn
+  steps_all =
+      let t = steps_on a c e s s1 z Drawn (0 + sum_by line_price (own_lines u place)) (0 + sum_by bytes_loaded (own_lines u place)) (0 + 0) (0 + 0)
+      (1 + 4 * line_steps (own_lines u place)) (m3.gates + 1) (m3.loads + 0)
+      (m3.stores + 0) (m3.joins + 0) (m3.nodes + 2) (more a c s s1 _ _ _ _ _ steps2) steps34 in
+      let fg = m3.few_gates in let fl = m3.few_loads in let fs = m3.few_stores in let fj = m3.few_joins in let fn = m3.few_nodes in
+      record {
+        grew = grew_more a e _ _ _ _ _ (point_gates (unrolled_of u) (placed u place)) (point_loaded (unrolled_of u) (placed u place)) (placed u place).stores
+            (point_joins (placed u place)) (point_nodes (unrolled_of u) (placed u place))
+            (omega (arith, fg)) (omega (arith, fl)) (omega (arith, fs)) (omega (arith, fj)) (omega (arith, fn)) t.grew;
+        inputs = t.inputs;
+        well = t.well;
+        like = t.like;
+      }
+
+  pub handled : IsHandled u a e s z place n
+  handled = record {
+    steps = subst (λ (q : UnrolledPoint). Steps a e s z (point_gates (unrolled_of u) q) (point_loaded (unrolled_of u) q) q.stores (point_joins q) (point_nodes (unrolled_of u) q)
+        (λ m. (m ≡ ChoiceNode place) × (q.draws ≡ true)))
+        (sym (placed_is u place within)) steps_all;
+    shows = λ r reads begins h shows den.
+        subst (λ (q : UnrolledPoint). ShowsAt e z (suc place) (term_reading (unrolled_of u) r)
+        (held_if (h.met place) (hand (walk_from (unrolled_of u) r.state q (r.choice (point_at (unrolled_of u) place).point) (h.carried place)) h) h))
+        (sym (placed_is u place within)) (shown r reads begins h shows den);
+  }

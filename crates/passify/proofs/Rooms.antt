@@ -1,0 +1,112 @@
+-- What all points may cost is what the price counts.
+use Rattle.std.proofs.Common.{◌≡◌, ℕ, ◌+◌, ◌*◌, ◌≤◌, List, [], ◌∷◌, length, sum_by, refl, ap, ◌∙◌, arith}
+use Rattle.std.specs.List.{flat_map}
+use Rattle.std.proofs.lemmas.List.Sums.{sum_by-cons, sum_by-append}
+use Rattle.bilv_spec.specs.Notes.{Expr}
+use Rattle.bilv_spec.specs.Points.{line_price, bytes_loaded}
+use Rattle.walk_spec.specs.Terms.{TermNode, term_gates, term_loads, term_stores, term_joins}
+use Rattle.walk_spec.specs.Unrolled.{UnrolledPoint, UnrolledProgram, is_edge}
+use Rattle.walk_spec.specs.Prices.{lines_at, line_size, line_steps, action_size, variables_of, edges_of, stores_of, point_price, point_loads, point_bound}
+use Rattle.term_dag.specs.Made.{Grew}
+use Rattle.passify.specs.Handled.{point_gates, point_loaded, point_joins, point_nodes}
+use Rattle.passify.specs.Swept.{LeaveRoom}
+
+product_on : (a b k : ℕ) → (a + b) * k ≡ a * k + b * k
+product_on a b k = omega arith
+
+product_back : (a b k : ℕ) → k * (a + b) ≡ k * a + k * b
+product_back a b k = omega arith
+
+module _ (u : UnrolledProgram) where
+  lines_sum : (f : Expr → ℕ) (q : UnrolledPoint) (ps : List UnrolledPoint) → sum_by f (flat_map (lines_at u) (q ∷ ps)) ≡ sum_by f (lines_at u q) + sum_by f (flat_map (lines_at u) ps)
+  lines_sum f q ps = sum_by-append f (lines_at u q) (flat_map (lines_at u) ps)
+
+  gates_sum : (ps : List UnrolledPoint) →
+      sum_by (point_gates u) ps
+      ≡ sum_by (λ q. q.row) ps + 1280 * sum_by (λ q. sum_by is_edge q.exits) ps + sum_by line_price (flat_map (lines_at u) ps) + 128 * (sum_by (λ q. q.stores) ps * length u.kept)
+  gates_sum [] = let e : 0 ≡ 0 + 128 * (0 * length u.kept) = omega arith in e
+  gates_sum (q ∷ ps) =
+      let a = sum_by-cons (point_gates u) q ps in
+      let b = sum_by-cons (λ (p : UnrolledPoint). p.row) q ps in
+      let c = sum_by-cons (λ (p : UnrolledPoint). sum_by is_edge p.exits) q ps in
+      let d = lines_sum line_price q ps in
+      let e = ap (λ z. z * length u.kept) (sum_by-cons (λ (p : UnrolledPoint). p.stores) q ps) ∙ product_on q.stores (sum_by (λ p. p.stores) ps) (length u.kept) in
+      omega (arith, gates_sum ps, a, b, c, d, e)
+
+  loads_sum : (ps : List UnrolledPoint) → sum_by (point_loaded u) ps ≡ sum_by (λ q. q.loads) ps + sum_by bytes_loaded (flat_map (lines_at u) ps)
+  loads_sum [] = refl
+  loads_sum (q ∷ ps) =
+      let a = sum_by-cons (point_loaded u) q ps in
+      let b = sum_by-cons (λ (p : UnrolledPoint). p.loads) q ps in
+      let d = lines_sum bytes_loaded q ps in
+      omega (arith, loads_sum ps, a, b, d)
+
+  joins_sum : (ps : List UnrolledPoint) → sum_by point_joins ps ≡ sum_by (λ q. sum_by is_edge q.exits) ps + 2 * sum_by (λ q. q.stores) ps
+  joins_sum [] = refl
+  joins_sum (q ∷ ps) =
+      let a = sum_by-cons point_joins q ps in
+      let b = sum_by-cons (λ (p : UnrolledPoint). sum_by is_edge p.exits) q ps in
+      let c = sum_by-cons (λ (p : UnrolledPoint). p.stores) q ps in
+      omega (arith, joins_sum ps, a, b, c)
+
+  nodes_sum : (ps : List UnrolledPoint) →
+      sum_by (point_nodes u) ps
+      ≡ 4
+      * (sum_by (λ q. action_size q.does) ps + variables_of u * sum_by (λ q. sum_by is_edge q.exits) ps
+      + (16 * length ps + line_steps (flat_map (lines_at u) ps) + 4 * (sum_by (λ q. q.stores) ps * length u.kept)))
+  nodes_sum [] = let e : 0 ≡ 4 * (0 + variables_of u * 0 + (16 * 0 + 0 + 4 * (0 * length u.kept))) = omega arith in e
+  nodes_sum (q ∷ ps) =
+      let a = sum_by-cons (point_nodes u) q ps in
+      let b = sum_by-cons (λ (p : UnrolledPoint). action_size p.does) q ps in
+      let c = ap (λ z. variables_of u * z) (sum_by-cons (λ (p : UnrolledPoint). sum_by is_edge p.exits) q ps) ∙ product_back (sum_by is_edge q.exits) (sum_by (λ p. sum_by is_edge p.exits) ps) (variables_of u) in
+      let d = lines_sum (λ e. line_size e + 4) q ps in
+      let e = ap (λ z. z * length u.kept) (sum_by-cons (λ (p : UnrolledPoint). p.stores) q ps) ∙ product_on q.stores (sum_by (λ p. p.stores) ps) (length u.kept) in
+      omega (arith, nodes_sum ps, a, b, c, d, e)
+
+  -- one point more is paid for
+  pub room_on : (old new : List TermNode) (q : UnrolledPoint) (rest : List UnrolledPoint) → LeaveRoom u old (q ∷ rest) →
+      Grew old new (point_gates u q) (point_loaded u q) q.stores (point_joins q) (point_nodes u q) → LeaveRoom u new rest
+  room_on old new q rest r g = record {
+    gates = (let a = sum_by-cons (point_gates u) q rest in omega (arith, r.gates, g.gates, a));
+    loads = (let a = sum_by-cons (point_loaded u) q rest in omega (arith, r.loads, g.loads, a));
+    stores = (let a = sum_by-cons (λ (p : UnrolledPoint). p.stores) q rest in omega (arith, r.stores, g.stores, a));
+    joins = (let a = sum_by-cons point_joins q rest in omega (arith, r.joins, g.joins, a));
+    few = (let a = sum_by-cons (point_nodes u) q rest in omega (arith, r.few, g.few, a));
+  }
+
+  -- or costs nothing
+  pub room_past : (nodes : List TermNode) (q : UnrolledPoint) (rest : List UnrolledPoint) → LeaveRoom u nodes (q ∷ rest) → LeaveRoom u nodes rest
+  room_past nodes q rest r = record {
+    gates = (let a = sum_by-cons (point_gates u) q rest in omega (arith, r.gates, a));
+    loads = (let a = sum_by-cons (point_loaded u) q rest in omega (arith, r.loads, a));
+    stores = (let a = sum_by-cons (λ (p : UnrolledPoint). p.stores) q rest in omega (arith, r.stores, a));
+    joins = (let a = sum_by-cons point_joins q rest in omega (arith, r.joins, a));
+    few = (let a = sum_by-cons (point_nodes u) q rest in omega (arith, r.few, a));
+  }
+
+  -- nothing is yet
+  pub room_first : (new : List TermNode) (n : ℕ) → n ≤ 2 * variables_of u + 48 → Grew [] new 0 0 0 0 n → LeaveRoom u new u.points
+  room_first new n few g = record {
+    gates = omega (arith, g.gates);
+    loads = omega (arith, g.loads);
+    stores = omega (arith, g.stores);
+    joins = omega (arith, g.joins);
+    few = omega (arith, few, g.few);
+  }
+
+  -- all is
+  module _ (nodes : List TermNode) (r : LeaveRoom u nodes []) where
+    pub all_gates : term_gates nodes ≤ point_price u
+    all_gates = let a = gates_sum u.points in omega (arith, r.gates, a)
+
+    pub all_loads : term_loads nodes ≤ point_loads u
+    all_loads = let a = loads_sum u.points in omega (arith, r.loads, a)
+
+    pub all_stores : term_stores nodes ≤ stores_of u
+    all_stores = omega (arith, r.stores)
+
+    pub all_joins : term_joins nodes ≤ edges_of u + 2 * stores_of u
+    all_joins = let a = joins_sum u.points in omega (arith, r.joins, a)
+
+    pub all_few : length nodes ≤ point_bound u
+    all_few = let a = nodes_sum u.points in omega (arith, r.few, a)

@@ -1,0 +1,183 @@
+//! Points, handled in their order.
+
+ghost use Rattle.std.specs.Prelude.{ℕ, ◌≡◌, ◌<◌, ◌-◌, true, IfOk, length, map, slice_index, slice_index_or};
+ghost use Rattle.walk_spec.specs.Terms.{HasWidth};
+ghost use Rattle.walk_spec.specs.Unrolled.{is_register_of};
+ghost use Rattle.walk_spec.specs.Unrolling.{IsReadable, IsWalkable};
+ghost use Rattle.notes_lang.specs.Drafting.{note_line_of};
+ghost use Rattle.question_form.specs.Views.{unrolled_of};
+ghost use Rattle.question_form.specs.Forms.{IsFormed};
+ghost use Rattle.term_names.specs.Views.{form_of, names_of};
+ghost use Rattle.passify.specs.Edges.{IsPlaceOf};
+ghost use Rattle.passify.specs.Situations.{no_line};
+ghost use Rattle.passify.specs.Sweeps.{AreTermsOf, AreWell};
+ghost use Rattle.passify.specs.Rows.{IsLeaving, IsRowTried, own_edges};
+ghost use Rattle.passify.specs.Handled.{IsHandled, IsSweepOf};
+
+use crate::edges::{Gone, edges};
+use crate::exits::{asserts, event};
+use crate::leaving::{next_address, unaligned};
+use crate::sweep::{Sweep, fail};
+use crate::writing::writes_kept;
+use bil_terms::run_list;
+use note_terms::Now;
+use notes_lang::NoteLine;
+use question_form::{Edge, Unrolled};
+use std::alloc::{AllocError, Global};
+use term_dag::{Dag, Node, Term};
+use term_names::Names;
+
+/// The edges of the point at a place.
+fn edges_at<'a>(unrolled: &'a Unrolled, place: usize) -> &'a [Edge]
+    requires formed { IsFormed unrolled.now }
+    requires place { place < length unrolled.now.points.items }
+    ensures { result.now ≡ own_edges unrolled.now place }
+{
+    let from = unrolled.points[place].edges;
+    let next = place + 1;
+    if next < unrolled.points.len() {
+        return &unrolled.edges[from..unrolled.points[next].edges];
+    }
+    &unrolled.edges[from..]
+}
+
+/// The term of the link register at entry.
+fn entry_link(names: &Names, link: u8) -> Term
+    requires { is_register_of (form_of names.now) link ≡ true }
+    ensures { result.0 ≡ slice_index (names_of names.now).registers (link - names.now.first) }
+{
+    names.registers[(link - names.first) as usize]
+}
+
+/// How a point is left: whether an exception is raised, whether a kept byte is stored, and whether it goes on to where no row can stand, each of 1 bit.
+#[derive(Clone, Copy)]
+struct Leaves {
+    raised: Term,
+    wrote: Term,
+    odd: Term,
+}
+
+/// The exits of a row are tried; what is left.
+fn leave(
+    alloc: Global,
+    dag: &mut Dag,
+    sweep: &mut Sweep,
+    list: &[Edge],
+    lines: &[NoteLine],
+    leaves: &Leaves,
+    gone: &Gone,
+    link: Term,
+    rest: Term,
+    big: bool,
+) -> Result<Term, AllocError>
+    requires well { AreWell dag.old sweep.old }
+    requires raised { HasWidth dag.old 1 leaves.now.raised.0 }
+    requires wrote { HasWidth dag.old 1 leaves.now.wrote.0 }
+    requires odd { HasWidth dag.old 1 leaves.now.odd.0 }
+    requires places { (i : _) (d : _) → i < length list.now → IsPlaceOf (length sweep.old.met.items) (slice_index_or list.now i d).aim }
+    requires reads { (i : _) → i < length lines.now → IsReadable (form_of gone.now.next.names.now) (slice_index_or (map note_line_of lines.now) i no_line).says }
+    requires next { AreTermsOf sweep.old.entry dag.old gone.now.next.names.now }
+    requires pc { HasWidth dag.old 32 gone.now.next.pc.0 }
+    requires jumped { HasWidth dag.old 1 gone.now.jumped.0 }
+    requires link { HasWidth dag.old 32 link.0 }
+    requires rest { HasWidth dag.old 1 rest.0 }
+    ensures { IfOk result (λ t. IsLeaving dag.old dag.new sweep.old sweep.new rest.0 t.0 big (map note_line_of lines.now) leaves.now.raised.0 leaves.now.wrote.0 leaves.now.odd.0 gone.now.next gone.now.jumped.0
+        link.0 list.now) }
+{
+    let quiet = event(dag, sweep, rest, leaves.raised)?;
+    let kept = event(dag, sweep, quiet, leaves.wrote)?;
+    let aligned = event(dag, sweep, kept, leaves.odd)?;
+    let left = edges(alloc, dag, sweep, list, lines, gone, link, aligned, big)?;
+    Ok(left)
+}
+
+/// What stands at a place behind its assert lines is tried; what is left.
+fn row(
+    alloc: Global,
+    unrolled: &Unrolled,
+    dag: &mut Dag,
+    sweep: &mut Sweep,
+    place: u32,
+    names: &Names,
+    rest: Term,
+) -> Result<Term, AllocError>
+    requires walkable { IsWalkable (unrolled_of unrolled.now) }
+    requires formed { IsFormed unrolled.now }
+    requires place { place < length unrolled.now.points.items }
+    requires well { AreWell dag.old sweep.old }
+    requires sweep { IsSweepOf unrolled.now sweep.old }
+    requires names { AreTermsOf sweep.old.entry dag.old names.now }
+    requires rest { HasWidth dag.old 1 rest.0 }
+    ensures { IfOk result (λ t. IsRowTried unrolled.now place names.now dag.old dag.new sweep.old sweep.new rest.0 t.0) }
+{
+    let code = &unrolled.codes[unrolled.points[place as usize].code as usize];
+    match &code.list {
+        None => Ok(rest),
+        Some(list) => {
+            let left = run_list(alloc, dag, list, names, place)?;
+            let wrote = writes_kept(dag, &left.stored, unrolled.kept)?;
+            let next = next_address(dag, code.at, left.jumped, left.target)?;
+            let odd = unaligned(dag, next)?;
+            let leaves = Leaves {
+                raised: left.raised,
+                wrote,
+                odd,
+            };
+            let gone = Gone {
+                jumped: left.jumped,
+                next: Now {
+                    names: &left.names,
+                    pc: next,
+                },
+            };
+            let link = entry_link(&sweep.entry, unrolled.link);
+            let list = edges_at(unrolled, place as usize);
+            let lines = &unrolled.notes.ensured;
+            let last = leave(
+                alloc,
+                dag,
+                sweep,
+                list,
+                lines,
+                &leaves,
+                &gone,
+                link,
+                rest,
+                unrolled.big,
+            )?;
+            Ok(last)
+        }
+    }
+}
+
+/// The point of a place is handled, to which terms carry a state where it is met: its list, the exits that it may take, and where those lead.
+pub fn handle(
+    alloc: Global,
+    unrolled: &Unrolled,
+    dag: &mut Dag,
+    sweep: &mut Sweep,
+    place: u32,
+    names: &Names,
+) -> Result<(), AllocError>
+    requires walkable { IsWalkable (unrolled_of unrolled.now) }
+    requires formed { IsFormed unrolled.now }
+    requires place { place < length unrolled.now.points.items }
+    requires well { AreWell dag.old sweep.old }
+    requires sweep { IsSweepOf unrolled.now sweep.old }
+    requires names { AreTermsOf sweep.old.entry dag.old names.now }
+    ensures { IfOk result (λ _. IsHandled unrolled.now dag.old dag.new sweep.old sweep.new place names.now) }
+{
+    let code = &unrolled.codes[unrolled.points[place as usize].code as usize];
+    let index = &unrolled.asserts[code.asserts.0..code.asserts.1];
+    let lines = &unrolled.notes.asserts;
+    let pc = dag.keep(Node::Constant {
+        width: 32,
+        value: u64::from(code.at),
+    })?;
+    let now = Now { names, pc };
+    let met = sweep.met[place as usize];
+    let rest = asserts(dag, sweep, lines, index, &now, met, unrolled.big)?;
+    let left = row(alloc, unrolled, dag, sweep, place, names, rest)?;
+    fail(dag, sweep, left)?;
+    Ok(())
+}
