@@ -1,9 +1,11 @@
 -- Agreements of base reads, one after another.
-use Rattle.std.proofs.Common.{◌≡◌, ◌⊎◌, inl, inr, ℕ, zero, suc, ◌+◌, ◌<◌, ◌≤◌, ◌^◌, ◌==◌, true, List, [], ◌∷◌, ◌++◌, length, length-append, append-nil, get_or, refl, ap, sym, ◌∙◌, subst, arith}
+use Rattle.std.proofs.Common.{◌≡◌, ◌⊎◌, inl, inr, ℕ, zero, suc, ◌+◌, ◌-◌, ◌*◌, ◌<◌, ◌≤◌, ◌^◌, ◌==◌, true, List, [], ◌∷◌, ◌++◌, length, length-append, append-nil, get_or, refl, ap, sym, ◌∙◌, subst, arith}
 use Rattle.std.specs.Prelude.{slice_index, map}
 use Rattle.term_dag.specs.declared.nodes.Term.{Term}
 use Rattle.std.proofs.lemmas.Bool.{cases_lt}
 use Rattle.std.proofs.lemmas.Bool.Decides.{nat_tests}
+use Rattle.std.proofs.lemmas.List.{get_or_append_left}
+use Rattle.term_dag.proofs.ListLaws.{last}
 use Rattle.std.proofs.lemmas.List.Elements.{Contains-push_cases, Contains-push, Contains-append_left}
 use Rattle.bilv_spec.specs.Words.{add, sub, bit}
 use Rattle.walk_spec.specs.Terms.{TermReading, HasWidth, term_word}
@@ -14,7 +16,7 @@ use Rattle.mem_cells.specs.declared.pieces.Split.{Split}
 use Rattle.mem_cells.specs.Pieces.{IsSplit, lies_apart}
 use Rattle.mem_cells.specs.Building.{read_places, IsBuilt, Grown, IsWord}
 use Rattle.mem_cells.specs.Ties.{address_of, sum_at, AreSums, AreTies, Before}
-use Rattle.mem_cells.proofs.Growing.{grown_word, grown_width}
+use Rattle.mem_cells.proofs.Growing.{grown_word, grown_width, mapped_length}
 use Rattle.mem_cells.proofs.Chains.{split_kept}
 
 -- addresses stay as nodes are added
@@ -149,3 +151,41 @@ pub mapped_at : (ts : List Term) (i : ℕ) (d : Term) → i < length ts → (get
 mapped_at [] i d l = absurd (omega (arith, l))
 mapped_at (t ∷ ts) zero d l = refl
 mapped_at (t ∷ ts) (suc i) d l = mapped_at ts i d (omega (arith, l))
+
+-- an address of a list of terms is a word of 32 bits
+pub read_width : (b : Build) (i : ℕ) (t d : Term) → IsBuilt b → i < length b.addresses.items → t ≡ get_or b.addresses.items i d → HasWidth b.dag 32 t.0
+read_width b i t d c l e =
+    subst (HasWidth b.dag 32) (sym (ap (λ z. z.0) e ∙ mapped_at b.addresses.items i d l)) (c.addresses i (omega (arith, l, mapped_length b.addresses.items)))
+
+-- one more sum
+pub sum_next_of : (b : Build) (sums : List Split) (s : Split) (n t : ℕ) → length sums ≡ n → t ≡ slice_index (read_places b) n → IsSplit b.dag t s.base.0 s.offset →
+    ((j : ℕ) → j < n → IsSplit b.dag (slice_index (read_places b) j) (sum_at sums j).base.0 (sum_at sums j).offset) →
+    (j : ℕ) → j < n + 1 → IsSplit b.dag (slice_index (read_places b) j) (sum_at (sums ++ s ∷ []) j).base.0 (sum_at (sums ++ s ∷ []) j).offset
+sum_next_of b sums s n t e f h g j l = elim (cases_lt j n) [
+  | inl k ↦ subst (λ (z : Split). IsSplit b.dag (slice_index (read_places b) j) z.base.0 z.offset) (sym (get_or_append_left sums (s ∷ []) (record { base = record { 0 = 0 }; offset = 0 }) j (omega (arith, k, e)))) (g j k)
+  | inr k ↦ (
+      let q : j ≡ n = omega (arith, l, k) in
+      subst (λ (z : Split). IsSplit b.dag (slice_index (read_places b) j) z.base.0 z.offset) (sym (ap (sum_at (sums ++ s ∷ [])) (q ∙ sym e) ∙ last sums s (record { base = record { 0 = 0 }; offset = 0 })))
+      (subst (λ (z : ℕ). IsSplit b.dag z s.base.0 s.offset) (f ∙ ap (slice_index (read_places b)) (sym q)) h))
+]
+
+-- a row more of the equalities of a triangle
+pub one_row_more : (j : ℕ) → 16 * (j * (j - 1)) + 32 * j ≡ 16 * ((j + 1) * (j + 1 - 1))
+one_row_more zero = refl
+one_row_more (suc j) =
+    let p : suc j - 1 ≡ j = omega arith in
+    let q : suc j + 1 - 1 ≡ suc j = omega arith in
+    let e : 16 * (suc j * j) + 32 * suc j ≡ 16 * ((suc j + 1) * suc j) = grind arith in
+    ap (λ z. 16 * (suc j * z) + 32 * suc j) p ∙ e ∙ ap (λ z. 16 * ((suc j + 1) * z)) (sym q)
+
+-- no reads, no pairs
+pub ties_none : (b : Build) → AreTies b [] (Before 0 0)
+ties_none b = record {
+  formed = λ a k. absurd (omega (arith, k.1));
+  sound = λ x i a k. absurd (omega (arith, k.1));
+  complete = λ x i base q m n s z. absurd (none m n s);
+}
+  where
+    none : (m n : ℕ) → Before 0 0 m n → ⊥
+    none m n (l, inl h) = omega (arith, h)
+    none m n (l, inr h) = omega (arith, h.1)

@@ -17,7 +17,7 @@ use Rattle.mem_cells.specs.declared.building.Build.{Build}
 use Rattle.mem_cells.specs.Building.{Cellular, read_places, IsBuilt, GivesAll, Grown, IsOwnNode}
 
 -- only inputs have to be named
-named_by : (u : UnrolledProgram) (r : ℕ) (n : TermNode) → (IsInput n → IsNamedBelow u r n) → IsNamedBelow u r n
+pub named_by : (u : UnrolledProgram) (r : ℕ) (n : TermNode) → (IsInput n → IsNamedBelow u r n) → IsNamedBelow u r n
 named_by u r (RegisterNode a) f = f tt
 named_by u r (FlagNode a) f = f tt
 named_by u r (ChoiceNode a) f = f tt

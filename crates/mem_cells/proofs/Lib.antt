@@ -3,6 +3,9 @@ pub mod Chains
 pub mod Gathered
 pub mod Growing
 pub mod LoadedBytes
+pub mod Lowerings
 pub mod Puts
+pub mod PushedPieces
 pub mod Splits
+pub mod Steps
 pub mod StoredWords

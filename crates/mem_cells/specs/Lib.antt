@@ -1,4 +1,5 @@
 pub mod Building
+pub mod Lowering
 pub mod Pieces
 pub mod Ties
 pub mod Views

@@ -4,6 +4,7 @@
 mod building;
 mod cells;
 mod loads;
+mod lowering;
 mod pieces;
 mod stores;
 mod ties;

@@ -1,14 +1,15 @@
 //! What base reads have to agree in.
 
-ghost use Rattle.std.specs.Prelude.{◌≡◌, ℕ, ◌+◌, ◌*◌, ◌-◌, ◌<◌, ◌≤◌, [], length, slice_index, IfOk, OnOk};
+ghost use Rattle.std.specs.Prelude.{◌≡◌, ◌+◌, ◌*◌, ◌-◌, ◌<◌, length, IfOk, OnOk};
+ghost use Rattle.mem_cells.specs.Pieces.{IsZero};
 ghost use Rattle.mem_cells.specs.Building.{read_places, IsBuilt, Grown};
 ghost use Rattle.mem_cells.specs.Ties.{AreSums, AreTies, Before};
 
 use crate::building::Build;
 use crate::cells::Agreement;
-use crate::pieces::{Split, is_apart};
-use std::alloc::AllocError;
-use term_dag::{Node, Op};
+use crate::pieces::{Split, is_apart, sum_of};
+use std::alloc::{AllocError, Global};
+use term_dag::{Node, Op, Term};
 
 /// Says that two reads agree where their addresses are equal, if they may be.
 fn tie(
@@ -65,4 +66,41 @@ fn row(
         tie(build, sums, agrees, read, other)?;
     }
     Ok(())
+}
+
+/// The addresses of the reads as sums.
+fn sums_of(alloc: Global, build: &Build, zero: Term) -> Result<Vec<Split>, AllocError>
+    requires built { IsBuilt build.now }
+    requires zero { IsZero build.now.dag zero.0 }
+    ensures count { IfOk result (λ s. length s.items ≡ length (read_places build.now)) }
+    ensures sums { IfOk result (λ s. AreSums build.now s.items) }
+{
+    let mut sums = Vec::with_capacity(alloc, build.addresses.len())?;
+    for read in 0..build.addresses.len() {
+        let sum = sum_of(&build.dag, zero, build.addresses[read]);
+        sums.push(sum)?;
+    }
+    Ok(sums)
+}
+
+/// What the reads have to agree in. More reads than 32 bits number are want of memory.
+pub fn agreements(build: &mut Build, alloc: Global) -> Result<Vec<Agreement>, AllocError>
+    requires built { IsBuilt build.old }
+    ensures grown { OnOk result (Grown build.old build.new (16 * (length (read_places build.old) * (length (read_places build.old) - 1))) 0) }
+    ensures ties { IfOk result (λ t. AreTies build.new t.items (Before (length (read_places build.new)) 0)) }
+{
+    let zero = build.make(Node::Constant {
+        width: 32,
+        value: 0,
+    })?;
+    let sums = sums_of(alloc, build, zero)?;
+    let count = build.addresses.len();
+    if count > u32::MAX as usize {
+        return Err(AllocError);
+    }
+    let mut agrees = Vec::new(alloc);
+    for other in 0..count as u32 {
+        row(build, &sums, &mut agrees, other)?;
+    }
+    Ok(agrees)
 }

@@ -1,0 +1,12 @@
+use Rattle.std.proofs.Common.{◌≡◌, ◌*◌, ◌-◌, length}
+use Rattle.mem_cells.specs.Building.{Grown, read_places}
+use Rattle.mem_cells.specs.Ties.{AreTies, AreSums, Before}
+use Rattle.mem_cells.proofs.ties.agreements.Given as goal
+
+abbrev pub invariant-loop-other : goal.invariant-loop-other
+invariant-loop-other l = record {
+  grown : Grown l.fn.build l.build (16 * (l.other * (l.other - 1))) 0;
+  count : length l.sums.items ≡ length (read_places l.build);
+  sums : AreSums l.build l.sums.items;
+  ties : AreTies l.build l.agrees.items (Before l.other 0);
+}

@@ -1,0 +1,315 @@
+//! The terms of a question as cells.
+
+ghost use Rattle.std.specs.Prelude.{◌≡◌, ◌+◌, ◌<◌, [], length, slice_index, IfOk, OnOk};
+ghost use Rattle.std.specs.List.{AllByRecursion};
+ghost use Rattle.walk_spec.specs.Cells.{IsOfWords};
+ghost use Rattle.walk_spec.specs.Terms.{LoadNode, StoreNode, JoinNode, MemoryNode, AreTyped};
+ghost use Rattle.walk_spec.specs.WalkQuestions.{AreNamedBelow};
+ghost use Rattle.bilv_spec.specs.Memory.{endian};
+ghost use Rattle.term_dag.specs.Nodes.{node_of};
+ghost use Rattle.term_dag.specs.Made.{moved, operands};
+ghost use Rattle.mem_cells.specs.Pieces.{link};
+ghost use Rattle.mem_cells.specs.Building.{program_of_build, read_places, IsBuilt};
+ghost use Rattle.mem_cells.specs.Lowering.{source_of, Lowers, IsNextOf};
+
+use crate::building::Build;
+use crate::loads::load;
+use crate::pieces::{Memories, Piece};
+use crate::stores::store;
+use std::alloc::{AllocError, Global};
+use term_dag::{Node, Term};
+
+/// What stands for the first terms of a question: for a word a word, for a memory its number. The other one is any.
+#[derive(Drop)]
+pub struct Lowered {
+    pub words: Vec<Term>,
+    pub numbers: Vec<usize>,
+    pub memories: Memories,
+}
+
+impl Lowered {
+    /// The word that stands for a term.
+    fn word(&self, term: Term) -> Term
+        requires { term.0 < length self.now.words.items }
+        ensures { result.0 ≡ link self.now.words.items term.0 }
+    {
+        self.words[term.0 as usize]
+    }
+
+    /// The number that stands for a term.
+    fn number(&self, term: Term) -> usize
+        requires { term.0 < length self.now.numbers.items }
+        ensures { result ≡ slice_index self.now.numbers.items term.0 }
+    {
+        self.numbers[term.0 as usize]
+    }
+
+    /// The node over the words that stand for the terms that it is over.
+    fn moved(&self, node: Node) -> Node
+        requires { AllByRecursion (λ a. a < length self.now.words.items) (operands (node_of node)) }
+        ensures { node_of result ≡ moved (link self.now.words.items) (node_of node) }
+    {
+        match node {
+            Node::Binary {
+                op,
+                width,
+                left,
+                right,
+            } => Node::Binary {
+                op,
+                width,
+                left: self.word(left),
+                right: self.word(right),
+            },
+            Node::Not { width, term } => Node::Not {
+                width,
+                term: self.word(term),
+            },
+            Node::Select {
+                width,
+                condition,
+                when_true,
+                when_false,
+            } => Node::Select {
+                width,
+                condition: self.word(condition),
+                when_true: self.word(when_true),
+                when_false: self.word(when_false),
+            },
+            Node::Extract { hi, lo, term } => Node::Extract {
+                hi,
+                lo,
+                term: self.word(term),
+            },
+            Node::Concat {
+                high,
+                low,
+                upper,
+                lower,
+            } => Node::Concat {
+                high,
+                low,
+                upper: self.word(upper),
+                lower: self.word(lower),
+            },
+            Node::Extend {
+                signed,
+                from,
+                to,
+                term,
+            } => Node::Extend {
+                signed,
+                from,
+                to,
+                term: self.word(term),
+            },
+            Node::Load {
+                bytes,
+                big,
+                memory,
+                address,
+            } => Node::Load {
+                bytes,
+                big,
+                memory: self.word(memory),
+                address: self.word(address),
+            },
+            Node::Store {
+                bytes,
+                big,
+                memory,
+                address,
+                value,
+            } => Node::Store {
+                bytes,
+                big,
+                memory: self.word(memory),
+                address: self.word(address),
+                value: self.word(value),
+            },
+            Node::Join {
+                condition,
+                when_true,
+                when_false,
+            } => Node::Join {
+                condition: self.word(condition),
+                when_true: self.word(when_true),
+                when_false: self.word(when_false),
+            },
+            Node::Register(_)
+            | Node::Flag(_)
+            | Node::Choice(_)
+            | Node::Base(_)
+            | Node::Memory
+            | Node::Constant { .. } => node,
+        }
+    }
+}
+
+/// The next term, a word that is no load.
+fn lower_word(build: &mut Build, lowered: &mut Lowered, node: Node) -> Result<(), AllocError>
+    requires lowered { Lowers (length lowered.old.words.items) build.old lowered.old }
+    requires next { IsNextOf (length lowered.old.words.items) build.old (node_of node) }
+    requires word { IsOfWords (node_of node) }
+    ensures question { OnOk result (build.new.question ≡ build.old.question) }
+    ensures lowered { OnOk result (Lowers (length lowered.old.words.items + 1) build.new lowered.new) }
+{
+    let term = build.make(lowered.moved(node))?;
+    lowered.words.push(term)?;
+    lowered.numbers.push(0)?;
+    Ok(())
+}
+
+/// The next term, a load.
+fn lower_load(
+    build: &mut Build,
+    alloc: Global,
+    lowered: &mut Lowered,
+    bytes: u8,
+    big: bool,
+    memory: Term,
+    address: Term,
+) -> Result<(), AllocError>
+    requires lowered { Lowers (length lowered.old.words.items) build.old lowered.old }
+    requires next { IsNextOf (length lowered.old.words.items) build.old (LoadNode bytes (endian big) memory.0 address.0) }
+    ensures question { OnOk result (build.new.question ≡ build.old.question) }
+    ensures lowered { OnOk result (Lowers (length lowered.old.words.items + 1) build.new lowered.new) }
+{
+    let number = lowered.number(memory);
+    let at = lowered.word(address);
+    let word = load(build, alloc, &lowered.memories, number, at, bytes, big)?;
+    lowered.words.push(word)?;
+    lowered.numbers.push(0)?;
+    Ok(())
+}
+
+/// The next term, a store.
+fn lower_store(
+    build: &mut Build,
+    lowered: &mut Lowered,
+    bytes: u8,
+    big: bool,
+    memory: Term,
+    address: Term,
+    value: Term,
+) -> Result<(), AllocError>
+    requires lowered { Lowers (length lowered.old.words.items) build.old lowered.old }
+    requires next { IsNextOf (length lowered.old.words.items) build.old (StoreNode bytes (endian big) memory.0 address.0 value.0) }
+    ensures question { OnOk result (build.new.question ≡ build.old.question) }
+    ensures lowered { OnOk result (Lowers (length lowered.old.words.items + 1) build.new lowered.new) }
+{
+    let number = lowered.number(memory);
+    let at = lowered.word(address);
+    let word = lowered.word(value);
+    let piece = store(build, &mut lowered.memories, number, at, word, bytes, big)?;
+    let count = lowered.memories.pieces.len();
+    lowered.memories.pieces.push(piece)?;
+    lowered.words.push(Term(0))?;
+    lowered.numbers.push(count)?;
+    Ok(())
+}
+
+/// The next term, one of two memories.
+fn lower_join(
+    build: &Build,
+    lowered: &mut Lowered,
+    condition: Term,
+    when_true: Term,
+    when_false: Term,
+) -> Result<(), AllocError>
+    requires lowered { Lowers (length lowered.old.words.items) build.now lowered.old }
+    requires next { IsNextOf (length lowered.old.words.items) build.now (JoinNode condition.0 when_true.0 when_false.0) }
+    ensures { OnOk result (Lowers (length lowered.old.words.items + 1) build.now lowered.new) }
+{
+    let _ = build;
+    let bit = lowered.word(condition);
+    let one = lowered.number(when_true);
+    let other = lowered.number(when_false);
+    let count = lowered.memories.pieces.len();
+    lowered.memories.pieces.push(Piece::Join {
+        condition: bit,
+        when_true: one,
+        when_false: other,
+    })?;
+    lowered.words.push(Term(0))?;
+    lowered.numbers.push(count)?;
+    Ok(())
+}
+
+/// The next term, the memory at entry.
+fn lower_entry(build: &Build, lowered: &mut Lowered) -> Result<(), AllocError>
+    requires lowered { Lowers (length lowered.old.words.items) build.now lowered.old }
+    requires next { IsNextOf (length lowered.old.words.items) build.now MemoryNode }
+    ensures { OnOk result (Lowers (length lowered.old.words.items + 1) build.now lowered.new) }
+{
+    let _ = build;
+    lowered.words.push(Term(0))?;
+    lowered.numbers.push(0)?;
+    Ok(())
+}
+
+/// The next term.
+fn lower(
+    build: &mut Build,
+    alloc: Global,
+    lowered: &mut Lowered,
+    node: Node,
+) -> Result<(), AllocError>
+    requires lowered { Lowers (length lowered.old.words.items) build.old lowered.old }
+    requires next { IsNextOf (length lowered.old.words.items) build.old (node_of node) }
+    ensures question { OnOk result (build.new.question ≡ build.old.question) }
+    ensures lowered { OnOk result (Lowers (length lowered.old.words.items + 1) build.new lowered.new) }
+{
+    match node {
+        Node::Memory => lower_entry(build, lowered)?,
+        Node::Load {
+            bytes,
+            big,
+            memory,
+            address,
+        } => lower_load(build, alloc, lowered, bytes, big, memory, address)?,
+        Node::Store {
+            bytes,
+            big,
+            memory,
+            address,
+            value,
+        } => lower_store(build, lowered, bytes, big, memory, address, value)?,
+        Node::Join {
+            condition,
+            when_true,
+            when_false,
+        } => lower_join(build, lowered, condition, when_true, when_false)?,
+        _ => lower_word(build, lowered, node)?,
+    }
+    Ok(())
+}
+
+/// All terms.
+pub fn lower_all(build: &mut Build, alloc: Global) -> Result<Lowered, AllocError>
+    requires nodes { build.old.dag ≡ [] }
+    requires reads { read_places build.old ≡ [] }
+    requires typed { AreTyped (source_of build.old) }
+    requires named { AreNamedBelow (program_of_build build.old) 0 (source_of build.old) }
+    ensures question { OnOk result (build.new.question ≡ build.old.question) }
+    ensures lowered { IfOk result (λ l. Lowers (length (source_of build.old)) build.new l) }
+{
+    let question = build.question;
+    let count = question.dag.nodes();
+    if count > u32::MAX as usize {
+        return Err(AllocError);
+    }
+    let mut lowered = Lowered {
+        words: Vec::with_capacity(alloc, count)?,
+        numbers: Vec::with_capacity(alloc, count)?,
+        memories: Memories {
+            pieces: vec![in alloc; Piece::Entry]?,
+            stored: Vec::new(alloc),
+        },
+    };
+    for place in 0..count {
+        let node = question.dag.node(Term(place as u32));
+        lower(build, alloc, &mut lowered, node)?;
+    }
+    Ok(lowered)
+}
