@@ -20,7 +20,7 @@ use Rattle.mem_cells.proofs.Growing.{grown_word, grown_width, mapped_length}
 use Rattle.mem_cells.proofs.Chains.{split_kept}
 
 -- addresses stay as nodes are added
-address_kept : (a b : Build) (g r : ℕ) (x : TermReading) (j : ℕ) → IsBuilt a → Grown a b g r → read_places b ≡ read_places a → j < length (read_places a) → address_of b x j ≡ address_of a x j
+pub address_kept : (a b : Build) (g r : ℕ) (x : TermReading) (j : ℕ) → IsBuilt a → Grown a b g r → read_places b ≡ read_places a → j < length (read_places a) → address_of b x j ≡ address_of a x j
 address_kept a b g r x j c p e l = ap (λ z. term_word x b.dag (slice_index z j)) e ∙ grown_word a b g r x (slice_index (read_places a) j) p (c.addresses j l).0
 
 -- agreements stay as nodes are added
@@ -36,10 +36,10 @@ ties_kept a b g r ts pairs c p e within h = record {
       (sym (address_kept a b g r x m c p e (within m n s).0) ∙ z ∙ address_kept a b g r x n c p e (within m n s).1);
 }
 
-one_is : (a b : ℕ) → bit (a == b) ≡ 1 → a ≡ b
+pub one_is : (a b : ℕ) → bit (a == b) ≡ 1 → a ≡ b
 one_is a b h = grind (arith, nat_tests)
 
-is_one : (a b : ℕ) → a ≡ b → bit (a == b) ≡ 1
+pub is_one : (a b : ℕ) → a ≡ b → bit (a == b) ≡ 1
 is_one a b h = grind (arith, nat_tests)
 
 -- one more agreement

@@ -1,11 +1,15 @@
 pub mod Agreements
+pub mod Asks
 pub mod Chains
+pub mod FileBytes
 pub mod Gathered
 pub mod Growing
 pub mod LoadedBytes
 pub mod Lowerings
-pub mod Puts
+pub mod Made
 pub mod PushedPieces
+pub mod Puts
 pub mod Splits
 pub mod Steps
 pub mod StoredWords
+pub mod Told

@@ -1,3 +1,4 @@
+pub mod Asked
 pub mod Building
 pub mod Lowering
 pub mod Pieces

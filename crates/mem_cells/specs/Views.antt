@@ -1,8 +1,11 @@
 -- Cells as those of the definitions.
-use Rattle.std.specs.Prelude.{map}
+use Rattle.std.specs.Prelude.{ℕ, ◌≡◌, List, map}
 use Rattle.walk_spec.specs.Cells as walk
+use Rattle.walk_spec.specs.Cells.{TellsCells}
 use Rattle.walk_spec.specs.Unrolled.{UnrolledProgram}
-use Rattle.question_form.specs.Questions.{program_of_question}
+use Rattle.walk_spec.specs.WalkQuestions.{is_asked}
+use Rattle.question_form.specs.declared.questions.Question.{Question}
+use Rattle.question_form.specs.Questions.{program_of_question, term_of}
 use Rattle.mem_cells.specs.declared.cells.Agreement.{Agreement}
 use Rattle.mem_cells.specs.declared.cells.AskedByte.{AskedByte}
 use Rattle.mem_cells.specs.declared.cells.Celled.{Celled}
@@ -28,3 +31,8 @@ cells_of c = record {
 -- the unrolled program that cells are of
 abbrev pub program_of_cells : Celled → UnrolledProgram
 program_of_cells c = program_of_question c.question.now
+
+-- cells are those of a question
+pub record AreCellsOf (q : Question) (added : List ℕ) (c : Celled) : Type 0 where
+  pub of : c.question.now ≡ q
+  pub tells : TellsCells (program_of_cells c) (term_of q) (is_asked added (program_of_question q).literals) (cells_of c)

@@ -1,12 +1,16 @@
 //! The memory of a question as bytes that are read once: nodes over words, base reads, and what ties these to each other and to the bytes of the file.
 #![tactic(auto)]
 
+mod asking;
 mod building;
 mod cells;
+mod file_bytes;
 mod loads;
 mod lowering;
+mod making;
 mod pieces;
 mod stores;
 mod ties;
 
 pub use cells::{Agreement, AskedByte, Celled};
+pub use making::cells_some;

@@ -29,7 +29,7 @@ pub struct Lowered {
 
 impl Lowered {
     /// The word that stands for a term.
-    fn word(&self, term: Term) -> Term
+    pub fn word(&self, term: Term) -> Term
         requires { term.0 < length self.now.words.items }
         ensures { result.0 ≡ link self.now.words.items term.0 }
     {

@@ -1,0 +1,10 @@
+use Rattle.std.proofs.Common.{◌*◌, take, length}
+use Rattle.mem_cells.specs.Building.{Grown, read_places}
+use Rattle.mem_cells.specs.Asked.{AreAsked, AskedOf}
+use Rattle.mem_cells.proofs.asking.asked_of.Given as goal
+
+abbrev pub invariant-loop-place : goal.invariant-loop-place
+invariant-loop-place l = record {
+  grown : Grown l.fn.build l.build (32 * (length (read_places l.fn.build) * l.place)) 0;
+  said : AreAsked l.build l.file l.asked.items (AskedOf (length (read_places l.build)) (take l.place l.file));
+}
