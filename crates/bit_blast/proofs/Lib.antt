@@ -10,3 +10,6 @@ pub mod StepChoices
 pub mod StoredBytes
 pub mod Follows
 pub mod StartInputs
+pub mod Kept
+pub mod ReadValues
+pub mod BrokenReads

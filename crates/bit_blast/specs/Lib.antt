@@ -1,7 +1,9 @@
 pub mod BitWords
+pub mod Broken
 pub mod Followed
 pub mod Laid
 pub mod Places
+pub mod ReadBytes
 pub mod Said
 pub mod Steps
 pub mod Stored

@@ -1,11 +1,14 @@
-//! The clauses of a question without memory: circuits for its terms, and ties for what is said of its base reads; and the start that values of its
-//! inputs give.
+//! The clauses of a question without memory: circuits for its terms, and ties for what is said of its base reads; and what values of its
+//! inputs give: the known bytes that they go against, and a start.
 #![tactic(auto)]
 
+mod base_bytes;
 mod clauses;
+mod differing;
 mod input_places;
 mod inputs;
 mod laying;
+mod lookup;
 mod memories;
 mod nodes;
 mod operators;
@@ -18,3 +21,4 @@ mod values;
 mod words;
 
 pub use clauses::blast;
+pub use differing::broken;

@@ -1,0 +1,11 @@
+use Rattle.std.specs.Prelude.{eqb}
+use Rattle.std.proofs.lemmas.List.Filters.{dedup_is}
+use Rattle.bit_blast.proofs.BrokenReads.{ordered_rise, ordered_same}
+use Rattle.bit_blast.proofs.differing.addresses_in_order.Goals as goal
+
+pub returns-clause-rise : goal.returns-clause-rise
+returns-clause-rise c = ordered_rise c.sort.new.self.items c.dedup.new.self.items c.in_ok-sort.ensures.sorted (dedup_is eqb _ _ c.dedup.ensures.filtered)
+
+pub returns-clause-same : goal.returns-clause-same
+returns-clause-same c =
+    ordered_same c.args.found.items c.sort.new.self.items c.dedup.new.self.items c.in_ok-sort.ensures.permutation (dedup_is eqb _ _ c.dedup.ensures.filtered)
