@@ -13,3 +13,4 @@ pub mod StartInputs
 pub mod Kept
 pub mod ReadValues
 pub mod BrokenReads
+pub mod EntryBytes

@@ -5,6 +5,7 @@
 mod base_bytes;
 mod clauses;
 mod differing;
+mod entry;
 mod input_places;
 mod inputs;
 mod laying;
@@ -22,3 +23,4 @@ mod words;
 
 pub use clauses::blast;
 pub use differing::broken;
+pub use entry::memory_of;
