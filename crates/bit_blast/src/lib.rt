@@ -24,3 +24,4 @@ mod words;
 pub use clauses::blast;
 pub use differing::broken;
 pub use entry::memory_of;
+pub use start::start_of;

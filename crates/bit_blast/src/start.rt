@@ -7,8 +7,8 @@ ghost use Rattle.walk_spec.specs.Terms.{with_mem};
 ghost use Rattle.walk_spec.specs.Unrolled.{byte_of_runs};
 ghost use Rattle.walk_spec.specs.Unrolling.{IsWalkable};
 ghost use Rattle.walk_spec.specs.Passive.{IsPassive};
-ghost use Rattle.walk_spec.specs.Cells.{Gives};
-ghost use Rattle.walk_spec.specs.ClauseForm.{IsStartOf, reading};
+ghost use Rattle.walk_spec.specs.Cells.{AreFormed, Gives, IsAllowed};
+ghost use Rattle.walk_spec.specs.ClauseForm.{IsBroken, IsStartOf, reading};
 ghost use Rattle.known_bytes.specs.Runs.{AreRuns};
 ghost use Rattle.term_dag.specs.Readings.{reading_of};
 ghost use Rattle.state_text.specs.Starts.{written_of};
@@ -17,6 +17,7 @@ ghost use Rattle.mem_cells.specs.Views.{cells_of, program_of_cells};
 ghost use Rattle.bit_blast.specs.Followed.{AreFollowed, IsStartReading};
 ghost use Rattle.bit_blast.specs.Laid.{ArePlaces};
 
+use crate::entry::memory_of;
 use crate::input_places::InputPlaces;
 use crate::laying::places_of;
 use crate::memories::start_memory;
@@ -107,4 +108,26 @@ fn start_with(
         bytes,
         choices,
     })
+}
+
+/// The start of values of the inputs: the registers and the flags that the values give, the bytes that are not 0 at addresses whose byte is not known, by rising
+/// address, and the choices that are not 0, by the steps at which a run from there draws them. The values have to make true what is said of the base reads, and
+/// no read may have another byte than the one that is known at its address.
+///
+/// # Errors
+///
+/// Want of memory, which more than 2^28 points or base reads are; or two reads of one address with different bytes, which cells allow only where they do not
+/// say that the two agree.
+pub fn start_of(alloc: Global, c: &Celled, values: &[bool]) -> Result<Start, AllocError>
+    requires formed { AreFormed (program_of_cells c.now) (cells_of c.now) }
+    requires allowed { IsAllowed (cells_of c.now) (reading (program_of_cells c.now) (cells_of c.now) (valuation values.now)) }
+    requires unbroken { (a : ℕ) → IsBroken (program_of_cells c.now) (cells_of c.now) (reading (program_of_cells c.now) (cells_of c.now) (valuation values.now)) a → ⊥ }
+    requires walkable { IsWalkable (program_of_cells c.now) }
+    requires passive { IsPassive (program_of_cells c.now) (passive_of c.now.question.now.passive.now) }
+    requires runs { AreRuns c.now.question.now.passive.now.unrolled.now.known.items }
+    ensures { IfOk result (λ s. IsStartOf (program_of_cells c.now) (cells_of c.now) (valuation values.now) (written_of s)) }
+{
+    let bytes = memory_of(alloc, c, values)?;
+    let start = start_with(alloc, c, bytes, values)?;
+    Ok(start)
 }
