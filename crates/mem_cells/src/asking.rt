@@ -58,7 +58,7 @@ fn ask(
 }
 
 /// Says it of each read.
-fn ask_all(
+fn ask_reads(
     build: &mut Build,
     asked: &mut Vec<AskedByte>,
     file: &[FileByte],
@@ -83,7 +83,7 @@ fn ask_all(
 }
 
 /// Which of some bytes of the file the reads have. More reads than 32 bits number are want of memory.
-pub fn asked_of(
+pub fn ask_bytes(
     build: &mut Build,
     alloc: Global,
     file: &[FileByte],
@@ -98,7 +98,7 @@ pub fn asked_of(
     }
     let mut asked = Vec::new(alloc);
     for place in 0..file.len() {
-        ask_all(build, &mut asked, file, place, count as u32)?;
+        ask_reads(build, &mut asked, file, place, count as u32)?;
     }
     Ok(asked)
 }

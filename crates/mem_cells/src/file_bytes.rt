@@ -120,7 +120,7 @@ fn bytes_at(alloc: Global, known: &[Known], asked: &[u32]) -> Result<Vec<FileByt
 }
 
 /// The bytes of the file that are asked: no more than it has. The error is want of memory.
-pub fn file_bytes(
+pub fn asked_bytes(
     alloc: Global,
     known: &[Known],
     literals: &[u32],

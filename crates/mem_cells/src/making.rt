@@ -7,10 +7,10 @@ ghost use Rattle.walk_spec.specs.WalkQuestions.{AreTermsWithin, question_room};
 ghost use Rattle.question_form.specs.Questions.{program_of_question, term_of};
 ghost use Rattle.mem_cells.specs.Views.{AreCellsOf};
 
-use crate::asking::asked_of;
+use crate::asking::ask_bytes;
 use crate::building::Build;
 use crate::cells::Celled;
-use crate::file_bytes::file_bytes;
+use crate::file_bytes::asked_bytes;
 use crate::lowering::lower_all;
 use crate::ties::agreements;
 use question_form::Question;
@@ -44,8 +44,8 @@ pub fn cells_some<'a>(
     let root = lowered.word(question.root);
     let agrees = agreements(&mut build, alloc)?;
     let unrolled = question.passive.unrolled;
-    let file = file_bytes(alloc, &unrolled.known, &unrolled.literals, added)?;
-    let asked = asked_of(&mut build, alloc, &file)?;
+    let file = asked_bytes(alloc, &unrolled.known, &unrolled.literals, added)?;
+    let asked = ask_bytes(&mut build, alloc, &file)?;
     let Build { dag, addresses, .. } = build;
     Ok(Celled {
         question,

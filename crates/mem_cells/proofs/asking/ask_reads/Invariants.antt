@@ -1,7 +1,7 @@
 use Rattle.std.proofs.Common.{◌*◌, take, length}
 use Rattle.mem_cells.specs.Building.{Grown, IsWord, read_places}
 use Rattle.mem_cells.specs.Asked.{file_byte_at, AreAsked, AskedTo}
-use Rattle.mem_cells.proofs.asking.ask_all.Given as goal
+use Rattle.mem_cells.proofs.asking.ask_reads.Given as goal
 
 abbrev pub invariant-loop-read : goal.invariant-loop-read
 invariant-loop-read l = record {

@@ -4,7 +4,7 @@ use Rattle.mem_cells.specs.Asked.{file_byte_at, AreAsked, AskedTo}
 use Rattle.mem_cells.proofs.Growing.{grown_on, grown_more}
 use Rattle.mem_cells.proofs.Agreements.{same_reads}
 use Rattle.mem_cells.proofs.Asks.{asked_row, asked_all, word_kept}
-use Rattle.mem_cells.proofs.asking.ask_all.Goals as goal
+use Rattle.mem_cells.proofs.asking.ask_reads.Goals as goal
 
 pub loop-read-init : goal.loop-read-init
 loop-read-init c = record {

@@ -1,7 +1,7 @@
 use Rattle.std.proofs.Common.{◌*◌, take, length}
 use Rattle.mem_cells.specs.Building.{Grown, read_places}
 use Rattle.mem_cells.specs.Asked.{AreAsked, AskedOf}
-use Rattle.mem_cells.proofs.asking.asked_of.Given as goal
+use Rattle.mem_cells.proofs.asking.ask_bytes.Given as goal
 
 abbrev pub invariant-loop-place : goal.invariant-loop-place
 invariant-loop-place l = record {

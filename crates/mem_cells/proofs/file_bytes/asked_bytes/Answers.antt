@@ -3,7 +3,7 @@ use Rattle.std.specs.Prelude.{◌↔◌, Contains}
 use Rattle.walk_spec.specs.WalkQuestions.{is_asked}
 use Rattle.known_bytes.specs.Runs.{run_of}
 use Rattle.mem_cells.proofs.FileBytes.{file_same}
-use Rattle.mem_cells.proofs.file_bytes.file_bytes.Goals as goal
+use Rattle.mem_cells.proofs.file_bytes.asked_bytes.Goals as goal
 
 pub returns-clause-are : goal.returns-clause-are
 returns-clause-are c =
