@@ -171,14 +171,14 @@ module _ (u : Unrolled) (i : ℕ) (walkable : IsWalkable (unrolled_of u)) (forme
   pub asserts_read : (s : Sweep) (n : Names) → IsSweepOf u s → HaveSameForm s.entry n → (j : ℕ) → j < length (own_index u i) →
       IsReadable (form_of n) (slice_index_or (notes_of u.notes.now).asserts (slice_index_or (own_index u i) j (0, 0)).1 no_assert).says
   asserts_read s n k h j l =
-      let A = (notes_of u.notes.now).asserts in
-      let exit = assert_exit A (get_or (own_index u i) j (0, 0)) in
-      let among : Contains (map (assert_exit A) (own_index u i)) exit =
-      (j, (let m = length-map (own_index u i) (assert_exit A) in omega (arith, m, l)), get_or-map (assert_exit A) (own_index u i) j (0, 0) exit l) in
+      let asserts = (notes_of u.notes.now).asserts in
+      let exit = assert_exit asserts (get_or (own_index u i) j (0, 0)) in
+      let among : Contains (map (assert_exit asserts) (own_index u i)) exit =
+      (j, (let m = length-map (own_index u i) (assert_exit asserts) in omega (arith, m, l)), get_or-map (assert_exit asserts) (own_index u i) j (0, 0) exit l) in
       let c : Contains (point_at (unrolled_of u) i).exits exit =
       subst (λ (q : UnrolledPoint). Contains q.exits exit) (sym (placed_is u i within))
-      (Contains-append_left (map (assert_exit A) (own_index u i)) (row_exits (own_code u i).fetchable (own_code u i).list (own_edges u i)) exit among) in
-      reads_for (unrolled_of u) s.entry n k.form h (slice_index_or A (slice_index_or (own_index u i) j (0, 0)).1 no_assert).says (walkable.asserts i exit there c)
+      (Contains-append_left (map (assert_exit asserts) (own_index u i)) (row_exits (own_code u i).fetchable (own_code u i).list (own_edges u i)) exit among) in
+      reads_for (unrolled_of u) s.entry n k.form h (slice_index_or asserts (slice_index_or (own_index u i) j (0, 0)).1 no_assert).says (walkable.asserts i exit there c)
 
 -- the ensure lines can be read
 pub ensures_read : (u : Unrolled) (s : Sweep) (n : Names) → IsWalkable (unrolled_of u) → IsSweepOf u s → HaveSameForm s.entry n → (j : ℕ) → j < length u.notes.now.ensured.items →

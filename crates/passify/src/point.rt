@@ -111,43 +111,41 @@ fn row(
     ensures { IfOk result (λ t. IsRowTried unrolled.now place names.now dag.old dag.new sweep.old sweep.new rest.0 t.0) }
 {
     let code = &unrolled.codes[unrolled.points[place as usize].code as usize];
-    match &code.list {
-        None => Ok(rest),
-        Some(list) => {
-            let left = run_list(alloc, dag, list, names, place)?;
-            let wrote = writes_kept(dag, &left.stored, unrolled.kept)?;
-            let next = next_address(dag, code.at, left.jumped, left.target)?;
-            let odd = unaligned(dag, next)?;
-            let leaves = Leaves {
-                raised: left.raised,
-                wrote,
-                odd,
-            };
-            let gone = Gone {
-                jumped: left.jumped,
-                next: Now {
-                    names: &left.names,
-                    pc: next,
-                },
-            };
-            let link = entry_link(&sweep.entry, unrolled.link);
-            let list = edges_at(unrolled, place as usize);
-            let lines = &unrolled.notes.ensured;
-            let last = leave(
-                alloc,
-                dag,
-                sweep,
-                list,
-                lines,
-                &leaves,
-                &gone,
-                link,
-                rest,
-                unrolled.big,
-            )?;
-            Ok(last)
-        }
-    }
+    let Some(list) = &code.list else {
+        return Ok(rest);
+    };
+    let left = run_list(alloc, dag, list, names, place)?;
+    let wrote = writes_kept(dag, &left.stored, unrolled.kept)?;
+    let next = next_address(dag, code.at, left.jumped, left.target)?;
+    let odd = unaligned(dag, next)?;
+    let leaves = Leaves {
+        raised: left.raised,
+        wrote,
+        odd,
+    };
+    let gone = Gone {
+        jumped: left.jumped,
+        next: Now {
+            names: &left.names,
+            pc: next,
+        },
+    };
+    let link = entry_link(&sweep.entry, unrolled.link);
+    let list = edges_at(unrolled, place as usize);
+    let lines = &unrolled.notes.ensured;
+    let last = leave(
+        alloc,
+        dag,
+        sweep,
+        list,
+        lines,
+        &leaves,
+        &gone,
+        link,
+        rest,
+        unrolled.big,
+    )?;
+    Ok(last)
 }
 
 /// The point of a place is handled, to which terms carry a state where it is met: its list, the exits that it may take, and where those lead.

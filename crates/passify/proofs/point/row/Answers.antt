@@ -33,15 +33,15 @@ run_list-requires-clause-runs c =
 
 pub writes_kept-requires-clause-stores : goal.writes_kept-requires-clause-stores
 writes_kept-requires-clause-stores c =
-    subst (λ (z : List Stored). (t : Stored) → Contains z t → IsStore c.run_list.new.dag t) (sym c.deref-in-Some.ensures.value) c.in_ok-left-in-Some.ensures.stores
+    subst (λ (z : List Stored). (t : Stored) → Contains z t → IsStore c.run_list.new.dag t) (sym c.deref-2.ensures.value) c.in_ok-left.ensures.stores
 
 pub leave-requires-clause-well : goal.leave-requires-clause-well
 leave-requires-clause-well c =
     let s = c.args.sweep.now in
-    let a = c.in_ok-left-in-Some.ensures in
-    let b = c.in_ok-wrote-in-Some.ensures in
-    let d = c.in_ok-next-in-Some.ensures in
-    let e = c.in_ok-odd-in-Some.ensures in
+    let a = c.in_ok-left.ensures in
+    let b = c.in_ok-wrote.ensures in
+    let d = c.in_ok-next.ensures in
+    let e = c.in_ok-odd.ensures in
     well_keeps e.grew s e.typed (well_keeps d.grew s d.typed (well_keeps b.grew s b.typed (well_keeps a.grew s a.typed c.requires.well)))
 
 pub leave-requires-clause-places : goal.leave-requires-clause-places
@@ -54,50 +54,50 @@ leave-requires-clause-places c =
 
 pub leave-requires-clause-reads : goal.leave-requires-clause-reads
 leave-requires-clause-reads c =
-    let n = c.in_ok-left-in-Some.left.names in
-    subst (λ (z : List NoteLine). (i : ℕ) → i < length z → IsReadable (form_of n) (slice_index_or (map note_line_of z) i no_line).says) (sym c.deref-in-Some-2.ensures.value)
+    let n = c.in_ok-left.left.names in
+    subst (λ (z : List NoteLine). (i : ℕ) → i < length z → IsReadable (form_of n) (slice_index_or (map note_line_of z) i no_line).says) (sym c.deref-3.ensures.value)
     (ensures_read c.args.unrolled.now c.args.sweep.now n c.requires.walkable c.requires.sweep (form_on c.args.sweep.now.entry c.args.names.now n c.requires.names.same
-    c.in_ok-left-in-Some.ensures.form))
+    c.in_ok-left.ensures.form))
 
 pub leave-requires-clause-next : goal.leave-requires-clause-next
 leave-requires-clause-next c =
-    let n = c.in_ok-left-in-Some.left.names in
+    let n = c.in_ok-left.left.names in
     record {
-      same = form_on c.args.sweep.now.entry c.args.names.now n c.requires.names.same c.in_ok-left-in-Some.ensures.form;
-      names = names_keep c.in_ok-odd-in-Some.ensures.grew n (names_keep c.in_ok-next-in-Some.ensures.grew n (names_keep c.in_ok-wrote-in-Some.ensures.grew n
-          c.in_ok-left-in-Some.ensures.names));
+      same = form_on c.args.sweep.now.entry c.args.names.now n c.requires.names.same c.in_ok-left.ensures.form;
+      names = names_keep c.in_ok-odd.ensures.grew n (names_keep c.in_ok-next.ensures.grew n (names_keep c.in_ok-wrote.ensures.grew n
+          c.in_ok-left.ensures.names));
     }
 
 pub leave-requires-clause-link : goal.leave-requires-clause-link
 leave-requires-clause-link c =
     let s = c.args.sweep.now in
-    let a = c.in_ok-left-in-Some.ensures in
-    let b = c.in_ok-wrote-in-Some.ensures in
-    let d = c.in_ok-next-in-Some.ensures in
-    let e = c.in_ok-odd-in-Some.ensures in
+    let a = c.in_ok-left.ensures in
+    let b = c.in_ok-wrote.ensures in
+    let d = c.in_ok-next.ensures in
+    let e = c.in_ok-odd.ensures in
     subst (λ (t : ℕ). HasWidth c.unaligned.new.dag 32 t) (sym c.entry_link-link.ensures)
     (link_width c.unaligned.new.dag s (well_keeps e.grew s e.typed (well_keeps d.grew s d.typed (well_keeps b.grew s b.typed (well_keeps a.grew s a.typed c.requires.well))))
     c.args.unrolled.now.link
     (link_for c.args.unrolled.now s c.requires.walkable c.requires.sweep))
 
-pub returns-in-None : goal.returns-in-None
-returns-in-None c =
+pub returns-in_default : goal.returns-in_default
+returns-in_default c =
     let u = c.args.unrolled.now in
     let own = own_is u c.args.place c.index.result.now c.index-code.result.now c.requires.formed c.requires.place c.index.ensures c.index-code.ensures in
-    let none : (own_code u c.args.place).list ≡ None = ap (λ (k : Code). k.list) (sym own) ∙ c.in-None.is in
+    let none : (own_code u c.args.place).list ≡ None = ap (λ (k : Code). k.list) (sym own) ∙ c.in_default.is in
     row_none u c.args.place c.args.names.now c.args.dag.now c.args.sweep.now c.args.rest.0 c.requires.well c.requires.rest none
     (none_paid u c.args.place (none_priced u c.args.place none (point_terms u c.args.place c.requires.walkable c.requires.formed c.requires.place)))
 
-pub returns-in_ok-last-in-Some : goal.returns-in_ok-last-in-Some
-returns-in_ok-last-in-Some c =
+pub returns : goal.returns
+returns c =
     let u = c.args.unrolled.now in
     let own = own_is u c.args.place c.index.result.now c.index-code.result.now c.requires.formed c.requires.place c.index.ensures c.index-code.ensures in
     let code : (own_code u c.args.place).list ≡ Some c.in-Some.list = ap (λ (k : Code). k.list) (sym own) ∙ c.in-Some.is in
     row_from u c.args.place c.args.names.now c.args.dag.now c.run_list.new.dag c.writes_kept.new.dag c.next_address.new.dag c.unaligned.new.dag c.leave.new.dag c.args.sweep.now
     c.leave.new.sweep c.args.rest.0
-    c.in_ok-last-in-Some.last.0 c.in-Some.list c.deref.result.now c.in_ok-left-in-Some.left c.deref-in-Some.result.now c.in_ok-wrote-in-Some.wrote.0 c.in_ok-odd-in-Some.odd.0 _
-    c.in_ok-next-in-Some.next.0
-    c.entry_link-link.result.0 (map note_line_of c.deref-in-Some-2.result.now) c.edges_at-list.result.now
+    c.in_ok-last.last.0 c.in-Some.list c.deref.result.now c.in_ok-left.left c.deref-2.result.now c.in_ok-wrote.wrote.0 c.in_ok-odd.odd.0 _
+    c.in_ok-next.next.0
+    c.entry_link-link.result.0 (map note_line_of c.deref-3.result.now) c.edges_at-list.result.now
     (record {
       walkable = c.requires.walkable;
       formed = c.requires.formed;
@@ -108,15 +108,15 @@ returns-in_ok-last-in-Some c =
       rest_bit = c.requires.rest;
       code = code;
       items_are = c.deref.ensures.value;
-      stored_are = c.deref-in-Some.ensures.value;
-      lines_are = ap (λ (z : List NoteLine). map note_line_of z) c.deref-in-Some-2.ensures.value;
+      stored_are = c.deref-2.ensures.value;
+      lines_are = ap (λ (z : List NoteLine). map note_line_of z) c.deref-3.ensures.value;
       edges_are = c.edges_at-list.ensures;
-      left = c.in_ok-left-in-Some.ensures;
-      kept = c.in_ok-wrote-in-Some.ensures;
-      gone = gone_at u c.args.place c.writes_kept.new.dag c.next_address.new.dag c.in_ok-next-in-Some.next.0 c.in_ok-left-in-Some.left.jumped.0 c.in_ok-left-in-Some.left.target.0
-          c.index-code.result.now own c.in_ok-next-in-Some.ensures;
-      off = c.in_ok-odd-in-Some.ensures;
-      leaving = c.in_ok-last-in-Some.ensures;
+      left = c.in_ok-left.ensures;
+      kept = c.in_ok-wrote.ensures;
+      gone = gone_at u c.args.place c.writes_kept.new.dag c.next_address.new.dag c.in_ok-next.next.0 c.in_ok-left.left.jumped.0 c.in_ok-left.left.target.0
+          c.index-code.result.now own c.in_ok-next.ensures;
+      off = c.in_ok-odd.ensures;
+      leaving = c.in_ok-last.ensures;
       next_names = refl;
       next_pc = refl;
       link_is = c.entry_link-link.ensures;
