@@ -92,9 +92,12 @@ first_held u r = refl
 nothing_named : (u : UnrolledProgram) → AreNamedBelow u 0 []
 nothing_named u m c = let l = c.1 in absurd (omega arith)
 
-module _ (u : Unrolled) (a b c new : List TermNode) (low regs flags others : ℕ) (entry names : Names) (pc yes never : Term) (met : Vec Term) (states : Vec (Option Names)) (pr : (unrolled_of u).registers ≡ from_to low regs)
-    (pf : (unrolled_of u).flags ≡ flags) (start : AreEntryNames [] a low regs flags entry) (at : IsInterned a b (ConstantNode 32 u.entry) pc.0) (one : Makes b c 0 1 1 yes.0 (λ x. Tells c x yes.0 true))
-    (zero_bit : Makes c new 0 1 1 never.0 (λ x. Tells new x never.0 false)) (same : HaveSameTerms entry names) (places : others + 1 ≡ length u.points.items) (mets : met.items ≡ row yes never others)
+module _ (u : Unrolled) (a b c new : List TermNode) (low regs flags others : ℕ) (entry names : Names) (pc yes never : Term) (met : Vec Term) (states : Vec (Option Names))
+    (pr : (unrolled_of u).registers ≡ from_to low regs)
+    (pf : (unrolled_of u).flags ≡ flags) (start : AreEntryNames [] a low regs flags entry) (at : IsInterned a b (ConstantNode 32 u.entry) pc.0)
+    (one : Makes b c 0 1 1 yes.0 (λ x. Tells c x yes.0 true))
+    (zero_bit : Makes c new 0 1 1 never.0 (λ x. Tells new x never.0 false)) (same : HaveSameTerms entry names) (places : others + 1 ≡ length u.points.items)
+    (mets : met.items ≡ row yes never others)
     (carried : states.items ≡ row (Some names) None others) where
   abbrev kept : Sweep
   kept = record { entry = entry; at = u.entry; pc = pc; met = met; states = states; fails = never; turns = never }
@@ -170,7 +173,8 @@ module _ (u : Unrolled) (a b c new : List TermNode) (low regs flags others : ℕ
     bit_tells : (i : ℕ) → i < length met.items → Tells new x (term_at met.items i) (i == 0)
     bit_tells zero l = subst (λ (q : ℕ). Tells new x q true) (sym first_bit) yes_tells
     bit_tells (suc i) l =
-        subst (λ (q : Bool). Tells new x (term_at met.items (suc i)) q) (sym (later_not i)) (subst (λ (q : ℕ). Tells new x q false) (sym (later_bit i (omega (arith, l, count)))) (zero_bit.holds x range))
+        subst (λ (q : Bool). Tells new x (term_at met.items (suc i)) q) (sym (later_not i))
+        (subst (λ (q : ℕ). Tells new x q false) (sym (later_bit i (omega (arith, l, count)))) (zero_bit.holds x range))
 
     state_is : (i : ℕ) → (i == 0) ≡ true → AreCarried new x (slice_get states.items i) (carried_of r.state)
     state_is zero e = record {

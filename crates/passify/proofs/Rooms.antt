@@ -58,7 +58,8 @@ module _ (u : UnrolledProgram) where
   nodes_sum (q ∷ ps) =
       let a = sum_by-cons (point_nodes u) q ps in
       let b = sum_by-cons (λ (p : UnrolledPoint). action_size p.does) q ps in
-      let c = ap (λ z. variables_of u * z) (sum_by-cons (λ (p : UnrolledPoint). sum_by is_edge p.exits) q ps) ∙ product_back (sum_by is_edge q.exits) (sum_by (λ p. sum_by is_edge p.exits) ps) (variables_of u) in
+      let c = ap (λ z. variables_of u * z) (sum_by-cons (λ (p : UnrolledPoint). sum_by is_edge p.exits) q ps)
+      ∙ product_back (sum_by is_edge q.exits) (sum_by (λ p. sum_by is_edge p.exits) ps) (variables_of u) in
       let d = lines_sum (λ e. line_size e + 4) q ps in
       let e = ap (λ z. z * length u.kept) (sum_by-cons (λ (p : UnrolledPoint). p.stores) q ps) ∙ product_on q.stores (sum_by (λ p. p.stores) ps) (length u.kept) in
       omega (arith, nodes_sum ps, a, b, c, d, e)

@@ -56,7 +56,8 @@ named_all u (StoreNode n e k a v) h = tt
 named_all u (JoinNode c a b) h = tt
 
 -- inputs that were there, or are the program's
-pub named_on : (u : UnrolledProgram) (old new : List TermNode) (more : TermNode → Type 0) → ((m : TermNode) → IsInput m → more m → IsNamedBelow u 0 m) → InputsFrom old new more → AreNamedBelow u 0 old → AreNamedBelow u 0 new
+pub named_on : (u : UnrolledProgram) (old new : List TermNode) (more : TermNode → Type 0) → ((m : TermNode) → IsInput m → more m → IsNamedBelow u 0 m) → InputsFrom old new more →
+    AreNamedBelow u 0 old → AreNamedBelow u 0 new
 named_on u old new more f k h m c = named_all u m (λ i. elim (k m c i) [ inl a ↦ h m a | inr b ↦ f m i b ])
 
 none_kept : {X : Type 0} → (xs : List (Option X)) (j i : ℕ) (m : X) → slice_get (set xs j None) i ≡ Some (Some m) → slice_get xs i ≡ Some (Some m)
@@ -166,7 +167,8 @@ module _ (u : Unrolled) (t : ℕ) (old : List TermNode) (s : Sweep) (a : AreSwep
       no n e = cc
 
   -- nor is one whose bit is 0
-  pub zero_met : (met : Term) → met ≡ get_or s.met.items t met → ((x : TermReading) → term_word x old met.0 ≡ 0) → UnderAll (unrolled_of u) (λ r. (held (unrolled_of u) r t).met t ≡ false)
+  pub zero_met : (met : Term) → met ≡ get_or s.met.items t met → ((x : TermReading) → term_word x old met.0 ≡ 0) →
+      UnderAll (unrolled_of u) (λ r. (held (unrolled_of u) r t).met t ≡ false)
   zero_met met at none r k p =
       let x = term_reading (unrolled_of u) r in
       let is : met.0 ≡ term_at s.met.items t = ap (λ q. q.0) (at ∙ other_default s.met.items t met (record { 0 = 0 }) place) in
@@ -191,7 +193,8 @@ module _ (u : Unrolled) (t : ℕ) (old : List TermNode) (s : Sweep) (a : AreSwep
   }
 
 -- when all places are handled
-pub swept_passive : (u : Unrolled) (t : ℕ) (p : Passive) (s : Sweep) → p.unrolled.now ≡ u → p.met.items ≡ s.met.items → p.fails ≡ s.fails → p.turns ≡ s.turns → length u.points.items ≤ t → t ≤ length u.points.items →
+pub swept_passive : (u : Unrolled) (t : ℕ) (p : Passive) (s : Sweep) → p.unrolled.now ≡ u → p.met.items ≡ s.met.items → p.fails ≡ s.fails → p.turns ≡ s.turns →
+    length u.points.items ≤ t → t ≤ length u.points.items →
     AreSwept u t p.dag s → IsPassiveOf u p
 swept_passive u t p s of met fails turns above below a = record {
   of = of;
@@ -209,9 +212,12 @@ swept_passive u t p s of met fails turns above below a = record {
     bits = λ i l. subst (HasWidth p.dag 1) (sym (at i (within i l))) (a.well.bits i (within i l));
     fails_bit = subst (λ (q : Term). HasWidth p.dag 1 q.0) (sym fails) a.well.fails;
     turns_bit = subst (λ (q : Term). HasWidth p.dag 1 q.0) (sym turns) a.well.turns;
-    mets = λ r k e i l. subst (λ (q : ℕ). Tells p.dag (term_reading (unrolled_of u) r) q ((held (unrolled_of u) r (length (unrolled_of u).points)).met i)) (sym (at i (within i l))) ((shown r k e).mets i (within i l));
-    failing = λ r k e. subst (λ (q : Term). Tells p.dag (term_reading (unrolled_of u) r) q.0 (held (unrolled_of u) r (length (unrolled_of u).points)).fails) (sym fails) (shown r k e).failing;
-    turning = λ r k e. subst (λ (q : Term). Tells p.dag (term_reading (unrolled_of u) r) q.0 (held (unrolled_of u) r (length (unrolled_of u).points)).turns) (sym turns) (shown r k e).turning;
+    mets = λ r k e i l. subst (λ (q : ℕ). Tells p.dag (term_reading (unrolled_of u) r) q ((held (unrolled_of u) r (length (unrolled_of u).points)).met i)) (sym (at i (within i l)))
+        ((shown r k e).mets i (within i l));
+    failing = λ r k e. subst (λ (q : Term). Tells p.dag (term_reading (unrolled_of u) r) q.0 (held (unrolled_of u) r (length (unrolled_of u).points)).fails) (sym fails)
+        (shown r k e).failing;
+    turning = λ r k e. subst (λ (q : Term). Tells p.dag (term_reading (unrolled_of u) r) q.0 (held (unrolled_of u) r (length (unrolled_of u).points)).turns) (sym turns)
+        (shown r k e).turning;
   };
 }
   where

@@ -38,7 +38,8 @@ more_lie : (low high a n : ℕ) → a < 2 ^ 32 → low ≤ high → high < 2 ^ 3
 more_lie low high a n la lh hh ln = grind (arith, nat_tests)
 
 -- some of the bytes from an address on lie in a run where the address is no further from the run's beginning than they reach
-reach_by : (low high a n : ℕ) → a < 2 ^ 32 → low ≤ high → high < 2 ^ 32 → n < 2 ^ 32 → list_any (lies low high) (span a (suc n)) ≡ nat_le ((a + (2 ^ 32 + n - low)) % 2 ^ 32) (high - low + n)
+reach_by : (low high a n : ℕ) → a < 2 ^ 32 → low ≤ high → high < 2 ^ 32 → n < 2 ^ 32 →
+    list_any (lies low high) (span a (suc n)) ≡ nat_le ((a + (2 ^ 32 + n - low)) % 2 ^ 32) (high - low + n)
 reach_by low high a zero la lh hh ln = one_lies low high a la lh hh
 reach_by low high a (suc n) la lh hh ln =
     ap (λ (q : Bool). lies low high a || q) (reach_by low high (add 32 a 1) n (omega arith) lh hh (omega arith)) ∙ more_lie low high a n la lh hh (omega arith)
@@ -53,15 +54,18 @@ lie_by low high a n before start reach la lh hh ln en es er =
     ap (λ (k : ℕ). list_any (lies low high) (span a k)) en ∙ reach_by low high a before la lh hh (omega (arith, en, ln))
     ∙ ap (λ (k : ℕ). nat_le k (high - low + before)) (start_by low a before start la (omega (arith, lh, hh)) (omega (arith, en, ln)) es) ∙ ap (nat_le (sub 32 a start)) (sym er)
 
-all_lie : (low high a n before : ℕ) → a < 2 ^ 32 → low ≤ high → high < 2 ^ 32 → n < 2 ^ 32 → n ≡ suc before → 2 ^ 32 - 1 ≤ high - low + before → list_any (lies low high) (span a n) ≡ true
+all_lie : (low high a n before : ℕ) → a < 2 ^ 32 → low ≤ high → high < 2 ^ 32 → n < 2 ^ 32 → n ≡ suc before → 2 ^ 32 - 1 ≤ high - low + before →
+    list_any (lies low high) (span a n) ≡ true
 all_lie low high a n before la lh hh ln en far =
-    ap (λ (k : ℕ). list_any (lies low high) (span a k)) en ∙ reach_by low high a before la lh hh (omega (arith, en, ln)) ∙ below ((a + (2 ^ 32 + before - low)) % 2 ^ 32) (high - low + before) (omega arith) far
+    ap (λ (k : ℕ). list_any (lies low high) (span a k)) en ∙ reach_by low high a before la lh hh (omega (arith, en, ln))
+    ∙ below ((a + (2 ^ 32 + before - low)) % 2 ^ 32) (high - low + before) (omega arith) far
   where
     below : (d r : ℕ) → d < 2 ^ 32 → 2 ^ 32 - 1 ≤ r → nat_le d r ≡ true
     below d r ld lr = grind (arith, nat_tests)
 
 -- one store against one run
-pub touches_far : (ns : List TermNode) (s : Stored) (low high before : ℕ) → AreTyped ns → IsStore ns s → low ≤ high → high < 2 ^ 32 → s.bytes ≡ suc before → 2 ^ 32 - 1 ≤ high - low + before →
+pub touches_far : (ns : List TermNode) (s : Stored) (low high before : ℕ) → AreTyped ns → IsStore ns s → low ≤ high → high < 2 ^ 32 → s.bytes ≡ suc before →
+    2 ^ 32 - 1 ≤ high - low + before →
     Makes ns ns 97 8 1 s.guard.0 (λ x. (g : Bool) → Tells ns x s.guard.0 g → Tells ns x s.guard.0 (g && list_any (lies low high) (span (term_word x ns s.address.0) s.bytes)))
 touches_far ns s low high before typed store lh hh en far = record {
   grew = grew_more ns ns 0 0 0 0 0 97 0 0 0 8 (omega arith) (omega arith) (omega arith) (omega arith) (omega arith) (grew_none ns);
@@ -69,14 +73,16 @@ touches_far ns s low high before typed store lh hh en far = record {
   typed = typed;
   width = store.guard;
   holds = λ x r g h.
-      h ∙ ap bit (and_true g ∙ ap (λ q. g && q) (sym (all_lie low high (term_word x ns s.address.0) s.bytes before (word_fits x ns 32 s.address.0 r typed store.address) lh hh (omega (arith, store.few)) en far)));
+      h ∙ ap bit (and_true g ∙ ap (λ q. g && q) (sym (all_lie low high (term_word x ns s.address.0) s.bytes before (word_fits x ns 32 s.address.0 r typed store.address) lh hh
+      (omega (arith, store.few)) en far)));
 }
   where
     and_true : (g : Bool) → g ≡ (g && true)
     and_true true = refl
     and_true false = refl
 
-pub touches_near : (a b c d e new : List TermNode) (s : Stored) (low high before first reach start distance end near t : ℕ) → AreTyped a → IsStore a s → low ≤ high → high < 2 ^ 32 → s.bytes ≡ suc before →
+pub touches_near : (a b c d e new : List TermNode) (s : Stored) (low high before first reach start distance end near t : ℕ) → AreTyped a → IsStore a s → low ≤ high →
+    high < 2 ^ 32 → s.bytes ≡ suc before →
     first ≡ sub 32 low before → reach ≡ high - low + before → IsInterned a b (ConstantNode 32 first) start → IsMade b c (BinaryNode Minus 32 s.address.0 start) distance →
     IsInterned c d (ConstantNode 32 reach) end → IsMade d e (BinaryNode LessEqual 32 distance end) near → Makes e new 1 2 1 t (TellsByBoth (λ p q. p && q) e new s.guard.0 near t) →
     Makes a new 97 8 1 t (λ x. (g : Bool) → Tells a x s.guard.0 g → Tells new x t (g && list_any (lies low high) (span (term_word x a s.address.0) s.bytes)))
@@ -93,7 +99,8 @@ touches_near a b c d e new s low high before first reach start distance end near
       inputs = inputs_on a e new (λ m. ⊥)
           (inputs_on a d e (λ m. ⊥)
           (inputs_on a c d (λ m. ⊥)
-          (inputs_on a b c (λ m. ⊥) (interned_inputs a b (ConstantNode 32 first) start (λ m. ⊥) m1 (λ i. i)) (made_inputs b c (BinaryNode Minus 32 s.address.0 start) distance (λ m. ⊥) m2 (λ i. i)))
+          (inputs_on a b c (λ m. ⊥) (interned_inputs a b (ConstantNode 32 first) start (λ m. ⊥) m1 (λ i. i))
+          (made_inputs b c (BinaryNode Minus 32 s.address.0 start) distance (λ m. ⊥) m2 (λ i. i)))
           (interned_inputs c d (ConstantNode 32 reach) end (λ m. ⊥) m3 (λ i. i)))
           (made_inputs d e (BinaryNode LessEqual 32 distance end) near (λ m. ⊥) m4 (λ i. i)))
           m5.inputs;
@@ -110,7 +117,8 @@ touches_near a b c d e new s low high before first reach start distance end near
           let e6 : Tells e x near (nat_le (sub 32 address first) reach) =
           ap (λ v. v.word) (m4.value x r) ∙ ap (λ (z : ℕ). bit (nat_le z (term_word x d end))) e4 ∙ ap (λ (z : ℕ). bit (nat_le (sub 32 address first) z)) e5 in
           m5.holds x r g (nat_le (sub 32 address first) reach) (tells_keep g14 x s.guard.0 g store.guard.0 h) e6
-          ∙ ap (λ (q : Bool). bit (g && q)) (sym (lie_by low high address s.bytes before first reach (word_fits x a 32 s.address.0 r typed store.address) lh hh (omega (arith, store.few)) en ef er));
+          ∙ ap (λ (q : Bool). bit (g && q)) (sym (lie_by low high address s.bytes before first reach (word_fits x a 32 s.address.0 r typed store.address) lh hh
+          (omega (arith, store.few)) en ef er));
     }
 
 -- what is stored stays so
@@ -173,7 +181,8 @@ touches_none ns s before typed w = record {
     nothing false false = refl
 
 -- one run more
-touches_next : (old cur mid new : List TermNode) (s : Stored) (runs : List AddressRun) (k : AddressRun) (i before left hit t : ℕ) → IsStore old s → Makes old cur (98 * i) (10 * i) 1 left (Touches old cur s runs before left) →
+touches_next : (old cur mid new : List TermNode) (s : Stored) (runs : List AddressRun) (k : AddressRun) (i before left hit t : ℕ) → IsStore old s →
+    Makes old cur (98 * i) (10 * i) 1 left (Touches old cur s runs before left) →
     Makes cur mid 97 8 1 hit (λ x. (g : Bool) → Tells cur x s.guard.0 g → Tells mid x hit (g && list_any (lies k.low k.high) (span (term_word x cur s.address.0) s.bytes))) →
     Makes mid new 1 2 1 t (TellsByBoth (λ p q. p || q) mid new left hit t) → Makes old new (98 * (i + 1)) (10 * (i + 1)) 1 t (Touches old new s (runs ++ k ∷ []) before t)
 touches_next old cur mid new s runs k i before left hit t store m1 m2 m3 =
@@ -188,7 +197,8 @@ touches_next old cur mid new s runs k i before left hit t store m1 m2 m3 =
           let a : ℕ = term_word x old s.address.0 in
           let bytes : List ℕ = span a s.bytes in
           let same : term_word x cur s.address.0 ≡ a = word_keeps m1.grew x s.address.0 store.address.0 in
-          let first : Tells mid x left (p || (g && list_any (is_in runs) bytes)) = tells_keep m2.grew x left (p || (g && list_any (is_in runs) bytes)) m1.width.0 (m1.holds x r p g hp hg) in
+          let first : Tells mid x left (p || (g && list_any (is_in runs) bytes)) = tells_keep m2.grew x left (p || (g && list_any (is_in runs) bytes)) m1.width.0
+          (m1.holds x r p g hp hg) in
           let second : Tells mid x hit (g && list_any (lies k.low k.high) bytes) =
           m2.holds x r g (tells_keep m1.grew x s.guard.0 g store.guard.0 hg) ∙ ap (λ (z : ℕ). bit (g && list_any (lies k.low k.high) (span z s.bytes))) same in
           m3.holds x r (p || (g && list_any (is_in runs) bytes)) (g && list_any (lies k.low k.high) bytes) first second
@@ -196,19 +206,23 @@ touches_next old cur mid new s runs k i before left hit t store m1 m2 m3 =
           ∙ ap (λ (q : Bool). p || (g && q)) (sym (any_both (is_in (runs ++ k ∷ [])) (is_in runs) (lies k.low k.high) bytes (is_in_more runs k))));
     }
 
-pub touches_more : (old cur mid new : List TermNode) (s : Stored) (kept : List (ℕ × ℕ)) (i : ℕ) (k : ℕ × ℕ) (before left hit t : ℕ) → i < length kept → k ≡ get_or kept i k → IsStore old s →
+pub touches_more : (old cur mid new : List TermNode) (s : Stored) (kept : List (ℕ × ℕ)) (i : ℕ) (k : ℕ × ℕ) (before left hit t : ℕ) → i < length kept → k ≡ get_or kept i k →
+    IsStore old s →
     Makes old cur (98 * i) (10 * i) 1 left (Touches old cur s (map kept_of (take i kept)) before left) →
     Makes cur mid 97 8 1 hit (λ x. (g : Bool) → Tells cur x s.guard.0 g → Tells mid x hit (g && list_any (lies k.0 k.1) (span (term_word x cur s.address.0) s.bytes))) →
-    Makes mid new 1 2 1 t (TellsByBoth (λ p q. p || q) mid new left hit t) → Makes old new (98 * (i + 1)) (10 * (i + 1)) 1 t (Touches old new s (map kept_of (take (i + 1) kept)) before t)
+    Makes mid new 1 2 1 t (TellsByBoth (λ p q. p || q) mid new left hit t) → Makes old new (98 * (i + 1)) (10 * (i + 1)) 1 t
+    (Touches old new s (map kept_of (take (i + 1) kept)) before t)
 touches_more old cur mid new s kept i k before left hit t within at store m1 m2 m3 =
     let next : map kept_of (take (i + 1) kept) ≡ map kept_of (take i kept) ++ kept_of k ∷ [] =
-    ap (λ (z : List (ℕ × ℕ)). map kept_of z) (take_more kept i k within) ∙ map-append kept_of (take i kept) (get_or kept i k ∷ []) ∙ ap (λ (z : ℕ × ℕ). map kept_of (take i kept) ++ kept_of z ∷ []) (sym at) in
+    ap (λ (z : List (ℕ × ℕ)). map kept_of z) (take_more kept i k within) ∙ map-append kept_of (take i kept) (get_or kept i k ∷ [])
+    ∙ ap (λ (z : ℕ × ℕ). map kept_of (take i kept) ++ kept_of z ∷ []) (sym at) in
     subst (λ (z : List AddressRun). Makes old new (98 * (i + 1)) (10 * (i + 1)) 1 t (Touches old new s z before t)) (sym next)
     (touches_next old cur mid new s (map kept_of (take i kept)) (kept_of k) i before left hit t store m1 m2 m3)
 
 -- all runs
 pub touches_all : (old new : List TermNode) (s : Stored) (kept : List (ℕ × ℕ)) (i before t : ℕ) → length kept ≤ i → i ≤ length kept →
-    Makes old new (98 * i) (10 * i) 1 t (Touches old new s (map kept_of (take i kept)) before t) → Makes old new (98 * length kept) (10 * length kept) 1 t (Touches old new s (map kept_of kept) before t)
+    Makes old new (98 * i) (10 * i) 1 t (Touches old new s (map kept_of (take i kept)) before t) →
+    Makes old new (98 * length kept) (10 * length kept) 1 t (Touches old new s (map kept_of kept) before t)
 touches_all old new s kept i before t above below m =
     subst (λ (z : List (ℕ × ℕ)). Makes old new (98 * length kept) (10 * length kept) 1 t (Touches old new s (map kept_of z) before t)) (take-length kept)
     (subst (λ (n : ℕ). Makes old new (98 * n) (10 * n) 1 t (Touches old new s (map kept_of (take n kept)) before t)) (let e : i ≡ length kept = omega (arith, above, below) in e) m)
@@ -236,14 +250,16 @@ writes_none old new t runs m = record {
 }
 
 -- one store more
-pub writes_more : (old cur new : List TermNode) (stored : List Stored) (runs : List AddressRun) (i : ℕ) (s : Stored) (left t : ℕ) → i < length stored → s ≡ get_or stored i s → IsStore old s → AreTyped old →
+pub writes_more : (old cur new : List TermNode) (stored : List Stored) (runs : List AddressRun) (i : ℕ) (s : Stored) (left t : ℕ) → i < length stored → s ≡ get_or stored i s →
+    IsStore old s → AreTyped old →
     Makes old cur (98 * (i * length runs)) (1 + 10 * (i * length runs)) 1 left (λ x. Tells cur x left (list_any (keeps_hit old x runs) (take i stored))) →
     Makes cur new (98 * length runs) (10 * length runs) 1 t (Touches cur new s runs left t) →
     Makes old new (98 * ((i + 1) * length runs)) (1 + 10 * ((i + 1) * length runs)) 1 t (λ x. Tells new x t (list_any (keeps_hit old x runs) (take (i + 1) stored)))
 writes_more old cur new stored runs i s left t within at store typed m1 m2 =
     let k : (i + 1) * length runs ≡ i * length runs + length runs = more i (length runs) in
     record {
-      grew = grew_more old new (98 * (i * length runs) + 98 * length runs) 0 0 0 (1 + 10 * (i * length runs) + 10 * length runs) (98 * ((i + 1) * length runs)) 0 0 0 (1 + 10 * ((i + 1) * length runs))
+      grew = grew_more old new (98 * (i * length runs) + 98 * length runs) 0 0 0 (1 + 10 * (i * length runs) + 10 * length runs) (98 * ((i + 1) * length runs)) 0 0 0
+          (1 + 10 * ((i + 1) * length runs))
           (omega (arith, k)) (omega arith) (omega arith) (omega arith) (omega (arith, k))
           (grew_on old cur new (98 * (i * length runs)) 0 0 0 (1 + 10 * (i * length runs)) (98 * length runs) 0 0 0 (10 * length runs) m1.grew m2.grew);
       inputs = inputs_on old cur new (λ m. ⊥) m1.inputs m2.inputs;
@@ -313,7 +329,8 @@ kept_stored ns x stored runs bytes same = same_truth (list_any (keeps_hit ns x r
         (has_any (is_in runs) (span (term_word x ns s.0.address.0) s.0.bytes) a.0 s.3 a.2))
 
 writes_end : (old new : List TermNode) (stored : List Stored) (runs : List AddressRun) (t : ℕ) →
-    Makes old new (98 * (length stored * length runs)) (1 + 10 * (length stored * length runs)) 1 t (λ x. Tells new x t (list_any (keeps_hit old x runs) stored)) → TellsKept old new stored runs t
+    Makes old new (98 * (length stored * length runs)) (1 + 10 * (length stored * length runs)) 1 t (λ x. Tells new x t (list_any (keeps_hit old x runs) stored)) →
+    TellsKept old new stored runs t
 writes_end old new stored runs t m = record {
   grew = m.grew;
   inputs = m.inputs;
@@ -327,7 +344,8 @@ pub writes_all : (old new : List TermNode) (stored : List Stored) (runs : List A
     Makes old new (98 * (i * length runs)) (1 + 10 * (i * length runs)) 1 t (λ x. Tells new x t (list_any (keeps_hit old x runs) (take i stored))) → TellsKept old new stored runs t
 writes_all old new stored runs i t above below m =
     writes_end old new stored runs t
-    (subst (λ (z : List Stored). Makes old new (98 * (length stored * length runs)) (1 + 10 * (length stored * length runs)) 1 t (λ x. Tells new x t (list_any (keeps_hit old x runs) z))) (take-length stored)
+    (subst (λ (z : List Stored). Makes old new (98 * (length stored * length runs)) (1 + 10 * (length stored * length runs)) 1 t
+    (λ x. Tells new x t (list_any (keeps_hit old x runs) z))) (take-length stored)
     (subst (λ (n : ℕ). Makes old new (98 * (n * length runs)) (1 + 10 * (n * length runs)) 1 t (λ x. Tells new x t (list_any (keeps_hit old x runs) (take n stored))))
     (let e : i ≡ length stored = omega (arith, above, below) in e) m))
 

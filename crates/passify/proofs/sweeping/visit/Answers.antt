@@ -19,7 +19,8 @@ constant-requires c = met_within c.args.unrolled.now c.args.place c.args.dag.now
 
 pub returns-in-Some-eq0 : goal.returns-in-Some-eq0
 returns-in-Some-eq0 c =
-    subst (λ (o : Option Names). AreSwept c.args.unrolled.now (c.args.place + 1) c.args.dag.now (record c.args.sweep.now { states = with_item c.args.sweep.now.states c.args.place o })) (sym c.replace-state.ensures.after)
+    subst (λ (o : Option Names). AreSwept c.args.unrolled.now (c.args.place + 1) c.args.dag.now
+    (record c.args.sweep.now { states = with_item c.args.sweep.now.states c.args.place o })) (sym c.replace-state.ensures.after)
     (passed_by c.args.unrolled.now c.args.place c.args.dag.now c.args.sweep.now c.requires.swept c.requires.place
     (zero_met c.args.unrolled.now c.args.place c.args.dag.now c.args.sweep.now c.requires.swept c.requires.place c.index-met.result.now c.index-met.ensures
     (λ x. c.in-Some-eq0.ensures.some x ∙ c.in-Some-eq0.field-0-test)))
@@ -32,21 +33,26 @@ handle-requires-clause-well c =
 pub handle-requires-clause-names : goal.handle-requires-clause-names
 handle-requires-clause-names c =
     c.requires.swept.well.states c.args.place c.in-Some.names
-    (taken_was c.args.unrolled.now c.args.place c.args.dag.now c.args.sweep.now c.requires.swept c.requires.place c.index_mut.result.now c.replace-state.result (Some c.in-Some.names) c.index_mut.ensures.value
+    (taken_was c.args.unrolled.now c.args.place c.args.dag.now c.args.sweep.now c.requires.swept c.requires.place c.index_mut.result.now c.replace-state.result
+    (Some c.in-Some.names) c.index_mut.ensures.value
     c.replace-state.ensures.value c.in-Some.is)
 
 pub returns-in-None : goal.returns-in-None
 returns-in-None c =
-    subst (λ (o : Option Names). AreSwept c.args.unrolled.now (c.args.place + 1) c.args.dag.now (record c.args.sweep.now { states = with_item c.args.sweep.now.states c.args.place o })) (sym c.replace-state.ensures.after)
+    subst (λ (o : Option Names). AreSwept c.args.unrolled.now (c.args.place + 1) c.args.dag.now
+    (record c.args.sweep.now { states = with_item c.args.sweep.now.states c.args.place o })) (sym c.replace-state.ensures.after)
     (passed_by c.args.unrolled.now c.args.place c.args.dag.now c.args.sweep.now c.requires.swept c.requires.place
     (none_met c.args.unrolled.now c.args.place c.args.dag.now c.args.sweep.now c.requires.swept c.requires.place
-    (taken_was c.args.unrolled.now c.args.place c.args.dag.now c.args.sweep.now c.requires.swept c.requires.place c.index_mut.result.now c.replace-state.result None c.index_mut.ensures.value c.replace-state.ensures.value
+    (taken_was c.args.unrolled.now c.args.place c.args.dag.now c.args.sweep.now c.requires.swept c.requires.place c.index_mut.result.now c.replace-state.result None
+    c.index_mut.ensures.value c.replace-state.ensures.value
     c.in-None.is)))
 
 pub returns-in_ok-handle-in-Some : goal.returns-in_ok-handle-in-Some
 returns-in_ok-handle-in-Some c =
     handled_by c.args.unrolled.now c.args.place c.args.dag.now c.args.sweep.now c.requires.swept c.requires.place c.handle.new.dag c.handle.new.sweep c.in-Some.names
-    (taken_was c.args.unrolled.now c.args.place c.args.dag.now c.args.sweep.now c.requires.swept c.requires.place c.index_mut.result.now c.replace-state.result (Some c.in-Some.names) c.index_mut.ensures.value
+    (taken_was c.args.unrolled.now c.args.place c.args.dag.now c.args.sweep.now c.requires.swept c.requires.place c.index_mut.result.now c.replace-state.result
+    (Some c.in-Some.names) c.index_mut.ensures.value
     c.replace-state.ensures.value c.in-Some.is)
-    (subst (λ (o : Option Names). IsHandled c.args.unrolled.now c.args.dag.now c.handle.new.dag (record c.args.sweep.now { states = with_item c.args.sweep.now.states c.args.place o }) c.handle.new.sweep c.args.place c.in-Some.names)
+    (subst (λ (o : Option Names). IsHandled c.args.unrolled.now c.args.dag.now c.handle.new.dag
+    (record c.args.sweep.now { states = with_item c.args.sweep.now.states c.args.place o }) c.handle.new.sweep c.args.place c.in-Some.names)
     c.replace-state.ensures.after c.in_ok-handle-in-Some.ensures)
