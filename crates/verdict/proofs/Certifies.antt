@@ -1,0 +1,30 @@
+-- What the answer to a question within the budgets certifies.
+use Rattle.std.proofs.Common.{◌≡◌, subst}
+use Rattle.bilv_spec.specs.Answers.{Budget, IsWithin}
+use Rattle.bilv_spec.specs.Questions.{Question}
+use Rattle.bilv_spec.specs.Run.{Program}
+use Rattle.bilv_spec.specs.StateText.{Layout}
+use Rattle.bilv_spec.proofs.RefutedQuestions.{refuted_is_false}
+use Rattle.cnf_form.specs.Views.{proof_of}
+use Rattle.cnf_form.specs.declared.form.Proof.{Proof}
+use Rattle.state_text.specs.declared.start.Start.{Start}
+use Rattle.verdict.specs.Grounds.{IsAnswered}
+use Rattle.verdict.specs.Verdicts.{IsCertificate}
+use Rattle.verdict.specs.declared.verdicts.Answered.{Answered}
+use Rattle.verdict.specs.declared.verdicts.Answered.TheVariants as answer
+use Rattle.verdict.specs.declared.verdicts.Certified.TheVariants.{Satisfiable, Refuted, Conflicts}
+
+module _ (p : Program) (layout : Layout) (b : Budget) (question : Question) (a : Answered) (within : IsWithin p b) (is : IsAnswered p b.unroll layout question b.conflicts a) where
+  -- the answer is of this form
+  at : (c : Answered) → a ≡ c → IsAnswered p b.unroll layout question b.conflicts c
+  at c same = subst (IsAnswered p b.unroll layout question b.conflicts) same is
+
+  pub sat_certified : (s : Start) → a ≡ answer.Sat s → IsCertificate p b question Satisfiable
+  sat_certified s same = let shown = at (answer.Sat s) same in (within, (shown.1.0, shown.1.1))
+
+  pub refuted_certified : (proof : Proof) → a ≡ answer.Refuted proof → IsCertificate p b question (Refuted proof)
+  refuted_certified proof same =
+      let refuted = at (answer.Refuted proof) same in (within, refuted_is_false p b.unroll question (proof_of proof) refuted, refuted)
+
+  pub spent_certified : (proof : Proof) → a ≡ answer.Spent proof → IsCertificate p b question (Conflicts proof)
+  spent_certified proof same = (within, at (answer.Spent proof) same)

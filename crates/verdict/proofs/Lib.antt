@@ -1,0 +1,9 @@
+pub mod Answering
+pub mod Merging
+pub mod Judging
+pub mod RoundAnswers
+pub mod Endings
+pub mod Adding
+pub mod Grounding
+pub mod ThreeQuestions
+pub mod Certifies

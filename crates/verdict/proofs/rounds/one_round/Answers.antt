@@ -1,0 +1,39 @@
+use Rattle.std.proofs.Common.{sym, subst}
+use Rattle.verdict.specs.Rounds.{IsRound}
+use Rattle.verdict.specs.declared.rounds.Round.TheVariants.{Answered}
+use Rattle.verdict.specs.declared.verdicts.Answered.TheVariants as answer
+use Rattle.verdict.proofs.RoundAnswers.{askable_cells, layers, of_question, values_satisfy, log_refutes, log_spends, round_refuted, round_spent, allowed, round_judged}
+use Rattle.verdict.proofs.rounds.one_round.Goals as goal
+
+pub judge_values-requires-clause-askable : goal.judge_values-requires-clause-askable
+judge_values-requires-clause-askable c = askable_cells c.args.question.now c.args.added.now c.in_ok-celled.celled c.in_ok-celled.ensures c.requires.askable
+
+pub judge_values-requires-clause-allowed : goal.judge_values-requires-clause-allowed
+judge_values-requires-clause-allowed c =
+    allowed c.args.added.now c.args.conflicts c.in_ok-celled.celled c.in_ok-clauses.clauses
+    (layers c.args.question.now c.args.added.now c.in_ok-celled.celled c.in_ok-celled.ensures c.requires.added c.requires.tells) c.in_ok-clauses.ensures
+    c.deref.result.now (values_satisfy c.in_ok-clauses.clauses c.args.conflicts c.in_ok-values.field-0 c.in-Sat.values c.deref.result.now c.in_ok-values.ensures c.in-Sat.is c.deref.ensures.value)
+
+pub returns-in-Sat : goal.returns-in-Sat
+returns-in-Sat c =
+    of_question c.args.question.now c.args.added.now c.args.conflicts c.in_ok-celled.celled c.in_ok-judged-in-Sat.judged c.in_ok-celled.ensures
+    (round_judged c.args.added.now c.args.conflicts c.in_ok-celled.celled c.in_ok-clauses.clauses
+    (layers c.args.question.now c.args.added.now c.in_ok-celled.celled c.in_ok-celled.ensures c.requires.added c.requires.tells) c.in_ok-clauses.ensures
+    c.deref.result.now (values_satisfy c.in_ok-clauses.clauses c.args.conflicts c.in_ok-values.field-0 c.in-Sat.values c.deref.result.now c.in_ok-values.ensures c.in-Sat.is c.deref.ensures.value)
+    c.in_ok-judged-in-Sat.judged c.in_ok-judged-in-Sat.ensures)
+
+pub returns-in-Unsat : goal.returns-in-Unsat
+returns-in-Unsat c =
+    of_question c.args.question.now c.args.added.now c.args.conflicts c.in_ok-celled.celled c.in_ok-judged-in-Unsat.judged c.in_ok-celled.ensures
+    (subst (IsRound c.in_ok-celled.celled.question.now c.args.added.now c.args.conflicts) (sym c.in_ok-judged-in-Unsat.ensures)
+    (round_refuted c.args.added.now c.args.conflicts c.in_ok-celled.celled c.in_ok-clauses.clauses
+    (layers c.args.question.now c.args.added.now c.in_ok-celled.celled c.in_ok-celled.ensures c.requires.added c.requires.tells) c.in_ok-clauses.ensures
+    c.in-Unsat.log (log_refutes c.in_ok-clauses.clauses c.args.conflicts c.in_ok-values.field-0 c.in-Unsat.log c.in_ok-values.ensures c.in-Unsat.is)))
+
+pub returns : goal.returns
+returns c p k layout g =
+    of_question c.args.question.now c.args.added.now c.args.conflicts c.in_ok-celled.celled (Answered (answer.Spent (record { clauses = c.in_ok-clauses.clauses; log = c.in-Spent.log })))
+    c.in_ok-celled.ensures
+    (round_spent c.args.added.now c.args.conflicts c.in_ok-celled.celled c.in_ok-clauses.clauses
+    (layers c.args.question.now c.args.added.now c.in_ok-celled.celled c.in_ok-celled.ensures c.requires.added c.requires.tells) c.in_ok-clauses.ensures
+    c.in-Spent.log (log_spends c.in_ok-clauses.clauses c.args.conflicts c.in_ok-values.field-0 c.in-Spent.log c.in_ok-values.ensures c.in-Spent.is)) p k layout g

@@ -1,0 +1,48 @@
+-- What a question of a program comes to.
+use Rattle.std.specs.Prelude.{ℕ, ◌≡◌, ◌≤◌, ◌+◌, length}
+use Rattle.bilv_spec.specs.StateText.{Layout, IsWritten, last_step}
+use Rattle.bilv_spec.specs.Run.{Program, Start}
+use Rattle.bilv_spec.specs.Points.{is_known_at}
+use Rattle.bilv_spec.specs.PointLaws.{HasLawfulRows}
+use Rattle.bilv_spec.specs.Questions.{Reading, Question, IsTrue}
+use Rattle.bilv_spec.specs.QuestionLaws.{Follows}
+use Rattle.bilv_spec.specs.Answers.{start_in}
+use Rattle.bilv_spec.specs.Evidence.{Refutes, Spends}
+use Rattle.walk_spec.specs.Unrolled.{UnrolledProgram}
+use Rattle.walk_spec.specs.Unrolling.{IsUnrolling, IsLaidOut}
+use Rattle.walk_laws.specs.Layers.{IsFitting}
+use Rattle.question_form.specs.declared.unrolled.Kind.{Kind}
+use Rattle.question_form.specs.declared.questions.Passive.{Passive}
+use Rattle.question_form.specs.declared.questions.Question as asked
+use Rattle.cnf_form.specs.Views.{proof_of}
+use Rattle.state_text.specs.Starts.{written_of}
+use Rattle.verdict.specs.declared.verdicts.Answered.{Answered}
+use Rattle.verdict.specs.declared.verdicts.Answered.TheVariants.{Sat, Refuted, Spent}
+
+-- the unrolled program is that of a program, over a form of states in which the steps of its points can be written
+pub record IsGround (p : Program) (k : ℕ) (layout : Layout) (u : UnrolledProgram) : Type 0 where
+  pub lawful : HasLawfulRows p
+  pub unrolling : IsUnrolling p k u
+  pub fitting : IsFitting u
+  pub laid : IsLaidOut layout u
+  pub steps : length u.points ≤ last_step + 1
+
+-- some reading that makes the question true is followed by a start
+abbrev pub IsFollowedBy : Program → (k : ℕ) → Question → Start → Type 0
+IsFollowedBy p k question start = (r : Reading) × IsTrue p k r question × Follows p k r start
+
+-- A question is answered: by a start that can be written, with a reading that makes the question true; by a refutation; or by a log that spends the conflicts.
+abbrev pub IsAnswered : Program → (k : ℕ) → Layout → Question → (conflicts : ℕ) → Answered → Type 0
+IsAnswered p k layout question conflicts (Sat s) =
+    IsWritten layout (is_known_at p) (written_of s) × IsFollowedBy p k question (start_in p layout (written_of s))
+IsAnswered p k layout question conflicts (Refuted proof) = Refutes p k question (proof_of proof)
+IsAnswered p k layout question conflicts (Spent proof) = Spends p k question conflicts (proof_of proof)
+
+-- it is the answer for every program of which the unrolled program is
+abbrev pub Answers : UnrolledProgram → Question → (conflicts : ℕ) → Answered → Type 0
+Answers u question conflicts a = (p : Program) (k : ℕ) (layout : Layout) → IsGround p k layout u → IsAnswered p k layout question conflicts a
+
+-- a question is that of a passive program
+pub record IsQuestionOf (p : Passive) (kind : Kind) (q : asked.Question) : Type 0 where
+  pub of : q.passive.now ≡ p
+  pub kind_is : q.kind ≡ kind

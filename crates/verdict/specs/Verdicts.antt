@@ -1,0 +1,53 @@
+-- Verdicts as the reports of the definitions, with their evidence.
+use Rattle.std.specs.Prelude.{◌≡◌, ◌<◌, ◌+◌}
+use Rattle.bilv_spec.specs.Answers as answers
+use Rattle.bilv_spec.specs.Answers.{Report, HoldsReport, VacuousReport, FailsReport, UnrollReport, PointsReport, SizeReport, ConflictsReport, Evidence, Refutations, EntryRefuted, RunOf, SpentOn, Count, IsRightReport, IsWithin}
+use Rattle.bilv_spec.specs.Evidence.{Refutes, Spends}
+use Rattle.bilv_spec.specs.Points.{HasMore, IsPrice}
+use Rattle.bilv_spec.specs.Questions.{Question, IsSatisfiable}
+use Rattle.bilv_spec.specs.Run.{Program}
+use Rattle.bilv_spec.specs.StateText.{Layout}
+use Rattle.cnf_form.specs.Views.{proof_of}
+use Rattle.state_text.specs.Starts.{event_of, written_of}
+use Rattle.question_form.specs.Views.{kind_of}
+use Rattle.verdict.specs.declared.verdicts.Budget.{Budget}
+use Rattle.verdict.specs.declared.verdicts.Certified.{Certified}
+use Rattle.verdict.specs.declared.verdicts.Certified.TheVariants as certified
+use Rattle.verdict.specs.declared.verdicts.Verdict.{Verdict}
+use Rattle.verdict.specs.declared.verdicts.Verdict.TheVariants.{Holds, Vacuous, Fails, Unroll, Points, Size, Conflicts}
+
+-- the budgets
+abbrev pub budget_of : Budget → answers.Budget
+budget_of b = record { unroll = b.unroll; points = b.points; size = b.size; conflicts = b.conflicts }
+
+-- what a verdict says
+abbrev pub report_of : Verdict → Report
+report_of (Holds start fail turn) = HoldsReport
+report_of (Vacuous proof) = VacuousReport
+report_of (Fails event at step start) = FailsReport (event_of event) at step
+report_of (Unroll at step start) = UnrollReport at step
+report_of (Points count) = PointsReport
+report_of (Size price) = SizeReport
+report_of (Conflicts question proof) = ConflictsReport
+
+-- what shows it
+abbrev pub evidence_of : Verdict → Evidence
+evidence_of (Holds start fail turn) = Refutations (written_of start) (proof_of fail) (proof_of turn)
+evidence_of (Vacuous proof) = EntryRefuted (proof_of proof)
+evidence_of (Fails event at step start) = RunOf (written_of start)
+evidence_of (Unroll at step start) = RunOf (written_of start)
+evidence_of (Points count) = Count count
+evidence_of (Size price) = Count price
+evidence_of (Conflicts question proof) = SpentOn (kind_of question) (proof_of proof)
+
+-- the verdict is right, and what it has shows it
+abbrev pub IsVerdict : Program → Layout → Budget → Verdict → Type 0
+IsVerdict p layout b v = IsRightReport p layout (budget_of b) (report_of v) (evidence_of v)
+
+-- A question is certified: there are more points than the budget, or the price is above it; else its conflicts are spent, it is true, or it is refuted.
+abbrev pub IsCertificate : Program → answers.Budget → Question → Certified → Type 0
+IsCertificate p b question (certified.Points count) = HasMore p b.unroll b.points × (count ≡ b.points + 1)
+IsCertificate p b question (certified.Size price) = (¬ HasMore p b.unroll b.points) × IsPrice p b.unroll price × (b.size < price)
+IsCertificate p b question (certified.Conflicts proof) = IsWithin p b × Spends p b.unroll question b.conflicts (proof_of proof)
+IsCertificate p b question certified.Satisfiable = IsWithin p b × IsSatisfiable p b.unroll question
+IsCertificate p b question (certified.Refuted proof) = IsWithin p b × (¬ IsSatisfiable p b.unroll question) × Refutes p b.unroll question (proof_of proof)

@@ -1,0 +1,85 @@
+//! The questions of a function of two files, certified one by one.
+ghost use Rattle.std.specs.Prelude.{◌≡◌, ◌<◌, ℕ, IfOk, slice_index};
+ghost use Rattle.bilv_spec.specs.Files.{machine_of, program_of};
+ghost use Rattle.bilv_spec.specs.Answers as answers;
+ghost use Rattle.bilv_spec.specs.Answers.{IsBudget, IsWithin};
+ghost use Rattle.bilv_spec.specs.Questions.{Question};
+ghost use Rattle.bilv_spec.specs.Run.{Program};
+ghost use Rattle.bilv_spec.specs.StateText.{Layout};
+ghost use Rattle.program_points.specs.Listed.{HasOneWay};
+ghost use Rattle.question_form.specs.Views.{kind_of};
+ghost use Rattle.notes_lang.specs.Drafting.{notes_of};
+ghost use Rattle.notes_value.specs.Reads.{AreOver};
+ghost use Rattle.unroller.specs.Rows.{IsPlainMachine};
+ghost use Rattle.verdict.specs.Grounds.{IsAnswered};
+ghost use Rattle.verdict.specs.Measures.{IsMeasurable, IsUnrolledOf};
+ghost use Rattle.verdict.specs.Verdicts.{IsCertificate, budget_of};
+
+use crate::measuring::{Measured, measure, unroll_within};
+use crate::{Answered, Budget, Certified, decide};
+use elf32_reader::Image;
+use machine_law::Machine;
+use notes_lang::Notes;
+use program_points::PointsFault;
+use question_form::{Kind, Unrolled};
+use std::alloc::{AllocError, Global};
+
+/// What the answer to a question of a program within the budgets certifies.
+fn certified(answered: Answered) -> Certified
+    ensures { (p : Program) (layout : Layout) (b : answers.Budget) (question : Question) → IsWithin p b → IsAnswered p b.unroll layout question b.conflicts answered →
+        IsCertificate p b question result }
+{
+    match answered {
+        Answered::Sat(_) => Certified::Satisfiable,
+        Answered::Refuted(proof) => Certified::Refuted(proof),
+        Answered::Spent(proof) => Certified::Conflicts(proof),
+    }
+}
+
+/// What a question of an unrolled program comes to, behind its price.
+fn certify_unrolled(
+    alloc: Global,
+    budget: &Budget,
+    kind: Kind,
+    unrolled: &Unrolled,
+) -> Result<Certified, AllocError>
+    requires budget { IsBudget (budget_of budget.now) }
+    requires measurable { IsMeasurable unrolled.now }
+    ensures { IfOk result (λ c. (p : Program) (layout : Layout) → IsUnrolledOf p layout (budget_of budget.now) unrolled.now → IsCertificate p (budget_of budget.now) (kind_of kind) c) }
+{
+    match measure(alloc, budget, unrolled)? {
+        Measured::Above(price) => Ok(Certified::Size { price }),
+        Measured::Within(passive) => {
+            let answered = decide(alloc, &passive, kind, budget.conflicts)?;
+            Ok(certified(answered))
+        }
+    }
+}
+
+/// What a question about the function at an address of an image comes to, by its notes and within the budgets, whether it is due or not. The error is want of memory; a
+/// price of 2^128 - 1 or more counts as that.
+pub fn certify<'a, M: Machine>(
+    alloc: Global,
+    image: &'a Image<'a>,
+    notes: &'a Notes,
+    entry: u32,
+    budget: &Budget,
+    kind: Kind,
+) -> Result<Certified, AllocError>
+    requires machine { machine_of image.now ≡ M.machine }
+    requires plain { IsPlainMachine M.machine }
+    requires file { (i : ℕ) → slice_index image.now i < 256 }
+    requires one_way { HasOneWay (program_of image.now (notes_of notes.now) entry) }
+    requires over { AreOver M.machine.has_register M.machine.has_flag (notes_of notes.now) }
+    requires budget { IsBudget (budget_of budget.now) }
+    ensures { IfOk result (λ c. IsCertificate (program_of image.now (notes_of notes.now) entry) (budget_of budget.now) (kind_of kind) c) }
+{
+    match unroll_within::<M>(alloc, image, notes, entry, budget) {
+        Ok(unrolled) => {
+            let certified = certify_unrolled(alloc, budget, kind, &unrolled)?;
+            Ok(certified)
+        }
+        Err(PointsFault::TooMany { count }) => Ok(Certified::Points { count }),
+        Err(PointsFault::Memory) => Err(AllocError),
+    }
+}

@@ -1,0 +1,14 @@
+//! The verdict on a function: its points, its price and its three questions, each answer with what shows it.
+#![tactic(auto)]
+
+mod certifying;
+mod deciding;
+mod measuring;
+mod rounds;
+mod verdicts;
+mod verifying;
+
+pub use certifying::certify;
+pub use deciding::decide;
+pub use verdicts::{Answered, Budget, Certified, Verdict};
+pub use verifying::verify;

@@ -1,0 +1,83 @@
+//! Functions of two files, unrolled, and measured by the budgets.
+ghost use Rattle.std.specs.Prelude.{◌≡◌, ◌<◌, ℕ, IfErr, IfOk, slice_index};
+ghost use Rattle.bilv_spec.specs.Files.{machine_of, program_of};
+ghost use Rattle.bilv_spec.specs.Answers.{IsBudget};
+ghost use Rattle.program_points.specs.Listed.{HasOneWay, IsTooMany};
+ghost use Rattle.notes_lang.specs.Drafting.{notes_of};
+ghost use Rattle.notes_value.specs.Reads.{AreOver};
+ghost use Rattle.unroller.specs.Rows.{IsPlainMachine};
+ghost use Rattle.verdict.specs.Measures.{IsMeasurable, IsMeasured, IsUnrolledOf};
+ghost use Rattle.verdict.specs.Verdicts.{budget_of};
+
+use crate::Budget;
+use elf32_reader::Image;
+use flow_graph::descend;
+use machine_law::Machine;
+use notes_lang::Notes;
+use passify::passive;
+use program_points::PointsFault;
+use question_form::{Passive, Unrolled};
+use std::alloc::{AllocError, Global};
+use unroller::{price, unroll};
+
+/// What an unrolled program comes to by its price.
+#[derive(Drop)]
+pub enum Measured<'a> {
+    /// The price, which is above the budget.
+    Above(u128),
+    /// The price is within the budget, and this is the passive program.
+    Within(Passive<'a>),
+}
+
+/// The function at an address of an image, unrolled by its notes.
+///
+/// # Errors
+///
+/// `TooMany` with one point more than the budget where there are more points; want of memory.
+pub fn unroll_within<'a, M: Machine>(
+    alloc: Global,
+    image: &'a Image<'a>,
+    notes: &'a Notes,
+    entry: u32,
+    budget: &Budget,
+) -> Result<Unrolled<'a>, PointsFault>
+    requires machine { machine_of image.now ≡ M.machine }
+    requires plain { IsPlainMachine M.machine }
+    requires file { (i : ℕ) → slice_index image.now i < 256 }
+    requires one_way { HasOneWay (program_of image.now (notes_of notes.now) entry) }
+    requires over { AreOver M.machine.has_register M.machine.has_flag (notes_of notes.now) }
+    requires budget { IsBudget (budget_of budget.now) }
+    ensures unrolled { IfOk result (IsUnrolledOf (program_of image.now (notes_of notes.now) entry) M.form (budget_of budget.now)) }
+    ensures more { IfErr result (IsTooMany (program_of image.now (notes_of notes.now) entry) budget.now.unroll budget.now.points) }
+{
+    let graph = descend::<M>(alloc, image, notes, entry)?;
+    unroll::<M>(
+        alloc,
+        &graph,
+        image,
+        notes,
+        entry,
+        budget.unroll,
+        budget.points,
+    )
+}
+
+/// The price of an unrolled program that is above the budget, or its passive program. The error is want of memory; a price of 2^128 - 1 or more counts as that.
+pub fn measure<'a>(
+    alloc: Global,
+    budget: &Budget,
+    unrolled: &'a Unrolled<'a>,
+) -> Result<Measured<'a>, AllocError>
+    requires { IsMeasurable unrolled.now }
+    ensures { IfOk result (IsMeasured (budget_of budget.now) unrolled.now) }
+{
+    let price = price(unrolled);
+    if price == u128::MAX {
+        return Err(AllocError);
+    }
+    if price > budget.size as u128 {
+        return Ok(Measured::Above(price));
+    }
+    let passive = passive(alloc, unrolled)?;
+    Ok(Measured::Within(passive))
+}

@@ -1,0 +1,82 @@
+//! Verdicts, budgets, and what questions come to.
+use cnf_form::Proof;
+use question_form::Kind;
+use state_text::{Event, Start};
+
+/// How much may be spent.
+#[derive(Clone, Copy, Debug, PartialEq, Eq)]
+pub struct Budget {
+    /// Backward transfers of a run, at most 4096.
+    pub unroll: u64,
+    /// Points of the unrolled program, 1 to 16777216.
+    pub points: u64,
+    /// The price of the unrolled program, 1 to 2^62.
+    pub size: u64,
+    /// Conflicts of the search for each question, 1 to 2^32 - 1.
+    pub conflicts: u64,
+}
+
+/// What a question comes to.
+#[derive(Drop)]
+pub enum Answered {
+    /// It is true, and this start shows it.
+    Sat(Start),
+    /// It is true of nothing.
+    Refuted(Proof),
+    /// The conflicts are spent.
+    Spent(Proof),
+}
+
+/// A verdict, or the budget that does not suffice for one, with what shows it.
+#[derive(Drop)]
+pub enum Verdict {
+    /// Every run from every entry state returns without an event: there is the start, no run fails, and none makes too many backward transfers.
+    Holds {
+        start: Start,
+        fail: Proof,
+        turn: Proof,
+    },
+    /// There is no entry state.
+    Vacuous(Proof),
+    /// The run from the start has an event, at an address and a step.
+    Fails {
+        event: Event,
+        at: u32,
+        step: u64,
+        start: Start,
+    },
+    /// No run fails, and the one from the start makes one backward transfer too many, at an address and a step.
+    Unroll {
+        at: u32,
+        step: u64,
+        start: Start,
+    },
+    /// There are more points than the budget, of which so many were found.
+    Points {
+        count: u64,
+    },
+    /// The price is above the budget.
+    Size {
+        price: u128,
+    },
+    /// The conflicts did not suffice for a question.
+    Conflicts {
+        question: Kind,
+        proof: Proof,
+    },
+}
+
+/// What the command that certifies a question comes to.
+#[derive(Drop)]
+pub enum Certified {
+    /// There are more points than the budget, of which so many were found.
+    Points { count: u64 },
+    /// The price is above the budget.
+    Size { price: u128 },
+    /// The conflicts did not suffice.
+    Conflicts(Proof),
+    /// The question is true of some reading.
+    Satisfiable,
+    /// The question is true of nothing.
+    Refuted(Proof),
+}

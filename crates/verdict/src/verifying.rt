@@ -1,0 +1,216 @@
+//! The verdict on the function of two files.
+ghost use Rattle.std.specs.Prelude.{◌≡◌, ◌<◌, ◌-◌, ℕ, Some, IfOk, slice_index};
+ghost use Rattle.bilv_spec.specs.Files.{machine_of, program_of};
+ghost use Rattle.bilv_spec.specs.Answers.{IsBudget, IsWithin, start_in};
+ghost use Rattle.bilv_spec.specs.Points.{is_known_at};
+ghost use Rattle.bilv_spec.specs.PointLaws.{HasLawfulRows};
+ghost use Rattle.bilv_spec.specs.Questions.{IsSatisfiable, FailQuestion, TurnQuestion};
+ghost use Rattle.bilv_spec.specs.Reports.{found};
+ghost use Rattle.bilv_spec.specs.StateText.{IsWritten};
+ghost use Rattle.program_points.specs.Listed.{HasOneWay};
+ghost use Rattle.question_form.specs.Views.{unrolled_of};
+ghost use Rattle.notes_lang.specs.Drafting.{notes_of};
+ghost use Rattle.notes_value.specs.Reads.{AreOver, AreReadable};
+ghost use Rattle.state_text.specs.Starts.{written_of};
+ghost use Rattle.table_run.specs.Endings.{found_of};
+ghost use Rattle.unroller.specs.Rows.{IsPlainMachine};
+ghost use Rattle.verdict.specs.Functions.{program_of_function};
+ghost use Rattle.verdict.specs.Grounds.{IsAnswered, IsGround};
+ghost use Rattle.verdict.specs.Measures.{IsUnrolledOf};
+ghost use Rattle.verdict.specs.Rounds.{IsAskable};
+ghost use Rattle.verdict.specs.Verdicts.{IsVerdict, budget_of};
+
+use crate::measuring::{Measured, measure, unroll_within};
+use crate::{Answered, Budget, Verdict, decide};
+use elf32_reader::Image;
+use machine_law::Machine;
+use notes_lang::Notes;
+use program_points::PointsFault;
+use question_form::{Kind, Passive, Unrolled};
+use state_text::Start;
+use std::alloc::{AllocError, Global};
+use table_run::{Ending, run};
+
+/// A function of two files: the image, the notes, and the address of the function.
+#[derive(Clone, Copy)]
+pub struct Function<'a, 'b> {
+    pub image: &'a Image<'b>,
+    pub notes: &'a Notes,
+    pub entry: u32,
+}
+
+/// What the run from a start comes to within as many steps as there may be points.
+fn ending<M: Machine>(
+    alloc: Global,
+    function: &Function,
+    budget: &Budget,
+    start: &Start,
+) -> Result<Ending, AllocError>
+    requires machine { machine_of function.now.image.now ≡ M.machine }
+    requires readable { AreReadable M.machine.has_register (notes_of function.now.notes.now) }
+    requires budget { IsBudget (budget_of budget.now) }
+    requires written { IsWritten M.form (is_known_at (program_of_function function.now)) (written_of start.now) }
+    ensures { IfOk result (λ e. found_of e ≡ found (program_of_function function.now) (Some budget.now.unroll) (start_in (program_of_function function.now) M.form (written_of start.now))
+        (budget.now.points - 1)) }
+{
+    let ending = run::<M>(
+        alloc,
+        function.image,
+        function.notes,
+        function.entry,
+        start,
+        Some(budget.unroll),
+        budget.points,
+    )?;
+    Ok(ending)
+}
+
+/// The event of the run from a start that shows that some run fails.
+fn failing<M: Machine>(
+    alloc: Global,
+    function: &Function,
+    budget: &Budget,
+    start: Start,
+) -> Result<Verdict, AllocError>
+    requires machine { machine_of function.now.image.now ≡ M.machine }
+    requires readable { AreReadable M.machine.has_register (notes_of function.now.notes.now) }
+    requires budget { IsBudget (budget_of budget.now) }
+    requires within { IsWithin (program_of_function function.now) (budget_of budget.now) }
+    requires lawful { HasLawfulRows (program_of_function function.now) }
+    requires fails { IsAnswered (program_of_function function.now) budget.now.unroll M.form FailQuestion budget.now.conflicts (Answered.Sat start) }
+    ensures { IfOk result (λ v. IsVerdict (program_of_function function.now) M.form budget.now v) }
+{
+    match ending::<M>(alloc, function, budget, &start)? {
+        Ending::Failed { event, at, step } => Ok(Verdict::Fails {
+            event,
+            at,
+            step,
+            start,
+        }),
+        _ => unreachable!(),
+    }
+}
+
+/// The last step of the run from a start that shows that some run makes one backward transfer too many, where none fails.
+fn turning<M: Machine>(
+    alloc: Global,
+    function: &Function,
+    budget: &Budget,
+    start: Start,
+) -> Result<Verdict, AllocError>
+    requires machine { machine_of function.now.image.now ≡ M.machine }
+    requires readable { AreReadable M.machine.has_register (notes_of function.now.notes.now) }
+    requires budget { IsBudget (budget_of budget.now) }
+    requires within { IsWithin (program_of_function function.now) (budget_of budget.now) }
+    requires lawful { HasLawfulRows (program_of_function function.now) }
+    requires never { IsSatisfiable (program_of_function function.now) budget.now.unroll FailQuestion → ⊥ }
+    requires turns { IsAnswered (program_of_function function.now) budget.now.unroll M.form TurnQuestion budget.now.conflicts (Answered.Sat start) }
+    ensures { IfOk result (λ v. IsVerdict (program_of_function function.now) M.form budget.now v) }
+{
+    match ending::<M>(alloc, function, budget, &start)? {
+        Ending::Turned { at, step } => Ok(Verdict::Unroll { at, step, start }),
+        _ => unreachable!(),
+    }
+}
+
+/// The verdict by the three questions in their order.
+fn judge<M: Machine>(
+    alloc: Global,
+    function: &Function,
+    budget: &Budget,
+    passive: &Passive,
+) -> Result<Verdict, AllocError>
+    requires machine { machine_of function.now.image.now ≡ M.machine }
+    requires readable { AreReadable M.machine.has_register (notes_of function.now.notes.now) }
+    requires budget { IsBudget (budget_of budget.now) }
+    requires within { IsWithin (program_of_function function.now) (budget_of budget.now) }
+    requires ground { IsGround (program_of_function function.now) budget.now.unroll M.form (unrolled_of passive.now.unrolled.now) }
+    requires askable { IsAskable passive.now }
+    ensures { IfOk result (λ v. IsVerdict (program_of_function function.now) M.form budget.now v) }
+{
+    let entered = match decide(alloc, passive, Kind::Entry, budget.conflicts)? {
+        Answered::Sat(start) => start,
+        Answered::Refuted(proof) => return Ok(Verdict::Vacuous(proof)),
+        Answered::Spent(proof) => {
+            return Ok(Verdict::Conflicts {
+                question: Kind::Entry,
+                proof,
+            });
+        }
+    };
+    let fail = match decide(alloc, passive, Kind::Fail, budget.conflicts)? {
+        Answered::Sat(start) => return failing::<M>(alloc, function, budget, start),
+        Answered::Refuted(proof) => proof,
+        Answered::Spent(proof) => {
+            return Ok(Verdict::Conflicts {
+                question: Kind::Fail,
+                proof,
+            });
+        }
+    };
+    match decide(alloc, passive, Kind::Turn, budget.conflicts)? {
+        Answered::Sat(start) => turning::<M>(alloc, function, budget, start),
+        Answered::Refuted(turn) => Ok(Verdict::Holds {
+            start: entered,
+            fail,
+            turn,
+        }),
+        Answered::Spent(proof) => Ok(Verdict::Conflicts {
+            question: Kind::Turn,
+            proof,
+        }),
+    }
+}
+
+/// The verdict by an unrolled program: that its price is above the budget, or what the three questions come to.
+fn judge_unrolled<M: Machine>(
+    alloc: Global,
+    function: &Function,
+    budget: &Budget,
+    unrolled: &Unrolled,
+) -> Result<Verdict, AllocError>
+    requires machine { machine_of function.now.image.now ≡ M.machine }
+    requires readable { AreReadable M.machine.has_register (notes_of function.now.notes.now) }
+    requires budget { IsBudget (budget_of budget.now) }
+    requires unrolled { IsUnrolledOf (program_of_function function.now) M.form (budget_of budget.now) unrolled.now }
+    ensures { IfOk result (λ v. IsVerdict (program_of_function function.now) M.form budget.now v) }
+{
+    match measure(alloc, budget, unrolled)? {
+        Measured::Above(price) => Ok(Verdict::Size { price }),
+        Measured::Within(passive) => judge::<M>(alloc, function, budget, &passive),
+    }
+}
+
+/// The verdict on the function at an address of an image, by its notes and within the budgets, with what shows it: first that there are more points than the
+/// budget, then that the price is above the budget, then the three questions in their order. The error is want of memory; a price of 2^128 - 1 or more counts as
+/// that.
+pub fn verify<'a, M: Machine>(
+    alloc: Global,
+    image: &'a Image<'a>,
+    notes: &'a Notes,
+    entry: u32,
+    budget: &Budget,
+) -> Result<Verdict, AllocError>
+    requires machine { machine_of image.now ≡ M.machine }
+    requires plain { IsPlainMachine M.machine }
+    requires file { (i : ℕ) → slice_index image.now i < 256 }
+    requires one_way { HasOneWay (program_of image.now (notes_of notes.now) entry) }
+    requires readable { AreReadable M.machine.has_register (notes_of notes.now) }
+    requires over { AreOver M.machine.has_register M.machine.has_flag (notes_of notes.now) }
+    requires budget { IsBudget (budget_of budget.now) }
+    ensures { IfOk result (λ v. IsVerdict (program_of image.now (notes_of notes.now) entry) M.form budget.now v) }
+{
+    match unroll_within::<M>(alloc, image, notes, entry, budget) {
+        Ok(unrolled) => {
+            let function = Function {
+                image,
+                notes,
+                entry,
+            };
+            let verdict = judge_unrolled::<M>(alloc, &function, budget, &unrolled)?;
+            Ok(verdict)
+        }
+        Err(PointsFault::TooMany { count }) => Ok(Verdict::Points { count }),
+        Err(PointsFault::Memory) => Err(AllocError),
+    }
+}
