@@ -66,8 +66,8 @@ sized_for u a b c s f h k =
     record { bits = omega (arith, r, g, m, o); terms = omega (arith, r, g); enough = omega (arith, n) }
 
 -- a place of which nothing is tried
-pub row_none : (u : Unrolled) (place : ℕ) (n : Names) (ns : List TermNode) (s : Sweep) (rest : ℕ) → AreWell ns s → HasWidth ns 1 rest → (own_code u place).list ≡ None → ArePaid u
-    place 0 0 0 0 0 → IsRowTried u place n ns ns s s rest rest
+pub row_none : (u : Unrolled) (place : ℕ) (n : Names) (ns : List TermNode) (s : Sweep) (rest : ℕ) → AreWell ns s → HasWidth ns 1 rest → (own_code u place).list ≡ None →
+    ArePaid u place 0 0 0 0 0 → IsRowTried u place n ns ns s s rest rest
 row_none u place n ns s rest w wr none paid = record {
   gates = 0;
   loads = 0;
@@ -78,8 +78,7 @@ row_none u place n ns s rest w wr none paid = record {
     grew = grew_none ns;
     inputs = inputs_none ns (λ m. (m ≡ ChoiceNode place) × ((placed u place).draws ≡ true));
     well = w;
-    like = record
-        { entry = refl; pc = refl; at = refl; places = refl };
+    like = record { entry = refl; pc = refl; at = refl; places = refl };
   };
   few_gates = paid.few_gates;
   few_loads = paid.few_loads;
@@ -96,9 +95,11 @@ row_none u place n ns s rest w wr none paid = record {
 pub place_met : (u : Unrolled) (s : Sweep) (i : ℕ) → IsSweepOf u s → i < length u.points.items → i < length s.met.items
 place_met u s i of h = let e = of.places in let l = points_length u u.points.items in omega (arith, e, l, h)
 
+-- the bit that is read there is its own
 pub met_at : (s : Sweep) (i : ℕ) (t : Term) → i < length s.met.items → t ≡ get_or s.met.items i t → t.0 ≡ term_at s.met.items i
 met_at s i t h e = ap (λ (z : Term). z.0) (e ∙ other_default s.met.items i t (record { 0 = 0 }) h)
 
+-- where the point goes on, by its own code
 pub gone_at : (u : Unrolled) (place : ℕ) (c d : List TermNode) (to jumped target : ℕ) (k : Code) → k ≡ own_code u place →
     Makes c d 32 3 32 to (λ x. (j : Bool) → Tells c x jumped j → term_word x d to ≡ (if j then term_word x c target else add 32 k.at 4)) →
     Makes c d 32 3 32 to (λ x. (j : Bool) → Tells c x jumped j → term_word x d to ≡ (if j then term_word x c target else add 32 (own_code u place).at 4))
@@ -107,8 +108,7 @@ gone_at u place c d to jumped target k e m =
 
 -- What is made of a row: its list, its bits and its exits.
 pub record RowMade (u : Unrolled) (place : ℕ) (n : Names) (a b c d e f : List TermNode) (s z : Sweep) (rest last : ℕ) (list : Vec Stmt) (items : List Stmt) (l : Left)
-    (stored : List Stored) (wrote odd : ℕ) (next : Now)
-    (to link : ℕ) (lines : List NoteLine) (edges : List Edge) : Type 0 where
+    (stored : List Stored) (wrote odd : ℕ) (next : Now) (to link : ℕ) (lines : List NoteLine) (edges : List Edge) : Type 0 where
   pub walkable : IsWalkable (unrolled_of u)
   pub formed : IsFormed u
   pub within : place < length u.points.items
@@ -130,10 +130,10 @@ pub record RowMade (u : Unrolled) (place : ℕ) (n : Names) (a b c d e f : List 
   pub next_pc : next.pc.0 ≡ to
   pub link_is : link ≡ slice_index (names_of s.entry).registers (u.link - s.entry.first)
 
+-- so the row is tried
 pub row_from : (u : Unrolled) (place : ℕ) (n : Names) (a b c d e f : List TermNode) (s z : Sweep) (rest last : ℕ) (list : Vec Stmt) (items : List Stmt) (l : Left)
-    (stored : List Stored) (wrote odd : ℕ) (next : Now)
-    (to link : ℕ) (lines : List NoteLine) (edges : List Edge) → RowMade u place n a b c d e f s z rest last list items l stored wrote odd next to link lines edges → IsRowTried u
-    place n a f s z rest last
+    (stored : List Stored) (wrote odd : ℕ) (next : Now) (to link : ℕ) (lines : List NoteLine) (edges : List Edge) →
+    RowMade u place n a b c d e f s z rest last list items l stored wrote odd next to link lines edges → IsRowTried u place n a f s z rest last
 row_from u place n a b c d e f s z rest last list items l stored wrote odd next to link lines edges k =
     let m1 : IsLeft a b place n (statements list.items) l = subst (λ (q : List Stmt). IsLeft a b place n (statements q) l) k.items_are k.left in
     let m2 : TellsKept b c l.stored.items (unrolled_of u).kept wrote = subst (λ (q : List Stored). TellsKept b c q (unrolled_of u).kept wrote) k.stored_are k.kept in
@@ -234,8 +234,7 @@ module _ (u : Unrolled) (place : ℕ) (n : Names) (a b c d e : List TermNode) (s
     grew = g1;
     inputs = interned_inputs a b (ConstantNode 32 v) pc (λ m. ⊥) m1 (λ i. i);
     well = well_keeps g1 s m1.typed w;
-    like = record
-        { entry = refl; pc = refl; at = refl; places = refl };
+    like = record { entry = refl; pc = refl; at = refl; places = refl };
   }
 
   abbrev Drawn : TermNode → Type 0
