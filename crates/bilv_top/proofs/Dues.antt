@@ -1,42 +1,19 @@
 -- Answers that are due.
-use Rattle.std.proofs.Common.{◌≡◌, ◌≢◌, ℕ, ◌<◌, List, Bool, true, false, Option, Some, None, ap, sym, subst, ◌∙◌, arith}
-use Rattle.std.specs.Prelude.{if◌then◌else◌}
+use Rattle.std.proofs.Common.{◌≡◌, ◌≢◌, ◌⊎◌, inl, inr, ℕ, ◌<◌, List, Bool, true, false, Option, Some, None, ap, sym, subst, ◌∙◌, arith}
 use Rattle.bilv_spec.specs.Run.{Program}
-use Rattle.bilv_spec.specs.Notes.{Function, At, Named}
-use Rattle.bilv_spec.specs.NotesLaws.{KeepsReserved}
-use Rattle.bilv_spec.specs.Files.{names_of, is_rv, layout_of, program_of, IsFunctionAt, IsProgram}
-use Rattle.bilv_spec.specs.RvNames.{rv_names}
-use Rattle.bilv_spec.specs.ArmNames.{arm_names}
+use Rattle.bilv_spec.specs.Files.{is_rv, layout_of}
 use Rattle.bilv_spec.specs.Refutation.{Cause}
 use Rattle.bilv_spec.specs.Run.{Start}
 use Rattle.bilv_spec.specs.Reports.{NamedEnding, Found}
 use Rattle.bilv_spec.specs.StateText.{Layout, Told, StateIs, StateRefused}
 use Rattle.bilv_spec.specs.Replays.{IsChecked, large, refused, checked, check_status, ending_answer, require_answer, start_answer, told_answer, sized_answer, replay_answer}
-use Rattle.bilv_spec.specs.Answers.{Answer, Budget, plain_answer}
+use Rattle.bilv_spec.specs.Answers.{Answer, Budget, plain_answer, Evidence, Report, HoldsReport, VacuousReport, FailsReport, UnrollReport, PointsReport, SizeReport, ConflictsReport, IsReported, status_of}
+use Rattle.bilv_spec.specs.Certified as certified
+use Rattle.bilv_spec.specs.Certified.{IsCertified}
+use Rattle.bilv_spec.specs.Questions.{Question}
 use Rattle.bilv_spec.specs.Outcomes.{Surroundings, Command, Verify, Lift, Graph, Script, Replay, Certify, Check, SelfRun, read_fault, AfterRead, read_failed, was_read, AfterBoth}
 use Rattle.bilv_spec.specs.Verified.{AfterImage, elf_refused, elf_accepted, AfterNotes, notes_refused, program_found}
-use Rattle.bilv_spec.proofs.NotesNames.{machines_keep_reserved}
-use Rattle.bilv_spec.proofs.NotesSaid.{one_reading}
-use Rattle.bilv_top.specs.Due.{IsDue, IsVerifiedSoFar, points, size, holds, beyond, not_built, IsLiftedSoFar, IsReplayedSoFar, replayed, unbuilt, IsGraphedSoFar, printed, bare}
-
--- neither machine names anything by a reserved word
-chosen_keeps : (b : Bool) (w : List ℕ) → (rv_names w ≡ None) → (arm_names w ≡ None) → (if b then rv_names w else arm_names w) ≡ None
-chosen_keeps true w a c = a
-chosen_keeps false w a c = c
-
-pub names_keep : (file : List ℕ) → KeepsReserved (names_of file)
-names_keep file w reserved = chosen_keeps (is_rv file) w (machines_keep_reserved.0 w reserved) (machines_keep_reserved.1 w reserved)
-
-one_place : (file : List ℕ) (f : Function) (a b : ℕ) → IsFunctionAt file f a → IsFunctionAt file f b → a ≡ b
-one_place file (At at) a b p q = sym p ∙ q
-one_place file (Named name) a b p q = q.1 a p.0
-
--- two files are one program at most
-pub one_program : (file text : List ℕ) (p q : Program) → IsProgram file text p → IsProgram file text q → p ≡ q
-one_program file text p q a b =
-    let notes : a.0 ≡ b.0 = one_reading (names_of file) (names_keep file) text a.0 b.0 a.2 b.2 in
-    let entry : a.1 ≡ b.1 = one_place file b.0.entry a.1 b.1 (subst (λ n. IsFunctionAt file n.entry a.1) notes a.3) b.3 in
-    a.4 ∙ ap (λ n. program_of file n a.1) notes ∙ ap (program_of file b.0) entry ∙ sym b.4
+use Rattle.bilv_top.specs.Due.{IsDue, WhereBuilt, built, missing, not_built, IsLiftedSoFar, IsReplayedSoFar, replayed, unbuilt, IsGraphedSoFar, printed, bare}
 
 -- the statuses 7 and 8 are due to nothing
 abbrev pub IsPlain : ℕ → Type 0
@@ -65,11 +42,29 @@ after_read : (s : Surroundings) (name : List ℕ) (Next : List ℕ → Answer �
 after_read s name Next a step (read_failed rose is) = plain_at a 6 read_fault.text is (plain_number 6 (omega arith))
 after_read s name Next a step (was_read file agrees next) = step file next
 
-so_far : (file text : List ℕ) (b : Budget) (p : Program) (a : Answer) → IsVerifiedSoFar file text b p a → IsPlain a.status
-so_far file text b p a (points x more is) = subst IsPlain (sym (ap (λ x. x.status) is)) (plain_number 3 (omega arith))
-so_far file text b p a (size x few price is_price above is) = subst IsPlain (sym (ap (λ x. x.status) is)) (plain_number 3 (omega arith))
-so_far file text b p a (holds within x y z is) = plain_at a 0 _ is (plain_number 0 (omega arith))
-so_far file text b p a (beyond within x is) = plain_not_built a is
+-- the statuses of reports and of certified questions
+plain_report : (r : Report) → IsPlain (status_of r)
+plain_report HoldsReport = plain_number 0 (omega arith)
+plain_report VacuousReport = plain_number 0 (omega arith)
+plain_report (FailsReport e at step) = plain_number 1 (omega arith)
+plain_report (UnrollReport at step) = plain_number 3 (omega arith)
+plain_report PointsReport = plain_number 3 (omega arith)
+plain_report SizeReport = plain_number 3 (omega arith)
+plain_report ConflictsReport = plain_number 3 (omega arith)
+
+plain_reported : (p : Program) (layout : Layout) (b : Budget) (a : Answer) → IsReported p layout b a → IsPlain a.status
+plain_reported p layout b a is = subst IsPlain (sym (ap (λ x. x.status) is.3)) (plain_report is.0)
+
+plain_certified : (p : Program) (b : Budget) (q : Question) (status : ℕ) (written : List ℕ) (e : Evidence) → IsCertified p b q status written e → IsPlain status
+plain_certified p b q status written e (certified.points more) = plain_number 3 (omega arith)
+plain_certified p b q status written e (certified.size price few is less) = plain_number 3 (omega arith)
+plain_certified p b q status written e (certified.conflicts proof within spends) = plain_number 3 (omega arith)
+plain_certified p b q status written e (certified.satisfiable within is) = plain_number 1 (omega arith)
+plain_certified p b q status written e (certified.certified proof within none refutes) = plain_number 0 (omega arith)
+
+where_built : (file : List ℕ) (Next : Answer → Type 0) (a : Answer) → (Next a → IsPlain a.status) → WhereBuilt file Next a → IsPlain a.status
+where_built file Next a step (built is next) = step next
+where_built file Next a step (missing is a_is) = plain_not_built a a_is
 
 after_notes : (file text : List ℕ) (Next : Program → Answer → Type 0) (a : Answer) → ((p : Program) → Next p a → IsPlain a.status) → AfterNotes file text Next a →
     IsPlain a.status
@@ -124,9 +119,8 @@ after_both s elf notes Next a step =
 pub due_is_plain : (s : Surroundings) (c : Option Command) (a : Answer) → IsDue s c a → IsPlain a.status
 due_is_plain s None a is = plain_at a 2 _ is (plain_number 2 (omega arith))
 due_is_plain s (Some (Verify elf notes b)) a due =
-    after_read s elf (λ file. AfterImage file (AfterRead s notes (λ text. AfterNotes file text (IsVerifiedSoFar file text b)))) a
-    (λ file. after_image file (AfterRead s notes (λ text. AfterNotes file text (IsVerifiedSoFar file text b))) a
-    (after_read s notes (λ text. AfterNotes file text (IsVerifiedSoFar file text b)) a (λ text. after_notes file text (IsVerifiedSoFar file text b) a (λ p. so_far file text b p a)))) due
+    after_both s elf notes (λ file p. WhereBuilt file (IsReported p (layout_of file) b)) a
+    (λ file p. where_built file (IsReported p (layout_of file) b) a (plain_reported p (layout_of file) b a)) due
 due_is_plain s (Some (Check name)) a due =
     after_read s name _ a (λ text p. plain_checked text a.text a.status p.0) due
 due_is_plain s (Some (Lift elf)) a due =
@@ -136,5 +130,18 @@ due_is_plain s (Some (Graph elf notes)) a due = after_both s elf notes IsGraphed
 due_is_plain s (Some (Script elf notes q b)) a is = plain_not_built a is
 due_is_plain s (Some (Replay elf notes report)) a due =
     after_both s elf notes (λ file p. IsReplayedSoFar s report file p) a (λ file p. replayed_so_far s report file p a) due
-due_is_plain s (Some (Certify elf notes q b)) a is = plain_not_built a is
+due_is_plain s (Some (Certify elf notes q b)) a due =
+    after_both s elf notes (λ file p. WhereBuilt file (λ x. IsCertified p b q x.status x.text x.evidence)) a
+    (λ file p. where_built file (λ x. IsCertified p b q x.status x.text x.evidence) a (plain_certified p b q a.status a.text a.evidence)) due
 due_is_plain s (Some (SelfRun seed count)) a is = plain_not_built a is
+
+-- so neither status comes of a due answer
+pub not_seven : (s : Surroundings) (c : Option Command) (a : Answer) → IsDue s c a → a.status ≡ 7 → ⊥
+not_seven s c a due is = (due_is_plain s c a due).0 is
+
+pub not_eight : (s : Surroundings) (c : Option Command) (a : Answer) → IsDue s c a → a.status ≡ 8 → ⊥
+not_eight s c a due is = (due_is_plain s c a due).1 is
+
+pub neither : (s : Surroundings) (c : Option Command) (a : Answer) → IsDue s c a → (a.status ≡ 7) ⊎ (a.status ≡ 8) → ⊥
+neither s c a due (inl is) = not_seven s c a due is
+neither s c a due (inr is) = not_eight s c a due is

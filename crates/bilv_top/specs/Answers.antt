@@ -5,18 +5,25 @@ use Rattle.bilv_spec.specs.Answers as spec
 use Rattle.bilv_spec.specs.Outcomes.{Surroundings}
 use Rattle.bilv_spec.specs.Verified.{elf_fault_text}
 use Rattle.bilv_spec.specs.ElfFaults.{ShortFile, BadMagic, BadClass, BadData, BadVersion, BadType, BadMachine, BadHeaderTable, BadSegmentRange, BadFileSize, SegmentsOverlap, BadSymbolTable}
+use Rattle.cnf_form.specs.Views.{proof_of}
+use Rattle.question_form.specs.Views.{kind_of}
+use Rattle.state_text.specs.Starts.{written_of}
 use Rattle.elf32_reader.specs.declared.fault.ElfFault.{ElfFault}
 use Rattle.elf32_reader.specs.declared.fault.ElfFault.TheVariants.{Short, Magic, Class, Data, Version, «Type», Machine, HeaderTable, SegmentRange, FileSize, Overlap, SymbolTable, Memory}
 use Rattle.bilv_top.specs.declared.answer.Answer.{Answer}
 use Rattle.bilv_top.specs.declared.answer.Evidence.{Evidence}
-use Rattle.bilv_top.specs.declared.answer.Evidence.TheVariants.{None as Nothing, Count as Counted}
+use Rattle.bilv_top.specs.declared.answer.Evidence.TheVariants.{None as Nothing, Refutations, EntryRefuted, RunOf, SpentOn, Count}
 use Rattle.bilv_top.specs.declared.answer.Step.{Step}
 use Rattle.bilv_top.specs.declared.answer.Step.TheVariants.{Answered, Go}
 
 -- what shows that an answer is right
 abbrev pub evidence_of : Evidence → spec.Evidence
 evidence_of Nothing = spec.NoEvidence
-evidence_of (Counted n) = spec.Count n
+evidence_of (Refutations start fail turn) = spec.Refutations (written_of start) (proof_of fail) (proof_of turn)
+evidence_of (EntryRefuted proof) = spec.EntryRefuted (proof_of proof)
+evidence_of (RunOf start) = spec.RunOf (written_of start)
+evidence_of (SpentOn question proof) = spec.SpentOn (kind_of question) (proof_of proof)
+evidence_of (Count n) = spec.Count n
 
 -- an answer
 abbrev pub answer_of : Answer → spec.Answer

@@ -4,34 +4,27 @@ use Rattle.bilv_spec.specs.Outside.{Held, Agrees, IsLonger, Rose, Appends}
 use Rattle.bilv_spec.specs.Machine.{Row}
 use Rattle.bilv_spec.specs.Rv.{rv32}
 use Rattle.bilv_spec.specs.Run.{Program}
-use Rattle.bilv_spec.specs.Verdict.{IsRight, Holds}
-use Rattle.bilv_spec.specs.Points.{HasMore, IsPrice}
+use Rattle.bilv_spec.specs.Certified.{IsCertified}
 use Rattle.bilv_spec.specs.Files.{is_rv, machine_of, names_of, layout_of, IsFunctionAt}
 use Rattle.bilv_spec.specs.NotesGrammar.{IsNotesText}
 use Rattle.bilv_spec.specs.LiftText.{IsLiftTextBy}
 use Rattle.bilv_spec.specs.Replays.{replay_answer}
-use Rattle.bilv_spec.specs.Answers.{Budget, IsWithin, default_budget, PointsReport, SizeReport, Evidence, Count, Answer, plain_answer, report_answer}
-use Rattle.bilv_spec.specs.Outcomes.{Surroundings, Command, Verify, Lift, Graph, Replay, Check, read_fault, AfterRead, AfterElf, AfterBoth, IsGraphed, IsRightAnswer}
-use Rattle.bilv_spec.specs.Verified.{AfterNotes, AreNotesRefused, notes_limit, usage_text}
+use Rattle.bilv_spec.specs.Answers.{Evidence, Answer, plain_answer, IsReported}
+use Rattle.bilv_spec.specs.Outcomes.{Surroundings, Command, Verify, Lift, Graph, Replay, Certify, Check, read_fault, AfterRead, AfterElf, AfterBoth, IsGraphed, IsRightAnswer}
+use Rattle.bilv_spec.specs.Verified.{AreNotesRefused, notes_limit, usage_text}
 use Rattle.bilv_spec.specs.Texts.{line}
 use Rattle.notes_lang.specs.Drafting.{notes_of}
-use Rattle.notes_value.specs.Reads.{AreReadable}
+use Rattle.notes_value.specs.Reads.{AreOver, AreReadable}
 use Rattle.bilv_top.specs.declared.inputs.Found.{Found}
-use Rattle.bilv_top.specs.FirstForm.{IsFirst}
 
 -- the answer to what is not built
 abbrev pub not_built : Answer
 not_built = plain_answer 10 (line (codes "not built"))
 
--- The answer to a program that two files are. For RISC-V it is first that there are more points than the budget, wherever there are, with their count; then that
--- the price is above the budget's size, wherever it is, with the price. Else it is so far holds alone, for files of the first form and the default budget; and it is
--- not built for every other program, those of the first form for which another verdict is right among them.
-pub data IsVerifiedSoFar (file text : List ℕ) (b : Budget) (p : Program) (a : Answer) : Type 0 where
-  points : is_rv file ≡ true → HasMore p b.unroll b.points → a ≡ report_answer (layout_of file) b PointsReport (Count (b.points + 1)) → IsVerifiedSoFar file text b p a
-  size : is_rv file ≡ true → ¬ HasMore p b.unroll b.points → (price : ℕ) → IsPrice p b.unroll price → b.size < price →
-      a ≡ report_answer (layout_of file) b SizeReport (Count price) → IsVerifiedSoFar file text b p a
-  holds : (is_rv file ≡ true → IsWithin p b) → b ≡ default_budget → IsFirst file text → IsRight p b.unroll Holds → a ≡ plain_answer 0 (line (codes "holds")) → IsVerifiedSoFar file text b p a
-  beyond : (is_rv file ≡ true → IsWithin p b) → (b ≡ default_budget → IsFirst file text → ¬ IsRight p b.unroll Holds) → a ≡ not_built → IsVerifiedSoFar file text b p a
+-- The answer to a program: what comes next where the file is of RISC-V. For ARM it isn't built.
+pub data WhereBuilt (file : List ℕ) (Next : Answer → Type 0) (a : Answer) : Type 0 where
+  built : is_rv file ≡ true → Next a → WhereBuilt file Next a
+  missing : is_rv file ≡ false → a ≡ not_built → WhereBuilt file Next a
 
 -- the rows that are built: those of RV32IM
 abbrev pub rows_by : (of_rv : Bool) → ℕ → Option Row
@@ -54,10 +47,12 @@ pub data IsGraphedSoFar (file : List ℕ) (p : Program) (a : Answer) : Type 0 wh
 
 -- the answer that is due to a command
 abbrev pub IsDueTo : Surroundings → Command → Answer → Type 0
-IsDueTo s (Verify elf notes b) a = AfterElf s elf (λ file. AfterRead s notes (λ text. AfterNotes file text (IsVerifiedSoFar file text b))) a
+IsDueTo s (Verify elf notes b) a = AfterBoth s elf notes (λ file p. WhereBuilt file (IsReported p (layout_of file) b)) a
 IsDueTo s (Lift elf) a = AfterElf s elf IsLiftedSoFar a
 IsDueTo s (Graph elf notes) a = AfterBoth s elf notes IsGraphedSoFar a
 IsDueTo s (Replay elf notes report) a = AfterBoth s elf notes (λ file p. IsReplayedSoFar s report file p) a
+IsDueTo s (Certify elf notes question b) a =
+    AfterBoth s elf notes (λ file p. WhereBuilt file (λ due. IsCertified p b question due.status due.text due.evidence)) a
 IsDueTo s (Check certificate) a = IsRightAnswer s (Check certificate) a
 IsDueTo s other a = a ≡ not_built
 
@@ -96,8 +91,9 @@ pub data IsNotesAnswer (held : Held) (before after : ℕ) (file : List ℕ) (a :
   unread : IsUnread held before after notes_limit (plain_answer 5 (line (codes "notes: TooLarge"))) a → IsNotesAnswer held before after file a
   refused : (text : List ℕ) → Agrees held text → AreNotesAnswered file text a → IsNotesAnswer held before after file a
 
--- what was found over a file: the notes that the text says, the address of their function, and that the machine has the registers that they name
+-- what was found over a file: the notes that the text says, the address of their function, and that the machine has the registers and flags that they name
 pub record IsFoundBy (file : List ℕ) (f : Found) : Type 0 where
   pub says : IsNotesText (names_of file) f.text.items (notes_of f.notes)
   pub at : IsFunctionAt file (notes_of f.notes).entry f.entry
   pub readable : AreReadable (machine_of file).has_register (notes_of f.notes)
+  pub over : AreOver (machine_of file).has_register (machine_of file).has_flag (notes_of f.notes)

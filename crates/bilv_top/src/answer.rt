@@ -1,11 +1,29 @@
 //! Answers, and steps on the way to one.
+use cnf_form::Proof;
+use question_form::Kind;
+use state_text::Start;
 
 /// What shows that an answer is right.
-#[derive(Clone, Copy, Debug, PartialEq, Eq)]
+#[derive(Drop)]
 pub enum Evidence {
     /// Nothing: the answer needs none.
     None,
-    /// So many points, one more than the budget, were found; or this is the price, which is above the budget's size.
+    /// An entry state, and that no run fails and none makes too many backward transfers.
+    Refutations {
+        start: Start,
+        fail: Proof,
+        turn: Proof,
+    },
+    /// That there is no entry state.
+    EntryRefuted(Proof),
+    /// The start whose run ends as the answer says.
+    RunOf(Start),
+    /// A question, and the search that spent the conflicts on it.
+    SpentOn {
+        question: Kind,
+        proof: Proof,
+    },
+    /// The points that were found, one more than the budget, or the price.
     Count(u128),
 }
 

@@ -9,6 +9,7 @@ ghost use Rattle.bilv_top.specs.Due.{IsCut, IsDue, IsDueTo, IsWhole};
 
 use crate::answer::{Answer, Evidence};
 use crate::certificate::check_certificate;
+use crate::certify::certify;
 use crate::graph::graph;
 use crate::lift::lift;
 use crate::reading::answer;
@@ -20,9 +21,11 @@ use std::alloc::{AllocError, Global};
 
 /// The answer of the program: its exit status, and what shows that it is right.
 ///
-/// The exit status is 0 for the verdict `holds`, for lifted words, for a flow graph, for a report that was replayed and for a certificate that is accepted, 2 for an unlawful line, 3 for a program with more points than the budget or a price above its size, 4 for a refused ELF file, 5 for refused notes,
-/// 6 for a file that could not be read, 7 for a write that failed, 8 for want of memory, 9 for a report that is not what its replay finds and for a certificate that is not accepted, and 10 for what is not built.
-#[derive(Clone, Copy, Debug, PartialEq, Eq)]
+/// The exit status is 0 for the verdicts `holds` and `vacuous`, for lifted words, for a flow graph, for a report that was replayed, for a certificate that is printed or
+/// accepted; 1 for the verdict `fails` and for a question that is satisfiable; 2 for an unlawful line; 3 for what stays unknown within the budgets; 4 for a refused ELF file;
+/// 5 for refused notes; 6 for a file that could not be read; 7 for a write that failed; 8 for want of memory; 9 for a report that is not what its replay finds and for a
+/// certificate that is not accepted; and 10 for what is not built.
+#[derive(Drop)]
 pub struct Outcome {
     pub status: u8,
     pub evidence: Evidence,
@@ -38,6 +41,12 @@ fn obey<H: Shelf>(alloc: Global, command: Command, shelf: &mut H) -> Result<Answ
         Command::Lift { elf } => lift(alloc, shelf, elf),
         Command::Graph { elf, notes } => graph(alloc, shelf, elf, notes),
         Command::Replay { elf, notes, state } => replay(alloc, shelf, elf, notes, state),
+        Command::Certify {
+            elf,
+            notes,
+            question,
+            budget,
+        } => certify(alloc, shelf, elf, notes, question, budget),
         Command::Check { certificate } => check_certificate(alloc, shelf, certificate),
         _ => answer(alloc, 10, b"not built\n"),
     }
@@ -56,6 +65,16 @@ fn due<H: Shelf>(alloc: Global, words: &[String], shelf: &mut H) -> Result<Answe
             b"usage: bilv verify|lift|graph|smt|replay|cert|check|selfrun\n",
         ),
         Err(LineError::Memory) => Err(AllocError),
+    }
+}
+
+/// The outcome where not all of an answer was written: no evidence is left of it.
+fn cut(_answer: Answer) -> Outcome
+    ensures { result ≡ record { status = 7; evidence = Evidence.None } }
+{
+    Outcome {
+        status: 7,
+        evidence: Evidence::None,
     }
 }
 
@@ -88,9 +107,6 @@ pub fn bilv<H: Shelf, K: Sink>(
             status: answer.status,
             evidence: answer.evidence,
         },
-        Err(_) => Outcome {
-            status: 7,
-            evidence: Evidence::None,
-        },
+        Err(_) => cut(answer),
     }
 }

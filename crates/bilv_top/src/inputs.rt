@@ -7,7 +7,7 @@ ghost use Rattle.bilv_spec.specs.Texts.{line};
 ghost use Rattle.bilv_spec.specs.Verified as verified;
 ghost use Rattle.bilv_spec.specs.Verified.{AfterImage, IsAccepted};
 ghost use Rattle.notes_lang.specs.Judging.{fault_of};
-ghost use Rattle.notes_lang.specs.Parsing.{layout_names, layout_registers};
+ghost use Rattle.notes_lang.specs.Parsing.{layout_flags, layout_names, layout_registers};
 ghost use Rattle.notes_lang.specs.Saying.{function_of};
 ghost use Rattle.bilv_top.specs.Answers.{IsOfFile, IfStep, answer_of, elf_text_of};
 ghost use Rattle.bilv_top.specs.Due.{AreNotesAnswered, IsFoundBy, IsNotesAnswer, IsUnread};
@@ -46,6 +46,7 @@ pub struct Found {
 fn layout(image: &Image) -> Layout
     ensures names { layout_names result ≡ names_of image.now }
     ensures registers { layout_registers result ≡ (machine_of image.now).has_register }
+    ensures flags { layout_flags result ≡ (machine_of image.now).has_flag }
 {
     if image.is_risc_v() {
         Layout::Rv32

@@ -4,17 +4,15 @@
 mod answer;
 mod call;
 mod certificate;
-mod first_notes;
+mod certify;
 mod flow;
 mod graph;
 mod inputs;
-mod judge;
 mod lift;
-mod line;
 mod program;
 mod reading;
 mod replay;
-mod row_file;
+mod reports;
 mod texts;
 mod verify;
 

@@ -1,0 +1,61 @@
+-- What verdicts and certified questions answer.
+use Rattle.std.proofs.Common.{◌≡◌, ℕ, List, true, false, refl, ap, sym, subst, ◌∙◌}
+use Rattle.std.specs.Prelude.{codes, if◌then◌else◌}
+use Rattle.bilv_spec.specs.Run.{Program}
+use Rattle.bilv_spec.specs.Questions.{Question}
+use Rattle.bilv_spec.specs.StateText.{Layout, rv_layout, arm_layout}
+use Rattle.bilv_spec.specs.Elf.{file_endian}
+use Rattle.bilv_spec.specs.Files.{is_rv, layout_of}
+use Rattle.bilv_spec.specs.Texts.{line}
+use Rattle.bilv_spec.specs.Answers.{Answer, Budget, Count, SpentOn, budget_text, plain_answer, report_answer, IsReported, IsRightReport}
+use Rattle.bilv_spec.specs.Certificates.{certificate_text}
+use Rattle.bilv_spec.specs.Certified as spec
+use Rattle.bilv_spec.specs.Certified.{IsCertified}
+use Rattle.cnf_form.specs.Views.{cnf_of, lines_of, proof_of}
+use Rattle.cnf_form.specs.declared.form.Proof.{Proof}
+use Rattle.verdict.specs.Verdicts.{budget_of, report_of, evidence_of, IsVerdict, IsCertificate}
+use Rattle.verdict.specs.declared.verdicts.Budget.{Budget as Limits}
+use Rattle.verdict.specs.declared.verdicts.Verdict.{Verdict}
+use Rattle.verdict.specs.declared.verdicts.Certified.{Certified}
+use Rattle.verdict.specs.declared.verdicts.Certified.TheVariants.{Points, Size, Conflicts, Satisfiable, Refuted}
+
+-- the layout of a file of RISC-V
+rv_written : (file : List ℕ) → is_rv file ≡ true → rv_layout ≡ layout_of file
+rv_written file is = sym (ap (λ b. if b then rv_layout else arm_layout (file_endian file)) is)
+
+-- the report of a verdict is right
+pub verdict_reported : (file : List ℕ) (p : Program) (b : Budget) (l : Limits) (v : Verdict) (a : Answer) → is_rv file ≡ true → budget_of l ≡ b →
+    IsVerdict p rv_layout l v → a ≡ report_answer rv_layout b (report_of v) (evidence_of v) → IsReported p (layout_of file) b a
+verdict_reported file p b l v a rv same right is =
+    subst (λ layout. IsReported p layout b a) (rv_written file rv)
+    (report_of v, evidence_of v, subst (λ x. IsRightReport p rv_layout x (report_of v) (evidence_of v)) same right, is)
+
+-- the answer to a question
+abbrev IsSaid : Program → Budget → Question → Answer → Type 0
+IsSaid p b q a = IsCertified p b q a.status a.text a.evidence
+
+module _ (p : Program) (b : Budget) (q : Question) (a : Answer) where
+  pub points_said : (count : ℕ) → a ≡ record { status = 3; text = budget_text (codes "points") b.points; evidence = Count count } →
+      IsCertificate p b q (Points count) → IsCertified p b q a.status a.text a.evidence
+  points_said count is came =
+      subst (IsSaid p b q) (sym (is ∙ ap (λ n. record { status = 3; text = budget_text (codes "points") b.points; evidence = Count n }) came.1)) (spec.points came.0)
+
+  pub size_said : (price : ℕ) → a ≡ record { status = 3; text = budget_text (codes "size") b.size; evidence = Count price } →
+      IsCertificate p b q (Size price) → IsCertified p b q a.status a.text a.evidence
+  size_said price is came = subst (IsSaid p b q) (sym is) (spec.size price came.0 came.1 came.2)
+
+  pub conflicts_said : (proof : Proof) → a ≡ record { status = 3; text = budget_text (codes "conflicts") b.conflicts; evidence = SpentOn q (proof_of proof) } →
+      IsCertificate p b q (Conflicts proof) → IsCertified p b q a.status a.text a.evidence
+  conflicts_said proof is came = subst (IsSaid p b q) (sym is) (spec.conflicts (proof_of proof) came.0 came.1)
+
+  pub satisfiable_said : a ≡ plain_answer 1 (line (codes "satisfiable")) → IsCertificate p b q Satisfiable → IsCertified p b q a.status a.text a.evidence
+  satisfiable_said is came = subst (IsSaid p b q) (sym is) (spec.satisfiable came.0 came.1)
+
+  pub refuted_said : (proof : Proof) → a ≡ plain_answer 0 (certificate_text (cnf_of proof.clauses) (lines_of proof.log)) →
+      IsCertificate p b q (Refuted proof) → IsCertified p b q a.status a.text a.evidence
+  refuted_said proof is came = subst (IsSaid p b q) (sym is) (spec.certified (proof_of proof) came.0 came.1 came.2)
+
+-- the question of the command line, within its budgets
+pub question_certified : (p : Program) (b l : Budget) (q r : Question) (v : Certified) (a : Answer) → l ≡ b → q ≡ r → IsCertificate p l q v →
+    ((p : Program) → IsCertificate p b q v → IsCertified p b q a.status a.text a.evidence) → IsCertified p b r a.status a.text a.evidence
+question_certified p b l q r v a same asks came said = subst (λ x. IsSaid p b x a) asks (said p (subst (λ x. IsCertificate p x q v) same came))

@@ -1,0 +1,126 @@
+//! The answers of reports over programs of RISC-V.
+ghost use Rattle.std.specs.Prelude.{◌≡◌, IfOk};
+ghost use Rattle.bilv_spec.specs.Answers as answers;
+ghost use Rattle.bilv_spec.specs.Answers.{budget_text, report_answer};
+ghost use Rattle.bilv_spec.specs.StateText.{printed, rv_layout};
+ghost use Rattle.command_line.specs.Commands.{budget_of};
+ghost use Rattle.state_text.specs.Starts.{named_of, written_of};
+ghost use Rattle.verdict.specs.Verdicts as verdicts;
+ghost use Rattle.verdict.specs.Verdicts.{report_of};
+ghost use Rattle.bilv_top.specs.Answers.{answer_of, evidence_of};
+
+use crate::answer::{Answer, Evidence};
+use crate::texts::budget_line;
+use command_line::Budget;
+use state_text::{Layout, NamedEnding, Start, StateText, print_state};
+use std::alloc::{AllocError, Global};
+use verdict::Verdict;
+
+/// The status of a report of a run that fails.
+const FAILS: u8 = 1;
+
+/// The status of a report that something stays unknown.
+const UNKNOWN: u8 = 3;
+
+/// The budgets of the command line, as the verdict takes them.
+pub fn limits(budget: Budget) -> verdict::Budget
+    ensures { verdicts.budget_of result ≡ budget_of budget }
+{
+    verdict::Budget {
+        unroll: budget.unroll,
+        points: budget.points,
+        size: budget.size,
+        conflicts: budget.conflicts,
+    }
+}
+
+/// The report that a budget of so much does not suffice, with what shows it. The error is want of memory.
+pub fn exceeded(
+    alloc: Global,
+    budget: &[u8],
+    number: u64,
+    evidence: Evidence,
+) -> Result<Answer, AllocError>
+    ensures { IfOk result (λ a. answer_of a ≡ record { status = 3; text = budget_text budget.now number; evidence = evidence_of evidence }) }
+{
+    let text = budget_line(alloc, budget, number)?;
+    Ok(Answer {
+        status: UNKNOWN,
+        text,
+        evidence,
+    })
+}
+
+/// The report of a verdict on all runs. The error is want of memory.
+fn judged(alloc: Global, text: &[u8], evidence: Evidence) -> Result<Answer, AllocError>
+    ensures { IfOk result (λ a. answer_of a ≡ record { status = 0; text = text.now; evidence = evidence_of evidence }) }
+{
+    let text = text.to_vec(alloc)?;
+    Ok(Answer {
+        status: 0,
+        text,
+        evidence,
+    })
+}
+
+/// The report of the end of the run from a start, which it shows. The error is want of memory.
+fn shown(alloc: Global, status: u8, named: NamedEnding, start: Start) -> Result<Answer, AllocError>
+    ensures { IfOk result (λ a. answer_of a ≡ record {
+      status = status;
+      text = printed rv_layout (record { named = named_of named; start = written_of start });
+      evidence = answers.RunOf (written_of start);
+    }) }
+{
+    let state = StateText { named, start };
+    let text = print_state(alloc, &state, Layout::Rv32)?;
+    Ok(Answer {
+        status,
+        text,
+        evidence: Evidence::RunOf(state.start),
+    })
+}
+
+/// The report of a verdict within budgets. The error is want of memory.
+pub fn report(alloc: Global, budget: Budget, verdict: Verdict) -> Result<Answer, AllocError>
+    ensures { IfOk result (λ a. answer_of a ≡ report_answer rv_layout (budget_of budget) (report_of verdict) (verdicts.evidence_of verdict)) }
+{
+    match verdict {
+        Verdict::Holds { start, fail, turn } => {
+            judged(
+                alloc,
+                b"holds\n",
+                Evidence::Refutations { start, fail, turn },
+            )
+        }
+        Verdict::Vacuous(proof) => judged(alloc, b"vacuous\n", Evidence::EntryRefuted(proof)),
+        Verdict::Fails {
+            event,
+            at,
+            step,
+            start,
+        } => shown(
+            alloc,
+            FAILS,
+            NamedEnding::FailsBy { event, at, step },
+            start,
+        ),
+        Verdict::Unroll { at, step, start } => {
+            let k = budget.unroll;
+            shown(
+                alloc,
+                UNKNOWN,
+                NamedEnding::UnknownBy { k, at, step },
+                start,
+            )
+        }
+        Verdict::Points { count } => {
+            let found = Evidence::Count(count as u128);
+            exceeded(alloc, b"points", budget.points, found)
+        }
+        Verdict::Size { price } => exceeded(alloc, b"size", budget.size, Evidence::Count(price)),
+        Verdict::Conflicts { question, proof } => {
+            let spent = Evidence::SpentOn { question, proof };
+            exceeded(alloc, b"conflicts", budget.conflicts, spent)
+        }
+    }
+}
