@@ -1,15 +1,15 @@
 -- The bytes of a memory at entry that give the base reads theirs.
-use Rattle.std.proofs.Common.{◌≡◌, ◌⊎◌, inl, inr, ℕ, zero, suc, ◌+◌, ◌^◌, ◌<◌, ◌≤◌, Bool, true, false, List, [], ◌∷◌, length, get_or, refl, ap, sym, ◌∙◌, subst, arith}
+use Rattle.std.proofs.Common.{◌≡◌, ◌⊎◌, inl, inr, ℕ, zero, suc, ◌^◌, ◌<◌, ◌≤◌, Bool, true, false, List, [], ◌∷◌, length, get_or, refl, ap, sym, ◌∙◌, subst, arith}
 use Rattle.std.specs.Prelude.{◌↔◌, ◌==◌, nat_lt, if◌then◌else◌, Option, Some, None, All, Contains, filter, slice_index}
-use Rattle.std.proofs.lemmas.Bool.{cases_eq, cases_lt}
+use Rattle.std.proofs.lemmas.Bool.{cases_eq}
 use Rattle.std.proofs.lemmas.Bool.Decides.{nat_tests}
 use Rattle.std.proofs.lemmas.List.Elements.{All-filter, Contains-get_or, filter_passes}
 use Rattle.std.proofs.lemmas.List.Kept.{AllPairs-filter}
 use Rattle.bilv_spec.specs.Words.{word}
-use Rattle.bilv_spec.specs.Memory.{byte_in}
+use Rattle.bilv_spec.specs.Memory.{Memory, byte_in}
 use Rattle.bilv_spec.specs.StateText.{AreRising, known_or}
 use Rattle.bilv_spec.proofs.Pigeons.{truth}
-use Rattle.walk_spec.specs.Terms.{with_mem}
+use Rattle.walk_spec.specs.Terms.{TermReading, with_mem}
 use Rattle.walk_spec.specs.Unrolled.{UnrolledProgram, byte_of_runs}
 use Rattle.walk_spec.specs.Cells.{Cells, AreFormed, Gives, read_address}
 use Rattle.walk_spec.specs.ClauseForm.{IsBroken, reading}
@@ -18,26 +18,8 @@ use Rattle.mem_cells.proofs.Gathered.{term_free}
 use Rattle.bit_blast.specs.ReadBytes.{AreReads, is_free, is_unknown}
 use Rattle.bit_blast.proofs.Kept.{stands_in, stays_in}
 use Rattle.bit_blast.proofs.ReadValues.{address_few}
-use Rattle.bit_blast.proofs.StepChoices.{any_default}
 
 -- ---- rising addresses
-
-rise_far : (xs : List (ℕ × ℕ)) → ((k : ℕ) → k + 1 < length xs → (get_or xs k (0, 0)).0 < (get_or xs (k + 1) (0, 0)).0) → (i j : ℕ) → i < j → j < length xs →
-    (get_or xs i (0, 0)).0 < (get_or xs j (0, 0)).0
-rise_far xs up i zero l w = absurd (omega arith)
-rise_far xs up i (suc j) l w =
-    let e : j + 1 ≡ suc j = omega arith in
-    let near : (get_or xs j (0, 0)).0 < (get_or xs (suc j) (0, 0)).0 = subst (λ (n : ℕ). (get_or xs j (0, 0)).0 < (get_or xs n (0, 0)).0) e (up j (omega arith)) in
-    elim (cases_lt i j) as (λ _. (get_or xs i (0, 0)).0 < (get_or xs (suc j) (0, 0)).0) [
-      | inl less ↦ (let far = rise_far xs up i j less (omega arith) in omega arith)
-      | inr le ↦ (let same : i ≡ j = omega arith in subst (λ (n : ℕ). (get_or xs n (0, 0)).0 < (get_or xs (suc j) (0, 0)).0) (sym same) near)
-    ]
-
-pub are_rising : (xs : List (ℕ × ℕ)) → ((k : ℕ) → k + 1 < length xs → (get_or xs k (0, 0)).0 < (get_or xs (k + 1) (0, 0)).0) → AreRising xs
-are_rising xs up i j d l m =
-    let p = ap (λ (z : ℕ × ℕ). z.0) (any_default xs i d (0, 0) (omega (arith, l, m))) in
-    let q = ap (λ (z : ℕ × ℕ). z.0) (any_default xs j d (0, 0) m) in
-    omega (arith, p, q, rise_far xs up i j l m)
 
 tail_rises : (x : ℕ × ℕ) (xs : List (ℕ × ℕ)) → AreRising (x ∷ xs) → AreRising xs
 tail_rises x xs h i j d l m = h (suc i) (suc j) d (omega (arith, l)) (omega (arith, m))
@@ -81,6 +63,18 @@ byte_same (x ∷ xs) a h = elim (truth (nat_lt 0 x.1)) [
     left f (inr t) = sym (ap (λ y. if y then x.1 else byte_in xs a) t)
 
 -- ---- the memory
+
+-- some memory has the byte of each read whose address is not known
+pub one_memory : (u : UnrolledProgram) (c : Cells) → AreFormed u c → (x : TermReading) (m : Memory) → Gives c (with_mem x m) → (xs us : List (ℕ × ℕ)) → AreReads c x xs →
+    us ≡ filter (is_unknown u.known) xs → (m : ℕ → ℕ) × ((y : ℕ × ℕ) → Contains us y → m y.0 ≡ y.1)
+one_memory u c formed x m gives xs us reads free = (
+  m,
+  λ y h.
+      let q = stands_in (is_unknown u.known) (0, 0) xs y (subst (λ (z : List (ℕ × ℕ)). Contains z y) free h) in
+      let l : q.0 < length c.addresses = omega (arith, q.1, reads.count) in
+      ap (λ (z : ℕ × ℕ). m z.0) (sym q.3) ∙ ap m (reads.address q.0 l) ∙ ap m (sym (term_free x m c.nodes (slice_index c.addresses q.0) formed.words)) ∙ sym (gives q.0 l)
+      ∙ sym (reads.byte q.0 l) ∙ ap (λ (z : ℕ × ℕ). z.1) q.3,
+)
 
 free_none : (o : Option ℕ) → is_free o ≡ true → o ≡ None
 free_none None h = refl

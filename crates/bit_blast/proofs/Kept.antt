@@ -48,7 +48,7 @@ stays_in {X} p d xs j l t = subst (λ (z : List X). Contains z (get_or xs j d)) 
 abbrev pub equal_pairs : ℕ × ℕ → ℕ × ℕ → Bool
 equal_pairs x y = eqb x.0 y.0 && eqb x.1 y.1
 
-exact : (x y : ℕ × ℕ) → equal_pairs x y ≡ true → x ≡ y
+pub exact : (x y : ℕ × ℕ) → equal_pairs x y ≡ true → x ≡ y
 exact (a, b) (c, d) h =
     let p = and_parts (eqb a c) (eqb b d) h in
     let e : a ≡ c = (let q = p.0 in grind (arith, nat_tests)) in

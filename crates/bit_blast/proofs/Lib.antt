@@ -13,4 +13,5 @@ pub mod StartInputs
 pub mod Kept
 pub mod ReadValues
 pub mod BrokenReads
+pub mod RisingPairs
 pub mod EntryBytes

@@ -1,11 +1,11 @@
 //! The memory at entry that values give.
-ghost use Rattle.std.specs.Prelude.{◌≡◌, ◌↔◌, ◌++◌, ℕ, [], ◌∷◌, ◌≤◌, ◌<◌, ◌^◌, true, None, All, Contains, filter, map, nat_lt, IfOk, OnOk};
+ghost use Rattle.std.specs.Prelude.{◌≡◌, ◌↔◌, ◌++◌, ℕ, [], ◌∷◌, ◌≤◌, ◌<◌, ◌^◌, None, All, Contains, filter, map, nat_lt, IfOk, OnOk};
 ghost use Rattle.bilv_spec.specs.Words.{word};
 ghost use Rattle.bilv_spec.specs.Clauses.{valuation};
 ghost use Rattle.bilv_spec.specs.StateText.{AreRising, known_or};
 ghost use Rattle.walk_spec.specs.Terms.{with_mem};
 ghost use Rattle.walk_spec.specs.Unrolled.{byte_of_runs};
-ghost use Rattle.walk_spec.specs.Cells.{AreFormed, IsAllowed, Gives};
+ghost use Rattle.walk_spec.specs.Cells.{AreFormed, Gives};
 ghost use Rattle.walk_spec.specs.ClauseForm.{IsBroken, reading};
 ghost use Rattle.known_bytes.specs.Runs.{run_of};
 ghost use Rattle.mem_cells.specs.Views.{cells_of, program_of_cells};
@@ -49,28 +49,14 @@ fn unknown_reads(
     Ok(found)
 }
 
-/// Whether the addresses rise.
-fn rises(bytes: &[(u32, u8)]) -> bool
-    ensures { result ≡ true → AreRising bytes.now }
-{
-    for i in 1..bytes.len() {
-        if bytes[i - 1].0 >= bytes[i].0 {
-            return false;
-        }
-    }
-    true
-}
-
-/// Bytes by rising addresses, each once. The error is want of memory, or two bytes of one address.
+/// Bytes by rising addresses, each once, where no two of one address differ. The error is want of memory.
 fn bytes_in_order(mut found: Vec<(u32, u8)>) -> Result<Vec<(u32, u8)>, AllocError>
+    requires one { (m : ℕ → ℕ) × ((x : ℕ × ℕ) → Contains found.items x → m x.0 ≡ x.1) }
     ensures rise { IfOk result (λ v. AreRising v.items) }
     ensures same { IfOk result (λ v. (x : ℕ × ℕ) → Contains found.items x ↔ Contains v.items x) }
 {
     found.sort()?;
     found.dedup();
-    if !rises(&found) {
-        return Err(AllocError);
-    }
     Ok(found)
 }
 
@@ -82,16 +68,15 @@ fn not_zero(mut found: Vec<(u32, u8)>) -> Vec<(u32, u8)>
     found
 }
 
-/// The bytes that values give to the memory at entry where no byte is known, by rising address; those that are not listed are 0. The values have to make true what
-/// is said of the base reads, and no read may have another byte than the one that is known at its address.
+/// The bytes that values give to the memory at entry where no byte is known, by rising address; those that are not listed are 0. Some memory has to give each base
+/// read its byte, and no read may have another byte than the one that is known at its address.
 ///
 /// # Errors
 ///
-/// Want of memory, which more than 2^28 points or base reads are; or two reads of one address with different bytes, which cells allow only where they do not
-/// say that the two agree.
+/// Want of memory, which more than 2^28 points or base reads are.
 pub fn memory_of(alloc: Global, c: &Celled, values: &[bool]) -> Result<Vec<(u32, u8)>, AllocError>
     requires formed { AreFormed (program_of_cells c.now) (cells_of c.now) }
-    requires allowed { IsAllowed (cells_of c.now) (reading (program_of_cells c.now) (cells_of c.now) (valuation values.now)) }
+    requires some { (m : ℕ → ℕ) × Gives (cells_of c.now) (with_mem (reading (program_of_cells c.now) (cells_of c.now) (valuation values.now)) m) }
     requires whole { (a : ℕ) → ¬ IsBroken (program_of_cells c.now) (cells_of c.now) (reading (program_of_cells c.now) (cells_of c.now) (valuation values.now)) a }
     ensures bytes { IfOk result (λ b. All (λ x. (x.0 < 2 ^ 32) × (1 ≤ x.1) × (x.1 ≤ 255)) b.items) }
     ensures rise { IfOk result (λ b. AreRising b.items) }

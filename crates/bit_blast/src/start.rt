@@ -7,7 +7,7 @@ ghost use Rattle.walk_spec.specs.Terms.{with_mem};
 ghost use Rattle.walk_spec.specs.Unrolled.{byte_of_runs};
 ghost use Rattle.walk_spec.specs.Unrolling.{IsWalkable};
 ghost use Rattle.walk_spec.specs.Passive.{IsPassive};
-ghost use Rattle.walk_spec.specs.Cells.{AreFormed, Gives, IsAllowed};
+ghost use Rattle.walk_spec.specs.Cells.{AreFormed, Gives};
 ghost use Rattle.walk_spec.specs.ClauseForm.{IsBroken, IsStartOf, reading};
 ghost use Rattle.known_bytes.specs.Runs.{AreRuns};
 ghost use Rattle.term_dag.specs.Readings.{reading_of};
@@ -111,16 +111,15 @@ fn start_with(
 }
 
 /// The start of values of the inputs: the registers and the flags that the values give, the bytes that are not 0 at addresses whose byte is not known, by rising
-/// address, and the choices that are not 0, by the steps at which a run from there draws them. The values have to make true what is said of the base reads, and
-/// no read may have another byte than the one that is known at its address.
+/// address, and the choices that are not 0, by the steps at which a run from there draws them. Some memory has to give each base read its byte, and no read may
+/// have another byte than the one that is known at its address.
 ///
 /// # Errors
 ///
-/// Want of memory, which more than 2^28 points or base reads are; or two reads of one address with different bytes, which cells allow only where they do not
-/// say that the two agree.
+/// Want of memory, which more than 2^28 points or base reads are.
 pub fn start_of(alloc: Global, c: &Celled, values: &[bool]) -> Result<Start, AllocError>
     requires formed { AreFormed (program_of_cells c.now) (cells_of c.now) }
-    requires allowed { IsAllowed (cells_of c.now) (reading (program_of_cells c.now) (cells_of c.now) (valuation values.now)) }
+    requires some { (m : ℕ → ℕ) × Gives (cells_of c.now) (with_mem (reading (program_of_cells c.now) (cells_of c.now) (valuation values.now)) m) }
     requires unbroken { (a : ℕ) → IsBroken (program_of_cells c.now) (cells_of c.now) (reading (program_of_cells c.now) (cells_of c.now) (valuation values.now)) a → ⊥ }
     requires walkable { IsWalkable (program_of_cells c.now) }
     requires passive { IsPassive (program_of_cells c.now) (passive_of c.now.question.now.passive.now) }

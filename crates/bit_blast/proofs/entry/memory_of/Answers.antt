@@ -1,7 +1,16 @@
 use Rattle.bilv_spec.specs.Clauses.{valuation}
+use Rattle.walk_spec.specs.ClauseForm.{reading}
 use Rattle.mem_cells.specs.Views.{cells_of, program_of_cells}
-use Rattle.bit_blast.proofs.EntryBytes.{are_bytes, are_unknown, it_gives, they_rise}
+use Rattle.bit_blast.proofs.EntryBytes.{are_bytes, are_unknown, it_gives, one_memory, they_rise}
 use Rattle.bit_blast.proofs.entry.memory_of.Goals as goal
+
+pub bytes_in_order-requires : goal.bytes_in_order-requires
+bytes_in_order-requires c =
+    let e = rw (c.deref.ensures.value, c.deref-2.ensures.value) at c.in_ok-unknown.ensures in
+    let x = reading (program_of_cells c.args.c.now) (cells_of c.args.c.now) (valuation c.args.values.now) in record {
+      one = one_memory (program_of_cells c.args.c.now) (cells_of c.args.c.now) c.requires.formed x c.requires.some.0 c.requires.some.1 c.in_ok-reads.reads.items
+          c.in_ok-unknown.unknown.items c.in_ok-reads.ensures e;
+    }
 
 pub returns-clause-bytes : goal.returns-clause-bytes
 returns-clause-bytes c =
