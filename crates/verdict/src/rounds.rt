@@ -3,7 +3,8 @@ ghost use Rattle.std.specs.Prelude.{◌≡◌, ◌≤◌, ℕ, IfOk};
 ghost use Rattle.bilv_spec.specs.Clauses.{AreOnVariables, valuation};
 ghost use Rattle.bilv_spec.specs.Refutation.{IsRefutation};
 ghost use Rattle.cnf_form.specs.Views.{lines_of};
-ghost use Rattle.walk_spec.specs.Cells.{AreFormed, IsAllowed};
+ghost use Rattle.walk_spec.specs.Terms.{with_mem};
+ghost use Rattle.walk_spec.specs.Cells.{AreFormed, Gives};
 ghost use Rattle.walk_spec.specs.ClauseForm.{reading};
 ghost use Rattle.mem_cells.specs.Views.{cells_of, program_of_cells};
 ghost use Rattle.walk_spec.specs.WalkQuestions.{TellsQuestion};
@@ -31,7 +32,7 @@ pub enum Round {
 /// What satisfying values come to: the start that they give, or the known bytes that they have not.
 fn judge_values(alloc: Global, celled: &Celled, values: &[bool]) -> Result<Round, AllocError>
     requires formed { AreFormed (program_of_cells celled.now) (cells_of celled.now) }
-    requires allowed { IsAllowed (cells_of celled.now) (reading (program_of_cells celled.now) (cells_of celled.now) (valuation values.now)) }
+    requires some { (m : ℕ → ℕ) × Gives (cells_of celled.now) (with_mem (reading (program_of_cells celled.now) (cells_of celled.now) (valuation values.now)) m) }
     requires askable { IsAskable celled.now.question.now.passive.now }
     ensures { IfOk result (λ r. AreJudged celled.now values.now r) }
 {
