@@ -7,12 +7,13 @@ use Rattle.bilv_spec.specs.Run.{Start}
 use Rattle.bilv_spec.specs.Reports.{NamedEnding, Found}
 use Rattle.bilv_spec.specs.StateText.{Layout, Told, StateIs, StateRefused}
 use Rattle.bilv_spec.specs.Replays.{IsChecked, large, refused, checked, check_status, ending_answer, require_answer, start_answer, told_answer, sized_answer, replay_answer}
-use Rattle.bilv_spec.specs.Answers.{Answer, Budget, plain_answer, Evidence, Report, HoldsReport, VacuousReport, FailsReport, UnrollReport, PointsReport, SizeReport, ConflictsReport, IsReported, status_of}
+use Rattle.bilv_spec.specs.Answers.{Answer, Budget, plain_answer, Evidence, Report, HoldsReport, VacuousReport, FailsReport, UnrollReport, PointsReport, SizeReport, ConflictsReport, IsReported, status_of, default_budget}
 use Rattle.bilv_spec.specs.Certified as certified
 use Rattle.bilv_spec.specs.Certified.{IsCertified}
 use Rattle.bilv_spec.specs.Questions.{Question}
 use Rattle.bilv_spec.specs.Outcomes.{Surroundings, Command, Verify, Lift, Graph, Script, Replay, Certify, Check, SelfRun, read_fault, AfterRead, read_failed, was_read, AfterBoth}
-use Rattle.bilv_spec.specs.Verified.{AfterImage, elf_refused, elf_accepted, AfterNotes, notes_refused, program_found}
+use Rattle.bilv_spec.specs.Verified.{AfterImage, elf_refused, elf_accepted, AfterNotes, notes_refused, program_found, IsVerified}
+use Rattle.bilv_spec.specs.Work.{work_file, work_notes}
 use Rattle.bilv_top.specs.Due.{IsDue, WhereBuilt, built, missing, not_built, IsLiftedSoFar, IsReplayedSoFar, replayed, unbuilt, IsGraphedSoFar, printed, bare}
 
 -- the statuses 7 and 8 are due to nothing
@@ -116,6 +117,11 @@ after_both s elf notes Next a step =
     (λ file. after_image file (AfterRead s notes (λ text. AfterNotes file text (Next file))) a
     (after_read s notes (λ text. AfterNotes file text (Next file)) a (λ text. after_notes file text (Next file) a (step file))))
 
+plain_verified : (file text : List ℕ) (b : Budget) (a : Answer) → IsVerified file text b a → IsPlain a.status
+plain_verified file text b a =
+    after_image file (AfterNotes file text (λ p. IsReported p (layout_of file) b)) a
+    (after_notes file text (λ p. IsReported p (layout_of file) b) a (λ p. plain_reported p (layout_of file) b a))
+
 pub due_is_plain : (s : Surroundings) (c : Option Command) (a : Answer) → IsDue s c a → IsPlain a.status
 due_is_plain s None a is = plain_at a 2 _ is (plain_number 2 (omega arith))
 due_is_plain s (Some (Verify elf notes b)) a due =
@@ -133,7 +139,8 @@ due_is_plain s (Some (Replay elf notes report)) a due =
 due_is_plain s (Some (Certify elf notes q b)) a due =
     after_both s elf notes (λ file p. WhereBuilt file (λ x. IsCertified p b q x.status x.text x.evidence)) a
     (λ file p. where_built file (λ x. IsCertified p b q x.status x.text x.evidence) a (plain_certified p b q a.status a.text a.evidence)) due
-due_is_plain s (Some (SelfRun seed count)) a is = plain_not_built a is
+due_is_plain s (Some (SelfRun seed count)) a due =
+    subst IsPlain (sym (ap (λ x. x.status) due.4)) (plain_verified (work_file seed count) (work_notes seed count) default_budget due.0 due.2)
 
 -- so neither status comes of a due answer
 pub not_seven : (s : Surroundings) (c : Option Command) (a : Answer) → IsDue s c a → a.status ≡ 7 → ⊥

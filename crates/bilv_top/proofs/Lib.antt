@@ -8,3 +8,4 @@ pub mod OneWay
 pub mod Cut
 pub mod Verdicts
 pub mod Founds
+pub mod Made

@@ -10,7 +10,7 @@ use Rattle.bilv_spec.specs.NotesGrammar.{IsNotesText}
 use Rattle.bilv_spec.specs.LiftText.{IsLiftTextBy}
 use Rattle.bilv_spec.specs.Replays.{replay_answer}
 use Rattle.bilv_spec.specs.Answers.{Evidence, Answer, plain_answer, IsReported}
-use Rattle.bilv_spec.specs.Outcomes.{Surroundings, Command, Verify, Lift, Graph, Replay, Certify, Check, read_fault, AfterRead, AfterElf, AfterBoth, IsGraphed, IsRightAnswer}
+use Rattle.bilv_spec.specs.Outcomes.{Surroundings, Command, Verify, Lift, Graph, Replay, Certify, Check, SelfRun, read_fault, AfterRead, AfterElf, AfterBoth, IsGraphed, IsRightAnswer}
 use Rattle.bilv_spec.specs.Verified.{AreNotesRefused, notes_limit, usage_text}
 use Rattle.bilv_spec.specs.Texts.{line}
 use Rattle.notes_lang.specs.Drafting.{notes_of}
@@ -54,6 +54,7 @@ IsDueTo s (Replay elf notes report) a = AfterBoth s elf notes (λ file p. IsRepl
 IsDueTo s (Certify elf notes question b) a =
     AfterBoth s elf notes (λ file p. WhereBuilt file (λ due. IsCertified p b question due.status due.text due.evidence)) a
 IsDueTo s (Check certificate) a = IsRightAnswer s (Check certificate) a
+IsDueTo s (SelfRun seed count) a = IsRightAnswer s (SelfRun seed count) a
 IsDueTo s other a = a ≡ not_built
 
 -- the answer that is due: the usage where the words are no lawful command

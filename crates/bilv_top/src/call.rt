@@ -14,6 +14,7 @@ use crate::graph::graph;
 use crate::lift::lift;
 use crate::reading::answer;
 use crate::replay::replay;
+use crate::selfrun::selfrun;
 use crate::verify::verify;
 use command_line::{Command, LineError, read_command};
 use io_edges::{Shelf, Sink, write_all};
@@ -48,6 +49,7 @@ fn obey<H: Shelf>(alloc: Global, command: Command, shelf: &mut H) -> Result<Answ
             budget,
         } => certify(alloc, shelf, elf, notes, question, budget),
         Command::Check { certificate } => check_certificate(alloc, shelf, certificate),
+        Command::SelfRun { seed, count } => selfrun(alloc, seed, count),
         _ => answer(alloc, 10, b"not built\n"),
     }
 }

@@ -26,13 +26,13 @@ use std::alloc::{AllocError, Global};
 const ELF_LIMIT: u64 = 16_777_216;
 
 /// The most bytes of notes.
-const NOTES_LIMIT: u64 = 262_144;
+pub const NOTES_LIMIT: u64 = 262_144;
 
 /// The status of a refused ELF file.
 const ELF_REFUSED: u8 = 4;
 
 /// The status of refused notes.
-const NOTES_REFUSED: u8 = 5;
+pub const NOTES_REFUSED: u8 = 5;
 
 /// Notes over an image, their text, and the address of their function.
 #[derive(Drop)]
@@ -125,7 +125,7 @@ fn refuse_name(alloc: Global, fault: SymFault) -> Result<Answer, AllocError>
 }
 
 /// The notes that a text says and the address of their function, or the answer that refuses them.
-fn find_program(alloc: Global, image: &Image, text: Vec<u8>) -> Result<Step<Found>, AllocError>
+pub fn find_program(alloc: Global, image: &Image, text: Vec<u8>) -> Result<Step<Found>, AllocError>
     requires short { length text.items ≤ verified.notes_limit }
     ensures { IfOk result (λ step. IfStep step (AreNotesAnswered image.now text.items) (λ f. (f.text.items ≡ text.items) × IsFoundBy image.now f)) }
 {

@@ -13,6 +13,7 @@ mod program;
 mod reading;
 mod replay;
 mod reports;
+mod selfrun;
 mod texts;
 mod verify;
 

@@ -23,7 +23,7 @@ use verdict::verify as verdict_of;
 const NOT_BUILT: u8 = 10;
 
 /// The report on a program of RISC-V, whose file has these bytes. The error is want of memory.
-fn report_on(
+pub fn report_on(
     alloc: Global,
     file: &[u8],
     image: &Image,
