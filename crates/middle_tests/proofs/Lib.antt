@@ -1,0 +1,2 @@
+mod Wider
+mod Lifted
