@@ -62,15 +62,54 @@ record IsOn (e : Endian) (i : Insn) : Type 0 where
 
 on_line : (e : Endian) (i : Insn) → IsOn e i
 unfolding table
-on_line e (Computing x) = record { line = record { is = rows.is_computing; row = rows.computing }; at = refl; of_word = x.row.1; same_row = refl; conditional = x.row.0 }
-on_line e (Multiply x) = record { line = record { is = rows.is_multiply; row = rows.multiply }; at = refl; of_word = x.row.1; same_row = refl; conditional = x.row.0 }
-on_line e (MultiplyLong x) = record { line = record { is = rows.is_multiply_long; row = rows.multiply_long }; at = refl; of_word = x.row.1; same_row = refl; conditional = x.row.0 }
+on_line e (Computing x) = record {
+  line = record { is = rows.is_computing; row = rows.computing };
+  at = refl;
+  of_word = x.row.1;
+  same_row = refl;
+  conditional =
+      x.row.0;
+}
+on_line e (Multiply x) = record {
+  line = record { is = rows.is_multiply; row = rows.multiply };
+  at = refl;
+  of_word = x.row.1;
+  same_row = refl;
+  conditional =
+      x.row.0;
+}
+on_line e (MultiplyLong x) = record {
+  line = record { is = rows.is_multiply_long; row = rows.multiply_long };
+  at = refl;
+  of_word = x.row.1;
+  same_row = refl;
+  conditional = x.row.0;
+}
 on_line e (Swap x) = record { line = record { is = rows.is_swap; row = rows.swap e }; at = refl; of_word = x.row.1; same_row = refl; conditional = x.row.0 }
-on_line e (Transfer x) = record { line = record { is = rows.is_transfer; row = rows.single_transfer e }; at = refl; of_word = x.row.1; same_row = refl; conditional = x.row.0 }
-on_line e (Halfword x) = record { line = record { is = rows.is_halfword; row = rows.halfword e }; at = refl; of_word = x.row.1; same_row = refl; conditional = x.row.0 }
+on_line e (Transfer x) = record {
+  line = record { is = rows.is_transfer; row = rows.single_transfer e };
+  at = refl;
+  of_word = x.row.1;
+  same_row = refl;
+  conditional = x.row.0;
+}
+on_line e (Halfword x) = record {
+  line = record { is = rows.is_halfword; row = rows.halfword e };
+  at = refl;
+  of_word = x.row.1;
+  same_row = refl;
+  conditional =
+      x.row.0;
+}
 on_line e (Block x) = record { line = record { is = rows.is_block; row = rows.block e }; at = refl; of_word = x.row.1; same_row = refl; conditional = x.row.0 }
 on_line e (Branch x) = record { line = record { is = rows.is_branch; row = rows.branch }; at = refl; of_word = x.row.1; same_row = refl; conditional = x.row.0 }
-on_line e (SoftwareInterrupt x) = record { line = record { is = rows.is_software_interrupt; row = rows.software_interrupt }; at = refl; of_word = x.row.1; same_row = refl; conditional = x.row.0 }
+on_line e (SoftwareInterrupt x) = record {
+  line = record { is = rows.is_software_interrupt; row = rows.software_interrupt };
+  at = refl;
+  of_word = x.row.1;
+  same_row = refl;
+  conditional = x.row.0;
+}
 
 truth : (b : Bool) → (b ≡ true) ⊎ (b ≡ false)
 truth true = inl refl
@@ -121,23 +160,32 @@ lined_prop is n = hlevel props
 
 same_insn : (i j : Insn) → place i ≡ place j → word_of i ≡ word_of j → i ≡ j
 same_insn (Computing x) (Computing y) p h =
-    ap Computing (same_made (Lined rows.is_computing) (λ n r. let a : computing.Computing = record { word = n; row = r } in a) (lined_prop rows.is_computing) x.word y.word h x.row y.row)
+    ap Computing (same_made (Lined rows.is_computing) (λ n r. let a : computing.Computing = record { word = n; row = r }
+    in a) (lined_prop rows.is_computing) x.word y.word h x.row y.row)
 same_insn (Multiply x) (Multiply y) p h =
-    ap Multiply (same_made (Lined rows.is_multiply) (λ n r. let a : multiply.Multiply = record { word = n; row = r } in a) (lined_prop rows.is_multiply) x.word y.word h x.row y.row)
+    ap Multiply (same_made (Lined rows.is_multiply) (λ n r. let a : multiply.Multiply = record { word = n; row = r }
+    in a) (lined_prop rows.is_multiply) x.word y.word h x.row y.row)
 same_insn (MultiplyLong x) (MultiplyLong y) p h =
-    ap MultiplyLong (same_made (Lined rows.is_multiply_long) (λ n r. let a : multiply_long.MultiplyLong = record { word = n; row = r } in a) (lined_prop rows.is_multiply_long) x.word y.word h x.row y.row)
+    ap MultiplyLong (same_made (Lined rows.is_multiply_long) (λ n r. let a : multiply_long.MultiplyLong = record { word = n; row = r }
+    in a) (lined_prop rows.is_multiply_long) x.word y.word h x.row y.row)
 same_insn (Swap x) (Swap y) p h =
-    ap Swap (same_made (Lined rows.is_swap) (λ n r. let a : swap.Swap = record { word = n; row = r } in a) (lined_prop rows.is_swap) x.word y.word h x.row y.row)
+    ap Swap (same_made (Lined rows.is_swap) (λ n r. let a : swap.Swap = record { word = n; row = r }
+    in a) (lined_prop rows.is_swap) x.word y.word h x.row y.row)
 same_insn (Transfer x) (Transfer y) p h =
-    ap Transfer (same_made (Lined rows.is_transfer) (λ n r. let a : transfer.Transfer = record { word = n; row = r } in a) (lined_prop rows.is_transfer) x.word y.word h x.row y.row)
+    ap Transfer (same_made (Lined rows.is_transfer) (λ n r. let a : transfer.Transfer = record { word = n; row = r }
+    in a) (lined_prop rows.is_transfer) x.word y.word h x.row y.row)
 same_insn (Halfword x) (Halfword y) p h =
-    ap Halfword (same_made (Lined rows.is_halfword) (λ n r. let a : halfword.Halfword = record { word = n; row = r } in a) (lined_prop rows.is_halfword) x.word y.word h x.row y.row)
+    ap Halfword (same_made (Lined rows.is_halfword) (λ n r. let a : halfword.Halfword = record { word = n; row = r }
+    in a) (lined_prop rows.is_halfword) x.word y.word h x.row y.row)
 same_insn (Block x) (Block y) p h =
-    ap Block (same_made (Lined rows.is_block) (λ n r. let a : block.Block = record { word = n; row = r } in a) (lined_prop rows.is_block) x.word y.word h x.row y.row)
+    ap Block (same_made (Lined rows.is_block) (λ n r. let a : block.Block = record { word = n; row = r }
+    in a) (lined_prop rows.is_block) x.word y.word h x.row y.row)
 same_insn (Branch x) (Branch y) p h =
-    ap Branch (same_made (Lined rows.is_branch) (λ n r. let a : branch.Branch = record { word = n; row = r } in a) (lined_prop rows.is_branch) x.word y.word h x.row y.row)
+    ap Branch (same_made (Lined rows.is_branch) (λ n r. let a : branch.Branch = record { word = n; row = r }
+    in a) (lined_prop rows.is_branch) x.word y.word h x.row y.row)
 same_insn (SoftwareInterrupt x) (SoftwareInterrupt y) p h =
-    ap SoftwareInterrupt (same_made (Lined rows.is_software_interrupt) (λ n r. let a : interrupt.SoftwareInterrupt = record { word = n; row = r } in a) (lined_prop rows.is_software_interrupt) x.word y.word h x.row y.row)
+    ap SoftwareInterrupt (same_made (Lined rows.is_software_interrupt)
+    (λ n r. let a : interrupt.SoftwareInterrupt = record { word = n; row = r } in a) (lined_prop rows.is_software_interrupt) x.word y.word h x.row y.row)
 same_insn (Computing x) j p h = cc
 same_insn (Multiply x) j p h = cc
 same_insn (MultiplyLong x) j p h = cc

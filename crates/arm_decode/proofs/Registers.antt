@@ -86,7 +86,8 @@ pub block_some : (w : ℕ) → is_block w ≡ true → bits 15 0 w ≢ 0
 block_some w h = not_0 (bits 15 0 w) (right _ _ (left _ _ (left _ _ (left _ _ h))))
 
 -- the sign of a branch's offset is its bit 23
-pub signed_offset : (w : ℕ) (up : Bool) → up ≡ has_bit 23 w → (if up then 4 * bits 23 0 w + 0xfc00_0000 else 4 * bits 23 0 w) ≡ sign_extend 26 32 (4 * bits 23 0 w)
+pub signed_offset : (w : ℕ) (up : Bool) → up ≡ has_bit 23 w →
+    (if up then 4 * bits 23 0 w + 0xfc00_0000 else 4 * bits 23 0 w) ≡ sign_extend 26 32 (4 * bits 23 0 w)
 signed_offset w true e =
     let h : w / 8388608 % 2 ≡ 1 = eqb-true _ _ (sym e) in
     let t : is_negative 26 (4 * bits 23 0 w) ≡ true = le-leb 33554432 _ (omega arith) in

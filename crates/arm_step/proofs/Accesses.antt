@@ -28,7 +28,8 @@ under_16 a = omega arith
 
 good_base : (w : ℕ) (by : Bool) → not (is_bad_base w by) ≡ true → writes_back w ≡ true → field_n w < 15
 good_base w by h t =
-    base_register (not (is_pre w) && bit_w w) (by && (field_m w == 15)) (writes_back w) (field_n w == field_d w) (by && (field_n w == field_m w)) (bits 19 16 w) (under_16 _) h t
+    base_register (not (is_pre w) && bit_w w) (by && (field_m w == 15)) (writes_back w) (field_n w == field_d w) (by &&
+    (field_n w == field_m w)) (bits 19 16 w) (under_16 _) h t
 
 pub transfer_n : (w : ℕ) → is_transfer w ≡ true → writes_back w ≡ true → field_n w < 15
 transfer_n w h t = good_base w (bit_i w) (right _ _ (left _ _ h)) t
@@ -62,14 +63,16 @@ loads w e s mid new out u b a x rd offset n t d ea ex eb eo m h =
     ap (λ a. (field_d w == 15) && not (a % 4 == 0)) (sym ea) ∙ ap (λ d. (d == 15) && not (a % 4 == 0)) (sym d) ∙ sym t ∙ n in
     let loaded : x ≡ load_by (is_byte w) e s.mem (transfer_address w s) = ex ∙ ap (λ b. load_by b e s.mem a) eb ∙ ap (load_by (is_byte w) e s.mem) ea in
     let same : write s mid rd x ≡ loaded_by false e w s =
-    ap (λ t. write s t rd x) (m ∙ ap made eo) ∙ ap (λ d. write s (made (transfer_offset w s)) d x) d ∙ ap (write s (made (transfer_offset w s)) (field_d w)) loaded in
+    ap (λ t. write s t rd x) (m ∙ ap made eo) ∙ ap (λ d. write s (made (transfer_offset w s)) d x) d ∙ ap
+    (write s (made (transfer_offset w s)) (field_d w)) loaded in
     rw even (subst (λ (y : Outcome). IsStep s new out y) same h)
 
 pub stores : (w : ℕ) (e : Endian) (s : State) (c : ℕ) (mid last new : State) (out : StepOut) (b : Bool) (a v offset : ℕ) →
     mid ≡ record s { mem = store_by b e s.mem a v } → last ≡ record mid { regs = base_written w mid offset } → new ≡ next_of last → out ≡ Next →
     b ≡ is_byte w → a ≡ transfer_address w s → v ≡ stored_reg s c (field_d w) → offset ≡ transfer_offset w s → IsStep s new out (stored e w s c)
 stores w e s c mid last new out b a v offset h i j o eb ea ev eo =
-    let made : Bool → ℕ → ℕ → ℕ → State = λ b a v offset. with_pc (record s { regs = base_written w s offset; mem = store_by b e s.mem a v }) (add 32 s.pc 4) in (
+    let made : Bool → ℕ → ℕ → ℕ → State = λ b a v offset. with_pc (record s { regs = base_written w s offset; mem = store_by b e s.mem a v }) (add 32 s.pc 4)
+    in (
       j ∙ ap next_of (i ∙ ap (λ t. let y : State = record t { regs = base_written w t offset } in y) h)
           ∙ ap (λ b. made b a v offset) eb ∙ ap (λ a. made (is_byte w) a v offset) ea ∙ ap (λ v. made (is_byte w) (transfer_address w s) v offset) ev
           ∙ ap (made (is_byte w) (transfer_address w s) (stored_reg s c (field_d w))) eo,
@@ -97,7 +100,8 @@ half_stores w e s mid last new out offset a v h i j o eo ea ev =
     )
 
 -- a row by its evenness and its kind
-pub half_by : (w : ℕ) (e : Endian) (s new : State) (out : StepOut) (a n : ℕ) (even load : Bool) → a ≡ halfword_address w s → n ≡ halfword_size w → (a % n == 0) ≡ even →
+pub half_by : (w : ℕ) (e : Endian) (s new : State) (out : StepOut) (a n : ℕ) (even load : Bool) → a ≡ halfword_address w s → n ≡ halfword_size w →
+    (a % n == 0) ≡ even →
     is_load w ≡ load → IsStep s new out (halfword_by even load e w s) → IsStep s new out (halfword_done e w s)
 half_by w e s new out a n even load ea en t l h =
     let test : (halfword_address w s % halfword_size w == 0) ≡ even = ap (λ a. a % halfword_size w == 0) (sym ea) ∙ ap (λ n. a % n == 0) (sym en) ∙ t in

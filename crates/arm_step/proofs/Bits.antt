@@ -45,5 +45,6 @@ flag_at b (suc (suc (suc (suc g)))) h =
     let f = suc (suc (suc (suc g))) in
     rw (ne_eqb f 0 (λ e. omega arith), ne_eqb f 1 (λ e. omega arith), ne_eqb f 2 (λ e. omega arith), ne_eqb f 3 (λ e. omega arith)) (sym (high_bit g b h))
 
-pub flags_at : (b : ℕ) → b < 16 → with_flags (λ f. 0) (bit (b / 8 % 2 == 1)) (bit (b / 4 % 2 == 1)) (bit (b / 2 % 2 == 1)) (bit (b % 2 == 1)) ≡ (λ f. bit_at f b)
+pub flags_at : (b : ℕ) → b < 16 → with_flags (λ f. 0) (bit (b / 8 % 2 == 1)) (bit (b / 4 % 2 == 1)) (bit (b / 2 % 2 == 1)) (bit (b % 2 == 1))
+    ≡ (λ f. bit_at f b)
 flags_at b h = fun_ext (λ f. flag_at b f h)

@@ -26,7 +26,8 @@ test_of w k t e h =
     h ∙ ap (λ k. k / 4 == 2) e ∙ ap (λ x. x == 2) p
 
 -- the result of an opcode from its parts
-pub result_from : (w : ℕ) (s : State) (made : Result) (x k : ℕ) (o : Shifted) → made ≡ result_at (results s x o) k → x ≡ reg s (field_n w) → o ≡ operand w s → k ≡ opcode w →
+pub result_from : (w : ℕ) (s : State) (made : Result) (x k : ℕ) (o : Shifted) → made ≡ result_at (results s x o) k → x ≡ reg s (field_n w) → o ≡ operand w s →
+    k ≡ opcode w →
     made ≡ result_at (results s (reg s (field_n w)) (operand w s)) (opcode w)
 result_from w s made x k o h a b c =
     h ∙ ap (λ x. result_at (results s x o) k) a ∙ ap (λ o. result_at (results s (reg s (field_n w)) o) k) b
@@ -64,12 +65,15 @@ set_and_on s mid last new f g r d v u a b h i j k =
 
 pub multiplies : (w c : ℕ) (s mid last new : State) (out : StepOut) (sets : Bool) (n z y v rd value : ℕ) →
     mid ≡ record s { flags = (if sets then with_flags s.flags n z y v else s.flags) } → last ≡ record mid { regs = put mid.regs rd value } →
-    new ≡ with_pc last (add 32 last.pc 4) → out ≡ Next → sets ≡ sets_flags w → n ≡ bit_at 31 value → z ≡ bit (value == 0) → y ≡ bit_at 0 c → v ≡ s.flags flag_v →
+    new ≡ with_pc last (add 32 last.pc 4) → out ≡ Next → sets ≡ sets_flags w → n ≡ bit_at 31 value → z ≡ bit (value == 0) → y ≡ bit_at 0 c →
+    v ≡ s.flags flag_v →
     rd ≡ field_n w → value ≡ short_product w s → IsStep s new out (multiplied w s c)
 multiplies w c s mid last new out sets n z y v rd value a b h o i j k l m r e =
     let x = short_product w s in (
-      set_and_on s mid last new _ (if sets_flags w then with_flags s.flags (bit_at 31 x) (bit (x == 0)) (bit_at 0 c) (s.flags flag_v) else s.flags) rd (field_n w) value x a b h
-          (flags_from s.flags sets (sets_flags w) n (bit_at 31 x) z (bit (x == 0)) y (bit_at 0 c) v (s.flags flag_v) i (j ∙ ap (bit_at 31) e) (k ∙ ap (λ t. bit (t == 0)) e) l m) r e,
+      set_and_on s mid last new _ (if sets_flags w then with_flags s.flags (bit_at 31 x) (bit (x == 0)) (bit_at 0 c) (s.flags flag_v)
+          else s.flags) rd (field_n w) value x a b h
+          (flags_from s.flags sets (sets_flags w) n (bit_at 31 x) z (bit (x == 0)) y (bit_at 0 c) v (s.flags flag_v) i (j ∙ ap (bit_at 31) e) (k ∙ ap
+          (λ t. bit (t == 0)) e) l m) r e,
       o,
     )
 
@@ -84,9 +88,11 @@ multiplies_long w c s mid low last new out sets n z y v lower upper value a q b 
     λ f d u v. with_pc (record s { regs = put (put s.regs d (v % 2 ^ 32)) u (v / 2 ^ 32); flags = f }) (add 32 s.pc 4) in
     let f : ℕ → ℕ = if sets then with_flags s.flags n z y v else s.flags in
     let g : ℕ → ℕ = if sets_flags w then with_flags s.flags (bit_at 63 x) (bit (x == 0)) (bit_at 0 c) (bit_at 1 c) else s.flags in
-    let same : f ≡ g = flags_from s.flags sets (sets_flags w) n (bit_at 63 x) z (bit (x == 0)) y (bit_at 0 c) v (bit_at 1 c) i (j ∙ ap (bit_at 63) e) (k ∙ ap (λ t. bit (t == 0)) e) l m in (
+    let same : f ≡ g = flags_from s.flags sets (sets_flags w) n (bit_at 63 x) z (bit (x == 0)) y (bit_at 0 c) v (bit_at 1 c) i (j ∙ ap (bit_at 63) e) (k ∙ ap
+    (λ t. bit (t == 0)) e) l m in (
       h ∙ ap (λ t. with_pc t (add 32 t.pc 4)) (b ∙ ap (λ t. let x : State = record t { regs = put t.regs upper (value / 2 ^ 32) } in x)
           (q ∙ ap (λ t. let x : State = record t { regs = put t.regs lower (value % 2 ^ 32) } in x) a))
-          ∙ ap (λ f. made f lower upper value) same ∙ ap (λ d. made g d upper value) p ∙ ap (λ u. made g (field_d w) u value) r ∙ ap (made g (field_d w) (field_n w)) e,
+          ∙ ap (λ f. made f lower upper value) same ∙ ap (λ d. made g d upper value) p ∙ ap
+          (λ u. made g (field_d w) u value) r ∙ ap (made g (field_d w) (field_n w)) e,
       o,
     )

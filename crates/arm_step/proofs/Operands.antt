@@ -25,7 +25,8 @@ pub shifted_by_register : (w : ℕ) (s : State) (x : Shifted) (k n v c : ℕ) �
     v ≡ reg s (field_m w) → c ≡ s.flags flag_c → x ≡ by_register k n v c → x ≡ operand w s
 shifted_by_register w s x k n v c i b e f g j h = rw (i, b) (h ∙ shift_from by_register k _ n _ v _ c _ e f g j)
 
-pub shifted_offset : (w : ℕ) (s : State) (x : Shifted) (k n v c : ℕ) → bit_i w ≡ true → k ≡ kind_of w → n ≡ amount_of w → v ≡ reg s (field_m w) → c ≡ s.flags flag_c →
+pub shifted_offset : (w : ℕ) (s : State) (x : Shifted) (k n v c : ℕ) → bit_i w ≡ true → k ≡ kind_of w → n ≡ amount_of w → v ≡ reg s (field_m w) →
+    c ≡ s.flags flag_c →
     x ≡ by_number k n v c → x.value ≡ transfer_offset w s
 shifted_offset w s x k n v c i e f g j h = rw i (ap (λ y. y.value) (h ∙ shift_from by_number k _ n _ v _ c _ e f g j))
 

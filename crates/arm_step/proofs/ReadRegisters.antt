@@ -28,4 +28,5 @@ twice false false false false n z c v m y d u x = refl
 
 pub all_flags : (old new : Flags) → flags_of new ≡ with_flags (flags_of old) (bit new.n) (bit new.z) (bit new.c) (bit new.v)
 all_flags old new =
-    fun_ext (λ f. sym (twice (f == 0) (f == 1) (f == 2) (f == 3) (bit new.n) (bit new.z) (bit new.c) (bit new.v) (bit old.n) (bit old.z) (bit old.c) (bit old.v) 0))
+    fun_ext (λ f. sym (twice (f == 0) (f == 1) (f == 2) (f == 3) (bit new.n) (bit new.z) (bit new.c) (bit new.v) (bit old.n) (bit old.z) (bit old.c)
+    (bit old.v) 0))

@@ -23,7 +23,8 @@ same_bit w (suc (suc (suc (suc (suc (suc zero)))))) l = ap (λ x. x == 1) (let e
 same_bit w (suc (suc (suc (suc (suc (suc (suc zero))))))) l = ap (λ x. x == 1) (let e : w / 1 % 65536 / 128 % 2 ≡ w / 128 % 2 = omega arith in e)
 same_bit w (suc (suc (suc (suc (suc (suc (suc (suc k)))))))) l = upper k (omega arith)
   where
-    upper : (k : ℕ) → k < 8 → has_bit (suc (suc (suc (suc (suc (suc (suc (suc k)))))))) (bits 15 0 w) ≡ has_bit (suc (suc (suc (suc (suc (suc (suc (suc k)))))))) w
+    upper : (k : ℕ) → k < 8 → has_bit (suc (suc (suc (suc (suc (suc (suc (suc k)))))))) (bits 15 0 w)
+        ≡ has_bit (suc (suc (suc (suc (suc (suc (suc (suc k)))))))) w
     upper zero m = ap (λ x. x == 1) (let e : w / 1 % 65536 / 256 % 2 ≡ w / 256 % 2 = omega arith in e)
     upper (suc zero) m = ap (λ x. x == 1) (let e : w / 1 % 65536 / 512 % 2 ≡ w / 512 % 2 = omega arith in e)
     upper (suc (suc zero)) m = ap (λ x. x == 1) (let e : w / 1 % 65536 / 1024 % 2 ≡ w / 1024 % 2 = omega arith in e)
@@ -42,7 +43,8 @@ if_same a b xs ys r e h = ap (λ a. if a then r ∷ xs else xs) e ∙ ap (λ xs.
 
 same_from : (b w r n : ℕ) → b ≡ bits 15 0 w → r + n ≤ 16 → listed_from b r n ≡ listed_from w r n
 same_from b w r zero e l = refl
-same_from b w r (suc n) e l = if_same (has_bit r b) (has_bit r w) (listed_from b (r + 1) n) (listed_from w (r + 1) n) r (bit_of b w r e (omega arith)) (same_from b w (r + 1) n e (omega arith))
+same_from b w r (suc n) e l = if_same (has_bit r b) (has_bit r w) (listed_from b (r + 1) n) (listed_from w (r + 1) n) r (bit_of b w r e (omega arith))
+    (same_from b w (r + 1) n e (omega arith))
 
 pub same_list : (b w n : ℕ) → b ≡ bits 15 0 w → n ≤ 16 → listed_from b 0 n ≡ listed_from w 0 n
 same_list b w n e l = same_from b w 0 n e (omega arith)
@@ -57,10 +59,12 @@ past : (b r n : ℕ) → n ≤ r → listed_from b r (n - r) ≡ []
 past b r n l = let e : n - r ≡ 0 = omega arith in rw e refl
 
 -- counting them
-pub counted_hit : (b r n c t : ℕ) → r < n → has_bit r b ≡ true → c + length (listed_from b r (n - r)) ≡ t → (c + 1) + length (listed_from b (r + 1) (n - (r + 1))) ≡ t
+pub counted_hit : (b r n c t : ℕ) → r < n → has_bit r b ≡ true → c + length (listed_from b r (n - r)) ≡ t →
+    (c + 1) + length (listed_from b (r + 1) (n - (r + 1))) ≡ t
 counted_hit b r n c t l h e = let f = ap length (hit b r n l h) in omega (arith, f)
 
-pub counted_miss : (b r n c t : ℕ) → r < n → has_bit r b ≡ false → c + length (listed_from b r (n - r)) ≡ t → c + length (listed_from b (r + 1) (n - (r + 1))) ≡ t
+pub counted_miss : (b r n c t : ℕ) → r < n → has_bit r b ≡ false → c + length (listed_from b r (n - r)) ≡ t →
+    c + length (listed_from b (r + 1) (n - (r + 1))) ≡ t
 counted_miss b r n c t l h e = let f = ap length (miss b r n l h) in omega (arith, f)
 
 pub counted : (b r n c t : ℕ) → n ≤ r → c + length (listed_from b r (n - r)) ≡ t → c ≡ t
@@ -98,7 +102,8 @@ stores_hit e b r n c a x v old s new t l h only left is value next =
     let rest = listed_from b (r + 1) (n - (r + 1)) in
     let same : v ≡ stored_reg old c r = value ∙ ap (λ y. stored_reg y c r) only in
     let mem : new.mem ≡ store e 4 s.mem a (stored_reg old c r) = ap (λ y. y.mem) is ∙ ap (store e 4 s.mem a) same in (
-      is ∙ ap (λ y. let z : State = record y { mem = store e 4 s.mem a v } in z) only ∙ ap (λ g. let z : State = record old { mem = g } in z) (sym (ap (λ y. y.mem) is)),
+      is ∙ ap (λ y. let z : State = record y { mem = store e 4 s.mem a v } in z) only ∙ ap
+          (λ g. let z : State = record old { mem = g } in z) (sym (ap (λ y. y.mem) is)),
       ap (λ x. store_all e old c x rest new.mem) next ∙ ap (store_all e old c (add 32 a 4) rest) mem
           ∙ sym (ap (λ rs. store_all e old c a rs s.mem) (hit b r n l h)) ∙ left,
     )
@@ -132,7 +137,8 @@ starts w s up pre b o m x k eu ep ek eb eo em ex =
 pub block_put : (w : ℕ) (s : State) (r b v k : ℕ) → bit_w w ≡ true → r ≡ field_n w → b ≡ s.regs r → k ≡ length (listed w) → v ≡ moved w b (4 * k) →
     put s.regs r v ≡ block_base w s
 block_put w s r b v k t er eb ek ev =
-    let value : v ≡ moved w (s.regs (field_n w)) (4 * length (listed w)) = ev ∙ ap (λ b. moved w b (4 * k)) (eb ∙ ap s.regs er) ∙ ap (λ k. moved w (s.regs (field_n w)) (4 * k)) ek in
+    let value : v ≡ moved w (s.regs (field_n w)) (4 * length (listed w)) = ev ∙ ap (λ b. moved w b (4 * k)) (eb ∙ ap s.regs er) ∙ ap
+    (λ k. moved w (s.regs (field_n w)) (4 * k)) ek in
     rw t (ap (λ r. put s.regs r v) er ∙ ap (put s.regs (field_n w)) value)
 
 pub block_kept : (w : ℕ) (s : State) → bit_w w ≡ false → s.regs ≡ block_base w s
@@ -150,7 +156,8 @@ all_loaded e w s base all first rs b a f l =
     a ∙ ap (λ y. let z : State = record y { regs = load_all e y.mem first rs y.regs } in z) b ∙ ap (λ first. made first rs) f ∙ ap (made (block_start w s)) l
 
 pub block_jumps : (e : Endian) (w : ℕ) (s base all new : State) (out : StepOut) (first to last k : ℕ) (rs : List ℕ) → has_bit 15 w ≡ true →
-    base ≡ record s { regs = block_base w s } → all ≡ record base { regs = load_all e base.mem first rs base.regs } → new ≡ with_pc all to → out ≡ Jump to Indirect →
+    base ≡ record s { regs = block_base w s } → all ≡ record base { regs = load_all e base.mem first rs base.regs } → new ≡ with_pc all to →
+    out ≡ Jump to Indirect →
     first ≡ block_start w s → rs ≡ listed w → to ≡ load e 4 s.mem last → last ≡ add 32 first (4 * k - 4) → k ≡ length (listed w) →
     IsStep s new out (block_loaded (has_bit 15 w) e w s)
 block_jumps e w s base all new out first to last k rs t b a n o f l et el ek =
@@ -163,12 +170,14 @@ block_jumps e w s base all new out first to last k rs t b a n o f l et el ek =
     )
 
 pub block_goes : (e : Endian) (w : ℕ) (s base all new : State) (out : StepOut) (first : ℕ) (rs : List ℕ) → has_bit 15 w ≡ false →
-    base ≡ record s { regs = block_base w s } → all ≡ record base { regs = load_all e base.mem first rs base.regs } → new ≡ with_pc all (add 32 all.pc 4) → out ≡ Next →
+    base ≡ record s { regs = block_base w s } → all ≡ record base { regs = load_all e base.mem first rs base.regs } → new ≡ with_pc all (add 32 all.pc 4) →
+    out ≡ Next →
     first ≡ block_start w s → rs ≡ listed w → IsStep s new out (block_loaded (has_bit 15 w) e w s)
 block_goes e w s base all new out first rs t b a n o f l =
     rw t (n ∙ ap (λ y. with_pc y (add 32 y.pc 4)) (all_loaded e w s base all first rs b a f l), o)
 
-pub block_stores : (e : Endian) (w c : ℕ) (s mid last new : State) (out : StepOut) (first : ℕ) (rs : List ℕ) → mid ≡ record s { mem = store_all e s c first rs s.mem } →
+pub block_stores : (e : Endian) (w c : ℕ) (s mid last new : State) (out : StepOut) (first : ℕ) (rs : List ℕ) →
+    mid ≡ record s { mem = store_all e s c first rs s.mem } →
     last ≡ record mid { regs = block_base w mid } → new ≡ with_pc last (add 32 last.pc 4) → out ≡ Next → first ≡ block_start w s → rs ≡ listed w →
     IsStep s new out (block_done false e w s c)
 block_stores e w c s mid last new out first rs m b n o f l =

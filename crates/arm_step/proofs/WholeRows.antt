@@ -73,9 +73,14 @@ pub links : (w : ℕ) (s mid new : State) (out : StepOut) (at to r : ℕ) → is
 links w s mid new out at to r l ea et er m n o =
     let target : to ≡ branch_target w s.pc = et ∙ ap (branch_target w) ea in
     let made : ℕ → ℕ → ℕ → State = λ r a p. record s { pc = p; regs = put s.regs r (add 32 a 4) } in
-    rw l (n ∙ ap (λ y. with_pc y to) m ∙ ap (λ r. made r at to) er ∙ ap (λ a. made 14 a to) ea ∙ ap (made 14 s.pc) target, o ∙ ap (λ p. Jump p DirectCall) target)
+    rw l (
+      n ∙ ap (λ y. with_pc y to) m ∙ ap (λ r. made r at to) er ∙ ap (λ a. made 14 a to) ea ∙ ap (made 14 s.pc) target,
+      o ∙ ap
+          (λ p. Jump p DirectCall) target,
+    )
 
-pub jumps : (w : ℕ) (s new : State) (out : StepOut) (at to : ℕ) → is_linked w ≡ false → at ≡ s.pc → to ≡ branch_target w at → new ≡ with_pc s to → out ≡ Jump to Direct →
+pub jumps : (w : ℕ) (s new : State) (out : StepOut) (at to : ℕ) → is_linked w ≡ false → at ≡ s.pc → to ≡ branch_target w at → new ≡ with_pc s to →
+    out ≡ Jump to Direct →
     IsStep s new out (branched (is_linked w) w s)
 jumps w s new out at to l ea et n o =
     let target : to ≡ branch_target w s.pc = et ∙ ap (branch_target w) ea in

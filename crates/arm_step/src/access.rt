@@ -131,7 +131,8 @@ pub(crate) fn store_by(is_byte: bool, endian: Endian, state: &mut State, a: u32,
 
 /// Writes a register and goes on to the next address; a written r15 is a jump.
 pub(crate) fn write(state: &mut State, rd: AnyRegister, value: u32) -> StepOut
-    ensures step { (old : machine.State) → old.pc ≡ (state_of state.old).pc → IsStep old (state_of state.new) result (rows.write old (state_of state.old) rd.number value) }
+    ensures step { (old : machine.State) → old.pc ≡ (state_of state.old).pc →
+        IsStep old (state_of state.new) result (rows.write old (state_of state.old) rd.number value) }
     ensures spare { spare_of state.new ≡ spare_of state.old }
 {
     match rd.but_pc() {

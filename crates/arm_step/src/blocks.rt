@@ -150,7 +150,8 @@ fn store_block(fields: BlockFields, state: &mut State, endian: Endian, choice: u
 /// LDM and STM.
 pub(crate) fn block(insn: Block, state: &mut State, endian: Endian, choice: u8) -> StepOut
     requires { 64 ≤ spare_of state.old }
-    ensures step { IsStep (state_of state.old) (state_of state.new) result (rows.block_done (rows.is_load insn.word) (endian_of endian) insn.word (state_of state.old) choice) }
+    ensures step { IsStep (state_of state.old) (state_of state.new) result
+        (rows.block_done (rows.is_load insn.word) (endian_of endian) insn.word (state_of state.old) choice) }
     ensures spare { spare_of state.old ≤ spare_of state.new + 64 }
 {
     let fields = insn.fields();

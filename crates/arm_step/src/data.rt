@@ -51,7 +51,8 @@ fn long_flags(value: u64, carry: bool, overflow: bool) -> Flags
 /// Sets the flags, where the instruction does so.
 fn set_flags_if(sets_flags: bool, flags: Flags, state: &mut State)
     ensures state { state_of state.new ≡ record (state_of state.old) {
-      flags = (if sets_flags then rows.with_flags (state_of state.old).flags (bit flags.n) (bit flags.z) (bit flags.c) (bit flags.v) else (state_of state.old).flags);
+      flags = (if sets_flags then rows.with_flags (state_of state.old).flags (bit flags.n) (bit flags.z) (bit flags.c) (bit flags.v)
+          else (state_of state.old).flags);
     } }
     ensures spare { spare_of state.new ≡ spare_of state.old }
 {

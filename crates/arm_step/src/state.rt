@@ -165,7 +165,10 @@ impl State {
 
     /// Changes the flags.
     pub(crate) fn set_flags(&mut self, flags: Flags)
-        ensures state { state_of self.new ≡ record (state_of self.old) { flags = rows.with_flags (state_of self.old).flags (bit flags.n) (bit flags.z) (bit flags.c) (bit flags.v) } }
+        ensures state { state_of self.new ≡ record (state_of self.old) {
+          flags = rows.with_flags (state_of self.old).flags (bit flags.n) (bit flags.z)
+              (bit flags.c) (bit flags.v);
+        } }
         ensures spare { spare_of self.new ≡ spare_of self.old }
     {
         self.flags = flags;

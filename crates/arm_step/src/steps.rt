@@ -56,8 +56,8 @@ fn act(insn: &Insn, state: &mut State, endian: Endian, choice: u8) -> StepOut
     }
 }
 
-/// The instruction's effect on the state, in a byte order and under a choice, 0 to 3. An exception leaves the state as it was. It takes no memory: the state has
-/// to have room for 64 bytes.
+/// The instruction's effect on the state, in a byte order and under a choice, 0 to 3. An exception leaves the state as it was. It takes no memory: the state
+/// has to have room for 64 bytes.
 pub fn step(insn: &Insn, state: &mut State, endian: Endian, choice: u8) -> StepOut
     requires { 64 ≤ spare_of state.old }
     ensures step { IsStep (state_of state.old) (state_of state.new) result ((row_of (endian_of endian) insn.now).effect (state_of state.old) choice) }

@@ -78,7 +78,8 @@ fn store(fields: TransferFields, state: &mut State, endian: Endian, choice: u8) 
 /// LDR, LDRB, STR and STRB.
 pub(crate) fn transfer(insn: Transfer, state: &mut State, endian: Endian, choice: u8) -> StepOut
     requires { 4 ≤ spare_of state.old }
-    ensures step { IsStep (state_of state.old) (state_of state.new) result (rows.transferred (rows.is_load insn.word) (endian_of endian) insn.word (state_of state.old) choice) }
+    ensures step { IsStep (state_of state.old) (state_of state.new) result
+        (rows.transferred (rows.is_load insn.word) (endian_of endian) insn.word (state_of state.old) choice) }
     ensures spare { spare_of state.old ≤ spare_of state.new + 4 }
 {
     let fields = insn.fields();

@@ -41,7 +41,8 @@ impl Stmt {
 
     /// One of two lists, by a condition of 1 bit.
     pub fn choose(condition: Exp, when_true: Vec<Stmt>, when_false: Vec<Stmt>) -> Stmt
-        ensures { (rest : bil.Statements) → statement result rest ≡ bil.If (expression condition) (statements when_true.items) (statements when_false.items) rest }
+        ensures { (rest : bil.Statements) → statement result rest
+            ≡ bil.If (expression condition) (statements when_true.items) (statements when_false.items) rest }
     {
         Stmt::If {
             condition,

@@ -104,7 +104,8 @@ let_value m c a b p q ls ms news l x n v e f g w pa qb first second =
     ap (λ (z : Exp). evaluate (Let x n (expression z) (expression b)) c (env_of m ls)) (sym pa)
     ∙ ap (λ (z : Exp). evaluate (Let x n (expression p) (expression z)) c (env_of m ls)) (sym qb)
     ∙ ap (λ (z : Value). in_env (assign (Local x n) z (env_of m ls)) (evaluate (expression q) c)) first
-    ∙ ap (λ (z : Bool). in_env (if z then Some (record (env_of m ls) { locals = put_local x n l.value.bits (values ls) }) else None) (evaluate (expression q) c)) t
+    ∙ ap (λ (z : Bool). in_env (if z then Some (record (env_of m ls) { locals = put_local x n l.value.bits (values ls) })
+    else None) (evaluate (expression q) c)) t
     ∙ ap (λ (z : ℕ → ℕ → Value). evaluate (expression q) c (record (env_of m ls) { locals = z })) (sym k)
     ∙ second
 

@@ -54,12 +54,14 @@ while_parts s e a xs known p x r =
 pub if_parts : (s : Stmt) (e : Exp) (a b : Vec Stmt Global) (known : BilVariable → Bool) → s ≡ stmt.If e a b → IsRunnable (statement s Empty) known →
     IsChecked (expression e) (Bits 1) known × IsRunnable (statements a.items) known × IsRunnable (statements b.items) known
 if_parts s e a b known p r =
-    let f : statement s Empty ≡ If (expression e) (statements a.items) (statements b.items) Empty = ap (λ (z : Stmt). statement z Empty) p ∙ statement_if e a b Empty in
+    let f : statement s Empty ≡ If (expression e) (statements a.items) (statements b.items) Empty = ap
+    (λ (z : Stmt). statement z Empty) p ∙ statement_if e a b Empty in
     let g = subst (λ (z : Statements). IsRunnable z known) f r in
     (g.0, g.1, g.2)
 
 -- a part in another environment's words
-pub same_known : (xs ys : List Stmt) (known held : BilVariable → Bool) → xs ≡ ys → held ≡ known → IsRunnable (statements ys) known → IsRunnable (statements xs) held
+pub same_known : (xs ys : List Stmt) (known held : BilVariable → Bool) → xs ≡ ys → held ≡ known → IsRunnable (statements ys) known →
+    IsRunnable (statements xs) held
 same_known xs ys known held x k r =
     subst (λ (z : BilVariable → Bool). IsRunnable (statements xs) z) (sym k) (subst (λ (z : List Stmt). IsRunnable (statements z) known) (sym x) r)
 
@@ -83,7 +85,8 @@ one_first (stmt.Jump e) rest c t = then_assoc (jumped (evaluate (expression e) c
 one_first (stmt.Raise n) rest c t = refl
 one_first (stmt.Special r) rest c t = refl
 one_first (stmt.While' e m body) rest c t = then_assoc (loop t.turns (λ s. evaluate (expression e) c s.env) (execute (block body) c) t) (execute rest c)
-one_first (stmt.If' e m a k b) rest c t = then_assoc (branch_on (evaluate (expression e) c t.env) (execute (block a) c t) (execute (block b) c t)) (execute rest c)
+one_first (stmt.If' e m a k b) rest c t = then_assoc (branch_on (evaluate (expression e) c t.env) (execute (block a) c t) (execute (block b) c t))
+    (execute rest c)
 
 -- from a place of a list on: its statement, and then what comes behind it
 from_place : (xs : List Stmt) (i : ℕ) (s : Stmt) (c : ℕ) (t : Position) → i < length xs → s ≡ get_or xs i s →
@@ -146,7 +149,8 @@ else_runs s e a b c d t u v xs r o p w k x q same h =
     subst (λ (z : Ending). Comes r o z) f h
 
 pub while_runs : (s : Stmt) (e : Exp) (a : Vec Stmt Global) (c : ℕ) (t : Position) (xs : List Stmt) (r : Result Flow EvalFault) (u : Position) →
-    s ≡ stmt.While e a → xs ≡ a.items → Comes r u (loop t.turns (test (expression e) c) (execute (statements xs) c) t) → Comes r u (execute (statement s Empty) c t)
+    s ≡ stmt.While e a → xs ≡ a.items → Comes r u (loop t.turns (test (expression e) c) (execute (statements xs) c) t) →
+    Comes r u (execute (statement s Empty) c t)
 while_runs s e a c t xs r u p x h =
     let f : execute (statement s Empty) c t ≡ loop t.turns (test (expression e) c) (execute (statements a.items) c) t =
     ap (λ (z : Stmt). execute (statement z Empty) c t) p ∙ ap (λ (z : Statements). execute z c t) (statement_while e a Empty) ∙ then_same _ in
@@ -179,7 +183,8 @@ pub turn_goes : (m i : ℕ) (e : Expression) (xs : List Stmt) (c d k : ℕ) (s v
 turn_goes m i e xs c d k s v u b all l q f w t n z g a =
     sym (turn_then m i e xs c d k s v b l q f w t n z ∙ ap (λ (o : Ending). then_do o (loop (m - (i + 1)) (test e c) (execute (statements xs) c))) g) ∙ a
 
-pub turn_ends : (m i : ℕ) (e : Expression) (xs : List Stmt) (c d k : ℕ) (s v u : Position) (b : Bool) (r : Result Flow EvalFault) (all : Ending) → i < m → d ≡ c →
+pub turn_ends : (m i : ℕ) (e : Expression) (xs : List Stmt) (c d k : ℕ) (s v u : Position) (b : Bool) (r : Result Flow EvalFault) (all : Ending) → i < m →
+    d ≡ c →
     k ≡ c → evaluate e d s.env ≡ Word 1 (bit b) → b ≡ true → (s.turns ≡ 0 → ⊥) → v ≡ record s { turns = s.turns - 1 } → r ≢ Ok On →
     Comes r u (execute (statements xs) k v) → loop (m - i) (test e c) (execute (statements xs) c) s ≡ all → Comes r u all
 turn_ends m i e xs c d k s v u b r all l q f w t n z o g a =

@@ -13,8 +13,8 @@ join (Special t rest) list = Special t (join rest list)
 join (While e body rest) list = While e body (join rest list)
 join (If e a b rest) list = If e a b (join rest list)
 
--- The run of a list from a position comes by an environment: it stands there before a statement of the list or of its blocks, or at the end, when just the finished
--- assignments have been made.
+-- The run of a list from a position comes by an environment: it stands there before a statement of the list or of its blocks, or at the end, when just the
+-- finished assignments have been made.
 pub data Passes (choice : ℕ) (e : Env) : Statements → Position → Type 0 where
   AtStart : {list : Statements} {p : Position} → e ≡ p.env → Passes choice e list p
   InFront : (front rest : Statements) {list : Statements} {p : Position} → list ≡ join front rest → Passes choice e front p → Passes choice e list p

@@ -106,7 +106,8 @@ fn write_local(locals: &mut [LocalWord], local: Local, value: Word)
 pub fn assign_word(variable: Var, value: Word, env: &mut Env)
     requires known { held env.old.locals.items (variable_of variable) ≡ true }
     requires width { bil.type_of (variable_of variable) ≡ bil.Bits value.width }
-    ensures assigned { means.assign (variable_of variable) (means.Word value.width value.bits) (env_of env.old.machine env.old.locals.items) ≡ Some (env_of env.new.machine env.new.locals.items) }
+    ensures assigned { means.assign (variable_of variable) (means.Word value.width value.bits) (env_of env.old.machine env.old.locals.items)
+        ≡ Some (env_of env.new.machine env.new.locals.items) }
     ensures held { held env.new.locals.items ≡ held env.old.locals.items }
     ensures choice { env.new.machine.choice ≡ env.old.machine.choice }
 {

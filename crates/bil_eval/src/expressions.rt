@@ -131,7 +131,8 @@ pub fn evaluate_memory(
     locals: &mut Vec<LocalWord>,
 ) -> Result<Bytes32, AllocError>
     requires { IsMemory (expression e.now) (held locals.old.items) }
-    ensures value { IfOk result (λ m. means.evaluate (expression e.now) machine.now.choice (env_of machine.now locals.old.items) ≡ means.Bytes (memory_of m.entries)) }
+    ensures value { IfOk result (λ m. means.evaluate (expression e.now) machine.now.choice (env_of machine.now locals.old.items)
+        ≡ means.Bytes (memory_of m.entries)) }
     ensures locals { locals.new.items ≡ locals.old.items }
 {
     match e {

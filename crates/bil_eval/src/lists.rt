@@ -25,10 +25,12 @@ pub enum End {
     Exn(u32),
 }
 
-/// Runs a well typed list over an environment that holds the variables that it names. Its loops make at most `turns` turns, all loops together, nested ones too.
+/// Runs a well typed list over an environment that holds the variables that it names. Its loops make at most `turns` turns, all loops together, nested ones
+/// too.
 ///
 /// The environment is left as the finished assignments left it. `OutOfTurns`: the loops made that many turns, and another was due. `Memory`: the list stopped
-/// for want of memory, and the environment is one by which its run comes. After any answer the environment holds the same variables, so that it can be used again.
+/// for want of memory, and the environment is one by which its run comes. After any answer the environment holds the same variables, so that it can be used
+/// again.
 pub fn eval(alloc: Global, list: &[Stmt], env: &mut Env, turns: u64) -> Result<End, EvalFault>
     requires typed { IsWellTyped (statements list.now) }
     requires held { list_names_only (statements list.now) (held env.old.locals.items) ≡ true }

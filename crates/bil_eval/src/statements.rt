@@ -40,7 +40,8 @@ pub fn run(
 ) -> Result<Flow, EvalFault>
     requires { IsRunnable (statements list.now) (held env.old.locals.items) }
     ensures comes { Comes result (position env.new progress.new) (means.execute (statements list.now) env.old.machine.choice (position env.old progress.old)) }
-    ensures passes { IfWanting result (Passes env.old.machine.choice (env_of env.new.machine env.new.locals.items) (statements list.now) (position env.old progress.old)) }
+    ensures passes { IfWanting result (Passes env.old.machine.choice (env_of env.new.machine env.new.locals.items) (statements list.now)
+        (position env.old progress.old)) }
     ensures held { held env.new.locals.items ≡ held env.old.locals.items }
     ensures choice { env.new.machine.choice ≡ env.old.machine.choice }
 {
@@ -62,8 +63,10 @@ fn act(
     progress: &mut Progress,
 ) -> Result<Flow, EvalFault>
     requires { IsRunnable (statement stmt.now bil.Empty) (held env.old.locals.items) }
-    ensures comes { Comes result (position env.new progress.new) (means.execute (statement stmt.now bil.Empty) env.old.machine.choice (position env.old progress.old)) }
-    ensures passes { IfWanting result (Passes env.old.machine.choice (env_of env.new.machine env.new.locals.items) (statement stmt.now bil.Empty) (position env.old progress.old)) }
+    ensures comes { Comes result (position env.new progress.new)
+        (means.execute (statement stmt.now bil.Empty) env.old.machine.choice (position env.old progress.old)) }
+    ensures passes { IfWanting result (Passes env.old.machine.choice (env_of env.new.machine env.new.locals.items) (statement stmt.now bil.Empty)
+        (position env.old progress.old)) }
     ensures held { held env.new.locals.items ≡ held env.old.locals.items }
     ensures choice { env.new.machine.choice ≡ env.old.machine.choice }
 {
@@ -102,7 +105,8 @@ fn act(
 /// Whether a condition of 1 bit is 1.
 fn holds(condition: &Exp, alloc: Global, env: &mut Env) -> Result<bool, AllocError>
     requires { IsChecked (expression condition.now) (bil.Bits 1) (held env.old.locals.items) }
-    ensures value { IfOk result (λ b. means.evaluate (expression condition.now) env.old.machine.choice (env_of env.old.machine env.old.locals.items) ≡ means.Word 1 (words.bit b)) }
+    ensures value { IfOk result (λ b. means.evaluate (expression condition.now) env.old.machine.choice (env_of env.old.machine env.old.locals.items)
+        ≡ means.Word 1 (words.bit b)) }
     ensures machine { env.new.machine ≡ env.old.machine }
     ensures locals { env.new.locals.items ≡ env.old.locals.items }
 {
@@ -121,8 +125,11 @@ fn repeat(
 ) -> Result<Flow, EvalFault>
     requires condition { IsChecked (expression condition.now) (bil.Bits 1) (held env.old.locals.items) }
     requires body { IsRunnable (statements body.now) (held env.old.locals.items) }
-    ensures comes { Comes result (position env.new progress.new) (means.loop progress.old.turns (test (expression condition.now) env.old.machine.choice) (means.execute (statements body.now) env.old.machine.choice) (position env.old progress.old)) }
-    ensures passes { IfWanting result (Passes env.old.machine.choice (env_of env.new.machine env.new.locals.items) (bil.While (expression condition.now) (statements body.now) bil.Empty) (position env.old progress.old)) }
+    ensures comes { Comes result (position env.new progress.new)
+        (means.loop progress.old.turns (test (expression condition.now) env.old.machine.choice) (means.execute (statements body.now) env.old.machine.choice)
+        (position env.old progress.old)) }
+    ensures passes { IfWanting result (Passes env.old.machine.choice (env_of env.new.machine env.new.locals.items)
+        (bil.While (expression condition.now) (statements body.now) bil.Empty) (position env.old progress.old)) }
     ensures held { held env.new.locals.items ≡ held env.old.locals.items }
     ensures choice { env.new.machine.choice ≡ env.old.machine.choice }
 {

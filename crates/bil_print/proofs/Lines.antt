@@ -42,7 +42,8 @@ pub while_lines : (s : Stmt) (e : Exp) (body : Vec Stmt Global) (xs : List Stmt)
     w2 ≡ w1 ++ list_text (depth + 1) (statements xs) → new ≡ w2 ++ line_at depth (codes "}") →
     new ++ list_text depth rest ≡ old ++ list_text depth (statement s rest)
 while_lines s e body xs depth rest old w1 w2 new is items p q r =
-    let q1 : w2 ≡ w1 ++ list_text (suc depth) (statements body.items) = q ∙ ap (λ z. w1 ++ list_text z (statements xs)) (add-one depth) ∙ ap (λ z. w1 ++ list_text (suc depth) (statements z)) items in
+    let q1 : w2 ≡ w1 ++ list_text (suc depth) (statements body.items) = q ∙ ap (λ z. w1 ++ list_text z (statements xs)) (add-one depth) ∙ ap
+    (λ z. w1 ++ list_text (suc depth) (statements z)) items in
     three old _ _ _ (list_text depth rest) w1 w2 new p q1 r
     ∙ ap (λ z. old ++ list_text depth z) (sym (statement_while e body rest)) ∙ ap (λ z. old ++ list_text depth (statement z rest)) (sym is)
 
@@ -54,8 +55,10 @@ pub if_lines : (s : Stmt) (e : Exp) (a b : Vec Stmt Global) (xs ys : List Stmt) 
     w4 ≡ w3 ++ list_text (depth + 1) (statements ys) → new ≡ w4 ++ line_at depth (codes "}") →
     new ++ list_text depth rest ≡ old ++ list_text depth (statement s rest)
 if_lines s e a b xs ys depth rest old w1 w2 w3 w4 new is x y p q r t u =
-    let q1 : w2 ≡ w1 ++ list_text (suc depth) (statements a.items) = q ∙ ap (λ z. w1 ++ list_text z (statements xs)) (add-one depth) ∙ ap (λ z. w1 ++ list_text (suc depth) (statements z)) x in
-    let t1 : w4 ≡ w3 ++ list_text (suc depth) (statements b.items) = t ∙ ap (λ z. w3 ++ list_text z (statements ys)) (add-one depth) ∙ ap (λ z. w3 ++ list_text (suc depth) (statements z)) y in
+    let q1 : w2 ≡ w1 ++ list_text (suc depth) (statements a.items) = q ∙ ap (λ z. w1 ++ list_text z (statements xs)) (add-one depth) ∙ ap
+    (λ z. w1 ++ list_text (suc depth) (statements z)) x in
+    let t1 : w4 ≡ w3 ++ list_text (suc depth) (statements b.items) = t ∙ ap (λ z. w3 ++ list_text z (statements ys)) (add-one depth) ∙ ap
+    (λ z. w3 ++ list_text (suc depth) (statements z)) y in
     five old _ _ _ _ _ (list_text depth rest) w1 w2 w3 w4 new p q1 r t1 u
     ∙ ap (λ z. old ++ list_text depth z) (sym (statement_if e a b rest)) ∙ ap (λ z. old ++ list_text depth (statement z rest)) (sym is)
 

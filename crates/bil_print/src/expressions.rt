@@ -34,7 +34,8 @@ fn stands_alone(e: &Exp) -> bool
 /// Appends an operand's text, in round brackets unless it stands alone.
 #[cycle(expressions)]
 fn append_operand(out: &mut String, e: &Exp) -> Result<(), AllocError>
-    ensures { OnOk result (string_bytes out.new ≡ string_bytes out.old ++ text.bracketed (text.stands_alone (expression e.now)) (text.text_of (expression e.now))) }
+    ensures { OnOk result (string_bytes out.new ≡ string_bytes out.old
+        ++ text.bracketed (text.stands_alone (expression e.now)) (text.text_of (expression e.now))) }
 {
     if stands_alone(e) {
         return append_expression(out, e);

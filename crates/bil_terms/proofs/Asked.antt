@@ -11,7 +11,8 @@ use Rattle.walk_spec.specs.Unrolling.{is_variable_of}
 use Rattle.bil_terms.specs.Leading.{CanLead}
 use Rattle.bil_terms.specs.Left.{CanBeLed}
 
-can_lead : (list : Statements) (known : BilVariable → Bool) → IsRunnable list known → has_no_loop list ≡ true → has_no_special list ≡ true → memory_choices list ≡ 0 → chosen_stores list ≡ 0 →
+can_lead : (list : Statements) (known : BilVariable → Bool) → IsRunnable list known → has_no_loop list ≡ true → has_no_special list ≡ true →
+    memory_choices list ≡ 0 → chosen_stores list ≡ 0 →
     CanLead list known
 can_lead Empty known r l s m c = tt
 can_lead (Assign x e rest) known r l s m c = (r.0, r.1, (omega (arith, m), omega (arith, c)), can_lead rest known r.2 l s (omega (arith, m)) (omega (arith, c)))

@@ -32,7 +32,8 @@ memory_at d0 d1 n ls ms place live s0 s1 b r t e f q =
     (subst (λ (z : Exp). IsMemoryTerm d0 d1 n ms place live s0 s1 (expression z) t) f q)
 
 -- the next operand can be called on
-pub next_word : (d0 d1 : List TermNode) (n : Names) (ls ms : List LocalTerm) (live : ℕ) (b r : Exp) (g l s j k : ℕ) → ms ≡ ls → r ≡ b → IsWord (expression b) (known n ls) →
+pub next_word : (d0 d1 : List TermNode) (n : Names) (ls ms : List LocalTerm) (live : ℕ) (b r : Exp) (g l s j k : ℕ) → ms ≡ ls → r ≡ b →
+    IsWord (expression b) (known n ls) →
     IsSteady (expression b) → Grew d0 d1 g l s j k → IsScope d0 n ls live → IsWord (expression r) (known n ms) × IsSteady (expression r) × IsScope d1 n ms live
 next_word d0 d1 n ls ms live b r g l s j k e f h st p sc = (
   subst (λ (z : List LocalTerm). IsWord (expression r) (known n z)) (sym e) (subst (λ (z : Exp). IsWord (expression z) (known n ls)) (sym f) h),
@@ -40,18 +41,22 @@ next_word d0 d1 n ls ms live b r g l s j k e f h st p sc = (
   subst (λ (z : List LocalTerm). IsScope d1 n z live) (sym e) (scope_kept d0 d1 g l s j k n ls live p sc),
 )
 
-push_scope : (d0 d1 : List TermNode) (n : Names) (ls ms news : List LocalTerm) (term : LocalTerm) (live g l s j k : ℕ) → ms ≡ ls → news ≡ ms ++ term ∷ [] → IsWidth term.width →
+push_scope : (d0 d1 : List TermNode) (n : Names) (ls ms news : List LocalTerm) (term : LocalTerm) (live g l s j k : ℕ) → ms ≡ ls → news ≡ ms ++ term ∷ [] →
+    IsWidth term.width →
     HasWidth d1 term.width term.term.0 → Grew d0 d1 g l s j k → IsScope d0 n ls live → IsScope d1 n news live
 push_scope d0 d1 n ls ms news term live g l s j k e f w h p sc =
-    subst (λ (z : List LocalTerm). IsScope d1 n z live) (sym (f ∙ ap (λ z. z ++ term ∷ []) e)) (scope_push d1 n ls live term (scope_kept d0 d1 g l s j k n ls live p sc) w h)
+    subst (λ (z : List LocalTerm). IsScope d1 n z live) (sym (f ∙ ap (λ z. z ++ term ∷ []) e))
+    (scope_push d1 n ls live term (scope_kept d0 d1 g l s j k n ls live p sc) w h)
 
 push_known : (n : Names) (ls ms news : List LocalTerm) (term : LocalTerm) → ms ≡ ls → news ≡ ms ++ term ∷ [] →
     known n news ≡ (λ y. is_local term.number term.width y || known n ls y)
 push_known n ls ms news term e f = ap (known n) (f ∙ ap (λ z. z ++ term ∷ []) e) ∙ known_push n ls term
 
 -- the body of a let can be called on
-pub body_word : (d0 d1 : List TermNode) (n : Names) (ls ms news : List LocalTerm) (term : LocalTerm) (live : ℕ) (b r : Exp) (g l s j k : ℕ) → ms ≡ ls → news ≡ ms ++ term ∷ [] → r ≡ b →
-    IsWord (expression b) (λ y. is_local term.number term.width y || known n ls y) → IsSteady (expression b) → IsWidth term.width → HasWidth d1 term.width term.term.0 →
+pub body_word : (d0 d1 : List TermNode) (n : Names) (ls ms news : List LocalTerm) (term : LocalTerm) (live : ℕ) (b r : Exp) (g l s j k : ℕ) → ms ≡ ls →
+    news ≡ ms ++ term ∷ [] → r ≡ b →
+    IsWord (expression b) (λ y. is_local term.number term.width y || known n ls y) → IsSteady (expression b) → IsWidth term.width →
+    HasWidth d1 term.width term.term.0 →
     Grew d0 d1 g l s j k → IsScope d0 n ls live → IsWord (expression r) (known n news) × IsSteady (expression r) × IsScope d1 n news live
 body_word d0 d1 n ls ms news term live b r g l s j k e f q h st w at p sc = (
   subst (λ (z : BilVariable → Bool). IsWord (expression r) z) (sym (push_known n ls ms news term e f))
@@ -60,8 +65,10 @@ body_word d0 d1 n ls ms news term live b r g l s j k e f q h st w at p sc = (
   push_scope d0 d1 n ls ms news term live g l s j k e f w at p sc,
 )
 
-pub body_memory : (d0 d1 : List TermNode) (n : Names) (ls ms news : List LocalTerm) (term : LocalTerm) (live : ℕ) (b r : Exp) (g l s j k : ℕ) → ms ≡ ls → news ≡ ms ++ term ∷ [] → r ≡ b →
-    IsMemory (expression b) (λ y. is_local term.number term.width y || known n ls y) → IsSteady (expression b) → IsWidth term.width → HasWidth d1 term.width term.term.0 →
+pub body_memory : (d0 d1 : List TermNode) (n : Names) (ls ms news : List LocalTerm) (term : LocalTerm) (live : ℕ) (b r : Exp) (g l s j k : ℕ) → ms ≡ ls →
+    news ≡ ms ++ term ∷ [] → r ≡ b →
+    IsMemory (expression b) (λ y. is_local term.number term.width y || known n ls y) → IsSteady (expression b) → IsWidth term.width →
+    HasWidth d1 term.width term.term.0 →
     Grew d0 d1 g l s j k → IsScope d0 n ls live → IsMemory (expression r) (known n news) × IsSteady (expression r) × IsScope d1 n news live
 body_memory d0 d1 n ls ms news term live b r g l s j k e f q h st w at p sc = (
   subst (λ (z : BilVariable → Bool). IsMemory (expression r) z) (sym (push_known n ls ms news term e f))
@@ -71,7 +78,8 @@ body_memory d0 d1 n ls ms news term live b r g l s j k e f q h st w at p sc = (
 )
 
 -- the node of a cast is over its operand
-pub cast_typed : (ns : List TermNode) (kind : CastKind) (w m t : ℕ) → HasWidth ns w t → IsWidth w → IsWidth m → cast_fits kind m w ≡ true → IsTypedOver ns (cast_node kind w m t)
+pub cast_typed : (ns : List TermNode) (kind : CastKind) (w m t : ℕ) → HasWidth ns w t → IsWidth w → IsWidth m → cast_fits kind m w ≡ true →
+    IsTypedOver ns (cast_node kind w m t)
 cast_typed ns Low w m t h i j f = (let le : m ≤ w = grind (arith, nat_tests) in (omega arith, omega (arith, h.1, j.0), h.0))
 cast_typed ns High w m t h i j f = (let le : m ≤ w = grind (arith, nat_tests) in (omega (arith, j.0), omega (arith, h.1, i.0), h.0))
 cast_typed ns Signed w m t h i j f = (let le : w ≤ m = grind (arith, nat_tests) in (i, le, j.1, h))

@@ -31,7 +31,8 @@ zero_or (suc zero) h = refl
 zero_or (suc (suc n)) h = absurd (omega arith)
 
 -- the run enters the first side where the condition is 1, and the second where it is 0
-pub split_made : (d0 d1 d2 : List TermNode) (c live z one other : ℕ) → HasWidth d0 1 c → HasWidth d0 1 live → HasWidth d0 1 z → ((x : TermReading) → term_word x d0 z ≡ 0) →
+pub split_made : (d0 d1 d2 : List TermNode) (c live z one other : ℕ) → HasWidth d0 1 c → HasWidth d0 1 live → HasWidth d0 1 z →
+    ((x : TermReading) → term_word x d0 z ≡ 0) →
     IsMade d0 d1 (BinaryNode And 1 c live) one → IsMade d1 d2 (SelectNode 1 c z live) other → IsSplit d0 d2 c live one other
 split_made d0 d1 d2 c live z one other hc hl hz zero_is p q =
     let g = made_grew d0 d1 (BinaryNode And 1 c live) one p in
@@ -53,8 +54,10 @@ split_made d0 d1 d2 c live z one other hc hl hz zero_is p q =
       first x i ∙ ap (λ v. bit_and v (term_word x d0 live)) t ∙ and_zero (term_word x d0 live) (small x live i hl),
       second x i ∙ ap (λ v. select v 0 (term_word x d0 live)) t,
     ) in record {
-      grew = grew_more d0 d2 _ _ _ _ _ 2 0 0 0 4 (omega arith) (omega arith) (omega arith) (omega arith) (omega arith) (grew_on d0 d1 d2 _ _ _ _ _ _ _ _ _ _ g h);
-      inputs = inputs_on d0 d1 d2 (λ m. ⊥) (made_inputs d0 d1 (BinaryNode And 1 c live) one (λ m. ⊥) p (λ j. j)) (made_inputs d1 d2 (SelectNode 1 c z live) other (λ m. ⊥) q (λ j. j));
+      grew = grew_more d0 d2 _ _ _ _ _ 2 0 0 0 4 (omega arith) (omega arith) (omega arith) (omega arith) (omega arith)
+          (grew_on d0 d1 d2 _ _ _ _ _ _ _ _ _ _ g h);
+      inputs = inputs_on d0 d1 d2 (λ m. ⊥) (made_inputs d0 d1 (BinaryNode And 1 c live) one (λ m. ⊥) p
+          (λ j. j)) (made_inputs d1 d2 (SelectNode 1 c z live) other (λ m. ⊥) q (λ j. j));
       one_bit = grew_width d1 d2 _ _ _ _ _ 1 one h w;
       other_bit = made_width d1 d2 (SelectNode 1 c z live) other 1 q refl;
       small = λ x i. small x c i hc;
@@ -65,7 +68,8 @@ split_made d0 d1 d2 c live z one other hc hl hz zero_is p q =
             | inl k ↦ (let t = when_false x i (omega arith) in
                 sym (ap (λ v. bit_or v (term_word x d2 other)) t.0 ∙ ap (bit_or 0) t.1 ∙ zero_or (term_word x d0 live) (small x live i hl) ∙ sym same))
             | inr k ↦ (let t = when_true x i (omega arith) in
-                sym (ap (λ v. bit_or v (term_word x d2 other)) t.0 ∙ ap (bit_or (term_word x d0 live)) t.1 ∙ or_zero (term_word x d0 live) (small x live i hl) ∙ sym same))
+                sym (ap (λ v. bit_or v (term_word x d2 other)) t.0 ∙ ap (bit_or (term_word x d0 live)) t.1 ∙ or_zero (term_word x d0 live)
+                (small x live i hl) ∙ sym same))
           ];
       when_true = when_true;
       when_false = when_false;

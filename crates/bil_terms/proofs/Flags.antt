@@ -30,9 +30,11 @@ use Rattle.bil_terms.proofs.Steps.{led_simple, jump_kept, nothing_after, rows_wi
 abbrev pub with_flags : Run → Vec Term Global → Run
 with_flags r v = record r { names = record r.names { flags = v } }
 
-flag_denotes : (d : List TermNode) (x : TermReading) (n : Names) (v : Vec Term Global) (f : ℕ) (t : Term) (e : Env) → f < length n.flags.items → v.items ≡ set n.flags.items f t →
+flag_denotes : (d : List TermNode) (x : TermReading) (n : Names) (v : Vec Term Global) (f : ℕ) (t : Term) (e : Env) → f < length n.flags.items →
+    v.items ≡ set n.flags.items f t →
     Denotes (form_of n) d x (names_of n) (record { regs = e.regs; flags = e.flags; mem = e.mem }) →
-    Denotes (form_of (record n { flags = v })) d x (names_of (record n { flags = v })) (record { regs = e.regs; flags = put e.flags f (term_word x d t.0); mem = e.mem })
+    Denotes (form_of (record n { flags = v })) d x (names_of (record n { flags = v }))
+    (record { regs = e.regs; flags = put e.flags f (term_word x d t.0); mem = e.mem })
 flag_denotes d x n v f t e h is p =
     let many : length v.items ≡ length n.flags.items = ap length is ∙ length-set n.flags.items f t in record {
       registers = p.registers;
@@ -66,12 +68,14 @@ led_flag d0 d1 place r v s0 s1 f e t run h is w k =
     let memory = differs_same n.memory.0 n.memory.0 refl in
     led_simple d0 d1 place r (with_flags r v) s0 s1 e (Assign (Flag f) e Empty) run k.gathered
     (record {
-      names = rows_are_names d1 (record n { flags = v }) (λ j l. grew_width d0 d1 _ _ _ _ _ 32 _ g (rows.0 j l)) wide (grew_width d0 d1 _ _ _ _ _ 0 _ g run.names.memory);
+      names = rows_are_names d1 (record n { flags = v }) (λ j l. grew_width d0 d1 _ _ _ _ _ 32 _ g (rows.0 j l)) wide
+          (grew_width d0 d1 _ _ _ _ _ 0 _ g run.names.memory);
       jumped = grew_width d0 d1 _ _ _ _ _ 1 _ g run.jumped;
       target = grew_width d0 d1 _ _ _ _ _ 32 _ g run.target;
       live = grew_width d0 d1 _ _ _ _ _ 1 _ g run.live;
     })
-    (record { first = refl; registers = refl; flags = sym many }) refl (omega arith) (omega arith) (omega arith) (omega arith) (omega arith) (omega arith) (omega arith) (omega arith)
+    (record { first = refl; registers = refl; flags = sym many }) refl (omega arith) (omega arith) (omega arith) (omega arith) (omega arith) (omega arith)
+    (omega arith) (omega arith)
     (λ c p. ap (λ z. stored_by e c p.env ++ z) (nothing_after (assigned (assign (Flag f) (evaluate e c p.env) p.env) p)) ∙ append-nil (stored_by e c p.env))
     (λ x y p c. subst (λ (z : Ending). Comes d1 x (with_flags r v) z)
     (assigned_flag f (width e) (term_word x d1 t.0) (x.choice place) e p (k.value x y p.env c.holds) w) (record {
@@ -110,16 +114,19 @@ led_memory d0 d1 place r s0 s1 e t run k =
     let most = differs_most n.memory.0 t.0 in
     led_simple d0 d1 place r (with_memory r t) s0 s1 e (Assign Mem e Empty) run k.gathered
     (record {
-      names = rows_are_names d1 (record n { memory = t }) (λ j l. grew_width d0 d1 _ _ _ _ _ 32 _ g (rows.0 j l)) (λ j l. grew_width d0 d1 _ _ _ _ _ 1 _ g (rows.1 j l)) k.at;
+      names = rows_are_names d1 (record n { memory = t }) (λ j l. grew_width d0 d1 _ _ _ _ _ 32 _ g (rows.0 j l))
+          (λ j l. grew_width d0 d1 _ _ _ _ _ 1 _ g (rows.1 j l)) k.at;
       jumped = grew_width d0 d1 _ _ _ _ _ 1 _ g run.jumped;
       target = grew_width d0 d1 _ _ _ _ _ 32 _ g run.target;
       live = grew_width d0 d1 _ _ _ _ _ 1 _ g run.live;
     })
-    (record { first = refl; registers = refl; flags = refl }) refl (omega arith) (omega arith) (omega arith) (omega arith) (omega arith) (omega arith) (omega arith) (omega arith)
+    (record { first = refl; registers = refl; flags = refl }) refl (omega arith) (omega arith) (omega arith) (omega arith) (omega arith) (omega arith)
+    (omega arith) (omega arith)
     (λ c p. ap (λ z. stored_by e c p.env ++ z) (nothing_after (assigned (assign Mem (evaluate e c p.env) p.env) p)) ∙ append-nil (stored_by e c p.env))
     (λ x y p c.
     let before = denotes_kept d0 d1 _ _ _ _ _ n x _ g run.names c.holds.names in
-    subst (λ (z : Ending). Comes d1 x (with_memory r t) z) (assigned_memory (term_value x d1 t.0).bytes (x.choice place) e p (k.value x y p.env c.holds)) (record {
+    subst (λ (z : Ending). Comes d1 x (with_memory r t) z) (assigned_memory (term_value x d1 t.0).bytes (x.choice place) e p (k.value x y p.env c.holds))
+    (record {
       live = word_kept d0 d1 _ _ _ _ _ r.live.0 x g run.live.0 ∙ c.live;
       jump = jump_kept d0 d1 _ _ _ _ _ x r.jumped.0 r.target.0 p.jump g run.jumped run.target c.jump;
       holds = record {
@@ -132,11 +139,13 @@ led_memory d0 d1 place r s0 s1 e t run k =
 abbrev pub with_jump : Run → (jumped target : Term) → Run
 with_jump r j t = record r { jumped = j; target = t }
 
-jumps_to : (w v c : ℕ) (e : Expression) (p : Position) → evaluate e c p.env ≡ Word w v → w ≡ 32 → Ends (record p { jump = Some v }) ≡ execute (JumpTo e Empty) c p
+jumps_to : (w v c : ℕ) (e : Expression) (p : Position) → evaluate e c p.env ≡ Word w v → w ≡ 32 →
+    Ends (record p { jump = Some v }) ≡ execute (JumpTo e Empty) c p
 jumps_to w v c e p h k = sym (ap (λ (z : Value). then_do (jumped z p) Ends) (h ∙ ap (λ z. Word z v) k))
 
 -- a jump
-pub led_jump : (d0 d1 : List TermNode) (place : ℕ) (r : Run) (b : Bits) (s0 s1 : List Stored) (e : Expression) (t : Term) → IsRun d0 r → AreBits d0 b → width e ≡ 32 →
+pub led_jump : (d0 d1 : List TermNode) (place : ℕ) (r : Run) (b : Bits) (s0 s1 : List Stored) (e : Expression) (t : Term) → IsRun d0 r → AreBits d0 b →
+    width e ≡ 32 →
     IsWordTerm d0 d1 r.names [] place r.live.0 s0 s1 e t.0 → IsLed d0 d1 place r (with_jump r b.one t) s0 s1 (JumpTo e Empty)
 led_jump d0 d1 place r b s0 s1 e t run bits w k =
     let n = r.names in
@@ -155,7 +164,8 @@ led_jump d0 d1 place r b s0 s1 e t run bits w k =
       target = subst (λ z. HasWidth d1 z t.0) w k.at;
       live = grew_width d0 d1 _ _ _ _ _ 1 _ g run.live;
     })
-    (record { first = refl; registers = refl; flags = refl }) refl (omega arith) (omega arith) (omega arith) (omega arith) (omega arith) (omega arith) (omega arith) (omega arith)
+    (record { first = refl; registers = refl; flags = refl }) refl (omega arith) (omega arith) (omega arith) (omega arith) (omega arith) (omega arith)
+    (omega arith) (omega arith)
     (λ c p. ap (λ z. stored_by e c p.env ++ z) (nothing_after (jumped (evaluate e c p.env) p)) ∙ append-nil (stored_by e c p.env))
     (λ x y p c. subst (λ (z : Ending). Comes d1 x (with_jump r b.one t) z)
     (jumps_to (width e) (term_word x d1 t.0) (x.choice place) e p (k.value x y p.env c.holds) w) (record {

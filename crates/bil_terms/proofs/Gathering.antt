@@ -24,7 +24,8 @@ nothing c v = []
 abbrev pub Draws : (place unknowns : ℕ) → TermNode → Type 0
 Draws place u m = (m ≡ ChoiceNode place) × (1 ≤ u)
 
-pub gathered_none : (ns : List TermNode) (n : Names) (ls : List LocalTerm) (place live : ℕ) (so : List Stored) → Gathered ns ns n ls place live so so no_cost nothing
+pub gathered_none : (ns : List TermNode) (n : Names) (ls : List LocalTerm) (place live : ℕ) (so : List Stored) →
+    Gathered ns ns n ls place live so so no_cost nothing
 gathered_none ns n ls place live so = record {
   grew = grew_none ns;
   inputs = inputs_none ns (Draws place 0);
@@ -36,7 +37,8 @@ gathered_none ns n ls place live so = record {
 }
 
 -- what is among stays so as nodes are added
-pub among_kept : (old new : List TermNode) (g l s j n : ℕ) (x : TermReading) (more : List Stored) (a : ℕ) → Grew old new g l s j n → ((s : Stored) → Contains more s → HasWidth old 32 s.address.0) →
+pub among_kept : (old new : List TermNode) (g l s j n : ℕ) (x : TermReading) (more : List Stored) (a : ℕ) → Grew old new g l s j n →
+    ((s : Stored) → Contains more s → HasWidth old 32 s.address.0) →
     IsAmong old x more a ↔ IsAmong new x more a
 among_kept old new g l s j n x more a p h = (
   λ c. (c.0, c.1, subst (λ (z : ℕ). Contains (span z c.0.bytes) a) (sym (word_kept old new g l s j n c.0.address.0 x p (h c.0 c.1).0)) c.2),
@@ -51,7 +53,8 @@ store_kept old new g l s j n t p h = record {
   few = h.few;
 }
 
-among_both : (ns : List TermNode) (x : TermReading) (xs ys : List Stored) (a : ℕ) (ps qs : List ℕ) → Contains ps a ↔ IsAmong ns x xs a → Contains qs a ↔ IsAmong ns x ys a →
+among_both : (ns : List TermNode) (x : TermReading) (xs ys : List Stored) (a : ℕ) (ps qs : List ℕ) → Contains ps a ↔ IsAmong ns x xs a → Contains qs a ↔
+    IsAmong ns x ys a →
     Contains (ps ++ qs) a ↔ IsAmong ns x (xs ++ ys) a
 among_both ns x xs ys a ps qs p q = (
   λ c. elim (Contains-append_cases ps qs a c) [
@@ -65,8 +68,10 @@ among_both ns x xs ys a ps qs p q = (
 )
 
 -- one step after another
-pub gathered_on : (d0 d1 d2 : List TermNode) (n : Names) (ls : List LocalTerm) (place live : ℕ) (s0 s1 s2 : List Stored) (c e : Cost) (st su : ℕ → Env → List ℕ) → IsScope d0 n ls live →
-    Gathered d0 d1 n ls place live s0 s1 c st → Gathered d1 d2 n ls place live s1 s2 e su → Gathered d0 d2 n ls place live s0 s2 (both_cost c e) (λ i v. st i v ++ su i v)
+pub gathered_on : (d0 d1 d2 : List TermNode) (n : Names) (ls : List LocalTerm) (place live : ℕ) (s0 s1 s2 : List Stored) (c e : Cost) (st su : ℕ → Env →
+    List ℕ) → IsScope d0 n ls live →
+    Gathered d0 d1 n ls place live s0 s1 c st → Gathered d1 d2 n ls place live s1 s2 e su →
+    Gathered d0 d2 n ls place live s0 s2 (both_cost c e) (λ i v. st i v ++ su i v)
 gathered_on d0 d1 d2 n ls place live s0 s1 s2 c e st su sc p q = record {
   grew = grew_on d0 d1 d2 _ _ _ _ _ _ _ _ _ _ p.grew q.grew;
   inputs = inputs_on d0 d1 d2 (Draws place (c.unknowns + e.unknowns))
@@ -101,7 +106,8 @@ gathered_as d0 d1 n ls place live s0 s1 c e st su hg hl hs hn hu f p = record {
 }
 
 -- nodes that cost so much, without a store
-pub gathered_grew : (d0 d1 : List TermNode) (n : Names) (ls : List LocalTerm) (place live : ℕ) (so : List Stored) (g l s k u : ℕ) → Grew d0 d1 g l s 0 k → InputsFrom d0 d1 (Draws place u) →
+pub gathered_grew : (d0 d1 : List TermNode) (n : Names) (ls : List LocalTerm) (place live : ℕ) (so : List Stored) (g l s k u : ℕ) → Grew d0 d1 g l s 0 k →
+    InputsFrom d0 d1 (Draws place u) →
     Gathered d0 d1 n ls place live so so (record { gates = g; loads = l; stores = s; nodes = k; unknowns = u }) nothing
 gathered_grew d0 d1 n ls place live so g l s k u p i = record {
   grew = p;
@@ -114,16 +120,20 @@ gathered_grew d0 d1 n ls place live so g l s k u p i = record {
 }
 
 -- a node that is no input and no join
-pub gathered_made : (d0 d1 : List TermNode) (n : Names) (ls : List LocalTerm) (place live : ℕ) (so : List Stored) (m : TermNode) (t g l s : ℕ) → IsMade d0 d1 m t → (IsInput m → ⊥) →
+pub gathered_made : (d0 d1 : List TermNode) (n : Names) (ls : List LocalTerm) (place live : ℕ) (so : List Stored) (m : TermNode) (t g l s : ℕ) →
+    IsMade d0 d1 m t → (IsInput m → ⊥) →
     own_gates m ≡ g → own_loads m ≡ l → own_stores m ≡ s → own_joins m ≡ 0 →
     Gathered d0 d1 n ls place live so so (record { gates = g; loads = l; stores = s; nodes = 2; unknowns = 0 }) nothing
 gathered_made d0 d1 n ls place live so m t g l s k i hg hl hs hj =
     gathered_grew d0 d1 n ls place live so g l s 2 0
-    (grew_more d0 d1 _ _ _ _ _ _ _ _ _ _ (omega arith) (omega arith) (omega arith) (omega arith) (omega arith) (made_grew d0 d1 m t k)) (made_inputs d0 d1 m t (Draws place 0) k (λ j. absurd (i j)))
+    (grew_more d0 d1 _ _ _ _ _ _ _ _ _ _ (omega arith) (omega arith) (omega arith) (omega arith) (omega arith) (made_grew d0 d1 m t k))
+    (made_inputs d0 d1 m t (Draws place 0) k (λ j. absurd (i j)))
 
 -- a store under the guard, of a memory at an address
-pub gathered_store : (d0 d1 : List TermNode) (n : Names) (ls : List LocalTerm) (place live : ℕ) (so sn : List Stored) (m : TermNode) (s : Stored) (t k : ℕ) (st : ℕ → Env → List ℕ) →
-    IsMade d0 d1 m t → (IsInput m → ⊥) → own_gates m ≡ 0 → own_loads m ≡ 0 → own_stores m ≡ k → own_joins m ≡ 0 → sn ≡ so ++ s ∷ [] → IsStore d1 s → s.guard.0 ≡ live → s.bytes ≡ k →
+pub gathered_store : (d0 d1 : List TermNode) (n : Names) (ls : List LocalTerm) (place live : ℕ) (so sn : List Stored) (m : TermNode) (s : Stored) (t k : ℕ)
+    (st : ℕ → Env → List ℕ) →
+    IsMade d0 d1 m t → (IsInput m → ⊥) → own_gates m ≡ 0 → own_loads m ≡ 0 → own_stores m ≡ k → own_joins m ≡ 0 → sn ≡ so ++ s ∷ [] → IsStore d1 s →
+    s.guard.0 ≡ live → s.bytes ≡ k →
     ((x : TermReading) → InRange x → (v : Env) → Holds d0 x n ls v → st (x.choice place) v ≡ span (term_word x d1 s.address.0) s.bytes) →
     Gathered d0 d1 n ls place live so sn (record { gates = 0; loads = 0; stores = k; nodes = 2; unknowns = 0 }) st
 gathered_store d0 d1 n ls place live so sn m s t k st p i hg hl hs hj e h q w f = record {
@@ -141,8 +151,10 @@ gathered_store d0 d1 n ls place live so sn m s t k st p i hg hl hs hj e h q w f 
 }
 
 -- a step without a store
-pub gathered_then : (d0 d1 d2 : List TermNode) (n : Names) (ls : List LocalTerm) (place live : ℕ) (s0 s1 : List Stored) (c e : Cost) (st : ℕ → Env → List ℕ) → IsScope d0 n ls live →
+pub gathered_then : (d0 d1 d2 : List TermNode) (n : Names) (ls : List LocalTerm) (place live : ℕ) (s0 s1 : List Stored) (c e : Cost) (st : ℕ → Env → List ℕ) →
+    IsScope d0 n ls live →
     Gathered d0 d1 n ls place live s0 s1 c st → Gathered d1 d2 n ls place live s1 s1 e nothing → Gathered d0 d2 n ls place live s0 s1 (both_cost c e) st
 gathered_then d0 d1 d2 n ls place live s0 s1 c e st sc p q =
-    gathered_as d0 d2 n ls place live s0 s1 (both_cost c e) (both_cost c e) (λ i v. st i v ++ []) st (omega arith) (omega arith) (omega arith) (omega arith) (omega arith)
+    gathered_as d0 d2 n ls place live s0 s1 (both_cost c e) (both_cost c e)
+    (λ i v. st i v ++ []) st (omega arith) (omega arith) (omega arith) (omega arith) (omega arith)
     (λ x g v h. append-nil (st (x.choice place) v)) (gathered_on d0 d1 d2 n ls place live s0 s1 s1 c e st nothing sc p q)

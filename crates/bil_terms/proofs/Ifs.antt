@@ -32,7 +32,8 @@ use Rattle.bil_terms.proofs.Stores.{same_form_on, none_stored, stored_kept, stor
 use Rattle.bil_terms.proofs.Joined.{either_of, either_kept}
 
 -- a run stays what it is as nodes are added
-pub stands_kept : (old new : List TermNode) (g l s j n : ℕ) (x : TermReading) (r : Run) (p : Position) → Grew old new g l s j n → IsRun old r → Stands old x r p → Stands new x r p
+pub stands_kept : (old new : List TermNode) (g l s j n : ℕ) (x : TermReading) (r : Run) (p : Position) → Grew old new g l s j n → IsRun old r →
+    Stands old x r p → Stands new x r p
 stands_kept old new g l s j n x r p k run h = record {
   live = word_kept old new g l s j n r.live.0 x k run.live.0 ∙ h.live;
   jump = jump_kept old new g l s j n x r.jumped.0 r.target.0 p.jump k run.jumped run.target h.jump;
@@ -43,7 +44,8 @@ pub same_form_of : (a b : Names) → HaveSameTerms a b → form_of a ≡ form_of
 same_form_of a b h =
     let f : ℕ → ℕ → ℕ → UnrolledProgram = λ first registers flags. record (form_of a) { registers = from_to first registers; flags = flags } in
     ap (λ z. f z (length a.registers.items) (length a.flags.items)) h.first
-    ∙ ap (λ (z : List Term). f b.first (length z) (length a.flags.items)) h.registers ∙ ap (λ (z : List Term). f b.first (length b.registers.items) (length z)) h.flags
+    ∙ ap (λ (z : List Term). f b.first (length z) (length a.flags.items)) h.registers ∙ ap
+    (λ (z : List Term). f b.first (length b.registers.items) (length z)) h.flags
 
 same_names_of : (a b : Names) → HaveSameTerms a b → names_of a ≡ names_of b
 same_names_of a b h =
@@ -51,7 +53,8 @@ same_names_of a b h =
     ap (λ (z : List Term). f z a.flags.items a.memory) h.registers ∙ ap (λ (z : List Term). f b.registers.items z a.memory) h.flags
     ∙ ap (λ (z : Term). f b.registers.items b.flags.items z) h.memory
 
-pub side_denotes : (d : List TermNode) (x : TermReading) (a b : Names) (c : Carried) → HaveSameTerms a b → Denotes (form_of a) d x (names_of a) c → Denotes (form_of b) d x (names_of b) c
+pub side_denotes : (d : List TermNode) (x : TermReading) (a b : Names) (c : Carried) → HaveSameTerms a b → Denotes (form_of a) d x (names_of a) c →
+    Denotes (form_of b) d x (names_of b) c
 side_denotes d x a b c h p =
     subst (λ (z : UnrolledProgram). Denotes z d x (names_of b) c) (same_form_of a b h)
     (subst (λ (z : walk.Names). Denotes (form_of a) d x z c) (same_names_of a b h) p)
@@ -71,17 +74,20 @@ side_comes d4 d5 x a s (RaisesException n p) h k z = z h
 side_comes d4 d5 x a s (OutOfTurns p) h k z = h
 side_comes d4 d5 x a s Wrong h k z = h
 
-comes_kept : (old new : List TermNode) (g l s j n : ℕ) (x : TermReading) (r : Run) (o : Ending) → Grew old new g l s j n → IsRun old r → Comes old x r o → Comes new x r o
+comes_kept : (old new : List TermNode) (g l s j n : ℕ) (x : TermReading) (r : Run) (o : Ending) → Grew old new g l s j n → IsRun old r → Comes old x r o →
+    Comes new x r o
 comes_kept old new g l s j n x r (Ends p) k run h = stands_kept old new g l s j n x r p k run h
 comes_kept old new g l s j n x r (RaisesException m p) k run h = word_kept old new g l s j n r.live.0 x k run.live.0 ∙ h
 comes_kept old new g l s j n x r (OutOfTurns p) k run h = h
 comes_kept old new g l s j n x r Wrong k run h = h
 
-taken : (e : Expression) (a b : Statements) (w v c : ℕ) (p : Position) → evaluate e c p.env ≡ Word w v → w ≡ 1 → v ≡ 1 → then_do (execute a c p) Ends ≡ execute (If e a b Empty) c p
+taken : (e : Expression) (a b : Statements) (w v c : ℕ) (p : Position) → evaluate e c p.env ≡ Word w v → w ≡ 1 → v ≡ 1 →
+    then_do (execute a c p) Ends ≡ execute (If e a b Empty) c p
 taken e a b w v c p h k l =
     sym (ap (λ (z : Value). then_do (branch_on z (execute a c p) (execute b c p)) Ends) (h ∙ ap (λ z. Word z v) k ∙ ap (Word 1) l))
 
-passed : (e : Expression) (a b : Statements) (w v c : ℕ) (p : Position) → evaluate e c p.env ≡ Word w v → w ≡ 1 → v ≡ 0 → then_do (execute b c p) Ends ≡ execute (If e a b Empty) c p
+passed : (e : Expression) (a b : Statements) (w v c : ℕ) (p : Position) → evaluate e c p.env ≡ Word w v → w ≡ 1 → v ≡ 0 →
+    then_do (execute b c p) Ends ≡ execute (If e a b Empty) c p
 passed e a b w v c p h k l =
     sym (ap (λ (z : Value). then_do (branch_on z (execute a c p) (execute b c p)) Ends) (h ∙ ap (λ z. Word z v) k ∙ ap (Word 1) l))
 
@@ -130,7 +136,8 @@ side_apart r a0 a l s =
     ap (λ (z : List Term). differing (places z) (names_of a.names).registers) s.names.registers in
     let flags : differing (names_of r.names).flags (names_of a.names).flags ≡ differing (names_of a0.names).flags (names_of a.names).flags =
     ap (λ (z : List Term). differing (places z) (names_of a.names).flags) s.names.flags in
-    let memory : differs r.names.memory.0 a.names.memory.0 ≡ differs a0.names.memory.0 a.names.memory.0 = ap (λ (z : Term). differs z.0 a.names.memory.0) s.names.memory in
+    let memory : differs r.names.memory.0 a.names.memory.0 ≡ differs a0.names.memory.0 a.names.memory.0 = ap
+    (λ (z : Term). differs z.0 a.names.memory.0) s.names.memory in
     let target : differs a0.target.0 a.target.0 ≡ differs r.target.0 a.target.0 = ap (λ (z : Term). differs z.0 a.target.0) s.target in
     let live : differs a0.live.0 a.live.0 ≡ differs l a.live.0 = ap (λ z. differs z a.live.0) s.live in
     (omega arith, omega arith, memory)
@@ -144,14 +151,16 @@ pub first_begins : (d0 d1 d2 : List TermNode) (place : ℕ) (r a0 : Run) (s0 s1 
 first_begins d0 d1 d2 place r a0 s0 s1 e c one other run k sp sa =
     side_run d2 r a0 one (run_kept d0 d2 _ _ _ _ _ r (grew_on d0 d1 d2 _ _ _ _ _ _ _ _ _ _ k.gathered.grew sp.grew) run) sa sp.one_bit
 
-pub second_begins : (d0 d1 d2 d3 : List TermNode) (place : ℕ) (r a0 b0 a : Run) (s0 s1 s2 : List Stored) (e : Expression) (y : Statements) (c one other : ℕ) → IsRun d0 r →
+pub second_begins : (d0 d1 d2 d3 : List TermNode) (place : ℕ) (r a0 b0 a : Run) (s0 s1 s2 : List Stored) (e : Expression) (y : Statements) (c one other : ℕ) →
+    IsRun d0 r →
     IsWordTerm d0 d1 r.names [] place r.live.0 s0 s1 e c → IsSplit d1 d2 c r.live.0 one other → IsSide r other b0 → IsLed d2 d3 place a0 a s1 s2 y → IsRun d3 b0
 second_begins d0 d1 d2 d3 place r a0 b0 a s0 s1 s2 e y c one other run k sp sb p =
     run_kept d2 d3 _ _ _ _ _ b0 p.grew
     (side_run d2 r b0 other (run_kept d0 d2 _ _ _ _ _ r (grew_on d0 d1 d2 _ _ _ _ _ _ _ _ _ _ k.gathered.grew sp.grew) run) sb sp.other_bit)
 
 -- and then merged
-pub sides_led : (d0 d1 d2 d3 d4 : List TermNode) (place : ℕ) (r a0 b0 a b : Run) (s0 s1 s2 s3 : List Stored) (e : Expression) (y z : Statements) (c one other : ℕ) → IsRun d0 r →
+pub sides_led : (d0 d1 d2 d3 d4 : List TermNode) (place : ℕ) (r a0 b0 a b : Run) (s0 s1 s2 s3 : List Stored) (e : Expression) (y z : Statements)
+    (c one other : ℕ) → IsRun d0 r →
     width e ≡ 1 → IsWordTerm d0 d1 r.names [] place r.live.0 s0 s1 e c → IsSplit d1 d2 c r.live.0 one other → IsSide r one a0 → IsSide r other b0 →
     IsLed d2 d3 place a0 a s1 s2 y → IsLed d3 d4 place b0 b s2 s3 z → AreSides d4 c r one other a b
 sides_led d0 d1 d2 d3 d4 place r a0 b0 a b s0 s1 s2 s3 e y z c one other run w k sp sa sb p q =
@@ -170,14 +179,16 @@ sides_led d0 d1 d2 d3 d4 place r a0 b0 a b s0 s1 s2 s3 e y z c one other run w k
       second_form = same_form_on r.names b0.names b.names (side_form r b0 other sb) q.form;
     }
 
-stored_first : (d : List TermNode) (x : TermReading) (xs ys zs : List Stored) (a : ℕ) (ps qs : List ℕ) → Contains ps a ↔ IsStoredBy d x xs a → Contains qs a ↔ IsStoredBy d x ys a →
+stored_first : (d : List TermNode) (x : TermReading) (xs ys zs : List Stored) (a : ℕ) (ps qs : List ℕ) → Contains ps a ↔ IsStoredBy d x xs a → Contains qs a ↔
+    IsStoredBy d x ys a →
     ((t : Stored) → Contains zs t → term_word x d t.guard.0 ≡ 0) → Contains (ps ++ qs) a ↔ IsStoredBy d x ((xs ++ ys) ++ zs) a
 stored_first d x xs ys zs a ps qs p q h =
     subst (λ (z : List ℕ). Contains z a ↔ IsStoredBy d x ((xs ++ ys) ++ zs) a) (append-nil (ps ++ qs))
     (stored_both d x (xs ++ ys) zs a (ps ++ qs) [] (stored_both d x xs ys a ps qs p q)
     (λ c. absurd (contains_none a c), λ c. absurd (none_stored d x zs a h c)))
 
-stored_second : (d : List TermNode) (x : TermReading) (xs ys zs : List Stored) (a : ℕ) (ps qs : List ℕ) → Contains ps a ↔ IsStoredBy d x xs a → Contains qs a ↔ IsStoredBy d x zs a →
+stored_second : (d : List TermNode) (x : TermReading) (xs ys zs : List Stored) (a : ℕ) (ps qs : List ℕ) → Contains ps a ↔ IsStoredBy d x xs a → Contains qs a ↔
+    IsStoredBy d x zs a →
     ((t : Stored) → Contains ys t → term_word x d t.guard.0 ≡ 0) → Contains (ps ++ qs) a ↔ IsStoredBy d x ((xs ++ ys) ++ zs) a
 stored_second d x xs ys zs a ps qs p q h =
     stored_both d x (xs ++ ys) zs a ps qs
@@ -185,7 +196,8 @@ stored_second d x xs ys zs a ps qs p q h =
     (stored_both d x xs ys a ps [] p (λ c. absurd (contains_none a c), λ c. absurd (none_stored d x ys a h c)))) q
 
 -- what the condition stores, behind all
-condition_stored : (d0 d1 d5 : List TermNode) (place : ℕ) (r : Run) (s0 s1 : List Stored) (e : Expression) (c g l s j n : ℕ) (x : TermReading) (p : Position) (a : ℕ) → IsRun d0 r →
+condition_stored : (d0 d1 d5 : List TermNode) (place : ℕ) (r : Run) (s0 s1 : List Stored) (e : Expression) (c g l s j n : ℕ) (x : TermReading) (p : Position)
+    (a : ℕ) → IsRun d0 r →
     (k : IsWordTerm d0 d1 r.names [] place r.live.0 s0 s1 e c) → Grew d1 d5 g l s j n → InRange x → Stands d0 x r p →
     Contains (stored_by e (x.choice place) p.env) a ↔ IsStoredBy d5 x k.gathered.more a
 condition_stored d0 d1 d5 place r s0 s1 e c g l s j n x p a run k w i h =
@@ -197,8 +209,10 @@ condition_stored d0 d1 d5 place r s0 s1 e c g l s j n x p a run k w i h =
     (stored_kept d1 d5 g l s j n x m.more a w (λ t q. (m.stores t q).0))
 
 -- an if, whose sides are led and merged
-pub led_if : (d0 d1 d2 d3 d4 d5 : List TermNode) (place : ℕ) (r a0 b0 a b s : Run) (s0 s1 s2 s3 : List Stored) (e : Expression) (y z : Statements) (c one other : ℕ) → IsRun d0 r → width e ≡ 1 →
-    IsWordTerm d0 d1 r.names [] place r.live.0 s0 s1 e c → IsSplit d1 d2 c r.live.0 one other → IsSide r one a0 → IsSide r other b0 → IsLed d2 d3 place a0 a s1 s2 y →
+pub led_if : (d0 d1 d2 d3 d4 d5 : List TermNode) (place : ℕ) (r a0 b0 a b s : Run) (s0 s1 s2 s3 : List Stored) (e : Expression) (y z : Statements)
+    (c one other : ℕ) → IsRun d0 r → width e ≡ 1 →
+    IsWordTerm d0 d1 r.names [] place r.live.0 s0 s1 e c → IsSplit d1 d2 c r.live.0 one other → IsSide r one a0 → IsSide r other b0 →
+    IsLed d2 d3 place a0 a s1 s2 y →
     IsLed d3 d4 place b0 b s2 s3 z → IsMerged d4 d5 c r one other a b s → IsLed d0 d5 place r s s0 s3 (If e y z Empty)
 led_if d0 d1 d2 d3 d4 d5 place r a0 b0 a b s s0 s1 s2 s3 e y z c one other run w k sp sa sb p q m =
     let m0 = k.gathered in
@@ -223,16 +237,19 @@ led_if d0 d1 d2 d3 d4 d5 place r a0 b0 a b s s0 s1 s2 s3 e y z c one other run w
     let same : (x : TermReading) → term_word x d4 c ≡ term_word x d1 c = λ x. word_kept d1 d4 _ _ _ _ _ c x g14 bit.0 in
     let live : (x : TermReading) → term_word x d1 r.live.0 ≡ term_word x d0 r.live.0 = λ x. word_kept d0 d1 _ _ _ _ _ r.live.0 x g01 run.live.0 in
     let a_later : (x : TermReading) → term_word x d4 a.live.0 ≡ term_word x d3 a.live.0 = λ x. word_kept d3 d4 _ _ _ _ _ a.live.0 x g34 p.run.live.0 in
-    let b_later : (x : TermReading) → term_word x d3 b0.live.0 ≡ term_word x d2 other = λ x. word_kept d2 d3 _ _ _ _ _ b0.live.0 x g23 begun.live.0 ∙ ap (term_word x d2) sb.live in
+    let b_later : (x : TermReading) → term_word x d3 b0.live.0
+    ≡ term_word x d2 other = λ x. word_kept d2 d3 _ _ _ _ _ b0.live.0 x g23 begun.live.0 ∙ ap (term_word x d2) sb.live in
     -- where the condition is 1 the second side does not come by, and where it is 0 the first
     let b_off : (x : TermReading) → InRange x → term_word x d1 c ≡ 1 → term_word x d3 b0.live.0 ≡ 0 = λ x i t. b_later x ∙ (sp.when_true x i t).1 in
-    let a_off : (x : TermReading) → InRange x → term_word x d1 c ≡ 0 → term_word x d2 a0.live.0 ≡ 0 = λ x i t. ap (term_word x d2) sa.live ∙ (sp.when_false x i t).0 in
+    let a_off : (x : TermReading) → InRange x → term_word x d1 c ≡ 0 →
+    term_word x d2 a0.live.0 ≡ 0 = λ x i t. ap (term_word x d2) sa.live ∙ (sp.when_false x i t).0 in
     let a_stands : (x : TermReading) (i : InRange x) (u : Position) → term_word x d1 c ≡ 1 → Stands d0 x r u → Stands d2 x a0 u =
     λ x i u t h. side_stands d2 x r a0 one u sa ((sp.when_true x i t).0 ∙ live x ∙ h.live) (stands_kept d0 d2 _ _ _ _ _ x r u g02 run h) in
     let b_stands : (x : TermReading) (i : InRange x) (u : Position) → term_word x d1 c ≡ 0 → Stands d0 x r u → Stands d3 x b0 u =
     λ x i u t h. stands_kept d2 d3 _ _ _ _ _ x b0 u g23 begun
     (side_stands d2 x r b0 other u sb ((sp.when_false x i t).1 ∙ live x ∙ h.live) (stands_kept d0 d2 _ _ _ _ _ x r u g02 run h)) in
-    let on : (x : TermReading) (i : InRange x) → term_word x d1 c ≡ 1 → IsTaken d0 d5 x r s (If e y z Empty) (x.choice place) ((m0.more ++ p.more) ++ q.more) = λ x i t. record {
+    let on : (x : TermReading) (i : InRange x) → term_word x d1 c ≡ 1 →
+    IsTaken d0 d5 x r s (If e y z Empty) (x.choice place) ((m0.more ++ p.more) ++ q.more) = λ x i t. record {
       comes = λ u h. subst (λ (o : Ending). Comes d5 x s o)
           (taken e y z (width e) (term_word x d1 c) (x.choice place) u (k.value x i u.env h.holds) w t)
           (side_comes d4 d5 x a s (execute y (x.choice place) u) (comes_kept d3 d4 _ _ _ _ _ x a _ g34 p.run (p.comes x i u (a_stands x i u t h)))
@@ -246,7 +263,8 @@ led_if d0 d1 d2 d3 d4 d5 place r a0 b0 a b s s0 s1 s2 s3 e y z c one other run w
           (stored_kept d3 d5 _ _ _ _ _ x p.more v g35 p.stores))
           (λ o f. word_kept d4 d5 _ _ _ _ _ o.guard.0 x g45 (q.stores o f).guard.0 ∙ q.silent x i (b_off x i t) o f));
     } in
-    let off : (x : TermReading) (i : InRange x) → term_word x d1 c ≡ 0 → IsTaken d0 d5 x r s (If e y z Empty) (x.choice place) ((m0.more ++ p.more) ++ q.more) = λ x i t. record {
+    let off : (x : TermReading) (i : InRange x) → term_word x d1 c ≡ 0 →
+    IsTaken d0 d5 x r s (If e y z Empty) (x.choice place) ((m0.more ++ p.more) ++ q.more) = λ x i t. record {
       comes = λ u h. subst (λ (o : Ending). Comes d5 x s o)
           (passed e y z (width e) (term_word x d1 c) (x.choice place) u (k.value x i u.env h.holds) w t)
           (side_comes d4 d5 x b s (execute z (x.choice place) u) (q.comes x i u (b_stands x i u t h))
@@ -269,9 +287,11 @@ led_if d0 d1 d2 d3 d4 d5 place r a0 b0 a b s s0 s1 s2 s3 e y z c one other run w
     let neither : (x : TermReading) (i : InRange x) → term_word x d0 r.live.0 ≡ 0 → (term_word x d2 a0.live.0 ≡ 0) × (term_word x d3 b0.live.0 ≡ 0) = λ x i h.
     elim (cases_lt (term_word x d1 c) 1) [
       | inl f ↦ (let t : term_word x d1 c ≡ 0 = omega arith in (a_off x i t, b_later x ∙ (sp.when_false x i t).1 ∙ live x ∙ h))
-      | inr f ↦ (let n = sp.small x i in let t : term_word x d1 c ≡ 1 = omega arith in (ap (term_word x d2) sa.live ∙ (sp.when_true x i t).0 ∙ live x ∙ h, b_off x i t))
+      | inr f ↦ (let n = sp.small x i in let t : term_word x d1 c
+          ≡ 1 = omega arith in (ap (term_word x d2) sa.live ∙ (sp.when_true x i t).0 ∙ live x ∙ h, b_off x i t))
     ] in record {
-      grew = grew_more d0 d5 _ _ _ _ _ _ _ _ _ _ (omega (arith, p.bits, q.bits, fa.0, fb.0)) (omega arith) (omega arith) (omega (arith, p.memory, q.memory, fa.2, fb.2)) (omega (arith, p.terms, q.terms, fa.1, fb.1)) g05;
+      grew = grew_more d0 d5 _ _ _ _ _ _ _ _ _ _ (omega (arith, p.bits, q.bits, fa.0, fb.0)) (omega arith) (omega arith)
+          (omega (arith, p.memory, q.memory, fa.2, fb.2)) (omega (arith, p.terms, q.terms, fa.1, fb.1)) g05;
       inputs = inputs_on d0 d4 d5 (Draws place all)
           (inputs_on d0 d3 d4 (Draws place all)
           (inputs_on d0 d2 d3 (Draws place all)
@@ -288,7 +308,8 @@ led_if d0 d1 d2 d3 d4 d5 place r a0 b0 a b s s0 s1 s2 s3 e y z c one other run w
       terms = omega (arith, m.terms, p.terms, q.terms, fa.1, fb.1);
       memory = omega (arith, m.memory, p.memory, q.memory, fa.2, fb.2);
       more = (m0.more ++ p.more) ++ q.more;
-      behind = q.behind ∙ ap (λ v. v ++ q.more) (p.behind ∙ ap (λ v. v ++ p.more) m0.behind ∙ append_assoc s0 m0.more p.more) ∙ append_assoc s0 (m0.more ++ p.more) q.more;
+      behind = q.behind ∙ ap (λ v. v ++ q.more) (p.behind ∙ ap (λ v. v ++ p.more) m0.behind ∙ append_assoc s0 m0.more p.more) ∙ append_assoc s0 (m0.more
+          ++ p.more) q.more;
       stores = λ t f. elim (Contains-append_cases (m0.more ++ p.more) q.more t f) [
         | inl i ↦ elim (Contains-append_cases m0.more p.more t i) [
           | inl h ↦ store_kept d1 d5 _ _ _ _ _ t g15 (m0.stores t h).0
@@ -296,7 +317,15 @@ led_if d0 d1 d2 d3 d4 d5 place r a0 b0 a b s s0 s1 s2 s3 e y z c one other run w
         ]
         | inr i ↦ store_kept d4 d5 _ _ _ _ _ t g45 (q.stores t i)
       ];
-      bytes = omega (arith, m0.bytes, p.bytes, q.bytes, sum_by-append (λ (t : Stored). t.bytes) m0.more p.more, sum_by-append (λ (t : Stored). t.bytes) (m0.more ++ p.more) q.more);
+      bytes = omega (
+        arith,
+        m0.bytes,
+        p.bytes,
+        q.bytes,
+        sum_by-append (λ (t : Stored). t.bytes) m0.more p.more,
+        sum_by-append
+            (λ (t : Stored). t.bytes) (m0.more ++ p.more) q.more,
+      );
       comes = λ x i u h. (either x i).comes u h;
       passes = λ x i h. m.live x i ∙ either_of _ _ 0 0 (a_later x ∙ p.passes x i (neither x i h).0) (q.passes x i (neither x i h).1);
       stored = λ x i u h v. (either x i).stored u h v;

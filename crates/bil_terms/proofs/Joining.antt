@@ -86,12 +86,15 @@ then_more Wrong f g h k = refl
 -- what a list does, and then the other
 pub execute_join : (a b : Statements) (c : ℕ) (p : Position) → execute (join a b) c p ≡ then_do (execute a c p) (execute b c)
 execute_join Empty b c p = refl
-execute_join (Assign x e rest) b c p = then_more (assigned (assign x (evaluate e c p.env) p.env) p) (execute (join rest b) c) (execute rest c) (execute b c) (execute_join rest b c)
+execute_join (Assign x e rest) b c p = then_more (assigned (assign x (evaluate e c p.env) p.env) p) (execute (join rest b) c) (execute rest c) (execute b c)
+    (execute_join rest b c)
 execute_join (JumpTo e rest) b c p = then_more (jumped (evaluate e c p.env) p) (execute (join rest b) c) (execute rest c) (execute b c) (execute_join rest b c)
 execute_join (Raise n rest) b c p = refl
 execute_join (Special t rest) b c p = execute_join rest b c p
-execute_join (While e body rest) b c p = then_more (loop p.turns (λ t. evaluate e c t.env) (execute body c) p) (execute (join rest b) c) (execute rest c) (execute b c) (execute_join rest b c)
-execute_join (If e x y rest) b c p = then_more (branch_on (evaluate e c p.env) (execute x c p) (execute y c p)) (execute (join rest b) c) (execute rest c) (execute b c) (execute_join rest b c)
+execute_join (While e body rest) b c p = then_more (loop p.turns
+    (λ t. evaluate e c t.env) (execute body c) p) (execute (join rest b) c) (execute rest c) (execute b c) (execute_join rest b c)
+execute_join (If e x y rest) b c p = then_more (branch_on (evaluate e c p.env) (execute x c p) (execute y c p)) (execute (join rest b) c) (execute rest c)
+    (execute b c) (execute_join rest b c)
 
 stored_more : (o : Ending) (f g k : Position → List ℕ) (h : Position → Ending) → ((p : Position) → f p ≡ g p ++ then_stored (h p) k) →
     then_stored o f ≡ then_stored o g ++ then_stored (then_do o h) k
@@ -105,10 +108,12 @@ pub stored_join : (a b : Statements) (c : ℕ) → has_no_loop a ≡ true → (p
     list_stored (join a b) c p ≡ list_stored a c p ++ then_stored (execute a c p) (list_stored b c)
 stored_join Empty b c n p = refl
 stored_join (Assign x e rest) b c n p =
-    ap (λ z. stored_by e c p.env ++ z) (stored_more (assigned (assign x (evaluate e c p.env) p.env) p) (list_stored (join rest b) c) (list_stored rest c) (list_stored b c) (execute rest c) (stored_join rest b c n))
+    ap (λ z. stored_by e c p.env ++ z) (stored_more (assigned (assign x (evaluate e c p.env) p.env) p) (list_stored (join rest b) c) (list_stored rest c)
+    (list_stored b c) (execute rest c) (stored_join rest b c n))
     ∙ sym (append_assoc (stored_by e c p.env) _ _)
 stored_join (JumpTo e rest) b c n p =
-    ap (λ z. stored_by e c p.env ++ z) (stored_more (jumped (evaluate e c p.env) p) (list_stored (join rest b) c) (list_stored rest c) (list_stored b c) (execute rest c) (stored_join rest b c n)) ∙ sym (append_assoc (stored_by e c p.env) _ _)
+    ap (λ z. stored_by e c p.env ++ z) (stored_more (jumped (evaluate e c p.env) p) (list_stored (join rest b) c) (list_stored rest c) (list_stored b c)
+    (execute rest c) (stored_join rest b c n)) ∙ sym (append_assoc (stored_by e c p.env) _ _)
 stored_join (Raise m rest) b c n p = refl
 stored_join (Special t rest) b c n p = stored_join rest b c n p
 stored_join (While e body rest) b c n p = absurd (false≢true n)
@@ -120,17 +125,20 @@ stored_join (If e x y rest) b c n p =
     ap (λ z. s ++ t ++ z) (stored_more o (list_stored (join rest b) c) (list_stored rest c) (list_stored b c) (execute rest c) (stored_join rest b c k.1))
     ∙ sym (append_assoc (s ++ t) _ _)
 
-pub apart_on : (r s t : Run) → HaveSameForm r.names s.names → (bits_apart r t ≤ bits_apart r s + bits_apart s t) × (terms_apart r t ≤ terms_apart r s + terms_apart s t)
+pub apart_on : (r s t : Run) → HaveSameForm r.names s.names → (bits_apart r t ≤ bits_apart r s + bits_apart s t) ×
+    (terms_apart r t ≤ terms_apart r s + terms_apart s t)
     × (differing_memory r.names t.names ≤ differing_memory r.names s.names + differing_memory s.names t.names)
 apart_on r s t h =
-    let registers = differing_triangle (places r.names.registers.items) (places s.names.registers.items) (places t.names.registers.items) (same_count _ _ h.registers) in
+    let registers = differing_triangle (places r.names.registers.items) (places s.names.registers.items) (places t.names.registers.items)
+    (same_count _ _ h.registers) in
     let flags = differing_triangle (places r.names.flags.items) (places s.names.flags.items) (places t.names.flags.items) (same_count _ _ h.flags) in
     let memory = differs_triangle r.names.memory.0 s.names.memory.0 t.names.memory.0 in
     let target = differs_triangle r.target.0 s.target.0 t.target.0 in
     let live = differs_triangle r.live.0 s.live.0 t.live.0 in
     (omega arith, omega arith, memory)
 
-comes_on : (d0 d1 : List TermNode) (x : TermReading) (r s : Run) (o : Ending) (f : Position → Ending) → Comes d0 x r o → ((p : Position) → Stands d0 x r p → Comes d1 x s (f p)) →
+comes_on : (d0 d1 : List TermNode) (x : TermReading) (r s : Run) (o : Ending) (f : Position → Ending) → Comes d0 x r o →
+    ((p : Position) → Stands d0 x r p → Comes d1 x s (f p)) →
     (term_word x d0 r.live.0 ≡ 0 → term_word x d1 s.live.0 ≡ 0) → Comes d1 x s (then_do o f)
 comes_on d0 d1 x r s (Ends p) f h k z = k p h
 comes_on d0 d1 x r s (RaisesException n p) f h k z = z h
@@ -146,7 +154,8 @@ stored_on d0 d1 x r (OutOfTurns p) f more a h k z = absurd h
 stored_on d0 d1 x r Wrong f more a h k z = absurd h
 
 -- one list, and then the other
-pub led_on : (d0 d1 d2 : List TermNode) (place : ℕ) (r0 r1 r2 : Run) (s0 s1 s2 : List Stored) (a b : Statements) → has_no_loop a ≡ true → IsLed d0 d1 place r0 r1 s0 s1 a →
+pub led_on : (d0 d1 d2 : List TermNode) (place : ℕ) (r0 r1 r2 : Run) (s0 s1 s2 : List Stored) (a b : Statements) → has_no_loop a ≡ true →
+    IsLed d0 d1 place r0 r1 s0 s1 a →
     IsLed d1 d2 place r1 r2 s1 s2 b → IsLed d0 d2 place r0 r2 s0 s2 (join a b)
 led_on d0 d1 d2 place r0 r1 r2 s0 s1 s2 a b n p q =
     let apart = apart_on r0 r1 r2 p.form in
@@ -182,7 +191,8 @@ led_on d0 d1 d2 place r0 r1 r2 s0 s1 s2 a b n p q =
           let o = execute a (x.choice place) u in
           subst (λ (z : List ℕ). Contains z e ↔ IsStoredBy d2 x (p.more ++ q.more) e) (sym (stored_join a b (x.choice place) n u))
           (stored_both d2 x p.more q.more e (list_stored a (x.choice place) u) (then_stored o (list_stored b (x.choice place)))
-          (stored_then d2 x p.more e (list_stored a (x.choice place) u) (IsStoredBy d1 x p.more e) (p.stored x i u h e) (stored_kept d1 d2 _ _ _ _ _ x p.more e q.grew p.stores))
+          (stored_then d2 x p.more e (list_stored a (x.choice place) u) (IsStoredBy d1 x p.more e) (p.stored x i u h e)
+          (stored_kept d1 d2 _ _ _ _ _ x p.more e q.grew p.stores))
           (stored_on d1 d2 x r1 o (list_stored b (x.choice place)) q.more e (p.comes x i u h) (λ v k. q.stored x i v k e) (q.silent x i)));
       silent = λ x i h t c. elim (Contains-append_cases p.more q.more t c) [
         | inl k ↦ word_kept d1 d2 _ _ _ _ _ t.guard.0 x q.grew (p.stores t k).guard.0 ∙ p.silent x i h t k

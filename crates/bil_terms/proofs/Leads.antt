@@ -51,13 +51,15 @@ statements_join [] ys = refl
 statements_join (x ∷ xs) ys = ap (statement x) (statements_join xs ys) ∙ sym (join_statement x (statements xs) (statements ys))
 
 -- the statements up to a place, and the one there
-up_to : (xs : List Stmt) (i : ℕ) (s : Stmt) → i < length xs → s ≡ get_or xs i s → join (statements (take i xs)) (statement s Empty) ≡ statements (take (i + 1) xs)
+up_to : (xs : List Stmt) (i : ℕ) (s : Stmt) → i < length xs → s ≡ get_or xs i s →
+    join (statements (take i xs)) (statement s Empty) ≡ statements (take (i + 1) xs)
 up_to xs i s h e =
     sym (statements_join (take i xs) (s ∷ []))
     ∙ ap statements (ap (λ (z : Stmt). take i xs ++ (z ∷ [])) e ∙ sym (take-suc xs i s h) ∙ ap (λ z. take z xs) (sym (add-one i)))
 
 -- of a list the first statement can be led, and the rest
-first_leads : (s : Stmt) (rest : Statements) (known : BilVariable → Bool) → CanLead (statement s rest) known → CanLead (statement s Empty) known × CanLead rest known
+first_leads : (s : Stmt) (rest : Statements) (known : BilVariable → Bool) → CanLead (statement s rest) known → CanLead (statement s Empty) known ×
+    CanLead rest known
 first_leads (stmt.Assign x e) rest known r = ((r.0, r.1, r.2, tt), r.3)
 first_leads (stmt.Jump e) rest known r = ((r.0, r.1, tt), r.2)
 first_leads (stmt.Raise n) rest known r = (tt, r)
@@ -66,7 +68,8 @@ first_leads (stmt.While' e m body) rest known r = absurd r
 first_leads (stmt.If' e m a k b) rest known r = ((r.0, r.1, r.2, r.3, tt), r.4)
 
 -- each statement of such a list can
-one_leads : (xs : List Stmt) (i : ℕ) (s : Stmt) (known : BilVariable → Bool) → CanLead (statements xs) known → i < length xs → s ≡ get_or xs i s → CanLead (statement s Empty) known
+one_leads : (xs : List Stmt) (i : ℕ) (s : Stmt) (known : BilVariable → Bool) → CanLead (statements xs) known → i < length xs → s ≡ get_or xs i s →
+    CanLead (statement s Empty) known
 one_leads [] i s known r h e = absurd (omega arith)
 one_leads (x ∷ xs) zero s known r h e = subst (λ (z : Stmt). CanLead (statement z Empty) known) (sym e) (first_leads x (statements xs) known r).0
 one_leads (x ∷ xs) (suc i) s known r h e = one_leads xs i s known (first_leads x (statements xs) known r).1 (omega arith) e
@@ -82,7 +85,8 @@ no_loop (While e body rest) known r = absurd r
 no_loop (If e a b rest) known r =
     ap (λ z. z && has_no_loop b && has_no_loop rest) (no_loop a known r.2) ∙ ap (λ z. z && has_no_loop rest) (no_loop b known r.3) ∙ no_loop rest known r.4
 
-no_loop_first : (s : Stmt) (rest : Statements) (known : BilVariable → Bool) → CanLead (statement s Empty) known → has_no_loop rest ≡ true → has_no_loop (statement s rest) ≡ true
+no_loop_first : (s : Stmt) (rest : Statements) (known : BilVariable → Bool) → CanLead (statement s Empty) known → has_no_loop rest ≡ true →
+    has_no_loop (statement s rest) ≡ true
 no_loop_first (stmt.Assign x e) rest known r h = h
 no_loop_first (stmt.Jump e) rest known r h = h
 no_loop_first (stmt.Raise n) rest known r h = h
@@ -143,11 +147,13 @@ led_none d place r s run =
     }
 
 -- what a turn of the loop over a list needs and does
-pub turn_leads : (xs : List Stmt) (i : ℕ) (s : Stmt) (a b : Names) → CanLead (statements xs) (is_variable_of (form_of a)) → i < length xs → s ≡ get_or xs i s → HaveSameForm a b →
+pub turn_leads : (xs : List Stmt) (i : ℕ) (s : Stmt) (a b : Names) → CanLead (statements xs) (is_variable_of (form_of a)) → i < length xs → s ≡ get_or xs i s →
+    HaveSameForm a b →
     CanLead (statement s Empty) (is_variable_of (form_of b))
 turn_leads xs i s a b r h e k = leads_same (statement s Empty) a b k (one_leads xs i s (is_variable_of (form_of a)) r h e)
 
-pub turn_led : (d0 d1 d2 : List TermNode) (place : ℕ) (r0 r1 r2 : Run) (s0 s1 s2 : List Stored) (xs : List Stmt) (i : ℕ) (s : Stmt) → CanLead (statements xs) (is_variable_of (form_of r0.names)) →
+pub turn_led : (d0 d1 d2 : List TermNode) (place : ℕ) (r0 r1 r2 : Run) (s0 s1 s2 : List Stored) (xs : List Stmt) (i : ℕ) (s : Stmt) →
+    CanLead (statements xs) (is_variable_of (form_of r0.names)) →
     i < length xs → s ≡ get_or xs i s → IsLed d0 d1 place r0 r1 s0 s1 (statements (take i xs)) → IsLed d1 d2 place r1 r2 s1 s2 (statement s Empty) →
     IsLed d0 d2 place r0 r2 s0 s2 (statements (take (i + 1) xs))
 turn_led d0 d1 d2 place r0 r1 r2 s0 s1 s2 xs i s r h e p q =
@@ -155,7 +161,8 @@ turn_led d0 d1 d2 place r0 r1 r2 s0 s1 s2 xs i s r h e p q =
     (led_on d0 d1 d2 place r0 r1 r2 s0 s1 s2 (statements (take i xs)) (statement s Empty) (no_loop_up_to xs i (is_variable_of (form_of r0.names)) r) p q)
 
 -- behind its last statement all of the list is done
-pub all_led : (d0 d1 : List TermNode) (place : ℕ) (r0 r1 : Run) (s0 s1 : List Stored) (xs : List Stmt) (i : ℕ) → length xs ≤ i → IsLed d0 d1 place r0 r1 s0 s1 (statements (take i xs)) →
+pub all_led : (d0 d1 : List TermNode) (place : ℕ) (r0 r1 : Run) (s0 s1 : List Stored) (xs : List Stmt) (i : ℕ) → length xs ≤ i →
+    IsLed d0 d1 place r0 r1 s0 s1 (statements (take i xs)) →
     IsLed d0 d1 place r0 r1 s0 s1 (statements xs)
 all_led d0 d1 place r0 r1 s0 s1 xs i h p = subst (λ (z : List Stmt). IsLed d0 d1 place r0 r1 s0 s1 (statements z)) (take_all i xs h) p
 
@@ -163,7 +170,8 @@ all_led d0 d1 place r0 r1 s0 s1 xs i h p = subst (λ (z : List Stmt). IsLed d0 d
 pub if_parts : (s : Stmt) (e : Exp) (a b : Vec Stmt Global) (known : BilVariable → Bool) → s ≡ stmt.If e a b → CanLead (statement s Empty) known →
     IsChecked (expression e) (OfBits 1) known × IsSteady (expression e) × CanLead (statements a.items) known × CanLead (statements b.items) known
 if_parts s e a b known p r =
-    let f : statement s Empty ≡ If (expression e) (statements a.items) (statements b.items) Empty = ap (λ (z : Stmt). statement z Empty) p ∙ statement_if e a b Empty in
+    let f : statement s Empty ≡ If (expression e) (statements a.items) (statements b.items) Empty = ap
+    (λ (z : Stmt). statement z Empty) p ∙ statement_if e a b Empty in
     let g = subst (λ (z : Statements). CanLead z known) f r in
     (g.0, g.1, g.2, g.3)
 
@@ -183,4 +191,5 @@ named_register n x b r e h = register_within n [] (bank_of b) r (subst (λ (z : 
 pub raise_led : (d : List TermNode) (place : ℕ) (r0 r1 : Run) (s0 s1 : List Stored) (s : Stmt) (n : ℕ) → s ≡ stmt.Raise n → s1 ≡ s0 →
     ((number : ℕ) → IsLed d d place r0 r1 s1 s1 (Raise number Empty)) → IsLed d d place r0 r1 s0 s0 (statement s Empty)
 raise_led d place r0 r1 s0 s1 s n e f h =
-    subst (λ (z : Stmt). IsLed d d place r0 r1 s0 s0 (statement z Empty)) (sym e) (subst (λ (z : List Stored). IsLed d d place r0 r1 z z (Raise n Empty)) f (h n))
+    subst (λ (z : Stmt). IsLed d d place r0 r1 s0 s0 (statement z Empty)) (sym e) (subst
+    (λ (z : List Stored). IsLed d d place r0 r1 z z (Raise n Empty)) f (h n))

@@ -12,13 +12,15 @@ use Rattle.bil_terms.specs.Lowered.{IsUnknown, IsUnary}
 use Rattle.bil_terms.proofs.Scopes.{word_kept}
 
 -- the negative is the difference from 0
-pub negated : (d0 d1 d2 : List TermNode) (w a z t : ℕ) → IsWidth w → HasWidth d0 w a → IsInterned d0 d1 (ConstantNode w 0) z → IsMade d1 d2 (BinaryNode Minus w z a) t →
+pub negated : (d0 d1 d2 : List TermNode) (w a z t : ℕ) → IsWidth w → HasWidth d0 w a → IsInterned d0 d1 (ConstantNode w 0) z →
+    IsMade d1 d2 (BinaryNode Minus w z a) t →
     IsUnary d0 d2 Negate w a t
 negated d0 d1 d2 w a z t i h p q =
     let g = interned_grew d0 d1 (ConstantNode w 0) z p in record {
       grew = grew_more d0 d2 _ _ _ _ _ (2 * w) 0 0 0 3 (omega arith) (omega arith) (omega arith) (omega arith) (omega arith)
           (grew_on d0 d1 d2 _ _ _ _ _ _ _ _ _ _ g (made_grew d1 d2 (BinaryNode Minus w z a) t q));
-      inputs = inputs_on d0 d1 d2 (λ m. ⊥) (interned_inputs d0 d1 (ConstantNode w 0) z (λ m. ⊥) p (λ j. j)) (made_inputs d1 d2 (BinaryNode Minus w z a) t (λ m. ⊥) q (λ j. j));
+      inputs = inputs_on d0 d1 d2 (λ m. ⊥) (interned_inputs d0 d1 (ConstantNode w 0) z (λ m. ⊥) p (λ j. j)) (made_inputs d1 d2 (BinaryNode Minus w z a) t
+          (λ m. ⊥) q (λ j. j));
       at = made_width d1 d2 (BinaryNode Minus w z a) t w q refl;
       value = λ x r. ap (Word w) (sym (
           ap (λ (u : TermValue). u.word) (q.value x r)
@@ -34,7 +36,8 @@ unknown_inputs d0 d1 d2 place c t m p q i =
     (interned_inputs d1 d2 m t (λ k. k ≡ ChoiceNode place) q (λ j. absurd (i j)))
 
 -- one bit of a choice
-pub narrow_unknown : (d0 d1 d2 : List TermNode) (place w c t : ℕ) → w ≡ 1 → IsInterned d0 d1 (ChoiceNode place) c → IsInterned d1 d2 (ExtractNode 0 0 c) t → IsUnknown d0 d2 place (Bits w) t
+pub narrow_unknown : (d0 d1 d2 : List TermNode) (place w c t : ℕ) → w ≡ 1 → IsInterned d0 d1 (ChoiceNode place) c → IsInterned d1 d2 (ExtractNode 0 0 c) t →
+    IsUnknown d0 d2 place (Bits w) t
 narrow_unknown d0 d1 d2 place w c t e p q =
     subst (λ (z : ℕ). IsUnknown d0 d2 place (Bits z) t) (sym e) (record {
       grew = grew_on d0 d1 d2 _ _ _ _ _ _ _ _ _ _ (interned_grew d0 d1 (ChoiceNode place) c p) (interned_grew d1 d2 (ExtractNode 0 0 c) t q);
@@ -47,7 +50,8 @@ narrow_unknown d0 d1 d2 place w c t e p q =
     })
 
 -- a choice in more bits
-pub wide_unknown : (d0 d1 d2 : List TermNode) (place w c t : ℕ) → 2 ≤ w → w ≤ 64 → IsInterned d0 d1 (ChoiceNode place) c → IsInterned d1 d2 (ExtendNode false 2 w c) t →
+pub wide_unknown : (d0 d1 d2 : List TermNode) (place w c t : ℕ) → 2 ≤ w → w ≤ 64 → IsInterned d0 d1 (ChoiceNode place) c →
+    IsInterned d1 d2 (ExtendNode false 2 w c) t →
     IsUnknown d0 d2 place (Bits w) t
 wide_unknown d0 d1 d2 place w c t h l p q = record {
   grew = grew_on d0 d1 d2 _ _ _ _ _ _ _ _ _ _ (interned_grew d0 d1 (ChoiceNode place) c p) (interned_grew d1 d2 (ExtendNode false 2 w c) t q);

@@ -26,7 +26,8 @@ pub values_push : (nodes : List TermNode) (x : TermReading) (ls : List LocalTerm
 values_push nodes x ls l = values_more nodes x (λ y n. Stuck) ls l
 
 -- the known variables with one term more
-known_more : (k : BilVariable → Bool) (ls : List LocalTerm) (l : LocalTerm) → known_after k (ls ++ l ∷ []) ≡ (λ y. is_local l.number l.width y || known_after k ls y)
+known_more : (k : BilVariable → Bool) (ls : List LocalTerm) (l : LocalTerm) →
+    known_after k (ls ++ l ∷ []) ≡ (λ y. is_local l.number l.width y || known_after k ls y)
 known_more k [] l = refl
 known_more k (x ∷ ls) l = known_more (λ y. is_local x.number x.width y || k y) ls l
 
@@ -39,7 +40,8 @@ no_local = record { number = 0; width = 0; term = record { 0 = 0 } }
 
 last_value : (nodes : List TermNode) (x : TermReading) (ls : List LocalTerm) (i : ℕ) (y n : ℕ) → i < length ls →
     values nodes x (take (suc i) ls) y n
-    ≡ (if (y == (get_or ls i no_local).number) && (n == (get_or ls i no_local).width) then Word (get_or ls i no_local).width (term_word x nodes (get_or ls i no_local).term.0)
+    ≡ (if (y == (get_or ls i no_local).number) && (n == (get_or ls i no_local).width)
+    then Word (get_or ls i no_local).width (term_word x nodes (get_or ls i no_local).term.0)
     else values nodes x (take i ls) y n)
 last_value nodes x ls i y n h =
     ap (λ z. values nodes x z y n) (take-suc ls i no_local h) ∙ ap (λ (f : ℕ → ℕ → Value). f y n) (values_push nodes x (take i ls) (get_or ls i no_local))
@@ -48,7 +50,8 @@ last_known : (m : Names) (ls : List LocalTerm) (i : ℕ) (y n : ℕ) → i < len
     known m (take (suc i) ls) (Local y n)
     ≡ (((y == (get_or ls i no_local).number) && (n == (get_or ls i no_local).width)) || known m (take i ls) (Local y n))
 last_known m ls i y n h =
-    ap (λ z. known m z (Local y n)) (take-suc ls i no_local h) ∙ ap (λ (f : BilVariable → Bool). f (Local y n)) (known_push m (take i ls) (get_or ls i no_local))
+    ap (λ z. known m z (Local y n)) (take-suc ls i no_local h) ∙ ap (λ (f : BilVariable →
+    Bool). f (Local y n)) (known_push m (take i ls) (get_or ls i no_local))
 
 -- what the search knows of the terms before a place
 pub record IsBefore (nodes : List TermNode) (m : Names) (ls : List LocalTerm) (y n i : ℕ) : Type 0 where
@@ -56,7 +59,8 @@ pub record IsBefore (nodes : List TermNode) (m : Names) (ls : List LocalTerm) (y
   pub value : (x : TermReading) → values nodes x (take i ls) y n ≡ values nodes x ls y n
   pub known : known m (take i ls) (Local y n) ≡ true
 
-pub hit : (nodes : List TermNode) (m : Names) (ls : List LocalTerm) (i j : ℕ) (l : LocalTerm) (y n : ℕ) → IsBefore nodes m ls y n i → i ≡ suc j → l ≡ get_or ls j no_local →
+pub hit : (nodes : List TermNode) (m : Names) (ls : List LocalTerm) (i j : ℕ) (l : LocalTerm) (y n : ℕ) → IsBefore nodes m ls y n i → i ≡ suc j →
+    l ≡ get_or ls j no_local →
     ((y == l.number) && (n == l.width)) ≡ true → AreLocals nodes ls → IsLocalTerm nodes ls y n l.term.0
 hit nodes m ls i j l y n b k e t f =
     let h : j < length ls = omega (arith, b.within) in
@@ -71,7 +75,8 @@ hit nodes m ls i j l y n b k e t f =
       value = λ x. sym (ap (λ z. values nodes x (take z ls) y n) (sym k) ∙ b.value x) ∙ v x ∙ ap (λ z. Word z (term_word x nodes l.term.0)) (sym w);
     }
 
-pub miss : (nodes : List TermNode) (m : Names) (ls : List LocalTerm) (i j : ℕ) (l : LocalTerm) (y n : ℕ) → IsBefore nodes m ls y n i → i ≡ suc j → l ≡ get_or ls j no_local →
+pub miss : (nodes : List TermNode) (m : Names) (ls : List LocalTerm) (i j : ℕ) (l : LocalTerm) (y n : ℕ) → IsBefore nodes m ls y n i → i ≡ suc j →
+    l ≡ get_or ls j no_local →
     ((y == l.number) && (n == l.width)) ≡ false → IsBefore nodes m ls y n j
 miss nodes m ls i j l y n b k e t =
     let h : j < length ls = omega (arith, b.within) in

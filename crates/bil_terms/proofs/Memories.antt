@@ -38,7 +38,8 @@ load_width w h =
     (grind (arith, nat_tests), grind (arith, nat_tests), eqb-true (w % 8) 0 a.1)
 
 -- the machine's memory
-pub memory_variable : (d : List TermNode) (n : Names) (ls : List LocalTerm) (place live : ℕ) (s : List Stored) (y : BilVariable) (known : BilVariable → Bool) → IsScope d n ls live →
+pub memory_variable : (d : List TermNode) (n : Names) (ls : List LocalTerm) (place live : ℕ) (s : List Stored) (y : BilVariable) (known : BilVariable → Bool) →
+    IsScope d n ls live →
     IsMemory (Var y) known → IsMemoryTerm d d n ls place live s s (Var y) n.memory.0
 memory_variable d n ls place live s (Register b r) known sc h = absurd h
 memory_variable d n ls place live s (Flag f) known sc h = absurd h
@@ -51,7 +52,8 @@ memory_variable d n ls place live s Mem known sc h = record {
 }
 
 -- a load
-pub load_word : (d0 d1 d2 d3 : List TermNode) (n : Names) (ls : List LocalTerm) (place live : ℕ) (s0 s1 s2 : List Stored) (m a : Expression) (e f : memory.Endian) (w tm ta t nb : ℕ) →
+pub load_word : (d0 d1 d2 d3 : List TermNode) (n : Names) (ls : List LocalTerm) (place live : ℕ) (s0 s1 s2 : List Stored) (m a : Expression)
+    (e f : memory.Endian) (w tm ta t nb : ℕ) →
     IsScope d0 n ls live → IsMemoryTerm d0 d1 n ls place live s0 s1 m tm → IsWordTerm d1 d2 n ls place live s1 s2 a ta → width a ≡ 32 → is_load_width w ≡ true →
     nb ≡ w / 8 → f ≡ e → IsMade d2 d3 (LoadNode nb f tm ta) t → IsWordTerm d0 d3 n ls place live s0 s2 (Load m a e w) t
 load_word d0 d1 d2 d3 n ls place live s0 s1 s2 m a e f w tm ta t nb sc p q wa lw en ef made =
@@ -61,22 +63,27 @@ load_word d0 d1 d2 d3 n ls place live s0 s1 s2 m a e f w tm ta t nb sc p q wa lw
     let node = LoadNode (w / 8) e tm ta in
     let k : IsMade d2 d3 node t = subst (λ (z : memory.Endian). IsMade d2 d3 (LoadNode (w / 8) z tm ta) t) ef
     (subst (λ (z : ℕ). IsMade d2 d3 (LoadNode z f tm ta) t) en made) in record {
-      gathered = gathered_as d0 d3 n ls place live s0 s2 _ (expression_cost (Load m a e w)) _ (stored_by (Load m a e w)) (omega arith) (omega arith) (omega arith) (omega arith) (omega arith)
+      gathered = gathered_as d0 d3 n ls place live s0 s2 _ (expression_cost (Load m a e w)) _ (stored_by (Load m a e w)) (omega arith) (omega arith)
+          (omega arith) (omega arith) (omega arith)
           (λ x g v h. refl)
           (gathered_then d0 d2 d3 n ls place live s0 s2 _ _ _ sc (gathered_on d0 d1 d2 n ls place live s0 s1 s2 _ _ _ _ sc p.gathered q.gathered)
           (gathered_made d2 d3 n ls place live s2 node t 0 (w / 8) 0 k (λ i. i) refl refl refl refl));
       wide = (l.0, l.1);
       at = made_width d2 d3 node t w k (omega (arith, l.2));
       value = λ x g v h.
-          ap (λ z. load_from e w z (evaluate a (x.choice place) v)) (rm.value x g v h) ∙ ap (load_from e w (Bytes (term_value x d2 tm).bytes)) (ra.value x g v h)
+          ap (λ z. load_from e w z (evaluate a (x.choice place) v)) (rm.value x g v h) ∙ ap (load_from e w (Bytes (term_value x d2 tm).bytes))
+          (ra.value x g v h)
           ∙ load_is e w (width a) (term_value x d2 tm).bytes (term_word x d2 ta) wa ∙ ap (Word w) (sym (ap (λ (z : TermValue). z.word) (k.value x g)));
     }
 
 -- a store
-pub store_memory : (d0 d1 d2 d3 d4 : List TermNode) (n : Names) (ls : List LocalTerm) (place live : ℕ) (s0 s1 s2 s3 s4 : List Stored) (m a v : Expression) (e f : memory.Endian)
+pub store_memory : (d0 d1 d2 d3 d4 : List TermNode) (n : Names) (ls : List LocalTerm) (place live : ℕ) (s0 s1 s2 s3 s4 : List Stored) (m a v : Expression)
+    (e f : memory.Endian)
     (w tm ta tv t nb : ℕ) (one : Stored) →
-    IsScope d0 n ls live → IsMemoryTerm d0 d1 n ls place live s0 s1 m tm → IsWordTerm d1 d2 n ls place live s1 s2 a ta → IsWordTerm d2 d3 n ls place live s2 s3 v tv →
-    width a ≡ 32 → width v ≡ w → is_load_width w ≡ true → nb ≡ w / 8 → f ≡ e → IsMade d3 d4 (StoreNode nb f tm ta tv) t → s4 ≡ s3 ++ one ∷ [] → one.guard.0 ≡ live →
+    IsScope d0 n ls live → IsMemoryTerm d0 d1 n ls place live s0 s1 m tm → IsWordTerm d1 d2 n ls place live s1 s2 a ta →
+    IsWordTerm d2 d3 n ls place live s2 s3 v tv →
+    width a ≡ 32 → width v ≡ w → is_load_width w ≡ true → nb ≡ w / 8 → f ≡ e → IsMade d3 d4 (StoreNode nb f tm ta tv) t → s4 ≡ s3 ++ one ∷ [] →
+    one.guard.0 ≡ live →
     one.address.0 ≡ ta → one.bytes ≡ nb → IsMemoryTerm d0 d4 n ls place live s0 s4 (Store m a e w v) t
 store_memory d0 d1 d2 d3 d4 n ls place live s0 s1 s2 s3 s4 m a v e f w tm ta tv t nb one sc p q r wa wv lw en ef made push og oa ob =
     let g2 = grew_on d1 d2 d3 _ _ _ _ _ _ _ _ _ _ q.gathered.grew r.gathered.grew in
@@ -92,17 +99,21 @@ store_memory d0 d1 d2 d3 d4 n ls place live s0 s1 s2 s3 s4 m a v e f w tm ta tv 
     (subst (λ (z : ℕ). IsMade d3 d4 (StoreNode z f tm ta tv) t) en made) in
     let g4 = made_grew d3 d4 node t k in
     let bytes : one.bytes ≡ w / 8 = ob ∙ en in
-    let at : HasWidth d4 32 one.address.0 = subst (HasWidth d4 32) (sym oa) (grew_width d3 d4 _ _ _ _ _ 32 ta g4 (subst (λ (z : ℕ). HasWidth d3 z ta) wa ra.at)) in
+    let at : HasWidth d4 32 one.address.0 = subst (HasWidth d4 32) (sym oa) (grew_width d3 d4 _ _ _ _ _ 32 ta g4 (subst
+    (λ (z : ℕ). HasWidth d3 z ta) wa ra.at)) in
     let bit = scope_kept d3 d4 _ _ _ _ _ n ls live g4 (scope_kept d0 d3 _ _ _ _ _ n ls live g03 sc) in
     let own = gathered_store d3 d4 n ls place live s3 s4 node one t (w / 8) (λ c z. bytes_at (w / 8) (evaluate a c z)) k (λ i. i) refl refl refl refl push
     (record { guard = subst (HasWidth d4 1) (sym og) bit.live_bit; address = at; some = omega (arith, l.0, l.2); few = omega (arith, l.1) }) og bytes
     (λ x g z h.
     ap (bytes_at (w / 8)) (ra.value x g z (holds_back d0 d3 _ _ _ _ _ n ls live x z g03 sc h))
-    ∙ ap (λ c. span c (w / 8)) (sym (word_kept d3 d4 _ _ _ _ _ ta x g4 ra.at.0) ∙ ap (term_word x d4) (sym oa)) ∙ ap (span (term_word x d4 one.address.0)) (sym bytes)) in record {
-      gathered = gathered_as d0 d4 n ls place live s0 s4 _ (expression_cost (Store m a e w v)) _ (stored_by (Store m a e w v)) (omega arith) (omega arith) (omega arith) (omega arith) (omega arith)
+    ∙ ap (λ c. span c (w / 8)) (sym (word_kept d3 d4 _ _ _ _ _ ta x g4 ra.at.0) ∙ ap (term_word x d4) (sym oa)) ∙ ap (span (term_word x d4 one.address.0))
+    (sym bytes)) in record {
+      gathered = gathered_as d0 d4 n ls place live s0 s4 _ (expression_cost (Store m a e w v)) _ (stored_by (Store m a e w v)) (omega arith) (omega arith)
+          (omega arith) (omega arith) (omega arith)
           (λ x g z h. simp append_assoc)
           (gathered_on d0 d3 d4 n ls place live s0 s3 s4 _ _ _ _ sc
-          (gathered_on d0 d2 d3 n ls place live s0 s2 s3 _ _ _ _ sc (gathered_on d0 d1 d2 n ls place live s0 s1 s2 _ _ _ _ sc p.gathered q.gathered) r.gathered) own);
+          (gathered_on d0 d2 d3 n ls place live s0 s2 s3 _ _ _ _ sc
+          (gathered_on d0 d1 d2 n ls place live s0 s1 s2 _ _ _ _ sc p.gathered q.gathered) r.gathered) own);
       at = made_width d3 d4 node t 0 k refl;
       kept = λ z. absurd (omega (arith, l.0, l.2, z));
       value = λ x g z h.
@@ -117,12 +128,15 @@ pub extract_word : (d0 d1 d2 : List TermNode) (n : Names) (ls : List LocalTerm) 
     IsScope d0 n ls live → IsWordTerm d0 d1 n ls place live s0 s1 a ta → lo ≤ hi → hi < width a → IsMade d1 d2 (ExtractNode hi lo ta) t →
     IsWordTerm d0 d2 n ls place live s0 s1 (Extract hi lo a) t
 extract_word d0 d1 d2 n ls place live s0 s1 hi lo a ta t sc p le lt k = record {
-  gathered = gathered_as d0 d2 n ls place live s0 s1 _ (expression_cost (Extract hi lo a)) _ (stored_by (Extract hi lo a)) (omega arith) (omega arith) (omega arith) (omega arith) (omega arith)
+  gathered = gathered_as d0 d2 n ls place live s0 s1 _ (expression_cost (Extract hi lo a)) _ (stored_by (Extract hi lo a)) (omega arith) (omega arith)
+      (omega arith) (omega arith) (omega arith)
       (λ x g v h. refl)
-      (gathered_then d0 d1 d2 n ls place live s0 s1 _ _ _ sc p.gathered (gathered_made d1 d2 n ls place live s1 (ExtractNode hi lo ta) t 0 0 0 k (λ i. i) refl refl refl refl));
+      (gathered_then d0 d1 d2 n ls place live s0 s1 _ _ _ sc p.gathered (gathered_made d1 d2 n ls place live s1 (ExtractNode hi lo ta) t 0 0 0 k
+      (λ i. i) refl refl refl refl));
   wide = (omega arith, omega (arith, p.wide.1));
   at = made_width d1 d2 (ExtractNode hi lo ta) t (hi + 1 - lo) k refl;
-  value = λ x g v h. ap (extract_from hi lo) (p.value x g v h) ∙ extract_is hi lo (width a) _ le lt ∙ ap (Word (hi + 1 - lo)) (sym (ap (λ (z : TermValue). z.word) (k.value x g)));
+  value = λ x g v h. ap (extract_from hi lo) (p.value x g v h) ∙ extract_is hi lo (width a) _ le lt ∙ ap (Word (hi + 1 - lo)) (sym (ap
+      (λ (z : TermValue). z.word) (k.value x g)));
 }
 
 -- what is known of the node of a cast
@@ -145,24 +159,29 @@ cast_width High n m a f h = (let le : m ≤ n = grind (arith, nat_tests) in omeg
 cast_width Signed n m a f h = refl
 cast_width Unsigned n m a f h = refl
 
-cast_value : (k : CastKind) (old new : List TermNode) (n m a t : ℕ) (x : TermReading) → InRange x → IsMade old new (cast_node k n m a) t → term_word x new t ≡ cast_word k n m (term_word x old a)
+cast_value : (k : CastKind) (old new : List TermNode) (n m a t : ℕ) (x : TermReading) → InRange x → IsMade old new (cast_node k n m a) t →
+    term_word x new t ≡ cast_word k n m (term_word x old a)
 cast_value Low old new n m a t x g k = ap (λ (z : TermValue). z.word) (k.value x g)
 cast_value High old new n m a t x g k = ap (λ (z : TermValue). z.word) (k.value x g)
 cast_value Signed old new n m a t x g k = ap (λ (z : TermValue). z.word) (k.value x g)
 cast_value Unsigned old new n m a t x g k = ap (λ (z : TermValue). z.word) (k.value x g)
 
 -- a word in another width
-pub cast_to_word : (d0 d1 d2 : List TermNode) (n : Names) (ls : List LocalTerm) (place live : ℕ) (s0 s1 : List Stored) (kind : CastKind) (m : ℕ) (a : Expression) (ta t w : ℕ) (node : TermNode) →
-    IsScope d0 n ls live → IsWordTerm d0 d1 n ls place live s0 s1 a ta → cast_fits kind m (width a) ≡ true → IsWidth m → w ≡ width_of (node_at d1 ta) → node ≡ cast_node kind w m ta →
+pub cast_to_word : (d0 d1 d2 : List TermNode) (n : Names) (ls : List LocalTerm) (place live : ℕ) (s0 s1 : List Stored) (kind : CastKind) (m : ℕ)
+    (a : Expression) (ta t w : ℕ) (node : TermNode) →
+    IsScope d0 n ls live → IsWordTerm d0 d1 n ls place live s0 s1 a ta → cast_fits kind m (width a) ≡ true → IsWidth m → w ≡ width_of (node_at d1 ta) →
+    node ≡ cast_node kind w m ta →
     IsMade d1 d2 node t → IsWordTerm d0 d2 n ls place live s0 s1 (Cast kind m a) t
 cast_to_word d0 d1 d2 n ls place live s0 s1 kind m a ta t w node sc p f wm e is made =
     let own = cast_node kind (width a) m ta in
     let k : IsMade d1 d2 own t = subst (λ (z : ℕ). IsMade d1 d2 (cast_node kind z m ta) t) (e ∙ p.at.1) (subst (λ (z : TermNode). IsMade d1 d2 z t) is made) in
     let c = cast_costs kind (width a) m ta in
     let g2 = made_grew d1 d2 own t k in record {
-      gathered = gathered_as d0 d2 n ls place live s0 s1 _ (expression_cost (Cast kind m a)) _ (stored_by (Cast kind m a)) (omega arith) (omega arith) (omega arith) (omega arith) (omega arith)
+      gathered = gathered_as d0 d2 n ls place live s0 s1 _ (expression_cost (Cast kind m a)) _ (stored_by (Cast kind m a)) (omega arith) (omega arith)
+          (omega arith) (omega arith) (omega arith)
           (λ x g v h. refl)
-          (gathered_then d0 d1 d2 n ls place live s0 s1 _ _ _ sc p.gathered (gathered_made d1 d2 n ls place live s1 own t 0 0 0 k c.input c.gates c.loads c.stores c.joins));
+          (gathered_then d0 d1 d2 n ls place live s0 s1 _ _ _ sc p.gathered
+          (gathered_made d1 d2 n ls place live s1 own t 0 0 0 k c.input c.gates c.loads c.stores c.joins));
       wide = wm;
       at = made_width d1 d2 own t m k (cast_width kind (width a) m ta f wm.0);
       value = λ x g v h.
@@ -207,13 +226,16 @@ no_stores (Let x n a b) h c v =
 no_stores (Unknown t) h c v = refl
 no_stores (Choose t a b) h c v =
     two_none _ _ (no_stores t (omega arith) c v)
-    (ap (λ z. chosen (evaluate t c v) z (stored_by b c v)) (no_stores a (omega arith) c v) ∙ ap (chosen (evaluate t c v) []) (no_stores b (omega arith) c v) ∙ none_chosen (evaluate t c v))
+    (ap (λ z. chosen (evaluate t c v) z (stored_by b c v)) (no_stores a (omega arith) c v) ∙ ap (chosen (evaluate t c v) [])
+    (no_stores b (omega arith) c v) ∙ none_chosen (evaluate t c v))
 no_stores (Extract hi lo a) h c v = no_stores a (omega arith) c v
 no_stores (Concat a b) h c v = two_none _ _ (no_stores a (omega arith) c v) (no_stores b (omega arith) c v)
 
 -- a choice, whose sides store nothing
-pub choose_word : (d0 d1 d2 d3 d4 : List TermNode) (n : Names) (ls : List LocalTerm) (place live : ℕ) (s0 s1 s2 s3 : List Stored) (c a b : Expression) (tc ta tb t w : ℕ) →
-    IsScope d0 n ls live → IsWordTerm d0 d1 n ls place live s0 s1 c tc → IsWordTerm d1 d2 n ls place live s1 s2 a ta → IsWordTerm d2 d3 n ls place live s2 s3 b tb →
+pub choose_word : (d0 d1 d2 d3 d4 : List TermNode) (n : Names) (ls : List LocalTerm) (place live : ℕ) (s0 s1 s2 s3 : List Stored) (c a b : Expression)
+    (tc ta tb t w : ℕ) →
+    IsScope d0 n ls live → IsWordTerm d0 d1 n ls place live s0 s1 c tc → IsWordTerm d1 d2 n ls place live s1 s2 a ta →
+    IsWordTerm d2 d3 n ls place live s2 s3 b tb →
     width c ≡ 1 → width a ≡ width b → total own_chosen_stores (Choose c a b) ≡ 0 → w ≡ width_of (node_at d3 ta) → IsMade d3 d4 (SelectNode w tc ta tb) t →
     IsWordTerm d0 d4 n ls place live s0 s3 (Choose c a b) t
 choose_word d0 d1 d2 d3 d4 n ls place live s0 s1 s2 s3 c a b tc ta tb t w sc p q r wc e steady f made =
@@ -227,8 +249,10 @@ choose_word d0 d1 d2 d3 d4 n ls place live s0 s1 s2 s3 c a b tc ta tb t w sc p q
     let k : IsMade d3 d4 node t = subst (λ (z : ℕ). IsMade d3 d4 (SelectNode z tc ta tb) t) (f ∙ ra.at.1) made in
     let quiet_a : total own_stores a ≡ 0 = omega arith in
     let quiet_b : total own_stores b ≡ 0 = omega arith in record {
-      gathered = gathered_as d0 d4 n ls place live s0 s3 _ (expression_cost (Choose c a b)) _ (stored_by (Choose c a b)) (omega arith) (omega arith) (omega arith) (omega arith) (omega arith)
-          (λ x g v h. chosen_none (evaluate c (x.choice place) v) (stored_by c (x.choice place) v) _ _ (no_stores a quiet_a (x.choice place) v) (no_stores b quiet_b (x.choice place) v))
+      gathered = gathered_as d0 d4 n ls place live s0 s3 _ (expression_cost (Choose c a b)) _ (stored_by (Choose c a b)) (omega arith) (omega arith)
+          (omega arith) (omega arith) (omega arith)
+          (λ x g v h. chosen_none (evaluate c (x.choice place) v) (stored_by c (x.choice place) v) _ _ (no_stores a quiet_a (x.choice place) v)
+          (no_stores b quiet_b (x.choice place) v))
           (gathered_then d0 d3 d4 n ls place live s0 s3 _ _ _ sc
           (gathered_on d0 d2 d3 n ls place live s0 s2 s3 _ _ _ _ sc (gathered_on d0 d1 d2 n ls place live s0 s1 s2 _ _ _ _ sc p.gathered q.gathered) r.gathered)
           (gathered_made d3 d4 n ls place live s3 node t (width a) 0 0 k (λ i. i) refl refl refl refl));
@@ -250,8 +274,10 @@ choose_word d0 d1 d2 d3 d4 n ls place live s0 s1 s2 s3 c a b tc ta tb t w sc p q
 bound : (y w a : ℕ) (v : Env) → assign (Local y w) (Word w a) v ≡ Some (record v { locals = put_local y w a v.locals })
 bound y w a v = ap (λ (z : Bool). if z then Some (record v { locals = put_local y w a v.locals }) else None) (eq-eqb w w refl)
 
-gathered_let : (d0 d1 d2 : List TermNode) (n : Names) (ls : List LocalTerm) (place live : ℕ) (s1 s2 : List Stored) (y w ta g l s j k : ℕ) (term : LocalTerm) (a b : Expression) → IsScope d0 n ls live →
-    Grew d0 d1 g l s j k → term.number ≡ y → term.width ≡ w → term.term.0 ≡ ta → ((x : TermReading) → InRange x → (v : Env) → Holds d0 x n ls v → evaluate a (x.choice place) v ≡ Word w (term_word x d1 ta)) →
+gathered_let : (d0 d1 d2 : List TermNode) (n : Names) (ls : List LocalTerm) (place live : ℕ) (s1 s2 : List Stored) (y w ta g l s j k : ℕ) (term : LocalTerm)
+    (a b : Expression) → IsScope d0 n ls live →
+    Grew d0 d1 g l s j k → term.number ≡ y → term.width ≡ w → term.term.0 ≡ ta →
+    ((x : TermReading) → InRange x → (v : Env) → Holds d0 x n ls v → evaluate a (x.choice place) v ≡ Word w (term_word x d1 ta)) →
     Gathered d1 d2 n (ls ++ term ∷ []) place live s1 s2 (expression_cost b) (stored_by b) →
     Gathered d1 d2 n ls place live s1 s2 (expression_cost b) (λ c v. stored_in (assign (Local y w) (evaluate a c v) v) (stored_by b c))
 gathered_let d0 d1 d2 n ls place live s1 s2 y w ta g l s j k term a b sc grew ey ew et val p = record {
@@ -284,22 +310,27 @@ let_env y w ta term d1 x v ey ew et =
     ∙ ap (λ (u : ℕ). put_local y w (term_word x d1 u) v.locals) et
 
 -- the value of a let
-let_value : (d0 d1 : List TermNode) (n : Names) (ls : List LocalTerm) (place live y w ta g l s j k : ℕ) (term : LocalTerm) (a b : Expression) (x : TermReading) (v : Env) (r : Value) →
-    IsScope d0 n ls live → Grew d0 d1 g l s j k → term.number ≡ y → term.width ≡ w → term.term.0 ≡ ta → evaluate a (x.choice place) v ≡ Word w (term_word x d1 ta) →
-    evaluate b (x.choice place) (record v { locals = put_local term.number term.width (term_word x d1 term.term.0) v.locals }) ≡ r → evaluate (Let y w a b) (x.choice place) v ≡ r
+let_value : (d0 d1 : List TermNode) (n : Names) (ls : List LocalTerm) (place live y w ta g l s j k : ℕ) (term : LocalTerm) (a b : Expression) (x : TermReading)
+    (v : Env) (r : Value) →
+    IsScope d0 n ls live → Grew d0 d1 g l s j k → term.number ≡ y → term.width ≡ w → term.term.0 ≡ ta →
+    evaluate a (x.choice place) v ≡ Word w (term_word x d1 ta) →
+    evaluate b (x.choice place) (record v { locals = put_local term.number term.width (term_word x d1 term.term.0) v.locals }) ≡ r →
+    evaluate (Let y w a b) (x.choice place) v ≡ r
 let_value d0 d1 n ls place live y w ta g l s j k term a b x v r sc grew ey ew et q h =
     ap (λ (u : Value). in_env (assign (Local y w) u v) (evaluate b (x.choice place))) q
     ∙ ap (λ (u : Option Env). in_env u (evaluate b (x.choice place))) (bound y w (term_word x d1 ta) v)
     ∙ ap (λ (u : ℕ → ℕ → Value). evaluate b (x.choice place) (record v { locals = u })) (sym (let_env y w ta term d1 x v ey ew et)) ∙ h
 
 -- a word under a let
-pub let_word : (d0 d1 d2 : List TermNode) (n : Names) (ls : List LocalTerm) (place live : ℕ) (s0 s1 s2 : List Stored) (y w ta tb : ℕ) (term : LocalTerm) (a b : Expression) →
+pub let_word : (d0 d1 d2 : List TermNode) (n : Names) (ls : List LocalTerm) (place live : ℕ) (s0 s1 s2 : List Stored) (y w ta tb : ℕ) (term : LocalTerm)
+    (a b : Expression) →
     IsScope d0 n ls live → IsWordTerm d0 d1 n ls place live s0 s1 a ta → width a ≡ w → term.number ≡ y → term.width ≡ w → term.term.0 ≡ ta →
     IsWordTerm d1 d2 n (ls ++ term ∷ []) place live s1 s2 b tb → IsWordTerm d0 d2 n ls place live s0 s2 (Let y w a b) tb
 let_word d0 d1 d2 n ls place live s0 s1 s2 y w ta tb term a b sc p wa ey ew et q =
     let val : (x : TermReading) → InRange x → (v : Env) → Holds d0 x n ls v → evaluate a (x.choice place) v ≡ Word w (term_word x d1 ta) =
     λ x g v h. p.value x g v h ∙ ap (λ (u : ℕ). Word u (term_word x d1 ta)) wa in record {
-      gathered = gathered_as d0 d2 n ls place live s0 s2 _ (expression_cost (Let y w a b)) _ (stored_by (Let y w a b)) (omega arith) (omega arith) (omega arith) (omega arith) (omega arith)
+      gathered = gathered_as d0 d2 n ls place live s0 s2 _ (expression_cost (Let y w a b)) _ (stored_by (Let y w a b)) (omega arith) (omega arith) (omega arith)
+          (omega arith) (omega arith)
           (λ x g v h. refl)
           (gathered_on d0 d1 d2 n ls place live s0 s1 s2 _ _ _ _ sc p.gathered
           (gathered_let d0 d1 d2 n ls place live s1 s2 y w ta _ _ _ _ _ term a b sc p.gathered.grew ey ew et val q.gathered));
@@ -311,13 +342,15 @@ let_word d0 d1 d2 n ls place live s0 s1 s2 y w ta tb term a b sc p wa ey ew et q
     }
 
 -- and a memory
-pub let_memory : (d0 d1 d2 : List TermNode) (n : Names) (ls : List LocalTerm) (place live : ℕ) (s0 s1 s2 : List Stored) (y w ta tb : ℕ) (term : LocalTerm) (a b : Expression) →
+pub let_memory : (d0 d1 d2 : List TermNode) (n : Names) (ls : List LocalTerm) (place live : ℕ) (s0 s1 s2 : List Stored) (y w ta tb : ℕ) (term : LocalTerm)
+    (a b : Expression) →
     IsScope d0 n ls live → IsWordTerm d0 d1 n ls place live s0 s1 a ta → width a ≡ w → term.number ≡ y → term.width ≡ w → term.term.0 ≡ ta →
     IsMemoryTerm d1 d2 n (ls ++ term ∷ []) place live s1 s2 b tb → IsMemoryTerm d0 d2 n ls place live s0 s2 (Let y w a b) tb
 let_memory d0 d1 d2 n ls place live s0 s1 s2 y w ta tb term a b sc p wa ey ew et q =
     let val : (x : TermReading) → InRange x → (v : Env) → Holds d0 x n ls v → evaluate a (x.choice place) v ≡ Word w (term_word x d1 ta) =
     λ x g v h. p.value x g v h ∙ ap (λ (u : ℕ). Word u (term_word x d1 ta)) wa in record {
-      gathered = gathered_as d0 d2 n ls place live s0 s2 _ (expression_cost (Let y w a b)) _ (stored_by (Let y w a b)) (omega arith) (omega arith) (omega arith) (omega arith) (omega arith)
+      gathered = gathered_as d0 d2 n ls place live s0 s2 _ (expression_cost (Let y w a b)) _ (stored_by (Let y w a b)) (omega arith) (omega arith) (omega arith)
+          (omega arith) (omega arith)
           (λ x g v h. refl)
           (gathered_on d0 d1 d2 n ls place live s0 s1 s2 _ _ _ _ sc p.gathered
           (gathered_let d0 d1 d2 n ls place live s1 s2 y w ta _ _ _ _ _ term a b sc p.gathered.grew ey ew et val q.gathered));

@@ -70,7 +70,8 @@ cast_word Unsigned n m a = extend false n m a
 pub cast_is : (k : CastKind) (n m a : ℕ) → cast_fits k m n ≡ true → 1 ≤ m → a < 2 ^ n → cast_to k m (Word n a) ≡ Word m (cast_word k n m a)
 cast_is Low n m a f h l =
     ap (λ (z : Bool). if z then Word m (words.word m a) else Stuck) f
-    ∙ ap (Word m) (let d : a / 1 ≡ a = omega arith in let e : m ≡ m - 1 + 1 - 0 = omega arith in ap (λ z. a % 2 ^ z) e ∙ ap (λ z. z % 2 ^ (m - 1 + 1 - 0)) (sym d))
+    ∙ ap (Word m) (let d : a / 1 ≡ a = omega arith in let e : m
+    ≡ m - 1 + 1 - 0 = omega arith in ap (λ z. a % 2 ^ z) e ∙ ap (λ z. z % 2 ^ (m - 1 + 1 - 0)) (sym d))
 cast_is High n m a f h l =
     let le : m ≤ n = grind (arith, nat_tests) in
     let s : m + (n - m) ≡ n = omega arith in

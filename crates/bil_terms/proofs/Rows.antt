@@ -39,7 +39,8 @@ pub place_of : (xs : List Term) (i : ℕ) → i < length xs → slice_index (pla
 place_of xs i h = get_or-map (λ (t : Term). t.0) xs i no_term 0 h
 
 -- the terms keep their width
-pub wide_set : (d : List TermNode) (w : ℕ) (xs : List Term) (i : ℕ) (t : Term) → i < length xs → AreWide d w (places xs) → HasWidth d w t.0 → AreWide d w (places (set xs i t))
+pub wide_set : (d : List TermNode) (w : ℕ) (xs : List Term) (i : ℕ) (t : Term) → i < length xs → AreWide d w (places xs) → HasWidth d w t.0 →
+    AreWide d w (places (set xs i t))
 wide_set d w xs i t h f k j l =
     let n = length-map (set xs i t) (λ (t : Term). t.0) in
     let m = length-map xs (λ (t : Term). t.0) in
@@ -61,7 +62,8 @@ word_if : (d : List TermNode) (x : TermReading) (b : Bool) (s t : ℕ) → term_
 word_if d x true s t = refl
 word_if d x false s t = refl
 
-pub word_set : (d : List TermNode) (x : TermReading) (xs : List Term) (i j q r : ℕ) (t : Term) (f : ℕ → ℕ) → i < length xs → j < length xs → (q ≡ r → j ≡ i) → (j ≡ i → q ≡ r) →
+pub word_set : (d : List TermNode) (x : TermReading) (xs : List Term) (i j q r : ℕ) (t : Term) (f : ℕ → ℕ) → i < length xs → j < length xs → (q ≡ r → j ≡ i) →
+    (j ≡ i → q ≡ r) →
     term_word x d (slice_index (places xs) j) ≡ f q → term_word x d (slice_index (places (set xs i t)) j) ≡ put f r (term_word x d t.0) q
 word_set d x xs i j q r t f h l p g e =
     let s = length-set xs i t in

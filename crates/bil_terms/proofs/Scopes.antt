@@ -33,7 +33,8 @@ known_flag k [] f = refl
 known_flag k (l ∷ ls) f = known_flag (λ y. is_local l.number l.width y || k y) ls f
 
 range_step : (r n count : ℕ) (t : Bool) → ((n + 1 ≤ r) × (r < n + 1 + count) → (n ≤ r) × (r < n + suc count)) →
-    (list_any (nat_eq r) (from_to (n + 1) count) ≡ true → (n + 1 ≤ r) × (r < n + 1 + count)) → nat_eq r n ≡ t → (t || list_any (nat_eq r) (from_to (n + 1) count)) ≡ true →
+    (list_any (nat_eq r) (from_to (n + 1) count) ≡ true → (n + 1 ≤ r) × (r < n + 1 + count)) → nat_eq r n ≡ t →
+    (t || list_any (nat_eq r) (from_to (n + 1) count)) ≡ true →
     (n ≤ r) × (r < n + suc count)
 range_step r n count true up rest e h = (let z : r ≡ n = eqb-true r n e in (omega arith, omega arith))
 range_step r n count false up rest e h = up (rest h)
@@ -43,14 +44,16 @@ among_range r n zero h = absurd (false≢true h)
 among_range r n (suc count) h = range_step r n count (nat_eq r n) (λ p. (omega (arith, p.0), omega (arith, p.1))) (among_range r (n + 1) count) refl h
 
 -- a known register is one of those that have terms
-pub register_within : (n : Names) (ls : List LocalTerm) (b : Bank) (r : ℕ) → known n ls (Register b r) ≡ true → (n.first ≤ r) × (r < n.first + length n.registers.items)
+pub register_within : (n : Names) (ls : List LocalTerm) (b : Bank) (r : ℕ) → known n ls (Register b r) ≡ true → (n.first ≤ r) ×
+    (r < n.first + length n.registers.items)
 register_within n ls b r h = among_range r n.first (length n.registers.items) (sym (known_register (is_variable_of (form_of n)) ls b r) ∙ h)
 
 -- and a known flag
 pub flag_within : (n : Names) (ls : List LocalTerm) (f : ℕ) → known n ls (Flag f) ≡ true → f < length n.flags.items
 flag_within n ls f h = (let e = sym (known_flag (is_variable_of (form_of n)) ls f) ∙ h in grind (arith, nat_tests))
 
-pub register_term : (nodes : List TermNode) (n : Names) (ls : List LocalTerm) (live : ℕ) (b : Bank) (r : ℕ) (t : Term) → IsScope nodes n ls live → known n ls (Register b r) ≡ true →
+pub register_term : (nodes : List TermNode) (n : Names) (ls : List LocalTerm) (live : ℕ) (b : Bank) (r : ℕ) (t : Term) → IsScope nodes n ls live →
+    known n ls (Register b r) ≡ true →
     t ≡ get_or n.registers.items (r - n.first) t → IsVariableTerm nodes n ls (Register b r) t.0
 register_term nodes n ls live b r t s h e =
     let w = register_within n ls b r h in
@@ -58,7 +61,8 @@ register_term nodes n ls live b r t s h e =
     let l : i < length n.registers.items = omega (arith, w.0, w.1) in
     let c = count_of n.first (length n.registers.items) in
     let place = get_or-map (λ (t : Term). t.0) n.registers.items i t 0 l ∙ ap (λ (t : Term). t.0) (sym e) in
-    let number : slice_index (from_to n.first (length n.registers.items)) i ≡ r = number_at n.first (length n.registers.items) i l ∙ omega (arith, w.0) in record {
+    let number : slice_index (from_to n.first (length n.registers.items)) i
+    ≡ r = number_at n.first (length n.registers.items) i l ∙ omega (arith, w.0) in record {
       wide = (omega arith, omega arith);
       at = subst (HasWidth nodes 32) place (s.names.words i (omega arith));
       value = λ x v d. ap (Word 32) (sym (ap (term_word x nodes) (sym place) ∙ d.names.registers i (omega arith) ∙ ap v.regs number));
@@ -74,7 +78,8 @@ flag_term nodes n ls live f t s h e =
       value = λ x v d. ap (Word 1) (sym (ap (term_word x nodes) (sym place) ∙ d.names.flags f l));
     }
 
-pub local_variable : (nodes : List TermNode) (n : Names) (ls : List LocalTerm) (y w t : ℕ) → IsLocalTerm nodes ls y w t → IsVariableTerm nodes n ls (Local y w) t
+pub local_variable : (nodes : List TermNode) (n : Names) (ls : List LocalTerm) (y w t : ℕ) → IsLocalTerm nodes ls y w t →
+    IsVariableTerm nodes n ls (Local y w) t
 local_variable nodes n ls y w t h = record {
   wide = h.wide;
   at = h.at;
@@ -98,14 +103,16 @@ contains_one x z (suc k, h, e) = absurd (omega arith)
 pub word_kept : (old new : List TermNode) (g l s j n t : ℕ) (x : TermReading) → Grew old new g l s j n → t < length old → term_word x new t ≡ term_word x old t
 word_kept old new g l s j n t x p h = ap (λ (z : TermValue). z.word) (p.keeps x t h)
 
-values_kept : (old new : List TermNode) (g l s j n : ℕ) (x : TermReading) (f : ℕ → ℕ → Value) (ls : List LocalTerm) → Grew old new g l s j n → AreLocals old ls →
+values_kept : (old new : List TermNode) (g l s j n : ℕ) (x : TermReading) (f : ℕ → ℕ → Value) (ls : List LocalTerm) → Grew old new g l s j n →
+    AreLocals old ls →
     values_after new x f ls ≡ values_after old x f ls
 values_kept old new g l s j n x f [] p h = refl
 values_kept old new g l s j n x f (k ∷ ls) p h =
     ap (λ (z : ℕ). values_after new x (put_local k.number k.width z f) ls) (word_kept old new g l s j n k.term.0 x p (h k (contains_head k ls)).1.0)
     ∙ values_kept old new g l s j n x (put_local k.number k.width (term_word x old k.term.0) f) ls p (λ m c. h m (contains_tail m k ls c))
 
-pub scope_kept : (old new : List TermNode) (g l s j n : ℕ) (names : Names) (ls : List LocalTerm) (live : ℕ) → Grew old new g l s j n → IsScope old names ls live → IsScope new names ls live
+pub scope_kept : (old new : List TermNode) (g l s j n : ℕ) (names : Names) (ls : List LocalTerm) (live : ℕ) → Grew old new g l s j n →
+    IsScope old names ls live → IsScope new names ls live
 scope_kept old new g l s j n names ls live p h = record {
   names = record {
     registers = h.names.registers;
@@ -118,7 +125,8 @@ scope_kept old new g l s j n names ls live p h = record {
   live_bit = grew_width old new g l s j n 1 live p h.live_bit;
 }
 
-pub denotes_kept : (old new : List TermNode) (g l s j n : ℕ) (names : Names) (x : TermReading) (v : Carried) → Grew old new g l s j n → AreNames (form_of names) old (names_of names) →
+pub denotes_kept : (old new : List TermNode) (g l s j n : ℕ) (names : Names) (x : TermReading) (v : Carried) → Grew old new g l s j n →
+    AreNames (form_of names) old (names_of names) →
     Denotes (form_of names) old x (names_of names) v → Denotes (form_of names) new x (names_of names) v
 denotes_kept old new g l s j n names x v p h d = record {
   registers = λ i k. word_kept old new g l s j n _ x p (h.words i k).0 ∙ d.registers i k;
@@ -126,7 +134,8 @@ denotes_kept old new g l s j n names x v p h d = record {
   memory = ap (λ (z : TermValue). z.bytes) (p.keeps x _ h.memory.0) ∙ d.memory;
 }
 
-pub holds_kept : (old new : List TermNode) (g l s j n : ℕ) (names : Names) (ls : List LocalTerm) (live : ℕ) (x : TermReading) (v : Env) → Grew old new g l s j n →
+pub holds_kept : (old new : List TermNode) (g l s j n : ℕ) (names : Names) (ls : List LocalTerm) (live : ℕ) (x : TermReading) (v : Env) →
+    Grew old new g l s j n →
     IsScope old names ls live → Holds old x names ls v → Holds new x names ls v
 holds_kept old new g l s j n names ls live x v p h d = record {
   names = denotes_kept old new g l s j n names x _ p h.names d.names;
@@ -134,7 +143,8 @@ holds_kept old new g l s j n names ls live x v p h d = record {
 }
 
 -- and said the same before
-pub holds_back : (old new : List TermNode) (g l s j n : ℕ) (names : Names) (ls : List LocalTerm) (live : ℕ) (x : TermReading) (v : Env) → Grew old new g l s j n →
+pub holds_back : (old new : List TermNode) (g l s j n : ℕ) (names : Names) (ls : List LocalTerm) (live : ℕ) (x : TermReading) (v : Env) →
+    Grew old new g l s j n →
     IsScope old names ls live → Holds new x names ls v → Holds old x names ls v
 holds_back old new g l s j n names ls live x v p h d = record {
   names = record {
@@ -146,7 +156,8 @@ holds_back old new g l s j n names ls live x v p h d = record {
 }
 
 -- with one local more
-pub scope_push : (nodes : List TermNode) (n : Names) (ls : List LocalTerm) (live : ℕ) (l : LocalTerm) → IsScope nodes n ls live → IsWidth l.width → HasWidth nodes l.width l.term.0 →
+pub scope_push : (nodes : List TermNode) (n : Names) (ls : List LocalTerm) (live : ℕ) (l : LocalTerm) → IsScope nodes n ls live → IsWidth l.width →
+    HasWidth nodes l.width l.term.0 →
     IsScope nodes n (ls ++ l ∷ []) live
 scope_push nodes n ls live l s w h = record {
   names = s.names;

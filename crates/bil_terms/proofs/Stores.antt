@@ -16,11 +16,13 @@ pub same_form_on : (a b c : Names) → HaveSameForm a b → HaveSameForm b c →
 same_form_on a b c p q = record { first = p.first ∙ q.first; registers = p.registers ∙ q.registers; flags = p.flags ∙ q.flags }
 
 -- where the run does not come by, nothing is stored
-pub none_stored : (d : List TermNode) (x : TermReading) (more : List Stored) (a : ℕ) → ((t : Stored) → Contains more t → term_word x d t.guard.0 ≡ 0) → IsStoredBy d x more a → ⊥
+pub none_stored : (d : List TermNode) (x : TermReading) (more : List Stored) (a : ℕ) → ((t : Stored) → Contains more t → term_word x d t.guard.0 ≡ 0) →
+    IsStoredBy d x more a → ⊥
 none_stored d x more a h c = absurd (let z : 0 ≡ 1 = sym (h c.0 c.1) ∙ c.2 in omega arith)
 
 -- what is stored stays so as nodes are added
-pub stored_kept : (old new : List TermNode) (g l s j n : ℕ) (x : TermReading) (more : List Stored) (a : ℕ) → Grew old new g l s j n → ((t : Stored) → Contains more t → IsStore old t) →
+pub stored_kept : (old new : List TermNode) (g l s j n : ℕ) (x : TermReading) (more : List Stored) (a : ℕ) → Grew old new g l s j n →
+    ((t : Stored) → Contains more t → IsStore old t) →
     IsStoredBy old x more a ↔ IsStoredBy new x more a
 stored_kept old new g l s j n x more a p h = (
   λ c. (
@@ -37,7 +39,8 @@ stored_kept old new g l s j n x more a p h = (
   ),
 )
 
-pub stored_both : (d : List TermNode) (x : TermReading) (xs ys : List Stored) (a : ℕ) (ps qs : List ℕ) → Contains ps a ↔ IsStoredBy d x xs a → Contains qs a ↔ IsStoredBy d x ys a →
+pub stored_both : (d : List TermNode) (x : TermReading) (xs ys : List Stored) (a : ℕ) (ps qs : List ℕ) → Contains ps a ↔ IsStoredBy d x xs a → Contains qs a ↔
+    IsStoredBy d x ys a →
     Contains (ps ++ qs) a ↔ IsStoredBy d x (xs ++ ys) a
 stored_both d x xs ys a ps qs p q = (
   λ c. elim (Contains-append_cases ps qs a c) [
@@ -50,6 +53,7 @@ stored_both d x xs ys a ps qs p q = (
   ],
 )
 
-pub stored_then : (d : List TermNode) (x : TermReading) (more : List Stored) (a : ℕ) (ps : List ℕ) (T : Type 0) → Contains ps a ↔ T → T ↔ IsStoredBy d x more a →
+pub stored_then : (d : List TermNode) (x : TermReading) (more : List Stored) (a : ℕ) (ps : List ℕ) (T : Type 0) → Contains ps a ↔ T → T ↔
+    IsStoredBy d x more a →
     Contains ps a ↔ IsStoredBy d x more a
 stored_then d x more a ps T p q = (λ c. q.0 (p.0 c), λ c. p.1 (q.1 c))

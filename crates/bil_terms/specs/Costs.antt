@@ -1,4 +1,5 @@
--- What a list of statements may cost as terms. What the sides of an if leave different is selected behind it, so that what a side assigns is paid for once more.
+-- What a list of statements may cost as terms. What the sides of an if leave different is selected behind it, so that what a side assigns is paid for once
+-- more.
 use Rattle.std.specs.Prelude.{ℕ, ◌+◌, ◌*◌}
 use Rattle.bilv_spec.specs.Bil.{Statements, Empty, Assign, JumpTo, Raise, Special, While, If, type_of, total}
 use Rattle.bilv_spec.specs.BilTyping.{type_width}

@@ -61,10 +61,11 @@ pub record IsStore (nodes : List TermNode) (s : Stored) : Type 0 where
 abbrev pub IsAmong : List TermNode → TermReading → List Stored → ℕ → Type 0
 IsAmong nodes x stored a = (s : Stored) × Contains stored s × Contains (span (term_word x nodes s.address.0) s.bytes) a
 
--- Nodes have come within a cost, whose inputs are the choice of a place, and stores under one guard, by which exactly those bytes are stored that are so in each
--- environment that the terms before denote.
+-- Nodes have come within a cost, whose inputs are the choice of a place, and stores under one guard, by which exactly those bytes are stored that are so in
+-- each environment that the terms before denote.
 pub record Gathered
-    (old new : List TermNode) (n : Names) (ls : List LocalTerm) (place live : ℕ) (before after : List Stored) (cost : Cost) (st : ℕ → Env → List ℕ) : Type 0 where
+    (old new : List TermNode) (n : Names) (ls : List LocalTerm) (place live : ℕ) (before after : List Stored) (cost : Cost) (st : ℕ → Env →
+    List ℕ) : Type 0 where
   pub grew : Grew old new cost.gates cost.loads cost.stores 0 cost.nodes
   pub inputs : InputsFrom old new (λ m. (m ≡ ChoiceNode place) × (1 ≤ cost.unknowns))
   pub more : List Stored

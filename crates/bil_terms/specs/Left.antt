@@ -18,8 +18,8 @@ use Rattle.bil_terms.specs.declared.left.Left.{Left}
 use Rattle.bil_terms.specs.Gathered.{IsStore}
 use Rattle.bil_terms.specs.Runs.{Jumps, IsStoredBy}
 
--- A list that becomes terms within its weight: well typed, without loops and specials, ifs at most two deep, no choice between memories and no store in a side of a
--- choice, over the variables of a program.
+-- A list that becomes terms within its weight: well typed, without loops and specials, ifs at most two deep, no choice between memories and no store in a side
+-- of a choice, over the variables of a program.
 pub record CanBeLed (u : UnrolledProgram) (list : Statements) : Type 0 where
   pub typed : IsWellTyped list
   pub no_loop : has_no_loop list ≡ true
@@ -38,8 +38,8 @@ AreLeft nodes x l (RaisesException n p) = term_word x nodes l.raised.0 ≡ 1
 AreLeft nodes x l (OutOfTurns p) = ⊥
 AreLeft nodes x l Wrong = ⊥
 
--- What a list leaves: under each reading in range, from what the names denote, the terms are what the list comes to and stores. They are within the list's weight, its
--- loads and stores, and 4 for each of its nodes and 8 more.
+-- What a list leaves: under each reading in range, from what the names denote, the terms are what the list comes to and stores. They are within the list's
+-- weight, its loads and stores, and 4 for each of its nodes and 8 more.
 pub record IsLeft (old new : List TermNode) (place : ℕ) (n : Names) (list : Statements) (l : Left) : Type 0 where
   pub grew : Grew old new (list_weight list) (byte_loads list) (byte_stores list) (2 * byte_stores list) (4 * list_size list + 8)
   pub inputs : InputsFrom old new (λ m. (m ≡ ChoiceNode place) × (1 ≤ unknowns list))

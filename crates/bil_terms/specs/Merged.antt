@@ -52,8 +52,10 @@ pub record IsTargetAfter (old new : List TermNode) (condition : ℕ) (a b : Run)
   pub inputs : InputsFrom old new (λ m. ⊥)
   pub place : HasWidth new 32 t
   pub apart : (before : ℕ) → differs before t ≤ differs before a.target.0 + differs before b.target.0
-  pub when_true : (x : TermReading) → InRange x → term_word x old condition ≡ 1 → term_word x old a.jumped.0 ≡ 1 → term_word x new t ≡ term_word x old a.target.0
-  pub when_false : (x : TermReading) → InRange x → term_word x old condition ≡ 0 → term_word x old b.jumped.0 ≡ 1 → term_word x new t ≡ term_word x old b.target.0
+  pub when_true : (x : TermReading) → InRange x → term_word x old condition ≡ 1 → term_word x old a.jumped.0 ≡ 1 →
+      term_word x new t ≡ term_word x old a.target.0
+  pub when_false : (x : TermReading) → InRange x → term_word x old condition ≡ 0 → term_word x old b.jumped.0 ≡ 1 →
+      term_word x new t ≡ term_word x old b.target.0
 
 -- two runs behind the sides of an if, which the run before entered by two bits
 pub record AreSides (nodes : List TermNode) (condition : ℕ) (before : Run) (one other : ℕ) (a b : Run) : Type 0 where
@@ -67,10 +69,12 @@ pub record AreSides (nodes : List TermNode) (condition : ℕ) (before : Run) (on
   pub first_form : HaveSameForm before.names a.names
   pub second_form : HaveSameForm before.names b.names
 
--- A run is made of those of two sides, by a condition: where it is 1 it stands where the first side does, where it is 0 where the second does, of which the other does
--- not come by. It is no further from the run before both than the sides are from where they began, and costs no more than that and the choice whether a jump was made.
+-- A run is made of those of two sides, by a condition: where it is 1 it stands where the first side does, where it is 0 where the second does, of which the
+-- other does not come by. It is no further from the run before both than the sides are from where they began, and costs no more than that and the choice
+-- whether a jump was made.
 pub record IsMerged (old new : List TermNode) (condition : ℕ) (before : Run) (one other : ℕ) (a b s : Run) : Type 0 where
-  pub grew : Grew old new (1 + side_bits before one a + side_bits before other b) 0 0 (differing_memory before.names a.names + differing_memory before.names b.names)
+  pub grew : Grew old new (1 + side_bits before one a + side_bits before other b) 0 0
+      (differing_memory before.names a.names + differing_memory before.names b.names)
       (2 + 2 * (side_terms before one a + side_terms before other b))
   pub inputs : InputsFrom old new (λ m. ⊥)
   pub run : IsRun new s
@@ -79,5 +83,7 @@ pub record IsMerged (old new : List TermNode) (condition : ℕ) (before : Run) (
   pub terms : side_terms before before.live.0 s ≤ side_terms before one a + side_terms before other b
   pub memory : differing_memory before.names s.names ≤ differing_memory before.names a.names + differing_memory before.names b.names
   pub live : (x : TermReading) → InRange x → term_word x new s.live.0 ≡ bit_or (term_word x old a.live.0) (term_word x old b.live.0)
-  pub when_true : (x : TermReading) → InRange x → term_word x old condition ≡ 1 → (p : Position) → Stands old x a p → term_word x new s.live.0 ≡ 1 → Stands new x s p
-  pub when_false : (x : TermReading) → InRange x → term_word x old condition ≡ 0 → (p : Position) → Stands old x b p → term_word x new s.live.0 ≡ 1 → Stands new x s p
+  pub when_true : (x : TermReading) → InRange x → term_word x old condition ≡ 1 → (p : Position) → Stands old x a p → term_word x new s.live.0 ≡ 1 →
+      Stands new x s p
+  pub when_false : (x : TermReading) → InRange x → term_word x old condition ≡ 0 → (p : Position) → Stands old x b p → term_word x new s.live.0 ≡ 1 →
+      Stands new x s p

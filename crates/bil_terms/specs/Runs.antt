@@ -63,8 +63,8 @@ bits_apart r s = differing_bits r.names s.names + 32 * differs r.target.0 s.targ
 abbrev pub terms_apart : Run → Run → ℕ
 terms_apart r s = differing_terms r.names s.names + differs r.target.0 s.target.0 + differs r.live.0 s.live.0
 
--- A list leads from a run to another: under each reading in range, where the run stands at a position before the list, it comes to the list's end, and stores what
--- the list stores; where it does not come by, it does not do so behind the list, and stores nothing.
+-- A list leads from a run to another: under each reading in range, where the run stands at a position before the list, it comes to the list's end, and stores
+-- what the list stores; where it does not come by, it does not do so behind the list, and stores nothing.
 pub record IsLed (old new : List TermNode) (place : ℕ) (r s : Run) (before after : List Stored) (list : Statements) : Type 0 where
   pub grew : Grew old new (list_gates list) (byte_loads list) (byte_stores list) (list_joins list) (list_nodes list)
   pub inputs : InputsFrom old new (λ m. (m ≡ ChoiceNode place) × (1 ≤ unknowns list))

@@ -54,7 +54,8 @@ pub fn assign_flag(
     requires checked { IsChecked (expression value.now) (bil.Bits 1) (is_variable_of (form_of run.old.names)) }
     requires steady { IsSteady (expression value.now) }
     requires run { IsRun dag.old run.old }
-    ensures { IfOk result (λ u. IsLed dag.old dag.new place run.old run.new stored.old.items stored.new.items (bil.Assign (bil.Flag number) (expression value.now) bil.Empty)) }
+    ensures { IfOk result (λ u. IsLed dag.old dag.new place run.old run.new stored.old.items stored.new.items
+        (bil.Assign (bil.Flag number) (expression value.now) bil.Empty)) }
 {
     let mut locals = Vec::new(alloc);
     let term = word_term(value, dag, &run.names, &mut locals, place, run.live, stored)?;
@@ -74,7 +75,8 @@ pub fn assign_memory(
     requires checked { IsChecked (expression value.now) bil.Memory (is_variable_of (form_of run.old.names)) }
     requires steady { IsSteady (expression value.now) }
     requires run { IsRun dag.old run.old }
-    ensures { IfOk result (λ u. IsLed dag.old dag.new place run.old run.new stored.old.items stored.new.items (bil.Assign bil.Mem (expression value.now) bil.Empty)) }
+    ensures { IfOk result (λ u. IsLed dag.old dag.new place run.old run.new stored.old.items stored.new.items
+        (bil.Assign bil.Mem (expression value.now) bil.Empty)) }
 {
     let mut locals = Vec::new(alloc);
     let term = memory_term(value, dag, &run.names, &mut locals, place, run.live, stored)?;

@@ -114,8 +114,8 @@ fn is_big(order: Endian) -> bool
     }
 }
 
-/// The term of a word, in a state that the names and the locals have terms for; its unknowns are the choice of the point at the place. What it stores is put behind what
-/// is stored, under the guard `live`. The error is want of memory.
+/// The term of a word, in a state that the names and the locals have terms for; its unknowns are the choice of the point at the place. What it stores is put
+/// behind what is stored, under the guard `live`. The error is want of memory.
 #[cycle(terms)]
 pub fn word_term(
     e: &Exp,
@@ -129,7 +129,8 @@ pub fn word_term(
     requires checked { IsWord (expression e.now) (known names.now locals.old.items) }
     requires steady { IsSteady (expression e.now) }
     requires scope { IsScope dag.old names.now locals.old.items live.0 }
-    ensures term { IfOk result (λ t. IsWordTerm dag.old dag.new names.now locals.old.items place live.0 stored.old.items stored.new.items (expression e.now) t.0) }
+    ensures term { IfOk result (λ t. IsWordTerm dag.old dag.new names.now locals.old.items place live.0 stored.old.items stored.new.items
+        (expression e.now) t.0) }
     ensures locals { IfOk result (λ t. locals.new.items ≡ locals.old.items) }
 {
     match e {
@@ -253,7 +254,8 @@ pub fn memory_term(
     requires checked { IsMemory (expression e.now) (known names.now locals.old.items) }
     requires steady { IsSteady (expression e.now) }
     requires scope { IsScope dag.old names.now locals.old.items live.0 }
-    ensures term { IfOk result (λ t. IsMemoryTerm dag.old dag.new names.now locals.old.items place live.0 stored.old.items stored.new.items (expression e.now) t.0) }
+    ensures term { IfOk result (λ t. IsMemoryTerm dag.old dag.new names.now locals.old.items place live.0 stored.old.items stored.new.items
+        (expression e.now) t.0) }
     ensures locals { IfOk result (λ t. locals.new.items ≡ locals.old.items) }
 {
     match e {

@@ -63,7 +63,8 @@ fn begin(alloc: Global, dag: &mut Dag, names: &Names) -> Result<Begun, AllocErro
     })
 }
 
-/// A list of statements as terms, over the terms of what it begins with, at a place of the unrolled program, whose choice its unknowns are. The error is want of memory.
+/// A list of statements as terms, over the terms of what it begins with, at a place of the unrolled program, whose choice its unknowns are. The error is want
+/// of memory.
 pub fn run_list(
     alloc: Global,
     dag: &mut Dag,

@@ -35,7 +35,8 @@ fn assign(
     requires checked { IsChecked (expression value.now) (bil.type_of (variable_of variable)) (is_variable_of (form_of run.old.names)) }
     requires steady { IsSteady (expression value.now) }
     requires run { IsRun dag.old run.old }
-    ensures { IfOk result (λ u. IsLed dag.old dag.new place run.old run.new stored.old.items stored.new.items (bil.Assign (variable_of variable) (expression value.now) bil.Empty)) }
+    ensures { IfOk result (λ u. IsLed dag.old dag.new place run.old run.new stored.old.items stored.new.items
+        (bil.Assign (variable_of variable) (expression value.now) bil.Empty)) }
 {
     match variable {
         Var::Register(_, number) => {

@@ -54,7 +54,8 @@ pub list_third : (p s r : ℕ) (list : Statements) →
 list_third p s r list = list_alike list (min (min (min (p + 1) (2 ^ 64 - 1) + s) (2 ^ 64 - 1) + r) (2 ^ 64 - 1)) (p + 1 + s + r) (omega arith)
 
 -- faults before the rest's
-before : (a b c d rest : Option TypeFault) → or_fault a (or_fault b (or_fault c (or_fault d rest))) ≡ or_fault (or_fault a (or_fault b (or_fault c (or_fault d None)))) rest
+before : (a b c d rest : Option TypeFault) → or_fault a (or_fault b (or_fault c (or_fault d rest)))
+    ≡ or_fault (or_fault a (or_fault b (or_fault c (or_fault d None)))) rest
 before (Some f) b c d rest = refl
 before None (Some f) c d rest = refl
 before None None (Some f) d rest = refl

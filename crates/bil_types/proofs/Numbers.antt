@@ -58,7 +58,8 @@ alike (Load m a e n) p q h =
     (alike m (p + 1) (q + 1) (further p q 1 h))
     (alike a (p + 1 + size m) (q + 1 + size m) (further (p + 1) (q + 1) (size m) (further p q 1 h)))
 alike (Store m a e n w) p q h =
-    each (λ v x y z. of_operand x (λ t. of_operand y (λ u. of_operand z (λ w. memory v t (bits v 32 u (bits v n w (fit v (is_load_width n) t (Has Memory)))))))) _ _ _ _ _ _ _ _ h
+    each (λ v x y z. of_operand x (λ t. of_operand y (λ u. of_operand z
+    (λ w. memory v t (bits v 32 u (bits v n w (fit v (is_load_width n) t (Has Memory)))))))) _ _ _ _ _ _ _ _ h
     (alike m (p + 1) (q + 1) (further p q 1 h))
     (alike a (p + 1 + size m) (q + 1 + size m) (further (p + 1) (q + 1) (size m) (further p q 1 h)))
     (alike w (p + 1 + size m + size a) (q + 1 + size m + size a)
@@ -69,7 +70,8 @@ alike (Binary o a b) p q h =
     (alike b (p + 1 + size a) (q + 1 + size a) (further (p + 1) (q + 1) (size a) (further p q 1 h)))
 alike (Unary o a) p q h = one (λ v x. of_operand x (λ t. word v t (λ n. Has (Bits n)))) _ _ _ _ h (alike a (p + 1) (q + 1) (further p q 1 h))
 alike (Cast k m a) p q h =
-    one (λ v x. of_operand x (λ t. word v t (λ n. fit v (cast_fits k m n && is_width m) t (Has (Bits m))))) _ _ _ _ h (alike a (p + 1) (q + 1) (further p q 1 h))
+    one (λ v x. of_operand x (λ t. word v t (λ n. fit v (cast_fits k m n && is_width m) t (Has (Bits m))))) _ _ _ _ h
+    (alike a (p + 1) (q + 1) (further p q 1 h))
 alike (Let x n a b) p q h =
     two (λ v x y. of_operand x (λ t. of_operand y (λ u. bits v n t (Has u)))) _ _ _ _ _ _ h
     (alike a (p + 1) (q + 1) (further p q 1 h))

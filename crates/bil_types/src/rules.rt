@@ -123,7 +123,8 @@ pub(crate) fn load_type(
     address: BilType,
     width: Width,
 ) -> Result<BilType, TypeFault>
-    ensures { typed_of result ≡ asks_memory place (bil_type_of memory) (asks_bits place 32 (bil_type_of address) (asks_fit place (is_load_width width.bits) (bil_type_of memory) (Has (Bits width.bits)))) }
+    ensures { typed_of result ≡ asks_memory place (bil_type_of memory)
+        (asks_bits place 32 (bil_type_of address) (asks_fit place (is_load_width width.bits) (bil_type_of memory) (Has (Bits width.bits)))) }
 {
     ask_access(place, memory, address)?;
     ask_fit(place, has_whole_bytes(width), memory)?;
@@ -138,7 +139,9 @@ pub(crate) fn store_type(
     width: Width,
     value: BilType,
 ) -> Result<BilType, TypeFault>
-    ensures { typed_of result ≡ asks_memory place (bil_type_of memory) (asks_bits place 32 (bil_type_of address) (asks_bits place width.bits (bil_type_of value) (asks_fit place (is_load_width width.bits) (bil_type_of memory) (Has bil.Memory)))) }
+    ensures { typed_of result ≡ asks_memory place (bil_type_of memory)
+        (asks_bits place 32 (bil_type_of address) (asks_bits place width.bits (bil_type_of value)
+        (asks_fit place (is_load_width width.bits) (bil_type_of memory) (Has bil.Memory)))) }
 {
     ask_access(place, memory, address)?;
     ask_bits(place, width, value)?;
@@ -200,7 +203,8 @@ pub(crate) fn cast_type(
     to: Width,
     word: BilType,
 ) -> Result<BilType, TypeFault>
-    ensures { typed_of result ≡ asks_any place (bil_type_of word) (λ n. asks_fit place (cast_fits (cast_of kind) to.bits n && is_width to.bits) (bil_type_of word) (Has (Bits to.bits))) }
+    ensures { typed_of result ≡ asks_any place (bil_type_of word) (λ n. asks_fit place (cast_fits (cast_of kind) to.bits n &&
+        is_width to.bits) (bil_type_of word) (Has (Bits to.bits))) }
 {
     let from = ask_any(place, word)?;
     ask_fit(place, can_cast(kind, to, from), word)?;
@@ -241,7 +245,8 @@ pub(crate) fn choice_type(
     when_true: BilType,
     when_false: BilType,
 ) -> Result<BilType, TypeFault>
-    ensures { typed_of result ≡ asks_bits place 1 (bil_type_of condition) (asks_type place (bil_type_of when_true) (bil_type_of when_false) (Has (bil_type_of when_true))) }
+    ensures { typed_of result ≡ asks_bits place 1 (bil_type_of condition)
+        (asks_type place (bil_type_of when_true) (bil_type_of when_false) (Has (bil_type_of when_true))) }
 {
     ask_bits(place, Width::new(1), condition)?;
     ask_type(place, when_true, when_false)?;
@@ -250,7 +255,8 @@ pub(crate) fn choice_type(
 
 /// The type of bits from `hi` down to `lo`.
 pub(crate) fn extract_type(place: u64, hi: u8, lo: u8, word: BilType) -> Result<BilType, TypeFault>
-    ensures { typed_of result ≡ asks_any place (bil_type_of word) (λ n. asks_fit place (nat_le lo hi && nat_lt hi n) (bil_type_of word) (Has (Bits (hi - lo + 1)))) }
+    ensures { typed_of result ≡ asks_any place (bil_type_of word) (λ n. asks_fit place (nat_le lo hi &&
+        nat_lt hi n) (bil_type_of word) (Has (Bits (hi - lo + 1)))) }
 {
     let width = ask_any(place, word)?;
     if lo <= hi && hi < width.bits {
@@ -266,7 +272,8 @@ pub(crate) fn extract_type(place: u64, hi: u8, lo: u8, word: BilType) -> Result<
 
 /// The type of two words, one above the other.
 pub(crate) fn concat_type(place: u64, high: BilType, low: BilType) -> Result<BilType, TypeFault>
-    ensures { typed_of result ≡ asks_any place (bil_type_of high) (λ n. asks_any place (bil_type_of low) (λ m. asks_fit place (nat_le (n + m) 64) (bil_type_of high) (Has (Bits (n + m))))) }
+    ensures { typed_of result ≡ asks_any place (bil_type_of high)
+        (λ n. asks_any place (bil_type_of low) (λ m. asks_fit place (nat_le (n + m) 64) (bil_type_of high) (Has (Bits (n + m))))) }
 {
     let above = ask_any(place, high)?;
     let below = ask_any(place, low)?;

@@ -31,7 +31,8 @@ others_false-more h k i l (x ∷ xs) e =
     ])
     (others_false-more h k i l xs p.1)
 
-pub given-unit : (cs : List Clause) (given holds : Literal → Bool) (c : Clause) (l : Literal) → IsGiven cs given holds → Contains cs c → look_of holds c ≡ UnitOf l
+pub given-unit : (cs : List Clause) (given holds : Literal → Bool) (c : Clause) (l : Literal) → IsGiven cs given holds → Contains cs c →
+    look_of holds c ≡ UnitOf l
     → IsGiven cs given (added l holds)
 given-unit cs given holds c l g k u = λ s i d m p.
     let q = look-unit holds c l u in

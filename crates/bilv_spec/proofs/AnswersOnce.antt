@@ -15,7 +15,8 @@ use Rattle.bilv_spec.proofs.One.{one_verdict}
 absent_read : {Next : List ℕ → Answer → Type 0} {a : Answer} (s : Surroundings) (first name : List ℕ) → Some first ≡ Some name → s.held name ≡ Absent →
     AfterRead s first Next a → (a ≡ read_fault) × Rose (s.shelf_before name) (s.shelf_after name)
 absent_read s first name f e (read_failed rose is) = let same : first ≡ name = cc in (is, subst (λ n. Rose (s.shelf_before n) (s.shelf_after n)) same rose)
-absent_read s first name f e (was_read bytes agrees next) = let same : first ≡ name = cc in absurd (subst (λ h. Agrees h bytes) (ap (λ n. s.held n) same ∙ e) agrees)
+absent_read s first name f e (was_read bytes agrees next) = let same : first
+    ≡ name = cc in absurd (subst (λ h. Agrees h bytes) (ap (λ n. s.held n) same ∙ e) agrees)
 
 no_name : (n : List ℕ) → ◌≡◌ {A = Option (List ℕ)} None (Some n) → ⊥
 no_name n e = cc
@@ -90,8 +91,10 @@ image_refused : {Next : Answer → Type 0} {a : Answer} (file written : List ℕ
 image_refused file written r (elf_refused w h is) = is ∙ ap (plain_answer 4) (one_refusal file w written h r)
 image_refused file written r (elf_accepted h next) = absurd (not_accepted file written r h)
 
-elf_read : {Next : List ℕ → Answer → Type 0} {a : Answer} (s : Surroundings) (first name file written : List ℕ) → Some first ≡ Some name → s.held name ≡ Bytes file →
-    (¬ Rose (s.shelf_before name) (s.shelf_after name)) → IsElfRefused file written → AfterRead s first (λ bytes. AfterImage bytes (Next bytes)) a → a ≡ plain_answer 4 written
+elf_read : {Next : List ℕ → Answer → Type 0} {a : Answer} (s : Surroundings) (first name file written : List ℕ) → Some first ≡ Some name →
+    s.held name ≡ Bytes file →
+    (¬ Rose (s.shelf_before name) (s.shelf_after name)) → IsElfRefused file written → AfterRead s first (λ bytes. AfterImage bytes (Next bytes)) a →
+    a ≡ plain_answer 4 written
 elf_read s first name file written f e calm r (read_failed rose is) =
     let same : first ≡ name = cc in absurd (calm (subst (λ n. Rose (s.shelf_before n) (s.shelf_after n)) same rose))
 elf_read s first name file written f e calm r (was_read bytes agrees next) =

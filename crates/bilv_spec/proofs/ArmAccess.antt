@@ -57,7 +57,8 @@ skips_pc w false at h = refl
 -- SWI
 pub software_interrupt_lawful : (w : ℕ) → IsLawful (software_interrupt w)
 software_interrupt_lawful w =
-    conditional w (λ s c. Raises SoftwareInterrupt) (λ b s. None) (λ at. record { next = not (is_always w); direct = None; indirect = false; call = false }) (λ at. None)
+    conditional w (λ s c. Raises SoftwareInterrupt) (λ b s. None) (λ at. record { next = not (is_always w); direct = None; indirect = false; call = false })
+    (λ at. None)
     (record { row = 4096; loads = 0; stores = 0 }) none none none false
     (record { least = omega arith; most = omega arith; loads = omega arith; stores = omega arith })
     (fine_done w _ _ _ none false (λ s c is. record { kept = tt; raised = refl; ways = tt; states = tt }) (λ at h. rw h refl) (λ at h. refl) (λ s c. tt)
@@ -97,7 +98,12 @@ branch_lawful w =
     (λ s c f v h. branched_agree (is_linked w) w s f v) (λ h s c d. refl) (λ b s f v h. refl))
 
 -- costs are within their bounds
-swap_priced : (same byte : Bool) → IsPriced (record { row = 4096; loads = if same then 3 * (if byte then 1 else 4) else (if byte then 1 else 4); stores = if byte then 1 else 4 })
+swap_priced : (same byte : Bool) → IsPriced (record {
+  row = 4096;
+  loads = if same then 3 * (if byte then 1 else 4) else (if byte then 1 else 4);
+  stores =
+      if byte then 1 else 4;
+})
 swap_priced true true = record { least = omega arith; most = omega arith; loads = omega arith; stores = omega arith }
 swap_priced true false = record { least = omega arith; most = omega arith; loads = omega arith; stores = omega arith }
 swap_priced false true = record { least = omega arith; most = omega arith; loads = omega arith; stores = omega arith }
@@ -129,7 +135,12 @@ few_listed w r (suc n) = by_bit (has_bit r w) (few_listed w (r + 1) n)
 pub swap_lawful : (e : Endian) (w : ℕ) → IsLawful (swap e w)
 swap_lawful e w =
     conditional w (λ s c. swapped e w s) (λ b s. when_stored b (access_of (is_byte w) (reg s (field_n w)))) only_next (λ at. None)
-    (record { row = 4096; loads = if field_d w == field_m w then 3 * (if is_byte w then 1 else 4) else (if is_byte w then 1 else 4); stores = if is_byte w then 1 else 4 })
+    (record {
+      row = 4096;
+      loads = if field_d w == field_m w then 3 * (if is_byte w then 1 else 4) else (if is_byte w then 1 else 4);
+      stores = if is_byte w
+          then 1 else 4;
+    })
     none none none false (swap_priced (field_d w == field_m w) (is_byte w))
     (fine_done w _ (λ b s. when_stored b (access_of (is_byte w) (reg s (field_n w)))) only_next none false
     (λ s c is. record {
@@ -176,14 +187,16 @@ address_small w base offset p = below_if (is_pre w) _ _ (2 ^ 32) (moved_small w 
 
 transferred_fine : (load unaligned : Bool) (e : Endian) (w : ℕ) (s : State) (c : ℕ) → IsState s →
     unaligned ≡ ((field_d w == 15) && not (transfer_address w s % 4 == 0)) →
-    Fine s (transferred load e w s c) (when_stored (true && not load) (access_of (is_byte w) (transfer_address w s))) (may_write_pc w (load && (field_d w == 15)) s.pc)
+    Fine s (transferred load e w s c) (when_stored (true && not load) (access_of (is_byte w) (transfer_address w s))) (may_write_pc w (load &&
+    (field_d w == 15)) s.pc)
 transferred_fine true true e w s c is h = subst (λ (b : Bool). Fine s (loaded_by b e w s) None (may_write_pc w (field_d w == 15) s.pc)) h
     (record { kept = tt; raised = refl; ways = tt; states = tt })
 transferred_fine true false e w s c is h = subst (λ (b : Bool). Fine s (loaded_by b e w s) None (may_write_pc w (field_d w == 15) s.pc)) h
     (write_fine (field_d w == 15) w s (base_written w s (transfer_offset w s)) (field_d w) _ is (base_small w s (transfer_offset w s) is)
     (load_by_small (is_byte w) e s.mem (transfer_address w s) is.mem))
 transferred_fine false u e w s c is h = record {
-  kept = λ a lt out. store_by_keeps (is_byte w) e s.mem (transfer_address w s) _ a (address_small w _ (transfer_offset w s) (reg_small s (field_n w) is)) lt out;
+  kept = λ a lt out. store_by_keeps (is_byte w) e s.mem (transfer_address w s) _ a
+      (address_small w _ (transfer_offset w s) (reg_small s (field_n w) is)) lt out;
   raised = tt;
   ways = (refl, refl);
   states = record {
@@ -271,7 +284,8 @@ transfer_lawful e w =
     conditional w (transferred (is_load w) e w) (λ b s. when_stored (b && not (is_load w)) (access_of (is_byte w) (transfer_address w s)))
     (may_write_pc w (is_load w && (field_d w == 15))) (literal_address w)
     (record { row = 4096; loads = if is_load w then n else 0; stores = if is_load w then 0 else n }) reads none none (not (is_load w) && (field_d w == 15))
-    (access_priced (is_load w) 4096 (if is_byte w then 1 else 4) (if is_byte w then 1 else 4) (omega arith) (omega arith) (one_or_four (is_byte w)) (one_or_four (is_byte w)))
+    (access_priced (is_load w) 4096 (if is_byte w then 1 else 4) (if is_byte w then 1
+    else 4) (omega arith) (omega arith) (one_or_four (is_byte w)) (one_or_four (is_byte w)))
     (fine_done w (transferred (is_load w) e w) (λ b s. when_stored (b && not (is_load w)) (access_of (is_byte w) (transfer_address w s)))
     (may_write_pc w (is_load w && (field_d w == 15))) reads (not (is_load w) && (field_d w == 15))
     (λ s c is. transferred_fine (is_load w) _ e w s c is refl)
@@ -284,7 +298,8 @@ halfword_value_small : (e : Endian) (w : ℕ) (m : Memory) (a : ℕ) → ((i : �
 halfword_value_small e w m a h =
     let two = load_2 e m a h in let one = load_1 e m a h in
     below_if (kind_of w == 1) _ _ (2 ^ 32) (omega arith)
-    (below_if (kind_of w == 2) _ _ (2 ^ 32) (sign_extend_below 8 32 (load e 1 m a) one (omega arith)) (sign_extend_below 16 32 (load e 2 m a) two (omega arith)))
+    (below_if (kind_of w == 2) _ _ (2 ^ 32) (sign_extend_below 8 32 (load e 1 m a) one (omega arith))
+    (sign_extend_below 16 32 (load e 2 m a) two (omega arith)))
 
 halfword_small : (w : ℕ) (s : State) → IsState s → halfword_address w s < 2 ^ 32
 halfword_small w s is = address_small w (reg s (field_n w)) (halfword_offset w s) (reg_small s (field_n w) is)
@@ -310,7 +325,8 @@ halfword_fine true true e w s is h two = record {
 halfword_fine true false e w s is h two =
     let q : (halfword_address w s % 2 == 0) ≡ true = subst (λ (z : ℕ). (halfword_address w s % z == 0) ≡ true) (two refl) (sym h) in
     record {
-      kept = λ a lt out. untouched e 2 (halfword_address w s) _ a s.mem (outside 2 (halfword_address w s) a (halfword_small w s is) lt (λ inside. out (rw q inside)));
+      kept = λ a lt out. untouched e 2 (halfword_address w s) _ a s.mem (outside 2 (halfword_address w s) a (halfword_small w s is) lt
+          (λ inside. out (rw q inside)));
       raised = tt;
       ways = (refl, refl);
       states = record {
@@ -335,10 +351,12 @@ halfword_agree true false e w s f v = (refl, agrees _ _ f v refl refl refl refl)
 -- only halfwords are stored
 pub halfword_lawful : (e : Endian) (w : ℕ) → (is_load w ≡ false → halfword_size w ≡ 2) → IsLawful (halfword e w)
 halfword_lawful e w two =
-    conditional w (λ s c. halfword_done e w s) (λ b s. when_stored (b && not (is_load w) && (halfword_address w s % 2 == 0)) (halfword_address w s, 2)) only_next (λ at. None)
+    conditional w (λ s c. halfword_done e w s) (λ b s. when_stored (b && not (is_load w) &&
+    (halfword_address w s % 2 == 0)) (halfword_address w s, 2)) only_next (λ at. None)
     (record { row = 4096; loads = if is_load w then halfword_size w else 0; stores = if is_load w then 0 else 2 }) none none none false
     (access_priced (is_load w) 4096 (halfword_size w) 2 (omega arith) (omega arith) (one_or_two (kind_of w == 2)) (omega arith))
-    (fine_done w (λ s c. halfword_done e w s) (λ b s. when_stored (b && not (is_load w) && (halfword_address w s % 2 == 0)) (halfword_address w s, 2)) only_next none false
+    (fine_done w (λ s c. halfword_done e w s) (λ b s. when_stored (b && not (is_load w) &&
+    (halfword_address w s % 2 == 0)) (halfword_address w s, 2)) only_next none false
     (λ s c is. halfword_fine _ (is_load w) e w s is refl two) (λ at h. refl) (λ at h. refl) (λ s c. halfword_flags _ (is_load w) e w s)
     (λ s c f v h. halfword_agree _ (is_load w) e w s f v) (λ h s c d. refl) (λ b s f v h. refl))
 
@@ -412,7 +430,8 @@ block_loaded_agree : (pc : Bool) (e : Endian) (w : ℕ) (s : State) (f v : ℕ) 
 block_loaded_agree true e w s f v = (refl, agrees _ _ f v refl refl refl refl)
 block_loaded_agree false e w s f v = (refl, agrees _ _ f v refl refl refl refl)
 
-block_agree : (load : Bool) (e : Endian) (w : ℕ) (s : State) (c f v : ℕ) → OutcomesAgreeBut f (block_done load e w s c) (block_done load e w (with_flag s f v) c)
+block_agree : (load : Bool) (e : Endian) (w : ℕ) (s : State) (c f v : ℕ) →
+    OutcomesAgreeBut f (block_done load e w s c) (block_done load e w (with_flag s f v) c)
 block_agree true e w s c f v = block_loaded_agree (has_bit 15 w) e w s f v
 block_agree false e w s c f v = (refl, agrees _ _ f v refl refl (store_all_agree e s c f v (block_start w s) (listed w) s.mem) refl)
 
@@ -425,8 +444,10 @@ listed_draws e w s c d r (suc n) a m h = by_bit (has_bit r w) refl (λ b u. list
     not_15 : has_bit r w ≡ true → r ≡ 15 → ⊥
     not_15 t same = let u = subst (λ (z : ℕ). has_bit z w ≡ true) same t in cc
 
-    by_bit : (b : Bool) → has_bit r w ≡ b → ((b : ℕ) (u : Memory) → store_all e s c b (listed_from w (r + 1) n) u ≡ store_all e s d b (listed_from w (r + 1) n) u) →
-        store_all e s c a (if b then r ∷ listed_from w (r + 1) n else listed_from w (r + 1) n) m ≡ store_all e s d a (if b then r ∷ listed_from w (r + 1) n else listed_from w (r + 1) n) m
+    by_bit : (b : Bool) → has_bit r w ≡ b → ((b : ℕ) (u : Memory) →
+        store_all e s c b (listed_from w (r + 1) n) u ≡ store_all e s d b (listed_from w (r + 1) n) u) →
+        store_all e s c a (if b then r ∷ listed_from w (r + 1) n else listed_from w (r + 1) n) m
+        ≡ store_all e s d a (if b then r ∷ listed_from w (r + 1) n else listed_from w (r + 1) n) m
     by_bit true t rest =
         ap (λ z. store_all e s c (add 32 a 4) (listed_from w (r + 1) n) (store e 4 m a z)) (stored_reg_same s c d r (ne_eqb r 15 (not_15 t)))
         ∙ rest (add 32 a 4) (store e 4 m a (stored_reg s d r))
@@ -442,7 +463,8 @@ block_lawful e w =
     let n = length (listed w) in
     conditional w (block_done (is_load w) e w) (λ b s. when_stored (b && not (is_load w)) (block_start w s, 4 * length (listed w)))
     (may_write_pc w (is_load w && has_bit 15 w)) (λ at. None)
-    (record { row = 4096 + 512 * n; loads = if is_load w then 4 * n else 0; stores = if is_load w then 0 else 4 * n }) none none none (not (is_load w) && has_bit 15 w)
+    (record { row = 4096 + 512 * n; loads = if is_load w then 4 * n else 0; stores = if is_load w then 0 else 4 * n }) none none none (not (is_load w) &&
+    has_bit 15 w)
     (let few = few_listed w 0 16 in access_priced (is_load w) (4096 + 512 * n) (4 * n) (4 * n) (omega arith) (omega arith) (omega arith) (omega arith))
     (fine_done w (block_done (is_load w) e w) (λ b s. when_stored (b && not (is_load w)) (block_start w s, 4 * length (listed w)))
     (may_write_pc w (is_load w && has_bit 15 w)) none (not (is_load w) && has_bit 15 w)

@@ -57,7 +57,8 @@ number_carry (suc (suc (suc (suc k)))) zero v c d h = refl
 rotated_carry : (w c d : ℕ) → (bits 11 8 w == 0) ≡ false → (rotated w c).carry ≡ (rotated w d).carry
 rotated_carry w c d h = rw h refl
 
-carry_same : (i b : Bool) (w : ℕ) (s : State) (c d : ℕ) → ((if i then bits 11 8 w == 0 else not b && (kind_of w == 0) && (amount_of w == 0)) || (not i && b)) ≡ false →
+carry_same : (i b : Bool) (w : ℕ) (s : State) (c d : ℕ) → ((if i then bits 11 8 w == 0 else not b && (kind_of w == 0) && (amount_of w == 0)) ||
+    (not i && b)) ≡ false →
     (operand_of i b w s c).carry ≡ (operand_of i b w s d).carry
 carry_same true b w s c d h = rotated_carry w c d (neither (bits 11 8 w == 0) false h).0
 carry_same false true w s c d h = cc
@@ -66,7 +67,8 @@ carry_same false false w s c d h = number_carry (kind_of w) (amount_of w) (reg s
 kept_number : (k n v c : ℕ) → ((k == 0) && (n == 0)) ≡ true → (by_number k n v c).carry ≡ c
 kept_number zero zero v c h = refl
 kept_number zero (suc n) v c h = let t : (suc n == 0) ≡ false = ne_eqb (suc n) 0 (λ e. absurd (omega arith)) in cc
-kept_number (suc k) n v c h = let t : (suc k == 0) ≡ false = ne_eqb (suc k) 0 (λ e. absurd (omega arith)) in absurd (never (n == 0) (subst (λ (z : Bool). (z && (n == 0)) ≡ true) t h))
+kept_number (suc k) n v c h = let t : (suc k == 0) ≡ false = ne_eqb (suc k) 0 (λ e. absurd (omega arith))
+    in absurd (never (n == 0) (subst (λ (z : Bool). (z && (n == 0)) ≡ true) t h))
   where
     never : (b : Bool) → (false && b) ≡ true → ⊥
     never b e = cc
@@ -140,16 +142,34 @@ alike (suc (suc zero)) c d v u x o p lt e h = arithmetic 2 _ _ (ap (λ z. differ
 alike (suc (suc (suc zero))) c d v u x o p lt e h = arithmetic 3 _ _ (ap (λ z. difference z x 1) e)
 alike (suc (suc (suc (suc zero)))) c d v u x o p lt e h = arithmetic 4 _ _ (ap (λ z. sum x z 0) e)
 alike (suc (suc (suc (suc (suc zero))))) c d v u x o p lt e h = arithmetic 5 _ _ (ap (λ z. sum x z c) e ∙ ap (λ z. sum x p.value z) (h refl))
-alike (suc (suc (suc (suc (suc (suc zero)))))) c d v u x o p lt e h = arithmetic 6 _ _ (ap (λ z. difference x z c) e ∙ ap (λ z. difference x p.value z) (h refl))
-alike (suc (suc (suc (suc (suc (suc (suc zero))))))) c d v u x o p lt e h = arithmetic 7 _ _ (ap (λ z. difference z x c) e ∙ ap (λ z. difference p.value x z) (h refl))
+alike (suc (suc (suc (suc (suc (suc zero)))))) c d v u x o p lt e h = arithmetic 6 _ _ (ap (λ z. difference x z c) e ∙ ap
+    (λ z. difference x p.value z) (h refl))
+alike (suc (suc (suc (suc (suc (suc (suc zero))))))) c d v u x o p lt e h = arithmetic 7 _ _ (ap (λ z. difference z x c) e ∙ ap
+    (λ z. difference p.value x z) (h refl))
 alike (suc (suc (suc (suc (suc (suc (suc (suc zero)))))))) c d v u x o p lt e h = record { value = ap (λ z. bit_and x z) e; arithmetic = λ g. cc }
 alike (suc (suc (suc (suc (suc (suc (suc (suc (suc zero))))))))) c d v u x o p lt e h = record { value = ap (λ z. bit_xor x z) e; arithmetic = λ g. cc }
 alike (suc (suc (suc (suc (suc (suc (suc (suc (suc (suc zero)))))))))) c d v u x o p lt e h = arithmetic 10 _ _ (ap (λ z. difference x z 1) e)
 alike (suc (suc (suc (suc (suc (suc (suc (suc (suc (suc (suc zero))))))))))) c d v u x o p lt e h = arithmetic 11 _ _ (ap (λ z. sum x z 0) e)
-alike (suc (suc (suc (suc (suc (suc (suc (suc (suc (suc (suc (suc zero)))))))))))) c d v u x o p lt e h = record { value = ap (λ z. bit_or x z) e; arithmetic = λ g. cc }
-alike (suc (suc (suc (suc (suc (suc (suc (suc (suc (suc (suc (suc (suc zero))))))))))))) c d v u x o p lt e h = record { value = ap (λ z. z) e; arithmetic = λ g. cc }
-alike (suc (suc (suc (suc (suc (suc (suc (suc (suc (suc (suc (suc (suc (suc zero)))))))))))))) c d v u x o p lt e h = record { value = ap (λ z. bit_and x (complement 32 z)) e; arithmetic = λ g. cc }
-alike (suc (suc (suc (suc (suc (suc (suc (suc (suc (suc (suc (suc (suc (suc (suc zero))))))))))))))) c d v u x o p lt e h = record { value = ap (λ z. complement 32 z) e; arithmetic = λ g. cc }
+alike (suc (suc (suc (suc (suc (suc (suc (suc (suc (suc (suc (suc zero)))))))))))) c d v u x o p lt e h = record {
+  value = ap (λ z. bit_or x z) e;
+  arithmetic =
+      λ g. cc;
+}
+alike (suc (suc (suc (suc (suc (suc (suc (suc (suc (suc (suc (suc (suc zero))))))))))))) c d v u x o p lt e h = record {
+  value = ap (λ z. z) e;
+  arithmetic =
+      λ g. cc;
+}
+alike (suc (suc (suc (suc (suc (suc (suc (suc (suc (suc (suc (suc (suc (suc zero)))))))))))))) c d v u x o p lt e h = record {
+  value = ap
+      (λ z. bit_and x (complement 32 z)) e;
+  arithmetic = λ g. cc;
+}
+alike (suc (suc (suc (suc (suc (suc (suc (suc (suc (suc (suc (suc (suc (suc (suc zero))))))))))))))) c d v u x o p lt e h = record {
+  value = ap
+      (λ z. complement 32 z) e;
+  arithmetic = λ g. cc;
+}
 alike (suc (suc (suc (suc (suc (suc (suc (suc (suc (suc (suc (suc (suc (suc (suc (suc k)))))))))))))))) c d v u x o p lt e h = absurd (omega arith)
 
 logical_flags : (k c v x : ℕ) (o : Shifted) → k < 16 → keeps_overflow k ≡ true → ((result_of k c v x o).carry ≡ o.carry) × ((result_of k c v x o).overflow ≡ v)
@@ -190,8 +210,10 @@ result_small (suc (suc (suc (suc (suc (suc (suc (suc (suc (suc zero)))))))))) c 
 result_small (suc (suc (suc (suc (suc (suc (suc (suc (suc (suc (suc zero))))))))))) c v x o lt p q r t = sum_small x o.value 0
 result_small (suc (suc (suc (suc (suc (suc (suc (suc (suc (suc (suc (suc zero)))))))))))) c v x o lt p q r t = (or_lt 32 x o.value p q, r, t)
 result_small (suc (suc (suc (suc (suc (suc (suc (suc (suc (suc (suc (suc (suc zero))))))))))))) c v x o lt p q r t = (q, r, t)
-result_small (suc (suc (suc (suc (suc (suc (suc (suc (suc (suc (suc (suc (suc (suc zero)))))))))))))) c v x o lt p q r t = (and_below 32 x (complement 32 o.value) p, r, t)
-result_small (suc (suc (suc (suc (suc (suc (suc (suc (suc (suc (suc (suc (suc (suc (suc zero))))))))))))))) c v x o lt p q r t = (complement_below 32 o.value, r, t)
+result_small (suc (suc (suc (suc (suc (suc (suc (suc (suc (suc (suc (suc (suc (suc zero)))))))))))))) c v x o lt p q r t =
+    (and_below 32 x (complement 32 o.value) p, r, t)
+result_small (suc (suc (suc (suc (suc (suc (suc (suc (suc (suc (suc (suc (suc (suc (suc zero))))))))))))))) c v x o lt p q r t =
+    (complement_below 32 o.value, r, t)
 result_small (suc (suc (suc (suc (suc (suc (suc (suc (suc (suc (suc (suc (suc (suc (suc (suc k)))))))))))))))) c v x o lt p q r t = absurd (omega arith)
 
 -- the result in a state
@@ -288,12 +310,14 @@ computed_agree : (test : Bool) (w : ℕ) (s : State) (f v : ℕ) (r q : Result) 
 computed_agree test w s f v r q e hc hv = by_test test
   where
     flags : (k : ℕ) → (k ≡ f → ⊥) → flags_of w s r k ≡ flags_of w (with_flag s f v) q k
-    flags = flags_agree (sets_flags w) s.flags f v (bit_at 31 r.value) (bit (r.value == 0)) r.carry r.overflow (bit_at 31 q.value) (bit (q.value == 0)) q.carry q.overflow
+    flags = flags_agree (sets_flags w) s.flags f v (bit_at 31 r.value) (bit (r.value == 0)) r.carry r.overflow (bit_at 31 q.value)
+        (bit (q.value == 0)) q.carry q.overflow
         (λ o. ap (λ z. bit_at 31 z) e) (λ o. ap (λ z. bit (z == 0)) e) hc hv
 
     by_test : (b : Bool) → OutcomesAgreeBut f (computed_by b w s r) (computed_by b w (with_flag s f v) q)
     by_test true = (refl, record { pc = refl; regs = refl; flags = flags; mem = refl })
-    by_test false = write_agree (field_d w == 15) s (with_flag s f v) _ _ (field_d w) r.value q.value f refl (record { pc = refl; regs = refl; flags = flags; mem = refl }) e
+    by_test false = write_agree (field_d w == 15) s (with_flag s f v) _ _ (field_d w) r.value q.value f refl
+        (record { pc = refl; regs = refl; flags = flags; mem = refl }) e
 
 write_same : (pc : Bool) (s t new old : State) (r v u f : ℕ) → new.flags f ≡ old.flags f → HaveSameFlag f (write_by pc s new r v) (write_by pc t old r u)
 write_same true s t new old r v u f h = h
@@ -355,7 +379,8 @@ computed_small w s is =
     (result_small (opcode w) (s.flags 1) (s.flags 0) (reg s (field_n w)) _ (opcode_small w) (reg_small s (field_n w) is) o.0 o.1 (is.flags 0))
 
 unassigned_computed : (w : ℕ) (s : State) (f : ℕ) → f < 4 →
-    flag_set (sets_flags w) (sets_flags w && not (is_logical w && keeps_carry w)) (sets_flags w && not (is_logical w)) f ≡ false → flags_of w s (result_in w s) f ≡ s.flags f
+    flag_set (sets_flags w) (sets_flags w && not (is_logical w && keeps_carry w)) (sets_flags w && not (is_logical w)) f ≡ false →
+    flags_of w s (result_in w s) f ≡ s.flags f
 unassigned_computed w s f lt h =
     unassigned_flags (sets_flags w) (is_logical w) (keeps_carry w) s.flags _ _ (result_in w s).carry (result_in w s).overflow f lt h
     (λ e. let b = both (is_logical w) (keeps_carry w) e in
@@ -372,7 +397,8 @@ unread_computed w s f v h =
     computed_agree (is_test w) w s f v (result_in w s) (result_in w (with_flag s f v))
     (ap (λ (z : Result). z.value) x ∙ a.value ∙ sym (ap (λ (z : Result). z.value) y))
     (λ other. ap (λ (z : Result). z.carry) x
-    ∙ carry_by w s (s.flags 1) (put s.flags f v 1) (s.flags 0) (put s.flags f v 0) _ refl a (λ l. ap (λ z. (operand_at w s z).carry) (kept_flag s.flags f v 1 other))
+    ∙ carry_by w s (s.flags 1) (put s.flags f v 1) (s.flags 0) (put s.flags f v 0) _ refl a
+    (λ l. ap (λ z. (operand_at w s z).carry) (kept_flag s.flags f v 1 other))
     ∙ sym (ap (λ (z : Result). z.carry) y))
     (λ other. ap (λ (z : Result). z.overflow) x
     ∙ overflow_by w s (s.flags 1) (put s.flags f v 1) (s.flags 0) (put s.flags f v 0) _ refl a (λ l. kept_flag s.flags f v 0 other)
@@ -398,7 +424,8 @@ sure_computed w s f v lt h e =
 
 pub computing_lawful : (w : ℕ) → IsLawful (computing w)
 computing_lawful w =
-    conditional w (λ s c. computed w s) (λ b s. None) (may_write_pc w (not (is_test w) && (field_d w == 15))) (λ at. None) (record { row = 4096; loads = 0; stores = 0 })
+    conditional w (λ s c. computed w s) (λ b s. None) (may_write_pc w (not (is_test w) && (field_d w == 15)))
+    (λ at. None) (record { row = 4096; loads = 0; stores = 0 })
     (flag_set false (adds_carry w || is_rrx w) false)
     (flag_set (sets_flags w) (sets_flags w && not (is_logical w && keeps_carry w)) (sets_flags w && not (is_logical w)))
     (flag_set (sets_flags w) (sets_flags w && not (is_logical w && (keeps_carry w || by_a_register w))) (sets_flags w && not (is_logical w))) false
@@ -411,7 +438,8 @@ computing_lawful w =
       one_way = λ at h. refl;
       states = λ s c is.
           let r = computed_small w s is in
-          let flags = flags_if_small (sets_flags w) s.flags _ _ _ _ is.flags (bit_at_small 31 (result_in w s).value) (bit_below ((result_in w s).value == 0)) r.1 r.2 in
+          let flags = flags_if_small (sets_flags w) s.flags _ _ _ _ is.flags (bit_at_small 31 (result_in w s).value)
+          (bit_below ((result_in w s).value == 0)) r.1 r.2 in
           any_computed (is_test w) w s (result_in w s) (λ how new. IsState new)
           (record { pc = mod_word _; regs = is.regs; flags = flags; mem = is.mem })
           (record { pc = r.0; regs = is.regs; flags = flags; mem = is.mem })
@@ -421,7 +449,8 @@ computing_lawful w =
           any_computed (is_test w) w s (result_in w s) (λ how new. new.flags f ≡ s.flags f) e e e;
       unread = λ s c f v lt h. unread_computed w s f v h;
       sure = λ s c f v lt h surely. sure_computed w s f v lt h surely;
-      sure_flags = λ f surely. set_low (sets_flags w) (sets_flags w && not (is_logical w && (keeps_carry w || by_a_register w))) (sets_flags w && not (is_logical w)) f surely;
+      sure_flags = λ f surely. set_low (sets_flags w) (sets_flags w && not (is_logical w && (keeps_carry w || by_a_register w))) (sets_flags w &&
+          not (is_logical w)) f surely;
       draws = λ h s c d. refl;
       plain = λ f h b s. refl;
       stored_unread = λ b s f v h. refl;

@@ -113,7 +113,8 @@ agrees_when false false s f v x y e p = (refl, agrees _ _ f v refl refl refl ref
 agrees_when true false s f v x y e p = cc
 agrees_when false true s f v x y e p = cc
 
-same_when : (b d : Bool) (s : State) (f v : ℕ) (x y : Outcome) → b ≡ true → d ≡ true → HaveSameFlag f x y → HaveSameFlag f (when b s x) (when d (with_flag s f v) y)
+same_when : (b d : Bool) (s : State) (f v : ℕ) (x y : Outcome) → b ≡ true → d ≡ true → HaveSameFlag f x y →
+    HaveSameFlag f (when b s x) (when d (with_flag s f v) y)
 same_when true true s f v x y p q h = h
 same_when true false s f v x y p q h = cc
 same_when false d s f v x y p q h = cc
@@ -136,8 +137,10 @@ conditional w effect stored successors literal cost reads assigns surely draws p
   stored = λ s c is. goes_when (holds w s) s (effect s c)
       (λ b how new. (a : ℕ) → a < 2 ^ 32 → (Contains (addresses (stored b s)) a → ⊥) → new.mem a ≡ s.mem a) (h.kept s c is) (λ e a lt out. refl);
   raised = λ s c is. raises_when (holds w s) s (effect s c) (λ b. stored b s ≡ None) (h.raised s c is);
-  successors = λ s c is. goes_maps _ (λ how new. Way (successors s.pc) (add 32 s.pc 4) how new.pc) _ (λ how new g. allowed (successors s.pc) (add 32 s.pc 4) how new.pc g) (ways s c is);
-  next = λ s c is. goes_maps _ (λ how new. Way (successors s.pc) (add 32 s.pc 4) how new.pc) _ (λ how new g. comes (successors s.pc) (add 32 s.pc 4) how new.pc g) (ways s c is);
+  successors = λ s c is. goes_maps _ (λ how new. Way (successors s.pc) (add 32 s.pc 4) how new.pc) _
+      (λ how new g. allowed (successors s.pc) (add 32 s.pc 4) how new.pc g) (ways s c is);
+  next = λ s c is. goes_maps _ (λ how new. Way (successors s.pc) (add 32 s.pc 4) how new.pc) _
+      (λ how new g. comes (successors s.pc) (add 32 s.pc 4) how new.pc g) (ways s c is);
   one_way = h.one_way;
   states = λ s c is. goes_when (holds w s) s (effect s c) (λ b how new. IsState new) (h.states s c is)
       (λ e. record { pc = mod_small (s.pc + 4); regs = is.regs; flags = is.flags; mem = is.mem });
@@ -148,7 +151,8 @@ conditional w effect stored successors literal cost reads assigns surely draws p
   sure = λ s c f v lt no_use sure.
       let n = neither (condition_reads condition_flags (condition_code w) f) (reads f) no_use in
       let a = both (is_always w) (surely f) sure in
-      same_when (holds w s) (holds w (with_flag s f v)) s f v (effect s c) (effect (with_flag s f v) c) (always_holds w s a.0) (always_holds w (with_flag s f v) a.0)
+      same_when (holds w s) (holds w (with_flag s f v)) s f v (effect s c) (effect (with_flag s f v) c) (always_holds w s a.0)
+      (always_holds w (with_flag s f v) a.0)
       (h.sure s c f v lt n.1 a.1);
   sure_flags = λ f sure. h.sure_flags f (both (is_always w) (surely f) sure).1;
   draws = λ none s c d. ap (λ z. when (holds w s) s z) (h.draws none s c d);

@@ -29,7 +29,8 @@ set_by false false false n z b d p q r t = refl
 high_unset : (nz c v : Bool) (f : ℕ) → flag_set nz c v (suc (suc (suc (suc f)))) ≡ false
 high_unset nz c v f =
     let g = suc (suc (suc (suc f))) in
-    set_by nz c v (3 == g) (2 == g) (g == 1) (g == 0) (ne_eqb 3 g (λ e. omega arith)) (ne_eqb 2 g (λ e. omega arith)) (ne_eqb g 1 (λ e. omega arith)) (ne_eqb g 0 (λ e. omega arith))
+    set_by nz c v (3 == g) (2 == g) (g == 1) (g == 0) (ne_eqb 3 g (λ e. omega arith)) (ne_eqb 2 g (λ e. omega arith)) (ne_eqb g 1
+    (λ e. omega arith)) (ne_eqb g 0 (λ e. omega arith))
 
 pub set_low : (nz c v : Bool) (f : ℕ) → flag_set nz c v f ≡ true → f < 4
 set_low nz c v zero h = omega arith
@@ -57,7 +58,8 @@ put_agree f g at v u k p q = by_test (k == at) refl
     by_test false e = q
 
 -- two states' flags that are set are the same but for one, where what is set is the same but for it
-pub flags_agree : (sets : Bool) (g : ℕ → ℕ) (f x n z c v m y d u : ℕ) → ((3 ≡ f → ⊥) → n ≡ m) → ((2 ≡ f → ⊥) → z ≡ y) → ((1 ≡ f → ⊥) → c ≡ d) → ((0 ≡ f → ⊥) → v ≡ u) →
+pub flags_agree : (sets : Bool) (g : ℕ → ℕ) (f x n z c v m y d u : ℕ) → ((3 ≡ f → ⊥) → n ≡ m) → ((2 ≡ f → ⊥) → z ≡ y) → ((1 ≡ f → ⊥) → c ≡ d) →
+    ((0 ≡ f → ⊥) → v ≡ u) →
     (k : ℕ) → (k ≡ f → ⊥) → flags_if sets g n z c v k ≡ flags_if sets (put g f x) m y d u k
 flags_agree false g f x n z c v m y d u hn hz hc hv k other = kept_flag g f x k other
 flags_agree true g f x n z c v m y d u hn hz hc hv k other =
@@ -108,7 +110,8 @@ multiply_lawful w =
           pc = refl;
           regs = refl;
           mem = refl;
-          flags = flags_agree (sets_flags w) s.flags f v _ _ _ (s.flags 0) _ _ _ (put s.flags f v 0) (λ e. refl) (λ e. refl) (λ e. refl) (kept_flag s.flags f v 0);
+          flags = flags_agree (sets_flags w) s.flags f v _ _ _ (s.flags 0) _ _ _ (put s.flags f v 0) (λ e. refl) (λ e. refl)
+              (λ e. refl) (kept_flag s.flags f v 0);
         },
       );
       sure = λ s c f v lt h surely. mul_sure (sets_flags w) s.flags (put s.flags f v) _ _ (bit_at 0 c) (s.flags 0) (put s.flags f v 0) f lt surely;

@@ -98,7 +98,8 @@ pub store_all_keeps : (e : Endian) (s : State) (c a : ℕ) (rs : List ℕ) (m : 
 store_all_keeps e s c a [] m x p q l = refl
 store_all_keeps e s c a (r ∷ rs) m x p q l =
     let k : 4 + 4 * length rs ≤ sub 32 x a = omega arith in
-    store_all_keeps e s c (add 32 a 4) rs (store e 4 m a (stored_reg s c r)) x (mod_word _) q (omega arith) ∙ untouched e 4 a (stored_reg s c r) x m (omega arith)
+    store_all_keeps e s c (add 32 a 4) rs (store e 4 m a (stored_reg s c r)) x (mod_word _) q (omega arith) ∙ untouched e 4 a (stored_reg s c r) x m
+    (omega arith)
 
 pub with_flags_small : (f : ℕ → ℕ) (n z c v : ℕ) → ((k : ℕ) → f k < 2) → n < 2 → z < 2 → c < 2 → v < 2 → (k : ℕ) → with_flags f n z c v k < 2
 with_flags_small f n z c v h p q r t k = put_below _ 0 v 2 (put_below _ 1 c 2 (put_below _ 2 z 2 (put_below f 3 n 2 h p) q) r) t k

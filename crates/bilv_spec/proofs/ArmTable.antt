@@ -27,7 +27,13 @@ line_of w = place (bits 27 25 w) (bits 24 23 w) (bits 7 4 w)
 
 -- wider fields, by those
 fields : (w : ℕ) → (w / 8388608 ≡ w / 4194304 / 2) × (w / 16777216 ≡ w / 4194304 / 4) × (w / 33554432 ≡ w / 4194304 / 8) × (w / 67108864 ≡ w / 4194304 / 16)
-fields w = (sym (div-div-eq-div-mul w 4194304 2), sym (div-div-eq-div-mul w 4194304 4), sym (div-div-eq-div-mul w 4194304 8), sym (div-div-eq-div-mul w 4194304 16))
+fields w = (
+  sym (div-div-eq-div-mul w 4194304 2),
+  sym (div-div-eq-div-mul w 4194304 4),
+  sym (div-div-eq-div-mul w 4194304 8),
+  sym
+      (div-div-eq-div-mul w 4194304 16),
+)
 
 low_fields : (w : ℕ) → (w / 32 ≡ w / 16 / 2) × (w / 128 ≡ w / 16 / 8)
 low_fields w = (sym (div-div-eq-div-mul w 16 2), sym (div-div-eq-div-mul w 16 8))
@@ -160,7 +166,8 @@ unfolding table Tells
 table_tells e w =
     (computing w, (multiply w, (multiply_long w, (swap w, (transfer w, (halfword w, (block w, (branch w, (interrupt w, tt)))))))))
 
-pub one_row : (e : Endian) (w i j : ℕ) (a b : Instruction) → slice_get (table e) i ≡ Some a → slice_get (table e) j ≡ Some b → a.is w ≡ true → b.is w ≡ true → i ≡ j
+pub one_row : (e : Endian) (w i j : ℕ) (a b : Instruction) → slice_get (table e) i ≡ Some a → slice_get (table e) j ≡ Some b → a.is w ≡ true → b.is w ≡ true →
+    i ≡ j
 one_row e w i j a b p q h k =
     let x = told (table e) w 0 i a (table_tells e w) p h in
     let y = told (table e) w 0 j b (table_tells e w) q k in omega arith

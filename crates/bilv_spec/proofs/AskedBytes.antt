@@ -17,7 +17,8 @@ known p s is a c low e k =
     let k' : (kept c || fixed p.notes.fixed a) ≡ true = rw e at k in
     elim (either (kept c) (fixed p.notes.fixed a) k') [ inl t ↦ is.kept_bytes a c low e t | inr t ↦ is.fixed_bytes a c low e t ]
 
-pub entry_over : (p : Program) (asked : ℕ → Bool) (s : State) → ((a : ℕ) → asked a ≡ true → is_known_at p a ≡ true) → IsEntryState p s → IsEntryStateOver p asked s
+pub entry_over : (p : Program) (asked : ℕ → Bool) (s : State) → ((a : ℕ) → asked a ≡ true → is_known_at p a ≡ true) → IsEntryState p s →
+    IsEntryStateOver p asked s
 entry_over p asked s asks is = record {
   state = is.state;
   pc = is.pc;

@@ -111,14 +111,16 @@ division_by_zero : udiv 8 7 0 ∷ sdiv 8 7 0 ∷ urem 8 7 0 ∷ srem 8 0xf9 0 �
 division_by_zero = refl
 
 -- -7 by 2 is -3, its remainder -1; 7 by -2 leaves 1; the least number by -1 wraps
-signed_division : sdiv 8 0xf9 2 ∷ srem 8 0xf9 2 ∷ sdiv 8 7 0xfe ∷ srem 8 7 0xfe ∷ sdiv 8 0x80 0xff ∷ srem 8 0x80 0xff ∷ [] ≡ 0xfd ∷ 0xff ∷ 0xfd ∷ 1 ∷ 0x80 ∷ 0 ∷ []
+signed_division : sdiv 8 0xf9 2 ∷ srem 8 0xf9 2 ∷ sdiv 8 7 0xfe ∷ srem 8 7 0xfe ∷ sdiv 8 0x80 0xff ∷ srem 8 0x80 0xff ∷ [] ≡ 0xfd ∷ 0xff ∷ 0xfd ∷ 1 ∷ 0x80 ∷ 0
+    ∷ []
 signed_division = refl
 
 -- amounts at or above the width give all fill
 overlong_shifts : shl 8 0x81 8 ∷ shr 8 0x81 9 ∷ sar 8 0x81 200 ∷ sar 8 0x41 8 ∷ sar 8 0x81 1 ∷ [] ≡ 0 ∷ 0 ∷ 0xff ∷ 0 ∷ 0xc0 ∷ []
 overlong_shifts = refl
 
-signed_operators : evaluate (Binary ShiftSigned (Constant 8 0x81) (Constant 8 9)) 0 (env 0) ∷ evaluate (Binary SignedModulo (Constant 8 0xf9) (Constant 8 2)) 0 (env 0)
+signed_operators : evaluate (Binary ShiftSigned (Constant 8 0x81) (Constant 8 9)) 0 (env 0)
+    ∷ evaluate (Binary SignedModulo (Constant 8 0xf9) (Constant 8 2)) 0 (env 0)
     ∷ evaluate (Binary Divide (Constant 8 7) (Constant 8 0)) 0 (env 0) ∷ [] ≡ Word 8 0xff ∷ Word 8 0xff ∷ Word 8 0xff ∷ []
 signed_operators = refl
 
@@ -156,7 +158,8 @@ abbrev byte : Expression
 byte = Load (Var Mem) (sum 32) Little 8
 
 operands : texts (Binary Plus byte (Constant 8 0) ∷ Unary Not (sum 32) ∷ Concat (Cast Low 8 (sum 32)) (Extract 3 0 (Var x10)) ∷ Unknown (Bits 1) ∷
-    Choose (Unknown (Bits 1)) (sum 32) (Var x10) ∷ Let 2 8 byte (Var (Local 2 8)) ∷ Load (Store (Var Mem) (Var x10) Big 8 (Constant 8 0xff)) (Var x10) Big 8 ∷ []) ≡
+    Choose (Unknown (Bits 1)) (sum 32) (Var x10) ∷ Let 2 8 byte (Var (Local 2 8)) ∷ Load (Store (Var Mem) (Var x10) Big 8 (Constant 8 0xff)) (Var x10) Big 8
+    ∷ []) ≡
     codes "mem[x10 + 0x1:32, el]:8 + 0x0:8" ∷ codes "~(x10 + 0x1:32)" ∷ codes "low:8[x10 + 0x1:32] @ extract:3:0[x10]" ∷ codes "unknown[imm<1>]:1" ∷
     codes "if unknown[imm<1>]:1 then (x10 + 0x1:32) else x10" ∷ codes "let v2_8 = mem[x10 + 0x1:32, el]:8 in v2_8" ∷
     codes "(mem with [x10, be]:8 <- 0xff:8)[x10, be]:8" ∷ []

@@ -135,7 +135,8 @@ pub below_if : (b : Bool) (x y m : ℕ) → x < m → y < m → (if b then x els
 below_if true x y m p q = p
 below_if false x y m p q = q
 
-pub local_if : (b k : Bool) (t : BilType) (u w : Value) → (b ≡ true → IsOfType t u) → (k ≡ true → IsOfType t w) → (b || k) ≡ true → IsOfType t (if b then u else w)
+pub local_if : (b k : Bool) (t : BilType) (u w : Value) → (b ≡ true → IsOfType t u) → (k ≡ true → IsOfType t w) → (b || k) ≡ true →
+    IsOfType t (if b then u else w)
 local_if true k t u w p q h = p refl
 local_if false k t u w p q h = q h
 
@@ -373,7 +374,8 @@ list_sound (Assign x e rest) at known c d b p h =
 list_sound (JumpTo e rest) at known c d b p h =
     let bs = both (names_only e known) (list_names_only rest known) b in
     let i = neither _ _ d in
-    goes_on known _ (execute rest c) (jumped_holds known (evaluate e c p.env) p h (sound e (at + 1) (Bits 32) known p.env c (wants_gave at (Bits 32) _ i.0) bs.0 h))
+    goes_on known _ (execute rest c) (jumped_holds known (evaluate e c p.env) p h
+    (sound e (at + 1) (Bits 32) known p.env c (wants_gave at (Bits 32) _ i.0) bs.0 h))
     (list_sound rest (at + 1 + size e) known c i.1 bs.1)
 list_sound (Raise n rest) at known c d b p h = h
 list_sound (Special t rest) at known c d b p h = list_sound rest _ known c d b p h

@@ -72,7 +72,8 @@ module _ (p : Program) (k : ℕ) (start : Start) where
         ∙ chosen most n turns m c l e)
     | inr f ↦ (let s : most ≡ n = grind (arith, nat_tests) in
         let at : m ≡ n = subst (Numbered n) e (numbered p k start n) in
-        ap (λ z. if_met (run p k start z) (point_of turns c) (choice_at most (point_of turns c))) s ∙ met_now n turns m c (choice_at most (point_of turns c)) e at)
+        ap (λ z. if_met (run p k start z) (point_of turns c) (choice_at most (point_of turns c))) s ∙ met_now n turns m c
+        (choice_at most (point_of turns c)) e at)
   ]
 
   not_going : (r : Run) (turns m : ℕ) (c : Place) → IsOver r → r ≡ Going turns m c → ⊥
@@ -116,7 +117,8 @@ module _ (p : Program) (lawful : HasLawfulRows p) (memory : ReadsMemory p) (k : 
       let e = ends_to p k r (start_of p k r) (follows p k r) TurnQuestion t.ends in
       (start_of p k r, its_start r t.choice t.entry, (e.0, e.1, e.2, same (start_of p k r) t.entry e.0 ∙ e.3))
 
-  its_reading : (start : Start) → IsStart p start → (question : Question) (steps : ℕ) → IsOver (run (by_file p) k start steps) → StartEndsBy p k start question →
+  its_reading : (start : Start) → IsStart p start → (question : Question) (steps : ℕ) → IsOver (run (by_file p) k start steps) →
+      StartEndsBy p k start question →
       IsSatisfiable p k question
   its_reading start is question steps over ends = (
     reading_of p k start steps,

@@ -44,12 +44,14 @@ module _ (p : Program) (k : ℕ) where
     passed : (n : ℕ) → Passed n (run (by_file p) k start n)
     unfolding run
     passed zero = omega arith
-    passed (suc n) = more n (run (by_file p) k start n) (one_more (by_file p) k start (run (by_file p) k start n)) (passed n) (all n) (one_later (by_file p) k start (run (by_file p) k start n))
+    passed (suc n) = more n (run (by_file p) k start n) (one_more (by_file p) k start (run (by_file p) k start n)) (passed n) (all n)
+        (one_later (by_file p) k start (run (by_file p) k start n))
 
     pub over_by_file : (steps : ℕ) × IsOver (run (by_file p) k start steps)
     over_by_file = (suc k * 4294967296, ended (run (by_file p) k start (suc k * 4294967296)) (passed (suc k * 4294967296)) (all (suc k * 4294967296)))
 
-pub runs_end : (p : Program) → HasLawfulRows p → ReadsMemory p → (k : ℕ) (start : Start) → IsEntryState p start.state → (steps : ℕ) × IsOver (run p k start steps)
+pub runs_end : (p : Program) → HasLawfulRows p → ReadsMemory p → (k : ℕ) (start : Start) → IsEntryState p start.state → (steps : ℕ) ×
+    IsOver (run p k start steps)
 runs_end p lawful memory k start is =
     let o = over_by_file p k lawful start is in
     (o.0, subst IsOver (sym (runs_by_file p lawful memory k start is o.0)) o.1)

@@ -56,7 +56,8 @@ all_kept_at p a i h l =
     let h3 = and_both (k 3) (list_all k []) h2.1 in
     by i l h0.0 h1.0 h2.0 h3.0
   where
-    by : (i : ℕ) → i < 4 → is_kept (p.loaded (add 32 a 0)) ≡ true → is_kept (p.loaded (add 32 a 1)) ≡ true → is_kept (p.loaded (add 32 a 2)) ≡ true → is_kept (p.loaded (add 32 a 3)) ≡ true →
+    by : (i : ℕ) → i < 4 → is_kept (p.loaded (add 32 a 0)) ≡ true → is_kept (p.loaded (add 32 a 1)) ≡ true → is_kept (p.loaded (add 32 a 2)) ≡ true →
+        is_kept (p.loaded (add 32 a 3)) ≡ true →
         is_kept (p.loaded (add 32 a i)) ≡ true
     by zero l a b c d = a
     by (suc zero) l a b c d = b
@@ -106,7 +107,8 @@ module _ (p : Program) (by_memory : (s : State) (a : ℕ) → p.word s a ≡ in_
   is_named_same row to = ap (list_any (nat_eq to)) (named_same row s.pc)
 
   module _ (entry : State) (row : Row) (new : State) where
-    return_same : (b : Bool) (top : ℕ) (below : List ℕ) → return_or b top below new (is_named p s row new.pc) ≡ return_or b top below new (is_named (by_file p) s row new.pc)
+    return_same : (b : Bool) (top : ℕ) (below : List ℕ) → return_or b top below new (is_named p s row new.pc)
+        ≡ return_or b top below new (is_named (by_file p) s row new.pc)
     return_same b top below = ap (return_or b top below new) (is_named_same row new.pc)
 
     exit_same : (b : Bool) → exit_or b p entry new (is_named p s row new.pc) ≡ exit_or b (by_file p) entry new (is_named (by_file p) s row new.pc)
@@ -121,15 +123,18 @@ module _ (p : Program) (by_memory : (s : State) (a : ℕ) → p.word s a ≡ in_
     transfer_same Indirect (top ∷ below) = return_same (new.pc == top) top below
     transfer_same IndirectCall stack = ap (λ z. allowed z (record { state = new; stack = add 32 s.pc row.length ∷ stack })) (is_named_same row new.pc)
 
-    aligned_same : (b : Bool) (how : How) (stack : List ℕ) → aligned_transfer b p entry row s stack how new ≡ aligned_transfer b (by_file p) entry row s stack how new
+    aligned_same : (b : Bool) (how : How) (stack : List ℕ) → aligned_transfer b p entry row s stack how new
+        ≡ aligned_transfer b (by_file p) entry row s stack how new
     aligned_same true how stack = transfer_same how stack
     aligned_same false how stack = refl
 
-    going_same : (writes : Bool) (how : How) (stack : List ℕ) → going_on writes p entry row s stack how new ≡ going_on writes (by_file p) entry row s stack how new
+    going_same : (writes : Bool) (how : How) (stack : List ℕ) →
+        going_on writes p entry row s stack how new ≡ going_on writes (by_file p) entry row s stack how new
     going_same true how stack = refl
     going_same false how stack = aligned_same (new.pc % 4 == 0) how stack
 
-  outcome_same : (entry : State) (row : Row) (stack : List ℕ) (writes : Bool) (o : Outcome) → after_row p entry row s stack writes o ≡ after_row (by_file p) entry row s stack writes o
+  outcome_same : (entry : State) (row : Row) (stack : List ℕ) (writes : Bool) (o : Outcome) →
+      after_row p entry row s stack writes o ≡ after_row (by_file p) entry row s stack writes o
   outcome_same entry row stack writes (Raises e) = refl
   outcome_same entry row stack writes (Goes how new) = going_same entry row new writes how stack
 
@@ -217,7 +222,8 @@ module _ (p : Program) (asked : ℕ → Bool) (row : Row) (entry old : State) (s
   going_in true how new e others ok = tt
   going_in false how new e others ok = aligned_in (Sound p asked) p entry row old new (agrees_on new e others, ok) (new.pc % 4 == 0) how stack
 
-  row_in : (o : Outcome) → KeepsOthers (addresses (row.stored old)) old o → LeavesState o → ArrivesIn (Sound p asked) (after_row p entry row old stack (writes_kept p row old) o)
+  row_in : (o : Outcome) → KeepsOthers (addresses (row.stored old)) old o → LeavesState o →
+      ArrivesIn (Sound p asked) (after_row p entry row old stack (writes_kept p row old) o)
   row_in (Raises e) others ok = tt
   row_in (Goes how new) others ok = going_in (writes_kept p row old) how new refl others ok
 
@@ -226,7 +232,8 @@ module _ (p : Program) (asked : ℕ → Bool) (lawful : HasLawfulRows p) (entry 
   by_row_in None e = tt
   by_row_in (Some row) e =
       let law = lawful c.state.pc row e in
-      row_in (by_file p) asked row entry c.state c.stack sound (row.effect c.state choice) (law.stored c.state choice sound.1) (law.states c.state choice sound.1)
+      row_in (by_file p) asked row entry c.state c.stack sound (row.effect c.state choice) (law.stored c.state choice sound.1)
+      (law.states c.state choice sound.1)
 
   by_fetch_in : (b : Bool) → fetchable p c.state.pc ≡ b → ArrivesIn (Sound p asked) (by_fetch b (by_file p) entry c choice)
   by_fetch_in false e = tt
@@ -258,12 +265,14 @@ module _ (P : State → Type 0) (k : ℕ) where
   stepped_in turns n at (Exits s) h = tt
   stepped_in turns n at (Arrives c) h = arrived (nat_le c.state.pc at) turns n at c h
 
-module _ (p : Program) (lawful : HasLawfulRows p) (by_memory : (s : State) (a : ℕ) → p.word s a ≡ in_memory p.machine s a) (k : ℕ) (start : Start) (is : IsEntryState p start.state) where
+module _ (p : Program) (lawful : HasLawfulRows p) (by_memory : (s : State) (a : ℕ) →
+    p.word s a ≡ in_memory p.machine s a) (k : ℕ) (start : Start) (is : IsEntryState p start.state) where
   abbrev Stands : Run → Type 0
   Stands = Standing (Sound p every) k
 
   one : (x : Run) → Stands x → Stands (one_more (by_file p) k start x)
-  one (Going turns n c) h = stepped_in (Sound p every) k turns n c.state.pc (step (by_file p) start.state c (start.choices n)) (step_in p every lawful start.state c (start.choices n) h)
+  one (Going turns n c) h = stepped_in (Sound p every) k turns n c.state.pc (step (by_file p) start.state c (start.choices n))
+      (step_in p every lawful start.state c (start.choices n) h)
   one (Exited at n) h = tt
   one (Failed e at n) h = tt
   one (Turned at n) h = tt
@@ -284,6 +293,7 @@ module _ (p : Program) (lawful : HasLawfulRows p) (by_memory : (s : State) (a : 
   run_same zero = refl
   run_same (suc n) = ap (one_more p k start) (run_same n) ∙ more_same (run (by_file p) k start n) (stands n)
 
-pub runs_by_file : (p : Program) → HasLawfulRows p → ((s : State) (a : ℕ) → p.word s a ≡ in_memory p.machine s a) → (k : ℕ) (start : Start) → IsEntryState p start.state →
+pub runs_by_file : (p : Program) → HasLawfulRows p → ((s : State) (a : ℕ) → p.word s a ≡ in_memory p.machine s a) → (k : ℕ) (start : Start) →
+    IsEntryState p start.state →
     (steps : ℕ) → run p k start steps ≡ run (by_file p) k start steps
 runs_by_file p lawful by_memory k start is steps = run_same p lawful by_memory k start is steps

@@ -18,7 +18,21 @@ no_flag : (f : ℕ) → false ≡ nat_lt f 0
 no_flag f = grind (arith, nat_tests)
 
 pub rv_is_fitted : RvIsFitted
-rv_is_fitted = record { registers = from_one; enough_registers = omega arith; few_registers = omega arith; flags = no_flag; few_flags = omega arith; link = refl }
+rv_is_fitted = record {
+  registers = from_one;
+  enough_registers = omega arith;
+  few_registers = omega arith;
+  flags = no_flag;
+  few_flags = omega arith;
+  link = refl;
+}
 
 pub arm_is_fitted : ArmIsFitted
-arm_is_fitted e = record { registers = from_zero; enough_registers = omega arith; few_registers = omega arith; flags = flags_below; few_flags = omega arith; link = refl }
+arm_is_fitted e = record {
+  registers = from_zero;
+  enough_registers = omega arith;
+  few_registers = omega arith;
+  flags = flags_below;
+  few_flags = omega arith;
+  link = refl;
+}

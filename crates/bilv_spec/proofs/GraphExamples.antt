@@ -54,7 +54,8 @@ abbrev after : ℕ → ℕ → Point
 after turns at = record { turns = turns; stack = []; at = at }
 
 -- the price of a sum over its two points, its eight kept bytes being one run
-sum_price : price_of (rv adds [] (record { line = 2; says = Binary Equal (Register 10) (Binary Plus (Old (Register 10)) (Number 1)) } ∷ []) []) (point [] 0x10000 ∷ point [] 0x10004 ∷ []) 8 1 ≡ 6656
+sum_price : price_of (rv adds [] (record { line = 2; says = Binary Equal (Register 10) (Binary Plus (Old (Register 10)) (Number 1)) }
+    ∷ []) []) (point [] 0x10000 ∷ point [] 0x10004 ∷ []) 8 1 ≡ 6656
 unfolding table rv_row
 sum_price = refl
 
@@ -62,7 +63,8 @@ sum_price = refl
 abbrev a0_is_3 : List NoteLine
 a0_is_3 = record { line = 2; says = Binary Equal (Register 10) (Number 3) } ∷ []
 
-require_price : price_of (rv adds a0_is_3 (record { line = 3; says = Register 10 } ∷ []) []) (point [] 0x10000 ∷ point [] 0x10004 ∷ []) 8 1 ≡ 1024 + 2048 + 2560 + 512 + 512
+require_price : price_of (rv adds a0_is_3 (record { line = 3; says = Register 10 } ∷ []) []) (point [] 0x10000 ∷ point [] 0x10004 ∷ []) 8 1
+    ≡ 1024 + 2048 + 2560 + 512 + 512
 unfolding table rv_row
 require_price = refl
 
@@ -87,13 +89,15 @@ unfolding table rv_row
 loads_price = refl
 
 -- ldr r0,[pc,#-8]; mov pc,lr: a literal that is kept is no load
-literal_price : price_of (program (arm Little) (arm_file (0xe51f0008 ∷ 0xe1a0f00e ∷ [])) [] [] []) (point [] 0x10000 ∷ point [] 0x10004 ∷ []) 8 1 ≡ 1024 + 2 * 4096 + 2 * 1280
+literal_price : price_of (program (arm Little) (arm_file (0xe51f0008 ∷ 0xe1a0f00e ∷ [])) [] [] []) (point [] 0x10000 ∷ point [] 0x10004 ∷ []) 8 1
+    ≡ 1024 + 2 * 4096 + 2 * 1280
 unfolding arm_row arm_rows.table
 literal_price = refl
 
 -- the loop that counts down has nine points within two backward transfers
 nine_points : ArePoints (rv counts a0_is_3 [] []) 2
-    (after 0 0x10000 ∷ after 0 0x10004 ∷ after 0 0x10008 ∷ after 1 0x10000 ∷ after 1 0x10004 ∷ after 1 0x10008 ∷ after 2 0x10000 ∷ after 2 0x10004 ∷ after 2 0x10008 ∷ [])
+    (after 0 0x10000 ∷ after 0 0x10004 ∷ after 0 0x10008 ∷ after 1 0x10000 ∷ after 1 0x10004 ∷ after 1 0x10008 ∷ after 2 0x10000 ∷ after 2 0x10004
+    ∷ after 2 0x10008 ∷ [])
 unfolding table rv_row
 nine_points = points_by_test (rv counts a0_is_3 [] []) 2
     (after 0 0x10004 ∷ after 0 0x10008 ∷ after 1 0x10000 ∷ after 1 0x10004 ∷ after 1 0x10008 ∷ after 2 0x10000 ∷ after 2 0x10004 ∷ after 2 0x10008 ∷ []) refl

@@ -93,7 +93,8 @@ module _ (holds : Literal → Bool) where
   pub look-conflict : (c : Clause) → look_of holds c ≡ Conflict → all_false holds c ≡ true
   look-conflict c h = left-empty c (look_left-conflict (left_over holds c) h)
 
-  look_left-unit : (l : Literal) (ls : Clause) → look_left holds ls ≡ UnitOf l → (has ls l ≡ true) × (holds l ≡ false) × ((m : Literal) → has ls m ≡ true → m ≡ l)
+  look_left-unit : (l : Literal) (ls : Clause) → look_left holds ls ≡ UnitOf l → (has ls l ≡ true) × (holds l ≡ false) ×
+      ((m : Literal) → has ls m ≡ true → m ≡ l)
   look_left-unit l [] h = absurd (cc)
   look_left-unit l (x ∷ xs) h = elim (cases_Bool (all_same x xs && not (holds x))) [
     | inl e ↦

@@ -24,7 +24,8 @@ by_head t Q u us d (inl e) =
     through (λ q. (us, ap (λ x. x ∷ us) e, q)) (λ b. let x = b.1 in let is : b.0 ≡ us = cc in subst Q is b.2) d
 by_head t Q u us d (inr differs) = inr (λ b. let x = b.1 in let is : u ≡ t = cc in differs is)
 
-pub begins : (t : Token) (Q : List Token → Type 0) (ts : List Token) → ((rest : List Token) → length rest < length ts → Decided (Q rest)) → Decided (Begins t Q ts)
+pub begins : (t : Token) (Q : List Token → Type 0) (ts : List Token) → ((rest : List Token) → length rest < length ts → Decided (Q rest)) →
+    Decided (Begins t Q ts)
 begins t Q [] d = inr (λ b. let x = b.1 in let y : ⊥ = cc in y)
 begins t Q (u ∷ us) d = by_head t Q u us (d us (omega arith)) (same_tokens u t)
 
@@ -35,7 +36,8 @@ Numbered Q ts = (n : ℕ) × (rest : List Token) × (ts ≡ NumberToken n ∷ re
 numbered : (Q : ℕ → List Token → Type 0) (ts : List Token) → ((n : ℕ) (rest : List Token) → Decided (Q n rest)) → Decided (Numbered Q ts)
 numbered Q [] d = inr (λ b. let x = b.2 in let y : ⊥ = cc in y)
 numbered Q (NumberToken n ∷ ts) d =
-    through (λ q. (n, ts, refl, q)) (λ b. let x = b.2 in let m_is : b.0 ≡ n = cc in let us_is : b.1 ≡ ts = cc in subst (λ us. Q n us) us_is (subst (λ m. Q m b.1) m_is b.3)) (d n ts)
+    through (λ q. (n, ts, refl, q)) (λ b. let x = b.2 in let m_is : b.0 ≡ n = cc in let us_is : b.1
+    ≡ ts = cc in subst (λ us. Q n us) us_is (subst (λ m. Q m b.1) m_is b.3)) (d n ts)
 numbered Q (t ∷ ts) d = inr (λ b. let x = b.2 in let y : ⊥ = cc in y)
 
 is_end : (ts : List Token) → Decided (ts ≡ [])
@@ -92,10 +94,19 @@ of_line names ts (inr (inr (inr (inl p)))) = (RequireIs p.2.0, (p.0, p.1, p.2.1)
 of_line names ts (inr (inr (inr (inr (inl p))))) = (EnsureIs p.2.0, (p.0, p.1, p.2.1))
 of_line names ts (inr (inr (inr (inr (inr (inl p)))))) = (AssertIs p.2.0 p.2.3.0, (p.2.1, p.1 ∙ ap (λ us. NameToken (codes "assert") ∷ us) p.2.2, p.2.3.1))
 of_line names ts (inr (inr (inr (inr (inr (inr (inl p))))))) =
-    let n : length p.2.1 ≡ length p.2.3.0.0 = ap length p.2.3.0.1 ∙ map_length p.2.3.0.0 in
-    (TargetsAre p.2.0 p.2.3.0.0, (p.1 ∙ ap (λ us. NameToken (codes "targets") ∷ us) (p.2.2 ∙ ap (λ us. NumberToken p.2.0 ∷ us) p.2.3.0.1), omega (arith, n, p.2.3.1)))
-of_line names ts (inr (inr (inr (inr (inr (inr (inr p))))))) =
-    (FixedIs p.2.0 p.2.3.0, p.1 ∙ ap (λ us. NameToken (codes "fixed") ∷ us) (p.2.2 ∙ ap (λ us. NumberToken p.2.0 ∷ us) (p.2.3.2 ∙ ap (λ us. NumberToken p.2.3.0 ∷ us) p.2.3.3)))
+    let n : length p.2.1 ≡ length p.2.3.0.0 = ap length p.2.3.0.1 ∙ map_length p.2.3.0.0 in (
+      TargetsAre p.2.0 p.2.3.0.0,
+      (
+        p.1 ∙ ap (λ us. NameToken (codes "targets")
+            ∷ us) (p.2.2 ∙ ap (λ us. NumberToken p.2.0 ∷ us) p.2.3.0.1),
+        omega (arith, n, p.2.3.1),
+      ),
+    )
+of_line names ts (inr (inr (inr (inr (inr (inr (inr p))))))) = (
+  FixedIs p.2.0 p.2.3.0,
+  p.1 ∙ ap (λ us. NameToken (codes "fixed")
+      ∷ us) (p.2.2 ∙ ap (λ us. NumberToken p.2.0 ∷ us) (p.2.3.2 ∙ ap (λ us. NumberToken p.2.3.0 ∷ us) p.2.3.3)),
+)
 
 to_line : (names : List ℕ → Option Expr) (ts : List Token) (s : Says) → IsSaid names ts s → Lines names ts
 to_line names ts Nothing p = inl p
@@ -121,12 +132,15 @@ to_line names ts (FixedIs low high) p =
 pub is_said : (names : List ℕ → Option Expr) → KeepsReserved names → (ts : List Token) → Decided (Said names ts)
 is_said names keeps ts =
     through (of_line names ts) (λ p. to_line names ts p.0 p.1)
-    (either (is_end ts) (either (begins (NameToken (codes "entry")) (Numbered (λ n us. us ≡ [])) ts (λ us less. numbered (λ n us. us ≡ []) us (λ n vs. is_end vs)))
+    (either (is_end ts) (either (begins (NameToken (codes "entry")) (Numbered (λ n us. us ≡ [])) ts
+    (λ us less. numbered (λ n us. us ≡ []) us (λ n vs. is_end vs)))
     (either (begins (NameToken (codes "function")) (λ us. (w : List ℕ) × (us ≡ NameToken w ∷ [])) ts (λ us less. is_name us))
     (either (begins (NameToken (codes "require")) (Parsed names) ts (λ us less. is_parsed names keeps us))
     (either (begins (NameToken (codes "ensure")) (Parsed names) ts (λ us less. is_parsed names keeps us))
-    (either (begins (NameToken (codes "assert")) (Numbered (λ n us. Parsed names us)) ts (λ us less. numbered (λ n us. Parsed names us) us (λ n vs. is_parsed names keeps vs)))
+    (either (begins (NameToken (codes "assert")) (Numbered (λ n us. Parsed names us)) ts
+    (λ us less. numbered (λ n us. Parsed names us) us (λ n vs. is_parsed names keeps vs)))
     (either (begins (NameToken (codes "targets")) (Numbered (λ n us. ((to : List ℕ) × (us ≡ map (λ n. NumberToken n) to)) × (0 < length us))) ts
-    (λ us less. numbered (λ n us. ((to : List ℕ) × (us ≡ map (λ n. NumberToken n) to)) × (0 < length us)) us (λ n vs. both (are_numbers vs) (is_less 0 (length vs)))))
+    (λ us less. numbered (λ n us. ((to : List ℕ) × (us ≡ map (λ n. NumberToken n) to)) ×
+    (0 < length us)) us (λ n vs. both (are_numbers vs) (is_less 0 (length vs)))))
     (begins (NameToken (codes "fixed")) (Numbered (λ n us. Numbered (λ m vs. vs ≡ []) us)) ts
     (λ us less. numbered (λ n us. Numbered (λ m vs. vs ≡ []) us) us (λ n vs. numbered (λ m ws. ws ≡ []) vs (λ m ws. is_end ws)))))))))))

@@ -19,14 +19,16 @@ pub is_any_name : (names : List ℕ → Option Expr) → KeepsReserved names →
 is_any_name names keeps w e is = ap (λ b. if b then None else Some (Number 0)) (none_of w reserved (λ v c. not_word names keeps w v e is c))
 
 -- what is parsed, is parsed where every other word is a name
-pub parsed_by_any : (names : List ℕ → Option Expr) → KeepsReserved names → (l : ℕ) (ts : List Token) (e : Expr) → Parses names l ts e → (f : Expr) × Parses any_name l ts f
+pub parsed_by_any : (names : List ℕ → Option Expr) → KeepsReserved names → (l : ℕ) (ts : List Token) (e : Expr) → Parses names l ts e → (f : Expr) ×
+    Parses any_name l ts f
 parsed_by_any names keeps l ts e (tighter below p) = let r = parsed_by_any names keeps (l + 1) ts e p in (r.0, tighter below r.1)
 parsed_by_any names keeps l ts e (binary_of {xs = xs} {ys = ys} {t = t} {op = op} {a = a} {b = b} c p q is) =
     let r = parsed_by_any names keeps (left_of l) xs a p in let s = parsed_by_any names keeps (l + 1) ys b q in (Binary op r.0 s.0, binary_of c r.1 s.1 is)
 parsed_by_any names keeps l ts e (not_of {ts = us} {e = a} p) = let r = parsed_by_any names keeps 3 us a p in (Not r.0, not_of r.1)
 parsed_by_any names keeps l ts e (number_of {n = n}) = (Number n, number_of)
 parsed_by_any names keeps l ts e (name_of {w = w} {e = a} is) = (Number 0, name_of (is_any_name names keeps w a is))
-parsed_by_any names keeps l ts e (memory_of {n = n} {w = w} {us = us} {e = a} c p is) = let r = parsed_by_any names keeps 1 us a p in (Memory n r.0, memory_of c r.1 is)
+parsed_by_any names keeps l ts e (memory_of {n = n} {w = w} {us = us} {e = a} c p is) = let r = parsed_by_any names keeps 1 us a p
+    in (Memory n r.0, memory_of c r.1 is)
 parsed_by_any names keeps l ts e (old_of {us = us} {e = a} p is) = let r = parsed_by_any names keeps 1 us a p in (Old r.0, old_of r.1 is)
 parsed_by_any names keeps l ts e (in_brackets {us = us} {e = a} p is) = let r = parsed_by_any names keeps 1 us a p in (r.0, in_brackets r.1 is)
 
@@ -63,7 +65,8 @@ not_faulty names keeps n before text s LimitFault le line new (inl above) = omeg
 not_faulty names keeps n before text s LimitFault le line new (inr above) = omega (arith, line.short, above)
 not_faulty names keeps n before text s ByteFault le line new a = is_good (tokens_of text) BadByte line.good a
 not_faulty names keeps n before text s TokenFault le line new a = is_good (tokens_of text) BadText line.good a
-not_faulty names keeps n before text s NumberFault le line new a = let g : a.0 < 2 ^ 32 = is_good (tokens_of text) (NumberToken a.0) line.good a.1 in omega (arith, g, a.2)
+not_faulty names keeps n before text s NumberFault le line new a = let g : a.0
+    < 2 ^ 32 = is_good (tokens_of text) (NumberToken a.0) line.good a.1 in omega (arith, g, a.2)
 not_faulty names keeps n before text s DepthFault le line new a = omega (arith, line.depth, a)
 not_faulty names keeps n before text s WordFault le line new a = begins_well names (tokens_of text) s line.said a
 not_faulty names keeps n before text s SyntaxFault le line new a = let r = said_by_any names keeps (tokens_of text) s line.said in a r.0 r.1
@@ -84,7 +87,8 @@ record Among (names : List ℕ → Option Expr) (good rest : List (List ℕ)) (b
   good_are : AreLines names good before
   line : IsLine names bad says
 
-among : (names : List ℕ → Option Expr) (good rest : List (List ℕ)) (bad : List ℕ) (all : List Says) → AreLines names (good ++ bad ∷ rest) all → Among names good rest bad all
+among : (names : List ℕ → Option Expr) (good rest : List (List ℕ)) (bad : List ℕ) (all : List Says) → AreLines names (good ++ bad ∷ rest) all →
+    Among names good rest bad all
 among names [] rest bad [] p = absurd p
 among names [] rest bad (s ∷ all) p = record { before = []; says = s; behind = all; all_are = refl; good_are = tt; line = p.0 }
 among names (text ∷ good) rest bad [] p = absurd p
@@ -145,7 +149,8 @@ apart_before xs ys t u all c same_at =
 -- what notes say is not said twice
 new_say : (before behind : List Says) (s : Says) (only : Function) → entries (before ++ s ∷ behind) ≡ only ∷ [] →
     AllPairs (λ s t. s.at ≢ t.at) (targets_of (before ++ s ∷ behind)) → Repeats before s → ⊥
-new_say before behind (EntryIs e) only is all r = r (none_before (entries before) (entries behind) e only (sym (entries_append before (EntryIs e ∷ behind)) ∙ is))
+new_say before behind (EntryIs e) only is all r = r (none_before (entries before) (entries behind) e only
+    (sym (entries_append before (EntryIs e ∷ behind)) ∙ is))
 new_say before behind (TargetsAre a to) only is all r =
     apart_before (targets_of before) (targets_of behind) r.0 (record { at = a; to = to })
     (subst (λ l. AllPairs (λ s t. s.at ≢ t.at) l) (targets_append before (TargetsAre a to ∷ behind)) all) r.1 r.2
@@ -155,7 +160,8 @@ new_say before behind (EnsureIs e) only is all r = r
 new_say before behind (AssertIs a e) only is all r = r
 new_say before behind (FixedIs low high) only is all r = r
 
-none_repeat : (before says : List Says) (only : Function) → entries (before ++ says) ≡ only ∷ [] → AllPairs (λ s t. s.at ≢ t.at) (targets_of (before ++ says)) → NoneRepeats before says
+none_repeat : (before says : List Says) (only : Function) → entries (before ++ says) ≡ only ∷ [] → AllPairs (λ s t. s.at ≢ t.at) (targets_of (before ++ says)) →
+    NoneRepeats before says
 none_repeat before [] only is all = tt
 none_repeat before (s ∷ says) only is all =
     let assoc = append_assoc before (s ∷ []) says in (
@@ -187,7 +193,8 @@ never_both names keeps text m line f p (no_entry says g none) =
 -- the fault of a rank
 abbrev pub of_rank : ℕ → NoteFault
 of_rank n =
-    get_or (EntryFault ∷ LimitFault ∷ ByteFault ∷ TokenFault ∷ NumberFault ∷ DepthFault ∷ WordFault ∷ SyntaxFault ∷ NameFault ∷ AlignFault ∷ RangeFault ∷ []) n EntryFault
+    get_or (EntryFault ∷ LimitFault ∷ ByteFault ∷ TokenFault ∷ NumberFault ∷ DepthFault ∷ WordFault ∷ SyntaxFault ∷ NameFault ∷ AlignFault ∷ RangeFault
+    ∷ []) n EntryFault
 
 pub ranked : (f : NoteFault) → of_rank (note_fault_rank f) ≡ f
 ranked LimitFault = refl
@@ -206,26 +213,33 @@ same_rank : (a b : ℕ) → (a < b → ⊥) → (b < a → ⊥) → a ≡ b
 same_rank a b p q = grind arith
 
 -- two least faults of one line
-one_least : (names : List ℕ → Option Expr) (n : ℕ) (says : List Says) (text : List ℕ) (f g : NoteFault) → NoteFaultApplies names n says text f → NoteFaultApplies names n says text g →
-    ((h : NoteFault) → note_fault_rank h < note_fault_rank f → NoteFaultApplies names n says text h → ⊥) → ((h : NoteFault) → note_fault_rank h < note_fault_rank g → NoteFaultApplies names n says text h → ⊥) → f ≡ g
+one_least : (names : List ℕ → Option Expr) (n : ℕ) (says : List Says) (text : List ℕ) (f g : NoteFault) → NoteFaultApplies names n says text f →
+    NoteFaultApplies names n says text g →
+    ((h : NoteFault) → note_fault_rank h < note_fault_rank f → NoteFaultApplies names n says text h → ⊥) →
+    ((h : NoteFault) → note_fault_rank h < note_fault_rank g → NoteFaultApplies names n says text h → ⊥) → f ≡ g
 one_least names n says text f g p q least other =
     sym (ranked f) ∙ (ap of_rank (same_rank (note_fault_rank f) (note_fault_rank g) (λ less. other f less p) (λ less. least g less q)) ∙ ranked g)
 
 -- what is told of a line at which a text is cut
 abbrev LeastAt : (List ℕ → Option Expr) → List (List ℕ) → List Says → List ℕ → NoteFault → Type 0
 LeastAt names good says bad f =
-    NoteFaultApplies names (length good + 1) says bad f × ((g : NoteFault) → note_fault_rank g < note_fault_rank f → NoteFaultApplies names (length good + 1) says bad g → ⊥)
+    NoteFaultApplies names (length good + 1) says bad f × ((g : NoteFault) → note_fault_rank g < note_fault_rank f →
+    NoteFaultApplies names (length good + 1) says bad g → ⊥)
 
-at_cuts : (names : List ℕ → Option Expr) → KeepsReserved names → (good rest fine others : List (List ℕ)) (bad worse : List ℕ) (says told : List Says) (f g : NoteFault) →
+at_cuts : (names : List ℕ → Option Expr) → KeepsReserved names →
+    (good rest fine others : List (List ℕ)) (bad worse : List ℕ) (says told : List Says) (f g : NoteFault) →
     AreGood names good says → AreGood names fine told → LeastAt names good says bad f → LeastAt names fine told worse g →
     Cuts good bad rest fine worse others → (length good + 1 ≡ length fine + 1) × (f ≡ g)
 at_cuts names keeps good rest fine others bad worse says told f g p q a b (same i j k) =
     let lines = same_says names keeps good says told p.lines (subst (λ l. AreLines names l told) (sym i) q.lines) in
     let c : LeastAt names good says bad g =
-    subst (λ l. LeastAt names l says bad g) (sym i) (subst (λ l. LeastAt names fine l bad g) (sym lines) (subst (λ l. LeastAt names fine told l g) (sym j) b)) in
+    subst (λ l. LeastAt names l says bad g) (sym i) (subst (λ l. LeastAt names fine l bad g) (sym lines) (subst
+    (λ l. LeastAt names fine told l g) (sym j) b)) in
     (ap (λ l. length l + 1) i, one_least names (length good + 1) says bad f g a.0 c.0 a.1 c.1)
-at_cuts names keeps good rest fine others bad worse says told f g p q a b (earlier zs i j) = absurd (no_fault names keeps fine good zs bad told says f i q p.lines a.0)
-at_cuts names keeps good rest fine others bad worse says told f g p q a b (later zs i j) = absurd (no_fault names keeps good fine zs worse says told g i p q.lines b.0)
+at_cuts names keeps good rest fine others bad worse says told f g p q a b (earlier zs i j) = absurd
+    (no_fault names keeps fine good zs bad told says f i q p.lines a.0)
+at_cuts names keeps good rest fine others bad worse says told f g p q a b (later zs i j) = absurd
+    (no_fault names keeps good fine zs worse says told g i p q.lines b.0)
 
 pub one_fault : (names : List ℕ → Option Expr) → KeepsReserved names → (text : List ℕ) (line other : ℕ) (f g : NoteFault) →
     IsFirstNoteFault names text line f → IsFirstNoteFault names text other g → (line ≡ other) × (f ≡ g)

@@ -36,7 +36,8 @@ join P x xs p all (suc k) d less = all k d (omega (arith, less))
 
 every_one : {X : Type 0} (P : X → Type 0) → ((x : X) → Decided (P x)) → (xs : List X) → Decided (All P xs)
 every_one P d [] = inl (λ k x less. absurd (omega (arith, less)))
-every_one P d (x ∷ xs) = through (λ p. join P x xs p.0 p.1) (λ all. (all 0 x (omega arith), λ k y less. all (suc k) y (omega (arith, less)))) (both (d x) (every_one P d xs))
+every_one P d (x ∷ xs) = through (λ p. join P x xs p.0 p.1) (λ all. (all 0 x (omega arith), λ k y less. all (suc k) y (omega (arith, less))))
+    (both (d x) (every_one P d xs))
 
 -- the parts of a line's claim
 aligned : (a : ℕ) → Decided (IsAligned a)
@@ -75,7 +76,8 @@ repeats before (AssertIs a e) = inr (λ r. r)
 repeats before (FixedIs low high) = inr (λ r. r)
 
 -- of the one thing that a line says
-of_said : (names : List ℕ → Option Expr) → KeepsReserved names → (ts : List Token) (Q : Says → Type 0) → ((s : Says) → Decided (Q s)) → Decided (Said names ts) →
+of_said : (names : List ℕ → Option Expr) → KeepsReserved names → (ts : List Token) (Q : Says → Type 0) → ((s : Says) → Decided (Q s)) →
+    Decided (Said names ts) →
     Decided ((s : Says) × IsSaid names ts s × Q s)
 of_said names keeps ts Q d (inl p) = through (λ q. (p.0, p.1, q)) (λ r. subst Q (one_saying names keeps ts r.0 p.0 r.1 p.1) r.2) (d p.0)
 of_said names keeps ts Q d (inr not_said) = inr (λ r. not_said (r.0, r.1))
@@ -95,7 +97,8 @@ badly : (ts : List Token) → Decided (BeginsBadly ts)
 badly [] = inr (λ b. b)
 badly (t ∷ ts) = negation (line_word t)
 
-applies : (names : List ℕ → Option Expr) → KeepsReserved names → (n : ℕ) (before : List Says) (text : List ℕ) (f : NoteFault) → Decided (NoteFaultApplies names n before text f)
+applies : (names : List ℕ → Option Expr) → KeepsReserved names → (n : ℕ) (before : List Says) (text : List ℕ) (f : NoteFault) →
+    Decided (NoteFaultApplies names n before text f)
 applies names keeps n before text LimitFault = either (is_less 4096 n) (is_less 1024 (length text))
 applies names keeps n before text ByteFault = contains same_tokens (tokens_of text) BadByte
 applies names keeps n before text TokenFault = contains same_tokens (tokens_of text) BadText
@@ -106,8 +109,10 @@ applies names keeps n before text DepthFault = is_less 64 (count_by is_depth (to
 applies names keeps n before text WordFault = badly (tokens_of text)
 applies names keeps n before text SyntaxFault = through (λ f s p. f (s, p)) (λ f p. f p.0 p.1) (negation (is_said any_name any_keeps (tokens_of text)))
 applies names keeps n before text NameFault = through (λ f s p. f (s, p)) (λ f p. f p.0 p.1) (negation (is_said names keeps (tokens_of text)))
-applies names keeps n before text AlignFault = of_said names keeps (tokens_of text) (λ s. AreAligned s → ⊥) (λ s. negation (are_aligned s)) (is_said names keeps (tokens_of text))
-applies names keeps n before text RangeFault = of_said names keeps (tokens_of text) (λ s. IsRange s → ⊥) (λ s. negation (is_range s)) (is_said names keeps (tokens_of text))
+applies names keeps n before text AlignFault = of_said names keeps (tokens_of text) (λ s. AreAligned s →
+    ⊥) (λ s. negation (are_aligned s)) (is_said names keeps (tokens_of text))
+applies names keeps n before text RangeFault = of_said names keeps (tokens_of text) (λ s. IsRange s →
+    ⊥) (λ s. negation (is_range s)) (is_said names keeps (tokens_of text))
 applies names keeps n before text EntryFault = of_said names keeps (tokens_of text) (Repeats before) (repeats before) (is_said names keeps (tokens_of text))
 
 -- the least fault below a rank
@@ -120,7 +125,8 @@ Free P k = (g : NoteFault) → note_fault_rank g < k → P g → ⊥
 not_less : (a b : ℕ) → (a < b → ⊥) → b ≤ a
 not_less a b p = grind arith
 
-by_order : (P : NoteFault → Type 0) (k : ℕ) → Free P k → ((note_fault_rank (of_rank k) ≡ k) × P (of_rank k) → ⊥) → (g : NoteFault) → Decided (note_fault_rank g < k) → note_fault_rank g < suc k → P g → ⊥
+by_order : (P : NoteFault → Type 0) (k : ℕ) → Free P k → ((note_fault_rank (of_rank k) ≡ k) × P (of_rank k) → ⊥) → (g : NoteFault) →
+    Decided (note_fault_rank g < k) → note_fault_rank g < suc k → P g → ⊥
 by_order P k free f g (inl less) le q = free g less q
 by_order P k free f g (inr above) le q =
     let is : note_fault_rank g ≡ k = let ge = not_less (note_fault_rank g) k above in omega (arith, ge, le) in
@@ -175,14 +181,16 @@ free_default [] k d e less = absurd (omega (arith, less))
 free_default (x ∷ xs) zero d e less = refl
 free_default (x ∷ xs) (suc k) d e less = free_default xs k d e (omega (arith, less))
 
-good_token : (ts : List Token) (t : Token) → Contains ts t → (Contains ts BadByte → ⊥) → (Contains ts BadText → ⊥) → ((v : ℕ) × Contains ts (NumberToken v) × (2 ^ 32 ≤ v) → ⊥) → IsGood t
+good_token : (ts : List Token) (t : Token) → Contains ts t → (Contains ts BadByte → ⊥) → (Contains ts BadText → ⊥) →
+    ((v : ℕ) × Contains ts (NumberToken v) × (2 ^ 32 ≤ v) → ⊥) → IsGood t
 good_token ts (NumberToken v) c f g h = less_if v (λ le. h (v, c, le))
 good_token ts (NameToken w) c f g h = tt
 good_token ts (SignToken w) c f g h = tt
 good_token ts BadByte c f g h = f c
 good_token ts BadText c f g h = g c
 
-no_fault_good : (names : List ℕ → Option Expr) → KeepsReserved names → (n : ℕ) (before : List Says) (text : List ℕ) → ((f : NoteFault) → NoteFaultApplies names n before text f → ⊥) →
+no_fault_good : (names : List ℕ → Option Expr) → KeepsReserved names → (n : ℕ) (before : List Says) (text : List ℕ) →
+    ((f : NoteFault) → NoteFaultApplies names n before text f → ⊥) →
     Decided (Said names (tokens_of text)) → Good names n before text
 no_fault_good names keeps n before text f (inr not_said) = absurd (f NameFault (λ s p. not_said (s, p)))
 no_fault_good names keeps n before text f (inl p) = record {
@@ -201,7 +209,8 @@ no_fault_good names keeps n before text f (inl p) = record {
 }
 
 -- one more good line
-pub lines_and : (names : List ℕ → Option Expr) (texts : List (List ℕ)) (says : List Says) (text : List ℕ) (s : Says) → AreLines names texts says → IsLine names text s →
+pub lines_and : (names : List ℕ → Option Expr) (texts : List (List ℕ)) (says : List Says) (text : List ℕ) (s : Says) → AreLines names texts says →
+    IsLine names text s →
     AreLines names (texts ++ text ∷ []) (says ++ s ∷ [])
 lines_and names [] [] text s p q = (q, tt)
 lines_and names [] (t ∷ says) text s p q = absurd p
@@ -212,7 +221,8 @@ pub none_and : (first says : List Says) (s : Says) → NoneRepeats first says �
 none_and first [] s p new = (λ r. new (subst (λ l. Repeats l s) (sym (append-nil first)) r), tt)
 none_and first (t ∷ says) s p new = (p.0, none_and (first ++ t ∷ []) says s p.1 (λ r. new (subst (λ l. Repeats l s) (append_assoc first (t ∷ []) says) r)))
 
-good_and : (names : List ℕ → Option Expr) (texts : List (List ℕ)) (says : List Says) (text : List ℕ) → AreGood names texts says → (g : Good names (length texts + 1) says text) →
+good_and : (names : List ℕ → Option Expr) (texts : List (List ℕ)) (says : List Says) (text : List ℕ) → AreGood names texts says →
+    (g : Good names (length texts + 1) says text) →
     AreGood names (texts ++ text ∷ []) (says ++ g.says ∷ [])
 good_and names texts says text p g = record {
   count = let n = length-append texts (text ∷ []) in omega (arith, n, g.count);
@@ -226,19 +236,23 @@ data Judged (names : List ℕ → Option Expr) (texts : List (List ℕ)) : Type 
   bad_at : (good rest : List (List ℕ)) (bad : List ℕ) (says : List Says) → texts ≡ good ++ bad ∷ rest → AreGood names good says →
       Least (NoteFaultApplies names (length good + 1) says bad) → Judged names texts
 
-on_line : (names : List ℕ → Option Expr) (texts good rest : List (List ℕ)) (text : List ℕ) (says : List Says) → texts ≡ good ++ text ∷ rest → AreGood names good says →
+on_line : (names : List ℕ → Option Expr) (texts good rest : List (List ℕ)) (text : List ℕ) (says : List Says) → texts ≡ good ++ text ∷ rest →
+    AreGood names good says →
     Least (NoteFaultApplies names (length good + 1) says text) ⊎ ((f : NoteFault) → NoteFaultApplies names (length good + 1) says text f → ⊥) →
     (((f : NoteFault) → NoteFaultApplies names (length good + 1) says text f → ⊥) → Judged names texts) → Judged names texts
 on_line names texts good rest text says is g (inl l) next = bad_at good rest text says is g l
 on_line names texts good rest text says is g (inr f) next = next f
 
-judge : (names : List ℕ → Option Expr) → KeepsReserved names → (texts good rest : List (List ℕ)) (says : List Says) → texts ≡ good ++ rest → AreGood names good says → Judged names texts
+judge : (names : List ℕ → Option Expr) → KeepsReserved names → (texts good rest : List (List ℕ)) (says : List Says) → texts ≡ good ++ rest →
+    AreGood names good says → Judged names texts
 judge names keeps texts good [] says is g = all_good says (subst (λ l. AreGood names l says) (sym (is ∙ append-nil good)) g)
 judge names keeps texts good (text ∷ rest) says is g =
     on_line names texts good rest text says is g
-    (least_or_none (NoteFaultApplies names (length good + 1) says text) (below (NoteFaultApplies names (length good + 1) says text) (applies names keeps (length good + 1) says text) 12))
+    (least_or_none (NoteFaultApplies names (length good + 1) says text)
+    (below (NoteFaultApplies names (length good + 1) says text) (applies names keeps (length good + 1) says text) 12))
     (λ f. let next = no_fault_good names keeps (length good + 1) says text f (is_said names keeps (tokens_of text)) in
-    judge names keeps texts (good ++ text ∷ []) rest (says ++ next.says ∷ []) (is ∙ sym (append_assoc good (text ∷ []) rest)) (good_and names good says text g next))
+    judge names keeps texts (good ++ text ∷ []) rest (says ++ next.says
+    ∷ []) (is ∙ sym (append_assoc good (text ∷ []) rest)) (good_and names good says text g next))
 
 -- functions that do not repeat
 grown : (before : List Says) (s : Says) (fs : List Function) → entries (s ∷ []) ≡ [] → entries before ≡ fs → entries (before ++ s ∷ []) ≡ fs
@@ -251,8 +265,10 @@ no_entry_after before (Nothing ∷ says) e is p = no_entry_after (before ++ Noth
 no_entry_after before (RequireIs x ∷ says) e is p = no_entry_after (before ++ RequireIs x ∷ []) says e (grown before (RequireIs x) (e ∷ []) refl is) p.1
 no_entry_after before (EnsureIs x ∷ says) e is p = no_entry_after (before ++ EnsureIs x ∷ []) says e (grown before (EnsureIs x) (e ∷ []) refl is) p.1
 no_entry_after before (AssertIs a x ∷ says) e is p = no_entry_after (before ++ AssertIs a x ∷ []) says e (grown before (AssertIs a x) (e ∷ []) refl is) p.1
-no_entry_after before (TargetsAre a to ∷ says) e is p = no_entry_after (before ++ TargetsAre a to ∷ []) says e (grown before (TargetsAre a to) (e ∷ []) refl is) p.1
-no_entry_after before (FixedIs low high ∷ says) e is p = no_entry_after (before ++ FixedIs low high ∷ []) says e (grown before (FixedIs low high) (e ∷ []) refl is) p.1
+no_entry_after before (TargetsAre a to ∷ says) e is p = no_entry_after (before ++ TargetsAre a to
+    ∷ []) says e (grown before (TargetsAre a to) (e ∷ []) refl is) p.1
+no_entry_after before (FixedIs low high ∷ says) e is p = no_entry_after (before ++ FixedIs low high
+    ∷ []) says e (grown before (FixedIs low high) (e ∷ []) refl is) p.1
 
 one_entry : (before says : List Says) (e : Function) (es : List Function) → entries before ≡ [] → NoneRepeats before says → entries says ≡ e ∷ es → es ≡ []
 one_entry before [] e es is p has = absurd (let b : ⊥ = cc in b)
@@ -263,8 +279,10 @@ one_entry before (Nothing ∷ says) e es is p has = one_entry (before ++ Nothing
 one_entry before (RequireIs x ∷ says) e es is p has = one_entry (before ++ RequireIs x ∷ []) says e es (grown before (RequireIs x) [] refl is) p.1 has
 one_entry before (EnsureIs x ∷ says) e es is p has = one_entry (before ++ EnsureIs x ∷ []) says e es (grown before (EnsureIs x) [] refl is) p.1 has
 one_entry before (AssertIs a x ∷ says) e es is p has = one_entry (before ++ AssertIs a x ∷ []) says e es (grown before (AssertIs a x) [] refl is) p.1 has
-one_entry before (TargetsAre a to ∷ says) e es is p has = one_entry (before ++ TargetsAre a to ∷ []) says e es (grown before (TargetsAre a to) [] refl is) p.1 has
-one_entry before (FixedIs low high ∷ says) e es is p has = one_entry (before ++ FixedIs low high ∷ []) says e es (grown before (FixedIs low high) [] refl is) p.1 has
+one_entry before (TargetsAre a to ∷ says) e es is p has = one_entry (before ++ TargetsAre a to
+    ∷ []) says e es (grown before (TargetsAre a to) [] refl is) p.1 has
+one_entry before (FixedIs low high ∷ says) e es is p has = one_entry (before ++ FixedIs low high
+    ∷ []) says e es (grown before (FixedIs low high) [] refl is) p.1 has
 
 -- targets that do not repeat
 kept : (before : List Says) (s : Says) (t : Targets) → Contains (targets_of before) t → Contains (targets_of (before ++ s ∷ [])) t
@@ -275,7 +293,8 @@ added before a to =
     subst (λ l. Contains l (record { at = a; to = to })) (sym (targets_append before (TargetsAre a to ∷ [])))
     (Contains-append_right (targets_of before) (record { at = a; to = to } ∷ []) (record { at = a; to = to }) (0, omega arith, refl))
 
-apart_after : (before says : List Says) (t u : Targets) → NoneRepeats before says → Contains (targets_of before) t → Contains (targets_of says) u → t.at ≡ u.at → ⊥
+apart_after : (before says : List Says) (t u : Targets) → NoneRepeats before says → Contains (targets_of before) t → Contains (targets_of says) u →
+    t.at ≡ u.at → ⊥
 apart_after before [] t u p c d same_at = omega (arith, d.1)
 apart_after before (TargetsAre a to ∷ says) t u p c (zero, less, is) same_at = p.0 (t, c, same_at ∙ sym (ap (λ t. t.at) is))
 apart_after before (TargetsAre a to ∷ says) t u p c (suc k, less, is) same_at =
@@ -285,9 +304,11 @@ apart_after before (EntryIs e ∷ says) t u p c d same_at = apart_after (before 
 apart_after before (RequireIs x ∷ says) t u p c d same_at = apart_after (before ++ RequireIs x ∷ []) says t u p.1 (kept before (RequireIs x) t c) d same_at
 apart_after before (EnsureIs x ∷ says) t u p c d same_at = apart_after (before ++ EnsureIs x ∷ []) says t u p.1 (kept before (EnsureIs x) t c) d same_at
 apart_after before (AssertIs a x ∷ says) t u p c d same_at = apart_after (before ++ AssertIs a x ∷ []) says t u p.1 (kept before (AssertIs a x) t c) d same_at
-apart_after before (FixedIs low high ∷ says) t u p c d same_at = apart_after (before ++ FixedIs low high ∷ []) says t u p.1 (kept before (FixedIs low high) t c) d same_at
+apart_after before (FixedIs low high ∷ says) t u p c d same_at = apart_after (before ++ FixedIs low high
+    ∷ []) says t u p.1 (kept before (FixedIs low high) t c) d same_at
 
-cons_pairs : (x : Targets) (xs : List Targets) → ((u : Targets) → Contains xs u → x.at ≡ u.at → ⊥) → AllPairs (λ s t. s.at ≢ t.at) xs → AllPairs (λ s t. s.at ≢ t.at) (x ∷ xs)
+cons_pairs : (x : Targets) (xs : List Targets) → ((u : Targets) → Contains xs u → x.at ≡ u.at → ⊥) → AllPairs (λ s t. s.at ≢ t.at) xs →
+    AllPairs (λ s t. s.at ≢ t.at) (x ∷ xs)
 cons_pairs x xs f all zero zero d less below = absurd (omega (arith, less))
 cons_pairs x xs f all zero (suc j) d less below =
     let b : j < length xs = omega (arith, below) in f (get_or xs j d) (j, b, free_default xs j (get_or xs j d) d b)
@@ -298,7 +319,8 @@ pub pairs : (before says : List Says) → NoneRepeats before says → AllPairs (
 pairs before [] p = λ i j d less below. absurd (omega (arith, below))
 pairs before (TargetsAre a to ∷ says) p =
     cons_pairs (record { at = a; to = to }) (targets_of says)
-    (λ u c. apart_after (before ++ TargetsAre a to ∷ []) says (record { at = a; to = to }) u p.1 (added before a to) c) (pairs (before ++ TargetsAre a to ∷ []) says p.1)
+    (λ u c. apart_after (before ++ TargetsAre a to ∷ []) says (record { at = a; to = to }) u p.1 (added before a to) c) (pairs (before ++ TargetsAre a to
+    ∷ []) says p.1)
 pairs before (Nothing ∷ says) p = pairs (before ++ Nothing ∷ []) says p.1
 pairs before (EntryIs e ∷ says) p = pairs (before ++ EntryIs e ∷ []) says p.1
 pairs before (RequireIs x ∷ says) p = pairs (before ++ RequireIs x ∷ []) says p.1
@@ -310,11 +332,20 @@ pairs before (FixedIs low high ∷ says) p = pairs (before ++ FixedIs low high �
 abbrev Outcome : (List ℕ → Option Expr) → List ℕ → Type 0
 Outcome names text = ((m : Notes) × IsNotesText names text m) ⊎ ((line : ℕ) × (f : NoteFault) × IsFirstNoteFault names text line f)
 
-by_entries : (names : List ℕ → Option Expr) (text : List ℕ) (says : List Says) → AreGood names (lines_of text) says → (fs : List Function) → entries says ≡ fs → Outcome names text
+by_entries : (names : List ℕ → Option Expr) (text : List ℕ) (says : List Says) → AreGood names (lines_of text) says → (fs : List Function) → entries says ≡ fs →
+    Outcome names text
 by_entries names text says g [] is = inr (length (lines_of text) + 1, EntryFault, no_entry says g is)
 by_entries names text says g (e ∷ es) is =
     inl (
-      record { entry = e; requires = requires_of 1 says; ensures = ensures_of 1 says; asserts = asserts_of 1 says; targets = targets_of says; fixed = fixed_of says },
+      record {
+        entry = e;
+        requires = requires_of 1 says;
+        ensures = ensures_of 1 says;
+        asserts = asserts_of 1 says;
+        targets = targets_of says;
+        fixed = fixed_of
+            says;
+      },
       record {
         short = g.count;
         says = says;
@@ -329,4 +360,5 @@ of_judged names text (bad_at good rest bad says is g l) = inr (length good + 1, 
 
 -- a text is notes, or it has a first fault
 pub one_of_both : (names : List ℕ → Option Expr) → KeepsReserved names → (text : List ℕ) → Outcome names text
-one_of_both names keeps text = of_judged names text (judge names keeps (lines_of text) [] (lines_of text) [] refl (record { count = lit≤ tt; lines = tt; none_repeats = tt }))
+one_of_both names keeps text = of_judged names text (judge names keeps (lines_of text) [] (lines_of text) [] refl
+    (record { count = lit≤ tt; lines = tt; none_repeats = tt }))

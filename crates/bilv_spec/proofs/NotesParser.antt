@@ -124,7 +124,8 @@ pub from_step : (names : List ℕ → Option Expr) (n : ℕ) (task : Task) (ts :
 from_step names n task ts r each zero le = absurd (omega (arith, le))
 from_step names n task ts r each (suc m) le = each m (omega (arith, le))
 
-pub by_step : (names : List ℕ → Option Expr) (n : ℕ) (task : Task) (ts : List Token) (r : Read) → ((m : ℕ) → n ≤ m → step names (work names m) task ts ≡ r) → Ends names task ts r
+pub by_step : (names : List ℕ → Option Expr) (n : ℕ) (task : Task) (ts : List Token) (r : Read) → ((m : ℕ) → n ≤ m → step names (work names m) task ts ≡ r) →
+    Ends names task ts r
 by_step names n task ts r each = (suc n, λ m le. from_step names n task ts r each m le)
 
 -- all tokens are one expression

@@ -16,7 +16,8 @@ read text = work any_name 40 (Level 1) (tokens_of text)
 
 -- a comparison is not chained, and its operands are no `not`; an operator wants two operands; brackets close; `old` wants them
 abbrev refused : List (List ℕ)
-refused = codes "a0 = a1 = a2" ∷ codes "a0 = not a1" ∷ codes "a0 = 5 +" ∷ codes "(a0" ∷ codes "a0)" ∷ codes "old a0" ∷ codes "mem8(a0)" ∷ codes "- a0" ∷ codes "" ∷ []
+refused = codes "a0 = a1 = a2" ∷ codes "a0 = not a1" ∷ codes "a0 = 5 +" ∷ codes "(a0" ∷ codes "a0)" ∷ codes "old a0" ∷ codes "mem8(a0)" ∷ codes "- a0"
+    ∷ codes "" ∷ []
 
 refused_ready : map (λ text. is_ready (read text)) refused ≡ true ∷ true ∷ true ∷ true ∷ true ∷ true ∷ true ∷ true ∷ true ∷ []
 refused_ready = refl
@@ -64,7 +65,8 @@ no_lesser LimitFault less (inr above) = omega (arith, above)
 no_lesser ByteFault less a = none_bad unfinished_tokens BadByte (refl, (refl, (refl, (refl, (refl, tt))))) refl a
 no_lesser TokenFault less a = none_bad unfinished_tokens BadText (refl, (refl, (refl, (refl, (refl, tt))))) refl a
 no_lesser NumberFault less a =
-    let small = of_each (λ t. is_large t ≡ false) unfinished_tokens (NumberToken a.0) (refl, (refl, (refl, (refl, (refl, tt))))) a.1 in grind (arith, small, a.2)
+    let small = of_each (λ t. is_large t ≡ false) unfinished_tokens (NumberToken a.0) (refl, (refl, (refl, (refl, (refl, tt))))) a.1
+    in grind (arith, small, a.2)
 no_lesser DepthFault less above = omega (arith, above)
 no_lesser WordFault less a = a (2, omega arith, refl)
 no_lesser SyntaxFault less a = omega (arith, less)
@@ -98,7 +100,8 @@ no_less EntryFault less a = omega (arith, less)
 
 large_is_refused : IsFirstNoteFault rv_names large_text 2 NumberFault
 large_is_refused =
-    at_line (codes "entry 0x10000" ∷ []) [] (codes "ensure 4294967296 = 0") (EntryIs (At 0x10000) ∷ []) refl first_good (4294967296, (1, omega arith, refl), lit≤ tt) no_less
+    at_line (codes "entry 0x10000" ∷ []) [] (codes "ensure 4294967296 = 0") (EntryIs (At 0x10000)
+    ∷ []) refl first_good (4294967296, (1, omega arith, refl), lit≤ tt) no_less
 
 -- nothing names the function: the line after the last
 empty_is_refused : IsFirstNoteFault rv_names [] 1 EntryFault

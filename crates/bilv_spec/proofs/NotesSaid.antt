@@ -58,9 +58,11 @@ one_saying names keeps ts (EntryIs (Named v)) (EntryIs (Named w)) p q = cc
 one_saying names keeps ts (EntryIs (At a)) (EntryIs (Named w)) p q = absurd (let b : ⊥ = cc in b)
 one_saying names keeps ts (EntryIs (Named w)) (EntryIs (At a)) p q = absurd (let b : ⊥ = cc in b)
 one_saying names keeps ts (RequireIs e) (RequireIs f) p q =
-    let is : q.0 ≡ p.0 = let x = p.1 in let y = q.1 in cc in ap (λ e. RequireIs e) (one_expression names keeps 1 p.0 e f p.2 (subst (λ us. Parses names 1 us f) is q.2))
+    let is : q.0 ≡ p.0 = let x = p.1 in let y = q.1 in cc in ap
+    (λ e. RequireIs e) (one_expression names keeps 1 p.0 e f p.2 (subst (λ us. Parses names 1 us f) is q.2))
 one_saying names keeps ts (EnsureIs e) (EnsureIs f) p q =
-    let is : q.0 ≡ p.0 = let x = p.1 in let y = q.1 in cc in ap (λ e. EnsureIs e) (one_expression names keeps 1 p.0 e f p.2 (subst (λ us. Parses names 1 us f) is q.2))
+    let is : q.0 ≡ p.0 = let x = p.1 in let y = q.1 in cc in ap
+    (λ e. EnsureIs e) (one_expression names keeps 1 p.0 e f p.2 (subst (λ us. Parses names 1 us f) is q.2))
 one_saying names keeps ts (AssertIs a e) (AssertIs b f) p q =
     let at : a ≡ b = let x = p.1 in let y = q.1 in cc in
     let is : q.0 ≡ p.0 = let x = p.1 in let y = q.1 in cc in
@@ -73,7 +75,8 @@ one_saying names keeps ts (FixedIs low high) (FixedIs l h) p q = cc
 one_saying names keeps ts s t p q = let e = sym (kind_is names ts s p) ∙ kind_is names ts t q in absurd (omega (arith, e))
 
 -- so do lines
-pub same_says : (names : List ℕ → Option Expr) → KeepsReserved names → (texts : List (List ℕ)) (says others : List Says) → AreLines names texts says → AreLines names texts others → says ≡ others
+pub same_says : (names : List ℕ → Option Expr) → KeepsReserved names → (texts : List (List ℕ)) (says others : List Says) → AreLines names texts says →
+    AreLines names texts others → says ≡ others
 same_says names keeps [] [] [] p q = refl
 same_says names keeps [] [] (t ∷ others) p q = absurd q
 same_says names keeps [] (s ∷ says) others p q = absurd p
@@ -83,13 +86,15 @@ same_says names keeps (text ∷ texts) (s ∷ says) (t ∷ others) p q =
     ap₂ (λ s says. s ∷ says) (one_saying names keeps (tokens_of text) s t p.0.said q.0.said) (same_says names keeps texts says others p.1 q.1)
 
 -- notes are their parts
-same_notes : (m n : Notes) → m.entry ≡ n.entry → m.requires ≡ n.requires → m.ensures ≡ n.ensures → m.asserts ≡ n.asserts → m.targets ≡ n.targets → m.fixed ≡ n.fixed → m ≡ n
+same_notes : (m n : Notes) → m.entry ≡ n.entry → m.requires ≡ n.requires → m.ensures ≡ n.ensures → m.asserts ≡ n.asserts → m.targets ≡ n.targets →
+    m.fixed ≡ n.fixed → m ≡ n
 same_notes m n a b c d e f = λ i. record { entry = a i; requires = b i; ensures = c i; asserts = d i; targets = e i; fixed = f i }
 
 same_head : (xs : List Function) (a b : Function) → xs ≡ a ∷ [] → xs ≡ b ∷ [] → a ≡ b
 same_head xs a b p q = cc
 
-pub one_reading : (names : List ℕ → Option Expr) → KeepsReserved names → (text : List ℕ) (m n : Notes) → IsNotesText names text m → IsNotesText names text n → m ≡ n
+pub one_reading : (names : List ℕ → Option Expr) → KeepsReserved names → (text : List ℕ) (m n : Notes) → IsNotesText names text m → IsNotesText names text n →
+    m ≡ n
 one_reading names keeps text m n p q =
     let is = same_says names keeps (lines_of text) p.says q.says p.lines q.lines in
     let r : AreNotes p.says n = subst (λ says. AreNotes says n) (sym is) q.notes_are in

@@ -56,14 +56,16 @@ abbrev read : (List ℕ → Option Expr) → List ℕ → Option Expr
 read names text = all_read (work names 60 (Level 1) (tokens_of text))
 
 levels : read rv_names (codes "1 | 2 ^ 3 & 4 << 5 + 6 * 7") ≡
-    Some (Binary BitOr (Number 1) (Binary BitXor (Number 2) (Binary BitAnd (Number 3) (Binary ShiftLeft (Number 4) (Binary Plus (Number 5) (Binary Times (Number 6) (Number 7)))))))
+    Some (Binary BitOr (Number 1) (Binary BitXor (Number 2) (Binary BitAnd (Number 3)
+    (Binary ShiftLeft (Number 4) (Binary Plus (Number 5) (Binary Times (Number 6) (Number 7)))))))
 levels = refl
 
 grouping : read rv_names (codes "1 - 2 + 3 - (4 - 5)") ≡
     Some (Binary Minus (Binary Plus (Binary Minus (Number 1) (Number 2)) (Number 3)) (Binary Minus (Number 4) (Number 5)))
 grouping = refl
 
-logic : read rv_names (codes "1 or not 2 = 3 and not not 4") ≡ Some (Binary Or (Number 1) (Binary And (Not (Binary Equal (Number 2) (Number 3))) (Not (Not (Number 4)))))
+logic : read rv_names (codes "1 or not 2 = 3 and not not 4") ≡ Some
+    (Binary Or (Number 1) (Binary And (Not (Binary Equal (Number 2) (Number 3))) (Not (Not (Number 4)))))
 logic = refl
 
 of_rv : read rv_names (codes "mem32[sp + 4] >=s old(mem8[pc] - x0)") ≡
@@ -88,7 +90,8 @@ unfolding rv_table
 line_says = by_reading rv_names 40 (tokens_of (codes "a0 = old(a0) + 1")) one_larger refl
 
 -- the value of an operator at some words
-values : map (λ (o : Op). apply o 0x80000000 32) (ShiftLeft ∷ ShiftRight ∷ ShiftSigned ∷ SignedBelow ∷ Below ∷ Minus ∷ Times ∷ []) ≡ 0 ∷ 0 ∷ 0xffffffff ∷ 1 ∷ 0 ∷ 0x7fffffe0 ∷ 0 ∷ []
+values : map (λ (o : Op). apply o 0x80000000 32) (ShiftLeft ∷ ShiftRight ∷ ShiftSigned ∷ SignedBelow ∷ Below ∷ Minus ∷ Times ∷ []) ≡ 0 ∷ 0 ∷ 0xffffffff ∷ 1 ∷ 0
+    ∷ 0x7fffffe0 ∷ 0 ∷ []
 values = refl
 
 truths : map (λ (o : Op). apply o 5 0) (Or ∷ And ∷ Equal ∷ SignedAtLeast ∷ []) ≡ 1 ∷ 0 ∷ 0 ∷ 1 ∷ []

@@ -61,10 +61,12 @@ found_operator op None = op
 found_operator op (Some o) = o.1
 
 -- what is found by a token is a line of the table
-pub first_line : (o : ℕ × Token × Op) (os : List (ℕ × Token × Op)) (t : Token) (l : ℕ) (op : Op) (b : Bool) → same_token t o.1 ≡ b → (if b then Some (o.0, o.2) else line_of os t) ≡ Some (l, op) →
+pub first_line : (o : ℕ × Token × Op) (os : List (ℕ × Token × Op)) (t : Token) (l : ℕ) (op : Op) (b : Bool) → same_token t o.1 ≡ b →
+    (if b then Some (o.0, o.2) else line_of os t) ≡ Some (l, op) →
     (line_of os t ≡ Some (l, op) → Contains {X = ℕ × Token × Op} os (l, t, op)) → Contains {X = ℕ × Token × Op} (o ∷ os) (l, t, op)
 first_line o os t l op true is e rest =
-    let t_is = same_token_is t o.1 is in let a : o.0 ≡ l = ap (level_or 0) e in let b : o.2 ≡ op = ap (found_operator op) e in (0, omega arith, λ i. (a i, sym t_is i, b i))
+    let t_is = same_token_is t o.1 is in let a : o.0 ≡ l = ap (level_or 0) e in let b : o.2
+    ≡ op = ap (found_operator op) e in (0, omega arith, λ i. (a i, sym t_is i, b i))
 first_line o os t l op false is e rest = let c = rest e in (suc c.0, omega (arith, c.1), c.2)
 
 pub listed : (os : List (ℕ × Token × Op)) (t : Token) (l : ℕ) (op : Op) → line_of os t ≡ Some (l, op) → Contains {X = ℕ × Token × Op} os (l, t, op)

@@ -74,7 +74,8 @@ word_value order Pc now entry w p q = p.pc
 word_value order (notes.Memory n a) now entry w p q = lt_of_lt_of_le (number_small order n _ (λ i. p.mem _)) (power_small n w.0)
 word_value order (Old a) now entry w p q = word_value order a entry entry w q q
 word_value order (Not a) now entry w p q = bit_small _
-word_value order (Binary op a b) now entry w p q = apply_word op (value order a now entry) (value order b now entry) (word_value order a now entry w.0 p q) (word_value order b now entry w.1 p q)
+word_value order (Binary op a b) now entry w p q = apply_word op (value order a now entry) (value order b now entry) (word_value order a now entry w.0 p q)
+    (word_value order b now entry w.1 p q)
 
 -- numbers in tokens are words
 abbrev Small : List Token → Type 0
@@ -95,11 +96,15 @@ within o c ts us is s = small_left us (c ∷ []) (small_right (o ∷ []) (us ++ 
 within_call : (t o c : Token) (ts us : List Token) → ts ≡ t ∷ o ∷ us ++ c ∷ [] → Small ts → Small us
 within_call t o c ts us is s = within o c (o ∷ us ++ c ∷ []) us refl (small_right (t ∷ []) (o ∷ us ++ c ∷ []) (subst Small is s))
 
-words_of : (names : List ℕ → Option Expr) → ((w : List ℕ) (e : Expr) → names w ≡ Some e → IsOfWords e) → (l : ℕ) (ts : List Token) (e : Expr) → Small ts → Parses names l ts e → IsOfWords e
+words_of : (names : List ℕ → Option Expr) → ((w : List ℕ) (e : Expr) → names w ≡ Some e → IsOfWords e) → (l : ℕ) (ts : List Token) (e : Expr) → Small ts →
+    Parses names l ts e → IsOfWords e
 words_of names named l ts e s (tighter below p) = words_of names named (l + 1) ts e s p
 words_of names named l ts e s (binary_of {xs = xs} {ys = ys} {t = t} {a = a} {b = b} c p q is) =
-    let whole = subst Small is s in
-    (words_of names named (left_of l) xs a (small_left xs (t ∷ ys) whole) p, words_of names named (l + 1) ys b (small_right (t ∷ []) ys (small_right xs (t ∷ ys) whole)) q)
+    let whole = subst Small is s in (
+      words_of names named (left_of l) xs a (small_left xs (t ∷ ys) whole) p,
+      words_of names named (l + 1) ys b (small_right (t
+          ∷ []) ys (small_right xs (t ∷ ys) whole)) q,
+    )
 words_of names named l ts e s (not_of {ts = us} {e = a} p) = words_of names named 3 us a (small_right (NameToken (codes "not") ∷ []) us s) p
 words_of names named l ts e s (number_of {n = n}) = s n (0, omega arith, refl)
 words_of names named l ts e s (name_of {w = w} {e = a} is) = named w a is
@@ -108,11 +113,13 @@ words_of names named l ts e s (memory_of {n = n} {w = w} {us = us} {e = a} c p i
     (grind (arith, le), words_of names named 1 us a (within_call (NameToken w) (SignToken (codes "[")) (SignToken (codes "]")) ts us is s) p)
 words_of names named l ts e s (old_of {us = us} {e = a} p is) =
     words_of names named 1 us a (within_call (NameToken (codes "old")) (SignToken (codes "(")) (SignToken (codes ")")) ts us is s) p
-words_of names named l ts e s (in_brackets {us = us} {e = a} p is) = words_of names named 1 us a (within (SignToken (codes "(")) (SignToken (codes ")")) ts us is s) p
+words_of names named l ts e s (in_brackets {us = us} {e = a} p is) = words_of names named 1 us a
+    (within (SignToken (codes "(")) (SignToken (codes ")")) ts us is s) p
 
 good_small : (ts : List Token) → All IsGood ts → Small ts
 good_small ts all n c = let g : IsGood (NumberToken n) = subst IsGood c.2 (all c.0 (NumberToken n) c.1) in g
 
 -- what tokens say that may stand in a line is of words
-pub words_said : (names : List ℕ → Option Expr) → ((w : List ℕ) (e : Expr) → names w ≡ Some e → IsOfWords e) → (l : ℕ) (ts : List Token) (e : Expr) → All IsGood ts → Parses names l ts e → IsOfWords e
+pub words_said : (names : List ℕ → Option Expr) → ((w : List ℕ) (e : Expr) → names w ≡ Some e → IsOfWords e) → (l : ℕ) (ts : List Token) (e : Expr) →
+    All IsGood ts → Parses names l ts e → IsOfWords e
 words_said names named l ts e all p = words_of names named l ts e (good_small ts all) p

@@ -20,7 +20,8 @@ Ready go n = (task : Task) (ts : List Token) → cost task ts ≤ n → is_ready
 -- an expression has a token
 some_token : (names : List ℕ → Option Expr) (l : ℕ) (ts : List Token) (e : Expr) → Parses names l ts e → 0 < length ts
 some_token names l ts e (tighter below p) = some_token names (l + 1) ts e p
-some_token names l ts e (binary_of {xs = xs} {ys = ys} {t = t} c p q is) = let n : length ts ≡ length xs + suc (length ys) = ap length is ∙ length-append xs (t ∷ ys) in omega (arith, n)
+some_token names l ts e (binary_of {xs = xs} {ys = ys} {t = t} c p q is) = let n : length ts
+    ≡ length xs + suc (length ys) = ap length is ∙ length-append xs (t ∷ ys) in omega (arith, n)
 some_token names l ts e (not_of p) = omega arith
 some_token names l ts e (number_of) = omega arith
 some_token names l ts e (name_of is) = omega arith
@@ -29,13 +30,15 @@ some_token names l ts e (old_of p is) = let n = ap length is in omega (arith, n)
 some_token names l ts e (in_brackets p is) = let n = ap length is in omega (arith, n)
 
 -- what is left of tokens behind an expression is shorter
-left_shorter : (names : List ℕ → Option Expr) (l : ℕ) (ts us : List Token) (e : Expr) (r : Read) → Right names (Level l) ts r → r ≡ Reads e us → length us < length ts
+left_shorter : (names : List ℕ → Option Expr) (l : ℕ) (ts us : List Token) (e : Expr) (r : Read) → Right names (Level l) ts r → r ≡ Reads e us →
+    length us < length ts
 left_shorter names l ts us e r p is =
     let q : Right names (Level l) ts (Reads e us) = subst (Right names (Level l) ts) is p in
     let n : length ts ≡ length q.0 + length us = ap length q.1 ∙ length-append q.0 us in
     let some = some_token names l q.0 e q.2 in omega (arith, n, some)
 
-then_ready : (r : Read) (f : Expr → List Token → Read) → is_ready r ≡ true → ((e : Expr) (us : List Token) → r ≡ Reads e us → is_ready (f e us) ≡ true) → is_ready (then_read r f) ≡ true
+then_ready : (r : Read) (f : Expr → List Token → Read) → is_ready r ≡ true → ((e : Expr) (us : List Token) → r ≡ Reads e us → is_ready (f e us) ≡ true) →
+    is_ready (then_read r f) ≡ true
 then_ready Unready f p each = p
 then_ready Fails f p each = refl
 then_ready (Reads e us) f p each = each e us refl
@@ -48,11 +51,14 @@ closed_ready : (c : Token) (f : Expr → Expr) (e : Expr) (ts : List Token) → 
 closed_ready c f e [] = refl
 closed_ready c f e (t ∷ ts) = test_ready (same_token t c) (Reads (f e) ts) refl
 
-opened_if_ready : (go : Task → List Token → Read) (n : ℕ) → Ready go n → (b : Bool) (c : Token) (f : Expr → Expr) (ts : List Token) → 13 * length ts + 12 ≤ n → is_ready (opened_if go b c f ts) ≡ true
+opened_if_ready : (go : Task → List Token → Read) (n : ℕ) → Ready go n → (b : Bool) (c : Token) (f : Expr → Expr) (ts : List Token) → 13 * length ts + 12 ≤ n →
+    is_ready (opened_if go b c f ts) ≡ true
 opened_if_ready go n ready false c f ts le = refl
-opened_if_ready go n ready true c f ts le = then_ready (go (Level 1) ts) (closed c f) (ready (Level 1) ts (omega (arith, le))) (λ e us is. closed_ready c f e us)
+opened_if_ready go n ready true c f ts le = then_ready (go (Level 1) ts) (closed c f) (ready (Level 1) ts (omega (arith, le)))
+    (λ e us is. closed_ready c f e us)
 
-opened_ready : (go : Task → List Token → Read) (n : ℕ) → Ready go n → (o c : Token) (f : Expr → Expr) (ts : List Token) → 13 * length ts ≤ n → is_ready (opened go o c f ts) ≡ true
+opened_ready : (go : Task → List Token → Read) (n : ℕ) → Ready go n → (o c : Token) (f : Expr → Expr) (ts : List Token) → 13 * length ts ≤ n →
+    is_ready (opened go o c f ts) ≡ true
 opened_ready go n ready o c f [] le = refl
 opened_ready go n ready o c f (t ∷ ts) le = opened_if_ready go n ready (same_token t o) c f ts (omega (arith, le))
 
@@ -60,13 +66,15 @@ named_ready : (o : Option Expr) (ts : List Token) → is_ready (named_at o ts) �
 named_ready None ts = refl
 named_ready (Some e) ts = refl
 
-word_ready : (names : List ℕ → Option Expr) (go : Task → List Token → Read) (n : ℕ) → Ready go n → (k : ℕ) (b : Bool) (w : List ℕ) (ts : List Token) → 13 * length ts ≤ n →
+word_ready : (names : List ℕ → Option Expr) (go : Task → List Token → Read) (n : ℕ) → Ready go n → (k : ℕ) (b : Bool) (w : List ℕ) (ts : List Token) →
+    13 * length ts ≤ n →
     is_ready (word_at names go k b w ts) ≡ true
 word_ready names go n ready zero false w ts le = named_ready (names w) ts
 word_ready names go n ready zero true w ts le = opened_ready go n ready (SignToken (codes "(")) (SignToken (codes ")")) (λ e. Old e) ts le
 word_ready names go n ready (suc k) b w ts le = opened_ready go n ready (SignToken (codes "[")) (SignToken (codes "]")) (λ e. Memory (suc k) e) ts le
 
-atom_ready : (names : List ℕ → Option Expr) (go : Task → List Token → Read) (n : ℕ) → Ready go n → (ts : List Token) → 13 * length ts ≤ n → is_ready (atom_at names go ts) ≡ true
+atom_ready : (names : List ℕ → Option Expr) (go : Task → List Token → Read) (n : ℕ) → Ready go n → (ts : List Token) → 13 * length ts ≤ n →
+    is_ready (atom_at names go ts) ≡ true
 atom_ready names go n ready [] le = refl
 atom_ready names go n ready (NumberToken v ∷ ts) le = refl
 atom_ready names go n ready (NameToken w ∷ ts) le = word_ready names go n ready (size_of w) (bytes_eq w (codes "old")) w ts (omega (arith, le))
@@ -74,7 +82,8 @@ atom_ready names go n ready (SignToken s ∷ ts) le = opened_ready go n ready (S
 atom_ready names go n ready (BadByte ∷ ts) le = refl
 atom_ready names go n ready (BadText ∷ ts) le = refl
 
-negated_if_ready : (go : Task → List Token → Read) (n : ℕ) → Ready go n → (b : Bool) (t : Token) (ts : List Token) → 13 * length ts + 22 ≤ n → is_ready (negated_if go b t ts) ≡ true
+negated_if_ready : (go : Task → List Token → Read) (n : ℕ) → Ready go n → (b : Bool) (t : Token) (ts : List Token) → 13 * length ts + 22 ≤ n →
+    is_ready (negated_if go b t ts) ≡ true
 negated_if_ready go n ready true t ts le = then_ready (go (Level 3) ts) (λ e us. Reads (Not e) us) (ready (Level 3) ts (omega (arith, le))) (λ e us is. refl)
 negated_if_ready go n ready false t ts le = ready (Level 4) (t ∷ ts) (omega (arith, le))
 
@@ -82,7 +91,8 @@ negated_ready : (go : Task → List Token → Read) (n : ℕ) → Ready go n →
 negated_ready go n ready [] le = refl
 negated_ready go n ready (t ∷ ts) le = negated_if_ready go n ready (same_token t (NameToken (codes "not"))) t ts (omega (arith, le))
 
-level_ready : (names : List ℕ → Option Expr) (n : ℕ) → Ready (work names n) n → (s : Sort) (l : ℕ) (ts : List Token) → sort l ≡ s → 13 * length ts + (12 - l) ≤ n →
+level_ready : (names : List ℕ → Option Expr) (n : ℕ) → Ready (work names n) n → (s : Sort) (l : ℕ) (ts : List Token) → sort l ≡ s →
+    13 * length ts + (12 - l) ≤ n →
     is_ready (level_at names (work names n) s l ts) ≡ true
 level_ready names n ready Negation l ts e le = let three = negation_is l e in negated_ready (work names n) n ready ts (omega (arith, three, le))
 level_ready names n ready Tightest l ts e le = atom_ready names (work names n) n ready ts (omega (arith, le))
@@ -93,19 +103,23 @@ level_ready names n ready Chains l ts e le =
     let less = left_shorter names (l + 1) ts us a (work names n (Level (l + 1)) ts) (right names n (Level (l + 1)) ts) is in
     ready (Behind l a) us (omega (arith, less, le)))
 
-again_ready : (go : Task → List Token → Read) (n : ℕ) → Ready go n → (b : Bool) (l : ℕ) (a : Expr) (ts : List Token) → 13 * length ts + 13 ≤ n → is_ready (again go b l a ts) ≡ true
+again_ready : (go : Task → List Token → Read) (n : ℕ) → Ready go n → (b : Bool) (l : ℕ) (a : Expr) (ts : List Token) → 13 * length ts + 13 ≤ n →
+    is_ready (again go b l a ts) ≡ true
 again_ready go n ready true l a ts le = refl
 again_ready go n ready false l a ts le = ready (Behind l a) ts le
 
-by_ready : (names : List ℕ → Option Expr) (n : ℕ) → Ready (work names n) n → (l : ℕ) (a : Expr) (o : Option Op) (t : Token) (ts : List Token) → 13 * length ts + 25 ≤ n →
+by_ready : (names : List ℕ → Option Expr) (n : ℕ) → Ready (work names n) n → (l : ℕ) (a : Expr) (o : Option Op) (t : Token) (ts : List Token) →
+    13 * length ts + 25 ≤ n →
     is_ready (behind_by (work names n) l a o t ts) ≡ true
 by_ready names n ready l a None t ts le = refl
 by_ready names n ready l a (Some op) t ts le =
-    then_ready (work names n (Level (l + 1)) ts) (λ b us. again (work names n) (l == 4) l (Binary op a b) us) (ready (Level (l + 1)) ts (omega (arith, le))) (λ b us is.
+    then_ready (work names n (Level (l + 1)) ts) (λ b us. again (work names n) (l == 4) l (Binary op a b) us) (ready (Level (l + 1)) ts (omega (arith, le)))
+    (λ b us is.
     let less = left_shorter names (l + 1) ts us b (work names n (Level (l + 1)) ts) (right names n (Level (l + 1)) ts) is in
     again_ready (work names n) n ready (l == 4) l (Binary op a b) us (omega (arith, less, le)))
 
-behind_ready : (names : List ℕ → Option Expr) (n : ℕ) → Ready (work names n) n → (l : ℕ) (a : Expr) (ts : List Token) → 13 * length ts + 12 ≤ n → is_ready (behind_at (work names n) l a ts) ≡ true
+behind_ready : (names : List ℕ → Option Expr) (n : ℕ) → Ready (work names n) n → (l : ℕ) (a : Expr) (ts : List Token) → 13 * length ts + 12 ≤ n →
+    is_ready (behind_at (work names n) l a ts) ≡ true
 behind_ready names n ready l a [] le = refl
 behind_ready names n ready l a (t ∷ ts) le = by_ready names n ready l a (of_level (line_of operators t) l) t ts (omega (arith, le))
 
@@ -122,7 +136,8 @@ ready names (suc n) task ts le = step_ready names n (ready names n) task ts le
 abbrev pub Parsed : (List ℕ → Option Expr) → List Token → Type 0
 Parsed names ts = (e : Expr) × Parses names 1 ts e
 
-by_read : (names : List ℕ → Option Expr) → KeepsReserved names → (n : ℕ) (ts : List Token) (r : Read) → work names n (Level 1) ts ≡ r → is_ready r ≡ true → Right names (Level 1) ts r → Decided (Parsed names ts)
+by_read : (names : List ℕ → Option Expr) → KeepsReserved names → (n : ℕ) (ts : List Token) (r : Read) → work names n (Level 1) ts ≡ r → is_ready r ≡ true →
+    Right names (Level 1) ts r → Decided (Parsed names ts)
 by_read names keeps n ts Unready is p q = absurd (let x : ⊥ = cc in x)
 by_read names keeps n ts Fails is p q =
     inr (λ e. none_some Expr e.0 (sym (ap all_read is) ∙ reads_all names keeps n ts e.0 (ap is_ready is) e.1))
@@ -132,7 +147,8 @@ by_read names keeps n ts (Reads e (t ∷ us)) is p q =
 
 pub is_parsed : (names : List ℕ → Option Expr) → KeepsReserved names → (ts : List Token) → Decided (Parsed names ts)
 is_parsed names keeps ts =
-    let n = cost (Level 1) ts in by_read names keeps n ts (work names n (Level 1) ts) refl (ready names n (Level 1) ts (omega arith)) (right names n (Level 1) ts)
+    let n = cost (Level 1) ts in by_read names keeps n ts (work names n (Level 1) ts) refl (ready names n (Level 1) ts (omega arith))
+    (right names n (Level 1) ts)
 
 -- what is read of all tokens, they are
 pub by_reading : (names : List ℕ → Option Expr) (n : ℕ) (ts : List Token) (e : Expr) → work names n (Level 1) ts ≡ Reads e [] → Parses names 1 ts e

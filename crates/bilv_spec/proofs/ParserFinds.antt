@@ -11,7 +11,8 @@ use Rattle.bilv_spec.proofs.NotesParser.{Task, Level, Behind, Read, Unready, Fai
 -- what may follow an expression of a level: nothing, a bracket that closes, or an operator that is looser
 abbrev pub Follows : ℕ → List Token → Type 0
 Follows l [] = Unit {0}
-Follows l (t ∷ ts) = ((t ≡ SignToken (codes ")")) ⊎ (t ≡ SignToken (codes "]"))) ⊎ ((k : ℕ) × (op : Op) × Contains {X = ℕ × Token × Op} operators (k, t, op) × (k < l))
+Follows l (t ∷ ts) = ((t ≡ SignToken (codes ")")) ⊎ (t ≡ SignToken (codes "]"))) ⊎ ((k : ℕ) × (op : Op) × Contains {X = ℕ × Token × Op} operators (k, t, op) ×
+    (k < l))
 
 -- what may follow a level, may follow a tighter one
 pub follows_tighter : (l m : ℕ) (ts : List Token) → l ≤ m → Follows l ts → Follows m ts
@@ -22,7 +23,8 @@ follows_tighter l m (t ∷ ts) le (inr o) = inr (o.0, o.1, o.2, omega (arith, o.
 pub operator_follows : (l k : ℕ) (t : Token) (op : Op) (ts : List Token) → Contains {X = ℕ × Token × Op} operators (k, t, op) → k < l → Follows l (t ∷ ts)
 operator_follows l k t op ts c less = inr (k, op, c, less)
 
-chains_by : (a b c : Bool) → a ≡ false → b ≡ false → c ≡ true → ◌≡◌ {A = Sort} (if a then Negation else if b then Tightest else if c then Chains else NoLevel) Chains
+chains_by : (a b c : Bool) → a ≡ false → b ≡ false → c ≡ true →
+    ◌≡◌ {A = Sort} (if a then Negation else if b then Tightest else if c then Chains else NoLevel) Chains
 chains_by a b c p q r =
     ap (λ a. if a then Negation else if b then Tightest else if c then Chains else NoLevel) p
     ∙ (ap (λ b. if b then Tightest else if c then Chains else NoLevel) q ∙ ap (λ c. if c then Chains else NoLevel) r)
@@ -32,10 +34,12 @@ is_chains l three below =
     chains_by (l == 3) (l == 11) (nat_lt l 11) (is_false _ (λ e. three (grind arith))) (is_false _ (λ e. grind arith)) (grind arith)
 
 -- an operand, and what is behind it
-read_chain : (names : List ℕ → Option Expr) (l : ℕ) (ts us : List Token) (a : Expr) (r : Read) → sort l ≡ Chains → Ends names (Level (l + 1)) ts (Reads a us) → Ends names (Behind l a) us r →
+read_chain : (names : List ℕ → Option Expr) (l : ℕ) (ts us : List Token) (a : Expr) (r : Read) → sort l ≡ Chains → Ends names (Level (l + 1)) ts (Reads a us) →
+    Ends names (Behind l a) us r →
     Ends names (Level l) ts r
 read_chain names l ts us a r is p q = by_step names (max p.0 q.0) (Level l) ts r (λ m le.
-    ap (λ s. level_at names (work names m) s l ts) is ∙ (ap (λ r. then_read r (λ a us. work names m (Behind l a) us)) (p.1 m (omega (arith, le))) ∙ q.1 m (omega (arith, le))))
+    ap (λ s. level_at names (work names m) s l ts) is ∙ (ap (λ r. then_read r
+    (λ a us. work names m (Behind l a) us)) (p.1 m (omega (arith, le))) ∙ q.1 m (omega (arith, le))))
 
 -- nothing of the level is behind an expression
 other_level : (k l : ℕ) (op : Op) → k < l → of_level (Some (k, op)) l ≡ None
@@ -51,11 +55,14 @@ none_behind l t ts (inr o) = ap (λ f. of_level f l) (found_by o.0 t o.1 o.2) �
 
 stops_behind : (names : List ℕ → Option Expr) (l : ℕ) (a : Expr) (ts : List Token) → Follows l ts → Ends names (Behind l a) ts (Reads a ts)
 stops_behind names l a [] f = by_step names 0 (Behind l a) [] (Reads a []) (λ m le. refl)
-stops_behind names l a (t ∷ ts) f = by_step names 0 (Behind l a) (t ∷ ts) (Reads a (t ∷ ts)) (λ m le. ap (λ o. behind_by (work names m) l a o t ts) (none_behind l t ts f))
+stops_behind names l a (t ∷ ts) f = by_step names 0 (Behind l a) (t ∷ ts) (Reads a (t ∷ ts))
+    (λ m le. ap (λ o. behind_by (work names m) l a o t ts) (none_behind l t ts f))
 
 -- an operator of the level, and its operand
-is_behind : (names : List ℕ → Option Expr) (l : ℕ) (a b : Expr) (t : Token) (op : Op) (ts us : List Token) (r : Read) → Contains {X = ℕ × Token × Op} operators (l, t, op) →
-    Ends names (Level (l + 1)) ts (Reads b us) → (n : ℕ) → ((m : ℕ) → n ≤ m → again (work names m) (l == 4) l (Binary op a b) us ≡ r) → Ends names (Behind l a) (t ∷ ts) r
+is_behind : (names : List ℕ → Option Expr) (l : ℕ) (a b : Expr) (t : Token) (op : Op) (ts us : List Token) (r : Read) →
+    Contains {X = ℕ × Token × Op} operators (l, t, op) →
+    Ends names (Level (l + 1)) ts (Reads b us) → (n : ℕ) → ((m : ℕ) → n ≤ m → again (work names m) (l == 4) l (Binary op a b) us ≡ r) →
+    Ends names (Behind l a) (t ∷ ts) r
 is_behind names l a b t op ts us r c p n each = by_step names (max p.0 n) (Behind l a) (t ∷ ts) r (λ m le.
     ap (λ o. behind_by (work names m) l a o t ts) (ap (λ f. of_level f l) (found_by l t op c) ∙ same_level l op)
     ∙ (ap (λ r. then_read r (λ b us. again (work names m) (l == 4) l (Binary op a b) us)) (p.1 m (omega (arith, le))) ∙ each m (omega (arith, le))))
@@ -88,11 +95,14 @@ abbrev Found : (List ℕ → Option Expr) → ℕ → List Token → Expr → Ty
 Found names l xs e = (rest : List Token) → Follows l rest → Ends names (Level l) (xs ++ rest) (Reads e rest)
 
 abbrev Leads : (List ℕ → Option Expr) → ℕ → List Token → Expr → Type 0
-Leads names l xs e = (l ≡ 3 → ⊥) → (l ≡ 4 → ⊥) → l < 11 → (rest : List Token) (r : Read) → Follows (l + 1) rest → Ends names (Behind l e) rest r → Ends names (Level l) (xs ++ rest) r
+Leads names l xs e = (l ≡ 3 → ⊥) → (l ≡ 4 → ⊥) → l < 11 → (rest : List Token) (r : Read) → Follows (l + 1) rest → Ends names (Behind l e) rest r →
+    Ends names (Level l) (xs ++ rest) r
 
 -- brackets
-enclosed_reads : (names : List ℕ → Option Expr) (o c : Token) (f : Expr → Expr) (us rest : List Token) (a : Expr) → same_token o o ≡ true → same_token c c ≡ true →
-    (p : Ends names (Level 1) (us ++ c ∷ rest) (Reads a (c ∷ rest))) → (m : ℕ) → p.0 ≤ m → opened (work names m) o c f (o ∷ (us ++ c ∷ []) ++ rest) ≡ Reads (f a) rest
+enclosed_reads : (names : List ℕ → Option Expr) (o c : Token) (f : Expr → Expr) (us rest : List Token) (a : Expr) → same_token o o ≡ true →
+    same_token c c ≡ true →
+    (p : Ends names (Level 1) (us ++ c ∷ rest) (Reads a (c ∷ rest))) → (m : ℕ) → p.0 ≤ m →
+    opened (work names m) o c f (o ∷ (us ++ c ∷ []) ++ rest) ≡ Reads (f a) rest
 enclosed_reads names o c f us rest a o_is c_is p m le =
     ap (λ b. opened_if (work names m) b c f ((us ++ c ∷ []) ++ rest)) o_is
     ∙ (ap (λ l. then_read (work names m (Level 1) l) (closed c f)) (append_assoc us (c ∷ []) rest)
@@ -107,7 +117,8 @@ no_sizes : (a b c : Bool) → a ≡ false → b ≡ false → c ≡ false → �
 no_sizes a b c p q r =
     ap (λ a. if a then 1 else if b then 2 else if c then 4 else 0) p ∙ (ap (λ b. if b then 2 else if c then 4 else 0) q ∙ ap (λ c. if c then 4 else 0) r)
 
-word_named : (names : List ℕ → Option Expr) → KeepsReserved names → (go : Task → List Token → Read) (w : List ℕ) (e : Expr) (ts : List Token) → names w ≡ Some e →
+word_named : (names : List ℕ → Option Expr) → KeepsReserved names → (go : Task → List Token → Read) (w : List ℕ) (e : Expr) (ts : List Token) →
+    names w ≡ Some e →
     word_at names go (size_of w) (bytes_eq w (codes "old")) w ts ≡ Reads e ts
 word_named names keeps go w e ts is =
     ap (λ n. word_at names go n (bytes_eq w (codes "old")) w ts)
@@ -116,27 +127,32 @@ word_named names keeps go w e ts is =
     ∙ (ap (λ b. word_at names go 0 b w ts) (not_word names keeps w (codes "old") e is (3, omega arith, refl)) ∙ ap (λ o. named_at o ts) is)
 
 -- level 3 over an expression of level 4
-past_not : (names : List ℕ → Option Expr) (ts rest : List Token) (e : Expr) → Beginning ts → Ends names (Level 4) (ts ++ rest) (Reads e rest) → Ends names (Level 3) (ts ++ rest) (Reads e rest)
+past_not : (names : List ℕ → Option Expr) (ts rest : List Token) (e : Expr) → Beginning ts → Ends names (Level 4) (ts ++ rest) (Reads e rest) →
+    Ends names (Level 3) (ts ++ rest) (Reads e rest)
 past_not names ts rest e b p = by_step names p.0 (Level 3) (ts ++ rest) (Reads e rest) (λ m le.
     ap (λ us. negated_at (work names m) (us ++ rest)) b.is ∙ (ap (λ o. negated_if (work names m) o b.first (b.rest ++ rest)) b.other
     ∙ (ap (λ us. work names m (Level 4) (us ++ rest)) (sym b.is) ∙ p.1 m le)))
 
 -- an expression of a tighter level
-looser_found : (names : List ℕ → Option Expr) → KeepsReserved names → (l : ℕ) (ts : List Token) (e : Expr) → l < 11 → Parses names (l + 1) ts e → Found names (l + 1) ts e → Decided (l ≡ 3) → Found names l ts e
+looser_found : (names : List ℕ → Option Expr) → KeepsReserved names → (l : ℕ) (ts : List Token) (e : Expr) → l < 11 → Parses names (l + 1) ts e →
+    Found names (l + 1) ts e → Decided (l ≡ 3) → Found names l ts e
 looser_found names keeps l ts e below p found (inl three) rest follows =
     let up : l + 1 ≡ 4 = omega (arith, three) in
     let b = begins_tighter names keeps (l + 1) ts e (omega (arith, up)) p in
     let q = subst (λ k. Ends names (Level k) (ts ++ rest) (Reads e rest)) up (found rest (follows_tighter l (l + 1) rest (omega arith) follows)) in
     subst (λ k. Ends names (Level k) (ts ++ rest) (Reads e rest)) (sym three) (past_not names ts rest e b q)
 looser_found names keeps l ts e below p found (inr three) rest follows =
-    read_chain names l (ts ++ rest) rest e (Reads e rest) (is_chains l three below) (found rest (follows_tighter l (l + 1) rest (omega arith) follows)) (stops_behind names l e rest follows)
+    read_chain names l (ts ++ rest) rest e (Reads e rest) (is_chains l three below) (found rest (follows_tighter l (l + 1) rest (omega arith) follows))
+    (stops_behind names l e rest follows)
 
 looser_leads : (names : List ℕ → Option Expr) (l : ℕ) (ts : List Token) (e : Expr) → Found names (l + 1) ts e → Leads names l ts e
 looser_leads names l ts e found three four below rest r follows p = read_chain names l (ts ++ rest) rest e r (is_chains l three below) (found rest follows) p
 
 -- an operator between two expressions
-pair_leads : (names : List ℕ → Option Expr) (l : ℕ) (xs ys : List Token) (t : Token) (op : Op) (a b : Expr) → Contains {X = ℕ × Token × Op} operators (l, t, op) →
-    Leads names l xs a → Found names (l + 1) ys b → (l ≡ 4 → ⊥) → (rest : List Token) (r : Read) → Follows (l + 1) rest → Ends names (Behind l (Binary op a b)) rest r →
+pair_leads : (names : List ℕ → Option Expr) (l : ℕ) (xs ys : List Token) (t : Token) (op : Op) (a b : Expr) →
+    Contains {X = ℕ × Token × Op} operators (l, t, op) →
+    Leads names l xs a → Found names (l + 1) ys b → (l ≡ 4 → ⊥) → (rest : List Token) (r : Read) → Follows (l + 1) rest →
+    Ends names (Behind l (Binary op a b)) rest r →
     Ends names (Level l) ((xs ++ t ∷ ys) ++ rest) r
 pair_leads names l xs ys t op a b c left right four rest r follows p =
     let levels = operator_levels l t op c in
@@ -150,10 +166,13 @@ comparison_found : (names : List ℕ → Option Expr) (xs ys : List Token) (t : 
     Found names 5 xs a → Found names 5 ys b → Found names 4 (xs ++ t ∷ ys) (Binary op a b)
 comparison_found names xs ys t op a b c left right rest follows =
     subst (λ us. Ends names (Level 4) us (Reads (Binary op a b) rest)) (sym (append_assoc xs (t ∷ ys) rest))
-    (read_chain names 4 (xs ++ (t ∷ ys ++ rest)) (t ∷ ys ++ rest) a (Reads (Binary op a b) rest) refl (left (t ∷ ys ++ rest) (operator_follows 5 4 t op (ys ++ rest) c (omega arith)))
-    (is_behind names 4 a b t op (ys ++ rest) rest (Reads (Binary op a b) rest) c (right rest (follows_tighter 4 5 rest (omega arith) follows)) 0 (λ m le. refl)))
+    (read_chain names 4 (xs ++ (t ∷ ys ++ rest)) (t ∷ ys ++ rest) a (Reads (Binary op a b) rest) refl (left (t ∷ ys
+    ++ rest) (operator_follows 5 4 t op (ys ++ rest) c (omega arith)))
+    (is_behind names 4 a b t op (ys ++ rest) rest (Reads (Binary op a b) rest) c (right rest (follows_tighter 4 5 rest (omega arith) follows)) 0
+    (λ m le. refl)))
 
-pair_found : (names : List ℕ → Option Expr) (l : ℕ) (xs ys : List Token) (t : Token) (op : Op) (a b : Expr) → Contains {X = ℕ × Token × Op} operators (l, t, op) →
+pair_found : (names : List ℕ → Option Expr) (l : ℕ) (xs ys : List Token) (t : Token) (op : Op) (a b : Expr) →
+    Contains {X = ℕ × Token × Op} operators (l, t, op) →
     Found names (left_of l) xs a → Leads names (left_of l) xs a → Found names (l + 1) ys b → Decided (l ≡ 4) → Found names l (xs ++ t ∷ ys) (Binary op a b)
 pair_found names l xs ys t op a b c left leads right (inl four) =
     let left_4 : Found names 5 xs a = subst (λ k. Found names (left_of k) xs a) four left in
@@ -168,7 +187,8 @@ pair_found names l xs ys t op a b c left leads right (inr four) = λ rest follow
 not_found : (names : List ℕ → Option Expr) (ts : List Token) (e : Expr) → Found names 3 ts e → Found names 3 (NameToken (codes "not") ∷ ts) (Not e)
 not_found names ts e found rest follows =
     let p = found rest follows in
-    by_step names p.0 (Level 3) (NameToken (codes "not") ∷ ts ++ rest) (Reads (Not e) rest) (λ m le. ap (λ r. then_read r (λ e us. Reads (Not e) us)) (p.1 m le))
+    by_step names p.0 (Level 3) (NameToken (codes "not") ∷ ts ++ rest) (Reads (Not e) rest)
+    (λ m le. ap (λ r. then_read r (λ e us. Reads (Not e) us)) (p.1 m le))
 
 -- brackets, and what stands before them
 closes_round : (ts : List Token) → Follows 1 (SignToken (codes ")") ∷ ts)
@@ -177,18 +197,22 @@ closes_round ts = inl (inl refl)
 closes_square : (ts : List Token) → Follows 1 (SignToken (codes "]") ∷ ts)
 closes_square ts = inl (inr refl)
 
-bracket_found : (names : List ℕ → Option Expr) (us : List Token) (e : Expr) → Found names 1 us e → Found names 11 (SignToken (codes "(") ∷ us ++ SignToken (codes ")") ∷ []) e
+bracket_found : (names : List ℕ → Option Expr) (us : List Token) (e : Expr) → Found names 1 us e →
+    Found names 11 (SignToken (codes "(") ∷ us ++ SignToken (codes ")") ∷ []) e
 bracket_found names us e found rest follows =
     let p = found (SignToken (codes ")") ∷ rest) (closes_round rest) in
-    by_step names p.0 (Level 11) _ (Reads e rest) (λ m le. enclosed_reads names (SignToken (codes "(")) (SignToken (codes ")")) (λ e. e) us rest e refl refl p m le)
+    by_step names p.0 (Level 11) _ (Reads e rest) (λ m le. enclosed_reads names (SignToken (codes "(")) (SignToken (codes ")"))
+    (λ e. e) us rest e refl refl p m le)
 
 old_found : (names : List ℕ → Option Expr) (us : List Token) (e : Expr) → Found names 1 us e →
     Found names 11 (NameToken (codes "old") ∷ SignToken (codes "(") ∷ us ++ SignToken (codes ")") ∷ []) (Old e)
 old_found names us e found rest follows =
     let p = found (SignToken (codes ")") ∷ rest) (closes_round rest) in
-    by_step names p.0 (Level 11) _ (Reads (Old e) rest) (λ m le. enclosed_reads names (SignToken (codes "(")) (SignToken (codes ")")) (λ e. Old e) us rest e refl refl p m le)
+    by_step names p.0 (Level 11) _ (Reads (Old e) rest) (λ m le. enclosed_reads names (SignToken (codes "(")) (SignToken (codes ")"))
+    (λ e. Old e) us rest e refl refl p m le)
 
-memory_found : (names : List ℕ → Option Expr) (n : ℕ) (w : List ℕ) (us : List Token) (e : Expr) → Contains {X = ℕ × List ℕ} load_words (n, w) → Found names 1 us e →
+memory_found : (names : List ℕ → Option Expr) (n : ℕ) (w : List ℕ) (us : List Token) (e : Expr) → Contains {X = ℕ × List ℕ} load_words (n, w) →
+    Found names 1 us e →
     Found names 11 (NameToken w ∷ SignToken (codes "[") ∷ us ++ SignToken (codes "]") ∷ []) (Memory n e)
 memory_found names n w us e c found rest follows =
     let p = found (SignToken (codes "]") ∷ rest) (closes_square rest) in
@@ -214,11 +238,13 @@ complete names keeps l ts e (binary_of {xs = xs} {ys = ys} {t = t} {op = op} {a 
       λ three four below rest out follows next. subst (λ us. Ends names (Level l) (us ++ rest) out) (sym is)
           (pair_leads names l xs ys t op a b c (subst (λ k. Leads names k xs a) (left_same l four) r.1) s.0 four rest out follows next),
     )
-complete names keeps l ts e (not_of {ts = us} {e = a} p) = let q = complete names keeps 3 us a p in (not_found names us a q.0, λ three four below. absurd (three refl))
+complete names keeps l ts e (not_of {ts = us} {e = a} p) = let q = complete names keeps 3 us a p
+    in (not_found names us a q.0, λ three four below. absurd (three refl))
 complete names keeps l ts e (number_of {n = n}) =
     tightest names (NumberToken n ∷ []) (Number n) (λ rest follows. by_step names 0 (Level 11) (NumberToken n ∷ rest) (Reads (Number n) rest) (λ m le. refl))
 complete names keeps l ts e (name_of {w = w} {e = a} is) =
-    tightest names (NameToken w ∷ []) a (λ rest follows. by_step names 0 (Level 11) (NameToken w ∷ rest) (Reads a rest) (λ m le. word_named names keeps (work names m) w a rest is))
+    tightest names (NameToken w ∷ []) a (λ rest follows. by_step names 0 (Level 11) (NameToken w ∷ rest) (Reads a rest)
+    (λ m le. word_named names keeps (work names m) w a rest is))
 complete names keeps l ts e (memory_of {n = n} {w = w} {us = us} {e = a} c p is) =
     tightest names ts (Memory n a) (subst (λ vs. Found names 11 vs (Memory n a)) (sym is) (memory_found names n w us a c (complete names keeps 1 us a p).0))
 complete names keeps l ts e (old_of {us = us} {e = a} p is) =
@@ -233,16 +259,19 @@ Keeps r s = (r ≡ Unready → ⊥) → s ≡ r
 abbrev Refines : (Task → List Token → Read) → (Task → List Token → Read) → Type 0
 Refines go more = (task : Task) (ts : List Token) → Keeps (go task ts) (more task ts)
 
-keeps_then : (r s : Read) (f g : Expr → List Token → Read) → Keeps r s → ((e : Expr) (ts : List Token) → Keeps (f e ts) (g e ts)) → Keeps (then_read r f) (then_read s g)
+keeps_then : (r s : Read) (f g : Expr → List Token → Read) → Keeps r s → ((e : Expr) (ts : List Token) → Keeps (f e ts) (g e ts)) →
+    Keeps (then_read r f) (then_read s g)
 keeps_then Unready s f g p q some = absurd (some refl)
 keeps_then Fails s f g p q some = ap (λ r. then_read r g) (p (λ e. cc))
 keeps_then (Reads e ts) s f g p q some = ap (λ r. then_read r g) (p (λ e. cc)) ∙ q e ts some
 
-keeps_opened_if : (go more : Task → List Token → Read) → Refines go more → (b : Bool) (c : Token) (f : Expr → Expr) (ts : List Token) → Keeps (opened_if go b c f ts) (opened_if more b c f ts)
+keeps_opened_if : (go more : Task → List Token → Read) → Refines go more → (b : Bool) (c : Token) (f : Expr → Expr) (ts : List Token) →
+    Keeps (opened_if go b c f ts) (opened_if more b c f ts)
 keeps_opened_if go more p true c f ts = keeps_then (go (Level 1) ts) (more (Level 1) ts) (closed c f) (closed c f) (p (Level 1) ts) (λ e us some. refl)
 keeps_opened_if go more p false c f ts = λ some. refl
 
-keeps_opened : (go more : Task → List Token → Read) → Refines go more → (o c : Token) (f : Expr → Expr) (ts : List Token) → Keeps (opened go o c f ts) (opened more o c f ts)
+keeps_opened : (go more : Task → List Token → Read) → Refines go more → (o c : Token) (f : Expr → Expr) (ts : List Token) →
+    Keeps (opened go o c f ts) (opened more o c f ts)
 keeps_opened go more p o c f [] = λ some. refl
 keeps_opened go more p o c f (t ∷ ts) = keeps_opened_if go more p (same_token t o) c f ts
 
@@ -252,7 +281,8 @@ keeps_word names go more p zero false w ts = λ some. refl
 keeps_word names go more p zero true w ts = keeps_opened go more p (SignToken (codes "(")) (SignToken (codes ")")) (λ e. Old e) ts
 keeps_word names go more p (suc k) b w ts = keeps_opened go more p (SignToken (codes "[")) (SignToken (codes "]")) (λ e. Memory (suc k) e) ts
 
-keeps_atom : (names : List ℕ → Option Expr) (go more : Task → List Token → Read) → Refines go more → (ts : List Token) → Keeps (atom_at names go ts) (atom_at names more ts)
+keeps_atom : (names : List ℕ → Option Expr) (go more : Task → List Token → Read) → Refines go more → (ts : List Token) →
+    Keeps (atom_at names go ts) (atom_at names more ts)
 keeps_atom names go more p [] = λ some. refl
 keeps_atom names go more p (NumberToken n ∷ ts) = λ some. refl
 keeps_atom names go more p (NameToken w ∷ ts) = keeps_word names go more p (size_of w) (bytes_eq w (codes "old")) w ts
@@ -260,7 +290,8 @@ keeps_atom names go more p (SignToken s ∷ ts) = keeps_opened go more p (SignTo
 keeps_atom names go more p (BadByte ∷ ts) = λ some. refl
 keeps_atom names go more p (BadText ∷ ts) = λ some. refl
 
-keeps_negated_if : (go more : Task → List Token → Read) → Refines go more → (b : Bool) (t : Token) (ts : List Token) → Keeps (negated_if go b t ts) (negated_if more b t ts)
+keeps_negated_if : (go more : Task → List Token → Read) → Refines go more → (b : Bool) (t : Token) (ts : List Token) →
+    Keeps (negated_if go b t ts) (negated_if more b t ts)
 keeps_negated_if go more p true t ts = keeps_then (go (Level 3) ts) (more (Level 3) ts) _ _ (p (Level 3) ts) (λ e us some. refl)
 keeps_negated_if go more p false t ts = p (Level 4) (t ∷ ts)
 
@@ -275,16 +306,19 @@ keeps_level names go more p Tightest l ts = keeps_atom names go more p ts
 keeps_level names go more p NoLevel l ts = λ some. refl
 keeps_level names go more p Chains l ts = keeps_then (go (Level (l + 1)) ts) (more (Level (l + 1)) ts) _ _ (p (Level (l + 1)) ts) (λ a us. p (Behind l a) us)
 
-keeps_again : (go more : Task → List Token → Read) → Refines go more → (b : Bool) (l : ℕ) (a : Expr) (ts : List Token) → Keeps (again go b l a ts) (again more b l a ts)
+keeps_again : (go more : Task → List Token → Read) → Refines go more → (b : Bool) (l : ℕ) (a : Expr) (ts : List Token) →
+    Keeps (again go b l a ts) (again more b l a ts)
 keeps_again go more p true l a ts = λ some. refl
 keeps_again go more p false l a ts = p (Behind l a) ts
 
-keeps_by : (go more : Task → List Token → Read) → Refines go more → (l : ℕ) (a : Expr) (o : Option Op) (t : Token) (ts : List Token) → Keeps (behind_by go l a o t ts) (behind_by more l a o t ts)
+keeps_by : (go more : Task → List Token → Read) → Refines go more → (l : ℕ) (a : Expr) (o : Option Op) (t : Token) (ts : List Token) →
+    Keeps (behind_by go l a o t ts) (behind_by more l a o t ts)
 keeps_by go more p l a None t ts = λ some. refl
 keeps_by go more p l a (Some op) t ts =
     keeps_then (go (Level (l + 1)) ts) (more (Level (l + 1)) ts) _ _ (p (Level (l + 1)) ts) (λ b us. keeps_again go more p (l == 4) l (Binary op a b) us)
 
-keeps_behind : (go more : Task → List Token → Read) → Refines go more → (l : ℕ) (a : Expr) (ts : List Token) → Keeps (behind_at go l a ts) (behind_at more l a ts)
+keeps_behind : (go more : Task → List Token → Read) → Refines go more → (l : ℕ) (a : Expr) (ts : List Token) →
+    Keeps (behind_at go l a ts) (behind_at more l a ts)
 keeps_behind go more p l a [] = λ some. refl
 keeps_behind go more p l a (t ∷ ts) = keeps_by go more p l a (of_level (line_of operators t) l) t ts
 
@@ -304,16 +338,19 @@ settled names n (suc k) task ts some =
     ap (λ m. work names m task ts) (suc-add k n) ∙ (up ∙ before)
 
 -- what is read is what the tokens are
-pub reads_all : (names : List ℕ → Option Expr) → KeepsReserved names → (n : ℕ) (ts : List Token) (e : Expr) → is_ready (work names n (Level 1) ts) ≡ true → Parses names 1 ts e →
+pub reads_all : (names : List ℕ → Option Expr) → KeepsReserved names → (n : ℕ) (ts : List Token) (e : Expr) → is_ready (work names n (Level 1) ts) ≡ true →
+    Parses names 1 ts e →
     all_read (work names n (Level 1) ts) ≡ Some e
 reads_all names keeps n ts e ready p =
     let q = (complete names keeps 1 ts e p).0 [] tt in
-    let late : work names (q.0 + n) (Level 1) ts ≡ Reads e [] = ap (λ us. work names (q.0 + n) (Level 1) us) (sym (append-nil ts)) ∙ q.1 (q.0 + n) (omega arith) in
+    let late : work names (q.0 + n) (Level 1) ts ≡ Reads e [] = ap
+    (λ us. work names (q.0 + n) (Level 1) us) (sym (append-nil ts)) ∙ q.1 (q.0 + n) (omega arith) in
     let early = settled names n q.0 (Level 1) ts (λ e. let b : false ≡ true = sym (ap is_ready e) ∙ ready in cc) in
     ap all_read (sym early ∙ late)
 
 -- tokens that are read as nothing are no expression
-pub no_expression : (names : List ℕ → Option Expr) → KeepsReserved names → (n : ℕ) (ts : List Token) → is_ready (work names n (Level 1) ts) ≡ true → all_read (work names n (Level 1) ts) ≡ None →
+pub no_expression : (names : List ℕ → Option Expr) → KeepsReserved names → (n : ℕ) (ts : List Token) → is_ready (work names n (Level 1) ts) ≡ true →
+    all_read (work names n (Level 1) ts) ≡ None →
     (e : Expr) → Parses names 1 ts e → ⊥
 no_expression names keeps n ts ready none e p = none_some Expr e (sym none ∙ reads_all names keeps n ts e ready p)
 
@@ -322,15 +359,18 @@ one_reading : (names : List ℕ → Option Expr) (task : Task) (ts : List Token)
 one_reading names task ts r s p q = sym (p.1 (max p.0 q.0) (omega arith)) ∙ q.1 (max p.0 q.0) (omega arith)
 
 -- tokens begin with one expression of a level at most that something may follow
-pub one_beginning : (names : List ℕ → Option Expr) → KeepsReserved names → (l : ℕ) (xs rest vs more : List Token) (e f : Expr) → Parses names l xs e → Parses names l vs f →
+pub one_beginning : (names : List ℕ → Option Expr) → KeepsReserved names → (l : ℕ) (xs rest vs more : List Token) (e f : Expr) → Parses names l xs e →
+    Parses names l vs f →
     Follows l rest → Follows l more → xs ++ rest ≡ vs ++ more → (xs ≡ vs) × (rest ≡ more) × (e ≡ f)
 one_beginning names keeps l xs rest vs more e f p q follows others is =
     let r = one_reading names (Level l) (vs ++ more) (Reads e rest) (Reads f more)
-    (subst (λ us. Ends names (Level l) us (Reads e rest)) is ((complete names keeps l xs e p).0 rest follows)) ((complete names keeps l vs f q).0 more others) in
+    (subst (λ us. Ends names (Level l) us (Reads e rest)) is ((complete names keeps l xs e p).0 rest follows))
+    ((complete names keeps l vs f q).0 more others) in
     let rest_is : rest ≡ more = cc in
     let e_is : e ≡ f = cc in
     (append_cancel_right xs vs more (ap (λ us. xs ++ us) (sym rest_is) ∙ is), rest_is, e_is)
 
 -- tokens are one expression at most
-pub one_expression : (names : List ℕ → Option Expr) → KeepsReserved names → (l : ℕ) (ts : List Token) (e f : Expr) → Parses names l ts e → Parses names l ts f → e ≡ f
+pub one_expression : (names : List ℕ → Option Expr) → KeepsReserved names → (l : ℕ) (ts : List Token) (e f : Expr) → Parses names l ts e → Parses names l ts f →
+    e ≡ f
 one_expression names keeps l ts e f p q = (one_beginning names keeps l ts [] ts [] e f p q tt tt refl).2

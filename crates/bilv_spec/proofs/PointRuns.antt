@@ -23,7 +23,8 @@ module _ (p : Program) (k : ℕ) where
   turned true n q c e h ok f = tt
   turned false n q c e h ok f = let l : q.turns + 1 ≤ k = grind (arith, nat_tests) in (f l, ok, l)
 
-  arrived : (b : Bool) (n : ℕ) (q : Point) (c : Place) → nat_le c.state.pc q.at ≡ b → q.turns ≤ k → IsPoint p k q → IsState c.state → Contains (edges p q) (ToAddress c.stack c.state.pc) →
+  arrived : (b : Bool) (n : ℕ) (q : Point) (c : Place) → nat_le c.state.pc q.at ≡ b → q.turns ≤ k → IsPoint p k q → IsState c.state →
+      Contains (edges p q) (ToAddress c.stack c.state.pc) →
       Stands (arrive b k q.turns n q.at c)
   arrived false n q c e h is ok edge =
       (subst (λ (z : Bool). (by z q c).turns ≤ k → IsPoint p k (by z q c)) e (λ l. next is edge l) h, ok, h)

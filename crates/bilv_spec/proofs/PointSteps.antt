@@ -54,7 +54,8 @@ module _ {X Y : Type 0} where
   in_map f (y ∷ xs) x (zero, h, e) = (0, omega arith, ap f e)
   in_map f (y ∷ xs) x (suc i, h, e) = there (f y) (map f xs) (f x) (in_map f xs x (i, omega arith, e))
 
-any_by : (b : Bool) (to a : ℕ) (xs : List ℕ) → nat_eq to a ≡ b → (list_any (nat_eq to) xs ≡ true → Contains xs to) → (b || list_any (nat_eq to) xs) ≡ true → Contains (a ∷ xs) to
+any_by : (b : Bool) (to a : ℕ) (xs : List ℕ) → nat_eq to a ≡ b → (list_any (nat_eq to) xs ≡ true → Contains xs to) → (b || list_any (nat_eq to) xs) ≡ true →
+    Contains (a ∷ xs) to
 any_by true to a xs e f h = (0, omega arith, sym (same_number to a e))
 any_by false to a xs e f h = there a xs to (f h)
 
@@ -89,7 +90,8 @@ in_distinct [] x (i, h, e) = absurd (omega arith)
 in_distinct (t ∷ xs) x (zero, h, e) = (0, omega arith, e)
 in_distinct (t ∷ xs) x (suc i, h, e) = elim (truth (same_end t x)) [
   | inl y ↦ (0, omega arith, same_end_is t x y)
-  | inr n ↦ there t (filter (λ u. not (same_end t u)) (distinct xs)) x (in_filter (λ u. not (same_end t u)) (distinct xs) x (in_distinct xs x (i, omega arith, e)) (ap not n))
+  | inr n ↦ there t (filter (λ u. not (same_end t u)) (distinct xs)) x (in_filter
+      (λ u. not (same_end t u)) (distinct xs) x (in_distinct xs x (i, omega arith, e)) (ap not n))
 ]
 
 module _ (p : Program) (row : Row) (turns at : ℕ) (stack : List ℕ) where
@@ -116,13 +118,15 @@ module _ (p : Program) (row : Row) (turns at : ℕ) (stack : List ℕ) where
       let t : EdgeEnd = ToAddress stack (add 32 at row.length) in
       in_right (jump_ends p point row s) (nexts s.next) t (subst (λ (z : Bool). Contains (nexts z) t) (sym e) (here t []))
 
-  jump_direct : (call : Bool) (a : ℕ) → s.direct ≡ Some a → s.call ≡ call → Contains (jump_ends p point row s) (ToAddress (after_call call row.length at stack) a)
+  jump_direct : (call : Bool) (a : ℕ) → s.direct ≡ Some a → s.call ≡ call →
+      Contains (jump_ends p point row s) (ToAddress (after_call call row.length at stack) a)
   jump_direct call a d c =
       let t : EdgeEnd = ToAddress (after_call call row.length at stack) a in
       in_left (directs s.call s.direct) (indirects s.call s.indirect) t
       (subst (λ (z : Bool). Contains (directs z s.direct) t) (sym c) (subst (λ (z : Option ℕ). Contains (directs call z) t) (sym d) (here t [])))
 
-  jump_indirect : (call : Bool) (t : EdgeEnd) → s.indirect ≡ true → s.call ≡ call → Contains (indirect_ends call row.length at stack names) t → Contains (jump_ends p point row s) t
+  jump_indirect : (call : Bool) (t : EdgeEnd) → s.indirect ≡ true → s.call ≡ call → Contains (indirect_ends call row.length at stack names) t →
+      Contains (jump_ends p point row s) t
   jump_indirect call t i c h =
       in_right (directs s.call s.direct) (indirects s.call s.indirect) t
       (subst (λ (z : Bool). Contains (indirects s.call z) t) (sym i) (subst (λ (z : Bool). Contains (indirect_ends z row.length at stack names) t) (sym c) h))
@@ -130,7 +134,8 @@ module _ (p : Program) (row : Row) (turns at : ℕ) (stack : List ℕ) where
   in_direct : (call : Bool) (a : ℕ) → s.direct ≡ Some a → s.call ≡ call → Contains (edges_of p point row s) (ToAddress (after_call call row.length at stack) a)
   in_direct call a d c = in_left (jump_ends p point row s) (nexts s.next) (ToAddress (after_call call row.length at stack) a) (jump_direct call a d c)
 
-  in_indirect : (call : Bool) (t : EdgeEnd) → s.indirect ≡ true → s.call ≡ call → Contains (indirect_ends call row.length at stack names) t → Contains (edges_of p point row s) t
+  in_indirect : (call : Bool) (t : EdgeEnd) → s.indirect ≡ true → s.call ≡ call → Contains (indirect_ends call row.length at stack names) t →
+      Contains (edges_of p point row s) t
   in_indirect call t i c h = in_left (jump_ends p point row s) (nexts s.next) t (jump_indirect call t i c h)
 
   pub in_edges : file_row p at ≡ Some row → (t : EdgeEnd) → leads_on t ≡ true → Contains (edges_of p point row s) t → Contains (edges p point) t
@@ -153,11 +158,13 @@ exit_along : (p : Program) (q : Point) (o : Option ℕ) (new : State) → Contai
 exit_along p q None new h = h
 exit_along p q (Some line) new h = h
 
-allowed_along : (p : Program) (q : Point) (b : Bool) (c : Place) → (b ≡ true → Contains (edges p q) (ToAddress c.stack c.state.pc)) → IsState c.state → GoesAlong p q (allowed b c)
+allowed_along : (p : Program) (q : Point) (b : Bool) (c : Place) → (b ≡ true → Contains (edges p q) (ToAddress c.stack c.state.pc)) → IsState c.state →
+    GoesAlong p q (allowed b c)
 allowed_along p q true c h ok = (h refl, ok)
 allowed_along p q false c h ok = tt
 
-module _ (p : Program) (row : Row) (turns : ℕ) (entry old new : State) (at : file_row p old.pc ≡ Some row) (ok : IsState new) (aligned : (new.pc % 4 == 0) ≡ true) where
+module _ (p : Program) (row : Row) (turns : ℕ) (entry old new : State) (at : file_row p old.pc ≡ Some row) (ok : IsState new) (aligned : (new.pc % 4 == 0)
+    ≡ true) where
   abbrev from : List ℕ → Point
   from stack = point p row turns old.pc stack
 
@@ -202,8 +209,11 @@ module _ (p : Program) (row : Row) (turns : ℕ) (entry old new : State) (at : f
   )
   transfer_along Direct stack h e =
       (in_edges p row turns old.pc stack at (ToAddress stack new.pc) aligned (in_direct p row turns old.pc stack false new.pc h.0 h.1), ok)
-  transfer_along DirectCall stack h e =
-      (in_edges p row turns old.pc stack at (ToAddress (add 32 old.pc row.length ∷ stack) new.pc) aligned (in_direct p row turns old.pc stack true new.pc h.0 h.1), ok)
+  transfer_along DirectCall stack h e = (
+    in_edges p row turns old.pc stack at (ToAddress (add 32 old.pc row.length
+        ∷ stack) new.pc) aligned (in_direct p row turns old.pc stack true new.pc h.0 h.1),
+    ok,
+  )
   transfer_along Indirect stack h e = leave_along stack h.0 h.1
   transfer_along IndirectCall stack h e =
       allowed_along p (from stack) (is_named (by_file p) old row new.pc) (record { state = new; stack = add 32 old.pc row.length ∷ stack })
@@ -211,16 +221,19 @@ module _ (p : Program) (row : Row) (turns : ℕ) (entry old new : State) (at : f
       (in_indirect p row turns old.pc stack true (ToAddress (add 32 old.pc row.length ∷ stack) new.pc) h.0 h.1
       (named_call p row turns old.pc stack new.pc (in_any new.pc (named p (file_word p) row old.pc) n)))) ok
 
-module _ (p : Program) (row : Row) (turns : ℕ) (entry old : State) (at : file_row p old.pc ≡ Some row) (law : IsLawful row) (ok : IsState old) (stack : List ℕ) where
+module _ (p : Program) (row : Row) (turns : ℕ) (entry old : State) (at : file_row p old.pc
+    ≡ Some row) (law : IsLawful row) (ok : IsState old) (stack : List ℕ) where
   abbrev its_point : Point
   its_point = point p row turns old.pc stack
 
-  aligned_along : (how : How) (new : State) (b : Bool) → (new.pc % 4 == 0) ≡ b → IsState new → IsSuccessor (row.successors old.pc) (Goes how new) → ComesNext row.length old (Goes how new) →
+  aligned_along : (how : How) (new : State) (b : Bool) → (new.pc % 4 == 0) ≡ b → IsState new → IsSuccessor (row.successors old.pc) (Goes how new) →
+      ComesNext row.length old (Goes how new) →
       GoesAlong p its_point (aligned_transfer b (by_file p) entry row old stack how new)
   aligned_along how new true b state h e = transfer_along p row turns entry old new at state b how stack h e
   aligned_along how new false b state h e = tt
 
-  going_along : (how : How) (new : State) (writes : Bool) → IsState new → IsSuccessor (row.successors old.pc) (Goes how new) → ComesNext row.length old (Goes how new) →
+  going_along : (how : How) (new : State) (writes : Bool) → IsState new → IsSuccessor (row.successors old.pc) (Goes how new) →
+      ComesNext row.length old (Goes how new) →
       GoesAlong p its_point (going_on writes (by_file p) entry row old stack how new)
   going_along how new true state h e = tt
   going_along how new false state h e = aligned_along how new (new.pc % 4 == 0) refl state h e

@@ -50,10 +50,12 @@ same_point_is x y h =
     let t = same_number x.turns y.turns a.0 in
     let s = same_list x.stack y.stack b.0 in
     let i = same_number x.at y.at b.1 in
-    ap (λ z. record { turns = z; stack = x.stack; at = x.at }) t ∙ ap (λ z. record { turns = y.turns; stack = z; at = x.at }) s ∙ ap (λ z. record { turns = y.turns; stack = y.stack; at = z }) i
+    ap (λ z. record { turns = z; stack = x.stack; at = x.at }) t ∙ ap (λ z. record { turns = y.turns; stack = z; at = x.at }) s ∙ ap
+    (λ z. record { turns = y.turns; stack = y.stack; at = z }) i
 
 module _ {X : Type 0} where
-  any_by : (f : X → Bool) (x : X) (xs : List X) (b : Bool) → f x ≡ b → (list_any f xs ≡ true → (y : X) × Contains xs y × (f y ≡ true)) → (b || list_any f xs) ≡ true →
+  any_by : (f : X → Bool) (x : X) (xs : List X) (b : Bool) → f x ≡ b → (list_any f xs ≡ true → (y : X) × Contains xs y × (f y ≡ true)) →
+      (b || list_any f xs) ≡ true →
       (y : X) × Contains (x ∷ xs) y × (f y ≡ true)
   any_by f x xs true e g q = (x, here x xs, e)
   any_by f x xs false e g q = let r = g q in (r.0, there x xs r.0 r.1, r.2)
@@ -91,7 +93,8 @@ same_point_self x = by (truth (bytes_eq x.stack x.stack))
     by (inr e) = absurd (grind (arith, bytes_eq-Decides))
 
 module _ (p : Program) (k : ℕ) where
-  closed_on : (xs : List Point) → is_closed p k xs ≡ true → (x : Point) → Contains xs x → (stack : List ℕ) (a : ℕ) → Contains (edges p x) (ToAddress stack a) → (end_of x stack a).turns ≤ k →
+  closed_on : (xs : List Point) → is_closed p k xs ≡ true → (x : Point) → Contains xs x → (stack : List ℕ) (a : ℕ) → Contains (edges p x) (ToAddress stack a) →
+      (end_of x stack a).turns ≤ k →
       Contains xs (end_of x stack a)
   closed_on xs c x h stack a e l =
       let t = all_is (ends_in k xs x) (edges p x) (all_is (λ x. list_all (ends_in k xs x) (edges p x)) xs c x h) (ToAddress stack a) e in
@@ -109,7 +112,8 @@ module _ (p : Program) (k : ℕ) where
       let l : (end_of x stack a).turns ≤ k = grind (arith, nat_tests) in
       subst (λ (z : Point). IsPoint p k z) (same_point_is (end_of x stack a) y q.1) (next h e l)
 
-  reached : (ys done : List Point) → ((x : Point) → Contains done x → IsPoint p k x) → is_reached p k done ys ≡ true → (y : Point) → Contains ys y → IsPoint p k y
+  reached : (ys done : List Point) → ((x : Point) → Contains done x → IsPoint p k x) → is_reached p k done ys ≡ true → (y : Point) → Contains ys y →
+      IsPoint p k y
   reached [] done old h y (i, l, e) = absurd (omega arith)
   reached (y ∷ ys) done old h x c =
       let q = and_both (list_any (λ x. list_any (is_end k x y) (edges p x)) done) (is_reached p k (y ∷ done) ys) h in

@@ -180,8 +180,12 @@ module _ (p : Program) where
     pushed : (b : ℕ) → b % 4 ≡ 0 → s.call ≡ true → b ≡ add 32 at row.length → IsReturnAddress p b
     pushed b e t q =
         let x : Successor = successor ReturnLetter b in
-        let h : Contains (backs true) x = (0, omega arith, ap (successor ReturnLetter) (sym q)) in
-        (at, address, in_successors x e (in_right (ons s.next ++ jumps ++ throughs s.indirect) (backs s.call) x (subst (λ (z : Bool). Contains (backs z) x) (sym t) h)))
+        let h : Contains (backs true) x = (0, omega arith, ap (successor ReturnLetter) (sym q)) in (
+          at,
+          address,
+          in_successors x e (in_right (ons s.next ++ jumps
+              ++ throughs s.indirect) (backs s.call) x (subst (λ (z : Bool). Contains (backs z) x) (sym t) h)),
+        )
 
     -- the stack after a row
     called : (call : Bool) → s.call ≡ call → Returns (after_call call row.length at stack)
@@ -192,7 +196,8 @@ module _ (p : Program) where
     pops : (call indirect : Bool) → s.call ≡ call → s.indirect ≡ indirect → (indirect && not call) ≡ true → may_return p at ≡ true
     pops call indirect c i h = ap (returns_by at) is ∙ ap (λ z. z && not s.call) i ∙ ap (λ z. indirect && not z) c ∙ h
 
-    return_follows : (l : List ℕ) → Returns l → s.call ≡ false → s.indirect ≡ true → (below : List ℕ) (a : ℕ) → a % 4 ≡ 0 → Contains (return_ends l) (ToAddress below a) →
+    return_follows : (l : List ℕ) → Returns l → s.call ≡ false → s.indirect ≡ true → (below : List ℕ) (a : ℕ) → a % 4 ≡ 0 →
+        Contains (return_ends l) (ToAddress below a) →
         Follows at below a
     return_follows [] r c i below a e (zero, l, q) = absurd (let t : false ≡ true = ap is_address q in cc)
     return_follows [] r c i below a e (suc n, l, q) = absurd (omega arith)
@@ -206,7 +211,8 @@ module _ (p : Program) where
           returns = λ b h g. r b (there top rest b (subst (λ (z : List ℕ). Contains z b) (sym same_stack) h)) g;
         }
 
-    indirect_follows : (call : Bool) → s.call ≡ call → s.indirect ≡ true → (new : List ℕ) (a : ℕ) → a % 4 ≡ 0 → Contains (indirect_ends call row.length at stack names) (ToAddress new a) →
+    indirect_follows : (call : Bool) → s.call ≡ call → s.indirect ≡ true → (new : List ℕ) (a : ℕ) → a % 4 ≡ 0 →
+        Contains (indirect_ends call row.length at stack names) (ToAddress new a) →
         Follows at new a
     indirect_follows true c i new a e h =
         let q = of_map (λ a. ToAddress (after_call true row.length at stack) a) names (ToAddress new a) h in
@@ -226,11 +232,13 @@ module _ (p : Program) where
               })
         ]
 
-    through_by : (b : Bool) → s.indirect ≡ b → (new : List ℕ) (a : ℕ) → a % 4 ≡ 0 → Contains (if b then indirect_ends s.call row.length at stack names else []) (ToAddress new a) → Follows at new a
+    through_by : (b : Bool) → s.indirect ≡ b → (new : List ℕ) (a : ℕ) → a % 4 ≡ 0 →
+        Contains (if b then indirect_ends s.call row.length at stack names else []) (ToAddress new a) → Follows at new a
     through_by false i new a e h = none_in (ToAddress new a) h
     through_by true i new a e h = indirect_follows s.call refl i new a e h
 
-    fall_by : (b : Bool) → s.next ≡ b → (new : List ℕ) (a : ℕ) → a % 4 ≡ 0 → Contains (if b then ToAddress stack (add 32 at row.length) ∷ [] else []) (ToAddress new a) → Follows at new a
+    fall_by : (b : Bool) → s.next ≡ b → (new : List ℕ) (a : ℕ) → a % 4 ≡ 0 →
+        Contains (if b then ToAddress stack (add 32 at row.length) ∷ [] else []) (ToAddress new a) → Follows at new a
     fall_by false n new a e h = none_in (ToAddress new a) h
     fall_by true n new a e (suc i, l, q) = absurd (omega arith)
     fall_by true n new a e (zero, l, q) = record { leads = next_in a e n (sym (ap at_of q)); returns = subst Returns (ap stack_of q) old }
@@ -241,20 +249,22 @@ module _ (p : Program) where
     edge_follows : (turns : ℕ) (new : List ℕ) (a : ℕ) → a % 4 ≡ 0 → Contains (edges_of p (point turns) row s) (ToAddress new a) → Follows at new a
     edge_follows turns new a e h = elim (split_in (jump_ends p (point turns) row s) (fall_ends (point turns) row s) (ToAddress new a) h) [
       | inr f ↦ fall_by s.next refl new a e f
-      | inl j ↦ elim (split_in (map (λ a. ToAddress (after_call s.call row.length at stack) a) (some_of s.direct)) (if s.indirect then indirect_ends s.call row.length at stack names else []) (ToAddress new a) j) [
-        | inl d ↦ (let q = of_map (λ a. ToAddress (after_call s.call row.length at stack) a) (some_of s.direct) (ToAddress new a) d in
-            record {
-              leads = direct_in a e (subst (λ (z : ℕ). Contains (some_of s.direct) z) (ap at_of q.2) q.1);
-              returns = subst Returns (ap stack_of q.2) (called s.call refl);
-            })
-        | inr i ↦ through_by s.indirect refl new a e i
-      ]
+      | inl j ↦ elim (split_in (map (λ a. ToAddress (after_call s.call row.length at stack) a) (some_of s.direct)) (if s.indirect
+          then indirect_ends s.call row.length at stack names else []) (ToAddress new a) j) [
+            | inl d ↦ (let q = of_map (λ a. ToAddress (after_call s.call row.length at stack) a) (some_of s.direct) (ToAddress new a) d in
+                record {
+                  leads = direct_in a e (subst (λ (z : ℕ). Contains (some_of s.direct) z) (ap at_of q.2) q.1);
+                  returns = subst Returns (ap stack_of q.2) (called s.call refl);
+                })
+            | inr i ↦ through_by s.indirect refl new a e i
+          ]
     ]
 
     not_exit : {P : Type 0} (f : ℕ → List ℕ) (xs : List ℕ) → Contains (map (λ a. ToAddress (f a) a) xs) ToExit → P
     not_exit f xs h = let q = of_map (λ a. ToAddress (f a) a) xs ToExit h in absurd (let t : true ≡ false = ap is_address q.2 in cc)
 
-    exit_through : (b call : Bool) → s.indirect ≡ b → s.call ≡ call → Contains (if b then indirect_ends call row.length at stack names else []) ToExit → may_return p at ≡ true
+    exit_through : (b call : Bool) → s.indirect ≡ b → s.call ≡ call → Contains (if b then indirect_ends call row.length at stack names else []) ToExit →
+        may_return p at ≡ true
     exit_through false call i c h = none_in ToExit h
     exit_through true true i c h = not_exit (λ a. after_call true row.length at stack) names h
     exit_through true false i c h = pops false true c i refl
@@ -266,10 +276,11 @@ module _ (p : Program) where
     exit_returns : (turns : ℕ) → Contains (edges_of p (point turns) row s) ToExit → may_return p at ≡ true
     exit_returns turns h = elim (split_in (jump_ends p (point turns) row s) (fall_ends (point turns) row s) ToExit h) [
       | inr f ↦ exit_fall s.next f
-      | inl j ↦ elim (split_in (map (λ a. ToAddress (after_call s.call row.length at stack) a) (some_of s.direct)) (if s.indirect then indirect_ends s.call row.length at stack names else []) ToExit j) [
-        | inl d ↦ not_exit (λ a. after_call s.call row.length at stack) (some_of s.direct) d
-        | inr i ↦ exit_through s.indirect s.call refl refl i
-      ]
+      | inl j ↦ elim (split_in (map (λ a. ToAddress (after_call s.call row.length at stack) a) (some_of s.direct)) (if s.indirect
+          then indirect_ends s.call row.length at stack names else []) ToExit j) [
+            | inl d ↦ not_exit (λ a. after_call s.call row.length at stack) (some_of s.direct) d
+            | inr i ↦ exit_through s.indirect s.call refl refl i
+          ]
     ]
 
   exit_by_row : (o : Option Row) (turns at : ℕ) (stack : List ℕ) → file_row p at ≡ o → IsAddress p at → Returns stack →
@@ -287,7 +298,8 @@ module _ (p : Program) where
       let q = of_filter leads_on all (ToAddress new a) (of_distinct (filter leads_on all) (ToAddress new a) h) in
       edge_follows row at stack e is r turns new a (same_number (a % 4) 0 q.1) q.0
 
-  edge_of_point : (point : Point) → IsAddress p point.at → Returns point.stack → (new : List ℕ) (a : ℕ) → Contains (edges p point) (ToAddress new a) → Follows point.at new a
+  edge_of_point : (point : Point) → IsAddress p point.at → Returns point.stack → (new : List ℕ) (a : ℕ) → Contains (edges p point) (ToAddress new a) →
+      Follows point.at new a
   edge_of_point point is r new a h = edge_by (file_row p point.at) point.turns point.at point.stack refl is r new a h
 
   module _ (k : ℕ) where

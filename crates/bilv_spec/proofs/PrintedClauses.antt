@@ -67,12 +67,14 @@ not_proof t ns h = elim (cases_Bool (bytes_eq t (codes "proof"))) [
 module _ (n : ℕ) (low : n ≤ greatest_count) where
   line_tokens : (c : Clause) → list_all (in_range n) c ≡ true → list_all is_token (to_zero (map literal_text c)) ≡ true
   line_tokens c h =
-      tokens_before literal_text literal_number literal_listed each_literal c (passes_more (in_range n) literal_listed (listed_in n low) c h) (codes "0" ∷ []) refl
+      tokens_before literal_text literal_number literal_listed each_literal c (passes_more (in_range n) literal_listed (listed_in n low) c h) (codes "0"
+      ∷ []) refl
 
   line_numbers : (c : Clause) → list_all (in_range n) c ≡ true → numbers_of (words_of (clause_line c)) ≡ Some (numbers_of_clause c)
   line_numbers c h =
       ap numbers_of (words_joined (to_zero (map literal_text c)) (line_tokens c h))
-      ∙ numbers_before literal_text literal_number literal_listed each_literal c (passes_more (in_range n) literal_listed (listed_in n low) c h) (codes "0" ∷ []) (end_zero ∷ []) refl
+      ∙ numbers_before literal_text literal_number literal_listed each_literal c (passes_more (in_range n) literal_listed (listed_in n low) c h) (codes "0"
+      ∷ []) (end_zero ∷ []) refl
 
   within_header : (c : Clause) → list_all (in_range n) c ≡ true → list_all (λ i. nat_le i.size n) (numbers_of_clause c) ≡ true
   within_header c h =
@@ -112,7 +114,8 @@ module _ (n : ℕ) (low : n ≤ greatest_count) where
       let g = and_parts (list_all (in_range n) c) (list_all (list_all (in_range n)) cs) h in
       ap clauses_in (append_assoc (map literal_number c) (end_zero ∷ []) (all_numbers cs))
       ∙ ap (map (map literal_of)) (parts_cut is_zero (map literal_number c) end_zero (all_numbers cs)
-      (no_zero literal_number literal_listed (λ l e. listed_nonzero (not l.positive) l.variable e) c (passes_more (in_range n) literal_listed (listed_in n low) c g.0)) refl)
+      (no_zero literal_number literal_listed (λ l e. listed_nonzero (not l.positive) l.variable e) c
+      (passes_more (in_range n) literal_listed (listed_in n low) c g.0)) refl)
       ∙ ap (λ (d : Clause). d ∷ clauses_in (all_numbers cs)) (map_back literal_number literal_of literal_back c)
       ∙ ap (λ (ds : List Clause). c ∷ ds) (clauses_back cs g.1)
 
@@ -180,12 +183,14 @@ module _ (cnf : Cnf) (log : List LogLine) (is : IsPrintable cnf) (of_grammar : l
   certificate_lines =
       ap split_lines (append_assoc (cnf_text cnf) (line (codes "proof")) (log_text log))
       ∙ split_all (cnf_lines cnf) (line (codes "proof") ++ log_text log) cnf_in_lines
-      ∙ ap (λ (ts : List (List ℕ)). cnf_lines cnf ++ ts) (split_line (codes "proof") (log_text log) refl ∙ ap (λ (ts : List (List ℕ)). codes "proof" ∷ ts) log_lines)
+      ∙ ap (λ (ts : List (List ℕ)). cnf_lines cnf ++ ts) (split_line (codes "proof") (log_text log) refl ∙ ap
+      (λ (ts : List (List ℕ)). codes "proof" ∷ ts) log_lines)
 
   counted : is_counted header (all_numbers cnf.clauses) ≡ true
   counted =
       and_from (is_ended (all_numbers cnf.clauses)) (length (clauses_in (all_numbers cnf.clauses)) == length cnf.clauses) (all_ended cnf.clauses)
-      (eq-eqb (length (clauses_in (all_numbers cnf.clauses))) (length cnf.clauses) (ap (λ (cs : List Clause). length cs) (clauses_back cnf.variables is.variables cnf.clauses ranges)))
+      (eq-eqb (length (clauses_in (all_numbers cnf.clauses))) (length cnf.clauses) (ap
+      (λ (cs : List Clause). length cs) (clauses_back cnf.variables is.variables cnf.clauses ranges)))
 
   printed_clauses : cnf_of (certificate_text cnf log) ≡ Clauses cnf (2 + length cnf.clauses)
   printed_clauses =
@@ -193,7 +198,8 @@ module _ (cnf : Cnf) (log : List LogLine) (is : IsPrintable cnf) (of_grammar : l
       ∙ rw (header_is, header_small)
       (clauses_answer cnf.variables is.variables (length cnf.clauses) (map log_line log) cnf.clauses ranges 2 []
       ∙ ap (λ b. clauses_if b (2 + length cnf.clauses) header (all_numbers cnf.clauses)) counted
-      ∙ ap (λ (cs : List Clause). Clauses (record { variables = cnf.variables; clauses = cs }) (2 + length cnf.clauses)) (clauses_back cnf.variables is.variables cnf.clauses ranges))
+      ∙ ap (λ (cs : List Clause). Clauses (record { variables = cnf.variables; clauses = cs }) (2 + length cnf.clauses))
+      (clauses_back cnf.variables is.variables cnf.clauses ranges))
 
   dropped : (h p : List ℕ) (cs : List Clause) (rest : List (List ℕ)) → drop (2 + length cs) (h ∷ (map clause_line cs ++ p ∷ rest)) ≡ rest
   dropped h p [] rest = refl

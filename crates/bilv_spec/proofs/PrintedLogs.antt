@@ -175,7 +175,8 @@ module _ (ids : List ℕ) (hi : list_all is_listed ids ≡ true) where
   deleted_line : (id : ℕ) → line_behind_id id (codes "d" ∷ to_zero (map number_text ids)) ≡ Delete id ids
   deleted_line id =
       ap (line_of_numbers true id) id_numbers
-      ∙ rw (ended_by_last (map (integer false) ids) end_zero [], none_below ids, id_parts) (ap (Delete id) (map_back (integer false) (λ n. n.size) (λ n. refl) ids))
+      ∙ rw (ended_by_last (map (integer false) ids) end_zero [], none_below ids, id_parts) (ap (Delete id) (map_back (integer false) (λ n. n.size)
+      (λ n. refl) ids))
 
   pub printed_delete : (id : ℕ) → nat_le id greatest_number ≡ true → clauses_line (words_of (log_line (Delete id ids))) ≡ Delete id ids
   printed_delete id low = of_words id low (codes "d" ∷ to_zero (map number_text ids)) id_tokens ∙ deleted_line id

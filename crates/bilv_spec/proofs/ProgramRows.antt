@@ -18,7 +18,8 @@ use Rattle.bilv_spec.proofs.RvLawful.{rv_is_lawful}
 use Rattle.bilv_spec.proofs.ArmLawful.{arm_is_lawful}
 
 -- the function's address of lines that say one is aligned
-said_aligned : (names : List ℕ → Option Expr) (texts : List (List ℕ)) (says : List Says) (a : ℕ) → AreLines names texts says → entries says ≡ At a ∷ [] → a % 4 ≡ 0
+said_aligned : (names : List ℕ → Option Expr) (texts : List (List ℕ)) (says : List Says) (a : ℕ) → AreLines names texts says → entries says ≡ At a ∷ [] →
+    a % 4 ≡ 0
 said_aligned names [] [] a lines e = absurd (cc)
 said_aligned names [] (s ∷ says) a lines e = absurd lines
 said_aligned names (t ∷ texts) [] a lines e = absurd lines

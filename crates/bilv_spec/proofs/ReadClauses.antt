@@ -34,7 +34,8 @@ first_passes : {A : Type 0} (p : A → Bool) (x : A) (xs : List (List A)) → p 
 first_passes p x [] h g = rw h refl
 first_passes p x (ys ∷ rest) h g = rw h g
 
-parts_if : (b : Bool) (i : Integer) (rest : List (List Integer)) (v : ℕ) → is_zero i ≡ b → nat_le i.size v ≡ true → list_all (list_all (in_range v)) rest ≡ true →
+parts_if : (b : Bool) (i : Integer) (rest : List (List Integer)) (v : ℕ) → is_zero i ≡ b → nat_le i.size v ≡ true →
+    list_all (list_all (in_range v)) rest ≡ true →
     list_all (list_all (in_range v)) (if b then [] ∷ rest else before_first i rest) ≡ true
 parts_if true i rest v z h g = g
 parts_if false i rest v z h g = first_passes (in_range v) i rest (rw z h) g
@@ -79,7 +80,8 @@ abbrev IfRead : CnfAnswer → Type 0
 IfRead (Clauses cnf n) = IsPrintable cnf
 IfRead (RefusedAt n f) = Unit {0}
 
-printable : (h : Header) (ns : List Integer) → IsBehind (Some h) ns → is_counted h ns ≡ true → IsPrintable (record { variables = h.variables; clauses = clauses_in ns })
+printable : (h : Header) (ns : List Integer) → IsBehind (Some h) ns → is_counted h ns ≡ true →
+    IsPrintable (record { variables = h.variables; clauses = clauses_in ns })
 printable h ns is c =
     let s = and_parts (nat_le h.variables greatest_count) (nat_le h.clauses greatest_count) is.0 in
     let n = and_parts (is_ended ns) (length (clauses_in ns) == h.clauses) c in
@@ -107,7 +109,11 @@ unless_none true f h = refl
 unless_none false f h = cc
 
 append_numbers : (h : Header) (before ns : List Integer) → IsBehind (Some h) before → numbers_fault (Some h) ns ≡ None → IsBehind (Some h) (before ++ ns)
-append_numbers h before [] is e = (is.0, list_all-append (λ i. nat_le i.size h.variables) before [] ∙ and_from (list_all (λ i. nat_le i.size h.variables) before) true is.1 refl)
+append_numbers h before [] is e = (
+  is.0,
+  list_all-append (λ i. nat_le i.size h.variables) before [] ∙ and_from (list_all
+      (λ i. nat_le i.size h.variables) before) true is.1 refl,
+)
 append_numbers h before (i ∷ ns) is e = (
   is.0,
   list_all-append (λ j. nat_le j.size h.variables) before (i ∷ ns)

@@ -85,5 +85,6 @@ module _ (p : Program) (k : ℕ) (r : Reading) where
   ends_from start f FailQuestion h = (h.0, h.1, h.2, h.3, sym (followed start f h.0) ∙ h.4)
   ends_from start f TurnQuestion h = (h.0, h.1, h.2, sym (followed start f h.0) ∙ h.3)
 
-  pub reading_is_start : (q : Question) → ((start : Start) × Follows p k r start) × ((start : Start) → Follows p k r start → EndsBy p k r q ↔ StartEndsBy p k start q)
+  pub reading_is_start : (q : Question) → ((start : Start) × Follows p k r start) ×
+      ((start : Start) → Follows p k r start → EndsBy p k r q ↔ StartEndsBy p k start q)
   reading_is_start q = ((start_of, follows), λ start f. (ends_to start f q, ends_from start f q))

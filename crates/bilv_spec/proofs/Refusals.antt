@@ -95,9 +95,11 @@ place_at_end false line = (omega arith, omega arith, ((λ q. omega arith), λ q.
 has_place : (n : ℕ) (ls : List LogLine) (k : Known) (line : ℕ) → HasPlace line (length ls) (first_refusal n k line ls)
 has_place n [] k line = place_at_end k.ended line
 has_place n (l ∷ ls) k line =
-    place_after (judge n k l) line (length ls) (first_refusal n (known_after k l) (line + 1) ls) (judge_of_line n k l) (has_place n ls (known_after k l) (line + 1))
+    place_after (judge n k l) line (length ls) (first_refusal n (known_after k l) (line + 1) ls) (judge_of_line n k l)
+    (has_place n ls (known_after k l) (line + 1))
 
-as_place : (log : List LogLine) (o : Option (ℕ × Cause)) (line : ℕ) (cause : Cause) → o ≡ Some (line, cause) → HasPlace 1 (length log) o → RefusalAt log line cause
+as_place : (log : List LogLine) (o : Option (ℕ × Cause)) (line : ℕ) (cause : Cause) → o ≡ Some (line, cause) → HasPlace 1 (length log) o →
+    RefusalAt log line cause
 as_place log None line cause h f = cc
 as_place log (Some x) line cause h f =
     let e : x.0 ≡ line = ap (λ o. (place_of o).0) h in

@@ -37,7 +37,8 @@ module _ (v : ℕ → Bool) where
       let p = and_parts (holds (opposite m)) (all_false holds ms) h in
       rw (opposite_false (v m.variable) m.positive (i (opposite m) p.0)) (all_false-false holds ms i p.1)
 
-  pub unit-true : (holds : Literal → Bool) (l : Literal) (c : Clause) → Includes holds (literal_value v) → others_false holds l c ≡ true → clause_value v c ≡ true → literal_value v l ≡ true
+  pub unit-true : (holds : Literal → Bool) (l : Literal) (c : Clause) → Includes holds (literal_value v) → others_false holds l c ≡ true →
+      clause_value v c ≡ true → literal_value v l ≡ true
   unit-true holds l [] i h t = absurd (cc)
   unit-true holds l (m ∷ ms) i h t =
       let p = and_parts (same m l || holds (opposite m)) (others_false holds l ms) h in
@@ -59,14 +60,16 @@ module _ (v : ℕ → Bool) where
   ]
 
   -- what follows a hint
-  hints-look : (holds : Literal → Bool) → Includes holds (literal_value v) → (go : Literal → Option Cause) → ((l : Literal) → literal_value v l ≡ true → go l ≡ None → ⊥)
+  hints-look : (holds : Literal → Bool) → Includes holds (literal_value v) → (go : Literal → Option Cause) →
+      ((l : Literal) → literal_value v l ≡ true → go l ≡ None → ⊥)
       → (c : Clause) → clause_value v c ≡ true → (k : Look) → look_of holds c ≡ k → after_look k go ≡ None → ⊥
   hints-look holds i go next c ct Conflict e h = both_ways (clause_value v c) (all_false-false holds c i (look-conflict holds c e)) ct
   hints-look holds i go next c ct (UnitOf l) e h =
       let u = look-unit holds c l e in next l (unit-true holds l c i u.1 ct) h
   hints-look holds i go next c ct Other e h = cc
 
-  hints-found : (holds : Literal → Bool) → Includes holds (literal_value v) → (go : Literal → Option Cause) → ((l : Literal) → literal_value v l ≡ true → go l ≡ None → ⊥)
+  hints-found : (holds : Literal → Bool) → Includes holds (literal_value v) → (go : Literal → Option Cause) →
+      ((l : Literal) → literal_value v l ≡ true → go l ≡ None → ⊥)
       → (o : Option (Clause)) → ((c : Clause) → o ≡ Some c → clause_value v c ≡ true)
       → after_lookup o holds go ≡ None → ⊥
   hints-found holds i go next None f h = cc
@@ -116,7 +119,8 @@ module _ (v : ℕ → Bool) where
       (first_none (some_above n c) VariableAbove r2
       (first_none (nat_le id k.last) IdNotAbove r1 h)))
 
-  present-more : (p : Present) → AreTrue p → (id : ℕ) (c : Clause) → clause_value v c ≡ true → (i : ℕ) (d : Clause) → (if i == id then Some c else p i) ≡ Some d → clause_value v d ≡ true
+  present-more : (p : Present) → AreTrue p → (id : ℕ) (c : Clause) → clause_value v c ≡ true → (i : ℕ) (d : Clause) →
+      (if i == id then Some c else p i) ≡ Some d → clause_value v d ≡ true
   present-more p t id c ct i d h = elim (cases_Bool (i == id)) [
     | inl e ↦ let g : Some c ≡ Some d = rw e at h in let q : c ≡ d = cc in rw (← q) ct
     | inr e ↦ t i d (rw e at h)

@@ -142,7 +142,8 @@ run_replays : (p : Program) (n : NamedEnding) (start : Start) → IsEntryState p
     run_answer p n start ≡ plain_answer 0 (line (codes "replayed " ++ named_line n))
 run_replays p n start entry is_found =
     let link : (start.state.regs p.machine.link % 4 == 0) ≡ true = grind (arith, nat_tests, entry.link) in
-    ap (λ b. start_answer b p n start) link ∙ ap (λ o. require_answer o n (found_of p n start)) entry.requires ∙ ap (λ b. ending_answer b n (found_of p n start)) is_found
+    ap (λ b. start_answer b p n start) link ∙ ap (λ o. require_answer o n (found_of p n start)) entry.requires ∙ ap
+    (λ b. ending_answer b n (found_of p n start)) is_found
 
 -- a text that isn't too long, and is printed of the start
 text_replays : (file : List ℕ) (p : Program) (n : NamedEnding) (w : Written) → IsWritten (layout_of file) (is_known_at p) w → IsNamed n →
@@ -157,7 +158,8 @@ text_replays file p n w written named entry is_found room =
     ∙ run_replays p n (start_in p (layout_of file) w) entry is_found
 
 -- what is found of a run that fails, and of one that turns
-found_failing : (p : Program) (start : Start) (k steps : ℕ) (e : Event) (at j : ℕ) → run p k start steps ≡ Failed e at j → found_of p (FailsBy e at j) start ≡ FoundEvent e at j
+found_failing : (p : Program) (start : Start) (k steps : ℕ) (e : Event) (at j : ℕ) → run p k start steps ≡ Failed e at j →
+    found_of p (FailsBy e at j) start ≡ FoundEvent e at j
 found_failing p start k steps e at j h =
     ap (λ r. found_by (run p (j + 1) start j) r) (ap (λ n. run p (j + 1) start n) (add-one j) ∙ fails_at p start k steps e at j (j + 1) (omega arith) h)
 
@@ -168,7 +170,8 @@ found_turning p start k steps at j h =
 no_name : (n : NamedEnding) → ◌≡◌ {A = Option NamedEnding} None (Some n) → ⊥
 no_name n e = cc
 
-pub report_replays : (file : List ℕ) (p : Program) (b : Budget) (r : Report) (e : Evidence) (n : NamedEnding) → IsRightReport p (layout_of file) b r e → named_of b r ≡ Some n →
+pub report_replays : (file : List ℕ) (p : Program) (b : Budget) (r : Report) (e : Evidence) (n : NamedEnding) → IsRightReport p (layout_of file) b r e →
+    named_of b r ≡ Some n →
     IsNamed n → length (report_text (layout_of file) b r e) ≤ text_limit →
     replay_answer p (layout_of file) (report_text (layout_of file) b r e) ≡ plain_answer 0 (line (codes "replayed " ++ named_line n))
 report_replays file p b HoldsReport e n a f named room = absurd (no_name n f)
@@ -180,8 +183,10 @@ report_replays file p b (FailsReport event at j) (RunOf w) n a f named room =
     let same : FailsBy event at j ≡ n = cc in
     let start = start_in p (layout_of file) w in
     let found_is = found_failing p start b.unroll a.4.0 event at j a.4.1 in
-    let is_found : is_found (FailsBy event at j) (found_of p (FailsBy event at j) start) ≡ true = rw (found_is, same_events event, same_number at, same_number j) refl in
-    text_replays file p (FailsBy event at j) w a.2 (subst IsNamed (sym same) named) a.3.entry is_found room ∙ ap (λ x. plain_answer 0 (line (codes "replayed " ++ named_line x))) same
+    let is_found : is_found (FailsBy event at j) (found_of p (FailsBy event at j) start)
+    ≡ true = rw (found_is, same_events event, same_number at, same_number j) refl in
+    text_replays file p (FailsBy event at j) w a.2 (subst IsNamed (sym same) named) a.3.entry is_found room ∙ ap
+    (λ x. plain_answer 0 (line (codes "replayed " ++ named_line x))) same
 report_replays file p b (FailsReport event at j) other n a f named room = absurd a
 report_replays file p b (UnrollReport at j) (RunOf w) n a f named room =
     let same : UnknownBy b.unroll at j ≡ n = cc in

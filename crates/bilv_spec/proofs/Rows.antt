@@ -158,7 +158,8 @@ rv_lb : shown (10 ∷ []) [] (effect (rv32.row 0xfff58503) (state ((11, 0) ∷ [
 unfolding table rv_row
 rv_lb = refl
 
-rv_lhu : shown (10 ∷ []) [] (effect (rv32.row 0xfff5d503) (state ((11, 0) ∷ []) [] ((0xffffffff, 0x80) ∷ (0, 0xff) ∷ [])) 0) ≡ 0x10004 ∷ 0xff80 ∷ 0 ∷ 0 ∷ 0 ∷ 0 ∷ []
+rv_lhu : shown (10 ∷ []) [] (effect (rv32.row 0xfff5d503) (state ((11, 0) ∷ []) [] ((0xffffffff, 0x80) ∷ (0, 0xff) ∷ [])) 0) ≡ 0x10004 ∷ 0xff80 ∷ 0 ∷ 0 ∷ 0 ∷ 0
+    ∷ []
 unfolding table rv_row
 rv_lhu = refl
 
@@ -283,11 +284,13 @@ unfolding arm_row arm_rows.table
 arm_beq = refl
 
 -- umull r0,r3,r1,r2; smulls r0,r3,r1,r2; umlal
-umull : shown (0 ∷ 3 ∷ []) [] (effect ((arm Little).row 0xe0830291) (state (regs_3 0xffffffff 0xffffffff 0) [] []) 0) ≡ 0x10004 ∷ 1 ∷ 0xfffffffe ∷ 0 ∷ 0 ∷ 0 ∷ 0 ∷ []
+umull : shown (0 ∷ 3 ∷ []) [] (effect ((arm Little).row 0xe0830291) (state (regs_3 0xffffffff 0xffffffff 0) [] []) 0) ≡ 0x10004 ∷ 1 ∷ 0xfffffffe ∷ 0 ∷ 0 ∷ 0 ∷ 0
+    ∷ []
 unfolding arm_row arm_rows.table
 umull = refl
 
-smulls : shown (0 ∷ 3 ∷ []) [] (effect ((arm Little).row 0xe0d30291) (state (regs_3 0xffffffff 2 0) [] []) 3) ≡ 0x10004 ∷ 0xfffffffe ∷ 0xffffffff ∷ 1 ∷ 0 ∷ 1 ∷ 1 ∷ []
+smulls : shown (0 ∷ 3 ∷ []) [] (effect ((arm Little).row 0xe0d30291) (state (regs_3 0xffffffff 2 0) [] []) 3) ≡ 0x10004 ∷ 0xfffffffe ∷ 0xffffffff ∷ 1 ∷ 0 ∷ 1
+    ∷ 1 ∷ []
 unfolding arm_row arm_rows.table
 smulls = refl
 
@@ -296,7 +299,8 @@ strh_odd : effect ((arm Little).row 0xe1c100b0) (state (regs_3 0x8001 0 0) [] []
 unfolding arm_row arm_rows.table
 strh_odd = refl
 
-swp : shown (0 ∷ []) (0x8000 ∷ 0x8003 ∷ []) (effect ((arm Little).row 0xe1010092) (state (regs_3 0x8001 0x11223344 0) [] ((0x8000, 0xaa) ∷ (0x8001, 0xbb) ∷ [])) 0) ≡
+swp : shown (0 ∷ []) (0x8000 ∷ 0x8003 ∷ []) (effect ((arm Little).row 0xe1010092) (state (regs_3 0x8001 0x11223344 0) [] ((0x8000, 0xaa) ∷ (0x8001, 0xbb)
+    ∷ [])) 0) ≡
     0x10004 ∷ 0xaa0000bb ∷ 0 ∷ 0 ∷ 0 ∷ 0 ∷ 0x44 ∷ 0x11 ∷ []
 unfolding arm_row arm_rows.table
 swp = refl

@@ -126,9 +126,11 @@ table_lawful = (
                                                                 (
                                                                   registers_lawful 4 0 bit_xor (xor_lt 32),
                                                                   (
-                                                                    registers_lawful 5 0 (λ a b. shr 32 a (low_five b)) (λ a b p q. shr_below 32 a (low_five b) p),
+                                                                    registers_lawful 5 0 (λ a b. shr 32 a (low_five b))
+                                                                        (λ a b p q. shr_below 32 a (low_five b) p),
                                                                     (
-                                                                      registers_lawful 5 32 (λ a b. sar 32 a (low_five b)) (λ a b p q. sar_below 32 a (low_five b) p),
+                                                                      registers_lawful 5 32 (λ a b. sar 32 a (low_five b))
+                                                                          (λ a b p q. sar_below 32 a (low_five b) p),
                                                                       (
                                                                         registers_lawful 6 0 bit_or (or_lt 32),
                                                                         (
@@ -136,9 +138,11 @@ table_lawful = (
                                                                           (
                                                                             dear_lawful 0 (mul 32) (λ a b p q. mod_word (a * b)),
                                                                             (
-                                                                              dear_lawful 1 (λ a b. upper (wide a * wide b)) (λ a b p q. mod_word (wide a * wide b / 2 ^ 32)),
+                                                                              dear_lawful 1 (λ a b. upper (wide a * wide b))
+                                                                                  (λ a b p q. mod_word (wide a * wide b / 2 ^ 32)),
                                                                               (
-                                                                                dear_lawful 2 (λ a b. upper (wide a * b)) (λ a b p q. mod_word (wide a * b / 2 ^ 32)),
+                                                                                dear_lawful 2 (λ a b. upper (wide a * b))
+                                                                                    (λ a b p q. mod_word (wide a * b / 2 ^ 32)),
                                                                                 (
                                                                                   dear_lawful 3 (λ a b. upper (a * b)) (λ a b p q. mod_word (a * b / 2 ^ 32)),
                                                                                   (

@@ -80,7 +80,8 @@ number_above n h = digits_above (decimal n) (decimal_is_IsNumeral n h).0.1
 
 all_decimal : (ds : List ℕ) → AllDigits 10 ds → list_all is_decimal_digit ds ≡ true
 all_decimal [] d = refl
-all_decimal (b ∷ ds) d = let k = digit_from_value b d.0 in let t : is_decimal_digit b ≡ true = grind (arith, nat_tests, k.0, k.1) in rw (t, all_decimal ds d.1) refl
+all_decimal (b ∷ ds) d = let k = digit_from_value b d.0 in let t : is_decimal_digit b
+    ≡ true = grind (arith, nat_tests, k.0, k.1) in rw (t, all_decimal ds d.1) refl
 
 is_decimal_of : (w : List ℕ) → 0 < length w → AllDigits 10 w → 48 < get_or w 0 0 → is_decimal w ≡ true
 is_decimal_of [] some d lead = absurd (omega arith)
@@ -112,7 +113,12 @@ hex_length (suc n) v = length-append (hex_digits n (v / 16)) (hex_digit (v % 16)
 
 hex_all : (n v : ℕ) → list_all is_hex_digit (hex_digits n v) ≡ true
 hex_all zero v = refl
-hex_all (suc n) v = rw (list_all-append is_hex_digit (hex_digits n (v / 16)) (hex_digit (v % 16) ∷ []), hex_all n (v / 16), hex_is_digit (v % 16) (omega arith)) refl
+hex_all (suc n) v = rw (
+  list_all-append is_hex_digit (hex_digits n (v / 16)) (hex_digit (v % 16)
+      ∷ []),
+  hex_all n (v / 16),
+  hex_is_digit (v % 16) (omega arith),
+) refl
 
 hex_back_digits : (n v : ℕ) → v < 16 ^ n → digits_value 16 (hex_digits n v) ≡ v
 hex_back_digits zero v h = omega arith

@@ -104,11 +104,13 @@ choices_below : (before : List StateLine) (cs : List (ℕ × ℕ)) → list_any 
 choices_below before [] none = tt
 choices_below before (c ∷ cs) none = no_choices before c.0 none
 
-next_byte : (before : List StateLine) (b : ℕ × ℕ) (bs : List (ℕ × ℕ)) → list_all (is_byte_below b.0) before ≡ true → Next b bs → BytesBelow (ByteLine b.0 b.1 ∷ before) bs
+next_byte : (before : List StateLine) (b : ℕ × ℕ) (bs : List (ℕ × ℕ)) → list_all (is_byte_below b.0) before ≡ true → Next b bs →
+    BytesBelow (ByteLine b.0 b.1 ∷ before) bs
 next_byte before b [] below next = tt
 next_byte before b (c ∷ bs) below next = let t : nat_lt b.0 c.0 ≡ true = grind (arith, nat_tests) in rw (t, more_below before b.0 c.0 next below) refl
 
-next_choice : (before : List StateLine) (b : ℕ × ℕ) (bs : List (ℕ × ℕ)) → list_all (is_choice_below b.0) before ≡ true → Next b bs → ChoicesBelow (ChoiceLine b.0 b.1 ∷ before) bs
+next_choice : (before : List StateLine) (b : ℕ × ℕ) (bs : List (ℕ × ℕ)) → list_all (is_choice_below b.0) before ≡ true → Next b bs →
+    ChoicesBelow (ChoiceLine b.0 b.1 ∷ before) bs
 next_choice before b [] below next = tt
 next_choice before b (c ∷ bs) below next = let t : nat_lt b.0 c.0 ≡ true = grind (arith, nat_tests) in rw (t, more_steps before b.0 c.0 next below) refl
 
@@ -159,13 +161,15 @@ module _ (layout : Layout) (known : ℕ → Bool) where
       one_line before [] EndLine fits (rw ended refl)
 
   -- no line of a written state is refused
-  state_free : (n : NamedEnding) (w : Written) → length w.regs ≡ length layout.registers → Bytes known w.bytes → Rising w.bytes → Choices w.choices → Rising w.choices →
+  state_free : (n : NamedEnding) (w : Written) → length w.regs ≡ length layout.registers → Bytes known w.bytes → Rising w.bytes → Choices w.choices →
+      Rising w.choices →
       IsFree [] (NamedLine n ∷ lines_behind layout w)
   state_free n w count bytes bytes_rise choices choices_rise =
       let values = w.regs ++ flag_bits (length layout.flags) w.flags in
       let last = map (λ c. ChoiceLine c.0 c.1) w.choices ++ EndLine ∷ [] in
       registers_free values 0 (MachineLine ∷ NamedLine n ∷ []) (map (λ b. ByteLine b.0 b.1) w.bytes ++ last) refl refl (λ first many heads.
-      bytes_free w.bytes first last (omega (arith, many, values_count)) (none_behind first heads) (bytes_below first w.bytes heads) bytes bytes_rise (λ second more none.
+      bytes_free w.bytes first last (omega (arith, many, values_count)) (none_behind first heads) (bytes_below first w.bytes heads) bytes bytes_rise
+      (λ second more none.
       choices_free w.choices second (EndLine ∷ []) more (no_end second none) (choices_below second w.choices none) choices choices_rise (λ third most ends.
       end_free third most ends)))
     where
@@ -173,39 +177,48 @@ module _ (layout : Layout) (known : ℕ → Bool) where
       values_count = grind (arith, length-append, bits_count)
 
 -- the values that lines give
-values_of_registers : (vs : List ℕ) (i : ℕ) (rest : List StateLine) → values_in (map (λ l. Some l) (register_lines i vs ++ rest)) ≡ vs ++ values_in (map (λ l. Some l) rest)
+values_of_registers : (vs : List ℕ) (i : ℕ) (rest : List StateLine) →
+    values_in (map (λ l. Some l) (register_lines i vs ++ rest)) ≡ vs ++ values_in (map (λ l. Some l) rest)
 values_of_registers [] i rest = refl
 values_of_registers (v ∷ vs) i rest = ap (λ x. v ∷ x) (values_of_registers vs (i + 1) rest)
 
-values_of_bytes : (bs : List (ℕ × ℕ)) (rest : List StateLine) → values_in (map (λ l. Some l) (map (λ b. ByteLine b.0 b.1) bs ++ rest)) ≡ values_in (map (λ l. Some l) rest)
+values_of_bytes : (bs : List (ℕ × ℕ)) (rest : List StateLine) →
+    values_in (map (λ l. Some l) (map (λ b. ByteLine b.0 b.1) bs ++ rest)) ≡ values_in (map (λ l. Some l) rest)
 values_of_bytes [] rest = refl
 values_of_bytes (b ∷ bs) rest = values_of_bytes bs rest
 
-values_of_choices : (cs : List (ℕ × ℕ)) (rest : List StateLine) → values_in (map (λ l. Some l) (map (λ c. ChoiceLine c.0 c.1) cs ++ rest)) ≡ values_in (map (λ l. Some l) rest)
+values_of_choices : (cs : List (ℕ × ℕ)) (rest : List StateLine) →
+    values_in (map (λ l. Some l) (map (λ c. ChoiceLine c.0 c.1) cs ++ rest)) ≡ values_in (map (λ l. Some l) rest)
 values_of_choices [] rest = refl
 values_of_choices (c ∷ cs) rest = values_of_choices cs rest
 
-bytes_of_registers : (vs : List ℕ) (i : ℕ) (rest : List StateLine) → bytes_in (map (λ l. Some l) (register_lines i vs ++ rest)) ≡ bytes_in (map (λ l. Some l) rest)
+bytes_of_registers : (vs : List ℕ) (i : ℕ) (rest : List StateLine) →
+    bytes_in (map (λ l. Some l) (register_lines i vs ++ rest)) ≡ bytes_in (map (λ l. Some l) rest)
 bytes_of_registers [] i rest = refl
 bytes_of_registers (v ∷ vs) i rest = bytes_of_registers vs (i + 1) rest
 
-bytes_of_bytes : (bs : List (ℕ × ℕ)) (rest : List StateLine) → bytes_in (map (λ l. Some l) (map (λ b. ByteLine b.0 b.1) bs ++ rest)) ≡ bs ++ bytes_in (map (λ l. Some l) rest)
+bytes_of_bytes : (bs : List (ℕ × ℕ)) (rest : List StateLine) →
+    bytes_in (map (λ l. Some l) (map (λ b. ByteLine b.0 b.1) bs ++ rest)) ≡ bs ++ bytes_in (map (λ l. Some l) rest)
 bytes_of_bytes [] rest = refl
 bytes_of_bytes (b ∷ bs) rest = ap (λ x. b ∷ x) (bytes_of_bytes bs rest)
 
-bytes_of_choices : (cs : List (ℕ × ℕ)) (rest : List StateLine) → bytes_in (map (λ l. Some l) (map (λ c. ChoiceLine c.0 c.1) cs ++ rest)) ≡ bytes_in (map (λ l. Some l) rest)
+bytes_of_choices : (cs : List (ℕ × ℕ)) (rest : List StateLine) →
+    bytes_in (map (λ l. Some l) (map (λ c. ChoiceLine c.0 c.1) cs ++ rest)) ≡ bytes_in (map (λ l. Some l) rest)
 bytes_of_choices [] rest = refl
 bytes_of_choices (c ∷ cs) rest = bytes_of_choices cs rest
 
-choices_of_registers : (vs : List ℕ) (i : ℕ) (rest : List StateLine) → choices_in (map (λ l. Some l) (register_lines i vs ++ rest)) ≡ choices_in (map (λ l. Some l) rest)
+choices_of_registers : (vs : List ℕ) (i : ℕ) (rest : List StateLine) →
+    choices_in (map (λ l. Some l) (register_lines i vs ++ rest)) ≡ choices_in (map (λ l. Some l) rest)
 choices_of_registers [] i rest = refl
 choices_of_registers (v ∷ vs) i rest = choices_of_registers vs (i + 1) rest
 
-choices_of_bytes : (bs : List (ℕ × ℕ)) (rest : List StateLine) → choices_in (map (λ l. Some l) (map (λ b. ByteLine b.0 b.1) bs ++ rest)) ≡ choices_in (map (λ l. Some l) rest)
+choices_of_bytes : (bs : List (ℕ × ℕ)) (rest : List StateLine) →
+    choices_in (map (λ l. Some l) (map (λ b. ByteLine b.0 b.1) bs ++ rest)) ≡ choices_in (map (λ l. Some l) rest)
 choices_of_bytes [] rest = refl
 choices_of_bytes (b ∷ bs) rest = choices_of_bytes bs rest
 
-choices_of_choices : (cs : List (ℕ × ℕ)) (rest : List StateLine) → choices_in (map (λ l. Some l) (map (λ c. ChoiceLine c.0 c.1) cs ++ rest)) ≡ cs ++ choices_in (map (λ l. Some l) rest)
+choices_of_choices : (cs : List (ℕ × ℕ)) (rest : List StateLine) →
+    choices_in (map (λ l. Some l) (map (λ c. ChoiceLine c.0 c.1) cs ++ rest)) ≡ cs ++ choices_in (map (λ l. Some l) rest)
 choices_of_choices [] rest = refl
 choices_of_choices (c ∷ cs) rest = ap (λ x. c ∷ x) (choices_of_choices cs rest)
 
@@ -215,7 +228,8 @@ append-nil (x ∷ xs) = ap (λ l. x ∷ l) (append-nil xs)
 
 pub bits_number : (n f : ℕ) → number_of_bits (flag_bits n f) ≡ f % 2 ^ n
 bits_number zero f = omega arith
-bits_number (suc n) f = ap (λ k. bit_at n f * 2 ^ k + number_of_bits (flag_bits n f)) (bits_count n f) ∙ rw (bits_number n f) (sym (mod-pow-add f 1 n) ∙ ap (λ k. f % 2 ^ k) (omega arith))
+bits_number (suc n) f = ap (λ k. bit_at n f * 2 ^ k + number_of_bits (flag_bits n f)) (bits_count n f) ∙ rw (bits_number n f) (sym (mod-pow-add f 1 n) ∙ ap
+    (λ k. f % 2 ^ k) (omega arith))
 
 -- what the lines of a start give
 module _ (layout : Layout) (w : Written) where
@@ -257,7 +271,8 @@ module _ (layout : Layout) (w : Written) where
 
   pub start_given : length w.regs ≡ length layout.registers → w.flags < 2 ^ length layout.flags → written_in layout all ≡ w
   start_given count small =
-      ap (λ x. record { regs = x; flags = number_of_bits (drop (length layout.registers) (values_in all)); bytes = bytes_in all; choices = choices_in all }) (regs_are count)
+      ap (λ x. record { regs = x; flags = number_of_bits (drop (length layout.registers) (values_in all)); bytes = bytes_in all; choices = choices_in all })
+      (regs_are count)
       ∙ ap (λ x. record { regs = w.regs; flags = x; bytes = bytes_in all; choices = choices_in all }) (flags_are count small)
       ∙ ap (λ x. record { regs = w.regs; flags = w.flags; bytes = x; choices = choices_in all }) bytes_are
       ∙ ap (λ x. record { regs = w.regs; flags = w.flags; bytes = w.bytes; choices = x }) choices_are
@@ -284,7 +299,8 @@ registers_bounded layout i (v ∷ vs) room names words = (
   registers_bounded layout (i + 1) vs (omega (arith, room)) names (λ k d h. words (suc k) d (omega arith)),
 )
 
-bits_bounded : (layout : Layout) (i n f : ℕ) → length layout.registers ≤ i → i + n ≤ length (value_names layout) → AllBounded layout (register_lines i (flag_bits n f))
+bits_bounded : (layout : Layout) (i n f : ℕ) → length layout.registers ≤ i → i + n ≤ length (value_names layout) →
+    AllBounded layout (register_lines i (flag_bits n f))
 bits_bounded layout i zero f behind room = tt
 bits_bounded layout i (suc n) f behind room =
     ((omega (arith, room), (λ below. absurd (omega arith)), (λ _. omega arith)), bits_bounded layout (i + 1) n f (omega arith) (omega (arith, room)))
@@ -326,18 +342,21 @@ lines_above : (layout : Layout) → IsLayout layout → (ls : List StateLine) �
 lines_above layout good [] p = tt
 lines_above layout good (l ∷ ls) p = (line_above layout good l p.0, lines_above layout good ls p.1)
 
-module _ (layout : Layout) (good : IsLayout layout) (known : ℕ → Bool) (t : StateText) (written : IsWritten layout known t.start) (named : IsNamed t.named) where
+module _ (layout : Layout) (good : IsLayout layout) (known : ℕ →
+    Bool) (t : StateText) (written : IsWritten layout known t.start) (named : IsNamed t.named) where
   behind_bounded : AllBounded layout (lines_behind layout t.start)
   behind_bounded =
       let w = t.start in
       let both = length-append layout.registers layout.flags in
       let bytes = bytes_of known w.bytes written.bytes written.unknown in
-      let last = bounded-append layout (map (λ c. ChoiceLine c.0 c.1) w.choices) (EndLine ∷ []) (choices_bounded layout w.choices (choices_of w.choices written.choices)) (tt, tt) in
+      let last = bounded-append layout (map (λ c. ChoiceLine c.0 c.1) w.choices) (EndLine
+      ∷ []) (choices_bounded layout w.choices (choices_of w.choices written.choices)) (tt, tt) in
       let more = bounded-append layout (map (λ b. ByteLine b.0 b.1) w.bytes) (choice_lines layout w) (bytes_bounded layout known w.bytes bytes) last in
       let registers = registers_bounded layout 0 w.regs (omega (arith, written.count)) (omega (arith, both)) written.words in
       let flags = bits_bounded layout (0 + length w.regs) (length layout.flags) w.flags (omega (arith, written.count)) (omega (arith, both, written.count)) in
       let values : AllBounded layout (register_lines 0 (w.regs ++ bits layout w)) =
-      rw (register_lines-append 0 w.regs (bits layout w)) (bounded-append layout (register_lines 0 w.regs) (register_lines (0 + length w.regs) (bits layout w)) registers flags) in
+      rw (register_lines-append 0 w.regs (bits layout w)) (bounded-append layout (register_lines 0 w.regs)
+      (register_lines (0 + length w.regs) (bits layout w)) registers flags) in
       (tt, bounded-append layout (register_lines 0 (w.regs ++ bits layout w)) (byte_lines layout w) values more)
 
   all_bounded : AllBounded layout (NamedLine t.named ∷ lines_behind layout t.start)
@@ -354,5 +373,6 @@ module _ (layout : Layout) (good : IsLayout layout) (known : ℕ → Bool) (t : 
   pub printed_back : state_of layout known (printed layout t) ≡ StateIs t
   unfolding state_of printed
   printed_back =
-      ap (λ ls. told_of layout known (map (line_of layout) ls)) (split_lines_of (state_lines layout t) (lines_above layout good (NamedLine t.named ∷ lines_behind layout t.start) all_bounded))
+      ap (λ ls. told_of layout known (map (line_of layout) ls))
+      (split_lines_of (state_lines layout t) (lines_above layout good (NamedLine t.named ∷ lines_behind layout t.start) all_bounded))
       ∙ ap (told_of layout known) (lines_back layout good (NamedLine t.named ∷ lines_behind layout t.start) all_bounded) ∙ told_back

@@ -112,7 +112,8 @@ module _ (layout : Layout) (known : ℕ → Bool) where
   good_lines [] = tt
   good_lines (s ∷ texts) = by_line (line_of layout s) refl (good_lines texts)
     where
-      by_line : (o : Option StateLine) → line_of layout s ≡ o → Good layout known (map (line_of layout) texts) → Good layout known (o ∷ map (line_of layout) texts)
+      by_line : (o : Option StateLine) → line_of layout s ≡ o → Good layout known (map (line_of layout) texts) →
+          Good layout known (o ∷ map (line_of layout) texts)
       by_line None e rest = rest
       by_line (Some l) e rest = ((λ small. (line_said layout s l e small).0), rest)
 
@@ -127,7 +128,8 @@ module _ (layout : Layout) (known : ℕ → Bool) where
       ap (λ x. x ∷ texts) (line_said layout s m head small.0).1 ∙ ap (λ x. joined (words_of_line layout m) ∷ x) (texts_are texts ms small.1 tail)
 
   -- values of registers and flags
-  drop_registers : (i : ℕ) (vs : List ℕ) (rest : List (Option StateLine)) → Good layout known (map (λ l. Some l) (register_lines i vs) ++ rest) → Good layout known rest
+  drop_registers : (i : ℕ) (vs : List ℕ) (rest : List (Option StateLine)) → Good layout known (map (λ l. Some l) (register_lines i vs) ++ rest) →
+      Good layout known rest
   drop_registers i [] rest p = p
   drop_registers i (v ∷ vs) rest p = drop_registers (i + 1) vs rest p.1
 
@@ -172,7 +174,8 @@ module _ (layout : Layout) (known : ℕ → Bool) where
 
     abbrev registers : RegisterShape layout known 0 (length (value_names layout)) first.rest
     registers =
-        register_shape layout known (length (value_names layout)) 0 (MachineLine ∷ NamedLine first.named ∷ []) first.rest (zero-add (length (value_names layout))) refl refl first.free
+        register_shape layout known (length (value_names layout)) 0 (MachineLine ∷ NamedLine first.named
+        ∷ []) first.rest (zero-add (length (value_names layout))) refl refl first.free
 
     register_good : Good layout known (map (λ l. Some l) (register_lines 0 registers.values) ++ registers.rest)
     register_good = subst (Good layout known) registers.is first_good.1.1
@@ -260,6 +263,7 @@ module _ (layout : Layout) (known : ℕ → Bool) where
         })
 
 -- a text that says a state is printed of it
-pub told_exact : (layout : Layout) (known : ℕ → Bool) (text : List ℕ) (t : StateText) → state_of layout known text ≡ StateIs t → Exact layout known (split_lines text) t
+pub told_exact : (layout : Layout) (known : ℕ → Bool) (text : List ℕ) (t : StateText) → state_of layout known text ≡ StateIs t →
+    Exact layout known (split_lines text) t
 unfolding state_of
 told_exact layout known text t e = exact layout known (split_lines text) t e

@@ -87,23 +87,30 @@ module _ (known : ℕ → Bool) where
         (refused (ByteLine a v ∷ before) rest) (early (length before + 1) (ByteLine a v ∷ before) rest (omega arith)))
     byte_line n a v before rest e later false t =
         rw t
-        (alike (length before + 1) (n + 1) (line_refusal layout (λ a. false) before (ByteLine a v)) rest (first_refused layout known (ByteLine a v ∷ before) rest)
+        (alike (length before + 1) (n + 1) (line_refusal layout
+        (λ a. false) before (ByteLine a v)) rest (first_refused layout known (ByteLine a v ∷ before) rest)
         (refused (ByteLine a v ∷ before) rest) (omega (arith, e)) later)
 
     by_line : (n : ℕ) (before : List StateLine) (ls : List (Option StateLine)) → n ≡ length before + 1 → IsLeast n before ls
     by_line n before [] e = refl
     by_line n before (None ∷ rest) e = sym (late (n + 1) (length before + 1) _ rest (omega (arith, e)))
     by_line n before (Some (NamedLine x) ∷ rest) e =
-        alike (length before + 1) (n + 1) (line_refusal layout known before (NamedLine x)) rest _ _ (omega (arith, e)) (by_line (n + 1) (NamedLine x ∷ before) rest (omega (arith, e)))
+        alike (length before + 1) (n + 1) (line_refusal layout known before (NamedLine x)) rest _ _ (omega (arith, e)) (by_line (n + 1) (NamedLine x
+        ∷ before) rest (omega (arith, e)))
     by_line n before (Some MachineLine ∷ rest) e =
-        alike (length before + 1) (n + 1) (line_refusal layout known before MachineLine) rest _ _ (omega (arith, e)) (by_line (n + 1) (MachineLine ∷ before) rest (omega (arith, e)))
+        alike (length before + 1) (n + 1) (line_refusal layout known before MachineLine) rest _ _ (omega (arith, e)) (by_line (n + 1) (MachineLine
+        ∷ before) rest (omega (arith, e)))
     by_line n before (Some (RegisterLine j v) ∷ rest) e =
-        alike (length before + 1) (n + 1) (line_refusal layout known before (RegisterLine j v)) rest _ _ (omega (arith, e)) (by_line (n + 1) (RegisterLine j v ∷ before) rest (omega (arith, e)))
-    by_line n before (Some (ByteLine a v) ∷ rest) e = byte_line n a v before rest e (by_line (n + 1) (ByteLine a v ∷ before) rest (omega (arith, e))) (known a) refl
+        alike (length before + 1) (n + 1) (line_refusal layout known before (RegisterLine j v)) rest _ _ (omega (arith, e)) (by_line (n + 1) (RegisterLine j v
+        ∷ before) rest (omega (arith, e)))
+    by_line n before (Some (ByteLine a v) ∷ rest) e = byte_line n a v before rest e (by_line (n + 1) (ByteLine a v
+        ∷ before) rest (omega (arith, e))) (known a) refl
     by_line n before (Some (ChoiceLine s c) ∷ rest) e =
-        alike (length before + 1) (n + 1) (line_refusal layout known before (ChoiceLine s c)) rest _ _ (omega (arith, e)) (by_line (n + 1) (ChoiceLine s c ∷ before) rest (omega (arith, e)))
+        alike (length before + 1) (n + 1) (line_refusal layout known before (ChoiceLine s c)) rest _ _ (omega (arith, e)) (by_line (n + 1) (ChoiceLine s c
+        ∷ before) rest (omega (arith, e)))
     by_line n before (Some EndLine ∷ rest) e =
-        alike (length before + 1) (n + 1) (line_refusal layout known before EndLine) rest _ _ (omega (arith, e)) (by_line (n + 1) (EndLine ∷ before) rest (omega (arith, e)))
+        alike (length before + 1) (n + 1) (line_refusal layout known before EndLine) rest _ _ (omega (arith, e)) (by_line (n + 1) (EndLine
+        ∷ before) rest (omega (arith, e)))
 
     -- the same of what lines tell
     told_by_least : (ls : List (Option StateLine)) (o : Option ℕ) (r : Option (ℕ × StateFault)) → (r ≡ None → FirstShape layout (λ a. false) ls) →
@@ -111,7 +118,8 @@ module _ (known : ℕ → Bool) where
     told_by_least ls None r shape = refl
     told_by_least ls (Some m) (Some r) shape = by_test (nat_lt m r.0)
       where
-        by_test : (t : Bool) → told_by layout (if t then Some (m, StateByteFault) else Some r) ls ≡ (if t then StateRefused m StateByteFault else StateRefused r.0 r.1)
+        by_test : (t : Bool) → told_by layout (if t then Some (m, StateByteFault) else Some r) ls
+            ≡ (if t then StateRefused m StateByteFault else StateRefused r.0 r.1)
         by_test true = refl
         by_test false = refl
     told_by_least ls (Some m) None shape = sym (ap (λ x. unless_known (Some m) (told_by layout None x)) (shape refl).is)

@@ -37,7 +37,8 @@ is_plain w = list_all (λ b. nat_lt 32 b) w
 -- the name at a place is a word of its own that is found there
 abbrev pub fits : Layout → ℕ → Bool
 fits layout i =
-    is_plain (get_or (value_names layout) i []) && (is_free (get_or (value_names layout) i []) && is_place (place_in (value_names layout) (get_or (value_names layout) i [])) i)
+    is_plain (get_or (value_names layout) i []) && (is_free (get_or (value_names layout) i []) &&
+    is_place (place_in (value_names layout) (get_or (value_names layout) i [])) i)
 
 abbrev pub all_below : (ℕ → Bool) → ℕ → Bool
 all_below f zero = true
@@ -138,7 +139,10 @@ module _ (layout : Layout) (good : IsLayout layout) where
   place_above at step h = (plain_above (codes "at") refl, (hex_word_above 8 at, (plain_above (codes "step") refl, (number_above step (omega arith), tt))))
 
   named_above : (n : NamedEnding) → IsNamed n → AllAbove 32 (named_words n)
-  named_above (FailsBy (AssertFails m) at step) b = (plain_above (codes "fails") refl, (plain_above (codes "assert") refl, (number_above m b.0, place_above at step b.2)))
+  named_above (FailsBy (AssertFails m) at step) b = (
+    plain_above (codes "fails") refl,
+    (plain_above (codes "assert") refl, (number_above m b.0, place_above at step b.2)),
+  )
   named_above (FailsBy FetchFails at step) b = (plain_above (codes "fails") refl, (plain_above (codes "fetch") refl, place_above at step b.2))
   named_above (FailsBy NoRow at step) b = (plain_above (codes "fails") refl, (plain_above (codes "norow") refl, place_above at step b.2))
   named_above (FailsBy HalfwordFails at step) b = (plain_above (codes "fails") refl, (plain_above (codes "halfword") refl, place_above at step b.2))
@@ -146,7 +150,10 @@ module _ (layout : Layout) (good : IsLayout layout) where
   named_above (FailsBy Trapped at step) b = (plain_above (codes "fails") refl, (plain_above (codes "trap") refl, place_above at step b.2))
   named_above (FailsBy AlignFails at step) b = (plain_above (codes "fails") refl, (plain_above (codes "align") refl, place_above at step b.2))
   named_above (FailsBy JumpFails at step) b = (plain_above (codes "fails") refl, (plain_above (codes "jump") refl, place_above at step b.2))
-  named_above (FailsBy (EnsureFails m) at step) b = (plain_above (codes "fails") refl, (plain_above (codes "ensure") refl, (number_above m b.0, place_above at step b.2)))
+  named_above (FailsBy (EnsureFails m) at step) b = (
+    plain_above (codes "fails") refl,
+    (plain_above (codes "ensure") refl, (number_above m b.0, place_above at step b.2)),
+  )
   named_above (UnknownBy k at step) b =
       (plain_above (codes "unknown") refl, (plain_above (codes "unroll") refl, (number_above k (omega (arith, b.0)), place_above at step b.2)))
 

@@ -172,15 +172,24 @@ event_said w e h =
     if_word w (codes "jump") (Some JumpFails) _ e h (λ is same. plain_said w (codes "jump") JumpFails e is refl tt same) (λ h.
     none_said e h)))))))
 
-line_event_said : (w m : List ℕ) (o : Option ℕ) (e : Event) → at_most (2 ^ 64 - 1) (decimal_word m) ≡ o → event_of_line w o ≡ Some e → IsEventSaid (w ∷ m ∷ []) e
+line_event_said : (w m : List ℕ) (o : Option ℕ) (e : Event) → at_most (2 ^ 64 - 1) (decimal_word m) ≡ o → event_of_line w o ≡ Some e →
+    IsEventSaid (w ∷ m ∷ []) e
 line_event_said w m None e k h = none_said e h
 line_event_said w m (Some n) e k h =
     let number = number_said (2 ^ 64 - 1) m n (omega arith) k in
     let small : n < 2 ^ 64 = omega (arith, number.1) in
     if_word w (codes "assert") (Some (AssertFails n)) _ e h
-    (λ is same. subst (IsEventSaid (w ∷ m ∷ [])) (same_some (AssertFails n) e same) (ap (λ x. x ∷ m ∷ []) is ∙ ap (λ x. codes "assert" ∷ x ∷ []) number.0, small)) (λ h.
+    (λ is same. subst (IsEventSaid (w ∷ m ∷ [])) (same_some (AssertFails n) e same) (
+      ap (λ x. x ∷ m ∷ []) is ∙ ap
+          (λ x. codes "assert" ∷ x ∷ []) number.0,
+      small,
+    )) (λ h.
     if_word w (codes "ensure") (Some (EnsureFails n)) None e h
-    (λ is same. subst (IsEventSaid (w ∷ m ∷ [])) (same_some (EnsureFails n) e same) (ap (λ x. x ∷ m ∷ []) is ∙ ap (λ x. codes "ensure" ∷ x ∷ []) number.0, small)) (λ h.
+    (λ is same. subst (IsEventSaid (w ∷ m ∷ [])) (same_some (EnsureFails n) e same) (
+      ap (λ x. x ∷ m ∷ []) is ∙ ap
+          (λ x. codes "ensure" ∷ x ∷ []) number.0,
+      small,
+    )) (λ h.
     none_said e h))
 
 -- a choice may be any number, so that it is written only where that has 64 bits
@@ -199,14 +208,16 @@ not_register : (layout : Layout) (ws : List (List ℕ)) (l : StateLine) → ((i 
 not_register layout ws l other bounded words = record { bounded = bounded; words = words; place = λ i v same. absurd (other i v same) }
 
 -- four words of a place
-place_words_said : (at a step n : List ℕ) (p : ℕ × ℕ) → (at ≡ codes "at") × (a ≡ word_text p.0) × (step ≡ codes "step") × (n ≡ number_text p.1) × (p.0 < 2 ^ 32) × (p.1 ≤ last_step) →
+place_words_said : (at a step n : List ℕ) (p : ℕ × ℕ) → (at ≡ codes "at") × (a ≡ word_text p.0) × (step ≡ codes "step") × (n ≡ number_text p.1) ×
+    (p.0 < 2 ^ 32) × (p.1 ≤ last_step) →
     at ∷ a ∷ step ∷ n ∷ [] ≡ place_words p.0 p.1
 place_words_said at a step n p h =
     ap (λ x. x ∷ a ∷ step ∷ n ∷ []) h.0 ∙ ap (λ x. codes "at" ∷ x ∷ step ∷ n ∷ []) h.1 ∙ ap (λ x. codes "at" ∷ word_text p.0 ∷ x ∷ n ∷ []) h.2
     ∙ ap (λ x. codes "at" ∷ word_text p.0 ∷ codes "step" ∷ x ∷ []) h.3
 
 module _ (layout : Layout) where
-  fails_said : (ws more : List (List ℕ)) (o : Option Event) (at a step n : List ℕ) (q : Option (ℕ × ℕ)) (l : StateLine) → ((e : Event) → o ≡ Some e → IsEventSaid ws e) →
+  fails_said : (ws more : List (List ℕ)) (o : Option Event) (at a step n : List ℕ) (q : Option (ℕ × ℕ)) (l : StateLine) →
+      ((e : Event) → o ≡ Some e → IsEventSaid ws e) →
       place_of at a step n ≡ q → fails_line o q ≡ Some l → more ≡ codes "fails" ∷ ws ++ at ∷ a ∷ step ∷ n ∷ [] → IsSaid layout more l
   fails_said ws more None at a step n q l event e h is = none_said l h
   fails_said ws more (Some e) at a step n None l event p h is = none_said l h
@@ -221,9 +232,11 @@ module _ (layout : Layout) where
 
   after_fails_said : (w : List ℕ) (ws : List (List ℕ)) (l : StateLine) → w ≡ codes "fails" → after_fails ws ≡ Some l → IsSaid layout (w ∷ ws) l
   after_fails_said w (e ∷ at ∷ a ∷ step ∷ n ∷ []) l is h =
-      fails_said (e ∷ []) (w ∷ e ∷ at ∷ a ∷ step ∷ n ∷ []) (event_of_word e) at a step n (place_of at a step n) l (event_said e) refl h (ap (λ x. x ∷ e ∷ at ∷ a ∷ step ∷ n ∷ []) is)
+      fails_said (e ∷ []) (w ∷ e ∷ at ∷ a ∷ step ∷ n ∷ []) (event_of_word e) at a step n (place_of at a step n) l (event_said e) refl h (ap
+      (λ x. x ∷ e ∷ at ∷ a ∷ step ∷ n ∷ []) is)
   after_fails_said w (e ∷ m ∷ at ∷ a ∷ step ∷ n ∷ []) l is h =
-      fails_said (e ∷ m ∷ []) (w ∷ e ∷ m ∷ at ∷ a ∷ step ∷ n ∷ []) (event_of_line e (at_most (2 ^ 64 - 1) (decimal_word m))) at a step n (place_of at a step n) l
+      fails_said (e ∷ m ∷ []) (w ∷ e ∷ m ∷ at ∷ a ∷ step ∷ n ∷ []) (event_of_line e (at_most (2 ^ 64 - 1) (decimal_word m))) at a step n
+      (place_of at a step n) l
       (λ d k. line_event_said e m (at_most (2 ^ 64 - 1) (decimal_word m)) d refl k) refl h (ap (λ x. x ∷ e ∷ m ∷ at ∷ a ∷ step ∷ n ∷ []) is)
   after_fails_said w other l is h = none_said l h
 
@@ -256,7 +269,8 @@ module _ (layout : Layout) where
       (λ h. none_said l h)
   after_state_said w other l is h = none_said l h
 
-  byte_said : (w a v : List ℕ) (q : Option (ℕ × ℕ)) (l : StateLine) → w ≡ codes "byte" → both (hex_word 8 a) (hex_word 2 v) ≡ q → pair_line ByteLine q ≡ Some l →
+  byte_said : (w a v : List ℕ) (q : Option (ℕ × ℕ)) (l : StateLine) → w ≡ codes "byte" → both (hex_word 8 a) (hex_word 2 v) ≡ q →
+      pair_line ByteLine q ≡ Some l →
       IsSaid layout (w ∷ a ∷ v ∷ []) l
   byte_said w a v None l is p h = none_said l h
   byte_said w a v (Some q) l is p h =
@@ -280,7 +294,8 @@ module _ (layout : Layout) where
       let step = number_said last_step s q.0 (omega arith) parts.0 in
       subst (IsSaid layout (w ∷ s ∷ c ∷ [])) (same_some (ChoiceLine q.0 q.1) l h)
       (not_register layout (w ∷ s ∷ c ∷ []) (ChoiceLine q.0 q.1) (λ i v same. cc) (λ small. (step.1, small))
-      (λ small. ap (λ x. x ∷ s ∷ c ∷ []) is ∙ ap (λ x. codes "choice" ∷ x ∷ c ∷ []) step.0 ∙ ap (λ x. codes "choice" ∷ number_text q.0 ∷ x ∷ []) (decimal_said c q.1 parts.1 small)))
+      (λ small. ap (λ x. x ∷ s ∷ c ∷ []) is ∙ ap (λ x. codes "choice" ∷ x ∷ c ∷ []) step.0 ∙ ap
+      (λ x. codes "choice" ∷ number_text q.0 ∷ x ∷ []) (decimal_said c q.1 parts.1 small)))
 
   after_choice_said : (w : List ℕ) (ws : List (List ℕ)) (l : StateLine) → w ≡ codes "choice" → after_choice ws ≡ Some l → IsSaid layout (w ∷ ws) l
   after_choice_said w (s ∷ c ∷ []) l is h = choice_said w s c (both (at_most last_step (decimal_word s)) (decimal_word c)) l is refl h
@@ -331,7 +346,8 @@ module _ (layout : Layout) where
       } in
       subst (IsSaid layout (w ∷ u ∷ [])) (same_some line l h) said
 
-  other_said : (w : List ℕ) (ws : List (List ℕ)) (o : Option ℕ) (l : StateLine) → place_in (value_names layout) w ≡ o → register_line layout o ws ≡ Some l → IsSaid layout (w ∷ ws) l
+  other_said : (w : List ℕ) (ws : List (List ℕ)) (o : Option ℕ) (l : StateLine) → place_in (value_names layout) w ≡ o → register_line layout o ws ≡ Some l →
+      IsSaid layout (w ∷ ws) l
   other_said w ws None l p h = none_said l h
   other_said w [] (Some i) l p h = none_said l h
   other_said w (u ∷ []) (Some i) l p h = register_said w u (value_of layout i u) i l p refl h

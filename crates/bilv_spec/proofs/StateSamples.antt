@@ -38,7 +38,8 @@ rv_lines =
     ∷ zeros (codes "x1" ∷ codes "x2" ∷ codes "x3" ∷ codes "x4" ∷ codes "x5" ∷ codes "x6" ∷ codes "x7" ∷ codes "x8" ∷ codes "x9" ∷ [])
     ++ codes "x10 0xffffffff"
     ∷ zeros (codes "x11" ∷ codes "x12" ∷ codes "x13" ∷ codes "x14" ∷ codes "x15" ∷ codes "x16" ∷ codes "x17" ∷ codes "x18" ∷ codes "x19" ∷ codes "x20"
-    ∷ codes "x21" ∷ codes "x22" ∷ codes "x23" ∷ codes "x24" ∷ codes "x25" ∷ codes "x26" ∷ codes "x27" ∷ codes "x28" ∷ codes "x29" ∷ codes "x30" ∷ codes "x31" ∷ [])
+    ∷ codes "x21" ∷ codes "x22" ∷ codes "x23" ∷ codes "x24" ∷ codes "x25" ∷ codes "x26" ∷ codes "x27" ∷ codes "x28" ∷ codes "x29" ∷ codes "x30" ∷ codes "x31"
+    ∷ [])
     ++ codes "byte 0x00008000 0x11" ∷ codes "byte 0x00008001 0xfe" ∷ codes "end" ∷ []
 
 rv_printed : printed rv_layout (rv_report 0xffffffff) ≡ lines rv_lines
@@ -84,7 +85,8 @@ byte_faults :
     map arm_tells
     ((codes "byte 0x00008000 0x00" ∷ []) ∷ (codes "byte 0x00010000 0x01" ∷ []) ∷ (codes "byte 0x00000002 0x01" ∷ codes "byte 0x00000001 0x01" ∷ [])
     ∷ (codes "choice 3 1" ∷ codes "byte 0x00000001 0x01" ∷ []) ∷ (codes "end" ∷ codes "byte 0x00000001 0x01" ∷ []) ∷ [])
-    ≡ StateRefused 22 StateByteFault ∷ StateRefused 22 StateByteFault ∷ StateRefused 23 StateByteFault ∷ StateRefused 23 StateByteFault ∷ StateRefused 23 StateByteFault ∷ []
+    ≡ StateRefused 22 StateByteFault ∷ StateRefused 22 StateByteFault ∷ StateRefused 23 StateByteFault ∷ StateRefused 23 StateByteFault
+    ∷ StateRefused 23 StateByteFault ∷ []
 unfolding state_of digits
 byte_faults = refl
 
@@ -92,7 +94,8 @@ choice_faults :
     map arm_tells
     ((codes "choice 0 0" ∷ []) ∷ (codes "choice 0 9" ∷ []) ∷ (codes "choice 0 4294967296" ∷ []) ∷ (codes "choice 5 1" ∷ codes "choice 5 1" ∷ [])
     ∷ (codes "end" ∷ codes "choice 0 1" ∷ []) ∷ [])
-    ≡ StateRefused 22 StateChoiceFault ∷ StateRefused 22 StateChoiceFault ∷ StateRefused 22 StateChoiceFault ∷ StateRefused 23 StateChoiceFault ∷ StateRefused 23 StateChoiceFault ∷ []
+    ≡ StateRefused 22 StateChoiceFault ∷ StateRefused 22 StateChoiceFault ∷ StateRefused 22 StateChoiceFault ∷ StateRefused 23 StateChoiceFault
+    ∷ StateRefused 23 StateChoiceFault ∷ []
 unfolding state_of digits
 choice_faults = refl
 
@@ -101,13 +104,15 @@ end_faults : map arm_tells ([] ∷ (codes "end" ∷ codes "end" ∷ []) ∷ (cod
 unfolding state_of digits
 end_faults = refl
 
--- lines that are none of the grammar: a register that isn't written, a flag that is no digit, blanks, leading zeros, upper case, another machine's register, a step
--- or a number of transfers that is too great
+-- lines that are none of the grammar: a register that isn't written, a flag that is no digit, blanks, leading zeros, upper case, another machine's register, a
+-- step or a number of transfers that is too great
 line_faults :
     map (λ more. arm_tells (more ∷ []))
-    (codes "r15 0x00000000" ∷ codes "C 2" ∷ codes "byte  0x00000001 0x01" ∷ codes "choice 01 1" ∷ codes "choice 0 01" ∷ codes "byte 0x0000000A 0x01" ∷ codes "x10 0x00000000"
+    (codes "r15 0x00000000" ∷ codes "C 2" ∷ codes "byte  0x00000001 0x01" ∷ codes "choice 01 1" ∷ codes "choice 0 01" ∷ codes "byte 0x0000000A 0x01"
+    ∷ codes "x10 0x00000000"
     ∷ codes "choice 16777216 1" ∷ codes "end " ∷ [] ∷ [])
-    ≡ StateRefused 22 StateLineFault ∷ StateRefused 22 StateLineFault ∷ StateRefused 22 StateLineFault ∷ StateRefused 22 StateLineFault ∷ StateRefused 22 StateLineFault ∷ StateRefused 22 StateLineFault
+    ≡ StateRefused 22 StateLineFault ∷ StateRefused 22 StateLineFault ∷ StateRefused 22 StateLineFault ∷ StateRefused 22 StateLineFault
+    ∷ StateRefused 22 StateLineFault ∷ StateRefused 22 StateLineFault
     ∷ StateRefused 22 StateLineFault ∷ StateRefused 22 StateLineFault ∷ StateRefused 22 StateLineFault ∷ StateRefused 22 StateLineFault ∷ []
 unfolding state_of digits
 line_faults = refl
@@ -116,7 +121,8 @@ line_faults = refl
 behind_end :
     map (λ more. arm_tells (codes "end" ∷ more ∷ []))
     (codes "r0 0x00000000" ∷ codes "V 1" ∷ codes "state armv4-le" ∷ codes "fails fetch at 0x00000000 step 0" ∷ [] ∷ [])
-    ≡ StateRefused 23 StateRegisterFault ∷ StateRefused 23 StateRegisterFault ∷ StateRefused 23 StateLineFault ∷ StateRefused 23 StateLineFault ∷ StateRefused 23 StateLineFault ∷ []
+    ≡ StateRefused 23 StateRegisterFault ∷ StateRefused 23 StateRegisterFault ∷ StateRefused 23 StateLineFault ∷ StateRefused 23 StateLineFault
+    ∷ StateRefused 23 StateLineFault ∷ []
 unfolding state_of digits
 behind_end = refl
 
@@ -128,11 +134,13 @@ head_faults :
     map rv_tells
     ([] ∷ (codes "holds" ∷ []) ∷ (codes "unknown unroll 4097 at 0x00010004 step 129" ∷ []) ∷ (codes "fails jump at 0x00010004 step 16777216" ∷ [])
     ∷ (codes "fails jump at 0x00010004 step 1" ∷ []) ∷ (codes "fails jump at 0x00010004 step 1" ∷ codes "x1 0x00000000" ∷ [])
-    ∷ (codes "fails trap at 0x00010004 step 1" ∷ codes "state armv4-le" ∷ []) ∷ (codes "fails trap at 0x00010004 step 1" ∷ codes "state rv32im" ∷ codes "x2 0x00000000" ∷ [])
+    ∷ (codes "fails trap at 0x00010004 step 1" ∷ codes "state armv4-le" ∷ [])
+    ∷ (codes "fails trap at 0x00010004 step 1" ∷ codes "state rv32im" ∷ codes "x2 0x00000000" ∷ [])
     ∷ (codes "fails trap at 0x00010004 step 1" ∷ codes "state rv32im" ∷ codes "x1 0x00000000" ∷ codes "end" ∷ [])
     ∷ (codes "fails trap at 0x00010004 step 1" ∷ codes "state rv32im" ∷ codes "x1 0x00000000" ∷ []) ∷ [])
     ≡ StateRefused 1 StateRegisterFault ∷ StateRefused 1 StateLineFault ∷ StateRefused 1 StateLineFault ∷ StateRefused 1 StateLineFault
-    ∷ StateRefused 2 StateRegisterFault ∷ StateRefused 2 StateLineFault ∷ StateRefused 2 StateLineFault ∷ StateRefused 3 StateRegisterFault ∷ StateRefused 4 StateRegisterFault
+    ∷ StateRefused 2 StateRegisterFault ∷ StateRefused 2 StateLineFault ∷ StateRefused 2 StateLineFault ∷ StateRefused 3 StateRegisterFault
+    ∷ StateRefused 4 StateRegisterFault
     ∷ StateRefused 4 StateRegisterFault ∷ []
 unfolding state_of digits
 head_faults = refl
@@ -158,7 +166,8 @@ abbrev program : Program
 program = record { machine = rv32; word = in_memory rv32; loaded = loaded (rv_file (0x00150513 ∷ 0x00008067 ∷ [])); entry = 0x10000; notes = notes }
 
 -- the largest word wraps, and 0 does not
-replays : replay_answer program rv_layout (printed rv_layout (rv_report 0xffffffff)) ≡ plain_answer 0 (line (codes "replayed fails ensure 2 at 0x00010004 step 1"))
+replays : replay_answer program rv_layout (printed rv_layout (rv_report 0xffffffff))
+    ≡ plain_answer 0 (line (codes "replayed fails ensure 2 at 0x00010004 step 1"))
 unfolding printed state_of digits run table rv_row
 replays = refl
 

@@ -98,11 +98,13 @@ module _ (layout : Layout) (known : ℕ → Bool) where
         free = later.free;
       }
   register_shape (suc k) i before (Some (ByteLine a v) ∷ rest) all many heads e = absurd (grind (arith, nat_tests, (free_line before (ByteLine a v) rest e).0))
-  register_shape (suc k) i before (Some (ChoiceLine s c) ∷ rest) all many heads e = absurd (grind (arith, nat_tests, (free_line before (ChoiceLine s c) rest e).0))
+  register_shape (suc k) i before (Some (ChoiceLine s c) ∷ rest) all many heads e = absurd
+      (grind (arith, nat_tests, (free_line before (ChoiceLine s c) rest e).0))
   register_shape (suc k) i before (Some EndLine ∷ rest) all many heads e = absurd (grind (arith, nat_tests, (free_line before EndLine rest e).0))
 
   -- what stands behind the end
-  nothing_behind : (before : List StateLine) (ls : List (Option StateLine)) → lines_of_head layout ≤ length before → list_any is_end_line before ≡ true → Good ls →
+  nothing_behind : (before : List StateLine) (ls : List (Option StateLine)) → lines_of_head layout ≤ length before → list_any is_end_line before ≡ true →
+      Good ls →
       IsFree before ls → ls ≡ []
   nothing_behind before [] long ended good e = refl
   nothing_behind before (None ∷ rest) long ended good e = no_line _ e
@@ -186,7 +188,8 @@ module _ (layout : Layout) (known : ℕ → Bool) where
   next_byte_of before b [] below = tt
   next_byte_of before b (d ∷ bs) below = grind (arith, nat_tests, below)
 
-  first_choice : (before : List StateLine) (s c : ℕ) (rest : List (Option StateLine)) → lines_of_head layout ≤ length before → list_any is_behind_bytes before ≡ false →
+  first_choice : (before : List StateLine) (s c : ℕ) (rest : List (Option StateLine)) → lines_of_head layout ≤ length before →
+      list_any is_behind_bytes before ≡ false →
       Good (Some (ChoiceLine s c) ∷ rest) → IsFree before (Some (ChoiceLine s c) ∷ rest) → ChoiceShape before (Some (ChoiceLine s c) ∷ rest)
   first_choice before s c rest long none good e =
       let p = free_line before (ChoiceLine s c) rest e in
@@ -203,7 +206,8 @@ module _ (layout : Layout) (known : ℕ → Bool) where
         rising = (next_choice_of before (s, c) later.choices later.below, later.rising);
       }
 
-  pub byte_shape : (before : List StateLine) (ls : List (Option StateLine)) → lines_of_head layout ≤ length before → list_any is_behind_bytes before ≡ false → Good ls →
+  pub byte_shape : (before : List StateLine) (ls : List (Option StateLine)) → lines_of_head layout ≤ length before → list_any is_behind_bytes before ≡ false →
+      Good ls →
       IsFree before ls → ByteShape before ls
   byte_shape before [] long none good e = absurd (let z = no_end before none in grind (arith, nat_tests, z, free_end before e))
   byte_shape before (None ∷ rest) long none good e = no_line _ e
@@ -228,7 +232,8 @@ module _ (layout : Layout) (known : ℕ → Bool) where
         good_choices = later.good_choices;
         rising_choices = later.rising_choices;
       }
-  byte_shape before (Some (ChoiceLine s c) ∷ rest) long none good e = no_more_bytes before (Some (ChoiceLine s c) ∷ rest) (first_choice before s c rest long none good e)
+  byte_shape before (Some (ChoiceLine s c) ∷ rest) long none good e = no_more_bytes before (Some (ChoiceLine s c)
+      ∷ rest) (first_choice before s c rest long none good e)
   byte_shape before (Some EndLine ∷ rest) long none good e =
       no_more_bytes before (Some EndLine ∷ rest)
       (end_shape before rest (nothing_behind (EndLine ∷ before) rest (omega (arith, long)) refl good.1 (free_line before EndLine rest e).1))

@@ -111,7 +111,8 @@ big_below (suc n) f h = let r = big_below n f h in let b = h n in rw (pow-succ' 
 pub load_below : (o : Endian) (n : ℕ) (m : Memory) (a : ℕ) → n % 8 ≡ 0 → ((i : ℕ) → m i < 256) → load o (n / 8) m a < 2 ^ n
 load_below Little n m a e h =
     let w : 8 * (n / 8) ≡ n = omega arith in
-    subst (λ (z : ℕ). little (n / 8) (λ i. m (words.add 32 a i)) < z) (byte_power (n / 8) ∙ ap (λ z. 2 ^ z) w) (little_below (n / 8) _ (λ i. h (words.add 32 a i)))
+    subst (λ (z : ℕ). little (n / 8) (λ i. m (words.add 32 a i))
+    < z) (byte_power (n / 8) ∙ ap (λ z. 2 ^ z) w) (little_below (n / 8) _ (λ i. h (words.add 32 a i)))
 load_below Big n m a e h =
     let w : 8 * (n / 8) ≡ n = omega arith in
     subst (λ (z : ℕ). big (n / 8) (λ i. m (words.add 32 a i)) < z) (byte_power (n / 8) ∙ ap (λ z. 2 ^ z) w) (big_below (n / 8) _ (λ i. h (words.add 32 a i)))

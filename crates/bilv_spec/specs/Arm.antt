@@ -209,7 +209,8 @@ keeps_carry w = if bit_i w then bits 11 8 w == 0 else not (has_bit 4 w) && (kind
 abbrev pub by_a_register : ℕ → Bool
 by_a_register w = not (bit_i w) && has_bit 4 w
 
--- A result of data processing (section A3.4), with the flags C and V. The opcodes are 0 AND, 1 EOR, 2 SUB, 3 RSB, 4 ADD, 5 ADC, 6 SBC, 7 RSC, 8 TST, 9 TEQ, 10 CMP, 11 CMN, 12 ORR, 13 MOV,
+-- A result of data processing (section A3.4), with the flags C and V. The opcodes are 0 AND, 1 EOR, 2 SUB, 3 RSB, 4 ADD, 5 ADC, 6 SBC, 7 RSC, 8 TST, 9 TEQ, 10
+-- CMP, 11 CMN, 12 ORR, 13 MOV,
 -- 14 BIC, 15 MVN.
 pub record Result : Type 0 where
   pub value : ℕ
@@ -382,7 +383,8 @@ is_multiply_long w =
     && not (is_pc_among (field_n w ∷ field_d w ∷ field_s w ∷ field_m w ∷ []))
     && not (field_n w == field_d w) && not (field_n w == field_m w) && not (field_d w == field_m w)
 
--- The upper half goes to the register in bits 19 to 16, the lower to that in bits 15 to 12. Bit 22 is set for signed ones. With S, C and V are the choice's bits.
+-- The upper half goes to the register in bits 19 to 16, the lower to that in bits 15 to 12. Bit 22 is set for signed ones. With S, C and V are the choice's
+-- bits.
 abbrev pub multiplied_long : ℕ → State → ℕ → Outcome
 multiplied_long w s c =
     let wide = λ (x : ℕ). if has_bit 22 w then sign_extend 32 64 x else x in

@@ -1,4 +1,5 @@
--- What notes call the registers and flags of ARM (ARM Architecture Reference Manual, sections A2.4 and A2.5; fp and ip are names of the procedure call standard).
+-- What notes call the registers and flags of ARM (ARM Architecture Reference Manual, sections A2.4 and A2.5; fp and ip are names of the procedure call
+-- standard).
 use Rattle.std.specs.Prelude.{ℕ, List, [], ◌∷◌, Option, codes}
 use Rattle.bilv_spec.specs.Notes.{Expr, Register, Flag, Pc}
 use Rattle.bilv_spec.specs.RvNames.{name_in}

@@ -53,8 +53,8 @@ own_weight e = 0
 abbrev pub weight : Expression → ℕ
 weight e = total own_weight e
 
--- The weight of a list: its expressions, its assignments, which take two choices for each bit, since an if nests at most two deep, its jumps, its exceptions and its
--- ifs.
+-- The weight of a list: its expressions, its assignments, which take two choices for each bit, since an if nests at most two deep, its jumps, its exceptions
+-- and its ifs.
 abbrev pub list_weight : Statements → ℕ
 list_weight Empty = 0
 list_weight (Assign x e rest) = 2 * type_width (type_of x) + weight e + list_weight rest

@@ -165,8 +165,8 @@ pub record Position : Type 0 where
   pub jump : Option ℕ
   pub turns : ℕ
 
--- What a list comes to: it ends; it raises an exception by number; a turn was due and none was left; or it is stuck, which a well typed list never is. The position
--- is the one that the finished statements left.
+-- What a list comes to: it ends; it raises an exception by number; a turn was due and none was left; or it is stuck, which a well typed list never is. The
+-- position is the one that the finished statements left.
 pub data Ending : Type 0 where
   Ends : Position → Ending
   RaisesException : ℕ → Position → Ending

@@ -1,6 +1,6 @@
 -- Which expressions and lists of statements have a type, and the first fault of those that have none (A Formal Specification for BIL, typing rules, in this
--- project's profile). A node's own rule comes after the rules of its operands, which are taken in the order of the text; it asks something of one operand after the
--- other, and then that they and the node's numbers fit together. The first thing that is not met is the fault.
+-- project's profile). A node's own rule comes after the rules of its operands, which are taken in the order of the text; it asks something of one operand after
+-- the other, and then that they and the node's numbers fit together. The first thing that is not met is the fault.
 use Rattle.std.specs.Prelude.{◌≡◌, ℕ, ◌+◌, ◌-◌, ◌%◌, ◌==◌, ◌^◌, nat_lt, nat_le, min, Bool, true, false, ◌&&◌, if◌then◌else◌, Option, Some, None}
 use Rattle.bilv_spec.specs.Bil.{BilType, Bits, Memory, BinaryOp, Equal, NotEqual, Less, LessEqual, SignedLess, SignedLessEqual, CastKind, Low, High, Signed, Unsigned, Expression, Var, Constant, Load, Store, Binary, Unary, Cast, Let, Unknown, Choose, Extract, Concat, Statements, Empty, Assign, JumpTo, Raise, Special, While, If, type_of, size, list_size}
 
@@ -11,8 +11,8 @@ pub data Need : Type 0 where
   NeedMemory : Need
   Fits : Need
 
--- A fault: the number of its node, counted in preorder from 0; what was asked; and the type that was found, of the operand that does not meet it, or of the first
--- operand where none is at fault, or the type that is named where there is no operand.
+-- A fault: the number of its node, counted in preorder from 0; what was asked; and the type that was found, of the operand that does not meet it, or of the
+-- first operand where none is at fault, or the type that is named where there is no operand.
 pub record TypeFault : Type 0 where
   pub place : ℕ
   pub need : Need
@@ -105,7 +105,8 @@ type_or_fault at (Load m a e n) =
     of_operand (type_or_fault (at + 1) m) (λ t. of_operand (type_or_fault (at + 1 + size m) a) (λ u.
     asks_memory at t (asks_bits at 32 u (asks_fit at (is_load_width n) t (Has (Bits n))))))
 type_or_fault at (Store m a e n v) =
-    of_operand (type_or_fault (at + 1) m) (λ t. of_operand (type_or_fault (at + 1 + size m) a) (λ u. of_operand (type_or_fault (at + 1 + size m + size a) v) (λ w.
+    of_operand (type_or_fault (at + 1) m) (λ t. of_operand (type_or_fault (at + 1 + size m) a)
+    (λ u. of_operand (type_or_fault (at + 1 + size m + size a) v) (λ w.
     asks_memory at t (asks_bits at 32 u (asks_bits at n w (asks_fit at (is_load_width n) t (Has Memory)))))))
 type_or_fault at (Binary o a b) =
     of_operand (type_or_fault (at + 1) a) (λ t. of_operand (type_or_fault (at + 1 + size a) b) (λ u.
@@ -117,7 +118,8 @@ type_or_fault at (Let x n a b) =
     asks_bits at n t (Has u)))
 type_or_fault at (Unknown t) = unknown_type at t
 type_or_fault at (Choose c a b) =
-    of_operand (type_or_fault (at + 1) c) (λ t. of_operand (type_or_fault (at + 1 + size c) a) (λ u. of_operand (type_or_fault (at + 1 + size c + size a) b) (λ w.
+    of_operand (type_or_fault (at + 1) c) (λ t. of_operand (type_or_fault (at + 1 + size c) a)
+    (λ u. of_operand (type_or_fault (at + 1 + size c + size a) b) (λ w.
     asks_bits at 1 t (asks_type at u w (Has u)))))
 type_or_fault at (Extract hi lo a) =
     of_operand (type_or_fault (at + 1) a) (λ t. asks_any at t (λ n. asks_fit at (nat_le lo hi && nat_lt hi n) t (Has (Bits (hi - lo + 1)))))
@@ -148,7 +150,8 @@ or_fault (Some f) rest = Some f
 abbrev pub wants : ℕ → BilType → Typed → Option TypeFault
 wants at t e = fault_in (of_operand e (λ u. asks_type at t u (Has u)))
 
--- The first fault of a list whose first statement has the number at. A statement is numbered before what it holds, and its own rule comes after the rules of that.
+-- The first fault of a list whose first statement has the number at. A statement is numbered before what it holds, and its own rule comes after the rules of
+-- that.
 abbrev pub list_fault : ℕ → Statements → Option TypeFault
 list_fault at Empty = None
 list_fault at (Assign x e rest) = or_fault (wants at (type_of x) (type_or_fault (at + 1) e)) (list_fault (at + 1 + size e) rest)

@@ -1,5 +1,5 @@
--- What a text of clauses says, and why it is refused (DIMACS CNF: comments, the line p cnf, clauses that 0 ends, with blanks and line ends alike); and the lines
--- of a proof (LRAT). A certificate is a text of clauses, a line proof, and the lines of a proof.
+-- What a text of clauses says, and why it is refused (DIMACS CNF: comments, the line p cnf, clauses that 0 ends, with blanks and line ends alike); and the
+-- lines of a proof (LRAT). A certificate is a text of clauses, a line proof, and the lines of a proof.
 use Rattle.std.specs.Prelude.{ℕ, ◌+◌, ◌^◌, Bool, true, false, ◌==◌, ◌&&◌, not, nat_lt, nat_le, if◌then◌else◌, List, [], ◌∷◌, ◌++◌, Option, Some, None, codes, length, map, filter}
 use Rattle.std.specs.List.{list_all, list_any}
 use Rattle.std.specs.Str.{bytes_eq}

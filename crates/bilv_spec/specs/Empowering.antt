@@ -5,8 +5,8 @@ use Rattle.bilv_spec.specs.Clauses.{Literal, Clause, has, opposite}
 use Rattle.bilv_spec.specs.UnitPropagation.{Gives, Conflicts, FollowsByUnits, negations_but}
 use Rattle.bilv_spec.specs.Refutation.{LogLine, Add, Delete, Bad}
 
--- from the negations of all its literals but one, whichever, unit propagation gives no conflict, and for one of them not that literal either; and no literal stands
--- beside its opposite, since a clause that is true of every valuation says nothing
+-- from the negations of all its literals but one, whichever, unit propagation gives no conflict, and for one of them not that literal either; and no literal
+-- stands beside its opposite, since a clause that is true of every valuation says nothing
 pub record IsEmpowering (cs : List Clause) (c : Clause) : Type 0 where
   pub plain : (l : Literal) → has c l ≡ true → has c (opposite l) ≡ true → ⊥
   pub no_conflict : (l : Literal) → has c l ≡ true → Conflicts cs (negations_but c l) → ⊥

@@ -19,8 +19,8 @@ loads_among p points =
     sum_by (λ point. loads_at p point.at (file_row p point.at)) points
     + sum_by bytes_loaded (map (λ l. l.says) p.notes.requires ++ flat_map (evaluated p) points)
 
--- A bit that a reading gives: of a register, a flag, the choice of a point, or the byte of the entry memory that a base read reads. A base read is a byte load that
--- reaches the entry memory; loads of one address may share one, so that it has a number and belongs to no one point or line.
+-- A bit that a reading gives: of a register, a flag, the choice of a point, or the byte of the entry memory that a base read reads. A base read is a byte load
+-- that reaches the entry memory; loads of one address may share one, so that it has a number and belongs to no one point or line.
 pub data Input : Type 0 where
   OfRegister : (register bit : ℕ) → Input
   OfFlag : ℕ → Input
@@ -80,8 +80,8 @@ AgreeOnFirst n inputs address r t =
 abbrev pub AgreesOn : Program → (asked : ℕ → Bool) → State → Type 0
 AgreesOn p asked s = (a : ℕ) (c : Cell) → a < 2 ^ 32 → p.loaded a ≡ Some c → asked a ≡ true → s.mem a ≡ c.byte
 
--- The addresses of base reads are decided by the inputs before them, and the inputs decide the question: of two readings that have the same inputs, the same entry
--- address and the bytes of the file that are asked, it is true of both or of neither. So a byte that the question needs is read at its own address.
+-- The addresses of base reads are decided by the inputs before them, and the inputs decide the question: of two readings that have the same inputs, the same
+-- entry address and the bytes of the file that are asked, it is true of both or of neither. So a byte that the question needs is read at its own address.
 pub record InputsDecide (p : Program) (k : ℕ) (question : Question) (asked : ℕ → Bool) (inputs : List Input) (address : Addresses) : Type 0 where
   pub below : (r : Reading) (read : ℕ) → address r read < 2 ^ 32
   pub by_earlier : (r t : Reading) (n read i : ℕ) → slice_get inputs n ≡ Some (OfByte read i) → IsReading r → IsReading t →
@@ -89,8 +89,9 @@ pub record InputsDecide (p : Program) (k : ℕ) (question : Question) (asked : �
   pub decides : (r t : Reading) → IsTrueOver p asked k r question → IsReading t → t.state.pc ≡ r.state.pc → AgreesOn p asked t.state →
       AgreeOnFirst (length inputs) inputs address r t → IsTrueOver p asked k t question
 
--- The clauses are those of a question, as far as it asks for bytes of the file: a valuation of the inputs extends in at most one way, and exactly where it comes
--- from a reading that the question is true of. The inputs are no more than the price; neither are the other variables and the bits of the entry memory together.
+-- The clauses are those of a question, as far as it asks for bytes of the file: a valuation of the inputs extends in at most one way, and exactly where it
+-- comes from a reading that the question is true of. The inputs are no more than the price; neither are the other variables and the bits of the entry memory
+-- together.
 pub record AreOfQuestion (p : Program) (k : ℕ) (question : Question) (cnf : Cnf) : Type 0 where
   pub points : List Point
   pub are_points : ArePoints p k points

@@ -24,7 +24,8 @@ IfRaises (Raises e) claim = claim
 abbrev pub KeepsOthers : List ℕ → State → Outcome → Type 0
 KeepsOthers places old o = IfGoes o (λ how new. (a : ℕ) → a < 2 ^ 32 → (Contains places a → ⊥) → new.mem a ≡ old.mem a)
 
--- A way on to an address that the successors allow: on to the next address, a direct jump to its target, or an indirect one; and a call exactly where they say so.
+-- A way on to an address that the successors allow: on to the next address, a direct jump to its target, or an indirect one; and a call exactly where they say
+-- so.
 abbrev pub IsWay : Successors → How → (to : ℕ) → Type 0
 IsWay s On to = s.next ≡ true
 IsWay s Direct to = (s.direct ≡ Some to) × (s.call ≡ false)
@@ -76,11 +77,12 @@ pub record IsPriced (cost : Cost) : Type 0 where
   pub stores : cost.stores ≤ 64
 
 -- What a row does in any state, under any choice.
--- stored, raised: where it goes on, it changes only the bytes that it says; where it raises an exception, it says none. successors, next, one_way: it goes on only
--- to a static successor, comes to the address behind it where it does not jump, and has no direct and no indirect successor at once. states: what it leaves is a
--- state. unassigned, unread, sure: a flag that it doesn't assign is unchanged; a flag that it doesn't read changes nothing but that flag itself, and not even that
--- where it surely assigns it. sure_flags: it surely assigns none but the four lowest. draws: it reads the choice only where it says so. plain: one that may assign a flag stores no byte. stored_unread: a flag that it
--- doesn't read does not change which bytes it stores. priced: its cost is within the bounds.
+-- stored, raised: where it goes on, it changes only the bytes that it says; where it raises an exception, it says none. successors, next, one_way: it goes on
+-- only to a static successor, comes to the address behind it where it does not jump, and has no direct and no indirect successor at once. states: what it
+-- leaves is a state. unassigned, unread, sure: a flag that it doesn't assign is unchanged; a flag that it doesn't read changes nothing but that flag itself,
+-- and not even that where it surely assigns it. sure_flags: it surely assigns none but the four lowest. draws: it reads the choice only where it says so.
+-- plain: one that may assign a flag stores no byte. stored_unread: a flag that it doesn't read does not change which bytes it stores. priced: its cost is
+-- within the bounds.
 pub record IsLawful (row : Row) : Type 0 where
   pub stored : (s : State) (c : ℕ) → IsState s → KeepsOthers (addresses (row.stored s)) s (row.effect s c)
   pub raised : (s : State) (c : ℕ) → IsState s → IfRaises (row.effect s c) (row.stored s ≡ None)
@@ -102,8 +104,8 @@ pub record IsLawful (row : Row) : Type 0 where
 pub record IsLawfulMachine (m : Machine) : Type 0 where
   pub rows : (w : ℕ) (row : Row) → w < 2 ^ 32 → m.row w ≡ Some row → IsLawful row
 
--- The form of state texts is the machine's: the registers are those from the form's first on, at least 15 and at most 31, for which prices and bounds are meant; the
--- flags are those below the number of the form's, at most 4; the link register is one of the registers.
+-- The form of state texts is the machine's: the registers are those from the form's first on, at least 15 and at most 31, for which prices and bounds are
+-- meant; the flags are those below the number of the form's, at most 4; the link register is one of the registers.
 pub record IsFitted (m : Machine) (form : Layout) : Type 0 where
   pub registers : (r : ℕ) → m.has_register r ≡ (nat_le form.first r && nat_lt r (form.first + length form.registers))
   pub enough_registers : 15 ≤ length form.registers
@@ -113,10 +115,13 @@ pub record IsFitted (m : Machine) (form : Layout) : Type 0 where
   pub link : m.has_register m.link ≡ true
 
 -- The list of a row that stands at an address, of a machine whose registers have the letter of a bank.
--- simulates: it does what the row does. stored: it stores just the bytes that the row stores, and none before an exception, since a lawful row then stores none.
+-- simulates: it does what the row does. stored: it stores just the bytes that the row stores, and none before an exception, since a lawful row then stores
+-- none.
 -- typed, no_loop, no_special, nests, names: it is well typed, has neither loop nor special, ifs at most two deep, and only the machine's variables.
--- assigns, surely, reads, reads_first: it uses the flags as the row does, and reads none that it has assigned. draws: it has an unknown only where the row draws.
--- picks, steady: it chooses between words alone, and no side of a choice has a store. literal: where the row loads a literal, each of its loads is of that word, at a constant address, and it stores nothing.
+-- assigns, surely, reads, reads_first: it uses the flags as the row does, and reads none that it has assigned. draws: it has an unknown only where the row
+-- draws.
+-- picks, steady: it chooses between words alone, and no side of a choice has a store. literal: where the row loads a literal, each of its loads is of that
+-- word, at a constant address, and it stores nothing.
 -- weight, loads, stores: they are within the row's cost, of which 64 are left for the exits of the row's point.
 pub record IsLifting (m : Machine) (bank : Bank) (row : Row) (at : ℕ) (list : Statements) : Type 0 where
   pub simulates : Simulates row.effect at list

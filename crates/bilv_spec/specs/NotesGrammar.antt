@@ -24,8 +24,8 @@ lines_of (b ∷ rest) =
     if b == 10 then [] ∷ lines_of rest else
     if (b == 13) && begins_with 10 rest then lines_of rest else onto_first b (lines_of rest)
 
--- A number, a name or a word, a bracket or an operator by its text; a byte that may stand only in a comment; characters that begin no token (as < and >= without
--- their u or s), or a number with a letter on its end.
+-- A number, a name or a word, a bracket or an operator by its text; a byte that may stand only in a comment; characters that begin no token (as < and >=
+-- without their u or s), or a number with a letter on its end.
 pub data Token : Type 0 where
   NumberToken : ℕ → Token
   NameToken : List ℕ → Token

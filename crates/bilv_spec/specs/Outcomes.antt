@@ -33,8 +33,8 @@ IsLawfulCommand (Certify elf notes kind b) = IsBudget b
 IsLawfulCommand (SelfRun seed count) = (seed < 2 ^ 31) × (1 ≤ count) × (count ≤ 16000)
 IsLawfulCommand other = Unit {0}
 
--- what a call meets outside: what the shelf tells of each name, its counts of faults before and after the call; what the sink tells of the bytes written before and
--- after, and its counts
+-- what a call meets outside: what the shelf tells of each name, its counts of faults before and after the call; what the sink tells of the bytes written before
+-- and after, and its counts
 pub record Surroundings : Type 0 where
   pub held : List ℕ → Held
   pub shelf_before : List ℕ → ℕ
@@ -48,8 +48,8 @@ pub record Surroundings : Type 0 where
 abbrev pub read_fault : Answer
 read_fault = plain_answer 6 (line (codes "read fault"))
 
--- The answer behind the reading of a file: a fault, only where the count of its name rose, or what comes next for its bytes. Of a name that the shelf doesn't tell
--- of they may be any bytes; a name that no file has allows the fault alone.
+-- The answer behind the reading of a file: a fault, only where the count of its name rose, or what comes next for its bytes. Of a name that the shelf doesn't
+-- tell of they may be any bytes; a name that no file has allows the fault alone.
 pub data AfterRead (s : Surroundings) (name : List ℕ) (Next : List ℕ → Answer → Type 0) (a : Answer) : Type 0 where
   read_failed : Rose (s.shelf_before name) (s.shelf_after name) → a ≡ read_fault → AfterRead s name Next a
   was_read : (bytes : List ℕ) → Agrees (s.held name) bytes → Next bytes a → AfterRead s name Next a
@@ -100,7 +100,8 @@ IsDueAnswer s (Some c) a = IsRightAnswer s c a
 -- The outcome of a call: a due answer, written whole; or a failed write behind a proper front of its text, only where the sink's count rose; or want of memory,
 -- which may come at any time, with nothing written.
 pub data IsOutcome (s : Surroundings) (c : Option Command) (status : ℕ) (evidence : Evidence) : Type 0 where
-  whole : (a : Answer) → IsDueAnswer s c a → Appends s.text_before a.text s.text_after → status ≡ a.status → evidence ≡ a.evidence → IsOutcome s c status evidence
+  whole : (a : Answer) → IsDueAnswer s c a → Appends s.text_before a.text s.text_after → status ≡ a.status → evidence ≡ a.evidence →
+      IsOutcome s c status evidence
   cut : (a : Answer) (n : ℕ) → IsDueAnswer s c a → n < length a.text → Appends s.text_before (take n a.text) s.text_after → Rose s.sink_before s.sink_after →
       status ≡ 7 → evidence ≡ NoEvidence → IsOutcome s c status evidence
   no_memory : Appends s.text_before [] s.text_after → status ≡ 8 → evidence ≡ NoEvidence → IsOutcome s c status evidence

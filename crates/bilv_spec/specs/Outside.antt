@@ -21,7 +21,8 @@ IsLonger held limit = (file : List ℕ) × Agrees held file × (limit < length f
 abbrev pub Rose : ℕ → ℕ → Type 0
 Rose old new = min (old + 1) (2 ^ 64 - 1) ≤ new
 
--- A read gives the first n bytes of the buffer: they are those of the file from a place on, and there are none only at its end. A name that no file has can't be read.
+-- A read gives the first n bytes of the buffer: they are those of the file from a place on, and there are none only at its end. A name that no file has can't
+-- be read.
 abbrev pub Reads : Held → (at : ℕ) → (buffer : List ℕ) → ℕ → Type 0
 Reads Untold at buffer n = Unit {0}
 Reads Absent at buffer n = ⊥

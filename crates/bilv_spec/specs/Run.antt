@@ -17,8 +17,9 @@ pub record Program : Type 0 where
   pub entry : ℕ
   pub notes : Notes
 
--- What ends a run without an exit: an assert line that is false, by its number; a byte that can't be fetched; a word without a row; an odd address of a halfword;
--- a kept byte that would be written; a trap; an address that is no multiple of 4; a jump that isn't allowed; an ensure line that is false at the exit.
+-- What ends a run without an exit: an assert line that is false, by its number; a byte that can't be fetched; a word without a row; an odd address of a
+-- halfword; a kept byte that would be written; a trap; an address that is no multiple of 4; a jump that isn't allowed; an ensure line that is false at the
+-- exit.
 pub data Event : Type 0 where
   AssertFails : ℕ → Event
   FetchFails : Event

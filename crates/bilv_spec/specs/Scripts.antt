@@ -90,9 +90,9 @@ AreWholeLines text = (text ≡ []) ⊎ ((front : List ℕ) × (text ≡ front ++
 abbrev pub IsTermName : List ℕ → Type 0
 IsTermName w = (n : ℕ) × (w ≡ codes "t" ++ number_text n)
 
--- A script begins with its logic and ends with the check, declares these symbols, is well formed for the values of each reading, and is satisfied by exactly those
--- of the readings that make the question true. The address of the entry is no symbol. What it says by these words a solver reads too: its bytes are plain, its
--- commands whole lines between the first and the last, and what it defines has the names of terms.
+-- A script begins with its logic and ends with the check, declares these symbols, is well formed for the values of each reading, and is satisfied by exactly
+-- those of the readings that make the question true. The address of the entry is no symbol. What it says by these words a solver reads too: its bytes are
+-- plain, its commands whole lines between the first and the last, and what it defines has the names of terms.
 pub record IsScript (p : Program) (layout : Layout) (k : ℕ) (kind : Question) (text : List ℕ) : Type 0 where
   pub points : List Point
   pub are_numbered : AreNumbered p k points

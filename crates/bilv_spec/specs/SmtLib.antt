@@ -258,7 +258,8 @@ abbrev pub if_last : Sexp → Option Bool
 if_last Nil = Some true
 if_last other = None
 
--- What the commands of a script say of a model's values for the symbols that they declare: whether all assertions hold, or nothing where the script isn't well formed.
+-- What the commands of a script say of a model's values for the symbols that they declare: whether all assertions hold, or nothing where the script isn't well
+-- formed.
 -- symbols: those that have a value so far.
 abbrev pub truth_of : (model symbols : List ℕ → Option SmtValue) → Sexp → Option Bool
 truth_of model symbols (Cons (Cons (Atom c) Nil) rest) = if bytes_eq c (codes "check-sat") then if_last rest else None
@@ -272,7 +273,8 @@ truth_of model symbols (Cons (Cons (Atom c) (Cons (Atom x) (Cons sort Nil))) res
 truth_of model symbols (Cons (Cons (Atom c) (Cons (Atom x) (Cons Nil (Cons sort Nil)))) rest) =
     if bytes_eq c (codes "declare-fun") && is_new (symbols x) then declared (model x) sort (λ v. truth_of model (binds symbols x v) rest) else None
 truth_of model symbols (Cons (Cons (Atom c) (Cons (Atom x) (Cons Nil (Cons sort (Cons term Nil))))) rest) =
-    if bytes_eq c (codes "define-fun") && is_new (symbols x) then defined (term_value symbols term) sort (λ v. truth_of model (binds symbols x v) rest) else None
+    if bytes_eq c (codes "define-fun") && is_new (symbols x) then defined (term_value symbols term) sort (λ v. truth_of model (binds symbols x v) rest)
+    else None
 truth_of model symbols other = None
 
 -- the same where no symbol has a value yet: whether the values satisfy the script of these commands, or nothing where it isn't well formed

@@ -61,7 +61,8 @@ last_step = 16777215
 abbrev pub AreRising : List (ℕ × ℕ) → Type 0
 AreRising pairs = AllPairs (λ x y. x.0 < y.0) pairs
 
--- A start that can be written: a word for each register; bytes from 1 on at addresses whose byte isn't known, by a test, and choices 1 to 3, both in rising order.
+-- A start that can be written: a word for each register; bytes from 1 on at addresses whose byte isn't known, by a test, and choices 1 to 3, both in rising
+-- order.
 pub record IsWritten (layout : Layout) (known : ℕ → Bool) (w : Written) : Type 0 where
   pub count : length w.regs ≡ length layout.registers
   pub words : All (λ v. v < 2 ^ 32) w.regs
@@ -300,12 +301,13 @@ lines_of_head layout = 2 + length (value_names layout)
 abbrev pub missed : Layout → ℕ → Option StateFault
 missed layout count = or_else (unless (nat_le 2 count) StateLineFault) (unless (nat_le (lines_of_head layout) count) StateRegisterFault)
 
--- A line's least fault behind the lines of a list, of which the last stands first, where a test tells the addresses whose byte is known. The line of the ending is
--- the first, the machine's the second, then come registers and flags by their places, bytes, choices and the end.
+-- A line's least fault behind the lines of a list, of which the last stands first, where a test tells the addresses whose byte is known. The line of the ending
+-- is the first, the machine's the second, then come registers and flags by their places, bytes, choices and the end.
 abbrev pub line_refusal : Layout → (known : ℕ → Bool) → (before : List StateLine) → StateLine → Option StateFault
 line_refusal layout known before (NamedLine n) = unless (length before == 0) StateLineFault
 line_refusal layout known before MachineLine = unless (length before == 1) StateLineFault
-line_refusal layout known before (RegisterLine i v) = or_else (unless (nat_le 2 (length before)) StateLineFault) (unless (length before == 2 + i) StateRegisterFault)
+line_refusal layout known before (RegisterLine i v) = or_else (unless (nat_le 2 (length before)) StateLineFault)
+    (unless (length before == 2 + i) StateRegisterFault)
 line_refusal layout known before (ByteLine a v) =
     or_else (missed layout (length before))
     (unless (not (list_any is_behind_bytes before) && list_all (is_byte_below a) before && nat_lt 0 v && not (known a)) StateByteFault)
@@ -316,7 +318,8 @@ line_refusal layout known before EndLine = or_else (missed layout (length before
 
 -- what a text is refused for that ends behind these lines
 abbrev pub end_refusal : Layout → (before : List StateLine) → Option StateFault
-end_refusal layout before = or_else (unless (nat_le (lines_of_head layout) (length before)) StateRegisterFault) (unless (list_any is_end_line before) StateEndFault)
+end_refusal layout before = or_else (unless (nat_le (lines_of_head layout) (length before)) StateRegisterFault)
+    (unless (list_any is_end_line before) StateEndFault)
 
 -- a fault of a line, or else a later refusal
 abbrev pub refused_or : ℕ → Option StateFault → Option (ℕ × StateFault) → Option (ℕ × StateFault)

@@ -11,4 +11,5 @@ RvOneRow = (w i j : ℕ) (a b : Instruction) → slice_get table i ≡ Some a �
 -- No word is of two lines of the ARM table.
 abbrev pub ArmOneRow : Type 0
 ArmOneRow =
-    (e : Endian) (w i j : ℕ) (a b : arm.Instruction) → slice_get (arm.table e) i ≡ Some a → slice_get (arm.table e) j ≡ Some b → a.is w ≡ true → b.is w ≡ true → i ≡ j
+    (e : Endian) (w i j : ℕ) (a b : arm.Instruction) → slice_get (arm.table e) i ≡ Some a → slice_get (arm.table e) j ≡ Some b → a.is w ≡ true → b.is w ≡ true →
+    i ≡ j

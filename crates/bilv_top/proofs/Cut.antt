@@ -7,7 +7,8 @@ use Rattle.io_edges.specs.declared.WriteFault.{WriteFault}
 use Rattle.io_edges.specs.declared.WriteFault.TheVariants.{Failed, Stuck}
 use Rattle.bilv_top.specs.Due.{IsDue, IsCut}
 
-pub cut_of : (s : Surroundings) (c : Option Command) (before after : Option (List ℕ)) (a : Answer) (e : WriteFault) → IsDue s c a → Stopped before a.text after e →
+pub cut_of : (s : Surroundings) (c : Option Command) (before after : Option (List ℕ)) (a : Answer) (e : WriteFault) → IsDue s c a →
+    Stopped before a.text after e →
     IsCut s c before after
 cut_of s c before after a (Failed written) due told =
     record { due = a; is_due = due; written = written; some_left = told.some_left; appends = told.appends }

@@ -67,7 +67,8 @@ where_built : (file : List ℕ) (Next : Answer → Type 0) (a : Answer) → (Nex
 where_built file Next a step (built is next) = step next
 where_built file Next a step (missing is a_is) = plain_not_built a a_is
 
-after_notes : (file text : List ℕ) (Next : Program → Answer → Type 0) (a : Answer) → ((p : Program) → Next p a → IsPlain a.status) → AfterNotes file text Next a →
+after_notes : (file text : List ℕ) (Next : Program → Answer → Type 0) (a : Answer) → ((p : Program) → Next p a → IsPlain a.status) →
+    AfterNotes file text Next a →
     IsPlain a.status
 after_notes file text Next a step (notes_refused written x is) = plain_at a 5 written is (plain_number 5 (omega arith))
 after_notes file text Next a step (program_found p x next) = step p next

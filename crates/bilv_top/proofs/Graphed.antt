@@ -19,7 +19,8 @@ same_node p old new same is = record {
   successors = same.successors ∙ is.successors ∙ ap (successors_at p) (sym same.at);
   returns = same.returns ∙ is.returns ∙ ap (may_return p) (sym same.at);
   flags = subst (λ a. IsFlagUseAt p a new.flags) (sym same.at) (subst (λ (u : FlagUse). IsFlagUseAt p old.at u) (sym same.flags) is.flags);
-  asserted = subst (λ a. IsFlagSet new.asserted (λ f. asserts_flag p f a)) (sym same.at) (subst (λ s. IsFlagSet s (λ f. asserts_flag p f old.at)) (sym same.asserted) is.asserted);
+  asserted = subst (λ a. IsFlagSet new.asserted (λ f. asserts_flag p f a)) (sym same.at) (subst
+      (λ s. IsFlagSet s (λ f. asserts_flag p f old.at)) (sym same.asserted) is.asserted);
 }
 
 same_nodes : (p : Program) (olds news : List Node) → AllZip IsSameNode olds news → All (λ n. IsNode p n) olds → All (λ n. IsNode p n) news
@@ -27,7 +28,8 @@ same_nodes p [] [] zip is = is
 same_nodes p [] (n ∷ news) zip is = absurd zip
 same_nodes p (o ∷ olds) [] zip is = absurd zip
 same_nodes p (o ∷ olds) (n ∷ news) zip is =
-    All-cons (λ n. IsNode p n) n news (same_node p o n zip.0 (All-head (λ n. IsNode p n) o olds is)) (same_nodes p olds news zip.1 (All-tail (λ n. IsNode p n) o olds is))
+    All-cons (λ n. IsNode p n) n news (same_node p o n zip.0 (All-head (λ n. IsNode p n) o olds is)) (same_nodes p olds news zip.1 (All-tail
+    (λ n. IsNode p n) o olds is))
 
 -- the addresses are the same
 same_addresses : (olds news : List Node) → AllZip IsSameNode olds news → map (λ n. n.at) news ≡ map (λ n. n.at) olds

@@ -73,7 +73,8 @@ printed_has layout named w =
 budget_has : (name : List ℕ) (n : ℕ) → Contains (budget_text name n) line_feed
 budget_has name n = line_has (joined (codes "unknown" ∷ name ∷ number_text n ∷ []))
 
-report_has : (p : Program) (layout : Layout) (b : Budget) (r : Report) (e : Evidence) → IsRightReport p layout b r e → Contains (report_text layout b r e) line_feed
+report_has : (p : Program) (layout : Layout) (b : Budget) (r : Report) (e : Evidence) → IsRightReport p layout b r e →
+    Contains (report_text layout b r e) line_feed
 report_has p layout b HoldsReport e is = line_has (codes "holds")
 report_has p layout b VacuousReport e is = line_has (codes "vacuous")
 report_has p layout b (FailsReport event at step) (RunOf w) is = printed_has layout (FailsBy event at step) w

@@ -39,7 +39,8 @@ arm_named file is = fun_ext (λ w. sym (ap (λ b. if b then rv_names w else arm_
 refused_as : (file : List ℕ) (f : elf.FileFault) → length file ≤ elf_limit → elf.IsFirstFileFault file f → IsElfRefused file (elf_fault_text f)
 refused_as file f le is = elf_fault f le is
 
-pub elf_is_refused : (file : List ℕ) (fault : ElfFault) → IsOfFile fault → length file ≤ elf_limit → IsRefused file fault → IsElfRefused file (elf_text_of fault)
+pub elf_is_refused : (file : List ℕ) (fault : ElfFault) → IsOfFile fault → length file ≤ elf_limit → IsRefused file fault →
+    IsElfRefused file (elf_text_of fault)
 elf_is_refused file Short some le is = refused_as file elf.ShortFile le is
 elf_is_refused file Magic some le is = refused_as file elf.BadMagic le is
 elf_is_refused file Class some le is = refused_as file elf.BadClass le is
@@ -59,7 +60,8 @@ pub line_answered : (file text : List ℕ) (n : ℕ) (f : NoteFault) (a : Answer
     a ≡ plain_answer 5 (note_fault_text n f) → AreNotesAnswered file text a
 line_answered file text n f a le is a_is = (note_fault_text n f, notes_fault n f le is, a_is)
 
-missed_by : (file text : List ℕ) (notes : Notes) (f : Function) (fault : SymFault) → length text ≤ notes_limit → IsNotesText (names_of file) text notes → notes.entry ≡ f →
+missed_by : (file text : List ℕ) (notes : Notes) (f : Function) (fault : SymFault) → length text ≤ notes_limit → IsNotesText (names_of file) text notes →
+    notes.entry ≡ f →
     IsMissedFunction file f fault → AreNotesRefused file text (missed_text fault)
 missed_by file text notes (At a) fault le is e missed = absurd missed
 missed_by file text notes (Named name) NoFunction le is e missed = no_function notes name le is e missed
@@ -72,7 +74,8 @@ name_answered file text notes fault a le is missed a_is = (missed_text fault, mi
 
 module _ (s : Surroundings) (elf : List ℕ) (Next : List ℕ → Answer → Type 0) (a : Answer) where
   -- the ELF file was not read
-  pub elf_unread : IsUnread (s.held elf) (s.shelf_before elf) (s.shelf_after elf) elf_limit (plain_answer 4 (line (codes "elf: TooLarge"))) a → AfterElf s elf Next a
+  pub elf_unread : IsUnread (s.held elf) (s.shelf_before elf) (s.shelf_after elf) elf_limit (plain_answer 4 (line (codes "elf: TooLarge"))) a →
+      AfterElf s elf Next a
   elf_unread (failed rose is) = read_failed rose is
   elf_unread (longer long is) = was_read long.0 long.1 (elf_refused (line (codes "elf: TooLarge")) (elf_large long.2) is)
 
@@ -87,7 +90,8 @@ module _ (s : Surroundings) (elf : List ℕ) (Next : List ℕ → Answer → Typ
 
 module _ (s : Surroundings) (notes file : List ℕ) (Next : List ℕ → Program → Answer → Type 0) (a : Answer) where
   -- no program is found
-  pub notes_answered : IsNotesAnswer (s.held notes) (s.shelf_before notes) (s.shelf_after notes) file a → AfterRead s notes (λ text. AfterNotes file text (Next text)) a
+  pub notes_answered : IsNotesAnswer (s.held notes) (s.shelf_before notes) (s.shelf_after notes) file a →
+      AfterRead s notes (λ text. AfterNotes file text (Next text)) a
   notes_answered (unread (failed rose is)) = read_failed rose is
   notes_answered (unread (longer long is)) = was_read long.0 long.1 (notes_refused (line (codes "notes: TooLarge")) (notes_large long.2) is)
   notes_answered (refused text agrees answered) = was_read text agrees (notes_refused answered.0 answered.1 answered.2)
@@ -95,7 +99,8 @@ module _ (s : Surroundings) (notes file : List ℕ) (Next : List ℕ → Program
   -- a program is found
   pub notes_found : (text : List ℕ) (found : Notes) (entry : ℕ) → Agrees (s.held notes) text → length text ≤ notes_limit → IsAccepted file →
       IsNotesText (names_of file) text found → IsFunctionAt file found.entry entry →
-      (IsFound file text (program_of file found entry) → Next text (program_of file found entry) a) → AfterRead s notes (λ text. AfterNotes file text (Next text)) a
+      (IsFound file text (program_of file found entry) → Next text (program_of file found entry) a) →
+      AfterRead s notes (λ text. AfterNotes file text (Next text)) a
   notes_found text found entry agrees le accepted says at next =
       let is : IsFound file text (program_of file found entry) = (accepted, le, (found, entry, says, at, refl)) in
       was_read text agrees (program_found (program_of file found entry) is (next is))
@@ -136,7 +141,8 @@ module _ (s : Surroundings) (elf notes file : List ℕ) (Next : List ℕ → Lis
   both_answered (elf_accepted accepted is) =
       elf_accepts s elf (λ file. AfterRead s notes (λ text. AfterNotes file text (Next file text))) a file agrees accepted
       (notes_answered s notes file (Next file) a
-      (answer_since (s.held notes) (s.shelf_before notes) before (s.shelf_after notes) file a le (subst (λ h. IsNotesAnswer h before (s.shelf_after notes) file a) same is)))
+      (answer_since (s.held notes) (s.shelf_before notes) before (s.shelf_after notes) file a le (subst
+      (λ h. IsNotesAnswer h before (s.shelf_after notes) file a) same is)))
 
   -- a program is found
   pub both_found : (f : Found) → IsAccepted file → Agrees held f.text.items → length f.text.items ≤ notes_limit → IsFoundBy file f
@@ -144,4 +150,5 @@ module _ (s : Surroundings) (elf notes file : List ℕ) (Next : List ℕ → Lis
       → AfterElf s elf (λ file. AfterRead s notes (λ text. AfterNotes file text (Next file text))) a
   both_found f accepted told short by next =
       elf_accepts s elf (λ file. AfterRead s notes (λ text. AfterNotes file text (Next file text))) a file agrees accepted
-      (notes_found s notes file (Next file) a f.text.items (notes_of f.notes) f.entry (subst (λ h. Agrees h f.text.items) same told) short accepted by.says by.at next)
+      (notes_found s notes file (Next file) a f.text.items (notes_of f.notes) f.entry (subst
+      (λ h. Agrees h f.text.items) same told) short accepted by.says by.at next)

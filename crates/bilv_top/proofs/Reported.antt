@@ -13,7 +13,8 @@ use Rattle.bilv_top.specs.Due.{IsUnread, failed, longer, IsReplayedSoFar, replay
 use Rattle.bilv_top.proofs.Refused.{read_since}
 
 -- a report that is too long
-report_large : (p : Program) (layout : Layout) (text : List ℕ) → text_limit < length text → replay_answer p layout text ≡ plain_answer 9 (line (codes "state: TooLarge"))
+report_large : (p : Program) (layout : Layout) (text : List ℕ) → text_limit < length text →
+    replay_answer p layout text ≡ plain_answer 9 (line (codes "state: TooLarge"))
 report_large p layout text h =
     let large : nat_lt text_limit (length text) ≡ true = grind (arith, nat_tests) in
     ap (λ b. sized_answer b p layout text) large
@@ -27,7 +28,8 @@ report_unread s name p layout a (longer long is) = was_read long.0 long.1 (is �
 
 -- what is answered to a report whose count never fell before
 pub replayed_since : (s t : Surroundings) (report file : List ℕ) (p : Program) (a : Answer) → s.held report ≡ t.held report →
-    t.shelf_before report ≤ s.shelf_before report → s.shelf_after report ≡ t.shelf_after report → IsReplayedSoFar s report file p a → IsReplayedSoFar t report file p a
+    t.shelf_before report ≤ s.shelf_before report → s.shelf_after report ≡ t.shelf_after report → IsReplayedSoFar s report file p a →
+    IsReplayedSoFar t report file p a
 replayed_since s t report file p a held le same (replayed is due) =
     replayed is (read_since s t report (λ text b. b ≡ replay_answer p (layout_of file) text) a held le same due)
 replayed_since s t report file p a held le same (unbuilt is a_is) = unbuilt is a_is

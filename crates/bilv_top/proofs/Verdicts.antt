@@ -38,7 +38,8 @@ module _ (p : Program) (b : Budget) (q : Question) (a : Answer) where
   pub points_said : (count : ℕ) → a ≡ record { status = 3; text = budget_text (codes "points") b.points; evidence = Count count } →
       IsCertificate p b q (Points count) → IsCertified p b q a.status a.text a.evidence
   points_said count is came =
-      subst (IsSaid p b q) (sym (is ∙ ap (λ n. record { status = 3; text = budget_text (codes "points") b.points; evidence = Count n }) came.1)) (spec.points came.0)
+      subst (IsSaid p b q) (sym (is ∙ ap (λ n. record { status = 3; text = budget_text (codes "points") b.points; evidence = Count n }) came.1))
+      (spec.points came.0)
 
   pub size_said : (price : ℕ) → a ≡ record { status = 3; text = budget_text (codes "size") b.size; evidence = Count price } →
       IsCertificate p b q (Size price) → IsCertified p b q a.status a.text a.evidence

@@ -22,10 +22,11 @@ use std::alloc::{AllocError, Global};
 
 /// The answer of the program: its exit status, and what shows that it is right.
 ///
-/// The exit status is 0 for the verdicts `holds` and `vacuous`, for lifted words, for a flow graph, for a report that was replayed, for a certificate that is printed or
-/// accepted; 1 for the verdict `fails` and for a question that is satisfiable; 2 for an unlawful line; 3 for what stays unknown within the budgets; 4 for a refused ELF file;
-/// 5 for refused notes; 6 for a file that could not be read; 7 for a write that failed; 8 for want of memory; 9 for a report that is not what its replay finds and for a
-/// certificate that is not accepted; and 10 for what is not built.
+/// The exit status is 0 for the verdicts `holds` and `vacuous`, for lifted words, for a flow graph, for a report that was replayed, for a certificate that is
+/// printed or accepted; 1 for the verdict `fails` and for a question that is satisfiable; 2 for an unlawful line; 3 for what stays unknown within the budgets;
+/// 4 for a refused ELF file;
+/// 5 for refused notes; 6 for a file that could not be read; 7 for a write that failed; 8 for want of memory; 9 for a report that is not what its replay finds
+/// and for a certificate that is not accepted; and 10 for what is not built.
 #[derive(Drop)]
 pub struct Outcome {
     pub status: u8,

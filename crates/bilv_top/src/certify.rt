@@ -134,7 +134,8 @@ fn certify_program(
     answer(alloc, NOT_BUILT, b"not built\n")
 }
 
-/// Certifies a question about the program that the ELF file and the notes of two names are. The error is want of memory, which a price of 2^128 - 1 or more counts as too.
+/// Certifies a question about the program that the ELF file and the notes of two names are. The error is want of memory, which a price of 2^128 - 1 or more
+/// counts as too.
 pub fn certify<H: Shelf>(
     alloc: Global,
     shelf: &mut H,

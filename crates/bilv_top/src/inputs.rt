@@ -66,7 +66,8 @@ pub fn read_elf<H: Shelf>(
     ensures keeps { (n : List ℕ) → H.holds shelf.new n ≡ H.holds shelf.old n }
     ensures never_falls { (n : List ℕ) → H.faults shelf.old n ≤ H.faults shelf.new n }
     ensures read { IfOk result (λ step. IfStep step
-        (IsUnread (H.holds shelf.old elf.now) (H.faults shelf.old elf.now) (H.faults shelf.new elf.now) verified.elf_limit (plain_answer 4 (line (codes "elf: TooLarge"))))
+        (IsUnread (H.holds shelf.old elf.now) (H.faults shelf.old elf.now) (H.faults shelf.new elf.now) verified.elf_limit
+        (plain_answer 4 (line (codes "elf: TooLarge"))))
         (λ v. Agrees (H.holds shelf.old elf.now) v.items × (length v.items ≤ verified.elf_limit))) }
 {
     let large = b"elf: TooLarge\n";

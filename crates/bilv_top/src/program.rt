@@ -34,7 +34,8 @@ pub fn answer_words<R: Env + AllocGlobal, H: Shelf, K: Sink>(
     shelf: &mut H,
     out: &mut K,
 ) -> ExitCode
-    ensures { IsProgramEnd (seen (H.holds shelf.old) (H.faults shelf.old) (H.faults shelf.new)) (K.written out.old) (K.written out.new) (K.faults out.old) (K.faults out.new) (exit_status result) }
+    ensures { IsProgramEnd (seen (H.holds shelf.old) (H.faults shelf.old) (H.faults shelf.new)) (K.written out.old) (K.written out.new) (K.faults out.old)
+        (K.faults out.new) (exit_status result) }
 {
     let Ok(words) = words(rt) else {
         return ExitCode::from(NO_MEMORY);

@@ -73,8 +73,8 @@ fn first_line<'a>(text: &'a [u8]) -> &'a [u8]
     &text[..length]
 }
 
-/// Verifies the work of a seed, below 2^31, and a number of items, 1 to 16000, with the default budgets. The answer's text is one line: what was made, and the first line of the
-/// report on it; the status and what shows that it is right are the report's. The error is want of memory.
+/// Verifies the work of a seed, below 2^31, and a number of items, 1 to 16000, with the default budgets. The answer's text is one line: what was made, and the
+/// first line of the report on it; the status and what shows that it is right are the report's. The error is want of memory.
 pub fn selfrun(alloc: Global, seed: u32, count: u32) -> Result<Answer, AllocError>
     requires lawful { IsLawfulCommand (SelfRun seed count) }
     ensures { IfOk result (λ a. IsSelfRun seed count (answer_of a)) }

@@ -34,7 +34,8 @@ pub fn report_on(
     requires same { image.now ≡ file.now }
     requires found { IsFoundBy image.now found.now }
     requires budget { IsBudget (budget_of budget) }
-    ensures { IfOk result (λ a. IsReported (program_of image.now (notes_of found.now.notes) found.now.entry) (layout_of image.now) (budget_of budget) (answer_of a)) }
+    ensures { IfOk result (λ a. IsReported (program_of image.now (notes_of found.now.notes) found.now.entry) (layout_of image.now) (budget_of budget)
+        (answer_of a)) }
 {
     let limits = limits(budget);
     let verdict = verdict_of::<Rv32>(alloc, image, &found.notes, found.entry, &limits)?;

@@ -44,15 +44,18 @@ pub record AreMeant (c : Cells) (p : InputPlaces) (ws : List (Vec Bit)) (v : ℕ
 module _ (c : Cells) (p : InputPlaces) (ws : List (Vec Bit)) (v : ℕ → Bool) (x : TermReading) (m : AreMeant c p ws v x) where
   agrees_to : (a : Agreement) → a.condition.0 < length c.nodes → a.read < p.reads → a.other < p.reads → agrees_at p ws v a ≡ true → Agrees c x (agreement_of a)
   agrees_to a l r o h e =
-      sym (m.bytes a.read r) ∙ implies_to (value_at (values_of v ws) a.condition.0).word (byte_at p v a.read) (byte_at p v a.other) h (m.words a.condition.0 l ∙ e) ∙ m.bytes a.other o
+      sym (m.bytes a.read r) ∙ implies_to (value_at (values_of v ws) a.condition.0).word (byte_at p v a.read) (byte_at p v a.other) h
+      (m.words a.condition.0 l ∙ e) ∙ m.bytes a.other o
 
-  agrees_from : (a : Agreement) → a.condition.0 < length c.nodes → a.read < p.reads → a.other < p.reads → Agrees c x (agreement_of a) → agrees_at p ws v a ≡ true
+  agrees_from : (a : Agreement) → a.condition.0 < length c.nodes → a.read < p.reads → a.other < p.reads → Agrees c x (agreement_of a) →
+      agrees_at p ws v a ≡ true
   agrees_from a l r o f =
       implies_from (value_at (values_of v ws) a.condition.0).word (byte_at p v a.read) (byte_at p v a.other)
       (λ e. m.bytes a.read r ∙ f (sym (m.words a.condition.0 l) ∙ e) ∙ sym (m.bytes a.other o))
 
   asked_to : (a : AskedByte) → a.condition.0 < length c.nodes → a.read < p.reads → asked_at p ws v a ≡ true → HasByte c x (asked_of a)
-  asked_to a l r h e = sym (m.bytes a.read r) ∙ implies_to (value_at (values_of v ws) a.condition.0).word (byte_at p v a.read) a.byte h (m.words a.condition.0 l ∙ e)
+  asked_to a l r h e = sym (m.bytes a.read r) ∙ implies_to (value_at (values_of v ws) a.condition.0).word (byte_at p v a.read) a.byte h
+      (m.words a.condition.0 l ∙ e)
 
   asked_from : (a : AskedByte) → a.condition.0 < length c.nodes → a.read < p.reads → HasByte c x (asked_of a) → asked_at p ws v a ≡ true
   asked_from a l r f =
@@ -72,14 +75,16 @@ module _ (c : Cells) (p : InputPlaces) (ws : List (Vec Bit)) (v : ℕ → Bool) 
       let q = f (agreement_of y) (0, omega arith, refl) in
       subst (Agrees c x) e (agrees_to y q.0.0 (omega (arith, q.1)) (omega (arith, q.2)) (and_parts (agrees_at p ws v y) (list_all (agrees_at p ws v) ys) h).0)
   all_agree (y ∷ ys) r f h a (suc i, k, e) =
-      all_agree ys r (λ b n. f b (suc n.0, (let l = n.1 in omega arith), n.2)) (and_parts (agrees_at p ws v y) (list_all (agrees_at p ws v) ys) h).1 a (i, omega arith, e)
+      all_agree ys r (λ b n. f b (suc n.0, (let l = n.1 in omega arith), n.2)) (and_parts (agrees_at p ws v y) (list_all (agrees_at p ws v) ys) h).1 a
+      (i, omega arith, e)
 
   pub agree_all : (xs : List Agreement) → p.reads ≡ length c.addresses → ((a : walk.Agreement) → Contains (map agreement_of xs) a → FormedAgreement a) →
       ((a : walk.Agreement) → Contains (map agreement_of xs) a → Agrees c x a) → list_all (agrees_at p ws v) xs ≡ true
   agree_all [] r f h = refl
   agree_all (y ∷ ys) r f h =
       let q = f (agreement_of y) (0, omega arith, refl) in
-      and_from (agrees_at p ws v y) (list_all (agrees_at p ws v) ys) (agrees_from y q.0.0 (omega (arith, q.1)) (omega (arith, q.2)) (h (agreement_of y) (0, omega arith, refl)))
+      and_from (agrees_at p ws v y) (list_all (agrees_at p ws v) ys)
+      (agrees_from y q.0.0 (omega (arith, q.1)) (omega (arith, q.2)) (h (agreement_of y) (0, omega arith, refl)))
       (agree_all ys r (λ b n. f b (suc n.0, (let l = n.1 in omega arith), n.2)) (λ b n. h b (suc n.0, (let l = n.1 in omega arith), n.2)))
 
   pub all_asked : (xs : List AskedByte) → p.reads ≡ length c.addresses → ((a : walk.AskedByte) → Contains (map asked_of xs) a → FormedByte a) →
@@ -89,7 +94,8 @@ module _ (c : Cells) (p : InputPlaces) (ws : List (Vec Bit)) (v : ℕ → Bool) 
       let q = f (asked_of y) (0, omega arith, refl) in
       subst (HasByte c x) e (asked_to y q.0.0 (omega (arith, q.1)) (and_parts (asked_at p ws v y) (list_all (asked_at p ws v) ys) h).0)
   all_asked (y ∷ ys) r f h a (suc i, k, e) =
-      all_asked ys r (λ b n. f b (suc n.0, (let l = n.1 in omega arith), n.2)) (and_parts (asked_at p ws v y) (list_all (asked_at p ws v) ys) h).1 a (i, omega arith, e)
+      all_asked ys r (λ b n. f b (suc n.0, (let l = n.1 in omega arith), n.2)) (and_parts (asked_at p ws v y) (list_all (asked_at p ws v) ys) h).1 a
+      (i, omega arith, e)
 
   pub asked_all : (xs : List AskedByte) → p.reads ≡ length c.addresses → ((a : walk.AskedByte) → Contains (map asked_of xs) a → FormedByte a) →
       ((a : walk.AskedByte) → Contains (map asked_of xs) a → HasByte c x a) → list_all (asked_at p ws v) xs ≡ true
@@ -105,18 +111,22 @@ has_width : (nodes : List TermNode) (ws : List (Vec Bit)) (t : ℕ) → length (
     ((i : ℕ) → i < length nodes → width_of (node_at (shapes ws) i) ≡ width_of (node_at nodes i)) → HasWidth nodes 1 t → HasWidth (shapes ws) 1 t
 has_width nodes ws t c f h = (omega (arith, c, h.0), f t h.0 ∙ h.1)
 
-pub can_agree : (c : Cells) (p : InputPlaces) (ws : List (Vec Bit)) → length (shapes ws) ≡ length c.nodes → ((i : ℕ) → i < length c.nodes → width_of (node_at (shapes ws) i) ≡ width_of (node_at c.nodes i)) →
+pub can_agree : (c : Cells) (p : InputPlaces) (ws : List (Vec Bit)) → length (shapes ws) ≡ length c.nodes →
+    ((i : ℕ) → i < length c.nodes → width_of (node_at (shapes ws) i) ≡ width_of (node_at c.nodes i)) →
     p.reads ≡ length c.addresses → (xs : List Agreement) →
-    ((a : walk.Agreement) → Contains (map agreement_of xs) a → HasWidth c.nodes 1 a.condition × (a.read < length c.addresses) × (a.other < length c.addresses)) → All (CanAgree p ws) xs
+    ((a : walk.Agreement) → Contains (map agreement_of xs) a → HasWidth c.nodes 1 a.condition × (a.read < length c.addresses) ×
+    (a.other < length c.addresses)) → All (CanAgree p ws) xs
 can_agree c p ws l w r [] f i d k = absurd (omega arith)
 can_agree c p ws l w r (y ∷ ys) f zero d k =
     let q = f (agreement_of y) (0, omega arith, refl) in
     record { condition = has_width c.nodes ws y.condition.0 l w q.0; read = omega (arith, q.1); other = omega (arith, q.2) }
 can_agree c p ws l w r (y ∷ ys) f (suc i) d k = can_agree c p ws l w r ys (λ b n. f b (suc n.0, (let m = n.1 in omega arith), n.2)) i d (omega arith)
 
-pub can_be_asked : (c : Cells) (p : InputPlaces) (ws : List (Vec Bit)) → length (shapes ws) ≡ length c.nodes → ((i : ℕ) → i < length c.nodes → width_of (node_at (shapes ws) i) ≡ width_of (node_at c.nodes i)) →
+pub can_be_asked : (c : Cells) (p : InputPlaces) (ws : List (Vec Bit)) → length (shapes ws) ≡ length c.nodes →
+    ((i : ℕ) → i < length c.nodes → width_of (node_at (shapes ws) i) ≡ width_of (node_at c.nodes i)) →
     p.reads ≡ length c.addresses → (xs : List AskedByte) →
-    ((a : walk.AskedByte) → Contains (map asked_of xs) a → HasWidth c.nodes 1 a.condition × (a.read < length c.addresses) × (a.byte < 256)) → All (CanBeAsked p ws) xs
+    ((a : walk.AskedByte) → Contains (map asked_of xs) a → HasWidth c.nodes 1 a.condition × (a.read < length c.addresses) × (a.byte < 256)) →
+    All (CanBeAsked p ws) xs
 can_be_asked c p ws l w r [] f i d k = absurd (omega arith)
 can_be_asked c p ws l w r (y ∷ ys) f zero d k =
     let q = f (asked_of y) (0, omega arith, refl) in
@@ -144,7 +154,8 @@ all_push : {X : Type 0} (f : X → Bool) (xs : List X) (x : X) → list_all f (x
 all_push f [] x = and_true (f x)
 all_push f (y ∷ ys) x = ap (λ z. f y && z) (all_push f ys x) ∙ sym (and_assoc (f y) (list_all f ys) (f x))
 
-pub all_more : {X : Type 0} (f : X → Bool) (xs : List X) (i : ℕ) (d : X) (s t u : Bool) → i < length xs → s ≡ (t && list_all f (take i xs)) → u ≡ f (get_or xs i d) →
+pub all_more : {X : Type 0} (f : X → Bool) (xs : List X) (i : ℕ) (d : X) (s t u : Bool) → i < length xs → s ≡ (t && list_all f (take i xs)) →
+    u ≡ f (get_or xs i d) →
     (s && u) ≡ (t && list_all f (take (i + 1) xs))
 all_more f xs i d s t u l e g =
     ap (λ z. z && u) e ∙ ap (λ z. (t && list_all f (take i xs)) && z) g ∙ and_assoc t (list_all f (take i xs)) (f (get_or xs i d))
@@ -161,6 +172,7 @@ one_to v (c ∷ []) n l f = by (bit_value v c) ∙ ap (λ z. z == 1) f
 one_to v (c ∷ d ∷ bs) n l f = absurd (omega arith)
 
 -- the condition's bit, and two numbers
-pub asks_is : (v : ℕ → Bool) (cs : List Bit) (n x y m k : ℕ) → length cs ≡ 1 → number v cs ≡ n → x ≡ m → y ≡ k → (not (bit_value v (get_or cs 0 no_bit)) || (x == y)) ≡ (not (n == 1) || (m == k))
+pub asks_is : (v : ℕ → Bool) (cs : List Bit) (n x y m k : ℕ) → length cs ≡ 1 → number v cs ≡ n → x ≡ m → y ≡ k →
+    (not (bit_value v (get_or cs 0 no_bit)) || (x == y)) ≡ (not (n == 1) || (m == k))
 asks_is v cs n x y m k l e f g =
     ap (λ z. not z || (x == y)) (one_to v cs n l e) ∙ ap (λ z. not (n == 1) || (z == y)) f ∙ ap (λ z. not (n == 1) || (m == z)) g

@@ -66,11 +66,14 @@ are_broken u c x xs r a = (
   (λ (j, b, l, e, f, g).
       let m : j < length xs = omega (arith, l, r.count) in
       let at : (get_or xs j (0, 0)).0 ≡ a = r.address j l ∙ e in
-      let t = known_other (byte_of_runs u.known (get_or xs j (0, 0)).0) (get_or xs j (0, 0)).1 b (ap (byte_of_runs u.known) at ∙ f) (λ n. g (sym (r.byte j l) ∙ n)) in
-      subst (λ (z : ℕ). Contains (map (λ (z : ℕ × ℕ). z.0) (filter (differs u.known) xs)) z) at (kept_to (λ (z : ℕ × ℕ). z.0) (differs u.known) (0, 0) xs j m t)),
+      let t = known_other (byte_of_runs u.known (get_or xs j (0, 0)).0) (get_or xs j (0, 0)).1 b (ap (byte_of_runs u.known) at ∙ f)
+      (λ n. g (sym (r.byte j l) ∙ n)) in
+      subst (λ (z : ℕ). Contains (map (λ (z : ℕ × ℕ). z.0) (filter (differs u.known) xs)) z) at (kept_to (λ (z : ℕ ×
+      ℕ). z.0) (differs u.known) (0, 0) xs j m t)),
 )
 
-pub broken_are : (c : Celled) (values : List Bool) (xs : List (ℕ × ℕ)) → AreReads (cells_of c) (reading (program_of_cells c) (cells_of c) (valuation values)) xs →
+pub broken_are : (c : Celled) (values : List Bool) (xs : List (ℕ × ℕ)) →
+    AreReads (cells_of c) (reading (program_of_cells c) (cells_of c) (valuation values)) xs →
     (found at : List ℕ) → found ≡ map (λ (z : ℕ × ℕ). z.0) (filter (differs (program_of_cells c).known) xs) → IsStrictlyIncreasing at →
     ((a : ℕ) → Contains found a ↔ Contains at a) → AreBroken c values at
 broken_are c values xs r found at e up same = record {

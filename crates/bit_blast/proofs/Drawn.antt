@@ -39,14 +39,16 @@ pub points_length : (u : Unrolled) (qs : List Point) → length (points_of u qs)
 points_length u [] = refl
 points_length u (q ∷ qs) = ap suc (points_length u qs)
 
-pub point_draws : (u : Unrolled) (qs : List Point) (i : ℕ) (d : Point) (b : Bool) → i < length qs → d ≡ get_or qs i d → b ≡ (slice_index_or u.codes.items d.code no_code).draws →
+pub point_draws : (u : Unrolled) (qs : List Point) (i : ℕ) (d : Point) (b : Bool) → i < length qs → d ≡ get_or qs i d →
+    b ≡ (slice_index_or u.codes.items d.code no_code).draws →
     (slice_index_or (points_of u qs) i no_point).draws ≡ b
 point_draws u [] i d b l e f = absurd (omega arith)
 point_draws u (q ∷ qs) zero d b l e f = sym (f ∙ ap (λ (x : Point). (slice_index_or u.codes.items x.code no_code).draws) e)
 point_draws u (q ∷ qs) (suc i) d b l e f = point_draws u qs i d b (omega arith) e f
 
 -- one more place
-next_place : (u : UnrolledProgram) (n : ℕ) (ds : List (Option ℕ)) (k : ℕ) (o : Option ℕ) (m : ℕ) → AreDrawn u n ds k → o ≡ (if (point_at u n).draws then Some (drawn_below u n) else None) →
+next_place : (u : UnrolledProgram) (n : ℕ) (ds : List (Option ℕ)) (k : ℕ) (o : Option ℕ) (m : ℕ) → AreDrawn u n ds k →
+    o ≡ (if (point_at u n).draws then Some (drawn_below u n) else None) →
     m ≡ drawn_below u (suc n) → AreDrawn u (n + 1) (ds ++ o ∷ []) m
 next_place u n ds k o m h e f = record {
   places = omega (arith, length_push ds o, h.places);
@@ -60,13 +62,15 @@ next_place u n ds k o m h e f = record {
   all = f ∙ ap (drawn_below u) (let e : suc n ≡ n + 1 = omega arith in e);
 }
 
-pub draws_one : (u : UnrolledProgram) (n : ℕ) (ds es : List (Option ℕ)) (k m : ℕ) → AreDrawn u n ds k → (point_at u n).draws ≡ true → es ≡ ds ++ Some k ∷ [] → m ≡ k + 1 → AreDrawn u (n + 1) es m
+pub draws_one : (u : UnrolledProgram) (n : ℕ) (ds es : List (Option ℕ)) (k m : ℕ) → AreDrawn u n ds k → (point_at u n).draws ≡ true → es ≡ ds ++ Some k ∷ [] →
+    m ≡ k + 1 → AreDrawn u (n + 1) es m
 draws_one u n ds es k m h d e f =
     subst (λ (z : List (Option ℕ)). AreDrawn u (n + 1) z m) (sym e)
     (next_place u n ds k (Some k) m h (ap Some h.all ∙ sym (ap (λ z. if z then Some (drawn_below u n) else None) d))
     (let g : drawn_below u (suc n) ≡ drawn_below u n + 1 = ap (λ z. drawn_below u n + bit z) d in omega (arith, h.all)))
 
-pub draws_none : (u : UnrolledProgram) (n : ℕ) (ds es : List (Option ℕ)) (k m : ℕ) → AreDrawn u n ds k → (point_at u n).draws ≡ false → es ≡ ds ++ None ∷ [] → m ≡ k → AreDrawn u (n + 1) es m
+pub draws_none : (u : UnrolledProgram) (n : ℕ) (ds es : List (Option ℕ)) (k m : ℕ) → AreDrawn u n ds k → (point_at u n).draws ≡ false → es ≡ ds ++ None ∷ [] →
+    m ≡ k → AreDrawn u (n + 1) es m
 draws_none u n ds es k m h d e f =
     subst (λ (z : List (Option ℕ)). AreDrawn u (n + 1) z m) (sym e)
     (next_place u n ds k None m h (sym (ap (λ z. if z then Some (drawn_below u n) else None) d))

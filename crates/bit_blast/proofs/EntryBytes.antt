@@ -33,7 +33,8 @@ byte_above : (xs : List (ℕ × ℕ)) (k : ℕ) → All (λ (x : ℕ × ℕ). k 
 byte_above [] k h = refl
 byte_above (x ∷ xs) k h =
     let l = h 0 x (omega arith) in
-    ap (λ z. if z then x.1 else byte_in xs k) (let e : (k == x.0) ≡ false = grind (arith, nat_tests) in e) ∙ byte_above xs k (λ i d m. h (suc i) d (omega (arith, m)))
+    ap (λ z. if z then x.1 else byte_in xs k) (let e : (k == x.0) ≡ false = grind (arith, nat_tests) in e) ∙ byte_above xs k
+    (λ i d m. h (suc i) d (omega (arith, m)))
 
 byte_at : (xs : List (ℕ × ℕ)) → AreRising xs → (k : ℕ) (d : ℕ × ℕ) → k < length xs → byte_in xs (get_or xs k d).0 ≡ (get_or xs k d).1
 byte_at [] h k d l = absurd (omega (arith, l))
@@ -52,7 +53,8 @@ byte_same [] a h = refl
 byte_same (x ∷ xs) a h = elim (truth (nat_lt 0 x.1)) [
   | inl t ↦ ap (λ z. byte_in (if z then x ∷ filter (λ y. nat_lt 0 y.1) xs else filter (λ y. nat_lt 0 y.1) xs) a) t
       ∙ ap (λ z. if a == x.0 then x.1 else z) (byte_same xs a (tail_rises x xs h))
-  | inr f ↦ ap (λ z. byte_in (if z then x ∷ filter (λ y. nat_lt 0 y.1) xs else filter (λ y. nat_lt 0 y.1) xs) a) f ∙ byte_same xs a (tail_rises x xs h) ∙ left f (truth (a == x.0))
+  | inr f ↦ ap (λ z. byte_in (if z then x ∷ filter (λ y. nat_lt 0 y.1) xs else filter (λ y. nat_lt 0 y.1) xs) a) f ∙ byte_same xs a (tail_rises x xs h) ∙ left f
+      (truth (a == x.0))
 ]
   where
     left : nat_lt 0 x.1 ≡ false → ((a == x.0) ≡ true) ⊎ ((a == x.0) ≡ false) → byte_in xs a ≡ (if a == x.0 then x.1 else byte_in xs a)
@@ -65,14 +67,16 @@ byte_same (x ∷ xs) a h = elim (truth (nat_lt 0 x.1)) [
 -- ---- the memory
 
 -- some memory has the byte of each read whose address is not known
-pub one_memory : (u : UnrolledProgram) (c : Cells) → AreFormed u c → (x : TermReading) (m : Memory) → Gives c (with_mem x m) → (xs us : List (ℕ × ℕ)) → AreReads c x xs →
+pub one_memory : (u : UnrolledProgram) (c : Cells) → AreFormed u c → (x : TermReading) (m : Memory) → Gives c (with_mem x m) → (xs us : List (ℕ × ℕ)) →
+    AreReads c x xs →
     us ≡ filter (is_unknown u.known) xs → (m : ℕ → ℕ) × ((y : ℕ × ℕ) → Contains us y → m y.0 ≡ y.1)
 one_memory u c formed x m gives xs us reads free = (
   m,
   λ y h.
       let q = stands_in (is_unknown u.known) (0, 0) xs y (subst (λ (z : List (ℕ × ℕ)). Contains z y) free h) in
       let l : q.0 < length c.addresses = omega (arith, q.1, reads.count) in
-      ap (λ (z : ℕ × ℕ). m z.0) (sym q.3) ∙ ap m (reads.address q.0 l) ∙ ap m (sym (term_free x m c.nodes (slice_index c.addresses q.0) formed.words)) ∙ sym (gives q.0 l)
+      ap (λ (z : ℕ × ℕ). m z.0) (sym q.3) ∙ ap m (reads.address q.0 l) ∙ ap m (sym (term_free x m c.nodes (slice_index c.addresses q.0) formed.words)) ∙ sym
+      (gives q.0 l)
       ∙ sym (reads.byte q.0 l) ∙ ap (λ (z : ℕ × ℕ). z.1) q.3,
 )
 
@@ -81,7 +85,8 @@ free_none None h = refl
 free_none (Some b) h = absurd (cc)
 
 module _ (u : UnrolledProgram) (c : Cells) (formed : AreFormed u c) (v : ℕ → Bool) (xs us ys listed : List (ℕ × ℕ)) (reads : AreReads c (reading u c v) xs)
-    (free : us ≡ filter (is_unknown u.known) xs) (same : (x : ℕ × ℕ) → Contains us x ↔ Contains ys x) (rise : AreRising ys) (some : listed ≡ filter (λ x. nat_lt 0 x.1) ys) where
+    (free : us ≡ filter (is_unknown u.known) xs) (same : (x : ℕ × ℕ) → Contains us x ↔
+    Contains ys x) (rise : AreRising ys) (some : listed ≡ filter (λ x. nat_lt 0 x.1) ys) where
   -- each is one of a read whose address is not known
   of_read : (x : ℕ × ℕ) → Contains ys x → (x.0 < 2 ^ 32) × (x.1 < 256) × (byte_of_runs u.known x.0 ≡ None)
   of_read x h =
@@ -108,15 +113,18 @@ module _ (u : UnrolledProgram) (c : Cells) (formed : AreFormed u c) (v : ℕ →
   pub are_unknown : All (λ (x : ℕ × ℕ). byte_of_runs u.known x.0 ≡ None) listed
   are_unknown =
       subst (All (λ (x : ℕ × ℕ). byte_of_runs u.known x.0 ≡ None)) (sym some)
-      (All-filter (λ (x : ℕ × ℕ). nat_lt 0 x.1) (λ (x : ℕ × ℕ). byte_of_runs u.known x.0 ≡ None) ys (λ i e m. (of_read (get_or ys i e) (Contains-get_or ys i e m)).2))
+      (All-filter (λ (x : ℕ × ℕ). nat_lt 0 x.1) (λ (x : ℕ × ℕ). byte_of_runs u.known x.0 ≡ None) ys
+      (λ i e m. (of_read (get_or ys i e) (Contains-get_or ys i e m)).2))
 
   byte_of : (j : ℕ) → j < length c.addresses → byte_of_runs u.known (read_address c (reading u c v) j) ≡ None →
       byte_in listed (read_address c (reading u c v) j) ≡ (reading u c v).base j
   byte_of j l e =
       let m : j < length xs = omega (arith, l, reads.count) in
       let t : is_unknown u.known (get_or xs j (0, 0)) ≡ true = ap (λ z. is_free (byte_of_runs u.known z)) (reads.address j l) ∙ ap is_free e in
-      let h = (same (get_or xs j (0, 0))).0 (subst (λ (z : List (ℕ × ℕ)). Contains z (get_or xs j (0, 0))) (sym free) (stays_in (is_unknown u.known) (0, 0) xs j m t)) in
-      ap (λ z. byte_in z (read_address c (reading u c v) j)) some ∙ byte_same ys (read_address c (reading u c v) j) rise ∙ ap (byte_in ys) (sym (reads.address j l))
+      let h = (same (get_or xs j (0, 0))).0 (subst (λ (z : List (ℕ ×
+      ℕ)). Contains z (get_or xs j (0, 0))) (sym free) (stays_in (is_unknown u.known) (0, 0) xs j m t)) in
+      ap (λ z. byte_in z (read_address c (reading u c v) j)) some ∙ byte_same ys (read_address c (reading u c v) j) rise ∙ ap (byte_in ys)
+      (sym (reads.address j l))
       ∙ byte_has ys (get_or xs j (0, 0)).0 (get_or xs j (0, 0)).1 rise h ∙ reads.byte j l
 
   pub it_gives : ((a : ℕ) → ¬ IsBroken u c (reading u c v) a) → Gives c (with_mem (reading u c v) (λ a. known_or (byte_of_runs u.known (word 32 a)) listed a))

@@ -26,9 +26,11 @@ bit_one false = refl
 small : (n : ℕ) → n < 4 → n ≡ n % 4
 small n l = omega arith
 
-module _ (u : UnrolledProgram) (c : Cells) (v : ℕ → Bool) (w : Written) (entry : u.entry < 2 ^ 32) (some : 0 < length u.points) (later : ExitsLeadLater u) (q : Passive) (passive : IsPassive u q)
+module _ (u : UnrolledProgram) (c : Cells) (v : ℕ → Bool) (w : Written) (entry : u.entry < 2 ^ 32) (some : 0
+    < length u.points) (later : ExitsLeadLater u) (q : Passive) (passive : IsPassive u q)
     (bytes : (a : ℕ) → start_memory u w a < 256) (y : TermReading) (ws : List ℕ) (words : AreWords y q.nodes ws)
-    (regs : (n : ℕ) → is_register_of u n ≡ true → y.regs n ≡ (reading u c v).regs n) (flags : (f : ℕ) → is_flag_of u f ≡ true → y.flags f ≡ (reading u c v).flags f) (mem : y.mem ≡ start_memory u w)
+    (regs : (n : ℕ) → is_register_of u n ≡ true → y.regs n ≡ (reading u c v).regs n) (flags : (f : ℕ) → is_flag_of u f ≡ true →
+    y.flags f ≡ (reading u c v).flags f) (mem : y.mem ≡ start_memory u w)
     (choice : (i : ℕ) → DrawsAt u i → y.choice i ≡ (reading u c v).choice i) (steps : ℕ)
     (chosen : AreChoices (λ i. slice_index ws (slice_index q.met i) == 1) (reading u c v).choice (length u.points) steps w.choices) where
   module _ (r : Reading) (is : IsReadingOf u c v w r) where
@@ -66,7 +68,8 @@ module _ (u : UnrolledProgram) (c : Cells) (v : ℕ → Bool) (w : Written) (ent
     word_is : (t : ℕ) → t < length q.nodes → slice_index ws t ≡ term_word (term_reading u s) q.nodes t
     word_is t l =
         words.each t l
-        ∙ same_term y (term_reading u s) q.nodes t (λ i le vs. node_same u 0 y (term_reading u s) agree vs (node_at q.nodes i) (passive.terms.named (node_at q.nodes i) (node_in q.nodes i (omega arith))) (λ e. same_mem)) l
+        ∙ same_term y (term_reading u s) q.nodes t (λ i le vs. node_same u 0 y (term_reading u s) agree vs (node_at q.nodes i)
+        (passive.terms.named (node_at q.nodes i) (node_in q.nodes i (omega arith))) (λ e. same_mem)) l
 
     starts : s.state.pc ≡ u.entry
     unfolding s

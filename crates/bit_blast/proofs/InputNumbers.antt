@@ -22,7 +22,8 @@ bits_are v i zero = refl
 bits_are v i (suc n) =
     let e : suc n ≡ n + 1 = omega arith in
     let f : i + n + 1 ≡ suc (i + n) = omega arith in
-    ap (λ z. z + bit (v (i + n + 1)) * 2 ^ n) (bits_are v i n) ∙ ap (λ z. input_number v i n + bit (v z) * 2 ^ n) f ∙ turn (input_number v i n) (bit (v (suc (i + n)))) (2 ^ n)
+    ap (λ z. z + bit (v (i + n + 1)) * 2 ^ n) (bits_are v i n) ∙ ap
+    (λ z. input_number v i n + bit (v z) * 2 ^ n) f ∙ turn (input_number v i n) (bit (v (suc (i + n)))) (2 ^ n)
     ∙ sym (ap (input_number v i) e ∙ input_more v i n)
   where
     turn : (a b c : ℕ) → a + b * c ≡ a + c * b
@@ -34,7 +35,8 @@ pub in_range : (f k n : ℕ) → list_any (nat_eq n) (from_to f k) ≡ true → 
 in_range f zero n h = absurd (cc)
 in_range f (suc k) n h = elim (truth (nat_eq n f)) [
   | inl t ↦ (let e : n ≡ f = grind (arith, nat_tests) in (omega arith, omega arith))
-  | inr g ↦ (let q = in_range (f + 1) k n (sym (ap (λ z. z || list_any (nat_eq n) (from_to (f + 1) k)) g) ∙ h) in let a = q.0 in let b = q.1 in (omega arith, omega arith))
+  | inr g ↦ (let q = in_range (f + 1) k n (sym (ap (λ z. z || list_any (nat_eq n) (from_to (f + 1) k)) g) ∙ h) in let a = q.0 in let b = q.1
+      in (omega arith, omega arith))
 ]
 
 pub any_in_range : (f k n : ℕ) → f ≤ n → n < f + k → list_any (nat_eq n) (from_to f k) ≡ true
@@ -48,7 +50,8 @@ any_in_range f (suc k) n l m = elim (truth (nat_eq n f)) [
 pub place_in_range : (f k n : ℕ) → f ≤ n → n < f + k → place_in (from_to f k) n ≡ n - f
 place_in_range f zero n l m = absurd (omega arith)
 place_in_range f (suc k) n l m = elim (truth (f == n)) [
-  | inl t ↦ (let e : f ≡ n = grind (arith, nat_tests) in ap (λ z. if z then 0 else place_in (from_to (f + 1) k) n + 1) t ∙ (let g : 0 ≡ n - f = omega arith in g))
+  | inl t ↦ (let e : f ≡ n = grind (arith, nat_tests) in ap (λ z. if z then 0 else place_in (from_to (f + 1) k) n + 1) t ∙ (let g : 0
+      ≡ n - f = omega arith in g))
   | inr g ↦ (let e : (f ≡ n → ⊥) = grind (arith, nat_tests) in
       let q = place_in_range (f + 1) k n (omega arith) (omega arith) in
       ap (λ z. if z then 0 else place_in (from_to (f + 1) k) n + 1) g ∙ (let r : place_in (from_to (f + 1) k) n + 1 ≡ n - f = omega arith in r))
@@ -80,7 +83,8 @@ behind (q ∷ qs) (suc i) l = behind qs i (omega arith)
 bits_same : (m : ℕ) (v w : ℕ → Bool) → AgreeUpTo m v w → (i n : ℕ) → i + n ≤ m → bits_from v i n ≡ bits_from w i n
 bits_same m v w a i zero l = refl
 bits_same m v w a i (suc n) l =
-    ap (λ z. z + bit (v (i + n + 1)) * 2 ^ n) (bits_same m v w a i n (omega arith)) ∙ ap (λ z. bits_from w i n + bit z * 2 ^ n) (a (i + n + 1) (omega arith) (omega arith))
+    ap (λ z. z + bit (v (i + n + 1)) * 2 ^ n) (bits_same m v w a i n (omega arith)) ∙ ap
+    (λ z. bits_from w i n + bit z * 2 ^ n) (a (i + n + 1) (omega arith) (omega arith))
 
 module _ (u : UnrolledProgram) (c : Cells) (v w : ℕ → Bool) (a : AgreeUpTo (inputs u c) v w) where
   abbrev m : ℕ
@@ -114,4 +118,5 @@ module _ (u : UnrolledProgram) (c : Cells) (v w : ℕ → Bool) (a : AgreeUpTo (
       ap (λ z. record { regs = z; flags = rv.flags; mem = rv.mem; choice = rv.choice; base = rv.base }) (fun_ext (λ n. regs n (is_register_of u n) refl))
       ∙ ap (λ z. record { regs = rw'.regs; flags = z; mem = rv.mem; choice = rv.choice; base = rv.base }) (fun_ext (λ f. flags f (is_flag_of u f) refl))
       ∙ ap (λ z. record { regs = rw'.regs; flags = rw'.flags; mem = rv.mem; choice = z; base = rv.base }) (fun_ext (λ i. choice i (point_at u i).draws refl))
-      ∙ ap (λ z. record { regs = rw'.regs; flags = rw'.flags; mem = rv.mem; choice = rw'.choice; base = z }) (fun_ext (λ j. base j (nat_lt j (length c.addresses)) refl))
+      ∙ ap (λ z. record { regs = rw'.regs; flags = rw'.flags; mem = rv.mem; choice = rw'.choice; base = z }) (fun_ext
+      (λ j. base j (nat_lt j (length c.addresses)) refl))

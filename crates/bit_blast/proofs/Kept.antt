@@ -36,7 +36,8 @@ itself : {X : Type 0} (xs : List X) → map (λ x. x) xs ≡ xs
 itself [] = refl
 itself (x ∷ xs) = ap (λ z. x ∷ z) (itself xs)
 
-pub stands_in : {X : Type 0} (p : X → Bool) (d : X) (xs : List X) (y : X) → Contains (filter p xs) y → (j : ℕ) × (j < length xs) × (p (get_or xs j d) ≡ true) × (get_or xs j d ≡ y)
+pub stands_in : {X : Type 0} (p : X → Bool) (d : X) (xs : List X) (y : X) → Contains (filter p xs) y → (j : ℕ) × (j < length xs) × (p (get_or xs j d) ≡ true) ×
+    (get_or xs j d ≡ y)
 stands_in {X} p d xs y h = kept_from (λ x. x) p d xs y (subst (λ (z : List X). Contains z y) (sym (itself (filter p xs))) h)
 
 pub stays_in : {X : Type 0} (p : X → Bool) (d : X) (xs : List X) (j : ℕ) → j < length xs → p (get_or xs j d) ≡ true → Contains (filter p xs) (get_or xs j d)
@@ -59,7 +60,8 @@ pairs_from : (k : ℕ × ℕ) (xs : List (ℕ × ℕ)) (z : ℕ × ℕ) → Cont
 pairs_from k [] z h = h
 pairs_from k (x ∷ xs) z h = by (pairs_from k xs z) (pairs_from x xs z) (equal_pairs x k) refl h
   where
-    by : (Contains (k ∷ xs) z → Contains (dedup_from equal_pairs k xs) z) → (Contains (x ∷ xs) z → Contains (dedup_from equal_pairs x xs) z) → (b : Bool) → equal_pairs x k ≡ b →
+    by : (Contains (k ∷ xs) z → Contains (dedup_from equal_pairs k xs) z) → (Contains (x ∷ xs) z → Contains (dedup_from equal_pairs x xs) z) → (b : Bool) →
+        equal_pairs x k ≡ b →
         Contains (k ∷ x ∷ xs) z → Contains (if b then dedup_from equal_pairs k xs else k ∷ dedup_from equal_pairs x xs) z
     by same other true e (zero, l, g) = same (0, omega arith, g)
     by same other true e (suc zero, l, g) = same (0, omega arith, sym (exact x k e) ∙ g)

@@ -75,7 +75,8 @@ same_word x us vs ns (JoinNode c a b) h k f = absurd k
 -- ---- one more node
 
 -- the word of one more node
-pushed : (x : TermReading) (ns : List TermNode) (n : TermNode) (ws : List ℕ) (w : ℕ) → AreWords x ns ws → w ≡ (node_value x (values_from x [] ns) n).word → AreWords x (ns ++ n ∷ []) (ws ++ w ∷ [])
+pushed : (x : TermReading) (ns : List TermNode) (n : TermNode) (ws : List ℕ) (w : ℕ) → AreWords x ns ws → w ≡ (node_value x (values_from x [] ns) n).word →
+    AreWords x (ns ++ n ∷ []) (ws ++ w ∷ [])
 unfolding values_from
 pushed x ns n ws w a e = record {
   count = omega (arith, a.count, longer ws w, longer ns n);
@@ -96,7 +97,8 @@ gates_push : (ns : List TermNode) (n : TermNode) → term_gates (ns ++ n ∷ [])
 gates_push ns n = grind (arith, sum_by-append own_gates ns (n ∷ []), sum_by-cons own_gates n [])
 
 -- the widths of one more word
-widths_push : (ws : List (Vec Bit)) (ns : List TermNode) (w : Vec Bit) (n : TermNode) → length ws ≡ length ns → ((t : ℕ) → t < length ns → width_of (node_at (shapes ws) t) ≡ width_of (node_at ns t)) →
+widths_push : (ws : List (Vec Bit)) (ns : List TermNode) (w : Vec Bit) (n : TermNode) → length ws ≡ length ns →
+    ((t : ℕ) → t < length ns → width_of (node_at (shapes ws) t) ≡ width_of (node_at ns t)) →
     length w.items ≡ width_of n → (t : ℕ) → t < length (ns ++ n ∷ []) → width_of (node_at (shapes (ws ++ w ∷ [])) t) ≡ width_of (node_at (ns ++ n ∷ []) t)
 widths_push [] [] w n c h e zero l = e
 widths_push [] [] w n c h e (suc t) l = absurd (omega arith)
@@ -109,11 +111,13 @@ alike : (p : InputPlaces) (a b : Netlist) (ns : List TermNode) (ws : List (Vec B
 alike p a b ns ws h = record { count = length-map ws (λ (w : Vec Bit). ConstantNode (length w.items) 0) ∙ h.count; widths = h.widths }
 
 -- a node is typed over the words of those before it
-pub typed_next : (p : InputPlaces) (a b : Netlist) (ns : List TermNode) (i : ℕ) (n : TermNode) (ws : List (Vec Bit)) → AreTyped ns → i < length ns → n ≡ node_at ns i → AreBlasted p a b (take i ns) ws →
+pub typed_next : (p : InputPlaces) (a b : Netlist) (ns : List TermNode) (i : ℕ) (n : TermNode) (ws : List (Vec Bit)) → AreTyped ns → i < length ns →
+    n ≡ node_at ns i → AreBlasted p a b (take i ns) ws →
     IsTypedOver (shapes ws) n
 typed_next p a b ns i n ws t l e h = typed_alike (shapes ws) (take i ns) (alike p a b (take i ns) ws h) n (typed_before ns i n t l e)
 
-blasted_push : (p : InputPlaces) (a b c : Netlist) (ns : List TermNode) (n : TermNode) (ws : List (Vec Bit)) (w : Vec Bit) → IsTypedOver ns n → IsOfWords n → AreBlasted p a b ns ws →
+blasted_push : (p : InputPlaces) (a b c : Netlist) (ns : List TermNode) (n : TermNode) (ws : List (Vec Bit)) (w : Vec Bit) → IsTypedOver ns n → IsOfWords n →
+    AreBlasted p a b ns ws →
     IsWord b c (own_gates n) (width_of n) w.items →
     ((v : ℕ → Bool) (x : TermReading) → Holds v c → IsReadingAt p v x → number v w.items ≡ (node_value x (values_of v ws) n).word) →
     AreBlasted p a c (ns ++ n ∷ []) (ws ++ w ∷ [])
@@ -125,10 +129,12 @@ blasted_push p a b c ns n ws w t o h m f = record {
   values = λ v x g r.
       let q = h.values v x (m.grows.keeps v g) r in
       subst (AreWords x (ns ++ n ∷ [])) (sym (map-append (λ (z : Vec Bit). number v z.items) ws (w ∷ [])))
-      (pushed x ns n (numbers v ws) (number v w.items) q (f v x g r ∙ same_word x (values_of v ws) (values_from x [] ns) ns n t o (λ i l. word_is v ws i ∙ q.each i l)));
+      (pushed x ns n (numbers v ws) (number v w.items) q (f v x g r ∙ same_word x (values_of v ws) (values_from x [] ns) ns n t o
+      (λ i l. word_is v ws i ∙ q.each i l)));
 }
 
-pub blasted_more : (p : InputPlaces) (a b c : Netlist) (ns : List TermNode) (i : ℕ) (n : TermNode) (ws : List (Vec Bit)) (w : Vec Bit) → AreTyped ns → i < length ns → n ≡ node_at ns i → IsOfWords n →
+pub blasted_more : (p : InputPlaces) (a b c : Netlist) (ns : List TermNode) (i : ℕ) (n : TermNode) (ws : List (Vec Bit)) (w : Vec Bit) → AreTyped ns →
+    i < length ns → n ≡ node_at ns i → IsOfWords n →
     AreBlasted p a b (take i ns) ws → IsWord b c (own_gates n) (width_of n) w.items →
     ((v : ℕ → Bool) (x : TermReading) → Holds v c → IsReadingAt p v x → number v w.items ≡ (node_value x (values_of v ws) n).word) →
     AreBlasted p a c (take (i + 1) ns) (ws ++ w ∷ [])
@@ -146,7 +152,8 @@ one_bit v (c ∷ []) x y l = by (bit_value v c)
     by false = refl
 one_bit v (c ∷ d ∷ bs) x y l = absurd (omega arith)
 
-pub selected : (v : ℕ → Bool) (bs : List Bit) (b : Bit) (n x y m k : ℕ) → length bs ≡ 1 → b ≡ get_or bs 0 no_bit → number v bs ≡ n → x ≡ m → y ≡ k → cond (bit_value v b) x y ≡ select n m k
+pub selected : (v : ℕ → Bool) (bs : List Bit) (b : Bit) (n x y m k : ℕ) → length bs ≡ 1 → b ≡ get_or bs 0 no_bit → number v bs ≡ n → x ≡ m → y ≡ k →
+    cond (bit_value v b) x y ≡ select n m k
 selected v bs b n x y m k l e f g h =
     ap (λ z. cond (bit_value v z) x y) e ∙ one_bit v bs x y l ∙ ap (λ z. select z x y) f ∙ ap (λ z. select n z y) g ∙ ap (λ z. select n m z) h
 
@@ -166,7 +173,8 @@ blasted_none p a ns ws e = subst (AreBlasted p a a []) (sym e) (record {
   values = λ v x g r. record { count = refl; each = λ t l. absurd (omega arith) };
 })
 
-pub blasted_all : (p : InputPlaces) (a b : Netlist) (ns : List TermNode) (i : ℕ) (ws : List (Vec Bit)) → length ns ≤ i → AreBlasted p a b (take i ns) ws → AreBlasted p a b ns ws
+pub blasted_all : (p : InputPlaces) (a b : Netlist) (ns : List TermNode) (i : ℕ) (ws : List (Vec Bit)) → length ns ≤ i → AreBlasted p a b (take i ns) ws →
+    AreBlasted p a b ns ws
 blasted_all p a b ns i ws l h = subst (λ (z : List TermNode). AreBlasted p a b z ws) (take_all i ns l) h
 
 -- a word that took no gates

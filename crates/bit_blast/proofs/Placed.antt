@@ -63,14 +63,17 @@ module _ (u : UnrolledProgram) (c : Cells) (p : InputPlaces) (is : ArePlaces u c
   pub reading_at : (v : ℕ → Bool) → IsReadingAt p v (reading u c v)
   reading_at v = record {
     registers = λ n l m.
-        let e : is_register_of u n ≡ true = subst (λ (z : List ℕ). list_any (nat_eq n) z ≡ true) (sym is.registers) (any_in_range p.first_register p.registers n l m) in
+        let e : is_register_of u n ≡ true = subst (λ (z : List ℕ). list_any (nat_eq n) z
+        ≡ true) (sym is.registers) (any_in_range p.first_register p.registers n l m) in
         let f : place_in u.registers n ≡ n - p.first_register = ap (λ z. place_in z n) is.registers ∙ place_in_range p.first_register p.registers n l m in
-        ap (λ z. if z then bits_from v (32 * place_in u.registers n) 32 else 0) e ∙ ap (λ z. bits_from v (32 * z) 32) f ∙ bits_are v (32 * (n - p.first_register)) 32;
+        ap (λ z. if z then bits_from v (32 * place_in u.registers n) 32 else 0) e ∙ ap
+        (λ z. bits_from v (32 * z) 32) f ∙ bits_are v (32 * (n - p.first_register)) 32;
     flags = λ f l.
         let e : is_flag_of u f ≡ true = (let k : f < u.flags = omega (arith, is.flags) in grind (arith, nat_tests)) in
         ap (λ z. if z then bits_from v (first_flag u + f) 1 else 0) e ∙ ap (λ z. bits_from v (z + f) 1) (sym flag_first) ∙ bits_are v (p.first_flag + f) 1;
     choices = λ i k d. chosen v i k ((point_at u i).draws) (slice_index_or p.drawn.items i None) (is.drawn.each i (omega (arith, d.0, is.drawn.places))) d.1;
     bytes = λ j l.
         let e : nat_lt j (length c.addresses) ≡ true = (let k : j < length c.addresses = omega (arith, is.reads) in grind (arith, nat_tests)) in
-        ap (λ z. if z then bits_from v (first_byte u + 8 * j) 8 else 0) e ∙ ap (λ z. bits_from v (z + 8 * j) 8) (sym byte_first) ∙ bits_are v (p.first_byte + 8 * j) 8;
+        ap (λ z. if z then bits_from v (first_byte u + 8 * j) 8 else 0) e ∙ ap
+        (λ z. bits_from v (z + 8 * j) 8) (sym byte_first) ∙ bits_are v (p.first_byte + 8 * j) 8;
   }

@@ -29,10 +29,12 @@ agrees u c v r h = record {
   base = λ j l. small_byte (slice_index r.base.items j) _ (subst (λ (z : ℕ). z < 256) (sym (h.base j l)) ((reading_in_range u c v).base j)) (h.base j l);
 }
 
-pub address_few : (u : UnrolledProgram) (c : Cells) → AreFormed u c → (v : ℕ → Bool) (j : ℕ) → j < length c.addresses → read_address c (reading u c v) j < 2 ^ 32
+pub address_few : (u : UnrolledProgram) (c : Cells) → AreFormed u c → (v : ℕ → Bool) (j : ℕ) → j < length c.addresses →
+    read_address c (reading u c v) j < 2 ^ 32
 address_few u c formed v j l = word_fits u c formed (reading u c v) (reading_in_range u c v) 32 (slice_index c.addresses j) (formed.addresses j l)
 
-module _ (u : UnrolledProgram) (c : Cells) (formed : AreFormed u c) (v : ℕ → Bool) (r : Reading) (h : HasInputs u c v r) (ws : List ℕ) (are : AreWords (reading_of r) c.nodes ws)
+module _ (u : UnrolledProgram) (c : Cells) (formed : AreFormed u c) (v : ℕ →
+    Bool) (r : Reading) (h : HasInputs u c v r) (ws : List ℕ) (are : AreWords (reading_of r) c.nodes ws)
     (addresses : List Term) (is : map (λ (t : Term). t.0) addresses ≡ c.addresses) where
   count : length addresses ≡ length c.addresses
   count = sym (length-map addresses (λ (t : Term). t.0)) ∙ ap length is

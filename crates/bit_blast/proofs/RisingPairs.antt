@@ -37,7 +37,8 @@ are_up xs h i d l =
     let x = get_or xs i d in
     let y = get_or xs (i + 1) d in
     let next : i + 1 ≡ suc i = omega arith in
-    subst (λ (n : ℕ). x.0 ≤ (get_or xs n d).0) next (not_below y.0 x.0 (first_less (nat_cmp y.0 x.0) (nat_cmp y.1 x.1) (h i d (omega arith) (omega (arith, l)))))
+    subst (λ (n : ℕ). x.0 ≤ (get_or xs n d).0) next (not_below y.0 x.0
+    (first_less (nat_cmp y.0 x.0) (nat_cmp y.1 x.1) (h i d (omega arith) (omega (arith, l)))))
 
 cons_rises : (x : ℕ × ℕ) (xs : List (ℕ × ℕ)) → AreRising xs → All (λ (y : ℕ × ℕ). x.0 < y.0) xs → AreRising (x ∷ xs)
 cons_rises x xs h a zero zero d l m = absurd (omega (arith, l))

@@ -67,7 +67,8 @@ mapped_length [] = refl
 mapped_length (x ∷ xs) = let e = mapped_length xs in omega arith
 
 -- the bits of the places are among the words
-pub met_within : (u : UnrolledProgram) (q : Passive) → IsPassive u q → (met : List Term) → map (λ (t : Term). t.0) met ≡ q.met → (ws : List ℕ) → length ws ≡ length q.nodes →
+pub met_within : (u : UnrolledProgram) (q : Passive) → IsPassive u q → (met : List Term) → map (λ (t : Term). t.0) met ≡ q.met → (ws : List ℕ) →
+    length ws ≡ length q.nodes →
     (i : ℕ) (d : Term) → i < length met → (slice_index_or met i d).0 < length ws
 met_within u q passive met mets ws count i d l =
     let m : length met ≡ length u.points = sym (mapped_length met) ∙ ap length mets ∙ passive.count in
@@ -92,7 +93,8 @@ count_few met (suc n) = by (met n) (count_few met n)
     by true l = omega arith
     by false l = omega arith
 
-choices_as : (met same : ℕ → Bool) (choice other : ℕ → ℕ) (n m steps : ℕ) (xs : List (ℕ × ℕ)) → n ≡ m → ((i : ℕ) → i < m → met i ≡ same i) → ((i : ℕ) → i < m → choice i ≡ other i) →
+choices_as : (met same : ℕ → Bool) (choice other : ℕ → ℕ) (n m steps : ℕ) (xs : List (ℕ × ℕ)) → n ≡ m → ((i : ℕ) → i < m → met i ≡ same i) →
+    ((i : ℕ) → i < m → choice i ≡ other i) →
     AreChoices met choice n steps xs → AreChoices same other m steps xs
 choices_as met same choice other n m steps xs e f g h = record {
   counted = h.counted ∙ ap (count_met met) e ∙ counts_equal met same m f;
@@ -142,7 +144,8 @@ module _ (u : UnrolledProgram) (c : Cells) (v : ℕ → Bool) (p : InputPlaces) 
       one_bit_same _ _ (let z : bit_at f (bits_from v p.first_flag p.flags) < 2 = omega arith in z) ((reading_in_range u c v).flags f)
       (bit_is v p.first_flag p.flags f k ∙ sym (flag_is v (p.first_flag + f)) ∙ sym (ap (λ z. z == 1) e))
 
-  pub is_start : (w : Written) → w.regs ≡ map (λ q. bits_from v (32 * q) 32) (from_to 0 p.registers) → w.flags ≡ bits_from v p.first_flag p.flags → w.flags < 2 ^ p.flags →
+  pub is_start : (w : Written) → w.regs ≡ map (λ q. bits_from v (32 * q) 32) (from_to 0 p.registers) → w.flags ≡ bits_from v p.first_flag p.flags →
+      w.flags < 2 ^ p.flags →
       All (λ (b : ℕ × ℕ). (b.0 < 2 ^ 32) × (1 ≤ b.1) × (b.1 ≤ 255)) w.bytes → AreRising w.bytes → All (λ (b : ℕ × ℕ). byte_of_runs u.known b.0 ≡ None) w.bytes →
       Gives c (with_mem (reading u c v) (start_memory u w)) → AreFollowed u c v w.bytes w.choices → IsStartOf u c v w
   is_start w regs flags fit bytes rise unknown given followed = record {
@@ -159,19 +162,24 @@ module _ (u : UnrolledProgram) (c : Cells) (v : ℕ → Bool) (p : InputPlaces) 
   }
 
   -- the choices of the places that are met under the reading of the start
-  pub are_followed : (q : Passive) → IsWalkable u → IsPassive u q → (bytes xs : List (ℕ × ℕ)) (y : TermReading) → IsStartReading u c v bytes y → (ws : List ℕ) → AreWords y q.nodes ws →
-      (met : List Term) → map (λ (t : Term). t.0) met ≡ q.met → (steps : ℕ) → AreChoices (is_met_by met ws) (choice_at p v) (length met) steps xs → AreFollowed u c v bytes xs
+  pub are_followed : (q : Passive) → IsWalkable u → IsPassive u q → (bytes xs : List (ℕ × ℕ)) (y : TermReading) → IsStartReading u c v bytes y → (ws : List ℕ) →
+      AreWords y q.nodes ws →
+      (met : List Term) → map (λ (t : Term). t.0) met ≡ q.met → (steps : ℕ) → AreChoices (is_met_by met ws) (choice_at p v) (length met) steps xs →
+      AreFollowed u c v bytes xs
   are_followed q walkable passive bytes xs y start ws words met mets steps h =
       let count : length met ≡ length u.points = sym (mapped_length met) ∙ ap length mets ∙ passive.count in
       let same : (i : ℕ) → i < length u.points → is_met_by met ws i ≡ (slice_index ws (slice_index q.met i) == 1) =
       (λ i l. ap (λ z. slice_index ws z == 1) (sym (mapped_get met i) ∙ ap (λ (z : List ℕ). slice_index z i) mets)) in
-      let chosen = choices_as (is_met_by met ws) (λ i. slice_index ws (slice_index q.met i) == 1) (choice_at p v) (reading u c v).choice (length met) (length u.points) steps xs count same choice_is h in
+      let chosen = choices_as (is_met_by met ws) (λ i. slice_index ws (slice_index q.met i) == 1) (choice_at p v) (reading u c v).choice (length met)
+      (length u.points) steps xs count same choice_is h in
       record {
-        within = λ i d l. let k = chosen.within i d l in let a = k.0 in let b = count_few (λ i. slice_index ws (slice_index q.met i) == 1) (length u.points) in (omega (arith, chosen.counted), k.1, k.2);
+        within = λ i d l. let k = chosen.within i d l in let a = k.0 in let b = count_few (λ i. slice_index ws (slice_index q.met i) == 1) (length u.points)
+            in (omega (arith, chosen.counted), k.1, k.2);
         rise = chosen.rise;
         follows = λ regs flags r is.
             let w : Written = record { regs = regs; flags = flags; bytes = bytes; choices = xs } in
-            follows u c v w walkable.entry walkable.some walkable.later q passive (λ a. subst (λ (n : ℕ). n < 256) (start.mem a) (start.small a)) y ws words start.regs start.flags (fun_ext start.mem) start.choice
+            follows u c v w walkable.entry walkable.some walkable.later q passive
+            (λ a. subst (λ (n : ℕ). n < 256) (start.mem a) (start.small a)) y ws words start.regs start.flags (fun_ext start.mem) start.choice
             steps chosen r is;
       }
 

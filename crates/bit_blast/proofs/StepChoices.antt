@@ -35,7 +35,8 @@ module _ (u : UnrolledProgram) (some : 0 < length u.points) (later : ExitsLeadLa
 pub counts_same : (h : Held) (met : ℕ → Bool) (n : ℕ) → ((i : ℕ) → i < n → met i ≡ h.met i) → count_met met n ≡ met_below h n
 counts_same h met zero f = refl
 counts_same h met (suc n) f =
-    ap (λ z. if z then count_met met n + 1 else count_met met n) (f n (omega arith)) ∙ ap (λ z. if h.met n then z + 1 else z) (counts_same h met n (λ i l. f i (omega arith)))
+    ap (λ z. if z then count_met met n + 1 else count_met met n) (f n (omega arith)) ∙ ap
+    (λ z. if h.met n then z + 1 else z) (counts_same h met n (λ i l. f i (omega arith)))
 
 count_up : (met : ℕ → Bool) (n : ℕ) → count_met met n ≤ count_met met (suc n)
 count_up met n = by (met n)
@@ -70,7 +71,8 @@ byte_last : (xs : List (ℕ × ℕ)) (k b : ℕ) → All (λ x. x.0 < k) xs → 
 byte_last [] k b h = ap (λ z. if z then b else 0) (let e : (k == k) ≡ true = grind (arith, nat_tests) in e)
 byte_last (x ∷ xs) k b h =
     let l = h 0 x (omega arith) in
-    ap (λ z. if z then x.1 else byte_in (xs ++ (k, b) ∷ []) k) (let e : (k == x.0) ≡ false = grind (arith, nat_tests) in e) ∙ byte_last xs k b (λ i d m. h (suc i) d (omega arith))
+    ap (λ z. if z then x.1 else byte_in (xs ++ (k, b) ∷ []) k) (let e : (k == x.0) ≡ false = grind (arith, nat_tests) in e) ∙ byte_last xs k b
+    (λ i d m. h (suc i) d (omega arith))
 
 byte_before : (xs : List (ℕ × ℕ)) (k b a : ℕ) → a < k → byte_in (xs ++ (k, b) ∷ []) a ≡ byte_in xs a
 byte_before [] k b a l = ap (λ z. if z then b else 0) (let e : (a == k) ≡ false = grind (arith, nat_tests) in e)
@@ -84,15 +86,21 @@ choices_none met choice = record { counted = refl; within = λ i d l. absurd (om
     pairs : AreRising []
     pairs = λ i j d l m. absurd (omega arith)
 
-unmet : (met : ℕ → Bool) (choice : ℕ → ℕ) (n steps : ℕ) (xs : List (ℕ × ℕ)) → AreChoices met choice n steps xs → met n ≡ false → AreChoices met choice (suc n) steps xs
+unmet : (met : ℕ → Bool) (choice : ℕ → ℕ) (n steps : ℕ) (xs : List (ℕ × ℕ)) → AreChoices met choice n steps xs → met n ≡ false →
+    AreChoices met choice (suc n) steps xs
 unmet met choice n steps xs h f = record {
   counted = h.counted ∙ sym (ap (λ z. if z then count_met met n + 1 else count_met met n) f);
   within = h.within;
   rise = h.rise;
-  gives = λ i l m. elim (cases_lt i n) [ inl k ↦ h.gives i k m | inr k ↦ absurd (let e : n ≡ i = omega arith in let z = sym (ap met e ∙ m) ∙ f in let w : true ≡ false = z in cc) ];
+  gives = λ i l m. elim (cases_lt i n) [
+    | inl k ↦ h.gives i k m
+    | inr k ↦ absurd (let e : n ≡ i = omega arith in let z = sym (ap met e ∙ m) ∙ f in let w : true
+        ≡ false = z in cc)
+  ];
 }
 
-met_zero : (met : ℕ → Bool) (choice : ℕ → ℕ) (n steps : ℕ) (xs : List (ℕ × ℕ)) → AreChoices met choice n steps xs → met n ≡ true → choice n ≡ 0 → AreChoices met choice (suc n) (steps + 1) xs
+met_zero : (met : ℕ → Bool) (choice : ℕ → ℕ) (n steps : ℕ) (xs : List (ℕ × ℕ)) → AreChoices met choice n steps xs → met n ≡ true → choice n ≡ 0 →
+    AreChoices met choice (suc n) (steps + 1) xs
 met_zero met choice n steps xs h f z =
     let up : count_met met (suc n) ≡ count_met met n + 1 = ap (λ y. if y then count_met met n + 1 else count_met met n) f in
     record {
@@ -108,14 +116,16 @@ met_zero met choice n steps xs h f z =
       ];
     }
 
-met_some : (met : ℕ → Bool) (choice : ℕ → ℕ) (n steps b : ℕ) (xs : List (ℕ × ℕ)) → AreChoices met choice n steps xs → met n ≡ true → choice n ≡ b → 1 ≤ b → b ≤ 3 →
+met_some : (met : ℕ → Bool) (choice : ℕ → ℕ) (n steps b : ℕ) (xs : List (ℕ × ℕ)) → AreChoices met choice n steps xs → met n ≡ true → choice n ≡ b → 1 ≤ b →
+    b ≤ 3 →
     AreChoices met choice (suc n) (steps + 1) (xs ++ (steps, b) ∷ [])
 met_some met choice n steps b xs h f z low high =
     let up : count_met met (suc n) ≡ count_met met n + 1 = ap (λ y. if y then count_met met n + 1 else count_met met n) f in
     let below : All (λ (x : ℕ × ℕ). x.0 < steps) xs = λ j d o. (h.within j d o).0 in
     record {
       counted = omega (arith, h.counted);
-      within = All-push (λ (x : ℕ × ℕ). (x.0 < steps + 1) × (1 ≤ x.1) × (x.1 ≤ 3)) xs (steps, b) (λ i d l. let q = h.within i d l in let a = q.0 in (omega arith, q.1, q.2)) (omega arith, low, high);
+      within = All-push (λ (x : ℕ × ℕ). (x.0 < steps + 1) × (1 ≤ x.1) ×
+          (x.1 ≤ 3)) xs (steps, b) (λ i d l. let q = h.within i d l in let a = q.0 in (omega arith, q.1, q.2)) (omega arith, low, high);
       rise = all_pairs_push (λ (x y : ℕ × ℕ). x.0 < y.0) xs (steps, b) h.rise below;
       gives = λ i l m. elim (cases_lt i n) [
         | inl k ↦ byte_before xs steps b (count_met met i) (omega (arith, h.counted, count_less met i n k m)) ∙ h.gives i k m
@@ -133,10 +143,13 @@ pub next_met : (met : ℕ → Bool) (choice : ℕ → ℕ) (n steps b : ℕ) (xs
 next_met met choice n steps zero xs h f z k =
     subst (λ (m : ℕ). AreChoices met choice m (steps + 1) xs) (let e : suc n ≡ n + 1 = omega arith in e) (met_zero met choice n steps xs h f z)
 next_met met choice n steps (suc b) xs h f z k =
-    subst (λ (m : ℕ). AreChoices met choice m (steps + 1) (xs ++ (steps, suc b) ∷ [])) (let e : suc n ≡ n + 1 = omega arith in e) (met_some met choice n steps (suc b) xs h f z (omega arith) k)
+    subst (λ (m : ℕ). AreChoices met choice m (steps + 1) (xs ++ (steps, suc b) ∷ [])) (let e : suc n
+    ≡ n + 1 = omega arith in e) (met_some met choice n steps (suc b) xs h f z (omega arith) k)
 
-pub next_unmet : (met : ℕ → Bool) (choice : ℕ → ℕ) (n steps : ℕ) (xs : List (ℕ × ℕ)) → AreChoices met choice n steps xs → met n ≡ false → AreChoices met choice (n + 1) steps xs
-next_unmet met choice n steps xs h f = subst (λ (m : ℕ). AreChoices met choice m steps xs) (let e : suc n ≡ n + 1 = omega arith in e) (unmet met choice n steps xs h f)
+pub next_unmet : (met : ℕ → Bool) (choice : ℕ → ℕ) (n steps : ℕ) (xs : List (ℕ × ℕ)) → AreChoices met choice n steps xs → met n ≡ false →
+    AreChoices met choice (n + 1) steps xs
+next_unmet met choice n steps xs h f = subst (λ (m : ℕ). AreChoices met choice m steps xs) (let e : suc n
+    ≡ n + 1 = omega arith in e) (unmet met choice n steps xs h f)
 
 pub any_default : {A : Type 0} (xs : List A) (i : ℕ) (d e : A) → i < length xs → get_or xs i d ≡ get_or xs i e
 any_default [] i d e l = absurd (omega arith)

@@ -31,7 +31,8 @@ put_of old new a value bits low small is e x = elim (truth (word 32 x == a)) [
       let apart : (word 32 x ≡ a → ⊥) = grind (arith, nat_tests) in
       let away : nat_lt (sub 32 (word 32 x) a) 1 ≡ false = grind (arith, nat_tests) in
       let w : word 32 x ≡ word 32 (word 32 x) = omega arith in
-      ap (byte_in new) w ∙ ap (λ (g : ℕ → ℕ). g (word 32 x)) e ∙ ap (λ b. if b then byte_of Little 1 bits (sub 32 (word 32 x) a) else memory_of old (word 32 x)) away
+      ap (byte_in new) w ∙ ap (λ (g : ℕ → ℕ). g (word 32 x)) e ∙ ap
+      (λ b. if b then byte_of Little 1 bits (sub 32 (word 32 x) a) else memory_of old (word 32 x)) away
       ∙ ap (byte_in old) (sym w) ∙ sym (ap (λ z. if z then value else memory_of old x) f))
 ]
 
@@ -46,12 +47,14 @@ put_small old new a value small e h x = subst (λ (n : ℕ). n < 256) (sym (e x)
 
 -- one more byte in front
 pub byte_front : (bytes old new : List (ℕ × ℕ)) (i : ℕ) (d : ℕ × ℕ) → i < length bytes → ((x : ℕ) → memory_of old x ≡ memory_of (drop (i + 1) bytes) x) →
-    ((x : ℕ) → memory_of new x ≡ (if word 32 x == (get_or bytes i d).0 then (get_or bytes i d).1 else memory_of old x)) → (x : ℕ) → memory_of new x ≡ memory_of (drop i bytes) x
+    ((x : ℕ) → memory_of new x ≡ (if word 32 x == (get_or bytes i d).0 then (get_or bytes i d).1 else memory_of old x)) → (x : ℕ) →
+    memory_of new x ≡ memory_of (drop i bytes) x
 byte_front bytes old new i d l h p x =
     p x ∙ ap (λ z. if word 32 x == (get_or bytes i d).0 then (get_or bytes i d).1 else z) (h x) ∙ sym (ap (λ z. byte_in z (word 32 x)) (drop_more bytes i d l))
 
 -- one more byte of a run
-pub filled_more : (r : Known) (i x old m new : ℕ) → i < length r.bytes.now → m ≡ filled r i x old → new ≡ (if x == r.first + i then get_or r.bytes.now i 0 else m) → new ≡ filled r (i + 1) x old
+pub filled_more : (r : Known) (i x old m new : ℕ) → i < length r.bytes.now → m ≡ filled r i x old →
+    new ≡ (if x == r.first + i then get_or r.bytes.now i 0 else m) → new ≡ filled r (i + 1) x old
 filled_more r i x old m new l e f = elim (truth (x == r.first + i)) [
   | inl t ↦ (
       let s : x ≡ r.first + i = grind (arith, nat_tests) in
@@ -59,7 +62,8 @@ filled_more r i x old m new l e f = elim (truth (x == r.first + i)) [
       let b : nat_le r.first x ≡ true = grind (arith, nat_tests) in
       let c : nat_lt x (r.first + (i + 1)) ≡ true = grind (arith, nat_tests) in
       f ∙ ap (λ z. if z then get_or r.bytes.now i 0 else m) t ∙ ap (λ z. slice_index r.bytes.now z) (sym a)
-      ∙ sym (ap (λ z. if z && nat_lt x (r.first + (i + 1)) then slice_index r.bytes.now (x - r.first) else old) b ∙ ap (λ z. if z then slice_index r.bytes.now (x - r.first) else old) c))
+      ∙ sym (ap (λ z. if z && nat_lt x (r.first + (i + 1)) then slice_index r.bytes.now (x - r.first) else old) b ∙ ap
+      (λ z. if z then slice_index r.bytes.now (x - r.first) else old) c))
   | inr g ↦ (
       let same : nat_lt x (r.first + i) ≡ nat_lt x (r.first + (i + 1)) = grind (arith, nat_tests) in
       f ∙ ap (λ z. if z then get_or r.bytes.now i 0 else m) g ∙ e ∙ ap (λ z. if nat_le r.first x && z then slice_index r.bytes.now (x - r.first) else old) same)
@@ -86,38 +90,50 @@ none_behind : (rest : List Known) (w : ℕ) → ((k : ℕ) (d : Known) → k < l
 none_behind [] w h = refl
 none_behind (r ∷ rest) w h =
     let l : w < r.first = h 0 r (omega arith) in
-    let e : (nat_le r.first w && nat_lt w (r.first + (r.last - r.first + 1))) ≡ false = ap (λ z. z && nat_lt w (r.first + (r.last - r.first + 1))) (let f : nat_le r.first w ≡ false = grind (arith, nat_tests) in f) in
+    let e : (nat_le r.first w && nat_lt w (r.first + (r.last - r.first + 1))) ≡ false = ap (λ z. z &&
+    nat_lt w (r.first + (r.last - r.first + 1))) (let f : nat_le r.first w ≡ false = grind (arith, nat_tests) in f) in
     ap (λ z. byte_in_run w (if z then Some (run_of r) else find (λ (q : ByteRun). nat_le q.at w && nat_lt w (q.at + q.count)) (map run_of rest))) e
     ∙ none_behind rest w (λ k d m. h (suc k) d (omega arith))
 
 -- an address of a run is known
-not_none : (runs : List Known) (i : ℕ) (d : Known) (w : ℕ) → i < length runs → (nat_le (get_or runs i d).first w && nat_lt w ((get_or runs i d).first + ((get_or runs i d).last - (get_or runs i d).first + 1))) ≡ true →
+not_none : (runs : List Known) (i : ℕ) (d : Known) (w : ℕ) → i < length runs →
+    (nat_le (get_or runs i d).first w && nat_lt w ((get_or runs i d).first + ((get_or runs i d).last - (get_or runs i d).first + 1))) ≡ true →
     byte_of_runs (map run_of runs) w ≡ None → ⊥
 not_none [] i d w l t e = absurd (omega arith)
 not_none (r ∷ runs) zero d w l t e =
-    some_none _ (sym (ap (λ z. byte_in_run w (if z then Some (run_of r) else find (λ (q : ByteRun). nat_le q.at w && nat_lt w (q.at + q.count)) (map run_of runs))) t) ∙ e)
+    some_none _ (sym (ap (λ z. byte_in_run w (if z then Some (run_of r) else find (λ (q : ByteRun). nat_le q.at w &&
+    nat_lt w (q.at + q.count)) (map run_of runs))) t) ∙ e)
 not_none (r ∷ runs) (suc i) d w l t e = elim (truth (nat_le r.first w && nat_lt w (r.first + (r.last - r.first + 1)))) [
-  | inl s ↦ some_none _ (sym (ap (λ z. byte_in_run w (if z then Some (run_of r) else find (λ (q : ByteRun). nat_le q.at w && nat_lt w (q.at + q.count)) (map run_of runs))) s) ∙ e)
-  | inr s ↦ not_none runs i d w (omega arith) t (sym (ap (λ z. byte_in_run w (if z then Some (run_of r) else find (λ (q : ByteRun). nat_le q.at w && nat_lt w (q.at + q.count)) (map run_of runs))) s) ∙ e)
+  | inl s ↦ some_none _ (sym (ap (λ z. byte_in_run w (if z then Some (run_of r) else find (λ (q : ByteRun). nat_le q.at w &&
+      nat_lt w (q.at + q.count)) (map run_of runs))) s) ∙ e)
+  | inr s ↦ not_none runs i d w (omega arith) t (sym (ap (λ z. byte_in_run w (if z then Some (run_of r) else find (λ (q : ByteRun). nat_le q.at w &&
+      nat_lt w (q.at + q.count)) (map run_of runs))) s) ∙ e)
 ]
 
 -- one more run in front
-front : (r : Known) (rest : List Known) (bytes : List (ℕ × ℕ)) (x w old new : ℕ) → (byte_of_runs (map run_of rest) w ≡ None → (nat_le r.first w && nat_lt w (r.first + (r.last - r.first + 1))) ≡ true → memory_of bytes x ≡ 0) →
+front : (r : Known) (rest : List Known) (bytes : List (ℕ × ℕ)) (x w old new : ℕ) →
+    (byte_of_runs (map run_of rest) w ≡ None → (nat_le r.first w && nat_lt w (r.first + (r.last - r.first + 1))) ≡ true → memory_of bytes x ≡ 0) →
     ((nat_le r.first w && nat_lt w (r.first + (r.last - r.first + 1))) ≡ true → byte_of_runs (map run_of rest) w ≡ None) →
     old ≡ known_or (byte_of_runs (map run_of rest) w) bytes x → new ≡ filled r (min (length r.bytes.now) (r.last - r.first + 1)) w old →
     new ≡ known_or (byte_of_runs (run_of r ∷ map run_of rest) w) bytes x
 front r rest bytes x w old new zero' apart e f = elim (truth (nat_le r.first w && nat_lt w (r.first + (r.last - r.first + 1)))) [
-  | inl t ↦ f ∙ here t ∙ sym (ap (λ z. known_or (byte_in_run w (if z then Some (run_of r) else find (λ (q : ByteRun). nat_le q.at w && nat_lt w (q.at + q.count)) (map run_of rest))) bytes x) t)
-  | inr s ↦ f ∙ away s ∙ e ∙ sym (ap (λ z. known_or (byte_in_run w (if z then Some (run_of r) else find (λ (q : ByteRun). nat_le q.at w && nat_lt w (q.at + q.count)) (map run_of rest))) bytes x) s)
+  | inl t ↦ f ∙ here t ∙ sym (ap (λ z. known_or (byte_in_run w (if z then Some (run_of r) else find (λ (q : ByteRun). nat_le q.at w &&
+      nat_lt w (q.at + q.count)) (map run_of rest))) bytes x) t)
+  | inr s ↦ f ∙ away s ∙ e ∙ sym (ap (λ z. known_or (byte_in_run w (if z then Some (run_of r) else find (λ (q : ByteRun). nat_le q.at w &&
+      nat_lt w (q.at + q.count)) (map run_of rest))) bytes x) s)
 ]
   where
-    here : (nat_le r.first w && nat_lt w (r.first + (r.last - r.first + 1))) ≡ true → filled r (min (length r.bytes.now) (r.last - r.first + 1)) w old ≡ slice_index r.bytes.now (w - r.first)
+    here : (nat_le r.first w && nat_lt w (r.first + (r.last - r.first + 1))) ≡ true →
+        filled r (min (length r.bytes.now) (r.last - r.first + 1)) w old ≡ slice_index r.bytes.now (w - r.first)
     here t = elim (truth (nat_lt w (r.first + min (length r.bytes.now) (r.last - r.first + 1)))) [
       | inl s ↦ (let p = (and_parts (nat_le r.first w) (nat_lt w (r.first + (r.last - r.first + 1))) t).0 in
           ap (λ z. if z && nat_lt w (r.first + min (length r.bytes.now) (r.last - r.first + 1)) then slice_index r.bytes.now (w - r.first) else old) p
           ∙ ap (λ z. if z then slice_index r.bytes.now (w - r.first) else old) s)
-      | inr s ↦ (let p = (and_parts (nat_le r.first w) (nat_lt w (r.first + (r.last - r.first + 1))) t).0 in let q = (and_parts (nat_le r.first w) (nat_lt w (r.first + (r.last - r.first + 1))) t).1 in
-          let past : length r.bytes.now ≤ w - r.first = (let a : r.first ≤ w = grind (arith, nat_tests) in let b : w < r.first + (r.last - r.first + 1) = grind (arith, nat_tests) in let c : r.first + min (length r.bytes.now) (r.last - r.first + 1) ≤ w = grind (arith, nat_tests) in omega arith) in
+      | inr s ↦ (let p = (and_parts (nat_le r.first w) (nat_lt w (r.first + (r.last - r.first + 1))) t).0 in
+          let q = (and_parts (nat_le r.first w) (nat_lt w (r.first + (r.last - r.first + 1))) t).1 in
+          let past : length r.bytes.now ≤ w - r.first = (let a : r.first ≤ w = grind (arith, nat_tests) in let b : w
+          < r.first + (r.last - r.first + 1) = grind (arith, nat_tests) in let c : r.first + min (length r.bytes.now) (r.last - r.first + 1)
+          ≤ w = grind (arith, nat_tests) in omega arith) in
           let none = apart t in
           ap (λ z. if nat_le r.first w && z then slice_index r.bytes.now (w - r.first) else old) s ∙ off (nat_le r.first w)
           ∙ e ∙ ap (λ z. known_or z bytes x) none ∙ zero' none t ∙ sym (get_or_past r.bytes.now (w - r.first) 0 past))
@@ -131,26 +147,30 @@ front r rest bytes x w old new zero' apart e f = elim (truth (nat_le r.first w &
     away s = elim (truth (nat_le r.first w)) [
       | inl t ↦ (
           let u : nat_lt w (r.first + (r.last - r.first + 1)) ≡ false = sym (ap (λ z. z && nat_lt w (r.first + (r.last - r.first + 1))) t) ∙ s in
-          let v : nat_lt w (r.first + min (length r.bytes.now) (r.last - r.first + 1)) ≡ false = (let a : r.first + (r.last - r.first + 1) ≤ w = grind (arith, nat_tests) in
+          let v : nat_lt w (r.first + min (length r.bytes.now) (r.last - r.first + 1))
+          ≡ false = (let a : r.first + (r.last - r.first + 1) ≤ w = grind (arith, nat_tests) in
           let b : r.first + min (length r.bytes.now) (r.last - r.first + 1) ≤ w = omega arith in grind (arith, nat_tests)) in
           ap (λ z. if z && nat_lt w (r.first + min (length r.bytes.now) (r.last - r.first + 1)) then slice_index r.bytes.now (w - r.first) else old) t
           ∙ ap (λ z. if z then slice_index r.bytes.now (w - r.first) else old) v)
       | inr g ↦ ap (λ z. if z && nat_lt w (r.first + min (length r.bytes.now) (r.last - r.first + 1)) then slice_index r.bytes.now (w - r.first) else old) g
     ]
 
-pub run_front : (runs : List Known) (bytes : List (ℕ × ℕ)) (i m k : ℕ) (d : Known) (x old new : ℕ) → AreRuns runs → All (λ (b : ℕ × ℕ). byte_of_runs (map run_of runs) b.0 ≡ None) bytes → i < length runs → m ≡ i + 1 → k ≡ i →
+pub run_front : (runs : List Known) (bytes : List (ℕ × ℕ)) (i m k : ℕ) (d : Known) (x old new : ℕ) → AreRuns runs →
+    All (λ (b : ℕ × ℕ). byte_of_runs (map run_of runs) b.0 ≡ None) bytes → i < length runs → m ≡ i + 1 → k ≡ i →
     old ≡ known_or (byte_of_runs (map run_of (drop m runs)) (word 32 x)) bytes x →
     new ≡ filled (get_or runs i d) (min (length (get_or runs i d).bytes.now) ((get_or runs i d).last - (get_or runs i d).first + 1)) (word 32 x) old →
     new ≡ known_or (byte_of_runs (map run_of (drop k runs)) (word 32 x)) bytes x
 run_front runs bytes i m k d x old new are unknown l p q e f =
     front (get_or runs i d) (drop (i + 1) runs) bytes x (word 32 x) old new
-    (λ none t. byte_none bytes (word 32 x) (λ j b n s. not_none runs i d (word 32 x) l t (subst (λ (z : ℕ). byte_of_runs (map run_of runs) z ≡ None) s (unknown j b n))))
+    (λ none t. byte_none bytes (word 32 x) (λ j b n s. not_none runs i d (word 32 x) l t (subst
+    (λ (z : ℕ). byte_of_runs (map run_of runs) z ≡ None) s (unknown j b n))))
     (λ t. none_behind (drop (i + 1) runs) (word 32 x) (λ j b n.
     let g = ap (λ (z : Known). z.first) (get_or-drop (i + 1) runs j b) in
     let r = are.rising i (i + 1 + j) b (omega arith) (omega (arith, n, length-drop (i + 1) runs)) in
     let s = are.some i d l in
     let a = ap (λ (z : Known). z.last) (any_default runs i b d l) in
-    let c = (and_parts (nat_le (get_or runs i d).first (word 32 x)) (nat_lt (word 32 x) ((get_or runs i d).first + ((get_or runs i d).last - (get_or runs i d).first + 1))) t).1 in
+    let c = (and_parts (nat_le (get_or runs i d).first (word 32 x))
+    (nat_lt (word 32 x) ((get_or runs i d).first + ((get_or runs i d).last - (get_or runs i d).first + 1))) t).1 in
     let h : word 32 x < (get_or runs i d).first + ((get_or runs i d).last - (get_or runs i d).first + 1) = grind (arith, nat_tests) in
     omega arith))
     (e ∙ ap (λ z. known_or (byte_of_runs (map run_of (drop z runs)) (word 32 x)) bytes x) p) f

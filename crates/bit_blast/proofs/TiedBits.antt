@@ -30,7 +30,8 @@ two_clauses s c n x y p q e i j k =
     ∙ ap (λ z. ((s && (not c || (not x || (y || false)))) && (not c || (x || (z || false)))) && asks c e) k
     ∙ by s c x y e
   where
-    by : (s c x y e : Bool) → (((s && (not c || (not x || (y || false)))) && (not c || (x || (not y || false)))) && asks c e) ≡ (s && asks c (not (differ x y) && e))
+    by : (s c x y e : Bool) → (((s && (not c || (not x || (y || false)))) && (not c || (x || (not y || false)))) && asks c e) ≡ (s &&
+        asks c (not (differ x y) && e))
     by false c x y e = refl
     by true false x y e = refl
     by true true true true e = refl
@@ -60,7 +61,8 @@ half false n r = grind (arith, nat_tests)
 
 -- what is asked of two words from a bit on is what is asked of the bit, and of those behind it
 pub words_from : (v : ℕ → Bool) (a b : List Bit) (i : ℕ) → i < length a → i < length b →
-    (number v (drop i a) == number v (drop i b)) ≡ (not (differ (bit_value v (get_or a i no_bit)) (bit_value v (get_or b i no_bit))) && (number v (drop (i + 1) a) == number v (drop (i + 1) b)))
+    (number v (drop i a) == number v (drop i b)) ≡ (not (differ (bit_value v (get_or a i no_bit)) (bit_value v (get_or b i no_bit))) &&
+    (number v (drop (i + 1) a) == number v (drop (i + 1) b)))
 words_from v a b i h k =
     ap (λ z. z == number v (drop i b)) (number_from v a i (i + 1) i h refl refl)
     ∙ ap (λ z. digit v (get_or a i no_bit) + 2 * number v (drop (i + 1) a) == z) (number_from v b i (i + 1) i k refl refl)
@@ -71,7 +73,8 @@ pub byte_from : (v : ℕ → Bool) (a : List Bit) (i r : ℕ) → i < length a �
 byte_from v a i r h = ap (λ z. z == r) (number_from v a i (i + 1) i h refl refl) ∙ half (bit_value v (get_or a i no_bit)) (number v (drop (i + 1) a)) r
 
 -- one more pair of bits
-pub words_step : (v : ℕ → Bool) (a b : List Bit) (i : ℕ) (s c n x y p q t : Bool) → i < length a → i < length b → x ≡ bit_value v (get_or a i no_bit) → y ≡ bit_value v (get_or b i no_bit) →
+pub words_step : (v : ℕ → Bool) (a b : List Bit) (i : ℕ) (s c n x y p q t : Bool) → i < length a → i < length b → x ≡ bit_value v (get_or a i no_bit) →
+    y ≡ bit_value v (get_or b i no_bit) →
     n ≡ not c → p ≡ not x → q ≡ not y → (s && asks c (number v (drop i a) == number v (drop i b))) ≡ t →
     (((s && (n || (p || (y || false)))) && (n || (x || (q || false)))) && asks c (number v (drop (i + 1) a) == number v (drop (i + 1) b))) ≡ t
 words_step v a b i s c n x y p q t h k e f i1 i2 i3 g =
@@ -93,9 +96,11 @@ asks_true true false = refl
 asks_true false c = refl
 
 -- behind the last bit nothing is asked
-pub words_end : (v : ℕ → Bool) (a b : List Bit) (i : ℕ) (s c t : Bool) → length a ≤ i → length b ≤ i → (s && asks c (number v (drop i a) == number v (drop i b))) ≡ t → s ≡ t
+pub words_end : (v : ℕ → Bool) (a b : List Bit) (i : ℕ) (s c t : Bool) → length a ≤ i → length b ≤ i →
+    (s && asks c (number v (drop i a) == number v (drop i b))) ≡ t → s ≡ t
 words_end v a b i s c t h k g =
-    sym (ap (λ z. s && asks c (number v z == number v (drop i b))) (drop_all i a h) ∙ ap (λ z. s && asks c (0 == number v z)) (drop_all i b k) ∙ asks_true s c) ∙ g
+    sym (ap (λ z. s && asks c (number v z == number v (drop i b))) (drop_all i a h) ∙ ap (λ z. s &&
+    asks c (0 == number v z)) (drop_all i b k) ∙ asks_true s c) ∙ g
 
 pub byte_end : (v : ℕ → Bool) (a : List Bit) (i r : ℕ) (s c t : Bool) → length a ≤ i → r ≡ 0 → (s && asks c (number v (drop i a) == r)) ≡ t → s ≡ t
 byte_end v a i r s c t h k g =

@@ -41,11 +41,13 @@ is_one n h = grind (arith, nat_tests)
 one_is : (n : ℕ) → n ≡ 1 → (n == 1) ≡ true
 one_is n h = grind (arith, nat_tests)
 
-module _ (u : UnrolledProgram) (c : Cells) (formed : AreFormed u c) (p : InputPlaces) (placed : ArePlaces u c p) (a b : Netlist) (empty : a ≡ record { inputs = p.inputs; gates = [] })
+module _ (u : UnrolledProgram) (c : Cells) (formed : AreFormed u c) (p : InputPlaces) (placed : ArePlaces u c p) (a b : Netlist) (empty : a
+    ≡ record { inputs = p.inputs; gates = [] })
     (ws : List (Vec Bit)) (made : AreBlasted p a b c.nodes ws) (agreements : List Agreement) (asked : List AskedByte)
     (agreements_are : map agreement_of agreements ≡ c.agrees) (asked_are : map asked_of asked ≡ c.asked)
     (ties : List Clause) (say : (v : ℕ → Bool) → satisfied v ties ≡ (list_all (agrees_at p ws v) agreements && list_all (asked_at p ws v) asked))
-    (root : Bit) (is_root : (v : ℕ → Bool) → bit_value v root ≡ ((value_at (values_of v ws) c.root).word == 1)) (cnf : Cnf) (defined : IsDefined b ties root cnf) where
+    (root : Bit) (is_root : (v : ℕ → Bool) → bit_value v root
+    ≡ ((value_at (values_of v ws) c.root).word == 1)) (cnf : Cnf) (defined : IsDefined b ties root cnf) where
   meant : (v : ℕ → Bool) → Holds v b → AreMeant c p ws v (reading u c v)
   meant v h =
       let r = reading_at u c p placed v in
@@ -67,8 +69,10 @@ module _ (u : UnrolledProgram) (c : Cells) (formed : AreFormed u c) (p : InputPl
   to_fact v h s t =
       let q = and_parts (list_all (agrees_at p ws v) agreements) (list_all (asked_at p ws v) asked) (sym (say v) ∙ satisfies-to v ties s) in (
         record {
-          agrees = λ x k. all_agree c p ws v (reading u c v) (meant v h) agreements placed.reads (λ y n. formed.agrees y (subst (λ z. Contains z y) agreements_are n)) q.0 x (subst (λ z. Contains z x) (sym agreements_are) k);
-          asked = λ x k. all_asked c p ws v (reading u c v) (meant v h) asked placed.reads (λ y n. formed.asked y (subst (λ z. Contains z y) asked_are n)) q.1 x (subst (λ z. Contains z x) (sym asked_are) k);
+          agrees = λ x k. all_agree c p ws v (reading u c v) (meant v h) agreements placed.reads
+              (λ y n. formed.agrees y (subst (λ z. Contains z y) agreements_are n)) q.0 x (subst (λ z. Contains z x) (sym agreements_are) k);
+          asked = λ x k. all_asked c p ws v (reading u c v) (meant v h) asked placed.reads
+              (λ y n. formed.asked y (subst (λ z. Contains z y) asked_are n)) q.1 x (subst (λ z. Contains z x) (sym asked_are) k);
         },
         sym (word_at v h) ∙ is_one _ (sym (is_root v) ∙ t),
       )
@@ -76,8 +80,10 @@ module _ (u : UnrolledProgram) (c : Cells) (formed : AreFormed u c) (p : InputPl
   from_fact : (v : ℕ → Bool) → Holds v b → MakesTrue u c v → Satisfies v ties × (bit_value v root ≡ true)
   from_fact v h f = (
     satisfies-from v ties (say v ∙ and_from _ _
-        (agree_all c p ws v (reading u c v) (meant v h) agreements placed.reads (λ y n. formed.agrees y (subst (λ z. Contains z y) agreements_are n)) (λ y n. f.0.agrees y (subst (λ z. Contains z y) agreements_are n)))
-        (asked_all c p ws v (reading u c v) (meant v h) asked placed.reads (λ y n. formed.asked y (subst (λ z. Contains z y) asked_are n)) (λ y n. f.0.asked y (subst (λ z. Contains z y) asked_are n)))),
+        (agree_all c p ws v (reading u c v) (meant v h) agreements placed.reads (λ y n. formed.agrees y (subst (λ z. Contains z y) agreements_are n))
+        (λ y n. f.0.agrees y (subst (λ z. Contains z y) agreements_are n)))
+        (asked_all c p ws v (reading u c v) (meant v h) asked placed.reads (λ y n. formed.asked y (subst (λ z. Contains z y) asked_are n))
+        (λ y n. f.0.asked y (subst (λ z. Contains z y) asked_are n)))),
     is_root v ∙ one_is _ (word_at v h ∙ f.1),
   )
 
@@ -89,7 +95,8 @@ module _ (u : UnrolledProgram) (c : Cells) (formed : AreFormed u c) (p : InputPl
       let n : next a ≡ p.inputs + 1 = ap next empty ∙ (let z : p.inputs + 1 + 0 ≡ p.inputs + 1 = omega arith in z) in
       let i = inputs_are u c p placed in
       record {
-        extends = subst (λ (m : ℕ). ExtendsOnceWhere m cnf (MakesTrue u c)) inputs_of (extends_once_where b ties root cnf (MakesTrue u c) defined same_fact to_fact from_fact);
+        extends = subst (λ (m : ℕ). ExtendsOnceWhere m cnf (MakesTrue u c)) inputs_of
+            (extends_once_where b ties root cnf (MakesTrue u c) defined same_fact to_fact from_fact);
         all = omega arith;
         few = omega arith;
       }

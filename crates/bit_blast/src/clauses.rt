@@ -14,10 +14,10 @@ use gates::Circuit;
 use mem_cells::Celled;
 use std::alloc::{AllocError, Global};
 
-/// The clauses of a question without memory. Their first variables are the inputs: the bits of the registers in the order of a state, the flags, the choices of the
-/// points that draw, and the bytes of the base reads, each with its lowest bit first. Values of the inputs extend to the other variables in at most one way that
-/// satisfies the clauses, and exactly where they make the question true and what is said of the base reads; besides the inputs there is a variable for each gate,
-/// and one more.
+/// The clauses of a question without memory. Their first variables are the inputs: the bits of the registers in the order of a state, the flags, the choices of
+/// the points that draw, and the bytes of the base reads, each with its lowest bit first. Values of the inputs extend to the other variables in at most one way
+/// that satisfies the clauses, and exactly where they make the question true and what is said of the base reads; besides the inputs there is a variable for
+/// each gate, and one more.
 ///
 /// # Errors
 ///

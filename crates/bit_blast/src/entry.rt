@@ -68,8 +68,8 @@ fn not_zero(mut found: Vec<(u32, u8)>) -> Vec<(u32, u8)>
     found
 }
 
-/// The bytes that values give to the memory at entry where no byte is known, by rising address; those that are not listed are 0. Some memory has to give each base
-/// read its byte, and no read may have another byte than the one that is known at its address.
+/// The bytes that values give to the memory at entry where no byte is known, by rising address; those that are not listed are 0. Some memory has to give each
+/// base read its byte, and no read may have another byte than the one that is known at its address.
 ///
 /// # Errors
 ///
@@ -77,11 +77,13 @@ fn not_zero(mut found: Vec<(u32, u8)>) -> Vec<(u32, u8)>
 pub fn memory_of(alloc: Global, c: &Celled, values: &[bool]) -> Result<Vec<(u32, u8)>, AllocError>
     requires formed { AreFormed (program_of_cells c.now) (cells_of c.now) }
     requires some { (m : ℕ → ℕ) × Gives (cells_of c.now) (with_mem (reading (program_of_cells c.now) (cells_of c.now) (valuation values.now)) m) }
-    requires whole { (a : ℕ) → ¬ IsBroken (program_of_cells c.now) (cells_of c.now) (reading (program_of_cells c.now) (cells_of c.now) (valuation values.now)) a }
+    requires whole { (a : ℕ) → ¬ IsBroken (program_of_cells c.now) (cells_of c.now)
+        (reading (program_of_cells c.now) (cells_of c.now) (valuation values.now)) a }
     ensures bytes { IfOk result (λ b. All (λ x. (x.0 < 2 ^ 32) × (1 ≤ x.1) × (x.1 ≤ 255)) b.items) }
     ensures rise { IfOk result (λ b. AreRising b.items) }
     ensures unknown { IfOk result (λ b. All (λ x. byte_of_runs (program_of_cells c.now).known x.0 ≡ None) b.items) }
-    ensures gives { IfOk result (λ b. Gives (cells_of c.now) (with_mem (reading (program_of_cells c.now) (cells_of c.now) (valuation values.now)) (λ a. known_or (byte_of_runs (program_of_cells c.now).known (word 32 a)) b.items a))) }
+    ensures gives { IfOk result (λ b. Gives (cells_of c.now) (with_mem (reading (program_of_cells c.now) (cells_of c.now) (valuation values.now))
+        (λ a. known_or (byte_of_runs (program_of_cells c.now).known (word 32 a)) b.items a))) }
 {
     let reads = read_bytes(alloc, c, values)?;
     let unknown = unknown_reads(alloc, &c.question.passive.unrolled.known, &reads)?;

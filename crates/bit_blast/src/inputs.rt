@@ -24,7 +24,8 @@ pub fn input(
     requires order { AreInOrder places.now }
     requires all { circuit.now.inputs ≡ places.now.inputs }
     ensures made { IfOk result (λ w. IsWord circuit.now circuit.now 0 (width_of (node_of node)) w.items) }
-    ensures value { IfOk result (λ w. (v : ℕ → Bool) (x : TermReading) → IsReadingAt places.now v x → number v w.items ≡ (node_value x [] (node_of node)).word) }
+    ensures value { IfOk result (λ w. (v : ℕ → Bool) (x : TermReading) → IsReadingAt places.now v x →
+        number v w.items ≡ (node_value x [] (node_of node)).word) }
 {
     let _fits_as_the_number_of_inputs = circuit.inputs();
     match node {

@@ -38,7 +38,8 @@ fn of_bytes(alloc: Global, bytes: &[(u32, u8)]) -> Result<Bytes32, AllocError>
 /// Stores the bytes that the file has for a run.
 fn fill(memory: &mut Bytes32, run: &Known) -> Result<(), AllocError>
     requires { run.now.first ≤ run.now.last }
-    ensures value { OnOk result ((x : ℕ) → memory_of memory.new.entries x ≡ filled run.now (min (length run.now.bytes.now) (run.now.last - run.now.first + 1)) (word 32 x) (memory_of memory.old.entries x)) }
+    ensures value { OnOk result ((x : ℕ) → memory_of memory.new.entries x
+        ≡ filled run.now (min (length run.now.bytes.now) (run.now.last - run.now.first + 1)) (word 32 x) (memory_of memory.old.entries x)) }
     ensures below { OnOk result (AreBytes (memory_of memory.old.entries) → AreBytes (memory_of memory.new.entries)) }
 {
     let room = (run.last - run.first) as usize + 1;

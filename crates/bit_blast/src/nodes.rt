@@ -39,8 +39,10 @@ fn binary(
 ) -> Result<Vec<Bit>, AllocError>
     requires typed { IsTypedOver (shapes words.now) (BinaryNode (op_of op) width left.0 right.0) }
     requires within { AreWithin (next circuit.old) words.now }
-    ensures made { IfOk result (λ w. IsWord circuit.old circuit.new (own_gates (BinaryNode (op_of op) width left.0 right.0)) (width_of (BinaryNode (op_of op) width left.0 right.0)) w.items) }
-    ensures value { IfOk result (λ w. (v : ℕ → Bool) (x : TermReading) → Holds v circuit.new → number v w.items ≡ (node_value x (values_of v words.now) (BinaryNode (op_of op) width left.0 right.0)).word) }
+    ensures made { IfOk result (λ w. IsWord circuit.old circuit.new (own_gates (BinaryNode (op_of op) width left.0 right.0))
+        (width_of (BinaryNode (op_of op) width left.0 right.0)) w.items) }
+    ensures value { IfOk result (λ w. (v : ℕ → Bool) (x : TermReading) → Holds v circuit.new →
+        number v w.items ≡ (node_value x (values_of v words.now) (BinaryNode (op_of op) width left.0 right.0)).word) }
 {
     let a = operand(words, left);
     let b = operand(words, right);
@@ -61,7 +63,8 @@ fn selection(
     requires typed { IsTypedOver (shapes words.now) (SelectNode width condition.0 when_true.0 when_false.0) }
     requires within { AreWithin (next circuit.old) words.now }
     ensures made { IfOk result (λ w. IsWord circuit.old circuit.new width width w.items) }
-    ensures value { IfOk result (λ w. (v : ℕ → Bool) (x : TermReading) → Holds v circuit.new → number v w.items ≡ (node_value x (values_of v words.now) (SelectNode width condition.0 when_true.0 when_false.0)).word) }
+    ensures value { IfOk result (λ w. (v : ℕ → Bool) (x : TermReading) → Holds v circuit.new →
+        number v w.items ≡ (node_value x (values_of v words.now) (SelectNode width condition.0 when_true.0 when_false.0)).word) }
 {
     let c = operand(words, condition);
     let a = operand(words, when_true);
@@ -81,7 +84,8 @@ fn bits_of(
     requires typed { IsTypedOver (shapes words.now) (ExtractNode hi lo term.0) }
     ensures len { IfOk result (λ w. length w.items ≡ width_of (ExtractNode hi lo term.0)) }
     ensures within { IfOk result (λ w. (n : ℕ) → AreWithin n words.now → Within n w.items) }
-    ensures value { IfOk result (λ w. (v : ℕ → Bool) (x : TermReading) → number v w.items ≡ (node_value x (values_of v words.now) (ExtractNode hi lo term.0)).word) }
+    ensures value { IfOk result (λ w. (v : ℕ → Bool) (x : TermReading) →
+        number v w.items ≡ (node_value x (values_of v words.now) (ExtractNode hi lo term.0)).word) }
 {
     let a = operand(words, term);
     let word = extract(alloc, a, hi as usize, lo as usize)?;
@@ -100,7 +104,8 @@ fn joined(
     requires typed { IsTypedOver (shapes words.now) (ConcatNode high low upper.0 lower.0) }
     ensures len { IfOk result (λ w. length w.items ≡ width_of (ConcatNode high low upper.0 lower.0)) }
     ensures within { IfOk result (λ w. (n : ℕ) → AreWithin n words.now → Within n w.items) }
-    ensures value { IfOk result (λ w. (v : ℕ → Bool) (x : TermReading) → number v w.items ≡ (node_value x (values_of v words.now) (ConcatNode high low upper.0 lower.0)).word) }
+    ensures value { IfOk result (λ w. (v : ℕ → Bool) (x : TermReading) →
+        number v w.items ≡ (node_value x (values_of v words.now) (ConcatNode high low upper.0 lower.0)).word) }
 {
     let a = operand(words, upper);
     let b = operand(words, lower);
@@ -121,7 +126,8 @@ fn extended(
     requires typed { IsTypedOver (shapes words.now) (ExtendNode signed from to term.0) }
     requires within { AreWithin (next circuit.now) words.now }
     ensures made { IfOk result (λ w. IsWord circuit.now circuit.now 0 to w.items) }
-    ensures value { IfOk result (λ w. (v : ℕ → Bool) (x : TermReading) → Holds v circuit.now → number v w.items ≡ (node_value x (values_of v words.now) (ExtendNode signed from to term.0)).word) }
+    ensures value { IfOk result (λ w. (v : ℕ → Bool) (x : TermReading) → Holds v circuit.now →
+        number v w.items ≡ (node_value x (values_of v words.now) (ExtendNode signed from to term.0)).word) }
 {
     let a = operand(words, term);
     if signed {
@@ -147,7 +153,8 @@ pub fn word_of(
     requires all { circuit.old.inputs ≡ places.now.inputs }
     requires within { AreWithin (next circuit.old) words.now }
     ensures made { IfOk result (λ w. IsWord circuit.old circuit.new (own_gates (node_of node)) (width_of (node_of node)) w.items) }
-    ensures value { IfOk result (λ w. (v : ℕ → Bool) (x : TermReading) → Holds v circuit.new → IsReadingAt places.now v x → number v w.items ≡ (node_value x (values_of v words.now) (node_of node)).word) }
+    ensures value { IfOk result (λ w. (v : ℕ → Bool) (x : TermReading) → Holds v circuit.new → IsReadingAt places.now v x →
+        number v w.items ≡ (node_value x (values_of v words.now) (node_of node)).word) }
 {
     match node {
         Node::Register(_) => Ok(input(alloc, circuit, places, node)?),

@@ -39,7 +39,8 @@ pub fn operator(
     requires a_within { Within (next circuit.old) a.now }
     requires b_within { Within (next circuit.old) b.now }
     ensures made { IfOk result (λ w. IsWord circuit.old circuit.new (op_weight (op_of op) (length a.now)) (result_width (op_of op) (length a.now)) w.items) }
-    ensures value { IfOk result (λ w. (v : ℕ → Bool) → Holds v circuit.new → number v w.items ≡ operate (op_of op) (length a.now) (number v a.now) (number v b.now)) }
+    ensures value { IfOk result (λ w. (v : ℕ → Bool) → Holds v circuit.new →
+        number v w.items ≡ operate (op_of op) (length a.now) (number v a.now) (number v b.now)) }
 {
     match op {
         Op::Plus => Ok(sum(alloc, circuit, a, b)?),

@@ -48,7 +48,8 @@ pub fn tie_agreements(
     requires all { circuit.now.inputs ≡ places.now.inputs }
     requires within { AreWithin (next circuit.now) words.now }
     requires said { All (CanAgree places.now words.now) agrees.now }
-    ensures value { OnOk result ((v : ℕ → Bool) → satisfied v ties.new.items ≡ (satisfied v ties.old.items && list_all (agrees_at places.now words.now v) agrees.now)) }
+    ensures value { OnOk result ((v : ℕ → Bool) → satisfied v ties.new.items ≡ (satisfied v ties.old.items &&
+        list_all (agrees_at places.now words.now v) agrees.now)) }
     ensures over { OnOk result (AreOver (next circuit.now) ties.old.items → AreOver (next circuit.now) ties.new.items) }
 {
     for i in 0..agrees.len() {
@@ -74,7 +75,8 @@ pub fn tie_asked(
     requires all { circuit.now.inputs ≡ places.now.inputs }
     requires within { AreWithin (next circuit.now) words.now }
     requires said { All (CanBeAsked places.now words.now) asked.now }
-    ensures value { OnOk result ((v : ℕ → Bool) → satisfied v ties.new.items ≡ (satisfied v ties.old.items && list_all (asked_at places.now words.now v) asked.now)) }
+    ensures value { OnOk result ((v : ℕ → Bool) → satisfied v ties.new.items ≡ (satisfied v ties.old.items &&
+        list_all (asked_at places.now words.now v) asked.now)) }
     ensures over { OnOk result (AreOver (next circuit.now) ties.old.items → AreOver (next circuit.now) ties.new.items) }
 {
     for i in 0..asked.len() {

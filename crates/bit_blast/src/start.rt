@@ -95,7 +95,8 @@ fn start_with(
     requires bytes { All (λ b. (b.0 < 2 ^ 32) × (1 ≤ b.1) × (b.1 ≤ 255)) bytes.items }
     requires rise { AreRising bytes.items }
     requires unknown { All (λ b. byte_of_runs (program_of_cells c.now).known b.0 ≡ None) bytes.items }
-    requires gives { Gives (cells_of c.now) (with_mem (reading (program_of_cells c.now) (cells_of c.now) (valuation values.now)) (λ a. known_or (byte_of_runs (program_of_cells c.now).known (word 32 a)) bytes.items a)) }
+    requires gives { Gives (cells_of c.now) (with_mem (reading (program_of_cells c.now) (cells_of c.now) (valuation values.now))
+        (λ a. known_or (byte_of_runs (program_of_cells c.now).known (word 32 a)) bytes.items a)) }
     ensures { IfOk result (λ s. IsStartOf (program_of_cells c.now) (cells_of c.now) (valuation values.now) (written_of s)) }
 {
     let places = places_of(alloc, c)?;
@@ -110,9 +111,9 @@ fn start_with(
     })
 }
 
-/// The start of values of the inputs: the registers and the flags that the values give, the bytes that are not 0 at addresses whose byte is not known, by rising
-/// address, and the choices that are not 0, by the steps at which a run from there draws them. Some memory has to give each base read its byte, and no read may
-/// have another byte than the one that is known at its address.
+/// The start of values of the inputs: the registers and the flags that the values give, the bytes that are not 0 at addresses whose byte is not known, by
+/// rising address, and the choices that are not 0, by the steps at which a run from there draws them. Some memory has to give each base read its byte, and no
+/// read may have another byte than the one that is known at its address.
 ///
 /// # Errors
 ///
@@ -120,7 +121,8 @@ fn start_with(
 pub fn start_of(alloc: Global, c: &Celled, values: &[bool]) -> Result<Start, AllocError>
     requires formed { AreFormed (program_of_cells c.now) (cells_of c.now) }
     requires some { (m : ℕ → ℕ) × Gives (cells_of c.now) (with_mem (reading (program_of_cells c.now) (cells_of c.now) (valuation values.now)) m) }
-    requires unbroken { (a : ℕ) → IsBroken (program_of_cells c.now) (cells_of c.now) (reading (program_of_cells c.now) (cells_of c.now) (valuation values.now)) a → ⊥ }
+    requires unbroken { (a : ℕ) → IsBroken (program_of_cells c.now) (cells_of c.now)
+        (reading (program_of_cells c.now) (cells_of c.now) (valuation values.now)) a → ⊥ }
     requires walkable { IsWalkable (program_of_cells c.now) }
     requires passive { IsPassive (program_of_cells c.now) (passive_of c.now.question.now.passive.now) }
     requires runs { AreRuns c.now.question.now.passive.now.unrolled.now.known.items }

@@ -45,7 +45,8 @@ pub fn choices_by_step(
 ) -> Result<Vec<(u64, u8)>, AllocError>
     requires count { length met.now ≡ length places.now.drawn.items }
     requires within { (i : ℕ) (d : Term) → i < length met.now → (slice_index_or met.now i d).0 < length words.now }
-    ensures { IfOk result (λ xs. AreChoices (is_met_by met.now words.now) (choice_at places.now (valuation values.now)) (length met.now) (count_met (is_met_by met.now words.now) (length met.now)) xs.items) }
+    ensures { IfOk result (λ xs. AreChoices (is_met_by met.now words.now) (choice_at places.now (valuation values.now)) (length met.now)
+        (count_met (is_met_by met.now words.now) (length met.now)) xs.items) }
 {
     let mut choices = Vec::new(alloc);
     let mut step = 0u64;

@@ -27,7 +27,8 @@ pub fn tie_words(
     b: &[Bit],
 ) -> Result<(), AllocError>
     requires { length a.now ≡ length b.now }
-    ensures value { OnOk result ((v : ℕ → Bool) → satisfied v ties.new.items ≡ (satisfied v ties.old.items && (not (bit_value v condition) || (number v a.now == number v b.now)))) }
+    ensures value { OnOk result ((v : ℕ → Bool) → satisfied v ties.new.items ≡ (satisfied v ties.old.items &&
+        (not (bit_value v condition) || (number v a.now == number v b.now)))) }
     ensures over { OnOk result ((n : ℕ) → variable_of condition < n → Within n a.now → Within n b.now → AreOver n ties.old.items → AreOver n ties.new.items) }
 {
     let apart = condition.negation();
@@ -57,7 +58,8 @@ pub fn tie_byte(
     byte: u8,
 ) -> Result<(), AllocError>
     requires { length a.now ≡ 8 }
-    ensures value { OnOk result ((v : ℕ → Bool) → satisfied v ties.new.items ≡ (satisfied v ties.old.items && (not (bit_value v condition) || (number v a.now == byte)))) }
+    ensures value { OnOk result ((v : ℕ → Bool) → satisfied v ties.new.items ≡ (satisfied v ties.old.items &&
+        (not (bit_value v condition) || (number v a.now == byte)))) }
     ensures over { OnOk result ((n : ℕ) → variable_of condition < n → Within n a.now → AreOver n ties.old.items → AreOver n ties.new.items) }
 {
     let apart = condition.negation();

@@ -52,10 +52,12 @@ replaced_below xs ys i x new h e = record {
 
 turned : (xs front back : List (ℕ × ℕ)) (x : ℕ × ℕ) → xs ++ reverse (front ++ x ∷ back) ≡ (xs ++ reverse back) ++ x ∷ reverse front
 turned xs front back x =
-    ap (λ l. xs ++ l) (reverse-append front (x ∷ back) ∙ ap (λ l. l ++ reverse front) (reverse-append (x ∷ []) back) ∙ append_assoc (reverse back) (x ∷ []) (reverse front))
+    ap (λ l. xs ++ l) (reverse-append front (x ∷ back) ∙ ap (λ l. l ++ reverse front) (reverse-append (x ∷ []) back) ∙ append_assoc (reverse back) (x
+    ∷ []) (reverse front))
     ∙ sym (append_assoc xs (reverse back) (x ∷ reverse front))
 
-pub replaced_above : (xs ys : List (ℕ × ℕ)) (i j : ℕ) (x : ℕ × ℕ) (new : List (ℕ × ℕ)) → length xs ≤ i → i < length xs + length ys → j ≡ length ys - 1 - (i - length xs) →
+pub replaced_above : (xs ys : List (ℕ × ℕ)) (i j : ℕ) (x : ℕ × ℕ) (new : List (ℕ × ℕ)) → length xs ≤ i → i < length xs + length ys →
+    j ≡ length ys - 1 - (i - length xs) →
     new ≡ set ys j x → IsReplaced (xs ++ reverse ys) i x (xs ++ reverse new)
 replaced_above xs ys i j x new past within at e =
     let inside : j < length ys = omega arith in

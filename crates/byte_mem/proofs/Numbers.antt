@@ -20,12 +20,14 @@ agree i n a b m h = grind (arith, nat_tests)
 pub none_put : (old : List (ℕ × ℕ)) (first : ℕ) (bytes : List ℕ) → PutsTo old first bytes 0 old
 none_put old first bytes = record { each = λ x below. let none : nat_lt (sub 32 x first) 0 ≡ false = grind (arith, nat_tests) in rw none refl }
 
-pub more_put : (old mid new : List (ℕ × ℕ)) (first i byte : ℕ) (bytes : List ℕ) → first < 2 ^ 32 → i < 2 ^ 32 → byte ≡ get_or bytes i 0 → PutsTo old first bytes i mid →
+pub more_put : (old mid new : List (ℕ × ℕ)) (first i byte : ℕ) (bytes : List ℕ) → first < 2 ^ 32 → i < 2 ^ 32 → byte ≡ get_or bytes i 0 →
+    PutsTo old first bytes i mid →
     IsPut mid (add 32 first i) byte new → PutsTo old first bytes (i + 1) new
 more_put old mid new first i byte bytes low few is before put = record {
   each = λ x below.
       put x ∙ elim (cases_eq x (add 32 first i)) as
-      (λ _. (if x == add 32 first i then byte else byte_in mid x) ≡ (if nat_lt (sub 32 x first) (i + 1) then get_or bytes (sub 32 x first) 0 else byte_in old x)) [
+      (λ _. (if x == add 32 first i then byte else byte_in mid x)
+      ≡ (if nat_lt (sub 32 x first) (i + 1) then get_or bytes (sub 32 x first) 0 else byte_in old x)) [
         | inl at ↦
             let t : (x == add 32 first i) ≡ true = eq-eqb x (add 32 first i) at in
             let place : sub 32 x first ≡ i = omega arith in
@@ -104,7 +106,8 @@ stores_low n old first v bytes new few is p =
     p
 
 pub stores_high : (n : ℕ) (old : List (ℕ × ℕ)) (first v : ℕ) (bytes : List ℕ) (new : List (ℕ × ℕ)) → n ≤ 8 → bytes ≡ to_be_bytes w64 v →
-    PutsTo old first (take (8 - (8 - n)) (drop (8 - n) bytes)) (length (take (8 - (8 - n)) (drop (8 - n) bytes))) new → memory_of new ≡ store Big n (memory_of old) first v
+    PutsTo old first (take (8 - (8 - n)) (drop (8 - n) bytes)) (length (take (8 - (8 - n)) (drop (8 - n) bytes))) new →
+    memory_of new ≡ store Big n (memory_of old) first v
 stores_high n old first v bytes new few is p =
     let len = ap length is in
     stores Big n old first v _ new

@@ -184,7 +184,8 @@ byte_none (x ∷ es) a none =
     let f : (a == x.0) ≡ false = ne_eqb a x.0 (λ q. none 0 (0, 0) (omega arith) (sym q)) in
     rw f (byte_none es a (λ k d h. none (suc k) d (omega arith)))
 
-module _ (es : List (ℕ × ℕ)) (a b : ℕ) (new : List (ℕ × ℕ)) (low high : ℕ) (memory : IsMemory es) (w : AreAround es a low high) (under : a < 2 ^ 32) (fits : b < 256)
+module _ (es : List (ℕ × ℕ)) (a b : ℕ) (new : List (ℕ × ℕ)) (low high : ℕ) (memory : IsMemory es) (w : AreAround es a low high) (under : a < 2 ^ 32) (fits : b
+    < 256)
     (e : new ≡ take low es ++ (entries_at a b ++ drop high es)) where
   s : Spans 0 (2 ^ 32) es
   s = spans_of 0 es memory.kept (omega arith) (λ k d h. omega arith)
@@ -211,13 +212,15 @@ module _ (es : List (ℕ × ℕ)) (a b : ℕ) (new : List (ℕ × ℕ)) (low hig
   written x = elim (cases_eq x a) as (λ _. byte_in new x ≡ (if x == a then b else byte_in es x)) [
     | inl is ↦
         let t : (x == a) ≡ true = eq-eqb x a is in
-        rw t (ap (λ n. byte_in n x) e ∙ replaced_within es (entries_at a b) low high a (a + 1) x s w1 top w.before_low w.from_high (at_spans a b) (omega arith) (omega arith) ∙ at_reads a b x is)
+        rw t (ap (λ n. byte_in n x) e ∙ replaced_within es (entries_at a b) low high a (a + 1) x s w1 top w.before_low w.from_high (at_spans a b) (omega arith)
+        (omega arith) ∙ at_reads a b x is)
     | inr ne ↦ let f : (x == a) ≡ false = ne_eqb x a ne in rw f (reads x ne)
   ]
 
   pub still : IsMemory new
   still = record {
-    kept = rw e (kept_of _ (replaced es (entries_at a b) low high a (a + 1) s w1 w.within up top w.before_low w.from_low w.before_high w.from_high (at_spans a b)));
+    kept = rw e (kept_of _ (replaced es (entries_at a b) low high a (a + 1) s w1 w.within up top w.before_low w.from_low w.before_high w.from_high
+        (at_spans a b)));
     fits = λ x. elim (cases_eq x a) as (λ _. byte_in new x < 256) [
       | inl is ↦ let t : (x == a) ≡ true = eq-eqb x a is in let h = rw t at (written x) in omega arith
       | inr ne ↦ let h = reads x ne in let f = memory.fits x in omega arith

@@ -24,7 +24,8 @@ capped-more ds i m n d lt e q =
     ap (λ (xs : List ℕ). min (digits_value_after 10 m xs) (2 ^ 62 + 1)) s ∙ ap (λ v. min (digits_value_after 10 (m * 10 + v) (drop (i + 1) ds)) (2 ^ 62 + 1)) e
     ∙ capped-after (m * 10 + d) (drop (i + 1) ds) ∙ ap (λ v. min (digits_value_after 10 v (drop (i + 1) ds)) (2 ^ 62 + 1)) (sym q)
 
-pub digits-more : (ds : List ℕ) (i : ℕ) → i < length ds → is_digit_of 10 (get_or ds i 0) ≡ true → list_all (is_digit_of 10) (drop i ds) ≡ list_all (is_digit_of 10) (drop (i + 1) ds)
+pub digits-more : (ds : List ℕ) (i : ℕ) → i < length ds → is_digit_of 10 (get_or ds i 0) ≡ true →
+    list_all (is_digit_of 10) (drop i ds) ≡ list_all (is_digit_of 10) (drop (i + 1) ds)
 digits-more ds i lt h =
     let s : drop i ds ≡ get_or ds i 0 ∷ drop (i + 1) ds = rw (add-one, drop-cons ds i 0) refl in
     ap (list_all (is_digit_of 10)) s ∙ rw h refl

@@ -14,26 +14,30 @@ pub behind : (xs : List ℕ) (n : ℕ) → take (length xs - n) (drop n xs) ≡ 
 behind xs n = take_all (length xs - n) (drop n xs) (omega (arith, length-drop n xs))
 
 -- a length of what stands behind a place names the place
-pub behind-by-length : (xs : List ℕ) (n : ℕ) → n ≤ length xs → take (length xs - n) (drop n xs) ≡ drop (length xs - length (take (length xs - n) (drop n xs))) xs
+pub behind-by-length : (xs : List ℕ) (n : ℕ) → n ≤ length xs →
+    take (length xs - n) (drop n xs) ≡ drop (length xs - length (take (length xs - n) (drop n xs))) xs
 behind-by-length xs n le =
     let e : length (take (length xs - n) (drop n xs)) ≡ length xs - n = ap (λ (ys : List ℕ). length ys) (behind xs n) ∙ length-drop n xs in
     let q : n ≡ length xs - length (take (length xs - n) (drop n xs)) = omega arith in
     behind xs n ∙ ap (λ k. drop k xs) q
 
 -- what stands behind a place of what stands behind a place
-pub behind-twice : (xs ys zs : List ℕ) → ys ≡ drop (length xs - length ys) xs → zs ≡ drop (length ys - length zs) ys → length zs ≤ length ys → length ys ≤ length xs →
+pub behind-twice : (xs ys zs : List ℕ) → ys ≡ drop (length xs - length ys) xs → zs ≡ drop (length ys - length zs) ys → length zs ≤ length ys →
+    length ys ≤ length xs →
     zs ≡ drop (length xs - length zs) xs
 behind-twice xs ys zs e f h g =
     let q : (length xs - length ys) + (length ys - length zs) ≡ length xs - length zs = omega arith in
     f ∙ ap (drop (length ys - length zs)) e ∙ drop-drop (length ys - length zs) (length xs - length ys) xs ∙ ap (λ k. drop k xs) q
 
 -- one more line
-pub line-dropped : (rest behind line : List ℕ) (text : List ℕ) (n : ℕ) → split_lines rest ≡ drop n (split_lines text) → split_lines rest ≡ line ∷ split_lines behind →
+pub line-dropped : (rest behind line : List ℕ) (text : List ℕ) (n : ℕ) → split_lines rest ≡ drop n (split_lines text) →
+    split_lines rest ≡ line ∷ split_lines behind →
     split_lines behind ≡ drop (n + 1) (split_lines text)
 line-dropped rest more line text n e f = ap (drop 1) (sym f ∙ e) ∙ drop-drop 1 n (split_lines text)
 
 -- no more lines
-pub no-line-dropped : (rest text : List ℕ) (n m : ℕ) → split_lines rest ≡ drop n (split_lines text) → split_lines rest ≡ [] → n ≤ m → split_lines rest ≡ drop m (split_lines text)
+pub no-line-dropped : (rest text : List ℕ) (n m : ℕ) → split_lines rest ≡ drop n (split_lines text) → split_lines rest ≡ [] → n ≤ m →
+    split_lines rest ≡ drop m (split_lines text)
 no-line-dropped rest text n m e f le =
     let q : n + (m - n) ≡ m = omega arith in
     f ∙ sym (drop_all (m - n) [] (omega arith)) ∙ ap (drop (m - n)) (sym f ∙ e) ∙ drop-drop (m - n) n (split_lines text) ∙ ap (λ k. drop k (split_lines text)) q
@@ -80,7 +84,8 @@ keep : (w : List ℕ) (ws : List (List ℕ)) → is_word w ≡ true → filter i
 keep w ws h = rw h refl
 
 -- a blank ends a word
-pub word-cut : (xs : List ℕ) (i : ℕ) → i < length xs → is_blank (get_or xs i 0) ≡ true → is_blank (get_or xs 0 0) ≡ false → list_all (λ b. not (is_blank b)) (take i xs) ≡ true →
+pub word-cut : (xs : List ℕ) (i : ℕ) → i < length xs → is_blank (get_or xs i 0) ≡ true → is_blank (get_or xs 0 0) ≡ false →
+    list_all (λ b. not (is_blank b)) (take i xs) ≡ true →
     words_of xs ≡ take i xs ∷ words_of (take (length xs - i) (drop i xs))
 word-cut xs zero lt e s h = absurd (both_ways (is_blank (get_or xs 0 0)) s e)
 word-cut xs (suc k) lt e s h =

@@ -25,7 +25,8 @@ mapped : (c : Clause) (l : Literal) → map number_of (c ++ l ∷ []) ≡ map nu
 mapped [] l = refl
 mapped (x ∷ c) l = ap (λ (ns : List Integer). number_of x ∷ ns) (mapped c l)
 
-in-front : (x : Clause) (ns ms : List Integer) (n : Integer) → ms ≡ ns ++ n ∷ [] → map number_of x ++ end_number ∷ ms ≡ (map number_of x ++ end_number ∷ ns) ++ n ∷ []
+in-front : (x : Clause) (ns ms : List Integer) (n : Integer) → ms ≡ ns ++ n ∷ [] →
+    map number_of x ++ end_number ∷ ms ≡ (map number_of x ++ end_number ∷ ns) ++ n ∷ []
 in-front x ns ms n e = ap (λ (is : List Integer). map number_of x ++ end_number ∷ is) e ∙ sym (append_assoc (map number_of x) (end_number ∷ ns) (n ∷ []))
 
 end-clause : (cs : List Clause) (c : Clause) → numbers_from (cs ++ c ∷ []) [] ≡ numbers_from cs c ++ end_number ∷ []
@@ -74,7 +75,8 @@ clauses-are : (cs : List Clause) → list_all is_nonzero cs ≡ true → clauses
 clauses-are [] h = refl
 clauses-are (c ∷ cs) h =
     let g = and_parts (is_nonzero c) (list_all is_nonzero cs) h in
-    ap (map (map literal_of)) (parts_cut is_zero (map number_of c) end_number (numbers_from cs []) (no_zero number_of (λ l. nat_le 1 l.variable) not-zero c g.0) refl)
+    ap (map (map literal_of)) (parts_cut is_zero (map number_of c) end_number (numbers_from cs []) (no_zero number_of
+    (λ l. nat_le 1 l.variable) not-zero c g.0) refl)
     ∙ ap (λ (d : Clause). d ∷ clauses_in (numbers_from cs [])) (map_back number_of literal_of back c)
     ∙ ap (λ (ds : List Clause). c ∷ ds) (clauses-are cs g.1)
 
@@ -94,7 +96,8 @@ module _ (cs : List Clause) (now : List Integer) (h : Header) where
       let g = and_parts (list_all is_nonzero cs) (is_nonzero (l ∷ ls)) is in
       sym (ap (is_counted h) view ∙ ap (λ b. b && (length (clauses_in (numbers_from cs (l ∷ ls))) == h.clauses)) (ended-some cs l ls g.1))
 
-pub clauses-now : (cs : List Clause) (c : Clause) (now : List Integer) → now ≡ numbers_from cs c → are_nonzero cs c ≡ true → is_ended now ≡ true → cs ≡ clauses_in now
+pub clauses-now : (cs : List Clause) (c : Clause) (now : List Integer) → now ≡ numbers_from cs c → are_nonzero cs c ≡ true → is_ended now ≡ true →
+    cs ≡ clauses_in now
 clauses-now cs [] now view is e = sym (ap clauses_in view ∙ clauses-are cs (and_parts (list_all is_nonzero cs) true is).0)
 clauses-now cs (l ∷ ls) now view is e =
     let g = and_parts (list_all is_nonzero cs) (is_nonzero (l ∷ ls)) is in

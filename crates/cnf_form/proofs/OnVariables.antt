@@ -14,7 +14,8 @@ one-sound n (x ∷ xs) h l k =
     let g = and_parts (nat_le 1 x.variable && nat_le x.variable n) (is_on_variables n xs) h in
     let f = and_parts (nat_le 1 x.variable) (nat_le x.variable n) g.0 in
     elim (or_cases (same x l) (has xs l) k) [
-      | inl e ↦ let q : x.variable ≡ l.variable = ap (λ (y : Literal). y.variable) (same-true x l e) in (grind (arith, nat_tests, f.0, q), grind (arith, nat_tests, f.1, q))
+      | inl e ↦ let q : x.variable ≡ l.variable = ap (λ (y : Literal). y.variable) (same-true x l e)
+          in (grind (arith, nat_tests, f.0, q), grind (arith, nat_tests, f.1, q))
       | inr e ↦ one-sound n xs g.1 l e
     ]
 

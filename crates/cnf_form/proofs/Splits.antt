@@ -20,7 +20,8 @@ module _ (ns : List Integer) (i : ℕ) (x : Integer) (lt : i < length ns) (is : 
   behind : take (length ns - (i + 1)) (drop (i + 1) ns) ≡ drop (i + 1) ns
   behind = take_all (length ns - (i + 1)) (drop (i + 1) ns) (omega (arith, length-drop (i + 1) ns))
 
-  pub parts-at : list_all (λ n. not (is_zero n)) (take i ns) ≡ true → parts is_zero ns ≡ take i ns ∷ parts is_zero (take (length ns - (i + 1)) (drop (i + 1) ns))
+  pub parts-at : list_all (λ n. not (is_zero n)) (take i ns) ≡ true →
+      parts is_zero ns ≡ take i ns ∷ parts is_zero (take (length ns - (i + 1)) (drop (i + 1) ns))
   parts-at h =
       ap (parts is_zero) around ∙ parts_cut is_zero (take i ns) x (drop (i + 1) ns) h zero
       ∙ ap (λ (ys : List Integer). take i ns ∷ parts is_zero ys) (sym behind)

@@ -10,15 +10,18 @@ verify_plain : lawful_command (codes "bilv" ∷ codes "verify" ∷ codes "e" ∷
 unfolding clap_on_literals bilv_app takes_line command_named
 verify_plain = refl
 
-verify_most : lawful_command (codes "bilv" ∷ codes "verify" ∷ codes "e" ∷ codes "n" ∷ codes "--unroll" ∷ codes "4096" ∷ []) ≡ Some (Verify (codes "e") (codes "n") (record default_budget { unroll = 4096 }))
+verify_most : lawful_command (codes "bilv" ∷ codes "verify" ∷ codes "e" ∷ codes "n" ∷ codes "--unroll" ∷ codes "4096" ∷ [])
+    ≡ Some (Verify (codes "e") (codes "n") (record default_budget { unroll = 4096 }))
 unfolding clap_on_literals bilv_app takes_line command_named
 verify_most = refl
 
-verify_attached : lawful_command (codes "bilv" ∷ codes "verify" ∷ codes "--unroll=+007" ∷ codes "e" ∷ codes "n" ∷ []) ≡ Some (Verify (codes "e") (codes "n") (record default_budget { unroll = 7 }))
+verify_attached : lawful_command (codes "bilv" ∷ codes "verify" ∷ codes "--unroll=+007" ∷ codes "e" ∷ codes "n" ∷ [])
+    ≡ Some (Verify (codes "e") (codes "n") (record default_budget { unroll = 7 }))
 unfolding clap_on_literals bilv_app takes_line command_named
 verify_attached = refl
 
-smt_fail : lawful_command (codes "bilv" ∷ codes "smt" ∷ codes "e" ∷ codes "n" ∷ codes "--question" ∷ codes "fail" ∷ codes "--size" ∷ codes "5" ∷ []) ≡ Some (Script (codes "e") (codes "n") FailQuestion (record default_budget { size = 5 }))
+smt_fail : lawful_command (codes "bilv" ∷ codes "smt" ∷ codes "e" ∷ codes "n" ∷ codes "--question" ∷ codes "fail" ∷ codes "--size" ∷ codes "5" ∷ [])
+    ≡ Some (Script (codes "e") (codes "n") FailQuestion (record default_budget { size = 5 }))
 unfolding clap_on_literals bilv_app takes_line command_named
 smt_fail = refl
 

@@ -101,8 +101,8 @@ whole_number text = if is_unsigned_in 0 18446744073709551615 text then Some (dig
 abbrev pub whole_in : (id : Text) → List Row → Option ℕ
 whole_in id rows = one_of id rows >>= whole_number
 
--- The number from low to high that was found for an argument. `clap` has asked the same of its text, so this refuses no line that it takes; it stands here that the
--- range of each number is seen where the number is read.
+-- The number from low to high that was found for an argument. `clap` has asked the same of its text, so this refuses no line that it takes; it stands here that
+-- the range of each number is seen where the number is read.
 abbrev pub number_in : (low high : ℕ) → (id : Text) → List Row → Option ℕ
 number_in low high id rows = whole_in id rows >>= λ n. if nat_le low n && nat_le n high then Some n else None
 
@@ -193,7 +193,7 @@ command_in found = found >>= λ p. command_named p.0 p.1
 unfoldable pub takes_line : List Text → Bool
 takes_line words = is_empty (fault_of bilv_app words)
 
--- The command of a line, by its words, the first of which is the program's name. A line is lawful where `clap` takes it and its question, if it has one, is one of
--- the three.
+-- The command of a line, by its words, the first of which is the program's name. A line is lawful where `clap` takes it and its question, if it has one, is one
+-- of the three.
 abbrev pub lawful_command : List Text → Option of.Command
 lawful_command words = if takes_line words then command_in (subcommand_of bilv_app words) else None

@@ -57,7 +57,8 @@ shared hs k d rising solid within less =
     let other = solid (k + 1) d within in
     let bytes = has-bytes (segment t) other in (
       t.address,
-      count_two (λ h. covers t.address (segment h)) hs k (k + 1) s t (slice_get-get_or hs k d (omega arith)) (slice_get-get_or hs (k + 1) d within) (omega arith)
+      count_two (λ h. covers t.address (segment h)) hs k (k + 1) s t (slice_get-get_or hs k d (omega arith)) (slice_get-get_or hs (k + 1) d within)
+          (omega arith)
           (covers_in t.address (segment s) (has-kind (segment s) one) order less)
           (covers_in t.address (segment t) (has-kind (segment t) other) (omega arith) (omega arith)),
     )

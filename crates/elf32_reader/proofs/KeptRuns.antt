@@ -130,7 +130,8 @@ module _ (found : List ProgramHeader) (n : ℕ) (h : ProgramHeader) (runs new : 
       let gap = separate k.0 n h k.2 within in
       let first : get_or found k.0 h ≡ k.1 = get_or_from_slice_get found k.0 k.1 h k.3 in
       let second : get_or found n h ≡ h = get_or_from_slice_get found n h h at in
-      let end : (get_or found k.0 h).address + (get_or found k.0 h).in_memory ≡ k.1.address + k.1.in_memory = ap (λ (x : ProgramHeader). x.address + x.in_memory) first in
+      let end : (get_or found k.0 h).address + (get_or found k.0 h).in_memory
+      ≡ k.1.address + k.1.in_memory = ap (λ (x : ProgramHeader). x.address + x.in_memory) first in
       let start : (get_or found n h).address ≡ h.address = ap (λ (x : ProgramHeader). x.address) second in
       omega arith
 
@@ -185,8 +186,10 @@ module _ (found : List ProgramHeader) (n : ℕ) (h : ProgramHeader) (runs new : 
               (subst (λ (q : ℕ × ℕ). (get_or runs i (0, 0)).1 + 1 < q.0) (sym (ap (λ j. get_or pushed j (0, 0)) there ∙ end)) (omega (arith, gap)))
         ];
         exact = λ a. (
-          (λ k. (in_pushed runs first last a).1 (elim ((more a).0 k) as (λ _. IsInRuns runs a ⊎ ((first ≤ a) × (a ≤ last))) [ inl x ↦ inl ((r.exact a).0 x) | inr b ↦ inr b ])),
-          (λ i. (more a).1 (elim ((in_pushed runs first last a).0 i) as (λ _. IsKeptBelow found n a ⊎ ((first ≤ a) × (a ≤ last))) [ inl x ↦ inl ((r.exact a).1 x) | inr b ↦ inr b ])),
+          (λ k. (in_pushed runs first last a).1 (elim ((more a).0 k) as (λ _. IsInRuns runs a ⊎ ((first ≤ a) ×
+              (a ≤ last))) [ inl x ↦ inl ((r.exact a).0 x) | inr b ↦ inr b ])),
+          (λ i. (more a).1 (elim ((in_pushed runs first last a).0 i) as (λ _. IsKeptBelow found n a ⊎ ((first ≤ a) ×
+              (a ≤ last))) [ inl x ↦ inl ((r.exact a).1 x) | inr b ↦ inr b ])),
         );
       }
 
@@ -228,7 +231,9 @@ module _ (found : List ProgramHeader) (n : ℕ) (h : ProgramHeader) (runs new : 
                   (subst (λ j. (get_or runs i (0, 0)).1 + 1 < (get_or runs j (0, 0)).0) there near))
             ];
         exact = λ a. (
-          (λ k. (inside a count refl fills meets up).1 (elim ((more a).0 k) as (λ _. IsInRuns runs a ⊎ ((first ≤ a) × (a ≤ last))) [ inl x ↦ inl ((r.exact a).0 x) | inr b ↦ inr b ])),
-          (λ i. (more a).1 (elim ((inside a count refl fills meets up).0 i) as (λ _. IsKeptBelow found n a ⊎ ((first ≤ a) × (a ≤ last))) [ inl x ↦ inl ((r.exact a).1 x) | inr b ↦ inr b ])),
+          (λ k. (inside a count refl fills meets up).1 (elim ((more a).0 k) as (λ _. IsInRuns runs a ⊎ ((first ≤ a) ×
+              (a ≤ last))) [ inl x ↦ inl ((r.exact a).0 x) | inr b ↦ inr b ])),
+          (λ i. (more a).1 (elim ((inside a count refl fills meets up).0 i) as (λ _. IsKeptBelow found n a ⊎ ((first ≤ a) ×
+              (a ≤ last))) [ inl x ↦ inl ((r.exact a).1 x) | inr b ↦ inr b ])),
         );
       }

@@ -34,7 +34,8 @@ count_one p (x ∷ xs) (suc i) s at h =
     omega arith
 
 -- so do two
-pub count_two : {X : Type 0} (p : X → Bool) (xs : List X) (i j : ℕ) (s t : X) → slice_get xs i ≡ Some s → slice_get xs j ≡ Some t → i < j → p s ≡ true → p t ≡ true → 2 ≤ count_by p xs
+pub count_two : {X : Type 0} (p : X → Bool) (xs : List X) (i j : ℕ) (s t : X) → slice_get xs i ≡ Some s → slice_get xs j ≡ Some t → i < j → p s ≡ true →
+    p t ≡ true → 2 ≤ count_by p xs
 count_two p [] i j s t at_i at_j less hs ht = absurd (cc)
 count_two p (x ∷ xs) zero zero s t at_i at_j less hs ht = absurd (omega arith)
 count_two p (x ∷ xs) zero (suc j) s t at_i at_j less hs ht =
@@ -64,7 +65,8 @@ pub two_pass : {X : Type 0} (p : X → Bool) (xs : List X) → 2 ≤ count_by p 
     → (i j : ℕ) × (s t : X) × (slice_get xs i ≡ Some s) × (slice_get xs j ≡ Some t) × (i < j) × (p s ≡ true) × (p t ≡ true)
 two_pass p [] h = absurd (omega arith)
 two_pass {X = X} p (x ∷ xs) h =
-    elim (answer (p x)) as (λ _. (i j : ℕ) × (s t : X) × (slice_get (x ∷ xs) i ≡ Some s) × (slice_get (x ∷ xs) j ≡ Some t) × (i < j) × (p s ≡ true) × (p t ≡ true)) [
+    elim (answer (p x)) as (λ _. (i j : ℕ) × (s t : X) × (slice_get (x ∷ xs) i ≡ Some s) × (slice_get (x ∷ xs) j ≡ Some t) × (i < j) × (p s ≡ true) ×
+    (p t ≡ true)) [
       | inl e ↦
           let here = count_yes p x xs e in
           let rest = one_passes p xs (omega arith) in

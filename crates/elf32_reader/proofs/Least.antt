@@ -79,7 +79,15 @@ pub seen_one : (file name : List ℕ) (i k a : ℕ) (f g : Found) → IsSymbols 
 seen_one file name i k a f g table within is least adds =
     least_same (λ c. IsSeen file name i k c ⊎ (c ≡ a)) (IsSeen file name i (k + 1))
     (λ c q. elim q as (λ _. IsSeen file name i (k + 1) c) [
-      | inl s ↦ (s.0, s.1, s.2, s.3, elim s.4 as (λ _. (s.0 < i) ⊎ ((s.0 ≡ i) × (s.1 < k + 1))) [ inl l ↦ inl l | inr x ↦ inr (x.0, let l : s.1 < k = x.1 in omega arith) ], s.5)
+      | inl s ↦ (
+        s.0,
+        s.1,
+        s.2,
+        s.3,
+        elim s.4 as (λ _. (s.0 < i) ⊎ ((s.0 ≡ i) ×
+            (s.1 < k + 1))) [ inl l ↦ inl l | inr x ↦ inr (x.0, let l : s.1 < k = x.1 in omega arith) ],
+        s.5,
+      )
       | inr e ↦ (i, k, table, within, inr (refl, omega arith), subst (IsFunctionSymbol file i k name) (sym e) is)
     ])
     (λ c s. elim s.4 as (λ _. IsSeen file name i k c ⊎ (c ≡ a)) [
@@ -90,7 +98,8 @@ seen_one file name i k a f g table within is least adds =
             | inl l ↦ inl (s.0, s.1, s.2, s.3, inr (x.0, l), s.5)
             | inr l ↦
                 let same : s.1 ≡ k = omega arith in
-                let there : IsFunctionSymbol file i k name c = subst (λ m. IsFunctionSymbol file i m name c) same (subst (λ j. IsFunctionSymbol file j s.1 name c) x.0 s.5) in
+                let there : IsFunctionSymbol file i k name c = subst
+                (λ m. IsFunctionSymbol file i m name c) same (subst (λ j. IsFunctionSymbol file j s.1 name c) x.0 s.5) in
                 inr (sym there.1 ∙ is.1)
           ]
     ])
@@ -101,7 +110,15 @@ pub seen_other : (file name : List ℕ) (i k : ℕ) (f : Found)
     → ((a : ℕ) → ¬ IsFunctionSymbol file i k name a) → IsLeast (IsSeen file name i k) f → IsLeast (IsSeen file name i (k + 1)) f
 seen_other file name i k f none least =
     least_same (IsSeen file name i k) (IsSeen file name i (k + 1))
-    (λ c s. (s.0, s.1, s.2, s.3, elim s.4 as (λ _. (s.0 < i) ⊎ ((s.0 ≡ i) × (s.1 < k + 1))) [ inl l ↦ inl l | inr x ↦ inr (x.0, let l : s.1 < k = x.1 in omega arith) ], s.5))
+    (λ c s. (
+      s.0,
+      s.1,
+      s.2,
+      s.3,
+      elim s.4 as (λ _. (s.0 < i) ⊎ ((s.0 ≡ i) ×
+          (s.1 < k + 1))) [ inl l ↦ inl l | inr x ↦ inr (x.0, let l : s.1 < k = x.1 in omega arith) ],
+      s.5,
+    ))
     (λ c s. elim s.4 as (λ _. IsSeen file name i k c) [
       | inl l ↦ (s.0, s.1, s.2, s.3, inl l, s.5)
       | inr x ↦

@@ -64,7 +64,8 @@ module _ (file : List ℕ) (read found : List ProgramHeader)
   pub listed : IsNonDecreasingBy (λ h. h.address) found → IsListed file found
   listed rising = record { rising = rising; solid = solid_of; members = members_of; layered = layers_of }
 
-pub tied : (file : List ℕ) (found : List ProgramHeader) → IsListed file found → IsApart found → ¬ FileFaultApplies file BadSegmentRange → ¬ FileFaultApplies file BadFileSize
+pub tied : (file : List ℕ) (found : List ProgramHeader) → IsListed file found → IsApart found → ¬ FileFaultApplies file BadSegmentRange →
+    ¬ FileFaultApplies file BadFileSize
     → IsTied file found
 tied file found list apart range size = record {
   listed = list;
@@ -72,14 +73,16 @@ tied file found list apart range size = record {
   inside = λ k d w.
       let at = list.members k d w in
       let kind = has-kind (segment (get_or found k d)) (list.solid k d w) in
-      elim (cases_lt (length file) ((get_or found k d).offset + (get_or found k d).in_file)) as (λ _. (get_or found k d).offset + (get_or found k d).in_file ≤ length file) [
+      elim (cases_lt (length file) ((get_or found k d).offset + (get_or found k d).in_file)) as
+      (λ _. (get_or found k d).offset + (get_or found k d).in_file ≤ length file) [
         | inl l ↦ absurd (size (at.0, segment (get_or found k d), (at.1, kind), inr l))
         | inr l ↦ l
       ];
   below = λ k d w.
       let at = list.members k d w in
       let kind = has-kind (segment (get_or found k d)) (list.solid k d w) in
-      elim (cases_lt (2 ^ 32) ((get_or found k d).address + (get_or found k d).in_memory)) as (λ _. (get_or found k d).address + (get_or found k d).in_memory ≤ 2 ^ 32) [
+      elim (cases_lt (2 ^ 32) ((get_or found k d).address + (get_or found k d).in_memory)) as
+      (λ _. (get_or found k d).address + (get_or found k d).in_memory ≤ 2 ^ 32) [
         | inl l ↦ absurd (range (at.0, segment (get_or found k d), (at.1, kind), l))
         | inr l ↦ l
       ];

@@ -7,8 +7,8 @@ use Rattle.elf32_reader.specs.declared.parts.Part.{Part}
 use Rattle.elf32_reader.specs.Loads.{segment}
 use Rattle.elf32_reader.specs.Images.{keeps}
 
--- The first loaded addresses from one on, up to the last one of their segment: nothing is loaded before them, and the part has their flags and the bytes that the
--- segment has in the file for them; those behind are 0.
+-- The first loaded addresses from one on, up to the last one of their segment: nothing is loaded before them, and the part has their flags and the bytes that
+-- the segment has in the file for them; those behind are 0.
 pub record IsFirstPart (file : List ℕ) (a : ℕ) (part : Part) : Type 0 where
   pub behind : a ≤ part.first
   pub some : part.first ≤ part.last

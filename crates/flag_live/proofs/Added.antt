@@ -42,7 +42,8 @@ adds_item old new new' S P Q o is e up some down = subst (λ (x : List (ℕ × �
 })
 
 -- the same items by another name
-pub adds_same : (old new : List (ℕ × ℕ)) (S : Type 0) (P Q : ℕ × ℕ → Type 0) → Adds old new S P → ((e : ℕ × ℕ) → P e → Q e) → ((e : ℕ × ℕ) → Q e → P e) → Adds old new S Q
+pub adds_same : (old new : List (ℕ × ℕ)) (S : Type 0) (P Q : ℕ × ℕ → Type 0) → Adds old new S P → ((e : ℕ × ℕ) → P e → Q e) → ((e : ℕ × ℕ) → Q e → P e) →
+    Adds old new S Q
 adds_same old new S P Q is up down = record {
   kept = is.kept;
   only = λ x has. elim (is.only x has) as (λ _. Contains old x ⊎ Q x) [ inl h ↦ inl h | inr h ↦ inr (up x h) ];
@@ -68,14 +69,17 @@ adds_none old S Q none = record { kept = λ x has. has; only = λ x has. inl has
 pub among_none : (nodes : List Node) (u : ℕ) (assigned : Bool) (successors : List Successor) (e : ℕ × ℕ) → IsEdgeAmong nodes u assigned successors 0 e → ⊥
 among_none nodes u assigned successors e (at j low each) = omega arith
 
-among_more : (nodes : List Node) (u : ℕ) (assigned : Bool) (successors : List Successor) (k : ℕ) (e : ℕ × ℕ) → IsEdgeAmong nodes u assigned successors k e → IsEdgeAmong nodes u assigned successors (k + 1) e
+among_more : (nodes : List Node) (u : ℕ) (assigned : Bool) (successors : List Successor) (k : ℕ) (e : ℕ × ℕ) → IsEdgeAmong nodes u assigned successors k e →
+    IsEdgeAmong nodes u assigned successors (k + 1) e
 among_more nodes u assigned successors k e (at j low each) = at j (omega arith) each
 
 among_here : (nodes : List Node) (u : ℕ) (assigned : Bool) (successors : List Successor) (k : ℕ) (d : Successor) → k < length successors → (e : ℕ × ℕ)
     → IsEdgeBy nodes u assigned (get_or successors k d) e → IsEdgeAmong nodes u assigned successors (k + 1) e
-among_here nodes u assigned successors k d w e edge = at k (omega arith) (λ x. subst (λ (s : Successor). IsEdgeBy nodes u assigned s e) (get_or_default successors k d x w) edge)
+among_here nodes u assigned successors k d w e edge = at k (omega arith)
+    (λ x. subst (λ (s : Successor). IsEdgeBy nodes u assigned s e) (get_or_default successors k d x w) edge)
 
-among_last : (nodes : List Node) (u : ℕ) (assigned : Bool) (successors : List Successor) (k : ℕ) (d : Successor) (e : ℕ × ℕ) → IsEdgeAmong nodes u assigned successors (k + 1) e
+among_last : (nodes : List Node) (u : ℕ) (assigned : Bool) (successors : List Successor) (k : ℕ) (d : Successor) (e : ℕ × ℕ) →
+    IsEdgeAmong nodes u assigned successors (k + 1) e
     → IsEdgeAmong nodes u assigned successors k e ⊎ IsEdgeBy nodes u assigned (get_or successors k d) e
 among_last nodes u assigned successors k d e (at j low each) =
     elim (cases_lt j k) as (λ _. IsEdgeAmong nodes u assigned successors k e ⊎ IsEdgeBy nodes u assigned (get_or successors k d) e) [
@@ -88,46 +92,59 @@ weaker_some None P Q up some = tt
 weaker_some (Some e) P Q up some = up e some
 
 -- one successor more
-pub adds_successor : (nodes : List Node) (u : ℕ) (assigned : Bool) (successors : List Successor) (k : ℕ) (d : Successor) (old new new' : List (ℕ × ℕ)) (o : Option (ℕ × ℕ)) → k < length successors
+pub adds_successor : (nodes : List Node) (u : ℕ) (assigned : Bool) (successors : List Successor) (k : ℕ) (d : Successor) (old new new' : List (ℕ ×
+    ℕ)) (o : Option (ℕ × ℕ)) → k < length successors
     → Adds old new (AreRising nodes) (IsEdgeAmong nodes u assigned successors k) → new' ≡ new ++ option_to_list o
-    → IfSome o (IsEdgeBy nodes u assigned (get_or successors k d)) → (AreRising nodes → (e : ℕ × ℕ) → IsEdgeBy nodes u assigned (get_or successors k d) e → o ≡ Some e)
+    → IfSome o (IsEdgeBy nodes u assigned (get_or successors k d)) →
+    (AreRising nodes → (e : ℕ × ℕ) → IsEdgeBy nodes u assigned (get_or successors k d) e → o ≡ Some e)
     → Adds old new' (AreRising nodes) (IsEdgeAmong nodes u assigned successors (k + 1))
 adds_successor nodes u assigned successors k d old new new' o w is e some sure =
     adds_item old new new' (AreRising nodes) (IsEdgeAmong nodes u assigned successors k) (IsEdgeAmong nodes u assigned successors (k + 1)) o is e
     (among_more nodes u assigned successors k)
-    (weaker_some o (IsEdgeBy nodes u assigned (get_or successors k d)) (IsEdgeAmong nodes u assigned successors (k + 1)) (among_here nodes u assigned successors k d w) some)
-    (λ rising x q. elim (among_last nodes u assigned successors k d x q) as (λ _. IsEdgeAmong nodes u assigned successors k x ⊎ (o ≡ Some x)) [ inl h ↦ inl h | inr h ↦ inr (sure rising x h) ])
+    (weaker_some o (IsEdgeBy nodes u assigned (get_or successors k d)) (IsEdgeAmong nodes u assigned successors (k + 1))
+    (among_here nodes u assigned successors k d w) some)
+    (λ rising x q. elim (among_last nodes u assigned successors k d x q) as
+    (λ _. IsEdgeAmong nodes u assigned successors k x ⊎ (o ≡ Some x)) [ inl h ↦ inl h | inr h ↦ inr (sure rising x h) ])
 
 pair_is : (x : ℕ × ℕ) (a b : ℕ) → x.0 ≡ a → x.1 ≡ b → (a, b) ≡ x
 pair_is (y, z) a b e f = cc
 
-among_edge : (nodes : List Node) (f u : ℕ) (n : Node) (assigned : Bool) (k : ℕ) → assigned ≡ has_flag n.flags.surely f → k ≡ length n.successors.items → (e : ℕ × ℕ)
+among_edge : (nodes : List Node) (f u : ℕ) (n : Node) (assigned : Bool) (k : ℕ) → assigned ≡ has_flag n.flags.surely f → k ≡ length n.successors.items →
+    (e : ℕ × ℕ)
     → IsEdgeAmong nodes u assigned n.successors.items k e → IsEdgeOf nodes f u n e
 among_edge nodes f u n assigned k is full e among =
-    by_successor (subst (λ (b : Bool). IsEdgeAmong nodes u b n.successors.items (length n.successors.items) e) is (subst (λ (i : ℕ). IsEdgeAmong nodes u assigned n.successors.items i e) full among))
+    by_successor (subst (λ (b : Bool). IsEdgeAmong nodes u b n.successors.items (length n.successors.items) e) is (subst
+    (λ (i : ℕ). IsEdgeAmong nodes u assigned n.successors.items i e) full among))
 
-edge_among : (nodes : List Node) (f u : ℕ) (n : Node) (assigned : Bool) (k : ℕ) → assigned ≡ has_flag n.flags.surely f → k ≡ length n.successors.items → (e : ℕ × ℕ)
-    → IsEdgeOf nodes f u n e → IsEdgeAmong nodes u assigned n.successors.items k e ⊎ ((assigned ≡ false) × (n.returns ≡ true) × (e.0 ≡ length nodes) × (e.1 ≡ u))
+edge_among : (nodes : List Node) (f u : ℕ) (n : Node) (assigned : Bool) (k : ℕ) → assigned ≡ has_flag n.flags.surely f → k ≡ length n.successors.items →
+    (e : ℕ × ℕ)
+    → IsEdgeOf nodes f u n e → IsEdgeAmong nodes u assigned n.successors.items k e ⊎ ((assigned ≡ false) × (n.returns ≡ true) × (e.0 ≡ length nodes) ×
+    (e.1 ≡ u))
 edge_among nodes f u n assigned k is full e (by_successor among) =
-    inl (subst (λ (b : Bool). IsEdgeAmong nodes u b n.successors.items k e) (sym is) (subst (λ (i : ℕ). IsEdgeAmong nodes u (has_flag n.flags.surely f) n.successors.items i e) (sym full) among))
+    inl (subst (λ (b : Bool). IsEdgeAmong nodes u b n.successors.items k e) (sym is) (subst
+    (λ (i : ℕ). IsEdgeAmong nodes u (has_flag n.flags.surely f) n.successors.items i e) (sym full) among))
 edge_among nodes f u n assigned k is full e (by_exit free back from to) = inr (is ∙ free, back, from, to)
 
 -- the edges of a node that surely assigns the flag, of one that does not return, and of one that returns
-pub node_assigned : (nodes : List Node) (f u : ℕ) (n : Node) (assigned : Bool) (k : ℕ) (old new : List (ℕ × ℕ)) → assigned ≡ has_flag n.flags.surely f → k ≡ length n.successors.items
+pub node_assigned : (nodes : List Node) (f u : ℕ) (n : Node) (assigned : Bool) (k : ℕ) (old new : List (ℕ × ℕ)) → assigned ≡ has_flag n.flags.surely f →
+    k ≡ length n.successors.items
     → (assigned ≡ false → n.returns ≡ true → ⊥)
     → Adds old new (AreRising nodes) (IsEdgeAmong nodes u assigned n.successors.items k) → Adds old new (AreRising nodes) (IsEdgeOf nodes f u n)
 node_assigned nodes f u n assigned k old new is full never added =
     adds_same old new (AreRising nodes) (IsEdgeAmong nodes u assigned n.successors.items k) (IsEdgeOf nodes f u n) added
     (among_edge nodes f u n assigned k is full)
-    (λ e edge. elim (edge_among nodes f u n assigned k is full e edge) as (λ _. IsEdgeAmong nodes u assigned n.successors.items k e) [ inl h ↦ h | inr h ↦ absurd (never h.0 h.1) ])
+    (λ e edge. elim (edge_among nodes f u n assigned k is full e edge) as
+    (λ _. IsEdgeAmong nodes u assigned n.successors.items k e) [ inl h ↦ h | inr h ↦ absurd (never h.0 h.1) ])
 
-pub node_returns : (nodes : List Node) (f u : ℕ) (n : Node) (assigned : Bool) (k : ℕ) (old new new' : List (ℕ × ℕ)) → assigned ≡ has_flag n.flags.surely f → k ≡ length n.successors.items
+pub node_returns : (nodes : List Node) (f u : ℕ) (n : Node) (assigned : Bool) (k : ℕ) (old new new' : List (ℕ × ℕ)) → assigned ≡ has_flag n.flags.surely f →
+    k ≡ length n.successors.items
     → assigned ≡ false → n.returns ≡ true → new' ≡ new ++ (length nodes, u) ∷ []
     → Adds old new (AreRising nodes) (IsEdgeAmong nodes u assigned n.successors.items k) → Adds old new' (AreRising nodes) (IsEdgeOf nodes f u n)
 node_returns nodes f u n assigned k old new new' is full free back e added =
     adds_item old new new' (AreRising nodes) (IsEdgeAmong nodes u assigned n.successors.items k) (IsEdgeOf nodes f u n) (Some (length nodes, u)) added e
     (among_edge nodes f u n assigned k is full) (by_exit (sym is ∙ free) back refl refl)
-    (λ sure x edge. elim (edge_among nodes f u n assigned k is full x edge) as (λ _. IsEdgeAmong nodes u assigned n.successors.items k x ⊎ (Some (length nodes, u) ≡ Some x)) [
+    (λ sure x edge. elim (edge_among nodes f u n assigned k is full x edge) as
+    (λ _. IsEdgeAmong nodes u assigned n.successors.items k x ⊎ (Some (length nodes, u) ≡ Some x)) [
       | inl h ↦ inl h
       | inr h ↦ inr (ap (λ (y : ℕ × ℕ). Some y) (pair_is x (length nodes) u h.2 h.3))
     ])
@@ -139,7 +156,8 @@ edges_none nodes f e (of u n low node edge) = omega arith
 edges_up : (nodes : List Node) (f k : ℕ) (e : ℕ × ℕ) → IsEdge nodes f k e → IsEdge nodes f (k + 1) e
 edges_up nodes f k e (of u n low node edge) = of u n (omega arith) node edge
 
-edges_last : (nodes : List Node) (f k : ℕ) (m : Node) → IsNodeAt nodes k m → (e : ℕ × ℕ) → IsEdge nodes f (k + 1) e → IsEdge nodes f k e ⊎ IsEdgeOf nodes f k m e
+edges_last : (nodes : List Node) (f k : ℕ) (m : Node) → IsNodeAt nodes k m → (e : ℕ × ℕ) → IsEdge nodes f (k + 1) e →
+    IsEdge nodes f k e ⊎ IsEdgeOf nodes f k m e
 edges_last nodes f k m here e (of u n low node edge) = elim (cases_lt u k) as (λ _. IsEdge nodes f k e ⊎ IsEdgeOf nodes f k m e) [
   | inl l ↦ inl (of u n l node edge)
   | inr r ↦
@@ -149,7 +167,8 @@ edges_last nodes f k m here e (of u n low node edge) = elim (cases_lt u k) as (�
 ]
 
 pub adds_node : (nodes : List Node) (f k : ℕ) (m : Node) (old mid new : List (ℕ × ℕ)) → IsNodeAt nodes k m
-    → Adds old mid (AreRising nodes) (IsEdge nodes f k) → Adds mid new (AreRising nodes) (IsEdgeOf nodes f k m) → Adds old new (AreRising nodes) (IsEdge nodes f (k + 1))
+    → Adds old mid (AreRising nodes) (IsEdge nodes f k) → Adds mid new (AreRising nodes) (IsEdgeOf nodes f k m) →
+    Adds old new (AreRising nodes) (IsEdge nodes f (k + 1))
 adds_node nodes f k m old mid new here one two =
     adds_both old mid new (AreRising nodes) (IsEdge nodes f k) (IsEdgeOf nodes f k m) (IsEdge nodes f (k + 1)) one two
     (edges_up nodes f k) (λ e edge. of k m (omega arith) here edge) (edges_last nodes f k m here)

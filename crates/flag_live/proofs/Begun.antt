@@ -41,7 +41,8 @@ ensured_has : (g : Graph) (f k : ℕ) (old : List ℕ) → k ≡ length g.nodes.
     → ((v : ℕ) → Contains old v ↔ IsStartBelow g.nodes.items f k v) → (v : ℕ) → IsStart g f v → Contains (old ++ length g.nodes.items ∷ []) v
 ensured_has g f k old full before v (at_node is) =
     Contains-append_left old (length g.nodes.items ∷ []) v ((before v).1 (subst (λ (i : ℕ). IsStartBelow g.nodes.items f i v) (sym full) is))
-ensured_has g f k old full before v (at_exit at ensured) = Contains-append_right old (length g.nodes.items ∷ []) v (option_has (Some (length g.nodes.items)) v (ap Some (sym at)))
+ensured_has g f k old full before v (at_exit at ensured) = Contains-append_right old (length g.nodes.items
+    ∷ []) v (option_has (Some (length g.nodes.items)) v (ap Some (sym at)))
 
 pub starts_ensured : (g : Graph) (f k : ℕ) (old new : List ℕ) → k ≡ length g.nodes.items → has_flag g.ensured f ≡ true → new ≡ old ++ length g.nodes.items ∷ []
     → ((v : ℕ) → Contains old v ↔ IsStartBelow g.nodes.items f k v) → (v : ℕ) → Contains new v ↔ IsStart g f v

@@ -44,7 +44,8 @@ node_address p g i n is at =
     (is.all n.at).0 (i, omega (arith, counted), get_or-map (λ (m : Node). m.at) g.nodes.items i n n.at w ∙ ap (λ (m : Node). m.at) at.is)
 
 -- successors of nodes and of addresses
-pub successor_has : (p : Program) (n : Node) (j : ℕ) (d : Successor) → IsNode p n → j < length n.successors.items → Contains (successors_at p n.at) (successor_of (get_or n.successors.items j d))
+pub successor_has : (p : Program) (n : Node) (j : ℕ) (d : Successor) → IsNode p n → j < length n.successors.items →
+    Contains (successors_at p n.at) (successor_of (get_or n.successors.items j d))
 successor_has p n j d is w =
     subst (λ (xs : List graph.Successor). Contains xs (successor_of (get_or n.successors.items j d))) is.successors
     (let counted = length-map n.successors.items successor_of in

@@ -23,19 +23,22 @@ use Rattle.flag_live.proofs.Located.{node_is}
 use Rattle.flag_live.proofs.Readings.{reads_are, live_is}
 
 -- the marks of what is reached over sorted edges
-pub readers_are : (p : Program) (g : Graph) (f : ℕ) (nodes : List Node) (edges moved edges' : List (ℕ × ℕ)) (starts starts' : List ℕ) (count : ℕ) (marked : List Bool)
+pub readers_are : (p : Program) (g : Graph) (f : ℕ) (nodes : List Node) (edges moved edges' : List (ℕ ×
+    ℕ)) (starts starts' : List ℕ) (count : ℕ) (marked : List Bool)
     → f < 4 → nodes ≡ g.nodes.items → edges' ≡ moved → starts' ≡ starts → count ≡ length g.nodes.items
     → ((e : ℕ × ℕ) → Contains edges e → IsEdge nodes f (length nodes) e) → (AreRising nodes → (e : ℕ × ℕ) → IsEdge nodes f (length nodes) e → Contains edges e)
     → IsPermutation edges moved → ((v : ℕ) → Contains starts v ↔ IsStart g f v) → ((v : ℕ) → IsMarked marked v ↔ Reaches (count + 1) edges' starts' v)
     → IsGraph p g → AreReads p g f marked
 readers_are p g f nodes edges moved edges' starts starts' count marked few en ee es ec found all is_moved begun reaches is =
     reads_are p g f moved starts marked few is
-    (λ e has. subst (λ (xs : List Node). IsEdge xs f (length xs) e) en (found e (Contains-permutation moved edges e (IsPermutation-sym edges moved is_moved) has)))
+    (λ e has. subst (λ (xs : List Node). IsEdge xs f (length xs) e) en
+    (found e (Contains-permutation moved edges e (IsPermutation-sym edges moved is_moved) has)))
     (λ e edge. Contains-permutation edges moved e is_moved
     (all (subst (λ (xs : List Node). AreRising xs) (sym en) is.rising) e (subst (λ (xs : List Node). IsEdge xs f (length xs) e) (sym en) edge)))
     begun
     (λ v. subst (λ (n : ℕ). IsMarked marked v ↔ Reaches (n + 1) moved starts v) ec
-    (subst (λ (xs : List ℕ). IsMarked marked v ↔ Reaches (count + 1) moved xs v) es (subst (λ (xs : List (ℕ × ℕ)). IsMarked marked v ↔ Reaches (count + 1) xs starts' v) ee (reaches v))))
+    (subst (λ (xs : List ℕ). IsMarked marked v ↔ Reaches (count + 1) moved xs v) es (subst (λ (xs : List (ℕ × ℕ)). IsMarked marked v ↔
+    Reaches (count + 1) xs starts' v) ee (reaches v))))
 
 -- where no successor leads on, the exit does
 pub on_by_exit : (nodes : List Node) (marked : List Bool) (n : Node) (items : List Successor) (i : ℕ) → items ≡ n.successors.items → length items ≤ i
@@ -53,19 +56,23 @@ pub live_more : (nodes : List Node) (marked : List Bool) (f k : ℕ) (live new :
     → AreLiveBelow nodes marked f (k + 1) new
 live_more nodes marked f k live new b m here e before found only =
     let count = before.count in
-    let last : (i : ℕ) → i ≡ k → get_or new i false ≡ b = λ i same. ap (λ (xs : List Bool). get_or xs i false) e ∙ get_or_push live b false i (count ∙ sym same) in
-    let rest : (i : ℕ) → i < k → get_or new i false ≡ get_or live i false = λ i l. ap (λ (xs : List Bool). get_or xs i false) e ∙ get_or_append_left live (b ∷ []) false i (omega arith) in
+    let last : (i : ℕ) → i ≡ k → get_or new i false ≡ b = λ i same. ap
+    (λ (xs : List Bool). get_or xs i false) e ∙ get_or_push live b false i (count ∙ sym same) in
+    let rest : (i : ℕ) → i < k → get_or new i false ≡ get_or live i false = λ i l. ap
+    (λ (xs : List Bool). get_or xs i false) e ∙ get_or_append_left live (b ∷ []) false i (omega arith) in
     record {
       count = ap (λ (xs : List Bool). length xs) e ∙ length_push live b ∙ ap (λ (n : ℕ). n + 1) count;
       found = λ i n w at marks. elim (cases_lt i k) as (λ _. IsLiveNode nodes marked f n) [
         | inl l ↦ before.found i n l at (sym (rest i l) ∙ marks)
         | inr r ↦ (let same : i ≡ k = omega arith in
-            subst (λ (x : Node). IsLiveNode nodes marked f x) (node_is nodes k m n here (subst (λ (j : ℕ). IsNodeAt nodes j n) same at)) (found (sym (last i same) ∙ marks)))
+            subst (λ (x : Node). IsLiveNode nodes marked f x) (node_is nodes k m n here (subst (λ (j : ℕ). IsNodeAt nodes j n) same at))
+            (found (sym (last i same) ∙ marks)))
       ];
       only = λ rising i n w at lives. elim (cases_lt i k) as (λ _. get_or new i false ≡ true) [
         | inl l ↦ rest i l ∙ before.only rising i n l at lives
         | inr r ↦ (let same : i ≡ k = omega arith in
-            last i same ∙ only rising (subst (λ (x : Node). IsLiveNode nodes marked f x) (node_is nodes k n m (subst (λ (j : ℕ). IsNodeAt nodes j n) same at) here) lives))
+            last i same ∙ only rising (subst (λ (x : Node). IsLiveNode nodes marked f x) (node_is nodes k n m (subst
+            (λ (j : ℕ). IsNodeAt nodes j n) same at) here) lives))
       ];
     }
 

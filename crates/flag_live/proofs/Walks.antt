@@ -35,14 +35,16 @@ marked_below marked v is = elim (cases_lt v (length marked)) as (λ _. v < lengt
 -- a mark stays under another
 pub set_kept : (marked : List Bool) (i v : ℕ) → IsMarked marked v → IsMarked (set marked i true) v
 set_kept marked i v is = elim (cases_eq v i) as (λ _. IsMarked (set marked i true) v) [
-  | inl e ↦ (let less = marked_below marked v is in let here : i < length marked = omega arith in subst (λ (x : ℕ). IsMarked (set marked i true) x) (sym e) (get_or-set_same marked i true false here))
+  | inl e ↦ (let less = marked_below marked v is in let here : i
+      < length marked = omega arith in subst (λ (x : ℕ). IsMarked (set marked i true) x) (sym e) (get_or-set_same marked i true false here))
   | inr ne ↦ get_or-set_other marked i v true false ne ∙ is
 ]
 
 pub extends_same : (marked : List Bool) (queue : List ℕ) → Extends marked queue marked queue
 extends_same marked queue = record { size = refl; kept = λ v is. is; longer = omega arith; before = λ k d w. refl }
 
-pub extends_more : (m : List Bool) (q : List ℕ) (m1 : List Bool) (q1 : List ℕ) (m2 : List Bool) (q2 : List ℕ) → Extends m q m1 q1 → Extends m1 q1 m2 q2 → Extends m q m2 q2
+pub extends_more : (m : List Bool) (q : List ℕ) (m1 : List Bool) (q1 : List ℕ) (m2 : List Bool) (q2 : List ℕ) → Extends m q m1 q1 → Extends m1 q1 m2 q2 →
+    Extends m q m2 q2
 extends_more m q m1 q1 m2 q2 one two =
     let longer = one.longer in
     record {
@@ -53,7 +55,8 @@ extends_more m q m1 q1 m2 q2 one two =
     }
 
 pub mark_extends : (m : List Bool) (q : List ℕ) (v : ℕ) (m' : List Bool) (q' : List ℕ) → IsMark m q v m' q' → Extends m q m' q'
-mark_extends m q v m' q' (same known em eq) = subst (λ (x : List Bool). Extends m q x q') (sym em) (subst (λ (x : List ℕ). Extends m q m x) (sym eq) (extends_same m q))
+mark_extends m q v m' q' (same known em eq) = subst (λ (x : List Bool). Extends m q x q') (sym em) (subst
+    (λ (x : List ℕ). Extends m q m x) (sym eq) (extends_same m q))
 mark_extends m q v m' q' (more less free em eq) =
     let pushed = length_push q v in
     subst (λ (x : List Bool). Extends m q x q') (sym em)
@@ -110,7 +113,8 @@ count_none [] none = refl
 count_none (true ∷ xs) none = (let bad : true ≡ false = none 0 (omega arith) in cc)
 count_none (false ∷ xs) none = (let rest = count_none xs (λ k w. none (suc k) (omega arith)) in omega (arith, rest))
 
-walk_begins : (edges : List (ℕ × ℕ)) (starts : List ℕ) (marked : List Bool) → ((k : ℕ) → k < length marked → get_or marked k false ≡ false) → IsWalk edges starts marked []
+walk_begins : (edges : List (ℕ × ℕ)) (starts : List ℕ) (marked : List Bool) → ((k : ℕ) → k < length marked → get_or marked k false ≡ false) →
+    IsWalk edges starts marked []
 walk_begins edges starts marked none = record {
   once = sym (count_none marked none);
   queued = λ v is. absurd (no_mark marked v none is);
@@ -132,7 +136,8 @@ pub queue_short : (edges : List (ℕ × ℕ)) (starts : List ℕ) (m : List Bool
 queue_short edges starts m q is = let e = is.once in omega (arith, count_short m)
 
 -- what was followed from a vertex of the queue is followed from all before it
-pub followed_more : (edges : List (ℕ × ℕ)) (m : List Bool) (q : List ℕ) (m' : List Bool) (q' : List ℕ) (n v : ℕ) → n < length q → v ≡ get_or q n v → Extends m q m' q'
+pub followed_more : (edges : List (ℕ × ℕ)) (m : List Bool) (q : List ℕ) (m' : List Bool) (q' : List ℕ) (n v : ℕ) → n < length q → v ≡ get_or q n v →
+    Extends m q m' q'
     → IsFollowed edges m q n → ((to : ℕ) → Contains edges (v, to) → to < length m → IsMarked m' to) → IsFollowed edges m' q' (n + 1)
 followed_more edges m q m' q' n v less at one done led k d to w has below =
     let size = one.size in
@@ -193,7 +198,8 @@ begun_more starts i n m m' d w before kept here k e high less =
     ]
 
 -- a start of a list is one that is reached
-pub start_reached : (edges : List (ℕ × ℕ)) (starts : List ℕ) (n i d : ℕ) → i < length starts → get_or starts i d < n → Reaches n edges starts (get_or starts i d)
+pub start_reached : (edges : List (ℕ × ℕ)) (starts : List ℕ) (n i d : ℕ) → i < length starts → get_or starts i d < n →
+    Reaches n edges starts (get_or starts i d)
 start_reached edges starts n i d w less = start less (Contains-get_or starts i d w)
 
 -- once all of the queue is followed, marked are those that are reached
@@ -205,7 +211,8 @@ all_marked edges starts m q n is all begun done v (along {u = u} there less led)
     let within = at.1 in
     done at.0 u v (omega arith) (subst (λ (x : ℕ). Contains edges (x, v)) (sym at.2) led) less
 
-pub marked_reached : (edges : List (ℕ × ℕ)) (starts : List ℕ) (m : List Bool) (q : List ℕ) → IsWalk edges starts m q → (v : ℕ) → IsMarked m v → Reaches (length m) edges starts v
+pub marked_reached : (edges : List (ℕ × ℕ)) (starts : List ℕ) (m : List Bool) (q : List ℕ) → IsWalk edges starts m q → (v : ℕ) → IsMarked m v →
+    Reaches (length m) edges starts v
 marked_reached edges starts m q is v marked = let at = is.queued v marked in subst (λ (x : ℕ). Reaches (length m) edges starts x) at.2 (is.reached at.0 v at.1)
 
 pub reach_is : (edges : List (ℕ × ℕ)) (starts : List ℕ) (m : List Bool) (q : List ℕ) (count n : ℕ) → length m ≡ count → IsWalk edges starts m q → length q ≤ n

@@ -18,7 +18,8 @@ count_marked (b ∷ bs) = (if b then 1 else 0) + count_marked bs
 -- a vertex was marked and queued, unless it was marked before or is none
 pub data IsMark (marked : List Bool) (queue : List ℕ) (v : ℕ) (marked' : List Bool) (queue' : List ℕ) : Type 0 where
   same : (length marked ≤ v) ⊎ IsMarked marked v → marked' ≡ marked → queue' ≡ queue → IsMark marked queue v marked' queue'
-  more : v < length marked → slice_index_or marked v false ≡ false → marked' ≡ slice_set marked v true → queue' ≡ queue ++ v ∷ [] → IsMark marked queue v marked' queue'
+  more : v < length marked → slice_index_or marked v false ≡ false → marked' ≡ slice_set marked v true → queue' ≡ queue ++ v ∷ [] →
+      IsMark marked queue v marked' queue'
 
 -- what was marked stays, and the queue only grows
 pub record Extends (marked : List Bool) (queue : List ℕ) (marked' : List Bool) (queue' : List ℕ) : Type 0 where

@@ -23,8 +23,8 @@ fn add<T: Drop>(list: &mut Vec<T>, item: Option<T>) -> Result<(), AllocError>
     }
 }
 
-/// The edge by a successor of the node at a place: the flag is read from the node on if it is read from the successor on and the node does not surely assign it;
-/// and it is read after a return if it is read behind a call.
+/// The edge by a successor of the node at a place: the flag is read from the node on if it is read from the successor on and the node does not surely assign
+/// it; and it is read after a return if it is read behind a call.
 fn edge_by(
     nodes: &[Node],
     from: usize,

@@ -33,7 +33,8 @@ fn set_of(negative: bool, zero: bool, carry: bool, overflow: bool) -> u8
 
 /// The flags whose assignment at a place is live.
 fn keeps_at(lives: &Lives, i: usize) -> u8
-    ensures { IsSetOf result (slice_index_or lives.now.negative.items i false) (slice_index_or lives.now.zero.items i false) (slice_index_or lives.now.carry.items i false) (slice_index_or lives.now.overflow.items i false) }
+    ensures { IsSetOf result (slice_index_or lives.now.negative.items i false) (slice_index_or lives.now.zero.items i false)
+        (slice_index_or lives.now.carry.items i false) (slice_index_or lives.now.overflow.items i false) }
 {
     let negative = is_marked(&lives.negative, i);
     let zero = is_marked(&lives.zero, i);

@@ -53,7 +53,9 @@ fn follow(marks: &mut Marks, edges: &[(usize, usize)], vertex: usize) -> Result<
     requires { IsNonDecreasingBy (λ e. e.0) edges.now }
     ensures extends { IfOk result (λ _. Extends marks.old.marked.items marks.old.queue.items marks.new.marked.items marks.new.queue.items) }
     ensures led { (to : ℕ) → Contains edges.now (vertex, to) → to < length marks.old.marked.items → IfOk result (λ _. IsMarked marks.new.marked.items to) }
-    ensures walk { (starts : List ℕ) → IsWalk edges.now starts marks.old.marked.items marks.old.queue.items → Reaches (length marks.old.marked.items) edges.now starts vertex → IfOk result (λ _. IsWalk edges.now starts marks.new.marked.items marks.new.queue.items) }
+    ensures walk { (starts : List ℕ) → IsWalk edges.now starts marks.old.marked.items marks.old.queue.items →
+        Reaches (length marks.old.marked.items) edges.now starts vertex →
+        IfOk result (λ _. IsWalk edges.now starts marks.new.marked.items marks.new.queue.items) }
 {
     let first = first_from(edges, vertex);
     let above = first_above(edges, vertex);
@@ -63,8 +65,8 @@ fn follow(marks: &mut Marks, edges: &[(usize, usize)], vertex: usize) -> Result<
     Ok(())
 }
 
-/// Which of the vertices below `count` are reached: the starts below it, and each vertex below it to which an edge leads from one that is reached. The edges stand by
-/// rising first vertices. Each vertex is followed at most once.
+/// Which of the vertices below `count` are reached: the starts below it, and each vertex below it to which an edge leads from one that is reached. The edges
+/// stand by rising first vertices. Each vertex is followed at most once.
 ///
 /// # Errors
 ///

@@ -58,7 +58,8 @@ flag_only k flag set e p small = record {
       ];
 }
 
-pub asserts_more : (asserts : List Assert) (index : List (ℕ × ℕ)) (at low high i set more : ℕ) (x : Assert) → ArePlacesOf (assert_places asserts) index at low high → low ≤ i → i < high
+pub asserts_more : (asserts : List Assert) (index : List (ℕ × ℕ)) (at low high i set more : ℕ) (x : Assert) →
+    ArePlacesOf (assert_places asserts) index at low high → low ≤ i → i < high
     → IsFlagSet more (λ f. names_flag f (expr_of (get_or asserts (get_or index i (0, 0)).1 x).says))
     → IsFlagSet set (λ f. any_within (hits (λ x. names_flag f (expr_of x.says)) asserts index) low (i - low))
     → IsFlagSet (bit_or set more) (λ f. any_within (hits (λ x. names_flag f (expr_of x.says)) asserts index) low (i + 1 - low))
@@ -72,7 +73,8 @@ asserts_more asserts index at low high i set more x group le lt here so_far =
     (flags_or set more (λ f. any_within (hits (λ y. names_flag f (expr_of y.says)) asserts index) low (i - low))
     (λ f. names_flag f (expr_of (get_or asserts (get_or index i (0, 0)).1 x).says)) so_far here)
 
-pub asserts_all : (asserts : List Assert) (index : List (ℕ × ℕ)) (at low high i set : ℕ) → ArePlacesOf (assert_places asserts) index at low high → low ≤ high → i ≡ high
+pub asserts_all : (asserts : List Assert) (index : List (ℕ × ℕ)) (at low high i set : ℕ) → ArePlacesOf (assert_places asserts) index at low high → low ≤ high →
+    i ≡ high
     → IsFlagSet set (λ f. any_within (hits (λ x. names_flag f (expr_of x.says)) asserts index) low (i - low))
     → IsFlagSet set (λ f. list_any (λ x. (x.at == at) && names_flag f x.says) (map assert_of asserts))
 asserts_all asserts index at low high i set group le end is =

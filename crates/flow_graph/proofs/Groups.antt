@@ -64,7 +64,8 @@ module _ {X : Type 0} (f : X → ℕ) (h : X → Bool) (at : ℕ) where
   at_both true c p = (refl, p)
   at_both false c p = absurd (cc)
 
-  from_any : (xs : List X) → list_any (λ x. (f x == at) && h x) xs ≡ true → (k : ℕ) × (k < length xs) × (get_or (map f xs) k 0 ≡ at) × (get_or (map h xs) k false ≡ true)
+  from_any : (xs : List X) → list_any (λ x. (f x == at) && h x) xs ≡ true → (k : ℕ) × (k < length xs) × (get_or (map f xs) k 0 ≡ at) ×
+      (get_or (map h xs) k false ≡ true)
   from_any [] p = absurd (cc)
   from_any (x ∷ xs) p = elim (or_cases ((f x == at) && h x) (list_any (λ y. (f y == at) && h y) xs) p) [
     | inl q ↦ (let both = at_both (f x == at) (h x) q in (zero, omega arith, eqb-true (f x) at both.0, both.1))
@@ -98,7 +99,9 @@ targets_any test at (t ∷ rest) =
     ∙ choice (t.at == at)
     ∙ sym (list_any-append test (if t.at == at then t.to.items else []) (targets_at (map targets_of rest) at))
   where
-    choice : (b : Bool) → ((b && list_any test t.to.items) || list_any test (targets_at (map targets_of rest) at)) ≡ (list_any test (if b then t.to.items else []) || list_any test (targets_at (map targets_of rest) at))
+    choice : (b : Bool) → ((b && list_any test t.to.items) ||
+        list_any test (targets_at (map targets_of rest) at)) ≡ (list_any test (if b then t.to.items else []) ||
+        list_any test (targets_at (map targets_of rest) at))
     choice true = refl
     choice false = refl
 
@@ -106,7 +109,8 @@ targets_any test at (t ∷ rest) =
 pub record Listed (targets : List Targets) (index : List (ℕ × ℕ)) (low i : ℕ) (found : List ℕ) : Type 0 where
   pub any : (test : ℕ → Bool) → list_any test found ≡ any_within (hits (λ t. list_any test t.to.items) targets index) low (i - low)
 
-pub listed_more : (targets : List Targets) (index : List (ℕ × ℕ)) (at low high i : ℕ) (found new : List ℕ) (t : Targets) → ArePlacesOf (targets_places targets) index at low high → low ≤ i → i < high
+pub listed_more : (targets : List Targets) (index : List (ℕ × ℕ)) (at low high i : ℕ) (found new : List ℕ) (t : Targets) →
+    ArePlacesOf (targets_places targets) index at low high → low ≤ i → i < high
     → new ≡ found ++ (get_or targets (get_or index i (0, 0)).1 t).to.items → Listed targets index low i found → Listed targets index low (i + 1) new
 listed_more targets index at low high i found new t group le lt grown so_far = record {
   any = λ test.
@@ -119,7 +123,8 @@ listed_more targets index at low high i found new t group le lt grown so_far = r
 }
 
 -- when all places of the group are through, they are those that the notes list
-pub listed_all : (targets : List Targets) (index : List (ℕ × ℕ)) (at low high i : ℕ) (found : List ℕ) → ArePlacesOf (targets_places targets) index at low high → low ≤ high → i ≡ high
+pub listed_all : (targets : List Targets) (index : List (ℕ × ℕ)) (at low high i : ℕ) (found : List ℕ) → ArePlacesOf (targets_places targets) index at low high →
+    low ≤ high → i ≡ high
     → Listed targets index low i found → IsSameSet found (targets_at (map targets_of targets) at)
 listed_all targets index at low high i found group le end so_far = record {
   any = λ test.

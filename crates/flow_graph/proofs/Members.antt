@@ -50,14 +50,16 @@ maps g f (x ∷ xs) = ap (λ l. g (f x) ∷ l) (maps g f xs)
 pub map_filter : {X Y : Type 0} (f : X → Y) (q : Y → Bool) (xs : List X) → map f (filter (λ x. q (f x)) xs) ≡ filter q (map f xs)
 map_filter f q [] = refl
 map_filter f q (x ∷ xs) =
-    elim (q (f x)) as (λ b. map f (if b then x ∷ filter (λ y. q (f y)) xs else filter (λ y. q (f y)) xs) ≡ (if b then f x ∷ filter q (map f xs) else filter q (map f xs)))
+    elim (q (f x)) as (λ b. map f (if b then x ∷ filter (λ y. q (f y)) xs else filter (λ y. q (f y)) xs)
+    ≡ (if b then f x ∷ filter q (map f xs) else filter q (map f xs)))
     [ true ↦ ap (λ l. f x ∷ l) (map_filter f q xs) | false ↦ map_filter f q xs ]
 
 -- tests that pass the same elements do so behind a filter
 pub any_filter : {X : Type 0} (test keep : X → Bool) (xs : List X) → list_any test (filter keep xs) ≡ list_any (λ x. if keep x then test x else false) xs
 any_filter test keep [] = refl
 any_filter test keep (x ∷ xs) =
-    elim (keep x) as (λ b. list_any test (if b then x ∷ filter keep xs else filter keep xs) ≡ ((if b then test x else false) || list_any (λ y. if keep y then test y else false) xs))
+    elim (keep x) as (λ b. list_any test (if b then x ∷ filter keep xs else filter keep xs) ≡ ((if b then test x else false) ||
+    list_any (λ y. if keep y then test y else false) xs))
     [ true ↦ ap (λ b. test x || b) (any_filter test keep xs) | false ↦ any_filter test keep xs ]
 
 pub head_in : (y : ℕ) (ys : List ℕ) → list_any (nat_eq y) (y ∷ ys) ≡ true

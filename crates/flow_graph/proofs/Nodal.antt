@@ -29,7 +29,8 @@ same_as xs ys e = record { any = λ test. ap (list_any test) e }
 same_append : {X : Type 0} (us bs xs ys : List X) → IsSameSet us xs → IsSameSet bs ys → IsSameSet (us ++ bs) (xs ++ ys)
 same_append us bs xs ys s t = record {
   any = λ test.
-      list_any-append test us bs ∙ ap (λ b. b || list_any test bs) (s.any test) ∙ ap (λ b. list_any test xs || b) (t.any test) ∙ sym (list_any-append test xs ys);
+      list_any-append test us bs ∙ ap (λ b. b || list_any test bs) (s.any test) ∙ ap (λ b. list_any test xs ||
+      b) (t.any test) ∙ sym (list_any-append test xs ys);
 }
 
 same_map : {X Y : Type 0} (f : X → Y) (b : Bool) (xs ys : List X) → IsSameSet xs (if b then ys else []) → IsSameSet (map f xs) (if b then map f ys else [])
@@ -40,7 +41,8 @@ letters : (b : Bool) (l : Letter) → l ≡ (if b then letter.Call else letter.J
 letters true l e = ap letter_of e
 letters false l e = ap letter_of e
 
-one_of : (b : Bool) (l : graph.Letter) (a to : ℕ) (o : Option ℕ) → o ≡ then_some b to → to ≡ a → map (graph.successor l) (run.some_of o) ≡ (if b then graph.successor l a ∷ [] else [])
+one_of : (b : Bool) (l : graph.Letter) (a to : ℕ) (o : Option ℕ) → o ≡ then_some b to → to ≡ a →
+    map (graph.successor l) (run.some_of o) ≡ (if b then graph.successor l a ∷ [] else [])
 one_of true l a to o e f = ap (λ x. map (graph.successor l) (run.some_of x)) e ∙ ap (λ t. graph.successor l t ∷ []) f
 one_of false l a to o e f = ap (λ x. map (graph.successor l) (run.some_of x)) e
 
@@ -61,9 +63,12 @@ module _ (p : run.Program) (at : ℕ) (row : table.Row) (ways : Succ) where
       let jump : letter_of l ≡ (if ways.call then graph.CallLetter else graph.JumpLetter) = letters ways.call l is_letter in
       let first = if ways.next then graph.successor graph.NextLetter (add 32 at row.length) ∷ [] else [] in
       let direct = map (graph.successor (if ways.call then graph.CallLetter else graph.JumpLetter)) (run.some_of ways.direct) in
-      let indirect = if ways.indirect then map (graph.successor (if ways.call then graph.CallLetter else graph.JumpLetter)) (run.named p (file_word p) row at) else [] in
+      let indirect = if ways.indirect then map (graph.successor (if ways.call then graph.CallLetter else graph.JumpLetter)) (run.named p (file_word p) row at)
+      else [] in
       let last = if ways.call then graph.successor graph.ReturnLetter (add 32 at row.length) ∷ [] else [] in
-      let s1 : IsSameSet one first = same_as one first (e1 ∙ ap (λ xs. xs ++ map (graph.successor graph.NextLetter) (run.some_of on)) e0 ∙ one_of ways.next graph.NextLetter (add 32 at row.length) behind on is_on next) in
+      let s1 : IsSameSet one first = same_as one first (e1 ∙ ap
+      (λ xs. xs ++ map (graph.successor graph.NextLetter) (run.some_of on)) e0 ∙ one_of ways.next graph.NextLetter
+      (add 32 at row.length) behind on is_on next) in
       let s2 : IsSameSet two (first ++ direct) =
       subst (λ xs. IsSameSet xs (first ++ direct)) (sym e2)
       (same_append one (map (graph.successor (letter_of l)) (run.some_of ways.direct)) first direct s1
@@ -72,11 +77,13 @@ module _ (p : run.Program) (at : ℕ) (row : table.Row) (ways : Succ) where
       subst (λ xs. IsSameSet xs (first ++ direct ++ indirect)) (sym e3)
       (same_append two (map (graph.successor (letter_of l)) targets) (first ++ direct) indirect s2
       (subst
-      (λ x. IsSameSet (map (graph.successor (letter_of l)) targets) (if ways.indirect then map (graph.successor x) (run.named p (file_word p) row at) else [])) jump
+      (λ x. IsSameSet (map (graph.successor (letter_of l)) targets) (if ways.indirect then map (graph.successor x) (run.named p (file_word p) row at)
+      else [])) jump
       (same_map (graph.successor (letter_of l)) ways.indirect targets (run.named p (file_word p) row at) set))) in
       subst (λ xs. IsSameSet xs (first ++ direct ++ indirect ++ last)) (sym e4)
       (same_append three (map (graph.successor graph.ReturnLetter) (run.some_of back)) (first ++ direct ++ indirect) last s3
-      (same_as (map (graph.successor graph.ReturnLetter) (run.some_of back)) last (one_of ways.call graph.ReturnLetter (add 32 at row.length) behind back is_back next)))
+      (same_as (map (graph.successor graph.ReturnLetter) (run.some_of back)) last
+      (one_of ways.call graph.ReturnLetter (add 32 at row.length) behind back is_back next)))
 
 -- the same successors are the same in order
 pub sort_same : (keep : graph.Successor → Bool) (xs ys : List graph.Successor) → IsSameSet xs ys → graph.sort (filter keep xs) ≡ graph.sort (filter keep ys)
@@ -95,7 +102,8 @@ asserted_is p a set asserts lines e is flags =
     flags_as set _ _ (λ f. ap (λ xs. list_any (λ x. (x.at == a) && names_flag f x.says) xs) (ap (map assert_of) e ∙ sym is)) flags
 
 -- the node of an address without a row
-pub no_row : (p : run.Program) (n : Node) → None ≡ file_row p n.at → n.fetchable ≡ run.fetchable p n.at → n.word ≡ None → n.successors.items ≡ [] → n.returns ≡ false
+pub no_row : (p : run.Program) (n : Node) → None ≡ file_row p n.at → n.fetchable ≡ run.fetchable p n.at → n.word ≡ None → n.successors.items ≡ [] →
+    n.returns ≡ false
     → n.flags ≡ record { reads = 0; assigns = 0; surely = 15 } → IsFlagSet n.asserted (λ f. asserts_flag p f n.at) → IsNode p n
 no_row p n none fetchable word successors returns flags asserted = record {
   fetchable = fetchable;
@@ -112,8 +120,10 @@ no_row p n none fetchable word successors returns flags asserted = record {
 }
 
 -- the node of an address with a row
-pub with_row : (p : run.Program) (n : Node) (row : table.Row) (ways : Succ) → Some row ≡ file_row p n.at → n.fetchable ≡ run.fetchable p n.at → n.word ≡ Some (file_word p n.at)
-    → successors_of n ≡ graph.sort (graph.successors_by p n.at (Some row)) → facts.successors_of ways ≡ row.successors n.at → n.returns ≡ (ways.indirect && not ways.call)
+pub with_row : (p : run.Program) (n : Node) (row : table.Row) (ways : Succ) → Some row ≡ file_row p n.at → n.fetchable ≡ run.fetchable p n.at →
+    n.word ≡ Some (file_word p n.at)
+    → successors_of n ≡ graph.sort (graph.successors_by p n.at (Some row)) → facts.successors_of ways ≡ row.successors n.at →
+    n.returns ≡ (ways.indirect && not ways.call)
     → facts.IsFlagUse n.flags row.flags → IsFlagSet n.asserted (λ f. asserts_flag p f n.at) → IsNode p n
 with_row p n row ways here fetchable word successors ways_are returns flags asserted = record {
   fetchable = fetchable;

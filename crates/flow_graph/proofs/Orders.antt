@@ -84,7 +84,8 @@ places_tell (x ∷ xs) (y ∷ ys) e =
 number_less : (a b l m : ℕ) → l < 4 → m < 4 → (nat_lt a b || ((a == b) && nat_lt l m)) ≡ true → a * 4 + l < b * 4 + m
 number_less a b l m s t h = grind (arith, nat_tests)
 
-number_same : (a b l m : ℕ) → l < 4 → m < 4 → (nat_lt a b || ((a == b) && nat_lt l m)) ≡ false → (nat_lt b a || ((b == a) && nat_lt m l)) ≡ false → a * 4 + l ≡ b * 4 + m
+number_same : (a b l m : ℕ) → l < 4 → m < 4 → (nat_lt a b || ((a == b) && nat_lt l m)) ≡ false → (nat_lt b a || ((b == a) && nat_lt m l)) ≡ false →
+    a * 4 + l ≡ b * 4 + m
 number_same a b l m s t h k = grind (arith, nat_tests)
 
 place_less : (x y : graph.Successor) → comes_before x y ≡ true → place x < place y
@@ -137,7 +138,8 @@ rises_chosen false false x y ys rest less more r s m = r
 rises_insert : (x : graph.Successor) (ys : List graph.Successor) → Rises (map place ys) → Rises (map place (graph.insert x ys))
 rises_insert x [] r = (λ z h. absurd (cc), r)
 rises_insert x (y ∷ ys) r =
-    rises_chosen (comes_before x y) (comes_before y x) x y ys (graph.insert x ys) (place_less x y) (place_less y x) r (rises_insert x ys r.1) (λ n. any_insert n x ys)
+    rises_chosen (comes_before x y) (comes_before y x) x y ys (graph.insert x ys) (place_less x y) (place_less y x) r (rises_insert x ys r.1)
+    (λ n. any_insert n x ys)
 
 pub rises_sort : (xs : List graph.Successor) → Rises (map place (graph.sort xs))
 rises_sort [] = tt
@@ -149,7 +151,8 @@ module _ {X : Type 0} (key : X → ℕ) where
   map_dedup_from x [] = refl
   map_dedup_from x (y ∷ ys) =
       elim (key y == key x)
-      as (λ b. map key (if b then dedup_from (λ p q. key p == key q) x ys else x ∷ dedup_from (λ p q. key p == key q) y ys) ≡ (if b then dedup_from nat_eq (key x) (map key ys) else key x ∷ dedup_from nat_eq (key y) (map key ys)))
+      as (λ b. map key (if b then dedup_from (λ p q. key p == key q) x ys else x ∷ dedup_from (λ p q. key p == key q) y ys)
+      ≡ (if b then dedup_from nat_eq (key x) (map key ys) else key x ∷ dedup_from nat_eq (key y) (map key ys)))
       [ true ↦ map_dedup_from x ys | false ↦ ap (λ l. key x ∷ l) (map_dedup_from y ys) ]
 
   map_dedup : (xs : List X) → map key (dedup (λ p q. key p == key q) xs) ≡ dedup nat_eq (map key xs)
@@ -199,7 +202,8 @@ rises_dedup : (xs : List ℕ) → Climbs xs → Rises (dedup nat_eq xs)
 rises_dedup [] c = tt
 rises_dedup (x ∷ xs) c = rises_dedup_from x xs c
 
-above_first : {X : Type 0} (key : X → ℕ) (x : X) (xs : List X) → ((k : ℕ) → k < length xs → key x ≤ key (get_or xs k x)) → (y : ℕ) → list_any (nat_eq y) (map key xs) ≡ true → key x ≤ y
+above_first : {X : Type 0} (key : X → ℕ) (x : X) (xs : List X) → ((k : ℕ) → k < length xs → key x ≤ key (get_or xs k x)) → (y : ℕ) →
+    list_any (nat_eq y) (map key xs) ≡ true → key x ≤ y
 above_first key x [] up y h = absurd (cc)
 above_first key x (z ∷ xs) up y h =
     elim (in_cases y (key z) (map key xs) h) [
@@ -221,10 +225,13 @@ pub ordered_is : (found kept moved left : List Successor) → kept ≡ filter (�
     → map successor_of left ≡ graph.sort (filter (λ s. s.to % 4 == 0) (map successor_of found))
 ordered_is found kept moved left is_kept permutation up is_left =
     let all = filter (λ s. s.to % 4 == 0) (map successor_of found) in
-    let numbers : map place (map successor_of left) ≡ dedup nat_eq (map number moved) = maps place successor_of left ∙ ap (map number) is_left ∙ map_dedup number moved in
-    let kept_is : map number kept ≡ map place all = sym (maps place successor_of kept) ∙ ap (λ l. map place (map successor_of l)) is_kept ∙ ap (map place) (map_filter successor_of (λ s. s.to % 4 == 0) found) in
+    let numbers : map place (map successor_of left) ≡ dedup nat_eq (map number moved) = maps place successor_of left ∙ ap
+    (map number) is_left ∙ map_dedup number moved in
+    let kept_is : map number kept ≡ map place all = sym (maps place successor_of kept) ∙ ap
+    (λ l. map place (map successor_of l)) is_kept ∙ ap (map place) (map_filter successor_of (λ s. s.to % 4 == 0) found) in
     places_tell (map successor_of left) (graph.sort all)
-    (unique (map place (map successor_of left)) (map place (graph.sort all)) (subst Rises (sym numbers) (rises_dedup (map number moved) (climbs number moved up))) (rises_sort all)
+    (unique (map place (map successor_of left)) (map place (graph.sort all))
+    (subst Rises (sym numbers) (rises_dedup (map number moved) (climbs number moved up))) (rises_sort all)
     (λ z.
     ap (list_any (nat_eq z)) numbers ∙ any_dedup z (map number moved) ∙ any_map (nat_eq z) number moved
     ∙ sym (list_any-IsPermutation (λ s. nat_eq z (number s)) kept moved permutation) ∙ sym (any_map (nat_eq z) number kept) ∙ ap (list_any (nat_eq z)) kept_is

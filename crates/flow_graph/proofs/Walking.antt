@@ -58,7 +58,8 @@ finding_none old successors seen is = record {
   any = λ a. or_false (list_any (nat_eq a) old);
 }
 
-pub finding_all : (old : List ℕ) (successors : List Successor) (i : ℕ) (found : List ℕ) (seen : BTreeSet ℕ) → length successors ≤ i → Finding old successors i found seen
+pub finding_all : (old : List ℕ) (successors : List Successor) (i : ℕ) (found : List ℕ) (seen : BTreeSet ℕ) → length successors ≤ i →
+    Finding old successors i found seen
     → IsMore old (map (λ s. s.to) successors) found
 finding_all old successors i found seen le f = record {
   rest = f.rest;
@@ -76,7 +77,11 @@ or_three false b c = refl
 had : (a x : ℕ) (found : List ℕ) → list_any (nat_eq x) found ≡ true → list_any (nat_eq a) found ≡ (list_any (nat_eq a) found || nat_eq a x)
 had a x found h =
     same_truth (list_any (nat_eq a) found) (list_any (nat_eq a) found || nat_eq a x) (or_left (list_any (nat_eq a) found) (nat_eq a x))
-    (λ p. elim (or_cases (list_any (nat_eq a) found) (nat_eq a x) p) [ inl q ↦ q | inr q ↦ subst (λ z. list_any (nat_eq z) found ≡ true) (sym (eqb-true a x q)) h ])
+    (λ p. elim (or_cases (list_any (nat_eq a) found) (nat_eq a x) p) [
+      | inl q ↦ q
+      | inr q ↦ subst
+          (λ z. list_any (nat_eq z) found ≡ true) (sym (eqb-true a x q)) h
+    ])
 
 either : (b c : Bool) → (if b then true else c) ≡ (c || (b || false))
 either true true = refl
@@ -104,7 +109,8 @@ seen_push found seen more x word new updates is = record {
 
 module _ (old : List ℕ) (successors : List Successor) (i : ℕ) (s : Successor) (fits : i < length successors) where
   step_any : (a : ℕ) (found : List ℕ) → list_any (nat_eq a) found ≡ (list_any (nat_eq a) old || list_any (λ (t : Successor). nat_eq a t.to) (take i successors))
-      → (list_any (nat_eq a) found || nat_eq a (get_or successors i s).to) ≡ (list_any (nat_eq a) old || list_any (λ (t : Successor). nat_eq a t.to) (take (i + 1) successors))
+      → (list_any (nat_eq a) found || nat_eq a (get_or successors i s).to) ≡ (list_any (nat_eq a) old ||
+      list_any (λ (t : Successor). nat_eq a t.to) (take (i + 1) successors))
   step_any a found e =
       ap (λ b. b || nat_eq a (get_or successors i s).to) e
       ∙ or_three (list_any (nat_eq a) old) (list_any (λ (t : Successor). nat_eq a t.to) (take i successors)) (nat_eq a (get_or successors i s).to)
@@ -121,7 +127,8 @@ module _ (old : List ℕ) (successors : List Successor) (i : ℕ) (s : Successor
   }
 
   -- the next address is new
-  pub finding_new : (found new : List ℕ) (seen more : BTreeSet ℕ) → (get_or successors i s).to < 2 ^ 32 → contains nat_cmp seen (get_or successors i s).to ≡ false
+  pub finding_new : (found new : List ℕ) (seen more : BTreeSet ℕ) → (get_or successors i s).to < 2 ^ 32 →
+      contains nat_cmp seen (get_or successors i s).to ≡ false
       → ((q : ℕ) → contains nat_cmp more q ≡ (if is_eq (nat_cmp (get_or successors i s).to q) then true else contains nat_cmp seen q))
       → new ≡ found ++ (get_or successors i s).to ∷ [] → Finding old successors i found seen → Finding old successors (i + 1) new more
   finding_new found new seen more word is_new updates grown f = record {
@@ -173,7 +180,8 @@ from_targets a (x ∷ xs) h = elim (in_cases a x.to (map (λ y. y.to) xs) h) [
 
 to_targets : (x : graph.Successor) (xs : List graph.Successor) → Contains xs x → list_any (nat_eq x.to) (map (λ y. y.to) xs) ≡ true
 to_targets x [] (k, w, e) = absurd (omega arith)
-to_targets x (y ∷ ys) (zero, w, e) = subst (λ (z : graph.Successor). list_any (nat_eq x.to) (z.to ∷ map (λ u. u.to) ys) ≡ true) (sym e) (head_in x.to (map (λ u. u.to) ys))
+to_targets x (y ∷ ys) (zero, w, e) = subst (λ (z : graph.Successor). list_any (nat_eq x.to) (z.to ∷ map (λ u. u.to) ys)
+    ≡ true) (sym e) (head_in x.to (map (λ u. u.to) ys))
 to_targets x (y ∷ ys) (suc k, w, e) = tail_in x.to y.to (map (λ u. u.to) ys) (to_targets x ys (k, omega arith, e))
 
 at_end : (xs : List ℕ) (r : ℕ) (rs : List ℕ) (d : ℕ) → get_or (xs ++ r ∷ rs) (length xs) d ≡ r
@@ -215,7 +223,8 @@ module _ (p : Program) where
   }
 
   -- one more node
-  module _ (found new : List ℕ) (seen more : BTreeSet ℕ) (nodes grown : List Node) (n : Node) (d : ℕ) (fits : length nodes < length found) (at : n.at ≡ get_or found (length nodes) d)
+  module _ (found new : List ℕ) (seen more : BTreeSet ℕ) (nodes grown : List Node) (n : Node) (d : ℕ) (fits : length nodes < length found) (at : n.at
+      ≡ get_or found (length nodes) d)
       (is : IsNode p n) (wider : IsMore found (map (λ s. s.to) n.successors.items) new) (w : Walk p found seen nodes) where
     places : List ℕ
     places = map (λ m. m.at) nodes
@@ -258,7 +267,8 @@ module _ (p : Program) where
     pub walk_more : IsSeen new more → n.keeps ≡ n.flags.assigns → grown ≡ nodes ++ n ∷ [] → Walk p new more grown
     walk_more seen_is stays is_grown = record {
       seen_is = seen_is;
-      first = wider.any p.entry ∙ or_left (list_any (nat_eq p.entry) found) (list_any (nat_eq p.entry) (map (λ (s : Successor). s.to) n.successors.items)) w.first;
+      first = wider.any p.entry ∙ or_left (list_any (nat_eq p.entry) found) (list_any (nat_eq p.entry) (map
+          (λ (s : Successor). s.to) n.successors.items)) w.first;
       reached = reaches;
       rest = next_left.1 ++ wider.rest;
       begins = begins_more is_grown;
@@ -271,7 +281,8 @@ module _ (p : Program) where
           (All-push (λ (m : Node). (x : graph.Successor) → Contains (successors_at p m.at) x → list_any (nat_eq x.to) new ≡ true) nodes n
           (All-weaker (λ (m : Node). (x : graph.Successor) → Contains (successors_at p m.at) x → list_any (nat_eq x.to) found ≡ true)
           (λ (m : Node). (x : graph.Successor) → Contains (successors_at p m.at) x → list_any (nat_eq x.to) new ≡ true)
-          (λ m c x h. wider.any x.to ∙ or_left (list_any (nat_eq x.to) found) (list_any (nat_eq x.to) (map (λ (s : Successor). s.to) n.successors.items)) (c x h)) nodes w.closed)
+          (λ m c x h. wider.any x.to ∙ or_left (list_any (nat_eq x.to) found) (list_any (nat_eq x.to) (map (λ (s : Successor). s.to) n.successors.items))
+          (c x h)) nodes w.closed)
           (λ x h.
           wider.any x.to
           ∙ or_right (list_any (nat_eq x.to) found) (list_any (nat_eq x.to) (map (λ (s : Successor). s.to) n.successors.items))
@@ -291,7 +302,8 @@ module _ (p : Program) where
     complete a entry = w.first
     complete to (listed {a} {x} h c) =
         let in_nodes : list_any (nat_eq a) (map (λ (n : Node). n.at) nodes) ≡ true = sym (ap (list_any (nat_eq a)) found_is) ∙ complete a h in
-        let n = node_at (λ (m : Node). (y : graph.Successor) → Contains (successors_at p m.at) y → list_any (nat_eq y.to) found ≡ true) nodes a in_nodes w.closed in
+        let n = node_at (λ (m : Node). (y : graph.Successor) → Contains (successors_at p m.at) y →
+        list_any (nat_eq y.to) found ≡ true) nodes a in_nodes w.closed in
         n.2 x (subst (λ z. Contains (successors_at p z) x) (sym n.1) c)
 
     pub walk_whole : IsWhole p nodes
@@ -313,7 +325,8 @@ apart : (a b : ℕ) → a ≤ b → nat_eq a b ≡ false → a < b
 apart a b le ne = grind (arith, nat_tests)
 
 -- all nodes, by rising addresses, are the graph
-pub whole_graph : (p : Program) (nodes : List Node) (g : Graph) → IsWhole p nodes → IsPermutation nodes g.nodes.items → IsNonDecreasingBy (λ n. n.at) g.nodes.items
+pub whole_graph : (p : Program) (nodes : List Node) (g : Graph) → IsWhole p nodes → IsPermutation nodes g.nodes.items →
+    IsNonDecreasingBy (λ n. n.at) g.nodes.items
     → IsFlagSet g.ensured (λ f. ensures_flag p f) → IsGraph p g
 whole_graph p nodes g whole moved rising ensured =
     let sorted = g.nodes.items in
@@ -322,7 +335,8 @@ whole_graph p nodes g whole moved rising ensured =
     any_map (nat_eq a) (λ (n : Node). n.at) sorted ∙ sym (list_any-IsPermutation (λ (n : Node). nat_eq a n.at) nodes sorted moved)
     ∙ sym (any_map (nat_eq a) (λ (n : Node). n.at) nodes) in
     let distinct : IsDistinct nat_eq (addresses_of g) =
-    IsDistinct-IsPermutation nat_eq nat_eq_equiv.symm (map (λ (n : Node). n.at) nodes) (addresses_of g) (IsPermutation-map (λ (n : Node). n.at) nodes sorted moved) whole.distinct in
+    IsDistinct-IsPermutation nat_eq nat_eq_equiv.symm (map (λ (n : Node). n.at) nodes) (addresses_of g) (IsPermutation-map
+    (λ (n : Node). n.at) nodes sorted moved) whole.distinct in
     record {
       all = λ a. (
         λ (k, w, e). (whole.all a).0 (sym (same a) ∙ at_in a (addresses_of g) k a w e),
@@ -330,7 +344,8 @@ whole_graph p nodes g whole moved rising ensured =
       );
       rising = λ i j lt w.
           let fits : j < length (addresses_of g) = rw (length-map sorted (λ (n : Node). n.at)) w in
-          apart (get_or (addresses_of g) i 0) (get_or (addresses_of g) j 0) (climbs_far (addresses_of g) (climbs (λ (n : Node). n.at) sorted rising) i j lt fits)
+          apart (get_or (addresses_of g) i 0) (get_or (addresses_of g) j 0) (climbs_far (addresses_of g) (climbs
+          (λ (n : Node). n.at) sorted rising) i j lt fits)
           (apart_from_distinct nat_eq (addresses_of g) i j 0 distinct lt fits);
       nodes = All-permutation (λ n. IsNode p n) nodes sorted moved whole.each;
       ensured = ensured;

@@ -33,7 +33,8 @@ fn all_successors<M: Machine>(
 ) -> Result<Vec<Successor>, AllocError>
     requires machine { machine_of p.now.image.now ≡ M.machine }
     requires index { IsIndex (targets_places p.now.notes.now.targets.items) index.now.targets.items }
-    ensures { IfOk result (λ v. IsSameSet (map successor_of v.items) (graph.successors_of (program M.machine p.now) at (M.Machine.row insn.now) (facts.successors_of ways))) }
+    ensures { IfOk result (λ v. IsSameSet (map successor_of v.items)
+        (graph.successors_of (program M.machine p.now) at (M.Machine.row insn.now) (facts.successors_of ways))) }
 {
     let behind = at.wrapping_add(4);
     let letter = jump_letter(ways.call);

@@ -39,7 +39,8 @@ fn listed(
 /// The target of the pair of an instruction at an address with the one before it.
 fn pair_target<M: Machine>(p: &Program, insn: &M::Insn, at: u32) -> Option<u32>
     requires { machine_of p.now.image.now ≡ M.machine }
-    ensures { pair_of (run.row_at (program M.machine p.now) (points.file_word (program M.machine p.now)) (sub 32 at 4)) (Some (M.Machine.row insn.now)) at ≡ result }
+    ensures { pair_of (run.row_at (program M.machine p.now) (points.file_word (program M.machine p.now)) (sub 32 at 4)) (Some (M.Machine.row insn.now)) at
+        ≡ result }
 {
     match row::<M>(p, at.wrapping_sub(4)) {
         None => None,
@@ -50,7 +51,8 @@ fn pair_target<M: Machine>(p: &Program, insn: &M::Insn, at: u32) -> Option<u32>
 /// The word of the literal of an instruction at an address, where its bytes are kept.
 fn literal_word<M: Machine>(p: &Program, insn: &M::Insn, at: u32) -> Option<u32>
     requires { machine_of p.now.image.now ≡ M.machine }
-    ensures { run.literal_target (program M.machine p.now) (points.file_word (program M.machine p.now)) ((M.Machine.row insn.now).literal at) ≡ run.some_of result }
+    ensures { run.literal_target (program M.machine p.now) (points.file_word (program M.machine p.now)) ((M.Machine.row insn.now).literal at)
+        ≡ run.some_of result }
 {
     match M::literal(insn, at) {
         None => None,
@@ -86,7 +88,8 @@ fn named<M: Machine>(
 ) -> Result<Vec<u32>, AllocError>
     requires machine { machine_of p.now.image.now ≡ M.machine }
     requires index { IsIndex (targets_places p.now.notes.now.targets.items) index.now.targets.items }
-    ensures { IfOk result (λ v. IsSameSet v.items (run.named (program M.machine p.now) (points.file_word (program M.machine p.now)) (M.Machine.row insn.now) at)) }
+    ensures { IfOk result (λ v. IsSameSet v.items (run.named (program M.machine p.now) (points.file_word (program M.machine p.now))
+        (M.Machine.row insn.now) at)) }
 {
     let mut found = listed(alloc, &p.notes.targets, &index.targets, at)?;
     push_some(&mut found, pair_target::<M>(p, insn, at))?;
@@ -105,7 +108,8 @@ pub(crate) fn indirect_targets<M: Machine>(
 ) -> Result<Vec<u32>, AllocError>
     requires machine { machine_of p.now.image.now ≡ M.machine }
     requires index { IsIndex (targets_places p.now.notes.now.targets.items) index.now.targets.items }
-    ensures { IfOk result (λ v. IsSameSet v.items (if indirect then run.named (program M.machine p.now) (points.file_word (program M.machine p.now)) (M.Machine.row insn.now) at else [])) }
+    ensures { IfOk result (λ v. IsSameSet v.items (if indirect
+        then run.named (program M.machine p.now) (points.file_word (program M.machine p.now)) (M.Machine.row insn.now) at else [])) }
 {
     if !indirect {
         return Ok(Vec::new(alloc));

@@ -29,7 +29,8 @@ unfolding holds
 holds_none v n t x e = ap (λ b. t && b) (or_false x ∙ (e ∙ sym (and_true (v (suc n)))))
 
 pub holds_more : (v : ℕ → Bool) (n : ℕ) (gs : List Gate) (i : ℕ) (d : Gate) (t x : Bool) → i < length gs → x ≡ v (suc (n + 1 + i)) →
-    ((t && holds v (record { inputs = n; gates = take i gs })) && beq x (gate_value v (get_or gs i d))) ≡ (t && holds v (record { inputs = n; gates = take (i + 1) gs }))
+    ((t && holds v (record { inputs = n; gates = take i gs })) && beq x (gate_value v (get_or gs i d))) ≡ (t &&
+    holds v (record { inputs = n; gates = take (i + 1) gs }))
 holds_more v n gs i d t x h f =
     let e : length (take i gs) ≡ i = grind (arith, length-take i gs) in
     let p = holds_push v n (take i gs) (get_or gs i d) in
@@ -57,7 +58,8 @@ pub ties_over : (n : ℕ) (ties : List Clause) → AreOnVariables n ties → Are
 ties_over n ties h = record { each = on-complete n ties h }
 
 pub defined : (c : Netlist) (ties : List Clause) (root : Bit) (cnf : Cnf) → InOrder (c.inputs + 1) c.gates → cnf.variables ≡ next c →
-    AreOver (next c) cnf.clauses → ((v : ℕ → Bool) → satisfied v cnf.clauses ≡ ((satisfied v ties && holds v c) && bit_value v root)) → IsDefined c ties root cnf
+    AreOver (next c) cnf.clauses → ((v : ℕ → Bool) → satisfied v cnf.clauses ≡ ((satisfied v ties && holds v c) && bit_value v root)) →
+    IsDefined c ties root cnf
 defined c ties root cnf o n r s =
     record {
       variables = n;

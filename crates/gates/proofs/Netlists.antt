@@ -25,14 +25,17 @@ same_from_beq true false e = cc
 same_from_beq false true e = cc
 same_from_beq false false e = refl
 
-hold_push : (v : ℕ → Bool) (n : ℕ) (gs : List Gate) (g : Gate) → gates_hold v n (gs ++ g ∷ []) ≡ (gates_hold v n gs && beq (v (suc (n + length gs))) (gate_value v g))
+hold_push : (v : ℕ → Bool) (n : ℕ) (gs : List Gate) (g : Gate) →
+    gates_hold v n (gs ++ g ∷ []) ≡ (gates_hold v n gs && beq (v (suc (n + length gs))) (gate_value v g))
 hold_push v n [] g = let e : n + 0 ≡ n = omega arith in rw e (and_true (beq (v (suc n)) (gate_value v g)))
 hold_push v n (x ∷ gs) g =
     let e : n + suc (length gs) ≡ suc n + length gs = omega arith in
-    rw e (ap (λ b. beq (v (suc n)) (gate_value v x) && b) (hold_push v (suc n) gs g) ∙ and_assoc (beq (v (suc n)) (gate_value v x)) (gates_hold v (suc n) gs) (beq (v (suc (suc n + length gs))) (gate_value v g)))
+    rw e (ap (λ b. beq (v (suc n)) (gate_value v x) && b) (hold_push v (suc n) gs g) ∙ and_assoc (beq (v (suc n)) (gate_value v x)) (gates_hold v (suc n) gs)
+    (beq (v (suc (suc n + length gs))) (gate_value v g)))
 
 -- with one more gate
-pub holds_push : (v : ℕ → Bool) (n : ℕ) (gs : List Gate) (g : Gate) → holds v (record { inputs = n; gates = gs ++ g ∷ [] }) ≡ (holds v (record { inputs = n; gates = gs }) && beq (v (suc (n + 1 + length gs))) (gate_value v g))
+pub holds_push : (v : ℕ → Bool) (n : ℕ) (gs : List Gate) (g : Gate) →
+    holds v (record { inputs = n; gates = gs ++ g ∷ [] }) ≡ (holds v (record { inputs = n; gates = gs }) && beq (v (suc (n + 1 + length gs))) (gate_value v g))
 unfolding holds
 holds_push v n gs g =
     ap (λ b. v (suc n) && b) (hold_push v (n + 1) gs g) ∙ and_assoc (v (suc n)) (gates_hold v (n + 1) gs) (beq (v (suc (n + 1 + length gs))) (gate_value v g))
@@ -46,10 +49,12 @@ push_grows n gs g =
       keeps = λ v h. (and_parts _ _ (rw holds_push at h)).0;
     }
 
-pub push_value : (v : ℕ → Bool) (n : ℕ) (gs : List Gate) (g : Gate) → Holds v (record { inputs = n; gates = gs ++ g ∷ [] }) → v (suc (n + 1 + length gs)) ≡ gate_value v g
+pub push_value : (v : ℕ → Bool) (n : ℕ) (gs : List Gate) (g : Gate) → Holds v (record { inputs = n; gates = gs ++ g ∷ [] }) →
+    v (suc (n + 1 + length gs)) ≡ gate_value v g
 push_value v n gs g h = same_from_beq _ _ (and_parts _ _ (rw holds_push at h)).1
 
-pub push_made : (n m : ℕ) (gs : List Gate) (g : Gate) (b : Bit) → variable_of b ≡ m → m ≡ n + 1 + length gs → IsBit (record { inputs = n; gates = gs }) (record { inputs = n; gates = gs ++ g ∷ [] }) 1 b
+pub push_made : (n m : ℕ) (gs : List Gate) (g : Gate) (b : Bit) → variable_of b ≡ m → m ≡ n + 1 + length gs →
+    IsBit (record { inputs = n; gates = gs }) (record { inputs = n; gates = gs ++ g ∷ [] }) 1 b
 push_made n m gs g b e f = record { grows = push_grows n gs g; within = omega (arith, length-append gs (g ∷ [])) }
 
 pub one_value : (v : ℕ → Bool) (n : ℕ) (gs : List Gate) → Holds v (record { inputs = n; gates = gs }) → v (suc n) ≡ true
@@ -62,7 +67,8 @@ hold_at v n (g ∷ gs) zero d h l = let e : n + 0 ≡ n = omega arith in rw e (s
 hold_at v n (g ∷ gs) (suc i) d h l = let e : n + suc i ≡ suc n + i = omega arith in rw e (hold_at v (suc n) gs i d (and_parts _ _ h).1 (omega arith))
 
 -- a gate that is there has its value
-pub there_value : (v : ℕ → Bool) (n : ℕ) (gs : List Gate) (i : ℕ) (g : Gate) → Holds v (record { inputs = n; gates = gs }) → i < length gs → get_or gs i g ≡ g → v (suc (n + 1 + i)) ≡ gate_value v g
+pub there_value : (v : ℕ → Bool) (n : ℕ) (gs : List Gate) (i : ℕ) (g : Gate) → Holds v (record { inputs = n; gates = gs }) → i < length gs → get_or gs i g ≡ g →
+    v (suc (n + 1 + i)) ≡ gate_value v g
 unfolding holds
 there_value v n gs i g h l e = hold_at v (n + 1) gs i g (and_parts _ _ h).1 l ∙ ap (gate_value v) e
 

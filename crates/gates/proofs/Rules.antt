@@ -17,7 +17,8 @@ and_clauses true false true false = refl
 and_clauses true false false true = refl
 and_clauses true false false false = refl
 
-pub xor_clauses : (t g a b : Bool) → ((((t && (not g || (a || (b || false)))) && (not g || (not a || (not b || false)))) && (g || (not a || (b || false)))) && (g || (a || (not b || false)))) ≡ (t && beq g (differ a b))
+pub xor_clauses : (t g a b : Bool) → ((((t && (not g || (a || (b || false)))) && (not g || (not a || (not b || false)))) && (g || (not a || (b || false)))) &&
+    (g || (a || (not b || false)))) ≡ (t && beq g (differ a b))
 xor_clauses false g a b = refl
 xor_clauses true true true true = refl
 xor_clauses true true true false = refl
@@ -28,7 +29,9 @@ xor_clauses true false true false = refl
 xor_clauses true false false true = refl
 xor_clauses true false false false = refl
 
-pub ite_clauses : (t g c a b : Bool) → ((((((t && (not g || (not c || (a || false)))) && (not g || (c || (b || false)))) && (g || (not c || (not a || false)))) && (g || (c || (not b || false)))) && (not g || (a || (b || false)))) && (g || (not a || (not b || false)))) ≡ (t && beq g (cond c a b))
+pub ite_clauses : (t g c a b : Bool) → ((((((t && (not g || (not c || (a || false)))) && (not g || (c || (b || false)))) &&
+    (g || (not c || (not a || false)))) && (g || (c || (not b || false)))) && (not g || (a || (b || false)))) && (g || (not a || (not b || false)))) ≡ (t &&
+    beq g (cond c a b))
 ite_clauses false g c a b = refl
 ite_clauses true true true true true = refl
 ite_clauses true true true true false = refl
@@ -47,7 +50,10 @@ ite_clauses true false false true false = refl
 ite_clauses true false false false true = refl
 ite_clauses true false false false false = refl
 
-pub parity_clauses : (t g a b c : Bool) → ((((((((t && (not g || (a || (b || (c || false))))) && (not g || (a || (not b || (not c || false))))) && (not g || (not a || (b || (not c || false))))) && (not g || (not a || (not b || (c || false))))) && (g || (not a || (b || (c || false))))) && (g || (a || (not b || (c || false))))) && (g || (a || (b || (not c || false))))) && (g || (not a || (not b || (not c || false))))) ≡ (t && beq g (parity a b c))
+pub parity_clauses : (t g a b c : Bool) → ((((((((t && (not g || (a || (b || (c || false))))) && (not g || (a || (not b || (not c || false))))) &&
+    (not g || (not a || (b || (not c || false))))) && (not g || (not a || (not b || (c || false))))) && (g || (not a || (b || (c || false))))) &&
+    (g || (a || (not b || (c || false))))) && (g || (a || (b || (not c || false))))) && (g || (not a || (not b || (not c || false))))) ≡ (t &&
+    beq g (parity a b c))
 parity_clauses false g a b c = refl
 parity_clauses true true true true true = refl
 parity_clauses true true true true false = refl
@@ -66,7 +72,8 @@ parity_clauses true false false true false = refl
 parity_clauses true false false false true = refl
 parity_clauses true false false false false = refl
 
-pub majority_clauses : (t g a b c : Bool) → ((((((t && (not g || (a || (b || false)))) && (not g || (a || (c || false)))) && (not g || (b || (c || false)))) && (g || (not a || (not b || false)))) && (g || (not a || (not c || false)))) && (g || (not b || (not c || false)))) ≡ (t && beq g (majority a b c))
+pub majority_clauses : (t g a b c : Bool) → ((((((t && (not g || (a || (b || false)))) && (not g || (a || (c || false)))) && (not g || (b || (c || false)))) &&
+    (g || (not a || (not b || false)))) && (g || (not a || (not c || false)))) && (g || (not b || (not c || false)))) ≡ (t && beq g (majority a b c))
 majority_clauses false g a b c = refl
 majority_clauses true true true true true = refl
 majority_clauses true true true true false = refl
@@ -85,7 +92,8 @@ majority_clauses true false false true false = refl
 majority_clauses true false false false true = refl
 majority_clauses true false false false false = refl
 
-pub same_clauses : (t g s a b : Bool) → (((((t && (not g || (s || false))) && (not g || (not a || (b || false)))) && (not g || (a || (not b || false)))) && (g || (not s || (a || (b || false))))) && (g || (not s || (not a || (not b || false))))) ≡ (t && beq g (same s a b))
+pub same_clauses : (t g s a b : Bool) → (((((t && (not g || (s || false))) && (not g || (not a || (b || false)))) && (not g || (a || (not b || false)))) &&
+    (g || (not s || (a || (b || false))))) && (g || (not s || (not a || (not b || false))))) ≡ (t && beq g (same s a b))
 same_clauses false g s a b = refl
 same_clauses true true true true true = refl
 same_clauses true true true true false = refl

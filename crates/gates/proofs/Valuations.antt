@@ -26,7 +26,8 @@ same_gate n v w (Same s a b) h e = let z = same_bit n v w s h.0 e in let x = sam
 agree_more : (n : ℕ) (v w : ℕ → Bool) → AgreeUpTo n v w → v (suc n) ≡ w (suc n) → AgreeUpTo (suc n) v w
 agree_more n v w a e k f h = ⊎_elim (λ p. rw (p) e) (λ p. a k f (omega arith)) (cases_eq k (suc n))
 
-gates_once : (n : ℕ) (gs : List Gate) (v w : ℕ → Bool) → InOrder n gs → AgreeUpTo n v w → gates_hold v n gs ≡ true → gates_hold w n gs ≡ true → AgreeUpTo (n + length gs) v w
+gates_once : (n : ℕ) (gs : List Gate) (v w : ℕ → Bool) → InOrder n gs → AgreeUpTo n v w → gates_hold v n gs ≡ true → gates_hold w n gs ≡ true →
+    AgreeUpTo (n + length gs) v w
 gates_once n [] v w o a h i = let e : n + 0 ≡ n = omega arith in rw e a
 gates_once n (g ∷ gs) v w o a h i =
     let p = and_parts _ _ h in

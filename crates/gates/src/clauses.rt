@@ -33,8 +33,10 @@ pub fn push_clause(clauses: &mut Vec<Clause>, bits: &[Bit]) -> Result<(), AllocE
 
 /// Adds the clauses that a bit is whether both are true.
 fn push_and(clauses: &mut Vec<Clause>, g: Bit, a: Bit, b: Bit) -> Result<(), AllocError>
-    ensures value { OnOk result ((v : ℕ → Bool) → satisfied v clauses.new.items ≡ (satisfied v clauses.old.items && beq (bit_value v g) (bit_value v a && bit_value v b))) }
-    ensures over { OnOk result ((m : ℕ) → variable_of g < m → variable_of a < m → variable_of b < m → AreOver m clauses.old.items → AreOver m clauses.new.items) }
+    ensures value { OnOk result ((v : ℕ → Bool) → satisfied v clauses.new.items ≡ (satisfied v clauses.old.items &&
+        beq (bit_value v g) (bit_value v a && bit_value v b))) }
+    ensures over { OnOk result ((m : ℕ) → variable_of g < m → variable_of a < m → variable_of b < m → AreOver m clauses.old.items →
+        AreOver m clauses.new.items) }
 {
     let not_g = g.negation();
     let (not_a, not_b) = (a.negation(), b.negation());
@@ -46,8 +48,10 @@ fn push_and(clauses: &mut Vec<Clause>, g: Bit, a: Bit, b: Bit) -> Result<(), All
 
 /// Adds the clauses that a bit is whether exactly one of the two is true.
 fn push_xor(clauses: &mut Vec<Clause>, g: Bit, a: Bit, b: Bit) -> Result<(), AllocError>
-    ensures value { OnOk result ((v : ℕ → Bool) → satisfied v clauses.new.items ≡ (satisfied v clauses.old.items && beq (bit_value v g) (differ (bit_value v a) (bit_value v b)))) }
-    ensures over { OnOk result ((m : ℕ) → variable_of g < m → variable_of a < m → variable_of b < m → AreOver m clauses.old.items → AreOver m clauses.new.items) }
+    ensures value { OnOk result ((v : ℕ → Bool) → satisfied v clauses.new.items ≡ (satisfied v clauses.old.items &&
+        beq (bit_value v g) (differ (bit_value v a) (bit_value v b)))) }
+    ensures over { OnOk result ((m : ℕ) → variable_of g < m → variable_of a < m → variable_of b < m → AreOver m clauses.old.items →
+        AreOver m clauses.new.items) }
 {
     let not_g = g.negation();
     let (not_a, not_b) = (a.negation(), b.negation());
@@ -58,10 +62,13 @@ fn push_xor(clauses: &mut Vec<Clause>, g: Bit, a: Bit, b: Bit) -> Result<(), All
     Ok(())
 }
 
-/// Adds the clauses that a bit is the second where the first is true, else the third. The last two follow from the others: with them equal operands are enough to know the bit.
+/// Adds the clauses that a bit is the second where the first is true, else the third. The last two follow from the others: with them equal operands are enough
+/// to know the bit.
 fn push_ite(clauses: &mut Vec<Clause>, g: Bit, c: Bit, a: Bit, b: Bit) -> Result<(), AllocError>
-    ensures value { OnOk result ((v : ℕ → Bool) → satisfied v clauses.new.items ≡ (satisfied v clauses.old.items && beq (bit_value v g) (cond (bit_value v c) (bit_value v a) (bit_value v b)))) }
-    ensures over { OnOk result ((m : ℕ) → variable_of g < m → variable_of c < m → variable_of a < m → variable_of b < m → AreOver m clauses.old.items → AreOver m clauses.new.items) }
+    ensures value { OnOk result ((v : ℕ → Bool) → satisfied v clauses.new.items ≡ (satisfied v clauses.old.items &&
+        beq (bit_value v g) (cond (bit_value v c) (bit_value v a) (bit_value v b)))) }
+    ensures over { OnOk result ((m : ℕ) → variable_of g < m → variable_of c < m → variable_of a < m → variable_of b < m → AreOver m clauses.old.items →
+        AreOver m clauses.new.items) }
 {
     let not_g = g.negation();
     let (not_c, not_a, not_b) = (c.negation(), a.negation(), b.negation());
@@ -76,8 +83,10 @@ fn push_ite(clauses: &mut Vec<Clause>, g: Bit, c: Bit, a: Bit, b: Bit) -> Result
 
 /// Adds the clauses that a bit is whether one or all of the three are true.
 fn push_parity(clauses: &mut Vec<Clause>, g: Bit, a: Bit, b: Bit, c: Bit) -> Result<(), AllocError>
-    ensures value { OnOk result ((v : ℕ → Bool) → satisfied v clauses.new.items ≡ (satisfied v clauses.old.items && beq (bit_value v g) (parity (bit_value v a) (bit_value v b) (bit_value v c)))) }
-    ensures over { OnOk result ((m : ℕ) → variable_of g < m → variable_of a < m → variable_of b < m → variable_of c < m → AreOver m clauses.old.items → AreOver m clauses.new.items) }
+    ensures value { OnOk result ((v : ℕ → Bool) → satisfied v clauses.new.items ≡ (satisfied v clauses.old.items &&
+        beq (bit_value v g) (parity (bit_value v a) (bit_value v b) (bit_value v c)))) }
+    ensures over { OnOk result ((m : ℕ) → variable_of g < m → variable_of a < m → variable_of b < m → variable_of c < m → AreOver m clauses.old.items →
+        AreOver m clauses.new.items) }
 {
     let not_g = g.negation();
     let (not_a, not_b, not_c) = (a.negation(), b.negation(), c.negation());
@@ -100,8 +109,10 @@ fn push_majority(
     b: Bit,
     c: Bit,
 ) -> Result<(), AllocError>
-    ensures value { OnOk result ((v : ℕ → Bool) → satisfied v clauses.new.items ≡ (satisfied v clauses.old.items && beq (bit_value v g) (majority (bit_value v a) (bit_value v b) (bit_value v c)))) }
-    ensures over { OnOk result ((m : ℕ) → variable_of g < m → variable_of a < m → variable_of b < m → variable_of c < m → AreOver m clauses.old.items → AreOver m clauses.new.items) }
+    ensures value { OnOk result ((v : ℕ → Bool) → satisfied v clauses.new.items ≡ (satisfied v clauses.old.items &&
+        beq (bit_value v g) (majority (bit_value v a) (bit_value v b) (bit_value v c)))) }
+    ensures over { OnOk result ((m : ℕ) → variable_of g < m → variable_of a < m → variable_of b < m → variable_of c < m → AreOver m clauses.old.items →
+        AreOver m clauses.new.items) }
 {
     let not_g = g.negation();
     let (not_a, not_b, not_c) = (a.negation(), b.negation(), c.negation());
@@ -116,8 +127,10 @@ fn push_majority(
 
 /// Adds the clauses that a bit is whether the first is true and the others are equal.
 fn push_same(clauses: &mut Vec<Clause>, g: Bit, s: Bit, a: Bit, b: Bit) -> Result<(), AllocError>
-    ensures value { OnOk result ((v : ℕ → Bool) → satisfied v clauses.new.items ≡ (satisfied v clauses.old.items && beq (bit_value v g) (same (bit_value v s) (bit_value v a) (bit_value v b)))) }
-    ensures over { OnOk result ((m : ℕ) → variable_of g < m → variable_of s < m → variable_of a < m → variable_of b < m → AreOver m clauses.old.items → AreOver m clauses.new.items) }
+    ensures value { OnOk result ((v : ℕ → Bool) → satisfied v clauses.new.items ≡ (satisfied v clauses.old.items &&
+        beq (bit_value v g) (same (bit_value v s) (bit_value v a) (bit_value v b)))) }
+    ensures over { OnOk result ((m : ℕ) → variable_of g < m → variable_of s < m → variable_of a < m → variable_of b < m → AreOver m clauses.old.items →
+        AreOver m clauses.new.items) }
 {
     let not_g = g.negation();
     let (not_s, not_a, not_b) = (s.negation(), a.negation(), b.negation());

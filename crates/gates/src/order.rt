@@ -17,9 +17,12 @@ pub fn ordered(a: Bit, b: Bit) -> (Bit, Bit)
 
 /// Three bits, in the order of their codes.
 pub fn sorted(a: Bit, b: Bit, c: Bit) -> (Bit, Bit, Bit)
-    ensures within { (n : ℕ) → variable_of a < n → variable_of b < n → variable_of c < n → (variable_of result.0 < n) × (variable_of result.1 < n) × (variable_of result.2 < n) }
-    ensures odd { (v : ℕ → Bool) → parity (bit_value v result.0) (bit_value v result.1) (bit_value v result.2) ≡ parity (bit_value v a) (bit_value v b) (bit_value v c) }
-    ensures most { (v : ℕ → Bool) → majority (bit_value v result.0) (bit_value v result.1) (bit_value v result.2) ≡ majority (bit_value v a) (bit_value v b) (bit_value v c) }
+    ensures within { (n : ℕ) → variable_of a < n → variable_of b < n → variable_of c < n → (variable_of result.0 < n) × (variable_of result.1 < n) ×
+        (variable_of result.2 < n) }
+    ensures odd { (v : ℕ → Bool) → parity (bit_value v result.0) (bit_value v result.1) (bit_value v result.2)
+        ≡ parity (bit_value v a) (bit_value v b) (bit_value v c) }
+    ensures most { (v : ℕ → Bool) → majority (bit_value v result.0) (bit_value v result.1) (bit_value v result.2)
+        ≡ majority (bit_value v a) (bit_value v b) (bit_value v c) }
 {
     let (low, high) = ordered(a, b);
     let (middle, last) = ordered(high, c);

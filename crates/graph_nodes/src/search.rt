@@ -22,7 +22,8 @@ pub fn place(nodes: &[Node], at: u32) -> Option<usize>
 
 /// The node of an address, if the graph has the address.
 pub fn node_at(graph: &Graph, at: u32) -> Option<&Node>
-    ensures { MatchOption result (AreRising graph.now.nodes.items → ¬ Contains (addresses_of graph.now) at) (λ n. (n.now.at ≡ at) × Contains graph.now.nodes.items n.now) }
+    ensures { MatchOption result (AreRising graph.now.nodes.items → ¬ Contains (addresses_of graph.now) at) (λ n. (n.now.at ≡ at) ×
+        Contains graph.now.nodes.items n.now) }
 {
     match place(&graph.nodes, at) {
         None => None,

@@ -1,5 +1,5 @@
-//! Tests of flow graphs, of the flag assignments that stay, of their text, and of lists of points, each by its public calls: worked cases, and that calls which may run out of memory
-//! succeed with ample memory.
+//! Tests of flow graphs, of the flag assignments that stay, of their text, and of lists of points, each by its public calls: worked cases, and that calls which
+//! may run out of memory succeed with ample memory.
 //!
 //! They stand apart so that each part is proved once, and not again with its tests.
 #![tactic(auto)]

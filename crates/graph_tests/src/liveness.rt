@@ -6,8 +6,8 @@ use std::alloc::{AllocError, Global};
 use std::process::Abort;
 use std::test::Fail;
 
-/// A node of a graph: where it stands and leads, whether it returns, the flags that its row reads, may assign and surely assigns, those that its assert lines name, and
-/// those whose assignment is live.
+/// A node of a graph: where it stands and leads, whether it returns, the flags that its row reads, may assign and surely assigns, those that its assert lines
+/// name, and those whose assignment is live.
 #[derive(Clone, Copy)]
 struct Line {
     at: u32,

@@ -33,7 +33,8 @@ spaced_append [] b = refl
 spaced_append (w ∷ ws) b = ap (λ t. blank ∷ (w ++ t)) (spaced_append ws b) ∙ ap (λ t. blank ∷ t) (sym (append_assoc w (spaced ws) (spaced b)))
 
 -- the words of successors, one successor behind the other
-pub spaced_successors : (xs : List Successor) → flat_map (λ x. spaced (successor_words (successor_of x))) xs ≡ spaced (flat_map successor_words (map successor_of xs))
+pub spaced_successors : (xs : List Successor) → flat_map (λ x. spaced (successor_words (successor_of x))) xs
+    ≡ spaced (flat_map successor_words (map successor_of xs))
 spaced_successors [] = refl
 spaced_successors (x ∷ xs) =
     ap (λ t. spaced (successor_words (successor_of x)) ++ t) (spaced_successors xs)

@@ -48,15 +48,16 @@ fn push_line(out: &mut Vec<u8>, node: &Node) -> Result<(), AllocError>
 
 /// The text of a flow graph: a line for each address, in rising order.
 ///
-/// Behind the address stand its successors, each with a letter: `n` the next address, `j` the target of a jump, `c` that of a call and `r` the address behind a call. `x`
-/// says that the row may return or exit, and `keeps` comes before the flags whose assignment stays, of `N Z C V`. An address without a row says `norow`, and one that may
-/// not be fetched `fetch`.
+/// Behind the address stand its successors, each with a letter: `n` the next address, `j` the target of a jump, `c` that of a call and `r` the address behind a
+/// call. `x` says that the row may return or exit, and `keeps` comes before the flags whose assignment stays, of `N Z C V`. An address without a row says
+/// `norow`, and one that may not be fetched `fetch`.
 ///
 /// # Errors
 ///
 /// Want of memory.
 pub fn print_graph(alloc: Global, graph: &Graph) -> Result<Vec<u8>, AllocError>
-    ensures lines { (p : Program) → IsGraph p graph.now → IfOk result (λ v. v.items ≡ flat_map (λ n. graph_line p n.at (has_flag n.keeps)) graph.now.nodes.items) }
+    ensures lines { (p : Program) → IsGraph p graph.now → IfOk result
+        (λ v. v.items ≡ flat_map (λ n. graph_line p n.at (has_flag n.keeps)) graph.now.nodes.items) }
     ensures text { (p : Program) → IsGraph p graph.now → LiveStay p graph.now → IfOk result (λ v. IsGraphText p v.items) }
 {
     let mut out = Vec::new(alloc);

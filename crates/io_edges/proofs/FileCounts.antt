@@ -41,7 +41,8 @@ count_here (x ∷ files) (c ∷ counts) absent name zero d p long = ap (λ t. if
 count_here (x ∷ files) (c ∷ counts) absent name (suc i) d p long =
     ap (λ t. if t then c else count_at files counts absent name) p.0 ∙ count_here files counts absent name i d p.1 (omega arith)
 
-pub count_absent : (files : List MemFile) (counts : List ℕ) (absent : ℕ) (name : List ℕ) → held_by files name ≡ Absent → count_at files counts absent name ≡ absent
+pub count_absent : (files : List MemFile) (counts : List ℕ) (absent : ℕ) (name : List ℕ) → held_by files name ≡ Absent →
+    count_at files counts absent name ≡ absent
 count_absent [] counts absent name none = refl
 count_absent (x ∷ files) [] absent name none = refl
 count_absent (x ∷ files) (c ∷ counts) absent name none =
@@ -56,14 +57,16 @@ count_held (x ∷ files) [] a b name long held = absurd (omega arith)
 count_held (x ∷ files) (c ∷ counts) a b name long held =
     by_test (bytes_eq (string_bytes x.name) name) x.bytes.items (held_by files name) _ _ (λ h. count_held files counts a b name (omega arith) h) held
   where
-    by_test : (t : Bool) (bytes : List ℕ) (r : Held) (v w : ℕ) → (r ≢ Absent → v ≡ w) → (if t then Bytes bytes else r) ≢ Absent → (if t then c else v) ≡ (if t then c else w)
+    by_test : (t : Bool) (bytes : List ℕ) (r : Held) (v w : ℕ) → (r ≢ Absent → v ≡ w) → (if t then Bytes bytes else r) ≢ Absent →
+        (if t then c else v) ≡ (if t then c else w)
     by_test true bytes r v w rest h = refl
     by_test false bytes r v w rest h = rest h
 
 pub count_never_falls : (files : List MemFile) (counts : List ℕ) (a b : ℕ) (name : List ℕ) → a ≤ b → count_at files counts a name ≤ count_at files counts b name
 count_never_falls [] counts a b name h = h
 count_never_falls (x ∷ files) [] a b name h = h
-count_never_falls (x ∷ files) (c ∷ counts) a b name h = le_choice (bytes_eq (string_bytes x.name) name) c _ c _ (le_refl c) (count_never_falls files counts a b name h)
+count_never_falls (x ∷ files) (c ∷ counts) a b name h = le_choice (bytes_eq (string_bytes x.name) name) c _ c _ (le_refl c)
+    (count_never_falls files counts a b name h)
 
 pub set_never_falls : (files : List MemFile) (counts : List ℕ) (absent i d c : ℕ) (name : List ℕ) → get_or counts i d ≤ c →
     count_at files counts absent name ≤ count_at files (set counts i c) absent name
@@ -95,7 +98,8 @@ set_other (x ∷ files) (d ∷ counts) absent name n (suc i) c p other =
     same_else (bytes_eq (string_bytes x.name) n) d _ _ (set_other files counts absent name n i c p.1 other)
 
 -- a read of a name that is held failed
-pub raises_here : (files : List MemFile) (counts : List ℕ) (absent : ℕ) (name : List ℕ) (i d c : ℕ) → IsPlace files name i → length counts ≡ length files → c ≡ one_more (get_or counts i d) →
+pub raises_here : (files : List MemFile) (counts : List ℕ) (absent : ℕ) (name : List ℕ) (i d c : ℕ) → IsPlace files name i → length counts ≡ length files →
+    c ≡ one_more (get_or counts i d) →
     RaisesOnly (held_by files) (count_at files counts absent) (count_at files (set counts i c) absent) name
 raises_here files counts absent name i d c p long more = record {
   risen = set_here files counts absent name i c p long ∙ more ∙ ap one_more (sym (count_here files counts absent name i d p long));
@@ -104,7 +108,8 @@ raises_here files counts absent name i d c p long more = record {
 }
 
 -- a read of a name that no file has failed
-pub raises_absent : (files : List MemFile) (counts : List ℕ) (a b : ℕ) (name : List ℕ) → held_by files name ≡ Absent → length counts ≡ length files → b ≡ one_more a →
+pub raises_absent : (files : List MemFile) (counts : List ℕ) (a b : ℕ) (name : List ℕ) → held_by files name ≡ Absent → length counts ≡ length files →
+    b ≡ one_more a →
     RaisesOnly (held_by files) (count_at files counts a) (count_at files counts b) name
 raises_absent files counts a b name none long more = record {
   risen = count_absent files counts b name none ∙ more ∙ ap one_more (sym (count_absent files counts a name none));

@@ -21,16 +21,19 @@ place_here (x ∷ files) (suc i) f name inside here none test =
     not_here false y r e = (refl, e)
 
 -- none of the files before has the name, and this one has another
-pub none_more : (files : List MemFile) (f : MemFile) (name : List ℕ) → held_by files name ≡ Absent → bytes_eq (string_bytes f.name) name ≡ false → held_by (files ++ f ∷ []) name ≡ Absent
+pub none_more : (files : List MemFile) (f : MemFile) (name : List ℕ) → held_by files name ≡ Absent → bytes_eq (string_bytes f.name) name ≡ false →
+    held_by (files ++ f ∷ []) name ≡ Absent
 none_more [] f name none other = ap (λ t. if t then Bytes f.bytes.items else Absent) other
 none_more (x ∷ files) f name none other =
     more (bytes_eq (string_bytes x.name) name) x (held_by files name) (held_by (files ++ f ∷ []) name) (λ k. none_more files f name k other) none
   where
-    more : (t : Bool) (y : MemFile) (r s : Held) → (r ≡ Absent → s ≡ Absent) → (if t then Bytes y.bytes.items else r) ≡ Absent → (if t then Bytes y.bytes.items else s) ≡ Absent
+    more : (t : Bool) (y : MemFile) (r s : Held) → (r ≡ Absent → s ≡ Absent) → (if t then Bytes y.bytes.items else r) ≡ Absent →
+        (if t then Bytes y.bytes.items else s) ≡ Absent
     more true y r s step h = cc
     more false y r s step h = step h
 
-pub held_here : (files : List MemFile) (name : List ℕ) (i : ℕ) (f : MemFile) → IsPlace files name i → f ≡ get_or files i f → held_by files name ≡ Bytes f.bytes.items
+pub held_here : (files : List MemFile) (name : List ℕ) (i : ℕ) (f : MemFile) → IsPlace files name i → f ≡ get_or files i f →
+    held_by files name ≡ Bytes f.bytes.items
 held_here [] name i f p e = absurd p
 held_here (x ∷ files) name zero f p e = ap (λ t. if t then Bytes x.bytes.items else held_by files name) p ∙ ap (λ (y : MemFile). Bytes y.bytes.items) (sym e)
 held_here (x ∷ files) name (suc i) f p e = ap (λ t. if t then Bytes x.bytes.items else held_by files name) p.0 ∙ held_here files name i f p.1 e

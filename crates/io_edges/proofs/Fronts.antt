@@ -27,7 +27,8 @@ front_more (Bytes file) bytes piece n within front reads =
           ∙ sym (take-add (length bytes) n file) ∙ ap (λ k. take k file) (sym long),
     )
 
-pub front_whole : (held : Held) (bytes piece : List ℕ) (n : ℕ) → n ≡ 0 → 0 < length piece → IsFront held bytes → Reads held (length bytes) piece n → Agrees held bytes
+pub front_whole : (held : Held) (bytes piece : List ℕ) (n : ℕ) → n ≡ 0 → 0 < length piece → IsFront held bytes → Reads held (length bytes) piece n →
+    Agrees held bytes
 front_whole Untold bytes piece n none some front reads = tt
 front_whole Absent bytes piece n none some front reads = absurd reads
 front_whole (Bytes file) bytes piece n none some front reads = let ended : length file ≤ length bytes = reads.2 none some in grind (arith, common_steps)

@@ -14,7 +14,8 @@ place_of p = p.place
 
 -- The file was read as it stood, where it stood at the place, or as a seek to the place left it. The read took the n bytes at the buffer's front from what was
 -- left there, and none of a nonempty buffer only where none is left.
-pub record Takes {F : Type 0} (remaining : F → Option (List ℕ)) (position : F → Option ℕ) (old : PlacedFile F) (at : ℕ) (buffer : List ℕ) (new : PlacedFile F) (n : ℕ) : Type 0 where
+pub record Takes {F : Type 0} (remaining : F → Option (List ℕ)) (position : F →
+    Option ℕ) (old : PlacedFile F) (at : ℕ) (buffer : List ℕ) (new : PlacedFile F) (n : ℕ) : Type 0 where
   pub from : F
   pub stands : ((place_of old ≡ Some at) × (from ≡ file_in old)) ⊎ IfSome (position (file_in old)) (λ _. position from ≡ Some at)
   pub bytes : Consumes (remaining from) (remaining (file_in new)) (take n buffer)
@@ -25,7 +26,8 @@ abbrev pub name_of : {F : Type 0} → NamedFile F → List ℕ
 name_of f = string_bytes f.name
 
 -- A read of a name took the bytes from the file of that name that was read last, or from one that was just opened; that file is the last one now.
-pub record TakesNamed {F : Type 0} (remaining : F → Option (List ℕ)) (position : F → Option ℕ) (old : Option (NamedFile F)) (name : List ℕ) (at : ℕ) (buffer : List ℕ) (new : Option (NamedFile F)) (n : ℕ) : Type 0 where
+pub record TakesNamed {F : Type 0} (remaining : F → Option (List ℕ)) (position : F →
+    Option ℕ) (old : Option (NamedFile F)) (name : List ℕ) (at : ℕ) (buffer : List ℕ) (new : Option (NamedFile F)) (n : ℕ) : Type 0 where
   pub before : NamedFile F
   pub after : NamedFile F
   pub is : (old ≡ Some before) ⊎ (place_of before.placed ≡ Some 0)

@@ -91,7 +91,8 @@ module _ (file : List ℕ) (runs : List (ℕ × ℕ)) (is : IsKeptRuns file runs
   climb i zero l w = absurd (omega arith)
   climb i (suc j) l w =
       let near : first j < first (suc j) =
-      (let f = is.filled j (omega arith) in let a = is.apart j (omega arith) in let e : first (j + 1) ≡ first (suc j) = ap first (let z : j + 1 ≡ suc j = omega arith in z) in omega arith) in
+      (let f = is.filled j (omega arith) in let a = is.apart j (omega arith) in let e : first (j + 1)
+      ≡ first (suc j) = ap first (let z : j + 1 ≡ suc j = omega arith in z) in omega arith) in
       let le : i ≤ j = omega arith in
       elim (eq-or-lt_of_le le) as (λ _. first i < first (suc j)) [
         | inl e ↦ (let f = ap first e in omega arith)

@@ -65,7 +65,8 @@ same false true h = absurd (cc)
 same false false h = refl
 
 -- what is alike up to an address, and behind it alike too
-pub goes_on : (test : ℕ → Bool) (at middle end : ℕ) (a b : Bool) → b ≡ a → ((x : ℕ) → at ≤ x → x ≤ middle → test x ≡ a) → ((x : ℕ) → middle + 1 ≤ x → x ≤ end → test x ≡ b)
+pub goes_on : (test : ℕ → Bool) (at middle end : ℕ) (a b : Bool) → b ≡ a → ((x : ℕ) → at ≤ x → x ≤ middle → test x ≡ a) →
+    ((x : ℕ) → middle + 1 ≤ x → x ≤ end → test x ≡ b)
     → (x : ℕ) → at ≤ x → x ≤ end → test x ≡ b
 goes_on test at middle end a b is front back x low high = elim (cases_lt x (middle + 1)) as (λ _. test x ≡ b) [
   | inl l ↦ front x low (omega arith) ∙ sym is

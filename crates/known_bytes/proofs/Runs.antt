@@ -69,18 +69,19 @@ pub known_gap : (file : List ℕ) (ranges : List FixedRange) (at to : ℕ) (runs
 known_gap file ranges at to runs count le gap h = record {
   are = h.are;
   before = λ i d w. let b = h.before i d w in omega arith;
-  bytes = λ x. h.bytes x ∙ elim (cases_lt x at) as (λ _. (if nat_lt x at then given file ranges x else None) ≡ (if nat_lt x to then given file ranges x else None)) [
-    | inl l ↦
-        let one : nat_lt x at ≡ true = grind (arith, nat_tests) in
-        let other : nat_lt x to ≡ true = grind (arith, nat_tests) in
-        rw (one, other) refl
-    | inr l ↦
-        let one : nat_lt x at ≡ false = grind (arith, nat_tests) in
-        rw one (elim (cases_lt x to) as (λ _. None ≡ (if nat_lt x to then given file ranges x else None)) [
-          | inl m ↦ (let other : nat_lt x to ≡ true = grind (arith, nat_tests) in rw other (sym (not_given file ranges x (gap x l m))))
-          | inr m ↦ (let other : nat_lt x to ≡ false = grind (arith, nat_tests) in rw other refl)
-        ])
-  ];
+  bytes = λ x. h.bytes x ∙ elim (cases_lt x at) as (λ _. (if nat_lt x at then given file ranges x else None)
+      ≡ (if nat_lt x to then given file ranges x else None)) [
+        | inl l ↦
+            let one : nat_lt x at ≡ true = grind (arith, nat_tests) in
+            let other : nat_lt x to ≡ true = grind (arith, nat_tests) in
+            rw (one, other) refl
+        | inr l ↦
+            let one : nat_lt x at ≡ false = grind (arith, nat_tests) in
+            rw one (elim (cases_lt x to) as (λ _. None ≡ (if nat_lt x to then given file ranges x else None)) [
+              | inl m ↦ (let other : nat_lt x to ≡ true = grind (arith, nat_tests) in rw other (sym (not_given file ranges x (gap x l m))))
+              | inr m ↦ (let other : nat_lt x to ≡ false = grind (arith, nat_tests) in rw other refl)
+            ])
+      ];
   sum = h.sum;
   count_is = count_gap (is_known file ranges) at to count le gap h.count_is;
   few = let f = h.few in omega arith;
@@ -130,8 +131,10 @@ module _ (file : List ℕ) (ranges : List FixedRange) (first last : ℕ) (runs n
 
   given_by : (x : ℕ) → byte_of_runs (map run_of all) x ≡ (if nat_lt x (last + 1) then given file ranges x else None)
   given_by x =
-      ap (λ (l : List ByteRun). byte_of_runs l x) (map-append run_of runs (k ∷ [])) ∙ more_run x (run_of k) (map run_of runs) ∙ ap (or_run x (run_of k)) (h.bytes x)
-      ∙ elim (cases_lt x first) as (λ _. or_run x (run_of k) (if nat_lt x first then given file ranges x else None) ≡ (if nat_lt x (last + 1) then given file ranges x else None)) [
+      ap (λ (l : List ByteRun). byte_of_runs l x) (map-append run_of runs (k
+      ∷ [])) ∙ more_run x (run_of k) (map run_of runs) ∙ ap (or_run x (run_of k)) (h.bytes x)
+      ∙ elim (cases_lt x first) as (λ _. or_run x (run_of k) (if nat_lt x first then given file ranges x else None)
+      ≡ (if nat_lt x (last + 1) then given file ranges x else None)) [
         | inl l ↦
             let out : holds x (run_of k) (run_of k) ≡ false = grind (arith, nat_tests) in
             let one : nat_lt x first ≡ true = grind (arith, nat_tests) in
@@ -139,7 +142,8 @@ module _ (file : List ℕ) (ranges : List FixedRange) (first last : ℕ) (runs n
             apart x (run_of k) _ out ∙ rw (one, other) refl
         | inr l ↦
             let one : nat_lt x first ≡ false = grind (arith, nat_tests) in
-            elim (cases_lt x (last + 1)) as (λ _. or_run x (run_of k) (if nat_lt x first then given file ranges x else None) ≡ (if nat_lt x (last + 1) then given file ranges x else None)) [
+            elim (cases_lt x (last + 1)) as (λ _. or_run x (run_of k) (if nat_lt x first then given file ranges x else None)
+            ≡ (if nat_lt x (last + 1) then given file ranges x else None)) [
               | inl m ↦
                   let inside : holds x (run_of k) (run_of k) ≡ true = grind (arith, nat_tests) in
                   let other : nat_lt x (last + 1) ≡ true = grind (arith, nat_tests) in
@@ -154,20 +158,22 @@ module _ (file : List ℕ) (ranges : List FixedRange) (first last : ℕ) (runs n
       ]
 
   pub known_more : HasKnownTo file ranges (last + 1) new more
-  known_more = subst (λ (l : List Known). HasKnownTo file ranges (last + 1) l more) (sym pushed) (subst (λ n. HasKnownTo file ranges (last + 1) all n) (sym counted) (record {
-    are = are;
-    before = before;
-    bytes = given_by;
-    sum =
-        ap (λ (l : List ByteRun). sum_by (λ (r : ByteRun). r.count) l) (map-append run_of runs (k ∷ [])) ∙ sum_by-append (λ (r : ByteRun). r.count) (map run_of runs) (run_of k ∷ [])
-        ∙ (let s = h.sum in let z : sum_of runs + (0 + (k.last - k.first + 1)) ≡ count + (last - first + 1) = omega arith in z);
-    count_is =
-        let m = last - first + 1 in
-        let to : first + m ≡ last + 1 = omega arith in
-        subst (λ (n : ℕ). IsCountTo (is_known file ranges) n (count + m)) to
-        (count_all (is_known file ranges) first count m (λ x low high. known x low (omega arith)) h.count_is);
-    few = let f = h.few in omega arith;
-  }))
+  known_more = subst (λ (l : List Known). HasKnownTo file ranges (last + 1) l more) (sym pushed) (subst
+      (λ n. HasKnownTo file ranges (last + 1) all n) (sym counted) (record {
+        are = are;
+        before = before;
+        bytes = given_by;
+        sum =
+            ap (λ (l : List ByteRun). sum_by (λ (r : ByteRun). r.count) l) (map-append run_of runs (k ∷ [])) ∙ sum_by-append
+            (λ (r : ByteRun). r.count) (map run_of runs) (run_of k ∷ [])
+            ∙ (let s = h.sum in let z : sum_of runs + (0 + (k.last - k.first + 1)) ≡ count + (last - first + 1) = omega arith in z);
+        count_is =
+            let m = last - first + 1 in
+            let to : first + m ≡ last + 1 = omega arith in
+            subst (λ (n : ℕ). IsCountTo (is_known file ranges) n (count + m)) to
+            (count_all (is_known file ranges) first count m (λ x low high. known x low (omega arith)) h.count_is);
+        few = let f = h.few in omega arith;
+      }))
 
 -- the runs of all known bytes
 pub known_all : (file : List ℕ) (ranges : List FixedRange) (runs : List Known) (count : ℕ) → HasKnownTo file ranges (2 ^ 32) runs count →
@@ -184,7 +190,8 @@ known_beyond file ranges runs count h x l =
     let behind : nat_lt x (2 ^ 32) ≡ false = grind (arith, nat_tests) in h.bytes x ∙ ap (λ b. if b then given file ranges x else None) behind
 
 -- one more part
-pub part_more : (file : List ℕ) (ranges : List FixedRange) (at : ℕ) (part : Part) (runs new : List Known) (count more : ℕ) (k : Known) → k.first ≡ part.first → k.last ≡ part.last
+pub part_more : (file : List ℕ) (ranges : List FixedRange) (at : ℕ) (part : Part) (runs new : List Known) (count more : ℕ) (k : Known) → k.first ≡ part.first →
+    k.last ≡ part.last
     → k.bytes.now ≡ part.bytes.now → IsFirstKnown file ranges at part → HasKnownTo file ranges at runs count → new ≡ runs ++ k ∷ []
     → more ≡ count + (part.last - part.first + 1) → HasKnownTo file ranges (part.last + 1) new more
 part_more file ranges at part runs new count more k starts ends own first h pushed counted =
@@ -193,7 +200,8 @@ part_more file ranges at part runs new count more k starts ends own first h push
     (known_gap file ranges at part.first runs count first.behind first.gap h) pushed counted
 
 -- the last part
-pub part_last : (file : List ℕ) (ranges : List FixedRange) (at : ℕ) (part : Part) (runs new : List Known) (count more : ℕ) (k : Known) → k.first ≡ part.first → k.last ≡ part.last
+pub part_last : (file : List ℕ) (ranges : List FixedRange) (at : ℕ) (part : Part) (runs new : List Known) (count more : ℕ) (k : Known) → k.first ≡ part.first →
+    k.last ≡ part.last
     → k.bytes.now ≡ part.bytes.now → IsFirstKnown file ranges at part → HasKnownTo file ranges at runs count → new ≡ runs ++ k ∷ []
     → more ≡ count + (part.last - part.first + 1) → part.last + 1 ≡ 2 ^ 32
     → ((x : ℕ) → x < 2 ^ 32 → byte_of_runs (map run_of new) x ≡ given file ranges x) × IsCountTo (is_known file ranges) (2 ^ 32) more
@@ -201,7 +209,8 @@ part_last file ranges at part runs new count more k starts ends own first h push
     known_all file ranges new more
     (subst (λ (n : ℕ). HasKnownTo file ranges n new more) full (part_more file ranges at part runs new count more k starts ends own first h pushed counted))
 
-pub part_beyond : (file : List ℕ) (ranges : List FixedRange) (at : ℕ) (part : Part) (runs new : List Known) (count more : ℕ) (k : Known) → k.first ≡ part.first → k.last ≡ part.last
+pub part_beyond : (file : List ℕ) (ranges : List FixedRange) (at : ℕ) (part : Part) (runs new : List Known) (count more : ℕ) (k : Known) →
+    k.first ≡ part.first → k.last ≡ part.last
     → k.bytes.now ≡ part.bytes.now → IsFirstKnown file ranges at part → HasKnownTo file ranges at runs count → new ≡ runs ++ k ∷ []
     → more ≡ count + (part.last - part.first + 1) → part.last + 1 ≡ 2 ^ 32 → (x : ℕ) → 2 ^ 32 ≤ x → byte_of_runs (map run_of new) x ≡ None
 part_beyond file ranges at part runs new count more k starts ends own first h pushed counted full =

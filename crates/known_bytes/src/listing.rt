@@ -13,7 +13,8 @@ use elf32_reader::Image;
 use notes_lang::Notes;
 use std::alloc::{AllocError, Global};
 
-/// Known bytes that stand together. Those behind the ones that the file has are 0; a run that ends early has more of them than addresses, which do not belong to it.
+/// Known bytes that stand together. Those behind the ones that the file has are 0; a run that ends early has more of them than addresses, which do not belong
+/// to it.
 #[derive(Clone, Copy, Debug)]
 pub struct Known<'a> {
     /// The first address.
@@ -44,7 +45,8 @@ pub fn known_bytes<'a>(
     notes: &Notes,
 ) -> Result<KnownBytes<'a>, AllocError>
     ensures rising { IfOk result (λ k. AreRuns k.runs.items) }
-    ensures bytes { (entry x : ℕ) → x < 2 ^ 32 → IfOk result (λ k. byte_of_runs (map run_of k.runs.items) x ≡ file_known (program_of image.now (notes_of notes.now) entry) x) }
+    ensures bytes { (entry x : ℕ) → x < 2 ^ 32 → IfOk result (λ k. byte_of_runs (map run_of k.runs.items) x
+        ≡ file_known (program_of image.now (notes_of notes.now) entry) x) }
     ensures beyond { (x : ℕ) → 2 ^ 32 ≤ x → IfOk result (λ k. byte_of_runs (map run_of k.runs.items) x ≡ None) }
     ensures sum { IfOk result (λ k. sum_of k.runs.items ≡ k.count) }
     ensures count { (entry : ℕ) → IfOk result (λ k. IsCount (is_known_at (program_of image.now (notes_of notes.now) entry)) k.count) }

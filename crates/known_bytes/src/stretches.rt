@@ -18,8 +18,8 @@ pub struct Stretch {
     pub last: u32,
 }
 
-/// What ranges say of an address and those behind it, as far as they were read: whether one holds it, the last address up to which that range goes, and the last
-/// one up to which no range begins.
+/// What ranges say of an address and those behind it, as far as they were read: whether one holds it, the last address up to which that range goes, and the
+/// last one up to which no range begins.
 #[derive(Clone, Copy)]
 struct Reach {
     inside: bool,
@@ -83,7 +83,8 @@ fn fixed_stretch(ranges: &[FixedRange], a: u32) -> (bool, u32)
 
 /// The first known addresses from one on that stand together, with their bytes.
 pub fn first_known<'a>(image: &Image<'a>, notes: &Notes, a: u32) -> Option<Part<'a>>
-    ensures { MatchOption result ((x : ℕ) → a ≤ x → x < 2 ^ 32 → is_known image.now (map fixed_of notes.now.fixed.items) x ≡ false) (IsFirstKnown image.now (map fixed_of notes.now.fixed.items) a) }
+    ensures { MatchOption result ((x : ℕ) → a ≤ x → x < 2 ^ 32 →
+        is_known image.now (map fixed_of notes.now.fixed.items) x ≡ false) (IsFirstKnown image.now (map fixed_of notes.now.fixed.items) a) }
 {
     let mut at = a;
     loop {
@@ -106,8 +107,8 @@ pub fn first_known<'a>(image: &Image<'a>, notes: &Notes, a: u32) -> Option<Part<
     }
 }
 
-/// Whether the byte at an address is one that the file gives (kept, or loaded and fixed), and a last address up to which the bytes behind it are as it is, as far as one
-/// segment and one range tell. One search, and a look at each range.
+/// Whether the byte at an address is one that the file gives (kept, or loaded and fixed), and a last address up to which the bytes behind it are as it is, as
+/// far as one segment and one range tell. One search, and a look at each range.
 fn stretch_from(image: &Image, notes: &Notes, at: u32) -> Stretch
     ensures last { at ≤ result.last }
     ensures same { (entry x : ℕ) → at ≤ x → x ≤ result.last → is_known_at (program_of image.now (notes_of notes.now) entry) x ≡ result.known }
@@ -137,8 +138,8 @@ fn stretch_from(image: &Image, notes: &Notes, at: u32) -> Stretch
     }
 }
 
-/// Whether the byte at an address is one that the file gives (kept, or loaded and fixed), and the last address up to which the bytes behind it are as it is. One search,
-/// and a look at each range, for each segment and each range among these addresses.
+/// Whether the byte at an address is one that the file gives (kept, or loaded and fixed), and the last address up to which the bytes behind it are as it is.
+/// One search, and a look at each range, for each segment and each range among these addresses.
 pub fn known_stretch(image: &Image, notes: &Notes, at: u32) -> Stretch
     ensures last { at ≤ result.last }
     ensures same { (entry x : ℕ) → at ≤ x → x ≤ result.last → is_known_at (program_of image.now (notes_of notes.now) entry) x ≡ result.known }

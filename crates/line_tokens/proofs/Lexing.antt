@@ -51,12 +51,16 @@ drop_one b (suc n) rest some = ap (λ k. drop k rest) (omega arith)
 -- a token and those behind it
 pub first_of : (b n : ℕ) (rest : List ℕ) → is_blank b ≡ false → (b == 35) ≡ false → n ≡ token_length b (b ∷ rest) → 1 ≤ n →
     tokens_of (b ∷ rest) ≡ token_at b (b ∷ rest) ∷ tokens_of (drop n (b ∷ rest))
-first_of b n rest blank comment long some = rw (blank, comment, sym long) (ap (λ ts. token_at b (b ∷ rest) ∷ ts) (skipped (n - 1) rest ∙ ap tokens_of (sym (drop_one b n rest some))))
+first_of b n rest blank comment long some = rw (blank, comment, sym long) (ap
+    (λ ts. token_at b (b ∷ rest) ∷ ts) (skipped (n - 1) rest ∙ ap tokens_of (sym (drop_one b n rest some))))
 
 -- the next token and those behind it
-pub next_left : (text all others : List ℕ) (first n : ℕ) (token : grammar.Token) → tokens_of all ≡ tokens_of text → all ≡ first ∷ others → is_blank first ≡ false →
-    (first == 35) ≡ false → token ≡ capped (token_at first all) → n ≡ token_length first all → 1 ≤ n → map capped (tokens_of text) ≡ token ∷ map capped (tokens_of (drop n all))
-next_left text all others first n token same is blank sharp one long some = ap (map capped) (sym same ∙ along) ∙ ap (λ t. t ∷ map capped (tokens_of (drop n all))) (sym one)
+pub next_left : (text all others : List ℕ) (first n : ℕ) (token : grammar.Token) → tokens_of all ≡ tokens_of text → all ≡ first ∷ others →
+    is_blank first ≡ false →
+    (first == 35) ≡ false → token ≡ capped (token_at first all) → n ≡ token_length first all → 1 ≤ n →
+    map capped (tokens_of text) ≡ token ∷ map capped (tokens_of (drop n all))
+next_left text all others first n token same is blank sharp one long some = ap (map capped) (sym same ∙ along) ∙ ap
+    (λ t. t ∷ map capped (tokens_of (drop n all))) (sym one)
   where
     along : tokens_of all ≡ token_at first all ∷ tokens_of (drop n all)
     along =

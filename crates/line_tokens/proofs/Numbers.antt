@@ -30,7 +30,8 @@ run_passes : (base : ℕ) (text : List ℕ) → list_all (is_digit_of base) (run
 run_passes base [] = refl
 run_passes base (b ∷ text) = by_test (is_digit_of base b) refl (run_passes base text)
   where
-    by_test : (x : Bool) → is_digit_of base b ≡ x → list_all (is_digit_of base) (run_of base text) ≡ true → list_all (is_digit_of base) (run_of base (b ∷ text)) ≡ true
+    by_test : (x : Bool) → is_digit_of base b ≡ x → list_all (is_digit_of base) (run_of base text) ≡ true →
+        list_all (is_digit_of base) (run_of base (b ∷ text)) ≡ true
     by_test true e rest = rw (take_while-cons (is_digit_of base) b text, e) (rw e rest)
     by_test false e rest = rw (take_while-cons (is_digit_of base) b text, e)
 

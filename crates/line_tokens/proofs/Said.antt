@@ -41,7 +41,8 @@ hex_small count ds few long all =
     lt_of_lt_of_le below room
 
 -- the number of so many hexadecimal digits
-pub hex_said : (count value : ℕ) (ds : List ℕ) → length ds ≡ count → list_all is_hex_digit ds ≡ true → value ≡ digits_value 16 ds → Some value ≡ hex_value count ds
+pub hex_said : (count value : ℕ) (ds : List ℕ) → length ds ≡ count → list_all is_hex_digit ds ≡ true → value ≡ digits_value 16 ds →
+    Some value ≡ hex_value count ds
 hex_said count value ds long all e =
     let same : (length ds == count) ≡ true = grind (arith, nat_tests, long) in
     rw (same, all) (ap (λ v. Some v) e)

@@ -20,7 +20,8 @@ use Rattle.mem_cells.proofs.Growing.{grown_word, grown_width, mapped_length}
 use Rattle.mem_cells.proofs.Chains.{split_kept}
 
 -- addresses stay as nodes are added
-pub address_kept : (a b : Build) (g r : ℕ) (x : TermReading) (j : ℕ) → IsBuilt a → Grown a b g r → read_places b ≡ read_places a → j < length (read_places a) → address_of b x j ≡ address_of a x j
+pub address_kept : (a b : Build) (g r : ℕ) (x : TermReading) (j : ℕ) → IsBuilt a → Grown a b g r → read_places b ≡ read_places a → j < length (read_places a) →
+    address_of b x j ≡ address_of a x j
 address_kept a b g r x j c p e l = ap (λ z. term_word x b.dag (slice_index z j)) e ∙ grown_word a b g r x (slice_index (read_places a) j) p (c.addresses j l).0
 
 -- agreements stay as nodes are added
@@ -30,7 +31,8 @@ ties_kept a b g r ts pairs c p e within h = record {
   formed = λ t k. let f = h.formed t k in (grown_width a b g r 1 t.condition.0 p f.0, omega (arith, f.1, ap length e), omega (arith, f.2, ap length e));
   sound = λ x i t k o.
       let f = h.formed t k in
-      address_kept a b g r x t.read c p e f.1 ∙ h.sound x i t k (sym (grown_word a b g r x t.condition.0 p f.0.0) ∙ o) ∙ sym (address_kept a b g r x t.other c p e f.2);
+      address_kept a b g r x t.read c p e f.1 ∙ h.sound x i t k (sym (grown_word a b g r x t.condition.0 p f.0.0) ∙ o) ∙ sym
+      (address_kept a b g r x t.other c p e f.2);
   complete = λ x i base q m n s z.
       h.complete x i base (λ t k o. q t k (grown_word a b g r x t.condition.0 p (h.formed t k).0.0 ∙ o)) m n s
       (sym (address_kept a b g r x m c p e (within m n s).0) ∙ z ∙ address_kept a b g r x n c p e (within m n s).1);
@@ -43,20 +45,25 @@ pub is_one : (a b : ℕ) → a ≡ b → bit (a == b) ≡ 1
 is_one a b h = grind (arith, nat_tests)
 
 -- one more agreement
-pub ties_next : (b : Build) (ts : List Agreement) (pairs : ℕ → ℕ → Type 0) (t : Agreement) → AreTies b ts pairs → t.read < length (read_places b) → t.other < length (read_places b) →
-    IsWord b.dag 1 t.condition.0 (λ x. bit (address_of b x t.read == address_of b x t.other)) → AreTies b (ts ++ t ∷ []) (λ i j. pairs i j ⊎ (i ≡ t.read) × (j ≡ t.other))
+pub ties_next : (b : Build) (ts : List Agreement) (pairs : ℕ → ℕ → Type 0) (t : Agreement) → AreTies b ts pairs → t.read < length (read_places b) →
+    t.other < length (read_places b) →
+    IsWord b.dag 1 t.condition.0 (λ x. bit (address_of b x t.read == address_of b x t.other)) →
+    AreTies b (ts ++ t ∷ []) (λ i j. pairs i j ⊎ (i ≡ t.read) × (j ≡ t.other))
 ties_next b ts pairs t h lr lo w = record {
   formed = λ a k. elim (Contains-push_cases ts t a k) [
     | inl m ↦ h.formed a m
-    | inr e ↦ subst (λ (z : Agreement). HasWidth b.dag 1 z.condition.0 × (z.read < length (read_places b)) × (z.other < length (read_places b))) e (w.place, lr, lo)
+    | inr e ↦ subst (λ (z : Agreement). HasWidth b.dag 1 z.condition.0 × (z.read < length (read_places b)) ×
+        (z.other < length (read_places b))) e (w.place, lr, lo)
   ];
   sound = λ x i a k. elim (Contains-push_cases ts t a k) [
     | inl m ↦ h.sound x i a m
-    | inr e ↦ subst (λ (z : Agreement). term_word x b.dag z.condition.0 ≡ 1 → address_of b x z.read ≡ address_of b x z.other) e (λ o. one_is _ _ (sym (w.value x i) ∙ o))
+    | inr e ↦ subst (λ (z : Agreement). term_word x b.dag z.condition.0 ≡ 1 →
+        address_of b x z.read ≡ address_of b x z.other) e (λ o. one_is _ _ (sym (w.value x i) ∙ o))
   ];
   complete = λ x i base q m n s z. elim s [
     | inl p ↦ h.complete x i base (λ a k. q a (Contains-append_left ts (t ∷ []) a k)) m n p z
-    | inr p ↦ ap base p.0 ∙ q t (Contains-push ts t) (w.value x i ∙ is_one _ _ (ap (address_of b x) (sym p.0) ∙ z ∙ ap (address_of b x) p.1)) ∙ sym (ap base p.1)
+    | inr p ↦ ap base p.0 ∙ q t (Contains-push ts t) (w.value x i ∙ is_one _ _ (ap (address_of b x) (sym p.0) ∙ z ∙ ap (address_of b x) p.1)) ∙ sym
+        (ap base p.1)
   ];
 }
 
@@ -67,7 +74,8 @@ apart_is : (p q : Split) → lies_apart p q 1 ≡ true → (p.base.0 ≡ q.base.
 apart_is p q h = grind (arith, nat_tests)
 
 -- two reads that are surely apart need none
-pub ties_apart : (b : Build) (ts : List Agreement) (pairs : ℕ → ℕ → Type 0) (sums : List Split) (i j : ℕ) → IsBuilt b → AreSums b sums → i < length (read_places b) → j < length (read_places b) →
+pub ties_apart : (b : Build) (ts : List Agreement) (pairs : ℕ → ℕ → Type 0) (sums : List Split) (i j : ℕ) → IsBuilt b → AreSums b sums →
+    i < length (read_places b) → j < length (read_places b) →
     lies_apart (sum_at sums i) (sum_at sums j) 1 ≡ true → AreTies b ts pairs → AreTies b ts (λ m n. pairs m n ⊎ (m ≡ i) × (n ≡ j))
 ties_apart b ts pairs sums i j c a li lj t h = record {
   formed = h.formed;
@@ -80,8 +88,10 @@ ties_apart b ts pairs sums i j c a li lj t h = record {
         let g = a j lj in
         let y = term_word x b.dag (sum_at sums j).base.0 in
         let e : add 32 y (sum_at sums i).offset ≡ add 32 y (sum_at sums j).offset =
-        ap (λ k. add 32 (term_word x b.dag k) (sum_at sums i).offset) (sym d.0) ∙ sym (f.value x r) ∙ ap (address_of b x) (sym p.0) ∙ z ∙ ap (address_of b x) p.1 ∙ g.value x r in
-        absurd (sums_differ y (sum_at sums i).offset (sum_at sums j).offset (word_fits x b.dag 32 (sum_at sums j).base.0 r c.typed g.place) f.below g.below d.1 e))
+        ap (λ k. add 32 (term_word x b.dag k) (sum_at sums i).offset) (sym d.0) ∙ sym (f.value x r) ∙ ap (address_of b x) (sym p.0) ∙ z ∙ ap
+        (address_of b x) p.1 ∙ g.value x r in
+        absurd (sums_differ y (sum_at sums i).offset (sum_at sums j).offset
+        (word_fits x b.dag 32 (sum_at sums j).base.0 r c.typed g.place) f.below g.below d.1 e))
   ];
 }
 
@@ -96,7 +106,11 @@ one_pair other read i j (l, inr h) = elim (cases_lt i read) [ inl k ↦ inl (l, 
 
 -- a whole row
 pub whole_row : (other i j : ℕ) → Before (other + 1) 0 i j → Before other other i j
-whole_row other i j (l, inl h) = elim (cases_lt j other) [ inl k ↦ (l, inl k) | inr k ↦ (let e : j ≡ other = omega (arith, h, k) in (l, inr (e, omega (arith, e, l)))) ]
+whole_row other i j (l, inl h) = elim (cases_lt j other) [
+  | inl k ↦ (l, inl k)
+  | inr k ↦ (let e : j
+      ≡ other = omega (arith, h, k) in (l, inr (e, omega (arith, e, l))))
+]
 whole_row other i j (l, inr h) = absurd (omega (arith, h.1))
 
 pub pairs_within : (n other read : ℕ) → other < n → (i j : ℕ) → Before other read i j → (i < n) × (j < n)
@@ -120,8 +134,10 @@ sums_kept a b g sums c p h j l =
     (split_kept a b g 0 (slice_index (read_places a) j) (sum_at sums j).base.0 (sum_at sums j).offset p (c.addresses j k).0 (h j k))
 
 -- a tie of two reads
-pub tied : (a b : Build) (g : ℕ) (ts us : List Agreement) (t : Agreement) (left right other read : ℕ) → IsBuilt a → Grown a b g 0 → us ≡ ts ++ t ∷ [] → t.read ≡ read → t.other ≡ other → read < other → other < length (read_places a) →
-    left ≡ slice_index (read_places a) read → right ≡ slice_index (read_places a) other → IsWord b.dag 1 t.condition.0 (λ x. bit (term_word x a.dag left == term_word x a.dag right)) →
+pub tied : (a b : Build) (g : ℕ) (ts us : List Agreement) (t : Agreement) (left right other read : ℕ) → IsBuilt a → Grown a b g 0 → us ≡ ts ++ t ∷ [] →
+    t.read ≡ read → t.other ≡ other → read < other → other < length (read_places a) →
+    left ≡ slice_index (read_places a) read → right ≡ slice_index (read_places a) other →
+    IsWord b.dag 1 t.condition.0 (λ x. bit (term_word x a.dag left == term_word x a.dag right)) →
     AreTies a ts (Before other read) → AreTies b us (Before other (read + 1))
 tied a b g ts us t left right other read c p e er eo l lo hl hr w h =
     let s = same_reads a b g p in
@@ -130,17 +146,21 @@ tied a b g ts us t left right other read c p e er eo l lo hl hr w h =
     subst (λ (z : List Agreement). AreTies b z (Before other (read + 1))) (sym e)
     (ties_fewer b (ts ++ t ∷ []) (λ i j. Before other read i j ⊎ (i ≡ t.read) × (j ≡ t.other)) (Before other (read + 1))
     (λ i j k. elim (one_pair other read i j k) [ inl m ↦ inl m | inr m ↦ inr (m.0 ∙ sym er, m.1 ∙ sym eo) ])
-    (ties_next b ts (Before other read) t (ties_kept a b g 0 ts (Before other read) c p s (pairs_within _ other read lo) h) (omega (arith, lr, ap length s)) (omega (arith, lt, ap length s))
+    (ties_next b ts (Before other read) t (ties_kept a b g 0 ts (Before other read) c p s (pairs_within _ other read lo) h) (omega (arith, lr, ap length s))
+    (omega (arith, lt, ap length s))
     (record {
       place = w.place;
       value = λ x i.
           w.value x i
-          ∙ ap (λ z. bit (z == term_word x a.dag right)) (ap (term_word x a.dag) (hl ∙ ap (slice_index (read_places a)) (sym er)) ∙ sym (address_kept a b g 0 x t.read c p s lr))
-          ∙ ap (λ z. bit (address_of b x t.read == z)) (ap (term_word x a.dag) (hr ∙ ap (slice_index (read_places a)) (sym eo)) ∙ sym (address_kept a b g 0 x t.other c p s lt));
+          ∙ ap (λ z. bit (z == term_word x a.dag right)) (ap (term_word x a.dag) (hl ∙ ap (slice_index (read_places a)) (sym er)) ∙ sym
+          (address_kept a b g 0 x t.read c p s lr))
+          ∙ ap (λ z. bit (address_of b x t.read == z)) (ap (term_word x a.dag) (hr ∙ ap (slice_index (read_places a)) (sym eo)) ∙ sym
+          (address_kept a b g 0 x t.other c p s lt));
     })))
 
 -- two reads that are surely apart
-pub untied : (a : Build) (ts : List Agreement) (sums : List Split) (other read : ℕ) → IsBuilt a → AreSums a sums → read < other → other < length (read_places a) →
+pub untied : (a : Build) (ts : List Agreement) (sums : List Split) (other read : ℕ) → IsBuilt a → AreSums a sums → read < other →
+    other < length (read_places a) →
     lies_apart (sum_at sums read) (sum_at sums other) 1 ≡ true → AreTies a ts (Before other read) → AreTies a ts (Before other (read + 1))
 untied a ts sums other read c s l lo t h =
     ties_fewer a ts (λ i j. Before other read i j ⊎ (i ≡ read) × (j ≡ other)) (Before other (read + 1)) (one_pair other read)
@@ -158,14 +178,17 @@ read_width b i t d c l e =
     subst (HasWidth b.dag 32) (sym (ap (λ z. z.0) e ∙ mapped_at b.addresses.items i d l)) (c.addresses i (omega (arith, l, mapped_length b.addresses.items)))
 
 -- one more sum
-pub sum_next_of : (b : Build) (sums : List Split) (s : Split) (n t : ℕ) → length sums ≡ n → t ≡ slice_index (read_places b) n → IsSplit b.dag t s.base.0 s.offset →
+pub sum_next_of : (b : Build) (sums : List Split) (s : Split) (n t : ℕ) → length sums ≡ n → t ≡ slice_index (read_places b) n →
+    IsSplit b.dag t s.base.0 s.offset →
     ((j : ℕ) → j < n → IsSplit b.dag (slice_index (read_places b) j) (sum_at sums j).base.0 (sum_at sums j).offset) →
     (j : ℕ) → j < n + 1 → IsSplit b.dag (slice_index (read_places b) j) (sum_at (sums ++ s ∷ []) j).base.0 (sum_at (sums ++ s ∷ []) j).offset
 sum_next_of b sums s n t e f h g j l = elim (cases_lt j n) [
-  | inl k ↦ subst (λ (z : Split). IsSplit b.dag (slice_index (read_places b) j) z.base.0 z.offset) (sym (get_or_append_left sums (s ∷ []) (record { base = record { 0 = 0 }; offset = 0 }) j (omega (arith, k, e)))) (g j k)
+  | inl k ↦ subst (λ (z : Split). IsSplit b.dag (slice_index (read_places b) j) z.base.0 z.offset)
+      (sym (get_or_append_left sums (s ∷ []) (record { base = record { 0 = 0 }; offset = 0 }) j (omega (arith, k, e)))) (g j k)
   | inr k ↦ (
       let q : j ≡ n = omega (arith, l, k) in
-      subst (λ (z : Split). IsSplit b.dag (slice_index (read_places b) j) z.base.0 z.offset) (sym (ap (sum_at (sums ++ s ∷ [])) (q ∙ sym e) ∙ last sums s (record { base = record { 0 = 0 }; offset = 0 })))
+      subst (λ (z : Split). IsSplit b.dag (slice_index (read_places b) j) z.base.0 z.offset)
+      (sym (ap (sum_at (sums ++ s ∷ [])) (q ∙ sym e) ∙ last sums s (record { base = record { 0 = 0 }; offset = 0 })))
       (subst (λ (z : ℕ). IsSplit b.dag z s.base.0 s.offset) (f ∙ ap (slice_index (read_places b)) (sym q)) h))
 ]
 

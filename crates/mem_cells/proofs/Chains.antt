@@ -20,7 +20,8 @@ use Rattle.mem_cells.proofs.Growing.{grown_word, grown_width, gives_before}
 use Rattle.mem_cells.proofs.Puts.{puts_same, put_within}
 
 -- what is kept of pieces as cells grow
-pub stored_kept : (a b : Build) (g r : ℕ) (stored : List StoredByte) (s : Split) (f n : ℕ) → Grown a b g r → IsStored a.dag stored s f n → IsStored b.dag stored s f n
+pub stored_kept : (a b : Build) (g r : ℕ) (stored : List StoredByte) (s : Split) (f n : ℕ) → Grown a b g r → IsStored a.dag stored s f n →
+    IsStored b.dag stored s f n
 stored_kept a b g r stored s f n p h = record {
   are = record {
     few = h.are.few;
@@ -40,7 +41,8 @@ piece_kept a b g r stored q Entry p h = h
 piece_kept a b g r stored q (Store m s f n) p h = (h.0, stored_kept a b g r stored s f n p h.1)
 piece_kept a b g r stored q (Join c m n) p h = (grown_width a b g r 1 c.0 p h.0, h.1, h.2)
 
-pub pieces_kept : (a b : Build) (g r : ℕ) (stored : List StoredByte) (pieces : List Piece) → Grown a b g r → ArePieces a.dag stored pieces → ArePieces b.dag stored pieces
+pub pieces_kept : (a b : Build) (g r : ℕ) (stored : List StoredByte) (pieces : List Piece) → Grown a b g r → ArePieces a.dag stored pieces →
+    ArePieces b.dag stored pieces
 pieces_kept a b g r stored pieces p h q l = piece_kept a b g r stored q (piece_at pieces q) p (h q l)
 
 pub split_kept : (a b : Build) (g r t base offset : ℕ) → Grown a b g r → t < length a.dag → IsSplit a.dag t base offset → IsSplit b.dag t base offset
@@ -63,21 +65,25 @@ pieces_rise nodes stored pieces h q l = piece_rises nodes stored q (piece_at pie
 bytes_same : (a b : Build) (g r : ℕ) (x : TermReading) (stored : List StoredByte) (f n t y : ℕ) → Grown a b g r → AreBytes a.dag stored f n → t < length a.dag →
     put_bytes (term_word x b.dag) stored f n t y ≡ put_bytes (term_word x a.dag) stored f n t y
 bytes_same a b g r x stored f n t y p h l =
-    ap (λ z. puts z (λ k. term_word x b.dag (stored_at stored (f + k)).address.0) (λ k. term_word x b.dag (stored_at stored (f + k)).value.0) n y) (grown_word a b g r x t p l)
+    ap (λ z. puts z (λ k. term_word x b.dag (stored_at stored (f + k)).address.0)
+    (λ k. term_word x b.dag (stored_at stored (f + k)).value.0) n y) (grown_word a b g r x t p l)
     ∙ puts_same (term_word x a.dag t) _ _ _ _ n y
     (λ k m. grown_word a b g r x (stored_at stored (f + k)).address.0 p (h.addresses k m).0)
     (λ k m. grown_word a b g r x (stored_at stored (f + k)).value.0 p (h.values k m).0)
 
 -- the byte of a piece over terms that have the bytes of the pieces that it needs
-pub piece_agrees : (a b : Build) (g r : ℕ) (x : TermReading) (stored : List StoredByte) (q : ℕ) (z : Piece) (at : Split) (t : ℕ) (chain : List Term) (bytes : ℕ → ℕ) (marks : List Bool) →
+pub piece_agrees : (a b : Build) (g r : ℕ) (x : TermReading) (stored : List StoredByte) (q : ℕ) (z : Piece) (at : Split) (t : ℕ) (chain : List Term)
+    (bytes : ℕ → ℕ) (marks : List Bool) →
     IsBuilt a → Grown a b g r → InRange x → IsPiece a.dag stored q z → HasWidth a.dag 32 t → IsSplit a.dag t at.base.0 at.offset → Needs marks at z →
     ((p : ℕ) → p < q → bool_at marks p ≡ true → term_word x b.dag (link chain p) ≡ bytes p) →
-    piece_byte (term_word x b.dag) x.mem (λ p. term_word x b.dag (link chain p)) stored z (term_word x b.dag t) ≡ piece_byte (term_word x a.dag) x.mem bytes stored z (term_word x a.dag t)
+    piece_byte (term_word x b.dag) x.mem (λ p. term_word x b.dag (link chain p)) stored z (term_word x b.dag t)
+    ≡ piece_byte (term_word x a.dag) x.mem bytes stored z (term_word x a.dag t)
 piece_agrees a b g r x stored q Entry at t chain bytes marks c p i h w s n e = ap x.mem (grown_word a b g r x t p w.0)
 piece_agrees a b g r x stored q (Store m to f k) at t chain bytes marks c p i h w s n e =
     bytes_same a b g r x stored f k t (term_word x b.dag (link chain m)) p h.1.are w.0 ∙ below (ends_in at to k) refl
   where
-    below : (y : Bool) → ends_in at to k ≡ y → put_bytes (term_word x a.dag) stored f k t (term_word x b.dag (link chain m)) ≡ put_bytes (term_word x a.dag) stored f k t (bytes m)
+    below : (y : Bool) → ends_in at to k ≡ y → put_bytes (term_word x a.dag) stored f k t (term_word x b.dag (link chain m))
+        ≡ put_bytes (term_word x a.dag) stored f k t (bytes m)
     below true y = put_within a stored at to f k t x _ _ c i h.1 s y
     below false y = ap (put_bytes (term_word x a.dag) stored f k t) (e m h.0 (n y))
 piece_agrees a b g r x stored q (Join d m o) at t chain bytes marks c p i h w s n e =
@@ -86,7 +92,8 @@ piece_agrees a b g r x stored q (Join d m o) at t chain bytes marks c p i h w s 
     ∙ ap (select (term_word x a.dag d.0) (bytes m)) (e o h.2 n.1)
 
 -- the byte of a piece stays one as cells grow
-pub byte_later : (a b d : Build) (g r h s : ℕ) (stored : List StoredByte) (pieces : List Piece) (q t y : ℕ) → IsBuilt b → Grown b d h s → IsByteOf a b stored pieces q t y → IsByteOf a d stored pieces q t y
+pub byte_later : (a b d : Build) (g r h s : ℕ) (stored : List StoredByte) (pieces : List Piece) (q t y : ℕ) → IsBuilt b → Grown b d h s →
+    IsByteOf a b stored pieces q t y → IsByteOf a d stored pieces q t y
 byte_later a b d g r h s stored pieces q t y c p k = record {
   place = grown_width b d h s 8 y p k.place;
   value = λ x i v bytes f. grown_word b d h s x y p k.place.0 ∙ k.value x i (gives_before b d h s x c p v) bytes f;
@@ -100,7 +107,8 @@ pub linked_last : (chain : List Term) (t : Term) (q : ℕ) → q ≡ length chai
 linked_last chain t q e = ap (link (chain ++ t ∷ [])) e ∙ ap (λ z. z.0) (last chain t (record { 0 = 0 }))
 
 -- the links that a piece needs
-pub has_links : (nodes : List TermNode) (stored : List StoredByte) (chain : List Term) (q : ℕ) (z : Piece) (at : Split) (marks : List Bool) → IsPiece nodes stored q z → Needs marks at z →
+pub has_links : (nodes : List TermNode) (stored : List StoredByte) (chain : List Term) (q : ℕ) (z : Piece) (at : Split) (marks : List Bool) →
+    IsPiece nodes stored q z → Needs marks at z →
     ((p : ℕ) → p < q → bool_at marks p ≡ true → HasWidth nodes 8 (link chain p)) → HasLinks nodes chain at z
 has_links nodes stored chain q Entry at marks h n e = tt
 has_links nodes stored chain q (Store m s f k) at marks h n e = λ y. e m h.0 (n y)
@@ -112,9 +120,11 @@ take_next [] q l = absurd (omega arith)
 take_next (z ∷ zs) zero l = refl
 take_next (z ∷ zs) (suc q) l = ap (λ k. z ∷ k) (take_next zs q (omega arith))
 
-pub sum_next : (f : Piece → ℕ) (pieces : List Piece) (q : ℕ) → q < length pieces → sum_by f (take (q + 1) pieces) ≡ sum_by f (take q pieces) + f (piece_at pieces q)
+pub sum_next : (f : Piece → ℕ) (pieces : List Piece) (q : ℕ) → q < length pieces →
+    sum_by f (take (q + 1) pieces) ≡ sum_by f (take q pieces) + f (piece_at pieces q)
 sum_next f pieces q l =
-    ap (λ k. sum_by f (take k pieces)) (let e : q + 1 ≡ suc q = omega arith in e) ∙ ap (sum_by f) (take_next pieces q l) ∙ sum_by-append f (take q pieces) (piece_at pieces q ∷ [])
+    ap (λ k. sum_by f (take k pieces)) (let e : q + 1 ≡ suc q = omega arith
+    in e) ∙ ap (sum_by f) (take_next pieces q l) ∙ sum_by-append f (take q pieces) (piece_at pieces q ∷ [])
     ∙ (let e : sum_by f (take q pieces) + (0 + f (piece_at pieces q)) ≡ sum_by f (take q pieces) + f (piece_at pieces q) = omega arith in e)
 
 -- only the first piece reads the memory at entry
@@ -128,14 +138,22 @@ reads_one Entry = omega arith
 reads_one (Store m s f n) = omega arith
 reads_one (Join c a b) = omega arith
 
-pub one_read : (nodes : List TermNode) (stored : List StoredByte) (pieces : List Piece) (q : ℕ) → ArePieces nodes stored pieces → q ≤ length pieces → sum_by piece_reads (take q pieces) ≤ 1
+pub one_read : (nodes : List TermNode) (stored : List StoredByte) (pieces : List Piece) (q : ℕ) → ArePieces nodes stored pieces → q ≤ length pieces →
+    sum_by piece_reads (take q pieces) ≤ 1
 one_read nodes stored pieces zero h l = omega arith
 one_read nodes stored pieces (suc zero) h l =
     let e : suc zero ≡ 0 + 1 = omega arith in
     omega (arith, ap (λ k. sum_by piece_reads (take k pieces)) e, sum_next piece_reads pieces 0 (omega (arith, l)), reads_one (piece_at pieces 0))
 one_read nodes stored pieces (suc (suc q)) h l =
     let e : suc (suc q) ≡ suc q + 1 = omega arith in
-    omega (arith, ap (λ k. sum_by piece_reads (take k pieces)) e, sum_next piece_reads pieces (suc q) (omega (arith, l)), reads_none nodes stored (suc q) (piece_at pieces (suc q)) (omega arith) (h (suc q) (omega (arith, l))), one_read nodes stored pieces (suc q) h (omega (arith, l)))
+    omega (
+      arith,
+      ap (λ k. sum_by piece_reads (take k pieces)) e,
+      sum_next piece_reads pieces (suc q) (omega (arith, l)),
+      reads_none nodes stored (suc q)
+          (piece_at pieces (suc q)) (omega arith) (h (suc q) (omega (arith, l))),
+      one_read nodes stored pieces (suc q) h (omega (arith, l)),
+    )
 
 -- an element within a list does not hang on what stands for one behind it
 pub any_default : {X : Type 0} → (xs : List X) (i : ℕ) (d e : X) → i < length xs → get_or xs i d ≡ get_or xs i e
@@ -144,29 +162,39 @@ any_default (x ∷ xs) zero d e l = refl
 any_default (x ∷ xs) (suc i) d e l = any_default xs i d e (omega arith)
 
 -- a piece of a list, as a call has it
-pub piece_here : (nodes : List TermNode) (stored other : List StoredByte) (pieces : List Piece) (q n : ℕ) (z : Piece) → ArePieces nodes stored pieces → q < length pieces → other ≡ stored → n ≡ q →
+pub piece_here : (nodes : List TermNode) (stored other : List StoredByte) (pieces : List Piece) (q n : ℕ) (z : Piece) → ArePieces nodes stored pieces →
+    q < length pieces → other ≡ stored → n ≡ q →
     z ≡ piece_at pieces q → IsPiece nodes other n z
 piece_here nodes stored other pieces q n z h l e f g =
-    subst (λ (s : List StoredByte). IsPiece nodes s n z) (sym e) (subst (λ (k : ℕ). IsPiece nodes stored k z) (sym f) (subst (IsPiece nodes stored q) (sym g) (h q l)))
+    subst (λ (s : List StoredByte). IsPiece nodes s n z) (sym e) (subst
+    (λ (k : ℕ). IsPiece nodes stored k z) (sym f) (subst (IsPiece nodes stored q) (sym g) (h q l)))
 
 -- the links up to a number
 abbrev pub AreLinks : (old new : Build) → List StoredByte → List Piece → List Bool → (address : ℕ) → (q : ℕ) → List Term → Type 0
 AreLinks old new stored pieces marks t q chain = (p : ℕ) → p < q → bool_at marks p ≡ true → IsByteOf old new stored pieces p t (link chain p)
 
 -- one more link, of a marked piece
-pub marked_next : (old mid new : Build) (g r h s : ℕ) (stored other : List StoredByte) (pieces : List Piece) (marks : List Bool) (at : Split) (t q : ℕ) (chain same : List Term) (z : Piece) (y : Term) →
-    IsBuilt old → ArePieces old.dag stored pieces → q < length pieces → AreClosed marks pieces at 0 → q < length marks → bool_at marks q ≡ true → IsSplit old.dag t at.base.0 at.offset →
-    HasWidth old.dag 32 t → other ≡ stored → same ≡ chain → z ≡ piece_at pieces q → length chain ≡ q → Grown old mid g r → AreLinks old mid stored pieces marks t q chain → Grown mid new h s →
+pub marked_next : (old mid new : Build) (g r h s : ℕ) (stored other : List StoredByte) (pieces : List Piece) (marks : List Bool) (at : Split) (t q : ℕ)
+    (chain same : List Term) (z : Piece) (y : Term) →
+    IsBuilt old → ArePieces old.dag stored pieces → q < length pieces → AreClosed marks pieces at 0 → q < length marks → bool_at marks q ≡ true →
+    IsSplit old.dag t at.base.0 at.offset →
+    HasWidth old.dag 32 t → other ≡ stored → same ≡ chain → z ≡ piece_at pieces q → length chain ≡ q → Grown old mid g r →
+    AreLinks old mid stored pieces marks t q chain → Grown mid new h s →
     IsByte new y.0 (λ x. piece_byte (term_word x mid.dag) x.mem (λ p. term_word x mid.dag (link same p)) other z (term_word x mid.dag t)) →
     AreLinks old new stored pieces marks t (q + 1) (chain ++ y ∷ [])
 marked_next old mid new g r h s stored other pieces marks at t q chain same z y c d l e m k i w eo es ez n p f v b p' lp mp = elim (cases_lt p' q) [
-  | inl j ↦ subst (IsByteOf old new stored pieces p' t) (sym (linked chain y p' (omega (arith, n, j)))) (byte_later old mid new g r h s stored pieces p' t (link chain p') p.built v (f p' j mp))
+  | inl j ↦ subst (IsByteOf old new stored pieces p' t) (sym (linked chain y p' (omega (arith, n, j))))
+      (byte_later old mid new g r h s stored pieces p' t (link chain p') p.built v (f p' j mp))
   | inr j ↦ (
       let a : p' ≡ q = omega (arith, lp, j) in
-      let one : IsByte new y.0 (λ x. piece_byte (term_word x mid.dag) x.mem (λ p. term_word x mid.dag (link chain p)) stored (piece_at pieces q) (term_word x mid.dag t)) =
-      subst (λ (u : List StoredByte). IsByte new y.0 (λ x. piece_byte (term_word x mid.dag) x.mem (λ p. term_word x mid.dag (link chain p)) u (piece_at pieces q) (term_word x mid.dag t))) eo
-      (subst (λ (u : List Term). IsByte new y.0 (λ x. piece_byte (term_word x mid.dag) x.mem (λ p. term_word x mid.dag (link u p)) other (piece_at pieces q) (term_word x mid.dag t))) es
-      (subst (λ (u : Piece). IsByte new y.0 (λ x. piece_byte (term_word x mid.dag) x.mem (λ p. term_word x mid.dag (link same p)) other u (term_word x mid.dag t))) ez b)) in
+      let one : IsByte new y.0 (λ x. piece_byte (term_word x mid.dag) x.mem
+      (λ p. term_word x mid.dag (link chain p)) stored (piece_at pieces q) (term_word x mid.dag t)) =
+      subst (λ (u : List StoredByte). IsByte new y.0 (λ x. piece_byte (term_word x mid.dag) x.mem
+      (λ p. term_word x mid.dag (link chain p)) u (piece_at pieces q) (term_word x mid.dag t))) eo
+      (subst (λ (u : List Term). IsByte new y.0 (λ x. piece_byte (term_word x mid.dag) x.mem
+      (λ p. term_word x mid.dag (link u p)) other (piece_at pieces q) (term_word x mid.dag t))) es
+      (subst (λ (u : Piece). IsByte new y.0 (λ x. piece_byte (term_word x mid.dag) x.mem
+      (λ p. term_word x mid.dag (link same p)) other u (term_word x mid.dag t))) ez b)) in
       subst (IsByteOf old new stored pieces p' t) (sym (linked_last chain y p' (a ∙ sym n)))
       (subst (λ (u : ℕ). IsByteOf old new stored pieces u t y.0) (sym a) (record {
         place = one.place;
@@ -179,7 +207,8 @@ marked_next old mid new g r h s stored other pieces marks at t q chain same z y 
 ]
 
 -- a piece that is not marked needs no link
-pub unmarked_next : (old new : Build) (stored : List StoredByte) (pieces : List Piece) (marks : List Bool) (t q : ℕ) (chain : List Term) (y : Term) → bool_at marks q ≡ false → length chain ≡ q →
+pub unmarked_next : (old new : Build) (stored : List StoredByte) (pieces : List Piece) (marks : List Bool) (t q : ℕ) (chain : List Term) (y : Term) →
+    bool_at marks q ≡ false → length chain ≡ q →
     AreLinks old new stored pieces marks t q chain → AreLinks old new stored pieces marks t (q + 1) (chain ++ y ∷ [])
 unmarked_next old new stored pieces marks t q chain y k n f p lp mp = elim (cases_lt p q) [
   | inl j ↦ subst (IsByteOf old new stored pieces p t) (sym (linked chain y p (omega (arith, n, j)))) (f p j mp)
@@ -187,7 +216,8 @@ unmarked_next old new stored pieces marks t q chain y k n f p lp mp = elim (case
 ]
 
 -- the byte of a piece over terms that were there before
-pub piece_words : (a b : Build) (g r : ℕ) (x : TermReading) (m : Memory) (stored : List StoredByte) (q : ℕ) (z : Piece) (bytes : ℕ → ℕ) (i : ℕ) → Grown a b g r → IsPiece a.dag stored q z →
+pub piece_words : (a b : Build) (g r : ℕ) (x : TermReading) (m : Memory) (stored : List StoredByte) (q : ℕ) (z : Piece) (bytes : ℕ → ℕ) (i : ℕ) →
+    Grown a b g r → IsPiece a.dag stored q z →
     piece_byte (term_word x b.dag) m bytes stored z i ≡ piece_byte (term_word x a.dag) m bytes stored z i
 piece_words a b g r x m stored q Entry bytes i p h = refl
 piece_words a b g r x m stored q (Store d to f k) bytes i p h =
@@ -197,7 +227,8 @@ piece_words a b g r x m stored q (Store d to f k) bytes i p h =
 piece_words a b g r x m stored q (Join c d e) bytes i p h = ap (λ z. select z (bytes d) (bytes e)) (grown_word a b g r x c.0 p h.0.0)
 
 -- the byte of a piece at the address of a term that was there before
-pub byte_before : (a b d : Build) (g r : ℕ) (stored : List StoredByte) (pieces : List Piece) (q n t y : ℕ) → Grown a b g r → ArePieces a.dag stored pieces → t < length a.dag → n ≡ q →
+pub byte_before : (a b d : Build) (g r : ℕ) (stored : List StoredByte) (pieces : List Piece) (q n t y : ℕ) → Grown a b g r → ArePieces a.dag stored pieces →
+    t < length a.dag → n ≡ q →
     IsByteOf b d stored pieces n t y → IsByteOf a d stored pieces q t y
 byte_before a b d g r stored pieces q n t y p h l e k = subst (λ (z : ℕ). IsByteOf a d stored pieces z t y) e (record {
   place = k.place;

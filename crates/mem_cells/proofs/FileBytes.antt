@@ -81,7 +81,8 @@ contains_any : (xs : List ℕ) (a : ℕ) → Contains xs a → list_any (nat_eq 
 contains_any xs a h = list_any-from_Any (nat_eq a) xs (h.0, a, h.1, h.2, is_equal a a refl)
 
 -- all asked addresses
-pub found_asked : (found v added literals : List ℕ) (i a : ℕ) → length literals ≤ i → is_found found literals i a ≡ is_asked added literals a → Contains found a ↔ Contains v a →
+pub found_asked : (found v added literals : List ℕ) (i a : ℕ) → length literals ≤ i → is_found found literals i a ≡ is_asked added literals a →
+    Contains found a ↔ Contains v a →
     Contains v a ↔ (is_asked added literals a ≡ true)
 found_asked found v added literals i a l e s = (
   (λ h. sym e ∙ found_all found literals i a l ∙ contains_any found a (s.1 h)),
@@ -107,7 +108,8 @@ next_run : (known : List Known) (i a : ℕ) (d : Known) → i < length known →
 next_run known i a d l =
     ap (λ k. byte_of_runs (map run_of k) a) (drop_more known i d l) ∙ first_run (run_of (get_or known i d)) (map run_of (drop (i + 1) known)) a
 
-pub run_hit : (known : List Known) (i a b : ℕ) (d : Known) → i < length known → byte_of_run (run_of (get_or known i d)) a ≡ Some b → byte_of_runs (map run_of (drop i known)) a ≡ Some b
+pub run_hit : (known : List Known) (i a b : ℕ) (d : Known) → i < length known → byte_of_run (run_of (get_or known i d)) a ≡ Some b →
+    byte_of_runs (map run_of (drop i known)) a ≡ Some b
 run_hit known i a b d l h = next_run known i a d l ∙ ap (λ k. or_else k (byte_of_runs (map run_of (drop (i + 1) known)) a)) h
 
 pub run_missed : (known : List Known) (i a : ℕ) (d : Known) → i < length known → byte_of_run (run_of (get_or known i d)) a ≡ None →
@@ -122,7 +124,8 @@ none_by r a h = ap (λ t. if t then Some (slice_index r.bytes (a - r.at)) else N
 
 -- a run that ends before an address
 pub run_before : (k : Known) (at a : ℕ) → k.first < at → k.last < at → at ≤ a → byte_of_run (run_of k) a ≡ None
-run_before k at a h l g = none_by (run_of k) a (let e : (nat_le k.first a && nat_lt a (k.first + (k.last - k.first + 1))) ≡ false = grind (arith, nat_tests) in e)
+run_before k at a h l g = none_by (run_of k) a (let e : (nat_le k.first a &&
+    nat_lt a (k.first + (k.last - k.first + 1))) ≡ false = grind (arith, nat_tests) in e)
 
 pub run_above : (k : Known) (a : ℕ) → a < k.first → byte_of_run (run_of k) a ≡ None
 run_above k a l = none_by (run_of k) a (let e : (nat_le k.first a && nat_lt a (k.first + (k.last - k.first + 1))) ≡ false = grind (arith, nat_tests) in e)
@@ -161,7 +164,8 @@ rises_by [] low f h = tt
 rises_by (x ∷ xs) low f h = (
   f (omega arith),
   rises_by xs (x + 1) (λ l. omega (arith, h 0 (omega (arith, l))))
-      (λ k l. let e : suc k + 1 ≡ suc (k + 1) = omega arith in subst (λ (z : ℕ). slice_index (x ∷ xs) (suc k) < slice_index (x ∷ xs) z) e (h (suc k) (omega (arith, l)))),
+      (λ k l. let e : suc k + 1 ≡ suc (k + 1) = omega arith in subst
+      (λ (z : ℕ). slice_index (x ∷ xs) (suc k) < slice_index (x ∷ xs) z) e (h (suc k) (omega (arith, l)))),
 )
 
 hit_step : (t : Bool) (m x lo n low : ℕ) → (t ≡ true → (lo ≤ x) × (x < lo + n)) → m ≤ n → m ≤ lo + n - (x + 1) → low ≤ x →
@@ -173,17 +177,20 @@ in_range : (lo n x : ℕ) → (nat_le lo x && nat_lt x (lo + n)) ≡ true → (l
 in_range lo n x h = (grind (arith, nat_tests), grind (arith, nat_tests))
 
 -- a run has no more of them than addresses
-hits_run : (lo n low : ℕ) (xs : List ℕ) → Rises low xs → (hits (λ a. nat_le lo a && nat_lt a (lo + n)) xs ≤ n) × (hits (λ a. nat_le lo a && nat_lt a (lo + n)) xs ≤ lo + n - low)
+hits_run : (lo n low : ℕ) (xs : List ℕ) → Rises low xs → (hits (λ a. nat_le lo a && nat_lt a (lo + n)) xs ≤ n) ×
+    (hits (λ a. nat_le lo a && nat_lt a (lo + n)) xs ≤ lo + n - low)
 hits_run lo n low [] r = (omega arith, omega arith)
 hits_run lo n low (x ∷ xs) r =
     let h = hits_run lo n (x + 1) xs r.1 in
     hit_step (nat_le lo x && nat_lt x (lo + n)) (hits (λ a. nat_le lo a && nat_lt a (lo + n)) xs) x lo n low (in_range lo n x) h.0 h.1 r.0
 
-one_or : (t : Bool) (b : ℕ) (o : Option ℕ) → (if is_some (or_else (if t then Some b else None) o) then 1 else 0) ≤ (if t then 1 else 0) + (if is_some o then 1 else 0)
+one_or : (t : Bool) (b : ℕ) (o : Option ℕ) → (if is_some (or_else (if t then Some b else None) o) then 1 else 0)
+    ≤ (if t then 1 else 0) + (if is_some o then 1 else 0)
 one_or true b o = omega arith
 one_or false b o = omega arith
 
-hits_or : (r : ByteRun) (rs : List ByteRun) (xs : List ℕ) → hits (is_known (r ∷ rs)) xs ≤ hits (λ a. nat_le r.at a && nat_lt a (r.at + r.count)) xs + hits (is_known rs) xs
+hits_or : (r : ByteRun) (rs : List ByteRun) (xs : List ℕ) → hits (is_known (r ∷ rs)) xs ≤ hits (λ a. nat_le r.at a &&
+    nat_lt a (r.at + r.count)) xs + hits (is_known rs) xs
 hits_or r rs [] = omega arith
 hits_or r rs (x ∷ xs) =
     let e = ap {B = ℕ} (λ o. if is_some o then 1 else 0) (first_run r rs x) in
@@ -198,7 +205,8 @@ hits_runs [] xs h = omega (arith, hits_none xs)
 hits_runs (r ∷ rs) xs h = omega (arith, hits_or r rs xs, (hits_run r.at r.count 0 xs h).0, hits_runs rs xs h, sum_by-cons (λ (q : ByteRun). q.count) r rs)
 
 -- of numbers that rise no more are known than there are known bytes
-pub few_known : (known : List Known) (xs : List ℕ) (i n : ℕ) → IsStrictlyIncreasing xs → length xs ≤ i → n ≡ hits (is_known (map run_of known)) (take i xs) → n ≤ sum_of known
+pub few_known : (known : List Known) (xs : List ℕ) (i n : ℕ) → IsStrictlyIncreasing xs → length xs ≤ i → n ≡ hits (is_known (map run_of known)) (take i xs) →
+    n ≤ sum_of known
 few_known known xs i n h l e =
     omega (arith, e, ap (hits (is_known (map run_of known))) (take_all i xs l), hits_runs (map run_of known) xs (rises_by xs 0 (λ k. omega arith) h))
 
@@ -209,7 +217,8 @@ file_none runs bytes xs e = record {
   complete = λ a b k h. absurd (omega (arith, k.1));
 }
 
-and_more : (runs : List ByteRun) (xs : List ℕ) (bytes : List FileByte) (a : ℕ) (o : Option ℕ) → o ≡ byte_of_runs runs a → AreFileBytes runs (Contains xs) bytes →
+and_more : (runs : List ByteRun) (xs : List ℕ) (bytes : List FileByte) (a : ℕ) (o : Option ℕ) → o ≡ byte_of_runs runs a →
+    AreFileBytes runs (Contains xs) bytes →
     AreFileBytes runs (Contains (xs ++ a ∷ [])) (and_byte bytes a o)
 and_more runs xs bytes a None e h = record {
   sound = λ f k. let s = h.sound f k in (Contains-append_left xs (a ∷ []) f.at s.0, s.1);
@@ -228,26 +237,31 @@ and_more runs xs bytes a (Some c) e h = record {
     | inr q ↦ (
         let z : Some c ≡ Some b = e ∙ ap (byte_of_runs runs) q ∙ g in
         let w : c ≡ b = (cc) in
-        subst (λ (i : ℕ). Contains (bytes ++ file_byte a c ∷ []) (file_byte i b)) q (subst (λ (i : ℕ). Contains (bytes ++ file_byte a c ∷ []) (file_byte a i)) w (Contains-push bytes (file_byte a c))))
+        subst (λ (i : ℕ). Contains (bytes ++ file_byte a c ∷ []) (file_byte i b)) q (subst
+        (λ (i : ℕ). Contains (bytes ++ file_byte a c ∷ []) (file_byte a i)) w (Contains-push bytes (file_byte a c))))
   ];
 }
 
 -- the bytes of one address more
-pub file_next : (runs : List ByteRun) (xs : List ℕ) (i d : ℕ) (bytes more : List FileByte) (o : Option ℕ) → i < length xs → more ≡ and_byte bytes (get_or xs i d) o → o ≡ byte_of_runs runs (get_or xs i d) →
+pub file_next : (runs : List ByteRun) (xs : List ℕ) (i d : ℕ) (bytes more : List FileByte) (o : Option ℕ) → i < length xs →
+    more ≡ and_byte bytes (get_or xs i d) o → o ≡ byte_of_runs runs (get_or xs i d) →
     AreFileBytes runs (Contains (take i xs)) bytes → AreFileBytes runs (Contains (take (i + 1) xs)) more
 file_next runs xs i d bytes more o l e f h =
     subst (λ (z : List FileByte). AreFileBytes runs (Contains (take (i + 1) xs)) z) (sym e)
-    (subst (λ (z : List ℕ). AreFileBytes runs (Contains z) (and_byte bytes (get_or xs i d) o)) (sym (take_more xs i d l)) (and_more runs (take i xs) bytes (get_or xs i d) o f h))
+    (subst (λ (z : List ℕ). AreFileBytes runs (Contains z) (and_byte bytes (get_or xs i d) o)) (sym (take_more xs i d l))
+    (and_more runs (take i xs) bytes (get_or xs i d) o f h))
 
 count_by_found : (bytes : List FileByte) (a : ℕ) (o : Option ℕ) → length (and_byte bytes a o) ≡ length bytes + (if is_some o then 1 else 0)
 count_by_found bytes a None = omega arith
 count_by_found bytes a (Some b) = length-append bytes (file_byte a b ∷ [])
 
 -- their count
-pub count_next : (runs : List ByteRun) (xs : List ℕ) (i d : ℕ) (bytes more : List FileByte) (o : Option ℕ) → i < length xs → more ≡ and_byte bytes (get_or xs i d) o → o ≡ byte_of_runs runs (get_or xs i d) →
+pub count_next : (runs : List ByteRun) (xs : List ℕ) (i d : ℕ) (bytes more : List FileByte) (o : Option ℕ) → i < length xs →
+    more ≡ and_byte bytes (get_or xs i d) o → o ≡ byte_of_runs runs (get_or xs i d) →
     length bytes ≡ hits (is_known runs) (take i xs) → length more ≡ hits (is_known runs) (take (i + 1) xs)
 count_next runs xs i d bytes more o l e f h =
-    ap length e ∙ count_by_found bytes (get_or xs i d) o ∙ ap (λ z. z + (if is_some o then 1 else 0)) h ∙ ap (λ z. hits (is_known runs) (take i xs) + (if is_some z then 1 else 0)) f
+    ap length e ∙ count_by_found bytes (get_or xs i d) o ∙ ap (λ z. z + (if is_some o then 1 else 0)) h ∙ ap
+    (λ z. hits (is_known runs) (take i xs) + (if is_some z then 1 else 0)) f
     ∙ sym (hits_push (is_known runs) (take i xs) (get_or xs i d)) ∙ ap (hits (is_known runs)) (sym (take_more xs i d l))
 
 -- of other words for the same addresses

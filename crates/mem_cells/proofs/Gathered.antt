@@ -30,7 +30,8 @@ word_free x m vs (LoadNode a b c d) h = absurd h
 word_free x m vs (StoreNode a b c d e) h = absurd h
 word_free x m vs (JoinNode a b c) h = absurd h
 
-all_free : (x : TermReading) (m : Memory) (vs : List TermValue) (ns : List TermNode) → ((n : TermNode) → Contains ns n → IsOfWords n) → values_from (with_mem x m) vs ns ≡ values_from x vs ns
+all_free : (x : TermReading) (m : Memory) (vs : List TermValue) (ns : List TermNode) → ((n : TermNode) → Contains ns n → IsOfWords n) →
+    values_from (with_mem x m) vs ns ≡ values_from x vs ns
 unfolding values_from
 all_free x m vs [] h = refl
 all_free x m vs (n ∷ ns) h =
@@ -38,7 +39,8 @@ all_free x m vs (n ∷ ns) h =
     ∙ all_free x m (vs ++ node_value x vs n ∷ []) ns (λ k c. h k (suc c.0, omega (arith, c.1), c.2))
 
 -- so do not terms over words
-pub term_free : (x : TermReading) (m : Memory) (ns : List TermNode) (t : ℕ) → ((n : TermNode) → Contains ns n → IsOfWords n) → term_word (with_mem x m) ns t ≡ term_word x ns t
+pub term_free : (x : TermReading) (m : Memory) (ns : List TermNode) (t : ℕ) → ((n : TermNode) → Contains ns n → IsOfWords n) →
+    term_word (with_mem x m) ns t ≡ term_word x ns t
 term_free x m ns t h = ap (λ vs. (value_at vs t).word) (all_free x m [] ns h)
 
 -- the bytes of the first reads, over a memory; of two reads of an address the later counts
@@ -47,19 +49,23 @@ gathered at base rest zero a = rest a
 gathered at base rest (suc n) a = if at n == a then base n else gathered at base rest n a
 
 -- a byte at an address, by what holds of each read there and of the memory
-gathered_by : (P : ℕ → Type 0) (at base : ℕ → ℕ) (rest : Memory) (n a : ℕ) → ((j : ℕ) → j < n → at j ≡ a → P (base j)) → P (rest a) → P (gathered at base rest n a)
+gathered_by : (P : ℕ → Type 0) (at base : ℕ → ℕ) (rest : Memory) (n a : ℕ) → ((j : ℕ) → j < n → at j ≡ a → P (base j)) → P (rest a) →
+    P (gathered at base rest n a)
 gathered_by P at base rest zero a f r = r
 gathered_by P at base rest (suc n) a f r = elim (test (at n) a) [
   | inl e ↦ subst (λ (t : Bool). P (if t then base n else gathered at base rest n a)) (sym e.0) (f n (omega arith) e.1)
-  | inr e ↦ subst (λ (t : Bool). P (if t then base n else gathered at base rest n a)) (sym e.0) (gathered_by P at base rest n a (λ j l. f j (omega (arith, l))) r)
+  | inr e ↦ subst (λ (t : Bool). P (if t then base n else gathered at base rest n a)) (sym e.0) (gathered_by P at base rest n a
+      (λ j l. f j (omega (arith, l))) r)
 ]
 
 -- each read has its byte, where reads of one address agree
-gathered_gives : (at base : ℕ → ℕ) (rest : Memory) (n j : ℕ) → ((i k : ℕ) → i < k → k < n → at i ≡ at k → base i ≡ base k) → j < n → base j ≡ gathered at base rest n (at j)
+gathered_gives : (at base : ℕ → ℕ) (rest : Memory) (n j : ℕ) → ((i k : ℕ) → i < k → k < n → at i ≡ at k → base i ≡ base k) → j < n →
+    base j ≡ gathered at base rest n (at j)
 gathered_gives at base rest zero j f l = absurd (omega (arith, l))
 gathered_gives at base rest (suc n) j f l = elim (test (at n) (at j)) [
   | inl e ↦ here e.1 ∙ sym (ap (λ t. if t then base n else gathered at base rest n (at j)) e.0)
-  | inr e ↦ gathered_gives at base rest n j (λ i k p q. f i k p (omega (arith, q))) (omega (arith, l, other e.1)) ∙ sym (ap (λ t. if t then base n else gathered at base rest n (at j)) e.0)
+  | inr e ↦ gathered_gives at base rest n j (λ i k p q. f i k p (omega (arith, q))) (omega (arith, l, other e.1)) ∙ sym (ap
+      (λ t. if t then base n else gathered at base rest n (at j)) e.0)
 ]
   where
     here : at n ≡ at j → base j ≡ base n

@@ -52,11 +52,13 @@ named_more u r s (LoadNode a b c d) l h = tt
 named_more u r s (StoreNode a b c d e) l h = tt
 named_more u r s (JoinNode a b c) l h = tt
 
-early_kept : (u : UnrolledProgram) (old new : List TermNode) (ps : List ℕ) (j i : ℕ) → Cellular u old ps → Extends old new → j < length ps → i ≤ slice_index ps j → IsNamedBelow u j (node_at new i)
+early_kept : (u : UnrolledProgram) (old new : List TermNode) (ps : List ℕ) (j i : ℕ) → Cellular u old ps → Extends old new → j < length ps →
+    i ≤ slice_index ps j → IsNamedBelow u j (node_at new i)
 early_kept u old new ps j i c e l h = subst (IsNamedBelow u j) (sym (kept_nodes old new e i (omega (arith, (c.addresses j l).0)))) (c.early j i l h)
 
 -- cells with a node that was made
-pub made_cellular : (u : UnrolledProgram) (old new : List TermNode) (ps : List ℕ) (n : TermNode) (t : ℕ) → Cellular u old ps → IsMade old new n t → IsOwnNode u (length ps) old n → Cellular u new ps
+pub made_cellular : (u : UnrolledProgram) (old new : List TermNode) (ps : List ℕ) (n : TermNode) (t : ℕ) → Cellular u old ps → IsMade old new n t →
+    IsOwnNode u (length ps) old n → Cellular u new ps
 made_cellular u old new ps n t c m o = record {
   typed = m.typed;
   named = λ p h. named_by u (length ps) p (λ i. elim (m.named p h i) [ inl k ↦ c.named p k | inr e ↦ subst (IsNamedBelow u (length ps)) (sym e) o.named ]);
@@ -67,7 +69,8 @@ made_cellular u old new ps n t c m o = record {
 }
 
 -- cells with a node that was kept as it is
-pub kept_cellular : (u : UnrolledProgram) (old new : List TermNode) (ps : List ℕ) (n : TermNode) (t : ℕ) → Cellular u old ps → IsInterned old new n t → IsOwnNode u (length ps) old n → Cellular u new ps
+pub kept_cellular : (u : UnrolledProgram) (old new : List TermNode) (ps : List ℕ) (n : TermNode) (t : ℕ) → Cellular u old ps → IsInterned old new n t →
+    IsOwnNode u (length ps) old n → Cellular u new ps
 kept_cellular u old new ps n t c m o = record {
   typed = m.typed;
   named = λ p h. elim (m.only p h) [ inl k ↦ c.named p k | inr e ↦ subst (IsNamedBelow u (length ps)) (sym e) o.named ];
@@ -85,7 +88,8 @@ pub pushed_last : (ps : List ℕ) (a j : ℕ) → j ≡ length ps → slice_inde
 pushed_last ps a j e = ap (slice_index (ps ++ a ∷ [])) e ∙ last ps a 0
 
 -- cells with a read of an address
-pub read_cellular : (u : UnrolledProgram) (old new : List TermNode) (ps : List ℕ) (a t : ℕ) → Cellular u old ps → IsInterned old new (BaseNode (length ps)) t → HasWidth old 32 a →
+pub read_cellular : (u : UnrolledProgram) (old new : List TermNode) (ps : List ℕ) (a t : ℕ) → Cellular u old ps → IsInterned old new (BaseNode (length ps)) t →
+    HasWidth old 32 a →
     Cellular u new (ps ++ a ∷ [])
 read_cellular u old new ps a t c m w =
     let l = length-append ps (a ∷ []) in
@@ -157,7 +161,8 @@ grown_typed a b g r p = p.built
 -- a memory that gives the reads of more cells gives those of fewer
 pub gives_before : (a b : Build) (g r : ℕ) (x : TermReading) → IsBuilt a → Grown a b g r → GivesAll b x → GivesAll a x
 gives_before a b g r x i p h j l =
-    let e : slice_index (read_places b) j ≡ slice_index (read_places a) j = ap (λ z. slice_index z j) p.more.1 ∙ get_or_append_left (read_places a) p.more.0 0 j l in
+    let e : slice_index (read_places b) j ≡ slice_index (read_places a) j = ap
+    (λ z. slice_index z j) p.more.1 ∙ get_or_append_left (read_places a) p.more.0 0 j l in
     h j (omega (arith, l, ap length p.more.1, length-append (read_places a) p.more.0))
     ∙ ap (λ z. x.mem (term_word x b.dag z)) e ∙ ap x.mem (grown_word a b g r x (slice_index (read_places a) j) p (i.addresses j l).0)
 

@@ -32,7 +32,8 @@ use Rattle.mem_cells.proofs.PushedPieces.{longer_same, longer_by, pieces_pushed,
 use Rattle.mem_cells.proofs.Steps.{word_stands, memory_stands, costs_next}
 
 -- the operands of a word that is no load are words
-operand_words : (ns : List TermNode) (P : ℕ → Type 0) (n : TermNode) → IsTypedOver ns n → 1 ≤ width_of n → own_loads n ≡ 0 → ((a : ℕ) → a < length ns → 1 ≤ width_of (node_at ns a) → P a) →
+operand_words : (ns : List TermNode) (P : ℕ → Type 0) (n : TermNode) → IsTypedOver ns n → 1 ≤ width_of n → own_loads n ≡ 0 →
+    ((a : ℕ) → a < length ns → 1 ≤ width_of (node_at ns a) → P a) →
     AllByRecursion P (operands n)
 operand_words ns P (RegisterNode r) h s l f = tt
 operand_words ns P (FlagNode r) h s l f = tt
@@ -42,7 +43,10 @@ operand_words ns P MemoryNode h s l f = tt
 operand_words ns P (ConstantNode w v) h s l f = tt
 operand_words ns P (BinaryNode o w a b) h s l f = (f a h.1.0 (omega (arith, h.0.0, h.1.1)), (f b h.2.0 (omega (arith, h.0.0, h.2.1)), tt))
 operand_words ns P (NotNode w a) h s l f = (f a h.1.0 (omega (arith, h.0.0, h.1.1)), tt)
-operand_words ns P (SelectNode w c a b) h s l f = (f c h.1.0 (omega (arith, h.1.1)), (f a h.2.0 (omega (arith, h.0.0, h.2.1)), (f b h.3.0 (omega (arith, h.0.0, h.3.1)), tt)))
+operand_words ns P (SelectNode w c a b) h s l f = (
+  f c h.1.0 (omega (arith, h.1.1)),
+  (f a h.2.0 (omega (arith, h.0.0, h.2.1)), (f b h.3.0 (omega (arith, h.0.0, h.3.1)), tt)),
+)
 operand_words ns P (ExtractNode hi lo a) h s l f = (f a h.2 (omega (arith, h.1)), tt)
 operand_words ns P (ConcatNode high low a b) h s l f = (f a h.3.0 (omega (arith, h.0.0, h.3.1)), (f b h.4.0 (omega (arith, h.1.0, h.4.1)), tt))
 operand_words ns P (ExtendNode g n m a) h s l f = (f a h.3.0 (omega (arith, h.0.0, h.3.1)), tt)
@@ -68,11 +72,13 @@ word_facts ns (LoadNode n e m a) h w = absurd w
 word_facts ns (StoreNode n e m a v) h w = absurd w
 word_facts ns (JoinNode c a b) h w = absurd w
 
-pub next_word : (ns : List TermNode) (d : ℕ) (u : UnrolledProgram) (n : TermNode) → AreTyped ns → IsNext u ns d n → IsOfWords n → (1 ≤ width_of n) × (own_loads n ≡ 0)
+pub next_word : (ns : List TermNode) (d : ℕ) (u : UnrolledProgram) (n : TermNode) → AreTyped ns → IsNext u ns d n → IsOfWords n → (1 ≤ width_of n) ×
+    (own_loads n ≡ 0)
 next_word ns d u n h x w = word_facts ns n (typed_here ns d n h x.within x.is) w
 
 -- they are words before it
-words_before : (ns : List TermNode) (d : ℕ) (P : ℕ → Type 0) (n : TermNode) → AreTyped ns → d < length ns → n ≡ node_at ns d → 1 ≤ width_of n → own_loads n ≡ 0 →
+words_before : (ns : List TermNode) (d : ℕ) (P : ℕ → Type 0) (n : TermNode) → AreTyped ns → d < length ns → n ≡ node_at ns d → 1 ≤ width_of n →
+    own_loads n ≡ 0 →
     ((a : ℕ) → a < d → 1 ≤ width_of (node_at ns a) → P a) → AllByRecursion P (operands n)
 words_before ns d P n h l e s o f =
     operand_words (take d ns) P n (typed_before ns d n h l e) s o
@@ -82,29 +88,37 @@ words_before ns d P n h l e s o f =
     f a b (omega (arith, w, same)))
 
 -- words stand for them
-pub operands_there : (ns : List TermNode) (d : ℕ) (b : Build) (words : List Term) (numbers : List ℕ) (stored : List StoredByte) (pieces : List Piece) (u : UnrolledProgram) (n : TermNode) →
+pub operands_there : (ns : List TermNode) (d : ℕ) (b : Build) (words : List Term) (numbers : List ℕ) (stored : List StoredByte) (pieces : List Piece)
+    (u : UnrolledProgram) (n : TermNode) →
     AreLowered ns d b words numbers stored pieces → IsNext u ns d n → 1 ≤ width_of n → own_loads n ≡ 0 → AllByRecursion (λ a. a < length words) (operands n)
 operands_there ns d b words numbers stored pieces u n h x w o =
     words_before ns d (λ a. a < length words) n h.typed x.within x.is w o (λ a l k. omega (arith, l, h.stands.word_count))
 
-moved_own : (ns : List TermNode) (d : ℕ) (b : Build) (words : List Term) (numbers : List ℕ) (stored : List StoredByte) (pieces : List Piece) (u : UnrolledProgram) (n : TermNode) →
-    AreLowered ns d b words numbers stored pieces → IsNext u ns d n → 1 ≤ width_of n → own_loads n ≡ 0 → IsOwnNode u (length (read_places b)) b.dag (moved (link words) n)
+moved_own : (ns : List TermNode) (d : ℕ) (b : Build) (words : List Term) (numbers : List ℕ) (stored : List StoredByte) (pieces : List Piece)
+    (u : UnrolledProgram) (n : TermNode) →
+    AreLowered ns d b words numbers stored pieces → IsNext u ns d n → 1 ≤ width_of n → own_loads n ≡ 0 →
+    IsOwnNode u (length (read_places b)) b.dag (moved (link words) n)
 moved_own ns d b words numbers stored pieces u n h x w o = record {
   typed = moved_typed ns b.dag (link words) n (typed_here ns d n h.typed x.within x.is)
       (words_before ns d (λ a. HasWidth b.dag (width_of (node_at ns a)) (link words a)) n h.typed x.within x.is w o (λ a l k. h.stands.widths a l k));
   word = omega (arith, moved_width (link words) n, w);
   loads = moved_loads (link words) n ∙ o;
   named = named_by u (length (read_places b)) (moved (link words) n)
-      (λ i. subst (IsNamedBelow u (length (read_places b))) (sym (moved_input (link words) n i)) (named_more u 0 (length (read_places b)) n (omega arith) x.named));
+      (λ i. subst (IsNamedBelow u (length (read_places b))) (sym (moved_input (link words) n i))
+      (named_more u 0 (length (read_places b)) n (omega arith) x.named));
 }
 
 -- so the node over these words may be made
-pub word_own : (ns : List TermNode) (d : ℕ) (b : Build) (words : List Term) (numbers : List ℕ) (stored : List StoredByte) (pieces : List Piece) (u : UnrolledProgram) (n m : TermNode) →
-    AreLowered ns d b words numbers stored pieces → IsNext u ns d n → 1 ≤ width_of n → own_loads n ≡ 0 → m ≡ moved (link words) n → IsOwnNode u (length (read_places b)) b.dag m
-word_own ns d b words numbers stored pieces u n m h x w o e = subst (IsOwnNode u (length (read_places b)) b.dag) (sym e) (moved_own ns d b words numbers stored pieces u n h x w o)
+pub word_own : (ns : List TermNode) (d : ℕ) (b : Build) (words : List Term) (numbers : List ℕ) (stored : List StoredByte) (pieces : List Piece)
+    (u : UnrolledProgram) (n m : TermNode) →
+    AreLowered ns d b words numbers stored pieces → IsNext u ns d n → 1 ≤ width_of n → own_loads n ≡ 0 → m ≡ moved (link words) n →
+    IsOwnNode u (length (read_places b)) b.dag m
+word_own ns d b words numbers stored pieces u n m h x w o e = subst (IsOwnNode u (length (read_places b)) b.dag) (sym e)
+    (moved_own ns d b words numbers stored pieces u n h x w o)
 
 -- a word that stands for a word has its value
-there : (ns : List TermNode) (d : ℕ) (b : Build) (words : List Term) (numbers : List ℕ) (stored : List StoredByte) (pieces : List Piece) (x : TermReading) (m : ℕ → Memory) →
+there : (ns : List TermNode) (d : ℕ) (b : Build) (words : List Term) (numbers : List ℕ) (stored : List StoredByte) (pieces : List Piece) (x : TermReading)
+    (m : ℕ → Memory) →
     AreLowered ns d b words numbers stored pieces → Mean x ns d (term_word x b.dag) words numbers stored pieces m →
     (a : ℕ) → a < d → 1 ≤ width_of (node_at ns a) → term_value x b.dag (link words a) ≡ term_value x ns a
 there ns d b words numbers stored pieces x m h y a l k =
@@ -113,7 +127,8 @@ there ns d b words numbers stored pieces x m h y a l k =
     ∙ sym (word_only x ns (width_of (node_at ns a)) a h.typed k (omega (arith, l, h.few), refl))
 
 -- one more word that is no load
-pub word_lowered : (ns : List TermNode) (d : ℕ) (a b : Build) (words more : List Term) (numbers others : List ℕ) (stored : List StoredByte) (pieces : List Piece) (u : UnrolledProgram) (n m : TermNode) (t : Term) (k : ℕ) →
+pub word_lowered : (ns : List TermNode) (d : ℕ) (a b : Build) (words more : List Term) (numbers others : List ℕ) (stored : List StoredByte)
+    (pieces : List Piece) (u : UnrolledProgram) (n m : TermNode) (t : Term) (k : ℕ) →
     AreLowered ns d a words numbers stored pieces → IsNext u ns d n → 1 ≤ width_of n → own_loads n ≡ 0 → m ≡ moved (link words) n → Grown a b (own_gates m) 0 →
     IsWord b.dag (width_of m) t.0 (λ x. (node_value x (values_from x [] a.dag) m).word) → more ≡ words ++ t ∷ [] → others ≡ numbers ++ k ∷ [] →
     AreLowered ns (d + 1) b more others stored pieces
@@ -124,19 +139,24 @@ word_lowered ns d a b words more numbers others stored pieces u n m t k h x w o 
       few = omega (arith, x.within);
       stands = subst (λ (z : List Term). Stands ns (d + 1) b z others stored pieces) (sym ew)
           (subst (λ (z : List ℕ). Stands ns (d + 1) b (words ++ t ∷ []) z stored pieces) (sym en)
-          (word_stands ns d a b (own_gates m) 0 words numbers stored pieces t k p h.stands (omega (arith, w, ap width_of x.is)) (subst (λ (z : ℕ). HasWidth b.dag z t.0) width v.place)
+          (word_stands ns d a b (own_gates m) 0 words numbers stored pieces t k p h.stands (omega (arith, w, ap width_of x.is)) (subst
+          (λ (z : ℕ). HasWidth b.dag z t.0) width v.place)
           (λ y i g f c.
           v.value y i
           ∙ ap (λ z. (node_value y (values_from y [] a.dag) z).word) e
           ∙ ap (λ z. z.word)
           (moved_value y (values_from y [] ns) (values_from y [] a.dag) (link words) n
-          (words_before ns d (λ q. value_at (values_from y [] a.dag) (link words q) ≡ value_at (values_from y [] ns) q) n h.typed x.within x.is w o (there ns d a words numbers stored pieces y f h c)))
+          (words_before ns d (λ q. value_at (values_from y [] a.dag) (link words q)
+          ≡ value_at (values_from y [] ns) q) n h.typed x.within x.is w o (there ns d a words numbers stored pieces y f h c)))
           ∙ ap (λ z. (node_value y (values_from y [] ns) z).word) x.is
           ∙ ap (λ z. z.word) (sym (unfolds y ns d h.typed x.within)))));
-      costs = costs_next ns d n (term_gates a.dag) (length (read_places a)) (sum_by piece_gates pieces) (term_gates b.dag) (length (read_places b)) (sum_by piece_gates pieces) x.within x.is h.costs (omega (arith, p.gates, ap own_gates e, moved_gates (link words) n)) (omega (arith, p.reads)) (omega arith);
+      costs = costs_next ns d n (term_gates a.dag) (length (read_places a)) (sum_by piece_gates pieces) (term_gates b.dag) (length (read_places b))
+          (sum_by piece_gates pieces) x.within x.is h.costs (omega (arith, p.gates, ap own_gates e, moved_gates (link words) n)) (omega (arith, p.reads))
+          (omega arith);
     }
 
-of_node : (x : TermReading) (ns : List TermNode) (d : ℕ) (n : TermNode) → AreTyped ns → d < length ns → n ≡ node_at ns d → term_value x ns d ≡ node_value x (values_from x [] ns) n
+of_node : (x : TermReading) (ns : List TermNode) (d : ℕ) (n : TermNode) → AreTyped ns → d < length ns → n ≡ node_at ns d →
+    term_value x ns d ≡ node_value x (values_from x [] ns) n
 of_node x ns d n h l e = unfolds x ns d h l ∙ ap (node_value x (values_from x [] ns)) (sym e)
 
 -- the operands of a load, as they stand
@@ -158,10 +178,12 @@ number_same e n f g h = ap (number e n) (fun_ext h)
 
 load_same : (e : Endian) (n a b : ℕ) (f g : Memory) → a ≡ b → ((i : ℕ) → i < 2 ^ 32 → f i ≡ g i) → load e n f a ≡ load e n g b
 load_same e n a b f g q h =
-    number_same e n (λ k. f (add 32 a k)) (λ k. g (add 32 a k)) (λ k. h (add 32 a k) (let l : add 32 a k < 2 ^ 32 = omega arith in l)) ∙ ap (λ z. load e n g z) q
+    number_same e n (λ k. f (add 32 a k)) (λ k. g (add 32 a k)) (λ k. h (add 32 a k) (let l : add 32 a k < 2 ^ 32 = omega arith in l)) ∙ ap
+    (λ z. load e n g z) q
 
 -- one more load
-pub load_lowered : (ns : List TermNode) (d : ℕ) (a b : Build) (words more : List Term) (numbers others : List ℕ) (stored : List StoredByte) (pieces : List Piece) (u : UnrolledProgram) (n m p : ℕ) (e : Endian) (memory at : ℕ)
+pub load_lowered : (ns : List TermNode) (d : ℕ) (a b : Build) (words more : List Term) (numbers others : List ℕ) (stored : List StoredByte)
+    (pieces : List Piece) (u : UnrolledProgram) (n m p : ℕ) (e : Endian) (memory at : ℕ)
     (t : Term) (k : ℕ) →
     AreLowered ns d a words numbers stored pieces → IsNext u ns d (LoadNode n e m p) → memory ≡ slice_index numbers m → at ≡ link words p →
     Grown a b (n * (64 + sum_by piece_gates pieces)) n → IsOfMemory a b stored pieces memory (8 * n) t.0 (λ x f. load e n f (term_word x a.dag at)) →
@@ -174,14 +196,16 @@ load_lowered ns d a b words more numbers others stored pieces u n m p e memory a
       few = omega (arith, x.within);
       stands = subst (λ (z : List Term). Stands ns (d + 1) b z others stored pieces) (sym ew)
           (subst (λ (z : List ℕ). Stands ns (d + 1) b (words ++ t ∷ []) z stored pieces) (sym en)
-          (word_stands ns d a b (n * (64 + sum_by piece_gates pieces)) n words numbers stored pieces t k g h.stands (omega (arith, o.bytes.0, width)) (subst (λ (z : ℕ). HasWidth b.dag z t.0) width v.place)
+          (word_stands ns d a b (n * (64 + sum_by piece_gates pieces)) n words numbers stored pieces t k g h.stands (omega (arith, o.bytes.0, width)) (subst
+          (λ (z : ℕ). HasWidth b.dag z t.0) width v.place)
           (λ y i z f c.
           v.value y i z f c.are
           ∙ load_same e n (term_word y a.dag at) (term_word y ns p) (f memory) (term_value y ns m).bytes
           (ap (term_word y a.dag) ea ∙ c.words p o.address.0 (omega (arith, o.address.1)))
           (λ j l. ap (λ q. f q j) em ∙ c.bytes m o.memory.0 o.memory.1 j l)
           ∙ ap (λ q. q.word) (sym (of_node y ns d (LoadNode n e m p) h.typed x.within x.is)))));
-      costs = costs_next ns d (LoadNode n e m p) (term_gates a.dag) (length (read_places a)) (sum_by piece_gates pieces) (term_gates b.dag) (length (read_places b)) (sum_by piece_gates pieces) x.within x.is h.costs (omega (arith, g.gates)) (omega (arith, g.reads)) (omega arith);
+      costs = costs_next ns d (LoadNode n e m p) (term_gates a.dag) (length (read_places a)) (sum_by piece_gates pieces) (term_gates b.dag)
+          (length (read_places b)) (sum_by piece_gates pieces) x.within x.is h.costs (omega (arith, g.gates)) (omega (arith, g.reads)) (omega arith);
     }
 
 -- the operands of a store, as they stand
@@ -191,12 +215,14 @@ pub record IsStoreOf (ns : List TermNode) (d : ℕ) (n m a v : ℕ) : Type 0 whe
   pub address : (a < d) × (width_of (node_at ns a) ≡ 32)
   pub value : (v < d) × (width_of (node_at ns v) ≡ 8 * n)
 
-pub store_of : (ns : List TermNode) (d : ℕ) (u : UnrolledProgram) (n m a v : ℕ) (e : Endian) → AreTyped ns → IsNext u ns d (StoreNode n e m a v) → IsStoreOf ns d n m a v
+pub store_of : (ns : List TermNode) (d : ℕ) (u : UnrolledProgram) (n m a v : ℕ) (e : Endian) → AreTyped ns → IsNext u ns d (StoreNode n e m a v) →
+    IsStoreOf ns d n m a v
 store_of ns d u n m a v e h x =
     let t = typed_before ns d (StoreNode n e m a v) h x.within x.is in
     record { bytes = t.0; memory = at_before ns d 0 m x.within t.1; address = at_before ns d 32 a x.within t.2; value = at_before ns d (8 * n) v x.within t.3 }
 
-store_piece : (a b : Build) (stored : List StoredByte) (m at v n count : ℕ) (e : Endian) (p : Piece) → m < count → IsStore a b stored m at v n e p → IsPiece b.dag stored count p
+store_piece : (a b : Build) (stored : List StoredByte) (m at v n count : ℕ) (e : Endian) (p : Piece) → m < count → IsStore a b stored m at v n e p →
+    IsPiece b.dag stored count p
 store_piece a b stored m at v n count e Entry l h = absurd h
 store_piece a b stored m at v n count e (Store q s f k) l h =
     (omega (arith, l, h.0), subst (λ (z : ℕ). IsStored b.dag stored s f z) (sym h.1) h.2.stored_bytes)
@@ -207,7 +233,8 @@ store_gates a b stored m at v n e Entry h = absurd h
 store_gates a b stored m at v n e (Store q s f k) h = ap (λ z. 40 * z) h.1
 store_gates a b stored m at v n e (Join c q r) h = absurd h
 
-store_memory : (a b : Build) (stored : List StoredByte) (m at v n : ℕ) (e : Endian) (p : Piece) (x : TermReading) (f : ℕ → Memory) (i : ℕ) → InRange x → i < 2 ^ 32 → IsStore a b stored m at v n e p →
+store_memory : (a b : Build) (stored : List StoredByte) (m at v n : ℕ) (e : Endian) (p : Piece) (x : TermReading) (f : ℕ → Memory) (i : ℕ) → InRange x →
+    i < 2 ^ 32 → IsStore a b stored m at v n e p →
     memory_of (term_word x b.dag) x.mem f stored p i ≡ store e n (f m) (term_word x a.dag at) (term_word x a.dag v) i
 store_memory a b stored m at v n e Entry x f i r l h = absurd h
 store_memory a b stored m at v n e (Store q s g k) x f i r l h =
@@ -221,9 +248,11 @@ store_same e n a b v w i f g p q h =
     ap (λ z. if nat_lt (sub 32 i a) n then byte_of e n v (sub 32 i a) else z) h ∙ ap (λ z. store e n g z v i) p ∙ ap (λ z. store e n g b z i) q
 
 -- one more store
-pub store_lowered : (ns : List TermNode) (d : ℕ) (a b : Build) (words more : List Term) (numbers others : List ℕ) (stored after rest : List StoredByte) (pieces longest : List Piece) (u : UnrolledProgram)
+pub store_lowered : (ns : List TermNode) (d : ℕ) (a b : Build) (words more : List Term) (numbers others : List ℕ) (stored after rest : List StoredByte)
+    (pieces longest : List Piece) (u : UnrolledProgram)
     (n m p v : ℕ) (e : Endian) (memory at value k : ℕ) (piece : Piece) (t : Term) →
-    AreLowered ns d a words numbers stored pieces → IsNext u ns d (StoreNode n e m p v) → memory ≡ slice_index numbers m → at ≡ link words p → value ≡ link words v →
+    AreLowered ns d a words numbers stored pieces → IsNext u ns d (StoreNode n e m p v) → memory ≡ slice_index numbers m → at ≡ link words p →
+    value ≡ link words v →
     Grown a b (n * 64) 0 → after ≡ stored ++ rest → IsStore a b after memory at value n e piece → k ≡ length pieces →
     more ≡ words ++ t ∷ [] → others ≡ numbers ++ k ∷ [] → longest ≡ pieces ++ piece ∷ [] → AreLowered ns (d + 1) b more others after longest
 store_lowered ns d a b words more numbers others stored after rest pieces longest u n m p v e memory at value k piece t h x em ea ev g es s ek ew en ep =
@@ -244,7 +273,8 @@ store_lowered ns d a b words more numbers others stored after rest pieces longes
           (λ z i w f c.
           let new = memory_of (term_word z b.dag) z.mem f after piece in (
             and_memory f (length pieces) new,
-            memories_pushed b.dag (term_word z b.dag) z.mem stored after pieces piece f y old is (memories_later a b (n * 64) 0 z stored pieces f g h.stands.pieces c.are),
+            memories_pushed b.dag (term_word z b.dag) z.mem stored after pieces piece f y old is
+                (memories_later a b (n * 64) 0 z stored pieces f g h.stands.pieces c.are),
             λ q j l. other_memory f (length pieces) new q j l,
             λ j l.
                 that_memory f (length pieces) new k j ek
@@ -255,7 +285,8 @@ store_lowered ns d a b words more numbers others stored after rest pieces longes
                 (ap (λ q. f q j) em ∙ c.bytes m o.memory.0 o.memory.1 j l)
                 ∙ ap (λ q. q.bytes j) (sym (of_node z ns d (StoreNode n e m p v) h.typed x.within x.is)),
           )))));
-      costs = costs_next ns d (StoreNode n e m p v) (term_gates a.dag) (length (read_places a)) (sum_by piece_gates pieces) (term_gates b.dag) (length (read_places b)) (sum_by piece_gates longest) x.within x.is h.costs (omega (arith, g.gates)) (omega (arith, g.reads))
+      costs = costs_next ns d (StoreNode n e m p v) (term_gates a.dag) (length (read_places a)) (sum_by piece_gates pieces) (term_gates b.dag)
+          (length (read_places b)) (sum_by piece_gates longest) x.within x.is h.costs (omega (arith, g.gates)) (omega (arith, g.reads))
           (omega (arith, ap (sum_by piece_gates) ep, sum_by-append piece_gates pieces (piece ∷ []), store_gates a b after memory at value n e piece s));
     }
 
@@ -274,17 +305,21 @@ select_same : (c d a b e f : ℕ) → c ≡ d → a ≡ b → e ≡ f → select
 select_same c d a b e f p q r = ap (λ z. select z a e) p ∙ ap (λ z. select d z e) q ∙ ap (select d b) r
 
 -- one more join
-pub join_lowered : (ns : List TermNode) (d : ℕ) (a : Build) (words more : List Term) (numbers others : List ℕ) (stored : List StoredByte) (pieces longest : List Piece) (u : UnrolledProgram)
+pub join_lowered : (ns : List TermNode) (d : ℕ) (a : Build) (words more : List Term) (numbers others : List ℕ) (stored : List StoredByte)
+    (pieces longest : List Piece) (u : UnrolledProgram)
     (c m n : ℕ) (condition : Term) (when_true when_false k : ℕ) (t : Term) →
-    AreLowered ns d a words numbers stored pieces → IsNext u ns d (JoinNode c m n) → condition.0 ≡ link words c → when_true ≡ slice_index numbers m → when_false ≡ slice_index numbers n → k ≡ length pieces →
-    more ≡ words ++ t ∷ [] → others ≡ numbers ++ k ∷ [] → longest ≡ pieces ++ Join condition when_true when_false ∷ [] → AreLowered ns (d + 1) a more others stored longest
+    AreLowered ns d a words numbers stored pieces → IsNext u ns d (JoinNode c m n) → condition.0 ≡ link words c → when_true ≡ slice_index numbers m →
+    when_false ≡ slice_index numbers n → k ≡ length pieces →
+    more ≡ words ++ t ∷ [] → others ≡ numbers ++ k ∷ [] → longest ≡ pieces ++ Join condition when_true when_false ∷ [] →
+    AreLowered ns (d + 1) a more others stored longest
 join_lowered ns d a words more numbers others stored pieces longest u c m n condition when_true when_false k t h x ec et ef ek ew en ep =
     let o = join_of ns d u c m n h.typed x in
     let piece : Piece = Join condition when_true when_false in
     let y = longer_same stored in
     let g = grown_none a h.stands.built in
     let w : HasWidth a.dag 1 condition.0 =
-    subst (λ (z : ℕ). HasWidth a.dag z condition.0) o.condition.1 (subst (HasWidth a.dag (width_of (node_at ns c))) (sym ec) (h.stands.widths c o.condition.0 (omega (arith, o.condition.1)))) in
+    subst (λ (z : ℕ). HasWidth a.dag z condition.0) o.condition.1
+    (subst (HasWidth a.dag (width_of (node_at ns c))) (sym ec) (h.stands.widths c o.condition.0 (omega (arith, o.condition.1)))) in
     let is : IsPiece a.dag stored (length pieces) piece =
     (w, omega (arith, et, h.stands.within m o.when_true.0 o.when_true.1), omega (arith, ef, h.stands.within n o.when_false.0 o.when_false.1)) in
     let count = longer pieces piece in
@@ -303,19 +338,23 @@ join_lowered ns d a words more numbers others stored pieces longest u c m n cond
             λ q j l. other_memory f (length pieces) new q j l,
             λ j l.
                 that_memory f (length pieces) new k j ek
-                ∙ select_same (term_word z a.dag condition.0) (term_word z ns c) (f when_true j) ((term_value z ns m).bytes j) (f when_false j) ((term_value z ns n).bytes j)
+                ∙ select_same (term_word z a.dag condition.0) (term_word z ns c) (f when_true j) ((term_value z ns m).bytes j) (f when_false j)
+                ((term_value z ns n).bytes j)
                 (ap (term_word z a.dag) ec ∙ e.words c o.condition.0 (omega (arith, o.condition.1)))
                 (ap (λ q. f q j) et ∙ e.bytes m o.when_true.0 o.when_true.1 j l)
                 (ap (λ q. f q j) ef ∙ e.bytes n o.when_false.0 o.when_false.1 j l)
                 ∙ ap (λ q. q.bytes j) (sym (of_node z ns d (JoinNode c m n) h.typed x.within x.is)),
           )))));
-      costs = costs_next ns d (JoinNode c m n) (term_gates a.dag) (length (read_places a)) (sum_by piece_gates pieces) (term_gates a.dag) (length (read_places a)) (sum_by piece_gates longest) x.within x.is h.costs (omega arith) (omega arith)
+      costs = costs_next ns d (JoinNode c m n) (term_gates a.dag) (length (read_places a)) (sum_by piece_gates pieces) (term_gates a.dag)
+          (length (read_places a)) (sum_by piece_gates longest) x.within x.is h.costs (omega arith) (omega arith)
           (omega (arith, ap (sum_by piece_gates) ep, sum_by-append piece_gates pieces (piece ∷ [])));
     }
 
 -- the memory at entry
-pub entry_lowered : (ns : List TermNode) (d : ℕ) (a : Build) (words more : List Term) (numbers others : List ℕ) (stored : List StoredByte) (pieces : List Piece) (u : UnrolledProgram) (t : Term) →
-    AreLowered ns d a words numbers stored pieces → IsNext u ns d MemoryNode → more ≡ words ++ t ∷ [] → others ≡ numbers ++ 0 ∷ [] → AreLowered ns (d + 1) a more others stored pieces
+pub entry_lowered : (ns : List TermNode) (d : ℕ) (a : Build) (words more : List Term) (numbers others : List ℕ) (stored : List StoredByte) (pieces : List Piece)
+    (u : UnrolledProgram) (t : Term) →
+    AreLowered ns d a words numbers stored pieces → IsNext u ns d MemoryNode → more ≡ words ++ t ∷ [] → others ≡ numbers ++ 0 ∷ [] →
+    AreLowered ns (d + 1) a more others stored pieces
 entry_lowered ns d a words more numbers others stored pieces u t h x ew en =
     let first = first_piece a.dag stored (piece_at pieces 0) (h.stands.pieces 0 (omega (arith, h.stands.some))) in
     record {
@@ -323,7 +362,8 @@ entry_lowered ns d a words more numbers others stored pieces u t h x ew en =
       few = omega (arith, x.within);
       stands = subst (λ (z : List Term). Stands ns (d + 1) a z others stored pieces) (sym ew)
           (subst (λ (z : List ℕ). Stands ns (d + 1) a (words ++ t ∷ []) z stored pieces) (sym en)
-          (memory_stands ns d a a 0 0 words numbers stored stored pieces pieces t 0 (grown_none a h.stands.built) h.stands (sym (ap width_of x.is)) h.stands.pieces (omega arith) (omega (arith, h.stands.some))
+          (memory_stands ns d a a 0 0 words numbers stored stored pieces pieces t 0 (grown_none a h.stands.built) h.stands
+          (sym (ap width_of x.is)) h.stands.pieces (omega arith) (omega (arith, h.stands.some))
           (λ z i v f e. (
             f,
             e.are,
@@ -333,7 +373,8 @@ entry_lowered ns d a words more numbers others stored pieces u t h x ew en =
                 ∙ ap (λ q. memory_of (term_word z a.dag) z.mem f stored q j) first
                 ∙ ap (λ q. q.bytes j) (sym (of_node z ns d MemoryNode h.typed x.within x.is)),
           ))));
-      costs = costs_next ns d MemoryNode (term_gates a.dag) (length (read_places a)) (sum_by piece_gates pieces) (term_gates a.dag) (length (read_places a)) (sum_by piece_gates pieces) x.within x.is h.costs (omega arith) (omega arith) (omega arith);
+      costs = costs_next ns d MemoryNode (term_gates a.dag) (length (read_places a)) (sum_by piece_gates pieces) (term_gates a.dag) (length (read_places a))
+          (sum_by piece_gates pieces) x.within x.is h.costs (omega arith) (omega arith) (omega arith);
     }
 
 -- nothing is built yet
@@ -380,7 +421,8 @@ none_lowered ns a h e f = record {
   costs = record { gates = omega (arith, ap term_gates e); reads = omega (arith, ap length f); below = omega arith };
 }
 
-pub start_lowered : (ns : List TermNode) (a : Build) (words : List Term) (numbers : List ℕ) (stored : List StoredByte) (pieces : List Piece) → AreTyped ns → a.dag ≡ [] → read_places a ≡ [] → words ≡ [] → numbers ≡ [] →
+pub start_lowered : (ns : List TermNode) (a : Build) (words : List Term) (numbers : List ℕ) (stored : List StoredByte) (pieces : List Piece) → AreTyped ns →
+    a.dag ≡ [] → read_places a ≡ [] → words ≡ [] → numbers ≡ [] →
     stored ≡ [] → pieces ≡ Entry ∷ [] → AreLowered ns 0 a words numbers stored pieces
 start_lowered ns a words numbers stored pieces h e f ew en es ep =
     subst (λ (z : List Term). AreLowered ns 0 a z numbers stored pieces) (sym ew)
@@ -389,33 +431,40 @@ start_lowered ns a words numbers stored pieces h e f ew en es ep =
     (subst (λ (z : List Piece). AreLowered ns 0 a [] [] [] z) (sym ep) (none_lowered ns a h e f))))
 
 -- the next node of a question
-pub next_of : (a b : Build) (d : ℕ) (n : TermNode) → b.question ≡ a.question → d < length (source_of a) → n ≡ node_at (source_of a) d → AreNamedBelow (program_of_build a) 0 (source_of a) → IsNextOf d b n
+pub next_of : (a b : Build) (d : ℕ) (n : TermNode) → b.question ≡ a.question → d < length (source_of a) → n ≡ node_at (source_of a) d →
+    AreNamedBelow (program_of_build a) 0 (source_of a) → IsNextOf d b n
 next_of a b d n e l is h =
     let es : source_of b ≡ source_of a = ap (λ q. q.now.dag) e in
     let eu : program_of_build b ≡ program_of_build a = ap (λ q. program_of_question q.now) e in
     record {
       within = omega (arith, l, ap length es);
       is = is ∙ ap (λ z. node_at z d) (sym es);
-      named = subst (λ (u : UnrolledProgram). IsNamedBelow u 0 n) (sym eu) (h n (subst (Contains (source_of a)) (sym is) (Contains-get_or (source_of a) d MemoryNode l)));
+      named = subst (λ (u : UnrolledProgram). IsNamedBelow u 0 n) (sym eu)
+          (h n (subst (Contains (source_of a)) (sym is) (Contains-get_or (source_of a) d MemoryNode l)));
     }
 
 -- a lowered term of another build of the question
-pub same_question : (a b : Build) (d : ℕ) (words : List Term) (numbers : List ℕ) (stored : List StoredByte) (pieces : List Piece) → b.question ≡ a.question → AreLowered (source_of a) d b words numbers stored pieces →
+pub same_question : (a b : Build) (d : ℕ) (words : List Term) (numbers : List ℕ) (stored : List StoredByte) (pieces : List Piece) → b.question ≡ a.question →
+    AreLowered (source_of a) d b words numbers stored pieces →
     AreLowered (source_of b) d b words numbers stored pieces
-same_question a b d words numbers stored pieces e h = subst (λ (ns : List TermNode). AreLowered ns d b words numbers stored pieces) (ap (λ q. q.now.dag) (sym e)) h
+same_question a b d words numbers stored pieces e h = subst (λ (ns : List TermNode). AreLowered ns d b words numbers stored pieces) (ap
+    (λ q. q.now.dag) (sym e)) h
 
 -- what is kept where all terms are lowered
-pub root_stands : (ns : List TermNode) (b : Build) (words : List Term) (numbers : List ℕ) (stored : List StoredByte) (pieces : List Piece) (w r : ℕ) → AreLowered ns (length ns) b words numbers stored pieces → 1 ≤ w →
+pub root_stands : (ns : List TermNode) (b : Build) (words : List Term) (numbers : List ℕ) (stored : List StoredByte) (pieces : List Piece) (w r : ℕ) →
+    AreLowered ns (length ns) b words numbers stored pieces → 1 ≤ w →
     HasWidth ns w r → HasWidth b.dag w (link words r)
 root_stands ns b words numbers stored pieces w r h l k =
     subst (λ (z : ℕ). HasWidth b.dag z (link words r)) k.1 (h.stands.widths r k.0 (omega (arith, l, k.1)))
 
-pub root_means : (ns : List TermNode) (b : Build) (words : List Term) (numbers : List ℕ) (stored : List StoredByte) (pieces : List Piece) (w r : ℕ) → AreLowered ns (length ns) b words numbers stored pieces → 1 ≤ w →
+pub root_means : (ns : List TermNode) (b : Build) (words : List Term) (numbers : List ℕ) (stored : List StoredByte) (pieces : List Piece) (w r : ℕ) →
+    AreLowered ns (length ns) b words numbers stored pieces → 1 ≤ w →
     HasWidth ns w r → (x : TermReading) → InRange x → GivesAll b x → term_word x b.dag (link words r) ≡ term_word x ns r
 root_means ns b words numbers stored pieces w r h l k x i v = (h.stands.means x i v).1.words r k.0 (omega (arith, l, k.1))
 
 -- the word that stands for a term has its width
-pub address_there : (ns : List TermNode) (d : ℕ) (b : Build) (words : List Term) (numbers : List ℕ) (stored : List StoredByte) (pieces : List Piece) (w t at : ℕ) → AreLowered ns d b words numbers stored pieces →
+pub address_there : (ns : List TermNode) (d : ℕ) (b : Build) (words : List Term) (numbers : List ℕ) (stored : List StoredByte) (pieces : List Piece)
+    (w t at : ℕ) → AreLowered ns d b words numbers stored pieces →
     (t < d) × (width_of (node_at ns t) ≡ w) → 1 ≤ w → at ≡ link words t → HasWidth b.dag w at
 address_there ns d b words numbers stored pieces w t at h p s e =
     subst (HasWidth b.dag w) (sym e) (subst (λ (z : ℕ). HasWidth b.dag z (link words t)) p.1 (h.stands.widths t p.0 (omega (arith, s, p.1))))

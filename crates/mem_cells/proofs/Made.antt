@@ -25,8 +25,10 @@ all_within : (n i j : ℕ) → Before n 0 i j → (i < n) × (j < n)
 all_within n i j (k, inl h) = (omega (arith, k, h), h)
 all_within n i j (k, inr h) = absurd (omega (arith, h.1))
 
-pub made_of : (u : UnrolledProgram) (t : QuestionTerm) (asks : ℕ → Bool) (mid tied b : Build) (words : List Term) (numbers : List ℕ) (stored : List StoredByte) (pieces : List Piece) (ts : List Agreement) (xs : List AskedByte)
-    (file : List FileByte) (root : Term) → AreTermsWithin u (question_room u) t.nodes → HasWidth t.nodes 1 t.root → ((a c : ℕ) → byte_of_runs u.known a ≡ Some c → c < 256) →
+pub made_of : (u : UnrolledProgram) (t : QuestionTerm) (asks : ℕ →
+    Bool) (mid tied b : Build) (words : List Term) (numbers : List ℕ) (stored : List StoredByte) (pieces : List Piece) (ts : List Agreement) (xs : List AskedByte)
+    (file : List FileByte) (root : Term) → AreTermsWithin u (question_room u) t.nodes → HasWidth t.nodes 1 t.root →
+    ((a c : ℕ) → byte_of_runs u.known a ≡ Some c → c < 256) →
     program_of_build mid ≡ u → source_of mid ≡ t.nodes → AreLowered (source_of mid) (length t.nodes) mid words numbers stored pieces →
     Grown mid tied (16 * (length (read_places mid) * (length (read_places mid) - 1))) 0 → AreTies tied ts (Before (length (read_places tied)) 0) →
     AreFileBytes u.known (λ a. asks a ≡ true) file → length file ≤ known_of u →
@@ -44,7 +46,8 @@ made_of u t asks mid tied b words numbers stored pieces ts xs file root terms wi
       grown = subst (λ (z : List ℕ). Grown mid b (16 * (length (read_places mid) * (length (read_places mid) - 1)) + 32 * (length z * length file)) 0) r
           (grown_on mid tied b (16 * (length (read_places mid) * (length (read_places mid) - 1))) 0 (32 * (length (read_places tied) * length file)) 0 g k);
       agree = subst (λ (z : List ℕ). AreTies b ts (Before (length z) 0)) (sym q)
-          (ties_kept tied b (32 * (length (read_places tied) * length file)) 0 ts (Before (length (read_places tied)) 0) g.built k q (all_within (length (read_places tied))) agree);
+          (ties_kept tied b (32 * (length (read_places tied) * length file)) 0 ts (Before (length (read_places tied)) 0) g.built k q
+          (all_within (length (read_places tied))) agree);
       given = given;
       few = few;
       says = says;

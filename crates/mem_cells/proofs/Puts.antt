@@ -59,7 +59,8 @@ same_base : (a b n m : ℕ) → (a == b) ≡ true → a ≡ b
 same_base a b n m h = grind (arith, nat_tests)
 
 -- the byte that a store surely puts at an address, whatever it stands over
-put_here : (b : Build) (stored : List StoredByte) (at to : Split) (first n address : ℕ) (x : TermReading) (y : ℕ) → IsBuilt b → InRange x → IsStored b.dag stored to first n →
+put_here : (b : Build) (stored : List StoredByte) (at to : Split) (first n address : ℕ) (x : TermReading) (y : ℕ) → IsBuilt b → InRange x →
+    IsStored b.dag stored to first n →
     IsSplit b.dag address at.base.0 at.offset → (at.base.0 ≡ to.base.0) × (sub 32 at.offset to.offset < n) →
     put_bytes (term_word x b.dag) stored first n address y ≡ term_word x b.dag (stored_at stored (first + sub 32 at.offset to.offset)).value.0
 put_here b stored at to first n address x y c i s p q =
@@ -75,13 +76,15 @@ within : (at to : Split) (n : ℕ) → ends_in at to n ≡ true → (at.base.0 �
 within at to n t = grind (arith, nat_tests)
 
 -- so what it stands over does not matter
-pub put_within : (b : Build) (stored : List StoredByte) (at to : Split) (first n address : ℕ) (x : TermReading) (y z : ℕ) → IsBuilt b → InRange x → IsStored b.dag stored to first n →
+pub put_within : (b : Build) (stored : List StoredByte) (at to : Split) (first n address : ℕ) (x : TermReading) (y z : ℕ) → IsBuilt b → InRange x →
+    IsStored b.dag stored to first n →
     IsSplit b.dag address at.base.0 at.offset → ends_in at to n ≡ true →
     put_bytes (term_word x b.dag) stored first n address y ≡ put_bytes (term_word x b.dag) stored first n address z
 put_within b stored at to first n address x y z c i s p t =
     put_here b stored at to first n address x y c i s p (within at to n t) ∙ sym (put_here b stored at to first n address x z c i s p (within at to n t))
 
-pub within_byte : (b : Build) (stored : List StoredByte) (at to : Split) (first n address : ℕ) (below : TermReading → ℕ) → IsBuilt b → IsStored b.dag stored to first n →
+pub within_byte : (b : Build) (stored : List StoredByte) (at to : Split) (first n address : ℕ) (below : TermReading → ℕ) → IsBuilt b →
+    IsStored b.dag stored to first n →
     IsSplit b.dag address at.base.0 at.offset → ends_in at to n ≡ true →
     IsByte b (stored_at stored (first + sub 32 at.offset to.offset)).value.0 (λ x. put_bytes (term_word x b.dag) stored first n address (below x))
 within_byte b stored at to first n address below c s p t =
@@ -101,7 +104,13 @@ apart_byte b stored at to first n address m c s p t w8 =
           let f = word_fits x b.dag 32 to.base.0 i c.typed s.base in
           let e : term_word x b.dag address ≡ add 32 w at.offset = p.value x i ∙ ap (λ z. add 32 (term_word x b.dag z) at.offset) q.0 in
           sym (puts_apart _ _ (λ k. term_word x b.dag (stored_at stored (first + k)).value.0) n (term_word x b.dag m)
-          (λ k l h. absurd (omega (arith, l, q.1, lands w at.offset to.offset k f p.below s.offset (omega (arith, l, s.are.few)) (sym e ∙ h ∙ s.places x i k l)))));
+          (λ k l h. absurd (omega (
+            arith,
+            l,
+            q.1,
+            lands w at.offset to.offset k f p.below s.offset (omega (arith, l, s.are.few))
+                (sym e ∙ h ∙ s.places x i k l),
+          ))));
     }
 
 picked : (t : Bool) (a b : ℕ) → select (bit t) a b ≡ (if t then a else b)
@@ -124,7 +133,8 @@ put_word old mid new g r h s a b v m c t p q hv hm e k = record {
 }
 
 -- one more byte
-pub put_next : (old mid new : Build) (stored : List StoredByte) (first n k g r address below byte t : ℕ) → Grown old mid g r → AreBytes old.dag stored first n → k < n →
+pub put_next : (old mid new : Build) (stored : List StoredByte) (first n k g r address below byte t : ℕ) → Grown old mid g r → AreBytes old.dag stored first n →
+    k < n →
     HasWidth old.dag 32 address →
     IsWord mid.dag 8 byte (λ x. put_bytes (term_word x old.dag) stored first k address (term_word x old.dag below)) →
     IsWord new.dag 8 t (λ x. if term_word x mid.dag address == term_word x mid.dag (stored_at stored (first + k)).address.0
@@ -136,9 +146,12 @@ put_next old mid new stored first n k g r address below byte t p a l w e f = rec
       let s = stored_at stored (first + k) in
       let one : suc k ≡ k + 1 = omega arith in
       f.value x i
-      ∙ ap (λ z. if z == term_word x mid.dag s.address.0 then term_word x mid.dag s.value.0 else term_word x mid.dag byte) (grown_word old mid g r x address p w.0)
-      ∙ ap (λ z. if term_word x old.dag address == z then term_word x mid.dag s.value.0 else term_word x mid.dag byte) (grown_word old mid g r x s.address.0 p (a.addresses k l).0)
-      ∙ ap (λ z. if term_word x old.dag address == term_word x old.dag s.address.0 then z else term_word x mid.dag byte) (grown_word old mid g r x s.value.0 p (a.values k l).0)
+      ∙ ap (λ z. if z == term_word x mid.dag s.address.0 then term_word x mid.dag s.value.0
+      else term_word x mid.dag byte) (grown_word old mid g r x address p w.0)
+      ∙ ap (λ z. if term_word x old.dag address == z then term_word x mid.dag s.value.0
+      else term_word x mid.dag byte) (grown_word old mid g r x s.address.0 p (a.addresses k l).0)
+      ∙ ap (λ z. if term_word x old.dag address == term_word x old.dag s.address.0 then z
+      else term_word x mid.dag byte) (grown_word old mid g r x s.value.0 p (a.values k l).0)
       ∙ ap (λ z. if term_word x old.dag address == term_word x old.dag s.address.0 then term_word x old.dag s.value.0 else z) (e.value x i)
       ∙ ap (λ z. put_bytes (term_word x old.dag) stored first z address (term_word x old.dag below)) one;
 }

@@ -18,19 +18,23 @@ use Rattle.mem_cells.proofs.Growing.{grown_word, grown_width, gives_before, push
 use Rattle.mem_cells.proofs.Chains.{linked, linked_last, pieces_kept}
 use Rattle.mem_cells.proofs.LoadedBytes.{memories_later}
 
-mean_kept : (x : TermReading) (ns : List TermNode) (d : ℕ) (a b : Build) (g r : ℕ) (words : List Term) (numbers : List ℕ) (stored : List StoredByte) (pieces : List Piece) (m : ℕ → Memory) → Grown a b g r →
-    Stands ns d a words numbers stored pieces → Mean x ns d (term_word x a.dag) words numbers stored pieces m → Mean x ns d (term_word x b.dag) words numbers stored pieces m
+mean_kept : (x : TermReading) (ns : List TermNode) (d : ℕ) (a b : Build) (g r : ℕ) (words : List Term) (numbers : List ℕ) (stored : List StoredByte)
+    (pieces : List Piece) (m : ℕ → Memory) → Grown a b g r →
+    Stands ns d a words numbers stored pieces → Mean x ns d (term_word x a.dag) words numbers stored pieces m →
+    Mean x ns d (term_word x b.dag) words numbers stored pieces m
 mean_kept x ns d a b g r words numbers stored pieces m p s h = record {
   are = memories_later a b g r x stored pieces m p s.pieces h.are;
   words = λ t l k. grown_word a b g r x (link words t) p (s.widths t l k).0 ∙ h.words t l k;
   bytes = h.bytes;
 }
 
-more_widths : (ns : List TermNode) (d : ℕ) (a b : Build) (g r : ℕ) (words : List Term) (numbers : List ℕ) (stored : List StoredByte) (pieces : List Piece) (w : Term) → Grown a b g r →
+more_widths : (ns : List TermNode) (d : ℕ) (a b : Build) (g r : ℕ) (words : List Term) (numbers : List ℕ) (stored : List StoredByte) (pieces : List Piece)
+    (w : Term) → Grown a b g r →
     Stands ns d a words numbers stored pieces → (1 ≤ width_of (node_at ns d) → HasWidth b.dag (width_of (node_at ns d)) w.0) →
     (t : ℕ) → t < d + 1 → 1 ≤ width_of (node_at ns t) → HasWidth b.dag (width_of (node_at ns t)) (link (words ++ w ∷ []) t)
 more_widths ns d a b g r words numbers stored pieces w p s h t l k = elim (cases_lt t d) [
-  | inl q ↦ subst (HasWidth b.dag (width_of (node_at ns t))) (sym (linked words w t (omega (arith, q, s.word_count)))) (grown_width a b g r (width_of (node_at ns t)) (link words t) p (s.widths t q k))
+  | inl q ↦ subst (HasWidth b.dag (width_of (node_at ns t))) (sym (linked words w t (omega (arith, q, s.word_count))))
+      (grown_width a b g r (width_of (node_at ns t)) (link words t) p (s.widths t q k))
   | inr q ↦ (
       let e : t ≡ d = omega (arith, l, q) in
       subst (HasWidth b.dag (width_of (node_at ns t))) (sym (linked_last words w t (e ∙ sym s.word_count)))
@@ -48,9 +52,11 @@ more_numbers ns d a words numbers stored pieces k count s f h t l z = elim (case
 ]
 
 -- one more word
-pub word_stands : (ns : List TermNode) (d : ℕ) (a b : Build) (g r : ℕ) (words : List Term) (numbers : List ℕ) (stored : List StoredByte) (pieces : List Piece) (w : Term) (k : ℕ) → Grown a b g r →
+pub word_stands : (ns : List TermNode) (d : ℕ) (a b : Build) (g r : ℕ) (words : List Term) (numbers : List ℕ) (stored : List StoredByte) (pieces : List Piece)
+    (w : Term) (k : ℕ) → Grown a b g r →
     Stands ns d a words numbers stored pieces → 1 ≤ width_of (node_at ns d) → HasWidth b.dag (width_of (node_at ns d)) w.0 →
-    ((x : TermReading) → InRange x → GivesAll b x → (m : ℕ → Memory) → Mean x ns d (term_word x a.dag) words numbers stored pieces m → term_word x b.dag w.0 ≡ term_word x ns d) →
+    ((x : TermReading) → InRange x → GivesAll b x → (m : ℕ → Memory) → Mean x ns d (term_word x a.dag) words numbers stored pieces m →
+    term_word x b.dag w.0 ≡ term_word x ns d) →
     Stands ns (d + 1) b (words ++ w ∷ []) (numbers ++ k ∷ []) stored pieces
 word_stands ns d a b g r words numbers stored pieces w k p s some h f = record {
   built = p.built;
@@ -69,7 +75,8 @@ word_stands ns d a b g r words numbers stored pieces w k p s some h f = record {
           are = c.are;
           words = λ t l y. elim (cases_lt t d) [
             | inl q ↦ ap (term_word x b.dag) (linked words w t (omega (arith, q, s.word_count))) ∙ c.words t q y
-            | inr q ↦ (let e : t ≡ d = omega (arith, l, q) in ap (term_word x b.dag) (linked_last words w t (e ∙ sym s.word_count)) ∙ f x i v m n.1 ∙ ap (term_word x ns) (sym e))
+            | inr q ↦ (let e : t ≡ d = omega (arith, l, q) in ap (term_word x b.dag) (linked_last words w t (e ∙ sym s.word_count)) ∙ f x i v m n.1 ∙ ap
+                (term_word x ns) (sym e))
           ];
           bytes = λ t l z y j. elim (cases_lt t d) [
             | inl q ↦ ap (λ u. m u y) (pushed_at numbers k t (omega (arith, q, s.number_count))) ∙ c.bytes t q z y j
@@ -80,10 +87,12 @@ word_stands ns d a b g r words numbers stored pieces w k p s some h f = record {
 }
 
 -- one more memory, of pieces that are the old ones and perhaps one more
-pub memory_stands : (ns : List TermNode) (d : ℕ) (a b : Build) (g r : ℕ) (words : List Term) (numbers : List ℕ) (stored others : List StoredByte) (pieces more : List Piece) (w : Term) (k : ℕ) → Grown a b g r →
+pub memory_stands : (ns : List TermNode) (d : ℕ) (a b : Build) (g r : ℕ) (words : List Term) (numbers : List ℕ) (stored others : List StoredByte)
+    (pieces more : List Piece) (w : Term) (k : ℕ) → Grown a b g r →
     Stands ns d a words numbers stored pieces → width_of (node_at ns d) ≡ 0 → ArePieces b.dag others more → length pieces ≤ length more → k < length more →
     ((x : TermReading) → InRange x → GivesAll b x → (m : ℕ → Memory) → Mean x ns d (term_word x a.dag) words numbers stored pieces m →
-    (n : ℕ → Memory) × AreMemories (term_word x b.dag) x.mem others more n × ((q i : ℕ) → q < length pieces → n q i ≡ m q i) × ((i : ℕ) → i < 2 ^ 32 → n k i ≡ (term_value x ns d).bytes i)) →
+    (n : ℕ → Memory) × AreMemories (term_word x b.dag) x.mem others more n × ((q i : ℕ) → q < length pieces → n q i ≡ m q i) ×
+    ((i : ℕ) → i < 2 ^ 32 → n k i ≡ (term_value x ns d).bytes i)) →
     Stands ns (d + 1) b (words ++ w ∷ []) (numbers ++ k ∷ []) others more
 memory_stands ns d a b g r words numbers stored others pieces more w k p s none are few within f = record {
   built = p.built;
@@ -107,7 +116,8 @@ memory_stands ns d a b g r words numbers stored others pieces more w k p s none 
             | inr q ↦ (let e : t ≡ d = omega (arith, l, q) in absurd (omega (arith, none, z, ap (λ u. width_of (node_at ns u)) e)))
           ];
           bytes = λ t l z u j. elim (cases_lt t d) [
-            | inl q ↦ ap (λ e. n e u) (pushed_at numbers k t (omega (arith, q, s.number_count))) ∙ y.2 (slice_index numbers t) u (s.within t q z) ∙ c.bytes t q z u j
+            | inl q ↦ ap (λ e. n e u) (pushed_at numbers k t (omega (arith, q, s.number_count))) ∙ y.2 (slice_index numbers t) u
+                (s.within t q z) ∙ c.bytes t q z u j
             | inr q ↦ (
                 let e : t ≡ d = omega (arith, l, q) in
                 ap (λ h. n h u) (pushed_last numbers k t (e ∙ sym s.number_count)) ∙ y.3 u j ∙ ap (λ h. (term_value x ns h).bytes u) (sym e))
@@ -116,7 +126,8 @@ memory_stands ns d a b g r words numbers stored others pieces more w k p s none 
       );
 }
 
-node_sum : (f : TermNode → ℕ) (ns : List TermNode) (d : ℕ) (n : TermNode) → d < length ns → n ≡ node_at ns d → sum_by f (take (d + 1) ns) ≡ sum_by f (take d ns) + f n
+node_sum : (f : TermNode → ℕ) (ns : List TermNode) (d : ℕ) (n : TermNode) → d < length ns → n ≡ node_at ns d →
+    sum_by f (take (d + 1) ns) ≡ sum_by f (take d ns) + f n
 node_sum f ns d n l e = sum_by_more f ns d MemoryNode l ∙ ap (λ z. sum_by f (take d ns) + f z) (sym e)
 
 times_sum : (l k q : ℕ) → (l + k) * q ≡ l * q + k * q
@@ -129,7 +140,8 @@ gates_more : (h g a l k p q s n m : ℕ) → h ≤ g + n + k * p + m * 64 → g 
 gates_more h g a l k p q s n m e f o = omega (arith, e, f, load_more l k p q o)
 
 -- one more node to pay for
-pub costs_next : (ns : List TermNode) (d : ℕ) (n : TermNode) (g r p h s q : ℕ) → d < length ns → n ≡ node_at ns d → Costs ns d g r p → h ≤ g + own_gates n + own_loads n * (64 + p) + own_stores n * 64 →
+pub costs_next : (ns : List TermNode) (d : ℕ) (n : TermNode) (g r p h s q : ℕ) → d < length ns → n ≡ node_at ns d → Costs ns d g r p →
+    h ≤ g + own_gates n + own_loads n * (64 + p) + own_stores n * 64 →
     s ≤ r + own_loads n → q ≤ p + 40 * own_stores n + 8 * own_joins n → Costs ns (d + 1) h s q
 costs_next ns d n g r p h s q l e c hg hr hp =
     let eg = node_sum own_gates ns d n l e in
@@ -138,10 +150,14 @@ costs_next ns d n g r p h s q l e c hg hr hp =
     let ej = node_sum own_joins ns d n l e in
     let few : 64 + p ≤ 64 + (40 * term_stores ns + 8 * term_joins ns) = omega (arith, c.below, sum_by-take-le own_stores ns d, sum_by-take-le own_joins ns d) in
     record {
-      gates = subst (λ (z : ℕ). h ≤ z + term_loads (take (d + 1) ns) * (64 + (40 * term_stores ns + 8 * term_joins ns)) + 64 * term_stores (take (d + 1) ns)) (sym eg)
-          (subst (λ (z : ℕ). h ≤ term_gates (take d ns) + own_gates n + z * (64 + (40 * term_stores ns + 8 * term_joins ns)) + 64 * term_stores (take (d + 1) ns)) (sym el)
-          (subst (λ (z : ℕ). h ≤ term_gates (take d ns) + own_gates n + (term_loads (take d ns) + own_loads n) * (64 + (40 * term_stores ns + 8 * term_joins ns)) + 64 * z) (sym es)
-          (gates_more h g (term_gates (take d ns)) (term_loads (take d ns)) (own_loads n) (64 + p) (64 + (40 * term_stores ns + 8 * term_joins ns)) (term_stores (take d ns)) (own_gates n) (own_stores n) hg c.gates few)));
+      gates = subst (λ (z : ℕ). h ≤ z + term_loads (take (d + 1) ns) * (64 + (40 * term_stores ns + 8 * term_joins ns)) + 64 * term_stores (take (d + 1) ns))
+          (sym eg)
+          (subst (λ (z : ℕ). h ≤ term_gates (take d ns) + own_gates n + z * (64 + (40 * term_stores ns + 8 * term_joins ns)) + 64 * term_stores
+          (take (d + 1) ns)) (sym el)
+          (subst (λ (z : ℕ). h ≤ term_gates (take d ns) + own_gates n + (term_loads (take d ns) + own_loads n) *
+          (64 + (40 * term_stores ns + 8 * term_joins ns)) + 64 * z) (sym es)
+          (gates_more h g (term_gates (take d ns)) (term_loads (take d ns)) (own_loads n) (64 + p) (64 + (40 * term_stores ns + 8 * term_joins ns))
+          (term_stores (take d ns)) (own_gates n) (own_stores n) hg c.gates few)));
       reads = omega (arith, hr, c.reads, el);
       below = omega (arith, hp, c.below, es, ej);
     }

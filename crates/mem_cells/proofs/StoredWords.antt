@@ -68,32 +68,47 @@ one_last : (stored : List StoredByte) (s : StoredByte) (i : ℕ) → i ≡ lengt
 one_last stored s i e = ap (stored_at (stored ++ s ∷ [])) e ∙ last stored s no_byte
 
 -- one more byte is written
-pub written_next : (old mid at new : Build) (g r h s k u : ℕ) (stored : List StoredByte) (first j a v n : ℕ) (e : Endian) (y : StoredByte) → Grown old mid g r → Grown mid at h s → Grown at new k u →
-    HasWidth old.dag 32 a → HasWidth old.dag (8 * n) v → length stored ≡ first + j → IsWritten old mid stored first j a v n e → IsWord at.dag 32 y.address.0 (λ x. add 32 (term_word x mid.dag a) j) →
+pub written_next : (old mid at new : Build) (g r h s k u : ℕ) (stored : List StoredByte) (first j a v n : ℕ) (e : Endian) (y : StoredByte) → Grown old mid g r →
+    Grown mid at h s → Grown at new k u →
+    HasWidth old.dag 32 a → HasWidth old.dag (8 * n) v → length stored ≡ first + j → IsWritten old mid stored first j a v n e →
+    IsWord at.dag 32 y.address.0 (λ x. add 32 (term_word x mid.dag a) j) →
     IsWord new.dag 8 y.value.0 (λ x. byte_of e n (term_word x at.dag v) j) → IsWritten old new (stored ++ y ∷ []) first (j + 1) a v n e
 written_next old mid at new g r h s k u stored first j a v n e y p q o ha hv l w d c = record {
   addresses = λ i b. elim (cases_lt i j) [
-    | inl z ↦ subst (λ (t : StoredByte). IsWord new.dag 32 t.address.0 (λ x. add 32 (term_word x old.dag a) i)) (sym (one_at stored y (first + i) (omega (arith, l, z))))
+    | inl z ↦ subst (λ (t : StoredByte). IsWord new.dag 32 t.address.0
+        (λ x. add 32 (term_word x old.dag a) i)) (sym (one_at stored y (first + i) (omega (arith, l, z))))
         (kept_word mid new _ _ 32 _ _ (grown_on mid at new h s k u q o) (w.addresses i z))
     | inr z ↦ (
         let f : i ≡ j = omega (arith, b, z) in
-        subst (λ (t : StoredByte). IsWord new.dag 32 t.address.0 (λ x. add 32 (term_word x old.dag a) i)) (sym (one_last stored y (first + i) (omega (arith, l, f))))
+        subst (λ (t : StoredByte). IsWord new.dag 32 t.address.0
+        (λ x. add 32 (term_word x old.dag a) i)) (sym (one_last stored y (first + i) (omega (arith, l, f))))
         (subst (λ (t : ℕ). IsWord new.dag 32 y.address.0 (λ x. add 32 (term_word x old.dag a) t)) (sym f)
-        (record { place = grown_width at new k u 32 y.address.0 o d.place; value = λ x r2. grown_word at new k u x y.address.0 o d.place.0 ∙ d.value x r2 ∙ ap (λ t. add 32 t j) (grown_word old mid g r x a p ha.0) })))
+        (record {
+          place = grown_width at new k u 32 y.address.0 o d.place;
+          value = λ x r2. grown_word at new k u x y.address.0 o d.place.0 ∙ d.value x r2 ∙ ap
+              (λ t. add 32 t j) (grown_word old mid g r x a p ha.0);
+        })))
   ];
   values = λ i b. elim (cases_lt i j) [
-    | inl z ↦ subst (λ (t : StoredByte). IsWord new.dag 8 t.value.0 (λ x. byte_of e n (term_word x old.dag v) i)) (sym (one_at stored y (first + i) (omega (arith, l, z))))
+    | inl z ↦ subst (λ (t : StoredByte). IsWord new.dag 8 t.value.0
+        (λ x. byte_of e n (term_word x old.dag v) i)) (sym (one_at stored y (first + i) (omega (arith, l, z))))
         (kept_word mid new _ _ 8 _ _ (grown_on mid at new h s k u q o) (w.values i z))
     | inr z ↦ (
         let f : i ≡ j = omega (arith, b, z) in
-        subst (λ (t : StoredByte). IsWord new.dag 8 t.value.0 (λ x. byte_of e n (term_word x old.dag v) i)) (sym (one_last stored y (first + i) (omega (arith, l, f))))
+        subst (λ (t : StoredByte). IsWord new.dag 8 t.value.0
+        (λ x. byte_of e n (term_word x old.dag v) i)) (sym (one_last stored y (first + i) (omega (arith, l, f))))
         (subst (λ (t : ℕ). IsWord new.dag 8 y.value.0 (λ x. byte_of e n (term_word x old.dag v) t)) (sym f)
-        (record { place = c.place; value = λ x r2. c.value x r2 ∙ ap (λ t. byte_of e n t j) (grown_word old at (g + h) (r + s) x v (grown_on old mid at g r h s p q) hv.0) })))
+        (record {
+          place = c.place;
+          value = λ x r2. c.value x r2 ∙ ap
+              (λ t. byte_of e n t j) (grown_word old at (g + h) (r + s) x v (grown_on old mid at g r h s p q) hv.0);
+        })))
   ];
 }
 
 -- bytes that are written are stored
-pub written_stored : (old mid new : Build) (g r h s : ℕ) (stored : List StoredByte) (first a v n : ℕ) (e : Endian) (to : Split) → Grown old mid g r → Grown mid new h s → HasWidth old.dag 32 a → n ≤ 8 →
+pub written_stored : (old mid new : Build) (g r h s : ℕ) (stored : List StoredByte) (first a v n : ℕ) (e : Endian) (to : Split) → Grown old mid g r →
+    Grown mid new h s → HasWidth old.dag 32 a → n ≤ 8 →
     length stored ≡ first + n → IsWritten old mid stored first n a v n e → IsSplit new.dag a to.base.0 to.offset → IsStored new.dag stored to first n
 written_stored old mid new g r h s stored first a v n e to p q ha hn l w y = record {
   are = record {
@@ -110,9 +125,11 @@ written_stored old mid new g r h s stored first a v n e to p q ha hn l w y = rec
 }
 
 -- and put one after another they are the store
-pub written_puts : (old mid new : Build) (h s : ℕ) (stored : List StoredByte) (first a v n : ℕ) (e : Endian) → IsBuilt old → Grown mid new h s → HasWidth old.dag 32 a → n ≤ 8 →
+pub written_puts : (old mid new : Build) (h s : ℕ) (stored : List StoredByte) (first a v n : ℕ) (e : Endian) → IsBuilt old → Grown mid new h s →
+    HasWidth old.dag 32 a → n ≤ 8 →
     IsWritten old mid stored first n a v n e → (x : TermReading) → InRange x → (i : ℕ) → i < 2 ^ 32 → (m : Memory) →
-    puts i (λ k. term_word x new.dag (stored_at stored (first + k)).address.0) (λ k. term_word x new.dag (stored_at stored (first + k)).value.0) n (m i) ≡ store e n m (term_word x old.dag a) (term_word x old.dag v) i
+    puts i (λ k. term_word x new.dag (stored_at stored (first + k)).address.0) (λ k. term_word x new.dag (stored_at stored (first + k)).value.0) n (m i)
+    ≡ store e n m (term_word x old.dag a) (term_word x old.dag v) i
 written_puts old mid new h s stored first a v n e c q ha hn w x i j l m =
     puts_same j _ (add 32 (term_word x old.dag a)) _ (byte_of e n (term_word x old.dag v)) n (m j)
     (λ k b. grown_word mid new h s x (stored_at stored (first + k)).address.0 q (w.addresses k b).place.0 ∙ (w.addresses k b).value x i)

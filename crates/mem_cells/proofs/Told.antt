@@ -90,11 +90,14 @@ within_price g l s j loads stores edges known r k hl hs hj hr hk =
     omega (arith, a, b, spread loads stores (edges + 2 * stores), hs, triangle r loads hr, c, d)
 
 -- what lowering took
-pub lowered_cost : (t : QuestionTerm) (mid : Build) (words : List Term) (numbers : List ℕ) (stored : List StoredByte) (pieces : List Piece) → AreLowered t.nodes (length t.nodes) mid words numbers stored pieces →
-    (term_gates mid.dag ≤ term_gates t.nodes + term_loads t.nodes * (64 + (40 * term_stores t.nodes + 8 * term_joins t.nodes)) + 64 * term_stores t.nodes) × (length (read_places mid) ≤ term_loads t.nodes)
+pub lowered_cost : (t : QuestionTerm) (mid : Build) (words : List Term) (numbers : List ℕ) (stored : List StoredByte) (pieces : List Piece) →
+    AreLowered t.nodes (length t.nodes) mid words numbers stored pieces →
+    (term_gates mid.dag ≤ term_gates t.nodes + term_loads t.nodes * (64 + (40 * term_stores t.nodes + 8 * term_joins t.nodes)) + 64 * term_stores t.nodes) ×
+    (length (read_places mid) ≤ term_loads t.nodes)
 lowered_cost t mid words numbers stored pieces h =
     let e = take_all (length t.nodes) t.nodes (omega arith) in (
-      subst (λ (z : List TermNode). term_gates mid.dag ≤ term_gates z + term_loads z * (64 + (40 * term_stores t.nodes + 8 * term_joins t.nodes)) + 64 * term_stores z) e h.costs.gates,
+      subst (λ (z : List TermNode). term_gates mid.dag ≤ term_gates z + term_loads z *
+          (64 + (40 * term_stores t.nodes + 8 * term_joins t.nodes)) + 64 * term_stores z) e h.costs.gates,
       subst (λ (z : List TermNode). length (read_places mid) ≤ term_loads z) e h.costs.reads,
     )
 
@@ -103,7 +106,8 @@ abbrev pub told_cells : Build → List Agreement → List AskedByte → Term →
 told_cells b ts xs root = record { nodes = b.dag; addresses = read_places b; agrees = map agreement_of ts; asked = map asked_of xs; root = root.0 }
 
 -- What was made: all terms are lowered, reads agree, and bytes of the file are asked.
-pub record IsMadeOf (u : UnrolledProgram) (t : QuestionTerm) (asks : ℕ → Bool) (mid b : Build) (words : List Term) (numbers : List ℕ) (stored : List StoredByte) (pieces : List Piece) (ts : List Agreement) (xs : List AskedByte)
+pub record IsMadeOf (u : UnrolledProgram) (t : QuestionTerm) (asks : ℕ →
+    Bool) (mid b : Build) (words : List Term) (numbers : List ℕ) (stored : List StoredByte) (pieces : List Piece) (ts : List Agreement) (xs : List AskedByte)
     (file : List FileByte) (root : Term) : Type 0 where
   pub terms : AreTermsWithin u (question_room u) t.nodes
   pub width : HasWidth t.nodes 1 t.root
@@ -117,7 +121,8 @@ pub record IsMadeOf (u : UnrolledProgram) (t : QuestionTerm) (asks : ℕ → Boo
   pub says : AreAsked b file xs (AskedOf (length (read_places b)) file)
   pub is : root.0 ≡ link words t.root
 
-module _ (u : UnrolledProgram) (t : QuestionTerm) (asks : ℕ → Bool) (mid b : Build) (words : List Term) (numbers : List ℕ) (stored : List StoredByte) (pieces : List Piece) (ts : List Agreement) (xs : List AskedByte)
+module _ (u : UnrolledProgram) (t : QuestionTerm) (asks : ℕ →
+    Bool) (mid b : Build) (words : List Term) (numbers : List ℕ) (stored : List StoredByte) (pieces : List Piece) (ts : List Agreement) (xs : List AskedByte)
     (file : List FileByte) (root : Term) (h : IsMadeOf u t asks mid b words numbers stored pieces ts xs file root) where
   abbrev cost : ℕ
   cost = 16 * (length (read_places mid) * (length (read_places mid) - 1)) + 32 * (length (read_places mid) * length file)
@@ -138,7 +143,8 @@ module _ (u : UnrolledProgram) (t : QuestionTerm) (asks : ℕ → Bool) (mid b :
     named = cells.named;
     addresses = cells.addresses;
     early = cells.early;
-    agrees = each_map agreement_of ts (λ a. HasWidth b.dag 1 a.condition × (a.read < length (read_places b)) × (a.other < length (read_places b))) h.agree.formed;
+    agrees = each_map agreement_of ts (λ a. HasWidth b.dag 1 a.condition × (a.read < length (read_places b)) ×
+        (a.other < length (read_places b))) h.agree.formed;
     asked = each_map asked_of xs (λ a. HasWidth b.dag 1 a.condition × (a.read < length (read_places b)) × (a.byte < 256))
         (λ a k. let f = h.says.formed a k in (f.0, f.1, h.bytes f.2.0 a.byte (h.given.sound (file_byte f.2.0 a.byte) f.2.1).1));
     root = root_new;
@@ -148,7 +154,8 @@ module _ (u : UnrolledProgram) (t : QuestionTerm) (asks : ℕ → Bool) (mid b :
   same x i v =
       ap (term_word x b.dag) h.is
       ∙ grown_word mid b cost 0 x (link words t.root) h.grown root_old.0
-      ∙ root_means t.nodes mid words numbers stored pieces 1 t.root h.lowered (omega arith) h.width x i (gives_before mid b cost 0 x h.lowered.stands.built h.grown v)
+      ∙ root_means t.nodes mid words numbers stored pieces 1 t.root h.lowered (omega arith) h.width x i
+      (gives_before mid b cost 0 x h.lowered.stands.built h.grown v)
 
   sound : (x : TermReading) → InRange x → Gives (told_cells b ts xs root) x → HasAsked u asks x.mem → IsAllowed (told_cells b ts xs root) x
   sound x i v m = record {
@@ -162,12 +169,14 @@ module _ (u : UnrolledProgram) (t : QuestionTerm) (asks : ℕ → Bool) (mid b :
         v a.read f.1 ∙ m at a.byte (word_fits x b.dag 32 (slice_index (read_places b) a.read) i cells.typed (cells.addresses a.read f.1)) s.1 s.0);
   }
 
-  complete : (x : TermReading) → InRange x → IsAllowed (told_cells b ts xs root) x → (m : ℕ → ℕ) × ((a : ℕ) → m a < 256) × HasAsked u asks m × Gives (told_cells b ts xs root) (with_mem x m)
+  complete : (x : TermReading) → InRange x → IsAllowed (told_cells b ts xs root) x → (m : ℕ → ℕ) × ((a : ℕ) → m a < 256) × HasAsked u asks m ×
+      Gives (told_cells b ts xs root) (with_mem x m)
   complete x i a =
       memory_is u asks (told_cells b ts xs root) x i (all_words u b.dag (read_places b) cells) h.bytes
       (λ j k l n e. h.agree.complete x i x.base (λ y c. a.agrees (agreement_of y) (contains_map agreement_of ts y c)) j k (l, inl n) e)
       (λ j y l q e.
-      h.says.complete x i x.base (λ z c. a.asked (asked_of z) (contains_map asked_of xs z c)) j (file_byte (term_word x b.dag (slice_index (read_places b) j)) y)
+      h.says.complete x i x.base (λ z c. a.asked (asked_of z) (contains_map asked_of xs z c)) j
+      (file_byte (term_word x b.dag (slice_index (read_places b) j)) y)
       (l, h.given.complete (term_word x b.dag (slice_index (read_places b) j)) y q e) refl)
 
   pub cells_told : TellsCells u t asks (told_cells b ts xs root)
@@ -183,7 +192,8 @@ module _ (u : UnrolledProgram) (t : QuestionTerm) (asks : ℕ → Bool) (mid b :
           arith,
           h.grown.gates,
           k.0,
-          within_price (term_gates t.nodes) (term_loads t.nodes) (term_stores t.nodes) (term_joins t.nodes) (loads_of u) (stores_of u) (edges_of u) (known_of u) (length (read_places mid)) (length file)
+          within_price (term_gates t.nodes) (term_loads t.nodes) (term_stores t.nodes) (term_joins t.nodes) (loads_of u) (stores_of u) (edges_of u) (known_of u)
+              (length (read_places mid)) (length file)
               h.terms.loads h.terms.stores h.terms.joins few h.few,
         );
         reads = omega (arith, h.grown.reads, few);

@@ -34,11 +34,15 @@ pub record AreFileBytes (runs : List ByteRun) (asked : ℕ → Type 0) (bytes : 
 abbrev pub HaveBytes : Build → TermReading → List AskedByte → (base : ℕ → ℕ) → Type 0
 HaveBytes b x xs base = (a : AskedByte) → Contains xs a → term_word x b.dag a.condition.0 ≡ 1 → base a.read ≡ a.byte
 
--- What is said of reads and bytes of the file: it is over these; where it says that a read is at the address of a byte, it is; and it says so of each pair of some.
+-- What is said of reads and bytes of the file: it is over these; where it says that a read is at the address of a byte, it is; and it says so of each pair of
+-- some.
 pub record AreAsked (b : Build) (bytes : List FileByte) (xs : List AskedByte) (pairs : ℕ → FileByte → Type 0) : Type 0 where
-  pub formed : (a : AskedByte) → Contains xs a → HasWidth b.dag 1 a.condition.0 × (a.read < length (read_places b)) × ((at : ℕ) × Contains bytes (file_byte at a.byte))
-  pub sound : (x : TermReading) → InRange x → (a : AskedByte) → Contains xs a → term_word x b.dag a.condition.0 ≡ 1 → Contains bytes (file_byte (address_of b x a.read) a.byte)
-  pub complete : (x : TermReading) → InRange x → (base : ℕ → ℕ) → HaveBytes b x xs base → (j : ℕ) (f : FileByte) → pairs j f → address_of b x j ≡ f.at → base j ≡ f.byte
+  pub formed : (a : AskedByte) → Contains xs a → HasWidth b.dag 1 a.condition.0 × (a.read < length (read_places b)) ×
+      ((at : ℕ) × Contains bytes (file_byte at a.byte))
+  pub sound : (x : TermReading) → InRange x → (a : AskedByte) → Contains xs a → term_word x b.dag a.condition.0 ≡ 1 →
+      Contains bytes (file_byte (address_of b x a.read) a.byte)
+  pub complete : (x : TermReading) → InRange x → (base : ℕ → ℕ) → HaveBytes b x xs base → (j : ℕ) (f : FileByte) → pairs j f → address_of b x j ≡ f.at →
+      base j ≡ f.byte
 
 -- the pairs of each read with each of some bytes
 abbrev pub AskedOf : (reads : ℕ) → List FileByte → ℕ → FileByte → Type 0

@@ -72,7 +72,8 @@ FollowPieces w m stored pieces i bytes = (q : ℕ) → q < length pieces → byt
 -- a term has the byte of a piece at the address of a term that was there before
 pub record IsByteOf (old new : Build) (stored : List StoredByte) (pieces : List Piece) (q address t : ℕ) : Type 0 where
   pub place : HasWidth new.dag 8 t
-  pub value : (x : TermReading) → InRange x → GivesAll new x → (bytes : ℕ → ℕ) → FollowPieces (term_word x old.dag) x.mem stored pieces (term_word x old.dag address) bytes →
+  pub value : (x : TermReading) → InRange x → GivesAll new x → (bytes : ℕ → ℕ) →
+      FollowPieces (term_word x old.dag) x.mem stored pieces (term_word x old.dag address) bytes →
       term_word x new.dag t ≡ bytes q
 
 -- memories, one for each piece, are those of the pieces

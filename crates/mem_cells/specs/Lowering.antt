@@ -17,12 +17,14 @@ abbrev pub source_of : Build → List TermNode
 source_of b = b.question.now.dag
 
 -- Words, and memories by the numbers of pieces, are those of the first terms of some nodes.
-pub record Mean (x : TermReading) (ns : List TermNode) (d : ℕ) (w : ℕ → ℕ) (ts : List Term) (numbers : List ℕ) (stored : List StoredByte) (pieces : List Piece) (memories : ℕ → Memory) : Type 0 where
+pub record Mean (x : TermReading) (ns : List TermNode) (d : ℕ) (w : ℕ →
+    ℕ) (ts : List Term) (numbers : List ℕ) (stored : List StoredByte) (pieces : List Piece) (memories : ℕ → Memory) : Type 0 where
   pub are : AreMemories w x.mem stored pieces memories
   pub words : (t : ℕ) → t < d → 1 ≤ width_of (node_at ns t) → w (link ts t) ≡ term_word x ns t
   pub bytes : (t : ℕ) → t < d → width_of (node_at ns t) ≡ 0 → (i : ℕ) → i < 2 ^ 32 → memories (slice_index numbers t) i ≡ (term_value x ns t).bytes i
 
--- The first terms of some nodes have a word of their width or the number of a piece each, with their values where the memory at entry has the bytes of the reads.
+-- The first terms of some nodes have a word of their width or the number of a piece each, with their values where the memory at entry has the bytes of the
+-- reads.
 pub record Stands (ns : List TermNode) (d : ℕ) (b : Build) (words : List Term) (numbers : List ℕ) (stored : List StoredByte) (ps : List Piece) : Type 0 where
   pub built : IsBuilt b
   pub word_count : length words ≡ d
@@ -33,14 +35,16 @@ pub record Stands (ns : List TermNode) (d : ℕ) (b : Build) (words : List Term)
   pub within : (t : ℕ) → t < d → width_of (node_at ns t) ≡ 0 → slice_index numbers t < length ps
   pub means : (x : TermReading) → InRange x → GivesAll b x → (memories : ℕ → Memory) × Mean x ns d (term_word x b.dag) words numbers stored ps memories
 
--- What the first terms take: their own gates, for each byte that is loaded a sum and what the pieces take, for each that is stored a sum; and a read for each byte that is loaded.
+-- What the first terms take: their own gates, for each byte that is loaded a sum and what the pieces take, for each that is stored a sum; and a read for each
+-- byte that is loaded.
 pub record Costs (ns : List TermNode) (d : ℕ) (g r p : ℕ) : Type 0 where
   pub gates : g ≤ term_gates (take d ns) + term_loads (take d ns) * (64 + (40 * term_stores ns + 8 * term_joins ns)) + 64 * term_stores (take d ns)
   pub reads : r ≤ term_loads (take d ns)
   pub below : p ≤ 40 * term_stores (take d ns) + 8 * term_joins (take d ns)
 
 -- the first terms of some nodes are lowered
-pub record AreLowered (ns : List TermNode) (d : ℕ) (b : Build) (words : List Term) (numbers : List ℕ) (stored : List StoredByte) (pieces : List Piece) : Type 0 where
+pub record AreLowered (ns : List TermNode) (d : ℕ) (b : Build) (words : List Term) (numbers : List ℕ) (stored : List StoredByte)
+    (pieces : List Piece) : Type 0 where
   pub typed : AreTyped ns
   pub few : d ≤ length ns
   pub stands : Stands ns d b words numbers stored pieces

@@ -26,8 +26,10 @@ Agree b x ts base = (a : Agreement) → Contains ts a → term_word x b.dag a.co
 -- Agreements are over the reads; where one says that addresses are equal, they are; and they say so of each two reads of some.
 pub record AreTies (b : Build) (ts : List Agreement) (pairs : ℕ → ℕ → Type 0) : Type 0 where
   pub formed : (a : Agreement) → Contains ts a → HasWidth b.dag 1 a.condition.0 × (a.read < length (read_places b)) × (a.other < length (read_places b))
-  pub sound : (x : TermReading) → InRange x → (a : Agreement) → Contains ts a → term_word x b.dag a.condition.0 ≡ 1 → address_of b x a.read ≡ address_of b x a.other
-  pub complete : (x : TermReading) → InRange x → (base : ℕ → ℕ) → Agree b x ts base → (i j : ℕ) → pairs i j → address_of b x i ≡ address_of b x j → base i ≡ base j
+  pub sound : (x : TermReading) → InRange x → (a : Agreement) → Contains ts a → term_word x b.dag a.condition.0 ≡ 1 →
+      address_of b x a.read ≡ address_of b x a.other
+  pub complete : (x : TermReading) → InRange x → (base : ℕ → ℕ) → Agree b x ts base → (i j : ℕ) → pairs i j → address_of b x i ≡ address_of b x j →
+      base i ≡ base j
 
 -- the pairs of a read and a later one, up to a pair
 abbrev pub Before : (other read : ℕ) → ℕ → ℕ → Type 0

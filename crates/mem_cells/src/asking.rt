@@ -35,9 +35,11 @@ fn ask(
     requires place { place < length file.now }
     requires address { IsWord build.old.dag 32 address.0 (λ x. (file_byte_at file.now place).at) }
     requires read { read < length (read_places build.old) }
-    requires asked { AreAsked build.old file.now asked.old.items (AskedTo (length (read_places build.old)) (take place file.now) (file_byte_at file.now place) read) }
+    requires asked { AreAsked build.old file.now asked.old.items
+        (AskedTo (length (read_places build.old)) (take place file.now) (file_byte_at file.now place) read) }
     ensures grown { OnOk result (Grown build.old build.new 32 0) }
-    ensures asked { OnOk result (AreAsked build.new file.now asked.new.items (AskedTo (length (read_places build.new)) (take place file.now) (file_byte_at file.now place) (read + 1))) }
+    ensures asked { OnOk result (AreAsked build.new file.now asked.new.items
+        (AskedTo (length (read_places build.new)) (take place file.now) (file_byte_at file.now place) (read + 1))) }
 {
     let left = build.addresses[read as usize];
     let condition = build.make(Node::Binary {

@@ -29,7 +29,8 @@ impl<'a> Build<'a> {
         requires built { IsBuilt self.old }
         requires own { IsOwnNode (program_of_build self.old) (length (read_places self.old)) self.old.dag (node_of node) }
         ensures grown { OnOk result (Grown self.old self.new (own_gates (node_of node)) 0) }
-        ensures word { IfOk result (λ t. IsWord self.new.dag (width_of (node_of node)) t.0 (λ x. (node_value x (values_from x [] self.old.dag) (node_of node)).word)) }
+        ensures word { IfOk result (λ t. IsWord self.new.dag (width_of (node_of node)) t.0
+            (λ x. (node_value x (values_from x [] self.old.dag) (node_of node)).word)) }
     {
         let term = self.dag.mk(node)?;
         Ok(term)
@@ -86,7 +87,9 @@ impl<'a> Build<'a> {
         requires address { HasWidth self.old.dag 32 address.0 }
         requires below { HasWidth self.old.dag 8 below.0 }
         ensures grown { OnOk result (Grown self.old self.new 40 0) }
-        ensures byte { IfOk result (λ t. IsWord self.new.dag 8 t.0 (λ x. if term_word x self.old.dag address.0 == term_word x self.old.dag put.address.0 then term_word x self.old.dag put.value.0 else term_word x self.old.dag below.0)) }
+        ensures byte { IfOk result (λ t. IsWord self.new.dag 8 t.0
+            (λ x. if term_word x self.old.dag address.0 == term_word x self.old.dag put.address.0 then term_word x self.old.dag put.value.0
+            else term_word x self.old.dag below.0)) }
     {
         let condition = self.make(Node::Binary {
             op: Op::Equal,
@@ -117,7 +120,8 @@ impl<'a> Build<'a> {
         requires address { HasWidth self.old.dag 32 address.0 }
         requires below { HasWidth self.old.dag 8 below.0 }
         ensures grown { OnOk result (Grown self.old self.new (40 * bytes) 0) }
-        ensures byte { IfOk result (λ t. IsWord self.new.dag 8 t.0 (λ x. put_bytes (term_word x self.old.dag) stored.now first bytes address.0 (term_word x self.old.dag below.0))) }
+        ensures byte { IfOk result (λ t. IsWord self.new.dag 8 t.0
+            (λ x. put_bytes (term_word x self.old.dag) stored.now first bytes address.0 (term_word x self.old.dag below.0))) }
     {
         let mut byte = below;
         for k in 0..bytes {
@@ -141,7 +145,8 @@ impl<'a> Build<'a> {
         requires split { IsSplit self.old.dag address.0 at.base.0 at.offset }
         requires address { HasWidth self.old.dag 32 address.0 }
         ensures grown { OnOk result (Grown self.old self.new (piece_gates piece) (piece_reads piece)) }
-        ensures byte { IfOk result (λ t. IsByte self.new t.0 (λ x. piece_byte (term_word x self.old.dag) x.mem (λ q. term_word x self.old.dag (link chain.now q)) stored.now piece (term_word x self.old.dag address.0))) }
+        ensures byte { IfOk result (λ t. IsByte self.new t.0 (λ x. piece_byte (term_word x self.old.dag) x.mem
+            (λ q. term_word x self.old.dag (link chain.now q)) stored.now piece (term_word x self.old.dag address.0))) }
     {
         match piece {
             Piece::Entry => {

@@ -46,7 +46,8 @@ fn byte_behind(
     requires memory { memory < length memories.now.pieces.items }
     requires address { HasWidth build.old.dag 32 address.0 }
     ensures grown { OnOk result (Grown build.old build.new (64 + sum_by piece_gates memories.now.pieces.items) 1) }
-    ensures byte { IfOk result (λ t. IsOfMemory build.old build.new memories.now.stored.items memories.now.pieces.items memory 8 t.0 (λ x m. m (add 32 (term_word x build.old.dag address.0) bytes))) }
+    ensures byte { IfOk result (λ t. IsOfMemory build.old build.new memories.now.stored.items memories.now.pieces.items memory 8 t.0
+        (λ x m. m (add 32 (term_word x build.old.dag address.0) bytes))) }
 {
     let at = raised(build, address, bytes)?;
     let byte = build.byte_at(alloc, memories, memory, at)?;
@@ -67,7 +68,8 @@ fn joined(
     requires word { HasWidth build.old.dag (8 * bytes) word.0 }
     requires byte { HasWidth build.old.dag 8 byte.0 }
     ensures grown { OnOk result (Grown build.old build.new 0 0) }
-    ensures word { IfOk result (λ t. IsWord build.new.dag (8 * (bytes + 1)) t.0 (λ x. with_byte (endian big) bytes (term_word x build.old.dag word.0) (term_word x build.old.dag byte.0))) }
+    ensures word { IfOk result (λ t. IsWord build.new.dag (8 * (bytes + 1)) t.0
+        (λ x. with_byte (endian big) bytes (term_word x build.old.dag word.0) (term_word x build.old.dag byte.0))) }
 {
     let node = if big {
         Node::Concat {
@@ -104,7 +106,8 @@ pub fn load(
     requires address { HasWidth build.old.dag 32 address.0 }
     requires bytes { IsBytes bytes }
     ensures grown { OnOk result (Grown build.old build.new (bytes * (64 + sum_by piece_gates memories.now.pieces.items)) bytes) }
-    ensures word { IfOk result (λ t. IsOfMemory build.old build.new memories.now.stored.items memories.now.pieces.items memory (8 * bytes) t.0 (λ x m. load (endian big) bytes m (term_word x build.old.dag address.0))) }
+    ensures word { IfOk result (λ t. IsOfMemory build.old build.new memories.now.stored.items memories.now.pieces.items memory (8 * bytes) t.0
+        (λ x m. load (endian big) bytes m (term_word x build.old.dag address.0))) }
 {
     let mut word = byte_behind(build, alloc, memories, memory, address, 0)?;
     for i in 1..bytes {

@@ -18,7 +18,8 @@ use std::alloc::{AllocError, Global};
 use std::collections::BTreeMap;
 use term_dag::Dag;
 
-/// The cells of a question, in which those known bytes are asked that were added, and the four of each literal's word. An address that is not known is not asked.
+/// The cells of a question, in which those known bytes are asked that were added, and the four of each literal's word. An address that is not known is not
+/// asked.
 ///
 /// # Errors
 ///

@@ -43,7 +43,8 @@ among first (suc count) r low high =
     ap (λ z. z || list_any (nat_eq r) (from_to (first + 1) count)) refl
     ∙ step (nat_eq r first) first count r refl low (λ l. among (first + 1) count r (omega arith) (omega arith))
 
-among_names : (b : Bool) (r first count : ℕ) → first ≡ 1 → count ≡ 31 → (b && (nat_le 1 r && nat_le r 31)) ≡ true → list_any (nat_eq r) (from_to first count) ≡ true
+among_names : (b : Bool) (r first count : ℕ) → first ≡ 1 → count ≡ 31 → (b && (nat_le 1 r && nat_le r 31)) ≡ true →
+    list_any (nat_eq r) (from_to first count) ≡ true
 among_names b r first count one all h =
     let k = both (nat_le 1 r) (nat_le r 31) (both b (nat_le 1 r && nat_le r 31) h).1 in
     let low : 1 ≤ r = let e = k.0 in grind (arith, nat_tests) in

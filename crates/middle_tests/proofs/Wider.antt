@@ -37,7 +37,8 @@ names_wider (Unary o a) k l w h = names_wider a k l w h
 names_wider (Cast o n a) k l w h = names_wider a k l w h
 names_wider (Let x n a b) k l w h =
     let c = both (names_only a k) (names_only b (λ y. is_local x n y || k y)) h in
-    join _ _ (names_wider a k l w c.0) (names_wider b (λ y. is_local x n y || k y) (λ y. is_local x n y || l y) (λ y i. wider_or (is_local x n y) (k y) (l y) (w y) i) c.1)
+    join _ _ (names_wider a k l w c.0) (names_wider b (λ y. is_local x n y || k y) (λ y. is_local x n y ||
+    l y) (λ y i. wider_or (is_local x n y) (k y) (l y) (w y) i) c.1)
 names_wider (Unknown t) k l w h = refl
 names_wider (Choose t a b) k l w h =
     let c = all_three (names_only t k) (names_only a k) (names_only b k) h in

@@ -21,7 +21,8 @@ bit_is (suc (suc v)) h = absurd (omega arith)
 -- a bit says whether it counts as true
 pub bit_stays : (ns : List TermNode) (t : ℕ) → AreTyped ns → t < length ns → width_of (node_at ns t) ≡ 1 →
     IsStep ns ns 32 0 2 (λ w. w ≡ 1) (λ x. bit (is_true (term_word x ns t))) t
-bit_stays ns t typed within width = step_stays ns 32 2 (λ w. w ≡ 1) _ t typed within width (λ x r. bit_is (term_word x ns t) (word_fits x ns 1 t r typed (within, width)))
+bit_stays ns t typed within width = step_stays ns 32 2 (λ w. w ≡ 1) _ t typed within width
+    (λ x r. bit_is (term_word x ns t) (word_fits x ns 1 t r typed (within, width)))
 
 -- a reading of zeros
 abbrev nothing : TermReading
@@ -45,11 +46,13 @@ pub constant_step : (old new : List TermNode) (v u t : ℕ) → ((x : TermReadin
 constant_step old new v u t is k = step_kept old new _ _ (ConstantNode 32 v) t k refl refl refl refl (λ i. i) (λ w e. e) (λ x r. sym (is x))
 
 -- a term with zeros above
-pub extended_step : (old new : List TermNode) (from u t : ℕ) → IsInterned old new (ExtendNode false from 32 u) t → IsStep old new 0 0 1 (λ w. w ≡ 32) (λ x. term_word x old u) t
+pub extended_step : (old new : List TermNode) (from u t : ℕ) → IsInterned old new (ExtendNode false from 32 u) t →
+    IsStep old new 0 0 1 (λ w. w ≡ 32) (λ x. term_word x old u) t
 extended_step old new from u t k = step_kept old new _ _ (ExtendNode false from 32 u) t k refl refl refl refl (λ i. i) (λ w e. e) (λ x r. refl)
 
 -- two values that count as true, or one of them
-pub connected_step : (a b c d : List TermNode) (both : Bool) (o : bil.BinaryOp) (l r p q t : ℕ) → o ≡ (if both then bil.And else bil.Or) → l < length a → r < length a →
+pub connected_step : (a b c d : List TermNode) (both : Bool) (o : bil.BinaryOp) (l r p q t : ℕ) → o ≡ (if both then bil.And else bil.Or) → l < length a →
+    r < length a →
     IsStep a b 32 0 2 (λ w. w ≡ 1) (λ x. bit (is_true (term_word x a l))) p → IsStep b c 32 0 2 (λ w. w ≡ 1) (λ x. bit (is_true (term_word x b r))) q →
     IsMade c d (BinaryNode o 1 p q) t →
     IsStep a d 384 0 6 IsShown (λ x. apply (if both then notes.And else notes.Or) (term_word x a l) (term_word x a r)) t
@@ -76,13 +79,15 @@ swapped_typed ns o false p q h k = ((omega arith, omega arith), h, k)
 
 -- the operands of an operator between two terms that were made one after the other
 pub operands_typed : (a b c : List TermNode) (g l n : ℕ) (f h : TermReading → ℕ) (o : bil.BinaryOp) (swapped : Bool) (p q : ℕ) (m : TermNode) →
-    IsStep a b g l n (λ w. w ≡ 32) f p → IsStep b c g l n (λ w. w ≡ 32) h q → m ≡ BinaryNode o 32 (if swapped then q else p) (if swapped then p else q) → IsTypedOver c m
+    IsStep a b g l n (λ w. w ≡ 32) f p → IsStep b c g l n (λ w. w ≡ 32) h q → m ≡ BinaryNode o 32 (if swapped then q else p) (if swapped then p else q) →
+    IsTypedOver c m
 operands_typed a b c g l n f h o swapped p q m s k e =
     subst (IsTypedOver c) (sym e) (swapped_typed c o swapped p q (grew_width b c g l 0 0 n 32 p k.grew (s.within, s.fits)) (k.within, k.fits))
 
 -- the step of an operator between words
 operator_step : (c d : List TermNode) (o : Op) (k : bil.BinaryOp) (swapped : Bool) (p q t : ℕ) → IsOperation o k swapped →
-    IsMade c d (BinaryNode k 32 (if swapped then q else p) (if swapped then p else q)) t → IsStep c d (operator_gates o) 0 2 IsShown (λ x. apply o (term_word x c p) (term_word x c q)) t
+    IsMade c d (BinaryNode k 32 (if swapped then q else p) (if swapped then p else q)) t →
+    IsStep c d (operator_gates o) 0 2 IsShown (λ x. apply o (term_word x c p) (term_word x c q)) t
 operator_step c d o k true p q t is m =
     step_made c d (operator_gates o) 0 IsShown _ (BinaryNode k 32 q p) t m is.gates (omega arith) refl refl (λ i. i) (λ w e. subst IsShown (sym e) is.shown)
     (λ x h. is.value (term_word x c p) (term_word x c q))
@@ -91,7 +96,8 @@ operator_step c d o k false p q t is m =
     (λ x h. is.value (term_word x c p) (term_word x c q))
 
 -- an operator between two values as words
-pub operated_step : (a b c d : List TermNode) (o : Op) (k : bil.BinaryOp) (swapped : Bool) (l r p q t : ℕ) (m : TermNode) → IsOperation o k swapped → l < length a → r < length a →
+pub operated_step : (a b c d : List TermNode) (o : Op) (k : bil.BinaryOp) (swapped : Bool) (l r p q t : ℕ) (m : TermNode) → IsOperation o k swapped →
+    l < length a → r < length a →
     IsStep a b 0 0 1 (λ w. w ≡ 32) (λ x. term_word x a l) p → IsStep b c 0 0 1 (λ w. w ≡ 32) (λ x. term_word x b r) q →
     m ≡ BinaryNode k 32 (if swapped then q else p) (if swapped then p else q) → IsMade c d m t →
     IsStep a d (operator_gates o) 0 6 IsShown (λ x. apply o (term_word x a l) (term_word x a r)) t

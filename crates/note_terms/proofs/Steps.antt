@@ -24,7 +24,8 @@ pub step_made : (old new : List TermNode) (g l : ℕ) (Fits : ℕ → Type 0) (f
     own_gates m ≤ g → own_loads m ≤ l → own_stores m ≡ 0 → own_joins m ≡ 0 → (IsInput m → ⊥) → ((w : ℕ) → w ≡ width_of m → Fits w) →
     ((x : TermReading) → InRange x → (node_value x (values_from x [] old) m).word ≡ f x) → IsStep old new g l 2 Fits f t
 step_made old new g l Fits f m t k hg hl hs hj none fits value = record {
-  grew = grew_more old new (own_gates m) (own_loads m) (own_stores m) (own_joins m) 2 g l 0 0 2 hg hl (omega (arith, hs)) (omega (arith, hj)) (omega arith) (made_grew old new m t k);
+  grew = grew_more old new (own_gates m) (own_loads m) (own_stores m) (own_joins m) 2 g l 0 0 2 hg hl (omega (arith, hs)) (omega (arith, hj)) (omega arith)
+      (made_grew old new m t k);
   inputs = made_inputs old new m t _ k none;
   typed = k.typed;
   within = k.within;
@@ -37,7 +38,8 @@ pub step_kept : (old new : List TermNode) (Fits : ℕ → Type 0) (f : TermReadi
     own_gates m ≡ 0 → own_loads m ≡ 0 → own_stores m ≡ 0 → own_joins m ≡ 0 → (IsInput m → ⊥) → ((w : ℕ) → w ≡ width_of m → Fits w) →
     ((x : TermReading) → InRange x → (node_value x (values_from x [] old) m).word ≡ f x) → IsStep old new 0 0 1 Fits f t
 step_kept old new Fits f m t k hg hl hs hj none fits value = record {
-  grew = grew_more old new (own_gates m) (own_loads m) (own_stores m) (own_joins m) 1 0 0 0 0 1 (omega (arith, hg)) (omega (arith, hl)) (omega (arith, hs)) (omega (arith, hj)) (omega arith) (interned_grew old new m t k);
+  grew = grew_more old new (own_gates m) (own_loads m) (own_stores m) (own_joins m) 1 0 0 0 0 1 (omega (arith, hg)) (omega (arith, hl)) (omega (arith, hs))
+      (omega (arith, hj)) (omega arith) (interned_grew old new m t k);
   inputs = interned_inputs old new m t _ k none;
   typed = k.typed;
   within = k.within;
@@ -88,10 +90,12 @@ value_stays old new g l s j n t p h = record {
 -- two terms, and what is made of them
 pub step_both : (a b c d : List TermNode) (l r l' r' t g1 n1 g2 n2 g n : ℕ) (W Fits : ℕ → Type 0) (F : ℕ → ℕ) (H : ℕ → ℕ → ℕ) → l < length a → r < length a →
     IsStep a b g1 0 n1 W (λ x. F (term_word x a l)) l' → IsStep b c g2 0 n2 W (λ x. F (term_word x b r)) r' →
-    IsStep c d g 0 n Fits (λ x. H (term_word x c l') (term_word x c r')) t → IsStep a d (g1 + g2 + g) 0 (n1 + n2 + n) Fits (λ x. H (F (term_word x a l)) (F (term_word x a r))) t
+    IsStep c d g 0 n Fits (λ x. H (term_word x c l') (term_word x c r')) t →
+    IsStep a d (g1 + g2 + g) 0 (n1 + n2 + n) Fits (λ x. H (F (term_word x a l)) (F (term_word x a r))) t
 step_both a b c d l r l' r' t g1 n1 g2 n2 g n W Fits F H hl hr p q s =
     step_as a d (g1 + g2 + g) 0 (n1 + n2 + n) _ 0 _ Fits Fits _ _ t
-    (step_on a c d (g1 + g2) 0 (n1 + n2) g 0 n W Fits _ _ r' t (step_on a b c g1 0 n1 g2 0 n2 W W _ _ l' r' p q) s) (omega arith) (omega arith) (omega arith) (λ w k. k)
+    (step_on a c d (g1 + g2) 0 (n1 + n2) g 0 n W Fits _ _ r' t (step_on a b c g1 0 n1 g2 0 n2 W W _ _ l' r' p q) s) (omega arith) (omega arith) (omega arith)
+    (λ w k. k)
     (λ x k.
     let left = step_keeps b c g2 0 n2 W _ r' q x l' p.within ∙ p.value x k in
     let right = q.value x k ∙ ap F (step_keeps a b g1 0 n1 W _ l' p x r hr) in

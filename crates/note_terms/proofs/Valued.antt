@@ -38,7 +38,8 @@ names_stay u old new g l s j n m p h = record {
 }
 
 -- they keep what they denote
-pub denotes_stays : (u : UnrolledProgram) (old new : List TermNode) (g l s j n : ℕ) (m : _) (x : TermReading) (c : Carried) → Grew old new g l s j n → AreNames u old m →
+pub denotes_stays : (u : UnrolledProgram) (old new : List TermNode) (g l s j n : ℕ) (m : _) (x : TermReading) (c : Carried) → Grew old new g l s j n →
+    AreNames u old m →
     Denotes u old x m c → Denotes u new x m c
 denotes_stays u old new g l s j n m x c p h d = record {
   registers = λ i k. ap (λ v. v.word) (p.keeps x _ (h.words i k).0) ∙ d.registers i k;
@@ -51,7 +52,8 @@ pub state_stays : (old new : List TermNode) (g l s j n : ℕ) (w : Now) → Grew
 state_stays old new g l s j n w p h = record { names = names_stay _ old new g l s j n _ p h.names; pc = grew_width old new g l s j n 32 _ p h.pc }
 
 -- and are the same state
-pub is_state_stays : (old new : List TermNode) (g l s j n : ℕ) (w : Now) (x : TermReading) (c : Carried) (at : ℕ) → Grew old new g l s j n → AreStateTerms old w →
+pub is_state_stays : (old new : List TermNode) (g l s j n : ℕ) (w : Now) (x : TermReading) (c : Carried) (at : ℕ) → Grew old new g l s j n →
+    AreStateTerms old w →
     IsStateOf old x w c at → IsStateOf new x w c at
 is_state_stays old new g l s j n w x c at p h d = record {
   carried = denotes_stays _ old new g l s j n _ x c p h.names d.carried;
@@ -132,7 +134,8 @@ pub loaded_narrow : (old new : List TermNode) (n : ℕ) (e : Endian) (m a t : �
 loaded_narrow old new n e m a t some few k = let w = k.width in record { within = k.within; some = omega arith; few = omega arith }
 
 -- a load at a value as an address, in 32 bits
-pub loaded_step : (a b c d : List TermNode) (n k : ℕ) (e : Endian) (m l p q t : ℕ) → k ≡ n → HasMemory a m → l < length a → IsStep a b 0 0 1 (λ w. w ≡ 32) (λ x. term_word x a l) p →
+pub loaded_step : (a b c d : List TermNode) (n k : ℕ) (e : Endian) (m l p q t : ℕ) → k ≡ n → HasMemory a m → l < length a →
+    IsStep a b 0 0 1 (λ w. w ≡ 32) (λ x. term_word x a l) p →
     IsMade b c (LoadNode k e m p) q → IsStep c d 0 0 1 (λ w. w ≡ 32) (λ x. term_word x c q) t →
     IsStep a d 0 n 4 (λ w. w ≡ 32) (λ x. load e n (term_value x a m).bytes (term_word x a l)) t
 loaded_step a b c d n k e m l p q t same h within s k-made last =
@@ -145,7 +148,8 @@ loaded_step a b c d n k e m l p q t same h within s k-made last =
     (λ x r. loads.value x r ∙ ap (λ v. load e n v.bytes (term_word x b p)) (s.grew.keeps x m h.0) ∙ ap (load e n (term_value x a m).bytes) (s.value x r))
 
 -- the value of a number
-pub number_value : (old new : List TermNode) (big : Bool) (n : ℕ) (now entry : Now) (t : ℕ) → IsInterned old new (ConstantNode 32 n) t → IsValue old new big (Number n) now entry t
+pub number_value : (old new : List TermNode) (big : Bool) (n : ℕ) (now entry : Now) (t : ℕ) → IsInterned old new (ConstantNode 32 n) t →
+    IsValue old new big (Number n) now entry t
 number_value old new big n now entry t k =
     let s = step_kept old new (λ w. w ≡ 32) (λ x. n) (ConstantNode 32 n) t k refl refl refl refl (λ i. i) (λ w e. e) (λ x r. refl) in
     record { grew = s.grew; inputs = s.inputs; typed = s.typed; within = s.within; shown = inr s.fits; value = λ x r c d at from h g. s.value x r }
@@ -175,7 +179,8 @@ register_value ns big r now entry t typed h low high is =
     }
 
 -- the value of a flag
-pub flag_value : (ns : List TermNode) (big : Bool) (f : ℕ) (now entry : Now) (t : ℕ) → AreTyped ns → AreStateTerms ns now → f < length now.names.now.flags.items →
+pub flag_value : (ns : List TermNode) (big : Bool) (f : ℕ) (now entry : Now) (t : ℕ) → AreTyped ns → AreStateTerms ns now →
+    f < length now.names.now.flags.items →
     t ≡ slice_index (names_of now.names.now).flags f → IsValue ns ns big (Flag f) now entry t
 flag_value ns big f now entry t typed h k is =
     let place : HasWidth ns 1 t = subst (HasWidth ns 1) (sym is) (h.names.bits f k) in
@@ -201,10 +206,12 @@ pc_value ns big now entry typed h = record {
 
 -- the value of a load
 pub memory_value : (a b c : List TermNode) (big : Bool) (n : ℕ) (e : Expr) (now entry : Now) (l t : ℕ) → AreStateTerms a now → IsValue a b big e now entry l →
-    IsStep b c 0 n 4 (λ w. w ≡ 32) (λ x. load (endian big) n (term_value x b now.names.now.memory.0).bytes (term_word x b l)) t → IsValue a c big (Memory n e) now entry t
+    IsStep b c 0 n 4 (λ w. w ≡ 32) (λ x. load (endian big) n (term_value x b now.names.now.memory.0).bytes (term_word x b l)) t →
+    IsValue a c big (Memory n e) now entry t
 memory_value a b c big n e now entry l t h v s = record {
   grew = grew_more a c (gates_of e + 0) (bytes_loaded e + n) 0 0 (nodes_of e + 4) (gates_of e) (n + bytes_loaded e) 0 0 (4 + nodes_of e)
-      (omega arith) (omega arith) (omega arith) (omega arith) (omega arith) (grew_on a b c (gates_of e) (bytes_loaded e) 0 0 (nodes_of e) 0 n 0 0 4 v.grew s.grew);
+      (omega arith) (omega arith) (omega arith) (omega arith) (omega arith)
+      (grew_on a b c (gates_of e) (bytes_loaded e) 0 0 (nodes_of e) 0 n 0 0 4 v.grew s.grew);
   inputs = inputs_on a b c _ v.inputs s.inputs;
   typed = s.typed;
   within = s.within;
@@ -233,7 +240,8 @@ pub not_value : (a b c : List TermNode) (big : Bool) (e : Expr) (now entry : Now
     IsStep b c 32 0 2 (λ w. w ≡ 1) (λ x. bit (not (is_true (term_word x b l)))) t → IsValue a c big (Not e) now entry t
 not_value a b c big e now entry l t v s = record {
   grew = grew_more a c (gates_of e + 32) (bytes_loaded e + 0) 0 0 (nodes_of e + 2) (384 + gates_of e) (bytes_loaded e) 0 0 (4 + nodes_of e)
-      (omega arith) (omega arith) (omega arith) (omega arith) (omega arith) (grew_on a b c (gates_of e) (bytes_loaded e) 0 0 (nodes_of e) 32 0 0 0 2 v.grew s.grew);
+      (omega arith) (omega arith) (omega arith) (omega arith) (omega arith)
+      (grew_on a b c (gates_of e) (bytes_loaded e) 0 0 (nodes_of e) 32 0 0 0 2 v.grew s.grew);
   inputs = inputs_on a b c _ v.inputs s.inputs;
   typed = s.typed;
   within = s.within;
@@ -243,7 +251,8 @@ not_value a b c big e now entry l t v s = record {
 
 -- the value of a binary operator
 pub binary_value : (a b c d : List TermNode) (big : Bool) (o : Op) (e e' : Expr) (now entry : Now) (l r t : ℕ) → AreStateTerms a now → AreStateTerms a entry →
-    IsValue a b big e now entry l → IsValue b c big e' now entry r → IsStep c d (operator_gates o) 0 6 IsShown (λ x. apply o (term_word x c l) (term_word x c r)) t →
+    IsValue a b big e now entry l → IsValue b c big e' now entry r →
+    IsStep c d (operator_gates o) 0 6 IsShown (λ x. apply o (term_word x c l) (term_word x c r)) t →
     IsValue a d big (Binary o e e') now entry t
 binary_value a b c d big o e e' now entry l r t h h' v v' s = record {
   grew = grew_more a d (gates_of e + gates_of e' + operator_gates o) (bytes_loaded e + bytes_loaded e' + 0) 0 0 (nodes_of e + nodes_of e' + 6)
@@ -309,14 +318,16 @@ price_enough : (n p g : ℕ) → p ≤ n → g ≡ 384 * n + 2688 * p → g + 32
 price_enough n p g h e = elim (eqb_tells n 0) [ inl k ↦ rw k.0 (omega (arith, h, e, k.1)) | inr k ↦ rw k.0 (omega (arith, h, e, k.1)) ]
 
 -- a line, from its value
-pub line_made : (a b c d : List TermNode) (big : Bool) (e : Expr) (now entry : Now) (z l t : ℕ) → AreStateTerms a now → AreStateTerms a entry → IsInterned a b (ConstantNode 32 0) z →
+pub line_made : (a b c d : List TermNode) (big : Bool) (e : Expr) (now entry : Now) (z l t : ℕ) → AreStateTerms a now → AreStateTerms a entry →
+    IsInterned a b (ConstantNode 32 0) z →
     IsValue b c big e now entry l → IsStep c d 32 0 2 (λ w. w ≡ 1) (λ x. bit (is_true (term_word x c l))) t → IsLine a d big e now entry t
 line_made a b c d big e now entry z l t h h' k v s =
     let first : IsStep a b 0 0 1 (λ w. w ≡ 32) (λ x. 0) z = step_kept a b _ _ (ConstantNode 32 0) z k refl refl refl refl (λ i. i) (λ w e. e) (λ x r. refl) in
     let enough = price_enough (operations e) (products e) (gates_of e) (products_few e) (gates_few e) in
     let few = nodes_few e in
     record {
-      grew = grew_more a d (0 + gates_of e + 32) (0 + bytes_loaded e + 0) 0 0 (1 + nodes_of e + 2) (line_price e - 64) (bytes_loaded e) 0 0 (4 * line_size e + 8)
+      grew = grew_more a d (0 + gates_of e + 32) (0 + bytes_loaded e + 0) 0 0 (1 + nodes_of e + 2) (line_price e - 64) (bytes_loaded e) 0 0
+          (4 * line_size e + 8)
           (omega arith) (omega arith) (omega arith) (omega arith) (omega arith)
           (grew_on a c d (0 + gates_of e) (0 + bytes_loaded e) 0 0 (1 + nodes_of e) 32 0 0 0 2
           (grew_on a b c 0 0 0 0 1 (gates_of e) (bytes_loaded e) 0 0 (nodes_of e) first.grew v.grew) s.grew);
@@ -324,7 +335,8 @@ line_made a b c d big e now entry z l t h h' k v s =
       width = (s.within, s.fits);
       value = λ x ok m n at from g f.
           s.value x ok
-          ∙ ap (λ w. bit (is_true w)) (v.value x ok m n at from (is_state_stays a b _ _ _ _ _ now x m at first.grew h g) (is_state_stays a b _ _ _ _ _ entry x n from first.grew h' f));
+          ∙ ap (λ w. bit (is_true w)) (v.value x ok m n at from (is_state_stays a b _ _ _ _ _ now x m at first.grew h g)
+          (is_state_stays a b _ _ _ _ _ entry x n from first.grew h' f));
     }
 
 -- a line costs 64 gates at least

@@ -23,8 +23,8 @@ pub record AreStateTerms (nodes : List TermNode) (n : Now) : Type 0 where
   pub names : AreNames (form_of n.names.now) nodes (names_of n.names.now)
   pub pc : HasWidth nodes 32 n.pc.0
 
--- A bit tells a line under every reading in range: it is 1 exactly where the line is true in the state now, with the state at entry. Of the line's price 64 gates
--- are left, and of its nodes 8, for what is done with the bit.
+-- A bit tells a line under every reading in range: it is 1 exactly where the line is true in the state now, with the state at entry. Of the line's price 64
+-- gates are left, and of its nodes 8, for what is done with the bit.
 pub record IsLine (old new : List TermNode) (big : Bool) (e : Expr) (now entry : Now) (t : ℕ) : Type 0 where
   pub grew : Grew old new (line_price e - 64) (bytes_loaded e) 0 0 (4 * line_size e + 8)
   pub inputs : InputsFrom old new (λ m. ⊥)

@@ -29,7 +29,8 @@ pub record IsZero (nodes : List TermNode) (t : ℕ) : Type 0 where
   pub word : HasWidth nodes 32 t
   pub value : (x : TermReading) → InRange x → term_word x nodes t ≡ 0
 
--- A term was made, of a width that fits, which has a value under every reading in range; what is new has at most so many gates, byte loads and nodes, and no input.
+-- A term was made, of a width that fits, which has a value under every reading in range; what is new has at most so many gates, byte loads and nodes, and no
+-- input.
 pub record IsStep (old new : List TermNode) (gates loads nodes : ℕ) (Fits : ℕ → Type 0) (f : TermReading → ℕ) (t : ℕ) : Type 0 where
   pub grew : Grew old new gates loads 0 0 nodes
   pub inputs : InputsFrom old new (λ m. ⊥)

@@ -27,8 +27,8 @@ pub struct Now<'a> {
     pub pc: Term,
 }
 
-/// Whether a line of notes is true in the state now, with a state at entry, as a term of 1 bit; `big` is the machine's byte order. The error is want of memory; then
-/// nothing is said of the terms.
+/// Whether a line of notes is true in the state now, with a state at entry, as a term of 1 bit; `big` is the machine's byte order. The error is want of memory;
+/// then nothing is said of the terms.
 pub fn line<'a>(
     dag: &mut Dag,
     says: &Expr,

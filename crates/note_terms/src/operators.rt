@@ -166,7 +166,8 @@ fn on_words(op: Operator) -> Operation
 
 /// The node of an operator between two words.
 fn binary(operation: Operation, left: Term, right: Term) -> Node
-    ensures { node_of result ≡ BinaryNode (op_of operation.op) 32 (if operation.swapped then right.0 else left.0) (if operation.swapped then left.0 else right.0) }
+    ensures { node_of result ≡ BinaryNode (op_of operation.op) 32 (if operation.swapped then right.0 else left.0) (if operation.swapped then left.0
+        else right.0) }
 {
     let op = operation.op;
     let width = 32;

@@ -18,7 +18,8 @@ same_filter f g h (x ∷ xs) =
 tied : (a b : ℕ) → (not (is_lt (nat_cmp a b)) && not (is_lt (nat_cmp b a))) ≡ (b == a)
 tied a b = grind (arith, nat_tests)
 
-numbered_is : (places : List ℕ) (j : ℕ) (xs : List (ℕ × ℕ)) → length xs ≡ length places → ((k : ℕ) (d : ℕ × ℕ) → k < length places → get_or xs k d ≡ (get_or places k 0, j + k))
+numbered_is : (places : List ℕ) (j : ℕ) (xs : List (ℕ × ℕ)) → length xs ≡ length places →
+    ((k : ℕ) (d : ℕ × ℕ) → k < length places → get_or xs k d ≡ (get_or places k 0, j + k))
     → xs ≡ numbered_from j places
 numbered_is [] j [] size each = refl
 numbered_is [] j (x ∷ xs) size each = absurd (omega arith)
@@ -26,7 +27,8 @@ numbered_is (a ∷ places) j [] size each = absurd (omega arith)
 numbered_is (a ∷ places) j (x ∷ xs) size each =
     let z : j + 0 ≡ j = omega arith in
     let first : x ≡ (a, j) = each 0 x (omega arith) ∙ ap (λ (k : ℕ). (a, k)) z in
-    let rest = numbered_is places (j + 1) xs (omega arith) (λ k d w. let e : j + suc k ≡ j + 1 + k = omega arith in each (suc k) d (omega arith) ∙ ap (λ (i : ℕ). (get_or places k 0, i)) e) in
+    let rest = numbered_is places (j + 1) xs (omega arith) (λ k d w. let e : j + suc k
+    ≡ j + 1 + k = omega arith in each (suc k) d (omega arith) ∙ ap (λ (i : ℕ). (get_or places k 0, i)) e) in
     ap (λ (y : ℕ × ℕ). y ∷ xs) first ∙ ap (λ (l : List (ℕ × ℕ)). (a, j) ∷ l) rest
 
 -- what a stable sort by address leaves of the places of an address
@@ -34,7 +36,8 @@ in_order : (places : List ℕ) (numbered index : List (ℕ × ℕ)) → numbered
     → (at : ℕ) → filter (λ x. x.0 == at) index ≡ filter (λ x. x.0 == at) (numbered_from 0 places)
 in_order places numbered index e stable at =
     let by : ℕ × ℕ → Bool = λ y. not (is_lt (nat_cmp at y.0)) && not (is_lt (nat_cmp y.0 at)) in
-    sym (same_filter by (λ (x : ℕ × ℕ). x.0 == at) (λ x. tied at x.0) index) ∙ stable (at, 0) ∙ same_filter by (λ (x : ℕ × ℕ). x.0 == at) (λ x. tied at x.0) numbered
+    sym (same_filter by (λ (x : ℕ × ℕ). x.0 == at) (λ x. tied at x.0) index) ∙ stable (at, 0) ∙ same_filter by (λ (x : ℕ × ℕ). x.0 == at)
+    (λ x. tied at x.0) numbered
     ∙ ap (filter (λ (x : ℕ × ℕ). x.0 == at)) e
 
 -- sorted places are an index
@@ -56,7 +59,8 @@ index_is places numbered index n full is moved rising stable = record {
       subst (λ (x : ℕ × ℕ). (x.1 < length places) × (x.0 ≡ get_or places x.1 0)) (sym (is.each k d less)) (here, refl));
   order =
       in_order places numbered index
-      (numbered_is places 0 numbered (is.count ∙ full) (λ k d w. let less : k < n = omega arith in let z : 0 + k ≡ k = omega arith in is.each k d less ∙ ap (λ (i : ℕ). (get_or places k 0, i)) (sym z)))
+      (numbered_is places 0 numbered (is.count ∙ full) (λ k d w. let less : k < n = omega arith in let z : 0 + k
+      ≡ k = omega arith in is.each k d less ∙ ap (λ (i : ℕ). (get_or places k 0, i)) (sym z)))
       stable;
 }
 

@@ -10,7 +10,8 @@ use Rattle.notes_lang.specs.Saying.{function_of}
 use Rattle.notes_lang.specs.Drafting.{place_list, note_line_of, assert_of, targets_of, fixed_of}
 use Rattle.notes_lang.specs.Parsing.{IsGoodDraft}
 
-pub finished : (names all : List ℕ → Option notes.Expr) (text : List ℕ) (d : Draft) (f : Function) → names ≡ all → IsGoodDraft names (lines_of text) d → d.entry ≡ Some f →
+pub finished : (names all : List ℕ → Option notes.Expr) (text : List ℕ) (d : Draft) (f : Function) → names ≡ all → IsGoodDraft names (lines_of text) d →
+    d.entry ≡ Some f →
     IsNotesText all text (record {
       entry = function_of f;
       requires = map note_line_of d.required.items;
@@ -35,7 +36,8 @@ finished names all text d f same p is =
       );
     }
 
-pub unnamed : (names all : List ℕ → Option notes.Expr) (text : List ℕ) (d : Draft) (line : ℕ) → names ≡ all → IsGoodDraft names (lines_of text) d → line ≡ length (lines_of text) + 1 → d.entry ≡ None →
+pub unnamed : (names all : List ℕ → Option notes.Expr) (text : List ℕ) (d : Draft) (line : ℕ) → names ≡ all → IsGoodDraft names (lines_of text) d →
+    line ≡ length (lines_of text) + 1 → d.entry ≡ None →
     IsFirstNoteFault all text line EntryFault
 unnamed names all text d line same p number is =
     let q : IsGoodDraft all (lines_of text) d = subst (λ n. IsGoodDraft n (lines_of text) d) same p in

@@ -58,11 +58,13 @@ module _ (names : List ℕ → Option Expr) (ts : List Token) where
   no_ensure none (EnsureIs e) p = let x = p.1 in let is : p.0 ≡ ts = cc in none e (subst (λ us. Parses names 1 us e) is p.2)
   no_ensure none s p = let e = kind_is names _ s p in omega (arith, e)
 
-  pub no_assert : ((n : ℕ) (us : List Token) (e : Expr) → ts ≡ NumberToken n ∷ us → Parses names 1 us e → ⊥) → (s : Says) → IsSaid names (NameToken (codes "assert") ∷ ts) s → ⊥
+  pub no_assert : ((n : ℕ) (us : List Token) (e : Expr) → ts ≡ NumberToken n ∷ us → Parses names 1 us e → ⊥) → (s : Says) →
+      IsSaid names (NameToken (codes "assert") ∷ ts) s → ⊥
   no_assert none (AssertIs a e) p = let x = p.1 in none a p.0 e (let is : ts ≡ NumberToken a ∷ p.0 = cc in is) p.2
   no_assert none s p = let e = kind_is names _ s p in omega (arith, e)
 
-  pub no_targets : ((n : ℕ) (to : List ℕ) → ts ≡ NumberToken n ∷ map number_token to → 0 < length to → ⊥) → (s : Says) → IsSaid names (NameToken (codes "targets") ∷ ts) s → ⊥
+  pub no_targets : ((n : ℕ) (to : List ℕ) → ts ≡ NumberToken n ∷ map number_token to → 0 < length to → ⊥) → (s : Says) →
+      IsSaid names (NameToken (codes "targets") ∷ ts) s → ⊥
   no_targets none (TargetsAre a to) p = let x = p.0 in none a to (let is : ts ≡ NumberToken a ∷ map number_token to = cc in is) p.1
   no_targets none s p = let e = kind_is names _ s p in omega (arith, e)
 

@@ -18,21 +18,25 @@ use Rattle.notes_lang.specs.Drafting.{HasAddresses, HasTargets, IsDraft, place_l
 requires_and : (n : ℕ) (xs : List Says) (y : Says) → requires_of n (xs ++ y ∷ []) ≡ requires_of n xs ++ requires_of (n + length xs) (y ∷ [])
 requires_and n [] y = ap (λ m. requires_of m (y ∷ [])) (let e : n ≡ n + 0 = omega arith in e)
 requires_and n (RequireIs e ∷ xs) y =
-    ap (λ l. record { line = n; says = e } ∷ l) (requires_and (n + 1) xs y ∙ ap (λ m. requires_of (n + 1) xs ++ requires_of m (y ∷ [])) (let i : (n + 1) + length xs ≡ n + length (RequireIs e ∷ xs) = omega arith in i))
+    ap (λ l. record { line = n; says = e } ∷ l) (requires_and (n + 1) xs y ∙ ap
+    (λ m. requires_of (n + 1) xs ++ requires_of m (y ∷ [])) (let i : (n + 1) + length xs ≡ n + length (RequireIs e ∷ xs) = omega arith in i))
 requires_and n (s ∷ xs) y =
-    requires_and (n + 1) xs y ∙ ap (λ m. requires_of (n + 1) xs ++ requires_of m (y ∷ [])) (let i : (n + 1) + length xs ≡ n + length (s ∷ xs) = omega arith in i)
+    requires_and (n + 1) xs y ∙ ap (λ m. requires_of (n + 1) xs ++ requires_of m (y ∷ [])) (let i : (n + 1) + length xs
+    ≡ n + length (s ∷ xs) = omega arith in i)
 
 ensures_and : (n : ℕ) (xs : List Says) (y : Says) → ensures_of n (xs ++ y ∷ []) ≡ ensures_of n xs ++ ensures_of (n + length xs) (y ∷ [])
 ensures_and n [] y = ap (λ m. ensures_of m (y ∷ [])) (let e : n ≡ n + 0 = omega arith in e)
 ensures_and n (EnsureIs e ∷ xs) y =
-    ap (λ l. record { line = n; says = e } ∷ l) (ensures_and (n + 1) xs y ∙ ap (λ m. ensures_of (n + 1) xs ++ ensures_of m (y ∷ [])) (let i : (n + 1) + length xs ≡ n + length (EnsureIs e ∷ xs) = omega arith in i))
+    ap (λ l. record { line = n; says = e } ∷ l) (ensures_and (n + 1) xs y ∙ ap
+    (λ m. ensures_of (n + 1) xs ++ ensures_of m (y ∷ [])) (let i : (n + 1) + length xs ≡ n + length (EnsureIs e ∷ xs) = omega arith in i))
 ensures_and n (s ∷ xs) y =
     ensures_and (n + 1) xs y ∙ ap (λ m. ensures_of (n + 1) xs ++ ensures_of m (y ∷ [])) (let i : (n + 1) + length xs ≡ n + length (s ∷ xs) = omega arith in i)
 
 asserts_and : (n : ℕ) (xs : List Says) (y : Says) → asserts_of n (xs ++ y ∷ []) ≡ asserts_of n xs ++ asserts_of (n + length xs) (y ∷ [])
 asserts_and n [] y = ap (λ m. asserts_of m (y ∷ [])) (let e : n ≡ n + 0 = omega arith in e)
 asserts_and n (AssertIs a e ∷ xs) y =
-    ap (λ l. record { line = n; at = a; says = e } ∷ l) (asserts_and (n + 1) xs y ∙ ap (λ m. asserts_of (n + 1) xs ++ asserts_of m (y ∷ [])) (let i : (n + 1) + length xs ≡ n + length (AssertIs a e ∷ xs) = omega arith in i))
+    ap (λ l. record { line = n; at = a; says = e } ∷ l) (asserts_and (n + 1) xs y ∙ ap
+    (λ m. asserts_of (n + 1) xs ++ asserts_of m (y ∷ [])) (let i : (n + 1) + length xs ≡ n + length (AssertIs a e ∷ xs) = omega arith in i))
 asserts_and n (s ∷ xs) y =
     asserts_and (n + 1) xs y ∙ ap (λ m. asserts_of (n + 1) xs ++ asserts_of m (y ∷ [])) (let i : (n + 1) + length xs ≡ n + length (s ∷ xs) = omega arith in i)
 
@@ -48,14 +52,19 @@ same view xs = sym (append-nil (map view xs))
 pub more : {X Y : Type 0} (view : X → Y) (xs ys : List X) (x : X) (y : Y) → ys ≡ xs ++ x ∷ [] → view x ≡ y → map view ys ≡ map view xs ++ y ∷ []
 more view xs ys x y is x_is = ap (map view) is ∙ (map-append view xs (x ∷ []) ∙ ap (λ v. map view xs ++ v ∷ []) x_is)
 
-numbered : {Y : Type 0} (f : ℕ → List Says → List Y) (s : Says) (says : List Says) (line : ℕ) (whole before after : List Y) → line ≡ length says + 1 → whole ≡ f 1 says ++ f (1 + length says) (s ∷ []) →
+numbered : {Y : Type 0} (f : ℕ → List Says → List Y) (s : Says) (says : List Says) (line : ℕ) (whole before after : List Y) → line ≡ length says + 1 →
+    whole ≡ f 1 says ++ f (1 + length says) (s ∷ []) →
     f 1 says ≡ before → after ≡ before ++ f line (s ∷ []) → whole ≡ after
 numbered f s says line whole before after number is so_far then_is =
-    is ∙ (ap (λ l. l ++ f (1 + length says) (s ∷ [])) so_far ∙ (ap (λ m. before ++ f m (s ∷ [])) (let e : 1 + length says ≡ line = omega (arith, number) in e) ∙ sym then_is))
+    is ∙ (ap (λ l. l ++ f (1 + length says) (s ∷ [])) so_far ∙ (ap
+    (λ m. before ++ f m (s ∷ [])) (let e : 1 + length says ≡ line = omega (arith, number) in e) ∙ sym then_is))
 
-pub grows : (says : List Says) (s : Says) (d e : Draft) (line : ℕ) → line ≡ length says + 1 → IsDraft says d → place_list e.entry ≡ place_list d.entry ++ entries (s ∷ []) →
-    map note_line_of e.required.items ≡ map note_line_of d.required.items ++ requires_of line (s ∷ []) → map note_line_of e.ensured.items ≡ map note_line_of d.ensured.items ++ ensures_of line (s ∷ []) →
-    map assert_of e.asserts.items ≡ map assert_of d.asserts.items ++ asserts_of line (s ∷ []) → map targets_of e.targets.items ≡ map targets_of d.targets.items ++ targets_in (s ∷ []) →
+pub grows : (says : List Says) (s : Says) (d e : Draft) (line : ℕ) → line ≡ length says + 1 → IsDraft says d →
+    place_list e.entry ≡ place_list d.entry ++ entries (s ∷ []) →
+    map note_line_of e.required.items ≡ map note_line_of d.required.items ++ requires_of line (s ∷ []) →
+    map note_line_of e.ensured.items ≡ map note_line_of d.ensured.items ++ ensures_of line (s ∷ []) →
+    map assert_of e.asserts.items ≡ map assert_of d.asserts.items ++ asserts_of line (s ∷ []) →
+    map targets_of e.targets.items ≡ map targets_of d.targets.items ++ targets_in (s ∷ []) →
     map fixed_of e.fixed.items ≡ map fixed_of d.fixed.items ++ fixed_in (s ∷ []) → HasAddresses e.targets.items e.addresses → IsDraft (says ++ s ∷ []) e
 grows says s d e line number p entry required ensured asserts targets fixed addresses = record {
   entry = entries_append says (s ∷ []) ∙ (ap (λ l. l ++ entries (s ∷ [])) p.entry ∙ sym entry);
@@ -77,23 +86,28 @@ at_either false false = refl
 same_address : (a q : ℕ) → is_eq (nat_cmp a q) ≡ (a == q)
 same_address a q = grind (arith, nat_tests)
 
-pub one_more : (old new : BTreeSet ℕ) (xs ys : List Targets) (t : Targets) (a : ℕ) → a ≡ t.at → ys ≡ xs ++ t ∷ [] → ((q : ℕ) → contains nat_cmp new q ≡ (if is_eq (nat_cmp a q) then true else contains nat_cmp old q)) →
+pub one_more : (old new : BTreeSet ℕ) (xs ys : List Targets) (t : Targets) (a : ℕ) → a ≡ t.at → ys ≡ xs ++ t ∷ [] →
+    ((q : ℕ) → contains nat_cmp new q ≡ (if is_eq (nat_cmp a q) then true else contains nat_cmp old q)) →
     HasAddresses xs old → HasAddresses ys new
 one_more old new xs ys t a is more updates has q =
-    updates q ∙ (ap (λ b. if is_eq (nat_cmp a q) then true else b) (has q) ∙ (ap (λ b. if b then true else list_any (λ t. t.at == q) xs) (same_address a q ∙ ap (λ a. a == q) is)
-    ∙ (at_either (t.at == q) (list_any (λ t. t.at == q) xs) ∙ (sym (list_any-append (λ t. t.at == q) xs (t ∷ [])) ∙ ap (list_any (λ t. t.at == q)) (sym more)))))
+    updates q ∙ (ap (λ b. if is_eq (nat_cmp a q) then true else b) (has q) ∙ (ap
+    (λ b. if b then true else list_any (λ t. t.at == q) xs) (same_address a q ∙ ap (λ a. a == q) is)
+    ∙ (at_either (t.at == q) (list_any (λ t. t.at == q) xs) ∙ (sym (list_any-append (λ t. t.at == q) xs (t ∷ [])) ∙ ap (list_any
+    (λ t. t.at == q)) (sym more)))))
 
 -- no place so far
 place_by : (says : List Says) (o : Option Function) → entries says ≡ place_list o → ((entries says ≡ [] → ⊥) → ⊥) → place_list o ≡ []
 place_by says None is none = refl
 place_by says (Some f) is none = absurd (none (λ e. let b : ⊥ = cc in b))
 
-pub no_place : (says : List Says) (o : Option Function) (s : Says) (f : notes.Function) → s ≡ EntryIs f → entries says ≡ place_list o → (Repeats says s → ⊥) → f ∷ [] ≡ place_list o ++ f ∷ []
+pub no_place : (says : List Says) (o : Option Function) (s : Says) (f : notes.Function) → s ≡ EntryIs f → entries says ≡ place_list o → (Repeats says s → ⊥) →
+    f ∷ [] ≡ place_list o ++ f ∷ []
 no_place says o s f s_is is none = sym (ap (λ l. l ++ f ∷ []) (place_by says o is (subst (λ s. Repeats says s → ⊥) s_is none)))
 
 -- the targets of an address
 first_or : (b : Bool) (t : Targets) (ts : List Targets) (at : ℕ) → (t.at == at) ≡ b → b || list_any (λ t. t.at == at) ts ≡ true →
-    (list_any (λ t. t.at == at) ts ≡ true → (u : notes.Targets) × Contains (map targets_of ts) u × (u.at ≡ at)) → (u : notes.Targets) × Contains (map targets_of (t ∷ ts)) u × (u.at ≡ at)
+    (list_any (λ t. t.at == at) ts ≡ true → (u : notes.Targets) × Contains (map targets_of ts) u × (u.at ≡ at)) → (u : notes.Targets) ×
+    Contains (map targets_of (t ∷ ts)) u × (u.at ≡ at)
 first_or true t ts at is e rest = (targets_of t, (0, omega arith, refl), grind arith)
 first_or false t ts at is e rest = let r = rest e in (r.0, (suc r.1.0, omega (arith, r.1.1), r.1.2), r.2)
 
@@ -111,7 +125,8 @@ by_any (u ∷ ts) at t (zero, below, is) at_is =
     let e : u.at ≡ at = ap (λ t. t.at) is ∙ at_is in let same : (u.at == at) ≡ true = grind arith in ap (λ b. b || list_any (λ t. t.at == at) ts) same
 by_any (u ∷ ts) at t (suc k, below, is) at_is = later (u.at == at) (list_any (λ t. t.at == at) ts) (by_any ts at t (k, omega (arith, below), is) at_is)
 
-pub has_by : (says : List Says) (ts : List Targets) (at : ℕ) (b : Bool) → b ≡ list_any (λ t. t.at == at) ts → targets_in says ≡ map targets_of ts → IsTrue b ↔ HasTargets says at
+pub has_by : (says : List Says) (ts : List Targets) (at : ℕ) (b : Bool) → b ≡ list_any (λ t. t.at == at) ts → targets_in says ≡ map targets_of ts → IsTrue b ↔
+    HasTargets says at
 has_by says ts at b b_is is = (
   λ e. let f = any_by ts at (sym b_is ∙ e) in (f.0, subst (λ l. Contains l f.0) (sym is) f.1, f.2),
   λ h. b_is ∙ by_any ts at h.0 (subst (λ l. Contains l h.0) is h.1) h.2,

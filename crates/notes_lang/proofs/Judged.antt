@@ -42,7 +42,8 @@ free_first P g less p = let q = positive g in omega (arith, less, q)
 of_same_rank : (f g : NoteFault) → note_fault_rank g ≡ note_fault_rank f → g ≡ f
 of_same_rank f g is = sym (ranked g) ∙ (ap of_rank is ∙ ranked f)
 
-by_order : (P : NoteFault → Type 0) (f g : NoteFault) → Free P (note_fault_rank f) → (P f → ⊥) → note_fault_rank g < suc (note_fault_rank f) → Decided (note_fault_rank g < note_fault_rank f) → P g → ⊥
+by_order : (P : NoteFault → Type 0) (f g : NoteFault) → Free P (note_fault_rank f) → (P f → ⊥) → note_fault_rank g < suc (note_fault_rank f) →
+    Decided (note_fault_rank g < note_fault_rank f) → P g → ⊥
 by_order P f g free none less (inl below) p = free g below p
 by_order P f g free none less (inr above) p =
     let is : note_fault_rank g ≡ note_fault_rank f = grind (arith, less, above) in none (subst P (of_same_rank f g is) p)
@@ -85,7 +86,8 @@ depth_kept BadText = refl
 
 -- tests of tokens
 module _ (p : Token → Bool) where
-  pub any_same : ((t : Token) → p (capped t) ≡ p t) → (us : List code.Token) (ts : List Token) → tokens_view us ≡ map capped ts → list_any (λ t. p (token_of t)) us ≡ list_any p ts
+  pub any_same : ((t : Token) → p (capped t) ≡ p t) → (us : List code.Token) (ts : List Token) → tokens_view us ≡ map capped ts →
+      list_any (λ t. p (token_of t)) us ≡ list_any p ts
   any_same keeps [] [] is = refl
   any_same keeps [] (t ∷ ts) is = absurd (let b : ⊥ = cc in b)
   any_same keeps (u ∷ us) [] is = absurd (let b : ⊥ = cc in b)
@@ -93,7 +95,8 @@ module _ (p : Token → Bool) where
       let first : token_of u ≡ capped t = cc in let rest : tokens_view us ≡ map capped ts = cc in
       ap (λ b. b || list_any (λ t. p (token_of t)) us) (ap p first ∙ keeps t) ∙ ap (λ b. p t || b) (any_same keeps us ts rest)
 
-  found_if : (b c : Bool) (x : Token) (xs : List Token) → p x ≡ b → b || c ≡ true → (c ≡ true → (y : Token) × Contains xs y × (p y ≡ true)) → (y : Token) × Contains (x ∷ xs) y × (p y ≡ true)
+  found_if : (b c : Bool) (x : Token) (xs : List Token) → p x ≡ b → b || c ≡ true → (c ≡ true → (y : Token) × Contains xs y × (p y ≡ true)) → (y : Token) ×
+      Contains (x ∷ xs) y × (p y ≡ true)
   found_if true c x xs is e rest = (x, (0, omega arith, refl), is)
   found_if false c x xs is e rest = let r = rest e in (r.0, (suc r.1.0, omega (arith, r.1.1), r.1.2), r.2)
 
@@ -113,7 +116,8 @@ fold_same n [] (t ∷ ts) is = absurd (let b : ⊥ = cc in b)
 fold_same n (u ∷ us) [] is = absurd (let b : ⊥ = cc in b)
 fold_same n (u ∷ us) (t ∷ ts) is =
     let first : token_of u ≡ capped t = cc in let rest : tokens_view us ≡ map capped ts = cc in
-    ap (λ b. fold (λ a x. a + cond (is_depth (token_of x)) 1 0) (n + cond b 1 0) us) (ap is_depth first ∙ depth_kept t) ∙ fold_same (n + cond (is_depth t) 1 0) us ts rest
+    ap (λ b. fold (λ a x. a + cond (is_depth (token_of x)) 1 0) (n + cond b 1 0) us) (ap is_depth first ∙ depth_kept t) ∙ fold_same
+    (n + cond (is_depth t) 1 0) us ts rest
 
 count_same : (us : List code.Token) (ts : List Token) → tokens_view us ≡ map capped ts → count_by (λ t. is_depth (token_of t)) us ≡ count_by is_depth ts
 count_same us ts is = fold_same 0 us ts is
@@ -127,7 +131,8 @@ good_one (Sign s) a b c = tt
 good_one ABadByte a b c = absurd (let e : ⊥ = cc in e)
 good_one ABadText a b c = absurd (let e : ⊥ = cc in e)
 
-pub all_good : (us : List code.Token) → list_any (λ t. is_bad_byte (token_of t)) us ≡ false → list_any (λ t. is_bad_text (token_of t)) us ≡ false → list_any (λ t. is_large (token_of t)) us ≡ false → AreGood us
+pub all_good : (us : List code.Token) → list_any (λ t. is_bad_byte (token_of t)) us ≡ false → list_any (λ t. is_bad_text (token_of t)) us ≡ false →
+    list_any (λ t. is_large (token_of t)) us ≡ false → AreGood us
 all_good [] a b c = tt
 all_good (u ∷ us) a b c =
     let x = or_none _ _ a in let y = or_none _ _ b in let z = or_none _ _ c in (good_one u x.0 y.0 z.0, all_good us x.1 y.1 z.1)
@@ -159,10 +164,12 @@ pub is_true : (b : Bool) (A : Type 0) → (IsTrue b ↔ A) → b ≡ true → A
 is_true b A is e = is.0 e
 
 -- what an answer tells
-pub told : (names : List ℕ → Option Expr) (ts : List Token) (o : Option code_says.Says) (s : code_says.Says) → Tells says_of (IsSaid names ts) o → o ≡ Some s → IsSaid names ts (says_of s)
+pub told : (names : List ℕ → Option Expr) (ts : List Token) (o : Option code_says.Says) (s : code_says.Says) → Tells says_of (IsSaid names ts) o → o ≡ Some s →
+    IsSaid names ts (says_of s)
 told names ts o s p is = subst (λ o. Tells says_of (IsSaid names ts) o) is p
 
-pub told_none : (names : List ℕ → Option Expr) (ts : List Token) (o : Option code_says.Says) → Tells says_of (IsSaid names ts) o → o ≡ None → (s : Says) → IsSaid names ts s → ⊥
+pub told_none : (names : List ℕ → Option Expr) (ts : List Token) (o : Option code_says.Says) → Tells says_of (IsSaid names ts) o → o ≡ None → (s : Says) →
+    IsSaid names ts s → ⊥
 told_none names ts o p is = subst (λ o. Tells says_of (IsSaid names ts) o) is p
 
 -- a line that says something begins with a word
@@ -182,23 +189,31 @@ a_large : (t : Token) → is_large t ≡ true → (v : ℕ) × (t ≡ NumberToke
 a_large (NumberToken n) e = (n, refl, grind arith)
 a_large t e = absurd (let b : ⊥ = cc in b)
 
-module _ (names : List ℕ → Option Expr) (keeps : KeepsReserved names) (n : ℕ) (earlier : List Says) (text : List ℕ) (us : List code.Token) (small : n ≤ 4096) (short : length text ≤ 1024)
+module _ (names : List ℕ → Option Expr) (keeps : KeepsReserved names) (n : ℕ) (earlier : List Says) (text : List ℕ) (us : List code.Token) (small : n
+    ≤ 4096) (short : length text ≤ 1024)
     (is : tokens_view us ≡ map capped (tokens_of text)) where
   free_2 : Free (NoteFaultApplies names n earlier text) 2
-  free_2 = free_next (NoteFaultApplies names n earlier text) LimitFault (free_first (NoteFaultApplies names n earlier text)) (neither (λ l. omega (arith, l, small)) (λ l. omega (arith, l, short)))
+  free_2 = free_next (NoteFaultApplies names n earlier text) LimitFault (free_first (NoteFaultApplies names n earlier text)) (neither
+      (λ l. omega (arith, l, small)) (λ l. omega (arith, l, short)))
 
   free_3 : false ≡ list_any (λ t. is_bad_byte (token_of t)) us → Free (NoteFaultApplies names n earlier text) 3
-  free_3 a = free_next (NoteFaultApplies names n earlier text) ByteFault free_2 (λ c. none is_bad_byte (tokens_of text) BadByte (sym (any_same is_bad_byte byte_kept us (tokens_of text) is) ∙ sym a) c refl)
+  free_3 a = free_next (NoteFaultApplies names n earlier text) ByteFault free_2
+      (λ c. none is_bad_byte (tokens_of text) BadByte (sym (any_same is_bad_byte byte_kept us (tokens_of text) is) ∙ sym a) c refl)
 
-  free_4 : false ≡ list_any (λ t. is_bad_byte (token_of t)) us → false ≡ list_any (λ t. is_bad_text (token_of t)) us → Free (NoteFaultApplies names n earlier text) 4
-  free_4 a b = free_next (NoteFaultApplies names n earlier text) TokenFault (free_3 a) (λ c. none is_bad_text (tokens_of text) BadText (sym (any_same is_bad_text text_kept us (tokens_of text) is) ∙ sym b) c refl)
+  free_4 : false ≡ list_any (λ t. is_bad_byte (token_of t)) us → false ≡ list_any (λ t. is_bad_text (token_of t)) us →
+      Free (NoteFaultApplies names n earlier text) 4
+  free_4 a b = free_next (NoteFaultApplies names n earlier text) TokenFault (free_3 a)
+      (λ c. none is_bad_text (tokens_of text) BadText (sym (any_same is_bad_text text_kept us (tokens_of text) is) ∙ sym b) c refl)
 
-  free_5 : false ≡ list_any (λ t. is_bad_byte (token_of t)) us → false ≡ list_any (λ t. is_bad_text (token_of t)) us → false ≡ list_any (λ t. is_large (token_of t)) us → Free (NoteFaultApplies names n earlier text) 5
+  free_5 : false ≡ list_any (λ t. is_bad_byte (token_of t)) us → false ≡ list_any (λ t. is_bad_text (token_of t)) us →
+      false ≡ list_any (λ t. is_large (token_of t)) us → Free (NoteFaultApplies names n earlier text) 5
   free_5 a b c = free_next (NoteFaultApplies names n earlier text) NumberFault (free_4 a b) (λ v.
-      none is_large (tokens_of text) (NumberToken v.0) (sym (any_same is_large large_kept us (tokens_of text) is) ∙ sym c) v.1 (let le = v.2 in grind (arith, le)))
+      none is_large (tokens_of text) (NumberToken v.0) (sym (any_same is_large large_kept us (tokens_of text) is) ∙ sym c) v.1 (let le = v.2
+      in grind (arith, le)))
 
   free_6 : IsTokenFault us None → Free (NoteFaultApplies names n earlier text) 6
-  free_6 p = free_next (NoteFaultApplies names n earlier text) DepthFault (free_5 p.0 p.1 p.2) (λ deep. let same = count_same us (tokens_of text) is in let le = p.3 in omega (arith, deep, same, le))
+  free_6 p = free_next (NoteFaultApplies names n earlier text) DepthFault (free_5 p.0 p.1 p.2)
+      (λ deep. let same = count_same us (tokens_of text) is in let le = p.3 in omega (arith, deep, same, le))
 
   -- the least fault of tokens alone
   pub token_faulty : (k : FaultKind) → IsTokenFault us (Some k) → IsLeast (NoteFaultApplies names n earlier text) (fault_of k)
@@ -227,12 +242,14 @@ module _ (names : List ℕ → Option Expr) (keeps : KeepsReserved names) (n : �
   free_7 : IsTokenFault us None → (BeginsBadly (tokens_view us) → ⊥) → Free (NoteFaultApplies names n earlier text) 7
   free_7 p word = free_next (NoteFaultApplies names n earlier text) WordFault (free_6 p) (λ bad. word (subst BeginsBadly (sym (ts_are p)) bad))
 
-  free_8 : IsTokenFault us None → (BeginsBadly (tokens_view us) → ⊥) → (s : Says) → IsSaid any_name (tokens_view us) s → Free (NoteFaultApplies names n earlier text) 8
+  free_8 : IsTokenFault us None → (BeginsBadly (tokens_view us) → ⊥) → (s : Says) → IsSaid any_name (tokens_view us) s →
+      Free (NoteFaultApplies names n earlier text) 8
   free_8 p word s said =
       free_next (NoteFaultApplies names n earlier text) SyntaxFault (free_7 p word) (λ f. f s (subst (λ ts. IsSaid any_name ts s) (ts_are p) said))
 
   -- why nothing is said
-  pub refused : IsTokenFault us None → ((s : Says) → IsSaid names (tokens_view us) s → ⊥) → (k : FaultKind) → IsRefusal (tokens_view us) k → IsLeast (NoteFaultApplies names n earlier text) (fault_of k)
+  pub refused : IsTokenFault us None → ((s : Says) → IsSaid names (tokens_view us) s → ⊥) → (k : FaultKind) → IsRefusal (tokens_view us) k →
+      IsLeast (NoteFaultApplies names n earlier text) (fault_of k)
   refused p nothing kind.Word r = (subst BeginsBadly (ts_are p) r, free_6 p)
   refused p nothing kind.Syntax r = (λ s said. r.1 s (subst (λ ts. IsSaid any_name ts s) (sym (ts_are p)) said), free_7 p r.0)
   refused p nothing kind.Name r = (λ s said. nothing s (subst (λ ts. IsSaid names ts s) (sym (ts_are p)) said), free_8 p r.0 r.1.0 r.1.1)
@@ -248,16 +265,22 @@ module _ (names : List ℕ → Option Expr) (keeps : KeepsReserved names) (n : �
   free_9 : IsTokenFault us None → (s : Says) → IsSaid names (tokens_view us) s → Free (NoteFaultApplies names n earlier text) 9
   free_9 p s said =
       let any = said_by_any names keeps (tokens_view us) s said in
-      free_next (NoteFaultApplies names n earlier text) NameFault (free_8 p (not_badly names (tokens_view us) s said) any.0 any.1) (λ f. f s (subst (λ ts. IsSaid names ts s) (ts_are p) said))
+      free_next (NoteFaultApplies names n earlier text) NameFault (free_8 p (not_badly names (tokens_view us) s said) any.0 any.1)
+      (λ f. f s (subst (λ ts. IsSaid names ts s) (ts_are p) said))
 
   -- what is said names an address that is not aligned, or a range that is empty
-  pub unaligned : IsTokenFault us None → (s : Says) → IsSaid names (tokens_view us) s → (AreAligned s → ⊥) → IsLeast (NoteFaultApplies names n earlier text) AlignFault
+  pub unaligned : IsTokenFault us None → (s : Says) → IsSaid names (tokens_view us) s → (AreAligned s → ⊥) →
+      IsLeast (NoteFaultApplies names n earlier text) AlignFault
   unaligned p s said other = ((s, subst (λ ts. IsSaid names ts s) (ts_are p) said, other), free_9 p s said)
 
-  pub empty_range : IsTokenFault us None → (s : Says) → IsSaid names (tokens_view us) s → AreAligned s → (IsRange s → ⊥) → IsLeast (NoteFaultApplies names n earlier text) RangeFault
+  pub empty_range : IsTokenFault us None → (s : Says) → IsSaid names (tokens_view us) s → AreAligned s → (IsRange s → ⊥) →
+      IsLeast (NoteFaultApplies names n earlier text) RangeFault
   empty_range p s said aligned other =
-      let here = subst (λ ts. IsSaid names ts s) (ts_are p) said in
-      ((s, here, other), free_next (NoteFaultApplies names n earlier text) AlignFault (free_9 p s said) (λ f. f.2 (subst AreAligned (one_saying names keeps (tokens_of text) s f.0 here f.1) aligned)))
+      let here = subst (λ ts. IsSaid names ts s) (ts_are p) said in (
+        (s, here, other),
+        free_next (NoteFaultApplies names n earlier text) AlignFault (free_9 p s said)
+            (λ f. f.2 (subst AreAligned (one_saying names keeps (tokens_of text) s f.0 here f.1) aligned)),
+      )
 
   -- a line without a fault of its own
   pub a_line : IsTokenFault us None → (s : Says) → IsSaid names (tokens_view us) s → AreAligned s → IsRange s → IsLine names text s

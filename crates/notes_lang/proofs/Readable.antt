@@ -37,10 +37,12 @@ by_row test true true others x e later is all rest some = let x_is : x ≡ e = c
 by_row test false true others x e later is all rest some = rest all some
 by_row test here false others x e later is all rest some = absurd (let f : ⊥ = cc in f)
 
-by_table : (test : Expr → Bool) (table : List (List ℕ × Expr)) → list_all (λ n. test n.1) table ≡ true → (w : List ℕ) (e : Expr) → name_in table w ≡ Some e → test e ≡ true
+by_table : (test : Expr → Bool) (table : List (List ℕ × Expr)) → list_all (λ n. test n.1) table ≡ true → (w : List ℕ) (e : Expr) → name_in table w ≡ Some e →
+    test e ≡ true
 by_table test [] all w e is = absurd (none_some Expr e is)
 by_table test (n ∷ table) all w e is =
-    by_row test (bytes_eq w n.0) (test n.1) (list_all (λ n. test n.1) table) n.1 e (name_in table w) refl all (λ rest later. by_table test table rest w e later) is
+    by_row test (bytes_eq w n.0) (test n.1) (list_all (λ n. test n.1) table) n.1 e (name_in table w) refl all
+    (λ rest later. by_table test table rest w e later) is
 
 rv_reads : list_all (λ n. reads rv32.has_register rv32.has_flag n.1) rv_table ≡ true
 unfolding rv_table
@@ -97,7 +99,8 @@ module _ (has_register has_flag : ℕ → Bool) where
   of_name (Not a) is = absurd (let f : ⊥ = cc in f)
   of_name (Binary op a b) is = absurd (let f : ⊥ = cc in f)
 
-  parts : (names : List ℕ → Option Expr) → NamesRead has_register has_flag names → (l : ℕ) (ts : List Token) (e : Expr) → Parses names l ts e → HasParts has_register has_flag e
+  parts : (names : List ℕ → Option Expr) → NamesRead has_register has_flag names → (l : ℕ) (ts : List Token) (e : Expr) → Parses names l ts e →
+      HasParts has_register has_flag e
   parts names each l ts e (tighter below p) = parts names each (l + 1) ts e p
   parts names each l ts e (binary_of {xs = xs} {ys = ys} {a = a} {b = b} c p q is) = (parts names each (left_of l) xs a p, parts names each (l + 1) ys b q)
   parts names each l ts e (not_of {ts = us} {e = a} p) = parts names each 3 us a p
@@ -128,7 +131,8 @@ module _ (has_register has_flag : ℕ → Bool) where
   readable few (Binary op a b) h = (readable few a h.0, readable few b h.1)
 
 -- what holds of each expression that good tokens say holds of each line
-module _ (Claim : Expr → Type 0) (names : List ℕ → Option Expr) (each : (l : ℕ) (ts : List Token) (e : Expr) → All IsGood ts → Parses names l ts e → Claim e) where
+module _ (Claim : Expr → Type 0) (names : List ℕ → Option Expr) (each : (l : ℕ) (ts : List Token) (e : Expr) → All IsGood ts → Parses names l ts e →
+    Claim e) where
   abbrev HoldsOfSaid : Says → Type 0
   HoldsOfSaid (RequireIs e) = Claim e
   HoldsOfSaid (EnsureIs e) = Claim e
@@ -164,7 +168,8 @@ module _ (Claim : Expr → Type 0) (names : List ℕ → Option Expr) (each : (l
 
   asserted : (n : ℕ) (says : List Says) → HoldsOfAll says → All (λ l. Claim l.says) (asserts_of n says)
   asserted n [] p = All-nil (λ l. Claim l.says)
-  asserted n (AssertIs a e ∷ says) p = All-cons (λ l. Claim l.says) (record { line = n; at = a; says = e }) (asserts_of (n + 1) says) p.0 (asserted (n + 1) says p.1)
+  asserted n (AssertIs a e ∷ says) p = All-cons (λ l. Claim l.says) (record { line = n; at = a; says = e }) (asserts_of (n + 1) says) p.0
+      (asserted (n + 1) says p.1)
   asserted n (s ∷ says) p = asserted (n + 1) says p.1
 
   record Claimed (n : Notes) : Type 0 where
@@ -188,7 +193,8 @@ notes_readable layout text n p =
     (parts (layout_registers layout) (layout_flags layout) (layout_names layout) (layout_reads layout) l ts e q)) text n p in
     record { requires = c.requires; ensures = c.ensures; asserts = c.asserts }
 
-pub notes_over : (layout : Layout) (text : List ℕ) (n : Notes) → IsNotesText (layout_names layout) text n → AreOver (layout_registers layout) (layout_flags layout) n
+pub notes_over : (layout : Layout) (text : List ℕ) (n : Notes) → IsNotesText (layout_names layout) text n →
+    AreOver (layout_registers layout) (layout_flags layout) n
 notes_over layout text n p =
     let c = claimed (IsOver (layout_registers layout) (layout_flags layout)) (layout_names layout)
     (λ l ts e good q. over (layout_registers layout) (layout_flags layout) e

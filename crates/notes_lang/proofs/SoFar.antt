@@ -27,7 +27,8 @@ nothing_repeats (AssertIs a e) r = r
 nothing_repeats (FixedIs low high) r = r
 
 -- no fault but the last applies to a line without a fault of its own
-free : (names : List ℕ → Option Expr) → KeepsReserved names → (n : ℕ) (earlier : List Says) (text : List ℕ) (s : Says) → n ≤ 4096 → IsLine names text s → (g : NoteFault) → note_fault_rank g < 11 →
+free : (names : List ℕ → Option Expr) → KeepsReserved names → (n : ℕ) (earlier : List Says) (text : List ℕ) (s : Says) → n ≤ 4096 → IsLine names text s →
+    (g : NoteFault) → note_fault_rank g < 11 →
     NoteFaultApplies names n earlier text g → ⊥
 free names keeps n earlier text s le line EntryFault less a = omega (arith, less)
 free names keeps n earlier text s le line LimitFault less a = not_faulty names keeps n [] text s LimitFault le line (nothing_repeats s) a
@@ -41,7 +42,8 @@ free names keeps n earlier text s le line NameFault less a = not_faulty names ke
 free names keeps n earlier text s le line AlignFault less a = not_faulty names keeps n [] text s AlignFault le line (nothing_repeats s) a
 free names keeps n earlier text s le line RangeFault less a = not_faulty names keeps n [] text s RangeFault le line (nothing_repeats s) a
 
-module _ (names : List ℕ → Option Expr) (text rest first behind : List ℕ) (line : ℕ) (d : Draft) (p : IsSoFar names text rest line d) (is : lines_of rest ≡ first ∷ lines_of behind) where
+module _ (names : List ℕ → Option Expr) (text rest first behind : List ℕ) (line : ℕ) (d : Draft) (p : IsSoFar names text rest line d) (is : lines_of rest
+    ≡ first ∷ lines_of behind) where
   -- the next line has a fault
   pub faulty : (f : NoteFault) → ((earlier : List Says) → IsLeast (NoteFaultApplies names line earlier first) f) → IsFirstNoteFault names text line f
   faulty f least =
@@ -50,7 +52,8 @@ module _ (names : List ℕ → Option Expr) (text rest first behind : List ℕ) 
       (at_line p.texts (lines_of behind) first p.read.says (p.split ∙ ap (λ ls. p.texts ++ ls) is) p.read.good l.0 l.1)
 
   -- it repeats what was said
-  pub repeating : KeepsReserved names → (s : Says) (b : Bool) → IsLine names first s × (line ≤ 4096) → ((earlier : List Says) → IsDraft earlier d → IsTrue b ↔ Repeats earlier s) → b ≡ true →
+  pub repeating : KeepsReserved names → (s : Says) (b : Bool) → IsLine names first s × (line ≤ 4096) →
+      ((earlier : List Says) → IsDraft earlier d → IsTrue b ↔ Repeats earlier s) → b ≡ true →
       IsFirstNoteFault names text line EntryFault
   repeating keeps s b here repeats yes_it_does =
       let r : Repeats p.read.says s = (repeats p.read.says p.read.is).0 yes_it_does in
@@ -60,8 +63,10 @@ module _ (names : List ℕ → Option Expr) (text rest first behind : List ℕ) 
       (at_line p.texts (lines_of behind) first p.read.says (p.split ∙ ap (λ ls. p.texts ++ ls) is) p.read.good l.0 l.1)
 
   -- it is good
-  pub goes_on : (s : Says) (b : Bool) (e : Draft) (new : List ℕ) → IsLine names first s × (line ≤ 4096) → ((earlier : List Says) → IsDraft earlier d → IsTrue b ↔ Repeats earlier s) → b ≡ false →
-      ((earlier : List Says) → line ≡ length earlier + 1 → (Repeats earlier s → ⊥) → IsDraft earlier d → IsDraft (earlier ++ s ∷ []) e) → new ≡ behind → IsSoFar names text new (line + 1) e
+  pub goes_on : (s : Says) (b : Bool) (e : Draft) (new : List ℕ) → IsLine names first s × (line ≤ 4096) →
+      ((earlier : List Says) → IsDraft earlier d → IsTrue b ↔ Repeats earlier s) → b ≡ false →
+      ((earlier : List Says) → line ≡ length earlier + 1 → (Repeats earlier s → ⊥) → IsDraft earlier d → IsDraft (earlier ++ s ∷ []) e) → new ≡ behind →
+      IsSoFar names text new (line + 1) e
   goes_on s b e new here repeats does_not adds new_is =
       let fresh : Repeats p.read.says s → ⊥ = λ r. let t : b ≡ true = (repeats p.read.says p.read.is).1 r in let f : ⊥ = cc in f in
       let n = length-append p.texts (first ∷ []) in

@@ -20,7 +20,8 @@ pub record Chained (names : List ℕ → Option Expr) (l : ℕ) (ts : List code.
 
 module _ (names : List ℕ → Option Expr) where
   -- a level by its sort
-  chains_by : (a b c : Bool) → a ≡ false → b ≡ false → c ≡ true → ◌≡◌ {A = Sort} (if a then Negation else if b then Tightest else if c then Chains else NoLevel) Chains
+  chains_by : (a b c : Bool) → a ≡ false → b ≡ false → c ≡ true →
+      ◌≡◌ {A = Sort} (if a then Negation else if b then Tightest else if c then Chains else NoLevel) Chains
   chains_by a b c p q r =
       ap (λ a. if a then Negation else if b then Tightest else if c then Chains else NoLevel) p
       ∙ (ap (λ b. if b then Tightest else if c then Chains else NoLevel) q ∙ ap (λ c. if c then Chains else NoLevel) r)
@@ -43,7 +44,8 @@ module _ (names : List ℕ → Option Expr) where
   first_fails l ts three below p =
       by_level Chains l ts Fails (is_chains l three below) (p.0, λ m le. ap (λ r. then_read r (λ a us. work names m (Behind l a) us)) (p.1 m le))
 
-  pub first_reads : (l : ℕ) (ts us : List Token) (a : Expr) → l ≢ 3 → l < 11 → Ends names (Level (l + 1)) ts (Reads a us) → (r : Read) → Ends names (Behind l a) us r → Ends names (Level l) ts r
+  pub first_reads : (l : ℕ) (ts us : List Token) (a : Expr) → l ≢ 3 → l < 11 → Ends names (Level (l + 1)) ts (Reads a us) → (r : Read) →
+      Ends names (Behind l a) us r → Ends names (Level l) ts r
   first_reads l ts us a three below p r q =
       by_level Chains l ts r (is_chains l three below)
       (max p.0 q.0, λ m le. ap (λ r. then_read r (λ a us. work names m (Behind l a) us)) (p.1 m (omega (arith, le))) ∙ q.1 m (omega (arith, le)))
@@ -53,81 +55,115 @@ module _ (names : List ℕ → Option Expr) where
   none_behind l a [] is = by_step names 0 (Behind l a) [] (Reads a []) (λ m le. refl)
   none_behind l a (t ∷ ts) is = by_step names 0 (Behind l a) (t ∷ ts) (Reads a (t ∷ ts)) (λ m le. ap (λ o. behind_by (work names m) l a o t ts) is)
 
-  pub operand_fails : (l : ℕ) (a : Expr) (op : Op) (ts : List Token) → operator_at l ts ≡ Some op → Ends names (Level (l + 1)) (drop 1 ts) Fails → Ends names (Behind l a) ts Fails
+  pub operand_fails : (l : ℕ) (a : Expr) (op : Op) (ts : List Token) → operator_at l ts ≡ Some op → Ends names (Level (l + 1)) (drop 1 ts) Fails →
+      Ends names (Behind l a) ts Fails
   operand_fails l a op [] is p = absurd (let b : ⊥ = cc in b)
   operand_fails l a op (t ∷ ts) is p = by_step names p.0 (Behind l a) (t ∷ ts) Fails (λ m le.
       ap (λ o. behind_by (work names m) l a o t ts) is ∙ ap (λ r. then_read r (λ b us. again (work names m) (l == 4) l (Binary op a b) us)) (p.1 m le))
 
-  operand_by : (l : ℕ) (a b : Expr) (op : Op) (ts us : List Token) (r : Read) → operator_at l ts ≡ Some op → Ends names (Level (l + 1)) (drop 1 ts) (Reads b us) →
+  operand_by : (l : ℕ) (a b : Expr) (op : Op) (ts us : List Token) (r : Read) → operator_at l ts ≡ Some op →
+      Ends names (Level (l + 1)) (drop 1 ts) (Reads b us) →
       Settles (λ m. again (work names m) (l == 4) l (Binary op a b) us) r → Ends names (Behind l a) ts r
   operand_by l a b op [] us r is p q = absurd (let b : ⊥ = cc in b)
   operand_by l a b op (t ∷ ts) us r is p q = by_step names (max p.0 q.0) (Behind l a) (t ∷ ts) r (λ m le.
       ap (λ o. behind_by (work names m) l a o t ts) is
       ∙ (ap (λ r. then_read r (λ b us. again (work names m) (l == 4) l (Binary op a b) us)) (p.1 m (omega (arith, le))) ∙ q.1 m (omega (arith, le))))
 
-  pub operand_last : (l : ℕ) (a b : Expr) (op : Op) (ts us : List Token) → l ≡ 4 → operator_at l ts ≡ Some op → Ends names (Level (l + 1)) (drop 1 ts) (Reads b us) →
+  pub operand_last : (l : ℕ) (a b : Expr) (op : Op) (ts us : List Token) → l ≡ 4 → operator_at l ts ≡ Some op →
+      Ends names (Level (l + 1)) (drop 1 ts) (Reads b us) →
       Ends names (Behind l a) ts (Reads (Binary op a b) us)
   operand_last l a b op ts us four is p =
-      operand_by l a b op ts us (Reads (Binary op a b) us) is p (0, λ m le. let e : (l == 4) ≡ true = grind arith in ap (λ c. again (work names m) c l (Binary op a b) us) e)
+      operand_by l a b op ts us (Reads (Binary op a b) us) is p (
+        0,
+        λ m le. let e : (l == 4)
+            ≡ true = grind arith in ap (λ c. again (work names m) c l (Binary op a b) us) e,
+      )
 
-  pub operand_reads : (l : ℕ) (a b : Expr) (op : Op) (ts us : List Token) → l ≢ 4 → operator_at l ts ≡ Some op → Ends names (Level (l + 1)) (drop 1 ts) (Reads b us) →
+  pub operand_reads : (l : ℕ) (a b : Expr) (op : Op) (ts us : List Token) → l ≢ 4 → operator_at l ts ≡ Some op →
+      Ends names (Level (l + 1)) (drop 1 ts) (Reads b us) →
       (r : Read) → Ends names (Behind l (Binary op a b)) us r → Ends names (Behind l a) ts r
   operand_reads l a b op ts us other is p r q =
-      operand_by l a b op ts us r is p (q.0, λ m le. ap (λ c. again (work names m) c l (Binary op a b) us) (is_false (l == 4) (λ e. other (grind arith))) ∙ q.1 m le)
+      operand_by l a b op ts us r is p (
+        q.0,
+        λ m le. ap (λ c. again (work names m) c l (Binary op a b) us) (is_false (l == 4)
+            (λ e. other (grind arith))) ∙ q.1 m le,
+      )
 
   -- the word of a load, or `old`, with its brackets
-  bracket_reads : (o c : Token) (f : Expr → Expr) (ts : List code.Token) (r : Option Reading) → true ≡ begins o (tokens_view ts) → IsEnclosed names c (tokens_view (drop 1 ts)) r →
+  bracket_reads : (o c : Token) (f : Expr → Expr) (ts : List code.Token) (r : Option Reading) → true ≡ begins o (tokens_view ts) →
+      IsEnclosed names c (tokens_view (drop 1 ts)) r →
       Settles (λ m. opened (work names m) o c f (tokens_view ts)) (read_as f r)
   bracket_reads o c f [] r is p = absurd (let b : ⊥ = cc in b)
   bracket_reads o c f (t ∷ ts) r is p = ((p f).0, λ m le. ap (λ b. opened_if (work names m) b c f (tokens_view ts)) (sym is) ∙ (p f).1 m le)
 
-  load_by : (k : ℕ) (b : Bool) (w : List ℕ) (ts : List code.Token) (r : Option Reading) → suc k ≡ size_of w → true ≡ begins (SignToken (codes "[")) (tokens_view ts) →
-      IsEnclosed names (SignToken (codes "]")) (tokens_view (drop 1 ts)) r → Settles (λ m. word_at names (work names m) (size_of w) b w (tokens_view ts)) (read_as (λ e. Memory (suc k) e) r)
+  load_by : (k : ℕ) (b : Bool) (w : List ℕ) (ts : List code.Token) (r : Option Reading) → suc k ≡ size_of w →
+      true ≡ begins (SignToken (codes "[")) (tokens_view ts) →
+      IsEnclosed names (SignToken (codes "]")) (tokens_view (drop 1 ts)) r →
+      Settles (λ m. word_at names (work names m) (size_of w) b w (tokens_view ts)) (read_as (λ e. Memory (suc k) e) r)
   load_by k b w ts r size is p =
       let q = bracket_reads (SignToken (codes "[")) (SignToken (codes "]")) (λ e. Memory (suc k) e) ts r is p in
       (q.0, λ m le. ap (λ n. word_at names (work names m) n b w (tokens_view ts)) (sym size) ∙ q.1 m le)
 
-  load_of : (size : Size) (b : Bool) (w : List ℕ) (ts : List code.Token) (r : Option Reading) → bytes_of size ≡ size_of w → true ≡ begins (SignToken (codes "[")) (tokens_view ts) →
-      IsEnclosed names (SignToken (codes "]")) (tokens_view (drop 1 ts)) r → Settles (λ m. word_at names (work names m) (size_of w) b w (tokens_view ts)) (read_as (λ e. Memory (bytes_of size) e) r)
+  load_of : (size : Size) (b : Bool) (w : List ℕ) (ts : List code.Token) (r : Option Reading) → bytes_of size ≡ size_of w →
+      true ≡ begins (SignToken (codes "[")) (tokens_view ts) →
+      IsEnclosed names (SignToken (codes "]")) (tokens_view (drop 1 ts)) r →
+      Settles (λ m. word_at names (work names m) (size_of w) b w (tokens_view ts)) (read_as (λ e. Memory (bytes_of size) e) r)
   load_of Byte b w ts r = load_by 0 b w ts r
   load_of Half b w ts r = load_by 1 b w ts r
   load_of Word b w ts r = load_by 3 b w ts r
 
-  pub load_none : (size : Size) (b : Bool) (w : List ℕ) (ts behind : List code.Token) (r : Option Reading) → bytes_of size ≡ size_of w → true ≡ begins (SignToken (codes "[")) (tokens_view ts) → behind ≡ drop 1 ts →
-      IsEnclosed names (SignToken (codes "]")) (tokens_view behind) r → r ≡ None → Settles (λ m. word_at names (work names m) (size_of w) b w (tokens_view ts)) Fails
+  pub load_none : (size : Size) (b : Bool) (w : List ℕ) (ts behind : List code.Token) (r : Option Reading) → bytes_of size ≡ size_of w →
+      true ≡ begins (SignToken (codes "[")) (tokens_view ts) → behind ≡ drop 1 ts →
+      IsEnclosed names (SignToken (codes "]")) (tokens_view behind) r → r ≡ None →
+      Settles (λ m. word_at names (work names m) (size_of w) b w (tokens_view ts)) Fails
   load_none size b w ts behind r is opens behind_is p none =
       subst (λ r. Settles (λ m. word_at names (work names m) (size_of w) b w (tokens_view ts)) (read_as (λ e. Memory (bytes_of size) e) r)) none
       (load_of size b w ts r is opens (subst (λ us. IsEnclosed names (SignToken (codes "]")) (tokens_view us) r) behind_is p))
 
-  pub load_some : (size : Size) (b : Bool) (w : List ℕ) (ts behind : List code.Token) (r : Option Reading) (s : Reading) (x : Expr) → bytes_of size ≡ size_of w → true ≡ begins (SignToken (codes "[")) (tokens_view ts) →
+  pub load_some : (size : Size) (b : Bool) (w : List ℕ) (ts behind : List code.Token) (r : Option Reading) (s : Reading) (x : Expr) →
+      bytes_of size ≡ size_of w → true ≡ begins (SignToken (codes "[")) (tokens_view ts) →
       behind ≡ drop 1 ts → IsEnclosed names (SignToken (codes "]")) (tokens_view behind) r → r ≡ Some s → x ≡ expr_of s.expr →
       Settles (λ m. word_at names (work names m) (size_of w) b w (tokens_view ts)) (Reads (Memory (bytes_of size) x) (tokens_view s.rest.now))
   load_some size b w ts behind r s x is opens behind_is p some x_is =
-      subst (λ x. Settles (λ m. word_at names (work names m) (size_of w) b w (tokens_view ts)) (Reads (Memory (bytes_of size) x) (tokens_view s.rest.now))) (sym x_is)
+      subst (λ x. Settles (λ m. word_at names (work names m) (size_of w) b w (tokens_view ts)) (Reads (Memory (bytes_of size) x) (tokens_view s.rest.now)))
+      (sym x_is)
       (subst (λ r. Settles (λ m. word_at names (work names m) (size_of w) b w (tokens_view ts)) (read_as (λ e. Memory (bytes_of size) e) r)) some
       (load_of size b w ts r is opens (subst (λ us. IsEnclosed names (SignToken (codes "]")) (tokens_view us) r) behind_is p)))
 
-  old_of : (w : List ℕ) (ts behind : List code.Token) (r : Option Reading) → 0 ≡ size_of w → true ≡ bytes_eq w (codes "old") → true ≡ begins (SignToken (codes "(")) (tokens_view ts) → behind ≡ drop 1 ts →
-      IsEnclosed names (SignToken (codes ")")) (tokens_view behind) r → Settles (λ m. word_at names (work names m) (size_of w) (bytes_eq w (codes "old")) w (tokens_view ts)) (read_as (λ e. Old e) r)
+  old_of : (w : List ℕ) (ts behind : List code.Token) (r : Option Reading) → 0 ≡ size_of w → true ≡ bytes_eq w (codes "old") →
+      true ≡ begins (SignToken (codes "(")) (tokens_view ts) → behind ≡ drop 1 ts →
+      IsEnclosed names (SignToken (codes ")")) (tokens_view behind) r →
+      Settles (λ m. word_at names (work names m) (size_of w) (bytes_eq w (codes "old")) w (tokens_view ts)) (read_as (λ e. Old e) r)
   old_of w ts behind r size old opens behind_is p =
-      let q = bracket_reads (SignToken (codes "(")) (SignToken (codes ")")) (λ e. Old e) ts r opens (subst (λ us. IsEnclosed names (SignToken (codes ")")) (tokens_view us) r) behind_is p) in
-      (q.0, λ m le. ap (λ n. word_at names (work names m) n (bytes_eq w (codes "old")) w (tokens_view ts)) (sym size) ∙ (ap (λ b. word_at names (work names m) 0 b w (tokens_view ts)) (sym old) ∙ q.1 m le))
+      let q = bracket_reads (SignToken (codes "(")) (SignToken (codes ")"))
+      (λ e. Old e) ts r opens (subst (λ us. IsEnclosed names (SignToken (codes ")")) (tokens_view us) r) behind_is p) in (
+        q.0,
+        λ m le. ap (λ n. word_at names (work names m) n (bytes_eq w (codes "old")) w (tokens_view ts)) (sym size) ∙ (ap
+            (λ b. word_at names (work names m) 0 b w (tokens_view ts)) (sym old) ∙ q.1 m le),
+      )
 
-  pub old_none : (w : List ℕ) (ts behind : List code.Token) (r : Option Reading) → 0 ≡ size_of w → true ≡ bytes_eq w (codes "old") → true ≡ begins (SignToken (codes "(")) (tokens_view ts) → behind ≡ drop 1 ts →
-      IsEnclosed names (SignToken (codes ")")) (tokens_view behind) r → r ≡ None → Settles (λ m. word_at names (work names m) (size_of w) (bytes_eq w (codes "old")) w (tokens_view ts)) Fails
+  pub old_none : (w : List ℕ) (ts behind : List code.Token) (r : Option Reading) → 0 ≡ size_of w → true ≡ bytes_eq w (codes "old") →
+      true ≡ begins (SignToken (codes "(")) (tokens_view ts) → behind ≡ drop 1 ts →
+      IsEnclosed names (SignToken (codes ")")) (tokens_view behind) r → r ≡ None →
+      Settles (λ m. word_at names (work names m) (size_of w) (bytes_eq w (codes "old")) w (tokens_view ts)) Fails
   old_none w ts behind r size old opens behind_is p none =
-      subst (λ r. Settles (λ m. word_at names (work names m) (size_of w) (bytes_eq w (codes "old")) w (tokens_view ts)) (read_as (λ e. Old e) r)) none (old_of w ts behind r size old opens behind_is p)
+      subst (λ r. Settles (λ m. word_at names (work names m) (size_of w) (bytes_eq w (codes "old")) w (tokens_view ts)) (read_as (λ e. Old e) r)) none
+      (old_of w ts behind r size old opens behind_is p)
 
-  pub old_some : (w : List ℕ) (ts behind : List code.Token) (r : Option Reading) (s : Reading) (x : Expr) → 0 ≡ size_of w → true ≡ bytes_eq w (codes "old") → true ≡ begins (SignToken (codes "(")) (tokens_view ts) →
+  pub old_some : (w : List ℕ) (ts behind : List code.Token) (r : Option Reading) (s : Reading) (x : Expr) → 0 ≡ size_of w → true ≡ bytes_eq w (codes "old") →
+      true ≡ begins (SignToken (codes "(")) (tokens_view ts) →
       behind ≡ drop 1 ts → IsEnclosed names (SignToken (codes ")")) (tokens_view behind) r → r ≡ Some s → x ≡ expr_of s.expr →
       Settles (λ m. word_at names (work names m) (size_of w) (bytes_eq w (codes "old")) w (tokens_view ts)) (Reads (Old x) (tokens_view s.rest.now))
   old_some w ts behind r s x size old opens behind_is p some x_is =
-      subst (λ x. Settles (λ m. word_at names (work names m) (size_of w) (bytes_eq w (codes "old")) w (tokens_view ts)) (Reads (Old x) (tokens_view s.rest.now))) (sym x_is)
-      (subst (λ r. Settles (λ m. word_at names (work names m) (size_of w) (bytes_eq w (codes "old")) w (tokens_view ts)) (read_as (λ e. Old e) r)) some (old_of w ts behind r size old opens behind_is p))
+      subst (λ x. Settles (λ m. word_at names (work names m) (size_of w) (bytes_eq w (codes "old")) w (tokens_view ts))
+      (Reads (Old x) (tokens_view s.rest.now))) (sym x_is)
+      (subst (λ r. Settles (λ m. word_at names (work names m) (size_of w) (bytes_eq w (codes "old")) w (tokens_view ts)) (read_as (λ e. Old e) r)) some
+      (old_of w ts behind r size old opens behind_is p))
 
   -- what stands alone or in brackets
   pub name_atom : (first : code.Token) (ts rest : List code.Token) (w : List ℕ) (r : Read) → ts ≡ first ∷ rest → token_of first ≡ NameToken w →
-      Settles (λ m. word_at names (work names m) (size_of w) (bytes_eq w (codes "old")) w (tokens_view rest)) r → Settles (λ m. atom_at names (work names m) (tokens_view ts)) r
+      Settles (λ m. word_at names (work names m) (size_of w) (bytes_eq w (codes "old")) w (tokens_view rest)) r →
+      Settles (λ m. atom_at names (work names m) (tokens_view ts)) r
   name_atom first ts rest w r is name p =
       let t_is : tokens_view ts ≡ NameToken w ∷ tokens_view rest = ap tokens_view is ∙ ap (λ t. t ∷ tokens_view rest) name in
       (p.0, λ m le. ap (λ us. atom_at names (work names m) us) t_is ∙ p.1 m le)
@@ -136,8 +172,10 @@ module _ (names : List ℕ → Option Expr) where
   as_itself None = refl
   as_itself (Some r) = refl
 
-  pub bracket_atom : (first : code.Token) (ts rest : List code.Token) (s : List ℕ) (b : Bool) (o : Option Reading) → ts ≡ first ∷ rest → token_of first ≡ SignToken s → b ≡ true →
-      b ≡ same_token (token_of first) (SignToken (codes "(")) → IsEnclosed names (SignToken (codes ")")) (tokens_view rest) o → Settles (λ m. atom_at names (work names m) (tokens_view ts)) (read_of o)
+  pub bracket_atom : (first : code.Token) (ts rest : List code.Token) (s : List ℕ) (b : Bool) (o : Option Reading) → ts ≡ first ∷ rest →
+      token_of first ≡ SignToken s → b ≡ true →
+      b ≡ same_token (token_of first) (SignToken (codes "(")) → IsEnclosed names (SignToken (codes ")")) (tokens_view rest) o →
+      Settles (λ m. atom_at names (work names m) (tokens_view ts)) (read_of o)
   bracket_atom first ts rest s b o is sign true_is opens p =
       let t_is : tokens_view ts ≡ SignToken s ∷ tokens_view rest = ap tokens_view is ∙ ap (λ t. t ∷ tokens_view rest) sign in
       let same : same_token (SignToken s) (SignToken (codes "(")) ≡ true = ap (λ t. same_token t (SignToken (codes "("))) (sym sign) ∙ (sym opens ∙ true_is) in
@@ -154,10 +192,13 @@ module _ (names : List ℕ → Option Expr) where
   pub atom_read : (l : ℕ) (ts : List Token) (r : Read) → l ≡ 11 → Settles (λ m. atom_at names (work names m) ts) r → Ends names (Level l) ts r
   atom_read l ts r is p = subst (λ k. Ends names (Level k) ts r) (sym is) (atom_level ts r p)
 
-  pub first_none : (l : ℕ) (ts : List code.Token) (o : Option Reading) → l ≢ 3 → l < 11 → o ≡ None → Ends names (Level (l + 1)) (tokens_view ts) (read_of o) → Ends names (Level l) (tokens_view ts) Fails
-  first_none l ts o three below none p = first_fails l (tokens_view ts) three below (subst (λ o. Ends names (Level (l + 1)) (tokens_view ts) (read_of o)) none p)
+  pub first_none : (l : ℕ) (ts : List code.Token) (o : Option Reading) → l ≢ 3 → l < 11 → o ≡ None → Ends names (Level (l + 1)) (tokens_view ts) (read_of o) →
+      Ends names (Level l) (tokens_view ts) Fails
+  first_none l ts o three below none p = first_fails l (tokens_view ts) three below (subst
+      (λ o. Ends names (Level (l + 1)) (tokens_view ts) (read_of o)) none p)
 
-  pub first_some : (l : ℕ) (ts : List code.Token) (o : Option Reading) (r : Reading) → l ≢ 3 → l < 11 → o ≡ Some r → Ends names (Level (l + 1)) (tokens_view ts) (read_of o) → IsLeft ts o →
+  pub first_some : (l : ℕ) (ts : List code.Token) (o : Option Reading) (r : Reading) → l ≢ 3 → l < 11 → o ≡ Some r →
+      Ends names (Level (l + 1)) (tokens_view ts) (read_of o) → IsLeft ts o →
       Chained names l ts (expr_of r.expr) r.rest.now
   first_some l ts o r three below some p left =
       let q = subst (λ o. Ends names (Level (l + 1)) (tokens_view ts) (read_of o)) some p in
@@ -173,16 +214,21 @@ module _ (names : List ℕ → Option Expr) where
       Ends names (Level (l + 1)) (drop 1 (tokens_view rest)) (read_of o)
   operand l rest behind o is p = subst (λ us. Ends names (Level (l + 1)) us (read_of o)) (ap tokens_view is ∙ view_drop rest) p
 
-  pub right_none : (l : ℕ) (ts rest behind : List code.Token) (a : Expr) (op : Op) (o : Option Reading) → Chained names l ts a rest → Some op ≡ operator_at l (tokens_view rest) → behind ≡ drop 1 rest → o ≡ None →
+  pub right_none : (l : ℕ) (ts rest behind : List code.Token) (a : Expr) (op : Op) (o : Option Reading) → Chained names l ts a rest →
+      Some op ≡ operator_at l (tokens_view rest) → behind ≡ drop 1 rest → o ≡ None →
       Ends names (Level (l + 1)) (tokens_view behind) (read_of o) → Ends names (Level l) (tokens_view ts) Fails
   right_none l ts rest behind a op o c op_is is none p =
-      c.follows Fails (operand_fails l a op (tokens_view rest) (sym op_is) (subst (λ o. Ends names (Level (l + 1)) (drop 1 (tokens_view rest)) (read_of o)) none (operand l rest behind o is p)))
+      c.follows Fails (operand_fails l a op (tokens_view rest) (sym op_is) (subst
+      (λ o. Ends names (Level (l + 1)) (drop 1 (tokens_view rest)) (read_of o)) none (operand l rest behind o is p)))
 
-  pub right_last : (l : ℕ) (ts rest behind : List code.Token) (a x y : Expr) (op : Op) (o : Option Reading) (r : Reading) → Chained names l ts a rest → Some op ≡ operator_at l (tokens_view rest) → behind ≡ drop 1 rest →
-      o ≡ Some r → Ends names (Level (l + 1)) (tokens_view behind) (read_of o) → x ≡ a → y ≡ expr_of r.expr → l ≡ 4 → Ends names (Level l) (tokens_view ts) (Reads (Binary op x y) (tokens_view r.rest.now))
+  pub right_last : (l : ℕ) (ts rest behind : List code.Token) (a x y : Expr) (op : Op) (o : Option Reading) (r : Reading) → Chained names l ts a rest →
+      Some op ≡ operator_at l (tokens_view rest) → behind ≡ drop 1 rest →
+      o ≡ Some r → Ends names (Level (l + 1)) (tokens_view behind) (read_of o) → x ≡ a → y ≡ expr_of r.expr → l ≡ 4 →
+      Ends names (Level l) (tokens_view ts) (Reads (Binary op x y) (tokens_view r.rest.now))
   right_last l ts rest behind a x y op o r c op_is is some p x_is y_is four =
       let q = subst (λ o. Ends names (Level (l + 1)) (drop 1 (tokens_view rest)) (read_of o)) some (operand l rest behind o is p) in
-      let whole = c.follows (Reads (Binary op a (expr_of r.expr)) (tokens_view r.rest.now)) (operand_last l a (expr_of r.expr) op (tokens_view rest) (tokens_view r.rest.now) four (sym op_is) q) in
+      let whole = c.follows (Reads (Binary op a (expr_of r.expr)) (tokens_view r.rest.now))
+      (operand_last l a (expr_of r.expr) op (tokens_view rest) (tokens_view r.rest.now) four (sym op_is) q) in
       subst (λ x. Ends names (Level l) (tokens_view ts) (Reads (Binary op x y) (tokens_view r.rest.now))) (sym x_is)
       (subst (λ y. Ends names (Level l) (tokens_view ts) (Reads (Binary op a y) (tokens_view r.rest.now))) (sym y_is) whole)
 
@@ -190,8 +236,10 @@ module _ (names : List ℕ → Option Expr) where
   drop_shorter [] = omega arith
   drop_shorter (t ∷ ts) = omega arith
 
-  pub right_some : (l : ℕ) (ts rest behind : List code.Token) (a x y : Expr) (op : Op) (o : Option Reading) (r : Reading) → Chained names l ts a rest → Some op ≡ operator_at l (tokens_view rest) → behind ≡ drop 1 rest →
-      o ≡ Some r → Ends names (Level (l + 1)) (tokens_view behind) (read_of o) → IsLeft behind o → x ≡ a → y ≡ expr_of r.expr → l ≢ 4 → Chained names l ts (Binary op x y) r.rest.now
+  pub right_some : (l : ℕ) (ts rest behind : List code.Token) (a x y : Expr) (op : Op) (o : Option Reading) (r : Reading) → Chained names l ts a rest →
+      Some op ≡ operator_at l (tokens_view rest) → behind ≡ drop 1 rest →
+      o ≡ Some r → Ends names (Level (l + 1)) (tokens_view behind) (read_of o) → IsLeft behind o → x ≡ a → y ≡ expr_of r.expr → l ≢ 4 →
+      Chained names l ts (Binary op x y) r.rest.now
   right_some l ts rest behind a x y op o r c op_is is some p left x_is y_is other =
       let q = subst (λ o. Ends names (Level (l + 1)) (drop 1 (tokens_view rest)) (read_of o)) some (operand l rest behind o is p) in
       let s : IsLeft behind (Some r) = subst (IsLeft behind) some left in
@@ -204,5 +252,6 @@ module _ (names : List ℕ → Option Expr) where
       } in
       subst (λ x. Chained names l ts (Binary op x y) r.rest.now) (sym x_is) (subst (λ y. Chained names l ts (Binary op a y) r.rest.now) (sym y_is) whole)
 
-  pub chain_ends : (l : ℕ) (ts rest : List code.Token) (a : Expr) → Chained names l ts a rest → None ≡ operator_at l (tokens_view rest) → Ends names (Level l) (tokens_view ts) (Reads a (tokens_view rest))
+  pub chain_ends : (l : ℕ) (ts rest : List code.Token) (a : Expr) → Chained names l ts a rest → None ≡ operator_at l (tokens_view rest) →
+      Ends names (Level l) (tokens_view ts) (Reads a (tokens_view rest))
   chain_ends l ts rest a c none = c.follows (Reads a (tokens_view rest)) (none_behind l a (tokens_view rest) (sym none))

@@ -7,7 +7,8 @@ use Rattle.notes_lang.specs.Named.{meaning_of, named_of}
 
 -- the first of the rows that are left
 pub row_at : (t : List (Bor (List ℕ) × Meaning)) (i : ℕ) (d : Bor (List ℕ) × Meaning) (w : List ℕ) → i < length t →
-    name_in (map named_of (drop i t)) w ≡ (if bytes_eq w (get_or t i d).0.now then Some (meaning_of (get_or t i d).1) else name_in (map named_of (drop (i + 1) t)) w)
+    name_in (map named_of (drop i t)) w ≡ (if bytes_eq w (get_or t i d).0.now then Some (meaning_of (get_or t i d).1)
+    else name_in (map named_of (drop (i + 1) t)) w)
 row_at t i d w below = rw (add-one, drop-cons t i d)
 
 -- no rows are left

@@ -29,25 +29,31 @@ some_of n b is empty = grind arith
 pub none_of : (n : ℕ) (b : Bool) → b ≡ (n == 0) → b ≡ true → n ≡ 0
 none_of n b is empty = grind arith
 
-not_all : (names : Names) (ts : List Token) (r : Read) → Ends (names_of names) (Level 1) ts r → is_ready r ≡ true → all_read r ≡ None → (e : Expr) → Parses (names_of names) 1 ts e → ⊥
+not_all : (names : Names) (ts : List Token) (r : Read) → Ends (names_of names) (Level 1) ts r → is_ready r ≡ true → all_read r ≡ None → (e : Expr) →
+    Parses (names_of names) 1 ts e → ⊥
 not_all names ts r p ready none e q =
     let is = p.1 p.0 (omega arith) in
     none_some Expr e (sym none ∙ (sym (ap all_read is) ∙ reads_all (names_of names) (keeps names) p.0 ts e (ap is_ready is ∙ ready) q))
 
-pub nothing_read : (names : Names) (ts : List Token) (o : Option Reading) → Ends (names_of names) (Level 1) ts (read_of o) → o ≡ None → (e : Expr) → Parses (names_of names) 1 ts e → ⊥
+pub nothing_read : (names : Names) (ts : List Token) (o : Option Reading) → Ends (names_of names) (Level 1) ts (read_of o) → o ≡ None → (e : Expr) →
+    Parses (names_of names) 1 ts e → ⊥
 nothing_read names ts o p none = not_all names ts Fails (subst (λ o. Ends (names_of names) (Level 1) ts (read_of o)) none p) refl refl
 
-some_left : (names : Names) (ts : List Token) (a : Expr) (us : List code.Token) → 0 < length us → Ends (names_of names) (Level 1) ts (Reads a (tokens_view us)) → (e : Expr) → Parses (names_of names) 1 ts e → ⊥
+some_left : (names : Names) (ts : List Token) (a : Expr) (us : List code.Token) → 0 < length us →
+    Ends (names_of names) (Level 1) ts (Reads a (tokens_view us)) → (e : Expr) → Parses (names_of names) 1 ts e → ⊥
 some_left names ts a [] more p = absurd (omega (arith, more))
 some_left names ts a (u ∷ us) more p = not_all names ts (Reads a (tokens_view (u ∷ us))) p refl refl
 
-pub more_left : (names : Names) (ts : List Token) (o : Option Reading) (r : Reading) → Ends (names_of names) (Level 1) ts (read_of o) → o ≡ Some r → 0 < length r.rest.now → (e : Expr) → Parses (names_of names) 1 ts e → ⊥
+pub more_left : (names : Names) (ts : List Token) (o : Option Reading) (r : Reading) → Ends (names_of names) (Level 1) ts (read_of o) → o ≡ Some r →
+    0 < length r.rest.now → (e : Expr) → Parses (names_of names) 1 ts e → ⊥
 more_left names ts o r p some more =
     some_left names ts (expr_of r.expr) r.rest.now more (subst (λ o. Ends (names_of names) (Level 1) ts (read_of o)) some p)
 
-none_left : (names : Names) (ts : List Token) (a : Expr) (us : List code.Token) → length us ≡ 0 → Ends (names_of names) (Level 1) ts (Reads a (tokens_view us)) → Parses (names_of names) 1 ts a
+none_left : (names : Names) (ts : List Token) (a : Expr) (us : List code.Token) → length us ≡ 0 →
+    Ends (names_of names) (Level 1) ts (Reads a (tokens_view us)) → Parses (names_of names) 1 ts a
 none_left names ts a [] none p = by_reading (names_of names) p.0 ts a (p.1 p.0 (omega arith))
 none_left names ts a (u ∷ us) none p = absurd (omega (arith, none))
 
-pub all_of_it : (names : Names) (ts : List Token) (o : Option Reading) (r : Reading) → Ends (names_of names) (Level 1) ts (read_of o) → o ≡ Some r → length r.rest.now ≡ 0 → Parses (names_of names) 1 ts (expr_of r.expr)
+pub all_of_it : (names : Names) (ts : List Token) (o : Option Reading) (r : Reading) → Ends (names_of names) (Level 1) ts (read_of o) → o ≡ Some r →
+    length r.rest.now ≡ 0 → Parses (names_of names) 1 ts (expr_of r.expr)
 all_of_it names ts o r p some none = none_left names ts (expr_of r.expr) r.rest.now none (subst (λ o. Ends (names_of names) (Level 1) ts (read_of o)) some p)

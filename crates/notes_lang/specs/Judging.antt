@@ -52,14 +52,17 @@ fault_of kind.Entry = faults.EntryFault
 -- what is wrong with tokens, the least fault alone
 abbrev pub IsTokenFault : List code.Token → Option FaultKind → Type 0
 IsTokenFault ts None =
-    (false ≡ list_any (λ t. is_bad_byte (token_of t)) ts) × (false ≡ list_any (λ t. is_bad_text (token_of t)) ts) × (false ≡ list_any (λ t. is_large (token_of t)) ts)
+    (false ≡ list_any (λ t. is_bad_byte (token_of t)) ts) × (false ≡ list_any (λ t. is_bad_text (token_of t)) ts) ×
+    (false ≡ list_any (λ t. is_large (token_of t)) ts)
     × (count_by (λ t. is_depth (token_of t)) ts ≤ 64)
 IsTokenFault ts (Some kind.Byte) = true ≡ list_any (λ t. is_bad_byte (token_of t)) ts
 IsTokenFault ts (Some kind.Token) = (false ≡ list_any (λ t. is_bad_byte (token_of t)) ts) × (true ≡ list_any (λ t. is_bad_text (token_of t)) ts)
 IsTokenFault ts (Some kind.Number) =
-    (false ≡ list_any (λ t. is_bad_byte (token_of t)) ts) × (false ≡ list_any (λ t. is_bad_text (token_of t)) ts) × (true ≡ list_any (λ t. is_large (token_of t)) ts)
+    (false ≡ list_any (λ t. is_bad_byte (token_of t)) ts) × (false ≡ list_any (λ t. is_bad_text (token_of t)) ts) ×
+    (true ≡ list_any (λ t. is_large (token_of t)) ts)
 IsTokenFault ts (Some kind.Depth) =
-    (false ≡ list_any (λ t. is_bad_byte (token_of t)) ts) × (false ≡ list_any (λ t. is_bad_text (token_of t)) ts) × (false ≡ list_any (λ t. is_large (token_of t)) ts)
+    (false ≡ list_any (λ t. is_bad_byte (token_of t)) ts) × (false ≡ list_any (λ t. is_bad_text (token_of t)) ts) ×
+    (false ≡ list_any (λ t. is_large (token_of t)) ts)
     × (64 < count_by (λ t. is_depth (token_of t)) ts)
 IsTokenFault ts (Some kind.Limit) = ⊥
 IsTokenFault ts (Some kind.Word) = ⊥

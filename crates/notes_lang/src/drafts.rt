@@ -59,7 +59,8 @@ impl Draft {
 
     /// Adds what one more line says, by its number. The error is want of memory.
     pub(crate) fn add(&mut self, line: u32, says: Says) -> Result<(), AllocError>
-        ensures { OnOk result ((earlier : List grammar.Says) → line ≡ length earlier + 1 → (Repeats earlier (says_of says) → ⊥) → IsDraft earlier self.old → IsDraft (earlier ++ says_of says ∷ []) self.new) }
+        ensures { OnOk result ((earlier : List grammar.Says) → line ≡ length earlier + 1 → (Repeats earlier (says_of says) → ⊥) → IsDraft earlier self.old →
+            IsDraft (earlier ++ says_of says ∷ []) self.new) }
     {
         match says {
             Says::Nothing => {}

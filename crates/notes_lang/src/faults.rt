@@ -209,7 +209,8 @@ fn judge_tokens(
     names: Names,
     tokens: &[Token],
 ) -> Result<Result<Says, FaultKind>, AllocError>
-    ensures { IfOk result (λ r. (number : ℕ) (text : List ℕ) → number ≤ 4096 → length text ≤ 1024 → tokens_view tokens.now ≡ map capped (tokens_of text) → IsJudged (names_of names) number text r) }
+    ensures { IfOk result (λ r. (number : ℕ) (text : List ℕ) → number ≤ 4096 → length text ≤ 1024 → tokens_view tokens.now ≡ map capped (tokens_of text) →
+        IsJudged (names_of names) number text r) }
 {
     if let Some(fault) = token_fault(tokens) {
         return Ok(Err(fault));

@@ -78,8 +78,8 @@ fn read_lines(
     Ok(Ok((draft, line)))
 }
 
-/// The notes that a text says, for the machine of a layout. `Fault` tells the first line that is refused, with the first of its faults; where each line is good but none names
-/// the function, it is the line behind the last. What the expressions of the notes read, the machine has; their numbers have 32 bits.
+/// The notes that a text says, for the machine of a layout. `Fault` tells the first line that is refused, with the first of its faults; where each line is good
+/// but none names the function, it is the line behind the last. What the expressions of the notes read, the machine has; their numbers have 32 bits.
 pub fn parse(alloc: Global, bytes: &[u8], layout: Layout) -> Result<Notes, NotesError>
     ensures ok { IfOk result (λ notes. IsNotesText (layout_names layout) bytes.now (notes_of notes)) }
     ensures readable { IfOk result (λ notes. AreReadable (layout_registers layout) (notes_of notes)) }

@@ -280,7 +280,8 @@ fn word_atom<'t, 'a>(
     tokens: &'t [Token<'a>],
 ) -> Result<Option<Reading<'t, 'a>>, AllocError>
     requires { AreGood tokens.now }
-    ensures read { IfOk result (λ o. Settles (λ m. word_at (names_of names) (work (names_of names) m) (size_of word.now) (bytes_eq word.now (codes "old")) word.now (tokens_view tokens.now)) (read_of o)) }
+    ensures read { IfOk result (λ o. Settles (λ m. word_at (names_of names) (work (names_of names) m) (size_of word.now)
+        (bytes_eq word.now (codes "old")) word.now (tokens_view tokens.now)) (read_of o)) }
     ensures left { IfOk result (λ o. IsRest tokens.now o) }
 {
     if let Some(size) = load_size(word) {

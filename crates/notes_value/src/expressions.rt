@@ -1,7 +1,7 @@
 //! Expressions of notes.
 
-/// The binary operators on words of 32 bits. Sums, differences and products wrap; shifts by 32 and above give all fill; comparisons, `Or` and `And` give 1 or 0. Comparisons are
-/// of unsigned numbers but for those that say `Signed`.
+/// The binary operators on words of 32 bits. Sums, differences and products wrap; shifts by 32 and above give all fill; comparisons, `Or` and `And` give 1 or
+/// 0. Comparisons are of unsigned numbers but for those that say `Signed`.
 #[derive(Clone, Copy, PartialEq, Eq, Debug)]
 pub enum Operator {
     Or,

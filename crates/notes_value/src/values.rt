@@ -80,8 +80,8 @@ fn load<V: View>(state: &V, address: u32, size: Size, big: bool) -> u32
     state.load(address, bytes(size), order(big)).bits as u32
 }
 
-/// The value of an expression in the state now, for a run that began in the state at entry; `big` is the machine's byte order. The expression may name only registers that
-/// the machine has, and flags up to 3, both outside and inside `old`. It takes no memory.
+/// The value of an expression in the state now, for a run that began in the state at entry; `big` is the machine's byte order. The expression may name only
+/// registers that the machine has, and flags up to 3, both outside and inside `old`. It takes no memory.
 pub fn value<V: View>(expr: &Expr, now: &V, old: &V, big: bool) -> u32
     requires readable { IsReadable V.has_register (expr_of expr.now) }
     ensures { result ≡ meaning.value (memory.endian big) (expr_of expr.now) (V.view now.now) (V.view old.now) }

@@ -41,10 +41,15 @@ of_range : (r first count : ℕ) → first ≤ r → r < first + count → list_
 of_range r first zero h k = absurd (omega arith)
 of_range r first (suc count) h k =
     of_range_by r first count (nat_eq r first) refl
-    (λ e. elim (eqb_tells r first) [ inl s ↦ absurd (true≢false (sym s.0 ∙ e)) | inr o ↦ let d = o.1 in of_range r (first + 1) count (omega arith) (omega arith) ])
+    (λ e. elim (eqb_tells r first) [
+      | inl s ↦ absurd (true≢false (sym s.0 ∙ e))
+      | inr o ↦ let d = o.1
+          in of_range r (first + 1) count (omega arith) (omega arith)
+    ])
 
 -- a register or a flag of the form is the program's
-named_of : (u : UnrolledProgram) (low regs flags : ℕ) (m : TermNode) → u.registers ≡ from_to low regs → u.flags ≡ flags → IsInput m → IsOfForm low regs flags m →
+named_of : (u : UnrolledProgram) (low regs flags : ℕ) (m : TermNode) → u.registers ≡ from_to low regs → u.flags ≡ flags → IsInput m →
+    IsOfForm low regs flags m →
     IsNamedBelow u 0 m
 named_of u low regs flags (RegisterNode r) p q i h = subst (λ (l : List ℕ). list_any (nat_eq r) l ≡ true) (sym p) (of_range r low regs h.0 h.1)
 named_of u low regs flags (FlagNode f) p q i h = lt-ltb f u.flags (subst (λ (n : ℕ). f < n) (sym q) h)
@@ -75,9 +80,11 @@ later_not : (i : ℕ) → (suc i == 0) ≡ false
 later_not i = grind (arith, nat_tests)
 
 -- one more of the others
-pub row_more : {X : Type 0} → (first other : X) (xs ys : List X) (k : ℕ) → 1 ≤ k → ys ≡ xs ++ other ∷ [] → xs ≡ row first other (k - 1) → ys ≡ row first other (k + 1 - 1)
+pub row_more : {X : Type 0} → (first other : X) (xs ys : List X) (k : ℕ) → 1 ≤ k → ys ≡ xs ++ other ∷ [] → xs ≡ row first other (k - 1) →
+    ys ≡ row first other (k + 1 - 1)
 row_more first other xs ys k l e h =
-    e ∙ ap (λ z. z ++ other ∷ []) h ∙ ap (λ z. first ∷ z) (replicate_more (k - 1) other) ∙ ap (row first other) (let n : k - 1 + 1 ≡ k + 1 - 1 = omega (arith, l) in n)
+    e ∙ ap (λ z. z ++ other ∷ []) h ∙ ap (λ z. first ∷ z) (replicate_more (k - 1) other) ∙ ap (row first other) (let n : k - 1 + 1
+    ≡ k + 1 - 1 = omega (arith, l) in n)
 
 -- ranges of one beginning and one length
 pub same_range : (first count low regs : ℕ) → low ≡ first → regs ≡ count → from_to first count ≡ from_to low regs
@@ -92,7 +99,8 @@ first_held u r = refl
 nothing_named : (u : UnrolledProgram) → AreNamedBelow u 0 []
 nothing_named u m c = let l = c.1 in absurd (omega arith)
 
-module _ (u : Unrolled) (a b c new : List TermNode) (low regs flags others : ℕ) (entry names : Names) (pc yes never : Term) (met : Vec Term) (states : Vec (Option Names))
+module _ (u : Unrolled) (a b c new : List TermNode) (low regs flags others : ℕ) (entry names : Names) (pc yes never : Term) (met : Vec Term)
+    (states : Vec (Option Names))
     (pr : (unrolled_of u).registers ≡ from_to low regs)
     (pf : (unrolled_of u).flags ≡ flags) (start : AreEntryNames [] a low regs flags entry) (at : IsInterned a b (ConstantNode 32 u.entry) pc.0)
     (one : Makes b c 0 1 1 yes.0 (λ x. Tells c x yes.0 true))
@@ -127,7 +135,8 @@ module _ (u : Unrolled) (a b c new : List TermNode) (low regs flags others : ℕ
   count = ap (λ (z : List Term). length z) mets ∙ ap suc (length-replicate others never) ∙ (let e : suc others ≡ others + 1 = omega arith in e)
 
   states_count : length states.items ≡ others + 1
-  states_count = ap (λ (z : List (Option Names)). length z) carried ∙ ap suc (length-replicate others None) ∙ (let e : suc others ≡ others + 1 = omega arith in e)
+  states_count = ap (λ (z : List (Option Names)). length z) carried ∙ ap suc (length-replicate others None) ∙ (let e : suc others
+      ≡ others + 1 = omega arith in e)
 
   first_bit : term_at met.items 0 ≡ yes.0
   first_bit = ap (λ (z : List Term). term_at z 0) mets
@@ -196,7 +205,11 @@ module _ (u : Unrolled) (a b c new : List TermNode) (low regs flags others : ℕ
   begun = record {
     well = kept_well;
     sweep = record {
-      form = record { registers = pr ∙ ap (λ (z : ℕ). from_to z regs) (sym start.first) ∙ ap (from_to entry.first) (sym start.registers); flags = pf ∙ sym start.flags };
+      form = record {
+        registers = pr ∙ ap (λ (z : ℕ). from_to z regs) (sym start.first) ∙ ap (from_to entry.first)
+            (sym start.registers);
+        flags = pf ∙ sym start.flags;
+      };
       at = refl;
       places = count ∙ places ∙ sym (points_count u u.points.items);
     };
@@ -204,7 +217,8 @@ module _ (u : Unrolled) (a b c new : List TermNode) (low regs flags others : ℕ
         named_on (unrolled_of u) c new (λ m. ⊥) (λ m i h. absurd h) zero_bit.inputs
         (named_on (unrolled_of u) b c (λ m. ⊥) (λ m i h. absurd h) one.inputs
         (named_on (unrolled_of u) a b (λ m. ⊥) (λ m i h. absurd h) (interned_inputs a b (ConstantNode 32 u.entry) pc.0 (λ m. ⊥) at (λ i. i))
-        (named_on (unrolled_of u) [] a (IsOfForm low regs flags) (λ m i h. named_of (unrolled_of u) low regs flags m pr pf i h) start.inputs (nothing_named (unrolled_of u)))));
+        (named_on (unrolled_of u) [] a (IsOfForm low regs flags)
+        (λ m i h. named_of (unrolled_of u) low regs flags m pr pf i h) start.inputs (nothing_named (unrolled_of u)))));
     room =
         room_first (unrolled_of u) new (regs + flags + 1 + 3)
         (let e : length (unrolled_of u).registers ≡ regs = ap (λ (z : List ℕ). length z) pr ∙ range_length low regs in omega (arith, e, pf)) all_grew;

@@ -41,11 +41,13 @@ asserts_lines asserts (x ∷ index) = ap (λ (l : List Expr). (assert_lines asse
 
 asserts_edges : (asserts : List notes.Assert) (index : List (ℕ × ℕ)) → sum_by is_edge (map (assert_exit asserts) index) ≡ 0
 asserts_edges asserts [] = refl
-asserts_edges asserts (x ∷ index) = let h = sum_by-cons is_edge (assert_exit asserts x) (map (assert_exit asserts) index) in let e = asserts_edges asserts index in omega arith
+asserts_edges asserts (x ∷ index) = let h = sum_by-cons is_edge (assert_exit asserts x) (map (assert_exit asserts) index) in let e = asserts_edges asserts index
+    in omega arith
 
 asserts_outs : (asserts : List notes.Assert) (index : List (ℕ × ℕ)) → outs (map (assert_exit asserts) index) ≡ 0
 asserts_outs asserts [] = refl
-asserts_outs asserts (x ∷ index) = let h = sum_by-cons (λ z. bit (goes_out z)) (assert_exit asserts x) (map (assert_exit asserts) index) in let e = asserts_outs asserts index in
+asserts_outs asserts (x ∷ index) = let h = sum_by-cons (λ z. bit (goes_out z)) (assert_exit asserts x) (map (assert_exit asserts) index) in
+    let e = asserts_outs asserts index in
     omega arith
 
 asserts_stay : (asserts : List notes.Assert) (index : List (ℕ × ℕ)) → list_any goes_out (map (assert_exit asserts) index) ≡ false
@@ -89,7 +91,8 @@ module _ (asserts : List notes.Assert) (index : List (ℕ × ℕ)) (xs : List Po
       sum_by g (flat_map line_of (map (assert_exit asserts) index ++ xs) ++ (if list_any goes_out (map (assert_exit asserts) index ++ xs) then ensures else []))
       ≡ sum_by g (assert_lines asserts index) + (if list_any goes_out xs then sum_by g ensures else 0)
   lines_sum g ensures e =
-      sum_by-append g (flat_map line_of (map (assert_exit asserts) index ++ xs)) (if list_any goes_out (map (assert_exit asserts) index ++ xs) then ensures else [])
+      sum_by-append g (flat_map line_of (map (assert_exit asserts) index ++ xs)) (if list_any goes_out (map (assert_exit asserts) index ++ xs) then ensures
+      else [])
       ∙ ap (λ (l : List Expr). sum_by g l + sum_by g (if list_any goes_out (map (assert_exit asserts) index ++ xs) then ensures else [])) (all_lines e)
       ∙ ap (λ (b : Bool). sum_by g (assert_lines asserts index) + sum_by g (if b then ensures else [])) all_stay
       ∙ ap (λ (n : ℕ). sum_by g (assert_lines asserts index) + n) (sum_cases g (list_any goes_out xs) ensures)
@@ -99,7 +102,8 @@ module _ (f : Edge → ℕ) (each out : ℕ) (few : (e : Edge) → f e ≤ each 
   more_each : (n : ℕ) → each * suc n ≡ each + each * n
   more_each n = omega arith
 
-  none_out_by : (e : Edge) (b : Bool) (n s r : ℕ) → b ≡ goes_out (edge_of e) → bit b + r ≡ 0 → s ≤ each * n → f e ≤ each + (if b then out else 0) → f e + s ≤ each * suc n
+  none_out_by : (e : Edge) (b : Bool) (n s r : ℕ) → b ≡ goes_out (edge_of e) → bit b + r ≡ 0 → s ≤ each * n → f e ≤ each + (if b then out else 0) →
+      f e + s ≤ each * suc n
   none_out_by e true n s r h z l k = absurd (omega arith)
   none_out_by e false n s r h z l k = let m = more_each n in omega (arith, m, l, k)
 
@@ -159,7 +163,8 @@ module _ (v : ℕ) (n : Names) (sized : AreSized v n) (lines : List NoteLine) wh
   nodes_by f j t OverLast = let e = sized.enough in omega (arith, e)
 
   module _ (es : List Edge) (one : outs (map edge_of es) ≤ 1) where
-    pub edge_gates : sum_by (λ e. 35 + aim_gates n lines e.aim) es ≤ 1280 * length es + (if list_any goes_out (map edge_of es) then sum_by line_price said else 0)
+    pub edge_gates : sum_by (λ e. 35 + aim_gates n lines e.aim) es
+        ≤ 1280 * length es + (if list_any goes_out (map edge_of es) then sum_by line_price said else 0)
     edge_gates = some_out (λ e. 35 + aim_gates n lines e.aim) 1280 (sum_by line_price said) (λ e. gates_by e.falls e.jumps e.to e.aim) es one
 
     pub edge_loads : sum_by (λ e. aim_loads lines e.aim) es ≤ 0 * length es + (if list_any goes_out (map edge_of es) then sum_by bytes_loaded said else 0)
@@ -168,7 +173,8 @@ module _ (v : ℕ) (n : Names) (sized : AreSized v n) (lines : List NoteLine) wh
     pub edge_joins : sum_by (λ e. aim_joins e.aim) es ≤ 1 * length es + (if list_any goes_out (map edge_of es) then 0 else 0)
     edge_joins = some_out (λ e. aim_joins e.aim) 1 0 (λ e. joins_by e.falls e.jumps e.to e.aim) es one
 
-    pub edge_nodes : sum_by (λ e. 14 + aim_nodes n lines e.aim) es ≤ (4 * v) * length es + (if list_any goes_out (map edge_of es) then 4 * line_steps said else 0)
+    pub edge_nodes : sum_by (λ e. 14 + aim_nodes n lines e.aim) es
+        ≤ (4 * v) * length es + (if list_any goes_out (map edge_of es) then 4 * line_steps said else 0)
     edge_nodes = some_out (λ e. 14 + aim_nodes n lines e.aim) (4 * v) (4 * line_steps said) (λ e. nodes_by e.falls e.jumps e.to e.aim) es one
 
 row_lines : (f : Bool) (o : Option (Vec Stmt)) (es : List Edge) → flat_map line_of (row_exits f o es) ≡ []
@@ -213,7 +219,8 @@ module _ (u : Unrolled) (i : ℕ) where
   abbrev rows : List PointExit
   rows = row_exits (own_code u i).fetchable (own_code u i).list (own_edges u i)
 
-  own_sum : (g : Expr → ℕ) → sum_by g (lines_at (unrolled_of u) (placed u i)) ≡ sum_by g (own_lines u i) + (if list_any goes_out rows then sum_by g ensured else 0)
+  own_sum : (g : Expr → ℕ) → sum_by g (lines_at (unrolled_of u) (placed u i))
+      ≡ sum_by g (own_lines u i) + (if list_any goes_out rows then sum_by g ensured else 0)
   own_sum g = lines_sum own_asserts (own_index u i) rows g ensured (row_lines (own_code u i).fetchable (own_code u i).list (own_edges u i))
 
   -- where there is no row
@@ -236,19 +243,23 @@ module _ (u : Unrolled) (i : ℕ) where
     edge_count : sum_by is_edge (placed u i).exits ≡ length (own_edges u i)
     edge_count =
         all_edges own_asserts (own_index u i) rows ∙ ap (λ (xs : List PointExit). sum_by is_edge xs) rows_are
-        ∙ sum_by-append is_edge (Raising ∷ WritingKept ∷ Unaligned ∷ []) (map edge_of (own_edges u i)) ∙ ap (λ (z : ℕ). 0 + z) (edges_are (own_edges u i)) ∙ zero_plus
+        ∙ sum_by-append is_edge (Raising ∷ WritingKept ∷ Unaligned ∷ []) (map edge_of (own_edges u i)) ∙ ap
+        (λ (z : ℕ). 0 + z) (edges_are (own_edges u i)) ∙ zero_plus
         (length (own_edges u i))
 
     edge_outs : outs (placed u i).exits ≡ outs (map edge_of (own_edges u i))
     edge_outs =
         all_outs own_asserts (own_index u i) rows ∙ ap (λ (xs : List PointExit). outs xs) rows_are
-        ∙ sum_by-append (λ x. bit (goes_out x)) (Raising ∷ WritingKept ∷ Unaligned ∷ []) (map edge_of (own_edges u i)) ∙ zero_plus (outs (map edge_of (own_edges u i)))
+        ∙ sum_by-append (λ x. bit (goes_out x)) (Raising ∷ WritingKept ∷ Unaligned
+        ∷ []) (map edge_of (own_edges u i)) ∙ zero_plus (outs (map edge_of (own_edges u i)))
 
-    row_sum : (g : Expr → ℕ) → sum_by g (lines_at (unrolled_of u) (placed u i)) ≡ sum_by g (own_lines u i) + (if list_any goes_out (map edge_of (own_edges u i)) then sum_by g
+    row_sum : (g : Expr → ℕ) → sum_by g (lines_at (unrolled_of u) (placed u i))
+        ≡ sum_by g (own_lines u i) + (if list_any goes_out (map edge_of (own_edges u i)) then sum_by g
         ensured else 0)
     row_sum g = own_sum g ∙ ap (λ (b : Bool). sum_by g (own_lines u i) + (if b then sum_by g ensured else 0)) rows_out
 
-    module _ (n : Names) (stored tests : ℕ) (sized : AreSized (variables_of (unrolled_of u)) n) (one : outs (placed u i).exits ≤ 1) (few : stored ≤ byte_stores (statements list.items))
+    module _ (n : Names) (stored tests : ℕ) (sized : AreSized (variables_of (unrolled_of u)) n) (one : outs (placed u i).exits ≤ 1) (few : stored
+        ≤ byte_stores (statements list.items))
         (are : tests ≡ stored * length (unrolled_of u).kept) (weight : list_weight (statements list.items) + 64 ≤ (placed u i).row)
         (loads : byte_loads (statements list.items) ≤ (placed u i).loads)
         (stores : byte_stores (statements list.items) ≤ (placed u i).stores) where
@@ -269,11 +280,13 @@ module _ (u : Unrolled) (i : ℕ) where
       sizes : action_size (placed u i).does ≡ list_size (statements list.items)
       sizes = ap (λ (o : Option (Vec Stmt)). action_size (action_of o)) code
 
-      pub row_paid : ArePaid u i (list_weight (statements list.items) + 98 * tests + (32 + 2) + (9 + sum_by (λ e. 35 + aim_gates n (unrolled_of u).ensures e.aim) (own_edges u i)))
+      pub row_paid : ArePaid u i (list_weight (statements list.items) + 98 * tests + (32 + 2) + (9 + sum_by
+          (λ e. 35 + aim_gates n (unrolled_of u).ensures e.aim) (own_edges u i)))
           (byte_loads (statements list.items) + 0 + (0 + 0) + sum_by (λ e. aim_loads (unrolled_of u).ensures e.aim) (own_edges u i))
           (byte_stores (statements list.items) + 0 + (0 + 0) + 0)
           (2 * byte_stores (statements list.items) + 0 + (0 + 0) + sum_by (λ e. aim_joins e.aim) (own_edges u i))
-          (4 * list_size (statements list.items) + 8 + (1 + 10 * tests) + (3 + 5) + (24 + sum_by (λ e. 14 + aim_nodes n (unrolled_of u).ensures e.aim) (own_edges u i)))
+          (4 * list_size (statements list.items) + 8 + (1 + 10 * tests) + (3 + 5) + (24 + sum_by
+          (λ e. 14 + aim_nodes n (unrolled_of u).ensures e.aim) (own_edges u i)))
       row_paid = record {
         few_gates = (
             let g = edge_gates (variables_of (unrolled_of u)) n sized (unrolled_of u).ensures (own_edges u i) one_edge in
@@ -291,6 +304,7 @@ module _ (u : Unrolled) (i : ℕ) where
         few_nodes = (
             let g = edge_nodes (variables_of (unrolled_of u)) n sized (unrolled_of u).ensures (own_edges u i) one_edge in
             let f = four_cases (list_any goes_out (map edge_of (own_edges u i))) (line_steps ensured) in
-            let s = row_sum (λ e. line_size e + 4) in let c = count_nodes in let t = tests_few in let v = four_each in let z = sizes in omega (arith, g, f, s, c, t, v, z)
+            let s = row_sum (λ e. line_size e + 4) in let c = count_nodes in let t = tests_few in let v = four_each in let z = sizes
+            in omega (arith, g, f, s, c, t, v, z)
             );
       }

@@ -18,7 +18,8 @@ use Rattle.passify.specs.Situations.{AreLines, LinesTried, goes_out_by}
 use Rattle.passify.specs.Edges.{Follows}
 use Rattle.passify.proofs.Tried.{bit_true}
 
-pub makes_more : (old new : List TermNode) (g n h m w t : ℕ) (claim : TermReading → Type 0) → g ≤ h → n ≤ m → Makes old new g n w t claim → Makes old new h m w t claim
+pub makes_more : (old new : List TermNode) (g n h m w t : ℕ) (claim : TermReading → Type 0) → g ≤ h → n ≤ m → Makes old new g n w t claim →
+    Makes old new h m w t claim
 makes_more old new g n h m w t claim lg ln k = record {
   grew = grew_more old new g 0 0 0 n h 0 0 0 m lg (omega arith) (omega arith) (omega arith) ln k.grew;
   inputs = k.inputs;
@@ -28,7 +29,8 @@ makes_more old new g n h m w t claim lg ln k = record {
 }
 
 -- a term that stands
-pub makes_none : (ns : List TermNode) (h m w t : ℕ) (claim : TermReading → Type 0) → AreTyped ns → HasWidth ns w t → ((x : TermReading) → claim x) → Makes ns ns h m w t claim
+pub makes_none : (ns : List TermNode) (h m w t : ℕ) (claim : TermReading → Type 0) → AreTyped ns → HasWidth ns w t → ((x : TermReading) → claim x) →
+    Makes ns ns h m w t claim
 makes_none ns h m w t claim typed width holds = record {
   grew = grew_more ns ns 0 0 0 0 0 h 0 0 0 m (omega arith) (omega arith) (omega arith) (omega arith) (omega arith) (grew_none ns);
   inputs = inputs_none ns (λ q. ⊥);
@@ -38,9 +40,11 @@ makes_none ns h m w t claim typed width holds = record {
 }
 
 -- all lines were tried
-pub lines_steps : {old new : List TermNode} {s z : Sweep} {all : _} → AreLines old new s z all [] → Steps old new s z (sum_by line_price all) (sum_by bytes_loaded all) 0 0 (4 * line_steps all) (λ m. ⊥)
+pub lines_steps : {old new : List TermNode} {s z : Sweep} {all : _} → AreLines old new s z all [] →
+    Steps old new s z (sum_by line_price all) (sum_by bytes_loaded all) 0 0 (4 * line_steps all) (λ m. ⊥)
 lines_steps {old = old} {new = new} {all = all} k = record {
-  grew = grew_more old new k.gates k.loads 0 0 k.nodes (sum_by line_price all) (sum_by bytes_loaded all) 0 0 (4 * line_steps all) (omega (arith, k.few_gates)) (omega (arith, k.few_loads)) (omega arith) (omega arith) (omega (arith, k.few_nodes)) k.steps.grew;
+  grew = grew_more old new k.gates k.loads 0 0 k.nodes (sum_by line_price all) (sum_by bytes_loaded all) 0 0 (4 * line_steps all) (omega (arith, k.few_gates))
+      (omega (arith, k.few_loads)) (omega arith) (omega arith) (omega (arith, k.few_nodes)) k.steps.grew;
   inputs = k.steps.inputs;
   well = k.steps.well;
   like = k.steps.like;
@@ -54,7 +58,8 @@ module _ (old new : List TermNode) (s z : Sweep) (hit : ℕ) (big : Bool) (lines
   follow_over hands x r from w b f = hands x r from w b f.is
 
   module _ (left : ℕ) (k : LinesTried old new s z hit left big next (λ S. S.next) (map (λ l. l.says) lines) [] (goes_out_by lines) (goes_out_by [])) where
-    ended : (from : ℕ) (x : TermReading) (p : Bool) (h after : Held) → (p ≡ true → after ≡ h) → ShowsAt new z from x (held_if p h after) → ShowsAt new z from x after
+    ended : (from : ℕ) (x : TermReading) (p : Bool) (h after : Held) → (p ≡ true → after ≡ h) → ShowsAt new z from x (held_if p h after) →
+        ShowsAt new z from x after
     ended from x true h after e k = subst (λ (q : Held). ShowsAt new z from x q) (sym (e refl)) k
     ended from x false h after e k = k
 
@@ -66,7 +71,8 @@ module _ (old new : List TermNode) (s z : Sweep) (hit : ℕ) (big : Bool) (lines
     follow_out x r from w b f tells h shows =
         let S = f.situation in
         let g = hand (out_by (false_line S.program.endian lines S.next S.entry)) h in
-        let w_is : w ≡ out_by (false_line S.program.endian lines S.next S.entry) = f.is ∙ ap (λ q. out_by (false_line S.program.endian q S.next S.entry)) f.ensures in
+        let w_is : w ≡ out_by (false_line S.program.endian lines S.next S.entry) = f.is ∙ ap
+        (λ q. out_by (false_line S.program.endian q S.next S.entry)) f.ensures in
         let pending = k.tries x r from S (λ e. f.there (bit_true b (sym tells ∙ e))) h (held_if b g h) [] (record {
           some = b;
           tells = tells;

@@ -31,7 +31,8 @@ few_differ (x ∷ xs) (y ∷ ys) = let h = one_at_most (x.0 == y.0) in let k = f
 pub form_on : (a b c : Names) → HaveSameForm a b → HaveSameForm b c → HaveSameForm a c
 form_on a b c p q = record { first = p.first ∙ q.first; registers = p.registers ∙ q.registers; flags = p.flags ∙ q.flags }
 
-pub selected_joined : (old new : List TermNode) (hit met first : ℕ) (a b n : Names) → Separates old hit met first → AreSelected old new first a b n → IsJoined a old new hit met a (Some b) n
+pub selected_joined : (old new : List TermNode) (hit met first : ℕ) (a b n : Names) → Separates old hit met first → AreSelected old new first a b n →
+    IsJoined a old new hit met a (Some b) n
 selected_joined old new hit met first a b n sep k = record {
   grew =
       (let r = few_differ a.registers.items b.registers.items in
@@ -50,23 +51,40 @@ same_form : (a b : Names) → HaveSameTerms a b → HaveSameForm a b
 same_form a b h = record { first = h.first; registers = ap (λ l. length l) h.registers; flags = ap (λ l. length l) h.flags }
 
 pub forms_same : (a b : Names) → HaveSameForm a b → form_of a ≡ form_of b
-forms_same a b h = by a.first b.first (length a.registers.items) (length b.registers.items) (length a.flags.items) (length b.flags.items) h.first h.registers h.flags
+forms_same a b h = by a.first b.first (length a.registers.items) (length b.registers.items) (length a.flags.items)
+    (length b.flags.items) h.first h.registers h.flags
   where
     form : ℕ → ℕ → ℕ → UnrolledProgram
-    form f r g = record { endian = Little; registers = from_to f r; flags = g; link = 0; entry = 0; requires = []; ensures = []; kept = []; known = []; literals = []; points = [] }
+    form f r g = record {
+      endian = Little;
+      registers = from_to f r;
+      flags = g;
+      link = 0;
+      entry = 0;
+      requires = [];
+      ensures = [];
+      kept = [];
+      known = [];
+      literals
+          = [];
+      points = [];
+    }
 
     by : (f f' r r' g g' : ℕ) → f ≡ f' → r ≡ r' → g ≡ g' → form f r g ≡ form f' r' g'
     by f f' r r' g g' p q k = ap (λ z. form z r g) p ∙ ap (λ z. form f' z g) q ∙ ap (λ z. form f' r' z) k
 
 terms_same : (a b : Names) → HaveSameTerms a b → names_of a ≡ names_of b
-terms_same a b h = ap (λ (z : List Term). put z a.flags.items a.memory) h.registers ∙ ap (λ (z : List Term). put b.registers.items z a.memory) h.flags ∙ ap (λ (z : Term). put b.registers.items b.flags.items z) h.memory
+terms_same a b h = ap (λ (z : List Term). put z a.flags.items a.memory) h.registers ∙ ap (λ (z : List Term). put b.registers.items z a.memory) h.flags ∙ ap
+    (λ (z : Term). put b.registers.items b.flags.items z) h.memory
   where
     put : List Term → List Term → Term → walk.Names
     put r f m = record { registers = map (λ t. t.0) r; flags = map (λ t. t.0) f; memory = m.0 }
 
-denotes_same : (nodes : List TermNode) (x : TermReading) (a b : Names) (c : Carried) → HaveSameTerms a b → Denotes (form_of a) nodes x (names_of a) c → Denotes (form_of b) nodes x (names_of b) c
+denotes_same : (nodes : List TermNode) (x : TermReading) (a b : Names) (c : Carried) → HaveSameTerms a b → Denotes (form_of a) nodes x (names_of a) c →
+    Denotes (form_of b) nodes x (names_of b) c
 denotes_same nodes x a b c h d =
-    subst (λ (z : walk.Names). Denotes (form_of b) nodes x z c) (terms_same a b h) (subst (λ (z : UnrolledProgram). Denotes z nodes x (names_of a) c) (forms_same a b (same_form a b h)) d)
+    subst (λ (z : walk.Names). Denotes (form_of b) nodes x z c) (terms_same a b h) (subst
+    (λ (z : UnrolledProgram). Denotes z nodes x (names_of a) c) (forms_same a b (same_form a b h)) d)
 
 pub copied_joined : (ns : List TermNode) (hit met : ℕ) (a n : Names) → AreTermsOf a ns a → HaveSameTerms a n → IsJoined a ns ns hit met a None n
 copied_joined ns hit met a n w h = record {
@@ -74,7 +92,8 @@ copied_joined ns hit met a n w h = record {
   inputs = inputs_none ns (λ m. ⊥);
   terms = record {
     same = same_form a n h;
-    names = subst (λ (z : walk.Names). AreNames (form_of n) ns z) (terms_same a n h) (subst (λ (z : UnrolledProgram). AreNames z ns (names_of a)) (forms_same a n (same_form a n h)) w.names);
+    names = subst (λ (z : walk.Names). AreNames (form_of n) ns z) (terms_same a n h) (subst
+        (λ (z : UnrolledProgram). AreNames z ns (names_of a)) (forms_same a n (same_form a n h)) w.names);
   };
   first = λ x r q c d. denotes_same ns x a n c h d;
   second = λ x r q m c d. absurd (no d.names d.is);

@@ -40,7 +40,8 @@ module _ {old new : List TermNode} {g l st j n : ℕ} (grew : Grew old new g l s
     memory = grew_width old new g l st j n 0 (names_of m).memory grew h.memory;
   }
 
-  pub denotes_keep : (x : TermReading) (m : Names) (c : Carried) → AreNames (form_of m) old (names_of m) → Denotes (form_of m) old x (names_of m) c → Denotes (form_of m) new x (names_of m) c
+  pub denotes_keep : (x : TermReading) (m : Names) (c : Carried) → AreNames (form_of m) old (names_of m) → Denotes (form_of m) old x (names_of m) c →
+      Denotes (form_of m) new x (names_of m) c
   denotes_keep x m c h d = record {
     registers = λ i k. word_keeps x (slice_index (names_of m).registers i) (h.words i k).0 ∙ d.registers i k;
     flags = λ f k. word_keeps x (slice_index (names_of m).flags f) (h.bits f k).0 ∙ d.flags f k;
@@ -64,7 +65,8 @@ module _ {old new : List TermNode} {g l st j n : ℕ} (grew : Grew old new g l s
     turns = grew_width old new g l st j n 1 s.turns.0 grew w.turns;
   }
 
-  pub carried_keep : (s : Sweep) (x : TermReading) (i : ℕ) (c : Carried) → AreWell old s → AreCarried old x (slice_get s.states.items i) c → AreCarried new x (slice_get s.states.items i) c
+  pub carried_keep : (s : Sweep) (x : TermReading) (i : ℕ) (c : Carried) → AreWell old s → AreCarried old x (slice_get s.states.items i) c →
+      AreCarried new x (slice_get s.states.items i) c
   carried_keep s x i c w k = record { names = k.names; is = k.is; denotes = denotes_keep x k.names c (w.states i k.names k.is).names k.denotes }
 
   pub shows_keep : (s : Sweep) (from : ℕ) (x : TermReading) (h : Held) → AreWell old s → ShowsAt old s from x h → ShowsAt new s from x h
@@ -80,7 +82,8 @@ truth true = inl refl
 truth false = inr refl
 
 -- with other ends
-pub well_ends : (nodes : List TermNode) (s : Sweep) (f t : Term) → AreWell nodes s → HasWidth nodes 1 f.0 → HasWidth nodes 1 t.0 → AreWell nodes (record s { fails = f; turns = t })
+pub well_ends : (nodes : List TermNode) (s : Sweep) (f t : Term) → AreWell nodes s → HasWidth nodes 1 f.0 → HasWidth nodes 1 t.0 →
+    AreWell nodes (record s { fails = f; turns = t })
 well_ends nodes s f t w hf ht = record {
   typed = w.typed;
   entry = w.entry;
@@ -94,6 +97,7 @@ well_ends nodes s f t w hf ht = record {
   turns = ht;
 }
 
-pub shows_ends : (nodes : List TermNode) (s : Sweep) (from : ℕ) (x : TermReading) (h : Held) (f t : Term) (bf bt : Bool) → ShowsAt nodes s from x h → Tells nodes x f.0 bf → Tells nodes x t.0 bt →
+pub shows_ends : (nodes : List TermNode) (s : Sweep) (from : ℕ) (x : TermReading) (h : Held) (f t : Term) (bf bt : Bool) → ShowsAt nodes s from x h →
+    Tells nodes x f.0 bf → Tells nodes x t.0 bt →
     ShowsAt nodes (record s { fails = f; turns = t }) from x (record h { fails = bf; turns = bt })
 shows_ends nodes s from x h f t bf bt k hf ht = record { mets = k.mets; carries = k.carries; failing = hf; turning = ht }

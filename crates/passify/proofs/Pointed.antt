@@ -54,7 +54,14 @@ use Rattle.passify.proofs.Standing.{placed_is, points_length, point_terms, one_o
 
 -- a reading is in range
 reading_range : (u : UnrolledProgram) (r : Reading) → IsReading r → InRange (term_reading u r)
-reading_range u r i = record { regs = i.state.regs; flags = i.state.flags; mem = i.state.mem; choice = λ j. i.choice (point_at u j).point; base = λ j. omega arith }
+reading_range u r i = record {
+  regs = i.state.regs;
+  flags = i.state.flags;
+  mem = i.state.mem;
+  choice = λ j. i.choice (point_at u j).point;
+  base =
+      λ j. omega arith;
+}
 
 -- the size of a state's terms
 pub sized_for : (u : UnrolledProgram) (a b c : Names) → IsSized u → AreFor u a → HaveSameForm a b → HaveSameForm b c → AreSized (variables_of u) c
@@ -66,7 +73,8 @@ sized_for u a b c s f h k =
     record { bits = omega (arith, r, g, m, o); terms = omega (arith, r, g); enough = omega (arith, n) }
 
 -- a place of which nothing is tried
-pub row_none : (u : Unrolled) (place : ℕ) (n : Names) (ns : List TermNode) (s : Sweep) (rest : ℕ) → AreWell ns s → HasWidth ns 1 rest → (own_code u place).list ≡ None →
+pub row_none : (u : Unrolled) (place : ℕ) (n : Names) (ns : List TermNode) (s : Sweep) (rest : ℕ) → AreWell ns s → HasWidth ns 1 rest →
+    (own_code u place).list ≡ None →
     ArePaid u place 0 0 0 0 0 → IsRowTried u place n ns ns s s rest rest
 row_none u place n ns s rest w wr none paid = record {
   gates = 0;
@@ -87,7 +95,8 @@ row_none u place n ns s rest w wr none paid = record {
   few_nodes = paid.few_nodes;
   bit = wr;
   tries = λ x r entry en c den before after p.
-      subst (λ (o : Option (Vec Stmt)). IsPending ns s (suc place) x rest before after (goes (situation_at (unrolled_of u) (placed u place) entry (x.choice place) c)
+      subst (λ (o : Option (Vec Stmt)). IsPending ns s (suc place) x rest before after
+      (goes (situation_at (unrolled_of u) (placed u place) entry (x.choice place) c)
       (row_exits (own_code u place).fetchable o (own_edges u place)) before)) none p;
 }
 
@@ -104,10 +113,12 @@ pub gone_at : (u : Unrolled) (place : ℕ) (c d : List TermNode) (to jumped targ
     Makes c d 32 3 32 to (λ x. (j : Bool) → Tells c x jumped j → term_word x d to ≡ (if j then term_word x c target else add 32 k.at 4)) →
     Makes c d 32 3 32 to (λ x. (j : Bool) → Tells c x jumped j → term_word x d to ≡ (if j then term_word x c target else add 32 (own_code u place).at 4))
 gone_at u place c d to jumped target k e m =
-    subst (λ (q : Code). Makes c d 32 3 32 to (λ x. (j : Bool) → Tells c x jumped j → term_word x d to ≡ (if j then term_word x c target else add 32 q.at 4))) e m
+    subst (λ (q : Code). Makes c d 32 3 32 to (λ x. (j : Bool) → Tells c x jumped j →
+    term_word x d to ≡ (if j then term_word x c target else add 32 q.at 4))) e m
 
 -- What is made of a row: its list, its bits and its exits.
-pub record RowMade (u : Unrolled) (place : ℕ) (n : Names) (a b c d e f : List TermNode) (s z : Sweep) (rest last : ℕ) (list : Vec Stmt) (items : List Stmt) (l : Left)
+pub record RowMade (u : Unrolled) (place : ℕ) (n : Names) (a b c d e f : List TermNode) (s z : Sweep) (rest last : ℕ) (list : Vec Stmt) (items : List Stmt)
+    (l : Left)
     (stored : List Stored) (wrote odd : ℕ) (next : Now) (to link : ℕ) (lines : List NoteLine) (edges : List Edge) : Type 0 where
   pub walkable : IsWalkable (unrolled_of u)
   pub formed : IsFormed u
@@ -123,7 +134,8 @@ pub record RowMade (u : Unrolled) (place : ℕ) (n : Names) (a b c d e f : List 
   pub edges_are : edges ≡ own_edges u place
   pub left : IsLeft a b place n (statements items) l
   pub kept : TellsKept b c stored (unrolled_of u).kept wrote
-  pub gone : Makes c d 32 3 32 to (λ x. (j : Bool) → Tells c x l.jumped.0 j → term_word x d to ≡ (if j then term_word x c l.target.0 else add 32 (own_code u place).at 4))
+  pub gone : Makes c d 32 3 32 to (λ x. (j : Bool) → Tells c x l.jumped.0 j →
+      term_word x d to ≡ (if j then term_word x c l.target.0 else add 32 (own_code u place).at 4))
   pub off : Makes d e 2 5 1 odd (λ x. Tells e x odd (not (is_place (term_word x d to))))
   pub leaving : IsLeaving e f s z rest last u.big lines l.raised.0 wrote odd next l.jumped.0 link edges
   pub next_names : next.names.now ≡ l.names
@@ -131,36 +143,45 @@ pub record RowMade (u : Unrolled) (place : ℕ) (n : Names) (a b c d e f : List 
   pub link_is : link ≡ slice_index (names_of s.entry).registers (u.link - s.entry.first)
 
 -- so the row is tried
-pub row_from : (u : Unrolled) (place : ℕ) (n : Names) (a b c d e f : List TermNode) (s z : Sweep) (rest last : ℕ) (list : Vec Stmt) (items : List Stmt) (l : Left)
+pub row_from : (u : Unrolled) (place : ℕ) (n : Names) (a b c d e f : List TermNode) (s z : Sweep) (rest last : ℕ) (list : Vec Stmt) (items : List Stmt)
+    (l : Left)
     (stored : List Stored) (wrote odd : ℕ) (next : Now) (to link : ℕ) (lines : List NoteLine) (edges : List Edge) →
     RowMade u place n a b c d e f s z rest last list items l stored wrote odd next to link lines edges → IsRowTried u place n a f s z rest last
 row_from u place n a b c d e f s z rest last list items l stored wrote odd next to link lines edges k =
     let m1 : IsLeft a b place n (statements list.items) l = subst (λ (q : List Stmt). IsLeft a b place n (statements q) l) k.items_are k.left in
-    let m2 : TellsKept b c l.stored.items (unrolled_of u).kept wrote = subst (λ (q : List Stored). TellsKept b c q (unrolled_of u).kept wrote) k.stored_are k.kept in
+    let m2 : TellsKept b c l.stored.items (unrolled_of u).kept wrote = subst
+    (λ (q : List Stored). TellsKept b c q (unrolled_of u).kept wrote) k.stored_are k.kept in
     let v : IsLeaving e f s z rest last u.big (unrolled_of u).ensures l.raised.0 wrote odd next l.jumped.0 link (own_edges u place) =
     subst (λ (q : List Edge). IsLeaving e f s z rest last u.big (unrolled_of u).ensures l.raised.0 wrote odd next l.jumped.0 link q) k.edges_are
     (subst (λ (q : List NoteLine). IsLeaving e f s z rest last u.big q l.raised.0 wrote odd next l.jumped.0 link edges) k.lines_are k.leaving) in
     let runs : IsRunnable (unrolled_of u) (placed u place) (statements list.items) =
     subst (λ (q : Action). CanBeTerms (unrolled_of u) (placed u place) q) (ap action_of k.code) (point_terms u place k.walkable k.formed k.within) in
     let sized : AreSized (variables_of (unrolled_of u)) next.names.now =
-    subst (λ (m : Names). AreSized (variables_of (unrolled_of u)) m) (sym k.next_names) (sized_for (unrolled_of u) s.entry n l.names k.walkable.sized k.of.form k.names.same m1.form) in
+    subst (λ (m : Names). AreSized (variables_of (unrolled_of u)) m) (sym k.next_names)
+    (sized_for (unrolled_of u) s.entry n l.names k.walkable.sized k.of.form k.names.same m1.form) in
     let few = stored_few l.stored.items (λ t h. (m1.stores t h).some) in
     let bytes = m1.bytes in
-    let well : AreWell e s = well_keeps k.off.grew s k.off.typed (well_keeps k.gone.grew s k.gone.typed (well_keeps m2.grew s m2.typed (well_keeps m1.grew s m1.typed k.well))) in
-    row_led u place n a b c d e f s z rest last list l wrote odd next to link k.well k.rest_bit k.code (edges_later u place k.walkable k.formed k.within list k.code) m1 m2 k.gone
+    let well : AreWell e s = well_keeps k.off.grew s k.off.typed
+    (well_keeps k.gone.grew s k.gone.typed (well_keeps m2.grew s m2.typed (well_keeps m1.grew s m1.typed k.well))) in
+    row_led u place n a b c d e f s z rest last list l wrote odd next to link k.well k.rest_bit k.code
+    (edges_later u place k.walkable k.formed k.within list k.code) m1 m2 k.gone
     k.off v k.next_names k.next_pc
     (λ x r. ap (λ (i : ℕ). term_word x e i) k.link_is ∙ link_word e s well u.link (link_for u s k.walkable k.of) x r) runs.draws
-    (row_paid u place list k.code next.names.now (length l.stored.items) (length l.stored.items * length (unrolled_of u).kept) sized (one_out u place k.walkable k.formed k.within)
+    (row_paid u place list k.code next.names.now (length l.stored.items) (length l.stored.items * length (unrolled_of u).kept) sized
+    (one_out u place k.walkable k.formed k.within)
     (omega (arith, few, bytes)) refl
     runs.weight runs.loads runs.byte_stores)
 
 -- where there is no row, the price of the point pays for it
-pub none_priced : (u : Unrolled) (place : ℕ) → (own_code u place).list ≡ None → CanBeTerms (unrolled_of u) (placed u place) (placed u place).does → 64 ≤ (placed u place).row
+pub none_priced : (u : Unrolled) (place : ℕ) → (own_code u place).list ≡ None → CanBeTerms (unrolled_of u) (placed u place) (placed u place).does →
+    64 ≤ (placed u place).row
 none_priced u place none t =
-    let runs : IsRunnable (unrolled_of u) (placed u place) Empty = subst (λ (q : Action). CanBeTerms (unrolled_of u) (placed u place) q) (ap action_of none) t in
+    let runs : IsRunnable (unrolled_of u) (placed u place) Empty = subst
+    (λ (q : Action). CanBeTerms (unrolled_of u) (placed u place) q) (ap action_of none) t in
     let h = runs.weight in omega (arith, h)
 
-module _ (u : Unrolled) (place : ℕ) (n : Names) (a b c d e : List TermNode) (s s1 s2 z : Sweep) (met rest left v pc : ℕ) (asserts : List notes.Assert) (index : List (ℕ × ℕ))
+module _ (u : Unrolled) (place : ℕ) (n : Names) (a b c d e : List TermNode) (s s1 s2 z : Sweep) (met rest left v pc : ℕ) (asserts : List notes.Assert)
+    (index : List (ℕ × ℕ))
     (now : Now) (within : place < length u.points.items)
     (of : IsSweepOf u s) (w : AreWell a s) (names : AreTermsOf s.entry a n) (met_is : met ≡ term_at s.met.items place) (here : place < length s.met.items)
     (value : v ≡ (own_code u place).at)
@@ -173,7 +194,8 @@ module _ (u : Unrolled) (place : ℕ) (n : Names) (a b c d e : List TermNode) (s
   m2 =
       subst (λ (q : List (ℕ × ℕ)). LinesTried b c s s1 met rest u.big now (λ S. S.now) (assert_lines (notes_of u.notes.now).asserts q) []
       (goes_asserts (notes_of u.notes.now).asserts q) (goes_asserts (notes_of u.notes.now).asserts []))
-      index_are (subst (λ (q : List notes.Assert). LinesTried b c s s1 met rest u.big now (λ S. S.now) (assert_lines q index) [] (goes_asserts q index) (goes_asserts q []))
+      index_are (subst (λ (q : List notes.Assert). LinesTried b c s s1 met rest u.big now
+      (λ S. S.now) (assert_lines q index) [] (goes_asserts q index) (goes_asserts q []))
       lines_are tried)
 
   g1 : Grew a b 0 0 0 0 1
@@ -225,8 +247,10 @@ module _ (u : Unrolled) (place : ℕ) (n : Names) (a b c d e : List TermNode) (s
     shown =
         let p0 = pending_start a s (suc place) x met (h.met place) h go tells_met shows in
         let p1 = pending_keep a b 0 0 0 0 1 s (suc place) x met h (held_if (h.met place) go h) go g1 w met_width p0 in
-        let p2 = m2.tries x range (suc place) S there h (held_if (h.met place) go h) (row_exits (own_code u place).fetchable (own_code u place).list (own_edges u place)) p1 in
-        let p3 = m3.tries x range r.state (entry_is ∙ ap (state_at (at_entry x)) (sym m2.lines.steps.like.at)) (h.carried place) den_c h (held_if (h.met place) go h) p2 in
+        let p2 = m2.tries x range (suc place) S there h (held_if (h.met place) go h)
+        (row_exits (own_code u place).fetchable (own_code u place).list (own_edges u place)) p1 in
+        let p3 = m3.tries x range r.state (entry_is ∙ ap (state_at (at_entry x)) (sym m2.lines.steps.like.at)) (h.carried place) den_c h
+        (held_if (h.met place) go h) p2 in
         pending_end d e s2 z (suc place) x left h (held_if (h.met place) go h) S range hands p3
 
   steps1 : Steps a b s s 0 0 0 0 1 (λ m. ⊥)
@@ -241,16 +265,25 @@ module _ (u : Unrolled) (place : ℕ) (n : Names) (a b c d e : List TermNode) (s
   Drawn m = (m ≡ ChoiceNode place) × ((placed u place).draws ≡ true)
 
   more : (old new : List TermNode) (t y : Sweep) (g l st j k : ℕ) → Steps old new t y g l st j k (λ m. ⊥) → Steps old new t y g l st j k Drawn
-  more old new t y g l st j k q = record { grew = q.grew; inputs = inputs_more old new (λ m. ⊥) Drawn (λ m i f. absurd f) q.inputs; well = q.well; like = q.like }
+  more old new t y g l st j k q = record {
+    grew = q.grew;
+    inputs = inputs_more old new (λ m. ⊥) Drawn
+        (λ m i f. absurd f) q.inputs;
+    well = q.well;
+    like = q.like;
+  }
 
-  steps2 : Steps a c s s1 (0 + sum_by line_price (own_lines u place)) (0 + sum_by bytes_loaded (own_lines u place)) (0 + 0) (0 + 0) (1 + 4 * line_steps (own_lines u place)) (λ m. ⊥)
-  steps2 = steps_on a b c s s s1 (λ m. ⊥) 0 0 0 0 1 (sum_by line_price (own_lines u place)) (sum_by bytes_loaded (own_lines u place)) 0 0 (4 * line_steps (own_lines u place))
+  steps2 : Steps a c s s1 (0 + sum_by line_price (own_lines u place)) (0 + sum_by bytes_loaded (own_lines u place)) (0 + 0) (0 + 0)
+      (1 + 4 * line_steps (own_lines u place)) (λ m. ⊥)
+  steps2 = steps_on a b c s s s1 (λ m. ⊥) 0 0 0 0 1 (sum_by line_price (own_lines u place)) (sum_by bytes_loaded (own_lines u place)) 0 0
+      (4 * line_steps (own_lines u place))
       steps1 (lines_steps m2.lines)
 
   steps34 : Steps c e s1 z (m3.gates + 1) (m3.loads + 0) (m3.stores + 0) (m3.joins + 0) (m3.nodes + 2) Drawn
   steps34 = steps_on c d e s1 s2 z Drawn m3.gates m3.loads m3.stores m3.joins m3.nodes 1 0 0 0 2 m3.steps (more d e s2 z 1 0 0 0 2 m4)
 
-  steps_all : Steps a e s z (point_gates (unrolled_of u) (placed u place)) (point_loaded (unrolled_of u) (placed u place)) (placed u place).stores (point_joins (placed u place))
+  steps_all : Steps a e s z (point_gates (unrolled_of u) (placed u place)) (point_loaded (unrolled_of u) (placed u place)) (placed u place).stores
+      (point_joins (placed u place))
       (point_nodes (unrolled_of u) (placed u place)) Drawn
   steps_all =
       let t = steps_on a c e s s1 z Drawn (0 + sum_by line_price (own_lines u place)) (0 + sum_by bytes_loaded (own_lines u place)) (0 + 0) (0 + 0)
@@ -268,7 +301,8 @@ module _ (u : Unrolled) (place : ℕ) (n : Names) (a b c d e : List TermNode) (s
 
   pub handled : IsHandled u a e s z place n
   handled = record {
-    steps = subst (λ (q : UnrolledPoint). Steps a e s z (point_gates (unrolled_of u) q) (point_loaded (unrolled_of u) q) q.stores (point_joins q) (point_nodes (unrolled_of u) q)
+    steps = subst (λ (q : UnrolledPoint). Steps a e s z (point_gates (unrolled_of u) q) (point_loaded (unrolled_of u) q) q.stores (point_joins q)
+        (point_nodes (unrolled_of u) q)
         (λ m. (m ≡ ChoiceNode place) × (q.draws ≡ true)))
         (sym (placed_is u place within)) steps_all;
     shows = λ r reads begins h shows den.

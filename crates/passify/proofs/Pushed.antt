@@ -30,9 +30,16 @@ module _ (old new : List TermNode) (s : Sweep) (hit : ℕ) (t : Term) (w : AreWe
   pub fail_steps : Makes old new 1 2 1 t.0 (TellsByBoth (λ p q. p || q) old new s.fails.0 hit t.0) → Steps old new s (record s { fails = t }) 1 0 0 0 2 (λ m. ⊥)
   fail_steps k =
       let v = well_keeps k.grew s k.typed w in
-      record { grew = k.grew; inputs = k.inputs; well = well_ends new s t s.turns v k.width v.turns; like = record { entry = refl; pc = refl; at = refl; places = refl } }
+      record {
+        grew = k.grew;
+        inputs = k.inputs;
+        well = well_ends new s t s.turns v k.width v.turns;
+        like = record
+            { entry = refl; pc = refl; at = refl; places = refl };
+      }
 
-  pub fail_hands : Makes old new 1 2 1 t.0 (TellsByBoth (λ p q. p || q) old new s.fails.0 hit t.0) → Hands old new s (record s { fails = t }) hit (λ from x v b. HasEvent v)
+  pub fail_hands : Makes old new 1 2 1 t.0 (TellsByBoth (λ p q. p || q) old new s.fails.0 hit t.0) →
+      Hands old new s (record s { fails = t }) hit (λ from x v b. HasEvent v)
   fail_hands k x r from v b (e, is) tells h shows =
       subst (λ (z : Walk). ShowsAt new (record s { fails = t }) from x (held_if b (hand z h) h)) (sym is) (by b tells)
     where
@@ -42,16 +49,24 @@ module _ (old new : List TermNode) (s : Sweep) (hit : ℕ) (t : Term) (w : AreWe
           let done = shows_ends new s from x h t s.turns (h.fails || b) h.turns kept (k.holds x r h.fails b shows.failing q) kept.turning in
           last b done
         where
-          last : (b : Bool) → ShowsAt new (record s { fails = t }) from x (record h { fails = h.fails || b }) → ShowsAt new (record s { fails = t }) from x (held_if b (hand (WalkFails e) h) h)
+          last : (b : Bool) → ShowsAt new (record s { fails = t }) from x (record h { fails = h.fails || b }) →
+              ShowsAt new (record s { fails = t }) from x (held_if b (hand (WalkFails e) h) h)
           last true d = subst (λ (z : Bool). ShowsAt new (record s { fails = t }) from x (record h { fails = z })) (failed true h.fails) d
           last false d = subst (λ (z : Bool). ShowsAt new (record s { fails = t }) from x (record h { fails = z })) (failed false h.fails) d
 
   pub turn_steps : Makes old new 1 2 1 t.0 (TellsByBoth (λ p q. p || q) old new s.turns.0 hit t.0) → Steps old new s (record s { turns = t }) 1 0 0 0 2 (λ m. ⊥)
   turn_steps k =
       let v = well_keeps k.grew s k.typed w in
-      record { grew = k.grew; inputs = k.inputs; well = well_ends new s s.fails t v v.fails k.width; like = record { entry = refl; pc = refl; at = refl; places = refl } }
+      record {
+        grew = k.grew;
+        inputs = k.inputs;
+        well = well_ends new s s.fails t v v.fails k.width;
+        like = record
+            { entry = refl; pc = refl; at = refl; places = refl };
+      }
 
-  pub turn_hands : Makes old new 1 2 1 t.0 (TellsByBoth (λ p q. p || q) old new s.turns.0 hit t.0) → Hands old new s (record s { turns = t }) hit (λ from x v b. v ≡ WalkTurns)
+  pub turn_hands : Makes old new 1 2 1 t.0 (TellsByBoth (λ p q. p || q) old new s.turns.0 hit t.0) →
+      Hands old new s (record s { turns = t }) hit (λ from x v b. v ≡ WalkTurns)
   turn_hands k x r from v b is tells h shows =
       subst (λ (z : Walk). ShowsAt new (record s { turns = t }) from x (held_if b (hand z h) h)) (sym is) (by b tells)
     where
@@ -61,7 +76,8 @@ module _ (old new : List TermNode) (s : Sweep) (hit : ℕ) (t : Term) (w : AreWe
           let done = shows_ends new s from x h s.fails t h.fails (h.turns || b) kept kept.failing (k.holds x r h.turns b shows.turning q) in
           last b done
         where
-          last : (b : Bool) → ShowsAt new (record s { turns = t }) from x (record h { turns = h.turns || b }) → ShowsAt new (record s { turns = t }) from x (held_if b (hand WalkTurns h) h)
+          last : (b : Bool) → ShowsAt new (record s { turns = t }) from x (record h { turns = h.turns || b }) →
+              ShowsAt new (record s { turns = t }) from x (held_if b (hand WalkTurns h) h)
           last true d = subst (λ (z : Bool). ShowsAt new (record s { turns = t }) from x (record h { turns = z })) (failed true h.turns) d
           last false d = subst (λ (z : Bool). ShowsAt new (record s { turns = t }) from x (record h { turns = z })) (failed false h.turns) d
 
@@ -171,25 +187,30 @@ module _ (nodes : List TermNode) (s z : Sweep) (j : ℕ) (t : Term) (n : Names) 
     turns = subst (λ (e : Term). HasWidth nodes 1 e.0) (sym p.turns) w.turns;
   }
 
-  pub placed_shows : (from : ℕ) (x : TermReading) (h g : Held) → ShowsAt nodes s from x h → ((i : ℕ) → i ≢ j → (g.met i ≡ h.met i) × (g.carried i ≡ h.carried i)) → g.fails ≡ h.fails → g.turns ≡ h.turns →
+  pub placed_shows : (from : ℕ) (x : TermReading) (h g : Held) → ShowsAt nodes s from x h →
+      ((i : ℕ) → i ≢ j → (g.met i ≡ h.met i) × (g.carried i ≡ h.carried i)) → g.fails ≡ h.fails → g.turns ≡ h.turns →
       Tells nodes x t.0 (g.met j) → (g.met j ≡ true → Denotes (form_of n) nodes x (names_of n) (g.carried j)) → ShowsAt nodes z from x g
   placed_shows from x h g k others gf gt bit den = record {
     mets = λ i l. elim (same_or i) [
       | inl e ↦ subst (λ (q : ℕ). Tells nodes x (term_at z.met.items q) (g.met q)) (sym e) (subst (λ (q : ℕ). Tells nodes x q (g.met j)) (sym bit_here) bit)
-      | inr e ↦ (subst (λ (q : ℕ). Tells nodes x q (g.met i)) (sym (bit_there i e)) (subst (λ (q : Bool). Tells nodes x (term_at s.met.items i) q) (sym (others i e).0) (k.mets i (subst (λ (q : ℕ). i < q) met_length l))))
+      | inr e ↦ (subst (λ (q : ℕ). Tells nodes x q (g.met i)) (sym (bit_there i e)) (subst
+          (λ (q : Bool). Tells nodes x (term_at s.met.items i) q) (sym (others i e).0) (k.mets i (subst (λ (q : ℕ). i < q) met_length l))))
     ];
     carries = λ i f l m. elim (same_or i) [
       | inl e ↦ subst (λ (q : ℕ). AreCarried nodes x (slice_get z.states.items q) (g.carried q)) (sym e)
           (record { names = n; is = state_here; denotes = den (ap g.met (sym e) ∙ m) })
       | inr e ↦ (subst (λ (q : Option (Option Names)). AreCarried nodes x q (g.carried i)) (sym (state_there i e))
-          (subst (λ (q : Carried). AreCarried nodes x (slice_get s.states.items i) q) (sym (others i e).1) (k.carries i f (subst (λ (q : ℕ). i < q) met_length l) (sym (others i e).0 ∙ m))))
+          (subst (λ (q : Carried). AreCarried nodes x (slice_get s.states.items i) q) (sym (others i e).1) (k.carries i f (subst
+          (λ (q : ℕ). i < q) met_length l) (sym (others i e).0 ∙ m))))
     ];
     failing = subst (λ (e : Term). Tells nodes x e.0 g.fails) (sym p.fails) (subst (λ (q : Bool). Tells nodes x s.fails.0 q) (sym gf) k.failing);
     turning = subst (λ (e : Term). Tells nodes x e.0 g.turns) (sym p.turns) (subst (λ (q : Bool). Tells nodes x s.turns.0 q) (sym gt) k.turning);
   }
 
-module _ (old mid new : List TermNode) (s z : Sweep) (j hit : ℕ) (t : Term) (m n : Names) (state : Option Names) (w : AreWell old s) (at : slice_get s.states.items j ≡ Some state)
-    (hm : AreTermsOf s.entry old m) (joined : IsJoined m old mid hit (term_at s.met.items j) m state n) (lh : hit < length old) (k : Makes mid new 1 2 1 t.0 (TellsByBoth (λ p q. p || q) mid new (term_at s.met.items j) hit t.0))
+module _ (old mid new : List TermNode) (s z : Sweep) (j hit : ℕ) (t : Term) (m n : Names) (state : Option Names) (w : AreWell old s)
+    (at : slice_get s.states.items j ≡ Some state)
+    (hm : AreTermsOf s.entry old m) (joined : IsJoined m old mid hit (term_at s.met.items j) m state n) (lh : hit
+    < length old) (k : Makes mid new 1 2 1 t.0 (TellsByBoth (λ p q. p || q) mid new (term_at s.met.items j) hit t.0))
     (p : Placed s z j t n) where
   both_grew : Grew old new (bits_of m + 1) (0 + 0) (0 + 0) (1 + 0) (2 * terms_of m + 2)
   both_grew = grew_on old mid new (bits_of m) 0 0 1 (2 * terms_of m) 1 0 0 0 2 joined.grew k.grew
@@ -198,7 +219,8 @@ module _ (old mid new : List TermNode) (s z : Sweep) (j hit : ℕ) (t : Term) (m
   arrive_steps = record {
     grew = both_grew;
     inputs = inputs_on old mid new (λ q. ⊥) joined.inputs k.inputs;
-    well = placed_well new s z j t n p (well_keeps both_grew s k.typed w) k.width (terms_keep k.grew s.entry n (record { same = form_on s.entry m n hm.same joined.terms.same; names = joined.terms.names }));
+    well = placed_well new s z j t n p (well_keeps both_grew s k.typed w) k.width
+        (terms_keep k.grew s.entry n (record { same = form_on s.entry m n hm.same joined.terms.same; names = joined.terms.names }));
     like = record { entry = p.entry; pc = p.pc; at = p.at; places = met_length old s z j t n p w };
   }
 
@@ -213,7 +235,8 @@ module _ (old mid new : List TermNode) (s z : Sweep) (j hit : ℕ) (t : Term) (m
       was = shows.mets j p.within
 
       bit_is : (b : Bool) → Tells old x hit b → Tells new x t.0 (h.met j || b)
-      bit_is b q = k.holds x r (h.met j) b (tells_keep joined.grew x (term_at s.met.items j) (h.met j) (w.bits j p.within).0 was) (tells_keep joined.grew x hit b lh q)
+      bit_is b q = k.holds x r (h.met j) b (tells_keep joined.grew x (term_at s.met.items j) (h.met j) (w.bits j p.within).0 was)
+          (tells_keep joined.grew x hit b lh q)
 
       by : (b : Bool) → Tells old x hit b → (b ≡ true → Denotes (form_of m) old x (names_of m) c) → ShowsAt new z from x (held_if b (hand (WalkIsAt j c) h) h)
       by true q d =
@@ -225,10 +248,13 @@ module _ (old mid new : List TermNode) (s z : Sweep) (j hit : ℕ) (t : Term) (m
       by false q d =
           placed_shows new s z j t n p (well_keeps both_grew s k.typed w) from x h h kept (λ i ne. (refl, refl)) refl refl
           (subst (λ (y : Bool). Tells new x t.0 y) (or_false (h.met j)) (bit_is false q))
-          (λ e. denotes_keep k.grew x n (h.carried j) joined.terms.names (joined.second x r q (subst (λ (y : Bool). Tells old x (term_at s.met.items j) y) e was) (h.carried j) (subst (λ (y : Option (Option Names)). AreCarried old x y (h.carried j)) at (shows.carries j later p.within e))))
+          (λ e. denotes_keep k.grew x n (h.carried j) joined.terms.names (joined.second x r q (subst
+          (λ (y : Bool). Tells old x (term_at s.met.items j) y) e was) (h.carried j) (subst
+          (λ (y : Option (Option Names)). AreCarried old x y (h.carried j)) at (shows.carries j later p.within e))))
 
 -- the bit of a place
-pub met_bit : (old mid : List TermNode) (s : Sweep) (j : ℕ) (t d : Term) (g l st jn n : ℕ) → AreWell old s → j < length s.met.items → t ≡ get_or s.met.items j d → Grew old mid g l st jn n →
+pub met_bit : (old mid : List TermNode) (s : Sweep) (j : ℕ) (t d : Term) (g l st jn n : ℕ) → AreWell old s → j < length s.met.items →
+    t ≡ get_or s.met.items j d → Grew old mid g l st jn n →
     (t.0 ≡ term_at s.met.items j) × HasWidth mid 1 t.0
 met_bit old mid s j t d g l st jn n w lt e grew =
     let is : t.0 ≡ term_at s.met.items j = ap (λ q. q.0) (e ∙ other_default s.met.items j d (record { 0 = 0 }) lt) in
@@ -245,7 +271,8 @@ pub record Arrived (old mid new : List TermNode) (s : Sweep) (j hit : ℕ) (m n 
   pub joined : IsJoined m old mid hit here.0 m before n
   pub made : Makes mid new 1 2 1 t.0 (TellsByBoth (λ p q. p || q) mid new here.0 hit t.0)
 
-module _ (old mid new : List TermNode) (s z : Sweep) (j hit : ℕ) (names n : Names) (met t : Term) (state : Option Names) (a : Arrived old mid new s j hit names n met t state) (p : Placed s z j t n) where
+module _ (old mid new : List TermNode) (s z : Sweep) (j hit : ℕ) (names n : Names) (met t : Term) (state : Option Names)
+    (a : Arrived old mid new s j hit names n met t state) (p : Placed s z j t n) where
   is_met : met.0 ≡ term_at s.met.items j
   is_met = (met_bit old old s j met met 0 0 0 0 0 a.well a.place a.met (grew_none old)).0
 

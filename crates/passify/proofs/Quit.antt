@@ -25,7 +25,8 @@ use Rattle.passify.proofs.Lines.{event_by, steps_on}
 use Rattle.passify.proofs.Tried.{bit_false}
 
 -- what is pending stays so as the terms grow
-pub pending_keep : (old new : List TermNode) (g l st j n : ℕ) (s : Sweep) (from : ℕ) (x : TermReading) (rest : ℕ) (before after go : Held) → Grew old new g l st j n → AreWell old s
+pub pending_keep : (old new : List TermNode) (g l st j n : ℕ) (s : Sweep) (from : ℕ) (x : TermReading) (rest : ℕ) (before after go : Held) →
+    Grew old new g l st j n → AreWell old s
     → HasWidth old 1 rest →
     IsPending old s from x rest before after go → IsPending new s from x rest before after go
 pending_keep old new g l st j n s from x rest before after go grew w wr k = record {
@@ -36,7 +37,8 @@ pending_keep old new g l st j n s from x rest before after go grew w wr k = reco
 }
 
 -- a bit that says whether a place is met begins its exits
-pub pending_start : (nodes : List TermNode) (s : Sweep) (from : ℕ) (x : TermReading) (rest : ℕ) (b : Bool) (h go : Held) → Tells nodes x rest b → ShowsAt nodes s from x h →
+pub pending_start : (nodes : List TermNode) (s : Sweep) (from : ℕ) (x : TermReading) (rest : ℕ) (b : Bool) (h go : Held) → Tells nodes x rest b →
+    ShowsAt nodes s from x h →
     IsPending nodes s from x rest h (held_if b go h) go
 pending_start nodes s from x rest b h go tells shows = record { some = b; tells = tells; goes = λ e. ap (λ (q : Bool). held_if q go h) e; shows = by b }
   where
@@ -45,7 +47,8 @@ pending_start nodes s from x rest b h go tells shows = record { some = b; tells 
     by false = shows
 
 -- where no exit was taken, the jump is to no edge
-pub pending_end : (old new : List TermNode) (s z : Sweep) (from : ℕ) (x : TermReading) (left : ℕ) (before after : Held) (S : Situation) → InRange x → Hands old new s z left
+pub pending_end : (old new : List TermNode) (s z : Sweep) (from : ℕ) (x : TermReading) (left : ℕ) (before after : Held) (S : Situation) → InRange x →
+    Hands old new s z left
     (λ from x w b. HasEvent w) →
     IsPending old s from x left before after (goes S [] before) → ShowsAt new z from x after
 pending_end old new s z from x left before after S r hands k = by k.some k.tells k.goes k.shows
@@ -73,7 +76,8 @@ exits_end [] = refl
 exits_end (x ∷ xs) = ap (λ (l : List PointExit). x ∷ l) (exits_end xs)
 
 -- where a point goes on stays so as the terms grow
-pub goes_keep : (old new : List TermNode) (g l st j n : ℕ) (s z : Sweep) (big : Bool) (next : Now) (jumped link : ℕ) (x : TermReading) (S : Situation) → Grew old new g l st j n →
+pub goes_keep : (old new : List TermNode) (g l st j n : ℕ) (s z : Sweep) (big : Bool) (next : Now) (jumped link : ℕ) (x : TermReading) (S : Situation) →
+    Grew old new g l st j n →
     AreLike s z → AreTermsOf s.entry old next.names.now →
     HasWidth old 32 next.pc.0 → HasWidth old 1 jumped → HasWidth old 32 link → GoesHere old s big next jumped link x S → GoesHere new z big next jumped link x S
 goes_keep old new g l st j n s z big next jumped link x S grew like names pc wj wl f = record {
@@ -87,25 +91,33 @@ goes_keep old new g l st j n s z big next jumped link x S grew like names pc wj 
   there = record {
     endian = f.there.endian;
     entry = f.there.entry ∙ ap (state_at (at_entry x)) (sym like.at);
-    is = record { carried = denotes_keep grew x next.names.now (carried_of S.next) names.names f.there.is.carried; pc = word_keeps grew x next.pc.0 pc.0 ∙ f.there.is.pc };
+    is = record {
+      carried = denotes_keep grew x next.names.now
+          (carried_of S.next) names.names f.there.is.carried;
+      pc = word_keeps grew x next.pc.0 pc.0 ∙ f.there.is.pc;
+    };
   };
 }
 
 -- a step keeps the names
-pub names_step : (old new : List TermNode) (s z : Sweep) (g l st j k : ℕ) (more : TermNode → Type 0) (n : Names) → Steps old new s z g l st j k more → AreTermsOf s.entry old n →
+pub names_step : (old new : List TermNode) (s z : Sweep) (g l st j k : ℕ) (more : TermNode → Type 0) (n : Names) → Steps old new s z g l st j k more →
+    AreTermsOf s.entry old n →
     AreTermsOf z.entry new n
 names_step old new s z g l st j k more n p h = subst (λ (e : Names). AreTermsOf e new n) (sym p.like.entry) (terms_keep p.grew s.entry n h)
 
 -- three exits keep the names
-pub leave_names : (d0 d1 d2 d3 : List TermNode) (s0 s1 s2 s3 : Sweep) (n : Names) → AreTermsOf s0.entry d0 n → Steps d0 d1 s0 s1 3 0 0 0 8 (λ m. ⊥) → Steps d1 d2 s1 s2 3 0 0 0 8
+pub leave_names : (d0 d1 d2 d3 : List TermNode) (s0 s1 s2 s3 : Sweep) (n : Names) → AreTermsOf s0.entry d0 n → Steps d0 d1 s0 s1 3 0 0 0 8 (λ m. ⊥) →
+    Steps d1 d2 s1 s2 3 0 0 0 8
     (λ m. ⊥) → Steps d2 d3 s2 s3 3 0 0 0 8 (λ m. ⊥) →
     AreTermsOf s3.entry d3 n
 leave_names d0 d1 d2 d3 s0 s1 s2 s3 n h p q r =
     names_step d2 d3 s2 s3 3 0 0 0 8 (λ m. ⊥) n r (names_step d1 d2 s1 s2 3 0 0 0 8 (λ m. ⊥) n q (names_step d0 d1 s0 s1 3 0 0 0 8 (λ m. ⊥) n p h))
 
-module _ (d0 d1 d2 d3 d4 : List TermNode) (s0 s1 s2 s3 s4 : Sweep) (rest quiet kept aligned left : ℕ) (big : Bool) (lines : List NoteLine) (raise write off : ℕ) (next : Now)
+module _ (d0 d1 d2 d3 d4 : List TermNode) (s0 s1 s2 s3 s4 : Sweep) (rest quiet kept aligned left : ℕ) (big : Bool) (lines : List NoteLine) (raise write off : ℕ)
+    (next : Now)
     (jumped link : ℕ) (edges : List Edge)
-    (ww : HasWidth d0 1 write) (wo : HasWidth d0 1 off) (names : AreTermsOf s0.entry d0 next.names.now) (pc : HasWidth d0 32 next.pc.0) (wj : HasWidth d0 1 jumped)
+    (ww : HasWidth d0 1 write) (wo : HasWidth d0 1 off) (names : AreTermsOf s0.entry d0 next.names.now) (pc : HasWidth d0 32 next.pc.0)
+    (wj : HasWidth d0 1 jumped)
     (wl : HasWidth d0 32 link)
     (st1 : Steps d0 d1 s0 s1 3 0 0 0 8 (λ m. ⊥)) (tries1 : Tries d0 d1 s0 s1 rest quiet (λ x q. Tells d0 x raise q) (λ from x w b. HasEvent w))
     (narrows1 : Narrows d0 d1 rest quiet (λ x q. Tells d0 x raise q))
@@ -144,15 +156,20 @@ module _ (d0 d1 d2 d3 d4 : List TermNode) (s0 s1 s2 s3 s4 : Sweep) (rest quiet k
     abbrev behind3 : List PointExit
     behind3 = map edge_of edges
 
-    leave_tries : (from : ℕ) → AreLater from edges → S.program.ensures ≡ lines → (before after : Held) → IsPending d0 s0 from x rest before after (goes S (Raising ∷ behind1) before) →
+    leave_tries : (from : ℕ) → AreLater from edges → S.program.ensures ≡ lines → (before after : Held) →
+        IsPending d0 s0 from x rest before after (goes S (Raising ∷ behind1) before) →
         IsPending d4 s4 from x left before after (goes S [] before)
     leave_tries from later ensures before after p0 =
-        let p1 = tries1 x r from (WalkFails (raised_event S.leaving)) (is_raised S.leaving) (λ h. (fits h).raised) (λ b h. (raised_event S.leaving, refl)) before after
+        let p1 = tries1 x r from (WalkFails (raised_event S.leaving)) (is_raised S.leaving) (λ h. (fits h).raised)
+        (λ b h. (raised_event S.leaving, refl)) before after
         (goes S (Raising ∷ behind1) before) (goes S behind1 before)
-        (event_by (is_raised S.leaving) S.program S.entry S.next (raised_event S.leaving) (first_aim S.program S.entry S.now S.writes_kept S.leaving behind1) before) p0 in
-        let p2 = tries2 x r from (WalkFails CodeWritten) S.writes_kept takes2 (λ b h. (CodeWritten, refl)) before after (goes S behind1 before) (goes S behind2 before)
+        (event_by (is_raised S.leaving) S.program S.entry S.next (raised_event S.leaving)
+        (first_aim S.program S.entry S.now S.writes_kept S.leaving behind1) before) p0 in
+        let p2 = tries2 x r from (WalkFails CodeWritten) S.writes_kept takes2
+        (λ b h. (CodeWritten, refl)) before after (goes S behind1 before) (goes S behind2 before)
         (event_by S.writes_kept S.program S.entry S.next CodeWritten (first_aim S.program S.entry S.now S.writes_kept S.leaving behind2) before) p1 in
-        let p3 = tries3 x r from (WalkFails AlignFails) (is_unaligned S.leaving) takes3 (λ b h. (AlignFails, refl)) before after (goes S behind2 before) (goes S behind3 before)
+        let p3 = tries3 x r from (WalkFails AlignFails) (is_unaligned S.leaving) takes3
+        (λ b h. (AlignFails, refl)) before after (goes S behind2 before) (goes S behind3 before)
         (event_by (is_unaligned S.leaving) S.program S.entry S.next AlignFails (first_aim S.program S.entry S.now S.writes_kept S.leaving behind3) before) p2 in
         tried.tries x r from later S ensures takes4 before after []
         (subst (λ (xs : List PointExit). IsPending d3 s3 from x aligned before after (goes S xs before)) (sym (exits_end behind3)) p3)

@@ -18,19 +18,22 @@ product_back : (a b k : ℕ) → k * (a + b) ≡ k * a + k * b
 product_back a b k = omega arith
 
 module _ (u : UnrolledProgram) where
-  lines_sum : (f : Expr → ℕ) (q : UnrolledPoint) (ps : List UnrolledPoint) → sum_by f (flat_map (lines_at u) (q ∷ ps)) ≡ sum_by f (lines_at u q) + sum_by f (flat_map (lines_at u) ps)
+  lines_sum : (f : Expr → ℕ) (q : UnrolledPoint) (ps : List UnrolledPoint) →
+      sum_by f (flat_map (lines_at u) (q ∷ ps)) ≡ sum_by f (lines_at u q) + sum_by f (flat_map (lines_at u) ps)
   lines_sum f q ps = sum_by-append f (lines_at u q) (flat_map (lines_at u) ps)
 
   gates_sum : (ps : List UnrolledPoint) →
       sum_by (point_gates u) ps
-      ≡ sum_by (λ q. q.row) ps + 1280 * sum_by (λ q. sum_by is_edge q.exits) ps + sum_by line_price (flat_map (lines_at u) ps) + 128 * (sum_by (λ q. q.stores) ps * length u.kept)
+      ≡ sum_by (λ q. q.row) ps + 1280 * sum_by (λ q. sum_by is_edge q.exits) ps + sum_by line_price (flat_map (lines_at u) ps) + 128 * (sum_by
+      (λ q. q.stores) ps * length u.kept)
   gates_sum [] = let e : 0 ≡ 0 + 128 * (0 * length u.kept) = omega arith in e
   gates_sum (q ∷ ps) =
       let a = sum_by-cons (point_gates u) q ps in
       let b = sum_by-cons (λ (p : UnrolledPoint). p.row) q ps in
       let c = sum_by-cons (λ (p : UnrolledPoint). sum_by is_edge p.exits) q ps in
       let d = lines_sum line_price q ps in
-      let e = ap (λ z. z * length u.kept) (sum_by-cons (λ (p : UnrolledPoint). p.stores) q ps) ∙ product_on q.stores (sum_by (λ p. p.stores) ps) (length u.kept) in
+      let e = ap (λ z. z * length u.kept) (sum_by-cons (λ (p : UnrolledPoint). p.stores) q ps) ∙ product_on q.stores (sum_by
+      (λ p. p.stores) ps) (length u.kept) in
       omega (arith, gates_sum ps, a, b, c, d, e)
 
   loads_sum : (ps : List UnrolledPoint) → sum_by (point_loaded u) ps ≡ sum_by (λ q. q.loads) ps + sum_by bytes_loaded (flat_map (lines_at u) ps)
@@ -61,7 +64,8 @@ module _ (u : UnrolledProgram) where
       let c = ap (λ z. variables_of u * z) (sum_by-cons (λ (p : UnrolledPoint). sum_by is_edge p.exits) q ps)
       ∙ product_back (sum_by is_edge q.exits) (sum_by (λ p. sum_by is_edge p.exits) ps) (variables_of u) in
       let d = lines_sum (λ e. line_size e + 4) q ps in
-      let e = ap (λ z. z * length u.kept) (sum_by-cons (λ (p : UnrolledPoint). p.stores) q ps) ∙ product_on q.stores (sum_by (λ p. p.stores) ps) (length u.kept) in
+      let e = ap (λ z. z * length u.kept) (sum_by-cons (λ (p : UnrolledPoint). p.stores) q ps) ∙ product_on q.stores (sum_by
+      (λ p. p.stores) ps) (length u.kept) in
       omega (arith, nodes_sum ps, a, b, c, d, e)
 
   -- one point more is paid for

@@ -58,7 +58,8 @@ record LeftAs (nodes : List TermNode) (x : TermReading) (l : Left) (behind : ℕ
   gone : is_raised L ≡ false → GoneAs nodes x l behind L
 
 module _ (nodes : List TermNode) (x : TermReading) (l : Left) (q : UnrolledPoint) where
-  left_on : (j : Option ℕ) (c : Carried) → term_word x nodes l.raised.0 ≡ 0 → Jumps nodes x l.jumped.0 l.target.0 j → Denotes (form_of l.names) nodes x (names_of l.names) c →
+  left_on : (j : Option ℕ) (c : Carried) → term_word x nodes l.raised.0 ≡ 0 → Jumps nodes x l.jumped.0 l.target.0 j →
+      Denotes (form_of l.names) nodes x (names_of l.names) c →
       LeftAs nodes x l (add 32 q.point.at q.length) (goes_on q j c)
   left_on None c r h d = record {
     raises = r;
@@ -73,7 +74,11 @@ module _ (nodes : List TermNode) (x : TermReading) (l : Left) (q : UnrolledPoint
           = d;
     };
   }
-  left_on (Some a) c r h d = record { raises = r; gone = λ e. record { by_jump = true; goes_to = a; carried = c; is = refl; tells = h.0; address = sym h.1; denotes = d } }
+  left_on (Some a) c r h d = record {
+    raises = r;
+    gone = λ e. record
+        { by_jump = true; goes_to = a; carried = c; is = refl; tells = h.0; address = sym h.1; denotes = d };
+  }
 
   left_as : (e : Ending) → AreLeft nodes x l e → LeftAs nodes x l (add 32 q.point.at q.length) (leaving_by q e)
   left_as (Ends p) h = left_on p.jump (record { regs = p.env.regs; flags = p.env.flags; mem = p.env.mem }) h.0 h.1 h.2
@@ -81,13 +86,16 @@ module _ (nodes : List TermNode) (x : TermReading) (l : Left) (q : UnrolledPoint
   left_as (OutOfTurns p) h = absurd h
   left_as Wrong h = absurd h
 
-module _ (u : Unrolled) (place : ℕ) (n : Names) (a b c d e f : List TermNode) (s z : Sweep) (rest last : ℕ) (list : Vec Stmt) (l : Left) (wrote odd : ℕ) (next : Now) (to link : ℕ)
+module _ (u : Unrolled) (place : ℕ) (n : Names) (a b c d e f : List TermNode) (s z : Sweep) (rest last : ℕ) (list : Vec Stmt) (l : Left) (wrote odd : ℕ)
+    (next : Now) (to link : ℕ)
     (w : AreWell a s) (wr : HasWidth a 1 rest) (code : (own_code u place).list ≡ Some list) (later : AreLater (suc place) (own_edges u place))
     (m1 : IsLeft a b place n (statements list.items) l)
     (m2 : TellsKept b c l.stored.items (unrolled_of u).kept wrote)
-    (m3 : Makes c d 32 3 32 to (λ x. (j : Bool) → Tells c x l.jumped.0 j → term_word x d to ≡ (if j then term_word x c l.target.0 else add 32 (own_code u place).at 4)))
+    (m3 : Makes c d 32 3 32 to (λ x. (j : Bool) → Tells c x l.jumped.0 j →
+    term_word x d to ≡ (if j then term_word x c l.target.0 else add 32 (own_code u place).at 4)))
     (m4 : Makes d e 2 5 1 odd (λ x. Tells e x odd (not (is_place (term_word x d to)))))
-    (v : IsLeaving e f s z rest last u.big (unrolled_of u).ensures l.raised.0 wrote odd next l.jumped.0 link (own_edges u place)) (names : next.names.now ≡ l.names)
+    (v : IsLeaving e f s z rest last u.big (unrolled_of u).ensures l.raised.0 wrote odd next l.jumped.0 link (own_edges u place)) (names : next.names.now
+    ≡ l.names)
     (pc_is : next.pc.0 ≡ to)
     (link_is : (x : TermReading) → InRange x → term_word x e link ≡ x.regs u.link) where
   -- the list
@@ -100,7 +108,8 @@ module _ (u : Unrolled) (place : ℕ) (n : Names) (a b c d e f : List TermNode) 
 
   g12 : Grew a c (list_weight code_list + 98 * tests) (byte_loads code_list + 0) (byte_stores code_list + 0) (2 * byte_stores code_list + 0)
       (4 * list_size code_list + 8 + (1 + 10 * tests))
-  g12 = grew_on a b c (list_weight code_list) (byte_loads code_list) (byte_stores code_list) (2 * byte_stores code_list) (4 * list_size code_list + 8) (98 * tests) 0 0 0
+  g12 = grew_on a b c (list_weight code_list) (byte_loads code_list) (byte_stores code_list) (2 * byte_stores code_list) (4 * list_size code_list + 8)
+      (98 * tests) 0 0 0
       (1 + 10 * tests) m1.grew m2.grew
 
   g34 : Grew c e (32 + 2) (0 + 0) (0 + 0) (0 + 0) (3 + 5)
@@ -117,7 +126,8 @@ module _ (u : Unrolled) (place : ℕ) (n : Names) (a b c d e f : List TermNode) 
       (4 * list_size code_list + 8 + (1 + 10 * tests)) (32 + 2) (0 + 0) (0 + 0)
       (0 + 0) (3 + 5) g12 g34
 
-  module _ (x : TermReading) (r : InRange x) (entry : State) (en : entry ≡ state_at (at_entry x) s.at) (t : Carried) (den : Denotes (form_of n) a x (names_of n) t) where
+  module _ (x : TermReading) (r : InRange x) (entry : State) (en : entry
+      ≡ state_at (at_entry x) s.at) (t : Carried) (den : Denotes (form_of n) a x (names_of n) t) where
     abbrev S : Situation
     S = situation_at (unrolled_of u) (placed u place) entry (x.choice place) t
 
@@ -131,7 +141,8 @@ module _ (u : Unrolled) (place : ℕ) (n : Names) (a b c d e f : List TermNode) 
     leaves = ap (left_by (placed u place) (x.choice place) t) does
 
     left : LeftAs b x l (add 32 (own_code u place).at 4) S.leaving
-    left = subst (λ (z : Leaving). LeftAs b x l (add 32 (own_code u place).at 4) z) (sym leaves) (left_as b x l (placed u place) ending (m1.leaves x r t den (own_code u place).at))
+    left = subst (λ (z : Leaving). LeftAs b x l (add 32 (own_code u place).at 4) z) (sym leaves)
+        (left_as b x l (placed u place) ending (m1.leaves x r t den (own_code u place).at))
 
     stores_are : (y : ℕ) → Contains (stored_at (placed u place) (x.choice place) t) y ↔ IsStoredBy b x l.stored.items y
     stores_are y =
@@ -158,7 +169,8 @@ module _ (u : Unrolled) (place : ℕ) (n : Names) (a b c d e f : List TermNode) 
             endian = refl;
             entry = en;
             is = subst (λ (z : State). IsStateOf e x next (carried_of z) z.pc) (sym is_next) (record {
-              carried = subst (λ (m : Names). Denotes (form_of m) e x (names_of m) g.carried) (sym names) (denotes_keep g234 x l.names g.carried m1.names g.denotes);
+              carried = subst (λ (m : Names). Denotes (form_of m) e x (names_of m) g.carried) (sym names)
+                  (denotes_keep g234 x l.names g.carried m1.names g.denotes);
               pc = ap (λ (i : ℕ). term_word x e i) pc_is ∙ word_keeps m4.grew x to m3.width.0 ∙ address g;
             });
           };
@@ -174,14 +186,18 @@ module _ (u : Unrolled) (place : ℕ) (n : Names) (a b c d e f : List TermNode) 
     }
 
   pub row_tries : (x : TermReading) → InRange x → (entry : State) →
-      entry ≡ state_at (at_entry x) s.at → (t : Carried) → (term_word x a rest ≡ 1 → Denotes (form_of n) a x (names_of n) t) → (before after : Held) → IsPending a s (suc place) x
+      entry ≡ state_at (at_entry x) s.at → (t : Carried) → (term_word x a rest ≡ 1 → Denotes (form_of n) a x (names_of n) t) → (before after : Held) →
+      IsPending a s (suc place) x
       rest before after
-      (goes (situation_at (unrolled_of u) (placed u place) entry (x.choice place) t) (row_exits (own_code u place).fetchable (own_code u place).list (own_edges u place)) before) →
+      (goes (situation_at (unrolled_of u) (placed u place) entry (x.choice place) t)
+      (row_exits (own_code u place).fetchable (own_code u place).list (own_edges u place)) before) →
       IsPending f z (suc place) x last before after (goes (situation_at (unrolled_of u) (placed u place) entry (x.choice place) t) [] before)
   row_tries x r entry en t den before after p =
       let S = situation_at (unrolled_of u) (placed u place) entry (x.choice place) t in
-      let p' = pending_keep a e _ _ _ _ _ s (suc place) x rest before after (goes S (Raising ∷ WritingKept ∷ Unaligned ∷ map edge_of (own_edges u place)) before) row_grew w wr
-      (subst (λ (o : Option (Vec Stmt)). IsPending a s (suc place) x rest before after (goes S (row_exits (own_code u place).fetchable o (own_edges u place)) before)) code p) in
+      let p' = pending_keep a e _ _ _ _ _ s (suc place) x rest before after (goes S (Raising ∷ WritingKept ∷ Unaligned
+      ∷ map edge_of (own_edges u place)) before) row_grew w wr
+      (subst (λ (o : Option (Vec Stmt)). IsPending a s (suc place) x rest before after
+      (goes S (row_exits (own_code u place).fetchable o (own_edges u place)) before)) code p) in
       v.tries x r (suc place) later S refl (λ h. row_fits x r entry en t (den (sym (word_keeps row_grew x rest wr.0) ∙ h))) before after p'
 
   -- the choice is read where the row draws
@@ -198,10 +214,12 @@ module _ (u : Unrolled) (place : ℕ) (n : Names) (a b c d e f : List TermNode) 
       drawn (inr t) k = absurd (let z = dr t in omega (arith, z, k))
 
   pub row_steps : ((placed u place).draws ≡ false → unknowns code_list ≡ 0) →
-      Steps a f s z (list_weight code_list + 98 * tests + (32 + 2) + (9 + sum_by (λ e. 35 + aim_gates next.names.now (unrolled_of u).ensures e.aim) (own_edges u place)))
+      Steps a f s z (list_weight code_list + 98 * tests + (32 + 2) + (9 + sum_by
+      (λ e. 35 + aim_gates next.names.now (unrolled_of u).ensures e.aim) (own_edges u place)))
       (byte_loads code_list + 0 + (0 + 0) + sum_by (λ e. aim_loads (unrolled_of u).ensures e.aim) (own_edges u place)) (byte_stores code_list + 0 + (0 + 0) + 0)
       (2 * byte_stores code_list + 0 + (0 + 0) + sum_by (λ e. aim_joins e.aim) (own_edges u place))
-      (4 * list_size code_list + 8 + (1 + 10 * tests) + (3 + 5) + (24 + sum_by (λ e. 14 + aim_nodes next.names.now (unrolled_of u).ensures e.aim) (own_edges u place)))
+      (4 * list_size code_list + 8 + (1 + 10 * tests) + (3 + 5) + (24 + sum_by
+      (λ e. 14 + aim_nodes next.names.now (unrolled_of u).ensures e.aim) (own_edges u place)))
       (λ m. (m ≡ ChoiceNode place) × ((placed u place).draws ≡ true))
   row_steps dr = record {
     grew = grew_on a e f _ _ _ _ _ _ _ _ _ _ row_grew v.steps.grew;
@@ -213,17 +231,21 @@ module _ (u : Unrolled) (place : ℕ) (n : Names) (a b c d e f : List TermNode) 
 
   -- the row, within what is paid
   pub row_led : ((placed u place).draws ≡ false → unknowns code_list ≡ 0) →
-      ArePaid u place (list_weight code_list + 98 * tests + (32 + 2) + (9 + sum_by (λ e. 35 + aim_gates next.names.now (unrolled_of u).ensures e.aim) (own_edges u place)))
+      ArePaid u place (list_weight code_list + 98 * tests + (32 + 2) + (9 + sum_by
+      (λ e. 35 + aim_gates next.names.now (unrolled_of u).ensures e.aim) (own_edges u place)))
       (byte_loads code_list + 0 + (0 + 0) + sum_by (λ e. aim_loads (unrolled_of u).ensures e.aim) (own_edges u place)) (byte_stores code_list + 0 + (0 + 0) + 0)
       (2 * byte_stores code_list + 0 + (0 + 0) + sum_by (λ e. aim_joins e.aim) (own_edges u place))
-      (4 * list_size code_list + 8 + (1 + 10 * tests) + (3 + 5) + (24 + sum_by (λ e. 14 + aim_nodes next.names.now (unrolled_of u).ensures e.aim) (own_edges u place))) →
+      (4 * list_size code_list + 8 + (1 + 10 * tests) + (3 + 5) + (24 + sum_by
+      (λ e. 14 + aim_nodes next.names.now (unrolled_of u).ensures e.aim) (own_edges u place))) →
       IsRowTried u place n a f s z rest last
   row_led dr paid = record {
-    gates = list_weight code_list + 98 * tests + (32 + 2) + (9 + sum_by (λ (e : Edge). 35 + aim_gates next.names.now (unrolled_of u).ensures e.aim) (own_edges u place));
+    gates = list_weight code_list + 98 * tests + (32 + 2) + (9 + sum_by
+        (λ (e : Edge). 35 + aim_gates next.names.now (unrolled_of u).ensures e.aim) (own_edges u place));
     loads = byte_loads code_list + 0 + (0 + 0) + sum_by (λ (e : Edge). aim_loads (unrolled_of u).ensures e.aim) (own_edges u place);
     stores = byte_stores code_list + 0 + (0 + 0) + 0;
     joins = 2 * byte_stores code_list + 0 + (0 + 0) + sum_by (λ (e : Edge). aim_joins e.aim) (own_edges u place);
-    nodes = 4 * list_size code_list + 8 + (1 + 10 * tests) + (3 + 5) + (24 + sum_by (λ (e : Edge). 14 + aim_nodes next.names.now (unrolled_of u).ensures e.aim) (own_edges u place));
+    nodes = 4 * list_size code_list + 8 + (1 + 10 * tests) + (3 + 5) + (24 + sum_by
+        (λ (e : Edge). 14 + aim_nodes next.names.now (unrolled_of u).ensures e.aim) (own_edges u place));
     steps = row_steps dr;
     few_gates = paid.few_gates;
     few_loads = paid.few_loads;

@@ -45,14 +45,16 @@ pub points_length : (u : Unrolled) (ps : List Point) → length (points_of u ps)
 points_length u [] = refl
 points_length u (q ∷ ps) = ap suc (points_length u ps)
 
-looked_up : (u : Unrolled) (ps : List Point) (i : ℕ) (d : Point) → i < length ps → get_or (points_of u ps) i walk.no_point ≡ point_of u (get_or ps i d) (drop (suc i) ps)
+looked_up : (u : Unrolled) (ps : List Point) (i : ℕ) (d : Point) → i < length ps →
+    get_or (points_of u ps) i walk.no_point ≡ point_of u (get_or ps i d) (drop (suc i) ps)
 looked_up u [] i d h = absurd (omega arith)
 looked_up u (x ∷ ps) zero d h = refl
 looked_up u (x ∷ ps) (suc i) d h = looked_up u ps i d (omega arith)
 
 -- the point at a place
 pub placed_is : (u : Unrolled) (i : ℕ) → i < length u.points.items → point_at (unrolled_of u) i ≡ placed u i
-placed_is u i h = looked_up u u.points.items i no_point h ∙ ap (λ (z : ℕ). point_of u (own_point u i) (drop z u.points.items)) (let e : suc i ≡ i + 1 = omega arith in e)
+placed_is u i h = looked_up u u.points.items i no_point h ∙ ap
+    (λ (z : ℕ). point_of u (own_point u i) (drop z u.points.items)) (let e : suc i ≡ i + 1 = omega arith in e)
 
 -- an expression is read by registers and flags alone
 reads_by : (u v : UnrolledProgram) (e : Expr) → u.registers ≡ v.registers → u.flags ≡ v.flags → IsReadable u e → IsReadable v e
@@ -96,7 +98,8 @@ module _ (u : UnrolledProgram) (a b : Names) (f : AreFor u a) (h : HaveSameForm 
         names = subst (λ (g : BilVariable → Bool). list_names_only list g ≡ true) (fun_ext (λ x. variable_by u (form_of b) registers_for flags_for x)) r.names;
       }
 
-leads_place : (u : UnrolledProgram) (i n : ℕ) (f j : Bool) (t : Option ℕ) (a : Aim) → length u.points ≡ n → LeadsLater u i (Along f j t (aim_of a)) → IsPlaceOf n a
+leads_place : (u : UnrolledProgram) (i n : ℕ) (f j : Bool) (t : Option ℕ) (a : Aim) → length u.points ≡ n → LeadsLater u i (Along f j t (aim_of a)) →
+    IsPlaceOf n a
 leads_place u i n f j t (OnTo k) e h = subst (λ (m : ℕ). k < m) e h.1
 leads_place u i n f j t Outward e h = tt
 leads_place u i n f j t OverLast e h = tt
@@ -114,7 +117,8 @@ later_by u i (e ∷ es) h = (
       (λ x c. h x (suc c.0, (let l = c.1 in omega (arith, l)), c.2)),
 )
 
-places_by : (u : UnrolledProgram) (i n : ℕ) (es : List Edge) → length u.points ≡ n → ((x : PointExit) → Contains (map edge_of es) x → LeadsLater u i x) → (j : ℕ) (d : Edge) → j <
+places_by : (u : UnrolledProgram) (i n : ℕ) (es : List Edge) → length u.points ≡ n → ((x : PointExit) → Contains (map edge_of es) x → LeadsLater u i x) →
+    (j : ℕ) (d : Edge) → j <
     length es → IsPlaceOf n (get_or es j d).aim
 places_by u i n es e h j d l =
     let a = get_or es j d in
@@ -140,7 +144,8 @@ module _ (u : Unrolled) (i : ℕ) (walkable : IsWalkable (unrolled_of u)) (forme
   -- the edges of a row lead to later places
   edges_lead : (list : Vec Stmt) → (own_code u i).list ≡ Some list → (x : PointExit) → Contains (map edge_of (own_edges u i)) x → LeadsLater (unrolled_of u) i x
   edges_lead list e x c =
-      exits_later x (Contains-append_right (map (assert_exit (notes_of u.notes.now).asserts) (own_index u i)) (row_exits (own_code u i).fetchable (own_code u i).list (own_edges u i)) x
+      exits_later x (Contains-append_right (map (assert_exit (notes_of u.notes.now).asserts) (own_index u i))
+      (row_exits (own_code u i).fetchable (own_code u i).list (own_edges u i)) x
       (subst (λ (o : Option (Vec Stmt)). Contains (row_exits (own_code u i).fetchable o (own_edges u i)) x) (sym e)
       (Contains-append_right (Raising ∷ WritingKept ∷ Unaligned ∷ []) (map edge_of (own_edges u i)) x c)))
 
@@ -173,15 +178,21 @@ module _ (u : Unrolled) (i : ℕ) (walkable : IsWalkable (unrolled_of u)) (forme
   asserts_read s n k h j l =
       let asserts = (notes_of u.notes.now).asserts in
       let exit = assert_exit asserts (get_or (own_index u i) j (0, 0)) in
-      let among : Contains (map (assert_exit asserts) (own_index u i)) exit =
-      (j, (let m = length-map (own_index u i) (assert_exit asserts) in omega (arith, m, l)), get_or-map (assert_exit asserts) (own_index u i) j (0, 0) exit l) in
+      let among : Contains (map (assert_exit asserts) (own_index u i)) exit = (
+        j,
+        (let m = length-map (own_index u i) (assert_exit asserts)
+            in omega (arith, m, l)),
+        get_or-map (assert_exit asserts) (own_index u i) j (0, 0) exit l,
+      ) in
       let c : Contains (point_at (unrolled_of u) i).exits exit =
       subst (λ (q : UnrolledPoint). Contains q.exits exit) (sym (placed_is u i within))
       (Contains-append_left (map (assert_exit asserts) (own_index u i)) (row_exits (own_code u i).fetchable (own_code u i).list (own_edges u i)) exit among) in
-      reads_for (unrolled_of u) s.entry n k.form h (slice_index_or asserts (slice_index_or (own_index u i) j (0, 0)).1 no_assert).says (walkable.asserts i exit there c)
+      reads_for (unrolled_of u) s.entry n k.form h (slice_index_or asserts (slice_index_or (own_index u i) j (0, 0)).1 no_assert).says
+      (walkable.asserts i exit there c)
 
 -- the ensure lines can be read
-pub ensures_read : (u : Unrolled) (s : Sweep) (n : Names) → IsWalkable (unrolled_of u) → IsSweepOf u s → HaveSameForm s.entry n → (j : ℕ) → j < length u.notes.now.ensured.items →
+pub ensures_read : (u : Unrolled) (s : Sweep) (n : Names) → IsWalkable (unrolled_of u) → IsSweepOf u s → HaveSameForm s.entry n → (j : ℕ) →
+    j < length u.notes.now.ensured.items →
     IsReadable (form_of n) (slice_index_or (map note_line_of u.notes.now.ensured.items) j no_line).says
 ensures_read u s n walkable k h j l =
     let lines = map note_line_of u.notes.now.ensured.items in
@@ -211,11 +222,14 @@ module _ (nodes : List TermNode) (s : Sweep) (w : AreWell nodes s) (link : ℕ) 
       (w.denotes x r).registers (link - s.entry.first) link_place ∙ ap x.regs at
 
 -- what is read at a place is its own code
-pub own_is : (u : Unrolled) (i : ℕ) (q : Point) (k : Code) → IsFormed u → i < length u.points.items → q ≡ get_or u.points.items i q → k ≡ get_or u.codes.items q.code k → k ≡ own_code u i
+pub own_is : (u : Unrolled) (i : ℕ) (q : Point) (k : Code) → IsFormed u → i < length u.points.items → q ≡ get_or u.points.items i q →
+    k ≡ get_or u.codes.items q.code k → k ≡ own_code u i
 own_is u i q k formed within at is =
     let p : q ≡ own_point u i = at ∙ other_default u.points.items i q no_point within in
     is ∙ ap (λ (x : Point). get_or u.codes.items x.code k) p ∙ other_default u.codes.items (own_point u i).code k no_code (formed.codes i no_point within)
 
 -- its assert lines by address
-pub index_is : (u : Unrolled) (i : ℕ) (k : Code) (items : List (ℕ × ℕ)) → k ≡ own_code u i → items ≡ u.asserts.items → slice_range items k.asserts.0 k.asserts.1 ≡ own_index u i
-index_is u i k items e f = ap (λ (z : Code). slice_range items z.asserts.0 z.asserts.1) e ∙ ap (λ (l : List (ℕ × ℕ)). slice_range l (own_code u i).asserts.0 (own_code u i).asserts.1) f
+pub index_is : (u : Unrolled) (i : ℕ) (k : Code) (items : List (ℕ × ℕ)) → k ≡ own_code u i → items ≡ u.asserts.items →
+    slice_range items k.asserts.0 k.asserts.1 ≡ own_index u i
+index_is u i k items e f = ap (λ (z : Code). slice_range items z.asserts.0 z.asserts.1) e ∙ ap
+    (λ (l : List (ℕ × ℕ)). slice_range l (own_code u i).asserts.0 (own_code u i).asserts.1) f

@@ -28,18 +28,22 @@ exit_by false u entry next a b h = refl
 
 -- an edge before others
 edge_by : (e : Edge) (xs : List PointExit) (S : Situation) (h : Held) →
-    goes S (edge_of e ∷ xs) h ≡ held_if (goes_along S.program S.entry e.falls e.jumps e.to S.leaving) (hand (walk_to S.program S.entry S.next (aim_of e.aim)) h) (goes S xs h)
+    goes S (edge_of e ∷ xs) h ≡ held_if (goes_along S.program S.entry e.falls e.jumps e.to S.leaving) (hand (walk_to S.program S.entry S.next (aim_of e.aim)) h)
+    (goes S xs h)
 edge_by e xs S h = exit_by (goes_along S.program S.entry e.falls e.jumps e.to S.leaving) S.program S.entry S.next (aim_of e.aim) _ h
 
 address_is : (to : Option ℕ) (u : UnrolledProgram) (entry : State) (link : ℕ) → link ≡ entry.regs u.link → edge_address u entry to ≡ edge_word to link
 address_is None u entry link e = sym e
 address_is (Some a) u entry link e = refl
 
-module _ (old cur new : List TermNode) (s z y : Sweep) (rest left last : ℕ) (big : Bool) (lines : List NoteLine) (next : Now) (jumped link : ℕ) (all others : List Edge) (e : Edge) (w : AreWell old s)
+module _ (old cur new : List TermNode) (s z y : Sweep) (rest left last : ℕ) (big : Bool) (lines : List NoteLine) (next : Now) (jumped link : ℕ)
+    (all others : List Edge) (e : Edge) (w : AreWell old s)
     (names : AreTermsOf s.entry old next.names.now) (pc : HasWidth old 32 next.pc.0) (wj : HasWidth old 1 jumped) (wl : HasWidth old 32 link)
     (k : EdgesTried old cur s z rest left big lines next jumped link all (e ∷ others))
-    (steps : Steps cur new z y (35 + aim_gates next.names.now lines e.aim) (aim_loads lines e.aim) 0 (aim_joins e.aim) (14 + aim_nodes next.names.now lines e.aim) (λ m. ⊥)) (bit : HasWidth new 1 last)
-    (tries : Tries cur new z y left last (TakesEdge cur e jumped next.pc.0 link) (Follows cur z big lines next e.aim)) (narrows : Narrows cur new left last (λ x q. Unit {0})) where
+    (steps : Steps cur new z y (35 + aim_gates next.names.now lines e.aim) (aim_loads lines e.aim) 0 (aim_joins e.aim)
+    (14 + aim_nodes next.names.now lines e.aim) (λ m. ⊥)) (bit : HasWidth new 1 last)
+    (tries : Tries cur new z y left last (TakesEdge cur e jumped next.pc.0 link) (Follows cur z big lines next e.aim)) (narrows : Narrows cur new left last
+    (λ x q. Unit {0})) where
   grew : Grew old cur k.edges.gates k.edges.loads 0 k.edges.joins k.edges.nodes
   grew = k.edges.steps.grew
 
@@ -50,14 +54,16 @@ module _ (old cur new : List TermNode) (s z y : Sweep) (rest left last : ℕ) (b
     is = record { carried = denotes_keep grew x next.names.now (carried_of S.next) names.names f.is.carried; pc = word_keeps grew x next.pc.0 pc.0 ∙ f.is.pc };
   }
 
-  takes_by : (x : TermReading) (S : Situation) → GoesHere old s big next jumped link x S → TakesEdge cur e jumped next.pc.0 link x (goes_along S.program S.entry e.falls e.jumps e.to S.leaving)
+  takes_by : (x : TermReading) (S : Situation) → GoesHere old s big next jumped link x S →
+      TakesEdge cur e jumped next.pc.0 link x (goes_along S.program S.entry e.falls e.jumps e.to S.leaving)
   takes_by x S f = record {
     by_jump = f.jumps;
     tells = tells_keep grew x jumped f.jumps wj.0 f.tells;
     is =
         ap (goes_along S.program S.entry e.falls e.jumps e.to) f.leaving
         ∙ ap (λ q. (if f.jumps then e.jumps else e.falls) && (f.to == q)) (address_is e.to S.program S.entry (term_word x old link) f.link_word)
-        ∙ ap (λ q. edge_test e f.jumps q (term_word x old link)) (sym (word_keeps grew x next.pc.0 pc.0 ∙ f.there.is.pc ∙ ap (λ (q : State). q.pc) f.next_state))
+        ∙ ap (λ q. edge_test e f.jumps q (term_word x old link)) (sym (word_keeps grew x next.pc.0 pc.0 ∙ f.there.is.pc ∙ ap
+        (λ (q : State). q.pc) f.next_state))
         ∙ ap (edge_test e f.jumps (term_word x cur next.pc.0)) (sym (word_keeps grew x link wl.0));
   }
 
@@ -68,7 +74,8 @@ module _ (old cur new : List TermNode) (s z y : Sweep) (rest left last : ℕ) (b
       loads = k.edges.loads + aim_loads lines e.aim;
       joins = k.edges.joins + aim_joins e.aim;
       nodes = k.edges.nodes + (14 + aim_nodes next.names.now lines e.aim);
-      steps = steps_on old cur new s z y (λ m. ⊥) k.edges.gates k.edges.loads 0 k.edges.joins k.edges.nodes (35 + aim_gates next.names.now lines e.aim) (aim_loads lines e.aim) 0 (aim_joins e.aim)
+      steps = steps_on old cur new s z y (λ m. ⊥) k.edges.gates k.edges.loads 0 k.edges.joins k.edges.nodes (35 + aim_gates next.names.now lines e.aim)
+          (aim_loads lines e.aim) 0 (aim_joins e.aim)
           (14 + aim_nodes next.names.now lines e.aim) k.edges.steps steps;
       few_gates = omega (arith, k.edges.few_gates, sum_by-cons (λ i. 35 + aim_gates next.names.now lines i.aim) e others);
       few_loads = omega (arith, k.edges.few_loads, sum_by-cons (λ i. aim_loads lines i.aim) e others);
@@ -79,13 +86,22 @@ module _ (old cur new : List TermNode) (s z y : Sweep) (rest left last : ℕ) (b
     narrows = λ x r h. k.narrows x r (narrows x r h).0;
     later = λ from l. (k.later from l).1;
     tries = λ x r from l S ensures fits before after tail pending.
-        tries x r from (walk_to S.program S.entry S.next (aim_of e.aim)) (goes_along S.program S.entry e.falls e.jumps e.to S.leaving) (λ h. takes_by x S (fits (k.narrows x r h).0))
-        (λ b h. record { situation = S; is = refl; later = (k.later from l).0; ensures = ensures; there = λ t. there_keeps x S (fits (k.narrows x r (h t)).0).there }) before after
+        tries x r from (walk_to S.program S.entry S.next (aim_of e.aim)) (goes_along S.program S.entry e.falls e.jumps e.to S.leaving)
+        (λ h. takes_by x S (fits (k.narrows x r h).0))
+        (λ b h. record {
+          situation = S;
+          is = refl;
+          later = (k.later from l).0;
+          ensures = ensures;
+          there =
+              λ t. there_keeps x S (fits (k.narrows x r (h t)).0).there;
+        }) before after
         (goes S (edge_of e ∷ map edge_of others ++ tail) before) (goes S (map edge_of others ++ tail) before) (edge_by e (map edge_of others ++ tail) S before)
         (k.tries x r from l S ensures fits before after tail pending);
   }
 
-pub edges_none : (ns : List TermNode) (s : Sweep) (rest : ℕ) (big : Bool) (lines : List NoteLine) (next : Now) (jumped link : ℕ) (all : List Edge) → AreWell ns s → HasWidth ns 1 rest →
+pub edges_none : (ns : List TermNode) (s : Sweep) (rest : ℕ) (big : Bool) (lines : List NoteLine) (next : Now) (jumped link : ℕ) (all : List Edge) →
+    AreWell ns s → HasWidth ns 1 rest →
     EdgesTried ns ns s s rest rest big lines next jumped link all all
 edges_none ns s rest big lines next jumped link all w b = record {
   edges = record {

@@ -65,7 +65,8 @@ not_not : (q : Bool) → not (not q) ≡ q
 not_not true = refl
 not_not false = refl
 
-module _ (old mid : List TermNode) (rest bit on off : ℕ) (typed : AreTyped old) (wr : HasWidth old 1 rest) (wb : HasWidth old 1 bit) (split : IsSplit old mid rest bit on off) where
+module _ (old mid : List TermNode) (rest bit on off : ℕ) (typed : AreTyped old) (wr : HasWidth old 1 rest) (wb : HasWidth old 1 bit)
+    (split : IsSplit old mid rest bit on off) where
   -- the test is that the bit is 1
   pub cut_on : IsCut old mid rest on off (λ x q. Tells old x bit q)
   cut_on = record {
@@ -97,13 +98,16 @@ module _ (old mid : List TermNode) (rest bit on off : ℕ) (typed : AreTyped old
 module _ (old mid new : List TermNode) (s z : Sweep) (rest on off : ℕ) (Takes : TermReading → Bool → Type 0) (Is : ℕ → TermReading → Walk → Bool → Type 0)
     (cut : IsCut old mid rest on off Takes) (w : AreWell old s) where
   -- what is held after an exit
-  held_on : (x : TermReading) (from : ℕ) (v : Walk) (p q : Bool) (before after go rests : Held) → (p ≡ true → after ≡ go) → go ≡ held_if q (hand v before) rests →
-      ShowsAt new z from x (held_if (p && q) (hand v (held_if p before after)) (held_if p before after)) → ShowsAt new z from x (held_if (p && not q) before after)
+  held_on : (x : TermReading) (from : ℕ) (v : Walk) (p q : Bool) (before after go rests : Held) → (p ≡ true → after ≡ go) →
+      go ≡ held_if q (hand v before) rests →
+      ShowsAt new z from x (held_if (p && q) (hand v (held_if p before after)) (held_if p before after)) →
+      ShowsAt new z from x (held_if (p && not q) before after)
   held_on x from v true true before after go rests g e k = subst (λ (y : Held). ShowsAt new z from x y) (sym (g refl ∙ e)) k
   held_on x from v true false before after go rests g e k = k
   held_on x from v false q before after go rests g e k = k
 
-  goes_on : (p q : Bool) (v : Walk) (before after go rests : Held) → (p ≡ true → after ≡ go) → go ≡ held_if q (hand v before) rests → (p && not q) ≡ true → after ≡ rests
+  goes_on : (p q : Bool) (v : Walk) (before after go rests : Held) → (p ≡ true → after ≡ go) → go ≡ held_if q (hand v before) rests → (p && not q) ≡ true →
+      after ≡ rests
   goes_on true false v before after go rests g e h = g refl ∙ e
   goes_on true true v before after go rests g e h = absurd (no h)
     where
@@ -115,20 +119,24 @@ module _ (old mid new : List TermNode) (s z : Sweep) (rest on off : ℕ) (Takes 
       no e = cc
 
   module _ (g l st j n : ℕ) (grew : Grew mid new g l st j n) (hands : Hands mid new s z on Is) where
-    exit_by : (x : TermReading) → InRange x → (from : ℕ) (v : Walk) (p q : Bool) → ((b : Bool) → (b ≡ true → p ≡ true) → Is from x v b) → (before after go rests : Held) → Tells old x rest p → Takes x q →
-        (p ≡ true → after ≡ go) → go ≡ held_if q (hand v before) rests → ShowsAt old s from x (held_if p before after) → IsPending new z from x off before after rests
+    exit_by : (x : TermReading) → InRange x → (from : ℕ) (v : Walk) (p q : Bool) → ((b : Bool) → (b ≡ true → p ≡ true) → Is from x v b) →
+        (before after go rests : Held) → Tells old x rest p → Takes x q →
+        (p ≡ true → after ≡ go) → go ≡ held_if q (hand v before) rests → ShowsAt old s from x (held_if p before after) →
+        IsPending new z from x off before after rests
     exit_by x r from v p q is before after go rests tp tq ge e shows = record {
       some = p && not q;
       tells = tells_keep grew x off (p && not q) cut.left_bit.0 (cut.tells_left x r p q tp tq);
       goes = goes_on p q v before after go rests ge e;
       shows = held_on x from v p q before after go rests ge e
-          (hands x r from v (p && q) (is (p && q) (both_true p q)) (cut.tells_hit x r p q tp tq) (held_if p before after) (shows_keep cut.grew s from x (held_if p before after) w shows));
+          (hands x r from v (p && q) (is (p && q) (both_true p q)) (cut.tells_hit x r p q tp tq) (held_if p before after)
+          (shows_keep cut.grew s from x (held_if p before after) w shows));
     }
 
     pub exit_on : Tries old new s z rest off Takes Is
     exit_on x r from v q taken is before after go rests e k = by k.some k.tells k.goes k.shows
       where
-        by : (p : Bool) → Tells old x rest p → (p ≡ true → after ≡ go) → ShowsAt old s from x (held_if p before after) → IsPending new z from x off before after rests
+        by : (p : Bool) → Tells old x rest p → (p ≡ true → after ≡ go) → ShowsAt old s from x (held_if p before after) →
+            IsPending new z from x off before after rests
         by true t g sh = exit_by x r from v true q (λ b f. is b (λ h. t)) before after go rests t (taken t) g e sh
         by false t g sh =
             let some = cut.some x r in
@@ -136,7 +144,8 @@ module _ (old mid new : List TermNode) (s z : Sweep) (rest on off : ℕ) (Takes 
               some = false;
               tells = tells_keep grew x off false cut.left_bit.0 (cut.tells_left x r false some.0 t some.1);
               goes = λ h. absurd (no h);
-              shows = hands x r from v false (is false (λ h. absurd (no h))) (cut.tells_hit x r false some.0 t some.1) after (shows_keep cut.grew s from x after w sh);
+              shows = hands x r from v false (is false (λ h. absurd (no h))) (cut.tells_hit x r false some.0 t some.1) after
+                  (shows_keep cut.grew s from x after w sh);
             }
           where
             no : false ≡ true → ⊥
@@ -163,8 +172,10 @@ module _ (old mid new : List TermNode) (s z : Sweep) (rest on off : ℕ) (Takes 
     cut_bit = grew_width mid new g l st j n 1 off grew cut.left_bit
 
 -- a split by its steps
-pub split_made : (old a b new : List TermNode) (rest bit on missed off : ℕ) → HasWidth old 1 rest → HasWidth old 1 bit → Makes old a 1 2 1 on (TellsByBoth (λ p q. p && q) old a rest bit on) →
-    Makes a b 0 2 1 missed (TellsBy (λ p. not p) a b bit missed) → Makes b new 1 2 1 off (TellsByBoth (λ p q. p && q) b new rest missed off) → IsSplit old new rest bit on off
+pub split_made : (old a b new : List TermNode) (rest bit on missed off : ℕ) → HasWidth old 1 rest → HasWidth old 1 bit →
+    Makes old a 1 2 1 on (TellsByBoth (λ p q. p && q) old a rest bit on) →
+    Makes a b 0 2 1 missed (TellsBy (λ p. not p) a b bit missed) → Makes b new 1 2 1 off (TellsByBoth (λ p q. p && q) b new rest missed off) →
+    IsSplit old new rest bit on off
 split_made old a b new rest bit on missed off wr wb m1 m2 m3 =
     let g2 = grew_on old a b 1 0 0 0 2 0 0 0 0 2 m1.grew m2.grew in
     let g3 = grew_on a b new 0 0 0 0 2 1 0 0 0 2 m2.grew m3.grew in
@@ -187,21 +198,32 @@ pub typed_before : (old new : List TermNode) → Extends old new → AreTyped ne
 typed_before old new e h = typed_prefix [] old e.0 (subst (λ (z : List TermNode). AreTyped z) e.1 h)
 
 -- an exit that is tried after more terms were made
-pub tries_later : (old mid new : List TermNode) (s z : Sweep) (rest left : ℕ) (Takes More : TermReading → Bool → Type 0) (Is Far : ℕ → TermReading → Walk → Bool → Type 0) (g l st j n : ℕ) → Grew old mid g l st j n → AreWell old s →
-    HasWidth old 1 rest → ((x : TermReading) → InRange x → (q : Bool) → More x q → Takes x q) → ((from : ℕ) (x : TermReading) (w : Walk) (b : Bool) → Far from x w b → Is from x w b) → Tries mid new s z rest left Takes Is →
+pub tries_later : (old mid new : List TermNode) (s z : Sweep) (rest left : ℕ) (Takes More : TermReading → Bool → Type 0) (Is Far : ℕ → TermReading → Walk →
+    Bool → Type 0) (g l st j n : ℕ) → Grew old mid g l st j n → AreWell old s →
+    HasWidth old 1 rest → ((x : TermReading) → InRange x → (q : Bool) → More x q → Takes x q) →
+    ((from : ℕ) (x : TermReading) (w : Walk) (b : Bool) → Far from x w b → Is from x w b) → Tries mid new s z rest left Takes Is →
     Tries old new s z rest left More Far
 tries_later old mid new s z rest left Takes More Is Far g l st j n grew w wr f far tries x r from v q taken is before after go rests e k =
     let same = word_keeps grew x rest wr.0 in
     tries x r from v q (λ h. f x r q (taken (sym same ∙ h))) (λ b h. far from x v b (is b (λ t. sym same ∙ h t))) before after go rests e
-    (record { some = k.some; tells = tells_keep grew x rest k.some wr.0 k.tells; goes = k.goes; shows = shows_keep grew s from x (held_if k.some before after) w k.shows })
+    (record {
+      some = k.some;
+      tells = tells_keep grew x rest k.some wr.0 k.tells;
+      goes = k.goes;
+      shows = shows_keep grew s from x
+          (held_if k.some before after) w k.shows;
+    })
 
 -- a line and a split keep what is kept
-pub lined_well : (old mid last : List TermNode) (s : Sweep) (big : Bool) (e : Expr) (now entry : Now) (bit rest on off : ℕ) → IsLine old mid big e now entry bit → AreWell old s → IsSplit mid last rest bit on off → AreWell last s
+pub lined_well : (old mid last : List TermNode) (s : Sweep) (big : Bool) (e : Expr) (now entry : Now) (bit rest on off : ℕ) →
+    IsLine old mid big e now entry bit → AreWell old s → IsSplit mid last rest bit on off → AreWell last s
 lined_well old mid last s big e now entry bit rest on off made w split =
     well_keeps split.grew s split.typed (well_keeps made.grew s (typed_before mid last split.grew.extends split.typed) w)
 
-module _ (old mid last new : List TermNode) (s z : Sweep) (big : Bool) (e : Expr) (now entry : Now) (bit rest on off : ℕ) (made : IsLine old mid big e now entry bit) (w : AreWell old s) (en : entry.names.now ≡ s.entry)
-    (ep : entry.pc ≡ s.pc) (wr : HasWidth old 1 rest) (split : IsSplit mid last rest bit on off) (steps : Steps last new s z 1 0 0 0 2 (λ m. ⊥)) (hands : Hands last new s z off (λ from x v b. HasEvent v)) where
+module _ (old mid last new : List TermNode) (s z : Sweep) (big : Bool) (e : Expr) (now entry : Now) (bit rest on off : ℕ)
+    (made : IsLine old mid big e now entry bit) (w : AreWell old s) (en : entry.names.now ≡ s.entry)
+    (ep : entry.pc ≡ s.pc) (wr : HasWidth old 1 rest) (split : IsSplit mid last rest bit on off) (steps : Steps last new s z 1 0 0 0 2
+    (λ m. ⊥)) (hands : Hands last new s z off (λ from x v b. HasEvent v)) where
   line_typed : AreTyped mid
   line_typed = typed_before mid last split.grew.extends split.typed
 
@@ -233,14 +255,17 @@ module _ (old mid last new : List TermNode) (s z : Sweep) (big : Bool) (e : Expr
 
   pub denied_tries : Tries old new s z rest on (LineFails old s big e now) (λ from x v b. HasEvent v)
   denied_tries =
-      tries_later old mid new s z rest on (λ x q. Tells mid x bit (not q)) (LineFails old s big e now) (λ from x v b. HasEvent v) (λ from x v b. HasEvent v) _ _ _ _ _ made.grew w wr
-      (λ x r q f. made.value x r f.carried (at_entry x) f.at s.at f.is (entry_is x r) ∙ ap Words.bit (sym (ap not f.fails ∙ not_not (is_true (value (endian big) e (state_at f.carried f.at) (state_at (at_entry x) s.at))))))
+      tries_later old mid new s z rest on (λ x q. Tells mid x bit (not q)) (LineFails old s big e now) (λ from x v b. HasEvent v)
+      (λ from x v b. HasEvent v) _ _ _ _ _ made.grew w wr
+      (λ x r q f. made.value x r f.carried (at_entry x) f.at s.at f.is (entry_is x r) ∙ ap Words.bit
+      (sym (ap not f.fails ∙ not_not (is_true (value (endian big) e (state_at f.carried f.at) (state_at (at_entry x) s.at))))))
       (λ from x v b h. h)
       (exit_on mid last new s z rest off on (λ x q. Tells mid x bit (not q)) (λ from x v b. HasEvent v) line_cut line_well 1 0 0 0 2 steps.grew hands)
 
   pub denied_narrows : Narrows old new rest on (λ x q. Unit {0})
   denied_narrows x r h =
-      let k = narrows_on mid last new s z rest off on (λ x q. Tells mid x bit (not q)) (λ from x v b. HasEvent v) line_cut line_well 1 0 0 0 2 steps.grew hands x r h in
+      let k = narrows_on mid last new s z rest off on (λ x q. Tells mid x bit (not q))
+      (λ from x v b. HasEvent v) line_cut line_well 1 0 0 0 2 steps.grew hands x r h in
       (sym (word_keeps made.grew x rest wr.0) ∙ k.0, tt)
 
   pub denied_bit : HasWidth new 1 on

@@ -56,7 +56,8 @@ named_all u (StoreNode n e k a v) h = tt
 named_all u (JoinNode c a b) h = tt
 
 -- inputs that were there, or are the program's
-pub named_on : (u : UnrolledProgram) (old new : List TermNode) (more : TermNode → Type 0) → ((m : TermNode) → IsInput m → more m → IsNamedBelow u 0 m) → InputsFrom old new more →
+pub named_on : (u : UnrolledProgram) (old new : List TermNode) (more : TermNode → Type 0) → ((m : TermNode) → IsInput m → more m → IsNamedBelow u 0 m) →
+    InputsFrom old new more →
     AreNamedBelow u 0 old → AreNamedBelow u 0 new
 named_on u old new more f k h m c = named_all u m (λ i. elim (k m c i) [ inl a ↦ h m a | inr b ↦ f m i b ])
 
@@ -101,7 +102,8 @@ forget_well nodes s t w = record {
 forget_shows : (nodes : List TermNode) (s : Sweep) (t : ℕ) (x : TermReading) (h : Held) → ShowsAt nodes s t x h → ShowsAt nodes (forget s t) (suc t) x h
 forget_shows nodes s t x h k = record {
   mets = k.mets;
-  carries = λ i f l m. subst (λ (q : Option (Option Names)). AreCarried nodes x q (h.carried i)) (sym (later_kept s.states.items t i None f)) (k.carries i (omega (arith, f)) l m);
+  carries = λ i f l m. subst (λ (q : Option (Option Names)). AreCarried nodes x q (h.carried i)) (sym (later_kept s.states.items t i None f))
+      (k.carries i (omega (arith, f)) l m);
   failing = k.failing;
   turning = k.turning;
 }
@@ -152,7 +154,8 @@ module _ (u : Unrolled) (t : ℕ) (old : List TermNode) (s : Sweep) (a : AreSwep
     shows = λ r k e.
         let x = term_reading (unrolled_of u) r in
         subst (λ (n : ℕ). ShowsAt old (forget s t) n x (held (unrolled_of u) r n)) (next t)
-        (subst (λ (h : Held). ShowsAt old (forget s t) (suc t) x h) (sym (held_next (unrolled_of u) r t ∙ passed (unrolled_of u) r t (held (unrolled_of u) r t) (not r k e)))
+        (subst (λ (h : Held). ShowsAt old (forget s t) (suc t) x h)
+        (sym (held_next (unrolled_of u) r t ∙ passed (unrolled_of u) r t (held (unrolled_of u) r t) (not r k e)))
         (forget_shows old s t x (held (unrolled_of u) r t) (a.shows r k e)));
   }
 
@@ -175,7 +178,8 @@ module _ (u : Unrolled) (t : ℕ) (old : List TermNode) (s : Sweep) (a : AreSwep
       bit_false ((held (unrolled_of u) r t).met t) (sym ((a.shows r k p).mets t place) ∙ ap (term_word x old) (sym is) ∙ none x)
 
   -- where the point is handled
-  pub handled_by : (new : List TermNode) (z : Sweep) (n : Names) → slice_get s.states.items t ≡ Some (Some n) → IsHandled u old new (forget s t) z t n → AreSwept u (t + 1) new z
+  pub handled_by : (new : List TermNode) (z : Sweep) (n : Names) → slice_get s.states.items t ≡ Some (Some n) → IsHandled u old new (forget s t) z t n →
+      AreSwept u (t + 1) new z
   handled_by new z n has k = record {
     well = k.steps.well;
     sweep = like_sweep u (forget s t) z k.steps.like sweep_forgets;
@@ -212,11 +216,14 @@ swept_passive u t p s of met fails turns above below a = record {
     bits = λ i l. subst (HasWidth p.dag 1) (sym (at i (within i l))) (a.well.bits i (within i l));
     fails_bit = subst (λ (q : Term). HasWidth p.dag 1 q.0) (sym fails) a.well.fails;
     turns_bit = subst (λ (q : Term). HasWidth p.dag 1 q.0) (sym turns) a.well.turns;
-    mets = λ r k e i l. subst (λ (q : ℕ). Tells p.dag (term_reading (unrolled_of u) r) q ((held (unrolled_of u) r (length (unrolled_of u).points)).met i)) (sym (at i (within i l)))
+    mets = λ r k e i l. subst (λ (q : ℕ). Tells p.dag (term_reading (unrolled_of u) r) q ((held (unrolled_of u) r (length (unrolled_of u).points)).met i))
+        (sym (at i (within i l)))
         ((shown r k e).mets i (within i l));
-    failing = λ r k e. subst (λ (q : Term). Tells p.dag (term_reading (unrolled_of u) r) q.0 (held (unrolled_of u) r (length (unrolled_of u).points)).fails) (sym fails)
+    failing = λ r k e. subst (λ (q : Term). Tells p.dag (term_reading (unrolled_of u) r) q.0 (held (unrolled_of u) r (length (unrolled_of u).points)).fails)
+        (sym fails)
         (shown r k e).failing;
-    turning = λ r k e. subst (λ (q : Term). Tells p.dag (term_reading (unrolled_of u) r) q.0 (held (unrolled_of u) r (length (unrolled_of u).points)).turns) (sym turns)
+    turning = λ r k e. subst (λ (q : Term). Tells p.dag (term_reading (unrolled_of u) r) q.0 (held (unrolled_of u) r (length (unrolled_of u).points)).turns)
+        (sym turns)
         (shown r k e).turning;
   };
 }

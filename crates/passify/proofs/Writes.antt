@@ -34,7 +34,8 @@ one_lies low high a la lh hh = grind (arith, nat_tests)
 
 -- one byte before others
 more_lie : (low high a n : ℕ) → a < 2 ^ 32 → low ≤ high → high < 2 ^ 32 → n < 2 ^ 32 →
-    (lies low high a || nat_le (((a + 1) % 2 ^ 32 + (2 ^ 32 + n - low)) % 2 ^ 32) (high - low + n)) ≡ nat_le ((a + (2 ^ 32 + suc n - low)) % 2 ^ 32) (high - low + suc n)
+    (lies low high a || nat_le (((a + 1) % 2 ^ 32 + (2 ^ 32 + n - low)) % 2 ^ 32) (high - low + n))
+    ≡ nat_le ((a + (2 ^ 32 + suc n - low)) % 2 ^ 32) (high - low + suc n)
 more_lie low high a n la lh hh ln = grind (arith, nat_tests)
 
 -- some of the bytes from an address on lie in a run where the address is no further from the run's beginning than they reach
@@ -48,11 +49,13 @@ reach_by low high a (suc n) la lh hh ln =
 start_by : (low a n start : ℕ) → a < 2 ^ 32 → low < 2 ^ 32 → n < 2 ^ 32 → start ≡ sub 32 low n → (a + (2 ^ 32 + n - low)) % 2 ^ 32 ≡ sub 32 a start
 start_by low a n start la ll ln e = omega (arith, la, ll, ln, e)
 
-lie_by : (low high a n before start reach : ℕ) → a < 2 ^ 32 → low ≤ high → high < 2 ^ 32 → n < 2 ^ 32 → n ≡ suc before → start ≡ sub 32 low before → reach ≡ high - low + before →
+lie_by : (low high a n before start reach : ℕ) → a < 2 ^ 32 → low ≤ high → high < 2 ^ 32 → n < 2 ^ 32 → n ≡ suc before → start ≡ sub 32 low before →
+    reach ≡ high - low + before →
     list_any (lies low high) (span a n) ≡ nat_le (sub 32 a start) reach
 lie_by low high a n before start reach la lh hh ln en es er =
     ap (λ (k : ℕ). list_any (lies low high) (span a k)) en ∙ reach_by low high a before la lh hh (omega (arith, en, ln))
-    ∙ ap (λ (k : ℕ). nat_le k (high - low + before)) (start_by low a before start la (omega (arith, lh, hh)) (omega (arith, en, ln)) es) ∙ ap (nat_le (sub 32 a start)) (sym er)
+    ∙ ap (λ (k : ℕ). nat_le k (high - low + before)) (start_by low a before start la (omega (arith, lh, hh)) (omega (arith, en, ln)) es) ∙ ap
+    (nat_le (sub 32 a start)) (sym er)
 
 all_lie : (low high a n before : ℕ) → a < 2 ^ 32 → low ≤ high → high < 2 ^ 32 → n < 2 ^ 32 → n ≡ suc before → 2 ^ 32 - 1 ≤ high - low + before →
     list_any (lies low high) (span a n) ≡ true
@@ -66,14 +69,16 @@ all_lie low high a n before la lh hh ln en far =
 -- one store against one run
 pub touches_far : (ns : List TermNode) (s : Stored) (low high before : ℕ) → AreTyped ns → IsStore ns s → low ≤ high → high < 2 ^ 32 → s.bytes ≡ suc before →
     2 ^ 32 - 1 ≤ high - low + before →
-    Makes ns ns 97 8 1 s.guard.0 (λ x. (g : Bool) → Tells ns x s.guard.0 g → Tells ns x s.guard.0 (g && list_any (lies low high) (span (term_word x ns s.address.0) s.bytes)))
+    Makes ns ns 97 8 1 s.guard.0 (λ x. (g : Bool) → Tells ns x s.guard.0 g →
+    Tells ns x s.guard.0 (g && list_any (lies low high) (span (term_word x ns s.address.0) s.bytes)))
 touches_far ns s low high before typed store lh hh en far = record {
   grew = grew_more ns ns 0 0 0 0 0 97 0 0 0 8 (omega arith) (omega arith) (omega arith) (omega arith) (omega arith) (grew_none ns);
   inputs = inputs_none ns (λ m. ⊥);
   typed = typed;
   width = store.guard;
   holds = λ x r g h.
-      h ∙ ap bit (and_true g ∙ ap (λ q. g && q) (sym (all_lie low high (term_word x ns s.address.0) s.bytes before (word_fits x ns 32 s.address.0 r typed store.address) lh hh
+      h ∙ ap bit (and_true g ∙ ap (λ q. g && q) (sym (all_lie low high (term_word x ns s.address.0) s.bytes before
+      (word_fits x ns 32 s.address.0 r typed store.address) lh hh
       (omega (arith, store.few)) en far)));
 }
   where
@@ -81,10 +86,13 @@ touches_far ns s low high before typed store lh hh en far = record {
     and_true true = refl
     and_true false = refl
 
-pub touches_near : (a b c d e new : List TermNode) (s : Stored) (low high before first reach start distance end near t : ℕ) → AreTyped a → IsStore a s → low ≤ high →
+pub touches_near : (a b c d e new : List TermNode) (s : Stored) (low high before first reach start distance end near t : ℕ) → AreTyped a → IsStore a s →
+    low ≤ high →
     high < 2 ^ 32 → s.bytes ≡ suc before →
-    first ≡ sub 32 low before → reach ≡ high - low + before → IsInterned a b (ConstantNode 32 first) start → IsMade b c (BinaryNode Minus 32 s.address.0 start) distance →
-    IsInterned c d (ConstantNode 32 reach) end → IsMade d e (BinaryNode LessEqual 32 distance end) near → Makes e new 1 2 1 t (TellsByBoth (λ p q. p && q) e new s.guard.0 near t) →
+    first ≡ sub 32 low before → reach ≡ high - low + before → IsInterned a b (ConstantNode 32 first) start →
+    IsMade b c (BinaryNode Minus 32 s.address.0 start) distance →
+    IsInterned c d (ConstantNode 32 reach) end → IsMade d e (BinaryNode LessEqual 32 distance end) near →
+    Makes e new 1 2 1 t (TellsByBoth (λ p q. p && q) e new s.guard.0 near t) →
     Makes a new 97 8 1 t (λ x. (g : Bool) → Tells a x s.guard.0 g → Tells new x t (g && list_any (lies low high) (span (term_word x a s.address.0) s.bytes)))
 touches_near a b c d e new s low high before first reach start distance end near t typed store lh hh en ef er m1 m2 m3 m4 m5 =
     let g1 = interned_grew a b (ConstantNode 32 first) start m1 in
@@ -132,7 +140,8 @@ store_keeps old new g l st j n s grew h = record {
 
 -- one run behind others
 is_in_more : (runs : List AddressRun) (k : AddressRun) (a : ℕ) → is_in (runs ++ k ∷ []) a ≡ (is_in runs a || lies k.low k.high a)
-is_in_more runs k a = list_any-append (λ (q : AddressRun). lies q.low q.high a) runs (k ∷ []) ∙ ap (λ (q : Bool). is_in runs a || q) (or_nothing (lies k.low k.high a))
+is_in_more runs k a = list_any-append (λ (q : AddressRun). lies q.low q.high a) runs (k ∷ []) ∙ ap (λ (q : Bool). is_in runs a ||
+    q) (or_nothing (lies k.low k.high a))
   where
     or_nothing : (b : Bool) → (b || false) ≡ b
     or_nothing true = refl
@@ -160,13 +169,15 @@ more_by false false a b = refl
 -- one store against some runs: a bit was 1, or some byte of the runs is stored
 abbrev pub Touches : (old new : List TermNode) → Stored → (runs : List AddressRun) → (before t : ℕ) → TermReading → Type 0
 Touches old new s runs before t x =
-    (p g : Bool) → Tells old x before p → Tells old x s.guard.0 g → Tells new x t (p || (g && list_any (is_in runs) (span (term_word x old s.address.0) s.bytes)))
+    (p g : Bool) → Tells old x before p → Tells old x s.guard.0 g →
+    Tells new x t (p || (g && list_any (is_in runs) (span (term_word x old s.address.0) s.bytes)))
 
 none_in : (xs : List ℕ) → list_any (is_in []) xs ≡ false
 none_in [] = refl
 none_in (x ∷ xs) = none_in xs
 
-pub touches_none : (ns : List TermNode) (s : Stored) (before : ℕ) → AreTyped ns → HasWidth ns 1 before → Makes ns ns (98 * 0) (10 * 0) 1 before (Touches ns ns s [] before before)
+pub touches_none : (ns : List TermNode) (s : Stored) (before : ℕ) → AreTyped ns → HasWidth ns 1 before →
+    Makes ns ns (98 * 0) (10 * 0) 1 before (Touches ns ns s [] before before)
 touches_none ns s before typed w = record {
   grew = grew_none ns;
   inputs = inputs_none ns (λ m. ⊥);
@@ -183,12 +194,15 @@ touches_none ns s before typed w = record {
 -- one run more
 touches_next : (old cur mid new : List TermNode) (s : Stored) (runs : List AddressRun) (k : AddressRun) (i before left hit t : ℕ) → IsStore old s →
     Makes old cur (98 * i) (10 * i) 1 left (Touches old cur s runs before left) →
-    Makes cur mid 97 8 1 hit (λ x. (g : Bool) → Tells cur x s.guard.0 g → Tells mid x hit (g && list_any (lies k.low k.high) (span (term_word x cur s.address.0) s.bytes))) →
-    Makes mid new 1 2 1 t (TellsByBoth (λ p q. p || q) mid new left hit t) → Makes old new (98 * (i + 1)) (10 * (i + 1)) 1 t (Touches old new s (runs ++ k ∷ []) before t)
+    Makes cur mid 97 8 1 hit (λ x. (g : Bool) → Tells cur x s.guard.0 g →
+    Tells mid x hit (g && list_any (lies k.low k.high) (span (term_word x cur s.address.0) s.bytes))) →
+    Makes mid new 1 2 1 t (TellsByBoth (λ p q. p || q) mid new left hit t) →
+    Makes old new (98 * (i + 1)) (10 * (i + 1)) 1 t (Touches old new s (runs ++ k ∷ []) before t)
 touches_next old cur mid new s runs k i before left hit t store m1 m2 m3 =
     let g12 = grew_on cur mid new 97 0 0 0 8 1 0 0 0 2 m2.grew m3.grew in
     record {
-      grew = grew_more old new (98 * i + 98) 0 0 0 (10 * i + 10) (98 * (i + 1)) 0 0 0 (10 * (i + 1)) (omega arith) (omega arith) (omega arith) (omega arith) (omega arith)
+      grew = grew_more old new (98 * i + 98) 0 0 0 (10 * i + 10) (98 * (i + 1)) 0 0 0 (10 * (i + 1)) (omega arith) (omega arith) (omega arith) (omega arith)
+          (omega arith)
           (grew_on old cur new (98 * i) 0 0 0 (10 * i) 98 0 0 0 10 m1.grew g12);
       inputs = inputs_on old mid new (λ m. ⊥) (inputs_on old cur mid (λ m. ⊥) m1.inputs m2.inputs) m3.inputs;
       typed = m3.typed;
@@ -197,7 +211,8 @@ touches_next old cur mid new s runs k i before left hit t store m1 m2 m3 =
           let a : ℕ = term_word x old s.address.0 in
           let bytes : List ℕ = span a s.bytes in
           let same : term_word x cur s.address.0 ≡ a = word_keeps m1.grew x s.address.0 store.address.0 in
-          let first : Tells mid x left (p || (g && list_any (is_in runs) bytes)) = tells_keep m2.grew x left (p || (g && list_any (is_in runs) bytes)) m1.width.0
+          let first : Tells mid x left (p || (g && list_any (is_in runs) bytes)) = tells_keep m2.grew x left (p ||
+          (g && list_any (is_in runs) bytes)) m1.width.0
           (m1.holds x r p g hp hg) in
           let second : Tells mid x hit (g && list_any (lies k.low k.high) bytes) =
           m2.holds x r g (tells_keep m1.grew x s.guard.0 g store.guard.0 hg) ∙ ap (λ (z : ℕ). bit (g && list_any (lies k.low k.high) (span z s.bytes))) same in
@@ -206,10 +221,12 @@ touches_next old cur mid new s runs k i before left hit t store m1 m2 m3 =
           ∙ ap (λ (q : Bool). p || (g && q)) (sym (any_both (is_in (runs ++ k ∷ [])) (is_in runs) (lies k.low k.high) bytes (is_in_more runs k))));
     }
 
-pub touches_more : (old cur mid new : List TermNode) (s : Stored) (kept : List (ℕ × ℕ)) (i : ℕ) (k : ℕ × ℕ) (before left hit t : ℕ) → i < length kept → k ≡ get_or kept i k →
+pub touches_more : (old cur mid new : List TermNode) (s : Stored) (kept : List (ℕ × ℕ)) (i : ℕ) (k : ℕ × ℕ) (before left hit t : ℕ) → i < length kept →
+    k ≡ get_or kept i k →
     IsStore old s →
     Makes old cur (98 * i) (10 * i) 1 left (Touches old cur s (map kept_of (take i kept)) before left) →
-    Makes cur mid 97 8 1 hit (λ x. (g : Bool) → Tells cur x s.guard.0 g → Tells mid x hit (g && list_any (lies k.0 k.1) (span (term_word x cur s.address.0) s.bytes))) →
+    Makes cur mid 97 8 1 hit (λ x. (g : Bool) → Tells cur x s.guard.0 g →
+    Tells mid x hit (g && list_any (lies k.0 k.1) (span (term_word x cur s.address.0) s.bytes))) →
     Makes mid new 1 2 1 t (TellsByBoth (λ p q. p || q) mid new left hit t) → Makes old new (98 * (i + 1)) (10 * (i + 1)) 1 t
     (Touches old new s (map kept_of (take (i + 1) kept)) before t)
 touches_more old cur mid new s kept i k before left hit t within at store m1 m2 m3 =
@@ -225,11 +242,17 @@ pub touches_all : (old new : List TermNode) (s : Stored) (kept : List (ℕ × �
     Makes old new (98 * length kept) (10 * length kept) 1 t (Touches old new s (map kept_of kept) before t)
 touches_all old new s kept i before t above below m =
     subst (λ (z : List (ℕ × ℕ)). Makes old new (98 * length kept) (10 * length kept) 1 t (Touches old new s (map kept_of z) before t)) (take-length kept)
-    (subst (λ (n : ℕ). Makes old new (98 * n) (10 * n) 1 t (Touches old new s (map kept_of (take n kept)) before t)) (let e : i ≡ length kept = omega (arith, above, below) in e) m)
+    (subst (λ (n : ℕ). Makes old new (98 * n) (10 * n) 1 t (Touches old new s (map kept_of (take n kept)) before t)) (let e : i
+    ≡ length kept = omega (arith, above, below) in e) m)
 
 -- a run of kept bytes
 pub run_at : (kept : List (ℕ × ℕ)) (i : ℕ) (k : ℕ × ℕ) → AreRuns (map kept_of kept) → i < length kept → k ≡ get_or kept i k → k.0 ≤ k.1
-run_at kept i k runs within at = (runs (kept_of k) (i, omega (arith, within, length-map kept kept_of), get_or-map kept_of kept i k (kept_of k) within ∙ ap kept_of (sym at))).0
+run_at kept i k runs within at = (runs (kept_of k) (
+  i,
+  omega (arith, within, length-map kept kept_of),
+  get_or-map kept_of kept i k
+      (kept_of k) within ∙ ap kept_of (sym at),
+)).0
 
 -- a store stores a kept byte
 abbrev pub keeps_hit : List TermNode → TermReading → List AddressRun → Stored → Bool
@@ -242,7 +265,8 @@ bit_test false n e = sym (ap (λ (z : ℕ). z == 1) e)
 pub writes_none : (old new : List TermNode) (t : ℕ) (runs : List AddressRun) → Makes old new 0 1 1 t (λ x. Tells new x t false) →
     Makes old new (98 * (0 * length runs)) (1 + 10 * (0 * length runs)) 1 t (λ x. Tells new x t (list_any (keeps_hit old x runs) []))
 writes_none old new t runs m = record {
-  grew = grew_more old new 0 0 0 0 1 (98 * (0 * length runs)) 0 0 0 (1 + 10 * (0 * length runs)) (omega arith) (omega arith) (omega arith) (omega arith) (omega arith) m.grew;
+  grew = grew_more old new 0 0 0 0 1 (98 * (0 * length runs)) 0 0 0 (1 + 10 * (0 * length runs)) (omega arith) (omega arith) (omega arith) (omega arith)
+      (omega arith) m.grew;
   inputs = m.inputs;
   typed = m.typed;
   width = m.width;
@@ -250,15 +274,18 @@ writes_none old new t runs m = record {
 }
 
 -- one store more
-pub writes_more : (old cur new : List TermNode) (stored : List Stored) (runs : List AddressRun) (i : ℕ) (s : Stored) (left t : ℕ) → i < length stored → s ≡ get_or stored i s →
+pub writes_more : (old cur new : List TermNode) (stored : List Stored) (runs : List AddressRun) (i : ℕ) (s : Stored) (left t : ℕ) → i < length stored →
+    s ≡ get_or stored i s →
     IsStore old s → AreTyped old →
     Makes old cur (98 * (i * length runs)) (1 + 10 * (i * length runs)) 1 left (λ x. Tells cur x left (list_any (keeps_hit old x runs) (take i stored))) →
     Makes cur new (98 * length runs) (10 * length runs) 1 t (Touches cur new s runs left t) →
-    Makes old new (98 * ((i + 1) * length runs)) (1 + 10 * ((i + 1) * length runs)) 1 t (λ x. Tells new x t (list_any (keeps_hit old x runs) (take (i + 1) stored)))
+    Makes old new (98 * ((i + 1) * length runs)) (1 + 10 * ((i + 1) * length runs)) 1 t
+    (λ x. Tells new x t (list_any (keeps_hit old x runs) (take (i + 1) stored)))
 writes_more old cur new stored runs i s left t within at store typed m1 m2 =
     let k : (i + 1) * length runs ≡ i * length runs + length runs = more i (length runs) in
     record {
-      grew = grew_more old new (98 * (i * length runs) + 98 * length runs) 0 0 0 (1 + 10 * (i * length runs) + 10 * length runs) (98 * ((i + 1) * length runs)) 0 0 0
+      grew = grew_more old new (98 * (i * length runs) + 98 * length runs) 0 0 0 (1 + 10 * (i * length runs) + 10 * length runs)
+          (98 * ((i + 1) * length runs)) 0 0 0
           (1 + 10 * ((i + 1) * length runs))
           (omega (arith, k)) (omega arith) (omega arith) (omega arith) (omega (arith, k))
           (grew_on old cur new (98 * (i * length runs)) 0 0 0 (1 + 10 * (i * length runs)) (98 * length runs) 0 0 0 (10 * length runs) m1.grew m2.grew);
@@ -271,7 +298,8 @@ writes_more old cur new stored runs i s left t within at store typed m1 m2 =
           let done : Bool = list_any (keeps_hit old x runs) (take i stored) in
           m2.holds x r done guard.0 (m1.holds x r) (tells_keep m1.grew x s.guard.0 guard.0 store.guard.0 guard.1)
           ∙ ap (λ (z : ℕ). bit (done || (guard.0 && list_any (is_in runs) (span z s.bytes)))) same
-          ∙ ap (λ (z : Bool). bit (done || (z && list_any (is_in runs) (span (term_word x old s.address.0) s.bytes)))) (bit_test guard.0 (term_word x old s.guard.0) guard.1)
+          ∙ ap (λ (z : Bool). bit (done || (z && list_any (is_in runs) (span (term_word x old s.address.0) s.bytes))))
+          (bit_test guard.0 (term_word x old s.guard.0) guard.1)
           ∙ ap (λ (z : Stored). bit (done || keeps_hit old x runs z)) at ∙ ap bit (sym (list_any_more (keeps_hit old x runs) stored i s within));
     }
   where
@@ -309,7 +337,8 @@ same_truth false true f g = g refl
 same_truth false false f g = refl
 
 -- a kept byte is among those stored where some store stores one
-kept_stored : (ns : List TermNode) (x : TermReading) (stored : List Stored) (runs : List AddressRun) (bytes : List ℕ) → ((a : ℕ) → Contains bytes a ↔ IsStoredBy ns x stored a) →
+kept_stored : (ns : List TermNode) (x : TermReading) (stored : List Stored) (runs : List AddressRun) (bytes : List ℕ) →
+    ((a : ℕ) → Contains bytes a ↔ IsStoredBy ns x stored a) →
     list_any (keeps_hit ns x runs) stored ≡ list_any (is_in runs) bytes
 kept_stored ns x stored runs bytes same = same_truth (list_any (keeps_hit ns x runs) stored) (list_any (is_in runs) bytes) on back
   where
@@ -325,11 +354,13 @@ kept_stored ns x stored runs bytes same = same_truth (list_any (keeps_hit ns x r
         let a = any_is (is_in runs) bytes h in
         let s = (same a.0).0 a.1 in
         has_any (keeps_hit ns x runs) stored s.0 s.1
-        (are_both (term_word x ns s.0.guard.0 == 1) (list_any (is_in runs) (span (term_word x ns s.0.address.0) s.0.bytes)) (by_one (term_word x ns s.0.guard.0) s.2)
+        (are_both (term_word x ns s.0.guard.0 == 1) (list_any (is_in runs) (span (term_word x ns s.0.address.0) s.0.bytes))
+        (by_one (term_word x ns s.0.guard.0) s.2)
         (has_any (is_in runs) (span (term_word x ns s.0.address.0) s.0.bytes) a.0 s.3 a.2))
 
 writes_end : (old new : List TermNode) (stored : List Stored) (runs : List AddressRun) (t : ℕ) →
-    Makes old new (98 * (length stored * length runs)) (1 + 10 * (length stored * length runs)) 1 t (λ x. Tells new x t (list_any (keeps_hit old x runs) stored)) →
+    Makes old new (98 * (length stored * length runs)) (1 + 10 * (length stored * length runs)) 1 t
+    (λ x. Tells new x t (list_any (keeps_hit old x runs) stored)) →
     TellsKept old new stored runs t
 writes_end old new stored runs t m = record {
   grew = m.grew;
@@ -341,12 +372,14 @@ writes_end old new stored runs t m = record {
 
 -- all stores
 pub writes_all : (old new : List TermNode) (stored : List Stored) (runs : List AddressRun) (i t : ℕ) → length stored ≤ i → i ≤ length stored →
-    Makes old new (98 * (i * length runs)) (1 + 10 * (i * length runs)) 1 t (λ x. Tells new x t (list_any (keeps_hit old x runs) (take i stored))) → TellsKept old new stored runs t
+    Makes old new (98 * (i * length runs)) (1 + 10 * (i * length runs)) 1 t (λ x. Tells new x t (list_any (keeps_hit old x runs) (take i stored))) →
+    TellsKept old new stored runs t
 writes_all old new stored runs i t above below m =
     writes_end old new stored runs t
     (subst (λ (z : List Stored). Makes old new (98 * (length stored * length runs)) (1 + 10 * (length stored * length runs)) 1 t
     (λ x. Tells new x t (list_any (keeps_hit old x runs) z))) (take-length stored)
-    (subst (λ (n : ℕ). Makes old new (98 * (n * length runs)) (1 + 10 * (n * length runs)) 1 t (λ x. Tells new x t (list_any (keeps_hit old x runs) (take n stored))))
+    (subst (λ (n : ℕ). Makes old new (98 * (n * length runs)) (1 + 10 * (n * length runs)) 1 t
+    (λ x. Tells new x t (list_any (keeps_hit old x runs) (take n stored))))
     (let e : i ≡ length stored = omega (arith, above, below) in e) m))
 
 -- an element at a place
@@ -354,6 +387,7 @@ pub has_at : {X : Type 0} → (xs : List X) (i : ℕ) (x : X) → i < length xs 
 has_at xs i x within at = (i, within, sym at)
 
 -- as many runs as there are pairs
-pub by_count : (old new : List TermNode) (kept : List (ℕ × ℕ)) (t : ℕ) (claim : TermReading → Type 0) → Makes old new (98 * length kept) (10 * length kept) 1 t claim →
+pub by_count : (old new : List TermNode) (kept : List (ℕ × ℕ)) (t : ℕ) (claim : TermReading → Type 0) →
+    Makes old new (98 * length kept) (10 * length kept) 1 t claim →
     Makes old new (98 * length (map kept_of kept)) (10 * length (map kept_of kept)) 1 t claim
 by_count old new kept t claim m = subst (λ (n : ℕ). Makes old new (98 * n) (10 * n) 1 t claim) (sym (length-map kept kept_of)) m

@@ -4,8 +4,8 @@ use Rattle.walk_spec.specs.Terms.{TermReading, InRange, TermNode, AreTyped, HasW
 use Rattle.walk_spec.specs.Passive.{Tells}
 use Rattle.term_dag.specs.Made.{Grew, InputsFrom}
 
--- The list of nodes has grown by at most so many gates and nodes, without an input, and has a term of a width; what is claimed of it holds under every reading in
--- range.
+-- The list of nodes has grown by at most so many gates and nodes, without an input, and has a term of a width; what is claimed of it holds under every reading
+-- in range.
 pub record Makes (old new : List TermNode) (gates nodes wide t : ℕ) (claim : TermReading → Type 0) : Type 0 where
   pub grew : Grew old new gates 0 0 0 nodes
   pub inputs : InputsFrom old new (λ m. ⊥)

@@ -40,7 +40,8 @@ IsPlaceOf places Outward = Unit {0}
 IsPlaceOf places OverLast = Unit {0}
 
 -- the walk goes on by an aim to the next state, which terms are where a bit is 1
-pub record Follows (nodes : List TermNode) (s : Sweep) (big : Bool) (lines : List NoteLine) (next : Now) (aim : Aim) (from : ℕ) (x : TermReading) (w : Walk) (b : Bool) : Type 0 where
+pub record Follows (nodes : List TermNode) (s : Sweep) (big : Bool) (lines : List NoteLine) (next : Now) (aim : Aim) (from : ℕ) (x : TermReading) (w : Walk)
+    (b : Bool) : Type 0 where
   pub situation : Situation
   pub is : w ≡ walk_to situation.program situation.entry situation.next (aim_of aim)
   pub later : IsLater from aim
@@ -114,10 +115,13 @@ AreLater from [] = Unit {0}
 AreLater from (e ∷ rest) = IsLater from e.aim × AreLater from rest
 
 -- Edges are tried one by one: some are left.
-pub record EdgesTried (old new : List TermNode) (s z : Sweep) (rest left : ℕ) (big : Bool) (lines : List NoteLine) (next : Now) (jumped link : ℕ) (all others : List Edge) : Type 0 where
+pub record EdgesTried (old new : List TermNode) (s z : Sweep) (rest left : ℕ) (big : Bool) (lines : List NoteLine) (next : Now) (jumped link : ℕ)
+    (all others : List Edge) : Type 0 where
   pub edges : AreEdges old new s z next.names.now lines all others
   pub bit : HasWidth new 1 left
   pub narrows : Narrows old new rest left (λ x q. Unit {0})
   pub later : (from : ℕ) → AreLater from all → AreLater from others
-  pub tries : (x : TermReading) → InRange x → (from : ℕ) → AreLater from all → (S : Situation) → S.program.ensures ≡ lines → (term_word x old rest ≡ 1 → GoesHere old s big next jumped link x S) → (before after : Held)
-      (tail : List PointExit) → IsPending old s from x rest before after (goes S (map edge_of all ++ tail) before) → IsPending new z from x left before after (goes S (map edge_of others ++ tail) before)
+  pub tries : (x : TermReading) → InRange x → (from : ℕ) → AreLater from all → (S : Situation) → S.program.ensures ≡ lines →
+      (term_word x old rest ≡ 1 → GoesHere old s big next jumped link x S) → (before after : Held)
+      (tail : List PointExit) → IsPending old s from x rest before after (goes S (map edge_of all ++ tail) before) →
+      IsPending new z from x left before after (goes S (map edge_of others ++ tail) before)

@@ -12,8 +12,8 @@ use Rattle.note_terms.specs.Lines.{IsStateOf}
 use Rattle.passify.specs.declared.sweep.Sweep.{Sweep}
 use Rattle.passify.specs.Sweeps.{ShowsAt}
 
--- The exits of a point are tried: a bit is 1 as long as none was taken. Until then the terms are what is held before the point, and what is held in the end is what
--- the other exits make of that; afterwards the terms are what is held in the end.
+-- The exits of a point are tried: a bit is 1 as long as none was taken. Until then the terms are what is held before the point, and what is held in the end is
+-- what the other exits make of that; afterwards the terms are what is held in the end.
 pub record IsPending (nodes : List TermNode) (s : Sweep) (from : ℕ) (x : TermReading) (rest : ℕ) (before after go : Held) : Type 0 where
   pub some : Bool
   pub tells : Tells nodes x rest some
@@ -21,10 +21,13 @@ pub record IsPending (nodes : List TermNode) (s : Sweep) (from : ℕ) (x : TermR
   pub shows : ShowsAt nodes s from x (held_if some before after)
 
 -- An exit is tried: where none was taken before it, it is taken as a test says, and then the walk goes on by it, as far as what it needs to be so is so.
-abbrev pub Tries : (old new : List TermNode) → (s z : Sweep) → (rest left : ℕ) → (TermReading → Bool → Type 0) → (ℕ → TermReading → Walk → Bool → Type 0) → Type 0
+abbrev pub Tries : (old new : List TermNode) → (s z : Sweep) → (rest left : ℕ) → (TermReading → Bool → Type 0) → (ℕ → TermReading → Walk → Bool → Type 0) →
+    Type 0
 Tries old new s z rest left Takes Is =
-    (x : TermReading) → InRange x → (from : ℕ) (w : Walk) (q : Bool) → (term_word x old rest ≡ 1 → Takes x q) → ((b : Bool) → (b ≡ true → term_word x old rest ≡ 1) → Is from x w b) →
-    (before after go then_go : Held) → go ≡ held_if q (hand w before) then_go → IsPending old s from x rest before after go → IsPending new z from x left before after then_go
+    (x : TermReading) → InRange x → (from : ℕ) (w : Walk) (q : Bool) → (term_word x old rest ≡ 1 → Takes x q) →
+    ((b : Bool) → (b ≡ true → term_word x old rest ≡ 1) → Is from x w b) →
+    (before after go then_go : Held) → go ≡ held_if q (hand w before) then_go → IsPending old s from x rest before after go →
+    IsPending new z from x left before after then_go
 
 -- where no exit was taken, none was before, and the one tried was not
 abbrev pub Narrows : (old new : List TermNode) → (rest left : ℕ) → (TermReading → Bool → Type 0) → Type 0

@@ -41,8 +41,8 @@ pub record IsSweepOf (u : Unrolled) (s : Sweep) : Type 0 where
   pub at : s.at ≡ u.entry
   pub places : length s.met.items ≡ length (unrolled_of u).points
 
--- A point is handled: under every reading of which the terms are what is held before it, and its names what is carried to it where it is met, they are what is held
--- behind it.
+-- A point is handled: under every reading of which the terms are what is held before it, and its names what is carried to it where it is met, they are what is
+-- held behind it.
 pub record IsHandled (u : Unrolled) (old new : List TermNode) (s z : Sweep) (place : ℕ) (n : Names) : Type 0 where
   pub steps : Steps old new s z (point_gates (unrolled_of u) (point_at (unrolled_of u) place)) (point_loaded (unrolled_of u) (point_at (unrolled_of u) place))
       (point_at (unrolled_of u) place).stores (point_joins (point_at (unrolled_of u) place)) (point_nodes (unrolled_of u) (point_at (unrolled_of u) place))
@@ -57,4 +57,5 @@ pub record TellsKept (old new : List TermNode) (stored : List Stored) (kept : Li
   pub inputs : InputsFrom old new (λ m. ⊥)
   pub typed : AreTyped new
   pub width : HasWidth new 1 t
-  pub tells : (x : TermReading) → InRange x → (bytes : List ℕ) → ((a : ℕ) → Contains bytes a ↔ IsStoredBy old x stored a) → Tells new x t (list_any (is_in kept) bytes)
+  pub tells : (x : TermReading) → InRange x → (bytes : List ℕ) → ((a : ℕ) → Contains bytes a ↔ IsStoredBy old x stored a) →
+      Tells new x t (list_any (is_in kept) bytes)

@@ -66,24 +66,28 @@ abbrev pub own_lines : Unrolled → ℕ → List Expr
 own_lines u i = assert_lines (notes_of u.notes.now).asserts (own_index u i)
 
 -- Bits tell whether a point raises an exception, stores a kept byte and goes on to where no row can stand, and terms are what it goes on to.
-pub record LeavesHere (nodes : List TermNode) (s : Sweep) (big : Bool) (raise write off : ℕ) (next : Now) (jumped link : ℕ) (x : TermReading) (S : Situation) : Type 0 where
+pub record LeavesHere (nodes : List TermNode) (s : Sweep) (big : Bool) (raise write off : ℕ) (next : Now) (jumped link : ℕ) (x : TermReading)
+    (S : Situation) : Type 0 where
   pub raised : Tells nodes x raise (is_raised S.leaving)
   pub wrote : Tells nodes x write S.writes_kept
   pub odd : is_raised S.leaving ≡ false → Tells nodes x off (is_unaligned S.leaving)
   pub goes_on : is_raised S.leaving ≡ false → GoesHere nodes s big next jumped link x S
 
 -- The exits of a row are tried, three to events and some edges.
-pub record IsLeaving (old new : List TermNode) (s z : Sweep) (rest left : ℕ) (big : Bool) (lines : List NoteLine) (raise write off : ℕ) (next : Now) (jumped link : ℕ)
+pub record IsLeaving (old new : List TermNode) (s z : Sweep) (rest left : ℕ) (big : Bool) (lines : List NoteLine) (raise write off : ℕ) (next : Now)
+    (jumped link : ℕ)
     (edges : List Edge) : Type 0 where
-  pub steps : Steps old new s z (9 + sum_by (λ e. 35 + aim_gates next.names.now lines e.aim) edges) (sum_by (λ e. aim_loads lines e.aim) edges) 0 (sum_by (λ e. aim_joins e.aim) edges)
+  pub steps : Steps old new s z (9 + sum_by (λ e. 35 + aim_gates next.names.now lines e.aim) edges) (sum_by (λ e. aim_loads lines e.aim) edges) 0 (sum_by
+      (λ e. aim_joins e.aim) edges)
       (24 + sum_by (λ e. 14 + aim_nodes next.names.now lines e.aim) edges) (λ m. ⊥)
   pub bit : HasWidth new 1 left
   pub tries : (x : TermReading) → InRange x → (from : ℕ) → AreLater from edges → (S : Situation) → S.program.ensures ≡ lines →
       (term_word x old rest ≡ 1 → LeavesHere old s big raise write off next jumped link x S) → (before after : Held) →
-      IsPending old s from x rest before after (goes S (Raising ∷ WritingKept ∷ Unaligned ∷ map edge_of edges) before) → IsPending new z from x left before after (goes S [] before)
+      IsPending old s from x rest before after (goes S (Raising ∷ WritingKept ∷ Unaligned ∷ map edge_of edges) before) →
+      IsPending new z from x left before after (goes S [] before)
 
--- What stands at a place behind its assert lines is tried, from what terms denote, and no exit is left but that of a jump to no edge. Beside it there is room for the
--- assert lines, and for the address and the end.
+-- What stands at a place behind its assert lines is tried, from what terms denote, and no exit is left but that of a jump to no edge. Beside it there is room
+-- for the assert lines, and for the address and the end.
 pub record IsRowTried (u : Unrolled) (place : ℕ) (n : Names) (old new : List TermNode) (s z : Sweep) (rest left : ℕ) : Type 0 where
   pub gates : ℕ
   pub loads : ℕ
@@ -100,5 +104,6 @@ pub record IsRowTried (u : Unrolled) (place : ℕ) (n : Names) (old new : List T
   pub tries : (x : TermReading) → InRange x → (entry : State) → entry ≡ state_at (at_entry x) s.at → (c : Carried) →
       (term_word x old rest ≡ 1 → Denotes (form_of n) old x (names_of n) c) → (before after : Held) →
       IsPending old s (suc place) x rest before after
-      (goes (situation_at (unrolled_of u) (placed u place) entry (x.choice place) c) (row_exits (own_code u place).fetchable (own_code u place).list (own_edges u place)) before) →
+      (goes (situation_at (unrolled_of u) (placed u place) entry (x.choice place) c)
+      (row_exits (own_code u place).fetchable (own_code u place).list (own_edges u place)) before) →
       IsPending new z (suc place) x left before after (goes (situation_at (unrolled_of u) (placed u place) entry (x.choice place) c) [] before)

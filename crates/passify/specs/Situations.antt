@@ -17,7 +17,8 @@ use Rattle.passify.specs.declared.sweep.Sweep.{Sweep}
 use Rattle.passify.specs.Sweeps.{Steps}
 use Rattle.passify.specs.Exits.{IsPending, Narrows}
 
--- What decides which exit of a point is taken: the program, the states at entry, at the point and after it, whether a kept byte is stored, and how the point is left.
+-- What decides which exit of a point is taken: the program, the states at entry, at the point and after it, whether a kept byte is stored, and how the point is
+-- left.
 pub record Situation : Type 0 where
   pub program : UnrolledProgram
   pub entry : State
@@ -36,8 +37,10 @@ pub record IsThere (nodes : List TermNode) (s : Sweep) (big : Bool) (n : Now) (s
   pub entry : S.entry ≡ state_at (at_entry x) s.at
   pub is : IsStateOf nodes x n (carried_of (state S)) (state S).pc
 
--- Exits are tried: from what is held in the end by all of them to what is by those that are left. Where none was taken before, the terms have to fit the situation.
-abbrev pub TriesAll : (old new : List TermNode) → (s z : Sweep) → (rest left : ℕ) → (TermReading → Situation → Type 0) → (all others : Situation → List PointExit → Held → Held) → Type 0
+-- Exits are tried: from what is held in the end by all of them to what is by those that are left. Where none was taken before, the terms have to fit the
+-- situation.
+abbrev pub TriesAll : (old new : List TermNode) → (s z : Sweep) → (rest left : ℕ) → (TermReading → Situation → Type 0) →
+    (all others : Situation → List PointExit → Held → Held) → Type 0
 TriesAll old new s z rest left Fits all others =
     (x : TermReading) → InRange x → (from : ℕ) (S : Situation) → (term_word x old rest ≡ 1 → Fits x S) → (before after : Held) (tail : List PointExit) →
     IsPending old s from x rest before after (all S tail before) → IsPending new z from x left before after (others S tail before)

@@ -62,7 +62,8 @@ pub record AreLike (s z : Sweep) : Type 0 where
   pub at : z.at ≡ s.at
   pub places : length z.met.items ≡ length s.met.items
 
--- A step keeps what is kept as terms of the same places, by new terms within so many gates, byte loads, byte stores, joins and nodes, and no other inputs than some.
+-- A step keeps what is kept as terms of the same places, by new terms within so many gates, byte loads, byte stores, joins and nodes, and no other inputs than
+-- some.
 pub record Steps (old new : List TermNode) (s z : Sweep) (gates loads stores joins nodes : ℕ) (more : TermNode → Type 0) : Type 0 where
   pub grew : Grew old new gates loads stores joins nodes
   pub inputs : InputsFrom old new more
@@ -83,12 +84,13 @@ HasEvent w = (e : Event) × (w ≡ WalkFails e)
 abbrev pub ComesTo : (nodes : List TermNode) → Names → (place from : ℕ) → TermReading → Walk → Bool → Type 0
 ComesTo nodes n place from x w b = (c : Carried) × (w ≡ WalkIsAt place c) × (from ≤ place) × (b ≡ true → Denotes (form_of n) nodes x (names_of n) c)
 
--- Terms are those of one of two states, by two bits: where the first is 1 they denote what the first names do; where it is 0 and the second 1, what the others do,
--- if there are others.
+-- Terms are those of one of two states, by two bits: where the first is 1 they denote what the first names do; where it is 0 and the second 1, what the others
+-- do, if there are others.
 pub record IsJoined (form : Names) (old new : List TermNode) (hit met : ℕ) (names : Names) (state : Option Names) (n : Names) : Type 0 where
   pub grew : Grew old new (bits_of names) 0 0 1 (2 * terms_of names)
   pub inputs : InputsFrom old new (λ m. ⊥)
   pub terms : AreTermsOf form new n
-  pub first : (x : TermReading) → InRange x → Tells old x hit true → (c : Carried) → Denotes (form_of names) old x (names_of names) c → Denotes (form_of n) new x (names_of n) c
+  pub first : (x : TermReading) → InRange x → Tells old x hit true → (c : Carried) → Denotes (form_of names) old x (names_of names) c →
+      Denotes (form_of n) new x (names_of n) c
   pub second : (x : TermReading) → InRange x → Tells old x hit false → Tells old x met true → (c : Carried) → AreCarried old x (Some state) c →
       Denotes (form_of n) new x (names_of n) c

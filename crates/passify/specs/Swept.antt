@@ -24,8 +24,8 @@ pub record LeaveRoom (u : UnrolledProgram) (nodes : List TermNode) (others : Lis
   pub joins : term_joins nodes + sum_by point_joins others ≤ sum_by point_joins u.points
   pub few : length nodes + sum_by (point_nodes u) others ≤ 2 * variables_of u + 48 + sum_by (point_nodes u) u.points
 
--- The first points are handled: what is kept are terms of the program, with room for the points that are left, and under every reading they are what is held after
--- those points.
+-- The first points are handled: what is kept are terms of the program, with room for the points that are left, and under every reading they are what is held
+-- after those points.
 pub record AreSwept (u : Unrolled) (handled : ℕ) (nodes : List TermNode) (s : Sweep) : Type 0 where
   pub well : AreWell nodes s
   pub sweep : IsSweepOf u s

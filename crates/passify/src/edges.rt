@@ -85,9 +85,11 @@ pub fn follow(
     requires next { AreTermsOf sweep.old.entry dag.old next.now.names.now }
     requires pc { HasWidth dag.old 32 next.now.pc.0 }
     requires hit { HasWidth dag.old 1 hit.0 }
-    ensures steps { IfOk result (λ _. Steps dag.old dag.new sweep.old sweep.new (aim_gates next.now.names.now (map note_line_of lines.now) aim) (aim_loads (map note_line_of lines.now) aim) 0
+    ensures steps { IfOk result (λ _. Steps dag.old dag.new sweep.old sweep.new (aim_gates next.now.names.now (map note_line_of lines.now) aim)
+        (aim_loads (map note_line_of lines.now) aim) 0
         (aim_joins aim) (aim_nodes next.now.names.now (map note_line_of lines.now) aim) (λ m. ⊥)) }
-    ensures hands { IfOk result (λ _. Hands dag.old dag.new sweep.old sweep.new hit.0 (Follows dag.old sweep.old big (map note_line_of lines.now) next.now aim)) }
+    ensures hands { IfOk result (λ _. Hands dag.old dag.new sweep.old sweep.new hit.0
+        (Follows dag.old sweep.old big (map note_line_of lines.now) next.now aim)) }
 {
     match aim {
         Aim::OnTo(place) => {
@@ -151,13 +153,15 @@ pub fn taken(
 ) -> Result<Term, AllocError>
     requires well { AreWell dag.old sweep.old }
     requires place { IsPlaceOf (length sweep.old.met.items) edge.aim }
-    requires reads { (i : _) → i < length lines.now → IsReadable (form_of gone.now.next.names.now) (slice_index_or (map note_line_of lines.now) i no_line).says }
+    requires reads { (i : _) → i < length lines.now → IsReadable (form_of gone.now.next.names.now)
+        (slice_index_or (map note_line_of lines.now) i no_line).says }
     requires next { AreTermsOf sweep.old.entry dag.old gone.now.next.names.now }
     requires pc { HasWidth dag.old 32 gone.now.next.pc.0 }
     requires jumped { HasWidth dag.old 1 gone.now.jumped.0 }
     requires link { HasWidth dag.old 32 link.0 }
     requires rest { HasWidth dag.old 1 rest.0 }
-    ensures steps { IfOk result (λ t. Steps dag.old dag.new sweep.old sweep.new (35 + aim_gates gone.now.next.names.now (map note_line_of lines.now) edge.aim) (aim_loads (map note_line_of lines.now) edge.aim) 0
+    ensures steps { IfOk result (λ t. Steps dag.old dag.new sweep.old sweep.new (35 + aim_gates gone.now.next.names.now (map note_line_of lines.now) edge.aim)
+        (aim_loads (map note_line_of lines.now) edge.aim) 0
         (aim_joins edge.aim) (14 + aim_nodes gone.now.next.names.now (map note_line_of lines.now) edge.aim) (λ m. ⊥)) }
     ensures bit { IfOk result (λ t. HasWidth dag.new 1 t.0) }
     ensures tries { IfOk result (λ t. Tries dag.old dag.new sweep.old sweep.new rest.0 t.0 (TakesEdge dag.old edge gone.now.jumped.0 gone.now.next.pc.0 link.0)
@@ -186,13 +190,15 @@ pub fn edges(
 ) -> Result<Term, AllocError>
     requires well { AreWell dag.old sweep.old }
     requires places { (i : _) (d : _) → i < length list.now → IsPlaceOf (length sweep.old.met.items) (slice_index_or list.now i d).aim }
-    requires reads { (i : _) → i < length lines.now → IsReadable (form_of gone.now.next.names.now) (slice_index_or (map note_line_of lines.now) i no_line).says }
+    requires reads { (i : _) → i < length lines.now → IsReadable (form_of gone.now.next.names.now)
+        (slice_index_or (map note_line_of lines.now) i no_line).says }
     requires next { AreTermsOf sweep.old.entry dag.old gone.now.next.names.now }
     requires pc { HasWidth dag.old 32 gone.now.next.pc.0 }
     requires jumped { HasWidth dag.old 1 gone.now.jumped.0 }
     requires link { HasWidth dag.old 32 link.0 }
     requires rest { HasWidth dag.old 1 rest.0 }
-    ensures { IfOk result (λ t. EdgesTried dag.old dag.new sweep.old sweep.new rest.0 t.0 big (map note_line_of lines.now) gone.now.next gone.now.jumped.0 link.0 list.now []) }
+    ensures { IfOk result (λ t. EdgesTried dag.old dag.new sweep.old sweep.new rest.0 t.0 big
+        (map note_line_of lines.now) gone.now.next gone.now.jumped.0 link.0 list.now []) }
 {
     let mut left = rest;
     for i in 0..list.len() {

@@ -71,9 +71,11 @@ pub fn denied(
     requires now { AreTermsOf sweep.old.entry dag.old now.now.names.now }
     requires pc { HasWidth dag.old 32 now.now.pc.0 }
     requires rest { HasWidth dag.old 1 rest.0 }
-    ensures steps { IfOk result (λ t. Steps dag.old dag.new sweep.old sweep.new (line_price (expr_of says.now)) (bytes_loaded (expr_of says.now)) 0 0 (4 * (line_size (expr_of says.now) + 4)) (λ m. ⊥)) }
+    ensures steps { IfOk result (λ t. Steps dag.old dag.new sweep.old sweep.new (line_price (expr_of says.now)) (bytes_loaded (expr_of says.now)) 0 0
+        (4 * (line_size (expr_of says.now) + 4)) (λ m. ⊥)) }
     ensures bit { IfOk result (λ t. HasWidth dag.new 1 t.0) }
-    ensures tries { IfOk result (λ t. Tries dag.old dag.new sweep.old sweep.new rest.0 t.0 (LineFails dag.old sweep.old big (expr_of says.now) now.now) (λ from x w b. HasEvent w)) }
+    ensures tries { IfOk result (λ t. Tries dag.old dag.new sweep.old sweep.new rest.0 t.0 (LineFails dag.old sweep.old big (expr_of says.now) now.now)
+        (λ from x w b. HasEvent w)) }
     ensures narrows { IfOk result (λ t. Narrows dag.old dag.new rest.0 t.0 (λ x q. Unit)) }
 {
     let here = Now {
@@ -102,11 +104,13 @@ pub fn asserts(
 ) -> Result<Term, AllocError>
     requires well { AreWell dag.old sweep.old }
     requires places { (i : _) → i < length index.now → (slice_index_or index.now i (0, 0)).1 < length lines.now }
-    requires reads { (i : _) → i < length index.now → IsReadable (form_of now.now.names.now) (slice_index_or (map assert_of lines.now) (slice_index_or index.now i (0, 0)).1 no_assert).says }
+    requires reads { (i : _) → i < length index.now → IsReadable (form_of now.now.names.now)
+        (slice_index_or (map assert_of lines.now) (slice_index_or index.now i (0, 0)).1 no_assert).says }
     requires now { AreTermsOf sweep.old.entry dag.old now.now.names.now }
     requires pc { HasWidth dag.old 32 now.now.pc.0 }
     requires rest { HasWidth dag.old 1 rest.0 }
-    ensures { IfOk result (λ t. LinesTried dag.old dag.new sweep.old sweep.new rest.0 t.0 big now.now (λ S. S.now) (assert_lines (map assert_of lines.now) index.now) []
+    ensures { IfOk result (λ t. LinesTried dag.old dag.new sweep.old sweep.new rest.0 t.0 big now.now
+        (λ S. S.now) (assert_lines (map assert_of lines.now) index.now) []
         (goes_asserts (map assert_of lines.now) index.now) (goes_asserts (map assert_of lines.now) [])) }
 {
     let mut left = rest;
@@ -131,7 +135,8 @@ pub fn judged(
     requires next { AreTermsOf sweep.old.entry dag.old next.now.names.now }
     requires pc { HasWidth dag.old 32 next.now.pc.0 }
     requires out { HasWidth dag.old 1 out.0 }
-    ensures { IfOk result (λ t. LinesTried dag.old dag.new sweep.old sweep.new out.0 t.0 big next.now (λ S. S.next) (map (λ l. l.says) (map note_line_of lines.now)) []
+    ensures { IfOk result (λ t. LinesTried dag.old dag.new sweep.old sweep.new out.0 t.0 big next.now
+        (λ S. S.next) (map (λ l. l.says) (map note_line_of lines.now)) []
         (goes_out_by (map note_line_of lines.now)) (goes_out_by [])) }
 {
     let mut left = out;

@@ -75,13 +75,15 @@ fn leave(
     requires wrote { HasWidth dag.old 1 leaves.now.wrote.0 }
     requires odd { HasWidth dag.old 1 leaves.now.odd.0 }
     requires places { (i : _) (d : _) → i < length list.now → IsPlaceOf (length sweep.old.met.items) (slice_index_or list.now i d).aim }
-    requires reads { (i : _) → i < length lines.now → IsReadable (form_of gone.now.next.names.now) (slice_index_or (map note_line_of lines.now) i no_line).says }
+    requires reads { (i : _) → i < length lines.now → IsReadable (form_of gone.now.next.names.now)
+        (slice_index_or (map note_line_of lines.now) i no_line).says }
     requires next { AreTermsOf sweep.old.entry dag.old gone.now.next.names.now }
     requires pc { HasWidth dag.old 32 gone.now.next.pc.0 }
     requires jumped { HasWidth dag.old 1 gone.now.jumped.0 }
     requires link { HasWidth dag.old 32 link.0 }
     requires rest { HasWidth dag.old 1 rest.0 }
-    ensures { IfOk result (λ t. IsLeaving dag.old dag.new sweep.old sweep.new rest.0 t.0 big (map note_line_of lines.now) leaves.now.raised.0 leaves.now.wrote.0 leaves.now.odd.0 gone.now.next gone.now.jumped.0
+    ensures { IfOk result (λ t. IsLeaving dag.old dag.new sweep.old sweep.new rest.0 t.0 big
+        (map note_line_of lines.now) leaves.now.raised.0 leaves.now.wrote.0 leaves.now.odd.0 gone.now.next gone.now.jumped.0
         link.0 list.now) }
 {
     let quiet = event(dag, sweep, rest, leaves.raised)?;

@@ -10,8 +10,8 @@ use std::alloc::{AllocError, Global};
 use term_dag::{Dag, Term};
 use term_names::{Names, copied, selected};
 
-/// The terms of the state at entry and of its address; for each point whether it is met, and for those that are still to be handled, and were come to, the terms of
-/// what is carried there; whether an event came, and whether one backward transfer too many did.
+/// The terms of the state at entry and of its address; for each point whether it is met, and for those that are still to be handled, and were come to, the
+/// terms of what is carried there; whether an event came, and whether one backward transfer too many did.
 #[derive(Drop)]
 pub struct Sweep {
     pub entry: Names,
@@ -45,8 +45,8 @@ pub fn turn(dag: &mut Dag, sweep: &mut Sweep, hit: Term) -> Result<(), AllocErro
     Ok(())
 }
 
-/// The terms of what is carried to a place where the bit is 1, and else of what was carried there before, where the place was met. The first to come has its terms
-/// copied; a later one is told from those before by a bit that tells no more than that.
+/// The terms of what is carried to a place where the bit is 1, and else of what was carried there before, where the place was met. The first to come has its
+/// terms copied; a later one is told from those before by a bit that tells no more than that.
 fn joined(
     alloc: Global,
     dag: &mut Dag,

@@ -124,8 +124,8 @@ fn visit(
     }
 }
 
-/// The passive program of an unrolled one, of which terms can be made: for each point whether it is met, and whether an event or one backward transfer too many comes. The
-/// error is want of memory, or of numbers for places.
+/// The passive program of an unrolled one, of which terms can be made: for each point whether it is met, and whether an event or one backward transfer too many
+/// comes. The error is want of memory, or of numbers for places.
 pub fn passive<'a>(alloc: Global, unrolled: &'a Unrolled<'a>) -> Result<Passive<'a>, AllocError>
     requires walkable { IsWalkable (unrolled_of unrolled.now) }
     requires formed { IsFormed unrolled.now }

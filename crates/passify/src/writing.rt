@@ -65,7 +65,8 @@ fn touches_some(
     requires store { IsStore dag.old stored }
     requires runs { AreRuns (map kept_of kept.now) }
     requires before { HasWidth dag.old 1 before.0 }
-    ensures { IfOk result (λ t. Makes dag.old dag.new (98 * length kept.now) (10 * length kept.now) 1 t.0 (λ x. (p g : Bool) → Tells dag.old x before.0 p → Tells dag.old x stored.guard.0 g →
+    ensures { IfOk result (λ t. Makes dag.old dag.new (98 * length kept.now) (10 * length kept.now) 1 t.0 (λ x. (p g : Bool) → Tells dag.old x before.0 p →
+        Tells dag.old x stored.guard.0 g →
         Tells dag.new x t.0 (p || (g && list_any (is_in (map kept_of kept.now)) (span (term_word x dag.old stored.address.0) stored.bytes))))) }
 {
     let mut some = before;

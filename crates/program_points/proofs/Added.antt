@@ -43,15 +43,18 @@ once_push xs x d n i j lt h e =
           n (at_in xs i x (sym (get_left xs (x ∷ []) i il) ∙ e ∙ ap (slice_get (xs ++ x ∷ [])) js ∙ at_push xs x)))
     ]
 
-module _ (k stacks : ℕ) (points : List Point) (seen more : BTreeSet (ℕ × ℕ × ℕ)) (x : Point) (is : IsListed k stacks points seen) (low : x.stack ≤ stacks) (turns : x.turns ≤ k)
-    (updates : (q : ℕ × ℕ × ℕ) → contains triple_cmp more q ≡ (if is_eq (triple_cmp (x.turns, x.stack, x.at) q) then true else contains triple_cmp seen q)) where
+module _ (k stacks : ℕ) (points : List Point) (seen more : BTreeSet (ℕ × ℕ ×
+    ℕ)) (x : Point) (is : IsListed k stacks points seen) (low : x.stack ≤ stacks) (turns : x.turns ≤ k)
+    (updates : (q : ℕ × ℕ × ℕ) → contains triple_cmp more q ≡ (if is_eq (triple_cmp (x.turns, x.stack, x.at) q) then true
+    else contains triple_cmp seen q)) where
   abbrev test : Point → Bool
   test q = is_eq (triple_cmp (x.turns, x.stack, x.at) (q.turns, q.stack, q.at))
 
   same : (q : Point) → test q ≡ true → x ≡ q
   same q h = let e = triple_tied x.turns x.stack x.at q.turns q.stack q.at h in same_point x q e.0 e.1 e.2
 
-  by_test : (q : Point) (b : Bool) → test q ≡ b → contains triple_cmp more (q.turns, q.stack, q.at) ≡ (if b then true else contains triple_cmp seen (q.turns, q.stack, q.at))
+  by_test : (q : Point) (b : Bool) → test q ≡ b → contains triple_cmp more (q.turns, q.stack, q.at)
+      ≡ (if b then true else contains triple_cmp seen (q.turns, q.stack, q.at))
   by_test q b e = updates (q.turns, q.stack, q.at) ∙ ap (λ z. if z then true else contains triple_cmp seen (q.turns, q.stack, q.at)) e
 
   -- the point is new
@@ -145,7 +148,8 @@ module _ (k max : ℕ) (point : Point) (old : List Point) where
         | inr s ↦ inr (e, last, s ∙ here, subst (λ (z : Point). z.turns ≤ k) (sym s) small)
       ];
       all = λ x l h w. elim (split x h) [
-        | inl o ↦ subst (λ (z : List Point). Contains z (target point x)) (sym add.begins) (Contains-append_left new add.rest (target point x) (is.all x (omega arith) o w))
+        | inl o ↦ subst (λ (z : List Point). Contains z (target point x)) (sym add.begins)
+            (Contains-append_left new add.rest (target point x) (is.all x (omega arith) o w))
         | inr s ↦ subst (λ (z : Point). Contains grown z) (here ∙ ap (target point) s) add.has
       ];
     }
@@ -163,7 +167,8 @@ module _ (k max : ℕ) (point : Point) (old : List Point) where
     all = λ x l h w. absurd (omega arith);
   }
 
-module _ (k max stacks : ℕ) (point : Point) (old : List Point) (ends : List End) (i : ℕ) (d : End) (fits : i < length ends) (new : List Point) (seen : BTreeSet (ℕ × ℕ × ℕ))
+module _ (k max stacks : ℕ) (point : Point) (old : List Point) (ends : List End) (i : ℕ) (d : End) (fits : i
+    < length ends) (new : List Point) (seen : BTreeSet (ℕ × ℕ × ℕ))
     (is : IsListed k stacks new seen × AreAdded k max point (take i ends) old new) where
   pub step_over : k < (target point (get_or ends i d)).turns → IsListed k stacks new seen × AreAdded k max point (take (i + 1) ends) old new
   step_over over = (is.0, added_over k max point old (take i ends) (take (i + 1) ends) (get_or ends i d) (take_more ends i d fits) new is.1 over)
@@ -184,7 +189,8 @@ module _ (k max stacks : ℕ) (point : Point) (old : List Point) (ends : List En
   pub step_stop : max < length new → IsListed k stacks new seen × AreAdded k max point ends old new
   step_stop over = (is.0, added_stop k max point old (take i ends) ends (drop i ends) new (sym (take-append-drop i ends)) over is.1)
 
-pub steps_end : (k max stacks : ℕ) (point : Point) (old : List Point) (ends : List End) (i : ℕ) (new : List Point) (seen : BTreeSet (ℕ × ℕ × ℕ)) → length ends ≤ i
+pub steps_end : (k max stacks : ℕ) (point : Point) (old : List Point) (ends : List End) (i : ℕ) (new : List Point) (seen : BTreeSet (ℕ × ℕ × ℕ)) →
+    length ends ≤ i
     → IsListed k stacks new seen × AreAdded k max point (take i ends) old new → IsListed k stacks new seen × AreAdded k max point ends old new
 steps_end k max stacks point old ends i new seen le is = (is.0, subst (λ (l : List End). AreAdded k max point l old new) (take_whole ends i le) is.1)
 
@@ -195,7 +201,8 @@ first_listed seen none points e = subst (λ (l : List Point). IsListed 0 0 l see
   within = λ q (i, w, z). absurd (omega arith);
 })
 
-pub first_alone : (x : Point) (old new : List Point) → old ≡ [] → IsAdded x old new → ((i j : ℕ) → i < j → j < length new → slice_get new i ≢ slice_get new j) → new ≡ x ∷ []
+pub first_alone : (x : Point) (old new : List Point) → old ≡ [] → IsAdded x old new → ((i j : ℕ) → i < j → j < length new → slice_get new i ≢ slice_get new j) →
+    new ≡ x ∷ []
 first_alone x old new e add once = shape add.rest (add.begins ∙ ap (λ l. l ++ add.rest) e)
   where
     is_x : (y : Point) → Contains new y → x ≡ y

@@ -20,7 +20,8 @@ pub data IsEdge (returns : Bool) (back : ℕ) (stack : List ℕ) (xs : List Succ
   backs : returns ≡ true → stack ≡ a ∷ s → a % 4 ≡ 0 → IsEdge returns back stack xs s a
 
 -- the same where each successor to the address is among others
-pub moved : (returns : Bool) (back : ℕ) (stack : List ℕ) (xs ys : List Successor) (s : List ℕ) (a : ℕ) → ((x : Successor) → x.to ≡ a → Contains xs x → Contains ys x)
+pub moved : (returns : Bool) (back : ℕ) (stack : List ℕ) (xs ys : List Successor) (s : List ℕ) (a : ℕ) →
+    ((x : Successor) → x.to ≡ a → Contains xs x → Contains ys x)
     → IsEdge returns back stack xs s a → IsEdge returns back stack ys s a
 moved returns back stack xs ys s a f (goes h e) = goes (f (successor NextLetter a) refl h) e
 moved returns back stack xs ys s a f (jumps h t e) = jumps (f (successor JumpLetter a) refl h) t e
@@ -67,7 +68,8 @@ of_sort (x ∷ xs) z h = elim (of_insert x (sort xs) z h) [
 ]
 
 -- the parts of a row's successors, and of its ends
-module _ (next : Bool) (direct : Option ℕ) (indirect call : Bool) (names : List ℕ) (at length : ℕ) (stack : List ℕ) (one : indirect ≡ true → direct ≡ None) where
+module _ (next : Bool) (direct : Option ℕ) (indirect call : Bool) (names : List ℕ) (at length : ℕ) (stack : List ℕ) (one : indirect ≡ true →
+    direct ≡ None) where
   abbrev letter : Bool → Letter
   letter c = if c then CallLetter else JumpLetter
 
@@ -119,13 +121,16 @@ module _ (next : Bool) (direct : Option ℕ) (indirect call : Bool) (names : Lis
   by_direct : (i : Bool) → indirect ≡ i → (a : ℕ) → Contains (some_of direct) a → Edge (after_call call length at stack) a
   by_direct true e a h = none_in a (subst (λ (o : Option ℕ). Contains (some_of o) a) (one e) h)
   by_direct false e a h =
-      lettered call refl a (in_straight (successor (letter call) a) (in_map (successor (letter call)) (some_of direct) a h)) (λ n. ap (λ z. z && not call && is_top stack a) e)
+      lettered call refl a (in_straight (successor (letter call) a) (in_map (successor (letter call)) (some_of direct) a h)) (λ n. ap (λ z. z && not call &&
+      is_top stack a) e)
 
   by_named : indirect ≡ true → (a : ℕ) → Contains names a → ((call ≡ false) → is_top stack a ≡ false) → Edge (after_call call length at stack) a
   by_named e a h t =
       let g : Contains through (successor (letter call) a) =
-      subst (λ (z : Bool). Contains (if z then map (successor (letter call)) names else []) (successor (letter call) a)) (sym e) (in_map (successor (letter call)) names a h) in
-      lettered call refl a (in_through (successor (letter call) a) g) (λ n. ap (λ z. z && not call && is_top stack a) e ∙ ap (λ z. not z && is_top stack a) n ∙ t n)
+      subst (λ (z : Bool). Contains (if z then map (successor (letter call)) names else []) (successor (letter call) a)) (sym e)
+      (in_map (successor (letter call)) names a h) in
+      lettered call refl a (in_through (successor (letter call) a) g) (λ n. ap (λ z. z && not call && is_top stack a) e ∙ ap (λ z. not z &&
+      is_top stack a) n ∙ t n)
 
   back_edge : (l : List ℕ) → stack ≡ l → call ≡ false → indirect ≡ true → (s : List ℕ) (a : ℕ) → a % 4 ≡ 0 → Contains (return_ends l) (ToAddress s a) → Edge s a
   back_edge [] e c i s a m h = absurd (let t = only_in ToExit (ToAddress s a) h in let u : false ≡ true = ap is_address t in cc)
@@ -133,7 +138,8 @@ module _ (next : Bool) (direct : Option ℕ) (indirect call : Bool) (names : Lis
       let t = only_in (ToAddress below top) (ToAddress s a) h in
       backs (ap (λ z. z && not call) i ∙ ap not c) (e ∙ ap (λ z. z ∷ below) (ap at_of t) ∙ ap (λ z. a ∷ z) (ap stack_of t)) m
 
-  by_through : (c : Bool) → call ≡ c → indirect ≡ true → (s : List ℕ) (a : ℕ) → a % 4 ≡ 0 → Contains (indirect_ends c length at stack names) (ToAddress s a) → Edge s a
+  by_through : (c : Bool) → call ≡ c → indirect ≡ true → (s : List ℕ) (a : ℕ) → a % 4 ≡ 0 → Contains (indirect_ends c length at stack names) (ToAddress s a) →
+      Edge s a
   by_through true c i s a m h =
       let q = of_map (λ b. ToAddress (after_call true length at stack) b) names (ToAddress s a) h in
       subst (λ (z : List ℕ). Edge z a) (ap (λ z. after_call z length at stack) c ∙ ap stack_of q.2)
@@ -151,7 +157,8 @@ module _ (next : Bool) (direct : Option ℕ) (indirect call : Bool) (names : Lis
       unless true e = absurd (cc)
       unless false e = refl
 
-  through_by : (i : Bool) → indirect ≡ i → (s : List ℕ) (a : ℕ) → a % 4 ≡ 0 → Contains (if i then indirect_ends call length at stack names else []) (ToAddress s a) → Edge s a
+  through_by : (i : Bool) → indirect ≡ i → (s : List ℕ) (a : ℕ) → a % 4 ≡ 0 →
+      Contains (if i then indirect_ends call length at stack names else []) (ToAddress s a) → Edge s a
   through_by true i s a m h = by_through call refl i s a m h
   through_by false i s a m h = none_in (ToAddress s a) h
 
@@ -159,8 +166,10 @@ module _ (next : Bool) (direct : Option ℕ) (indirect call : Bool) (names : Lis
   next_by false n s a h = none_in (ToAddress s a) h
   next_by true n s a h =
       let t = only_in (ToAddress stack (add 32 at length)) (ToAddress s a) h in
-      let g : Contains (if true then successor NextLetter (add 32 at length) ∷ [] else []) (successor NextLetter a) = (0, omega arith, ap (successor NextLetter) (ap at_of t)) in
-      goes (in_nexts (successor NextLetter a) (subst (λ (z : Bool). Contains (if z then successor NextLetter (add 32 at length) ∷ [] else []) (successor NextLetter a)) (sym n) g))
+      let g : Contains (if true then successor NextLetter (add 32 at length)
+      ∷ [] else []) (successor NextLetter a) = (0, omega arith, ap (successor NextLetter) (ap at_of t)) in
+      goes (in_nexts (successor NextLetter a) (subst (λ (z : Bool). Contains (if z then successor NextLetter (add 32 at length)
+      ∷ [] else []) (successor NextLetter a)) (sym n) g))
       (sym (ap stack_of t))
 
   -- each end is an edge
@@ -214,15 +223,19 @@ module _ (next : Bool) (direct : Option ℕ) (indirect call : Bool) (names : Lis
   end_direct : (a : ℕ) → Contains (some_of direct) a → Contains ends (ToAddress (after_call call length at stack) a)
   end_direct a h =
       let t : EdgeEnd = ToAddress (after_call call length at stack) a in
-      in_left (ends_direct ++ ends_through) ends_next t (in_left ends_direct ends_through t (in_map (λ b. ToAddress (after_call call length at stack) b) (some_of direct) a h))
+      in_left (ends_direct ++ ends_through) ends_next t (in_left ends_direct ends_through t (in_map
+      (λ b. ToAddress (after_call call length at stack) b) (some_of direct) a h))
 
   end_through : (c : Bool) → call ≡ c → indirect ≡ true → (t : EdgeEnd) → Contains (indirect_ends c length at stack names) t → Contains ends t
   end_through c e i t h =
       in_left (ends_direct ++ ends_through) ends_next t (in_right ends_direct ends_through t
-      (subst (λ (z : Bool). Contains (if z then indirect_ends call length at stack names else []) t) (sym i) (subst (λ (z : Bool). Contains (indirect_ends z length at stack names) t) (sym e) h)))
+      (subst (λ (z : Bool). Contains (if z then indirect_ends call length at stack names else []) t) (sym i) (subst
+      (λ (z : Bool). Contains (indirect_ends z length at stack names) t) (sym e) h)))
 
-  end_named : (c : Bool) → call ≡ c → indirect ≡ true → (a : ℕ) → Contains names a → ((c ≡ false) → is_top stack a ≡ false) → Contains ends (ToAddress (after_call c length at stack) a)
-  end_named true e i a h t = end_through true e i (ToAddress (after_call true length at stack) a) (in_map (λ b. ToAddress (after_call true length at stack) b) names a h)
+  end_named : (c : Bool) → call ≡ c → indirect ≡ true → (a : ℕ) → Contains names a → ((c ≡ false) → is_top stack a ≡ false) →
+      Contains ends (ToAddress (after_call c length at stack) a)
+  end_named true e i a h t = end_through true e i (ToAddress (after_call true length at stack) a) (in_map
+      (λ b. ToAddress (after_call true length at stack) b) names a h)
   end_named false e i a h t =
       let rest : List ℕ = filter (λ b. not (is_top stack b)) names in
       end_through false e i (ToAddress stack a)
@@ -237,25 +250,29 @@ module _ (next : Bool) (direct : Option ℕ) (indirect call : Bool) (names : Lis
   no_back true r = (cc)
   no_back false r = (cc)
 
-  of_letter : (c : Bool) → call ≡ c → (a : ℕ) → ((indirect && not c && is_top stack a) ≡ false) → Part (successor (letter c) a) → Contains ends (ToAddress (after_call c length at stack) a)
+  of_letter : (c : Bool) → call ≡ c → (a : ℕ) → ((indirect && not c && is_top stack a) ≡ false) → Part (successor (letter c) a) →
+      Contains ends (ToAddress (after_call c length at stack) a)
   of_letter c e a t (of_next n q) = absurd (other c (sym (ap letter_at q)))
   of_letter c e a t (of_direct b h q) =
       subst (λ (z : ℕ). Contains ends (ToAddress (after_call c length at stack) z)) (ap to_at q)
       (subst (λ (z : Bool). Contains ends (ToAddress (after_call z length at stack) b)) e (end_direct b h))
   of_letter c e a t (of_named i b h q) =
-      end_named c e i a (subst (λ (z : ℕ). Contains names z) (ap to_at q) h) (λ n. sym (ap (λ z. z && not c && is_top stack a) i ∙ ap (λ z. not z && is_top stack a) n) ∙ t)
+      end_named c e i a (subst (λ (z : ℕ). Contains names z) (ap to_at q) h)
+      (λ n. sym (ap (λ z. z && not c && is_top stack a) i ∙ ap (λ z. not z && is_top stack a) n) ∙ t)
   of_letter c e a t (of_back q) = absurd (no_back c (ap letter_at q))
 
   of_goes : (a : ℕ) → Part (successor NextLetter a) → Contains ends (ToAddress stack a)
   of_goes a (of_next n q) =
-      let g : Contains (if true then ToAddress stack (add 32 at length) ∷ [] else []) (ToAddress stack a) = (0, omega arith, ap (ToAddress stack) (ap to_at q)) in
+      let g : Contains (if true then ToAddress stack (add 32 at length)
+      ∷ [] else []) (ToAddress stack a) = (0, omega arith, ap (ToAddress stack) (ap to_at q)) in
       in_right (ends_direct ++ ends_through) ends_next (ToAddress stack a)
       (subst (λ (z : Bool). Contains (if z then ToAddress stack (add 32 at length) ∷ [] else []) (ToAddress stack a)) (sym n) g)
   of_goes a (of_direct b h q) = absurd (other call (ap letter_at q))
   of_goes a (of_named i b h q) = absurd (other call (ap letter_at q))
   of_goes a (of_back q) = absurd (let r : ReturnLetter ≡ NextLetter = ap letter_at q in cc)
 
-  jumping : (c : Bool) → call ≡ c → (a : ℕ) → ((indirect && not call) && is_top stack a) ≡ false → Contains all (successor JumpLetter a) → Contains ends (ToAddress stack a)
+  jumping : (c : Bool) → call ≡ c → (a : ℕ) → ((indirect && not call) && is_top stack a) ≡ false → Contains all (successor JumpLetter a) →
+      Contains ends (ToAddress stack a)
   jumping false e a t h = of_letter false e a (ap (λ z. indirect && not z && is_top stack a) (sym e) ∙ t) (part (successor JumpLetter a) h)
   jumping true e a t h = absurd (no_jump (part (successor JumpLetter a) h))
     where
@@ -301,8 +318,12 @@ module _ (next : Bool) (direct : Option ℕ) (indirect call : Bool) (names : Lis
   to_fall false n s a h = none_in (ToAddress s a) h
   to_fall true n s a h =
       let t = only_in (ToAddress stack (add 32 at length)) (ToAddress s a) h in
-      let g : Contains (if true then successor NextLetter (add 32 at length) ∷ [] else []) (successor NextLetter a) = (0, omega arith, ap (successor NextLetter) (ap at_of t)) in
-      (sym (ap stack_of t), in_nexts (successor NextLetter a) (subst (λ (z : Bool). Contains (if z then successor NextLetter (add 32 at length) ∷ [] else []) (successor NextLetter a)) (sym n) g))
+      let g : Contains (if true then successor NextLetter (add 32 at length)
+      ∷ [] else []) (successor NextLetter a) = (0, omega arith, ap (successor NextLetter) (ap at_of t)) in (
+        sym (ap stack_of t),
+        in_nexts (successor NextLetter a) (subst
+            (λ (z : Bool). Contains (if z then successor NextLetter (add 32 at length) ∷ [] else []) (successor NextLetter a)) (sym n) g),
+      )
 
   pub fall_to : (s : List ℕ) (a : ℕ) → Contains ends_next (ToAddress s a) → (s ≡ stack) × Contains all (successor NextLetter a)
   fall_to s a h = to_fall next refl s a h
@@ -310,7 +331,8 @@ module _ (next : Bool) (direct : Option ℕ) (indirect call : Bool) (names : Lis
   pub fall_of : (a : ℕ) → Contains all (successor NextLetter a) → Contains ends_next (ToAddress stack a)
   fall_of a h = elim (part (successor NextLetter a) h) [
     | of_next n q ↦
-        let g : Contains (if true then ToAddress stack (add 32 at length) ∷ [] else []) (ToAddress stack a) = (0, omega arith, ap (ToAddress stack) (ap to_at q)) in
+        let g : Contains (if true then ToAddress stack (add 32 at length)
+        ∷ [] else []) (ToAddress stack a) = (0, omega arith, ap (ToAddress stack) (ap to_at q)) in
         subst (λ (z : Bool). Contains (if z then ToAddress stack (add 32 at length) ∷ [] else []) (ToAddress stack a)) (sym n) g
     | of_direct b g q ↦ absurd (other call (ap letter_at q))
     | of_named i b g q ↦ absurd (other call (ap letter_at q))
@@ -329,7 +351,8 @@ abbrev pub jumping_from : List Successor → List Successor
 jumping_from xs = filter (λ x. not (goes_on x.letter)) xs
 
 -- jumps alone: the same row without going on
-module _ (next : Bool) (direct : Option ℕ) (indirect call : Bool) (names : List ℕ) (at length : ℕ) (stack : List ℕ) (one : indirect ≡ true → direct ≡ None) where
+module _ (next : Bool) (direct : Option ℕ) (indirect call : Bool) (names : List ℕ) (at length : ℕ) (stack : List ℕ) (one : indirect ≡ true →
+    direct ≡ None) where
   abbrev front : List Successor
   front = nexts next direct indirect call names at length stack one
 
@@ -391,7 +414,8 @@ module _ (next : Bool) (direct : Option ℕ) (indirect call : Bool) (names : Lis
   abbrev jump_list : List EdgeEnd
   jump_list = ends_direct next direct indirect call names at length stack one ++ ends_through next direct indirect call names at length stack one
 
-  pub jump_to : (s : List ℕ) (a : ℕ) → a % 4 ≡ 0 → Contains jump_list (ToAddress s a) → IsEdge (indirect && not call) (add 32 at length) stack (jumping_from whole) s a
+  pub jump_to : (s : List ℕ) (a : ℕ) → a % 4 ≡ 0 → Contains jump_list (ToAddress s a) →
+      IsEdge (indirect && not call) (add 32 at length) stack (jumping_from whole) s a
   jump_to s a m h =
       moved (indirect && not call) (add 32 at length) stack alone (jumping_from whole) s a (λ x to i. alone_in x i)
       (to_edge false direct indirect call names at length stack one s a m (in_left jump_list [] (ToAddress s a) h))
@@ -399,7 +423,8 @@ module _ (next : Bool) (direct : Option ℕ) (indirect call : Bool) (names : Lis
   pub jump_of : (s : List ℕ) (a : ℕ) → IsEdge (indirect && not call) (add 32 at length) stack (jumping_from whole) s a → Contains jump_list (ToAddress s a)
   jump_of s a e =
       elim (split_in jump_list [] (ToAddress s a) (of_edge false direct indirect call names at length stack one s a
-      (moved (indirect && not call) (add 32 at length) stack (jumping_from whole) alone s a (λ x to i. in_alone x i) e))) as (λ _. Contains jump_list (ToAddress s a)) [
+      (moved (indirect && not call) (add 32 at length) stack (jumping_from whole) alone s a (λ x to i. in_alone x i) e))) as
+      (λ _. Contains jump_list (ToAddress s a)) [
         | inl j ↦ j
         | inr n ↦ none_in (ToAddress s a) n
       ]
@@ -443,11 +468,13 @@ module _ (p : Program) (way : HasOneWay p) (turns at : ℕ) (stack : List ℕ) w
 
     jumping_more : (x : Successor) → x.to % 4 ≡ 0 → Contains (jumping_from found) x → Contains (jumping_from (successors_at p at)) x
     jumping_more x m h =
-        let q = of_filter (λ (y : Successor). not (goes_on y.letter)) found x h in in_filter (λ (y : Successor). not (goes_on y.letter)) (successors_at p at) x (listed x m q.0) q.1
+        let q = of_filter (λ (y : Successor). not (goes_on y.letter)) found x h in in_filter
+        (λ (y : Successor). not (goes_on y.letter)) (successors_at p at) x (listed x m q.0) q.1
 
     jumping_less : (x : Successor) → Contains (jumping_from (successors_at p at)) x → Contains (jumping_from found) x
     jumping_less x h =
-        let q = of_filter (λ (y : Successor). not (goes_on y.letter)) (successors_at p at) x h in in_filter (λ (y : Successor). not (goes_on y.letter)) found x (unlisted x q.0).0 q.1
+        let q = of_filter (λ (y : Successor). not (goes_on y.letter)) (successors_at p at) x h in in_filter
+        (λ (y : Successor). not (goes_on y.letter)) found x (unlisted x q.0).0 q.1
 
     -- the ends of jumps are those that the other successors give
     pub jump_from : (t : List ℕ) (a : ℕ) → a % 4 ≡ 0 → Contains (points.jump_ends p point row s) (ToAddress t a)
@@ -468,15 +495,18 @@ module _ (p : Program) (way : HasOneWay p) (turns at : ℕ) (stack : List ℕ) w
         (moved (may_return p at) (add 32 at 4) stack (jumping_from (successors_at p at)) (jumping_from found) t a (λ x to i. jumping_less x i) e)))
 
     -- and the end of going on is the next address, with the same stack
-    pub fall_from : (t : List ℕ) (a : ℕ) → a % 4 ≡ 0 → Contains (points.fall_ends point row s) (ToAddress t a) → (t ≡ stack) × Contains (successors_at p at) (successor NextLetter a)
+    pub fall_from : (t : List ℕ) (a : ℕ) → a % 4 ≡ 0 → Contains (points.fall_ends point row s) (ToAddress t a) → (t ≡ stack) ×
+        Contains (successors_at p at) (successor NextLetter a)
     fall_from t a m h =
         let q = fall_to s.next s.direct s.indirect s.call (named p (file_word p) row at) at row.length stack (way.direct at row is) t a h in
         (q.0, listed (successor NextLetter a) m q.1)
 
-    pub fall_into : (t : List ℕ) (a : ℕ) → t ≡ stack → Contains (successors_at p at) (successor NextLetter a) → Contains (points.fall_ends point row s) (ToAddress t a)
+    pub fall_into : (t : List ℕ) (a : ℕ) → t ≡ stack → Contains (successors_at p at) (successor NextLetter a) →
+        Contains (points.fall_ends point row s) (ToAddress t a)
     fall_into t a e h =
         subst (λ (z : List ℕ). Contains (points.fall_ends point row s) (ToAddress z a)) (sym e)
-        (fall_of s.next s.direct s.indirect s.call (named p (file_word p) row at) at row.length stack (way.direct at row is) a (unlisted (successor NextLetter a) h).0)
+        (fall_of s.next s.direct s.indirect s.call (named p (file_word p) row at) at row.length stack (way.direct at row is) a
+        (unlisted (successor NextLetter a) h).0)
 
     row_edge : (t : List ℕ) (a : ℕ) → a % 4 ≡ 0 → RowEdge t a → PointEdge t a
     row_edge t a m e =

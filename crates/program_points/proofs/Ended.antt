@@ -50,7 +50,8 @@ pass_some None ys y h = h
 pass_some (Some w) ys y h = there w ys y h
 
 module _ {X : Type 0} where
-  some_by : (f : X → Option End) (x : X) (xs : List X) (y : End) (o : Option End) → f x ≡ o → (Contains (filter_map f xs) y → (z : X) × Contains xs z × (f z ≡ Some y))
+  some_by : (f : X → Option End) (x : X) (xs : List X) (y : End) (o : Option End) → f x ≡ o →
+      (Contains (filter_map f xs) y → (z : X) × Contains xs z × (f z ≡ Some y))
       → Contains (cons_option o (filter_map f xs)) y → (z : X) × Contains (x ∷ xs) z × (f z ≡ Some y)
   some_by f x xs y None e g h = (let q = g h in (q.0, there x xs q.0 q.1, q.2))
   some_by f x xs y (Some w) e g (zero, l, q) = (x, (0, omega arith, refl), e ∙ ap Some q)
@@ -121,7 +122,8 @@ module _ (frames : List Frame) (low : (i : ℕ) (f : Frame) → slice_get frames
         subst (λ (z : End). Edge (stack_at frames z.stack) z.at) r (calls (as_letter x h Call l) (called_stack x h l))
     by_letter x h Return l e q = absurd (cc)
 
-    aligned_by : (b : Bool) (f : Frame) (e : End) → (f.top % 4 == 0) ≡ b → (if b then Some (end f.below f.top) else None) ≡ Some e → (f.top % 4 ≡ 0) × (end f.below f.top ≡ e)
+    aligned_by : (b : Bool) (f : Frame) (e : End) → (f.top % 4 == 0) ≡ b → (if b then Some (end f.below f.top) else None) ≡ Some e → (f.top % 4 ≡ 0) ×
+        (end f.below f.top ≡ e)
     aligned_by true f e t q = (same_number (f.top % 4) 0 t, (cc))
     aligned_by false f e t q = absurd (cc)
 
@@ -147,12 +149,14 @@ module _ (frames : List Frame) (low : (i : ℕ) (f : Frame) → slice_get frames
       | inr b ↦ back_by returns refl e b
     ]
 
-    pub of_letter : (l : Letter) (a : ℕ) → Contains (map successor_of items) (graph.successor (letter_of l) a) → (x : Successor) × Contains items x × (x.letter ≡ l) × (x.to ≡ a)
+    pub of_letter : (l : Letter) (a : ℕ) → Contains (map successor_of items) (graph.successor (letter_of l) a) → (x : Successor) × Contains items x ×
+        (x.letter ≡ l) × (x.to ≡ a)
     of_letter l a h =
         let q = of_map successor_of items (graph.successor (letter_of l) a) h in
         (q.0, q.1, same_letter q.0.letter l (ap (λ (z : graph.Successor). z.letter) q.2), ap (λ (z : graph.Successor). z.to) q.2)
 
-    from_successor : (x : Successor) → Contains items x → (s a : ℕ) → x.to ≡ a → letter_end returns top stack called x.letter a ≡ Some (end s a) → Contains ends (end s a)
+    from_successor : (x : Successor) → Contains items x → (s a : ℕ) → x.to ≡ a → letter_end returns top stack called x.letter a ≡ Some (end s a) →
+        Contains ends (end s a)
     from_successor x h s a t e =
         in_left (filter_map (successor_end returns top stack called) items) (listed (back_end returns top)) (end s a)
         (in_some (successor_end returns top stack called) items x (end s a) h (ap (letter_end returns top stack called x.letter) t ∙ e))
@@ -163,8 +167,13 @@ module _ (frames : List Frame) (low : (i : ℕ) (f : Frame) → slice_get frames
         let q = of_letter Next a h in
         (end stack a, from_successor q.0 q.1 stack a q.3 (ap (λ l. letter_end returns top stack called l a) q.2), sym e, refl)
     edge_end s a (jumps h t e) =
-        let q = of_letter Jump a h in
-        (end stack a, from_successor q.0 q.1 stack a q.3 (ap (λ l. letter_end returns top stack called l a) q.2 ∙ ap (λ b. jump_end b stack a) (sym (tops a) ∙ t)), sym e, refl)
+        let q = of_letter Jump a h in (
+          end stack a,
+          from_successor q.0 q.1 stack a q.3 (ap (λ l. letter_end returns top stack called l a) q.2 ∙ ap
+              (λ b. jump_end b stack a) (sym (tops a) ∙ t)),
+          sym e,
+          refl,
+        )
     edge_end s a (calls h e) =
         let q = of_letter Call a h in
         (end called a, from_successor q.0 q.1 called a q.3 (ap (λ l. letter_end returns top stack called l a) q.2), called_stack q.0 q.1 q.2 ∙ sym e, refl)
@@ -188,7 +197,8 @@ module _ (frames : List Frame) (low : (i : ℕ) (f : Frame) → slice_get frames
 
     frame_low : (m : ℕ) (f : Frame) → frame_at frames m ≡ Some f → (m ≤ length frames) × (f.below ≤ length frames)
     frame_low zero f e = absurd (cc)
-    frame_low (suc i) f e = (let l = slice_get_within frames i f e in let b = low i f e in ((let q : suc i ≤ length frames = omega arith in q), (let q : f.below ≤ length frames = omega arith in q)))
+    frame_low (suc i) f e = (let l = slice_get_within frames i f e in let b = low i f e
+        in ((let q : suc i ≤ length frames = omega arith in q), (let q : f.below ≤ length frames = omega arith in q)))
 
     low_as : (m a : ℕ) (e : End) → m ≤ length frames → end m a ≡ e → e.stack ≤ length frames
     low_as m a e l r = subst (λ (z : End). z.stack ≤ length frames) r l
@@ -197,7 +207,8 @@ module _ (frames : List Frame) (low : (i : ℕ) (f : Frame) → slice_get frames
     low_jump a true e q = absurd (cc)
     low_jump a false e q = low_as stack a e fits (let r : end stack a ≡ e = (cc) in r)
 
-    low_letter : (x : Successor) → Contains items x → (l : Letter) → x.letter ≡ l → (e : End) → letter_end returns top stack called l x.to ≡ Some e → e.stack ≤ length frames
+    low_letter : (x : Successor) → Contains items x → (l : Letter) → x.letter ≡ l → (e : End) → letter_end returns top stack called l x.to ≡ Some e →
+        e.stack ≤ length frames
     low_letter x h Next l e q = low_as stack x.to e fits (let r : end stack x.to ≡ e = (cc) in r)
     low_letter x h Jump l e q = low_jump x.to (returns && has_top top x.to) e q
     low_letter x h Call l e q = low_as called x.to e (frame_low called (frame (add 32 at 4) stack) (pushes x h l)).0 (let r : end called x.to ≡ e = (cc) in r)

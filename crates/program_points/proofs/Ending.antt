@@ -20,7 +20,8 @@ one f x = by (f x)
     by None = refl
     by (Some e) = refl
 
-pub ends_more : {X : Type 0} (f : X → Option End) (xs : List X) (i : ℕ) (d : X) (o : Option End) (found grown : List End) → i < length xs → f (get_or xs i d) ≡ o
+pub ends_more : {X : Type 0} (f : X → Option End) (xs : List X) (i : ℕ) (d : X) (o : Option End) (found grown : List End) → i < length xs →
+    f (get_or xs i d) ≡ o
     → found ≡ filter_map f (take i xs) → grown ≡ found ++ listed o → grown ≡ filter_map f (take (i + 1) xs)
 ends_more f xs i d o found grown fits e is more =
     more ∙ ap (λ l. l ++ listed o) is ∙ ap (λ l. filter_map f (take i xs) ++ l) (sym (ap listed e) ∙ sym (one f (get_or xs i d)))
@@ -33,7 +34,8 @@ ends_whole f xs i back o found grown le e is more =
 
 no_call : (xs : List Successor) (x : Successor) → list_any (λ s. is_call s.letter) xs ≡ false → Contains xs x → x.letter ≡ Call → ⊥
 no_call [] x h (i, w, e) c = absurd (omega arith)
-no_call (y ∷ xs) x h (zero, w, e) c = absurd (let t : is_call y.letter ≡ true = ap (λ (z : Successor). is_call z.letter) e ∙ ap is_call c in let u = ap (λ b. b || list_any (λ (s : Successor). is_call s.letter) xs) t in cc)
+no_call (y ∷ xs) x h (zero, w, e) c = absurd (let t : is_call y.letter
+    ≡ true = ap (λ (z : Successor). is_call z.letter) e ∙ ap is_call c in let u = ap (λ b. b || list_any (λ (s : Successor). is_call s.letter) xs) t in cc)
 no_call (y ∷ xs) x h (suc i, w, e) c = no_call xs x (rest (is_call y.letter) (list_any (λ (s : Successor). is_call s.letter) xs) h) (i, omega arith, e) c
   where
     rest : (a b : Bool) → (a || b) ≡ false → b ≡ false
@@ -41,7 +43,13 @@ no_call (y ∷ xs) x h (suc i, w, e) c = no_call xs x (rest (is_call y.letter) (
     rest false b q = q
 
 pub called_none : (n : Node) (stack : ℕ) (frames : List Frame) → list_any (λ s. is_call s.letter) n.successors.items ≡ false → IsCalled n stack frames frames 0
-called_none n stack frames h = record { rest = []; begins = nothing_more frames; only = inl refl; pushes = λ x c l. absurd (no_call n.successors.items x h c l) }
+called_none n stack frames h = record {
+  rest = [];
+  begins = nothing_more frames;
+  only = inl refl;
+  pushes =
+      λ x c l. absurd (no_call n.successors.items x h c l);
+}
 
 pub called_pushed : (n : Node) (stack number : ℕ) (old new : List Frame) → IsPushed old new (add 32 n.at 4) stack number → IsCalled n stack old new number
 called_pushed n stack number old new is = record {
@@ -53,17 +61,20 @@ called_pushed n stack number old new is = record {
 
 kept_by : (f : Successor → Option End) (s : Successor) (b : Bool) (xs : List Successor) → is_next s.letter ≡ b →
     filter_map (λ x. if is_next x.letter then None else f x) xs ≡ filter_map f (filter (λ x. not (is_next x.letter)) xs) →
-    cons_option (if b then None else f s) (filter_map (λ x. if is_next x.letter then None else f x) xs) ≡ filter_map f (if not b then s ∷ filter (λ x. not (is_next x.letter)) xs else filter (λ x. not (is_next x.letter)) xs)
+    cons_option (if b then None else f s) (filter_map (λ x. if is_next x.letter then None else f x) xs)
+    ≡ filter_map f (if not b then s ∷ filter (λ x. not (is_next x.letter)) xs else filter (λ x. not (is_next x.letter)) xs)
 kept_by f s true xs e h = h
 kept_by f s false xs e h = ap (λ (l : List End). cons_option (f s) l) h
 
 -- ends of successors that are not the next address
-pub ways_kept : (f : Successor → Option End) (xs : List Successor) → filter_map (λ x. if is_next x.letter then None else f x) xs ≡ filter_map f (filter (λ x. not (is_next x.letter)) xs)
+pub ways_kept : (f : Successor → Option End) (xs : List Successor) →
+    filter_map (λ x. if is_next x.letter then None else f x) xs ≡ filter_map f (filter (λ x. not (is_next x.letter)) xs)
 ways_kept f [] = refl
 ways_kept f (s ∷ xs) = kept_by f s (is_next s.letter) xs refl (ways_kept f xs)
 
 -- the ends so far and the return's are those of the successors that are not the next address
-pub ways_whole : (returns : Bool) (f o : Option Frame) (stack called : ℕ) (items xs : List Successor) (i : ℕ) (back : Option End) (found grown : List End) → xs ≡ items → f ≡ o → length xs ≤ i
+pub ways_whole : (returns : Bool) (f o : Option Frame) (stack called : ℕ) (items xs : List Successor) (i : ℕ) (back : Option End) (found grown : List End) →
+    xs ≡ items → f ≡ o → length xs ≤ i
     → back_end returns f ≡ back → found ≡ filter_map (way_end returns f stack called) (take i xs) → grown ≡ found ++ listed back
     → grown ≡ ends_from returns (filter (λ s. not (is_next s.letter)) items) o stack called
 ways_whole returns f o stack called items xs i back found grown same top le e is more =

@@ -62,7 +62,8 @@ stack_keeps old rest n h =
     ap (λ l. get_or l n []) (from_append ([] ∷ []) old rest)
     ∙ from_keeps (stacks_from ([] ∷ []) old) rest n (let a = from_length ([] ∷ []) old in omega arith)
 
-pub stack_next : (frames : List Frame) (i : ℕ) (f : Frame) → slice_get frames i ≡ Some f → f.below ≤ i → stack_at frames (suc i) ≡ f.top ∷ stack_at frames f.below
+pub stack_next : (frames : List Frame) (i : ℕ) (f : Frame) → slice_get frames i ≡ Some f → f.below ≤ i →
+    stack_at frames (suc i) ≡ f.top ∷ stack_at frames f.below
 unfolding stacks_of
 stack_next frames i f e low =
     let none : List (List ℕ) = [] ∷ [] in
@@ -91,10 +92,12 @@ module _ (frames : List Frame) (numbers : BTreeMap (ℕ × ℕ) ℕ) (is : IsTab
       let g = frame_of j (omega arith) in
       let lf : f.0.below ≤ i = is.below i f.0 f.1 in
       let lg : g.0.below ≤ j = is.below j g.0 g.1 in
-      let q = top_same f.0.top g.0.top (stack_at frames f.0.below) (stack_at frames g.0.below) (sym (stack_next frames i f.0 f.1 lf) ∙ e ∙ stack_next frames j g.0 g.1 lg) in
+      let q = top_same f.0.top g.0.top (stack_at frames f.0.below) (stack_at frames g.0.below)
+      (sym (stack_next frames i f.0 f.1 lf) ∙ e ∙ stack_next frames j g.0 g.1 lg) in
       let r = one_number fuel f.0.below g.0.below (omega arith) (omega arith) (omega arith) q.1 in
       let s : Some (i + 1) ≡ Some (j + 1) =
-      sym (is.known i f.0 f.1) ∙ ap (λ z. tree.get pair_cmp numbers (z, f.0.below)) q.0 ∙ ap (λ z. tree.get pair_cmp numbers (g.0.top, z)) r ∙ is.known j g.0 g.1 in
+      sym (is.known i f.0 f.1) ∙ ap (λ z. tree.get pair_cmp numbers (z, f.0.below)) q.0 ∙ ap
+      (λ z. tree.get pair_cmp numbers (g.0.top, z)) r ∙ is.known j g.0 g.1 in
       let t : i + 1 ≡ j + 1 = (cc) in
       omega arith
 

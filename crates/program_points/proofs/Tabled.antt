@@ -9,14 +9,16 @@ use Rattle.program_points.specs.Tables.{pair_cmp, frame, IsTable, IsPushed}
 use Rattle.program_points.proofs.Keys.{pair_tied, pair_itself}
 use Rattle.program_points.proofs.Lists.{truth, push_cases, keeps, at_push, nothing_more}
 
-pub table_none : (frames : List Frame) (numbers : BTreeMap (ℕ × ℕ) ℕ) → frames ≡ [] → ((q : ℕ × ℕ) → tree.get pair_cmp numbers q ≡ None) → IsTable frames numbers
+pub table_none : (frames : List Frame) (numbers : BTreeMap (ℕ × ℕ) ℕ) → frames ≡ [] → ((q : ℕ × ℕ) → tree.get pair_cmp numbers q ≡ None) →
+    IsTable frames numbers
 table_none frames numbers e none = subst (λ (l : List Frame). IsTable l numbers) (sym e) (record {
   below = λ i f q. absurd (cc);
   known = λ i f q. absurd (cc);
   only = λ t b n q. absurd (let z = none (t, b) in cc);
 })
 
-pub had : (frames : List Frame) (numbers : BTreeMap (ℕ × ℕ) ℕ) (t b n : ℕ) → tree.get pair_cmp numbers (t, b) ≡ Some n → IsTable frames numbers → IsPushed frames frames t b n
+pub had : (frames : List Frame) (numbers : BTreeMap (ℕ × ℕ) ℕ) (t b n : ℕ) → tree.get pair_cmp numbers (t, b) ≡ Some n → IsTable frames numbers →
+    IsPushed frames frames t b n
 had frames numbers t b n e is =
     let q = is.only t b n e in
     record { rest = []; begins = nothing_more frames; only = inl refl; index = q.0; number_is = q.1; frame_is = q.2 }
@@ -43,7 +45,8 @@ module _ (frames : List Frame) (numbers more : BTreeMap (ℕ × ℕ) ℕ) (t b n
   known_old : (c d m : ℕ) → tree.get pair_cmp numbers (c, d) ≡ Some m → tree.get pair_cmp more (c, d) ≡ Some m
   known_old c d m e = elim (truth (is_eq (pair_cmp (t, b) (c, d)))) [
     | inl h ↦ (let q = pair_tied t b c d h in
-        let same : tree.get pair_cmp numbers (c, d) ≡ None = ap (λ z. tree.get pair_cmp numbers (z, d)) (sym q.0) ∙ ap (λ z. tree.get pair_cmp numbers (t, z)) (sym q.1) ∙ new in
+        let same : tree.get pair_cmp numbers (c, d) ≡ None = ap (λ z. tree.get pair_cmp numbers (z, d)) (sym q.0) ∙ ap
+        (λ z. tree.get pair_cmp numbers (t, z)) (sym q.1) ∙ new in
         absurd (cc))
     | inr h ↦ at_old c d h ∙ e
   ]
@@ -63,7 +66,8 @@ module _ (frames : List Frame) (numbers more : BTreeMap (ℕ × ℕ) ℕ) (t b n
   only_at : (c d m : ℕ) → tree.get pair_cmp more (c, d) ≡ Some m → (i : ℕ) × (m ≡ i + 1) × (slice_get (frames ++ frame t b ∷ []) i ≡ Some (frame c d))
   only_at c d m e = elim (truth (is_eq (pair_cmp (t, b) (c, d)))) [
     | inl h ↦ (let q = pair_tied t b c d h in
-        let here : tree.get pair_cmp more (c, d) ≡ Some n = ap (λ z. tree.get pair_cmp more (z, d)) (sym q.0) ∙ ap (λ z. tree.get pair_cmp more (t, z)) (sym q.1) ∙ at_new in
+        let here : tree.get pair_cmp more (c, d) ≡ Some n = ap (λ z. tree.get pair_cmp more (z, d)) (sym q.0) ∙ ap
+        (λ z. tree.get pair_cmp more (t, z)) (sym q.1) ∙ at_new in
         let same : m ≡ n = (cc) in
         (length frames, same ∙ number, at_push frames (frame t b) ∙ ap (λ z. Some (frame z b)) q.0 ∙ ap (λ z. Some (frame c z)) q.1))
     | inr h ↦ (let q = is.only c d m (sym (at_old c d h) ∙ e) in (q.0, q.1, keeps frames (frame t b ∷ []) q.0 (frame c d) q.2))

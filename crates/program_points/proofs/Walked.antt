@@ -42,7 +42,8 @@ of_keeps old rest new q e le =
     ap (λ l. of l q) e ∙ ap (λ s. record { turns = q.turns; stack = s; at = q.at }) (stack_keeps old rest q.stack le)
 
 -- the point at an end is the point at its edge
-target_of : (frames : List Frame) (q : Point) (e : End) (s : List ℕ) (a : ℕ) → stack_at frames e.stack ≡ s → e.at ≡ a → of frames (target q e) ≡ end_of (of frames q) s a
+target_of : (frames : List Frame) (q : Point) (e : End) (s : List ℕ) (a : ℕ) → stack_at frames e.stack ≡ s → e.at ≡ a →
+    of frames (target q e) ≡ end_of (of frames q) s a
 target_of frames q e s a t u =
     ap (λ z. record { turns = (if nat_le e.at q.at then q.turns + 1 else q.turns); stack = z; at = e.at }) t
     ∙ ap (λ z. record { turns = (if nat_le z q.at then q.turns + 1 else q.turns); stack = s; at = z }) u
@@ -64,7 +65,8 @@ module _ (p : Program) (g : Graph) (k max : ℕ) (is : IsGraph p g) (way : HasOn
       (table : IsTable frames numbers) (within : (q : Point) → Contains old q → (q.stack ≤ length old_frames) × (q.turns ≤ k))
       (at : slice_get old n ≡ Some point) (w : Walk p k max old_frames old n) where
     -- the ends of the point at its node
-    module _ (node : Node) (called : ℕ) (here : node.at ≡ point.at) (there : Contains g.nodes.items node) (more : IsCalled node point.stack old_frames frames called)
+    module _ (node : Node) (called : ℕ) (here : node.at ≡ point.at) (there : Contains g.nodes.items node)
+        (more : IsCalled node point.stack old_frames frames called)
         (added : AreAdded k max point (ends_of node (frame_at frames point.stack) point.stack called) old found) where
       low : point.stack ≤ length old_frames
       low = (within point (at_in old n point at)).0
@@ -113,7 +115,8 @@ module _ (p : Program) (g : Graph) (k max : ℕ) (is : IsGraph p g) (way : HasOn
         | inl o ↦ subst (λ z. IsPoint p k z) (sym (keeps q o)) (w.reached q o)
         | inr (e, ce, is_target, small) ↦
             (let edge = edge_to p way point.turns point.at (stack_at frames point.stack) (stack_at frames e.stack) e.at
-            (to_point (stack_at frames e.stack) e.at (end_edge frames table.below node.returns node.successors.items node.at point.stack called fits more.pushes e ce)) in
+            (to_point (stack_at frames e.stack) e.at (end_edge frames table.below node.returns node.successors.items node.at point.stack called fits more.pushes
+            e ce)) in
             let turns : (target point e).turns ≤ k = subst (λ (z : Point). z.turns ≤ k) is_target small in
             let r : IsPoint p k (of frames (target point e)) = next reached_point edge turns in
             subst (λ (z : Point). IsPoint p k (of frames z)) (sym is_target) r)
@@ -128,7 +131,8 @@ module _ (p : Program) (g : Graph) (k max : ℕ) (is : IsGraph p g) (way : HasOn
       abbrev Leads : Point → List ℕ → ℕ → Type 0
       Leads q s a = (t : Point) × Contains found t × (of frames t ≡ end_of (of frames q) s a)
 
-      closed_old : (i : ℕ) (q : Point) (s : List ℕ) (a : ℕ) → length found ≤ max → i < n → slice_get old i ≡ Some q → Contains (edges p (of frames q)) (ToAddress s a)
+      closed_old : (i : ℕ) (q : Point) (s : List ℕ) (a : ℕ) → length found ≤ max → i < n → slice_get old i ≡ Some q →
+          Contains (edges p (of frames q)) (ToAddress s a)
           → (end_of (of frames q) s a).turns ≤ k → Leads q s a
       closed_old i q s a le lt e c small =
           let o : Contains old q = at_in old i q e in
@@ -136,7 +140,8 @@ module _ (p : Program) (g : Graph) (k max : ℕ) (is : IsGraph p g) (way : HasOn
           (subst (λ (z : points.Point). (end_of z s a).turns ≤ k) (keeps q o) small) in
           (t.0, still t.0 t.1, keeps t.0 t.1 ∙ t.2 ∙ ap (λ (z : points.Point). end_of z s a) (sym (keeps q o)))
 
-      closed_here : (s : List ℕ) (a : ℕ) → length found ≤ max → Contains (edges p (of frames point)) (ToAddress s a) → (end_of (of frames point) s a).turns ≤ k → Leads point s a
+      closed_here : (s : List ℕ) (a : ℕ) → length found ≤ max → Contains (edges p (of frames point)) (ToAddress s a) →
+          (end_of (of frames point) s a).turns ≤ k → Leads point s a
       closed_here s a le c small =
           let e = edge_end frames table.below node.returns node.successors.items node.at point.stack called fits more.pushes s a
           (to_node s a (edge_from p way point.turns point.at (stack_at frames point.stack) s a c)) in
@@ -144,7 +149,8 @@ module _ (p : Program) (g : Graph) (k max : ℕ) (is : IsGraph p g) (way : HasOn
           let turns : (target point e.0).turns ≤ k = subst (λ (z : points.Point). z.turns ≤ k) (sym same) small in
           (target point e.0, added.all e.0 le e.1 turns, same)
 
-      closed_more : (i : ℕ) (q : Point) (s : List ℕ) (a : ℕ) → length found ≤ max → i < n + 1 → slice_get found i ≡ Some q → Contains (edges p (of frames q)) (ToAddress s a)
+      closed_more : (i : ℕ) (q : Point) (s : List ℕ) (a : ℕ) → length found ≤ max → i < n + 1 → slice_get found i ≡ Some q →
+          Contains (edges p (of frames q)) (ToAddress s a)
           → (end_of (of frames q) s a).turns ≤ k → Leads q s a
       closed_more i q s a le lt e c small =
           let l : n < length old = slice_get_within old n point at in
@@ -163,7 +169,8 @@ module _ (p : Program) (g : Graph) (k max : ℕ) (is : IsGraph p g) (way : HasOn
       walk_there = record { reached = reached_more; first_in = still (record { turns = 0; stack = 0; at = p.entry }) w.first_in; closed = closed_more }
 
     pub walk_more : IsStep g k max point old_frames frames old found → Walk p k max frames found (n + 1)
-    walk_more (nowhere none f e) = absurd (none is.rising ((is.all point.at).1 (points_are_in_graph p k (of old_frames point) (w.reached point (at_in old n point at))).at))
+    walk_more (nowhere none f e) = absurd (none is.rising ((is.all point.at).1
+        (points_are_in_graph p k (of old_frames point) (w.reached point (at_in old n point at))).at))
     walk_more (somewhere node called here there more added) = walk_there node called here there more added
 
   some_at : {X : Type 0} (xs : List X) (i : ℕ) → i < length xs → (x : X) × (slice_get xs i ≡ Some x)
@@ -210,9 +217,11 @@ module _ (p : Program) (g : Graph) (k max : ℕ) (is : IsGraph p g) (way : HasOn
       every x (next {point} {stack} {a} h edge within) =
           let q = of_map (of frames) found point (every point h) in
           let i = in_at found q.0 q.1 in
-          let t = w.closed i.0 q.0 stack a small (let z = i.1 in omega arith) i.2 (subst (λ (z : points.Point). Contains (edges p z) (ToAddress stack a)) (sym q.2) edge)
+          let t = w.closed i.0 q.0 stack a small (let z = i.1 in omega arith) i.2 (subst
+          (λ (z : points.Point). Contains (edges p z) (ToAddress stack a)) (sym q.2) edge)
           (subst (λ (z : points.Point). (end_of z stack a).turns ≤ k) (sym q.2) within) in
-          subst (λ (z : points.Point). Contains (map (of frames) found) z) (t.2 ∙ ap (λ (z : points.Point). end_of z stack a) q.2) (in_map (of frames) found t.0 t.1)
+          subst (λ (z : points.Point). Contains (map (of frames) found) z) (t.2 ∙ ap
+          (λ (z : points.Point). end_of z stack a) q.2) (in_map (of frames) found t.0 t.1)
 
       pub are_points : (v : Points) → v.stacks.frames.items ≡ frames → v.points.items ≡ found → ArePointsOf p k v
       are_points v e f = (

@@ -48,16 +48,21 @@ ways p n frames turns stack called row is way low fits pushes at s a m =
       (
         (λ h. let q = fall_from p way turns n.at own row at s a m h in
             let r = of_letter frames low n.returns items n.at stack called fits pushes Next a
-            (subst (λ (l : List graph.Successor). Contains l (graph.successor NextLetter a)) (sym is.successors) q.1) in
-            (q.0, subst (λ (x : Successor). Contains items x) (ap (λ (l : Letter). record { letter = l; to = r.0.to }) r.2 ∙ ap (λ (t : ℕ). record { letter = Next; to = t }) r.3) r.1)),
+            (subst (λ (l : List graph.Successor). Contains l (graph.successor NextLetter a)) (sym is.successors) q.1) in (
+              q.0,
+              subst (λ (x : Successor). Contains items x) (ap (λ (l : Letter). record { letter = l; to = r.0.to }) r.2 ∙ ap
+                  (λ (t : ℕ). record { letter = Next; to = t }) r.3) r.1,
+            )),
         (λ q. fall_into p way turns n.at own row at s a q.0
-            (subst (λ (l : List graph.Successor). Contains l (graph.successor NextLetter a)) is.successors (in_map successor_of items (record { letter = Next; to = a }) q.1))),
+            (subst (λ (l : List graph.Successor). Contains l (graph.successor NextLetter a)) is.successors
+            (in_map successor_of items (record { letter = Next; to = a }) q.1))),
       ),
       (
         (λ h. edge_end frames low n.returns (kept items) n.at stack called fits pushed s a
             (moved n.returns (add 32 n.at 4) own (jumping_from (successors_of n)) (map successor_of (kept items)) s a (λ x to i. as_node items x i)
             (subst (λ b. IsEdge b (add 32 n.at 4) own (jumping_from (successors_of n)) s a) (sym is.returns)
-            (subst (λ l. IsEdge (may_return p n.at) (add 32 n.at 4) own (jumping_from l) s a) (sym is.successors) (jump_from p way turns n.at own row at s a m h))))),
+            (subst (λ l. IsEdge (may_return p n.at) (add 32 n.at 4) own (jumping_from l) s a) (sym is.successors)
+            (jump_from p way turns n.at own row at s a m h))))),
         (λ (e, c, t, u). jump_into p way turns n.at own row at s a
             (subst (λ b. IsEdge b (add 32 n.at 4) own (jumping_from (successors_at p n.at)) s a) is.returns
             (subst (λ l. IsEdge n.returns (add 32 n.at 4) own (jumping_from l) s a) is.successors

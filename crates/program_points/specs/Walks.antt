@@ -27,7 +27,8 @@ pub record Walk (p : Program) (k max : ℕ) (frames : List Frame) (points : List
 
 -- the frames and the points are as before, and the graph has no node of the point's address; or they are more by the ends of the point at the node
 pub data IsStep (g : Graph) (k max : ℕ) (point : Point) (old_frames frames : List Frame) (old points : List Point) : Type 0 where
-  nowhere : (AreRising g.nodes.items → ¬ Contains (addresses_of g) point.at) → frames ≡ old_frames → points ≡ old → IsStep g k max point old_frames frames old points
+  nowhere : (AreRising g.nodes.items → ¬ Contains (addresses_of g) point.at) → frames ≡ old_frames → points ≡ old →
+      IsStep g k max point old_frames frames old points
   somewhere : (n : Node) (called : ℕ) → n.at ≡ point.at → Contains g.nodes.items n → IsCalled n point.stack old_frames frames called
       → AreAdded k max point (ends_of n (frame_at frames point.stack) point.stack called) old points → IsStep g k max point old_frames frames old points
 
@@ -35,18 +36,21 @@ pub data IsStep (g : Graph) (k max : ℕ) (point : Point) (old_frames frames : L
 abbrev pub IsLow : List Frame → Type 0
 IsLow frames = (i : ℕ) (f : Frame) → slice_get frames i ≡ Some f → f.below ≤ i
 
--- the ends of a point at its node, by the numbers of stacks, are its edges to addresses; the number behind a call of the node is that of the stack which the call pushes
+-- the ends of a point at its node, by the numbers of stacks, are its edges to addresses; the number behind a call of the node is that of the stack which the
+-- call pushes
 abbrev pub EndsAreEdges : Type 0
 EndsAreEdges = (p : Program) (n : Node) (frames : List Frame) (turns stack called : ℕ) → IsNode p n → HasOneWay p → IsLow frames → stack ≤ length frames →
     ((x : Successor) → Contains n.successors.items x → x.letter ≡ Call → frame_at frames called ≡ Some (frame (add 32 n.at 4) stack)) → (s : List ℕ) (a : ℕ) →
     Contains (edges p (record { turns = turns; stack = stack_at frames stack; at = n.at })) (ToAddress s a)
     ↔ ((e : End) × Contains (ends_of n (frame_at frames stack) stack called) e × (stack_at frames e.stack ≡ s) × (e.at ≡ a))
 
--- Which ends of a point at its node are taken by going on, and which by a jump: going on leads to the node's next address with the point's stack, and jumps lead to the
--- ends by the other successors and by the return. One end may be both.
+-- Which ends of a point at its node are taken by going on, and which by a jump: going on leads to the node's next address with the point's stack, and jumps
+-- lead to the ends by the other successors and by the return. One end may be both.
 abbrev pub EndsAreWays : Type 0
-EndsAreWays = (p : Program) (n : Node) (frames : List Frame) (turns stack called : ℕ) (row : Row) → IsNode p n → HasOneWay p → IsLow frames → stack ≤ length frames →
-    ((x : Successor) → Contains n.successors.items x → x.letter ≡ Call → frame_at frames called ≡ Some (frame (add 32 n.at 4) stack)) → file_row p n.at ≡ Some row →
+EndsAreWays = (p : Program) (n : Node) (frames : List Frame) (turns stack called : ℕ) (row : Row) → IsNode p n → HasOneWay p → IsLow frames →
+    stack ≤ length frames →
+    ((x : Successor) → Contains n.successors.items x → x.letter ≡ Call → frame_at frames called ≡ Some (frame (add 32 n.at 4) stack)) →
+    file_row p n.at ≡ Some row →
     (s : List ℕ) (a : ℕ) → a % 4 ≡ 0 →
     let point : points.Point = record { turns = turns; stack = stack_at frames stack; at = n.at } in
     (Contains (fall_ends point row (row.successors n.at)) (ToAddress s a)

@@ -16,7 +16,8 @@ pub struct Found {
 
 /// Adds a point, where it is not found yet. The error is want of memory.
 pub fn add(found: &mut Found, point: Point) -> Result<(), AllocError>
-    ensures { OnOk result ((k stacks : ℕ) → IsListed k stacks found.old.points.items found.old.seen → point.stack ≤ stacks → point.turns ≤ k → IsListed k stacks found.new.points.items found.new.seen × IsAdded point found.old.points.items found.new.points.items) }
+    ensures { OnOk result ((k stacks : ℕ) → IsListed k stacks found.old.points.items found.old.seen → point.stack ≤ stacks → point.turns ≤ k →
+        IsListed k stacks found.new.points.items found.new.seen × IsAdded point found.old.points.items found.new.points.items) }
 {
     if found.seen.insert((point.turns, point.stack, point.at))? {
         found.points.push(point)?;
@@ -56,7 +57,9 @@ pub fn add_ends(
     max: u64,
 ) -> Result<(), AllocError>
     requires { point.turns ≤ k }
-    ensures { OnOk result ((stacks : ℕ) → IsListed k stacks found.old.points.items found.old.seen → ((e : tables.End) → Contains ends.now e → e.stack ≤ stacks) → IsListed k stacks found.new.points.items found.new.seen × AreAdded k max point ends.now found.old.points.items found.new.points.items) }
+    ensures { OnOk result ((stacks : ℕ) → IsListed k stacks found.old.points.items found.old.seen →
+        ((e : tables.End) → Contains ends.now e → e.stack ≤ stacks) → IsListed k stacks found.new.points.items found.new.seen ×
+        AreAdded k max point ends.now found.old.points.items found.new.points.items) }
 {
     for end in ends {
         if found.points.len() as u64 > max {

@@ -91,8 +91,8 @@ fn back_end(returns: bool, frame: Option<Frame>) -> Option<End>
     }
 }
 
-/// The number of the stack behind a call of a node, which is added where it was not among the stacks; without a call 0, and the stacks are as they were. The error is
-/// want of memory.
+/// The number of the stack behind a call of a node, which is added where it was not among the stacks; without a call 0, and the stacks are as they were. The
+/// error is want of memory.
 pub fn called(stacks: &mut Stacks, node: &Node, stack: usize) -> Result<usize, AllocError>
     requires table { IsTable stacks.old.frames.items stacks.old.numbers }
     requires stack { stack ≤ length stacks.old.frames.items }
@@ -138,8 +138,8 @@ pub fn ends(
     Ok(found)
 }
 
-/// The ends of a point at a node by jumps, calls and returns, but for the exit: those of its edges that are not taken by going on to the next address. The stacks of the
-/// point and behind a call are given by number. The error is want of memory.
+/// The ends of a point at a node by jumps, calls and returns, but for the exit: those of its edges that are not taken by going on to the next address. The
+/// stacks of the point and behind a call are given by number. The error is want of memory.
 pub fn jumps(
     alloc: Global,
     node: &Node,

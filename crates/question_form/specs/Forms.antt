@@ -11,5 +11,6 @@ pub record IsFormed (u : Unrolled) : Type 0 where
   pub edges : (i : ℕ) (d : Point) → i < length u.points.items → (slice_index_or u.points.items i d).edges ≤ edges_from u (drop (i + 1) u.points.items)
   pub within : (i : ℕ) (d : Point) → i < length u.points.items → (slice_index_or u.points.items i d).edges ≤ length u.edges.items
   pub asserts : (i : ℕ) (d : Code) → i < length u.codes.items →
-      ((slice_index_or u.codes.items i d).asserts.0 ≤ (slice_index_or u.codes.items i d).asserts.1) × ((slice_index_or u.codes.items i d).asserts.1 ≤ length u.asserts.items)
+      ((slice_index_or u.codes.items i d).asserts.0 ≤ (slice_index_or u.codes.items i d).asserts.1) ×
+      ((slice_index_or u.codes.items i d).asserts.1 ≤ length u.asserts.items)
   pub lines : (i : ℕ) (d : ℕ × ℕ) → i < length u.asserts.items → (slice_index_or u.asserts.items i d).1 < length u.notes.now.asserts.items

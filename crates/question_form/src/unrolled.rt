@@ -56,7 +56,8 @@ pub struct Code {
     pub asserts: (usize, usize),
 }
 
-/// A point: how many backward transfers were made, its stack by number, and the place of its code. Its edges begin at a place and end where the next point's begin.
+/// A point: how many backward transfers were made, its stack by number, and the place of its code. Its edges begin at a place and end where the next point's
+/// begin.
 #[derive(Clone, Copy, PartialEq, Eq, Debug)]
 pub struct Point {
     pub turns: u32,

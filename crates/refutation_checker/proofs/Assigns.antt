@@ -16,15 +16,18 @@ by_sign true false h o = sym o
 by_sign false true h o = sym o
 by_sign false false h o = refl
 
-pub assigned : (names : List ℕ) (slots : List Slot) (line : ℕ) (x : Literal) (p : ℕ) (b : Bool) → p ≡ place_of names x.variable → p < length slots → b ≡ x.positive →
-    true_in line names slots (opposite x) ≡ false → (m : Literal) → true_in line names (slice_set slots p (record { line = line; positive = b })) m ≡ added x (true_in line names slots) m
+pub assigned : (names : List ℕ) (slots : List Slot) (line : ℕ) (x : Literal) (p : ℕ) (b : Bool) → p ≡ place_of names x.variable → p < length slots →
+    b ≡ x.positive →
+    true_in line names slots (opposite x) ≡ false → (m : Literal) →
+    true_in line names (slice_set slots p (record { line = line; positive = b })) m ≡ added x (true_in line names slots) m
 assigned names slots line x p b is lt sign off m =
     let s : Slot = record { line = line; positive = b } in
     let k = place_of names m.variable in
     elim (cases_eq p k) [
       | inl e ↦
           let t : (x.variable == m.variable) ≡ true = eq-eqb x.variable m.variable (place-same names x.variable m.variable (sym is ∙ e)) in
-          let o : tells line (get_or slots k unset) (not x.positive) ≡ false = ap (λ (n : ℕ). tells line (get_or slots n unset) (not x.positive)) (sym e ∙ is) ∙ off in
+          let o : tells line (get_or slots k unset) (not x.positive)
+          ≡ false = ap (λ (n : ℕ). tells line (get_or slots n unset) (not x.positive)) (sym e ∙ is) ∙ off in
           ap (λ (r : Slot). tells line r m.positive) (get_or-set_at slots p k s unset (sym e) lt)
           ∙ rw (eq-eqb line line refl, sign, t) (by_sign x.positive m.positive (λ c. tells line (get_or slots k unset) c) o)
       | inr e ↦

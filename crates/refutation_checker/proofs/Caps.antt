@@ -35,7 +35,8 @@ small-still (n ∷ ns) h =
 bad-of : (l : LogLine) → is_of_grammar l ≡ false → read_as l ≡ Bad
 bad-of l h = rw h refl
 
-module _ (F : ℕ → List Integer → LogLine) (lawful : (i : ℕ) (ns : List Integer) → is_of_grammar (F i ns) ≡ true → (nat_le i greatest_number ≡ true) × (list_all small ns ≡ true)) where
+module _ (F : ℕ → List Integer → LogLine) (lawful : (i : ℕ) (ns : List Integer) → is_of_grammar (F i ns) ≡ true → (nat_le i greatest_number ≡ true) ×
+    (list_all small ns ≡ true)) where
   same : (i : ℕ) (ns : List Integer) → min i (2 ^ 62 + 1) ≡ i → map capped ns ≡ ns → read_as (F (min i (2 ^ 62 + 1)) (map capped ns)) ≡ read_as (F i ns)
   same i ns e f = ap (λ j. read_as (F j (map capped ns))) e ∙ ap (λ (ms : List Integer). read_as (F i ms)) f
 
@@ -79,17 +80,20 @@ small-ids (n ∷ ns) h =
 two-of : (a b : List Integer) → list_all small a ≡ true → list_all small b ≡ true → list_all (list_all small) (a ∷ b ∷ []) ≡ true
 two-of a b h k = rw (h, k) refl
 
-lawful-added : (id : ℕ) (e : Bool) (ps : List (List Integer)) → is_of_grammar (added_by id e ps) ≡ true → (nat_le id greatest_number ≡ true) × (list_all (list_all small) ps ≡ true)
+lawful-added : (id : ℕ) (e : Bool) (ps : List (List Integer)) → is_of_grammar (added_by id e ps) ≡ true → (nat_le id greatest_number ≡ true) ×
+    (list_all (list_all small) ps ≡ true)
 lawful-added id false ps h = cc
 lawful-added id true [] h = cc
 lawful-added id true (a ∷ []) h = cc
 lawful-added id true (a ∷ b ∷ []) h =
-    let g = and_parts (nat_le id greatest_number && list_all (λ (l : Literal). is_listed l.variable) (map literal_of a)) (list_all (λ k. is_listed (hint_size k)) (map hint_of b)) h in
+    let g = and_parts (nat_le id greatest_number && list_all (λ (l : Literal). is_listed l.variable) (map literal_of a)) (list_all
+    (λ k. is_listed (hint_size k)) (map hint_of b)) h in
     let f = and_parts (nat_le id greatest_number) (list_all (λ (l : Literal). is_listed l.variable) (map literal_of a)) g.0 in
     (f.0, two-of a b (small-literals a f.1) (small-hints b g.1))
 lawful-added id true (a ∷ b ∷ c ∷ ps) h = cc
 
-lawful-deleted : (id : ℕ) (e : Bool) (ps : List (List Integer)) → is_of_grammar (deleted_by id e ps) ≡ true → (nat_le id greatest_number ≡ true) × (list_all (list_all small) ps ≡ true)
+lawful-deleted : (id : ℕ) (e : Bool) (ps : List (List Integer)) → is_of_grammar (deleted_by id e ps) ≡ true → (nat_le id greatest_number ≡ true) ×
+    (list_all (list_all small) ps ≡ true)
 lawful-deleted id false ps h = cc
 lawful-deleted id true [] h = cc
 lawful-deleted id true (a ∷ []) h =
@@ -115,12 +119,14 @@ parts-small (n ∷ ns) h = elim (cases_Bool (is_zero n)) [
 
 pub cap-added : (i : ℕ) (ns : List Integer) →
     read_as (added_by (min i (2 ^ 62 + 1)) (is_ended (map capped ns)) (parts is_zero (map capped ns))) ≡ read_as (added_by i (is_ended ns) (parts is_zero ns))
-cap-added = cap (λ i ns. added_by i (is_ended ns) (parts is_zero ns)) (λ i ns h. let g = lawful-added i (is_ended ns) (parts is_zero ns) h in (g.0, parts-small ns g.1))
+cap-added = cap (λ i ns. added_by i (is_ended ns) (parts is_zero ns))
+    (λ i ns h. let g = lawful-added i (is_ended ns) (parts is_zero ns) h in (g.0, parts-small ns g.1))
 
 pub cap-deleted : (i : ℕ) (ns : List Integer) →
     read_as (deleted_by (min i (2 ^ 62 + 1)) (is_ended (map capped ns) && not (some_below (map capped ns))) (parts is_zero (map capped ns)))
     ≡ read_as (deleted_by i (is_ended ns && not (some_below ns)) (parts is_zero ns))
-cap-deleted = cap (λ i ns. deleted_by i (is_ended ns && not (some_below ns)) (parts is_zero ns)) (λ i ns h. let g = lawful-deleted i (is_ended ns && not (some_below ns)) (parts is_zero ns) h in (g.0, parts-small ns g.1))
+cap-deleted = cap (λ i ns. deleted_by i (is_ended ns && not (some_below ns)) (parts is_zero ns)) (λ i ns h. let g = lawful-deleted i (is_ended ns &&
+    not (some_below ns)) (parts is_zero ns) h in (g.0, parts-small ns g.1))
 
 some-of : (o : Option Integer) (n : Integer) → Some n ≡ option_map capped o → (m : Integer) × (o ≡ Some m) × (n ≡ capped m)
 some-of None n h = cc

@@ -17,4 +17,5 @@ hint-unit p h k i c l hs e u new = rw (e, u) (ap (λ (f : Literal → Bool). jud
 -- an added clause that none of the earlier causes refuses
 pub judged : (n : ℕ) (k : Known) (id : ℕ) (c : Clause) (hs : List Hint) (h : Literal → Bool) (o : Option Cause) → k.last < id → some_above n c ≡ false →
     is_tautology c ≡ false → some_negative hs ≡ false → ((m : Literal) → h m ≡ negations c m) → o ≡ judge_hints k.present h hs → o ≡ judge_added n k id c hs
-judged n k id c hs h o low b t g new e = let a : nat_le id k.last ≡ false = grind (arith, nat_tests) in rw (a, b, t, g) (e ∙ ap (λ (f : Literal → Bool). judge_hints k.present f hs) (fun_ext h (negations c) new))
+judged n k id c hs h o low b t g new e = let a : nat_le id k.last
+    ≡ false = grind (arith, nat_tests) in rw (a, b, t, g) (e ∙ ap (λ (f : Literal → Bool). judge_hints k.present f hs) (fun_ext h (negations c) new))

@@ -51,7 +51,8 @@ with-one-zero id ns a (n ∷ r) p e h =
       bad-false : (ps : List (List Integer)) → Bad ≡ added_by id false ps
       bad-false ps = refl
 
-some-parts : {B : Type 0} (x : Integer) (xs : List Integer) (P : List (List Integer) → B) (y : B) → ((p : List Integer) (ps : List (List Integer)) → y ≡ P (p ∷ ps)) → y ≡ P (parts is_zero (x ∷ xs))
+some-parts : {B : Type 0} (x : Integer) (xs : List Integer) (P : List (List Integer) → B) (y : B) →
+    ((p : List Integer) (ps : List (List Integer)) → y ≡ P (p ∷ ps)) → y ≡ P (parts is_zero (x ∷ xs))
 some-parts x xs P y f = elim (cases_Bool (is_zero x)) [
   | inl a ↦ f [] (parts is_zero xs) ∙ ap P (sym (rw a refl))
   | inr a ↦ first (parts is_zero xs) ∙ ap P (sym (rw a refl))
@@ -61,7 +62,8 @@ some-parts x xs P y f = elim (cases_Bool (is_zero x)) [
   first (p ∷ ps) = f (x ∷ p) ps
 
 -- something behind the second 0
-pub with-more : (id : ℕ) (b : Bool) (ns a r c q : List Integer) → parts is_zero ns ≡ a ∷ parts is_zero r → parts is_zero r ≡ c ∷ parts is_zero q → (length q == 0) ≡ false →
+pub with-more : (id : ℕ) (b : Bool) (ns a r c q : List Integer) → parts is_zero ns ≡ a ∷ parts is_zero r → parts is_zero r ≡ c ∷ parts is_zero q →
+    (length q == 0) ≡ false →
     Bad ≡ added_by id b (parts is_zero ns)
 with-more id b ns a r c [] p s n = cc
 with-more id b ns a r c (x ∷ q) p s n =
@@ -70,11 +72,13 @@ with-more id b ns a r c (x ∷ q) p s n =
 
 pub deleted-without-zero : (id : ℕ) (b : Bool) (ns : List Integer) → list_all nonzero ns ≡ true → Bad ≡ deleted_by id (is_ended ns && b) (parts is_zero ns)
 deleted-without-zero id b [] h = none-deleted id b
-deleted-without-zero id b (n ∷ ns) h = bad-false (parts is_zero (n ∷ ns)) ∙ ap (λ e. deleted_by id (e && b) (parts is_zero (n ∷ ns))) (sym (not-ended n ns h)) where
-  bad-false : (ps : List (List Integer)) → Bad ≡ deleted_by id false ps
-  bad-false ps = refl
+deleted-without-zero id b (n ∷ ns) h = bad-false (parts is_zero (n ∷ ns)) ∙ ap (λ e. deleted_by id (e &&
+    b) (parts is_zero (n ∷ ns))) (sym (not-ended n ns h)) where
+      bad-false : (ps : List (List Integer)) → Bad ≡ deleted_by id false ps
+      bad-false ps = refl
 
-pub deleted-with-more : (id : ℕ) (b : Bool) (ns a q : List Integer) → parts is_zero ns ≡ a ∷ parts is_zero q → (length q == 0) ≡ false → Bad ≡ deleted_by id b (parts is_zero ns)
+pub deleted-with-more : (id : ℕ) (b : Bool) (ns a q : List Integer) → parts is_zero ns ≡ a ∷ parts is_zero q → (length q == 0) ≡ false →
+    Bad ≡ deleted_by id b (parts is_zero ns)
 deleted-with-more id b ns a [] p n = cc
 deleted-with-more id b ns a (x ∷ q) p n =
     some-parts x q (λ ps. deleted_by id b (a ∷ ps)) Bad (λ t ts. many-deleted id b a t ts) ∙ ap (deleted_by id b) (sym p)
@@ -91,9 +95,12 @@ bad-of : (l : LogLine) → is_of_grammar l ≡ false → Bad ≡ read_as l
 bad-of l h = rw h refl
 
 -- a number that is no literal
-pub with-unlisted : (id : ℕ) (ns a r c q : List Integer) → parts is_zero ns ≡ a ∷ parts is_zero r → is_ended ns ≡ is_ended r → parts is_zero r ≡ c ∷ parts is_zero q → is_ended r ≡ is_ended q →
+pub with-unlisted : (id : ℕ) (ns a r c q : List Integer) → parts is_zero ns ≡ a ∷ parts is_zero r → is_ended ns ≡ is_ended r →
+    parts is_zero r ≡ c ∷ parts is_zero q → is_ended r ≡ is_ended q →
     (length q == 0) ≡ true → list_all (λ (n : Integer). is_listed n.size) a ≡ false → Bad ≡ read_as (added_by id (is_ended ns) (parts is_zero ns))
 with-unlisted id ns a r c [] p e s f n u =
-    bad-of (Add id (map literal_of a) (map hint_of c)) (not-listed (nat_le id greatest_number) (list_all (λ (l : Literal). is_listed l.variable) (map literal_of a)) _ (listed-literals a ∙ u))
-    ∙ ap (λ b. read_as (added_by id b (a ∷ c ∷ []))) (sym (e ∙ f)) ∙ ap (λ (ps : List (List Integer)). read_as (added_by id (is_ended ns) ps)) (sym (p ∙ ap (λ (ps : List (List Integer)). a ∷ ps) s))
+    bad-of (Add id (map literal_of a) (map hint_of c)) (not-listed (nat_le id greatest_number) (list_all
+    (λ (l : Literal). is_listed l.variable) (map literal_of a)) _ (listed-literals a ∙ u))
+    ∙ ap (λ b. read_as (added_by id b (a ∷ c ∷ []))) (sym (e ∙ f)) ∙ ap
+    (λ (ps : List (List Integer)). read_as (added_by id (is_ended ns) ps)) (sym (p ∙ ap (λ (ps : List (List Integer)). a ∷ ps) s))
 with-unlisted id ns a r c (x ∷ q) p e s f n u = absurd (both_ways (length (x ∷ q) == 0) (ne_eqb (length (x ∷ q)) 0 (λ z. omega (arith, z))) n)

@@ -38,7 +38,8 @@ not_descending xs r i j le lt = elim (cases_eq i j) [
 ]
 
 -- a search that stopped between what is below and what is above
-pub not_among : (xs : List ℕ) (x i : ℕ) → ((k : ℕ) → k < i → get_or xs k 0 < x) → ((k : ℕ) → i ≤ k → k < length xs → x < get_or xs k 0) → (k : ℕ) → k < length xs → get_or xs k 0 ≢ x
+pub not_among : (xs : List ℕ) (x i : ℕ) → ((k : ℕ) → k < i → get_or xs k 0 < x) → ((k : ℕ) → i ≤ k → k < length xs → x < get_or xs k 0) → (k : ℕ) →
+    k < length xs → get_or xs k 0 ≢ x
 not_among xs x i below above k lt e = elim (cases_order k i) [
   | inl q ↦ let h = above k (omega (arith, q)) lt in omega (arith, h, e)
   | inr o ↦ elim o [
@@ -78,13 +79,16 @@ in-clause (x ∷ xs) l h = elim (or_cases (same x l) (has xs l) h) [
 
 in-clauses : (cs : List Clause) (c : Clause) (l : Literal) → Contains cs c → has c l ≡ true → Contains (variables_in cs) l.variable
 in-clauses [] c l (k, lt, is) h = absurd (omega arith)
-in-clauses (x ∷ xs) c l (zero, lt, is) h = Contains-append_left (variables_of x) (variables_in xs) l.variable (in-clause x l (ap (λ (d : Clause). has d l) is ∙ h))
+in-clauses (x ∷ xs) c l (zero, lt, is) h = Contains-append_left (variables_of x) (variables_in xs) l.variable (in-clause x l (ap
+    (λ (d : Clause). has d l) is ∙ h))
 in-clauses (x ∷ xs) c l (suc k, lt, is) h = Contains-append_right (variables_of x) (variables_in xs) l.variable (in-clauses xs c l (k, omega arith, is) h)
 
-in-log : (ls : List LogLine) (k id : ℕ) (c : Clause) (hs : List Hint) → k < length ls → get_or ls k (Add id c hs) ≡ Add id c hs → (l : Literal) → has c l ≡ true → Contains (variables_added ls) l.variable
+in-log : (ls : List LogLine) (k id : ℕ) (c : Clause) (hs : List Hint) → k < length ls → get_or ls k (Add id c hs) ≡ Add id c hs → (l : Literal) →
+    has c l ≡ true → Contains (variables_added ls) l.variable
 in-log [] k id c hs lt is l h = absurd (omega arith)
 in-log (x ∷ xs) zero id c hs lt is l h =
-    Contains-append_left (variables_by x) (variables_added xs) l.variable (subst (λ (y : LogLine). Contains (variables_by y) l.variable) (sym is) (in-clause c l h))
+    Contains-append_left (variables_by x) (variables_added xs) l.variable (subst
+    (λ (y : LogLine). Contains (variables_by y) l.variable) (sym is) (in-clause c l h))
 in-log (x ∷ xs) (suc k) id c hs lt is l h = Contains-append_right (variables_by x) (variables_added xs) l.variable (in-log xs k id c hs (omega arith) is l h)
 
 -- the slots suffice for clauses over the first n variables, and for a log over them
@@ -99,4 +103,5 @@ module _ (n size : ℕ) (names : List ℕ) (cs : List Clause) (log : List LogLin
 
   pub start-ready : HaveSlots n names size log
   start-ready k lt id c hs is low l g =
-      enough l.variable (none_above-within n c low l g) (Contains-append_right (variables_in cs) (variables_added log) l.variable (in-log log k id c hs lt is l g))
+      enough l.variable (none_above-within n c low l g) (Contains-append_right (variables_in cs) (variables_added log) l.variable
+      (in-log log k id c hs lt is l g))

@@ -28,7 +28,8 @@ below-more ids m id r lt v q h k le = elim (cases_eq k m) [
   | inr e ↦ let s = r k m (omega (arith, e)) lt in omega arith
 ]
 
-pub above-more : (ids : List ℕ) (m id : ℕ) → IsRising ids → m < length ids → (v : ℕ) → get_or ids m 0 ≡ v → id < v → (k : ℕ) → m ≤ k → k < length ids → id < get_or ids k 0
+pub above-more : (ids : List ℕ) (m id : ℕ) → IsRising ids → m < length ids → (v : ℕ) → get_or ids m 0 ≡ v → id < v → (k : ℕ) → m ≤ k → k < length ids →
+    id < get_or ids k 0
 above-more ids m id r lt v q h k le in_range = elim (cases_eq k m) [
   | inl e ↦ rw (e, q) h
   | inr e ↦ let s = r m k (omega (arith, e)) in_range in omega arith
@@ -41,7 +42,8 @@ pub head-below : (i : ℕ) (ids : List ℕ) (k : ℕ) → IsRising (i ∷ ids) �
 head-below i ids k r lt = r 0 (suc k) (omega arith) (omega arith)
 
 -- the entry at a place is what its id finds
-pub look_up-at : (es : List Entry) (k : ℕ) (e : Entry) (id : ℕ) → IsRising (ids_of es) → k < length es → e ≡ get_or es k e → get_or (ids_of es) k 0 ≡ id → look_up es id ≡ present_in e
+pub look_up-at : (es : List Entry) (k : ℕ) (e : Entry) (id : ℕ) → IsRising (ids_of es) → k < length es → e ≡ get_or es k e → get_or (ids_of es) k 0 ≡ id →
+    look_up es id ≡ present_in e
 look_up-at [] k e id r lt is found = absurd (omega arith)
 look_up-at (x ∷ xs) zero e id r lt is found = rw (eq-eqb id x.id (sym found)) (ap present_in (sym is))
 look_up-at (x ∷ xs) (suc k) e id r lt is found =
@@ -100,17 +102,20 @@ if-or false false o = refl
 
 -- one more id of a line that deletes
 module _ (ids : List ℕ) (k id : ℕ) (lt : k < length ids) (is : id ≡ get_or ids k 0) (was : ℕ → Option Clause) where
-  more : (i : ℕ) → (if list_any (nat_eq i) (take (k + 1) ids) then Absent else was i) ≡ (if i == id then Absent else if list_any (nat_eq i) (take k ids) then Absent else was i)
+  more : (i : ℕ) → (if list_any (nat_eq i) (take (k + 1) ids) then Absent else was i)
+      ≡ (if i == id then Absent else if list_any (nat_eq i) (take k ids) then Absent else was i)
   more i =
       ap (λ (xs : List ℕ). if list_any (nat_eq i) xs then Absent else was i) (take_more ids k 0 lt ∙ ap (λ n. take k ids ++ n ∷ []) (sym is))
       ∙ ap (λ b. if b then Absent else was i) (any-front i (take k ids) id) ∙ if-or (list_any (nat_eq i) (take k ids)) (i == id) (was i)
 
-  pub deleted-found : (es new : List Entry) (j : ℕ) (e : Entry) → new ≡ slice_set es j (gone (get_or es j e)) → IsRising (ids_of es) → j < length es → e ≡ get_or es j e → get_or (ids_of es) j 0 ≡ id →
+  pub deleted-found : (es new : List Entry) (j : ℕ) (e : Entry) → new ≡ slice_set es j (gone (get_or es j e)) → IsRising (ids_of es) → j < length es →
+      e ≡ get_or es j e → get_or (ids_of es) j 0 ≡ id →
       ((i : ℕ) → look_up es i ≡ (if list_any (nat_eq i) (take k ids) then Absent else was i)) →
       (i : ℕ) → look_up new i ≡ (if list_any (nat_eq i) (take (k + 1) ids) then Absent else was i)
   deleted-found es new j e set r lt-j is-j here inv i =
       let q : e.id ≡ id = sym (id-at es j e lt-j is-j) ∙ here in
-      ap (λ (ys : List Entry). look_up ys i) (set ∙ ap (λ (y : Entry). slice_set es j (gone y)) (sym is-j)) ∙ look_up-gone es j e r lt-j is-j i ∙ ap (λ n. if i == n then Absent else look_up es i) q ∙ ap (λ (o : Option Clause). if i == id then Absent else o) (inv i) ∙ sym (more i)
+      ap (λ (ys : List Entry). look_up ys i) (set ∙ ap (λ (y : Entry). slice_set es j (gone y)) (sym is-j)) ∙ look_up-gone es j e r lt-j is-j i ∙ ap
+      (λ n. if i == n then Absent else look_up es i) q ∙ ap (λ (o : Option Clause). if i == id then Absent else o) (inv i) ∙ sym (more i)
 
   pub deleted-none : (es : List Entry) → ((j : ℕ) → j < length es → get_or (ids_of es) j 0 ≢ id) →
       ((i : ℕ) → look_up es i ≡ (if list_any (nat_eq i) (take k ids) then Absent else was i)) →

@@ -49,7 +49,8 @@ are-below : (es : List Entry) (last n : ℕ) → ((j : ℕ) → get_or (ids_of e
 are-below [] last n h lt = tt
 are-below (e ∷ es) last n h lt = (let a = h 0 in omega arith, are-below es last n (λ j. h (suc j)) lt)
 
-look-more : (es : List Entry) (e : Entry) (i : ℕ) → e.is_present ≡ true → AreBelow es e.id → look_up (es ++ e ∷ []) i ≡ (if i == e.id then Some e.clause.now else look_up es i)
+look-more : (es : List Entry) (e : Entry) (i : ℕ) → e.is_present ≡ true → AreBelow es e.id →
+    look_up (es ++ e ∷ []) i ≡ (if i == e.id then Some e.clause.now else look_up es i)
 look-more [] e i p b = rw p refl
 look-more (x ∷ xs) e i p b = elim (cases_Bool (i == x.id)) [
   | inl a ↦
@@ -58,7 +59,8 @@ look-more (x ∷ xs) e i p b = elim (cases_Bool (i == x.id)) [
   | inr a ↦ rw (a, look-more xs e i p b.1) refl
 ]
 
-module _ (es new : List Entry) (e : Entry) (last : ℕ) (set : new ≡ es ++ e ∷ []) (p : e.is_present ≡ true) (h : (j : ℕ) → get_or (ids_of es) j 0 ≤ last) (lt : last < e.id) where
+module _ (es new : List Entry) (e : Entry) (last : ℕ) (set : new ≡ es ++ e ∷ []) (p : e.is_present ≡ true) (h : (j : ℕ) →
+    get_or (ids_of es) j 0 ≤ last) (lt : last < e.id) where
   ids : ids_of new ≡ ids_of es ++ e.id ∷ []
   ids = ap ids_of set ∙ map-append (λ (x : Entry). x.id) es (e ∷ [])
 
@@ -71,7 +73,8 @@ module _ (es new : List Entry) (e : Entry) (last : ℕ) (set : new ≡ es ++ e �
   pub pushed-highest : (k : ℕ) → get_or (ids_of new) k 0 ≤ max last e.id
   pushed-highest k = subst (λ (xs : List ℕ). get_or xs k 0 ≤ max last e.id) (sym ids) (highest-more (ids_of es) e.id last h k)
 
-  pub pushed-all : (P : Clause → Type 0) → ((i : ℕ) (c : Clause) → look_up es i ≡ Some c → P c) → P e.clause.now → (i : ℕ) (c : Clause) → look_up new i ≡ Some c → P c
+  pub pushed-all : (P : Clause → Type 0) → ((i : ℕ) (c : Clause) → look_up es i ≡ Some c → P c) → P e.clause.now → (i : ℕ) (c : Clause) →
+      look_up new i ≡ Some c → P c
   pushed-all P w we i c f = elim (cases_Bool (i == e.id)) [
     | inl a ↦ let g : Some e.clause.now ≡ Some c = sym (looks i ∙ rw a refl) ∙ f in let q : e.clause.now ≡ c = cc in subst P q we
     | inr a ↦ w i c (sym (looks i ∙ rw a refl) ∙ f)
@@ -81,7 +84,8 @@ module _ (es new : List Entry) (e : Entry) (last : ℕ) (set : new ≡ es ++ e �
       known (max last e.id) (look_up new) b ≡ known_after_line k (Add e.id e.clause.now hints)
   pushed-known b k hints l q f =
       ap (λ m. known (max m e.id) (look_up new) b) (sym l)
-      ∙ ap (λ (g : Present). known (max k.last e.id) g b) (fun_ext (look_up new) (present_after k.present (Add e.id e.clause.now hints)) (λ i. looks i ∙ ap (λ (g : Present). if i == e.id then Some e.clause.now else g i) (sym q)))
+      ∙ ap (λ (g : Present). known (max k.last e.id) g b) (fun_ext (look_up new) (present_after k.present (Add e.id e.clause.now hints))
+      (λ i. looks i ∙ ap (λ (g : Present). if i == e.id then Some e.clause.now else g i) (sym q)))
       ∙ ap (λ v. known (max k.last e.id) (present_after k.present (Add e.id e.clause.now hints)) v) f
 
 pub empty-length : (c : Clause) → (length c == 0) ≡ is_empty_clause c

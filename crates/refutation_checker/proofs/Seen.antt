@@ -35,7 +35,8 @@ module _ (h : Literal → Bool) (c : Clause) (i : ℕ) (x : Literal) (lt : i < l
   pub resume-first : h (opposite x) ≡ false → resume h None (left_over h (drop i c)) ≡ resume h (Some x) (left_over h (drop (i + 1) c))
   resume-first e = rw (left_over-step, e) refl
 
-  pub resume-same : (y : Literal) → same x y ≡ true → h (opposite x) ≡ false → resume h (Some y) (left_over h (drop i c)) ≡ resume h (Some y) (left_over h (drop (i + 1) c))
+  pub resume-same : (y : Literal) → same x y ≡ true → h (opposite x) ≡ false →
+      resume h (Some y) (left_over h (drop i c)) ≡ resume h (Some y) (left_over h (drop (i + 1) c))
   resume-same y q e = rw (left_over-step, e, q) refl
 
   pub resume-other : (y : Literal) → same x y ≡ false → h (opposite x) ≡ false → resume h (Some y) (left_over h (drop i c)) ≡ Other

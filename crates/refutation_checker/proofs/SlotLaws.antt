@@ -24,7 +24,8 @@ none_above-within n [] h l g = absurd (cc)
 none_above-within n (x ∷ xs) h l g = elim (cases_Bool (nat_lt n x.variable)) [
   | inl a ↦ absurd (let b = rw a at h in cc)
   | inr a ↦ elim (or_cases (same x l) (has xs l) g) [
-    | inl s ↦ let q : x.variable ≤ n = ltb-false n x.variable a in let e : x.variable ≡ l.variable = ap (λ (y : Literal). y.variable) (same-true x l s) in omega arith
+    | inl s ↦ let q : x.variable ≤ n = ltb-false n x.variable a in let e : x.variable
+        ≡ l.variable = ap (λ (y : Literal). y.variable) (same-true x l s) in omega arith
     | inr s ↦ none_above-within n xs (rw a at h) l s
   ]
 ]
@@ -84,7 +85,8 @@ is_tautology-more (y ∷ ys) x =
 is_tautology-front : (xs ys : Clause) → is_tautology xs ≡ true → is_tautology (xs ++ ys) ≡ true
 is_tautology-front [] ys h = cc
 is_tautology-front (x ∷ xs) ys h = elim (or_cases (has xs (opposite x)) (is_tautology xs) h) [
-  | inl a ↦ or_left (has (xs ++ ys) (opposite x)) (is_tautology (xs ++ ys)) (has-append xs ys (opposite x) ∙ or_left (has xs (opposite x)) (has ys (opposite x)) a)
+  | inl a ↦ or_left (has (xs ++ ys) (opposite x)) (is_tautology (xs
+      ++ ys)) (has-append xs ys (opposite x) ∙ or_left (has xs (opposite x)) (has ys (opposite x)) a)
   | inr a ↦ or_right (has (xs ++ ys) (opposite x)) (is_tautology (xs ++ ys)) (is_tautology-front xs ys a)
 ]
 
@@ -97,10 +99,13 @@ module _ (c : Clause) (i : ℕ) (x : Literal) (lt : i < length c) (is : x ≡ ge
 
   pub not-plain : negations (take i c) x ≡ true → true ≡ is_tautology c
   not-plain n =
-      let t : is_tautology (take (i + 1) c) ≡ true = ap is_tautology front ∙ is_tautology-more (take i c) x ∙ or_right (is_tautology (take i c)) (has (take i c) (opposite x)) n in
+      let t : is_tautology (take (i + 1) c) ≡ true = ap is_tautology front ∙ is_tautology-more (take i c) x ∙ or_right (is_tautology (take i c))
+      (has (take i c) (opposite x)) n in
       sym (ap is_tautology (sym (take-append-drop (i + 1) c)) ∙ is_tautology-front (take (i + 1) c) (drop (i + 1) c) t)
 
-  pub denied-more : (h k : Literal → Bool) → ((m : Literal) → h m ≡ negations (take i c) m) → ((m : Literal) → k m ≡ added (opposite x) h m) → (m : Literal) → k m ≡ negations (take (i + 1) c) m
+  pub denied-more : (h k : Literal → Bool) → ((m : Literal) → h m ≡ negations (take i c) m) → ((m : Literal) → k m ≡ added (opposite x) h m) → (m : Literal) →
+      k m ≡ negations (take (i + 1) c) m
   denied-more h k inv new m =
       new m ∙ rw (inv m, same-opposite x m) (or_swap (same x (opposite m)) (has (take i c) (opposite m)))
-      ∙ sym (ap (λ (d : Clause). has d (opposite m)) front ∙ has-append (take i c) (x ∷ []) (opposite m) ∙ ap (λ b. has (take i c) (opposite m) || b) (or_false (same x (opposite m))))
+      ∙ sym (ap (λ (d : Clause). has d (opposite m)) front ∙ has-append (take i c) (x ∷ []) (opposite m) ∙ ap (λ b. has (take i c) (opposite m) ||
+      b) (or_false (same x (opposite m))))

@@ -37,7 +37,8 @@ start-more cs k d (suc i) lt = elim (cases_order i k) [
 pub more : (cs : List Clause) (k : ℕ) (x : Clause) (o : Option Clause) (i : ℕ) → k < length cs → x ≡ get_or cs k x → o ≡ at_start (take k cs) i →
     (if i == k + 1 then Some x else o) ≡ at_start (take (k + 1) cs) i
 more cs k x o i lt is e =
-    ap (λ (y : Clause). if i == k + 1 then Some y else o) is ∙ ap (λ (p : Option Clause). if i == k + 1 then Some (get_or cs k x) else p) e ∙ start-more cs k x i lt
+    ap (λ (y : Clause). if i == k + 1 then Some y else o) is ∙ ap
+    (λ (p : Option Clause). if i == k + 1 then Some (get_or cs k x) else p) e ∙ start-more cs k x i lt
 
 -- slots that no line has set
 pub unset-up : (n k : ℕ) → (get_or (replicate n unset) k unset).line ≤ 0

@@ -14,7 +14,8 @@ use Rattle.refutation_checker.specs.declared.marks.Marks.{Marks}
 use Rattle.refutation_checker.specs.Known.{known_of, known_through, known_behind, IsGood, HaveSlots, HaveTaken}
 use Rattle.refutation_checker.specs.Slots.{AreUpTo, IsWithin}
 
-pub known_through-more : (ls : List LogLine) (k : Known) (i : ℕ) (d : LogLine) → i < length ls → known_through k (take (i + 1) ls) ≡ known_after (known_through k (take i ls)) (get_or ls i d)
+pub known_through-more : (ls : List LogLine) (k : Known) (i : ℕ) (d : LogLine) → i < length ls →
+    known_through k (take (i + 1) ls) ≡ known_after (known_through k (take i ls)) (get_or ls i d)
 known_through-more [] k i d lt = absurd (omega arith)
 known_through-more (l ∷ ls) k zero d lt = refl
 known_through-more (l ∷ ls) k (suc i) d lt =
@@ -22,7 +23,8 @@ known_through-more (l ∷ ls) k (suc i) d lt =
     ap (known_through k) n ∙ known_through-more ls (known_after k l) i d (omega arith)
 
 pub taken-next : (old new : Marks) (cnf : Cnf) (log : List LogLine) (line : ℕ) (l : LogLine) → 1 ≤ line → line ≤ length log → get_or log (line - 1) l ≡ l →
-    HaveTaken old cnf log (line - 1) → IsGood new → new.names.items ≡ old.names.items → length new.slots.items ≡ length old.slots.items → known_of new ≡ known_after (known_of old) l → AreUpTo line new.slots.items →
+    HaveTaken old cnf log (line - 1) → IsGood new → new.names.items ≡ old.names.items → length new.slots.items ≡ length old.slots.items →
+    known_of new ≡ known_after (known_of old) l → AreUpTo line new.slots.items →
     vec_len new.entries ≤ vec_len old.entries + 1 → vec_capacity old.entries ≤ vec_capacity new.entries → HaveTaken new cnf log line
 taken-next old new cnf log line l from to is taken good names size known up len cap =
     let q : (line - 1) + 1 ≡ line = omega arith in
@@ -30,21 +32,25 @@ taken-next old new cnf log line l from to is taken good names size known up len 
     record {
       good = good;
       known = known ∙ ap (λ (k : Known). known_after k l) taken.known
-          ∙ sym (ap (λ n. known_behind cnf.clauses log n) (sym q) ∙ known_through-more log _ (line - 1) l (omega arith) ∙ ap (known_after (known_behind cnf.clauses log (line - 1))) is);
+          ∙ sym (ap (λ n. known_behind cnf.clauses log n) (sym q) ∙ known_through-more log _ (line - 1) l (omega arith) ∙ ap
+          (known_after (known_behind cnf.clauses log (line - 1))) is);
       slots = up;
-      ready = subst (λ (xs : List ℕ). HaveSlots cnf.variables xs (length new.slots.items) log) (sym names) (subst (λ n. HaveSlots cnf.variables old.names.items n log) (sym size) taken.ready);
+      ready = subst (λ (xs : List ℕ). HaveSlots cnf.variables xs (length new.slots.items) log) (sym names) (subst
+          (λ n. HaveSlots cnf.variables old.names.items n log) (sym size) taken.ready);
       room = omega arith;
     }
 
 -- the marks' line of a log
-pub line-at : (log : Log) (i : ℕ) (l : DeclaredLine) → i < length log.lines.items → l ≡ get_or log.lines.items i l → get_or (lines_of log) i (line_of l) ≡ line_of l
+pub line-at : (log : Log) (i : ℕ) (l : DeclaredLine) → i < length log.lines.items → l ≡ get_or log.lines.items i l →
+    get_or (lines_of log) i (line_of l) ≡ line_of l
 line-at log i l lt is = get_or-map line_of log.lines.items i l (line_of l) lt ∙ ap line_of (sym is)
 
 pub length-lines : (log : Log) → length (lines_of log) ≡ length log.lines.items
 length-lines log = length-map log.lines.items line_of
 
 -- the clause that a line adds has slots
-pub line-ready : (n size : ℕ) (names : List ℕ) (log : Log) (i id : ℕ) (c : Clause) (hints : List Hint) (l : DeclaredLine) → HaveSlots n names size (lines_of log) → i < length log.lines.items →
+pub line-ready : (n size : ℕ) (names : List ℕ) (log : Log) (i id : ℕ) (c : Clause) (hints : List Hint) (l : DeclaredLine) →
+    HaveSlots n names size (lines_of log) → i < length log.lines.items →
     l ≡ get_or log.lines.items i l → line_of l ≡ Add id c hints → some_above n c ≡ false → IsWithin names size c
 line-ready n size names log i id c hints l ready lt at is low = ready i (rw (length-lines log) lt) id c hints (rw (← is) (line-at log i l lt at)) low
 

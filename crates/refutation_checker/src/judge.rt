@@ -86,7 +86,8 @@ pub fn judge_clause(
     requires within { (i : ℕ) (c : SpecClause) → look_up entries.now i ≡ Some c → IsWithin names.now (length slots.old) c }
     requires ready { some_above variables clause.now ≡ false → IsWithin names.now (length slots.old) clause.now }
     requires empty { (m : Literal) → true_in line names.now slots.old m ≡ false }
-    ensures judged { option_map cause_of result ≡ judge_added variables (record { last = last; present = look_up entries.now; ended = false }) id clause.now (map hint_of hints.now) }
+    ensures judged { option_map cause_of result ≡ judge_added variables (record { last = last; present = look_up entries.now; ended = false }) id clause.now
+        (map hint_of hints.now) }
     ensures lines { AreUpTo line slots.old → AreUpTo line slots.new }
 {
     if id <= last {

@@ -15,7 +15,8 @@ module _ (known : ℕ → Bool) (first : ℕ) (bytes : List (ℕ × ℕ)) (i : �
   pub told_here : known (get_or bytes i d).0 ≡ true → told_but known (first + i) (drop i bytes) told ≡ StateRefused (first + i) StateByteFault
   told_here is = split ∙ ap next is
 
-  pub told_next : known (get_or bytes i d).0 ≡ false → told_but known (first + i) (drop i bytes) told ≡ told_but known (first + (i + 1)) (drop (i + 1) bytes) told
+  pub told_next : known (get_or bytes i d).0 ≡ false → told_but known (first + i) (drop i bytes) told
+      ≡ told_but known (first + (i + 1)) (drop (i + 1) bytes) told
   told_next is =
       let line : first + i + 1 ≡ first + (i + 1) = omega arith in
       let place : suc i ≡ i + 1 = omega arith in

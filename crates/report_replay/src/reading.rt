@@ -28,8 +28,8 @@ struct Alike {
     stretch: Stretch,
 }
 
-/// The alike addresses among which one is: those that were seen last where it is one of them, and else those from it on. So rising addresses are asked for once in each
-/// stretch.
+/// The alike addresses among which one is: those that were seen last where it is one of them, and else those from it on. So rising addresses are asked for once
+/// in each stretch.
 fn alike_at(image: &Image, notes: &Notes, seen: Alike, at: u32) -> Alike
     requires { AreAlike image.now notes.now seen }
     ensures alike { AreAlike image.now notes.now result }
@@ -89,7 +89,8 @@ pub(crate) fn read_text(
     layout: Layout,
     text: &[u8],
 ) -> Result<Reading, AllocError>
-    ensures { (entry : ℕ) → IfOk result (λ r. state_of (layout_of layout) (is_known_at (program_of image.now (notes_of notes.now) entry)) text.now ≡ told_of r) }
+    ensures { (entry : ℕ) → IfOk result (λ r. state_of (layout_of layout) (is_known_at (program_of image.now (notes_of notes.now) entry)) text.now
+        ≡ told_of r) }
 {
     let first = layout.head_lines() + 1;
     match parse_state(alloc, text, layout) {

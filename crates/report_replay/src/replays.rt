@@ -17,9 +17,9 @@ use std::alloc::{AllocError, Global};
 /// The greatest length of a report's text, in bytes.
 pub const REPORT_LIMIT: usize = 268_435_456;
 
-/// Runs a report again: `text` is a state with the ending that is named, `entry` the address of the function of the notes. The answer is the first of its causes: the text
-/// is longer than [`REPORT_LIMIT`] bytes; a line of it is refused, among others a byte's that the file gives; the link register is no multiple of 4; a require line is false; and
-/// else whether the run, in the steps up to the one that is named, ends as is named.
+/// Runs a report again: `text` is a state with the ending that is named, `entry` the address of the function of the notes. The answer is the first of its
+/// causes: the text is longer than [`REPORT_LIMIT`] bytes; a line of it is refused, among others a byte's that the file gives; the link register is no multiple
+/// of 4; a require line is false; and else whether the run, in the steps up to the one that is named, ends as is named.
 ///
 /// # Errors
 ///
@@ -34,7 +34,8 @@ pub fn replay<M: Machine>(
     requires machine { machine_of image.now ≡ M.machine }
     requires form { layout_of image.now ≡ M.form }
     requires readable { AreReadable M.machine.has_register (notes_of notes.now) }
-    ensures { IfOk result (λ r. plain_answer r.status r.text.items ≡ replay_answer (program_of image.now (notes_of notes.now) entry) (layout_of image.now) text.now) }
+    ensures { IfOk result (λ r. plain_answer r.status r.text.items
+        ≡ replay_answer (program_of image.now (notes_of notes.now) entry) (layout_of image.now) text.now) }
 {
     if text.len() > REPORT_LIMIT {
         return too_large(alloc);

@@ -45,7 +45,8 @@ fn step_of(named: NamedEnding) -> u64
 /// The answer to a start that has a fault. The error is want of memory.
 fn faulted(alloc: Global, fault: EntryFault) -> Result<Replay, AllocError>
     requires { IsLinesFault fault }
-    ensures { (p : Program) (named : reports.NamedEnding) (start : Start) → IsEntryStateFault p start.state (fault_of fault) → IfOk result (λ r. plain_answer r.status r.text.items ≡ run_answer p named start) }
+    ensures { (p : Program) (named : reports.NamedEnding) (start : Start) → IsEntryStateFault p start.state (fault_of fault) →
+        IfOk result (λ r. plain_answer r.status r.text.items ≡ run_answer p named start) }
 {
     match fault {
         EntryFault::Link => unaligned(alloc),
@@ -66,7 +67,9 @@ pub(crate) fn run_named<M: Machine>(
     requires readable { AreReadable M.machine.has_register (notes_of notes.now) }
     requires start { IsWritten M.form (is_known_at (program_of image.now (notes_of notes.now) entry)) (written_of text.now.start) }
     requires step { named_step (named_of text.now.named) ≤ last_step }
-    ensures { IfOk result (λ r. plain_answer r.status r.text.items ≡ run_answer (program_of image.now (notes_of notes.now) entry) (named_of text.now.named) (start_in (program_of image.now (notes_of notes.now) entry) M.form (written_of text.now.start))) }
+    ensures { IfOk result (λ r. plain_answer r.status r.text.items
+        ≡ run_answer (program_of image.now (notes_of notes.now) entry) (named_of text.now.named)
+        (start_in (program_of image.now (notes_of notes.now) entry) M.form (written_of text.now.start))) }
 {
     let state = start_state::<M>(alloc, image, notes, entry, &text.start)?;
     if let Err(fault) = lines_ok::<M>(image, notes, &state) {

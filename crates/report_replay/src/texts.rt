@@ -61,7 +61,8 @@ pub(crate) fn too_large(alloc: Global) -> Result<Replay, AllocError>
 
 /// The answer where the link register is no multiple of 4.
 pub(crate) fn unaligned(alloc: Global) -> Result<Replay, AllocError>
-    ensures { (p : Program) (named : reports.NamedEnding) (start : Start) → IfOk result (λ r. plain_answer r.status r.text.items ≡ start_answer false p named start) }
+    ensures { (p : Program) (named : reports.NamedEnding) (start : Start) →
+        IfOk result (λ r. plain_answer r.status r.text.items ≡ start_answer false p named start) }
 {
     refusal(alloc, b"state: link\n")
 }
@@ -81,7 +82,8 @@ fn fault_text(kind: StateFault) -> &'static [u8]
 
 /// The answer to a text that is refused at a line.
 pub(crate) fn refused(alloc: Global, line: u64, kind: StateFault) -> Result<Replay, AllocError>
-    ensures { (p : Program) (layout : Layout) → IfOk result (λ r. plain_answer r.status r.text.items ≡ told_answer p layout (StateRefused line (fault_of kind))) }
+    ensures { (p : Program) (layout : Layout) → IfOk result (λ r. plain_answer r.status r.text.items
+        ≡ told_answer p layout (StateRefused line (fault_of kind))) }
 {
     let mut out = Vec::new(alloc);
     out.extend_from_slice(b"state: line ")?;
@@ -95,7 +97,8 @@ pub(crate) fn refused(alloc: Global, line: u64, kind: StateFault) -> Result<Repl
 
 /// The answer where a require line is the first that is false.
 pub(crate) fn false_require(alloc: Global, line: u32) -> Result<Replay, AllocError>
-    ensures { (named : reports.NamedEnding) (found : reports.Found) → IfOk result (λ r. plain_answer r.status r.text.items ≡ require_answer (Some line) named found) }
+    ensures { (named : reports.NamedEnding) (found : reports.Found) →
+        IfOk result (λ r. plain_answer r.status r.text.items ≡ require_answer (Some line) named found) }
 {
     let mut out = Vec::new(alloc);
     out.extend_from_slice(b"state: require ")?;

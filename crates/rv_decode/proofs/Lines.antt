@@ -35,7 +35,9 @@ lines =
     Store Sb r r 0 ∷ Store Sh r r 0 ∷ Store Sw r r 0 ∷
     Immediate Addi r r 0 ∷ Immediate Slti r r 0 ∷ Immediate Sltiu r r 0 ∷ Immediate Xori r r 0 ∷ Immediate Ori r r 0 ∷ Immediate Andi r r 0 ∷
     Shift Slli r r (amount_at 0) ∷ Shift Srli r r (amount_at 0) ∷ Shift Srai r r (amount_at 0) ∷
-    Computation Add r r r ∷ Computation Sub r r r ∷ Computation Sll r r r ∷ Computation Slt r r r ∷ Computation Sltu r r r ∷ Computation Xor r r r ∷ Computation Srl r r r ∷ Computation Sra r r r ∷ Computation Or r r r ∷ Computation And r r r ∷ Computation Mul r r r ∷ Computation Mulh r r r ∷ Computation Mulhsu r r r ∷ Computation Mulhu r r r ∷ Computation Div r r r ∷ Computation Divu r r r ∷ Computation Rem r r r ∷ Computation Remu r r r ∷
+    Computation Add r r r ∷ Computation Sub r r r ∷ Computation Sll r r r ∷ Computation Slt r r r ∷ Computation Sltu r r r ∷ Computation Xor r r r
+    ∷ Computation Srl r r r ∷ Computation Sra r r r ∷ Computation Or r r r ∷ Computation And r r r ∷ Computation Mul r r r ∷ Computation Mulh r r r
+    ∷ Computation Mulhsu r r r ∷ Computation Mulhu r r r ∷ Computation Div r r r ∷ Computation Divu r r r ∷ Computation Rem r r r ∷ Computation Remu r r r ∷
     Fence 0 ∷
     Ecall ∷
     Ebreak ∷ []
@@ -187,7 +189,8 @@ behind : (x : Instruction) (xs : List Instruction) (w : ℕ) → One (x ∷ xs) 
 behind x xs w one = record { same = λ i j a b p q r s. let e = one.same (suc i) (suc j) a b p q r s in cc }
 
 -- the row of a word is that of the line which it fits
-row_at : (is : List Instruction) (w k : ℕ) (a : Instruction) → One is w → slice_get is k ≡ Some a → fits a w ≡ true → row_in is w ≡ Some (a.row (fields a.imm w))
+row_at : (is : List Instruction) (w k : ℕ) (a : Instruction) → One is w → slice_get is k ≡ Some a → fits a w ≡ true →
+    row_in is w ≡ Some (a.row (fields a.imm w))
 row_at [] w k a one at h = cc
 row_at (x ∷ xs) w zero a one at h =
     let e : x ≡ a = cc in let t : fits x w ≡ true = ap (λ y. fits y w) e ∙ h in rw t (ap (λ y. Some (y.row (fields y.imm w))) e)

@@ -5,10 +5,25 @@ use Rattle.std.proofs.Math.Bool.{and-false}
 use Rattle.bilv_spec.specs.Words.{bits}
 use Rattle.bilv_spec.specs.Rv.{rv_row, table}
 
-pub no_opcode : (w o : ℕ) → o ≡ bits 6 0 w → o ≢ 0x37 → o ≢ 0x17 → o ≢ 0x6f → o ≢ 0x67 → o ≢ 0x63 → o ≢ 0x03 → o ≢ 0x23 → o ≢ 0x13 → o ≢ 0x33 → o ≢ 0x0f → o ≢ 0x73 → rv_row w ≡ None
+pub no_opcode : (w o : ℕ) → o ≡ bits 6 0 w → o ≢ 0x37 → o ≢ 0x17 → o ≢ 0x6f → o ≢ 0x67 → o ≢ 0x63 → o ≢ 0x03 → o ≢ 0x23 → o ≢ 0x13 → o ≢ 0x33 → o ≢ 0x0f →
+    o ≢ 0x73 → rv_row w ≡ None
 unfolding rv_row table
 no_opcode w o op a b c d e f g h i j k =
-    simp (sym op, ne_eqb o 0x37 a, ne_eqb o 0x17 b, ne_eqb o 0x6f c, ne_eqb o 0x67 d, ne_eqb o 0x63 e, ne_eqb o 0x03 f, ne_eqb o 0x23 g, ne_eqb o 0x13 h, ne_eqb o 0x33 i, ne_eqb o 0x0f j, ne_eqb o 0x73 k)
+    simp (
+      sym op,
+      ne_eqb o 0x37 a,
+      ne_eqb o 0x17 b,
+      ne_eqb o 0x6f c,
+      ne_eqb o 0x67 d,
+      ne_eqb o 0x63 e,
+      ne_eqb o 0x03 f,
+      ne_eqb o 0x23 g,
+      ne_eqb o 0x13 h,
+      ne_eqb
+          o 0x33 i,
+      ne_eqb o 0x0f j,
+      ne_eqb o 0x73 k,
+    )
 
 pub no_jalr : (w f : ℕ) → bits 6 0 w ≡ 0x67 → f ≡ bits 14 12 w → f ≢ 0 → rv_row w ≡ None
 unfolding rv_row table
@@ -48,7 +63,8 @@ no_shift w f g op e k (inl n) p = simp (op, sym e ∙ n, sym k, ne_eqb g 0 p.0)
 no_shift w f g op e k (inr n) (p, inl q) = absurd (omega arith)
 no_shift w f g op e k (inr n) (p, inr q) = simp (op, sym e ∙ n, sym k, ne_eqb g 0 p, ne_eqb g 32 q)
 
-pub no_computation : (w f g : ℕ) → bits 6 0 w ≡ 0x33 → f ≡ bits 14 12 w → g ≡ bits 31 25 w → (g ≢ 0) × (g ≢ 1) × ((g ≢ 32) ⊎ ((f ≢ 0) × (f ≢ 5))) → rv_row w ≡ None
+pub no_computation : (w f g : ℕ) → bits 6 0 w ≡ 0x33 → f ≡ bits 14 12 w → g ≡ bits 31 25 w → (g ≢ 0) × (g ≢ 1) × ((g ≢ 32) ⊎ ((f ≢ 0) × (f ≢ 5))) →
+    rv_row w ≡ None
 unfolding rv_row table
 no_computation w f g op e k (a, b, inl c) = simp (op, sym e, sym k, and-false, ne_eqb g 0 a, ne_eqb g 1 b, ne_eqb g 32 c)
 no_computation w f g op e k (a, b, inr c) = simp (op, sym e, sym k, and-false, ne_eqb g 0 a, ne_eqb g 1 b, ne_eqb f 0 c.0, ne_eqb f 5 c.1)

@@ -21,14 +21,18 @@ amount_at n = record { bits = n % 32; in_range = below n }
 bound_prop : (n : ℕ) → IsProp (n < 32)
 bound_prop n = hlevel props
 
-registers : (n m : ℕ) → n ≡ m → (p : n < 32) (q : m < 32) → let a : Register = record { number = n; in_range = p } in let b : Register = record { number = m; in_range = q } in a ≡ b
+registers : (n m : ℕ) → n ≡ m → (p : n < 32) (q : m < 32) → let a : Register = record { number = n; in_range = p } in
+    let b : Register = record { number = m; in_range = q } in a ≡ b
 registers n m e =
-    subst (λ (k : ℕ). (p : n < 32) (q : k < 32) → let a : Register = record { number = n; in_range = p } in let b : Register = record { number = k; in_range = q } in a ≡ b) e
+    subst (λ (k : ℕ). (p : n < 32) (q : k < 32) → let a : Register = record { number = n; in_range = p } in
+    let b : Register = record { number = k; in_range = q } in a ≡ b) e
     (λ p q. ap (λ (r : n < 32). let a : Register = record { number = n; in_range = r } in a) (bound_prop n p q))
 
-amounts : (n m : ℕ) → n ≡ m → (p : n < 32) (q : m < 32) → let a : ShiftAmount = record { bits = n; in_range = p } in let b : ShiftAmount = record { bits = m; in_range = q } in a ≡ b
+amounts : (n m : ℕ) → n ≡ m → (p : n < 32) (q : m < 32) → let a : ShiftAmount = record { bits = n; in_range = p } in
+    let b : ShiftAmount = record { bits = m; in_range = q } in a ≡ b
 amounts n m e =
-    subst (λ (k : ℕ). (p : n < 32) (q : k < 32) → let a : ShiftAmount = record { bits = n; in_range = p } in let b : ShiftAmount = record { bits = k; in_range = q } in a ≡ b) e
+    subst (λ (k : ℕ). (p : n < 32) (q : k < 32) → let a : ShiftAmount = record { bits = n; in_range = p } in
+    let b : ShiftAmount = record { bits = k; in_range = q } in a ≡ b) e
     (λ p q. ap (λ (r : n < 32). let a : ShiftAmount = record { bits = n; in_range = r } in a) (bound_prop n p q))
 
 -- the register that has a number

@@ -1,5 +1,5 @@
--- What is said of an expression without its value: its width, its weight, the bytes that it loads, that it stores none, and that it names only registers and the
--- memory.
+-- What is said of an expression without its value: its width, its weight, the bytes that it loads, that it stores none, and that it names only registers and
+-- the memory.
 use Rattle.std.proofs.Common.{◌≡◌, ℕ, zero, suc, ◌+◌, ◌-◌, ◌/◌, ◌^◌, ◌<◌, ◌≤◌, ◌==◌, nat_lt, nat_le, Bool, true, false, ◌&&◌, refl, ap, ◌∙◌, arith, [], add-zero}
 use Rattle.std.proofs.lemmas.Bool.Decides.{nat_tests}
 use Rattle.bilv_spec.specs.Memory.{Little}

@@ -39,15 +39,18 @@ stores_lifting : (o : StoreOp) (x : Fields) (at : ℕ) → x.rs1 < 32 → x.rs2 
 stores_lifting Sb x at p q h =
     store_lifting 8 64 0 (address x.rs1 x.imm) (Cast Low 8 (register x.rs2)) (λ s. add 32 (reg s x.rs1) x.imm) (λ s. reg s x.rs2) at
     (address_plain x.rs1 x.imm p h) (cast_plain Low 8 32 0 0 _ (register_plain x.rs2 q) refl) (λ s here c l. address_is x.rs1 x.imm c l s)
-    (λ s here c l. store_is Sb (address x.rs1 x.imm) (register x.rs2) _ _ c l s (address_is x.rs1 x.imm c l s) (register_value_is x.rs2 c l s)) (omega arith) refl refl
+    (λ s here c l. store_is Sb (address x.rs1 x.imm) (register x.rs2) _ _ c l s (address_is x.rs1 x.imm c l s) (register_value_is x.rs2 c l s))
+    (omega arith) refl refl
 stores_lifting Sh x at p q h =
     store_lifting 16 64 0 (address x.rs1 x.imm) (Cast Low 16 (register x.rs2)) (λ s. add 32 (reg s x.rs1) x.imm) (λ s. reg s x.rs2) at
     (address_plain x.rs1 x.imm p h) (cast_plain Low 16 32 0 0 _ (register_plain x.rs2 q) refl) (λ s here c l. address_is x.rs1 x.imm c l s)
-    (λ s here c l. store_is Sh (address x.rs1 x.imm) (register x.rs2) _ _ c l s (address_is x.rs1 x.imm c l s) (register_value_is x.rs2 c l s)) (omega arith) refl refl
+    (λ s here c l. store_is Sh (address x.rs1 x.imm) (register x.rs2) _ _ c l s (address_is x.rs1 x.imm c l s) (register_value_is x.rs2 c l s))
+    (omega arith) refl refl
 stores_lifting Sw x at p q h =
     store_lifting 32 64 0 (address x.rs1 x.imm) (register x.rs2) (λ s. add 32 (reg s x.rs1) x.imm) (λ s. reg s x.rs2) at
     (address_plain x.rs1 x.imm p h) (register_plain x.rs2 q) (λ s here c l. address_is x.rs1 x.imm c l s)
-    (λ s here c l. store_is Sw (address x.rs1 x.imm) (register x.rs2) _ _ c l s (address_is x.rs1 x.imm c l s) (register_value_is x.rs2 c l s)) (omega arith) refl refl
+    (λ s here c l. store_is Sw (address x.rs1 x.imm) (register x.rs2) _ _ c l s (address_is x.rs1 x.imm c l s) (register_value_is x.rs2 c l s))
+    (omega arith) refl refl
 
 raise_lifting : (e : Exception) (x : Fields) (at : ℕ) → IsLifting rv32 XRegisters (raises e x) at (Raise (exception_number e) Empty)
 raise_lifting e x at = record {
@@ -81,19 +84,23 @@ lifted_is_lifting (Jal rd offset) at h =
     jump_lifting (number (add 32 at offset)) (λ s. add 32 s.pc offset) rd.number 0 (direct_by (links rd.number)) (row_of (Jal rd offset)).successors None at
     rd.in_range (number_plain _ (omega arith)) (λ s here c l. rw here refl) (omega arith) (direct_jumps (links rd.number))
 lifted_is_lifting (Jalr rd rs1 offset) at h =
-    jump_lifting (Binary bil.And (address rs1.number offset) (number 0xfffffffe)) (λ s. even (add 32 (reg s rs1.number) offset)) rd.number 96 (indirect_by (links rd.number)) (row_of (Jalr rd rs1 offset)).successors
+    jump_lifting (Binary bil.And (address rs1.number offset) (number 0xfffffffe))
+    (λ s. even (add 32 (reg s rs1.number) offset)) rd.number 96 (indirect_by (links rd.number)) (row_of (Jalr rd rs1 offset)).successors
     (row_of (Jalr rd rs1 offset)).jumps_to at rd.in_range
-    (binary_plain bil.And 32 64 0 96 (address rs1.number offset) (number 0xfffffffe) (address_plain rs1.number offset rs1.in_range h) (number_plain _ (omega arith)) refl refl)
+    (binary_plain bil.And 32 64 0 96 (address rs1.number offset) (number 0xfffffffe) (address_plain rs1.number offset rs1.in_range h)
+    (number_plain _ (omega arith)) refl refl)
     (λ s here c l. rw (address_is rs1.number offset c l s) (ap (λ z. Word 32 z) (even_is (reg s rs1.number) offset)))
     (omega arith) (indirect_jumps (links rd.number))
 lifted_is_lifting (Branch op rs1 rs2 offset) at h =
     branch_lifting (lifts.test op (register rs1.number) (register rs2.number)) (λ s. test_of op (reg s rs1.number) (reg s rs2.number)) 32 offset
     (row_of (Branch op rs1 rs2 offset)).successors at (test_plain op _ _ (register_plain rs1.number rs1.in_range) (register_plain rs2.number rs2.in_range))
-    (λ s here c l. test_is op (register rs1.number) (register rs2.number) c (env_of l s) _ _ (register_value_is rs1.number c l s) (register_value_is rs2.number c l s)) (omega arith)
+    (λ s here c l. test_is op (register rs1.number) (register rs2.number) c (env_of l s) _ _ (register_value_is rs1.number c l s)
+    (register_value_is rs2.number c l s)) (omega arith)
 lifted_is_lifting (Load op rd rs1 offset) at h =
     assigned_lifting rd.number 64 (loaded_bytes op) (lifts.loaded op (address rs1.number offset))
     (λ s. extended op (load Little (loaded_bytes op) s.mem (add 32 (reg s rs1.number) offset))) (row_of (Load op rd rs1 offset)).cost None at rd.in_range
-    (loaded_plain op _ (address_plain rs1.number offset rs1.in_range h)) (λ s here c l. load_is op (address rs1.number offset) _ c l s (address_is rs1.number offset c l s))
+    (loaded_plain op _ (address_plain rs1.number offset rs1.in_range h))
+    (λ s here c l. load_is op (address rs1.number offset) _ c l s (address_is rs1.number offset c l s))
     (omega arith) (omega arith)
 lifted_is_lifting (Store op rs1 rs2 offset) at h = stores_lifting op (fields_of (Store op rs1 rs2 offset)) at rs1.in_range rs2.in_range h
 lifted_is_lifting (Immediate op rd rs1 imm) at h =
@@ -101,15 +108,18 @@ lifted_is_lifting (Immediate op rd rs1 imm) at h =
     rd.in_range (immediate_plain op _ _ (register_plain rs1.number rs1.in_range) (number_plain imm h))
     (λ s here c l. immediate_is op (register rs1.number) (number imm) c (env_of l s) _ _ (register_value_is rs1.number c l s) refl) (omega arith) (omega arith)
 lifted_is_lifting (Shift op rd rs1 amount) at h =
-    assigned_lifting rd.number 896 0 (lifts.shift op (register rs1.number) (number amount.bits)) (λ s. shift_value op (reg s rs1.number) amount.bits) plain_cost None
+    assigned_lifting rd.number 896 0 (lifts.shift op (register rs1.number) (number amount.bits))
+    (λ s. shift_value op (reg s rs1.number) amount.bits) plain_cost None
     at rd.in_range (shift_plain op _ _ (register_plain rs1.number rs1.in_range) (let k = amount.in_range in number_plain amount.bits (omega arith)))
-    (λ s here c l. shift_is op (register rs1.number) (number amount.bits) c (env_of l s) _ _ (register_value_is rs1.number c l s) refl) (omega arith) (omega arith)
+    (λ s here c l. shift_is op (register rs1.number) (number amount.bits) c (env_of l s) _ _ (register_value_is rs1.number c l s) refl) (omega arith)
+    (omega arith)
 lifted_is_lifting (Computation op rd rs1 rs2) at h =
     let x = fields_of (Computation op rd rs1 rs2) in
     assigned_lifting rd.number (room op) 0 (lifts.computation op (register rs1.number) (register rs2.number))
     (λ s. register_value op (reg s rs1.number) (reg s rs2.number)) (computes op x).cost None at rd.in_range
     (computation_plain op _ _ (register_plain rs1.number rs1.in_range) (register_plain rs2.number rs2.in_range))
-    (λ s here c l. computation_is op (register rs1.number) (register rs2.number) c (env_of l s) _ _ (register_value_is rs1.number c l s) (register_value_is rs2.number c l s))
+    (λ s here c l. computation_is op (register rs1.number) (register rs2.number) c (env_of l s) _ _ (register_value_is rs1.number c l s)
+    (register_value_is rs2.number c l s))
     (room_fits op x) (omega arith)
 lifted_is_lifting (Fence fields) at h =
     assigned_lifting 0 0 0 (number 0) (λ s. 0) plain_cost None at (omega arith) (number_plain 0 (omega arith)) (λ s here c l. refl) (omega arith) (omega arith)

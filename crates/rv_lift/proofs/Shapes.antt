@@ -70,7 +70,8 @@ assigned_lifting (suc d) w l e f k p at small plain value h i = record {
 }
 
 branch_ends : (b : Bool) (to c turns : ℕ) (l : Locals) (s : State) →
-    of_list (then_do (branch_on (Word 1 (bit b)) (execute (JumpTo (lifts.number (add 32 s.pc to)) Empty) c (position l turns None s)) (execute Empty c (position l turns None s))) (execute Empty c))
+    of_list (then_do (branch_on (Word 1 (bit b)) (execute (JumpTo (lifts.number (add 32 s.pc to)) Empty) c (position l turns None s))
+    (execute Empty c (position l turns None s))) (execute Empty c))
     ≡ of_row l turns (branch_by b s to)
 branch_ends true to c turns l s = refl
 branch_ends false to c turns l s = refl
@@ -82,11 +83,14 @@ branch_stores true to c s = refl
 branch_stores false to c s = refl
 
 -- a jump where a test holds
-pub branch_lifting : (e : Expression) (f : State → Bool) (w to : ℕ) (next : ℕ → Successors) (at : ℕ) → IsPlain 1 w 0 e → HasValue 1 e (λ s. bit (f s)) at → w ≤ 892 →
-    IsLifting rv32 XRegisters (record (row_of (λ s. branch_by (f s) s to)) { successors = next }) at (If e (JumpTo (lifts.number (add 32 at to)) Empty) Empty Empty)
+pub branch_lifting : (e : Expression) (f : State → Bool) (w to : ℕ) (next : ℕ → Successors) (at : ℕ) → IsPlain 1 w 0 e → HasValue 1 e (λ s. bit (f s)) at →
+    w ≤ 892 →
+    IsLifting rv32 XRegisters (record (row_of (λ s. branch_by (f s) s to)) { successors = next }) at
+    (If e (JumpTo (lifts.number (add 32 at to)) Empty) Empty Empty)
 branch_lifting e f w to next at plain value h = record {
   simulates = λ s is here c turns few locals. rw (value s here c locals, ← here) (branch_ends (f s) to c turns locals s);
-  stored = λ s is here c turns few locals a. same _ [] a (rw (plain.stored c (env_of locals s), value s here c locals) (branch_stores (f s) (add 32 at to) c (position locals turns None s)));
+  stored = λ s is here c turns few locals a. same _ [] a (rw (plain.stored c (env_of locals s), value s here c locals)
+      (branch_stores (f s) (add 32 at to) c (position locals turns None s)));
   typed = let k = (number_plain (add 32 at to) (omega arith)).typed in rw (plain.typed 1, k _) refl;
   no_loop = refl;
   no_special = refl;
@@ -106,7 +110,8 @@ branch_lifting e f w to next at plain value h = record {
 }
 
 linked_ends : (d to c turns : ℕ) (l : Locals) (s : State) →
-    execute (lifts.assigned d (lifts.number (add 32 s.pc 4))) c (position l turns (Some to) s) ≡ Ends (position l turns (Some to) (with_pc (with_reg s d (add 32 s.pc 4)) to))
+    execute (lifts.assigned d (lifts.number (add 32 s.pc 4))) c (position l turns (Some to) s)
+    ≡ Ends (position l turns (Some to) (with_pc (with_reg s d (add 32 s.pc 4)) to))
 linked_ends zero to c turns l s = refl
 linked_ends (suc d) to c turns l s = refl
 
@@ -123,7 +128,8 @@ link_weight zero v = omega arith
 link_weight (suc d) v = omega arith
 
 link_lifting : (d v at : ℕ) → d < 32 → v < 2 ^ 32 → IsLifting rv32 XRegisters (row_of (λ s. on s (with_reg s d v))) at (lifts.assigned d (lifts.number v))
-link_lifting d v at h k = assigned_lifting d 0 0 (lifts.number v) (λ s. v) plain_cost None at h (number_plain v k) (λ s here c l. refl) (omega arith) (omega arith)
+link_lifting d v at h k = assigned_lifting d 0 0 (lifts.number v) (λ s. v) plain_cost None at h (number_plain v k)
+    (λ s here c l. refl) (omega arith) (omega arith)
 
 -- a jump, and rd takes the address behind
 pub jump_lifting : (e : Expression) (f : State → ℕ) (d w : ℕ) (how : How) (next : ℕ → Successors) (p : Option Offset) (at : ℕ) → d < 32 → IsPlain 32 w 0 e →
@@ -157,7 +163,11 @@ jump_lifting e f d w how next p at small plain value h jumps =
 pub store_lifting : (n w v : ℕ) (t u : Expression) (f g : State → ℕ) (at : ℕ) → IsPlain 32 w 0 t → IsPlain n v 0 u → HasValue 32 t f at →
     ((s : State) → s.pc ≡ at → (c : ℕ) (l : Locals) → evaluate (Store (Var Mem) t Little n u) c (env_of l s) ≡ Bytes (store Little (n / 8) s.mem (f s) (g s))) →
     w + v ≤ 960 → (n == n) ≡ true → is_load_width n ≡ true →
-    IsLifting rv32 XRegisters (record (row_of (λ s. on s (record s { mem = store Little (n / 8) s.mem (f s) (g s) }))) { stored = λ s. Some (f s, n / 8); cost = record { row = 1024; loads = 0; stores = n / 8 } }) at
+    IsLifting rv32 XRegisters (record (row_of (λ s. on s (record s { mem = store Little (n / 8) s.mem (f s) (g s) }))) {
+      stored =
+          λ s. Some (f s, n / 8);
+      cost = record { row = 1024; loads = 0; stores = n / 8 };
+    }) at
     (Assign Mem (Store (Var Mem) t Little n u) Empty)
 store_lifting n w v t u f g at p q value result h same_width wide = record {
   simulates = λ s is here c turns few locals. rw (result s here c locals) refl;

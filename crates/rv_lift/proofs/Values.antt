@@ -94,7 +94,8 @@ load_is Lw t a c l s h = rw h refl
 load_is Lbu t a c l s h = rw h refl
 load_is Lhu t a c l s h = rw h refl
 
-pub store_is : (o : StoreOp) (t u : Expression) (a x c : ℕ) (l : Locals) (s : State) → evaluate t c (env_of l s) ≡ Word 32 a → evaluate u c (env_of l s) ≡ Word 32 x →
+pub store_is : (o : StoreOp) (t u : Expression) (a x c : ℕ) (l : Locals) (s : State) → evaluate t c (env_of l s) ≡ Word 32 a →
+    evaluate u c (env_of l s) ≡ Word 32 x →
     evaluate (lifts.stored o t u) c (env_of l s) ≡ Bytes (store Little (stored_bytes o) s.mem a x)
 store_is Sb t u a x c l s h k = rw (h, k) (ap Bytes (store_cut Little 1 s.mem a x))
 store_is Sh t u a x c l s h k = rw (h, k) (ap Bytes (store_cut Little 2 s.mem a x))

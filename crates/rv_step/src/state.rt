@@ -178,7 +178,8 @@ impl State {
         requires few { n ≤ 4 }
         requires room { n ≤ spare_of self.old }
         ensures out { result ≡ StepOut.Next }
-        ensures state { state_of self.new ≡ with_pc (record (state_of self.old) { mem = store Little n (state_of self.old).mem a value }) (add 32 (state_of self.old).pc 4) }
+        ensures state { state_of self.new ≡ with_pc (record (state_of self.old) { mem = store Little n (state_of self.old).mem a value })
+            (add 32 (state_of self.old).pc 4) }
         ensures spare { spare_of self.old ≤ spare_of self.new + n }
     {
         let low = Word::new(32, value as u64).low(8 * n);

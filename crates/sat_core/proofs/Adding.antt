@@ -44,8 +44,12 @@ module _ (cs : List Clause) (c : Clause) where
       | inl e ↦ (c, ap (slice_get (cs ++ c ∷ [])) (ap (λ i. get_or (short ++ length cs ∷ []) i 0) e ∙ get_or-append_seam short (length cs) [] 0) ∙ get-new, s)
       | inr e ↦
           let small : j < length short = omega (arith, length-append short (length cs ∷ []), e) in
-          let o = r.shorts j small in
-          (o.0, ap (slice_get (cs ++ c ∷ [])) (get_or_append_left short (length cs ∷ []) 0 j small) ∙ get-old (get_or short j 0) (slice_get_within cs (get_or short j 0) o.0 o.1) ∙ o.1, o.2)
+          let o = r.shorts j small in (
+            o.0,
+            ap (slice_get (cs ++ c ∷ [])) (get_or_append_left short (length cs
+                ∷ []) 0 j small) ∙ get-old (get_or short j 0) (slice_get_within cs (get_or short j 0) o.0 o.1) ∙ o.1,
+            o.2,
+          )
     ];
   }
 
@@ -84,7 +88,8 @@ module _ (cs : List Clause) (c : Clause) where
             inr (g, ap (watched_at (watched ++ a ∷ b ∷ [])) g ∙ get_or-append-add watched (a ∷ b ∷ []) 1 some_literal)
       ]
 
-  pub placed-wide : (owners : List ℕ) (watched : List Literal) (a b : Literal) → IsPlaced cs owners watched → has c a ≡ true → has c b ≡ true → same a b ≡ false →
+  pub placed-wide : (owners : List ℕ) (watched : List Literal) (a b : Literal) → IsPlaced cs owners watched → has c a ≡ true → has c b ≡ true →
+      same a b ≡ false →
       IsPlaced (cs ++ c ∷ []) (owners ++ length cs ∷ []) (watched ++ a ∷ b ∷ [])
   placed-wide owners watched a b p ha hb d = record {
     pairs = (let pairs = p.pairs in omega (arith, length-append watched (a ∷ b ∷ []), length-append owners (length cs ∷ [])));
@@ -110,7 +115,8 @@ module _ (cs : List Clause) (c : Clause) where
           let small : n < length watched = omega (arith, length-append watched (a ∷ b ∷ []), e) in
           let j : n / 2 < length owners = owner-within n (length owners) (omega arith) in
           ap (has d) (get_or_append_left watched (a ∷ b ∷ []) some_literal n small)
-          ∙ p.inside n d small (sym (ap (slice_get (cs ++ c ∷ [])) (get_or_append_left owners (length cs ∷ []) 0 (n / 2) j) ∙ get-old (get_or owners (n / 2) 0) (p.within (n / 2) j)) ∙ is)
+          ∙ p.inside n d small (sym (ap (slice_get (cs ++ c ∷ [])) (get_or_append_left owners (length cs
+          ∷ []) 0 (n / 2) j) ∙ get-old (get_or owners (n / 2) 0) (p.within (n / 2) j)) ∙ is)
     ];
     apart = λ n lt. elim (cases_eq (n / 2) (length owners)) [
       | inl e ↦ elim (new-watch owners watched a b p n lt e) [
@@ -153,7 +159,8 @@ module _ (cs : List Clause) (c : Clause) where
       covered = covered-wide owners short r.covered;
     }
 
-pub ready-start : (heads : List ℕ) (size : ℕ) → length heads ≡ 2 * size → ((p : ℕ) → p < 2 * size → get_or heads p 0 ≡ no_watch) → AreReady [] heads [] [] [] [] size
+pub ready-start : (heads : List ℕ) (size : ℕ) → length heads ≡ 2 * size → ((p : ℕ) → p < 2 * size → get_or heads p 0 ≡ no_watch) →
+    AreReady [] heads [] [] [] [] size
 ready-start heads size e f = record {
   over = λ c k. absurd (let lt = k.1 in omega arith);
   heads_size = e;

@@ -124,7 +124,8 @@ module _ (cs : List Clause) (all : List Step) (end : ℕ) (items fewer : List St
       let a = at-last given w in
       let t = a.0.0 in (
         a.0.1,
-        subst (λ (z : List code.Hint). IsLed cs marks (told given (reverse fewer)) (map hint_of z)) (sym (last-first more hints (variants.ById (s.clause + 1)) f))
+        subst (λ (z : List code.Hint). IsLed cs marks (told given (reverse fewer)) (map hint_of z))
+            (sym (last-first more hints (variants.ById (s.clause + 1)) f))
             (led-more cs marks (told given (reverse fewer)) before s.clause t.0 s.lit (map hint_of (reverse hints)) t.1
             (subst (AreMarked marks) (clause-read cs s.clause t.0 r t.1 read) marked) stays t.2 a.1),
       )
@@ -135,7 +136,8 @@ pub back-first : (cs : List Clause) (all : List Step) (end : ℕ) (marks : List 
 back-first cs all end marks r marked read hints more e f = λ given w.
     let q = clause-read cs end w.1.0 r w.1.1 read in (
       w.0,
-      subst (λ (z : List code.Hint). IsLed cs marks (told given (reverse all)) (map hint_of (reverse z))) (sym (f ∙ ap (λ z. z ++ variants.ById (end + 1) ∷ []) e))
+      subst (λ (z : List code.Hint). IsLed cs marks (told given (reverse all)) (map hint_of (reverse z))) (sym (f ∙ ap
+          (λ z. z ++ variants.ById (end + 1) ∷ []) e))
           (led-first cs marks (told given (reverse all)) end w.1.0 w.1.1 (subst (AreMarked marks) q marked) w.1.2),
     )
 

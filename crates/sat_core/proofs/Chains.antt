@@ -118,7 +118,8 @@ module _ (heads links : List ℕ) (watched : List Literal) where
         | inr e ↦ rw e (k.distinct q)
       ];
       all = λ n l f. elim (cases_Bool (nat_eq (place (watched_at watched n)) p)) [
-        | inl e ↦ absurd (both_ways (among (k.lists p) n) f (ap (λ z. among (k.lists z) n) (sym (eqb-true (place (watched_at watched n)) p e)) ∙ k.all n l refl))
+        | inl e ↦ absurd (both_ways (among (k.lists p) n) f (ap
+            (λ z. among (k.lists z) n) (sym (eqb-true (place (watched_at watched n)) p e)) ∙ k.all n l refl))
         | inr e ↦ rw e (k.all n l refl)
       ];
       few = k.few;
@@ -127,7 +128,8 @@ module _ (heads links : List ℕ) (watched : List Literal) where
 
   -- a free watch is linked to the list of its literal, which may have changed
   module _ (n : ℕ) (ys : List ℕ) (k : IsLinked heads links watched (n ∷ ys)) (lt : n < length links) (fresh : among ys n ≡ false) (after : List Literal)
-      (alike : (i : ℕ) → i ≢ n → watched_at after i ≡ watched_at watched i) (size : length after ≡ length watched) (p : ℕ) (here : place (watched_at after n) ≡ p)
+      (alike : (i : ℕ) → i ≢ n → watched_at after i ≡ watched_at watched i) (size : length after ≡ length watched) (p : ℕ) (here : place (watched_at after n)
+      ≡ p)
       (within : p < length heads) where
     abbrev lists-with : ℕ → List ℕ
     lists-with q = if nat_eq q p then n ∷ k.lists p else k.lists q
@@ -229,7 +231,8 @@ module _ (heads links : List ℕ) (watched : List Literal) where
   not-long k p = length-le_from_distinct_below (k.lists p) (length links) (k.distinct p) (λ q h. (k.own p q h).0)
 
 -- two new watches, linked
-pub two-more : (heads links : List ℕ) (watched : List Literal) (k : IsLinked heads links watched []) (x y : Literal) (n : ℕ) → n ≡ length links → length links + 2 ≤ no_watch → place x < length heads → place y < length heads →
+pub two-more : (heads links : List ℕ) (watched : List Literal) (k : IsLinked heads links watched []) (x y : Literal) (n : ℕ) → n ≡ length links →
+    length links + 2 ≤ no_watch → place x < length heads → place y < length heads →
     IsLinked (slice_set (slice_set heads (place x) n) (place y) (n + 1))
     (slice_set (slice_set (links ++ no_watch ∷ no_watch ∷ []) n (get_or heads (place x) 0)) (n + 1) (get_or (slice_set heads (place x) n) (place y) 0))
     (watched ++ x ∷ y ∷ []) []
@@ -246,7 +249,8 @@ two-more heads links watched k x y n is few px py =
     let fresh : among ((n + 1) ∷ []) n ≡ false = rw u refl in
     let first = linked heads more after n ((n + 1) ∷ []) g (omega arith) fresh after (λ i h. refl) refl (place x) (ap place a) px in
     linked (slice_set heads (place x) n) (slice_set more n (get_or heads (place x) 0)) after (n + 1) [] first
-    (rw (length-set more n (get_or heads (place x) 0)) (omega arith)) refl after (λ i h. refl) refl (place y) (ap place b) (rw (length-set heads (place x) n) py)
+    (rw (length-set more n (get_or heads (place x) 0)) (omega arith)) refl after
+    (λ i h. refl) refl (place y) (ap place b) (rw (length-set heads (place x) n) py)
 
 pub linked-start : (heads : List ℕ) (size : ℕ) → length heads ≡ size → ((p : ℕ) → p < size → get_or heads p 0 ≡ no_watch) → IsLinked heads [] [] []
 linked-start heads size e f = record {

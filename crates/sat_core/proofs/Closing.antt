@@ -94,7 +94,8 @@ split-at steps n s lt is =
     sym (take-append-drop (n + 1) steps) ∙ ap (λ z. z ++ drop (n + 1) steps) (take_more steps n s lt ∙ ap (λ (z : Step). take n steps ++ z ∷ []) (sym is))
 
 -- a step's literal is over the table, and true
-pub step-variable : (size : ℕ) (steps : List Step) (n : ℕ) (s : Step) → AreFresh size (reverse steps) → n < length steps → s ≡ get_or steps n s → s.lit.variable < size
+pub step-variable : (size : ℕ) (steps : List Step) (n : ℕ) (s : Step) → AreFresh size (reverse steps) → n < length steps → s ≡ get_or steps n s →
+    s.lit.variable < size
 step-variable size steps n s f lt is =
     let e : reverse steps ≡ reverse (drop (n + 1) steps) ++ s ∷ reverse (take n steps) =
     ap reverse (split-at steps n s lt is) ∙ reverse-append (take n steps ++ s ∷ []) (drop (n + 1) steps)
@@ -106,7 +107,8 @@ pub step-true : (steps : List Step) (n : ℕ) (s : Step) → n < length steps �
 step-true steps n s lt is =
     ap (λ (z : List Step). told nothing (reverse z) s.lit) (split-at steps n s lt is)
     ∙ told-part (take n steps ++ s ∷ []) (drop (n + 1) steps) s.lit
-    (ap (λ (z : List Step). told nothing z s.lit) (last-first (take n steps ++ s ∷ []) (take n steps) s refl) ∙ or_left (same s.lit s.lit) (told nothing (reverse (take n steps)) s.lit) (same-self s.lit))
+    (ap (λ (z : List Step). told nothing z s.lit) (last-first (take n steps ++ s
+    ∷ []) (take n steps) s refl) ∙ or_left (same s.lit s.lit) (told nothing (reverse (take n steps)) s.lit) (same-self s.lit))
 
 steps-given : (cs : List Clause) (g given : Literal → Bool) (steps : List Step) → AreSteps cs given steps → IsGiven cs g given → IsGiven cs g (told given steps)
 steps-given cs g given [] a i = i
@@ -115,7 +117,8 @@ steps-given cs g given (s ∷ steps) a i =
     given-unit cs g (told given steps) k.0 s.lit (steps-given cs g given steps a.1 i) (get-contains cs s.clause k.0 k.1) k.2
 
 -- what propagation adds follows
-pub run-given : (cs : List Clause) (before after : List Step) (h k : Literal → Bool) → IsRun cs before after → ((m : Literal) → h m ≡ told nothing (reverse before) m) →
+pub run-given : (cs : List Clause) (before after : List Step) (h k : Literal → Bool) → IsRun cs before after →
+    ((m : Literal) → h m ≡ told nothing (reverse before) m) →
     ((m : Literal) → k m ≡ told nothing (reverse after) m) → (g : Literal → Bool) → IsGiven cs g h → IsGiven cs g k
 run-given cs before after h k r th tk g i =
     let eh = fun_ext h (told nothing (reverse before)) th in
@@ -123,8 +126,10 @@ run-given cs before after h k r th tk g i =
     subst (IsGiven cs g) (told-after cs before after r.0 r.1 ∙ sym ek)
     (steps-given cs g (told nothing (reverse before)) (reverse r.0) r.2 (subst (IsGiven cs g) eh i))
 
-pub fewer-open-steps : (table after : List (Option Bool)) (steps middle more : List Step) (run : List Step) (s : Step) → length steps + open_count table ≡ length table →
-    length more + open_count after ≡ length after → length after ≡ length table → middle ≡ steps ++ run → more ≡ middle ++ s ∷ [] → open_count after < open_count table
+pub fewer-open-steps : (table after : List (Option Bool)) (steps middle more : List Step) (run : List Step) (s : Step) →
+    length steps + open_count table ≡ length table →
+    length more + open_count after ≡ length after → length after ≡ length table → middle ≡ steps ++ run → more ≡ middle ++ s ∷ [] →
+    open_count after < open_count table
 fewer-open-steps table after steps middle more run s a b size e f =
     let m : length middle ≡ length steps + length run = ap length e ∙ length-append steps run in
     let n : length more ≡ length middle + 1 = ap length f ∙ length-append middle (s ∷ []) in

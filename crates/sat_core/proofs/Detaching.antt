@@ -76,7 +76,8 @@ module _ (heads links : List ℕ) (watched : List Literal) where
           rest = others;
           chained = rw next-is (chain-frame links from (get_or heads q 0) others (get_or links from 0) once (chain-step links from d.rest ne d.chained).3);
           distinct = IsDistinct-tail nat_eq from others distinct-rest;
-          linked = linked heads links watched from others (subst (IsLinked heads links watched) rest-is d.linked) from-within once after alike size q here within;
+          linked = linked heads links watched from others (subst
+              (IsLinked heads links watched) rest-is d.linked) from-within once after alike size q here within;
           listed = λ n h.
               let other : n ≢ from = λ e. both_ways (among others from) once (ap (among others) (sym e) ∙ h) in
               ap place (alike n other) ∙ d.listed n (ap (λ z. among z n) rest-is ∙ or_right (nat_eq n from) (among others n) h);

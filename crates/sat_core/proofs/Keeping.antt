@@ -41,7 +41,8 @@ module _ (watched : List Literal) (n : ℕ) (l : Literal) (lt : n < length watch
     | inl e ↦
         let q : i ≡ n = eqb-true i n e in
         let a : watched_at (slice_set watched n l) i ≡ l = ap (watched_at (slice_set watched n l)) q ∙ put-same watched n l lt in
-        let b : watched_at (slice_set watched n l) (mate i) ≡ watched_at watched (mate n) = ap (λ j. watched_at (slice_set watched n l) (mate j)) q ∙ mate-put in
+        let b : watched_at (slice_set watched n l) (mate i) ≡ watched_at watched (mate n) = ap
+        (λ j. watched_at (slice_set watched n l) (mate j)) q ∙ mate-put in
         ap k b ∙ new (ap (λ (z : Literal). done (opposite z)) (sym a) ∙ d)
     | inr e ↦
         let ne : i ≢ n = λ z. both_ways (nat_eq i n) e (eq-eqb i n z) in
@@ -82,7 +83,8 @@ module _ (watched : List Literal) (n : ℕ) (l : Literal) (lt : n < length watch
             | inl g ↦
                 let q : i ≡ mate n = sym (mate-mate i) ∙ ap mate (eqb-true (mate i) n g) in
                 let a : watched_at (slice_set watched n l) i ≡ watched_at watched (mate n) = put-other watched n l i ne ∙ ap (watched_at watched) q in
-                let b : watched_at (slice_set watched n l) (mate i) ≡ l = ap (watched_at (slice_set watched n l)) (eqb-true (mate i) n g) ∙ put-same watched n l lt in
+                let b : watched_at (slice_set watched n l) (mate i)
+                ≡ l = ap (watched_at (slice_set watched n l)) (eqb-true (mate i) n g) ∙ put-same watched n l lt in
                 ap (λ (z : Literal). same z (watched_at (slice_set watched n l) (mate i))) a ∙ ap (same (watched_at watched (mate n))) b
                 ∙ differ_swap (watched_at watched (mate n)) l apart
             | inr g ↦

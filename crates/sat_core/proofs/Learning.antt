@@ -16,7 +16,8 @@ use Rattle.sat_core.proofs.Quiet.{quiet-no_conflict, quiet-not_given}
 
 -- Propagation has nothing to do in a set in which all literals of the clause but l are false, and l is not true. Where without each of the others nothing
 -- follows, the clause is empowering.
-pub empowering-at : (cs : List Clause) (kept : Clause) (l : Literal) (holds : Literal → Bool) → IsQuiet cs holds → is_tautology kept ≡ false → has kept l ≡ true →
+pub empowering-at : (cs : List Clause) (kept : Clause) (l : Literal) (holds : Literal → Bool) → IsQuiet cs holds → is_tautology kept ≡ false →
+    has kept l ≡ true →
     holds l ≡ false → ((m : Literal) → has kept m ≡ true → same l m ≡ false → holds (opposite m) ≡ true) →
     ((m : Literal) → has kept m ≡ true → same l m ≡ false → Conflicts cs (negations_but kept m) → ⊥) → IsEmpowering cs kept
 empowering-at cs kept l holds q p hl o f n =
@@ -35,7 +36,8 @@ empowering-at cs kept l holds q p hl o f n =
     }
 
 module _ (cs : List Clause) (full kept : Clause) (hints : List Hint) (k : IsKept cs full kept hints) (n : (l : Literal) → IsNeeded cs kept l) where
-  at-last : (e : Clause) (l : Literal) → full ≡ e ++ l ∷ [] → (holds : Literal → Bool) → IsQuiet cs holds → Includes (negations e) holds → holds l ≡ false → IsEmpowering cs kept
+  at-last : (e : Clause) (l : Literal) → full ≡ e ++ l ∷ [] → (holds : Literal → Bool) → IsQuiet cs holds → Includes (negations e) holds → holds l ≡ false →
+      IsEmpowering cs kept
   at-last e l q holds quiet inc free =
       let last : (m : Literal) → has full m ≡ true → same l m ≡ false → has e m ≡ true = λ m h d.
       (elim (has-last e l m (ap (λ (z : Clause). has z m) (sym q) ∙ h)) [

@@ -75,11 +75,13 @@ or_swap false false = refl
 front : (c : Clause) (i : ℕ) (x : Literal) → i < length c → x ≡ get_or c i x → take (i + 1) c ≡ take i c ++ x ∷ []
 front c i x lt is = take_more c i x lt ∙ ap (λ (y : Literal). take i c ++ y ∷ []) (sym is)
 
-pub has-taken : (c : Clause) (i : ℕ) (x : Literal) → i < length c → x ≡ get_or c i x → (m : Literal) → has (take (i + 1) c) m ≡ true → (has (take i c) m ≡ true) ⊎ (x ≡ m)
+pub has-taken : (c : Clause) (i : ℕ) (x : Literal) → i < length c → x ≡ get_or c i x → (m : Literal) → has (take (i + 1) c) m ≡ true →
+    (has (take i c) m ≡ true) ⊎ (x ≡ m)
 has-taken c i x lt is m h = has-last (take i c) x m (ap (λ (d : Clause). has d m) (sym (front c i x lt is)) ∙ h)
 
 -- one more literal is denied
-pub denied-more : (c : Clause) (i : ℕ) (x : Literal) → i < length c → x ≡ get_or c i x → (h k : Literal → Bool) → ((m : Literal) → h m ≡ negations (take i c) m) →
+pub denied-more : (c : Clause) (i : ℕ) (x : Literal) → i < length c → x ≡ get_or c i x → (h k : Literal → Bool) →
+    ((m : Literal) → h m ≡ negations (take i c) m) →
     ((m : Literal) → k m ≡ added (opposite x) h m) → (m : Literal) → k m ≡ negations (take (i + 1) c) m
 denied-more c i x lt is h k inv new m =
     new m ∙ rw (inv m, same-opposite x m) (sym (or_swap (has (take i c) (opposite m)) (same x (opposite m))))
@@ -181,11 +183,13 @@ plain-front (x ∷ xs) l h =
     ]
 
 -- a clause whose literals are all false has no literal beside its opposite
-pub false-plain : (h : Literal → Bool) → ((l : Literal) → h l ≡ true → h (opposite l) ≡ true → ⊥) → (c : Clause) → ((m : Literal) → has c m ≡ true → h (opposite m) ≡ true) →
+pub false-plain : (h : Literal → Bool) → ((l : Literal) → h l ≡ true → h (opposite l) ≡ true → ⊥) → (c : Clause) →
+    ((m : Literal) → has c m ≡ true → h (opposite m) ≡ true) →
     is_tautology c ≡ false
 false-plain h one [] f = refl
 false-plain h one (x ∷ xs) f = elim (cases_Bool (has xs (opposite x))) [
-  | inl e ↦ absurd (one (opposite x) (f x (or_left (same x x) (has xs x) (same-self x))) (f (opposite x) (or_right (same x (opposite x)) (has xs (opposite x)) e)))
+  | inl e ↦ absurd (one (opposite x) (f x (or_left (same x x) (has xs x) (same-self x)))
+      (f (opposite x) (or_right (same x (opposite x)) (has xs (opposite x)) e)))
   | inr e ↦ rw e (false-plain h one xs (λ m p. f m (or_right (same x m) (has xs m) p)))
 ]
 

@@ -72,7 +72,8 @@ module _ (cs : List Clause) (c : Clause) (hints : List Hint) where
 
   known-last : is_empty_clause c ≡ false → known_after (known_at_start cs) line ≡ known_at_start (cs ++ c ∷ [])
   known-last e =
-      let f : present_after (at_start cs) line ≡ at_start (cs ++ c ∷ []) = fun_ext (present_after (at_start cs) line) (at_start (cs ++ c ∷ [])) (start-last cs c) in
+      let f : present_after (at_start cs) line ≡ at_start (cs ++ c
+      ∷ []) = fun_ext (present_after (at_start cs) line) (at_start (cs ++ c ∷ [])) (start-last cs c) in
       let n : length cs + 1 ≡ length (cs ++ c ∷ []) = sym (length-append cs (c ∷ [])) in
       let high : max (length cs) (length cs + 1) ≡ length cs + 1 = omega arith in
       ap (λ m. known_of m (present_after (at_start cs) line) (is_empty_clause c)) high

@@ -36,14 +36,16 @@ module _ (cs : List Clause) (kept : Clause) where
     plain = others-plain kept y h.plain;
     needed = λ x p n. elim (cases_Bool (same y x)) [
       | inl e ↦ absurd (n (conflicts-more cs (negations (others kept y)) (negations_but full x)
-          (λ m q. but-part kept full x h.part m (ap (λ (z : Literal). negations_but kept z m) (sym (same-true y x e)) ∙ sym (has-others kept y (opposite m)) ∙ q))
+          (λ m q. but-part kept full x h.part m (ap (λ (z : Literal). negations_but kept z m) (sym (same-true y x e)) ∙ sym
+          (has-others kept y (opposite m)) ∙ q))
           (hints-follow cs (others kept y) found a)))
       | inr e ↦ has-others kept y x ∙ and_from (has kept x) (not (same y x)) (h.needed x p n) (rw e refl)
     ];
   }
 
   pub needed-drop : (y l : Literal) → IsNeeded cs kept l → IsNeeded cs (others kept y) l
-  needed-drop y l n p f = n (others-part kept y l p) (conflicts-more cs (negations_but (others kept y) l) (negations_but kept l) (but-part (others kept y) kept l (others-part kept y)) f)
+  needed-drop y l n p f = n (others-part kept y l p) (conflicts-more cs (negations_but (others kept y) l) (negations_but kept l)
+      (but-part (others kept y) kept l (others-part kept y)) f)
 
   pub needed-dropped : (y : Literal) → IsNeeded cs (others kept y) y
   needed-dropped y p f = both_ways (has (others kept y) y) (has-others kept y y ∙ rw (same-self y) (and_no (has kept y))) p

@@ -21,8 +21,11 @@ trail-more table after steps more s room t is lt free not_false size now fewer =
     let e = last-first more steps s is in
     record {
       told_by = λ m. now m ∙ ap (λ b. same s.lit m || b) (t.told_by m) ∙ ap (λ (z : List Step). told nothing z m) (sym e);
-      fresh = subst (AreFresh (length after)) (sym e)
-          ((rw size lt, sym (t.told_by s.lit) ∙ free, sym (t.told_by (opposite s.lit)) ∙ not_false), subst (λ n. AreFresh n (reverse steps)) (sym size) t.fresh);
+      fresh = subst (AreFresh (length after)) (sym e) (
+        (rw size lt, sym (t.told_by s.lit) ∙ free, sym (t.told_by (opposite s.lit)) ∙ not_false),
+        subst
+            (λ n. AreFresh n (reverse steps)) (sym size) t.fresh,
+      );
       count = (let r = t.count in rw is (omega (arith, length-append steps (s ∷ []), fewer, size)));
       room = (let r = t.room in omega (arith, size));
     }
@@ -67,10 +70,18 @@ trail-less table steps fewer s room t is =
             let ne : m.variable ≢ s.lit.variable = λ z. both_ways (m.variable == s.lit.variable) q (eq-eqb m.variable s.lit.variable z) in
             let d : (s.lit.variable == m.variable) ≡ false = ne_eqb s.lit.variable m.variable (λ z. ne (sym z)) in
             let a : told nothing (s ∷ reverse fewer) m ≡ told nothing (reverse fewer) m = rw d refl in
-            ap (λ o. value_is o m.positive) (get_or-set_other table s.lit.variable m.variable None None ne) ∙ t.told_by m ∙ ap (λ (z : List Step). told nothing z m) e ∙ a
+            ap (λ o. value_is o m.positive) (get_or-set_other table s.lit.variable m.variable None None ne) ∙ t.told_by m ∙ ap
+            (λ (z : List Step). told nothing z m) e ∙ a
       ];
       fresh = rw (length-set table s.lit.variable None) fresh.1;
-      count = (let r = t.count in omega (arith, open_count-cleared table s.lit.variable lt some, ap length is, length-append fewer (s ∷ []), length-set table s.lit.variable None));
+      count = (let r = t.count in omega (
+        arith,
+        open_count-cleared table s.lit.variable lt some,
+        ap length is,
+        length-append fewer (s
+            ∷ []),
+        length-set table s.lit.variable None,
+      ));
       room = rw (length-set table s.lit.variable None) t.room;
     }
 
@@ -90,7 +101,11 @@ pub trail-start : (table : List (Option Bool)) (steps : List Step) (size room : 
 trail-start table steps size room e r n none = rw n record {
   told_by = none;
   fresh = tt;
-  count = omega (arith, open_count-none table (λ v. is-none (get_or table v None) (none (record { variable = v; positive = true })) (none (record { variable = v; positive = false }))));
+  count = omega (
+    arith,
+    open_count-none table (λ v. is-none (get_or table v None) (none (record { variable = v; positive = true }))
+        (none (record { variable = v; positive = false }))),
+  );
   room = omega (arith, e, r);
 }
 
@@ -114,10 +129,12 @@ module _ (cs : List Clause) (before : List Step) where
   pub told-after : (after more : List Step) → after ≡ before ++ more → told (told nothing (reverse before)) (reverse more) ≡ told nothing (reverse after)
   told-after after more e = told-append nothing (reverse before) (reverse more) ∙ ap (told nothing) (sym (ap reverse e ∙ reverse-append before more))
 
-  pub run-step : (after more : List Step) (s : Step) (holds : Literal → Bool) → IsRun cs before after → ((m : Literal) → holds m ≡ told nothing (reverse after) m) →
+  pub run-step : (after more : List Step) (s : Step) (holds : Literal → Bool) → IsRun cs before after →
+      ((m : Literal) → holds m ≡ told nothing (reverse after) m) →
       IsStep cs holds s.clause s.lit → more ≡ after ++ s ∷ [] → IsRun cs before more
   run-step after more s holds r tells k e =
-      let w : told (told nothing (reverse before)) (reverse r.0) ≡ holds = told-after after r.0 r.1 ∙ sym (fun_ext holds (told nothing (reverse after)) tells) in (
+      let w : told (told nothing (reverse before)) (reverse r.0)
+      ≡ holds = told-after after r.0 r.1 ∙ sym (fun_ext holds (told nothing (reverse after)) tells) in (
         r.0 ++ s ∷ [],
         e ∙ ap (λ z. z ++ s ∷ []) r.1 ∙ append_assoc before r.0 (s ∷ []),
         subst (AreSteps cs (told nothing (reverse before))) (sym (last-first (r.0 ++ s ∷ []) r.0 s refl))

@@ -27,7 +27,8 @@ module _ (cs : List Clause) (n : ℕ) (full : Clause) (h k : Literal → Bool) (
         (h, quiet, (λ m p. t.included m (ap (λ (z : Clause). has z (opposite m)) r.0 ∙ p)), ap h (sym r.1) ∙ not_false);
     included = λ m p. elim (has-last full (opposite d) (opposite m) p) [
       | inl e ↦ now m ∙ or_right (same d m) (h m) (t.included m e)
-      | inr e ↦ let s : d ≡ m = sym (opposite_twice d) ∙ ap opposite e ∙ opposite_twice m in now m ∙ or_left (same d m) (h m) (ap (same d) (sym s) ∙ same-self d)
+      | inr e ↦ let s : d ≡ m = sym (opposite_twice d) ∙ ap opposite e ∙ opposite_twice m
+          in now m ∙ or_left (same d m) (h m) (ap (same d) (sym s) ∙ same-self d)
     ];
     given = λ s i c m p. elim (or_cases (same d m) (h m) (sym (now m) ∙ p)) [
       | inl e ↦ i m (ap (λ (z : Literal). has (full ++ opposite d ∷ []) (opposite z)) (sym (same-true d m e)) ∙ last-self full (opposite d))

@@ -24,7 +24,8 @@ use Rattle.sat_core.proofs.Quiet.{quiet-no_conflict}
 
 pub later-includes : (old new : Propagator) → IsSound old → IsLater old new → Includes (true_in old.trail.table.items) (true_in new.trail.table.items)
 later-includes old new s k l h =
-    k.sound.trail.told_by l ∙ ap (λ (z : List Step). told nothing (reverse z) l) k.steps ∙ told-part old.trail.steps.items k.more l (sym (s.trail.told_by l) ∙ h)
+    k.sound.trail.told_by l ∙ ap (λ (z : List Step). told nothing (reverse z) l) k.steps ∙ told-part old.trail.steps.items k.more l
+    (sym (s.trail.told_by l) ∙ h)
 
 pub later-later : (a b d : Propagator) → IsSound a → IsLater a b → IsLater b d → IsLater a d
 later-later a b d s k n = record {
@@ -33,12 +34,14 @@ later-later a b d s k n = record {
   size = n.size ∙ k.size;
   more = k.more ++ n.more;
   steps = n.steps ∙ ap (λ (z : List Step). z ++ n.more) k.steps ∙ append_assoc a.trail.steps.items k.more n.more;
-  cuts = λ done holds i j kept. n.cuts done holds (λ l p. later-includes a b s k l (i l p)) (λ l p. later-includes a b s k l (j l p)) (k.cuts done holds i j kept);
+  cuts = λ done holds i j kept. n.cuts done holds (λ l p. later-includes a b s k l (i l p))
+      (λ l p. later-includes a b s k l (j l p)) (k.cuts done holds i j kept);
 }
 
 -- the steps behind the first ones are taken back
 module _ (old mid : Propagator) (t : Trail) (n : ℕ) (k : IsLater old mid) (trail : IsTrail t.table.items t.steps.items (vec_capacity t.steps))
-    (left : t.steps.items ≡ take n mid.trail.steps.items) (mark : n ≡ length old.trail.steps.items) (size : length t.table.items ≡ length mid.trail.table.items) where
+    (left : t.steps.items ≡ take n mid.trail.steps.items) (mark : n ≡ length old.trail.steps.items) (size : length t.table.items
+    ≡ length mid.trail.table.items) where
   pub back-steps : t.steps.items ≡ old.trail.steps.items
   back-steps = left ∙ ap (take n) k.steps ∙ take-length n old.trail.steps.items k.more mark
 
@@ -88,7 +91,8 @@ one-literal (x ∷ []) l m few h g d = elim (or_cases (same x l) false h) [
 pub tested-one : (cs : List Clause) (given : Literal → Bool) (c : Clause) → length c < 2 → IsQuiet cs given → AreTested cs given c
 tested-one cs given c few q = λ l h. record { holds = given; quiet = q; included = λ m p. p; denied = λ m g d. absurd (one-literal c l m few h g d) }
 
-half-tested : (cs : List Clause) (given : Literal → Bool) (full one other : Clause) → ((m : Literal) → has full m ≡ true → (has one m ≡ true) ⊎ (has other m ≡ true)) →
+half-tested : (cs : List Clause) (given : Literal → Bool) (full one other : Clause) →
+    ((m : Literal) → has full m ≡ true → (has one m ≡ true) ⊎ (has other m ≡ true)) →
     (l : Literal) → IsTestedAt cs (also given one) other l → IsTestedAt cs given full l
 half-tested cs given full one other parts l t = record {
   holds = t.holds;
@@ -109,7 +113,8 @@ other-way (inl a) = inr a
 other-way (inr b) = inl b
 
 -- each half where the other is denied
-pub tested-halves : (cs : List Clause) (given : Literal → Bool) (n : ℕ) (c : Clause) → AreTested cs (also given (take n c)) (drop n c) → AreTested cs (also given (drop n c)) (take n c) →
+pub tested-halves : (cs : List Clause) (given : Literal → Bool) (n : ℕ) (c : Clause) → AreTested cs (also given (take n c)) (drop n c) →
+    AreTested cs (also given (drop n c)) (take n c) →
     AreTested cs given c
 tested-halves cs given n c back front = λ l h. elim (in-parts n c l h) [
   | inl a ↦ half-tested cs given c (drop n c) (take n c) (λ m p. other-way (in-parts n c m p)) l (front l a)

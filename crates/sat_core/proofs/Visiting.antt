@@ -55,7 +55,8 @@ module _ (cs : List Clause) (owners : List ℕ) (watched : List Literal) (p : Is
       (r.0, r.1, p.inside (mate n) r.0 m (ap (λ i. slice_get cs (get_or owners i 0)) (mate-owner n) ∙ r.1))
 
 pub target-moves : (cs : List Clause) (owner : ℕ) (watched : List Literal) (other : Literal) (h : Literal → Bool) (size : ℕ) (target : Literal) →
-    AreOnVariables (size - 1) cs → HasAt cs owner target → h (opposite target) ≡ false → same target other ≡ false → IsTarget cs owner watched other h size target
+    AreOnVariables (size - 1) cs → HasAt cs owner target → h (opposite target) ≡ false → same target other ≡ false →
+    IsTarget cs owner watched other h size target
 target-moves cs owner watched other h size target over at free apart =
     let v = over at.0 (get-contains cs owner at.0 at.1) target at.2 in
     record {
@@ -66,7 +67,8 @@ target-moves cs owner watched other h size target over at free apart =
       cuts = λ d k i a p. absurd (both_ways (h (opposite target)) free (i (opposite target) p));
     }
 
-pub target-stays : (cs : List Clause) (owners : List ℕ) (watched : List Literal) (n : ℕ) (h : Literal → Bool) (size : ℕ) (target : Literal) → IsPlaced cs owners watched →
+pub target-stays : (cs : List Clause) (owners : List ℕ) (watched : List Literal) (n : ℕ) (h : Literal → Bool) (size : ℕ) (target : Literal) →
+    IsPlaced cs owners watched →
     n < length watched → target.variable < size → watched_at watched n ≡ target → h (watched_at watched (mate n)) ≡ true →
     IsTarget cs (get_or owners (n / 2) 0) watched (watched_at watched (mate n)) h size target
 target-stays cs owners watched n h size target p lt v e t = record {
@@ -87,12 +89,14 @@ includes-added l done h t i m p = elim (or_cases (same l m) (done m) p) [
 pub kept-others : (watched : List Literal) (free : List ℕ) (l : Literal) (done h : Literal → Bool) →
     ((n : ℕ) → n < length watched → among free n ≡ false → place (watched_at watched n) ≢ place l) → AreKept watched [] done h →
     AreKept watched free (added (opposite l) done) h
-kept-others watched free l done h others k = λ n lt f p. elim (or_cases (same (opposite l) (opposite (watched_at watched n))) (done (opposite (watched_at watched n))) p) [
-  | inl e ↦
-      let q : l ≡ watched_at watched n = sym (opposite_twice l) ∙ ap opposite (same-true (opposite l) (opposite (watched_at watched n)) e) ∙ opposite_twice (watched_at watched n) in
-      absurd (others n lt f (ap place (sym q)))
-  | inr e ↦ k n lt refl e
-]
+kept-others watched free l done h others k = λ n lt f p. elim
+    (or_cases (same (opposite l) (opposite (watched_at watched n))) (done (opposite (watched_at watched n))) p) [
+      | inl e ↦
+          let q : l ≡ watched_at watched n = sym (opposite_twice l) ∙ ap opposite (same-true (opposite l) (opposite (watched_at watched n)) e) ∙ opposite_twice
+          (watched_at watched n) in
+          absurd (others n lt f (ap place (sym q)))
+      | inr e ↦ k n lt refl e
+    ]
 
 pub not-rest : (rest ys : List ℕ) (n : ℕ) → rest ≡ n ∷ ys → (i : ℕ) → i ≢ n → among ys i ≡ false → among rest i ≡ false
 not-rest rest ys n e i ne f = ap (λ z. among z i) e ∙ rw (ne_eqb i n ne) f
@@ -118,7 +122,8 @@ module _ (heads links : List ℕ) (watched : List Literal) (l : Literal) where
 
     module _ (ne : from ≢ no_watch) (cs : List Clause) (owner : ℕ) (size : ℕ) (now : Literal → Bool) (target : Literal)
         (t : IsTarget cs owner watched (watched_at watched (mate from)) now size target) (sizes : length heads ≡ 2 * size)
-        (grows : Includes k now) (first : Includes h k) (negated : k (opposite l) ≡ true) (dead : k l ≡ true → ⊥) (next : ℕ) (is : next ≡ get_or links from next) where
+        (grows : Includes k now) (first : Includes h k) (negated : k (opposite l) ≡ true) (dead : k l ≡ true →
+        ⊥) (next : ℕ) (is : next ≡ get_or links from next) where
       abbrev pub after : List Literal
       after = slice_set watched from target
 
@@ -126,11 +131,13 @@ module _ (heads links : List ℕ) (watched : List Literal) (l : Literal) where
       here-within = rw r.detached.linked.sizes (from-within heads links watched from (place l) r.detached ne)
 
       pub here-literal : watched_at watched from ≡ l
-      here-literal = same-true (watched_at watched from) l (place-same (watched_at watched from) l (from-listed heads links watched from (place l) r.detached ne))
+      here-literal = same-true (watched_at watched from) l (place-same (watched_at watched from) l
+          (from-listed heads links watched from (place l) r.detached ne))
 
       abbrev next-detached : IsDetached (slice_set heads (place target) from) (slice_set links from (get_or heads (place target) 0)) after next (place l)
       next-detached =
-          detached-next heads links watched from (place l) r.detached ne after (put-other watched from target) (length-set watched from target) (place target) next
+          detached-next heads links watched from (place l) r.detached ne after (put-other watched from target) (length-set watched from target)
+          (place target) next
           (ap place (put-same watched from target here-within)) (rw sizes t.room) is
 
       pub left-step : IsLeft (slice_set heads (place target) from) (slice_set links from (get_or heads (place target) 0)) before after next l h now
@@ -138,8 +145,10 @@ module _ (heads links : List ℕ) (watched : List Literal) (l : Literal) where
         detached = next-detached;
         kept = λ done i a.
             kept-put watched from target here-within r.detached.rest next-detached.rest (added (opposite l) done) k now grows
-            (λ j nj f. not-rest r.detached.rest (others heads links watched from (place l) r.detached ne) from (rest-is heads links watched from (place l) r.detached ne) j nj
-            (ap (λ z. among z j) (sym (rest-next heads links watched from (place l) r.detached ne after (put-other watched from target) (length-set watched from target)
+            (λ j nj f. not-rest r.detached.rest (others heads links watched from (place l) r.detached ne) from
+            (rest-is heads links watched from (place l) r.detached ne) j nj
+            (ap (λ z. among z j) (sym (rest-next heads links watched from (place l) r.detached ne after (put-other watched from target)
+            (length-set watched from target)
             (place target) next (ap place (put-same watched from target here-within)) (rw sizes t.room) is)) ∙ f))
             (r.kept done i a) (λ z. dead (ap k (sym here-literal) ∙ z))
             (t.kept (added (opposite l) done) (λ m z. grows m (includes-added (opposite l) done k negated (λ j y. first j (i j y)) m z)));
@@ -148,7 +157,8 @@ module _ (heads links : List ℕ) (watched : List Literal) (l : Literal) where
       pub left-smaller : (links' : List ℕ) → links' ≡ slice_set links from (get_or heads (place target) 0) →
           length (walk (length links') links' next) < length (walk (length links) links from)
       left-smaller links' e =
-          walk-smaller heads links watched from (place l) r.detached ne after (put-other watched from target) (length-set watched from target) (place target) next
+          walk-smaller heads links watched from (place l) r.detached ne after (put-other watched from target) (length-set watched from target)
+          (place target) next
           (ap place (put-same watched from target here-within)) (rw sizes t.room) is links' e
 
       pub left-cuts : (done holds : Literal → Bool) → Includes done now → Includes holds k → AreKept watched [] done holds → AreKept after [] done holds

@@ -22,12 +22,14 @@ module _ (h : Literal → Bool) where
   ]
 
   -- what is left is no unit
-  no-unit : (ls : Clause) (l : Literal) → has ls l ≡ true → ((x : Literal) → ((m : Literal) → has ls m ≡ true → m ≡ x) → h x ≡ false → ⊥) → look_left h ls ≡ Other
+  no-unit : (ls : Clause) (l : Literal) → has ls l ≡ true → ((x : Literal) → ((m : Literal) → has ls m ≡ true → m ≡ x) → h x ≡ false → ⊥) →
+      look_left h ls ≡ Other
   no-unit [] l p f = absurd (cc)
   no-unit (x ∷ xs) l p f = elim (cases_Bool (all_same x xs && not (h x))) [
     | inl e ↦
         let q = and_parts (all_same x xs) (not (h x)) e in
-        absurd (f x (λ m g. elim (or_cases (same x m) (has xs m) g) [ inl s ↦ sym (same-true x m s) | inr s ↦ all_same-has h x xs q.0 m s ]) (not-true (h x) q.1))
+        absurd (f x (λ m g. elim (or_cases (same x m) (has xs m) g) [ inl s ↦ sym (same-true x m s) | inr s ↦ all_same-has h x xs q.0 m s ])
+        (not-true (h x) q.1))
     | inr e ↦ rw e refl
   ]
 
@@ -36,7 +38,8 @@ module _ (h : Literal → Bool) where
       let k = left-keeps c l p n in
       no-unit (left_over h c) l k (λ x f g. both_ways (h x) g (ap h (sym (f l k)) ∙ t))
 
-  pub other-two : (c : Clause) (a b : Literal) → has c a ≡ true → has c b ≡ true → same a b ≡ false → h (opposite a) ≡ false → h (opposite b) ≡ false → look_of h c ≡ Other
+  pub other-two : (c : Clause) (a b : Literal) → has c a ≡ true → has c b ≡ true → same a b ≡ false → h (opposite a) ≡ false → h (opposite b) ≡ false →
+      look_of h c ≡ Other
   other-two c a b p q d n m =
       let k = left-keeps c a p n in
       let j = left-keeps c b q m in
@@ -57,7 +60,8 @@ module _ (h : Literal → Bool) where
       let r = left-has h c m g in
       elim (cases_Bool (same m b)) [ inl s ↦ same-true m b s | inr s ↦ absurd (both_ways (h (opposite m)) r.1 (f m r.0 s)) ]) n
 
-  pub conflict-from : (c : Clause) (b : Literal) → ((m : Literal) → has c m ≡ true → same m b ≡ false → h (opposite m) ≡ true) → h (opposite b) ≡ true → look_of h c ≡ Conflict
+  pub conflict-from : (c : Clause) (b : Literal) → ((m : Literal) → has c m ≡ true → same m b ≡ false → h (opposite m) ≡ true) → h (opposite b) ≡ true →
+      look_of h c ≡ Conflict
   conflict-from c b f o =
       ap (look_left h) (nothing-left h c (λ m p. elim (cases_Bool (same m b)) [
         | inl s ↦ ap (λ (z : Literal). h (opposite z)) (same-true m b s) ∙ o

@@ -1,5 +1,5 @@
--- Lists of watches. Each clause with two different literals watches two of them: the clause at the place j of the owners has the watches 2 * j and 2 * j + 1. The
--- watches of a literal are a list, which is linked by one number for each watch.
+-- Lists of watches. Each clause with two different literals watches two of them: the clause at the place j of the owners has the watches 2 * j and 2 * j + 1.
+-- The watches of a literal are a list, which is linked by one number for each watch.
 use Rattle.std.specs.Prelude.{◌≡◌, ℕ, ◌+◌, ◌-◌, ◌*◌, ◌/◌, ◌%◌, ◌<◌, ◌≤◌, Bool, true, false, List, [], ◌∷◌, nat_eq, slice_index_or, slice_get, length, Some, if◌then◌else◌}
 use Rattle.std.specs.List.{list_any, IsDistinct}
 use Rattle.bilv_spec.specs.Clauses.{Literal, Clause, same, opposite, has}

@@ -13,7 +13,8 @@ use Rattle.sat_core.specs.declared.visit.Move.TheVariants.{To, Conflict}
 abbrev pub HasAt : List Clause → ℕ → Literal → Type 0
 HasAt cs k l = (c : Clause) × (slice_get cs k ≡ Some c) × (has c l ≡ true)
 
--- The literal to which a watch goes from a literal that is false, which may be its own. Where it is false in some set of literals that are true, the other watched
+-- The literal to which a watch goes from a literal that is false, which may be its own. Where it is false in some set of literals that are true, the other
+-- watched
 -- literal is true: now, and in each set of which that was said before.
 pub record IsTarget (cs : List Clause) (owner : ℕ) (watched : List Literal) (other : Literal) (h : Literal → Bool) (size : ℕ) (target : Literal) : Type 0 where
   pub room : place target < 2 * size

@@ -78,8 +78,8 @@ fn is_news(propagator: &mut Propagator, lits: &[Lit]) -> bool
     }
 }
 
-/// Learns what is needed of a clause. `None` is the answer where it does not follow by unit propagation, or where propagation from all its literals but the last
-/// has it already. The trail has no steps, before and after. What an `Err` leaves is open.
+/// Learns what is needed of a clause. `None` is the answer where it does not follow by unit propagation, or where propagation from all its literals but the
+/// last has it already. The trail has no steps, before and after. What an `Err` leaves is open.
 pub fn learn(
     alloc: Global,
     propagator: &mut Propagator,
@@ -91,7 +91,8 @@ pub fn learn(
     ensures empty { OnOk result (propagator.new.trail.steps.items ≡ []) }
     ensures clauses { propagator.new.clauses ≡ propagator.old.clauses }
     ensures size { length propagator.new.trail.table.items ≡ length propagator.old.trail.table.items }
-    ensures learned { IfOk result (λ o. IfSome o (λ r. IsLearned propagator.old.clauses.items (length propagator.old.trail.table.items - 1) r.lits.items r.hints.items)) }
+    ensures learned { IfOk result (λ o. IfSome o (λ r. IsLearned propagator.old.clauses.items
+        (length propagator.old.trail.table.items - 1) r.lits.items r.hints.items)) }
 {
     if !are_over(lits, propagator.trail.table.len()) {
         return Ok(None);

@@ -1,7 +1,7 @@
 //! Searches for values that satisfy clauses.
 //!
-//! The search decides variables and propagates by turns, and learns a clause from each conflict. It ends with satisfying values, with the log of a refutation, or
-//! with the log of as many learned clauses as it was given conflicts.
+//! The search decides variables and propagates by turns, and learns a clause from each conflict. It ends with satisfying values, with the log of a refutation,
+//! or with the log of as many learned clauses as it was given conflicts.
 #![tactic(auto)]
 
 mod answer;

@@ -85,13 +85,15 @@ impl Propagator {
         }
     }
 
-    /// Propagates until no clause is a unit, or one is a conflict, whose place is the answer. Of the first `from` steps all watches were visited. Takes no memory.
+    /// Propagates until no clause is a unit, or one is a conflict, whose place is the answer. Of the first `from` steps all watches were visited. Takes no
+    /// memory.
     ///
     /// `cuts` speaks of all that was true at some time before: what was kept of it is kept.
     pub fn propagate(&mut self, from: usize) -> Option<usize>
         requires sound { IsSound self.old }
         requires from { from ≤ length self.old.trail.steps.items }
-        requires kept { AreKept self.old.watches.watched.items [] (told nothing (reverse (take from self.old.trail.steps.items))) (true_in self.old.trail.table.items) }
+        requires kept { AreKept self.old.watches.watched.items [] (told nothing (reverse (take from self.old.trail.steps.items)))
+            (true_in self.old.trail.table.items) }
         ensures sound { IsSound self.new }
         ensures clauses { self.new.clauses ≡ self.old.clauses }
         ensures short { self.new.short ≡ self.old.short }
@@ -102,7 +104,8 @@ impl Propagator {
         ensures kept { IfNone result (AreKept self.new.watches.watched.items [] (true_in self.new.trail.table.items) (true_in self.new.trail.table.items)) }
         ensures met { IfNone result (AreMet self.old.clauses.items self.old.short.items (true_in self.new.trail.table.items)) }
         ensures quiet { IfNone result (IsQuiet self.old.clauses.items (true_in self.new.trail.table.items)) }
-        ensures cuts { (done holds : Literal → Bool) → Includes done (true_in self.old.trail.table.items) → Includes holds (true_in self.old.trail.table.items) →
+        ensures cuts { (done holds : Literal → Bool) → Includes done (true_in self.old.trail.table.items) →
+            Includes holds (true_in self.old.trail.table.items) →
             AreKept self.old.watches.watched.items [] done holds → AreKept self.new.watches.watched.items [] done holds }
         ensures conflict { IfSome result (λ k. IsConflictAt self.old.clauses.items (true_in self.new.trail.table.items) k) }
     {

@@ -107,9 +107,10 @@ fn next_turn(
 
 /// Looks for values that satisfy the clauses, and learns at most as many clauses as there are conflicts to spend.
 ///
-/// First it searches with clauses as the implication graph leaves them, whose log is checked where it is a refutation. Only where that ends undecided, it begins
-/// again with clauses that can lose no literal, since only a log that spends the conflicts owes those. Behind the last conflict it goes on until it has values, a refutation, or one more clause to learn. Learned clauses have the ids behind those of the clauses,
-/// which count from 1. The only error is want of memory. More than 2^62 variables or clauses count as that, since no machine has room for them.
+/// First it searches with clauses as the implication graph leaves them, whose log is checked where it is a refutation. Only where that ends undecided, it
+/// begins again with clauses that can lose no literal, since only a log that spends the conflicts owes those. Behind the last conflict it goes on until it has
+/// values, a refutation, or one more clause to learn. Learned clauses have the ids behind those of the clauses, which count from 1. The only error is want of
+/// memory. More than 2^62 variables or clauses count as that, since no machine has room for them.
 pub fn solve(alloc: Global, cnf: &Cnf, conflicts: u64) -> Result<Answer, AllocError>
     requires some { 1 ≤ conflicts }
     requires over { AreOnVariables cnf.now.variables cnf.now.clauses.items }

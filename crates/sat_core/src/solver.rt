@@ -73,8 +73,8 @@ impl Solver {
         })
     }
 
-    /// Makes all literals true that follow by unit propagation. `Some` is the place of a clause whose literals are all false then; where it is `None`, no clause is a
-    /// unit or false. Takes no memory.
+    /// Makes all literals true that follow by unit propagation. `Some` is the place of a clause whose literals are all false then; where it is `None`, no
+    /// clause is a unit or false. Takes no memory.
     pub fn propagate(&mut self) -> Option<usize>
         requires { IsSolver self.old }
         ensures solver { IsSolver self.new }

@@ -55,7 +55,8 @@ fn examine(clauses: &[Clause], watches: &Watches, trail: &mut Trail, watch: usiz
     ensures room { vec_capacity trail.new.steps ≡ vec_capacity trail.old.steps }
     ensures grows { Includes (true_in trail.old.table.items) (true_in trail.new.table.items) }
     ensures run { IsRun clauses.now trail.old.steps.items trail.new.steps.items }
-    ensures moved { IsMoved clauses.now (slice_index watches.now.owners.items (watch / 2)) watches.now.watched.items (watched_at watches.now.watched.items (mate watch))
+    ensures moved { IsMoved clauses.now (slice_index watches.now.owners.items (watch / 2)) watches.now.watched.items
+        (watched_at watches.now.watched.items (mate watch))
         (true_in trail.new.table.items) (length trail.new.table.items) result }
 {
     let (owner, mate) = watches.owner(watch);

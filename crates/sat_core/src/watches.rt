@@ -1,7 +1,7 @@
 //! Two watched literals for each clause.
 //!
-//! A clause with two different literals watches two of them, so that it is looked at only where one of these becomes false. The watches of a literal are a list,
-//! linked by one number for each watch, so that a watch moves without taking memory.
+//! A clause with two different literals watches two of them, so that it is looked at only where one of these becomes false. The watches of a literal are a
+//! list, linked by one number for each watch, so that a watch moves without taking memory.
 ghost use Rattle.std.specs.Prelude.{◌≡◌, ℕ, ◌≤◌, ◌+◌, ◌*◌, ◌<◌, ◌/◌, ◌^◌, ◌∷◌, ◌++◌, [], length, slice_set, slice_index, slice_index_or, IfOk, OnOk};
 ghost use Rattle.sat_core.specs.Links.{place, mate, watched_at, no_watch, IsLinked};
 

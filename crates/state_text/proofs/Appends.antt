@@ -33,7 +33,8 @@ unended : (n s : List ℕ) → (n ++ []) ++ s ≡ n ++ s
 unended n s = ap (λ l. l ++ s) (append-nil n)
 
 -- the line of an event
-pub fails_line : (e : Event) (at step : ℕ) → codes "fails " ++ (joined (event_words e) ++ (codes " " ++ joined (place_words at step))) ≡ named_line (FailsBy e at step)
+pub fails_line : (e : Event) (at step : ℕ) → codes "fails " ++ (joined (event_words e) ++ (codes " " ++ joined (place_words at step)))
+    ≡ named_line (FailsBy e at step)
 fails_line (AssertFails n) at step = ap (λ l. codes "fails assert " ++ l) (unended (number_text n) (spaced (place_words at step)))
 fails_line FetchFails at step = refl
 fails_line NoRow at step = refl

@@ -27,10 +27,12 @@ both_hold : (t : Bool) (a b next : ℕ) → next ≤ a → t ≡ nat_le next b �
 both_hold t a b next h e = ap (λ x. nat_lt a b && x) e ∙ next_bound a b next h
 
 -- what an accepted byte and an accepted choice show
-byte_rises : (layout : Layout) (before : List StateLine) (a v : ℕ) → line_refusal layout none before (ByteLine a v) ≡ None → list_all (is_byte_below a) before ≡ true
+byte_rises : (layout : Layout) (before : List StateLine) (a v : ℕ) → line_refusal layout none before (ByteLine a v) ≡ None →
+    list_all (is_byte_below a) before ≡ true
 byte_rises layout before a v e = grind (arith, nat_tests, e)
 
-choice_rises : (layout : Layout) (before : List StateLine) (s c : ℕ) → line_refusal layout none before (ChoiceLine s c) ≡ None → list_all (is_choice_below s) before ≡ true
+choice_rises : (layout : Layout) (before : List StateLine) (s c : ℕ) → line_refusal layout none before (ChoiceLine s c) ≡ None →
+    list_all (is_choice_below s) before ≡ true
 choice_rises layout before s c e = grind (arith, nat_tests, e)
 
 pub byte_next : (layout : Layout) (before : List StateLine) (p : Progress) (l : StateLine) (a v : ℕ) → l ≡ ByteLine a v → IsBehind before p →
@@ -49,7 +51,8 @@ byte_next layout before p l a v is h e =
     q = record p { count = p.count + 1; next_byte = a + 1 }
 
     low : p.next_byte ≤ a
-    low = is_low a p.next_byte (list_all (is_byte_below a) before) (h.bytes a) (byte_rises layout before a v (ap (line_refusal layout none before) (sym is) ∙ e))
+    low = is_low a p.next_byte (list_all (is_byte_below a) before) (h.bytes a)
+        (byte_rises layout before a v (ap (line_refusal layout none before) (sym is) ∙ e))
 
 pub choice_next : (layout : Layout) (before : List StateLine) (p : Progress) (l : StateLine) (s c : ℕ) → l ≡ ChoiceLine s c → IsBehind before p →
     line_refusal layout none before l ≡ None → IsBehind (l ∷ before) (record p { count = p.count + 1; next_step = s + 1; behind_bytes = true })
@@ -67,7 +70,8 @@ choice_next layout before p l s c is h e =
     q = record p { count = p.count + 1; next_step = s + 1; behind_bytes = true }
 
     low : p.next_step ≤ s
-    low = is_low s p.next_step (list_all (is_choice_below s) before) (h.choices s) (choice_rises layout before s c (ap (line_refusal layout none before) (sym is) ∙ e))
+    low = is_low s p.next_step (list_all (is_choice_below s) before) (h.choices s)
+        (choice_rises layout before s c (ap (line_refusal layout none before) (sym is) ∙ e))
 
 -- a choice that is taken for 4 is refused as it is
 four_or_more : (c : ℕ) → (nat_lt 0 (min c 4) && nat_lt (min c 4) 4) ≡ (nat_lt 0 c && nat_lt c 4)
@@ -78,14 +82,16 @@ and_parts true true x y u v e = e
 and_parts true false x y u v e = refl
 and_parts false b x y u v e = refl
 
-capped_refusal : (layout : Layout) (before : List StateLine) (l : StateLine) → line_refusal layout none before (capped_line l) ≡ line_refusal layout none before l
+capped_refusal : (layout : Layout) (before : List StateLine) (l : StateLine) →
+    line_refusal layout none before (capped_line l) ≡ line_refusal layout none before l
 capped_refusal layout before (NamedLine n) = refl
 capped_refusal layout before MachineLine = refl
 capped_refusal layout before (RegisterLine i v) = refl
 capped_refusal layout before (ByteLine a v) = refl
 capped_refusal layout before (ChoiceLine s c) =
     ap (λ t. or_else (missed layout (length before)) (unless t StateChoiceFault))
-    (and_parts (not (list_any is_end_line before)) (list_all (is_choice_below s) before) (nat_lt 0 (min c 4)) (nat_lt (min c 4) 4) (nat_lt 0 c) (nat_lt c 4) (four_or_more c))
+    (and_parts (not (list_any is_end_line before)) (list_all (is_choice_below s) before) (nat_lt 0 (min c 4)) (nat_lt (min c 4) 4) (nat_lt 0 c) (nat_lt c 4)
+    (four_or_more c))
 capped_refusal layout before EndLine = refl
 
 capped_same : (layout : Layout) (before : List StateLine) (l : StateLine) → line_refusal layout none before l ≡ None → capped_line l ≡ l
@@ -116,7 +122,8 @@ judged_said layout before (Some x) l e r =
 
 -- a first line that is no ending's
 pub first_other : (layout : Layout) (known : ℕ → Bool) (ls : List (Option StateLine)) (o : Option StateLine) (line : Option Line) →
-    option_map line_said line ≡ option_map capped_line o → ((n : Ending) → line ≡ Some (Named n) → ⊥) → told_of layout known (o ∷ ls) ≡ StateRefused 1 StateLineFault
+    option_map line_said line ≡ option_map capped_line o → ((n : Ending) → line ≡ Some (Named n) → ⊥) →
+    told_of layout known (o ∷ ls) ≡ StateRefused 1 StateLineFault
 first_other layout known ls None line e other = refl
 first_other layout known ls (Some MachineLine) line e other = refl
 first_other layout known ls (Some (RegisterLine i v)) line e other = refl

@@ -97,7 +97,8 @@ module _ (layout : Layout) (before : List StateLine) (values : List ℕ) (bytes 
   }
 
   -- a line of no byte
-  other_told : (l : StateLine) (known : ℕ → Bool) → line_refusal layout known before l ≡ None → bytes_in (Some l ∷ []) ≡ [] → (rest ls : List (Option StateLine)) →
+  other_told : (l : StateLine) (known : ℕ → Bool) → line_refusal layout known before l ≡ None → bytes_in (Some l ∷ []) ≡ [] →
+      (rest ls : List (Option StateLine)) →
       told_but known (lines_of_head layout + 1) bytes (told_by layout (first_refused layout known before (Some l ∷ rest)) ls)
       ≡ told_but known (lines_of_head layout + 1) (bytes ++ bytes_in (Some l ∷ [])) (told_by layout (first_refused layout known (l ∷ before) rest) ls)
   other_told l known e nothing rest ls =
@@ -109,14 +110,16 @@ module _ (layout : Layout) (before : List StateLine) (values : List ℕ) (bytes 
       (sym (ap (λ x. bytes ++ x) nothing ∙ append-nil bytes))
 
   -- a line of the head
-  head_size : length before < lines_of_head layout → (b : List (ℕ × ℕ)) → b ≡ bytes → length before ≡ min (length before) (lines_of_head layout) + length bytes →
+  head_size : length before < lines_of_head layout → (b : List (ℕ × ℕ)) → b ≡ bytes →
+      length before ≡ min (length before) (lines_of_head layout) + length bytes →
       suc (length before) ≡ min (suc (length before)) (lines_of_head layout) + length b
   head_size below b same e = omega (arith, ap length same)
 
   -- a byte's line
   byte_refusal : (known : ℕ → Bool) (a v : ℕ) → line_refusal layout none before (ByteLine a v) ≡ None →
       line_refusal layout known before (ByteLine a v) ≡ (if known a then Some StateByteFault else None)
-  byte_refusal known a v e = by_parts (missed layout (length before)) (not (list_any is_behind_bytes before)) (list_all (is_byte_below a) before) (nat_lt 0 v) (known a) e
+  byte_refusal known a v e = by_parts (missed layout (length before)) (not (list_any is_behind_bytes before)) (list_all (is_byte_below a) before) (nat_lt 0 v)
+      (known a) e
     where
       by_parts : (m : Option StateFault) (x y z t : Bool) → or_else m (unless (x && y && z && true) StateByteFault) ≡ None →
           or_else m (unless (x && y && z && not t) StateByteFault) ≡ (if t then Some StateByteFault else None)
@@ -140,11 +143,13 @@ module _ (layout : Layout) (before : List StateLine) (values : List ℕ) (bytes 
       (told_by layout (refused_or (length before + 1) r (first_refused layout known (ByteLine a v ∷ before) rest)) ls))
       (byte_refusal known a v e)
       ∙ ap (told_but known (lines_of_head layout + 1) bytes)
-      (by_test (known a) (length before + 1) (lines_of_head layout + 1 + length bytes) (first_refused layout known (ByteLine a v ∷ before) rest) (omega (arith, long)))
+      (by_test (known a) (length before + 1) (lines_of_head layout + 1 + length bytes) (first_refused layout known (ByteLine a v
+      ∷ before) rest) (omega (arith, long)))
       ∙ sym (told_more known (lines_of_head layout + 1) a v bytes (told_by layout (first_refused layout known (ByteLine a v ∷ before) rest) ls))
     where
       by_test : (t : Bool) (n m : ℕ) (later : Option (ℕ × StateFault)) → n ≡ m →
-          told_by layout (refused_or n (if t then Some StateByteFault else None) later) ls ≡ (if t then StateRefused m StateByteFault else told_by layout later ls)
+          told_by layout (refused_or n (if t then Some StateByteFault else None) later) ls
+          ≡ (if t then StateRefused m StateByteFault else told_by layout later ls)
       by_test true n m later same = ap (λ k. StateRefused k StateByteFault) same
       by_test false n m later same = refl
 
@@ -157,7 +162,8 @@ module _ (layout : Layout) (before : List StateLine) (values : List ℕ) (bytes 
   machine_place : line_refusal layout none before MachineLine ≡ None → length before < lines_of_head layout
   machine_place e = grind (arith, nat_tests, e)
 
-  register_place : (i v : ℕ) → line_refusal layout none before (RegisterLine i v) ≡ None → i < length (value_names layout) → length before < lines_of_head layout
+  register_place : (i v : ℕ) → line_refusal layout none before (RegisterLine i v) ≡ None → i < length (value_names layout) →
+      length before < lines_of_head layout
   register_place i v e h = grind (arith, nat_tests, e, h)
 
   byte_behind : (a v : ℕ) → line_refusal layout none before (ByteLine a v) ≡ None → list_any is_behind_bytes before ≡ false
@@ -218,7 +224,8 @@ stands_first layout n p d rest h v b c = record { behind = h; kept = rw (v, b, c
 -- the bytes of the lines that were read
 back_before : (before : List StateLine) (rest : List (Option StateLine)) → back before rest ≡ back before [] ++ rest
 back_before [] rest = refl
-back_before (l ∷ before) rest = back_before before (Some l ∷ rest) ∙ sym (append_assoc (back before []) (Some l ∷ []) rest) ∙ ap (λ x. x ++ rest) (sym (back_before before (Some l ∷ [])))
+back_before (l ∷ before) rest = back_before before (Some l ∷ rest) ∙ sym (append_assoc (back before []) (Some l ∷ []) rest) ∙ ap
+    (λ x. x ++ rest) (sym (back_before before (Some l ∷ [])))
 
 back_long : (before : List StateLine) → length (back before []) ≡ length before
 back_long [] = refl
@@ -235,11 +242,13 @@ stands_bytes layout all p d rest before line s e =
     ∙ ap (λ x. bytes_in (take (line - 1) x)) (sym (back_before before left) ∙ s.whole)
 
 -- the next line is refused
-pub stands_refused : (layout : Layout) (known : ℕ → Bool) (all : List (Option StateLine)) (p : Progress) (d : Draft) (rest line others : List ℕ) (before : List StateLine) (f : StateFault) →
+pub stands_refused : (layout : Layout) (known : ℕ → Bool) (all : List (Option StateLine)) (p : Progress) (d : Draft) (rest line others : List ℕ)
+    (before : List StateLine) (f : StateFault) →
     Stands layout all p d rest before → split_lines rest ≡ line ∷ split_lines others → refusal_of layout before (line_of layout line) ≡ Some f →
     told_of layout known all ≡ told_but known (lines_of_head layout + 1) d.bytes.items (StateRefused (p.count + 1) f)
 stands_refused layout known all p d rest line others before f s split e =
-    ap (told_of layout known) (sym s.whole) ∙ s.kept.told known (map (line_of layout) (split_lines rest)) (back before (map (line_of layout) (split_lines rest)))
+    ap (told_of layout known) (sym s.whole) ∙ s.kept.told known (map (line_of layout) (split_lines rest))
+    (back before (map (line_of layout) (split_lines rest)))
     ∙ ap
     (λ ls. told_but known (lines_of_head layout + 1) d.bytes.items
     (told_by layout (first_refused layout known before (map (line_of layout) ls)) (back before (map (line_of layout) (split_lines rest)))))
@@ -271,7 +280,8 @@ stands_refused layout known all p d rest line others before f s split e =
     refused_here (Some l) ls e = ap (λ r. refused_or (length before + 1) r (first_refused layout known (l ∷ before) ls)) (known_refusal l e)
 
 -- the next line is kept
-pub stands_next : (layout : Layout) (all : List (Option StateLine)) (p q : Progress) (d e : Draft) (rest line others : List ℕ) (before : List StateLine) (l : StateLine) →
+pub stands_next : (layout : Layout) (all : List (Option StateLine)) (p q : Progress) (d e : Draft) (rest line others : List ℕ) (before : List StateLine)
+    (l : StateLine) →
     Stands layout all p d rest before → split_lines rest ≡ line ∷ split_lines others → line_of layout line ≡ Some l → line_refusal layout none before l ≡ None →
     IsBehind (l ∷ before) q → e.values.items ≡ d.values.items ++ values_in (Some l ∷ []) → e.bytes.items ≡ d.bytes.items ++ bytes_in (Some l ∷ []) →
     e.choices.items ≡ d.choices.items ++ choices_in (Some l ∷ []) → Stands layout all q e others (l ∷ before)
@@ -281,13 +291,15 @@ stands_next layout all p q d e rest line others before l s split is free behind 
       subst (λ x. IsKept layout (l ∷ before) x e.bytes.items e.choices.items) (sym values)
       (subst (λ x. IsKept layout (l ∷ before) (d.values.items ++ values_in (Some l ∷ [])) x e.choices.items) (sym bytes)
       (subst (λ x. IsKept layout (l ∷ before) (d.values.items ++ values_in (Some l ∷ [])) (d.bytes.items ++ bytes_in (Some l ∷ [])) x) (sym choices)
-      (kept_next layout before d.values.items d.bytes.items d.choices.items s.kept l (λ i v same. place_said_of layout line i v (is ∙ ap (λ x. Some x) same)) free)));
+      (kept_next layout before d.values.items d.bytes.items d.choices.items s.kept l
+      (λ i v same. place_said_of layout line i v (is ∙ ap (λ x. Some x) same)) free)));
   whole =
       ap (λ x. back before (x ∷ map (line_of layout) (split_lines others))) (sym is) ∙ ap (λ x. back before (map (line_of layout) x)) (sym split) ∙ s.whole;
 }
 
 -- the text ends, and misses something
-pub end_refused : (layout : Layout) (known : ℕ → Bool) (all : List (Option StateLine)) (p : Progress) (d : Draft) (rest : List ℕ) (before : List StateLine) (f : StateFault) →
+pub end_refused : (layout : Layout) (known : ℕ → Bool) (all : List (Option StateLine)) (p : Progress) (d : Draft) (rest : List ℕ) (before : List StateLine)
+    (f : StateFault) →
     Stands layout all p d rest before → length rest ≡ 0 → end_refusal layout before ≡ Some f →
     told_of layout known all ≡ told_but known (lines_of_head layout + 1) d.bytes.items (StateRefused (p.count + 1) f)
 end_refused layout known all p d rest before f s nothing e =
@@ -299,7 +311,8 @@ end_refused layout known all p d rest before f s nothing e =
     at_end = ap (λ x. back before (map (line_of layout) (split_lines x))) (sym (no_text rest nothing))
 
 -- the text ends, and all was read
-pub end_told : (layout : Layout) (known : ℕ → Bool) (n : NamedEnding) (ls : List (Option StateLine)) (p : Progress) (d : Draft) (rest : List ℕ) (before : List StateLine) →
+pub end_told : (layout : Layout) (known : ℕ → Bool) (n : NamedEnding) (ls : List (Option StateLine)) (p : Progress) (d : Draft) (rest : List ℕ)
+    (before : List StateLine) →
     Stands layout (Some (NamedLine n) ∷ ls) p d rest before → length rest ≡ 0 → end_refusal layout before ≡ None →
     told_of layout known (Some (NamedLine n) ∷ ls)
     ≡ told_but known (lines_of_head layout + 1) d.bytes.items (StateIs (record { named = n; start = written_by layout d }))
@@ -318,7 +331,13 @@ end_told layout known n ls p d rest before s nothing e =
     k = length layout.registers
 
     written : (values : List ℕ) (bytes choices : List (ℕ × ℕ)) → values ≡ d.values.items → bytes ≡ d.bytes.items → choices ≡ d.choices.items →
-        record { regs = take (length layout.registers) values; flags = number_of_bits (drop (length layout.registers) values); bytes = bytes; choices = choices }
+        record {
+          regs = take (length layout.registers) values;
+          flags = number_of_bits
+              (drop (length layout.registers) values);
+          bytes = bytes;
+          choices = choices;
+        }
         ≡ written_by layout d
     written values bytes choices v b c = rw (v, b, c) refl
 

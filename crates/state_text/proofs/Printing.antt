@@ -30,7 +30,8 @@ flags_more layout place (suc n) flags v some bit =
 pub lines_append : (layout : Layout) (xs ys : List StateLine) → lines_text layout (xs ++ ys) ≡ lines_text layout xs ++ lines_text layout ys
 lines_append layout [] ys = refl
 lines_append layout (x ∷ xs) ys =
-    ap (λ l. line (line_text layout x) ++ l) (lines_append layout xs ys) ∙ sym (append_assoc (line (line_text layout x)) (lines_text layout xs) (lines_text layout ys))
+    ap (λ l. line (line_text layout x) ++ l) (lines_append layout xs ys) ∙ sym
+    (append_assoc (line (line_text layout x)) (lines_text layout xs) (lines_text layout ys))
 
 -- values behind values
 pub registers_append : (i : ℕ) (xs ys : List ℕ) → register_lines i (xs ++ ys) ≡ register_lines i xs ++ register_lines (i + length xs) ys
@@ -43,14 +44,16 @@ registers_append i (x ∷ xs) ys =
 pub whole : (layout : Layout) (t : StateText) →
     line (named_line t.named) ++ (line (line_text layout MachineLine) ++ (lines_text layout (register_lines 0 t.start.regs)
     ++ (lines_text layout (register_lines (length t.start.regs) (flag_bits (length layout.flags) t.start.flags))
-    ++ (lines_text layout (map (λ b. ByteLine b.0 b.1) t.start.bytes) ++ (lines_text layout (map (λ c. ChoiceLine c.0 c.1) t.start.choices) ++ codes "end\n")))))
+    ++ (lines_text layout (map (λ b. ByteLine b.0 b.1) t.start.bytes)
+    ++ (lines_text layout (map (λ c. ChoiceLine c.0 c.1) t.start.choices) ++ codes "end\n")))))
     ≡ printed layout t
 unfolding printed
 whole layout t =
     ap (λ l. line (named_line t.named) ++ (line (line_text layout MachineLine) ++ l))
     (sym (append_assoc (lines_text layout regs) (lines_text layout flags) (lines_text layout bytes ++ (lines_text layout choices ++ codes "end\n")))
     ∙ ap (λ l. l ++ (lines_text layout bytes ++ (lines_text layout choices ++ codes "end\n")))
-    (sym (lines_append layout regs flags) ∙ ap (λ l. lines_text layout l) (ap (λ k. regs ++ register_lines k bits) zero_add ∙ sym (registers_append 0 t.start.regs bits)))
+    (sym (lines_append layout regs flags) ∙ ap (λ l. lines_text layout l) (ap
+    (λ k. regs ++ register_lines k bits) zero_add ∙ sym (registers_append 0 t.start.regs bits)))
     ∙ ap (λ l. lines_text layout values ++ (lines_text layout bytes ++ l)) (sym (lines_append layout choices (EndLine ∷ [])))
     ∙ ap (λ l. lines_text layout values ++ l) (sym (lines_append layout bytes (choices ++ EndLine ∷ [])))
     ∙ sym (lines_append layout values (bytes ++ (choices ++ EndLine ∷ []))))

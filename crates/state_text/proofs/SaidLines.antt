@@ -47,7 +47,8 @@ more_words (a ∷ b ∷ c ∷ d ∷ e ∷ f ∷ []) many = absurd (omega arith)
 more_words (a ∷ b ∷ c ∷ d ∷ e ∷ f ∷ g ∷ ws) many = refl
 
 -- a register has one value
-more_values : (layout : Layout) (o : Option ℕ) (a b : List ℕ) (vs ws : List (List ℕ)) → register_line layout o (a ∷ b ∷ vs) ≡ register_line layout o (a ∷ b ∷ ws)
+more_values : (layout : Layout) (o : Option ℕ) (a b : List ℕ) (vs ws : List (List ℕ)) →
+    register_line layout o (a ∷ b ∷ vs) ≡ register_line layout o (a ∷ b ∷ ws)
 more_values layout None a b vs ws = refl
 more_values layout (Some i) a b vs ws = refl
 

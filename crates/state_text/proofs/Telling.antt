@@ -74,12 +74,14 @@ module _ (layout : Layout) (few : length layout.flags ≤ 8) (text : List ℕ) (
       (sym (text_same m n r (take (length layout.registers) d.values.items) f bits b d.bytes.items c d.choices.items p q (u ∙ flags_fit) v w))
 
 -- without known bytes a text is refused as the fault says
-pub refused_plain : (layout : Layout) (text : List ℕ) (fault : ParseFault) → IsRefusedBy none layout (state_of layout none text) fault → IsRefused layout text fault
+pub refused_plain : (layout : Layout) (text : List ℕ) (fault : ParseFault) → IsRefusedBy none layout (state_of layout none text) fault →
+    IsRefused layout text fault
 refused_plain layout text (Refused line kind bytes) e = e ∙ none_known (lines_of_head layout + 1) bytes.items (StateRefused line (fault_of kind))
 refused_plain layout text Memory e = tt
 
 -- the same told of a text
-pub refused_same : (known : ℕ → Bool) (layout : Layout) (a b : Told) (fault : ParseFault) → a ≡ b → IsRefusedBy known layout b fault → IsRefusedBy known layout a fault
+pub refused_same : (known : ℕ → Bool) (layout : Layout) (a b : Told) (fault : ParseFault) → a ≡ b → IsRefusedBy known layout b fault →
+    IsRefusedBy known layout a fault
 refused_same known layout a b (Refused line kind bytes) e h = e ∙ h
 refused_same known layout a b Memory e h = tt
 

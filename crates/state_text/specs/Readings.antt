@@ -18,8 +18,8 @@ fault_of Byte = texts.StateByteFault
 fault_of Choice = texts.StateChoiceFault
 fault_of End = texts.StateEndFault
 
--- What is told where a test tells the known bytes: a byte fault at the line of the first known byte, among bytes on lines that follow each other from a line on,
--- and else what is told without known bytes.
+-- What is told where a test tells the known bytes: a byte fault at the line of the first known byte, among bytes on lines that follow each other from a line
+-- on, and else what is told without known bytes.
 abbrev pub told_but : (known : ℕ → Bool) → (line : ℕ) → (bytes : List (ℕ × ℕ)) → Told → Told
 told_but known n [] told = told
 told_but known n (b ∷ bytes) told = if known b.0 then StateRefused n texts.StateByteFault else told_but known (n + 1) bytes told

@@ -68,7 +68,8 @@ fn read_lines(
     requires { length text.now + 2 < 2 ^ 64 }
     ensures told { (known : ℕ → Bool) → IfOk result (λ d.
         told_of (layout_of layout) known (Some (NamedLine (named_of named)) ∷ map (line_of (layout_of layout)) (split_lines text.now))
-        ≡ told_but known (lines_of_head (layout_of layout) + 1) d.bytes.items (StateIs (record { named = named_of named; start = written_by (layout_of layout) d }))) }
+        ≡ told_but known (lines_of_head (layout_of layout) + 1) d.bytes.items
+        (StateIs (record { named = named_of named; start = written_by (layout_of layout) d }))) }
     ensures refused { (known : ℕ → Bool) → IfErr result (IsRefusedBy known (layout_of layout)
         (told_of (layout_of layout) known (Some (NamedLine (named_of named)) ∷ map (line_of (layout_of layout)) (split_lines text.now)))) }
     ensures bytes { IfErr result (HasBytes (Some (NamedLine (named_of named)) ∷ map (line_of (layout_of layout)) (split_lines text.now))) }

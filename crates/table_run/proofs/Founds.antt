@@ -16,7 +16,8 @@ pub first_run : (p : Program) (k : ℕ) (s : Start) (state : State) (stack : Lis
     run p k s 0 ≡ Going 0 0 (record { state = state; stack = reverse stack })
 unfolding run
 first_run p k s state stack same none =
-    ap (λ (t : State). Going 0 0 (record { state = t; stack = [] })) (sym same) ∙ ap (λ (xs : List ℕ). Going 0 0 (record { state = state; stack = reverse xs })) (sym none)
+    ap (λ (t : State). Going 0 0 (record { state = t; stack = [] })) (sym same) ∙ ap
+    (λ (xs : List ℕ). Going 0 0 (record { state = state; stack = reverse xs })) (sym none)
 
 module _ (p : Program) (k : ℕ) (s : Start) (turns n last choice at : ℕ) (c : Place) (drawn : choice ≡ s.choices n) (here : at ≡ c.state.pc)
     (going : run p k s n ≡ Going turns n c) where
@@ -54,7 +55,8 @@ module _ (p : Program) (k : ℕ) (s : Start) (turns n last choice at : ℕ) (c :
         let up : suc n ≡ n + 1 = omega arith in
         subst (λ m. run p k s m ≡ Going more (n + 1) d) up (next (Going more (n + 1) d) (arrived (Going more (n + 1) d) h))
 
-    pub found_left : (more : ℕ) → n ≡ last → arrive (nat_le to at) k turns n at d ≡ Going more (n + 1) d → FoundLeft at n ≡ found_by (run p k s last) (run p k s (last + 1))
+    pub found_left : (more : ℕ) → n ≡ last → arrive (nat_le to at) k turns n at d ≡ Going more (n + 1) d →
+        FoundLeft at n ≡ found_by (run p k s last) (run p k s (last + 1))
     found_left more same h =
         let behind : run p k s (last + 1) ≡ Going more (n + 1) d = subst (λ m. run p k s (m + 1) ≡ Going more (n + 1) d) same (one_step more h) in
         let before : run p k s last ≡ Going turns n c = subst (λ m. run p k s m ≡ Going turns n c) same going in

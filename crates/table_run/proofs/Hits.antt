@@ -40,7 +40,8 @@ module _ (o : Endian) (now entry : State) where
   first_none (a ∷ rest) none = rw (none 0 a (omega arith)) (first_none rest (λ k e w. none (suc k) e (omega arith)))
 
   first_some : (asserts : List Assert) (i : ℕ) (d : Assert) → i < length asserts → is_hit o now entry (get_or asserts i d) ≡ true
-      → ((k : ℕ) (e : Assert) → k < i → is_hit o now entry (get_or asserts k e) ≡ false) → Some (get_or asserts i d).line ≡ false_assert o (map assert_of asserts) now entry
+      → ((k : ℕ) (e : Assert) → k < i → is_hit o now entry (get_or asserts k e) ≡ false) →
+      Some (get_or asserts i d).line ≡ false_assert o (map assert_of asserts) now entry
   first_some [] i d w hit none = absurd (omega arith)
   first_some (a ∷ rest) zero d w hit none = rw hit refl
   first_some (a ∷ rest) (suc i) d w hit none = rw (none 0 a (omega arith)) (first_some rest i d (omega arith) hit (λ k e l. none (suc k) e (omega arith)))
@@ -48,7 +49,8 @@ module _ (o : Endian) (now entry : State) where
   -- no line before the least place that was found is a false one of the address
   before_least : (asserts : List Assert) (index : List (ℕ × ℕ)) (low high least : ℕ) → ArePlacesOf (assert_places asserts) index now.pc low high
       → least ≤ length asserts
-      → ((j : ℕ) (d : ℕ × ℕ) (e : Assert) → low ≤ j → j < high → (get_or index j d).1 < least → is_hit o now entry (get_or asserts (get_or index j d).1 e) ≡ false)
+      → ((j : ℕ) (d : ℕ × ℕ) (e : Assert) → low ≤ j → j < high → (get_or index j d).1 < least →
+      is_hit o now entry (get_or asserts (get_or index j d).1 e) ≡ false)
       → (k : ℕ) (e : Assert) → k < least → is_hit o now entry (get_or asserts k e) ≡ false
   before_least asserts index low high least group most none k e less =
       elim (cases_eq (get_or asserts k e).at now.pc) as (λ _. is_hit o now entry (get_or asserts k e) ≡ false) [
@@ -62,14 +64,16 @@ module _ (o : Endian) (now entry : State) where
 
   pub no_assert : (asserts : List Assert) (index : List (ℕ × ℕ)) (low high least : ℕ) → ArePlacesOf (assert_places asserts) index now.pc low high
       → least ≡ length asserts
-      → ((j : ℕ) (d : ℕ × ℕ) (e : Assert) → low ≤ j → j < high → (get_or index j d).1 < least → is_hit o now entry (get_or asserts (get_or index j d).1 e) ≡ false)
+      → ((j : ℕ) (d : ℕ × ℕ) (e : Assert) → low ≤ j → j < high → (get_or index j d).1 < least →
+      is_hit o now entry (get_or asserts (get_or index j d).1 e) ≡ false)
       → None ≡ false_assert o (map assert_of asserts) now entry
   no_assert asserts index low high least group all none =
       first_none asserts (λ k e w. before_least asserts index low high least group (omega arith) none k e (omega arith))
 
   pub some_assert : (asserts : List Assert) (index : List (ℕ × ℕ)) (low high least : ℕ) (d : Assert) → ArePlacesOf (assert_places asserts) index now.pc low high
       → least < length asserts → is_hit o now entry (get_or asserts least d) ≡ true
-      → ((j : ℕ) (d : ℕ × ℕ) (e : Assert) → low ≤ j → j < high → (get_or index j d).1 < least → is_hit o now entry (get_or asserts (get_or index j d).1 e) ≡ false)
+      → ((j : ℕ) (d : ℕ × ℕ) (e : Assert) → low ≤ j → j < high → (get_or index j d).1 < least →
+      is_hit o now entry (get_or asserts (get_or index j d).1 e) ≡ false)
       → Some (get_or asserts least d).line ≡ false_assert o (map assert_of asserts) now entry
   some_assert asserts index low high least d group within hit none =
       first_some asserts least d within hit (λ k e l. before_least asserts index low high least group (omega arith) none k e l)
@@ -110,7 +114,8 @@ listed_none to at (t ∷ rest) none =
     ]
 
 -- the target stands in the line of a place of the group
-pub is_listed : (to at : ℕ) (targets : List Targets) (index : List (ℕ × ℕ)) (low high i : ℕ) (d : ℕ × ℕ) (t : Targets) → ArePlacesOf (targets_places targets) index at low high
+pub is_listed : (to at : ℕ) (targets : List Targets) (index : List (ℕ × ℕ)) (low high i : ℕ) (d : ℕ × ℕ) (t : Targets) →
+    ArePlacesOf (targets_places targets) index at low high
     → low ≤ i → i < high → list_any (nat_eq to) (get_or targets (get_or index i d).1 t).to.items ≡ true
     → true ≡ list_any (nat_eq to) (targets_at (map targets_of targets) at)
 is_listed to at targets index low high i d t group from upto has =

@@ -18,7 +18,8 @@ use Rattle.known_bytes.specs.Known.{is_known, given, IsFirstKnown}
 use Rattle.table_run.specs.Known.{IsPut, HasFirst, HasByte, Fills, FillsTo, HasGiven}
 
 -- a store of one byte
-pub put_of : (old new : List (ℕ × ℕ)) (a value bits : ℕ) → a < 2 ^ 32 → value < 256 → bits ≡ value → memory_of new ≡ store Little 1 (memory_of old) a bits → IsPut old a value new
+pub put_of : (old new : List (ℕ × ℕ)) (a value bits : ℕ) → a < 2 ^ 32 → value < 256 → bits ≡ value → memory_of new ≡ store Little 1 (memory_of old) a bits →
+    IsPut old a value new
 put_of old new a value bits low small is e = record {
   here =
       let at : sub 32 a a ≡ 0 = omega arith in
@@ -126,7 +127,8 @@ same_known None bytes x low = ap (byte_in bytes) (same_word (word 32 x) low)
 same_known (Some b) bytes x low = refl
 
 -- a memory that has all bytes has them at wrapped addresses
-pub given_all : (file : List ℕ) (ranges : List FixedRange) (bytes entries : List (ℕ × ℕ)) → ((x : ℕ) → x < 2 ^ 32 → memory_of entries x ≡ known_or (given file ranges x) bytes x)
+pub given_all : (file : List ℕ) (ranges : List FixedRange) (bytes entries : List (ℕ × ℕ)) →
+    ((x : ℕ) → x < 2 ^ 32 → memory_of entries x ≡ known_or (given file ranges x) bytes x)
     → (x : ℕ) → memory_of entries x ≡ known_or (given file ranges (word 32 x)) bytes x
 given_all file ranges bytes entries h x =
     let low : word 32 x < 2 ^ 32 = omega arith in

@@ -40,13 +40,15 @@ went : (p : run.Program) (entry : State) (row : Row) (old new : State) (stack af
 went p entry row old new stack after out how end (Goes w s) is allowed ways here =
     let same : way_of how ≡ w = way_is out how w s is.1 ways in
     let way : IsWay (row.successors old.pc) (way_of how) new.pc =
-    subst (λ (v : machine.How). IsWay (row.successors old.pc) v new.pc) (sym same) (subst (λ (t : State). IsWay (row.successors old.pc) w t.pc) (sym is.0) allowed) in
+    subst (λ (v : machine.How). IsWay (row.successors old.pc) v new.pc) (sym same) (subst
+    (λ (t : State). IsWay (row.successors old.pc) w t.pc) (sym is.0) allowed) in
     subst (λ (t : State). IsStepEnd end new after (run.going_on false p entry row old stack w t)) is.0
     (subst (λ (v : machine.How). IsStepEnd end new after (run.going_on false p entry row old stack v new)) same (here way))
 went p entry row old new stack after out how end (Raises e) is allowed ways here = absurd (no_way how e (subst (λ (x : StepOut). Ways x how) is.1 ways))
 
 -- a row that writes no kept byte and goes on
-pub row_goes : (p : run.Program) (entry : State) (row : Row) (old new : State) (stack after : List ℕ) (choice : ℕ) (out : StepOut) (how : Option How) (end : StepEnd)
+pub row_goes : (p : run.Program) (entry : State) (row : Row) (old new : State) (stack after : List ℕ) (choice : ℕ) (out : StepOut) (how : Option How)
+    (end : StepEnd)
     → IsLawful row → IsState old → IsStep old new out (row.effect old choice) → Ways out how → run.writes_kept p row old ≡ false
     → (IsWay (row.successors old.pc) (way_of how) new.pc → IsStepEnd end new after (run.going_on false p entry row old stack (way_of how) new))
     → IsStepEnd end new after (run.after_row p entry row old stack (run.writes_kept p row old) (row.effect old choice))

@@ -38,7 +38,8 @@ fn first_other<V: View>(part: &Part, state: &V) -> Option<u32>
 
 /// The first known address at which a state has another byte than the file.
 fn first_wrong<M: Machine>(p: &Program, state: &M::State) -> Option<u32>
-    ensures { MatchOption result (IsRightTo (program_of M.machine p.now) (M.State.view state.now) (2 ^ 32)) (IsFirstWrong (program_of M.machine p.now) (M.State.view state.now)) }
+    ensures { MatchOption result (IsRightTo (program_of M.machine p.now) (M.State.view state.now) (2 ^ 32))
+        (IsFirstWrong (program_of M.machine p.now) (M.State.view state.now)) }
 {
     let mut at = 0u32;
     loop {
@@ -56,7 +57,8 @@ fn first_wrong<M: Machine>(p: &Program, state: &M::State) -> Option<u32>
     }
 }
 
-/// The link register of a state is a multiple of 4, and each require line is true: for a state whose memory is known to agree with the file. It takes no memory.
+/// The link register of a state is a multiple of 4, and each require line is true: for a state whose memory is known to agree with the file. It takes no
+/// memory.
 ///
 /// # Errors
 ///
@@ -70,7 +72,8 @@ pub fn lines_ok<M: Machine>(
     requires readable { AreReadable M.machine.has_register (notes_of notes.now) }
     ensures link { OnOk result ((M.State.view state.now).regs M.machine.link % 4 ≡ 0) }
     ensures lines { OnOk result (false_require (program_of_files image.now (notes_of notes.now) (M.State.view state.now).pc) (M.State.view state.now) ≡ None) }
-    ensures fault { IfErr result (λ f. IsEntryStateFault (program_of_files image.now (notes_of notes.now) (M.State.view state.now).pc) (M.State.view state.now) (fault_of f)) }
+    ensures fault { IfErr result (λ f. IsEntryStateFault (program_of_files image.now (notes_of notes.now) (M.State.view state.now).pc) (M.State.view state.now)
+        (fault_of f)) }
     ensures kind { IfErr result IsLinesFault }
 {
     if state.link() % 4 != 0 {
@@ -82,8 +85,8 @@ pub fn lines_ok<M: Machine>(
     }
 }
 
-/// The state may be the one at entry, the function's address being its own: its link register is a multiple of 4, each require line is true, and its memory agrees
-/// with the file on the bytes that are kept or fixed. It takes no memory; its time is that of the loaded bytes that are kept or fixed.
+/// The state may be the one at entry, the function's address being its own: its link register is a multiple of 4, each require line is true, and its memory
+/// agrees with the file on the bytes that are kept or fixed. It takes no memory; its time is that of the loaded bytes that are kept or fixed.
 ///
 /// # Errors
 ///
@@ -96,7 +99,8 @@ pub fn entry_ok<M: Machine>(
     requires machine { machine_of image.now ≡ M.machine }
     requires readable { AreReadable M.machine.has_register (notes_of notes.now) }
     ensures ok { OnOk result (IsEntryState (program_of_files image.now (notes_of notes.now) (M.State.view state.now).pc) (M.State.view state.now)) }
-    ensures fault { IfErr result (λ f. IsEntryStateFault (program_of_files image.now (notes_of notes.now) (M.State.view state.now).pc) (M.State.view state.now) (fault_of f)) }
+    ensures fault { IfErr result (λ f. IsEntryStateFault (program_of_files image.now (notes_of notes.now) (M.State.view state.now).pc) (M.State.view state.now)
+        (fault_of f)) }
 {
     lines_ok::<M>(image, notes, state)?;
     let p = Program {

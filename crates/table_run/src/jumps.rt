@@ -18,8 +18,8 @@ use machine_law::Machine;
 use notes_index::group;
 use notes_lang::Targets;
 
-/// What is known of a step before it is made: its address, and the targets of its row's pair and of its literal, which are sought only where the row may jump to an
-/// address that the state gives.
+/// What is known of a step before it is made: its address, and the targets of its row's pair and of its literal, which are sought only where the row may jump
+/// to an address that the state gives.
 #[derive(Clone, Copy)]
 pub(crate) struct Before {
     pub(crate) at: u32,
@@ -30,7 +30,8 @@ pub(crate) struct Before {
 /// The target of the pair of an instruction with the one before it, where that may be fetched.
 fn pair_target<M: Machine>(p: &Program, insn: &M::Insn, state: &M::State) -> Option<u32>
     requires { memory.endian p.now.big ≡ M.machine.endian }
-    ensures { pair_of (row_at (program_of M.machine p.now) ((program_of M.machine p.now).word (M.State.view state.now)) (sub 32 (M.State.view state.now).pc 4)) (Some (M.Machine.row insn.now)) (M.State.view state.now).pc ≡ result }
+    ensures { pair_of (row_at (program_of M.machine p.now) ((program_of M.machine p.now).word (M.State.view state.now)) (sub 32 (M.State.view state.now).pc 4))
+        (Some (M.Machine.row insn.now)) (M.State.view state.now).pc ≡ result }
 {
     let at = state.pc();
     let behind = at.wrapping_sub(4);
@@ -46,7 +47,8 @@ fn pair_target<M: Machine>(p: &Program, insn: &M::Insn, state: &M::State) -> Opt
 /// The word of the literal of an instruction, where its bytes are kept.
 fn literal_word<M: Machine>(p: &Program, insn: &M::Insn, state: &M::State) -> Option<u32>
     requires { memory.endian p.now.big ≡ M.machine.endian }
-    ensures { literal_target (program_of M.machine p.now) ((program_of M.machine p.now).word (M.State.view state.now)) ((M.Machine.row insn.now).literal (M.State.view state.now).pc) ≡ some_of result }
+    ensures { literal_target (program_of M.machine p.now) ((program_of M.machine p.now).word (M.State.view state.now))
+        ((M.Machine.row insn.now).literal (M.State.view state.now).pc) ≡ some_of result }
 {
     match M::literal(insn, state.pc()) {
         None => None,

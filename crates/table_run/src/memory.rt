@@ -56,7 +56,8 @@ pub(crate) fn memory_at(
 ) -> Result<Bytes32, AllocError>
     requires rising { AreRising bytes.now }
     requires unknown { All (λ b. is_known p.now.image.now (map fixed_of p.now.notes.now.fixed.items) b.0 ≡ false) bytes.now }
-    ensures bytes { IfOk result (λ memory. (x : ℕ) → memory_of memory.entries x ≡ known_or (given p.now.image.now (map fixed_of p.now.notes.now.fixed.items) (word 32 x)) bytes.now x) }
+    ensures bytes { IfOk result (λ memory. (x : ℕ) → memory_of memory.entries x
+        ≡ known_or (given p.now.image.now (map fixed_of p.now.notes.now.fixed.items) (word 32 x)) bytes.now x) }
 {
     let mut memory = of_bytes(alloc, bytes)?;
     let mut at = 0u32;

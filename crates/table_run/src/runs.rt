@@ -39,7 +39,8 @@ struct Limits {
 fn next_turns(from: u32, to: u32, turns: u64, bound: u64) -> Option<u64>
     requires { turns + 1 < 2 ^ 64 }
     ensures few { IfSome result (λ t. t ≤ turns + 1) }
-    ensures turned { (n : ℕ) (c : meaning.Place) → MatchOption result (meaning.arrive (nat_le to from) bound turns n from c ≡ meaning.Turned from n) (λ t. meaning.arrive (nat_le to from) bound turns n from c ≡ meaning.Going t (n + 1) c) }
+    ensures turned { (n : ℕ) (c : meaning.Place) → MatchOption result (meaning.arrive (nat_le to from) bound turns n from c ≡ meaning.Turned from n)
+        (λ t. meaning.arrive (nat_le to from) bound turns n from c ≡ meaning.Going t (n + 1) c) }
 {
     if to > from {
         return Some(turns);
@@ -66,7 +67,10 @@ fn follow<M: Machine>(
     requires rising { AreRising choices.now }
     requires some { 1 ≤ limits.steps }
     requires same { M.State.view state ≡ M.State.view entry.now }
-    ensures { IfOk result (λ e. found_of e ≡ found_by (meaning.run (program_of M.machine p.now) limits.turns (record { state = M.State.view entry.now; choices = byte_in choices.now }) (limits.steps - 1)) (meaning.run (program_of M.machine p.now) limits.turns (record { state = M.State.view entry.now; choices = byte_in choices.now }) (limits.steps - 1 + 1))) }
+    ensures { IfOk result (λ e. found_of e ≡ found_by (meaning.run (program_of M.machine p.now) limits.turns
+        (record { state = M.State.view entry.now; choices = byte_in choices.now }) (limits.steps - 1))
+        (meaning.run (program_of M.machine p.now) limits.turns (record { state = M.State.view entry.now; choices = byte_in choices.now })
+        (limits.steps - 1 + 1))) }
 {
     let mut stack = Vec::new(alloc);
     let mut turns = 0u64;
@@ -90,8 +94,8 @@ fn follow<M: Machine>(
     }
 }
 
-/// The state of a start at an address: its registers and flags, and in memory the file's byte where it is kept or fixed, else the start's, else 0. The start is one
-/// that can be written. It takes memory for that state.
+/// The state of a start at an address: its registers and flags, and in memory the file's byte where it is kept or fixed, else the start's, else 0. The start is
+/// one that can be written. It takes memory for that state.
 ///
 /// # Errors
 ///
@@ -116,9 +120,9 @@ pub fn start_state<M: Machine>(
     Ok(M::make(start, entry, memory))
 }
 
-/// What the run from a start at an address comes to, within `limit` steps, and within `k` backward transfers or, for none, any number of them. The start has the
-/// registers and flags of the machine's form, bytes that are not 0 at rising addresses whose byte the file does not give, and choices for rising steps. It takes memory for
-/// two states, for an index of the notes, and for the calls that have not returned; its time beside that is for each step what its row costs.
+/// What the run from a start at an address comes to, within `limit` steps, and within `k` backward transfers or, for none, any number of them. The start has
+/// the registers and flags of the machine's form, bytes that are not 0 at rising addresses whose byte the file does not give, and choices for rising steps. It
+/// takes memory for two states, for an index of the notes, and for the calls that have not returned; its time beside that is for each step what its row costs.
 ///
 /// # Errors
 ///
@@ -136,7 +140,8 @@ pub fn run<M: Machine>(
     requires readable { AreReadable M.machine.has_register (notes_of notes.now) }
     requires some { 1 ≤ limit }
     requires start { IsWritten M.form (is_known_at (program_of_files image.now (notes_of notes.now) entry)) (written_of start.now) }
-    ensures { IfOk result (λ e. found_of e ≡ found (program_of_files image.now (notes_of notes.now) entry) k (start_in (program_of_files image.now (notes_of notes.now) entry) M.form (written_of start.now)) (limit - 1)) }
+    ensures { IfOk result (λ e. found_of e ≡ found (program_of_files image.now (notes_of notes.now) entry) k
+        (start_in (program_of_files image.now (notes_of notes.now) entry) M.form (written_of start.now)) (limit - 1)) }
 {
     let p = Program {
         image,

@@ -28,7 +28,8 @@ use std::alloc::AllocError;
 fn exit<M: Machine>(p: &Program, entry: &M::State, state: &M::State) -> StepEnd
     requires order { memory.endian p.now.big ≡ M.machine.endian }
     requires readable { AreReadable M.State.has_register (notes_of p.now.notes.now) }
-    ensures { (stack : List ℕ) → IsStepEnd result (M.State.view state.now) stack (meaning.exit (program_of M.machine p.now) (M.State.view entry.now) (M.State.view state.now)) }
+    ensures { (stack : List ℕ) → IsStepEnd result (M.State.view state.now) stack
+        (meaning.exit (program_of M.machine p.now) (M.State.view entry.now) (M.State.view state.now)) }
 {
     match false_line(&p.notes.ensured, state, entry, p.big) {
         None => StepEnd::Exits,
@@ -48,7 +49,9 @@ fn leave<M: Machine>(
     requires order { memory.endian p.now.big ≡ M.machine.endian }
     requires readable { AreReadable M.State.has_register (notes_of p.now.notes.now) }
     requires index { AreIndexed p.now.notes.now index.now }
-    ensures { (row : Row) (old : State) → IsBefore (program_of M.machine p.now) row old before → (row.successors old.pc).indirect ≡ true → IsStepEnd result (M.State.view state.now) (reverse stack.new.items) (meaning.leave (program_of M.machine p.now) (M.State.view entry.now) row old (reverse stack.old.items) (M.State.view state.now)) }
+    ensures { (row : Row) (old : State) → IsBefore (program_of M.machine p.now) row old before → (row.successors old.pc).indirect ≡ true →
+        IsStepEnd result (M.State.view state.now) (reverse stack.new.items)
+        (meaning.leave (program_of M.machine p.now) (M.State.view entry.now) row old (reverse stack.old.items) (M.State.view state.now)) }
 {
     let to = state.pc();
     let count = stack.len();
@@ -79,7 +82,11 @@ fn go_on<M: Machine>(
     requires order { memory.endian p.now.big ≡ M.machine.endian }
     requires readable { AreReadable M.State.has_register (notes_of p.now.notes.now) }
     requires index { AreIndexed p.now.notes.now index.now }
-    ensures { IfOk result (λ end. (row : Row) (old : State) → IsBefore (program_of M.machine p.now) row old before → IsWay (row.successors old.pc) (way_of how) (M.State.view state.now).pc → IsStepEnd end (M.State.view state.now) (reverse stack.new.items) (meaning.going_on false (program_of M.machine p.now) (M.State.view entry.now) row old (reverse stack.old.items) (way_of how) (M.State.view state.now))) }
+    ensures { IfOk result (λ end. (row : Row) (old : State) → IsBefore (program_of M.machine p.now) row old before →
+        IsWay (row.successors old.pc) (way_of how) (M.State.view state.now).pc →
+        IsStepEnd end (M.State.view state.now) (reverse stack.new.items)
+        (meaning.going_on false (program_of M.machine p.now) (M.State.view entry.now) row old (reverse stack.old.items) (way_of how)
+        (M.State.view state.now))) }
 {
     let to = state.pc();
     if to % 4 != 0 {
@@ -109,7 +116,8 @@ fn advance<M: Machine>(
     state: &mut M::State,
     choice: u8,
 ) -> Result<StepOut, AllocError>
-    ensures { IfOk result (λ out. IsStep (M.State.view state.old) (M.State.view state.new) out ((M.Machine.row insn.now).effect (M.State.view state.old) choice)) }
+    ensures { IfOk result (λ out. IsStep (M.State.view state.old) (M.State.view state.new) out
+        ((M.Machine.row insn.now).effect (M.State.view state.old) choice)) }
 {
     M::reserve(state, 64)?;
     let out = M::step(insn, state, choice);
@@ -140,7 +148,10 @@ fn row_step<M: Machine>(
     requires readable { AreReadable M.State.has_register (notes_of p.now.notes.now) }
     requires index { AreIndexed p.now.notes.now index.now }
     requires lawful { IsLawful (M.Machine.row insn.now) }
-    ensures { IfOk result (λ end. IsStepEnd end (M.State.view state.new) (reverse stack.new.items) (meaning.after_row (program_of M.machine p.now) (M.State.view entry.now) (M.Machine.row insn.now) (M.State.view state.old) (reverse stack.old.items) (meaning.writes_kept (program_of M.machine p.now) (M.Machine.row insn.now) (M.State.view state.old)) ((M.Machine.row insn.now).effect (M.State.view state.old) choice))) }
+    ensures { IfOk result (λ end. IsStepEnd end (M.State.view state.new) (reverse stack.new.items)
+        (meaning.after_row (program_of M.machine p.now) (M.State.view entry.now) (M.Machine.row insn.now) (M.State.view state.old) (reverse stack.old.items)
+        (meaning.writes_kept (program_of M.machine p.now) (M.Machine.row insn.now) (M.State.view state.old))
+        ((M.Machine.row insn.now).effect (M.State.view state.old) choice))) }
 {
     let before = look::<M>(p, insn, state);
     let writes = writes_kept(p.image, M::stored(insn, state));
@@ -172,7 +183,9 @@ pub(crate) fn step<M: Machine>(
     requires order { memory.endian p.now.big ≡ M.machine.endian }
     requires readable { AreReadable M.State.has_register (notes_of p.now.notes.now) }
     requires index { AreIndexed p.now.notes.now index.now }
-    ensures end { IfOk result (λ end. IsStepEnd end (M.State.view state.new) (reverse stack.new.items) (meaning.step (program_of M.machine p.now) (M.State.view entry.now) (record { state = M.State.view state.old; stack = reverse stack.old.items }) choice)) }
+    ensures end { IfOk result (λ end. IsStepEnd end (M.State.view state.new) (reverse stack.new.items)
+        (meaning.step (program_of M.machine p.now) (M.State.view entry.now)
+        (record { state = M.State.view state.old; stack = reverse stack.old.items }) choice)) }
 {
     if let Some(line) = false_assert(&p.notes.asserts, &index.asserts, state, entry, p.big) {
         return Ok(StepEnd::Stops(Event::AssertFails { line: line as u64 }));

@@ -67,12 +67,15 @@ module _ (x : TermReading) (ns : List TermNode) (ws : List ℕ) (t i : ℕ) (h :
     second_before = place_before ns t 0 b l (typed_before ns t (JoinNode c a b) h l e).2
 
     pub join_first : 0 < slice_index ws c → (term_value x ns a).bytes i ≡ (term_value x ns t).bytes i
-    join_first q = sym (ap (λ z. z.bytes i) (by_node x ns t (JoinNode c a b) h l e) ∙ chosen_first (term_word x ns c) _ _ (omega (arith, w.each c join_within.0, q)))
+    join_first q = sym (ap (λ z. z.bytes i) (by_node x ns t (JoinNode c a b) h l e) ∙ chosen_first (term_word x ns c) _ _
+        (omega (arith, w.each c join_within.0, q)))
 
     pub join_second : slice_index ws c ≤ 0 → (term_value x ns b).bytes i ≡ (term_value x ns t).bytes i
-    join_second q = sym (ap (λ z. z.bytes i) (by_node x ns t (JoinNode c a b) h l e) ∙ chosen_second (term_word x ns c) _ _ (omega (arith, w.each c join_within.0, q)))
+    join_second q = sym (ap (λ z. z.bytes i) (by_node x ns t (JoinNode c a b) h l e) ∙ chosen_second (term_word x ns c) _ _
+        (omega (arith, w.each c join_within.0, q)))
 
-word_bytes : (x : TermReading) (vs : List TermValue) (n : Node) (i : ℕ) → (n ≡ node.Memory → ⊥) → ((k : ℕ) (g : Bool) (m a v : Term) → n ≡ node.Store k g m a v → ⊥) →
+word_bytes : (x : TermReading) (vs : List TermValue) (n : Node) (i : ℕ) → (n ≡ node.Memory → ⊥) →
+    ((k : ℕ) (g : Bool) (m a v : Term) → n ≡ node.Store k g m a v → ⊥) →
     ((c a b : Term) → n ≡ node.Join c a b → ⊥) → 0 ≡ (node_value x vs (node_of n)).bytes i
 word_bytes x vs (node.Register r) i p q s = refl
 word_bytes x vs (node.Flag f) i p q s = refl
@@ -91,7 +94,8 @@ word_bytes x vs (node.Store n g m a v) i p q s = absurd (q n g m a v refl)
 word_bytes x vs (node.Join c a b) i p q s = absurd (s c a b refl)
 
 -- a word has no bytes
-pub no_bytes : (x : TermReading) (ns : List TermNode) (t : ℕ) (n : Node) (i : ℕ) → AreTyped ns → t < length ns → node_of n ≡ node_at ns t → (n ≡ node.Memory → ⊥) →
+pub no_bytes : (x : TermReading) (ns : List TermNode) (t : ℕ) (n : Node) (i : ℕ) → AreTyped ns → t < length ns → node_of n ≡ node_at ns t →
+    (n ≡ node.Memory → ⊥) →
     ((k : ℕ) (g : Bool) (m a v : Term) → n ≡ node.Store k g m a v → ⊥) → ((c a b : Term) → n ≡ node.Join c a b → ⊥) → 0 ≡ (term_value x ns t).bytes i
 no_bytes x ns t n i h l e p q s = word_bytes x (values_from x [] ns) n i p q s ∙ sym (ap (λ z. z.bytes i) (by_node x ns t (node_of n) h l e))
 

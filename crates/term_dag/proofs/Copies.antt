@@ -113,7 +113,8 @@ at_width : (src dst : List TermNode) (w a b : ℕ) → HasWidth src w a → HasW
 at_width src dst w a b p q = (q.0, q.1 ∙ p.1)
 
 -- where its operands have the widths of the node's, it is typed
-pub moved_typed : (src dst : List TermNode) (f : ℕ → ℕ) (n : TermNode) → IsTypedOver src n → AllByRecursion (λ a. HasWidth dst (width_of (node_at src a)) (f a)) (operands n) →
+pub moved_typed : (src dst : List TermNode) (f : ℕ → ℕ) (n : TermNode) → IsTypedOver src n →
+    AllByRecursion (λ a. HasWidth dst (width_of (node_at src a)) (f a)) (operands n) →
     IsTypedOver dst (moved f n)
 moved_typed src dst f (RegisterNode r) h m = tt
 moved_typed src dst f (FlagNode r) h m = tt
@@ -123,12 +124,24 @@ moved_typed src dst f MemoryNode h m = tt
 moved_typed src dst f (ConstantNode w v) h m = h
 moved_typed src dst f (BinaryNode o w a b) h m = (h.0, at_width src dst w a (f a) h.1 m.0, at_width src dst w b (f b) h.2 m.1.0)
 moved_typed src dst f (NotNode w a) h m = (h.0, at_width src dst w a (f a) h.1 m.0)
-moved_typed src dst f (SelectNode w c a b) h m = (h.0, at_width src dst 1 c (f c) h.1 m.0, at_width src dst w a (f a) h.2 m.1.0, at_width src dst w b (f b) h.3 m.1.1.0)
+moved_typed src dst f (SelectNode w c a b) h m = (
+  h.0,
+  at_width src dst 1 c (f c) h.1 m.0,
+  at_width src dst w a (f a) h.2 m.1.0,
+  at_width src dst w b
+      (f b) h.3 m.1.1.0,
+)
 moved_typed src dst f (ExtractNode hi lo a) h m = (h.0, subst (λ (k : ℕ). hi < k) (sym m.0.1) h.1, m.0.0)
 moved_typed src dst f (ConcatNode high low a b) h m = (h.0, h.1, h.2, at_width src dst high a (f a) h.3 m.0, at_width src dst low b (f b) h.4 m.1.0)
 moved_typed src dst f (ExtendNode s n k a) h m = (h.0, h.1, h.2, at_width src dst n a (f a) h.3 m.0)
 moved_typed src dst f (LoadNode n e i a) h m = (h.0, at_width src dst 0 i (f i) h.1 m.0, at_width src dst 32 a (f a) h.2 m.1.0)
-moved_typed src dst f (StoreNode n e i a v) h m = (h.0, at_width src dst 0 i (f i) h.1 m.0, at_width src dst 32 a (f a) h.2 m.1.0, at_width src dst (8 * n) v (f v) h.3 m.1.1.0)
+moved_typed src dst f (StoreNode n e i a v) h m = (
+  h.0,
+  at_width src dst 0 i (f i) h.1 m.0,
+  at_width src dst 32 a (f a) h.2 m.1.0,
+  at_width src dst (8 * n) v
+      (f v) h.3 m.1.1.0,
+)
 moved_typed src dst f (JoinNode c a b) h m = (at_width src dst 1 c (f c) h.0 m.0, at_width src dst 0 a (f a) h.1 m.1.0, at_width src dst 0 b (f b) h.2 m.1.1.0)
 
 -- where its operands have the values of the node's, it has the node's value
@@ -166,6 +179,7 @@ moved_value x vs ws f (JoinNode c a b) h =
     ∙ ap (λ (z : TermValue). node_value x (value_at vs c ∷ value_at vs a ∷ z ∷ []) (JoinNode 0 1 2)) h.1.1.0
 
 -- the copy that is kept has the node's value
-pub copied : (x : TermReading) (src dst new : List TermNode) (f : ℕ → ℕ) (n : TermNode) (t : ℕ) → AllByRecursion (λ a. term_value x dst (f a) ≡ term_value x src a) (operands n) →
+pub copied : (x : TermReading) (src dst new : List TermNode) (f : ℕ → ℕ) (n : TermNode) (t : ℕ) →
+    AllByRecursion (λ a. term_value x dst (f a) ≡ term_value x src a) (operands n) →
     IsInterned dst new (moved f n) t → term_value x new t ≡ node_value x (values_from x [] src) n
 copied x src dst new f n t h k = k.value x ∙ moved_value x (values_from x [] src) (values_from x [] dst) f n h

@@ -14,28 +14,34 @@ use Rattle.term_dag.proofs.Shapes.{binary_sides, not_side}
 use Rattle.term_dag.proofs.WordLaws.{and_apart, and_beside, and_denied, and_with, or_beside, and_least, and_none, and_one, or_apart, or_greatest, signed_below}
 
 -- the conjunction of two bits
-pub cube_from : (ns : List TermNode) (t : ℕ) (c : Cube) → IsPair ns c → ((x : TermReading) → term_word x ns t ≡ bit_and (term_word x ns c.left.0) (term_word x ns c.right.0)) → IsCube ns t c
+pub cube_from : (ns : List TermNode) (t : ℕ) (c : Cube) → IsPair ns c →
+    ((x : TermReading) → term_word x ns t ≡ bit_and (term_word x ns c.left.0) (term_word x ns c.right.0)) → IsCube ns t c
 cube_from ns t c p v = record {
   pair = p;
-  value = λ x i. v x ∙ ap (λ z. bit_and z (term_word x ns c.right.0)) (p.first.value x i) ∙ ap (bit_and (literal_value c.first (term_word x ns))) (p.second.value x i);
+  value = λ x i. v x ∙ ap (λ z. bit_and z (term_word x ns c.right.0)) (p.first.value x i) ∙ ap (bit_and (literal_value c.first (term_word x ns)))
+      (p.second.value x i);
 }
 
 -- the operands of a conjunction
-pub cube_of_and : (ns : List TermNode) (t v l r : ℕ) (c : Cube) → AreTyped ns → HasWidth ns 1 t → BinaryNode And v l r ≡ node_at ns t → IsPair ns c → c.left.0 ≡ l → c.right.0 ≡ r → IsCube ns t c
+pub cube_of_and : (ns : List TermNode) (t v l r : ℕ) (c : Cube) → AreTyped ns → HasWidth ns 1 t → BinaryNode And v l r ≡ node_at ns t → IsPair ns c →
+    c.left.0 ≡ l → c.right.0 ≡ r → IsCube ns t c
 cube_of_and ns t v l r c h p e k f g =
     let b = binary_sides ns 1 t And v l r h p e refl in
-    cube_from ns t c k (λ x. b.2 x ∙ ap (λ z. bit_and (term_word x ns z) (term_word x ns r)) (sym f) ∙ ap (λ z. bit_and (term_word x ns c.left.0) (term_word x ns z)) (sym g))
+    cube_from ns t c k (λ x. b.2 x ∙ ap (λ z. bit_and (term_word x ns z) (term_word x ns r)) (sym f) ∙ ap
+    (λ z. bit_and (term_word x ns c.left.0) (term_word x ns z)) (sym g))
 
 -- a bit as a conjunction of itself
 pub cube_of_one : (ns : List TermNode) (t : ℕ) (c : Cube) → IsPair ns c → c.left.0 ≡ t → c.right.0 ≡ t → IsCube ns t c
 cube_of_one ns t c k f g =
-    cube_from ns t c k (λ x. sym (and_self (term_word x ns t)) ∙ ap (λ z. bit_and (term_word x ns z) (term_word x ns t)) (sym f) ∙ ap (λ z. bit_and (term_word x ns c.left.0) (term_word x ns z)) (sym g))
+    cube_from ns t c k (λ x. sym (and_self (term_word x ns t)) ∙ ap (λ z. bit_and (term_word x ns z) (term_word x ns t)) (sym f) ∙ ap
+    (λ z. bit_and (term_word x ns c.left.0) (term_word x ns z)) (sym g))
 
 -- the terms of a conjunction's literals have bits
 pub cube_bits : (ns : List TermNode) (c : Cube) (x : TermReading) → InRange x → AreTyped ns → IsPair ns c → AreBits (term_word x ns) c
 cube_bits ns c x i h k = (word_fits x ns 1 c.first.term.0 i h k.first.place, word_fits x ns 1 c.second.term.0 i h k.second.place)
 
-module _ (ns : List TermNode) (a b : ℕ) (k j : Cube) (x : TermReading) (i : InRange x) (h : AreTyped ns) (p : HasWidth ns 1 a) (q : HasWidth ns 1 b) (s : IsCube ns a k) (t : IsCube ns b j) where
+module _ (ns : List TermNode) (a b : ℕ) (k j : Cube) (x : TermReading) (i : InRange x) (h : AreTyped ns) (p : HasWidth ns 1 a) (q : HasWidth ns 1 b)
+    (s : IsCube ns a k) (t : IsCube ns b j) where
   fa : term_word x ns a < 2
   fa = word_fits x ns 1 a i h p
 
@@ -68,7 +74,8 @@ module _ (ns : List TermNode) (a b : ℕ) (k j : Cube) (x : TermReading) (i : In
 
   -- one of them is 1 exactly where a literal is
   pub rejoined : (l : Literal) (m : ℕ) → HasWidth ns 1 m → term_word x ns m ≡ literal_value l (term_word x ns) →
-      ((v : ℕ → ℕ) → AreBits v k → AreBits v j → cube_value k v + cube_value j v ≡ literal_value l v) → term_word x ns m ≡ bit_or (term_word x ns a) (term_word x ns b)
+      ((v : ℕ → ℕ) → AreBits v k → AreBits v j → cube_value k v + cube_value j v ≡ literal_value l v) →
+      term_word x ns m ≡ bit_or (term_word x ns a) (term_word x ns b)
   rejoined l m w e f = let g = f (term_word x ns) ka kb in or_apart _ _ _ fa fb (word_fits x ns 1 m i h w) (omega (arith, g, e, s.value x i, t.value x i))
 
 module _ (ns : List TermNode) (c m : ℕ) (k j : Cube) (h : AreTyped ns) (s : IsCube ns c k) (t : IsCube ns m j) where
@@ -103,7 +110,8 @@ module _ (ns : List TermNode) (c m : ℕ) (k j : Cube) (h : AreTyped ns) (s : Is
   unfolding first second
   separates_first f = record {
     bit = s.pair.left;
-    first = λ x i e. s.pair.first.value x i ∙ and_one (second x) (first x) (second_bit x i) (first_bit x i) (and_comm (second x) (first x) ∙ sym (s.value x i) ∙ e);
+    first = λ x i e. s.pair.first.value x i ∙ and_one (second x) (first x) (second_bit x i) (first_bit x i)
+        (and_comm (second x) (first x) ∙ sym (s.value x i) ∙ e);
     second = λ x i e z.
         let g = f (term_word x ns) (cube_bits ns k x i h s.pair) (cube_bits ns j x i h t.pair) in
         let o : second x ≡ 1 = omega (arith, g, s.value x i, t.value x i) in
@@ -130,13 +138,16 @@ module _ (ns : List TermNode) (s t : ℕ) (l : Literal) (k : Cube) (h : AreTyped
   without_second f x i =
       let g = f (term_word x ns) (word_fits x ns 1 l.term.0 i h a.place) in
       or_beside (term_word x ns s) (term_word x ns k.right.0) (term_word x ns k.left.0) (word_fits x ns 1 s i h p) (word_fits x ns 1 k.left.0 i h c.pair.left)
-      (omega (arith, g, a.value x i, c.pair.second.value x i)) ∙ ap (bit_or (term_word x ns s)) (and_comm (term_word x ns k.right.0) (term_word x ns k.left.0) ∙ conjoined x i)
+      (omega (arith, g, a.value x i, c.pair.second.value x i)) ∙ ap (bit_or (term_word x ns s))
+      (and_comm (term_word x ns k.right.0) (term_word x ns k.left.0) ∙ conjoined x i)
 
   -- and that is negated
-  denied_by : (x : TermReading) (u v : ℕ) → HasWidth ns 1 u → NotNode v t ≡ node_at ns u → bit_and (term_word x ns s) (words.complement 1 (term_word x ns t)) ≡ bit_and (term_word x ns s) (term_word x ns u)
+  denied_by : (x : TermReading) (u v : ℕ) → HasWidth ns 1 u → NotNode v t ≡ node_at ns u →
+      bit_and (term_word x ns s) (words.complement 1 (term_word x ns t)) ≡ bit_and (term_word x ns s) (term_word x ns u)
   denied_by x u v w e = ap (bit_and (term_word x ns s)) (sym ((not_side ns 1 u v t h w e).1 x))
 
-  pub denied_first : (u v : ℕ) → HasWidth ns 1 u → NotNode v t ≡ node_at ns u → ((v : ℕ → ℕ) → literal_value l v ≡ literal_value k.first v) → (x : TermReading) → InRange x →
+  pub denied_first : (u v : ℕ) → HasWidth ns 1 u → NotNode v t ≡ node_at ns u → ((v : ℕ → ℕ) → literal_value l v ≡ literal_value k.first v) →
+      (x : TermReading) → InRange x →
       bit_and (term_word x ns s) (words.complement 1 (term_word x ns k.right.0)) ≡ bit_and (term_word x ns s) (term_word x ns u)
   denied_first u v w e f x i =
       let m : term_word x ns s ≡ term_word x ns k.left.0 = a.value x i ∙ f (term_word x ns) ∙ sym (c.pair.first.value x i) in
@@ -144,22 +155,27 @@ module _ (ns : List TermNode) (s t : ℕ) (l : Literal) (k : Cube) (h : AreTyped
       ∙ ap (λ z. bit_and (term_word x ns s) (words.complement 1 (bit_and z (term_word x ns k.right.0)))) m
       ∙ ap (λ z. bit_and (term_word x ns s) (words.complement 1 z)) (conjoined x i) ∙ denied_by x u v w e
 
-  pub denied_second : (u v : ℕ) → HasWidth ns 1 u → NotNode v t ≡ node_at ns u → ((v : ℕ → ℕ) → literal_value l v ≡ literal_value k.second v) → (x : TermReading) → InRange x →
+  pub denied_second : (u v : ℕ) → HasWidth ns 1 u → NotNode v t ≡ node_at ns u → ((v : ℕ → ℕ) → literal_value l v ≡ literal_value k.second v) →
+      (x : TermReading) → InRange x →
       bit_and (term_word x ns s) (words.complement 1 (term_word x ns k.left.0)) ≡ bit_and (term_word x ns s) (term_word x ns u)
   denied_second u v w e f x i =
       let m : term_word x ns s ≡ term_word x ns k.right.0 = a.value x i ∙ f (term_word x ns) ∙ sym (c.pair.second.value x i) in
       and_denied (term_word x ns s) (term_word x ns k.left.0) (word_fits x ns 1 s i h p) (word_fits x ns 1 k.left.0 i h c.pair.left)
       ∙ ap (λ z. bit_and (term_word x ns s) (words.complement 1 (bit_and z (term_word x ns k.left.0)))) m
-      ∙ ap (λ z. bit_and (term_word x ns s) (words.complement 1 z)) (and_comm (term_word x ns k.right.0) (term_word x ns k.left.0) ∙ conjoined x i) ∙ denied_by x u v w e
+      ∙ ap (λ z. bit_and (term_word x ns s) (words.complement 1 z))
+      (and_comm (term_word x ns k.right.0) (term_word x ns k.left.0) ∙ conjoined x i) ∙ denied_by x u v w e
 
 -- a bit, and a disjunction
-module _ (ns : List TermNode) (s t v a b : ℕ) (l : Literal) (k : Cube) (h : AreTyped ns) (p : HasWidth ns 1 s) (q : HasWidth ns 1 t) (e : BinaryNode Or v a b ≡ node_at ns t) (c : IsLiteral ns s l) (d : IsPair ns k) (f : k.left.0 ≡ a) (g : k.right.0 ≡ b) where
+module _ (ns : List TermNode) (s t v a b : ℕ) (l : Literal) (k : Cube) (h : AreTyped ns) (p : HasWidth ns 1 s) (q : HasWidth ns 1 t) (e : BinaryNode Or v a b
+    ≡ node_at ns t) (c : IsLiteral ns s l) (d : IsPair ns k) (f : k.left.0 ≡ a) (g : k.right.0 ≡ b) where
   disjoined : (x : TermReading) → bit_or (term_word x ns k.left.0) (term_word x ns k.right.0) ≡ term_word x ns t
   disjoined x =
-      ap (λ z. bit_or (term_word x ns z) (term_word x ns k.right.0)) f ∙ ap (λ z. bit_or (term_word x ns a) (term_word x ns z)) g ∙ sym ((binary_sides ns 1 t Or v a b h q e refl).2 x)
+      ap (λ z. bit_or (term_word x ns z) (term_word x ns k.right.0)) f ∙ ap
+      (λ z. bit_or (term_word x ns a) (term_word x ns z)) g ∙ sym ((binary_sides ns 1 t Or v a b h q e refl).2 x)
 
   -- with the bit
-  pub within_both : ((v : ℕ → ℕ) → (literal_value l v ≡ literal_value k.first v) ⊎ (literal_value l v ≡ literal_value k.second v)) → (x : TermReading) → InRange x →
+  pub within_both : ((v : ℕ → ℕ) → (literal_value l v ≡ literal_value k.first v) ⊎ (literal_value l v ≡ literal_value k.second v)) → (x : TermReading) →
+      InRange x →
       bit_and (term_word x ns s) (term_word x ns s) ≡ bit_and (term_word x ns s) (term_word x ns t)
   within_both y x i =
       elim (y (term_word x ns)) [

@@ -26,7 +26,8 @@ grew_none ns = record {
 }
 
 -- one step after another
-pub grew_on : (a b c : List TermNode) (g l s j n g' l' s' j' n' : ℕ) → Grew a b g l s j n → Grew b c g' l' s' j' n' → Grew a c (g + g') (l + l') (s + s') (j + j') (n + n')
+pub grew_on : (a b c : List TermNode) (g l s j n g' l' s' j' n' : ℕ) → Grew a b g l s j n → Grew b c g' l' s' j' n' →
+    Grew a c (g + g') (l + l') (s + s') (j + j') (n + n')
 grew_on a b c g l s j n g' l' s' j' n' p q = record {
   extends = both_extend a b c p.extends q.extends;
   keeps = λ x i h. q.keeps x i (still_within a b i p.extends h) ∙ p.keeps x i h;
@@ -39,7 +40,8 @@ grew_on a b c g l s j n g' l' s' j' n' p q = record {
 }
 
 -- greater bounds
-pub grew_more : (old new : List TermNode) (g l s j n g' l' s' j' n' : ℕ) → g ≤ g' → l ≤ l' → s ≤ s' → j ≤ j' → n ≤ n' → Grew old new g l s j n → Grew old new g' l' s' j' n'
+pub grew_more : (old new : List TermNode) (g l s j n g' l' s' j' n' : ℕ) → g ≤ g' → l ≤ l' → s ≤ s' → j ≤ j' → n ≤ n' → Grew old new g l s j n →
+    Grew old new g' l' s' j' n'
 grew_more old new g l s j n g' l' s' j' n' hg hl hs hj hn p = record {
   extends = p.extends;
   keeps = p.keeps;
@@ -73,7 +75,8 @@ pub made_width : (old new : List TermNode) (n : TermNode) (t w : ℕ) → IsMade
 made_width old new n t w m e = (m.within, m.width ∙ e)
 
 -- a step that keeps a node as it is
-pub interned_grew : (old new : List TermNode) (n : TermNode) (t : ℕ) → IsInterned old new n t → Grew old new (own_gates n) (own_loads n) (own_stores n) (own_joins n) 1
+pub interned_grew : (old new : List TermNode) (n : TermNode) (t : ℕ) → IsInterned old new n t →
+    Grew old new (own_gates n) (own_loads n) (own_stores n) (own_joins n) 1
 interned_grew old new n t m = record {
   extends = m.extends;
   keeps = m.keeps;
@@ -98,13 +101,16 @@ pub inputs_on : (a b c : List TermNode) (more : TermNode → Type 0) → InputsF
 inputs_on a b c more p q m h i = elim (q m h i) [ inl k ↦ p m k i | inr k ↦ inr k ]
 
 -- inputs that are among some are among more
-pub inputs_more : (old new : List TermNode) (some more : TermNode → Type 0) → ((m : TermNode) → IsInput m → some m → more m) → InputsFrom old new some → InputsFrom old new more
+pub inputs_more : (old new : List TermNode) (some more : TermNode → Type 0) → ((m : TermNode) → IsInput m → some m → more m) → InputsFrom old new some →
+    InputsFrom old new more
 inputs_more old new some more f p m h i = elim (p m h i) [ inl k ↦ inl k | inr k ↦ inr (f m i k) ]
 
 -- of a step that makes a node
-pub made_inputs : (old new : List TermNode) (n : TermNode) (t : ℕ) (more : TermNode → Type 0) → IsMade old new n t → (IsInput n → more n) → InputsFrom old new more
+pub made_inputs : (old new : List TermNode) (n : TermNode) (t : ℕ) (more : TermNode → Type 0) → IsMade old new n t → (IsInput n → more n) →
+    InputsFrom old new more
 made_inputs old new n t more k f m h i = elim (k.named m h i) [ inl c ↦ inl c | inr e ↦ inr (subst more (sym e) (f (subst IsInput e i))) ]
 
 -- of a step that keeps a node as it is
-pub interned_inputs : (old new : List TermNode) (n : TermNode) (t : ℕ) (more : TermNode → Type 0) → IsInterned old new n t → (IsInput n → more n) → InputsFrom old new more
+pub interned_inputs : (old new : List TermNode) (n : TermNode) (t : ℕ) (more : TermNode → Type 0) → IsInterned old new n t → (IsInput n → more n) →
+    InputsFrom old new more
 interned_inputs old new n t more k f m h i = elim (k.only m h) [ inl c ↦ inl c | inr e ↦ inr (subst more (sym e) (f (subst IsInput e i))) ]

@@ -26,7 +26,8 @@ module _ (ns : List TermNode) (c a b : ℕ) (h : AreTyped ns) (p : HasWidth ns 1
   join_same f w u v = record {
     within = w.0;
     width = w.1;
-    value = λ x i. memory_only x ns f h w ∙ ap bytes_value (fun_ext (λ j. select_same (term_word x ns c) _ _ _ (bits x i) (λ e. ap (λ z. z.bytes j) (u x i e)) (λ e. ap (λ z. z.bytes j) (v x i e))));
+    value = λ x i. memory_only x ns f h w ∙ ap bytes_value (fun_ext
+        (λ j. select_same (term_word x ns c) _ _ _ (bits x i) (λ e. ap (λ z. z.bytes j) (u x i e)) (λ e. ap (λ z. z.bytes j) (v x i e))));
   }
 
   pub join_true : (k : ℕ) → IsConstant ns c k → 0 < k → IsTermFor ns (JoinNode c a b) a
@@ -40,7 +41,8 @@ module _ (ns : List TermNode) (c a b : ℕ) (h : AreTyped ns) (p : HasWidth ns 1
   join_sides f s u v = record {
     typed = (p, u.place, v.place);
     width = refl;
-    value = λ x i. ap bytes_value (fun_ext (λ j. select_sides (term_word x ns c) _ _ _ _ (bits x i) (λ e. ap (λ z. z.bytes j) (u.value x i e)) (λ e. ap (λ z. z.bytes j) (v.value x i e))));
+    value = λ x i. ap bytes_value (fun_ext (λ j. select_sides (term_word x ns c) _ _ _ _ (bits x i) (λ e. ap (λ z. z.bytes j) (u.value x i e))
+        (λ e. ap (λ z. z.bytes j) (v.value x i e))));
     gates = omega arith;
     loads = omega arith;
     stores = omega arith;
@@ -49,7 +51,8 @@ module _ (ns : List TermNode) (c a b : ℕ) (h : AreTyped ns) (p : HasWidth ns 1
   }
 
   -- a join by the negated condition
-  pub join_turned : (u : ℕ) (z : Folded) → HasWidth ns 1 u → ((x : TermReading) → term_word x ns c ≡ words.complement 1 (term_word x ns u)) → IsFold ns (JoinNode u b a) z → IsFold ns (JoinNode c a b) z
+  pub join_turned : (u : ℕ) (z : Folded) → HasWidth ns 1 u → ((x : TermReading) → term_word x ns c ≡ words.complement 1 (term_word x ns u)) →
+      IsFold ns (JoinNode u b a) z → IsFold ns (JoinNode c a b) z
   join_turned u z w e f = turned z f
     where
       same : (x : TermReading) → InRange x → value_over ns (JoinNode u b a) x ≡ value_over ns (JoinNode c a b) x
@@ -57,8 +60,26 @@ module _ (ns : List TermNode) (c a b : ℕ) (h : AreTyped ns) (p : HasWidth ns 1
 
       turned : (z : Folded) → IsFold ns (JoinNode u b a) z → IsFold ns (JoinNode c a b) z
       turned (Old t) k = record { within = k.within; width = k.width; value = λ x i. k.value x i ∙ same x i }
-      turned (New m) k = record { typed = k.typed; width = k.width; value = λ x i. k.value x i ∙ same x i; gates = k.gates; loads = k.loads; stores = k.stores; joins = k.joins; named = λ e. absurd (subst IsInput (k.named e) e) }
-      turned (Onto o n t d) k = record { some = k.some; first = k.first; second = k.second; width = k.width; value = λ x i. k.value x i ∙ same x i; gates = k.gates }
+      turned (New m) k = record {
+        typed = k.typed;
+        width = k.width;
+        value =
+            λ x i. k.value x i ∙ same x i;
+        gates = k.gates;
+        loads = k.loads;
+        stores = k.stores;
+        joins = k.joins;
+        named = λ e. absurd (subst IsInput (k.named e) e);
+      }
+      turned (Onto o n t d) k = record {
+        some = k.some;
+        first = k.first;
+        second = k.second;
+        width = k.width;
+        value =
+            λ x i. k.value x i ∙ same x i;
+        gates = k.gates;
+      }
       turned (Unless d t) k = record { first = k.first; second = k.second; width = k.width; value = λ x i. k.value x i ∙ same x i; gates = k.gates }
 
 pub power : (n : ℕ) → 256 ^ n ≡ 2 ^ (8 * n)
@@ -98,7 +119,8 @@ number_bytes Big n v h = big_bytes v n n h (omega arith) ∙ ap (λ z. v / 256 ^
 -- numbers of the same bytes
 same_number : (e : Endian) (n : ℕ) (f g : ℕ → ℕ) → ((i : ℕ) → i < n → f i ≡ g i) → number e n f ≡ number e n g
 same_number Little zero f g h = refl
-same_number Little (suc n) f g h = ap (λ z. z + f n * 256 ^ n) (same_number Little n f g (λ i l. h i (omega arith))) ∙ ap (λ z. little n g + z * 256 ^ n) (h n (omega arith))
+same_number Little (suc n) f g h = ap (λ z. z + f n * 256 ^ n) (same_number Little n f g (λ i l. h i (omega arith))) ∙ ap
+    (λ z. little n g + z * 256 ^ n) (h n (omega arith))
 same_number Big zero f g h = refl
 same_number Big (suc n) f g h = ap (λ z. z * 256 + f n) (same_number Big n f g (λ i l. h i (omega arith))) ∙ ap (λ z. big n g * 256 + z) (h n (omega arith))
 
@@ -109,7 +131,8 @@ inside k n i y m e l f = let b : nat_lt k n ≡ true = grind (arith, nat_tests) 
 pub load_after_store : (e : Endian) (n a v : ℕ) (m : Memory) → n ≤ 8 → a < 2 ^ 32 → v < 2 ^ (8 * n) → load e n (store e n m a v) a ≡ v
 load_after_store e n a v m few h k =
     same_number e n (λ i. store e n m a v (words.add 32 a i)) (byte_of e n v)
-    (λ i l. inside (words.sub 32 (words.add 32 a i) a) n i 0 (m (words.add 32 a i)) (let z : words.sub 32 (words.add 32 a i) a ≡ i = omega arith in z) l (byte_of e n v))
+    (λ i l. inside (words.sub 32 (words.add 32 a i) a) n i 0 (m (words.add 32 a i)) (let z : words.sub 32 (words.add 32 a i) a
+    ≡ i = omega arith in z) l (byte_of e n v))
     ∙ number_bytes e n v (subst (λ (z : ℕ). v < z) (sym (power n)) k)
 
 -- the term that was stored
@@ -117,7 +140,8 @@ pub just_stored : (ns : List TermNode) (n : ℕ) (big : Bool) (m a k : ℕ) (ord
     StoreNode k (endian order) o t v ≡ node_at ns m → k ≡ n → order ≡ big → t ≡ a → IsTermFor ns (LoadNode n (endian big) m a) v
 just_stored ns n big m a k order o t v h p q e f g i =
     let s : StoreNode n (endian big) o a v ≡ node_at ns m =
-    ap (λ z. StoreNode z (endian big) o a v) (sym f) ∙ ap (λ z. StoreNode k (endian z) o a v) (sym g) ∙ ap (λ z. StoreNode k (endian order) o z v) (sym i) ∙ e in
+    ap (λ z. StoreNode z (endian big) o a v) (sym f) ∙ ap (λ z. StoreNode k (endian z) o a v) (sym g) ∙ ap
+    (λ z. StoreNode k (endian order) o z v) (sym i) ∙ e in
     let y = typed_here ns m (StoreNode n (endian big) o a v) h p.0 s in
     record {
       within = y.3.0;
@@ -126,5 +150,6 @@ just_stored ns n big m a k order o t v h p q e f g i =
           word_only x ns (8 * n) v h (omega (arith, y.0.0)) y.3
           ∙ ap word_value (sym (
           ap (λ z. load (endian big) n z.bytes (term_word x ns a)) (by_node x ns m (StoreNode n (endian big) o a v) h p.0 s)
-          ∙ load_after_store (endian big) n (term_word x ns a) (term_word x ns v) (term_value x ns o).bytes y.0.1 (word_fits x ns 32 a j h q) (word_fits x ns (8 * n) v j h y.3)));
+          ∙ load_after_store (endian big) n (term_word x ns a) (term_word x ns v) (term_value x ns o).bytes y.0.1 (word_fits x ns 32 a j h q)
+          (word_fits x ns (8 * n) v j h y.3)));
     }

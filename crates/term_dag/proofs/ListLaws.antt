@@ -66,7 +66,8 @@ pub typed_push : (ns : List TermNode) (n : TermNode) → AreTyped ns → IsTyped
 typed_push ns n h t = typed_push_from [] ns n h t
 
 -- the value of a node hangs on its operands alone
-pub same : (x : TermReading) (vs ws : List TermValue) (ns : List TermNode) (n : TermNode) → IsTypedOver ns n → ((t : ℕ) → t < length ns → value_at vs t ≡ value_at ws t) →
+pub same : (x : TermReading) (vs ws : List TermValue) (ns : List TermNode) (n : TermNode) → IsTypedOver ns n →
+    ((t : ℕ) → t < length ns → value_at vs t ≡ value_at ws t) →
     node_value x vs n ≡ node_value x ws n
 same x vs ws ns (RegisterNode r) h f = refl
 same x vs ws ns (FlagNode r) h f = refl
@@ -103,7 +104,8 @@ pub last : {A : Type 0} → (vs : List A) (v d : A) → get_or (vs ++ v ∷ []) 
 last [] v d = refl
 last (y ∷ vs) v d = last vs v d
 
-unfolds_from : (x : TermReading) (before : List TermNode) (vs : List TermValue) (ns : List TermNode) (k : ℕ) → length vs ≡ length before → AreTypedFrom before ns → k < length ns →
+unfolds_from : (x : TermReading) (before : List TermNode) (vs : List TermValue) (ns : List TermNode) (k : ℕ) → length vs ≡ length before →
+    AreTypedFrom before ns → k < length ns →
     value_at (values_from x vs ns) (length vs + k) ≡ node_value x (values_from x vs ns) (node_at ns k)
 unfolding values_from
 unfolds_from x before vs [] k e h l = absurd (omega arith)
@@ -124,18 +126,21 @@ unfolds_from x before vs (n ∷ ns) (suc k) e h l =
     ∙ unfolds_from x (before ++ n ∷ []) (vs ++ v ∷ []) ns k (omega arith) h.1 (omega arith)
 
 -- a term's value is that of its node
-pub unfolds : (x : TermReading) (ns : List TermNode) (t : ℕ) → AreTyped ns → t < length ns → term_value x ns t ≡ node_value x (values_from x [] ns) (node_at ns t)
+pub unfolds : (x : TermReading) (ns : List TermNode) (t : ℕ) → AreTyped ns → t < length ns →
+    term_value x ns t ≡ node_value x (values_from x [] ns) (node_at ns t)
 unfolds x ns t h l = let z : 0 + t ≡ t = omega arith in ap (value_at (values_from x [] ns)) (sym z) ∙ unfolds_from x [] [] ns t refl h l
 
 -- a term's value by its node
-pub by_node : (x : TermReading) (ns : List TermNode) (t : ℕ) (n : TermNode) → AreTyped ns → t < length ns → n ≡ node_at ns t → term_value x ns t ≡ node_value x (values_from x [] ns) n
+pub by_node : (x : TermReading) (ns : List TermNode) (t : ℕ) (n : TermNode) → AreTyped ns → t < length ns → n ≡ node_at ns t →
+    term_value x ns t ≡ node_value x (values_from x [] ns) n
 by_node x ns t n h l e = unfolds x ns t h l ∙ ap (node_value x (values_from x [] ns)) (sym e)
 
 typed_before_from : (before ns : List TermNode) (k : ℕ) → AreTypedFrom before ns → k < length ns → IsTypedOver (before ++ take k ns) (node_at ns k)
 typed_before_from before [] k h l = absurd (omega arith)
 typed_before_from before (n ∷ ns) zero h l = subst (λ (b : List TermNode). IsTypedOver b n) (sym (append-nil before)) h.0
 typed_before_from before (n ∷ ns) (suc k) h l =
-    subst (λ (b : List TermNode). IsTypedOver b (node_at ns k)) (append_assoc before (n ∷ []) (take k ns)) (typed_before_from (before ++ n ∷ []) ns k h.1 (omega arith))
+    subst (λ (b : List TermNode). IsTypedOver b (node_at ns k)) (append_assoc before (n ∷ []) (take k ns)) (typed_before_from (before ++ n
+    ∷ []) ns k h.1 (omega arith))
 
 -- a node is typed over those before it
 pub typed_before : (ns : List TermNode) (k : ℕ) (n : TermNode) → AreTyped ns → k < length ns → n ≡ node_at ns k → IsTypedOver (take k ns) n

@@ -36,7 +36,8 @@ within (n ∷ ns) (suc i) h = omega (arith, within ns i (omega arith))
 pub over_take : (ns : List Node) (i : ℕ) (d : Node) → AreTyped (nodes_of ns) → i < length ns → IsTypedOver (nodes_of (take i ns)) (node_of (get_or ns i d))
 over_take ns i d h l =
     let k = within ns i l in
-    subst (λ (z : List TermNode). IsTypedOver z (node_of (get_or ns i d))) (sym (nodes_take ns i)) (typed_before (nodes_of ns) i (node_of (get_or ns i d)) h k (node_here ns i d k))
+    subst (λ (z : List TermNode). IsTypedOver z (node_of (get_or ns i d))) (sym (nodes_take ns i))
+    (typed_before (nodes_of ns) i (node_of (get_or ns i d)) h k (node_here ns i d k))
 
 one_more : (ns : List Node) (i : ℕ) (d : Node) → i < length ns → nodes_of (take (suc i) ns) ≡ nodes_of (take i ns) ++ node_of (get_or ns i d) ∷ []
 one_more [] i d h = absurd (omega arith)
@@ -44,7 +45,8 @@ one_more (n ∷ ns) zero d h = refl
 one_more (n ∷ ns) (suc i) d h = ap (λ l. node_of n ∷ l) (one_more ns i d (omega arith))
 
 -- the word of one more node
-pushed : (x : TermReading) (ns : List TermNode) (n : TermNode) (ws : List ℕ) (w : ℕ) → AreWords x ns ws → w ≡ (node_value x (values_from x [] ns) n).word → AreWords x (ns ++ n ∷ []) (ws ++ w ∷ [])
+pushed : (x : TermReading) (ns : List TermNode) (n : TermNode) (ws : List ℕ) (w : ℕ) → AreWords x ns ws → w ≡ (node_value x (values_from x [] ns) n).word →
+    AreWords x (ns ++ n ∷ []) (ws ++ w ∷ [])
 unfolding values_from
 pushed x ns n ws w a e = record {
   count = omega (arith, a.count, longer ws w, longer ns n);
@@ -65,4 +67,5 @@ pub words_more : (x : TermReading) (ns : List Node) (i : ℕ) (d : Node) (ws : L
     w ≡ (node_value x (values_from x [] (nodes_of (take i ns))) (node_of (get_or ns i d))).word → AreWords x (nodes_of (take (i + 1) ns)) (ws ++ w ∷ [])
 words_more x ns i d ws w l a e =
     let f : i + 1 ≡ suc i = omega arith in
-    subst (λ (z : List TermNode). AreWords x z (ws ++ w ∷ [])) (sym (ap (λ k. nodes_of (take k ns)) f ∙ one_more ns i d l)) (pushed x (nodes_of (take i ns)) (node_of (get_or ns i d)) ws w a e)
+    subst (λ (z : List TermNode). AreWords x z (ws ++ w ∷ [])) (sym (ap (λ k. nodes_of (take k ns)) f ∙ one_more ns i d l))
+    (pushed x (nodes_of (take i ns)) (node_of (get_or ns i d)) ws w a e)

@@ -54,7 +54,8 @@ AreFit ns vs = (t : ℕ) → t < length ns → IsFit (width_of (node_at ns t)) (
 fit_at : (ns : List TermNode) (vs : List TermValue) (w t : ℕ) → AreFit ns vs → HasWidth ns w t → IsFit w (value_at vs t)
 fit_at ns vs w t f h = subst (λ (k : ℕ). IsFit k (value_at vs t)) h.1 (f t h.0)
 
-fits : (x : TermReading) (vs : List TermValue) (ns : List TermNode) (n : TermNode) → InRange x → AreFit ns vs → IsTypedOver ns n → IsFit (width_of n) (node_value x vs n)
+fits : (x : TermReading) (vs : List TermValue) (ns : List TermNode) (n : TermNode) → InRange x → AreFit ns vs → IsTypedOver ns n →
+    IsFit (width_of n) (node_value x vs n)
 fits x vs ns (RegisterNode r) g f h = one 32 _ (g.regs r)
 fits x vs ns (FlagNode r) g f h = one 1 _ (g.flags r)
 fits x vs ns (ChoiceNode i) g f h = one 2 _ (g.choice i)
@@ -92,7 +93,8 @@ fit_push ns vs n v e f h t l =
           (subst (IsFit (width_of n)) (sym (ap (value_at (vs ++ v ∷ [])) j ∙ last vs v (word_value 0))) h))
     ]
 
-all_fit : (x : TermReading) (before ns : List TermNode) (vs : List TermValue) → InRange x → length vs ≡ length before → AreFit before vs → AreTypedFrom before ns →
+all_fit : (x : TermReading) (before ns : List TermNode) (vs : List TermValue) → InRange x → length vs ≡ length before → AreFit before vs →
+    AreTypedFrom before ns →
     AreFit (before ++ ns) (values_from x vs ns)
 unfolding values_from
 all_fit x before [] vs g e f h = subst (λ (l : List TermNode). AreFit l vs) (sym (append-nil before)) f
@@ -178,7 +180,8 @@ word_only x ns w t h s p =
     let u = unfolds x ns t h p.0 in
     u ∙ word_node x (values_from x [] ns) (node_at ns t) (omega (arith, p.1)) ∙ ap (λ z. word_value z.word) (sym u)
 
-memory_node : (x : TermReading) (vs : List TermValue) (ns : List TermNode) (n : TermNode) → IsTypedOver ns n → width_of n ≡ 0 → node_value x vs n ≡ bytes_value (node_value x vs n).bytes
+memory_node : (x : TermReading) (vs : List TermValue) (ns : List TermNode) (n : TermNode) → IsTypedOver ns n → width_of n ≡ 0 →
+    node_value x vs n ≡ bytes_value (node_value x vs n).bytes
 memory_node x vs ns (RegisterNode r) h e = absurd (omega arith)
 memory_node x vs ns (FlagNode f) h e = absurd (omega arith)
 memory_node x vs ns (ChoiceNode i) h e = absurd (omega arith)

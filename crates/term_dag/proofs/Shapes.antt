@@ -48,13 +48,15 @@ small_push ns n f h t l =
 
 all_small : (before ns : List TermNode) → AreSmall before → AreTypedFrom before ns → AreSmall (before ++ ns)
 all_small before [] f h = subst AreSmall (sym (append-nil before)) f
-all_small before (n ∷ ns) f h = subst AreSmall (append_assoc before (n ∷ []) ns) (all_small (before ++ n ∷ []) ns (small_push before n f (small before n f h.0)) h.1)
+all_small before (n ∷ ns) f h = subst AreSmall (append_assoc before (n ∷ []) ns) (all_small (before ++ n
+    ∷ []) ns (small_push before n f (small before n f h.0)) h.1)
 
 pub few_bits : (ns : List TermNode) (t : ℕ) → AreTyped ns → t < length ns → width_of (node_at ns t) ≤ 64
 few_bits ns t h l = all_small [] ns (λ i k. absurd (omega arith)) h t l
 
 -- a node over words of its own width
-pub binary_sides : (ns : List TermNode) (w t : ℕ) (o : BinaryOp) (v l r : ℕ) → AreTyped ns → HasWidth ns w t → BinaryNode o v l r ≡ node_at ns t → result_width o v ≡ v →
+pub binary_sides : (ns : List TermNode) (w t : ℕ) (o : BinaryOp) (v l r : ℕ) → AreTyped ns → HasWidth ns w t → BinaryNode o v l r ≡ node_at ns t →
+    result_width o v ≡ v →
     HasWidth ns w l × HasWidth ns w r × ((x : TermReading) → term_word x ns t ≡ operate o w (term_word x ns l) (term_word x ns r))
 binary_sides ns w t o v l r h p e f =
     let y = typed_here ns t (BinaryNode o v l r) h p.0 e in
@@ -90,7 +92,8 @@ own_sum ns w t h p = record {
 }
 
 -- a sum with a constant
-pub sum_of : (ns : List TermNode) (w t v l r c : ℕ) → AreTyped ns → HasWidth ns w t → BinaryNode Plus v l r ≡ node_at ns t → IsConstant ns r c → IsSum ns w t l c
+pub sum_of : (ns : List TermNode) (w t v l r c : ℕ) → AreTyped ns → HasWidth ns w t → BinaryNode Plus v l r ≡ node_at ns t → IsConstant ns r c →
+    IsSum ns w t l c
 sum_of ns w t v l r c h p e k =
     let b = binary_sides ns w t Plus v l r h p e refl in
     record {
@@ -100,13 +103,15 @@ sum_of ns w t v l r c h p e k =
     }
 
 -- the negation of a bit, as a literal
-pub not_literal : (ns : List TermNode) (t v : ℕ) (u : Term) → AreTyped ns → HasWidth ns 1 t → NotNode v u.0 ≡ node_at ns t → IsLiteral ns t (record { term = u; negated = true })
+pub not_literal : (ns : List TermNode) (t v : ℕ) (u : Term) → AreTyped ns → HasWidth ns 1 t → NotNode v u.0 ≡ node_at ns t →
+    IsLiteral ns t (record { term = u; negated = true })
 not_literal ns t v u h p e =
     let y = not_side ns 1 t v u.0 h p e in
     record { place = y.0; value = λ x i. y.1 x }
 
 -- the sides of a selection by the same condition
-pub select_side : (ns : List TermNode) (w c t : ℕ) (holds : Bool) (v : ℕ) (k a b r : Term) → AreTyped ns → HasWidth ns w t → SelectNode v k.0 a.0 b.0 ≡ node_at ns t → k.0 ≡ c →
+pub select_side : (ns : List TermNode) (w c t : ℕ) (holds : Bool) (v : ℕ) (k a b r : Term) → AreTyped ns → HasWidth ns w t →
+    SelectNode v k.0 a.0 b.0 ≡ node_at ns t → k.0 ≡ c →
     r ≡ (if holds then a else b) → IsSide ns w c t holds r.0
 select_side ns w c t holds v k a b r h p e f g =
     let y = typed_here ns t (SelectNode v k.0 a.0 b.0) h p.0 e in
@@ -117,21 +122,25 @@ select_side ns w c t holds v k a b r h p e f g =
     subst (λ (z : Term). IsSide ns w c t holds z.0) (sym g) (at pa pb s holds)
   where
     value : (x : TermReading) (n : ℕ) → term_word x ns c ≡ n → term_value x ns t ≡ word_value (select n (term_word x ns a.0) (term_word x ns b.0))
-    value x n q = by_node x ns t (SelectNode v k.0 a.0 b.0) h p.0 e ∙ ap (λ z. word_value (select (term_word x ns z) (term_word x ns a.0) (term_word x ns b.0))) f ∙ ap (λ z. word_value (select z (term_word x ns a.0) (term_word x ns b.0))) q
+    value x n q = by_node x ns t (SelectNode v k.0 a.0 b.0) h p.0 e ∙ ap
+        (λ z. word_value (select (term_word x ns z) (term_word x ns a.0) (term_word x ns b.0))) f ∙ ap
+        (λ z. word_value (select z (term_word x ns a.0) (term_word x ns b.0))) q
 
     at : HasWidth ns w a.0 → HasWidth ns w b.0 → 1 ≤ w → (holds : Bool) → IsSide ns w c t holds (if holds then a else b).0
     at pa pb s true = record { place = pa; value = λ x i q. word_only x ns w a.0 h s pa ∙ sym (value x 1 q) }
     at pa pb s false = record { place = pb; value = λ x i q. word_only x ns w b.0 h s pb ∙ sym (value x 0 q) }
 
 -- of a join
-pub join_side : (ns : List TermNode) (w c t : ℕ) (holds : Bool) (k a b r : Term) → AreTyped ns → HasWidth ns w t → JoinNode k.0 a.0 b.0 ≡ node_at ns t → k.0 ≡ c →
+pub join_side : (ns : List TermNode) (w c t : ℕ) (holds : Bool) (k a b r : Term) → AreTyped ns → HasWidth ns w t → JoinNode k.0 a.0 b.0 ≡ node_at ns t →
+    k.0 ≡ c →
     r ≡ (if holds then a else b) → IsSide ns w c t holds r.0
 join_side ns w c t holds k a b r h p e f g =
     let y = typed_here ns t (JoinNode k.0 a.0 b.0) h p.0 e in
     let i : 0 ≡ w = width_by_node ns t w (JoinNode k.0 a.0 b.0) p e in
     subst (λ (z : Term). IsSide ns w c t holds z.0) (sym g) (subst (λ (z : ℕ). IsSide ns z c t holds (if holds then a else b).0) i (at y.1 y.2 holds))
   where
-    value : (x : TermReading) (n : ℕ) → term_word x ns c ≡ n → term_value x ns t ≡ bytes_value (λ j. select n ((term_value x ns a.0).bytes j) ((term_value x ns b.0).bytes j))
+    value : (x : TermReading) (n : ℕ) → term_word x ns c ≡ n →
+        term_value x ns t ≡ bytes_value (λ j. select n ((term_value x ns a.0).bytes j) ((term_value x ns b.0).bytes j))
     value x n q =
         by_node x ns t (JoinNode k.0 a.0 b.0) h p.0 e
         ∙ ap (λ z. bytes_value (λ j. select (term_word x ns z) ((term_value x ns a.0).bytes j) ((term_value x ns b.0).bytes j))) f
@@ -146,7 +155,8 @@ pub own_side : (ns : List TermNode) (w c t : ℕ) (holds : Bool) → HasWidth ns
 own_side ns w c t holds p = record { place = p; value = λ x i q. refl }
 
 -- bits of bits
-pub slice_of_extract : (ns : List TermNode) (hi lo t h l u : ℕ) → AreTyped ns → t < length ns → lo ≤ hi → hi < width_of (node_at ns t) → ExtractNode h l u ≡ node_at ns t →
+pub slice_of_extract : (ns : List TermNode) (hi lo t h l u : ℕ) → AreTyped ns → t < length ns → lo ≤ hi → hi < width_of (node_at ns t) →
+    ExtractNode h l u ≡ node_at ns t →
     IsSlice ns hi lo t (hi + l) (lo + l) u
 slice_of_extract ns hi lo t h l u y p q f e =
     let k = typed_here ns t (ExtractNode h l u) y p e in
@@ -160,7 +170,8 @@ slice_of_extract ns hi lo t h l u y p q f e =
     }
 
 -- bits of the lower side
-pub slice_of_lower : (ns : List TermNode) (hi lo t high low a b : ℕ) → AreTyped ns → t < length ns → lo ≤ hi → hi < low → ConcatNode high low a b ≡ node_at ns t →
+pub slice_of_lower : (ns : List TermNode) (hi lo t high low a b : ℕ) → AreTyped ns → t < length ns → lo ≤ hi → hi < low →
+    ConcatNode high low a b ≡ node_at ns t →
     IsSlice ns hi lo t hi lo b
 slice_of_lower ns hi lo t high low a b y p q f e =
     let k = typed_here ns t (ConcatNode high low a b) y p e in
@@ -169,11 +180,13 @@ slice_of_lower ns hi lo t high low a b y p q f e =
       width = refl;
       within = k.4.0;
       fits = omega (arith, k.4.1);
-      value = λ x i. ap (λ v. words.bits hi lo v.word) (by_node x ns t (ConcatNode high low a b) y p e) ∙ lower_bits hi lo low (term_word x ns a) (term_word x ns b) q f;
+      value = λ x i. ap (λ v. words.bits hi lo v.word) (by_node x ns t (ConcatNode high low a b) y p e) ∙ lower_bits hi lo low (term_word x ns a)
+          (term_word x ns b) q f;
     }
 
 -- bits of the upper side
-pub slice_of_upper : (ns : List TermNode) (hi lo t high low a b : ℕ) → AreTyped ns → t < length ns → lo ≤ hi → hi < width_of (node_at ns t) → low ≤ lo → ConcatNode high low a b ≡ node_at ns t →
+pub slice_of_upper : (ns : List TermNode) (hi lo t high low a b : ℕ) → AreTyped ns → t < length ns → lo ≤ hi → hi < width_of (node_at ns t) → low ≤ lo →
+    ConcatNode high low a b ≡ node_at ns t →
     IsSlice ns hi lo t (hi - low) (lo - low) a
 slice_of_upper ns hi lo t high low a b y p q f g e =
     let k = typed_here ns t (ConcatNode high low a b) y p e in
@@ -189,7 +202,8 @@ slice_of_upper ns hi lo t high low a b y p q f g e =
     }
 
 -- bits below an extension
-pub slice_of_extend : (ns : List TermNode) (hi lo t : ℕ) (s : Bool) (n m u : ℕ) → AreTyped ns → t < length ns → lo ≤ hi → hi < n → ExtendNode s n m u ≡ node_at ns t →
+pub slice_of_extend : (ns : List TermNode) (hi lo t : ℕ) (s : Bool) (n m u : ℕ) → AreTyped ns → t < length ns → lo ≤ hi → hi < n →
+    ExtendNode s n m u ≡ node_at ns t →
     IsSlice ns hi lo t hi lo u
 slice_of_extend ns hi lo t s n m u y p q f e =
     let k = typed_here ns t (ExtendNode s n m u) y p e in
@@ -205,9 +219,17 @@ pub own_slice : (ns : List TermNode) (hi lo t : ℕ) → t < length ns → lo �
 own_slice ns hi lo t p q f = record { order = q; width = refl; within = p; fits = f; value = λ x i. refl }
 
 pub slice_of_slice : (ns : List TermNode) (hi lo t h l u j k v : ℕ) → IsSlice ns hi lo t h l u → IsSlice ns h l u j k v → IsSlice ns hi lo t j k v
-slice_of_slice ns hi lo t h l u j k v a b = record { order = b.order; width = b.width ∙ a.width; within = b.within; fits = b.fits; value = λ x i. a.value x i ∙ b.value x i }
+slice_of_slice ns hi lo t h l u j k v a b = record {
+  order = b.order;
+  width = b.width ∙ a.width;
+  within = b.within;
+  fits = b.fits;
+  value =
+      λ x i. a.value x i ∙ b.value x i;
+}
 
-pub neighbours_of : (ns : List TermNode) (a b hi middle t below lo u : ℕ) → AreTyped ns → a < length ns → b < length ns → ExtractNode hi middle t ≡ node_at ns a →
+pub neighbours_of : (ns : List TermNode) (a b hi middle t below lo u : ℕ) → AreTyped ns → a < length ns → b < length ns →
+    ExtractNode hi middle t ≡ node_at ns a →
     ExtractNode below lo u ≡ node_at ns b → t ≡ u → middle ≡ below + 1 → AreNeighbours ns a b hi lo t
 neighbours_of ns a b hi middle t below lo u y p q e f g h =
     let j = typed_here ns a (ExtractNode hi middle t) y p e in
@@ -222,13 +244,15 @@ neighbours_of ns a b hi middle t below lo u y p q e f g h =
       value = λ x i.
           joined_bits hi lo middle below (term_word x ns t) k.0 h j.0
           ∙ ap (λ z. words.concat z (words.bits hi middle (term_word x ns t)) (words.bits below lo (term_word x ns t))) wb
-          ∙ ap (λ z. words.concat (width_of (node_at ns b)) z (words.bits below lo (term_word x ns t))) (sym (ap (λ z. z.word) (by_node x ns a (ExtractNode hi middle t) y p e)))
+          ∙ ap (λ z. words.concat (width_of (node_at ns b)) z (words.bits below lo (term_word x ns t))) (sym (ap
+          (λ z. z.word) (by_node x ns a (ExtractNode hi middle t) y p e)))
           ∙ ap (λ z. words.concat (width_of (node_at ns b)) (term_word x ns a) z)
           (ap (λ z. words.bits below lo (term_word x ns z)) g ∙ sym (ap (λ z. z.word) (by_node x ns b (ExtractNode below lo u) y q f)));
     }
 
 -- bits of a word that a constant shifts
-pub slice_of_shift : (ns : List TermNode) (o : BinaryOp) (hi lo t w l r k h j : ℕ) → AreTyped ns → t < length ns → BinaryNode o w l r ≡ node_at ns t → IsConstant ns r k → j ≤ h → h < w →
+pub slice_of_shift : (ns : List TermNode) (o : BinaryOp) (hi lo t w l r k h j : ℕ) → AreTyped ns → t < length ns → BinaryNode o w l r ≡ node_at ns t →
+    IsConstant ns r k → j ≤ h → h < w →
     h + 1 - j ≡ hi + 1 - lo → ((v : ℕ) → v < 2 ^ w → words.bits hi lo (operate o w v k) ≡ words.bits h j v) → IsSlice ns hi lo t h j l
 slice_of_shift ns o hi lo t w l r k h j y p e c q f g v =
     let a = typed_here ns t (BinaryNode o w l r) y p e in
@@ -238,13 +262,15 @@ slice_of_shift ns o hi lo t w l r k h j y p e c q f g v =
       within = a.1.0;
       fits = omega (arith, a.1.1);
       value = λ x i.
-          ap (λ z. words.bits hi lo z.word) (by_node x ns t (BinaryNode o w l r) y p e) ∙ ap (λ z. words.bits hi lo (operate o w (term_word x ns l) z)) (c.value x)
+          ap (λ z. words.bits hi lo z.word) (by_node x ns t (BinaryNode o w l r) y p e) ∙ ap
+          (λ z. words.bits hi lo (operate o w (term_word x ns l) z)) (c.value x)
           ∙ v (term_word x ns l) (word_fits x ns w l i y a.1);
     }
 
 -- an extension of an extension, which has the value of one extension
 further : (ns : List TermNode) (w n t : ℕ) (s b : Bool) (f m u : ℕ) → AreTyped ns → HasWidth ns n t → w ≤ 64 → n ≤ w → ExtendNode b f m u ≡ node_at ns t →
-    ((v : ℕ) → v < 2 ^ f → 1 ≤ f → f ≤ n → extend b f w v ≡ extend s n w (extend b f n v)) → IsNodeWord ns w (λ x. extend s n w (term_word x ns t)) 0 (ExtendNode b f w u)
+    ((v : ℕ) → v < 2 ^ f → 1 ≤ f → f ≤ n → extend b f w v ≡ extend s n w (extend b f n v)) →
+    IsNodeWord ns w (λ x. extend s n w (term_word x ns t)) 0 (ExtendNode b f w u)
 further ns w n t s b f m u h p few q e v =
     let y = typed_here ns t (ExtendNode b f m u) h p.0 e in
     let i : m ≡ n = width_by_node ns t n (ExtendNode b f m u) p e in
@@ -253,7 +279,8 @@ further ns w n t s b f m u h p few q e v =
       width = refl;
       value = λ x r. ap word_value (
           v (term_word x ns u) (word_fits x ns f u r h y.3) y.0.0 (omega (arith, y.1))
-          ∙ ap (λ z. extend s n w (extend b f z (term_word x ns u))) (sym i) ∙ ap (extend s n w) (sym (ap (λ z. z.word) (by_node x ns t (ExtendNode b f m u) h p.0 e))));
+          ∙ ap (λ z. extend s n w (extend b f z (term_word x ns u))) (sym i) ∙ ap (extend s n w) (sym (ap
+          (λ z. z.word) (by_node x ns t (ExtendNode b f m u) h p.0 e))));
       gates = omega arith;
       loads = refl;
       stores = refl;
@@ -261,14 +288,17 @@ further ns w n t s b f m u h p few q e v =
       derived = λ z. z;
     }
 
-pub extended_zeros : (ns : List TermNode) (w n t : ℕ) (s b : Bool) (f m u : ℕ) → AreTyped ns → HasWidth ns n t → w ≤ 64 → n ≤ w → ExtendNode b f m u ≡ node_at ns t → s ≡ false → b ≡ false →
+pub extended_zeros : (ns : List TermNode) (w n t : ℕ) (s b : Bool) (f m u : ℕ) → AreTyped ns → HasWidth ns n t → w ≤ 64 → n ≤ w →
+    ExtendNode b f m u ≡ node_at ns t → s ≡ false → b ≡ false →
     IsNodeWord ns w (λ x. extend s n w (term_word x ns t)) 0 (ExtendNode b f w u)
 extended_zeros ns w n t s b f m u h p few q e i j = further ns w n t s b f m u h p few q e (λ v l k r. rw (i, j) refl)
 
-pub extended_signs : (ns : List TermNode) (w n t : ℕ) (s b : Bool) (f m u : ℕ) → AreTyped ns → HasWidth ns n t → w ≤ 64 → n ≤ w → ExtendNode b f m u ≡ node_at ns t → s ≡ true → b ≡ true →
+pub extended_signs : (ns : List TermNode) (w n t : ℕ) (s b : Bool) (f m u : ℕ) → AreTyped ns → HasWidth ns n t → w ≤ 64 → n ≤ w →
+    ExtendNode b f m u ≡ node_at ns t → s ≡ true → b ≡ true →
     IsNodeWord ns w (λ x. extend s n w (term_word x ns t)) 0 (ExtendNode b f w u)
 extended_signs ns w n t s b f m u h p few q e i j = further ns w n t s b f m u h p few q e (λ v l k r. rw (i, j) (sign_then_sign f n w v l k r q))
 
-pub signed_zeros : (ns : List TermNode) (w n t : ℕ) (s b : Bool) (f m u : ℕ) → AreTyped ns → HasWidth ns n t → w ≤ 64 → n ≤ w → ExtendNode b f m u ≡ node_at ns t → s ≡ true → b ≡ false → f < n →
+pub signed_zeros : (ns : List TermNode) (w n t : ℕ) (s b : Bool) (f m u : ℕ) → AreTyped ns → HasWidth ns n t → w ≤ 64 → n ≤ w →
+    ExtendNode b f m u ≡ node_at ns t → s ≡ true → b ≡ false → f < n →
     IsNodeWord ns w (λ x. extend s n w (term_word x ns t)) 0 (ExtendNode b f w u)
 signed_zeros ns w n t s b f m u h p few q e i j g = further ns w n t s b f m u h p few q e (λ v l k r. rw (i, j) (zeros_then_sign f n w v l g))

@@ -22,7 +22,8 @@ nodes_append [] ms = refl
 nodes_append (n ∷ ns) ms = ap (λ l. node_of n ∷ l) (nodes_append ns ms)
 
 -- the list that is left where a node is there, and the longer one where it is not
-looked_up : (b : Bool) (old new : List Node) (n : Node) → new ≡ (if b then old else old ++ n ∷ []) → (nodes_of new ≡ nodes_of old) ⊎ (nodes_of new ≡ nodes_of old ++ node_of n ∷ [])
+looked_up : (b : Bool) (old new : List Node) (n : Node) → new ≡ (if b then old else old ++ n ∷ []) →
+    (nodes_of new ≡ nodes_of old) ⊎ (nodes_of new ≡ nodes_of old ++ node_of n ∷ [])
 looked_up true old new n e = inl (ap nodes_of e)
 looked_up false old new n e = inr (ap nodes_of e ∙ nodes_append old (n ∷ []))
 
@@ -47,7 +48,8 @@ one_more ns n = record {
   joins = omega (arith, sum_by-append own_joins ns (n ∷ []));
 }
 
-pub typed_new : (b : Bool) (old new : List Node) (n : Node) → new ≡ (if b then old else old ++ n ∷ []) → AreTyped (nodes_of old) → IsTypedOver (nodes_of old) (node_of n) → AreTyped (nodes_of new)
+pub typed_new : (b : Bool) (old new : List Node) (n : Node) → new ≡ (if b then old else old ++ n ∷ []) → AreTyped (nodes_of old) →
+    IsTypedOver (nodes_of old) (node_of n) → AreTyped (nodes_of new)
 typed_new b old new n e h t =
     elim (looked_up b old new n e) [
       | inl q ↦ subst AreTyped (sym q) h
@@ -65,7 +67,8 @@ pub kept_width : (old new : List TermNode) → Extends old new → (w t : ℕ) �
 kept_width old new e w t h = subst (λ (ns : List TermNode). HasWidth ns w t) (sym e.1) (has_width_more old e.0 w t h)
 
 -- a node that is held has its value over the old terms
-held_value : (old new : List TermNode) (n : TermNode) (t : ℕ) → Extends old new → AreTyped new → t < length new → node_at new t ≡ n → IsTypedOver old n → (x : TermReading) →
+held_value : (old new : List TermNode) (n : TermNode) (t : ℕ) → Extends old new → AreTyped new → t < length new → node_at new t ≡ n → IsTypedOver old n →
+    (x : TermReading) →
     term_value x new t ≡ node_value x (values_from x [] old) n
 held_value old new n t e h l s o x =
     by_node x new t n h l (sym s)
@@ -75,7 +78,8 @@ one_more_holds : (ns : List TermNode) (n m : TermNode) → Contains (ns ++ n ∷
 one_more_holds ns n m h = elim (Contains-push_cases ns n m h) [ inl k ↦ inl k | inr e ↦ inr (sym e) ]
 
 -- the place that a node has got
-pub interned : (b : Bool) (old new : List Node) (n : Node) (t : ℕ) → new ≡ (if b then old else old ++ n ∷ []) → AreTyped (nodes_of old) → IsTypedOver (nodes_of old) (node_of n) →
+pub interned : (b : Bool) (old new : List Node) (n : Node) (t : ℕ) → new ≡ (if b then old else old ++ n ∷ []) → AreTyped (nodes_of old) →
+    IsTypedOver (nodes_of old) (node_of n) →
     slice_get new t ≡ Some n → IsInterned (nodes_of old) (nodes_of new) (node_of n) t
 interned b old new n t e h o s = record {
   extends = longer_or_same;
@@ -137,12 +141,14 @@ made_new old new n m t f k = record {
 }
 
 -- the operator between a term and a constant is typed over the list that has the constant
-pub onto_typed : (old mid : List TermNode) (n : TermNode) (o : Op) (w c : ℕ) (t : _) (k : ℕ) → IsFold old n (Onto o w t c) → IsInterned old mid (ConstantNode w c) k →
+pub onto_typed : (old mid : List TermNode) (n : TermNode) (o : Op) (w c : ℕ) (t : _) (k : ℕ) → IsFold old n (Onto o w t c) →
+    IsInterned old mid (ConstantNode w c) k →
     IsTypedOver mid (BinaryNode (op_of o) w t.0 k)
 onto_typed old mid n o w c t k f i = (f.some, kept_width old mid i.extends w t.0 f.first, (i.within, ap width_of i.stored))
 
 -- that operator
-pub made_onto : (old mid new : List TermNode) (n : TermNode) (o : Op) (w c : ℕ) (t : _) (k r : ℕ) → IsFold old n (Onto o w t c) → IsInterned old mid (ConstantNode w c) k →
+pub made_onto : (old mid new : List TermNode) (n : TermNode) (o : Op) (w c : ℕ) (t : _) (k r : ℕ) → IsFold old n (Onto o w t c) →
+    IsInterned old mid (ConstantNode w c) k →
     IsInterned mid new (BinaryNode (op_of o) w t.0 k) r → IsMade old new n r
 made_onto old mid new n o w c t k r f i j =
     let e = both_extend old mid new i.extends j.extends in
@@ -178,9 +184,11 @@ made_onto old mid new n o w c t k r f i j =
 -- the operands of that `and` stand in either order
 conjoined : (x : TermReading) (ns : List TermNode) (a b : ℕ) (t p q : Term) → ((p.0 ≡ a) × (q ≡ t)) ⊎ ((p ≡ t) × (q.0 ≡ a)) → t.0 ≡ b →
     bit_and (term_word x ns p.0) (term_word x ns q.0) ≡ bit_and (term_word x ns a) (term_word x ns b)
-conjoined x ns a b t p q (inl (e, f)) g = ap (λ z. bit_and (term_word x ns z) (term_word x ns q.0)) e ∙ ap (λ z. bit_and (term_word x ns a) (term_word x ns z)) (ap (λ z. z.0) f ∙ g)
+conjoined x ns a b t p q (inl (e, f)) g = ap (λ z. bit_and (term_word x ns z) (term_word x ns q.0)) e ∙ ap
+    (λ z. bit_and (term_word x ns a) (term_word x ns z)) (ap (λ z. z.0) f ∙ g)
 conjoined x ns a b t p q (inr (e, f)) g =
-    ap (λ z. bit_and (term_word x ns z) (term_word x ns q.0)) (ap (λ z. z.0) e ∙ g) ∙ ap (λ z. bit_and (term_word x ns b) (term_word x ns z)) f ∙ and_comm (term_word x ns b) (term_word x ns a)
+    ap (λ z. bit_and (term_word x ns z) (term_word x ns q.0)) (ap (λ z. z.0) e ∙ g) ∙ ap
+    (λ z. bit_and (term_word x ns b) (term_word x ns z)) f ∙ and_comm (term_word x ns b) (term_word x ns a)
 
 -- a bit `and` the negation of another
 pub made_unless : (old mid new : List TermNode) (n : TermNode) (a b k p q : Term) (r : ℕ) → IsFold old n (Unless a b) → IsInterned old mid (NotNode 1 b.0) k.0 →
@@ -217,7 +225,8 @@ made_unless old mid new n a b k p q r f i o j =
     }
 
 module _ (eq : Node → Node → Bool) (itself : (x y : Node) → node_of x ≡ node_of y → eq x y ≡ true) where
-  apart : (x : Node) (xs : List Node) (j : ℕ) → AllByRecursion (λ y. eq x y ≡ false) xs → j < length (nodes_of xs) → Some (node_of x) ≡ slice_get (nodes_of xs) j → ⊥
+  apart : (x : Node) (xs : List Node) (j : ℕ) → AllByRecursion (λ y. eq x y ≡ false) xs → j < length (nodes_of xs) →
+      Some (node_of x) ≡ slice_get (nodes_of xs) j → ⊥
   apart x [] j d h e = absurd (omega arith)
   apart x (y ∷ ys) zero d h e = let p : node_of x ≡ node_of y = cc in true≢false (sym (itself x y p) ∙ d.0)
   apart x (y ∷ ys) (suc j) d h e = apart x ys j d.1 (omega arith) e
@@ -231,13 +240,16 @@ module _ (eq : Node → Node → Bool) (itself : (x y : Node) → node_of x ≡ 
   distinct (x ∷ xs) d (suc i) (suc j) l h e = distinct xs d.1 i j (omega arith) (omega arith) e
 
 -- the two kinds of made terms over a view of the list
-pub made_by_node : (old view new : List TermNode) (n : TermNode) (m : Node) (t : ℕ) → view ≡ old → IsFold view n (New m) → IsInterned old new (node_of m) t → IsMade old new n t
+pub made_by_node : (old view new : List TermNode) (n : TermNode) (m : Node) (t : ℕ) → view ≡ old → IsFold view n (New m) → IsInterned old new (node_of m) t →
+    IsMade old new n t
 made_by_node old view new n m t e f k = made_new old new n m t (subst (λ (ns : List TermNode). IsFold ns n (New m)) e f) k
 
 pub made_by_onto : (old view mid new : List TermNode) (n : TermNode) (o : Op) (w c : ℕ) (t : _) (k r : ℕ) → view ≡ old → IsFold view n (Onto o w t c) →
     IsInterned old mid (ConstantNode w c) k → IsInterned mid new (BinaryNode (op_of o) w t.0 k) r → IsMade old new n r
 made_by_onto old view mid new n o w c t k r e f i j = made_onto old mid new n o w c t k r (subst (λ (ns : List TermNode). IsFold ns n (Onto o w t c)) e f) i j
 
-pub made_by_unless : (old view mid new : List TermNode) (n : TermNode) (a b k p q : Term) (r : ℕ) → view ≡ old → IsFold view n (Unless a b) → IsInterned old mid (NotNode 1 b.0) k.0 →
+pub made_by_unless : (old view mid new : List TermNode) (n : TermNode) (a b k p q : Term) (r : ℕ) → view ≡ old → IsFold view n (Unless a b) →
+    IsInterned old mid (NotNode 1 b.0) k.0 →
     ((p ≡ a) × (q ≡ k)) ⊎ ((p ≡ k) × (q ≡ a)) → IsInterned mid new (BinaryNode And 1 p.0 q.0) r → IsMade old new n r
-made_by_unless old view mid new n a b k p q r e f i o j = made_unless old mid new n a b k p q r (subst (λ (ns : List TermNode). IsFold ns n (Unless a b)) e f) i o j
+made_by_unless old view mid new n a b k p q r e f i o j = made_unless old mid new n a b k p q r (subst
+    (λ (ns : List TermNode). IsFold ns n (Unless a b)) e f) i o j

@@ -73,7 +73,8 @@ filled w k v h l =
 -- of one to the right with the sign
 pub sar_bits : (hi lo w v k : ℕ) → lo ≤ hi → k + hi < w → v < 2 ^ w → words.bits hi lo (words.sar w v k) ≡ words.bits (hi + k) (lo + k) v
 sar_bits hi lo w v k h l b =
-    ap (λ n. words.bits hi lo (if words.is_negative w v then words.complement w (words.complement w v / 2 ^ n) else v / 2 ^ n)) (amount w k (omega arith)) ∙ signed (words.is_negative w v)
+    ap (λ n. words.bits hi lo (if words.is_negative w v then words.complement w (words.complement w v / 2 ^ n) else v / 2 ^ n))
+    (amount w k (omega arith)) ∙ signed (words.is_negative w v)
   where
     signed : (n : Bool) → words.bits hi lo (if n then words.complement w (words.complement w v / 2 ^ k) else v / 2 ^ k) ≡ words.bits (hi + k) (lo + k) v
     signed true =
@@ -82,7 +83,8 @@ sar_bits hi lo w v k h l b =
 
 -- a shift by nothing
 pub no_shl : (w a c : ℕ) → a < 2 ^ w → c ≡ 0 → words.shl w a c ≡ a
-no_shl w a c h e = ap (λ n. a * 2 ^ min n w % 2 ^ w) e ∙ ap (λ n. a * 2 ^ n % 2 ^ w) (zero-min w) ∙ (let f : a * 1 ≡ a = omega arith in ap (λ z. z % 2 ^ w) f) ∙ mod-eq_of_lt h
+no_shl w a c h e = ap (λ n. a * 2 ^ min n w % 2 ^ w) e ∙ ap (λ n. a * 2 ^ n % 2 ^ w) (zero-min w) ∙ (let f : a * 1
+    ≡ a = omega arith in ap (λ z. z % 2 ^ w) f) ∙ mod-eq_of_lt h
 
 pub no_shr : (w a c : ℕ) → c ≡ 0 → words.shr w a c ≡ a
 no_shr w a c e = ap (λ n. a / 2 ^ min n w) e ∙ ap (λ n. a / 2 ^ n) (zero-min w) ∙ div-one a
@@ -114,7 +116,8 @@ all_sar w a c s h l =
     half : 2 ^ w ≡ 2 * 2 ^ (w - 1)
     half = let e : w ≡ 1 + (w - 1) = omega arith in ap (λ z. 2 ^ z) e ∙ pow-add 2 1 (w - 1)
 
-    at : (if words.is_negative w a then words.complement w (words.complement w a / 2 ^ (w - 1)) else a / 2 ^ (w - 1)) ≡ (if words.is_negative w a then words.complement w (words.complement w a / 2 ^ w) else a / 2 ^ w)
+    at : (if words.is_negative w a then words.complement w (words.complement w a / 2 ^ (w - 1)) else a / 2 ^ (w - 1))
+        ≡ (if words.is_negative w a then words.complement w (words.complement w a / 2 ^ w) else a / 2 ^ w)
     at =
         elim (cases_lt a (2 ^ (w - 1))) [
           | inl k ↦ (

@@ -116,12 +116,15 @@ kept ns m h = record {
 }
 
 -- the test whether a sum is a constant, as that of its base
-pub moved_onto : (ns : List TermNode) (w t base o r q : ℕ) (d : Bool) (op : BinaryOp) → AreTyped ns → IsWidth w → IsSum ns w t base o → r < 2 ^ w → q ≡ words.sub w r o → q < 2 ^ w →
+pub moved_onto : (ns : List TermNode) (w t base o r q : ℕ) (d : Bool) (op : BinaryOp) → AreTyped ns → IsWidth w → IsSum ns w t base o → r < 2 ^ w →
+    q ≡ words.sub w r o → q < 2 ^ w →
     op ≡ (if d then NotEqual else Equal) → IsOntoWord ns 1 (λ x. words.bit (words.differ d (term_word x ns t == r))) w op w base q
-moved_onto ns w t base o r q d op h y s l e k g = subst (λ (z : BinaryOp). IsOntoWord ns 1 (λ x. words.bit (words.differ d (term_word x ns t == r))) w z w base q) (sym g) (at d)
+moved_onto ns w t base o r q d op h y s l e k g = subst (λ (z : BinaryOp). IsOntoWord ns 1
+    (λ x. words.bit (words.differ d (term_word x ns t == r))) w z w base q) (sym g) (at d)
   where
     test : (x : TermReading) → InRange x → (term_word x ns base == q) ≡ (term_word x ns t == r)
-    test x i = ap (λ z. term_word x ns base == z) e ∙ moved w (term_word x ns base) o r (word_fits x ns w base i h s.place) s.below l ∙ ap (λ z. z == r) (sym (s.value x i))
+    test x i = ap (λ z. term_word x ns base == z) e ∙ moved w (term_word x ns base) o r (word_fits x ns w base i h s.place) s.below l ∙ ap
+        (λ z. z == r) (sym (s.value x i))
 
     at : (d : Bool) → IsOntoWord ns 1 (λ x. words.bit (words.differ d (term_word x ns t == r))) w (if d then NotEqual else Equal) w base q
     at true = record { some = y; first = s.place; second = k; width = refl; value = λ x i. ap (λ z. words.bit (not z)) (test x i); gates = omega arith }

@@ -137,16 +137,20 @@ bit_turned d v r h k e =
 
 -- conjunctions and disjunctions of bits
 pub and_least : (p q : ℕ) → p < 2 → q < 2 → p ≤ q → p ≡ bit_and p q
-and_least p q h k = bits (λ s. s ≤ q → s ≡ bit_and s q) (bits (λ t. 0 ≤ t → 0 ≡ bit_and 0 t) (λ l. refl) (λ l. refl) q k) (bits (λ t. 1 ≤ t → 1 ≡ bit_and 1 t) (λ l. absurd (omega arith)) (λ l. refl) q k) p h
+and_least p q h k = bits (λ s. s ≤ q → s ≡ bit_and s q) (bits (λ t. 0 ≤ t → 0 ≡ bit_and 0 t) (λ l. refl) (λ l. refl) q k) (bits (λ t. 1 ≤ t →
+    1 ≡ bit_and 1 t) (λ l. absurd (omega arith)) (λ l. refl) q k) p h
 
 pub or_greatest : (p q : ℕ) → p < 2 → q < 2 → p ≤ q → q ≡ bit_or p q
-or_greatest p q h k = bits (λ s. s ≤ q → q ≡ bit_or s q) (bits (λ t. 0 ≤ t → t ≡ bit_or 0 t) (λ l. refl) (λ l. refl) q k) (bits (λ t. 1 ≤ t → t ≡ bit_or 1 t) (λ l. absurd (omega arith)) (λ l. refl) q k) p h
+or_greatest p q h k = bits (λ s. s ≤ q → q ≡ bit_or s q) (bits (λ t. 0 ≤ t → t ≡ bit_or 0 t) (λ l. refl) (λ l. refl) q k) (bits (λ t. 1 ≤ t →
+    t ≡ bit_or 1 t) (λ l. absurd (omega arith)) (λ l. refl) q k) p h
 
 pub and_apart : (p q : ℕ) → p < 2 → q < 2 → p + q ≤ 1 → 0 ≡ bit_and p q
-and_apart p q h k = bits (λ s. s + q ≤ 1 → 0 ≡ bit_and s q) (bits (λ t. 0 + t ≤ 1 → 0 ≡ bit_and 0 t) (λ l. refl) (λ l. refl) q k) (bits (λ t. 1 + t ≤ 1 → 0 ≡ bit_and 1 t) (λ l. refl) (λ l. absurd (omega arith)) q k) p h
+and_apart p q h k = bits (λ s. s + q ≤ 1 → 0 ≡ bit_and s q) (bits (λ t. 0 + t ≤ 1 → 0 ≡ bit_and 0 t) (λ l. refl) (λ l. refl) q k) (bits (λ t. 1 + t ≤ 1 →
+    0 ≡ bit_and 1 t) (λ l. refl) (λ l. absurd (omega arith)) q k) p h
 
 pub or_apart : (p q m : ℕ) → p < 2 → q < 2 → m < 2 → p + q ≡ m → m ≡ bit_or p q
-or_apart p q m h k l e = sym e ∙ bits (λ s. s + q < 2 → s + q ≡ bit_or s q) (bits (λ t. 0 + t < 2 → 0 + t ≡ bit_or 0 t) (λ l. refl) (λ l. refl) q k) (bits (λ t. 1 + t < 2 → 1 + t ≡ bit_or 1 t) (λ l. refl) (λ l. absurd (omega arith)) q k) p h (omega arith)
+or_apart p q m h k l e = sym e ∙ bits (λ s. s + q < 2 → s + q ≡ bit_or s q) (bits (λ t. 0 + t < 2 →
+    0 + t ≡ bit_or 0 t) (λ l. refl) (λ l. refl) q k) (bits (λ t. 1 + t < 2 → 1 + t ≡ bit_or 1 t) (λ l. refl) (λ l. absurd (omega arith)) q k) p h (omega arith)
 
 -- a selection hangs on the side that is chosen
 pub select_sides : (c a b x y : ℕ) → c < 2 → (c ≡ 1 → x ≡ a) → (c ≡ 0 → y ≡ b) → select c x y ≡ select c a b
@@ -235,7 +239,8 @@ no_bits hi lo n v h k =
     sym (ap (λ z. z % 2 ^ (hi + 1 - lo)) q ∙ mod-eq_of_lt r)
 
 -- neighbouring bits
-pub joined_bits : (hi lo middle below v : ℕ) → lo ≤ below → middle ≡ below + 1 → middle ≤ hi → words.bits hi lo v ≡ words.concat (below + 1 - lo) (words.bits hi middle v) (words.bits below lo v)
+pub joined_bits : (hi lo middle below v : ℕ) → lo ≤ below → middle ≡ below + 1 → middle ≤ hi →
+    words.bits hi lo v ≡ words.concat (below + 1 - lo) (words.bits hi middle v) (words.bits below lo v)
 joined_bits hi lo middle below v p e q =
     let k = below + 1 - lo in let j = hi + 1 - middle in let n = v / 2 ^ lo in
     let f : hi + 1 - lo ≡ j + k = omega arith in
@@ -271,11 +276,13 @@ pub rejoined_bits : (p q r : ℕ) → p < 2 → q < 2 → q + r ≡ 1 → bit_an
 rejoined_bits p q r h k e =
     let f : r ≡ 1 - q = omega arith in
     ap (λ z. bit_and p q + bit_and p z) f
-    ∙ bits (λ s. bit_and s q + bit_and s (1 - q) ≡ s) (bits (λ t. bit_and 0 t + bit_and 0 (1 - t) ≡ 0) refl refl q k) (bits (λ t. bit_and 1 t + bit_and 1 (1 - t) ≡ 1) refl refl q k) p h
+    ∙ bits (λ s. bit_and s q + bit_and s (1 - q) ≡ s) (bits (λ t. bit_and 0 t + bit_and 0 (1 - t) ≡ 0) refl refl q k) (bits
+    (λ t. bit_and 1 t + bit_and 1 (1 - t) ≡ 1) refl refl q k) p h
 
 -- what the conjunction of two bits says of one of them
 pub and_one : (p q : ℕ) → p < 2 → q < 2 → bit_and p q ≡ 1 → q ≡ 1
-and_one p q h k = bits (λ s. bit_and s q ≡ 1 → q ≡ 1) (bits (λ t. bit_and 0 t ≡ 1 → t ≡ 1) (λ e. absurd (omega arith)) (λ e. refl) q k) (bits (λ t. bit_and 1 t ≡ 1 → t ≡ 1) (λ e. absurd (omega arith)) (λ e. refl) q k) p h
+and_one p q h k = bits (λ s. bit_and s q ≡ 1 → q ≡ 1) (bits (λ t. bit_and 0 t ≡ 1 →
+    t ≡ 1) (λ e. absurd (omega arith)) (λ e. refl) q k) (bits (λ t. bit_and 1 t ≡ 1 → t ≡ 1) (λ e. absurd (omega arith)) (λ e. refl) q k) p h
 
 pub and_none : (p q : ℕ) → p < 2 → q < 2 → p ≡ 1 → bit_and p q ≡ 0 → q ≡ 0
 and_none p q h k e f = sym (bits (λ t. bit_and 1 t ≡ t) refl refl q k) ∙ ap (λ z. bit_and z q) (sym e) ∙ f
@@ -284,20 +291,24 @@ and_none p q h k e f = sym (bits (λ t. bit_and 1 t ≡ t) refl refl q k) ∙ ap
 pub or_beside : (p a b : ℕ) → p < 2 → b < 2 → p + a ≡ 1 → bit_or p b ≡ bit_or p (bit_and a b)
 or_beside p a b h l e =
     let f : a ≡ 1 - p = omega arith in
-    bits (λ s. bit_or s b ≡ bit_or s (bit_and (1 - s) b)) (bits (λ t. bit_or 0 t ≡ bit_or 0 (bit_and 1 t)) refl refl b l) (bits (λ t. bit_or 1 t ≡ bit_or 1 (bit_and 0 t)) refl refl b l) p h
+    bits (λ s. bit_or s b ≡ bit_or s (bit_and (1 - s) b)) (bits (λ t. bit_or 0 t ≡ bit_or 0 (bit_and 1 t)) refl refl b l) (bits
+    (λ t. bit_or 1 t ≡ bit_or 1 (bit_and 0 t)) refl refl b l) p h
     ∙ ap (λ z. bit_or p (bit_and z b)) (sym f)
 
 pub and_beside : (p a b : ℕ) → p < 2 → b < 2 → p + a ≡ 1 → bit_and p b ≡ bit_and p (bit_or a b)
 and_beside p a b h l e =
     let f : a ≡ 1 - p = omega arith in
-    bits (λ s. bit_and s b ≡ bit_and s (bit_or (1 - s) b)) (bits (λ t. bit_and 0 t ≡ bit_and 0 (bit_or 1 t)) refl refl b l) (bits (λ t. bit_and 1 t ≡ bit_and 1 (bit_or 0 t)) refl refl b l) p h
+    bits (λ s. bit_and s b ≡ bit_and s (bit_or (1 - s) b)) (bits (λ t. bit_and 0 t ≡ bit_and 0 (bit_or 1 t)) refl refl b l) (bits
+    (λ t. bit_and 1 t ≡ bit_and 1 (bit_or 0 t)) refl refl b l) p h
     ∙ ap (λ z. bit_and p (bit_or z b)) (sym f)
 
 pub and_with : (p b : ℕ) → p < 2 → b < 2 → bit_and p p ≡ bit_and p (bit_or p b)
 and_with p b h l =
-    bits (λ s. bit_and s s ≡ bit_and s (bit_or s b)) (bits (λ t. 0 ≡ bit_and 0 (bit_or 0 t)) refl refl b l) (bits (λ t. 1 ≡ bit_and 1 (bit_or 1 t)) refl refl b l) p h
+    bits (λ s. bit_and s s ≡ bit_and s (bit_or s b)) (bits (λ t. 0 ≡ bit_and 0 (bit_or 0 t)) refl refl b l) (bits
+    (λ t. 1 ≡ bit_and 1 (bit_or 1 t)) refl refl b l) p h
 
 pub and_denied : (p q : ℕ) → p < 2 → q < 2 → bit_and p (words.complement 1 q) ≡ bit_and p (words.complement 1 (bit_and p q))
 and_denied p q h l =
-    bits (λ s. bit_and s (words.complement 1 q) ≡ bit_and s (words.complement 1 (bit_and s q))) (bits (λ t. bit_and 0 (words.complement 1 t) ≡ bit_and 0 (words.complement 1 (bit_and 0 t))) refl refl q l)
+    bits (λ s. bit_and s (words.complement 1 q) ≡ bit_and s (words.complement 1 (bit_and s q))) (bits
+    (λ t. bit_and 0 (words.complement 1 t) ≡ bit_and 0 (words.complement 1 (bit_and 0 t))) refl refl q l)
     (bits (λ t. bit_and 1 (words.complement 1 t) ≡ bit_and 1 (words.complement 1 (bit_and 1 t))) refl refl q l) p h

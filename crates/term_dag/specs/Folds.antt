@@ -165,4 +165,5 @@ pub record AreNeighbours (ns : List TermNode) (upper lower hi lo t : ℕ) : Type
   pub within : t < length ns
   pub fits : hi < width_of (node_at ns t)
   pub width : hi + 1 - lo ≡ width_of (node_at ns upper) + width_of (node_at ns lower)
-  pub value : (x : TermReading) → InRange x → words.bits hi lo (term_word x ns t) ≡ words.concat (width_of (node_at ns lower)) (term_word x ns upper) (term_word x ns lower)
+  pub value : (x : TermReading) → InRange x → words.bits hi lo (term_word x ns t)
+      ≡ words.concat (width_of (node_at ns lower)) (term_word x ns upper) (term_word x ns lower)

@@ -18,9 +18,9 @@ pub record IsWithinCost (old new : List TermNode) (n : TermNode) : Type 0 where
   pub stores : term_stores new ≤ term_stores old + own_stores n
   pub joins : term_joins new ≤ term_joins old + own_joins n
 
--- The new list has a term for a node over the old one. Terms of the old list keep their places, values and widths; the term has the node's width, and under every
--- reading in range the node's value. At most two nodes are new, they cost no more than the node, and none is an input but for the node itself. Where the node is a word, so is
--- each new node.
+-- The new list has a term for a node over the old one. Terms of the old list keep their places, values and widths; the term has the node's width, and under
+-- every reading in range the node's value. At most two nodes are new, they cost no more than the node, and none is an input but for the node itself. Where the
+-- node is a word, so is each new node.
 pub record IsMade (old new : List TermNode) (n : TermNode) (t : ℕ) : Type 0 where
   pub extends : Extends old new
   pub keeps : (x : TermReading) (i : ℕ) → i < length old → term_value x new i ≡ term_value x old i
@@ -44,8 +44,8 @@ pub record Separates (nodes : List TermNode) (condition met t : ℕ) : Type 0 wh
   pub first : (x : TermReading) → InRange x → term_word x nodes condition ≡ 1 → term_word x nodes t ≡ 1
   pub second : (x : TermReading) → InRange x → term_word x nodes met ≡ 1 → term_word x nodes condition ≡ 0 → term_word x nodes t ≡ 0
 
--- The new list has a place that holds a node over the old one, which it extends by at most that node. Terms of the old list keep their places, values and widths, and
--- under every reading the place has the node's value.
+-- The new list has a place that holds a node over the old one, which it extends by at most that node. Terms of the old list keep their places, values and
+-- widths, and under every reading the place has the node's value.
 pub record IsInterned (old new : List TermNode) (n : TermNode) (t : ℕ) : Type 0 where
   pub extends : Extends old new
   pub keeps : (x : TermReading) (i : ℕ) → i < length old → term_value x new i ≡ term_value x old i
@@ -58,7 +58,8 @@ pub record IsInterned (old new : List TermNode) (n : TermNode) (t : ℕ) : Type 
   pub cost : IsWithinCost old new n
   pub only : (m : TermNode) → Contains new m → Contains old m ⊎ (m ≡ n)
 
--- A list of nodes has grown: its terms keep their places, values and widths, and what is new has at most so many gates, byte loads, byte stores, joins and nodes.
+-- A list of nodes has grown: its terms keep their places, values and widths, and what is new has at most so many gates, byte loads, byte stores, joins and
+-- nodes.
 pub record Grew (old new : List TermNode) (g l s j n : ℕ) : Type 0 where
   pub extends : Extends old new
   pub keeps : (x : TermReading) (i : ℕ) → i < length old → term_value x new i ≡ term_value x old i

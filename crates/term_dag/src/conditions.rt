@@ -121,7 +121,9 @@ fn excludes(cube: Cube, other: Cube) -> bool
 
 /// Whether two conjunctions, of two literals each, have the same first literal, and else each other's negation.
 fn rejoins(first: Literal, second: Literal, other_first: Literal, other_second: Literal) -> bool
-    ensures { IsTrue result → (v : ℕ → ℕ) → v first.term.0 < 2 → v second.term.0 < 2 → bit_and (literal_value first v) (literal_value second v) + bit_and (literal_value other_first v) (literal_value other_second v) ≡ literal_value first v }
+    ensures { IsTrue result → (v : ℕ → ℕ) → v first.term.0 < 2 → v second.term.0 < 2 →
+        bit_and (literal_value first v) (literal_value second v) + bit_and (literal_value other_first v) (literal_value other_second v)
+        ≡ literal_value first v }
 {
     is_same(first, other_first) && is_opposite(second, other_second)
 }
@@ -163,7 +165,8 @@ fn without(nodes: &[Node], side: Term, term: Term) -> Term
     requires side { HasWidth (nodes_of nodes.now) 1 side.0 }
     requires place { HasWidth (nodes_of nodes.now) 1 term.0 }
     ensures place { HasWidth (nodes_of nodes.now) 1 result.0 }
-    ensures value { (x : TermReading) → InRange x → bit_or (term_word x (nodes_of nodes.now) side.0) (term_word x (nodes_of nodes.now) result.0) ≡ bit_or (term_word x (nodes_of nodes.now) side.0) (term_word x (nodes_of nodes.now) term.0) }
+    ensures value { (x : TermReading) → InRange x → bit_or (term_word x (nodes_of nodes.now) side.0) (term_word x (nodes_of nodes.now) result.0)
+        ≡ bit_or (term_word x (nodes_of nodes.now) side.0) (term_word x (nodes_of nodes.now) term.0) }
 {
     let literal = literal_of(nodes, side);
     let cube = split(nodes, term);
@@ -182,7 +185,8 @@ fn within(nodes: &[Node], side: Term, term: Term) -> Term
     requires side { HasWidth (nodes_of nodes.now) 1 side.0 }
     requires place { HasWidth (nodes_of nodes.now) 1 term.0 }
     ensures place { HasWidth (nodes_of nodes.now) 1 result.0 }
-    ensures value { (x : TermReading) → InRange x → bit_and (term_word x (nodes_of nodes.now) side.0) (term_word x (nodes_of nodes.now) result.0) ≡ bit_and (term_word x (nodes_of nodes.now) side.0) (term_word x (nodes_of nodes.now) term.0) }
+    ensures value { (x : TermReading) → InRange x → bit_and (term_word x (nodes_of nodes.now) side.0) (term_word x (nodes_of nodes.now) result.0)
+        ≡ bit_and (term_word x (nodes_of nodes.now) side.0) (term_word x (nodes_of nodes.now) term.0) }
 {
     let Node::Binary {
         op: Op::Or,
@@ -212,7 +216,8 @@ fn pair(nodes: &[Node], op: Op, left: Term, right: Term) -> Folded
     requires typed { AreTyped (nodes_of nodes.now) }
     requires left { HasWidth (nodes_of nodes.now) 1 left.0 }
     requires right { HasWidth (nodes_of nodes.now) 1 right.0 }
-    ensures { IsWordFold (nodes_of nodes.now) (result_width (op_of op) 1) (λ x. operate (op_of op) 1 (term_word x (nodes_of nodes.now) left.0) (term_word x (nodes_of nodes.now) right.0)) (op_weight (op_of op) 1) result }
+    ensures { IsWordFold (nodes_of nodes.now) (result_width (op_of op) 1)
+        (λ x. operate (op_of op) 1 (term_word x (nodes_of nodes.now) left.0) (term_word x (nodes_of nodes.now) right.0)) (op_weight (op_of op) 1) result }
 {
     let (first, second) = ordered(nodes, op, left, right);
     Folded::New(Node::Binary {
@@ -229,7 +234,9 @@ fn denied(nodes: &[Node], side: Term, term: Term) -> Option<Term>
     requires side { HasWidth (nodes_of nodes.now) 1 side.0 }
     requires place { HasWidth (nodes_of nodes.now) 1 term.0 }
     ensures place { IfSome result (λ r. HasWidth (nodes_of nodes.now) 1 r.0) }
-    ensures value { IfSome result (λ r. (x : TermReading) → InRange x → bit_and (term_word x (nodes_of nodes.now) side.0) (words.complement 1 (term_word x (nodes_of nodes.now) r.0)) ≡ bit_and (term_word x (nodes_of nodes.now) side.0) (term_word x (nodes_of nodes.now) term.0)) }
+    ensures value { IfSome result (λ r. (x : TermReading) → InRange x →
+        bit_and (term_word x (nodes_of nodes.now) side.0) (words.complement 1 (term_word x (nodes_of nodes.now) r.0))
+        ≡ bit_and (term_word x (nodes_of nodes.now) side.0) (term_word x (nodes_of nodes.now) term.0)) }
 {
     let Node::Not { term: inner, .. } = look(nodes, term) else {
         return None;
@@ -250,7 +257,8 @@ fn unless(nodes: &[Node], side: Term, term: Term) -> Folded
     requires typed { AreTyped (nodes_of nodes.now) }
     requires side { HasWidth (nodes_of nodes.now) 1 side.0 }
     requires place { HasWidth (nodes_of nodes.now) 1 term.0 }
-    ensures { IsWordFold (nodes_of nodes.now) 1 (λ x. bit_and (term_word x (nodes_of nodes.now) side.0) (words.complement 1 (term_word x (nodes_of nodes.now) term.0))) 1 result }
+    ensures { IsWordFold (nodes_of nodes.now) 1 (λ x. bit_and (term_word x (nodes_of nodes.now) side.0)
+        (words.complement 1 (term_word x (nodes_of nodes.now) term.0))) 1 result }
 {
     match look(nodes, term) {
         Node::Not { term: inner, .. } => pair(nodes, Op::And, side, inner),
@@ -263,7 +271,8 @@ fn narrowed(nodes: &[Node], left: Term, right: Term) -> Option<Folded>
     requires typed { AreTyped (nodes_of nodes.now) }
     requires left { HasWidth (nodes_of nodes.now) 1 left.0 }
     requires right { HasWidth (nodes_of nodes.now) 1 right.0 }
-    ensures { IfSome result (λ f. IsWordFold (nodes_of nodes.now) 1 (λ x. bit_and (term_word x (nodes_of nodes.now) left.0) (term_word x (nodes_of nodes.now) right.0)) 1 f) }
+    ensures { IfSome result (λ f. IsWordFold (nodes_of nodes.now) 1
+        (λ x. bit_and (term_word x (nodes_of nodes.now) left.0) (term_word x (nodes_of nodes.now) right.0)) 1 f) }
 {
     let second = within(nodes, left, right);
     if second.0 == left.0 {
@@ -293,7 +302,8 @@ fn widened(nodes: &[Node], left: Term, right: Term) -> Option<Folded>
     requires typed { AreTyped (nodes_of nodes.now) }
     requires left { HasWidth (nodes_of nodes.now) 1 left.0 }
     requires right { HasWidth (nodes_of nodes.now) 1 right.0 }
-    ensures { IfSome result (λ f. IsWordFold (nodes_of nodes.now) 1 (λ x. bit_or (term_word x (nodes_of nodes.now) left.0) (term_word x (nodes_of nodes.now) right.0)) 1 f) }
+    ensures { IfSome result (λ f. IsWordFold (nodes_of nodes.now) 1
+        (λ x. bit_or (term_word x (nodes_of nodes.now) left.0) (term_word x (nodes_of nodes.now) right.0)) 1 f) }
 {
     let second = without(nodes, left, right);
     if second.0 != right.0 {
@@ -311,7 +321,8 @@ pub fn conjunction(nodes: &[Node], left: Term, right: Term) -> Option<Folded>
     requires typed { AreTyped (nodes_of nodes.now) }
     requires left { HasWidth (nodes_of nodes.now) 1 left.0 }
     requires right { HasWidth (nodes_of nodes.now) 1 right.0 }
-    ensures { IfSome result (λ f. IsWordFold (nodes_of nodes.now) 1 (λ x. bit_and (term_word x (nodes_of nodes.now) left.0) (term_word x (nodes_of nodes.now) right.0)) 1 f) }
+    ensures { IfSome result (λ f. IsWordFold (nodes_of nodes.now) 1
+        (λ x. bit_and (term_word x (nodes_of nodes.now) left.0) (term_word x (nodes_of nodes.now) right.0)) 1 f) }
 {
     let a = split(nodes, left);
     let b = split(nodes, right);
@@ -332,7 +343,8 @@ pub fn disjunction(nodes: &[Node], left: Term, right: Term) -> Option<Folded>
     requires typed { AreTyped (nodes_of nodes.now) }
     requires left { HasWidth (nodes_of nodes.now) 1 left.0 }
     requires right { HasWidth (nodes_of nodes.now) 1 right.0 }
-    ensures { IfSome result (λ f. IsWordFold (nodes_of nodes.now) 1 (λ x. bit_or (term_word x (nodes_of nodes.now) left.0) (term_word x (nodes_of nodes.now) right.0)) 1 f) }
+    ensures { IfSome result (λ f. IsWordFold (nodes_of nodes.now) 1
+        (λ x. bit_or (term_word x (nodes_of nodes.now) left.0) (term_word x (nodes_of nodes.now) right.0)) 1 f) }
 {
     let a = split(nodes, left);
     let b = split(nodes, right);

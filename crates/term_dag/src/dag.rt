@@ -124,8 +124,8 @@ impl Dag {
         byte(self.nodes.as_slice(), words, reading, term, address)
     }
 
-    /// The place of a node as it is, which is added where it is not there: nothing is folded. The error is want of memory, or of numbers for terms; then nothing is said
-    /// of the terms.
+    /// The place of a node as it is, which is added where it is not there: nothing is folded. The error is want of memory, or of numbers for terms; then
+    /// nothing is said of the terms.
     pub fn keep(&mut self, node: Node) -> Result<Term, AllocError>
         requires { IsTypedOver self.old (node_of node) }
         ensures { IfOk result (λ t. IsInterned self.old self.new (node_of node) t.0) }

@@ -4,8 +4,8 @@
 #[derive(Clone, Copy, Debug, PartialEq, Eq, Hash)]
 pub struct Term(pub u32);
 
-/// An operator between two words of one width. The comparisons give 1 bit, the others a word of that width; a division by 0 gives all ones, and its remainder the
-/// dividend.
+/// An operator between two words of one width. The comparisons give 1 bit, the others a word of that width; a division by 0 gives all ones, and its remainder
+/// the dividend.
 #[derive(Clone, Copy, Debug, PartialEq, Eq, Hash)]
 pub enum Op {
     Plus,

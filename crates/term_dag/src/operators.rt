@@ -210,7 +210,8 @@ fn equality(nodes: &[Node], differs: bool, width: u8, left: Term, right: u64) ->
     requires some { IsWidth width }
     requires place { HasWidth (nodes_of nodes.now) width left.0 }
     requires below { right < 2 ^ width }
-    ensures { IfSome result (λ f. IsWordFold (nodes_of nodes.now) 1 (λ x. words.bit (words.differ differs (term_word x (nodes_of nodes.now) left.0 == right))) width f) }
+    ensures { IfSome result (λ f. IsWordFold (nodes_of nodes.now) 1
+        (λ x. words.bit (words.differ differs (term_word x (nodes_of nodes.now) left.0 == right))) width f) }
 {
     if width == 1 {
         return Some(bit_equality(nodes, differs, left, right));
@@ -276,7 +277,8 @@ fn from_constant(nodes: &[Node], op: Op, width: u8, left: u64, right: Term) -> O
     requires typed { AreTyped (nodes_of nodes.now) }
     requires some { IsWidth width }
     requires right { HasWidth (nodes_of nodes.now) width right.0 }
-    ensures { IfSome result (λ f. IsWordFold (nodes_of nodes.now) (result_width (op_of op) width) (λ x. operate (op_of op) width left (term_word x (nodes_of nodes.now) right.0)) (op_weight (op_of op) width) f) }
+    ensures { IfSome result (λ f. IsWordFold (nodes_of nodes.now) (result_width (op_of op) width)
+        (λ x. operate (op_of op) width left (term_word x (nodes_of nodes.now) right.0)) (op_weight (op_of op) width) f) }
 {
     match op {
         Op::Less => is_above(nodes, width, left, right),
@@ -296,7 +298,8 @@ fn to_constant(nodes: &[Node], op: Op, width: u8, left: Term, right: u64) -> Opt
     requires some { IsWidth width }
     requires left { HasWidth (nodes_of nodes.now) width left.0 }
     requires below { right < 2 ^ width }
-    ensures { IfSome result (λ f. IsWordFold (nodes_of nodes.now) (result_width (op_of op) width) (λ x. operate (op_of op) width (term_word x (nodes_of nodes.now) left.0) right) (op_weight (op_of op) width) f) }
+    ensures { IfSome result (λ f. IsWordFold (nodes_of nodes.now) (result_width (op_of op) width)
+        (λ x. operate (op_of op) width (term_word x (nodes_of nodes.now) left.0) right) (op_weight (op_of op) width) f) }
 {
     match op {
         Op::Less => is_below(nodes, width, left, right),
@@ -313,7 +316,8 @@ fn to_constant(nodes: &[Node], op: Op, width: u8, left: Term, right: u64) -> Opt
 /// A shift by a constant that is at least the width: no bit is left, but for the sign.
 fn shifted_out(op: Op, width: u8, left: Term, right: u64) -> Option<Folded>
     requires { IsWidth width }
-    ensures { IfSome result (λ f. (ns : List TermNode) → AreTyped ns → HasWidth ns width left.0 → IsWordFold ns (result_width (op_of op) width) (λ x. operate (op_of op) width (term_word x ns left.0) right) (op_weight (op_of op) width) f) }
+    ensures { IfSome result (λ f. (ns : List TermNode) → AreTyped ns → HasWidth ns width left.0 →
+        IsWordFold ns (result_width (op_of op) width) (λ x. operate (op_of op) width (term_word x ns left.0) right) (op_weight (op_of op) width) f) }
 {
     if right < width as u64 {
         return None;
@@ -333,7 +337,8 @@ fn with_constant(nodes: &[Node], op: Op, width: u8, left: Term, right: u64) -> O
     requires some { IsWidth width }
     requires left { HasWidth (nodes_of nodes.now) width left.0 }
     requires below { right < 2 ^ width }
-    ensures { IfSome result (λ f. IsWordFold (nodes_of nodes.now) (result_width (op_of op) width) (λ x. operate (op_of op) width (term_word x (nodes_of nodes.now) left.0) right) (op_weight (op_of op) width) f) }
+    ensures { IfSome result (λ f. IsWordFold (nodes_of nodes.now) (result_width (op_of op) width)
+        (λ x. operate (op_of op) width (term_word x (nodes_of nodes.now) left.0) right) (op_weight (op_of op) width) f) }
 {
     match op {
         Op::Plus => Some(raised(nodes, width, left, right)),
@@ -373,7 +378,8 @@ fn with_itself(nodes: &[Node], op: Op, width: u8, term: Term) -> Option<Folded>
     requires typed { AreTyped (nodes_of nodes.now) }
     requires some { IsWidth width }
     requires place { HasWidth (nodes_of nodes.now) width term.0 }
-    ensures { IfSome result (λ f. IsWordFold (nodes_of nodes.now) (result_width (op_of op) width) (λ x. operate (op_of op) width (term_word x (nodes_of nodes.now) term.0) (term_word x (nodes_of nodes.now) term.0)) 0 f) }
+    ensures { IfSome result (λ f. IsWordFold (nodes_of nodes.now) (result_width (op_of op) width)
+        (λ x. operate (op_of op) width (term_word x (nodes_of nodes.now) term.0) (term_word x (nodes_of nodes.now) term.0)) 0 f) }
 {
     if let Op::And = op {
         return Some(Folded::Old(term));
@@ -394,7 +400,8 @@ fn sums(nodes: &[Node], differs: bool, width: u8, left: Term, right: Term) -> Op
     requires some { IsWidth width }
     requires left { HasWidth (nodes_of nodes.now) width left.0 }
     requires right { HasWidth (nodes_of nodes.now) width right.0 }
-    ensures { IfSome result (λ f. IsWordFold (nodes_of nodes.now) 1 (λ x. words.bit (words.differ differs (term_word x (nodes_of nodes.now) left.0 == term_word x (nodes_of nodes.now) right.0))) 0 f) }
+    ensures { IfSome result (λ f. IsWordFold (nodes_of nodes.now) 1
+        (λ x. words.bit (words.differ differs (term_word x (nodes_of nodes.now) left.0 == term_word x (nodes_of nodes.now) right.0))) 0 f) }
 {
     let a = parts(nodes, width, left);
     let b = parts(nodes, width, right);
@@ -410,7 +417,8 @@ fn between(nodes: &[Node], op: Op, width: u8, left: Term, right: Term) -> Option
     requires some { IsWidth width }
     requires left { HasWidth (nodes_of nodes.now) width left.0 }
     requires right { HasWidth (nodes_of nodes.now) width right.0 }
-    ensures { IfSome result (λ f. IsWordFold (nodes_of nodes.now) (result_width (op_of op) width) (λ x. operate (op_of op) width (term_word x (nodes_of nodes.now) left.0) (term_word x (nodes_of nodes.now) right.0)) (op_weight (op_of op) width) f) }
+    ensures { IfSome result (λ f. IsWordFold (nodes_of nodes.now) (result_width (op_of op) width)
+        (λ x. operate (op_of op) width (term_word x (nodes_of nodes.now) left.0) (term_word x (nodes_of nodes.now) right.0)) (op_weight (op_of op) width) f) }
 {
     if left.0 == right.0 {
         return with_itself(nodes, op, width, left);
@@ -443,7 +451,9 @@ fn in_order(nodes: &[Node], op: Op, width: u8, left: Term, right: Term) -> Folde
     requires some { IsWidth width }
     requires left { HasWidth (nodes_of nodes.now) width left.0 }
     requires right { HasWidth (nodes_of nodes.now) width right.0 }
-    ensures { IsWordFold (nodes_of nodes.now) (result_width (op_of op) width) (λ x. operate (op_of op) width (term_word x (nodes_of nodes.now) left.0) (term_word x (nodes_of nodes.now) right.0)) (op_weight (op_of op) width) result }
+    ensures { IsWordFold (nodes_of nodes.now) (result_width (op_of op) width)
+        (λ x. operate (op_of op) width (term_word x (nodes_of nodes.now) left.0) (term_word x (nodes_of nodes.now) right.0))
+        (op_weight (op_of op) width) result }
 {
     let kept = Folded::New(Node::Binary {
         op,
@@ -475,7 +485,9 @@ pub fn binary(nodes: &[Node], op: Op, width: u8, left: Term, right: Term) -> Fol
     requires some { IsWidth width }
     requires left { HasWidth (nodes_of nodes.now) width left.0 }
     requires right { HasWidth (nodes_of nodes.now) width right.0 }
-    ensures { IsWordFold (nodes_of nodes.now) (result_width (op_of op) width) (λ x. operate (op_of op) width (term_word x (nodes_of nodes.now) left.0) (term_word x (nodes_of nodes.now) right.0)) (op_weight (op_of op) width) result }
+    ensures { IsWordFold (nodes_of nodes.now) (result_width (op_of op) width)
+        (λ x. operate (op_of op) width (term_word x (nodes_of nodes.now) left.0) (term_word x (nodes_of nodes.now) right.0))
+        (op_weight (op_of op) width) result }
 {
     let (first, second) = ordered(nodes, op, left, right);
     in_order(nodes, op, width, first, second)

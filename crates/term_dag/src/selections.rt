@@ -55,7 +55,8 @@ fn chosen(nodes: &[Node], width: u8, condition: Term, when_true: Term, when_fals
     requires condition { HasWidth (nodes_of nodes.now) 1 condition.0 }
     requires when_true { HasWidth (nodes_of nodes.now) width when_true.0 }
     requires when_false { HasWidth (nodes_of nodes.now) width when_false.0 }
-    ensures { IsWordFold (nodes_of nodes.now) width (λ x. select (term_word x (nodes_of nodes.now) condition.0) (term_word x (nodes_of nodes.now) when_true.0) (term_word x (nodes_of nodes.now) when_false.0)) width result }
+    ensures { IsWordFold (nodes_of nodes.now) width (λ x. select (term_word x (nodes_of nodes.now) condition.0) (term_word x (nodes_of nodes.now) when_true.0)
+        (term_word x (nodes_of nodes.now) when_false.0)) width result }
 {
     let kept = Folded::New(Node::Select {
         width,
@@ -96,7 +97,8 @@ fn positive(nodes: &[Node], width: u8, condition: Term, when_true: Term, when_fa
     requires condition { HasWidth (nodes_of nodes.now) 1 condition.0 }
     requires when_true { HasWidth (nodes_of nodes.now) width when_true.0 }
     requires when_false { HasWidth (nodes_of nodes.now) width when_false.0 }
-    ensures { IsWordFold (nodes_of nodes.now) width (λ x. select (term_word x (nodes_of nodes.now) condition.0) (term_word x (nodes_of nodes.now) when_true.0) (term_word x (nodes_of nodes.now) when_false.0)) width result }
+    ensures { IsWordFold (nodes_of nodes.now) width (λ x. select (term_word x (nodes_of nodes.now) condition.0) (term_word x (nodes_of nodes.now) when_true.0)
+        (term_word x (nodes_of nodes.now) when_false.0)) width result }
 {
     if let Some(bit) = constant(nodes, condition) {
         return Folded::Old(if bit > 0 { when_true } else { when_false });
@@ -122,7 +124,8 @@ pub fn select(
     requires condition { HasWidth (nodes_of nodes.now) 1 condition.0 }
     requires when_true { HasWidth (nodes_of nodes.now) width when_true.0 }
     requires when_false { HasWidth (nodes_of nodes.now) width when_false.0 }
-    ensures { IsWordFold (nodes_of nodes.now) width (λ x. select (term_word x (nodes_of nodes.now) condition.0) (term_word x (nodes_of nodes.now) when_true.0) (term_word x (nodes_of nodes.now) when_false.0)) width result }
+    ensures { IsWordFold (nodes_of nodes.now) width (λ x. select (term_word x (nodes_of nodes.now) condition.0) (term_word x (nodes_of nodes.now) when_true.0)
+        (term_word x (nodes_of nodes.now) when_false.0)) width result }
 {
     match look(nodes, condition) {
         Node::Not { term, .. } => positive(nodes, width, term, when_false, when_true),

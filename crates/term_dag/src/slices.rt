@@ -223,7 +223,8 @@ pub fn concat(nodes: &[Node], high: u8, low: u8, upper: Term, lower: Term) -> Fo
     requires few { high + low ≤ 64 }
     requires upper { HasWidth (nodes_of nodes.now) high upper.0 }
     requires lower { HasWidth (nodes_of nodes.now) low lower.0 }
-    ensures { IsWordFold (nodes_of nodes.now) (high + low) (λ x. words.concat low (term_word x (nodes_of nodes.now) upper.0) (term_word x (nodes_of nodes.now) lower.0)) 0 result }
+    ensures { IsWordFold (nodes_of nodes.now) (high + low) (λ x. words.concat low (term_word x (nodes_of nodes.now) upper.0)
+        (term_word x (nodes_of nodes.now) lower.0)) 0 result }
 {
     if let Some(slice) = neighbours(nodes, upper, lower) {
         return extract(nodes, slice.hi, slice.lo, slice.term);

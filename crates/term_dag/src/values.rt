@@ -193,7 +193,8 @@ fn loaded(
     requires some { IsBytes bytes }
     requires from { HasWidth (nodes_of nodes.now) 0 from.0 }
     requires address { HasWidth (nodes_of nodes.now) 32 address.0 }
-    ensures { result ≡ memory.load (endian big) bytes (term_value (reading_of reading.now) (nodes_of nodes.now) from.0).bytes (term_word (reading_of reading.now) (nodes_of nodes.now) address.0) }
+    ensures { result ≡ memory.load (endian big) bytes (term_value (reading_of reading.now) (nodes_of nodes.now) from.0).bytes
+        (term_word (reading_of reading.now) (nodes_of nodes.now) address.0) }
 {
     let first = operand(nodes, words, reading, 32, address) as u32;
     if big {

@@ -19,7 +19,8 @@ differs_other a b h = ap (λ (z : Bool). if z then 0 else 1) (ne_eqb a b h)
 -- where the two are one term
 pub chosen_same : (ns : List TermNode) (w c a b : ℕ) → a ≡ b → HasWidth ns w a → IsChosen ns ns w c a b a
 chosen_same ns w c a b e h = record {
-  grew = grew_more ns ns 0 0 0 0 0 (w * differs a b) 0 0 0 (2 * differs a b) (omega arith) (omega arith) (omega arith) (omega arith) (omega arith) (grew_none ns);
+  grew = grew_more ns ns 0 0 0 0 0 (w * differs a b) 0 0 0 (2 * differs a b) (omega arith) (omega arith) (omega arith) (omega arith) (omega arith)
+      (grew_none ns);
   inputs = inputs_none ns (λ m. ⊥);
   place = h;
   kept = λ k. refl;
@@ -32,8 +33,10 @@ pub chosen_made : (old new : List TermNode) (w c a b t : ℕ) → (a ≡ b → �
 chosen_made old new w c a b t h k =
     let d = differs_other a b h in
     let e : w * differs a b ≡ w = ap (λ z. w * z) d ∙ (let z : w * 1 ≡ w = omega arith in z) in
-    let v : (x : TermReading) → InRange x → term_word x new t ≡ select (term_word x old c) (term_word x old a) (term_word x old b) = λ x g. ap (λ z. z.word) (k.value x g) in record {
-      grew = grew_more old new w 0 0 0 2 (w * differs a b) 0 0 0 (2 * differs a b) (omega (arith, e)) (omega arith) (omega arith) (omega arith) (omega (arith, d)) (made_grew old new (SelectNode w c a b) t k);
+    let v : (x : TermReading) → InRange x → term_word x new t
+    ≡ select (term_word x old c) (term_word x old a) (term_word x old b) = λ x g. ap (λ z. z.word) (k.value x g) in record {
+      grew = grew_more old new w 0 0 0 2 (w * differs a b) 0 0 0 (2 * differs a b) (omega (arith, e)) (omega arith) (omega arith) (omega arith)
+          (omega (arith, d)) (made_grew old new (SelectNode w c a b) t k);
       inputs = made_inputs old new (SelectNode w c a b) t (λ m. ⊥) k (λ i. i);
       place = made_width old new (SelectNode w c a b) t w k refl;
       kept = λ e. absurd (h e);
@@ -70,7 +73,8 @@ each_more P ts t f h i l =
     ]
 
 -- rows with one term more
-more_chosen : (old mid new : List TermNode) (w c : ℕ) (xs ys ts : List ℕ) (a b t : ℕ) → length xs ≡ length ys → HasWidth old 1 c → HasWidth old w a → HasWidth old w b →
+more_chosen : (old mid new : List TermNode) (w c : ℕ) (xs ys ts : List ℕ) (a b t : ℕ) → length xs ≡ length ys → HasWidth old 1 c → HasWidth old w a →
+    HasWidth old w b →
     AreChosen old mid w c xs ys ts → IsChosen mid new w c a b t → AreChosen old new w c (xs ++ a ∷ []) (ys ++ b ∷ []) (ts ++ t ∷ [])
 more_chosen old mid new w c xs ys ts a b t e hc ha hb p q =
     let d = differing_push xs ys a b e in
@@ -82,7 +86,8 @@ more_chosen old mid new w c xs ys ts a b t e hc ha hb p q =
           (omega (arith, f)) (omega arith) (omega arith) (omega arith) (omega (arith, d)) (grew_on old mid new _ _ _ _ _ _ _ _ _ _ p.grew q.grew);
       inputs = inputs_on old mid new (λ m. ⊥) p.inputs q.inputs;
       count = omega (arith, p.count);
-      wide = λ i h. each_more (λ j v. HasWidth new w v) ts t (λ j k. grew_width mid new _ _ _ _ _ w (slice_index ts j) q.grew (p.wide j k)) q.place i (omega arith);
+      wide = λ i h. each_more (λ j v. HasWidth new w v) ts t (λ j k. grew_width mid new _ _ _ _ _ w (slice_index ts j) q.grew (p.wide j k)) q.place i
+          (omega arith);
       kept = λ i h.
           each_more (λ j v. slice_index (xs ++ a ∷ []) j ≡ slice_index (ys ++ b ∷ []) j → v ≡ slice_index (xs ++ a ∷ []) j) ts t
           (λ j k s.

@@ -27,14 +27,16 @@ more_of_form low n k f g h e (ChoiceNode b) i c = c
 more_of_form low n k f g h e (BaseNode b) i c = c
 more_of_form low n k f g h e m i c = absurd i
 
-pub more_registers : (old mid new : List TermNode) (low n : ℕ) (ts us : List Term) (t : Term) → us ≡ ts ++ t ∷ [] → AreEntryRegisters old mid low n (places ts) →
+pub more_registers : (old mid new : List TermNode) (low n : ℕ) (ts us : List Term) (t : Term) → us ≡ ts ++ t ∷ [] →
+    AreEntryRegisters old mid low n (places ts) →
     IsInterned mid new (RegisterNode (low + n)) t.0 → AreEntryRegisters old new low (n + 1) (places us)
 more_registers old mid new low n ts us t e p q =
     let grew = interned_grew mid new (RegisterNode (low + n)) t.0 q in
     let m : length (places ts ++ t.0 ∷ []) ≡ length (places ts) + 1 = length-append (places ts) (t.0 ∷ []) in
     let all : AreEntryRegisters old new low (n + 1) (places ts ++ t.0 ∷ []) = record {
       grew = grew_on old mid new _ _ _ _ _ _ _ _ _ _ p.grew grew;
-      inputs = inputs_on old mid new (IsOfForm low (n + 1) 0) (inputs_more old mid (IsOfForm low n 0) (IsOfForm low (n + 1) 0) (more_of_form low n (n + 1) 0 0 (omega arith) (omega arith)) p.inputs)
+      inputs = inputs_on old mid new (IsOfForm low (n + 1) 0)
+          (inputs_more old mid (IsOfForm low n 0) (IsOfForm low (n + 1) 0) (more_of_form low n (n + 1) 0 0 (omega arith) (omega arith)) p.inputs)
           (interned_inputs mid new (RegisterNode (low + n)) t.0 (IsOfForm low (n + 1) 0) q (λ i. (omega arith, omega arith)));
       count = omega (arith, p.count, m);
       wide = λ i h. each_more (λ j v. HasWidth new 32 v) (places ts) t.0 (λ j k. grew_width mid new _ _ _ _ _ 32 (slice_index (places ts) j) grew (p.wide j k))
@@ -61,7 +63,8 @@ more_flags old mid new n ts us t e p q =
     let m : length (places ts ++ t.0 ∷ []) ≡ length (places ts) + 1 = length-append (places ts) (t.0 ∷ []) in
     let all : AreEntryFlags old new (n + 1) (places ts ++ t.0 ∷ []) = record {
       grew = grew_on old mid new _ _ _ _ _ _ _ _ _ _ p.grew grew;
-      inputs = inputs_on old mid new (IsOfForm 0 0 (n + 1)) (inputs_more old mid (IsOfForm 0 0 n) (IsOfForm 0 0 (n + 1)) (more_of_form 0 0 0 n (n + 1) (omega arith) (omega arith)) p.inputs)
+      inputs = inputs_on old mid new (IsOfForm 0 0 (n + 1)) (inputs_more old mid (IsOfForm 0 0 n) (IsOfForm 0 0 (n + 1))
+          (more_of_form 0 0 0 n (n + 1) (omega arith) (omega arith)) p.inputs)
           (interned_inputs mid new (FlagNode n) t.0 (IsOfForm 0 0 (n + 1)) q (λ i. omega arith));
       count = omega (arith, p.count, m);
       wide = λ i h. each_more (λ j v. HasWidth new 1 v) (places ts) t.0 (λ j k. grew_width mid new _ _ _ _ _ 1 (slice_index (places ts) j) grew (p.wide j k))

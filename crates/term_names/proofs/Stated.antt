@@ -26,7 +26,8 @@ number_at n (suc count) zero h = omega arith
 number_at n (suc count) (suc i) h = number_at (n + 1) count i (omega arith) ∙ (let z : n + 1 + i ≡ n + suc i = omega arith in z)
 
 -- terms of the widths of what a form has, by rows
-pub rows_are_names : (nodes : List TermNode) (n : Names) → AreWide nodes 32 (places n.registers.items) → AreWide nodes 1 (places n.flags.items) → HasMemory nodes n.memory.0 →
+pub rows_are_names : (nodes : List TermNode) (n : Names) → AreWide nodes 32 (places n.registers.items) → AreWide nodes 1 (places n.flags.items) →
+    HasMemory nodes n.memory.0 →
     AreNames (form_of n) nodes (names_of n)
 rows_are_names nodes n ws bs m =
     let k = length-map n.registers.items (λ (t : Term). t.0) in
@@ -40,7 +41,8 @@ rows_are_names nodes n ws bs m =
     }
 
 -- Two states' terms, row by row.
-pub states_selected : (old one two new : List TermNode) (c : ℕ) (a b n : Names) → HasWidth old 1 c → HaveSameForm a b → AreNames (form_of a) old (names_of a) → AreNames (form_of b) old (names_of b) →
+pub states_selected : (old one two new : List TermNode) (c : ℕ) (a b n : Names) → HasWidth old 1 c → HaveSameForm a b → AreNames (form_of a) old (names_of a) →
+    AreNames (form_of b) old (names_of b) →
     n.first ≡ a.first → AreChosen old one 32 c (places a.registers.items) (places b.registers.items) (places n.registers.items) →
     AreChosen one two 1 c (places a.flags.items) (places b.flags.items) (places n.flags.items) → IsSelectedMemory two new c a.memory.0 b.memory.0 n.memory.0 →
     AreSelected old new c a b n
@@ -48,7 +50,8 @@ states_selected old one two new c a b n hc form na nb first p q r =
     let dot = λ (t : Term). t.0 in
     let ka = length-map a.registers.items dot in let kb = length-map b.registers.items dot in let kn = length-map n.registers.items dot in
     let la = length-map a.flags.items dot in let lb = length-map b.flags.items dot in let ln = length-map n.flags.items dot in
-    let ca = count_of a.first (length a.registers.items) in let cb = count_of b.first (length b.registers.items) in let cn = count_of n.first (length n.registers.items) in
+    let ca = count_of a.first (length a.registers.items) in let cb = count_of b.first (length b.registers.items) in
+    let cn = count_of n.first (length n.registers.items) in
     let registers : length a.registers.items ≡ length n.registers.items = omega (arith, p.count) in
     let flags : length a.flags.items ≡ length n.flags.items = omega (arith, q.count) in
     let g2 = grew_on old one two _ _ _ _ _ _ _ _ _ _ p.grew q.grew in
@@ -58,11 +61,15 @@ states_selected old one two new c a b n hc form na nb first p q r =
     ap (λ z. from_to z (length n.registers.items)) first ∙ ap (from_to a.first) (sym registers) in
     let others : from_to n.first (length n.registers.items) ≡ from_to b.first (length b.registers.items) =
     ranges ∙ ap (λ z. from_to z (length a.registers.items)) form.first ∙ ap (from_to b.first) form.registers in
-    let word : (x : TermReading) (t : ℕ) → t < length one → term_word x new t ≡ term_word x one t = λ x t h. ap (λ (z : TermValue). z.word) (last.keeps x t h) in
-    let bit : (x : TermReading) (t : ℕ) → t < length two → term_word x new t ≡ term_word x two t = λ x t h. ap (λ (z : TermValue). z.word) (r.grew.keeps x t h) in
-    let before : (x : TermReading) (t : ℕ) → t < length old → term_word x one t ≡ term_word x old t = λ x t h. ap (λ (z : TermValue). z.word) (p.grew.keeps x t h) in
+    let word : (x : TermReading) (t : ℕ) → t < length one → term_word x new t
+    ≡ term_word x one t = λ x t h. ap (λ (z : TermValue). z.word) (last.keeps x t h) in
+    let bit : (x : TermReading) (t : ℕ) → t < length two → term_word x new t
+    ≡ term_word x two t = λ x t h. ap (λ (z : TermValue). z.word) (r.grew.keeps x t h) in
+    let before : (x : TermReading) (t : ℕ) → t < length old →
+    term_word x one t ≡ term_word x old t = λ x t h. ap (λ (z : TermValue). z.word) (p.grew.keeps x t h) in
     let condition : (x : TermReading) (v : ℕ) → term_word x old c ≡ v → term_word x one c ≡ v = λ x v h. before x c hc.0 ∙ h in
-    let later : (x : TermReading) (v : ℕ) → term_word x old c ≡ v → term_word x two c ≡ v = λ x v h. ap (λ (z : TermValue). z.word) (g2.keeps x c hc.0) ∙ h in record {
+    let later : (x : TermReading) (v : ℕ) → term_word x old c ≡ v →
+    term_word x two c ≡ v = λ x v h. ap (λ (z : TermValue). z.word) (g2.keeps x c hc.0) ∙ h in record {
       form = record { first = sym first; registers = registers; flags = flags };
       grew = grew_more old new _ _ _ _ _ (differing_bits a b) 0 0 (differing_memory a b) (2 * differing_terms a b)
           (omega arith) (omega arith) (omega arith) (omega arith) (omega arith) all;
@@ -73,7 +80,8 @@ states_selected old one two new c a b n hc form na nb first p q r =
       kept_flags = λ f h. q.kept f (omega arith);
       kept_memory = r.kept;
       when_true = λ x g e v d. record {
-        registers = λ i h. word x (slice_index (places n.registers.items) i) (p.wide i (omega arith)).0 ∙ p.when_true x g e i (omega arith) ∙ d.registers i (omega arith)
+        registers = λ i h. word x (slice_index (places n.registers.items) i) (p.wide i (omega arith)).0 ∙ p.when_true x g e i (omega arith) ∙ d.registers i
+            (omega arith)
             ∙ ap (λ z. v.regs (slice_index z i)) (sym ranges);
         flags = λ f h. bit x (slice_index (places n.flags.items) f) (q.wide f (omega arith)).0 ∙ q.when_true x g (condition x 1 e) f (omega arith)
             ∙ before x (slice_index (places a.flags.items) f) (na.bits f (omega arith)).0 ∙ d.flags f (omega arith);
@@ -90,8 +98,10 @@ states_selected old one two new c a b n hc form na nb first p q r =
 
 -- the same, by the slices of the rows
 pub slices_selected : (old one two new : List TermNode) (c : ℕ) (a b n : Names) (ra rb fa fb : List Term) → HasWidth old 1 c → HaveSameForm a b →
-    AreNames (form_of a) old (names_of a) → AreNames (form_of b) old (names_of b) → ra ≡ a.registers.items → rb ≡ b.registers.items → fa ≡ a.flags.items → fb ≡ b.flags.items →
-    n.first ≡ a.first → AreChosen old one 32 c (places ra) (places rb) (places n.registers.items) → AreChosen one two 1 c (places fa) (places fb) (places n.flags.items) →
+    AreNames (form_of a) old (names_of a) → AreNames (form_of b) old (names_of b) → ra ≡ a.registers.items → rb ≡ b.registers.items → fa ≡ a.flags.items →
+    fb ≡ b.flags.items →
+    n.first ≡ a.first → AreChosen old one 32 c (places ra) (places rb) (places n.registers.items) →
+    AreChosen one two 1 c (places fa) (places fb) (places n.flags.items) →
     IsSelectedMemory two new c a.memory.0 b.memory.0 n.memory.0 → AreSelected old new c a b n
 slices_selected old one two new c a b n ra rb fa fb hc form na nb era erb efa efb first p q r =
     states_selected old one two new c a b n hc form na nb first
@@ -101,7 +111,8 @@ slices_selected old one two new c a b n ra rb fa fb hc form na nb era erb efa ef
     (subst (λ (z : List Term). AreChosen one two 1 c (places z) (places fb) (places n.flags.items)) efa q)) r
 
 -- the terms at entry, row by row
-pub states_at_entry : (old one two new : List TermNode) (low words bits : ℕ) (n : Names) → n.first ≡ low → AreEntryRegisters old one low words (places n.registers.items) →
+pub states_at_entry : (old one two new : List TermNode) (low words bits : ℕ) (n : Names) → n.first ≡ low →
+    AreEntryRegisters old one low words (places n.registers.items) →
     AreEntryFlags one two bits (places n.flags.items) → IsInterned two new MemoryNode n.memory.0 → AreEntryNames old new low words bits n
 states_at_entry old one two new low words bits n first p q r =
     let dot = λ (t : Term). t.0 in
@@ -122,11 +133,14 @@ states_at_entry old one two new low words bits n first p q r =
           (inputs_more one two (IsOfForm 0 0 bits) (IsOfForm low words bits) (flags_of_form low words bits) q.inputs))
           (interned_inputs two new MemoryNode n.memory.0 (IsOfForm low words bits) r (λ i. absurd i));
       names = rows_are_names new n (λ i h. grew_width one new _ _ _ _ _ 32 (slice_index (places n.registers.items) i) last (p.wide i h))
-          (λ i h. grew_width two new _ _ _ _ _ 1 (slice_index (places n.flags.items) i) memory (q.wide i h)) (interned_width two new MemoryNode n.memory.0 0 r refl);
+          (λ i h. grew_width two new _ _ _ _ _ 1 (slice_index (places n.flags.items) i) memory (q.wide i h))
+          (interned_width two new MemoryNode n.memory.0 0 r refl);
       denotes = λ x g. record {
-        registers = λ i h. ap (λ (z : TermValue). z.word) (last.keeps x (slice_index (places n.registers.items) i) (p.wide i (omega arith)).0) ∙ p.value x i (omega arith)
+        registers = λ i h. ap (λ (z : TermValue). z.word) (last.keeps x (slice_index (places n.registers.items) i) (p.wide i (omega arith)).0) ∙ p.value x i
+            (omega arith)
             ∙ ap x.regs (sym (number_at n.first (length n.registers.items) i (omega arith) ∙ ap (λ z. z + i) first));
-        flags = λ f h. ap (λ (z : TermValue). z.word) (memory.keeps x (slice_index (places n.flags.items) f) (q.wide f (omega arith)).0) ∙ q.value x f (omega arith);
+        flags = λ f h. ap (λ (z : TermValue). z.word) (memory.keeps x (slice_index (places n.flags.items) f) (q.wide f (omega arith)).0) ∙ q.value x f
+            (omega arith);
         memory = ap (λ (z : TermValue). z.bytes) (r.value x);
       };
     }

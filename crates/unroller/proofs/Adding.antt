@@ -23,21 +23,27 @@ map_append f [] vs = refl
 map_append f (u ∷ us) vs = ap (λ l. f u ∷ l) (map_append f us vs)
 
 -- the numbers of some ends and of one more, if there is one
-pub map_listed : (f : End → ℕ) (jumps : List End) (i : ℕ) (next o : Option End) (found grown : List ℕ) → length jumps ≤ i → found ≡ map f (take i jumps) → next ≡ o
+pub map_listed : (f : End → ℕ) (jumps : List End) (i : ℕ) (next o : Option End) (found grown : List ℕ) → length jumps ≤ i → found ≡ map f (take i jumps) →
+    next ≡ o
     → grown ≡ found ++ map f (listed o) → grown ≡ map f (jumps ++ listed next)
 map_listed f jumps i next o found grown le is e more =
-    more ∙ ap (λ (l : List ℕ). l ++ map f (listed o)) (is ∙ ap (map f) (take_whole jumps i le)) ∙ sym (map_append f jumps (listed o)) ∙ ap (λ (z : Option End). map f (jumps ++ listed z)) (sym e)
+    more ∙ ap (λ (l : List ℕ). l ++ map f (listed o)) (is ∙ ap (map f) (take_whole jumps i le)) ∙ sym (map_append f jumps (listed o)) ∙ ap
+    (λ (z : Option End). map f (jumps ++ listed z)) (sym e)
 
 -- an end is looked for from the front on
-any_drop : (other : End) (ends : List End) (i : ℕ) (d : End) → i < length ends → is_among (drop i ends) other ≡ (is_same (get_or ends i d) other || is_among (drop (i + 1) ends) other)
+any_drop : (other : End) (ends : List End) (i : ℕ) (d : End) → i < length ends →
+    is_among (drop i ends) other ≡ (is_same (get_or ends i d) other || is_among (drop (i + 1) ends) other)
 any_drop other [] i d w = absurd (omega arith)
 any_drop other (e ∷ ends) zero d w = refl
-any_drop other (e ∷ ends) (suc i) d w = let z : suc (i + 1) ≡ suc i + 1 = omega arith in any_drop other ends i d (omega arith) ∙ ap (λ (n : ℕ). is_same (get_or ends i d) other || is_among (drop n (e ∷ ends)) other) z
+any_drop other (e ∷ ends) (suc i) d w = let z : suc (i + 1) ≡ suc i + 1 = omega arith in any_drop other ends i d (omega arith) ∙ ap
+    (λ (n : ℕ). is_same (get_or ends i d) other || is_among (drop n (e ∷ ends)) other) z
 
-pub found_here : (other : End) (ends : List End) (i : ℕ) (d : End) → i < length ends → is_among ends other ≡ is_among (drop i ends) other → is_same (get_or ends i d) other ≡ true → is_among ends other ≡ true
+pub found_here : (other : End) (ends : List End) (i : ℕ) (d : End) → i < length ends → is_among ends other ≡ is_among (drop i ends) other →
+    is_same (get_or ends i d) other ≡ true → is_among ends other ≡ true
 found_here other ends i d w so e = so ∙ any_drop other ends i d w ∙ ap (λ (b : Bool). b || is_among (drop (i + 1) ends) other) e
 
-pub not_here : (other : End) (ends : List End) (i : ℕ) (d : End) → i < length ends → is_among ends other ≡ is_among (drop i ends) other → is_same (get_or ends i d) other ≡ false
+pub not_here : (other : End) (ends : List End) (i : ℕ) (d : End) → i < length ends → is_among ends other ≡ is_among (drop i ends) other →
+    is_same (get_or ends i d) other ≡ false
     → is_among ends other ≡ is_among (drop (i + 1) ends) other
 not_here other ends i d w so e = so ∙ any_drop other ends i d w ∙ ap (λ (b : Bool). b || is_among (drop (i + 1) ends) other) e
 
@@ -58,14 +64,17 @@ added_none keys next both [] old = ([], nothing_more old, tt)
 added_none keys next both (t ∷ targets) old = ([], nothing_more old, tt)
 
 pub added_more : (keys : List ℕ) (next : Option End) (both : Bool) (targets : List ℕ) (i : ℕ) (old new newer : List Edge) (e : Edge) → i < length targets
-    → IsLedTo keys next both (get_or targets i 0) e → AreAddedTo keys next both (take i targets) old new → newer ≡ new ++ e ∷ [] → AreAddedTo keys next both (take (i + 1) targets) old newer
+    → IsLedTo keys next both (get_or targets i 0) e → AreAddedTo keys next both (take i targets) old new → newer ≡ new ++ e ∷ [] →
+    AreAddedTo keys next both (take (i + 1) targets) old newer
 added_more keys next both targets i old new newer e w led so more = (
   so.0 ++ e ∷ [],
   more ∙ ap (λ (l : List Edge). l ++ e ∷ []) so.1 ∙ regroup old so.0 (e ∷ []),
-  subst (λ (l : List ℕ). AllZip (IsLedTo keys next both) l (so.0 ++ e ∷ [])) (sym (take_more targets i 0 w)) (zip_more (IsLedTo keys next both) (take i targets) so.0 (get_or targets i 0) e so.2 led),
+  subst (λ (l : List ℕ). AllZip (IsLedTo keys next both) l (so.0 ++ e
+      ∷ [])) (sym (take_more targets i 0 w)) (zip_more (IsLedTo keys next both) (take i targets) so.0 (get_or targets i 0) e so.2 led),
 )
 
-pub added_all : (keys : List ℕ) (next : Option End) (both : Bool) (targets : List ℕ) (i : ℕ) (old new : List Edge) → length targets ≤ i → AreAddedTo keys next both (take i targets) old new
+pub added_all : (keys : List ℕ) (next : Option End) (both : Bool) (targets : List ℕ) (i : ℕ) (old new : List Edge) → length targets ≤ i →
+    AreAddedTo keys next both (take i targets) old new
     → AreAddedTo keys next both targets old new
 added_all keys next both targets i old new le so = subst (λ (l : List ℕ). AreAddedTo keys next both l old new) (take_whole targets i le) so
 
@@ -73,37 +82,52 @@ frame_keeps : (frames rest : List Frame) (n : ℕ) (f : Frame) → frame_at fram
 frame_keeps frames rest zero f e = absurd (cc)
 frame_keeps frames rest (suc i) f e = keeps frames rest i f e
 
-called_keeps : (n : Node) (stack : ℕ) (frames rest grown : List Frame) (called : ℕ) → grown ≡ frames ++ rest → IsCalledBy n stack frames called → IsCalledBy n stack grown called
+called_keeps : (n : Node) (stack : ℕ) (frames rest grown : List Frame) (called : ℕ) → grown ≡ frames ++ rest → IsCalledBy n stack frames called →
+    IsCalledBy n stack grown called
 called_keeps n stack frames rest grown called is by x c l =
-    subst (λ (z : List Frame). frame_at z called ≡ Some (frame (add 32 n.at 4) stack)) (sym is) (frame_keeps frames rest called (frame (add 32 n.at 4) stack) (by x c l))
+    subst (λ (z : List Frame). frame_at z called ≡ Some (frame (add 32 n.at 4) stack)) (sym is)
+    (frame_keeps frames rest called (frame (add 32 n.at 4) stack) (by x c l))
 
-pub called_more : (g : Graph) (keys : List ℕ) (frames grown : List Frame) (i : ℕ) (found more : List ℕ) (n : Node) (number : ℕ) → AreCalled g keys frames i found
-    → more ≡ found ++ number ∷ [] → Contains g.nodes.items n → n.at ≡ address_of (get_or keys i 0) → IsCalled n (stack_of (get_or keys i 0)) frames grown number → AreCalled g keys grown (i + 1) more
+pub called_more : (g : Graph) (keys : List ℕ) (frames grown : List Frame) (i : ℕ) (found more : List ℕ) (n : Node) (number : ℕ) →
+    AreCalled g keys frames i found
+    → more ≡ found ++ number ∷ [] → Contains g.nodes.items n → n.at ≡ address_of (get_or keys i 0) →
+    IsCalled n (stack_of (get_or keys i 0)) frames grown number → AreCalled g keys grown (i + 1) more
 called_more g keys frames grown i found more n number are is among at called =
     let count = are.count in
     record {
       count = grown_by ∙ ap (λ (z : ℕ). z + 1) are.count;
-      each = λ j w. elim (cases_lt j i) as (λ _. (m : Node) × Contains g.nodes.items m × (m.at ≡ address_of (get_or keys j 0)) × IsCalledBy m (stack_of (get_or keys j 0)) grown (get_or more j 0)) [
-        | inl low ↦
-            let q = are.each j low in
-            let same : get_or more j 0 ≡ get_or found j 0 = ap (λ (l : List ℕ). get_or l j 0) is ∙ or_left found (number ∷ []) j 0 (omega arith) in
-            (q.0, q.1, q.2, subst (λ (z : ℕ). IsCalledBy q.0 (stack_of (get_or keys j 0)) grown z) (sym same) (called_keeps q.0 (stack_of (get_or keys j 0)) frames called.rest grown (get_or found j 0) called.begins q.3))
-        | inr high ↦
-            let here : j ≡ i = omega arith in
-            let last : get_or more i 0 ≡ number =
-            ap (λ (l : List ℕ). get_or l i 0) is ∙ ap (λ (z : ℕ). get_or (found ++ number ∷ []) z 0) (sym are.count) ∙ or_last found number 0 in
-            subst (λ (z : ℕ). (m : Node) × Contains g.nodes.items m × (m.at ≡ address_of (get_or keys z 0)) × IsCalledBy m (stack_of (get_or keys z 0)) grown (get_or more z 0)) (sym here)
-            (n, among, at, subst (λ (z : ℕ). IsCalledBy n (stack_of (get_or keys i 0)) grown z) (sym last) called.pushes)
-      ];
+      each = λ j w. elim (cases_lt j i) as (λ _. (m : Node) × Contains g.nodes.items m × (m.at ≡ address_of (get_or keys j 0)) ×
+          IsCalledBy m (stack_of (get_or keys j 0)) grown (get_or more j 0)) [
+            | inl low ↦
+                let q = are.each j low in
+                let same : get_or more j 0 ≡ get_or found j 0 = ap (λ (l : List ℕ). get_or l j 0) is ∙ or_left found (number ∷ []) j 0 (omega arith) in (
+                  q.0,
+                  q.1,
+                  q.2,
+                  subst (λ (z : ℕ). IsCalledBy q.0 (stack_of (get_or keys j 0)) grown z) (sym same)
+                      (called_keeps q.0 (stack_of (get_or keys j 0)) frames called.rest grown (get_or found j 0) called.begins q.3),
+                )
+            | inr high ↦
+                let here : j ≡ i = omega arith in
+                let last : get_or more i 0 ≡ number =
+                ap (λ (l : List ℕ). get_or l i 0) is ∙ ap (λ (z : ℕ). get_or (found ++ number ∷ []) z 0) (sym are.count) ∙ or_last found number 0 in
+                subst (λ (z : ℕ). (m : Node) × Contains g.nodes.items m × (m.at ≡ address_of (get_or keys z 0)) ×
+                IsCalledBy m (stack_of (get_or keys z 0)) grown (get_or more z 0)) (sym here)
+                (n, among, at, subst (λ (z : ℕ). IsCalledBy n (stack_of (get_or keys i 0)) grown z) (sym last) called.pushes)
+          ];
     }
   where
     grown_by : length more ≡ length found + 1
     grown_by = push_length found more number is
 
 -- the edges of a point, from those to its targets and the one out of the function
-pub led_all : (n : Node) (frames : List Frame) (keys : List ℕ) (own called : ℕ) (jumps : List End) (next : Option End) (both : Bool) (targets : List ℕ) (old mid new : List Edge)
-    → jumps ≡ jumps_of n (frame_at frames (stack_of own)) (stack_of own) called → next ≡ next_of n (stack_of own) → both ≡ is_both jumps next → IsStrictlyIncreasing targets
-    → ((x : ℕ) → Contains (map (target_key own) (jumps ++ listed next)) x ↔ Contains targets x) → ((e : End) → Contains jumps e → (e.at < 4294967296) × (e.stack < 18446744073709551616)) → mid ≡ old ++ exits_by n.returns (stack_of own) → AreAddedTo keys next both targets mid new
+pub led_all : (n : Node) (frames : List Frame) (keys : List ℕ) (own called : ℕ) (jumps : List End) (next : Option End) (both : Bool) (targets : List ℕ)
+    (old mid new : List Edge)
+    → jumps ≡ jumps_of n (frame_at frames (stack_of own)) (stack_of own) called → next ≡ next_of n (stack_of own) → both ≡ is_both jumps next →
+    IsStrictlyIncreasing targets
+    → ((x : ℕ) → Contains (map (target_key own) (jumps ++ listed next)) x ↔ Contains targets x) →
+    ((e : End) → Contains jumps e → (e.at < 4294967296) × (e.stack < 18446744073709551616)) → mid ≡ old ++ exits_by n.returns (stack_of own) →
+    AreAddedTo keys next both targets mid new
     → HasLed n frames keys own called old new
 led_all n frames keys own called jumps next both targets old mid new e f g rise same small exit so = (
   exits_by n.returns (stack_of own) ++ so.0,
@@ -119,7 +143,8 @@ led_all n frames keys own called jumps next both targets old mid new e f g rise 
     is = refl;
     each =
         subst (λ (l : List End). AllZip (IsLedTo keys (next_of n (stack_of own)) (is_both l (next_of n (stack_of own)))) targets so.0) e
-        (subst (λ (o : Option End). AllZip (IsLedTo keys o (is_both jumps o)) targets so.0) f (subst (λ (b : Bool). AllZip (IsLedTo keys next b) targets so.0) g so.2));
+        (subst (λ (o : Option End). AllZip (IsLedTo keys o (is_both jumps o)) targets so.0) f (subst
+        (λ (b : Bool). AllZip (IsLedTo keys next b) targets so.0) g so.2));
   },
 )
 
@@ -128,7 +153,8 @@ take_none [] = refl
 take_none (x ∷ xs) = refl
 
 -- one more end has an address and a stack in range, since its number says them
-pub small_more : (own : ℕ) (jumps : List End) (i : ℕ) → i < length jumps → (none : End) (key : ℕ) → key / 18446744073709551616 % 4294967296 ≡ (get_or jumps i none).at → key % 18446744073709551616 ≡ (get_or jumps i none).stack
+pub small_more : (own : ℕ) (jumps : List End) (i : ℕ) → i < length jumps → (none : End) (key : ℕ) →
+    key / 18446744073709551616 % 4294967296 ≡ (get_or jumps i none).at → key % 18446744073709551616 ≡ (get_or jumps i none).stack
     → ((e : End) → Contains (take i jumps) e → (e.at < 4294967296) × (e.stack < 18446744073709551616))
     → (e : End) → Contains (take (i + 1) jumps) e → (e.at < 4294967296) × (e.stack < 18446744073709551616)
 small_more own jumps i w none key at stack before e h =
@@ -139,11 +165,15 @@ small_more own jumps i w none key at stack before e h =
   where
     last : Contains (get_or jumps i none ∷ []) e → (e.at < 4294967296) × (e.stack < 18446744073709551616)
     last (zero, l, q) =
-        subst (λ (z : End). (z.at < 4294967296) × (z.stack < 18446744073709551616)) q
-        ((let a = (get_or jumps i none).at in let x : (get_or jumps i none).at < 4294967296 = omega arith in x), (let y : (get_or jumps i none).stack < 18446744073709551616 = omega arith in y))
+        subst (λ (z : End). (z.at < 4294967296) × (z.stack < 18446744073709551616)) q (
+          (let a = (get_or jumps i none).at in let x : (get_or jumps i none).at < 4294967296 = omega arith in x),
+          (let y : (get_or jumps i none).stack
+              < 18446744073709551616 = omega arith in y),
+        )
     last (suc i, l, q) = absurd (omega arith)
 
-pub point_small : (points : List Point) (i : ℕ) → i < length points → (none : Point) (key : ℕ) → key / 18446744073709551616 % 4294967296 ≡ (get_or points i none).at → key % 18446744073709551616 ≡ (get_or points i none).stack
+pub point_small : (points : List Point) (i : ℕ) → i < length points → (none : Point) (key : ℕ) →
+    key / 18446744073709551616 % 4294967296 ≡ (get_or points i none).at → key % 18446744073709551616 ≡ (get_or points i none).stack
     → ((q : Point) → Contains (take i points) q → (q.at < 4294967296) × (q.stack < 18446744073709551616))
     → (q : Point) → Contains (take (i + 1) points) q → (q.at < 4294967296) × (q.stack < 18446744073709551616)
 point_small points i w none key at stack before q h =

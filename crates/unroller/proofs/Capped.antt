@@ -118,7 +118,8 @@ all_operations (Binary op a b) =
 
 -- the price by the parts: cases for no operator
 price_cases : (p o : ℕ) (x y : Bool) → (p == 0) ≡ x → (o == 0) ≡ y →
-    capped (capped (capped p * 8192) + capped ((if (capped p == 0) && (capped o == 0) then 1 else capped o) * 512)) ≡ capped (8192 * p + 512 * (if p + o == 0 then 1 else p + o - p))
+    capped (capped (capped p * 8192) + capped ((if (capped p == 0) && (capped o == 0) then 1 else capped o) * 512))
+    ≡ capped (8192 * p + 512 * (if p + o == 0 then 1 else p + o - p))
 price_cases p o x y h i = grind (arith, nat_tests)
 
 pub parts_are : (e : Expr) → parts_price (capped (products e)) (capped (others e)) ≡ capped (line_price e)

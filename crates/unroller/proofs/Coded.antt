@@ -52,9 +52,20 @@ pub no_word : (p : Program) (bank : Bank) (n : Node) (asserts : ℕ × ℕ) (c :
     c ≡ record { at = n.at; fetchable = n.fetchable; list = None; draws = false; row = 64; loads = 0; stores = 0; asserts = asserts } → IsRowCode p bank c
 no_word p bank n asserts c is h e = bare_code p bank n asserts c is (none_word (file_row p n.at) (file_word p n.at) (sym is.word ∙ h)) e
 
-pub lifted_code : (p : Program) (bank : Bank) (n : Node) (r : Row) (list : Vec Stmt) (draws : Bool) (row loads stores : ℕ) (asserts : ℕ × ℕ) → IsNode p n → file_row p n.at ≡ Some r →
-    IsLawful r → IsPlain r → IsLifting p.machine bank r n.at (statements list.items) → draws ≡ r.draws → row ≡ r.cost.row → loads ≡ r.cost.loads → stores ≡ r.cost.stores →
-    IsRowCode p bank (record { at = n.at; fetchable = n.fetchable; list = Some list; draws = draws; row = row; loads = loads; stores = stores; asserts = asserts })
+pub lifted_code : (p : Program) (bank : Bank) (n : Node) (r : Row) (list : Vec Stmt) (draws : Bool) (row loads stores : ℕ) (asserts : ℕ × ℕ) → IsNode p n →
+    file_row p n.at ≡ Some r →
+    IsLawful r → IsPlain r → IsLifting p.machine bank r n.at (statements list.items) → draws ≡ r.draws → row ≡ r.cost.row → loads ≡ r.cost.loads →
+    stores ≡ r.cost.stores →
+    IsRowCode p bank (record {
+      at = n.at;
+      fetchable = n.fetchable;
+      list = Some list;
+      draws = draws;
+      row = row;
+      loads = loads;
+      stores = stores;
+      asserts = asserts;
+    })
 lifted_code p bank n r list draws row loads stores asserts is some lawful plain lifting d a b e =
     record {
       fetchable = is.fetchable;

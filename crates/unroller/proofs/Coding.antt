@@ -11,10 +11,12 @@ use Rattle.program_points.proofs.Lists.{or_left, or_last, grown as push_length}
 use Rattle.question_form.specs.declared.unrolled.Code.{Code}
 use Rattle.unroller.specs.Places.{IsCodeOf, AreCodes}
 
-pub codes_none : (p : Program) (bank : Bank) (addresses : List ℕ) (asserts : List (ℕ × ℕ)) (codes : List Code) → codes ≡ [] → AreCodes p bank addresses asserts 0 codes
+pub codes_none : (p : Program) (bank : Bank) (addresses : List ℕ) (asserts : List (ℕ × ℕ)) (codes : List Code) → codes ≡ [] →
+    AreCodes p bank addresses asserts 0 codes
 codes_none p bank addresses asserts codes e = record { count = ap length e; each = λ i d w. absurd (omega arith) }
 
-pub codes_more : (p : Program) (bank : Bank) (addresses : List ℕ) (asserts : List (ℕ × ℕ)) (i : ℕ) (codes more : List Code) (c : Code) → AreCodes p bank addresses asserts i codes →
+pub codes_more : (p : Program) (bank : Bank) (addresses : List ℕ) (asserts : List (ℕ × ℕ)) (i : ℕ) (codes more : List Code) (c : Code) →
+    AreCodes p bank addresses asserts i codes →
     more ≡ codes ++ c ∷ [] → IsCodeOf p bank (get_or addresses i 0) asserts c → AreCodes p bank addresses asserts (i + 1) more
 codes_more p bank addresses asserts i codes more c are is of = record {
   count = (let a = push_length codes more c is in let b = are.count in omega arith);
@@ -25,8 +27,10 @@ codes_more p bank addresses asserts i codes more c are is of = record {
         subst (λ (z : Code). IsCodeOf p bank (get_or addresses j 0) asserts z) (sym same) (are.each j d low)
     | inr high ↦
         let here : j ≡ i = omega arith in
-        let last : get_or more i d ≡ c = ap (λ (l : List Code). get_or l i d) is ∙ ap (λ (z : ℕ). get_or (codes ++ c ∷ []) z d) (sym are.count) ∙ or_last codes c d in
-        subst (λ (z : ℕ). IsCodeOf p bank (get_or addresses z 0) asserts (get_or more z d)) (sym here) (subst (λ (z : Code). IsCodeOf p bank (get_or addresses i 0) asserts z) (sym last) of)
+        let last : get_or more i d ≡ c = ap (λ (l : List Code). get_or l i d) is ∙ ap
+        (λ (z : ℕ). get_or (codes ++ c ∷ []) z d) (sym are.count) ∙ or_last codes c d in
+        subst (λ (z : ℕ). IsCodeOf p bank (get_or addresses z 0) asserts (get_or more z d)) (sym here) (subst
+        (λ (z : Code). IsCodeOf p bank (get_or addresses i 0) asserts z) (sym last) of)
   ];
 }
 

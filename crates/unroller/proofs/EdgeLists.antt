@@ -16,7 +16,8 @@ abbrev Apart : List EdgeEnd → Type 0
 Apart [] = Unit {0}
 Apart (x ∷ xs) = (Contains xs x → ⊥) × Apart xs
 
-apart_by : (f : EdgeEnd → Bool) (x : EdgeEnd) (xs : List EdgeEnd) (b : Bool) → (Contains xs x → ⊥) → Apart (filter f xs) → Apart (if b then x ∷ filter f xs else filter f xs)
+apart_by : (f : EdgeEnd → Bool) (x : EdgeEnd) (xs : List EdgeEnd) (b : Bool) → (Contains xs x → ⊥) → Apart (filter f xs) →
+    Apart (if b then x ∷ filter f xs else filter f xs)
 apart_by f x xs true n a = (λ h. n (of_filter f xs x h).0, a)
 apart_by f x xs false n a = a
 
@@ -27,7 +28,8 @@ apart_filter f (x ∷ xs) a = apart_by f x xs (f x) a.0 (apart_filter f xs a.1)
 apart_distinct : (xs : List EdgeEnd) → Apart (distinct xs)
 apart_distinct [] = tt
 apart_distinct (x ∷ xs) = (
-  (λ h. let q = (of_filter (λ u. not (same_end x u)) (distinct xs) x h).1 in let e = same_end_self x in absurd (let c : false ≡ true = ap not (sym e) ∙ q in cc)),
+  (λ h. let q = (of_filter (λ u. not (same_end x u)) (distinct xs) x h).1 in let e = same_end_self x
+      in absurd (let c : false ≡ true = ap not (sym e) ∙ q in cc)),
   apart_filter (λ u. not (same_end x u)) (distinct xs) (apart_distinct xs),
 )
 
@@ -50,7 +52,8 @@ no_exit : (f : ℕ → List ℕ) (xs : List ℕ) → Contains (map (λ a. ToAddr
 no_exit f xs h = let q = of_map (λ a. ToAddress (f a) a) xs ToExit h in absurd (let e = q.2 in cc)
 
 module _ (length at : ℕ) (names : List ℕ) where
-  through : (b call : Bool) (stack : List ℕ) → Contains (if b then indirect_ends call length at stack names else []) ToExit → (b ≡ true) × (call ≡ false) × (stack ≡ [])
+  through : (b call : Bool) (stack : List ℕ) → Contains (if b then indirect_ends call length at stack names else []) ToExit → (b ≡ true) × (call ≡ false) ×
+      (stack ≡ [])
   through false call stack h = none_in ToExit h
   through true true stack h = absurd (no_exit (λ a. after_call true length at stack) names h)
   through true false [] h = (refl, refl, refl)
@@ -93,11 +96,13 @@ module _ (p : Program) (turns at : ℕ) (stack : List ℕ) where
       ⊎_elim
       (λ j. ⊎_elim (λ d. absurd (no_exit (λ a. after_call s.call row.length at stack) (some_of s.direct) d))
       (λ i. let q = through row.length at names s.indirect s.call stack i in (both_true s.indirect s.call q.0 q.1, q.2))
-      (split_in (map (λ a. ToAddress (after_call s.call row.length at stack) a) (some_of s.direct)) (if s.indirect then indirect_ends s.call row.length at stack names else []) ToExit j))
+      (split_in (map (λ a. ToAddress (after_call s.call row.length at stack) a) (some_of s.direct)) (if s.indirect
+      then indirect_ends s.call row.length at stack names else []) ToExit j))
       (λ f. absurd (fall_no_exit s.next stack (add 32 at row.length) f))
       (split_in (jump_ends p point row s) (fall_ends point row s) ToExit h)
 
-exit_into : (p : Program) (turns at : ℕ) (o : Option Row) → returns_by at o ≡ true → Contains (edges_by p (record { turns = turns; stack = []; at = at }) o) ToExit
+exit_into : (p : Program) (turns at : ℕ) (o : Option Row) → returns_by at o ≡ true →
+    Contains (edges_by p (record { turns = turns; stack = []; at = at }) o) ToExit
 exit_into p turns at None h = absurd (cc)
 exit_into p turns at (Some row) h =
     let s : Successors = row.successors at in
@@ -105,7 +110,8 @@ exit_into p turns at (Some row) h =
     let names = named p (file_word p) row at in
     let none : Point = record { turns = turns; stack = []; at = at } in
     in_left (jump_ends p none row s) (fall_ends none row s) ToExit
-    (in_right (map (λ a. ToAddress (after_call s.call row.length at []) a) (some_of s.direct)) (if s.indirect then indirect_ends s.call row.length at [] names else []) ToExit
+    (in_right (map (λ a. ToAddress (after_call s.call row.length at []) a) (some_of s.direct)) (if s.indirect then indirect_ends s.call row.length at [] names
+    else []) ToExit
     (into row.length at names s.indirect s.call q.0 q.1))
 
 pub exits_are_returns : ExitsAreReturns

@@ -36,7 +36,8 @@ pub turns_is : (t a s : ℕ) → a < 4294967296 → s < 18446744073709551616 →
 turns_is t a s h i = omega arith
 
 -- filtered elements give no other ends
-more_by : (o : Option End) (b : Bool) (few all : List End) (y : End) → (Contains few y → Contains all y) → Contains (if b then cons_option o few else few) y → Contains (cons_option o all) y
+more_by : (o : Option End) (b : Bool) (few all : List End) (y : End) → (Contains few y → Contains all y) → Contains (if b then cons_option o few else few) y →
+    Contains (cons_option o all) y
 more_by None true few all y g h = g h
 more_by None false few all y g h = g h
 more_by (Some w) true few all y g (zero, l, e) = (0, omega arith, e)
@@ -48,10 +49,12 @@ filter_some : (f : Successor → Option End) (test : Successor → Bool) (x : Su
 filter_some f test x xs true e = ap (λ (b : Bool). filter_map f (if b then x ∷ filter test xs else filter test xs)) e
 filter_some f test x xs false e = ap (λ (b : Bool). filter_map f (if b then x ∷ filter test xs else filter test xs)) e
 
-more_ends : (f : Successor → Option End) (test : Successor → Bool) (xs : List Successor) (y : End) → Contains (filter_map f (filter test xs)) y → Contains (filter_map f xs) y
+more_ends : (f : Successor → Option End) (test : Successor → Bool) (xs : List Successor) (y : End) → Contains (filter_map f (filter test xs)) y →
+    Contains (filter_map f xs) y
 more_ends f test [] y h = h
 more_ends f test (x ∷ xs) y h =
-    more_by (f x) (test x) (filter_map f (filter test xs)) (filter_map f xs) y (more_ends f test xs y) (subst (λ (l : List End). Contains l y) (filter_some f test x xs (test x) refl) h)
+    more_by (f x) (test x) (filter_map f (filter test xs)) (filter_map f xs) y (more_ends f test xs y) (subst
+    (λ (l : List End). Contains l y) (filter_some f test x xs (test x) refl) h)
 
 in_cons : (o : Option End) (ys : List End) (y : End) → o ≡ Some y → Contains (cons_option o ys) y
 in_cons None ys y e = absurd (cc)
@@ -67,7 +70,8 @@ some_in f (z ∷ xs) x y (zero, h, e) s = in_cons (f z) (filter_map f xs) y (ap 
 some_in f (z ∷ xs) x y (suc i, h, e) s = past_cons (f z) (filter_map f xs) y (some_in f xs x y (i, omega arith, e) s)
 
 -- a successor that is the next address, if one is
-next_by : (x : Successor) (xs : List Successor) (b : Bool) → is_next x.letter ≡ b → (goes_on xs ≡ true → (y : Successor) × Contains xs y × (is_next y.letter ≡ true)) → (b || goes_on xs) ≡ true →
+next_by : (x : Successor) (xs : List Successor) (b : Bool) → is_next x.letter ≡ b →
+    (goes_on xs ≡ true → (y : Successor) × Contains xs y × (is_next y.letter ≡ true)) → (b || goes_on xs) ≡ true →
     (y : Successor) × Contains (x ∷ xs) y × (is_next y.letter ≡ true)
 next_by x xs true e g h = (x, (0, omega arith, refl), e)
 next_by x xs false e g h = (let q = g h in (q.0, there x xs q.0 q.1, q.2))
@@ -99,7 +103,8 @@ one_fall false stack a c (i, w, e) = absurd (omega arith)
 multiple : (a : ℕ) → leads_on (ToAddress [] a) ≡ true → a % 4 ≡ 0
 multiple a h = grind (arith, nat_tests)
 
-module _ (p : Program) (n : Node) (frames : List Frame) (numbers : BTreeMap (ℕ × ℕ) ℕ) (turns stack called : ℕ) (row : Row) (is : IsNode p n) (way : HasOneWay p) (table : IsTable frames numbers)
+module _ (p : Program) (n : Node) (frames : List Frame) (numbers : BTreeMap (ℕ ×
+    ℕ) ℕ) (turns stack called : ℕ) (row : Row) (is : IsNode p n) (way : HasOneWay p) (table : IsTable frames numbers)
     (fits : stack ≤ length frames) (calls : IsCalledBy n stack frames called) (some : file_row p n.at ≡ Some row) where
   abbrev f : Option Frame
   f = frame_at frames stack
@@ -117,19 +122,23 @@ module _ (p : Program) (n : Node) (frames : List Frame) (numbers : BTreeMap (ℕ
   end_at e = ToAddress (stack_at frames e.stack) e.at
 
   jump_in : (e : End) → Contains jumps e → Contains (ends_of n f stack called) e
-  jump_in e h = elim (split_in (filter_map (successor_end n.returns f stack called) (filter (λ s. not (is_next s.letter)) n.successors.items)) (listed (back_end n.returns f)) e h) [
-    | inl q ↦ in_left (filter_map (successor_end n.returns f stack called) n.successors.items) (listed (back_end n.returns f)) e (more_ends (successor_end n.returns f stack called) (λ s. not (is_next s.letter)) n.successors.items e q)
-    | inr q ↦ in_right (filter_map (successor_end n.returns f stack called) n.successors.items) (listed (back_end n.returns f)) e q
-  ]
+  jump_in e h = elim (split_in (filter_map (successor_end n.returns f stack called) (filter (λ s. not (is_next s.letter)) n.successors.items))
+      (listed (back_end n.returns f)) e h) [
+        | inl q ↦ in_left (filter_map (successor_end n.returns f stack called) n.successors.items) (listed (back_end n.returns f)) e
+            (more_ends (successor_end n.returns f stack called) (λ s. not (is_next s.letter)) n.successors.items e q)
+        | inr q ↦ in_right (filter_map (successor_end n.returns f stack called) n.successors.items) (listed (back_end n.returns f)) e q
+      ]
 
   edge_of_end : (e : End) → Contains (ends_of n f stack called) e → Contains (edges p point) (end_at e)
   edge_of_end e h = (ends_are p n frames turns stack called is way table.below fits calls (stack_at frames e.stack) e.at).1 (e, h, refl, refl)
 
   end_four : (e : End) → Contains (ends_of n f stack called) e → e.at % 4 ≡ 0
-  end_four e h = multiple e.at ((of_filter leads_on (edges_by p point (file_row p n.at)) (end_at e) (of_distinct (filter leads_on (edges_by p point (file_row p n.at))) (end_at e) (edge_of_end e h))).1)
+  end_four e h = multiple e.at ((of_filter leads_on (edges_by p point (file_row p n.at)) (end_at e)
+      (of_distinct (filter leads_on (edges_by p point (file_row p n.at))) (end_at e) (edge_of_end e h))).1)
 
   -- a successor that is the next address is the one behind the row
-  next_end : (x : Successor) → Contains n.successors.items x → is_next x.letter ≡ true → Contains (ends_of n f stack called) (end stack x.to) × (x.to ≡ add 32 n.at 4)
+  next_end : (x : Successor) → Contains n.successors.items x → is_next x.letter ≡ true → Contains (ends_of n f stack called) (end stack x.to) ×
+      (x.to ≡ add 32 n.at 4)
   next_end x h l =
       let letter = is_the_next x.letter l in
       let same : x ≡ record { letter = Next; to = x.to } = ap (λ (z : Letter). let s : Successor = record { letter = z; to = x.to } in s) letter in
@@ -137,10 +146,15 @@ module _ (p : Program) (n : Node) (frames : List Frame) (numbers : BTreeMap (ℕ
       let has : Contains (ends_of n f stack called) (end stack x.to) =
       in_left (filter_map (successor_end n.returns f stack called) n.successors.items) (listed (back_end n.returns f)) (end stack x.to)
       (some_in (successor_end n.returns f stack called) n.successors.items (record { letter = Next; to = x.to }) (end stack x.to) inside refl) in
-      let fall = (ways_are p n frames turns stack called row is way table.below fits calls some (stack_at frames stack) x.to (end_four (end stack x.to) has)).0.1 (refl, inside) in
-      (has, one_fall (row.successors n.at).next (stack_at frames stack) (add 32 n.at row.length) x.to fall ∙ ap (λ (z : ℕ). add 32 n.at z) (way.four n.at row some))
+      let fall = (ways_are p n frames turns stack called row is way table.below fits calls some (stack_at frames stack) x.to
+      (end_four (end stack x.to) has)).0.1 (refl, inside) in (
+        has,
+        one_fall (row.successors n.at).next (stack_at frames stack) (add 32 n.at row.length) x.to fall ∙ ap
+            (λ (z : ℕ). add 32 n.at z) (way.four n.at row some),
+      )
 
-  next_listed : (b : Bool) → goes_on n.successors.items ≡ b → (e : End) → Contains (listed (if b then Some (end stack (add 32 n.at 4)) else None)) e → (e ≡ end stack (add 32 n.at 4)) × Contains (ends_of n f stack called) e
+  next_listed : (b : Bool) → goes_on n.successors.items ≡ b → (e : End) → Contains (listed (if b then Some (end stack (add 32 n.at 4)) else None)) e →
+      (e ≡ end stack (add 32 n.at 4)) × Contains (ends_of n f stack called) e
   next_listed true g e (zero, w, q) =
       let x = next_in n.successors.items g in
       let r = next_end x.0 x.1 x.2 in
@@ -164,14 +178,16 @@ module _ (p : Program) (n : Node) (frames : List Frame) (numbers : BTreeMap (ℕ
   pub all_four : (e : End) → Contains all e → e.at % 4 ≡ 0
   all_four e h = end_four e (all_in e h)
 
-  next_there : (b : Bool) → goes_on n.successors.items ≡ b → b ≡ true → Contains (listed (if b then Some (end stack (add 32 n.at 4)) else None)) (end stack (add 32 n.at 4))
+  next_there : (b : Bool) → goes_on n.successors.items ≡ b → b ≡ true →
+      Contains (listed (if b then Some (end stack (add 32 n.at 4)) else None)) (end stack (add 32 n.at 4))
   next_there true g h = (0, omega arith, refl)
   next_there false g h = absurd (cc)
 
   -- each edge to an address is at one of the ends
   pub edge_all : (s : List ℕ) (a : ℕ) → Contains (edges p point) (ToAddress s a) → (e : End) × Contains all e × (stack_at frames e.stack ≡ s) × (e.at ≡ a)
   edge_all s a h =
-      let q = of_filter leads_on (edges_by p point (file_row p n.at)) (ToAddress s a) (of_distinct (filter leads_on (edges_by p point (file_row p n.at))) (ToAddress s a) h) in
+      let q = of_filter leads_on (edges_by p point (file_row p n.at)) (ToAddress s a)
+      (of_distinct (filter leads_on (edges_by p point (file_row p n.at))) (ToAddress s a) h) in
       let four = multiple a q.1 in
       let w = ways_are p n frames turns stack called row is way table.below fits calls some s a four in
       let inside : Contains (jump_ends p point row (row.successors n.at) ++ fall_ends point row (row.successors n.at)) (ToAddress s a) =
@@ -180,8 +196,13 @@ module _ (p : Program) (n : Node) (frames : List Frame) (numbers : BTreeMap (ℕ
         | inl j ↦ (let r = w.1.0 j in (r.0, in_left jumps (listed (next_of n stack)) r.0 r.1, r.2, r.3))
         | inr g ↦ (let r = w.0.0 g in
             let goes = goes_next n.successors.items a r.1 in
-            let at = (next_end (record { letter = Next; to = a }) r.1 refl).1 in
-            (end stack (add 32 n.at 4), in_right jumps (listed (next_of n stack)) (end stack (add 32 n.at 4)) (next_there (goes_on n.successors.items) refl goes), sym r.0, sym at))
+            let at = (next_end (record { letter = Next; to = a }) r.1 refl).1 in (
+              end stack (add 32 n.at 4),
+              in_right jumps (listed (next_of n stack)) (end stack (add 32 n.at 4))
+                  (next_there (goes_on n.successors.items) refl goes),
+              sym r.0,
+              sym at,
+            ))
       ]
 
   one_of : (e d : End) → e.stack ≤ length frames → d.stack ≤ length frames → stack_at frames e.stack ≡ stack_at frames d.stack → e.at ≡ d.at → e ≡ d
@@ -193,7 +214,8 @@ module _ (p : Program) (n : Node) (frames : List Frame) (numbers : BTreeMap (ℕ
   pub by_jump : (e : End) → Contains all e → Contains (jump_ends p point row (row.successors n.at)) (end_at e) ↔ Contains jumps e
   by_jump e h =
       let w = (ways_are p n frames turns stack called row is way table.below fits calls some (stack_at frames e.stack) e.at (all_four e h)).1 in (
-        (λ j. let r = w.0 j in subst (λ (z : End). Contains jumps z) (one_of r.0 e (all_low r.0 (in_left jumps (listed (next_of n stack)) r.0 r.1)) (all_low e h) r.2 r.3) r.1),
+        (λ j. let r = w.0 j in subst (λ (z : End). Contains jumps z)
+            (one_of r.0 e (all_low r.0 (in_left jumps (listed (next_of n stack)) r.0 r.1)) (all_low e h) r.2 r.3) r.1),
         (λ j. w.1 (e, j, refl, refl)),
       )
 
@@ -204,7 +226,8 @@ module _ (p : Program) (n : Node) (frames : List Frame) (numbers : BTreeMap (ℕ
         (λ j. let r = w.0 j in
             let goes = goes_next n.successors.items e.at r.1 in
             let at = (next_end (record { letter = Next; to = e.at }) r.1 refl).1 in
-            subst (λ (z : End). Contains (listed (next_of n stack)) z) (sym (one_of e (end stack (add 32 n.at 4)) (all_low e h) fits r.0 at)) (next_there (goes_on n.successors.items) refl goes)),
+            subst (λ (z : End). Contains (listed (next_of n stack)) z) (sym (one_of e (end stack (add 32 n.at 4)) (all_low e h) fits r.0 at))
+            (next_there (goes_on n.successors.items) refl goes)),
         (λ j. let r = of_next e j in
             let s : stack_at frames e.stack ≡ stack_at frames stack = ap (λ (z : End). stack_at frames z.stack) r.0 in
             let to : e.at ≡ add 32 n.at 4 = ap (λ (z : End). z.at) r.0 in
@@ -212,7 +235,8 @@ module _ (p : Program) (n : Node) (frames : List Frame) (numbers : BTreeMap (ℕ
             let x = next_in n.successors.items goes in
             let q = next_end x.0 x.1 x.2 in
             let same : x.0 ≡ record { letter = Next; to = e.at } =
-            ap (λ (z : Letter). let t : Successor = record { letter = z; to = x.0.to } in t) (is_the_next x.0.letter x.2) ∙ ap (λ (z : ℕ). let t : Successor = record { letter = Next; to = z } in t) (q.1 ∙ sym to) in
+            ap (λ (z : Letter). let t : Successor = record { letter = z; to = x.0.to } in t) (is_the_next x.0.letter x.2) ∙ ap
+            (λ (z : ℕ). let t : Successor = record { letter = Next; to = z } in t) (q.1 ∙ sym to) in
             w.1 (s, subst (λ (z : Successor). Contains n.successors.items z) same x.1)),
       )
     where

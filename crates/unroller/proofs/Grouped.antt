@@ -32,39 +32,49 @@ group_filter at [] zero (suc high) le w here before behind = absurd (omega arith
 group_filter at [] (suc low) high le w here before behind = absurd (omega arith)
 group_filter at (x ∷ xs) zero zero le w here before behind =
     let b = behind 0 x (omega arith) (omega arith) in
-    let rest = group_filter at xs 0 0 (omega arith) (omega arith) (λ j d l m. absurd (omega arith)) (λ j d l. absurd (omega arith)) (λ j d l m. behind (suc j) d (omega arith) (omega arith)) in
+    let rest = group_filter at xs 0 0 (omega arith) (omega arith) (λ j d l m. absurd (omega arith)) (λ j d l. absurd (omega arith))
+    (λ j d l m. behind (suc j) d (omega arith) (omega arith)) in
     sym (take_none xs) ∙ rest ∙ sym (passed at x xs (not_same x.0 at (λ e. absurd (omega arith))))
 group_filter at (x ∷ xs) zero (suc high) le w here before behind =
     let h = here 0 x (omega arith) (omega arith) in
-    let rest = group_filter at xs 0 high (omega arith) (omega arith) (λ j d l m. here (suc j) d (omega arith) (omega arith)) (λ j d l. absurd (omega arith)) (λ j d l m. behind (suc j) d (omega arith) (omega arith)) in
+    let rest = group_filter at xs 0 high (omega arith) (omega arith) (λ j d l m. here (suc j) d (omega arith) (omega arith)) (λ j d l. absurd (omega arith))
+    (λ j d l m. behind (suc j) d (omega arith) (omega arith)) in
     let z : suc high - 0 ≡ suc (high - 0) = omega arith in
     ap (λ (n : ℕ). take n (x ∷ xs)) z ∙ ap (λ (l : List (ℕ × ℕ)). x ∷ l) rest ∙ sym (kept at x xs (same_same x.0 at h))
 group_filter at (x ∷ xs) (suc low) zero le w here before behind = absurd (omega arith)
 group_filter at (x ∷ xs) (suc low) (suc high) le w here before behind =
     let b = before 0 x (omega arith) in
-    let rest = group_filter at xs low high (omega arith) (omega arith) (λ j d l m. here (suc j) d (omega arith) (omega arith)) (λ j d l. before (suc j) d (omega arith)) (λ j d l m. behind (suc j) d (omega arith) (omega arith)) in
+    let rest = group_filter at xs low high (omega arith) (omega arith) (λ j d l m. here (suc j) d (omega arith) (omega arith))
+    (λ j d l. before (suc j) d (omega arith)) (λ j d l m. behind (suc j) d (omega arith) (omega arith)) in
     let z : suc high - suc low ≡ high - low = omega arith in
     ap (λ (n : ℕ). take n (drop low xs)) z ∙ rest ∙ sym (passed at x xs (not_same x.0 at (λ e. absurd (omega arith))))
 
 numbered_exits : (at : ℕ) (all rest : List Assert) (k : ℕ) → ((j : ℕ) (d : Assert) → j < length rest → get_or all (k + j) d ≡ get_or rest j d)
-    → map (assert_exit all) (filter (λ x. x.0 == at) (numbered_from k (map (λ a. a.at) rest))) ≡ map (λ a. FalseAssert a.line a.says) (filter (λ a. a.at == at) rest)
+    → map (assert_exit all) (filter (λ x. x.0 == at) (numbered_from k (map (λ a. a.at) rest)))
+    ≡ map (λ a. FalseAssert a.line a.says) (filter (λ a. a.at == at) rest)
 numbered_exits at all [] k h = refl
 numbered_exits at all (a ∷ rest) k h =
     let z : k + 0 ≡ k = omega arith in
     let first : assert_exit all (a.at, k) ≡ FalseAssert a.line a.says =
     ap (λ (b : Assert). FalseAssert b.line b.says) (ap (λ (m : ℕ). get_or all m no_assert) (sym z) ∙ h 0 no_assert (omega arith)) in
-    let more = numbered_exits at all rest (k + 1) (λ j d w. let e : k + 1 + j ≡ k + suc j = omega arith in ap (λ (m : ℕ). get_or all m d) e ∙ h (suc j) d (omega arith)) in
+    let more = numbered_exits at all rest (k + 1) (λ j d w. let e : k + 1 + j
+    ≡ k + suc j = omega arith in ap (λ (m : ℕ). get_or all m d) e ∙ h (suc j) d (omega arith)) in
     by (a.at == at) first more
   where
     by : (b : Bool) → assert_exit all (a.at, k) ≡ FalseAssert a.line a.says
-        → map (assert_exit all) (filter (λ x. x.0 == at) (numbered_from (k + 1) (map (λ a. a.at) rest))) ≡ map (λ a. FalseAssert a.line a.says) (filter (λ a. a.at == at) rest)
-        → map (assert_exit all) (if b then (a.at, k) ∷ filter (λ x. x.0 == at) (numbered_from (k + 1) (map (λ a. a.at) rest)) else filter (λ x. x.0 == at) (numbered_from (k + 1) (map (λ a. a.at) rest)))
+        → map (assert_exit all) (filter (λ x. x.0 == at) (numbered_from (k + 1) (map (λ a. a.at) rest)))
+        ≡ map (λ a. FalseAssert a.line a.says) (filter (λ a. a.at == at) rest)
+        → map (assert_exit all) (if b then (a.at, k) ∷ filter (λ x. x.0 == at) (numbered_from (k + 1) (map (λ a. a.at) rest)) else filter
+        (λ x. x.0 == at) (numbered_from (k + 1) (map (λ a. a.at) rest)))
         ≡ map (λ a. FalseAssert a.line a.says) (if b then a ∷ filter (λ a. a.at == at) rest else filter (λ a. a.at == at) rest)
-    by true first more = ap (λ (e : PointExit). e ∷ map (assert_exit all) (filter (λ x. x.0 == at) (numbered_from (k + 1) (map (λ a. a.at) rest)))) first ∙ ap (λ (l : List PointExit). FalseAssert a.line a.says ∷ l) more
+    by true first more = ap (λ (e : PointExit). e ∷ map (assert_exit all) (filter (λ x. x.0 == at) (numbered_from (k + 1) (map (λ a. a.at) rest)))) first ∙ ap
+        (λ (l : List PointExit). FalseAssert a.line a.says ∷ l) more
     by false first more = more
 
-pub asserts_are : (at : ℕ) (all : List Assert) (index : List (ℕ × ℕ)) (bounds : ℕ × ℕ) → IsGroup index at bounds → filter (λ x. x.0 == at) index ≡ filter (λ x. x.0 == at) (numbered_from 0 (map (λ a. a.at) all))
+pub asserts_are : (at : ℕ) (all : List Assert) (index : List (ℕ × ℕ)) (bounds : ℕ × ℕ) → IsGroup index at bounds →
+    filter (λ x. x.0 == at) index ≡ filter (λ x. x.0 == at) (numbered_from 0 (map (λ a. a.at) all))
     → asserts_between all index bounds ≡ map (λ a. FalseAssert a.line a.says) (filter (λ a. a.at == at) all)
 asserts_are at all index bounds group order =
-    ap (map (assert_exit all)) (group_filter at index bounds.0 bounds.1 group.ordered group.within (λ j d l m. group.here j d l m) (λ j d l. group.before j d (omega arith) l) (λ j d l m. group.behind j d l m) ∙ order)
+    ap (map (assert_exit all)) (group_filter at index bounds.0 bounds.1 group.ordered group.within (λ j d l m. group.here j d l m)
+    (λ j d l. group.before j d (omega arith) l) (λ j d l m. group.behind j d l m) ∙ order)
     ∙ numbered_exits at all all 0 (λ j d w. let z : 0 + j ≡ j = omega arith in ap (λ (m : ℕ). get_or all m d) z)

@@ -18,7 +18,8 @@ is_within low a high h i = grind (arith, nat_tests)
 abbrev holds : ℕ × ℕ → ℕ → Bool
 holds r a = nat_le r.0 a && nat_le a r.1
 
-here_or : (r : ℕ × ℕ) (rest : List (ℕ × ℕ)) (a : ℕ) (b : Bool) → holds r a ≡ b → (b || is_in (map kept_of rest) a) ≡ true → (is_in (map kept_of rest) a ≡ true → IsInRuns rest a) → IsInRuns (r ∷ rest) a
+here_or : (r : ℕ × ℕ) (rest : List (ℕ × ℕ)) (a : ℕ) (b : Bool) → holds r a ≡ b → (b || is_in (map kept_of rest) a) ≡ true →
+    (is_in (map kept_of rest) a ≡ true → IsInRuns rest a) → IsInRuns (r ∷ rest) a
 here_or r rest a true e h more = let w = within r.0 a r.1 e in (0, omega arith, w.0, w.1)
 here_or r rest a false e h more = let q = more h in (suc q.0, omega arith, q.2, q.3)
 

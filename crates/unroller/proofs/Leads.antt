@@ -39,7 +39,8 @@ both_ways false false h g = refl
 both_ways true false h g = absurd (let z = h refl in cc)
 both_ways false true h g = absurd (let z = g refl in cc)
 
-any_by : (t u : EdgeEnd) (ts : List EdgeEnd) (b : Bool) → same_end t u ≡ b → (list_any (same_end t) ts ≡ true → Contains ts t) → (b || list_any (same_end t) ts) ≡ true → Contains (u ∷ ts) t
+any_by : (t u : EdgeEnd) (ts : List EdgeEnd) (b : Bool) → same_end t u ≡ b → (list_any (same_end t) ts ≡ true → Contains ts t) →
+    (b || list_any (same_end t) ts) ≡ true → Contains (u ∷ ts) t
 any_by t u ts true e g h = (0, omega arith, sym (same_end_is t u e))
 any_by t u ts false e g h = there u ts t (g h)
 
@@ -53,7 +54,8 @@ or_right false b h = h
 
 in_any : (t : EdgeEnd) (ts : List EdgeEnd) → Contains ts t → list_any (same_end t) ts ≡ true
 in_any t [] (i, w, e) = absurd (omega arith)
-in_any t (u ∷ ts) (zero, w, e) = ap (λ (z : EdgeEnd). same_end t z || list_any (same_end t) ts) e ∙ ap (λ (b : Bool). b || list_any (same_end t) ts) (same_end_self t)
+in_any t (u ∷ ts) (zero, w, e) = ap (λ (z : EdgeEnd). same_end t z || list_any (same_end t) ts) e ∙ ap (λ (b : Bool). b ||
+    list_any (same_end t) ts) (same_end_self t)
 in_any t (u ∷ ts) (suc i, w, e) = or_right (same_end t u) (list_any (same_end t) ts) (in_any t ts (i, omega arith, e))
 
 same_is : (e d : End) → is_same e d ≡ true → e ≡ d
@@ -65,7 +67,8 @@ same_is e d h =
 same_self : (e : End) → is_same e e ≡ true
 same_self e = grind (arith, nat_tests)
 
-among_by : (x other : End) (xs : List End) (b : Bool) → is_same x other ≡ b → (is_among xs other ≡ true → Contains xs other) → (b || is_among xs other) ≡ true → Contains (x ∷ xs) other
+among_by : (x other : End) (xs : List End) (b : Bool) → is_same x other ≡ b → (is_among xs other ≡ true → Contains xs other) → (b || is_among xs other) ≡ true →
+    Contains (x ∷ xs) other
 among_by x other xs true e g h = (0, omega arith, same_is x other e)
 among_by x other xs false e g h = there x xs other (g h)
 
@@ -108,7 +111,8 @@ next_listed (Some d) key e a s h =
     let q = and_parts (d.at == address_of key) (d.stack == stack_of key) h in
     let at : d.at ≡ e.at = (let z : d.at ≡ address_of key = (let y = q.0 in grind (arith, nat_tests)) in z ∙ a) in
     let stack : d.stack ≡ e.stack = (let z : d.stack ≡ stack_of key = (let y = q.1 in grind (arith, nat_tests)) in z ∙ s) in
-    ap (λ (z : ℕ). let r : End = record { stack = z; at = d.at } in Some r) stack ∙ ap (λ (z : ℕ). let r : End = record { stack = e.stack; at = z } in Some r) at
+    ap (λ (z : ℕ). let r : End = record { stack = z; at = d.at } in Some r) stack ∙ ap
+    (λ (z : ℕ). let r : End = record { stack = e.stack; at = z } in Some r) at
 
 listed_next : (o : Option End) (key : ℕ) (e : End) → address_of key ≡ e.at → stack_of key ≡ e.stack → Contains (listed o) e → is_next_key o key ≡ true
 listed_next None key e a s (i, w, q) = absurd (omega arith)
@@ -131,10 +135,13 @@ not_fall true s a (zero, w, e) = absurd (cc)
 not_fall true s a (suc i, w, e) = absurd (omega arith)
 not_fall false s a (i, w, e) = absurd (omega arith)
 
-module _ (p : Program) (k : ℕ) (n : Node) (frames : List Frame) (numbers : BTreeMap (ℕ × ℕ) ℕ) (keys : List ℕ) (own called i : ℕ) (row : Row) (is : IsNode p n) (way : HasOneWay p)
-    (table : IsTable frames numbers) (fits : stack_of own ≤ length frames) (calls : IsCalledBy n (stack_of own) frames called) (some : file_row p n.at ≡ Some row) (here : address_of own ≡ n.at)
+module _ (p : Program) (k : ℕ) (n : Node) (frames : List Frame) (numbers : BTreeMap (ℕ ×
+    ℕ) ℕ) (keys : List ℕ) (own called i : ℕ) (row : Row) (is : IsNode p n) (way : HasOneWay p)
+    (table : IsTable frames numbers) (fits : stack_of own ≤ length frames) (calls : IsCalledBy n (stack_of own) frames called) (some : file_row p n.at
+    ≡ Some row) (here : address_of own ≡ n.at)
     (are : AreKeys p k frames keys) (within : i < length keys) (place : get_or keys i 0 ≡ own) (u : UnrolledProgram) (size : length u.points ≡ length keys)
-    (points : (j : ℕ) → j < length keys → (point_at u j).point ≡ point_of frames (get_or keys j 0)) (led : List Edge) (leads : AreLed n frames keys own called led) where
+    (points : (j : ℕ) → j < length keys → (point_at u j).point
+    ≡ point_of frames (get_or keys j 0)) (led : List Edge) (leads : AreLed n frames keys own called led) where
   abbrev stack : ℕ
   stack = stack_of own
 
@@ -181,13 +188,21 @@ module _ (p : Program) (k : ℕ) (n : Node) (frames : List Frame) (numbers : BTr
       ∙ ap (λ (z : ℕ). if nat_le e.at z then turns_of own + 1 else turns_of own) here
 
   end_same : (e : End) → Contains all e → end_key (target_key own e) ≡ end_at e
-  end_same e h = ap (λ (z : ℕ). ToAddress (stack_at frames z) (address_of (target_key own e))) (stack_key e h) ∙ ap (λ (z : ℕ). ToAddress (stack_at frames e.stack) z) (at_key e h)
+  end_same e h = ap (λ (z : ℕ). ToAddress (stack_at frames z) (address_of (target_key own e))) (stack_key e h) ∙ ap
+      (λ (z : ℕ). ToAddress (stack_at frames e.stack) z) (at_key e h)
 
   point_is : (e : End) → Contains all e → point_of frames (target_key own e) ≡ end_of point (stack_at frames e.stack) e.at
   point_is e h =
-      ap (λ (z : ℕ). let q : Point = record { turns = z; stack = stack_at frames (stack_of (target_key own e)); at = address_of (target_key own e) } in q) (turns_key e h)
-      ∙ ap (λ (z : ℕ). let q : Point = record { turns = (if nat_le e.at n.at then turns_of own + 1 else turns_of own); stack = stack_at frames z; at = address_of (target_key own e) } in q) (stack_key e h)
-      ∙ ap (λ (z : ℕ). let q : Point = record { turns = (if nat_le e.at n.at then turns_of own + 1 else turns_of own); stack = stack_at frames e.stack; at = z } in q) (at_key e h)
+      ap (λ (z : ℕ). let q : Point = record { turns = z; stack = stack_at frames (stack_of (target_key own e)); at = address_of (target_key own e) }
+      in q) (turns_key e h)
+      ∙ ap (λ (z : ℕ). let q : Point = record {
+        turns = (if nat_le e.at n.at then turns_of own + 1
+            else turns_of own);
+        stack = stack_at frames z;
+        at = address_of (target_key own e);
+      } in q) (stack_key e h)
+      ∙ ap (λ (z : ℕ). let q : Point = record { turns = (if nat_le e.at n.at then turns_of own + 1 else turns_of own); stack = stack_at frames e.stack; at = z }
+      in q) (at_key e h)
 
   of_target : (x : ℕ) → Contains leads.targets x → (e : End) × Contains all e × (target_key own e ≡ x)
   of_target x h = of_map (target_key own) all x ((leads.same x).1 h)
@@ -210,10 +225,15 @@ module _ (p : Program) (k : ℕ) (n : Node) (frames : List Frame) (numbers : BTr
 
   found : (e : End) → Contains all e → (end_of point (stack_at frames e.stack) e.at).turns ≤ k → Contains keys (target_key own e)
   found e h le =
-      let there : IsPoint p k (end_of point (stack_at frames e.stack) e.at) = next {point = point} {stack = stack_at frames e.stack} {a = e.at} own_point (in_edges e h) le in
+      let there : IsPoint p k (end_of point (stack_at frames e.stack) e.at) = next {point = point} {stack = stack_at frames e.stack} {a = e.at} own_point
+      (in_edges e h) le in
       let q = are.all (end_of point (stack_at frames e.stack) e.at) there in
-      let low_key : stack_of (target_key own e) ≤ length frames = (let s = stack_key e h in let l = low e h in omega arith) in
-      (q.0, q.1, get_or_default keys q.0 (target_key own e) 0 q.1 ∙ same_key (get_or keys q.0 0) (target_key own e) (are.fits q.0 q.1) low_key (q.2 ∙ sym (point_is e h)))
+      let low_key : stack_of (target_key own e) ≤ length frames = (let s = stack_key e h in let l = low e h in omega arith) in (
+        q.0,
+        q.1,
+        get_or_default keys q.0 (target_key own e) 0 q.1 ∙ same_key (get_or keys q.0 0) (target_key own e) (are.fits q.0 q.1) low_key
+            (q.2 ∙ sym (point_is e h)),
+      )
 
   one_over : (a : ℕ) (b : Bool) → a ≤ k → k < (if b then a + 1 else a) → (if b then a + 1 else a) ≡ suc k
   one_over a true le l = omega arith
@@ -237,8 +257,10 @@ module _ (p : Program) (k : ℕ) (n : Node) (frames : List Frame) (numbers : BTr
       ]
   lead_aim e h Outward q = absurd q
   lead_aim e h OverLast q =
-      elim (cases_lt k (if nat_le e.at n.at then turns_of own + 1 else turns_of own)) as (λ _. (if nat_le e.at n.at then turns_of own + 1 else turns_of own) ≡ suc k) [
-        | inl l ↦ one_over (turns_of own) (nat_le e.at n.at) (let z = are.few i within in let w : turns_of (get_or keys i 0) ≡ turns_of own = ap turns_of place in omega arith) l
+      elim (cases_lt k (if nat_le e.at n.at then turns_of own + 1 else turns_of own)) as
+      (λ _. (if nat_le e.at n.at then turns_of own + 1 else turns_of own) ≡ suc k) [
+        | inl l ↦ one_over (turns_of own) (nat_le e.at n.at) (let z = are.few i within in let w : turns_of (get_or keys i 0)
+            ≡ turns_of own = ap turns_of place in omega arith) l
         | inr le ↦ absurd (q (found e h le))
       ]
 
@@ -255,7 +277,8 @@ module _ (p : Program) (k : ℕ) (n : Node) (frames : List Frame) (numbers : BTr
       (λ t. in_any (end_at e) (fall_ends point row s) (by.1 (in_listed next_end e (next_listed next_end (target_key own e) e (at_key e h) (stack_key e h) t))))
       (λ t. listed_next next_end (target_key own e) e (at_key e h) (stack_key e h) (by.0 (any_in (end_at e) (fall_ends point row s) t)))
 
-  jumps_is : (e : End) → Contains all e → (not (is_next_key next_end (target_key own e)) || is_both jumps next_end) ≡ list_any (same_end (end_at e)) (jump_ends p point row s)
+  jumps_is : (e : End) → Contains all e → (not (is_next_key next_end (target_key own e)) ||
+      is_both jumps next_end) ≡ list_any (same_end (end_at e)) (jump_ends p point row s)
   jumps_is e h =
       let by = by_jump p n frames numbers (turns_of own) stack called row is way table fits calls some e h in
       jump_bool (is_among jumps e) (is_next_key next_end (target_key own e)) (is_both jumps next_end)
@@ -268,23 +291,28 @@ module _ (p : Program) (k : ℕ) (n : Node) (frames : List Frame) (numbers : BTr
       (λ t. in_any (end_at e) (jump_ends p point row s) (by.1 (among_in jumps e t)))
       (λ t. in_among jumps e (by.0 (any_in (end_at e) (jump_ends p point row s) t)))
 
-  led_end : (e : End) → Contains all e → (d : Edge) → IsLedTo keys next_end (is_both jumps next_end) (target_key own e) d → IsEdge p k u i point row (end_at e) (edge_of d)
+  led_end : (e : End) → Contains all e → (d : Edge) → IsLedTo keys next_end (is_both jumps next_end) (target_key own e) d →
+      IsEdge p k u i point row (end_at e) (edge_of d)
   led_end e h d l = record {
     aim = aim_of d.aim;
     leads = lead_aim e h d.aim l.aim;
     is =
         ap (λ (b : Bool). Along b d.jumps d.to (aim_of d.aim)) (l.falls ∙ falls_is e h)
         ∙ ap (λ (b : Bool). Along (list_any (same_end (end_at e)) (fall_ends point row s)) b d.to (aim_of d.aim)) (l.jumps ∙ jumps_is e h)
-        ∙ ap (λ (o : Option ℕ). Along (list_any (same_end (end_at e)) (fall_ends point row s)) (list_any (same_end (end_at e)) (jump_ends p point row s)) o (aim_of d.aim)) (l.to ∙ ap Some (at_key e h));
+        ∙ ap (λ (o : Option ℕ). Along (list_any (same_end (end_at e)) (fall_ends point row s)) (list_any (same_end (end_at e)) (jump_ends p point row s)) o
+        (aim_of d.aim)) (l.to ∙ ap Some (at_key e h));
   }
 
-  led_key : (x : ℕ) → Contains leads.targets x → (d : Edge) → IsLedTo keys next_end (is_both jumps next_end) x d → IsEdge p k u i point row (end_key x) (edge_of d)
+  led_key : (x : ℕ) → Contains leads.targets x → (d : Edge) → IsLedTo keys next_end (is_both jumps next_end) x d →
+      IsEdge p k u i point row (end_key x) (edge_of d)
   led_key x h d l =
       let q = of_target x h in
-      let l2 : IsLedTo keys next_end (is_both jumps next_end) (target_key own q.0) d = subst (λ (z : ℕ). IsLedTo keys next_end (is_both jumps next_end) z d) (sym q.2) l in
+      let l2 : IsLedTo keys next_end (is_both jumps next_end) (target_key own q.0) d = subst
+      (λ (z : ℕ). IsLedTo keys next_end (is_both jumps next_end) z d) (sym q.2) l in
       subst (λ (z : EdgeEnd). IsEdge p k u i point row z (edge_of d)) (sym (end_same q.0 q.1) ∙ ap end_key q.2) (led_end q.0 q.1 d l2)
 
-  zip_keys : (xs : List ℕ) (ds : List Edge) → ((x : ℕ) → Contains xs x → Contains leads.targets x) → AllZip (IsLedTo keys next_end (is_both jumps next_end)) xs ds
+  zip_keys : (xs : List ℕ) (ds : List Edge) → ((x : ℕ) → Contains xs x → Contains leads.targets x) →
+      AllZip (IsLedTo keys next_end (is_both jumps next_end)) xs ds
       → AllZip (IsEdge p k u i point row) (map end_key xs) (map edge_of ds)
   zip_keys [] [] g h = tt
   zip_keys [] (d ∷ ds) g h = absurd h
@@ -307,7 +335,8 @@ module _ (p : Program) (k : ℕ) (n : Node) (frames : List Frame) (numbers : BTr
   exit_jump : Contains (edges p point) ToExit → Contains (jump_ends p point row s) ToExit
   exit_jump h =
       let q = (of_filter leads_on (edges_by p point (file_row p n.at)) ToExit (of_distinct (filter_of (file_row p n.at)) ToExit h)).0 in
-      let inside : Contains (jump_ends p point row s ++ fall_ends point row s) ToExit = subst (λ (o : Option Row). Contains (edges_by p point o) ToExit) some q in
+      let inside : Contains (jump_ends p point row s ++ fall_ends point row s) ToExit = subst
+      (λ (o : Option Row). Contains (edges_by p point o) ToExit) some q in
       elim (split_in (jump_ends p point row s) (fall_ends point row s) ToExit inside) [
         | inl j ↦ j
         | inr g ↦ absurd (not_fall s.next (stack_at frames stack) (add 32 n.at row.length) g)
@@ -322,7 +351,8 @@ module _ (p : Program) (k : ℕ) (n : Node) (frames : List Frame) (numbers : BTr
     leads = tt;
     is =
         ap (λ (b : Bool). Along b true None walk.Outward) (sym (no_exit_fall s.next (stack_at frames stack) (add 32 n.at row.length)))
-        ∙ ap (λ (b : Bool). Along (list_any (same_end ToExit) (fall_ends point row s)) b None walk.Outward) (sym (in_any ToExit (jump_ends p point row s) (exit_jump h)));
+        ∙ ap (λ (b : Bool). Along (list_any (same_end ToExit) (fall_ends point row s)) b None walk.Outward)
+        (sym (in_any ToExit (jump_ends p point row s) (exit_jump h)));
   }
 
   abbrev exit_ends : Bool → List EdgeEnd
@@ -334,7 +364,8 @@ module _ (p : Program) (k : ℕ) (n : Node) (frames : List Frame) (numbers : BTr
   no_exit : Contains (map end_key leads.targets) ToExit → ⊥
   no_exit h = let q = of_map end_key leads.targets ToExit h in absurd (let e = q.2 in cc)
 
-  zip_by : (b : Bool) → (n.returns && (stack == 0)) ≡ b → AllZip (IsEdge p k u i point row) (ends b) (map edge_of ((if b then exit_edge ∷ [] else []) ++ leads.rest))
+  zip_by : (b : Bool) → (n.returns && (stack == 0)) ≡ b → AllZip (IsEdge p k u i point row) (ends b) (map edge_of ((if b then exit_edge ∷ [] else [])
+      ++ leads.rest))
   zip_by true e = (exit_is (exit_true e), zip_keys leads.targets leads.rest (λ x h. h) leads.each)
   zip_by false e = zip_keys leads.targets leads.rest (λ x h. h) leads.each
 
@@ -350,7 +381,8 @@ module _ (p : Program) (k : ℕ) (n : Node) (frames : List Frame) (numbers : BTr
       to (ToAddress s a) h =
           let q = edge_all p n frames numbers (turns_of own) stack called row is way table fits calls some s a h in
           in_right (exit_ends b) (map end_key leads.targets) (ToAddress s a)
-          (subst (λ (z : EdgeEnd). Contains (map end_key leads.targets) z) (end_same q.0 q.1 ∙ ap (λ (z : List ℕ). ToAddress z q.0.at) q.2 ∙ ap (λ (z : ℕ). ToAddress s z) q.3)
+          (subst (λ (z : EdgeEnd). Contains (map end_key leads.targets) z) (end_same q.0 q.1 ∙ ap (λ (z : List ℕ). ToAddress z q.0.at) q.2 ∙ ap
+          (λ (z : ℕ). ToAddress s z) q.3)
           (in_map end_key leads.targets (target_key own q.0) (to_target q.0 q.1)))
 
       of_key : (t : EdgeEnd) → Contains (map end_key leads.targets) t → Contains (edges p point) t
@@ -397,7 +429,8 @@ module _ (p : Program) (k : ℕ) (n : Node) (frames : List Frame) (numbers : BTr
   keys_once a b l w e =
       let c = map_length leads.targets in
       key_apart a b l (omega arith)
-      (some_same (end_key (get_or leads.targets a 0)) (end_key (get_or leads.targets b 0)) (sym (get_mapped leads.targets a (omega arith)) ∙ e ∙ get_mapped leads.targets b (omega arith)))
+      (some_same (end_key (get_or leads.targets a 0)) (end_key (get_or leads.targets b 0))
+      (sym (get_mapped leads.targets a (omega arith)) ∙ e ∙ get_mapped leads.targets b (omega arith)))
 
   not_first : (b : ℕ) → b < length (map end_key leads.targets) → Some ToExit ≡ slice_get (map end_key leads.targets) b → ⊥
   not_first b w e = let c = map_length leads.targets in let q = e ∙ get_mapped leads.targets b (omega arith) in absurd (cc)

@@ -48,7 +48,8 @@ forms_are_right m u fitted =
     let n = length form.registers in
     record {
       registers = λ r. in_form r form.first n ∙ sym (fitted.registers r);
-      rise = λ i j l h. let c = count_of form.first n in let a = at_form form.first n i (omega arith) in let b = at_form form.first n j (omega arith) in omega arith;
+      rise = λ i j l h. let c = count_of form.first n in let a = at_form form.first n i (omega arith) in let b = at_form form.first n j (omega arith)
+          in omega arith;
       flags = λ f. sym (fitted.flags f);
       laid = record { registers = refl; flags = refl };
     }

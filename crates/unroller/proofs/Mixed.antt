@@ -38,28 +38,33 @@ module _ (k : ℕ → Bool) (h : ℕ → ℕ) where
   kept_flag true x y e = refl
   kept_flag false x y e = absurd (cc)
 
-  get_same : (x : BilVariable) (e : Env) (known : BilVariable → Bool) → ((f : ℕ) → known (Flag f) ≡ true → k f ≡ true) → known x ≡ true → get x (mix e) ≡ get x e
+  get_same : (x : BilVariable) (e : Env) (known : BilVariable → Bool) → ((f : ℕ) → known (Flag f) ≡ true → k f ≡ true) → known x ≡ true →
+      get x (mix e) ≡ get x e
   get_same (Register b r) e known kn n = refl
   get_same (Flag f) e known kn n = ap (λ (v : ℕ). Word 1 v) (kept_flag (k f) (e.flags f) (h f) (kn f n))
   get_same Mem e known kn n = refl
   get_same (Local x w) e known kn n = refl
 
-  in_if : (b : Bool) (e : Env) (f : Env → Value) → ((t : Env) → f (mix t) ≡ f t) → in_env (if b then Some (mix e) else None) f ≡ in_env (if b then Some e else None) f
+  in_if : (b : Bool) (e : Env) (f : Env → Value) → ((t : Env) → f (mix t) ≡ f t) →
+      in_env (if b then Some (mix e) else None) f ≡ in_env (if b then Some e else None) f
   in_if true e f same = same e
   in_if false e f same = refl
 
-  let_same : (x n : ℕ) (v : Value) (e : Env) (f : Env → Value) → ((t : Env) → f (mix t) ≡ f t) → in_env (assign (Local x n) v (mix e)) f ≡ in_env (assign (Local x n) v e) f
+  let_same : (x n : ℕ) (v : Value) (e : Env) (f : Env → Value) → ((t : Env) → f (mix t) ≡ f t) →
+      in_env (assign (Local x n) v (mix e)) f ≡ in_env (assign (Local x n) v e) f
   let_same x n (Word m w) e f same = in_if (m == n) (record e { locals = put_local x n w e.locals }) f same
   let_same x n (Bytes m) e f same = refl
   let_same x n Stuck e f same = refl
 
-  pub value_same : (x : Expression) (c : ℕ) (e : Env) (known : BilVariable → Bool) → ((f : ℕ) → known (Flag f) ≡ true → k f ≡ true) → names_only x known ≡ true →
+  pub value_same : (x : Expression) (c : ℕ) (e : Env) (known : BilVariable → Bool) → ((f : ℕ) → known (Flag f) ≡ true → k f ≡ true) →
+      names_only x known ≡ true →
       evaluate x c (mix e) ≡ evaluate x c e
   value_same (Var x) c e known kn n = get_same x e known kn n
   value_same (Constant w v) c e known kn n = refl
   value_same (Load m a o w) c e known kn n =
       let b = both (names_only m known) (names_only a known) n in
-      ap (λ (z : Value). load_from o w z (evaluate a c (mix e))) (value_same m c e known kn b.0) ∙ ap (λ (z : Value). load_from o w (evaluate m c e) z) (value_same a c e known kn b.1)
+      ap (λ (z : Value). load_from o w z (evaluate a c (mix e))) (value_same m c e known kn b.0) ∙ ap
+      (λ (z : Value). load_from o w (evaluate m c e) z) (value_same a c e known kn b.1)
   value_same (Store m a o w v) c e known kn n =
       let b = all_three (names_only m known) (names_only a known) (names_only v known) n in
       ap (λ (z : Value). store_to o w z (evaluate a c (mix e)) (evaluate v c (mix e))) (value_same m c e known kn b.0)
@@ -67,7 +72,8 @@ module _ (k : ℕ → Bool) (h : ℕ → ℕ) where
       ∙ ap (λ (z : Value). store_to o w (evaluate m c e) (evaluate a c e) z) (value_same v c e known kn b.2)
   value_same (Binary o a b) c e known kn n =
       let l = both (names_only a known) (names_only b known) n in
-      ap (λ (z : Value). binary o z (evaluate b c (mix e))) (value_same a c e known kn l.0) ∙ ap (λ (z : Value). binary o (evaluate a c e) z) (value_same b c e known kn l.1)
+      ap (λ (z : Value). binary o z (evaluate b c (mix e))) (value_same a c e known kn l.0) ∙ ap
+      (λ (z : Value). binary o (evaluate a c e) z) (value_same b c e known kn l.1)
   value_same (Unary o a) c e known kn n = ap (λ (z : Value). unary o z) (value_same a c e known kn n)
   value_same (Cast o w a) c e known kn n = ap (λ (z : Value). cast_to o w z) (value_same a c e known kn n)
   value_same (Let x w a b) c e known kn n =
@@ -83,7 +89,8 @@ module _ (k : ℕ → Bool) (h : ℕ → ℕ) where
   value_same (Extract hi lo a) c e known kn n = ap (λ (z : Value). extract_from hi lo z) (value_same a c e known kn n)
   value_same (Concat a b) c e known kn n =
       let l = both (names_only a known) (names_only b known) n in
-      ap (λ (z : Value). concat_of z (evaluate b c (mix e))) (value_same a c e known kn l.0) ∙ ap (λ (z : Value). concat_of (evaluate a c e) z) (value_same b c e known kn l.1)
+      ap (λ (z : Value). concat_of z (evaluate b c (mix e))) (value_same a c e known kn l.0) ∙ ap
+      (λ (z : Value). concat_of (evaluate a c e) z) (value_same b c e known kn l.1)
 
   put_point : (b d : Bool) (v x y : ℕ) → (b ≡ true → d ≡ true) → (if b then v else (if d then x else y)) ≡ (if d then (if b then v else x) else y)
   put_point true true v x y i = refl
@@ -102,7 +109,8 @@ module _ (k : ℕ → Bool) (h : ℕ → ℕ) where
 
   assign_same : (x : BilVariable) (v : Value) (e : Env) (known : BilVariable → Bool) → ((f : ℕ) → known (Flag f) ≡ true → k f ≡ true) → known x ≡ true →
       assign x v (mix e) ≡ option_map mix (assign x v e)
-  assign_same (Register b r) (Word n v) e known kn is = some_if (n == 32) (record e { regs = state.put e.regs r v }) (record (mix e) { regs = state.put e.regs r v }) refl
+  assign_same (Register b r) (Word n v) e known kn is = some_if (n == 32) (record e { regs = state.put e.regs r v })
+      (record (mix e) { regs = state.put e.regs r v }) refl
   assign_same (Register b r) (Bytes m) e known kn is = refl
   assign_same (Register b r) Stuck e known kn is = refl
   assign_same (Flag f) (Word n v) e known kn is =
@@ -113,7 +121,8 @@ module _ (k : ℕ → Bool) (h : ℕ → ℕ) where
   assign_same Mem (Bytes m) e known kn is = refl
   assign_same Mem (Word n v) e known kn is = refl
   assign_same Mem Stuck e known kn is = refl
-  assign_same (Local x w) (Word n v) e known kn is = some_if (n == w) (record e { locals = put_local x w v e.locals }) (record (mix e) { locals = put_local x w v e.locals }) refl
+  assign_same (Local x w) (Word n v) e known kn is = some_if (n == w) (record e { locals = put_local x w v e.locals })
+      (record (mix e) { locals = put_local x w v e.locals }) refl
   assign_same (Local x w) (Bytes m) e known kn is = refl
   assign_same (Local x w) Stuck e known kn is = refl
 
@@ -127,7 +136,8 @@ module _ (k : ℕ → Bool) (h : ℕ → ℕ) where
   assigned_same None s = refl
   assigned_same (Some e) s = refl
 
-  jump_if : (b : Bool) (v : ℕ) (s : Position) → (if b then Ends (record (mix_at s) { jump = Some v }) else Wrong) ≡ mix_end (if b then Ends (record s { jump = Some v }) else Wrong)
+  jump_if : (b : Bool) (v : ℕ) (s : Position) → (if b then Ends (record (mix_at s) { jump = Some v }) else Wrong)
+      ≡ mix_end (if b then Ends (record s { jump = Some v }) else Wrong)
   jump_if true v s = refl
   jump_if false v s = refl
 
@@ -144,7 +154,8 @@ module _ (k : ℕ → Bool) (h : ℕ → ℕ) where
   branch_same (Bytes m) a b = refl
   branch_same Stuck a b = refl
 
-  pub list_same : (list : Statements) (c : ℕ) (s : Position) (known : BilVariable → Bool) → ((f : ℕ) → known (Flag f) ≡ true → k f ≡ true) → has_no_loop list ≡ true →
+  pub list_same : (list : Statements) (c : ℕ) (s : Position) (known : BilVariable → Bool) → ((f : ℕ) → known (Flag f) ≡ true → k f ≡ true) →
+      has_no_loop list ≡ true →
       list_names_only list known ≡ true → execute list c (mix_at s) ≡ mix_end (execute list c s)
   list_same Empty c s known kn free n = refl
   list_same (Assign x e rest) c s known kn free n =
@@ -170,11 +181,13 @@ module _ (k : ℕ → Bool) (h : ℕ → ℕ) where
       ∙ ap (λ (z : Ending). then_do z (execute rest c)) (branch_same (evaluate e c s.env) (execute a c s) (execute b c s))
       ∙ then_same (branch_on (evaluate e c s.env) (execute a c s) (execute b c s)) (execute rest c) (λ t. list_same rest c t known kn o.2 l.3)
 
-  stored_if : (b : Bool) (e : Env) (f : Env → List ℕ) → ((t : Env) → f (mix t) ≡ f t) → stored_in (if b then Some (mix e) else None) f ≡ stored_in (if b then Some e else None) f
+  stored_if : (b : Bool) (e : Env) (f : Env → List ℕ) → ((t : Env) → f (mix t) ≡ f t) →
+      stored_in (if b then Some (mix e) else None) f ≡ stored_in (if b then Some e else None) f
   stored_if true e f same = same e
   stored_if false e f same = refl
 
-  let_stores : (x n : ℕ) (v : Value) (e : Env) (f : Env → List ℕ) → ((t : Env) → f (mix t) ≡ f t) → stored_in (assign (Local x n) v (mix e)) f ≡ stored_in (assign (Local x n) v e) f
+  let_stores : (x n : ℕ) (v : Value) (e : Env) (f : Env → List ℕ) → ((t : Env) → f (mix t) ≡ f t) →
+      stored_in (assign (Local x n) v (mix e)) f ≡ stored_in (assign (Local x n) v e) f
   let_stores x n (Word m w) e f same = stored_if (m == n) (record e { locals = put_local x n w e.locals }) f same
   let_stores x n (Bytes m) e f same = refl
   let_stores x n Stuck e f same = refl
@@ -182,7 +195,8 @@ module _ (k : ℕ → Bool) (h : ℕ → ℕ) where
   append_both : (a b x y : List ℕ) → a ≡ b → x ≡ y → a ++ x ≡ b ++ y
   append_both a b x y p q = ap (λ (z : List ℕ). z ++ x) p ∙ ap (λ (z : List ℕ). b ++ z) q
 
-  pub stores_same : (x : Expression) (c : ℕ) (e : Env) (known : BilVariable → Bool) → ((f : ℕ) → known (Flag f) ≡ true → k f ≡ true) → names_only x known ≡ true →
+  pub stores_same : (x : Expression) (c : ℕ) (e : Env) (known : BilVariable → Bool) → ((f : ℕ) → known (Flag f) ≡ true → k f ≡ true) →
+      names_only x known ≡ true →
       stored_by x c (mix e) ≡ stored_by x c e
   stores_same (Var x) c e known kn n = refl
   stores_same (Constant w v) c e known kn n = refl
@@ -190,7 +204,8 @@ module _ (k : ℕ → Bool) (h : ℕ → ℕ) where
       let b = both (names_only m known) (names_only a known) n in append_both _ _ _ _ (stores_same m c e known kn b.0) (stores_same a c e known kn b.1)
   stores_same (Store m a o w v) c e known kn n =
       let b = all_three (names_only m known) (names_only a known) (names_only v known) n in
-      append_both _ _ _ _ (append_both _ _ _ _ (append_both _ _ _ _ (stores_same m c e known kn b.0) (stores_same a c e known kn b.1)) (stores_same v c e known kn b.2))
+      append_both _ _ _ _ (append_both _ _ _ _ (append_both _ _ _ _ (stores_same m c e known kn b.0) (stores_same a c e known kn b.1))
+      (stores_same v c e known kn b.2))
       (ap (λ (z : Value). bytes_at (w / 8) z) (value_same a c e known kn b.1))
   stores_same (Binary o a b) c e known kn n =
       let l = both (names_only a known) (names_only b known) n in append_both _ _ _ _ (stores_same a c e known kn l.0) (stores_same b c e known kn l.1)
@@ -218,7 +233,8 @@ module _ (k : ℕ → Bool) (h : ℕ → ℕ) where
   then_stores (OutOfTurns s) f same = refl
   then_stores Wrong f same = refl
 
-  pub list_stores_same : (list : Statements) (c : ℕ) (s : Position) (known : BilVariable → Bool) → ((f : ℕ) → known (Flag f) ≡ true → k f ≡ true) → has_no_loop list ≡ true →
+  pub list_stores_same : (list : Statements) (c : ℕ) (s : Position) (known : BilVariable → Bool) → ((f : ℕ) → known (Flag f) ≡ true → k f ≡ true) →
+      has_no_loop list ≡ true →
       list_names_only list known ≡ true → list_stored list c (mix_at s) ≡ list_stored list c s
   list_stores_same Empty c s known kn free n = refl
   list_stores_same (Assign x e rest) c s known kn free n =

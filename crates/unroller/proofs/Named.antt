@@ -31,7 +31,8 @@ names_wider (Unary o a) k l w h = names_wider a k l w h
 names_wider (Cast o n a) k l w h = names_wider a k l w h
 names_wider (Let x n a b) k l w h =
     let c = both (names_only a k) (names_only b (λ y. is_local x n y || k y)) h in
-    join _ _ (names_wider a k l w c.0) (names_wider b (λ y. is_local x n y || k y) (λ y. is_local x n y || l y) (λ y i. wider_or (is_local x n y) (k y) (l y) (w y) i) c.1)
+    join _ _ (names_wider a k l w c.0) (names_wider b (λ y. is_local x n y || k y) (λ y. is_local x n y ||
+    l y) (λ y i. wider_or (is_local x n y) (k y) (l y) (w y) i) c.1)
 names_wider (Unknown t) k l w h = refl
 names_wider (Choose t a b) k l w h =
     let c = all_three (names_only t k) (names_only a k) (names_only b k) h in
@@ -53,7 +54,8 @@ all_wider (If e a b rest) k l w h =
     let c = all_four (names_only e k) (list_names_only a k) (list_names_only b k) (list_names_only rest k) h in
     join _ _ (join _ _ (join _ _ (names_wider e k l w c.0) (all_wider a k l w c.1)) (all_wider b k l w c.2)) (all_wider rest k l w c.3)
 
-module _ (m : Machine) (bank : Bank) (u : UnrolledProgram) (registers : (r : ℕ) → is_register_of u r ≡ m.has_register r) (flags : (f : ℕ) → is_flag_of u f ≡ m.has_flag f) where
+module _ (m : Machine) (bank : Bank) (u : UnrolledProgram) (registers : (r : ℕ) → is_register_of u r ≡ m.has_register r) (flags : (f : ℕ) →
+    is_flag_of u f ≡ m.has_flag f) where
   own_wider : Wider (is_own m bank) (is_variable_of u)
   own_wider (Register b r) h = registers r ∙ (both (is_bank b bank) (m.has_register r) h).1
   own_wider (Flag f) h = flags f ∙ h

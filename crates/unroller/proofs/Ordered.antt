@@ -48,7 +48,8 @@ absent xs x i searching up (k, w, e) =
     ]
 
 -- one more element of a list that is mapped
-pub map_more : {X : Type 0} (f : X → ℕ) (xs : List X) (i : ℕ) (d : X) (ys zs : List ℕ) → i < length xs → ys ≡ map f (take i xs) → zs ≡ ys ++ f (get_or xs i d) ∷ [] → zs ≡ map f (take (i + 1) xs)
+pub map_more : {X : Type 0} (f : X → ℕ) (xs : List X) (i : ℕ) (d : X) (ys zs : List ℕ) → i < length xs → ys ≡ map f (take i xs) →
+    zs ≡ ys ++ f (get_or xs i d) ∷ [] → zs ≡ map f (take (i + 1) xs)
 map_more f xs i d ys zs w is more =
     more ∙ ap (λ (l : List ℕ). l ++ f (get_or xs i d) ∷ []) is ∙ sym (map_append f (take i xs) (get_or xs i d ∷ [])) ∙ sym (ap (map f) (take_more xs i d w))
   where

@@ -22,15 +22,22 @@ use Rattle.unroller.specs.Places.{IsCode, AreEdgesAt, HasFitRow, PlacesAreRight}
 use Rattle.unroller.proofs.Rows.{liftings_do_rows}
 
 module _ (p : Program) (k : ℕ) (u : Unrolled) (form : Layout) (bank : Bank) (i : ℕ) (q : declared.Point) (edges : List Edge) (fitted : IsFitted p.machine form)
-    (registers : (r : ℕ) → is_register_of (unrolled_of u) r ≡ p.machine.has_register r) (flags : (f : ℕ) → is_flag_of (unrolled_of u) f ≡ p.machine.has_flag f) where
+    (registers : (r : ℕ) → is_register_of (unrolled_of u) r ≡ p.machine.has_register r) (flags : (f : ℕ) →
+    is_flag_of (unrolled_of u) f ≡ p.machine.has_flag f) where
   place_by : (at : ℕ) (f : Bool) (list : Option (Vec Stmt)) (draws : Bool) (row loads stores : ℕ) (asserts : ℕ × ℕ) →
       let c : Code = record { at = at; fetchable = f; list = list; draws = draws; row = row; loads = loads; stores = stores; asserts = asserts } in
-      HasFitRow p at → IsCode p bank u q c edges → ((r : Row) → file_row p at ≡ Some r → AreEdgesAt p k (unrolled_of u) i (point_by u q c edges).point r edges) →
+      HasFitRow p at → IsCode p bank u q c edges → ((r : Row) → file_row p at ≡ Some r →
+      AreEdgesAt p k (unrolled_of u) i (point_by u q c edges).point r edges) →
       (o : Option Row) → file_row p at ≡ o → IsPlace p k (unrolled_of u) i (point_by u q c edges) o
   place_by at f None draws row loads stores asserts fit code led None is =
-      let x = (point_by u q (record { at = at; fetchable = f; list = None; draws = draws; row = row; loads = loads; stores = stores; asserts = asserts }) edges) in
+      let x = (point_by u q (record { at = at; fetchable = f; list = None; draws = draws; row = row; loads = loads; stores = stores; asserts = asserts }) edges)
+      in
       record {
-        does = (refl, ap (λ (z : List PointExit). z ++ Always (stop_event f) ∷ []) code.asserts ∙ ap (λ (b : Bool). assert_exits p x.point ++ Always (stop_event b) ∷ []) code.own.fetchable);
+        does = (
+          refl,
+          ap (λ (z : List PointExit). z ++ Always (stop_event f) ∷ []) code.asserts ∙ ap
+              (λ (b : Bool). assert_exits p x.point ++ Always (stop_event b) ∷ []) code.own.fetchable,
+        );
         terms = record {
           typed = refl;
           no_loop = refl;
@@ -44,16 +51,33 @@ module _ (p : Program) (k : ℕ) (u : Unrolled) (form : Layout) (bank : Bank) (i
           loads = omega arith;
           byte_stores = omega arith;
         };
-        counted = record { draws = code.own.draws ∙ ap row_draws is; row_cost = code.own.row ∙ ap row_price is; loads = code.own.loads ∙ ap (λ (z : Option Row). loads_at p at z) is; stores = code.own.stores ∙ ap stores_at is };
+        counted = record {
+          draws = code.own.draws ∙ ap row_draws is;
+          row_cost = code.own.row ∙ ap row_price is;
+          loads = code.own.loads ∙ ap
+              (λ (z : Option Row). loads_at p at z) is;
+          stores = code.own.stores ∙ ap stores_at is;
+        };
       }
-  place_by at f None draws row loads stores asserts fit code led (Some r) is = absurd (subst (λ (z : Option Row). IsLiftedWord p.machine bank z at None) is code.own.list)
-  place_by at f (Some v) draws row loads stores asserts fit code led None is = absurd (subst (λ (z : Option Row). IsLiftedWord p.machine bank z at (Some v)) is code.own.list)
+  place_by at f None draws row loads stores asserts fit code led (Some r) is = absurd (subst
+      (λ (z : Option Row). IsLiftedWord p.machine bank z at None) is code.own.list)
+  place_by at f (Some v) draws row loads stores asserts fit code led None is = absurd (subst
+      (λ (z : Option Row). IsLiftedWord p.machine bank z at (Some v)) is code.own.list)
   place_by at f (Some v) draws row loads stores asserts fit code led (Some r) is =
-      let x = (point_by u q (record { at = at; fetchable = f; list = Some v; draws = draws; row = row; loads = loads; stores = stores; asserts = asserts }) edges) in
+      let x = (point_by u q (record { at = at; fetchable = f; list = Some v; draws = draws; row = row; loads = loads; stores = stores; asserts = asserts })
+      edges) in
       let counted : IsCounted p x (Some r) =
-      record { draws = code.own.draws ∙ ap row_draws is; row_cost = code.own.row ∙ ap row_price is; loads = code.own.loads ∙ ap (λ (z : Option Row). loads_at p at z) is; stores = code.own.stores ∙ ap stores_at is } in
-      let lifting : IsLifting p.machine bank r at (statements v.items) = subst (λ (z : Option Row). IsLiftedWord p.machine bank z at (Some v)) is code.own.list in
-      let law = liftings_do_rows p (unrolled_of u) form bank x r (statements v.items) fitted registers flags is (fit.lawful r is) (fit.plain r is) lifting refl (sym (fit.four r is)) counted in
+      record {
+        draws = code.own.draws ∙ ap row_draws is;
+        row_cost = code.own.row ∙ ap row_price is;
+        loads = code.own.loads ∙ ap
+            (λ (z : Option Row). loads_at p at z) is;
+        stores = code.own.stores ∙ ap stores_at is;
+      } in
+      let lifting : IsLifting p.machine bank r at (statements v.items) = subst
+      (λ (z : Option Row). IsLiftedWord p.machine bank z at (Some v)) is code.own.list in
+      let law = liftings_do_rows p (unrolled_of u) form bank x r (statements v.items) fitted registers flags is (fit.lawful r is) (fit.plain r is) lifting refl
+      (sym (fit.four r is)) counted in
       record {
         does = (map edge_of edges, ap (λ (z : List PointExit). z ++ Raising ∷ WritingKept ∷ Unaligned ∷ map edge_of edges) code.asserts, led r is, law.0);
         terms = law.1;
@@ -62,4 +86,5 @@ module _ (p : Program) (k : ℕ) (u : Unrolled) (form : Layout) (bank : Bank) (i
 
 pub places_are_right : PlacesAreRight
 places_are_right p k u form bank i q c edges fitted registers flags fit code led =
-    place_by p k u form bank i q edges fitted registers flags c.at c.fetchable c.list c.draws c.row c.loads c.stores c.asserts fit code led (file_row p c.at) refl
+    place_by p k u form bank i q edges fitted registers flags c.at c.fetchable c.list c.draws c.row c.loads c.stores c.asserts fit code led
+    (file_row p c.at) refl

@@ -40,13 +40,15 @@ slice_left xs ys a b le w =
     ap (take (b - a)) (drop_left xs ys a (omega arith)) ∙ take_left (drop a xs) ys (b - a) (omega arith)
 
 slice_right : {X : Type 0} (xs ys : List X) → slice_range (xs ++ ys) (length xs) (length (xs ++ ys)) ≡ ys
-slice_right xs ys = let a = length-append xs ys in ap (take (length (xs ++ ys) - length xs)) (drop_all xs ys) ∙ take_whole ys (length (xs ++ ys) - length xs) (omega arith)
+slice_right xs ys = let a = length-append xs ys in ap (take (length (xs ++ ys) - length xs)) (drop_all xs ys) ∙ take_whole ys (length (xs
+    ++ ys) - length xs) (omega arith)
 
 begins_by : (edges grown : List Edge) (q : Point) (ps : List Point) → q.edges ≡ length edges → begins_at grown (ps ++ q ∷ []) ≡ begins_at edges ps
 begins_by edges grown q [] e = e
 begins_by edges grown q (p ∷ ps) e = refl
 
-begins_keep : (edges grown : List Edge) (q : Point) (ps : List Point) (j : ℕ) → j < length ps → q.edges ≡ length edges → begins_at grown (drop (suc j) (ps ++ q ∷ [])) ≡ begins_at edges (drop (suc j) ps)
+begins_keep : (edges grown : List Edge) (q : Point) (ps : List Point) (j : ℕ) → j < length ps → q.edges ≡ length edges →
+    begins_at grown (drop (suc j) (ps ++ q ∷ [])) ≡ begins_at edges (drop (suc j) ps)
 begins_keep edges grown q [] j w e = absurd (omega arith)
 begins_keep edges grown q (p ∷ ps) zero w e = begins_by edges grown q ps e
 begins_keep edges grown q (p ∷ ps) (suc j) w e = begins_keep edges grown q ps j (omega arith) e
@@ -58,7 +60,8 @@ drop_past (x ∷ xs) zero le = absurd (omega arith)
 drop_past (x ∷ xs) (suc n) le = drop_past xs n (omega arith)
 
 module _ (g : Graph) (frames : List Frame) (keys addresses called : List ℕ) where
-  kept : (key number : ℕ) (q : Point) (bound new_bound : ℕ) (edges led grown : List Edge) → grown ≡ edges ++ led → new_bound ≡ bound → IsPlacedAt g frames keys addresses key number q bound edges
+  kept : (key number : ℕ) (q : Point) (bound new_bound : ℕ) (edges led grown : List Edge) → grown ≡ edges ++ led → new_bound ≡ bound →
+      IsPlacedAt g frames keys addresses key number q bound edges
       → IsPlacedAt g frames keys addresses key number q new_bound grown
   kept key number q bound new_bound edges led grown is same at =
       let long = longer edges led grown is in
@@ -83,42 +86,51 @@ module _ (g : Graph) (frames : List Frame) (keys addresses called : List ℕ) wh
   pub placed_none : (points : List Point) (edges : List Edge) → points ≡ [] → ArePlaced g frames keys addresses called 0 points edges
   placed_none points edges e = record { count = ap length e; each = λ i d w. absurd (omega arith) }
 
-  pub placed_more : (i : ℕ) (points more : List Point) (edges grown : List Edge) (q : Point) (n : Node) → ArePlaced g frames keys addresses called i points edges → more ≡ points ++ q ∷ [] →
-      q.turns ≡ turns_of (get_or keys i 0) → q.stack ≡ stack_of (get_or keys i 0) → q.code < length addresses → get_or addresses q.code 0 ≡ address_of (get_or keys i 0) → q.edges ≡ length edges →
-      Contains g.nodes.items n → n.at ≡ address_of (get_or keys i 0) → HasLed n frames keys (get_or keys i 0) (get_or called i 0) edges grown → ArePlaced g frames keys addresses called (i + 1) more grown
+  pub placed_more : (i : ℕ) (points more : List Point) (edges grown : List Edge) (q : Point) (n : Node) →
+      ArePlaced g frames keys addresses called i points edges → more ≡ points ++ q ∷ [] →
+      q.turns ≡ turns_of (get_or keys i 0) → q.stack ≡ stack_of (get_or keys i 0) → q.code < length addresses →
+      get_or addresses q.code 0 ≡ address_of (get_or keys i 0) → q.edges ≡ length edges →
+      Contains g.nodes.items n → n.at ≡ address_of (get_or keys i 0) → HasLed n frames keys (get_or keys i 0) (get_or called i 0) edges grown →
+      ArePlaced g frames keys addresses called (i + 1) more grown
   placed_more i points more edges grown q n are is turns stack coded code begin among at led =
       let count = are.count in
       let long = longer edges led.0 grown led.1 in
       record {
         count = (let a = push_length points more q is in omega arith);
-        each = λ j d w. elim (cases_lt j i) as (λ _. IsPlacedAt g frames keys addresses (get_or keys j 0) (get_or called j 0) (get_or more j d) (begins_at grown (drop (j + 1) more)) grown) [
-          | inl low ↦
-              let inside : j < length points = omega arith in
-              let next : suc j ≡ j + 1 = omega arith in
-              let bound : begins_at grown (drop (j + 1) more) ≡ begins_at edges (drop (j + 1) points) =
-              ap (λ (l : List Point). begins_at grown (drop (j + 1) l)) is ∙ ap (λ (z : ℕ). begins_at grown (drop z (points ++ q ∷ []))) (sym next)
-              ∙ begins_keep edges grown q points j inside begin ∙ ap (λ (z : ℕ). begins_at edges (drop z points)) next in
-              let same : get_or more j d ≡ get_or points j d = ap (λ (l : List Point). get_or l j d) is ∙ or_left points (q ∷ []) j d inside in
-              subst (λ (z : Point). IsPlacedAt g frames keys addresses (get_or keys j 0) (get_or called j 0) z (begins_at grown (drop (j + 1) more)) grown) (sym same)
-              (kept (get_or keys j 0) (get_or called j 0) (get_or points j d) (begins_at edges (drop (j + 1) points)) (begins_at grown (drop (j + 1) more)) edges led.0 grown led.1 bound (are.each j d low))
-          | inr high ↦
-              let here : j ≡ i = omega arith in
-              let size = push_length points more q is in
-              let last : get_or more i d ≡ q =
-              ap (λ (l : List Point). get_or l i d) is ∙ ap (λ (z : ℕ). get_or (points ++ q ∷ []) z d) (sym are.count) ∙ or_last points q d in
-              let bound : begins_at grown (drop (i + 1) more) ≡ length grown = ap (begins_at grown) (drop_past more (i + 1) (omega arith)) in
-              let slice : slice_range grown q.edges (length grown) ≡ led.0 =
-              ap (λ (z : ℕ). slice_range grown z (length grown)) begin ∙ ap (λ (l : List Edge). slice_range l (length edges) (length l)) led.1 ∙ slice_right edges led.0 in
-              subst (λ (z : ℕ). IsPlacedAt g frames keys addresses (get_or keys z 0) (get_or called z 0) (get_or more z d) (begins_at grown (drop (z + 1) more)) grown) (sym here)
-              (subst (λ (z : Point). IsPlacedAt g frames keys addresses (get_or keys i 0) (get_or called i 0) z (begins_at grown (drop (i + 1) more)) grown) (sym last)
-              (subst (λ (z : ℕ). IsPlacedAt g frames keys addresses (get_or keys i 0) (get_or called i 0) q z grown) (sym bound) (record {
-                turns = turns;
-                stack = stack;
-                coded = coded;
-                code = code;
-                ordered = (let b = begin in omega arith);
-                within = omega arith;
-                led = (n, among, at, subst (λ (l : List Edge). AreLed n frames keys (get_or keys i 0) (get_or called i 0) l) (sym slice) led.2);
-              })))
-        ];
+        each = λ j d w. elim (cases_lt j i) as (λ _. IsPlacedAt g frames keys addresses (get_or keys j 0) (get_or called j 0) (get_or more j d)
+            (begins_at grown (drop (j + 1) more)) grown) [
+              | inl low ↦
+                  let inside : j < length points = omega arith in
+                  let next : suc j ≡ j + 1 = omega arith in
+                  let bound : begins_at grown (drop (j + 1) more) ≡ begins_at edges (drop (j + 1) points) =
+                  ap (λ (l : List Point). begins_at grown (drop (j + 1) l)) is ∙ ap (λ (z : ℕ). begins_at grown (drop z (points ++ q ∷ []))) (sym next)
+                  ∙ begins_keep edges grown q points j inside begin ∙ ap (λ (z : ℕ). begins_at edges (drop z points)) next in
+                  let same : get_or more j d ≡ get_or points j d = ap (λ (l : List Point). get_or l j d) is ∙ or_left points (q ∷ []) j d inside in
+                  subst (λ (z : Point). IsPlacedAt g frames keys addresses (get_or keys j 0) (get_or called j 0) z (begins_at grown (drop (j + 1) more)) grown)
+                  (sym same)
+                  (kept (get_or keys j 0) (get_or called j 0) (get_or points j d) (begins_at edges (drop (j + 1) points))
+                  (begins_at grown (drop (j + 1) more)) edges led.0 grown led.1 bound (are.each j d low))
+              | inr high ↦
+                  let here : j ≡ i = omega arith in
+                  let size = push_length points more q is in
+                  let last : get_or more i d ≡ q =
+                  ap (λ (l : List Point). get_or l i d) is ∙ ap (λ (z : ℕ). get_or (points ++ q ∷ []) z d) (sym are.count) ∙ or_last points q d in
+                  let bound : begins_at grown (drop (i + 1) more) ≡ length grown = ap (begins_at grown) (drop_past more (i + 1) (omega arith)) in
+                  let slice : slice_range grown q.edges (length grown) ≡ led.0 =
+                  ap (λ (z : ℕ). slice_range grown z (length grown)) begin ∙ ap
+                  (λ (l : List Edge). slice_range l (length edges) (length l)) led.1 ∙ slice_right edges led.0 in
+                  subst (λ (z : ℕ). IsPlacedAt g frames keys addresses (get_or keys z 0) (get_or called z 0) (get_or more z d)
+                  (begins_at grown (drop (z + 1) more)) grown) (sym here)
+                  (subst (λ (z : Point). IsPlacedAt g frames keys addresses (get_or keys i 0) (get_or called i 0) z (begins_at grown (drop (i + 1) more)) grown)
+                  (sym last)
+                  (subst (λ (z : ℕ). IsPlacedAt g frames keys addresses (get_or keys i 0) (get_or called i 0) q z grown) (sym bound) (record {
+                    turns = turns;
+                    stack = stack;
+                    coded = coded;
+                    code = code;
+                    ordered = (let b = begin in omega arith);
+                    within = omega arith;
+                    led = (n, among, at, subst (λ (l : List Edge). AreLed n frames keys (get_or keys i 0) (get_or called i 0) l) (sym slice) led.2);
+                  })))
+            ];
       }

@@ -65,7 +65,8 @@ row_says_nothing : (f : Bool) (o : Option (Vec Stmt)) (edges : List Edge) → fl
 row_says_nothing f None edges = refl
 row_says_nothing f (Some list) edges = edges_say_nothing edges
 
-row_out : (f : Bool) (o : Option (Vec Stmt)) (edges : List Edge) → list_any goes_out (row_exits f o edges) ≡ (has_list o && list_any (λ e. goes_out (edge_of e)) edges)
+row_out : (f : Bool) (o : Option (Vec Stmt)) (edges : List Edge) →
+    list_any goes_out (row_exits f o edges) ≡ (has_list o && list_any (λ e. goes_out (edge_of e)) edges)
 row_out f None edges = refl
 row_out f (Some list) edges = edges_out edges
 
@@ -90,21 +91,24 @@ module _ (u : Unrolled) (q : Point) (c : Code) (edges : List Edge) where
   outward : list_any goes_out (point_by u q c edges).exits ≡ is_out c edges
   outward =
       list_any-append goes_out asserted_exits (row_exits c.fetchable c.list edges)
-      ∙ ap (λ (b : Bool). b || list_any goes_out (row_exits c.fetchable c.list edges)) (asserts_stay (notes_of u.notes.now).asserts (slice_range u.asserts.items c.asserts.0 c.asserts.1))
+      ∙ ap (λ (b : Bool). b || list_any goes_out (row_exits c.fetchable c.list edges))
+      (asserts_stay (notes_of u.notes.now).asserts (slice_range u.asserts.items c.asserts.0 c.asserts.1))
       ∙ row_out c.fetchable c.list edges
 
   lines_are : lines_at (unrolled_of u) (point_by u q c edges) ≡ flat_map line_of asserted_exits ++ (if is_out c edges then ensured_lines else [])
   lines_are =
       ap (λ (z : List notes.Expr). z ++ (if list_any goes_out (point_by u q c edges).exits then ensured_lines else []))
       (flat_map-append line_of asserted_exits (row_exits c.fetchable c.list edges)
-      ∙ ap (λ (z : List notes.Expr). flat_map line_of asserted_exits ++ z) (row_says_nothing c.fetchable c.list edges) ∙ append_nothing (flat_map line_of asserted_exits))
+      ∙ ap (λ (z : List notes.Expr). flat_map line_of asserted_exits
+      ++ z) (row_says_nothing c.fetchable c.list edges) ∙ append_nothing (flat_map line_of asserted_exits))
       ∙ ap (λ (b : Bool). flat_map line_of asserted_exits ++ (if b then ensured_lines else [])) outward
 
   sum_cases : (g : notes.Expr → ℕ) (b : Bool) (e : List notes.Expr) → sum_by g (if b then e else []) ≡ (if b then sum_by g e else 0)
   sum_cases g true e = refl
   sum_cases g false e = refl
 
-  lines_sum : (g : notes.Expr → ℕ) → sum_by g (flat_map (lines_at (unrolled_of u)) (point_by u q c edges ∷ [])) ≡ sum_by g (flat_map line_of asserted_exits) + (if is_out c edges then sum_by g ensured_lines else 0)
+  lines_sum : (g : notes.Expr → ℕ) → sum_by g (flat_map (lines_at (unrolled_of u)) (point_by u q c edges ∷ []))
+      ≡ sum_by g (flat_map line_of asserted_exits) + (if is_out c edges then sum_by g ensured_lines else 0)
   lines_sum g =
       ap (λ (z : List notes.Expr). sum_by g z) (append_nothing (lines_at (unrolled_of u) (point_by u q c edges)) ∙ lines_are)
       ∙ sum_by-append g (flat_map line_of asserted_exits) (if is_out c edges then ensured_lines else [])
@@ -120,7 +124,8 @@ capped_right n m = omega arith
 single : (f : UnrolledPoint → ℕ) (x : UnrolledPoint) → sum_by f (x ∷ []) ≡ f x
 single f x = sum_by-cons f x [] ∙ plus_nothing (f x)
 
-pub code_totals_are : (u : Unrolled) (q : Point) (c : Code) (edges : List Edge) (asserted ensured : LineCost) (t : Totals) → AreOfCode c edges asserted ensured t →
+pub code_totals_are : (u : Unrolled) (q : Point) (c : Code) (edges : List Edge) (asserted ensured : LineCost) (t : Totals) →
+    AreOfCode c edges asserted ensured t →
     AreLineCosts asserted (flat_map line_of (asserts_between (notes_of u.notes.now).asserts u.asserts.items c.asserts)) →
     AreLineCosts ensured (map (λ l. l.says) (notes_of u.notes.now).ensures) → AreTotals (unrolled_of u) (point_by u q c edges ∷ []) t
 code_totals_are u q c edges asserted ensured t are a e =
@@ -130,7 +135,8 @@ code_totals_are u q c edges asserted ensured t are a e =
     record {
       rows = are.rows ∙ ap capped (sym (single (λ z. z.row) p));
       loads =
-          are.loads ∙ ap (λ (z : ℕ). capped (c.loads + z)) (cost_cases (is_out c edges) (sum_by bytes_loaded A) (sum_by bytes_loaded E) asserted.loads ensured.loads a.loads e.loads)
+          are.loads ∙ ap (λ (z : ℕ). capped (c.loads + z)) (cost_cases (is_out c edges) (sum_by bytes_loaded A)
+          (sum_by bytes_loaded E) asserted.loads ensured.loads a.loads e.loads)
           ∙ capped_right c.loads (sum_by bytes_loaded A + (if is_out c edges then sum_by bytes_loaded E else 0))
           ∙ ap (λ (z : ℕ). capped (c.loads + z)) (sym (lines_sum u q c edges bytes_loaded))
           ∙ ap (λ (z : ℕ). capped (z + sum_by bytes_loaded (flat_map (lines_at (unrolled_of u)) (p ∷ [])))) (sym (single (λ z. z.loads) p));
@@ -144,21 +150,26 @@ code_totals_are u q c edges asserted ensured t are a e =
 sum_on : (x y a b t : ℕ) → a ≡ capped x → b ≡ capped y → t ≡ capped (a + b) → t ≡ capped (x + y)
 sum_on x y a b t p q r = r ∙ ap (λ (z : ℕ). capped (z + b)) p ∙ ap (λ (z : ℕ). capped (capped x + z)) q ∙ capped_sum x y
 
-pub totals_on : (u : UnrolledProgram) (p : UnrolledPoint) (rest : List UnrolledPoint) (a b t : Totals) → AreTotals u (p ∷ []) a → AreTotals u rest b → AreSums a b t → AreTotals u (p ∷ rest) t
+pub totals_on : (u : UnrolledProgram) (p : UnrolledPoint) (rest : List UnrolledPoint) (a b t : Totals) → AreTotals u (p ∷ []) a → AreTotals u rest b →
+    AreSums a b t → AreTotals u (p ∷ rest) t
 totals_on u p rest a b t x y s =
     let lines = flat_map-append (lines_at u) (p ∷ []) rest in
     record {
       rows = sum_on _ _ a.rows b.rows t.rows x.rows y.rows s.rows ∙ ap capped (sym (sum_by-append (λ z. z.row) (p ∷ []) rest));
       loads =
           sum_on _ _ a.loads b.loads t.loads x.loads y.loads s.loads
-          ∙ ap capped (regroup (sum_by (λ z. z.loads) (p ∷ [])) (sum_by bytes_loaded (flat_map (lines_at u) (p ∷ []))) (sum_by (λ z. z.loads) rest) (sum_by bytes_loaded (flat_map (lines_at u) rest)) (sum_by (λ z. z.loads) (p ∷ rest)) (sum_by bytes_loaded (flat_map (lines_at u) (p ∷ rest)))
+          ∙ ap capped (regroup (sum_by (λ z. z.loads) (p ∷ [])) (sum_by bytes_loaded (flat_map (lines_at u) (p ∷ []))) (sum_by
+          (λ z. z.loads) rest) (sum_by bytes_loaded (flat_map (lines_at u) rest)) (sum_by
+          (λ z. z.loads) (p ∷ rest)) (sum_by bytes_loaded (flat_map (lines_at u) (p ∷ rest)))
           (sum_by-append (λ z. z.loads) (p ∷ []) rest)
-          (ap (λ (z : List notes.Expr). sum_by bytes_loaded z) lines ∙ sum_by-append bytes_loaded (flat_map (lines_at u) (p ∷ [])) (flat_map (lines_at u) rest)));
+          (ap (λ (z : List notes.Expr). sum_by bytes_loaded z) lines ∙ sum_by-append bytes_loaded (flat_map (lines_at u) (p
+          ∷ [])) (flat_map (lines_at u) rest)));
       stores = sum_on _ _ a.stores b.stores t.stores x.stores y.stores s.stores ∙ ap capped (sym (sum_by-append (λ z. z.stores) (p ∷ []) rest));
       edges = sum_on _ _ a.edges b.edges t.edges x.edges y.edges s.edges ∙ ap capped (sym (sum_by-append (λ z. sum_by is_edge z.exits) (p ∷ []) rest));
       lines =
           sum_on _ _ a.lines b.lines t.lines x.lines y.lines s.lines
-          ∙ ap capped (sym (ap (λ (z : List notes.Expr). sum_by line_price z) lines ∙ sum_by-append line_price (flat_map (lines_at u) (p ∷ [])) (flat_map (lines_at u) rest)));
+          ∙ ap capped (sym (ap (λ (z : List notes.Expr). sum_by line_price z) lines ∙ sum_by-append line_price (flat_map (lines_at u) (p
+          ∷ [])) (flat_map (lines_at u) rest)));
     }
 
 drop_is : (ps : List Point) (n : ℕ) (q : Point) → 0 < n → n ≤ length ps → q ≡ get_or ps (n - 1) q → drop (n - 1) ps ≡ q ∷ drop n ps

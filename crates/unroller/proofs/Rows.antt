@@ -38,12 +38,14 @@ put_same_value f at v x true e is = let here : x ≡ at = grind arith in is ∙ 
 put_same_value f at v x false e is = refl
 
 same_state : (s : State) (i v : ℕ) → v ≡ s.flags i → with_flag s i v ≡ s
-same_state s i v is = ap (λ (z : ℕ → ℕ). let r : State = record { pc = s.pc; regs = s.regs; flags = z; mem = s.mem } in r) (fun_ext (λ x. put_same_value s.flags i v x (x == i) refl is))
+same_state s i v is = ap (λ (z : ℕ → ℕ). let r : State = record { pc = s.pc; regs = s.regs; flags = z; mem = s.mem } in r) (fun_ext
+    (λ x. put_same_value s.flags i v x (x == i) refl is))
 
 module _ (p : Program) (row : Row) (at : ℕ) (is : file_row p at ≡ Some row) (lawful : IsLawful row) (plain : IsPlain row) where
   -- two outcomes are the same as far as is read later
   abbrev Alike : Outcome → Outcome → Type 0
-  Alike (Goes how s) (Goes other t) = (how ≡ other) × (s.pc ≡ t.pc) × (s.regs ≡ t.regs) × (s.mem ≡ t.mem) × ((f : ℕ) → IsReadAfter p f at → s.flags f ≡ t.flags f)
+  Alike (Goes how s) (Goes other t) = (how ≡ other) × (s.pc ≡ t.pc) × (s.regs ≡ t.regs) × (s.mem ≡ t.mem) ×
+      ((f : ℕ) → IsReadAfter p f at → s.flags f ≡ t.flags f)
   Alike (Raises d) (Raises e) = d ≡ e
   Alike (Goes how s) (Raises e) = ⊥
   Alike (Raises e) (Goes how s) = ⊥
@@ -68,8 +70,10 @@ module _ (p : Program) (row : Row) (at : ℕ) (is : file_row p at ≡ Some row) 
   flag_cases s t i f true e agree same = let here : f ≡ i = grind arith in ap s.flags here ∙ same ∙ ap t.flags (sym here)
   flag_cases s t i f false e agree same = agree.flags f (λ x. let d : (f == i) ≡ true = grind arith in cc)
 
-  other_flag : (s t : State) (i f : ℕ) (b : Bool) → (f == i) ≡ b → AgreeBut i s t → (IsReadAfter p i at → s.flags i ≡ t.flags i) → IsReadAfter p f at → s.flags f ≡ t.flags f
-  other_flag s t i f true e agree same r = let here : f ≡ i = grind arith in flag_cases s t i f true e agree (same (subst (λ (z : ℕ). IsReadAfter p z at) here r))
+  other_flag : (s t : State) (i f : ℕ) (b : Bool) → (f == i) ≡ b → AgreeBut i s t → (IsReadAfter p i at → s.flags i ≡ t.flags i) → IsReadAfter p f at →
+      s.flags f ≡ t.flags f
+  other_flag s t i f true e agree same r = let here : f ≡ i = grind arith
+      in flag_cases s t i f true e agree (same (subst (λ (z : ℕ). IsReadAfter p z at) here r))
   other_flag s t i f false e agree same r = agree.flags f (λ x. let d : (f == i) ≡ true = grind arith in cc)
 
   differ : (i : ℕ) (o q : Outcome) → OutcomesAgreeBut i o q → (IsReadAfter p i at → HaveSameFlag i o q) → Alike o q
@@ -85,13 +89,16 @@ module _ (p : Program) (row : Row) (at : ℕ) (is : file_row p at ≡ Some row) 
   read_later i e r = later (ap (λ (o : Option Row). surely_by i o) is ∙ e) r
 
   module _ (s : State) (i v : ℕ) (low : i < 4) (agrees : IsRead p i at → v ≡ s.flags i) where
-    sure_case : (c : ℕ) (b : Bool) → row.flags.surely i ≡ b → row.flags.reads i ≡ false → IsReadAfter p i at → HaveSameFlag i (row.effect s c) (row.effect (with_flag s i v) c)
+    sure_case : (c : ℕ) (b : Bool) → row.flags.surely i ≡ b → row.flags.reads i ≡ false → IsReadAfter p i at →
+        HaveSameFlag i (row.effect s c) (row.effect (with_flag s i v) c)
     sure_case c true e n r = lawful.sure s c i v low n e
     sure_case c false e n r =
-        subst (λ (z : State). HaveSameFlag i (row.effect s c) (row.effect z c)) (sym (same_state s i v (agrees (read_later i e r)))) (same_flag_self i (row.effect s c))
+        subst (λ (z : State). HaveSameFlag i (row.effect s c) (row.effect z c)) (sym (same_state s i v (agrees (read_later i e r))))
+        (same_flag_self i (row.effect s c))
 
     step_case : (c : ℕ) (b : Bool) → row.flags.reads i ≡ b → Alike (row.effect s c) (row.effect (with_flag s i v) c)
-    step_case c true e = subst (λ (z : State). Alike (row.effect s c) (row.effect z c)) (sym (same_state s i v (agrees (read_now i e)))) (alike_self (row.effect s c))
+    step_case c true e = subst (λ (z : State). Alike (row.effect s c) (row.effect z c)) (sym (same_state s i v (agrees (read_now i e))))
+        (alike_self (row.effect s c))
     step_case c false e = differ i (row.effect s c) (row.effect (with_flag s i v) c) (lawful.unread s c i v low e) (sure_case c (row.flags.surely i) refl e)
 
     stored_case : (b : Bool) → row.flags.reads i ≡ b → row.stored s ≡ row.stored (with_flag s i v)
@@ -115,7 +122,8 @@ module _ (p : Program) (row : Row) (at : ℕ) (is : file_row p at ≡ Some row) 
       let d = with_flag b 2 (g 2) in
       alike_on (row.effect s c) (row.effect a c) (row.effect (lower s g) c) (flag_step s 0 (g 0) (omega arith) (agrees 0) c)
       (alike_on (row.effect a c) (row.effect b c) (row.effect (lower s g) c) (flag_step a 1 (g 1) (omega arith) (agrees 1) c)
-      (alike_on (row.effect b c) (row.effect d c) (row.effect (lower s g) c) (flag_step b 2 (g 2) (omega arith) (agrees 2) c) (flag_step d 3 (g 3) (omega arith) (agrees 3) c)))
+      (alike_on (row.effect b c) (row.effect d c) (row.effect (lower s g) c) (flag_step b 2 (g 2) (omega arith) (agrees 2) c)
+      (flag_step d 3 (g 3) (omega arith) (agrees 3) c)))
 
   lower_stores : (s : State) (g : ℕ → ℕ) → ((f : ℕ) → IsRead p f at → g f ≡ s.flags f) → row.stored s ≡ row.stored (lower s g)
   lower_stores s g agrees =
@@ -131,20 +139,23 @@ low_flag f = nat_lt f 4
 high : (n : ℕ) → nat_lt (suc (suc (suc (suc n)))) 4 ≡ false
 high n = grind (arith, nat_tests)
 
-lower_below : (s : State) (g : ℕ → ℕ) (f : ℕ) → low_flag f ≡ true → (with_flag (with_flag (with_flag (with_flag s 0 (g 0)) 1 (g 1)) 2 (g 2)) 3 (g 3)).flags f ≡ g f
+lower_below : (s : State) (g : ℕ → ℕ) (f : ℕ) → low_flag f ≡ true →
+    (with_flag (with_flag (with_flag (with_flag s 0 (g 0)) 1 (g 1)) 2 (g 2)) 3 (g 3)).flags f ≡ g f
 lower_below s g zero h = refl
 lower_below s g (suc zero) h = refl
 lower_below s g (suc (suc zero)) h = refl
 lower_below s g (suc (suc (suc zero))) h = refl
 lower_below s g (suc (suc (suc (suc n)))) h = absurd (let e = high n in cc)
 
-lower_beyond : (s : State) (g : ℕ → ℕ) (f : ℕ) → low_flag f ≡ false → (with_flag (with_flag (with_flag (with_flag s 0 (g 0)) 1 (g 1)) 2 (g 2)) 3 (g 3)).flags f ≡ s.flags f
+lower_beyond : (s : State) (g : ℕ → ℕ) (f : ℕ) → low_flag f ≡ false →
+    (with_flag (with_flag (with_flag (with_flag s 0 (g 0)) 1 (g 1)) 2 (g 2)) 3 (g 3)).flags f ≡ s.flags f
 lower_beyond s g f h =
     let up : 4 ≤ f = grind (arith, nat_tests) in
     let a = with_flag s 0 (g 0) in
     let b = with_flag a 1 (g 1) in
     let d = with_flag b 2 (g 2) in
-    put_other d.flags 3 (g 3) f (f == 3) refl (λ e. omega arith) ∙ put_other b.flags 2 (g 2) f (f == 2) refl (λ e. omega arith) ∙ put_other a.flags 1 (g 1) f (f == 1) refl (λ e. omega arith)
+    put_other d.flags 3 (g 3) f (f == 3) refl (λ e. omega arith) ∙ put_other b.flags 2 (g 2) f (f == 2) refl
+    (λ e. omega arith) ∙ put_other a.flags 1 (g 1) f (f == 1) refl (λ e. omega arith)
     ∙ put_other s.flags 0 (g 0) f (f == 0) refl (λ e. omega arith)
 
 pick : (b : Bool) (x y z : ℕ) → (b ≡ true → x ≡ z) → (b ≡ false → y ≡ z) → (if b then x else y) ≡ z
@@ -179,7 +190,8 @@ module _ (reads : ℕ → Type 0) (q : UnrolledPoint) (how : How) (new : State) 
   left_as Indirect next = (refl, refl, is)
   left_as IndirectCall next = (refl, refl, is)
 
-carried_over : (reads : ℕ → Type 0) (s t : State) (c : Carried) → s.pc ≡ t.pc → s.regs ≡ t.regs → s.mem ≡ t.mem → ((f : ℕ) → reads f → s.flags f ≡ t.flags f) → IsCarriedOf reads t c → IsCarriedOf reads s c
+carried_over : (reads : ℕ → Type 0) (s t : State) (c : Carried) → s.pc ≡ t.pc → s.regs ≡ t.regs → s.mem ≡ t.mem → ((f : ℕ) → reads f → s.flags f ≡ t.flags f) →
+    IsCarriedOf reads t c → IsCarriedOf reads s c
 carried_over reads s t c pc regs mem flags h = record {
   state = subst (λ (z : ℕ). IsState (state_at c z)) (sym pc) h.state;
   regs = h.regs ∙ sym regs;
@@ -188,14 +200,16 @@ carried_over reads s t c pc regs mem flags h = record {
 }
 
 module _ (p : Program) (form : Layout) (bank : Bank) (q : UnrolledPoint) (row : Row) (list : Statements) (fitted : IsFitted p.machine form)
-    (is : file_row p q.point.at ≡ Some row) (lawful : IsLawful row) (plain : IsPlain row) (lifting : IsLifting p.machine bank row q.point.at list) (long : q.length ≡ row.length) where
+    (is : file_row p q.point.at ≡ Some row) (lawful : IsLawful row) (plain : IsPlain row) (lifting : IsLifting p.machine bank row q.point.at list)
+    (long : q.length ≡ row.length) where
   own_low : (f : ℕ) → is_own p.machine bank (bil.Flag f) ≡ true → low_flag f ≡ true
   own_low f h = let e : nat_lt f (length form.flags) ≡ true = sym (fitted.flags f) ∙ h in let few = fitted.few_flags in grind (arith, nat_tests)
 
   abbrev After : ℕ → Type 0
   After f = IsReadAfter p f q.point.at
 
-  module _ (s : State) (g : ℕ → ℕ) (choice : ℕ) (state : IsState s) (here : s.pc ≡ q.point.at) (few : choice < 4) (flags : (f : ℕ) → g f < 2) (agrees : (f : ℕ) → IsRead p f q.point.at → g f ≡ s.flags f) where
+  module _ (s : State) (g : ℕ → ℕ) (choice : ℕ) (state : IsState s) (here : s.pc ≡ q.point.at) (few : choice < 4) (flags : (f : ℕ) →
+      g f < 2) (agrees : (f : ℕ) → IsRead p f q.point.at → g f ≡ s.flags f) where
     abbrev s4 : State
     s4 = with_flag (with_flag (with_flag (with_flag s 0 (g 0)) 1 (g 1)) 2 (g 2)) 3 (g 3)
 
@@ -250,7 +264,8 @@ module _ (p : Program) (form : Layout) (bank : Bank) (q : UnrolledPoint) (row : 
         agrees f (read_later p row q.point.at is lawful plain f (not_sure row lawful f up (row.flags.surely f) refl) after) ∙ sym (lower_beyond s g f e)
         ∙ sym (flag ∙ pick (low_flag f) (new.flags f) (s4.flags f) (s4.flags f) (λ t. absurd (cc)) (λ t. refl))
 
-    carried_of_new : (how : How) (new : State) → row.effect s4 choice ≡ Goes how new → x4 ≡ Ends (position (λ x w. Stuck) 0 (jump_of how new) new) → IsCarriedOf After new (mixed new)
+    carried_of_new : (how : How) (new : State) → row.effect s4 choice ≡ Goes how new → x4 ≡ Ends (position (λ x w. Stuck) 0 (jump_of how new) new) →
+        IsCarriedOf After new (mixed new)
     carried_of_new how new e ends =
         let good : IsState new = subst (λ (o : Outcome). IfGoes o (λ h n. IsState n)) e (lawful.states s4 choice state4) in
         record {
@@ -262,14 +277,16 @@ module _ (p : Program) (form : Layout) (bank : Bank) (q : UnrolledPoint) (row : 
 
     leaves_by : (o : Outcome) → row.effect s4 choice ≡ o → LeavesAs After o (leaving_by q (mix_end low_flag g x4))
     leaves_by (Goes how new) e =
-        let ends = ends_is x4 (position (λ x w. Stuck) 0 (jump_of how new) new) (lifting.simulates s4 state4 here choice 0 few (λ x w. Stuck) ∙ ap (λ (z : Outcome). of_row (λ x w. Stuck) 0 z) e) in
+        let ends = ends_is x4 (position (λ x w. Stuck) 0 (jump_of how new) new) (lifting.simulates s4 state4 here choice 0 few (λ x w. Stuck) ∙ ap
+        (λ (z : Outcome). of_row (λ x w. Stuck) 0 z) e) in
         let next : how ≡ On → new.pc ≡ add 32 q.point.at q.length =
         λ h. subst (λ (z : Outcome). IfGoes z (λ w n. w ≡ On → n.pc ≡ add 32 s4.pc row.length)) e (lawful.next s4 choice state4) h
         ∙ ap (λ (z : ℕ). add 32 z row.length) here ∙ ap (λ (z : ℕ). add 32 q.point.at z) (sym long) in
         subst (λ (z : Ending). LeavesAs After (Goes how new) (leaving_by q (mix_end low_flag g z))) (sym ends)
         (left_as After q how new (mixed new) (carried_of_new how new e ends) how next)
     leaves_by (Raises x) e =
-        let raised = raises_is x4 (exception_number x) (lifting.simulates s4 state4 here choice 0 few (λ y w. Stuck) ∙ ap (λ (z : Outcome). of_row (λ y w. Stuck) 0 z) e) in
+        let raised = raises_is x4 (exception_number x) (lifting.simulates s4 state4 here choice 0 few (λ y w. Stuck) ∙ ap
+        (λ (z : Outcome). of_row (λ y w. Stuck) 0 z) e) in
         subst (λ (z : Ending). LeavesAs After (Raises x) (leaving_by q (mix_end low_flag g z))) (sym raised.1) refl
 
     onward : (o n : Outcome) (l : Leaving) → Alike p row q.point.at is lawful plain o n → LeavesAs After n l → LeavesAs After o l
@@ -292,7 +309,8 @@ module _ (p : Program) (form : Layout) (bank : Bank) (q : UnrolledPoint) (row : 
     stores_moved : (a : ℕ) → Contains (list_stored list choice (start moved)) a ↔ Contains (addresses (row.stored s)) a
     stores_moved a =
         subst (λ (z : List ℕ). Contains z a ↔ Contains (addresses (row.stored s)) a) (sym moved_stores)
-        (subst (λ (z : Option (ℕ × ℕ)). Contains (list_stored list choice (start s4)) a ↔ Contains (addresses z) a) (sym (lower_stores p row q.point.at is lawful plain s g agrees))
+        (subst (λ (z : Option (ℕ × ℕ)). Contains (list_stored list choice (start s4)) a ↔
+        Contains (addresses z) a) (sym (lower_stores p row q.point.at is lawful plain s g agrees))
         (lifting.stored s4 state4 here choice 0 few (λ x w. Stuck) a))
 
   same_carried : (reads : ℕ → Type 0) (s : State) (c : Carried) → IsCarriedOf reads s c → c ≡ record { regs = s.regs; flags = c.flags; mem = s.mem }
@@ -313,7 +331,8 @@ module _ (p : Program) (form : Layout) (bank : Bank) (q : UnrolledPoint) (row : 
         let m : LeavesAs (λ f. IsReadAfter p f q.point.at) (row.effect s choice) (leaving q choice t) =
         subst (λ (z : Action). LeavesAs (λ f. IsReadAfter p f q.point.at) (row.effect s choice) (left_by q choice t z)) (sym does) l in
         subst (λ (z : ℕ). LeavesAs (λ f. IsReadAfter p f z) (row.effect s choice) (leaving q choice c)) (sym here)
-        (subst (λ (z : Carried). LeavesAs (λ f. IsReadAfter p f q.point.at) (row.effect s choice) (leaving q choice z)) (sym (same_carried (λ f. IsRead p f s.pc) s c h)) m)
+        (subst (λ (z : Carried). LeavesAs (λ f. IsReadAfter p f q.point.at) (row.effect s choice) (leaving q choice z)) (sym (same_carried
+        (λ f. IsRead p f s.pc) s c h)) m)
 
     stores : (s : State) (c : Carried) (choice : ℕ) → IsState s → s.pc ≡ q.point.at → choice < 4 → IsCarriedOf (λ f. IsRead p f s.pc) s c → (a : ℕ) →
         Contains (stored_at q choice c) a ↔ Contains (addresses (row.stored s)) a
@@ -342,7 +361,8 @@ liftings_do_rows p u form bank q row list fitted registers flags is lawful plain
     names = list_wider p.machine bank u registers flags list lifting.names;
     draws = λ e. lifting.draws (sym counted.draws ∙ e);
     weight = subst (λ (z : ℕ). list_weight list + 64 ≤ z) (sym counted.row_cost) lifting.weight;
-    loads = subst (λ (z : ℕ). byte_loads list ≤ z) (sym (counted.loads ∙ ap (λ (o : Option ℕ). if is_empty (literal_target p (file_word p) o) then row.cost.loads else 0) (plain.literal q.point.at))) lifting.loads;
+    loads = subst (λ (z : ℕ). byte_loads list ≤ z) (sym (counted.loads ∙ ap
+        (λ (o : Option ℕ). if is_empty (literal_target p (file_word p) o) then row.cost.loads else 0) (plain.literal q.point.at))) lifting.loads;
     byte_stores = subst (λ (z : ℕ). byte_stores list ≤ z) (sym counted.stores) lifting.stores;
   },
 )

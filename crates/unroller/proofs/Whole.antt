@@ -46,7 +46,8 @@ use Rattle.unroller.proofs.Placed.{places_are_right}
 pub address_in : (p : Program) (k : ℕ) (g : Graph) → IsGraph p g → (point : spec.Point) → IsPoint p k point → Contains (addresses_of g) point.at
 address_in p k g graph point is = (graph.all point.at).1 (points_are_in_graph p k point is).at
 
-one_node : (g : Graph) → ((i j : ℕ) → i < j → j < length g.nodes.items → get_or (addresses_of g) i 0 < get_or (addresses_of g) j 0) → (m n : Node) → Contains g.nodes.items m → Contains g.nodes.items n → m.at ≡ n.at → m ≡ n
+one_node : (g : Graph) → ((i j : ℕ) → i < j → j < length g.nodes.items → get_or (addresses_of g) i 0 < get_or (addresses_of g) j 0) → (m n : Node) →
+    Contains g.nodes.items m → Contains g.nodes.items n → m.at ≡ n.at → m ≡ n
 one_node g rising m n (i, w, e) (j, v, f) same =
     let a : get_or (addresses_of g) i 0 ≡ m.at = at_is g.nodes.items i m w ∙ ap (λ (z : Node). z.at) e in
     let b : get_or (addresses_of g) j 0 ≡ n.at = at_is g.nodes.items j n v ∙ ap (λ (z : Node). z.at) f in
@@ -66,12 +67,15 @@ map_at : (xs : List Assert) → map (λ (a : notes.Assert). a.at) (map assert_of
 map_at [] = refl
 map_at (x ∷ xs) = ap (λ (l : List ℕ). x.at ∷ l) (map_at xs)
 
-module _ (p : Program) (k : ℕ) (bank : Bank) (g : Graph) (u : Unrolled) (numbers : BTreeMap (ℕ × ℕ) ℕ) (keys addresses called : List ℕ) (graph : IsGraph p g) (way : HasOneWay p)
-    (fitted : IsFitted p.machine (layout_of u.form)) (registers : (r : ℕ) → is_register_of (unrolled_of u) r ≡ p.machine.has_register r) (flags : (f : ℕ) → is_flag_of (unrolled_of u) f ≡ p.machine.has_flag f)
+module _ (p : Program) (k : ℕ) (bank : Bank) (g : Graph) (u : Unrolled) (numbers : BTreeMap (ℕ ×
+    ℕ) ℕ) (keys addresses called : List ℕ) (graph : IsGraph p g) (way : HasOneWay p)
+    (fitted : IsFitted p.machine (layout_of u.form)) (registers : (r : ℕ) → is_register_of (unrolled_of u) r ≡ p.machine.has_register r) (flags : (f : ℕ) →
+    is_flag_of (unrolled_of u) f ≡ p.machine.has_flag f)
     (table : IsTable u.frames.items numbers) (are : AreKeys p k u.frames.items keys) (calls : AreCalled g keys u.frames.items (length keys) called)
     (codes : AreCodes p bank addresses u.asserts.items (length addresses) u.codes.items)
     (placed : ArePlaced g u.frames.items keys addresses called (length keys) u.points.items u.edges.items)
-    (index : (at : ℕ) → filter (λ x. x.0 == at) u.asserts.items ≡ filter (λ x. x.0 == at) (numbered_from 0 (assert_places u.notes.now.asserts.items))) (noted : p.notes ≡ notes_of u.notes.now) where
+    (index : (at : ℕ) → filter (λ x. x.0 == at) u.asserts.items
+    ≡ filter (λ x. x.0 == at) (numbered_from 0 (assert_places u.notes.now.asserts.items))) (noted : p.notes ≡ notes_of u.notes.now) where
   abbrev none : Point
   none = record { turns = 0; code = 0; stack = 0; edges = 0 }
 
@@ -93,7 +97,8 @@ module _ (p : Program) (k : ℕ) (bank : Bank) (g : Graph) (u : Unrolled) (numbe
   pub size : length (unrolled_of u).points ≡ length keys
   size = (points_are_at u).0 ∙ placed.count
 
-  at : (i : ℕ) → i < length keys → IsPlacedAt g u.frames.items keys addresses (key i) (get_or called i 0) (own i) (begins_at u.edges.items (rest i)) u.edges.items
+  at : (i : ℕ) → i < length keys → IsPlacedAt g u.frames.items keys addresses (key i) (get_or called i 0) (own i)
+      (begins_at u.edges.items (rest i)) u.edges.items
   at i w = placed.each i none w
 
   point_is : (i : ℕ) → i < length keys → point_at (unrolled_of u) i ≡ point_by u (own i) (code i) (led i)
@@ -115,7 +120,8 @@ module _ (p : Program) (k : ℕ) (bank : Bank) (g : Graph) (u : Unrolled) (numbe
   pub points_are : (i : ℕ) → i < length keys → (point_at (unrolled_of u) i).point ≡ point_of u.frames.items (key i)
   points_are i w = ap (λ (z : UnrolledPoint). z.point) (point_is i w) ∙ own_is i w
 
-  asserts : (i : ℕ) → i < length keys → asserts_between (notes_of u.notes.now).asserts u.asserts.items (code i).asserts ≡ assert_exits p (point_by u (own i) (code i) (led i)).point
+  asserts : (i : ℕ) → i < length keys → asserts_between (notes_of u.notes.now).asserts u.asserts.items (code i).asserts
+      ≡ assert_exits p (point_by u (own i) (code i) (led i)).point
   asserts i w =
       let c = code_is i w in
       let all = (notes_of u.notes.now).asserts in
@@ -137,27 +143,33 @@ module _ (p : Program) (k : ℕ) (bank : Bank) (g : Graph) (u : Unrolled) (numbe
     four = λ r e. way.four (code i).at r e;
   }
 
-  edges_are : (i : ℕ) → i < length keys → (row : Row) → file_row p (code i).at ≡ Some row → AreEdgesAt p k (unrolled_of u) i (point_by u (own i) (code i) (led i)).point row (led i)
+  edges_are : (i : ℕ) → i < length keys → (row : Row) → file_row p (code i).at ≡ Some row →
+      AreEdgesAt p k (unrolled_of u) i (point_by u (own i) (code i) (led i)).point row (led i)
   edges_are i w row some =
       let q = at i w in
       let l = q.led in
       let n = l.0 in
       let c = calls.each i w in
       let same : c.0 ≡ n = one_node g graph.rising c.0 n c.1 l.1 (c.2 ∙ sym l.2) in
-      let by : IsCalledBy n (stack_of (key i)) u.frames.items (get_or called i 0) = subst (λ (z : Node). IsCalledBy z (stack_of (key i)) u.frames.items (get_or called i 0)) same c.3 in
+      let by : IsCalledBy n (stack_of (key i)) u.frames.items (get_or called i 0) = subst
+      (λ (z : Node). IsCalledBy z (stack_of (key i)) u.frames.items (get_or called i 0)) same c.3 in
       let here : n.at ≡ (code i).at = l.2 ∙ sym (code_at i w) in
       let leads : AreLed n u.frames.items keys (key i) (get_or called i 0) (led i) =
-      subst (λ (z : ℕ). AreLed n u.frames.items keys (key i) (get_or called i 0) (slice_range u.edges.items (own i).edges z)) (sym (begins_same u (rest i))) l.3 in
+      subst (λ (z : ℕ). AreLed n u.frames.items keys (key i) (get_or called i 0) (slice_range u.edges.items (own i).edges z))
+      (sym (begins_same u (rest i))) l.3 in
       let row_here : file_row p n.at ≡ Some row = ap (file_row p) here ∙ some in
       subst (λ (z : spec.Point). AreEdgesAt p k (unrolled_of u) i z row (led i))
-      (ap (λ (z : ℕ). let r : spec.Point = record { turns = turns_of (key i); stack = stack_at u.frames.items (stack_of (key i)); at = z } in r) l.2 ∙ sym (own_is i w))
-      (edges_at p k n u.frames.items numbers keys (key i) (get_or called i 0) i row (of_nodes p g n graph l.1) way table (are.fits i w) by row_here (sym l.2) are w refl (unrolled_of u) size points_are
+      (ap (λ (z : ℕ). let r : spec.Point = record { turns = turns_of (key i); stack = stack_at u.frames.items (stack_of (key i)); at = z }
+      in r) l.2 ∙ sym (own_is i w))
+      (edges_at p k n u.frames.items numbers keys (key i) (get_or called i 0) i row (of_nodes p g n graph l.1) way table (are.fits i w) by row_here
+      (sym l.2) are w refl (unrolled_of u) size points_are
       (led i) leads)
 
   pub places : (i : ℕ) → i < length keys → IsPlace p k (unrolled_of u) i (point_at (unrolled_of u) i) (file_row p (point_at (unrolled_of u) i).point.at)
   places i w =
       subst (λ (z : UnrolledPoint). IsPlace p k (unrolled_of u) i z (file_row p z.point.at)) (sym (point_is i w))
-      (places_are_right p k u (layout_of u.form) bank i (own i) (code i) (led i) fitted registers flags (fit i w) (record { own = (code_is i w).row; asserts = asserts i w }) (edges_are i w))
+      (places_are_right p k u (layout_of u.form) bank i (own i) (code i) (led i) fitted registers flags (fit i w)
+      (record { own = (code_is i w).row; asserts = asserts i w }) (edges_are i w))
 
   pub words : (i : ℕ) → i < length (unrolled_of u).points → (point_at (unrolled_of u) i).point.at < 2 ^ 32
   words i w =
@@ -211,7 +223,8 @@ module _ (p : Program) (k : ℕ) (bank : Bank) (g : Graph) (u : Unrolled) (numbe
   first =
       let q = are.all (record { turns = 0; stack = []; at = p.entry }) spec.first in
       let some : 0 < length keys = (let l = q.1 in omega arith) in
-      points_are 0 some ∙ elim ((entry_comes_first p k (point_of u.frames.items (key 0)) (are.only 0 some)).1 (no_turns q.0 q.1 q.2)) as (λ _. point_of u.frames.items (key 0) ≡ record { turns = 0; stack = []; at = p.entry }) [
+      points_are 0 some ∙ elim ((entry_comes_first p k (point_of u.frames.items (key 0)) (are.only 0 some)).1 (no_turns q.0 q.1 q.2)) as
+      (λ _. point_of u.frames.items (key 0) ≡ record { turns = 0; stack = []; at = p.entry }) [
         | inl far ↦ absurd (let z = not_far q.0 q.1 q.2 in omega arith)
         | inr e ↦ e
       ]

@@ -64,11 +64,14 @@ exits_by returns stack = if returns && (stack == 0) then exit_edge ∷ [] else [
 pub record AreLed (n : Node) (frames : List Frame) (keys : List ℕ) (own called : ℕ) (led : List Edge) : Type 0 where
   pub targets : List ℕ
   pub rise : IsStrictlyIncreasing targets
-  pub same : (x : ℕ) → Contains (map (target_key own) (jumps_of n (frame_at frames (stack_of own)) (stack_of own) called ++ listed (next_of n (stack_of own)))) x ↔ Contains targets x
-  pub small : (e : End) → Contains (jumps_of n (frame_at frames (stack_of own)) (stack_of own) called) e → (e.at < 4294967296) × (e.stack < 18446744073709551616)
+  pub same : (x : ℕ) → Contains (map (target_key own) (jumps_of n (frame_at frames (stack_of own)) (stack_of own) called
+      ++ listed (next_of n (stack_of own)))) x ↔ Contains targets x
+  pub small : (e : End) → Contains (jumps_of n (frame_at frames (stack_of own)) (stack_of own) called) e → (e.at < 4294967296) ×
+      (e.stack < 18446744073709551616)
   pub rest : List Edge
   pub is : led ≡ exits_by n.returns (stack_of own) ++ rest
-  pub each : AllZip (IsLedTo keys (next_of n (stack_of own)) (is_both (jumps_of n (frame_at frames (stack_of own)) (stack_of own) called) (next_of n (stack_of own)))) targets rest
+  pub each : AllZip (IsLedTo keys (next_of n (stack_of own)) (is_both (jumps_of n (frame_at frames (stack_of own)) (stack_of own) called)
+      (next_of n (stack_of own)))) targets rest
 
 -- edges are added that are those of targets
 abbrev pub AreAddedTo : List ℕ → Option End → Bool → List ℕ → (old new : List Edge) → Type 0
@@ -85,12 +88,14 @@ begins_at edges (q ∷ rest) = q.edges
 
 -- the number of a stack behind a call of the node
 abbrev pub IsCalledBy : Node → (stack : ℕ) → List Frame → (called : ℕ) → Type 0
-IsCalledBy n stack frames called = (x : Successor) → Contains n.successors.items x → x.letter ≡ Call → frame_at frames called ≡ Some (frame (add 32 n.at 4) stack)
+IsCalledBy n stack frames called = (x : Successor) → Contains n.successors.items x → x.letter ≡ Call →
+    frame_at frames called ≡ Some (frame (add 32 n.at 4) stack)
 
 -- the first n numbers of stacks are those behind the calls at the points of numbers
 pub record AreCalled (g : Graph) (keys : List ℕ) (frames : List Frame) (n : ℕ) (called : List ℕ) : Type 0 where
   pub count : length called ≡ n
-  pub each : (i : ℕ) → i < n → (m : Node) × Contains g.nodes.items m × (m.at ≡ address_of (slice_index keys i)) × IsCalledBy m (stack_of (slice_index keys i)) frames (slice_index called i)
+  pub each : (i : ℕ) → i < n → (m : Node) × Contains g.nodes.items m × (m.at ≡ address_of (slice_index keys i)) ×
+      IsCalledBy m (stack_of (slice_index keys i)) frames (slice_index called i)
 
 -- the point is that of a number, of the code of its address, with its edges, which end where those of the next one begin
 pub record IsPlacedAt (g : Graph) (frames : List Frame) (keys addresses : List ℕ) (key called : ℕ) (q : Point) (bound : ℕ) (edges : List Edge) : Type 0 where

@@ -47,7 +47,8 @@ pub record HasFitRow (p : Program) (at : ℕ) : Type 0 where
 -- a point of the code of its address, with its edges, is what the definitions want at its place
 abbrev pub PlacesAreRight : Type 0
 PlacesAreRight = (p : Program) (k : ℕ) (u : Unrolled) (form : Layout) (bank : Bank) (i : ℕ) (q : declared.Point) (c : Code) (edges : List Edge) →
-    IsFitted p.machine form → ((r : ℕ) → is_register_of (unrolled_of u) r ≡ p.machine.has_register r) → ((f : ℕ) → is_flag_of (unrolled_of u) f ≡ p.machine.has_flag f) →
+    IsFitted p.machine form → ((r : ℕ) → is_register_of (unrolled_of u) r ≡ p.machine.has_register r) →
+    ((f : ℕ) → is_flag_of (unrolled_of u) f ≡ p.machine.has_flag f) →
     HasFitRow p c.at → IsCode p bank u q c edges →
     ((row : Row) → file_row p c.at ≡ Some row → AreEdgesAt p k (unrolled_of u) i (point_by u q c edges).point row edges) →
     IsPlace p k (unrolled_of u) i (point_by u q c edges) (file_row p c.at)

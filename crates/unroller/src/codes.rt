@@ -15,7 +15,16 @@ use std::alloc::{AllocError, Global};
 
 /// What stands at an address without a row.
 fn bare(node: &Node, asserts: (usize, usize)) -> Code
-    ensures { result ≡ record { at = node.now.at; fetchable = node.now.fetchable; list = None; draws = false; row = 64; loads = 0; stores = 0; asserts = asserts } }
+    ensures { result ≡ record {
+      at = node.now.at;
+      fetchable = node.now.fetchable;
+      list = None;
+      draws = false;
+      row = 64;
+      loads = 0;
+      stores = 0;
+      asserts = asserts;
+    } }
 {
     Code {
         at: node.at,
@@ -29,8 +38,8 @@ fn bare(node: &Node, asserts: (usize, usize)) -> Code
     }
 }
 
-/// What stands at the address of a node, with a part of the assert lines by address. The machine's rows load no literal, so that each list may stand as it is lifted. The
-/// error is want of memory.
+/// What stands at the address of a node, with a part of the assert lines by address. The machine's rows load no literal, so that each list may stand as it is
+/// lifted. The error is want of memory.
 pub fn code_at<M: Machine>(
     alloc: Global,
     node: &Node,
@@ -74,7 +83,8 @@ pub fn codes_at<M: Machine>(
     requires nodes { AreRising graph.now.nodes.items }
     requires among { (a : ℕ) → Contains addresses.now a → Contains (addresses_of graph.now) a }
     requires sorted { IsNonDecreasingBy (λ x. x.0) asserts.now }
-    ensures { (p : Program) → p.machine ≡ M.machine → IsGraph p graph.now → IfOk result (λ v. AreCodes p M.bank addresses.now asserts.now (length addresses.now) v.items) }
+    ensures { (p : Program) → p.machine ≡ M.machine → IsGraph p graph.now →
+        IfOk result (λ v. AreCodes p M.bank addresses.now asserts.now (length addresses.now) v.items) }
 {
     let mut codes: Vec<Code> = Vec::with_capacity(alloc, addresses.len())?;
     for at in addresses {

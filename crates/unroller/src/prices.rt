@@ -15,8 +15,8 @@ use crate::costs::LineCost;
 use crate::lines::{asserts_cost, lines_cost, sum};
 use question_form::{Aim, Code, Edge, Known, Point, Unrolled};
 
-/// What points come to, each number at most 2^128 - 1: the price of their rows, their byte loads, their byte stores, their edges, and the price of the lines that are
-/// evaluated there.
+/// What points come to, each number at most 2^128 - 1: the price of their rows, their byte loads, their byte stores, their edges, and the price of the lines
+/// that are evaluated there.
 #[derive(Clone, Copy)]
 pub struct Totals {
     pub rows: u128,
@@ -152,7 +152,8 @@ fn known_count(known: &[Known]) -> u128
 
 /// The part of the price that pays for the cells of memory, by byte loads, byte stores, edges and known bytes.
 fn memory_price(l: u128, s: u128, e: u128, k: u128) -> u128
-    ensures { (loads stores edges known : ℕ) → l ≡ capped loads → s ≡ capped stores → e ≡ capped edges → k ≡ capped known → result ≡ capped (cell_price loads stores edges known) }
+    ensures { (loads stores edges known : ℕ) → l ≡ capped loads → s ≡ capped stores → e ≡ capped edges → k ≡ capped known →
+        result ≡ capped (cell_price loads stores edges known) }
 {
     let own_loads = times(128, l);
     let own_stores = times(128, s);
@@ -169,7 +170,8 @@ fn memory_price(l: u128, s: u128, e: u128, k: u128) -> u128
 
 /// The part of the price that pays for terms, by the price of rows, edges, the price of lines, byte stores and runs of kept bytes.
 fn gate_price(rows: u128, edges: u128, lines: u128, stores: u128, runs: u128) -> u128
-    ensures { (r e l s k : ℕ) → rows ≡ capped r → edges ≡ capped e → lines ≡ capped l → stores ≡ capped s → runs ≡ capped k → result ≡ capped (1024 + r + 1280 * e + l + 128 * (s * k)) }
+    ensures { (r e l s k : ℕ) → rows ≡ capped r → edges ≡ capped e → lines ≡ capped l → stores ≡ capped s → runs ≡ capped k →
+        result ≡ capped (1024 + r + 1280 * e + l + 128 * (s * k)) }
 {
     let first = plus(1024, rows);
     let led = plus(first, times(1280, edges));
@@ -177,8 +179,8 @@ fn gate_price(rows: u128, edges: u128, lines: u128, stores: u128, runs: u128) ->
     plus(evaluated, times(128, times(stores, runs)))
 }
 
-/// The price of an unrolled program; 2^128 - 1 stands for all that are greater, which no notes come to that fit a memory. Time goes with points, edges and the lines that
-/// are evaluated at points. It takes no memory.
+/// The price of an unrolled program; 2^128 - 1 stands for all that are greater, which no notes come to that fit a memory. Time goes with points, edges and the
+/// lines that are evaluated at points. It takes no memory.
 pub fn price(u: &Unrolled) -> u128
     requires { IsFormed u.now }
     ensures { result ≡ capped (unrolled_price (unrolled_of u.now)) }

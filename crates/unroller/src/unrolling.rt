@@ -40,8 +40,8 @@ fn kept<'a>(image: &'a Image<'a>) -> &'a [(u32, u32)]
     runs
 }
 
-/// The unrolled program of a program with at most `k` backward transfers, from its flow graph: every point once, by backward transfers, address and stack, with its
-/// exits in the order of a step and an edge for each of the program's. Lists stand once for each address; known bytes are borrowed from the file.
+/// The unrolled program of a program with at most `k` backward transfers, from its flow graph: every point once, by backward transfers, address and stack, with
+/// its exits in the order of a step and an edge for each of the program's. Lists stand once for each address; known bytes are borrowed from the file.
 ///
 /// The rows of the machine load no literal, so that each list may stand as it is lifted.
 ///

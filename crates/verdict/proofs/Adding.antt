@@ -25,8 +25,13 @@ added_none u added e = subst (λ (z : List ℕ). AreAdded u z) (sym e) (record {
 })
 
 -- the next round asks these and the further ones
-pub added_merged : (u : UnrolledProgram) (added further joined : List ℕ) → AreAdded u added → AreFurther u added further → IsMerged added further joined → AreAdded u joined
-added_merged u added further joined h f m = record { rise = m.rise; known = λ a has. elim (m.only a has) [ inl old ↦ h.known a old | inr new ↦ f.are.known a new ] }
+pub added_merged : (u : UnrolledProgram) (added further joined : List ℕ) → AreAdded u added → AreFurther u added further → IsMerged added further joined →
+    AreAdded u joined
+added_merged u added further joined h f m = record {
+  rise = m.rise;
+  known =
+      λ a has. elim (m.only a has) [ inl old ↦ h.known a old | inr new ↦ f.are.known a new ];
+}
 
 -- rising numbers are at least their places
 at_least : (xs : List ℕ) → AreRising xs → (i : ℕ) → i < length xs → i ≤ slice_index xs i
@@ -53,7 +58,8 @@ fewer_left u added further joined h f m =
     omega (arith, most, count, some)
 
 -- the answer to a question of a passive program
-pub answers : (p : Passive) (kind : Kind) (q : Question) (conflicts : ℕ) (a : Answered) → IsQuestionOf p kind q → Answers (program_of_question q) (question_of q) conflicts a →
+pub answers : (p : Passive) (kind : Kind) (q : Question) (conflicts : ℕ) (a : Answered) → IsQuestionOf p kind q →
+    Answers (program_of_question q) (question_of q) conflicts a →
     Answers (unrolled_of p.unrolled.now) (kind_of kind) conflicts a
 answers p kind q conflicts a h is =
     subst (λ (k : Kind). Answers (unrolled_of p.unrolled.now) (kind_of k) conflicts a) h.kind_is

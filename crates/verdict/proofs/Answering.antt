@@ -88,7 +88,8 @@ module _ (u : UnrolledProgram) (question : Question) (added : List ℕ) (t : Que
   pub shows : (v : ℕ → Bool) → Satisfies v cnf.clauses → (w : Written) → IsStartOf u c v w → (p : Program) (k : ℕ) (layout : Layout) → IsGround p k layout u →
       IsWritten layout (is_known_at p) w × IsFollowedBy p k question (start_in p layout w)
   shows v sat w start p k layout g =
-      let found = values_give_start p k question (is_asked added u.literals) u t c (layered p k layout u g added h question t c term cells) cnf clauses layout g.laid v sat w start in
+      let found = values_give_start p k question (is_asked added u.literals) u t c
+      (layered p k layout u g added h question t c term cells) cnf clauses layout g.laid v sat w start in
       (start_is_written p k u g.unrolling layout g.laid g.steps c v w start, (found.0, found.2, found.3))
 
   -- values that break known bytes break new ones
@@ -102,7 +103,8 @@ module _ (u : UnrolledProgram) (question : Question) (added : List ℕ) (t : Que
     where
       is_byte : (a : ℕ) → IsBroken u c (reading u c v) a → (a < 2 ^ 32) × ((b : ℕ) × (byte_of_runs u.known a ≡ Some b))
       is_byte a x = (
-        subst (λ (n : ℕ). n < 2 ^ 32) x.3 (word_fits u c cells.formed (reading u c v) (reading_in_range u c v) 32 (slice_index c.addresses x.0) (cells.formed.addresses x.0 x.2)),
+        subst (λ (n : ℕ). n < 2 ^ 32) x.3 (word_fits u c cells.formed (reading u c v) (reading_in_range u c v) 32 (slice_index c.addresses x.0)
+            (cells.formed.addresses x.0 x.2)),
         (x.1, x.4),
       )
 

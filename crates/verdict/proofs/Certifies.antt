@@ -14,7 +14,8 @@ use Rattle.verdict.specs.declared.verdicts.Answered.{Answered}
 use Rattle.verdict.specs.declared.verdicts.Answered.TheVariants as answer
 use Rattle.verdict.specs.declared.verdicts.Certified.TheVariants.{Satisfiable, Refuted, Conflicts}
 
-module _ (p : Program) (layout : Layout) (b : Budget) (question : Question) (a : Answered) (within : IsWithin p b) (is : IsAnswered p b.unroll layout question b.conflicts a) where
+module _ (p : Program) (layout : Layout) (b : Budget) (question : Question) (a : Answered) (within : IsWithin p b)
+    (is : IsAnswered p b.unroll layout question b.conflicts a) where
   -- the answer is of this form
   at : (c : Answered) → a ≡ c → IsAnswered p b.unroll layout question b.conflicts c
   at c same = subst (IsAnswered p b.unroll layout question b.conflicts) same is

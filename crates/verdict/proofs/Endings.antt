@@ -32,7 +32,8 @@ no_turn (ending.Failed v a s) none at n h = absurd (cc)
 no_turn (ending.Turned a s) none at n h = none a s refl
 no_turn (ending.Left a s) none at n h = absurd (cc)
 
-module _ (p : Program) (lawful : HasLawfulRows p) (reads : ReadsMemory p) (layout : Layout) (b : Budget) (within : IsWithin p (budget_of b)) (some : 1 ≤ b.points) (s : Start) (e : Ending)
+module _ (p : Program) (lawful : HasLawfulRows p) (reads : ReadsMemory p) (layout : Layout) (b : Budget) (within : IsWithin p (budget_of b)) (some : 1
+    ≤ b.points) (s : Start) (e : Ending)
     (is : found_of e ≡ found p (Some b.unroll) (start_in p layout (written_of s)) (b.points - 1)) where
   pub failing : IsAnswered p b.unroll layout FailQuestion b.conflicts (Sat s) → (v : Event) (at step : ℕ) → e ≡ ending.Failed v at step →
       IsVerdict p layout b (Fails v at step s)
@@ -42,7 +43,8 @@ module _ (p : Program) (lawful : HasLawfulRows p) (reads : ReadsMemory p) (layou
   pub fails_somehow : IsAnswered p b.unroll layout FailQuestion b.conflicts (Sat s) → ((v : Event) (at step : ℕ) → e ≡ ending.Failed v at step → ⊥) → ⊥
   fails_somehow h none = no_other_event p lawful reads layout (budget_of b) within some (written_of s) h.0 h.1 (found_of e) (sym is) (no_event e none)
 
-  pub turning : (IsSatisfiable p b.unroll FailQuestion → ⊥) → IsAnswered p b.unroll layout TurnQuestion b.conflicts (Sat s) → (at step : ℕ) → e ≡ ending.Turned at step →
+  pub turning : (IsSatisfiable p b.unroll FailQuestion → ⊥) → IsAnswered p b.unroll layout TurnQuestion b.conflicts (Sat s) → (at step : ℕ) →
+      e ≡ ending.Turned at step →
       IsVerdict p layout b (Unroll at step s)
   turning never h at step same =
       turns_report p lawful reads layout (budget_of b) within some (written_of s) h.0 never h.1 at step (sym is ∙ ap found_of same)

@@ -1,4 +1,5 @@
--- What is had of an unrolled program of a file, and of its passive program: the laws of its rows, the sizes of its machine, its price, and terms that can be made of it.
+-- What is had of an unrolled program of a file, and of its passive program: the laws of its rows, the sizes of its machine, its price, and terms that can be
+-- made of it.
 use Rattle.std.proofs.Common.{◌≡◌, refl, sym, ap, subst, ◌∙◌, ℕ, zero, suc, ◌+◌, ◌-◌, ◌<◌, ◌≤◌, ◌^◌, Bool, true, false, List, [], ◌∷◌, Some, None, Result, Ok, Err, IfOk, arith}
 use Rattle.std.specs.Prelude.{if◌then◌else◌, nat_lt, length, map, slice_index, IsTrue, min}
 use Rattle.std.proofs.lemmas.Bool.Decides.{nat_tests}
@@ -40,7 +41,8 @@ use Rattle.verdict.specs.declared.measuring.Measured.{Measured}
 use Rattle.verdict.specs.declared.measuring.Measured.TheVariants.{Above, Within}
 
 -- the rows of a file of a lawful machine are lawful
-pub file_rows_lawful : (file : List ℕ) (notes : Notes) (entry : ℕ) (m : Machine) → machine_of file ≡ m → IsLawfulMachine m → ((i : ℕ) → slice_index file i < 256) →
+pub file_rows_lawful : (file : List ℕ) (notes : Notes) (entry : ℕ) (m : Machine) → machine_of file ≡ m → IsLawfulMachine m →
+    ((i : ℕ) → slice_index file i < 256) →
     HasLawfulRows (program_of file notes entry)
 file_rows_lawful file notes entry m is lawful small =
     rows_lawful (program_of file notes entry) (subst IsLawfulMachine (sym is) lawful) (λ a. cell_small file small a _)
@@ -49,7 +51,8 @@ file_rows_lawful file notes entry m is lawful small =
 truth : (b : Bool) → IsTrue b → b ≡ true
 truth b h = h
 
-readable : (u : UnrolledProgram) (regs flags : ℕ → Bool) → ((r : ℕ) → is_register_of u r ≡ regs r) → ((f : ℕ) → is_flag_of u f ≡ flags f) → (e : Expr) → IsOver regs flags e → IsReadable u e
+readable : (u : UnrolledProgram) (regs flags : ℕ → Bool) → ((r : ℕ) → is_register_of u r ≡ regs r) → ((f : ℕ) → is_flag_of u f ≡ flags f) → (e : Expr) →
+    IsOver regs flags e → IsReadable u e
 readable u regs flags p q (Number n) h = h
 readable u regs flags p q (Register r) h = p r ∙ truth (regs r) h
 readable u regs flags p q (Flag f) h = q f ∙ truth (flags f) h
@@ -59,7 +62,8 @@ readable u regs flags p q (Old a) h = readable u regs flags p q a h
 readable u regs flags p q (Not a) h = readable u regs flags p q a h
 readable u regs flags p q (Binary op a b) h = (readable u regs flags p q a h.0, readable u regs flags p q b h.1)
 
-pub all_readable : (u : UnrolledProgram) (regs flags : ℕ → Bool) (n : Notes) → ((r : ℕ) → is_register_of u r ≡ regs r) → ((f : ℕ) → is_flag_of u f ≡ flags f) → AreOver regs flags n →
+pub all_readable : (u : UnrolledProgram) (regs flags : ℕ → Bool) (n : Notes) → ((r : ℕ) → is_register_of u r ≡ regs r) → ((f : ℕ) → is_flag_of u f ≡ flags f) →
+    AreOver regs flags n →
     AreReadableBy u n
 all_readable u regs flags n p q h = record {
   requires = λ l has. readable u regs flags p q l.says (All-contains (λ (x : NoteLine). IsOver regs flags x.says) n.requires l h.requires has);
@@ -73,7 +77,8 @@ range_length n zero = refl
 range_length n (suc count) = ap suc (range_length (n + 1) count)
 
 -- its questions are those of the program
-grounded : (p : Program) (k : ℕ) (form : Layout) (u : UnrolledProgram) → IsUnrolling p k u → IsFitted p.machine form → IsLaidOut form u → HasLawfulRows p → p.entry < 2 ^ 32 →
+grounded : (p : Program) (k : ℕ) (form : Layout) (u : UnrolledProgram) → IsUnrolling p k u → IsFitted p.machine form → IsLaidOut form u → HasLawfulRows p →
+    p.entry < 2 ^ 32 →
     HasBytes u → length u.points ≤ last_step + 1 → IsGround p k form u
 grounded p k form u un fitted laid lawful entry bytes few = record {
   lawful = lawful;
@@ -118,7 +123,8 @@ pub has_bytes : (file : List ℕ) (notes : Notes) (entry k : ℕ) (u : UnrolledP
 has_bytes file notes entry k u un beyond small a b h =
     bytes_by (program_of file notes entry) k u un beyond (λ x. cell_small file small x _) a b (nat_lt a (2 ^ 32)) refl h
 
-module _ (file : List ℕ) (notes : Notes) (entry : ℕ) (m : Machine) (form : Layout) (b : Budget) (is : machine_of file ≡ m) (lawful : IsLawfulMachine m) (fitted : IsFitted m form)
+module _ (file : List ℕ) (notes : Notes) (entry : ℕ) (m : Machine) (form : Layout) (b : Budget) (is : machine_of file
+    ≡ m) (lawful : IsLawfulMachine m) (fitted : IsFitted m form)
     (small : (i : ℕ) → slice_index file i < 256) (over : AreOver m.has_register m.has_flag notes) (at : entry < 2 ^ 32) (most : b.points ≤ 16777216) where
   -- the program
   abbrev p : Program
@@ -129,7 +135,8 @@ module _ (file : List ℕ) (notes : Notes) (entry : ℕ) (m : Machine) (form : L
 
   -- an unrolled program with no more points than the budget
   module _ (u : Unrolled) (un : IsUnrolling p b.unroll (unrolled_of u)) (formed : IsFormed u) (few : length u.points.items ≤ b.points) (has : HasForm m u)
-      (addresses : (i : ℕ) → i < length (unrolled_of u).points → (point_at (unrolled_of u) i).point.at < 2 ^ 32) (layout : layout_of u.form ≡ form) (runs : AreRuns u.known.items)
+      (addresses : (i : ℕ) → i < length (unrolled_of u).points →
+      (point_at (unrolled_of u) i).point.at < 2 ^ 32) (layout : layout_of u.form ≡ form) (runs : AreRuns u.known.items)
       (beyond : (x : ℕ) → 2 ^ 32 ≤ x → byte_of_runs (unrolled_of u).known x ≡ None) where
     laid : IsLaidOut form (unrolled_of u)
     laid = subst (λ (l : Layout). IsLaidOut l (unrolled_of u)) layout has.laid
@@ -153,7 +160,8 @@ module _ (file : List ℕ) (notes : Notes) (entry : ℕ) (m : Machine) (form : L
         bytes = bytes;
         runs = runs;
       };
-      ground = grounded p b.unroll form (unrolled_of u) un fits laid (file_rows_lawful file notes entry m is lawful small) at bytes (omega (arith, counted, most));
+      ground = grounded p b.unroll form (unrolled_of u) un fits laid (file_rows_lawful file notes entry m is lawful small) at bytes
+          (omega (arith, counted, most));
       few = counted;
     }
 
@@ -174,7 +182,8 @@ module _ (p : Program) (form : Layout) (b : Budget) (u : Unrolled) (h : IsUnroll
 
   is_price : (price : ℕ) → price ≡ min (unrolled_price (unrolled_of u)) (2 ^ 128 - 1) → (price ≡ 2 ^ 128 - 1 → ⊥) → IsPrice p b.unroll price
   is_price price is other =
-      subst (λ (n : ℕ). IsPrice p b.unroll n) (sym (uncapped (unrolled_price (unrolled_of u)) (2 ^ 128 - 1) price is other)) (price_is_price p b.unroll (unrolled_of u) h.ground.unrolling)
+      subst (λ (n : ℕ). IsPrice p b.unroll n) (sym (uncapped (unrolled_price (unrolled_of u)) (2 ^ 128 - 1) price is other))
+      (price_is_price p b.unroll (unrolled_of u) h.ground.unrolling)
 
   fits_budget : (price : ℕ) → price ≡ min (unrolled_price (unrolled_of u)) (2 ^ 128 - 1) → (price ≡ 2 ^ 128 - 1 → ⊥) → price ≤ b.size → IsWithin p b
   fits_budget price is other cheap = record { points = no_more; price = price; is_price = is_price price is other; size = cheap }

@@ -33,7 +33,8 @@ choices_small (c ∷ cs) i h =
     (choices_small cs i (λ d has. h d (Contains-append_right (c ∷ []) cs d has)))
 
 written_choice : (layout : Layout) (known : ℕ → Bool) (w : Written) → IsWritten layout known w → (i : ℕ) → byte_in w.choices i < 4
-written_choice layout known w h i = choices_small w.choices i (λ c has. let q = All-contains (λ (d : ℕ × ℕ). (d.0 ≤ last_step) × (1 ≤ d.1) × (d.1 ≤ 3)) w.choices c h.choices has in omega (arith, q.2))
+written_choice layout known w h i = choices_small w.choices i (λ c has. let q = All-contains (λ (d : ℕ × ℕ). (d.0 ≤ last_step) × (1 ≤ d.1) ×
+    (d.1 ≤ 3)) w.choices c h.choices has in omega (arith, q.2))
 
 -- a run that has been found to end
 found_fails : (r : Run) (e : Event) (at n : ℕ) → r ≡ Failed e at n → found_going r ≡ FoundEvent e at n
@@ -106,11 +107,13 @@ module _ (p : Program) (lawful : HasLawfulRows p) (reads : ReadsMemory p) (layou
           subst (λ (r : Run). EndsAs p b.unroll (start_in p layout w) r) same f.4,
         )
 
-    pub no_other_event : IsFollowedBy p b.unroll FailQuestion (start_in p layout w) → (f : Found) → here ≡ f → ((e : Event) (at n : ℕ) → f ≡ FoundEvent e at n → ⊥) → ⊥
+    pub no_other_event : IsFollowedBy p b.unroll FailQuestion (start_in p layout w) → (f : Found) → here ≡ f →
+        ((e : Event) (at n : ℕ) → f ≡ FoundEvent e at n → ⊥) → ⊥
     no_other_event h f is none = let g = finds_event h in none g.0 g.1 g.2 (sym is ∙ g.3)
 
     -- no run fails, and some run makes one backward transfer too many
-    pub turns_report : (IsSatisfiable p b.unroll FailQuestion → ⊥) → IsFollowedBy p b.unroll TurnQuestion (start_in p layout w) → (at n : ℕ) → here ≡ FoundTurn at n →
+    pub turns_report : (IsSatisfiable p b.unroll FailQuestion → ⊥) → IsFollowedBy p b.unroll TurnQuestion (start_in p layout w) → (at n : ℕ) →
+        here ≡ FoundTurn at n →
         IsRightReport p layout b (UnrollReport at n) (RunOf w)
     turns_report never h at n is =
         let f = finds_turn h in
@@ -156,5 +159,6 @@ module _ (p : Program) (lawful : HasLawfulRows p) (reads : ReadsMemory p) (layou
     )
 
   -- and on the entry question
-  pub spent_on_entry : (proof : Proof) → Spends p b.unroll EntryQuestion b.conflicts proof → IsRightReport p layout b ConflictsReport (SpentOn EntryQuestion proof)
+  pub spent_on_entry : (proof : Proof) → Spends p b.unroll EntryQuestion b.conflicts proof →
+      IsRightReport p layout b ConflictsReport (SpentOn EntryQuestion proof)
   spent_on_entry proof s = (within, tt, s)

@@ -38,7 +38,14 @@ snoc_rises xs y rise below i j lt end = elim (split j (length xs) (let e = lengt
 
 module _ (xs ys : List ℕ) (rise_x : AreRising xs) (rise_y : AreRising ys) (apart : (a : ℕ) → Contains ys a → ¬ Contains xs a) where
   pub merging_none : IsMerging xs ys 0 0 []
-  merging_none = record { rise = λ i j lt end. absurd (omega arith); only = λ a c. absurd (none a c); count = refl; below = λ a c. absurd (none a c); under = λ a c. absurd (none a c) }
+  merging_none = record {
+    rise = λ i j lt end. absurd (omega arith);
+    only = λ a c. absurd (none a c);
+    count = refl;
+    below = λ a c. absurd (none a c);
+    under =
+        λ a c. absurd (none a c);
+  }
     where
       none : (a : ℕ) → Contains {X = ℕ} [] a → ⊥
       none a c = let q = at_from_Contains [] a c in omega (arith, q.1)
@@ -51,7 +58,11 @@ module _ (xs ys : List ℕ) (rise_x : AreRising xs) (rise_y : AreRising ys) (apa
       IsMerging xs ys (i + 1) j (joined ++ slice_index xs i ∷ [])
   merging_first i j joined h within less = record {
     rise = snoc_rises joined (slice_index xs i) h.rise (λ a c. h.below a c within);
-    only = λ a c. elim (Contains-push_cases joined (slice_index xs i) a c) [ inl old ↦ h.only a old | inr e ↦ inl (subst (λ (n : ℕ). Contains xs n) e (Contains-get_or xs i 0 within)) ];
+    only = λ a c. elim (Contains-push_cases joined (slice_index xs i) a c) [
+      | inl old ↦ h.only a old
+      | inr e ↦ inl (subst
+          (λ (n : ℕ). Contains xs n) e (Contains-get_or xs i 0 within))
+    ];
     count = length-append joined (slice_index xs i ∷ []) ∙ (let e = h.count in omega arith);
     below = λ a c more. elim (Contains-push_cases joined (slice_index xs i) a c) [
       | inl old ↦ let p = h.below a old within in let q = next_rises xs rise_x i more in omega (arith, p, q)
@@ -71,7 +82,11 @@ module _ (xs ys : List ℕ) (rise_x : AreRising xs) (rise_y : AreRising ys) (apa
       IsMerging xs ys i (j + 1) (joined ++ slice_index ys j ∷ [])
   merging_second i j joined h within most = record {
     rise = snoc_rises joined (slice_index ys j) h.rise (λ a c. h.under a c within);
-    only = λ a c. elim (Contains-push_cases joined (slice_index ys j) a c) [ inl old ↦ h.only a old | inr e ↦ inr (subst (λ (n : ℕ). Contains ys n) e (Contains-get_or ys j 0 within)) ];
+    only = λ a c. elim (Contains-push_cases joined (slice_index ys j) a c) [
+      | inl old ↦ h.only a old
+      | inr e ↦ inr (subst
+          (λ (n : ℕ). Contains ys n) e (Contains-get_or ys j 0 within))
+    ];
     count = length-append joined (slice_index ys j ∷ []) ∙ (let e = h.count in omega arith);
     below = λ a c more. elim (Contains-push_cases joined (slice_index ys j) a c) [
       | inl old ↦ h.below a old more

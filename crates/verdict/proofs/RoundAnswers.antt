@@ -53,11 +53,13 @@ pub layers : (q : Question) (added : List ℕ) (c : Celled) → AreCellsOf q add
 layers q added c h are term = record {
   added_are = subst (λ (z : Question). AreAdded (program_of_question z) added) (sym h.of) are;
   term = subst (λ (z : Question). TellsQuestion (program_of_question z) (question_of z) (term_of z)) (sym h.of) term;
-  cells = subst (λ (z : Question). TellsCells (program_of_cells c) (term_of z) (is_asked added (program_of_question z).literals) (cells_of c)) (sym h.of) h.tells;
+  cells = subst (λ (z : Question). TellsCells (program_of_cells c) (term_of z) (is_asked added (program_of_question z).literals) (cells_of c))
+      (sym h.of) h.tells;
 }
 
 -- what holds of the question of the cells holds of the question
-pub of_question : (q : Question) (added : List ℕ) (conflicts : ℕ) (c : Celled) (r : Round) → AreCellsOf q added c → IsRound c.question.now added conflicts r → IsRound q added conflicts r
+pub of_question : (q : Question) (added : List ℕ) (conflicts : ℕ) (c : Celled) (r : Round) → AreCellsOf q added c → IsRound c.question.now added conflicts r →
+    IsRound q added conflicts r
 of_question q added conflicts c r h is = subst (λ (z : Question). IsRound z added conflicts r) h.of is
 
 -- questions can be asked of the passive program of the cells
@@ -65,7 +67,8 @@ pub askable_cells : (q : Question) (added : List ℕ) (c : Celled) → AreCellsO
 askable_cells q added c h is = subst (λ (z : Question). IsAskable z.passive.now) (sym h.of) is
 
 -- what satisfying values say of the cells
-pub values_satisfy : (cnf : Cnf) (conflicts : ℕ) (a : Answer) (values : _) (bits : List Bool) → IsAnswer (cnf_of cnf) conflicts a → a ≡ search.Sat values → bits ≡ values.items →
+pub values_satisfy : (cnf : Cnf) (conflicts : ℕ) (a : Answer) (values : _) (bits : List Bool) → IsAnswer (cnf_of cnf) conflicts a → a ≡ search.Sat values →
+    bits ≡ values.items →
     Satisfies (valuation bits) (cnf_of cnf).clauses
 values_satisfy cnf conflicts a values bits h is same =
     let k = subst (λ (z : Answer). IsAnswer (cnf_of cnf) conflicts z) is h in
@@ -79,16 +82,19 @@ pub log_spends : (cnf : Cnf) (conflicts : ℕ) (a : Answer) (log : Log) → IsAn
     IsSpent (cnf_of cnf).clauses conflicts (lines_of log)
 log_spends cnf conflicts a log h is = subst (λ (z : Answer). IsAnswer (cnf_of cnf) conflicts z) is h
 
-module _ (added : List ℕ) (conflicts : ℕ) (c : Celled) (cnf : Cnf) (h : AreLayers added c) (clauses : TellsClauses (program_of_cells c) (cells_of c) (cnf_of cnf)) where
+module _ (added : List ℕ) (conflicts : ℕ) (c : Celled) (cnf : Cnf) (h : AreLayers added c)
+    (clauses : TellsClauses (program_of_cells c) (cells_of c) (cnf_of cnf)) where
   pub round_refuted : (log : Log) → IsRefutation (cnf_of cnf).variables (cnf_of cnf).clauses (lines_of log) →
       IsRound c.question.now added conflicts (Answered (answer.Refuted (record { clauses = cnf; log = log })))
   round_refuted log refuted p k layout g =
-      refutes (program_of_cells c) (question_of c.question.now) added (term_of c.question.now) (cells_of c) (cnf_of cnf) h.added_are h.term h.cells clauses (lines_of log) refuted p k layout g
+      refutes (program_of_cells c) (question_of c.question.now) added (term_of c.question.now) (cells_of c) (cnf_of cnf) h.added_are h.term h.cells clauses
+      (lines_of log) refuted p k layout g
 
   pub round_spent : (log : Log) → IsSpent (cnf_of cnf).clauses conflicts (lines_of log) →
       IsRound c.question.now added conflicts (Answered (answer.Spent (record { clauses = cnf; log = log })))
   round_spent log spent p k layout g =
-      spends (program_of_cells c) (question_of c.question.now) added (term_of c.question.now) (cells_of c) (cnf_of cnf) h.added_are h.term h.cells clauses conflicts (lines_of log) spent p k layout g
+      spends (program_of_cells c) (question_of c.question.now) added (term_of c.question.now) (cells_of c)
+      (cnf_of cnf) h.added_are h.term h.cells clauses conflicts (lines_of log) spent p k layout g
 
   -- some memory gives the base reads the bytes of satisfying values
   pub some_memory : (bits : List Bool) → Satisfies (valuation bits) (cnf_of cnf).clauses →
@@ -98,10 +104,13 @@ module _ (added : List ℕ) (conflicts : ℕ) (c : Celled) (cnf : Cnf) (h : AreL
       let found = h.cells.complete x (reading_in_range (program_of_cells c) (cells_of c) (valuation bits)) (clauses.extends.only (valuation bits) sat).0 in
       (found.0, found.3)
 
-  pub round_judged : (bits : List Bool) → Satisfies (valuation bits) (cnf_of cnf).clauses → (r : Round) → AreJudged c bits r → IsRound c.question.now added conflicts r
+  pub round_judged : (bits : List Bool) → Satisfies (valuation bits) (cnf_of cnf).clauses → (r : Round) → AreJudged c bits r →
+      IsRound c.question.now added conflicts r
   round_judged bits sat (Answered (answer.Sat s)) is = λ p k layout g.
-      shows (program_of_cells c) (question_of c.question.now) added (term_of c.question.now) (cells_of c) (cnf_of cnf) h.added_are h.term h.cells clauses (valuation bits) sat (written_of s) is p k layout g
+      shows (program_of_cells c) (question_of c.question.now) added (term_of c.question.now) (cells_of c) (cnf_of cnf) h.added_are h.term h.cells clauses
+      (valuation bits) sat (written_of s) is p k layout g
   round_judged bits sat (Answered (answer.Refuted proof)) is = absurd is
   round_judged bits sat (Answered (answer.Spent proof)) is = absurd is
   round_judged bits sat (Broken list) is =
-      further (program_of_cells c) (question_of c.question.now) added (term_of c.question.now) (cells_of c) (cnf_of cnf) h.added_are h.term h.cells clauses (valuation bits) sat list.items is.0.rise is.1 is.0.broken
+      further (program_of_cells c) (question_of c.question.now) added (term_of c.question.now) (cells_of c) (cnf_of cnf) h.added_are h.term h.cells clauses
+      (valuation bits) sat list.items is.0.rise is.1 is.0.broken

@@ -44,7 +44,8 @@ module _ (p : Program) (reads : ReadsMemory p) (layout : Layout) (b : Budget) (w
     pub spent_on_fail_verdict : (a : Answered) (proof : Proof) → Came FailQuestion a → a ≡ Spent proof → IsVerdict p layout b (Conflicts kind.Fail proof)
     spent_on_fail_verdict a proof came is =
         let e = is_answered EntryQuestion entry (Sat s) entered is_entered in
-        spent_on_fail p ground.lawful reads layout (budget_of b) within some (written_of s) e.0 e.1 (proof_of proof) (is_answered FailQuestion a (Spent proof) came is)
+        spent_on_fail p ground.lawful reads layout (budget_of b) within some (written_of s) e.0 e.1 (proof_of proof)
+        (is_answered FailQuestion a (Spent proof) came is)
 
     -- where no run fails
     module _ (fail : Answered) (refuted : Proof) (never : Came FailQuestion fail) (is_never : fail ≡ Refuted refuted) where

@@ -26,7 +26,8 @@ use std::alloc::{AllocError, Global};
 
 /// What the answer to a question of a program within the budgets certifies.
 fn certified(answered: Answered) -> Certified
-    ensures { (p : Program) (layout : Layout) (b : answers.Budget) (question : Question) → IsWithin p b → IsAnswered p b.unroll layout question b.conflicts answered →
+    ensures { (p : Program) (layout : Layout) (b : answers.Budget) (question : Question) → IsWithin p b →
+        IsAnswered p b.unroll layout question b.conflicts answered →
         IsCertificate p b question result }
 {
     match answered {
@@ -45,7 +46,8 @@ fn certify_unrolled(
 ) -> Result<Certified, AllocError>
     requires budget { IsBudget (budget_of budget.now) }
     requires measurable { IsMeasurable unrolled.now }
-    ensures { IfOk result (λ c. (p : Program) (layout : Layout) → IsUnrolledOf p layout (budget_of budget.now) unrolled.now → IsCertificate p (budget_of budget.now) (kind_of kind) c) }
+    ensures { IfOk result (λ c. (p : Program) (layout : Layout) → IsUnrolledOf p layout (budget_of budget.now) unrolled.now →
+        IsCertificate p (budget_of budget.now) (kind_of kind) c) }
 {
     match measure(alloc, budget, unrolled)? {
         Measured::Above(price) => Ok(Certified::Size { price }),
@@ -56,8 +58,8 @@ fn certify_unrolled(
     }
 }
 
-/// What a question about the function at an address of an image comes to, by its notes and within the budgets, whether it is due or not. The error is want of memory; a
-/// price of 2^128 - 1 or more counts as that.
+/// What a question about the function at an address of an image comes to, by its notes and within the budgets, whether it is due or not. The error is want of
+/// memory; a price of 2^128 - 1 or more counts as that.
 pub fn certify<'a, M: Machine>(
     alloc: Global,
     image: &'a Image<'a>,

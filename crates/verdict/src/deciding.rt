@@ -48,8 +48,8 @@ fn with_further(alloc: Global, added: &[u32], further: &[u32]) -> Result<Vec<u32
     Ok(joined)
 }
 
-/// What a question of a passive program comes to, within so many conflicts of the search. The bytes of the file are asked on demand: at first those of literals alone,
-/// and where values are found that have not some known bytes, those too. The error is want of memory.
+/// What a question of a passive program comes to, within so many conflicts of the search. The bytes of the file are asked on demand: at first those of literals
+/// alone, and where values are found that have not some known bytes, those too. The error is want of memory.
 pub fn decide(
     alloc: Global,
     passive: &Passive,

@@ -32,7 +32,8 @@ pub enum Round {
 /// What satisfying values come to: the start that they give, or the known bytes that they have not.
 fn judge_values(alloc: Global, celled: &Celled, values: &[bool]) -> Result<Round, AllocError>
     requires formed { AreFormed (program_of_cells celled.now) (cells_of celled.now) }
-    requires some { (m : ℕ → ℕ) × Gives (cells_of celled.now) (with_mem (reading (program_of_cells celled.now) (cells_of celled.now) (valuation values.now)) m) }
+    requires some { (m : ℕ → ℕ) × Gives (cells_of celled.now)
+        (with_mem (reading (program_of_cells celled.now) (cells_of celled.now) (valuation values.now)) m) }
     requires askable { IsAskable celled.now.question.now.passive.now }
     ensures { IfOk result (λ r. AreJudged celled.now values.now r) }
 {

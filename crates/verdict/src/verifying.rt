@@ -50,7 +50,8 @@ fn ending<M: Machine>(
     requires readable { AreReadable M.machine.has_register (notes_of function.now.notes.now) }
     requires budget { IsBudget (budget_of budget.now) }
     requires written { IsWritten M.form (is_known_at (program_of_function function.now)) (written_of start.now) }
-    ensures { IfOk result (λ e. found_of e ≡ found (program_of_function function.now) (Some budget.now.unroll) (start_in (program_of_function function.now) M.form (written_of start.now))
+    ensures { IfOk result (λ e. found_of e ≡ found (program_of_function function.now) (Some budget.now.unroll)
+        (start_in (program_of_function function.now) M.form (written_of start.now))
         (budget.now.points - 1)) }
 {
     let ending = run::<M>(
@@ -182,8 +183,8 @@ fn judge_unrolled<M: Machine>(
 }
 
 /// The verdict on the function at an address of an image, by its notes and within the budgets, with what shows it: first that there are more points than the
-/// budget, then that the price is above the budget, then the three questions in their order. The error is want of memory; a price of 2^128 - 1 or more counts as
-/// that.
+/// budget, then that the price is above the budget, then the three questions in their order. The error is want of memory; a price of 2^128 - 1 or more counts
+/// as that.
 pub fn verify<'a, M: Machine>(
     alloc: Global,
     image: &'a Image<'a>,

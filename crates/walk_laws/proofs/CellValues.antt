@@ -47,11 +47,13 @@ same_up_to x y (n ∷ ns) vs (suc t) f l =
     ∙ same_up_to x y ns (vs ++ node_value y vs n ∷ []) t (λ i le ws. f (suc i) (omega arith) ws) (omega arith)
     ∙ sym (ap (value_at (values_from y (vs ++ node_value y vs n ∷ []) ns)) g)
 
-pub same_term : (x y : TermReading) (ns : List TermNode) (t : ℕ) → ((i : ℕ) → i ≤ t → (ws : List TermValue) → node_value x ws (node_at ns i) ≡ node_value y ws (node_at ns i)) →
+pub same_term : (x y : TermReading) (ns : List TermNode) (t : ℕ) →
+    ((i : ℕ) → i ≤ t → (ws : List TermValue) → node_value x ws (node_at ns i) ≡ node_value y ws (node_at ns i)) →
     t < length ns → term_word x ns t ≡ term_word y ns t
 same_term x y ns t f l =
     let g : t + 0 ≡ t = omega arith in
-    ap (λ z. (value_at (values_from x [] ns) z).word) (sym g) ∙ ap (λ z. z.word) (same_up_to x y ns [] t f l) ∙ ap (λ z. (value_at (values_from y [] ns) z).word) g
+    ap (λ z. (value_at (values_from x [] ns) z).word) (sym g) ∙ ap (λ z. z.word) (same_up_to x y ns [] t f l) ∙ ap
+    (λ z. (value_at (values_from y [] ns) z).word) g
 
 -- two readings have the same inputs, with base reads below a number
 pub record Agree (u : UnrolledProgram) (k : ℕ) (x y : TermReading) : Type 0 where
@@ -69,7 +71,8 @@ agree_back u k x y a = record {
 }
 
 -- so a node that names them has the same value
-pub node_same : (u : UnrolledProgram) (k : ℕ) (x y : TermReading) → Agree u k x y → (vs : List TermValue) (n : TermNode) → IsNamedBelow u k n → (n ≡ MemoryNode → x.mem ≡ y.mem) →
+pub node_same : (u : UnrolledProgram) (k : ℕ) (x y : TermReading) → Agree u k x y → (vs : List TermValue) (n : TermNode) → IsNamedBelow u k n →
+    (n ≡ MemoryNode → x.mem ≡ y.mem) →
     node_value x vs n ≡ node_value y vs n
 node_same u k x y a vs (RegisterNode r) h m = ap word_value (a.regs r h)
 node_same u k x y a vs (FlagNode r) h m = ap word_value (a.flags r h)
@@ -101,7 +104,8 @@ module _ (u : UnrolledProgram) (c : Cells) (formed : AreFormed u c) where
   pub word_same : (x y : TermReading) → Agree u (length c.addresses) x y → (t : ℕ) → t < length c.nodes → term_word x c.nodes t ≡ term_word y c.nodes t
   word_same x y a t l =
       same_term x y c.nodes t
-      (λ i le ws. node_same u (length c.addresses) x y a ws (node_at c.nodes i) (formed.named (node_at c.nodes i) (node_in c.nodes i (omega arith))) (no_memory i (omega arith) x y)) l
+      (λ i le ws. node_same u (length c.addresses) x y a ws (node_at c.nodes i) (formed.named (node_at c.nodes i) (node_in c.nodes i (omega arith)))
+      (no_memory i (omega arith) x y)) l
 
   -- and the address of a read, where the reads before it are the same
   pub address_same : (x y : TermReading) (j : ℕ) → j < length c.addresses → Agree u j x y → read_address c x j ≡ read_address c y j
@@ -125,7 +129,8 @@ select_below zero a b m p q = q
 select_below (suc c) a b m p q = p
 
 concat_below : (n m a b : ℕ) → a < 2 ^ n → b < 2 ^ m → a * 2 ^ m + b < 2 ^ (n + m)
-concat_below n m a b p q = subst (λ (z : ℕ). a * 2 ^ m + b < z) (sym (pow-add 2 n m)) (let r = mul-add-lt a (2 ^ m) b (2 ^ n) p q in let e = mul_comm (2 ^ m) (2 ^ n) in omega arith)
+concat_below n m a b p q = subst (λ (z : ℕ). a * 2 ^ m + b < z) (sym (pow-add 2 n m)) (let r = mul-add-lt a (2 ^ m) b (2 ^ n) p q in
+    let e = mul_comm (2 ^ m) (2 ^ n) in omega arith)
 
 module _ (x : TermReading) (is : InRange x) (vs : List TermValue) (ns : List TermNode) (fit : Fit vs ns) where
   at_width : (w t : ℕ) → HasWidth ns w t → (value_at vs t).word < 2 ^ w
@@ -149,7 +154,8 @@ module _ (x : TermReading) (is : InRange x) (vs : List TermValue) (ns : List Ter
   one_fits (StoreNode n e m a v) h w = absurd w
   one_fits (JoinNode c a b) h w = absurd w
 
-  next_value : (us : List TermValue) (ms : List TermNode) (v : TermValue) (n : TermNode) → length us ≡ length ms → ((t : ℕ) → (value_at us t).word < 2 ^ width_of (node_at ms t)) →
+  next_value : (us : List TermValue) (ms : List TermNode) (v : TermValue) (n : TermNode) → length us ≡ length ms →
+      ((t : ℕ) → (value_at us t).word < 2 ^ width_of (node_at ms t)) →
       v.word < 2 ^ width_of n → (t : ℕ) → (value_at (us ++ v ∷ []) t).word < 2 ^ width_of (node_at (ms ++ n ∷ []) t)
   next_value [] [] v n e f g zero = g
   next_value [] [] v n e f g (suc t) = f 0
@@ -159,7 +165,11 @@ module _ (x : TermReading) (is : InRange x) (vs : List TermValue) (ns : List Ter
   next_value (w ∷ us) (m ∷ ms) v n e f g (suc t) = next_value us ms v n (omega arith) (λ i. f (suc i)) g t
 
   next_fits : (n : TermNode) → IsTypedOver ns n → IsOfWords n → Fit (vs ++ node_value x vs n ∷ []) (ns ++ n ∷ [])
-  next_fits n h w = record { count = both vs ns (node_value x vs n) n fit.count; words = next_value vs ns (node_value x vs n) n fit.count fit.words (one_fits n h w) }
+  next_fits n h w = record {
+    count = both vs ns (node_value x vs n) n fit.count;
+    words = next_value vs ns (node_value x vs n) n fit.count fit.words
+        (one_fits n h w);
+  }
     where
       both : (us : List TermValue) (ms : List TermNode) (v : TermValue) (n : TermNode) → length us ≡ length ms → length (us ++ v ∷ []) ≡ length (ms ++ n ∷ [])
       both [] [] v n e = refl
@@ -171,7 +181,8 @@ append_one : (ns ms : List TermNode) (n : TermNode) → (ns ++ n ∷ []) ++ ms �
 append_one [] ms n = refl
 append_one (m ∷ ns) ms n = ap (λ z. m ∷ z) (append_one ns ms n)
 
-all_fit : (x : TermReading) → InRange x → (ms : List TermNode) (vs : List TermValue) (ns : List TermNode) → Fit vs ns → AreTypedFrom ns ms → ((n : TermNode) → Contains ms n → IsOfWords n) →
+all_fit : (x : TermReading) → InRange x → (ms : List TermNode) (vs : List TermValue) (ns : List TermNode) → Fit vs ns → AreTypedFrom ns ms →
+    ((n : TermNode) → Contains ms n → IsOfWords n) →
     Fit (values_from x vs ms) (ns ++ ms)
 unfolding values_from
 all_fit x is [] vs ns fit h w = subst (λ (z : List TermNode). Fit vs z) (back ns) fit
@@ -185,7 +196,8 @@ all_fit x is (n ∷ ms) vs ns fit h w =
     (λ m (i, l, e). w m (suc i, omega arith, e)))
 
 -- the word of a place of the cells has its width
-pub word_fits : (u : UnrolledProgram) (c : Cells) → AreFormed u c → (x : TermReading) → InRange x → (w t : ℕ) → HasWidth c.nodes w t → term_word x c.nodes t < 2 ^ w
+pub word_fits : (u : UnrolledProgram) (c : Cells) → AreFormed u c → (x : TermReading) → InRange x → (w t : ℕ) → HasWidth c.nodes w t →
+    term_word x c.nodes t < 2 ^ w
 word_fits u c formed x is w t h =
     let fit = all_fit x is c.nodes [] [] (record { count = refl; words = λ i. let one : 0 < 1 = omega arith in one }) formed.typed formed.words in
     subst (λ (z : ℕ). term_word x c.nodes t < 2 ^ z) h.1 (fit.words t)

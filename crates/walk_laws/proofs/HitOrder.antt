@@ -39,7 +39,8 @@ module _ (h : EdgeEnd → Bool) where
   exit_hit (t ∷ rest) e (suc n, l, q) g = absurd (e (n, omega arith, q))
 
   -- lists with the same ends, of which one besides the exit may pass, hit the same
-  same_by : (xs ys : List EdgeEnd) (w : EdgeEnd) (o q : Option EdgeEnd) → first_hit h xs ≡ o → first_hit h ys ≡ q → ((t : EdgeEnd) → Contains xs t ↔ Contains ys t) →
+  same_by : (xs ys : List EdgeEnd) (w : EdgeEnd) (o q : Option EdgeEnd) → first_hit h xs ≡ o → first_hit h ys ≡ q →
+      ((t : EdgeEnd) → Contains xs t ↔ Contains ys t) →
       ExitLeads xs → ExitLeads ys → Passes h xs w → o ≡ q
   same_by xs ys w None None a b s lx ly p = refl
   same_by xs ys w None (Some v) a b s lx ly p =
@@ -116,7 +117,8 @@ module _ (p : Program) (u : UnrolledProgram) (entry old new : State) (row : Row)
 
   -- the exit is the first of the row's ends
   leave_first : (n : Bool) (l : List ℕ) → ExitLeads ((return_ends l ++ map (λ a. ToAddress l a) (filter (λ a. not (is_top l a)) names)) ++ falls n)
-  leave_first n [] = append_none (map (λ a. ToAddress [] a) (filter (λ a. not (is_top [] a)) names)) (falls n) (addresses_only [] (filter (λ a. not (is_top [] a)) names)) (fall_none n)
+  leave_first n [] = append_none (map (λ a. ToAddress [] a) (filter (λ a. not (is_top [] a)) names)) (falls n) (addresses_only [] (filter
+      (λ a. not (is_top [] a)) names)) (fall_none n)
   leave_first n (top ∷ below) =
       append_none (map (λ a. ToAddress (top ∷ below) a) (filter (λ a. not (is_top (top ∷ below) a)) names)) (falls n)
       (addresses_only (top ∷ below) (filter (λ a. not (is_top (top ∷ below) a)) names)) (fall_none n)
@@ -127,7 +129,8 @@ module _ (p : Program) (u : UnrolledProgram) (entry old new : State) (row : Row)
   exit_first None false c n w = leads_none (falls n) (fall_none n)
   exit_first None true true n w =
       leads_none (map (λ a. ToAddress (after_call true row.length old.pc stack) a) names ++ falls n)
-      (append_none (map (λ a. ToAddress (after_call true row.length old.pc stack) a) names) (falls n) (addresses_only (after_call true row.length old.pc stack) names) (fall_none n))
+      (append_none (map (λ a. ToAddress (after_call true row.length old.pc stack) a) names) (falls n)
+      (addresses_only (after_call true row.length old.pc stack) names) (fall_none n))
   exit_first None true false n w = leave_first n stack
 
   edges_first : file_row p old.pc ≡ Some row → (s.indirect ≡ true → s.direct ≡ None) → ExitLeads (edges p point)
@@ -154,7 +157,8 @@ module _ (p : Program) (u : UnrolledProgram) (entry old new : State) (row : Row)
       rest : List EdgeEnd
       rest = map (λ a. ToAddress (top ∷ below) a) (filter (λ a. not (is_top (top ∷ below) a)) names)
 
-      other : (t : EdgeEnd) → Contains (map (λ a. ToAddress (top ∷ below) a) (filter (λ a. not (is_top (top ∷ below) a)) names)) t → lands t ≡ true → (new.pc == top) ≡ true → ⊥
+      other : (t : EdgeEnd) → Contains (map (λ a. ToAddress (top ∷ below) a) (filter (λ a. not (is_top (top ∷ below) a)) names)) t → lands t ≡ true →
+          (new.pc == top) ≡ true → ⊥
       other t c h e =
           let q = of_map (λ a. ToAddress (top ∷ below) a) (filter (λ a. not (is_top (top ∷ below) a)) names) t c in
           let f = (of_filter (λ a. not (is_top (top ∷ below) a)) names q.0 q.1).1 in
@@ -167,12 +171,14 @@ module _ (p : Program) (u : UnrolledProgram) (entry old new : State) (row : Row)
           (w : EdgeEnd) × Passes lands (return_ends (top ∷ below) ++ map (λ a. ToAddress (top ∷ below) a) (filter (λ a. not (is_top (top ∷ below) a)) names)) w
       by true e = (ToAddress below top, passes)
         where
-          passes : Passes lands (return_ends (top ∷ below) ++ map (λ a. ToAddress (top ∷ below) a) (filter (λ a. not (is_top (top ∷ below) a)) names)) (ToAddress below top)
+          passes : Passes lands (return_ends (top ∷ below) ++ map
+              (λ a. ToAddress (top ∷ below) a) (filter (λ a. not (is_top (top ∷ below) a)) names)) (ToAddress below top)
           passes t (zero, l, q) h = inr (sym q)
           passes t (suc n, l, q) h = absurd (other t (n, omega arith, q) h e)
       by false e = (ToAddress (top ∷ below) new.pc, passes)
         where
-          passes : Passes lands (return_ends (top ∷ below) ++ map (λ a. ToAddress (top ∷ below) a) (filter (λ a. not (is_top (top ∷ below) a)) names)) (ToAddress (top ∷ below) new.pc)
+          passes : Passes lands (return_ends (top ∷ below) ++ map
+              (λ a. ToAddress (top ∷ below) a) (filter (λ a. not (is_top (top ∷ below) a)) names)) (ToAddress (top ∷ below) new.pc)
           passes t (zero, l, q) h = absurd (let g : false ≡ true = sym e ∙ ap lands q ∙ h in cc)
           passes t (suc n, l, q) h = to_address (top ∷ below) (filter (λ a. not (is_top (top ∷ below) a)) names) t (n, omega arith, q) h
 
@@ -200,10 +206,14 @@ module _ (p : Program) (u : UnrolledProgram) (entry old new : State) (row : Row)
       let e : t ≡ q.0 = same_end_is t q.0 q.2 in
       f t (subst (λ (z : EdgeEnd). Contains xs z) (sym e) q.1) b.1
 
-  one_taken : (jumped : Bool) → (s.indirect ≡ true → s.direct ≡ None) → (w : EdgeEnd) × ((t : EdgeEnd) → takes p u entry old new row turns stack link jumped t ≡ true → (t ≡ ToExit) ⊎ (t ≡ w))
+  one_taken : (jumped : Bool) → (s.indirect ≡ true → s.direct ≡ None) → (w : EdgeEnd) ×
+      ((t : EdgeEnd) → takes p u entry old new row turns stack link jumped t ≡ true → (t ≡ ToExit) ⊎ (t ≡ w))
   one_taken true one_way =
       let q = leap_one s.direct s.indirect s.call one_way in (q.0, λ t h. inside (leaps s.direct s.indirect s.call) q.0 t q.1 h)
-  one_taken false one_way = (ToAddress stack (add 32 old.pc row.length), λ t h. inside (falls s.next) (ToAddress stack (add 32 old.pc row.length)) t (fall_one s.next) h)
+  one_taken false one_way = (
+    ToAddress stack (add 32 old.pc row.length),
+    λ t h. inside (falls s.next) (ToAddress stack (add 32 old.pc row.length)) t (fall_one s.next) h,
+  )
 
   leads_of : (ends xs : List EdgeEnd) → ends ≡ xs → AreEdgesOf p point ends → ExitLeads xs
   leads_of ends [] e are = tt
@@ -214,4 +224,5 @@ module _ (p : Program) (u : UnrolledProgram) (entry old new : State) (row : Row)
       first_hit (takes p u entry old new row turns stack link jumped) (edges p point) ≡ first_hit (takes p u entry old new row turns stack link jumped) ends
   any_order is one_way jumped ends are =
       let q = one_taken jumped one_way in
-      same_hit (takes p u entry old new row turns stack link jumped) (edges p point) ends q.0 are.same (edges_first is one_way) (leads_of ends ends refl are) (λ t c h. q.1 t h)
+      same_hit (takes p u entry old new row turns stack link jumped) (edges p point) ends q.0 are.same (edges_first is one_way) (leads_of ends ends refl are)
+      (λ t c h. q.1 t h)

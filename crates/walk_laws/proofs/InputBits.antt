@@ -26,14 +26,16 @@ pub same_bits : (w a b : ℕ) → a < 2 ^ w → b < 2 ^ w → ((i : ℕ) → i <
 same_bits zero a b p q f = omega arith
 same_bits (suc w) a b p q f =
     let d = pow-succ' 2 w in
-    let low : a % 2 ≡ b % 2 = one_test (a % 2) (b % 2) (omega arith) (omega arith) (ap (λ z. z == 1) (sym (lowest a)) ∙ f 0 (omega arith) ∙ ap (λ z. z == 1) (lowest b)) in
+    let low : a % 2 ≡ b % 2 = one_test (a % 2) (b % 2) (omega arith) (omega arith) (ap (λ z. z == 1) (sym (lowest a)) ∙ f 0 (omega arith) ∙ ap
+    (λ z. z == 1) (lowest b)) in
     let high : a / 2 ≡ b / 2 = same_bits w (a / 2) (b / 2) (omega arith) (omega arith)
     (λ i l. ap (λ z. z == 1) (sym (higher i a)) ∙ f (suc i) (omega arith) ∙ ap (λ z. z == 1) (higher i b)) in
     omega arith
 
 -- the number of a valuation, by its lowest bit and the others
 from_low : (v : ℕ → Bool) (i n : ℕ) → bits_from v i (suc n) ≡ bit (v (i + 1)) + 2 * bits_from v (i + 1) n
-from_low v i zero = let e : i + 0 + 1 ≡ i + 1 = omega arith in ap (λ z. 0 + bit (v z) * 1) e ∙ (let f : 0 + bit (v (i + 1)) * 1 ≡ bit (v (i + 1)) + 2 * 0 = omega arith in f)
+from_low v i zero = let e : i + 0 + 1 ≡ i + 1 = omega arith in ap
+    (λ z. 0 + bit (v z) * 1) e ∙ (let f : 0 + bit (v (i + 1)) * 1 ≡ bit (v (i + 1)) + 2 * 0 = omega arith in f)
 from_low v i (suc n) =
     let h = from_low v i n in
     let e : i + suc n + 1 ≡ i + 1 + n + 1 = omega arith in
@@ -57,7 +59,8 @@ half_of false a = omega arith
 pub bit_is : (v : ℕ → Bool) (i n b : ℕ) → b < n → (bit_at b (bits_from v i n) == 1) ≡ v (i + b + 1)
 bit_is v i zero b l = absurd (omega arith)
 bit_is v i (suc n) zero l =
-    ap (λ z. bit_at 0 z == 1) (from_low v i n) ∙ ap (λ z. z == 1) (lowest (bit (v (i + 1)) + 2 * bits_from v (i + 1) n)) ∙ low_of (v (i + 1)) (bits_from v (i + 1) n)
+    ap (λ z. bit_at 0 z == 1) (from_low v i n) ∙ ap (λ z. z == 1) (lowest (bit (v (i + 1)) + 2 * bits_from v (i + 1) n)) ∙ low_of (v (i + 1))
+    (bits_from v (i + 1) n)
     ∙ ap v (let e : i + 1 ≡ i + 0 + 1 = omega arith in e)
 bit_is v i (suc n) (suc b) l =
     ap (λ z. bit_at (suc b) z == 1) (from_low v i n) ∙ ap (λ z. z == 1) (higher b (bit (v (i + 1)) + 2 * bits_from v (i + 1) n))

@@ -19,7 +19,8 @@ module _ {X : Type 0} where
   get_right (x ∷ xs) ys i = ap (slice_get (x ∷ (xs ++ ys))) (let e : suc (length xs) + i ≡ suc (length xs + i) = omega arith in e) ∙ get_right xs ys i
 
   -- an element of two lists, by the list that has it
-  pub get_split : (xs ys : List X) (i : ℕ) (x : X) → slice_get (xs ++ ys) i ≡ Some x → (slice_get xs i ≡ Some x) ⊎ ((j : ℕ) × (i ≡ length xs + j) × (slice_get ys j ≡ Some x))
+  pub get_split : (xs ys : List X) (i : ℕ) (x : X) → slice_get (xs ++ ys) i ≡ Some x →
+      (slice_get xs i ≡ Some x) ⊎ ((j : ℕ) × (i ≡ length xs + j) × (slice_get ys j ≡ Some x))
   get_split [] ys i x e = inr (i, (let f : i ≡ 0 + i = omega arith in f), e)
   get_split (y ∷ xs) ys zero x e = inl e
   get_split (y ∷ xs) ys (suc i) x e = elim (get_split xs ys i x e) [
@@ -69,7 +70,8 @@ module _ {X : Type 0} (f : ℕ → ℕ → X) (m : ℕ) where
   pub block_length : (xs : List ℕ) → length (blocks xs) ≡ m * length xs
   block_length [] = let e : 0 ≡ m * 0 = omega arith in e
   block_length (a ∷ xs) =
-      length_append (map (f a) (from_to 0 m)) (blocks xs) ∙ ap (λ z. z + length (blocks xs)) (row_length (f a) 0 m) ∙ ap (λ z. m + z) (block_length xs) ∙ more m (length xs)
+      length_append (map (f a) (from_to 0 m)) (blocks xs) ∙ ap (λ z. z + length (blocks xs)) (row_length (f a) 0 m) ∙ ap
+      (λ z. m + z) (block_length xs) ∙ more m (length xs)
 
   pub block_get : (xs : List ℕ) (q b : ℕ) → q < length xs → b < m → slice_get (blocks xs) (m * q + b) ≡ Some (f (slice_index xs q) b)
   block_get [] q b l h = absurd (omega arith)
@@ -105,7 +107,8 @@ module _ (f : ℕ → Bool) where
   filter_append [] ys = refl
   filter_append (x ∷ xs) ys = by (f x) (filter_append xs ys)
     where
-      by : (b : Bool) → filter f (xs ++ ys) ≡ filter f xs ++ filter f ys → (if b then x ∷ filter f (xs ++ ys) else filter f (xs ++ ys)) ≡ (if b then x ∷ filter f xs else filter f xs) ++ filter f ys
+      by : (b : Bool) → filter f (xs ++ ys) ≡ filter f xs ++ filter f ys →
+          (if b then x ∷ filter f (xs ++ ys) else filter f (xs ++ ys)) ≡ (if b then x ∷ filter f xs else filter f xs) ++ filter f ys
       by true e = ap (λ z. x ∷ z) e
       by false e = e
 
@@ -120,7 +123,8 @@ module _ (f : ℕ → Bool) where
   unfolding passed_below
   passed_length zero = refl
   passed_length (suc n) =
-      ap (λ (z : List ℕ). length z) (next_passed n) ∙ length_append (passed n) (if f n then n ∷ [] else []) ∙ ap (λ z. z + length (if f n then n ∷ [] else [])) (passed_length n)
+      ap (λ (z : List ℕ). length z) (next_passed n) ∙ length_append (passed n) (if f n then n ∷ [] else []) ∙ ap
+      (λ z. z + length (if f n then n ∷ [] else [])) (passed_length n)
       ∙ ap (λ z. passed_below n + z) (by (f n))
     where
       by : (b : Bool) → length (if b then n ∷ [] else []) ≡ bit b
@@ -137,7 +141,8 @@ module _ (f : ℕ → Bool) where
     | inr t ↦ (let s : i ≡ n = grind (arith, nat_tests) in
         let len = passed_length n in
         ap (λ z. slice_get z (passed_below i)) (next_passed n)
-        ∙ ap (slice_get (passed n ++ (if f n then n ∷ [] else []))) (ap passed_below s ∙ sym len ∙ (let z : length (passed n) ≡ length (passed n) + 0 = omega arith in z))
+        ∙ ap (slice_get (passed n ++ (if f n then n ∷ [] else []))) (ap passed_below s ∙ sym len ∙ (let z : length (passed n)
+        ≡ length (passed n) + 0 = omega arith in z))
         ∙ get_right (passed n) (if f n then n ∷ [] else []) 0 ∙ ap (λ z. slice_get (if z then n ∷ [] else []) 0) (ap f (sym s) ∙ e) ∙ ap Some (sym s))
   ]
 
@@ -148,7 +153,13 @@ module _ (f : ℕ → Bool) where
     | inr h ↦ by (f n) refl h.0 h.2 (h.1 ∙ ap (λ z. z + h.0) (passed_length n))
   ]
     where
-      by : (b : Bool) → f n ≡ b → (j : ℕ) → slice_get (if b then n ∷ [] else []) j ≡ Some i → q ≡ passed_below n + j → (i < suc n) × (f i ≡ true) × (q ≡ passed_below i)
+      by : (b : Bool) → f n ≡ b → (j : ℕ) → slice_get (if b then n ∷ [] else []) j ≡ Some i → q ≡ passed_below n + j → (i < suc n) × (f i ≡ true) ×
+          (q ≡ passed_below i)
       by false t j h g = absurd (cc)
-      by true t zero h g = let s : n ≡ i = cc in ((omega arith), ap f (sym s) ∙ t, g ∙ (let z : passed_below n + 0 ≡ passed_below n = omega arith in z) ∙ ap passed_below s)
+      by true t zero h g = let s : n ≡ i = cc in (
+        (omega arith),
+        ap f (sym s) ∙ t,
+        g ∙ (let z : passed_below n + 0
+            ≡ passed_below n = omega arith in z) ∙ ap passed_below s,
+      )
       by true t (suc j) h g = absurd (cc)

@@ -36,7 +36,8 @@ pub place_found : (rs : List ℕ) (n : ℕ) → list_any (nat_eq n) rs ≡ true 
 place_found [] n h = absurd (cc)
 place_found (r ∷ rs) n h = by (r == n) refl (λ g. place_found rs n g)
   where
-    by : (b : Bool) → (r == n) ≡ b → (list_any (nat_eq n) rs ≡ true → (place_in rs n < length rs) × (slice_index rs (place_in rs n) ≡ n)) → ((if b then 0 else place_in rs n + 1) < suc (length rs)) × (slice_index (r ∷ rs) (if b then 0 else place_in rs n + 1) ≡ n)
+    by : (b : Bool) → (r == n) ≡ b → (list_any (nat_eq n) rs ≡ true → (place_in rs n < length rs) × (slice_index rs (place_in rs n) ≡ n)) →
+        ((if b then 0 else place_in rs n + 1) < suc (length rs)) × (slice_index (r ∷ rs) (if b then 0 else place_in rs n + 1) ≡ n)
     by true e f = (omega arith, (let s : r ≡ n = grind (arith, nat_tests) in s))
     by false e f =
         let other : nat_eq n r ≡ false = grind (arith, nat_tests) in
@@ -48,7 +49,8 @@ place_found (r ∷ rs) n h = by (r == n) refl (λ g. place_found rs n g)
 pub any_number : (rs : List ℕ) (q : ℕ) → q < length rs → list_any (nat_eq (slice_index rs q)) rs ≡ true
 any_number rs q l = elim (truth (list_any (nat_eq (slice_index rs q)) rs)) [
   | inl t ↦ t
-  | inr f ↦ absurd (not_any (nat_eq (slice_index rs q)) rs f (slice_index rs q) (at_in rs q (slice_index rs q) (slice_get-get_or rs q 0 l)) (same (slice_index rs q)))
+  | inr f ↦ absurd (not_any (nat_eq (slice_index rs q)) rs f (slice_index rs q) (at_in rs q (slice_index rs q) (slice_get-get_or rs q 0 l))
+      (same (slice_index rs q)))
 ]
   where
     same : (n : ℕ) → nat_eq n n ≡ true
@@ -59,13 +61,15 @@ pub spot_in : List UnrolledPoint → Point → ℕ
 spot_in [] x = 0
 spot_in (q ∷ qs) x = if same_point q.point x then 0 else spot_in qs x + 1
 
-spot_found : (qs : List UnrolledPoint) (x : Point) (i : ℕ) → i < length qs → (slice_index_or qs i no_point).point ≡ x → (spot_in qs x < length qs) × ((slice_index_or qs (spot_in qs x) no_point).point ≡ x)
+spot_found : (qs : List UnrolledPoint) (x : Point) (i : ℕ) → i < length qs → (slice_index_or qs i no_point).point ≡ x → (spot_in qs x < length qs) ×
+    ((slice_index_or qs (spot_in qs x) no_point).point ≡ x)
 unfolding spot_in
 spot_found [] x i l e = absurd (omega arith)
 spot_found (q ∷ qs) x i l e = by (same_point q.point x) refl i l e (λ j m f. spot_found qs x j m f)
   where
     by : (b : Bool) → same_point q.point x ≡ b → (i : ℕ) → i < suc (length qs) → (slice_index_or (q ∷ qs) i no_point).point ≡ x →
-        ((j : ℕ) → j < length qs → (slice_index_or qs j no_point).point ≡ x → (spot_in qs x < length qs) × ((slice_index_or qs (spot_in qs x) no_point).point ≡ x)) →
+        ((j : ℕ) → j < length qs → (slice_index_or qs j no_point).point ≡ x → (spot_in qs x < length qs) ×
+        ((slice_index_or qs (spot_in qs x) no_point).point ≡ x)) →
         ((if b then 0 else spot_in qs x + 1) < suc (length qs)) × ((slice_index_or (q ∷ qs) (if b then 0 else spot_in qs x + 1) no_point).point ≡ x)
     by true t i l e f = (omega arith, same_point_is q.point x t)
     by false t zero l e f = absurd (let c : true ≡ false = sym (ap (same_point q.point) (sym e) ∙ same_point_self q.point) ∙ t in cc)
@@ -187,7 +191,8 @@ module _ (p : Program) (k : ℕ) (u : UnrolledProgram) (un : IsUnrolling p k u) 
   pub stands_at : (x : Input) → IsInputOf x → slice_get (input_list u c) (place x) ≡ Some x
   stands_at (OfRegister n b) h =
       let f = place_found u.registers n h.0 in
-      get_left register_list (flag_list ++ (choice_list ++ byte_list)) (32 * place_in u.registers n + b) (let r = registers_long in let l = f.0 in let m = h.1 in omega arith)
+      get_left register_list (flag_list ++ (choice_list ++ byte_list)) (32 * place_in u.registers n + b) (let r = registers_long in let l = f.0 in let m = h.1
+      in omega arith)
       ∙ block_get OfRegister 32 u.registers (place_in u.registers n) b f.0 h.1 ∙ ap (λ z. Some (OfRegister z b)) f.1
   stands_at (OfFlag f) h =
       let l : f < u.flags = below f u.flags h in
@@ -204,7 +209,8 @@ module _ (p : Program) (k : ℕ) (u : UnrolledProgram) (un : IsUnrolling p k u) 
       let w = drawn_before i d in
       ap (λ z. slice_get (input_list u c) (first_choice u + 2 * drawn_below u z + b)) s
       ∙ ap (slice_get (input_list u c)) (let r = registers_long in let t = flags_long in
-      let a : 32 * length u.registers + u.flags + 2 * drawn_below u i + b ≡ length register_list + (length flag_list + (2 * drawn_below u i + b)) = omega arith in a)
+      let a : 32 * length u.registers + u.flags + 2 * drawn_below u i + b
+      ≡ length register_list + (length flag_list + (2 * drawn_below u i + b)) = omega arith in a)
       ∙ get_right register_list (flag_list ++ (choice_list ++ byte_list)) (length flag_list + (2 * drawn_below u i + b))
       ∙ get_right flag_list (choice_list ++ byte_list) (2 * drawn_below u i + b)
       ∙ get_left choice_list byte_list (2 * drawn_below u i + b) (let t = choices_long in omega arith)
@@ -212,12 +218,14 @@ module _ (p : Program) (k : ℕ) (u : UnrolledProgram) (un : IsUnrolling p k u) 
       ∙ ap (λ z. Some (OfChoice (point_at u z).point b)) (number_at (drawn_places u) (drawn_below u i) i g) ∙ ap (λ z. Some (OfChoice z b)) e
   stands_at (OfByte j b) h =
       ap (slice_get (input_list u c)) (let r = registers_long in let t = flags_long in let v = choices_long in
-      let a : 32 * length u.registers + u.flags + 2 * drawn_below u (length u.points) + 8 * j + b ≡ length register_list + (length flag_list + (length choice_list + (8 * j + b))) = omega arith in a)
+      let a : 32 * length u.registers + u.flags + 2 * drawn_below u (length u.points) + 8 * j + b
+      ≡ length register_list + (length flag_list + (length choice_list + (8 * j + b))) = omega arith in a)
       ∙ get_right register_list (flag_list ++ (choice_list ++ byte_list)) (length flag_list + (length choice_list + (8 * j + b)))
       ∙ get_right flag_list (choice_list ++ byte_list) (length choice_list + (8 * j + b))
       ∙ get_right choice_list byte_list (8 * j + b)
       ∙ block_get OfByte 8 (from_to 0 (length c.addresses)) j b (subst (λ (z : ℕ). j < z) (sym (range_length 0 (length c.addresses))) h.0) h.1
-      ∙ ap (λ z. Some (OfByte z b)) (number_at (from_to 0 (length c.addresses)) j (0 + j) (range_get 0 (length c.addresses) j h.0) ∙ (let e : 0 + j ≡ j = omega arith in e))
+      ∙ ap (λ z. Some (OfByte z b)) (number_at (from_to 0 (length c.addresses)) j (0 + j) (range_get 0 (length c.addresses) j h.0) ∙ (let e : 0 + j
+      ≡ j = omega arith in e))
 
   -- what is in the list is an input, at its place
   abbrev Says : ℕ → Input → Type 0
@@ -239,15 +247,21 @@ module _ (p : Program) (k : ℕ) (u : UnrolledProgram) (un : IsUnrolling p k u) 
       let r = block_is choice_of 2 (drawn_places u) i x e in
       let d = passed_is draws (length u.points) r.0 (slice_index (drawn_places u) r.0) (slice_get-get_or (drawn_places u) r.0 0 r.2) in
       let s = spot_is (slice_index (drawn_places u) r.0) d.0 in
-      let n : drawn_below u (spot (point_at u (slice_index (drawn_places u) r.0)).point) ≡ r.0 = ap (drawn_below u) s ∙ drawn_is (slice_index (drawn_places u) r.0) ∙ sym d.2 in
-      subst (Says (first_choice u + i)) (sym r.5)
-      ((slice_index (drawn_places u) r.0, (d.0, d.1), refl, r.3), ap (λ z. first_choice u + 2 * z + r.1) n ∙ (let m = r.4 in let a : first_choice u + 2 * r.0 + r.1 ≡ first_choice u + i = omega arith in a))
+      let n : drawn_below u (spot (point_at u (slice_index (drawn_places u) r.0)).point)
+      ≡ r.0 = ap (drawn_below u) s ∙ drawn_is (slice_index (drawn_places u) r.0) ∙ sym d.2 in
+      subst (Says (first_choice u + i)) (sym r.5) (
+        (slice_index (drawn_places u) r.0, (d.0, d.1), refl, r.3),
+        ap
+            (λ z. first_choice u + 2 * z + r.1) n ∙ (let m = r.4 in let a : first_choice u + 2 * r.0 + r.1 ≡ first_choice u + i = omega arith in a),
+      )
 
   byte_says : (i : ℕ) (x : Input) → slice_get byte_list i ≡ Some x → Says (first_byte u + i) x
   byte_says i x e =
       let r = block_is OfByte 8 (from_to 0 (length c.addresses)) i x e in
       let l : r.0 < length c.addresses = subst (λ (z : ℕ). r.0 < z) (range_length 0 (length c.addresses)) r.2 in
-      let n : slice_index (from_to 0 (length c.addresses)) r.0 ≡ r.0 = number_at (from_to 0 (length c.addresses)) r.0 (0 + r.0) (range_get 0 (length c.addresses) r.0 l) ∙ (let z : 0 + r.0 ≡ r.0 = omega arith in z) in
+      let n : slice_index (from_to 0 (length c.addresses)) r.0
+      ≡ r.0 = number_at (from_to 0 (length c.addresses)) r.0 (0 + r.0) (range_get 0 (length c.addresses) r.0 l) ∙ (let z : 0 + r.0
+      ≡ r.0 = omega arith in z) in
       subst (Says (first_byte u + i)) (sym (r.5 ∙ ap (λ z. OfByte z r.1) n))
       ((l, r.3), (let m = r.4 in let a : first_byte u + 8 * r.0 + r.1 ≡ first_byte u + i = omega arith in a))
 
@@ -260,8 +274,10 @@ module _ (p : Program) (k : ℕ) (u : UnrolledProgram) (un : IsUnrolling p k u) 
     | inr h ↦ elim (get_split flag_list (choice_list ++ byte_list) h.0 x h.2) [
       | inl g ↦ moved (first_flag u + h.0) i x (flag_says h.0 x g) (let r = registers_long in let a = h.1 in omega arith)
       | inr g ↦ elim (get_split choice_list byte_list g.0 x g.2) [
-        | inl f ↦ moved (first_choice u + g.0) i x (choice_says g.0 x f) (let r = registers_long in let s = flags_long in let a = h.1 in let b = g.1 in omega arith)
-        | inr f ↦ moved (first_byte u + f.0) i x (byte_says f.0 x f.2) (let r = registers_long in let s = flags_long in let t = choices_long in let a = h.1 in let b = g.1 in let d = f.1 in omega arith)
+        | inl f ↦ moved (first_choice u + g.0) i x (choice_says g.0 x f) (let r = registers_long in let s = flags_long in let a = h.1 in let b = g.1
+            in omega arith)
+        | inr f ↦ moved (first_byte u + f.0) i x (byte_says f.0 x f.2) (let r = registers_long in let s = flags_long in let t = choices_long in let a = h.1 in
+            let b = g.1 in let d = f.1 in omega arith)
       ]
     ]
   ]

@@ -25,7 +25,14 @@ IsBelow k (OfByte j b) = j < k
 IsBelow k x = Unit {0}
 
 pub term_reading_in_range : (u : UnrolledProgram) (r : Reading) → IsReading r → InRange (term_reading u r)
-term_reading_in_range u r is = record { regs = is.state.regs; flags = is.state.flags; mem = is.state.mem; choice = λ i. is.choice (point_at u i).point; base = λ j. omega arith }
+term_reading_in_range u r is = record {
+  regs = is.state.regs;
+  flags = is.state.flags;
+  mem = is.state.mem;
+  choice = λ i. is.choice (point_at u i).point;
+  base =
+      λ j. omega arith;
+}
 
 module _ (p : Program) (k : ℕ) (u : UnrolledProgram) (un : IsUnrolling p k u) (c : Cells) (formed : AreFormed u c) where
   -- the bit that a reading of terms has of an input
@@ -120,12 +127,14 @@ module _ (p : Program) (k : ℕ) (u : UnrolledProgram) (un : IsUnrolling p k u) 
       let w = ap (drawn_below u) t in omega arith
   before m (OfByte j b) h l = let s = h.1 in omega arith
 
-  first_bits : (n : ℕ) (r t : Reading) → IsReading r → IsReading t → AgreeOnFirst n (input_list u c) address r t → (x : Input) → IsInputOf p k u un c x → place p k u un c x < n →
+  first_bits : (n : ℕ) (r t : Reading) → IsReading r → IsReading t → AgreeOnFirst n (input_list u c) address r t → (x : Input) → IsInputOf p k u un c x →
+      place p k u un c x < n →
       bit_of (of r) x ≡ bit_of (of t) x
   first_bits n r t ir it f x h l = sym (input_is r ir x h) ∙ f (place p k u un c x) x l (stands_at p k u un c x h) ∙ input_is t it x h
 
   -- the address of a base read hangs on the inputs before it
-  pub earlier : (r t : Reading) (n read i : ℕ) → slice_get (input_list u c) n ≡ Some (OfByte read i) → IsReading r → IsReading t → AgreeOnFirst n (input_list u c) address r t →
+  pub earlier : (r t : Reading) (n read i : ℕ) → slice_get (input_list u c) n ≡ Some (OfByte read i) → IsReading r → IsReading t →
+      AgreeOnFirst n (input_list u c) address r t →
       address r read ≡ address t read
   earlier r t n read i e ir it f =
       let q = in_list p k u un c n (OfByte read i) e in
@@ -136,7 +145,8 @@ module _ (p : Program) (k : ℕ) (u : UnrolledProgram) (un : IsUnrolling p k u) 
       ap (λ z. z % 2 ^ 32) (address_same u c formed (of r) (of t) read l a)
 
   -- all inputs decide all
-  pub decided : (r t : Reading) → IsReading r → IsReading t → AgreeOnFirst (length (input_list u c)) (input_list u c) address r t → Agree u (length c.addresses) (of r) (of t)
+  pub decided : (r t : Reading) → IsReading r → IsReading t → AgreeOnFirst (length (input_list u c)) (input_list u c) address r t →
+      Agree u (length c.addresses) (of r) (of t)
   decided r t ir it f =
       from_bits (length c.addresses) (omega arith) (of r) (of t) (of_in_range r ir) (of_in_range t it)
       (λ x h b. first_bits (length (input_list u c)) r t ir it f x h (slice_get_within (input_list u c) (place p k u un c x) x (stands_at p k u un c x h)))

@@ -22,7 +22,8 @@ drawn_few u (suc i) = let a = drawn_few u i in let b = bit_small ((point_at u i)
 rows_cost : (qs : List UnrolledPoint) → ((i : ℕ) → i < length qs → 64 ≤ (slice_index_or qs i no_point).row) → 64 * length qs ≤ sum_by (λ q. q.row) qs
 rows_cost [] each = omega arith
 rows_cost (q ∷ qs) each =
-    let a : 64 ≤ q.row = each 0 (omega arith) in let b = rows_cost qs (λ i l. each (suc i) (omega arith)) in let c = sum_by-cons (λ (x : UnrolledPoint). x.row) q qs in omega arith
+    let a : 64 ≤ q.row = each 0 (omega arith) in let b = rows_cost qs (λ i l. each (suc i) (omega arith)) in let c = sum_by-cons
+    (λ (x : UnrolledPoint). x.row) q qs in omega arith
 
 -- the row of a point costs at least 64, since its list leaves so much
 row_least : (u : UnrolledProgram) (q : UnrolledPoint) (a : Action) → CanBeTerms u q a → 64 ≤ q.row
@@ -32,7 +33,8 @@ row_least u q (Executes list) h = let w = h.weight in omega arith
 pub inputs_within : (u : UnrolledProgram) (c : Cells) → IsFitting u → ((i : ℕ) → i < length u.points → CanBeTerms u (point_at u i) (point_at u i).does) →
     length c.addresses ≤ loads_of u → inputs u c ≤ unrolled_price u
 inputs_within u c fit terms few =
-    let a = rows_cost u.points (λ i l. row_least u (point_at u i) (point_at u i).does (terms i l)) in let b = drawn_few u (length u.points) in let r = fit.registers in let f = fit.flags in omega arith
+    let a = rows_cost u.points (λ i l. row_least u (point_at u i) (point_at u i).does (terms i l)) in let b = drawn_few u (length u.points) in
+    let r = fit.registers in let f = fit.flags in omega arith
 
 one_bit : (b : Bool) (n : ℕ) → bit b * 2 ^ n ≤ 2 ^ n
 one_bit true n = omega arith

@@ -43,7 +43,8 @@ draws_row_is (Some row) h = h
 in_map_at : (qs : List UnrolledPoint) (x : Point) (i : ℕ) → i < length qs → (slice_index_or qs i no_point).point ≡ x → Contains (map (λ q. q.point) qs) x
 in_map_at qs x i l e = at_in (map (λ q. q.point) qs) i x (map_get qs i l ∙ ap Some e)
 
-of_map_at : (qs : List UnrolledPoint) (x : Point) (i : ℕ) → slice_get (map (λ q. q.point) qs) i ≡ Some x → (i < length qs) × ((slice_index_or qs i no_point).point ≡ x)
+of_map_at : (qs : List UnrolledPoint) (x : Point) (i : ℕ) → slice_get (map (λ q. q.point) qs) i ≡ Some x → (i < length qs) ×
+    ((slice_index_or qs i no_point).point ≡ x)
 of_map_at [] x i e = absurd (cc)
 of_map_at (q ∷ qs) x zero e = (omega arith, (cc))
 of_map_at (q ∷ qs) x (suc i) e = let r = of_map_at qs x i e in ((let l = r.0 in omega arith), r.1)
@@ -54,7 +55,8 @@ count_append [] ys = let e : length (filter is_of_byte ys) ≡ 0 + length (filte
 count_append (x ∷ xs) ys = by (is_of_byte x) (count_append xs ys)
   where
     by : (b : Bool) → length (filter is_of_byte (xs ++ ys)) ≡ length (filter is_of_byte xs) + length (filter is_of_byte ys) →
-        length (if b then x ∷ filter is_of_byte (xs ++ ys) else filter is_of_byte (xs ++ ys)) ≡ length (if b then x ∷ filter is_of_byte xs else filter is_of_byte xs) + length (filter is_of_byte ys)
+        length (if b then x ∷ filter is_of_byte (xs ++ ys) else filter is_of_byte (xs ++ ys))
+        ≡ length (if b then x ∷ filter is_of_byte xs else filter is_of_byte xs) + length (filter is_of_byte ys)
     by true e = omega arith
     by false e = e
 
@@ -70,7 +72,8 @@ count_most (x ∷ xs) = by (is_of_byte x) (count_most xs)
     by true e = omega arith
     by false e = omega arith
 
-module _ (p : Program) (k : ℕ) (question : Question) (asked : ℕ → Bool) (u : UnrolledProgram) (t : QuestionTerm) (c : Cells) (layered : IsLayered p k question asked u t c) where
+module _ (p : Program) (k : ℕ) (question : Question) (asked : ℕ →
+    Bool) (u : UnrolledProgram) (t : QuestionTerm) (c : Cells) (layered : IsLayered p k question asked u t c) where
   abbrev un : IsUnrolling p k u
   un = layered.unrolling
 
@@ -81,11 +84,18 @@ module _ (p : Program) (k : ℕ) (question : Question) (asked : ℕ → Bool) (u
   no_base : (r : Reading) → term_word (read_as r) t.nodes t.root ≡ term_word (term_reading u r) t.nodes t.root
   no_base r =
       same_term (read_as r) (term_reading u r) t.nodes t.root
-      (λ i le ws. node_same u 0 (read_as r) (term_reading u r) (record { regs = λ n h. refl; flags = λ f h. refl; choice = λ j h. refl; base = λ j h. absurd (omega arith) }) ws _
+      (λ i le ws. node_same u 0 (read_as r) (term_reading u r) (record {
+        regs = λ n h. refl;
+        flags = λ f h. refl;
+        choice = λ j h. refl;
+        base =
+            λ j h. absurd (omega arith);
+      }) ws _
       (layered.term.terms.named _ (node_in t.nodes i (let l = layered.term.root.0 in omega arith))) (λ e. refl)) layered.term.root.0
 
   pub root_is : (r : Reading) → IsReading r → term_word (read_as r) c.nodes c.root ≡ term_word (term_reading u r) t.nodes t.root
-  root_is r is = layered.cells.same (read_as r) (of_in_range p k u un c layered.cells.formed r is) (gives u c layered.cells.formed (term_reading u r)) ∙ no_base r
+  root_is r is = layered.cells.same (read_as r) (of_in_range p k u un c layered.cells.formed r is)
+      (gives u c layered.cells.formed (term_reading u r)) ∙ no_base r
 
   -- a reading that the question is true of makes the root 1, and back, where it has the asked bytes
   pub is_reading : (r : Reading) → IsTrueOver p asked k r question → IsReading r
@@ -102,7 +112,8 @@ module _ (p : Program) (k : ℕ) (question : Question) (asked : ℕ → Bool) (u
       let w = walk_true r h in
       root_is r (is_reading r h) ∙ (layered.term.means r (is_reading r h) w.entry.pc).1 (record { lines = w.entry.lines; ends = w.ends })
 
-  pub from_root : (r : Reading) → IsReading r → r.state.pc ≡ u.entry → HasAsked u asked r.state.mem → term_word (read_as r) c.nodes c.root ≡ 1 → IsTrueOver p asked k r question
+  pub from_root : (r : Reading) → IsReading r → r.state.pc ≡ u.entry → HasAsked u asked r.state.mem → term_word (read_as r) c.nodes c.root ≡ 1 →
+      IsTrueOver p asked k r question
   from_root r is pc has e =
       let m = (layered.term.means r is pc).0 (sym (root_is r is) ∙ e) in
       (walk_answers_over p layered.lawful k u un asked layered.asks_known layered.asks_literals r question).0
@@ -157,7 +168,8 @@ module _ (p : Program) (k : ℕ) (question : Question) (asked : ℕ → Bool) (u
       let q = get_of (map (λ q. q.point) u.points) x (un.points.all x h.0.0) in
       let at = of_map_at u.points x q.0 q.1 in
       let place = un.places q.0 at.0 in
-      let draws : row_draws (file_row p (point_at u q.0).point.at) ≡ true = draws_row_is (file_row p (point_at u q.0).point.at) (subst (λ (z : Point). RowDraws (file_row p z.at)) (sym at.1) h.0.1) in
+      let draws : row_draws (file_row p (point_at u q.0).point.at)
+      ≡ true = draws_row_is (file_row p (point_at u q.0).point.at) (subst (λ (z : Point). RowDraws (file_row p z.at)) (sym at.1) h.0.1) in
       (q.0, (at.0, place.counted.draws ∙ draws), at.1, h.1)
   from_input (OfByte j b) h word = absurd (let e : true ≡ false = word in cc)
 
@@ -216,7 +228,8 @@ module _ (p : Program) (k : ℕ) (question : Question) (asked : ℕ → Bool) (u
         let is = is_reading r h in
         let a = comes_to p k u un c layered.cells.formed v r is from in
         let back = agree_back u (length c.addresses) (reading u c v) (read_as r) a in
-        let allowed = layered.cells.sound (read_as r) (of_in_range p k u un c layered.cells.formed r is) (gives u c layered.cells.formed (term_reading u r)) (has_of r h) in
+        let allowed = layered.cells.sound (read_as r) (of_in_range p k u un c layered.cells.formed r is) (gives u c layered.cells.formed (term_reading u r))
+        (has_of r h) in
         (allowed_same (read_as r) (reading u c v) back allowed, root_same (reading u c v) (read_as r) a ∙ to_root r h)
 
     extends : ExtendsOnceWhere (inputs u c) cnf Comes
@@ -229,12 +242,15 @@ module _ (p : Program) (k : ℕ) (question : Question) (asked : ℕ → Bool) (u
 
     byte_inputs : length (filter is_of_byte (input_list u c)) ≤ 8 * length c.addresses
     byte_inputs =
-        let a = count_append (blocks OfRegister 32 u.registers) (map OfFlag (from_to 0 u.flags) ++ (blocks (λ i b. OfChoice (point_at u i).point b) 2 (drawn_places u) ++ blocks OfByte 8 (from_to 0 (length c.addresses)))) in
-        let b = count_append (map OfFlag (from_to 0 u.flags)) (blocks (λ i b. OfChoice (point_at u i).point b) 2 (drawn_places u) ++ blocks OfByte 8 (from_to 0 (length c.addresses))) in
+        let a = count_append (blocks OfRegister 32 u.registers) (map OfFlag (from_to 0 u.flags)
+        ++ (blocks (λ i b. OfChoice (point_at u i).point b) 2 (drawn_places u) ++ blocks OfByte 8 (from_to 0 (length c.addresses)))) in
+        let b = count_append (map OfFlag (from_to 0 u.flags)) (blocks (λ i b. OfChoice (point_at u i).point b) 2 (drawn_places u)
+        ++ blocks OfByte 8 (from_to 0 (length c.addresses))) in
         let d = count_append (blocks (λ i b. OfChoice (point_at u i).point b) 2 (drawn_places u)) (blocks OfByte 8 (from_to 0 (length c.addresses))) in
         let e = count_none (blocks OfRegister 32 u.registers) (λ i x h. ap is_of_byte (block_is OfRegister 32 u.registers i x h).5) in
         let f = count_none (map OfFlag (from_to 0 u.flags)) (λ i x h. ap is_of_byte (row_is OfFlag u.flags i x h).1) in
-        let g = count_none (blocks (λ i b. OfChoice (point_at u i).point b) 2 (drawn_places u)) (λ i x h. ap is_of_byte (block_is (λ i b. OfChoice (point_at u i).point b) 2 (drawn_places u) i x h).5) in
+        let g = count_none (blocks (λ i b. OfChoice (point_at u i).point b) 2 (drawn_places u))
+        (λ i x h. ap is_of_byte (block_is (λ i b. OfChoice (point_at u i).point b) 2 (drawn_places u) i x h).5) in
         let m = count_most (blocks OfByte 8 (from_to 0 (length c.addresses))) in
         let n = block_length OfByte 8 (from_to 0 (length c.addresses)) in
         let o = range_length 0 (length c.addresses) in omega arith

@@ -53,12 +53,14 @@ map_below f m h (x ∷ xs) (suc i) d l = map_below f m h xs i d (omega arith)
 not_below : (first count n : ℕ) → n < first → list_any (nat_eq n) (from_to first count) ≡ false
 not_below first zero n l = refl
 not_below first (suc count) n l =
-    let e : nat_eq n first ≡ false = grind (arith, nat_tests) in ap (λ z. z || list_any (nat_eq n) (from_to (first + 1) count)) e ∙ not_below (first + 1) count n (omega arith)
+    let e : nat_eq n first ≡ false = grind (arith, nat_tests) in ap (λ z. z ||
+    list_any (nat_eq n) (from_to (first + 1) count)) e ∙ not_below (first + 1) count n (omega arith)
 
 not_above : (first count n : ℕ) → first + count ≤ n → list_any (nat_eq n) (from_to first count) ≡ false
 not_above first zero n l = refl
 not_above first (suc count) n l =
-    let e : nat_eq n first ≡ false = grind (arith, nat_tests) in ap (λ z. z || list_any (nat_eq n) (from_to (first + 1) count)) e ∙ not_above (first + 1) count n (omega arith)
+    let e : nat_eq n first ≡ false = grind (arith, nat_tests) in ap (λ z. z ||
+    list_any (nat_eq n) (from_to (first + 1) count)) e ∙ not_above (first + 1) count n (omega arith)
 
 some_index : (xs : List ℕ) (i n : ℕ) → i < length xs → get_or xs i 0 ≡ n → slice_index xs i ≡ n
 some_index xs i n l e = e
@@ -67,7 +69,8 @@ some_index xs i n l e = e
 register_is : (f : ℕ → ℕ) (first count n : ℕ) → (list_any (nat_eq n) (from_to first count) ≡ false → f n ≡ 0) →
     (if nat_lt n first then 0 else slice_index (map f (from_to first count)) (n - first)) ≡ f n
 register_is f first count n zero_else = elim (truth (nat_lt n first)) [
-  | inl t ↦ ap (λ z. if z then 0 else slice_index (map f (from_to first count)) (n - first)) t ∙ sym (zero_else (not_below first count n (grind (arith, nat_tests))))
+  | inl t ↦ ap (λ z. if z then 0 else slice_index (map f (from_to first count)) (n - first)) t ∙ sym
+      (zero_else (not_below first count n (grind (arith, nat_tests))))
   | inr g ↦ ap (λ z. if z then 0 else slice_index (map f (from_to first count)) (n - first)) g ∙ elim (truth (nat_lt (n - first) count)) [
     | inl t ↦ (let l : n - first < count = grind (arith, nat_tests) in
         let e : first + (n - first) ≡ n = grind (arith, nat_tests) in
@@ -99,8 +102,10 @@ known_small : (o : Option ℕ) (xs : List (ℕ × ℕ)) (a : ℕ) → ((b : ℕ)
 known_small None xs a h l = l
 known_small (Some b) xs a h l = h b refl
 
-module _ (p : Program) (k : ℕ) (question : Question) (asked : ℕ → Bool) (u : UnrolledProgram) (t : QuestionTerm) (c : Cells) (layered : IsLayered p k question asked u t c)
-    (cnf : Cnf) (tells : TellsClauses u c cnf) (layout : Layout) (laid : IsLaidOut layout u) (v : ℕ → Bool) (sat : Satisfies v cnf.clauses) (w : Written) (starts : IsStartOf u c v w) where
+module _ (p : Program) (k : ℕ) (question : Question) (asked : ℕ →
+    Bool) (u : UnrolledProgram) (t : QuestionTerm) (c : Cells) (layered : IsLayered p k question asked u t c)
+    (cnf : Cnf) (tells : TellsClauses u c cnf) (layout : Layout) (laid : IsLaidOut layout u) (v : ℕ →
+    Bool) (sat : Satisfies v cnf.clauses) (w : Written) (starts : IsStartOf u c v w) where
   abbrev un : IsUnrolling p k u
   un = layered.unrolling
 
@@ -125,7 +130,8 @@ module _ (p : Program) (k : ℕ) (question : Question) (asked : ℕ → Bool) (u
           pc = layered.fitting.entry;
           regs = range.regs;
           flags = range.flags;
-          mem = λ a. known_small (byte_of_runs u.known (word 32 a)) w.bytes a (λ b e. layered.fitting.known (word 32 a) b e) (byte_small w.bytes (word 32 a) starts.bytes);
+          mem = λ a. known_small (byte_of_runs u.known (word 32 a)) w.bytes a
+              (λ b e. layered.fitting.known (word 32 a) b e) (byte_small w.bytes (word 32 a) starts.bytes);
         };
         choice = λ x. range.choice (spot p k u un c x);
       }
@@ -156,7 +162,13 @@ module _ (p : Program) (k : ℕ) (question : Question) (asked : ℕ → Bool) (u
       let walked = walk_true p k question asked u t c layered r over in
       record {
         choice = over.choice;
-        entry = (entry_is_same p k u un r.state).0 (record { state = walked.entry.state; pc = walked.entry.pc; lines = walked.entry.lines; bytes = λ a b l e ask. has a b l e });
+        entry = (entry_is_same p k u un r.state).0 (record {
+          state = walked.entry.state;
+          pc = walked.entry.pc;
+          lines = walked.entry.lines;
+          bytes =
+              λ a b l e ask. has a b l e;
+        });
         ends = over.ends;
       }
 
@@ -182,13 +194,15 @@ module _ (p : Program) (k : ℕ) (question : Question) (asked : ℕ → Bool) (u
 
   state_same : (start_in p layout w).state ≡ r.state
   state_same =
-      ap (λ z. record { pc = z; regs = register_at layout w.regs; flags = λ f. bit_at f w.flags; mem = λ a. known_or (known_byte p (word 32 a)) w.bytes a }) (sym un.entry)
+      ap (λ z. record { pc = z; regs = register_at layout w.regs; flags = λ f. bit_at f w.flags; mem = λ a. known_or (known_byte p (word 32 a)) w.bytes a })
+      (sym un.entry)
       ∙ ap (λ z. record { pc = u.entry; regs = z; flags = λ f. bit_at f w.flags; mem = λ a. known_or (known_byte p (word 32 a)) w.bytes a }) (fun_ext regs_same)
       ∙ ap (λ z. record { pc = u.entry; regs = rd.regs; flags = z; mem = λ a. known_or (known_byte p (word 32 a)) w.bytes a }) (fun_ext flags_same)
       ∙ ap (λ z. record { pc = u.entry; regs = rd.regs; flags = rd.flags; mem = z }) (fun_ext mem_same)
 
   -- where the walk is, the start has the choice of the point
-  at_place : (x : Walk) (turns m : ℕ) (d : Place) → IsSame p u x (Going turns m d) → (i : ℕ) × (e : Carried) × (x ≡ WalkIsAt i e) × (i < length u.points) × ((point_at u i).point ≡ point_of turns d)
+  at_place : (x : Walk) (turns m : ℕ) (d : Place) → IsSame p u x (Going turns m d) → (i : ℕ) × (e : Carried) × (x ≡ WalkIsAt i e) × (i < length u.points) ×
+      ((point_at u i).point ≡ point_of turns d)
   at_place (WalkIsAt i e) turns m d h = (i, e, refl, h.0, h.1)
   at_place WalkExits turns m d h = absurd h
   at_place (WalkFails e) turns m d h = absurd h
@@ -213,7 +227,8 @@ module _ (p : Program) (k : ℕ) (question : Question) (asked : ℕ → Bool) (u
   run_same (suc n) =
       let e = run_same n in
       ap (one_more (by_file p) k (start_in p layout w)) e
-      ∙ same_step (start_in p layout w) state_same n (read_run p k r n) (subst (Numbered n) e (numbered (by_file p) k (start_in p layout w) n)) (λ turns m d q. chosen n turns m d q)
+      ∙ same_step (start_in p layout w) state_same n (read_run p k r n) (subst (Numbered n) e (numbered (by_file p) k (start_in p layout w) n))
+      (λ turns m d q. chosen n turns m d q)
 
   follows : Follows p k r (start_in p layout w)
   follows = record { state = state_same; choices = λ n turns d h. chosen n turns n d (sym (run_same n) ∙ h) }
@@ -233,14 +248,16 @@ pub start_is_written : StartIsWritten
 start_is_written p k u un layout laid few c v w starts =
     let range = reading_in_range u c v in
     let long : length w.regs ≡ length layout.registers
-    = ap (λ (z : List ℕ). length z) starts.regs ∙ map_long (reading u c v).regs u.registers ∙ ap (λ (z : List ℕ). length z) laid.registers ∙ range_length layout.first (length layout.registers) in
+    = ap (λ (z : List ℕ). length z) starts.regs ∙ map_long (reading u c v).regs u.registers ∙ ap
+    (λ (z : List ℕ). length z) laid.registers ∙ range_length layout.first (length layout.registers) in
     record {
       count = long;
       words = subst (λ (z : List ℕ). All (λ n. n < 2 ^ 32) z) (sym starts.regs) (λ i d l. map_below (reading u c v).regs (2 ^ 32) range.regs u.registers i d l);
       flags = subst (λ (z : ℕ). w.flags < 2 ^ z) laid.flags starts.flags_fit;
       bytes = starts.bytes;
       bytes_rise = starts.bytes_rise;
-      unknown = λ n d l. not_known (is_known_at p (get_or w.bytes n d).0) _ (sym (un.known (get_or w.bytes n d).0 (starts.bytes n d l).0) ∙ starts.unknown n d l);
+      unknown = λ n d l. not_known (is_known_at p (get_or w.bytes n d).0) _
+          (sym (un.known (get_or w.bytes n d).0 (starts.bytes n d l).0) ∙ starts.unknown n d l);
       choices = λ n d l. (let h = starts.choices n d l in ((let m = h.0 in omega arith), h.1, h.2));
       choices_rise = starts.choices_rise;
     }
@@ -250,10 +267,17 @@ start_breaks_none u c formed v w starts a (j, b, l, at, known, other) =
     let range = reading_in_range u c v in
     let small : a < 2 ^ 32 = subst (λ (z : ℕ). z < 2 ^ 32) at (word_fits u c formed (reading u c v) range 32 _ (formed.addresses j l)) in
     let s : word 32 a ≡ a = omega arith in
-    other (starts.gives j l ∙ ap (start_memory u w) (same_address (slice_index c.addresses j) (formed.addresses j l).0 ∙ at) ∙ ap (λ z. known_or (byte_of_runs u.known z) w.bytes a) s ∙ ap (λ z. known_or z w.bytes a) known)
+    other (starts.gives j l ∙ ap (start_memory u w) (same_address (slice_index c.addresses j) (formed.addresses j l).0 ∙ at) ∙ ap
+    (λ z. known_or (byte_of_runs u.known z) w.bytes a) s ∙ ap (λ z. known_or z w.bytes a) known)
   where
     same_address : (t : ℕ) → t < length c.nodes → term_word (with_mem (reading u c v) (start_memory u w)) c.nodes t ≡ term_word (reading u c v) c.nodes t
-    same_address t l = word_same u c formed (with_mem (reading u c v) (start_memory u w)) (reading u c v) (record { regs = λ n h. refl; flags = λ f h. refl; choice = λ i h. refl; base = λ i h. refl }) t l
+    same_address t l = word_same u c formed (with_mem (reading u c v) (start_memory u w)) (reading u c v) (record {
+      regs = λ n h. refl;
+      flags =
+          λ f h. refl;
+      choice = λ i h. refl;
+      base = λ i h. refl;
+    }) t l
 
 pub broken_is_new : BrokenIsNew
 broken_is_new u t asked c cells cnf tells v sat a (j, b, l, at, known, other) =
@@ -266,4 +290,10 @@ broken_is_new u t asked c cells cnf tells v sat a (j, b, l, at, known, other) =
     ]
   where
     same_address : (m : Memory) (t : ℕ) → t < length c.nodes → term_word (with_mem (reading u c v) m) c.nodes t ≡ term_word (reading u c v) c.nodes t
-    same_address m t l = word_same u c cells.formed (with_mem (reading u c v) m) (reading u c v) (record { regs = λ n h. refl; flags = λ f h. refl; choice = λ i h. refl; base = λ i h. refl }) t l
+    same_address m t l = word_same u c cells.formed (with_mem (reading u c v) m) (reading u c v) (record {
+      regs = λ n h. refl;
+      flags = λ f h. refl;
+      choice =
+          λ i h. refl;
+      base = λ i h. refl;
+    }) t l

@@ -30,7 +30,8 @@ if_or true t o q = refl
 if_or false t o q = refl
 
 module _ (h : EdgeEnd → Bool) where
-  drop_by : (f : EdgeEnd → Bool) (t : EdgeEnd) (ts : List EdgeEnd) (b : Bool) → f t ≡ b → (f t ≡ false → h t ≡ false) → first_hit h (filter f ts) ≡ first_hit h ts →
+  drop_by : (f : EdgeEnd → Bool) (t : EdgeEnd) (ts : List EdgeEnd) (b : Bool) → f t ≡ b → (f t ≡ false → h t ≡ false) →
+      first_hit h (filter f ts) ≡ first_hit h ts →
       first_hit h (if b then t ∷ filter f ts else filter f ts) ≡ (if h t then Some t else first_hit h ts)
   drop_by f t ts true e g i = ap (λ z. if h t then Some t else z) i
   drop_by f t ts false e g i = i ∙ ap (λ z. if z then Some t else first_hit h ts) (sym (g e))
@@ -60,7 +61,8 @@ module _ (h : EdgeEnd → Bool) where
   no_hit [] g = refl
   no_hit (t ∷ xs) g = ap (λ z. if z then Some t else first_hit h xs) (g t (here t xs)) ∙ no_hit xs (λ u c. g u (there t xs u c))
 
-  last_by : (t f : EdgeEnd) (xs : List EdgeEnd) (b : Bool) → h t ≡ b → (h t ≡ true → t ≡ f) → first_hit h (xs ++ f ∷ []) ≡ Some f → (if b then Some t else first_hit h (xs ++ f ∷ [])) ≡ Some f
+  last_by : (t f : EdgeEnd) (xs : List EdgeEnd) (b : Bool) → h t ≡ b → (h t ≡ true → t ≡ f) → first_hit h (xs ++ f ∷ []) ≡ Some f →
+      (if b then Some t else first_hit h (xs ++ f ∷ [])) ≡ Some f
   last_by t f xs true e g i = ap Some (g e)
   last_by t f xs false e g i = i
 
@@ -68,7 +70,8 @@ module _ (h : EdgeEnd → Bool) where
   last_hit [] f e g = ap (λ z. if z then Some f else None) e
   last_hit (t ∷ xs) f e g = last_by t f xs (h t) refl (g t) (last_hit xs f e g)
 
-  found_by : (t u : EdgeEnd) (xs : List EdgeEnd) (b : Bool) → h t ≡ b → (first_hit h xs ≡ Some u → (h u ≡ true) × Contains xs u) → (if b then Some t else first_hit h xs) ≡ Some u →
+  found_by : (t u : EdgeEnd) (xs : List EdgeEnd) (b : Bool) → h t ≡ b → (first_hit h xs ≡ Some u → (h u ≡ true) × Contains xs u) →
+      (if b then Some t else first_hit h xs) ≡ Some u →
       (h u ≡ true) × Contains (t ∷ xs) u
   found_by t u xs true e g i = let s : t ≡ u = cc in (subst (λ (z : EdgeEnd). h z ≡ true) s e, (0, omega arith, s))
   found_by t u xs false e g i = let q = g i in (q.0, there t xs u q.1)
@@ -78,7 +81,8 @@ module _ (h : EdgeEnd → Bool) where
   found [] u e = absurd (cc)
   found (t ∷ xs) u e = found_by t u xs (h t) refl (found xs u) e
 
-  missed_by : (t u : EdgeEnd) (xs : List EdgeEnd) (b : Bool) → h t ≡ b → (first_hit h xs ≡ None → Contains xs u → h u ≡ false) → (if b then Some t else first_hit h xs) ≡ None → Contains (t ∷ xs) u →
+  missed_by : (t u : EdgeEnd) (xs : List EdgeEnd) (b : Bool) → h t ≡ b → (first_hit h xs ≡ None → Contains xs u → h u ≡ false) →
+      (if b then Some t else first_hit h xs) ≡ None → Contains (t ∷ xs) u →
       h u ≡ false
   missed_by t u xs true e g i c = absurd (cc)
   missed_by t u xs false e g i (zero, l, q) = ap h (sym q) ∙ e
@@ -131,14 +135,16 @@ module _ (p : Program) (u : UnrolledProgram) (entry old new : State) (row : Row)
 
   off_edge : new.pc % 4 ≡ 0 → (jumped : Bool) (t : EdgeEnd) → leads_on t ≡ false → takes jumped t ≡ false
   off_edge e jumped ToExit h = absurd (let c : true ≡ false = h in cc)
-  off_edge e jumped (ToAddress l a) h = by (if jumped then list_any (same_end (ToAddress l a)) jump_list else list_any (same_end (ToAddress l a)) fall_list) (grind (arith, nat_tests))
+  off_edge e jumped (ToAddress l a) h = by (if jumped then list_any (same_end (ToAddress l a)) jump_list
+      else list_any (same_end (ToAddress l a)) fall_list) (grind (arith, nat_tests))
     where
       by : (b : Bool) → (new.pc == a) ≡ false → (b && (new.pc == a)) ≡ false
       by true g = g
       by false g = refl
 
   -- the first of the point's edges is the first of the row's ends
-  pub of_row : new.pc % 4 ≡ 0 → file_row p old.pc ≡ Some row → (jumped : Bool) → first_hit (takes jumped) (edges p point) ≡ first_hit (takes jumped) (jump_list ++ fall_list)
+  pub of_row : new.pc % 4 ≡ 0 → file_row p old.pc ≡ Some row → (jumped : Bool) →
+      first_hit (takes jumped) (edges p point) ≡ first_hit (takes jumped) (jump_list ++ fall_list)
   of_row e is jumped =
       ap (λ z. first_hit (takes jumped) (distinct (filter leads_on (edges_by p point z)))) is
       ∙ once (takes jumped) (filter leads_on (jump_list ++ fall_list))
@@ -161,7 +167,8 @@ module _ (p : Program) (u : UnrolledProgram) (entry old new : State) (row : Row)
       one x (zero, l, r) = sym r
       one x (suc i, l, r) = absurd (omega arith)
 
-  pub falls : s.next ≡ true → new.pc ≡ add 32 old.pc row.length → first_hit (takes false) (jump_list ++ fall_list) ≡ Some (ToAddress stack (add 32 old.pc row.length))
+  pub falls : s.next ≡ true → new.pc ≡ add 32 old.pc row.length →
+      first_hit (takes false) (jump_list ++ fall_list) ≡ Some (ToAddress stack (add 32 old.pc row.length))
   falls n e =
       let f : EdgeEnd = ToAddress stack (add 32 old.pc row.length) in
       let ends : fall_list ≡ f ∷ [] = ap (λ z. if z then f ∷ [] else []) n in
@@ -198,22 +205,28 @@ module _ (p : Program) (u : UnrolledProgram) (entry old new : State) (row : Row)
   landed : (a : ℕ) → new.pc ≡ a → (new.pc == a) ≡ true
   landed a e = grind (arith, nat_tests)
 
-  direct : (call : Bool) → s.direct ≡ Some new.pc → s.call ≡ call → first_hit lands jump_list ≡ Some (ToAddress (after_call call row.length old.pc stack) new.pc)
+  direct : (call : Bool) → s.direct ≡ Some new.pc → s.call ≡ call →
+      first_hit lands jump_list ≡ Some (ToAddress (after_call call row.length old.pc stack) new.pc)
   direct call d c =
-      ap (λ z. first_hit lands (map (λ a. ToAddress (after_call s.call row.length old.pc stack) a) (some_of z) ++ (if s.indirect then indirect_ends s.call row.length old.pc stack names else []))) d
-      ∙ ap (λ z. if z then Some (ToAddress (after_call s.call row.length old.pc stack) new.pc) else first_hit lands (if s.indirect then indirect_ends s.call row.length old.pc stack names else [])) (landed new.pc refl)
+      ap (λ z. first_hit lands (map (λ a. ToAddress (after_call s.call row.length old.pc stack) a) (some_of z)
+      ++ (if s.indirect then indirect_ends s.call row.length old.pc stack names else []))) d
+      ∙ ap (λ z. if z then Some (ToAddress (after_call s.call row.length old.pc stack) new.pc)
+      else first_hit lands (if s.indirect then indirect_ends s.call row.length old.pc stack names else [])) (landed new.pc refl)
       ∙ ap (λ z. Some (ToAddress (after_call z row.length old.pc stack) new.pc)) c
 
-  indirect : (call : Bool) → s.direct ≡ None → s.indirect ≡ true → s.call ≡ call → first_hit lands jump_list ≡ first_hit lands (indirect_ends call row.length old.pc stack names)
+  indirect : (call : Bool) → s.direct ≡ None → s.indirect ≡ true → s.call ≡ call →
+      first_hit lands jump_list ≡ first_hit lands (indirect_ends call row.length old.pc stack names)
   indirect call d i c =
-      ap (λ z. first_hit lands (map (λ a. ToAddress (after_call s.call row.length old.pc stack) a) (some_of z) ++ (if s.indirect then indirect_ends s.call row.length old.pc stack names else []))) d
+      ap (λ z. first_hit lands (map (λ a. ToAddress (after_call s.call row.length old.pc stack) a) (some_of z)
+      ++ (if s.indirect then indirect_ends s.call row.length old.pc stack names else []))) d
       ∙ ap (λ z. first_hit lands (if z then indirect_ends s.call row.length old.pc stack names else [])) i
       ∙ ap (λ z. first_hit lands (indirect_ends z row.length old.pc stack names)) c
 
   -- named targets
   named_by : (l : List ℕ) (a : ℕ) (xs : List ℕ) (b : Bool) → (new.pc == a) ≡ b →
       first_hit lands (map (λ a. ToAddress l a) xs) ≡ (if list_any (nat_eq new.pc) xs then Some (ToAddress l new.pc) else None) →
-      (if b then Some (ToAddress l a) else first_hit lands (map (λ a. ToAddress l a) xs)) ≡ (if b || list_any (nat_eq new.pc) xs then Some (ToAddress l new.pc) else None)
+      (if b then Some (ToAddress l a) else first_hit lands (map (λ a. ToAddress l a) xs)) ≡ (if b ||
+      list_any (nat_eq new.pc) xs then Some (ToAddress l new.pc) else None)
   named_by l a xs true e i = ap (λ z. Some (ToAddress l z)) (sym (same_number new.pc a e))
   named_by l a xs false e i = i
 
@@ -221,12 +234,14 @@ module _ (p : Program) (u : UnrolledProgram) (entry old new : State) (row : Row)
   named_hit l [] = refl
   named_hit l (a ∷ xs) = named_by l a xs (new.pc == a) refl (named_hit l xs)
 
-  any_by : (f : ℕ → Bool) (a : ℕ) (xs : List ℕ) (b : Bool) → f a ≡ b → (f a ≡ false → nat_eq new.pc a ≡ false) → list_any (nat_eq new.pc) (filter f xs) ≡ list_any (nat_eq new.pc) xs →
+  any_by : (f : ℕ → Bool) (a : ℕ) (xs : List ℕ) (b : Bool) → f a ≡ b → (f a ≡ false → nat_eq new.pc a ≡ false) →
+      list_any (nat_eq new.pc) (filter f xs) ≡ list_any (nat_eq new.pc) xs →
       list_any (nat_eq new.pc) (if b then a ∷ filter f xs else filter f xs) ≡ (nat_eq new.pc a || list_any (nat_eq new.pc) xs)
   any_by f a xs true e g i = ap (λ z. nat_eq new.pc a || z) i
   any_by f a xs false e g i = i ∙ ap (λ z. z || list_any (nat_eq new.pc) xs) (sym (g e))
 
-  any_drops : (f : ℕ → Bool) (xs : List ℕ) → ((a : ℕ) → f a ≡ false → nat_eq new.pc a ≡ false) → list_any (nat_eq new.pc) (filter f xs) ≡ list_any (nat_eq new.pc) xs
+  any_drops : (f : ℕ → Bool) (xs : List ℕ) → ((a : ℕ) → f a ≡ false → nat_eq new.pc a ≡ false) →
+      list_any (nat_eq new.pc) (filter f xs) ≡ list_any (nat_eq new.pc) xs
   any_drops f [] g = refl
   any_drops f (a ∷ xs) g = any_by f a xs (f a) refl (g a) (any_drops f xs g)
 
@@ -241,7 +256,8 @@ module _ (p : Program) (u : UnrolledProgram) (entry old new : State) (row : Row)
   abbrev others : List ℕ → List EdgeEnd
   others l = map (λ a. ToAddress l a) (filter (λ a. not (is_top l a)) names)
 
-  others_hit : (l : List ℕ) → is_top l new.pc ≡ false → first_hit lands (others l) ≡ (if is_named (by_file p) old row new.pc then Some (ToAddress l new.pc) else None)
+  others_hit : (l : List ℕ) → is_top l new.pc ≡ false → first_hit lands (others l)
+      ≡ (if is_named (by_file p) old row new.pc then Some (ToAddress l new.pc) else None)
   others_hit l e =
       named_hit l (filter (λ a. not (is_top l a)) names)
       ∙ ap (λ z. if z then Some (ToAddress l new.pc) else None) (any_drops (λ a. not (is_top l a)) names (passing l e))
@@ -256,17 +272,20 @@ module _ (p : Program) (u : UnrolledProgram) (entry old new : State) (row : Row)
   leave_empty false e = ap step_of (others_hit [] refl) ∙ step_named (is_named (by_file p) old row new.pc) []
 
   leave_full : (top : ℕ) (below : List ℕ) (b : Bool) → (new.pc == top) ≡ b →
-      step_of (if b then Some (ToAddress below top) else first_hit lands (others (top ∷ below))) ≡ return_or b top below new (is_named (by_file p) old row new.pc)
+      step_of (if b then Some (ToAddress below top) else first_hit lands (others (top ∷ below)))
+      ≡ return_or b top below new (is_named (by_file p) old row new.pc)
   leave_full top below true e = refl
   leave_full top below false e =
       let differs : (top == new.pc) ≡ false = grind (arith, nat_tests) in
       ap step_of (others_hit (top ∷ below) differs) ∙ step_named (is_named (by_file p) old row new.pc) (top ∷ below)
 
   leaves : (l : List ℕ) → step_of (first_hit lands (return_ends l ++ others l)) ≡ leave (by_file p) entry row old l new
-  leaves [] = leave_empty (new.pc == entry.regs u.link) refl ∙ ap (λ z. exit_or (new.pc == entry.regs z) (by_file p) entry new (is_named (by_file p) old row new.pc)) link
+  leaves [] = leave_empty (new.pc == entry.regs u.link) refl ∙ ap
+      (λ z. exit_or (new.pc == entry.regs z) (by_file p) entry new (is_named (by_file p) old row new.pc)) link
   leaves (top ∷ below) = leave_full top below (new.pc == top) refl
 
-  calls : step_of (first_hit lands (indirect_ends true row.length old.pc stack names)) ≡ allowed (is_named (by_file p) old row new.pc) (record { state = new; stack = add 32 old.pc row.length ∷ stack })
+  calls : step_of (first_hit lands (indirect_ends true row.length old.pc stack names))
+      ≡ allowed (is_named (by_file p) old row new.pc) (record { state = new; stack = add 32 old.pc row.length ∷ stack })
   calls = ap step_of (named_hit (add 32 old.pc row.length ∷ stack) names) ∙ step_named (is_named (by_file p) old row new.pc) (add 32 old.pc row.length ∷ stack)
 
   -- the first edge that is taken is the step's

@@ -44,8 +44,10 @@ module _ (p : Program) (lawful : HasLawfulRows p) (k : ℕ) (u : UnrolledProgram
 
   ends_from : (question : Question) → WalkEndsBy u r question → EndsBy p k r question
   ends_from EntryQuestion h = tt
-  ends_from FailQuestion (n, e, h) = let q = failed_there p u e (read_run p k r n) (subst (λ (z : Walk). IsSame p u z (read_run p k r n)) h (same n)) in (n, q.0, q.1, e, q.2)
-  ends_from TurnQuestion (n, h) = let q = turned_there p u (read_run p k r n) (subst (λ (z : Walk). IsSame p u z (read_run p k r n)) h (same n)) in (n, q.0, q.1, q.2)
+  ends_from FailQuestion (n, e, h) = let q = failed_there p u e (read_run p k r n) (subst (λ (z : Walk). IsSame p u z (read_run p k r n)) h (same n))
+      in (n, q.0, q.1, e, q.2)
+  ends_from TurnQuestion (n, h) = let q = turned_there p u (read_run p k r n) (subst (λ (z : Walk). IsSame p u z (read_run p k r n)) h (same n))
+      in (n, q.0, q.1, q.2)
 
   ends_to : (question : Question) → EndsBy p k r question → WalkEndsBy u r question
   ends_to EntryQuestion h = tt

@@ -56,7 +56,8 @@ within : (p : Program) (k : ℕ) (x : Point) → IsPoint p k x → x.turns ≤ k
 within p k x first = omega arith
 within p k x (next h edge l) = l
 
-module _ (p : Program) (k : ℕ) (u : UnrolledProgram) (un : IsUnrolling p k u) (entry : State) (i n turns : ℕ) (old : State) (stack : List ℕ) (turns_fit : turns ≤ k)
+module _ (p : Program) (k : ℕ) (u : UnrolledProgram) (un : IsUnrolling p k u) (entry : State) (i n turns : ℕ) (old : State) (stack : List ℕ) (turns_fit : turns
+    ≤ k)
     (graph : IsInGraph p (record { turns = turns; stack = stack; at = old.pc })) where
   abbrev here : Point
   here = record { turns = turns; stack = stack; at = old.pc }
@@ -70,7 +71,8 @@ module _ (p : Program) (k : ℕ) (u : UnrolledProgram) (un : IsUnrolling p k u) 
       (in_map (λ q. q.point) u.points (point_at u j) (at_in u.points j (point_at u j) (slice_get-get_or u.points j no_point h)))
 
   -- what is read at the next point is read after this one
-  carried_to : (new : State) (c : Carried) → LeadsTo p old.pc new.pc → IsCarriedOf (λ f. IsReadAfter p f old.pc) new c → IsCarriedOf (λ f. IsRead p f new.pc) new c
+  carried_to : (new : State) (c : Carried) → LeadsTo p old.pc new.pc → IsCarriedOf (λ f. IsReadAfter p f old.pc) new c →
+      IsCarriedOf (λ f. IsRead p f new.pc) new c
   carried_to new c leads h = record { state = h.state; regs = h.regs; mem = h.mem; flags = λ f r. h.flags f (on_path leads r) }
 
   arrives : (b : Bool) (j : ℕ) (l : List ℕ) (new : State) (c : Carried) → j < length u.points → (if b then turns + 1 else turns) ≤ k →
@@ -81,7 +83,8 @@ module _ (p : Program) (k : ℕ) (u : UnrolledProgram) (un : IsUnrolling p k u) 
       let t : (turns == k) ≡ false = tests_less turns k (omega arith) in
       subst (λ (z : Bool). IsSame p u (WalkIsAt j c) (turn z turns n old.pc (record { state = new; stack = l }))) (sym t) (h, e, g)
 
-  passes : (b : Bool) (l : List ℕ) (new : State) → (if b then turns + 1 else turns) ≡ suc k → IsSame p u WalkTurns (arrive b k turns n old.pc (record { state = new; stack = l }))
+  passes : (b : Bool) (l : List ℕ) (new : State) → (if b then turns + 1 else turns) ≡ suc k →
+      IsSame p u WalkTurns (arrive b k turns n old.pc (record { state = new; stack = l }))
   passes false l new e = absurd (omega arith)
   passes true l new e =
       let t : (turns == k) ≡ true = tests_equal turns k (omega arith) in
@@ -92,7 +95,8 @@ module _ (p : Program) (k : ℕ) (u : UnrolledProgram) (un : IsUnrolling p k u) 
   leaves_by (Some line) new = refl
 
   module _ (new : State) (c : Carried) (carried : IsCarriedOf (λ f. IsReadAfter p f old.pc) new c) where
-    exit_same : Contains (edges p here) ToExit → IsSame p u (out_by (false_line u.endian u.ensures (state_at c new.pc) entry)) (after (exit_by (false_line p.machine.endian p.notes.ensures new entry) new))
+    exit_same : Contains (edges p here) ToExit → IsSame p u (out_by (false_line u.endian u.ensures (state_at c new.pc) entry))
+        (after (exit_by (false_line p.machine.endian p.notes.ensures new entry) new))
     exit_same h =
         let lines : false_line u.endian u.ensures (state_at c new.pc) entry ≡ false_line p.machine.endian p.notes.ensures new entry
         = ap (λ z. false_line z u.ensures (state_at c new.pc) entry) un.endian ∙ ap (λ z. false_line p.machine.endian z (state_at c new.pc) entry) un.ensures
@@ -118,11 +122,13 @@ module _ (p : Program) (k : ℕ) (u : UnrolledProgram) (un : IsUnrolling p k u) 
           let same : new.pc ≡ a = to l a refl in
           let at : (point_at u j).point ≡ end_of here l new.pc = h.2 ∙ ap (end_of here l) (sym same) in
           let leads : LeadsTo p old.pc new.pc = subst (λ (z : ℕ). LeadsTo p old.pc z) (sym same) (graph.leads l a (inside (ToAddress l a) refl)) in
-          arrives (nat_le new.pc old.pc) j l new c h.1 (within p k (end_of here l new.pc) (subst (λ (z : Point). IsPoint p k z) at (a_point j h.1))) at (carried_to new c leads carried)
+          arrives (nat_le new.pc old.pc) j l new c h.1 (within p k (end_of here l new.pc) (subst (λ (z : Point). IsPoint p k z) at (a_point j h.1))) at
+          (carried_to new c leads carried)
       edge_same (Some (ToAddress l a)) OverLast h inside to =
           passes (nat_le new.pc old.pc) l new (ap (λ z. (end_of here l z).turns) (to l a refl) ∙ h)
 
-      module _ (is : file_row p old.pc ≡ Some row) (now : State) (writes : Bool) (how : How) (ends : List EdgeEnd) (are : AreEdgesOf p here ends) (exits : List PointExit) (zip : AllZip (IsEdge p k u i here row) ends exits)
+      module _ (is : file_row p old.pc ≡ Some row) (now : State) (writes : Bool) (how : How) (ends : List EdgeEnd) (are : AreEdgesOf p here ends)
+          (exits : List PointExit) (zip : AllZip (IsEdge p k u i here row) ends exits)
           (successor : IsSuccessor (row.successors old.pc) (Goes how new)) (comes : how ≡ On → new.pc ≡ add 32 old.pc row.length)
           (one_way : (row.successors old.pc).indirect ≡ true → (row.successors old.pc).direct ≡ None) where
         abbrev hit : EdgeEnd → Bool
@@ -135,33 +141,39 @@ module _ (p : Program) (k : ℕ) (u : UnrolledProgram) (un : IsUnrolling p k u) 
             let s : b ≡ a = cc in
             same_number new.pc b r.1 ∙ s
 
-        along_same : new.pc % 4 ≡ 0 → IsSame p u (walk_to u entry (state_at c new.pc) (first_aim u entry now writes (GoesOn (jumps how) new.pc c) exits)) (after (transfer (by_file p) entry row old stack how new))
+        along_same : new.pc % 4 ≡ 0 → IsSame p u (walk_to u entry (state_at c new.pc) (first_aim u entry now writes (GoesOn (jumps how) new.pc c) exits))
+            (after (transfer (by_file p) entry row old stack how new))
         along_same aligned =
             let o : Option EdgeEnd = first_hit hit ends in
             let which : its_step o ≡ transfer (by_file p) entry row old stack how new
             = ap its_step (sym (any_order p u entry old new row turns stack un.link is one_way (jumps how) ends are))
-            ∙ ap its_step (of_row p u entry old new row turns stack un.link aligned is (jumps how)) ∙ step_is p u entry old new row turns stack un.link how successor comes one_way in
-            subst (λ (z : Step). IsSame p u (walk_to u entry (state_at c new.pc) (first_aim u entry now writes (GoesOn (jumps how) new.pc c) exits)) (after z)) which
+            ∙ ap its_step (of_row p u entry old new row turns stack un.link aligned is
+            (jumps how)) ∙ step_is p u entry old new row turns stack un.link how successor comes one_way in
+            subst (λ (z : Step). IsSame p u (walk_to u entry (state_at c new.pc) (first_aim u entry now writes (GoesOn (jumps how) new.pc c) exits))
+            (after z)) which
             (edge_same (first_hit hit ends) (first_aim u entry now writes (GoesOn (jumps how) new.pc c) exits)
             (chosen p k i u entry now old new row turns stack un.link writes (jumps how) new.pc c refl ends exits zip)
             (λ t e. (are.same t).1 (found hit ends t e).1)
             (λ l a e. landing (ToAddress l a) l a refl (found hit ends (ToAddress l a) e).0))
 
         aligned_same : (b : Bool) → (new.pc % 4 == 0) ≡ b →
-            IsSame p u (walk_to u entry (state_at c new.pc) (if not b then ToEvent AlignFails else first_aim u entry now writes (GoesOn (jumps how) new.pc c) exits))
+            IsSame p u (walk_to u entry (state_at c new.pc) (if not b then ToEvent AlignFails
+            else first_aim u entry now writes (GoesOn (jumps how) new.pc c) exits))
             (after (aligned_transfer b (by_file p) entry row old stack how new))
         aligned_same true e = along_same (same_number (new.pc % 4) 0 e)
         aligned_same false e = refl
 
         going_same : (b : Bool) →
-            IsSame p u (walk_to u entry (state_at c new.pc) (if b then ToEvent CodeWritten else if not (new.pc % 4 == 0) then ToEvent AlignFails else first_aim u entry now writes (GoesOn (jumps how) new.pc c) exits))
+            IsSame p u (walk_to u entry (state_at c new.pc) (if b then ToEvent CodeWritten else if not (new.pc % 4 == 0) then ToEvent AlignFails
+            else first_aim u entry now writes (GoesOn (jumps how) new.pc c) exits))
             (after (going_on b (by_file p) entry row old stack how new))
         going_same true = refl
         going_same false = aligned_same (new.pc % 4 == 0) refl
 
 module _ (p : Program) (lawful : HasLawfulRows p) (k : ℕ) (u : UnrolledProgram) (un : IsUnrolling p k u) (asked : ℕ → Bool) (asks : AsksLiterals p k asked)
     (entry : State) (i n turns choice : ℕ) (small : choice < 4) (old : State) (stack : List ℕ) (turns_fit : turns ≤ k)
-    (met : IsPoint p k (record { turns = turns; stack = stack; at = old.pc })) (sound : Sound p asked old) (c : Carried) (carried : IsCarriedOf (λ f. IsRead p f old.pc) old c) where
+    (met : IsPoint p k (record { turns = turns; stack = stack; at = old.pc })) (sound : Sound p asked old) (c : Carried) (carried : IsCarriedOf
+    (λ f. IsRead p f old.pc) old c) where
   abbrev spot : Point
   spot = record { turns = turns; stack = stack; at = old.pc }
 
@@ -184,12 +196,14 @@ module _ (p : Program) (lawful : HasLawfulRows p) (k : ℕ) (u : UnrolledProgram
     abbrev go_to : Aim → Walk
     go_to aim = walk_to u entry (state_at (carried_on l c) (next_address l)) aim
 
-    module _ (row : Row) (is : file_row p old.pc ≡ Some row) (does : DoesRow p q row) (ends : List EdgeEnd) (are : AreEdgesOf p spot ends) (exits : List PointExit) (zip : AllZip (IsEdge p k u i spot row) ends exits) where
+    module _ (row : Row) (is : file_row p old.pc ≡ Some row) (does : DoesRow p q row) (ends : List EdgeEnd) (are : AreEdgesOf p spot ends)
+        (exits : List PointExit) (zip : AllZip (IsEdge p k u i spot row) ends exits) where
       law : IsLawful row
       law = lawful old.pc row is
 
       literal : HoldsLiteral p row old
-      literal a e h = kept_word p asked old sound.0 a (λ j s. asks a j (record { point = spot; is_point = met; row = row; is_row = is; loads = e; is_kept = h }) s) h
+      literal a e h = kept_word p asked old sound.0 a (λ j s. asks a j
+          (record { point = spot; is_point = met; row = row; is_row = is; loads = e; is_kept = h }) s) h
 
       pc : old.pc ≡ q.point.at
       pc = ap (λ z. z.at) (sym at)
@@ -201,7 +215,8 @@ module _ (p : Program) (lawful : HasLawfulRows p) (k : ℕ) (u : UnrolledProgram
           (does.stores old c choice sound.1 pc small literal carried)
 
       quiet : (e : Exception) → row.effect old choice ≡ Raises e → writes_kept (by_file p) row old ≡ false
-      quiet e h = ap (λ z. list_any (λ a. is_kept (p.loaded a)) (addresses z)) (subst (λ z. IfRaises z (row.stored old ≡ None)) h (law.raised old choice sound.1))
+      quiet e h = ap (λ z. list_any (λ a. is_kept (p.loaded a)) (addresses z)) (subst
+          (λ z. IfRaises z (row.stored old ≡ None)) h (law.raised old choice sound.1))
 
       abbrev tries : Leaving → List PointExit → Aim
       tries m xs = first_aim u entry now writes m xs
@@ -218,27 +233,32 @@ module _ (p : Program) (lawful : HasLawfulRows p) (k : ℕ) (u : UnrolledProgram
           let good : IsState new = subst LeavesState h (law.states old choice sound.1) in
           let next_is : ComesNext row.length old (Goes how new) = subst (ComesNext row.length old) h (law.next old choice sound.1) in
           let way : IsSuccessor (row.successors old.pc) (Goes how new) = subst (IsSuccessor (row.successors old.pc)) h (law.successors old choice sound.1) in
-          let there = going_same p k u un entry i n turns old stack turns_fit graph new d a.2 row is now writes how ends are exits zip way next_is (law.one_way old.pc)
+          let there = going_same p k u un entry i n turns old stack turns_fit graph new d a.2 row is now writes how ends are exits zip way next_is
+          (law.one_way old.pc)
           (writes_kept (by_file p) row old) in
           let same : writes ≡ writes_kept (by_file p) row old = writes_same how new h in
           subst (λ (z : Bool). IsSame p u (walk_to u entry (state_at d to) (tries (GoesOn z to d) (Raising ∷ WritingKept ∷ Unaligned ∷ exits)))
           (then_is (after_row (by_file p) entry row old stack (writes_kept (by_file p) row old) (Goes how new)))) (sym a.0)
           (subst (λ (z : ℕ). IsSame p u (walk_to u entry (state_at d z) (tries (GoesOn (jumps how) z d) (Raising ∷ WritingKept ∷ Unaligned ∷ exits)))
           (then_is (after_row (by_file p) entry row old stack (writes_kept (by_file p) row old) (Goes how new)))) (sym a.1)
-          (subst (λ (z : Bool). IsSame p u (walk_to u entry (state_at d new.pc) (if z then ToEvent CodeWritten else tries (GoesOn (jumps how) new.pc d) (Unaligned ∷ exits)))
+          (subst (λ (z : Bool). IsSame p u (walk_to u entry (state_at d new.pc) (if z then ToEvent CodeWritten
+          else tries (GoesOn (jumps how) new.pc d) (Unaligned ∷ exits)))
           (then_is (after_row (by_file p) entry row old stack (writes_kept (by_file p) row old) (Goes how new)))) (sym same) there))
 
-      row_same : IsSame p u (go_to (tries l (Raising ∷ WritingKept ∷ Unaligned ∷ exits))) (then_is (by_row (by_file p) entry (record { state = old; stack = stack }) choice (Some row)))
+      row_same : IsSame p u (go_to (tries l (Raising ∷ WritingKept ∷ Unaligned ∷ exits)))
+          (then_is (by_row (by_file p) entry (record { state = old; stack = stack }) choice (Some row)))
       row_same = outcome_same (row.effect old choice) l refl (does.leaves old c choice sound.1 pc small literal carried)
 
     -- where there is no row
     no_row : (b : Bool) (o : Option Row) → fetchable p old.pc ≡ b → (if b then o else None) ≡ None →
-        IsSame p u (WalkFails (stop_event (fetchable p q.point.at))) (then_is (if b then by_row (by_file p) entry (record { state = old; stack = stack }) choice o else Stops FetchFails))
+        IsSame p u (WalkFails (stop_event (fetchable p q.point.at))) (then_is (if b
+        then by_row (by_file p) entry (record { state = old; stack = stack }) choice o else Stops FetchFails))
     no_row false o e h = ap stop_event (ap (λ z. fetchable p z.at) at ∙ e)
     no_row true None e h = ap stop_event (ap (λ z. fetchable p z.at) at ∙ e)
     no_row true (Some row) e h = absurd (cc)
 
-    asserts_same : (rest : List PointExit) → q.exits ≡ assert_exits p q.point ++ rest → (o : Option ℕ) → false_assert p.machine.endian p.notes.asserts old entry ≡ o →
+    asserts_same : (rest : List PointExit) → q.exits ≡ assert_exits p q.point ++ rest → (o : Option ℕ) →
+        false_assert p.machine.endian p.notes.asserts old entry ≡ o →
         first_aim u entry now writes l q.exits ≡ assert_or o (first_aim u entry now writes l rest)
     asserts_same rest e o h =
         ap (first_aim u entry now writes l) (e ∙ ap (λ z. assert_exits p z ++ rest) at)
@@ -254,16 +274,19 @@ module _ (p : Program) (lawful : HasLawfulRows p) (k : ℕ) (u : UnrolledProgram
     abbrev place : Place
     place = record { state = old; stack = stack }
 
-    combine : (rest : List PointExit) → q.exits ≡ assert_exits p q.point ++ rest → (o : Option ℕ) → false_assert p.machine.endian p.notes.asserts old entry ≡ o →
+    combine : (rest : List PointExit) → q.exits ≡ assert_exits p q.point ++ rest → (o : Option ℕ) →
+        false_assert p.machine.endian p.notes.asserts old entry ≡ o →
         IsSame p u (go_to (first_aim u entry now writes l rest)) (then_is (by_fetch (fetchable p old.pc) (by_file p) entry place choice)) →
         IsSame p u (go_to (first_aim u entry now writes l q.exits)) (then_is (after_asserts o (by_file p) entry place choice))
     combine rest e (Some line) h inner =
-        subst (λ (z : Aim). IsSame p u (go_to z) (then_is (after_asserts (Some line) (by_file p) entry place choice))) (sym (asserts_same rest e (Some line) h)) refl
+        subst (λ (z : Aim). IsSame p u (go_to z) (then_is (after_asserts (Some line) (by_file p) entry place choice)))
+        (sym (asserts_same rest e (Some line) h)) refl
     combine rest e None h inner =
         subst (λ (z : Aim). IsSame p u (go_to z) (then_is (after_asserts None (by_file p) entry place choice))) (sym (asserts_same rest e None h)) inner
 
     fetched : (b : Bool) (o : Option Row) → fetchable p old.pc ≡ b → p.machine.row (file_word p old.pc) ≡ o → (w : Walk) →
-        IsSame p u w (then_is (if b then by_row (by_file p) entry place choice o else Stops FetchFails)) → IsSame p u w (then_is (by_fetch (fetchable p old.pc) (by_file p) entry place choice))
+        IsSame p u w (then_is (if b then by_row (by_file p) entry place choice o else Stops FetchFails)) →
+        IsSame p u w (then_is (by_fetch (fetchable p old.pc) (by_file p) entry place choice))
     fetched false o e r w h = subst (λ (z : Bool). IsSame p u w (then_is (by_fetch z (by_file p) entry place choice))) (sym e) h
     fetched true o e r w h =
         subst (λ (z : Bool). IsSame p u w (then_is (by_fetch z (by_file p) entry place choice))) (sym e)
@@ -280,9 +303,11 @@ module _ (p : Program) (lawful : HasLawfulRows p) (k : ℕ) (u : UnrolledProgram
     step_same true (Some row) e r at_place =
         let is : file_row p old.pc ≡ Some row = ap (λ z. if z then p.machine.row (file_word p old.pc) else None) e ∙ r in
         let are : AreEdgesOf p spot at_place.2.0 = subst (λ (z : Point). AreEdgesOf p z at_place.2.0) at at_place.2.1 in
-        let zip : AllZip (IsEdge p k u i spot row) at_place.2.0 at_place.0 = subst (λ (z : Point). AllZip (IsEdge p k u i z row) at_place.2.0 at_place.0) at at_place.2.2 in
+        let zip : AllZip (IsEdge p k u i spot row) at_place.2.0 at_place.0 = subst
+        (λ (z : Point). AllZip (IsEdge p k u i z row) at_place.2.0 at_place.0) at at_place.2.2 in
         combine (Raising ∷ WritingKept ∷ Unaligned ∷ at_place.0) at_place.1 (false_assert p.machine.endian p.notes.asserts old entry) refl
-        (fetched true (Some row) e r (go_to (first_aim u entry now writes l (Raising ∷ WritingKept ∷ Unaligned ∷ at_place.0))) (row_same row is at_place.3 at_place.2.0 are at_place.0 zip))
+        (fetched true (Some row) e r (go_to (first_aim u entry now writes l (Raising ∷ WritingKept ∷ Unaligned ∷ at_place.0)))
+        (row_same row is at_place.3 at_place.2.0 are at_place.0 zip))
 
     pub point_same : IsPlace p k u i q (file_row p q.point.at) → IsSame p u (walk_from u entry q choice c) (then_is (step (by_file p) entry place choice))
     point_same h =
@@ -292,7 +317,8 @@ module _ (p : Program) (lawful : HasLawfulRows p) (k : ℕ) (u : UnrolledProgram
     (r : Reading) (small : (point : Point) → r.choice point < 4) where
   one : (w : Walk) (x : Run) → IsSame p u w x → Stands p k x → Standing (Sound p asked) k x → IsSame p u (walk_on u r w) (read_on p k r x)
   one (WalkIsAt i c) (Going turns n d) h s g =
-      subst (λ (z : Point). IsSame p u (walk_from u r.state (point_at u i) (r.choice z) c) (after_step k turns n d.state.pc (step (by_file p) r.state d (r.choice (point_of turns d))))) (sym h.1)
+      subst (λ (z : Point). IsSame p u (walk_from u r.state (point_at u i) (r.choice z) c)
+      (after_step k turns n d.state.pc (step (by_file p) r.state d (r.choice (point_of turns d))))) (sym h.1)
       (point_same p lawful k u un asked asks r.state i n turns (r.choice (point_of turns d)) (small (point_of turns d)) d.state d.stack s.2
       s.0 g c h.2 (point_at u i) h.1 (un.places i h.0))
   one (WalkIsAt i c) (Exited at n) h s g = absurd h
@@ -313,14 +339,16 @@ module _ (p : Program) (lawful : HasLawfulRows p) (k : ℕ) (u : UnrolledProgram
 
   stands_on : (x : Run) → Stands p k x → Stands p k (read_on p k r x)
   stands_on (Going turns n d) h =
-      stepped p k n (point_of turns d) (step (by_file p) r.state d (r.choice (point_of turns d))) h.2 h.0 (steps_along p lawful turns (r.choice (point_of turns d)) r.state d h.1)
+      stepped p k n (point_of turns d) (step (by_file p) r.state d (r.choice (point_of turns d))) h.2 h.0
+      (steps_along p lawful turns (r.choice (point_of turns d)) r.state d h.1)
   stands_on (Exited at n) h = tt
   stands_on (Failed e at n) h = tt
   stands_on (Turned at n) h = tt
 
   sound_on : (x : Run) → Standing (Sound p asked) k x → Standing (Sound p asked) k (read_on p k r x)
   sound_on (Going turns n d) h =
-      stepped_in (Sound p asked) k turns n d.state.pc (step (by_file p) r.state d (r.choice (point_of turns d))) (step_in p asked lawful r.state d (r.choice (point_of turns d)) h)
+      stepped_in (Sound p asked) k turns n d.state.pc (step (by_file p) r.state d (r.choice (point_of turns d)))
+      (step_in p asked lawful r.state d (r.choice (point_of turns d)) h)
   sound_on (Exited at n) h = tt
   sound_on (Failed e at n) h = tt
   sound_on (Turned at n) h = tt

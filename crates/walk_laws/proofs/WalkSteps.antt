@@ -42,16 +42,41 @@ value_same e (Memory n x) s t entry a = ap (λ z. load e n z (value e x s entry)
 value_same e (Old x) s t entry a = refl
 value_same e (Not x) s t entry a = ap (λ z. bit (not (is_true z))) (value_same e x s t entry a)
 value_same e (Binary op x y) s t entry a =
-    let l = value_same e x s t entry (record { pc = a.pc; regs = a.regs; mem = a.mem; flags = λ f h. a.flags f (or_left (names_flag f x) (names_flag f y) h) }) in
-    let r = value_same e y s t entry (record { pc = a.pc; regs = a.regs; mem = a.mem; flags = λ f h. a.flags f (or_right (names_flag f x) (names_flag f y) h) }) in
+    let l = value_same e x s t entry (record {
+      pc = a.pc;
+      regs = a.regs;
+      mem = a.mem;
+      flags =
+          λ f h. a.flags f (or_left (names_flag f x) (names_flag f y) h);
+    }) in
+    let r = value_same e y s t entry (record {
+      pc = a.pc;
+      regs = a.regs;
+      mem = a.mem;
+      flags =
+          λ f h. a.flags f (or_right (names_flag f x) (names_flag f y) h);
+    }) in
     ap (λ z. apply op z (value e y s entry)) l ∙ ap (apply op (value e x t entry)) r
 
 -- the first false line is the same
-pub false_line_same : (e : Endian) (ls : List NoteLine) (s t entry : State) → IsAlike (λ f. list_any (λ l. names_flag f l.says) ls ≡ true) s t → false_line e ls s entry ≡ false_line e ls t entry
+pub false_line_same : (e : Endian) (ls : List NoteLine) (s t entry : State) → IsAlike (λ f. list_any (λ l. names_flag f l.says) ls ≡ true) s t →
+    false_line e ls s entry ≡ false_line e ls t entry
 false_line_same e [] s t entry a = refl
 false_line_same e (l ∷ ls) s t entry a =
-    let v = value_same e l.says s t entry (record { pc = a.pc; regs = a.regs; mem = a.mem; flags = λ f h. a.flags f (or_left (names_flag f l.says) (list_any (λ l. names_flag f l.says) ls) h) }) in
-    let r = false_line_same e ls s t entry (record { pc = a.pc; regs = a.regs; mem = a.mem; flags = λ f h. a.flags f (or_right (names_flag f l.says) (list_any (λ l. names_flag f l.says) ls) h) }) in
+    let v = value_same e l.says s t entry (record {
+      pc = a.pc;
+      regs = a.regs;
+      mem = a.mem;
+      flags =
+          λ f h. a.flags f (or_left (names_flag f l.says) (list_any (λ l. names_flag f l.says) ls) h);
+    }) in
+    let r = false_line_same e ls s t entry (record {
+      pc = a.pc;
+      regs = a.regs;
+      mem = a.mem;
+      flags =
+          λ f h. a.flags f (or_right (names_flag f l.says) (list_any (λ l. names_flag f l.says) ls) h);
+    }) in
     ap (λ z. if is_true z then false_line e ls s entry else Some l.line) v ∙ ap (λ z. if is_true (value e l.says t entry) then z else Some l.line) r
 
 -- the exits of the assert lines come first
@@ -59,7 +84,8 @@ abbrev pub assert_or : Option ℕ → Aim → Aim
 assert_or None x = x
 assert_or (Some line) x = ToEvent (AssertFails line)
 
-if_assert : (b : Bool) (line : ℕ) (o : Option ℕ) (x : Aim) → (if b then ToEvent (AssertFails line) else assert_or o x) ≡ assert_or (if b then Some line else o) x
+if_assert : (b : Bool) (line : ℕ) (o : Option ℕ) (x : Aim) → (if b then ToEvent (AssertFails line) else assert_or o x)
+    ≡ assert_or (if b then Some line else o) x
 if_assert true line o x = refl
 if_assert false line o x = refl
 
@@ -72,15 +98,18 @@ module _ (u : UnrolledProgram) (entry now old : State) (writes : Bool) (l : Leav
 
   assert_by : (a : Assert) (lines : List Assert) (b : Bool) → (a.at == old.pc) ≡ b → IsAlike (reads_of (a ∷ lines)) old now →
       first_aim u entry now writes l (exits_of lines ++ rest) ≡ assert_or (false_assert u.endian lines old entry) (first_aim u entry now writes l rest) →
-      first_aim u entry now writes l (map (λ a. FalseAssert a.line a.says) (if b then a ∷ filter (λ a. a.at == old.pc) lines else filter (λ a. a.at == old.pc) lines) ++ rest)
-      ≡ assert_or (if b && not (is_true (value u.endian a.says old entry)) then Some a.line else false_assert u.endian lines old entry) (first_aim u entry now writes l rest)
+      first_aim u entry now writes l (map (λ a. FalseAssert a.line a.says) (if b then a
+      ∷ filter (λ a. a.at == old.pc) lines else filter (λ a. a.at == old.pc) lines) ++ rest)
+      ≡ assert_or (if b && not (is_true (value u.endian a.says old entry)) then Some a.line
+      else false_assert u.endian lines old entry) (first_aim u entry now writes l rest)
   assert_by a lines false e alike i = i
   assert_by a lines true e alike i =
       let v = value_same u.endian a.says old now entry (record {
         pc = alike.pc;
         regs = alike.regs;
         mem = alike.mem;
-        flags = λ f h. alike.flags f (or_left ((a.at == old.pc) && names_flag f a.says) (list_any (λ x. (x.at == old.pc) && names_flag f x.says) lines) (ap (λ z. z && names_flag f a.says) e ∙ h));
+        flags = λ f h. alike.flags f (or_left ((a.at == old.pc) &&
+            names_flag f a.says) (list_any (λ x. (x.at == old.pc) && names_flag f x.says) lines) (ap (λ z. z && names_flag f a.says) e ∙ h));
       }) in
       ap (λ z. if not (is_true (value u.endian a.says now entry)) then ToEvent (AssertFails a.line) else z) i
       ∙ if_assert (not (is_true (value u.endian a.says now entry))) a.line (false_assert u.endian lines old entry) (first_aim u entry now writes l rest)
@@ -102,14 +131,16 @@ abbrev pub Chosen : UnrolledProgram → (k i : ℕ) → Point → Option EdgeEnd
 Chosen u k i q None aim = aim ≡ ToEvent JumpFails
 Chosen u k i q (Some t) aim = IsAim u k i q t aim
 
-module _ (p : Program) (k i : ℕ) (u : UnrolledProgram) (entry now old new : State) (row : Row) (turns : ℕ) (stack : List ℕ) (link : u.link ≡ p.machine.link) (writes jumped : Bool) (to : ℕ) (c : Carried) (same : to ≡ new.pc) where
+module _ (p : Program) (k i : ℕ) (u : UnrolledProgram) (entry now old new : State) (row : Row) (turns : ℕ) (stack : List ℕ) (link : u.link
+    ≡ p.machine.link) (writes jumped : Bool) (to : ℕ) (c : Carried) (same : to ≡ new.pc) where
   abbrev q : Point
   q = record { turns = turns; stack = stack; at = old.pc }
 
   abbrev hit : EdgeEnd → Bool
   hit t = takes p u entry old new row turns stack link jumped t
 
-  chosen_by : (b : Bool) (t : EdgeEnd) (aim other : Aim) (o : Option EdgeEnd) → IsAim u k i q t aim → Chosen u k i q o other → Chosen u k i q (if b then Some t else o) (if b then aim else other)
+  chosen_by : (b : Bool) (t : EdgeEnd) (aim other : Aim) (o : Option EdgeEnd) → IsAim u k i q t aim → Chosen u k i q o other →
+      Chosen u k i q (if b then Some t else o) (if b then aim else other)
   chosen_by true t aim other o h g = h
   chosen_by false t aim other o h g = g
 
@@ -117,7 +148,8 @@ module _ (p : Program) (k i : ℕ) (u : UnrolledProgram) (entry now old new : St
       is_taken u entry now writes (GoesOn jumped to c) x ≡ hit t
   taken_is t x e =
       ap (is_taken u entry now writes (GoesOn jumped to c)) e.is
-      ∙ ap (λ z. (if jumped then list_any (same_end t) (jump_ends p q row (row.successors old.pc)) else list_any (same_end t) (fall_ends q row (row.successors old.pc)))
+      ∙ ap (λ z. (if jumped then list_any (same_end t) (jump_ends p q row (row.successors old.pc))
+      else list_any (same_end t) (fall_ends q row (row.successors old.pc)))
       && (z == edge_address u entry (address_of t))) same
 
   pub chosen : (ends : List EdgeEnd) (xs : List PointExit) → AllZip (IsEdge p k u i q row) ends xs →
@@ -128,6 +160,7 @@ module _ (p : Program) (k i : ℕ) (u : UnrolledProgram) (entry now old new : St
   chosen (t ∷ ends) (x ∷ xs) h =
       let e = h.0 in
       let aim : e.aim ≡ aim_of (GoesOn jumped to c) x = ap (aim_of (GoesOn jumped to c)) (sym e.is) in
-      subst (λ (z : Bool). Chosen u k i q (first_hit hit (t ∷ ends)) (if z then aim_of (GoesOn jumped to c) x else first_aim u entry now writes (GoesOn jumped to c) xs)) (sym (taken_is t x e))
+      subst (λ (z : Bool). Chosen u k i q (first_hit hit (t ∷ ends)) (if z then aim_of (GoesOn jumped to c) x
+      else first_aim u entry now writes (GoesOn jumped to c) xs)) (sym (taken_is t x e))
       (chosen_by (hit t) t (aim_of (GoesOn jumped to c) x) (first_aim u entry now writes (GoesOn jumped to c) xs) (first_hit hit ends)
       (subst (λ (z : Aim). IsAim u k i q t z) aim e.leads) (chosen ends xs h.1))

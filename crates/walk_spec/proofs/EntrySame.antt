@@ -41,7 +41,8 @@ module _ (p : Program) (k : ℕ) (u : UnrolledProgram) (un : IsUnrolling p k u) 
     requires = sym requires_same ∙ m.lines.requires;
   }
 
-  byte_by : (is : IsEntryState p s) (a b : ℕ) (o : Option Cell) (t : Bool) → a < 2 ^ 32 → p.loaded a ≡ o → is_known_at p a ≡ t → (if t then Some (byte_of_cell o) else None) ≡ Some b → s.mem a ≡ b
+  byte_by : (is : IsEntryState p s) (a b : ℕ) (o : Option Cell) (t : Bool) → a < 2 ^ 32 → p.loaded a ≡ o → is_known_at p a ≡ t →
+      (if t then Some (byte_of_cell o) else None) ≡ Some b → s.mem a ≡ b
   byte_by is a b o false l e h g = absurd (cc)
   byte_by is a b (Some c) true l e h g = known p s is a c l e h ∙ (cc)
   byte_by is a b None true l e h g = absurd (let f : false ≡ true = ap (λ z. is_kept z || (is_some z && fixed p.notes.fixed a)) (sym e) ∙ h in cc)

@@ -60,7 +60,8 @@ increment = record {
   link = 1;
   entry = 0x10000;
   requires = [];
-  ensures = record { line = 2; says = notes.Binary notes.Equal (notes.Register 10) (notes.Binary notes.Plus (notes.Old (notes.Register 10)) (notes.Number 1)) } ∷ [];
+  ensures = record { line = 2; says = notes.Binary notes.Equal (notes.Register 10) (notes.Binary notes.Plus (notes.Old (notes.Register 10)) (notes.Number 1)) }
+      ∷ [];
   kept = record { low = 0x10000; high = 0x10007 } ∷ [];
   known = record { at = 0x10000; count = 8; bytes = 0x13 ∷ 0x05 ∷ 0x15 ∷ 0x00 ∷ 0x67 ∷ 0x80 ∷ 0x00 ∷ 0x00 ∷ [] } ∷ [];
   literals = [];
@@ -93,7 +94,11 @@ increment_runs = record {
 
 -- a reading with a0 and the return address 0x20000
 abbrev with_a0 : ℕ → Reading
-with_a0 n = record { state = record { pc = 0x10000; regs = λ r. if r == 10 then n else if r == 1 then 0x20000 else 0; flags = λ f. 0; mem = λ a. 0 }; choice = λ q. 0 }
+with_a0 n = record {
+  state = record { pc = 0x10000; regs = λ r. if r == 10 then n else if r == 1 then 0x20000 else 0; flags = λ f. 0; mem = λ a. 0 };
+  choice =
+      λ q. 0;
+}
 
 -- the increment exits after two points
 pub increment_exits : walk increment (with_a0 7) 2 ≡ WalkExits

@@ -82,7 +82,16 @@ named_one n (suc (suc (suc (suc (suc (suc i))))), l, e) = absurd (omega arith)
 
 terms : AreTermsWithin u (point_room u) q.nodes
 terms = record {
-  typed = (tt, ((omega arith, omega arith, omega arith), ((two, omega arith), ((two, (omega arith, refl), (omega arith, refl)), ((one, omega arith), ((one, omega arith), tt))))));
+  typed = (
+    tt,
+    (
+      (omega arith, omega arith, omega arith),
+      (
+        (two, omega arith),
+        ((two, (omega arith, refl), (omega arith, refl)), ((one, omega arith), ((one, omega arith), tt))),
+      ),
+    ),
+  );
   named = named_one;
   gates = omega arith;
   loads = omega arith;
@@ -183,7 +192,15 @@ fail_means r = ((λ h. absurd (apart 0 1 refl h)), (λ h. absurd (no_event r h))
 
 pub fail_tells : TellsQuestion u FailQuestion fail
 fail_tells = record {
-  terms = record { typed = ((one, omega arith), tt); named = named_fail; gates = omega arith; loads = omega arith; stores = omega arith; joins = omega arith; few = omega arith };
+  terms = record {
+    typed = ((one, omega arith), tt);
+    named = named_fail;
+    gates = omega arith;
+    loads = omega arith;
+    stores = omega arith;
+    joins = omega arith;
+    few = omega arith;
+  };
   root = (omega arith, refl);
   means = λ r is pc. fail_means r;
 }

@@ -92,12 +92,14 @@ module _ (p : Program) (k : ℕ) (u : UnrolledProgram) (i : ℕ) where
     asserts : List Assert
     asserts = filter (λ a. a.at == q.point.at) p.notes.asserts
 
-    lines_by : (b : Bool) → list_any is_exit (edges p q.point) ≡ b → flat_map line_of q.exits ≡ map (λ a. a.says) (filter (λ a. a.at == q.point.at) p.notes.asserts) →
+    lines_by : (b : Bool) → list_any is_exit (edges p q.point) ≡ b →
+        flat_map line_of q.exits ≡ map (λ a. a.says) (filter (λ a. a.at == q.point.at) p.notes.asserts) →
         list_any goes_out q.exits ≡ list_any is_exit (edges p q.point) → lines_at u q ≡ evaluated p q.point
     lines_by b e f g =
         ap (λ z. z ++ (if list_any goes_out q.exits then map (λ l. l.says) u.ensures else [])) f
         ∙ ap (λ z. map (λ a. a.says) (filter (λ a. a.at == q.point.at) p.notes.asserts) ++ (if z then map (λ l. l.says) u.ensures else [])) g
-        ∙ ap (λ z. map (λ a. a.says) (filter (λ a. a.at == q.point.at) p.notes.asserts) ++ (if list_any is_exit (edges p q.point) then map (λ l. l.says) z else [])) same_ensures
+        ∙ ap (λ z. map (λ a. a.says) (filter (λ a. a.at == q.point.at) p.notes.asserts)
+        ++ (if list_any is_exit (edges p q.point) then map (λ l. l.says) z else [])) same_ensures
 
     counts : (o : Option Row) → file_row p q.point.at ≡ o → DoesPlace p k u i q o → Counts q
     counts None e d =
@@ -183,17 +185,28 @@ module _ (p : Program) (k : ℕ) (u : UnrolledProgram) (un : IsUnrolling p k u) 
   abbrev total : (rows ends lines loads stores known runs : ℕ) → ℕ
   total r e n l s kn ru = 1024 + r + 1280 * e + n + 128 * l + 128 * s + 64 * (l * s) + 16 * (l * e) + 32 * (l * (l - 1)) + 40 * (l * kn) + 128 * (s * ru)
 
-  unrolled_total : unrolled_price u ≡ total (sum_by (λ q. q.row) u.points) (edges_of u) (sum_by line_price (lines_of u)) (loads_of u) (stores_of u) (known_of u) (length u.kept)
+  unrolled_total : unrolled_price u ≡ total (sum_by (λ q. q.row) u.points) (edges_of u) (sum_by line_price (lines_of u)) (loads_of u) (stores_of u) (known_of u)
+      (length u.kept)
   unrolled_total = omega arith
 
   same_price : unrolled_price u ≡ price_of p (map (λ q. q.point) u.points) (known_of u) (length u.kept)
   same_price =
       unrolled_total
       ∙ ap (λ z. total z (edges_of u) (sum_by line_price (lines_of u)) (loads_of u) (stores_of u) (known_of u) (length u.kept)) row_sum
-      ∙ ap (λ z. total (sum_by (λ point. row_price (file_row p point.at)) (map (λ q. q.point) u.points)) z (sum_by line_price (lines_of u)) (loads_of u) (stores_of u) (known_of u) (length u.kept)) end_sum
-      ∙ ap (λ z. total (sum_by (λ point. row_price (file_row p point.at)) (map (λ q. q.point) u.points)) (sum_by (λ point. length (edges p point)) (map (λ q. q.point) u.points)) (sum_by line_price z) (sum_by (λ q. q.loads) u.points + sum_by bytes_loaded z) (stores_of u) (known_of u) (length u.kept)) line_list
-      ∙ ap (λ z. total (sum_by (λ point. row_price (file_row p point.at)) (map (λ q. q.point) u.points)) (sum_by (λ point. length (edges p point)) (map (λ q. q.point) u.points)) (sum_by line_price (map (λ l. l.says) p.notes.requires ++ flat_map (evaluated p) (map (λ q. q.point) u.points))) (z + sum_by bytes_loaded (map (λ l. l.says) p.notes.requires ++ flat_map (evaluated p) (map (λ q. q.point) u.points))) (stores_of u) (known_of u) (length u.kept)) load_sum
-      ∙ ap (λ z. total (sum_by (λ point. row_price (file_row p point.at)) (map (λ q. q.point) u.points)) (sum_by (λ point. length (edges p point)) (map (λ q. q.point) u.points)) (sum_by line_price (map (λ l. l.says) p.notes.requires ++ flat_map (evaluated p) (map (λ q. q.point) u.points))) (sum_by (λ point. loads_at p point.at (file_row p point.at)) (map (λ q. q.point) u.points) + sum_by bytes_loaded (map (λ l. l.says) p.notes.requires ++ flat_map (evaluated p) (map (λ q. q.point) u.points))) z (known_of u) (length u.kept)) store_sum
+      ∙ ap (λ z. total (sum_by (λ point. row_price (file_row p point.at)) (map (λ q. q.point) u.points)) z (sum_by line_price (lines_of u)) (loads_of u)
+      (stores_of u) (known_of u) (length u.kept)) end_sum
+      ∙ ap (λ z. total (sum_by (λ point. row_price (file_row p point.at)) (map (λ q. q.point) u.points)) (sum_by
+      (λ point. length (edges p point)) (map (λ q. q.point) u.points)) (sum_by line_price z) (sum_by
+      (λ q. q.loads) u.points + sum_by bytes_loaded z) (stores_of u) (known_of u) (length u.kept)) line_list
+      ∙ ap (λ z. total (sum_by (λ point. row_price (file_row p point.at)) (map (λ q. q.point) u.points)) (sum_by
+      (λ point. length (edges p point)) (map (λ q. q.point) u.points)) (sum_by line_price (map (λ l. l.says) p.notes.requires
+      ++ flat_map (evaluated p) (map (λ q. q.point) u.points))) (z + sum_by bytes_loaded (map (λ l. l.says) p.notes.requires
+      ++ flat_map (evaluated p) (map (λ q. q.point) u.points))) (stores_of u) (known_of u) (length u.kept)) load_sum
+      ∙ ap (λ z. total (sum_by (λ point. row_price (file_row p point.at)) (map (λ q. q.point) u.points)) (sum_by
+      (λ point. length (edges p point)) (map (λ q. q.point) u.points)) (sum_by line_price (map (λ l. l.says) p.notes.requires
+      ++ flat_map (evaluated p) (map (λ q. q.point) u.points))) (sum_by
+      (λ point. loads_at p point.at (file_row p point.at)) (map (λ q. q.point) u.points) + sum_by bytes_loaded (map (λ l. l.says) p.notes.requires
+      ++ flat_map (evaluated p) (map (λ q. q.point) u.points))) z (known_of u) (length u.kept)) store_sum
 
 pub price_is_price : PriceIsPrice
 price_is_price p k u un = (map (λ q. q.point) u.points, known_of u, length u.kept, un.points, un.known_bytes, un.kept_runs, same_price p k u un)

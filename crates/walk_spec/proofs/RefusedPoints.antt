@@ -48,7 +48,8 @@ picks_memory_refused u q h = let e = h.picks in absurd (omega arith)
 -- a store in a side of a choice, under a guard that no weight pays for
 abbrev stores_chosen : Statements
 stores_chosen =
-    Assign (reg 10) (Cast Unsigned 32 (Choose (Constant 1 1) (Load (Store (Var Mem) (Constant 32 0) Little 8 (Constant 8 1)) (Constant 32 0) Little 8) (Constant 8 2))) Empty
+    Assign (reg 10) (Cast Unsigned 32 (Choose (Constant 1 1) (Load (Store (Var Mem) (Constant 32 0) Little 8 (Constant 8 1)) (Constant 32 0) Little 8)
+    (Constant 8 2))) Empty
 
 pub stores_chosen_refused : (u : UnrolledProgram) (q : UnrolledPoint) → IsRunnable u q stores_chosen → ⊥
 stores_chosen_refused u q h = let e = h.steady in absurd (omega arith)

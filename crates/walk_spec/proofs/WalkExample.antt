@@ -202,7 +202,8 @@ count_run = (0 ∷ [], refl, λ i j h l. absurd (omega arith), λ a. (to a, from
       | inl t ↦ (let below : nat_lt (suc n - 1) 4 ≡ true = grind (arith, nat_tests) in
           let nonzero : (suc n == 0) ≡ false = grind (arith, nat_tests) in
           let a = and_both (is_kept_at p (suc n)) ((suc n == 0) || not (is_kept_at p (suc n - 1))) h in
-          let c : false ≡ true = ap (λ z. false || not z) (sym (is_kept_by (suc n - 1) true below)) ∙ ap (λ z. z || not (is_kept_at p (suc n - 1))) (sym nonzero) ∙ a.1 in cc)
+          let c : false ≡ true = ap (λ z. false || not z) (sym (is_kept_by (suc n - 1) true below)) ∙ ap (λ z. z ||
+          not (is_kept_at p (suc n - 1))) (sym nonzero) ∙ a.1 in cc)
     ]
 
     from : (a : ℕ) → (a < 2 ^ 32) × (begins_run p a ≡ true) → Contains (0 ∷ []) a

@@ -25,7 +25,8 @@ outs xs = sum_by (λ x. bit (goes_out x)) xs
 outs_in_asserts : (asserts : List Assert) → outs (map (λ a. FalseAssert a.line a.says) asserts) ≡ 0
 outs_in_asserts [] = refl
 outs_in_asserts (a ∷ asserts) =
-    let h = sum_by-cons (λ x. bit (goes_out x)) (FalseAssert a.line a.says) (map (λ b. FalseAssert b.line b.says) asserts) in let e = outs_in_asserts asserts in omega arith
+    let h = sum_by-cons (λ x. bit (goes_out x)) (FalseAssert a.line a.says) (map (λ b. FalseAssert b.line b.says) asserts) in let e = outs_in_asserts asserts
+    in omega arith
 
 at_most : (b : Bool) → bit b ≤ 1
 at_most true = omega arith
@@ -50,7 +51,8 @@ module _ (p : Program) (k : ℕ) (u : UnrolledProgram) (i : ℕ) where
         let rest = none_out ends xs z.1 (λ (j, l, e). n (suc j, omega arith, e)) in
         omega arith
 
-    one_out : (ends : List EdgeEnd) (xs : List PointExit) → AllZip (IsEdge p k u i point row) ends xs → ((t : EdgeEnd) (rest : List EdgeEnd) → ends ≡ t ∷ rest → Contains rest ToExit → ⊥) →
+    one_out : (ends : List EdgeEnd) (xs : List PointExit) → AllZip (IsEdge p k u i point row) ends xs →
+        ((t : EdgeEnd) (rest : List EdgeEnd) → ends ≡ t ∷ rest → Contains rest ToExit → ⊥) →
         outs xs ≤ 1
     one_out [] [] z first = omega arith
     one_out [] (x ∷ xs) z first = absurd z
@@ -81,13 +83,15 @@ module _ (p : Program) (k : ℕ) (u : UnrolledProgram) (i : ℕ) where
         let a = of_filter (λ a. a.at == q.point.at) p.notes.asserts s.0 s.1 in
         subst (ExitIsReadable u) s.2 (readable.asserts s.0 a.0)
 
-    edges_read : (point : Point) (row : Row) (ends : List EdgeEnd) (xs : List PointExit) → AllZip (IsEdge p k u i point row) ends xs → (x : PointExit) → Contains xs x → ExitIsReadable u x
+    edges_read : (point : Point) (row : Row) (ends : List EdgeEnd) (xs : List PointExit) → AllZip (IsEdge p k u i point row) ends xs → (x : PointExit) →
+        Contains xs x → ExitIsReadable u x
     edges_read point row ends [] z x (n, l, e) = absurd (omega arith)
     edges_read point row [] (y ∷ xs) z x h = absurd z
     edges_read point row (t ∷ ends) (y ∷ xs) z x (zero, l, e) = subst (ExitIsReadable u) (sym z.0.is ∙ e) tt
     edges_read point row (t ∷ ends) (y ∷ xs) z x (suc n, l, e) = edges_read point row ends xs z.1 x (n, omega arith, e)
 
-    tail_read : (xs : List PointExit) (x : PointExit) → ((y : PointExit) → Contains xs y → ExitIsReadable u y) → Contains (Raising ∷ WritingKept ∷ Unaligned ∷ xs) x → ExitIsReadable u x
+    tail_read : (xs : List PointExit) (x : PointExit) → ((y : PointExit) → Contains xs y → ExitIsReadable u y) →
+        Contains (Raising ∷ WritingKept ∷ Unaligned ∷ xs) x → ExitIsReadable u x
     tail_read xs x f (zero, l, e) = subst (ExitIsReadable u) e tt
     tail_read xs x f (suc zero, l, e) = subst (ExitIsReadable u) e tt
     tail_read xs x f (suc (suc zero), l, e) = subst (ExitIsReadable u) e tt
@@ -111,7 +115,12 @@ unrolling_is_walkable p k u un form fits laid readable entry at =
     let count : length u.registers ≡ length form.registers = ap (λ (z : List ℕ). length z) laid.registers ∙ count_of form.first (length form.registers) in
     let few = fits.few_registers in
     record {
-      sized = record { enough = subst (λ (z : ℕ). 15 ≤ z) (sym count) fits.enough_registers; registers = subst (λ (z : ℕ). z ≤ 31) (sym count) few; flags = subst (λ (z : ℕ). z ≤ 4) (sym laid.flags) fits.few_flags };
+      sized = record {
+        enough = subst (λ (z : ℕ). 15 ≤ z) (sym count) fits.enough_registers;
+        registers = subst
+            (λ (z : ℕ). z ≤ 31) (sym count) few;
+        flags = subst (λ (z : ℕ). z ≤ 4) (sym laid.flags) fits.few_flags;
+      };
       some = order.0;
       later = order.1;
       one_out = λ i l. place_outs p k u i (point_at u i) (file_row p (point_at u i).point.at) (un.places i l).does;

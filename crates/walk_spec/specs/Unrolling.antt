@@ -48,9 +48,9 @@ is_variable_of u (bil.Flag f) = is_flag_of u f
 is_variable_of u bil.Mem = true
 is_variable_of u (bil.Local x n) = false
 
--- A list that terms can be made of within the price of its point: well typed, without loops and specials, ifs at most two deep, no choice between memories and no
--- store in a side of a choice, over the program's variables, with an unknown only where the row draws, and no heavier than the price counts. Of the row's price 64 are left for the exits
--- of the point, so that a point without an edge can pay for them, and a point without a row, whose price is 64, has no list.
+-- A list that terms can be made of within the price of its point: well typed, without loops and specials, ifs at most two deep, no choice between memories and
+-- no store in a side of a choice, over the program's variables, with an unknown only where the row draws, and no heavier than the price counts. Of the row's
+-- price 64 are left for the exits of the point, so that a point without an edge can pay for them, and a point without a row, whose price is 64, has no list.
 pub record IsRunnable (u : UnrolledProgram) (q : UnrolledPoint) (list : Statements) : Type 0 where
   pub typed : IsWellTyped list
   pub no_loop : has_no_loop list ≡ true

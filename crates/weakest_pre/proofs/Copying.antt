@@ -18,15 +18,18 @@ use Rattle.weakest_pre.specs.Copies.{no_term, copy_at, is_marked, AreReached, Ar
 use Rattle.weakest_pre.proofs.Marks.{all_by_both, operands_before}
 
 -- the operands of a marked place have copies
-pub operands_copied : (source dag : List TermNode) (marks : List Bool) (root i : ℕ) (copies : List Term) → AreTyped source → AreReached source root marks → i < length marks →
+pub operands_copied : (source dag : List TermNode) (marks : List Bool) (root i : ℕ) (copies : List Term) → AreTyped source → AreReached source root marks →
+    i < length marks →
     i < length source → length copies ≡ i → AreCopies source dag marks copies → is_marked marks i ≡ true →
     AllByRecursion (λ a. HasWidth dag (width_of (node_at source a)) (copy_at copies a)) (operands (node_at source i))
 operands_copied source dag marks root i copies typed reached place within count are is =
-    all_by_both (λ a. a < i) (λ a. is_marked marks a ≡ true) (λ a. HasWidth dag (width_of (node_at source a)) (copy_at copies a)) (λ a l m. are.widths a (omega arith) m)
+    all_by_both (λ a. a < i) (λ a. is_marked marks a ≡ true) (λ a. HasWidth dag (width_of (node_at source a)) (copy_at copies a))
+    (λ a l m. are.widths a (omega arith) m)
     (operands (node_at source i)) (operands_before source i typed within) (reached.closed i (omega arith) place is)
 
 -- so a node over them is typed
-pub copy_typed : (source dag : List TermNode) (marks : List Bool) (root i : ℕ) (copies : List Term) (n : TermNode) → AreTyped source → AreReached source root marks →
+pub copy_typed : (source dag : List TermNode) (marks : List Bool) (root i : ℕ) (copies : List Term) (n : TermNode) → AreTyped source →
+    AreReached source root marks →
     i < length marks → i < length source → length copies ≡ i → AreCopies source dag marks copies → is_marked marks i ≡ true → n ≡ node_at source i →
     IsTypedOver dag (moved (copy_at copies) n)
 copy_typed source dag marks root i copies n typed reached place within count are is e =
@@ -45,7 +48,8 @@ copy_made source old new marks root i copies n m t typed reached place within co
     record {
       grew = grew_more old new (own_gates (moved f node)) (own_loads (moved f node)) (own_stores (moved f node)) (own_joins (moved f node)) 1
           (own_gates node) (own_loads node) (own_stores node) (own_joins node) 1
-          (omega (arith, moved_gates f node)) (omega (arith, moved_loads f node)) (omega (arith, moved_stores f node)) (omega (arith, moved_joins f node)) (omega arith)
+          (omega (arith, moved_gates f node)) (omega (arith, moved_loads f node)) (omega (arith, moved_stores f node)) (omega (arith, moved_joins f node))
+          (omega arith)
           (interned_grew old new (moved f node) t kept);
       only = λ z c.
           elim (kept.only z c) [
@@ -56,7 +60,8 @@ copy_made source old new marks root i copies n m t typed reached place within co
       width = λ h. interned_width old new (moved f node) t (width_of node) kept (moved_width f node);
       value = λ x h.
           copied x source old new f node t
-          (all_by_both (λ a. a < i) (λ a. is_marked marks a ≡ true) (λ a. term_value x old (f a) ≡ term_value x source a) (λ a l g. are.values x a (omega arith) g)
+          (all_by_both (λ a. a < i) (λ a. is_marked marks a ≡ true) (λ a. term_value x old (f a) ≡ term_value x source a)
+          (λ a l g. are.values x a (omega arith) g)
           (operands node) (operands_before source i typed within) (reached.closed i (omega arith) place is)) kept
           ∙ sym (unfolds x source i typed within);
     }
@@ -108,7 +113,8 @@ copying_more source old mid new marks copies more i t within h k e =
             elim (eqb_tells j i) [
               | inl same ↦ subst (HasWidth new (width_of (node_at source j))) (ap (copy_at (copies ++ t ∷ [])) (sym same.1)) (
                   subst (HasWidth new (width_of (node_at source j))) (sym (last_copy copies t i h.count))
-                  (subst (λ (z : ℕ). HasWidth new (width_of (node_at source z)) t.0) (sym same.1) (k.width (subst (λ (z : ℕ). is_marked marks z ≡ true) same.1 m))))
+                  (subst (λ (z : ℕ). HasWidth new (width_of (node_at source z)) t.0) (sym same.1) (k.width (subst
+                  (λ (z : ℕ). is_marked marks z ≡ true) same.1 m))))
               | inr other ↦ let differs = other.1 in let inside : j < length copies = omega (arith, l, long, count, differs) in
                   subst (HasWidth new (width_of (node_at source j))) (sym (at_old j inside))
                   (grew_width mid new _ _ _ _ _ (width_of (node_at source j)) (copy_at copies j) k.grew (h.copies.widths j inside m))
@@ -155,7 +161,8 @@ copying_done source old new marks copies root n t within all reached h e =
     let few : n ≤ length source = omega arith in
     let is : copy_at copies root ≡ t.0 = ap (λ (z : Term). z.0) (get_or_inside copies root no_term t inside ∙ sym e) in
     record {
-      grew = grew_more old new _ _ _ _ n _ _ _ _ (length source) (sum_by-take-le own_gates source n) (sum_by-take-le own_loads source n) (sum_by-take-le own_stores source n)
+      grew = grew_more old new _ _ _ _ n _ _ _ _ (length source) (sum_by-take-le own_gates source n) (sum_by-take-le own_loads source n)
+          (sum_by-take-le own_stores source n)
           (sum_by-take-le own_joins source n) few h.grew;
       only = λ m c.
           elim (h.only m c) [

@@ -80,7 +80,8 @@ true_none ns big now first typed width = record {
 }
 
 -- one more line
-pub true_more : (a b c d : List TermNode) (big : Bool) (now : Now) (first l r t : ℕ) (done : List Expr) (e : Expr) → AreStateTerms a now → AreTrue a b big now first done l →
+pub true_more : (a b c d : List TermNode) (big : Bool) (now : Now) (first l r t : ℕ) (done : List Expr) (e : Expr) → AreStateTerms a now →
+    AreTrue a b big now first done l →
     IsLine b c big e now now r → IsMade c d (BinaryNode bil.And 1 l r) t → AreTrue a d big now first (done ++ e ∷ []) t
 true_more a b c d big now first l r t done e h before line made =
     let last : IsStep c d 1 0 2 (λ w. w ≡ 1) (λ x. bit_and (term_word x c l) (term_word x c r)) t =
@@ -91,10 +92,13 @@ true_more a b c d big now first l r t done e h before line made =
     let enough = line_enough e in
     record {
       grew = grew_more a d (sum_by line_price done + (line_price e - 64) + 1) (sum_by bytes_loaded done + bytes_loaded e + 0) 0 0
-          (4 * line_steps done + (4 * line_size e + 8) + 2) (sum_by line_price (done ++ e ∷ [])) (sum_by bytes_loaded (done ++ e ∷ [])) 0 0 (4 * line_steps (done ++ e ∷ []))
+          (4 * line_steps done + (4 * line_size e + 8) + 2) (sum_by line_price (done ++ e ∷ [])) (sum_by bytes_loaded (done ++ e
+          ∷ [])) 0 0 (4 * line_steps (done ++ e ∷ []))
           (omega arith) (omega arith) (omega arith) (omega arith) (omega arith)
-          (grew_on a c d (sum_by line_price done + (line_price e - 64)) (sum_by bytes_loaded done + bytes_loaded e) 0 0 (4 * line_steps done + (4 * line_size e + 8)) 1 0 0 0 2
-          (grew_on a b c (sum_by line_price done) (sum_by bytes_loaded done) 0 0 (4 * line_steps done) (line_price e - 64) (bytes_loaded e) 0 0 (4 * line_size e + 8)
+          (grew_on a c d (sum_by line_price done + (line_price e - 64)) (sum_by bytes_loaded done + bytes_loaded e) 0 0
+          (4 * line_steps done + (4 * line_size e + 8)) 1 0 0 0 2
+          (grew_on a b c (sum_by line_price done) (sum_by bytes_loaded done) 0 0 (4 * line_steps done) (line_price e - 64) (bytes_loaded e) 0 0
+          (4 * line_size e + 8)
           before.grew line.grew) last.grew);
       inputs = inputs_on a c d _ (inputs_on a b c _ before.inputs line.inputs) last.inputs;
       typed = last.typed;
@@ -139,10 +143,15 @@ of_range : (r first count : ℕ) → first ≤ r → r < first + count → list_
 of_range r first zero h k = absurd (omega arith)
 of_range r first (suc count) h k =
     of_range_by r first count (nat_eq r first) refl
-    (λ e. elim (eqb_tells r first) [ inl s ↦ absurd (true≢false (sym s.0 ∙ e)) | inr o ↦ let d = o.1 in of_range r (first + 1) count (omega arith) (omega arith) ])
+    (λ e. elim (eqb_tells r first) [
+      | inl s ↦ absurd (true≢false (sym s.0 ∙ e))
+      | inr o ↦ let d = o.1
+          in of_range r (first + 1) count (omega arith) (omega arith)
+    ])
 
 -- a register or a flag of the form is the program's
-named_of : (u : UnrolledProgram) (low regs flags : ℕ) (m : TermNode) → u.registers ≡ from_to low regs → u.flags ≡ flags → IsInput m → IsOfForm low regs flags m →
+named_of : (u : UnrolledProgram) (low regs flags : ℕ) (m : TermNode) → u.registers ≡ from_to low regs → u.flags ≡ flags → IsInput m →
+    IsOfForm low regs flags m →
     IsNamedBelow u 0 m
 named_of u low regs flags (RegisterNode r) p q i h = subst (λ (l : List ℕ). list_any (nat_eq r) l ≡ true) (sym p) (of_range r low regs h.0 h.1)
 named_of u low regs flags (FlagNode f) p q i h = lt-ltb f u.flags (subst (λ (n : ℕ). f < n) (sym q) h)
@@ -163,7 +172,8 @@ named_of u low regs flags (JoinNode c a b) p q i h = absurd h
 -- the entry condition, from its parts
 pub entry_made : (u : UnrolledProgram) (a b c d e : List TermNode) (low regs flags : ℕ) (now : Now) (l s t : ℕ) (big : Bool) (lines : List Expr) →
     u.registers ≡ from_to low regs → u.flags ≡ flags → endian big ≡ u.endian → lines ≡ entry_lines u → low ≤ u.link → u.link < low + regs →
-    AreEntryNames a b low regs flags now.names.now → IsInterned b c (ConstantNode 32 u.entry) now.pc.0 → l ≡ slice_index (names_of now.names.now).registers (u.link - low) →
+    AreEntryNames a b low regs flags now.names.now → IsInterned b c (ConstantNode 32 u.entry) now.pc.0 →
+    l ≡ slice_index (names_of now.names.now).registers (u.link - low) →
     IsStep c d 2 0 5 (λ w. w ≡ 1) (λ x. bit (is_place (term_word x c l))) s → AreTrue d e big now s lines t → IsEntryBit u a e t
 entry_made u a b c d e low regs flags now l s t big lines pr pf pe pl above below names pc at aligned all =
     let n = now.names.now in
@@ -176,10 +186,12 @@ entry_made u a b c d e low regs flags now l s t big lines pr pf pe pl above belo
     let loads : sum_by bytes_loaded lines ≡ sum_by bytes_loaded (entry_lines u) = ap (sum_by bytes_loaded) pl in
     let steps : line_steps lines ≡ line_steps (entry_lines u) = ap line_steps pl in
     record {
-      grew = grew_more a e (0 + (0 + 2) + sum_by line_price lines) (0 + (0 + 0) + sum_by bytes_loaded lines) 0 0 ((regs + flags + 1) + (1 + 5) + 4 * line_steps lines)
+      grew = grew_more a e (0 + (0 + 2) + sum_by line_price lines) (0 + (0 + 0) + sum_by bytes_loaded lines) 0 0
+          ((regs + flags + 1) + (1 + 5) + 4 * line_steps lines)
           (2 + sum_by line_price (entry_lines u)) (sum_by bytes_loaded (entry_lines u)) 0 0 (2 * variables_of u + 8 + 4 * line_steps (entry_lines u))
           (omega arith) (omega arith) (omega arith) (omega arith) (omega arith)
-          (grew_on a d e (0 + (0 + 2)) (0 + (0 + 0)) 0 0 ((regs + flags + 1) + (1 + 5)) (sum_by line_price lines) (sum_by bytes_loaded lines) 0 0 (4 * line_steps lines)
+          (grew_on a d e (0 + (0 + 2)) (0 + (0 + 0)) 0 0 ((regs + flags + 1) + (1 + 5)) (sum_by line_price lines) (sum_by bytes_loaded lines) 0 0
+          (4 * line_steps lines)
           (grew_on a b d 0 0 0 0 ((regs + flags + 1)) (0 + 2) (0 + 0) 0 0 (1 + 5) names.grew grew_c) all.grew);
       inputs = inputs_on a d e (IsNamedBelow u 0)
           (inputs_on a b d (IsNamedBelow u 0)
@@ -194,7 +206,8 @@ entry_made u a b c d e low regs flags now l s t big lines pr pf pe pl above belo
             pc = ap (λ v. v.word) (aligned.grew.keeps x now.pc.0 pc_step.within) ∙ pc_step.value x ok;
           } in
           let count = names.registers in
-          let k : u.link - low < length (from_to n.first (length n.registers.items)) = omega (arith, range_length n.first (length n.registers.items), names.registers) in
+          let k : u.link - low < length (from_to n.first (length n.registers.items)) = omega
+          (arith, range_length n.first (length n.registers.items), names.registers) in
           let here : slice_index (from_to n.first (length n.registers.items)) (u.link - low) ≡ u.link =
           range_at n.first (length n.registers.items) (u.link - low) (omega (arith, names.registers)) ∙ omega (arith, names.first) in
           let link : term_word x c l ≡ x.regs u.link =
@@ -219,7 +232,8 @@ names_ready a b c d low regs flags v p s f n names pc aligned =
     )
 
 -- the link value is a word
-pub link_word : (a b c : List TermNode) (low regs flags v p link : ℕ) (n : Names) (t : Term) → AreEntryNames a b low regs flags n → IsInterned b c (ConstantNode 32 v) p →
+pub link_word : (a b c : List TermNode) (low regs flags v p link : ℕ) (n : Names) (t : Term) → AreEntryNames a b low regs flags n →
+    IsInterned b c (ConstantNode 32 v) p →
     low ≤ link → link < low + regs → t ≡ get_or n.registers.items (link - low) t → HasWidth c 32 t.0
 link_word a b c low regs flags v p link n t names pc above below e =
     let count = names.registers in
@@ -237,14 +251,17 @@ contains_map : {X Y : Type 0} (f : X → Y) (xs : List X) (x : X) → Contains x
 contains_map f xs x c = (c.0, omega (arith, c.1, length-map xs f), get_or-map f xs c.0 x (f x) c.1 ∙ ap f c.2)
 
 -- the required lines can be read by the names
-pub lines_read : (u : UnrolledProgram) (n : Names) (lines items : List NoteLine) → lines ≡ items → u.requires ≡ map note_line_of items → u.registers ≡ (form_of n).registers →
+pub lines_read : (u : UnrolledProgram) (n : Names) (lines items : List NoteLine) → lines ≡ items → u.requires ≡ map note_line_of items →
+    u.registers ≡ (form_of n).registers →
     u.flags ≡ (form_of n).flags → ((l : notes.NoteLine) → Contains u.requires l → IsReadable u l.says) → (l : NoteLine) → Contains lines l →
     IsReadable (form_of n) (expr_of l.says)
 lines_read u n lines items e r p q h l c =
     reads_by u (form_of n) (expr_of l.says) p q
-    (h (note_line_of l) (subst (λ (z : List notes.NoteLine). Contains z (note_line_of l)) (sym r) (contains_map note_line_of items l (subst (λ (z : List NoteLine). Contains z l) e c))))
+    (h (note_line_of l) (subst (λ (z : List notes.NoteLine). Contains z (note_line_of l)) (sym r) (contains_map note_line_of items l (subst
+    (λ (z : List NoteLine). Contains z l) e c))))
 
 -- the lines up to the next, in their order
-pub said_next : (lines : List NoteLine) (i : ℕ) (l : NoteLine) → i < length lines → l ≡ get_or lines i l → said (take (i + 1) lines) ≡ said (take i lines) ++ expr_of l.says ∷ []
+pub said_next : (lines : List NoteLine) (i : ℕ) (l : NoteLine) → i < length lines → l ≡ get_or lines i l →
+    said (take (i + 1) lines) ≡ said (take i lines) ++ expr_of l.says ∷ []
 said_next lines i l within e =
     ap said (take_more lines i l within) ∙ ap (λ (z : NoteLine). said (take i lines ++ z ∷ [])) (sym e) ∙ said_more (take i lines) l

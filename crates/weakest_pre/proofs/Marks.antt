@@ -15,7 +15,8 @@ all_by P Q f [] h = tt
 all_by P Q f (x ∷ xs) h = (f x h.0, all_by P Q f xs h.1)
 
 -- by two things that do
-pub all_by_both : {X : Type 0} (P Q R : X → Type 0) → ((x : X) → P x → Q x → R x) → (xs : List X) → AllByRecursion P xs → AllByRecursion Q xs → AllByRecursion R xs
+pub all_by_both : {X : Type 0} (P Q R : X → Type 0) → ((x : X) → P x → Q x → R x) → (xs : List X) → AllByRecursion P xs → AllByRecursion Q xs →
+    AllByRecursion R xs
 all_by_both P Q R f [] h k = tt
 all_by_both P Q R f (x ∷ xs) h k = (f x h.0 k.0, all_by_both P Q R f xs h.1 k.1)
 
@@ -47,7 +48,8 @@ operands_within ns (JoinNode c a b) h = (h.0.0, (h.1.0, (h.2.0, tt)))
 pub operands_before : (ns : List TermNode) (k : ℕ) → AreTyped ns → k < length ns → AllByRecursion (λ a. a < k) (operands (node_at ns k))
 operands_before ns k typed within =
     let long : length (take k ns) ≡ k = length-take-le k ns (omega arith) in
-    subst (λ (m : ℕ). AllByRecursion (λ a. a < m) (operands (node_at ns k))) long (operands_within (take k ns) (node_at ns k) (typed_before ns k (node_at ns k) typed within refl))
+    subst (λ (m : ℕ). AllByRecursion (λ a. a < m) (operands (node_at ns k))) long
+    (operands_within (take k ns) (node_at ns k) (typed_before ns k (node_at ns k) typed within refl))
 
 -- a mark more keeps the others
 set_keeps : (ms : List Bool) (i j : ℕ) → is_marked ms j ≡ true → is_marked (set ms i true) j ≡ true
@@ -95,7 +97,8 @@ marked_only ms (x ∷ xs) j h =
     ]
 
 -- what is over a marked place is marked
-visited_by : (nodes : List TermNode) (root k : ℕ) (marks : List Bool) (b : Bool) → AreTyped nodes → k < length nodes → k < length marks → is_marked marks k ≡ b →
+visited_by : (nodes : List TermNode) (root k : ℕ) (marks : List Bool) (b : Bool) → AreTyped nodes → k < length nodes → k < length marks →
+    is_marked marks k ≡ b →
     AreMarkedFrom nodes root (k + 1) marks → AreMarkedFrom nodes root k (if b then marked marks (operands (node_at nodes k)) else marks)
 visited_by nodes root k marks true typed within place is h =
     let ops = operands (node_at nodes k) in
@@ -112,7 +115,8 @@ visited_by nodes root k marks true typed within place is h =
                   (marked_all marks ops (all_by (λ a. a < k) (λ a. a < length marks) (λ a l. omega arith) ops before))
               | inr other ↦ let differs = other.1 in
                   let count = marked_count marks ops in
-                  all_by (λ a. is_marked marks a ≡ true) (λ a. is_marked (marked marks ops) a ≡ true) (λ a e. marked_keeps marks ops a e) (operands (node_at nodes i))
+                  all_by (λ a. is_marked marks a ≡ true) (λ a. is_marked (marked marks ops) a ≡ true)
+                  (λ a e. marked_keeps marks ops a e) (operands (node_at nodes i))
                   (h.closed i (omega arith) (omega arith) e)
             ]
             | inr c ↦ let below : i < k = all_at (λ a. a < k) ops i c.0 before c.1 c.2 in absurd (omega arith)

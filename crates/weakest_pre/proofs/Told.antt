@@ -29,7 +29,8 @@ use Rattle.weakest_pre.specs.Roots.{IsTied}
 use Rattle.weakest_pre.proofs.Copying.{copied_inputs}
 
 -- a bit tied to the copy of another
-pub tied_made : (source a b c : List TermNode) (p s q t : ℕ) → p < length a → HasWidth source 1 s → IsCopyOf source a b s q → IsMade b c (BinaryNode bil.And 1 p q) t →
+pub tied_made : (source a b c : List TermNode) (p s q t : ℕ) → p < length a → HasWidth source 1 s → IsCopyOf source a b s q →
+    IsMade b c (BinaryNode bil.And 1 p q) t →
     IsTied source a c p s t
 tied_made source a b c p s q t h bit_s copy made =
     let last : IsStep b c 1 0 2 (λ w. w ≡ 1) (λ x. bit_and (term_word x b p) (term_word x b q)) t =
@@ -39,7 +40,8 @@ tied_made source a b c p s q t h bit_s copy made =
           (term_gates source + 1) (term_loads source) (term_stores source) (term_joins source) (length source + 2)
           (omega arith) (omega arith) (omega arith) (omega arith) (omega arith)
           (grew_on a b c (term_gates source) (term_loads source) (term_stores source) (term_joins source) (length source) 1 0 0 0 2 copy.grew last.grew);
-      inputs = inputs_on a b c (Contains source) (copied_inputs source a b s q copy) (inputs_more b c (λ m. ⊥) (Contains source) (λ m i e. absurd e) last.inputs);
+      inputs = inputs_on a b c (Contains source) (copied_inputs source a b s q copy) (inputs_more b c (λ m. ⊥) (Contains source)
+          (λ m i e. absurd e) last.inputs);
       typed = last.typed;
       width = (last.within, last.fits);
       value = λ x r.
@@ -53,7 +55,8 @@ no_line_by true all found n h k = k h
 no_line_by false all found n h k = cc
 
 -- there is none where all are true
-no_line : (e : Endian) (lines : List NoteLine) (s : State) → list_all (λ l. is_true (value e l s s)) (map (λ l. l.says) lines) ≡ true → false_line e lines s s ≡ None
+no_line : (e : Endian) (lines : List NoteLine) (s : State) → list_all (λ l. is_true (value e l s s)) (map (λ l. l.says) lines) ≡ true →
+    false_line e lines s s ≡ None
 no_line e [] s h = refl
 no_line e (l ∷ lines) s h = no_line_by (is_true (value e l.says s s)) _ _ l.line h (no_line e lines s)
 
@@ -62,7 +65,8 @@ all_lines_by true all found n h k = k h
 all_lines_by false all found n h k = cc
 
 -- and all are where there is none
-all_lines : (e : Endian) (lines : List NoteLine) (s : State) → false_line e lines s s ≡ None → list_all (λ l. is_true (value e l s s)) (map (λ l. l.says) lines) ≡ true
+all_lines : (e : Endian) (lines : List NoteLine) (s : State) → false_line e lines s s ≡ None →
+    list_all (λ l. is_true (value e l s s)) (map (λ l. l.says) lines) ≡ true
 all_lines e [] s h = refl
 all_lines e (l ∷ lines) s h = all_lines_by (is_true (value e l.says s s)) _ (false_line e lines s s) l.line h (all_lines e lines s)
 
@@ -100,7 +104,8 @@ bit_one true h = refl
 bit_one false h = absurd (omega arith)
 
 -- a question by the tests of the entry condition and of what is held in the end
-question_by : (u : UnrolledProgram) (r : Reading) (question : Question) (word : ℕ) → IsWalkable u → word ≡ bit (meets u r.state && ends_held question (swept u r)) →
+question_by : (u : UnrolledProgram) (r : Reading) (question : Question) (word : ℕ) → IsWalkable u →
+    word ≡ bit (meets u r.state && ends_held question (swept u r)) →
     (word ≡ 1) ↔ IsTrueButBytes u r question
 question_by u r question word walkable is =
     let law = held_answers u walkable.some walkable.later r question in
@@ -141,7 +146,8 @@ and_true true = refl
 and_true false = refl
 
 -- the question whether there is an entry state
-pub entry_told : (u : UnrolledProgram) (new : List TermNode) (t : ℕ) → IsWalkable u → IsEntryBit u [] new t → TellsQuestion u EntryQuestion (record { nodes = new; root = t })
+pub entry_told : (u : UnrolledProgram) (new : List TermNode) (t : ℕ) → IsWalkable u → IsEntryBit u [] new t →
+    TellsQuestion u EntryQuestion (record { nodes = new; root = t })
 entry_told u new t walkable h =
     let parts = parts_add_up u in
     let grew = h.grew in
@@ -160,7 +166,8 @@ entry_told u new t walkable h =
     }
 
 -- the questions about the run
-pub end_told : (u : UnrolledProgram) (q : Passive) (mid new : List TermNode) (question : Question) (entry end t : ℕ) → IsWalkable u → IsPassive u q → IsEntryBit u [] mid entry →
+pub end_told : (u : UnrolledProgram) (q : Passive) (mid new : List TermNode) (question : Question) (entry end t : ℕ) → IsWalkable u → IsPassive u q →
+    IsEntryBit u [] mid entry →
     UnderAll u (λ r. Tells q.nodes (term_reading u r) end (ends_held question (swept u r))) → IsTied q.nodes mid new entry end t →
     TellsQuestion u question (record { nodes = new; root = t })
 end_told u q mid new question entry end t walkable passive h tells tied =

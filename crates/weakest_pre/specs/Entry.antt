@@ -41,7 +41,8 @@ meets u s = is_place (s.regs u.link) && all_true u.endian (entry_lines u) s
 
 -- A bit says whether the entry condition is met, but for the bytes of the file. It costs two gates and the required lines' prices.
 pub record IsEntryBit (u : UnrolledProgram) (old new : List TermNode) (t : ℕ) : Type 0 where
-  pub grew : Grew old new (2 + sum_by line_price (entry_lines u)) (sum_by bytes_loaded (entry_lines u)) 0 0 (2 * variables_of u + 8 + 4 * line_steps (entry_lines u))
+  pub grew : Grew old new (2 + sum_by line_price (entry_lines u)) (sum_by bytes_loaded (entry_lines u)) 0 0
+      (2 * variables_of u + 8 + 4 * line_steps (entry_lines u))
   pub inputs : InputsFrom old new (IsNamedBelow u 0)
   pub typed : AreTyped new
   pub width : HasWidth new 1 t

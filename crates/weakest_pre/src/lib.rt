@@ -65,8 +65,8 @@ fn root(
     }
 }
 
-/// A question of a passive program as a term of one bit: whether the entry condition is met, but for the bytes of the file, and the run of the points ends as the
-/// question asks. Of the program's terms those are copied, as they are, that the question reaches. The error is want of memory.
+/// A question of a passive program as a term of one bit: whether the entry condition is met, but for the bytes of the file, and the run of the points ends as
+/// the question asks. Of the program's terms those are copied, as they are, that the question reaches. The error is want of memory.
 pub fn question<'a>(
     alloc: Global,
     passive: &'a Passive<'a>,

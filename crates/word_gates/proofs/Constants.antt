@@ -39,7 +39,8 @@ input_suc v f (suc i) =
 pub input_more : (v : ℕ → Bool) (f i : ℕ) → input_number v f (i + 1) ≡ input_number v f i + 2 ^ i * bit (v (suc (f + i)))
 input_more v f i = let e : i + 1 ≡ suc i = omega arith in rw e (input_suc v f i)
 
-pub not_whole : (v : ℕ → Bool) (bs a : List Bit) (i : ℕ) → i ≡ length a → number v bs + number v (take i a) + 1 ≡ 2 ^ i → number v bs ≡ complement (length a) (number v a)
+pub not_whole : (v : ℕ → Bool) (bs a : List Bit) (i : ℕ) → i ≡ length a → number v bs + number v (take i a) + 1 ≡ 2 ^ i →
+    number v bs ≡ complement (length a) (number v a)
 not_whole v bs a i e h =
     let t : take i a ≡ a = take_all i a (omega arith) in
     let g = rw (t, e) at h in

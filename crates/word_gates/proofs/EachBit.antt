@@ -84,10 +84,12 @@ whole f z v bs a b i m ha hb h =
     omega arith
 
 -- before the first bit
-none : (f : ℕ → ℕ → ℕ) (v : ℕ → Bool) (bs a b : List Bit) → bs ≡ [] → number v bs + 2 ^ 0 * f (number v (drop 0 a)) (number v (drop 0 b)) ≡ f (number v a) (number v b)
+none : (f : ℕ → ℕ → ℕ) (v : ℕ → Bool) (bs a b : List Bit) → bs ≡ [] →
+    number v bs + 2 ^ 0 * f (number v (drop 0 a)) (number v (drop 0 b)) ≡ f (number v a) (number v b)
 none f v bs a b e = let z : number v bs ≡ 0 = ap (number v) e in rw z (omega arith)
 
-pub and_none : (v : ℕ → Bool) (bs a b : List Bit) → bs ≡ [] → number v bs + 2 ^ 0 * bit_and (number v (drop 0 a)) (number v (drop 0 b)) ≡ bit_and (number v a) (number v b)
+pub and_none : (v : ℕ → Bool) (bs a b : List Bit) → bs ≡ [] →
+    number v bs + 2 ^ 0 * bit_and (number v (drop 0 a)) (number v (drop 0 b)) ≡ bit_and (number v a) (number v b)
 and_none = none bit_and
 
 pub and_step : (v : ℕ → Bool) (bs : List Bit) (z : Bit) (m : ℕ) (a b : List Bit) (i : ℕ) → length bs ≡ i → i < length a → i < length b →
@@ -100,7 +102,8 @@ pub and_whole : (v : ℕ → Bool) (bs a b : List Bit) (i m : ℕ) → length a 
     number v bs + 2 ^ i * bit_and (number v (drop i a)) (number v (drop i b)) ≡ m → number v bs ≡ m
 and_whole = whole bit_and refl
 
-pub or_none : (v : ℕ → Bool) (bs a b : List Bit) → bs ≡ [] → number v bs + 2 ^ 0 * bit_or (number v (drop 0 a)) (number v (drop 0 b)) ≡ bit_or (number v a) (number v b)
+pub or_none : (v : ℕ → Bool) (bs a b : List Bit) → bs ≡ [] → number v bs + 2 ^ 0 * bit_or (number v (drop 0 a)) (number v (drop 0 b))
+    ≡ bit_or (number v a) (number v b)
 or_none = none bit_or
 
 pub or_step : (v : ℕ → Bool) (bs : List Bit) (z : Bit) (m : ℕ) (a b : List Bit) (i : ℕ) → length bs ≡ i → i < length a → i < length b →
@@ -113,7 +116,8 @@ pub or_whole : (v : ℕ → Bool) (bs a b : List Bit) (i m : ℕ) → length a �
     number v bs + 2 ^ i * bit_or (number v (drop i a)) (number v (drop i b)) ≡ m → number v bs ≡ m
 or_whole = whole bit_or refl
 
-pub xor_none : (v : ℕ → Bool) (bs a b : List Bit) → bs ≡ [] → number v bs + 2 ^ 0 * bit_xor (number v (drop 0 a)) (number v (drop 0 b)) ≡ bit_xor (number v a) (number v b)
+pub xor_none : (v : ℕ → Bool) (bs a b : List Bit) → bs ≡ [] →
+    number v bs + 2 ^ 0 * bit_xor (number v (drop 0 a)) (number v (drop 0 b)) ≡ bit_xor (number v a) (number v b)
 xor_none = none bit_xor
 
 pub xor_step : (v : ℕ → Bool) (bs : List Bit) (z : Bit) (m : ℕ) (a b : List Bit) (i : ℕ) → length bs ≡ i → i < length a → i < length b →

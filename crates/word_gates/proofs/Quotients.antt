@@ -21,7 +21,8 @@ taken : (p h q r d m x t s b i : ℕ) → s + 2 * p * 1 ≡ t + m + 1 → m + d 
 taken p h q r d m x t s b i e f g u y w l k =
     let a : s + d ≡ t = omega arith in
     let z : q * 0 ≡ 0 = omega arith in
-    let sl : s < p = ⊎_elim (λ o. let n : r < d = k.less o in omega arith) (λ o. let n : d ≡ 0 = omega arith in let hr : h ≡ q * 0 + r = k.whole ∙ ap (λ j. q * j + r) n in omega arith) (cases_lt 0 d) in
+    let sl : s < p = ⊎_elim (λ o. let n : r < d = k.less o in omega arith)
+    (λ o. let n : d ≡ 0 = omega arith in let hr : h ≡ q * 0 + r = k.whole ∙ ap (λ j. q * j + r) n in omega arith) (cases_lt 0 d) in
     let bs : b ≡ s = w ∙ mod-eq_of_lt sl in
     record {
       whole = let j = k.whole in omega arith;
@@ -42,7 +43,8 @@ kept p h q r d m x t s b i e f g u l w k =
       by_zero = λ o. absurd (omega arith);
     }
 
-pub division_step : (n h q r d m t b i : ℕ) (x c : Bool) → IsReduced t m n c b → m + d + 1 ≡ 2 * 2 ^ n → d < 2 ^ n → t ≡ bit x + 2 * r → bit x ≤ 1 → bit x + 2 * h < 2 ^ n →
+pub division_step : (n h q r d m t b i : ℕ) (x c : Bool) → IsReduced t m n c b → m + d + 1 ≡ 2 * 2 ^ n → d < 2 ^ n → t ≡ bit x + 2 * r → bit x ≤ 1 →
+    bit x + 2 * h < 2 ^ n →
     IsQuotient h d i q r → IsQuotient (bit x + 2 * h) d (i + 1) (bit c + 2 * q) b
 division_step n h q r d m t b i x true k e f g y l o = taken (2 ^ n) h q r d m (bit x) t k.0 b i k.1 e f g y k.3 l o
 division_step n h q r d m t b i x false k e f g y l o = kept (2 ^ n) h q r d m (bit x) t k.0 b i k.1 e f g k.2 k.3 o
@@ -123,7 +125,8 @@ sdiv_from n a b q m r hb hq k e = elim (cases_Bool (b == 0)) [
       rw (z, d, mod-eq_of_lt hq) g
 ]
 
-pub srem_from : (n a b q m r : ℕ) → a < 2 ^ n → b < 2 ^ n → IsQuotient (magnitude n a) (magnitude n b) n q m → r ≡ with_sign n (is_negative n a) m → r ≡ srem n a b
+pub srem_from : (n a b q m r : ℕ) → a < 2 ^ n → b < 2 ^ n → IsQuotient (magnitude n a) (magnitude n b) n q m → r ≡ with_sign n (is_negative n a) m →
+    r ≡ srem n a b
 srem_from n a b q m r ha hb k e = elim (cases_Bool (b == 0)) [
   | inl z ↦
       let y : magnitude n b ≡ 0 = magnitude_none n b (eqb-true b 0 z) in
@@ -135,7 +138,8 @@ srem_from n a b q m r ha hb k e = elim (cases_Bool (b == 0)) [
 ]
 
 -- a complement with one more place
-pub turned_number : (v : ℕ → Bool) (ts : List Bit) (one : Bit) (d n : ℕ) → bit_value v one ≡ true → length ts ≡ n → number v ts + d + 1 ≡ 2 ^ n → number v (ts ++ one ∷ []) + d + 1 ≡ 2 * 2 ^ n
+pub turned_number : (v : ℕ → Bool) (ts : List Bit) (one : Bit) (d n : ℕ) → bit_value v one ≡ true → length ts ≡ n → number v ts + d + 1 ≡ 2 ^ n →
+    number v (ts ++ one ∷ []) + d + 1 ≡ 2 * 2 ^ n
 turned_number v ts one d n h l e =
     let b : digit v one ≡ 1 = ap bit h in
     rw (number_push_at v ts one n l, b) (omega arith)

@@ -84,7 +84,8 @@ left_enough x n k m e =
     (λ l. let f : m ≡ n = omega arith in rw f (left_far x n k l))
     (cases_lt k n)
 
-pub left_value : (v : ℕ → Bool) (ls : List Bit) (k m : ℕ) (z : Bit) → bit_value v z ≡ false → m ≡ min k (length ls) → number v (replicate m z ++ take (length ls - m) ls) ≡ (number v ls * 2 ^ k) % 2 ^ length ls
+pub left_value : (v : ℕ → Bool) (ls : List Bit) (k m : ℕ) (z : Bit) → bit_value v z ≡ false → m ≡ min k (length ls) →
+    number v (replicate m z ++ take (length ls - m) ls) ≡ (number v ls * 2 ^ k) % 2 ^ length ls
 left_value v ls k m z h e =
     let r : length (replicate m z) ≡ m = length-replicate m z in
     let t : number v (take (length ls - m) ls) ≡ number v ls % 2 ^ (length ls - m) = number_take v ls (length ls - m) (omega arith) in
@@ -118,7 +119,8 @@ left_far_no a h j l n w e g =
     let f : h * 2 ^ j + l ≡ l = rw z (omega arith) in
     rw f g
 
-left_far_cases : (a n h j l w : ℕ) (b : Bool) → (0 < h → n ≤ 2 ^ j) → w ≡ (a * 2 ^ l) % 2 ^ n → nat_lt 0 h ≡ b → cond (not b) w 0 ≡ (a * 2 ^ (h * 2 ^ j + l)) % 2 ^ n
+left_far_cases : (a n h j l w : ℕ) (b : Bool) → (0 < h → n ≤ 2 ^ j) → w ≡ (a * 2 ^ l) % 2 ^ n → nat_lt 0 h ≡ b →
+    cond (not b) w 0 ≡ (a * 2 ^ (h * 2 ^ j + l)) % 2 ^ n
 left_far_cases a n h j l w true f g t = left_far_yes a n h j l f (ltb-true 0 h t)
 left_far_cases a n h j l w false f g t = left_far_no a h j l (2 ^ n) w (ltb-false 0 h t) g
 
@@ -126,14 +128,19 @@ pub shift_left_far : (a n h j l w : ℕ) → (0 < h → n ≤ 2 ^ j) → w ≡ (
 shift_left_far a n h j l w f g = left_far_cases a n h j l w (nat_lt 0 h) f g refl
 
 pub left_within : {n : ℕ} {ls : List Bit} (m k : ℕ) (z : Bit) → Within n ls → variable_of z < n → Within n (replicate m z ++ take k ls)
-left_within {n} {ls} m k z w h = record { each = All-append (λ (l : Bit). variable_of l < n) (replicate m z) (take k ls) (All-replicate (λ (l : Bit). variable_of l < n) m z h) (All-take (λ (l : Bit). variable_of l < n) k ls w.each) }
+left_within {n} {ls} m k z w h = record {
+  each = All-append (λ (l : Bit). variable_of l
+      < n) (replicate m z) (take k ls) (All-replicate (λ (l : Bit). variable_of l < n) m z h) (All-take (λ (l : Bit). variable_of l < n) k ls w.each);
+}
 
 pub left_none : (v : ℕ → Bool) (ls : List Bit) → number v ls ≡ (number v ls * 1) % 2 ^ length ls
 left_none v ls = let e : number v ls * 1 ≡ number v ls = omega arith in rw e (sym (mod-eq_of_lt (number_below v ls)))
 
-pub moved_value : (v : ℕ → Bool) (ls : List Bit) (k m : ℕ) (z : Bit) → bit_value v z ≡ false → m ≡ min k (length ls) → number v (drop m ls ++ replicate m z) ≡ number v ls / 2 ^ k
+pub moved_value : (v : ℕ → Bool) (ls : List Bit) (k m : ℕ) (z : Bit) → bit_value v z ≡ false → m ≡ min k (length ls) →
+    number v (drop m ls ++ replicate m z) ≡ number v ls / 2 ^ k
 moved_value v ls k m z h e =
-    let a : number v (drop m ls ++ replicate m z) ≡ number v (drop m ls) + 2 ^ length (drop m ls) * number v (replicate m z) = number_append v (drop m ls) (replicate m z) in
+    let a : number v (drop m ls ++ replicate m z) ≡ number v (drop m ls) + 2 ^ length (drop m ls) * number v (replicate m z) = number_append v (drop m ls)
+    (replicate m z) in
     let b : number v (drop m ls ++ replicate m z) ≡ number v (drop m ls) = rw (number_zeros v z m h) at a ∙ omega arith in
     let c : number v (drop m ls) ≡ number v ls / 2 ^ m = number_drop v ls m (omega arith) in
     b ∙ (c ∙ near_enough (number v ls) (length ls) k m (number_below v ls) e)
@@ -146,7 +153,8 @@ turned_zeros v ls k m z h e = moved_value v ls k m z h e
 
 ones_left : (n m w d r t p : ℕ) → w ≡ d * p + r → r < p → t * p ≡ n → d < t → (n - 1 - w) ≡ (t - 1 - d) * p + (p - 1 - r)
 ones_left n m w d r t p e h f l =
-    let a : (t - 1 - d) * p + d * p + p ≡ t * p = (let g : (t - 1 - d) + d + 1 ≡ t = omega arith in let i : ((t - 1 - d) + d + 1) * p ≡ t * p = ap (λ y. y * p) g in omega (arith, i)) in
+    let a : (t - 1 - d) * p + d * p + p ≡ t * p = (let g : (t - 1 - d) + d + 1 ≡ t = omega arith in let i : ((t - 1 - d) + d + 1) * p
+    ≡ t * p = ap (λ y. y * p) g in omega (arith, i)) in
     omega arith
 
 turned_ones : (v : ℕ → Bool) (ls : List Bit) (n k m : ℕ) (z : Bit) → bit_value v z ≡ true → length ls ≡ n → m ≡ min k n →
@@ -162,9 +170,11 @@ turned_ones v ls n k m z h l e =
     let db : d < 2 ^ (n - m) = let f = number_below v (drop m ls) in rw dl at f in
     let f : n ≡ (n - m) + m = omega arith in
     let p : 2 ^ (n - m) * 2 ^ m ≡ 2 ^ n = sym (ap (λ t. 2 ^ t) f ∙ pow-add 2 (n - m) m) in
-    let a : number v (drop m ls ++ replicate m z) ≡ d + 2 ^ (n - m) * number v (replicate m z) = number_append v (drop m ls) (replicate m z) ∙ ap (λ t. d + 2 ^ t * number v (replicate m z)) dl in
+    let a : number v (drop m ls ++ replicate m z) ≡ d + 2 ^ (n - m) * number v (replicate m z) = number_append v (drop m ls) (replicate m z) ∙ ap
+    (λ t. d + 2 ^ t * number v (replicate m z)) dl in
     let o : number v (replicate m z) + 1 ≡ 2 ^ m = number_ones v z m h in
-    let b : 2 ^ (n - m) * number v (replicate m z) + 2 ^ (n - m) ≡ 2 ^ n = (let g : 2 ^ (n - m) * (number v (replicate m z) + 1) ≡ 2 ^ (n - m) * 2 ^ m = ap (λ t. 2 ^ (n - m) * t) o in omega (arith, g, p)) in
+    let b : 2 ^ (n - m) * number v (replicate m z) + 2 ^ (n - m)
+    ≡ 2 ^ n = (let g : 2 ^ (n - m) * (number v (replicate m z) + 1) ≡ 2 ^ (n - m) * 2 ^ m = ap (λ t. 2 ^ (n - m) * t) o in omega (arith, g, p)) in
     let c : turned n true (number v (drop m ls ++ replicate m z)) ≡ 2 ^ (n - m) - 1 - d = rw a (omega arith) in
     let g : 2 ^ n - 1 - w ≡ (2 ^ (n - m) - 1 - d) * 2 ^ m + (2 ^ m - 1 - r) = ones_left (2 ^ n) m w d r (2 ^ (n - m)) (2 ^ m) s rb p db in
     let y : 2 ^ m - 1 - r < 2 ^ m = omega arith in
@@ -208,7 +218,8 @@ filled_far_cases a n h j l w true e f g t = far_yes a n h j l e f (ltb-true 0 h 
 filled_far_cases a n h j l w false e f g t = far_no a h j l w (ltb-false 0 h t) g
 
 -- h is the part of the amount from the place j on, and l the part below
-pub filled_far : (a n h j l w : ℕ) (x : Bool) → a < 2 ^ n → (0 < h → n ≤ 2 ^ j) → w ≡ turned n x a / 2 ^ l → cond (nat_lt 0 h) 0 w ≡ turned n x a / 2 ^ (h * 2 ^ j + l)
+pub filled_far : (a n h j l w : ℕ) (x : Bool) → a < 2 ^ n → (0 < h → n ≤ 2 ^ j) → w ≡ turned n x a / 2 ^ l →
+    cond (nat_lt 0 h) 0 w ≡ turned n x a / 2 ^ (h * 2 ^ j + l)
 filled_far a n h j l w x e f g = filled_far_cases (turned n x a) n h j l w (nat_lt 0 h) (turned_below n x a e) f g refl
 
 -- ---- the definitions' shifts

@@ -23,7 +23,8 @@ sign_place p m true h = high p m h
 sign_place p m false h = low p m h
 
 pub sign_bit : (v : ℕ → Bool) (ls : List Bit) (n : ℕ) → 0 < n → length ls ≡ n → bit_value v (get_or ls (n - 1) no_bit) ≡ is_negative n (number v ls)
-sign_bit v ls n h e = rw (number_top v ls (n - 1) (omega arith)) (sign_place (2 ^ (n - 1)) (number v (take (n - 1) ls)) _ (number_take_below v ls (n - 1) (omega arith)))
+sign_bit v ls n h e = rw (number_top v ls (n - 1) (omega arith))
+    (sign_place (2 ^ (n - 1)) (number v (take (n - 1) ls)) _ (number_take_below v ls (n - 1) (omega arith)))
 
 -- ---- longer words
 
@@ -36,10 +37,12 @@ number_ones v z (suc k) h =
     rw (e, p) (omega arith)
 
 -- what `resize` leaves of a word that grows
-longer : (v : ℕ → Bool) (ls : List Bit) (w : ℕ) (z : Bit) → length ls ≤ w → number v (take w ls ++ replicate (w - length ls) z) ≡ number v ls + 2 ^ length ls * number v (replicate (w - length ls) z)
+longer : (v : ℕ → Bool) (ls : List Bit) (w : ℕ) (z : Bit) → length ls ≤ w →
+    number v (take w ls ++ replicate (w - length ls) z) ≡ number v ls + 2 ^ length ls * number v (replicate (w - length ls) z)
 longer v ls w z h = rw (take_all w ls h) (number_append v ls (replicate (w - length ls) z))
 
-pub zero_extended : (v : ℕ → Bool) (ls : List Bit) (w k : ℕ) (z : Bit) → k ≡ length ls → length ls ≤ w → bit_value v z ≡ false → number v (take w ls ++ replicate (w - k) z) ≡ number v ls
+pub zero_extended : (v : ℕ → Bool) (ls : List Bit) (w k : ℕ) (z : Bit) → k ≡ length ls → length ls ≤ w → bit_value v z ≡ false →
+    number v (take w ls ++ replicate (w - k) z) ≡ number v ls
 zero_extended v ls w k z l h e = let n = number_zeros v z (w - length ls) e in rw l (longer v ls w z h ∙ rw n (omega arith))
 
 spread : (p a r m : ℕ) → r + 1 ≡ m → a + p * r ≡ a + (m * p - p)

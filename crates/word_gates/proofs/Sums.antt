@@ -52,7 +52,8 @@ row_left p k ab b l r q s c s0 s1 e g h =
     let n : p * s ≡ p * s0 + 2 * p * s1 = omega (arith, ap (λ t. p * t) h) in
     omega arith
 
-pub row_step : (p k w a b l r q al ah s c s0 s1 z y : ℕ) (x : Bool) → p * k ≡ w → l + p * r + w * q ≡ a * b → a ≡ k * ah + al → y ≡ cond x al 0 → z ≡ 0 → s + k * c ≡ r + y + z →
+pub row_step : (p k w a b l r q al ah s c s0 s1 z y : ℕ) (x : Bool) → p * k ≡ w → l + p * r + w * q ≡ a * b → a ≡ k * ah + al → y ≡ cond x al 0 → z ≡ 0 →
+    s + k * c ≡ r + y + z →
     s ≡ s0 + 2 * s1 → (t : ℕ) × ((l + p * s0) + 2 * p * s1 + w * t ≡ a * (b + p * bit x))
 row_step p k w a b l r q al ah s c s0 s1 z y true pk e f u o g h =
     let e2 : l + p * r + p * k * q ≡ a * b = rw pk e in

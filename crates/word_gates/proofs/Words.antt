@@ -18,7 +18,10 @@ pub within_none : {n : ℕ} → Within n []
 within_none {n} = record { each = All-nil _ }
 
 pub within_push : {n : ℕ} {ls : List Bit} (m : ℕ) (l : Bit) → Within n ls → n ≤ m → variable_of l < m → Within m (ls ++ l ∷ [])
-within_push {n} {ls} m l w e h = record { each = All-push (λ (l : Bit). variable_of l < m) ls l (λ k d i. let x : variable_of (get_or ls k d) < n = w.each k d i in omega arith) h }
+within_push {n} {ls} m l w e h = record {
+  each = All-push (λ (l : Bit). variable_of l < m) ls l
+      (λ k d i. let x : variable_of (get_or ls k d) < n = w.each k d i in omega arith) h;
+}
 
 pub within_more : {n : ℕ} {ls : List Bit} (m : ℕ) → Within n ls → n ≤ m → Within m ls
 within_more {n} {ls} m w e = record { each = λ k d i. let x : variable_of (get_or ls k d) < n = w.each k d i in omega arith }
@@ -37,7 +40,8 @@ pub number_push_at : (v : ℕ → Bool) (ls : List Bit) (l : Bit) (i : ℕ) → 
 number_push_at v ls l i e = number_push v ls l ∙ ap (λ k. number v ls + 2 ^ k * digit v l) e
 
 -- one bit more of the number that is read so far
-pub number_more : (v : ℕ → Bool) (ls : List Bit) (i : ℕ) → i < length ls → number v (take (i + 1) ls) ≡ number v (take i ls) + 2 ^ i * digit v (get_or ls i no_bit)
+pub number_more : (v : ℕ → Bool) (ls : List Bit) (i : ℕ) → i < length ls →
+    number v (take (i + 1) ls) ≡ number v (take i ls) + 2 ^ i * digit v (get_or ls i no_bit)
 number_more v ls i h =
     let n : length (take i ls) ≡ i = grind (arith, length-take i ls) in
     let l = get_or ls i no_bit in
@@ -89,7 +93,8 @@ pub half_pow : (n : ℕ) → 0 < n → 2 ^ n ≡ 2 * 2 ^ (n - 1)
 half_pow n h = let e : n ≡ (n - 1) + 1 = omega arith in ap (λ t. 2 ^ t) e ∙ pow_more (n - 1)
 
 -- the bits from the place k - 1 on are one bit and those from k on
-pub number_from : (v : ℕ → Bool) (ls : List Bit) (i j k : ℕ) → k < length ls → i ≡ k → j ≡ k + 1 → number v (drop i ls) ≡ digit v (get_or ls k no_bit) + 2 * number v (drop j ls)
+pub number_from : (v : ℕ → Bool) (ls : List Bit) (i j k : ℕ) → k < length ls → i ≡ k → j ≡ k + 1 →
+    number v (drop i ls) ≡ digit v (get_or ls k no_bit) + 2 * number v (drop j ls)
 number_from v ls i j k h e f = rw (e, f) (ap (number v) (drop_more ls k no_bit h))
 
 -- the bits below the highest, and the highest
@@ -100,7 +105,10 @@ number_top v ls k e =
     rw t at a
 
 pub within_cons : {n : ℕ} {ls : List Bit} (m : ℕ) (l : Bit) → Within n ls → n ≤ m → variable_of l < m → Within m (l ∷ ls)
-within_cons {n} {ls} m l w e h = record { each = All-cons (λ (l : Bit). variable_of l < m) l ls h (λ k d i. let x : variable_of (get_or ls k d) < n = w.each k d i in omega arith) }
+within_cons {n} {ls} m l w e h = record {
+  each = All-cons (λ (l : Bit). variable_of l < m) l ls h
+      (λ k d i. let x : variable_of (get_or ls k d) < n = w.each k d i in omega arith);
+}
 
 -- what `&ls[k..]` holds
 pub rest_is : (ls : List Bit) (k : ℕ) → take (length ls - k) (drop k ls) ≡ drop k ls
@@ -120,7 +128,8 @@ take_nothing (suc k) = refl
 
 -- ---- words as they are made
 
-pub word_push : {a b c : Netlist} {m n w : ℕ} {ls : List Bit} {l : Bit} (k : ℕ) → IsWord a b m w ls → IsBit b c n l → m + n ≤ k → IsWord a c k (w + 1) (ls ++ l ∷ [])
+pub word_push : {a b c : Netlist} {m n w : ℕ} {ls : List Bit} {l : Bit} (k : ℕ) → IsWord a b m w ls → IsBit b c n l → m + n ≤ k →
+    IsWord a c k (w + 1) (ls ++ l ∷ [])
 word_push {ls = ls} {l = l} k g h e =
     record {
       grows = grows_then k g.grows h.grows e;
@@ -131,7 +140,8 @@ word_push {ls = ls} {l = l} k g h e =
 pub word_then : {a b c : Netlist} {m n u : ℕ} {ls : List Bit} (k w : ℕ) → Grows a b m → IsWord b c n u ls → m + n ≤ k → u ≡ w → IsWord a c k w ls
 word_then k w g h e f = record { grows = grows_then k g h.grows e; within = h.within; len = h.len ∙ f }
 
-pub word_cons : {a b c : Netlist} {m n w : ℕ} {ls : List Bit} (l : Bit) (k : ℕ) → IsWord a b m w ls → Grows b c n → variable_of l < next c → m + n ≤ k → IsWord a c k (w + 1) (l ∷ ls)
+pub word_cons : {a b c : Netlist} {m n w : ℕ} {ls : List Bit} (l : Bit) (k : ℕ) → IsWord a b m w ls → Grows b c n → variable_of l < next c → m + n ≤ k →
+    IsWord a c k (w + 1) (l ∷ ls)
 word_cons {ls = ls} l k g h i e = record { grows = grows_then k g.grows h e; within = within_cons _ l g.within h.more i; len = let f = g.len in omega arith }
 
 -- a bit that is there already

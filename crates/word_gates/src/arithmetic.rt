@@ -30,7 +30,8 @@ pub fn sum_with(
     requires carry_within { variable_of carry < next circuit.old }
     ensures made { IfOk result (λ s. IsWord circuit.old circuit.new (2 * length a.now) (length a.now) s.bits.items) }
     ensures carry_made { IfOk result (λ s. variable_of s.carry < next circuit.new) }
-    ensures value { IfOk result (λ s. (v : ℕ → Bool) → Holds v circuit.new → number v s.bits.items + 2 ^ length a.now * digit v s.carry ≡ number v a.now + number v b.now + digit v carry) }
+    ensures value { IfOk result (λ s. (v : ℕ → Bool) → Holds v circuit.new →
+        number v s.bits.items + 2 ^ length a.now * digit v s.carry ≡ number v a.now + number v b.now + digit v carry) }
 {
     let mut carry = carry;
     let mut bits = Vec::with_capacity(alloc, a.len())?;

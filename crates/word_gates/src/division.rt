@@ -31,7 +31,8 @@ fn reduce(
     requires turned_within { Within (next circuit.old) turned.now }
     ensures made { IfOk result (λ s. IsWord circuit.old circuit.new (3 * length remainder.now - 1) (length remainder.now - 1) s.bits.items) }
     ensures carry_made { IfOk result (λ s. variable_of s.carry < next circuit.new) }
-    ensures value { IfOk result (λ s. (v : ℕ → Bool) → Holds v circuit.new → IsReduced (number v remainder.now) (number v turned.now) (length remainder.now - 1) (bit_value v s.carry) (number v s.bits.items)) }
+    ensures value { IfOk result (λ s. (v : ℕ → Bool) → Holds v circuit.new →
+        IsReduced (number v remainder.now) (number v turned.now) (length remainder.now - 1) (bit_value v s.carry) (number v s.bits.items)) }
 {
     let n = remainder.len() - 1;
     let one = circuit.constant(true);
@@ -48,7 +49,8 @@ fn divide(alloc: Global, circuit: &mut Circuit, a: &[Bit], b: &[Bit]) -> Result<
     requires b_within { Within (next circuit.old) b.now }
     ensures quotient { IfOk result (λ w. IsWord circuit.old circuit.new (length a.now * (3 * length a.now + 2)) (length a.now) w.quotient.items) }
     ensures remainder { IfOk result (λ w. IsWord circuit.old circuit.new (length a.now * (3 * length a.now + 2)) (length a.now) w.remainder.items) }
-    ensures value { IfOk result (λ w. (v : ℕ → Bool) → Holds v circuit.new → IsQuotient (number v a.now) (number v b.now) (length a.now) (number v w.quotient.items) (number v w.remainder.items)) }
+    ensures value { IfOk result (λ w. (v : ℕ → Bool) → Holds v circuit.new →
+        IsQuotient (number v a.now) (number v b.now) (length a.now) (number v w.quotient.items) (number v w.remainder.items)) }
 {
     let n = a.len();
     let mut turned = not(alloc, b)?;

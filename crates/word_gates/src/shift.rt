@@ -68,7 +68,8 @@ fn filled_right(
     requires s_within { Within (next circuit.old) s.now }
     requires fill_within { variable_of fill < next circuit.old }
     ensures made { IfOk result (λ w. IsWord circuit.old circuit.new (7 * length a.now + length s.now) (length a.now) w.items) }
-    ensures value { IfOk result (λ w. (v : ℕ → Bool) → Holds v circuit.new → turned (length a.now) (bit_value v fill) (number v w.items) ≡ turned (length a.now) (bit_value v fill) (number v a.now) / 2 ^ number v s.now) }
+    ensures value { IfOk result (λ w. (v : ℕ → Bool) → Holds v circuit.new →
+        turned (length a.now) (bit_value v fill) (number v w.items) ≡ turned (length a.now) (bit_value v fill) (number v a.now) / 2 ^ number v s.now) }
 {
     let stages = stages(a.len()).min(s.len());
     let mut word = a.to_vec(alloc)?;

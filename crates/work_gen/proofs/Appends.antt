@@ -7,7 +7,8 @@ pub seven_texts : (u v w x y z o : List ℕ) (a b c d e f g : List ℕ) → u �
     o ≡ a ++ (b ++ (c ++ (d ++ (e ++ (f ++ g)))))
 seven_texts u v w x y z o a b c d e f g p q r s t k l = rw (l, k, t, s, r, q, p) (simp append_assoc)
 
-pub nine_texts : (u v w x y z m n o : List ℕ) (a b c d e f g h i : List ℕ) → u ≡ a → v ≡ u ++ b → w ≡ v ++ c → x ≡ w ++ d → y ≡ x ++ e → z ≡ y ++ f → m ≡ z ++ g → n ≡ m ++ h →
+pub nine_texts : (u v w x y z m n o : List ℕ) (a b c d e f g h i : List ℕ) → u ≡ a → v ≡ u ++ b → w ≡ v ++ c → x ≡ w ++ d → y ≡ x ++ e → z ≡ y ++ f →
+    m ≡ z ++ g → n ≡ m ++ h →
     o ≡ n ++ i → o ≡ a ++ (b ++ (c ++ (d ++ (e ++ (f ++ (g ++ (h ++ i)))))))
 nine_texts u v w x y z m n o a b c d e f g h i p q r s t k l j e9 = rw (e9, j, l, k, t, s, r, q, p) (simp append_assoc)
 
@@ -17,13 +18,16 @@ ended s t = ap (λ z. (z ++ 10 ∷ []) ++ t) (append-nil s) ∙ append_assoc s (
 
 pub notes_are : (s c r : List ℕ) →
     (codes "entry 0x10000" ++ 10 ∷ codes "require a0 = ") ++ (s ++ ((10 ∷ codes "require a1 = ") ++ (c ++ ((10 ∷ codes "ensure a0 = ") ++ (r ++ 10 ∷ [])))))
-    ≡ lines (codes "entry 0x10000" ∷ (codes "require a0 =" ++ spaced (s ∷ [])) ∷ (codes "require a1 =" ++ spaced (c ∷ [])) ∷ (codes "ensure a0 =" ++ spaced (r ∷ [])) ∷ [])
+    ≡ lines (codes "entry 0x10000" ∷ (codes "require a0 =" ++ spaced (s ∷ [])) ∷ (codes "require a1 =" ++ spaced (c ∷ []))
+    ∷ (codes "ensure a0 =" ++ spaced (r ∷ [])) ∷ [])
 notes_are s c r =
     let last : List ℕ = ((r ++ []) ++ 10 ∷ []) ++ [] in
     let middle : List ℕ = ((c ++ []) ++ 10 ∷ []) ++ (codes "ensure a0 = " ++ last) in
     let h : r ++ 10 ∷ [] ≡ last = sym (ended r []) in
-    let g : c ++ 10 ∷ (codes "ensure a0 = " ++ (r ++ 10 ∷ [])) ≡ middle = ap (λ z. c ++ 10 ∷ (codes "ensure a0 = " ++ z)) h ∙ sym (ended c (codes "ensure a0 = " ++ last)) in
-    let e : s ++ 10 ∷ (codes "require a1 = " ++ (c ++ 10 ∷ (codes "ensure a0 = " ++ (r ++ 10 ∷ [])))) ≡ ((s ++ []) ++ 10 ∷ []) ++ (codes "require a1 = " ++ middle) =
+    let g : c ++ 10 ∷ (codes "ensure a0 = " ++ (r ++ 10 ∷ []))
+    ≡ middle = ap (λ z. c ++ 10 ∷ (codes "ensure a0 = " ++ z)) h ∙ sym (ended c (codes "ensure a0 = " ++ last)) in
+    let e : s ++ 10 ∷ (codes "require a1 = " ++ (c ++ 10 ∷ (codes "ensure a0 = " ++ (r ++ 10 ∷ [])))) ≡ ((s ++ []) ++ 10 ∷ [])
+    ++ (codes "require a1 = " ++ middle) =
     ap (λ z. s ++ 10 ∷ (codes "require a1 = " ++ z)) g ∙ sym (ended s (codes "require a1 = " ++ middle)) in
     ap (λ z. (codes "entry 0x10000" ++ 10 ∷ codes "require a0 = ") ++ z) e
 
@@ -47,7 +51,8 @@ result_step x a b zero h = absurd (omega arith)
 result_step x a b (suc n) h = let e : n ≡ suc n - 1 = omega arith in ap (λ k. result_from (next_item x) (result_of (next_item x) a b) b k) e
 
 -- an item more
-pub words_kept : (words after : List ℕ) (x y w n : ℕ) → 0 < n → y ≡ next_item x → w ≡ item_word y → after ≡ words ++ w ∷ [] → after ++ item_words y (n - 1) ≡ words ++ item_words x n
+pub words_kept : (words after : List ℕ) (x y w n : ℕ) → 0 < n → y ≡ next_item x → w ≡ item_word y → after ≡ words ++ w ∷ [] →
+    after ++ item_words y (n - 1) ≡ words ++ item_words x n
 words_kept words after x y w n h e k p =
     ap (λ z. z ++ item_words y (n - 1)) p ∙ append_assoc words (w ∷ []) (item_words y (n - 1))
     ∙ ap (λ v. words ++ v ∷ item_words y (n - 1)) k ∙ ap (λ z. words ++ item_word z ∷ item_words z (n - 1)) e ∙ ap (λ z. words ++ z) (sym (words_step x n h))

@@ -64,8 +64,8 @@ pub struct Computation {
     pub result: u32,
 }
 
-/// The words of so many items behind the seed, and of the return; and what they leave in `a0` where it is the seed and `a1` is the number of items. The error is want of
-/// memory.
+/// The words of so many items behind the seed, and of the return; and what they leave in `a0` where it is the seed and `a1` is the number of items. The error
+/// is want of memory.
 pub fn computed(alloc: Global, seed: u32, count: u32) -> Result<Computation, AllocError>
     requires seed { seed < 2 ^ 31 }
     ensures words { IfOk result (λ w. w.words.items ≡ item_words seed count) }

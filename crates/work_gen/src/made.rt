@@ -54,8 +54,8 @@ fn notes(alloc: Global, seed: u32, count: u32, left: u32) -> Result<Vec<u8>, All
     Ok(text)
 }
 
-/// The work of a seed, below 2^31, and a number of items: so many computing rows, chosen by a sequence of numbers, and the return, in a row file; and the notes that say
-/// what they compute from the seed in `a0` and the number of items in `a1`. Its verdict is `holds`. The error is want of memory.
+/// The work of a seed, below 2^31, and a number of items: so many computing rows, chosen by a sequence of numbers, and the return, in a row file; and the notes
+/// that say what they compute from the seed in `a0` and the number of items in `a1`. Its verdict is `holds`. The error is want of memory.
 pub fn work(alloc: Global, seed: u32, count: u32) -> Result<MadeWork, AllocError>
     requires seed { seed < 2 ^ 31 }
     requires count { count ≤ 16000 }

@@ -8,7 +8,8 @@ returns-then-count-limit-clause-too_large g c e =
     let held = g.H.Shelf.holds c.args.shelf.now c.args.name.now in
     let reads = subst (λ h. Reads h c.len-at.result c.read.new.into c.in-Ok.count) (c.loop-count.invariant.keeps c.args.name.now) c.in-Ok.ensures.ok in
     let same : c.len-at.result ≡ length c.loop-count.bytes.items = omega (arith, c.len-at.ensures) in
-    front_over held c.loop-count.bytes.items c.read.new.into c.in-Ok.count c.args.limit c.in-Ok.ensures.within (omega (arith, c.loop-count.invariant.within)) (omega arith)
+    front_over held c.loop-count.bytes.items c.read.new.into c.in-Ok.count c.args.limit c.in-Ok.ensures.within (omega (arith, c.loop-count.invariant.within))
+    (omega arith)
     c.loop-count.invariant.front (subst (λ at. Reads held at c.read.new.into c.in-Ok.count) same reads)
 
 pub loop-count-preserved : goal.loop-count-preserved

@@ -10,7 +10,8 @@ passed w r n l h = let e : n - r ≡ suc (n - (r + 1)) = omega arith in rw (e, h
 
 pub returns-then-is_set : goal.returns-then-is_set
 returns-then-is_set c =
-    sym (c.loop-register.invariant ∙ found c.args.word c.loop-register.register c.args.«end» c.loop-register-test.true (sym c.is_set.ensures ∙ c.if-is_set.true))
+    sym (c.loop-register.invariant ∙ found c.args.word c.loop-register.register c.args.«end» c.loop-register-test.true
+    (sym c.is_set.ensures ∙ c.if-is_set.true))
 
 pub loop-register-preserved : goal.loop-register-preserved
 loop-register-preserved c =

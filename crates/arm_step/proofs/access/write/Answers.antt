@@ -10,4 +10,5 @@ returns-in-Some-clause-step c = λ old e.
 
 pub returns-in-None-clause-step : goal.returns-in-None-clause-step
 returns-in-None-clause-step c = λ old e.
-    jumped old (state_of c.args.state.now) (state_of c.jump.new.self) c.jump.result c.args.rd.number c.args.value c.in-None.ensures c.jump.ensures.state c.jump.ensures.out
+    jumped old (state_of c.args.state.now) (state_of c.jump.new.self) c.jump.result c.args.rd.number c.args.value c.in-None.ensures c.jump.ensures.state
+    c.jump.ensures.out

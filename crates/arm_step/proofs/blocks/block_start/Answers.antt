@@ -8,4 +8,5 @@ pub returns : goal.returns
 returns c = λ w x.
     let s = state_of c.args.state.now in
     starts w s c.args.fields.is_up c.args.fields.is_before c.read-base.result c.first_offset-offset.result c.moved.result c.aligned.result c.listed.result
-    x.is_up x.is_before (c.listed.ensures.listed w x) (c.read-base.ensures.reg ∙ ap (reg s) x.rn) c.first_offset-offset.ensures (c.moved.ensures w x.is_up) c.aligned.ensures
+    x.is_up x.is_before (c.listed.ensures.listed w x) (c.read-base.ensures.reg ∙ ap (reg s) x.rn) c.first_offset-offset.ensures
+    (c.moved.ensures w x.is_up) c.aligned.ensures

@@ -19,7 +19,8 @@ loop-number-preserved c =
     let i = c.loop-number.invariant in
     elim c.if-has.branch [
       | then-has w ↦
-          let p = loads_hit e b r n c.loop-number.a c.if-has.a old s (state_of c.if-has.state) t c.loop-number-test.true (sym c.has.ensures ∙ w.if-has.true) i.0 i.1
+          let p = loads_hit e b r n c.loop-number.a c.if-has.a old s (state_of c.if-has.state) t c.loop-number-test.true
+          (sym c.has.ensures ∙ w.if-has.true) i.0 i.1
           (ap state_of w.state-is ∙ w.load_one.ensures.state) w.a-is in
           (p.0, p.1, ap spare_of w.state-is ∙ w.load_one.ensures.spare ∙ i.2)
       | else-has w ↦

@@ -11,5 +11,6 @@ invariant-loop-number l =
     let old = state_of l.initial.state in
     let e = endian_of l.endian in
     (s ≡ record old { regs = s.regs })
-    × (rows.load_all e old.mem l.a (rows.listed_from l.list.bits l.number (l.end - l.number)) s.regs ≡ rows.load_all e old.mem l.first (rows.listed_from l.list.bits 0 l.end) old.regs)
+    × (rows.load_all e old.mem l.a (rows.listed_from l.list.bits l.number (l.end - l.number)) s.regs
+    ≡ rows.load_all e old.mem l.first (rows.listed_from l.list.bits 0 l.end) old.regs)
     × (spare_of l.state ≡ spare_of l.initial.state)

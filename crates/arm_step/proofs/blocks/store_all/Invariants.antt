@@ -11,5 +11,6 @@ invariant-loop-number l =
     let old = state_of l.initial.state in
     let e = endian_of l.endian in
     (s ≡ record old { mem = s.mem })
-    × (rows.store_all e old l.choice l.a (rows.listed_from l.list.bits l.number (l.end - l.number)) s.mem ≡ rows.store_all e old l.choice l.first (rows.listed_from l.list.bits 0 l.end) old.mem)
+    × (rows.store_all e old l.choice l.a (rows.listed_from l.list.bits l.number (l.end - l.number)) s.mem
+    ≡ rows.store_all e old l.choice l.first (rows.listed_from l.list.bits 0 l.end) old.mem)
     × (spare_of l.initial.state ≤ spare_of l.state + 4 * l.number)

@@ -16,9 +16,11 @@ returns-then-is_test-clause-step c =
     let r = c.fields-fields.result in
     let m = computed_of c.result_of-made.result in
     let f = c.result_flags-flags in
-    let made = result_from w s m c.read_any-x.result (opcode_number r.opcode) (shifted_of c.operand-operand.result) (c.result_of-made.ensures s (sym c.flags.ensures))
+    let made = result_from w s m c.read_any-x.result (opcode_number r.opcode) (shifted_of c.operand-operand.result)
+    (c.result_of-made.ensures s (sym c.flags.ensures))
     (c.read_any-x.ensures ∙ ap (reg s) x.rn) (c.operand-operand.ensures w x.operand) x.opcode in
-    let flags = flags_from s.flags r.sets_flags (sets_flags w) (bit f.result.n) (bit_at 31 m.value) (bit f.result.z) _ (bit f.result.c) m.carry (bit f.result.v) m.overflow
+    let flags = flags_from s.flags r.sets_flags (sets_flags w) (bit f.result.n) (bit_at 31 m.value) (bit f.result.z) _ (bit f.result.c) m.carry
+    (bit f.result.v) m.overflow
     x.sets_flags f.ensures.n (ap bit f.ensures.z) (ap bit f.ensures.c) (ap bit f.ensures.v) in
     tested w s (state_of c.set_flags_if.new.state) (state_of c.go_on.new.self) c.go_on.result m
     (sym (test_of w (opcode_number r.opcode) c.is_test.result x.opcode c.is_test.ensures) ∙ c.if-is_test.true) made
@@ -32,9 +34,11 @@ returns-clause-step c =
     let r = c.fields-fields.result in
     let m = computed_of c.result_of-made.result in
     let f = c.result_flags-flags in
-    let made = result_from w s m c.read_any-x.result (opcode_number r.opcode) (shifted_of c.operand-operand.result) (c.result_of-made.ensures s (sym c.flags.ensures))
+    let made = result_from w s m c.read_any-x.result (opcode_number r.opcode) (shifted_of c.operand-operand.result)
+    (c.result_of-made.ensures s (sym c.flags.ensures))
     (c.read_any-x.ensures ∙ ap (reg s) x.rn) (c.operand-operand.ensures w x.operand) x.opcode in
-    let flags = flags_from s.flags r.sets_flags (sets_flags w) (bit f.result.n) (bit_at 31 m.value) (bit f.result.z) _ (bit f.result.c) m.carry (bit f.result.v) m.overflow
+    let flags = flags_from s.flags r.sets_flags (sets_flags w) (bit f.result.n) (bit_at 31 m.value) (bit f.result.z) _ (bit f.result.c) m.carry
+    (bit f.result.v) m.overflow
     x.sets_flags f.ensures.n (ap bit f.ensures.z) (ap bit f.ensures.c) (ap bit f.ensures.v) in
     computes w s (state_of c.set_flags_if.new.state) (state_of c.write.new.state) c.write.result m r.rd.number
     (sym (test_of w (opcode_number r.opcode) c.is_test.result x.opcode c.is_test.ensures) ∙ c.if-is_test.false) made

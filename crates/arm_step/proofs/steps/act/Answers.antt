@@ -15,7 +15,8 @@ pub returns-in-MultiplyLong-clause-step : goal.returns-in-MultiplyLong-clause-st
 returns-in-MultiplyLong-clause-step c =
     let s = state_of c.args.state.now in
     let r = c.multiply_long in
-    subst (λ (i : Insn). IsStep s (state_of r.new.state) r.result (action_of (endian_of c.args.endian) i s c.args.choice)) (sym c.in-MultiplyLong.is) r.ensures.step
+    subst (λ (i : Insn). IsStep s (state_of r.new.state) r.result (action_of (endian_of c.args.endian) i s c.args.choice))
+    (sym c.in-MultiplyLong.is) r.ensures.step
 
 pub returns-in-Swap-clause-step : goal.returns-in-Swap-clause-step
 returns-in-Swap-clause-step c =

@@ -5,8 +5,10 @@ use Rattle.arm_step.proofs.steps.branch.Goals as goal
 
 pub returns-then-fields-clause-step : goal.returns-then-fields-clause-step
 returns-then-fields-clause-step c =
-    links c.args.insn.word (state_of c.args.state.now) (state_of c.set.new.self) (state_of c.jump.new.self) c.jump.result c.pc-at.result c.target-to.result c.new.result.number
-    (sym c.fields.ensures.is_linked ∙ c.if-fields.true) c.pc-at.ensures c.target-to.ensures c.new.ensures c.set.ensures.state c.jump.ensures.state c.jump.ensures.out
+    links c.args.insn.word (state_of c.args.state.now) (state_of c.set.new.self)
+    (state_of c.jump.new.self) c.jump.result c.pc-at.result c.target-to.result c.new.result.number
+    (sym c.fields.ensures.is_linked ∙ c.if-fields.true) c.pc-at.ensures c.target-to.ensures c.new.ensures c.set.ensures.state c.jump.ensures.state
+    c.jump.ensures.out
 
 pub returns-else-fields-clause-step : goal.returns-else-fields-clause-step
 returns-else-fields-clause-step c =

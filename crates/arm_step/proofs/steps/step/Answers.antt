@@ -6,7 +6,8 @@ use Rattle.arm_step.proofs.steps.step.Goals as goal
 
 pub returns-then-holds-clause-step : goal.returns-then-holds-clause-step
 returns-then-holds-clause-step c =
-    acts (endian_of c.args.endian) c.args.insn.now (state_of c.args.state.now) (state_of c.act.new.state) c.act.result c.args.choice (sym c.holds.ensures ∙ c.if-holds.true)
+    acts (endian_of c.args.endian) c.args.insn.now (state_of c.args.state.now) (state_of c.act.new.state) c.act.result c.args.choice
+    (sym c.holds.ensures ∙ c.if-holds.true)
     c.act.ensures.step
 
 pub returns-else-holds-clause-step : goal.returns-else-holds-clause-step

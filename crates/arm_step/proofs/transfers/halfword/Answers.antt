@@ -9,7 +9,8 @@ pub returns-then-is_load-clause-step : goal.returns-then-is_load-clause-step
 returns-then-is_load-clause-step c =
     let w = c.args.insn.word in
     let x = c.fields-fields.ensures in
-    half_by w (endian_of c.args.endian) (state_of c.args.state.now) (state_of c.load_halfword.new.state) c.load_halfword.result c.halfword_address.result c.halfword_size.result
+    half_by w (endian_of c.args.endian) (state_of c.args.state.now)
+    (state_of c.load_halfword.new.state) c.load_halfword.result c.halfword_address.result c.halfword_size.result
     true true (c.halfword_address.ensures w x) (c.halfword_size.ensures.size w x.op) (ap (λ n. n == 0) c.if-halfword_address-halfword_size-ne0.false)
     (sym (c.is_load.ensures w x.op) ∙ c.if-is_load.true) (c.load_halfword.ensures.step w x (halfword_n w c.args.insn.row.1))
 
@@ -17,6 +18,7 @@ pub returns-else-is_load-clause-step : goal.returns-else-is_load-clause-step
 returns-else-is_load-clause-step c =
     let w = c.args.insn.word in
     let x = c.fields-fields.ensures in
-    half_by w (endian_of c.args.endian) (state_of c.args.state.now) (state_of c.store_halfword.new.state) c.store_halfword.result c.halfword_address.result c.halfword_size.result
+    half_by w (endian_of c.args.endian) (state_of c.args.state.now)
+    (state_of c.store_halfword.new.state) c.store_halfword.result c.halfword_address.result c.halfword_size.result
     true false (c.halfword_address.ensures w x) (c.halfword_size.ensures.size w x.op) (ap (λ n. n == 0) c.if-halfword_address-halfword_size-ne0.false)
     (sym (c.is_load.ensures w x.op) ∙ c.if-is_load.false) (c.store_halfword.ensures.step w x (halfword_n w c.args.insn.row.1))

@@ -11,5 +11,6 @@ returns-clause-step c =
     let x = c.fields-fields.ensures in
     let r = c.fields-fields.result in
     swaps c.args.insn.word (endian_of c.args.endian) s (state_of c.store_by.new.state) (state_of c.set.new.self) (state_of c.go_on.new.self) c.go_on.result
-    r.is_byte c.read-a.result c.read-stored.result c.load_by-loaded.result r.rd.number c.store_by.ensures.state c.set.ensures.state c.go_on.ensures.state c.go_on.ensures.out
+    r.is_byte c.read-a.result c.read-stored.result c.load_by-loaded.result r.rd.number c.store_by.ensures.state c.set.ensures.state c.go_on.ensures.state
+    c.go_on.ensures.out
     x.is_byte (c.read-a.ensures.reg ∙ ap (reg s) x.rn) (c.read-stored.ensures.reg ∙ ap (reg s) x.rm) c.load_by-loaded.ensures x.rd

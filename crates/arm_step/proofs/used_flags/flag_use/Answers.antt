@@ -7,7 +7,8 @@ pub returns : goal.returns
 returns c = λ e.
     let i = c.args.insn.now in
     let a = c.assigned in
-    use_is e i (record { reads = c.number.result; assigns = c.number-2.result; surely = c.number-3.result }) c.number.ensures.small c.number-2.ensures.small c.number-3.ensures.small
+    use_is e i (record { reads = c.number.result; assigns = c.number-2.result; surely = c.number-3.result }) c.number.ensures.small c.number-2.ensures.small
+    c.number-3.ensures.small
     (λ f l. c.number.ensures.bits f l ∙ c.read.ensures f l)
     (λ f l. c.number-2.ensures.bits f l ∙ c.flags_in.ensures f l
     ∙ same_set a.result.nz (sets_of i) a.result.c (assigns_c_of i) a.result.v (assigns_v_of i) f a.ensures.nz a.ensures.c a.ensures.v)

@@ -14,7 +14,8 @@ use Rattle.bil_eval.proofs.statements.+running.Goals as goal
 
 pub act-repeat-requires : goal.act-repeat-requires
 act-repeat-requires t c =
-    let p = while_parts c.args.stmt.now c.in-While.condition c.in-While.body c.deref.result.now (held c.args.env.now.locals.items) c.in-While.is c.deref.ensures.value
+    let p = while_parts c.args.stmt.now c.in-While.condition c.in-While.body c.deref.result.now
+    (held c.args.env.now.locals.items) c.in-While.is c.deref.ensures.value
     c.requires in
     (search (rules, the_lemmas), (p.0, p.1))
 
@@ -36,7 +37,8 @@ act-run-requires-else-branch t c =
 
 pub act-returns-in-While-clause-comes : goal.act-returns-in-While-clause-comes
 act-returns-in-While-clause-comes t c =
-    while_runs c.args.stmt.now c.in-While.condition c.in-While.body c.args.env.now.machine.choice (position c.args.env.now c.args.progress.now) c.deref.result.now
+    while_runs c.args.stmt.now c.in-While.condition c.in-While.body c.args.env.now.machine.choice
+    (position c.args.env.now c.args.progress.now) c.deref.result.now
     c.repeat.result _ c.in-While.is c.deref.ensures.value c.repeat.ensures.comes
 
 pub act-returns-then-branch-clause-comes : goal.act-returns-then-branch-clause-comes
@@ -131,7 +133,8 @@ act-returns-in_err-word-in-Jump-clause-passes t c =
 pub act-returns-in_err-holds-in-If-clause-passes : goal.act-returns-in_err-holds-in-If-clause-passes
 act-returns-in_err-holds-in-If-clause-passes t c =
     stayed c.from_residual-in_err-holds-in-If.result c.holds.new.env.machine c.args.env.now.locals.items _ c.args.env.now.machine.choice _
-    (position c.args.env.now c.args.progress.now) (ap (λ (m : Machine). env_of m c.args.env.now.locals.items) (sym c.holds.ensures.machine)) c.holds.ensures.locals
+    (position c.args.env.now c.args.progress.now) (ap (λ (m : Machine). env_of m c.args.env.now.locals.items)
+    (sym c.holds.ensures.machine)) c.holds.ensures.locals
 
 pub act-returns-in-While-clause-passes : goal.act-returns-in-While-clause-passes
 act-returns-in-While-clause-passes t c =

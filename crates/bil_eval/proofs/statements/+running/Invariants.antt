@@ -21,7 +21,8 @@ abbrev pub invariant-repeat-loop-turn : goal.invariant-repeat-loop-turn
 invariant-repeat-loop-turn l = record {
   known : held l.env.locals.items ≡ held l.fn.env.locals.items;
   choice : l.env.machine.choice ≡ l.fn.env.machine.choice;
-  runs : loop (l.most - l._turn) (test (expression l.condition) l.fn.env.machine.choice) (execute (statements l.body) l.fn.env.machine.choice) (position l.env l.progress)
+  runs : loop (l.most - l._turn) (test (expression l.condition) l.fn.env.machine.choice) (execute (statements l.body) l.fn.env.machine.choice)
+      (position l.env l.progress)
       ≡ loop l.fn.progress.turns (test (expression l.fn.condition) l.fn.env.machine.choice) (execute (statements l.fn.body) l.fn.env.machine.choice)
       (position l.fn.env l.fn.progress);
   passes : (e : Env) → Passes l.fn.env.machine.choice e (While (expression l.condition) (statements l.body) Empty) (position l.env l.progress)

@@ -42,7 +42,12 @@ act-enter-requires-clause-steady t c = (if_parts c.args.stmt.now c.in-If.conditi
 
 pub act-run_statements-requires : goal.act-run_statements-requires
 act-run_statements-requires t c = (
-  omega (arith, first_smaller c.args.stmt.now c.in-If.condition c.in-If.when_true c.in-If.when_false c.deref-in-If.result.now c.in-If.is c.deref-in-If.ensures.value, c.decreases),
+  omega (
+    arith,
+    first_smaller c.args.stmt.now c.in-If.condition c.in-If.when_true c.in-If.when_false c.deref-in-If.result.now c.in-If.is
+        c.deref-in-If.ensures.value,
+    c.decreases,
+  ),
   first_asks c.args.dag.now c.enter.new.dag c.args.place c.args.run.now _ _ c.args.stmt.now c.in-If.condition c.in-If.when_true c.in-If.when_false
       c.deref-in-If.result.now c.in_ok-sides-in-If.sides c.args.bits c.in-If.is c.deref-in-If.ensures.value c.requires.leads c.requires.run c.requires.bits
       c.in_ok-sides-in-If.ensures,
@@ -50,8 +55,14 @@ act-run_statements-requires t c = (
 
 pub act-run_statements-requires-in-If : goal.act-run_statements-requires-in-If
 act-run_statements-requires-in-If t c = (
-  omega (arith, second_smaller c.args.stmt.now c.in-If.condition c.in-If.when_true c.in-If.when_false c.deref-in-If-2.result.now c.in-If.is c.deref-in-If-2.ensures.value, c.decreases),
-  second_asks c.args.dag.now c.enter.new.dag c.run_statements.new.dag c.args.place c.args.run.now c.run_statements.new.run _ _ _ c.args.stmt.now c.in-If.condition
+  omega (
+    arith,
+    second_smaller c.args.stmt.now c.in-If.condition c.in-If.when_true c.in-If.when_false c.deref-in-If-2.result.now c.in-If.is
+        c.deref-in-If-2.ensures.value,
+    c.decreases,
+  ),
+  second_asks c.args.dag.now c.enter.new.dag c.run_statements.new.dag c.args.place c.args.run.now c.run_statements.new.run _ _ _ c.args.stmt.now
+      c.in-If.condition
       c.in-If.when_true c.in-If.when_false c.deref-in-If.result.now c.deref-in-If-2.result.now c.in_ok-sides-in-If.sides c.args.bits c.in-If.is
       c.deref-in-If-2.ensures.value c.requires.leads c.requires.run c.requires.bits c.in_ok-sides-in-If.ensures c.in_ok-run_statements-in-If.ensures,
 )
@@ -59,7 +70,8 @@ act-run_statements-requires-in-If t c = (
 pub act-merged-requires-clause-bits : goal.act-merged-requires-clause-bits
 act-merged-requires-clause-bits t c =
     bits_behind c.args.dag.now c.enter.new.dag c.run_statements.new.dag c.run_statements-in-If.new.dag c.args.place c.args.run.now _ _ _ _ _ _ _ _ _ _ _
-    c.in_ok-sides-in-If.sides c.args.bits c.requires.bits c.in_ok-sides-in-If.ensures c.in_ok-run_statements-in-If.ensures c.in_ok-run_statements-in-If-2.ensures
+    c.in_ok-sides-in-If.sides c.args.bits c.requires.bits c.in_ok-sides-in-If.ensures c.in_ok-run_statements-in-If.ensures
+    c.in_ok-run_statements-in-If-2.ensures
 
 pub act-merged-requires-clause-sides : goal.act-merged-requires-clause-sides
 act-merged-requires-clause-sides t c =
@@ -70,11 +82,13 @@ act-merged-requires-clause-sides t c =
 pub act-returns-in_ok-run-in-If : goal.act-returns-in_ok-run-in-If
 act-returns-in_ok-run-in-If t c =
     if_led c.args.dag.now c.enter.new.dag c.run_statements.new.dag c.run_statements-in-If.new.dag c.merged.new.dag c.args.place c.args.run.now _ _ _ _ _ _ _
-    c.args.stmt.now c.in-If.condition c.in-If.when_true c.in-If.when_false c.deref-in-If.result.now c.deref-in-If-2.result.now c.in_ok-sides-in-If.sides c.in-If.is
+    c.args.stmt.now c.in-If.condition c.in-If.when_true c.in-If.when_false c.deref-in-If.result.now c.deref-in-If-2.result.now c.in_ok-sides-in-If.sides
+    c.in-If.is
     c.deref-in-If.ensures.value c.deref-in-If-2.ensures.value c.requires.leads c.requires.run c.in_ok-sides-in-If.ensures c.in_ok-run_statements-in-If.ensures
     c.in_ok-run_statements-in-If-2.ensures c.in_ok-run-in-If.ensures
 
 pub act-returns-in-Raise : goal.act-returns-in-Raise
 act-returns-in-Raise t c =
-    raise_led c.args.dag.now c.args.place c.args.run.now c.raise.new.run c.args.stored.now.items c.deref.result.now c.args.stmt.now c.in-Raise.field-0 c.in-Raise.is
+    raise_led c.args.dag.now c.args.place c.args.run.now c.raise.new.run c.args.stored.now.items c.deref.result.now c.args.stmt.now c.in-Raise.field-0
+    c.in-Raise.is
     c.deref.ensures.value c.raise.ensures

@@ -16,13 +16,16 @@ loop-i-init c =
 
 pub returns-then-is_of : goal.returns-then-is_of
 returns-then-is_of c =
-    hit c.args.dag.now c.args.names.now c.args.locals.now c.loop-i.i (c.loop-i.i - 1) _ c.args.local.number c.args.local.width.bits c.loop-i.invariant (omega arith) refl
+    hit c.args.dag.now c.args.names.now c.args.locals.now c.loop-i.i (c.loop-i.i - 1) _ c.args.local.number c.args.local.width.bits c.loop-i.invariant
+    (omega arith) refl
     (sym c.is_of.ensures ∙ c.if-is_of.true) c.requires.locals
 
 pub loop-i-preserved : goal.loop-i-preserved
 loop-i-preserved c =
-    miss c.args.dag.now c.args.names.now c.args.locals.now c.loop-i.i (c.loop-i.i - 1) _ c.args.local.number c.args.local.width.bits c.loop-i.invariant (omega arith) refl
+    miss c.args.dag.now c.args.names.now c.args.locals.now c.loop-i.i (c.loop-i.i - 1) _ c.args.local.number c.args.local.width.bits c.loop-i.invariant
+    (omega arith) refl
     (sym c.is_of.ensures ∙ c.if-is_of.false)
 
 pub unreachable-requires : goal.unreachable-requires
-unreachable-requires c = none_before c.args.dag.now c.args.names.now c.args.locals.now c.loop-i.i c.args.local.number c.args.local.width.bits c.loop-i.invariant (omega arith)
+unreachable-requires c = none_before c.args.dag.now c.args.names.now c.args.locals.now c.loop-i.i c.args.local.number c.args.local.width.bits c.loop-i.invariant
+    (omega arith)

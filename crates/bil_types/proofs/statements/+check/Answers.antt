@@ -31,30 +31,39 @@ check_at-returns-in_err-next-clause-fault t c =
 
 pub check_one-returns-in_err-found-in-If-clause-fault : goal.check_one-returns-in_err-found-in-If-clause-fault
 check_one-returns-in_err-found-in-If-clause-fault t c =
-    let e = seen_if c.args.stmt.now c.in-If.condition c.in-If.when_true c.in-If.when_false c.in-If.when_true.items c.in-If.when_false.items Empty c.in-If.is refl refl in
+    let e = seen_if c.args.stmt.now c.in-If.condition c.in-If.when_true c.in-If.when_false c.in-If.when_true.items c.in-If.when_false.items Empty c.in-If.is
+    refl refl in
     subst (λ (z : Statements). fault_in c.from_residual.result ≡ list_fault c.args.at z) e (grind (arith, common_steps, capped, list_second, list_third))
 
 pub check_one-returns-in_err-next-in-If-clause-fault : goal.check_one-returns-in_err-next-in-If-clause-fault
 check_one-returns-in_err-next-in-If-clause-fault t c =
-    let e = seen_if c.args.stmt.now c.in-If.condition c.in-If.when_true c.in-If.when_false c.in-If.when_true.items c.in-If.when_false.items Empty c.in-If.is refl refl in
-    subst (λ (z : Statements). fault_in c.from_residual-in_err-next-in-If.result ≡ list_fault c.args.at z) e (grind (arith, common_steps, capped, list_second, list_third))
+    let e = seen_if c.args.stmt.now c.in-If.condition c.in-If.when_true c.in-If.when_false c.in-If.when_true.items c.in-If.when_false.items Empty c.in-If.is
+    refl refl in
+    subst (λ (z : Statements). fault_in c.from_residual-in_err-next-in-If.result
+    ≡ list_fault c.args.at z) e (grind (arith, common_steps, capped, list_second, list_third))
 
 pub check_one-returns-in_err-next-in-If-2-clause-fault : goal.check_one-returns-in_err-next-in-If-2-clause-fault
 check_one-returns-in_err-next-in-If-2-clause-fault t c =
-    let e = seen_if c.args.stmt.now c.in-If.condition c.in-If.when_true c.in-If.when_false c.in-If.when_true.items c.in-If.when_false.items Empty c.in-If.is refl refl in
-    subst (λ (z : Statements). fault_in c.from_residual-in_err-next-in-If-2.result ≡ list_fault c.args.at z) e (grind (arith, common_steps, capped, list_second, list_third))
+    let e = seen_if c.args.stmt.now c.in-If.condition c.in-If.when_true c.in-If.when_false c.in-If.when_true.items c.in-If.when_false.items Empty c.in-If.is
+    refl refl in
+    subst (λ (z : Statements). fault_in c.from_residual-in_err-next-in-If-2.result
+    ≡ list_fault c.args.at z) e (grind (arith, common_steps, capped, list_second, list_third))
 
 pub check_one-returns-in_err-ask_bits-in-If-clause-fault : goal.check_one-returns-in_err-ask_bits-in-If-clause-fault
 check_one-returns-in_err-ask_bits-in-If-clause-fault t c =
-    let e = seen_if c.args.stmt.now c.in-If.condition c.in-If.when_true c.in-If.when_false c.in-If.when_true.items c.in-If.when_false.items Empty c.in-If.is refl refl in
-    subst (λ (z : Statements). fault_in c.from_residual-in_err-ask_bits-in-If.result ≡ list_fault c.args.at z) e (grind (arith, common_steps, capped, list_second, list_third))
+    let e = seen_if c.args.stmt.now c.in-If.condition c.in-If.when_true c.in-If.when_false c.in-If.when_true.items c.in-If.when_false.items Empty c.in-If.is
+    refl refl in
+    subst (λ (z : Statements). fault_in c.from_residual-in_err-ask_bits-in-If.result
+    ≡ list_fault c.args.at z) e (grind (arith, common_steps, capped, list_second, list_third))
 
 pub check_one-returns-in_ok-ask_bits-in-If-clause-fault : goal.check_one-returns-in_ok-ask_bits-in-If-clause-fault
 check_one-returns-in_ok-ask_bits-in-If-clause-fault t c =
-    let e = seen_if c.args.stmt.now c.in-If.condition c.in-If.when_true c.in-If.when_false c.in-If.when_true.items c.in-If.when_false.items Empty c.in-If.is refl refl in
+    let e = seen_if c.args.stmt.now c.in-If.condition c.in-If.when_true c.in-If.when_false c.in-If.when_true.items c.in-If.when_false.items Empty c.in-If.is
+    refl refl in
     subst (λ (z : Statements). ◌≡◌ {A = Option TypeFault} None (list_fault c.args.at z)) e (grind (arith, common_steps, capped, list_second, list_third))
 
 pub check_one-returns-in_ok-ask_bits-in-If-clause-next : goal.check_one-returns-in_ok-ask_bits-in-If-clause-next
 check_one-returns-in_ok-ask_bits-in-If-clause-next t c =
-    let e = seen_if c.args.stmt.now c.in-If.condition c.in-If.when_true c.in-If.when_false c.in-If.when_true.items c.in-If.when_false.items Empty c.in-If.is refl refl in
+    let e = seen_if c.args.stmt.now c.in-If.condition c.in-If.when_true c.in-If.when_false c.in-If.when_true.items c.in-If.when_false.items Empty c.in-If.is
+    refl refl in
     subst (λ (z : Statements). c.in_ok-next-in-If-2.next ≡ min (c.args.at + list_size z) (2 ^ 64 - 1)) e (grind (arith, common_steps))

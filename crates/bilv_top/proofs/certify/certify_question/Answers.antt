@@ -27,5 +27,6 @@ pub returns : goal.returns
 returns c =
     IfOk-weaker c.say.result _ _
     (λ a said. question_certified (program_of c.args.image.now (notes_of c.args.found.now.notes) c.args.found.now.entry) (budget_of c.args.budget)
-    (verdicts.budget_of c.limits-limits.result) (kind_of c.asked-kind.result) (question_of c.args.question) c.in_ok-certified.certified (answer_of a) c.limits-limits.ensures
+    (verdicts.budget_of c.limits-limits.result) (kind_of c.asked-kind.result) (question_of c.args.question) c.in_ok-certified.certified
+    (answer_of a) c.limits-limits.ensures
     c.asked-kind.ensures c.in_ok-certified.ensures said) c.say.ensures

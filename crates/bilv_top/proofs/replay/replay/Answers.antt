@@ -29,7 +29,8 @@ returns-in-Go-2 g c =
     let middle = g.H.Shelf.faults c.read_elf.new.shelf report in
     let t = seen (g.H.Shelf.holds c.read_program.new.shelf) (g.H.Shelf.faults c.read_program.new.shelf) (g.H.Shelf.faults c.replay_program.new.shelf) in
     IfOk-weaker c.replay_program.result _ _
-    (λ a done. both_found s c.args.elf.now notes file (λ file text p. IsReplayedSoFar s report file p) (answer_of a) (g.H.Shelf.holds c.read_elf.new.shelf notes) (g.H.Shelf.faults c.read_elf.new.shelf notes)
+    (λ a done. both_found s c.args.elf.now notes file (λ file text p. IsReplayedSoFar s report file p) (answer_of a)
+    (g.H.Shelf.holds c.read_elf.new.shelf notes) (g.H.Shelf.faults c.read_elf.new.shelf notes)
     agrees (c.read_elf.ensures.keeps notes) (c.read_elf.ensures.never_falls notes) f found.1 found.2 found.3 found.4
     (λ is. replayed_since t s report file (program_of file (notes_of f.notes) f.entry) (answer_of a)
     (c.read_program.ensures.keeps report ∙ c.read_elf.ensures.keeps report)
@@ -43,6 +44,7 @@ returns g c =
     let notes = c.args.notes.now in
     let s = seen (g.H.Shelf.holds c.args.shelf.now) (g.H.Shelf.faults c.args.shelf.now) (g.H.Shelf.faults c.read_program.new.shelf) in
     let report = c.args.report.now in
-    both_answered s c.args.elf.now notes c.deref.result.now (λ file text p. IsReplayedSoFar s report file p) (answer_of c.in-Answered-2.answer) (g.H.Shelf.holds c.read_elf.new.shelf notes)
+    both_answered s c.args.elf.now notes c.deref.result.now (λ file text p. IsReplayedSoFar s report file p) (answer_of c.in-Answered-2.answer)
+    (g.H.Shelf.holds c.read_elf.new.shelf notes)
     (g.H.Shelf.faults c.read_elf.new.shelf notes) agrees (c.read_elf.ensures.keeps notes) (c.read_elf.ensures.never_falls notes)
     (rw c.in-Answered-2.is at c.in_ok-image.ensures.read)

@@ -29,7 +29,8 @@ returns-in-Go-2 g c =
     (λ a done. both_found s c.args.elf.now notes file (λ file text p. WhereBuilt file (IsReported p (layout_of file) b)) (answer_of a)
     (g.H.Shelf.holds c.read_elf.new.shelf notes) (g.H.Shelf.faults c.read_elf.new.shelf notes)
     agrees (c.read_elf.ensures.keeps notes) (c.read_elf.ensures.never_falls notes) f found.1 found.2 found.3 found.4
-    (λ is. subst (λ x. WhereBuilt x (IsReported (program_of x (notes_of f.notes) f.entry) (layout_of x) b) (answer_of a)) found.0 done)) c.verify_program.ensures
+    (λ is. subst (λ x. WhereBuilt x (IsReported (program_of x (notes_of f.notes) f.entry) (layout_of x) b)
+    (answer_of a)) found.0 done)) c.verify_program.ensures
 
 pub returns : goal.returns
 returns g c =
@@ -38,6 +39,7 @@ returns g c =
     let notes = c.args.notes.now in
     let s = seen (g.H.Shelf.holds c.args.shelf.now) (g.H.Shelf.faults c.args.shelf.now) (g.H.Shelf.faults c.read_program.new.shelf) in
     let b = budget_of c.args.budget in
-    both_answered s c.args.elf.now notes c.deref.result.now (λ file text p. WhereBuilt file (IsReported p (layout_of file) b)) (answer_of c.in-Answered-2.answer)
+    both_answered s c.args.elf.now notes c.deref.result.now (λ file text p. WhereBuilt file (IsReported p (layout_of file) b))
+    (answer_of c.in-Answered-2.answer)
     (g.H.Shelf.holds c.read_elf.new.shelf notes) (g.H.Shelf.faults c.read_elf.new.shelf notes) agrees (c.read_elf.ensures.keeps notes)
     (c.read_elf.ensures.never_falls notes) (rw c.in-Answered-2.is at c.in_ok-image.ensures.read)

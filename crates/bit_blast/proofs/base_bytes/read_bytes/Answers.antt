@@ -10,7 +10,8 @@ beside-requires-clause-count c =
     let k = cells_of c.args.c.now in
     let v = valuation c.args.values.now in
     rw (c.deref.ensures.value, c.deref-3.ensures.value)
-    (as_many u k c.requires.formed v c.in_ok-reading.reading (c.in_ok-reading.ensures u k c.in_ok-places.ensures) c.in_ok-words.words.items c.in_ok-words.ensures
+    (as_many u k c.requires.formed v c.in_ok-reading.reading (c.in_ok-reading.ensures u k c.in_ok-places.ensures) c.in_ok-words.words.items
+    c.in_ok-words.ensures
     c.args.c.now.addresses.items refl)
 
 pub beside-requires-clause-within : goal.beside-requires-clause-within
@@ -37,6 +38,7 @@ returns c =
     let k = cells_of c.args.c.now in
     let v = valuation c.args.values.now in
     let h = rw (c.deref.ensures.value, c.deref-2.ensures.value, c.deref-3.ensures.value) at c.in_ok-reads.ensures in
-    are_reads u k c.requires.formed v c.in_ok-reading.reading (c.in_ok-reading.ensures u k c.in_ok-places.ensures) c.in_ok-words.words.items c.in_ok-words.ensures
+    are_reads u k c.requires.formed v c.in_ok-reading.reading
+    (c.in_ok-reading.ensures u k c.in_ok-places.ensures) c.in_ok-words.words.items c.in_ok-words.ensures
     c.args.c.now.addresses.items refl
     c.in_ok-reads.reads.items h

@@ -5,9 +5,11 @@ use Rattle.bit_blast.proofs.entry.bytes_in_order.Goals as goal
 
 pub returns-clause-rise : goal.returns-clause-rise
 returns-clause-rise c =
-    pairs_rise c.requires.one.0 c.args.found.items c.sort.new.self.items c.dedup.new.self.items c.requires.one.1 c.in_ok-sort.ensures.permutation c.in_ok-sort.ensures.sorted
+    pairs_rise c.requires.one.0 c.args.found.items c.sort.new.self.items c.dedup.new.self.items c.requires.one.1 c.in_ok-sort.ensures.permutation
+    c.in_ok-sort.ensures.sorted
     (dedup_is equal_pairs _ _ c.dedup.ensures.filtered)
 
 pub returns-clause-same : goal.returns-clause-same
 returns-clause-same c =
-    ordered_pairs c.args.found.items c.sort.new.self.items c.dedup.new.self.items c.in_ok-sort.ensures.permutation (dedup_is equal_pairs _ _ c.dedup.ensures.filtered)
+    ordered_pairs c.args.found.items c.sort.new.self.items c.dedup.new.self.items c.in_ok-sort.ensures.permutation
+    (dedup_is equal_pairs _ _ c.dedup.ensures.filtered)

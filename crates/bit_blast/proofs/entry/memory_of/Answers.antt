@@ -16,26 +16,30 @@ pub returns-clause-bytes : goal.returns-clause-bytes
 returns-clause-bytes c =
     let e = rw (c.deref.ensures.value, c.deref-2.ensures.value) at c.in_ok-unknown.ensures in
     let o = c.in_ok-ordered.ensures in
-    are_bytes (program_of_cells c.args.c.now) (cells_of c.args.c.now) c.requires.formed (valuation c.args.values.now) c.in_ok-reads.reads.items c.in_ok-unknown.unknown.items
+    are_bytes (program_of_cells c.args.c.now) (cells_of c.args.c.now) c.requires.formed
+    (valuation c.args.values.now) c.in_ok-reads.reads.items c.in_ok-unknown.unknown.items
     c.in_ok-ordered.ordered.items c.not_zero.result.items c.in_ok-reads.ensures e o.same o.rise c.not_zero.ensures
 
 pub returns-clause-rise : goal.returns-clause-rise
 returns-clause-rise c =
     let e = rw (c.deref.ensures.value, c.deref-2.ensures.value) at c.in_ok-unknown.ensures in
     let o = c.in_ok-ordered.ensures in
-    they_rise (program_of_cells c.args.c.now) (cells_of c.args.c.now) c.requires.formed (valuation c.args.values.now) c.in_ok-reads.reads.items c.in_ok-unknown.unknown.items
+    they_rise (program_of_cells c.args.c.now) (cells_of c.args.c.now) c.requires.formed
+    (valuation c.args.values.now) c.in_ok-reads.reads.items c.in_ok-unknown.unknown.items
     c.in_ok-ordered.ordered.items c.not_zero.result.items c.in_ok-reads.ensures e o.same o.rise c.not_zero.ensures
 
 pub returns-clause-unknown : goal.returns-clause-unknown
 returns-clause-unknown c =
     let e = rw (c.deref.ensures.value, c.deref-2.ensures.value) at c.in_ok-unknown.ensures in
     let o = c.in_ok-ordered.ensures in
-    are_unknown (program_of_cells c.args.c.now) (cells_of c.args.c.now) c.requires.formed (valuation c.args.values.now) c.in_ok-reads.reads.items c.in_ok-unknown.unknown.items
+    are_unknown (program_of_cells c.args.c.now) (cells_of c.args.c.now) c.requires.formed
+    (valuation c.args.values.now) c.in_ok-reads.reads.items c.in_ok-unknown.unknown.items
     c.in_ok-ordered.ordered.items c.not_zero.result.items c.in_ok-reads.ensures e o.same o.rise c.not_zero.ensures
 
 pub returns-clause-gives : goal.returns-clause-gives
 returns-clause-gives c =
     let e = rw (c.deref.ensures.value, c.deref-2.ensures.value) at c.in_ok-unknown.ensures in
     let o = c.in_ok-ordered.ensures in
-    it_gives (program_of_cells c.args.c.now) (cells_of c.args.c.now) c.requires.formed (valuation c.args.values.now) c.in_ok-reads.reads.items c.in_ok-unknown.unknown.items
+    it_gives (program_of_cells c.args.c.now) (cells_of c.args.c.now) c.requires.formed
+    (valuation c.args.values.now) c.in_ok-reads.reads.items c.in_ok-unknown.unknown.items
     c.in_ok-ordered.ordered.items c.not_zero.result.items c.in_ok-reads.ensures e o.same o.rise c.not_zero.ensures c.requires.whole

@@ -9,7 +9,8 @@ overflow_mul-first_byte c = let u = program_of_cells c.args.c.now in
     let w = c.args.c.now.question.now.passive.now.unrolled.now in
     let drawn = drawn_few u (length u.points) in
     let points = points_length w w.points.items in
-    let k : c.in_ok-choices.choices.count ≤ 2 ^ 28 = omega (arith, c.in_ok-choices.ensures.all, drawn, points, c.len.ensures, c.if-len-gt-MOST.false) in Fits-of_lt (omega arith)
+    let k : c.in_ok-choices.choices.count ≤ 2 ^ 28 = omega (arith, c.in_ok-choices.ensures.all, drawn, points, c.len.ensures, c.if-len-gt-MOST.false)
+    in Fits-of_lt (omega arith)
 
 pub overflow_add-first_byte : goal.overflow_add-first_byte
 overflow_add-first_byte c =
@@ -29,4 +30,13 @@ overflow_add-result c =
     let drawn = drawn_few u (length u.points) in
     let points = points_length w w.points.items in
     let k : c.in_ok-choices.choices.count ≤ 2 ^ 28 = omega (arith, c.in_ok-choices.ensures.all, drawn, points, c.len.ensures, c.if-len-gt-MOST.false) in
-    Fits-of_lt (omega (arith, few_registers v.form, few_flags v.form, c.register_count-registers.ensures, c.flag_count-flags.ensures, c.len-reads.ensures, c.len-else-len-gt-MOST.ensures, c.if-len-gt-MOST-2.false))
+    Fits-of_lt (omega (
+      arith,
+      few_registers v.form,
+      few_flags v.form,
+      c.register_count-registers.ensures,
+      c.flag_count-flags.ensures,
+      c.len-reads.ensures,
+      c.len-else-len-gt-MOST.ensures,
+      c.if-len-gt-MOST-2.false,
+    ))

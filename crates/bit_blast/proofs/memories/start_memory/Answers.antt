@@ -9,7 +9,8 @@ loop-i-preserved c =
     let t : i < n = omega arith in
     record {
       value = λ x.
-          run_front c.args.runs.now c.args.bytes.now (n - 1 - i) (n - i) (n - (i + 1)) _ x _ _ c.requires.rising c.requires.unknown (omega arith) (omega arith) (omega arith) (c.loop-i.invariant.value x)
+          run_front c.args.runs.now c.args.bytes.now (n - 1 - i) (n - i) (n - (i + 1)) _ x _ _ c.requires.rising c.requires.unknown (omega arith) (omega arith)
+          (omega arith) (c.loop-i.invariant.value x)
           (c.in_ok-fill.ensures.value x);
       below = c.in_ok-fill.ensures.below c.loop-i.invariant.below;
     }

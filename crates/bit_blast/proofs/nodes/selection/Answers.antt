@@ -15,4 +15,5 @@ choice-requires-clause-b_within c = c.operand-b.ensures.within _ c.requires.with
 pub returns-clause-value : goal.returns-clause-value
 returns-clause-value c = λ v x h.
     c.in_ok-word.ensures.value v h
-    ∙ selected v c.operand-c.result.now _ _ _ _ _ _ (c.operand-c.ensures.len ∙ c.requires.typed.1.1) refl (c.operand-c.ensures.value v) (c.operand-a.ensures.value v) (c.operand-b.ensures.value v)
+    ∙ selected v c.operand-c.result.now _ _ _ _ _ _ (c.operand-c.ensures.len ∙ c.requires.typed.1.1) refl (c.operand-c.ensures.value v)
+    (c.operand-a.ensures.value v) (c.operand-b.ensures.value v)

@@ -14,7 +14,8 @@ pub returns-in_ok-not-in-Not-clause-made : goal.returns-in_ok-not-in-Not-clause-
 returns-in_ok-not-in-Not-clause-made c =
     let o = subst (λ n. IsTypedOver (shapes c.args.words.now) (node_of n)) c.in-Not.is c.requires.typed in
     subst (λ n. IsWord c.args.circuit.now c.args.circuit.now (own_gates (node_of n)) (width_of (node_of n)) c.in_ok-not-in-Not.field-0.items) (sym c.in-Not.is)
-    (no_gates _ _ _ (c.in_ok-not-in-Not.ensures.within _ (c.operand.ensures.within _ c.requires.within)) (c.in_ok-not-in-Not.ensures.len ∙ c.operand.ensures.len ∙ o.1.1))
+    (no_gates _ _ _ (c.in_ok-not-in-Not.ensures.within _ (c.operand.ensures.within _ c.requires.within))
+    (c.in_ok-not-in-Not.ensures.len ∙ c.operand.ensures.len ∙ o.1.1))
 
 pub returns-in_ok-selection-in-Select-clause-value : goal.returns-in_ok-selection-in-Select-clause-value
 returns-in_ok-selection-in-Select-clause-value c = λ v x h r.
@@ -22,7 +23,8 @@ returns-in_ok-selection-in-Select-clause-value c = λ v x h r.
 
 pub returns-in_ok-bits_of-in-Extract-clause-made : goal.returns-in_ok-bits_of-in-Extract-clause-made
 returns-in_ok-bits_of-in-Extract-clause-made c =
-    subst (λ n. IsWord c.args.circuit.now c.args.circuit.now (own_gates (node_of n)) (width_of (node_of n)) c.in_ok-bits_of-in-Extract.field-0.items) (sym c.in-Extract.is)
+    subst (λ n. IsWord c.args.circuit.now c.args.circuit.now (own_gates (node_of n)) (width_of (node_of n)) c.in_ok-bits_of-in-Extract.field-0.items)
+    (sym c.in-Extract.is)
     (no_gates _ _ _ (c.in_ok-bits_of-in-Extract.ensures.within _ c.requires.within) c.in_ok-bits_of-in-Extract.ensures.len)
 
 pub returns-in_ok-bits_of-in-Extract-clause-value : goal.returns-in_ok-bits_of-in-Extract-clause-value
@@ -31,7 +33,8 @@ returns-in_ok-bits_of-in-Extract-clause-value c = λ v x h r.
 
 pub returns-in_ok-joined-in-Concat-clause-made : goal.returns-in_ok-joined-in-Concat-clause-made
 returns-in_ok-joined-in-Concat-clause-made c =
-    subst (λ n. IsWord c.args.circuit.now c.args.circuit.now (own_gates (node_of n)) (width_of (node_of n)) c.in_ok-joined-in-Concat.field-0.items) (sym c.in-Concat.is)
+    subst (λ n. IsWord c.args.circuit.now c.args.circuit.now (own_gates (node_of n)) (width_of (node_of n)) c.in_ok-joined-in-Concat.field-0.items)
+    (sym c.in-Concat.is)
     (no_gates _ _ _ (c.in_ok-joined-in-Concat.ensures.within _ c.requires.within) c.in_ok-joined-in-Concat.ensures.len)
 
 pub returns-in_ok-joined-in-Concat-clause-value : goal.returns-in_ok-joined-in-Concat-clause-value

@@ -16,7 +16,8 @@ loop-i-preserved c =
       value = λ v.
           c.in_ok-tie_byte.ensures.value v
           ∙ all_more (asked_at c.args.places.now c.args.words.now v) c.args.asked.now i no_asked _ _ _ l (c.loop-i.invariant.value v)
-          (asks_is v c.operand-condition.result.now _ _ _ _ _ one (c.operand-condition.ensures.value v) (ap (number v) c.deref.ensures.value ∙ c.in_ok-bits.ensures.value v) refl);
+          (asks_is v c.operand-condition.result.now _ _ _ _ _ one (c.operand-condition.ensures.value v)
+          (ap (number v) c.deref.ensures.value ∙ c.in_ok-bits.ensures.value v) refl);
       over = λ o.
           c.in_ok-tie_byte.ensures.over (next c.args.circuit.now) ((c.operand-condition.ensures.within _ c.requires.within).each 0 no_bit (omega (arith, one)))
           (subst (Within (next c.args.circuit.now)) (sym c.deref.ensures.value) c.in_ok-bits.ensures.made.within) (c.loop-i.invariant.over o);

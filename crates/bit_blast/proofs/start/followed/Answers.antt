@@ -14,17 +14,21 @@ returns-then-places-eq0 c =
     let k = cells_of c.args.c.now in
     let v = valuation c.args.values.now in
     let e : c.args.places.now.choices ≡ 0 = (let h = c.if-places-eq0.true in grind (arith, nat_tests)) in
-    subst (λ (xs : List (ℕ × ℕ)). AreFollowed u k v c.args.bytes.now xs) (sym c.new.ensures.items) (none_followed u k v c.args.places.now c.requires.placed c.args.bytes.now e)
+    subst (λ (xs : List (ℕ × ℕ)). AreFollowed u k v c.args.bytes.now xs) (sym c.new.ensures.items)
+    (none_followed u k v c.args.places.now c.requires.placed c.args.bytes.now e)
 
 pub choices_by_step-requires-clause-within : goal.choices_by_step-requires-clause-within
 choices_by_step-requires-clause-within c =
     let passive = c.args.c.now.question.now.passive.now in
     rw (c.deref.ensures.value, c.deref-2.ensures.value)
-    (met_within (program_of_cells c.args.c.now) (passive_of passive) c.requires.passive passive.met.items refl c.in_ok-words.words.items c.in_ok-words.ensures.count)
+    (met_within (program_of_cells c.args.c.now) (passive_of passive) c.requires.passive passive.met.items refl c.in_ok-words.words.items
+    c.in_ok-words.ensures.count)
 
 pub returns : goal.returns
 returns c =
     let passive = c.args.c.now.question.now.passive.now in
     let h = rw (c.deref.ensures.value, c.deref-2.ensures.value) at c.in_ok-choices.ensures in
-    are_followed (program_of_cells c.args.c.now) (cells_of c.args.c.now) (valuation c.args.values.now) c.args.places.now c.requires.placed (passive_of passive) c.requires.walkable c.requires.passive
-    c.args.bytes.now c.in_ok-choices.choices.items (reading_of c.in_ok-reading.reading) c.in_ok-reading.ensures c.in_ok-words.words.items c.in_ok-words.ensures passive.met.items refl _ h
+    are_followed (program_of_cells c.args.c.now) (cells_of c.args.c.now) (valuation c.args.values.now) c.args.places.now c.requires.placed
+    (passive_of passive) c.requires.walkable c.requires.passive
+    c.args.bytes.now c.in_ok-choices.choices.items (reading_of c.in_ok-reading.reading) c.in_ok-reading.ensures c.in_ok-words.words.items c.in_ok-words.ensures
+    passive.met.items refl _ h

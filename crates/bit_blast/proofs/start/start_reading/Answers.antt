@@ -20,7 +20,8 @@ returns c =
       flags = λ f. flag_of u k v p c.requires.placed f _ (c.in_ok-flags.ensures f);
       mem = λ a.
           small_byte _ _ (c.in_ok-memory.ensures.below a)
-          (c.in_ok-memory.ensures.value a ∙ ap (λ (z : List Known). known_or (byte_of_runs (map run_of z) (word 32 a)) c.args.bytes.now a) c.deref.ensures.value);
+          (c.in_ok-memory.ensures.value a ∙ ap (λ (z : List Known). known_or
+          (byte_of_runs (map run_of z) (word 32 a)) c.args.bytes.now a) c.deref.ensures.value);
       small = λ a. byte_below _;
       choice = λ i. drawn_is u k v p c.requires.placed i _ (c.in_ok-choices.ensures i);
     }

@@ -6,4 +6,5 @@ use Rattle.bit_blast.proofs.starts.registers_of.Goals as goal
 
 pub loop-i-preserved : goal.loop-i-preserved
 loop-i-preserved c =
-    rw (c.in_ok-push.ensures.items, c.loop-i.invariant, c.number_at.ensures.value) (sym (mapped_push (λ q. bits_from (valuation c.args.values.now) (32 * q) 32) c.loop-i.i))
+    rw (c.in_ok-push.ensures.items, c.loop-i.invariant, c.number_at.ensures.value) (sym (mapped_push
+    (λ q. bits_from (valuation c.args.values.now) (32 * q) 32) c.loop-i.i))

@@ -18,10 +18,12 @@ loop-i-preserved c =
       | then-words-met-eq1+in_ok-list_choice w ↦ (
           let l : i < length c.args.places.now.drawn.items = omega (arith, c.requires.count, c.loop-i-test.true) in
           let t : met i ≡ true = (let h = w.if-words-met-eq1.true in grind (arith, nat_tests)) in
-          let e = ap (choice_by c.args.places.now v) (any_default c.args.places.now.drawn.items i None _ l ∙ sym w.index.ensures) ∙ sym w.choice_of-choice.ensures.value in
+          let e = ap (choice_by c.args.places.now v) (any_default c.args.places.now.drawn.items i None _ l ∙ sym w.index.ensures) ∙ sym
+          w.choice_of-choice.ensures.value in
           record {
             choices =
-                rw (w.choices-is, w.step-is, w.in_ok-list_choice.ensures) (next_met met choice i c.loop-i.step w.choice_of-choice.result c.loop-i.choices.items inv.choices t e w.choice_of-choice.ensures.few);
+                rw (w.choices-is, w.step-is, w.in_ok-list_choice.ensures)
+                (next_met met choice i c.loop-i.step w.choice_of-choice.result c.loop-i.choices.items inv.choices t e w.choice_of-choice.ensures.few);
             few = let s = w.step-is in let k = inv.few in omega arith;
           })
       | else-words-met-eq1 w ↦ (

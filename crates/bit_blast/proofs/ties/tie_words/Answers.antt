@@ -16,8 +16,10 @@ loop-i-preserved c =
     record {
       value = λ v.
           ap (λ z. z && asks (bit_value v c.args.condition) (number v (drop (i + 1) a) == number v (drop (i + 1) b)))
-          (c.in_ok-push_tie-2.ensures.value v ∙ ap (λ z. z && any_of v (c.negation-apart.result ∷ get_or a i no_bit ∷ c.negation-not_y.result ∷ [])) (c.in_ok-push_tie.ensures.value v))
-          ∙ words_step v a b i _ _ _ _ _ _ _ _ l m refl refl (c.negation-apart.ensures.value v) (c.negation-not_x.ensures.value v) (c.negation-not_y.ensures.value v) (c.loop-i.invariant.value v);
+          (c.in_ok-push_tie-2.ensures.value v ∙ ap (λ z. z &&
+          any_of v (c.negation-apart.result ∷ get_or a i no_bit ∷ c.negation-not_y.result ∷ [])) (c.in_ok-push_tie.ensures.value v))
+          ∙ words_step v a b i _ _ _ _ _ _ _ _ l m refl refl (c.negation-apart.ensures.value v) (c.negation-not_x.ensures.value v)
+          (c.negation-not_y.ensures.value v) (c.loop-i.invariant.value v);
       over = λ n p q s o.
           let apart : variable_of c.negation-apart.result < n = omega (arith, c.negation-apart.ensures.variable) in
           let x = q.each i no_bit l in

@@ -8,10 +8,12 @@ loop-i-init c = blasted_none c.args.places.now _ c.args.dag.now _ c.in_ok-words.
 pub word_of-requires-clause-typed : goal.word_of-requires-clause-typed
 word_of-requires-clause-typed c =
     rw c.deref.ensures.value
-    (typed_next c.args.places.now _ _ c.args.dag.now c.loop-i.i _ _ c.nodes-count.ensures.typed (omega (arith, c.nodes-count.ensures.count)) c.node-node.ensures c.loop-i.invariant)
+    (typed_next c.args.places.now _ _ c.args.dag.now c.loop-i.i _ _ c.nodes-count.ensures.typed
+    (omega (arith, c.nodes-count.ensures.count)) c.node-node.ensures c.loop-i.invariant)
 
 pub word_of-requires-clause-of_words : goal.word_of-requires-clause-of_words
-word_of-requires-clause-of_words c = c.requires.of_words _ (node_in c.args.dag.now c.loop-i.i _ (omega (arith, c.nodes-count.ensures.count)) c.node-node.ensures)
+word_of-requires-clause-of_words c = c.requires.of_words _ (node_in c.args.dag.now c.loop-i.i _
+    (omega (arith, c.nodes-count.ensures.count)) c.node-node.ensures)
 
 pub word_of-requires-clause-named : goal.word_of-requires-clause-named
 word_of-requires-clause-named c = c.requires.named _ (node_in c.args.dag.now c.loop-i.i _ (omega (arith, c.nodes-count.ensures.count)) c.node-node.ensures)

@@ -13,4 +13,5 @@ returns-then-not-is_at c =
 pub returns : goal.returns
 returns c =
     let at = c.is_at.ensures.at c.if-not-is_at.false in
-    sym (byte_at (entries_of c.args.g.now) c.place-i.result c.args.address (0, 0) c.place-i.ensures.below at.0 at.1 ∙ ap (λ (e : ℕ × ℕ). e.1) (c.entry.ensures (0, 0)))
+    sym (byte_at (entries_of c.args.g.now) c.place-i.result c.args.address (0, 0) c.place-i.ensures.below at.0 at.1 ∙ ap (λ (e : ℕ ×
+    ℕ). e.1) (c.entry.ensures (0, 0)))

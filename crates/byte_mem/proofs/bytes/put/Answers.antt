@@ -37,7 +37,8 @@ returns-then-is_at-clause-room c n room = c.replace.ensures.room n (less_room _ 
 pub returns-then-byte-eq0-2-clause-puts : goal.returns-then-byte-eq0-2-clause-puts
 returns-then-byte-eq0-2-clause-puts c =
     let p = c.place-i.ensures in
-    put_nothing _ _ _ c.if-byte-eq0-2.true (none_at _ c.place-i.result _ c.requires.memory.kept.rising p.within p.below p.from (c.is_at.ensures.away c.if-is_at.false))
+    put_nothing _ _ _ c.if-byte-eq0-2.true (none_at _ c.place-i.result _ c.requires.memory.kept.rising p.within p.below p.from
+    (c.is_at.ensures.away c.if-is_at.false))
 
 pub returns-then-byte-eq0-2-clause-room : goal.returns-then-byte-eq0-2-clause-room
 returns-then-byte-eq0-2-clause-room c n room = less_room _ _ n (omega arith) room

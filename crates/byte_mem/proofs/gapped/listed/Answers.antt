@@ -7,5 +7,6 @@ pub loop-i-preserved : goal.loop-i-preserved
 loop-i-preserved c =
     let es = entries_of c.args.g.now in
     let within : c.loop-i.i < length es = omega arith in
-    c.in_ok-push.ensures.items ∙ ap (λ l. l ++ c.entry.result ∷ []) c.loop-i.invariant ∙ ap (λ (e : ℕ × ℕ). take c.loop-i.i es ++ e ∷ []) (sym (c.entry.ensures (0, 0)))
+    c.in_ok-push.ensures.items ∙ ap (λ l. l ++ c.entry.result ∷ []) c.loop-i.invariant ∙ ap (λ (e : ℕ ×
+    ℕ). take c.loop-i.i es ++ e ∷ []) (sym (c.entry.ensures (0, 0)))
     ∙ sym (take_more es c.loop-i.i (0, 0) within)

@@ -9,7 +9,8 @@ loop-byte-preserved c =
     let i = c.loop-byte.byte-index in
     let inv = c.loop-byte.invariant in
     let e = c.in-Some.ensures in
-    let size : c.min-size.result ≡ min (c.loop-byte.size * 10 + c.in-Some.next) (2 ^ 62 + 1) = omega (arith, c.min-size.ensures, c.saturating_add.ensures, c.saturating_mul.ensures, inv.small, e.2) in
+    let size : c.min-size.result ≡ min (c.loop-byte.size * 10 + c.in-Some.next) (2 ^ 62 + 1) = omega
+    (arith, c.min-size.ensures, c.saturating_add.ensures, c.saturating_mul.ensures, inv.small, e.2) in
     record {
       digits = inv.digits ∙ digits-more ds i c.loop-byte-test.true e.0;
       value = inv.value ∙ capped-more ds i c.loop-byte.size c.min-size.result c.in-Some.next c.loop-byte-test.true e.1 size;

@@ -7,7 +7,8 @@ returns-then-is_blank_byte-clause-words c =
     let rest = c.from_word-rest.result.now in
     let some : 0 < length rest = let lt = c.loop-i-test.true in omega arith in
     sym c.from_word-rest.ensures.words
-    ∙ word-cut rest c.loop-i.i c.loop-i-test.true (sym c.is_blank_byte.ensures ∙ c.if-is_blank_byte.true) (c.from_word-rest.ensures.start some) c.loop-i.invariant
+    ∙ word-cut rest c.loop-i.i c.loop-i-test.true (sym c.is_blank_byte.ensures ∙ c.if-is_blank_byte.true)
+    (c.from_word-rest.ensures.start some) c.loop-i.invariant
 
 pub returns-clause-words : goal.returns-clause-words
 returns-clause-words c =

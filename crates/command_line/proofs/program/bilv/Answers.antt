@@ -8,7 +8,10 @@ use Rattle.command_line.proofs.program.bilv.Goals as goal
 pub returns : goal.returns
 unfolding bilv_app
 returns c =
-    let bare : IsMade (record (new_app (codes "bilv")) { top = record (new_app (codes "bilv")).top { subcommand_required = true } }) c.subcommand_required.result = record {
+    let bare : IsMade (record (new_app (codes "bilv")) {
+      top = record
+          (new_app (codes "bilv")).top { subcommand_required = true };
+    }) c.subcommand_required.result = record {
       app = ap app_of_fields c.subcommand_required.ensures ∙ ap (λ (a : App). record a { top = record a.top { subcommand_required = true } }) c.new.ensures.app;
       globals = ap (λ f. f.has_globals) c.subcommand_required.ensures ∙ c.new.ensures.local;
     } in

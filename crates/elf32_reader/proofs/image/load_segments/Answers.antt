@@ -26,7 +26,8 @@ returns-then-overlaps-clause-refused c =
 
 pub returns-else-overlaps-clause-tied : goal.returns-else-overlaps-clause-tied
 returns-else-overlaps-clause-tied c =
-    tied c.args.file.now c.in-Ok.found.items c.in-Ok.ensures (subst IsApart c.deref.ensures.value c.if-overlaps.ensures) c.if-passes_memory.ensures c.if-passes_file.ensures
+    tied c.args.file.now c.in-Ok.found.items c.in-Ok.ensures (subst IsApart c.deref.ensures.value c.if-overlaps.ensures) c.if-passes_memory.ensures
+    c.if-passes_file.ensures
 
 pub returns-else-overlaps-clause-clear : goal.returns-else-overlaps-clause-clear
 returns-else-overlaps-clause-clear c =

@@ -47,4 +47,5 @@ returns c =
       | then-place-gt0+else-a-h w ↦ short_at c.args.found.now c.args.a i j d e is most w.if-a-h.false
       | else-place-gt0 w ↦ absurd (omega arith)
     ])
-    (λ k e n w. let r = c.requires.listed.rising i k e n w in let same = ap (λ (y : ProgramHeader). y.address) (get_or_default c.args.found.now i e d within) in omega arith))
+    (λ k e n w. let r = c.requires.listed.rising i k e n w in let same = ap (λ (y : ProgramHeader). y.address) (get_or_default c.args.found.now i e d within)
+    in omega arith))

@@ -13,8 +13,11 @@ loop-h-preserved c =
     elim c.if-is_kept.branch [
       | then-is_kept+in_ok-add_run w ↦ rw w.runs-is (
           elim w.in_ok-add_run.ensures as (λ _. IsRunsTo c.args.found.now (c.loop-h.h-index + 1) w.add_run.new.runs.items) [
-            | inl e ↦ runs_extend c.args.found.now c.loop-h.h-index _ c.loop-h.runs.items _ at (sym c.is_kept.ensures ∙ w.if-is_kept.true) c.requires.apart c.requires.solid c.loop-h.invariant e
-            | inr p ↦ runs_push c.args.found.now c.loop-h.h-index _ c.loop-h.runs.items _ at (sym c.is_kept.ensures ∙ w.if-is_kept.true) c.requires.apart c.requires.solid c.loop-h.invariant p
+            | inl e ↦ runs_extend c.args.found.now c.loop-h.h-index _ c.loop-h.runs.items _ at
+                (sym c.is_kept.ensures ∙ w.if-is_kept.true) c.requires.apart c.requires.solid c.loop-h.invariant e
+            | inr p ↦ runs_push c.args.found.now c.loop-h.h-index _ c.loop-h.runs.items _ at
+                (sym c.is_kept.ensures ∙ w.if-is_kept.true) c.requires.apart c.requires.solid c.loop-h.invariant p
           ])
-      | else-is_kept w ↦ rw w.runs-is (runs_skip c.args.found.now c.loop-h.h-index _ c.loop-h.runs.items at (sym c.is_kept.ensures ∙ w.if-is_kept.false) c.loop-h.invariant)
+      | else-is_kept w ↦ rw w.runs-is (runs_skip c.args.found.now c.loop-h.h-index _ c.loop-h.runs.items at
+          (sym c.is_kept.ensures ∙ w.if-is_kept.false) c.loop-h.invariant)
     ]

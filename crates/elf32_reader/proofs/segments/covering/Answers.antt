@@ -9,7 +9,8 @@ pub returns-then-place-eq0 : goal.returns-then-place-eq0
 returns-then-place-eq0 c = none_before c.args.found.now c.args.a (λ k d w. c.begun-place.ensures.behind k d (omega arith) w)
 
 pub overflow_sub-a : goal.overflow_sub-a
-overflow_sub-a c = c.begun-place.ensures.before (c.begun-place.result - 1) record { kind = 0; offset = 0; address = 0; in_file = 0; in_memory = 0; flags = 0 } (omega arith) (omega arith)
+overflow_sub-a c = c.begun-place.ensures.before (c.begun-place.result - 1) record { kind = 0; offset = 0; address = 0; in_file = 0; in_memory = 0; flags = 0 }
+    (omega arith) (omega arith)
 
 pub returns : goal.returns
 returns c =

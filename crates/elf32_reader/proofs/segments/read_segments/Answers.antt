@@ -9,8 +9,10 @@ loop-i-preserved c =
     elim c.if-has_memory.branch [
       | then-has_memory+in_ok-push w ↦
           rw (w.found-is, w.in_ok-push.ensures.items)
-          (kept_push c.args.file.now (field c.args.file.now 4 28) c.loop-i.i _ _ c.loop-i.invariant c.header_at-s.ensures (sym c.has_memory.ensures ∙ w.if-has_memory.true))
+          (kept_push c.args.file.now (field c.args.file.now 4 28) c.loop-i.i _ _ c.loop-i.invariant c.header_at-s.ensures
+          (sym c.has_memory.ensures ∙ w.if-has_memory.true))
       | else-has_memory w ↦
           rw w.found-is
-          (kept_skip c.args.file.now (field c.args.file.now 4 28) c.loop-i.i _ _ c.loop-i.invariant c.header_at-s.ensures (sym c.has_memory.ensures ∙ w.if-has_memory.false))
+          (kept_skip c.args.file.now (field c.args.file.now 4 28) c.loop-i.i _ _ c.loop-i.invariant c.header_at-s.ensures
+          (sym c.has_memory.ensures ∙ w.if-has_memory.false))
     ]

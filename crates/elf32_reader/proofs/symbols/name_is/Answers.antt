@@ -5,7 +5,8 @@ use Rattle.elf32_reader.proofs.symbols.name_is.Goals as goal
 
 pub returns-then-not-stands_at : goal.returns-then-not-stands_at
 returns-then-not-stands_at c =
-    not_name c.args.file.now c.args.name.now (section c.args.file.now c.args.link) c.args.names.now.offset c.args.at c.requires.header.offset c.if-not-stands_at.ensures
+    not_name c.args.file.now c.args.name.now (section c.args.file.now c.args.link) c.args.names.now.offset c.args.at c.requires.header.offset
+    c.if-not-stands_at.ensures
 
 pub returns : goal.returns
 returns c =

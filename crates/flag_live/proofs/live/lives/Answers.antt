@@ -12,15 +12,19 @@ loop-i-preserved c =
     let marked = c.in_ok-marked.marked.items in
     let m = c.index.result.now in
     let inside : c.loop-i.i < length nodes.items = omega (arith, nodes.ok.0) in
-    live_more nodes.items marked c.args.flag c.loop-i.i c.loop-i.live.items c.push.new.self.items c.is_live.result m (node_from_read nodes.items c.loop-i.i m inside c.index.ensures) c.in_ok-push.ensures.items
+    live_more nodes.items marked c.args.flag c.loop-i.i c.loop-i.live.items c.push.new.self.items c.is_live.result m
+    (node_from_read nodes.items c.loop-i.i m inside c.index.ensures) c.in_ok-push.ensures.items
     c.loop-i.invariant
     (subst (λ (xs : List Node). c.is_live.result ≡ true → IsLiveNode xs marked c.args.flag m) c.deref.ensures.value
-    (subst (λ (xs : List Bool). c.is_live.result ≡ true → IsLiveNode c.deref.result.now xs c.args.flag m) c.deref-in-loop-i.ensures.value c.is_live.ensures.found))
+    (subst (λ (xs : List Bool). c.is_live.result ≡ true → IsLiveNode c.deref.result.now xs c.args.flag m) c.deref-in-loop-i.ensures.value
+    c.is_live.ensures.found))
     (subst (λ (xs : List Node). AreRising xs → IsLiveNode xs marked c.args.flag m → c.is_live.result ≡ true) c.deref.ensures.value
-    (subst (λ (xs : List Bool). AreRising c.deref.result.now → IsLiveNode c.deref.result.now xs c.args.flag m → c.is_live.result ≡ true) c.deref-in-loop-i.ensures.value c.is_live.ensures.only))
+    (subst (λ (xs : List Bool). AreRising c.deref.result.now → IsLiveNode c.deref.result.now xs c.args.flag m →
+    c.is_live.result ≡ true) c.deref-in-loop-i.ensures.value c.is_live.ensures.only))
 
 pub returns : goal.returns
 returns c p is =
     let nodes = c.args.graph.now.nodes in
     let all : c.loop-i.i ≡ length nodes.items = omega (arith, nodes.ok.0) in
-    lives_are p c.args.graph.now c.args.flag c.loop-i.i c.in_ok-marked.marked.items c.loop-i.live.items c.requires all c.loop-i.invariant is (c.in_ok-marked.ensures p is)
+    lives_are p c.args.graph.now c.args.flag c.loop-i.i c.in_ok-marked.marked.items c.loop-i.live.items c.requires all c.loop-i.invariant is
+    (c.in_ok-marked.ensures p is)

@@ -7,7 +7,8 @@ use Rattle.flag_live.proofs.paths.edges_of.Goals as goal
 pub loop-i-preserved : goal.loop-i-preserved
 loop-i-preserved c =
     let here = node_from_read c.args.nodes.now c.loop-i.i c.index-nodes-i.result (omega arith) c.index-nodes-i.is in
-    adds_node c.args.nodes.now c.args.flag c.loop-i.i c.index-nodes-i.result [] c.loop-i.edges.items c.add_edges.new.edges.items here c.loop-i.invariant c.in_ok-add_edges.ensures
+    adds_node c.args.nodes.now c.args.flag c.loop-i.i c.index-nodes-i.result [] c.loop-i.edges.items c.add_edges.new.edges.items here c.loop-i.invariant
+    c.in_ok-add_edges.ensures
 
 pub returns-clause-found : goal.returns-clause-found
 returns-clause-found c e has =

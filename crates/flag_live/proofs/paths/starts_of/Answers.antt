@@ -8,7 +8,8 @@ loop-i-preserved c =
     let nodes = c.args.graph.now.nodes in
     let inside : c.loop-i.i < length nodes.items = omega (arith, nodes.ok.0) in
     let here = node_from_read nodes.items c.loop-i.i c.index.result.now inside c.index.ensures in
-    starts_more nodes.items c.args.flag c.loop-i.i c.index.result.now c.loop-i.starts.items c.add.new.list.items c.start_at.result here c.in_ok-add.ensures c.start_at.ensures c.loop-i.invariant
+    starts_more nodes.items c.args.flag c.loop-i.i c.index.result.now c.loop-i.starts.items c.add.new.list.items c.start_at.result here c.in_ok-add.ensures
+    c.start_at.ensures c.loop-i.invariant
 
 pub returns-then-has_flag : goal.returns-then-has_flag
 returns-then-has_flag c =

@@ -16,12 +16,15 @@ loop-i-preserved c =
     record {
       same =
           subst (λ (xs : List Node). AllZip IsSameNode (take (i + 1) old.items) xs) (sym c.in_ok-push.ensures.items)
-          (all_zip_more IsSameNode old.items c.loop-i.nodes.items i c.index.result.now c.in_ok-node.node inside c.index.ensures c.loop-i.invariant.same c.in_ok-node.ensures.same);
+          (all_zip_more IsSameNode old.items c.loop-i.nodes.items i c.index.result.now c.in_ok-node.node inside c.index.ensures c.loop-i.invariant.same
+          c.in_ok-node.ensures.same);
       kept =
-          kept_more c.loop-i.nodes.items c.push.new.self.items c.in_ok-node.node i c.in_ok-lives.field-0.items c.in_ok-lives-2.field-0.items c.in_ok-lives-3.field-0.items c.in_ok-lives-4.field-0.items
+          kept_more c.loop-i.nodes.items c.push.new.self.items c.in_ok-node.node i c.in_ok-lives.field-0.items c.in_ok-lives-2.field-0.items
+          c.in_ok-lives-3.field-0.items c.in_ok-lives-4.field-0.items
           count c.in_ok-push.ensures.items
           (subst
-          (λ (set : ℕ). IsSetOf set (get_or c.in_ok-lives.field-0.items i false) (get_or c.in_ok-lives-2.field-0.items i false) (get_or c.in_ok-lives-3.field-0.items i false) (get_or c.in_ok-lives-4.field-0.items i false))
+          (λ (set : ℕ). IsSetOf set (get_or c.in_ok-lives.field-0.items i false) (get_or c.in_ok-lives-2.field-0.items i false)
+          (get_or c.in_ok-lives-3.field-0.items i false) (get_or c.in_ok-lives-4.field-0.items i false))
           (sym c.in_ok-node.ensures.kept) c.keeps_at.ensures)
           c.loop-i.invariant.kept;
     }
@@ -30,6 +33,7 @@ pub returns-clause-live : goal.returns-clause-live
 returns-clause-live c p is =
     let old = c.args.graph.now.nodes in
     let all : length old.items ≤ c.loop-i.i = omega (arith, old.ok.0) in
-    stay_live p c.args.graph.now c.loop-i.nodes.items c.in_ok-lives.field-0.items c.in_ok-lives-2.field-0.items c.in_ok-lives-3.field-0.items c.in_ok-lives-4.field-0.items
+    stay_live p c.args.graph.now c.loop-i.nodes.items c.in_ok-lives.field-0.items c.in_ok-lives-2.field-0.items c.in_ok-lives-3.field-0.items
+    c.in_ok-lives-4.field-0.items
     (same_all old.items c.loop-i.nodes.items c.loop-i.i all c.loop-i.invariant.same) c.loop-i.invariant.kept
     (c.in_ok-lives.ensures p is) (c.in_ok-lives-2.ensures p is) (c.in_ok-lives-3.ensures p is) (c.in_ok-lives-4.ensures p is)

@@ -10,5 +10,6 @@ invariant-loop-i l = record {
   same : AllZip IsSameNode (take l.i l.graph.nodes.items) l.nodes.items;
   kept :
       (k : ℕ) (d : Node) → k < length l.nodes.items
-      → IsSetOf (get_or l.nodes.items k d).keeps (get_or l.lives.negative.items k false) (get_or l.lives.zero.items k false) (get_or l.lives.carry.items k false) (get_or l.lives.overflow.items k false);
+      → IsSetOf (get_or l.nodes.items k d).keeps (get_or l.lives.negative.items k false) (get_or l.lives.zero.items k false)
+      (get_or l.lives.carry.items k false) (get_or l.lives.overflow.items k false);
 }

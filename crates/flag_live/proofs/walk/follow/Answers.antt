@@ -17,9 +17,11 @@ loop-i-preserved c =
     record {
       extends = extends_more _ _ _ _ _ _ c.loop-i.invariant.extends marked;
       led =
-          led_more c.args.edges.now c.first_from-first.result i (length c.args.marks.now.marked.items) c.loop-i.marks.marked.items c.mark.new.marks.marked.items d inside
+          led_more c.args.edges.now c.first_from-first.result i
+          (length c.args.marks.now.marked.items) c.loop-i.marks.marked.items c.mark.new.marks.marked.items d inside
           c.loop-i.invariant.led marked.kept (λ less. mark_led _ _ _ _ _ c.in_ok-mark.ensures (omega arith));
       walk = λ starts is there.
           mark_walk c.args.edges.now starts _ _ _ _ _ c.in_ok-mark.ensures (c.loop-i.invariant.walk starts is there)
-          (led_reached c.args.edges.now starts (length c.args.marks.now.marked.items) (length c.loop-i.marks.marked.items) c.args.vertex i d size inside at there);
+          (led_reached c.args.edges.now starts (length c.args.marks.now.marked.items)
+          (length c.loop-i.marks.marked.items) c.args.vertex i d size inside at there);
     }

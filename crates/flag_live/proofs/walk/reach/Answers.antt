@@ -11,9 +11,11 @@ loop-start-preserved c =
     let marked = mark_extends _ _ _ _ _ c.in_ok-mark.ensures in
     record {
       size = marked.size ∙ size;
-      walk = mark_walk c.args.edges.now c.args.starts.now _ _ _ _ _ c.in_ok-mark.ensures c.loop-start.invariant.walk (start_reached c.args.edges.now c.args.starts.now _ i 0 inside);
+      walk = mark_walk c.args.edges.now c.args.starts.now _ _ _ _ _ c.in_ok-mark.ensures c.loop-start.invariant.walk
+          (start_reached c.args.edges.now c.args.starts.now _ i 0 inside);
       begun =
-          begun_more c.args.starts.now i c.args.count c.loop-start.marks.marked.items c.mark.new.marks.marked.items 0 inside c.loop-start.invariant.begun marked.kept
+          begun_more c.args.starts.now i c.args.count c.loop-start.marks.marked.items c.mark.new.marks.marked.items 0 inside c.loop-start.invariant.begun
+          marked.kept
           (λ less. mark_led _ _ _ _ _ c.in_ok-mark.ensures (omega arith));
     }
 
@@ -22,14 +24,16 @@ loop-next-preserved c =
     let size = c.loop-next.invariant.size in
     let at = c.index-vertex.ensures in
     let inside : c.loop-next.next < length c.loop-next.marks.queue.items = omega arith in
-    let there = subst (λ (x : ℕ). Reaches (length c.loop-next.marks.marked.items) c.args.edges.now c.args.starts.now x) (sym at) (c.loop-next.invariant.walk.reached c.loop-next.next c.index-vertex.result.now inside) in
+    let there = subst (λ (x : ℕ). Reaches (length c.loop-next.marks.marked.items) c.args.edges.now c.args.starts.now x) (sym at)
+    (c.loop-next.invariant.walk.reached c.loop-next.next c.index-vertex.result.now inside) in
     let extends = c.in_ok-follow.ensures.extends in
     record {
       size = extends.size ∙ size;
       walk = c.in_ok-follow.ensures.walk c.args.starts.now c.loop-next.invariant.walk there;
       begun = λ v has less. extends.kept v (c.loop-next.invariant.begun v has less);
       followed =
-          followed_more c.args.edges.now c.loop-next.marks.marked.items c.loop-next.marks.queue.items c.follow.new.marks.marked.items c.follow.new.marks.queue.items
+          followed_more c.args.edges.now c.loop-next.marks.marked.items c.loop-next.marks.queue.items c.follow.new.marks.marked.items
+          c.follow.new.marks.queue.items
           c.loop-next.next c.index-vertex.result.now inside at extends c.loop-next.invariant.followed c.in_ok-follow.ensures.led;
     }
 

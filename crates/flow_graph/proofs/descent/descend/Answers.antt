@@ -22,7 +22,8 @@ returns-clause-graph g c =
     } in
     let graph : Graph = record { nodes = c.in_ok-nodes.nodes; ensured = c.ensured.result } in
     subst (λ (m : Machine). IsGraph (over m) graph) (sym c.requires.machine)
-    (whole_graph (over g.M.Machine.machine) c.in_ok-all_nodes.field-0.items graph c.in_ok-all_nodes.ensures c.in_ok-nodes.ensures.moved c.in_ok-nodes.ensures.rising
+    (whole_graph (over g.M.Machine.machine) c.in_ok-all_nodes.field-0.items graph c.in_ok-all_nodes.ensures c.in_ok-nodes.ensures.moved
+    c.in_ok-nodes.ensures.rising
     (lines_are c.args.notes.now.ensured.items _ c.ensured.result c.deref.ensures.value c.ensured.ensures))
 
 pub returns-clause-stay : goal.returns-clause-stay

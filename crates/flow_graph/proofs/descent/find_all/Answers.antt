@@ -11,12 +11,15 @@ loop-successor-preserved c =
     elim c.if-not-contains.branch [
       | then-not-contains+in_ok-insert+in_ok-push w ↦
           rw (w.found-is, w.seen-is)
-          (finding_new c.args.found.now.items c.args.successors.now c.loop-successor.successor-index _ (omega arith) c.loop-successor.found.items w.push.new.self.items
-          c.loop-successor.seen w.insert.new.self (omega arith) (sym c.contains.ensures ∙ w.if-not-contains.true) w.in_ok-insert.ensures.updates.0 w.in_ok-push.ensures.items
+          (finding_new c.args.found.now.items c.args.successors.now c.loop-successor.successor-index _
+          (omega arith) c.loop-successor.found.items w.push.new.self.items
+          c.loop-successor.seen w.insert.new.self (omega arith)
+          (sym c.contains.ensures ∙ w.if-not-contains.true) w.in_ok-insert.ensures.updates.0 w.in_ok-push.ensures.items
           c.loop-successor.invariant)
       | else-not-contains w ↦
           rw (w.found-is, w.seen-is)
-          (finding_had c.args.found.now.items c.args.successors.now c.loop-successor.successor-index _ (omega arith) c.loop-successor.found.items c.loop-successor.seen
+          (finding_had c.args.found.now.items c.args.successors.now c.loop-successor.successor-index _
+          (omega arith) c.loop-successor.found.items c.loop-successor.seen
           (sym c.contains.ensures ∙ w.if-not-contains.false) c.loop-successor.invariant)
     ]
 

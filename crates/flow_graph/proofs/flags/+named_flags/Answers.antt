@@ -12,4 +12,5 @@ returns-in-Binary t c =
     ap (λ x. names_flag f (expr_of x) || names_flag f (expr_of c.deref-in-Binary.result.now)) c.deref.ensures
     ∙ ap (λ x. names_flag f (expr_of c.in-Binary.a.value) || names_flag f (expr_of x)) c.deref-in-Binary.ensures
     ∙ sym (ap (λ x. names_flag f (expr_of x)) c.in-Binary.is))
-    (flags_or _ _ (λ f. names_flag f (expr_of c.deref.result.now)) (λ f. names_flag f (expr_of c.deref-in-Binary.result.now)) c.named_flags.ensures c.named_flags-in-Binary.ensures)
+    (flags_or _ _ (λ f. names_flag f (expr_of c.deref.result.now))
+    (λ f. names_flag f (expr_of c.deref-in-Binary.result.now)) c.named_flags.ensures c.named_flags-in-Binary.ensures)

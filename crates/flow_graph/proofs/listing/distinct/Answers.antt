@@ -7,4 +7,5 @@ use Rattle.flow_graph.proofs.listing.distinct.Goals as goal
 
 pub returns : goal.returns
 returns c =
-    dedup_same _ (λ (x y : Successor). place (successor_of x) == place (successor_of y)) _ (λ x y b f' x' y' k. search rules) _ _ c.dedup_by_key.ensures.filtered
+    dedup_same _ (λ (x y : Successor). place (successor_of x) == place (successor_of y)) _
+    (λ x y b f' x' y' k. search rules) _ _ c.dedup_by_key.ensures.filtered

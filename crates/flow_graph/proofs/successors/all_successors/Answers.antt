@@ -7,9 +7,14 @@ use Rattle.flow_graph.proofs.successors.all_successors.Goals as goal
 
 pub returns : goal.returns
 returns g c =
-    all_is (program g.M.Machine.machine c.args.p.now) c.args.at (g.M.Machine.row c.args.insn.now) c.args.ways c.jump_letter-letter.result c.in_ok-targets.targets.items _
-    c.then_some.result c.then_some-2.result (map successor_of c.new-found.result.items) (map successor_of c.push_some.new.found.items) (map successor_of c.push_some-2.new.found.items)
-    (map successor_of c.push_each.new.found.items) (map successor_of c.push_some-3.new.found.items) refl (g.met.M.Machine.four_bytes c.args.insn.now) c.jump_letter-letter.ensures
-    c.in_ok-targets.ensures c.then_some.ensures c.then_some-2.ensures (ap (map successor_of) c.new-found.ensures.items) c.in_ok-push_some.ensures c.in_ok-push_some-2.ensures
-    (c.in_ok-push_each.ensures ∙ ap (λ l. map successor_of c.push_some-2.new.found.items ++ map (graph.successor (letter_of c.jump_letter-letter.result)) l) c.deref.ensures.value)
+    all_is (program g.M.Machine.machine c.args.p.now) c.args.at
+    (g.M.Machine.row c.args.insn.now) c.args.ways c.jump_letter-letter.result c.in_ok-targets.targets.items _
+    c.then_some.result c.then_some-2.result (map successor_of c.new-found.result.items) (map successor_of c.push_some.new.found.items)
+    (map successor_of c.push_some-2.new.found.items)
+    (map successor_of c.push_each.new.found.items) (map successor_of c.push_some-3.new.found.items) refl
+    (g.met.M.Machine.four_bytes c.args.insn.now) c.jump_letter-letter.ensures
+    c.in_ok-targets.ensures c.then_some.ensures c.then_some-2.ensures
+    (ap (map successor_of) c.new-found.ensures.items) c.in_ok-push_some.ensures c.in_ok-push_some-2.ensures
+    (c.in_ok-push_each.ensures ∙ ap (λ l. map successor_of c.push_some-2.new.found.items
+    ++ map (graph.successor (letter_of c.jump_letter-letter.result)) l) c.deref.ensures.value)
     c.in_ok-push_some-3.ensures

@@ -8,4 +8,5 @@ pub returns : goal.returns
 returns g c =
     c.in_ok-found-2.ensures
     ∙ sort_same (λ (s : graph.Successor). s.to % 4 == 0) _ _ c.in_ok-found.ensures
-    ∙ ap (λ s. graph.sort (filter (λ (x : graph.Successor). x.to % 4 == 0) (graph.successors_of (program g.M.Machine.machine c.args.p.now) c.args.at (g.M.Machine.row c.args.insn.now) s))) c.requires.ways
+    ∙ ap (λ s. graph.sort (filter (λ (x : graph.Successor). x.to % 4 == 0)
+    (graph.successors_of (program g.M.Machine.machine c.args.p.now) c.args.at (g.M.Machine.row c.args.insn.now) s))) c.requires.ways

@@ -4,7 +4,8 @@ use Rattle.flow_graph.proofs.targets.listed.Goals as goal
 
 pub loop-i-preserved : goal.loop-i-preserved
 loop-i-preserved c =
-    listed_more c.args.targets.now c.args.index.now c.args.at c.group-low.result.0 c.group-low.result.1 c.loop-i.i c.loop-i.found.items c.extend_from_slice.new.self.items
+    listed_more c.args.targets.now c.args.index.now c.args.at c.group-low.result.0 c.group-low.result.1 c.loop-i.i c.loop-i.found.items
+    c.extend_from_slice.new.self.items
     c.index-targets-index.result (c.group-low.ensures.places _ c.requires) (omega arith) (omega arith)
     (c.in_ok-extend_from_slice.ensures.items ∙ ap (λ l. c.loop-i.found.items ++ l) c.deref.ensures.value) c.loop-i.invariant
 

@@ -5,7 +5,22 @@ use Rattle.gates.proofs.clauses.push_parity.Goals as goal
 
 pub returns-clause-value : goal.returns-clause-value
 returns-clause-value c = λ v.
-    rw (c.in_ok-push_clause-8.ensures.value v, c.in_ok-push_clause-7.ensures.value v, c.in_ok-push_clause-6.ensures.value v, c.in_ok-push_clause-5.ensures.value v, c.in_ok-push_clause-4.ensures.value v, c.in_ok-push_clause-3.ensures.value v, c.in_ok-push_clause-2.ensures.value v, c.in_ok-push_clause.ensures.value v, c.negation-not_g.ensures.value v, c.negation-not_a.ensures.value v, c.negation-not_b.ensures.value v, c.negation-not_c.ensures.value v)
+    rw (
+      c.in_ok-push_clause-8.ensures.value v,
+      c.in_ok-push_clause-7.ensures.value v,
+      c.in_ok-push_clause-6.ensures.value v,
+      c.in_ok-push_clause-5.ensures.value
+          v,
+      c.in_ok-push_clause-4.ensures.value v,
+      c.in_ok-push_clause-3.ensures.value v,
+      c.in_ok-push_clause-2.ensures.value v,
+      c.in_ok-push_clause.ensures.value
+          v,
+      c.negation-not_g.ensures.value v,
+      c.negation-not_a.ensures.value v,
+      c.negation-not_b.ensures.value v,
+      c.negation-not_c.ensures.value v,
+    )
     (parity_clauses _ (bit_value v c.args.g) (bit_value v c.args.a) (bit_value v c.args.b) (bit_value v c.args.c))
 
 pub returns-clause-over : goal.returns-clause-over
@@ -14,4 +29,10 @@ returns-clause-over c = λ m hg ha hb hc k.
     let na : variable_of c.negation-not_a.result < m = rw c.negation-not_a.ensures.variable ha in
     let nb : variable_of c.negation-not_b.result < m = rw c.negation-not_b.ensures.variable hb in
     let nc : variable_of c.negation-not_c.result < m = rw c.negation-not_c.ensures.variable hc in
-    c.in_ok-push_clause-8.ensures.over m (within4 m _ _ _ _ hg na nb nc) (c.in_ok-push_clause-7.ensures.over m (within4 m _ _ _ _ hg ha hb nc) (c.in_ok-push_clause-6.ensures.over m (within4 m _ _ _ _ hg ha nb hc) (c.in_ok-push_clause-5.ensures.over m (within4 m _ _ _ _ hg na hb hc) (c.in_ok-push_clause-4.ensures.over m (within4 m _ _ _ _ ng na nb hc) (c.in_ok-push_clause-3.ensures.over m (within4 m _ _ _ _ ng na hb nc) (c.in_ok-push_clause-2.ensures.over m (within4 m _ _ _ _ ng ha nb nc) (c.in_ok-push_clause.ensures.over m (within4 m _ _ _ _ ng ha hb hc) k)))))))
+    c.in_ok-push_clause-8.ensures.over m (within4 m _ _ _ _ hg na nb nc)
+    (c.in_ok-push_clause-7.ensures.over m (within4 m _ _ _ _ hg ha hb nc)
+    (c.in_ok-push_clause-6.ensures.over m (within4 m _ _ _ _ hg ha nb hc)
+    (c.in_ok-push_clause-5.ensures.over m (within4 m _ _ _ _ hg na hb hc)
+    (c.in_ok-push_clause-4.ensures.over m (within4 m _ _ _ _ ng na nb hc)
+    (c.in_ok-push_clause-3.ensures.over m (within4 m _ _ _ _ ng na hb nc)
+    (c.in_ok-push_clause-2.ensures.over m (within4 m _ _ _ _ ng ha nb nc) (c.in_ok-push_clause.ensures.over m (within4 m _ _ _ _ ng ha hb hc) k)))))))

@@ -5,7 +5,18 @@ use Rattle.gates.proofs.clauses.push_same.Goals as goal
 
 pub returns-clause-value : goal.returns-clause-value
 returns-clause-value c = λ v.
-    rw (c.in_ok-push_clause-5.ensures.value v, c.in_ok-push_clause-4.ensures.value v, c.in_ok-push_clause-3.ensures.value v, c.in_ok-push_clause-2.ensures.value v, c.in_ok-push_clause.ensures.value v, c.negation-not_g.ensures.value v, c.negation-not_s.ensures.value v, c.negation-not_a.ensures.value v, c.negation-not_b.ensures.value v)
+    rw (
+      c.in_ok-push_clause-5.ensures.value v,
+      c.in_ok-push_clause-4.ensures.value v,
+      c.in_ok-push_clause-3.ensures.value v,
+      c.in_ok-push_clause-2.ensures.value
+          v,
+      c.in_ok-push_clause.ensures.value v,
+      c.negation-not_g.ensures.value v,
+      c.negation-not_s.ensures.value v,
+      c.negation-not_a.ensures.value v,
+      c.negation-not_b.ensures.value v,
+    )
     (same_clauses _ (bit_value v c.args.g) (bit_value v c.args.s) (bit_value v c.args.a) (bit_value v c.args.b))
 
 pub returns-clause-over : goal.returns-clause-over
@@ -14,4 +25,7 @@ returns-clause-over c = λ m hg hs ha hb k.
     let ns : variable_of c.negation-not_s.result < m = rw c.negation-not_s.ensures.variable hs in
     let na : variable_of c.negation-not_a.result < m = rw c.negation-not_a.ensures.variable ha in
     let nb : variable_of c.negation-not_b.result < m = rw c.negation-not_b.ensures.variable hb in
-    c.in_ok-push_clause-5.ensures.over m (within4 m _ _ _ _ hg ns na nb) (c.in_ok-push_clause-4.ensures.over m (within4 m _ _ _ _ hg ns ha hb) (c.in_ok-push_clause-3.ensures.over m (within3 m _ _ _ ng ha nb) (c.in_ok-push_clause-2.ensures.over m (within3 m _ _ _ ng na hb) (c.in_ok-push_clause.ensures.over m (within2 m _ _ ng hs) k))))
+    c.in_ok-push_clause-5.ensures.over m (within4 m _ _ _ _ hg ns na nb)
+    (c.in_ok-push_clause-4.ensures.over m (within4 m _ _ _ _ hg ns ha hb)
+    (c.in_ok-push_clause-3.ensures.over m (within3 m _ _ _ ng ha nb)
+    (c.in_ok-push_clause-2.ensures.over m (within3 m _ _ _ ng na hb) (c.in_ok-push_clause.ensures.over m (within2 m _ _ ng hs) k))))

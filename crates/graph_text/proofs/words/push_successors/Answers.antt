@@ -10,7 +10,8 @@ use Rattle.graph_text.proofs.words.push_successors.Goals as goal
 
 pub loop-successor-preserved : goal.loop-successor-preserved
 loop-successor-preserved c =
-    next (λ (x : Successor). spaced (successor_words (successor_of x))) c.args.successors.now c.loop-successor.successor-index (record { letter = Next; to = 0 })
+    next (λ (x : Successor). spaced (successor_words (successor_of x))) c.args.successors.now c.loop-successor.successor-index
+    (record { letter = Next; to = 0 })
     c.loop-successor.out.items c.push_successor.new.out.items
     (c.args.out.now.items ++ flat_map (λ (x : Successor). spaced (successor_words (successor_of x))) c.args.successors.now)
     c.loop-successor-test.true c.in_ok-push_successor.ensures c.loop-successor.invariant

@@ -14,5 +14,6 @@ returns-clause-some c =
     let is = c.in-Some.ensures.cases in
     let sharp : nat_eq c.in-Some.first.now 35 ≡ false = grind (arith, nat_tests, c.if-first-eq35.false) in
     next_left c.args.text.now all c.in-Some.field-0-1.now c.in-Some.first.now n (token_of c.token_at-count.result.0) c.behind_blanks-text.ensures.same
-    is.0 (c.behind_blanks-text.ensures.none_blank c.in-Some.first.now c.in-Some.field-0-1.now is.0) sharp c.token_at-count.ensures.token c.token_at-count.ensures.count c.token_at-count.ensures.some
+    is.0 (c.behind_blanks-text.ensures.none_blank c.in-Some.first.now c.in-Some.field-0-1.now is.0) sharp c.token_at-count.ensures.token
+    c.token_at-count.ensures.count c.token_at-count.ensures.some
     ∙ ap (λ t. token_of c.token_at-count.result.0 ∷ map capped (tokens_of t)) (sym whole)

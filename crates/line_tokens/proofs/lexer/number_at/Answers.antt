@@ -11,7 +11,8 @@ returns-then-is_hexadecimal-clause-token c =
     let whole : take (length text - 2) (drop 2 text) ≡ drop 2 text = take_all (length text - 2) (drop 2 text) (omega (arith, length-drop 2 text)) in
     let count = c.run_length-count.result in
     c.digits_token.ensures ∙ ap (λ t. number_before 16 (take count t) (drop count t)) whole
-    ∙ hexadecimal_token text count (sym c.is_hexadecimal.ensures ∙ c.if-is_hexadecimal.true) (c.run_length-count.ensures.count ∙ ap (λ t. length (run_of 16 t)) whole)
+    ∙ hexadecimal_token text count (sym c.is_hexadecimal.ensures ∙ c.if-is_hexadecimal.true) (c.run_length-count.ensures.count ∙ ap
+    (λ t. length (run_of 16 t)) whole)
 
 pub returns-clause-token : goal.returns-clause-token
 returns-clause-token c =

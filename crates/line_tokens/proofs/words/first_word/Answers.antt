@@ -10,12 +10,14 @@ pub returns-then-count-line-clause-last : goal.returns-then-count-line-clause-la
 returns-then-count-line-clause-last c =
     let line : List ℕ = c.args.line.now in
     let n : ℕ = c.count_before-count.result in
-    word_last line (sym c.count_before-count.ensures.count ∙ c.if-count-line.true) ∙ ap (λ w. w ∷ []) (sym (take_all n line (omega (arith, c.if-count-line.true))))
+    word_last line (sym c.count_before-count.ensures.count ∙ c.if-count-line.true) ∙ ap
+    (λ w. w ∷ []) (sym (take_all n line (omega (arith, c.if-count-line.true))))
 
 pub returns-clause-more : goal.returns-clause-more
 returns-clause-more c =
     let line : List ℕ = c.args.line.now in
     let n : ℕ = c.count_before-count.result in
-    let below : prefix_len (is_other 32) line < length line = omega (arith, c.count_before-count.ensures.count, c.count_before-count.ensures.within, c.if-count-line.false) in
+    let below : prefix_len (is_other 32) line < length line = omega
+    (arith, c.count_before-count.ensures.count, c.count_before-count.ensures.within, c.if-count-line.false) in
     word_first line below ∙ ap (λ k. words_at line k) (sym c.count_before-count.ensures.count)
     ∙ ap (λ l. take n line ∷ words_in l) (sym (take_all (length line - (n + 1)) (drop (n + 1) line) (omega (arith, length-drop (n + 1) line))))

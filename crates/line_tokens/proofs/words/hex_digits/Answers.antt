@@ -15,8 +15,10 @@ overflow_cast-result c = let below = small c in let same = whole c in omega arit
 
 pub returns-clause-value : goal.returns-clause-value
 returns-clause-value c =
-    hex_said c.args.count c.capped_value.result c.args.digits.now c.if-digits-count.false (sym c.are_hex_digits.ensures ∙ c.if-not-are_hex_digits.false) (whole c)
+    hex_said c.args.count c.capped_value.result c.args.digits.now c.if-digits-count.false (sym c.are_hex_digits.ensures ∙ c.if-not-are_hex_digits.false)
+    (whole c)
 
 pub returns-clause-below : goal.returns-clause-below
 returns-clause-below c =
-    hex_room c.args.count c.capped_value.result c.args.digits.now c.if-digits-count.false (sym c.are_hex_digits.ensures ∙ c.if-not-are_hex_digits.false) (whole c)
+    hex_room c.args.count c.capped_value.result c.args.digits.now c.if-digits-count.false (sym c.are_hex_digits.ensures ∙ c.if-not-are_hex_digits.false)
+    (whole c)

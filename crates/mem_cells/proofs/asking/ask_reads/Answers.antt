@@ -10,7 +10,8 @@ pub loop-read-init : goal.loop-read-init
 loop-read-init c = record {
   grown = c.in_ok-address.ensures.grown;
   address = c.in_ok-address.ensures.word;
-  said = asked_row c.args.build.now c.make.new.self 0 c.args.file.now c.args.asked.now.items (file_byte_at c.args.file.now c.args.place) (take c.args.place c.args.file.now) c.requires.built
+  said = asked_row c.args.build.now c.make.new.self 0 c.args.file.now c.args.asked.now.items (file_byte_at c.args.file.now c.args.place)
+      (take c.args.place c.args.file.now) c.requires.built
       c.in_ok-address.ensures.grown c.requires.asked;
 }
 
@@ -34,6 +35,13 @@ returns-clause-asked c =
     let n = c.loop-read.read in
     let file = c.args.file.now in
     let k = c.args.place in
-    let e : n ≡ length (read_places b) = omega (arith, c.requires.count, c.loop-read-test.false, ap length (same_reads a b (32 * n) c.loop-read.invariant.grown)) in
+    let e : n ≡ length (read_places b) = omega (
+      arith,
+      c.requires.count,
+      c.loop-read-test.false,
+      ap length
+          (same_reads a b (32 * n) c.loop-read.invariant.grown),
+    ) in
     asked_all b file c.loop-read.asked.items k c.requires.place
-    (subst (λ (z : ℕ). AreAsked b file c.loop-read.asked.items (AskedTo (length (read_places b)) (take k file) (file_byte_at file k) z)) e c.loop-read.invariant.said)
+    (subst (λ (z : ℕ). AreAsked b file c.loop-read.asked.items
+    (AskedTo (length (read_places b)) (take k file) (file_byte_at file k) z)) e c.loop-read.invariant.said)

@@ -7,4 +7,5 @@ pub returns-clause-rise : goal.returns-clause-rise
 returns-clause-rise c = ordered_rise c.sort.new.self.items c.dedup.new.self.items c.in_ok-sort.ensures.sorted (dedup_is eqb _ _ c.dedup.ensures.filtered)
 
 pub returns-clause-same : goal.returns-clause-same
-returns-clause-same c = ordered_same c.args.found.items c.sort.new.self.items c.dedup.new.self.items c.in_ok-sort.ensures.permutation (dedup_is eqb _ _ c.dedup.ensures.filtered)
+returns-clause-same c = ordered_same c.args.found.items c.sort.new.self.items c.dedup.new.self.items c.in_ok-sort.ensures.permutation
+    (dedup_is eqb _ _ c.dedup.ensures.filtered)

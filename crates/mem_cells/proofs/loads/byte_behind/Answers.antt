@@ -7,4 +7,5 @@ byte_at-requires-clause-pieces c = pieces_kept c.args.build.now c.raised.new.bui
 
 pub returns-clause-byte : goal.returns-clause-byte
 returns-clause-byte c =
-    behind c.args.build.now c.raised.new.build c.byte_at.new.self _ _ _ _ _ _ _ _ _ c.in_ok-at.ensures.grown c.requires.pieces c.in_ok-at.ensures.word c.in_ok-byte.ensures.byte
+    behind c.args.build.now c.raised.new.build c.byte_at.new.self _ _ _ _ _ _ _ _ _ c.in_ok-at.ensures.grown c.requires.pieces c.in_ok-at.ensures.word
+    c.in_ok-byte.ensures.byte

@@ -31,6 +31,7 @@ loop-i-preserved c =
     record {
       grown = grown_more a n (i * p + (p + 0)) (i + (1 + 0)) ((i + 1) * p) (i + 1) (omega (arith, e)) (omega arith)
           (grown_on a m n (i * p) i (p + 0) (1 + 0) h.grown (grown_on m l n p 1 0 0 c.in_ok-byte.ensures.grown c.in_ok-word-2.ensures.grown));
-      word = next_load a m l n (i * p) i p 1 0 0 _ _ _ c.args.address.0 i _ _ _ (endian c.args.big) c.requires.pieces c.requires.address h.grown c.in_ok-byte.ensures.grown c.in_ok-word-2.ensures.grown
+      word = next_load a m l n (i * p) i p 1 0 0 _ _ _ c.args.address.0 i _ _ _
+          (endian c.args.big) c.requires.pieces c.requires.address h.grown c.in_ok-byte.ensures.grown c.in_ok-word-2.ensures.grown
           h.word c.in_ok-byte.ensures.byte c.in_ok-word-2.ensures.word;
     }

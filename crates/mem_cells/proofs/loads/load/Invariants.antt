@@ -9,5 +9,6 @@ use Rattle.mem_cells.proofs.loads.load.Given as goal
 abbrev pub invariant-loop-i : goal.invariant-loop-i
 invariant-loop-i l = record {
   grown : Grown l.fn.build l.build (l.i * (64 + sum_by piece_gates l.memories.pieces.items)) l.i;
-  word : IsOfMemory l.fn.build l.build l.memories.stored.items l.memories.pieces.items l.memory (8 * l.i) l.word.0 (λ x m. load (endian l.big) l.i m (term_word x l.fn.build.dag l.address.0));
+  word : IsOfMemory l.fn.build l.build l.memories.stored.items l.memories.pieces.items l.memory (8 * l.i) l.word.0
+      (λ x m. load (endian l.big) l.i m (term_word x l.fn.build.dag l.address.0));
 }

@@ -22,5 +22,6 @@ number-other-requires c =
 pub returns : goal.returns
 returns c =
     let a = c.args.build.now in
-    join_lowered (source_of a) _ a _ _ _ _ _ _ _ (program_of_build a) _ _ _ c.word-bit.result c.number-one.result c.number-other.result c.len-count.result _ c.requires.lowered c.requires.next c.word-bit.ensures
+    join_lowered (source_of a) _ a _ _ _ _ _ _ _ (program_of_build a) _ _ _ c.word-bit.result c.number-one.result c.number-other.result c.len-count.result _
+    c.requires.lowered c.requires.next c.word-bit.ensures
     c.number-one.ensures c.number-other.ensures (omega arith) c.in_ok-push-2.ensures.items c.in_ok-push-3.ensures.items c.in_ok-push.ensures.items

@@ -43,5 +43,6 @@ returns-clause-lowered c =
     let a = c.args.build.now in
     let b = c.load.new.build in
     same_question a b _ _ _ _ _ c.in_ok-word.ensures.grown.question
-    (load_lowered (source_of a) _ a b _ _ _ _ _ _ (program_of_build a) _ _ _ _ _ _ c.in_ok-word.word 0 c.requires.lowered c.requires.next c.number-number.ensures c.word-at.ensures c.in_ok-word.ensures.grown
+    (load_lowered (source_of a) _ a b _ _ _ _ _ _ (program_of_build a) _ _ _ _ _ _ c.in_ok-word.word 0 c.requires.lowered c.requires.next
+    c.number-number.ensures c.word-at.ensures c.in_ok-word.ensures.grown
     c.in_ok-word.ensures.word c.in_ok-push.ensures.items c.in_ok-push-2.ensures.items)

@@ -46,6 +46,8 @@ returns-clause-lowered c =
     let b = c.store.new.build in
     let e = c.in_ok-piece.ensures in
     same_question a b _ _ _ _ _ e.grown.question
-    (store_lowered (source_of a) _ a b _ _ _ _ _ _ e.stored.0 _ _ (program_of_build a) _ _ _ _ _ _ _ _ c.len-count.result c.in_ok-piece.piece _ c.requires.lowered c.requires.next c.number-number.ensures
-    c.word-at.ensures c.word-word.ensures e.grown e.stored.1 e.piece (omega (arith, ap length e.pieces)) c.in_ok-push-2.ensures.items c.in_ok-push-3.ensures.items
+    (store_lowered (source_of a) _ a b _ _ _ _ _ _ e.stored.0 _ _
+    (program_of_build a) _ _ _ _ _ _ _ _ c.len-count.result c.in_ok-piece.piece _ c.requires.lowered c.requires.next c.number-number.ensures
+    c.word-at.ensures c.word-word.ensures e.grown e.stored.1 e.piece
+    (omega (arith, ap length e.pieces)) c.in_ok-push-2.ensures.items c.in_ok-push-3.ensures.items
     (c.in_ok-push.ensures.items ∙ ap (λ z. z ++ c.in_ok-piece.piece ∷ []) e.pieces))

@@ -27,5 +27,6 @@ returns-clause-lowered c =
     let w = next_word (source_of a) _ (program_of_build a) _ c.requires.lowered.typed c.requires.next c.requires.word in
     let b = c.make.new.self in
     same_question a b _ _ _ _ _ c.in_ok-term.ensures.grown.question
-    (word_lowered (source_of a) _ a b _ _ _ _ _ _ (program_of_build a) _ _ c.in_ok-term.term 0 c.requires.lowered c.requires.next w.0 w.1 c.moved.ensures c.in_ok-term.ensures.grown
+    (word_lowered (source_of a) _ a b _ _ _ _ _ _ (program_of_build a) _ _ c.in_ok-term.term 0 c.requires.lowered c.requires.next w.0 w.1 c.moved.ensures
+    c.in_ok-term.ensures.grown
     c.in_ok-term.ensures.word c.in_ok-push.ensures.items c.in_ok-push-2.ensures.items)

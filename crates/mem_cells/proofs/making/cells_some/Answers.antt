@@ -25,14 +25,18 @@ returns c =
     let given =
     subst (λ (z : List FileByte). AreFileBytes u.known (λ a. asks a ≡ true) z) (sym c.deref-3.ensures.value)
     (subst (λ (z : List ℕ). AreFileBytes u.known (λ a. is_asked c.args.added.now z a ≡ true) c.in_ok-file.file.items) c.deref-2.ensures.value
-    (subst (λ (z : List Known). AreFileBytes (map run_of z) (λ a. is_asked c.args.added.now c.deref-2.result.now a ≡ true) c.in_ok-file.file.items) c.deref.ensures.value c.in_ok-file.ensures.are)) in
+    (subst (λ (z : List Known). AreFileBytes (map run_of z) (λ a. is_asked c.args.added.now c.deref-2.result.now a
+    ≡ true) c.in_ok-file.file.items) c.deref.ensures.value c.in_ok-file.ensures.are)) in
     let few =
     subst (λ (z : List FileByte). length z ≤ known_of u) (sym c.deref-3.ensures.value)
     (subst (λ (z : List Known). length c.in_ok-file.file.items ≤ sum_of z) c.deref.ensures.value c.in_ok-file.ensures.few) in
     record {
       of = refl;
-      tells = cells_told u t asks mid b l.words.items l.numbers.items l.memories.stored.items l.memories.pieces.items c.in_ok-agrees.agrees.items c.in_ok-asked.asked.items file c.word-root.result
-          (made_of u t asks mid tied b l.words.items l.numbers.items l.memories.stored.items l.memories.pieces.items c.in_ok-agrees.agrees.items c.in_ok-asked.asked.items file c.word-root.result
-          c.requires.terms c.requires.root c.requires.bytes (ap (λ z. program_of_question z.now) e) (ap (λ z. z.now.dag) e) c.in_ok-lowered.ensures.lowered c.in_ok-agrees.ensures.grown
+      tells = cells_told u t asks mid b l.words.items l.numbers.items l.memories.stored.items l.memories.pieces.items c.in_ok-agrees.agrees.items
+          c.in_ok-asked.asked.items file c.word-root.result
+          (made_of u t asks mid tied b l.words.items l.numbers.items l.memories.stored.items l.memories.pieces.items c.in_ok-agrees.agrees.items
+          c.in_ok-asked.asked.items file c.word-root.result
+          c.requires.terms c.requires.root c.requires.bytes (ap (λ z. program_of_question z.now) e) (ap
+          (λ z. z.now.dag) e) c.in_ok-lowered.ensures.lowered c.in_ok-agrees.ensures.grown
           c.in_ok-agrees.ensures.ties given few c.in_ok-asked.ensures.grown c.in_ok-asked.ensures.asked c.word-root.ensures);
     }

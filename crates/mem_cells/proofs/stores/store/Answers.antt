@@ -24,8 +24,10 @@ loop-place-preserved c =
       pieces = h.pieces;
       more = (h.more.0 ++ y ∷ [], items ∙ ap (λ (z : List StoredByte). z ++ y ∷ []) h.more.1 ∙ append_assoc _ h.more.0 (y ∷ []));
       count = omega (arith, ap length items, longer old y, h.count);
-      written = subst (λ (z : List StoredByte). IsWritten a n z c.len-first.result (j + 1) c.args.address.0 c.args.value.0 c.args.bytes (endian c.args.big)) (sym items)
-          (written_next a m t n (j * 64) 0 64 0 0 0 old c.len-first.result j c.args.address.0 c.args.value.0 c.args.bytes (endian c.args.big) y h.grown c.in_ok-at.ensures.grown c.in_ok-byte.ensures.grown
+      written = subst (λ (z : List StoredByte). IsWritten a n z c.len-first.result (j + 1) c.args.address.0 c.args.value.0 c.args.bytes (endian c.args.big))
+          (sym items)
+          (written_next a m t n (j * 64) 0 64 0 0 0 old c.len-first.result j c.args.address.0 c.args.value.0 c.args.bytes
+          (endian c.args.big) y h.grown c.in_ok-at.ensures.grown c.in_ok-byte.ensures.grown
           c.requires.address c.requires.value h.count h.written c.in_ok-at.ensures.word c.in_ok-byte.ensures.byte);
     }
 
@@ -43,8 +45,10 @@ returns-clause-piece c =
       refl,
       refl,
       record {
-        stored_bytes = written_stored a m n _ _ _ _ s f c.args.address.0 c.args.value.0 c.args.bytes e c.sum_of-at.result h.grown c.in_ok-zero.ensures.grown c.requires.address c.requires.bytes.1
+        stored_bytes = written_stored a m n _ _ _ _ s f c.args.address.0 c.args.value.0 c.args.bytes e c.sum_of-at.result h.grown c.in_ok-zero.ensures.grown
+            c.requires.address c.requires.bytes.1
             (h.count ∙ ap (λ k. f + k) z) w c.sum_of-at.ensures;
-        bytes = written_puts a m n _ _ s f c.args.address.0 c.args.value.0 c.args.bytes e c.requires.built c.in_ok-zero.ensures.grown c.requires.address c.requires.bytes.1 w;
+        bytes = written_puts a m n _ _ s f c.args.address.0 c.args.value.0 c.args.bytes e c.requires.built c.in_ok-zero.ensures.grown c.requires.address
+            c.requires.bytes.1 w;
       },
     )

@@ -26,7 +26,14 @@ returns-clause-grown c =
     let b = c.loop-other.build in
     let n = c.loop-other.other in
     let i = c.loop-other.invariant in
-    let e : n ≡ length (read_places a) = omega (arith, mapped_length c.make.new.self.addresses.items, ap length (same_reads a b (16 * (n * (n - 1))) i.grown), i.count, c.in_ok-sums.ensures.count) in
+    let e : n ≡ length (read_places a) = omega (
+      arith,
+      mapped_length c.make.new.self.addresses.items,
+      ap length
+          (same_reads a b (16 * (n * (n - 1))) i.grown),
+      i.count,
+      c.in_ok-sums.ensures.count,
+    ) in
     subst (λ (z : ℕ). Grown a b (16 * (z * (z - 1))) 0) e i.grown
 
 pub returns-clause-ties : goal.returns-clause-ties

@@ -20,7 +20,8 @@ loop-read-preserved c =
     let l : c.loop-read.read < length b.addresses.items = omega (arith, c.loop-read-test.true, c.len-read-end.ensures) in
     record {
       count = ap length c.in_ok-push.ensures.items ∙ longer c.loop-read.sums.items c.sum_of-sum.result ∙ ap (λ z. z + 1) c.loop-read.invariant.count;
-      sums = subst (λ (z : List Split). (j : ℕ) → j < c.loop-read.read + 1 → IsSplit b.dag (slice_index (read_places b) j) (sum_at z j).base.0 (sum_at z j).offset) (sym c.in_ok-push.ensures.items)
+      sums = subst (λ (z : List Split). (j : ℕ) → j < c.loop-read.read + 1 →
+          IsSplit b.dag (slice_index (read_places b) j) (sum_at z j).base.0 (sum_at z j).offset) (sym c.in_ok-push.ensures.items)
           (sum_next_of b c.loop-read.sums.items c.sum_of-sum.result c.loop-read.read c.index.result.now.0 c.loop-read.invariant.count
           (ap (λ z. z.0) c.index.ensures ∙ mapped_at b.addresses.items c.loop-read.read _ l) c.sum_of-sum.ensures c.loop-read.invariant.sums);
     }

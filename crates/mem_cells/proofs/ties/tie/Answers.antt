@@ -6,11 +6,13 @@ use Rattle.mem_cells.proofs.Agreements.{mapped_at, tied, untied}
 use Rattle.mem_cells.proofs.ties.tie.Goals as goal
 
 pub returns-then-is_apart-clause-grown : goal.returns-then-is_apart-clause-grown
-returns-then-is_apart-clause-grown c = grown_more c.args.build.now c.args.build.now 0 0 32 0 (omega arith) (omega arith) (grown_none c.args.build.now c.requires.built)
+returns-then-is_apart-clause-grown c = grown_more c.args.build.now c.args.build.now 0 0 32 0 (omega arith) (omega arith)
+    (grown_none c.args.build.now c.requires.built)
 
 pub returns-then-is_apart-clause-ties : goal.returns-then-is_apart-clause-ties
 returns-then-is_apart-clause-ties c =
-    untied c.args.build.now _ c.args.sums.now c.args.other c.args.read c.requires.built c.requires.sums c.requires.read c.requires.other (sym c.is_apart.ensures ∙ c.if-is_apart.true) c.requires.ties
+    untied c.args.build.now _ c.args.sums.now c.args.other c.args.read c.requires.built c.requires.sums c.requires.read c.requires.other
+    (sym c.is_apart.ensures ∙ c.if-is_apart.true) c.requires.ties
 
 pub make-requires-clause-own : goal.make-requires-clause-own
 make-requires-clause-own c =
@@ -20,7 +22,12 @@ make-requires-clause-own c =
     let el = ap (λ t. t.0) c.index-left.ensures ∙ mapped_at a.addresses.items c.args.read _ (omega (arith, l, n)) in
     let er = ap (λ t. t.0) c.index-right.ensures ∙ mapped_at a.addresses.items c.args.other _ (omega (arith, c.requires.other, n)) in
     record {
-      typed = ((omega arith, omega arith), subst (HasWidth a.dag 32) (sym el) (c.requires.built.addresses c.args.read l), subst (HasWidth a.dag 32) (sym er) (c.requires.built.addresses c.args.other c.requires.other));
+      typed = (
+        (omega arith, omega arith),
+        subst (HasWidth a.dag 32) (sym el) (c.requires.built.addresses c.args.read l),
+        subst (HasWidth a.dag 32) (sym er)
+            (c.requires.built.addresses c.args.other c.requires.other),
+      );
       word = omega arith;
       loads = refl;
       named = tt;
@@ -33,5 +40,6 @@ returns-clause-ties c =
     let l : c.args.read < length (read_places a) = omega (arith, c.requires.read, c.requires.other) in
     let el = ap (λ t. t.0) c.index-left.ensures ∙ mapped_at a.addresses.items c.args.read _ (omega (arith, l, n)) in
     let er = ap (λ t. t.0) c.index-right.ensures ∙ mapped_at a.addresses.items c.args.other _ (omega (arith, c.requires.other, n)) in
-    tied a c.make.new.self 32 _ _ _ c.index-left.result.now.0 c.index-right.result.now.0 c.args.other c.args.read c.requires.built c.in_ok-condition.ensures.grown c.in_ok-push.ensures.items refl refl
+    tied a c.make.new.self 32 _ _ _ c.index-left.result.now.0 c.index-right.result.now.0 c.args.other c.args.read c.requires.built
+    c.in_ok-condition.ensures.grown c.in_ok-push.ensures.items refl refl
     c.requires.read c.requires.other el er c.in_ok-condition.ensures.word c.requires.ties

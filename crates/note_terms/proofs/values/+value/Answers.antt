@@ -30,9 +30,11 @@ returns-in_ok-term-in-Memory t c =
     rw (c.in-Memory.is, ← c.deref.ensures) (memory_value _ _ _ _ _ _ _ _ _ _ c.requires.now c.in_ok-address-in-Memory.ensures c.in_ok-term-in-Memory.ensures)
 
 pub returns-in_ok-term-in-Not : goal.returns-in_ok-term-in-Not
-returns-in_ok-term-in-Not t c = rw (c.in-Not.is, ← c.deref-in-Not.ensures) (not_value _ _ _ _ _ _ _ _ _ c.in_ok-inner-in-Not.ensures c.in_ok-term-in-Not.ensures)
+returns-in_ok-term-in-Not t c = rw (c.in-Not.is, ← c.deref-in-Not.ensures)
+    (not_value _ _ _ _ _ _ _ _ _ c.in_ok-inner-in-Not.ensures c.in_ok-term-in-Not.ensures)
 
 pub returns-in_ok-term-in-Binary : goal.returns-in_ok-term-in-Binary
 returns-in_ok-term-in-Binary t c =
-    rw (c.in-Binary.is, ← c.deref-in-Binary.ensures, ← c.deref-in-Binary-2.ensures) (binary_value _ _ _ _ _ _ _ _ _ _ _ _ _ c.requires.now c.requires.entry c.in_ok-left-in-Binary.ensures c.in_ok-right-in-Binary.ensures
+    rw (c.in-Binary.is, ← c.deref-in-Binary.ensures, ← c.deref-in-Binary-2.ensures)
+    (binary_value _ _ _ _ _ _ _ _ _ _ _ _ _ c.requires.now c.requires.entry c.in_ok-left-in-Binary.ensures c.in_ok-right-in-Binary.ensures
     c.in_ok-term-in-Binary.ensures)

@@ -14,11 +14,13 @@ returns c =
       asserts =
           index_is (assert_places asserts) c.in_ok-numbered_asserts.field-0.items c.in_ok-asserts.asserts.items (length asserts)
           (sym (length-map asserts (λ (a : Assert). a.at)))
-          (subst (λ (xs : List Assert). IsNumbered (assert_places xs) c.in_ok-numbered_asserts.field-0.items (length xs)) c.deref.ensures.value c.in_ok-numbered_asserts.ensures)
+          (subst (λ (xs : List Assert). IsNumbered (assert_places xs) c.in_ok-numbered_asserts.field-0.items
+          (length xs)) c.deref.ensures.value c.in_ok-numbered_asserts.ensures)
           c.in_ok-asserts.ensures.moved c.in_ok-asserts.ensures.rising c.in_ok-asserts.ensures.stable;
       targets =
           index_is (targets_places targets) c.in_ok-numbered_targets.field-0.items c.in_ok-targets.targets.items (length targets)
           (sym (length-map targets (λ (t : Targets). t.at)))
-          (subst (λ (xs : List Targets). IsNumbered (targets_places xs) c.in_ok-numbered_targets.field-0.items (length xs)) c.deref-2.ensures.value c.in_ok-numbered_targets.ensures)
+          (subst (λ (xs : List Targets). IsNumbered (targets_places xs) c.in_ok-numbered_targets.field-0.items
+          (length xs)) c.deref-2.ensures.value c.in_ok-numbered_targets.ensures)
           c.in_ok-targets.ensures.moved c.in_ok-targets.ensures.rising c.in_ok-targets.ensures.stable;
     }

@@ -19,7 +19,8 @@ refusal-requires c = all_good c.args.tokens.now (sym c.in_default.ensures.0) (sy
 pub returns-in_default-2 : goal.returns-in_default-2
 returns-in_default-2 c number text small short is earlier =
     refused (names_of c.args.names) (keeps c.args.names) number earlier text c.args.tokens.now small short is c.in_default.ensures
-    (told_none (names_of c.args.names) (tokens_view c.args.tokens.now) c.in_ok-says.field-0 c.in_ok-says.ensures c.in_default-2.is) c.in_ok-fault.fault c.in_ok-fault.ensures
+    (told_none (names_of c.args.names) (tokens_view c.args.tokens.now) c.in_ok-says.field-0 c.in_ok-says.ensures c.in_default-2.is) c.in_ok-fault.fault
+    c.in_ok-fault.ensures
 
 pub returns-then-not-is_aligned : goal.returns-then-not-is_aligned
 returns-then-not-is_aligned c number text small short is earlier =
@@ -29,7 +30,8 @@ returns-then-not-is_aligned c number text small short is earlier =
 
 pub returns-then-not-is_range : goal.returns-then-not-is_range
 returns-then-not-is_range c number text small short is earlier =
-    empty_range (names_of c.args.names) (keeps c.args.names) number earlier text c.args.tokens.now small short is c.in_default.ensures (says_of c.in-Some-2.says)
+    empty_range (names_of c.args.names) (keeps c.args.names) number earlier text c.args.tokens.now small short is c.in_default.ensures
+    (says_of c.in-Some-2.says)
     (told (names_of c.args.names) (tokens_view c.args.tokens.now) c.in_ok-says.field-0 c.in-Some-2.says c.in_ok-says.ensures c.in-Some-2.is)
     (is_true c.is_aligned.result _ c.is_aligned.ensures c.if-not-is_aligned.false) (not_true c.is_range.result _ c.is_range.ensures c.if-not-is_range.true)
 

@@ -8,12 +8,14 @@ use Rattle.notes_lang.proofs.notes_text.parse.Goals as goal
 pub returns-in_default-entry-clause-err : goal.returns-in_default-entry-clause-err
 returns-in_default-entry-clause-err c =
     let q = subst (λ r. IsLinesRead (names_of c.names_for.result) c.args.bytes.now r) c.in-Ok-read.is c.in-Ok.ensures in
-    unnamed (names_of c.names_for.result) (layout_names c.args.layout) c.args.bytes.now c.in-Ok-read.read.0 c.in-Ok-read.read.1 c.names_for.ensures q.0 q.1 c.in_default-entry.is
+    unnamed (names_of c.names_for.result) (layout_names c.args.layout) c.args.bytes.now c.in-Ok-read.read.0 c.in-Ok-read.read.1 c.names_for.ensures q.0 q.1
+    c.in_default-entry.is
 
 pub returns-clause-ok : goal.returns-clause-ok
 returns-clause-ok c =
     let q = subst (λ r. IsLinesRead (names_of c.names_for.result) c.args.bytes.now r) c.in-Ok-read.is c.in-Ok.ensures in
-    finished (names_of c.names_for.result) (layout_names c.args.layout) c.args.bytes.now c.in-Ok-read.read.0 c.in-Some.entry c.names_for.ensures q.0 c.in-Some.is
+    finished (names_of c.names_for.result) (layout_names c.args.layout) c.args.bytes.now c.in-Ok-read.read.0 c.in-Some.entry c.names_for.ensures q.0
+    c.in-Some.is
 
 pub returns-clause-readable : goal.returns-clause-readable
 returns-clause-readable c = notes_readable c.args.layout c.args.bytes.now _ (returns-clause-ok c)

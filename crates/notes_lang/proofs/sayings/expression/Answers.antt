@@ -6,7 +6,9 @@ returns-in_default c = nothing_read c.args.names _ c.in_ok-all.field-0 c.in_ok-a
 
 pub returns-then-not-is_empty : goal.returns-then-not-is_empty
 returns-then-not-is_empty c =
-    more_left c.args.names _ c.in_ok-all.field-0 c.in-Some.all c.in_ok-all.ensures.read c.in-Some.is (some_of _ c.is_empty.result c.is_empty.ensures c.if-not-is_empty.true)
+    more_left c.args.names _ c.in_ok-all.field-0 c.in-Some.all c.in_ok-all.ensures.read c.in-Some.is
+    (some_of _ c.is_empty.result c.is_empty.ensures c.if-not-is_empty.true)
 
 pub returns : goal.returns
-returns c = all_of_it c.args.names _ c.in_ok-all.field-0 c.in-Some.all c.in_ok-all.ensures.read c.in-Some.is (none_of _ c.is_empty.result c.is_empty.ensures c.if-not-is_empty.false)
+returns c = all_of_it c.args.names _ c.in_ok-all.field-0 c.in-Some.all c.in_ok-all.ensures.read c.in-Some.is
+    (none_of _ c.is_empty.result c.is_empty.ensures c.if-not-is_empty.false)

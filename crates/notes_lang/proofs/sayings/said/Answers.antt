@@ -7,4 +7,5 @@ use Rattle.notes_lang.proofs.sayings.said.Goals as goal
 
 pub returns-in_default-line_word : goal.returns-in_default-line_word
 returns-in_default-line_word c =
-    not_said (names_of c.args.names) (token_of c.in-Some.first.now) _ (tokens_view c.in-Some.rest.now) (ap tokens_view c.in-Some.ensures.cases.0) c.in_default-line_word.ensures.none
+    not_said (names_of c.args.names) (token_of c.in-Some.first.now) _ (tokens_view c.in-Some.rest.now)
+    (ap tokens_view c.in-Some.ensures.cases.0) c.in_default-line_word.ensures.none

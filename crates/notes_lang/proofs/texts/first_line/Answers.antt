@@ -3,4 +3,5 @@ use Rattle.notes_lang.proofs.texts.first_line.Goals as goal
 
 pub returns-clause-lines : goal.returns-clause-lines
 returns-clause-lines c =
-    split_at c.args.text.now c.line_end-end.result c.without_return.result.now c.line_end-end.ensures.within c.if-end-text.false c.line_end-end.ensures.none_before c.line_end-end.ensures.found c.without_return.ensures
+    split_at c.args.text.now c.line_end-end.result c.without_return.result.now c.line_end-end.ensures.within c.if-end-text.false
+    c.line_end-end.ensures.none_before c.line_end-end.ensures.found c.without_return.ensures

@@ -18,4 +18,5 @@ kept old new to a v t link is e k = record {
 
 pub returns-in_ok-address-in-Some : goal.returns-in_ok-address-in-Some
 returns-in_ok-address-in-Some c =
-    kept c.args.dag.now c.keep.new.self c.args.to c.in-Some.address c.from.result c.in_ok-address-in-Some.address.0 c.args.link.0 c.in-Some.is c.from.ensures c.in_ok-address-in-Some.ensures
+    kept c.args.dag.now c.keep.new.self c.args.to c.in-Some.address c.from.result c.in_ok-address-in-Some.address.0 c.args.link.0 c.in-Some.is c.from.ensures
+    c.in_ok-address-in-Some.ensures

@@ -12,20 +12,25 @@ abbrev zero_edge : Edge
 zero_edge = record { falls = false; jumps = false; to = None; aim = OnTo 0 }
 
 pub loop-i-init : goal.loop-i-init
-loop-i-init c = edges_none c.args.dag.now c.args.sweep.now c.args.rest.0 c.args.big (map note_line_of c.args.lines.now) c.args.gone.now.next c.args.gone.now.jumped.0 c.args.link.0 c.args.list.now c.requires.well c.requires.rest
+loop-i-init c = edges_none c.args.dag.now c.args.sweep.now c.args.rest.0 c.args.big
+    (map note_line_of c.args.lines.now) c.args.gone.now.next c.args.gone.now.jumped.0 c.args.link.0 c.args.list.now c.requires.well c.requires.rest
 
 pub loop-i-preserved : goal.loop-i-preserved
 loop-i-preserved c =
     let r = c.in_ok-left.ensures in
     let e = get_or c.args.list.now c.loop-i.i zero_edge in
-    edge_tried c.args.dag.now c.loop-i.dag c.taken.new.dag c.args.sweep.now c.loop-i.sweep c.taken.new.sweep c.args.rest.0 c.loop-i.left.0 c.in_ok-left.left.0 c.args.big (map note_line_of c.args.lines.now) c.args.gone.now.next
-    c.args.gone.now.jumped.0 c.args.link.0 c.args.list.now (drop (c.loop-i.i + 1) c.args.list.now) e c.requires.well c.requires.next c.requires.pc c.requires.jumped c.requires.link
-    (subst (λ (q : List Edge). EdgesTried c.args.dag.now c.loop-i.dag c.args.sweep.now c.loop-i.sweep c.args.rest.0 c.loop-i.left.0 c.args.big (map note_line_of c.args.lines.now) c.args.gone.now.next c.args.gone.now.jumped.0 c.args.link.0
+    edge_tried c.args.dag.now c.loop-i.dag c.taken.new.dag c.args.sweep.now c.loop-i.sweep c.taken.new.sweep c.args.rest.0 c.loop-i.left.0 c.in_ok-left.left.0
+    c.args.big (map note_line_of c.args.lines.now) c.args.gone.now.next
+    c.args.gone.now.jumped.0 c.args.link.0 c.args.list.now (drop
+    (c.loop-i.i + 1) c.args.list.now) e c.requires.well c.requires.next c.requires.pc c.requires.jumped c.requires.link
+    (subst (λ (q : List Edge). EdgesTried c.args.dag.now c.loop-i.dag c.args.sweep.now c.loop-i.sweep c.args.rest.0 c.loop-i.left.0 c.args.big
+    (map note_line_of c.args.lines.now) c.args.gone.now.next c.args.gone.now.jumped.0 c.args.link.0
     c.args.list.now q)
     (drop_here c.args.list.now c.loop-i.i e c.loop-i-test.true (other_default c.args.list.now c.loop-i.i zero_edge e c.loop-i-test.true)) c.loop-i.invariant)
     r.steps r.bit r.tries r.narrows
 
 pub returns : goal.returns
 returns c =
-    subst (λ (q : List Edge). EdgesTried c.args.dag.now c.loop-i.dag c.args.sweep.now c.loop-i.sweep c.args.rest.0 c.loop-i.left.0 c.args.big (map note_line_of c.args.lines.now) c.args.gone.now.next c.args.gone.now.jumped.0 c.args.link.0 c.args.list.now q)
+    subst (λ (q : List Edge). EdgesTried c.args.dag.now c.loop-i.dag c.args.sweep.now c.loop-i.sweep c.args.rest.0 c.loop-i.left.0 c.args.big
+    (map note_line_of c.args.lines.now) c.args.gone.now.next c.args.gone.now.jumped.0 c.args.link.0 c.args.list.now q)
     (drop_all c.args.list.now c.loop-i.i c.loop-i-test.false) c.loop-i.invariant

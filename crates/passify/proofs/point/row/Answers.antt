@@ -28,8 +28,10 @@ run_list-requires-clause-runs c =
     let u = c.args.unrolled.now in
     let own = own_is u c.args.place c.index.result.now c.index-code.result.now c.requires.formed c.requires.place c.index.ensures c.index-code.ensures in
     let code : (own_code u c.args.place).list ≡ Some c.in-Some.list = ap (λ (k : Code). k.list) (sym own) ∙ c.in-Some.is in
-    led_for (unrolled_of u) c.args.sweep.now.entry c.args.names.now c.requires.sweep.form c.requires.names.same (placed u c.args.place) (statements c.deref.result.now)
-    (ap action_of code ∙ ap (λ (z : List Stmt). Executes (statements z)) (sym c.deref.ensures.value)) (point_terms u c.args.place c.requires.walkable c.requires.formed c.requires.place)
+    led_for (unrolled_of u) c.args.sweep.now.entry c.args.names.now c.requires.sweep.form c.requires.names.same (placed u c.args.place)
+    (statements c.deref.result.now)
+    (ap action_of code ∙ ap (λ (z : List Stmt). Executes (statements z)) (sym c.deref.ensures.value))
+    (point_terms u c.args.place c.requires.walkable c.requires.formed c.requires.place)
 
 pub writes_kept-requires-clause-stores : goal.writes_kept-requires-clause-stores
 writes_kept-requires-clause-stores c =
@@ -49,14 +51,17 @@ leave-requires-clause-places c =
     let u = c.args.unrolled.now in
     let own = own_is u c.args.place c.index.result.now c.index-code.result.now c.requires.formed c.requires.place c.index.ensures c.index-code.ensures in
     let code : (own_code u c.args.place).list ≡ Some c.in-Some.list = ap (λ (k : Code). k.list) (sym own) ∙ c.in-Some.is in
-    subst (λ (z : List Edge). (i : ℕ) (x : Edge) → i < length z → IsPlaceOf (length c.args.sweep.now.met.items) (slice_index_or z i x).aim) (sym c.edges_at-list.ensures)
+    subst (λ (z : List Edge). (i : ℕ) (x : Edge) → i < length z →
+    IsPlaceOf (length c.args.sweep.now.met.items) (slice_index_or z i x).aim) (sym c.edges_at-list.ensures)
     (edges_placed u c.args.place c.requires.walkable c.requires.formed c.requires.place c.in-Some.list c.args.sweep.now code c.requires.sweep)
 
 pub leave-requires-clause-reads : goal.leave-requires-clause-reads
 leave-requires-clause-reads c =
     let n = c.in_ok-left.left.names in
-    subst (λ (z : List NoteLine). (i : ℕ) → i < length z → IsReadable (form_of n) (slice_index_or (map note_line_of z) i no_line).says) (sym c.deref-3.ensures.value)
-    (ensures_read c.args.unrolled.now c.args.sweep.now n c.requires.walkable c.requires.sweep (form_on c.args.sweep.now.entry c.args.names.now n c.requires.names.same
+    subst (λ (z : List NoteLine). (i : ℕ) → i < length z → IsReadable (form_of n) (slice_index_or (map note_line_of z) i no_line).says)
+    (sym c.deref-3.ensures.value)
+    (ensures_read c.args.unrolled.now c.args.sweep.now n c.requires.walkable c.requires.sweep
+    (form_on c.args.sweep.now.entry c.args.names.now n c.requires.names.same
     c.in_ok-left.ensures.form))
 
 pub leave-requires-clause-next : goal.leave-requires-clause-next
@@ -76,7 +81,8 @@ leave-requires-clause-link c =
     let d = c.in_ok-next.ensures in
     let e = c.in_ok-odd.ensures in
     subst (λ (t : ℕ). HasWidth c.unaligned.new.dag 32 t) (sym c.entry_link-link.ensures)
-    (link_width c.unaligned.new.dag s (well_keeps e.grew s e.typed (well_keeps d.grew s d.typed (well_keeps b.grew s b.typed (well_keeps a.grew s a.typed c.requires.well))))
+    (link_width c.unaligned.new.dag s (well_keeps e.grew s e.typed
+    (well_keeps d.grew s d.typed (well_keeps b.grew s b.typed (well_keeps a.grew s a.typed c.requires.well))))
     c.args.unrolled.now.link
     (link_for c.args.unrolled.now s c.requires.walkable c.requires.sweep))
 
@@ -93,7 +99,8 @@ returns c =
     let u = c.args.unrolled.now in
     let own = own_is u c.args.place c.index.result.now c.index-code.result.now c.requires.formed c.requires.place c.index.ensures c.index-code.ensures in
     let code : (own_code u c.args.place).list ≡ Some c.in-Some.list = ap (λ (k : Code). k.list) (sym own) ∙ c.in-Some.is in
-    row_from u c.args.place c.args.names.now c.args.dag.now c.run_list.new.dag c.writes_kept.new.dag c.next_address.new.dag c.unaligned.new.dag c.leave.new.dag c.args.sweep.now
+    row_from u c.args.place c.args.names.now c.args.dag.now c.run_list.new.dag c.writes_kept.new.dag c.next_address.new.dag c.unaligned.new.dag c.leave.new.dag
+    c.args.sweep.now
     c.leave.new.sweep c.args.rest.0
     c.in_ok-last.last.0 c.in-Some.list c.deref.result.now c.in_ok-left.left c.deref-2.result.now c.in_ok-wrote.wrote.0 c.in_ok-odd.odd.0 _
     c.in_ok-next.next.0

@@ -10,11 +10,14 @@ pub returns : goal.returns
 returns c =
     let u = c.args.unrolled.now in
     let e = c.registers-first.ensures in
-    begun u c.entry_names.new.dag c.keep.new.self c.constant.new.dag c.constant-2.new.dag c.registers-first.result.0 c.registers-first.result.1 c.flag_count.result
+    begun u c.entry_names.new.dag c.keep.new.self c.constant.new.dag c.constant-2.new.dag c.registers-first.result.0 c.registers-first.result.1
+    c.flag_count.result
     (c.len-places.result - 1) c.in_ok-entry.entry c.in_ok-names.names
     c.in_ok-pc.pc c.in_ok-yes.yes c.in_ok-never.never c.in_ok-met.met c.in_ok-states.states (same_range _ _ _ _ e.first e.count) (sym c.flag_count.ensures)
-    (subst (λ (z : List TermNode). AreEntryNames z c.entry_names.new.dag c.registers-first.result.0 c.registers-first.result.1 c.flag_count.result c.in_ok-entry.entry)
+    (subst (λ (z : List TermNode). AreEntryNames z c.entry_names.new.dag c.registers-first.result.0 c.registers-first.result.1 c.flag_count.result
+    c.in_ok-entry.entry)
     c.requires.empty c.in_ok-entry.ensures)
-    (subst (λ (z : ℕ). IsInterned c.entry_names.new.dag c.keep.new.self (ConstantNode 32 z) c.in_ok-pc.pc.0) c.from.ensures c.in_ok-pc.ensures) c.in_ok-yes.ensures
+    (subst (λ (z : ℕ). IsInterned c.entry_names.new.dag c.keep.new.self
+    (ConstantNode 32 z) c.in_ok-pc.pc.0) c.from.ensures c.in_ok-pc.ensures) c.in_ok-yes.ensures
     c.in_ok-never.ensures c.in_ok-names.ensures
     (omega (arith, c.len-places.ensures, u.points.ok.0, points_count u u.points.items, c.requires.walkable.some)) c.in_ok-met.ensures c.in_ok-states.ensures

@@ -8,14 +8,24 @@ use Rattle.passify.proofs.Visited.{forget_well, handled_by, met_within, none_met
 use Rattle.passify.proofs.sweeping.visit.Goals as goal
 
 pub index-met-requires : goal.index-met-requires
-index-met-requires c = omega (arith, place c.args.unrolled.now c.args.place c.args.dag.now c.args.sweep.now c.requires.swept c.requires.place, c.args.sweep.now.met.ok.0)
+index-met-requires c = omega (
+  arith,
+  place c.args.unrolled.now c.args.place c.args.dag.now c.args.sweep.now c.requires.swept c.requires.place,
+  c.args.sweep.now.met.ok.0,
+)
 
 pub index_mut-requires : goal.index_mut-requires
 index_mut-requires c =
-    omega (arith, place c.args.unrolled.now c.args.place c.args.dag.now c.args.sweep.now c.requires.swept c.requires.place, c.requires.swept.well.count, c.args.sweep.now.states.ok.0)
+    omega (
+      arith,
+      place c.args.unrolled.now c.args.place c.args.dag.now c.args.sweep.now c.requires.swept c.requires.place,
+      c.requires.swept.well.count,
+      c.args.sweep.now.states.ok.0,
+    )
 
 pub constant-requires : goal.constant-requires
-constant-requires c = met_within c.args.unrolled.now c.args.place c.args.dag.now c.args.sweep.now c.requires.swept c.requires.place c.index-met.result.now c.index-met.ensures
+constant-requires c = met_within c.args.unrolled.now c.args.place c.args.dag.now c.args.sweep.now c.requires.swept c.requires.place c.index-met.result.now
+    c.index-met.ensures
 
 pub returns-in-Some-eq0 : goal.returns-in-Some-eq0
 returns-in-Some-eq0 c =
@@ -27,7 +37,8 @@ returns-in-Some-eq0 c =
 
 pub handle-requires-clause-well : goal.handle-requires-clause-well
 handle-requires-clause-well c =
-    subst (λ (o : Option Names). AreWell c.args.dag.now (record c.args.sweep.now { states = with_item c.args.sweep.now.states c.args.place o })) (sym c.replace-state.ensures.after)
+    subst (λ (o : Option Names). AreWell c.args.dag.now (record c.args.sweep.now { states = with_item c.args.sweep.now.states c.args.place o }))
+    (sym c.replace-state.ensures.after)
     (forget_well c.args.dag.now c.args.sweep.now c.args.place c.requires.swept.well)
 
 pub handle-requires-clause-names : goal.handle-requires-clause-names
@@ -43,13 +54,15 @@ returns-in-None c =
     (record c.args.sweep.now { states = with_item c.args.sweep.now.states c.args.place o })) (sym c.replace-state.ensures.after)
     (passed_by c.args.unrolled.now c.args.place c.args.dag.now c.args.sweep.now c.requires.swept c.requires.place
     (none_met c.args.unrolled.now c.args.place c.args.dag.now c.args.sweep.now c.requires.swept c.requires.place
-    (taken_was c.args.unrolled.now c.args.place c.args.dag.now c.args.sweep.now c.requires.swept c.requires.place c.index_mut.result.now c.replace-state.result None
+    (taken_was c.args.unrolled.now c.args.place c.args.dag.now c.args.sweep.now c.requires.swept c.requires.place c.index_mut.result.now c.replace-state.result
+    None
     c.index_mut.ensures.value c.replace-state.ensures.value
     c.in-None.is)))
 
 pub returns-in_ok-handle-in-Some : goal.returns-in_ok-handle-in-Some
 returns-in_ok-handle-in-Some c =
-    handled_by c.args.unrolled.now c.args.place c.args.dag.now c.args.sweep.now c.requires.swept c.requires.place c.handle.new.dag c.handle.new.sweep c.in-Some.names
+    handled_by c.args.unrolled.now c.args.place c.args.dag.now c.args.sweep.now c.requires.swept c.requires.place c.handle.new.dag c.handle.new.sweep
+    c.in-Some.names
     (taken_was c.args.unrolled.now c.args.place c.args.dag.now c.args.sweep.now c.requires.swept c.requires.place c.index_mut.result.now c.replace-state.result
     (Some c.in-Some.names) c.index_mut.ensures.value
     c.replace-state.ensures.value c.in-Some.is)

@@ -14,9 +14,11 @@ touches-requires-clause-run c =
 pub loop-i-preserved : goal.loop-i-preserved
 loop-i-preserved c =
     let k : ℕ × ℕ = get_or c.args.kept.now c.loop-i.i (0, 0) in
-    touches_more c.args.dag.now c.loop-i.dag c.touches.new.dag c.either.new.dag c.args.stored c.args.kept.now c.loop-i.i k c.args.before.0 c.loop-i.some.0 c.in_ok-bit.bit.0
+    touches_more c.args.dag.now c.loop-i.dag c.touches.new.dag c.either.new.dag c.args.stored c.args.kept.now c.loop-i.i k c.args.before.0 c.loop-i.some.0
+    c.in_ok-bit.bit.0
     c.in_ok-some.some.0 c.loop-i-test.true
     (other_default c.args.kept.now c.loop-i.i (0, 0) k c.loop-i-test.true) c.requires.store c.loop-i.invariant c.in_ok-bit.ensures c.in_ok-some.ensures
 
 pub returns : goal.returns
-returns c = touches_all c.args.dag.now c.loop-i.dag c.args.stored c.args.kept.now c.loop-i.i c.args.before.0 c.loop-i.some.0 c.loop-i-test.false c.loop-i.auto.i-end c.loop-i.invariant
+returns c = touches_all c.args.dag.now c.loop-i.dag c.args.stored c.args.kept.now c.loop-i.i c.args.before.0 c.loop-i.some.0 c.loop-i-test.false
+    c.loop-i.auto.i-end c.loop-i.invariant

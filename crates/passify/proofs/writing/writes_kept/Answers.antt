@@ -21,11 +21,13 @@ pub loop-i-preserved : goal.loop-i-preserved
 loop-i-preserved c =
     let s : Stored = get_or c.args.stored.now c.loop-i.i no_store in
     let at = other_default c.args.stored.now c.loop-i.i no_store s c.loop-i-test.true in
-    writes_more c.args.dag.now c.loop-i.dag c.touches_some.new.dag c.args.stored.now (map kept_of c.args.kept.now) c.loop-i.i s c.loop-i.some.0 c.in_ok-some-2.some.0
+    writes_more c.args.dag.now c.loop-i.dag c.touches_some.new.dag c.args.stored.now
+    (map kept_of c.args.kept.now) c.loop-i.i s c.loop-i.some.0 c.in_ok-some-2.some.0
     c.loop-i-test.true at
     (c.requires.stores s (has_at c.args.stored.now c.loop-i.i s c.loop-i-test.true at)) c.requires.typed c.loop-i.invariant
     (by_count c.loop-i.dag c.touches_some.new.dag c.args.kept.now c.in_ok-some-2.some.0
     (Touches c.loop-i.dag c.touches_some.new.dag s (map kept_of c.args.kept.now) c.loop-i.some.0 c.in_ok-some-2.some.0) c.in_ok-some-2.ensures)
 
 pub returns : goal.returns
-returns c = writes_all c.args.dag.now c.loop-i.dag c.args.stored.now (map kept_of c.args.kept.now) c.loop-i.i c.loop-i.some.0 c.loop-i-test.false c.loop-i.auto.i-end c.loop-i.invariant
+returns c = writes_all c.args.dag.now c.loop-i.dag c.args.stored.now
+    (map kept_of c.args.kept.now) c.loop-i.i c.loop-i.some.0 c.loop-i-test.false c.loop-i.auto.i-end c.loop-i.invariant

@@ -10,11 +10,15 @@ loop-successor-preserved c =
     elim c.match-successor_end.branch [
       | in-Some+in_ok-push w ↦
           rw (w.found-is)
-          (ends_more (successor_end c.args.node.now.returns c.frame-frame.result c.args.stack c.args.called) c.deref-successor-items.result.now c.loop-successor.successor-index _
-          (Some w.in-Some.end) c.loop-successor.found.items w.push.new.self.items (omega arith) (sym w.in-Some.ensures) c.loop-successor.invariant w.in_ok-push.ensures.items)
+          (ends_more (successor_end c.args.node.now.returns c.frame-frame.result c.args.stack c.args.called) c.deref-successor-items.result.now
+          c.loop-successor.successor-index _
+          (Some w.in-Some.end) c.loop-successor.found.items w.push.new.self.items (omega arith)
+          (sym w.in-Some.ensures) c.loop-successor.invariant w.in_ok-push.ensures.items)
       | in_default w ↦
           rw (w.found-is)
-          (ends_more (successor_end c.args.node.now.returns c.frame-frame.result c.args.stack c.args.called) c.deref-successor-items.result.now c.loop-successor.successor-index _
-          None c.loop-successor.found.items c.loop-successor.found.items (omega arith) (sym c.successor_end.ensures ∙ w.in_default.is) c.loop-successor.invariant
+          (ends_more (successor_end c.args.node.now.returns c.frame-frame.result c.args.stack c.args.called) c.deref-successor-items.result.now
+          c.loop-successor.successor-index _
+          None c.loop-successor.found.items c.loop-successor.found.items (omega arith)
+          (sym c.successor_end.ensures ∙ w.in_default.is) c.loop-successor.invariant
           (nothing_more c.loop-successor.found.items))
     ]

@@ -19,7 +19,8 @@ loop-id-preserved c =
       | in-Some w ↦
           let e = w.index-entries-at.result in
           record {
-            looks = deleted-found ids k (get_or ids k 0) c.loop-id-test.true refl (look_up old) es c.match-place.entries w.in-Some.at e w.entries-is rising w.in-Some.ensures.within
+            looks = deleted-found ids k (get_or ids k 0) c.loop-id-test.true refl
+                (look_up old) es c.match-place.entries w.in-Some.at e w.entries-is rising w.in-Some.ensures.within
                 w.index-entries-at.is w.in-Some.ensures.found inv.looks;
             same_ids = ids-gone es c.match-place.entries w.in-Some.at e w.entries-is ∙ inv.same_ids;
           }

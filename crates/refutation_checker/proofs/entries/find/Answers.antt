@@ -8,10 +8,12 @@ returns-in_err-at c = ap option_copied c.from_residual.ensures ∙ sym (look_up-
 
 pub returns-then-entry : goal.returns-then-entry
 returns-then-entry c =
-    sym (look_up-at c.args.entries.now c.in_ok-at.at c.index-entries-at.result c.args.id c.requires c.in_ok-at.ensures.within c.index-entries-at.is c.in_ok-at.ensures.found
+    sym (look_up-at c.args.entries.now c.in_ok-at.at c.index-entries-at.result c.args.id c.requires c.in_ok-at.ensures.within c.index-entries-at.is
+    c.in_ok-at.ensures.found
     ∙ seen c.index-entries-at.result c.if-entry.true)
 
 pub returns-else-entry : goal.returns-else-entry
 returns-else-entry c =
-    sym (look_up-at c.args.entries.now c.in_ok-at.at c.index-entries-at.result c.args.id c.requires c.in_ok-at.ensures.within c.index-entries-at.is c.in_ok-at.ensures.found
+    sym (look_up-at c.args.entries.now c.in_ok-at.at c.index-entries-at.result c.args.id c.requires c.in_ok-at.ensures.within c.index-entries-at.is
+    c.in_ok-at.ensures.found
     ∙ unseen c.index-entries-at.result c.if-entry.false)

@@ -22,8 +22,10 @@ assign-requires-clause-not_false c =
 pub loop-hint-preserved : goal.loop-hint-preserved
 loop-hint-preserved c =
     let u = rw c.lits.ensures at (sym c.in-Unit.ensures) in
-    let s = hint-unit (look_up c.args.entries.now) (true_in c.args.line c.args.names.now c.loop-hint.slots) (true_in c.args.line c.args.names.now c.assign.new.slots)
-    c.in-ById.id c.in-Some.clause.now c.in-Unit.lit (map hint_of (drop (c.loop-hint.hint-index + 1) c.args.hints.now)) (sym c.in-Some.ensures) u c.assign.ensures.values in
+    let s = hint-unit (look_up c.args.entries.now) (true_in c.args.line c.args.names.now c.loop-hint.slots)
+    (true_in c.args.line c.args.names.now c.assign.new.slots)
+    c.in-ById.id c.in-Some.clause.now c.in-Unit.lit (map hint_of (drop (c.loop-hint.hint-index + 1) c.args.hints.now))
+    (sym c.in-Some.ensures) u c.assign.ensures.values in
     let d = drop-cons c.args.hints.now c.loop-hint.hint-index (ById 0) c.loop-hint-test.true in
     let f = rw (d, c.in-ById.is) at c.loop-hint.invariant.same_rest in
     record {

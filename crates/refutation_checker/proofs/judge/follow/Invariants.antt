@@ -7,6 +7,7 @@ use Rattle.refutation_checker.proofs.judge.follow.Given as goal
 
 abbrev pub invariant-loop-hint : goal.invariant-loop-hint
 invariant-loop-hint l = record {
-  same_rest : judge_hints (look_up l.entries) (true_in l.line l.names l.fn.slots) (map hint_of l.hints) ≡ judge_hints (look_up l.entries) (true_in l.line l.names l.slots) (map hint_of (drop l.hint-index l.hints));
+  same_rest : judge_hints (look_up l.entries) (true_in l.line l.names l.fn.slots) (map hint_of l.hints)
+      ≡ judge_hints (look_up l.entries) (true_in l.line l.names l.slots) (map hint_of (drop l.hint-index l.hints));
   lines : AreUpTo l.line l.fn.slots → AreUpTo l.line l.slots;
 }

@@ -12,6 +12,9 @@ deny-requires-clause-within c =
 
 pub returns-clause-judged : goal.returns-clause-judged
 returns-clause-judged c =
-    judged c.args.variables (record { last = c.args.last; present = look_up c.args.entries.now; ended = false }) c.args.id c.args.clause.now (map hint_of c.args.hints.now)
-    (true_in c.args.line c.args.names.now c.deny.new.slots) (option_map cause_of c.follow.result) c.if-id-last.false (sym c.has_above.ensures ∙ c.if-has_above.false)
-    (sym c.deny.ensures.tautology ∙ c.if-deny.false) (sym c.has_negative.ensures ∙ c.if-has_negative.false) (c.deny.ensures.values c.if-deny.false) c.follow.ensures.judged
+    judged c.args.variables (record { last = c.args.last; present = look_up c.args.entries.now; ended = false }) c.args.id c.args.clause.now
+    (map hint_of c.args.hints.now)
+    (true_in c.args.line c.args.names.now c.deny.new.slots) (option_map cause_of c.follow.result) c.if-id-last.false
+    (sym c.has_above.ensures ∙ c.if-has_above.false)
+    (sym c.deny.ensures.tautology ∙ c.if-deny.false) (sym c.has_negative.ensures ∙ c.if-has_negative.false)
+    (c.deny.ensures.values c.if-deny.false) c.follow.ensures.judged

@@ -14,8 +14,10 @@ returns-clause-good c =
     record {
       named = good.named;
       rising = pushed-rising es c.push.new.self.items e c.args.marks.now.last c.in-Ok.ensures.items refl good.highest c.requires.above good.rising;
-      highest = rw c.max-marks.ensures (pushed-highest es c.push.new.self.items e c.args.marks.now.last c.in-Ok.ensures.items refl good.highest c.requires.above);
-      within = pushed-all es c.push.new.self.items e c.args.marks.now.last c.in-Ok.ensures.items refl good.highest c.requires.above (IsWithin c.args.marks.now.names.items (length c.args.marks.now.slots.items)) good.within c.requires.within;
+      highest = rw c.max-marks.ensures (pushed-highest es c.push.new.self.items e c.args.marks.now.last c.in-Ok.ensures.items refl good.highest
+          c.requires.above);
+      within = pushed-all es c.push.new.self.items e c.args.marks.now.last c.in-Ok.ensures.items refl good.highest c.requires.above
+          (IsWithin c.args.marks.now.names.items (length c.args.marks.now.slots.items)) good.within c.requires.within;
     }
 
 pub returns-clause-known : goal.returns-clause-known

@@ -15,8 +15,10 @@ returns-then-marks-clause-taken c = λ _.
     let given = c.index-given.result.now in
     let taken = c.requires.taken in
     let lt : c.args.line - 1 < length log.lines.items = omega (arith, length-lines log, c.requires.from, c.requires.to) in
-    taken-next m m (cnf_of c.args.cnf.now) (lines_of log) c.args.line (line_of given) c.requires.from c.requires.to (line-at log (c.args.line - 1) given lt c.index-given.ensures) taken taken.good refl refl
-    (ended-after (known_of m) (line_of given) c.if-marks.true) (up-more (c.args.line - 1) c.args.line m.slots.items (omega arith) taken.slots) (omega arith) (omega arith)
+    taken-next m m (cnf_of c.args.cnf.now) (lines_of log) c.args.line (line_of given) c.requires.from c.requires.to
+    (line-at log (c.args.line - 1) given lt c.index-given.ensures) taken taken.good refl refl
+    (ended-after (known_of m) (line_of given) c.if-marks.true) (up-more (c.args.line - 1) c.args.line m.slots.items (omega arith) taken.slots) (omega arith)
+    (omega arith)
 
 pub judge_clause-cause-requires-clause-ready : goal.judge_clause-cause-requires-clause-ready
 judge_clause-cause-requires-clause-ready c = λ low.
@@ -25,7 +27,8 @@ judge_clause-cause-requires-clause-ready c = λ low.
     let given = c.index-given.result.now in
     let lt : c.args.line - 1 < length log.lines.items = omega (arith, length-lines log, c.requires.from, c.requires.to) in
     rw (c.lits-lits.ensures, c.deref-in-Add-2.ensures.value, c.deref_mut.ensures.value)
-    (line-ready c.args.cnf.now.variables (length m.slots.items) m.names.items log (c.args.line - 1) c.in-Add.id c.in-Add.clause (map hint_of c.in-Add.hints.items) given
+    (line-ready c.args.cnf.now.variables (length m.slots.items) m.names.items log (c.args.line - 1) c.in-Add.id c.in-Add.clause
+    (map hint_of c.in-Add.hints.items) given
     c.requires.taken.ready lt c.index-given.ensures (ap line_of c.in-Add.is) (rw c.lits-lits.ensures at low))
 
 pub add-requires-clause-within : goal.add-requires-clause-within
@@ -55,7 +58,8 @@ returns-in-Delete-clause-taken c = λ _.
     let l = Delete c.in-Delete.id c.in-Delete.ids.items in
     let is : line_of given ≡ l = ap line_of c.in-Delete.is in
     let here = line-at log (c.args.line - 1) given lt c.index-given.ensures in
-    taken-next m c.remove.new.marks (cnf_of c.args.cnf.now) (lines_of log) c.args.line l c.requires.from c.requires.to (rw (← is) here) taken e.good (ap (λ v. v.items) e.names) (ap (λ v. length v.items) e.slots)
+    taken-next m c.remove.new.marks (cnf_of c.args.cnf.now) (lines_of log) c.args.line l c.requires.from c.requires.to (rw (← is) here) taken e.good (ap
+    (λ v. v.items) e.names) (ap (λ v. length v.items) e.slots)
     (rw c.deref.ensures.value at e.known ∙ not_ended-after (known_of m) l c.if-marks.false)
     (rw e.slots (up-more (c.args.line - 1) c.args.line m.slots.items (omega arith) taken.slots)) (omega arith) e.capacity
 
@@ -75,6 +79,7 @@ returns-then-is_none-clause-taken c = λ _.
     let before = up-more (c.args.line - 1) c.args.line m.slots.items (omega arith) taken.slots in
     let after = c.judge_clause-cause.ensures.lines (rw seen before) in
     let same : length c.judge_clause-cause.new.slots ≡ m.slots.len = c.judge_clause-cause.auto.slots ∙ c.deref_mut.ensures.len in
-    taken-next m c.add.new.marks (cnf_of c.args.cnf.now) (lines_of log) c.args.line l c.requires.from c.requires.to (rw (← is) here) taken e.good (ap (λ v. v.items) e.names) (ap (λ v. length v.items) e.slots ∙ ap length (with_items_is m.slots c.judge_clause-cause.new.slots same) ∙ same ∙ m.slots.ok.0)
+    taken-next m c.add.new.marks (cnf_of c.args.cnf.now) (lines_of log) c.args.line l c.requires.from c.requires.to (rw (← is) here) taken e.good (ap
+    (λ v. v.items) e.names) (ap (λ v. length v.items) e.slots ∙ ap length (with_items_is m.slots c.judge_clause-cause.new.slots same) ∙ same ∙ m.slots.ok.0)
     (e.known hints ∙ not_ended-after (known_of m) l c.if-marks.false)
     (rw (e.slots, with_items_is m.slots c.judge_clause-cause.new.slots same) after) (omega (arith, e.len)) e.capacity

@@ -9,15 +9,19 @@ returns-in_default c = ap read_as (without-zero c.args.id (is_ended c.args.numbe
 
 pub returns-in_default-split_at_zero : goal.returns-in_default-split_at_zero
 returns-in_default-split_at_zero c =
-    ap read_as (with-one-zero c.args.id c.args.numbers.now c.in-Some.literal_numbers.now c.in-Some.behind.now c.in-Some.ensures.parts c.in-Some.ensures.ended c.in_default-split_at_zero.ensures.parts)
+    ap read_as (with-one-zero c.args.id c.args.numbers.now c.in-Some.literal_numbers.now c.in-Some.behind.now c.in-Some.ensures.parts c.in-Some.ensures.ended
+    c.in_default-split_at_zero.ensures.parts)
 
 pub returns-then-not-is_empty : goal.returns-then-not-is_empty
 returns-then-not-is_empty c =
-    ap read_as (with-more c.args.id (is_ended c.args.numbers.now) c.args.numbers.now c.in-Some.literal_numbers.now c.in-Some.behind.now c.in-Some-split_at_zero.hint_numbers.now c.in-Some-split_at_zero.rest.now
+    ap read_as (with-more c.args.id (is_ended c.args.numbers.now) c.args.numbers.now c.in-Some.literal_numbers.now c.in-Some.behind.now
+    c.in-Some-split_at_zero.hint_numbers.now c.in-Some-split_at_zero.rest.now
     c.in-Some.ensures.parts c.in-Some-split_at_zero.ensures.parts (sym c.is_empty.ensures ∙ c.if-not-is_empty.true))
 
 pub returns-in_default-2 : goal.returns-in_default-2
 returns-in_default-2 c =
-    with-unlisted c.args.id c.args.numbers.now c.in-Some.literal_numbers.now c.in-Some.behind.now c.in-Some-split_at_zero.hint_numbers.now c.in-Some-split_at_zero.rest.now
-    c.in-Some.ensures.parts c.in-Some.ensures.ended c.in-Some-split_at_zero.ensures.parts c.in-Some-split_at_zero.ensures.ended (sym c.is_empty.ensures ∙ c.if-not-is_empty.false)
+    with-unlisted c.args.id c.args.numbers.now c.in-Some.literal_numbers.now c.in-Some.behind.now c.in-Some-split_at_zero.hint_numbers.now
+    c.in-Some-split_at_zero.rest.now
+    c.in-Some.ensures.parts c.in-Some.ensures.ended c.in-Some-split_at_zero.ensures.parts c.in-Some-split_at_zero.ensures.ended
+    (sym c.is_empty.ensures ∙ c.if-not-is_empty.false)
     (rw c.in_default-2.is at c.in_ok-clause.ensures)

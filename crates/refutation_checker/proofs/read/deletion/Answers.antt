@@ -8,5 +8,6 @@ returns-in_default c = deleted-without-zero c.args.id (not (some_below c.args.nu
 
 pub returns-then-not-is_empty : goal.returns-then-not-is_empty
 returns-then-not-is_empty c =
-    deleted-with-more c.args.id (is_ended c.args.numbers.now && not (some_below c.args.numbers.now)) c.args.numbers.now c.in-Some.id_numbers.now c.in-Some.rest.now c.in-Some.ensures.parts
+    deleted-with-more c.args.id (is_ended c.args.numbers.now &&
+    not (some_below c.args.numbers.now)) c.args.numbers.now c.in-Some.id_numbers.now c.in-Some.rest.now c.in-Some.ensures.parts
     (sym c.is_empty.ensures ∙ c.if-not-is_empty.true)

@@ -6,7 +6,8 @@ use Rattle.refutation_checker.proofs.slots.deny.Goals as goal
 
 pub is_true-requires-clause-within : goal.is_true-requires-clause-within
 is_true-requires-clause-within c =
-    rw c.loop-lit.auto.slots (c.requires.within c.lit-item.result (has-item c.args.clause.now c.loop-lit.lit-index c.lit-item.result c.loop-lit-test.true c.lit-item.is))
+    rw c.loop-lit.auto.slots (c.requires.within c.lit-item.result
+    (has-item c.args.clause.now c.loop-lit.lit-index c.lit-item.result c.loop-lit-test.true c.lit-item.is))
 
 pub returns-then-is_true-clause-tautology : goal.returns-then-is_true-clause-tautology
 returns-then-is_true-clause-tautology c =
@@ -15,13 +16,15 @@ returns-then-is_true-clause-tautology c =
 
 pub assign-requires-clause-within : goal.assign-requires-clause-within
 assign-requires-clause-within c =
-    rw (c.opposite.ensures, c.loop-lit.auto.slots) (c.requires.within c.lit-item.result (has-item c.args.clause.now c.loop-lit.lit-index c.lit-item.result c.loop-lit-test.true c.lit-item.is))
+    rw (c.opposite.ensures, c.loop-lit.auto.slots) (c.requires.within c.lit-item.result
+    (has-item c.args.clause.now c.loop-lit.lit-index c.lit-item.result c.loop-lit-test.true c.lit-item.is))
 
 pub loop-lit-preserved : goal.loop-lit-preserved
 loop-lit-preserved c =
     let inv = c.loop-lit.invariant in
     record {
-      values = denied-more c.args.clause.now c.loop-lit.lit-index c.lit-item.result c.loop-lit-test.true c.lit-item.is (true_in c.args.line c.args.names.now c.loop-lit.slots) (true_in c.args.line c.args.names.now c.assign.new.slots)
+      values = denied-more c.args.clause.now c.loop-lit.lit-index c.lit-item.result c.loop-lit-test.true c.lit-item.is
+          (true_in c.args.line c.args.names.now c.loop-lit.slots) (true_in c.args.line c.args.names.now c.assign.new.slots)
           inv.values (rw c.opposite.ensures at c.assign.ensures.values);
       plain = plain-more c.args.clause.now c.loop-lit.lit-index c.lit-item.result c.loop-lit-test.true c.lit-item.is inv.plain
           (sym (inv.values c.lit-item.result) ∙ sym c.is_true.ensures ∙ c.if-is_true.false);

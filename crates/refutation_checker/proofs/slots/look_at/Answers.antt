@@ -6,7 +6,8 @@ use Rattle.refutation_checker.proofs.slots.look_at.Goals as goal
 use Rattle.refutation_checker.proofs.slots.look_at.Goals.{then-not-is_true+in-None, then-not-is_true+in-Some+else-not-is_same, else-not-is_true}
 
 pub is_true-requires-clause-within : goal.is_true-requires-clause-within
-is_true-requires-clause-within c = rw c.opposite.ensures (c.requires.within c.lit-item.result (has-item c.args.clause.now c.loop-lit.lit-index c.lit-item.result c.loop-lit-test.true c.lit-item.is))
+is_true-requires-clause-within c = rw c.opposite.ensures (c.requires.within c.lit-item.result
+    (has-item c.args.clause.now c.loop-lit.lit-index c.lit-item.result c.loop-lit-test.true c.lit-item.is))
 
 pub loop-lit-preserved : goal.loop-lit-preserved
 loop-lit-preserved c =
@@ -28,7 +29,8 @@ loop-lit-preserved c =
       | then-not-is_true+in-Some+else-not-is_same w ↦
           let s = rw w.in-Some.is at inv.same_look in
           record {
-            same_look = rw w.open-is (s ∙ resume-same h xs i x lt is w.in-Some.first (sym w.is_same.ensures ∙ w.if-not-is_same.false) (sym here ∙ w.if-not-is_true.true));
+            same_look = rw w.open-is (s ∙ resume-same h xs i x lt is w.in-Some.first (sym w.is_same.ensures ∙ w.if-not-is_same.false)
+                (sym here ∙ w.if-not-is_true.true));
             of_clause = rw w.open-is (rw w.in-Some.is at inv.of_clause);
           }
       | else-not-is_true w ↦

@@ -14,7 +14,8 @@ pub returns-in-None-unless_known : goal.returns-in-None-unless_known
 returns-in-None-unless_known c entry =
     let known = is_known_at (program_of c.args.image.now (notes_of c.args.notes.now) entry) in
     let is =
-    subst (λ (f : ParseFault). IsRefusedBy known (layout_of c.args.layout) (state_of (layout_of c.args.layout) known c.args.text.now) f) c.in-Err-Refused.field-0-is
+    subst (λ (f : ParseFault). IsRefusedBy known (layout_of c.args.layout)
+    (state_of (layout_of c.args.layout) known c.args.text.now) f) c.in-Err-Refused.field-0-is
     (c.in-Err-Refused.ensures.refused_known known) in
     let told = StateRefused c.in-Err-Refused.line (fault_of c.in-Err-Refused.kind) in
     told_left known (c.head_lines-first.result + 1) (lines_of_head (layout_of c.args.layout) + 1) c.deref-in-Err-Refused.result.now c.in-Err-Refused.bytes.items
@@ -25,7 +26,8 @@ pub returns-in-Err-Refused : goal.returns-in-Err-Refused
 returns-in-Err-Refused c entry =
     let known = is_known_at (program_of c.args.image.now (notes_of c.args.notes.now) entry) in
     let is =
-    subst (λ (f : ParseFault). IsRefusedBy known (layout_of c.args.layout) (state_of (layout_of c.args.layout) known c.args.text.now) f) c.in-Err-Refused.field-0-is
+    subst (λ (f : ParseFault). IsRefusedBy known (layout_of c.args.layout)
+    (state_of (layout_of c.args.layout) known c.args.text.now) f) c.in-Err-Refused.field-0-is
     (c.in-Err-Refused.ensures.refused_known known) in
     let told = StateRefused c.in-Err-Refused.line (fault_of c.in-Err-Refused.kind) in
     told_left known (c.head_lines-first.result + 1) (lines_of_head (layout_of c.args.layout) + 1) c.deref-in-Err-Refused.result.now c.in-Err-Refused.bytes.items

@@ -15,7 +15,8 @@ pub returns-then-text-gt-REPORT_LIMIT : goal.returns-then-text-gt-REPORT_LIMIT
 returns-then-text-gt-REPORT_LIMIT g c =
     let p = program_of c.args.image.now (notes_of c.args.notes.now) c.args.entry in
     subst (λ (a : Answer). IfOk c.too_large.result (λ r. plain_answer r.status r.text.items ≡ a))
-    (large_is p (layout_of c.args.image.now) c.args.text.now c.if-text-gt-REPORT_LIMIT.true) (c.too_large.ensures p (layout_of c.args.image.now) c.args.text.now)
+    (large_is p (layout_of c.args.image.now) c.args.text.now c.if-text-gt-REPORT_LIMIT.true)
+    (c.too_large.ensures p (layout_of c.args.image.now) c.args.text.now)
 
 pub returns-in-Refused : goal.returns-in-Refused
 returns-in-Refused g c =
@@ -28,7 +29,8 @@ returns-in-Refused g c =
 
 pub run_named-requires-clause-start : goal.run_named-requires-clause-start
 run_named-requires-clause-start g c =
-    told_written (states.layout_of c.layout.result) g.M.Machine.form (is_known_at (program_of c.args.image.now (notes_of c.args.notes.now) c.args.entry)) c.args.text.now
+    told_written (states.layout_of c.layout.result) g.M.Machine.form
+    (is_known_at (program_of c.args.image.now (notes_of c.args.notes.now) c.args.entry)) c.args.text.now
     (states.text_of c.in-State.state) c.layout.ensures (c.in_ok-line.ensures c.args.entry ∙ ap told_of c.in-State.is)
 
 pub run_named-requires-clause-step : goal.run_named-requires-clause-step

@@ -26,7 +26,8 @@ loop-full-init c =
       few = omega arith;
       kept = λ n lt f p. absurd (cc);
       taken = rw c.new-full.ensures.items
-          (taken-start c.args.propagator.now.clauses.items (length c.args.propagator.now.trail.table.items - 1) (true_in c.args.propagator.now.trail.table.items) none);
+          (taken-start c.args.propagator.now.clauses.items (length c.args.propagator.now.trail.table.items - 1)
+          (true_in c.args.propagator.now.trail.table.items) none);
     }
 
 pub returns-in-Some-clause-descent : goal.returns-in-Some-clause-descent
@@ -82,7 +83,8 @@ loop-full-preserved c =
       clauses = p.clauses ∙ inv.clauses;
       size = q.size ∙ p.size ∙ inv.size;
       few = (let a : length c.push-in-loop-full.new.self.steps.items ≡ length steps + 1 = ap length q.steps ∙ length-append steps (step ∷ []) in omega arith);
-      kept = kept-fewer c.propagate.new.self.watches.watched.items [] k (told nothing (reverse (take c.len-from.result c.push-in-loop-full.new.self.steps.items))) k now
+      kept = kept-fewer c.propagate.new.self.watches.watched.items [] k
+          (told nothing (reverse (take c.len-from.result c.push-in-loop-full.new.self.steps.items))) k now
           (λ l z. p.sound.trail.told_by l ∙ ap (λ (y : List Step). told nothing (reverse y) l)
           (sym (ap (take c.len-from.result) q.steps ∙ take-length c.len-from.result steps (step ∷ []) from)) ∙ z)
           (λ l z. q.values l ∙ or_right (same d l) (k l) z) e.kept;

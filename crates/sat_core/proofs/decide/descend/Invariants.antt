@@ -14,7 +14,8 @@ invariant-loop-full l = record {
   clauses : l.propagator.clauses ≡ l.fn.propagator.clauses;
   size : length l.propagator.trail.table.items ≡ length l.fn.propagator.trail.table.items;
   few : l.from ≤ length l.propagator.trail.steps.items;
-  kept : AreKept l.propagator.watches.watched.items [] (told nothing (reverse (take l.from l.propagator.trail.steps.items))) (true_in l.propagator.trail.table.items);
+  kept : AreKept l.propagator.watches.watched.items [] (told nothing (reverse (take l.from l.propagator.trail.steps.items)))
+      (true_in l.propagator.trail.table.items);
   taken : IsTaken l.propagator.clauses.items (length l.propagator.trail.table.items - 1) l.full.items (true_in l.propagator.trail.table.items);
 }
 

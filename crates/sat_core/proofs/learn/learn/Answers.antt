@@ -24,5 +24,6 @@ returns-clause-learned c =
       hinted = k.hinted;
       over = λ l p. w l (k.part l p);
       plain = k.plain;
-      useful = learned-useful cs lits c.in_ok-learned.learned.lits.items c.in_ok-learned.learned.hints.items k n (c.is_news.ensures.decided c.if-not-is_news.false);
+      useful = learned-useful cs lits c.in_ok-learned.learned.lits.items c.in_ok-learned.learned.hints.items k n
+          (c.is_news.ensures.decided c.if-not-is_news.false);
     }

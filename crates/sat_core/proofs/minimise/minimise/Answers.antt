@@ -59,9 +59,11 @@ loop-lit-preserved c =
 
 pub returns-clause-minimal : goal.returns-clause-minimal
 returns-clause-minimal c = λ l h.
-    c.loop-lit.invariant.tested l (ap (λ (z : Clause). has z l) (take_all c.loop-lit.lit-index c.args.full.now c.loop-lit-test.false) ∙ c.loop-lit.invariant.kept.part l h) h
+    c.loop-lit.invariant.tested l (ap (λ (z : Clause). has z l)
+    (take_all c.loop-lit.lit-index c.args.full.now c.loop-lit-test.false) ∙ c.loop-lit.invariant.kept.part l h) h
 
 pub returns-then-is_least-clause-minimal : goal.returns-then-is_least-clause-minimal
 returns-then-is_least-clause-minimal c =
-    let n : (l : Literal) → IsNeeded c.args.propagator.now.clauses.items c.args.full.now l = rw c.in_ok-hints.ensures.clauses at (c.if-is_least.ensures.needed refl) in
+    let n : (l : Literal) → IsNeeded c.args.propagator.now.clauses.items c.args.full.now l = rw c.in_ok-hints.ensures.clauses at
+    (c.if-is_least.ensures.needed refl) in
     rw c.in_ok-lits.ensures.items n

@@ -19,7 +19,8 @@ prune-requires-clause-way c =
     c.in_ok-steps-in-Some.ensures.items ∙ ap (λ z. take (length z - c.len-base.result) (drop c.len-base.result z)) c.deref.ensures.value
     ∙ take_all (length steps - c.len-base.result) (drop c.len-base.result steps) (omega (arith, length-drop c.len-base.result steps)) in
     let way : IsWay c.args.propagator.now.clauses.items (negations c.args.lits.now) (reverse c.in_ok-steps-in-Some.steps.items) c.in-Some.clause =
-    rw s (run-way c.args.propagator.now.clauses.items c.deny.new.self.steps.items steps (negations c.args.lits.now) (true_in c.propagate.new.self.trail.table.items)
+    rw s (run-way c.args.propagator.now.clauses.items c.deny.new.self.steps.items steps (negations c.args.lits.now)
+    (true_in c.propagate.new.self.trail.table.items)
     c.in-Some.clause c.propagate.ensures.run (λ m. sym (c.deny.ensures.trail.told_by m) ∙ c.deny.ensures.values m) c.propagate.ensures.sound.trail.told_by
     c.in-Some.ensures.conflict c.len-base.result base) in
     (negations c.args.lits.now, rw (c.deref-in-Some.ensures.value, c.propagate.ensures.clauses) way)
@@ -37,7 +38,8 @@ returns-in_ok-hints-in-Some-clause-hints c =
     c.in_ok-steps-in-Some.ensures.items ∙ ap (λ z. take (length z - c.len-base.result) (drop c.len-base.result z)) c.deref.ensures.value
     ∙ take_all (length steps - c.len-base.result) (drop c.len-base.result steps) (omega (arith, length-drop c.len-base.result steps)) in
     let way : IsWay c.args.propagator.now.clauses.items (negations c.args.lits.now) (reverse c.in_ok-steps-in-Some.steps.items) c.in-Some.clause =
-    rw s (run-way c.args.propagator.now.clauses.items c.deny.new.self.steps.items steps (negations c.args.lits.now) (true_in c.propagate.new.self.trail.table.items)
+    rw s (run-way c.args.propagator.now.clauses.items c.deny.new.self.steps.items steps (negations c.args.lits.now)
+    (true_in c.propagate.new.self.trail.table.items)
     c.in-Some.clause c.propagate.ensures.run (λ m. sym (c.deny.ensures.trail.told_by m) ∙ c.deny.ensures.values m) c.propagate.ensures.sound.trail.told_by
     c.in-Some.ensures.conflict c.len-base.result base) in
     let e = rw (c.deref-in-Some.ensures.value, c.propagate.ensures.clauses) at c.in_ok-hints-in-Some.ensures in

@@ -16,8 +16,19 @@ are_needed-are_needed_where-requires t c =
     let h = length lits / 2 in
     let d = c.decreases in
     let n : length (take (length lits - h) (drop h lits)) ≡ length lits - h = ap length (whole-back h lits) ∙ length-drop h lits in
-    let some = c.if-lits-lt2.false in
-    (omega arith, (c.requires.sound, (c.requires.calm, (rw (whole-back h lits) (λ l p. c.requires.within l (in-back h lits l p)), λ l p. c.requires.within l (in-front h lits l p)))))
+    let some = c.if-lits-lt2.false in (
+      omega arith,
+      (
+        c.requires.sound,
+        (
+          c.requires.calm,
+          (
+            rw (whole-back h lits) (λ l p. c.requires.within l (in-back h lits l p)),
+            λ l p. c.requires.within l (in-front h lits l p),
+          ),
+        ),
+      ),
+    )
 
 pub are_needed-are_needed_where-requires-2 : goal.are_needed-are_needed_where-requires-2
 are_needed-are_needed_where-requires-2 t c =
@@ -53,7 +64,8 @@ are_needed-returns-clause-tested t c = λ e.
     let g = true_in old.trail.table.items in
     let next = c.are_needed_where.new.propagator in
     let k = c.are_needed_where.ensures.later in
-    let back : AreTested cs (also g (take h lits)) (drop h lits) = rw (whole-back h lits) at (c.are_needed_where.ensures.tested c.if-not-are_needed_where.false) in
+    let back : AreTested cs (also g (take h lits)) (drop h lits) = rw (whole-back h lits) at
+    (c.are_needed_where.ensures.tested c.if-not-are_needed_where.false) in
     let front : AreTested cs (also (true_in next.trail.table.items) (drop h lits)) (take h lits) =
     rw (k.clauses, whole-back h lits) at (c.are_needed_where-2.ensures.tested e) in
     tested-halves cs g h lits back

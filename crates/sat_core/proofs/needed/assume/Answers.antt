@@ -14,8 +14,10 @@ propagate-requires-clause-kept c =
     let n = c.len-from.result in
     let r = c.refuse.ensures in
     let from : n ≡ length old = c.len-from.ensures ∙ c.args.propagator.now.trail.steps.ok.0 in
-    kept-fewer c.args.propagator.now.watches.watched.items [] h (told nothing (reverse (take n c.refuse.new.self.steps.items))) h (true_in c.refuse.new.self.table.items)
-    (λ l p. c.requires.sound.trail.told_by l ∙ ap (λ (y : List Step). told nothing (reverse y) l) (sym (ap (take n) r.steps.1 ∙ take-length n old r.steps.0 from)) ∙ p)
+    kept-fewer c.args.propagator.now.watches.watched.items [] h (told nothing (reverse (take n c.refuse.new.self.steps.items))) h
+    (true_in c.refuse.new.self.table.items)
+    (λ l p. c.requires.sound.trail.told_by l ∙ ap (λ (y : List Step). told nothing (reverse y) l)
+    (sym (ap (take n) r.steps.1 ∙ take-length n old r.steps.0 from)) ∙ p)
     r.grows c.requires.calm.kept
 
 pub returns-in-Some-clause-later : goal.returns-in-Some-clause-later

@@ -75,7 +75,8 @@ loop-k-preserved c =
             grows = λ l t. p.values l ∙ or_right (same w.in-Unit.lit l) (h l) (inv.grows l t);
             run = run-step cs c.args.trail.now.steps.items c.loop-k.trail.steps.items _ step h inv.run inv.trail.told_by (s.0, s.1, e) p.steps;
             met = below_more _ _ (λ j lt. met-more cs h _ _ (λ l t. p.values l ∙ or_right (same w.in-Unit.lit l) (h l) t) (inv.met j lt))
-                (met-at cs _ k s.0 w.in-Unit.lit s.1 u.0 (p.values w.in-Unit.lit ∙ or_left (same w.in-Unit.lit w.in-Unit.lit) (h w.in-Unit.lit) (same-self w.in-Unit.lit)));
+                (met-at cs _ k s.0 w.in-Unit.lit s.1 u.0 (p.values w.in-Unit.lit ∙ or_left (same w.in-Unit.lit w.in-Unit.lit) (h w.in-Unit.lit)
+                (same-self w.in-Unit.lit)));
           }
       | in-Other w ↦
           let e = sym (rw (c.deref.ensures.value, c.lits.ensures, q) at w.in-Other.ensures) in

@@ -15,7 +15,8 @@ loop-lines-init c = record {
   empty = c.in_ok-solver.ensures.empty;
   size = c.in_ok-solver.ensures.size;
   small = c.in_ok-solver.ensures.small;
-  searched = searched-start c.args.cnf.now.variables c.args.cnf.now.clauses.items c.in_ok-solver.solver.main.clauses.items (map line_of c.new-lines.result.items) c.requires.over
+  searched = searched-start c.args.cnf.now.variables c.args.cnf.now.clauses.items c.in_ok-solver.solver.main.clauses.items
+      (map line_of c.new-lines.result.items) c.requires.over
       c.in_ok-solver.ensures.clauses (ap (map line_of) c.new-lines.ensures.items);
   few = (let a = c.new-lines.ensures.len in omega arith);
 }
@@ -28,7 +29,8 @@ returns-in-Model c =
 
 pub returns-then-len-conflicts : goal.returns-then-len-conflicts
 returns-then-len-conflicts c = (
-  searched-spent c.args.cnf.now.variables c.args.cnf.now.clauses.items c.loop-lines.solver.main.clauses.items (map line_of c.loop-lines.lines.items) c.loop-lines.invariant.searched,
+  searched-spent c.args.cnf.now.variables c.args.cnf.now.clauses.items c.loop-lines.solver.main.clauses.items
+      (map line_of c.loop-lines.lines.items) c.loop-lines.invariant.searched,
   length-map c.loop-lines.lines.items line_of ∙ sym c.loop-lines.lines.ok.0 ∙ sym c.len.ensures ∙ c.if-len-conflicts.true,
 )
 
@@ -44,10 +46,12 @@ returns-then-is_last c =
     let variables : length c.loop-lines.solver.main.trail.table.items - 1 ≡ n = (let e = c.loop-lines.invariant.size in omega arith) in
     let h = rw (c.in-Clause.is, variables) at t.turn in
     let few : n ≤ 2 ^ 62 = c.loop-lines.invariant.small in
-    let id : c.len-in-loop-lines.result + 1 ≡ length cs + 1 = (let a : c.len-in-loop-lines.result ≡ length cs = c.len-in-loop-lines.ensures ∙ c.next_turn.new.propagator.clauses.ok.0 ∙ ap (λ z. length z.items) t.clauses in omega arith) in
+    let id : c.len-in-loop-lines.result + 1 ≡ length cs + 1 = (let a : c.len-in-loop-lines.result
+    ≡ length cs = c.len-in-loop-lines.ensures ∙ c.next_turn.new.propagator.clauses.ok.0 ∙ ap (λ z. length z.items) t.clauses in omega arith) in
     let small : length cs + 1 ≤ 2 ^ 62 = (let a : c.len-in-loop-lines.result + 1 ≤ 2 ^ 62 = c.if-id-gt-GREATEST_NUMBER.false in omega arith) in
     let d : c.in_ok-clause.clause ≡ lits = c.in_ok-clause.ensures ∙ c.deref.ensures.value in
-    let p = line-pushed cs lits c.in_ok-clause.clause hints (c.len-in-loop-lines.result + 1) c.loop-lines.lines.items c.push.new.self.items c.in_ok-push.ensures.items id d in
+    let p = line-pushed cs lits c.in_ok-clause.clause hints (c.len-in-loop-lines.result + 1) c.loop-lines.lines.items c.push.new.self.items
+    c.in_ok-push.ensures.items id d in
     let z : (length lits == 0) ≡ true = rw (← c.in-Clause.learned.lits.ok.0) (sym c.is_empty-is_last.ensures ∙ c.if-is_last.true) in
     ap (first_refusal n (known_at_start first) 1) p ∙ searched-end n first cs lines c.loop-lines.invariant.searched lits hints.items h few small z
 
@@ -63,10 +67,12 @@ loop-lines-preserved c =
     let variables : length c.loop-lines.solver.main.trail.table.items - 1 ≡ n = (let e = c.loop-lines.invariant.size in omega arith) in
     let h = rw (c.in-Clause.is, variables) at t.turn in
     let few : n ≤ 2 ^ 62 = c.loop-lines.invariant.small in
-    let id : c.len-in-loop-lines.result + 1 ≡ length cs + 1 = (let a : c.len-in-loop-lines.result ≡ length cs = c.len-in-loop-lines.ensures ∙ c.next_turn.new.propagator.clauses.ok.0 ∙ ap (λ z. length z.items) t.clauses in omega arith) in
+    let id : c.len-in-loop-lines.result + 1 ≡ length cs + 1 = (let a : c.len-in-loop-lines.result
+    ≡ length cs = c.len-in-loop-lines.ensures ∙ c.next_turn.new.propagator.clauses.ok.0 ∙ ap (λ z. length z.items) t.clauses in omega arith) in
     let small : length cs + 1 ≤ 2 ^ 62 = (let a : c.len-in-loop-lines.result + 1 ≤ 2 ^ 62 = c.if-id-gt-GREATEST_NUMBER.false in omega arith) in
     let d : c.in_ok-clause.clause ≡ lits = c.in_ok-clause.ensures ∙ c.deref.ensures.value in
-    let p = line-pushed cs lits c.in_ok-clause.clause hints (c.len-in-loop-lines.result + 1) c.loop-lines.lines.items c.push.new.self.items c.in_ok-push.ensures.items id d in
+    let p = line-pushed cs lits c.in_ok-clause.clause hints (c.len-in-loop-lines.result + 1) c.loop-lines.lines.items c.push.new.self.items
+    c.in_ok-push.ensures.items id d in
     let z : (length lits == 0) ≡ false = rw (← c.in-Clause.learned.lits.ok.0) (sym c.is_empty-is_last.ensures ∙ c.if-is_last.false) in
     let inv = c.loop-lines.invariant in
     let more = c.in_ok-push.ensures.len in
@@ -75,7 +81,8 @@ loop-lines-preserved c =
       empty = ap (λ (z : Trail). z.steps.items) c.in_ok-add.ensures.trail ∙ t.empty;
       size = ap (λ (z : Trail). length z.table.items) c.in_ok-add.ensures.trail ∙ t.size ∙ inv.size;
       small = inv.small;
-      searched = rw (c.in_ok-add.ensures.clauses, c.in_ok-again.ensures, c.deref-in-loop-lines-2.ensures.value, p, t.clauses) (searched-step n first cs lines inv.searched lits hints.items h few small z);
+      searched = rw (c.in_ok-add.ensures.clauses, c.in_ok-again.ensures, c.deref-in-loop-lines-2.ensures.value, p, t.clauses)
+          (searched-step n first cs lines inv.searched lits hints.items h few small z);
       few = elim c.else-not-is_last.branch [
         | else-not-is_last-via-then-not-is_last+else-len-conflicts w ↦ omega (arith, more, inv.few, w.len.ensures, w.if-len-conflicts.false)
         | else-not-is_last-via-else-not-is_last w ↦ absurd (both_ways c.is_empty-is_last.result c.if-is_last.false w.if-not-is_last.false)

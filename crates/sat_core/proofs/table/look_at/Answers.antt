@@ -31,7 +31,8 @@ loop-lit-preserved c =
       | then-not-is_true+in-Some+else-not-is_same w ↦
           let s = rw w.in-Some.is at inv.same_look in
           record {
-            same_look = rw w.open-is (s ∙ resume-same h xs i x lt is w.in-Some.first (sym w.is_same.ensures ∙ w.if-not-is_same.false) (sym here ∙ w.if-not-is_true.true));
+            same_look = rw w.open-is (s ∙ resume-same h xs i x lt is w.in-Some.first (sym w.is_same.ensures ∙ w.if-not-is_same.false)
+                (sym here ∙ w.if-not-is_true.true));
             of_clause = rw w.open-is (rw w.in-Some.is at inv.of_clause);
           }
       | else-not-is_true w ↦

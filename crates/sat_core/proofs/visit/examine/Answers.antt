@@ -23,7 +23,8 @@ is_true-requires-in-None c =
     let w = c.args.watches.now in
     let cs = c.args.clauses.now in
     let at = owner-has cs w.owners.items w.watched.items c.requires.placed c.args.watch c.requires.watch in
-    rw (c.deref-in-None.ensures.value, c.opposite.ensures, c.owner-owner.ensures.mate) (has-within (length c.args.trail.now.table.items) cs _ _ c.requires.over at)
+    rw (c.deref-in-None.ensures.value, c.opposite.ensures, c.owner-owner.ensures.mate)
+    (has-within (length c.args.trail.now.table.items) cs _ _ c.requires.over at)
 
 pub push-requires-clause-within : goal.push-requires-clause-within
 push-requires-clause-within c =
@@ -38,10 +39,12 @@ returns-in-Some-clause-moved c =
     let cs = c.args.clauses.now in
     let e = c.in-Some.ensures in
     let o : HasAt cs c.owner-owner.result.0 c.owner-owner.result.1 =
-    rw (c.owner-owner.ensures.owner, c.owner-owner.ensures.mate) (owner-has cs w.owners.items w.watched.items c.requires.placed c.args.watch c.requires.watch) in
+    rw (c.owner-owner.ensures.owner, c.owner-owner.ensures.mate)
+    (owner-has cs w.owners.items w.watched.items c.requires.placed c.args.watch c.requires.watch) in
     let q = clause-read cs c.owner-owner.result.0 o.0 c.index-clauses-owner.result o.1 c.index-clauses-owner.is in
     let at : HasAt cs c.owner-owner.result.0 c.in-Some.other = (o.0, o.1, ap (λ (z : Clause). has z c.in-Some.other) (sym (c.lits.ensures ∙ q)) ∙ e.among) in
-    target-moves cs (slice_index w.owners.items (c.args.watch / 2)) w.watched.items (watched_at w.watched.items (mate c.args.watch)) (true_in c.args.trail.now.table.items)
+    target-moves cs (slice_index w.owners.items (c.args.watch / 2)) w.watched.items (watched_at w.watched.items (mate c.args.watch))
+    (true_in c.args.trail.now.table.items)
     (length c.args.trail.now.table.items) c.in-Some.other c.requires.over (rw c.owner-owner.ensures.owner at at) (rw c.deref-2.ensures.value at e.not_false)
     (rw c.owner-owner.ensures.mate at e.another)
 
@@ -50,7 +53,8 @@ returns-then-is_true-2-clause-moved c =
     let w = c.args.watches.now in
     let cs = c.args.clauses.now in
     let o : HasAt cs c.owner-owner.result.0 c.owner-owner.result.1 =
-    rw (c.owner-owner.ensures.owner, c.owner-owner.ensures.mate) (owner-has cs w.owners.items w.watched.items c.requires.placed c.args.watch c.requires.watch) in
+    rw (c.owner-owner.ensures.owner, c.owner-owner.ensures.mate)
+    (owner-has cs w.owners.items w.watched.items c.requires.placed c.args.watch c.requires.watch) in
     let q = clause-read cs c.owner-owner.result.0 o.0 c.index-clauses-owner.result o.1 c.index-clauses-owner.is in
     let e = rw (c.lits.ensures, q, c.deref-2.ensures.value) at c.in-None.ensures.none in
     let f = rw (c.deref-in-None.ensures.value, c.opposite.ensures, c.if-is_true-2.true) at c.is_true-in-None.ensures in
@@ -63,7 +67,8 @@ returns-else-is_true-2-clause-run c =
     let h = true_in c.args.trail.now.table.items in
     let steps = c.args.trail.now.steps.items in
     let o : HasAt cs c.owner-owner.result.0 c.owner-owner.result.1 =
-    rw (c.owner-owner.ensures.owner, c.owner-owner.ensures.mate) (owner-has cs w.owners.items w.watched.items c.requires.placed c.args.watch c.requires.watch) in
+    rw (c.owner-owner.ensures.owner, c.owner-owner.ensures.mate)
+    (owner-has cs w.owners.items w.watched.items c.requires.placed c.args.watch c.requires.watch) in
     let q = clause-read cs c.owner-owner.result.0 o.0 c.index-clauses-owner.result o.1 c.index-clauses-owner.is in
     let e = rw (c.lits.ensures, q, c.deref-2.ensures.value) at c.in-None.ensures.none in
     let f = rw (c.deref-in-None.ensures.value, c.opposite.ensures, c.if-is_true-2.false) at c.is_true-in-None.ensures in

@@ -7,7 +7,8 @@ use Rattle.sat_core.proofs.visit.put_back.Goals as goal
 pub index-next-requires : goal.index-next-requires
 index-next-requires c =
     let w = c.loop-watch.watches in
-    let lt = from-within w.heads.items w.links.items w.watched.items c.loop-watch.watch (place c.args.lit) c.loop-watch.invariant.detached c.loop-watch-test.true in
+    let lt = from-within w.heads.items w.links.items w.watched.items c.loop-watch.watch
+    (place c.args.lit) c.loop-watch.invariant.detached c.loop-watch-test.true in
     rw w.links.ok.0 lt
 
 pub link-requires-clause-watch : goal.link-requires-clause-watch
@@ -22,7 +23,8 @@ loop-watch-smaller c =
     let ne = c.loop-watch-test.true in
     let here = from-listed w.heads.items w.links.items w.watched.items c.loop-watch.watch (place c.args.lit) d ne in
     let within = rw (← c.loop-watch.invariant.heads) at c.requires.within in
-    walk-smaller w.heads.items w.links.items w.watched.items c.loop-watch.watch (place c.args.lit) d ne w.watched.items (λ i h. refl) refl (place c.args.lit) c.index-next.result.now
+    walk-smaller w.heads.items w.links.items w.watched.items c.loop-watch.watch (place c.args.lit) d ne w.watched.items
+    (λ i h. refl) refl (place c.args.lit) c.index-next.result.now
     here within c.index-next.ensures c.link.new.self.links.items c.link.ensures.links
 
 pub loop-watch-preserved : goal.loop-watch-preserved
@@ -32,7 +34,8 @@ loop-watch-preserved c =
     let ne = c.loop-watch-test.true in
     let here = from-listed w.heads.items w.links.items w.watched.items c.loop-watch.watch (place c.args.lit) inv.detached ne in
     let within = rw (← inv.heads) at c.requires.within in
-    let next = detached-next w.heads.items w.links.items w.watched.items c.loop-watch.watch (place c.args.lit) inv.detached ne w.watched.items (λ i h. refl) refl (place c.args.lit)
+    let next = detached-next w.heads.items w.links.items w.watched.items c.loop-watch.watch (place c.args.lit) inv.detached ne w.watched.items
+    (λ i h. refl) refl (place c.args.lit)
     c.index-next.result.now here within c.index-next.ensures in
     record {
       detached = rw (c.link.ensures.heads, c.link.ensures.links, c.link.ensures.watched) next;

@@ -22,5 +22,6 @@ returns-then-not-is_true-clause-among c = has-item c.args.clause.now c.loop-lit.
 pub loop-lit-preserved : goal.loop-lit-preserved
 loop-lit-preserved c = λ m h d. elim (has-taken c.args.clause.now c.loop-lit.lit-index c.lit-item.result c.loop-lit-test.true c.lit-item.is m h) [
   | inl e ↦ c.loop-lit.invariant m e d
-  | inr e ↦ ap (λ (z : Literal). true_in c.args.table.now (opposite z)) (sym e) ∙ ap (true_in c.args.table.now) (sym c.opposite.ensures) ∙ sym c.is_true.ensures ∙ c.if-not-is_true.false
+  | inr e ↦ ap (λ (z : Literal). true_in c.args.table.now (opposite z)) (sym e) ∙ ap (true_in c.args.table.now)
+      (sym c.opposite.ensures) ∙ sym c.is_true.ensures ∙ c.if-not-is_true.false
 ]

@@ -25,7 +25,8 @@ loop-watch-init c =
       grows = λ l h. h;
       run = run-nothing c.args.clauses.now c.args.trail.now.steps.items;
       heads = ap length e.heads ∙ length-set w.heads.items p _;
-      left = rw (e.heads, e.links, e.watched) (left-first w.heads.items w.links.items w.watched.items c.args.lit _ c.requires.linked c.detach-watch.result lt e.first);
+      left = rw (e.heads, e.links, e.watched) (left-first w.heads.items w.links.items w.watched.items c.args.lit _ c.requires.linked c.detach-watch.result lt
+          e.first);
       placed = rw (e.owners, e.watched) c.requires.placed;
       owners = e.owners;
       cuts = λ done holds i j a. rw e.watched a;
@@ -45,7 +46,8 @@ examine-requires-clause-here c =
 
 pub returns-in-Conflict-clause-run : goal.returns-in-Conflict-clause-run
 returns-in-Conflict-clause-run c =
-    run-run c.args.clauses.now c.args.trail.now.steps.items c.loop-watch.trail.steps.items c.examine.new.trail.steps.items c.loop-watch.invariant.run c.examine.ensures.run
+    run-run c.args.clauses.now c.args.trail.now.steps.items c.loop-watch.trail.steps.items c.examine.new.trail.steps.items c.loop-watch.invariant.run
+    c.examine.ensures.run
 
 pub returns-in-Conflict-clause-cuts : goal.returns-in-Conflict-clause-cuts
 returns-in-Conflict-clause-cuts c = λ done holds i j a. rw c.put_back.ensures.watched (c.loop-watch.invariant.cuts done holds i j a)
@@ -53,7 +55,8 @@ returns-in-Conflict-clause-cuts c = λ done holds i j a. rw c.put_back.ensures.w
 pub index-next-requires : goal.index-next-requires
 index-next-requires c =
     let w = c.loop-watch.watches in
-    rw w.links.ok.0 (from-within w.heads.items w.links.items w.watched.items c.loop-watch.watch (place c.args.lit) c.loop-watch.invariant.left.detached c.loop-watch-test.true)
+    rw w.links.ok.0 (from-within w.heads.items w.links.items w.watched.items c.loop-watch.watch
+    (place c.args.lit) c.loop-watch.invariant.left.detached c.loop-watch-test.true)
 
 pub index_mut-requires : goal.index_mut-requires
 index_mut-requires c =
@@ -79,7 +82,8 @@ returns-clause-linked c =
 pub returns-clause-kept : goal.returns-clause-kept
 returns-clause-kept c =
     let w = c.loop-watch.watches in
-    left-end w.heads.items w.links.items w.watched.items c.args.lit c.args.watches.now.watched.items c.loop-watch.watch _ _ c.loop-watch.invariant.left c.loop-watch-test.false
+    left-end w.heads.items w.links.items w.watched.items c.args.lit c.args.watches.now.watched.items c.loop-watch.watch _ _ c.loop-watch.invariant.left
+    c.loop-watch-test.false
 
 pub loop-watch-smaller : goal.loop-watch-smaller
 loop-watch-smaller c =
@@ -87,9 +91,11 @@ loop-watch-smaller c =
     let inv = c.loop-watch.invariant in
     let sizes : length w.heads.items ≡ 2 * length c.examine.new.trail.table.items =
     inv.heads ∙ c.requires.heads ∙ ap (λ n. 2 * n) (sym (c.examine.ensures.size ∙ inv.size)) in
-    left-smaller w.heads.items w.links.items w.watched.items c.args.lit c.args.watches.now.watched.items c.loop-watch.watch (true_in c.args.trail.now.table.items)
+    left-smaller w.heads.items w.links.items w.watched.items c.args.lit c.args.watches.now.watched.items c.loop-watch.watch
+    (true_in c.args.trail.now.table.items)
     (true_in c.loop-watch.trail.table.items) inv.left c.loop-watch-test.true c.args.clauses.now (slice_index w.owners.items (c.loop-watch.watch / 2))
-    (length c.examine.new.trail.table.items) (true_in c.examine.new.trail.table.items) c.in-To.target c.in-To.ensures.moved sizes c.examine.ensures.grows inv.grows
+    (length c.examine.new.trail.table.items) (true_in c.examine.new.trail.table.items) c.in-To.target c.in-To.ensures.moved sizes c.examine.ensures.grows
+    inv.grows
     (inv.grows (opposite c.args.lit) c.requires.negated)
     (λ z. consistent c.loop-watch.trail.table.items c.args.lit z (inv.grows (opposite c.args.lit) c.requires.negated))
     c.index-next.result.now c.index-next.ensures c.link.new.self.links.items c.link.ensures.links
@@ -110,11 +116,14 @@ loop-watch-preserved c =
     let negated = inv.grows (opposite c.args.lit) c.requires.negated in
     let dead = λ (z : k c.args.lit ≡ true). consistent c.loop-watch.trail.table.items c.args.lit z negated in
     let sizes : length w.heads.items ≡ 2 * size = inv.heads ∙ c.requires.heads ∙ ap (λ n. 2 * n) (sym (c.examine.ensures.size ∙ inv.size)) in
-    let lt = here-within w.heads.items w.links.items w.watched.items c.args.lit before c.loop-watch.watch h k inv.left c.loop-watch-test.true cs owner size now c.in-To.target t sizes
+    let lt = here-within w.heads.items w.links.items w.watched.items c.args.lit before c.loop-watch.watch h k inv.left c.loop-watch-test.true cs owner size now
+    c.in-To.target t sizes
     grows inv.grows negated dead c.index-next.result.now c.index-next.ensures in
-    let left = left-step w.heads.items w.links.items w.watched.items c.args.lit before c.loop-watch.watch h k inv.left c.loop-watch-test.true cs owner size now c.in-To.target t sizes
+    let left = left-step w.heads.items w.links.items w.watched.items c.args.lit before c.loop-watch.watch h k inv.left c.loop-watch-test.true cs owner size now
+    c.in-To.target t sizes
     grows inv.grows negated dead c.index-next.result.now c.index-next.ensures in
-    let cuts = left-cuts w.heads.items w.links.items w.watched.items c.args.lit before c.loop-watch.watch h k inv.left c.loop-watch-test.true cs owner size now c.in-To.target t sizes
+    let cuts = left-cuts w.heads.items w.links.items w.watched.items c.args.lit before c.loop-watch.watch h k inv.left c.loop-watch-test.true cs owner size now
+    c.in-To.target t sizes
     grows inv.grows negated dead c.index-next.result.now c.index-next.ensures in
     record {
       trail = c.examine.ensures.trail;

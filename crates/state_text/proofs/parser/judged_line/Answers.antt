@@ -9,7 +9,8 @@ use Rattle.state_text.proofs.parser.judged_line.Goals as goal
 
 pub returns-in-Some-refusal-clause-refused : goal.returns-in-Some-refusal-clause-refused
 returns-in-Some-refusal-clause-refused c before h =
-    judged_refused (layout_of c.args.layout) before (line_of (layout_of c.args.layout) c.args.text.now) (line_said c.in-Some.line) (fault_of c.in-Some-refusal.kind)
+    judged_refused (layout_of c.args.layout) before (line_of (layout_of c.args.layout) c.args.text.now) (line_said c.in-Some.line)
+    (fault_of c.in-Some-refusal.kind)
     (sym (ap (option_map line_said) c.in-Some.is) ∙ c.in_ok-line.ensures) (sym (ap (option_map fault_of) c.in-Some-refusal.is) ∙ c.refusal.ensures before h)
 
 pub returns-clause-said : goal.returns-clause-said

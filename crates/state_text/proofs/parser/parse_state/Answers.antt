@@ -28,7 +28,8 @@ returns-in_default-clause-refused_known c known =
     (line_of (layout_of c.args.layout) c.first_line.result.0.now ∷ map (line_of (layout_of c.args.layout)) (split_lines c.first_line.result.1.now))
     ≡ StateRefused 1 StateLineFault)
     c.in_ok-named.field-0 c.in_default.is (c.in_ok-named.ensures.other known (map (line_of (layout_of c.args.layout)) (split_lines c.first_line.result.1.now)))
-    ∙ no_bytes known (lines_of_head (layout_of c.args.layout) + 1) c.new-in_default.result.bytes.items (StateRefused 1 StateLineFault) c.new-in_default.ensures.bytes)
+    ∙ no_bytes known (lines_of_head (layout_of c.args.layout) + 1) c.new-in_default.result.bytes.items
+    (StateRefused 1 StateLineFault) c.new-in_default.ensures.bytes)
 
 pub returns-in_default-clause-refused : goal.returns-in_default-clause-refused
 returns-in_default-clause-refused c =
@@ -37,20 +38,24 @@ returns-in_default-clause-refused c =
 -- the first line is the ending's
 first_said : (c : In-Some) → line_of (layout_of c.args.layout) c.first_line.result.0.now ≡ Some (NamedLine (named_of c.in-Some.named))
 first_said c =
-    of_some (λ (n : NamedEnding). line_of (layout_of c.args.layout) c.first_line.result.0.now ≡ Some (NamedLine (named_of n))) c.in_ok-named.field-0 c.in-Some.named
+    of_some (λ (n : NamedEnding). line_of (layout_of c.args.layout) c.first_line.result.0.now
+    ≡ Some (NamedLine (named_of n))) c.in_ok-named.field-0 c.in-Some.named
     c.in-Some.is c.in_ok-named.ensures.named
 
 first_told : (c : In-Some) (known : ℕ → Bool) →
     state_of (layout_of c.args.layout) known c.args.text.now
-    ≡ told_of (layout_of c.args.layout) known (Some (NamedLine (named_of c.in-Some.named)) ∷ map (line_of (layout_of c.args.layout)) (split_lines c.first_line.result.1.now))
+    ≡ told_of (layout_of c.args.layout) known (Some (NamedLine (named_of c.in-Some.named))
+    ∷ map (line_of (layout_of c.args.layout)) (split_lines c.first_line.result.1.now))
 first_told c known =
-    told_named (layout_of c.args.layout) known c.args.text.now c.first_line.result.0.now c.first_line.result.1.now (named_of c.in-Some.named) c.first_line.ensures.line
+    told_named (layout_of c.args.layout) known c.args.text.now c.first_line.result.0.now c.first_line.result.1.now
+    (named_of c.in-Some.named) c.first_line.ensures.line
     (first_said c)
 
 pub returns-in-Err-clause-refused_known : goal.returns-in-Err-clause-refused_known
 returns-in-Err-clause-refused_known c known =
     refused_same known (layout_of c.args.layout) (state_of (layout_of c.args.layout) known c.args.text.now)
-    (told_of (layout_of c.args.layout) known (Some (NamedLine (named_of c.in-Some.named)) ∷ map (line_of (layout_of c.args.layout)) (split_lines c.first_line.result.1.now)))
+    (told_of (layout_of c.args.layout) known (Some (NamedLine (named_of c.in-Some.named))
+    ∷ map (line_of (layout_of c.args.layout)) (split_lines c.first_line.result.1.now)))
     c.in-Err.fault (first_told (goal.at.returns-in-Err-clause-refused_known c).In-Some known) (c.in-Err.ensures.refused known)
 
 pub returns-in-Err-clause-refused : goal.returns-in-Err-clause-refused
@@ -70,7 +75,8 @@ returns-in-Err-clause-bytes c =
     (map (line_of (layout_of c.args.layout)) (split_lines c.args.text.now))
     (Some (NamedLine (named_of c.in-Some.named)) ∷ map (line_of (layout_of c.args.layout)) (split_lines c.first_line.result.1.now)) c.in-Err.fault
     (ap (map (line_of (layout_of c.args.layout))) c.first_line.ensures.line
-    ∙ ap (λ o. o ∷ map (line_of (layout_of c.args.layout)) (split_lines c.first_line.result.1.now)) (first_said (goal.at.returns-in-Err-clause-bytes c).In-Some))
+    ∙ ap (λ o. o ∷ map (line_of (layout_of c.args.layout)) (split_lines c.first_line.result.1.now))
+    (first_said (goal.at.returns-in-Err-clause-bytes c).In-Some))
     c.in-Err.ensures.bytes
 
 pub returns-in-Ok-clause-told_known : goal.returns-in-Ok-clause-told_known

@@ -29,7 +29,8 @@ returns-in-Err-clause-refused c known =
     c.refused.ensures.told known layout (told_of layout known whole)
     (stands_refused layout known whole c.loop-rest.progress c.loop-rest.draft c.loop-rest.rest.now c.first_line.result.0.now c.first_line.result.1.now before
     (fault_of c.in-Err.kind) c.loop-rest.invariant.stands c.first_line.ensures.line
-    (of_fault (λ (f : StateFault). refusal_of layout before (line_of layout c.first_line.result.0.now) ≡ Some (fault_of f)) c.in_ok-kind.field-0 c.in-Err.kind c.in-Err.is
+    (of_fault (λ (f : StateFault). refusal_of layout before (line_of layout c.first_line.result.0.now)
+    ≡ Some (fault_of f)) c.in_ok-kind.field-0 c.in-Err.kind c.in-Err.is
     (c.in_ok-kind.ensures.refused before c.loop-rest.invariant.stands.behind))
     ∙ ap (λ n. told_but known (lines_of_head layout + 1) c.loop-rest.draft.bytes.items (StateRefused n (fault_of c.in-Err.kind))) (sym c.next_line.ensures))
 
@@ -69,18 +70,21 @@ returns-in-Some-clause-refused c known =
     (end_refused layout known whole c.loop-rest.progress c.loop-rest.draft c.loop-rest.rest.now before (fault_of c.in-Some.kind) c.loop-rest.invariant.stands
     (is_nothing c.is_empty.result (length c.loop-rest.rest.now) c.is_empty.ensures c.loop-rest-test.false)
     (sym (c.end_refusal.ensures before c.loop-rest.invariant.stands.behind) ∙ ap (option_map fault_of) c.in-Some.is)
-    ∙ ap (λ n. told_but known (lines_of_head layout + 1) c.loop-rest.draft.bytes.items (StateRefused n (fault_of c.in-Some.kind))) (sym c.next_line-in-Some.ensures))
+    ∙ ap (λ n. told_but known (lines_of_head layout + 1) c.loop-rest.draft.bytes.items (StateRefused n (fault_of c.in-Some.kind)))
+    (sym c.next_line-in-Some.ensures))
 
 pub returns-in-Some-clause-bytes : goal.returns-in-Some-clause-bytes
 returns-in-Some-clause-bytes c =
     let whole = Some (NamedLine (named_of c.args.named)) ∷ map (line_of (layout_of c.args.layout)) (split_lines c.args.text.now) in
     c.refused-in-Some.ensures.bytes whole
-    (stands_bytes (layout_of c.args.layout) whole c.loop-rest.progress c.loop-rest.draft c.loop-rest.rest.now c.loop-rest.invariant.before c.next_line-in-Some.result
+    (stands_bytes (layout_of c.args.layout) whole c.loop-rest.progress c.loop-rest.draft c.loop-rest.rest.now c.loop-rest.invariant.before
+    c.next_line-in-Some.result
     c.loop-rest.invariant.stands c.next_line-in-Some.ensures)
 
 pub returns-in-None-clause-told : goal.returns-in-None-clause-told
 returns-in-None-clause-told c known =
-    end_told (layout_of c.args.layout) known (named_of c.args.named) (map (line_of (layout_of c.args.layout)) (split_lines c.args.text.now)) c.loop-rest.progress
+    end_told (layout_of c.args.layout) known (named_of c.args.named)
+    (map (line_of (layout_of c.args.layout)) (split_lines c.args.text.now)) c.loop-rest.progress
     c.loop-rest.draft c.loop-rest.rest.now c.loop-rest.invariant.before c.loop-rest.invariant.stands
     (is_nothing c.is_empty.result (length c.loop-rest.rest.now) c.is_empty.ensures c.loop-rest-test.false)
     (sym (c.end_refusal.ensures c.loop-rest.invariant.before c.loop-rest.invariant.stands.behind) ∙ ap (option_map fault_of) c.in-None.is)

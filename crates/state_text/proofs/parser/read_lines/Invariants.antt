@@ -8,7 +8,8 @@ use Rattle.state_text.proofs.parser.read_lines.Given as goal
 abbrev pub invariant-loop-rest : goal.invariant-loop-rest
 invariant-loop-rest l = record {
   before : List StateLine;
-  stands : Stands (layout_of l.layout) (Some (NamedLine (named_of l.fn.named)) ∷ map (line_of (layout_of l.layout)) (split_lines l.fn.text)) l.progress l.draft l.rest before;
+  stands : Stands (layout_of l.layout) (Some (NamedLine (named_of l.fn.named))
+      ∷ map (line_of (layout_of l.layout)) (split_lines l.fn.text)) l.progress l.draft l.rest before;
   room : l.progress.count + length l.rest + 1 < 2 ^ 64;
 }
 

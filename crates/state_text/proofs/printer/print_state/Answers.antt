@@ -14,9 +14,13 @@ returns c =
     let text : texts.StateText = text_of c.args.text.now in
     seven [] c.push_named.new.out.items c.push_machine.new.out.items c.push_registers.new.out.items c.push_flags.new.out.items c.push_bytes.new.out.items
     c.push_choices.new.out.items c.push_text.new.out.items (line (named_line text.named)) (line (line_text layout MachineLine))
-    (lines_text layout (register_lines 0 c.as_slice-regs.result.now)) (lines_text layout (register_lines (length c.as_slice-regs.result.now) (flag_bits c.flag_count.result text.start.flags)))
-    (lines_text layout (map (λ b. ByteLine b.0 b.1) c.as_slice.result.now)) (lines_text layout (map (λ b. ChoiceLine b.0 b.1) c.as_slice-2.result.now)) (codes "end\n")
-    (c.in_ok-push_named.ensures ∙ ap (λ l. l ++ line (named_line text.named)) c.new-out.ensures.items) c.in_ok-push_machine.ensures c.in_ok-push_registers.ensures
+    (lines_text layout (register_lines 0 c.as_slice-regs.result.now))
+    (lines_text layout (register_lines (length c.as_slice-regs.result.now) (flag_bits c.flag_count.result text.start.flags)))
+    (lines_text layout (map (λ b. ByteLine b.0 b.1) c.as_slice.result.now)) (lines_text layout (map (λ b. ChoiceLine b.0 b.1) c.as_slice-2.result.now))
+    (codes "end\n")
+    (c.in_ok-push_named.ensures ∙ ap (λ l. l ++ line (named_line text.named)) c.new-out.ensures.items) c.in_ok-push_machine.ensures
+    c.in_ok-push_registers.ensures
     c.in_ok-push_flags.ensures (c.in_ok-push_bytes.ensures layout) (c.in_ok-push_choices.ensures layout) c.in_ok-push_text.ensures
-    ∙ whole_by layout text c.as_slice-regs.result.now (length c.as_slice-regs.result.now) c.flag_count.result c.as_slice.result.now c.as_slice-2.result.now c.as_slice-regs.ensures.value (ap length c.as_slice-regs.ensures.value)
+    ∙ whole_by layout text c.as_slice-regs.result.now (length c.as_slice-regs.result.now) c.flag_count.result c.as_slice.result.now c.as_slice-2.result.now
+    c.as_slice-regs.ensures.value (ap length c.as_slice-regs.ensures.value)
     c.flag_count.ensures c.as_slice.ensures.value c.as_slice-2.ensures.value

@@ -16,7 +16,9 @@ returns-in_ok-push_step-in-FailsBy c =
 
 pub returns-in_ok-push_step-in-UnknownBy : goal.returns-in_ok-push_step-in-UnknownBy
 returns-in_ok-push_step-in-UnknownBy c =
-    four c.args.out.now.items c.push_text-in-UnknownBy.new.out.items c.push_number.new.out.items c.push_text-in-UnknownBy-2.new.out.items c.push_step-in-UnknownBy.new.out.items
+    four c.args.out.now.items c.push_text-in-UnknownBy.new.out.items c.push_number.new.out.items c.push_text-in-UnknownBy-2.new.out.items
+    c.push_step-in-UnknownBy.new.out.items
     (codes "unknown unroll ") (number_text c.in-UnknownBy.k) (codes " ") (joined (place_words c.in-UnknownBy.at c.in-UnknownBy.step))
-    c.in_ok-push_text-in-UnknownBy.ensures c.in_ok-push_number-in-UnknownBy.ensures c.in_ok-push_text-in-UnknownBy-2.ensures c.in_ok-push_step-in-UnknownBy.ensures
+    c.in_ok-push_text-in-UnknownBy.ensures c.in_ok-push_number-in-UnknownBy.ensures c.in_ok-push_text-in-UnknownBy-2.ensures
+    c.in_ok-push_step-in-UnknownBy.ensures
     ∙ ap (λ (n : NamedEnding). c.args.out.now.items ++ named_line (named_of n)) (sym c.in-UnknownBy.is)

@@ -7,7 +7,8 @@ use Rattle.table_run.proofs.jumps.is_listed.Goals as goal
 pub returns-then-is_among : goal.returns-then-is_among
 returns-then-is_among c =
     is_listed c.args.to c.args.at c.args.targets.now c.args.index.now c.group-low.result.0 c.group-low.result.1 c.loop-i.i _ c.index-targets-index.result
-    (c.group-low.ensures.places _ c.requires) (omega arith) (omega arith) (ap (list_any (nat_eq c.args.to)) (sym c.deref.ensures.value) ∙ sym c.if-is_among.ensures)
+    (c.group-low.ensures.places _ c.requires) (omega arith) (omega arith)
+    (ap (list_any (nat_eq c.args.to)) (sym c.deref.ensures.value) ∙ sym c.if-is_among.ensures)
 
 pub returns : goal.returns
 returns c =

@@ -14,12 +14,14 @@ returns-then-part c = record {
   bytes =
       given_all c.args.p.now.image.now (map fixed_of c.args.p.now.notes.now.fixed.items) c.args.bytes.now c.fill.new.memory.entries
       (λ x below.
-      let has = given_more c.args.p.now.image.now (map fixed_of c.args.p.now.notes.now.fixed.items) c.args.bytes.now c.loop-memory.at c.in-Some.part c.loop-memory.memory.entries c.fill.new.memory.entries
+      let has = given_more c.args.p.now.image.now (map fixed_of c.args.p.now.notes.now.fixed.items) c.args.bytes.now c.loop-memory.at c.in-Some.part
+      c.loop-memory.memory.entries c.fill.new.memory.entries
       c.requires.unknown c.in-Some.ensures c.loop-memory.invariant c.in_ok-fill.ensures in
       has.before x below (omega arith));
 }
 
 pub loop-memory-preserved : goal.loop-memory-preserved
 loop-memory-preserved c =
-    given_more c.args.p.now.image.now (map fixed_of c.args.p.now.notes.now.fixed.items) c.args.bytes.now c.loop-memory.at c.in-Some.part c.loop-memory.memory.entries
+    given_more c.args.p.now.image.now (map fixed_of c.args.p.now.notes.now.fixed.items) c.args.bytes.now c.loop-memory.at c.in-Some.part
+    c.loop-memory.memory.entries
     c.fill.new.memory.entries c.requires.unknown c.in-Some.ensures c.loop-memory.invariant c.in_ok-fill.ensures

@@ -6,7 +6,8 @@ use Rattle.term_dag.proofs.conditions.conjunction.Goals as goal
 
 pub returns-then-excludes : goal.returns-then-excludes
 returns-then-excludes c =
-    same_fold _ 1 _ _ 0 1 _ (λ x i. excluded _ _ _ _ _ x i c.requires.typed c.requires.left c.requires.right c.split-a.ensures c.split-b.ensures (c.if-excludes.ensures refl)) (omega arith) (c.truth.ensures _)
+    same_fold _ 1 _ _ 0 1 _ (λ x i. excluded _ _ _ _ _ x i c.requires.typed c.requires.left c.requires.right c.split-a.ensures c.split-b.ensures
+    (c.if-excludes.ensures refl)) (omega arith) (c.truth.ensures _)
 
 pub returns-then-implies : goal.returns-then-implies
 returns-then-implies c = record {
@@ -17,5 +18,6 @@ returns-then-implies c = record {
 pub returns-then-implies-2 : goal.returns-then-implies-2
 returns-then-implies-2 c = record {
   place = c.requires.right;
-  value = λ x i. least _ _ _ _ _ x i c.requires.typed c.requires.right c.requires.left c.split-b.ensures c.split-a.ensures (c.if-implies-2.ensures refl) ∙ and_comm _ _;
+  value = λ x i. least _ _ _ _ _ x i c.requires.typed c.requires.right c.requires.left c.split-b.ensures c.split-a.ensures
+      (c.if-implies-2.ensures refl) ∙ and_comm _ _;
 }

@@ -8,8 +8,10 @@ split-cube-requires-clause-place c = (not_side _ _ _ _ _ c.requires.typed c.requ
 
 pub returns-then-is_same-clause-value : goal.returns-then-is_same-clause-value
 returns-then-is_same-clause-value c =
-    denied_first _ _ _ c.literal_of-literal.result _ c.requires.typed c.requires.side c.literal_of-literal.ensures c.split-cube.ensures _ _ c.requires.place c.in-Not.ensures (c.if-is_same.ensures refl)
+    denied_first _ _ _ c.literal_of-literal.result _ c.requires.typed c.requires.side c.literal_of-literal.ensures c.split-cube.ensures _ _ c.requires.place
+    c.in-Not.ensures (c.if-is_same.ensures refl)
 
 pub returns-then-is_same-2-clause-value : goal.returns-then-is_same-2-clause-value
 returns-then-is_same-2-clause-value c =
-    denied_second _ _ _ c.literal_of-literal.result _ c.requires.typed c.requires.side c.literal_of-literal.ensures c.split-cube.ensures _ _ c.requires.place c.in-Not.ensures (c.if-is_same-2.ensures refl)
+    denied_second _ _ _ c.literal_of-literal.result _ c.requires.typed c.requires.side c.literal_of-literal.ensures c.split-cube.ensures _ _ c.requires.place
+    c.in-Not.ensures (c.if-is_same-2.ensures refl)

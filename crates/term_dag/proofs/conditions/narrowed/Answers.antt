@@ -20,10 +20,12 @@ pub returns-then-first-left : goal.returns-then-first-left
 returns-then-first-left c =
     let ns = nodes_of c.args.nodes.now in
     same_fold ns 1 _ _ 1 1 _
-    (λ x i. and_comm (term_word x ns c.within-first.result.0) (term_word x ns c.args.right.0) ∙ c.within-first.ensures.value x i ∙ and_comm (term_word x ns c.args.right.0) (term_word x ns c.args.left.0))
+    (λ x i. and_comm (term_word x ns c.within-first.result.0) (term_word x ns c.args.right.0) ∙ c.within-first.ensures.value x i ∙ and_comm
+    (term_word x ns c.args.right.0) (term_word x ns c.args.left.0))
     (omega arith) c.pair-then-first-left.ensures
 
 pub returns-in-Some-denied : goal.returns-in-Some-denied
 returns-in-Some-denied c =
     let ns = nodes_of c.args.nodes.now in
-    same_fold ns 1 _ _ 1 1 _ (λ x i. c.in-Some-denied.ensures.value x i ∙ and_comm (term_word x ns c.args.right.0) (term_word x ns c.args.left.0)) (omega arith) c.unless-in-Some-denied.ensures
+    same_fold ns 1 _ _ 1 1 _ (λ x i. c.in-Some-denied.ensures.value x i ∙ and_comm (term_word x ns c.args.right.0) (term_word x ns c.args.left.0))
+    (omega arith) c.unless-in-Some-denied.ensures

@@ -14,4 +14,5 @@ pub returns-in-Not : goal.returns-in-Not
 returns-in-Not c =
     let ns = nodes_of c.args.nodes.now in
     let n = not_side _ _ _ _ _ c.requires.typed c.requires.place c.in-Not.ensures in
-    same_fold ns 1 _ _ 1 1 _ (λ x i. ap (bit_and (term_word x ns c.args.side.0)) (turned_twice 1 _ _ (word_fits x ns 1 _ i c.requires.typed n.0) (n.1 x))) (omega arith) c.pair.ensures
+    same_fold ns 1 _ _ 1 1 _ (λ x i. ap (bit_and (term_word x ns c.args.side.0)) (turned_twice 1 _ _ (word_fits x ns 1 _ i c.requires.typed n.0) (n.1 x)))
+    (omega arith) c.pair.ensures

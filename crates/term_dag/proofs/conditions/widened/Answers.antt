@@ -9,5 +9,6 @@ pub returns-then-first-left : goal.returns-then-first-left
 returns-then-first-left c =
     let ns = nodes_of c.args.nodes.now in
     same_fold ns 1 _ _ 1 1 _
-    (λ x i. or_comm (term_word x ns c.without-first.result.0) (term_word x ns c.args.right.0) ∙ c.without-first.ensures.value x i ∙ or_comm (term_word x ns c.args.right.0) (term_word x ns c.args.left.0))
+    (λ x i. or_comm (term_word x ns c.without-first.result.0) (term_word x ns c.args.right.0) ∙ c.without-first.ensures.value x i ∙ or_comm
+    (term_word x ns c.args.right.0) (term_word x ns c.args.left.0))
     (omega arith) c.pair-then-first-left.ensures

@@ -23,18 +23,21 @@ returns-then-has-clause-value c =
     let a = c.in-Binary-Or-default-default-default in
     let e = ap (λ o. BinaryNode (op_of o) a.width a.left.0 a.right.0) (sym a.op-is) ∙ a.ensures in
     let k = c.cube_of-either.ensures in
-    within_both _ _ _ _ _ _ c.literal_of-literal.result c.cube_of-either.result c.requires.typed c.requires.side c.requires.place e c.literal_of-literal.ensures k.pair (ap (λ t. t.0) k.left) (ap (λ t. t.0) k.right) (c.if-has.ensures refl)
+    within_both _ _ _ _ _ _ c.literal_of-literal.result c.cube_of-either.result c.requires.typed c.requires.side c.requires.place e c.literal_of-literal.ensures
+    k.pair (ap (λ t. t.0) k.left) (ap (λ t. t.0) k.right) (c.if-has.ensures refl)
 
 pub returns-then-is_opposite-clause-value : goal.returns-then-is_opposite-clause-value
 returns-then-is_opposite-clause-value c =
     let a = c.in-Binary-Or-default-default-default in
     let e = ap (λ o. BinaryNode (op_of o) a.width a.left.0 a.right.0) (sym a.op-is) ∙ a.ensures in
     let k = c.cube_of-either.ensures in
-    within_second _ _ _ _ _ _ c.literal_of-literal.result c.cube_of-either.result c.requires.typed c.requires.side c.requires.place e c.literal_of-literal.ensures k.pair (ap (λ t. t.0) k.left) (ap (λ t. t.0) k.right) (c.if-is_opposite.ensures refl)
+    within_second _ _ _ _ _ _ c.literal_of-literal.result c.cube_of-either.result c.requires.typed c.requires.side c.requires.place e
+    c.literal_of-literal.ensures k.pair (ap (λ t. t.0) k.left) (ap (λ t. t.0) k.right) (c.if-is_opposite.ensures refl)
 
 pub returns-then-is_opposite-2-clause-value : goal.returns-then-is_opposite-2-clause-value
 returns-then-is_opposite-2-clause-value c =
     let a = c.in-Binary-Or-default-default-default in
     let e = ap (λ o. BinaryNode (op_of o) a.width a.left.0 a.right.0) (sym a.op-is) ∙ a.ensures in
     let k = c.cube_of-either.ensures in
-    within_first _ _ _ _ _ _ c.literal_of-literal.result c.cube_of-either.result c.requires.typed c.requires.side c.requires.place e c.literal_of-literal.ensures k.pair (ap (λ t. t.0) k.left) (ap (λ t. t.0) k.right) (c.if-is_opposite-2.ensures refl)
+    within_first _ _ _ _ _ _ c.literal_of-literal.result c.cube_of-either.result c.requires.typed c.requires.side c.requires.place e
+    c.literal_of-literal.ensures k.pair (ap (λ t. t.0) k.left) (ap (λ t. t.0) k.right) (c.if-is_opposite-2.ensures refl)

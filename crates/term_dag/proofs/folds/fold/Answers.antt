@@ -13,7 +13,8 @@ returns-in-Binary c =
     let ns = nodes_of c.args.nodes.now in
     let a = c.in-Binary in
     let o = subst (λ n. IsTypedOver ns (node_of n)) a.is c.requires.over in
-    rw a.is (word_fold ns (node_of (node.Binary a.op a.width a.left a.right)) (result_width (op_of a.op) a.width) _ (op_weight (op_of a.op) a.width) _ c.requires.typed (result_is_width (op_of a.op) a.width o.0.0 o.0.1).0 refl (λ x. refl) (omega arith) c.binary.ensures)
+    rw a.is (word_fold ns (node_of (node.Binary a.op a.width a.left a.right)) (result_width (op_of a.op) a.width) _
+    (op_weight (op_of a.op) a.width) _ c.requires.typed (result_is_width (op_of a.op) a.width o.0.0 o.0.1).0 refl (λ x. refl) (omega arith) c.binary.ensures)
 
 pub returns-in-Not : goal.returns-in-Not
 returns-in-Not c =
@@ -27,25 +28,29 @@ returns-in-Select c =
     let ns = nodes_of c.args.nodes.now in
     let a = c.in-Select in
     let o = subst (λ n. IsTypedOver ns (node_of n)) a.is c.requires.over in
-    rw a.is (word_fold ns (node_of (node.Select a.width a.condition a.when_true a.when_false)) a.width _ a.width _ c.requires.typed o.0.0 refl (λ x. refl) (omega arith) c.select.ensures)
+    rw a.is (word_fold ns (node_of (node.Select a.width a.condition a.when_true a.when_false)) a.width _ a.width _ c.requires.typed o.0.0 refl
+    (λ x. refl) (omega arith) c.select.ensures)
 
 pub returns-in-Extract : goal.returns-in-Extract
 returns-in-Extract c =
     let ns = nodes_of c.args.nodes.now in
     let a = c.in-Extract in
     let o = subst (λ n. IsTypedOver ns (node_of n)) a.is c.requires.over in
-    rw a.is (word_fold ns (node_of (node.Extract a.hi a.lo a.term)) (a.hi + 1 - a.lo) _ 0 _ c.requires.typed (omega (arith, o.0)) refl (λ x. refl) (omega arith) c.extract.ensures)
+    rw a.is (word_fold ns (node_of (node.Extract a.hi a.lo a.term)) (a.hi + 1 - a.lo) _ 0 _ c.requires.typed (omega (arith, o.0)) refl
+    (λ x. refl) (omega arith) c.extract.ensures)
 
 pub returns-in-Concat : goal.returns-in-Concat
 returns-in-Concat c =
     let ns = nodes_of c.args.nodes.now in
     let a = c.in-Concat in
     let o = subst (λ n. IsTypedOver ns (node_of n)) a.is c.requires.over in
-    rw a.is (word_fold ns (node_of (node.Concat a.high a.low a.upper a.lower)) (a.high + a.low) _ 0 _ c.requires.typed (omega (arith, o.0.0)) refl (λ x. refl) (omega arith) c.concat.ensures)
+    rw a.is (word_fold ns (node_of (node.Concat a.high a.low a.upper a.lower)) (a.high + a.low) _ 0 _ c.requires.typed (omega (arith, o.0.0)) refl
+    (λ x. refl) (omega arith) c.concat.ensures)
 
 pub returns-in-Extend : goal.returns-in-Extend
 returns-in-Extend c =
     let ns = nodes_of c.args.nodes.now in
     let a = c.in-Extend in
     let o = subst (λ n. IsTypedOver ns (node_of n)) a.is c.requires.over in
-    rw a.is (word_fold ns (node_of (node.Extend a.signed a.from a.to a.term)) a.to _ 0 _ c.requires.typed (omega (arith, o.0.0, o.1)) refl (λ x. refl) (omega arith) c.extend.ensures)
+    rw a.is (word_fold ns (node_of (node.Extend a.signed a.from a.to a.term)) a.to _ 0 _ c.requires.typed (omega (arith, o.0.0, o.1)) refl
+    (λ x. refl) (omega arith) c.extend.ensures)

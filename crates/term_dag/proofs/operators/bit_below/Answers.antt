@@ -6,7 +6,8 @@ use Rattle.term_dag.proofs.operators.bit_below.Goals as goal
 
 pub returns-else-from-ne1-clause-place : goal.returns-else-from-ne1-clause-place
 returns-else-from-ne1-clause-place c =
-    subst (λ (n : ℕ). HasWidth (nodes_of c.args.nodes.now) n c.in-Extend.bit.0) c.if-from-ne1.false (extend_side _ _ _ _ _ _ c.requires.typed c.requires.within c.in-Extend.ensures).0
+    subst (λ (n : ℕ). HasWidth (nodes_of c.args.nodes.now) n c.in-Extend.bit.0) c.if-from-ne1.false
+    (extend_side _ _ _ _ _ _ c.requires.typed c.requires.within c.in-Extend.ensures).0
 
 pub returns-else-from-ne1-clause-value : goal.returns-else-from-ne1-clause-value
 returns-else-from-ne1-clause-value c = λ x.

@@ -7,11 +7,13 @@ use Rattle.term_dag.proofs.operators.shifted_out.Goals as goal
 
 pub returns-in-ShiftLeft : goal.returns-in-ShiftLeft
 returns-in-ShiftLeft c = λ ns h p.
-    rw c.in-ShiftLeft.is (fixed ns c.args.width _ (8 * c.args.width) 0 c.requires.0 c.requires.1 (pow_pos c.args.width) (λ x i. all_shl c.args.width _ c.args.right c.if-right-width.false))
+    rw c.in-ShiftLeft.is (fixed ns c.args.width _ (8 * c.args.width) 0 c.requires.0 c.requires.1 (pow_pos c.args.width)
+    (λ x i. all_shl c.args.width _ c.args.right c.if-right-width.false))
 
 pub returns-in-ShiftRight : goal.returns-in-ShiftRight
 returns-in-ShiftRight c = λ ns h p.
-    rw c.in-ShiftRight.is (fixed ns c.args.width _ (8 * c.args.width) 0 c.requires.0 c.requires.1 (pow_pos c.args.width) (λ x i. all_shr c.args.width _ c.args.right (word_fits x ns _ _ i h p) c.if-right-width.false))
+    rw c.in-ShiftRight.is (fixed ns c.args.width _ (8 * c.args.width) 0 c.requires.0 c.requires.1 (pow_pos c.args.width)
+    (λ x i. all_shr c.args.width _ c.args.right (word_fits x ns _ _ i h p) c.if-right-width.false))
 
 pub returns-in-ShiftSigned : goal.returns-in-ShiftSigned
 returns-in-ShiftSigned c = λ ns h p.

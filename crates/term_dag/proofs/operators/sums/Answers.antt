@@ -17,7 +17,9 @@ returns c =
     same_fold _ 1 _ _ 0 0 _
     (λ x i.
     ap words.bit (unlike_is (c.parts-a.result.offset == c.parts-b.result.offset) c.args.differs)
-    ∙ ap (λ z. words.bit (words.differ c.args.differs z)) (same_sums w (term_word x ns c.parts-a.result.base.0) c.parts-a.result.offset c.parts-b.result.offset (word_fits x _ _ _ i c.requires.typed a.place) a.below b.below)
+    ∙ ap (λ z. words.bit (words.differ c.args.differs z)) (same_sums w (term_word x ns c.parts-a.result.base.0) c.parts-a.result.offset c.parts-b.result.offset
+    (word_fits x _ _ _ i c.requires.typed a.place) a.below b.below)
     ∙ ap (λ z. words.bit (words.differ c.args.differs (z == words.add w (term_word x ns c.parts-a.result.base.0) c.parts-b.result.offset))) (sym (a.value x i))
-    ∙ ap (λ z. words.bit (words.differ c.args.differs (term_word x ns c.args.left.0 == z))) (ap (λ t. words.add w (term_word x ns t) c.parts-b.result.offset) c.if-a-b.false ∙ sym (b.value x i)))
+    ∙ ap (λ z. words.bit (words.differ c.args.differs (term_word x ns c.args.left.0 == z))) (ap
+    (λ t. words.add w (term_word x ns t) c.parts-b.result.offset) c.if-a-b.false ∙ sym (b.value x i)))
     (omega arith) (c.truth.ensures _)

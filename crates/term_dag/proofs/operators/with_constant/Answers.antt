@@ -11,10 +11,12 @@ pub returns-in-Minus : goal.returns-in-Minus
 returns-in-Minus c =
     let w = c.args.width in
     rw c.in-Minus.is (same_fold _ w _ _ (2 * w) (2 * w) _
-    (λ x i. ap (words.add w (term_word x (nodes_of c.args.nodes.now) c.args.left.0)) c.apply.ensures.value ∙ add_negative w (term_word x (nodes_of c.args.nodes.now) c.args.left.0) c.args.right) (omega arith) c.raised-in-Minus.ensures)
+    (λ x i. ap (words.add w (term_word x (nodes_of c.args.nodes.now) c.args.left.0)) c.apply.ensures.value ∙ add_negative w
+    (term_word x (nodes_of c.args.nodes.now) c.args.left.0) c.args.right) (omega arith) c.raised-in-Minus.ensures)
 
 pub returns-else-right-ones : goal.returns-else-right-ones
 returns-else-right-ones c =
     let w = c.args.width in
     rw c.in-Xor.is (same_fold _ w _ _ 0 w _
-    (λ x i. xor_ones w (term_word x (nodes_of c.args.nodes.now) c.args.left.0) c.args.right (word_fits x _ _ _ i c.requires.typed c.requires.left) (c.if-right-ones.false ∙ c.ones.ensures)) (omega arith) c.negation.ensures)
+    (λ x i. xor_ones w (term_word x (nodes_of c.args.nodes.now) c.args.left.0) c.args.right (word_fits x _ _ _ i c.requires.typed c.requires.left)
+    (c.if-right-ones.false ∙ c.ones.ensures)) (omega arith) c.negation.ensures)

@@ -17,5 +17,6 @@ returns-then-first-second c = record {
 pub returns : goal.returns
 returns c =
     same_fold _ c.args.width _ _ c.args.width c.args.width _
-    (λ x i. select_sides _ _ _ _ _ (word_fits x _ 1 _ i c.requires.typed c.requires.condition) (λ e. ap (λ z. z.word) (c.side-first.ensures.value x i e)) (λ e. ap (λ z. z.word) (c.side-second.ensures.value x i e)))
+    (λ x i. select_sides _ _ _ _ _ (word_fits x _ 1 _ i c.requires.typed c.requires.condition) (λ e. ap (λ z. z.word) (c.side-first.ensures.value x i e))
+    (λ e. ap (λ z. z.word) (c.side-second.ensures.value x i e)))
     (omega arith) c.chosen.ensures

@@ -5,10 +5,12 @@ use Rattle.term_dag.proofs.Joins.{join_true, join_false, join_same, join_sides}
 use Rattle.term_dag.proofs.selections.positive_join.Goals as goal
 
 pub returns-then-bit-gt0 : goal.returns-then-bit-gt0
-returns-then-bit-gt0 c = join_true _ _ _ _ c.requires.typed c.requires.condition c.requires.when_true c.requires.when_false _ c.in-Some.ensures c.if-bit-gt0.true
+returns-then-bit-gt0 c = join_true _ _ _ _ c.requires.typed c.requires.condition c.requires.when_true c.requires.when_false _ c.in-Some.ensures
+    c.if-bit-gt0.true
 
 pub returns-else-bit-gt0 : goal.returns-else-bit-gt0
-returns-else-bit-gt0 c = join_false _ _ _ _ c.requires.typed c.requires.condition c.requires.when_true c.requires.when_false _ c.in-Some.ensures c.if-bit-gt0.false
+returns-else-bit-gt0 c = join_false _ _ _ _ c.requires.typed c.requires.condition c.requires.when_true c.requires.when_false _ c.in-Some.ensures
+    c.if-bit-gt0.false
 
 pub returns-then-first-second : goal.returns-then-first-second
 returns-then-first-second c =

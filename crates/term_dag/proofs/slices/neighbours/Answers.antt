@@ -11,4 +11,5 @@ overflow_add-below c =
 
 pub returns-then-middle-below : goal.returns-then-middle-below
 returns-then-middle-below c =
-    neighbours_of _ _ _ _ _ _ _ _ _ c.requires.typed c.requires.upper c.requires.lower c.in-Extract.ensures c.in-Extract-look.ensures c.if-term-other.true c.if-middle-below.true
+    neighbours_of _ _ _ _ _ _ _ _ _ c.requires.typed c.requires.upper c.requires.lower c.in-Extract.ensures c.in-Extract-look.ensures c.if-term-other.true
+    c.if-middle-below.true

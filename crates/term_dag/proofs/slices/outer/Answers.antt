@@ -16,7 +16,8 @@ width_of_node-width-requires-clause-over c = typed_here _ _ _ c.requires.typed c
 pub returns-then-hi-width : goal.returns-then-hi-width
 returns-then-hi-width c =
     let e = sym (ap width_of c.look-node.ensures) ∙ sym c.width_of_node-width.ensures in
-    let w : HasWidth (nodes_of c.args.nodes.now) (c.args.hi + 1 - c.args.lo) c.args.term.0 = (c.requires.within, omega (arith, e, c.if-hi-width.true, c.if-lo-eq0.true)) in
+    let w : HasWidth (nodes_of c.args.nodes.now) (c.args.hi + 1 - c.args.lo) c.args.term.0 =
+    (c.requires.within, omega (arith, e, c.if-hi-width.true, c.if-lo-eq0.true)) in
     record {
       place = w;
       value = λ x i. whole c.args.hi c.args.lo _ c.if-lo-eq0.true (word_fits x _ (c.args.hi + 1 - c.args.lo) _ i c.requires.typed w);

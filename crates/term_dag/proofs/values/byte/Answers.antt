@@ -12,21 +12,28 @@ returns-in-Memory c =
     let r = c.args.reading.now in
     let a = c.args.address in
     let v = c.loop-bytes.invariant in
-    let e : byte_in r.memory.entries ((a + 0) % 2 ^ 32 % 2 ^ 32) ≡ byte_in r.memory.entries (a % 2 ^ 32) = ap (byte_in r.memory.entries) (let e : (a + 0) % 2 ^ 32 % 2 ^ 32 ≡ a % 2 ^ 32 = omega arith in e) in
+    let e : byte_in r.memory.entries ((a + 0) % 2 ^ 32 % 2 ^ 32)
+    ≡ byte_in r.memory.entries (a % 2 ^ 32) = ap (byte_in r.memory.entries) (let e : (a + 0) % 2 ^ 32 % 2 ^ 32 ≡ a % 2 ^ 32 = omega arith in e) in
     let l : c.load.result.bits < 2 ^ 8 = subst (λ (w : ℕ). c.load.result.bits < 2 ^ w) c.load.ensures.width c.load.result.below in
     let f : c.load.result.bits ≡ byte_in r.memory.entries (a % 2 ^ 32) % 256 = omega (arith, c.load.ensures.bits, e, l) in
     f ∙ entry_byte (reading_of r) _ _ _ a c.requires.typed c.requires.words v.within c.in-Memory.ensures ∙ v.same
 
 pub bounds-words-first : goal.bounds-words-first
 bounds-words-first c =
-    let k = address_within (reading_of c.args.reading.now) _ _ _ c.args.address c.requires.typed c.requires.words c.loop-bytes.invariant.within _ c.in-Store.big _ _ _ _ c.in-Store.ensures refl in
+    let k = address_within (reading_of c.args.reading.now) _ _ _ c.args.address c.requires.typed c.requires.words c.loop-bytes.invariant.within _ c.in-Store.big
+    _ _ _ _ c.in-Store.ensures refl in
     omega (arith, k, c.requires.words.count)
 
 pub overflow_cast-place-in-Store : goal.overflow_cast-place-in-Store
 overflow_cast-place-in-Store c =
     let r = reading_of c.args.reading.now in
     let y = typed_here _ _ _ c.requires.typed c.loop-bytes.invariant.within c.in-Store.ensures in
-    Fits-of_lt (omega (arith, c.requires.words.each c.in-Store.first.0 y.2.0, word_fits r _ 32 c.in-Store.first.0 (in_range c.args.reading.now) c.requires.typed y.2))
+    Fits-of_lt (omega (
+      arith,
+      c.requires.words.each c.in-Store.first.0 y.2.0,
+      word_fits r _ 32 c.in-Store.first.0
+          (in_range c.args.reading.now) c.requires.typed y.2,
+    ))
 
 pub bounds-words-value : goal.bounds-words-value
 bounds-words-value c =
@@ -40,11 +47,13 @@ pub returns-then-place-bytes : goal.returns-then-place-bytes
 returns-then-place-bytes c =
     let v = c.loop-bytes.invariant in
     c.stored_byte.ensures
-    ∙ in_store (reading_of c.args.reading.now) _ _ _ c.args.address c.requires.typed c.requires.words v.within _ c.in-Store.big _ _ _ _ c.in-Store.ensures refl c.if-place-bytes.true ∙ v.same
+    ∙ in_store (reading_of c.args.reading.now) _ _ _ c.args.address c.requires.typed c.requires.words v.within _ c.in-Store.big _ _ _ _ c.in-Store.ensures refl
+    c.if-place-bytes.true ∙ v.same
 
 pub loop-bytes-smaller-in-Store : goal.loop-bytes-smaller-in-Store
 loop-bytes-smaller-in-Store c =
-    store_before (reading_of c.args.reading.now) _ _ _ c.args.address c.requires.typed c.requires.words c.loop-bytes.invariant.within _ c.in-Store.big _ _ _ _ c.in-Store.ensures refl
+    store_before (reading_of c.args.reading.now) _ _ _ c.args.address c.requires.typed c.requires.words c.loop-bytes.invariant.within _ c.in-Store.big _ _ _ _
+    c.in-Store.ensures refl
 
 pub loop-bytes-preserved-in-Store : goal.loop-bytes-preserved-in-Store
 loop-bytes-preserved-in-Store c =
@@ -52,7 +61,8 @@ loop-bytes-preserved-in-Store c =
     let y = typed_here _ _ _ c.requires.typed v.within c.in-Store.ensures in
     record {
       within = y.1.0;
-      same = past_store (reading_of c.args.reading.now) _ _ _ c.args.address c.requires.typed c.requires.words v.within _ c.in-Store.big _ _ _ _ c.in-Store.ensures refl c.if-place-bytes.false ∙ v.same;
+      same = past_store (reading_of c.args.reading.now) _ _ _ c.args.address c.requires.typed c.requires.words v.within _ c.in-Store.big _ _ _ _
+          c.in-Store.ensures refl c.if-place-bytes.false ∙ v.same;
     }
 
 pub bounds-words-condition : goal.bounds-words-condition
@@ -70,7 +80,8 @@ loop-bytes-preserved-then-words-condition-gt0 c =
     let y = typed_here _ _ _ c.requires.typed v.within c.in-Join.ensures in
     record {
       within = y.1.0;
-      same = join_first (reading_of c.args.reading.now) _ _ _ c.args.address c.requires.typed c.requires.words v.within _ _ _ c.in-Join.ensures c.if-words-condition-gt0.true ∙ v.same;
+      same = join_first (reading_of c.args.reading.now) _ _ _ c.args.address c.requires.typed c.requires.words v.within _ _ _ c.in-Join.ensures
+          c.if-words-condition-gt0.true ∙ v.same;
     }
 
 pub loop-bytes-smaller : goal.loop-bytes-smaller
@@ -83,10 +94,12 @@ loop-bytes-preserved c =
     let y = typed_here _ _ _ c.requires.typed v.within c.in-Join.ensures in
     record {
       within = y.2.0;
-      same = join_second (reading_of c.args.reading.now) _ _ _ c.args.address c.requires.typed c.requires.words v.within _ _ _ c.in-Join.ensures c.if-words-condition-gt0.false ∙ v.same;
+      same = join_second (reading_of c.args.reading.now) _ _ _ c.args.address c.requires.typed c.requires.words v.within _ _ _ c.in-Join.ensures
+          c.if-words-condition-gt0.false ∙ v.same;
     }
 
 pub returns-in_default : goal.returns-in_default
 returns-in_default c =
     let v = c.loop-bytes.invariant in
-    no_bytes (reading_of c.args.reading.now) _ _ _ c.args.address c.requires.typed v.within c.look.ensures c.in_default.not-Memory c.in_default.not-Store c.in_default.not-Join ∙ v.same
+    no_bytes (reading_of c.args.reading.now) _ _ _ c.args.address c.requires.typed v.within c.look.ensures c.in_default.not-Memory c.in_default.not-Store
+    c.in_default.not-Join ∙ v.same

@@ -7,7 +7,8 @@ use Rattle.term_dag.proofs.values.byte.Given as goal
 abbrev pub invariant-loop-bytes : goal.invariant-loop-bytes
 invariant-loop-bytes l = record {
   within : l.at.0 < length (nodes_of l.nodes);
-  same : (term_value (reading_of l.reading) (nodes_of l.nodes) l.at.0).bytes l.address ≡ (term_value (reading_of l.reading) (nodes_of l.nodes) l.fn.term.0).bytes l.address;
+  same : (term_value (reading_of l.reading) (nodes_of l.nodes) l.at.0).bytes l.address
+      ≡ (term_value (reading_of l.reading) (nodes_of l.nodes) l.fn.term.0).bytes l.address;
 }
 
 abbrev pub decreases-loop-bytes : goal.decreases-loop-bytes

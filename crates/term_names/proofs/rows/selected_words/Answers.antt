@@ -14,4 +14,5 @@ selected_word-requires-clause-when_false c =
 pub loop-i-preserved : goal.loop-i-preserved
 loop-i-preserved c =
     step_chosen c.args.dag.now c.loop-i.dag _ c.args.width c.args.condition.0 c.args.when_true.now c.args.when_false.now c.loop-i.terms.items _ c.loop-i.i _
-    c.loop-i-test.true c.requires.same c.in_ok-push.ensures.items c.requires.condition c.requires.when_true c.requires.when_false c.loop-i.invariant c.in_ok-term.ensures
+    c.loop-i-test.true c.requires.same c.in_ok-push.ensures.items c.requires.condition c.requires.when_true c.requires.when_false c.loop-i.invariant
+    c.in_ok-term.ensures

@@ -20,6 +20,8 @@ returns-clause-row g c = λ p m is.
     let plain : IsPlain r = c.requires.rows w r low (sym c.in-Some-decode.ensures) in
     let lifting : IsLifting p.machine g.M.Machine.bank r n.at (statements c.in_ok-list.list.items) =
     subst (λ (x : Machine). IsLifting x g.M.Machine.bank r n.at (statements c.in_ok-list.list.items)) (sym m) c.in_ok-list.ensures in
-    lifted_code p g.M.Machine.bank n r c.in_ok-list.list c.draws.result c.cost-cost.result.row c.cost-cost.result.loads c.cost-cost.result.stores c.args.asserts is
-    (q.1 ∙ ap (λ (x : Row). Some x) (sym same)) (g.met.M.Machine.lawful.rows w r low (sym c.in-Some-decode.ensures)) plain lifting c.draws.ensures (ap (λ (k : Cost). k.row) c.cost-cost.ensures) (ap (λ (k : Cost). k.loads) c.cost-cost.ensures)
+    lifted_code p g.M.Machine.bank n r c.in_ok-list.list c.draws.result c.cost-cost.result.row c.cost-cost.result.loads c.cost-cost.result.stores c.args.asserts
+    is
+    (q.1 ∙ ap (λ (x : Row). Some x) (sym same)) (g.met.M.Machine.lawful.rows w r low (sym c.in-Some-decode.ensures)) plain lifting c.draws.ensures (ap
+    (λ (k : Cost). k.row) c.cost-cost.ensures) (ap (λ (k : Cost). k.loads) c.cost-cost.ensures)
     (ap (λ (k : Cost). k.stores) c.cost-cost.ensures)

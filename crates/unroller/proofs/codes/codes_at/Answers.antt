@@ -7,15 +7,20 @@ use Rattle.unroller.proofs.codes.codes_at.Goals as goal
 pub unreachable-requires : goal.unreachable-requires
 unreachable-requires g c =
     c.in-None.ensures c.requires.nodes
-    (c.requires.among (get_or c.args.addresses.now c.loop-at.at-index 0)
-    (c.loop-at.at-index, c.loop-at-test.true, get_or_default c.args.addresses.now c.loop-at.at-index (get_or c.args.addresses.now c.loop-at.at-index 0) 0 c.loop-at-test.true))
+    (c.requires.among (get_or c.args.addresses.now c.loop-at.at-index 0) (
+      c.loop-at.at-index,
+      c.loop-at-test.true,
+      get_or_default c.args.addresses.now c.loop-at.at-index
+          (get_or c.args.addresses.now c.loop-at.at-index 0) 0 c.loop-at-test.true,
+    ))
 
 pub loop-at-init : goal.loop-at-init
 loop-at-init g c = λ p m is. codes_none p g.M.Machine.bank c.args.addresses.now c.args.asserts.now c.in_ok-codes.codes.items c.in_ok-codes.ensures.items
 
 pub loop-at-preserved : goal.loop-at-preserved
 loop-at-preserved g c = λ p m is.
-    codes_more p g.M.Machine.bank c.args.addresses.now c.args.asserts.now c.loop-at.at-index c.loop-at.codes.items c.push.new.self.items c.in_ok-code.code (c.loop-at.invariant p m is)
+    codes_more p g.M.Machine.bank c.args.addresses.now c.args.asserts.now c.loop-at.at-index c.loop-at.codes.items c.push.new.self.items c.in_ok-code.code
+    (c.loop-at.invariant p m is)
     c.in_ok-push.ensures.items (record {
       here = c.in_ok-code.ensures.at ∙ c.in-Some.ensures.0;
       row = c.in_ok-code.ensures.row p m (of_nodes p c.args.graph.now c.in-Some.node.now is c.in-Some.ensures.1);

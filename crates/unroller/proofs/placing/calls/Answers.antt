@@ -20,7 +20,10 @@ loop-key-preserved c =
       table = c.in_ok-number.ensures.table;
       begins = (old.0 ++ more.rest, more.begins ∙ ap (λ (l : List Frame). l ++ more.rest) old.1 ∙ regroup c.args.stacks.now.frames.items old.0 more.rest);
       called =
-          called_more c.args.graph.now c.args.keys.now c.loop-key.stacks.frames.items c.called.new.stacks.frames.items c.loop-key.key-index c.loop-key.found.items c.push.new.self.items
-          c.in-Some.node.now c.in_ok-number.number c.loop-key.invariant.called c.in_ok-push.ensures.items c.in-Some.ensures.1 (c.in-Some.ensures.0 ∙ c.address_of.ensures)
-          (subst (λ (s : ℕ). IsCalled c.in-Some.node.now s c.loop-key.stacks.frames.items c.called.new.stacks.frames.items c.in_ok-number.number) c.stack_of.ensures more);
+          called_more c.args.graph.now c.args.keys.now c.loop-key.stacks.frames.items c.called.new.stacks.frames.items c.loop-key.key-index
+          c.loop-key.found.items c.push.new.self.items
+          c.in-Some.node.now c.in_ok-number.number c.loop-key.invariant.called c.in_ok-push.ensures.items c.in-Some.ensures.1
+          (c.in-Some.ensures.0 ∙ c.address_of.ensures)
+          (subst (λ (s : ℕ). IsCalled c.in-Some.node.now s c.loop-key.stacks.frames.items c.called.new.stacks.frames.items c.in_ok-number.number)
+          c.stack_of.ensures more);
     }

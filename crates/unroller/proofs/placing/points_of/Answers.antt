@@ -11,12 +11,16 @@ unreachable-requires c =
 
 pub unreachable-requires-in-None-address_place : goal.unreachable-requires-in-None-address_place
 unreachable-requires-in-None-address_place c =
-    c.in-None-address_place.ensures (subst (λ (a : ℕ). Contains c.args.addresses.now a) (sym c.address_of-at.ensures) (c.requires.coded c.loop-place.place c.loop-place-test.true))
+    c.in-None-address_place.ensures (subst (λ (a : ℕ). Contains c.args.addresses.now a) (sym c.address_of-at.ensures)
+    (c.requires.coded c.loop-place.place c.loop-place-test.true))
 
 pub loop-place-preserved : goal.loop-place-preserved
 loop-place-preserved c =
-    placed_more c.args.graph.now c.args.frames.now c.args.keys.now c.args.addresses.now c.args.called.now c.loop-place.place c.loop-place.points.items c.push.new.self.items
+    placed_more c.args.graph.now c.args.frames.now c.args.keys.now c.args.addresses.now c.args.called.now c.loop-place.place c.loop-place.points.items
+    c.push.new.self.items
     c.loop-place.edges.items c.add_edges.new.edges.items
-    (record { turns = c.turns_of.result; code = c.in-Some-address_place.code; stack = c.stack_of.result; edges = c.len-begin.result }) c.in-Some.node.now c.loop-place.invariant
-    c.in_ok-push.ensures.items c.turns_of.ensures c.stack_of.ensures c.in-Some-address_place.ensures.0 (c.in-Some-address_place.ensures.1 ∙ c.address_of-at.ensures) (let e = c.len-begin.ensures in let f = c.loop-place.edges.ok.0 in omega arith)
+    (record { turns = c.turns_of.result; code = c.in-Some-address_place.code; stack = c.stack_of.result; edges = c.len-begin.result }) c.in-Some.node.now
+    c.loop-place.invariant
+    c.in_ok-push.ensures.items c.turns_of.ensures c.stack_of.ensures c.in-Some-address_place.ensures.0
+    (c.in-Some-address_place.ensures.1 ∙ c.address_of-at.ensures) (let e = c.len-begin.ensures in let f = c.loop-place.edges.ok.0 in omega arith)
     c.in-Some.ensures.1 (c.in-Some.ensures.0 ∙ c.address_of-at.ensures) c.in_ok-add_edges.ensures

@@ -10,7 +10,8 @@ points-preserved c =
     let low : c.points.i ≤ length u.points.items = c.points.invariant.below in
     let some = c.points-test.true in
     let lt : c.points.i - 1 < length u.points.items = omega arith in
-    let step = totals_step u c.points.i c.points.end q c.point_totals.result c.points.total c.add-total.result some low c.index-point.ensures c.points.invariant.end c.point_totals.ensures
+    let step = totals_step u c.points.i c.points.end q c.point_totals.result c.points.total c.add-total.result some low c.index-point.ensures
+    c.points.invariant.end c.point_totals.ensures
     c.points.invariant.total c.add-total.ensures in
     record {
       below = omega arith;

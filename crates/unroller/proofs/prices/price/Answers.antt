@@ -24,7 +24,8 @@ returns c =
     let r = sum_by (λ q. q.row) u.points in
     let t = c.all_totals-totals.ensures in
     let required : AreLineCosts c.lines_cost-required.result (entry_lines u) =
-    subst (λ (z : List NoteLine). AreLineCosts c.lines_cost-required.result (map (λ l. l.says) (map note_line_of z))) c.deref.ensures.value c.lines_cost-required.ensures in
+    subst (λ (z : List NoteLine). AreLineCosts c.lines_cost-required.result (map
+    (λ l. l.says) (map note_line_of z))) c.deref.ensures.value c.lines_cost-required.ensures in
     let known : c.known_count-known.result ≡ capped (known_of u) =
     c.known_count-known.ensures ∙ ap (λ (z : List Known). capped (sum_by (λ r. r.count) (map run_of z))) c.deref-3.ensures.value in
     let l : c.plus-lines.result ≡ capped (sum_by line_price (lines_of u)) =
@@ -32,7 +33,8 @@ returns c =
     ∙ ap capped (sym (sum_by-append line_price (entry_lines u) (point_lines u))) in
     let b : c.plus-loads.result ≡ capped (loads_of u) =
     c.plus-loads.ensures (sum_by (λ q. q.loads) u.points + sum_by bytes_loaded (point_lines u)) (sum_by bytes_loaded (entry_lines u)) t.loads required.loads
-    ∙ ap capped (regroup (sum_by (λ q. q.loads) u.points) (sum_by bytes_loaded (entry_lines u)) (sum_by bytes_loaded (point_lines u)) (sum_by bytes_loaded (lines_of u))
+    ∙ ap capped (regroup (sum_by (λ q. q.loads) u.points) (sum_by bytes_loaded (entry_lines u)) (sum_by bytes_loaded (point_lines u))
+    (sum_by bytes_loaded (lines_of u))
     (sum_by-append bytes_loaded (entry_lines u) (point_lines u))) in
     let runs = within (length c.args.u.now.kept.now) (length u.kept) (omega arith) (length-map c.args.u.now.kept.now kept_of) in
     let gates = c.gate_price-gates.ensures r (edges_of u) (sum_by line_price (lines_of u)) (stores_of u) (length u.kept) t.rows t.edges l t.stores runs in

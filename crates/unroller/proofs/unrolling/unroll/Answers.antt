@@ -28,7 +28,8 @@ pub point_keys-requires : goal.point_keys-requires
 point_keys-requires g c =
     let notes = notes_of c.args.notes.now in
     let p : Program = program_of c.args.image.now notes c.args.entry in
-    low_turns p c.args.k c.in_ok-listed.listed c.deref.result.now (c.in_ok-listed.ensures.points p c.requires.graph refl c.requires.one_way) c.deref.ensures.value c.requires.k
+    low_turns p c.args.k c.in_ok-listed.listed c.deref.result.now
+    (c.in_ok-listed.ensures.points p c.requires.graph refl c.requires.one_way) c.deref.ensures.value c.requires.k
 
 pub calls-requires-clause-among : goal.calls-requires-clause-among
 calls-requires-clause-among g c =
@@ -38,7 +39,8 @@ calls-requires-clause-among g c =
     let keys = c.in_ok-keys.keys.items in
     let listed = c.in_ok-listed.ensures.points p c.requires.graph refl c.requires.one_way in
     let are =
-    keys_of p c.args.k v v.stacks.frames.items v.stacks.numbers [] keys c.in_ok-point_keys.field-0.items c.deref.result.now (nothing_more v.stacks.frames.items) c.deref.ensures.value listed
+    keys_of p c.args.k v v.stacks.frames.items v.stacks.numbers [] keys c.in_ok-point_keys.field-0.items c.deref.result.now
+    (nothing_more v.stacks.frames.items) c.deref.ensures.value listed
     c.in_ok-listed.ensures.numbered c.in_ok-point_keys.ensures.small c.in_ok-point_keys.ensures.listed c.in_ok-keys.ensures.same c.in_ok-keys.ensures.rise in
     among_graph p c.args.k c.args.graph.now v.stacks.frames.items keys c.deref-3.result.now c.requires.graph are c.deref-3.ensures.value
 
@@ -50,7 +52,8 @@ calls-requires-clause-fits g c =
     let keys = c.in_ok-keys.keys.items in
     let listed = c.in_ok-listed.ensures.points p c.requires.graph refl c.requires.one_way in
     let are =
-    keys_of p c.args.k v v.stacks.frames.items v.stacks.numbers [] keys c.in_ok-point_keys.field-0.items c.deref.result.now (nothing_more v.stacks.frames.items) c.deref.ensures.value listed
+    keys_of p c.args.k v v.stacks.frames.items v.stacks.numbers [] keys c.in_ok-point_keys.field-0.items c.deref.result.now
+    (nothing_more v.stacks.frames.items) c.deref.ensures.value listed
     c.in_ok-listed.ensures.numbered c.in_ok-point_keys.ensures.small c.in_ok-point_keys.ensures.listed c.in_ok-keys.ensures.same c.in_ok-keys.ensures.rise in
     keys_fit p c.args.k v.stacks.frames.items keys c.deref-3.result.now are c.deref-3.ensures.value
 
@@ -62,9 +65,11 @@ codes_at-requires-clause-among g c =
     let keys = c.in_ok-keys.keys.items in
     let listed = c.in_ok-listed.ensures.points p c.requires.graph refl c.requires.one_way in
     let are =
-    keys_of p c.args.k v v.stacks.frames.items v.stacks.numbers [] keys c.in_ok-point_keys.field-0.items c.deref.result.now (nothing_more v.stacks.frames.items) c.deref.ensures.value listed
+    keys_of p c.args.k v v.stacks.frames.items v.stacks.numbers [] keys c.in_ok-point_keys.field-0.items c.deref.result.now
+    (nothing_more v.stacks.frames.items) c.deref.ensures.value listed
     c.in_ok-listed.ensures.numbered c.in_ok-point_keys.ensures.small c.in_ok-point_keys.ensures.listed c.in_ok-keys.ensures.same c.in_ok-keys.ensures.rise in
-    addresses_among p c.args.k c.args.graph.now v.stacks.frames.items keys c.deref-2.result.now c.in_ok-addresses.addresses.items c.deref-4.result.now c.requires.graph are c.deref-2.ensures.value
+    addresses_among p c.args.k c.args.graph.now v.stacks.frames.items keys c.deref-2.result.now c.in_ok-addresses.addresses.items c.deref-4.result.now
+    c.requires.graph are c.deref-2.ensures.value
     c.deref-4.ensures.value c.in_ok-addresses.ensures.same
 
 pub points_of-requires-clause-low : goal.points_of-requires-clause-low
@@ -75,7 +80,8 @@ points_of-requires-clause-low g c =
     let keys = c.in_ok-keys.keys.items in
     let listed = c.in_ok-listed.ensures.points p c.requires.graph refl c.requires.one_way in
     let are =
-    keys_of p c.args.k v v.stacks.frames.items v.stacks.numbers [] keys c.in_ok-point_keys.field-0.items c.deref.result.now (nothing_more v.stacks.frames.items) c.deref.ensures.value listed
+    keys_of p c.args.k v v.stacks.frames.items v.stacks.numbers [] keys c.in_ok-point_keys.field-0.items c.deref.result.now
+    (nothing_more v.stacks.frames.items) c.deref.ensures.value listed
     c.in_ok-listed.ensures.numbered c.in_ok-point_keys.ensures.small c.in_ok-point_keys.ensures.listed c.in_ok-keys.ensures.same c.in_ok-keys.ensures.rise in
     keys_low p c.args.k v.stacks.frames.items keys c.deref-7.result.now are c.deref-7.ensures.value c.requires.k
 
@@ -87,13 +93,15 @@ points_of-requires-clause-among g c =
     let keys = c.in_ok-keys.keys.items in
     let listed = c.in_ok-listed.ensures.points p c.requires.graph refl c.requires.one_way in
     let are =
-    keys_of p c.args.k v v.stacks.frames.items v.stacks.numbers [] keys c.in_ok-point_keys.field-0.items c.deref.result.now (nothing_more v.stacks.frames.items) c.deref.ensures.value listed
+    keys_of p c.args.k v v.stacks.frames.items v.stacks.numbers [] keys c.in_ok-point_keys.field-0.items c.deref.result.now
+    (nothing_more v.stacks.frames.items) c.deref.ensures.value listed
     c.in_ok-listed.ensures.numbered c.in_ok-point_keys.ensures.small c.in_ok-point_keys.ensures.listed c.in_ok-keys.ensures.same c.in_ok-keys.ensures.rise in
     among_graph p c.args.k c.args.graph.now v.stacks.frames.items keys c.deref-7.result.now c.requires.graph are c.deref-7.ensures.value
 
 pub points_of-requires-clause-coded : goal.points_of-requires-clause-coded
 points_of-requires-clause-coded g c =
-    keys_coded c.in_ok-keys.keys.items c.deref-2.result.now c.deref-7.result.now c.in_ok-addresses.addresses.items c.deref-8.result.now c.deref-2.ensures.value c.deref-7.ensures.value
+    keys_coded c.in_ok-keys.keys.items c.deref-2.result.now c.deref-7.result.now c.in_ok-addresses.addresses.items c.deref-8.result.now c.deref-2.ensures.value
+    c.deref-7.ensures.value
     c.deref-8.ensures.value c.in_ok-addresses.ensures.same
 
 pub returns-clause-unrolled : goal.returns-clause-unrolled
@@ -106,26 +114,48 @@ returns-clause-unrolled g c =
     let called = c.in_ok-called.called.items in
     let frames = c.calls.new.stacks.frames.items in
     let begins = c.in_ok-called.ensures.begins in
-    let u : Unrolled = record { form = c.layout.result; big = c.is_big_machine.result; link = c.link.result; entry = c.args.entry; notes = c.args.notes; asserts = c.in_ok-index.index.asserts; kept = c.kept.result; known = c.in_ok-known.known.runs; literals = c.new.result; frames = c.calls.new.stacks.frames; codes = c.in_ok-codes.codes; points = c.in_ok-placed.placed.points; edges = c.in_ok-placed.placed.edges } in
+    let u : Unrolled = record {
+      form = c.layout.result;
+      big = c.is_big_machine.result;
+      link = c.link.result;
+      entry = c.args.entry;
+      notes = c.args.notes;
+      asserts
+          = c.in_ok-index.index.asserts;
+      kept = c.kept.result;
+      known = c.in_ok-known.known.runs;
+      literals = c.new.result;
+      frames = c.calls.new.stacks.frames;
+      codes
+          = c.in_ok-codes.codes;
+      points = c.in_ok-placed.placed.points;
+      edges = c.in_ok-placed.placed.edges;
+    } in
     let listed = c.in_ok-listed.ensures.points p c.requires.graph refl c.requires.one_way in
     let are =
     keys_of p c.args.k v frames v.stacks.numbers begins.0 keys c.in_ok-point_keys.field-0.items c.deref.result.now begins.1 c.deref.ensures.value listed
     c.in_ok-listed.ensures.numbered c.in_ok-point_keys.ensures.small c.in_ok-point_keys.ensures.listed c.in_ok-keys.ensures.same c.in_ok-keys.ensures.rise in
     let mach = c.requires.machine in
-    let fitted : IsFitted g.M.Machine.machine (layout_of c.layout.result) = subst (λ (z : Layout). IsFitted g.M.Machine.machine z) (sym c.layout.ensures) g.met.M.Machine.fitted in
+    let fitted : IsFitted g.M.Machine.machine (layout_of c.layout.result) = subst
+    (λ (z : Layout). IsFitted g.M.Machine.machine z) (sym c.layout.ensures) g.met.M.Machine.fitted in
     let form : HasForm g.M.Machine.machine u = forms_are_right g.M.Machine.machine u fitted in
     let here : IsFitted p.machine (layout_of c.layout.result) = subst (λ (z : Machine). IsFitted z (layout_of c.layout.result)) (sym mach) fitted in
     let registers = λ (r : ℕ). form.registers r ∙ ap (λ (z : Machine). z.has_register r) (sym mach) in
     let flags = λ (f : ℕ). form.flags f ∙ ap (λ (z : Machine). z.has_flag f) (sym mach) in
-    let calls : AreCalled c.args.graph.now keys frames (length keys) called = subst (λ (l : List ℕ). AreCalled c.args.graph.now l frames (length l) called) c.deref-3.ensures.value c.in_ok-called.ensures.called in
+    let calls : AreCalled c.args.graph.now keys frames (length keys) called = subst
+    (λ (l : List ℕ). AreCalled c.args.graph.now l frames (length l) called) c.deref-3.ensures.value c.in_ok-called.ensures.called in
     let codes : AreCodes p g.M.Machine.bank addresses u.asserts.items (length addresses) u.codes.items =
     subst (λ (l : List ℕ). AreCodes p g.M.Machine.bank l u.asserts.items (length l) u.codes.items) c.deref-4.ensures.value
-    (subst (λ (l : List (ℕ × ℕ)). AreCodes p g.M.Machine.bank c.deref-4.result.now l (length c.deref-4.result.now) u.codes.items) c.deref-5.ensures.value (c.in_ok-codes.ensures p mach c.requires.graph)) in
+    (subst (λ (l : List (ℕ × ℕ)). AreCodes p g.M.Machine.bank c.deref-4.result.now l (length c.deref-4.result.now) u.codes.items) c.deref-5.ensures.value
+    (c.in_ok-codes.ensures p mach c.requires.graph)) in
     let placed : ArePlaced c.args.graph.now frames keys addresses called (length keys) u.points.items u.edges.items =
     subst (λ (l : List ℕ). ArePlaced c.args.graph.now frames l addresses called (length l) u.points.items u.edges.items) c.deref-7.ensures.value
-    (subst (λ (l : List ℕ). ArePlaced c.args.graph.now frames c.deref-7.result.now l called (length c.deref-7.result.now) u.points.items u.edges.items) c.deref-8.ensures.value
-    (subst (λ (l : List ℕ). ArePlaced c.args.graph.now frames c.deref-7.result.now c.deref-8.result.now l (length c.deref-7.result.now) u.points.items u.edges.items) c.deref-9.ensures.value
-    (subst (λ (l : List Frame). ArePlaced c.args.graph.now l c.deref-7.result.now c.deref-8.result.now c.deref-9.result.now (length c.deref-7.result.now) u.points.items u.edges.items) c.deref-6.ensures.value
+    (subst (λ (l : List ℕ). ArePlaced c.args.graph.now frames c.deref-7.result.now l called
+    (length c.deref-7.result.now) u.points.items u.edges.items) c.deref-8.ensures.value
+    (subst (λ (l : List ℕ). ArePlaced c.args.graph.now frames c.deref-7.result.now c.deref-8.result.now l
+    (length c.deref-7.result.now) u.points.items u.edges.items) c.deref-9.ensures.value
+    (subst (λ (l : List Frame). ArePlaced c.args.graph.now l c.deref-7.result.now c.deref-8.result.now c.deref-9.result.now
+    (length c.deref-7.result.now) u.points.items u.edges.items) c.deref-6.ensures.value
     c.in_ok-placed.ensures))) in
     let runs = kept_runs_are_right c.args.image.now c.kept.result.now c.kept.ensures.runs (λ i w. (c.kept.ensures.words i w).1) in
     record {
@@ -146,11 +176,17 @@ returns-clause-unrolled g c =
       known_bytes = subst (λ (z : ℕ). IsCount (is_known_at p) z) (sym c.in_ok-known.ensures.sum) (c.in_ok-known.ensures.count c.args.entry);
       literals = λ a. (
         (λ h. absurd (none_in a (subst (λ (l : List ℕ). Contains l a) c.new.ensures.items h))),
-        (λ l. absurd (no_literal p c.args.k g.M.Machine.bank c.args.graph.now u c.calls.new.stacks.numbers keys addresses called c.requires.graph c.requires.one_way here registers flags c.in_ok-called.ensures.table are calls codes placed c.in_ok-index.ensures.asserts.order refl a l)),
+        (λ l. absurd (no_literal p c.args.k g.M.Machine.bank c.args.graph.now u c.calls.new.stacks.numbers keys addresses called c.requires.graph
+            c.requires.one_way here registers flags c.in_ok-called.ensures.table are calls codes placed c.in_ok-index.ensures.asserts.order refl a l)),
       );
-      points = are_points p c.args.k g.M.Machine.bank c.args.graph.now u c.calls.new.stacks.numbers keys addresses called c.requires.graph c.requires.one_way here registers flags c.in_ok-called.ensures.table are calls codes placed c.in_ok-index.ensures.asserts.order refl;
-      first = first p c.args.k g.M.Machine.bank c.args.graph.now u c.calls.new.stacks.numbers keys addresses called c.requires.graph c.requires.one_way here registers flags c.in_ok-called.ensures.table are calls codes placed c.in_ok-index.ensures.asserts.order refl;
-      places = λ i w. places p c.args.k g.M.Machine.bank c.args.graph.now u c.calls.new.stacks.numbers keys addresses called c.requires.graph c.requires.one_way here registers flags c.in_ok-called.ensures.table are calls codes placed c.in_ok-index.ensures.asserts.order refl i (let s = size p c.args.k g.M.Machine.bank c.args.graph.now u c.calls.new.stacks.numbers keys addresses called c.requires.graph c.requires.one_way here registers flags c.in_ok-called.ensures.table are calls codes placed c.in_ok-index.ensures.asserts.order refl in omega arith);
+      points = are_points p c.args.k g.M.Machine.bank c.args.graph.now u c.calls.new.stacks.numbers keys addresses called c.requires.graph c.requires.one_way
+          here registers flags c.in_ok-called.ensures.table are calls codes placed c.in_ok-index.ensures.asserts.order refl;
+      first = first p c.args.k g.M.Machine.bank c.args.graph.now u c.calls.new.stacks.numbers keys addresses called c.requires.graph c.requires.one_way here
+          registers flags c.in_ok-called.ensures.table are calls codes placed c.in_ok-index.ensures.asserts.order refl;
+      places = λ i w. places p c.args.k g.M.Machine.bank c.args.graph.now u c.calls.new.stacks.numbers keys addresses called c.requires.graph c.requires.one_way
+          here registers flags c.in_ok-called.ensures.table are calls codes placed c.in_ok-index.ensures.asserts.order refl i
+          (let s = size p c.args.k g.M.Machine.bank c.args.graph.now u c.calls.new.stacks.numbers keys addresses called c.requires.graph c.requires.one_way here
+          registers flags c.in_ok-called.ensures.table are calls codes placed c.in_ok-index.ensures.asserts.order refl in omega arith);
     }
 
 pub returns-clause-formed : goal.returns-clause-formed
@@ -163,28 +199,51 @@ returns-clause-formed g c =
     let called = c.in_ok-called.called.items in
     let frames = c.calls.new.stacks.frames.items in
     let begins = c.in_ok-called.ensures.begins in
-    let u : Unrolled = record { form = c.layout.result; big = c.is_big_machine.result; link = c.link.result; entry = c.args.entry; notes = c.args.notes; asserts = c.in_ok-index.index.asserts; kept = c.kept.result; known = c.in_ok-known.known.runs; literals = c.new.result; frames = c.calls.new.stacks.frames; codes = c.in_ok-codes.codes; points = c.in_ok-placed.placed.points; edges = c.in_ok-placed.placed.edges } in
+    let u : Unrolled = record {
+      form = c.layout.result;
+      big = c.is_big_machine.result;
+      link = c.link.result;
+      entry = c.args.entry;
+      notes = c.args.notes;
+      asserts
+          = c.in_ok-index.index.asserts;
+      kept = c.kept.result;
+      known = c.in_ok-known.known.runs;
+      literals = c.new.result;
+      frames = c.calls.new.stacks.frames;
+      codes
+          = c.in_ok-codes.codes;
+      points = c.in_ok-placed.placed.points;
+      edges = c.in_ok-placed.placed.edges;
+    } in
     let listed = c.in_ok-listed.ensures.points p c.requires.graph refl c.requires.one_way in
     let are =
     keys_of p c.args.k v frames v.stacks.numbers begins.0 keys c.in_ok-point_keys.field-0.items c.deref.result.now begins.1 c.deref.ensures.value listed
     c.in_ok-listed.ensures.numbered c.in_ok-point_keys.ensures.small c.in_ok-point_keys.ensures.listed c.in_ok-keys.ensures.same c.in_ok-keys.ensures.rise in
     let mach = c.requires.machine in
-    let fitted : IsFitted g.M.Machine.machine (layout_of c.layout.result) = subst (λ (z : Layout). IsFitted g.M.Machine.machine z) (sym c.layout.ensures) g.met.M.Machine.fitted in
+    let fitted : IsFitted g.M.Machine.machine (layout_of c.layout.result) = subst
+    (λ (z : Layout). IsFitted g.M.Machine.machine z) (sym c.layout.ensures) g.met.M.Machine.fitted in
     let form : HasForm g.M.Machine.machine u = forms_are_right g.M.Machine.machine u fitted in
     let here : IsFitted p.machine (layout_of c.layout.result) = subst (λ (z : Machine). IsFitted z (layout_of c.layout.result)) (sym mach) fitted in
     let registers = λ (r : ℕ). form.registers r ∙ ap (λ (z : Machine). z.has_register r) (sym mach) in
     let flags = λ (f : ℕ). form.flags f ∙ ap (λ (z : Machine). z.has_flag f) (sym mach) in
-    let calls : AreCalled c.args.graph.now keys frames (length keys) called = subst (λ (l : List ℕ). AreCalled c.args.graph.now l frames (length l) called) c.deref-3.ensures.value c.in_ok-called.ensures.called in
+    let calls : AreCalled c.args.graph.now keys frames (length keys) called = subst
+    (λ (l : List ℕ). AreCalled c.args.graph.now l frames (length l) called) c.deref-3.ensures.value c.in_ok-called.ensures.called in
     let codes : AreCodes p g.M.Machine.bank addresses u.asserts.items (length addresses) u.codes.items =
     subst (λ (l : List ℕ). AreCodes p g.M.Machine.bank l u.asserts.items (length l) u.codes.items) c.deref-4.ensures.value
-    (subst (λ (l : List (ℕ × ℕ)). AreCodes p g.M.Machine.bank c.deref-4.result.now l (length c.deref-4.result.now) u.codes.items) c.deref-5.ensures.value (c.in_ok-codes.ensures p mach c.requires.graph)) in
+    (subst (λ (l : List (ℕ × ℕ)). AreCodes p g.M.Machine.bank c.deref-4.result.now l (length c.deref-4.result.now) u.codes.items) c.deref-5.ensures.value
+    (c.in_ok-codes.ensures p mach c.requires.graph)) in
     let placed : ArePlaced c.args.graph.now frames keys addresses called (length keys) u.points.items u.edges.items =
     subst (λ (l : List ℕ). ArePlaced c.args.graph.now frames l addresses called (length l) u.points.items u.edges.items) c.deref-7.ensures.value
-    (subst (λ (l : List ℕ). ArePlaced c.args.graph.now frames c.deref-7.result.now l called (length c.deref-7.result.now) u.points.items u.edges.items) c.deref-8.ensures.value
-    (subst (λ (l : List ℕ). ArePlaced c.args.graph.now frames c.deref-7.result.now c.deref-8.result.now l (length c.deref-7.result.now) u.points.items u.edges.items) c.deref-9.ensures.value
-    (subst (λ (l : List Frame). ArePlaced c.args.graph.now l c.deref-7.result.now c.deref-8.result.now c.deref-9.result.now (length c.deref-7.result.now) u.points.items u.edges.items) c.deref-6.ensures.value
+    (subst (λ (l : List ℕ). ArePlaced c.args.graph.now frames c.deref-7.result.now l called
+    (length c.deref-7.result.now) u.points.items u.edges.items) c.deref-8.ensures.value
+    (subst (λ (l : List ℕ). ArePlaced c.args.graph.now frames c.deref-7.result.now c.deref-8.result.now l
+    (length c.deref-7.result.now) u.points.items u.edges.items) c.deref-9.ensures.value
+    (subst (λ (l : List Frame). ArePlaced c.args.graph.now l c.deref-7.result.now c.deref-8.result.now c.deref-9.result.now
+    (length c.deref-7.result.now) u.points.items u.edges.items) c.deref-6.ensures.value
     c.in_ok-placed.ensures))) in
-    formed p c.args.k g.M.Machine.bank c.args.graph.now u c.calls.new.stacks.numbers keys addresses called c.requires.graph c.requires.one_way here registers flags c.in_ok-called.ensures.table are calls codes placed c.in_ok-index.ensures.asserts.order refl
+    formed p c.args.k g.M.Machine.bank c.args.graph.now u c.calls.new.stacks.numbers keys addresses called c.requires.graph c.requires.one_way here registers
+    flags c.in_ok-called.ensures.table are calls codes placed c.in_ok-index.ensures.asserts.order refl
     (λ i d w. (let q = (c.in_ok-index.ensures.asserts.only i d w).0 in let l = length-map c.args.notes.now.asserts.items (λ a. a.at) in omega arith))
 
 pub returns-clause-form : goal.returns-clause-form
@@ -201,28 +260,51 @@ returns-clause-addresses g c =
     let called = c.in_ok-called.called.items in
     let frames = c.calls.new.stacks.frames.items in
     let begins = c.in_ok-called.ensures.begins in
-    let u : Unrolled = record { form = c.layout.result; big = c.is_big_machine.result; link = c.link.result; entry = c.args.entry; notes = c.args.notes; asserts = c.in_ok-index.index.asserts; kept = c.kept.result; known = c.in_ok-known.known.runs; literals = c.new.result; frames = c.calls.new.stacks.frames; codes = c.in_ok-codes.codes; points = c.in_ok-placed.placed.points; edges = c.in_ok-placed.placed.edges } in
+    let u : Unrolled = record {
+      form = c.layout.result;
+      big = c.is_big_machine.result;
+      link = c.link.result;
+      entry = c.args.entry;
+      notes = c.args.notes;
+      asserts
+          = c.in_ok-index.index.asserts;
+      kept = c.kept.result;
+      known = c.in_ok-known.known.runs;
+      literals = c.new.result;
+      frames = c.calls.new.stacks.frames;
+      codes
+          = c.in_ok-codes.codes;
+      points = c.in_ok-placed.placed.points;
+      edges = c.in_ok-placed.placed.edges;
+    } in
     let listed = c.in_ok-listed.ensures.points p c.requires.graph refl c.requires.one_way in
     let are =
     keys_of p c.args.k v frames v.stacks.numbers begins.0 keys c.in_ok-point_keys.field-0.items c.deref.result.now begins.1 c.deref.ensures.value listed
     c.in_ok-listed.ensures.numbered c.in_ok-point_keys.ensures.small c.in_ok-point_keys.ensures.listed c.in_ok-keys.ensures.same c.in_ok-keys.ensures.rise in
     let mach = c.requires.machine in
-    let fitted : IsFitted g.M.Machine.machine (layout_of c.layout.result) = subst (λ (z : Layout). IsFitted g.M.Machine.machine z) (sym c.layout.ensures) g.met.M.Machine.fitted in
+    let fitted : IsFitted g.M.Machine.machine (layout_of c.layout.result) = subst
+    (λ (z : Layout). IsFitted g.M.Machine.machine z) (sym c.layout.ensures) g.met.M.Machine.fitted in
     let form : HasForm g.M.Machine.machine u = forms_are_right g.M.Machine.machine u fitted in
     let here : IsFitted p.machine (layout_of c.layout.result) = subst (λ (z : Machine). IsFitted z (layout_of c.layout.result)) (sym mach) fitted in
     let registers = λ (r : ℕ). form.registers r ∙ ap (λ (z : Machine). z.has_register r) (sym mach) in
     let flags = λ (f : ℕ). form.flags f ∙ ap (λ (z : Machine). z.has_flag f) (sym mach) in
-    let calls : AreCalled c.args.graph.now keys frames (length keys) called = subst (λ (l : List ℕ). AreCalled c.args.graph.now l frames (length l) called) c.deref-3.ensures.value c.in_ok-called.ensures.called in
+    let calls : AreCalled c.args.graph.now keys frames (length keys) called = subst
+    (λ (l : List ℕ). AreCalled c.args.graph.now l frames (length l) called) c.deref-3.ensures.value c.in_ok-called.ensures.called in
     let codes : AreCodes p g.M.Machine.bank addresses u.asserts.items (length addresses) u.codes.items =
     subst (λ (l : List ℕ). AreCodes p g.M.Machine.bank l u.asserts.items (length l) u.codes.items) c.deref-4.ensures.value
-    (subst (λ (l : List (ℕ × ℕ)). AreCodes p g.M.Machine.bank c.deref-4.result.now l (length c.deref-4.result.now) u.codes.items) c.deref-5.ensures.value (c.in_ok-codes.ensures p mach c.requires.graph)) in
+    (subst (λ (l : List (ℕ × ℕ)). AreCodes p g.M.Machine.bank c.deref-4.result.now l (length c.deref-4.result.now) u.codes.items) c.deref-5.ensures.value
+    (c.in_ok-codes.ensures p mach c.requires.graph)) in
     let placed : ArePlaced c.args.graph.now frames keys addresses called (length keys) u.points.items u.edges.items =
     subst (λ (l : List ℕ). ArePlaced c.args.graph.now frames l addresses called (length l) u.points.items u.edges.items) c.deref-7.ensures.value
-    (subst (λ (l : List ℕ). ArePlaced c.args.graph.now frames c.deref-7.result.now l called (length c.deref-7.result.now) u.points.items u.edges.items) c.deref-8.ensures.value
-    (subst (λ (l : List ℕ). ArePlaced c.args.graph.now frames c.deref-7.result.now c.deref-8.result.now l (length c.deref-7.result.now) u.points.items u.edges.items) c.deref-9.ensures.value
-    (subst (λ (l : List Frame). ArePlaced c.args.graph.now l c.deref-7.result.now c.deref-8.result.now c.deref-9.result.now (length c.deref-7.result.now) u.points.items u.edges.items) c.deref-6.ensures.value
+    (subst (λ (l : List ℕ). ArePlaced c.args.graph.now frames c.deref-7.result.now l called
+    (length c.deref-7.result.now) u.points.items u.edges.items) c.deref-8.ensures.value
+    (subst (λ (l : List ℕ). ArePlaced c.args.graph.now frames c.deref-7.result.now c.deref-8.result.now l
+    (length c.deref-7.result.now) u.points.items u.edges.items) c.deref-9.ensures.value
+    (subst (λ (l : List Frame). ArePlaced c.args.graph.now l c.deref-7.result.now c.deref-8.result.now c.deref-9.result.now
+    (length c.deref-7.result.now) u.points.items u.edges.items) c.deref-6.ensures.value
     c.in_ok-placed.ensures))) in
-    words p c.args.k g.M.Machine.bank c.args.graph.now u c.calls.new.stacks.numbers keys addresses called c.requires.graph c.requires.one_way here registers flags c.in_ok-called.ensures.table are calls codes placed c.in_ok-index.ensures.asserts.order refl
+    words p c.args.k g.M.Machine.bank c.args.graph.now u c.calls.new.stacks.numbers keys addresses called c.requires.graph c.requires.one_way here registers
+    flags c.in_ok-called.ensures.table are calls codes placed c.in_ok-index.ensures.asserts.order refl
 
 pub returns-clause-layout : goal.returns-clause-layout
 returns-clause-layout g c = c.layout.ensures

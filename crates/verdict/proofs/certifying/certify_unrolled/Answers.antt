@@ -12,5 +12,7 @@ decide-requires-clause-askable c =
 
 pub returns-in_ok-answered-in-Within : goal.returns-in_ok-answered-in-Within
 returns-in_ok-answered-in-Within c p layout h =
-    let ready = (came_within (budget_of c.args.budget.now) c.args.unrolled.now c.in_ok-price.field-0 c.in_ok-price.ensures c.in-Within.passive c.in-Within.is).1 p layout h in
-    c.certified.ensures p layout (budget_of c.args.budget.now) (kind_of c.args.kind) ready.0 (c.in_ok-answered-in-Within.ensures p c.args.budget.now.unroll layout ready.1)
+    let ready = (came_within (budget_of c.args.budget.now) c.args.unrolled.now c.in_ok-price.field-0 c.in_ok-price.ensures c.in-Within.passive c.in-Within.is).1
+    p layout h in
+    c.certified.ensures p layout (budget_of c.args.budget.now) (kind_of c.args.kind) ready.0
+    (c.in_ok-answered-in-Within.ensures p c.args.budget.now.unroll layout ready.1)

@@ -11,12 +11,15 @@ pub one_round-requires-clause-askable : goal.one_round-requires-clause-askable
 one_round-requires-clause-askable c = askable_question c.args.passive.now c.args.kind c.in_ok-question.question c.in_ok-question.ensures.of c.requires.askable
 
 pub one_round-requires-clause-added : goal.one_round-requires-clause-added
-one_round-requires-clause-added c = subst (λ (z : List ℕ). AreAdded (program_of_question c.in_ok-question.question) z) (sym c.deref.ensures.value) c.loop-added.invariant
+one_round-requires-clause-added c = subst (λ (z : List ℕ). AreAdded (program_of_question c.in_ok-question.question) z)
+    (sym c.deref.ensures.value) c.loop-added.invariant
 
 pub returns-in-Answered : goal.returns-in-Answered
 returns-in-Answered c =
-    answers c.args.passive.now c.args.kind c.in_ok-question.question c.args.conflicts c.in-Answered.answered (question_is c.args.passive.now c.args.kind c.in_ok-question.question c.in_ok-question.ensures.of)
-    (round_answers c.in_ok-question.question c.deref.result.now c.args.conflicts c.in_ok-answered.field-0 c.in-Answered.answered c.in_ok-answered.ensures c.in-Answered.is)
+    answers c.args.passive.now c.args.kind c.in_ok-question.question c.args.conflicts c.in-Answered.answered
+    (question_is c.args.passive.now c.args.kind c.in_ok-question.question c.in_ok-question.ensures.of)
+    (round_answers c.in_ok-question.question c.deref.result.now c.args.conflicts c.in_ok-answered.field-0 c.in-Answered.answered c.in_ok-answered.ensures
+    c.in-Answered.is)
 
 pub with_further-requires-clause-added : goal.with_further-requires-clause-added
 with_further-requires-clause-added c = subst AreRising (sym c.deref-in-Broken.ensures.value) c.loop-added.invariant.rise
@@ -24,25 +27,34 @@ with_further-requires-clause-added c = subst AreRising (sym c.deref-in-Broken.en
 pub with_further-requires-clause-further : goal.with_further-requires-clause-further
 with_further-requires-clause-further c =
     subst AreRising (sym c.deref-in-Broken-2.ensures.value)
-    (round_breaks c.in_ok-question.question c.deref.result.now c.args.conflicts c.in_ok-answered.field-0 c.in-Broken.broken c.in_ok-answered.ensures c.in-Broken.is).are.rise
+    (round_breaks c.in_ok-question.question c.deref.result.now c.args.conflicts c.in_ok-answered.field-0 c.in-Broken.broken c.in_ok-answered.ensures
+    c.in-Broken.is).are.rise
 
 pub with_further-requires-clause-apart : goal.with_further-requires-clause-apart
 with_further-requires-clause-apart c =
-    (further_same (program_of_question c.in_ok-question.question) c.deref.result.now c.in-Broken.broken.items c.deref-in-Broken.result.now c.deref-in-Broken-2.result.now
-    (round_breaks c.in_ok-question.question c.deref.result.now c.args.conflicts c.in_ok-answered.field-0 c.in-Broken.broken c.in_ok-answered.ensures c.in-Broken.is) (c.deref.ensures.value ∙ sym c.deref-in-Broken.ensures.value) (sym c.deref-in-Broken-2.ensures.value)).new
+    (further_same (program_of_question c.in_ok-question.question) c.deref.result.now c.in-Broken.broken.items c.deref-in-Broken.result.now
+    c.deref-in-Broken-2.result.now
+    (round_breaks c.in_ok-question.question c.deref.result.now c.args.conflicts c.in_ok-answered.field-0 c.in-Broken.broken c.in_ok-answered.ensures
+    c.in-Broken.is) (c.deref.ensures.value ∙ sym c.deref-in-Broken.ensures.value) (sym c.deref-in-Broken-2.ensures.value)).new
 
 pub loop-added-smaller : goal.loop-added-smaller
 loop-added-smaller c =
-    fewer_left (program_of_question c.in_ok-question.question) c.loop-added.added.items c.in-Broken.broken.items c.in_ok-added-in-Broken.added.items c.loop-added.invariant
+    fewer_left (program_of_question c.in_ok-question.question) c.loop-added.added.items c.in-Broken.broken.items c.in_ok-added-in-Broken.added.items
+    c.loop-added.invariant
     (further_same (program_of_question c.in_ok-question.question) c.deref.result.now c.in-Broken.broken.items c.loop-added.added.items c.in-Broken.broken.items
-    (round_breaks c.in_ok-question.question c.deref.result.now c.args.conflicts c.in_ok-answered.field-0 c.in-Broken.broken c.in_ok-answered.ensures c.in-Broken.is) c.deref.ensures.value refl)
-    (merged_same c.deref-in-Broken.result.now c.deref-in-Broken-2.result.now c.loop-added.added.items c.in-Broken.broken.items c.in_ok-added-in-Broken.added.items c.in_ok-added-in-Broken.ensures
+    (round_breaks c.in_ok-question.question c.deref.result.now c.args.conflicts c.in_ok-answered.field-0 c.in-Broken.broken c.in_ok-answered.ensures
+    c.in-Broken.is) c.deref.ensures.value refl)
+    (merged_same c.deref-in-Broken.result.now c.deref-in-Broken-2.result.now c.loop-added.added.items c.in-Broken.broken.items
+    c.in_ok-added-in-Broken.added.items c.in_ok-added-in-Broken.ensures
     c.deref-in-Broken.ensures.value c.deref-in-Broken-2.ensures.value)
 
 pub loop-added-preserved : goal.loop-added-preserved
 loop-added-preserved c =
-    added_merged (program_of_question c.in_ok-question.question) c.loop-added.added.items c.in-Broken.broken.items c.in_ok-added-in-Broken.added.items c.loop-added.invariant
+    added_merged (program_of_question c.in_ok-question.question) c.loop-added.added.items c.in-Broken.broken.items c.in_ok-added-in-Broken.added.items
+    c.loop-added.invariant
     (further_same (program_of_question c.in_ok-question.question) c.deref.result.now c.in-Broken.broken.items c.loop-added.added.items c.in-Broken.broken.items
-    (round_breaks c.in_ok-question.question c.deref.result.now c.args.conflicts c.in_ok-answered.field-0 c.in-Broken.broken c.in_ok-answered.ensures c.in-Broken.is) c.deref.ensures.value refl)
-    (merged_same c.deref-in-Broken.result.now c.deref-in-Broken-2.result.now c.loop-added.added.items c.in-Broken.broken.items c.in_ok-added-in-Broken.added.items c.in_ok-added-in-Broken.ensures
+    (round_breaks c.in_ok-question.question c.deref.result.now c.args.conflicts c.in_ok-answered.field-0 c.in-Broken.broken c.in_ok-answered.ensures
+    c.in-Broken.is) c.deref.ensures.value refl)
+    (merged_same c.deref-in-Broken.result.now c.deref-in-Broken-2.result.now c.loop-added.added.items c.in-Broken.broken.items
+    c.in_ok-added-in-Broken.added.items c.in_ok-added-in-Broken.ensures
     c.deref-in-Broken.ensures.value c.deref-in-Broken-2.ensures.value)

@@ -3,11 +3,13 @@ use Rattle.verdict.proofs.Merging.{begins, takes_first, takes_second, ends}
 use Rattle.verdict.proofs.deciding.with_further.Goals as goal
 
 pub loop-i-init : goal.loop-i-init
-loop-i-init c = begins c.args.added.now c.args.further.now c.requires.added c.requires.further c.requires.apart c.new-joined.result.items c.new-joined.ensures.items
+loop-i-init c = begins c.args.added.now c.args.further.now c.requires.added c.requires.further c.requires.apart c.new-joined.result.items
+    c.new-joined.ensures.items
 
 pub loop-i-preserved-then-comes_first : goal.loop-i-preserved-then-comes_first
 loop-i-preserved-then-comes_first c =
-    takes_first c.args.added.now c.args.further.now c.requires.added c.requires.further c.requires.apart c.loop-i.i c.loop-i.j c.loop-i.joined.items c.push.new.self.items
+    takes_first c.args.added.now c.args.further.now c.requires.added c.requires.further c.requires.apart c.loop-i.i c.loop-i.j c.loop-i.joined.items
+    c.push.new.self.items
     c.loop-i.invariant c.in_ok-push.ensures.items (c.comes_first.ensures.first c.if-comes_first.true)
 
 pub loop-i-smaller : goal.loop-i-smaller

@@ -4,7 +4,8 @@ use Rattle.verdict.proofs.Grounding.{is_above, is_within}
 use Rattle.verdict.proofs.measuring.measure.Goals as goal
 
 pub returns-then-price-budget : goal.returns-then-price-budget
-returns-then-price-budget c = is_above (budget_of c.args.budget.now) c.args.unrolled.now c.price-price.result c.price-price.ensures c.if-price.false c.if-price-budget.true
+returns-then-price-budget c = is_above (budget_of c.args.budget.now) c.args.unrolled.now c.price-price.result c.price-price.ensures c.if-price.false
+    c.if-price-budget.true
 
 pub returns : goal.returns
 returns c =

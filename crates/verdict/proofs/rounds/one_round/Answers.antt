@@ -12,14 +12,16 @@ pub judge_values-requires-clause-some : goal.judge_values-requires-clause-some
 judge_values-requires-clause-some c =
     some_memory c.args.added.now c.args.conflicts c.in_ok-celled.celled c.in_ok-clauses.clauses
     (layers c.args.question.now c.args.added.now c.in_ok-celled.celled c.in_ok-celled.ensures c.requires.added c.requires.tells) c.in_ok-clauses.ensures
-    c.deref.result.now (values_satisfy c.in_ok-clauses.clauses c.args.conflicts c.in_ok-values.field-0 c.in-Sat.values c.deref.result.now c.in_ok-values.ensures c.in-Sat.is c.deref.ensures.value)
+    c.deref.result.now (values_satisfy c.in_ok-clauses.clauses c.args.conflicts c.in_ok-values.field-0 c.in-Sat.values c.deref.result.now c.in_ok-values.ensures
+    c.in-Sat.is c.deref.ensures.value)
 
 pub returns-in-Sat : goal.returns-in-Sat
 returns-in-Sat c =
     of_question c.args.question.now c.args.added.now c.args.conflicts c.in_ok-celled.celled c.in_ok-judged-in-Sat.judged c.in_ok-celled.ensures
     (round_judged c.args.added.now c.args.conflicts c.in_ok-celled.celled c.in_ok-clauses.clauses
     (layers c.args.question.now c.args.added.now c.in_ok-celled.celled c.in_ok-celled.ensures c.requires.added c.requires.tells) c.in_ok-clauses.ensures
-    c.deref.result.now (values_satisfy c.in_ok-clauses.clauses c.args.conflicts c.in_ok-values.field-0 c.in-Sat.values c.deref.result.now c.in_ok-values.ensures c.in-Sat.is c.deref.ensures.value)
+    c.deref.result.now (values_satisfy c.in_ok-clauses.clauses c.args.conflicts c.in_ok-values.field-0 c.in-Sat.values c.deref.result.now c.in_ok-values.ensures
+    c.in-Sat.is c.deref.ensures.value)
     c.in_ok-judged-in-Sat.judged c.in_ok-judged-in-Sat.ensures)
 
 pub returns-in-Unsat : goal.returns-in-Unsat
@@ -32,8 +34,10 @@ returns-in-Unsat c =
 
 pub returns : goal.returns
 returns c p k layout g =
-    of_question c.args.question.now c.args.added.now c.args.conflicts c.in_ok-celled.celled (Answered (answer.Spent (record { clauses = c.in_ok-clauses.clauses; log = c.in-Spent.log })))
+    of_question c.args.question.now c.args.added.now c.args.conflicts c.in_ok-celled.celled
+    (Answered (answer.Spent (record { clauses = c.in_ok-clauses.clauses; log = c.in-Spent.log })))
     c.in_ok-celled.ensures
     (round_spent c.args.added.now c.args.conflicts c.in_ok-celled.celled c.in_ok-clauses.clauses
     (layers c.args.question.now c.args.added.now c.in_ok-celled.celled c.in_ok-celled.ensures c.requires.added c.requires.tells) c.in_ok-clauses.ensures
-    c.in-Spent.log (log_spends c.in_ok-clauses.clauses c.args.conflicts c.in_ok-values.field-0 c.in-Spent.log c.in_ok-values.ensures c.in-Spent.is)) p k layout g
+    c.in-Spent.log (log_spends c.in_ok-clauses.clauses c.args.conflicts c.in_ok-values.field-0 c.in-Spent.log c.in_ok-values.ensures c.in-Spent.is)) p k layout
+    g

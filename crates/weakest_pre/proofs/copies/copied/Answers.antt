@@ -11,11 +11,13 @@ loop-place-preserved c =
     let count = c.in_ok-marks.ensures.count in
     let within : place < length source = omega (arith, count, marks.ok.0, c.requires.root) in
     copying_more source c.args.dag.now c.loop-place.dag _ marks.items c.loop-place.copies.items _ place c.in_ok-term.term within c.loop-place.invariant
-    (subst (λ (l : List Bool). IsCopy source c.loop-place.dag c.kept.new.dag l place c.in_ok-term.term.0) c.deref.ensures.value c.in_ok-term.ensures) c.in_ok-push.ensures.items
+    (subst (λ (l : List Bool). IsCopy source c.loop-place.dag c.kept.new.dag l place c.in_ok-term.term.0) c.deref.ensures.value c.in_ok-term.ensures)
+    c.in_ok-push.ensures.items
 
 pub returns : goal.returns
 returns c =
     let marks = c.in_ok-marks.marks in
     let all : c.loop-place.place ≡ length marks.items = omega (arith, marks.ok.0) in
-    copying_done c.args.source.now c.args.dag.now c.loop-place.dag marks.items c.loop-place.copies.items c.args.root.0 c.loop-place.place c.index.result.now c.requires.root all
+    copying_done c.args.source.now c.args.dag.now c.loop-place.dag marks.items c.loop-place.copies.items c.args.root.0 c.loop-place.place c.index.result.now
+    c.requires.root all
     c.in_ok-marks.ensures c.loop-place.invariant c.index.ensures

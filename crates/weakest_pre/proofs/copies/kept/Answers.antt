@@ -16,12 +16,14 @@ moved-requires c =
 pub keep-requires : goal.keep-requires
 keep-requires c =
     subst (IsTypedOver c.args.dag.now) (sym c.moved.ensures)
-    (copy_typed c.args.source.now c.args.dag.now c.args.marks.now c.requires.reached.0 c.args.place c.args.copies.now _ c.requires.typed c.requires.reached.1 c.requires.place
+    (copy_typed c.args.source.now c.args.dag.now c.args.marks.now c.requires.reached.0 c.args.place c.args.copies.now _ c.requires.typed c.requires.reached.1
+    c.requires.place
     c.requires.within c.requires.count c.requires.copies c.if-marks-place.true c.node.ensures)
 
 pub returns-then-marks-place : goal.returns-then-marks-place
 returns-then-marks-place c =
-    copy_made c.args.source.now c.args.dag.now _ c.args.marks.now c.requires.reached.0 c.args.place c.args.copies.now _ _ _ c.requires.typed c.requires.reached.1
+    copy_made c.args.source.now c.args.dag.now _ c.args.marks.now c.requires.reached.0 c.args.place c.args.copies.now _ _ _ c.requires.typed
+    c.requires.reached.1
     c.requires.place c.requires.within c.requires.count c.requires.copies c.if-marks-place.true c.node.ensures c.moved.ensures c.in_ok-term.ensures
 
 pub returns : goal.returns

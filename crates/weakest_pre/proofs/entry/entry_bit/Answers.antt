@@ -41,7 +41,8 @@ returns c =
     let e = c.registers-first.ensures in
     let n = c.in_ok-names.ensures in
     entry_made (unrolled_of c.args.unrolled.now) _ _ _ _ _ _ _ _ _ _ _ _ _ _ (same_range _ _ _ _ e.first e.count) (sym c.flag_count.ensures) refl
-    (ap said c.deref.ensures.value ∙ said_is c.args.unrolled.now.notes.now.required.items) (omega (arith, h.0, e.first)) (omega (arith, h.1, e.first, e.count)) n
+    (ap said c.deref.ensures.value ∙ said_is c.args.unrolled.now.notes.now.required.items) (omega (arith, h.0, e.first))
+    (omega (arith, h.1, e.first, e.count)) n
     c.in_ok-pc.ensures
     (link_is c.in_ok-names.names _ c.index-link.result.now
     (let count = n.registers in omega (arith, h.0, h.1, e.first, e.count, count)) c.index-link.ensures) c.in_ok-aligned.ensures c.in_ok-bit.ensures

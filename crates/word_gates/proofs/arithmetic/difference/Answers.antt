@@ -15,6 +15,7 @@ returns-clause-value c = λ v h.
     let n = length c.args.a.now in
     let e : length c.args.b.now ≡ n = sym c.requires.same in
     let o = c.constant-one.ensures.value v (c.in_ok-sum.ensures.made.grows.keeps v h) in
-    let t : number v c.deref.result.now ≡ 2 ^ n - 1 - number v c.args.b.now = ap (number v) c.deref.ensures.value ∙ (c.in_ok-turned.ensures.value v ∙ ap (λ k. complement k (number v c.args.b.now)) e) in
+    let t : number v c.deref.result.now ≡ 2 ^ n - 1 - number v c.args.b.now = ap (number v) c.deref.ensures.value ∙ (c.in_ok-turned.ensures.value v ∙ ap
+    (λ k. complement k (number v c.args.b.now)) e) in
     let d : number v c.args.b.now < 2 ^ n = let f = number_below v c.args.b.now in rw e at f in
     difference_modulo (2 ^ n) _ _ _ _ _ _ (c.in_ok-sum.ensures.value v h) t (ap bit o) d l

@@ -16,7 +16,8 @@ rest-are : (c : goal.After-drop-row-in-loop-i) → c.in_ok-rest-2.rest.items ≡
 rest-are c = grind (arith, common_steps, rest_is)
 
 lowest-is : (c : goal.After-drop-row-in-loop-i) → c.push.new.self.items ≡ c.loop-i.low.items ++ get_or c.in_ok-sum.sum.bits.items 0 no_bit ∷ []
-lowest-is c = let e : c.index.result.now ≡ get_or c.in_ok-sum.sum.bits.items 0 no_bit = grind (arith, common_steps) in c.in_ok-push.ensures.items ∙ ap (λ x. c.loop-i.low.items ++ x ∷ []) e
+lowest-is c = let e : c.index.result.now ≡ get_or c.in_ok-sum.sum.bits.items 0 no_bit = grind (arith, common_steps) in c.in_ok-push.ensures.items ∙ ap
+    (λ x. c.loop-i.low.items ++ x ∷ []) e
 
 pub loop-i-init : goal.loop-i-init
 loop-i-init c =
@@ -58,7 +59,8 @@ loop-i-preserved c =
           let pk : 2 ^ i * 2 ^ (n - i) ≡ 2 ^ n = sym (ap (λ t. 2 ^ t) w ∙ pow-add 2 i (n - i)) in
           let f : number v c.args.a.now ≡ 2 ^ (n - i) * number v (drop (n - i) c.args.a.now) + number v (take (n - i) c.args.a.now) =
           number_split v c.args.a.now (n - i) (omega arith) ∙ omega arith in
-          let u : number v c.deref-in-loop-i.result.now ≡ cond (bit_value v x) (number v (take (n - i) c.args.a.now)) 0 = ap (number v) c.deref-in-loop-i.ensures.value ∙ p.value v k in
+          let u : number v c.deref-in-loop-i.result.now ≡ cond (bit_value v x) (number v (take (n - i) c.args.a.now)) 0 = ap
+          (number v) c.deref-in-loop-i.ensures.value ∙ p.value v k in
           let z : digit v c.constant-zero.result ≡ 0 = ap bit (c.constant-zero.ensures.value v (j.low.grows.keeps v g)) in
           let r : number v c.deref.result.now ≡ number v c.loop-i.rest.items = ap (number v) c.deref.ensures.value in
           let y = rw (dl, r) at (q.value v h) in

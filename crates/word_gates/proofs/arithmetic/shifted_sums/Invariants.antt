@@ -8,5 +8,6 @@ invariant-loop-i l = record {
   low : IsWord l.fn.circuit l.circuit (3 * (l.i * length l.a)) l.i l.low.items;
   rest_within : Within (next l.circuit) l.rest.items;
   rest_len : length l.rest.items + l.i ≡ length l.a;
-  value : (v : ℕ → Bool) → Holds v l.circuit → (q : ℕ) × (number v l.low.items + 2 ^ l.i * number v l.rest.items + 2 ^ length l.a * q ≡ number v l.a * number v (take l.i l.b));
+  value : (v : ℕ → Bool) → Holds v l.circuit → (q : ℕ) × (number v l.low.items + 2 ^ l.i * number v l.rest.items + 2 ^ length l.a * q
+      ≡ number v l.a * number v (take l.i l.b));
 }

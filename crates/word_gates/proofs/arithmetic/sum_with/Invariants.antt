@@ -7,5 +7,6 @@ abbrev pub invariant-loop-i : goal.invariant-loop-i
 invariant-loop-i l = record {
   made : IsWord l.fn.circuit l.circuit (2 * l.i) l.i l.bits.items;
   carry_within : variable_of l.carry < next l.circuit;
-  value : (v : ℕ → Bool) → Holds v l.circuit → number v l.bits.items + 2 ^ l.i * digit v l.carry ≡ number v (take l.i l.a) + number v (take l.i l.b) + digit v l.fn.carry;
+  value : (v : ℕ → Bool) → Holds v l.circuit → number v l.bits.items + 2 ^ l.i * digit v l.carry
+      ≡ number v (take l.i l.a) + number v (take l.i l.b) + digit v l.fn.carry;
 }

@@ -7,5 +7,6 @@ use Rattle.word_gates.proofs.bitwise.and.Given as goal
 abbrev pub invariant-loop-i : goal.invariant-loop-i
 invariant-loop-i l = record {
   made : IsWord l.fn.circuit l.circuit l.i l.i l.bits.items;
-  value : (v : ℕ → Bool) → Holds v l.circuit → number v l.bits.items + 2 ^ l.i * bit_and (number v (drop l.i l.a)) (number v (drop l.i l.b)) ≡ bit_and (number v l.a) (number v l.b);
+  value : (v : ℕ → Bool) → Holds v l.circuit → number v l.bits.items + 2 ^ l.i * bit_and (number v (drop l.i l.a)) (number v (drop l.i l.b))
+      ≡ bit_and (number v l.a) (number v l.b);
 }

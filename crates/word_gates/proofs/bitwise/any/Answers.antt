@@ -12,5 +12,6 @@ loop-i-preserved c =
     record {
       made = bit_then _ c.loop-i.invariant.made.grows q.made (omega arith);
       value = λ v h.
-          rw (number_more v c.args.a.now i (omega arith), any_place (2 ^ i) _ _ (pow_pos i)) (rw (c.loop-i.invariant.value v (q.made.grows.keeps v h)) at (q.value v h));
+          rw (number_more v c.args.a.now i (omega arith), any_place (2 ^ i) _ _ (pow_pos i))
+          (rw (c.loop-i.invariant.value v (q.made.grows.keeps v h)) at (q.value v h));
     }

@@ -18,7 +18,8 @@ loop-i-preserved c =
       made = rw c.in_ok-push.ensures.items (word_push _ c.loop-i.invariant.made q.made (omega arith));
       value = λ v h.
           rw c.in_ok-push.ensures.items
-          (xor_step v _ _ _ c.args.a.now c.args.b.now i c.loop-i.invariant.made.len (omega arith) (omega arith) (q.value v h) (c.loop-i.invariant.value v (q.made.grows.keeps v h)));
+          (xor_step v _ _ _ c.args.a.now c.args.b.now i c.loop-i.invariant.made.len (omega arith) (omega arith) (q.value v h)
+          (c.loop-i.invariant.value v (q.made.grows.keeps v h)));
     }
 
 pub returns-clause-value : goal.returns-clause-value

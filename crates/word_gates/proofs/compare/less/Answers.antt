@@ -11,6 +11,11 @@ loop-i-preserved c =
     record {
       made = bit_then _ c.loop-i.invariant.made.grows q.made (omega arith);
       value = λ v h.
-          rw (number_more v c.args.a.now i (omega arith), number_more v c.args.b.now i (omega arith), less_place (2 ^ i) _ _ _ _ (number_take_below v c.args.a.now i (omega arith)) (number_take_below v c.args.b.now i (omega arith)))
+          rw (
+            number_more v c.args.a.now i (omega arith),
+            number_more v c.args.b.now i (omega arith),
+            less_place (2 ^ i) _ _ _ _
+                (number_take_below v c.args.a.now i (omega arith)) (number_take_below v c.args.b.now i (omega arith)),
+          )
           (rw (c.negation.ensures.value v, c.loop-i.invariant.value v (q.made.grows.keeps v h)) at (q.value v h));
     }

@@ -16,7 +16,8 @@ loop-i-init c =
     record {
       quotient = record { grows = grows_none _ _; within = rw z within_none; len = ap length z };
       remainder = word_then _ n (grows_none _ 0) c.in_ok-remainder.ensures.made (omega arith) refl;
-      value = λ v h. rw (ap (number v) z) (no_quotient _ _ _ (let d : drop (n - 0) c.args.a.now ≡ [] = drop_all (n - 0) c.args.a.now (omega arith) in ap (number v) d) (c.in_ok-remainder.ensures.value v h ∙ zero_word n));
+      value = λ v h. rw (ap (number v) z) (no_quotient _ _ _ (let d : drop (n - 0) c.args.a.now
+          ≡ [] = drop_all (n - 0) c.args.a.now (omega arith) in ap (number v) d) (c.in_ok-remainder.ensures.value v h ∙ zero_word n));
     }
 
 pub reduce-requires : goal.reduce-requires
@@ -26,11 +27,20 @@ reduce-requires c =
     let x = get_or c.args.a.now (n - 1 - c.loop-i.i) no_bit in
     let i = c.loop-i.invariant in
     let r : c.deref.result.now ≡ x ∷ c.loop-i.remainder.items = c.deref.ensures.value ∙ c.in_ok-insert.ensures.items in
-    let t : c.deref-in-loop-i.result.now ≡ c.in_ok-turned.turned.items ++ c.constant.result ∷ [] = c.deref-in-loop-i.ensures.value ∙ c.in_ok-push.ensures.items in
+    let t : c.deref-in-loop-i.result.now ≡ c.in_ok-turned.turned.items ++ c.constant.result
+    ∷ [] = c.deref-in-loop-i.ensures.value ∙ c.in_ok-push.ensures.items in
     record {
       longer = rw r (omega arith);
-      same = rw (r, t) (omega (arith, length-append c.in_ok-turned.turned.items (c.constant.result ∷ []), i.remainder.len, c.in_ok-turned.ensures.len, c.requires.same));
-      remainder_within = rw r (within_cons m x i.remainder.within (omega arith) (let w : variable_of x < next c.args.circuit.now = c.requires.a_within.each (n - 1 - c.loop-i.i) no_bit (omega arith) in omega arith));
+      same = rw (r, t) (omega (
+        arith,
+        length-append c.in_ok-turned.turned.items (c.constant.result
+            ∷ []),
+        i.remainder.len,
+        c.in_ok-turned.ensures.len,
+        c.requires.same,
+      ));
+      remainder_within = rw r (within_cons m x i.remainder.within (omega arith) (let w : variable_of x
+          < next c.args.circuit.now = c.requires.a_within.each (n - 1 - c.loop-i.i) no_bit (omega arith) in omega arith));
       turned_within = rw t (within_push m _ (c.in_ok-turned.ensures.within _ c.requires.b_within) (omega arith) (omega (arith, c.constant.ensures.within)));
     }
 
@@ -42,7 +52,8 @@ loop-i-preserved c =
     let j = c.loop-i.invariant in
     let q = c.in_ok-sum.ensures in
     let r : c.deref.result.now ≡ x ∷ c.loop-i.remainder.items = c.deref.ensures.value ∙ c.in_ok-insert.ensures.items in
-    let t : c.deref-in-loop-i.result.now ≡ c.in_ok-turned.turned.items ++ c.constant.result ∷ [] = c.deref-in-loop-i.ensures.value ∙ c.in_ok-push.ensures.items in
+    let t : c.deref-in-loop-i.result.now ≡ c.in_ok-turned.turned.items ++ c.constant.result
+    ∷ [] = c.deref-in-loop-i.ensures.value ∙ c.in_ok-push.ensures.items in
     let l : length c.deref.result.now ≡ n + 1 = rw r (omega (arith, j.remainder.len)) in
     record {
       quotient = rw c.in_ok-insert-2.ensures.items (word_cons _ _ j.quotient q.made.grows q.carry_made (omega (arith, l)));
@@ -54,12 +65,14 @@ loop-i-preserved c =
           let p : length c.deref.result.now - 1 ≡ n = omega (arith, l) in
           let same : length c.args.b.now ≡ n = sym c.requires.same in
           let d : number v c.args.b.now < 2 ^ n = let f = number_below v c.args.b.now in rw same at f in
-          let y : number v c.in_ok-turned.turned.items ≡ 2 ^ n - 1 - number v c.args.b.now = c.in_ok-turned.ensures.value v ∙ ap (λ s. complement s (number v c.args.b.now)) same in
+          let y : number v c.in_ok-turned.turned.items ≡ 2 ^ n - 1 - number v c.args.b.now = c.in_ok-turned.ensures.value v ∙ ap
+          (λ s. complement s (number v c.args.b.now)) same in
           let m : number v c.deref-in-loop-i.result.now + number v c.args.b.now + 1 ≡ 2 * 2 ^ n =
           rw t (turned_number v _ _ _ n one (c.in_ok-turned.ensures.len ∙ same) (omega arith)) in
           let u = number_drop_below v c.args.a.now (n - (i + 1)) n (omega arith) refl in
           rw (b, c.in_ok-insert-2.ensures.items)
-          (division_step n _ _ _ _ _ _ _ i (bit_value v x) (bit_value v c.in_ok-sum.sum.carry) (rw p at (q.value v h)) m d (ap (number v) r) (digit_small (bit_value v x)) (rw b at u) (j.value v k));
+          (division_step n _ _ _ _ _ _ _ i (bit_value v x) (bit_value v c.in_ok-sum.sum.carry) (rw p at (q.value v h)) m d (ap (number v) r)
+          (digit_small (bit_value v x)) (rw b at u) (j.value v k));
     }
 
 pub returns-clause-value : goal.returns-clause-value

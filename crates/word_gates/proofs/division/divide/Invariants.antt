@@ -7,5 +7,6 @@ abbrev pub invariant-loop-i : goal.invariant-loop-i
 invariant-loop-i l = record {
   quotient : IsWord l.fn.circuit l.circuit (l.i * (3 * length l.a + 2)) l.i l.quotient.items;
   remainder : IsWord l.fn.circuit l.circuit (l.i * (3 * length l.a + 2)) (length l.a) l.remainder.items;
-  value : (v : ℕ → Bool) → Holds v l.circuit → IsQuotient (number v (drop (length l.a - l.i) l.a)) (number v l.b) l.i (number v l.quotient.items) (number v l.remainder.items);
+  value : (v : ℕ → Bool) → Holds v l.circuit → IsQuotient (number v (drop (length l.a - l.i) l.a)) (number v l.b) l.i (number v l.quotient.items)
+      (number v l.remainder.items);
 }

@@ -31,13 +31,15 @@ returns-clause-value c = λ v h.
     let ma : number v c.deref.result.now ≡ magnitude n a =
     ap (number v) c.deref.ensures.value ∙ (c.in_ok-a_size.ensures.value v k6 ∙ (ap (λ x. with_sign n x a) sa ∙ magnitude_is n a ab)) in
     let mb : number v c.deref-2.result.now ≡ magnitude n b =
-    ap (number v) c.deref-2.ensures.value ∙ (c.in_ok-b_size.ensures.value v k5 ∙ (ap (λ m. with_sign m (bit_value v top) b) lb ∙ (ap (λ x. with_sign n x b) sb ∙ magnitude_is n b bb))) in
+    ap (number v) c.deref-2.ensures.value ∙ (c.in_ok-b_size.ensures.value v k5 ∙ (ap
+    (λ m. with_sign m (bit_value v top) b) lb ∙ (ap (λ x. with_sign n x b) sb ∙ magnitude_is n b bb))) in
     let ln : length c.deref.result.now ≡ n = ap length c.deref.ensures.value ∙ c.in_ok-a_size.ensures.made.len in
     let q = number v c.in_ok-sizes.sizes.quotient.items in
     let ql : length c.in_ok-sizes.sizes.quotient.items ≡ n = c.in_ok-sizes.ensures.quotient.len ∙ ln in
     let qb : q < 2 ^ n = let f = number_below v c.in_ok-sizes.sizes.quotient.items in rw ql at f in
     let is = rw (ma, mb, ln) at (c.in_ok-sizes.ensures.value v k4) in
-    let d : bit_value v c.in_ok-minus.minus ≡ differ (is_negative n a) (is_negative n b) = c.in_ok-minus.ensures.value v k3 ∙ (ap (λ x. differ x (bit_value v top)) sa ∙ ap (λ x. differ (is_negative n a) x) sb) in
+    let d : bit_value v c.in_ok-minus.minus ≡ differ (is_negative n a) (is_negative n b) = c.in_ok-minus.ensures.value v k3 ∙ (ap
+    (λ x. differ x (bit_value v top)) sa ∙ ap (λ x. differ (is_negative n a) x) sb) in
     let l3 : length c.deref-3.result.now ≡ n = ap length c.deref-3.ensures.value ∙ ql in
     let q3 : number v c.deref-3.result.now ≡ q = ap (number v) c.deref-3.ensures.value in
     let y : number v c.deref-5.result.now ≡ with_sign n (differ (is_negative n a) (is_negative n b)) q =

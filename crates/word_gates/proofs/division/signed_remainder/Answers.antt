@@ -24,7 +24,8 @@ returns-clause-value c = λ v h.
     let ma : number v c.deref.result.now ≡ magnitude n a =
     ap (number v) c.deref.ensures.value ∙ (c.in_ok-a_size.ensures.value v k6 ∙ (ap (λ x. with_sign n x a) sa ∙ magnitude_is n a ab)) in
     let mb : number v c.deref-2.result.now ≡ magnitude n b =
-    ap (number v) c.deref-2.ensures.value ∙ (c.in_ok-b_size.ensures.value v k5 ∙ (ap (λ m. with_sign m (bit_value v top) b) lb ∙ (ap (λ x. with_sign n x b) sb ∙ magnitude_is n b bb))) in
+    ap (number v) c.deref-2.ensures.value ∙ (c.in_ok-b_size.ensures.value v k5 ∙ (ap
+    (λ m. with_sign m (bit_value v top) b) lb ∙ (ap (λ x. with_sign n x b) sb ∙ magnitude_is n b bb))) in
     let ln : length c.deref.result.now ≡ n = ap length c.deref.ensures.value ∙ c.in_ok-a_size.ensures.made.len in
     let m = number v c.in_ok-sizes.sizes.remainder.items in
     let is = rw (ma, mb, ln) at (c.in_ok-sizes.ensures.value v k4) in

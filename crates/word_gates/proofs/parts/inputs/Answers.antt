@@ -8,5 +8,11 @@ loop-i-preserved c =
     let i = c.loop-i.i in
     record {
       made = rw c.in_ok-push.ensures.items (word_has _ c.loop-i.invariant.made c.input.ensures.within);
-      value = λ v. rw (c.in_ok-push.ensures.items, number_push_at v _ _ i c.loop-i.invariant.made.len, input_more v c.args.first i, c.loop-i.invariant.value v, c.input.ensures.value v) refl;
+      value = λ v. rw (
+        c.in_ok-push.ensures.items,
+        number_push_at v _ _ i c.loop-i.invariant.made.len,
+        input_more v c.args.first i,
+        c.loop-i.invariant.value v,
+        c.input.ensures.value v,
+      ) refl;
     }

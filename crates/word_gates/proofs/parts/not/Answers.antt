@@ -9,9 +9,17 @@ loop-i-preserved c =
     let i = c.loop-i.i in
     record {
       len = rw c.in_ok-push.ensures.items (length-append _ _ ∙ ap (λ k. k + 1) c.loop-i.invariant.len);
-      within = λ n w. rw c.in_ok-push.ensures.items (within_push n _ (c.loop-i.invariant.within n w) (omega arith) (rw c.negation.ensures.variable (w.each i no_bit (omega arith))));
+      within = λ n w. rw c.in_ok-push.ensures.items (within_push n _ (c.loop-i.invariant.within n w) (omega arith)
+          (rw c.negation.ensures.variable (w.each i no_bit (omega arith))));
       value = λ v.
-          rw (c.in_ok-push.ensures.items, number_more v c.args.a.now i (omega arith), number_push_at v _ _ i c.loop-i.invariant.len, c.negation.ensures.value v, pow_more i)
+          rw (
+            c.in_ok-push.ensures.items,
+            number_more v c.args.a.now i
+                (omega arith),
+            number_push_at v _ _ i c.loop-i.invariant.len,
+            c.negation.ensures.value v,
+            pow_more i,
+          )
           (not_place (2 ^ i) _ _ _ (c.loop-i.invariant.value v));
     }
 

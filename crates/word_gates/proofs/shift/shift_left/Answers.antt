@@ -30,7 +30,8 @@ loop-j-preserved c =
     let w = c.loop-j.word.items in
     let k = c.min-places.result in
     let z = c.constant-zero.result in
-    let m : c.deref-in-loop-j.result.now ≡ replicate k z ++ take (length w - k) w = c.deref-in-loop-j.ensures.value ∙ (c.in_ok-moved.ensures ∙ ap (λ u. replicate k z ++ take (length u - k) u) c.deref.ensures.value) in
+    let m : c.deref-in-loop-j.result.now ≡ replicate k z ++ take (length w - k) w = c.deref-in-loop-j.ensures.value ∙ (c.in_ok-moved.ensures ∙ ap
+    (λ u. replicate k z ++ take (length u - k) u) c.deref.ensures.value) in
     let d : c.deref-in-loop-j-2.result.now ≡ w = c.deref-in-loop-j-2.ensures.value in
     let o : 1 * 2 ^ j % 2 ^ 64 ≡ 2 ^ j = one_shl j 64 (omega arith) in
     let l : length w ≡ n = c.loop-j.invariant.made.len in
@@ -40,8 +41,10 @@ loop-j-preserved c =
       made = word_then _ n c.loop-j.invariant.made.grows q.made (omega (arith, y)) y;
       value = λ v h.
           let g = c.loop-j.invariant.made.grows.keeps v (q.made.grows.keeps v h) in
-          let e : number v c.deref-in-loop-j.result.now ≡ (number v c.deref-in-loop-j-2.result.now * 2 ^ (2 ^ j)) % 2 ^ length w = rw (m, d) (left_value v w (2 ^ j) _ _ (c.constant-zero.ensures.value v g) s) in
-          let f : number v c.deref-in-loop-j-2.result.now ≡ (number v c.args.a.now * 2 ^ number v (take j c.args.s.now)) % 2 ^ n = rw d (c.loop-j.invariant.value v (q.made.grows.keeps v h)) in
+          let e : number v c.deref-in-loop-j.result.now ≡ (number v c.deref-in-loop-j-2.result.now * 2 ^ (2 ^ j)) % 2 ^ length w = rw (m, d)
+          (left_value v w (2 ^ j) _ _ (c.constant-zero.ensures.value v g) s) in
+          let f : number v c.deref-in-loop-j-2.result.now ≡ (number v c.args.a.now * 2 ^ number v (take j c.args.s.now)) % 2 ^ n = rw d
+          (c.loop-j.invariant.value v (q.made.grows.keeps v h)) in
           rw (number_more v c.args.s.now j (omega arith), q.value v h)
           (left_place (number v c.args.a.now) _ (2 ^ j) (2 ^ n) _ _ _ f (rw l at e));
     }
@@ -54,7 +57,8 @@ returns-clause-made c =
     let r = ap length (rest_is c.args.s.now c.min-stages.result) in
     let f = c.in_ok-far.ensures.made in
     let w = c.in_ok-word-3.ensures.made in
-    word_then _ n (grows_then (6 * n + length c.args.s.now) c.loop-j.invariant.made.grows f.grows (omega (arith, r, length-drop c.min-stages.result c.args.s.now))) w (omega arith) l
+    word_then _ n (grows_then (6 * n + length c.args.s.now) c.loop-j.invariant.made.grows f.grows
+    (omega (arith, r, length-drop c.min-stages.result c.args.s.now))) w (omega arith) l
 
 pub returns-clause-value : goal.returns-clause-value
 returns-clause-value c = λ v h.

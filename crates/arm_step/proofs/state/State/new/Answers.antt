@@ -7,5 +7,6 @@ use Rattle.arm_step.proofs.state.State.new.Goals as goal
 
 pub returns-clause-state : goal.returns-clause-state
 returns-clause-state c =
-    let made : List ℕ → (ℕ → ℕ) → State = λ words flags. record { pc = c.args.pc; regs = registers_of words; flags = flags; mem = memory_of c.args.memory.entries } in
+    let made : List ℕ → (ℕ → ℕ) → State = λ words flags. record
+    { pc = c.args.pc; regs = registers_of words; flags = flags; mem = memory_of c.args.memory.entries } in
     ap (λ words. made words (flags_of c.of-2.result)) c.of.ensures ∙ ap (made c.args.registers.now) c.of-2.ensures

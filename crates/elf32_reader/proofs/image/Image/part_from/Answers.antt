@@ -6,4 +6,5 @@ use Rattle.elf32_reader.proofs.image.Image.part_from.Goals as goal
 
 pub returns : goal.returns
 returns c =
-    subst (λ (file : List ℕ). MatchOption c.first_part.result ((x : ℕ) → c.args.a ≤ x → loaded file x ≡ None) (IsFirstPart file c.args.a)) c.self.view_is c.first_part.ensures
+    subst (λ (file : List ℕ). MatchOption c.first_part.result ((x : ℕ) → c.args.a ≤ x →
+    loaded file x ≡ None) (IsFirstPart file c.args.a)) c.self.view_is c.first_part.ensures

@@ -22,7 +22,8 @@ loop-i-preserved c =
           rw (c.in_ok-push_gate.ensures.value v, c.loop-i.invariant.value v)
           (holds_more v c.self.inside.inputs gs i _ _ _ (omega arith) (c.new-in-loop-i.ensures.value v));
       over = c.in_ok-push_gate.ensures.over _ (omega arith)
-          (gate_at (c.self.inside.inputs + 1) _ gs i _ (rw c.as_slice-gates.ensures.value c.self.invariant.0) (omega arith) (omega arith)) c.loop-i.invariant.over;
+          (gate_at (c.self.inside.inputs + 1) _ gs i _ (rw c.as_slice-gates.ensures.value c.self.invariant.0) (omega arith)
+          (omega arith)) c.loop-i.invariant.over;
     }
 
 pub returns : goal.returns

@@ -20,4 +20,5 @@ returns-clause-made c = rw (c.in_ok-push.ensures.items, ← c.self.view_is) (pus
 pub returns-clause-value : goal.returns-clause-value
 returns-clause-value c =
     rw c.in_ok-push.ensures.items
-    (λ v h. let e : c.self.inside.inputs + 1 + c.len.result ≡ c.self.inside.inputs + 1 + length c.self.inside.gates.items = omega arith in c.new-2.ensures.value v ∙ (ap (λ k. v (suc k)) e ∙ push_value v _ _ _ h))
+    (λ v h. let e : c.self.inside.inputs + 1 + c.len.result ≡ c.self.inside.inputs + 1 + length c.self.inside.gates.items = omega arith
+    in c.new-2.ensures.value v ∙ (ap (λ k. v (suc k)) e ∙ push_value v _ _ _ h))

@@ -39,26 +39,31 @@ loop-q-preserved c =
           let n = w.step.new.self in
           let z = w.index.result.now in
           let ez : z ≡ piece_at ps q = w.index.ensures ∙ any_default ps q _ Entry l in
-          let items : c.push.new.self.items ≡ c.loop-q.chain.items ++ w.in_ok-byte.byte ∷ [] = c.in_ok-push.ensures.items ∙ ap (λ b. c.loop-q.chain.items ++ b ∷ []) w.byte-is in
+          let items : c.push.new.self.items ≡ c.loop-q.chain.items ++ w.in_ok-byte.byte
+          ∷ [] = c.in_ok-push.ensures.items ∙ ap (λ b. c.loop-q.chain.items ++ b ∷ []) w.byte-is in
           record {
             grown = subst (λ (s : Build). Grown a s (sum_by piece_gates (take (q + 1) ps)) (sum_by piece_reads (take (q + 1) ps))) (sym w.self-is)
-                (grown_more a n _ _ _ _ (omega (arith, sg, ap piece_gates ez)) (omega (arith, sr, ap piece_reads ez)) (grown_on a c.loop-q.self n _ _ _ _ h.grown e.grown));
+                (grown_more a n _ _ _ _ (omega (arith, sg, ap piece_gates ez)) (omega (arith, sr, ap piece_reads ez))
+                (grown_on a c.loop-q.self n _ _ _ _ h.grown e.grown));
             count = omega (arith, h.count, ap length items, longer c.loop-q.chain.items w.in_ok-byte.byte);
             links = subst (λ (s : Build). AreLinks a s m.stored.items ps c.args.marks.now c.args.address.0 (q + 1) c.push.new.self.items) (sym w.self-is)
                 (subst (AreLinks a n m.stored.items ps c.args.marks.now c.args.address.0 (q + 1)) (sym items)
-                (marked_next a c.loop-q.self n _ _ _ _ m.stored.items w.deref.result.now ps c.args.marks.now c.args.at c.args.address.0 q c.loop-q.chain.items w.deref-then-marks-q.result.now z w.in_ok-byte.byte
+                (marked_next a c.loop-q.self n _ _ _ _ m.stored.items w.deref.result.now ps c.args.marks.now c.args.at c.args.address.0 q c.loop-q.chain.items
+                w.deref-then-marks-q.result.now z w.in_ok-byte.byte
                 c.requires.built c.requires.pieces l c.requires.closed (omega arith) w.if-marks-q.true c.requires.split c.requires.address w.deref.ensures.value
                 w.deref-then-marks-q.ensures.value ez h.count h.grown h.links e.grown e.byte));
           })
       | else-marks-q w ↦ (
-          let items : c.push.new.self.items ≡ c.loop-q.chain.items ++ c.args.address ∷ [] = c.in_ok-push.ensures.items ∙ ap (λ b. c.loop-q.chain.items ++ b ∷ []) w.byte-is in
+          let items : c.push.new.self.items ≡ c.loop-q.chain.items ++ c.args.address
+          ∷ [] = c.in_ok-push.ensures.items ∙ ap (λ b. c.loop-q.chain.items ++ b ∷ []) w.byte-is in
           record {
             grown = subst (λ (s : Build). Grown a s (sum_by piece_gates (take (q + 1) ps)) (sum_by piece_reads (take (q + 1) ps))) (sym w.self-is)
                 (grown_more a c.loop-q.self _ _ _ _ (omega (arith, sg)) (omega (arith, sr)) h.grown);
             count = omega (arith, h.count, ap length items, longer c.loop-q.chain.items c.args.address);
             links = subst (λ (s : Build). AreLinks a s m.stored.items ps c.args.marks.now c.args.address.0 (q + 1) c.push.new.self.items) (sym w.self-is)
                 (subst (AreLinks a c.loop-q.self m.stored.items ps c.args.marks.now c.args.address.0 (q + 1)) (sym items)
-                (unmarked_next a c.loop-q.self m.stored.items ps c.args.marks.now c.args.address.0 q c.loop-q.chain.items c.args.address w.if-marks-q.false h.count h.links));
+                (unmarked_next a c.loop-q.self m.stored.items ps c.args.marks.now c.args.address.0 q c.loop-q.chain.items c.args.address w.if-marks-q.false
+                h.count h.links));
           })
     ]
 
@@ -66,4 +71,5 @@ pub returns-clause-grown : goal.returns-clause-grown
 returns-clause-grown c =
     let h = c.loop-q.invariant in
     let m = c.args.memories.now in
-    grown_more c.args.self.now c.loop-q.self _ _ _ _ (sum_by-take-le piece_gates m.pieces.items c.loop-q.q) (one_read c.args.self.now.dag m.stored.items m.pieces.items c.loop-q.q c.requires.pieces (omega arith)) h.grown
+    grown_more c.args.self.now c.loop-q.self _ _ _ _ (sum_by-take-le piece_gates m.pieces.items c.loop-q.q)
+    (one_read c.args.self.now.dag m.stored.items m.pieces.items c.loop-q.q c.requires.pieces (omega arith)) h.grown

@@ -8,5 +8,6 @@ abbrev pub invariant-loop-q : goal.invariant-loop-q
 invariant-loop-q l = record {
   grown : Grown l.fn.self l.self (sum_by piece_gates (take l.q l.memories.pieces.items)) (sum_by piece_reads (take l.q l.memories.pieces.items));
   count : length l.chain.items ≡ l.q;
-  links : (p : ℕ) → p < l.q → bool_at l.marks p ≡ true → IsByteOf l.fn.self l.self l.memories.stored.items l.memories.pieces.items p l.address.0 (link l.chain.items p);
+  links : (p : ℕ) → p < l.q → bool_at l.marks p ≡ true → IsByteOf l.fn.self l.self l.memories.stored.items l.memories.pieces.items p l.address.0
+      (link l.chain.items p);
 }

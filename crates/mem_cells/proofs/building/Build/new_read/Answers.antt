@@ -10,12 +10,14 @@ pub returns-clause-grown : goal.returns-clause-grown
 returns-clause-grown c =
     let m = c.in_ok-byte.ensures in
     let ps = read_places c.args.self.now in
-    let e : map (λ t. t.0) c.push.new.self.items ≡ ps ++ c.args.address.0 ∷ [] = ap (map (λ t. t.0)) c.in_ok-push.ensures.items ∙ mapped c.args.self.now.addresses.items c.args.address in
+    let e : map (λ t. t.0) c.push.new.self.items ≡ ps ++ c.args.address.0
+    ∷ [] = ap (map (λ t. t.0)) c.in_ok-push.ensures.items ∙ mapped c.args.self.now.addresses.items c.args.address in
     let l : c.len-read.result ≡ length ps = omega (arith, mapped_length c.args.self.now.addresses.items) in
     record {
       question = refl;
       built = subst (Cellular _ c.keep.new.self) (sym e)
-          (read_cellular _ _ _ ps c.args.address.0 _ c.requires.built (subst (λ (k : ℕ). IsInterned c.args.self.now.dag c.keep.new.self (BaseNode k) c.in_ok-byte.byte.0) l m) c.requires.address);
+          (read_cellular _ _ _ ps c.args.address.0 _ c.requires.built (subst
+          (λ (k : ℕ). IsInterned c.args.self.now.dag c.keep.new.self (BaseNode k) c.in_ok-byte.byte.0) l m) c.requires.address);
       extends = m.extends;
       more = (c.args.address.0 ∷ [], e);
       gates = m.cost.gates;
@@ -26,9 +28,11 @@ pub returns-clause-byte : goal.returns-clause-byte
 returns-clause-byte c =
     let m = c.in_ok-byte.ensures in
     let ps = read_places c.args.self.now in
-    let e : map (λ t. t.0) c.push.new.self.items ≡ ps ++ c.args.address.0 ∷ [] = ap (map (λ t. t.0)) c.in_ok-push.ensures.items ∙ mapped c.args.self.now.addresses.items c.args.address in
+    let e : map (λ t. t.0) c.push.new.self.items ≡ ps ++ c.args.address.0
+    ∷ [] = ap (map (λ t. t.0)) c.in_ok-push.ensures.items ∙ mapped c.args.self.now.addresses.items c.args.address in
     let l : c.len-read.result ≡ length ps = omega (arith, mapped_length c.args.self.now.addresses.items) in
     record {
       place = (m.within, ap width_of m.stored);
-      value = λ x i g. ap (λ z. z.word) (m.value x) ∙ ap x.base l ∙ new_gives x c.args.self.now.dag c.keep.new.self ps c.args.address.0 _ e m.extends c.requires.address.0 g;
+      value = λ x i g. ap (λ z. z.word) (m.value x) ∙ ap x.base l ∙ new_gives x c.args.self.now.dag c.keep.new.self ps c.args.address.0 _ e m.extends
+          c.requires.address.0 g;
     }

@@ -11,6 +11,7 @@ loop-k-preserved c =
     let m = c.loop-k.self in
     let b = c.put_over.new.self in
     record {
-      grown = grown_more a b (40 * c.loop-k.k + 40) 0 (40 * (c.loop-k.k + 1)) 0 (omega arith) (omega arith) (grown_on a m b (40 * c.loop-k.k) 0 40 0 h.grown e.grown);
+      grown = grown_more a b (40 * c.loop-k.k + 40) 0 (40 * (c.loop-k.k + 1)) 0 (omega arith) (omega arith)
+          (grown_on a m b (40 * c.loop-k.k) 0 40 0 h.grown e.grown);
       byte = put_next a m b _ _ c.args.bytes c.loop-k.k (40 * c.loop-k.k) 0 _ _ _ _ h.grown c.requires.bytes (omega arith) c.requires.address h.byte e.byte;
     }

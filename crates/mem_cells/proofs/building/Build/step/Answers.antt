@@ -12,4 +12,5 @@ returns-then-is_apart-clause-byte c =
     let p = rw c.in-Store.is at c.requires.piece in
     let l = rw c.in-Store.is at c.requires.links in
     rw c.in-Store.is
-    (apart_byte _ _ _ _ _ _ _ _ c.requires.built p.1 c.requires.split (sym c.is_apart.ensures ∙ c.if-is_apart.true) (l (sym c.is_within.ensures ∙ c.if-is_within.false)))
+    (apart_byte _ _ _ _ _ _ _ _ c.requires.built p.1 c.requires.split (sym c.is_apart.ensures ∙ c.if-is_apart.true)
+    (l (sym c.is_within.ensures ∙ c.if-is_within.false)))

@@ -42,7 +42,8 @@ returns c =
     let slots = c.in_ok-slots.ensures.items_if_clones_equal (λ y h. h) in
     let size = sym c.in_ok-slots.slots.ok.0 ∙ c.in_ok-slots.ensures.len in
     let names = c.in_ok-names.names.items in
-    let fits : (x : ℕ) → x ≤ c.args.cnf.now.variables → Contains (variables_in cs ++ variables_added (lines_of c.args.log.now)) x → place_of names x < length c.in_ok-slots.slots.items
+    let fits : (x : ℕ) → x ≤ c.args.cnf.now.variables → Contains (variables_in cs ++ variables_added (lines_of c.args.log.now)) x →
+    place_of names x < length c.in_ok-slots.slots.items
     = λ x le h. let w = c.in_ok-names.ensures.enough x le h in omega (arith, w, size) in
     let room = (rw c.in_ok-room.ensures.ok_part at c.checked_add.ensures).1 in
     let len : length cs ≡ vec_len c.args.cnf.now.clauses = rw c.deref-clause-items.ensures.value at c.deref-clause-items.ensures.len in
@@ -52,9 +53,11 @@ returns c =
         named = c.in_ok-names.ensures.rising;
         rising = inv.rising;
         highest = λ i. let h = inv.highest i in omega (arith, len, end, c.len-3.ensures);
-        within = λ i d h. start-within c.args.cnf.now.variables (length c.in_ok-slots.slots.items) names cs (lines_of c.args.log.now) fits c.requires i d (sym (here i) ∙ h);
+        within = λ i d h. start-within c.args.cnf.now.variables (length c.in_ok-slots.slots.items) names cs (lines_of c.args.log.now) fits c.requires i d
+            (sym (here i) ∙ h);
       };
-      known = ap (λ n. known n (look_up c.loop-i.entries.items) false) (c.len-3.ensures ∙ sym len) ∙ ap (λ (p : Present). known (length cs) p false) (fun_ext (look_up c.loop-i.entries.items) (at_start cs) here);
+      known = ap (λ n. known n (look_up c.loop-i.entries.items) false) (c.len-3.ensures ∙ sym len) ∙ ap
+          (λ (p : Present). known (length cs) p false) (fun_ext (look_up c.loop-i.entries.items) (at_start cs) here);
       slots = rw slots (unset-up c.in_ok-names.size);
       ready = start-ready c.args.cnf.now.variables (length c.in_ok-slots.slots.items) names cs (lines_of c.args.log.now) fits;
       room = omega (arith, room, inv.len, inv.room, len, end, past, c.len.ensures, c.len-2.ensures, length-lines c.args.log.now, c.args.log.now.lines.ok.0);

@@ -20,4 +20,5 @@ returns-clause-state c =
 pub invariant_of-self-clause-bytes_in_range : goal.invariant_of-self-clause-bytes_in_range
 invariant_of-self-clause-bytes_in_range c = λ x.
     let old = c.args.self.now.memory.entries in
-    subst (λ (m : Memory). m x < 256) (sym c.store_reserved.ensures.memory) (stored_below Little c.args.n (memory_of old) c.args.a c.low-low.result.bits x (c.args.self.now.bytes_in_range x))
+    subst (λ (m : Memory). m x < 256) (sym c.store_reserved.ensures.memory)
+    (stored_below Little c.args.n (memory_of old) c.args.a c.low-low.result.bits x (c.args.self.now.bytes_in_range x))

@@ -24,7 +24,8 @@ returns-in_ok-add-in-Some-clause-sound c =
     record {
       ready = rw (c.in_ok-push.ensures.items, e.owners, e.watched, place)
           (ready-wide p.clauses.items c.args.clause p.watches.heads.items p.watches.links.items p.watches.owners.items p.short.items p.watches.watched.items
-          (length p.trail.table.items) s.ready c.requires.over c.in-Some.pair.0 c.in-Some.pair.1 (rw c.lits.ensures at t.first) (rw c.lits.ensures at t.second) t.apart
+          (length p.trail.table.items) s.ready c.requires.over c.in-Some.pair.0 c.in-Some.pair.1 (rw c.lits.ensures at t.first)
+          (rw c.lits.ensures at t.second) t.apart
           c.add.new.self.heads.items c.add.new.self.links.items e.heads (rw e.watched at e.linked));
       trail = s.trail;
     }

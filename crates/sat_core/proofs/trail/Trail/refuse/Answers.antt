@@ -54,6 +54,7 @@ loop-lit-preserved c =
       grows = λ m p. v m ∙ or_right (same (opposite x) m) (h m) (inv.grows m p);
       denied = λ m p. elim (has-taken c.args.clause.now c.loop-lit.lit-index x c.loop-lit-test.true c.lit-item.is m p) [
         | inl e ↦ v (opposite m) ∙ or_right (same (opposite x) (opposite m)) (h (opposite m)) (inv.denied m e)
-        | inr e ↦ ap (λ (z : Literal). k (opposite z)) (sym e) ∙ v (opposite x) ∙ or_left (same (opposite x) (opposite x)) (h (opposite x)) (same-self (opposite x))
+        | inr e ↦ ap (λ (z : Literal). k (opposite z)) (sym e) ∙ v (opposite x) ∙ or_left (same (opposite x) (opposite x)) (h (opposite x))
+            (same-self (opposite x))
       ];
     }

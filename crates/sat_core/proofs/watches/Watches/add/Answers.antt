@@ -15,5 +15,15 @@ returns-clause-linked c =
     omega arith) in
     let first = c.link.ensures in
     let second = c.link-2.ensures in
-    rw (second.heads, second.links, second.watched, first.heads, first.links, first.watched, c.in_ok-extend_from_slice.ensures.items, c.in_ok-extend_from_slice-2.ensures.items)
-    (two-more w.heads.items w.links.items w.watched.items c.requires.linked c.args.first c.args.second c.len-watch.result n few c.requires.first c.requires.second)
+    rw (
+      second.heads,
+      second.links,
+      second.watched,
+      first.heads,
+      first.links,
+      first.watched,
+      c.in_ok-extend_from_slice.ensures.items,
+      c.in_ok-extend_from_slice-2.ensures.items,
+    )
+    (two-more w.heads.items w.links.items w.watched.items c.requires.linked c.args.first c.args.second c.len-watch.result n few c.requires.first
+    c.requires.second)

@@ -9,8 +9,11 @@ returns-in_ok-term-in-New c =
 
 pub returns-in_ok-term-in-Onto : goal.returns-in_ok-term-in-Onto
 returns-in_ok-term-in-Onto c =
-    made_by_onto _ _ _ _ _ c.in-Onto.op _ _ c.in-Onto.left _ _ (ap nodes_of c.as_slice.ensures.keys ∙ c.self.view_is) c.in-Onto.ensures c.in_ok-right-in-Onto.ensures c.in_ok-term-in-Onto.ensures
+    made_by_onto _ _ _ _ _ c.in-Onto.op _ _ c.in-Onto.left _ _
+    (ap nodes_of c.as_slice.ensures.keys ∙ c.self.view_is) c.in-Onto.ensures c.in_ok-right-in-Onto.ensures c.in_ok-term-in-Onto.ensures
 
 pub returns-in_ok-term-in-Unless : goal.returns-in_ok-term-in-Unless
 returns-in_ok-term-in-Unless c =
-    made_by_unless _ _ _ _ _ c.in-Unless.bit c.in-Unless.other _ _ _ _ (ap nodes_of c.as_slice.ensures.keys ∙ c.self.view_is) c.in-Unless.ensures c.in_ok-negation-in-Unless.ensures c.by_place.ensures c.in_ok-term-in-Unless.ensures
+    made_by_unless _ _ _ _ _ c.in-Unless.bit c.in-Unless.other _ _ _ _
+    (ap nodes_of c.as_slice.ensures.keys ∙ c.self.view_is) c.in-Unless.ensures c.in_ok-negation-in-Unless.ensures c.by_place.ensures
+    c.in_ok-term-in-Unless.ensures
