@@ -7,7 +7,7 @@ ghost use Rattle.bilv_spec.specs.GraphText.{graph_line, IsGraphText};
 ghost use Rattle.graph_nodes.specs.Graphs.{has_flag, IsGraph, LiveStay};
 ghost use Rattle.graph_text.specs.NodeText.{known_words, words_of, node_line};
 
-use crate::words::{push_if, push_kept, push_successors, push_text};
+use crate::words::{push_if, push_kept, push_successors};
 use graph_nodes::{Graph, Node};
 use state_text::push_word;
 use std::alloc::{AllocError, Global};

@@ -6,16 +6,8 @@ ghost use Rattle.bilv_spec.specs.GraphText.{letter_text, successor_words, kept_n
 ghost use Rattle.graph_nodes.specs.Graphs.{letter_of, successor_of, has_flag};
 
 use graph_nodes::{Letter, Successor, has_flag};
-use state_text::push_word;
+use state_text::{push_text, push_word};
 use std::alloc::AllocError;
-
-/// Appends a text. What an `Err` leaves is open.
-pub(crate) fn push_text(out: &mut Vec<u8>, text: &[u8]) -> Result<(), AllocError>
-    ensures { OnOk result (out.new.items ≡ out.old.items ++ text.now) }
-{
-    out.extend_from_slice(text)?;
-    Ok(())
-}
 
 /// The text of a letter.
 fn letter_text(letter: Letter) -> &'static [u8]

@@ -1,3 +1,4 @@
 pub mod Reaches
 pub mod Counts
 pub mod Runs
+pub mod Ordered

@@ -4,16 +4,8 @@ ghost use Rattle.std.specs.Prelude.{◌≡◌, ◌++◌, ◌∷◌, length, OnOk
 ghost use Rattle.bilv_spec.specs.Texts.{word_text};
 ghost use Rattle.lift_text.specs.Found.{bytes_text};
 
-use state_text::push_word;
+use state_text::{push_text, push_word};
 use std::alloc::{AllocError, Global};
-
-/// Appends a text.
-pub(crate) fn push_text(out: &mut Vec<u8>, text: &[u8]) -> Result<(), AllocError>
-    ensures { OnOk result (out.new.items ≡ out.old.items ++ text.now) }
-{
-    out.extend_from_slice(text)?;
-    Ok(())
-}
 
 /// Appends two hexadecimal digits for each byte of a word.
 fn push_bytes(alloc: Global, out: &mut Vec<u8>, bytes: &[u8]) -> Result<(), AllocError>

@@ -8,7 +8,7 @@ ghost use Rattle.lift_text.specs.Rest.{rest_text};
 ghost use Rattle.lift_text.specs.Progress.{IsAppended, IsAdvance};
 
 use crate::candidates::{Candidate, END, look_at};
-use crate::lines::{push_text, push_word_line};
+use crate::lines::push_word_line;
 use crate::rows::Rows;
 use bil_ast::Stmt;
 use bil_print::append_stmts;

@@ -5,4 +5,4 @@ mod expressions;
 mod values;
 
 pub use expressions::{Expr, Operator, Size};
-pub use values::value;
+pub use values::{order, value};

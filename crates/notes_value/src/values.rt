@@ -19,7 +19,7 @@ fn truth(holds: bool) -> u32
 }
 
 /// The byte order of a test for the big one.
-fn order(big: bool) -> Endian
+pub fn order(big: bool) -> Endian
     ensures { endian_of result ≡ memory.endian big }
 {
     if big { Endian::Big } else { Endian::Little }

@@ -19,6 +19,7 @@ use Rattle.term_dag.specs.Made.{Grew, IsInterned}
 use Rattle.term_dag.proofs.Growth.{grew_on, grew_width, interned_grew, interned_inputs, interned_width}
 use Rattle.term_names.specs.declared.names.Names.{Names}
 use Rattle.term_names.specs.Chosen.{AreEntryNames, HaveSameTerms, IsOfForm, at_entry}
+use Rattle.term_names.proofs.OfForm.{named_of, reading_in_range}
 use Rattle.note_terms.proofs.Valued.{range_length}
 use Rattle.question_form.specs.declared.unrolled.Unrolled.{Unrolled}
 use Rattle.question_form.specs.Views.{unrolled_of}
@@ -30,46 +31,6 @@ use Rattle.passify.proofs.Joined.{copied_joined}
 use Rattle.passify.proofs.Kept.{names_keep, denotes_keep, tells_keep, word_keeps}
 use Rattle.passify.proofs.Rooms.{room_first}
 use Rattle.passify.proofs.Visited.{named_on, points_count, same_names}
-
--- a number within a range is of it
-of_range_by : (r first count : ℕ) (b : Bool) → nat_eq r first ≡ b → (b ≡ false → list_any (nat_eq r) (from_to (first + 1) count) ≡ true) →
-    (b || list_any (nat_eq r) (from_to (first + 1) count)) ≡ true
-of_range_by r first count true e h = refl
-of_range_by r first count false e h = h refl
-
-of_range : (r first count : ℕ) → first ≤ r → r < first + count → list_any (nat_eq r) (from_to first count) ≡ true
-of_range r first zero h k = absurd (omega arith)
-of_range r first (suc count) h k =
-    of_range_by r first count (nat_eq r first) refl
-    (λ e. elim (eqb_tells r first) [
-      | inl s ↦ absurd (true≢false (sym s.0 ∙ e))
-      | inr o ↦ let d = o.1
-          in of_range r (first + 1) count (omega arith) (omega arith)
-    ])
-
--- a register or a flag of the form is the program's
-named_of : (u : UnrolledProgram) (low regs flags : ℕ) (m : TermNode) → u.registers ≡ from_to low regs → u.flags ≡ flags → IsInput m →
-    IsOfForm low regs flags m →
-    IsNamedBelow u 0 m
-named_of u low regs flags (RegisterNode r) p q i h = subst (λ (l : List ℕ). list_any (nat_eq r) l ≡ true) (sym p) (of_range r low regs h.0 h.1)
-named_of u low regs flags (FlagNode f) p q i h = lt-ltb f u.flags (subst (λ (n : ℕ). f < n) (sym q) h)
-named_of u low regs flags (ChoiceNode c) p q i h = absurd h
-named_of u low regs flags (BaseNode j) p q i h = absurd h
-named_of u low regs flags MemoryNode p q i h = absurd h
-named_of u low regs flags (ConstantNode w v) p q i h = absurd h
-named_of u low regs flags (BinaryNode o w a b) p q i h = absurd h
-named_of u low regs flags (NotNode w a) p q i h = absurd h
-named_of u low regs flags (SelectNode w c a b) p q i h = absurd h
-named_of u low regs flags (ExtractNode hi lo a) p q i h = absurd h
-named_of u low regs flags (ConcatNode hi lo a b) p q i h = absurd h
-named_of u low regs flags (ExtendNode s n k a) p q i h = absurd h
-named_of u low regs flags (LoadNode n e k a) p q i h = absurd h
-named_of u low regs flags (StoreNode n e k a v) p q i h = absurd h
-named_of u low regs flags (JoinNode c a b) p q i h = absurd h
-
--- a reading is in range
-reading_in_range : (u : UnrolledProgram) (r : Reading) → IsReading r → InRange (term_reading u r)
-reading_in_range u r h = record { regs = h.state.regs; flags = h.state.flags; mem = h.state.mem; choice = λ i. h.choice _; base = λ j. omega arith }
 
 none_there : {X : Type 0} → (n i : ℕ) (m : X) → slice_get (replicate n None) i ≡ Some (Some m) → ⊥
 none_there zero i m e = cc

@@ -17,6 +17,7 @@ use Rattle.term_dag.specs.Made.{InputsFrom}
 use Rattle.term_dag.proofs.Growth.{grew_none}
 use Rattle.term_names.specs.declared.names.Names.{Names}
 use Rattle.term_names.specs.Views.{AreFor, form_of, names_of}
+use Rattle.term_names.proofs.OfForm.{named_all}
 use Rattle.question_form.specs.declared.unrolled.Unrolled.{Unrolled}
 use Rattle.question_form.specs.declared.unrolled.Point.{Point}
 use Rattle.question_form.specs.declared.questions.Passive.{Passive}
@@ -36,24 +37,6 @@ use Rattle.passify.proofs.Rooms.{room_on, room_past, all_gates, all_loads, all_s
 pub points_count : (u : Unrolled) (qs : List Point) → length (points_of u qs) ≡ length qs
 points_count u [] = refl
 points_count u (q ∷ qs) = ap suc (points_count u qs)
-
--- nodes that name inputs name nothing else
-named_all : (u : UnrolledProgram) (m : TermNode) → (IsInput m → IsNamedBelow u 0 m) → IsNamedBelow u 0 m
-named_all u (RegisterNode r) h = h tt
-named_all u (FlagNode f) h = h tt
-named_all u (ChoiceNode i) h = h tt
-named_all u (BaseNode j) h = h tt
-named_all u MemoryNode h = tt
-named_all u (ConstantNode w v) h = tt
-named_all u (BinaryNode o w a b) h = tt
-named_all u (NotNode w a) h = tt
-named_all u (SelectNode w c a b) h = tt
-named_all u (ExtractNode hi lo a) h = tt
-named_all u (ConcatNode hi lo a b) h = tt
-named_all u (ExtendNode s n k a) h = tt
-named_all u (LoadNode n e k a) h = tt
-named_all u (StoreNode n e k a v) h = tt
-named_all u (JoinNode c a b) h = tt
 
 -- inputs that were there, or are the program's
 pub named_on : (u : UnrolledProgram) (old new : List TermNode) (more : TermNode → Type 0) → ((m : TermNode) → IsInput m → more m → IsNamedBelow u 0 m) →

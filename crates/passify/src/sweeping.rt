@@ -12,7 +12,6 @@ use crate::bits::constant;
 use crate::point::handle;
 use crate::sweep::Sweep;
 use question_form::{Passive, Unrolled};
-use state_text::Layout;
 use std::alloc::{AllocError, Global};
 use std::mem::replace;
 use term_dag::{Dag, Node, Term};
@@ -20,17 +19,6 @@ use term_names::{Names, copied, entry_names};
 
 /// The greatest number of a place.
 const LAST: usize = 4_294_967_295;
-
-/// The number of the first register of a layout, and how many registers it has.
-fn registers(form: Layout) -> (u8, u8)
-    ensures first { result.0 ≡ (layout_of form).first }
-    ensures count { result.1 ≡ length (layout_of form).registers }
-{
-    match form {
-        Layout::Rv32 => (1, 31),
-        Layout::ArmLittle | Layout::ArmBig => (0, 15),
-    }
-}
 
 /// The bits of the places before any was handled: the first is met, and the others are not.
 fn bits_at_entry(
@@ -73,7 +61,7 @@ fn begin(alloc: Global, dag: &mut Dag, unrolled: &Unrolled) -> Result<Sweep, All
     requires walkable { IsWalkable (unrolled_of unrolled.now) }
     ensures { IfOk result (λ s. AreSwept unrolled.now 0 dag.new s) }
 {
-    let (first, count) = registers(unrolled.form);
+    let (first, count) = unrolled.form.registers();
     let entry = entry_names(alloc, dag, first, count, unrolled.form.flag_count())?;
     let pc = dag.keep(Node::Constant {
         width: 32,

@@ -12,7 +12,7 @@ ghost use Rattle.state_text.specs.Readings.{fault_of};
 ghost use Rattle.table_run.specs.Endings.{found_of};
 
 use crate::comparing::is_found;
-use state_text::{NamedEnding, StateFault, push_ending, push_step};
+use state_text::{NamedEnding, StateFault, push_ending, push_number, push_step};
 use std::alloc::{AllocError, Global};
 use table_run::Ending;
 
@@ -30,15 +30,6 @@ const REPLAYED: u8 = 0;
 
 /// The exit status of each other report.
 const REFUSED: u8 = 9;
-
-/// Appends a decimal number.
-fn push_number(alloc: Global, out: &mut Vec<u8>, n: u64) -> Result<(), AllocError>
-    ensures { OnOk result (out.new.items ≡ out.old.items ++ number_text n) }
-{
-    let text = n.to_string(alloc)?;
-    out.extend_from_slice(text.as_bytes())?;
-    Ok(())
-}
 
 /// The refusal with a text.
 fn refusal(alloc: Global, text: &[u8]) -> Result<Replay, AllocError>

@@ -7,14 +7,8 @@ ghost use Rattle.rv_decode.specs.Insns as insns;
 ghost use Rattle.rv_decode.specs.Insns.{row_of};
 
 use machine_law::{Cost, Succ};
-use rv_decode::{Insn, LoadOp, Register, RegisterOp, StoreOp};
-
-/// Whether a jump that sets this register is a call (section 2.5).
-fn is_link(rd: Register) -> bool
-    ensures { result ≡ links rd.number }
-{
-    rd.number() == 1 || rd.number() == 5
-}
+use rv_decode::{Insn, LoadOp, RegisterOp};
+use rv_step::{is_link, stored_bytes};
 
 /// Successors with a direct jump, which may not be made where `next`.
 fn direct(next: bool, to: u32, call: bool) -> Succ
@@ -81,17 +75,6 @@ fn loaded_bytes(op: LoadOp) -> u64
     }
 }
 
-/// How many bytes a store writes.
-fn stored_bytes(op: StoreOp) -> u64
-    ensures { result ≡ insns.stored_bytes op }
-{
-    match op {
-        StoreOp::Sb => 1,
-        StoreOp::Sh => 2,
-        StoreOp::Sw => 4,
-    }
-}
-
 /// A cost without stores.
 fn loading(row: u64, loads: u64) -> Cost
     ensures { cost_of result ≡ record { row = row; loads = loads; stores = 0 } }
@@ -129,7 +112,7 @@ pub(crate) fn cost(insn: &Insn) -> Cost
         Insn::Store { op, .. } => Cost {
             row: 1024,
             loads: 0,
-            stores: stored_bytes(op),
+            stores: stored_bytes(op) as u64,
         },
         Insn::Computation { op, .. } => computation_cost(op),
         _ => loading(1024, 0),

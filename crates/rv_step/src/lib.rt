@@ -7,4 +7,5 @@ mod steps;
 mod values;
 
 pub use state::State;
-pub use steps::{step, stored};
+pub use steps::{is_link, step, stored};
+pub use values::stored_bytes;

@@ -12,7 +12,7 @@ use byte_mem::{How, StepOut, View};
 use rv_decode::{Insn, Register};
 
 /// Whether a jump that sets this register is a call (section 2.5).
-fn is_link(rd: Register) -> bool
+pub fn is_link(rd: Register) -> bool
     ensures { result ≡ links rd.number }
 {
     rd.number() == 1 || rd.number() == 5

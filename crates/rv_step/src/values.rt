@@ -120,7 +120,7 @@ pub(crate) fn loaded(op: LoadOp, memory: &Bytes32, a: u32) -> u32
 }
 
 /// How many bytes a store writes.
-pub(crate) fn stored_bytes(op: StoreOp) -> u8
+pub fn stored_bytes(op: StoreOp) -> u8
     ensures { result ≡ insns.stored_bytes op }
 {
     match op {

@@ -58,6 +58,17 @@ impl Layout {
         }
     }
 
+    /// The number of the text's first register, and how many registers it has.
+    pub fn registers(self) -> (u8, u8)
+        ensures first { result.0 ≡ (layout_of self).first }
+        ensures count { result.1 ≡ length (layout_of self).registers }
+    {
+        match self {
+            Layout::Rv32 => (1, 31),
+            Layout::ArmLittle | Layout::ArmBig => (0, 15),
+        }
+    }
+
     /// How many flags the text has.
     pub fn flag_count(self) -> u8
         ensures { result ≡ length (layout_of self).flags }

@@ -18,8 +18,8 @@ fn hex_digit(d: u8) -> u8
     if d < 10 { 48 + d } else { 87 + d }
 }
 
-/// Appends a text.
-fn push_text(out: &mut Vec<u8>, text: &[u8]) -> Result<(), AllocError>
+/// Appends a text. What an `Err` leaves is open.
+pub fn push_text(out: &mut Vec<u8>, text: &[u8]) -> Result<(), AllocError>
     ensures { OnOk result (out.new.items ≡ out.old.items ++ text.now) }
 {
     out.extend_from_slice(text)?;
@@ -56,8 +56,8 @@ fn push_byte(out: &mut Vec<u8>, v: u8) -> Result<(), AllocError>
     Ok(())
 }
 
-/// Appends a decimal number.
-fn push_number(alloc: Global, out: &mut Vec<u8>, n: u64) -> Result<(), AllocError>
+/// Appends a decimal number. What an `Err` leaves is open.
+pub fn push_number(alloc: Global, out: &mut Vec<u8>, n: u64) -> Result<(), AllocError>
     ensures { OnOk result (out.new.items ≡ out.old.items ++ number_text n) }
 {
     let text = n.to_string(alloc)?;

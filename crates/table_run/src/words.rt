@@ -33,13 +33,6 @@ fn any_kept(image: &Image, first: u32, count: u8) -> bool
     false
 }
 
-/// The byte order of a test for the big one.
-fn order(big: bool) -> Endian
-    ensures { endian_of result ≡ memory.endian big }
-{
-    if big { Endian::Big } else { Endian::Little }
-}
-
 /// The word in a state's memory at an address.
 pub(crate) fn word<V: View>(state: &V, a: u32, big: bool) -> u32
     ensures { result ≡ memory.load (memory.endian big) 4 (V.view state.now).mem a }

@@ -1,3 +1,4 @@
 pub mod Choices
 pub mod Entry
 pub mod Stated
+pub mod OfForm

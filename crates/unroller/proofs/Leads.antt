@@ -30,7 +30,7 @@ use Rattle.unroller.specs.Keys.{key_of, turns_of, address_of, stack_of, target_k
 use Rattle.unroller.specs.Led.{next_of, is_same, is_among, is_both, is_next_key, exit_edge, IsLedTo, AreLed, IsCalledBy}
 use Rattle.unroller.specs.Places.{AreEdgesAt}
 use Rattle.unroller.proofs.EdgeLists.{ends_make_edges, exits_are_returns}
-use Rattle.unroller.proofs.Ordered.{rises}
+use Rattle.known_bytes.proofs.Ordered.{rises}
 use Rattle.unroller.proofs.Ends.{address_is, stack_is, turns_is, of_next, all_edge, all_low, edge_all, by_jump, by_fall}
 
 both_ways : (a b : Bool) → (a ≡ true → b ≡ true) → (b ≡ true → a ≡ true) → a ≡ b

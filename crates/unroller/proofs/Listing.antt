@@ -22,7 +22,7 @@ use Rattle.program_points.specs.Tables.{frame, stack_at}
 use Rattle.program_points.proofs.Stacked.{stack_none, stack_next, stack_keeps}
 use Rattle.unroller.specs.Keys.{point_key, point_of, turns_of, address_of, stack_of, AreKeys}
 use Rattle.unroller.proofs.Ends.{address_is, stack_is, turns_is}
-use Rattle.unroller.proofs.Ordered.{rises}
+use Rattle.known_bytes.proofs.Ordered.{rises}
 use Rattle.unroller.proofs.FirstPoints.{entry_comes_first}
 
 -- the stacks of frames are the only ones

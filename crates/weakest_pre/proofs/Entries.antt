@@ -31,6 +31,7 @@ use Rattle.notes_lang.specs.declared.notes.NoteLine.{NoteLine}
 use Rattle.term_names.specs.declared.names.Names.{Names}
 use Rattle.term_names.specs.Views.{form_of, names_of}
 use Rattle.term_names.specs.Chosen.{AreEntryNames, IsOfForm, at_entry}
+use Rattle.term_names.proofs.OfForm.{named_of}
 use Rattle.note_terms.specs.declared.Now.{Now}
 use Rattle.note_terms.specs.Steps.{IsStep}
 use Rattle.note_terms.specs.Lines.{AreStateTerms, IsLine, IsStateOf}
@@ -132,42 +133,6 @@ reads_by u v (notes.Memory n a) p q h = (h.0, h.1, reads_by u v a p q h.2)
 reads_by u v (notes.Old a) p q h = reads_by u v a p q h
 reads_by u v (notes.Not a) p q h = reads_by u v a p q h
 reads_by u v (notes.Binary o a b) p q h = (reads_by u v a p q h.0, reads_by u v b p q h.1)
-
--- a number within a range is of it
-of_range_by : (r first count : ℕ) (b : Bool) → nat_eq r first ≡ b → (b ≡ false → list_any (nat_eq r) (from_to (first + 1) count) ≡ true) →
-    (b || list_any (nat_eq r) (from_to (first + 1) count)) ≡ true
-of_range_by r first count true e h = refl
-of_range_by r first count false e h = h refl
-
-of_range : (r first count : ℕ) → first ≤ r → r < first + count → list_any (nat_eq r) (from_to first count) ≡ true
-of_range r first zero h k = absurd (omega arith)
-of_range r first (suc count) h k =
-    of_range_by r first count (nat_eq r first) refl
-    (λ e. elim (eqb_tells r first) [
-      | inl s ↦ absurd (true≢false (sym s.0 ∙ e))
-      | inr o ↦ let d = o.1
-          in of_range r (first + 1) count (omega arith) (omega arith)
-    ])
-
--- a register or a flag of the form is the program's
-named_of : (u : UnrolledProgram) (low regs flags : ℕ) (m : TermNode) → u.registers ≡ from_to low regs → u.flags ≡ flags → IsInput m →
-    IsOfForm low regs flags m →
-    IsNamedBelow u 0 m
-named_of u low regs flags (RegisterNode r) p q i h = subst (λ (l : List ℕ). list_any (nat_eq r) l ≡ true) (sym p) (of_range r low regs h.0 h.1)
-named_of u low regs flags (FlagNode f) p q i h = lt-ltb f u.flags (subst (λ (n : ℕ). f < n) (sym q) h)
-named_of u low regs flags (ChoiceNode c) p q i h = absurd h
-named_of u low regs flags (BaseNode j) p q i h = absurd h
-named_of u low regs flags MemoryNode p q i h = absurd h
-named_of u low regs flags (ConstantNode w v) p q i h = absurd h
-named_of u low regs flags (BinaryNode o w a b) p q i h = absurd h
-named_of u low regs flags (NotNode w a) p q i h = absurd h
-named_of u low regs flags (SelectNode w c a b) p q i h = absurd h
-named_of u low regs flags (ExtractNode hi lo a) p q i h = absurd h
-named_of u low regs flags (ConcatNode hi lo a b) p q i h = absurd h
-named_of u low regs flags (ExtendNode s n k a) p q i h = absurd h
-named_of u low regs flags (LoadNode n e k a) p q i h = absurd h
-named_of u low regs flags (StoreNode n e k a v) p q i h = absurd h
-named_of u low regs flags (JoinNode c a b) p q i h = absurd h
 
 -- the entry condition, from its parts
 pub entry_made : (u : UnrolledProgram) (a b c d e : List TermNode) (low regs flags : ℕ) (now : Now) (l s t : ℕ) (big : Bool) (lines : List Expr) →

@@ -21,6 +21,7 @@ use Rattle.term_dag.specs.Nodes.{IsInput}
 use Rattle.term_dag.specs.Made.{IsMade}
 use Rattle.term_dag.proofs.Growth.{grew_on, grew_more, inputs_on, inputs_more}
 use Rattle.term_names.specs.Chosen.{at_entry}
+use Rattle.term_names.proofs.OfForm.{named_all, reading_in_range}
 use Rattle.note_terms.specs.Steps.{IsStep}
 use Rattle.note_terms.proofs.Steps.{step_made, bits_and}
 use Rattle.weakest_pre.specs.Copies.{IsCopyOf}
@@ -86,10 +87,6 @@ lines_met u s = (
   (λ m. true_both _ _ (eq-eqb _ _ m.link) (all_lines u.endian u.requires s m.requires)),
 )
 
--- a reading is in range
-reading_in_range : (u : UnrolledProgram) (r : Reading) → IsReading r → InRange (term_reading u r)
-reading_in_range u r h = record { regs = h.state.regs; flags = h.state.flags; mem = h.state.mem; choice = λ i. h.choice _; base = λ j. omega arith }
-
 -- what the entry condition's bit is under a reading
 entry_tells : (u : UnrolledProgram) (old new : List TermNode) (t : ℕ) → IsEntryBit u old new t → (r : Reading) → IsReading r → r.state.pc ≡ u.entry →
     term_word (term_reading u r) new t ≡ bit (meets u r.state)
@@ -113,24 +110,6 @@ question_by u r question word walkable is =
       (λ h. let k = both_true _ _ (bit_one _ (sym is ∙ h)) in law.1 (lines.0 k.0, k.1)),
       (λ h. let k = law.0 h in is ∙ ap bit (true_both _ _ (lines.1 k.0) k.1)),
     )
-
--- nodes that name inputs name nothing else
-named_all : (u : UnrolledProgram) (m : TermNode) → (IsInput m → IsNamedBelow u 0 m) → IsNamedBelow u 0 m
-named_all u (RegisterNode r) h = h tt
-named_all u (FlagNode f) h = h tt
-named_all u (ChoiceNode i) h = h tt
-named_all u (BaseNode j) h = h tt
-named_all u MemoryNode h = tt
-named_all u (ConstantNode w v) h = tt
-named_all u (BinaryNode o w a b) h = tt
-named_all u (NotNode w a) h = tt
-named_all u (SelectNode w c a b) h = tt
-named_all u (ExtractNode hi lo a) h = tt
-named_all u (ConcatNode hi lo a b) h = tt
-named_all u (ExtendNode s n k a) h = tt
-named_all u (LoadNode n e k a) h = tt
-named_all u (StoreNode n e k a v) h = tt
-named_all u (JoinNode c a b) h = tt
 
 -- an empty list has no node
 nothing_there : (m : TermNode) (A : Type 0) → Contains [] m → A

@@ -19,21 +19,9 @@ ghost use Rattle.weakest_pre.specs.Entry.{AreTrue, IsEntryBit, said};
 use note_terms::{Now, line};
 use notes_lang::NoteLine;
 use question_form::Unrolled;
-use state_text::Layout;
 use std::alloc::{AllocError, Global};
 use term_dag::{Dag, Node, Op, Term};
 use term_names::entry_names;
-
-/// The number of the first register of a layout, and how many registers it has.
-fn registers(form: Layout) -> (u8, u8)
-    ensures first { result.0 ≡ (layout_of form).first }
-    ensures count { result.1 ≡ length (layout_of form).registers }
-{
-    match form {
-        Layout::Rv32 => (1, 31),
-        Layout::ArmLittle | Layout::ArmBig => (0, 15),
-    }
-}
 
 /// Whether both bits are 1.
 pub fn both(dag: &mut Dag, left: Term, right: Term) -> Result<Term, AllocError>
@@ -99,7 +87,7 @@ pub fn entry_bit(alloc: Global, dag: &mut Dag, unrolled: &Unrolled) -> Result<Te
     requires typed { AreTyped dag.old }
     ensures { IfOk result (λ t. IsEntryBit (unrolled_of unrolled.now) dag.old dag.new t.0) }
 {
-    let (first, count) = registers(unrolled.form);
+    let (first, count) = unrolled.form.registers();
     let names = entry_names(alloc, dag, first, count, unrolled.form.flag_count())?;
     let pc = dag.keep(Node::Constant {
         width: 32,

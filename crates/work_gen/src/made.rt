@@ -7,7 +7,7 @@ ghost use Rattle.bilv_spec.specs.Work.{work_file, work_notes, work_text};
 
 use crate::items::computed;
 use crate::row_file::row_file;
-use state_text::push_word;
+use state_text::{push_number, push_text, push_word};
 use std::alloc::{AllocError, Global};
 
 /// An executable and notes, and what its function leaves in `a0`.
@@ -21,23 +21,6 @@ pub struct MadeWork {
     pub result: u32,
 }
 
-/// Appends a text.
-fn push_text(out: &mut Vec<u8>, text: &[u8]) -> Result<(), AllocError>
-    ensures { OnOk result (out.new.items ≡ out.old.items ++ text.now) }
-{
-    out.extend_from_slice(text)?;
-    Ok(())
-}
-
-/// Appends a decimal number.
-fn push_number(alloc: Global, out: &mut Vec<u8>, number: u32) -> Result<(), AllocError>
-    ensures { OnOk result (out.new.items ≡ out.old.items ++ number_text number) }
-{
-    let text = number.to_string(alloc)?;
-    out.extend_from_slice(text.as_bytes())?;
-    Ok(())
-}
-
 /// The notes: where the function begins, what it begins with, and what it leaves.
 fn notes(alloc: Global, seed: u32, count: u32, left: u32) -> Result<Vec<u8>, AllocError>
     requires { left ≡ work_of.result seed count }
@@ -45,9 +28,9 @@ fn notes(alloc: Global, seed: u32, count: u32, left: u32) -> Result<Vec<u8>, All
 {
     let mut text = Vec::new(alloc);
     push_text(&mut text, b"entry 0x10000\nrequire a0 = ")?;
-    push_number(alloc, &mut text, seed)?;
+    push_number(alloc, &mut text, seed as u64)?;
     push_text(&mut text, b"\nrequire a1 = ")?;
-    push_number(alloc, &mut text, count)?;
+    push_number(alloc, &mut text, count as u64)?;
     push_text(&mut text, b"\nensure a0 = ")?;
     push_word(&mut text, left)?;
     push_text(&mut text, b"\n")?;
@@ -81,11 +64,11 @@ pub fn front(alloc: Global, seed: u32, count: u32, left: u32) -> Result<Vec<u8>,
 {
     let mut text = Vec::new(alloc);
     push_text(&mut text, b"selfrun ")?;
-    push_number(alloc, &mut text, seed)?;
+    push_number(alloc, &mut text, seed as u64)?;
     push_text(&mut text, b" ")?;
-    push_number(alloc, &mut text, count)?;
+    push_number(alloc, &mut text, count as u64)?;
     push_text(&mut text, b" words ")?;
-    push_number(alloc, &mut text, count + 1)?;
+    push_number(alloc, &mut text, (count + 1) as u64)?;
     push_text(&mut text, b" a0 ")?;
     push_word(&mut text, left)?;
     push_text(&mut text, b" ")?;

@@ -1,6 +1,6 @@
 use Rattle.std.specs.Prelude.{eqb}
 use Rattle.std.proofs.lemmas.List.Filters.{dedup_is}
-use Rattle.bit_blast.proofs.BrokenReads.{ordered_rise, ordered_same}
+use Rattle.known_bytes.proofs.Ordered.{ordered_rise, ordered_same}
 use Rattle.bit_blast.proofs.differing.addresses_in_order.Goals as goal
 
 pub returns-clause-rise : goal.returns-clause-rise
