@@ -1,5 +1,5 @@
 //! The line of a node, and the text of a graph.
-ghost use Rattle.std.specs.Prelude.{ℕ, ◌≡◌, ◌++◌, Option, OnOk, IfOk};
+ghost use Rattle.std.specs.Prelude.{◌≡◌, ◌++◌, OnOk, IfOk};
 ghost use Rattle.std.specs.List.{flat_map};
 ghost use Rattle.bilv_spec.specs.Run.{Program};
 ghost use Rattle.bilv_spec.specs.Texts.{spaced};

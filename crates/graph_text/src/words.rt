@@ -1,5 +1,5 @@
 //! The words of a node.
-ghost use Rattle.std.specs.Prelude.{ℕ, ◌≡◌, ◌<◌, ◌++◌, List, [], ◌∷◌, if◌then◌else◌, codes, map, OnOk};
+ghost use Rattle.std.specs.Prelude.{◌≡◌, ◌<◌, ◌++◌, [], ◌∷◌, if◌then◌else◌, map, OnOk};
 ghost use Rattle.std.specs.List.{flat_map};
 ghost use Rattle.bilv_spec.specs.Texts.{spaced};
 ghost use Rattle.bilv_spec.specs.GraphText.{letter_text, successor_words, kept_names, keeps_words};

@@ -1,20 +1,18 @@
 -- Before any point is handled.
-use Rattle.std.proofs.Common.{◌≡◌, inl, inr, ℕ, zero, suc, ◌+◌, ◌<◌, ◌≤◌, Bool, true, false, ◌||◌, ◌==◌, nat_eq, List, [], ◌∷◌, Option, Some, None, ◌-◌, ◌++◌, length, refl, ap, sym, ◌∙◌, subst, arith}
+use Rattle.std.proofs.Common.{◌≡◌, ℕ, zero, suc, ◌+◌, ◌<◌, ◌≤◌, Bool, true, false, ◌||◌, ◌==◌, List, [], ◌∷◌, Option, Some, None, ◌-◌, ◌++◌, length, refl, ap, sym, ◌∙◌, subst, arith}
 use Rattle.std.specs.Prelude.{slice_get, replicate}
-use Rattle.std.specs.List.{list_any}
 use Rattle.std.specs.Global.{Vec}
 use Rattle.std.proofs.lemmas.List.{get_or-replicate, length-replicate, replicate_more}
-use Rattle.std.proofs.lemmas.Bool.{true≢false, lt-ltb}
-use Rattle.std.proofs.lemmas.Bool.Decides.{eqb_tells, nat_tests}
+use Rattle.std.proofs.lemmas.Bool.{true≢false}
+use Rattle.std.proofs.lemmas.Bool.Decides.{nat_tests}
 use Rattle.bilv_spec.specs.Questions.{Reading, IsReading}
 use Rattle.bilv_spec.specs.RowFiles.{from_to}
-use Rattle.walk_spec.specs.Terms.{InRange, TermReading, TermNode, RegisterNode, FlagNode, ChoiceNode, BaseNode, MemoryNode, ConstantNode, BinaryNode, NotNode, SelectNode, ExtractNode, ConcatNode, ExtendNode, LoadNode, StoreNode, JoinNode, HasWidth}
+use Rattle.walk_spec.specs.Terms.{InRange, TermReading, TermNode, ConstantNode, HasWidth}
 use Rattle.walk_spec.specs.Unrolled.{UnrolledProgram, carried_of}
 use Rattle.walk_spec.specs.Sweep.{Held, held}
 use Rattle.walk_spec.specs.Passive.{Tells}
-use Rattle.walk_spec.specs.WalkQuestions.{IsNamedBelow, AreNamedBelow, term_reading}
+use Rattle.walk_spec.specs.WalkQuestions.{AreNamedBelow, term_reading}
 use Rattle.term_dag.specs.declared.nodes.Term.{Term}
-use Rattle.term_dag.specs.Nodes.{IsInput}
 use Rattle.term_dag.specs.Made.{Grew, IsInterned}
 use Rattle.term_dag.proofs.Growth.{grew_on, grew_width, interned_grew, interned_inputs, interned_width}
 use Rattle.term_names.specs.declared.names.Names.{Names}

@@ -6,7 +6,7 @@ use Rattle.std.proofs.Math.ListN.{set}
 use Rattle.std.proofs.lemmas.List.{get_or-map, length-map, length-set}
 use Rattle.std.proofs.lemmas.Option.{slice_get_read}
 use Rattle.bilv_spec.specs.Questions.{Reading}
-use Rattle.walk_spec.specs.Terms.{TermReading, TermNode, RegisterNode, FlagNode, ChoiceNode, BaseNode, MemoryNode, ConstantNode, BinaryNode, NotNode, SelectNode, ExtractNode, ConcatNode, ExtendNode, LoadNode, StoreNode, JoinNode, HasWidth, term_word}
+use Rattle.walk_spec.specs.Terms.{TermReading, TermNode, ChoiceNode, HasWidth, term_word}
 use Rattle.walk_spec.specs.Unrolled.{UnrolledProgram, WalkIsAt, walk_on, point_at, no_point}
 use Rattle.walk_spec.specs.Sweep.{Held, held, held_if, hand, sweep_on}
 use Rattle.walk_spec.specs.Passive.{UnderAll, Denotes, Tells}

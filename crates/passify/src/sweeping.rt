@@ -2,7 +2,6 @@
 
 ghost use Rattle.std.specs.Prelude.{◌≡◌, ◌<◌, ◌+◌, ◌-◌, [], Some, None, IfOk, length};
 ghost use Rattle.walk_spec.specs.Unrolling.{IsWalkable};
-ghost use Rattle.state_text.specs.Starts.{layout_of};
 ghost use Rattle.question_form.specs.Views.{unrolled_of};
 ghost use Rattle.question_form.specs.Forms.{IsFormed};
 ghost use Rattle.passify.specs.Made.{IsPassiveOf};

@@ -1,10 +1,10 @@
 //! The texts of answers.
-ghost use Rattle.std.specs.Prelude.{◌≡◌, ℕ, ◌+◌, ◌++◌, ◌≤◌, List, Option, Some, None, true, false, IfOk, OnOk, codes};
+ghost use Rattle.std.specs.Prelude.{◌≡◌, ℕ, ◌+◌, ◌++◌, ◌≤◌, List, Some, None, true, false, IfOk, OnOk, codes};
 ghost use Rattle.bilv_spec.specs.Run.{Program, Start};
 ghost use Rattle.bilv_spec.specs.StateText.{Layout, StateRefused, last_step};
 ghost use Rattle.bilv_spec.specs.Reports as reports;
 ghost use Rattle.bilv_spec.specs.Reports.{named_step, found_words};
-ghost use Rattle.bilv_spec.specs.Texts.{line, joined, number_text};
+ghost use Rattle.bilv_spec.specs.Texts.{line, joined};
 ghost use Rattle.bilv_spec.specs.Answers.{plain_answer};
 ghost use Rattle.bilv_spec.specs.Replays.{sized_answer, told_answer, start_answer, require_answer, ending_answer, state_fault_words, bound_of};
 ghost use Rattle.state_text.specs.Starts.{named_of};

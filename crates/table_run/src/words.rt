@@ -4,7 +4,6 @@ ghost use Rattle.std.specs.List.{list_any};
 ghost use Rattle.bilv_spec.specs.Memory as memory;
 ghost use Rattle.bilv_spec.specs.Machine.{addresses};
 ghost use Rattle.bilv_spec.specs.Elf.{loaded, is_kept};
-ghost use Rattle.byte_mem.specs.Views.{endian_of};
 
 use byte_mem::{Endian, View};
 use elf32_reader::Image;

@@ -20,7 +20,7 @@ use Rattle.program_points.specs.Listed.{HasOneWay}
 use Rattle.program_points.specs.Tables.{end, frame_at, stack_at, jumps_of, listed, IsTable}
 use Rattle.program_points.proofs.Stacked.{one_number, stack_none}
 use Rattle.walk_spec.specs.Unrolled as walk
-use Rattle.walk_spec.specs.Unrolled.{PointExit, Along, UnrolledProgram, point_at}
+use Rattle.walk_spec.specs.Unrolled.{Along, UnrolledProgram, point_at}
 use Rattle.walk_spec.specs.Unrolling.{IsAim, IsEdge}
 use Rattle.question_form.specs.declared.unrolled.Aim.{Aim}
 use Rattle.question_form.specs.declared.unrolled.Aim.TheVariants.{OnTo, Outward, OverLast}

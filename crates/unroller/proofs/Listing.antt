@@ -7,7 +7,7 @@ use Rattle.std.proofs.lemmas.List.{get_or_default}
 use Rattle.std.proofs.lemmas.Option.{slice_get-get_or, get_or_from_slice_get}
 use Rattle.bilv_spec.specs.Run.{Program}
 use Rattle.bilv_spec.specs.Points as spec
-use Rattle.bilv_spec.specs.Points.{IsPoint, ArePoints}
+use Rattle.bilv_spec.specs.Points.{IsPoint}
 use Rattle.bilv_spec.proofs.PointSteps.{in_map}
 use Rattle.bilv_spec.proofs.PointsInGraph.{of_map}
 use Rattle.graph_nodes.specs.declared.nodes.Graph.{Graph}

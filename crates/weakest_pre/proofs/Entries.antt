@@ -1,11 +1,9 @@
 -- The entry condition as a term.
-use Rattle.std.proofs.Common.{inl, inr, ◌≡◌, ℕ, zero, suc, ◌+◌, ◌-◌, ◌*◌, ◌%◌, ◌<◌, ◌≤◌, Bool, true, false, ◌&&◌, ◌||◌, nat_eq, nat_lt, ◌==◌, bit_and, List, [], ◌∷◌, ◌++◌, length, map, slice_index, get_or, take, Contains, sum_by, refl, ap, sym, subst, ◌∙◌, arith}
+use Rattle.std.proofs.Common.{◌≡◌, ℕ, ◌+◌, ◌-◌, ◌*◌, ◌%◌, ◌<◌, ◌≤◌, Bool, true, false, ◌&&◌, ◌||◌, nat_eq, nat_lt, ◌==◌, bit_and, List, [], ◌∷◌, ◌++◌, length, map, slice_index, get_or, take, Contains, sum_by, refl, ap, sym, subst, ◌∙◌, arith}
 use Rattle.std.specs.List.{list_any}
 use Rattle.std.proofs.lemmas.List.{map-append, length-map, get_or-map, take_more}
 use Rattle.std.proofs.lemmas.List.Sums.{sum_by-append}
 use Rattle.std.proofs.lemmas.List.Folds.{list_all-append}
-use Rattle.std.proofs.lemmas.Bool.{true≢false, lt-ltb}
-use Rattle.std.proofs.lemmas.Bool.Decides.{eqb_tells}
 use Rattle.std.proofs.Math.Nat.{div-one}
 use Rattle.bilv_spec.specs.Words.{bit, bits}
 use Rattle.bilv_spec.specs.Memory.{Endian, endian}
@@ -15,14 +13,13 @@ use Rattle.bilv_spec.specs.Notes as notes
 use Rattle.bilv_spec.specs.Notes.{Expr, value, is_true}
 use Rattle.bilv_spec.specs.RowFiles.{from_to}
 use Rattle.bilv_spec.specs.Points.{line_price, bytes_loaded}
-use Rattle.walk_spec.specs.Terms.{TermReading, TermNode, RegisterNode, FlagNode, ChoiceNode, BaseNode, MemoryNode, ConstantNode, BinaryNode, NotNode, SelectNode, ExtractNode, ConcatNode, ExtendNode, LoadNode, StoreNode, JoinNode, AreTyped, HasWidth, term_value, term_word, width_of}
+use Rattle.walk_spec.specs.Terms.{TermReading, TermNode, ConstantNode, BinaryNode, ExtractNode, AreTyped, HasWidth, term_value, term_word, width_of}
 use Rattle.walk_spec.specs.Unrolled.{UnrolledProgram, state_at}
 use Rattle.walk_spec.specs.Unrolling.{IsReadable}
 use Rattle.walk_spec.specs.Prices.{entry_lines, line_size, line_steps, variables_of}
 use Rattle.walk_spec.specs.WalkQuestions.{IsNamedBelow}
 use Rattle.walk_spec.specs.Passive.{AreNames}
 use Rattle.term_dag.specs.declared.nodes.Term.{Term}
-use Rattle.term_dag.specs.Nodes.{IsInput}
 use Rattle.term_dag.specs.Made.{IsMade, IsInterned}
 use Rattle.term_dag.proofs.Growth.{grew_none, grew_on, grew_more, grew_width, interned_grew, inputs_none, inputs_on, inputs_more}
 use Rattle.notes_value.specs.Views.{expr_of}

@@ -9,7 +9,7 @@ use Rattle.bilv_spec.specs.State.{State}
 use Rattle.bilv_spec.specs.Notes.{NoteLine, value, is_true}
 use Rattle.bilv_spec.specs.Run.{false_line}
 use Rattle.bilv_spec.specs.Questions.{Reading, IsReading, Question, EntryQuestion}
-use Rattle.walk_spec.specs.Terms.{InRange, TermNode, RegisterNode, FlagNode, ChoiceNode, BaseNode, MemoryNode, ConstantNode, BinaryNode, NotNode, SelectNode, ExtractNode, ConcatNode, ExtendNode, LoadNode, StoreNode, JoinNode, HasWidth, term_word, term_gates, term_loads, term_stores, term_joins}
+use Rattle.walk_spec.specs.Terms.{TermNode, BinaryNode, HasWidth, term_word, term_gates, term_loads, term_stores, term_joins}
 use Rattle.walk_spec.specs.Unrolled.{UnrolledProgram, state_at}
 use Rattle.walk_spec.specs.Unrolling.{IsWalkable}
 use Rattle.walk_spec.specs.Sweep.{swept}

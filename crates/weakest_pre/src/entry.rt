@@ -1,13 +1,12 @@
 //! The entry condition as a term.
 
-ghost use Rattle.std.specs.Prelude.{◌≡◌, ◌<◌, ℕ, IfOk, length, map, Contains};
+ghost use Rattle.std.specs.Prelude.{◌≡◌, ◌<◌, IfOk, Contains};
 ghost use Rattle.bilv_spec.specs.Words.{bit};
 ghost use Rattle.bilv_spec.specs.Machine.{is_place};
 ghost use Rattle.bilv_spec.specs.Bil.{And};
-ghost use Rattle.walk_spec.specs.Terms.{TermReading, BinaryNode, AreTyped, HasWidth, term_word};
+ghost use Rattle.walk_spec.specs.Terms.{BinaryNode, AreTyped, HasWidth, term_word};
 ghost use Rattle.term_dag.specs.Made.{IsMade};
 ghost use Rattle.walk_spec.specs.Unrolling.{IsReadable, IsWalkable};
-ghost use Rattle.state_text.specs.Starts.{layout_of};
 ghost use Rattle.notes_value.specs.Views.{expr_of};
 ghost use Rattle.notes_lang.specs.declared.notes.NoteLine as declared;
 ghost use Rattle.question_form.specs.Views.{unrolled_of};

@@ -1,7 +1,6 @@
 //! The work of a number.
 
-ghost use Rattle.std.specs.Prelude.{◌≡◌, ◌+◌, ◌<◌, ◌≤◌, ◌^◌, ◌++◌, IfOk, OnOk, [], ◌∷◌, codes};
-ghost use Rattle.bilv_spec.specs.Texts.{number_text};
+ghost use Rattle.std.specs.Prelude.{◌≡◌, ◌+◌, ◌<◌, ◌≤◌, ◌^◌, ◌++◌, IfOk, [], ◌∷◌};
 ghost use Rattle.bilv_spec.specs.Work as work_of;
 ghost use Rattle.bilv_spec.specs.Work.{work_file, work_notes, work_text};
 
