@@ -9,7 +9,7 @@ ghost use Rattle.graph_text.specs.NodeText.{known_words, words_of, node_line};
 
 use crate::words::{push_if, push_kept, push_successors};
 use graph_nodes::{Graph, Node};
-use state_text::push_word;
+use state_text::{push_text, push_word};
 use std::alloc::{AllocError, Global};
 
 /// Appends the words of a node that has a row.

@@ -14,6 +14,7 @@ use bil_ast::Stmt;
 use bil_print::append_stmts;
 use elf32_reader::Image;
 use file_words::word_of;
+use state_text::push_text;
 use std::alloc::{AllocError, Global};
 
 /// Appends what stands behind a word's bytes: ` none`, or its statements on lines of their own.
