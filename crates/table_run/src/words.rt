@@ -7,6 +7,7 @@ ghost use Rattle.bilv_spec.specs.Elf.{loaded, is_kept};
 
 use byte_mem::{Endian, View};
 use elf32_reader::Image;
+use notes_value::order;
 
 /// One of the bytes that are stored is kept: `stored` is the first address and the number of bytes.
 pub(crate) fn writes_kept(image: &Image, stored: Option<(u32, u8)>) -> bool
