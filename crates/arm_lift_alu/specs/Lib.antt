@@ -1,0 +1,5 @@
+pub mod Lifted
+pub mod Operands
+pub mod Computing
+pub mod Before
+pub mod Multiplied
