@@ -1,0 +1,8 @@
+mod Numbers
+mod LoadedRegisters
+mod Runs
+mod Parts
+mod Listed
+mod Bytes
+mod Blocks
+mod Rows
