@@ -1,11 +1,11 @@
 -- What LDM and STM do is what their lists do.
-use Rattle.std.proofs.Common.{◌≡◌, ℕ, zero, suc, ◌+◌, ◌-◌, ◌*◌, ◌^◌, ◌<◌, ◌≤◌, Bool, true, false, refl, ap, sym, ◌∙◌, arith, List, [], length, Option, Some, None}
+use Rattle.std.proofs.Common.{◌≡◌, ℕ, ◌-◌, ◌*◌, ◌<◌, ◌≤◌, Bool, true, false, refl, ap, sym, ◌∙◌, arith, List, length, Option, Some, None}
 use Rattle.std.specs.Prelude.{◌==◌, if◌then◌else◌}
 use Rattle.std.proofs.lemmas.Bool.{ne_eqb}
 use Rattle.bilv_spec.specs.Words.{add, sub, aligned}
 use Rattle.bilv_spec.specs.Memory.{Endian, Memory, load}
 use Rattle.bilv_spec.specs.State.{State, put}
-use Rattle.bilv_spec.specs.Arm.{reg, has_bit, is_up, is_pre, bit_w, field_n, listed, listed_from, load_all, store_all, block_start, block_base, block_loaded, block_done}
+use Rattle.bilv_spec.specs.Arm.{reg, has_bit, is_up, is_pre, bit_w, field_n, listed, load_all, store_all, block_start, block_base, block_loaded, block_done}
 use Rattle.bilv_spec.specs.Simulation.{Locals, position, of_list, of_row, Finished, Simulates}
 use Rattle.arm_lift_blocks.specs.Lifted as lifts
 use Rattle.arm_lift_blocks.proofs.Numbers.{first_up, first_down}
@@ -91,8 +91,8 @@ load_runs e w at few s is here c turns low l =
     let away : (b == 15) ≡ false = ne_eqb b 15 (λ z. omega arith) in
     let begins : a ≡ block_start w s = sym (start_is w s few) in
     ap of_list (
-      loads_run e b d v c turns l rs s None (lifts.base_last place e (bit_w w) (is_up w) b n) refl (is.regs b)
-      ∙ base_runs place e (bit_w w) (is_up w) b v n c turns l (others_loaded e a b rs s) j (base_kept e s.mem a b rs s.regs) (is.regs b)
+    loads_run e b d v c turns l rs s None (lifts.base_last place e (bit_w w) (is_up w) b n) refl (is.regs b)
+    ∙ base_runs place e (bit_w w) (is_up w) b v n c turns l (others_loaded e a b rs s) j (base_kept e s.mem a b rs s.regs) (is.regs b)
     )
     ∙ loaded_end (has_bit 15 w) e w turns l s _ j refl
     (registers_are (bit_w w) (is_up w) e s.mem b d n rs s.regs away ∙ ap (λ z. load_all e s.mem z rs (block_base w s)) begins)
@@ -110,8 +110,8 @@ store_runs e w at few s is here c turns low l =
     let a : ℕ = add 32 (aligned v) d in
     let m : Memory = store_all e s c a rs s.mem in
     ap of_list (
-      stores_run e b at d v c turns l rs s s.mem None (lifts.written_back (bit_w w) (is_up w) b n) refl (is.regs b) here
-      ∙ written_runs (bit_w w) (is_up w) b v n c turns l (with_mem s m) None refl
+    stores_run e b at d v c turns l rs s s.mem None (lifts.written_back (bit_w w) (is_up w) b n) refl (is.regs b) here
+    ∙ written_runs (bit_w w) (is_up w) b v n c turns l (with_mem s m) None refl
     )
     ∙ ap (λ f. Finished (position l turns None (record s { regs = f; mem = m }))) (written_is (bit_w w) (is_up w) s.regs b v n)
     ∙ ap (λ z. Finished (position l turns None (record s { regs = block_base w s; mem = store_all e s c z rs s.mem }))) (sym (start_is w s few))

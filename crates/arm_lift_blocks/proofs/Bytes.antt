@@ -1,5 +1,5 @@
 -- The bytes that the lists of LDM and STM store.
-use Rattle.std.proofs.Common.{◌≡◌, ℕ, zero, suc, ◌+◌, ◌*◌, ◌^◌, ◌<◌, Bool, true, false, refl, ap, sym, ◌∙◌, arith, List, [], ◌∷◌, ◌++◌, length, Option, Some, None, bit_and}
+use Rattle.std.proofs.Common.{◌≡◌, ℕ, suc, ◌*◌, ◌^◌, ◌<◌, Bool, true, false, refl, ap, ◌∙◌, arith, List, [], ◌∷◌, ◌++◌, length, Option, Some, None, bit_and}
 use Rattle.std.specs.Prelude.{◌==◌}
 use Rattle.bilv_spec.specs.Words.{add, aligned}
 use Rattle.bilv_spec.specs.Memory.{Endian, Memory, load, store, span}
@@ -58,9 +58,9 @@ stores_bytes e b at d v c turns l (r ∷ rs) s m j rest h k here nothing =
     let t : State = with_mem s m in
     let value = lifts.stored_by (r == 15) r at in
     let all : ℕ → Value → List ℕ → List ℕ = λ a v xs.
-        (xs ++ bytes_at 4 (Word 32 a))
-        ++ then_stored (assigned (assign bil.Mem (store_to e 32 (Bytes m) (Word 32 a) v) (env_of l t)) (position l turns j t))
-           (list_stored (lifts.stores e b at (add 32 d 4) rs rest) c) in
+    (xs ++ bytes_at 4 (Word 32 a))
+    ++ then_stored (assigned (assign bil.Mem (store_to e 32 (Bytes m) (Word 32 a) v) (env_of l t)) (position l turns j t))
+    (list_stored (lifts.stores e b at (add 32 d 4) rs rest) c) in
     ap (λ a. all a (evaluate value c (env_of l t)) (stored_by value c (env_of l t))) (address_is (s.regs b) d v h k)
     ∙ ap (λ v. all a v (stored_by value c (env_of l t))) (stored_is (r == 15) r at c l t refl here)
     ∙ ap (all a (Word 32 (stored_reg s c r))) (value_bytes (r == 15) r at c (env_of l t))

@@ -6,3 +6,5 @@ mod Listed
 mod Bytes
 mod Blocks
 mod Rows
+mod Pushes
+mod Liftings

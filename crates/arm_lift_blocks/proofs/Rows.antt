@@ -1,14 +1,14 @@
 -- A list under its condition is a lifting of its row, which may load or store.
-use Rattle.std.proofs.Common.{◌≡◌, ◌↔◌, ℕ, zero, suc, ◌+◌, ◌<◌, ◌≤◌, Bool, true, false, not, ◌&&◌, ◌||◌, refl, sym, ap, subst, ◌∙◌, arith, List, [], ◌++◌, Option, None}
+use Rattle.std.proofs.Common.{◌≡◌, ◌↔◌, ℕ, ◌+◌, ◌≤◌, Bool, true, false, not, ◌&&◌, ◌||◌, refl, sym, ap, subst, ◌∙◌, arith, List, [], ◌++◌, None}
 use Rattle.std.specs.Prelude.{◌==◌, Contains}
 use Rattle.std.proofs.lemmas.List.{append-nil}
 use Rattle.bilv_spec.specs.Words.{bit}
 use Rattle.bilv_spec.specs.Memory.{Endian}
 use Rattle.bilv_spec.specs.State.{State, IsState}
 use Rattle.bilv_spec.specs.Machine.{Row, Successors, Outcome, addresses}
-use Rattle.bilv_spec.specs.Arm.{arm, row_of, condition_code, condition_flags, condition_reads, is_always, holds, when, when_stored, on}
+use Rattle.bilv_spec.specs.Arm.{arm, row_of, condition_code, condition_flags, condition_reads, is_always, holds, when, when_stored}
 use Rattle.bilv_spec.specs.Bil.{RRegisters, Statements, Empty, If}
-use Rattle.bilv_spec.specs.BilMeaning.{Word, Position, Ending, Ends, RaisesException, OutOfTurns, Wrong, then_do, branch_on, evaluate, execute}
+use Rattle.bilv_spec.specs.BilMeaning.{Word, Ending, Ends, RaisesException, OutOfTurns, Wrong, then_do, branch_on, evaluate, execute}
 use Rattle.bilv_spec.specs.BilCounts.{reads_flag}
 use Rattle.bilv_spec.specs.BilStores.{then_stored, chosen, list_stored}
 use Rattle.bilv_spec.specs.Simulation.{Locals, env_of, position, of_list, of_row, Simulates}
@@ -18,7 +18,7 @@ use Rattle.arm_decode.specs.declared.parts.Condition.TheVariants.{Eq, Ne, Cs, Cc
 use Rattle.arm_decode.specs.Parts.{condition_number}
 use Rattle.arm_lift_alu.specs.Lifted as lifts
 use Rattle.arm_lift_alu.proofs.Conditions.{test_plain, test_is, holds_code}
-use Rattle.arm_lift_blocks.proofs.Parts.{IsPart, none_read}
+use Rattle.arm_lift_blocks.proofs.Parts.{IsPart}
 
 -- the row of a word that neither reads nor assigns a flag beside its condition
 abbrev pub row_from : ℕ → (State → ℕ → Outcome) → (is_store : Bool) → (State → ℕ × ℕ) → (ℕ → Successors) → (price loads stores : ℕ) → (draws : Bool) → Row
@@ -93,7 +93,7 @@ module _ (m : Endian) (w at v price loads stores u : ℕ) (effect : State → �
   under_test k code some =
       let plain = test_plain k in
       let value : (c : ℕ) (l : Locals) (s : State) → IsState s → evaluate (lifts.test k) c (env_of l s) ≡ Word 1 (bit (holds w s))
-          = λ c l s is. test_is k c l s is ∙ ap (λ n. Word 1 (bit (holds_code s n))) code in
+      = λ c l s is. test_is k c l s is ∙ ap (λ n. Word 1 (bit (holds_code s n))) code in
       record {
         simulates = λ s is here c turns few l.
             rw (value c l s is) (ends (holds w s) (execute list c (position l turns None s)) c turns l s (effect s c) (runs s is here c turns few l));
@@ -108,7 +108,7 @@ module _ (m : Endian) (w at v price loads stores u : ℕ) (effect : State → �
         surely = λ f few t. not_sure (is_always w) _ t;
         reads = λ f few.
             let named_by = λ (h : condition_reads condition_flags (condition_code w) f ≡ false).
-                plain.reads f (ap (λ n. condition_reads condition_flags n f) code ∙ h) in
+            plain.reads f (ap (λ n. condition_reads condition_flags n f) code ∙ h) in
             rw (
               allowed (reads_flag f (lifts.test k)) false (condition_reads condition_flags (condition_code w) f) named_by,
               part.reads f (condition_reads condition_flags (condition_code w) f || false) (not (is_always w && false)),

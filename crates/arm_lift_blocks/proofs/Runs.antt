@@ -1,5 +1,5 @@
 -- What the lists of LDM and STM do.
-use Rattle.std.proofs.Common.{◌≡◌, ℕ, zero, suc, ◌+◌, ◌-◌, ◌*◌, ◌%◌, ◌^◌, ◌<◌, ◌≤◌, Bool, true, false, refl, ap, sym, ◌∙◌, arith, List, [], ◌∷◌, length, Option, Some, None}
+use Rattle.std.proofs.Common.{◌≡◌, ℕ, ◌^◌, ◌<◌, Bool, true, false, refl, ap, sym, ◌∙◌, List, [], ◌∷◌, Option, Some, None}
 use Rattle.std.specs.Prelude.{◌==◌, if◌then◌else◌}
 use Rattle.bilv_spec.specs.Words.{add, sub, aligned}
 use Rattle.bilv_spec.specs.Memory.{Endian, Memory, load, store}
@@ -27,7 +27,7 @@ jump_by e m a b (r ∷ rs) j = jump_by e m (add 32 a 4) b rs (one_jump (r == b) 
 one_runs : (p q : Bool) (e : Endian) (b d r v c turns : ℕ) (l : Locals) (s : State) (j : Option ℕ) (rest : Statements) → s.regs b ≡ v → v < 2 ^ 32 →
     execute (lifts.load_one p q e b d r rest) c (position l turns j s)
     ≡ execute rest c (position l turns (one_jump p q j (load e 4 s.mem (add 32 (aligned v) d)))
-      (record s { regs = one_put p q s.regs r (load e 4 s.mem (add 32 (aligned v) d)) }))
+    (record s { regs = one_put p q s.regs r (load e 4 s.mem (add 32 (aligned v) d)) }))
 one_runs true q e b d r v c turns l s j rest h k = refl
 one_runs false true e b d r v c turns l s j rest h k =
     ap (λ a. execute rest c (position l turns (Some (load e 4 s.mem a)) s)) (address_is (s.regs b) d v h k)
@@ -101,8 +101,8 @@ stores_run e b at d v c turns l (r ∷ rs) s m j rest h k here =
     let a : ℕ = add 32 (aligned v) d in
     let t : State = with_mem s m in
     let after : ℕ → Value → Ending = λ a v.
-        then_do (assigned (assign bil.Mem (store_to e 32 (Bytes m) (Word 32 a) v) (env_of l t)) (position l turns j t))
-        (execute (lifts.stores e b at (add 32 d 4) rs rest) c) in
+    then_do (assigned (assign bil.Mem (store_to e 32 (Bytes m) (Word 32 a) v) (env_of l t)) (position l turns j t))
+    (execute (lifts.stores e b at (add 32 d 4) rs rest) c) in
     ap (λ a. after a (evaluate (lifts.stored_by (r == 15) r at) c (env_of l t))) (address_is (s.regs b) d v h k)
     ∙ ap (after a) (stored_is (r == 15) r at c l t refl here)
     ∙ stores_run e b at (add 32 d 4) v c turns l rs s (store e 4 m a (stored_reg s c r)) j rest h k here
