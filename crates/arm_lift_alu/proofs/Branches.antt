@@ -1,10 +1,10 @@
 -- Branches and SWI.
-use Rattle.std.proofs.Common.{◌≡◌, ℕ, ◌+◌, ◌^◌, ◌<◌, Bool, true, false, refl, sym, subst, ap, ◌∙◌, arith, None}
+use Rattle.std.proofs.Common.{◌≡◌, ℕ, ◌^◌, ◌<◌, Bool, true, false, refl, sym, subst, ap, ◌∙◌, arith, None}
 use Rattle.bilv_spec.specs.Words.{add}
 use Rattle.bilv_spec.specs.Memory.{Endian}
 use Rattle.bilv_spec.specs.State.{State}
 use Rattle.bilv_spec.specs.Machine.{Raises, SoftwareInterrupt}
-use Rattle.bilv_spec.specs.Arm.{arm, branch, branched, branch_target, is_linked, is_always, software_interrupt, condition_code, none}
+use Rattle.bilv_spec.specs.Arm.{arm, branch, branched, branch_target, is_linked, software_interrupt, condition_code, none}
 use Rattle.bilv_spec.specs.Bil.{RRegisters, Statements}
 use Rattle.bilv_spec.specs.Bil as bil
 use Rattle.bilv_spec.specs.BilMeaning.{execute}

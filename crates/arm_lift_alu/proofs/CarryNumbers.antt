@@ -8,7 +8,7 @@ use Rattle.std.proofs.Math.Nat.{mul-add-div_right}
 use Rattle.bilv_spec.specs.Words.{bit_at, sar, complement}
 use Rattle.bilv_spec.specs.Arm as rows
 use Rattle.bilv_spec.specs.BilMeaning.{Word, extract_from}
-use Rattle.arm_lift_alu.proofs.Shifts.{turned_by, turned_small}
+use Rattle.arm_lift_alu.proofs.Shifts.{turned_by}
 
 truth : (b : Bool) → (b ≡ true) ⊎ (b ≡ false)
 truth true = inl refl

@@ -1,9 +1,9 @@
 -- What a condition tests.
-use Rattle.std.proofs.Common.{◌≡◌, ℕ, zero, suc, ◌+◌, ◌-◌, ◌<◌, Bool, true, false, not, ◌&&◌, ◌||◌, refl, ap, sym, ◌∙◌, arith, bit_and, nat_le, if◌then◌else◌}
+use Rattle.std.proofs.Common.{◌≡◌, ℕ, zero, suc, ◌<◌, Bool, true, false, not, ◌&&◌, ◌||◌, refl, ap, ◌∙◌, arith, bit_and, nat_le, if◌then◌else◌}
 use Rattle.std.specs.Prelude.{◌==◌}
 use Rattle.bilv_spec.specs.Words.{bit, complement}
 use Rattle.bilv_spec.specs.State.{State, IsState, flag_n, flag_z, flag_c, flag_v}
-use Rattle.bilv_spec.specs.Arm.{conditions, nth, condition_flags, condition_reads, condition_code, holds, is_always}
+use Rattle.bilv_spec.specs.Arm.{conditions, nth, condition_flags, condition_reads}
 use Rattle.bilv_spec.specs.Bil.{Expression, Binary, Unary}
 use Rattle.bilv_spec.specs.Bil as bil
 use Rattle.bilv_spec.specs.BilMeaning.{Word, evaluate}

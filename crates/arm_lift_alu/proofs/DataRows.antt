@@ -2,16 +2,14 @@
 use Rattle.std.proofs.Common.{◌≡◌, ℕ, ◌+◌, ◌^◌, ◌<◌, Bool, true, false, not, ◌&&◌, ◌||◌, refl, ap, sym, subst, ◌∙◌, arith, None, ◌≤◌}
 use Rattle.std.specs.Prelude.{◌==◌}
 use Rattle.std.proofs.lemmas.Bool.Decides.{nat_tests}
-use Rattle.bilv_spec.specs.Words.{add, bit, bit_at}
+use Rattle.bilv_spec.specs.Words.{bit, bit_at}
 use Rattle.bilv_spec.specs.Memory.{Endian}
-use Rattle.bilv_spec.specs.State.{State, IsState, put, with_pc, flag_c, flag_v}
-use Rattle.bilv_spec.specs.Machine.{Outcome, Goes, Indirect}
+use Rattle.bilv_spec.specs.State.{State, IsState, flag_c, flag_v}
 use Rattle.bilv_spec.specs.Arm as rows
 use Rattle.bilv_spec.specs.Arm.{arm, Result, Shifted, results, result_at, reg, field_n, field_d, opcode, operand, with_flags, computed_by, on, write, write_by, flag_set, none, condition_code, is_computing}
-use Rattle.bilv_spec.specs.Bil.{RRegisters, Expression, Statements, Empty}
-use Rattle.bilv_spec.specs.Bil as bil
+use Rattle.bilv_spec.specs.Bil.{RRegisters, Expression, Statements}
 use Rattle.bilv_spec.specs.BilMeaning.{Word, evaluate, execute}
-use Rattle.bilv_spec.specs.Simulation.{Locals, env_of, position, of_list, of_row, Finished, Simulates}
+use Rattle.bilv_spec.specs.Simulation.{Locals, env_of, position, of_list, of_row, Simulates}
 use Rattle.bilv_spec.specs.BilCounts.{reads_flag}
 use Rattle.bilv_spec.specs.MachineLaws.{IsLifting}
 use Rattle.bilv_spec.proofs.ArmRanges.{reg_small}
@@ -30,7 +28,7 @@ use Rattle.arm_lift_alu.proofs.Rows.{conditional_lifting}
 use Rattle.arm_lift_alu.proofs.Values.{Gives, Carries, flag_carries, register_gives, operand_gives, operand_in, operand_of_word, small}
 use Rattle.arm_lift_alu.proofs.Sums.{result_of, value_gives, carry_given, overflow_given, overflow_kept, carry_kept}
 use Rattle.arm_lift_alu.proofs.ShifterCarries.{shifter_carry_gives, keeps}
-use Rattle.arm_lift_alu.proofs.Weights.{carry_reads, HasCarry, Fits, register_plain, operand_plain, value_plain, opcode_carry_plain, overflow_plain, shifter_carry_plain, fixed_shifter_plain, is_by_register}
+use Rattle.arm_lift_alu.proofs.Weights.{HasCarry, Fits, register_plain, operand_plain, value_plain, opcode_carry_plain, overflow_plain, shifter_carry_plain, fixed_shifter_plain, is_by_register}
 use Rattle.arm_lift_alu.proofs.Flagged.{made, flagged, with_flags_runs, tested_runs}
 use Rattle.arm_lift_alu.proofs.Uses.{needs, sets, only_c, read_ok, written_listed, with_flags_listed, tested_listed, with_flags_using, tested_using}
 use Rattle.arm_lift_alu.proofs.Alike.{carried_alike}

@@ -1,12 +1,12 @@
 -- Data processing with S, from what its value, carry and overflow evaluate to.
-use Rattle.std.proofs.Common.{◌≡◌, ℕ, zero, suc, ◌+◌, ◌-◌, ◌/◌, ◌%◌, ◌^◌, ◌<◌, ◌≤◌, Bool, true, false, not, ◌&&◌, ◌||◌, refl, ap, sym, subst, ◌∙◌, arith, None}
+use Rattle.std.proofs.Common.{◌≡◌, ℕ, zero, suc, ◌<◌, Bool, true, false, not, refl, ap, sym, ◌∙◌, arith, None}
 use Rattle.std.specs.Prelude.{◌==◌}
 use Rattle.std.proofs.lemmas.Bool.Decides.{nat_tests}
 use Rattle.std.proofs.lemmas.Bool.{ne_eqb}
 use Rattle.std.proofs.Math.Path.{fun_ext}
-use Rattle.bilv_spec.specs.Words.{add, bit, bit_at}
-use Rattle.bilv_spec.specs.State.{State, IsState, put, flag_n, flag_z, flag_c, flag_v}
-use Rattle.bilv_spec.specs.Arm.{Result, with_flags, flag_set}
+use Rattle.bilv_spec.specs.Words.{bit, bit_at}
+use Rattle.bilv_spec.specs.State.{State, put, flag_n, flag_z, flag_c, flag_v}
+use Rattle.bilv_spec.specs.Arm.{Result, with_flags}
 use Rattle.bilv_spec.specs.Bil.{RRegisters, Expression, Statements, Empty, Assign, If}
 use Rattle.bilv_spec.specs.Bil as bil
 use Rattle.bilv_spec.specs.BilMeaning.{Word, Position, Ends, evaluate, execute}
@@ -134,11 +134,11 @@ keeps_c : (a : Bool) (f : ℕ → ℕ) (v : ℕ) → put_if a f flag_v v flag_c 
 keeps_c true f v = refl
 keeps_c false f v = refl
 
-was_false : (a : Bool) → not a ≡ true → a ≡ false
+pub was_false : (a : Bool) → not a ≡ true → a ≡ false
 was_false false h = refl
 was_false true h = cc
 
-was_true : (a : Bool) → not a ≡ false → a ≡ true
+pub was_true : (a : Bool) → not a ≡ false → a ≡ true
 was_true true h = refl
 was_true false h = cc
 

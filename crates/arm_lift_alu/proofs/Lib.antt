@@ -19,3 +19,4 @@ pub mod DataRows
 pub mod Pushed
 pub mod Products
 pub mod Returned
+pub mod LongProducts

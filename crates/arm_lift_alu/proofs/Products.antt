@@ -1,10 +1,10 @@
 -- The lists of MUL and MLA are liftings of their rows.
-use Rattle.std.proofs.Common.{◌≡◌, ℕ, zero, suc, ◌+◌, ◌*◌, ◌/◌, ◌%◌, ◌^◌, ◌<◌, ◌≤◌, Bool, true, false, ◌&&◌, ◌||◌, refl, ap, sym, subst, ◌∙◌, arith, Option, Some, None, if◌then◌else◌}
+use Rattle.std.proofs.Common.{◌≡◌, ℕ, zero, suc, ◌+◌, ◌*◌, ◌%◌, ◌^◌, ◌<◌, Bool, true, false, ◌&&◌, ◌||◌, refl, ap, sym, subst, ◌∙◌, arith, Option, Some, None, if◌then◌else◌}
 use Rattle.std.specs.Prelude.{◌==◌}
 use Rattle.std.proofs.lemmas.Bool.{ne_eqb}
 use Rattle.bilv_spec.specs.Words.{add, mul, bit, bit_at}
 use Rattle.bilv_spec.specs.Memory.{Endian}
-use Rattle.bilv_spec.specs.State.{State, IsState, put, flag_n, flag_z, flag_c, flag_v}
+use Rattle.bilv_spec.specs.State.{State, put, flag_n, flag_z, flag_c, flag_v}
 use Rattle.bilv_spec.specs.Arm as rows
 use Rattle.bilv_spec.specs.Arm.{arm, reg, on, with_flags, flag_set, none, condition_code, accumulates, field_n, field_d, field_m, field_s}
 use Rattle.bilv_spec.specs.Bil.{Bits, RRegisters, Expression, Unknown, Statements, Empty, Assign}
@@ -19,19 +19,18 @@ use Rattle.arm_decode.specs.declared.forms.MultiplyFields.{MultiplyFields}
 use Rattle.arm_decode.specs.Forms.{IsMultiply, HasAddend}
 use Rattle.arm_lift_alu.specs.Lifted.{conditional}
 use Rattle.arm_lift_alu.specs.Operands.{own}
-use Rattle.arm_lift_alu.specs.Computing.{signs}
 use Rattle.arm_lift_alu.specs.Multiplied as lifts
 use Rattle.arm_lift_alu.proofs.Plain.{IsPlain, own_register, binary_plain}
 use Rattle.arm_lift_alu.proofs.Lists.{IsListed, IsUsing, empty_listed, shallow}
 use Rattle.arm_lift_alu.proofs.Rows.{conditional_lifting}
-use Rattle.arm_lift_alu.proofs.Flagged.{made, flagged, put_same, put_if, register_runs, signs_run, tests_end}
+use Rattle.arm_lift_alu.proofs.Flagged.{made, flagged, put_same, register_runs, signs_run, tests_end}
 use Rattle.arm_lift_alu.proofs.Uses.{heavier, register_listed, signs_listed}
 
 word_is : (x y : ℕ) → x ≡ y → Word 32 x ≡ Word 32 y
 word_is x y h = ap (λ z. Word 32 z) h
 
 -- a register that is not r15
-own_reg : (s : State) (r : ℕ) → r < 15 → s.regs r ≡ reg s r
+pub own_reg : (s : State) (r : ℕ) → r < 15 → s.regs r ≡ reg s r
 own_reg s r h = rw (ne_eqb r 15 (λ e. omega arith)) refl
 
 -- what is added

@@ -1,5 +1,5 @@
 -- A list with one more statement, and a whole list.
-use Rattle.std.proofs.Common.{◌≡◌, refl, ap, sym, ◌∙◌, List, [], ◌∷◌, ◌++◌}
+use Rattle.std.proofs.Common.{◌≡◌, refl, ap, List, [], ◌∷◌, ◌++◌}
 use Rattle.bilv_spec.specs.Bil.{Statements, Empty}
 use Rattle.bil_ast.specs.Views.{statement, statements}
 use Rattle.bil_ast.specs.declared.statements.Stmt.{Stmt}

@@ -1,6 +1,5 @@
 -- Where a register is the program counter, and where a shift's number is 0.
-use Rattle.std.proofs.Common.{◌≡◌, ◌≢◌, ℕ, zero, suc, ◌-◌, refl, ap, true, false, arith}
-use Rattle.std.specs.Prelude.{◌==◌}
+use Rattle.std.proofs.Common.{◌≡◌, ◌≢◌, ℕ, zero, suc, ◌-◌, refl, ap, arith}
 use Rattle.std.proofs.lemmas.Bool.{ne_eqb}
 use Rattle.bilv_spec.specs.Words.{add, bit_at}
 use Rattle.bilv_spec.specs.Bil.{Expression, Constant}

@@ -8,8 +8,7 @@ use Rattle.bilv_spec.specs.State.{State, IsState, flag_c}
 use Rattle.bilv_spec.specs.Arm as rows
 use Rattle.bilv_spec.specs.Arm.{reg}
 use Rattle.bilv_spec.specs.Bil.{Expression}
-use Rattle.bilv_spec.specs.Bil as bil
-use Rattle.bilv_spec.specs.BilMeaning.{Value, Word, choose}
+use Rattle.bilv_spec.specs.BilMeaning.{Word, choose}
 use Rattle.bilv_spec.proofs.ArmRanges.{reg_small}
 use Rattle.arm_decode.specs.declared.parts.ShiftKind.{ShiftKind}
 use Rattle.arm_decode.specs.declared.parts.ShiftKind.TheVariants.{Lsl, Lsr, Asr, Ror}
@@ -18,7 +17,6 @@ use Rattle.arm_decode.specs.declared.parts.Operand.TheVariants as kinds
 use Rattle.arm_decode.specs.Parts.{kind_number}
 use Rattle.arm_lift_alu.specs.declared.shifter.CarryIn.{CarryIn}
 use Rattle.arm_lift_alu.specs.declared.shifter.CarryIn.TheVariants.{Flag}
-use Rattle.arm_lift_alu.specs.Lifted.{flag}
 use Rattle.arm_lift_alu.specs.Operands as lifts
 use Rattle.arm_lift_alu.proofs.Values.{Gives, carry_gives, register_gives, own_gives, operand_in}
 use Rattle.arm_lift_alu.proofs.Shifts.{turned_by, rotation}

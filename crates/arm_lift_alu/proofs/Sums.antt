@@ -1,16 +1,16 @@
 -- What opcodes evaluate to: the value, the carry and the overflow.
-use Rattle.std.proofs.Common.{◌≡◌, ℕ, zero, suc, ◌+◌, ◌-◌, ◌*◌, ◌/◌, ◌%◌, ◌^◌, ◌<◌, ◌≤◌, ◌==◌, nat_le, nat_lt, Bool, true, false, not, ◌&&◌, refl, ap, sym, ◌∙◌, arith, min, bit_and, bit_or, bit_xor}
+use Rattle.std.proofs.Common.{◌≡◌, ℕ, ◌+◌, ◌/◌, ◌%◌, ◌^◌, ◌<◌, nat_le, nat_lt, true, false, refl, ap, arith}
 use Rattle.std.proofs.lemmas.Bool.Decides.{nat_tests}
-use Rattle.bilv_spec.specs.Words.{add, sub, bit, bits, bit_at, complement, sign_extend}
+use Rattle.bilv_spec.specs.Words.{add, sub, bit, bits, complement, sign_extend}
 use Rattle.bilv_spec.specs.State.{State, flag_c, flag_v}
-use Rattle.bilv_spec.specs.Arm.{Shifted, Result, results, result_at, sum}
+use Rattle.bilv_spec.specs.Arm.{Result, results, result_at, sum}
 use Rattle.bilv_spec.specs.Bil.{Expression}
 use Rattle.bilv_spec.specs.BilMeaning.{Word}
 use Rattle.arm_decode.specs.declared.parts.Opcode.{Opcode}
 use Rattle.arm_decode.specs.declared.parts.Opcode.TheVariants.{And, Eor, Sub, Rsb, Add, Adc, Sbc, Rsc, Tst, Teq, Cmp, Cmn, Orr, Mov, Bic, Mvn}
 use Rattle.arm_decode.specs.Parts.{opcode_number}
 use Rattle.arm_lift_alu.specs.declared.shifter.CarryIn.{CarryIn}
-use Rattle.arm_lift_alu.specs.declared.shifter.CarryIn.TheVariants.{Clear, Set, Flag}
+use Rattle.arm_lift_alu.specs.declared.shifter.CarryIn.TheVariants.{Clear, Set}
 use Rattle.arm_lift_alu.specs.Operands.{carry_bit}
 use Rattle.arm_lift_alu.specs.Computing as lifts
 use Rattle.arm_lift_alu.proofs.Values.{Gives, Carries, carries, carry_gives}

@@ -1,5 +1,5 @@
 -- Where a condition may fail.
-use Rattle.std.proofs.Common.{◌≡◌, ℕ, Bool, true, false, refl}
+use Rattle.std.proofs.Common.{◌≡◌, true, false, refl}
 use Rattle.std.specs.Prelude.{◌==◌}
 use Rattle.bilv_spec.specs.Bil.{Statements, Empty, If}
 use Rattle.arm_decode.specs.declared.parts.Condition.{Condition}

@@ -1,10 +1,9 @@
 -- What is said of the lists of data processing beside their ends.
-use Rattle.std.proofs.Common.{◌≡◌, ℕ, zero, suc, ◌+◌, ◌*◌, ◌<◌, ◌≤◌, Bool, true, false, not, ◌&&◌, ◌||◌, refl, ap, sym, ◌∙◌, arith, nat_le}
+use Rattle.std.proofs.Common.{◌≡◌, ℕ, zero, suc, ◌+◌, ◌<◌, ◌≤◌, Bool, true, false, not, ◌&&◌, ◌||◌, refl, ap, sym, ◌∙◌, arith, nat_le}
 use Rattle.std.specs.Prelude.{◌==◌}
 use Rattle.std.proofs.lemmas.Bool.{ne_eqb}
 use Rattle.std.proofs.lemmas.Bool.Decides.{nat_tests}
-use Rattle.bilv_spec.specs.Memory.{Endian}
-use Rattle.bilv_spec.specs.State.{flag_n, flag_z, flag_c, flag_v}
+use Rattle.bilv_spec.specs.State.{flag_c}
 use Rattle.bilv_spec.specs.Arm.{flag_set, none}
 use Rattle.bilv_spec.specs.Bil.{RRegisters, Expression, Statements, Empty, Assign, If}
 use Rattle.bilv_spec.specs.Bil as bil
@@ -40,7 +39,7 @@ pub register_listed : (q v w d u t : ℕ) (r : ℕ → Bool) (e : Expression) (r
 register_listed q v w d u t r e rest small p h fits =
     assign_listed 32 w v d u t r (bil.Register RRegisters q) e rest p h refl (λ m. (own_register q none small).names m) refl (omega arith)
 
-flag_listed : (g v w d u t : ℕ) (r : ℕ → Bool) (e : Expression) (rest : Statements) → nat_le g 3 ≡ true → IsPlain 1 v r e → IsListed w d u rest →
+pub flag_listed : (g v w d u t : ℕ) (r : ℕ → Bool) (e : Expression) (rest : Statements) → nat_le g 3 ≡ true → IsPlain 1 v r e → IsListed w d u rest →
     2 + v + w ≤ t →
     IsListed t d u (Assign (bil.Flag g) e rest)
 flag_listed g v w d u t r e rest small p h fits = assign_listed 1 w v d u t r (bil.Flag g) e rest p h refl (λ m. small) refl (omega arith)

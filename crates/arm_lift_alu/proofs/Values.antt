@@ -1,16 +1,15 @@
 -- What the operands evaluate to.
-use Rattle.std.proofs.Common.{◌≡◌, ℕ, zero, suc, ◌+◌, ◌-◌, ◌*◌, ◌/◌, ◌%◌, ◌^◌, ◌<◌, ◌≤◌, nat_le, Bool, true, false, refl, ap, sym, subst, ◌∙◌, arith, min, if◌then◌else◌}
+use Rattle.std.proofs.Common.{◌≡◌, ℕ, zero, suc, ◌+◌, ◌*◌, ◌/◌, ◌%◌, ◌^◌, ◌<◌, Bool, true, false, refl, ap, sym, subst, ◌∙◌, arith, min, if◌then◌else◌}
 use Rattle.std.specs.Prelude.{◌==◌}
 use Rattle.std.proofs.lemmas.Bool.{ne_eqb}
-use Rattle.std.proofs.lemmas.Bool.Decides.{nat_tests}
-use Rattle.bilv_spec.specs.Words.{add, bits, ror, bit_at}
+use Rattle.bilv_spec.specs.Words.{add, bits, bit_at}
 use Rattle.bilv_spec.specs.Memory.{Little}
 use Rattle.bilv_spec.specs.State.{State, IsState, flag_c}
 use Rattle.bilv_spec.specs.Arm as rows
 use Rattle.bilv_spec.specs.Arm.{Shifted, reg, bit_i, has_bit, field_m, field_s, kind_of, amount_of}
 use Rattle.bilv_spec.specs.Bil.{Bits, BilVariable, Register, Mem, Local, Expression, type_of}
 use Rattle.bilv_spec.specs.Bil as bil
-use Rattle.bilv_spec.specs.BilMeaning.{Value, Word, Stuck, Env, get, evaluate, HoldsVariables, IsOfType}
+use Rattle.bilv_spec.specs.BilMeaning.{Value, Word, Stuck, get, evaluate, HoldsVariables, IsOfType}
 use Rattle.bilv_spec.specs.Simulation.{Locals, env_of}
 use Rattle.bilv_spec.proofs.BilSound.{sound}
 use Rattle.bilv_spec.proofs.ArmRanges.{reg_small}
@@ -21,7 +20,6 @@ use Rattle.arm_decode.specs.declared.parts.Operand.TheVariants as kinds
 use Rattle.arm_decode.specs.Parts.{kind_number, HasOperand}
 use Rattle.arm_lift_alu.specs.declared.shifter.CarryIn.{CarryIn}
 use Rattle.arm_lift_alu.specs.declared.shifter.CarryIn.TheVariants.{Clear, Set, Flag}
-use Rattle.arm_lift_alu.specs.Lifted.{number}
 use Rattle.arm_lift_alu.specs.Operands as lifts
 use Rattle.arm_lift_alu.proofs.Plain.{IsPlain, own}
 use Rattle.arm_lift_alu.proofs.Shifts.{turned_by, rotation, left_by, right_by, signed_by, around_by}

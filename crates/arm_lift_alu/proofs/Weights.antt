@@ -1,5 +1,5 @@
 -- What is said of operands and opcodes without their values.
-use Rattle.std.proofs.Common.{◌≡◌, ℕ, zero, suc, ◌+◌, ◌-◌, ◌*◌, ◌^◌, ◌<◌, ◌≤◌, ◌==◌, nat_le, nat_lt, Bool, true, false, ◌&&◌, ◌||◌, refl, ap, subst, ◌∙◌, arith, ◌/◌, ◌%◌}
+use Rattle.std.proofs.Common.{◌≡◌, ℕ, zero, suc, ◌+◌, ◌-◌, ◌*◌, ◌^◌, ◌<◌, ◌==◌, nat_le, nat_lt, Bool, true, false, ◌&&◌, refl, subst, arith, ◌/◌, ◌%◌}
 use Rattle.std.proofs.lemmas.Bool.Decides.{nat_tests}
 use Rattle.bilv_spec.specs.Words.{add, bit_at}
 use Rattle.bilv_spec.specs.Bil.{Expression, Constant}
@@ -13,7 +13,7 @@ use Rattle.arm_decode.specs.declared.parts.Opcode.{Opcode}
 use Rattle.arm_decode.specs.declared.parts.Opcode.TheVariants.{And, Eor, Sub, Rsb, Add, Adc, Sbc, Rsc, Tst, Teq, Cmp, Cmn, Orr, Mov, Bic, Mvn}
 use Rattle.arm_lift_alu.specs.declared.shifter.CarryIn.{CarryIn}
 use Rattle.arm_lift_alu.specs.declared.shifter.CarryIn.TheVariants.{Clear, Set, Flag}
-use Rattle.arm_lift_alu.specs.Lifted.{number, flag}
+use Rattle.arm_lift_alu.specs.Lifted.{flag}
 use Rattle.arm_lift_alu.specs.Operands as lifts
 use Rattle.arm_lift_alu.specs.Computing as lists
 use Rattle.arm_lift_alu.proofs.Plain.{IsPlain, constant_plain, number_plain, flag_plain, own_register, not_plain, binary_plain, cast_plain, extract_plain, concat_plain, choose_plain, lighter}

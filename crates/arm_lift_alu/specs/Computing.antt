@@ -5,7 +5,6 @@ use Rattle.bilv_spec.specs.Bil as bil
 use Rattle.bilv_spec.specs.Bil.{RRegisters, Expression, Var, Constant, Binary, Unary, Cast, Extract, Statements, Empty, Assign, JumpTo, If}
 use Rattle.arm_decode.specs.declared.parts.Opcode.{Opcode}
 use Rattle.arm_decode.specs.declared.parts.Opcode.TheVariants.{And, Eor, Sub, Rsb, Add, Adc, Sbc, Rsc, Tst, Teq, Cmp, Cmn, Orr, Mov, Bic, Mvn}
-use Rattle.arm_decode.specs.declared.parts.Operand as operands
 use Rattle.arm_decode.specs.declared.forms.ComputingFields.{ComputingFields}
 use Rattle.arm_lift_alu.specs.declared.shifter.CarryIn.{CarryIn}
 use Rattle.arm_lift_alu.specs.declared.shifter.CarryIn.TheVariants.{Clear, Set, Flag}

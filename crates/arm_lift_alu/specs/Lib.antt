@@ -3,3 +3,4 @@ pub mod Operands
 pub mod Computing
 pub mod Before
 pub mod Multiplied
+pub mod MultipliedLong

@@ -1,6 +1,5 @@
 -- The list that each instruction is lifted to.
-use Rattle.std.specs.Prelude.{ℕ, zero, suc, ◌==◌, Bool, true, false}
-use Rattle.bilv_spec.specs.Words.{add}
+use Rattle.std.specs.Prelude.{ℕ, Bool, true, false}
 use Rattle.bilv_spec.specs.State.{flag_n, flag_z, flag_c, flag_v}
 use Rattle.bilv_spec.specs.Bil as bil
 use Rattle.bilv_spec.specs.Bil.{RRegisters, Expression, Var, Constant, Binary, Unary, Cast, Extract, Concat, Statements, Empty, Assign, JumpTo, Raise, If}

@@ -1,5 +1,5 @@
 -- The operands of data processing, and the carry out of their shifts (section A5.1).
-use Rattle.std.specs.Prelude.{ℕ, zero, suc, ◌+◌, ◌-◌, ◌*◌, ◌==◌, Bool, true, false}
+use Rattle.std.specs.Prelude.{ℕ, zero, suc, ◌-◌, ◌*◌, ◌==◌, Bool, true, false}
 use Rattle.bilv_spec.specs.Words.{add, bit_at, ror}
 use Rattle.bilv_spec.specs.State.{flag_c}
 use Rattle.bilv_spec.specs.Bil as bil

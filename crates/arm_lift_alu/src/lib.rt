@@ -8,8 +8,10 @@ pub mod conditional;
 mod data;
 pub mod expressions;
 mod multiplying;
+mod multiplying_long;
 pub mod shifter;
 
 pub use branching::{lift_branch, lift_software_interrupt};
 pub use data::lift_computing;
 pub use multiplying::lift_multiply;
+pub use multiplying_long::lift_multiply_long;

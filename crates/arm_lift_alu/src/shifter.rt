@@ -53,7 +53,7 @@ pub fn register(r: AnyRegister, at: u32) -> Exp
     }
 }
 
-/// A cast of a word to a width of 1 to 64 bits. The error is want of memory.
+/// A cast of a word to a width in bits, from 1 to 64. The error is want of memory.
 pub fn cast(alloc: Global, kind: CastKind, bits: u8, word: Exp) -> Result<Exp, AllocError>
     requires some { 1 ≤ bits }
     requires few { bits ≤ 64 }
@@ -159,7 +159,7 @@ fn by_register(
 
 /// The number of an operand that is one: 8 bits, rotated to the right by twice the rotation.
 #[tactic(auto, using(crate::proofs::Shifts::turned_small))]
-pub fn immediate(byte: u8, rotation: u8) -> u32
+pub(crate) fn immediate(byte: u8, rotation: u8) -> u32
     ensures { result ≡ lifts.immediate byte rotation }
 {
     let amount = 2 * rotation as u32 % 32;
@@ -276,7 +276,7 @@ fn immediate_carry(byte: u8, rotation: u8) -> Exp
 }
 
 /// The carry out of the operand's shift, as one bit (section A5.1). The error is want of memory.
-pub fn shifter_carry(alloc: Global, operand: Operand, at: u32) -> Result<Exp, AllocError>
+pub(crate) fn shifter_carry(alloc: Global, operand: Operand, at: u32) -> Result<Exp, AllocError>
     ensures { IfOk result (λ e. expression e ≡ lifts.shifter_carry operand at) }
 {
     match operand {
@@ -295,7 +295,7 @@ pub fn shifter_carry(alloc: Global, operand: Operand, at: u32) -> Result<Exp, Al
 }
 
 /// Whether the carry is the flag C, whatever the registers are.
-pub fn keeps_carry(operand: Operand) -> bool
+pub(crate) fn keeps_carry(operand: Operand) -> bool
     ensures { result ≡ lifts.keeps_carry operand }
 {
     match operand {
@@ -309,7 +309,7 @@ pub fn keeps_carry(operand: Operand) -> bool
 }
 
 /// Whether the operand has the carry that comes in.
-pub fn has_carry(operand: Operand) -> bool
+pub(crate) fn has_carry(operand: Operand) -> bool
     ensures { result ≡ lifts.has_carry operand }
 {
     match operand {
