@@ -1,0 +1,14 @@
+pub mod Fetches
+pub mod Lists
+pub mod Rows
+pub mod Values
+pub mod Bases
+pub mod Facts
+pub mod Parts
+pub mod Offsets
+pub mod TransferRows
+pub mod Literals
+pub mod SwapRows
+pub mod HalfwordRows
+pub mod Returned
+pub mod Choices

@@ -1,0 +1,4 @@
+pub mod Accesses
+pub mod Transfers
+pub mod Halfwords
+pub mod Swaps
