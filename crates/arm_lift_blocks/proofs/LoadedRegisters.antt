@@ -29,6 +29,10 @@ put_twice f b x y = fun_ext (λ v. twice (v == b) y x (f v))
     twice true y x z = refl
     twice false y x z = refl
 
+-- a register that was changed
+put_same : (f : ℕ → ℕ) (b x : ℕ) → put f b x b ≡ x
+put_same f b x = let t : (b == b) ≡ true = eq-eqb b b refl in rw t refl
+
 -- two registers changed, in either order
 put_swap : (f : ℕ → ℕ) (r b x y : ℕ) → (r == b) ≡ false → put (put f b y) r x ≡ put (put f r x) b y
 put_swap f r b x y h = fun_ext (λ v. elim (cases_eq v r) [
@@ -101,9 +105,6 @@ all_loaded e m a b (r ∷ rs) f n =
     ∙ ap (λ h. put h b (base_of e m (add 32 a 4) b rs (put g b y b))) (base_first e m (add 32 a 4) b y rs g)
     ∙ put_twice (load_others e m (add 32 a 4) b rs g) b y (base_of e m (add 32 a 4) b rs (put g b y b))
     ∙ ap (λ z. put (load_others e m (add 32 a 4) b rs g) b (base_of e m (add 32 a 4) b rs z)) (put_same g b y)
-  where
-    put_same : (g : ℕ → ℕ) (b y : ℕ) → put g b y b ≡ y
-    put_same g b y = let t : (b == b) ≡ true = eq-eqb b b refl in rw t refl
 
 -- all registers, where the base was changed before
 pub all_written : (e : Endian) (m : Memory) (a b y : ℕ) (rs : List ℕ) (f : ℕ → ℕ) → (b == 15) ≡ false →
@@ -113,9 +114,6 @@ all_written e m a b y rs f n =
     ∙ ap (λ h. put h b (base_of e m a b rs (put f b y b))) (base_first e m a b y rs f)
     ∙ put_twice (load_others e m a b rs f) b y (base_of e m a b rs (put f b y b))
     ∙ ap (λ z. put (load_others e m a b rs f) b (base_of e m a b rs z)) (put_same f b y)
-  where
-    put_same : (g : ℕ → ℕ) (b y : ℕ) → put g b y b ≡ y
-    put_same g b y = let t : (b == b) ≡ true = eq-eqb b b refl in rw t refl
 
 -- the value at a place, or else another
 abbrev pub value_at : Endian → Memory → (start v : ℕ) → Option ℕ → ℕ
