@@ -90,7 +90,8 @@ lifting_by : (load : Bool) (e : Endian) (w at : ℕ) (k : Condition) → field_n
 lifting_by true e w at k few code =
     let n : ℕ = length (listed w) in
     conditional_lifting e w at (160 * n + 160) (4096 + 512 * n) (4 * n) 0 0 (block_done true e w) false (λ s. (block_start w s, 4 * n))
-    (may_write_pc w (has_bit 15 w)) false (list_by true e w at) (load_runs e w at few) (load_bytes e w at) (load_part e w at few) (λ t. refl) (omega arith) k code
+    (may_write_pc w (has_bit 15 w)) false (list_by true e w at)
+    (load_runs e w at few) (load_bytes e w at) (load_part e w at few) (λ t. refl) (omega arith) k code
 lifting_by false e w at k few code =
     let n : ℕ = length (listed w) in
     conditional_lifting e w at (160 * n + 160) (4096 + 512 * n) 0 (4 * n) (drawn (listed w)) (block_done false e w) true (λ s. (block_start w s, 4 * n))
@@ -138,7 +139,8 @@ returned e w at n k x list (Ok all) h code whole same made =
     let few : field_n w < 15 = subst (λ (r : ℕ). r < 15) h.rn x.rn.in_range in
     let registers : listed_from x.list.bits 0 n ≡ listed w = ap (listed_from x.list.bits 0) whole ∙ same_listed x.list.bits w 16 h.list (omega arith) in
     let is : list ≡ list_by (is_load w) e w at = same ∙ same_block e w at x h (listed_from x.list.bits 0 n) registers in
-    subst (λ (z : Statements). IsLifting (arm e) RRegisters (rows.block e w) at z) (sym (made ∙ ap (conditional k) is)) (lifting_by (is_load w) e w at k few code)
+    subst (λ (z : Statements). IsLifting (arm e) RRegisters (rows.block e w) at z) (sym (made ∙ ap (conditional k) is))
+    (lifting_by (is_load w) e w at k few code)
 returned e w at n k x list (Err error) h code whole same made = tt
 
 -- the list of LDM, where it is one

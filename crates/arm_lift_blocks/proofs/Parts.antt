@@ -208,7 +208,8 @@ place_bytes (Some d) = 4
 pub base_part : (place : Option ℕ) (e : Endian) (writes up : Bool) (b n : ℕ) → b < 15 → n < 2 ^ 32 → IsWord place →
     IsPart 160 (place_bytes place) 0 0 (lifts.base_last place e writes up b n)
 base_part (Some d) e writes up b n h k i =
-    wider 160 4 0 0 160 4 0 0 _ (load_part e (lifts.word_at b d) b 0 0 0 0 Empty (word_plain b d h i) h empty_part) (omega arith) (omega arith) (omega arith) (omega arith)
+    wider 160 4 0 0 160 4 0 0 _ (load_part e (lifts.word_at b d) b 0 0 0 0 Empty (word_plain b d h i) h empty_part)
+    (omega arith) (omega arith) (omega arith) (omega arith)
 base_part None e writes up b n h k i = written_part writes up b n h k
 
 place_word : (t : Bool) (d : ℕ) (found : Option ℕ) → d < 2 ^ 32 → IsWord found → IsWord (if t then Some d else found)
