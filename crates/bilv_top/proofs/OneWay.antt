@@ -1,4 +1,4 @@
--- The rows of a program of RISC-V have 4 bytes, none has both a direct and an indirect successor, and none loads a literal.
+-- The rows of a program of RISC-V have 4 bytes, and none has both a direct and an indirect successor.
 use Rattle.std.proofs.Common.{◌≡◌, ℕ, List, [], ◌∷◌, Option, Some, None, Bool, true, false, refl, sym, ap, ◌∙◌}
 use Rattle.std.specs.Prelude.{◌==◌, ◌&&◌, not, is_some, if◌then◌else◌}
 use Rattle.std.proofs.lemmas.Bool.{eqb-true}
@@ -11,11 +11,10 @@ use Rattle.bilv_spec.specs.Run.{Program, fetchable}
 use Rattle.bilv_spec.specs.Points.{file_row, file_word}
 use Rattle.bilv_spec.specs.Files.{is_rv, program_of}
 use Rattle.program_points.specs.Listed.{HasOneWay}
-use Rattle.unroller.specs.Rows.{IsPlain, IsPlainMachine}
 
--- a row has 4 bytes and one way, and loads no literal
+-- a row has 4 bytes and one way
 abbrev goes_one_way : Row → ℕ → Bool
-goes_one_way row at = (row.length == 4) && (not ((row.successors at).indirect && is_some (row.successors at).direct) && not (is_some (row.literal at)))
+goes_one_way row at = (row.length == 4) && not ((row.successors at).indirect && is_some (row.successors at).direct)
 
 abbrev go_one_way : List Instruction → Fields → ℕ → Bool
 go_one_way [] x at = true
@@ -59,18 +58,9 @@ file_row_goes p is a row e =
 
 has_one_way : (p : Program) → p.machine ≡ rv32 → HasOneWay p
 has_one_way p is = record {
-  direct = λ a row e i. one_direct (row.successors a).indirect (row.successors a).direct (both _ _ (both _ _ (file_row_goes p is a row e)).1).0 i;
+  direct = λ a row e i. one_direct (row.successors a).indirect (row.successors a).direct (both _ _ (file_row_goes p is a row e)).1 i;
   four = λ a row e. eqb-true row.length 4 (both _ _ (file_row_goes p is a row e)).0;
 }
 
 pub rv_has_one_way : (file : List ℕ) (notes : Notes) (entry : ℕ) → is_rv file ≡ true → HasOneWay (program_of file notes entry)
 rv_has_one_way file notes entry is = has_one_way (program_of file notes entry) (ap (λ b. if b then rv32 else arm (file_endian file)) is)
-
-none_there : (o : Option ℕ) → not (is_some o) ≡ true → o ≡ None
-none_there None h = refl
-none_there (Some x) h = absurd (cc)
-
-pub rv_is_plain : IsPlainMachine rv32
-rv_is_plain = record {
-  rows = λ w row small e. record { literal = λ at. none_there (row.literal at) (both _ _ (both _ _ (rv_row_goes w at row e)).1).1 };
-}

@@ -1,21 +1,22 @@
 -- What the node of an address says of its code.
-use Rattle.std.proofs.Common.{◌≡◌, refl, ap, sym, ◌∙◌, subst, ℕ, Option, Some, None, Bool, true, false}
+use Rattle.std.proofs.Common.{◌≡◌, refl, ap, sym, ◌∙◌, subst, ℕ, ◌<◌, ◌^◌, Option, Some, None, Bool, true, false}
 use Rattle.std.specs.Prelude.{is_some, if◌then◌else◌}
 use Rattle.std.specs.Global.{Vec}
+use Rattle.bilv_spec.specs.Memory.{Endian}
 use Rattle.bilv_spec.specs.Machine.{Row}
 use Rattle.bilv_spec.specs.MachineLaws.{IsLawful, IsLifting}
-use Rattle.bilv_spec.specs.Bil.{Bank}
-use Rattle.bilv_spec.specs.Run.{Program, fetchable, literal_target}
-use Rattle.bilv_spec.specs.Points.{file_row, file_word, is_empty, row_price, loads_at, stores_at}
+use Rattle.bilv_spec.specs.Bil.{Bank, Statements}
+use Rattle.bilv_spec.specs.Run.{Program, fetchable}
+use Rattle.bilv_spec.specs.Points.{file_row, file_word, row_price, loads_at, stores_at}
 use Rattle.bil_ast.specs.declared.statements.Stmt.{Stmt}
 use Rattle.bil_ast.specs.Views.{statements}
+use Rattle.bil_trim.specs.Literals.{with_literal}
 use Rattle.graph_nodes.specs.declared.nodes.Node.{Node}
 use Rattle.graph_nodes.specs.Graphs.{IsNode}
-use Rattle.machine_law.specs.Facts.{IsLiftedWord}
 use Rattle.walk_spec.specs.Unrolling.{row_draws}
 use Rattle.question_form.specs.declared.unrolled.Code.{Code}
 use Rattle.unroller.specs.Places.{IsRowCode}
-use Rattle.unroller.specs.Rows.{IsPlain}
+use Rattle.unroller.specs.Rows.{IsListAt, IsListedAt, kept_literal, list_with, literal_by, literal_at}
 
 none_word : (o : Option Row) (w : ℕ) → (if is_some o then Some w else None) ≡ None → o ≡ None
 none_word None w h = refl
@@ -40,7 +41,7 @@ bare_code p bank n asserts c is none e =
     subst (λ (z : Code). IsRowCode p bank z) (sym e)
     (record {
       fetchable = is.fetchable;
-      list = subst (λ (o : Option Row). IsLiftedWord p.machine bank o n.at None) (sym none) tt;
+      list = subst (λ (o : Option Row). IsListedAt p bank o n.at None) (sym none) tt;
       draws = ap row_draws (sym none);
       row = ap row_price (sym none);
       loads = ap (λ (o : Option Row). loads_at p n.at o) (sym none);
@@ -54,7 +55,7 @@ no_word p bank n asserts c is h e = bare_code p bank n asserts c is (none_word (
 
 pub lifted_code : (p : Program) (bank : Bank) (n : Node) (r : Row) (list : Vec Stmt) (draws : Bool) (row loads stores : ℕ) (asserts : ℕ × ℕ) → IsNode p n →
     file_row p n.at ≡ Some r →
-    IsLawful r → IsPlain r → IsLifting p.machine bank r n.at (statements list.items) → draws ≡ r.draws → row ≡ r.cost.row → loads ≡ r.cost.loads →
+    IsLawful r → IsListAt p bank r n.at (statements list.items) → draws ≡ r.draws → row ≡ r.cost.row → loads ≡ loads_at p n.at (Some r) →
     stores ≡ r.cost.stores →
     IsRowCode p bank (record {
       at = n.at;
@@ -66,15 +67,46 @@ pub lifted_code : (p : Program) (bank : Bank) (n : Node) (r : Row) (list : Vec S
       stores = stores;
       asserts = asserts;
     })
-lifted_code p bank n r list draws row loads stores asserts is some lawful plain lifting d a b e =
+lifted_code p bank n r list draws row loads stores asserts is some lawful listed d a b e =
     record {
       fetchable = is.fetchable;
-      list = subst (λ (o : Option Row). IsLiftedWord p.machine bank o n.at (Some list)) (sym some) lifting;
+      list = subst (λ (o : Option Row). IsListedAt p bank o n.at (Some list)) (sym some) listed;
       draws = d ∙ ap row_draws (sym some);
       row = a ∙ ap row_price (sym some);
-      loads =
-          b ∙ ap (λ (o : Option ℕ). if is_empty (literal_target p (file_word p) o) then r.cost.loads else 0) (sym (plain.literal n.at))
-          ∙ ap (λ (o : Option Row). loads_at p n.at o) (sym some);
+      loads = b ∙ ap (λ (o : Option Row). loads_at p n.at o) (sym some);
       stores = e ∙ ap stores_at (sym some);
-      fit = λ s h. (let same : r ≡ s = cc in subst (λ (z : Row). IsLawful z × IsPlain z) same (lawful, plain));
+      fit = λ s h. (let same : r ≡ s = cc in subst (λ (z : Row). IsLawful z) same lawful);
     }
+
+-- a node without a word has no row, and no literal
+pub no_literal : (p : Program) (n : Node) → IsNode p n → n.word ≡ None → None ≡ literal_at p n.at
+no_literal p n is h = ap (λ (o : Option Row). literal_by p o n.at) (sym (none_word (file_row p n.at) (file_word p n.at) (sym is.word ∙ h)))
+
+-- the literal of a node's row
+pub row_literal : (p : Program) (n : Node) (r : Row) (found : Option ℕ) → file_row p n.at ≡ Some r → found ≡ kept_literal p (r.literal n.at) →
+    found ≡ literal_at p n.at
+row_literal p n r found some e = e ∙ ap (λ (o : Option Row). literal_by p o n.at) (sym some)
+
+-- a list as it is lifted, where no literal is kept
+pub plain_list : (p : Program) (bank : Bank) (r : Row) (at : ℕ) (list : Statements) → IsLifting p.machine bank r at list → None ≡ kept_literal p (r.literal at) →
+    IsListAt p bank r at list
+plain_list p bank r at list lifting k =
+    record { lifted = list; lifting = lifting; is = ap (λ (o : Option ℕ). list_with p o list) k; word = λ a h. absurd (cc) }
+
+-- a list with the constant of a kept literal
+pub literal_list : (p : Program) (bank : Bank) (r : Row) (at place a v : ℕ) (o : Endian) (lifted list : Statements) → IsLifting p.machine bank r at lifted →
+    Some place ≡ kept_literal p (r.literal at) → list ≡ with_literal o a v lifted → o ≡ p.machine.endian → a ≡ place → v ≡ file_word p place → v < 2 ^ 32 →
+    IsListAt p bank r at list
+literal_list p bank r at place a v o lifted list lifting k is order here value small = record {
+  lifted = lifted;
+  lifting = lifting;
+  is =
+      is ∙ ap (λ (z : Endian). with_literal z a v lifted) order ∙ ap (λ (z : ℕ). with_literal p.machine.endian z v lifted) here
+      ∙ ap (λ (z : ℕ). with_literal p.machine.endian place z lifted) value ∙ ap (λ (z : Option ℕ). list_with p z lifted) k;
+  word = λ x h.
+      let same = one_place place x (k ∙ h) in
+      subst (λ (z : ℕ). file_word p z < 2 ^ 32) same (subst (λ (z : ℕ). z < 2 ^ 32) value small);
+}
+  where
+    one_place : (x y : ℕ) → Some x ≡ Some y → x ≡ y
+    one_place x y e = cc

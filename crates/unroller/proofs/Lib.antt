@@ -9,6 +9,8 @@ mod Named
 pub mod Placed
 mod Priced
 mod Rows
+pub mod Literals
+mod Found
 pub mod Ordered
 pub mod Adding
 pub mod Places

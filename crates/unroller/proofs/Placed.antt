@@ -3,7 +3,7 @@ use Rattle.std.proofs.Common.{◌≡◌, refl, ap, sym, ◌∙◌, subst, arith,
 use Rattle.std.specs.Prelude.{map}
 use Rattle.std.specs.Global.{Vec}
 use Rattle.bilv_spec.specs.Machine.{Row}
-use Rattle.bilv_spec.specs.MachineLaws.{IsFitted, IsLifting}
+use Rattle.bilv_spec.specs.MachineLaws.{IsFitted}
 use Rattle.bilv_spec.specs.StateText.{Layout}
 use Rattle.bilv_spec.specs.Bil.{Bank}
 use Rattle.bilv_spec.specs.Run.{Program}
@@ -12,14 +12,14 @@ use Rattle.bil_ast.specs.declared.statements.Stmt.{Stmt}
 use Rattle.bil_ast.specs.Views.{statements}
 use Rattle.walk_spec.specs.Unrolled.{PointExit, Always, Raising, WritingKept, Unaligned, is_register_of, is_flag_of}
 use Rattle.walk_spec.specs.Unrolling.{IsPlace, IsCounted, assert_exits, stop_event, row_draws}
-use Rattle.machine_law.specs.Facts.{IsLiftedWord}
 use Rattle.question_form.specs.declared.unrolled.Code.{Code}
 use Rattle.question_form.specs.declared.unrolled.Edge.{Edge}
 use Rattle.question_form.specs.declared.unrolled.Point as declared
 use Rattle.question_form.specs.declared.unrolled.Unrolled.{Unrolled}
 use Rattle.question_form.specs.Views.{edge_of, point_by, unrolled_of}
 use Rattle.unroller.specs.Places.{IsCode, AreEdgesAt, HasFitRow, PlacesAreRight}
-use Rattle.unroller.proofs.Rows.{liftings_do_rows}
+use Rattle.unroller.specs.Rows.{IsListAt, IsListedAt}
+use Rattle.unroller.proofs.Literals.{lists_do_rows}
 
 module _ (p : Program) (k : ℕ) (u : Unrolled) (form : Layout) (bank : Bank) (i : ℕ) (q : declared.Point) (edges : List Edge) (fitted : IsFitted p.machine form)
     (registers : (r : ℕ) → is_register_of (unrolled_of u) r ≡ p.machine.has_register r) (flags : (f : ℕ) →
@@ -60,9 +60,9 @@ module _ (p : Program) (k : ℕ) (u : Unrolled) (form : Layout) (bank : Bank) (i
         };
       }
   place_by at f None draws row loads stores asserts fit code led (Some r) is = absurd (subst
-      (λ (z : Option Row). IsLiftedWord p.machine bank z at None) is code.own.list)
+      (λ (z : Option Row). IsListedAt p bank z at None) is code.own.list)
   place_by at f (Some v) draws row loads stores asserts fit code led None is = absurd (subst
-      (λ (z : Option Row). IsLiftedWord p.machine bank z at (Some v)) is code.own.list)
+      (λ (z : Option Row). IsListedAt p bank z at (Some v)) is code.own.list)
   place_by at f (Some v) draws row loads stores asserts fit code led (Some r) is =
       let x = (point_by u q (record { at = at; fetchable = f; list = Some v; draws = draws; row = row; loads = loads; stores = stores; asserts = asserts })
       edges) in
@@ -74,9 +74,8 @@ module _ (p : Program) (k : ℕ) (u : Unrolled) (form : Layout) (bank : Bank) (i
             (λ (z : Option Row). loads_at p at z) is;
         stores = code.own.stores ∙ ap stores_at is;
       } in
-      let lifting : IsLifting p.machine bank r at (statements v.items) = subst
-      (λ (z : Option Row). IsLiftedWord p.machine bank z at (Some v)) is code.own.list in
-      let law = liftings_do_rows p (unrolled_of u) form bank x r (statements v.items) fitted registers flags is (fit.lawful r is) (fit.plain r is) lifting refl
+      let listed : IsListAt p bank r at (statements v.items) = subst (λ (z : Option Row). IsListedAt p bank z at (Some v)) is code.own.list in
+      let law = lists_do_rows p (unrolled_of u) form bank x r (statements v.items) fitted registers flags is (fit.lawful r is) listed refl
       (sym (fit.four r is)) counted in
       record {
         does = (map edge_of edges, ap (λ (z : List PointExit). z ++ Raising ∷ WritingKept ∷ Unaligned ∷ map edge_of edges) code.asserts, led r is, law.0);

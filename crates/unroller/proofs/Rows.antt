@@ -1,4 +1,4 @@
--- The list of a lawful row does what the row does, as far as it is read later.
+-- The list of a lawful row as it is lifted does what the row does, as far as it is read later.
 use Rattle.std.proofs.Common.{◌≡◌, refl, ap, sym, ◌∙◌, subst, arith, ℕ, zero, suc, ◌+◌, ◌<◌, ◌≤◌, Option, Some, None, Bool, true, false, List}
 use Rattle.std.specs.Prelude.{if◌then◌else◌, ◌==◌, nat_lt, ◌↔◌, Contains, length}
 use Rattle.std.proofs.lemmas.Bool.Decides.{nat_tests}
@@ -17,10 +17,9 @@ use Rattle.bilv_spec.specs.Simulation.{position, jump_of, Finished, Raised, of_l
 use Rattle.bilv_spec.specs.Run.{Program, literal_target}
 use Rattle.bilv_spec.specs.Points.{file_row, file_word, is_empty}
 use Rattle.bilv_spec.specs.LiveFlags.{IsRead, by_row, later, IsReadAfter, reads_by, surely_by}
-use Rattle.walk_spec.specs.Unrolled.{Carried, state_at, Action, Executes, UnrolledPoint, UnrolledProgram, Leaving, GoesOn, RaisesOne, IsStuck, leaving, leaving_by, left_by, stored_at, is_register_of, is_flag_of}
+use Rattle.walk_spec.specs.Unrolled.{Carried, state_at, UnrolledPoint, Leaving, GoesOn, RaisesOne, IsStuck, leaving_by, begins}
 use Rattle.walk_spec.specs.Unrolled as walk
 use Rattle.walk_spec.specs.Unrolling.{IsCarriedOf, jumps, LeavesAs}
-use Rattle.unroller.specs.Rows.{IsPlain, LiftingsDoRows}
 use Rattle.unroller.proofs.Mixed.{mix_end, list_same, list_stores_same}
 use Rattle.unroller.proofs.Named.{list_wider}
 
@@ -41,7 +40,7 @@ same_state : (s : State) (i v : ℕ) → v ≡ s.flags i → with_flag s i v ≡
 same_state s i v is = ap (λ (z : ℕ → ℕ). let r : State = record { pc = s.pc; regs = s.regs; flags = z; mem = s.mem } in r) (fun_ext
     (λ x. put_same_value s.flags i v x (x == i) refl is))
 
-module _ (p : Program) (row : Row) (at : ℕ) (is : file_row p at ≡ Some row) (lawful : IsLawful row) (plain : IsPlain row) where
+module _ (p : Program) (row : Row) (at : ℕ) (is : file_row p at ≡ Some row) (lawful : IsLawful row) where
   -- two outcomes are the same as far as is read later
   abbrev Alike : Outcome → Outcome → Type 0
   Alike (Goes how s) (Goes other t) = (how ≡ other) × (s.pc ≡ t.pc) × (s.regs ≡ t.regs) × (s.mem ≡ t.mem) ×
@@ -200,7 +199,7 @@ carried_over reads s t c pc regs mem flags h = record {
 }
 
 module _ (p : Program) (form : Layout) (bank : Bank) (q : UnrolledPoint) (row : Row) (list : Statements) (fitted : IsFitted p.machine form)
-    (is : file_row p q.point.at ≡ Some row) (lawful : IsLawful row) (plain : IsPlain row) (lifting : IsLifting p.machine bank row q.point.at list)
+    (is : file_row p q.point.at ≡ Some row) (lawful : IsLawful row) (lifting : IsLifting p.machine bank row q.point.at list)
     (long : q.length ≡ row.length) where
   own_low : (f : ℕ) → is_own p.machine bank (bil.Flag f) ≡ true → low_flag f ≡ true
   own_low f h = let e : nat_lt f (length form.flags) ≡ true = sym (fitted.flags f) ∙ h in let few = fitted.few_flags in grind (arith, nat_tests)
@@ -261,7 +260,7 @@ module _ (p : Program) (form : Layout) (bank : Bank) (q : UnrolledPoint) (row : 
         let up : 4 ≤ f = grind (arith, nat_tests) in
         let same = of_ends _ _ (sym ends ∙ own_ends ∙ ap (λ (z : Ending). mix_end low_flag s4.flags z) ends) in
         let flag : new.flags f ≡ (if low_flag f then new.flags f else s4.flags f) = ap (λ (z : Position). z.env.flags f) same in
-        agrees f (read_later p row q.point.at is lawful plain f (not_sure row lawful f up (row.flags.surely f) refl) after) ∙ sym (lower_beyond s g f e)
+        agrees f (read_later p row q.point.at is lawful f (not_sure row lawful f up (row.flags.surely f) refl) after) ∙ sym (lower_beyond s g f e)
         ∙ sym (flag ∙ pick (low_flag f) (new.flags f) (s4.flags f) (s4.flags f) (λ t. absurd (cc)) (λ t. refl))
 
     carried_of_new : (how : How) (new : State) → row.effect s4 choice ≡ Goes how new → x4 ≡ Ends (position (λ x w. Stuck) 0 (jump_of how new) new) →
@@ -289,7 +288,7 @@ module _ (p : Program) (form : Layout) (bank : Bank) (q : UnrolledPoint) (row : 
         (λ (z : Outcome). of_row (λ y w. Stuck) 0 z) e) in
         subst (λ (z : Ending). LeavesAs After (Raises x) (leaving_by q (mix_end low_flag g z))) (sym raised.1) refl
 
-    onward : (o n : Outcome) (l : Leaving) → Alike p row q.point.at is lawful plain o n → LeavesAs After n l → LeavesAs After o l
+    onward : (o n : Outcome) (l : Leaving) → Alike p row q.point.at is lawful o n → LeavesAs After n l → LeavesAs After o l
     onward (Goes how new) (Goes other t) (GoesOn jumped to c) a h =
         (h.0 ∙ ap jumps (sym a.0), h.1 ∙ sym a.1, carried_over After new t c a.1 a.2 a.3 a.4 h.2)
     onward (Goes how new) (Goes other t) (RaisesOne n) a h = absurd h
@@ -303,14 +302,14 @@ module _ (p : Program) (form : Layout) (bank : Bank) (q : UnrolledPoint) (row : 
     leaves_moved : LeavesAs After (row.effect s choice) (leaving_by q (execute list choice (start moved)))
     leaves_moved =
         onward (row.effect s choice) (row.effect s4 choice) (leaving_by q (execute list choice (start moved)))
-        (lower_step p row q.point.at is lawful plain s g agrees choice)
+        (lower_step p row q.point.at is lawful s g agrees choice)
         (subst (λ (z : Ending). LeavesAs After (row.effect s4 choice) (leaving_by q z)) (sym moved_ends) (leaves_by (row.effect s4 choice) refl))
 
     stores_moved : (a : ℕ) → Contains (list_stored list choice (start moved)) a ↔ Contains (addresses (row.stored s)) a
     stores_moved a =
         subst (λ (z : List ℕ). Contains z a ↔ Contains (addresses (row.stored s)) a) (sym moved_stores)
         (subst (λ (z : Option (ℕ × ℕ)). Contains (list_stored list choice (start s4)) a ↔
-        Contains (addresses z) a) (sym (lower_stores p row q.point.at is lawful plain s g agrees))
+        Contains (addresses z) a) (sym (lower_stores p row q.point.at is lawful s g agrees))
         (lifting.stored s4 state4 here choice 0 few (λ x w. Stuck) a))
 
   same_carried : (reads : ℕ → Type 0) (s : State) (c : Carried) → IsCarriedOf reads s c → c ≡ record { regs = s.regs; flags = c.flags; mem = s.mem }
@@ -321,48 +320,15 @@ module _ (p : Program) (form : Layout) (bank : Bank) (q : UnrolledPoint) (row : 
   reads_here : (s : State) (c : Carried) → s.pc ≡ q.point.at → IsCarriedOf (λ f. IsRead p f s.pc) s c → (f : ℕ) → IsRead p f q.point.at → c.flags f ≡ s.flags f
   reads_here s c here h f r = h.flags f (subst (λ (z : ℕ). IsRead p f z) (sym here) r)
 
-  module _ (does : q.does ≡ Executes list) where
-    leaves : (s : State) (c : Carried) (choice : ℕ) → IsState s → s.pc ≡ q.point.at → choice < 4 → IsCarriedOf (λ f. IsRead p f s.pc) s c →
-        LeavesAs (λ f. IsReadAfter p f s.pc) (row.effect s choice) (leaving q choice c)
-    leaves s c choice state here few h =
-        let t : Carried = record { regs = s.regs; flags = c.flags; mem = s.mem } in
-        let l : LeavesAs (λ f. IsReadAfter p f q.point.at) (row.effect s choice) (left_by q choice t (Executes list)) =
-        leaves_moved s c.flags choice state here few h.state.flags (reads_here s c here h) in
-        let m : LeavesAs (λ f. IsReadAfter p f q.point.at) (row.effect s choice) (leaving q choice t) =
-        subst (λ (z : Action). LeavesAs (λ f. IsReadAfter p f q.point.at) (row.effect s choice) (left_by q choice t z)) (sym does) l in
-        subst (λ (z : ℕ). LeavesAs (λ f. IsReadAfter p f z) (row.effect s choice) (leaving q choice c)) (sym here)
-        (subst (λ (z : Carried). LeavesAs (λ f. IsReadAfter p f q.point.at) (row.effect s choice) (leaving q choice z)) (sym (same_carried
-        (λ f. IsRead p f s.pc) s c h)) m)
+  pub leaves_lifted : (s : State) (c : Carried) (choice : ℕ) → IsState s → s.pc ≡ q.point.at → choice < 4 → IsCarriedOf (λ f. IsRead p f s.pc) s c →
+      LeavesAs (λ f. IsReadAfter p f s.pc) (row.effect s choice) (leaving_by q (execute list choice (begins q c)))
+  leaves_lifted s c choice state here few h =
+      subst (λ (z : ℕ). LeavesAs (λ f. IsReadAfter p f z) (row.effect s choice) (leaving_by q (execute list choice (begins q c)))) (sym here)
+      (subst (λ (z : Carried). LeavesAs (λ f. IsReadAfter p f q.point.at) (row.effect s choice) (leaving_by q (execute list choice (begins q z))))
+      (sym (same_carried (λ f. IsRead p f s.pc) s c h)) (leaves_moved s c.flags choice state here few h.state.flags (reads_here s c here h)))
 
-    stores : (s : State) (c : Carried) (choice : ℕ) → IsState s → s.pc ≡ q.point.at → choice < 4 → IsCarriedOf (λ f. IsRead p f s.pc) s c → (a : ℕ) →
-        Contains (stored_at q choice c) a ↔ Contains (addresses (row.stored s)) a
-    stores s c choice state here few h a =
-        let t : Carried = record { regs = s.regs; flags = c.flags; mem = s.mem } in
-        let l : Contains (walk.stored_by q choice t (Executes list)) a ↔ Contains (addresses (row.stored s)) a =
-        stores_moved s c.flags choice state here few h.state.flags (reads_here s c here h) a in
-        let m : Contains (stored_at q choice t) a ↔ Contains (addresses (row.stored s)) a =
-        subst (λ (z : Action). Contains (walk.stored_by q choice t z) a ↔ Contains (addresses (row.stored s)) a) (sym does) l in
-        subst (λ (z : Carried). Contains (stored_at q choice z) a ↔ Contains (addresses (row.stored s)) a) (sym (same_carried (λ f. IsRead p f s.pc) s c h)) m
-
-pub liftings_do_rows : LiftingsDoRows
-liftings_do_rows p u form bank q row list fitted registers flags is lawful plain lifting does long counted = (
-  record {
-    length = long;
-    leaves = λ s c choice state here few literal h. leaves p form bank q row list fitted is lawful plain lifting long does s c choice state here few h;
-    stores = λ s c choice state here few literal h a. stores p form bank q row list fitted is lawful plain lifting long does s c choice state here few h a;
-  },
-  record {
-    typed = lifting.typed;
-    no_loop = lifting.no_loop;
-    no_special = lifting.no_special;
-    nests = lifting.nests;
-    picks = lifting.picks;
-    steady = lifting.steady;
-    names = list_wider p.machine bank u registers flags list lifting.names;
-    draws = λ e. lifting.draws (sym counted.draws ∙ e);
-    weight = subst (λ (z : ℕ). list_weight list + 64 ≤ z) (sym counted.row_cost) lifting.weight;
-    loads = subst (λ (z : ℕ). byte_loads list ≤ z) (sym (counted.loads ∙ ap
-        (λ (o : Option ℕ). if is_empty (literal_target p (file_word p) o) then row.cost.loads else 0) (plain.literal q.point.at))) lifting.loads;
-    byte_stores = subst (λ (z : ℕ). byte_stores list ≤ z) (sym counted.stores) lifting.stores;
-  },
-)
+  pub stores_lifted : (s : State) (c : Carried) (choice : ℕ) → IsState s → s.pc ≡ q.point.at → choice < 4 → IsCarriedOf (λ f. IsRead p f s.pc) s c → (a : ℕ) →
+      Contains (list_stored list choice (begins q c)) a ↔ Contains (addresses (row.stored s)) a
+  stores_lifted s c choice state here few h a =
+      subst (λ (z : Carried). Contains (list_stored list choice (begins q z)) a ↔ Contains (addresses (row.stored s)) a)
+      (sym (same_carried (λ f. IsRead p f s.pc) s c h)) (stores_moved s c.flags choice state here few h.state.flags (reads_here s c here h) a)

@@ -1,6 +1,6 @@
 -- The value is the unrolled program of a program.
 use Rattle.std.proofs.Common.{◌≡◌, inl, inr, refl, ap, sym, ◌∙◌, subst, arith, ℕ, zero, suc, ◌+◌, ◌<◌, ◌≤◌, ◌^◌, Some, List, [], ◌∷◌, length, get_or, drop, map}
-use Rattle.std.specs.Prelude.{Contains, ◌==◌, filter, slice_get, slice_range}
+use Rattle.std.specs.Prelude.{Contains, ◌↔◌, Option, None, Bool, true, ◌==◌, filter, slice_get, slice_range}
 use Rattle.std.specs.BTreeMap.{BTreeMap}
 use Rattle.std.proofs.lemmas.Bool.{cases_lt}
 use Rattle.std.proofs.lemmas.List.{get_or_default, get_or-map}
@@ -9,10 +9,10 @@ use Rattle.bilv_spec.specs.Machine.{Row}
 use Rattle.bilv_spec.specs.MachineLaws.{IsFitted}
 use Rattle.bilv_spec.specs.Bil.{Bank}
 use Rattle.bilv_spec.specs.Notes as notes
-use Rattle.bilv_spec.specs.Run.{Program}
+use Rattle.bilv_spec.specs.Run.{Program, all_kept}
 use Rattle.bilv_spec.specs.Points as spec
 use Rattle.bilv_spec.specs.Points.{IsPoint, ArePoints, file_row}
-use Rattle.bilv_spec.proofs.PointsInGraph.{points_are_in_graph}
+use Rattle.bilv_spec.proofs.PointsInGraph.{points_are_in_graph, of_map}
 use Rattle.graph_nodes.specs.declared.nodes.Node.{Node}
 use Rattle.graph_nodes.specs.declared.nodes.Graph.{Graph}
 use Rattle.graph_nodes.specs.Graphs.{IsGraph, addresses_of}
@@ -39,6 +39,8 @@ use Rattle.unroller.proofs.Coding.{of_nodes}
 use Rattle.unroller.proofs.FirstPoints.{entry_comes_first}
 use Rattle.unroller.proofs.Grouped.{asserts_are}
 use Rattle.unroller.proofs.Leads.{edges_at}
+use Rattle.unroller.proofs.Literals.{of_kept, is_kept_one}
+use Rattle.unroller.specs.Rows.{literal_by, literal_at, AreLiterals}
 use Rattle.unroller.proofs.Looked.{points_are_at}
 use Rattle.unroller.proofs.Placed.{places_are_right}
 
@@ -138,8 +140,7 @@ module _ (p : Program) (k : ℕ) (bank : Bank) (g : Graph) (u : Unrolled) (numbe
 
   fit : (i : ℕ) → i < length keys → HasFitRow p (code i).at
   fit i w = record {
-    lawful = λ r e. ((code_is i w).row.fit r e).0;
-    plain = λ r e. ((code_is i w).row.fit r e).1;
+    lawful = λ r e. (code_is i w).row.fit r e;
     four = λ r e. way.four (code i).at r e;
   }
 
@@ -259,10 +260,40 @@ module _ (p : Program) (k : ℕ) (bank : Bank) (g : Graph) (u : Unrolled) (numbe
     lines = lines;
   }
 
-  -- no row at a point loads a literal
-  pub no_literal : (a : ℕ) → IsLiteralOf p k a → ⊥
-  no_literal a l =
-      let q = are.all l.point l.is_point in
-      let e : (code q.0).at ≡ l.point.at = code_at q.0 q.1 ∙ ap (λ (z : spec.Point). z.at) q.2 in
-      let plain = ((code_is q.0 q.1).row.fit l.row (ap (file_row p) e ∙ l.is_row)).1 in
-      absurd (let n = plain.literal l.point.at in let s = l.loads in cc)
+  literal_row : (o : Option Row) (at a : ℕ) → literal_by p o at ≡ Some a →
+      (row : Row) × (o ≡ Some row) × (row.literal at ≡ Some a) × (all_kept p a ≡ true)
+  literal_row None at a h = absurd (cc)
+  literal_row (Some row) at a h = let l = of_kept p (row.literal at) a h in (row, refl, l.0, l.1)
+
+  literal_here : (at a i : ℕ) → i < length keys → address_of (key i) ≡ at → literal_at p at ≡ Some a → IsLiteralOf p k a
+  literal_here at a i w e h =
+      let l = literal_row (file_row p at) at a h in
+      record {
+        point = point_of u.frames.items (key i);
+        is_point = are.only i w;
+        row = l.0;
+        is_row = ap (file_row p) e ∙ l.1;
+        loads = ap l.0.literal e ∙ l.2;
+        is_kept = l.3;
+      }
+
+  -- the literals at the addresses of points are those of the points
+  pub literals_are : (found : List ℕ) → ((x : ℕ) → Contains (map address_of keys) x ↔ Contains addresses x) →
+      AreLiterals p addresses (length addresses) found → (a : ℕ) → Contains found a ↔ IsLiteralOf p k a
+  literals_are found same literals a = (
+    (λ h.
+        let f = (literals a).0 h in
+        let spot = get_or addresses f.0 0 in
+        let q = of_map address_of keys spot ((same spot).1 (f.0, f.1, get_or_default addresses f.0 spot 0 f.1)) in
+        literal_here spot a q.1.0 q.1.1 (ap address_of (get_or_default keys q.1.0 0 q.0 q.1.1 ∙ q.1.2) ∙ q.2) f.2),
+    (λ l.
+        let q = are.all l.point l.is_point in
+        let x = at q.0 q.1 in
+        let e : get_or addresses (own q.0).code 0 ≡ l.point.at = x.code ∙ ap (λ (z : spec.Point). z.at) q.2 in
+        (literals a).1 (
+          (own q.0).code,
+          x.coded,
+          ap (λ (z : ℕ). literal_at p z) e ∙ ap (λ (o : Option Row). literal_by p o l.point.at) l.is_row ∙ is_kept_one p (l.row.literal l.point.at) a l.loads
+              l.is_kept,
+        )),
+  )

@@ -10,24 +10,22 @@ use Rattle.bilv_spec.specs.Points.{Point, EdgeEnd, file_row, row_price, loads_at
 use Rattle.walk_spec.specs.Unrolled.{UnrolledProgram, is_register_of, is_flag_of}
 use Rattle.walk_spec.specs.Unrolling.{AreEdgesOf, IsEdge, IsPlace, assert_exits, row_draws}
 use Rattle.notes_lang.specs.Drafting.{notes_of}
-use Rattle.machine_law.specs.Facts.{IsLiftedWord}
 use Rattle.question_form.specs.declared.unrolled.Code.{Code}
 use Rattle.question_form.specs.declared.unrolled.Edge.{Edge}
 use Rattle.question_form.specs.declared.unrolled.Point as declared
 use Rattle.question_form.specs.declared.unrolled.Unrolled.{Unrolled}
 use Rattle.question_form.specs.Views.{asserts_between, edge_of, point_by, unrolled_of}
-use Rattle.unroller.specs.Rows.{IsPlain}
+use Rattle.unroller.specs.Rows.{IsListedAt}
 
--- The code is that of its address, whatever its assert lines are: what the file gives there, the list of the row as it is lifted, and the row's cost; and
--- the row is lawful, and one whose list may stand so.
+-- The code is that of its address, whatever its assert lines are: what the file gives there, the list of the row, and the row's cost; and the row is lawful.
 pub record IsRowCode (p : Program) (bank : Bank) (c : Code) : Type 0 where
   pub fetchable : c.fetchable ≡ fetchable p c.at
-  pub list : IsLiftedWord p.machine bank (file_row p c.at) c.at c.list
+  pub list : IsListedAt p bank (file_row p c.at) c.at c.list
   pub draws : c.draws ≡ row_draws (file_row p c.at)
   pub row : c.row ≡ row_price (file_row p c.at)
   pub loads : c.loads ≡ loads_at p c.at (file_row p c.at)
   pub stores : c.stores ≡ stores_at (file_row p c.at)
-  pub fit : (row : Row) → file_row p c.at ≡ Some row → IsLawful row × IsPlain row
+  pub fit : (row : Row) → file_row p c.at ≡ Some row → IsLawful row
 
 -- the code is that of its address, with the exits by the assert lines there
 pub record IsCode (p : Program) (bank : Bank) (u : Unrolled) (q : declared.Point) (c : Code) (edges : List Edge) : Type 0 where
@@ -38,10 +36,9 @@ pub record IsCode (p : Program) (bank : Bank) (u : Unrolled) (q : declared.Point
 abbrev pub AreEdgesAt : Program → (k : ℕ) → UnrolledProgram → (i : ℕ) → Point → Row → List Edge → Type 0
 AreEdgesAt p k u i point row edges = (ends : List EdgeEnd) × AreEdgesOf p point ends × AllZip (IsEdge p k u i point row) ends (map edge_of edges)
 
--- the row at an address, if there is one, is lawful, has 4 bytes, and is one whose list may stand as it is lifted
+-- the row at an address, if there is one, is lawful and has 4 bytes
 pub record HasFitRow (p : Program) (at : ℕ) : Type 0 where
   pub lawful : (row : Row) → file_row p at ≡ Some row → IsLawful row
-  pub plain : (row : Row) → file_row p at ≡ Some row → IsPlain row
   pub four : (row : Row) → file_row p at ≡ Some row → row.length ≡ 4
 
 -- a point of the code of its address, with its edges, is what the definitions want at its place

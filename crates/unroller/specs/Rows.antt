@@ -1,25 +1,59 @@
 -- What the lists of rows do at points.
-use Rattle.std.specs.Prelude.{ℕ, ◌≡◌, ◌<◌, ◌^◌, Some, None}
-use Rattle.bilv_spec.specs.Machine.{Machine, Row}
+use Rattle.std.specs.Prelude.{ℕ, ◌≡◌, ◌<◌, ◌^◌, ◌↔◌, true, List, Option, Some, None, Contains, slice_index, if◌then◌else◌}
+use Rattle.std.specs.Global.{Vec}
+use Rattle.bilv_spec.specs.Machine.{Row}
 use Rattle.bilv_spec.specs.MachineLaws.{IsLawful, IsFitted, IsLifting}
 use Rattle.bilv_spec.specs.StateText.{Layout}
 use Rattle.bilv_spec.specs.Bil.{Bank, Statements}
-use Rattle.bilv_spec.specs.Run.{Program}
-use Rattle.bilv_spec.specs.Points.{file_row}
+use Rattle.bilv_spec.specs.Run.{Program, all_kept}
+use Rattle.bilv_spec.specs.Points.{file_row, file_word}
+use Rattle.bil_ast.specs.declared.statements.Stmt.{Stmt}
+use Rattle.bil_ast.specs.Views.{statements}
+use Rattle.bil_trim.specs.Literals.{with_literal}
 use Rattle.walk_spec.specs.Unrolled.{Executes, UnrolledPoint, UnrolledProgram, is_register_of, is_flag_of}
 use Rattle.walk_spec.specs.Unrolling.{DoesRow, IsRunnable, IsCounted}
 
--- A row whose list may stand as it is lifted: it loads no literal.
-pub record IsPlain (row : Row) : Type 0 where
-  pub literal : (at : ℕ) → row.literal at ≡ None
+-- the address of a literal, if its four bytes are kept
+abbrev pub kept_literal : Program → Option ℕ → Option ℕ
+kept_literal p None = None
+kept_literal p (Some a) = if all_kept p a then Some a else None
 
--- each word of 32 bits that has a row has such a one
-pub record IsPlainMachine (m : Machine) : Type 0 where
-  pub rows : (w : ℕ) (row : Row) → w < 2 ^ 32 → m.row w ≡ Some row → IsPlain row
+-- the literal of a row that stands at an address, if its four bytes are kept
+abbrev pub literal_by : Program → Option Row → (at : ℕ) → Option ℕ
+literal_by p None at = None
+literal_by p (Some row) at = kept_literal p (row.literal at)
+
+-- the literal of the row at an address, if its four bytes are kept
+abbrev pub literal_at : Program → ℕ → Option ℕ
+literal_at p at = literal_by p (file_row p at) at
+
+-- the addresses are those of the kept literals that the rows at the first n of some addresses load
+abbrev pub AreLiterals : Program → (addresses : List ℕ) → (n : ℕ) → List ℕ → Type 0
+AreLiterals p addresses n found =
+    (a : ℕ) → Contains found a ↔ ((i : ℕ) × (i < n) × (literal_at p (slice_index addresses i) ≡ Some a))
+
+-- a list in which the word that the file has at the address stands for its loads
+abbrev pub list_with : Program → Option ℕ → Statements → Statements
+list_with p None list = list
+list_with p (Some a) list = with_literal p.machine.endian a (file_word p a) list
+
+-- The list of a row that stands at an address: as it is lifted, but with the constant of a literal in place of its load where the literal is kept.
+pub record IsListAt (p : Program) (bank : Bank) (row : Row) (at : ℕ) (list : Statements) : Type 0 where
+  pub lifted : Statements
+  pub lifting : IsLifting p.machine bank row at lifted
+  pub is : list ≡ list_with p (kept_literal p (row.literal at)) lifted
+  pub word : (a : ℕ) → kept_literal p (row.literal at) ≡ Some a → file_word p a < 2 ^ 32
+
+-- the list of what stands at an address, and none where there is no row
+abbrev pub IsListedAt : Program → Bank → Option Row → (at : ℕ) → Option (Vec Stmt) → Type 0
+IsListedAt p bank None at None = Unit {0}
+IsListedAt p bank (Some row) at (Some v) = IsListAt p bank row at (statements v.items)
+IsListedAt p bank None at (Some v) = ⊥
+IsListedAt p bank (Some row) at None = ⊥
 
 -- The list of a lawful row, at a point of the row's address, does what the row does as far as it is read later. Terms can be made of it.
-abbrev pub LiftingsDoRows : Type 0
-LiftingsDoRows = (p : Program) (u : UnrolledProgram) (form : Layout) (bank : Bank) (q : UnrolledPoint) (row : Row) (list : Statements) →
+abbrev pub ListsDoRows : Type 0
+ListsDoRows = (p : Program) (u : UnrolledProgram) (form : Layout) (bank : Bank) (q : UnrolledPoint) (row : Row) (list : Statements) →
     IsFitted p.machine form → ((r : ℕ) → is_register_of u r ≡ p.machine.has_register r) → ((f : ℕ) → is_flag_of u f ≡ p.machine.has_flag f) →
-    file_row p q.point.at ≡ Some row → IsLawful row → IsPlain row → IsLifting p.machine bank row q.point.at list →
+    file_row p q.point.at ≡ Some row → IsLawful row → IsListAt p bank row q.point.at list →
     q.does ≡ Executes list → q.length ≡ row.length → IsCounted p q (Some row) → DoesRow p q row × IsRunnable u q list

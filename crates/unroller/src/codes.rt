@@ -1,12 +1,24 @@
 //! What stands at an address.
-ghost use Rattle.std.specs.Prelude.{◌≡◌, ℕ, IfOk, None, false, Contains, length};
+ghost use Rattle.std.specs.Prelude.{◌≡◌, ◌++◌, ℕ, IfOk, OnOk, None, Some, false, Contains, length};
 ghost use Rattle.std.specs.List.Sorted.{IsNonDecreasingBy};
-ghost use Rattle.bilv_spec.specs.Run.{Program};
+ghost use Rattle.bilv_spec.specs.Files.{machine_of, program_of};
+ghost use Rattle.bilv_spec.specs.Notes.{Notes};
+ghost use Rattle.bilv_spec.specs.Points as points;
+ghost use Rattle.bilv_spec.specs.Points.{loads_at};
+ghost use Rattle.bilv_spec.specs.Run.{some_of};
+ghost use Rattle.bil_ast.specs.Views.{statements};
+ghost use Rattle.byte_mem.specs.Views.{endian_of};
 ghost use Rattle.graph_nodes.specs.Graphs.{IsGraph, IsNode, addresses_of};
 ghost use Rattle.graph_nodes.specs.Places.{AreRising};
 ghost use Rattle.unroller.specs.Places.{AreCodes, IsRowCode};
-ghost use Rattle.unroller.specs.Rows.{IsPlainMachine};
+ghost use Rattle.unroller.specs.Rows as rows;
+ghost use Rattle.unroller.specs.Rows.{AreLiterals, IsListAt};
 
+use bil_ast::Stmt;
+use bil_trim::{Literal, with_literal};
+use byte_mem::Endian;
+use elf32_reader::Image;
+use file_words::{all_kept, file_word};
 use graph_nodes::{Graph, Node, node_at};
 use machine_law::Machine;
 use notes_index::group;
@@ -38,17 +50,87 @@ fn bare(node: &Node, asserts: (usize, usize)) -> Code
     }
 }
 
-/// What stands at the address of a node, with a part of the assert lines by address. The machine's rows load no literal, so that each list may stand as it is
-/// lifted. The error is want of memory.
+/// The address of the literal that an instruction loads where it stands at an address, if its four bytes are kept.
+fn kept_literal<M: Machine>(image: &Image, insn: &M::Insn, at: u32) -> Option<u32>
+    ensures { (n : Notes) (e : ℕ) → result ≡ rows.kept_literal (program_of image.now n e) ((M.Machine.row insn.now).literal at) }
+{
+    match M::literal(insn, at) {
+        None => None,
+        Some(place) => if all_kept(image, place) {
+            Some(place)
+        } else {
+            None
+        },
+    }
+}
+
+/// The byte order of a file's machine.
+fn order(image: &Image) -> Endian
+    ensures { endian_of result ≡ (machine_of image.now).endian }
+{
+    if image.is_big_machine() {
+        return Endian::Big;
+    }
+    Endian::Little
+}
+
+/// The word that a file has at an address.
+fn word_at(image: &Image, at: u32) -> Literal
+    ensures order { endian_of result.order ≡ (machine_of image.now).endian }
+    ensures at { result.at ≡ at }
+    ensures value { (n : Notes) (e : ℕ) → result.value ≡ points.file_word (program_of image.now n e) at }
+{
+    Literal {
+        order: order(image),
+        at,
+        value: file_word(image, at),
+    }
+}
+
+/// What an instruction does where it stands at an address, and how many bytes it loads, as far as the price counts them.
+#[derive(Drop)]
+struct RowList {
+    list: Vec<Stmt>,
+    loads: u64,
+}
+
+/// What an instruction does where it stands at an address. The constant of a kept literal stands in place of its load, which costs nothing then. The error is
+/// want of memory.
+fn listed<M: Machine>(
+    alloc: Global,
+    image: &Image,
+    insn: &M::Insn,
+    at: u32,
+) -> Result<RowList, AllocError>
+    requires { machine_of image.now ≡ M.machine }
+    ensures list { (n : Notes) (e : ℕ) →
+        IfOk result (λ l. IsListAt (program_of image.now n e) M.bank (M.Machine.row insn.now) at (statements l.list.items)) }
+    ensures loads { (n : Notes) (e : ℕ) → IfOk result (λ l. l.loads ≡ loads_at (program_of image.now n e) at (Some (M.Machine.row insn.now))) }
+{
+    let lifted = M::lift(alloc, insn, at)?;
+    match kept_literal::<M>(image, insn, at) {
+        None => Ok(RowList {
+            list: lifted,
+            loads: M::cost(insn).loads,
+        }),
+        Some(place) => {
+            let list = with_literal(&lifted, alloc, word_at(image, place))?;
+            Ok(RowList { list, loads: 0 })
+        }
+    }
+}
+
+/// What stands at the address of a node, with a part of the assert lines by address. The error is want of memory.
 pub fn code_at<M: Machine>(
     alloc: Global,
+    image: &Image,
     node: &Node,
     asserts: (usize, usize),
 ) -> Result<Code, AllocError>
-    requires { IsPlainMachine M.machine }
+    requires { machine_of image.now ≡ M.machine }
     ensures at { IfOk result (λ c. c.at ≡ node.now.at) }
     ensures asserts { IfOk result (λ c. c.asserts ≡ asserts) }
-    ensures row { (p : Program) → p.machine ≡ M.machine → IsNode p node.now → IfOk result (λ c. IsRowCode p M.bank c) }
+    ensures row { (n : Notes) (e : ℕ) → IsNode (program_of image.now n e) node.now → IfOk result (λ c. IsRowCode (program_of image.now n e) M.bank c) }
 {
     let word = match node.word {
         None => return Ok(bare(node, asserts)),
@@ -58,15 +140,15 @@ pub fn code_at<M: Machine>(
         None => return Ok(bare(node, asserts)),
         Some(insn) => insn,
     };
-    let list = M::lift(alloc, &insn, node.at)?;
+    let listed = listed::<M>(alloc, image, &insn, node.at)?;
     let cost = M::cost(&insn);
     Ok(Code {
         at: node.at,
         fetchable: node.fetchable,
-        list: Some(list),
+        list: Some(listed.list),
         draws: M::draws(&insn),
         row: cost.row,
-        loads: cost.loads,
+        loads: listed.loads,
         stores: cost.stores,
         asserts,
     })
@@ -75,16 +157,17 @@ pub fn code_at<M: Machine>(
 /// What stands at addresses of a graph, each with its part of the assert lines by address. The error is want of memory.
 pub fn codes_at<M: Machine>(
     alloc: Global,
+    image: &Image,
     graph: &Graph,
     addresses: &[u32],
     asserts: &[(u32, usize)],
 ) -> Result<Vec<Code>, AllocError>
-    requires plain { IsPlainMachine M.machine }
+    requires machine { machine_of image.now ≡ M.machine }
     requires nodes { AreRising graph.now.nodes.items }
     requires among { (a : ℕ) → Contains addresses.now a → Contains (addresses_of graph.now) a }
     requires sorted { IsNonDecreasingBy (λ x. x.0) asserts.now }
-    ensures { (p : Program) → p.machine ≡ M.machine → IsGraph p graph.now →
-        IfOk result (λ v. AreCodes p M.bank addresses.now asserts.now (length addresses.now) v.items) }
+    ensures { (n : Notes) (e : ℕ) → IsGraph (program_of image.now n e) graph.now →
+        IfOk result (λ v. AreCodes (program_of image.now n e) M.bank addresses.now asserts.now (length addresses.now) v.items) }
 {
     let mut codes: Vec<Code> = Vec::with_capacity(alloc, addresses.len())?;
     for at in addresses {
@@ -92,8 +175,56 @@ pub fn codes_at<M: Machine>(
             None => unreachable!(),
             Some(node) => node,
         };
-        let code = code_at::<M>(alloc, node, group(asserts, *at))?;
+        let code = code_at::<M>(alloc, image, node, group(asserts, *at))?;
         codes.push(code)?;
     }
     Ok(codes)
+}
+
+/// The address of the literal that the row of a node loads, if its four bytes are kept.
+fn node_literal<M: Machine>(image: &Image, node: &Node) -> Option<u32>
+    requires { machine_of image.now ≡ M.machine }
+    ensures { (n : Notes) (e : ℕ) → IsNode (program_of image.now n e) node.now → result ≡ rows.literal_at (program_of image.now n e) node.now.at }
+{
+    match node.word {
+        None => None,
+        Some(word) => match M::decode(word) {
+            None => None,
+            Some(insn) => kept_literal::<M>(image, &insn, node.at),
+        },
+    }
+}
+
+/// Adds an address, if there is one. The error is want of memory.
+fn add_address(found: &mut Vec<u32>, address: Option<u32>) -> Result<(), AllocError>
+    ensures { OnOk result (found.new.items ≡ found.old.items ++ some_of address) }
+{
+    if let Some(at) = address {
+        found.push(at)?;
+    }
+    Ok(())
+}
+
+/// The addresses of the kept literals that the rows at addresses of a graph load. The error is want of memory.
+pub fn literals_at<M: Machine>(
+    alloc: Global,
+    image: &Image,
+    graph: &Graph,
+    addresses: &[u32],
+) -> Result<Vec<u32>, AllocError>
+    requires machine { machine_of image.now ≡ M.machine }
+    requires nodes { AreRising graph.now.nodes.items }
+    requires among { (a : ℕ) → Contains addresses.now a → Contains (addresses_of graph.now) a }
+    ensures { (n : Notes) (e : ℕ) → IsGraph (program_of image.now n e) graph.now →
+        IfOk result (λ v. AreLiterals (program_of image.now n e) addresses.now (length addresses.now) v.items) }
+{
+    let mut found: Vec<u32> = Vec::new(alloc);
+    for at in addresses {
+        let node = match node_at(graph, *at) {
+            None => unreachable!(),
+            Some(node) => node,
+        };
+        add_address(&mut found, node_literal::<M>(image, node))?;
+    }
+    Ok(found)
 }

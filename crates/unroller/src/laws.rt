@@ -4,11 +4,11 @@ ghost use Rattle.unroller.specs.FirstPoint.{EntryComesFirst};
 ghost use Rattle.unroller.specs.Kept.{KeptRunsAreRight};
 ghost use Rattle.unroller.specs.Lookups.{FormsAreRight, PointsAreAt};
 ghost use Rattle.unroller.specs.Places.{PlacesAreRight};
-ghost use Rattle.unroller.specs.Rows.{LiftingsDoRows};
+ghost use Rattle.unroller.specs.Rows.{ListsDoRows};
 
 /// The list of a lawful row does at each of its points what the row does, as far as it is read later, and is one that terms can be made of.
-pub fn liftings_do_rows()
-    ensures { LiftingsDoRows }
+pub fn lists_do_rows()
+    ensures { ListsDoRows }
 {}
 
 /// A point of the code of its address, with its edges, is what the definitions want at its place.

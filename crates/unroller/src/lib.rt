@@ -12,10 +12,10 @@ mod placing;
 mod prices;
 mod unrolling;
 
-pub use codes::{code_at, codes_at};
+pub use codes::{code_at, codes_at, literals_at};
 pub use laws::{
     ends_make_edges, entry_comes_first, exits_are_returns, forms_are_right, kept_runs_are_right,
-    liftings_do_rows, places_are_right, points_are_at,
+    lists_do_rows, places_are_right, points_are_at,
 };
 pub use prices::price;
 pub use unrolling::unroll;

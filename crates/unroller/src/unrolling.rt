@@ -8,13 +8,12 @@ ghost use Rattle.program_points.specs.Listed.{HasOneWay, IsTooMany};
 ghost use Rattle.question_form.specs.Forms.{IsFormed};
 ghost use Rattle.question_form.specs.Views.{unrolled_of};
 ghost use Rattle.unroller.specs.Lookups.{HasForm};
-ghost use Rattle.unroller.specs.Rows.{IsPlainMachine};
 ghost use Rattle.known_bytes.specs.Runs.{AreRuns};
 ghost use Rattle.state_text.specs.Starts.{layout_of};
 ghost use Rattle.walk_spec.specs.Unrolled.{byte_of_runs, point_at};
 ghost use Rattle.walk_spec.specs.Unrolling.{IsUnrolling};
 
-use crate::codes::codes_at;
+use crate::codes::{codes_at, literals_at};
 use crate::keys::{addresses, keys_in_order, point_keys};
 use crate::placing::{calls, points_of};
 use elf32_reader::Image;
@@ -43,7 +42,7 @@ fn kept<'a>(image: &'a Image<'a>) -> &'a [(u32, u32)]
 /// The unrolled program of a program with at most `k` backward transfers, from its flow graph: every point once, by backward transfers, address and stack, with
 /// its exits in the order of a step and an edge for each of the program's. Lists stand once for each address; known bytes are borrowed from the file.
 ///
-/// The rows of the machine load no literal, so that each list may stand as it is lifted.
+/// A list is that of the row as it is lifted, but with the constant of a literal in place of its load where the literal's four bytes are kept.
 ///
 /// # Errors
 ///
@@ -58,7 +57,6 @@ pub fn unroll<'a, M: Machine>(
     max: u64,
 ) -> Result<Unrolled<'a>, PointsFault>
     requires machine { machine_of image.now ≡ M.machine }
-    requires plain { IsPlainMachine M.machine }
     requires max { max ≤ 16777216 }
     requires k { k ≤ 4096 }
     requires graph { IsGraph (program_of image.now (notes_of notes.now) entry) graph.now }
@@ -79,7 +77,8 @@ pub fn unroll<'a, M: Machine>(
     let addresses = addresses(alloc, &keys)?;
     let index = index_of(alloc, notes)?;
     let called = calls(alloc, graph, &mut stacks, &keys)?;
-    let codes = codes_at::<M>(alloc, graph, &addresses, &index.asserts)?;
+    let codes = codes_at::<M>(alloc, image, graph, &addresses, &index.asserts)?;
+    let literals = literals_at::<M>(alloc, image, graph, &addresses)?;
     let placed = points_of(alloc, graph, &stacks.frames, &keys, &addresses, &called)?;
     let known = known_bytes(alloc, image, notes)?;
     Ok(Unrolled {
@@ -91,7 +90,7 @@ pub fn unroll<'a, M: Machine>(
         asserts: index.asserts,
         kept: kept(image),
         known: known.runs,
-        literals: Vec::new(alloc),
+        literals,
         frames: stacks.frames,
         codes,
         points: placed.points,

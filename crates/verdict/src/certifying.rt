@@ -10,7 +10,6 @@ ghost use Rattle.program_points.specs.Listed.{HasOneWay};
 ghost use Rattle.question_form.specs.Views.{kind_of};
 ghost use Rattle.notes_lang.specs.Drafting.{notes_of};
 ghost use Rattle.notes_value.specs.Reads.{AreOver};
-ghost use Rattle.unroller.specs.Rows.{IsPlainMachine};
 ghost use Rattle.verdict.specs.Grounds.{IsAnswered};
 ghost use Rattle.verdict.specs.Measures.{IsMeasurable, IsUnrolledOf};
 ghost use Rattle.verdict.specs.Verdicts.{IsCertificate, budget_of};
@@ -69,7 +68,6 @@ pub fn certify<'a, M: Machine>(
     kind: Kind,
 ) -> Result<Certified, AllocError>
     requires machine { machine_of image.now ≡ M.machine }
-    requires plain { IsPlainMachine M.machine }
     requires file { (i : ℕ) → slice_index image.now i < 256 }
     requires one_way { HasOneWay (program_of image.now (notes_of notes.now) entry) }
     requires over { AreOver M.machine.has_register M.machine.has_flag (notes_of notes.now) }

@@ -5,7 +5,6 @@ ghost use Rattle.bilv_spec.specs.Answers.{IsBudget};
 ghost use Rattle.program_points.specs.Listed.{HasOneWay, IsTooMany};
 ghost use Rattle.notes_lang.specs.Drafting.{notes_of};
 ghost use Rattle.notes_value.specs.Reads.{AreOver};
-ghost use Rattle.unroller.specs.Rows.{IsPlainMachine};
 ghost use Rattle.verdict.specs.Measures.{IsMeasurable, IsMeasured, IsUnrolledOf};
 ghost use Rattle.verdict.specs.Verdicts.{budget_of};
 
@@ -42,7 +41,6 @@ pub fn unroll_within<'a, M: Machine>(
     budget: &Budget,
 ) -> Result<Unrolled<'a>, PointsFault>
     requires machine { machine_of image.now ≡ M.machine }
-    requires plain { IsPlainMachine M.machine }
     requires file { (i : ℕ) → slice_index image.now i < 256 }
     requires one_way { HasOneWay (program_of image.now (notes_of notes.now) entry) }
     requires over { AreOver M.machine.has_register M.machine.has_flag (notes_of notes.now) }

@@ -13,7 +13,6 @@ ghost use Rattle.notes_lang.specs.Drafting.{notes_of};
 ghost use Rattle.notes_value.specs.Reads.{AreOver, AreReadable};
 ghost use Rattle.state_text.specs.Starts.{written_of};
 ghost use Rattle.table_run.specs.Endings.{found_of};
-ghost use Rattle.unroller.specs.Rows.{IsPlainMachine};
 ghost use Rattle.verdict.specs.Functions.{program_of_function};
 ghost use Rattle.verdict.specs.Grounds.{IsAnswered, IsGround};
 ghost use Rattle.verdict.specs.Measures.{IsUnrolledOf};
@@ -193,7 +192,6 @@ pub fn verify<'a, M: Machine>(
     budget: &Budget,
 ) -> Result<Verdict, AllocError>
     requires machine { machine_of image.now ≡ M.machine }
-    requires plain { IsPlainMachine M.machine }
     requires file { (i : ℕ) → slice_index image.now i < 256 }
     requires one_way { HasOneWay (program_of image.now (notes_of notes.now) entry) }
     requires readable { AreReadable M.machine.has_register (notes_of notes.now) }

@@ -3,16 +3,13 @@ use Rattle.std.proofs.lemmas.Result.{IfOk-weaker}
 use Rattle.bilv_spec.specs.Files.{program_of}
 use Rattle.bilv_top.specs.Answers.{answer_of}
 use Rattle.bilv_top.proofs.Founds.{rv_over, small_bytes}
-use Rattle.bilv_top.proofs.OneWay.{rv_has_one_way, rv_is_plain}
+use Rattle.bilv_top.proofs.OneWay.{rv_has_one_way}
 use Rattle.bilv_top.proofs.Verdicts.{question_certified}
 use Rattle.bilv_top.proofs.certify.certify_question.Goals as goal
 use Rattle.command_line.specs.Commands.{budget_of, question_of}
 use Rattle.notes_lang.specs.Drafting.{notes_of}
 use Rattle.question_form.specs.Views.{kind_of}
 use Rattle.verdict.specs.Verdicts as verdicts
-
-pub certify-requires-clause-plain : goal.certify-requires-clause-plain
-certify-requires-clause-plain c = rv_is_plain
 
 pub certify-requires-clause-file : goal.certify-requires-clause-file
 certify-requires-clause-file c = small_bytes c.args.file.now c.args.image.now c.requires.same (λ i. omega (arith, c.type_inv.file i))

@@ -3,14 +3,11 @@ use Rattle.std.proofs.lemmas.Result.{IfOk-weaker}
 use Rattle.bilv_spec.specs.Files.{program_of}
 use Rattle.bilv_top.specs.Answers.{answer_of}
 use Rattle.bilv_top.proofs.Founds.{rv_over, rv_readable, small_bytes}
-use Rattle.bilv_top.proofs.OneWay.{rv_has_one_way, rv_is_plain}
+use Rattle.bilv_top.proofs.OneWay.{rv_has_one_way}
 use Rattle.bilv_top.proofs.Verdicts.{verdict_reported}
 use Rattle.bilv_top.proofs.verify.report_on.Goals as goal
 use Rattle.command_line.specs.Commands.{budget_of}
 use Rattle.notes_lang.specs.Drafting.{notes_of}
-
-pub verify-requires-clause-plain : goal.verify-requires-clause-plain
-verify-requires-clause-plain c = rv_is_plain
 
 pub verify-requires-clause-file : goal.verify-requires-clause-file
 verify-requires-clause-file c = small_bytes c.args.file.now c.args.image.now c.requires.same (λ i. omega (arith, c.type_inv.file i))

@@ -1,5 +1,5 @@
-use Rattle.std.proofs.Common.{ℕ, List, refl, ap, sym, ◌∙◌, subst, arith, [], length}
-use Rattle.std.specs.Prelude.{Contains}
+use Rattle.std.proofs.Common.{ℕ, List, refl, ap, sym, ◌∙◌, subst, arith, [], length, map}
+use Rattle.std.specs.Prelude.{Contains, ◌↔◌}
 use Rattle.std.proofs.lemmas.List.{length-map}
 use Rattle.bilv_spec.specs.Machine.{Machine}
 use Rattle.bilv_spec.specs.MachineLaws.{IsFitted}
@@ -7,7 +7,6 @@ use Rattle.bilv_spec.specs.StateText.{Layout}
 use Rattle.bilv_spec.specs.Files.{program_of}
 use Rattle.bilv_spec.specs.Run.{Program}
 use Rattle.bilv_spec.specs.Points.{IsCount, begins_run, is_known_at}
-use Rattle.bilv_spec.proofs.PointsInGraph.{none_in}
 use Rattle.known_bytes.proofs.Counts.{run_starts}
 use Rattle.notes_lang.specs.Drafting.{notes_of}
 use Rattle.program_points.specs.declared.values.Frame.{Frame}
@@ -17,11 +16,13 @@ use Rattle.question_form.specs.declared.unrolled.Unrolled.{Unrolled}
 use Rattle.question_form.specs.Views.{kept_of}
 use Rattle.unroller.specs.Led.{AreCalled, ArePlaced}
 use Rattle.unroller.specs.Lookups.{HasForm}
+use Rattle.unroller.specs.Keys.{address_of}
 use Rattle.unroller.specs.Places.{AreCodes}
+use Rattle.unroller.specs.Rows.{AreLiterals}
 use Rattle.unroller.proofs.KeptRuns.{kept_runs_are_right}
 use Rattle.unroller.proofs.Looked.{forms_are_right}
 use Rattle.unroller.proofs.Listing.{low_turns, keys_of, among_graph, addresses_among, keys_coded, keys_fit, keys_low}
-use Rattle.unroller.proofs.Whole.{size, places, words, are_points, first, formed, no_literal}
+use Rattle.unroller.proofs.Whole.{size, places, words, are_points, first, formed, literals_are}
 use Rattle.unroller.proofs.unrolling.unroll.Goals as goal
 
 pub point_keys-requires : goal.point_keys-requires
@@ -72,6 +73,21 @@ codes_at-requires-clause-among g c =
     c.requires.graph are c.deref-2.ensures.value
     c.deref-4.ensures.value c.in_ok-addresses.ensures.same
 
+pub literals_at-requires-clause-among : goal.literals_at-requires-clause-among
+literals_at-requires-clause-among g c =
+    let notes = notes_of c.args.notes.now in
+    let p : Program = program_of c.args.image.now notes c.args.entry in
+    let v = c.in_ok-listed.listed in
+    let keys = c.in_ok-keys.keys.items in
+    let listed = c.in_ok-listed.ensures.points p c.requires.graph refl c.requires.one_way in
+    let are =
+    keys_of p c.args.k v v.stacks.frames.items v.stacks.numbers [] keys c.in_ok-point_keys.field-0.items c.deref.result.now
+    (nothing_more v.stacks.frames.items) c.deref.ensures.value listed
+    c.in_ok-listed.ensures.numbered c.in_ok-point_keys.ensures.small c.in_ok-point_keys.ensures.listed c.in_ok-keys.ensures.same c.in_ok-keys.ensures.rise in
+    addresses_among p c.args.k c.args.graph.now v.stacks.frames.items keys c.deref-2.result.now c.in_ok-addresses.addresses.items c.deref-6.result.now
+    c.requires.graph are c.deref-2.ensures.value
+    c.deref-6.ensures.value c.in_ok-addresses.ensures.same
+
 pub points_of-requires-clause-low : goal.points_of-requires-clause-low
 points_of-requires-clause-low g c =
     let notes = notes_of c.args.notes.now in
@@ -83,7 +99,7 @@ points_of-requires-clause-low g c =
     keys_of p c.args.k v v.stacks.frames.items v.stacks.numbers [] keys c.in_ok-point_keys.field-0.items c.deref.result.now
     (nothing_more v.stacks.frames.items) c.deref.ensures.value listed
     c.in_ok-listed.ensures.numbered c.in_ok-point_keys.ensures.small c.in_ok-point_keys.ensures.listed c.in_ok-keys.ensures.same c.in_ok-keys.ensures.rise in
-    keys_low p c.args.k v.stacks.frames.items keys c.deref-7.result.now are c.deref-7.ensures.value c.requires.k
+    keys_low p c.args.k v.stacks.frames.items keys c.deref-8.result.now are c.deref-8.ensures.value c.requires.k
 
 pub points_of-requires-clause-among : goal.points_of-requires-clause-among
 points_of-requires-clause-among g c =
@@ -96,13 +112,13 @@ points_of-requires-clause-among g c =
     keys_of p c.args.k v v.stacks.frames.items v.stacks.numbers [] keys c.in_ok-point_keys.field-0.items c.deref.result.now
     (nothing_more v.stacks.frames.items) c.deref.ensures.value listed
     c.in_ok-listed.ensures.numbered c.in_ok-point_keys.ensures.small c.in_ok-point_keys.ensures.listed c.in_ok-keys.ensures.same c.in_ok-keys.ensures.rise in
-    among_graph p c.args.k c.args.graph.now v.stacks.frames.items keys c.deref-7.result.now c.requires.graph are c.deref-7.ensures.value
+    among_graph p c.args.k c.args.graph.now v.stacks.frames.items keys c.deref-8.result.now c.requires.graph are c.deref-8.ensures.value
 
 pub points_of-requires-clause-coded : goal.points_of-requires-clause-coded
 points_of-requires-clause-coded g c =
-    keys_coded c.in_ok-keys.keys.items c.deref-2.result.now c.deref-7.result.now c.in_ok-addresses.addresses.items c.deref-8.result.now c.deref-2.ensures.value
-    c.deref-7.ensures.value
-    c.deref-8.ensures.value c.in_ok-addresses.ensures.same
+    keys_coded c.in_ok-keys.keys.items c.deref-2.result.now c.deref-8.result.now c.in_ok-addresses.addresses.items c.deref-9.result.now c.deref-2.ensures.value
+    c.deref-8.ensures.value
+    c.deref-9.ensures.value c.in_ok-addresses.ensures.same
 
 pub returns-clause-unrolled : goal.returns-clause-unrolled
 returns-clause-unrolled g c =
@@ -124,7 +140,7 @@ returns-clause-unrolled g c =
           = c.in_ok-index.index.asserts;
       kept = c.kept.result;
       known = c.in_ok-known.known.runs;
-      literals = c.new.result;
+      literals = c.in_ok-literals.literals;
       frames = c.calls.new.stacks.frames;
       codes
           = c.in_ok-codes.codes;
@@ -147,15 +163,15 @@ returns-clause-unrolled g c =
     let codes : AreCodes p g.M.Machine.bank addresses u.asserts.items (length addresses) u.codes.items =
     subst (λ (l : List ℕ). AreCodes p g.M.Machine.bank l u.asserts.items (length l) u.codes.items) c.deref-4.ensures.value
     (subst (λ (l : List (ℕ × ℕ)). AreCodes p g.M.Machine.bank c.deref-4.result.now l (length c.deref-4.result.now) u.codes.items) c.deref-5.ensures.value
-    (c.in_ok-codes.ensures p mach c.requires.graph)) in
+    (c.in_ok-codes.ensures notes c.args.entry c.requires.graph)) in
     let placed : ArePlaced c.args.graph.now frames keys addresses called (length keys) u.points.items u.edges.items =
-    subst (λ (l : List ℕ). ArePlaced c.args.graph.now frames l addresses called (length l) u.points.items u.edges.items) c.deref-7.ensures.value
-    (subst (λ (l : List ℕ). ArePlaced c.args.graph.now frames c.deref-7.result.now l called
-    (length c.deref-7.result.now) u.points.items u.edges.items) c.deref-8.ensures.value
-    (subst (λ (l : List ℕ). ArePlaced c.args.graph.now frames c.deref-7.result.now c.deref-8.result.now l
-    (length c.deref-7.result.now) u.points.items u.edges.items) c.deref-9.ensures.value
-    (subst (λ (l : List Frame). ArePlaced c.args.graph.now l c.deref-7.result.now c.deref-8.result.now c.deref-9.result.now
-    (length c.deref-7.result.now) u.points.items u.edges.items) c.deref-6.ensures.value
+    subst (λ (l : List ℕ). ArePlaced c.args.graph.now frames l addresses called (length l) u.points.items u.edges.items) c.deref-8.ensures.value
+    (subst (λ (l : List ℕ). ArePlaced c.args.graph.now frames c.deref-8.result.now l called
+    (length c.deref-8.result.now) u.points.items u.edges.items) c.deref-9.ensures.value
+    (subst (λ (l : List ℕ). ArePlaced c.args.graph.now frames c.deref-8.result.now c.deref-9.result.now l
+    (length c.deref-8.result.now) u.points.items u.edges.items) c.deref-10.ensures.value
+    (subst (λ (l : List Frame). ArePlaced c.args.graph.now l c.deref-8.result.now c.deref-9.result.now c.deref-10.result.now
+    (length c.deref-8.result.now) u.points.items u.edges.items) c.deref-7.ensures.value
     c.in_ok-placed.ensures))) in
     let runs = kept_runs_are_right c.args.image.now c.kept.result.now c.kept.ensures.runs (λ i w. (c.kept.ensures.words i w).1) in
     record {
@@ -174,11 +190,11 @@ returns-clause-unrolled g c =
           (run_starts c.args.image.now c.kept.result.now c.kept.ensures.runs (λ i w. (c.kept.ensures.words i w).0) notes c.args.entry);
       known = λ a w. c.in_ok-known.ensures.bytes c.args.entry a w;
       known_bytes = subst (λ (z : ℕ). IsCount (is_known_at p) z) (sym c.in_ok-known.ensures.sum) (c.in_ok-known.ensures.count c.args.entry);
-      literals = λ a. (
-        (λ h. absurd (none_in a (subst (λ (l : List ℕ). Contains l a) c.new.ensures.items h))),
-        (λ l. absurd (no_literal p c.args.k g.M.Machine.bank c.args.graph.now u c.calls.new.stacks.numbers keys addresses called c.requires.graph
-            c.requires.one_way here registers flags c.in_ok-called.ensures.table are calls codes placed c.in_ok-index.ensures.asserts.order refl a l)),
-      );
+      literals = literals_are p c.args.k g.M.Machine.bank c.args.graph.now u c.calls.new.stacks.numbers keys addresses called c.requires.graph c.requires.one_way
+          here registers flags c.in_ok-called.ensures.table are calls codes placed c.in_ok-index.ensures.asserts.order refl c.in_ok-literals.literals.items
+          (subst (λ (l : List ℕ). (x : ℕ) → Contains (map address_of l) x ↔ Contains addresses x) c.deref-2.ensures.value c.in_ok-addresses.ensures.same)
+          (subst (λ (l : List ℕ). AreLiterals p l (length l) c.in_ok-literals.literals.items) c.deref-6.ensures.value
+          (c.in_ok-literals.ensures notes c.args.entry c.requires.graph));
       points = are_points p c.args.k g.M.Machine.bank c.args.graph.now u c.calls.new.stacks.numbers keys addresses called c.requires.graph c.requires.one_way
           here registers flags c.in_ok-called.ensures.table are calls codes placed c.in_ok-index.ensures.asserts.order refl;
       first = first p c.args.k g.M.Machine.bank c.args.graph.now u c.calls.new.stacks.numbers keys addresses called c.requires.graph c.requires.one_way here
@@ -209,7 +225,7 @@ returns-clause-formed g c =
           = c.in_ok-index.index.asserts;
       kept = c.kept.result;
       known = c.in_ok-known.known.runs;
-      literals = c.new.result;
+      literals = c.in_ok-literals.literals;
       frames = c.calls.new.stacks.frames;
       codes
           = c.in_ok-codes.codes;
@@ -232,15 +248,15 @@ returns-clause-formed g c =
     let codes : AreCodes p g.M.Machine.bank addresses u.asserts.items (length addresses) u.codes.items =
     subst (λ (l : List ℕ). AreCodes p g.M.Machine.bank l u.asserts.items (length l) u.codes.items) c.deref-4.ensures.value
     (subst (λ (l : List (ℕ × ℕ)). AreCodes p g.M.Machine.bank c.deref-4.result.now l (length c.deref-4.result.now) u.codes.items) c.deref-5.ensures.value
-    (c.in_ok-codes.ensures p mach c.requires.graph)) in
+    (c.in_ok-codes.ensures notes c.args.entry c.requires.graph)) in
     let placed : ArePlaced c.args.graph.now frames keys addresses called (length keys) u.points.items u.edges.items =
-    subst (λ (l : List ℕ). ArePlaced c.args.graph.now frames l addresses called (length l) u.points.items u.edges.items) c.deref-7.ensures.value
-    (subst (λ (l : List ℕ). ArePlaced c.args.graph.now frames c.deref-7.result.now l called
-    (length c.deref-7.result.now) u.points.items u.edges.items) c.deref-8.ensures.value
-    (subst (λ (l : List ℕ). ArePlaced c.args.graph.now frames c.deref-7.result.now c.deref-8.result.now l
-    (length c.deref-7.result.now) u.points.items u.edges.items) c.deref-9.ensures.value
-    (subst (λ (l : List Frame). ArePlaced c.args.graph.now l c.deref-7.result.now c.deref-8.result.now c.deref-9.result.now
-    (length c.deref-7.result.now) u.points.items u.edges.items) c.deref-6.ensures.value
+    subst (λ (l : List ℕ). ArePlaced c.args.graph.now frames l addresses called (length l) u.points.items u.edges.items) c.deref-8.ensures.value
+    (subst (λ (l : List ℕ). ArePlaced c.args.graph.now frames c.deref-8.result.now l called
+    (length c.deref-8.result.now) u.points.items u.edges.items) c.deref-9.ensures.value
+    (subst (λ (l : List ℕ). ArePlaced c.args.graph.now frames c.deref-8.result.now c.deref-9.result.now l
+    (length c.deref-8.result.now) u.points.items u.edges.items) c.deref-10.ensures.value
+    (subst (λ (l : List Frame). ArePlaced c.args.graph.now l c.deref-8.result.now c.deref-9.result.now c.deref-10.result.now
+    (length c.deref-8.result.now) u.points.items u.edges.items) c.deref-7.ensures.value
     c.in_ok-placed.ensures))) in
     formed p c.args.k g.M.Machine.bank c.args.graph.now u c.calls.new.stacks.numbers keys addresses called c.requires.graph c.requires.one_way here registers
     flags c.in_ok-called.ensures.table are calls codes placed c.in_ok-index.ensures.asserts.order refl
@@ -270,7 +286,7 @@ returns-clause-addresses g c =
           = c.in_ok-index.index.asserts;
       kept = c.kept.result;
       known = c.in_ok-known.known.runs;
-      literals = c.new.result;
+      literals = c.in_ok-literals.literals;
       frames = c.calls.new.stacks.frames;
       codes
           = c.in_ok-codes.codes;
@@ -293,15 +309,15 @@ returns-clause-addresses g c =
     let codes : AreCodes p g.M.Machine.bank addresses u.asserts.items (length addresses) u.codes.items =
     subst (λ (l : List ℕ). AreCodes p g.M.Machine.bank l u.asserts.items (length l) u.codes.items) c.deref-4.ensures.value
     (subst (λ (l : List (ℕ × ℕ)). AreCodes p g.M.Machine.bank c.deref-4.result.now l (length c.deref-4.result.now) u.codes.items) c.deref-5.ensures.value
-    (c.in_ok-codes.ensures p mach c.requires.graph)) in
+    (c.in_ok-codes.ensures notes c.args.entry c.requires.graph)) in
     let placed : ArePlaced c.args.graph.now frames keys addresses called (length keys) u.points.items u.edges.items =
-    subst (λ (l : List ℕ). ArePlaced c.args.graph.now frames l addresses called (length l) u.points.items u.edges.items) c.deref-7.ensures.value
-    (subst (λ (l : List ℕ). ArePlaced c.args.graph.now frames c.deref-7.result.now l called
-    (length c.deref-7.result.now) u.points.items u.edges.items) c.deref-8.ensures.value
-    (subst (λ (l : List ℕ). ArePlaced c.args.graph.now frames c.deref-7.result.now c.deref-8.result.now l
-    (length c.deref-7.result.now) u.points.items u.edges.items) c.deref-9.ensures.value
-    (subst (λ (l : List Frame). ArePlaced c.args.graph.now l c.deref-7.result.now c.deref-8.result.now c.deref-9.result.now
-    (length c.deref-7.result.now) u.points.items u.edges.items) c.deref-6.ensures.value
+    subst (λ (l : List ℕ). ArePlaced c.args.graph.now frames l addresses called (length l) u.points.items u.edges.items) c.deref-8.ensures.value
+    (subst (λ (l : List ℕ). ArePlaced c.args.graph.now frames c.deref-8.result.now l called
+    (length c.deref-8.result.now) u.points.items u.edges.items) c.deref-9.ensures.value
+    (subst (λ (l : List ℕ). ArePlaced c.args.graph.now frames c.deref-8.result.now c.deref-9.result.now l
+    (length c.deref-8.result.now) u.points.items u.edges.items) c.deref-10.ensures.value
+    (subst (λ (l : List Frame). ArePlaced c.args.graph.now l c.deref-8.result.now c.deref-9.result.now c.deref-10.result.now
+    (length c.deref-8.result.now) u.points.items u.edges.items) c.deref-7.ensures.value
     c.in_ok-placed.ensures))) in
     words p c.args.k g.M.Machine.bank c.args.graph.now u c.calls.new.stacks.numbers keys addresses called c.requires.graph c.requires.one_way here registers
     flags c.in_ok-called.ensures.table are calls codes placed c.in_ok-index.ensures.asserts.order refl
