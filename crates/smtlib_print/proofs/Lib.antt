@@ -1,0 +1,5 @@
+pub mod Constants
+pub mod Memories
+pub mod Names
+pub mod Operations
+pub mod ReadBack

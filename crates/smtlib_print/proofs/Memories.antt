@@ -1,0 +1,110 @@
+-- Loads and stores, byte by byte. A solver's memory is one of addresses below 2^32 alone.
+use Rattle.std.proofs.Common.{◌≡◌, ℕ, zero, suc, ◌+◌, ◌-◌, ◌*◌, ◌/◌, ◌%◌, ◌^◌, ◌<◌, ◌≤◌, refl, ap, add_comm, sym, ◌∙◌, subst, arith, true, false, Bool, List, [], ◌∷◌, ◌++◌, Option, Some, None, inl, inr}
+use Rattle.std.specs.Prelude.{◌==◌, ◌&&◌, ◌||◌, nat_lt, nat_le, codes, if◌then◌else◌}
+use Rattle.std.proofs.lemmas.Bool.{cases_lt, cases_eq}
+use Rattle.std.proofs.lemmas.Bool.Decides.{nat_tests}
+use Rattle.bilv_spec.specs.Words as words
+use Rattle.bilv_spec.specs.Memory.{Memory, Endian, Little, Big, little, big, number, load, store, place, byte_of}
+use Rattle.bilv_spec.specs.Texts.{hex_digits, number_text}
+use Rattle.bilv_spec.specs.SmtLib.{Sexp, Atom, SmtValue, TruthValue, WordValue, ArrayValue, atom_value, term_value, store_byte}
+use Rattle.bilv_spec.proofs.Spelling.{same_number, decimal_back}
+use Rattle.smtlib_print.specs.Commands.{term_name, term, behind, selected, joined_bytes, loading, storing, extract}
+use Rattle.smtlib_print.proofs.Constants.{eight, hex_constant}
+
+-- the memories are the same below 2^32
+abbrev pub SameBelow : (f g : Memory) → Type 0
+SameBelow f g = (x : ℕ) → x < 2 ^ 32 → f x ≡ g x
+
+word_is : (m n u v : ℕ) → m ≡ n → u ≡ v → Some (WordValue m u) ≡ Some (WordValue n v)
+word_is m n u v h k = ap (λ z. Some (WordValue z u)) h ∙ ap (λ z. Some (WordValue n z)) k
+
+little_more : (at : ℕ → ℕ) (g : Memory) (i : ℕ) → words.concat (8 * suc i) (g (at (suc i))) (little (suc i) (λ j. g (at j))) ≡ little (suc (suc i)) (λ j. g (at j))
+little_more at g i = ap (λ p. g (at (suc i)) * p + little (suc i) (λ j. g (at j))) (eight (suc i)) ∙ add_comm (g (at (suc i)) * 256 ^ suc i) (little (suc i) (λ j. g (at j)))
+
+-- a byte's place is one of them
+place_below : (e : Endian) (n i : ℕ) → i < n → place e n i < n
+place_below Little n i h = h
+place_below Big n i h = omega arith
+
+-- the byte at a place
+byte_is : (e : Endian) (n v i : ℕ) → words.bits (8 * place e n i + 7) (8 * place e n i) v ≡ byte_of e n v i
+byte_is e n v i =
+    let p = place e n i in
+    let w : 8 * p + 7 + 1 - 8 * p ≡ 8 = omega arith in
+    ap (λ z. v / z % 2 ^ (8 * p + 7 + 1 - 8 * p)) (eight p) ∙ ap (λ z. v / 256 ^ p % 2 ^ z) w
+
+module _ (symbols : List ℕ → Option SmtValue) (n v y : ℕ) (is_value : atom_value symbols (term_name v) ≡ Some (WordValue (8 * n) y)) (few : n < 2 ^ 32) where
+  byte_value : (e : Endian) (i : ℕ) → i < n → term_value symbols (extract (8 * place e n i + 7) (8 * place e n i) v) ≡ Some (WordValue 8 (byte_of e n y i))
+  byte_value e i h =
+      let b = place_below e n i h in
+      let p : 8 * place e n i + 7 < 2 ^ 64 = omega (arith, b) in
+      let q : 8 * place e n i < 2 ^ 64 = omega (arith, b) in
+      let l : nat_le (8 * place e n i) (8 * place e n i + 7) ≡ true = grind (arith, nat_tests) in
+      let r : nat_lt (8 * place e n i + 7) (8 * n) ≡ true = grind (arith, nat_tests, b) in
+      rw (is_value, decimal_back (8 * place e n i + 7) p, decimal_back (8 * place e n i) q, l, r) (word_is _ _ _ _ (omega arith) (byte_is e n y i))
+
+-- one byte more is stored
+not_below : (d i : ℕ) → (d ≡ i → ⊥) → nat_lt d i ≡ nat_lt d (suc i)
+not_below d i n = elim (cases_lt d i) [
+  | inl k ↦ (let a : nat_lt d i ≡ true = grind (arith, nat_tests) in let b : nat_lt d (suc i) ≡ true = grind (arith, nat_tests) in a ∙ sym b)
+  | inr k ↦ (let a : nat_lt d i ≡ false = grind (arith, nat_tests) in let b : nat_lt d (suc i) ≡ false = grind (arith, nat_tests) in a ∙ sym b)
+]
+
+distance : (x i z : ℕ) → x < 2 ^ 32 → i < 2 ^ 32 → z ≡ words.add 32 x i → words.sub 32 z x ≡ i
+distance x i z p q e = omega arith
+
+address_of : (x i z : ℕ) → x < 2 ^ 32 → z < 2 ^ 32 → words.sub 32 z x ≡ i → z ≡ words.add 32 x i
+address_of x i z p q e = omega arith
+
+store_step : (h g : Memory) (at : ℕ → ℕ) (x i z : ℕ) → x < 2 ^ 32 → i < 2 ^ 32 → z < 2 ^ 32 →
+    h z ≡ (if nat_lt (words.sub 32 z x) i then at (words.sub 32 z x) else g z) →
+    store_byte h (words.add 32 x i) (at i) z ≡ (if nat_lt (words.sub 32 z x) (suc i) then at (words.sub 32 z x) else g z)
+store_step h g at x i z p q r e = elim (cases_eq z (words.add 32 x i)) [
+  | inl k ↦ (
+      let d = distance x i z p q k in
+      let a : (z == words.add 32 x i) ≡ true = grind (arith, nat_tests) in
+      let b : nat_lt (words.sub 32 z x) (suc i) ≡ true = grind (arith, nat_tests, d) in
+      rw (a, b) (ap at (sym d)))
+  | inr k ↦ (
+      let a : (z == words.add 32 x i) ≡ false = grind (arith, nat_tests) in
+      let b = not_below (words.sub 32 z x) i (λ d. k (address_of x i z p r d)) in
+      rw a (e ∙ ap (λ t. if t then at (words.sub 32 z x) else g z) b))
+]
+
+none_stored : (d u w : ℕ) → w ≡ (if nat_lt d 0 then u else w)
+none_stored d u w = let a : nat_lt d 0 ≡ false = grind (arith, nat_tests) in rw a refl
+
+module _ (symbols : List ℕ → Option SmtValue) (a x : ℕ) (is_address : atom_value symbols (term_name a) ≡ Some (WordValue 32 x)) (small : x < 2 ^ 32) where
+  behind_value : (i : ℕ) → i < 2 ^ 32 → term_value symbols (behind a i) ≡ Some (WordValue 32 (words.add 32 x i))
+  behind_value zero h = let z : x ≡ (x + 0) % 2 ^ 32 = omega arith in is_address ∙ ap (λ z. Some (WordValue 32 z)) z
+  behind_value (suc i) h = rw (is_address, hex_constant symbols 8 (suc i) (omega arith) (omega arith)) refl
+
+  module _ (m : ℕ) (f g : Memory) (is_memory : atom_value symbols (term_name m) ≡ Some (ArrayValue f)) (same : SameBelow f g) where
+    selected_value : (i : ℕ) → i < 2 ^ 32 → term_value symbols (selected m a i) ≡ Some (WordValue 8 (g (words.add 32 x i)))
+    selected_value i h =
+        rw (is_memory, behind_value i h) (ap (λ z. Some (WordValue 8 z)) (same (words.add 32 x i) (omega arith)))
+
+    first_byte : (e : Endian) (h : ℕ → ℕ) → h 0 ≡ number e 1 h
+    first_byte Little h = omega arith
+    first_byte Big h = omega arith
+
+    pub loading_value : (e : Endian) (i : ℕ) → i < 2 ^ 32 → term_value symbols (loading e m a i) ≡ Some (WordValue (8 * suc i) (load e (suc i) g x))
+    loading_value e zero h = selected_value 0 h ∙ ap (λ z. Some (WordValue 8 z)) (first_byte e (λ i. g (words.add 32 x i)))
+    loading_value Little (suc i) h =
+        rw (selected_value (suc i) h, loading_value Little i (omega arith))
+        (word_is _ _ _ _ (omega arith) (little_more (words.add 32 x) g i))
+    loading_value Big (suc i) h =
+        rw (selected_value (suc i) h, loading_value Big i (omega arith)) (word_is _ _ _ _ (omega arith) refl)
+
+    -- the memory with some bytes stored
+    abbrev stored_to : (e : Endian) (n y i : ℕ) → Memory
+    stored_to e n y i z = if nat_lt (words.sub 32 z x) i then byte_of e n y (words.sub 32 z x) else g z
+
+    module _ (e : Endian) (n v y : ℕ) (is_value : atom_value symbols (term_name v) ≡ Some (WordValue (8 * n) y)) (few : n < 2 ^ 32) where
+      pub storing_value : (i : ℕ) → i ≤ n → (h : Memory) × (term_value symbols (storing e n m a v i) ≡ Some (ArrayValue h)) × SameBelow h (stored_to e n y i)
+      storing_value zero l = (f, is_memory, λ z k. same z k ∙ none_stored (words.sub 32 z x) (byte_of e n y (words.sub 32 z x)) (g z))
+      storing_value (suc i) l =
+          let before = storing_value i (omega arith) in
+          (store_byte before.0 (words.add 32 x i) (byte_of e n y i),
+          rw (before.1, behind_value i (omega arith), byte_value symbols n v y is_value few e i (omega arith)) refl,
+          λ z k. store_step before.0 g (byte_of e n y) x i z small (omega arith) k (before.2 z k))

@@ -1,0 +1,214 @@
+-- The commands of a script: its declarations, a definition for each node, one for each byte of the file, and the assertion.
+use Rattle.std.specs.Prelude.{ℕ, zero, suc, ◌+◌, ◌-◌, ◌*◌, ◌/◌, ◌%◌, ◌^◌, ◌==◌, Bool, true, false, if◌then◌else◌, List, [], ◌∷◌, ◌++◌, codes, length, map, slice_index, slice_index_or}
+use Rattle.bilv_spec.specs.Memory.{Endian, Little, Big, place}
+use Rattle.bilv_spec.specs.Bil.{BinaryOp, Plus, Minus, Times, Divide, SignedDivide, Modulo, SignedModulo, And, Or, Xor, ShiftLeft, ShiftRight, ShiftSigned, Equal, NotEqual, Less, LessEqual, SignedLess, SignedLessEqual}
+use Rattle.bilv_spec.specs.Texts.{number_text, hex_digits}
+use Rattle.bilv_spec.specs.StateText.{Layout, value_names}
+use Rattle.bilv_spec.specs.Scripts.{choice_name}
+use Rattle.bilv_spec.specs.SmtLib.{Sexp, Atom, Nil, Cons}
+use Rattle.walk_spec.specs.Terms.{TermNode, RegisterNode, FlagNode, ChoiceNode, BaseNode, MemoryNode, ConstantNode, BinaryNode, NotNode, SelectNode, ExtractNode, ConcatNode, ExtendNode, LoadNode, StoreNode, JoinNode, width_of}
+use Rattle.walk_spec.specs.Unrolled.{ByteRun}
+use Rattle.smtlib_print.specs.Written.{one, two, three, four, five}
+
+-- the name of a term: t and its place
+abbrev pub term_name : ℕ → List ℕ
+term_name n = codes "t" ++ number_text n
+
+-- a term by its name
+abbrev pub term : ℕ → Sexp
+term n = Atom (term_name n)
+
+-- a number
+abbrev pub numeral : ℕ → Sexp
+numeral n = Atom (number_text n)
+
+-- the n lowest binary digits of a number
+abbrev pub binary_digits : ℕ → ℕ → List ℕ
+binary_digits zero v = []
+binary_digits (suc n) v = binary_digits n (v / 2) ++ (48 + v % 2) ∷ []
+
+-- a constant of a width, in hexadecimal digits where they have just so many bits
+abbrev pub constant_text : (width value : ℕ) → List ℕ
+constant_text w v = if w % 4 == 0 then codes "#x" ++ hex_digits (w / 4) v else codes "#b" ++ binary_digits w v
+
+-- a constant
+abbrev pub constant : (width value : ℕ) → Sexp
+constant w v = Atom (constant_text w v)
+
+-- an address, and a byte
+abbrev pub address : ℕ → Sexp
+address a = Atom (codes "#x" ++ hex_digits 8 a)
+
+abbrev pub byte : ℕ → Sexp
+byte v = Atom (codes "#x" ++ hex_digits 2 v)
+
+-- the sort of words of a width
+abbrev pub word_sort : Sexp → Sexp
+word_sort n = three (Atom (codes "_")) (Atom (codes "BitVec")) n
+
+-- the sort of memories
+abbrev pub array_sort : Sexp
+array_sort = three (Atom (codes "Array")) (word_sort (Atom (codes "32"))) (word_sort (Atom (codes "8")))
+
+-- the sort of a node by its width, which a memory does not have
+abbrev pub sort_of : ℕ → Sexp
+sort_of zero = array_sort
+sort_of (suc n) = word_sort (numeral (suc n))
+
+-- the application of an operator to two terms
+abbrev pub apply : List ℕ → (a b : ℕ) → Sexp
+apply operator a b = three (Atom operator) (term a) (term b)
+
+-- the bit that is 1 where a truth value is true
+abbrev pub bit_of : Sexp → Sexp
+bit_of truth = four (Atom (codes "ite")) truth (Atom (codes "#b1")) (Atom (codes "#b0"))
+
+-- whether a term is the bit 1
+abbrev pub is_one : ℕ → Sexp
+is_one c = three (Atom (codes "=")) (term c) (Atom (codes "#b1"))
+
+-- one of two terms, by a term of one bit
+abbrev pub choose : (c a b : ℕ) → Sexp
+choose c a b = four (Atom (codes "ite")) (is_one c) (term a) (term b)
+
+-- an operator's term; by 0 signed division gives all ones
+abbrev pub operation : BinaryOp → (w a b : ℕ) → Sexp
+operation Plus w a b = apply (codes "bvadd") a b
+operation Minus w a b = apply (codes "bvsub") a b
+operation Times w a b = apply (codes "bvmul") a b
+operation Divide w a b = apply (codes "bvudiv") a b
+operation SignedDivide w a b =
+    four (Atom (codes "ite")) (three (Atom (codes "=")) (term b) (constant w 0)) (constant w (2 ^ w - 1)) (apply (codes "bvsdiv") a b)
+operation Modulo w a b = apply (codes "bvurem") a b
+operation SignedModulo w a b = apply (codes "bvsrem") a b
+operation And w a b = apply (codes "bvand") a b
+operation Or w a b = apply (codes "bvor") a b
+operation Xor w a b = apply (codes "bvxor") a b
+operation ShiftLeft w a b = apply (codes "bvshl") a b
+operation ShiftRight w a b = apply (codes "bvlshr") a b
+operation ShiftSigned w a b = apply (codes "bvashr") a b
+operation Equal w a b = bit_of (apply (codes "=") a b)
+operation NotEqual w a b = bit_of (two (Atom (codes "not")) (apply (codes "=") a b))
+operation Less w a b = bit_of (apply (codes "bvult") a b)
+operation LessEqual w a b = bit_of (apply (codes "bvule") a b)
+operation SignedLess w a b = bit_of (apply (codes "bvslt") a b)
+operation SignedLessEqual w a b = bit_of (apply (codes "bvsle") a b)
+
+-- bits hi to lo of a term
+abbrev pub extract : (hi lo a : ℕ) → Sexp
+extract hi lo a = two (four (Atom (codes "_")) (Atom (codes "extract")) (numeral hi) (numeral lo)) (term a)
+
+-- a term with more bits above it: the sign, or zeros
+abbrev pub extend : Bool → (more a : ℕ) → Sexp
+extend true more a = two (three (Atom (codes "_")) (Atom (codes "sign_extend")) (numeral more)) (term a)
+extend false more a = two (three (Atom (codes "_")) (Atom (codes "zero_extend")) (numeral more)) (term a)
+
+-- the address at a distance behind a term
+abbrev pub behind : (a distance : ℕ) → Sexp
+behind a zero = term a
+behind a (suc i) = three (Atom (codes "bvadd")) (term a) (address (suc i))
+
+-- the byte of a memory at a distance behind an address
+abbrev pub selected : (m a distance : ℕ) → Sexp
+selected m a i = three (Atom (codes "select")) (term m) (behind a i)
+
+-- one byte, and words of more bytes
+abbrev pub joined_bytes : Endian → (more loaded : Sexp) → Sexp
+joined_bytes Little more loaded = three (Atom (codes "concat")) more loaded
+joined_bytes Big more loaded = three (Atom (codes "concat")) loaded more
+
+-- a load of so many bytes more than one
+abbrev pub loading : Endian → (m a more : ℕ) → Sexp
+loading e m a zero = selected m a 0
+loading e m a (suc n) = joined_bytes e (selected m a (suc n)) (loading e m a n)
+
+-- a memory with the first bytes of a term of n bytes stored
+abbrev pub storing : Endian → (n m a v count : ℕ) → Sexp
+storing e n m a v zero = term m
+storing e n m a v (suc i) = four (Atom (codes "store")) (storing e n m a v i) (behind a i) (extract (8 * place e n i + 7) (8 * place e n i) v)
+
+-- the term of a node: names of registers, flags and choices come from the layout and the numbers of points; no byte is read of a base
+abbrev pub node_term : Layout → (numbers : List ℕ) → TermNode → Sexp
+node_term layout numbers (RegisterNode r) = Atom (slice_index_or layout.registers (r - layout.first) [])
+node_term layout numbers (FlagNode f) = Atom (slice_index_or layout.flags (length layout.flags - 1 - f) [])
+node_term layout numbers (ChoiceNode i) = Atom (choice_name (slice_index numbers i))
+node_term layout numbers (BaseNode j) = byte 0
+node_term layout numbers MemoryNode = Atom (codes "mem")
+node_term layout numbers (ConstantNode w v) = constant w v
+node_term layout numbers (BinaryNode o w a b) = operation o w a b
+node_term layout numbers (NotNode w a) = two (Atom (codes "bvnot")) (term a)
+node_term layout numbers (SelectNode w c a b) = choose c a b
+node_term layout numbers (ExtractNode hi lo a) = extract hi lo a
+node_term layout numbers (ConcatNode high low a b) = apply (codes "concat") a b
+node_term layout numbers (ExtendNode signed n m a) = extend signed (m - n) a
+node_term layout numbers (LoadNode n e m a) = loading e m a (n - 1)
+node_term layout numbers (StoreNode n e m a v) = storing e n m a v n
+node_term layout numbers (JoinNode c a b) = choose c a b
+
+-- the definition of a term by its place
+abbrev pub definition : (at : ℕ) → (sort says : Sexp) → Sexp
+definition at sort says = five (Atom (codes "define-fun")) (term at) Nil sort says
+
+-- the definitions of nodes from a place on
+abbrev pub node_definitions : Layout → List ℕ → ℕ → List TermNode → List Sexp
+node_definitions layout numbers at [] = []
+node_definitions layout numbers at (n ∷ ns) = definition at (sort_of (width_of n)) (node_term layout numbers n) ∷ node_definitions layout numbers (suc at) ns
+
+-- a truth value of the entry memory's byte at an address
+abbrev pub has_byte : (a v : ℕ) → Sexp
+has_byte a v = three (Atom (codes "=")) (three (Atom (codes "select")) (Atom (codes "mem")) (address a)) (byte v)
+
+-- a term at a place: the one before it is true, and so is this
+abbrev pub further : (at : ℕ) → Sexp → Sexp
+further at says = definition (suc at) (Atom (codes "Bool")) (three (Atom (codes "and")) (term at) says)
+
+-- the definitions for so many bytes of a run from a distance on, behind a place
+abbrev pub byte_definitions : ByteRun → (at distance count : ℕ) → List Sexp
+byte_definitions run at i zero = []
+byte_definitions run at i (suc n) = further at (has_byte (run.at + i) (slice_index run.bytes i)) ∷ byte_definitions run (suc at) (suc i) n
+
+-- the definitions for runs, behind a place
+abbrev pub run_definitions : (at : ℕ) → List ByteRun → List Sexp
+run_definitions at [] = []
+run_definitions at (r ∷ rest) = byte_definitions r at 0 r.count ++ run_definitions (at + r.count) rest
+
+-- how many bytes runs have
+abbrev pub bytes_of : List ByteRun → ℕ
+bytes_of [] = 0
+bytes_of (r ∷ rest) = r.count + bytes_of rest
+
+-- a declaration
+abbrev pub declaration : List ℕ → (sort : Sexp) → Sexp
+declaration name sort = three (Atom (codes "declare-const")) (Atom name) sort
+
+-- declarations of words of a width
+abbrev pub declarations : (sort : Sexp) → List (List ℕ) → List Sexp
+declarations sort names = map (λ w. declaration w sort) names
+
+-- the names of the choices of the places that draw, from a place on
+abbrev pub drawn : (numbers : List ℕ) → (draws : List Bool) → List (List ℕ)
+drawn numbers [] = []
+drawn [] (d ∷ ds) = []
+drawn (n ∷ numbers) (d ∷ ds) = if d then choice_name n ∷ drawn numbers ds else drawn numbers ds
+
+-- what is declared: registers, flags, the memory and the choices
+abbrev pub all_declarations : Layout → List (List ℕ) → List Sexp
+all_declarations layout choices =
+    declarations (word_sort (Atom (codes "32"))) layout.registers
+    ++ declarations (word_sort (Atom (codes "1"))) layout.flags
+    ++ declaration (codes "mem") array_sort
+    ∷ declarations (word_sort (Atom (codes "2"))) choices
+
+-- the commands between the logic and the check
+abbrev pub middle_commands : Layout → (numbers : List ℕ) → (choices : List (List ℕ)) → List ByteRun → List TermNode → (root : ℕ) → List Sexp
+middle_commands layout numbers choices runs nodes root =
+    all_declarations layout choices
+    ++ node_definitions layout numbers 0 nodes
+    ++ definition (length nodes) (Atom (codes "Bool")) (is_one root)
+    ∷ run_definitions (length nodes) runs
+    ++ two (Atom (codes "assert")) (term (length nodes + bytes_of runs))
+    ∷ []
+
+-- the commands of a script
+abbrev pub all_commands : List Sexp → List Sexp
+all_commands middle = two (Atom (codes "set-logic")) (Atom (codes "QF_ABV")) ∷ middle ++ one (Atom (codes "check-sat")) ∷ []
