@@ -1,5 +1,6 @@
 pub mod Constants
 pub mod Memories
 pub mod Names
+pub mod NodeValues
 pub mod Operations
 pub mod ReadBack
