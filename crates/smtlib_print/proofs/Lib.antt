@@ -1,4 +1,7 @@
+pub mod Asserted
 pub mod Constants
+pub mod Declared
+pub mod Defined
 pub mod Memories
 pub mod Names
 pub mod NodeValues

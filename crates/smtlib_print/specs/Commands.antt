@@ -1,5 +1,5 @@
 -- The commands of a script: its declarations, a definition for each node, one for each byte of the file, and the assertion.
-use Rattle.std.specs.Prelude.{ℕ, zero, suc, ◌+◌, ◌-◌, ◌*◌, ◌/◌, ◌%◌, ◌^◌, ◌==◌, Bool, true, false, if◌then◌else◌, List, [], ◌∷◌, ◌++◌, codes, length, map, slice_index, slice_index_or}
+use Rattle.std.specs.Prelude.{ℕ, zero, suc, ◌+◌, ◌-◌, ◌*◌, ◌/◌, ◌%◌, ◌^◌, ◌==◌, ◌&&◌, Bool, true, false, if◌then◌else◌, List, [], ◌∷◌, ◌++◌, codes, length, map, slice_index, slice_index_or}
 use Rattle.bilv_spec.specs.Memory.{Endian, Little, Big, place}
 use Rattle.bilv_spec.specs.Bil.{BinaryOp, Plus, Minus, Times, Divide, SignedDivide, Modulo, SignedModulo, And, Or, Xor, ShiftLeft, ShiftRight, ShiftSigned, Equal, NotEqual, Less, LessEqual, SignedLess, SignedLessEqual}
 use Rattle.bilv_spec.specs.Texts.{number_text, hex_digits}
@@ -212,3 +212,13 @@ middle_commands layout numbers choices runs nodes root =
 -- the commands of a script
 abbrev pub all_commands : List Sexp → List Sexp
 all_commands middle = two (Atom (codes "set-logic")) (Atom (codes "QF_ABV")) ∷ middle ++ one (Atom (codes "check-sat")) ∷ []
+
+-- whether the bytes of a run from a distance on are in the memory, after a truth value
+abbrev pub held_bytes : (mem : ℕ → ℕ) → ByteRun → (distance count : ℕ) → Bool → Bool
+held_bytes mem run i zero b = b
+held_bytes mem run i (suc n) b = held_bytes mem run (suc i) n (b && (mem (run.at + i) == slice_index run.bytes i))
+
+-- whether the bytes of runs are
+abbrev pub held_runs : (mem : ℕ → ℕ) → List ByteRun → Bool → Bool
+held_runs mem [] b = b
+held_runs mem (r ∷ rest) b = held_runs mem rest (held_bytes mem r 0 r.count b)
