@@ -2,8 +2,12 @@ pub mod Asserted
 pub mod Constants
 pub mod Declared
 pub mod Defined
+pub mod Drawn
+pub mod Layouts
 pub mod Memories
 pub mod Names
 pub mod NodeValues
 pub mod Operations
 pub mod ReadBack
+pub mod Valued
+pub mod Whole

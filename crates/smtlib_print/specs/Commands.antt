@@ -195,23 +195,20 @@ drawn (n ∷ numbers) (d ∷ ds) = if d then choice_name n ∷ drawn numbers ds 
 abbrev pub all_declarations : Layout → List (List ℕ) → List Sexp
 all_declarations layout choices =
     declarations (word_sort (Atom (codes "32"))) layout.registers
-    ++ declarations (word_sort (Atom (codes "1"))) layout.flags
-    ++ declaration (codes "mem") array_sort
-    ∷ declarations (word_sort (Atom (codes "2"))) choices
+    ++ (declarations (word_sort (Atom (codes "1"))) layout.flags
+    ++ (declaration (codes "mem") array_sort ∷ declarations (word_sort (Atom (codes "2"))) choices))
 
 -- the commands between the logic and the check
 abbrev pub middle_commands : Layout → (numbers : List ℕ) → (choices : List (List ℕ)) → List ByteRun → List TermNode → (root : ℕ) → List Sexp
 middle_commands layout numbers choices runs nodes root =
     all_declarations layout choices
-    ++ node_definitions layout numbers 0 nodes
-    ++ definition (length nodes) (Atom (codes "Bool")) (is_one root)
-    ∷ run_definitions (length nodes) runs
-    ++ two (Atom (codes "assert")) (term (length nodes + bytes_of runs))
-    ∷ []
+    ++ (node_definitions layout numbers 0 nodes
+    ++ (definition (length nodes) (Atom (codes "Bool")) (is_one root)
+    ∷ (run_definitions (length nodes) runs ++ (two (Atom (codes "assert")) (term (length nodes + bytes_of runs)) ∷ []))))
 
 -- the commands of a script
 abbrev pub all_commands : List Sexp → List Sexp
-all_commands middle = two (Atom (codes "set-logic")) (Atom (codes "QF_ABV")) ∷ middle ++ one (Atom (codes "check-sat")) ∷ []
+all_commands middle = two (Atom (codes "set-logic")) (Atom (codes "QF_ABV")) ∷ (middle ++ (one (Atom (codes "check-sat")) ∷ []))
 
 -- whether the bytes of a run from a distance on are in the memory, after a truth value
 abbrev pub held_bytes : (mem : ℕ → ℕ) → ByteRun → (distance count : ℕ) → Bool → Bool

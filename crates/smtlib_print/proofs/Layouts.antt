@@ -1,0 +1,95 @@
+-- The names of registers, flags, the memory and choices, and their values under a reading.
+use Rattle.std.proofs.Common.{◌≡◌, ℕ, zero, suc, ◌+◌, ◌-◌, ◌^◌, ◌<◌, ◌≤◌, refl, ap, sym, ◌∙◌, subst, arith, true, false, Bool, List, [], ◌∷◌, ◌++◌, Option, Some, None, length, length-append, get_or, map}
+use Rattle.std.specs.Prelude.{◌==◌, ◌&&◌, ◌||◌, not, nat_lt, codes, if◌then◌else◌, slice_get, slice_index, slice_index_or}
+use Rattle.std.specs.List.{list_all, list_any}
+use Rattle.std.specs.Option.{option_map}
+use Rattle.std.specs.Str.{bytes_eq}
+use Rattle.std.proofs.lemmas.Bool.Decides.{nat_tests}
+use Rattle.std.proofs.lemmas.Fmt.{decimal_injective}
+use Rattle.std.proofs.lemmas.List.{get_or_append_left, get_or-append_right}
+use Rattle.bilv_spec.specs.Memory.{Little, Big}
+use Rattle.bilv_spec.specs.Points.{Point}
+use Rattle.bilv_spec.specs.Questions.{Reading}
+use Rattle.bilv_spec.specs.RowFiles.{from_to}
+use Rattle.bilv_spec.specs.Scripts.{choice_name, choice_names, choice_value, choice_at, register_value, named_value, values_of}
+use Rattle.bilv_spec.specs.SmtLib.{SmtValue, WordValue, ArrayValue}
+use Rattle.bilv_spec.specs.StateText.{Layout, value_names, place_in, rv_layout, arm_layout}
+use Rattle.bilv_spec.specs.Texts.{number_text}
+use Rattle.bilv_spec.proofs.Spelling.{same_text}
+use Rattle.std.specs.Fmt.{digits}
+use Rattle.smtlib_print.specs.Commands.{term_name}
+use Rattle.smtlib_print.proofs.Declared.{onto, are_new, both_true, is_false}
+use Rattle.smtlib_print.proofs.Defined.{among}
+use Rattle.smtlib_print.proofs.Names.{is_symbol, other_text, text_of}
+use Rattle.smtlib_print.proofs.ReadBack.{is_word}
+
+-- the first letter is that of a term or of a choice
+abbrev pub is_lettered : List ℕ → Bool
+is_lettered [] = true
+is_lettered (b ∷ w) = (b == 116) || (b == 99)
+
+-- a name that can be a symbol beside those of terms, choices and the memory
+abbrev pub is_own : List ℕ → Bool
+is_own w = is_symbol w && (is_word w && (not (is_lettered w) && not (bytes_eq w (codes "mem"))))
+
+-- no two names are the same
+abbrev pub are_distinct : List (List ℕ) → Bool
+are_distinct [] = true
+are_distinct (n ∷ ns) = not (among ns n) && are_distinct ns
+
+-- the names of a layout serve as symbols
+pub record IsUsable (layout : Layout) : Type 0 where
+  pub own : list_all is_own (value_names layout) ≡ true
+  pub distinct : are_distinct (value_names layout) ≡ true
+  pub registers : are_new [] layout.registers ≡ true
+  pub flags : are_new (onto [] layout.registers) layout.flags ≡ true
+
+pub rv_usable : IsUsable rv_layout
+unfolding digits
+rv_usable = record { own = refl; distinct = refl; registers = refl; flags = refl }
+
+pub little_usable : IsUsable (arm_layout Little)
+unfolding digits
+little_usable = record { own = refl; distinct = refl; registers = refl; flags = refl }
+
+pub big_usable : IsUsable (arm_layout Big)
+unfolding digits
+big_usable = record { own = refl; distinct = refl; registers = refl; flags = refl }
+
+-- a name by its place
+abbrev pub name_at : List (List ℕ) → ℕ → List ℕ
+name_at names i = slice_index_or names i []
+
+pub each_own : (p : List ℕ → Bool) (names : List (List ℕ)) (i : ℕ) → list_all p names ≡ true → i < length names → p (name_at names i) ≡ true
+each_own p [] i h l = absurd (omega arith)
+each_own p (n ∷ ns) zero h l = (both_true (p n) (list_all p ns) h).0
+each_own p (n ∷ ns) (suc i) h l = each_own p ns i (both_true (p n) (list_all p ns) h).1 (omega arith)
+
+pub among_at : (names : List (List ℕ)) (i : ℕ) → i < length names → among names (name_at names i) ≡ true
+among_at [] i l = absurd (omega arith)
+among_at (n ∷ ns) zero l = rw (same_text n) refl
+among_at (n ∷ ns) (suc i) l = or_true (bytes_eq (name_at ns i) n) _ (among_at ns i (omega arith))
+  where
+    or_true : (a b : Bool) → b ≡ true → (a || b) ≡ true
+    or_true true b h = refl
+    or_true false b h = h
+
+pub place_at : (names : List (List ℕ)) (i : ℕ) → are_distinct names ≡ true → i < length names → place_in names (name_at names i) ≡ Some i
+place_at [] i h l = absurd (omega arith)
+place_at (n ∷ ns) zero h l = rw (same_text n) refl
+place_at (n ∷ ns) (suc i) h l =
+    let d = both_true (not (among ns n)) (are_distinct ns) h in
+    let f = other_text (name_at ns i) n (λ e. true_false (sym (ap (among ns) (sym e) ∙ among_at ns i (omega arith)) ∙ is_false (among ns n) d.0)) in
+    rw (f, place_at ns i d.1 (omega arith)) (ap Some (omega arith))
+  where
+    true_false : true ≡ false → ⊥
+    true_false e = cc e
+
+pub place_none : (names : List (List ℕ)) (w : List ℕ) → among names w ≡ false → place_in names w ≡ None
+place_none [] w h = refl
+place_none (n ∷ ns) w h = by_first (bytes_eq w n) h (place_none ns w)
+  where
+    by_first : (b : Bool) → (b || among ns w) ≡ false → (among ns w ≡ false → place_in ns w ≡ None) →
+        (if b then Some 0 else option_map (λ i. i + 1) (place_in ns w)) ≡ None
+    by_first true h f = absurd (cc h)
+    by_first false h f = ap (option_map (λ i. i + 1)) (f h)
