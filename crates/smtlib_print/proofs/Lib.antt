@@ -3,11 +3,16 @@ pub mod Constants
 pub mod Declared
 pub mod Defined
 pub mod Drawn
+pub mod HeldBytes
+pub mod Inputs
 pub mod Layouts
 pub mod Memories
 pub mod Names
 pub mod NodeValues
 pub mod Operations
 pub mod ReadBack
+pub mod Symbols
+pub mod Telling
 pub mod Valued
 pub mod Whole
+pub mod Writable

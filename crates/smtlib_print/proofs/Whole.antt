@@ -31,6 +31,7 @@ pub record AreNumbers (u : UnrolledProgram) (points : List Point) (numbers : Lis
   pub within : (i : ℕ) → i < length numbers → slice_index numbers i < length points
   pub at : (i : ℕ) → i < length numbers → slice_get points (slice_index numbers i) ≡ Some (point_at u i).point
   pub distinct : (i j : ℕ) → i < j → j < length numbers → slice_index numbers i ≢ slice_index numbers j
+  pub once : (i n : ℕ) → i < length numbers → slice_get points n ≡ Some (point_at u i).point → n ≡ slice_index numbers i
 
 sorted_by : (model : List ℕ → Option SmtValue) (sort : Sexp) (names : List (List ℕ)) → ((i : ℕ) → i < length names → IsSorted model sort (name_at names i)) → AreSorted model sort names
 sorted_by model sort [] h = tt

@@ -1,0 +1,101 @@
+//! Constants, numbers and names.
+ghost use Rattle.std.specs.Prelude.{◌≡◌, ◌≤◌, ◌<◌, ◌+◌, ◌-◌, ◌^◌, ◌++◌, ℕ, [], codes, length, string_bytes, slice_index_or, OnOk};
+ghost use Rattle.bilv_spec.specs.Texts.{hex_digits};
+ghost use Rattle.state_text.specs.Starts.{layout_of};
+ghost use Rattle.smtlib_print.specs.Commands as commands;
+ghost use Rattle.smtlib_print.specs.Commands.{binary_digits, constant_text};
+ghost use Rattle.smtlib_print.specs.Written.{written};
+
+use state_text::Layout;
+use std::alloc::AllocError;
+
+/// Appends the lowest hexadecimal digits of a number.
+fn push_hex(out: &mut String, count: u8, value: u64) -> Result<(), AllocError>
+    ensures { OnOk result (string_bytes out.new ≡ string_bytes out.old ++ hex_digits count value) }
+{
+    if count == 0 {
+        return Ok(());
+    }
+    push_hex(out, count - 1, value / 16)?;
+    let digit = value % 16;
+    write!(out, "{digit:x}")
+}
+
+/// Appends the lowest binary digits of a number.
+fn push_binary(out: &mut String, count: u8, value: u64) -> Result<(), AllocError>
+    ensures { OnOk result (string_bytes out.new ≡ string_bytes out.old ++ binary_digits count value) }
+{
+    if count == 0 {
+        return Ok(());
+    }
+    push_binary(out, count - 1, value / 2)?;
+    let digit = value % 2;
+    write!(out, "{digit}")
+}
+
+/// Appends a constant of a width.
+pub fn push_constant(out: &mut String, width: u8, value: u64) -> Result<(), AllocError>
+    ensures { OnOk result (string_bytes out.new ≡ string_bytes out.old ++ constant_text width value) }
+{
+    if width % 4 == 0 {
+        out.push_str("#x")?;
+        return push_hex(out, width / 4, value);
+    }
+    out.push_str("#b")?;
+    push_binary(out, width, value)
+}
+
+/// Appends an address.
+pub fn push_address(out: &mut String, address: u32) -> Result<(), AllocError>
+    ensures { OnOk result (string_bytes out.new ≡ string_bytes out.old ++ written (commands.address address)) }
+{
+    out.push_str("#x")?;
+    push_hex(out, 8, address as u64)
+}
+
+/// Appends a byte.
+pub fn push_byte(out: &mut String, value: u8) -> Result<(), AllocError>
+    ensures { OnOk result (string_bytes out.new ≡ string_bytes out.old ++ written (commands.byte value)) }
+{
+    out.push_str("#x")?;
+    push_hex(out, 2, value as u64)
+}
+
+/// Appends the name of a register.
+pub fn push_register(out: &mut String, form: Layout, register: u8) -> Result<(), AllocError>
+    requires first { (layout_of form).first ≤ register }
+    requires last { register < (layout_of form).first + length (layout_of form).registers }
+    ensures { OnOk result (string_bytes out.new ≡ string_bytes out.old ++ slice_index_or (layout_of form).registers (register - (layout_of form).first) []) }
+{
+    match form {
+        Layout::Rv32 => write!(out, "x{register}"),
+        Layout::ArmLittle => write!(out, "r{register}"),
+        Layout::ArmBig => write!(out, "r{register}"),
+    }
+}
+
+/// The name of a flag of ARM.
+fn arm_flag(flag: u8) -> &'static str
+    requires { flag < 4 }
+    ensures little { result.now ≡ slice_index_or (layout_of Layout::ArmLittle).flags (3 - flag) [] }
+    ensures big { result.now ≡ slice_index_or (layout_of Layout::ArmBig).flags (3 - flag) [] }
+{
+    match flag {
+        0 => "V",
+        1 => "C",
+        2 => "Z",
+        _ => "N",
+    }
+}
+
+/// The name of a flag.
+pub fn flag_name(form: Layout, flag: u8) -> &'static str
+    requires { flag < length (layout_of form).flags }
+    ensures { result.now ≡ slice_index_or (layout_of form).flags (length (layout_of form).flags - 1 - flag) [] }
+{
+    match form {
+        Layout::Rv32 => unreachable!(),
+        Layout::ArmLittle => arm_flag(flag),
+        Layout::ArmBig => arm_flag(flag),
+    }
+}
