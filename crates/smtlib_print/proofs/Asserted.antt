@@ -4,6 +4,7 @@ use Rattle.std.specs.Prelude.{◌==◌, ◌&&◌, codes, slice_index}
 use Rattle.bilv_spec.specs.SmtLib.{Sexp, Atom, Nil, Cons, SmtValue, TruthValue, WordValue, ArrayValue, atom_value, term_value, binds, truth_of}
 use Rattle.walk_spec.specs.Unrolled.{ByteRun}
 use Rattle.smtlib_print.specs.Commands.{term_name, term, definition, further, has_byte, byte_definitions, run_definitions, bytes_of, held_bytes, held_runs, is_one}
+use Rattle.smtlib_print.specs.Scripted.{FitsMemory, FitMemory}
 use Rattle.smtlib_print.specs.Written.{one, two, three, before}
 use Rattle.smtlib_print.proofs.Constants.{hex_constant}
 use Rattle.smtlib_print.proofs.Defined.{Apart, Stands, IsNamed, named_value, define_step, bound_here, stands_on}
@@ -15,15 +16,6 @@ pub record Judged (model symbols : List ℕ → Option SmtValue) (names : List (
   pub stands : Stands model after names (suc at)
   pub truth : after (term_name at) ≡ Some (TruthValue b)
   pub runs : (rest : Sexp) → truth_of model symbols (before commands rest) ≡ truth_of model after rest
-
--- bytes are bytes, at addresses of memory
-pub record FitsMemory (r : ByteRun) : Type 0 where
-  pub within : r.at + r.count ≤ 2 ^ 32
-  pub bytes : (i : ℕ) → slice_index r.bytes i < 256
-
-abbrev pub FitMemory : List ByteRun → Type 0
-FitMemory [] = Unit {0}
-FitMemory (r ∷ rest) = FitsMemory r × FitMemory rest
 
 pub before-append : (cs ds : List Sexp) (rest : Sexp) → before (cs ++ ds) rest ≡ before cs (before ds rest)
 before-append [] ds rest = refl

@@ -5,13 +5,8 @@ use Rattle.std.proofs.lemmas.Bool.{cases_lt}
 use Rattle.std.proofs.lemmas.Bool.Decides.{nat_tests}
 use Rattle.walk_spec.specs.Unrolled.{ByteRun, byte_in_run, byte_of_runs}
 use Rattle.smtlib_print.specs.Commands.{held_bytes, held_runs}
-use Rattle.smtlib_print.proofs.Asserted.{FitMemory, FitsMemory}
+use Rattle.smtlib_print.specs.Scripted.{AreBehind, FitMemory, FitsMemory}
 use Rattle.smtlib_print.proofs.Declared.{both_true}
-
--- runs lie behind an address, and each behind those before it
-abbrev pub AreBehind : ℕ → List ByteRun → Type 0
-AreBehind low [] = Unit {0}
-AreBehind low (r ∷ rs) = (low ≤ r.at) × AreBehind (r.at + r.count) rs
 
 -- the memory has the bytes of runs
 abbrev pub HasKnown : List ByteRun → (mem : ℕ → ℕ) → Type 0

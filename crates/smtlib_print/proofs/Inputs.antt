@@ -15,13 +15,14 @@ use Rattle.walk_spec.specs.Unrolled.{UnrolledProgram, UnrolledPoint, is_register
 use Rattle.walk_spec.specs.Unrolling.{IsLaidOut}
 use Rattle.walk_spec.specs.WalkQuestions.{term_reading, DrawsAt, IsNamedBelow, AreNamedBelow}
 use Rattle.smtlib_print.specs.Commands.{drawn}
+use Rattle.smtlib_print.specs.Scripted.{AreNumbers}
 use Rattle.smtlib_print.proofs.Declared.{onto, onto_done, onto_new}
 use Rattle.smtlib_print.proofs.Defined.{among, IsNamed, IsInputOf, AreInputsOf}
 use Rattle.smtlib_print.proofs.Drawn.{drawn_among, or_true}
 use Rattle.smtlib_print.proofs.Layouts.{is_own, IsUsable, name_at, each_own, among_at}
 use Rattle.smtlib_print.proofs.Names.{choice_symbol, choice_word}
 use Rattle.smtlib_print.proofs.Valued.{IsOwn, all_left, all_right, own_of, register_is, flag_is, choice_is}
-use Rattle.smtlib_print.proofs.Whole.{AreNumbers, declared_names}
+use Rattle.smtlib_print.proofs.Whole.{declared_names}
 use Rattle.smtlib_print.proofs.Writable.{HasWord, HaveWords}
 
 -- a number of a range

@@ -20,18 +20,18 @@ use Rattle.walk_spec.specs.WalkQuestions.{QuestionTerm, TellsQuestion, IsTrueOfW
 use Rattle.smtlib_print.specs.Commands.{drawn, word_sort, array_sort, all_commands, all_declarations, middle_commands, bytes_of, held_runs, node_definitions, run_definitions}
 use Rattle.smtlib_print.specs.Written.{written, commands_text, before}
 use Rattle.smtlib_print.specs.Told.{AreInOrder, IsDrawn, IsSymbolOf, TellsScript}
-use Rattle.smtlib_print.proofs.Asserted.{FitMemory}
+use Rattle.smtlib_print.specs.Scripted.{AreBehind, AreNumbers, FitMemory}
 use Rattle.smtlib_print.proofs.Declared.{both_true}
 use Rattle.smtlib_print.proofs.Defined.{among}
 use Rattle.smtlib_print.proofs.Drawn.{drawn_among}
-use Rattle.smtlib_print.proofs.HeldBytes.{AreBehind, from_held, to_held}
+use Rattle.smtlib_print.proofs.HeldBytes.{from_held, to_held}
 use Rattle.smtlib_print.proofs.Inputs.{draws_at, draws_length, have_words, are_inputs}
 use Rattle.smtlib_print.proofs.Layouts.{is_own, IsUsable}
 use Rattle.smtlib_print.proofs.Names.{choice_word, term_word, text_of}
 use Rattle.smtlib_print.proofs.ReadBack.{is_word, IsWritable, AreWritable, AreWritable-append, read_back, ArePlain, commands_plain}
 use Rattle.smtlib_print.proofs.Symbols.{script_declares, script_defines, one_of}
 use Rattle.smtlib_print.proofs.Valued.{all_left, all_right, own_of}
-use Rattle.smtlib_print.proofs.Whole.{AreNumbers, whole_truth}
+use Rattle.smtlib_print.proofs.Whole.{whole_truth}
 use Rattle.smtlib_print.proofs.Writable.{AreWords, declarations_writable, nodes_writable, runs_writable}
 
 -- texts of commands one behind the other

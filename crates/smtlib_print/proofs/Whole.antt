@@ -14,8 +14,9 @@ use Rattle.walk_spec.specs.Terms.{TermReading, InRange, TermNode, HasWidth, AreT
 use Rattle.walk_spec.specs.Unrolled.{ByteRun, UnrolledProgram, point_at}
 use Rattle.walk_spec.specs.WalkQuestions.{term_reading}
 use Rattle.smtlib_print.specs.Commands.{term_name, term, word_sort, array_sort, declaration, declarations, drawn, all_declarations, node_definitions, run_definitions, definition, is_one, bytes_of, held_runs, middle_commands, all_commands}
+use Rattle.smtlib_print.specs.Scripted.{AreNumbers, FitMemory}
 use Rattle.smtlib_print.specs.Written.{one, two, before}
-use Rattle.smtlib_print.proofs.Asserted.{FitMemory, before-append, judge_runs, assertion_truth, root_step}
+use Rattle.smtlib_print.proofs.Asserted.{before-append, judge_runs, assertion_truth, root_step}
 use Rattle.smtlib_print.proofs.Declared.{are_new, AreDeclared, AreSorted, IsSorted, IsDeclaring, declare_all, onto, onto_none, onto_new, onto_done}
 use Rattle.smtlib_print.proofs.Defined.{among, Apart, Stands, IsNamed, AreInputsOf, define_nodes, bound_here, stands_on}
 use Rattle.smtlib_print.proofs.Drawn.{drawn_sorted, drawn_new, drawn_apart}
@@ -23,15 +24,6 @@ use Rattle.smtlib_print.proofs.Layouts.{IsUsable, name_at}
 use Rattle.smtlib_print.proofs.Names.{is_symbol, term_symbol, symbol_value, other_text}
 use Rattle.smtlib_print.proofs.NodeValues.{Knows}
 use Rattle.smtlib_print.proofs.Valued.{all_left, all_right, not_lettered, not_memory, register_is, flag_is, memory_is, choice_is}
-
--- numbers of the places of points: each is the place of its point among those of the script
-pub record AreNumbers (u : UnrolledProgram) (points : List Point) (numbers : List ℕ) : Type 0 where
-  pub count : length numbers ≡ length u.points
-  pub few : length points < 2 ^ 64
-  pub within : (i : ℕ) → i < length numbers → slice_index numbers i < length points
-  pub at : (i : ℕ) → i < length numbers → slice_get points (slice_index numbers i) ≡ Some (point_at u i).point
-  pub distinct : (i j : ℕ) → i < j → j < length numbers → slice_index numbers i ≢ slice_index numbers j
-  pub once : (i n : ℕ) → i < length numbers → slice_get points n ≡ Some (point_at u i).point → n ≡ slice_index numbers i
 
 sorted_by : (model : List ℕ → Option SmtValue) (sort : Sexp) (names : List (List ℕ)) → ((i : ℕ) → i < length names → IsSorted model sort (name_at names i)) → AreSorted model sort names
 sorted_by model sort [] h = tt

@@ -1,3 +1,4 @@
 pub mod Written
 pub mod Commands
 pub mod Told
+pub mod Scripted

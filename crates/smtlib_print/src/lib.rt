@@ -1,4 +1,6 @@
 //! The script of a question in SMT-LIB 2.6 (logic QF_ABV), for another solver.
 #![tactic(auto)]
 
-mod words;
+mod laws;
+
+pub use laws::scripts_tell;
