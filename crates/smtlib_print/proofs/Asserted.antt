@@ -26,7 +26,6 @@ pub term_truth : (symbols : List ℕ → Option SmtValue) (at : ℕ) (b : Bool) 
 term_truth symbols at b s h = symbol_value symbols (term_name at) (term_symbol at s) ∙ h
 
 module _ (model : List ℕ → Option SmtValue) (names : List (List ℕ)) (mem : ℕ → ℕ) (apart : Apart names) (memory : IsNamed model names (codes "mem") (ArrayValue mem)) where
-
   byte_truth : (symbols : List ℕ → Option SmtValue) (at a v : ℕ) (b : Bool) → at < 2 ^ 64 → a < 2 ^ 32 → v < 256 → symbols (term_name at) ≡ Some (TruthValue b) →
       Stands model symbols names (suc at) →
       term_value symbols (three (Atom (codes "and")) (term at) (has_byte a v)) ≡ Some (TruthValue (b && (mem a == v)))
@@ -45,17 +44,17 @@ module _ (model : List ℕ → Option SmtValue) (names : List (List ℕ)) (mem :
   judge_bytes r fits (suc n) i at b symbols l few stands truth =
       let v = b && (mem (r.at + i) == slice_index r.bytes i) in
       let next = judge_bytes r fits n (suc i) (suc at) v (binds symbols (term_name (suc at)) (TruthValue v)) (omega (arith, l)) (omega (arith, few))
-          (stands_on model symbols names (suc at) (TruthValue v) apart (omega (arith, few)) stands) (bound_here symbols (suc at) (TruthValue v)) in
+      (stands_on model symbols names (suc at) (TruthValue v) apart (omega (arith, few)) stands) (bound_here symbols (suc at) (TruthValue v)) in
       record {
         after = next.after;
         stands = subst (λ (k : ℕ). Stands model next.after names (suc k)) (omega arith) next.stands;
         truth = subst (λ (k : ℕ). next.after (term_name k) ≡ Some (TruthValue (held_bytes mem r (suc i) n v))) (omega arith) next.truth;
         runs = λ rest.
-          define_step model symbols (suc at) (Atom (codes "Bool")) (three (Atom (codes "and")) (term at) (has_byte (r.at + i) (slice_index r.bytes i)))
-          (before (byte_definitions r (suc at) (suc i) n) rest) (TruthValue v)
-          (stands.fresh (suc at) (omega arith) (omega (arith, few)))
-          (byte_truth symbols at (r.at + i) (slice_index r.bytes i) b (omega (arith, few)) (omega (arith, fits.within, l)) (fits.bytes i) truth stands) refl
-          ∙ next.runs rest;
+            define_step model symbols (suc at) (Atom (codes "Bool")) (three (Atom (codes "and")) (term at) (has_byte (r.at + i) (slice_index r.bytes i)))
+            (before (byte_definitions r (suc at) (suc i) n) rest) (TruthValue v)
+            (stands.fresh (suc at) (omega arith) (omega (arith, few)))
+            (byte_truth symbols at (r.at + i) (slice_index r.bytes i) b (omega (arith, few)) (omega (arith, fits.within, l)) (fits.bytes i) truth stands) refl
+            ∙ next.runs rest;
       }
 
   pub judge_runs : (rs : List ByteRun) → FitMemory rs → (at : ℕ) (b : Bool) (symbols : List ℕ → Option SmtValue) → at + bytes_of rs < 2 ^ 63 →
@@ -75,8 +74,8 @@ module _ (model : List ℕ → Option SmtValue) (names : List (List ℕ)) (mem :
         stands = subst (λ (k : ℕ). Stands model next.after names (suc k)) (omega arith) next.stands;
         truth = subst (λ (k : ℕ). next.after (term_name k) ≡ Some (TruthValue (held_runs mem rs (held_bytes mem r 0 r.count b)))) (omega arith) next.truth;
         runs = λ rest.
-          ap (truth_of model symbols) (before-append (byte_definitions r at 0 r.count) (run_definitions (at + r.count) rs) rest)
-          ∙ first.runs (before (run_definitions (at + r.count) rs) rest) ∙ next.runs rest;
+            ap (truth_of model symbols) (before-append (byte_definitions r at 0 r.count) (run_definitions (at + r.count) rs) rest)
+            ∙ first.runs (before (run_definitions (at + r.count) rs) rest) ∙ next.runs rest;
       }
 
 -- the assertion and the check behind it

@@ -72,9 +72,9 @@ declare_all model sort (w ∷ ws) done symbols sorted new d =
       after = next.after;
       declared = next.declared;
       runs = λ rest.
-        declare_step model symbols w sort (before (declarations sort ws) rest) s.value
-        (d w ∙ ap (λ b. if b then model w else None) (is_false (among done w) n.0)) s.is s.sort_is
-        ∙ next.runs rest;
+          declare_step model symbols w sort (before (declarations sort ws) rest) s.value
+          (d w ∙ ap (λ b. if b then model w else None) (is_false (among done w) n.0)) s.is s.sort_is
+          ∙ next.runs rest;
     }
 
 -- what is among names that are declared behind others

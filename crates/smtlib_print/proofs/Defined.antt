@@ -133,8 +133,7 @@ pub record Reached (model symbols : List ℕ → Option SmtValue) (names : List 
   pub runs : (rest : Sexp) → truth_of model symbols (before commands rest) ≡ truth_of model after rest
 
 module _ (model : List ℕ → Option SmtValue) (names : List (List ℕ)) (layout : Layout) (numbers : List ℕ) (x : TermReading) (range : InRange x) (apart : Apart names)
-  (memory : IsNamed model names (codes "mem") (ArrayValue x.mem)) where
-
+    (memory : IsNamed model names (codes "mem") (ArrayValue x.mem)) where
   has_input : (symbols : List ℕ → Option SmtValue) (upto : ℕ) (n : TermNode) → Stands model symbols names upto → IsInputOf model names layout numbers x n →
       HasInput symbols layout numbers x n
   has_input symbols upto (terms.RegisterNode r) s i = named_value model symbols names upto _ _ s i
@@ -179,15 +178,15 @@ module _ (model : List ℕ → Option SmtValue) (names : List (List ℕ)) (layou
       let l = longer bs n in
       let v = node_sorted symbols bs n at (omega (arith, few)) typed from.0 knows stands inputs.0 in
       let next = define_nodes (bs ++ n ∷ []) ns (suc at) (binds symbols (term_name at) v.value) (omega (arith, l, e)) (omega (arith, l, few))
-          (typed_push bs n typed from.0) from.1 inputs.1
-          (stands_on model symbols names at v.value apart (omega (arith, few, e)) stands)
-          (knows_on symbols x bs n at v.value e (omega (arith, few, e)) knows v.has) in
+      (typed_push bs n typed from.0) from.1 inputs.1
+      (stands_on model symbols names at v.value apart (omega (arith, few, e)) stands)
+      (knows_on symbols x bs n at v.value e (omega (arith, few, e)) knows v.has) in
       record {
         after = next.after;
         stands = subst (Stands model next.after names) (omega arith) next.stands;
         knows = subst (Knows next.after x) (append_assoc bs (n ∷ []) ns) next.knows;
         runs = λ rest.
-          define_step model symbols at (sort_of (width_of n)) (node_term layout numbers n) (before (node_definitions layout numbers (suc at) ns) rest) v.value
-          (stands.fresh at (omega arith) (omega (arith, few, e))) v.is v.sort
-          ∙ next.runs rest;
+            define_step model symbols at (sort_of (width_of n)) (node_term layout numbers n) (before (node_definitions layout numbers (suc at) ns) rest) v.value
+            (stands.fresh at (omega arith) (omega (arith, few, e))) v.is v.sort
+            ∙ next.runs rest;
       }

@@ -30,8 +30,8 @@ drawn_new done (n ∷ ns) (true ∷ ds) s h d =
     rw (h 0 (omega arith))
     (drawn_new (choice_name n ∷ done) ns ds (λ i l. s (suc i) (omega (arith, l)))
     (λ i l. neither_true _ _
-      (other_choice (slice_index ns i) n (s (suc i) (omega (arith, l))) (s 0 (omega arith)) (λ e. d 0 (suc i) (omega arith) (omega (arith, l)) (sym e)))
-      (h (suc i) (omega (arith, l))))
+    (other_choice (slice_index ns i) n (s (suc i) (omega (arith, l))) (s 0 (omega arith)) (λ e. d 0 (suc i) (omega arith) (omega (arith, l)) (sym e)))
+    (h (suc i) (omega (arith, l))))
     (λ i j k l. d (suc i) (suc j) (omega (arith, k)) (omega (arith, l))))
 drawn_new done (n ∷ ns) (false ∷ ds) s h d =
     drawn_new done ns ds (λ i l. s (suc i) (omega (arith, l))) (λ i l. h (suc i) (omega (arith, l))) (λ i j k l. d (suc i) (suc j) (omega (arith, k)) (omega (arith, l)))

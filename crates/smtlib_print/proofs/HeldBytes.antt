@@ -20,14 +20,16 @@ bytes_from : (mem : ℕ → ℕ) (r : ByteRun) (n i : ℕ) (b : Bool) → held_b
 bytes_from mem r zero i b h = (h, λ j l k. absurd (omega (arith, l, k)))
 bytes_from mem r (suc n) i b h =
     let next = bytes_from mem r n (suc i) (b && (mem (r.at + i) == slice_index r.bytes i)) h in
-    let t = both_true b _ next.0 in
-    (t.0, λ j l k. elim (cases_lt i j) [
-      | inl m ↦ next.1 j m (omega (arith, k))
-      | inr m ↦ (
-          let e : j ≡ i = omega (arith, l, m) in
-          let s : mem (r.at + i) ≡ slice_index r.bytes i = grind (arith, nat_tests, t.1) in
-          ap (λ z. mem (r.at + z)) e ∙ s ∙ ap (slice_index r.bytes) (sym e))
-    ])
+    let t = both_true b _ next.0 in (
+      t.0,
+      λ j l k. elim (cases_lt i j) [
+        | inl m ↦ next.1 j m (omega (arith, k))
+        | inr m ↦ (
+            let e : j ≡ i = omega (arith, l, m) in
+            let s : mem (r.at + i) ≡ slice_index r.bytes i = grind (arith, nat_tests, t.1) in
+            ap (λ z. mem (r.at + z)) e ∙ s ∙ ap (slice_index r.bytes) (sym e))
+      ],
+    )
 
 bytes_to : (mem : ℕ → ℕ) (r : ByteRun) (n i : ℕ) (b : Bool) → b ≡ true → HasRun mem r i n → held_bytes mem r i n b ≡ true
 bytes_to mem r zero i b h f = h
@@ -85,6 +87,6 @@ to_held mem [] low b fit behind h known = h
 to_held mem (r ∷ rs) low b fit behind h known =
     to_held mem rs (r.at + r.count) (held_bytes mem r 0 r.count b) fit.1 behind.1
     (bytes_to mem r r.count 0 b h
-      (λ j l k. known (r.at + j) (slice_index r.bytes j) (omega (arith, fit.0.within, k))
-      (let t = has_own r j (omega (arith, k)) in let z : r.at + j - r.at ≡ j = omega arith in rw (t, z) refl)))
+    (λ j l k. known (r.at + j) (slice_index r.bytes j) (omega (arith, fit.0.within, k))
+    (let t = has_own r j (omega (arith, k)) in let z : r.at + j - r.at ≡ j = omega arith in rw (t, z) refl)))
     (λ a v l f. known a v l (let t = has_none r a (found_behind rs (r.at + r.count) a v behind.1 f) in rw t f))

@@ -45,7 +45,6 @@ draws_length [] = refl
 draws_length (q ∷ ps) = ap suc (draws_length ps)
 
 module _ (u : UnrolledProgram) (layout : Layout) (usable : IsUsable layout) (laid : IsLaidOut layout u) (points : List Point) (numbers : List ℕ) (are : AreNumbers u points numbers) where
-
   abbrev choices : List (List ℕ)
   choices = drawn numbers (map (λ q. q.draws) u.points)
 
@@ -93,8 +92,8 @@ module _ (u : UnrolledProgram) (layout : Layout) (usable : IsUsable layout) (lai
         let e : layout.first + i ≡ n = omega (arith, k.0) in
         record {
           named = onto_done (codes "mem" ∷ onto (onto [] layout.registers) layout.flags) choices (name_at layout.registers i)
-            (or_true _ _ (onto_done (onto [] layout.registers) layout.flags (name_at layout.registers i)
-            (onto_new [] layout.registers (name_at layout.registers i) (among_at layout.registers i k.1))));
+              (or_true _ _ (onto_done (onto [] layout.registers) layout.flags (name_at layout.registers i)
+              (onto_new [] layout.registers (name_at layout.registers i) (among_at layout.registers i k.1))));
           symbol = (register_own i k.1).symbol;
           value = register_is layout usable points are.few r i k.1 ∙ ap (λ z. Some (WordValue 32 (r.state.regs z))) e;
         }
@@ -104,7 +103,7 @@ module _ (u : UnrolledProgram) (layout : Layout) (usable : IsUsable layout) (lai
         let l : i < length layout.flags = omega (arith, k) in
         record {
           named = onto_done (codes "mem" ∷ onto (onto [] layout.registers) layout.flags) choices (name_at layout.flags i)
-            (or_true _ _ (onto_new (onto [] layout.registers) layout.flags (name_at layout.flags i) (among_at layout.flags i l)));
+              (or_true _ _ (onto_new (onto [] layout.registers) layout.flags (name_at layout.flags i) (among_at layout.flags i l)));
           symbol = (flag_own i l).symbol;
           value = flag_is layout usable points are.few r f k;
         }
@@ -112,7 +111,7 @@ module _ (u : UnrolledProgram) (layout : Layout) (usable : IsUsable layout) (lai
         let l : i < length numbers = omega (arith, h.0, are.count) in
         record {
           named = onto_new (codes "mem" ∷ onto (onto [] layout.registers) layout.flags) choices (choice_name (slice_index numbers i))
-            (drawn_among numbers (map (λ q. q.draws) u.points) i l (omega (arith, h.0, draws_length u.points)) (draws_at u.points i h.0 ∙ h.1));
+              (drawn_among numbers (map (λ q. q.draws) u.points) i l (omega (arith, h.0, draws_length u.points)) (draws_at u.points i h.0 ∙ h.1));
           symbol = choice_symbol (slice_index numbers i);
           value = choice_is layout usable points are.few r (slice_index numbers i) (point_at u i).point (are.within i l) (are.at i l);
         }

@@ -1,3 +1,4 @@
+pub mod Appended
 pub mod Asserted
 pub mod Constants
 pub mod Declared
@@ -10,6 +11,7 @@ pub mod Memories
 pub mod Names
 pub mod NodeValues
 pub mod Operations
+pub mod Printed
 pub mod ReadBack
 pub mod Symbols
 pub mod Telling

@@ -104,7 +104,8 @@ module _ (symbols : List ℕ → Option SmtValue) (a x : ℕ) (is_address : atom
       pub storing_value : (i : ℕ) → i ≤ n → (h : Memory) × (term_value symbols (storing e n m a v i) ≡ Some (ArrayValue h)) × SameBelow h (stored_to e n y i)
       storing_value zero l = (f, is_memory, λ z k. same z k ∙ none_stored (words.sub 32 z x) (byte_of e n y (words.sub 32 z x)) (g z))
       storing_value (suc i) l =
-          let before = storing_value i (omega arith) in
-          (store_byte before.0 (words.add 32 x i) (byte_of e n y i),
-          rw (before.1, behind_value i (omega arith), byte_value symbols n v y is_value few e i (omega arith)) refl,
-          λ z k. store_step before.0 g (byte_of e n y) x i z small (omega arith) k (before.2 z k))
+          let before = storing_value i (omega arith) in (
+            store_byte before.0 (words.add 32 x i) (byte_of e n y i),
+            rw (before.1, behind_value i (omega arith), byte_value symbols n v y is_value few e i (omega arith)) refl,
+            λ z k. store_step before.0 g (byte_of e n y) x i z small (omega arith) k (before.2 z k),
+          )

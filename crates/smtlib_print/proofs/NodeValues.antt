@@ -56,8 +56,7 @@ same_word : (n u v : ℕ) → u ≡ v → Some (WordValue n u) ≡ Some (WordVal
 same_word n u v h = ap (λ z. Some (WordValue n z)) h
 
 module _ (symbols : List ℕ → Option SmtValue) (layout : Layout) (numbers : List ℕ) (x : TermReading) (range : InRange x) (ns : List TermNode) (typed : AreTyped ns)
-  (few : length ns < 2 ^ 64) (knows : Knows symbols x ns) where
-
+    (few : length ns < 2 ^ 64) (knows : Knows symbols x ns) where
   -- the word of an operand
   the_word : ℕ → ℕ
   the_word t = terms.term_word x ns t
@@ -119,7 +118,7 @@ module _ (symbols : List ℕ → Option SmtValue) (layout : Layout) (numbers : L
   says (StoreNode n e m a v) h i =
       let f = memory_known m h.1 in
       let s = storing_value symbols a _ (word_known 32 a (omega arith) h.2) (below 32 a h.2) m f.0 _ f.1 f.2 e n v _ (word_known (8 * n) v (omega (arith, h.0.0)) h.3)
-          (omega (arith, h.0.1)) n (omega arith) in
+      (omega (arith, h.0.1)) n (omega arith) in
       memory_is _ _ s.0 s.1 s.2
   says (JoinNode c a b) h i =
       let f = memory_known a h.1 in

@@ -48,8 +48,8 @@ script_declares layout numbers choices runs nodes root =
     let rs = declarations s32 layout.registers in
     let rest = before (defined ++ says) (one check) in
     let nothing : declared_symbols rest ≡ [] =
-        ap declared_symbols (before-append defined says (one check)) ∙ nodes_declare layout numbers 0 nodes (before says (one check))
-        ∙ ap declared_symbols (before-append bytes (last ∷ []) (one check)) ∙ runs_declare n runs (two last check) in
+    ap declared_symbols (before-append defined says (one check)) ∙ nodes_declare layout numbers 0 nodes (before says (one check))
+    ∙ ap declared_symbols (before-append bytes (last ∷ []) (one check)) ∙ runs_declare n runs (two last check) in
     ap declared_symbols (before-append (declared ++ (defined ++ says)) (check ∷ []) Nil)
     ∙ ap declared_symbols (before-append declared (defined ++ says) (one check))
     ∙ ap declared_symbols (before-append rs (fs ++ ms) rest) ∙ declares_names s32 layout.registers (before (fs ++ ms) rest)
@@ -116,7 +116,8 @@ script_defines layout numbers choices runs nodes root =
     (declarations_define s1 layout.flags (before ms rest)
     (declarations_define s2 choices rest
     (moved rest (before defined (before says (one check))) (before-append defined says (one check))
-    (nodes_define layout numbers 0 nodes (before says (one check))
-    ((n, refl),
-    moved (before (bytes ++ (last ∷ [])) (one check)) (before bytes (two last check)) (before-append bytes (last ∷ []) (one check))
-    (runs_define n runs (two last check) tt)))))))))
+    (nodes_define layout numbers 0 nodes (before says (one check)) (
+      (n, refl),
+      moved (before (bytes ++ (last ∷ [])) (one check)) (before bytes (two last check)) (before-append bytes (last ∷ []) (one check))
+          (runs_define n runs (two last check) tt),
+    ))))))))

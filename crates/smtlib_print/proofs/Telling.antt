@@ -81,9 +81,8 @@ and_true true = refl
 and_true false = refl
 
 module _ (u : UnrolledProgram) (layout : Layout) (usable : IsUsable layout) (laid : IsLaidOut layout u) (points : List Point) (numbers : List ℕ) (are : AreNumbers u points numbers)
-  (nodes : List TermNode) (root : ℕ) (question : Question) (tells : TellsQuestion u question (record { nodes = nodes; root = root })) (few : length nodes < 2 ^ 32)
-  (fit : FitMemory u.known) (behind : AreBehind 0 u.known) (small : bytes_of u.known < 2 ^ 62) where
-
+    (nodes : List TermNode) (root : ℕ) (question : Question) (tells : TellsQuestion u question (record { nodes = nodes; root = root })) (few : length nodes < 2 ^ 32)
+    (fit : FitMemory u.known) (behind : AreBehind 0 u.known) (small : bytes_of u.known < 2 ^ 62) where
   abbrev choices : List (List ℕ)
   choices = drawn numbers (map (λ q. q.draws) u.points)
 
@@ -95,7 +94,7 @@ module _ (u : UnrolledProgram) (layout : Layout) (usable : IsUsable layout) (lai
   truth r is =
       truth_is (values_of layout points r) (before (all_commands middle) Nil)
       ∙ whole_truth u layout usable points numbers are r is nodes root tells.terms.typed few tells.root
-        (are_inputs u layout usable laid points numbers are r is nodes tells.terms.named) u.known fit small
+      (are_inputs u layout usable laid points numbers are r is nodes tells.terms.named) u.known fit small
       ∙ ap Some (and_true (held_runs r.state.mem u.known (terms.term_word (term_reading u r) nodes root == 1)))
 
   declared_writable : AreWritable (all_declarations layout choices)
@@ -105,21 +104,24 @@ module _ (u : UnrolledProgram) (layout : Layout) (usable : IsUsable layout) (lai
       let choice_is : IsWritable (word_sort (Atom (codes "2"))) = (refl, (refl, (refl, tt))) in
       let byte_is : IsWritable (word_sort (Atom (codes "8"))) = (refl, (refl, (refl, tt))) in
       AreWritable-append _ _ (declarations_writable _ layout.registers sort_is (own_words layout.registers (all_left layout.registers layout.flags usable.own)))
-      (AreWritable-append _ _ (declarations_writable _ layout.flags bit_is (own_words layout.flags (all_right layout.registers layout.flags usable.own)))
-      ((refl, (refl, ((refl, (sort_is, (byte_is, tt))), tt))),
-      declarations_writable _ choices choice_is (drawn_words numbers (map (λ q. q.draws) u.points) (λ i l. omega (arith, are.within i l, are.few)))))
+      (AreWritable-append _ _ (declarations_writable _ layout.flags bit_is (own_words layout.flags (all_right layout.registers layout.flags usable.own))) (
+        (refl, (refl, ((refl, (sort_is, (byte_is, tt))), tt))),
+        declarations_writable _ choices choice_is (drawn_words numbers (map (λ q. q.draws) u.points) (λ i l. omega (arith, are.within i l, are.few))),
+      ))
 
   writable : AreWritable (all_commands middle)
-  writable =
-      ((refl, (refl, tt)),
-      AreWritable-append middle _
-      (AreWritable-append (all_declarations layout choices) _ declared_writable
-      (AreWritable-append (node_definitions layout numbers 0 nodes) _
-        (nodes_writable layout numbers [] nodes 0 refl (omega (arith, few)) tt tells.terms.typed (have_words u layout usable laid points numbers are nodes tells.terms.named))
-      ((refl, (term_word (length nodes) (omega (arith, few)), (tt, (refl, ((refl, (term_word root (omega (arith, few, tells.root.0)), (refl, tt))), tt))))),
-      AreWritable-append (run_definitions (length nodes) u.known) _ (runs_writable u.known (length nodes) (omega (arith, few, small)))
-      ((refl, (term_word (length nodes + bytes_of u.known) (omega (arith, few, small)), tt)), tt))))
-      ((refl, tt), tt))
+  writable = (
+    (refl, (refl, tt)),
+    AreWritable-append middle _
+        (AreWritable-append (all_declarations layout choices) _ declared_writable
+        (AreWritable-append (node_definitions layout numbers 0 nodes) _
+        (nodes_writable layout numbers [] nodes 0 refl (omega (arith, few)) tt tells.terms.typed (have_words u layout usable laid points numbers are nodes tells.terms.named)) (
+          (refl, (term_word (length nodes) (omega (arith, few)), (tt, (refl, ((refl, (term_word root (omega (arith, few, tells.root.0)), (refl, tt))), tt))))),
+          AreWritable-append (run_definitions (length nodes) u.known) _ (runs_writable u.known (length nodes) (omega (arith, few, small)))
+              ((refl, (term_word (length nodes + bytes_of u.known) (omega (arith, few, small)), tt)), tt),
+        )))
+        ((refl, tt), tt),
+  )
 
   -- the choices that are declared are those of the places that draw
   choice_drawn : (w : List ℕ) → Contains choices w → IsDrawn u points w
@@ -140,9 +142,9 @@ module _ (u : UnrolledProgram) (layout : Layout) (usable : IsUsable layout) (lai
   symbol_of w c = elim (Contains-append_cases layout.registers _ w c) [
     | inl r ↦ inl (Contains-append_left layout.registers layout.flags w r)
     | inr s ↦ (elim (Contains-append_cases layout.flags _ w s) [
-        | inl f ↦ inl (Contains-append_right layout.registers layout.flags w f)
-        | inr t ↦ inr (last_of t)
-      ])
+      | inl f ↦ inl (Contains-append_right layout.registers layout.flags w f)
+      | inr t ↦ inr (last_of t)
+    ])
   ]
     where
       last_of : Contains (codes "mem" ∷ (choices ++ [])) w → (w ≡ codes "mem") ⊎ IsDrawn u points w
@@ -170,24 +172,26 @@ module _ (u : UnrolledProgram) (layout : Layout) (usable : IsUsable layout) (lai
     plain = λ b c. plain_in (commands_text (all_commands middle)) b (commands_plain (all_commands middle) writable) c;
     commands = before (all_commands middle) Nil;
     commands_are = read_back (all_commands middle) writable;
-    declares = λ w.
-      (λ c. symbol_of w (subst (λ (ws : List (List ℕ)). Contains ws w) (script_declares layout numbers choices u.known nodes root) c),
-      λ s. subst (λ (ws : List (List ℕ)). Contains ws w) (sym (script_declares layout numbers choices u.known nodes root)) (of_symbol w s));
+    declares = λ w. (
+      λ c. symbol_of w (subst (λ (ws : List (List ℕ)). Contains ws w) (script_declares layout numbers choices u.known nodes root) c),
+      λ s. subst (λ (ws : List (List ℕ)). Contains ws w) (sym (script_declares layout numbers choices u.known nodes root)) (of_symbol w s),
+    );
     defines = λ w c. one_of _ w (script_defines layout numbers choices u.known nodes root) c;
     well_formed = λ r is. rw (truth r is) refl;
-    means = λ r is pc.
-      (λ e.
-        let h : held_runs r.state.mem u.known (terms.term_word (term_reading u r) nodes root == 1) ≡ true = cc (sym (truth r is) ∙ e) in
-        let f = from_held r.state.mem u.known (terms.term_word (term_reading u r) nodes root == 1) h in
-        let one : terms.term_word (term_reading u r) nodes root ≡ 1 = grind (arith, nat_tests, f.0) in
-        let t = (tells.means r is pc).0 one in
-        record {
-          choice = is.choice;
-          entry = record { state = is.state; pc = pc; lines = t.lines; bytes = λ a b l k asked. f.1 a b l k };
-          ends = t.ends;
-        },
+    means = λ r is pc. (
+      λ e.
+          let h : held_runs r.state.mem u.known (terms.term_word (term_reading u r) nodes root == 1) ≡ true = cc (sym (truth r is) ∙ e) in
+          let f = from_held r.state.mem u.known (terms.term_word (term_reading u r) nodes root == 1) h in
+          let one : terms.term_word (term_reading u r) nodes root ≡ 1 = grind (arith, nat_tests, f.0) in
+          let t = (tells.means r is pc).0 one in
+          record {
+            choice = is.choice;
+            entry = record { state = is.state; pc = pc; lines = t.lines; bytes = λ a b l k asked. f.1 a b l k };
+            ends = t.ends;
+          },
       λ t.
-        let one = (tells.means r is pc).1 (record { lines = t.entry.lines; ends = t.ends }) in
-        let h : (terms.term_word (term_reading u r) nodes root == 1) ≡ true = grind (arith, nat_tests, one) in
-        truth r is ∙ ap Some (to_held r.state.mem u.known 0 _ fit behind h (λ a b l k. t.entry.bytes a b l k refl)));
+          let one = (tells.means r is pc).1 (record { lines = t.entry.lines; ends = t.ends }) in
+          let h : (terms.term_word (term_reading u r) nodes root == 1) ≡ true = grind (arith, nat_tests, one) in
+          truth r is ∙ ap Some (to_held r.state.mem u.known 0 _ fit behind h (λ a b l k. t.entry.bytes a b l k refl)),
+    );
   }

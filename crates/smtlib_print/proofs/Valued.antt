@@ -86,7 +86,6 @@ choice_place first (suc count) n h k s = elim (cases_eq n first) [
 ]
 
 module _ (layout : Layout) (usable : IsUsable layout) (points : List Point) (few : length points < 2 ^ 64) (r : Reading) where
-
   -- the values of registers, by their numbers
   pub register_is : (i : ℕ) → i < length layout.registers →
       values_of layout points r (name_at layout.registers i) ≡ Some (WordValue 32 (r.state.regs (layout.first + i)))
@@ -116,5 +115,9 @@ module _ (layout : Layout) (usable : IsUsable layout) (points : List Point) (few
   pub choice_is : (n : ℕ) (q : Point) → n < length points → slice_get points n ≡ Some q → values_of layout points r (choice_name n) ≡ Some (WordValue 2 (r.choice q))
   choice_is n q l e =
       let z : n - 0 ≡ n = omega arith in
-      rw (place_none (value_names layout) (choice_name n) (not_lettered 99 (number_text n) (value_names layout) refl usable.own),
-          choice_place 0 (length points) n (omega arith) (omega (arith, l)) (omega (arith, few)), z, e) refl
+      rw (
+        place_none (value_names layout) (choice_name n) (not_lettered 99 (number_text n) (value_names layout) refl usable.own),
+        choice_place 0 (length points) n (omega arith) (omega (arith, l)) (omega (arith, few)),
+        z,
+        e,
+      ) refl

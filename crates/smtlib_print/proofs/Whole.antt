@@ -46,7 +46,6 @@ abbrev pub declared_names : Layout → List (List ℕ) → List (List ℕ)
 declared_names layout choices = onto (codes "mem" ∷ onto (onto [] layout.registers) layout.flags) choices
 
 module _ (u : UnrolledProgram) (layout : Layout) (usable : IsUsable layout) (points : List Point) (numbers : List ℕ) (are : AreNumbers u points numbers) (r : Reading) (is : IsReading r) where
-
   model : List ℕ → Option SmtValue
   model = values_of layout points r
 
@@ -97,9 +96,9 @@ module _ (u : UnrolledProgram) (layout : Layout) (usable : IsUsable layout) (poi
       let a = declare_all (values_of layout points r) (word_sort (Atom (codes "32"))) layout.registers [] (λ w. None) registers_sorted usable.registers (λ w. refl) in
       let b = declare_all (values_of layout points r) (word_sort (Atom (codes "1"))) layout.flags (onto [] layout.registers) a.after flags_sorted usable.flags a.declared in
       let c = declare_all (values_of layout points r) array_sort (codes "mem" ∷ []) (onto (onto [] layout.registers) layout.flags) b.after
-          (record { value = ArrayValue r.state.mem; is = memory_is layout usable points are.few r; sort_is = refl }, tt) (rw memory_none refl) b.declared in
+      (record { value = ArrayValue r.state.mem; is = memory_is layout usable points are.few r; sort_is = refl }, tt) (rw memory_none refl) b.declared in
       let d = declare_all (values_of layout points r) (word_sort (Atom (codes "2"))) choices (codes "mem" ∷ onto (onto [] layout.registers) layout.flags) c.after
-          choices_sorted choices_new c.declared in
+      choices_sorted choices_new c.declared in
       let cs = declarations (word_sort (Atom (codes "2"))) choices in
       let ms = declaration (codes "mem") array_sort ∷ cs in
       let fs = declarations (word_sort (Atom (codes "1"))) layout.flags in
@@ -108,10 +107,10 @@ module _ (u : UnrolledProgram) (layout : Layout) (usable : IsUsable layout) (poi
         after = d.after;
         declared = d.declared;
         runs = λ rest.
-          ap (truth_of (values_of layout points r) (λ w. None)) (before-append rs (fs ++ ms) rest)
-          ∙ a.runs (before (fs ++ ms) rest)
-          ∙ ap (truth_of (values_of layout points r) a.after) (before-append fs ms rest)
-          ∙ b.runs (before ms rest) ∙ c.runs (before cs rest) ∙ d.runs rest;
+            ap (truth_of (values_of layout points r) (λ w. None)) (before-append rs (fs ++ ms) rest)
+            ∙ a.runs (before (fs ++ ms) rest)
+            ∙ ap (truth_of (values_of layout points r) a.after) (before-append fs ms rest)
+            ∙ b.runs (before ms rest) ∙ c.runs (before cs rest) ∙ d.runs rest;
       }
 
   stands : Stands (values_of layout points r) all_declared.after (declared_names layout choices) 0
@@ -124,9 +123,8 @@ module _ (u : UnrolledProgram) (layout : Layout) (usable : IsUsable layout) (poi
   apart w t m = other_text w (term_name t) (λ e. absurd (cc (sym (sym (ap (among (declared_names layout choices)) e) ∙ m) ∙ term_none t)))
 
   module _ (nodes : List TermNode) (root : ℕ) (typed : AreTyped nodes) (few : length nodes < 2 ^ 32) (root_is : HasWidth nodes 1 root)
-    (inputs : AreInputsOf (values_of layout points r) (declared_names layout choices) layout numbers (term_reading u r) nodes)
-    (runs : List ByteRun) (fit : FitMemory runs) (small : bytes_of runs < 2 ^ 62) where
-
+      (inputs : AreInputsOf (values_of layout points r) (declared_names layout choices) layout numbers (term_reading u r) nodes)
+      (runs : List ByteRun) (fit : FitMemory runs) (small : bytes_of runs < 2 ^ 62) where
     -- the memory is a symbol
     memory_named : IsNamed (values_of layout points r) (declared_names layout choices) (codes "mem") (ArrayValue r.state.mem)
     memory_named = record {
@@ -143,16 +141,16 @@ module _ (u : UnrolledProgram) (layout : Layout) (usable : IsUsable layout) (poi
         let names = declared_names layout choices in
         let x = term_reading u r in
         let reached = define_nodes m names layout numbers x (term_range u r is) apart memory_named [] nodes 0 all_declared.after refl (omega (arith, few)) tt typed inputs stands
-            (record { terms = λ t l. absurd (omega (arith, l)) }) in
+        (record { terms = λ t l. absurd (omega (arith, l)) }) in
         let n = length nodes in
         let there : Stands m reached.after names n = subst (Stands m reached.after names) (omega arith) reached.stands in
         let word = terms.term_word x nodes root in
         let bit : atom_value reached.after (term_name root) ≡ Some (WordValue 1 word) =
-            symbol_value reached.after (term_name root) (term_symbol root (omega (arith, root_is.0, few)))
-            ∙ subst (λ (k : ℕ). reached.after (term_name root) ≡ Some (WordValue k word)) root_is.1 ((reached.knows.terms root root_is.0).word (omega (arith, root_is.1))) in
+        symbol_value reached.after (term_name root) (term_symbol root (omega (arith, root_is.0, few)))
+        ∙ subst (λ (k : ℕ). reached.after (term_name root) ≡ Some (WordValue k word)) root_is.1 ((reached.knows.terms root root_is.0).word (omega (arith, root_is.1))) in
         let after_root = binds reached.after (term_name n) (TruthValue (word == 1)) in
         let judged = judge_runs m names r.state.mem apart memory_named runs fit n (word == 1) after_root (omega (arith, few, small))
-            (stands_on m reached.after names n (TruthValue (word == 1)) apart (omega (arith, few)) there) (bound_here reached.after n (TruthValue (word == 1))) in
+        (stands_on m reached.after names n (TruthValue (word == 1)) apart (omega (arith, few)) there) (bound_here reached.after n (TruthValue (word == 1))) in
         let check = one (Atom (codes "check-sat")) in
         let last = two (Atom (codes "assert")) (term (n + bytes_of runs)) in
         let bytes = run_definitions n runs in

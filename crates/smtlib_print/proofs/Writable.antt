@@ -93,9 +93,16 @@ place_few Big n i h l = omega (arith, h, l)
 storing_writable : (e : Endian) (n m a v i : ℕ) → n ≤ 8 → i ≤ n → Few m → Few a → Few v → IsWritable (storing e n m a v i)
 storing_writable e n m a v zero s l h k q = term_word m h
 storing_writable e n m a v (suc i) s l h k q =
-    let p = place_few e n i s (omega (arith, l)) in
-    (refl, (storing_writable e n m a v i s (omega (arith, l)) h k q, (behind_writable a i k,
-    (extract_writable (8 * place e n i + 7) (8 * place e n i) v (omega (arith, p)) (omega (arith, p)) q, tt))))
+    let p = place_few e n i s (omega (arith, l)) in (
+      refl,
+      (
+        storing_writable e n m a v i s (omega (arith, l)) h k q,
+        (
+          behind_writable a i k,
+          (extract_writable (8 * place e n i + 7) (8 * place e n i) v (omega (arith, p)) (omega (arith, p)) q, tt),
+        ),
+      ),
+    )
 
 choose_writable : (c a b : ℕ) → Few c → Few a → Few b → IsWritable (choose c a b)
 choose_writable c a b h k l = (refl, ((refl, (term_word c h, (refl, tt))), (term_word a k, (term_word b l, tt))))
@@ -143,14 +150,34 @@ nodes_writable layout numbers bs (n ∷ ns) at e s t f w =
     let l = longer bs n in
     let whole = typed_push bs n t f.0 in
     let k = few_bits (bs ++ n ∷ []) (length bs) whole (omega (arith, l)) in
-    let q = ap width_of (last bs n terms.MemoryNode) in
-    ((refl, (term_word at (omega (arith, e, s)), (tt, (sort_writable (width_of n) (omega (arith, k, q)), (node_writable layout numbers bs n t (omega (arith, s)) f.0 w.0, tt))))),
-    nodes_writable layout numbers (bs ++ n ∷ []) ns (suc at) (omega (arith, l, e)) (omega (arith, l, s)) whole f.1 w.1)
+    let q = ap width_of (last bs n terms.MemoryNode) in (
+      (refl, (term_word at (omega (arith, e, s)), (tt, (sort_writable (width_of n) (omega (arith, k, q)), (node_writable layout numbers bs n t (omega (arith, s)) f.0 w.0, tt))))),
+      nodes_writable layout numbers (bs ++ n ∷ []) ns (suc at) (omega (arith, l, e)) (omega (arith, l, s)) whole f.1 w.1,
+    )
 
 byte_writable : (at a v : ℕ) → at < 2 ^ 63 → IsWritable (further at (has_byte a v))
-byte_writable at a v h =
-    (refl, (term_word (suc at) (omega (arith, h)), (tt, (refl, ((refl, (term_word at (omega (arith, h)),
-    ((refl, ((refl, (refl, (hex_inners 8 a, tt))), (hex_inners 2 v, tt))), tt))), tt)))))
+byte_writable at a v h = (
+  refl,
+  (
+    term_word (suc at) (omega (arith, h)),
+    (
+      tt,
+      (
+        refl,
+        (
+          (
+            refl,
+            (
+              term_word at (omega (arith, h)),
+              ((refl, ((refl, (refl, (hex_inners 8 a, tt))), (hex_inners 2 v, tt))), tt),
+            ),
+          ),
+          tt,
+        ),
+      ),
+    ),
+  ),
+)
 
 bytes_writable : (r : ByteRun) (n i at : ℕ) → at + n < 2 ^ 63 → AreWritable (byte_definitions r at i n)
 bytes_writable r zero i at h = tt

@@ -2,3 +2,4 @@ pub mod Written
 pub mod Commands
 pub mod Told
 pub mod Scripted
+pub mod Printable

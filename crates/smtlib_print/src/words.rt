@@ -1,6 +1,8 @@
 //! Constants, numbers and names.
-ghost use Rattle.std.specs.Prelude.{◌≡◌, ◌≤◌, ◌<◌, ◌+◌, ◌-◌, ◌^◌, ◌++◌, ℕ, [], codes, length, string_bytes, slice_index_or, OnOk};
-ghost use Rattle.bilv_spec.specs.Texts.{hex_digits};
+ghost use Rattle.std.specs.Prelude.{◌≡◌, ◌≤◌, ◌<◌, ◌+◌, ◌-◌, ◌^◌, ◌++◌, ◌∷◌, ℕ, [], codes, length, string_bytes, slice_index_or, OnOk};
+ghost use Rattle.bilv_spec.specs.Texts.{hex_digit, hex_digits};
+ghost use Rattle.bilv_spec.specs.Memory.{Little, Big};
+ghost use Rattle.bilv_spec.specs.StateText.{arm_layout};
 ghost use Rattle.state_text.specs.Starts.{layout_of};
 ghost use Rattle.smtlib_print.specs.Commands as commands;
 ghost use Rattle.smtlib_print.specs.Commands.{binary_digits, constant_text};
@@ -8,6 +10,31 @@ ghost use Rattle.smtlib_print.specs.Written.{written};
 
 use state_text::Layout;
 use std::alloc::AllocError;
+
+/// A hexadecimal digit in lower case.
+fn hex_digit_text(digit: u64) -> &'static str
+    requires { digit < 16 }
+    ensures { result.now ≡ hex_digit digit ∷ [] }
+{
+    match digit {
+        0 => "0",
+        1 => "1",
+        2 => "2",
+        3 => "3",
+        4 => "4",
+        5 => "5",
+        6 => "6",
+        7 => "7",
+        8 => "8",
+        9 => "9",
+        10 => "a",
+        11 => "b",
+        12 => "c",
+        13 => "d",
+        14 => "e",
+        _ => "f",
+    }
+}
 
 /// Appends the lowest hexadecimal digits of a number.
 fn push_hex(out: &mut String, count: u8, value: u64) -> Result<(), AllocError>
@@ -17,8 +44,7 @@ fn push_hex(out: &mut String, count: u8, value: u64) -> Result<(), AllocError>
         return Ok(());
     }
     push_hex(out, count - 1, value / 16)?;
-    let digit = value % 16;
-    write!(out, "{digit:x}")
+    out.push_str(hex_digit_text(value % 16))
 }
 
 /// Appends the lowest binary digits of a number.
@@ -31,6 +57,15 @@ fn push_binary(out: &mut String, count: u8, value: u64) -> Result<(), AllocError
     push_binary(out, count - 1, value / 2)?;
     let digit = value % 2;
     write!(out, "{digit}")
+}
+
+/// The largest number of a width.
+pub fn ones(width: u8) -> u64
+    requires some { 1 ≤ width }
+    requires few { width ≤ 64 }
+    ensures { result ≡ 2 ^ width - 1 }
+{
+    u64::MAX >> (64 - width)
 }
 
 /// Appends a constant of a width.
@@ -77,8 +112,8 @@ pub fn push_register(out: &mut String, form: Layout, register: u8) -> Result<(),
 /// The name of a flag of ARM.
 fn arm_flag(flag: u8) -> &'static str
     requires { flag < 4 }
-    ensures little { result.now ≡ slice_index_or (layout_of Layout::ArmLittle).flags (3 - flag) [] }
-    ensures big { result.now ≡ slice_index_or (layout_of Layout::ArmBig).flags (3 - flag) [] }
+    ensures little { result.now ≡ slice_index_or (arm_layout Little).flags (3 - flag) [] }
+    ensures big { result.now ≡ slice_index_or (arm_layout Big).flags (3 - flag) [] }
 {
     match flag {
         0 => "V",

@@ -1,0 +1,65 @@
+//! The declarations of registers and flags.
+ghost use Rattle.std.specs.Prelude.{◌≡◌, ◌≤◌, ◌<◌, ◌+◌, ◌-◌, ◌++◌, [], codes, length, slice_index_or, string_bytes, OnOk};
+ghost use Rattle.bilv_spec.specs.SmtLib.{Atom};
+ghost use Rattle.state_text.specs.Starts.{layout_of};
+ghost use Rattle.smtlib_print.specs.Commands as commands;
+ghost use Rattle.smtlib_print.specs.Written.{commands_text, written};
+
+use crate::words::{flag_name, push_register};
+use state_text::Layout;
+use std::alloc::AllocError;
+
+/// The number of the first register of a form.
+fn first_register(form: Layout) -> u8
+    ensures { result ≡ (layout_of form).first }
+{
+    match form {
+        Layout::Rv32 => 1,
+        Layout::ArmLittle => 0,
+        Layout::ArmBig => 0,
+    }
+}
+
+/// Appends the declaration of a register.
+fn declare_register(out: &mut String, form: Layout, register: u8) -> Result<(), AllocError>
+    requires first { (layout_of form).first ≤ register }
+    requires last { register < (layout_of form).first + length (layout_of form).registers }
+    ensures { OnOk result (string_bytes out.new ≡ string_bytes out.old ++ (written (commands.declaration (slice_index_or (layout_of form).registers (register - (layout_of form).first) []) (commands.word_sort (Atom (codes "32")))) ++ codes "\n")) }
+{
+    out.push_str("(declare-const ")?;
+    push_register(out, form, register)?;
+    out.push_str(" (_ BitVec 32))\n")
+}
+
+/// Appends the declaration of a flag.
+fn declare_flag(out: &mut String, form: Layout, flag: u8) -> Result<(), AllocError>
+    requires { flag < length (layout_of form).flags }
+    ensures { OnOk result (string_bytes out.new ≡ string_bytes out.old ++ (written (commands.declaration (slice_index_or (layout_of form).flags (length (layout_of form).flags - 1 - flag) []) (commands.word_sort (Atom (codes "1")))) ++ codes "\n")) }
+{
+    let name = flag_name(form, flag);
+    write!(out, "(declare-const {name} (_ BitVec 1))\n")
+}
+
+/// Appends the declarations of the registers.
+pub fn declare_registers(out: &mut String, form: Layout) -> Result<(), AllocError>
+    ensures { OnOk result (string_bytes out.new ≡ string_bytes out.old ++ commands_text (commands.declarations (commands.word_sort (Atom (codes "32"))) (layout_of form).registers)) }
+{
+    let first = first_register(form);
+    let count = form.register_count();
+    prove!(count <= 31);
+    for place in 0..count {
+        declare_register(out, form, first + place as u8)?;
+    }
+    Ok(())
+}
+
+/// Appends the declarations of the flags, of which the one with the highest number comes first.
+pub fn declare_flags(out: &mut String, form: Layout) -> Result<(), AllocError>
+    ensures { OnOk result (string_bytes out.new ≡ string_bytes out.old ++ commands_text (commands.declarations (commands.word_sort (Atom (codes "1"))) (layout_of form).flags)) }
+{
+    let count = form.flag_count();
+    for place in 0..count {
+        declare_flag(out, form, count - 1 - place)?;
+    }
+    Ok(())
+}
