@@ -1,9 +1,9 @@
 -- The bytes of the file one after another, and the assertion.
-use Rattle.std.proofs.Common.{◌≡◌, ℕ, zero, suc, ◌+◌, ◌^◌, ◌<◌, ◌≤◌, refl, ap, sym, ◌∙◌, subst, arith, true, false, Bool, List, [], ◌∷◌, ◌++◌, Option, Some, None, length}
+use Rattle.std.proofs.Common.{◌≡◌, ℕ, zero, suc, ◌+◌, ◌^◌, ◌<◌, ◌≤◌, refl, ap, ◌∙◌, subst, arith, true, Bool, List, [], ◌∷◌, ◌++◌, Option, Some, None}
 use Rattle.std.specs.Prelude.{◌==◌, ◌&&◌, codes, slice_index}
-use Rattle.bilv_spec.specs.SmtLib.{Sexp, Atom, Nil, Cons, SmtValue, TruthValue, WordValue, ArrayValue, atom_value, term_value, binds, truth_of}
+use Rattle.bilv_spec.specs.SmtLib.{Sexp, Atom, Cons, SmtValue, TruthValue, WordValue, ArrayValue, atom_value, term_value, binds, truth_of}
 use Rattle.walk_spec.specs.Unrolled.{ByteRun}
-use Rattle.smtlib_print.specs.Commands.{term_name, term, definition, further, has_byte, byte_definitions, run_definitions, bytes_of, held_bytes, held_runs, is_one}
+use Rattle.smtlib_print.specs.Commands.{term_name, term, definition, has_byte, byte_definitions, run_definitions, bytes_of, held_bytes, held_runs, is_one}
 use Rattle.smtlib_print.specs.Scripted.{FitsMemory, FitMemory}
 use Rattle.smtlib_print.specs.Written.{one, two, three, before}
 use Rattle.smtlib_print.proofs.Constants.{hex_constant}

@@ -1,5 +1,5 @@
 -- Constants have their values.
-use Rattle.std.proofs.Common.{◌≡◌, ℕ, zero, suc, ◌+◌, ◌*◌, ◌/◌, ◌%◌, ◌^◌, ◌<◌, ◌≤◌, refl, ap, sym, subst, ◌∙◌, arith, true, false, Bool, List, [], ◌∷◌, ◌++◌, Option, Some, None, length, length-append}
+use Rattle.std.proofs.Common.{◌≡◌, ℕ, zero, suc, ◌+◌, ◌*◌, ◌/◌, ◌%◌, ◌^◌, ◌<◌, refl, ap, sym, subst, ◌∙◌, arith, true, false, Bool, List, [], ◌∷◌, ◌++◌, Option, Some, None, length, length-append}
 use Rattle.std.specs.Prelude.{◌==◌, ◌&&◌, codes, if◌then◌else◌}
 use Rattle.std.specs.List.{list_all}
 use Rattle.std.specs.Char.{digit_value}
@@ -7,13 +7,12 @@ use Rattle.std.specs.Str.Parse.{digits_value}
 use Rattle.std.proofs.lemmas.Bool.Decides.{nat_tests}
 use Rattle.std.proofs.lemmas.Int.Digits.{digits_value_push}
 use Rattle.std.proofs.lemmas.List.Folds.{list_all-append}
-use Rattle.std.proofs.Math.Nat.{mul_comm}
 use Rattle.std.proofs.lemmas.Nat.{pow-add}
-use Rattle.bilv_spec.specs.Texts.{hex_digits, is_hex_digit, hex_word}
+use Rattle.bilv_spec.specs.Texts.{hex_digits, is_hex_digit}
 use Rattle.bilv_spec.specs.SmtLib.{SmtValue, WordValue, atom_value, constant_of, is_binary_digit}
-use Rattle.bilv_spec.proofs.Spelling.{hex_back, hex_length, same_number}
+use Rattle.bilv_spec.proofs.Spelling.{hex_back, hex_length}
 use Rattle.smtlib_print.specs.Commands.{binary_digits, constant_text}
-use Rattle.smtlib_print.proofs.ReadBack.{is_inner, is_word}
+use Rattle.smtlib_print.proofs.ReadBack.{is_inner}
 
 found : (p : Bool) (x v : ℕ) → (if p then Some x else None) ≡ Some v → (p ≡ true) × (x ≡ v)
 found true x v h = (refl, cc h)

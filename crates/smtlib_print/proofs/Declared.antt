@@ -1,10 +1,8 @@
 -- Declarations one after another: each name gets the model's value.
-use Rattle.std.proofs.Common.{◌≡◌, ℕ, zero, suc, ◌+◌, ◌^◌, ◌<◌, ◌≤◌, refl, ap, sym, ◌∙◌, subst, arith, true, false, Bool, List, [], ◌∷◌, ◌++◌, Option, Some, None, length}
-use Rattle.std.specs.Prelude.{◌==◌, ◌&&◌, ◌||◌, not, nat_lt, codes, if◌then◌else◌}
-use Rattle.std.specs.List.{list_any}
+use Rattle.std.proofs.Common.{◌≡◌, ℕ, refl, ap, sym, ◌∙◌, true, false, Bool, List, [], ◌∷◌, Option, Some, None}
+use Rattle.std.specs.Prelude.{◌&&◌, ◌||◌, not, if◌then◌else◌}
 use Rattle.std.specs.Str.{bytes_eq}
-use Rattle.std.proofs.lemmas.Bool.Decides.{nat_tests}
-use Rattle.bilv_spec.specs.SmtLib.{Sexp, Atom, Nil, Cons, SmtValue, TruthValue, WordValue, ArrayValue, binds, is_of_sort, truth_of}
+use Rattle.bilv_spec.specs.SmtLib.{Sexp, Cons, SmtValue, binds, is_of_sort, truth_of}
 use Rattle.smtlib_print.specs.Commands.{declaration, declarations}
 use Rattle.smtlib_print.specs.Written.{before}
 use Rattle.smtlib_print.proofs.Defined.{among}

@@ -1,24 +1,22 @@
 -- The commands of a script one after another: definitions of terms, of the bytes of the file, and the assertion.
-use Rattle.std.proofs.Common.{◌≡◌, ℕ, zero, suc, ◌+◌, ◌-◌, ◌*◌, ◌^◌, ◌<◌, ◌≤◌, refl, ap, sym, ◌∙◌, subst, arith, true, false, Bool, List, [], ◌∷◌, ◌++◌, Option, Some, None, length, length-append, append_assoc, append-nil, inl, inr}
-use Rattle.std.specs.Prelude.{◌==◌, ◌&&◌, nat_lt, codes, if◌then◌else◌, slice_index, slice_index_or}
+use Rattle.std.proofs.Common.{◌≡◌, ℕ, zero, suc, ◌+◌, ◌-◌, ◌^◌, ◌<◌, ◌≤◌, refl, ap, sym, ◌∙◌, subst, arith, true, false, Bool, List, [], ◌∷◌, ◌++◌, Option, Some, None, length, append_assoc, append-nil, inl, inr}
+use Rattle.std.specs.Prelude.{nat_lt, codes, slice_index, slice_index_or}
 use Rattle.std.specs.List.{list_any}
 use Rattle.std.specs.Str.{bytes_eq}
 use Rattle.std.proofs.lemmas.Bool.{cases_lt}
 use Rattle.std.proofs.lemmas.Bool.Decides.{nat_tests}
-use Rattle.std.proofs.lemmas.List.{get_or_append_left}
-use Rattle.bilv_spec.specs.Memory.{Memory}
 use Rattle.bilv_spec.specs.StateText.{Layout}
 use Rattle.bilv_spec.specs.Scripts.{choice_name}
-use Rattle.bilv_spec.specs.SmtLib.{Sexp, Atom, Nil, Cons, SmtValue, TruthValue, WordValue, ArrayValue, atom_value, term_value, binds, is_of_sort, truth_of}
+use Rattle.bilv_spec.specs.SmtLib.{Sexp, Cons, SmtValue, WordValue, ArrayValue, atom_value, term_value, binds, is_of_sort, truth_of}
 use Rattle.bilv_spec.proofs.Spelling.{same_number, same_text, decimal_back}
 use Rattle.walk_spec.specs.Terms as terms
 use Rattle.walk_spec.specs.Terms.{TermReading, InRange, TermValue, TermNode, word_value, value_at, node_value, values_from, width_of, node_at, HasWidth, AreTypedFrom, AreTyped}
 use Rattle.term_dag.proofs.ListLaws.{keeps, keeps_node, last, longer, length_values, values_append, typed_push}
-use Rattle.term_dag.proofs.Ranges.{IsFit, term_fits}
+use Rattle.term_dag.proofs.Ranges.{term_fits}
 use Rattle.term_dag.proofs.Shapes.{few_bits}
-use Rattle.smtlib_print.specs.Commands.{term_name, term, definition, sort_of, node_term, node_definitions}
+use Rattle.smtlib_print.specs.Commands.{term_name, definition, sort_of, node_term, node_definitions}
 use Rattle.smtlib_print.specs.Written.{before}
-use Rattle.smtlib_print.proofs.Names.{is_symbol, other_term, term_symbol, symbol_value}
+use Rattle.smtlib_print.proofs.Names.{is_symbol, other_term, symbol_value}
 use Rattle.smtlib_print.proofs.NodeValues.{IsValue, Knows, HasInput, says}
 
 -- a name is among names

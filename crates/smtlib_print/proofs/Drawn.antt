@@ -1,7 +1,6 @@
 -- The names of the choices that are drawn.
-use Rattle.std.proofs.Common.{◌≡◌, ◌≢◌, ℕ, zero, suc, ◌+◌, ◌^◌, ◌<◌, ◌≤◌, refl, ap, sym, ◌∙◌, arith, true, false, Bool, List, [], ◌∷◌, ◌++◌, Option, length}
-use Rattle.std.specs.Prelude.{◌&&◌, ◌||◌, not, slice_index, slice_index_or}
-use Rattle.std.specs.Str.{bytes_eq}
+use Rattle.std.proofs.Common.{◌≡◌, ◌≢◌, ℕ, zero, suc, ◌^◌, ◌<◌, refl, sym, arith, true, false, Bool, List, [], ◌∷◌, Option, length}
+use Rattle.std.specs.Prelude.{◌||◌, slice_index, slice_index_or}
 use Rattle.bilv_spec.specs.Scripts.{choice_name}
 use Rattle.bilv_spec.specs.SmtLib.{Sexp, SmtValue}
 use Rattle.bilv_spec.proofs.Spelling.{same_text}

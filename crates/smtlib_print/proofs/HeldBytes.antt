@@ -1,11 +1,11 @@
 -- The bytes of runs are in a memory exactly where each byte that is known is.
-use Rattle.std.proofs.Common.{◌≡◌, ℕ, zero, suc, ◌+◌, ◌-◌, ◌^◌, ◌<◌, ◌≤◌, refl, ap, sym, ◌∙◌, subst, arith, true, false, Bool, List, [], ◌∷◌, Option, Some, None, inl, inr}
+use Rattle.std.proofs.Common.{◌≡◌, ℕ, zero, suc, ◌+◌, ◌-◌, ◌^◌, ◌<◌, ◌≤◌, refl, ap, sym, ◌∙◌, arith, true, false, Bool, List, [], ◌∷◌, Some, inl, inr}
 use Rattle.std.specs.Prelude.{◌==◌, ◌&&◌, nat_lt, nat_le, find, slice_index, if◌then◌else◌}
 use Rattle.std.proofs.lemmas.Bool.{cases_lt}
 use Rattle.std.proofs.lemmas.Bool.Decides.{nat_tests}
 use Rattle.walk_spec.specs.Unrolled.{ByteRun, byte_in_run, byte_of_runs}
 use Rattle.smtlib_print.specs.Commands.{held_bytes, held_runs}
-use Rattle.smtlib_print.specs.Scripted.{AreBehind, FitMemory, FitsMemory}
+use Rattle.smtlib_print.specs.Scripted.{AreBehind, FitMemory}
 use Rattle.smtlib_print.proofs.Declared.{both_true}
 
 -- the memory has the bytes of runs

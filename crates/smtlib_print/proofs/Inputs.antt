@@ -1,23 +1,23 @@
 -- The inputs of nodes over an unrolled program are named, and their names are words.
-use Rattle.std.proofs.Common.{◌≡◌, ℕ, zero, suc, ◌+◌, ◌-◌, ◌^◌, ◌<◌, ◌≤◌, refl, ap, sym, ◌∙◌, subst, arith, true, false, Bool, List, [], ◌∷◌, ◌++◌, Option, Some, length, length-append, map, Contains, get_or}
-use Rattle.std.specs.Prelude.{◌==◌, ◌||◌, nat_eq, nat_lt, codes, slice_index, slice_index_or}
+use Rattle.std.proofs.Common.{◌≡◌, ℕ, zero, suc, ◌+◌, ◌-◌, ◌<◌, ◌≤◌, refl, ap, sym, ◌∙◌, arith, true, false, Bool, List, [], ◌∷◌, Some, length, map, Contains}
+use Rattle.std.specs.Prelude.{◌||◌, nat_eq, codes, slice_index, slice_index_or}
 use Rattle.std.specs.List.{list_any}
 use Rattle.std.proofs.lemmas.Bool.Decides.{nat_tests}
 use Rattle.bilv_spec.specs.Points.{Point}
 use Rattle.bilv_spec.specs.Questions.{Reading, IsReading}
 use Rattle.bilv_spec.specs.RowFiles.{from_to}
 use Rattle.bilv_spec.specs.Scripts.{choice_name, values_of}
-use Rattle.bilv_spec.specs.SmtLib.{SmtValue, WordValue}
-use Rattle.bilv_spec.specs.StateText.{Layout, value_names}
+use Rattle.bilv_spec.specs.SmtLib.{WordValue}
+use Rattle.bilv_spec.specs.StateText.{Layout}
 use Rattle.walk_spec.specs.Terms as terms
 use Rattle.walk_spec.specs.Terms.{TermNode}
 use Rattle.walk_spec.specs.Unrolled.{UnrolledProgram, UnrolledPoint, is_register_of, is_flag_of, point_at, no_point}
 use Rattle.walk_spec.specs.Unrolling.{IsLaidOut}
-use Rattle.walk_spec.specs.WalkQuestions.{term_reading, DrawsAt, IsNamedBelow, AreNamedBelow}
+use Rattle.walk_spec.specs.WalkQuestions.{term_reading, IsNamedBelow}
 use Rattle.smtlib_print.specs.Commands.{drawn}
 use Rattle.smtlib_print.specs.Scripted.{AreNumbers}
 use Rattle.smtlib_print.proofs.Declared.{onto, onto_done, onto_new}
-use Rattle.smtlib_print.proofs.Defined.{among, IsNamed, IsInputOf, AreInputsOf}
+use Rattle.smtlib_print.proofs.Defined.{IsInputOf, AreInputsOf}
 use Rattle.smtlib_print.proofs.Drawn.{drawn_among, or_true}
 use Rattle.smtlib_print.proofs.Layouts.{is_own, IsUsable, name_at, each_own, among_at}
 use Rattle.smtlib_print.proofs.Names.{choice_symbol, choice_word}

@@ -1,26 +1,16 @@
 -- The names of registers, flags, the memory and choices, and their values under a reading.
-use Rattle.std.proofs.Common.{◌≡◌, ℕ, zero, suc, ◌+◌, ◌-◌, ◌^◌, ◌<◌, ◌≤◌, refl, ap, sym, ◌∙◌, subst, arith, true, false, Bool, List, [], ◌∷◌, ◌++◌, Option, Some, None, length, length-append, get_or, map}
-use Rattle.std.specs.Prelude.{◌==◌, ◌&&◌, ◌||◌, not, nat_lt, codes, if◌then◌else◌, slice_get, slice_index, slice_index_or}
-use Rattle.std.specs.List.{list_all, list_any}
+use Rattle.std.proofs.Common.{◌≡◌, ℕ, zero, suc, ◌+◌, ◌<◌, refl, ap, sym, ◌∙◌, arith, true, false, Bool, List, [], ◌∷◌, Some, None, length}
+use Rattle.std.specs.Prelude.{◌==◌, ◌&&◌, ◌||◌, not, codes, if◌then◌else◌, slice_index_or}
+use Rattle.std.specs.List.{list_all}
 use Rattle.std.specs.Option.{option_map}
 use Rattle.std.specs.Str.{bytes_eq}
-use Rattle.std.proofs.lemmas.Bool.Decides.{nat_tests}
-use Rattle.std.proofs.lemmas.Fmt.{decimal_injective}
-use Rattle.std.proofs.lemmas.List.{get_or_append_left, get_or-append_right}
 use Rattle.bilv_spec.specs.Memory.{Little, Big}
-use Rattle.bilv_spec.specs.Points.{Point}
-use Rattle.bilv_spec.specs.Questions.{Reading}
-use Rattle.bilv_spec.specs.RowFiles.{from_to}
-use Rattle.bilv_spec.specs.Scripts.{choice_name, choice_names, choice_value, choice_at, register_value, named_value, values_of}
-use Rattle.bilv_spec.specs.SmtLib.{SmtValue, WordValue, ArrayValue}
 use Rattle.bilv_spec.specs.StateText.{Layout, value_names, place_in, rv_layout, arm_layout}
-use Rattle.bilv_spec.specs.Texts.{number_text}
 use Rattle.bilv_spec.proofs.Spelling.{same_text}
 use Rattle.std.specs.Fmt.{digits}
-use Rattle.smtlib_print.specs.Commands.{term_name}
 use Rattle.smtlib_print.proofs.Declared.{onto, are_new, both_true, is_false}
 use Rattle.smtlib_print.proofs.Defined.{among}
-use Rattle.smtlib_print.proofs.Names.{is_symbol, other_text, text_of}
+use Rattle.smtlib_print.proofs.Names.{is_symbol, other_text}
 use Rattle.smtlib_print.proofs.ReadBack.{is_word}
 
 -- the first letter is that of a term or of a choice

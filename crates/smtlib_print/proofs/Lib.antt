@@ -6,6 +6,7 @@ pub mod Defined
 pub mod Drawn
 pub mod HeldBytes
 pub mod Inputs
+pub mod KnownTexts
 pub mod Layouts
 pub mod Memories
 pub mod Names

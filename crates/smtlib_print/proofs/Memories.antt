@@ -1,14 +1,13 @@
 -- Loads and stores, byte by byte. A solver's memory is one of addresses below 2^32 alone.
-use Rattle.std.proofs.Common.{◌≡◌, ℕ, zero, suc, ◌+◌, ◌-◌, ◌*◌, ◌/◌, ◌%◌, ◌^◌, ◌<◌, ◌≤◌, refl, ap, add_comm, sym, ◌∙◌, subst, arith, true, false, Bool, List, [], ◌∷◌, ◌++◌, Option, Some, None, inl, inr}
-use Rattle.std.specs.Prelude.{◌==◌, ◌&&◌, ◌||◌, nat_lt, nat_le, codes, if◌then◌else◌}
+use Rattle.std.proofs.Common.{◌≡◌, ℕ, zero, suc, ◌+◌, ◌-◌, ◌*◌, ◌/◌, ◌%◌, ◌^◌, ◌<◌, ◌≤◌, refl, ap, add_comm, sym, ◌∙◌, arith, true, false, List, Option, Some, inl, inr}
+use Rattle.std.specs.Prelude.{◌==◌, nat_lt, nat_le, if◌then◌else◌}
 use Rattle.std.proofs.lemmas.Bool.{cases_lt, cases_eq}
 use Rattle.std.proofs.lemmas.Bool.Decides.{nat_tests}
 use Rattle.bilv_spec.specs.Words as words
-use Rattle.bilv_spec.specs.Memory.{Memory, Endian, Little, Big, little, big, number, load, store, place, byte_of}
-use Rattle.bilv_spec.specs.Texts.{hex_digits, number_text}
-use Rattle.bilv_spec.specs.SmtLib.{Sexp, Atom, SmtValue, TruthValue, WordValue, ArrayValue, atom_value, term_value, store_byte}
-use Rattle.bilv_spec.proofs.Spelling.{same_number, decimal_back}
-use Rattle.smtlib_print.specs.Commands.{term_name, term, behind, selected, joined_bytes, loading, storing, extract}
+use Rattle.bilv_spec.specs.Memory.{Memory, Endian, Little, Big, little, number, load, place, byte_of}
+use Rattle.bilv_spec.specs.SmtLib.{SmtValue, WordValue, ArrayValue, atom_value, term_value, store_byte}
+use Rattle.bilv_spec.proofs.Spelling.{decimal_back}
+use Rattle.smtlib_print.specs.Commands.{term_name, behind, selected, loading, storing, extract}
 use Rattle.smtlib_print.proofs.Constants.{eight, hex_constant}
 
 -- the memories are the same below 2^32

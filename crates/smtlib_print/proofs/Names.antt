@@ -1,6 +1,6 @@
 -- Names and numbers: they are words, they have the values of symbols, and two are the same only where their numbers are.
-use Rattle.std.proofs.Common.{◌≡◌, ℕ, zero, suc, ◌+◌, ◌^◌, ◌<◌, ◌≤◌, refl, ap, sym, ◌∙◌, arith, true, false, Bool, List, [], ◌∷◌, ◌++◌, Option, Some, None, length}
-use Rattle.std.specs.Prelude.{◌==◌, ◌&&◌, ◌||◌, not, codes, decimal, if◌then◌else◌}
+use Rattle.std.proofs.Common.{◌≡◌, ℕ, ◌^◌, ◌<◌, ◌≤◌, refl, arith, true, false, Bool, List, [], ◌∷◌, Option, None, length}
+use Rattle.std.specs.Prelude.{◌==◌, ◌&&◌, not, codes, decimal}
 use Rattle.std.specs.List.{list_all}
 use Rattle.std.specs.Str.{bytes_eq}
 use Rattle.std.specs.Str.Parse.{AllDigits}
@@ -9,9 +9,8 @@ use Rattle.std.proofs.lemmas.Slice.Eq.{bytes_eq-Decides}
 use Rattle.std.proofs.lemmas.Fmt.{decimal_is_IsNumeral, decimal_injective}
 use Rattle.std.proofs.lemmas.Str.Parse.{digit_from_value}
 use Rattle.bilv_spec.specs.Texts.{number_text}
-use Rattle.bilv_spec.specs.Scripts.{choice_name, is_plain_byte}
-use Rattle.bilv_spec.specs.SmtLib.{SmtValue, TruthValue, WordValue, ArrayValue, atom_value, constant_of, or_value}
-use Rattle.bilv_spec.proofs.Spelling.{same_text}
+use Rattle.bilv_spec.specs.Scripts.{choice_name}
+use Rattle.bilv_spec.specs.SmtLib.{SmtValue, atom_value, constant_of}
 use Rattle.smtlib_print.specs.Commands.{term_name}
 use Rattle.smtlib_print.proofs.ReadBack.{is_inner, is_word}
 

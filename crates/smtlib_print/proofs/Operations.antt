@@ -1,16 +1,16 @@
 -- Operators have the values that they have in lifted code.
-use Rattle.std.proofs.Common.{◌≡◌, ℕ, zero, suc, ◌+◌, ◌-◌, ◌*◌, ◌/◌, ◌%◌, ◌^◌, ◌<◌, ◌≤◌, refl, ap, sym, ◌∙◌, arith, true, false, Bool, List, [], ◌∷◌, ◌++◌, Option, Some, None}
-use Rattle.std.specs.Prelude.{◌==◌, not, nat_lt, nat_le, codes, if◌then◌else◌}
+use Rattle.std.proofs.Common.{◌≡◌, ℕ, ◌-◌, ◌/◌, ◌^◌, ◌<◌, ◌≤◌, refl, ap, sym, arith, true, false, Bool, List, Option, Some}
+use Rattle.std.specs.Prelude.{◌==◌, not, nat_lt, nat_le, if◌then◌else◌}
 use Rattle.std.proofs.lemmas.Bool.Decides.{nat_tests}
 use Rattle.std.proofs.lemmas.Nat.{pow_pos}
 use Rattle.std.proofs.Math.Nat.{mod-eq_of_lt, div-le_self}
 use Rattle.bilv_spec.specs.Words as words
 use Rattle.bilv_spec.specs.Bil.{BinaryOp, Plus, Minus, Times, Divide, SignedDivide, Modulo, SignedModulo, And, Or, Xor, ShiftLeft, ShiftRight, ShiftSigned, Equal, NotEqual, Less, LessEqual, SignedLess, SignedLessEqual}
 use Rattle.bilv_spec.specs.BilTyping.{result_width}
-use Rattle.bilv_spec.specs.SmtLib.{Sexp, Atom, SmtValue, TruthValue, WordValue, atom_value, term_value, smt_sdiv}
+use Rattle.bilv_spec.specs.SmtLib.{SmtValue, WordValue, atom_value, term_value, smt_sdiv}
 use Rattle.bilv_spec.proofs.Spelling.{same_number}
 use Rattle.walk_spec.specs.Terms.{operate}
-use Rattle.smtlib_print.specs.Commands.{term_name, term, apply, bit_of, operation, constant, constant_text}
+use Rattle.smtlib_print.specs.Commands.{term_name, operation, constant_text}
 
 bit_value : (c : Bool) → (if c then 1 else 0) ≡ words.bit c
 bit_value true = refl

@@ -1,10 +1,9 @@
 -- S-expressions are read back from their texts.
-use Rattle.std.proofs.Common.{◌≡◌, ℕ, zero, suc, ◌<◌, refl, ap, sym, ◌∙◌, arith, true, false, Bool, List, [], ◌∷◌, ◌++◌, Option, Some, None, append_assoc, append-nil, Contains, inl, inr, ◌⊎◌}
-use Rattle.std.specs.Prelude.{◌==◌, ◌&&◌, ◌||◌, not, codes, if◌then◌else◌}
+use Rattle.std.proofs.Common.{◌≡◌, ℕ, refl, ap, sym, ◌∙◌, true, false, Bool, List, [], ◌∷◌, ◌++◌, Some, append_assoc, append-nil}
+use Rattle.std.specs.Prelude.{◌==◌, ◌&&◌, ◌||◌, not, if◌then◌else◌}
 use Rattle.std.specs.List.{list_all}
-use Rattle.std.specs.Str.{bytes_eq}
 use Rattle.std.proofs.lemmas.List.Folds.{list_all-append}
-use Rattle.bilv_spec.specs.SmtLib.{Sexp, Atom, Nil, Cons, with_word, words_after, in_innermost, close_list, open_lists, only_list, sexps_of, opening, closing}
+use Rattle.bilv_spec.specs.SmtLib.{Sexp, Atom, Nil, Cons, words_after, in_innermost, close_list, open_lists, only_list, sexps_of}
 use Rattle.bilv_spec.specs.Scripts.{is_plain_byte}
 use Rattle.smtlib_print.specs.Written.{written, rest_written, commands_text, before}
 

@@ -1,12 +1,12 @@
 -- What a script declares and defines.
-use Rattle.std.proofs.Common.{◌≡◌, ℕ, zero, suc, ◌+◌, ◌^◌, ◌<◌, refl, ap, sym, ◌∙◌, subst, arith, true, false, Bool, List, [], ◌∷◌, ◌++◌, length, map, Contains, inl, inr, ◌⊎◌}
-use Rattle.std.specs.Prelude.{codes, if◌then◌else◌}
+use Rattle.std.proofs.Common.{◌≡◌, ℕ, zero, suc, ◌+◌, refl, ap, sym, ◌∙◌, subst, arith, List, [], ◌∷◌, ◌++◌, length, Contains}
+use Rattle.std.specs.Prelude.{codes}
 use Rattle.bilv_spec.specs.Scripts.{IsTermName}
-use Rattle.bilv_spec.specs.SmtLib.{Sexp, Atom, Nil, Cons, declared_symbols, defined_symbols}
+use Rattle.bilv_spec.specs.SmtLib.{Sexp, Atom, Nil, declared_symbols, defined_symbols}
 use Rattle.bilv_spec.specs.StateText.{Layout}
-use Rattle.walk_spec.specs.Terms.{TermNode, width_of}
+use Rattle.walk_spec.specs.Terms.{TermNode}
 use Rattle.walk_spec.specs.Unrolled.{ByteRun}
-use Rattle.smtlib_print.specs.Commands.{term_name, term, definition, declaration, declarations, all_declarations, node_term, sort_of, node_definitions, byte_definitions, run_definitions, bytes_of, middle_commands, all_commands, is_one, word_sort, array_sort}
+use Rattle.smtlib_print.specs.Commands.{term, definition, declaration, declarations, all_declarations, node_definitions, byte_definitions, run_definitions, bytes_of, middle_commands, all_commands, is_one, word_sort, array_sort}
 use Rattle.smtlib_print.specs.Written.{one, two, before}
 use Rattle.smtlib_print.proofs.Asserted.{before-append}
 

@@ -1,7 +1,7 @@
 -- The text of a script says the question.
-use Rattle.std.proofs.Common.{◌≡◌, ℕ, zero, suc, ◌+◌, ◌-◌, ◌^◌, ◌<◌, ◌≤◌, ◌↔◌, ◌⊎◌, refl, ap, sym, ◌∙◌, subst, arith, true, false, Bool, List, [], ◌∷◌, ◌++◌, Option, Some, None, length, length-append, map, Contains, inl, inr, append_assoc, append-nil}
-use Rattle.std.specs.Prelude.{◌==◌, ◌&&◌, is_some, codes, slice_get, slice_index, slice_index_or}
-use Rattle.std.specs.List.{list_all, list_any}
+use Rattle.std.proofs.Common.{◌≡◌, ℕ, zero, suc, ◌+◌, ◌^◌, ◌<◌, ◌⊎◌, refl, ap, sym, ◌∙◌, subst, arith, true, false, Bool, List, [], ◌∷◌, ◌++◌, Option, Some, None, length, map, Contains, inl, inr, append_assoc, append-nil}
+use Rattle.std.specs.Prelude.{◌==◌, ◌&&◌, codes, slice_index, slice_index_or}
+use Rattle.std.specs.List.{list_all}
 use Rattle.std.specs.Str.{bytes_eq}
 use Rattle.std.proofs.lemmas.Bool.Decides.{nat_tests}
 use Rattle.std.proofs.lemmas.Map.Views.{Contains-from_any}
@@ -10,14 +10,13 @@ use Rattle.bilv_spec.specs.Points.{Point}
 use Rattle.bilv_spec.specs.Questions.{Reading, IsReading, Question}
 use Rattle.bilv_spec.specs.Scripts.{AreWholeLines, choice_name, is_plain_byte, values_of}
 use Rattle.bilv_spec.specs.SmtLib.{Sexp, Atom, Nil, commands_truth, truth_of, SmtValue}
-use Rattle.bilv_spec.specs.StateText.{Layout, value_names}
-use Rattle.bilv_spec.specs.Texts.{line}
+use Rattle.bilv_spec.specs.StateText.{Layout}
 use Rattle.walk_spec.specs.Terms as terms
 use Rattle.walk_spec.specs.Terms.{TermNode, HasWidth}
-use Rattle.walk_spec.specs.Unrolled.{UnrolledProgram, ByteRun, point_at}
+use Rattle.walk_spec.specs.Unrolled.{UnrolledProgram}
 use Rattle.walk_spec.specs.Unrolling.{IsLaidOut}
-use Rattle.walk_spec.specs.WalkQuestions.{QuestionTerm, TellsQuestion, IsTrueOfWalk, term_reading}
-use Rattle.smtlib_print.specs.Commands.{drawn, word_sort, array_sort, all_commands, all_declarations, middle_commands, bytes_of, held_runs, node_definitions, run_definitions}
+use Rattle.walk_spec.specs.WalkQuestions.{TellsQuestion, term_reading}
+use Rattle.smtlib_print.specs.Commands.{drawn, word_sort, all_commands, all_declarations, middle_commands, bytes_of, held_runs, node_definitions, run_definitions}
 use Rattle.smtlib_print.specs.Written.{written, commands_text, before}
 use Rattle.smtlib_print.specs.Told.{AreInOrder, IsDrawn, IsSymbolOf, TellsScript}
 use Rattle.smtlib_print.specs.Scripted.{AreBehind, AreNumbers, FitMemory}
@@ -28,7 +27,7 @@ use Rattle.smtlib_print.proofs.HeldBytes.{from_held, to_held}
 use Rattle.smtlib_print.proofs.Inputs.{draws_at, draws_length, have_words, are_inputs}
 use Rattle.smtlib_print.proofs.Layouts.{is_own, IsUsable}
 use Rattle.smtlib_print.proofs.Names.{choice_word, term_word, text_of}
-use Rattle.smtlib_print.proofs.ReadBack.{is_word, IsWritable, AreWritable, AreWritable-append, read_back, ArePlain, commands_plain}
+use Rattle.smtlib_print.proofs.ReadBack.{IsWritable, AreWritable, AreWritable-append, read_back, ArePlain, commands_plain}
 use Rattle.smtlib_print.proofs.Symbols.{script_declares, script_defines, one_of}
 use Rattle.smtlib_print.proofs.Valued.{all_left, all_right, own_of}
 use Rattle.smtlib_print.proofs.Whole.{whole_truth}

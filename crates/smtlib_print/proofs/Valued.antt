@@ -1,26 +1,24 @@
 -- The names of a script have the values of a reading.
-use Rattle.std.proofs.Common.{◌≡◌, ◌≢◌, ℕ, zero, suc, ◌+◌, ◌-◌, ◌*◌, ◌^◌, ◌<◌, ◌≤◌, refl, ap, sym, ◌∙◌, subst, arith, true, false, Bool, List, [], ◌∷◌, ◌++◌, Option, Some, None, length, length-append, get_or, map, inl, inr}
-use Rattle.std.specs.Prelude.{◌==◌, ◌&&◌, ◌||◌, not, nat_lt, codes, if◌then◌else◌, slice_get, slice_index, slice_index_or}
-use Rattle.std.specs.List.{list_all, list_any}
-use Rattle.std.specs.Option.{option_map}
+use Rattle.std.proofs.Common.{◌≡◌, ℕ, zero, suc, ◌+◌, ◌-◌, ◌^◌, ◌<◌, ◌≤◌, refl, ap, sym, ◌∙◌, arith, true, false, Bool, List, [], ◌∷◌, ◌++◌, Some, length, length-append, map, inl, inr}
+use Rattle.std.specs.Prelude.{◌==◌, ◌||◌, not, nat_lt, codes, slice_get}
+use Rattle.std.specs.List.{list_all}
 use Rattle.std.specs.Str.{bytes_eq}
 use Rattle.std.proofs.lemmas.Bool.{cases_eq}
 use Rattle.std.proofs.lemmas.Bool.Decides.{nat_tests}
 use Rattle.std.proofs.lemmas.Fmt.{decimal_injective}
 use Rattle.std.proofs.lemmas.List.{get_or_append_left, get_or-append_right}
 use Rattle.bilv_spec.specs.Points.{Point}
-use Rattle.bilv_spec.specs.Questions.{Reading, IsReading}
+use Rattle.bilv_spec.specs.Questions.{Reading}
 use Rattle.bilv_spec.specs.RowFiles.{from_to}
-use Rattle.bilv_spec.specs.Scripts.{choice_name, choice_names, choice_value, choice_at, register_value, named_value, values_of}
-use Rattle.bilv_spec.specs.SmtLib.{SmtValue, Atom, WordValue, ArrayValue, is_of_sort}
+use Rattle.bilv_spec.specs.Scripts.{choice_name, values_of}
+use Rattle.bilv_spec.specs.SmtLib.{WordValue, ArrayValue}
 use Rattle.bilv_spec.specs.StateText.{Layout, value_names, place_in}
 use Rattle.bilv_spec.specs.Texts.{number_text}
 use Rattle.bilv_spec.proofs.Spelling.{same_text}
-use Rattle.smtlib_print.specs.Commands.{term_name, word_sort, drawn, array_sort}
-use Rattle.smtlib_print.proofs.Declared.{onto, are_new, both_true, is_false, AreSorted, IsSorted, onto_none, onto_done, onto_new}
-use Rattle.smtlib_print.proofs.Defined.{among, Apart, IsNamed}
-use Rattle.smtlib_print.proofs.Layouts.{is_lettered, is_own, IsUsable, name_at, each_own, among_at, place_at, place_none}
-use Rattle.smtlib_print.proofs.Names.{is_symbol, choice_symbol, other_text, text_of}
+use Rattle.smtlib_print.proofs.Declared.{both_true, is_false}
+use Rattle.smtlib_print.proofs.Defined.{among}
+use Rattle.smtlib_print.proofs.Layouts.{is_lettered, is_own, IsUsable, name_at, place_at, place_none}
+use Rattle.smtlib_print.proofs.Names.{is_symbol, other_text}
 use Rattle.smtlib_print.proofs.ReadBack.{is_word}
 
 -- what a name of a layout is

@@ -1,13 +1,12 @@
 -- What a whole script says of a reading.
-use Rattle.std.proofs.Common.{◌≡◌, ◌≢◌, ℕ, zero, suc, ◌+◌, ◌-◌, ◌*◌, ◌^◌, ◌<◌, ◌≤◌, refl, ap, sym, ◌∙◌, subst, arith, true, false, Bool, List, [], ◌∷◌, ◌++◌, Option, Some, None, length, map}
-use Rattle.std.specs.Prelude.{◌==◌, ◌&&◌, ◌||◌, not, nat_lt, codes, slice_get, slice_index, slice_index_or}
-use Rattle.std.specs.Str.{bytes_eq}
+use Rattle.std.proofs.Common.{◌≡◌, ℕ, suc, ◌+◌, ◌-◌, ◌^◌, ◌<◌, refl, ap, sym, ◌∙◌, subst, arith, true, false, List, [], ◌∷◌, ◌++◌, Option, Some, None, length, map}
+use Rattle.std.specs.Prelude.{◌==◌, ◌&&◌, ◌||◌, nat_lt, codes, slice_index}
 use Rattle.std.proofs.lemmas.Bool.Decides.{nat_tests}
 use Rattle.bilv_spec.specs.Points.{Point}
 use Rattle.bilv_spec.specs.Questions.{Reading, IsReading}
-use Rattle.bilv_spec.specs.Scripts.{choice_name, values_of}
-use Rattle.bilv_spec.specs.StateText.{Layout, value_names}
-use Rattle.bilv_spec.specs.SmtLib.{Sexp, Atom, Nil, SmtValue, TruthValue, WordValue, ArrayValue, atom_value, binds, is_of_sort, truth_of, commands_truth}
+use Rattle.bilv_spec.specs.Scripts.{values_of}
+use Rattle.bilv_spec.specs.StateText.{Layout}
+use Rattle.bilv_spec.specs.SmtLib.{Sexp, Atom, Nil, SmtValue, TruthValue, WordValue, ArrayValue, atom_value, binds, truth_of}
 use Rattle.bilv_spec.specs.Texts.{number_text}
 use Rattle.walk_spec.specs.Terms as terms
 use Rattle.walk_spec.specs.Terms.{TermReading, InRange, TermNode, HasWidth, AreTyped}
@@ -17,12 +16,11 @@ use Rattle.smtlib_print.specs.Commands.{term_name, term, word_sort, array_sort, 
 use Rattle.smtlib_print.specs.Scripted.{AreNumbers, FitMemory}
 use Rattle.smtlib_print.specs.Written.{one, two, before}
 use Rattle.smtlib_print.proofs.Asserted.{before-append, judge_runs, assertion_truth, root_step}
-use Rattle.smtlib_print.proofs.Declared.{are_new, AreDeclared, AreSorted, IsSorted, IsDeclaring, declare_all, onto, onto_none, onto_new, onto_done}
+use Rattle.smtlib_print.proofs.Declared.{are_new, AreSorted, IsSorted, IsDeclaring, declare_all, onto, onto_none, onto_done}
 use Rattle.smtlib_print.proofs.Defined.{among, Apart, Stands, IsNamed, AreInputsOf, define_nodes, bound_here, stands_on}
 use Rattle.smtlib_print.proofs.Drawn.{drawn_sorted, drawn_new, drawn_apart}
 use Rattle.smtlib_print.proofs.Layouts.{IsUsable, name_at}
-use Rattle.smtlib_print.proofs.Names.{is_symbol, term_symbol, symbol_value, other_text}
-use Rattle.smtlib_print.proofs.NodeValues.{Knows}
+use Rattle.smtlib_print.proofs.Names.{term_symbol, symbol_value, other_text}
 use Rattle.smtlib_print.proofs.Valued.{all_left, all_right, not_lettered, not_memory, register_is, flag_is, memory_is, choice_is}
 
 sorted_by : (model : List ℕ → Option SmtValue) (sort : Sexp) (names : List (List ℕ)) → ((i : ℕ) → i < length names → IsSorted model sort (name_at names i)) → AreSorted model sort names

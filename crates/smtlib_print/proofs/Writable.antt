@@ -1,22 +1,22 @@
 -- The words of a script are words.
-use Rattle.std.proofs.Common.{◌≡◌, ℕ, zero, suc, ◌+◌, ◌-◌, ◌*◌, ◌/◌, ◌%◌, ◌^◌, ◌<◌, ◌≤◌, refl, ap, sym, ◌∙◌, subst, arith, true, false, Bool, List, [], ◌∷◌, ◌++◌, Option, length, map}
-use Rattle.std.specs.Prelude.{◌==◌, nat_lt, codes, if◌then◌else◌, slice_index, slice_index_or}
+use Rattle.std.proofs.Common.{◌≡◌, ℕ, zero, suc, ◌+◌, ◌-◌, ◌*◌, ◌/◌, ◌%◌, ◌^◌, ◌<◌, ◌≤◌, refl, ap, arith, true, false, Bool, List, [], ◌∷◌, ◌++◌, length}
+use Rattle.std.specs.Prelude.{◌==◌, codes, if◌then◌else◌, slice_index, slice_index_or}
 use Rattle.std.specs.List.{list_all}
 use Rattle.std.proofs.lemmas.Bool.Decides.{nat_tests}
 use Rattle.std.proofs.lemmas.List.Folds.{list_all-append}
 use Rattle.bilv_spec.specs.Memory.{Endian, Little, Big, place}
 use Rattle.bilv_spec.specs.Bil.{BinaryOp, Plus, Minus, Times, Divide, SignedDivide, Modulo, SignedModulo, And, Or, Xor, ShiftLeft, ShiftRight, ShiftSigned, Equal, NotEqual, Less, LessEqual, SignedLess, SignedLessEqual}
 use Rattle.bilv_spec.specs.Scripts.{choice_name}
-use Rattle.bilv_spec.specs.SmtLib.{Sexp, Atom, Nil, Cons}
+use Rattle.bilv_spec.specs.SmtLib.{Sexp}
 use Rattle.bilv_spec.specs.StateText.{Layout}
-use Rattle.bilv_spec.specs.Texts.{hex_digit, hex_digits, number_text}
+use Rattle.bilv_spec.specs.Texts.{hex_digit, hex_digits}
 use Rattle.walk_spec.specs.Terms as terms
 use Rattle.walk_spec.specs.Terms.{TermNode, HasWidth, IsTypedOver, AreTypedFrom, width_of}
 use Rattle.walk_spec.specs.Unrolled.{ByteRun}
 use Rattle.term_dag.proofs.ListLaws.{last, longer, typed_push}
 use Rattle.term_dag.proofs.Shapes.{few_bits}
-use Rattle.smtlib_print.specs.Commands.{term_name, term, numeral, binary_digits, constant_text, address, byte, operation, behind, loading, joined_bytes, storing, extract, extend, node_term, sort_of, definition, node_definitions, has_byte, further, byte_definitions, run_definitions, bytes_of, declaration, declarations, selected, choose}
-use Rattle.smtlib_print.proofs.Names.{number_word, term_word, choice_word}
+use Rattle.smtlib_print.specs.Commands.{binary_digits, constant_text, operation, behind, loading, storing, extract, extend, node_term, sort_of, node_definitions, has_byte, further, byte_definitions, run_definitions, bytes_of, declarations, selected, choose}
+use Rattle.smtlib_print.proofs.Names.{number_word, term_word}
 use Rattle.smtlib_print.proofs.ReadBack.{is_inner, is_word, IsWritable, AreWritable, AreWritable-append}
 
 hex_inner : (d : ℕ) → d < 16 → is_inner (hex_digit d) ≡ true

@@ -3,9 +3,9 @@ use Rattle.std.specs.Prelude.{ℕ, zero, suc, ◌+◌, ◌-◌, ◌*◌, ◌/◌
 use Rattle.bilv_spec.specs.Memory.{Endian, Little, Big, place}
 use Rattle.bilv_spec.specs.Bil.{BinaryOp, Plus, Minus, Times, Divide, SignedDivide, Modulo, SignedModulo, And, Or, Xor, ShiftLeft, ShiftRight, ShiftSigned, Equal, NotEqual, Less, LessEqual, SignedLess, SignedLessEqual}
 use Rattle.bilv_spec.specs.Texts.{number_text, hex_digits}
-use Rattle.bilv_spec.specs.StateText.{Layout, value_names}
+use Rattle.bilv_spec.specs.StateText.{Layout}
 use Rattle.bilv_spec.specs.Scripts.{choice_name}
-use Rattle.bilv_spec.specs.SmtLib.{Sexp, Atom, Nil, Cons}
+use Rattle.bilv_spec.specs.SmtLib.{Sexp, Atom, Nil}
 use Rattle.walk_spec.specs.Terms.{TermNode, RegisterNode, FlagNode, ChoiceNode, BaseNode, MemoryNode, ConstantNode, BinaryNode, NotNode, SelectNode, ExtractNode, ConcatNode, ExtendNode, LoadNode, StoreNode, JoinNode, width_of}
 use Rattle.walk_spec.specs.Unrolled.{ByteRun}
 use Rattle.smtlib_print.specs.Written.{one, two, three, four, five}

@@ -6,7 +6,7 @@ use Rattle.bilv_spec.specs.StateText as texts
 use Rattle.walk_spec.specs.Terms.{TermNode}
 use Rattle.walk_spec.specs.Unrolled.{ByteRun, UnrolledProgram, point_at}
 use Rattle.walk_spec.specs.Unrolling.{IsLaidOut}
-use Rattle.walk_spec.specs.WalkQuestions.{QuestionTerm, TellsQuestion}
+use Rattle.walk_spec.specs.WalkQuestions.{TellsQuestion}
 use Rattle.state_text.specs.declared.layout.Layout.{Layout}
 use Rattle.state_text.specs.Starts.{layout_of}
 use Rattle.smtlib_print.specs.Commands.{all_commands, bytes_of, drawn, middle_commands}

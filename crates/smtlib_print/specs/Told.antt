@@ -1,5 +1,5 @@
 -- What the script of a question says, over an unrolled program.
-use Rattle.std.specs.Prelude.{ℕ, ◌≡◌, ◌⊎◌, ◌↔◌, Bool, true, List, [], ◌++◌, Option, Some, is_some, codes, map, AllPairs, slice_get, Contains}
+use Rattle.std.specs.Prelude.{ℕ, ◌≡◌, ◌⊎◌, ◌↔◌, true, List, ◌++◌, Some, is_some, codes, map, AllPairs, slice_get, Contains}
 use Rattle.bilv_spec.specs.Points.{Point}
 use Rattle.bilv_spec.specs.Questions.{Reading, IsReading, Question}
 use Rattle.bilv_spec.specs.Scripts.{AreWholeLines, IsTermName, choice_name, is_plain_byte, is_point_below, values_of}

@@ -3,10 +3,12 @@
 
 mod declarations;
 mod definitions;
+mod file_bytes;
 mod laws;
 mod terms;
 mod words;
 
 pub use declarations::{declare_flags, declare_registers};
 pub use definitions::{push_definitions, push_root};
+pub use file_bytes::push_run;
 pub use laws::scripts_tell;

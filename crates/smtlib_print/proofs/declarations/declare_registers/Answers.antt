@@ -1,4 +1,4 @@
-use Rattle.std.proofs.Common.{string_bytes, arith, ap, sym, ◌∙◌, ◌+◌, ◌-◌, ◌≡◌, get_or, []}
+use Rattle.std.proofs.Common.{string_bytes, arith, ap, ◌+◌, ◌-◌, ◌≡◌, get_or, []}
 use Rattle.std.specs.Prelude.{codes}
 use Rattle.bilv_spec.specs.SmtLib.{Atom}
 use Rattle.state_text.specs.Starts.{layout_of}
