@@ -53,7 +53,7 @@ module _ (model : List ℕ → Option SmtValue) (names : List (List ℕ)) (mem :
             define_step model symbols (suc at) (Atom (codes "Bool")) (three (Atom (codes "and")) (term at) (has_byte (r.at + i) (slice_index r.bytes i)))
             (before (byte_definitions r (suc at) (suc i) n) rest) (TruthValue v)
             (stands.fresh (suc at) (omega arith) (omega (arith, few)))
-            (byte_truth symbols at (r.at + i) (slice_index r.bytes i) b (omega (arith, few)) (omega (arith, fits.within, l)) (fits.bytes i) truth stands) refl
+            (byte_truth symbols at (r.at + i) (slice_index r.bytes i) b (omega (arith, few)) (omega (arith, fits.within, l)) (fits.bytes i (omega (arith, l))) truth stands) refl
             ∙ next.runs rest;
       }
 

@@ -1,5 +1,6 @@
 pub mod Appended
 pub mod Asserted
+pub mod Choices
 pub mod Constants
 pub mod Declared
 pub mod Defined

@@ -16,7 +16,7 @@ use Rattle.smtlib_print.specs.Written.{commands_text}
 -- a run has bytes, at addresses of memory
 pub record FitsMemory (r : ByteRun) : Type 0 where
   pub within : r.at + r.count ≤ 2 ^ 32
-  pub bytes : (i : ℕ) → slice_index r.bytes i < 256
+  pub bytes : (i : ℕ) → i < r.count → slice_index r.bytes i < 256
 
 -- so have runs
 abbrev pub FitMemory : List ByteRun → Type 0

@@ -1,11 +1,13 @@
 //! The declarations of registers and flags.
-ghost use Rattle.std.specs.Prelude.{◌≡◌, ◌≤◌, ◌<◌, ◌+◌, ◌-◌, ◌++◌, [], codes, length, slice_index_or, string_bytes, OnOk};
+ghost use Rattle.std.specs.Prelude.{◌≡◌, ◌≤◌, ◌<◌, ◌+◌, ◌-◌, ◌++◌, ◌∷◌, [], codes, length, map, slice_index_or, string_bytes, OnOk};
 ghost use Rattle.bilv_spec.specs.SmtLib.{Atom};
 ghost use Rattle.state_text.specs.Starts.{layout_of};
+ghost use Rattle.question_form.specs.Views.{no_code, unrolled_of};
 ghost use Rattle.smtlib_print.specs.Commands as commands;
 ghost use Rattle.smtlib_print.specs.Written.{commands_text, written};
 
 use crate::words::{flag_name, push_register};
+use question_form::Unrolled;
 use state_text::Layout;
 use std::alloc::AllocError;
 
@@ -60,6 +62,44 @@ pub fn declare_flags(out: &mut String, form: Layout) -> Result<(), AllocError>
     let count = form.flag_count();
     for place in 0..count {
         declare_flag(out, form, count - 1 - place)?;
+    }
+    Ok(())
+}
+
+/// Whether the row of a code reads the choice; there is nothing behind the last code.
+fn draws(unrolled: &Unrolled, code: u32) -> bool
+    ensures { result ≡ (slice_index_or unrolled.now.codes.items code no_code).draws }
+{
+    let place = code as usize;
+    if place < unrolled.codes.len() {
+        unrolled.codes[place].draws
+    } else {
+        false
+    }
+}
+
+/// Appends the declaration of the choice of a point by its number, if its row reads the choice.
+fn declare_choice(out: &mut String, drawn: bool, number: u32) -> Result<(), AllocError>
+    ensures { OnOk result (string_bytes out.new ≡ string_bytes out.old ++ commands_text (commands.declarations (commands.word_sort (Atom (codes "2"))) (commands.drawn (number ∷ []) (drawn ∷ [])))) }
+{
+    if !drawn {
+        return Ok(());
+    }
+    write!(out, "(declare-const c{number} (_ BitVec 2))\n")
+}
+
+/// Appends the declarations of the choices of the points whose row reads the choice.
+pub fn declare_choices(
+    out: &mut String,
+    unrolled: &Unrolled,
+    numbers: &[u32],
+) -> Result<(), AllocError>
+    requires { length numbers.now ≡ length unrolled.now.points.items }
+    ensures { OnOk result (string_bytes out.new ≡ string_bytes out.old ++ commands_text (commands.declarations (commands.word_sort (Atom (codes "2"))) (commands.drawn numbers.now (map (λ q. q.draws) (unrolled_of unrolled.now).points)))) }
+{
+    for place in 0..unrolled.points.len() {
+        let drawn = draws(unrolled, unrolled.points[place].code);
+        declare_choice(out, drawn, numbers[place])?;
     }
     Ok(())
 }
