@@ -9,6 +9,11 @@ use Rattle.walk_spec.specs.Unrolled.{ByteRun}
 use Rattle.smtlib_print.specs.Commands.{definition, sort_of, node_term, node_definitions, declaration, declarations, byte_definitions, further, has_byte}
 use Rattle.smtlib_print.specs.Written.{written, commands_text}
 
+-- texts of commands one behind the other
+pub text-append : (cs ds : List Sexp) → commands_text (cs ++ ds) ≡ commands_text cs ++ commands_text ds
+text-append [] ds = refl
+text-append (c ∷ cs) ds = ap (λ t. written c ++ 10 ∷ t) (text-append cs ds) ∙ sym (append_assoc (written c) (10 ∷ commands_text cs) (commands_text ds))
+
 -- one command more in front of those that are left
 pub one_command : (out new rest all : List ℕ) (c : Sexp) → new ≡ out ++ (written c ++ codes "\n") → out ++ (written c ++ 10 ∷ rest) ≡ all → new ++ rest ≡ all
 one_command out new rest all c e inv =

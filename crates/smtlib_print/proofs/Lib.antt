@@ -15,6 +15,7 @@ pub mod NodeValues
 pub mod Operations
 pub mod Printed
 pub mod ReadBack
+pub mod Runs
 pub mod Symbols
 pub mod Telling
 pub mod Valued

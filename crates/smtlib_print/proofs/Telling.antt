@@ -20,6 +20,7 @@ use Rattle.smtlib_print.specs.Commands.{drawn, word_sort, all_commands, all_decl
 use Rattle.smtlib_print.specs.Written.{written, commands_text, before}
 use Rattle.smtlib_print.specs.Told.{AreInOrder, IsDrawn, IsSymbolOf, TellsScript}
 use Rattle.smtlib_print.specs.Scripted.{AreBehind, AreNumbers, FitMemory}
+use Rattle.smtlib_print.proofs.Appended.{text-append}
 use Rattle.smtlib_print.proofs.Declared.{both_true}
 use Rattle.smtlib_print.proofs.Defined.{among}
 use Rattle.smtlib_print.proofs.Drawn.{drawn_among}
@@ -32,11 +33,6 @@ use Rattle.smtlib_print.proofs.Symbols.{script_declares, script_defines, one_of}
 use Rattle.smtlib_print.proofs.Valued.{all_left, all_right, own_of}
 use Rattle.smtlib_print.proofs.Whole.{whole_truth}
 use Rattle.smtlib_print.proofs.Writable.{AreWords, declarations_writable, nodes_writable, runs_writable}
-
--- texts of commands one behind the other
-pub text-append : (cs ds : List Sexp) → commands_text (cs ++ ds) ≡ commands_text cs ++ commands_text ds
-text-append [] ds = refl
-text-append (c ∷ cs) ds = ap (λ t. written c ++ 10 ∷ t) (text-append cs ds) ∙ sym (append_assoc (written c) (10 ∷ commands_text cs) (commands_text ds))
 
 whole_by : (front : List ℕ) (rest : List ℕ) → AreWholeLines rest → AreWholeLines (front ++ 10 ∷ rest)
 whole_by front rest (inl e) = inr (front, ap (λ t. front ++ 10 ∷ t) e)

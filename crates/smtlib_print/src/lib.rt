@@ -10,5 +10,5 @@ mod words;
 
 pub use declarations::{declare_flags, declare_registers};
 pub use definitions::{push_definitions, push_root};
-pub use file_bytes::push_run;
+pub use file_bytes::push_runs;
 pub use laws::scripts_tell;

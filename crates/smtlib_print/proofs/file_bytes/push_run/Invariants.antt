@@ -1,8 +1,11 @@
 use Rattle.std.proofs.Common.{◌≡◌, ◌++◌, string_bytes}
 use Rattle.known_bytes.specs.Runs.{run_of}
 use Rattle.smtlib_print.proofs.Appended.{unlisted}
+use Rattle.smtlib_print.proofs.Runs.{AreBytesTo}
 use Rattle.smtlib_print.proofs.file_bytes.push_run.Given as goal
 
 abbrev pub invariant-loop-distance : goal.invariant-loop-distance
-invariant-loop-distance l =
-    string_bytes l.out ++ unlisted (run_of l.run) l.place l.distance ≡ string_bytes l.fn.out ++ unlisted (run_of l.run) l.place 0
+invariant-loop-distance l = record {
+  text : string_bytes l.out ++ unlisted (run_of l.run) l.place l.distance ≡ string_bytes l.fn.out ++ unlisted (run_of l.run) l.place 0;
+  bytes : AreBytesTo (run_of l.run) l.distance;
+}

@@ -1,0 +1,119 @@
+-- The bytes of the file run by run.
+use Rattle.std.proofs.Common.{◌≡◌, ℕ, zero, suc, ◌+◌, ◌-◌, ◌^◌, ◌<◌, ◌≤◌, List, [], ◌∷◌, ◌++◌, length, map, get_or, drop, refl, ap, sym, ◌∙◌, subst, inl, inr, arith, append_assoc, append-nil, add-one}
+use Rattle.std.specs.Prelude.{slice_index}
+use Rattle.std.proofs.Math.Seq.{drop-cons}
+use Rattle.std.proofs.lemmas.Bool.{cases_lt}
+use Rattle.walk_spec.specs.Unrolled.{ByteRun}
+use Rattle.known_bytes.specs.declared.listing.Known.{Known}
+use Rattle.known_bytes.specs.Runs.{run_of, AreRuns}
+use Rattle.smtlib_print.specs.Commands.{byte_definitions, run_definitions, bytes_of}
+use Rattle.smtlib_print.specs.Scripted.{AreBehind, FitsMemory, FitMemory}
+use Rattle.smtlib_print.specs.Written.{commands_text}
+use Rattle.smtlib_print.proofs.Appended.{text-append}
+
+-- the bytes of a run before a distance are bytes
+abbrev pub AreBytesTo : ByteRun → ℕ → Type 0
+AreBytesTo r n = (i : ℕ) → i < n → slice_index r.bytes i < 256
+
+pub byte_below : (r : ByteRun) (n v : ℕ) → AreBytesTo r n → v < 256 → v ≡ slice_index r.bytes n → AreBytesTo r (n + 1)
+byte_below r n v h s e i l = elim (cases_lt i n) [
+  | inl k ↦ h i k
+  | inr k ↦ (let same : i ≡ n = omega (arith, l, k) in subst (λ (z : ℕ). slice_index r.bytes z < 256) (sym same) (subst (λ (z : ℕ). z < 256) e s))
+]
+
+pub fits_memory : (k : Known) (n : ℕ) → k.first ≤ k.last → k.last < 2 ^ 32 → n ≡ (run_of k).count → AreBytesTo (run_of k) n → FitsMemory (run_of k)
+fits_memory k n h l e b = record { within = omega (arith, h, l); bytes = λ i j. b i (omega (arith, j, e)) }
+
+-- the runs from a place on
+abbrev pub runs_from : List Known → ℕ → List ByteRun
+runs_from runs i = map run_of (drop i runs)
+
+-- the runs before a place are written, behind the definition at one, and the last definition is at another
+pub record AreRunsWritten (runs : List Known) (place : ℕ) (old : List ℕ) (at i : ℕ) (out : List ℕ) : Type 0 where
+  pub text : out ++ commands_text (run_definitions at (runs_from runs i)) ≡ old ++ commands_text (run_definitions place (map run_of runs))
+  pub last : at + bytes_of (runs_from runs i) ≡ place + bytes_of (map run_of runs)
+  pub low : ℕ
+  pub few : at ≤ place + low
+  pub within : low ≤ 2 ^ 32
+  pub behind : AreBehind low (runs_from runs i)
+  pub fit : FitMemory (runs_from runs i) → FitMemory (map run_of runs)
+
+-- the runs behind one
+rest_runs : (r : Known) (rs : List Known) → AreRuns (r ∷ rs) → AreRuns rs
+rest_runs r rs are = record {
+  some = λ i d l. are.some (suc i) d (omega (arith, l));
+  rising = λ i j d l k. are.rising (suc i) (suc j) d (omega (arith, l)) (omega (arith, k));
+}
+
+behind_all : (low : ℕ) (rs : List Known) → AreRuns rs → ((d : Known) → 0 < length rs → low ≤ (get_or rs 0 d).first) → AreBehind low (map run_of rs)
+behind_all low [] are h = tt
+behind_all low (r ∷ rs) are h = (
+  h r (omega arith),
+  behind_all (r.first + (r.last - r.first + 1)) rs (rest_runs r rs are)
+      (λ d l. let s : r.first ≤ r.last = are.some 0 d (omega arith) in
+      let b : r.last < (get_or rs 0 d).first = are.rising 0 1 d (omega arith) (omega (arith, l)) in omega (arith, s, b)),
+)
+
+pub behind_runs : (rs : List Known) → AreRuns rs → AreBehind 0 (map run_of rs)
+behind_runs rs are = behind_all 0 rs are (λ d l. omega arith)
+
+pub runs_begin : (runs : List Known) (place : ℕ) (old : List ℕ) → AreRuns runs → AreRunsWritten runs place old place 0 old
+runs_begin runs place old are = record {
+  text = refl;
+  last = refl;
+  low = 0;
+  few = omega arith;
+  within = omega arith;
+  behind = behind_runs runs are;
+  fit = λ f. f;
+}
+
+-- one run more
+pub run_more : (runs : List Known) (place at next i : ℕ) (r d : Known) (old out new : List ℕ) → i < length runs → r ≡ get_or runs i d → FitsMemory (run_of r) →
+    new ≡ out ++ commands_text (byte_definitions (run_of r) at 0 (run_of r).count) → next ≡ at + (run_of r).count →
+    AreRunsWritten runs place old at i out → AreRunsWritten runs place old next (i + 1) new
+run_more runs place at next i r default old out new l e fits step n inv =
+    let d : runs_from runs i ≡ run_of r ∷ runs_from runs (suc i) = ap (map run_of) (drop-cons runs i default l ∙ ap (λ (m : Known). m ∷ drop (suc i) runs) (sym e)) in
+    let b : AreBehind inv.low (run_of r ∷ runs_from runs (suc i)) = subst (λ (z : List ByteRun). AreBehind inv.low z) d inv.behind in
+    let rest = runs_from runs (suc i) in
+    let text : new ++ commands_text (run_definitions next rest) ≡ old ++ commands_text (run_definitions place (map run_of runs)) =
+        ap (λ t. t ++ commands_text (run_definitions next rest)) step
+        ∙ append_assoc out (commands_text (byte_definitions (run_of r) at 0 (run_of r).count)) (commands_text (run_definitions next rest))
+        ∙ ap (λ z. out ++ (commands_text (byte_definitions (run_of r) at 0 (run_of r).count) ++ commands_text (run_definitions z rest))) n
+        ∙ ap (λ t. out ++ t) (sym (text-append (byte_definitions (run_of r) at 0 (run_of r).count) (run_definitions (at + (run_of r).count) rest)))
+        ∙ ap (λ z. out ++ commands_text (run_definitions at z)) (sym d) ∙ inv.text in
+    let last : next + bytes_of rest ≡ place + bytes_of (map run_of runs) =
+        (let s : at + bytes_of (run_of r ∷ rest) ≡ place + bytes_of (map run_of runs) = ap (λ z. at + bytes_of z) (sym d) ∙ inv.last in omega (arith, s, n)) in
+    rw add-one (record {
+      text = text;
+      last = last;
+      low = r.first + (run_of r).count;
+      few = omega (arith, n, inv.few, b.0);
+      within = fits.within;
+      behind = b.1;
+      fit = λ f. inv.fit (subst (λ (z : List ByteRun). FitMemory z) (sym d) (fits, f));
+    })
+
+pub runs_few : (runs : List Known) (place at i : ℕ) (old out : List ℕ) → place < 2 ^ 32 → AreRunsWritten runs place old at i out → at ≤ 4611686018427387904
+runs_few runs place at i old out l inv = omega (arith, l, inv.few, inv.within)
+
+no_runs : (rs : List Known) (i : ℕ) → i ≡ length rs → runs_from rs i ≡ []
+no_runs [] zero e = refl
+no_runs [] (suc i) e = refl
+no_runs (r ∷ rs) zero e = absurd (omega (arith, e))
+no_runs (r ∷ rs) (suc i) e = no_runs rs i (omega (arith, e))
+
+pub runs_text : (runs : List Known) (place at i : ℕ) (old out : List ℕ) → i ≡ length runs → AreRunsWritten runs place old at i out →
+    out ≡ old ++ commands_text (run_definitions place (map run_of runs))
+runs_text runs place at i old out e inv = sym (append-nil out) ∙ ap (λ z. out ++ commands_text (run_definitions at z)) (sym (no_runs runs i e)) ∙ inv.text
+
+pub runs_last : (runs : List Known) (place at i : ℕ) (old out : List ℕ) → i ≡ length runs → AreRunsWritten runs place old at i out → at ≡ place + bytes_of (map run_of runs)
+runs_last runs place at i old out e inv = (let z : at + bytes_of [] ≡ at = omega arith in sym z) ∙ ap (λ z. at + bytes_of z) (sym (no_runs runs i e)) ∙ inv.last
+
+pub runs_fit : (runs : List Known) (place at i : ℕ) (old out : List ℕ) → i ≡ length runs → AreRunsWritten runs place old at i out → FitMemory (map run_of runs)
+runs_fit runs place at i old out e inv = inv.fit (subst (λ (z : List ByteRun). FitMemory z) (sym (no_runs runs i e)) tt)
+
+-- there are no more bytes than addresses
+pub bytes_few : (low : ℕ) (rs : List ByteRun) → low ≤ 2 ^ 32 → FitMemory rs → AreBehind low rs → low + bytes_of rs ≤ 2 ^ 32
+bytes_few low [] l fit behind = omega (arith, l)
+bytes_few low (r ∷ rs) l fit behind = let k = bytes_few (r.at + r.count) rs fit.0.within fit.1 behind.1 in omega (arith, k, behind.0)
