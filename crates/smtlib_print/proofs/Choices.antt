@@ -65,3 +65,7 @@ point_draws u (q ∷ qs) (suc i) d b l e f = point_draws u qs i d b (omega (arit
 pub draws_count : (u : Unrolled) (qs : List Point) → length (map (λ q. q.draws) (points_of u qs)) ≡ length qs
 draws_count u [] = refl
 draws_count u (q ∷ qs) = ap suc (draws_count u qs)
+
+pub points_count : (u : Unrolled) (qs : List Point) → length (points_of u qs) ≡ length qs
+points_count u [] = refl
+points_count u (q ∷ qs) = ap suc (points_count u qs)

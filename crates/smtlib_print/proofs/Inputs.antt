@@ -31,7 +31,7 @@ in_range_by : (r first count : ℕ) (b : Bool) → nat_eq r first ≡ b → (b |
 in_range_by r first count true e h more = let same : r ≡ first = grind (arith, nat_tests) in (omega (arith, same), omega (arith, same))
 in_range_by r first count false e h more = let k = more h in (omega (arith, k), omega (arith, k))
 
-in_range : (r first count : ℕ) → list_any (nat_eq r) (from_to first count) ≡ true → (first ≤ r) × (r < first + count)
+pub in_range : (r first count : ℕ) → list_any (nat_eq r) (from_to first count) ≡ true → (first ≤ r) × (r < first + count)
 in_range r first zero h = absurd (cc h)
 in_range r first (suc count) h = in_range_by r first count (nat_eq r first) refl h (in_range r (first + 1) count)
 

@@ -8,6 +8,9 @@ use Rattle.bilv_spec.specs.Memory.{Little, Big}
 use Rattle.bilv_spec.specs.StateText.{Layout, value_names, place_in, rv_layout, arm_layout}
 use Rattle.bilv_spec.proofs.Spelling.{same_text}
 use Rattle.std.specs.Fmt.{digits}
+use Rattle.state_text.specs.declared.layout.Layout as forms
+use Rattle.state_text.specs.declared.layout.Layout.TheVariants.{Rv32, ArmLittle, ArmBig}
+use Rattle.state_text.specs.Starts.{layout_of}
 use Rattle.smtlib_print.proofs.Declared.{onto, are_new, both_true, is_false}
 use Rattle.smtlib_print.proofs.Defined.{among}
 use Rattle.smtlib_print.proofs.Names.{is_symbol, other_text}
@@ -45,6 +48,11 @@ little_usable = record { own = refl; distinct = refl; registers = refl; flags = 
 pub big_usable : IsUsable (arm_layout Big)
 unfolding digits
 big_usable = record { own = refl; distinct = refl; registers = refl; flags = refl }
+
+pub usable_of : (form : forms.Layout) → IsUsable (layout_of form)
+usable_of Rv32 = rv_usable
+usable_of ArmLittle = little_usable
+usable_of ArmBig = big_usable
 
 -- a name by its place
 abbrev pub name_at : List (List ℕ) → ℕ → List ℕ

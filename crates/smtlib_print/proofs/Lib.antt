@@ -14,6 +14,7 @@ pub mod Names
 pub mod NodeValues
 pub mod Operations
 pub mod Printed
+pub mod Printing
 pub mod ReadBack
 pub mod Runs
 pub mod Symbols

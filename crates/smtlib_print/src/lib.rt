@@ -5,10 +5,9 @@ mod declarations;
 mod definitions;
 mod file_bytes;
 mod laws;
+mod scripts;
 mod terms;
 mod words;
 
-pub use declarations::{declare_flags, declare_registers};
-pub use definitions::{push_definitions, push_root};
-pub use file_bytes::push_runs;
 pub use laws::scripts_tell;
+pub use scripts::script;

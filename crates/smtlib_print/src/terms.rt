@@ -8,7 +8,7 @@ ghost use Rattle.walk_spec.specs.Terms.{IsBytes, IsWidth};
 ghost use Rattle.state_text.specs.Starts.{layout_of};
 ghost use Rattle.term_dag.specs.Nodes.{node_of, op_of};
 ghost use Rattle.smtlib_print.specs.Commands as commands;
-ghost use Rattle.smtlib_print.specs.Printable.{IsPrintable};
+ghost use Rattle.smtlib_print.specs.Printable.{IsOfMemory, IsPrintable};
 ghost use Rattle.smtlib_print.specs.Written.{three, two, written};
 
 use crate::words::{flag_name, ones, push_address, push_byte, push_constant, push_register};
@@ -265,6 +265,35 @@ fn push_complement(out: &mut String, term: Term) -> Result<(), AllocError>
     write!(out, "(bvnot t{term})")
 }
 
+/// Appends the term of a node that picks, loads or stores.
+fn push_memory(out: &mut String, form: Layout, numbers: &[u32], node: Node) -> Result<(), AllocError>
+    requires printable { IsPrintable (layout_of form) (length numbers.now) (node_of node) }
+    requires memory { IsOfMemory (node_of node) }
+    ensures { OnOk result (string_bytes out.new ≡ string_bytes out.old ++ written (commands.node_term (layout_of form) numbers.now (node_of node))) }
+{
+    match node {
+        Node::Load {
+            bytes,
+            big,
+            memory,
+            address,
+        } => push_load(out, big, memory, address, bytes - 1),
+        Node::Store {
+            bytes,
+            big,
+            memory,
+            address,
+            value,
+        } => push_store(out, big, bytes, memory, address, value, bytes),
+        Node::Join {
+            condition,
+            when_true,
+            when_false,
+        } => push_choice(out, condition, when_true, when_false),
+        _ => unreachable!(),
+    }
+}
+
 /// Appends the term of a node.
 pub fn push_node(
     out: &mut String,
@@ -303,23 +332,8 @@ pub fn push_node(
             to,
             term,
         } => push_extend(out, signed, to - from, term),
-        Node::Load {
-            bytes,
-            big,
-            memory,
-            address,
-        } => push_load(out, big, memory, address, bytes - 1),
-        Node::Store {
-            bytes,
-            big,
-            memory,
-            address,
-            value,
-        } => push_store(out, big, bytes, memory, address, value, bytes),
-        Node::Join {
-            condition,
-            when_true,
-            when_false,
-        } => push_choice(out, condition, when_true, when_false),
+        Node::Load { .. } => push_memory(out, form, numbers, node),
+        Node::Store { .. } => push_memory(out, form, numbers, node),
+        Node::Join { .. } => push_memory(out, form, numbers, node),
     }
 }
