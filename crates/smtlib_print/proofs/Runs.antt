@@ -77,13 +77,13 @@ run_more runs place at next i r default old out new l e fits step n inv =
     let b : AreBehind inv.low (run_of r ∷ runs_from runs (suc i)) = subst (λ (z : List ByteRun). AreBehind inv.low z) d inv.behind in
     let rest = runs_from runs (suc i) in
     let text : new ++ commands_text (run_definitions next rest) ≡ old ++ commands_text (run_definitions place (map run_of runs)) =
-        ap (λ t. t ++ commands_text (run_definitions next rest)) step
-        ∙ append_assoc out (commands_text (byte_definitions (run_of r) at 0 (run_of r).count)) (commands_text (run_definitions next rest))
-        ∙ ap (λ z. out ++ (commands_text (byte_definitions (run_of r) at 0 (run_of r).count) ++ commands_text (run_definitions z rest))) n
-        ∙ ap (λ t. out ++ t) (sym (text-append (byte_definitions (run_of r) at 0 (run_of r).count) (run_definitions (at + (run_of r).count) rest)))
-        ∙ ap (λ z. out ++ commands_text (run_definitions at z)) (sym d) ∙ inv.text in
+    ap (λ t. t ++ commands_text (run_definitions next rest)) step
+    ∙ append_assoc out (commands_text (byte_definitions (run_of r) at 0 (run_of r).count)) (commands_text (run_definitions next rest))
+    ∙ ap (λ z. out ++ (commands_text (byte_definitions (run_of r) at 0 (run_of r).count) ++ commands_text (run_definitions z rest))) n
+    ∙ ap (λ t. out ++ t) (sym (text-append (byte_definitions (run_of r) at 0 (run_of r).count) (run_definitions (at + (run_of r).count) rest)))
+    ∙ ap (λ z. out ++ commands_text (run_definitions at z)) (sym d) ∙ inv.text in
     let last : next + bytes_of rest ≡ place + bytes_of (map run_of runs) =
-        (let s : at + bytes_of (run_of r ∷ rest) ≡ place + bytes_of (map run_of runs) = ap (λ z. at + bytes_of z) (sym d) ∙ inv.last in omega (arith, s, n)) in
+    (let s : at + bytes_of (run_of r ∷ rest) ≡ place + bytes_of (map run_of runs) = ap (λ z. at + bytes_of z) (sym d) ∙ inv.last in omega (arith, s, n)) in
     rw add-one (record {
       text = text;
       last = last;

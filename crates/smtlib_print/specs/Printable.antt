@@ -1,7 +1,7 @@
 -- What the printer of a node can rely on.
 use Rattle.std.specs.Prelude.{ℕ, ◌≤◌, ◌<◌, ◌+◌, length}
 use Rattle.bilv_spec.specs.StateText.{Layout}
-use Rattle.walk_spec.specs.Terms.{TermNode, RegisterNode, FlagNode, ChoiceNode, BinaryNode, ExtendNode, LoadNode, StoreNode, JoinNode, IsWidth, IsBytes}
+use Rattle.walk_spec.specs.Terms.{TermNode, RegisterNode, FlagNode, ChoiceNode, BinaryNode, SelectNode, ExtendNode, LoadNode, StoreNode, JoinNode, IsWidth, IsBytes}
 
 -- inputs have names among those of the layout and among so many numbers; widths and counts of bytes are in range
 abbrev pub IsPrintable : Layout → (count : ℕ) → TermNode → Type 0
@@ -14,9 +14,10 @@ IsPrintable layout count (LoadNode n e m a) = IsBytes n
 IsPrintable layout count (StoreNode n e m a v) = IsBytes n
 IsPrintable layout count n = Unit {0}
 
--- a node that loads from a memory, stores to one, or picks one
-abbrev pub IsOfMemory : TermNode → Type 0
-IsOfMemory (LoadNode n e m a) = Unit {0}
-IsOfMemory (StoreNode n e m a v) = Unit {0}
-IsOfMemory (JoinNode c a b) = Unit {0}
-IsOfMemory n = ⊥
+-- a node that picks one of two terms, loads or stores
+abbrev pub IsCompound : TermNode → Type 0
+IsCompound (SelectNode w c a b) = Unit {0}
+IsCompound (LoadNode n e m a) = Unit {0}
+IsCompound (StoreNode n e m a v) = Unit {0}
+IsCompound (JoinNode c a b) = Unit {0}
+IsCompound n = ⊥

@@ -26,7 +26,10 @@ fn first_register(form: Layout) -> u8
 fn declare_register(out: &mut String, form: Layout, register: u8) -> Result<(), AllocError>
     requires first { (layout_of form).first ≤ register }
     requires last { register < (layout_of form).first + length (layout_of form).registers }
-    ensures { OnOk result (string_bytes out.new ≡ string_bytes out.old ++ (written (commands.declaration (slice_index_or (layout_of form).registers (register - (layout_of form).first) []) (commands.word_sort (Atom (codes "32")))) ++ codes "\n")) }
+    ensures { OnOk result (string_bytes out.new
+        ≡ string_bytes out.old
+        ++ (written (commands.declaration (slice_index_or (layout_of form).registers (register - (layout_of form).first) []) (commands.word_sort (Atom (codes "32"))))
+        ++ codes "\n")) }
 {
     out.push_str("(declare-const ")?;
     push_register(out, form, register)?;
@@ -36,7 +39,10 @@ fn declare_register(out: &mut String, form: Layout, register: u8) -> Result<(), 
 /// Appends the declaration of a flag.
 fn declare_flag(out: &mut String, form: Layout, flag: u8) -> Result<(), AllocError>
     requires { flag < length (layout_of form).flags }
-    ensures { OnOk result (string_bytes out.new ≡ string_bytes out.old ++ (written (commands.declaration (slice_index_or (layout_of form).flags (length (layout_of form).flags - 1 - flag) []) (commands.word_sort (Atom (codes "1")))) ++ codes "\n")) }
+    ensures { OnOk result (string_bytes out.new
+        ≡ string_bytes out.old
+        ++ (written (commands.declaration (slice_index_or (layout_of form).flags (length (layout_of form).flags - 1 - flag) []) (commands.word_sort (Atom (codes "1"))))
+        ++ codes "\n")) }
 {
     let name = flag_name(form, flag);
     write!(out, "(declare-const {name} (_ BitVec 1))\n")
@@ -44,7 +50,8 @@ fn declare_flag(out: &mut String, form: Layout, flag: u8) -> Result<(), AllocErr
 
 /// Appends the declarations of the registers.
 pub fn declare_registers(out: &mut String, form: Layout) -> Result<(), AllocError>
-    ensures { OnOk result (string_bytes out.new ≡ string_bytes out.old ++ commands_text (commands.declarations (commands.word_sort (Atom (codes "32"))) (layout_of form).registers)) }
+    ensures { OnOk result (string_bytes out.new
+        ≡ string_bytes out.old ++ commands_text (commands.declarations (commands.word_sort (Atom (codes "32"))) (layout_of form).registers)) }
 {
     let first = first_register(form);
     let count = form.register_count();
@@ -80,7 +87,8 @@ fn draws(unrolled: &Unrolled, code: u32) -> bool
 
 /// Appends the declaration of the choice of a point by its number, if its row reads the choice.
 fn declare_choice(out: &mut String, drawn: bool, number: u32) -> Result<(), AllocError>
-    ensures { OnOk result (string_bytes out.new ≡ string_bytes out.old ++ commands_text (commands.declarations (commands.word_sort (Atom (codes "2"))) (commands.drawn (number ∷ []) (drawn ∷ [])))) }
+    ensures { OnOk result (string_bytes out.new
+        ≡ string_bytes out.old ++ commands_text (commands.declarations (commands.word_sort (Atom (codes "2"))) (commands.drawn (number ∷ []) (drawn ∷ [])))) }
 {
     if !drawn {
         return Ok(());
@@ -95,7 +103,9 @@ pub fn declare_choices(
     numbers: &[u32],
 ) -> Result<(), AllocError>
     requires { length numbers.now ≡ length unrolled.now.points.items }
-    ensures { OnOk result (string_bytes out.new ≡ string_bytes out.old ++ commands_text (commands.declarations (commands.word_sort (Atom (codes "2"))) (commands.drawn numbers.now (map (λ q. q.draws) (unrolled_of unrolled.now).points)))) }
+    ensures { OnOk result (string_bytes out.new
+        ≡ string_bytes out.old
+        ++ commands_text (commands.declarations (commands.word_sort (Atom (codes "2"))) (commands.drawn numbers.now (map (λ q. q.draws) (unrolled_of unrolled.now).points)))) }
 {
     for place in 0..unrolled.points.len() {
         let drawn = draws(unrolled, unrolled.points[place].code);

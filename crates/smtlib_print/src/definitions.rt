@@ -35,7 +35,10 @@ fn push_definition(
 ) -> Result<(), AllocError>
     requires printable { IsPrintable (layout_of form) (length numbers.now) (node_of node) }
     requires width { width ≡ width_of (node_of node) }
-    ensures { OnOk result (string_bytes out.new ≡ string_bytes out.old ++ (written (commands.definition place (commands.sort_of (width_of (node_of node))) (commands.node_term (layout_of form) numbers.now (node_of node))) ++ codes "\n")) }
+    ensures { OnOk result (string_bytes out.new
+        ≡ string_bytes out.old
+        ++ (written (commands.definition place (commands.sort_of (width_of (node_of node))) (commands.node_term (layout_of form) numbers.now (node_of node)))
+        ++ codes "\n")) }
 {
     write!(out, "(define-fun t{place} () ")?;
     push_sort(out, width)?;

@@ -8,7 +8,7 @@ ghost use Rattle.walk_spec.specs.Terms.{IsBytes, IsWidth};
 ghost use Rattle.state_text.specs.Starts.{layout_of};
 ghost use Rattle.term_dag.specs.Nodes.{node_of, op_of};
 ghost use Rattle.smtlib_print.specs.Commands as commands;
-ghost use Rattle.smtlib_print.specs.Printable.{IsOfMemory, IsPrintable};
+ghost use Rattle.smtlib_print.specs.Printable.{IsCompound, IsPrintable};
 ghost use Rattle.smtlib_print.specs.Written.{three, two, written};
 
 use crate::words::{flag_name, ones, push_address, push_byte, push_constant, push_register};
@@ -265,13 +265,24 @@ fn push_complement(out: &mut String, term: Term) -> Result<(), AllocError>
     write!(out, "(bvnot t{term})")
 }
 
-/// Appends the term of a node that picks, loads or stores.
-fn push_memory(out: &mut String, form: Layout, numbers: &[u32], node: Node) -> Result<(), AllocError>
+/// Appends the term of a node that picks one of two terms, loads or stores.
+fn push_compound(
+    out: &mut String,
+    form: Layout,
+    numbers: &[u32],
+    node: Node,
+) -> Result<(), AllocError>
     requires printable { IsPrintable (layout_of form) (length numbers.now) (node_of node) }
-    requires memory { IsOfMemory (node_of node) }
+    requires compound { IsCompound (node_of node) }
     ensures { OnOk result (string_bytes out.new ≡ string_bytes out.old ++ written (commands.node_term (layout_of form) numbers.now (node_of node))) }
 {
     match node {
+        Node::Select {
+            condition,
+            when_true,
+            when_false,
+            ..
+        } => push_choice(out, condition, when_true, when_false),
         Node::Load {
             bytes,
             big,
@@ -318,12 +329,7 @@ pub fn push_node(
             right,
         } => push_operation(out, op, width, left, right),
         Node::Not { term, .. } => push_complement(out, term),
-        Node::Select {
-            condition,
-            when_true,
-            when_false,
-            ..
-        } => push_choice(out, condition, when_true, when_false),
+        Node::Select { .. } => push_compound(out, form, numbers, node),
         Node::Extract { hi, lo, term } => push_extract(out, hi, lo, term),
         Node::Concat { upper, lower, .. } => push_applied(out, "concat", upper, lower),
         Node::Extend {
@@ -332,8 +338,8 @@ pub fn push_node(
             to,
             term,
         } => push_extend(out, signed, to - from, term),
-        Node::Load { .. } => push_memory(out, form, numbers, node),
-        Node::Store { .. } => push_memory(out, form, numbers, node),
-        Node::Join { .. } => push_memory(out, form, numbers, node),
+        Node::Load { .. } => push_compound(out, form, numbers, node),
+        Node::Store { .. } => push_compound(out, form, numbers, node),
+        Node::Join { .. } => push_compound(out, form, numbers, node),
     }
 }
