@@ -2,7 +2,7 @@
 use Rattle.std.proofs.Common.{◌≡◌, ℕ, zero, suc, ◌+◌, ◌<◌, Bool, true, false, List, [], ◌∷◌, ◌++◌, length, map, get_or, drop, refl, ap, sym, ◌∙◌, arith, append_assoc, append-nil, add-one}
 use Rattle.std.specs.Prelude.{codes, slice_index_or}
 use Rattle.std.proofs.Math.Seq.{drop-cons}
-use Rattle.bilv_spec.specs.SmtLib.{Sexp, Atom}
+use Rattle.bilv_spec.specs.SmtLib.{Atom}
 use Rattle.bilv_spec.specs.Scripts.{choice_name}
 use Rattle.bilv_spec.specs.Texts.{number_text}
 use Rattle.question_form.specs.declared.unrolled.Point.{Point}

@@ -1,5 +1,5 @@
 -- The parts of a script one behind another, and what its nodes need.
-use Rattle.std.proofs.Common.{◌≡◌, ℕ, zero, suc, ◌+◌, ◌^◌, ◌<◌, ◌≤◌, List, [], ◌∷◌, ◌++◌, length, map, refl, ap, sym, ◌∙◌, subst, arith, Contains, append_assoc}
+use Rattle.std.proofs.Common.{◌≡◌, ℕ, zero, suc, ◌+◌, ◌^◌, ◌<◌, List, [], ◌∷◌, ◌++◌, length, map, refl, ap, sym, ◌∙◌, subst, arith, Contains, append_assoc}
 use Rattle.std.specs.Prelude.{codes, nat_eq}
 use Rattle.std.specs.List.{list_any}
 use Rattle.std.proofs.lemmas.Bool.Decides.{nat_tests}
@@ -17,7 +17,7 @@ use Rattle.state_text.specs.Starts.{layout_of}
 use Rattle.state_text.proofs.Appends.{five}
 use Rattle.known_bytes.specs.declared.listing.Known.{Known}
 use Rattle.known_bytes.specs.Runs.{run_of, AreRuns}
-use Rattle.smtlib_print.specs.Commands.{all_commands, all_declarations, array_sort, bytes_of, declaration, declarations, definition, drawn, is_one, middle_commands, node_definitions, run_definitions, term, word_sort}
+use Rattle.smtlib_print.specs.Commands.{all_commands, all_declarations, array_sort, bytes_of, declaration, declarations, definition, is_one, middle_commands, node_definitions, run_definitions, term, word_sort}
 use Rattle.smtlib_print.specs.Printable.{IsPrintable}
 use Rattle.smtlib_print.specs.Scripted.{AreBehind, AreNumbers, FitMemory, script_text}
 use Rattle.smtlib_print.specs.Told.{AreInOrder, TellsScript}

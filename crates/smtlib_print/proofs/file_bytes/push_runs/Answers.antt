@@ -1,5 +1,5 @@
-use Rattle.std.proofs.Common.{◌≡◌, ◌<◌, length, refl, string_bytes, arith}
-use Rattle.smtlib_print.proofs.Runs.{run_more, runs_begin, runs_few, runs_text, runs_last, runs_fit}
+use Rattle.std.proofs.Common.{refl, string_bytes, arith}
+use Rattle.smtlib_print.proofs.Runs.{run_more, runs_begin}
 use Rattle.smtlib_print.proofs.file_bytes.push_runs.Goals as goal
 
 pub loop-i-init : goal.loop-i-init
