@@ -23,8 +23,10 @@ one_command out new rest all c e inv =
 abbrev pub left : Layout → List ℕ → List TermNode → ℕ → List ℕ
 left layout numbers ns i = commands_text (node_definitions layout numbers i (drop i ns))
 
-pub definition_more : (layout : Layout) (numbers : List ℕ) (ns : List TermNode) (i : ℕ) (n : TermNode) (out new all : List ℕ) → i < length ns → n ≡ node_at ns i →
-    new ≡ out ++ (written (definition i (sort_of (width_of n)) (node_term layout numbers n)) ++ codes "\n") → out ++ left layout numbers ns i ≡ all → new ++ left layout numbers ns (i + 1) ≡ all
+pub definition_more : (layout : Layout) (numbers : List ℕ) (ns : List TermNode) (i : ℕ) (n : TermNode) (out new all : List ℕ) → i < length ns →
+    n ≡ node_at ns i →
+    new ≡ out ++ (written (definition i (sort_of (width_of n)) (node_term layout numbers n)) ++ codes "\n") → out ++ left layout numbers ns i ≡ all →
+    new ++ left layout numbers ns (i + 1) ≡ all
 definition_more layout numbers ns i n out new all l e step inv =
     let d : drop i ns ≡ n ∷ drop (suc i) ns = drop-cons ns i MemoryNode l ∙ ap (λ m. m ∷ drop (suc i) ns) (sym e) in
     rw add-one (one_command out new (left layout numbers ns (suc i)) all (definition i (sort_of (width_of n)) (node_term layout numbers n)) step
@@ -34,9 +36,11 @@ drop_all : (ns : List TermNode) → drop (length ns) ns ≡ []
 drop_all [] = refl
 drop_all (n ∷ ns) = drop_all ns
 
-pub definitions_done : (layout : Layout) (numbers : List ℕ) (ns : List TermNode) (i : ℕ) (out all : List ℕ) → i ≡ length ns → out ++ left layout numbers ns i ≡ all → out ≡ all
+pub definitions_done : (layout : Layout) (numbers : List ℕ) (ns : List TermNode) (i : ℕ) (out all : List ℕ) → i ≡ length ns →
+    out ++ left layout numbers ns i ≡ all → out ≡ all
 definitions_done layout numbers ns i out all e inv =
-    sym (append-nil out) ∙ ap (λ t. out ++ commands_text (node_definitions layout numbers (length ns) t)) (sym (drop_all ns)) ∙ ap (λ k. out ++ left layout numbers ns k) (sym e) ∙ inv
+    sym (append-nil out) ∙ ap (λ t. out ++ commands_text (node_definitions layout numbers (length ns) t)) (sym (drop_all ns))
+    ∙ ap (λ k. out ++ left layout numbers ns k) (sym e) ∙ inv
 
 -- the declarations that are left from a place on
 abbrev pub undeclared : Sexp → List (List ℕ) → ℕ → List ℕ
@@ -61,7 +65,8 @@ names_done sort names i out all e inv =
 abbrev pub unlisted : ByteRun → (at i : ℕ) → List ℕ
 unlisted r at i = commands_text (byte_definitions r (at + i) i (r.count - i))
 
-pub byte_more : (r : ByteRun) (at i : ℕ) (out new all : List ℕ) → i < r.count → new ≡ out ++ (written (further (at + i) (has_byte (r.at + i) (slice_index r.bytes i))) ++ codes "\n") →
+pub byte_more : (r : ByteRun) (at i : ℕ) (out new all : List ℕ) → i < r.count →
+    new ≡ out ++ (written (further (at + i) (has_byte (r.at + i) (slice_index r.bytes i))) ++ codes "\n") →
     out ++ unlisted r at i ≡ all → new ++ unlisted r at (i + 1) ≡ all
 byte_more r at i out new all l step inv =
     let n : r.count - i ≡ suc (r.count - suc i) = omega (arith, l) in

@@ -22,15 +22,23 @@ before-append [] ds rest = refl
 before-append (c ∷ cs) ds rest = ap (Cons c) (before-append cs ds rest)
 
 -- the truth of a term
-pub term_truth : (symbols : List ℕ → Option SmtValue) (at : ℕ) (b : Bool) → at < 2 ^ 64 → symbols (term_name at) ≡ Some (TruthValue b) → atom_value symbols (term_name at) ≡ Some (TruthValue b)
+pub term_truth : (symbols : List ℕ → Option SmtValue) (at : ℕ) (b : Bool) → at < 2 ^ 64 → symbols (term_name at) ≡ Some (TruthValue b) →
+    atom_value symbols (term_name at) ≡ Some (TruthValue b)
 term_truth symbols at b s h = symbol_value symbols (term_name at) (term_symbol at s) ∙ h
 
-module _ (model : List ℕ → Option SmtValue) (names : List (List ℕ)) (mem : ℕ → ℕ) (apart : Apart names) (memory : IsNamed model names (codes "mem") (ArrayValue mem)) where
-  byte_truth : (symbols : List ℕ → Option SmtValue) (at a v : ℕ) (b : Bool) → at < 2 ^ 64 → a < 2 ^ 32 → v < 256 → symbols (term_name at) ≡ Some (TruthValue b) →
+module _ (model : List ℕ → Option SmtValue) (names : List (List ℕ)) (mem : ℕ → ℕ)
+    (apart : Apart names) (memory : IsNamed model names (codes "mem") (ArrayValue mem)) where
+  byte_truth : (symbols : List ℕ → Option SmtValue) (at a v : ℕ) (b : Bool) → at < 2 ^ 64 → a < 2 ^ 32 → v < 256 →
+      symbols (term_name at) ≡ Some (TruthValue b) →
       Stands model symbols names (suc at) →
       term_value symbols (three (Atom (codes "and")) (term at) (has_byte a v)) ≡ Some (TruthValue (b && (mem a == v)))
   byte_truth symbols at a v b s p q h stands =
-      rw (term_truth symbols at b s h, named_value model symbols names (suc at) _ _ stands memory, hex_constant symbols 8 a (omega arith) p, hex_constant symbols 2 v (omega arith) q) refl
+      rw (
+        term_truth symbols at b s h,
+        named_value model symbols names (suc at) _ _ stands memory,
+        hex_constant symbols 8 a (omega arith) p,
+        hex_constant symbols 2 v (omega arith) q,
+      ) refl
 
   judge_bytes : (r : ByteRun) → FitsMemory r → (n i at : ℕ) (b : Bool) (symbols : List ℕ → Option SmtValue) → i + n ≤ r.count → at + n < 2 ^ 63 →
       Stands model symbols names (suc at) → symbols (term_name at) ≡ Some (TruthValue b) →
@@ -53,7 +61,8 @@ module _ (model : List ℕ → Option SmtValue) (names : List (List ℕ)) (mem :
             define_step model symbols (suc at) (Atom (codes "Bool")) (three (Atom (codes "and")) (term at) (has_byte (r.at + i) (slice_index r.bytes i)))
             (before (byte_definitions r (suc at) (suc i) n) rest) (TruthValue v)
             (stands.fresh (suc at) (omega arith) (omega (arith, few)))
-            (byte_truth symbols at (r.at + i) (slice_index r.bytes i) b (omega (arith, few)) (omega (arith, fits.within, l)) (fits.bytes i (omega (arith, l))) truth stands) refl
+            (byte_truth symbols at (r.at + i) (slice_index r.bytes i) b (omega (arith, few)) (omega (arith, fits.within, l)) (fits.bytes i (omega (arith, l)))
+            truth stands) refl
             ∙ next.runs rest;
       }
 
@@ -84,6 +93,8 @@ pub assertion_truth : (model symbols : List ℕ → Option SmtValue) (at : ℕ) 
 assertion_truth model symbols at b s h = rw (term_truth symbols at b s h) refl
 
 -- the definition that a bit is 1
-pub root_step : (model symbols : List ℕ → Option SmtValue) (at t v : ℕ) (rest : Sexp) → symbols (term_name at) ≡ None → atom_value symbols (term_name t) ≡ Some (WordValue 1 v) →
-    truth_of model symbols (Cons (definition at (Atom (codes "Bool")) (is_one t)) rest) ≡ truth_of model (binds symbols (term_name at) (TruthValue (v == 1))) rest
+pub root_step : (model symbols : List ℕ → Option SmtValue) (at t v : ℕ) (rest : Sexp) → symbols (term_name at) ≡ None →
+    atom_value symbols (term_name t) ≡ Some (WordValue 1 v) →
+    truth_of model symbols (Cons (definition at (Atom (codes "Bool")) (is_one t)) rest)
+    ≡ truth_of model (binds symbols (term_name at) (TruthValue (v == 1))) rest
 root_step model symbols at t v rest f h = define_step model symbols at (Atom (codes "Bool")) (is_one t) rest (TruthValue (v == 1)) f (rw h refl) refl

@@ -32,7 +32,8 @@ choice_more numbers draws i n d out new all l k e f step inv =
     let a : drop i numbers ≡ n ∷ drop (suc i) numbers = drop-cons numbers i 0 l ∙ ap (λ m. m ∷ drop (suc i) numbers) (sym e) in
     let b : drop i draws ≡ d ∷ drop (suc i) draws = drop-cons draws i false k ∙ ap (λ m. m ∷ drop (suc i) draws) (sym f) in
     rw add-one
-    (ap (λ t. t ++ chosen (drop (suc i) numbers) (drop (suc i) draws)) step ∙ append_assoc out (chosen (n ∷ []) (d ∷ [])) (chosen (drop (suc i) numbers) (drop (suc i) draws))
+    (ap (λ t. t ++ chosen (drop (suc i) numbers) (drop (suc i) draws)) step
+    ∙ append_assoc out (chosen (n ∷ []) (d ∷ [])) (chosen (drop (suc i) numbers) (drop (suc i) draws))
     ∙ ap (λ t. out ++ t) (sym (one_chosen n d (drop (suc i) numbers) (drop (suc i) draws)))
     ∙ ap (λ t. out ++ chosen t (d ∷ drop (suc i) draws)) (sym a) ∙ ap (λ t. out ++ chosen (drop i numbers) t) (sym b) ∙ inv)
 
@@ -56,7 +57,8 @@ pub choice_added : (n : ℕ) → codes "(declare-const c" ++ (number_text n ++ c
 choice_added n = ended (codes "(declare-const c") (number_text n) (codes " (_ BitVec 2))")
 
 -- whether a point draws
-pub point_draws : (u : Unrolled) (qs : List Point) (i : ℕ) (d : Point) (b : Bool) → i < length qs → d ≡ get_or qs i d → b ≡ (slice_index_or u.codes.items d.code no_code).draws →
+pub point_draws : (u : Unrolled) (qs : List Point) (i : ℕ) (d : Point) (b : Bool) → i < length qs → d ≡ get_or qs i d →
+    b ≡ (slice_index_or u.codes.items d.code no_code).draws →
     b ≡ get_or (map (λ q. q.draws) (points_of u qs)) i false
 point_draws u [] i d b l e f = absurd (omega (arith, l))
 point_draws u (q ∷ qs) zero d b l e f = f ∙ ap (λ (x : Point). (slice_index_or u.codes.items x.code no_code).draws) e

@@ -32,7 +32,8 @@ four_bits zero = refl
 four_bits (suc k) = let e : 4 * suc k ≡ 4 * k + 4 = omega arith in ap (λ z. 2 ^ z) e ∙ pow-add 2 (4 * k) 4 ∙ omega (arith, four_bits k)
 
 -- hexadecimal digits
-digits_constant : (ds : List ℕ) → 0 < length ds → list_all is_hex_digit ds ≡ true → constant_of (35 ∷ 120 ∷ ds) ≡ Some (WordValue (4 * length ds) (digits_value 16 ds))
+digits_constant : (ds : List ℕ) → 0 < length ds → list_all is_hex_digit ds ≡ true →
+    constant_of (35 ∷ 120 ∷ ds) ≡ Some (WordValue (4 * length ds) (digits_value 16 ds))
 digits_constant [] s h = absurd (omega arith)
 digits_constant (d ∷ ds) s h = rw h refl
 
@@ -41,7 +42,8 @@ hex_told k v h =
     let f = found ((length (hex_digits k v) == k) && list_all is_hex_digit (hex_digits k v)) (digits_value 16 (hex_digits k v)) v (hex_back k v h) in
     (both (length (hex_digits k v) == k) (list_all is_hex_digit (hex_digits k v)) f.0, f.1)
 
-pub hex_constant : (symbols : List ℕ → Option SmtValue) (k v : ℕ) → 0 < k → v < 16 ^ k → atom_value symbols (codes "#x" ++ hex_digits k v) ≡ Some (WordValue (4 * k) v)
+pub hex_constant : (symbols : List ℕ → Option SmtValue) (k v : ℕ) → 0 < k → v < 16 ^ k →
+    atom_value symbols (codes "#x" ++ hex_digits k v) ≡ Some (WordValue (4 * k) v)
 hex_constant symbols k v s h =
     let t = hex_told k v h in
     let c = digits_constant (hex_digits k v) (omega (arith, hex_length k v)) t.0 in
@@ -68,11 +70,13 @@ binary_value zero v h = omega arith
 binary_value (suc n) v h =
     digits_value_push 2 (binary_digits n (v / 2)) (48 + v % 2) ∙ rw (binary_value n (v / 2) (omega arith), digit_has (v % 2) (omega arith)) (omega arith)
 
-bits_constant : (ds : List ℕ) → 0 < length ds → list_all is_binary_digit ds ≡ true → constant_of (35 ∷ 98 ∷ ds) ≡ Some (WordValue (length ds) (digits_value 2 ds))
+bits_constant : (ds : List ℕ) → 0 < length ds → list_all is_binary_digit ds ≡ true →
+    constant_of (35 ∷ 98 ∷ ds) ≡ Some (WordValue (length ds) (digits_value 2 ds))
 bits_constant [] s h = absurd (omega arith)
 bits_constant (d ∷ ds) s h = rw h refl
 
-binary_constant : (symbols : List ℕ → Option SmtValue) (w v : ℕ) → 0 < w → v < 2 ^ w → atom_value symbols (codes "#b" ++ binary_digits w v) ≡ Some (WordValue w v)
+binary_constant : (symbols : List ℕ → Option SmtValue) (w v : ℕ) → 0 < w → v < 2 ^ w →
+    atom_value symbols (codes "#b" ++ binary_digits w v) ≡ Some (WordValue w v)
 binary_constant symbols w v s h =
     let c = bits_constant (binary_digits w v) (omega (arith, binary_length w v)) (binary_all w v) in
     rw c (ap (λ z. Some (WordValue z (digits_value 2 (binary_digits w v)))) (binary_length w v) ∙ ap (λ z. Some (WordValue w z)) (binary_value w v h))

@@ -40,16 +40,19 @@ pub is_false : (a : Bool) → not a ≡ true → a ≡ false
 is_false true h = absurd (cc h)
 is_false false h = refl
 
-declare_step : (model symbols : List ℕ → Option SmtValue) (w : List ℕ) (sort rest : Sexp) (v : SmtValue) → symbols w ≡ None → model w ≡ Some v → is_of_sort v sort ≡ true →
+declare_step : (model symbols : List ℕ → Option SmtValue) (w : List ℕ) (sort rest : Sexp) (v : SmtValue) → symbols w ≡ None → model w ≡ Some v →
+    is_of_sort v sort ≡ true →
     truth_of model symbols (Cons (declaration w sort) rest) ≡ truth_of model (binds symbols w v) rest
 declare_step model symbols w sort rest v f h s = rw (f, h, s) refl
 
-declared_by : (same : Bool) (model symbols : List ℕ → Option SmtValue) (done : List (List ℕ)) (w u : List ℕ) (v : SmtValue) → bytes_eq u w ≡ same → model w ≡ Some v →
+declared_by : (same : Bool) (model symbols : List ℕ → Option SmtValue) (done : List (List ℕ)) (w u : List ℕ) (v : SmtValue) → bytes_eq u w ≡ same →
+    model w ≡ Some v →
     symbols u ≡ (if among done u then model u else None) → (if same then Some v else symbols u) ≡ (if same || among done u then model u else None)
 declared_by true model symbols done w u v e h k = sym h ∙ ap model (sym (text_of u w e))
 declared_by false model symbols done w u v e h k = k
 
-declared_on : (model symbols : List ℕ → Option SmtValue) (done : List (List ℕ)) (w : List ℕ) (v : SmtValue) → model w ≡ Some v → AreDeclared model symbols done →
+declared_on : (model symbols : List ℕ → Option SmtValue) (done : List (List ℕ)) (w : List ℕ) (v : SmtValue) → model w ≡ Some v →
+    AreDeclared model symbols done →
     AreDeclared model (binds symbols w v) (w ∷ done)
 declared_on model symbols done w v h d u = declared_by (bytes_eq u w) model symbols done w u v refl h (d u)
 
@@ -59,7 +62,8 @@ pub record IsDeclaring (model symbols : List ℕ → Option SmtValue) (done : Li
   pub declared : AreDeclared model after done
   pub runs : (rest : Sexp) → truth_of model symbols (before commands rest) ≡ truth_of model after rest
 
-pub declare_all : (model : List ℕ → Option SmtValue) (sort : Sexp) (names done : List (List ℕ)) (symbols : List ℕ → Option SmtValue) → AreSorted model sort names →
+pub declare_all : (model : List ℕ → Option SmtValue) (sort : Sexp) (names done : List (List ℕ)) (symbols : List ℕ → Option SmtValue) →
+    AreSorted model sort names →
     are_new done names ≡ true → AreDeclared model symbols done → IsDeclaring model symbols (onto done names) (declarations sort names)
 declare_all model sort [] done symbols sorted new d = record { after = symbols; declared = d; runs = λ rest. refl }
 declare_all model sort (w ∷ ws) done symbols sorted new d =

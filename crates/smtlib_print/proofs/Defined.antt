@@ -33,7 +33,8 @@ pub record Stands (model symbols : List ℕ → Option SmtValue) (names : List (
   pub fresh : (t : ℕ) → upto ≤ t → t < 2 ^ 64 → symbols (term_name t) ≡ None
 
 -- a definition
-pub define_step : (model symbols : List ℕ → Option SmtValue) (at : ℕ) (sort says rest : Sexp) (v : SmtValue) → symbols (term_name at) ≡ None → term_value symbols says ≡ Some v →
+pub define_step : (model symbols : List ℕ → Option SmtValue) (at : ℕ) (sort says rest : Sexp) (v : SmtValue) → symbols (term_name at) ≡ None →
+    term_value symbols says ≡ Some v →
     is_of_sort v sort ≡ true → truth_of model symbols (Cons (definition at sort says) rest) ≡ truth_of model (binds symbols (term_name at) v) rest
 define_step model symbols at sort says rest v f h s = rw (f, h, s) refl
 
@@ -45,7 +46,8 @@ pub bound_other : (symbols : List ℕ → Option SmtValue) (at t : ℕ) (v : Smt
     binds symbols (term_name at) v (term_name t) ≡ symbols (term_name t)
 bound_other symbols at t v h k n = rw (other_term t at k h n) refl
 
-pub stands_on : (model symbols : List ℕ → Option SmtValue) (names : List (List ℕ)) (at : ℕ) (v : SmtValue) → Apart names → at < 2 ^ 64 → Stands model symbols names at →
+pub stands_on : (model symbols : List ℕ → Option SmtValue) (names : List (List ℕ)) (at : ℕ) (v : SmtValue) → Apart names → at < 2 ^ 64 →
+    Stands model symbols names at →
     Stands model (binds symbols (term_name at) v) names (suc at)
 stands_on model symbols names at v apart h s = record {
   inputs = λ w m. rw (apart w at m) (s.inputs w m);
@@ -108,8 +110,10 @@ pub record IsNamed (model : List ℕ → Option SmtValue) (names : List (List �
 
 -- an input has a name with its value
 abbrev pub IsInputOf : (model : List ℕ → Option SmtValue) → (names : List (List ℕ)) → Layout → (numbers : List ℕ) → TermReading → TermNode → Type 0
-IsInputOf model names layout numbers x (terms.RegisterNode r) = IsNamed model names (slice_index_or layout.registers (r - layout.first) []) (WordValue 32 (x.regs r))
-IsInputOf model names layout numbers x (terms.FlagNode f) = IsNamed model names (slice_index_or layout.flags (length layout.flags - 1 - f) []) (WordValue 1 (x.flags f))
+IsInputOf model names layout numbers x (terms.RegisterNode r) =
+    IsNamed model names (slice_index_or layout.registers (r - layout.first) []) (WordValue 32 (x.regs r))
+IsInputOf model names layout numbers x (terms.FlagNode f) =
+    IsNamed model names (slice_index_or layout.flags (length layout.flags - 1 - f) []) (WordValue 1 (x.flags f))
 IsInputOf model names layout numbers x (terms.ChoiceNode i) = IsNamed model names (choice_name (slice_index numbers i)) (WordValue 2 (x.choice i))
 IsInputOf model names layout numbers x (terms.BaseNode j) = x.base j ≡ 0
 IsInputOf model names layout numbers x n = Unit {0}
@@ -119,18 +123,21 @@ abbrev pub AreInputsOf : (model : List ℕ → Option SmtValue) → (names : Lis
 AreInputsOf model names layout numbers x [] = Unit {0}
 AreInputsOf model names layout numbers x (n ∷ ns) = IsInputOf model names layout numbers x n × AreInputsOf model names layout numbers x ns
 
-pub named_value : (model symbols : List ℕ → Option SmtValue) (names : List (List ℕ)) (upto : ℕ) (w : List ℕ) (v : SmtValue) → Stands model symbols names upto → IsNamed model names w v →
+pub named_value : (model symbols : List ℕ → Option SmtValue) (names : List (List ℕ)) (upto : ℕ) (w : List ℕ) (v : SmtValue) → Stands model symbols names upto →
+    IsNamed model names w v →
     atom_value symbols w ≡ Some v
 named_value model symbols names upto w v s i = symbol_value symbols w i.symbol ∙ s.inputs w i.named ∙ i.value
 
 -- what the symbols have behind definitions of nodes
-pub record Reached (model symbols : List ℕ → Option SmtValue) (names : List (List ℕ)) (upto : ℕ) (x : TermReading) (nodes : List TermNode) (commands : List Sexp) : Type 0 where
+pub record Reached (model symbols : List ℕ → Option SmtValue) (names : List (List ℕ)) (upto : ℕ) (x : TermReading) (nodes : List TermNode)
+    (commands : List Sexp) : Type 0 where
   pub after : List ℕ → Option SmtValue
   pub stands : Stands model after names upto
   pub knows : Knows after x nodes
   pub runs : (rest : Sexp) → truth_of model symbols (before commands rest) ≡ truth_of model after rest
 
-module _ (model : List ℕ → Option SmtValue) (names : List (List ℕ)) (layout : Layout) (numbers : List ℕ) (x : TermReading) (range : InRange x) (apart : Apart names)
+module _ (model : List ℕ → Option SmtValue) (names : List (List ℕ)) (layout : Layout) (numbers : List ℕ) (x : TermReading) (range : InRange x)
+    (apart : Apart names)
     (memory : IsNamed model names (codes "mem") (ArrayValue x.mem)) where
   has_input : (symbols : List ℕ → Option SmtValue) (upto : ℕ) (n : TermNode) → Stands model symbols names upto → IsInputOf model names layout numbers x n →
       HasInput symbols layout numbers x n
@@ -150,7 +157,8 @@ module _ (model : List ℕ → Option SmtValue) (names : List (List ℕ)) (layou
   has_input symbols upto (terms.StoreNode n e m a v) s i = tt
   has_input symbols upto (terms.JoinNode c a b) s i = tt
 
-  node_sorted : (symbols : List ℕ → Option SmtValue) (bs : List TermNode) (n : TermNode) (upto : ℕ) → length bs < 2 ^ 64 → AreTyped bs → terms.IsTypedOver bs n → Knows symbols x bs →
+  node_sorted : (symbols : List ℕ → Option SmtValue) (bs : List TermNode) (n : TermNode) (upto : ℕ) → length bs < 2 ^ 64 → AreTyped bs →
+      terms.IsTypedOver bs n → Knows symbols x bs →
       Stands model symbols names upto → IsInputOf model names layout numbers x n →
       Sorted (width_of n) (node_value x (values_from x [] bs) n) (term_value symbols (node_term layout numbers n))
   node_sorted symbols bs n upto few typed here knows stands input =
@@ -163,7 +171,8 @@ module _ (model : List ℕ → Option SmtValue) (names : List (List ℕ)) (layou
       (subst (λ (v : TermValue). v.word < 2 ^ width_of n) (value_last x bs n) f.word)
       (says symbols layout numbers x range bs typed few knows n here (has_input symbols upto n stands input))
 
-  pub define_nodes : (bs ns : List TermNode) (at : ℕ) (symbols : List ℕ → Option SmtValue) → at ≡ length bs → length bs + length ns < 2 ^ 64 → AreTyped bs → AreTypedFrom bs ns →
+  pub define_nodes : (bs ns : List TermNode) (at : ℕ) (symbols : List ℕ → Option SmtValue) → at ≡ length bs → length bs + length ns < 2 ^ 64 → AreTyped bs →
+      AreTypedFrom bs ns →
       AreInputsOf model names layout numbers x ns → Stands model symbols names at → Knows symbols x bs →
       Reached model symbols names (at + length ns) x (bs ++ ns) (node_definitions layout numbers at ns)
   define_nodes bs [] at symbols e few typed from inputs stands knows = record {

@@ -33,7 +33,8 @@ drawn_new done (n ∷ ns) (true ∷ ds) s h d =
     (h (suc i) (omega (arith, l))))
     (λ i j k l. d (suc i) (suc j) (omega (arith, k)) (omega (arith, l))))
 drawn_new done (n ∷ ns) (false ∷ ds) s h d =
-    drawn_new done ns ds (λ i l. s (suc i) (omega (arith, l))) (λ i l. h (suc i) (omega (arith, l))) (λ i j k l. d (suc i) (suc j) (omega (arith, k)) (omega (arith, l)))
+    drawn_new done ns ds (λ i l. s (suc i) (omega (arith, l))) (λ i l. h (suc i) (omega (arith, l)))
+    (λ i j k l. d (suc i) (suc j) (omega (arith, k)) (omega (arith, l)))
 
 pub or_true : (a b : Bool) → b ≡ true → (a || b) ≡ true
 or_true true b h = refl

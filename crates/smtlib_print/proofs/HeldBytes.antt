@@ -43,7 +43,8 @@ abbrev has : ℕ → ByteRun → Bool
 has a r = nat_le r.at a && nat_lt a (r.at + r.count)
 
 -- a known byte of later runs lies behind
-behind_by : (t : Bool) (low a b : ℕ) (r : ByteRun) (rs : List ByteRun) → has a r ≡ t → low ≤ r.at → byte_in_run a (if t then Some r else find (λ q. has a q) rs) ≡ Some b →
+behind_by : (t : Bool) (low a b : ℕ) (r : ByteRun) (rs : List ByteRun) → has a r ≡ t → low ≤ r.at →
+    byte_in_run a (if t then Some r else find (λ q. has a q) rs) ≡ Some b →
     (byte_of_runs rs a ≡ Some b → r.at + r.count ≤ a) → low ≤ a
 behind_by true low a b r rs e h f later = let k : r.at ≤ a = grind (arith, nat_tests) in omega (arith, h, k)
 behind_by false low a b r rs e h f later = omega (arith, h, later f)
@@ -52,7 +53,8 @@ found_behind : (rs : List ByteRun) (low a b : ℕ) → AreBehind low rs → byte
 found_behind [] low a b h f = absurd (cc f)
 found_behind (r ∷ rs) low a b h f = behind_by (has a r) low a b r rs refl h.0 f (found_behind rs (r.at + r.count) a b h.1)
 
-known_by : (t : Bool) (mem : ℕ → ℕ) (a b : ℕ) (r : ByteRun) (rs : List ByteRun) → has a r ≡ t → a < 2 ^ 32 → byte_in_run a (if t then Some r else find (λ q. has a q) rs) ≡ Some b →
+known_by : (t : Bool) (mem : ℕ → ℕ) (a b : ℕ) (r : ByteRun) (rs : List ByteRun) → has a r ≡ t → a < 2 ^ 32 →
+    byte_in_run a (if t then Some r else find (λ q. has a q) rs) ≡ Some b →
     HasRun mem r 0 r.count → HasKnown rs mem → mem a ≡ b
 known_by true mem a b r rs e l f run later =
     let k : r.at ≤ a = grind (arith, nat_tests) in

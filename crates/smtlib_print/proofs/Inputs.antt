@@ -44,7 +44,8 @@ pub draws_length : (ps : List UnrolledPoint) → length (map (λ q. q.draws) ps)
 draws_length [] = refl
 draws_length (q ∷ ps) = ap suc (draws_length ps)
 
-module _ (u : UnrolledProgram) (layout : Layout) (usable : IsUsable layout) (laid : IsLaidOut layout u) (points : List Point) (numbers : List ℕ) (are : AreNumbers u points numbers) where
+module _ (u : UnrolledProgram) (layout : Layout) (usable : IsUsable layout) (laid : IsLaidOut layout u) (points : List Point) (numbers : List ℕ)
+    (are : AreNumbers u points numbers) where
   abbrev choices : List (List ℕ)
   choices = drawn numbers (map (λ q. q.draws) u.points)
 
@@ -85,7 +86,8 @@ module _ (u : UnrolledProgram) (layout : Layout) (usable : IsUsable layout) (lai
   have_words (n ∷ ns) h = (has_word n (h n (0, omega arith, refl)), have_words ns (λ m c. h m (suc c.0, omega (arith, c.1), c.2)))
 
   module _ (r : Reading) (is : IsReading r) where
-    pub is_input : (n : TermNode) → IsNamedBelow u 0 n → IsInputOf (values_of layout points r) (declared_names layout choices) layout numbers (term_reading u r) n
+    pub is_input : (n : TermNode) → IsNamedBelow u 0 n →
+        IsInputOf (values_of layout points r) (declared_names layout choices) layout numbers (term_reading u r) n
     is_input (terms.RegisterNode n) h =
         let k = register_at n h in
         let i = n - layout.first in

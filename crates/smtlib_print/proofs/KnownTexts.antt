@@ -14,7 +14,8 @@ byte_text b c t =
 
 known_text : (m n b c : List ℕ) →
     (m ++ (codes " () Bool (and t" ++ (n ++ codes " (= (select mem "))) ++ (b ++ (codes ") " ++ (c ++ codes ")))\n")))
-    ≡ (m ++ (codes " () Bool (and t" ++ ((n ++ (codes " (= (select mem " ++ (((b ++ codes ")") ++ (32 ∷ (c ++ codes ")"))) ++ codes ")"))) ++ codes ")"))) ++ codes "\n"
+    ≡ (m ++ (codes " () Bool (and t" ++ ((n ++ (codes " (= (select mem " ++ (((b ++ codes ")") ++ (32 ∷ (c ++ codes ")"))) ++ codes ")"))) ++ codes ")")))
+    ++ codes "\n"
 known_text m n b c =
     let inner = ((b ++ codes ")") ++ (32 ∷ (c ++ codes ")"))) in
     let x = b ++ (codes ") " ++ (c ++ codes ")))\n")) in
@@ -31,7 +32,8 @@ pub known_added : (start first second third fourth all : List ℕ) (at next a v 
     second ≡ first ++ written (address a) → third ≡ second ++ codes ") " → fourth ≡ third ++ written (byte v) → all ≡ fourth ++ codes ")))\n" →
     all ≡ start ++ (written (further at (has_byte a v)) ++ codes "\n")
 known_added start first second third fourth all at next a v n e f g h i =
-    five start first second third fourth all (codes "(define-fun t" ++ (number_text (suc at) ++ (codes " () Bool (and t" ++ (number_text at ++ codes " (= (select mem "))))
+    five start first second third fourth all (codes "(define-fun t"
+    ++ (number_text (suc at) ++ (codes " () Bool (and t" ++ (number_text at ++ codes " (= (select mem "))))
     (written (address a)) (codes ") ") (written (byte v)) (codes ")))\n")
     (e ∙ ap (λ k. start ++ (codes "(define-fun t" ++ (number_text k ++ (codes " () Bool (and t" ++ (number_text at ++ codes " (= (select mem "))))) n) f g h i
     ∙ ap (λ t. start ++ (codes "(define-fun t" ++ t)) (known_text (number_text (suc at)) (number_text at) (written (address a)) (written (byte v)))

@@ -17,8 +17,10 @@ SameBelow f g = (x : ℕ) → x < 2 ^ 32 → f x ≡ g x
 word_is : (m n u v : ℕ) → m ≡ n → u ≡ v → Some (WordValue m u) ≡ Some (WordValue n v)
 word_is m n u v h k = ap (λ z. Some (WordValue z u)) h ∙ ap (λ z. Some (WordValue n z)) k
 
-little_more : (at : ℕ → ℕ) (g : Memory) (i : ℕ) → words.concat (8 * suc i) (g (at (suc i))) (little (suc i) (λ j. g (at j))) ≡ little (suc (suc i)) (λ j. g (at j))
-little_more at g i = ap (λ p. g (at (suc i)) * p + little (suc i) (λ j. g (at j))) (eight (suc i)) ∙ add_comm (g (at (suc i)) * 256 ^ suc i) (little (suc i) (λ j. g (at j)))
+little_more : (at : ℕ → ℕ) (g : Memory) (i : ℕ) → words.concat (8 * suc i) (g (at (suc i))) (little (suc i) (λ j. g (at j)))
+    ≡ little (suc (suc i)) (λ j. g (at j))
+little_more at g i = ap (λ p. g (at (suc i)) * p + little (suc i) (λ j. g (at j))) (eight (suc i))
+    ∙ add_comm (g (at (suc i)) * 256 ^ suc i) (little (suc i) (λ j. g (at j)))
 
 -- a byte's place is one of them
 place_below : (e : Endian) (n i : ℕ) → i < n → place e n i < n

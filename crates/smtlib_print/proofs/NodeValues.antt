@@ -38,7 +38,8 @@ pub record Knows (symbols : List ℕ → Option SmtValue) (x : TermReading) (ns 
 -- an input has its value
 abbrev pub HasInput : (symbols : List ℕ → Option SmtValue) → Layout → (numbers : List ℕ) → TermReading → TermNode → Type 0
 HasInput symbols layout numbers x (RegisterNode r) = atom_value symbols (slice_index_or layout.registers (r - layout.first) []) ≡ Some (WordValue 32 (x.regs r))
-HasInput symbols layout numbers x (FlagNode f) = atom_value symbols (slice_index_or layout.flags (length layout.flags - 1 - f) []) ≡ Some (WordValue 1 (x.flags f))
+HasInput symbols layout numbers x (FlagNode f) = atom_value symbols (slice_index_or layout.flags (length layout.flags - 1 - f) [])
+    ≡ Some (WordValue 1 (x.flags f))
 HasInput symbols layout numbers x (ChoiceNode i) = atom_value symbols (choice_name (slice_index numbers i)) ≡ Some (WordValue 2 (x.choice i))
 HasInput symbols layout numbers x (BaseNode j) = x.base j ≡ 0
 HasInput symbols layout numbers x MemoryNode = atom_value symbols (codes "mem") ≡ Some (ArrayValue x.mem)
@@ -55,7 +56,8 @@ same_width m n v h = ap (λ z. Some (WordValue z v)) h
 same_word : (n u v : ℕ) → u ≡ v → Some (WordValue n u) ≡ Some (WordValue n v)
 same_word n u v h = ap (λ z. Some (WordValue n z)) h
 
-module _ (symbols : List ℕ → Option SmtValue) (layout : Layout) (numbers : List ℕ) (x : TermReading) (range : InRange x) (ns : List TermNode) (typed : AreTyped ns)
+module _ (symbols : List ℕ → Option SmtValue) (layout : Layout) (numbers : List ℕ) (x : TermReading) (range : InRange x) (ns : List TermNode)
+    (typed : AreTyped ns)
     (few : length ns < 2 ^ 64) (knows : Knows symbols x ns) where
   -- the word of an operand
   the_word : ℕ → ℕ
@@ -66,7 +68,8 @@ module _ (symbols : List ℕ → Option SmtValue) (layout : Layout) (numbers : L
       symbol_value symbols (term_name t) (term_symbol t (omega (arith, h.0)))
       ∙ subst (λ (k : ℕ). symbols (term_name t) ≡ Some (WordValue k (terms.term_word x ns t))) h.1 ((knows.terms t h.0).word (omega (arith, h.1)))
 
-  memory_known : (t : ℕ) → HasWidth ns 0 t → (f : Memory) × (atom_value symbols (term_name t) ≡ Some (ArrayValue f)) × SameBelow f (terms.term_value x ns t).bytes
+  memory_known : (t : ℕ) → HasWidth ns 0 t → (f : Memory) × (atom_value symbols (term_name t) ≡ Some (ArrayValue f))
+      × SameBelow f (terms.term_value x ns t).bytes
   memory_known t h =
       let k = (knows.terms t h.0).bytes h.1 in
       (k.0, symbol_value symbols (term_name t) (term_symbol t (omega (arith, h.0))) ∙ k.1, k.2)
@@ -105,7 +108,8 @@ module _ (symbols : List ℕ → Option SmtValue) (layout : Layout) (numbers : L
   says (ExtendNode true n m a) h i =
       let e : n + (m - n) ≡ m = omega (arith, h.1) in
       word_is m _ _ (omega (arith, h.0.0, h.1))
-      (rw (word_known n a h.0.0 h.3, decimal_back (m - n) (omega (arith, h.2))) (ap (λ k. Some (WordValue k (words.sign_extend n k (terms.term_word x ns a)))) e))
+      (rw (word_known n a h.0.0 h.3, decimal_back (m - n) (omega (arith, h.2)))
+      (ap (λ k. Some (WordValue k (words.sign_extend n k (terms.term_word x ns a)))) e))
   says (ExtendNode false n m a) h i =
       let e : n + (m - n) ≡ m = omega (arith, h.1) in
       word_is m _ _ (omega (arith, h.0.0, h.1)) (rw (word_known n a h.0.0 h.3, decimal_back (m - n) (omega (arith, h.2))) (same_width _ _ _ e))
@@ -113,11 +117,13 @@ module _ (symbols : List ℕ → Option SmtValue) (layout : Layout) (numbers : L
       let k : suc (n - 1) ≡ n = omega (arith, h.0.0) in
       let f = memory_known m h.1 in
       word_is _ _ _ (omega (arith, h.0.0))
-      (subst (λ (l : ℕ). term_value symbols (commands.loading e m a (n - 1)) ≡ Some (WordValue (8 * l) (node_value x (values_from x [] ns) (LoadNode l e m a)).word)) k
+      (subst (λ (l : ℕ). term_value symbols (commands.loading e m a (n - 1))
+      ≡ Some (WordValue (8 * l) (node_value x (values_from x [] ns) (LoadNode l e m a)).word)) k
       (loading_value symbols a _ (word_known 32 a (omega arith) h.2) (below 32 a h.2) m f.0 _ f.1 f.2 e (n - 1) (omega (arith, h.0.1))))
   says (StoreNode n e m a v) h i =
       let f = memory_known m h.1 in
-      let s = storing_value symbols a _ (word_known 32 a (omega arith) h.2) (below 32 a h.2) m f.0 _ f.1 f.2 e n v _ (word_known (8 * n) v (omega (arith, h.0.0)) h.3)
+      let s = storing_value symbols a _ (word_known 32 a (omega arith) h.2) (below 32 a h.2) m f.0 _ f.1 f.2 e n v _
+      (word_known (8 * n) v (omega (arith, h.0.0)) h.3)
       (omega (arith, h.0.1)) n (omega arith) in
       memory_is _ _ s.0 s.1 s.2
   says (JoinNode c a b) h i =

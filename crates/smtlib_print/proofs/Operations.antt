@@ -35,7 +35,8 @@ quotient n a b h s =
 -- signed division but by 0
 by_zero : (zero_is : Bool) (n a b : ℕ) → (b == 0) ≡ zero_is → a < 2 ^ n → b < 2 ^ n →
     (if zero_is then 2 ^ n - 1 else smt_sdiv n a b) ≡
-    (if zero_is then 2 ^ n - 1 else words.with_sign n (words.differ (words.is_negative n a) (words.is_negative n b)) (words.word n (words.magnitude n a / words.magnitude n b)))
+    (if zero_is then 2 ^ n - 1 else words.with_sign n (words.differ (words.is_negative n a) (words.is_negative n b))
+    (words.word n (words.magnitude n a / words.magnitude n b)))
 by_zero true n a b e h k = refl
 by_zero false n a b e h k =
     let s : 0 < b = grind (arith, nat_tests) in
@@ -45,7 +46,8 @@ by_zero false n a b e h k =
 sdiv_value : (n a b : ℕ) → a < 2 ^ n → b < 2 ^ n → (if b == 0 then 2 ^ n - 1 else smt_sdiv n a b) ≡ words.sdiv n a b
 sdiv_value n a b h k = by_zero (b == 0) n a b refl h k
 
-module _ (symbols : List ℕ → Option SmtValue) (w a b x y : ℕ) (h : atom_value symbols (term_name a) ≡ Some (WordValue w x)) (k : atom_value symbols (term_name b) ≡ Some (WordValue w y)) where
+module _ (symbols : List ℕ → Option SmtValue) (w a b x y : ℕ) (h : atom_value symbols (term_name a)
+    ≡ Some (WordValue w x)) (k : atom_value symbols (term_name b) ≡ Some (WordValue w y)) where
   pub operation_value : (o : BinaryOp) → x < 2 ^ w → y < 2 ^ w → ((v : ℕ) → v < 2 ^ w → atom_value symbols (constant_text w v) ≡ Some (WordValue w v)) →
       term_value symbols (operation o w a b) ≡ Some (WordValue (result_width o w) (operate o w x y))
   operation_value Plus p q c = rw (h, k, same_number w) refl

@@ -17,7 +17,8 @@ use Rattle.bilv_spec.specs.Bil.{SignedDivide}
 use Rattle.smtlib_print.specs.Written.{three as three_of, written}
 
 -- the name of a register by its number
-pub register_name : (letter first count r : ℕ) → first ≤ r → r < first + count → slice_index_or (register_names letter first count) (r - first) [] ≡ letter ∷ number_text r
+pub register_name : (letter first count r : ℕ) → first ≤ r → r < first + count →
+    slice_index_or (register_names letter first count) (r - first) [] ≡ letter ∷ number_text r
 register_name letter first zero r h k = absurd (omega (arith, h, k))
 register_name letter first (suc count) r h k = elim (cases_eq r first) [
   | inl e ↦ (let z : r - first ≡ 0 = omega (arith, e) in rw z (ap (λ n. letter ∷ number_text n) (sym e)))
@@ -36,7 +37,8 @@ one_more : (out front mid new last all : List ℕ) → mid ≡ out ++ front → 
 one_more out front mid new last all e f g = f ∙ ap (λ t. t ++ last) e ∙ append_assoc out front last ∙ ap (λ t. out ++ t) g
 
 -- one hexadecimal digit more
-pub hex_pushed : (out mid new digit : List ℕ) (count v : ℕ) → count ≢ 0 → mid ≡ out ++ hex_digits (count - 1) (v / 16) → digit ≡ hex_digit (v % 16) ∷ [] → new ≡ mid ++ digit →
+pub hex_pushed : (out mid new digit : List ℕ) (count v : ℕ) → count ≢ 0 → mid ≡ out ++ hex_digits (count - 1) (v / 16) → digit ≡ hex_digit (v % 16) ∷ [] →
+    new ≡ mid ++ digit →
     new ≡ out ++ hex_digits count v
 hex_pushed out mid new digit zero v some e d f = absurd (some refl)
 hex_pushed out mid new digit (suc n) v some e d f =
@@ -44,7 +46,8 @@ hex_pushed out mid new digit (suc n) v some e d f =
     one_more out (hex_digits (suc n - 1) (v / 16)) mid new digit (hex_digits (suc n) v) e f (rw (z, d) refl)
 
 -- one binary digit more
-pub binary_pushed : (out mid new : List ℕ) (count v : ℕ) → count ≢ 0 → mid ≡ out ++ binary_digits (count - 1) (v / 2) → new ≡ mid ++ decimal (v % 2) → new ≡ out ++ binary_digits count v
+pub binary_pushed : (out mid new : List ℕ) (count v : ℕ) → count ≢ 0 → mid ≡ out ++ binary_digits (count - 1) (v / 2) → new ≡ mid ++ decimal (v % 2) →
+    new ≡ out ++ binary_digits count v
 binary_pushed out mid new zero v some e f = absurd (some refl)
 binary_pushed out mid new (suc n) v some e f =
     let z : suc n - 1 ≡ n = omega arith in
@@ -80,8 +83,10 @@ behind_more a zero some = absurd (some refl)
 behind_more a (suc i) some = refl
 
 -- a load of one byte more, the lowest bytes first
-pub little_loaded : (start first second third fourth all : List ℕ) (little : _) (m a i : ℕ) → little ≡ false → i ≢ 0 → first ≡ start ++ codes "(concat " → second ≡ first ++ written (selected m a i) →
-    third ≡ second ++ codes " " → fourth ≡ third ++ written (loading (endian little) m a (i - 1)) → all ≡ fourth ++ codes ")" → all ≡ start ++ written (loading (endian little) m a i)
+pub little_loaded : (start first second third fourth all : List ℕ) (little : _) (m a i : ℕ) → little ≡ false → i ≢ 0 → first ≡ start ++ codes "(concat " →
+    second ≡ first ++ written (selected m a i) →
+    third ≡ second ++ codes " " → fourth ≡ third ++ written (loading (endian little) m a (i - 1)) → all ≡ fourth ++ codes ")" →
+    all ≡ start ++ written (loading (endian little) m a i)
 little_loaded start first second third fourth all true m a i z some e f g h k = absurd (cc z)
 little_loaded start first second third fourth all false m a zero z some e f g h k = absurd (some refl)
 little_loaded start first second third fourth all false m a (suc i) z some e f g h k =
@@ -91,7 +96,8 @@ little_loaded start first second third fourth all false m a (suc i) z some e f g
 
 -- and the highest bytes first
 pub big_loaded : (start first second third fourth all : List ℕ) (little : _) (m a i : ℕ) → little ≡ true → i ≢ 0 → first ≡ start ++ codes "(concat " →
-    second ≡ first ++ written (loading (endian little) m a (i - 1)) → third ≡ second ++ codes " " → fourth ≡ third ++ written (selected m a i) → all ≡ fourth ++ codes ")" →
+    second ≡ first ++ written (loading (endian little) m a (i - 1)) → third ≡ second ++ codes " " → fourth ≡ third ++ written (selected m a i) →
+    all ≡ fourth ++ codes ")" →
     all ≡ start ++ written (loading (endian little) m a i)
 big_loaded start first second third fourth all false m a i z some e f g h k = absurd (cc z)
 big_loaded start first second third fourth all true m a zero z some e f g h k = absurd (some refl)
@@ -101,8 +107,10 @@ big_loaded start first second third fourth all true m a (suc i) z some e f g h k
     (f ∙ ap (λ j. first ++ written (loading Big m a j)) n) g h k
 
 -- a store of one byte more
-pub byte_stored : (start first second third fourth fifth sixth all : List ℕ) (e : Endian) (n m a v i lowest : ℕ) → i ≢ 0 → lowest ≡ 8 * place e n (i - 1) → first ≡ start ++ codes "(store " →
-    second ≡ first ++ written (storing e n m a v (i - 1)) → third ≡ second ++ codes " " → fourth ≡ third ++ written (behind a (i - 1)) → fifth ≡ fourth ++ codes " " →
+pub byte_stored : (start first second third fourth fifth sixth all : List ℕ) (e : Endian) (n m a v i lowest : ℕ) → i ≢ 0 → lowest ≡ 8 * place e n (i - 1) →
+    first ≡ start ++ codes "(store " →
+    second ≡ first ++ written (storing e n m a v (i - 1)) → third ≡ second ++ codes " " → fourth ≡ third ++ written (behind a (i - 1)) →
+    fifth ≡ fourth ++ codes " " →
     sixth ≡ fifth ++ written (extract (lowest + 7) lowest v) → all ≡ sixth ++ codes ")" → all ≡ start ++ written (storing e n m a v i)
 byte_stored start first second third fourth fifth sixth all e n m a v zero lowest some l p q r s t u w = absurd (some refl)
 byte_stored start first second third fourth fifth sixth all e n m a v (suc i) lowest some l p q r s t u w =
@@ -117,7 +125,8 @@ pub closed : (front n m back : List ℕ) → front ++ (n ++ (41 ∷ m)) ≡ fron
 closed front n m back = ap (λ t. front ++ t) (sym (append_assoc n (41 ∷ []) m))
 
 -- an address behind another, in its parts
-pub further_added : (start first second all : List ℕ) (a i : ℕ) → first ≡ start ++ (codes "(bvadd t" ++ (number_text a ++ codes " ")) → second ≡ first ++ written (address i) →
+pub further_added : (start first second all : List ℕ) (a i : ℕ) → first ≡ start ++ (codes "(bvadd t" ++ (number_text a ++ codes " ")) →
+    second ≡ first ++ written (address i) →
     all ≡ second ++ codes ")" → all ≡ start ++ written (three_of (Atom (codes "bvadd")) (term a) (address i))
 further_added start first second all a i e f g =
     three start first second all (codes "(bvadd t" ++ (number_text a ++ codes " ")) (written (address i)) (codes ")") e f g
@@ -128,13 +137,15 @@ divided n b r =
     append_assoc n (codes " ") (b ++ (41 ∷ r)) ∙ sym (append_assoc n (32 ∷ (b ++ codes ")")) r ∙ ap (λ t. n ++ (32 ∷ t)) (append_assoc b (codes ")") r))
 
 -- signed division in its parts
-pub division_added : (start first second third fourth fifth sixth all : List ℕ) (w a b ones : ℕ) → ones ≡ 2 ^ w - 1 → first ≡ start ++ (codes "(ite (= t" ++ (number_text b ++ codes " ")) →
+pub division_added : (start first second third fourth fifth sixth all : List ℕ) (w a b ones : ℕ) → ones ≡ 2 ^ w - 1 →
+    first ≡ start ++ (codes "(ite (= t" ++ (number_text b ++ codes " ")) →
     second ≡ first ++ constant_text w 0 → third ≡ second ++ codes ") " → fourth ≡ third ++ constant_text w ones → fifth ≡ fourth ++ codes " " →
     sixth ≡ fifth ++ written (apply (codes "bvsdiv") a b) → all ≡ sixth ++ codes ")" → all ≡ start ++ written (operation SignedDivide w a b)
 division_added start first second third fourth fifth sixth all w a b ones o p q r s t u v =
     let k = constant_text w (2 ^ w - 1) in
     let d = written (apply (codes "bvsdiv") a b) in
-    seven start first second third fourth fifth sixth all (codes "(ite (= t" ++ (number_text b ++ codes " ")) (constant_text w 0) (codes ") ") k (codes " ") d (codes ")") p q r
+    seven start first second third fourth fifth sixth all (codes "(ite (= t" ++ (number_text b ++ codes " ")) (constant_text w 0) (codes ") ") k (codes " ") d
+    (codes ")") p q r
     (s ∙ ap (λ j. third ++ constant_text w j) o) t u v
     ∙ ap (λ l. start ++ (codes "(ite (= t" ++ l)) (divided (number_text b) (constant_text w 0) (32 ∷ (k ++ (32 ∷ (d ++ codes ")")))))
 
@@ -148,13 +159,16 @@ defined : (n b c : List ℕ) → (n ++ codes " () ") ++ (b ++ (32 ∷ (c ++ code
 defined n b c =
     append_assoc n (codes " () ") (b ++ (32 ∷ (c ++ codes ")\n")))
     ∙ sym (append_assoc n (codes " () " ++ (b ++ (32 ∷ (c ++ codes ")")))) (codes "\n")
-    ∙ ap (λ t. n ++ (codes " () " ++ t)) (append_assoc b (32 ∷ (c ++ codes ")")) (codes "\n") ∙ ap (λ t. b ++ (32 ∷ t)) (append_assoc c (codes ")") (codes "\n"))))
+    ∙ ap (λ t. n ++ (codes " () " ++ t)) (append_assoc b (32 ∷ (c ++ codes ")")) (codes "\n")
+    ∙ ap (λ t. b ++ (32 ∷ t)) (append_assoc c (codes ")") (codes "\n"))))
 
-pub definition_added : (start first second third fourth all : List ℕ) (at : ℕ) (sort says : Sexp) → first ≡ start ++ (codes "(define-fun t" ++ (number_text at ++ codes " () ")) →
+pub definition_added : (start first second third fourth all : List ℕ) (at : ℕ) (sort says : Sexp) →
+    first ≡ start ++ (codes "(define-fun t" ++ (number_text at ++ codes " () ")) →
     second ≡ first ++ written sort → third ≡ second ++ codes " " → fourth ≡ third ++ written says → all ≡ fourth ++ codes ")\n" →
     all ≡ start ++ (written (definition at sort says) ++ codes "\n")
 definition_added start first second third fourth all at sort says e f g h i =
-    five start first second third fourth all (codes "(define-fun t" ++ (number_text at ++ codes " () ")) (written sort) (codes " ") (written says) (codes ")\n") e f g h i
+    five start first second third fourth all (codes "(define-fun t" ++ (number_text at ++ codes " () ")) (written sort) (codes " ") (written says) (codes ")\n")
+    e f g h i
     ∙ ap (λ t. start ++ (codes "(define-fun t" ++ t)) (defined (number_text at) (written sort) (written says))
 
 -- a definition that a bit is 1
@@ -170,11 +184,14 @@ pub ended : (front w back : List ℕ) → front ++ (w ++ (back ++ codes "\n")) �
 ended front w back = ap (λ t. front ++ t) (sym (append_assoc w back (codes "\n")))
 
 -- the declaration of a register in its parts
-pub register_added : (start first second all w : List ℕ) → first ≡ start ++ codes "(declare-const " → second ≡ first ++ w → all ≡ second ++ codes " (_ BitVec 32))\n" →
+pub register_added : (start first second all w : List ℕ) → first ≡ start ++ codes "(declare-const " → second ≡ first ++ w →
+    all ≡ second ++ codes " (_ BitVec 32))\n" →
     all ≡ start ++ (written (declaration w (word_sort (Atom (codes "32")))) ++ codes "\n")
 register_added start first second all w e f g =
-    three start first second all (codes "(declare-const ") w (codes " (_ BitVec 32))\n") e f g ∙ ap (λ t. start ++ t) (ended (codes "(declare-const ") w (codes " (_ BitVec 32))"))
+    three start first second all (codes "(declare-const ") w (codes " (_ BitVec 32))\n") e f g
+    ∙ ap (λ t. start ++ t) (ended (codes "(declare-const ") w (codes " (_ BitVec 32))"))
 
 -- that of a flag
-pub flag_added : (name w : List ℕ) → name ≡ w → codes "(declare-const " ++ (name ++ codes " (_ BitVec 1))\n") ≡ written (declaration w (word_sort (Atom (codes "1")))) ++ codes "\n"
+pub flag_added : (name w : List ℕ) → name ≡ w → codes "(declare-const " ++ (name ++ codes " (_ BitVec 1))\n")
+    ≡ written (declaration w (word_sort (Atom (codes "1")))) ++ codes "\n"
 flag_added name w e = ap (λ n. codes "(declare-const " ++ (n ++ codes " (_ BitVec 1))\n")) e ∙ ended (codes "(declare-const ") w (codes " (_ BitVec 1))")

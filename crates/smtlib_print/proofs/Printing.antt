@@ -30,7 +30,8 @@ use Rattle.smtlib_print.proofs.Telling.{script_tells}
 
 module _ (u : UnrolledProgram) (layout : texts.Layout) (laid : IsLaidOut layout u) (count : ℕ) (same : count ≡ length u.points) where
   printable_node : (before : List TermNode) (n : TermNode) → IsTypedOver before n → IsNamedBelow u 0 n → IsPrintable layout count n
-  printable_node before (terms.RegisterNode r) t h = in_range r layout.first (length layout.registers) (ap (λ rs. list_any (nat_eq r) rs) (sym laid.registers) ∙ h)
+  printable_node before (terms.RegisterNode r) t h = in_range r layout.first (length layout.registers) (ap (λ rs. list_any (nat_eq r) rs) (sym laid.registers)
+      ∙ h)
   printable_node before (terms.FlagNode f) t h = let k : f < u.flags = grind (arith, nat_tests) in omega (arith, k, laid.flags)
   printable_node before (terms.ChoiceNode i) t h = omega (arith, h.0, same)
   printable_node before (terms.BaseNode j) t h = tt
@@ -53,7 +54,8 @@ module _ (u : UnrolledProgram) (layout : texts.Layout) (laid : IsLaidOut layout 
   printable_from before (n ∷ ns) typed named (suc t) l =
       printable_from (before ++ n ∷ []) ns typed.1 (λ m c. named m (suc c.0, omega (arith, c.1), c.2)) t (omega (arith, l))
 
-  pub printable : (ns : List TermNode) → AreTyped ns → ((n : TermNode) → Contains ns n → IsNamedBelow u 0 n) → (t : ℕ) → t < length ns → IsPrintable layout count (node_at ns t)
+  pub printable : (ns : List TermNode) → AreTyped ns → ((n : TermNode) → Contains ns n → IsNamedBelow u 0 n) → (t : ℕ) → t < length ns →
+      IsPrintable layout count (node_at ns t)
   printable ns typed named t l = printable_from [] ns typed named t l
 
 -- the texts of the declarations one behind another
@@ -65,17 +67,20 @@ pub declarations_text : (layout : texts.Layout) (choices : List (List ℕ)) →
 declarations_text layout choices =
     let mem = declaration (codes "mem") array_sort ∷ declarations (word_sort (Atom (codes "2"))) choices in
     text-append (declarations (word_sort (Atom (codes "32"))) layout.registers) (declarations (word_sort (Atom (codes "1"))) layout.flags ++ mem)
-    ∙ ap (λ t. commands_text (declarations (word_sort (Atom (codes "32"))) layout.registers) ++ t) (text-append (declarations (word_sort (Atom (codes "1"))) layout.flags) mem)
+    ∙ ap (λ t. commands_text (declarations (word_sort (Atom (codes "32"))) layout.registers)
+    ++ t) (text-append (declarations (word_sort (Atom (codes "1"))) layout.flags) mem)
 
 -- the logic and the declarations
-pub head_text : (layout : texts.Layout) (choices : List (List ℕ)) (start first second third fourth all : List ℕ) → first ≡ start ++ codes "(set-logic QF_ABV)\n" →
+pub head_text : (layout : texts.Layout) (choices : List (List ℕ)) (start first second third fourth all : List ℕ) →
+    first ≡ start ++ codes "(set-logic QF_ABV)\n" →
     second ≡ first ++ commands_text (declarations (word_sort (Atom (codes "32"))) layout.registers) →
     third ≡ second ++ commands_text (declarations (word_sort (Atom (codes "1"))) layout.flags) →
     fourth ≡ third ++ codes "(declare-const mem (Array (_ BitVec 32) (_ BitVec 8)))\n" →
     all ≡ fourth ++ commands_text (declarations (word_sort (Atom (codes "2"))) choices) →
     all ≡ start ++ (codes "(set-logic QF_ABV)\n" ++ commands_text (all_declarations layout choices))
 head_text layout choices start first second third fourth all e f g h i =
-    five start first second third fourth all _ _ _ _ _ e f g h i ∙ ap (λ t. start ++ (codes "(set-logic QF_ABV)\n" ++ t)) (sym (declarations_text layout choices))
+    five start first second third fourth all _ _ _ _ _ e f g h i
+    ∙ ap (λ t. start ++ (codes "(set-logic QF_ABV)\n" ++ t)) (sym (declarations_text layout choices))
 
 -- the assertion and the check
 pub check_text : (n : List ℕ) → codes "(assert t" ++ (n ++ codes ")\n(check-sat)\n") ≡ (codes "(assert t" ++ (n ++ codes ")")) ++ codes "\n(check-sat)\n"
@@ -118,11 +123,13 @@ pub script_parts : (layout : texts.Layout) (numbers : List ℕ) (choices : List 
     all ≡ fourth ++ (written (two (Atom (codes "assert")) (term at)) ++ codes "\n(check-sat)\n") →
     all ≡ commands_text (all_commands (middle_commands layout numbers choices runs nodes root))
 script_parts layout numbers choices runs nodes root at count none first second third fourth all z k p e f g h i =
-    five [] first second third fourth all (codes "(set-logic QF_ABV)\n" ++ commands_text (all_declarations layout choices)) (commands_text (node_definitions layout numbers 0 nodes))
+    five [] first second third fourth all (codes "(set-logic QF_ABV)\n" ++ commands_text (all_declarations layout choices))
+    (commands_text (node_definitions layout numbers 0 nodes))
     (written (definition (length nodes) (Atom (codes "Bool")) (is_one root)) ++ codes "\n") (commands_text (run_definitions (length nodes) runs))
     (written (two (Atom (codes "assert")) (term (length nodes + bytes_of runs))) ++ codes "\n(check-sat)\n")
     (e ∙ ap (λ t. t ++ (codes "(set-logic QF_ABV)\n" ++ commands_text (all_declarations layout choices))) z) f
-    (g ∙ ap (λ c. second ++ (written (definition c (Atom (codes "Bool")) (is_one root)) ++ codes "\n")) k) (h ∙ ap (λ c. third ++ commands_text (run_definitions c runs)) k)
+    (g ∙ ap (λ c. second ++ (written (definition c (Atom (codes "Bool")) (is_one root)) ++ codes "\n")) k) (h
+    ∙ ap (λ c. third ++ commands_text (run_definitions c runs)) k)
     (i ∙ ap (λ c. fourth ++ (written (two (Atom (codes "assert")) (term c)) ++ codes "\n(check-sat)\n")) (p ∙ ap (λ c. c + bytes_of runs) k))
     ∙ parts (codes "(set-logic QF_ABV)\n") (commands_text (all_declarations layout choices)) (commands_text (node_definitions layout numbers 0 nodes))
     (written (definition (length nodes) (Atom (codes "Bool")) (is_one root))) (commands_text (run_definitions (length nodes) runs))
@@ -131,9 +138,12 @@ script_parts layout numbers choices runs nodes root at count none first second t
     ∙ ap (λ t. codes "(set-logic QF_ABV)\n" ++ t) (sym (text-append (middle_commands layout numbers choices runs nodes root) _))
 
 -- the text tells the question
-pub form_tells : (u : UnrolledProgram) (form : Layout) (points : List Point) (numbers : List ℕ) (question : Question) (nodes : List TermNode) (root : ℕ) (runs : List Known) (text : List ℕ) →
-    IsLaidOut (layout_of form) u → AreInOrder u points → AreNumbers u points numbers → TellsQuestion u question (record { nodes = nodes; root = root }) → length nodes < 2 ^ 32 →
-    u.known ≡ map run_of runs → AreRuns runs → FitMemory u.known → text ≡ script_text (layout_of form) u numbers nodes root → TellsScript u (layout_of form) question text
+pub form_tells : (u : UnrolledProgram) (form : Layout) (points : List Point) (numbers : List ℕ) (question : Question) (nodes : List TermNode) (root : ℕ)
+    (runs : List Known) (text : List ℕ) →
+    IsLaidOut (layout_of form) u → AreInOrder u points → AreNumbers u points numbers → TellsQuestion u question (record { nodes = nodes; root = root }) →
+    length nodes < 2 ^ 32 →
+    u.known ≡ map run_of runs → AreRuns runs → FitMemory u.known → text ≡ script_text (layout_of form) u numbers nodes root →
+    TellsScript u (layout_of form) question text
 form_tells u form points numbers question nodes root runs text laid order are tells few same rising fit e =
     let behind = subst (λ (z : List ByteRun). AreBehind 0 z) (sym same) (behind_runs runs rising) in
     let b = bytes_few 0 u.known (omega arith) fit behind in

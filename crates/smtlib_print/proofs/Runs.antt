@@ -73,7 +73,8 @@ pub run_more : (runs : List Known) (place at next i : ℕ) (r d : Known) (old ou
     new ≡ out ++ commands_text (byte_definitions (run_of r) at 0 (run_of r).count) → next ≡ at + (run_of r).count →
     AreRunsWritten runs place old at i out → AreRunsWritten runs place old next (i + 1) new
 run_more runs place at next i r default old out new l e fits step n inv =
-    let d : runs_from runs i ≡ run_of r ∷ runs_from runs (suc i) = ap (map run_of) (drop-cons runs i default l ∙ ap (λ (m : Known). m ∷ drop (suc i) runs) (sym e)) in
+    let d : runs_from runs i ≡ run_of r ∷ runs_from runs (suc i) =
+    ap (map run_of) (drop-cons runs i default l ∙ ap (λ (m : Known). m ∷ drop (suc i) runs) (sym e)) in
     let b : AreBehind inv.low (run_of r ∷ runs_from runs (suc i)) = subst (λ (z : List ByteRun). AreBehind inv.low z) d inv.behind in
     let rest = runs_from runs (suc i) in
     let text : new ++ commands_text (run_definitions next rest) ≡ old ++ commands_text (run_definitions place (map run_of runs)) =
@@ -107,7 +108,8 @@ pub runs_text : (runs : List Known) (place at i : ℕ) (old out : List ℕ) → 
     out ≡ old ++ commands_text (run_definitions place (map run_of runs))
 runs_text runs place at i old out e inv = sym (append-nil out) ∙ ap (λ z. out ++ commands_text (run_definitions at z)) (sym (no_runs runs i e)) ∙ inv.text
 
-pub runs_last : (runs : List Known) (place at i : ℕ) (old out : List ℕ) → i ≡ length runs → AreRunsWritten runs place old at i out → at ≡ place + bytes_of (map run_of runs)
+pub runs_last : (runs : List Known) (place at i : ℕ) (old out : List ℕ) → i ≡ length runs → AreRunsWritten runs place old at i out →
+    at ≡ place + bytes_of (map run_of runs)
 runs_last runs place at i old out e inv = (let z : at + bytes_of [] ≡ at = omega arith in sym z) ∙ ap (λ z. at + bytes_of z) (sym (no_runs runs i e)) ∙ inv.last
 
 pub runs_fit : (runs : List Known) (place at i : ℕ) (old out : List ℕ) → i ≡ length runs → AreRunsWritten runs place old at i out → FitMemory (map run_of runs)

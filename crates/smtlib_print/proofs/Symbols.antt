@@ -14,7 +14,8 @@ declares_names : (sort : Sexp) (names : List (List ℕ)) (rest : Sexp) → decla
 declares_names sort [] rest = refl
 declares_names sort (w ∷ ws) rest = ap (λ l. w ∷ l) (declares_names sort ws rest)
 
-nodes_declare : (layout : Layout) (numbers : List ℕ) (at : ℕ) (ns : List TermNode) (rest : Sexp) → declared_symbols (before (node_definitions layout numbers at ns) rest) ≡ declared_symbols rest
+nodes_declare : (layout : Layout) (numbers : List ℕ) (at : ℕ) (ns : List TermNode) (rest : Sexp) →
+    declared_symbols (before (node_definitions layout numbers at ns) rest) ≡ declared_symbols rest
 nodes_declare layout numbers at [] rest = refl
 nodes_declare layout numbers at (n ∷ ns) rest = nodes_declare layout numbers (suc at) ns rest
 
@@ -30,7 +31,8 @@ runs_declare at (r ∷ rs) rest =
 
 -- the declared symbols of a script: registers, flags, the memory, choices
 pub script_declares : (layout : Layout) (numbers : List ℕ) (choices : List (List ℕ)) (runs : List ByteRun) (nodes : List TermNode) (root : ℕ) →
-    declared_symbols (before (all_commands (middle_commands layout numbers choices runs nodes root)) Nil) ≡ layout.registers ++ (layout.flags ++ (codes "mem" ∷ (choices ++ [])))
+    declared_symbols (before (all_commands (middle_commands layout numbers choices runs nodes root)) Nil) ≡ layout.registers
+    ++ (layout.flags ++ (codes "mem" ∷ (choices ++ [])))
 script_declares layout numbers choices runs nodes root =
     let check = one (Atom (codes "check-sat")) in
     let n = length nodes in
@@ -67,7 +69,8 @@ one_of [] w h c = absurd (omega (arith, c.1))
 one_of (v ∷ ws) w h (zero, l, e) = subst IsTermName e h.0
 one_of (v ∷ ws) w h (suc k, l, e) = one_of ws w h.1 (k, omega (arith, l), e)
 
-declarations_define : (sort : Sexp) (names : List (List ℕ)) (rest : Sexp) → AreTermNames (defined_symbols rest) → AreTermNames (defined_symbols (before (declarations sort names) rest))
+declarations_define : (sort : Sexp) (names : List (List ℕ)) (rest : Sexp) → AreTermNames (defined_symbols rest) →
+    AreTermNames (defined_symbols (before (declarations sort names) rest))
 declarations_define sort [] rest h = h
 declarations_define sort (w ∷ ws) rest h = declarations_define sort ws rest h
 
@@ -76,14 +79,16 @@ nodes_define : (layout : Layout) (numbers : List ℕ) (at : ℕ) (ns : List Term
 nodes_define layout numbers at [] rest h = h
 nodes_define layout numbers at (n ∷ ns) rest h = ((at, refl), nodes_define layout numbers (suc at) ns rest h)
 
-bytes_define : (r : ByteRun) (at i n : ℕ) (rest : Sexp) → AreTermNames (defined_symbols rest) → AreTermNames (defined_symbols (before (byte_definitions r at i n) rest))
+bytes_define : (r : ByteRun) (at i n : ℕ) (rest : Sexp) → AreTermNames (defined_symbols rest) →
+    AreTermNames (defined_symbols (before (byte_definitions r at i n) rest))
 bytes_define r at i zero rest h = h
 bytes_define r at i (suc n) rest h = ((suc at, refl), bytes_define r (suc at) (suc i) n rest h)
 
 moved : (a b : Sexp) → a ≡ b → AreTermNames (defined_symbols b) → AreTermNames (defined_symbols a)
 moved a b e h = subst (λ (c : Sexp). AreTermNames (defined_symbols c)) (sym e) h
 
-runs_define : (at : ℕ) (rs : List ByteRun) (rest : Sexp) → AreTermNames (defined_symbols rest) → AreTermNames (defined_symbols (before (run_definitions at rs) rest))
+runs_define : (at : ℕ) (rs : List ByteRun) (rest : Sexp) → AreTermNames (defined_symbols rest) →
+    AreTermNames (defined_symbols (before (run_definitions at rs) rest))
 runs_define at [] rest h = h
 runs_define at (r ∷ rs) rest h =
     moved _ _ (before-append (byte_definitions r at 0 r.count) (run_definitions (at + r.count) rs) rest)

@@ -75,8 +75,10 @@ and_true : (b : Bool) → (b && true) ≡ b
 and_true true = refl
 and_true false = refl
 
-module _ (u : UnrolledProgram) (layout : Layout) (usable : IsUsable layout) (laid : IsLaidOut layout u) (points : List Point) (numbers : List ℕ) (are : AreNumbers u points numbers)
-    (nodes : List TermNode) (root : ℕ) (question : Question) (tells : TellsQuestion u question (record { nodes = nodes; root = root })) (few : length nodes < 2 ^ 32)
+module _ (u : UnrolledProgram) (layout : Layout) (usable : IsUsable layout) (laid : IsLaidOut layout u) (points : List Point) (numbers : List ℕ)
+    (are : AreNumbers u points numbers)
+    (nodes : List TermNode) (root : ℕ) (question : Question) (tells : TellsQuestion u question (record { nodes = nodes; root = root }))
+    (few : length nodes < 2 ^ 32)
     (fit : FitMemory u.known) (behind : AreBehind 0 u.known) (small : bytes_of u.known < 2 ^ 62) where
   abbrev choices : List (List ℕ)
   choices = drawn numbers (map (λ q. q.draws) u.points)
@@ -110,7 +112,8 @@ module _ (u : UnrolledProgram) (layout : Layout) (usable : IsUsable layout) (lai
     AreWritable-append middle _
         (AreWritable-append (all_declarations layout choices) _ declared_writable
         (AreWritable-append (node_definitions layout numbers 0 nodes) _
-        (nodes_writable layout numbers [] nodes 0 refl (omega (arith, few)) tt tells.terms.typed (have_words u layout usable laid points numbers are nodes tells.terms.named)) (
+        (nodes_writable layout numbers [] nodes 0 refl (omega (arith, few)) tt tells.terms.typed
+        (have_words u layout usable laid points numbers are nodes tells.terms.named)) (
           (refl, (term_word (length nodes) (omega (arith, few)), (tt, (refl, ((refl, (term_word root (omega (arith, few, tells.root.0)), (refl, tt))), tt))))),
           AreWritable-append (run_definitions (length nodes) u.known) _ (runs_writable u.known (length nodes) (omega (arith, few, small)))
               ((refl, (term_word (length nodes + bytes_of u.known) (omega (arith, few, small)), tt)), tt),

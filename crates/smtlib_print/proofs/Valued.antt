@@ -72,7 +72,8 @@ all_right (n ∷ v) w h = all_right v w (both_true (is_own n) (list_all is_own (
 pub other_choice : (m n : ℕ) → m < 2 ^ 64 → n < 2 ^ 64 → (m ≡ n → ⊥) → bytes_eq (choice_name m) (choice_name n) ≡ false
 other_choice m n h k d = other_text (number_text m) (number_text n) (λ e. d (decimal_injective m n h k e))
 
-choice_place : (first count n : ℕ) → first ≤ n → n < first + count → first + count < 2 ^ 64 → place_in (map choice_name (from_to first count)) (choice_name n) ≡ Some (n - first)
+choice_place : (first count n : ℕ) → first ≤ n → n < first + count → first + count < 2 ^ 64 →
+    place_in (map choice_name (from_to first count)) (choice_name n) ≡ Some (n - first)
 choice_place first zero n h k s = absurd (omega (arith, h, k))
 choice_place first (suc count) n h k s = elim (cases_eq n first) [
   | inl e ↦ (let z : n - first ≡ 0 = omega (arith, e) in rw (ap (λ m. bytes_eq (choice_name n) (choice_name m)) (sym e) ∙ same_text (choice_name n), z) refl)
@@ -110,7 +111,8 @@ module _ (layout : Layout) (usable : IsUsable layout) (points : List Point) (few
   pub memory_is : values_of layout points r (codes "mem") ≡ Some (ArrayValue r.state.mem)
   memory_is = rw (place_none (value_names layout) (codes "mem") (not_memory (value_names layout) usable.own)) refl
 
-  pub choice_is : (n : ℕ) (q : Point) → n < length points → slice_get points n ≡ Some q → values_of layout points r (choice_name n) ≡ Some (WordValue 2 (r.choice q))
+  pub choice_is : (n : ℕ) (q : Point) → n < length points → slice_get points n ≡ Some q →
+      values_of layout points r (choice_name n) ≡ Some (WordValue 2 (r.choice q))
   choice_is n q l e =
       let z : n - 0 ≡ n = omega arith in
       rw (

@@ -23,27 +23,37 @@ use Rattle.smtlib_print.proofs.Layouts.{IsUsable, name_at}
 use Rattle.smtlib_print.proofs.Names.{term_symbol, symbol_value, other_text}
 use Rattle.smtlib_print.proofs.Valued.{all_left, all_right, not_lettered, not_memory, register_is, flag_is, memory_is, choice_is}
 
-sorted_by : (model : List ℕ → Option SmtValue) (sort : Sexp) (names : List (List ℕ)) → ((i : ℕ) → i < length names → IsSorted model sort (name_at names i)) → AreSorted model sort names
+sorted_by : (model : List ℕ → Option SmtValue) (sort : Sexp) (names : List (List ℕ)) → ((i : ℕ) → i < length names → IsSorted model sort (name_at names i)) →
+    AreSorted model sort names
 sorted_by model sort [] h = tt
 sorted_by model sort (n ∷ ns) h = (h 0 (omega arith), sorted_by model sort ns (λ i l. h (suc i) (omega (arith, l))))
 
-word_sorted : (model : List ℕ → Option SmtValue) (w : List ℕ) (v : ℕ) → v < 2 ^ 32 → model w ≡ Some (WordValue 32 v) → IsSorted model (word_sort (Atom (codes "32"))) w
+word_sorted : (model : List ℕ → Option SmtValue) (w : List ℕ) (v : ℕ) → v < 2 ^ 32 → model w ≡ Some (WordValue 32 v) →
+    IsSorted model (word_sort (Atom (codes "32"))) w
 word_sorted model w v h e = let l : nat_lt v (2 ^ 32) ≡ true = grind (arith, nat_tests) in record { value = WordValue 32 v; is = e; sort_is = l }
 
 bit_sorted : (model : List ℕ → Option SmtValue) (w : List ℕ) (v : ℕ) → v < 2 → model w ≡ Some (WordValue 1 v) → IsSorted model (word_sort (Atom (codes "1"))) w
 bit_sorted model w v h e = let l : nat_lt v (2 ^ 1) ≡ true = grind (arith, nat_tests) in record { value = WordValue 1 v; is = e; sort_is = l }
 
-choice_sorted : (model : List ℕ → Option SmtValue) (w : List ℕ) (v : ℕ) → v < 4 → model w ≡ Some (WordValue 2 v) → IsSorted model (word_sort (Atom (codes "2"))) w
+choice_sorted : (model : List ℕ → Option SmtValue) (w : List ℕ) (v : ℕ) → v < 4 → model w ≡ Some (WordValue 2 v) →
+    IsSorted model (word_sort (Atom (codes "2"))) w
 choice_sorted model w v h e = let l : nat_lt v (2 ^ 2) ≡ true = grind (arith, nat_tests) in record { value = WordValue 2 v; is = e; sort_is = l }
 
 term_range : (u : UnrolledProgram) (r : Reading) → IsReading r → InRange (term_reading u r)
-term_range u r is = record { regs = is.state.regs; flags = is.state.flags; mem = is.state.mem; choice = λ i. is.choice (point_at u i).point; base = λ j. omega arith }
+term_range u r is = record {
+  regs = is.state.regs;
+  flags = is.state.flags;
+  mem = is.state.mem;
+  choice = λ i. is.choice (point_at u i).point;
+  base = λ j. omega arith;
+}
 
 -- the declared names, the last first
 abbrev pub declared_names : Layout → List (List ℕ) → List (List ℕ)
 declared_names layout choices = onto (codes "mem" ∷ onto (onto [] layout.registers) layout.flags) choices
 
-module _ (u : UnrolledProgram) (layout : Layout) (usable : IsUsable layout) (points : List Point) (numbers : List ℕ) (are : AreNumbers u points numbers) (r : Reading) (is : IsReading r) where
+module _ (u : UnrolledProgram) (layout : Layout) (usable : IsUsable layout) (points : List Point) (numbers : List ℕ) (are : AreNumbers u points numbers)
+    (r : Reading) (is : IsReading r) where
   model : List ℕ → Option SmtValue
   model = values_of layout points r
 
@@ -91,11 +101,14 @@ module _ (u : UnrolledProgram) (layout : Layout) (usable : IsUsable layout) (poi
 
   all_declared : IsDeclaring (values_of layout points r) (λ w. None) (declared_names layout choices) (all_declarations layout choices)
   all_declared =
-      let a = declare_all (values_of layout points r) (word_sort (Atom (codes "32"))) layout.registers [] (λ w. None) registers_sorted usable.registers (λ w. refl) in
-      let b = declare_all (values_of layout points r) (word_sort (Atom (codes "1"))) layout.flags (onto [] layout.registers) a.after flags_sorted usable.flags a.declared in
+      let a = declare_all (values_of layout points r) (word_sort (Atom (codes "32"))) layout.registers [] (λ w. None) registers_sorted usable.registers
+      (λ w. refl) in
+      let b = declare_all (values_of layout points r) (word_sort (Atom (codes "1"))) layout.flags (onto [] layout.registers) a.after flags_sorted usable.flags
+      a.declared in
       let c = declare_all (values_of layout points r) array_sort (codes "mem" ∷ []) (onto (onto [] layout.registers) layout.flags) b.after
       (record { value = ArrayValue r.state.mem; is = memory_is layout usable points are.few r; sort_is = refl }, tt) (rw memory_none refl) b.declared in
-      let d = declare_all (values_of layout points r) (word_sort (Atom (codes "2"))) choices (codes "mem" ∷ onto (onto [] layout.registers) layout.flags) c.after
+      let d = declare_all (values_of layout points r) (word_sort (Atom (codes "2"))) choices (codes "mem" ∷ onto (onto [] layout.registers) layout.flags)
+      c.after
       choices_sorted choices_new c.declared in
       let cs = declarations (word_sort (Atom (codes "2"))) choices in
       let ms = declaration (codes "mem") array_sort ∷ cs in
@@ -138,14 +151,16 @@ module _ (u : UnrolledProgram) (layout : Layout) (usable : IsUsable layout) (poi
         let m = values_of layout points r in
         let names = declared_names layout choices in
         let x = term_reading u r in
-        let reached = define_nodes m names layout numbers x (term_range u r is) apart memory_named [] nodes 0 all_declared.after refl (omega (arith, few)) tt typed inputs stands
+        let reached = define_nodes m names layout numbers x (term_range u r is) apart memory_named [] nodes 0 all_declared.after refl (omega (arith, few)) tt
+        typed inputs stands
         (record { terms = λ t l. absurd (omega (arith, l)) }) in
         let n = length nodes in
         let there : Stands m reached.after names n = subst (Stands m reached.after names) (omega arith) reached.stands in
         let word = terms.term_word x nodes root in
         let bit : atom_value reached.after (term_name root) ≡ Some (WordValue 1 word) =
         symbol_value reached.after (term_name root) (term_symbol root (omega (arith, root_is.0, few)))
-        ∙ subst (λ (k : ℕ). reached.after (term_name root) ≡ Some (WordValue k word)) root_is.1 ((reached.knows.terms root root_is.0).word (omega (arith, root_is.1))) in
+        ∙ subst (λ (k : ℕ). reached.after (term_name root) ≡ Some (WordValue k word)) root_is.1
+        ((reached.knows.terms root root_is.0).word (omega (arith, root_is.1))) in
         let after_root = binds reached.after (term_name n) (TruthValue (word == 1)) in
         let judged = judge_runs m names r.state.mem apart memory_named runs fit n (word == 1) after_root (omega (arith, few, small))
         (stands_on m reached.after names n (TruthValue (word == 1)) apart (omega (arith, few)) there) (bound_here reached.after n (TruthValue (word == 1))) in

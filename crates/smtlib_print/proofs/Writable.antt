@@ -118,7 +118,8 @@ abbrev pub HaveWords : Layout → (numbers : List ℕ) → List TermNode → Typ
 HaveWords layout numbers [] = Unit {0}
 HaveWords layout numbers (n ∷ ns) = HasWord layout numbers n × HaveWords layout numbers ns
 
-node_writable : (layout : Layout) (numbers : List ℕ) (bs : List TermNode) (n : TermNode) → terms.AreTyped bs → length bs < 2 ^ 32 → IsTypedOver bs n → HasWord layout numbers n →
+node_writable : (layout : Layout) (numbers : List ℕ) (bs : List TermNode) (n : TermNode) → terms.AreTyped bs → length bs < 2 ^ 32 → IsTypedOver bs n →
+    HasWord layout numbers n →
     IsWritable (node_term layout numbers n)
 node_writable layout numbers bs (terms.RegisterNode r) t s h w = w
 node_writable layout numbers bs (terms.FlagNode f) t s h w = w
@@ -128,22 +129,26 @@ node_writable layout numbers bs terms.MemoryNode t s h w = refl
 node_writable layout numbers bs (terms.ConstantNode n v) t s h w = constant_word n v
 node_writable layout numbers bs (terms.BinaryNode o n a b) t s h w = operation_writable o n a b (omega (arith, s, h.1.0)) (omega (arith, s, h.2.0))
 node_writable layout numbers bs (terms.NotNode n a) t s h w = (refl, (term_word a (omega (arith, s, h.1.0)), tt))
-node_writable layout numbers bs (terms.SelectNode n c a b) t s h w = choose_writable c a b (omega (arith, s, h.1.0)) (omega (arith, s, h.2.0)) (omega (arith, s, h.3.0))
+node_writable layout numbers bs (terms.SelectNode n c a b) t s h w =
+    choose_writable c a b (omega (arith, s, h.1.0)) (omega (arith, s, h.2.0)) (omega (arith, s, h.3.0))
 node_writable layout numbers bs (terms.ExtractNode hi lo a) t s h w =
     let f = few_bits bs a t h.2 in
     extract_writable hi lo a (omega (arith, f, h.1)) (omega (arith, f, h.0, h.1)) (omega (arith, s, h.2))
-node_writable layout numbers bs (terms.ConcatNode high low a b) t s h w = (refl, (term_word a (omega (arith, s, h.3.0)), (term_word b (omega (arith, s, h.4.0)), tt)))
+node_writable layout numbers bs (terms.ConcatNode high low a b) t s h w =
+    (refl, (term_word a (omega (arith, s, h.3.0)), (term_word b (omega (arith, s, h.4.0)), tt)))
 node_writable layout numbers bs (terms.ExtendNode signed n m a) t s h w = extend_writable signed (m - n) a (omega (arith, h.2)) (omega (arith, s, h.3.0))
 node_writable layout numbers bs (terms.LoadNode n e m a) t s h w = loading_writable e m a (n - 1) (omega (arith, s, h.1.0)) (omega (arith, s, h.2.0))
 node_writable layout numbers bs (terms.StoreNode n e m a v) t s h w =
     storing_writable e n m a v n h.0.1 (omega arith) (omega (arith, s, h.1.0)) (omega (arith, s, h.2.0)) (omega (arith, s, h.3.0))
-node_writable layout numbers bs (terms.JoinNode c a b) t s h w = choose_writable c a b (omega (arith, s, h.0.0)) (omega (arith, s, h.1.0)) (omega (arith, s, h.2.0))
+node_writable layout numbers bs (terms.JoinNode c a b) t s h w =
+    choose_writable c a b (omega (arith, s, h.0.0)) (omega (arith, s, h.1.0)) (omega (arith, s, h.2.0))
 
 sort_writable : (w : ℕ) → w < 2 ^ 64 → IsWritable (sort_of w)
 sort_writable zero h = (refl, ((refl, (refl, (refl, tt))), ((refl, (refl, (refl, tt))), tt)))
 sort_writable (suc w) h = (refl, (refl, (number_word (suc w) h, tt)))
 
-pub nodes_writable : (layout : Layout) (numbers : List ℕ) (bs ns : List TermNode) (at : ℕ) → at ≡ length bs → length bs + length ns < 2 ^ 32 → terms.AreTyped bs → AreTypedFrom bs ns →
+pub nodes_writable : (layout : Layout) (numbers : List ℕ) (bs ns : List TermNode) (at : ℕ) → at ≡ length bs → length bs + length ns < 2 ^ 32 →
+    terms.AreTyped bs → AreTypedFrom bs ns →
     HaveWords layout numbers ns → AreWritable (node_definitions layout numbers at ns)
 nodes_writable layout numbers bs [] at e s t f w = tt
 nodes_writable layout numbers bs (n ∷ ns) at e s t f w =
@@ -151,7 +156,13 @@ nodes_writable layout numbers bs (n ∷ ns) at e s t f w =
     let whole = typed_push bs n t f.0 in
     let k = few_bits (bs ++ n ∷ []) (length bs) whole (omega (arith, l)) in
     let q = ap width_of (last bs n terms.MemoryNode) in (
-      (refl, (term_word at (omega (arith, e, s)), (tt, (sort_writable (width_of n) (omega (arith, k, q)), (node_writable layout numbers bs n t (omega (arith, s)) f.0 w.0, tt))))),
+      (
+        refl,
+        (
+          term_word at (omega (arith, e, s)),
+          (tt, (sort_writable (width_of n) (omega (arith, k, q)), (node_writable layout numbers bs n t (omega (arith, s)) f.0 w.0, tt))),
+        ),
+      ),
       nodes_writable layout numbers (bs ++ n ∷ []) ns (suc at) (omega (arith, l, e)) (omega (arith, l, s)) whole f.1 w.1,
     )
 
@@ -181,7 +192,10 @@ byte_writable at a v h = (
 
 bytes_writable : (r : ByteRun) (n i at : ℕ) → at + n < 2 ^ 63 → AreWritable (byte_definitions r at i n)
 bytes_writable r zero i at h = tt
-bytes_writable r (suc n) i at h = (byte_writable at (r.at + i) (slice_index r.bytes i) (omega (arith, h)), bytes_writable r n (suc i) (suc at) (omega (arith, h)))
+bytes_writable r (suc n) i at h = (
+  byte_writable at (r.at + i) (slice_index r.bytes i) (omega (arith, h)),
+  bytes_writable r n (suc i) (suc at) (omega (arith, h)),
+)
 
 pub runs_writable : (rs : List ByteRun) (at : ℕ) → at + bytes_of rs < 2 ^ 63 → AreWritable (run_definitions at rs)
 runs_writable [] at h = tt

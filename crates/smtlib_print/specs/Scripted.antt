@@ -39,10 +39,13 @@ pub record AreNumbers (u : UnrolledProgram) (points : List Point) (numbers : Lis
 
 -- the text of the script of a term over an unrolled program
 abbrev pub script_text : texts.Layout → UnrolledProgram → (numbers : List ℕ) → (nodes : List TermNode) → (root : ℕ) → List ℕ
-script_text layout u numbers nodes root = commands_text (all_commands (middle_commands layout numbers (drawn numbers (map (λ q. q.draws) u.points)) u.known nodes root))
+script_text layout u numbers nodes root =
+    commands_text (all_commands (middle_commands layout numbers (drawn numbers (map (λ q. q.draws) u.points)) u.known nodes root))
 
 -- The text of the script of a question's term tells the question.
 abbrev pub ScriptsTell : Type 0
 ScriptsTell = (u : UnrolledProgram) (form : Layout) (points : List Point) (numbers : List ℕ) (question : Question) (nodes : List TermNode) (root : ℕ) →
-    IsLaidOut (layout_of form) u → AreInOrder u points → AreNumbers u points numbers → TellsQuestion u question (record { nodes = nodes; root = root }) → length nodes < 2 ^ 32 →
-    FitMemory u.known → AreBehind 0 u.known → bytes_of u.known < 2 ^ 62 → TellsScript u (layout_of form) question (script_text (layout_of form) u numbers nodes root)
+    IsLaidOut (layout_of form) u → AreInOrder u points → AreNumbers u points numbers → TellsQuestion u question (record { nodes = nodes; root = root }) →
+    length nodes < 2 ^ 32 →
+    FitMemory u.known → AreBehind 0 u.known → bytes_of u.known < 2 ^ 62 →
+    TellsScript u (layout_of form) question (script_text (layout_of form) u numbers nodes root)

@@ -28,7 +28,8 @@ fn declare_register(out: &mut String, form: Layout, register: u8) -> Result<(), 
     requires last { register < (layout_of form).first + length (layout_of form).registers }
     ensures { OnOk result (string_bytes out.new
         ≡ string_bytes out.old
-        ++ (written (commands.declaration (slice_index_or (layout_of form).registers (register - (layout_of form).first) []) (commands.word_sort (Atom (codes "32"))))
+        ++ (written (commands.declaration (slice_index_or (layout_of form).registers (register - (layout_of form).first) [])
+        (commands.word_sort (Atom (codes "32"))))
         ++ codes "\n")) }
 {
     out.push_str("(declare-const ")?;
@@ -41,7 +42,8 @@ fn declare_flag(out: &mut String, form: Layout, flag: u8) -> Result<(), AllocErr
     requires { flag < length (layout_of form).flags }
     ensures { OnOk result (string_bytes out.new
         ≡ string_bytes out.old
-        ++ (written (commands.declaration (slice_index_or (layout_of form).flags (length (layout_of form).flags - 1 - flag) []) (commands.word_sort (Atom (codes "1"))))
+        ++ (written (commands.declaration (slice_index_or (layout_of form).flags (length (layout_of form).flags - 1 - flag) [])
+        (commands.word_sort (Atom (codes "1"))))
         ++ codes "\n")) }
 {
     let name = flag_name(form, flag);
@@ -64,7 +66,8 @@ pub fn declare_registers(out: &mut String, form: Layout) -> Result<(), AllocErro
 
 /// Appends the declarations of the flags, of which the one with the highest number comes first.
 pub fn declare_flags(out: &mut String, form: Layout) -> Result<(), AllocError>
-    ensures { OnOk result (string_bytes out.new ≡ string_bytes out.old ++ commands_text (commands.declarations (commands.word_sort (Atom (codes "1"))) (layout_of form).flags)) }
+    ensures { OnOk result (string_bytes out.new ≡ string_bytes out.old
+        ++ commands_text (commands.declarations (commands.word_sort (Atom (codes "1"))) (layout_of form).flags)) }
 {
     let count = form.flag_count();
     for place in 0..count {
@@ -105,7 +108,8 @@ pub fn declare_choices(
     requires { length numbers.now ≡ length unrolled.now.points.items }
     ensures { OnOk result (string_bytes out.new
         ≡ string_bytes out.old
-        ++ commands_text (commands.declarations (commands.word_sort (Atom (codes "2"))) (commands.drawn numbers.now (map (λ q. q.draws) (unrolled_of unrolled.now).points)))) }
+        ++ commands_text (commands.declarations (commands.word_sort (Atom (codes "2")))
+        (commands.drawn numbers.now (map (λ q. q.draws) (unrolled_of unrolled.now).points)))) }
 {
     for place in 0..unrolled.points.len() {
         let drawn = draws(unrolled, unrolled.points[place].code);

@@ -69,7 +69,8 @@ pub fn push_definitions(
 
 /// Appends the definition that a bit is 1.
 pub fn push_root(out: &mut String, place: usize, root: Term) -> Result<(), AllocError>
-    ensures { OnOk result (string_bytes out.new ≡ string_bytes out.old ++ (written (commands.definition place (Atom (codes "Bool")) (commands.is_one root.0)) ++ codes "\n")) }
+    ensures { OnOk result (string_bytes out.new ≡ string_bytes out.old
+        ++ (written (commands.definition place (Atom (codes "Bool")) (commands.is_one root.0)) ++ codes "\n")) }
 {
     let root = root.0;
     write!(out, "(define-fun t{place} () Bool (= t{root} #b1))\n")

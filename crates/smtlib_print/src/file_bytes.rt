@@ -39,7 +39,8 @@ fn listed(bytes: &[u8], distance: usize) -> u8
 fn push_run(out: &mut String, place: usize, run: &Known) -> Result<usize, AllocError>
     requires some { run.now.first ≤ run.now.last }
     requires few { place ≤ 4611686018427387904 }
-    ensures text { OnOk result (string_bytes out.new ≡ string_bytes out.old ++ commands_text (commands.byte_definitions (run_of run.now) place 0 (run_of run.now).count)) }
+    ensures text { OnOk result (string_bytes out.new ≡ string_bytes out.old
+        ++ commands_text (commands.byte_definitions (run_of run.now) place 0 (run_of run.now).count)) }
     ensures last { IfOk result (λ at. at ≡ place + (run_of run.now).count) }
     ensures fits { OnOk result (FitsMemory (run_of run.now)) }
 {

@@ -26,7 +26,8 @@ fn push_head(out: &mut String, unrolled: &Unrolled, numbers: &[u32]) -> Result<(
     requires { length numbers.now ≡ length unrolled.now.points.items }
     ensures { OnOk result (string_bytes out.new
         ≡ string_bytes out.old ++ (codes "(set-logic QF_ABV)\n"
-        ++ commands_text (commands.all_declarations (layout_of unrolled.now.form) (commands.drawn numbers.now (map (λ q. q.draws) (unrolled_of unrolled.now).points))))) }
+        ++ commands_text (commands.all_declarations (layout_of unrolled.now.form)
+        (commands.drawn numbers.now (map (λ q. q.draws) (unrolled_of unrolled.now).points))))) }
 {
     out.push_str("(set-logic QF_ABV)\n")?;
     declare_registers(out, unrolled.form)?;
@@ -38,7 +39,8 @@ fn push_head(out: &mut String, unrolled: &Unrolled, numbers: &[u32]) -> Result<(
 
 /// Appends the assertion of the definition at a place, and the check.
 fn push_check(out: &mut String, place: usize) -> Result<(), AllocError>
-    ensures { OnOk result (string_bytes out.new ≡ string_bytes out.old ++ (written (two (Atom (codes "assert")) (commands.term place)) ++ codes "\n(check-sat)\n")) }
+    ensures { OnOk result (string_bytes out.new ≡ string_bytes out.old
+        ++ (written (two (Atom (codes "assert")) (commands.term place)) ++ codes "\n(check-sat)\n")) }
 {
     write!(out, "(assert t{place})\n(check-sat)\n")
 }
@@ -49,7 +51,8 @@ fn text_of(alloc: Global, question: &Question, numbers: &[u32]) -> Result<String
     requires runs { AreRuns question.now.passive.now.unrolled.now.known.items }
     requires count { length numbers.now ≡ length question.now.passive.now.unrolled.now.points.items }
     ensures text { IfOk result (λ text. string_bytes text
-        ≡ script_text (layout_of question.now.passive.now.unrolled.now.form) (program_of_question question.now) numbers.now question.now.dag question.now.root.0) }
+        ≡ script_text (layout_of question.now.passive.now.unrolled.now.form) (program_of_question question.now) numbers.now question.now.dag
+        question.now.root.0) }
     ensures few { OnOk result (length question.now.dag < 2 ^ 32) }
     ensures fit { OnOk result (FitMemory (program_of_question question.now).known) }
 {

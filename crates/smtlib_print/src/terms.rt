@@ -59,7 +59,8 @@ fn push_signed_division(
 
 /// Appends the bit that is 1 where two terms differ.
 fn push_different(out: &mut String, left: Term, right: Term) -> Result<(), AllocError>
-    ensures { OnOk result (string_bytes out.new ≡ string_bytes out.old ++ written (commands.bit_of (two (Atom (codes "not")) (commands.apply (codes "=") left.0 right.0)))) }
+    ensures { OnOk result (string_bytes out.new ≡ string_bytes out.old
+        ++ written (commands.bit_of (two (Atom (codes "not")) (commands.apply (codes "=") left.0 right.0)))) }
 {
     let (left, right) = (left.0, right.0);
     write!(out, "(ite (not (= t{left} t{right})) #b1 #b0)")
@@ -148,7 +149,8 @@ fn push_extend(out: &mut String, signed: bool, more: u8, term: Term) -> Result<(
 
 /// Appends the address at a distance behind a term, which is not 0.
 fn push_further(out: &mut String, address: Term, distance: u8) -> Result<(), AllocError>
-    ensures { OnOk result (string_bytes out.new ≡ string_bytes out.old ++ written (three (Atom (codes "bvadd")) (commands.term address.0) (commands.address distance))) }
+    ensures { OnOk result (string_bytes out.new ≡ string_bytes out.old
+        ++ written (three (Atom (codes "bvadd")) (commands.term address.0) (commands.address distance))) }
 {
     let address = address.0;
     write!(out, "(bvadd t{address} ")?;

@@ -8,9 +8,11 @@ loop-place-preserved c =
     let u = c.args.unrolled.now in
     let i = c.loop-place.place in
     let l : i < length u.points.items = omega (arith, c.len-place-end.ensures, c.loop-place-test.true) in
-    choice_more c.args.numbers.now (map (λ q. q.draws) (unrolled_of u).points) i _ c.draws-drawn.result (string_bytes c.loop-place.out) (string_bytes c.declare_choice.new.out) _
+    choice_more c.args.numbers.now (map (λ q. q.draws) (unrolled_of u).points) i _ c.draws-drawn.result (string_bytes c.loop-place.out)
+    (string_bytes c.declare_choice.new.out) _
     (omega (arith, l, c.requires)) (omega (arith, l, draws_count u u.points.items)) refl
-    (point_draws u u.points.items i c.index.result.now c.draws-drawn.result l c.index.ensures c.draws-drawn.ensures) c.in_ok-declare_choice.ensures c.loop-place.invariant
+    (point_draws u u.points.items i c.index.result.now c.draws-drawn.result l c.index.ensures c.draws-drawn.ensures) c.in_ok-declare_choice.ensures
+    c.loop-place.invariant
 
 pub returns : goal.returns
 returns c =

@@ -4,5 +4,7 @@ use Rattle.smtlib_print.proofs.declarations.declare_register.Goals as goal
 
 pub returns : goal.returns
 returns c =
-    on_ok c.push_str-2.result _ _ (register_added (string_bytes c.args.out.now) (string_bytes c.push_str.new.self) (string_bytes c.push_register.new.out) (string_bytes c.push_str-2.new.self) _
-    c.in_ok-push_str.ensures.bytes c.in_ok-push_register.ensures) (pushed c.push_str-2.result (string_bytes c.push_str-2.new.self) _ _ c.push_str-2.ensures.bytes)
+    on_ok c.push_str-2.result _ _ (register_added (string_bytes c.args.out.now) (string_bytes c.push_str.new.self) (string_bytes c.push_register.new.out)
+    (string_bytes c.push_str-2.new.self) _
+    c.in_ok-push_str.ensures.bytes c.in_ok-push_register.ensures)
+    (pushed c.push_str-2.result (string_bytes c.push_str-2.new.self) _ _ c.push_str-2.ensures.bytes)

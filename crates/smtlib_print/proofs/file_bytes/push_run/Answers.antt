@@ -14,6 +14,7 @@ loop-distance-preserved c =
     record {
       text = byte_more r c.args.place i (string_bytes c.loop-distance.out) (string_bytes c.push_known.new.out) _ c.loop-distance-test.true
           (c.in_ok-push_known.ensures
-          ∙ ap (λ v. string_bytes c.loop-distance.out ++ (written (further (c.args.place + i) (has_byte (r.at + i) v)) ++ codes "\n")) c.listed.ensures) c.loop-distance.invariant.text;
+          ∙ ap (λ v. string_bytes c.loop-distance.out ++ (written (further (c.args.place + i) (has_byte (r.at + i) v)) ++ codes "\n")) c.listed.ensures)
+          c.loop-distance.invariant.text;
       bytes = byte_below r i c.listed.result c.loop-distance.invariant.bytes (omega arith) c.listed.ensures;
     }

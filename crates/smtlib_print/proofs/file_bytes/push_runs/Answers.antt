@@ -7,5 +7,6 @@ loop-i-init c = runs_begin c.args.runs.now c.args.place (string_bytes c.args.out
 
 pub loop-i-preserved : goal.loop-i-preserved
 loop-i-preserved c =
-    run_more c.args.runs.now c.args.place c.loop-i.at c.in_ok-at.at c.loop-i.i _ _ (string_bytes c.args.out.now) (string_bytes c.loop-i.out) (string_bytes c.push_run.new.out)
+    run_more c.args.runs.now c.args.place c.loop-i.at c.in_ok-at.at c.loop-i.i _ _ (string_bytes c.args.out.now) (string_bytes c.loop-i.out)
+    (string_bytes c.push_run.new.out)
     (omega arith) refl c.in_ok-at.ensures.fits c.in_ok-at.ensures.text c.in_ok-at.ensures.last c.loop-i.invariant

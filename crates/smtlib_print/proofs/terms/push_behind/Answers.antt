@@ -5,5 +5,6 @@ use Rattle.smtlib_print.proofs.terms.push_behind.Goals as goal
 
 pub returns : goal.returns
 returns c =
-    on_text c.push_further.result (string_bytes c.push_further.new.out) (string_bytes c.args.out.now) _ _ (ap written (behind_more c.args.address.0 c.args.distance c.if-distance-eq0.false))
+    on_text c.push_further.result (string_bytes c.push_further.new.out) (string_bytes c.args.out.now) _ _
+    (ap written (behind_more c.args.address.0 c.args.distance c.if-distance-eq0.false))
     c.push_further.ensures
