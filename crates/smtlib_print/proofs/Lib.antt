@@ -22,3 +22,4 @@ pub mod Telling
 pub mod Valued
 pub mod Whole
 pub mod Writable
+pub mod Programs

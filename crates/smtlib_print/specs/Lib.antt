@@ -3,3 +3,4 @@ pub mod Commands
 pub mod Told
 pub mod Scripted
 pub mod Printable
+pub mod Programs

@@ -9,5 +9,5 @@ mod scripts;
 mod terms;
 mod words;
 
-pub use laws::scripts_tell;
+pub use laws::{scripts_are_of_programs, scripts_tell};
 pub use scripts::script;
