@@ -23,3 +23,10 @@ pub mod Valued
 pub mod Whole
 pub mod Writable
 pub mod Programs
+pub mod Below
+pub mod StackTables
+pub mod Compared
+pub mod Ranked
+pub mod Inverses
+pub mod Depths
+pub mod Placing

@@ -4,3 +4,5 @@ pub mod Told
 pub mod Scripted
 pub mod Printable
 pub mod Programs
+pub mod Orders
+pub mod Numbered

@@ -5,6 +5,8 @@ mod declarations;
 mod definitions;
 mod file_bytes;
 mod laws;
+mod numbering;
+mod ordering;
 mod scripts;
 mod terms;
 mod words;

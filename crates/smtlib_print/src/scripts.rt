@@ -1,6 +1,5 @@
 //! The script of a question.
-ghost use Rattle.std.specs.Prelude.{◌≡◌, ◌<◌, ◌^◌, ◌++◌, List, codes, length, map, string_bytes, IfOk, OnOk};
-ghost use Rattle.bilv_spec.specs.Points.{Point};
+ghost use Rattle.std.specs.Prelude.{◌≡◌, ◌<◌, ◌^◌, ◌++◌, codes, length, map, string_bytes, IfOk, OnOk};
 ghost use Rattle.bilv_spec.specs.SmtLib.{Atom};
 ghost use Rattle.walk_spec.specs.WalkQuestions.{TellsQuestion};
 ghost use Rattle.state_text.specs.Starts.{layout_of};
@@ -8,13 +7,15 @@ ghost use Rattle.known_bytes.specs.Runs.{AreRuns};
 ghost use Rattle.question_form.specs.Views.{unrolled_of};
 ghost use Rattle.question_form.specs.Questions.{program_of_question, question_of, term_of};
 ghost use Rattle.smtlib_print.specs.Commands as commands;
-ghost use Rattle.smtlib_print.specs.Scripted.{AreNumbers, FitMemory, script_text};
-ghost use Rattle.smtlib_print.specs.Told.{AreInOrder, TellsScript};
+ghost use Rattle.smtlib_print.specs.Numbered.{AreApart};
+ghost use Rattle.smtlib_print.specs.Scripted.{FitMemory, script_text};
+ghost use Rattle.smtlib_print.specs.Told.{TellsScript};
 ghost use Rattle.smtlib_print.specs.Written.{commands_text, two, written};
 
 use crate::declarations::{declare_choices, declare_flags, declare_registers};
 use crate::definitions::{push_definitions, push_root};
 use crate::file_bytes::push_runs;
+use crate::numbering::numbers;
 use question_form::{Question, Unrolled};
 use std::alloc::{AllocError, Global};
 
@@ -76,16 +77,16 @@ fn text_of(alloc: Global, question: &Question, numbers: &[u32]) -> Result<String
     Ok(out)
 }
 
-/// The script of a question in SMT-LIB 2.6, in which the choice of each point has its number among the points in their order: it is satisfied by exactly those
-/// readings of which the question is true. The error is want of memory, or of numbers for terms.
-pub fn script(alloc: Global, question: &Question, numbers: &[u32]) -> Result<String, AllocError>
+/// The script of a question in SMT-LIB 2.6: it is satisfied by exactly those readings of which the question is true. The choice of a point has the number of
+/// the point in the order of scripts. The error is want of memory, or of numbers for terms and points.
+pub fn script(alloc: Global, question: &Question) -> Result<String, AllocError>
     requires tells { TellsQuestion (program_of_question question.now) (question_of question.now) (term_of question.now) }
     requires runs { AreRuns question.now.passive.now.unrolled.now.known.items }
-    requires count { length numbers.now ≡ length question.now.passive.now.unrolled.now.points.items }
-    ensures { IfOk result (λ text. (points : List Point) → AreInOrder (program_of_question question.now) points →
-        AreNumbers (program_of_question question.now) points numbers.now →
-        TellsScript (program_of_question question.now) (layout_of question.now.passive.now.unrolled.now.form) (question_of question.now) (string_bytes text)) }
+    requires apart { AreApart (program_of_question question.now) }
+    ensures { IfOk result (λ text. TellsScript (program_of_question question.now) (layout_of question.now.passive.now.unrolled.now.form)
+        (question_of question.now) (string_bytes text)) }
 {
-    let text = text_of(alloc, question, numbers)?;
+    let numbers = numbers(alloc, question.passive.unrolled)?;
+    let text = text_of(alloc, question, &numbers)?;
     Ok(text)
 }
