@@ -4,7 +4,6 @@ pub mod Refused
 pub mod Reported
 pub mod Lifts
 pub mod Graphed
-pub mod OneWay
 pub mod Cut
 pub mod Verdicts
 pub mod Founds

@@ -36,7 +36,7 @@ use Rattle.unroller.specs.Lookups.{HasForm}
 use Rattle.notes_value.specs.Reads.{IsOver, AreOver}
 use Rattle.verdict.specs.Grounds.{IsGround}
 use Rattle.verdict.specs.Measures.{IsMeasurable, IsMeasured, IsUnrolledOf}
-use Rattle.verdict.specs.Rounds.{HasBytes}
+use Rattle.verdict.specs.Rounds.{HasBytes, IsAskable}
 use Rattle.verdict.specs.declared.measuring.Measured.{Measured}
 use Rattle.verdict.specs.declared.measuring.Measured.TheVariants.{Above, Within}
 
@@ -188,6 +188,15 @@ module _ (p : Program) (form : Layout) (b : Budget) (u : Unrolled) (h : IsUnroll
   fits_budget : (price : ℕ) → price ≡ min (unrolled_price (unrolled_of u)) (2 ^ 128 - 1) → (price ≡ 2 ^ 128 - 1 → ⊥) → price ≤ b.size → IsWithin p b
   fits_budget price is other cheap = record { points = no_more; price = price; is_price = is_price price is other; size = cheap }
 
+-- the passive program of an unrolled one that can be measured can be asked
+pub askable : (u : Unrolled) (q : Passive) → IsMeasurable u → IsPassiveOf u q → IsAskable q
+askable u q measurable of = record {
+  walkable = subst (λ (z : Unrolled). IsWalkable (unrolled_of z)) (sym of.of) measurable.walkable;
+  bytes = subst (λ (z : Unrolled). HasBytes (unrolled_of z)) (sym of.of) measurable.bytes;
+  runs = subst (λ (z : Unrolled). AreRuns z.known.items) (sym of.of) measurable.runs;
+  tells = subst (λ (z : Unrolled). IsPassive (unrolled_of z) (passive_of q)) (sym of.of) of.tells;
+}
+
 -- what an unrolled program comes to by its price
 module _ (b : Budget) (u : Unrolled) (price : ℕ) (is : price ≡ min (unrolled_price (unrolled_of u)) (2 ^ 128 - 1)) (other : price ≡ 2 ^ 128 - 1 → ⊥) where
   pub is_above : b.size < price → IsMeasured b u (Above price)
@@ -195,12 +204,7 @@ module _ (b : Budget) (u : Unrolled) (price : ℕ) (is : price ≡ min (unrolled
 
   pub is_within : price ≤ b.size → IsMeasurable u → (q : Passive) → IsPassiveOf u q → IsMeasured b u (Within q)
   is_within cheap measurable q of = (
-    record {
-      walkable = subst (λ (z : Unrolled). IsWalkable (unrolled_of z)) (sym of.of) measurable.walkable;
-      bytes = subst (λ (z : Unrolled). HasBytes (unrolled_of z)) (sym of.of) measurable.bytes;
-      runs = subst (λ (z : Unrolled). AreRuns z.known.items) (sym of.of) measurable.runs;
-      tells = subst (λ (z : Unrolled). IsPassive (unrolled_of z) (passive_of q)) (sym of.of) of.tells;
-    },
+    askable u q measurable of,
     λ p form h. (fits_budget p form b u h price is other cheap, subst (λ (z : Unrolled). IsGround p b.unroll form (unrolled_of z)) (sym of.of) h.ground),
   )
 

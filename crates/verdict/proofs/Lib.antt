@@ -7,3 +7,4 @@ pub mod Adding
 pub mod Grounding
 pub mod ThreeQuestions
 pub mod Certifies
+pub mod OneWay

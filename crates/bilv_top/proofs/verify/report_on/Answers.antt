@@ -3,7 +3,7 @@ use Rattle.std.proofs.lemmas.Result.{IfOk-weaker}
 use Rattle.bilv_spec.specs.Files.{program_of}
 use Rattle.bilv_top.specs.Answers.{answer_of}
 use Rattle.bilv_top.proofs.Founds.{rv_over, rv_readable, small_bytes}
-use Rattle.bilv_top.proofs.OneWay.{rv_has_one_way}
+use Rattle.verdict.proofs.OneWay.{rv_has_one_way}
 use Rattle.bilv_top.proofs.Verdicts.{verdict_reported}
 use Rattle.bilv_top.proofs.verify.report_on.Goals as goal
 use Rattle.command_line.specs.Commands.{budget_of}
