@@ -5,9 +5,10 @@ use Rattle.bilv_spec.specs.Outcomes.{Surroundings, Command}
 use Rattle.io_edges.specs.WriteFaults.{Stopped}
 use Rattle.io_edges.specs.declared.WriteFault.{WriteFault}
 use Rattle.io_edges.specs.declared.WriteFault.TheVariants.{Failed, Stuck}
-use Rattle.bilv_top.specs.Due.{IsDue, IsCut}
+use Rattle.bilv_spec.specs.Outcomes.{IsDueAnswer}
+use Rattle.bilv_top.specs.Due.{IsCut}
 
-pub cut_of : (s : Surroundings) (c : Option Command) (before after : Option (List ℕ)) (a : Answer) (e : WriteFault) → IsDue s c a →
+pub cut_of : (s : Surroundings) (c : Option Command) (before after : Option (List ℕ)) (a : Answer) (e : WriteFault) → IsDueAnswer s c a →
     Stopped before a.text after e →
     IsCut s c before after
 cut_of s c before after a (Failed written) due told =

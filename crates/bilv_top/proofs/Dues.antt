@@ -1,7 +1,7 @@
 -- Answers that are due.
 use Rattle.std.proofs.Common.{◌≡◌, ◌≢◌, ◌⊎◌, inl, inr, ℕ, ◌<◌, List, Bool, true, false, Option, Some, None, ap, sym, subst, ◌∙◌, arith}
 use Rattle.bilv_spec.specs.Run.{Program}
-use Rattle.bilv_spec.specs.Files.{is_rv, layout_of}
+use Rattle.bilv_spec.specs.Files.{layout_of}
 use Rattle.bilv_spec.specs.Refutation.{Cause}
 use Rattle.bilv_spec.specs.Run.{Start}
 use Rattle.bilv_spec.specs.Reports.{NamedEnding, Found}
@@ -11,10 +11,10 @@ use Rattle.bilv_spec.specs.Answers.{Answer, Budget, plain_answer, Evidence, Repo
 use Rattle.bilv_spec.specs.Certified as certified
 use Rattle.bilv_spec.specs.Certified.{IsCertified}
 use Rattle.bilv_spec.specs.Questions.{Question}
-use Rattle.bilv_spec.specs.Outcomes.{Surroundings, Command, Verify, Lift, Graph, Script, Replay, Certify, Check, SelfRun, read_fault, AfterRead, read_failed, was_read, AfterBoth}
+use Rattle.bilv_spec.specs.Outcomes.{Surroundings, Command, Verify, Lift, Graph, Script, Replay, Certify, Check, SelfRun, read_fault, AfterRead, read_failed, was_read, AfterBoth, IsLifted, IsGraphed, IsDueAnswer}
 use Rattle.bilv_spec.specs.Verified.{AfterImage, elf_refused, elf_accepted, AfterNotes, notes_refused, program_found, IsVerified}
+use Rattle.bilv_spec.specs.Scripts.{IsScriptAnswer, too_many_points, too_large, is_printed}
 use Rattle.bilv_spec.specs.Work.{work_file, work_notes}
-use Rattle.bilv_top.specs.Due.{IsDue, WhereBuilt, built, missing, not_built, IsLiftedSoFar, IsReplayedSoFar, replayed, unbuilt, IsGraphedSoFar, printed, bare}
 
 -- the statuses 7 and 8 are due to nothing
 abbrev pub IsPlain : ℕ → Type 0
@@ -34,9 +34,6 @@ plain_checked : (text written : List ℕ) (status : ℕ) → IsChecked text stat
 plain_checked text written status (large a) = (λ e. omega (arith, e), λ e. omega (arith, e))
 plain_checked text written status (refused n f a b) = (λ e. omega (arith, e), λ e. omega (arith, e))
 plain_checked text written status (checked cnf n a b) = plain_check _
-
-plain_not_built : (a : Answer) → a ≡ not_built → IsPlain a.status
-plain_not_built a is = plain_at a 10 (not_built.text) is (λ e. omega (arith, e), λ e. omega (arith, e))
 
 after_read : (s : Surroundings) (name : List ℕ) (Next : List ℕ → Answer → Type 0) (a : Answer) → ((file : List ℕ) → Next file a → IsPlain a.status) →
     AfterRead s name Next a → IsPlain a.status
@@ -63,9 +60,10 @@ plain_certified p b q status written e (certified.conflicts proof within spends)
 plain_certified p b q status written e (certified.satisfiable within is) = plain_number 1 (omega arith)
 plain_certified p b q status written e (certified.certified proof within none refutes) = plain_number 0 (omega arith)
 
-where_built : (file : List ℕ) (Next : Answer → Type 0) (a : Answer) → (Next a → IsPlain a.status) → WhereBuilt file Next a → IsPlain a.status
-where_built file Next a step (built is next) = step next
-where_built file Next a step (missing is a_is) = plain_not_built a a_is
+plain_scripted : (p : Program) (layout : Layout) (b : Budget) (q : Question) (a : Answer) → IsScriptAnswer p layout b q a → IsPlain a.status
+plain_scripted p layout b q a (too_many_points more is) = subst IsPlain (sym (ap (λ x. x.status) is)) (plain_number 3 (omega arith))
+plain_scripted p layout b q a (too_large price few at less is) = subst IsPlain (sym (ap (λ x. x.status) is)) (plain_number 3 (omega arith))
+plain_scripted p layout b q a (is_printed text within script is) = plain_at a 0 text is (plain_number 0 (omega arith))
 
 after_notes : (file text : List ℕ) (Next : Program → Answer → Type 0) (a : Answer) → ((p : Program) → Next p a → IsPlain a.status) →
     AfterNotes file text Next a →
@@ -97,15 +95,14 @@ plain_sized : (b : Bool) (p : Program) (layout : Layout) (text : List ℕ) → I
 plain_sized true p layout text = plain_nine
 plain_sized false p layout text = plain_told p layout _
 
-replayed_so_far : (s : Surroundings) (report file : List ℕ) (p : Program) (a : Answer) → IsReplayedSoFar s report file p a → IsPlain a.status
-replayed_so_far s report file p a (replayed x due) =
+plain_replayed : (s : Surroundings) (report file : List ℕ) (p : Program) (a : Answer) →
+    AfterRead s report (λ text b. b ≡ replay_answer p (layout_of file) text) a → IsPlain a.status
+plain_replayed s report file p a =
     after_read s report (λ text b. b ≡ replay_answer p (layout_of file) text) a
-    (λ text is. subst IsPlain (sym (ap (λ x. x.status) is)) (plain_sized _ p (layout_of file) text)) due
-replayed_so_far s report file p a (unbuilt x is) = plain_not_built a is
+    (λ text is. subst IsPlain (sym (ap (λ x. x.status) is)) (plain_sized _ p (layout_of file) text))
 
-graphed_so_far : (file : List ℕ) (p : Program) (a : Answer) → IsGraphedSoFar file p a → IsPlain a.status
-graphed_so_far file p a (printed x is) = plain_at a 0 is.0 is.2 (plain_number 0 (omega arith))
-graphed_so_far file p a (bare x is) = plain_not_built a is
+plain_graphed : (p : Program) (a : Answer) → IsGraphed p a → IsPlain a.status
+plain_graphed p a is = plain_at a 0 is.0 is.2 (plain_number 0 (omega arith))
 
 after_image : (file : List ℕ) (Next : Answer → Type 0) (a : Answer) → (Next a → IsPlain a.status) → AfterImage file Next a → IsPlain a.status
 after_image file Next a step (elf_refused written x is) = plain_at a 4 written is (plain_number 4 (omega arith))
@@ -123,33 +120,33 @@ plain_verified file text b a =
     after_image file (AfterNotes file text (λ p. IsReported p (layout_of file) b)) a
     (after_notes file text (λ p. IsReported p (layout_of file) b) a (λ p. plain_reported p (layout_of file) b a))
 
-pub due_is_plain : (s : Surroundings) (c : Option Command) (a : Answer) → IsDue s c a → IsPlain a.status
+pub due_is_plain : (s : Surroundings) (c : Option Command) (a : Answer) → IsDueAnswer s c a → IsPlain a.status
 due_is_plain s None a is = plain_at a 2 _ is (plain_number 2 (omega arith))
 due_is_plain s (Some (Verify elf notes b)) a due =
-    after_both s elf notes (λ file p. WhereBuilt file (IsReported p (layout_of file) b)) a
-    (λ file p. where_built file (IsReported p (layout_of file) b) a (plain_reported p (layout_of file) b a)) due
+    after_both s elf notes (λ file p. IsReported p (layout_of file) b) a (λ file p. plain_reported p (layout_of file) b a) due
 due_is_plain s (Some (Check name)) a due =
     after_read s name _ a (λ text p. plain_checked text a.text a.status p.0) due
 due_is_plain s (Some (Lift elf)) a due =
-    after_read s elf (λ file. AfterImage file (IsLiftedSoFar file)) a
-    (λ file. after_image file (IsLiftedSoFar file) a (λ is. plain_at a 0 is.0 is.2 (plain_number 0 (omega arith)))) due
-due_is_plain s (Some (Graph elf notes)) a due = after_both s elf notes IsGraphedSoFar a (λ file p. graphed_so_far file p a) due
-due_is_plain s (Some (Script elf notes q b)) a is = plain_not_built a is
+    after_read s elf (λ file. AfterImage file (IsLifted file)) a
+    (λ file. after_image file (IsLifted file) a (λ is. plain_at a 0 is.0 is.2 (plain_number 0 (omega arith)))) due
+due_is_plain s (Some (Graph elf notes)) a due = after_both s elf notes (λ file p. IsGraphed p) a (λ file p. plain_graphed p a) due
+due_is_plain s (Some (Script elf notes q b)) a due =
+    after_both s elf notes (λ file p. IsScriptAnswer p (layout_of file) b q) a (λ file p. plain_scripted p (layout_of file) b q a) due
 due_is_plain s (Some (Replay elf notes report)) a due =
-    after_both s elf notes (λ file p. IsReplayedSoFar s report file p) a (λ file p. replayed_so_far s report file p a) due
+    after_both s elf notes (λ file p. AfterRead s report (λ text b. b ≡ replay_answer p (layout_of file) text)) a
+    (λ file p. plain_replayed s report file p a) due
 due_is_plain s (Some (Certify elf notes q b)) a due =
-    after_both s elf notes (λ file p. WhereBuilt file (λ x. IsCertified p b q x.status x.text x.evidence)) a
-    (λ file p. where_built file (λ x. IsCertified p b q x.status x.text x.evidence) a (plain_certified p b q a.status a.text a.evidence)) due
+    after_both s elf notes (λ file p x. IsCertified p b q x.status x.text x.evidence) a (λ file p. plain_certified p b q a.status a.text a.evidence) due
 due_is_plain s (Some (SelfRun seed count)) a due =
     subst IsPlain (sym (ap (λ x. x.status) due.4)) (plain_verified (work_file seed count) (work_notes seed count) default_budget due.0 due.2)
 
 -- so neither status comes of a due answer
-pub not_seven : (s : Surroundings) (c : Option Command) (a : Answer) → IsDue s c a → a.status ≡ 7 → ⊥
+pub not_seven : (s : Surroundings) (c : Option Command) (a : Answer) → IsDueAnswer s c a → a.status ≡ 7 → ⊥
 not_seven s c a due is = (due_is_plain s c a due).0 is
 
-pub not_eight : (s : Surroundings) (c : Option Command) (a : Answer) → IsDue s c a → a.status ≡ 8 → ⊥
+pub not_eight : (s : Surroundings) (c : Option Command) (a : Answer) → IsDueAnswer s c a → a.status ≡ 8 → ⊥
 not_eight s c a due is = (due_is_plain s c a due).1 is
 
-pub neither : (s : Surroundings) (c : Option Command) (a : Answer) → IsDue s c a → (a.status ≡ 7) ⊎ (a.status ≡ 8) → ⊥
+pub neither : (s : Surroundings) (c : Option Command) (a : Answer) → IsDueAnswer s c a → (a.status ≡ 7) ⊎ (a.status ≡ 8) → ⊥
 neither s c a due (inl is) = not_seven s c a due is
 neither s c a due (inr is) = not_eight s c a due is

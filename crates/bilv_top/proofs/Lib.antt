@@ -2,7 +2,6 @@ pub mod Checked
 pub mod Dues
 pub mod Refused
 pub mod Reported
-pub mod Lifts
 pub mod Graphed
 pub mod Cut
 pub mod Verdicts

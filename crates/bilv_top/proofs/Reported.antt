@@ -1,16 +1,14 @@
 -- What the command that replays answers.
-use Rattle.std.proofs.Common.{◌≡◌, ℕ, ◌≤◌, ◌<◌, List, length, true, ap, sym, ◌∙◌, arith}
+use Rattle.std.proofs.Common.{◌≡◌, ◌<◌, List, length, ℕ, true, ap, sym, ◌∙◌, arith}
 use Rattle.std.proofs.lemmas.Bool.Decides.{nat_tests}
 use Rattle.std.specs.Prelude.{codes, nat_lt}
 use Rattle.bilv_spec.specs.Run.{Program}
 use Rattle.bilv_spec.specs.StateText.{Layout}
 use Rattle.bilv_spec.specs.Texts.{line}
 use Rattle.bilv_spec.specs.Answers.{Answer, plain_answer}
-use Rattle.bilv_spec.specs.Files.{layout_of}
 use Rattle.bilv_spec.specs.Outcomes.{Surroundings, AfterRead, read_failed, was_read}
 use Rattle.bilv_spec.specs.Replays.{replay_answer, sized_answer, text_limit}
-use Rattle.bilv_top.specs.Due.{IsUnread, failed, longer, IsReplayedSoFar, replayed, unbuilt}
-use Rattle.bilv_top.proofs.Refused.{read_since}
+use Rattle.bilv_top.specs.Due.{IsUnread, failed, longer}
 
 -- a report that is too long
 report_large : (p : Program) (layout : Layout) (text : List ℕ) → text_limit < length text →
@@ -25,11 +23,3 @@ pub report_unread : (s : Surroundings) (name : List ℕ) (p : Program) (layout :
     AfterRead s name (λ text b. b ≡ replay_answer p layout text) a
 report_unread s name p layout a (failed rose is) = read_failed rose is
 report_unread s name p layout a (longer long is) = was_read long.0 long.1 (is ∙ sym (report_large p layout long.0 long.2))
-
--- what is answered to a report whose count never fell before
-pub replayed_since : (s t : Surroundings) (report file : List ℕ) (p : Program) (a : Answer) → s.held report ≡ t.held report →
-    t.shelf_before report ≤ s.shelf_before report → s.shelf_after report ≡ t.shelf_after report → IsReplayedSoFar s report file p a →
-    IsReplayedSoFar t report file p a
-replayed_since s t report file p a held le same (replayed is due) =
-    replayed is (read_since s t report (λ text b. b ≡ replay_answer p (layout_of file) text) a held le same due)
-replayed_since s t report file p a held le same (unbuilt is a_is) = unbuilt is a_is

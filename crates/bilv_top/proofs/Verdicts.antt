@@ -1,34 +1,36 @@
 -- What verdicts and certified questions answer.
-use Rattle.std.proofs.Common.{◌≡◌, ℕ, List, true, false, refl, ap, sym, subst, ◌∙◌}
-use Rattle.std.specs.Prelude.{codes, if◌then◌else◌}
+use Rattle.std.proofs.Common.{◌≡◌, ℕ, List, ap, sym, subst, ◌∙◌}
+use Rattle.std.specs.Prelude.{codes}
 use Rattle.bilv_spec.specs.Run.{Program}
 use Rattle.bilv_spec.specs.Questions.{Question}
-use Rattle.bilv_spec.specs.StateText.{Layout, rv_layout, arm_layout}
-use Rattle.bilv_spec.specs.Elf.{file_endian}
-use Rattle.bilv_spec.specs.Files.{is_rv, layout_of}
+use Rattle.bilv_spec.specs.StateText.{Layout}
+use Rattle.bilv_spec.specs.Files.{layout_of}
 use Rattle.bilv_spec.specs.Texts.{line}
 use Rattle.bilv_spec.specs.Answers.{Answer, Budget, Count, SpentOn, budget_text, plain_answer, report_answer, IsReported, IsRightReport}
 use Rattle.bilv_spec.specs.Certificates.{certificate_text}
 use Rattle.bilv_spec.specs.Certified as spec
 use Rattle.bilv_spec.specs.Certified.{IsCertified}
+use Rattle.bilv_spec.specs.Scripts.{IsScriptAnswer, too_many_points, too_large}
 use Rattle.cnf_form.specs.Views.{cnf_of, lines_of, proof_of}
 use Rattle.cnf_form.specs.declared.form.Proof.{Proof}
-use Rattle.verdict.specs.Verdicts.{budget_of, report_of, evidence_of, IsVerdict, IsCertificate}
+use Rattle.verdict.specs.Verdicts.{budget_of, report_of, evidence_of, IsVerdict, IsCertificate, IsScripted}
 use Rattle.verdict.specs.declared.verdicts.Budget.{Budget as Limits}
 use Rattle.verdict.specs.declared.verdicts.Verdict.{Verdict}
 use Rattle.verdict.specs.declared.verdicts.Certified.{Certified}
+use Rattle.verdict.specs.declared.verdicts.Scripted.{Scripted}
+use Rattle.verdict.specs.declared.verdicts.Scripted.TheVariants as scripted
 use Rattle.verdict.specs.declared.verdicts.Certified.TheVariants.{Points, Size, Conflicts, Satisfiable, Refuted}
 
--- the layout of a file of RISC-V
-rv_written : (file : List ℕ) → is_rv file ≡ true → rv_layout ≡ layout_of file
-rv_written file is = sym (ap (λ b. if b then rv_layout else arm_layout (file_endian file)) is)
-
 -- the report of a verdict is right
-pub verdict_reported : (file : List ℕ) (p : Program) (b : Budget) (l : Limits) (v : Verdict) (a : Answer) → is_rv file ≡ true → budget_of l ≡ b →
-    IsVerdict p rv_layout l v → a ≡ report_answer rv_layout b (report_of v) (evidence_of v) → IsReported p (layout_of file) b a
-verdict_reported file p b l v a rv same right is =
-    subst (λ layout. IsReported p layout b a) (rv_written file rv)
-    (report_of v, evidence_of v, subst (λ x. IsRightReport p rv_layout x (report_of v) (evidence_of v)) same right, is)
+pub verdict_reported : (file : List ℕ) (p : Program) (form written : Layout) (b : Budget) (l : Limits) (v : Verdict) (a : Answer) → layout_of file ≡ form →
+    written ≡ form → budget_of l ≡ b → IsVerdict p form l v → a ≡ report_answer written b (report_of v) (evidence_of v) → IsReported p (layout_of file) b a
+verdict_reported file p form written b l v a has writes same right is =
+    subst (λ layout. IsReported p layout b a) (sym has) (
+      report_of v,
+      evidence_of v,
+      subst (λ x. IsRightReport p form x (report_of v) (evidence_of v)) same right,
+      is ∙ ap (λ layout. report_answer layout b (report_of v) (evidence_of v)) writes,
+    )
 
 -- the answer to a question
 abbrev IsSaid : Program → Budget → Question → Answer → Type 0
@@ -60,3 +62,22 @@ module _ (p : Program) (b : Budget) (q : Question) (a : Answer) where
 pub question_certified : (p : Program) (b l : Budget) (q r : Question) (v : Certified) (a : Answer) → l ≡ b → q ≡ r → IsCertificate p l q v →
     ((p : Program) → IsCertificate p b q v → IsCertified p b q a.status a.text a.evidence) → IsCertified p b r a.status a.text a.evidence
 question_certified p b l q r v a same asks came said = subst (λ x. IsSaid p b x a) asks (said p (subst (λ x. IsCertificate p x q v) same came))
+
+-- what the script of a question answers
+module _ (p : Program) (layout : Layout) (b : Budget) (q : Question) (a : Answer) where
+  pub many_scripted : (count : ℕ) → a ≡ record { status = 3; text = budget_text (codes "points") b.points; evidence = Count count } →
+      IsScripted p layout b q (scripted.Points count) → IsScriptAnswer p layout b q a
+  many_scripted count is came =
+      too_many_points came.0 (is ∙ ap (λ n. record { status = 3; text = budget_text (codes "points") b.points; evidence = Count n }) came.1)
+
+  pub large_scripted : (price : ℕ) → a ≡ record { status = 3; text = budget_text (codes "size") b.size; evidence = Count price } →
+      IsScripted p layout b q (scripted.Size price) → IsScriptAnswer p layout b q a
+  large_scripted price is came = too_large price came.0 came.1 came.2 is
+
+-- the script of a question of the command line, within its budgets
+pub question_scripted : (file : List ℕ) (p : Program) (form : Layout) (b l : Budget) (q r : Question) (v : Scripted) (a : Answer) → layout_of file ≡ form →
+    l ≡ b → q ≡ r → IsScripted p form l q v → ((layout : Layout) (x : Question) → IsScripted p layout b x v → IsScriptAnswer p layout b x a) →
+    IsScriptAnswer p (layout_of file) b r a
+question_scripted file p form b l q r v a has same asked came said =
+    let here = subst (λ z. IsScripted p form z q v) same came in
+    said (layout_of file) r (subst (λ z. IsScripted p z b r v) (sym has) (subst (λ z. IsScripted p form b z v) asked here))

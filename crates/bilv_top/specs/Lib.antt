@@ -3,3 +3,4 @@ pub mod Due
 pub mod Names
 pub mod Read
 pub mod Ends
+pub mod Chosen

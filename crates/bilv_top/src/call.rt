@@ -1,11 +1,11 @@
 //! The public call.
-ghost use Rattle.std.specs.Prelude.{◌≡◌, ◌≢◌, ◌⊎◌, IfOk, map, string_bytes, Option};
-ghost use Rattle.bilv_spec.specs.Outcomes.{IsLawfulCommand};
+ghost use Rattle.std.specs.Prelude.{◌≡◌, ◌≢◌, ◌⊎◌, IfOk, map, string_bytes};
+ghost use Rattle.bilv_spec.specs.Outcomes.{IsDueAnswer, IsLawfulCommand, IsRightAnswer};
 ghost use Rattle.bilv_spec.specs.Outside.{Rose};
 ghost use Rattle.command_line.specs.Commands.{command_of};
 ghost use Rattle.command_line.specs.Lines.{lawful_command};
 ghost use Rattle.bilv_top.specs.Answers.{answer_of, evidence_of, seen};
-ghost use Rattle.bilv_top.specs.Due.{IsCut, IsDue, IsDueTo, IsWhole};
+ghost use Rattle.bilv_top.specs.Due.{IsCut, IsWhole};
 
 use crate::answer::{Answer, Evidence};
 use crate::certificate::check_certificate;
@@ -14,6 +14,7 @@ use crate::graph::graph;
 use crate::lift::lift;
 use crate::reading::answer;
 use crate::replay::replay;
+use crate::script::script;
 use crate::selfrun::selfrun;
 use crate::verify::verify;
 use command_line::{Command, LineError, read_command};
@@ -22,11 +23,10 @@ use std::alloc::{AllocError, Global};
 
 /// The answer of the program: its exit status, and what shows that it is right.
 ///
-/// The exit status is 0 for the verdicts `holds` and `vacuous`, for lifted words, for a flow graph, for a report that was replayed, for a certificate that is
-/// printed or accepted; 1 for the verdict `fails` and for a question that is satisfiable; 2 for an unlawful line; 3 for what stays unknown within the budgets;
-/// 4 for a refused ELF file;
-/// 5 for refused notes; 6 for a file that could not be read; 7 for a write that failed; 8 for want of memory; 9 for a report that is not what its replay finds
-/// and for a certificate that is not accepted; and 10 for what is not built.
+/// The exit status is 0 for the verdicts `holds` and `vacuous`, for lifted words, for a flow graph, for the script of a question, for a report that was
+/// replayed, for a certificate that is printed or accepted; 1 for the verdict `fails` and for a question that is satisfiable; 2 for an unlawful line; 3 for
+/// what stays unknown within the budgets; 4 for a refused ELF file; 5 for refused notes; 6 for a file that could not be read; 7 for a write that failed; 8 for
+/// want of memory; 9 for a report that is not what its replay finds and for a certificate that is not accepted.
 #[derive(Drop)]
 pub struct Outcome {
     pub status: u8,
@@ -36,12 +36,18 @@ pub struct Outcome {
 /// The answer that is due to a command.
 fn obey<H: Shelf>(alloc: Global, command: Command, shelf: &mut H) -> Result<Answer, AllocError>
     requires { IsLawfulCommand (command_of command) }
-    ensures { IfOk result (λ a. IsDueTo (seen (H.holds shelf.old) (H.faults shelf.old) (H.faults shelf.new)) (command_of command.entry) (answer_of a)) }
+    ensures { IfOk result (λ a. IsRightAnswer (seen (H.holds shelf.old) (H.faults shelf.old) (H.faults shelf.new)) (command_of command.entry) (answer_of a)) }
 {
     match command {
         Command::Verify { elf, notes, budget } => verify(alloc, shelf, elf, notes, budget),
         Command::Lift { elf } => lift(alloc, shelf, elf),
         Command::Graph { elf, notes } => graph(alloc, shelf, elf, notes),
+        Command::Script {
+            elf,
+            notes,
+            question,
+            budget,
+        } => script(alloc, shelf, elf, notes, question, budget),
         Command::Replay { elf, notes, state } => replay(alloc, shelf, elf, notes, state),
         Command::Certify {
             elf,
@@ -51,13 +57,12 @@ fn obey<H: Shelf>(alloc: Global, command: Command, shelf: &mut H) -> Result<Answ
         } => certify(alloc, shelf, elf, notes, question, budget),
         Command::Check { certificate } => check_certificate(alloc, shelf, certificate),
         Command::SelfRun { seed, count } => selfrun(alloc, seed, count),
-        _ => answer(alloc, 10, b"not built\n"),
     }
 }
 
 /// The answer that is due to words.
 fn due<H: Shelf>(alloc: Global, words: &[String], shelf: &mut H) -> Result<Answer, AllocError>
-    ensures { IfOk result (λ a. IsDue (seen (H.holds shelf.old) (H.faults shelf.old) (H.faults shelf.new))
+    ensures { IfOk result (λ a. IsDueAnswer (seen (H.holds shelf.old) (H.faults shelf.old) (H.faults shelf.new))
         (lawful_command (map (λ w. string_bytes w) words.now)) (answer_of a)) }
 {
     match read_command(alloc, words) {

@@ -1,13 +1,13 @@
 //! The command that certifies a question.
-ghost use Rattle.std.specs.Prelude.{◌≡◌, true, IfOk};
+ghost use Rattle.std.specs.Prelude.{◌≡◌, IfOk};
 ghost use Rattle.bilv_spec.specs.Answers.{IsBudget, plain_answer};
 ghost use Rattle.bilv_spec.specs.Certificates.{certificate_text};
 ghost use Rattle.bilv_spec.specs.Certified.{IsCertified};
-ghost use Rattle.bilv_spec.specs.Files.{is_rv, program_of};
-ghost use Rattle.bilv_spec.specs.Outcomes.{Certify};
+ghost use Rattle.bilv_spec.specs.Files.{machine_of, program_of};
+ghost use Rattle.bilv_spec.specs.Outcomes.{Certify, IsRightAnswer};
 ghost use Rattle.bilv_spec.specs.Run.{Program};
 ghost use Rattle.bilv_top.specs.Answers.{answer_of, seen};
-ghost use Rattle.bilv_top.specs.Due.{IsDueTo, IsFoundBy, WhereBuilt};
+ghost use Rattle.bilv_top.specs.Due.{IsFoundBy};
 ghost use Rattle.cnf_form.specs.Views.{cnf_of, lines_of};
 ghost use Rattle.command_line.specs.Commands.{budget_of, question_of};
 ghost use Rattle.notes_lang.specs.Drafting.{notes_of};
@@ -16,26 +16,27 @@ ghost use Rattle.verdict.specs.Verdicts.{IsCertificate};
 
 use crate::answer::{Answer, Evidence, Step};
 use crate::inputs::{Found, read_elf, read_program};
+use crate::machines::layout;
 use crate::reading::answer;
 use crate::reports::{exceeded, limits};
+use arm_lift::Arm;
 use cnf_form::{Proof, print_cnf};
 use command_line::{Budget, Question};
 use elf32_reader::Image;
 use io_edges::Shelf;
+use machine_law::Machine;
 use question_form::Kind;
 use refutation_checker::print_lrat;
 use rv_lift::Rv32;
+use state_text::Layout;
 use std::alloc::{AllocError, Global};
 use verdict::{Certified, certify as certificate_of};
 
 /// The status of a question that is true of some reading.
 const SATISFIABLE: u8 = 1;
 
-/// The status of what is not built.
-const NOT_BUILT: u8 = 10;
-
 /// The question of the command line.
-fn asked(question: Question) -> Kind
+pub fn asked(question: Question) -> Kind
     ensures { kind_of result ≡ question_of question }
 {
     match question {
@@ -91,8 +92,8 @@ fn say(
     }
 }
 
-/// The answer to a question about a program of RISC-V, whose file has these bytes. The error is want of memory.
-fn certify_question(
+/// The answer to a question about a program of a machine, whose file has these bytes. The error is want of memory.
+fn certify_by<M: Machine>(
     alloc: Global,
     file: &[u8],
     image: &Image,
@@ -100,7 +101,7 @@ fn certify_question(
     budget: Budget,
     question: Question,
 ) -> Result<Answer, AllocError>
-    requires machine { is_rv image.now ≡ true }
+    requires machine { machine_of image.now ≡ M.machine }
     requires same { image.now ≡ file.now }
     requires found { IsFoundBy image.now found.now }
     requires budget { IsBudget (budget_of budget) }
@@ -109,11 +110,11 @@ fn certify_question(
 {
     let limits = limits(budget);
     let kind = asked(question);
-    let certified = certificate_of::<Rv32>(alloc, image, &found.notes, found.entry, &limits, kind)?;
+    let certified = certificate_of::<M>(alloc, image, &found.notes, found.entry, &limits, kind)?;
     say(alloc, budget, kind, certified)
 }
 
-/// The answer to a question about a program; for ARM it is not built. The error is want of memory.
+/// The answer to a question about a program, whose file has these bytes. The error is want of memory.
 fn certify_program(
     alloc: Global,
     file: &[u8],
@@ -125,13 +126,14 @@ fn certify_program(
     requires same { image.now ≡ file.now }
     requires found { IsFoundBy image.now found.now }
     requires budget { IsBudget (budget_of budget) }
-    ensures { IfOk result (λ a. WhereBuilt image.now (λ due. IsCertified (program_of image.now (notes_of found.now.notes) found.now.entry) (budget_of budget)
-        (question_of question) due.status due.text due.evidence) (answer_of a)) }
+    ensures { IfOk result (λ a. IsCertified (program_of image.now (notes_of found.now.notes) found.now.entry) (budget_of budget) (question_of question)
+        (answer_of a).status (answer_of a).text (answer_of a).evidence) }
 {
-    if image.is_risc_v() {
-        return certify_question(alloc, file, image, found, budget, question);
+    match layout(image) {
+        Layout::Rv32 => certify_by::<Rv32>(alloc, file, image, found, budget, question),
+        Layout::ArmLittle => certify_by::<Arm<0>>(alloc, file, image, found, budget, question),
+        Layout::ArmBig => certify_by::<Arm<1>>(alloc, file, image, found, budget, question),
     }
-    answer(alloc, NOT_BUILT, b"not built\n")
 }
 
 /// Certifies a question about the program that the ELF file and the notes of two names are. The error is want of memory, which a price of 2^128 - 1 or more
@@ -145,7 +147,7 @@ pub fn certify<H: Shelf>(
     budget: Budget,
 ) -> Result<Answer, AllocError>
     requires budget { IsBudget (budget_of budget) }
-    ensures { IfOk result (λ a. IsDueTo (seen (H.holds shelf.old) (H.faults shelf.old) (H.faults shelf.new))
+    ensures { IfOk result (λ a. IsRightAnswer (seen (H.holds shelf.old) (H.faults shelf.old) (H.faults shelf.new))
         (Certify elf.now notes.now (question_of question) (budget_of budget)) (answer_of a)) }
 {
     let file = match read_elf(alloc, shelf, elf)? {

@@ -1,49 +1,57 @@
 //! The command that prints flow graphs.
-ghost use Rattle.std.specs.Prelude.{◌≡◌, true, IfOk};
-ghost use Rattle.bilv_spec.specs.Files.{is_rv, program_of};
+ghost use Rattle.std.specs.Prelude.{◌≡◌, IfOk};
+ghost use Rattle.bilv_spec.specs.Files.{machine_of, program_of};
 ghost use Rattle.bilv_spec.specs.GraphText.{IsGraphText};
-ghost use Rattle.bilv_spec.specs.Outcomes.{Graph};
+ghost use Rattle.bilv_spec.specs.Outcomes.{Graph, IsGraphed, IsRightAnswer};
 ghost use Rattle.notes_lang.specs.Drafting.{notes_of};
 ghost use Rattle.bilv_top.specs.Answers.{answer_of, seen};
-ghost use Rattle.bilv_top.specs.Due.{IsDueTo, IsGraphedSoFar};
 
 use crate::answer::{Answer, Evidence, Step};
-use crate::flow::rv_graph;
 use crate::inputs::{Found, read_elf, read_program};
-use crate::reading::answer;
+use crate::machines::layout;
+use arm_lift::Arm;
 use elf32_reader::Image;
 use flag_live::trim;
+use flow_graph::descend;
 use graph_text::print_graph;
 use io_edges::Shelf;
+use machine_law::Machine;
+use rv_lift::Rv32;
+use state_text::Layout;
 use std::alloc::{AllocError, Global};
 
-/// The status of what is not built.
-const NOT_BUILT: u8 = 10;
-
-/// The text of the flow graph of a program of RISC-V, with the flags whose assignment is live. The error is want of memory.
-fn live_text(alloc: Global, image: &Image, found: &Found) -> Result<Vec<u8>, AllocError>
-    requires machine { is_rv image.now ≡ true }
+/// The text of the flow graph of a program of a machine, with the flags whose assignment is live. The error is want of memory.
+fn live_text<M: Machine>(alloc: Global, image: &Image, found: &Found) -> Result<Vec<u8>, AllocError>
+    requires machine { machine_of image.now ≡ M.machine }
     ensures { IfOk result (λ v. IsGraphText (program_of image.now (notes_of found.now.notes) found.now.entry) v.items) }
 {
-    let whole = rv_graph(alloc, image, found)?;
+    let whole = descend::<M>(alloc, image, &found.notes, found.entry)?;
     let live = trim(alloc, &whole)?;
     let text = print_graph(alloc, &live)?;
     Ok(text)
 }
 
-/// The answer that prints the flow graph of a program; for ARM it is not built. The error is want of memory.
-fn print_program(alloc: Global, image: &Image, found: &Found) -> Result<Answer, AllocError>
-    ensures { IfOk result (λ a. IsGraphedSoFar image.now (program_of image.now (notes_of found.now.notes) found.now.entry) (answer_of a)) }
+/// The text of the flow graph of a program. The error is want of memory.
+fn text_of(alloc: Global, image: &Image, found: &Found) -> Result<Vec<u8>, AllocError>
+    ensures { IfOk result (λ v. IsGraphText (program_of image.now (notes_of found.now.notes) found.now.entry) v.items) }
 {
-    if image.is_risc_v() {
-        let text = live_text(alloc, image, found)?;
-        return Ok(Answer {
-            status: 0,
-            text,
-            evidence: Evidence::None,
-        });
+    match layout(image) {
+        Layout::Rv32 => live_text::<Rv32>(alloc, image, found),
+        Layout::ArmLittle => live_text::<Arm<0>>(alloc, image, found),
+        Layout::ArmBig => live_text::<Arm<1>>(alloc, image, found),
     }
-    answer(alloc, NOT_BUILT, b"not built\n")
+}
+
+/// The answer that prints the flow graph of a program. The error is want of memory.
+fn print_program(alloc: Global, image: &Image, found: &Found) -> Result<Answer, AllocError>
+    ensures { IfOk result (λ a. IsGraphed (program_of image.now (notes_of found.now.notes) found.now.entry) (answer_of a)) }
+{
+    let text = text_of(alloc, image, found)?;
+    Ok(Answer {
+        status: 0,
+        text,
+        evidence: Evidence::None,
+    })
 }
 
 /// Prints the flow graph of the program that the ELF file and the notes of two names are. The error is want of memory.
@@ -53,7 +61,7 @@ pub fn graph<H: Shelf>(
     elf: &str,
     notes: &str,
 ) -> Result<Answer, AllocError>
-    ensures { IfOk result (λ a. IsDueTo (seen (H.holds shelf.old) (H.faults shelf.old) (H.faults shelf.new)) (Graph elf.now notes.now) (answer_of a)) }
+    ensures { IfOk result (λ a. IsRightAnswer (seen (H.holds shelf.old) (H.faults shelf.old) (H.faults shelf.new)) (Graph elf.now notes.now) (answer_of a)) }
 {
     let file = match read_elf(alloc, shelf, elf)? {
         Step::Go(file) => file,

@@ -1,25 +1,24 @@
 //! The inputs of commands: an ELF file, and notes over it; and the answers where they are refused.
 ghost use Rattle.std.specs.Prelude.{◌≡◌, ◌≤◌, ℕ, List, IfOk, MatchResult, codes, length};
 ghost use Rattle.bilv_spec.specs.Answers.{plain_answer};
-ghost use Rattle.bilv_spec.specs.Files.{IsFunctionAt, machine_of, names_of};
+ghost use Rattle.bilv_spec.specs.Files.{IsFunctionAt};
 ghost use Rattle.bilv_spec.specs.Outside.{Agrees};
 ghost use Rattle.bilv_spec.specs.Texts.{line};
 ghost use Rattle.bilv_spec.specs.Verified as verified;
 ghost use Rattle.bilv_spec.specs.Verified.{AfterImage, IsAccepted};
 ghost use Rattle.notes_lang.specs.Judging.{fault_of};
-ghost use Rattle.notes_lang.specs.Parsing.{layout_flags, layout_names, layout_registers};
 ghost use Rattle.notes_lang.specs.Saying.{function_of};
 ghost use Rattle.bilv_top.specs.Answers.{IsOfFile, IfStep, answer_of, elf_text_of};
 ghost use Rattle.bilv_top.specs.Due.{AreNotesAnswered, IsFoundBy, IsNotesAnswer, IsUnread};
 ghost use Rattle.bilv_top.specs.Names.{missed_text, IsMissedFunction};
 
 use crate::answer::{Answer, Evidence, Step};
+use crate::machines::layout;
 use crate::reading::{answer, read_or_answer};
 use crate::texts::{ambiguous_line, elf_fault_line, note_fault_words, refused_line};
 use elf32_reader::{ElfFault, Image, SymFault, read_image};
 use io_edges::Shelf;
 use notes_lang::{Function, NoteFault, Notes, NotesError, parse};
-use state_text::Layout;
 use std::alloc::{AllocError, Global};
 
 /// The most bytes of an ELF file.
@@ -40,21 +39,6 @@ pub struct Found {
     pub text: Vec<u8>,
     pub notes: Notes,
     pub entry: u32,
-}
-
-/// The form of a file's machine.
-fn layout(image: &Image) -> Layout
-    ensures names { layout_names result ≡ names_of image.now }
-    ensures registers { layout_registers result ≡ (machine_of image.now).has_register }
-    ensures flags { layout_flags result ≡ (machine_of image.now).has_flag }
-{
-    if image.is_risc_v() {
-        Layout::Rv32
-    } else if image.big() {
-        Layout::ArmBig
-    } else {
-        Layout::ArmLittle
-    }
 }
 
 /// Reads an ELF file, or answers.

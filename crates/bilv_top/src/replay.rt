@@ -1,37 +1,76 @@
 //! The command that replays.
-ghost use Rattle.std.specs.Prelude.{◌≡◌, true, IfOk};
+ghost use Rattle.std.specs.Prelude.{◌≡◌, IfOk};
 ghost use Rattle.bilv_spec.specs.Answers.{plain_answer};
-ghost use Rattle.bilv_spec.specs.Files.{is_rv, layout_of, program_of};
-ghost use Rattle.bilv_spec.specs.Outcomes.{AfterRead, Replay};
+ghost use Rattle.bilv_spec.specs.Files.{layout_of, machine_of, program_of};
+ghost use Rattle.bilv_spec.specs.Outcomes.{AfterRead, IsRightAnswer, Replay};
 ghost use Rattle.bilv_spec.specs.Replays.{replay_answer, text_limit};
 ghost use Rattle.notes_lang.specs.Drafting.{notes_of};
 ghost use Rattle.bilv_top.specs.Answers.{answer_of, seen};
-ghost use Rattle.bilv_top.specs.Due.{IsDueTo, IsFoundBy, IsReplayedSoFar};
+ghost use Rattle.bilv_top.specs.Due.{IsFoundBy};
 
 use crate::answer::{Answer, Evidence, Step};
 use crate::inputs::{Found, read_elf, read_program};
-use crate::reading::{answer, read_or_answer};
+use crate::machines::layout;
+use crate::reading::read_or_answer;
+use arm_lift::Arm;
 use elf32_reader::Image;
 use io_edges::Shelf;
+use machine_law::Machine;
 use report_replay::{REPORT_LIMIT, replay as replay_text};
 use rv_lift::Rv32;
+use state_text::Layout;
 use std::alloc::{AllocError, Global};
 
 /// The status of a report that is not what its replay finds.
 const REFUSED: u8 = 9;
 
-/// The status of what is not built.
-const NOT_BUILT: u8 = 10;
+/// Replays the text of a report over a program of a machine. The error is want of memory.
+fn replay_by<M: Machine>(
+    alloc: Global,
+    image: &Image,
+    found: &Found,
+    text: &[u8],
+) -> Result<Answer, AllocError>
+    requires machine { machine_of image.now ≡ M.machine }
+    requires form { layout_of image.now ≡ M.form }
+    requires found { IsFoundBy image.now found.now }
+    ensures { IfOk result (λ a. answer_of a
+        ≡ replay_answer (program_of image.now (notes_of found.now.notes) found.now.entry) (layout_of image.now) text.now) }
+{
+    let replayed = replay_text::<M>(alloc, image, &found.notes, found.entry, text)?;
+    Ok(Answer {
+        status: replayed.status,
+        text: replayed.text,
+        evidence: Evidence::None,
+    })
+}
 
-/// Replays a report over a program of RISC-V. The error is want of memory.
-fn replay_report<H: Shelf>(
+/// Replays the text of a report over a program. The error is want of memory.
+fn replay_report(
+    alloc: Global,
+    image: &Image,
+    found: &Found,
+    text: &[u8],
+) -> Result<Answer, AllocError>
+    requires found { IsFoundBy image.now found.now }
+    ensures { IfOk result (λ a. answer_of a
+        ≡ replay_answer (program_of image.now (notes_of found.now.notes) found.now.entry) (layout_of image.now) text.now) }
+{
+    match layout(image) {
+        Layout::Rv32 => replay_by::<Rv32>(alloc, image, found, text),
+        Layout::ArmLittle => replay_by::<Arm<0>>(alloc, image, found, text),
+        Layout::ArmBig => replay_by::<Arm<1>>(alloc, image, found, text),
+    }
+}
+
+/// The answer to the report of a name over a program. The error is want of memory.
+fn replay_program<H: Shelf>(
     alloc: Global,
     shelf: &mut H,
     image: &Image,
     found: &Found,
     name: &str,
 ) -> Result<Answer, AllocError>
-    requires machine { is_rv image.now ≡ true }
     requires found { IsFoundBy image.now found.now }
     ensures { IfOk result (λ a. AfterRead (seen (H.holds shelf.old) (H.faults shelf.old) (H.faults shelf.new)) name.now
         (λ text b. b ≡ replay_answer (program_of image.now (notes_of found.now.notes) found.now.entry) (layout_of image.now) text) (answer_of a)) }
@@ -41,31 +80,8 @@ fn replay_report<H: Shelf>(
         Step::Go(text) => text,
         Step::Answered(answer) => return Ok(answer),
     };
-    let replayed = replay_text::<Rv32>(alloc, image, &found.notes, found.entry, &text)?;
-    Ok(Answer {
-        status: replayed.status,
-        text: replayed.text,
-        evidence: Evidence::None,
-    })
-}
-
-/// The answer to a report over a program. The error is want of memory.
-fn replay_program<H: Shelf>(
-    alloc: Global,
-    shelf: &mut H,
-    image: &Image,
-    found: &Found,
-    name: &str,
-) -> Result<Answer, AllocError>
-    requires found { IsFoundBy image.now found.now }
-    ensures { IfOk result (λ a. IsReplayedSoFar (seen (H.holds shelf.old) (H.faults shelf.old) (H.faults shelf.new)) name.now image.now
-        (program_of image.now (notes_of found.now.notes) found.now.entry) (answer_of a)) }
-{
-    if image.is_risc_v() {
-        replay_report(alloc, shelf, image, found, name)
-    } else {
-        answer(alloc, NOT_BUILT, b"not built\n")
-    }
+    let answer = replay_report(alloc, image, found, &text)?;
+    Ok(answer)
 }
 
 /// Replays the report of a name over the ELF file and the notes of two others. The error is want of memory.
@@ -76,7 +92,7 @@ pub fn replay<H: Shelf>(
     notes: &str,
     report: &str,
 ) -> Result<Answer, AllocError>
-    ensures { IfOk result (λ a. IsDueTo (seen (H.holds shelf.old) (H.faults shelf.old) (H.faults shelf.new))
+    ensures { IfOk result (λ a. IsRightAnswer (seen (H.holds shelf.old) (H.faults shelf.old) (H.faults shelf.new))
         (Replay elf.now notes.now report.now) (answer_of a)) }
 {
     let file = match read_elf(alloc, shelf, elf)? {

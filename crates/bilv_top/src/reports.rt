@@ -1,10 +1,10 @@
-//! The answers of reports over programs of RISC-V.
+//! The answers of reports.
 ghost use Rattle.std.specs.Prelude.{◌≡◌, IfOk};
 ghost use Rattle.bilv_spec.specs.Answers as answers;
 ghost use Rattle.bilv_spec.specs.Answers.{budget_text, report_answer};
-ghost use Rattle.bilv_spec.specs.StateText.{printed, rv_layout};
+ghost use Rattle.bilv_spec.specs.StateText.{printed};
 ghost use Rattle.command_line.specs.Commands.{budget_of};
-ghost use Rattle.state_text.specs.Starts.{named_of, written_of};
+ghost use Rattle.state_text.specs.Starts.{layout_of, named_of, written_of};
 ghost use Rattle.verdict.specs.Verdicts as verdicts;
 ghost use Rattle.verdict.specs.Verdicts.{report_of};
 ghost use Rattle.bilv_top.specs.Answers.{answer_of, evidence_of};
@@ -63,16 +63,22 @@ fn judged(alloc: Global, text: &[u8], evidence: Evidence) -> Result<Answer, Allo
     })
 }
 
-/// The report of the end of the run from a start, which it shows. The error is want of memory.
-fn shown(alloc: Global, status: u8, named: NamedEnding, start: Start) -> Result<Answer, AllocError>
+/// The report of the end of the run from a start, which it shows in the form of its machine. The error is want of memory.
+fn shown(
+    alloc: Global,
+    form: Layout,
+    status: u8,
+    named: NamedEnding,
+    start: Start,
+) -> Result<Answer, AllocError>
     ensures { IfOk result (λ a. answer_of a ≡ record {
       status = status;
-      text = printed rv_layout (record { named = named_of named; start = written_of start });
+      text = printed (layout_of form) (record { named = named_of named; start = written_of start });
       evidence = answers.RunOf (written_of start);
     }) }
 {
     let state = StateText { named, start };
-    let text = print_state(alloc, &state, Layout::Rv32)?;
+    let text = print_state(alloc, &state, form)?;
     Ok(Answer {
         status,
         text,
@@ -80,9 +86,14 @@ fn shown(alloc: Global, status: u8, named: NamedEnding, start: Start) -> Result<
     })
 }
 
-/// The report of a verdict within budgets. The error is want of memory.
-pub fn report(alloc: Global, budget: Budget, verdict: Verdict) -> Result<Answer, AllocError>
-    ensures { IfOk result (λ a. answer_of a ≡ report_answer rv_layout (budget_of budget) (report_of verdict) (verdicts.evidence_of verdict)) }
+/// The report of a verdict within budgets, on a program of a machine of this form. The error is want of memory.
+pub fn report(
+    alloc: Global,
+    form: Layout,
+    budget: Budget,
+    verdict: Verdict,
+) -> Result<Answer, AllocError>
+    ensures { IfOk result (λ a. answer_of a ≡ report_answer (layout_of form) (budget_of budget) (report_of verdict) (verdicts.evidence_of verdict)) }
 {
     match verdict {
         Verdict::Holds { start, fail, turn } => {
@@ -100,6 +111,7 @@ pub fn report(alloc: Global, budget: Budget, verdict: Verdict) -> Result<Answer,
             start,
         } => shown(
             alloc,
+            form,
             FAILS,
             NamedEnding::FailsBy { event, at, step },
             start,
@@ -108,6 +120,7 @@ pub fn report(alloc: Global, budget: Budget, verdict: Verdict) -> Result<Answer,
             let k = budget.unroll;
             shown(
                 alloc,
+                form,
                 UNKNOWN,
                 NamedEnding::UnknownBy { k, at, step },
                 start,

@@ -1,9 +1,8 @@
 //! The command that verifies work which is made from a number.
-ghost use Rattle.std.specs.Prelude.{◌≡◌, ◌≤◌, ◌==◌, true, not, Contains, IfOk, length};
+ghost use Rattle.std.specs.Prelude.{◌≡◌, ◌≤◌, ◌==◌, not, Contains, IfOk, length};
 ghost use Rattle.std.specs.List.{prefix_len};
 ghost use Rattle.bilv_spec.specs.Answers as answers;
 ghost use Rattle.bilv_spec.specs.Answers.{IsBudget};
-ghost use Rattle.bilv_spec.specs.Files.{is_rv};
 ghost use Rattle.bilv_spec.specs.Outcomes.{IsFirstLine, IsLawfulCommand, IsSelfRun, SelfRun};
 ghost use Rattle.bilv_spec.specs.Texts.{line_feed};
 ghost use Rattle.bilv_spec.specs.Verified.{IsVerified, elf_limit};
@@ -31,7 +30,7 @@ fn default_budget() -> Budget
     }
 }
 
-/// The answer to an ELF file of RISC-V and to notes, by their bytes. The error is want of memory.
+/// The answer to an ELF file and to notes, by their bytes. The error is want of memory.
 fn verify_bytes(
     alloc: Global,
     file: &[u8],
@@ -39,7 +38,6 @@ fn verify_bytes(
     budget: Budget,
 ) -> Result<Answer, AllocError>
     requires short { length file.now ≤ elf_limit }
-    requires machine { is_rv file.now ≡ true }
     requires budget { IsBudget (budget_of budget) }
     ensures { IfOk result (λ a. IsVerified file.now notes.items (budget_of budget) (answer_of a)) }
 {

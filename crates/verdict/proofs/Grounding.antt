@@ -206,6 +206,7 @@ module _ (b : Budget) (u : Unrolled) (price : ℕ) (is : price ≡ min (unrolled
   is_within cheap measurable q of = (
     askable u q measurable of,
     λ p form h. (fits_budget p form b u h price is other cheap, subst (λ (z : Unrolled). IsGround p b.unroll form (unrolled_of z)) (sym of.of) h.ground),
+    of.of,
   )
 
 -- what an unrolled program that was measured came to

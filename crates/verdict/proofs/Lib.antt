@@ -8,3 +8,4 @@ pub mod Grounding
 pub mod ThreeQuestions
 pub mod Certifies
 pub mod OneWay
+pub mod ScriptLaws

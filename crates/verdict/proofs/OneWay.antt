@@ -1,66 +1,140 @@
--- The rows of a program of RISC-V have 4 bytes, and none has both a direct and an indirect successor.
-use Rattle.std.proofs.Common.{◌≡◌, ℕ, List, [], ◌∷◌, Option, Some, None, Bool, true, false, refl, sym, ap, ◌∙◌}
+-- The rows of a program have 4 bytes, and none has both a direct and an indirect successor.
+use Rattle.std.proofs.Common.{◌≡◌, ℕ, List, [], ◌∷◌, Option, Some, None, Bool, true, false, refl, sym, ap, subst, ◌∙◌}
 use Rattle.std.specs.Prelude.{◌==◌, ◌&&◌, not, is_some, if◌then◌else◌}
 use Rattle.std.proofs.lemmas.Bool.{eqb-true}
 use Rattle.bilv_spec.specs.Elf.{file_endian}
+use Rattle.bilv_spec.specs.Memory.{Endian}
 use Rattle.bilv_spec.specs.Notes.{Notes}
-use Rattle.bilv_spec.specs.Machine.{Row}
-use Rattle.bilv_spec.specs.Rv.{rv32, rv_row, row_in, table, fits, fields, Instruction, Fields}
-use Rattle.bilv_spec.specs.Arm.{arm}
+use Rattle.bilv_spec.specs.Machine.{Row, Machine}
+use Rattle.bilv_spec.specs.Rv as rv
+use Rattle.bilv_spec.specs.Rv.{rv32, rv_row}
+use Rattle.bilv_spec.specs.Arm as arms
+use Rattle.bilv_spec.specs.Arm.{arm, arm_row, condition_code}
 use Rattle.bilv_spec.specs.Run.{Program, fetchable}
 use Rattle.bilv_spec.specs.Points.{file_row, file_word}
-use Rattle.bilv_spec.specs.Files.{is_rv, program_of}
+use Rattle.bilv_spec.specs.Files.{is_rv, machine_of, program_of}
 use Rattle.program_points.specs.Listed.{HasOneWay}
 
 -- a row has 4 bytes and one way
+record HasWay (row : Row) : Type 0 where
+  pub four : row.length ≡ 4
+  pub direct : (at : ℕ) → (row.successors at).indirect ≡ true → (row.successors at).direct ≡ None
+
+-- each word that has a row has such a one
+abbrev HaveWays : (ℕ → Option Row) → Type 0
+HaveWays rows = (w : ℕ) (row : Row) → rows w ≡ Some row → HasWay row
+
+-- the row of a word, which is the first of two that it has
+first_of : (b : Bool) (r row : Row) (other : Option Row) → (b ≡ true → HasWay r) → (other ≡ Some row → HasWay row) →
+    (if b then Some r else other) ≡ Some row → HasWay row
+first_of true r row other here there e = let same : r ≡ row = cc in subst (λ (x : Row). HasWay x) same (here refl)
+first_of false r row other here there e = there e
+
+-- rows of RV32IM
+
 abbrev goes_one_way : Row → ℕ → Bool
 goes_one_way row at = (row.length == 4) && not ((row.successors at).indirect && is_some (row.successors at).direct)
 
-abbrev go_one_way : List Instruction → Fields → ℕ → Bool
+abbrev go_one_way : List rv.Instruction → rv.Fields → ℕ → Bool
 go_one_way [] x at = true
 go_one_way (i ∷ rest) x at = goes_one_way (i.row x) at && go_one_way rest x at
 
-table_goes_one_way : (x : Fields) (at : ℕ) → go_one_way table x at ≡ true
-unfolding table
+table_goes_one_way : (x : rv.Fields) (at : ℕ) → go_one_way rv.table x at ≡ true
+unfolding rv.table
 table_goes_one_way x at = refl
 
 both : (a b : Bool) → (a && b) ≡ true → (a ≡ true) × (b ≡ true)
 both true b h = (refl, h)
 both false b h = cc
 
-first_of : (b : Bool) (r row : Row) (at : ℕ) (other : Option Row) → goes_one_way r at ≡ true → (other ≡ Some row → goes_one_way row at ≡ true) →
-    (if b then Some r else other) ≡ Some row → goes_one_way row at ≡ true
-first_of true r row at other here there e = let same : r ≡ row = cc in ap (λ x. goes_one_way x at) (sym same) ∙ here
-first_of false r row at other here there e = there e
-
-row_in_goes : (is : List Instruction) (w at : ℕ) (row : Row) → ((x : Fields) → go_one_way is x at ≡ true) → row_in is w ≡ Some row → goes_one_way row at ≡ true
-row_in_goes [] w at row all e = absurd (cc)
-row_in_goes (i ∷ rest) w at row all e =
-    first_of (fits i w) (i.row (fields i.imm w)) row at (row_in rest w) (both _ _ (all (fields i.imm w))).0
-    (row_in_goes rest w at row (λ x. (both _ _ (all x)).1)) e
-
-rv_row_goes : (w at : ℕ) (row : Row) → rv_row w ≡ Some row → goes_one_way row at ≡ true
-unfolding rv_row
-rv_row_goes w at row e = row_in_goes table w at row (λ x. table_goes_one_way x at) e
-
-row_where : (b : Bool) (o : Option Row) (row : Row) → (if b then o else None) ≡ Some row → o ≡ Some row
-row_where true o row e = e
-row_where false o row e = absurd (cc)
-
 one_direct : (b : Bool) (d : Option ℕ) → not (b && is_some d) ≡ true → b ≡ true → d ≡ None
 one_direct b None h e = refl
 one_direct true (Some x) h e = absurd (cc)
 one_direct false (Some x) h e = absurd (cc)
 
-file_row_goes : (p : Program) → p.machine ≡ rv32 → (a : ℕ) (row : Row) → file_row p a ≡ Some row → goes_one_way row a ≡ true
-file_row_goes p is a row e =
-    rv_row_goes (file_word p a) a row (sym (ap (λ m. m.row (file_word p a)) is) ∙ row_where (fetchable p a) (p.machine.row (file_word p a)) row e)
-
-has_one_way : (p : Program) → p.machine ≡ rv32 → HasOneWay p
-has_one_way p is = record {
-  direct = λ a row e i. one_direct (row.successors a).indirect (row.successors a).direct (both _ _ (file_row_goes p is a row e)).1 i;
-  four = λ a row e. eqb-true row.length 4 (both _ _ (file_row_goes p is a row e)).0;
+way_of : (row : Row) → ((at : ℕ) → goes_one_way row at ≡ true) → HasWay row
+way_of row h = record {
+  four = eqb-true row.length 4 (both _ _ (h 0)).0;
+  direct = λ at. one_direct (row.successors at).indirect (row.successors at).direct (both _ _ (h at)).1;
 }
 
-pub rv_has_one_way : (file : List ℕ) (notes : Notes) (entry : ℕ) → is_rv file ≡ true → HasOneWay (program_of file notes entry)
-rv_has_one_way file notes entry is = has_one_way (program_of file notes entry) (ap (λ b. if b then rv32 else arm (file_endian file)) is)
+rv_rows_have : (is : List rv.Instruction) (w : ℕ) (row : Row) → ((x : rv.Fields) (at : ℕ) → go_one_way is x at ≡ true) → rv.row_in is w ≡ Some row → HasWay row
+rv_rows_have [] w row all e = absurd (cc)
+rv_rows_have (i ∷ rest) w row all e =
+    first_of (rv.fits i w) (i.row (rv.fields i.imm w)) row (rv.row_in rest w)
+    (λ fits. way_of (i.row (rv.fields i.imm w)) (λ at. (both _ _ (all (rv.fields i.imm w) at)).0))
+    (rv_rows_have rest w row (λ x at. (both _ _ (all x at)).1)) e
+
+rv_has_ways : HaveWays rv_row
+unfolding rv_row
+rv_has_ways w row e = rv_rows_have rv.table w row table_goes_one_way e
+
+-- rows of ARM
+
+abbrev ArmWays : List arms.Instruction → Type 0
+ArmWays [] = Unit {0}
+ArmWays (i ∷ rest) = ((w : ℕ) → HasWay (i.row w)) × ArmWays rest
+
+arm_table_ways : (e : Endian) → ArmWays (arms.table e)
+unfolding arms.table
+arm_table_ways e = (
+  λ w. record { four = refl; direct = λ at i. refl },
+  (
+    λ w. record { four = refl; direct = λ at i. refl },
+    (
+      λ w. record { four = refl; direct = λ at i. refl },
+      (
+        λ w. record { four = refl; direct = λ at i. refl },
+        (
+          λ w. record { four = refl; direct = λ at i. refl },
+          (
+            λ w. record { four = refl; direct = λ at i. refl },
+            (
+              λ w. record { four = refl; direct = λ at i. refl },
+              (λ w. record { four = refl; direct = λ at i. absurd (cc) }, (λ w. record { four = refl; direct = λ at i. refl }, tt)),
+            ),
+          ),
+        ),
+      ),
+    ),
+  ),
+)
+
+arm_rows_have : (is : List arms.Instruction) (w : ℕ) (row : Row) → ArmWays is → arms.row_in is w ≡ Some row → HasWay row
+arm_rows_have [] w row all e = absurd (cc)
+arm_rows_have (i ∷ rest) w row all e =
+    first_of (i.is w) (i.row w) row (arms.row_in rest w) (λ is. all.0 w) (arm_rows_have rest w row all.1) e
+
+unless_never : (never : Bool) (o : Option Row) (row : Row) → (if never then None else o) ≡ Some row → o ≡ Some row
+unless_never false o row e = e
+unless_never true o row e = absurd (cc)
+
+arm_has_ways : (e : Endian) → HaveWays (arm_row e)
+unfolding arm_row
+arm_has_ways e w row is =
+    arm_rows_have (arms.table e) w row (arm_table_ways e) (unless_never (condition_code w == 15) (arms.row_in (arms.table e) w) row is)
+
+-- programs
+
+abbrev machine_by : Bool → Endian → Machine
+machine_by b e = if b then rv32 else arm e
+
+by_machine : (b : Bool) (e : Endian) → HaveWays (machine_by b e).row
+by_machine true e = rv_has_ways
+by_machine false e = arm_has_ways e
+
+row_where : (b : Bool) (o : Option Row) (row : Row) → (if b then o else None) ≡ Some row → o ≡ Some row
+row_where true o row e = e
+row_where false o row e = absurd (cc)
+
+file_way : (p : Program) → HaveWays p.machine.row → (a : ℕ) (row : Row) → file_row p a ≡ Some row → HasWay row
+file_way p have a row e = have (file_word p a) row (row_where (fetchable p a) (p.machine.row (file_word p a)) row e)
+
+pub has_one_way : (file : List ℕ) (notes : Notes) (entry : ℕ) → HasOneWay (program_of file notes entry)
+has_one_way file notes entry =
+    let p : Program = program_of file notes entry in
+    let have = by_machine (is_rv file) (file_endian file) in
+    record {
+      direct = λ a row e. (file_way p have a row e).direct a;
+      four = λ a row e. (file_way p have a row e).four;
+    }

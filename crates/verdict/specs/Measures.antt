@@ -1,5 +1,5 @@
 -- What an unrolled program comes to by the budgets.
-use Rattle.std.specs.Prelude.{◌≤◌, ◌<◌, length}
+use Rattle.std.specs.Prelude.{◌≡◌, ◌≤◌, ◌<◌, length}
 use Rattle.bilv_spec.specs.Answers.{Budget, IsWithin}
 use Rattle.bilv_spec.specs.Points.{HasMore, IsPrice}
 use Rattle.bilv_spec.specs.Run.{Program}
@@ -27,9 +27,10 @@ pub record IsUnrolledOf (p : Program) (layout : Layout) (b : Budget) (u : Unroll
   pub ground : IsGround p b.unroll layout (unrolled_of u)
   pub few : length (unrolled_of u).points ≤ b.points
 
--- The price of a program is above the budget; or the program is within the budgets, and this is its passive program.
+-- The price of a program is above the budget; or the program is within the budgets, and this is the passive program of the unrolled one.
 abbrev pub IsMeasured : Budget → Unrolled → Measured → Type 0
 IsMeasured b u (Above price) =
     (p : Program) (layout : Layout) → IsUnrolledOf p layout b u → (¬ HasMore p b.unroll b.points) × IsPrice p b.unroll price × (b.size < price)
 IsMeasured b u (Within q) =
     IsAskable q × ((p : Program) (layout : Layout) → IsUnrolledOf p layout b u → IsWithin p b × IsGround p b.unroll layout (unrolled_of q.unrolled.now))
+    × (q.unrolled.now ≡ u)

@@ -1,11 +1,12 @@
 -- Verdicts as the reports of the definitions, with their evidence.
-use Rattle.std.specs.Prelude.{◌≡◌, ◌<◌, ◌+◌}
+use Rattle.std.specs.Prelude.{◌≡◌, ◌<◌, ◌+◌, string_bytes}
 use Rattle.bilv_spec.specs.Answers as answers
 use Rattle.bilv_spec.specs.Answers.{Report, HoldsReport, VacuousReport, FailsReport, UnrollReport, PointsReport, SizeReport, ConflictsReport, Evidence, Refutations, EntryRefuted, RunOf, SpentOn, Count, IsRightReport, IsWithin}
 use Rattle.bilv_spec.specs.Evidence.{Refutes, Spends}
 use Rattle.bilv_spec.specs.Points.{HasMore, IsPrice}
 use Rattle.bilv_spec.specs.Questions.{Question, IsSatisfiable}
 use Rattle.bilv_spec.specs.Run.{Program}
+use Rattle.bilv_spec.specs.Scripts.{IsScript}
 use Rattle.bilv_spec.specs.StateText.{Layout}
 use Rattle.cnf_form.specs.Views.{proof_of}
 use Rattle.state_text.specs.Starts.{event_of, written_of}
@@ -13,6 +14,8 @@ use Rattle.question_form.specs.Views.{kind_of}
 use Rattle.verdict.specs.declared.verdicts.Budget.{Budget}
 use Rattle.verdict.specs.declared.verdicts.Certified.{Certified}
 use Rattle.verdict.specs.declared.verdicts.Certified.TheVariants as certified
+use Rattle.verdict.specs.declared.verdicts.Scripted.{Scripted}
+use Rattle.verdict.specs.declared.verdicts.Scripted.TheVariants as scripted
 use Rattle.verdict.specs.declared.verdicts.Verdict.{Verdict}
 use Rattle.verdict.specs.declared.verdicts.Verdict.TheVariants.{Holds, Vacuous, Fails, Unroll, Points, Size, Conflicts}
 
@@ -51,3 +54,9 @@ IsCertificate p b question (certified.Size price) = (¬ HasMore p b.unroll b.poi
 IsCertificate p b question (certified.Conflicts proof) = IsWithin p b × Spends p b.unroll question b.conflicts (proof_of proof)
 IsCertificate p b question certified.Satisfiable = IsWithin p b × IsSatisfiable p b.unroll question
 IsCertificate p b question (certified.Refuted proof) = IsWithin p b × (¬ IsSatisfiable p b.unroll question) × Refutes p b.unroll question (proof_of proof)
+
+-- The script of a question: there are more points than the budget, or the price is above it; else it is satisfied by the readings that make the question true.
+abbrev pub IsScripted : Program → Layout → answers.Budget → Question → Scripted → Type 0
+IsScripted p layout b question (scripted.Points count) = HasMore p b.unroll b.points × (count ≡ b.points + 1)
+IsScripted p layout b question (scripted.Size price) = (¬ HasMore p b.unroll b.points) × IsPrice p b.unroll price × (b.size < price)
+IsScripted p layout b question (scripted.Script text) = IsWithin p b × IsScript p layout b.unroll question (string_bytes text)

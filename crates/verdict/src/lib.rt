@@ -5,10 +5,12 @@ mod certifying;
 mod deciding;
 mod measuring;
 mod rounds;
+mod scripting;
 mod verdicts;
 mod verifying;
 
 pub use certifying::certify;
 pub use deciding::decide;
-pub use verdicts::{Answered, Budget, Certified, Verdict};
+pub use scripting::script;
+pub use verdicts::{Answered, Budget, Certified, Scripted, Verdict};
 pub use verifying::verify;

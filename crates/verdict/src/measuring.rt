@@ -3,6 +3,7 @@ ghost use Rattle.std.specs.Prelude.{◌≡◌, ◌<◌, ℕ, IfErr, IfOk, slice_
 ghost use Rattle.bilv_spec.specs.Files.{machine_of, program_of};
 ghost use Rattle.bilv_spec.specs.Answers.{IsBudget};
 ghost use Rattle.program_points.specs.Listed.{HasOneWay, IsTooMany};
+ghost use Rattle.state_text.specs.Starts.{layout_of};
 ghost use Rattle.notes_lang.specs.Drafting.{notes_of};
 ghost use Rattle.notes_value.specs.Reads.{AreOver};
 ghost use Rattle.verdict.specs.Measures.{IsMeasurable, IsMeasured, IsUnrolledOf};
@@ -46,6 +47,7 @@ pub fn unroll_within<'a, M: Machine>(
     requires over { AreOver M.machine.has_register M.machine.has_flag (notes_of notes.now) }
     requires budget { IsBudget (budget_of budget.now) }
     ensures unrolled { IfOk result (IsUnrolledOf (program_of image.now (notes_of notes.now) entry) M.form (budget_of budget.now)) }
+    ensures form { IfOk result (λ u. layout_of u.form ≡ M.form) }
     ensures more { IfErr result (IsTooMany (program_of image.now (notes_of notes.now) entry) budget.now.unroll budget.now.points) }
 {
     let graph = descend::<M>(alloc, image, notes, entry)?;

@@ -80,3 +80,14 @@ pub enum Certified {
     /// The question is true of nothing.
     Refuted(Proof),
 }
+
+/// What the command that prints the script of a question comes to.
+#[derive(Drop)]
+pub enum Scripted {
+    /// There are more points than the budget, of which so many were found.
+    Points { count: u64 },
+    /// The price is above the budget.
+    Size { price: u128 },
+    /// The script, in SMT-LIB 2.6.
+    Script(String),
+}

@@ -12,8 +12,7 @@ returns c =
     let i = c.args.insn in
     let at = c.args.at in
     let signs = lifts.signs (expression c.own.result) bil.Empty in
-    let made : bil.Statements → bil.Statements
-    = λ z. lifts.flag_if (not (lifts.is_logical i.opcode)) 0 (lifts.overflow_of i at) (lifts.carried_by (lifts.needs_carry i) i at z) in
+    let made : bil.Statements → bil.Statements = λ z. lifts.flag_if (not (lifts.is_logical i.opcode)) 0 (lifts.overflow_of i at) (lifts.carried_by (lifts.needs_carry i) i at z) in
     whole c.push_signs.new.list.items ∙ c.in_ok-push_signs.ensures bil.Empty ∙ c.in_ok-push_carried_by.ensures signs
     ∙ c.in_ok-push_overflow.ensures (lifts.carried_by (lifts.needs_carry i) i at signs) ∙ ap (λ l. before l (made signs)) c.new-list.ensures.items
     ∙ ap (λ e. made (lifts.signs e bil.Empty)) c.own.ensures

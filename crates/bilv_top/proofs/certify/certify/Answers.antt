@@ -7,7 +7,6 @@ use Rattle.bilv_spec.specs.Outside.{Agrees}
 use Rattle.bilv_spec.specs.Files.{program_of}
 use Rattle.notes_lang.specs.Drafting.{notes_of}
 use Rattle.bilv_top.specs.Answers.{answer_of, seen}
-use Rattle.bilv_top.specs.Due.{WhereBuilt}
 use Rattle.command_line.specs.Commands.{budget_of, question_of}
 use Rattle.bilv_top.proofs.Refused.{elf_unread, both_answered, both_found}
 use Rattle.bilv_top.proofs.certify.certify.Goals as goal
@@ -30,10 +29,10 @@ returns-in-Go-2 g c =
     let q = question_of c.args.question in
     let said : Program → Answer → Type 0 = λ p x. IsCertified p b q x.status x.text x.evidence in
     IfOk-weaker c.certify_program.result _ _
-    (λ a done. both_found s c.args.elf.now notes file (λ file text p. WhereBuilt file (said p)) (answer_of a)
+    (λ a done. both_found s c.args.elf.now notes file (λ file text. said) (answer_of a)
     (g.H.Shelf.holds c.read_elf.new.shelf notes) (g.H.Shelf.faults c.read_elf.new.shelf notes)
     agrees (c.read_elf.ensures.keeps notes) (c.read_elf.ensures.never_falls notes) f found.1 found.2 found.3 found.4
-    (λ is. subst (λ x. WhereBuilt x (said (program_of x (notes_of f.notes) f.entry)) (answer_of a)) found.0 done)) c.certify_program.ensures
+    (λ is. subst (λ x. said (program_of x (notes_of f.notes) f.entry) (answer_of a)) found.0 done)) c.certify_program.ensures
 
 pub returns : goal.returns
 returns g c =
@@ -44,6 +43,6 @@ returns g c =
     let b = budget_of c.args.budget in
     let q = question_of c.args.question in
     let said : Program → Answer → Type 0 = λ p x. IsCertified p b q x.status x.text x.evidence in
-    both_answered s c.args.elf.now notes c.deref.result.now (λ file text p. WhereBuilt file (said p)) (answer_of c.in-Answered-2.answer)
+    both_answered s c.args.elf.now notes c.deref.result.now (λ file text. said) (answer_of c.in-Answered-2.answer)
     (g.H.Shelf.holds c.read_elf.new.shelf notes) (g.H.Shelf.faults c.read_elf.new.shelf notes) agrees (c.read_elf.ensures.keeps notes)
     (c.read_elf.ensures.never_falls notes) (rw c.in-Answered-2.is at c.in_ok-image.ensures.read)

@@ -4,7 +4,7 @@ use Rattle.bilv_spec.specs.Outside.{Agrees}
 use Rattle.bilv_spec.specs.Files.{program_of}
 use Rattle.notes_lang.specs.Drafting.{notes_of}
 use Rattle.bilv_top.specs.Answers.{answer_of, seen}
-use Rattle.bilv_top.specs.Due.{IsGraphedSoFar}
+use Rattle.bilv_spec.specs.Outcomes.{IsGraphed}
 use Rattle.bilv_top.proofs.Refused.{elf_unread, both_answered, both_found}
 use Rattle.bilv_top.proofs.graph.graph.Goals as goal
 
@@ -23,10 +23,10 @@ returns-in-Go-2 g c =
     let found = rw c.in-Go-2.is at c.in_ok-image.ensures.read in
     let f = c.in-Go-2.found in
     IfOk-weaker c.print_program.result _ _
-    (λ a done. both_found s c.args.elf.now notes file (λ file text. IsGraphedSoFar file) (answer_of a) (g.H.Shelf.holds c.read_elf.new.shelf notes)
+    (λ a done. both_found s c.args.elf.now notes file (λ file text. IsGraphed) (answer_of a) (g.H.Shelf.holds c.read_elf.new.shelf notes)
     (g.H.Shelf.faults c.read_elf.new.shelf notes)
     agrees (c.read_elf.ensures.keeps notes) (c.read_elf.ensures.never_falls notes) f found.1 found.2 found.3 found.4
-    (λ is. subst (λ x. IsGraphedSoFar x (program_of x (notes_of f.notes) f.entry) (answer_of a)) found.0 done)) c.print_program.ensures
+    (λ is. subst (λ x. IsGraphed (program_of x (notes_of f.notes) f.entry) (answer_of a)) found.0 done)) c.print_program.ensures
 
 pub returns : goal.returns
 returns g c =
@@ -34,7 +34,7 @@ returns g c =
     let agrees = subst (λ x. Agrees (g.H.Shelf.holds c.args.shelf.now c.args.elf.now) x) (sym c.deref.ensures.value) read.0 in
     let notes = c.args.notes.now in
     let s = seen (g.H.Shelf.holds c.args.shelf.now) (g.H.Shelf.faults c.args.shelf.now) (g.H.Shelf.faults c.read_program.new.shelf) in
-    both_answered s c.args.elf.now notes c.deref.result.now (λ file text. IsGraphedSoFar file) (answer_of c.in-Answered-2.answer)
+    both_answered s c.args.elf.now notes c.deref.result.now (λ file text. IsGraphed) (answer_of c.in-Answered-2.answer)
     (g.H.Shelf.holds c.read_elf.new.shelf notes)
     (g.H.Shelf.faults c.read_elf.new.shelf notes) agrees (c.read_elf.ensures.keeps notes) (c.read_elf.ensures.never_falls notes)
     (rw c.in-Answered-2.is at c.in_ok-image.ensures.read)

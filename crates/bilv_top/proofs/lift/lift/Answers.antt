@@ -2,14 +2,14 @@ use Rattle.std.proofs.Common.{subst, sym, ◌≤◌, length}
 use Rattle.std.proofs.lemmas.Result.{IfOk-weaker}
 use Rattle.bilv_spec.specs.Outside.{Agrees}
 use Rattle.bilv_top.specs.Answers.{answer_of, seen}
-use Rattle.bilv_top.specs.Due.{IsLiftedSoFar}
+use Rattle.bilv_spec.specs.Outcomes.{IsLifted}
 use Rattle.bilv_top.proofs.Refused.{elf_unread, elf_refuses, elf_accepts}
 use Rattle.bilv_top.proofs.lift.lift.Goals as goal
 
 pub returns-in-Answered : goal.returns-in-Answered
 returns-in-Answered g c =
     elf_unread (seen (g.H.Shelf.holds c.args.shelf.now) (g.H.Shelf.faults c.args.shelf.now) (g.H.Shelf.faults c.read_elf.new.shelf))
-    c.args.elf.now IsLiftedSoFar (answer_of c.in-Answered.answer) (rw c.in-Answered.is at c.in_ok-file.ensures.read)
+    c.args.elf.now IsLifted (answer_of c.in-Answered.answer) (rw c.in-Answered.is at c.in_ok-file.ensures.read)
 
 pub returns-in-Ok : goal.returns-in-Ok
 returns-in-Ok g c =
@@ -19,8 +19,8 @@ returns-in-Ok g c =
     let short = subst (λ x. length x ≤ 16777216) (sym c.deref.ensures.value) read.1 in
     IfOk-weaker c.lift_image.result _ _
     (λ a lifted. elf_accepts (seen (g.H.Shelf.holds c.args.shelf.now) (g.H.Shelf.faults c.args.shelf.now) (g.H.Shelf.faults c.read_elf.new.shelf))
-    c.args.elf.now IsLiftedSoFar (answer_of a) file agrees (short, c.in-Ok.ensures.accepted)
-    (subst (λ f. IsLiftedSoFar f (answer_of a)) c.in-Ok.ensures.image lifted)) c.lift_image.ensures
+    c.args.elf.now IsLifted (answer_of a) file agrees (short, c.in-Ok.ensures.accepted)
+    (subst (λ f. IsLifted f (answer_of a)) c.in-Ok.ensures.image lifted)) c.lift_image.ensures
 
 pub returns : goal.returns
 returns g c =
@@ -30,4 +30,4 @@ returns g c =
     let short = subst (λ x. length x ≤ 16777216) (sym c.deref.ensures.value) read.1 in
     IfOk-weaker c.refuse_elf.result _ _
     (λ a is. elf_refuses (seen (g.H.Shelf.holds c.args.shelf.now) (g.H.Shelf.faults c.args.shelf.now) (g.H.Shelf.faults c.read_elf.new.shelf))
-    c.args.elf.now IsLiftedSoFar (answer_of a) file c.in-Err.fault agrees short is.0 c.in-Err.ensures.refused is.1) c.refuse_elf.ensures
+    c.args.elf.now IsLifted (answer_of a) file c.in-Err.fault agrees short is.0 c.in-Err.ensures.refused is.1) c.refuse_elf.ensures

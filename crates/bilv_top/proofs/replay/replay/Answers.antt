@@ -1,13 +1,13 @@
-use Rattle.std.proofs.Common.{refl, sym, subst, ◌∙◌}
+use Rattle.std.proofs.Common.{◌≡◌, refl, sym, subst, ◌∙◌}
 use Rattle.std.proofs.Math.Nat.{le_trans}
 use Rattle.std.proofs.lemmas.Result.{IfOk-weaker}
 use Rattle.bilv_spec.specs.Outside.{Agrees}
-use Rattle.bilv_spec.specs.Files.{program_of}
+use Rattle.bilv_spec.specs.Files.{layout_of, program_of}
+use Rattle.bilv_spec.specs.Outcomes.{AfterRead}
+use Rattle.bilv_spec.specs.Replays.{replay_answer}
 use Rattle.notes_lang.specs.Drafting.{notes_of}
 use Rattle.bilv_top.specs.Answers.{answer_of, seen}
-use Rattle.bilv_top.specs.Due.{IsReplayedSoFar}
-use Rattle.bilv_top.proofs.Refused.{elf_unread, both_answered, both_found}
-use Rattle.bilv_top.proofs.Reported.{replayed_since}
+use Rattle.bilv_top.proofs.Refused.{elf_unread, both_answered, both_found, read_since}
 use Rattle.bilv_top.proofs.replay.replay.Goals as goal
 
 pub returns-in-Answered : goal.returns-in-Answered
@@ -29,13 +29,14 @@ returns-in-Go-2 g c =
     let middle = g.H.Shelf.faults c.read_elf.new.shelf report in
     let t = seen (g.H.Shelf.holds c.read_program.new.shelf) (g.H.Shelf.faults c.read_program.new.shelf) (g.H.Shelf.faults c.replay_program.new.shelf) in
     IfOk-weaker c.replay_program.result _ _
-    (λ a done. both_found s c.args.elf.now notes file (λ file text p. IsReplayedSoFar s report file p) (answer_of a)
+    (λ a done. both_found s c.args.elf.now notes file (λ file text p. AfterRead s report (λ text b. b ≡ replay_answer p (layout_of file) text)) (answer_of a)
     (g.H.Shelf.holds c.read_elf.new.shelf notes) (g.H.Shelf.faults c.read_elf.new.shelf notes)
     agrees (c.read_elf.ensures.keeps notes) (c.read_elf.ensures.never_falls notes) f found.1 found.2 found.3 found.4
-    (λ is. replayed_since t s report file (program_of file (notes_of f.notes) f.entry) (answer_of a)
+    (λ is. read_since t s report (λ text b. b ≡ replay_answer (program_of file (notes_of f.notes) f.entry) (layout_of file) text) (answer_of a)
     (c.read_program.ensures.keeps report ∙ c.read_elf.ensures.keeps report)
     (le_trans (c.read_elf.ensures.never_falls report) (c.read_program.ensures.never_falls report)) refl
-    (subst (λ x. IsReplayedSoFar t report x (program_of x (notes_of f.notes) f.entry) (answer_of a)) found.0 done))) c.replay_program.ensures
+    (subst (λ x. AfterRead t report (λ text b. b ≡ replay_answer (program_of x (notes_of f.notes) f.entry) (layout_of x) text) (answer_of a))
+    found.0 done))) c.replay_program.ensures
 
 pub returns : goal.returns
 returns g c =
@@ -44,7 +45,8 @@ returns g c =
     let notes = c.args.notes.now in
     let s = seen (g.H.Shelf.holds c.args.shelf.now) (g.H.Shelf.faults c.args.shelf.now) (g.H.Shelf.faults c.read_program.new.shelf) in
     let report = c.args.report.now in
-    both_answered s c.args.elf.now notes c.deref.result.now (λ file text p. IsReplayedSoFar s report file p) (answer_of c.in-Answered-2.answer)
+    both_answered s c.args.elf.now notes c.deref.result.now (λ file text p. AfterRead s report (λ text b. b ≡ replay_answer p (layout_of file) text))
+    (answer_of c.in-Answered-2.answer)
     (g.H.Shelf.holds c.read_elf.new.shelf notes)
     (g.H.Shelf.faults c.read_elf.new.shelf notes) agrees (c.read_elf.ensures.keeps notes) (c.read_elf.ensures.never_falls notes)
     (rw c.in-Answered-2.is at c.in_ok-image.ensures.read)

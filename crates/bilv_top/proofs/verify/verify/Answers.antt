@@ -5,7 +5,6 @@ use Rattle.bilv_spec.specs.Outside.{Agrees}
 use Rattle.bilv_spec.specs.Files.{layout_of, program_of}
 use Rattle.notes_lang.specs.Drafting.{notes_of}
 use Rattle.bilv_top.specs.Answers.{answer_of, seen}
-use Rattle.bilv_top.specs.Due.{WhereBuilt}
 use Rattle.command_line.specs.Commands.{budget_of}
 use Rattle.bilv_top.proofs.Refused.{elf_unread, both_answered, both_found}
 use Rattle.bilv_top.proofs.verify.verify.Goals as goal
@@ -25,12 +24,11 @@ returns-in-Go-2 g c =
     let found = rw c.in-Go-2.is at c.in_ok-image.ensures.read in
     let f = c.in-Go-2.found in
     let b = budget_of c.args.budget in
-    IfOk-weaker c.verify_program.result _ _
-    (λ a done. both_found s c.args.elf.now notes file (λ file text p. WhereBuilt file (IsReported p (layout_of file) b)) (answer_of a)
+    IfOk-weaker c.report_on.result _ _
+    (λ a done. both_found s c.args.elf.now notes file (λ file text p. IsReported p (layout_of file) b) (answer_of a)
     (g.H.Shelf.holds c.read_elf.new.shelf notes) (g.H.Shelf.faults c.read_elf.new.shelf notes)
     agrees (c.read_elf.ensures.keeps notes) (c.read_elf.ensures.never_falls notes) f found.1 found.2 found.3 found.4
-    (λ is. subst (λ x. WhereBuilt x (IsReported (program_of x (notes_of f.notes) f.entry) (layout_of x) b)
-    (answer_of a)) found.0 done)) c.verify_program.ensures
+    (λ is. subst (λ x. IsReported (program_of x (notes_of f.notes) f.entry) (layout_of x) b (answer_of a)) found.0 done)) c.report_on.ensures
 
 pub returns : goal.returns
 returns g c =
@@ -39,7 +37,7 @@ returns g c =
     let notes = c.args.notes.now in
     let s = seen (g.H.Shelf.holds c.args.shelf.now) (g.H.Shelf.faults c.args.shelf.now) (g.H.Shelf.faults c.read_program.new.shelf) in
     let b = budget_of c.args.budget in
-    both_answered s c.args.elf.now notes c.deref.result.now (λ file text p. WhereBuilt file (IsReported p (layout_of file) b))
+    both_answered s c.args.elf.now notes c.deref.result.now (λ file text p. IsReported p (layout_of file) b)
     (answer_of c.in-Answered-2.answer)
     (g.H.Shelf.holds c.read_elf.new.shelf notes) (g.H.Shelf.faults c.read_elf.new.shelf notes) agrees (c.read_elf.ensures.keeps notes)
     (c.read_elf.ensures.never_falls notes) (rw c.in-Answered-2.is at c.in_ok-image.ensures.read)
