@@ -1,0 +1,23 @@
+//! Tests of the questions of small programs of RISC-V as terms, as cells and as clauses, against runs of the instruction table, and of the logs of verdicts.
+//!
+//! They stand apart so that each part is proved once, and not again with its tests.
+#![tactic(auto)]
+
+#[cfg(test)]
+mod clauses;
+#[cfg(test)]
+mod conditions;
+#[cfg(test)]
+mod frames;
+#[cfg(test)]
+mod logs;
+#[cfg(test)]
+mod programs;
+#[cfg(test)]
+mod propagation;
+#[cfg(test)]
+mod starts;
+#[cfg(test)]
+mod studies;
+#[cfg(test)]
+mod wide;
