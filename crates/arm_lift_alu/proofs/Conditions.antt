@@ -4,7 +4,7 @@ use Rattle.std.specs.Prelude.{◌==◌}
 use Rattle.bilv_spec.specs.Words.{bit, complement}
 use Rattle.bilv_spec.specs.State.{State, IsState, flag_n, flag_z, flag_c, flag_v}
 use Rattle.bilv_spec.specs.Arm.{conditions, nth, condition_flags, condition_reads}
-use Rattle.bilv_spec.specs.Bil.{Expression, Binary, Unary}
+use Rattle.bilv_spec.specs.Bil.{Expression}
 use Rattle.bilv_spec.specs.Bil as bil
 use Rattle.bilv_spec.specs.BilMeaning.{Word, evaluate}
 use Rattle.bilv_spec.specs.Simulation.{Locals, env_of}

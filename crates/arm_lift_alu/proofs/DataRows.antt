@@ -6,7 +6,7 @@ use Rattle.bilv_spec.specs.Words.{bit, bit_at}
 use Rattle.bilv_spec.specs.Memory.{Endian}
 use Rattle.bilv_spec.specs.State.{State, IsState, flag_c, flag_v}
 use Rattle.bilv_spec.specs.Arm as rows
-use Rattle.bilv_spec.specs.Arm.{arm, Result, Shifted, results, result_at, reg, field_n, field_d, opcode, operand, with_flags, computed_by, on, write, write_by, flag_set, none, condition_code, is_computing}
+use Rattle.bilv_spec.specs.Arm.{arm, Result, results, result_at, reg, field_n, field_d, opcode, operand, with_flags, computed_by, on, write, write_by, flag_set, none, condition_code, is_computing}
 use Rattle.bilv_spec.specs.Bil.{RRegisters, Expression, Statements}
 use Rattle.bilv_spec.specs.BilMeaning.{Word, evaluate, execute}
 use Rattle.bilv_spec.specs.Simulation.{Locals, env_of, position, of_list, of_row, Simulates}

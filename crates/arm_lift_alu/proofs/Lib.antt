@@ -3,6 +3,9 @@ pub mod Lists
 pub mod Conditions
 pub mod Tests
 pub mod Rows
+pub mod Fetches
+pub mod Accesses
+pub mod AccessRows
 pub mod Branches
 pub mod Shifts
 pub mod Registers

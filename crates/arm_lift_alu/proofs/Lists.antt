@@ -73,7 +73,7 @@ shallow d p = record {
 }
 
 -- nothing is stored afterwards
-then_nothing : (e : Ending) (f : Position → List ℕ) → ((s : Position) → f s ≡ []) → then_stored e f ≡ []
+pub then_nothing : (e : Ending) (f : Position → List ℕ) → ((s : Position) → f s ≡ []) → then_stored e f ≡ []
 then_nothing (Ends s) f h = h s
 then_nothing (RaisesException n s) f h = refl
 then_nothing (OutOfTurns s) f h = refl

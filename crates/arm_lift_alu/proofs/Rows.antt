@@ -39,13 +39,13 @@ nothing_behind (OutOfTurns p) c = refl
 nothing_behind Wrong c = refl
 
 -- a list behind a test, where it does what its row does
-ends : (b : Bool) (e : Ending) (c turns : ℕ) (l : Locals) (s : State) (o : Outcome) → of_list e ≡ of_row l turns o →
+pub ends : (b : Bool) (e : Ending) (c turns : ℕ) (l : Locals) (s : State) (o : Outcome) → of_list e ≡ of_row l turns o →
     of_list (then_do (branch_on (Word 1 (bit b)) e (Ends (position l turns None s))) (execute Empty c)) ≡ of_row l turns (when b s o)
 ends true e c turns l s o h = nothing_behind e c ∙ h
 ends false e c turns l s o h = refl
 
 -- a read that is allowed
-allowed : (b a r : Bool) → (r ≡ false → b ≡ false) → (not b || (r || a)) ≡ true
+pub allowed : (b a r : Bool) → (r ≡ false → b ≡ false) → (not b || (r || a)) ≡ true
 allowed b a true h = all b
   where
     all : (b : Bool) → (not b || true) ≡ true
@@ -53,7 +53,7 @@ allowed b a true h = all b
     all false = refl
 allowed b a false h = rw (h refl) refl
 
-more : (r a : Bool) → a ≡ true → (r || a) ≡ true
+pub more : (r a : Bool) → a ≡ true → (r || a) ≡ true
 more true a h = refl
 more false a h = h
 

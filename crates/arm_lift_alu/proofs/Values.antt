@@ -6,7 +6,7 @@ use Rattle.bilv_spec.specs.Words.{add, bits, bit_at}
 use Rattle.bilv_spec.specs.Memory.{Little}
 use Rattle.bilv_spec.specs.State.{State, IsState, flag_c}
 use Rattle.bilv_spec.specs.Arm as rows
-use Rattle.bilv_spec.specs.Arm.{Shifted, reg, bit_i, has_bit, field_m, field_s, kind_of, amount_of}
+use Rattle.bilv_spec.specs.Arm.{Shifted, reg}
 use Rattle.bilv_spec.specs.Bil.{Bits, BilVariable, Register, Mem, Local, Expression, type_of}
 use Rattle.bilv_spec.specs.Bil as bil
 use Rattle.bilv_spec.specs.BilMeaning.{Value, Word, Stuck, get, evaluate, HoldsVariables, IsOfType}

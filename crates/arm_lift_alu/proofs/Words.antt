@@ -4,7 +4,7 @@ use Rattle.std.specs.Prelude.{◌==◌, [], ◌∷◌}
 use Rattle.std.specs.List.{list_any}
 use Rattle.std.proofs.Math.Nat.{div-div-eq-div-mul}
 use Rattle.bilv_spec.specs.Arm as rows
-use Rattle.bilv_spec.specs.Arm.{opcode, bit_i, has_bit, kind_of, amount_of, field_d, sets_flags, is_computing}
+use Rattle.bilv_spec.specs.Arm.{opcode, kind_of, field_d, sets_flags, is_computing}
 use Rattle.arm_decode.specs.declared.parts.ShiftKind.{ShiftKind}
 use Rattle.arm_decode.specs.declared.parts.ShiftKind.TheVariants.{Lsl, Lsr, Asr, Ror}
 use Rattle.arm_decode.specs.declared.parts.Operand as operands

@@ -1,9 +1,9 @@
--- The bytes that the lists of LDM and STM store.
-use Rattle.std.proofs.Common.{◌≡◌, ℕ, suc, ◌*◌, ◌^◌, ◌<◌, Bool, true, false, refl, ap, ◌∙◌, arith, List, [], ◌∷◌, ◌++◌, length, Option, Some, None, bit_and}
+-- The bytes that the list of STM stores.
+use Rattle.std.proofs.Common.{◌≡◌, ℕ, suc, ◌*◌, ◌^◌, ◌<◌, Bool, true, false, refl, ap, ◌∙◌, arith, List, [], ◌∷◌, ◌++◌, length, Option}
 use Rattle.std.specs.Prelude.{◌==◌}
 use Rattle.bilv_spec.specs.Words.{add, aligned}
-use Rattle.bilv_spec.specs.Memory.{Endian, Memory, load, store, span}
-use Rattle.bilv_spec.specs.State.{State, put}
+use Rattle.bilv_spec.specs.Memory.{Endian, Memory, store, span}
+use Rattle.bilv_spec.specs.State.{State}
 use Rattle.bilv_spec.specs.Arm.{stored_reg}
 use Rattle.bilv_spec.specs.Bil as bil
 use Rattle.bilv_spec.specs.Bil.{Statements}
@@ -14,30 +14,6 @@ use Rattle.arm_lift_alu.proofs.Plain.{nothing_chosen}
 use Rattle.arm_lift_blocks.specs.Lifted as lifts
 use Rattle.arm_lift_blocks.proofs.Numbers.{address_is}
 use Rattle.arm_lift_blocks.proofs.Runs.{with_mem, stored_is}
-
-pub written_bytes : (writes up : Bool) (b n c : ℕ) (s : Position) → list_stored (lifts.written_back writes up b n) c s ≡ []
-written_bytes true true b n c s = refl
-written_bytes true false b n c s = refl
-written_bytes false up b n c s = refl
-
-pub base_bytes : (place : Option ℕ) (e : Endian) (writes up : Bool) (b n c : ℕ) (s : Position) → list_stored (lifts.base_last place e writes up b n) c s ≡ []
-base_bytes (Some d) e writes up b n c s = refl
-base_bytes None e writes up b n c s = written_bytes writes up b n c s
-
--- a word that is loaded
-abbrev word_in : Endian → (b d : ℕ) → Env → ℕ
-word_in e b d v = load e 4 v.mem (add 32 (bit_and (v.regs b) 0xfffffffc) d)
-
-one_loads : (p q : Bool) (e : Endian) (b d r c : ℕ) (s : Position) (rest : Statements) → ((t : Position) → list_stored rest c t ≡ []) →
-    list_stored (lifts.load_one p q e b d r rest) c s ≡ []
-one_loads true q e b d r c s rest h = h s
-one_loads false true e b d r c s rest h = h (record s { jump = Some (word_in e b d s.env) })
-one_loads false false e b d r c s rest h = h (record s { env = record s.env { regs = put s.env.regs r (word_in e b d s.env) } })
-
-pub loads_bytes : (e : Endian) (b d c : ℕ) (rs : List ℕ) (rest : Statements) (s : Position) → ((t : Position) → list_stored rest c t ≡ []) →
-    list_stored (lifts.loads e b d rs rest) c s ≡ []
-loads_bytes e b d c [] rest s h = h s
-loads_bytes e b d c (r ∷ rs) rest s h = one_loads (r == b) (r == 15) e b d r c s _ (λ t. loads_bytes e b (add 32 d 4) c rs rest t h)
 
 value_bytes : (p : Bool) (r at c : ℕ) (e : Env) → stored_by (lifts.stored_by p r at) c e ≡ []
 value_bytes true r at c e = nothing_chosen (evaluate (bil.Unknown (bil.Bits 1)) c e)

@@ -5,6 +5,5 @@ mod Parts
 mod Listed
 mod Bytes
 mod Blocks
-mod Rows
 mod Pushes
 mod Liftings

@@ -1,5 +1,5 @@
 -- The base of an access: its address, the write-back, and the address behind it.
-use Rattle.std.proofs.Common.{◌≡◌, ℕ, ◌^◌, ◌<◌, Bool, true, false, not, refl, ap, sym, subst, ◌∙◌, arith, Option, None, if◌then◌else◌, List}
+use Rattle.std.proofs.Common.{◌≡◌, ℕ, ◌^◌, ◌<◌, Bool, true, false, not, refl, ap, sym, ◌∙◌, arith, Option, if◌then◌else◌, List}
 use Rattle.std.specs.Prelude.{◌==◌}
 use Rattle.std.proofs.lemmas.Bool.{ne_eqb}
 use Rattle.std.proofs.lemmas.Bool.Decides.{nat_tests}
@@ -9,7 +9,7 @@ use Rattle.bilv_spec.specs.Arm as rows
 use Rattle.bilv_spec.specs.Arm.{reg, is_up, is_pre, writes_back, base_written, field_n}
 use Rattle.bilv_spec.specs.Bil.{RRegisters, Expression, Statements}
 use Rattle.bilv_spec.specs.Bil as bil
-use Rattle.bilv_spec.specs.BilMeaning.{Word, evaluate, execute, Position}
+use Rattle.bilv_spec.specs.BilMeaning.{execute}
 use Rattle.bilv_spec.specs.BilStores.{list_stored, stored_by}
 use Rattle.bilv_spec.specs.Simulation.{Locals, env_of, position}
 use Rattle.bilv_spec.proofs.ArmRanges.{reg_small, base_small, moved_small}
@@ -21,7 +21,7 @@ use Rattle.arm_lift_alu.specs.Operands.{own, register}
 use Rattle.arm_lift_alu.proofs.Values.{register_gives}
 use Rattle.arm_lift_mem.specs.Accesses as lifts
 use Rattle.arm_lift_mem.specs.Accesses.{moved_number}
-use Rattle.arm_lift_mem.proofs.Values.{IsWord, word_is, moved_is, moved_value, moved_below, back}
+use Rattle.arm_lift_mem.proofs.Values.{IsWord, word_is, moved_is, moved_value, back}
 
 -- the state behind the write-back
 abbrev pub based : ℕ → State → ℕ → State

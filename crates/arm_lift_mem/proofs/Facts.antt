@@ -1,9 +1,9 @@
 -- What a word of a load or a store says of its registers.
-use Rattle.std.proofs.Common.{◌≡◌, ℕ, ◌/◌, ◌%◌, ◌<◌, Bool, true, false, not, ◌&&◌, ◌||◌, refl, ap, sym, ◌∙◌, arith}
+use Rattle.std.proofs.Common.{◌≡◌, ℕ, ◌%◌, ◌<◌, Bool, true, false, not, ◌&&◌, ◌||◌, refl, ap, arith}
 use Rattle.std.specs.Prelude.{◌==◌}
 use Rattle.std.proofs.lemmas.Bool.Decides.{nat_tests}
 use Rattle.bilv_spec.specs.Words.{bits}
-use Rattle.bilv_spec.specs.Arm.{field_n, field_d, field_m, bit_i, bit_w, is_pre, is_byte, is_load, has_offset, has_bit, writes_back, is_bad_base, is_transfer, is_halfword, is_swap, kind_of}
+use Rattle.bilv_spec.specs.Arm.{field_n, field_d, field_m, bit_i, bit_w, is_pre, is_byte, has_offset, writes_back, is_bad_base, is_transfer, is_halfword, is_swap}
 
 left : (a b : Bool) → (a && b) ≡ true → a ≡ true
 left true b h = refl

@@ -1,13 +1,12 @@
 -- The lists of LDRH, STRH, LDRSB and LDRSH are liftings of their rows.
-use Rattle.std.proofs.Common.{◌≡◌, ℕ, zero, suc, ◌+◌, ◌*◌, ◌/◌, ◌%◌, ◌^◌, ◌<◌, ◌≤◌, Bool, true, false, not, ◌&&◌, refl, ap, sym, subst, ◌∙◌, arith, List, [], ◌++◌, append-nil, Option, Some, None, if◌then◌else◌}
+use Rattle.std.proofs.Common.{◌≡◌, ℕ, zero, suc, ◌+◌, ◌/◌, ◌%◌, ◌^◌, ◌<◌, ◌≤◌, Bool, true, false, not, ◌&&◌, refl, ap, sym, subst, ◌∙◌, arith, [], ◌++◌, append-nil, Some, None, if◌then◌else◌}
 use Rattle.std.specs.Prelude.{◌==◌}
-use Rattle.std.proofs.lemmas.Bool.Decides.{nat_tests}
 use Rattle.bilv_spec.specs.Words.{sign_extend}
 use Rattle.bilv_spec.specs.Memory.{Endian, Memory, load, store}
 use Rattle.bilv_spec.specs.State.{State, IsState, put}
 use Rattle.bilv_spec.specs.Machine.{Outcome, Raises, OddHalfword, addresses}
 use Rattle.bilv_spec.specs.Arm as rows
-use Rattle.bilv_spec.specs.Arm.{arm, reg, on, field_n, field_d, kind_of, is_load, is_halfword, writes_back, base_written, halfword_size, halfword_value, halfword_by, halfword_done, halfword_address, halfword_offset, halfword, condition_code, holds, when_stored, none}
+use Rattle.bilv_spec.specs.Arm.{arm, reg, on, field_d, is_load, is_halfword, writes_back, base_written, halfword_size, halfword_value, halfword_by, halfword_done, halfword_address, halfword_offset, halfword, condition_code, holds, when_stored, none}
 use Rattle.bilv_spec.specs.Bil.{RRegisters, Mem, CastKind, Expression, Var, Load, Store, Cast, Statements, Empty, Assign}
 use Rattle.bilv_spec.specs.Bil as bil
 use Rattle.bilv_spec.specs.BilMeaning.{Word, Bytes, Position, Ends, RaisesException, branch_on, then_do, evaluate, execute}
@@ -16,7 +15,6 @@ use Rattle.bilv_spec.specs.BilStores.{list_stored, then_stored, chosen}
 use Rattle.bilv_spec.specs.Simulation.{Locals, env_of, position, of_list, of_row, Simulates}
 use Rattle.bilv_spec.specs.MachineLaws.{IsLifting}
 use Rattle.bilv_spec.proofs.ArmRanges.{reg_small}
-use Rattle.bilv_spec.proofs.WordBounds.{stored_below}
 use Rattle.byte_mem.proofs.Numbers.{store_cut}
 use Rattle.arm_decode.specs.declared.parts.Condition.{Condition}
 use Rattle.arm_decode.specs.declared.parts.Indexing.{Indexing}
@@ -31,15 +29,14 @@ use Rattle.arm_lift_alu.proofs.Plain.{IsPlain, own_register, cast_plain}
 use Rattle.arm_lift_alu.proofs.Weights.{register_plain}
 use Rattle.arm_lift_mem.specs.Accesses as parts
 use Rattle.arm_lift_mem.specs.Halfwords as lifts
-use Rattle.arm_lift_mem.proofs.Fetches.{IsFetch, fetch, load_fetch, cast_fetch}
-use Rattle.arm_lift_mem.proofs.Lists.{IsAccess, empty_access, spare, register_access, store_access, unless_access}
-use Rattle.arm_lift_mem.proofs.Rows.{conditional_lifting}
+use Rattle.arm_lift_alu.proofs.Fetches.{IsFetch, fetch, load_fetch, cast_fetch}
+use Rattle.arm_lift_alu.proofs.Accesses.{IsAccess, empty_access, spare, register_access, store_access}
+use Rattle.arm_lift_alu.proofs.AccessRows.{conditional_lifting}
 use Rattle.arm_lift_mem.proofs.Values.{IsWord, word_is}
-use Rattle.arm_lift_mem.proofs.Bases.{based, own_reg, register_value, address_below, address_value, state_behind, written_back_runs, written_back_stores, again_value}
+use Rattle.arm_lift_mem.proofs.Bases.{based, register_value, address_below, address_value, written_back_runs, written_back_stores, again_value}
 use Rattle.arm_lift_mem.proofs.Facts.{halfword_n}
-use Rattle.arm_lift_mem.proofs.Parts.{address_plain, again_plain, written_access}
+use Rattle.arm_lift_mem.proofs.Parts.{address_plain, again_plain, written_access, unless_access}
 use Rattle.arm_lift_mem.proofs.Offsets.{half_plain, half_value, half_below, half_behind}
-use Rattle.arm_lift_mem.proofs.TransferRows.{skipped_stores}
 
 -- what an access loads, and how many bytes it has
 abbrev value_of : HalfwordOp → Endian → Memory → ℕ → ℕ
@@ -174,7 +171,7 @@ module _ (m : Endian) (w at : ℕ) (k : Condition) (i : HalfwordFields) (code : 
       list_stored list c (position k turns None s) ≡ addresses ((halfword m w).stored s)) →
       l ≤ (halfword m w).cost.loads → t ≤ (halfword m w).cost.stores → IsLifting (arm m) RRegisters (halfword m w) at (conditional k list)
   lifting l t list runs static places loads stores =
-      conditional_lifting m w at 600 l t 0 (λ s c. halfword_done m w s) (halfword m w).stored none false (halfword m w).cost.loads (halfword m w).cost.stores
+      conditional_lifting m w at 600 4096 l t 0 (λ s c. halfword_done m w s) (halfword m w).stored none false (halfword m w).cost.loads (halfword m w).cost.stores
       (halfword m w).successors (halfword m w).literal list runs static places
       (λ s h. skipped (holds w s) (not (is_load w)) (halfword_address w s % 2 == 0) (halfword_address w s, 2) h) (λ t. refl) (λ a h. cc)
       (omega arith) loads stores k code

@@ -1,6 +1,4 @@
 pub mod Fetches
-pub mod Lists
-pub mod Rows
 pub mod Values
 pub mod Bases
 pub mod Facts

@@ -1,20 +1,20 @@
 -- The lists of literal loads are liftings of their rows.
-use Rattle.std.proofs.Common.{◌≡◌, ℕ, ◌+◌, ◌*◌, ◌%◌, ◌^◌, ◌<◌, ◌≤◌, Bool, true, false, not, ◌&&◌, ◌||◌, refl, ap, sym, subst, ◌∙◌, arith, Option, Some, None, if◌then◌else◌}
+use Rattle.std.proofs.Common.{◌≡◌, ℕ, ◌+◌, ◌*◌, ◌%◌, ◌^◌, ◌<◌, ◌≤◌, Bool, true, false, not, ◌&&◌, ◌||◌, refl, ap, sym, subst, ◌∙◌, arith, Some, None, if◌then◌else◌}
 use Rattle.std.specs.Prelude.{◌==◌, nat_lt}
 use Rattle.std.proofs.lemmas.Bool.{eqb-true}
 use Rattle.std.proofs.lemmas.Bool.Decides.{nat_tests}
 use Rattle.bilv_spec.specs.Words as words
 use Rattle.bilv_spec.specs.Words.{add, bits}
-use Rattle.bilv_spec.specs.Memory.{Endian, Little, Big, Memory, load}
-use Rattle.bilv_spec.specs.State.{State, IsState, put, with_pc}
-use Rattle.bilv_spec.specs.Machine.{Goes, Raises, Indirect, addresses}
+use Rattle.bilv_spec.specs.Memory.{Endian, Little, Big}
+use Rattle.bilv_spec.specs.State.{State, put, with_pc}
+use Rattle.bilv_spec.specs.Machine.{Goes, Indirect}
 use Rattle.bilv_spec.specs.Arm as rows
-use Rattle.bilv_spec.specs.Arm.{arm, reg, on, field_n, field_d, bit_i, bit_w, is_load, is_byte, is_pre, is_up, is_transfer, writes_back, base_written, load_by, load_word, access_of, transferred, loaded_by, write_by, transfer_address, transfer_offset, single_transfer, literal_address, condition_code, holds}
-use Rattle.bilv_spec.specs.Bil.{RRegisters, Mem, Var, Constant, Load, Statements, Empty, Assign, JumpTo, Raise}
+use Rattle.bilv_spec.specs.Arm.{arm, reg, on, field_n, field_d, bit_i, is_load, is_byte, is_up, is_transfer, writes_back, base_written, load_by, load_word, access_of, transferred, loaded_by, write_by, transfer_address, transfer_offset, single_transfer, literal_address, condition_code, holds}
+use Rattle.bilv_spec.specs.Bil.{RRegisters, Mem, Var, Constant, Load, Statements, Empty, Assign, JumpTo}
 use Rattle.bilv_spec.specs.Bil as bil
-use Rattle.bilv_spec.specs.BilMeaning.{Word, assign, assigned, then_do, evaluate, execute}
+use Rattle.bilv_spec.specs.BilMeaning.{assign, assigned, then_do, execute}
 use Rattle.bilv_spec.specs.BilCounts.{other_loads, byte_stores, same_order}
-use Rattle.bilv_spec.specs.Simulation.{Locals, env_of, position, of_list, of_row, Simulates}
+use Rattle.bilv_spec.specs.Simulation.{env_of, position, of_list, of_row, Simulates}
 use Rattle.bilv_spec.specs.MachineLaws.{IsLifting}
 use Rattle.arm_decode.specs.declared.parts.Condition.{Condition}
 use Rattle.arm_decode.specs.declared.parts.Indexing.{Indexing}
@@ -29,13 +29,12 @@ use Rattle.arm_lift_alu.specs.Operands.{register}
 use Rattle.arm_lift_alu.proofs.Plain.{number_plain, constant_plain}
 use Rattle.arm_lift_mem.specs.Accesses as parts
 use Rattle.arm_lift_mem.specs.Transfers as lifts
-use Rattle.arm_lift_mem.proofs.Fetches.{IsFetch, fetch, load_fetch, word_fetch}
-use Rattle.arm_lift_mem.proofs.Lists.{IsAccess, empty_access, raise_access, spare, register_access, jump_access}
-use Rattle.arm_lift_mem.proofs.Rows.{conditional_lifting}
-use Rattle.arm_lift_mem.proofs.Values.{IsWord, word_is, word_value, moved_is, moved_below}
+use Rattle.arm_lift_alu.proofs.Fetches.{load_fetch}
+use Rattle.arm_lift_mem.proofs.Fetches.{word_fetch}
+use Rattle.arm_lift_alu.proofs.Accesses.{IsAccess, empty_access, raise_access, spare, register_access, jump_access}
+use Rattle.arm_lift_alu.proofs.AccessRows.{conditional_lifting}
+use Rattle.arm_lift_mem.proofs.Values.{word_value, moved_is, moved_below}
 use Rattle.arm_lift_mem.proofs.Bases.{based}
-use Rattle.arm_lift_mem.proofs.Facts.{transfer_word}
-use Rattle.arm_lift_mem.proofs.Parts.{bytes_of}
 use Rattle.arm_lift_mem.proofs.Offsets.{offset_reads}
 use Rattle.arm_lift_mem.proofs.TransferRows.{unrotated, none_stored, skipped_stores, enough_loads, load_lifting, pc_lifting, store_lifting}
 
@@ -101,7 +100,7 @@ module _ (m : Endian) (w at : ℕ) (k : Condition) (code : condition_number k �
   lifting : (v : ℕ) (list : Statements) → Simulates (transferred (is_load w) m w) at list → IsAccess v 4 0 0 (offset_reads w) list → v + 70 ≤ 4096 →
       other_loads m (words.aligned a) list ≡ 0 → byte_stores list ≡ 0 → IsLifting (arm m) RRegisters (single_transfer m w) at (conditional k list)
   lifting v list runs static fits alone stores =
-      conditional_lifting m w at v 4 0 0 (transferred (is_load w) m w) (single_transfer m w).stored (offset_reads w) (single_transfer m w).draws
+      conditional_lifting m w at v 4096 4 0 0 (transferred (is_load w) m w) (single_transfer m w).stored (offset_reads w) (single_transfer m w).draws
       (single_transfer m w).cost.loads (single_transfer m w).cost.stores (single_transfer m w).successors (literal_address w) list runs static
       (λ s is here held c turns l. static.stored refl c _ ∙ sym (none_stored (holds w s) (is_load w) (access_of (is_byte w) (transfer_address w s)) loads))
       (λ s h. skipped_stores (holds w s) (not (is_load w)) (access_of (is_byte w) (transfer_address w s)) h) (λ t. refl)

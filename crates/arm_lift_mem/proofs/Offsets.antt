@@ -1,13 +1,11 @@
 -- The offsets of accesses.
-use Rattle.std.proofs.Common.{◌≡◌, ℕ, ◌+◌, ◌*◌, ◌%◌, ◌^◌, ◌<◌, Bool, true, false, ◌&&◌, not, refl, ap, sym, subst, ◌∙◌, arith, if◌then◌else◌}
+use Rattle.std.proofs.Common.{◌≡◌, ℕ, ◌+◌, ◌*◌, ◌^◌, ◌<◌, Bool, true, false, ◌&&◌, refl, ap, sym, subst, ◌∙◌, arith, if◌then◌else◌}
 use Rattle.std.proofs.lemmas.Bool.Decides.{nat_tests}
 use Rattle.std.specs.Prelude.{◌==◌}
 use Rattle.bilv_spec.specs.Words.{bits}
 use Rattle.bilv_spec.specs.State.{State, IsState, flag_c}
 use Rattle.bilv_spec.specs.Arm as rows
-use Rattle.bilv_spec.specs.Arm.{reg, bit_i, has_offset, field_m, field_s, kind_of, amount_of, flag_set, writes_back, field_n, is_transfer, is_halfword, transfer_offset, halfword_offset, none}
-use Rattle.bilv_spec.specs.BilMeaning.{Word, evaluate}
-use Rattle.bilv_spec.specs.Simulation.{Locals, env_of}
+use Rattle.bilv_spec.specs.Arm.{reg, bit_i, has_offset, field_m, field_s, kind_of, amount_of, flag_set, is_transfer, is_halfword, transfer_offset, halfword_offset, none}
 use Rattle.bilv_spec.proofs.ArmRanges.{reg_small}
 use Rattle.arm_decode.specs.declared.parts.ShiftKind.{ShiftKind}
 use Rattle.arm_decode.specs.declared.parts.ShiftKind.TheVariants.{Lsl, Lsr, Asr, Ror}
@@ -20,7 +18,7 @@ use Rattle.arm_decode.specs.declared.parts.HalfwordOffset as halves
 use Rattle.arm_decode.specs.declared.parts.HalfwordOffset.TheVariants as half
 use Rattle.arm_decode.specs.Parts.{kind_number, HasOffset, HasHalfwordOffset}
 use Rattle.arm_lift_alu.specs.declared.shifter.CarryIn.TheVariants.{Flag}
-use Rattle.arm_lift_alu.specs.Operands.{register, through_carry}
+use Rattle.arm_lift_alu.specs.Operands.{through_carry}
 use Rattle.arm_lift_alu.proofs.Plain.{IsPlain, number_plain, lighter}
 use Rattle.arm_lift_alu.proofs.Weights.{HasCarry, register_plain, operand_plain}
 use Rattle.arm_lift_alu.proofs.Values.{Gives, operand_gives, small}

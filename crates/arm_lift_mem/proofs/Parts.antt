@@ -1,20 +1,23 @@
 -- What is said of addresses, of what is loaded and stored, and of the write-back, without their values.
-use Rattle.std.proofs.Common.{◌≡◌, ℕ, ◌+◌, ◌*◌, ◌%◌, ◌^◌, ◌<◌, ◌≤◌, Bool, true, false, ◌&&◌, refl, ap, ◌∙◌, arith}
-use Rattle.bilv_spec.specs.Words as words
-use Rattle.bilv_spec.specs.Words.{add}
+use Rattle.std.proofs.Common.{◌≡◌, ℕ, ◌+◌, ◌<◌, ◌≤◌, Bool, true, false, refl, arith}
 use Rattle.bilv_spec.specs.Memory.{Endian}
-use Rattle.bilv_spec.specs.Bil.{RRegisters, Mem, Expression, Var, Constant, Load, Statements, Assign}
+use Rattle.bilv_spec.specs.Bil.{RRegisters, Mem, Expression, Statements, Assign}
 use Rattle.bilv_spec.specs.Bil as bil
+use Rattle.bilv_spec.specs.BilMeaning.{evaluate}
+use Rattle.bilv_spec.specs.BilCounts.{reads_flag}
+use Rattle.bilv_spec.specs.BilStores.{list_stored}
 use Rattle.bilv_spec.specs.Arm.{writes_back}
 use Rattle.arm_decode.specs.declared.parts.Indexing.{Indexing}
 use Rattle.arm_decode.specs.declared.parts.Indexing.TheVariants as indexing
 use Rattle.arm_decode.specs.Parts.{HasIndexing}
-use Rattle.arm_lift_alu.specs.Lifted.{number}
 use Rattle.arm_lift_alu.specs.Operands.{own}
-use Rattle.arm_lift_alu.proofs.Plain.{IsPlain, own_register, number_plain, constant_plain, binary_plain, cast_plain, concat_plain, lighter}
+use Rattle.arm_lift_alu.proofs.Plain.{IsPlain, nothing_chosen, own_register, number_plain, constant_plain, binary_plain, cast_plain, concat_plain, lighter}
 use Rattle.arm_lift_mem.specs.Accesses as lifts
-use Rattle.arm_lift_mem.proofs.Fetches.{IsFetch, fetch, load_fetch, cast_fetch, word_fetch, roomier}
-use Rattle.arm_lift_mem.proofs.Lists.{IsAccess, spare, register_access, store_access}
+use Rattle.arm_lift_mem.specs.Accesses.{unless}
+use Rattle.arm_lift_alu.proofs.Fetches.{IsFetch, fetch, load_fetch, cast_fetch, roomier}
+use Rattle.arm_lift_mem.proofs.Fetches.{word_fetch}
+use Rattle.arm_lift_alu.proofs.Lists.{then_nothing}
+use Rattle.arm_lift_alu.proofs.Accesses.{IsAccess, allowed_test, spare, register_access, store_access}
 
 pub moved_plain : (up : Bool) (v : ℕ) (r : ℕ → Bool) (a b : Expression) → IsPlain 32 0 r a → IsPlain 32 v r b → IsPlain 32 (v + 64) r (lifts.moved up a b)
 moved_plain true v r a b p q = binary_plain bil.Plus 32 0 v (v + 64) r a b p q refl (omega arith)
@@ -78,3 +81,24 @@ stored_access true o v y w l k t u z r a e rest p q s =
     store_access 8 v y w l k t u z (v + 32 + y + w) o r a _ rest p (cast_fetch bil.Low 8 32 y l u r e q refl) s (omega arith) refl refl (omega arith)
 stored_access false o v y w l k t u z r a e rest p q s =
     store_access 32 (v + 32) y w l k t u z (v + 32 + y + w) o r _ e rest (aligned_plain v r a p) q s (omega arith) refl refl (omega arith)
+
+-- an exception where a bit is set, and else a list
+pub unless_access : (n v w l t u x : ℕ) (r : ℕ → Bool) (e : Expression) (rest : Statements) → IsPlain 1 v r e → IsAccess w l t u r rest → 8 + v + w ≤ x →
+    IsAccess x l t u r (unless e n rest)
+unless_access n v w l t u x r e rest p s h = record {
+  typed = λ at. rw (p.typed (at + 1)) (s.typed _);
+  no_loop = s.no_loop;
+  no_special = s.no_special;
+  nests = let i = s.nests in omega arith;
+  names = λ m. rw (p.names m) (s.names m);
+  unknowns = let i = p.unknowns in let j = s.unknowns in omega arith;
+  picks = let i = p.picks in let j = s.picks in omega arith;
+  steady = let i = p.steady in let j = s.steady in omega arith;
+  weight = let i = p.weight in let j = s.weight in omega arith;
+  loads = let i = p.loads in let j = s.loads in omega arith;
+  stores = let i = p.stores in let j = s.stores in omega arith;
+  assigns = s.assigns;
+  reads = λ f a i g. rw (allowed_test (reads_flag f e) (r f) a (p.reads f) g) (s.reads f a i g);
+  reads_first = s.reads_first;
+  stored = λ z c b. rw (p.stored c b.env, nothing_chosen (evaluate e c b.env)) (then_nothing _ (list_stored rest c) (s.stored z c));
+}

@@ -1,21 +1,20 @@
 -- The lists of SWP and SWPB are liftings of their rows.
-use Rattle.std.proofs.Common.{◌≡◌, ℕ, zero, suc, ◌+◌, ◌-◌, ◌*◌, ◌/◌, ◌%◌, ◌^◌, ◌<◌, ◌≤◌, Bool, true, false, not, ◌&&◌, refl, ap, sym, subst, ◌∙◌, arith, List, [], ◌++◌, append-nil, Option, Some, None, if◌then◌else◌}
+use Rattle.std.proofs.Common.{◌≡◌, ℕ, ◌+◌, ◌*◌, ◌%◌, ◌^◌, ◌<◌, ◌≤◌, Bool, true, false, refl, ap, sym, ◌∙◌, arith, [], append-nil, Some, None, if◌then◌else◌}
 use Rattle.std.specs.Prelude.{◌==◌, nat_lt}
 use Rattle.std.proofs.lemmas.Bool.{eqb-true}
 use Rattle.std.proofs.lemmas.Bool.Decides.{nat_tests}
 use Rattle.std.proofs.Math.Path.{fun_ext}
 use Rattle.bilv_spec.specs.Words as words
-use Rattle.bilv_spec.specs.Words.{add, sub, ror}
+use Rattle.bilv_spec.specs.Words.{add, sub}
 use Rattle.bilv_spec.specs.Memory.{Endian, Little, Big, Memory, load, store, number, byte_of}
 use Rattle.bilv_spec.specs.State.{State, IsState, put}
 use Rattle.bilv_spec.specs.Machine.{addresses}
-use Rattle.bilv_spec.specs.Arm as rows
-use Rattle.bilv_spec.specs.Arm.{arm, reg, on, field_n, field_d, field_m, is_byte, is_swap, load_by, load_word, store_by, access_of, swapped, swap, condition_code, holds, when_stored, flag_set, none}
-use Rattle.bilv_spec.specs.Bil.{RRegisters, Mem, Expression, Var, Load, Binary, Cast, Statements, Empty, Assign}
+use Rattle.bilv_spec.specs.Arm.{arm, reg, on, field_n, field_d, field_m, is_byte, is_swap, load_by, store_by, access_of, swapped, swap, condition_code, holds, when_stored, none}
+use Rattle.bilv_spec.specs.Bil.{RRegisters, Expression, Binary, Statements, Empty}
 use Rattle.bilv_spec.specs.Bil as bil
-use Rattle.bilv_spec.specs.BilMeaning.{Word, Bytes, evaluate, execute}
+use Rattle.bilv_spec.specs.BilMeaning.{Word, Bytes, evaluate}
 use Rattle.bilv_spec.specs.BilStores.{list_stored}
-use Rattle.bilv_spec.specs.Simulation.{Locals, env_of, position, of_list, of_row, Simulates}
+use Rattle.bilv_spec.specs.Simulation.{Locals, env_of, position, of_row, Simulates}
 use Rattle.bilv_spec.specs.MachineLaws.{IsLifting}
 use Rattle.bilv_spec.proofs.ArmRanges.{load_1, load_by_small, reg_small, put_below}
 use Rattle.arm_decode.specs.declared.parts.Condition.{Condition}
@@ -27,14 +26,14 @@ use Rattle.arm_lift_alu.specs.Operands.{own}
 use Rattle.arm_lift_alu.proofs.Plain.{IsPlain, own_register}
 use Rattle.arm_lift_mem.specs.Accesses as parts
 use Rattle.arm_lift_mem.specs.Swaps as lifts
-use Rattle.arm_lift_mem.proofs.Fetches.{IsFetch, fetch, load_fetch, cast_fetch, binary_fetch, roomier}
-use Rattle.arm_lift_mem.proofs.Lists.{IsAccess, empty_access, spare, register_access}
-use Rattle.arm_lift_mem.proofs.Rows.{conditional_lifting}
+use Rattle.arm_lift_alu.proofs.Fetches.{IsFetch, fetch, load_fetch, cast_fetch, binary_fetch, roomier}
+use Rattle.arm_lift_alu.proofs.Accesses.{IsAccess, empty_access, spare, register_access}
+use Rattle.arm_lift_alu.proofs.AccessRows.{conditional_lifting}
 use Rattle.arm_lift_mem.proofs.Values.{IsWord, word_is, aligned_value, loaded_value, stored_value, stored_places}
 use Rattle.arm_lift_mem.proofs.Bases.{own_reg, put_same}
-use Rattle.arm_lift_mem.proofs.Facts.{swap_n_m, swap_n_d}
+use Rattle.arm_lift_mem.proofs.Facts.{swap_n_d}
 use Rattle.arm_lift_mem.proofs.Parts.{loaded_fetch, bytes_of, stored_access, aligned_plain}
-use Rattle.arm_lift_mem.proofs.TransferRows.{skipped_stores, same_bytes}
+use Rattle.arm_lift_mem.proofs.TransferRows.{same_bytes}
 
 -- a load of what was just stored
 inside : (j n i y z : ℕ) (f : ℕ → ℕ) → j ≡ i → i < n → (if nat_lt j n then f j else z) ≡ f i
@@ -192,7 +191,7 @@ module _ (m : Endian) (w at : ℕ) (k : Condition) (i : SwapFields) (code : cond
       list_stored list c (position k turns None s) ≡ addresses (Some (access_of b (place s)))) →
       v + 70 ≤ 4096 → l ≤ (swap m w).cost.loads → IsLifting (arm m) RRegisters (swap m w) at (conditional k list)
   lifting v l list runs static places fits loads =
-      conditional_lifting m w at v l (bytes_of b) 0 (λ s c. swapped m w s) (swap m w).stored none false (swap m w).cost.loads (swap m w).cost.stores
+      conditional_lifting m w at v 4096 l (bytes_of b) 0 (λ s c. swapped m w s) (swap m w).stored none false (swap m w).cost.loads (swap m w).cost.stores
       (swap m w).successors (swap m w).literal list runs static
       (λ s is here held c turns k. places s is here c turns k ∙ ap (λ z. addresses (Some z)) (place_is s) ∙ held_stores (holds w s) _ held)
       (λ s h. skipped (holds w s) _ h) (λ t. refl) (λ a h. cc) fits loads

@@ -1,19 +1,19 @@
 -- The lists of LDR, LDRB, STR and STRB are liftings of their rows, but for those of literals.
-use Rattle.std.proofs.Common.{◌≡◌, ℕ, zero, suc, ◌+◌, ◌-◌, ◌*◌, ◌/◌, ◌%◌, ◌^◌, ◌<◌, ◌≤◌, Bool, true, false, not, ◌&&◌, refl, ap, sym, subst, ◌∙◌, arith, List, [], ◌++◌, append-nil, Option, Some, None, if◌then◌else◌}
+use Rattle.std.proofs.Common.{◌≡◌, ℕ, zero, suc, ◌+◌, ◌*◌, ◌/◌, ◌%◌, ◌^◌, ◌<◌, ◌≤◌, Bool, true, false, not, ◌&&◌, refl, ap, sym, subst, ◌∙◌, arith, [], append-nil, Some, None, if◌then◌else◌}
 use Rattle.std.specs.Prelude.{◌==◌}
 use Rattle.std.proofs.lemmas.Bool.Decides.{nat_tests}
 use Rattle.bilv_spec.specs.Words as words
 use Rattle.bilv_spec.specs.Words.{add, bit, ror}
 use Rattle.bilv_spec.specs.Memory.{Endian, Memory, load}
 use Rattle.bilv_spec.specs.State.{State, IsState, put, with_pc}
-use Rattle.bilv_spec.specs.Machine.{Outcome, Goes, Raises, On, Indirect, UnalignedLoad, addresses}
+use Rattle.bilv_spec.specs.Machine.{Goes, Indirect, addresses}
 use Rattle.bilv_spec.specs.Arm as rows
-use Rattle.bilv_spec.specs.Arm.{arm, reg, stored_reg, on, has_bit, field_n, field_d, is_load, is_byte, is_transfer, writes_back, base_written, load_by, load_word, store_by, access_of, transferred, loaded_by, write, write_by, transfer_address, transfer_offset, single_transfer, literal_address, condition_code, holds, when_stored}
-use Rattle.bilv_spec.specs.Bil.{RRegisters, Mem, Expression, Var, Load, Statements, Empty, Assign, JumpTo, Raise}
+use Rattle.bilv_spec.specs.Arm.{arm, reg, stored_reg, on, has_bit, field_d, is_load, is_byte, is_transfer, writes_back, base_written, load_by, load_word, store_by, access_of, transferred, loaded_by, write_by, transfer_address, transfer_offset, single_transfer, literal_address, condition_code, holds, when_stored}
+use Rattle.bilv_spec.specs.Bil.{RRegisters, Mem, Expression, Var, Load, Statements, Empty, JumpTo}
 use Rattle.bilv_spec.specs.Bil as bil
-use Rattle.bilv_spec.specs.BilMeaning.{Word, Bytes, Position, Ends, RaisesException, choose, branch_on, then_do, evaluate, execute}
-use Rattle.bilv_spec.specs.BilStores.{list_stored, then_stored}
-use Rattle.bilv_spec.specs.Simulation.{Locals, env_of, position, of_list, of_row, Simulates}
+use Rattle.bilv_spec.specs.BilMeaning.{Word, Position, Ends, RaisesException, choose, branch_on, then_do, execute}
+use Rattle.bilv_spec.specs.BilStores.{list_stored}
+use Rattle.bilv_spec.specs.Simulation.{Locals, position, of_list, of_row, Simulates}
 use Rattle.bilv_spec.specs.MachineLaws.{IsLifting}
 use Rattle.bilv_spec.proofs.ArmRanges.{reg_small, store_by_small}
 use Rattle.arm_decode.specs.declared.parts.Condition.{Condition}
@@ -21,19 +21,19 @@ use Rattle.arm_decode.specs.Parts.{condition_number}
 use Rattle.arm_decode.specs.Forms.{IsTransfer}
 use Rattle.arm_decode.specs.declared.forms.TransferFields.{TransferFields}
 use Rattle.arm_decode.specs.declared.parts.Indexing.{Indexing}
-use Rattle.arm_lift_alu.specs.Lifted.{conditional, number}
-use Rattle.arm_lift_alu.specs.Operands.{own, register}
+use Rattle.arm_lift_alu.specs.Lifted.{conditional}
+use Rattle.arm_lift_alu.specs.Operands.{register}
 use Rattle.arm_lift_alu.proofs.Plain.{IsPlain, number_plain, own_register, constant_plain, cast_plain, binary_plain}
 use Rattle.arm_lift_alu.proofs.Weights.{register_plain}
 use Rattle.arm_lift_mem.specs.Accesses as parts
 use Rattle.arm_lift_mem.specs.Transfers as lifts
-use Rattle.arm_lift_mem.proofs.Fetches.{IsFetch, fetch, load_fetch, choice_fetch, unknown_fetch, roomier}
-use Rattle.arm_lift_mem.proofs.Lists.{IsAccess, empty_access, spare, register_access, jump_access, unless_access}
-use Rattle.arm_lift_mem.proofs.Rows.{conditional_lifting}
+use Rattle.arm_lift_alu.proofs.Fetches.{IsFetch, fetch, load_fetch, choice_fetch, unknown_fetch, roomier}
+use Rattle.arm_lift_alu.proofs.Accesses.{IsAccess, empty_access, spare, register_access, jump_access}
+use Rattle.arm_lift_alu.proofs.AccessRows.{conditional_lifting}
 use Rattle.arm_lift_mem.proofs.Values.{IsWord, word_is, loaded_value, stored_value, stored_places}
 use Rattle.arm_lift_mem.proofs.Bases.{based, register_value, address_below, address_value, state_behind, written_back_runs, written_back_stores, again_value}
 use Rattle.arm_lift_mem.proofs.Facts.{transfer_n, transfer_word}
-use Rattle.arm_lift_mem.proofs.Parts.{address_plain, again_plain, written_access, loaded_fetch, bytes_of, stored_access}
+use Rattle.arm_lift_mem.proofs.Parts.{address_plain, again_plain, written_access, loaded_fetch, bytes_of, stored_access, unless_access}
 use Rattle.arm_lift_mem.proofs.Offsets.{offset_reads, offset_plain, offset_value, offset_below, offset_behind}
 
 -- the word at an aligned address is not rotated
@@ -190,7 +190,7 @@ module _ (m : Endian) (w at : ℕ) (k : Condition) (i : TransferFields) (code : 
       ((single_transfer m w).draws ≡ false → u ≡ 0) → literal_address w at ≡ None → v + 70 ≤ 4096 → l ≤ (single_transfer m w).cost.loads →
       t ≤ (single_transfer m w).cost.stores → IsLifting (arm m) RRegisters (single_transfer m w) at (conditional k list)
   lifting v l t u list runs static places drawn none fits loads stores =
-      conditional_lifting m w at v l t u (transferred (is_load w) m w) (single_transfer m w).stored (offset_reads w) (single_transfer m w).draws
+      conditional_lifting m w at v 4096 l t u (transferred (is_load w) m w) (single_transfer m w).stored (offset_reads w) (single_transfer m w).draws
       (single_transfer m w).cost.loads (single_transfer m w).cost.stores (single_transfer m w).successors (literal_address w) list runs static places
       (λ s h. skipped_stores (holds w s) (not (is_load w)) (access_of (is_byte w) (transfer_address w s)) h) drawn (λ a h. cc) fits loads stores k code
 

@@ -1,23 +1,20 @@
 -- What addresses, offsets, loads and stores evaluate to.
-use Rattle.std.proofs.Common.{◌≡◌, ℕ, zero, suc, ◌+◌, ◌-◌, ◌*◌, ◌/◌, ◌%◌, ◌^◌, ◌<◌, ◌≤◌, nat_le, Bool, true, false, not, refl, ap, sym, subst, ◌∙◌, arith, min, bit_and, List, [], ◌++◌, append-nil, Some, None, if◌then◌else◌}
-use Rattle.std.specs.Prelude.{◌==◌}
+use Rattle.std.proofs.Common.{◌≡◌, ℕ, ◌+◌, ◌*◌, ◌/◌, ◌%◌, ◌^◌, ◌<◌, Bool, true, false, not, refl, ap, ◌∙◌, arith, min, bit_and, [], Some, if◌then◌else◌}
 use Rattle.std.proofs.lemmas.Nat.Bits.{and_high}
 use Rattle.bilv_spec.specs.Words as words
 use Rattle.bilv_spec.specs.Words.{add, sub, ror}
-use Rattle.bilv_spec.specs.Memory.{Endian, load, span}
+use Rattle.bilv_spec.specs.Memory.{Endian, load}
 use Rattle.bilv_spec.specs.State.{State, IsState}
 use Rattle.bilv_spec.specs.Machine.{addresses}
 use Rattle.bilv_spec.specs.Arm as rows
 use Rattle.bilv_spec.specs.Arm.{is_up, load_by, store_by, access_of}
-use Rattle.bilv_spec.specs.Bil.{Expression, Var, Mem, Load, Store}
-use Rattle.bilv_spec.specs.Bil as bil
-use Rattle.bilv_spec.specs.BilMeaning.{Value, Word, Bytes, Env, evaluate}
+use Rattle.bilv_spec.specs.Bil.{Expression}
+use Rattle.bilv_spec.specs.BilMeaning.{Word, Bytes, Env, evaluate}
 use Rattle.bilv_spec.specs.BilStores.{stored_by}
 use Rattle.bilv_spec.specs.Simulation.{Locals, env_of}
 use Rattle.bilv_spec.proofs.ArmRanges.{load_4}
 use Rattle.byte_mem.proofs.Numbers.{store_cut}
 use Rattle.arm_lift_alu.proofs.Shifts.{turned_by, rotation}
-use Rattle.arm_lift_alu.proofs.Plain.{IsPlain}
 use Rattle.arm_lift_mem.specs.Accesses as lifts
 
 -- a word of an expression in a state, whatever the locals are

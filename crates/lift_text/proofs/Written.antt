@@ -3,7 +3,8 @@ use Rattle.std.proofs.Common.{◌≡◌, ℕ, ◌+◌, List, [], ◌∷◌, ◌+
 use Rattle.std.specs.Global.{Vec}
 use Rattle.std.specs.List.{flat_map}
 use Rattle.bilv_spec.specs.Memory.{Endian, Little, Big, number}
-use Rattle.bilv_spec.specs.Machine.{Row}
+use Rattle.bilv_spec.specs.Machine.{Machine, Row}
+use Rattle.bilv_spec.specs.Bil.{Bank}
 use Rattle.bilv_spec.specs.Elf.{loaded}
 use Rattle.bilv_spec.specs.Files.{machine_of, is_rv}
 use Rattle.bilv_spec.specs.Texts.{word_text, hex_digits}
@@ -37,6 +38,12 @@ word_is file at bytes e found same =
     ap (λ d. number d 4 (λ i. get_or bytes i 0)) same
     ∙ four_bytes (machine_of file).endian (λ i. get_or bytes i 0) (λ i. byte_at (loaded file (at + i)))
     (found.each 0 (omega arith)) (found.each 1 (omega arith)) (found.each 2 (omega arith)) (found.each 3 (omega arith))
+
+-- what one machine lifts is lifted by its equal
+pub lifted_by : (m n : Machine) (b d : Bank) (row : Option Row) (at : ℕ) (lifted : Option (Vec Stmt)) → m ≡ n → b ≡ d → IsLiftedWord n d row at lifted
+    → IsLiftedWord m b row at lifted
+lifted_by m n b d row at lifted e h is =
+    subst (λ b. IsLiftedWord m b row at lifted) (sym h) (subst (λ m. IsLiftedWord m d row at lifted) (sym e) is)
 
 -- the text by what was lifted
 text_by : (file : List ℕ) (at : ℕ) (row : Option Row) (lifted : Option (Vec Stmt)) (head : List ℕ)

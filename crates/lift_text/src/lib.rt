@@ -3,18 +3,16 @@
 //! Each word has a line, its address and its bytes in the file's order. Its statements follow, two blanks deep; a word without a row says ` none` on its line.
 #![tactic(auto)]
 
-ghost use Rattle.std.specs.Prelude.{◌≡◌, None, IfOk};
+ghost use Rattle.std.specs.Prelude.{◌≡◌, IfOk};
 ghost use Rattle.bilv_spec.specs.Files.{machine_of, is_rv};
-ghost use Rattle.bilv_spec.specs.LiftText.{bank_by, IsLiftText, IsLiftTextBy};
+ghost use Rattle.bilv_spec.specs.LiftText.{bank_by, IsLiftText};
 
 mod candidates;
 mod lines;
-mod rows;
 mod words;
 
 use elf32_reader::Image;
 use machine_law::Machine;
-use rows::NoRows;
 use std::alloc::{AllocError, Global};
 use words::text_by;
 
@@ -26,13 +24,5 @@ pub fn lift_text<M: Machine>(alloc: Global, image: &Image) -> Result<Vec<u8>, Al
     ensures { IfOk result (λ v. IsLiftText image.now v.items) }
 {
     let text = text_by::<M>(alloc, image)?;
-    Ok(text)
-}
-
-/// The same text with no word lifted, for a file of a machine whose rows are not built. The error is want of memory.
-pub fn bare_text(alloc: Global, image: &Image) -> Result<Vec<u8>, AllocError>
-    ensures { IfOk result (λ v. IsLiftTextBy (λ w. None) image.now v.items) }
-{
-    let text = text_by::<NoRows>(alloc, image)?;
     Ok(text)
 }

@@ -9,11 +9,11 @@ ghost use Rattle.lift_text.specs.Progress.{IsAppended, IsAdvance};
 
 use crate::candidates::{Candidate, END, look_at};
 use crate::lines::push_word_line;
-use crate::rows::Rows;
 use bil_ast::Stmt;
 use bil_print::append_stmts;
 use elf32_reader::Image;
 use file_words::word_of;
+use machine_law::{Machine, lift_word};
 use state_text::push_text;
 use std::alloc::{AllocError, Global};
 
@@ -37,53 +37,56 @@ fn push_rest(alloc: Global, out: &mut Vec<u8>, lifted: Option<Vec<Stmt>>) -> Res
 }
 
 /// Appends the lines of a word.
-fn push_word<R: Rows>(
+fn push_word<M: Machine>(
     alloc: Global,
     image: &Image,
     out: &mut Vec<u8>,
     at: u32,
     bytes: [u8; 4],
 ) -> Result<(), AllocError>
-    requires rows { R.IsFor (machine_of image.now) (bank_by (is_rv image.now)) }
+    requires machine { machine_of image.now ≡ M.machine }
+    requires bank { bank_by (is_rv image.now) ≡ M.bank }
     requires found { IsWordFound image.now at bytes }
-    ensures { OnOk result (IsAppended R.row_of image.now at out.old.items out.new.items) }
+    ensures { OnOk result (IsAppended M.machine.row image.now at out.old.items out.new.items) }
 {
     let word = word_of(bytes, image.is_big_machine());
-    let lifted = R::lift(alloc, word, at)?;
+    let lifted = lift_word::<M>(alloc, word, at)?;
     push_word_line(alloc, out, at, bytes)?;
     push_rest(alloc, out, lifted)?;
     Ok(())
 }
 
 /// Appends the lines of the word at a multiple of 4, if one stands there. The result is the multiple of 4 to look at next, 2^32 behind the last.
-fn push_next<R: Rows>(
+fn push_next<M: Machine>(
     alloc: Global,
     image: &Image,
     out: &mut Vec<u8>,
     at: u32,
 ) -> Result<u64, AllocError>
-    requires rows { R.IsFor (machine_of image.now) (bank_by (is_rv image.now)) }
+    requires machine { machine_of image.now ≡ M.machine }
+    requires bank { bank_by (is_rv image.now) ≡ M.bank }
     requires aligned { at % 4 ≡ 0 }
-    ensures { IfOk result (λ next. IsAdvance R.row_of image.now at out.old.items next out.new.items) }
+    ensures { IfOk result (λ next. IsAdvance M.machine.row image.now at out.old.items next out.new.items) }
 {
     match look_at(image, at) {
         Candidate::Next(next) => Ok(next),
         Candidate::Word(bytes) => {
-            push_word::<R>(alloc, image, out, at, bytes)?;
+            push_word::<M>(alloc, image, out, at, bytes)?;
             Ok(at as u64 + 4)
         }
     }
 }
 
 /// The text of all words.
-pub(crate) fn text_by<R: Rows>(alloc: Global, image: &Image) -> Result<Vec<u8>, AllocError>
-    requires { R.IsFor (machine_of image.now) (bank_by (is_rv image.now)) }
-    ensures { IfOk result (λ v. IsLiftTextBy R.row_of image.now v.items) }
+pub(crate) fn text_by<M: Machine>(alloc: Global, image: &Image) -> Result<Vec<u8>, AllocError>
+    requires machine { machine_of image.now ≡ M.machine }
+    requires bank { bank_by (is_rv image.now) ≡ M.bank }
+    ensures { IfOk result (λ v. IsLiftTextBy M.machine.row image.now v.items) }
 {
     let mut out = Vec::new(alloc);
     let mut at: u64 = 0;
     while at < END {
-        at = push_next::<R>(alloc, image, &mut out, at as u32)?;
+        at = push_next::<M>(alloc, image, &mut out, at as u32)?;
     }
     Ok(out)
 }

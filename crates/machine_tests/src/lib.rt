@@ -10,8 +10,6 @@ mod error_texts;
 #[cfg(test)]
 mod images;
 #[cfg(test)]
-mod lift_texts;
-#[cfg(test)]
 mod lifting;
 #[cfg(test)]
 mod notes;

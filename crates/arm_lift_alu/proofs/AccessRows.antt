@@ -1,53 +1,40 @@
 -- A list that loads or stores, under a condition, is a lifting of its row.
-use Rattle.std.proofs.Common.{◌≡◌, ◌↔◌, ℕ, ◌+◌, ◌<◌, ◌≤◌, Bool, true, false, not, ◌&&◌, ◌||◌, refl, sym, ap, subst, ◌∙◌, arith, List, [], ◌++◌, append-nil, Option, Some, None}
+use Rattle.std.proofs.Common.{◌≡◌, ◌↔◌, ℕ, ◌+◌, ◌≤◌, Bool, true, false, not, ◌&&◌, ◌||◌, refl, sym, ap, subst, ◌∙◌, arith, List, [], ◌++◌, append-nil, Option, Some, None}
 use Rattle.std.specs.Prelude.{◌==◌, Contains}
 use Rattle.bilv_spec.specs.Words.{bit}
 use Rattle.bilv_spec.specs.Memory.{Endian}
 use Rattle.bilv_spec.specs.State.{State, IsState}
 use Rattle.bilv_spec.specs.Machine.{Row, Successors, Outcome, addresses}
-use Rattle.bilv_spec.specs.Arm.{arm, row_of, flag_use, none, condition_code, condition_flags, condition_reads, is_always, holds, when}
+use Rattle.bilv_spec.specs.Arm.{arm, row_of, flag_use, none, condition_code, condition_flags, condition_reads, is_always, holds}
 use Rattle.bilv_spec.specs.Bil.{RRegisters, Statements, Empty, If}
-use Rattle.bilv_spec.specs.BilMeaning.{Word, Position, Ending, Ends, RaisesException, OutOfTurns, Wrong, then_do, branch_on, execute}
-use Rattle.bilv_spec.specs.BilCounts.{reads_flag, other_loads, own_other_loads, byte_stores}
-use Rattle.bilv_spec.specs.Bil.{total}
+use Rattle.bilv_spec.specs.BilMeaning.{Word, Ending, Ends, RaisesException, OutOfTurns, Wrong, branch_on, execute}
+use Rattle.bilv_spec.specs.BilCounts.{reads_flag, other_loads, byte_stores}
 use Rattle.bilv_spec.specs.BilStores.{list_stored, chosen, then_stored}
-use Rattle.bilv_spec.specs.Simulation.{Locals, position, of_list, of_row, Simulates}
+use Rattle.bilv_spec.specs.Simulation.{Locals, position, Simulates}
 use Rattle.bilv_spec.specs.MachineLaws.{IsLifting}
 use Rattle.arm_decode.specs.declared.parts.Condition.{Condition}
 use Rattle.arm_decode.specs.declared.parts.Condition.TheVariants.{Eq, Ne, Cs, Cc, Mi, Pl, Vs, Vc, Hi, Ls, Ge, Lt, Gt, Le, Al}
 use Rattle.arm_decode.specs.Parts.{condition_number}
 use Rattle.arm_lift_alu.specs.Lifted as lifts
 use Rattle.arm_lift_alu.proofs.Conditions.{test_plain, test_is, holds_code}
-use Rattle.arm_lift_mem.proofs.Lists.{IsAccess}
+use Rattle.arm_lift_alu.proofs.Rows.{ends, allowed, more}
+use Rattle.arm_lift_alu.proofs.Accesses.{IsAccess}
 
 -- the same addresses
 same : (xs ys : List ℕ) (a : ℕ) → xs ≡ ys → Contains xs a ↔ Contains ys a
 same xs ys a e = (subst (λ (z : List ℕ). Contains z a) e, subst (λ (z : List ℕ). Contains z a) (sym e))
 
 -- a row of a word, by its parts
-abbrev pub row_from : ℕ → (State → ℕ → Outcome) → (stored : State → Option (ℕ × ℕ)) → (reads : ℕ → Bool) → (draws : Bool) → (loads stores : ℕ) →
+abbrev pub row_from : ℕ → (State → ℕ → Outcome) → (stored : State → Option (ℕ × ℕ)) → (reads : ℕ → Bool) → (draws : Bool) → (price loads stores : ℕ) →
     (successors : ℕ → Successors) → (literal : ℕ → Option ℕ) → Row
-row_from w effect stored reads draws loads stores next literal = record (row_of w effect) {
+row_from w effect stored reads draws price loads stores next literal = record (row_of w effect) {
   stored = stored;
   successors = next;
   literal = literal;
-  cost = record { row = 4096; loads = loads; stores = stores };
+  cost = record { row = price; loads = loads; stores = stores };
   flags = flag_use w reads none none;
   draws = draws;
 }
-
--- nothing comes behind the list
-nothing_behind : (e : Ending) (c : ℕ) → of_list (then_do e (execute Empty c)) ≡ of_list e
-nothing_behind (Ends p) c = refl
-nothing_behind (RaisesException n p) c = refl
-nothing_behind (OutOfTurns p) c = refl
-nothing_behind Wrong c = refl
-
--- a list behind a test, where it does what its row does
-ends : (b : Bool) (e : Ending) (c turns : ℕ) (l : Locals) (s : State) (o : Outcome) → of_list e ≡ of_row l turns o →
-    of_list (then_do (branch_on (Word 1 (bit b)) e (Ends (position l turns None s))) (execute Empty c)) ≡ of_row l turns (when b s o)
-ends true e c turns l s o h = nothing_behind e c ∙ h
-ends false e c turns l s o h = refl
 
 nothing_stored : (e : Ending) (c : ℕ) → then_stored e (list_stored Empty c) ≡ []
 nothing_stored (Ends p) c = refl
@@ -61,42 +48,24 @@ stores_behind : (b : Bool) (xs ys : List ℕ) (e f : Ending) (c : ℕ) → (b �
 stores_behind true xs ys e f c h k = ap (λ z. xs ++ z) (nothing_stored e c) ∙ append-nil xs ∙ h refl
 stores_behind false xs ys e f c h k = ap (λ z. z) (nothing_stored f c) ∙ sym (k refl)
 
-more : (r a : Bool) → a ≡ true → (r || a) ≡ true
-more true a h = refl
-more false a h = h
-
--- the flags of a test are read
-named_read : (b a r : Bool) → (r ≡ false → b ≡ false) → (not b || (r || a)) ≡ true
-named_read b a true h = all b
-  where
-    all : (b : Bool) → (not b || true) ≡ true
-    all true = refl
-    all false = refl
-named_read b a false h = rw (h refl) refl
-
 never_sure : (a : Bool) → (a && false) ≡ true → ⊥
 never_sure true h = cc
 never_sure false h = cc
 
-side : (b : Bool) → (b || false || false) ≡ true → b ≡ true
-side true h = refl
-side false h = cc
-
-module _ (m : Endian) (w at v l t u : ℕ) (effect : State → ℕ → Outcome) (stored : State → Option (ℕ × ℕ)) (reads : ℕ → Bool) (draws : Bool) (loads stores : ℕ)
-    (next : ℕ → Successors) (literal : ℕ → Option ℕ) (list : Statements) (runs : Simulates effect at list) (static : IsAccess v l t u reads list)
+module _ (m : Endian) (w at v price l t u : ℕ) (effect : State → ℕ → Outcome) (stored : State → Option (ℕ × ℕ)) (reads : ℕ → Bool) (draws : Bool)
+    (loads stores : ℕ) (next : ℕ → Successors) (literal : ℕ → Option ℕ) (list : Statements) (runs : Simulates effect at list)
+    (static : IsAccess v l t u reads list)
     (places : (s : State) → IsState s → s.pc ≡ at → holds w s ≡ true → (c turns : ℕ) (k : Locals) →
     list_stored list c (position k turns None s) ≡ addresses (stored s))
     (skipped : (s : State) → holds w s ≡ false → addresses (stored s) ≡ []) (drawn : draws ≡ false → u ≡ 0)
-    (only : (a : ℕ) → literal at ≡ Some a →
-    (other_loads m a list ≡ 0) × (byte_stores list ≡ 0)) (fits : v + 70 ≤ 4096) (few_loads : l ≤ loads) (few_stores : t ≤ stores) where
+    (only : (a : ℕ) → literal at ≡ Some a → (other_loads m a list ≡ 0) × (byte_stores list ≡ 0))
+    (fits : v + 70 ≤ price) (few_loads : l ≤ loads) (few_stores : t ≤ stores) where
   abbrev row : Row
-  row = row_from w effect stored reads draws loads stores next literal
+  row = row_from w effect stored reads draws price loads stores next literal
 
   -- the list of a row whose condition may fail
-  tested : (k : Condition) → condition_number k ≡ condition_code w → (condition_number k == 14) ≡ false →
-      IsLifting (arm m) RRegisters row at (If (lifts.test k) list Empty Empty)
-  tested k code some =
-      let never : is_always w ≡ false = ap (λ n. n == 14) (sym code) ∙ some in
+  tested : (k : Condition) → condition_number k ≡ condition_code w → IsLifting (arm m) RRegisters row at (If (lifts.test k) list Empty Empty)
+  tested k code =
       let plain = test_plain k in
       record {
         simulates = λ s is here c turns few k2.
@@ -117,7 +86,7 @@ module _ (m : Endian) (w at v l t u : ℕ) (effect : State → ℕ → Outcome) 
             let named_by = λ (h : condition_reads condition_flags (condition_code w) f ≡ false).
             plain.reads f (ap (λ n. condition_reads condition_flags n f) code ∙ h) in
             rw (
-              named_read (reads_flag f (lifts.test k)) (reads f) (condition_reads condition_flags (condition_code w) f) named_by,
+              allowed (reads_flag f (lifts.test k)) (reads f) (condition_reads condition_flags (condition_code w) f) named_by,
               static.reads f (condition_reads condition_flags (condition_code w) f || reads f) (not (is_always w && false)) (more _ _),
             ) refl;
         reads_first = λ f few. rw (static.reads_first f) refl;
@@ -174,18 +143,18 @@ module _ (m : Endian) (w at v l t u : ℕ) (effect : State → ℕ → Outcome) 
 
   -- the list of a row
   pub conditional_lifting : (k : Condition) → condition_number k ≡ condition_code w → IsLifting (arm m) RRegisters row at (lifts.conditional k list)
-  conditional_lifting Eq h = tested Eq h refl
-  conditional_lifting Ne h = tested Ne h refl
-  conditional_lifting Cs h = tested Cs h refl
-  conditional_lifting Cc h = tested Cc h refl
-  conditional_lifting Mi h = tested Mi h refl
-  conditional_lifting Pl h = tested Pl h refl
-  conditional_lifting Vs h = tested Vs h refl
-  conditional_lifting Vc h = tested Vc h refl
-  conditional_lifting Hi h = tested Hi h refl
-  conditional_lifting Ls h = tested Ls h refl
-  conditional_lifting Ge h = tested Ge h refl
-  conditional_lifting Lt h = tested Lt h refl
-  conditional_lifting Gt h = tested Gt h refl
-  conditional_lifting Le h = tested Le h refl
+  conditional_lifting Eq h = tested Eq h
+  conditional_lifting Ne h = tested Ne h
+  conditional_lifting Cs h = tested Cs h
+  conditional_lifting Cc h = tested Cc h
+  conditional_lifting Mi h = tested Mi h
+  conditional_lifting Pl h = tested Pl h
+  conditional_lifting Vs h = tested Vs h
+  conditional_lifting Vc h = tested Vc h
+  conditional_lifting Hi h = tested Hi h
+  conditional_lifting Ls h = tested Ls h
+  conditional_lifting Ge h = tested Ge h
+  conditional_lifting Lt h = tested Lt h
+  conditional_lifting Gt h = tested Gt h
+  conditional_lifting Le h = tested Le h
   conditional_lifting Al h = always h

@@ -1,16 +1,16 @@
 -- What is said of a list that loads and stores, beside its end: it is put together from its statements.
-use Rattle.std.proofs.Common.{◌≡◌, ℕ, zero, suc, ◌+◌, ◌*◌, ◌/◌, ◌<◌, ◌≤◌, Bool, true, false, not, ◌&&◌, ◌||◌, refl, ap, ◌∙◌, arith, max, List, [], None}
+use Rattle.std.proofs.Common.{◌≡◌, ℕ, ◌+◌, ◌/◌, ◌<◌, ◌≤◌, Bool, true, false, not, ◌&&◌, ◌||◌, refl, arith, [], None}
 use Rattle.std.specs.Prelude.{◌==◌}
 use Rattle.bilv_spec.specs.Memory.{Endian}
-use Rattle.bilv_spec.specs.Bil.{RRegisters, Mem, Expression, Var, Store, Statements, Empty, Assign, JumpTo, Raise, If, size, list_size}
+use Rattle.bilv_spec.specs.Bil.{RRegisters, Mem, Expression, Var, Store, Statements, Empty, Assign, JumpTo, Raise}
 use Rattle.bilv_spec.specs.Bil as bil
-use Rattle.bilv_spec.specs.BilMeaning.{Position, Ending, Ends, RaisesException, OutOfTurns, Wrong, evaluate}
+use Rattle.bilv_spec.specs.BilMeaning.{Position}
 use Rattle.bilv_spec.specs.BilTyping.{list_fault, is_load_width}
 use Rattle.bilv_spec.specs.BilCounts.{list_weight, byte_loads, byte_stores, memory_choices, chosen_stores, unknowns, has_no_loop, has_no_special, nesting, list_names_only, may_assign, reads_within, reads_first, reads_flag}
-use Rattle.bilv_spec.specs.BilStores.{list_stored, then_stored}
-use Rattle.arm_lift_alu.proofs.Plain.{own, IsPlain, own_register, nothing_chosen}
-use Rattle.arm_lift_mem.specs.Accesses.{unless}
-use Rattle.arm_lift_mem.proofs.Fetches.{IsFetch}
+use Rattle.bilv_spec.specs.BilStores.{list_stored}
+use Rattle.arm_lift_alu.proofs.Plain.{own, IsPlain, own_register}
+use Rattle.arm_lift_alu.proofs.Lists.{then_nothing}
+use Rattle.arm_lift_alu.proofs.Fetches.{IsFetch}
 
 -- A list that weighs at most w, loads at most l and stores at most t bytes, and has at most u unknowns. It assigns no flag, and reads none outside a set.
 pub record IsAccess (w l t u : ℕ) (r : ℕ → Bool) (list : Statements) : Type 0 where
@@ -88,13 +88,6 @@ spare w l t u v k s z r list p f g h i = record {
   stored = λ z. p.stored (omega arith);
 }
 
--- nothing is stored afterwards
-then_nothing : (e : Ending) (f : Position → List ℕ) → ((s : Position) → f s ≡ []) → then_stored e f ≡ []
-then_nothing (Ends s) f h = h s
-then_nothing (RaisesException n s) f h = refl
-then_nothing (OutOfTurns s) f h = refl
-then_nothing Wrong f h = refl
-
 -- a read that is allowed
 allowed : (b r a x : Bool) → (r ≡ false → b ≡ false) → (r ≡ true → a ≡ true) → (not b || a || x) ≡ true
 allowed b true a x h k = rw (k refl) (any b)
@@ -104,7 +97,7 @@ allowed b true a x h k = rw (k refl) (any b)
     any false = refl
 allowed b false a x h k = rw (h refl) refl
 
-allowed_test : (b r a : Bool) → (r ≡ false → b ≡ false) → (r ≡ true → a ≡ true) → (not b || a) ≡ true
+pub allowed_test : (b r a : Bool) → (r ≡ false → b ≡ false) → (r ≡ true → a ≡ true) → (not b || a) ≡ true
 allowed_test b true a h k = rw (k refl) (any b)
   where
     any : (b : Bool) → (not b || true) ≡ true
@@ -175,25 +168,4 @@ store_access n v y w l k t u z x o r a e rest p q s h same wide some = record {
       rw (allowed (reads_flag f (Store (Var Mem) a o n e)) (r f) b (i && false) (λ none. rw (p.reads f none, q.reads f none) refl) g) (s.reads f b i g);
   reads_first = s.reads_first;
   stored = λ e. absurd (omega arith);
-}
-
--- an exception where a bit is set, and else a list
-pub unless_access : (n v w l t u x : ℕ) (r : ℕ → Bool) (e : Expression) (rest : Statements) → IsPlain 1 v r e → IsAccess w l t u r rest → 8 + v + w ≤ x →
-    IsAccess x l t u r (unless e n rest)
-unless_access n v w l t u x r e rest p s h = record {
-  typed = λ at. rw (p.typed (at + 1)) (s.typed _);
-  no_loop = s.no_loop;
-  no_special = s.no_special;
-  nests = let i = s.nests in omega arith;
-  names = λ m. rw (p.names m) (s.names m);
-  unknowns = let i = p.unknowns in let j = s.unknowns in omega arith;
-  picks = let i = p.picks in let j = s.picks in omega arith;
-  steady = let i = p.steady in let j = s.steady in omega arith;
-  weight = let i = p.weight in let j = s.weight in omega arith;
-  loads = let i = p.loads in let j = s.loads in omega arith;
-  stores = let i = p.stores in let j = s.stores in omega arith;
-  assigns = s.assigns;
-  reads = λ f a i g. rw (allowed_test (reads_flag f e) (r f) a (p.reads f) g) (s.reads f a i g);
-  reads_first = s.reads_first;
-  stored = λ z c b. rw (p.stored c b.env, nothing_chosen (evaluate e c b.env)) (then_nothing _ (list_stored rest c) (s.stored z c));
 }
