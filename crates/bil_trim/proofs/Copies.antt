@@ -1,9 +1,9 @@
 -- Lists of statements that are made one by one with a known word in place of its loads.
-use Rattle.std.proofs.Common.{◌≡◌, ℕ, ◌+◌, ◌<◌, ◌≤◌, suc, List, [], ◌∷◌, ◌++◌, Vec, Global, length, get_or, drop, refl, sym, ap, ◌∙◌, arith, add-one}
+use Rattle.std.proofs.Common.{◌≡◌, ℕ, ◌+◌, ◌<◌, ◌≤◌, suc, List, [], ◌∷◌, ◌++◌, Vec, Global, length, get_or, drop, refl, sym, ap, ◌∙◌, add-one}
 use Rattle.std.proofs.Math.Seq.{drop-cons}
 use Rattle.std.proofs.Math.ListN.{drop_of_length-le}
 use Rattle.bilv_spec.specs.Memory.{Endian}
-use Rattle.bilv_spec.specs.Bil.{Expression, Statements, Empty, While, If}
+use Rattle.bilv_spec.specs.Bil.{Statements, Empty, While, If}
 use Rattle.bil_ast.specs.declared.expressions.Exp.{Exp}
 use Rattle.bil_ast.specs.declared.statements.Stmt.{Stmt}
 use Rattle.bil_ast.specs.declared.statements.Stmt.TheVariants as stmt
@@ -16,11 +16,11 @@ abbrev pub before : List Stmt → Statements → Statements
 before [] rest = rest
 before (s ∷ xs) rest = statement s (before xs rest)
 
-before_more : (xs : List Stmt) (c : Stmt) (rest : Statements) → before (xs ++ c ∷ []) rest ≡ before xs (statement c rest)
+pub before_more : (xs : List Stmt) (c : Stmt) (rest : Statements) → before (xs ++ c ∷ []) rest ≡ before xs (statement c rest)
 before_more [] c rest = refl
 before_more (x ∷ xs) c rest = ap (statement x) (before_more xs c rest)
 
-before_none : (xs : List Stmt) → before xs Empty ≡ statements xs
+pub before_none : (xs : List Stmt) → before xs Empty ≡ statements xs
 before_none [] = refl
 before_none (x ∷ xs) = ap (statement x) (before_none xs)
 

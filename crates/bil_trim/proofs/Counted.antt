@@ -1,10 +1,10 @@
 -- What a list has in it once a known word stands for its loads.
-use Rattle.std.proofs.Common.{◌≡◌, refl, ap, sym, ◌∙◌, subst, arith, ℕ, ◌+◌, ◌<◌, ◌≤◌, Bool, true, false}
-use Rattle.std.specs.Prelude.{◌==◌, ◌&&◌, ◌||◌, ◌*◌, ◌-◌, ◌/◌, max, if◌then◌else◌}
+use Rattle.std.proofs.Common.{◌≡◌, refl, ap, sym, ◌∙◌, arith, ℕ, ◌+◌, ◌≤◌, Bool, true, false}
+use Rattle.std.specs.Prelude.{◌==◌, ◌&&◌, ◌||◌, ◌*◌, ◌/◌, max, if◌then◌else◌}
 use Rattle.bilv_spec.specs.Memory.{Endian}
-use Rattle.bilv_spec.specs.Bil.{BilVariable, Mem, BinaryOp, UnaryOp, Negate, Not, Expression, Var, Constant, Load, Store, Binary, Unary, Cast, Let, Unknown, Choose, Extract, Concat, Statements, Empty, Assign, JumpTo, Raise, Special, While, If, type_of, total, list_total}
+use Rattle.bilv_spec.specs.Bil.{BilVariable, Mem, Negate, Not, Expression, Var, Constant, Load, Store, Binary, Unary, Cast, Let, Unknown, Choose, Extract, Concat, Statements, Empty, Assign, JumpTo, Raise, Special, While, If, type_of, total, list_total}
 use Rattle.bilv_spec.specs.BilTyping.{result_width, type_width}
-use Rattle.bilv_spec.specs.BilCounts.{width, op_weight, own_weight, weight, list_weight, own_loads, own_stores, byte_stores, own_memory_choices, own_chosen_stores, own_other_loads, own_unknowns, has_no_loop, has_no_special, nesting, names_only, is_local, list_names_only}
+use Rattle.bilv_spec.specs.BilCounts.{width, op_weight, own_weight, weight, list_weight, own_loads, own_stores, own_memory_choices, own_chosen_stores, own_other_loads, own_unknowns, has_no_loop, has_no_special, nesting, names_only, is_local, list_names_only, is_flag, may_assign}
 use Rattle.bil_trim.specs.Literals.{is_load_of, put_literal, with_literal}
 use Rattle.bil_trim.proofs.Loads.{both, all_three, all_four, join, that_load}
 
@@ -260,6 +260,19 @@ module _ (e : Endian) (a v : ℕ) where
       ap (λ (z : ℕ). max (1 + max z (nesting (with_literal e a v y))) (nesting (with_literal e a v rest))) (nesting_same x)
       ∙ ap (λ (z : ℕ). max (1 + max (nesting x) z) (nesting (with_literal e a v rest))) (nesting_same y)
       ∙ ap (λ (z : ℕ). max (1 + max (nesting x) (nesting y)) z) (nesting_same rest)
+
+  pub assigns_same : (f : ℕ) (list : Statements) → may_assign f (with_literal e a v list) ≡ may_assign f list
+  assigns_same f Empty = refl
+  assigns_same f (Assign x w rest) = ap (λ (z : Bool). is_flag f x || z) (assigns_same f rest)
+  assigns_same f (JumpTo w rest) = assigns_same f rest
+  assigns_same f (Raise n rest) = assigns_same f rest
+  assigns_same f (Special t rest) = assigns_same f rest
+  assigns_same f (While w body rest) =
+      ap (λ (z : Bool). z || may_assign f (with_literal e a v rest)) (assigns_same f body) ∙ ap (λ (z : Bool). may_assign f body || z) (assigns_same f rest)
+  assigns_same f (If w x y rest) =
+      ap (λ (z : Bool). z || may_assign f (with_literal e a v y) || may_assign f (with_literal e a v rest)) (assigns_same f x)
+      ∙ ap (λ (z : Bool). may_assign f x || z || may_assign f (with_literal e a v rest)) (assigns_same f y)
+      ∙ ap (λ (z : Bool). may_assign f x || may_assign f y || z) (assigns_same f rest)
 
   names_stay : (x : Expression) (k : BilVariable → Bool) → names_only x k ≡ true → names_only (put_literal e a v x) k ≡ true
   names_stay (Var x) k h = h

@@ -4,3 +4,7 @@ pub mod Typed
 pub mod Quiet
 pub mod NoMore
 pub mod Copies
+pub mod Drops
+pub mod Fewer
+pub mod Leaves
+pub mod Unread

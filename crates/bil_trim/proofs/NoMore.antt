@@ -1,9 +1,10 @@
 -- A list with a known word in place of its loads has no more in it.
-use Rattle.std.proofs.Common.{◌≡◌, ◌∙◌, subst, sym, ℕ, ◌≤◌, arith}
+use Rattle.std.proofs.Common.{◌≡◌, ◌∙◌, ℕ, ◌≤◌, arith}
 use Rattle.bilv_spec.specs.Bil.{total}
 use Rattle.bilv_spec.specs.BilCounts.{own_stores, own_memory_choices, own_chosen_stores, own_unknowns}
 use Rattle.bil_trim.specs.Parts.{LiteralsAddNothing}
-use Rattle.bil_trim.proofs.Counted.{lists_same, total_same, stores_own, choices_own, chosen_own, unknowns_own, weight_same, loop_same, special_same, nesting_same, names_same, no_loads, fewer_loads}
+use Rattle.bil_trim.specs.Flags.{LiteralsAssignTheSame}
+use Rattle.bil_trim.proofs.Counted.{lists_same, total_same, stores_own, choices_own, chosen_own, unknowns_own, weight_same, loop_same, special_same, nesting_same, names_same, assigns_same, no_loads, fewer_loads}
 use Rattle.bil_trim.proofs.Typed.{list_typed}
 
 as_much : (x y : ℕ) → x ≡ y → x ≤ y
@@ -26,3 +27,6 @@ literals_add_nothing e a v list low = (
   },
   no_loads e a v list,
 )
+
+pub literals_assign_the_same : LiteralsAssignTheSame
+literals_assign_the_same e a v f list = assigns_same e a v f list

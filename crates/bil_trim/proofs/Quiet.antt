@@ -1,5 +1,5 @@
 -- A list that stores nothing leaves the memory, and does the same with a known word in place of its loads.
-use Rattle.std.proofs.Common.{◌≡◌, refl, ap, sym, ◌∙◌, subst, arith, ℕ, zero, suc, ◌+◌, ◌++◌, List, [], Option, Some, None, Bool, true, false}
+use Rattle.std.proofs.Common.{◌≡◌, refl, ap, sym, ◌∙◌, arith, ℕ, zero, suc, ◌+◌, ◌++◌, List, [], Option, Some, None, Bool, true, false}
 use Rattle.std.specs.Prelude.{if◌then◌else◌, ◌&&◌, ◌==◌, ◌/◌, ◌-◌, nat_lt, nat_le}
 use Rattle.std.proofs.lemmas.Bool.Decides.{nat_tests}
 use mathlib.Core.Path.{fun_ext}
@@ -368,7 +368,8 @@ module _ (m : Memory) where
     list_same (While w body rest) c s free h q = absurd (cc)
     list_same (If w x y rest) c s free h q =
         let o = all_three (has_no_loop x) (has_no_loop y) (has_no_loop rest) free in
-        ap (λ (z : Value). then_do (branch_on z (execute (with_literal e a v x) c s) (execute (with_literal e a v y) c s)) (execute (with_literal e a v rest) c))
+        ap (λ (z : Value). then_do (branch_on z (execute (with_literal e a v x) c s) (execute (with_literal e a v y) c s))
+        (execute (with_literal e a v rest) c))
         (value_same w c s.env q.mem)
         ∙ ap (λ (z : Ending). then_do (branch_on (evaluate w c s.env) z (execute (with_literal e a v y) c s)) (execute (with_literal e a v rest) c))
         (list_same x c s o.0 (omega arith) q)

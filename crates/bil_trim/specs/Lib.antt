@@ -1,2 +1,4 @@
 pub mod Literals
 pub mod Parts
+pub mod Flags
+pub mod Before
