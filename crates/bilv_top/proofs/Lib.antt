@@ -1,9 +1,8 @@
 pub mod Checked
-pub mod Dues
 pub mod Refused
 pub mod Reported
 pub mod Graphed
-pub mod Cut
+pub mod Ended
 pub mod Verdicts
 pub mod Founds
 pub mod Made

@@ -1,8 +1,6 @@
 -- Answers, as the definitions have them, and what is met on the way to one.
-use Rattle.std.specs.Prelude.{ℕ, List, [], None}
-use Rattle.bilv_spec.specs.Outside.{Held}
+use Rattle.std.specs.Prelude.{ℕ, List, []}
 use Rattle.bilv_spec.specs.Answers as spec
-use Rattle.bilv_spec.specs.Outcomes.{Surroundings}
 use Rattle.bilv_spec.specs.Verified.{elf_fault_text}
 use Rattle.bilv_spec.specs.ElfFaults.{ShortFile, BadMagic, BadClass, BadData, BadVersion, BadType, BadMachine, BadHeaderTable, BadSegmentRange, BadFileSize, SegmentsOverlap, BadSymbolTable}
 use Rattle.cnf_form.specs.Views.{proof_of}
@@ -28,18 +26,6 @@ evidence_of (Count n) = spec.Count n
 -- an answer
 abbrev pub answer_of : Answer → spec.Answer
 answer_of a = record { status = a.status; text = a.text.items; evidence = evidence_of a.evidence }
-
--- what a call meets of files: what is told of their names, and the counts of their faults before and after
-abbrev pub seen : (List ℕ → Held) → (before after : List ℕ → ℕ) → Surroundings
-seen held before after = record {
-  held = held;
-  shelf_before = before;
-  shelf_after = after;
-  text_before = None;
-  text_after = None;
-  sink_before = 0;
-  sink_after = 0;
-}
 
 -- a step that answered at once, or what it goes on with
 abbrev pub IfStep : {T : Type 0} → Step T → (spec.Answer → Type 0) → (T → Type 0) → Type 0

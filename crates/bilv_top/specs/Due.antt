@@ -1,31 +1,15 @@
--- What a call comes to by the answer that is due, and what is met on the way to it.
-use Rattle.std.specs.Prelude.{ℕ, ◌≡◌, ◌<◌, ◌+◌, List, Option, codes, length, take}
-use Rattle.bilv_spec.specs.Outside.{Held, Agrees, IsLonger, Rose, Appends}
+-- What is met on the way to the answer that is due.
+use Rattle.std.specs.Prelude.{ℕ, ◌≡◌, List, codes}
+use Rattle.bilv_spec.specs.Outside.{Held, Agrees, IsLonger, Rose}
 use Rattle.bilv_spec.specs.Files.{machine_of, names_of, IsFunctionAt}
 use Rattle.bilv_spec.specs.NotesGrammar.{IsNotesText}
-use Rattle.bilv_spec.specs.Answers.{Evidence, Answer, plain_answer}
-use Rattle.bilv_spec.specs.Outcomes.{Surroundings, Command, read_fault, IsDueAnswer}
+use Rattle.bilv_spec.specs.Answers.{Answer, plain_answer}
+use Rattle.bilv_spec.specs.Outcomes.{read_fault}
 use Rattle.bilv_spec.specs.Verified.{AreNotesRefused, notes_limit}
 use Rattle.bilv_spec.specs.Texts.{line}
 use Rattle.notes_lang.specs.Drafting.{notes_of}
 use Rattle.notes_value.specs.Reads.{AreOver, AreReadable}
 use Rattle.bilv_top.specs.declared.inputs.Found.{Found}
-
--- a due answer was written whole, and its status and its evidence are those of the call
-pub record IsWhole (s : Surroundings) (c : Option Command) (before after : Option (List ℕ)) (status : ℕ) (evidence : Evidence) : Type 0 where
-  pub due : Answer
-  pub is_due : IsDueAnswer s c due
-  pub status_is : status ≡ due.status
-  pub evidence_is : evidence ≡ due.evidence
-  pub appends : Appends before due.text after
-
--- a write failed: a proper front of the text of a due answer was written
-pub record IsCut (s : Surroundings) (c : Option Command) (before after : Option (List ℕ)) : Type 0 where
-  pub due : Answer
-  pub is_due : IsDueAnswer s c due
-  pub written : ℕ
-  pub some_left : written < length due.text
-  pub appends : Appends before (take written due.text) after
 
 -- the bytes of a name were not read: a read failed, or there are more than the limit, which has an answer of its own
 pub data IsUnread (held : Held) (before after limit : ℕ) (large : Answer) (a : Answer) : Type 0 where

@@ -1,15 +1,17 @@
--- How the program ends.
-use Rattle.std.specs.Prelude.{ℕ, ◌≡◌, ◌≢◌, List, Option}
-use Rattle.bilv_spec.specs.Outside.{Rose}
-use Rattle.bilv_spec.specs.Answers.{Evidence}
-use Rattle.bilv_spec.specs.Outcomes.{Surroundings}
+-- How a call and the program end.
+use Rattle.std.specs.Prelude.{ℕ, ◌≡◌, List, Option}
+use Rattle.bilv_spec.specs.Outside.{Appends}
+use Rattle.bilv_spec.specs.Answers.{Answer, Budget, Evidence}
+use Rattle.bilv_spec.specs.Outcomes.{Surroundings, IsOutcome}
+use Rattle.answer_laws.specs.Completeness.{Answers}
 use Rattle.command_line.specs.Lines.{lawful_command}
-use Rattle.bilv_top.specs.Due.{IsWhole, IsCut}
 
--- for some words of the command line the status and what was written are those of an answer that is due
-pub record IsProgramEnd (s : Surroundings) (before after : Option (List ℕ)) (faults_before faults_after status : ℕ) : Type 0 where
-  pub words : List (List ℕ)
-  pub whole : status ≢ 7 → status ≢ 8 → (evidence : Evidence) × IsWhole s (lawful_command words) before after status evidence
-  pub cut : status ≡ 7 → IsCut s (lawful_command words) before after
-  pub sink_fault : status ≡ 7 → Rose faults_before faults_after
-  pub memory : status ≡ 8 → after ≡ before
+-- The answer to two files, by what they are, was written whole, and its status and its evidence are those of the call. There is one such answer, but for the
+-- run that it shows.
+abbrev pub AreAnswered : (file text : List ℕ) → Budget → (before after : Option (List ℕ)) → (status : ℕ) → Evidence → Type 0
+AreAnswered file text b before after status evidence =
+    (a : Answer) × Answers file text b a × (status ≡ a.status) × (evidence ≡ a.evidence) × Appends before a.text after
+
+-- the outcome for some words of a command line, with some evidence
+abbrev pub IsProgramEnd : Surroundings → (status : ℕ) → Type 0
+IsProgramEnd s status = (words : List (List ℕ)) × (evidence : Evidence) × IsOutcome s (lawful_command words) status evidence

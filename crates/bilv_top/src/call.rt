@@ -1,11 +1,14 @@
 //! The public call.
-ghost use Rattle.std.specs.Prelude.{◌≡◌, ◌≢◌, ◌⊎◌, IfOk, map, string_bytes};
-ghost use Rattle.bilv_spec.specs.Outcomes.{IsDueAnswer, IsLawfulCommand, IsRightAnswer};
+ghost use Rattle.std.specs.Prelude.{◌≡◌, ◌≢◌, ℕ, List, Some, IfOk, map, string_bytes};
+ghost use Rattle.answer_laws.specs.Completeness.{AreTold, IsSpentEvidence};
+ghost use Rattle.bilv_spec.specs.Answers as answers;
+ghost use Rattle.bilv_spec.specs.Outcomes.{IsDueAnswer, IsLawfulCommand, IsOutcome, IsRightAnswer, Verify};
 ghost use Rattle.bilv_spec.specs.Outside.{Rose};
+ghost use Rattle.bilv_top.specs.Answers.{answer_of, evidence_of};
+ghost use Rattle.bilv_top.specs.Ends.{AreAnswered};
 ghost use Rattle.command_line.specs.Commands.{command_of};
 ghost use Rattle.command_line.specs.Lines.{lawful_command};
-ghost use Rattle.bilv_top.specs.Answers.{answer_of, evidence_of, seen};
-ghost use Rattle.bilv_top.specs.Due.{IsCut, IsWhole};
+ghost use Rattle.io_edges.specs.Met.{met, seen};
 
 use crate::answer::{Answer, Evidence};
 use crate::certificate::check_certificate;
@@ -18,15 +21,11 @@ use crate::script::script;
 use crate::selfrun::selfrun;
 use crate::verify::verify;
 use command_line::{Command, LineError, read_command};
+use exit_status::{NO_MEMORY, USAGE, WRITE_FAULT};
 use io_edges::{Shelf, Sink, write_all};
 use std::alloc::{AllocError, Global};
 
-/// The answer of the program: its exit status, and what shows that it is right.
-///
-/// The exit status is 0 for the verdicts `holds` and `vacuous`, for lifted words, for a flow graph, for the script of a question, for a report that was
-/// replayed, for a certificate that is printed or accepted; 1 for the verdict `fails` and for a question that is satisfiable; 2 for an unlawful line; 3 for
-/// what stays unknown within the budgets; 4 for a refused ELF file; 5 for refused notes; 6 for a file that could not be read; 7 for a write that failed; 8 for
-/// want of memory; 9 for a report that is not what its replay finds and for a certificate that is not accepted.
+/// The answer of the program: its exit status, which is one of those of `exit_status`, and what shows that it is right.
 #[derive(Drop)]
 pub struct Outcome {
     pub status: u8,
@@ -69,20 +68,10 @@ fn due<H: Shelf>(alloc: Global, words: &[String], shelf: &mut H) -> Result<Answe
         Ok(command) => obey(alloc, command, shelf),
         Err(LineError::Usage) => answer(
             alloc,
-            2,
+            USAGE,
             b"usage: bilv verify|lift|graph|smt|replay|cert|check|selfrun\n",
         ),
         Err(LineError::Memory) => Err(AllocError),
-    }
-}
-
-/// The outcome where not all of an answer was written: no evidence is left of it.
-fn cut(_answer: Answer) -> Outcome
-    ensures { result ≡ record { status = 7; evidence = Evidence.None } }
-{
-    Outcome {
-        status: 7,
-        evidence: Evidence::None,
     }
 }
 
@@ -93,20 +82,18 @@ pub fn bilv<H: Shelf, K: Sink>(
     shelf: &mut H,
     out: &mut K,
 ) -> Outcome
-    // Where the status is neither 7 nor 8, a due answer of this status and this evidence was written whole.
-    ensures whole { result.status ≢ 7 → result.status ≢ 8 → IsWhole (seen (H.holds shelf.old) (H.faults shelf.old) (H.faults shelf.new))
-        (lawful_command (map (λ w. string_bytes w) words.now)) (K.written out.old) (K.written out.new) result.status (evidence_of result.evidence) }
-    // 7: a write failed, and a proper front of the text of a due answer was written.
-    ensures cut { result.status ≡ 7 → IsCut (seen (H.holds shelf.old) (H.faults shelf.old) (H.faults shelf.new))
-        (lawful_command (map (λ w. string_bytes w) words.now)) (K.written out.old) (K.written out.new) }
-    ensures sink_fault { result.status ≡ 7 → Rose (K.faults out.old) (K.faults out.new) }
-    // 8: want of memory, and nothing was written.
-    ensures memory { result.status ≡ 8 → K.written out.new ≡ K.written out.old }
-    ensures bare { (result.status ≡ 7) ⊎ (result.status ≡ 8) → result.evidence ≡ Evidence.None }
+    // A due answer was written whole; or a write failed (7) behind a proper front of its text; or memory ran out (8), and nothing was written.
+    ensures outcome { IsOutcome (met (seen (H.holds shelf.old) (H.faults shelf.old) (H.faults shelf.new)) (K.written out.old) (K.written out.new)
+        (K.faults out.old) (K.faults out.new)) (lawful_command (map (λ w. string_bytes w) words.now)) result.status (evidence_of result.evidence) }
+    // Where no write failed, memory sufficed and no question spent its conflicts, a verification of files that are told comes to the answer that is theirs.
+    ensures complete { (elf notes file text : List ℕ) (b : answers.Budget) → lawful_command (map (λ w. string_bytes w) words.now) ≡ Some (Verify elf notes b) →
+        AreTold (seen (H.holds shelf.old) (H.faults shelf.old) (H.faults shelf.new)) elf notes file text →
+        (result.status ≡ 7 → ¬ Rose (K.faults out.old) (K.faults out.new)) → result.status ≢ 8 → (¬ IsSpentEvidence (evidence_of result.evidence)) →
+        AreAnswered file text b (K.written out.old) (K.written out.new) result.status (evidence_of result.evidence) }
 {
     let Ok(answer) = due(alloc, words, shelf) else {
         return Outcome {
-            status: 8,
+            status: NO_MEMORY,
             evidence: Evidence::None,
         };
     };
@@ -115,6 +102,9 @@ pub fn bilv<H: Shelf, K: Sink>(
             status: answer.status,
             evidence: answer.evidence,
         },
-        Err(_) => cut(answer),
+        Err(_) => Outcome {
+            status: WRITE_FAULT,
+            evidence: Evidence::None,
+        },
     }
 }

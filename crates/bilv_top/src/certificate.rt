@@ -5,21 +5,20 @@ ghost use Rattle.bilv_spec.specs.Certificates.{check_text};
 ghost use Rattle.bilv_spec.specs.Outcomes.{Check, IsRightAnswer};
 ghost use Rattle.bilv_spec.specs.Replays.{IsChecked, check_status, text_limit};
 ghost use Rattle.refutation_checker.specs.Answers.{refusal_of};
-ghost use Rattle.bilv_top.specs.Answers.{answer_of, evidence_of, seen};
+ghost use Rattle.bilv_top.specs.Answers.{answer_of, evidence_of};
+ghost use Rattle.io_edges.specs.Met.{seen};
 
 use crate::answer::{Answer, Evidence};
 use crate::reading::{FileRead, answer, read_within, unread};
 use crate::texts::{cause_text, cnf_fault_text, refused_line};
 use cnf_form::{CnfError, behind_lines, read_cnf};
+use exit_status::{DONE, TEXT_REFUSED};
 use io_edges::Shelf;
 use refutation_checker::{Checked, check, read_lrat};
 use std::alloc::{AllocError, Global};
 
 /// The most bytes of a certificate.
 const TEXT_LIMIT: u64 = 268_435_456;
-
-/// The status of a certificate that is not accepted.
-const REFUSED: u8 = 9;
 
 /// The answer to what a check says.
 fn say(alloc: Global, checked: Checked) -> Result<Answer, AllocError>
@@ -28,11 +27,11 @@ fn say(alloc: Global, checked: Checked) -> Result<Answer, AllocError>
     ensures bare { IfOk result (λ a. evidence_of a.evidence ≡ NoEvidence) }
 {
     match checked {
-        Checked::Yes => answer(alloc, 0, b"accepted\n"),
+        Checked::Yes => answer(alloc, DONE, b"accepted\n"),
         Checked::No { line, cause } => {
             let text = refused_line(alloc, b"proof: line", line as u64, cause_text(cause))?;
             Ok(Answer {
-                status: REFUSED,
+                status: TEXT_REFUSED,
                 text,
                 evidence: Evidence::None,
             })
@@ -50,7 +49,7 @@ fn judge(alloc: Global, text: &[u8]) -> Result<Answer, AllocError>
         Err(CnfError::Refused { line, fault }) => {
             let text = refused_line(alloc, b"cnf: line", line as u64, cnf_fault_text(fault))?;
             return Ok(Answer {
-                status: REFUSED,
+                status: TEXT_REFUSED,
                 text,
                 evidence: Evidence::None,
             });
@@ -73,7 +72,7 @@ pub fn check_certificate<H: Shelf>(
 {
     match read_within(alloc, shelf, name, TEXT_LIMIT)? {
         FileRead::Failed => unread(alloc),
-        FileRead::TooLarge => answer(alloc, REFUSED, b"cert: TooLarge\n"),
+        FileRead::TooLarge => answer(alloc, TEXT_REFUSED, b"cert: TooLarge\n"),
         FileRead::Bytes(text) => judge(alloc, &text),
     }
 }

@@ -6,7 +6,8 @@ ghost use Rattle.bilv_spec.specs.Certified.{IsCertified};
 ghost use Rattle.bilv_spec.specs.Files.{machine_of, program_of};
 ghost use Rattle.bilv_spec.specs.Outcomes.{Certify, IsRightAnswer};
 ghost use Rattle.bilv_spec.specs.Run.{Program};
-ghost use Rattle.bilv_top.specs.Answers.{answer_of, seen};
+ghost use Rattle.bilv_top.specs.Answers.{answer_of};
+ghost use Rattle.io_edges.specs.Met.{seen};
 ghost use Rattle.bilv_top.specs.Due.{IsFoundBy};
 ghost use Rattle.cnf_form.specs.Views.{cnf_of, lines_of};
 ghost use Rattle.command_line.specs.Commands.{budget_of, question_of};
@@ -23,6 +24,7 @@ use arm_lift::Arm;
 use cnf_form::{Proof, print_cnf};
 use command_line::{Budget, Question};
 use elf32_reader::Image;
+use exit_status::{DONE, FAILS};
 use io_edges::Shelf;
 use machine_law::Machine;
 use question_form::Kind;
@@ -31,9 +33,6 @@ use rv_lift::Rv32;
 use state_text::Layout;
 use std::alloc::{AllocError, Global};
 use verdict::{Certified, certify as certificate_of};
-
-/// The status of a question that is true of some reading.
-const SATISFIABLE: u8 = 1;
 
 /// The question of the command line.
 pub fn asked(question: Question) -> Kind
@@ -61,7 +60,7 @@ fn print_proof(alloc: Global, proof: &Proof) -> Result<Answer, AllocError>
 {
     let text = proof_text(alloc, proof)?;
     Ok(Answer {
-        status: 0,
+        status: DONE,
         text,
         evidence: Evidence::None,
     })
@@ -87,7 +86,7 @@ fn say(
             let spent = Evidence::SpentOn { question, proof };
             exceeded(alloc, b"conflicts", budget.conflicts, spent)
         }
-        Certified::Satisfiable => answer(alloc, SATISFIABLE, b"satisfiable\n"),
+        Certified::Satisfiable => answer(alloc, FAILS, b"satisfiable\n"),
         Certified::Refuted(proof) => print_proof(alloc, &proof),
     }
 }

@@ -4,13 +4,15 @@ ghost use Rattle.bilv_spec.specs.Files.{machine_of, program_of};
 ghost use Rattle.bilv_spec.specs.GraphText.{IsGraphText};
 ghost use Rattle.bilv_spec.specs.Outcomes.{Graph, IsGraphed, IsRightAnswer};
 ghost use Rattle.notes_lang.specs.Drafting.{notes_of};
-ghost use Rattle.bilv_top.specs.Answers.{answer_of, seen};
+ghost use Rattle.bilv_top.specs.Answers.{answer_of};
+ghost use Rattle.io_edges.specs.Met.{seen};
 
 use crate::answer::{Answer, Evidence, Step};
 use crate::inputs::{Found, read_elf, read_program};
 use crate::machines::layout;
 use arm_lift::Arm;
 use elf32_reader::Image;
+use exit_status::DONE;
 use flag_live::trim;
 use flow_graph::descend;
 use graph_text::print_graph;
@@ -48,7 +50,7 @@ fn print_program(alloc: Global, image: &Image, found: &Found) -> Result<Answer, 
 {
     let text = text_of(alloc, image, found)?;
     Ok(Answer {
-        status: 0,
+        status: DONE,
         text,
         evidence: Evidence::None,
     })

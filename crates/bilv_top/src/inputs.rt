@@ -17,6 +17,7 @@ use crate::machines::layout;
 use crate::reading::{answer, read_or_answer};
 use crate::texts::{ambiguous_line, elf_fault_line, note_fault_words, refused_line};
 use elf32_reader::{ElfFault, Image, SymFault, read_image};
+use exit_status::{ELF_REFUSED, NOTES_REFUSED};
 use io_edges::Shelf;
 use notes_lang::{Function, NoteFault, Notes, NotesError, parse};
 use std::alloc::{AllocError, Global};
@@ -26,12 +27,6 @@ const ELF_LIMIT: u64 = 16_777_216;
 
 /// The most bytes of notes.
 pub const NOTES_LIMIT: u64 = 262_144;
-
-/// The status of a refused ELF file.
-const ELF_REFUSED: u8 = 4;
-
-/// The status of refused notes.
-pub const NOTES_REFUSED: u8 = 5;
 
 /// Notes over an image, their text, and the address of their function.
 #[derive(Drop)]

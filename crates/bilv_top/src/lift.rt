@@ -3,13 +3,15 @@ ghost use Rattle.std.specs.Prelude.{◌≡◌, IfOk};
 ghost use Rattle.bilv_spec.specs.Files.{is_rv, machine_of};
 ghost use Rattle.bilv_spec.specs.LiftText.{bank_by};
 ghost use Rattle.bilv_spec.specs.Outcomes.{IsLifted, IsRightAnswer, Lift};
-ghost use Rattle.bilv_top.specs.Answers.{answer_of, seen};
+ghost use Rattle.bilv_top.specs.Answers.{answer_of};
+ghost use Rattle.io_edges.specs.Met.{seen};
 
 use crate::answer::{Answer, Evidence, Step};
 use crate::inputs::{read_elf, refuse_elf};
 use crate::machines::layout;
 use arm_lift::Arm;
 use elf32_reader::{Image, read_image};
+use exit_status::DONE;
 use io_edges::Shelf;
 use lift_text::lift_text;
 use machine_law::Machine;
@@ -25,7 +27,7 @@ fn lift_by<M: Machine>(alloc: Global, image: &Image) -> Result<Answer, AllocErro
 {
     let text = lift_text::<M>(alloc, image)?;
     Ok(Answer {
-        status: 0,
+        status: DONE,
         text,
         evidence: Evidence::None,
     })

@@ -1,17 +1,15 @@
 //! The program: the words of its command line, and the exit status.
 ghost use Rattle.std.specs.Process.{exit_status};
-ghost use Rattle.bilv_top.specs.Answers.{seen};
 ghost use Rattle.bilv_top.specs.Ends.{IsProgramEnd};
+ghost use Rattle.io_edges.specs.Met.{met, seen};
 
 use crate::call::bilv;
+use exit_status::NO_MEMORY;
 use io_edges::{Shelf, Sink};
 use std::alloc::AllocError;
 use std::process::ExitCode;
 use std::rt::Env;
 use std::{env, io};
-
-/// The exit status for want of memory.
-const NO_MEMORY: u8 = 8;
 
 /// The words of the command line, or none where one is not UTF-8, which is an unlawful line too. The error is want of memory.
 fn words<R: Env + AllocGlobal>(rt: &R) -> Result<Vec<String>, AllocError> {
@@ -34,8 +32,8 @@ pub fn answer_words<R: Env + AllocGlobal, H: Shelf, K: Sink>(
     shelf: &mut H,
     out: &mut K,
 ) -> ExitCode
-    ensures { IsProgramEnd (seen (H.holds shelf.old) (H.faults shelf.old) (H.faults shelf.new)) (K.written out.old) (K.written out.new) (K.faults out.old)
-        (K.faults out.new) (exit_status result) }
+    ensures { IsProgramEnd (met (seen (H.holds shelf.old) (H.faults shelf.old) (H.faults shelf.new)) (K.written out.old) (K.written out.new)
+        (K.faults out.old) (K.faults out.new)) (exit_status result) }
 {
     let Ok(words) = words(rt) else {
         return ExitCode::from(NO_MEMORY);

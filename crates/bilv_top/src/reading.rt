@@ -8,6 +8,7 @@ ghost use Rattle.bilv_top.specs.Due.{IsUnread};
 ghost use Rattle.bilv_top.specs.Read.{IsFileRead};
 
 use crate::answer::{Answer, Evidence, Step};
+use exit_status::READ_FAULT;
 use io_edges::{ReadFault, Shelf, read_all};
 use std::alloc::{AllocError, Global};
 
@@ -54,7 +55,7 @@ pub fn answer(alloc: Global, status: u8, text: &[u8]) -> Result<Answer, AllocErr
 pub fn unread(alloc: Global) -> Result<Answer, AllocError>
     ensures { IfOk result (λ a. answer_of a ≡ read_fault) }
 {
-    let a = answer(alloc, 6, b"read fault\n")?;
+    let a = answer(alloc, READ_FAULT, b"read fault\n")?;
     Ok(a)
 }
 

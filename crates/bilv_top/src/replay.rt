@@ -5,7 +5,8 @@ ghost use Rattle.bilv_spec.specs.Files.{layout_of, machine_of, program_of};
 ghost use Rattle.bilv_spec.specs.Outcomes.{AfterRead, IsRightAnswer, Replay};
 ghost use Rattle.bilv_spec.specs.Replays.{replay_answer, text_limit};
 ghost use Rattle.notes_lang.specs.Drafting.{notes_of};
-ghost use Rattle.bilv_top.specs.Answers.{answer_of, seen};
+ghost use Rattle.bilv_top.specs.Answers.{answer_of};
+ghost use Rattle.io_edges.specs.Met.{seen};
 ghost use Rattle.bilv_top.specs.Due.{IsFoundBy};
 
 use crate::answer::{Answer, Evidence, Step};
@@ -14,15 +15,13 @@ use crate::machines::layout;
 use crate::reading::read_or_answer;
 use arm_lift::Arm;
 use elf32_reader::Image;
+use exit_status::TEXT_REFUSED;
 use io_edges::Shelf;
 use machine_law::Machine;
 use report_replay::{REPORT_LIMIT, replay as replay_text};
 use rv_lift::Rv32;
 use state_text::Layout;
 use std::alloc::{AllocError, Global};
-
-/// The status of a report that is not what its replay finds.
-const REFUSED: u8 = 9;
 
 /// Replays the text of a report over a program of a machine. The error is want of memory.
 fn replay_by<M: Machine>(
@@ -76,7 +75,7 @@ fn replay_program<H: Shelf>(
         (λ text b. b ≡ replay_answer (program_of image.now (notes_of found.now.notes) found.now.entry) (layout_of image.now) text) (answer_of a)) }
 {
     let large = b"state: TooLarge\n";
-    let text = match read_or_answer(alloc, shelf, name, REPORT_LIMIT as u64, REFUSED, large)? {
+    let text = match read_or_answer(alloc, shelf, name, REPORT_LIMIT as u64, TEXT_REFUSED, large)? {
         Step::Go(text) => text,
         Step::Answered(answer) => return Ok(answer),
     };

@@ -12,15 +12,10 @@ ghost use Rattle.bilv_top.specs.Answers.{answer_of, evidence_of};
 use crate::answer::{Answer, Evidence};
 use crate::texts::budget_line;
 use command_line::Budget;
+use exit_status::{DONE, FAILS, UNKNOWN};
 use state_text::{Layout, NamedEnding, Start, StateText, print_state};
 use std::alloc::{AllocError, Global};
 use verdict::Verdict;
-
-/// The status of a report of a run that fails.
-const FAILS: u8 = 1;
-
-/// The status of a report that something stays unknown.
-const UNKNOWN: u8 = 3;
 
 /// The budgets of the command line, as the verdict takes them.
 pub fn limits(budget: Budget) -> verdict::Budget
@@ -57,7 +52,7 @@ fn judged(alloc: Global, text: &[u8], evidence: Evidence) -> Result<Answer, Allo
 {
     let text = text.to_vec(alloc)?;
     Ok(Answer {
-        status: 0,
+        status: DONE,
         text,
         evidence,
     })

@@ -7,7 +7,8 @@ ghost use Rattle.bilv_spec.specs.Questions.{Question as AskedQuestion};
 ghost use Rattle.bilv_spec.specs.Run.{Program};
 ghost use Rattle.bilv_spec.specs.Scripts.{IsScriptAnswer};
 ghost use Rattle.bilv_spec.specs.StateText as texts;
-ghost use Rattle.bilv_top.specs.Answers.{answer_of, seen};
+ghost use Rattle.bilv_top.specs.Answers.{answer_of};
+ghost use Rattle.io_edges.specs.Met.{seen};
 ghost use Rattle.bilv_top.specs.Due.{IsFoundBy};
 ghost use Rattle.command_line.specs.Commands.{budget_of, question_of};
 ghost use Rattle.notes_lang.specs.Drafting.{notes_of};
@@ -21,6 +22,7 @@ use crate::reports::{exceeded, limits};
 use arm_lift::Arm;
 use command_line::{Budget, Question};
 use elf32_reader::Image;
+use exit_status::DONE;
 use io_edges::Shelf;
 use machine_law::Machine;
 use rv_lift::Rv32;
@@ -33,7 +35,7 @@ fn printed(text: String) -> Answer
     ensures { answer_of result ≡ plain_answer 0 (string_bytes text) }
 {
     Answer {
-        status: 0,
+        status: DONE,
         text: text.into_bytes(),
         evidence: Evidence::None,
     }

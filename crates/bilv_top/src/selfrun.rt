@@ -10,11 +10,12 @@ ghost use Rattle.bilv_top.specs.Answers.{answer_of};
 ghost use Rattle.command_line.specs.Commands.{budget_of};
 
 use crate::answer::{Answer, Step};
-use crate::inputs::{NOTES_LIMIT, NOTES_REFUSED, find_program, refuse_elf};
+use crate::inputs::{NOTES_LIMIT, find_program, refuse_elf};
 use crate::reading::answer;
 use crate::verify::report_on;
 use command_line::Budget;
 use elf32_reader::read_image;
+use exit_status::NOTES_REFUSED;
 use std::alloc::{AllocError, Global};
 use work_gen::{front, work};
 

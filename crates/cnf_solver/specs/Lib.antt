@@ -1,4 +1,4 @@
 pub mod Requests
 pub mod Solutions
-pub mod Met
+pub mod Answers
 pub mod Ends

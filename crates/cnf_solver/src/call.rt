@@ -1,21 +1,17 @@
 //! The public call.
 ghost use Rattle.std.specs.Prelude.{IfOk, map, string_bytes};
+ghost use Rattle.cnf_solver.specs.Answers.{answer_of};
 ghost use Rattle.cnf_solver.specs.Ends.{IsDue, IsOutcome};
-ghost use Rattle.cnf_solver.specs.Met.{answer_of, met, seen};
 ghost use Rattle.cnf_solver.specs.Requests.{lawful_request};
+ghost use Rattle.io_edges.specs.Met.{met, seen};
 
 use crate::answer::Answer;
 use crate::line::read_request;
 use crate::solve::{answer, obey};
 use command_line::LineError;
+use exit_status::{NO_MEMORY, USAGE, WRITE_FAULT};
 use io_edges::{Shelf, Sink, write_all};
 use std::alloc::{AllocError, Global};
-
-/// The exit status where a write failed.
-const WRITE_FAULT: u8 = 7;
-
-/// The exit status for want of memory.
-pub(crate) const NO_MEMORY: u8 = 8;
 
 /// The answer that is due to words.
 fn due<H: Shelf>(alloc: Global, words: &[String], shelf: &mut H) -> Result<Answer, AllocError>
@@ -26,7 +22,7 @@ fn due<H: Shelf>(alloc: Global, words: &[String], shelf: &mut H) -> Result<Answe
         Ok(request) => obey(alloc, request, shelf),
         Err(LineError::Usage) => answer(
             alloc,
-            2,
+            USAGE,
             b"usage: bilv_solve FILE [--conflicts C] [--certificate]\n",
         ),
         Err(LineError::Memory) => Err(AllocError),

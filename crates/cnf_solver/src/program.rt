@@ -1,9 +1,10 @@
 //! The program: the words of its command line, and the exit status.
 ghost use Rattle.std.specs.Process.{exit_status};
 ghost use Rattle.cnf_solver.specs.Ends.{IsProgramEnd};
-ghost use Rattle.cnf_solver.specs.Met.{met, seen};
+ghost use Rattle.io_edges.specs.Met.{met, seen};
 
-use crate::call::{NO_MEMORY, bilv_solve};
+use crate::call::bilv_solve;
+use exit_status::NO_MEMORY;
 use io_edges::{Shelf, Sink};
 use std::alloc::AllocError;
 use std::process::ExitCode;

@@ -7,14 +7,16 @@ ghost use Rattle.bilv_spec.specs.Outcomes.{AfterRead};
 ghost use Rattle.bilv_spec.specs.Replays.{text_limit};
 ghost use Rattle.cnf_form.specs.Faults.{IsRefusal};
 ghost use Rattle.cnf_form.specs.Views.{cnf_of};
+ghost use Rattle.cnf_solver.specs.Answers.{answer_of};
 ghost use Rattle.cnf_solver.specs.Requests.{request_of};
 ghost use Rattle.cnf_solver.specs.Solutions.{IsSaid, IsSolved, as_certificate};
-ghost use Rattle.cnf_solver.specs.Met.{answer_of, seen};
+ghost use Rattle.io_edges.specs.Met.{seen};
 
 use crate::answer::Answer;
 use crate::request::Request;
 use crate::texts::{refused_text, refutation_text, values_text};
 use cnf_form::{Cnf, CnfError, read_cnf};
+use exit_status::{READ_FAULT, SATISFIABLE, TEXT_REFUSED, UNDECIDED, UNSATISFIABLE};
 use io_edges::{ReadFault, Shelf, read_all};
 use sat_core::{Answer as Found, solve};
 use std::alloc::{AllocError, Global};
@@ -57,13 +59,19 @@ fn search(alloc: Global, cnf: &Cnf, conflicts: u64, certificate: bool) -> Result
     match solve(alloc, cnf, conflicts)? {
         Found::Sat(values) => {
             let text = values_text(alloc, &values)?;
-            Ok(Answer { status: 10, text })
+            Ok(Answer {
+                status: SATISFIABLE,
+                text,
+            })
         }
         Found::Unsat(log) => {
             let text = refutation_text(alloc, cnf, &log, certificate)?;
-            Ok(Answer { status: 20, text })
+            Ok(Answer {
+                status: UNSATISFIABLE,
+                text,
+            })
         }
-        Found::Spent(_) => answer(alloc, 0, b"s UNKNOWN\n"),
+        Found::Spent(_) => answer(alloc, UNDECIDED, b"s UNKNOWN\n"),
     }
 }
 
@@ -77,7 +85,10 @@ fn solve_text(alloc: Global, text: Vec<u8>, request: &Request<'_>) -> Result<Ans
         Ok(cnf) => search(alloc, &cnf, request.conflicts, request.certificate),
         Err(CnfError::Refused { line, fault }) => {
             let text = refused_text(alloc, line as u64, fault)?;
-            Ok(Answer { status: 9, text })
+            Ok(Answer {
+                status: TEXT_REFUSED,
+                text,
+            })
         }
         Err(CnfError::Memory) => Err(AllocError),
     }
@@ -95,8 +106,8 @@ pub fn obey<H: Shelf>(
 {
     match read_all(alloc, shelf, request.file, TEXT_LIMIT) {
         Ok(text) => solve_text(alloc, text, &request),
-        Err(ReadFault::TooLarge) => answer(alloc, 9, b"cnf: TooLarge\n"),
-        Err(ReadFault::Failed) => answer(alloc, 6, b"read fault\n"),
+        Err(ReadFault::TooLarge) => answer(alloc, TEXT_REFUSED, b"cnf: TooLarge\n"),
+        Err(ReadFault::Failed) => answer(alloc, READ_FAULT, b"read fault\n"),
         Err(ReadFault::Memory) => Err(AllocError),
     }
 }

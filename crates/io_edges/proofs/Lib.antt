@@ -2,3 +2,4 @@ pub mod Fronts
 pub mod FilePlaces
 pub mod FileCounts
 pub mod Named
+pub mod Meeting

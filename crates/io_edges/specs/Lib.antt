@@ -5,3 +5,4 @@ pub mod WriteFaults
 pub mod Shelves
 pub mod Sinks
 pub mod Takes
+pub mod Met

@@ -12,6 +12,7 @@ ghost use Rattle.state_text.specs.Readings.{fault_of};
 ghost use Rattle.table_run.specs.Endings.{found_of};
 
 use crate::comparing::is_found;
+use exit_status::{DONE, TEXT_REFUSED};
 use state_text::{NamedEnding, StateFault, push_ending, push_number, push_step};
 use std::alloc::{AllocError, Global};
 use table_run::Ending;
@@ -19,17 +20,11 @@ use table_run::Ending;
 /// What is answered to a report.
 #[derive(Drop, Debug)]
 pub struct Replay {
-    /// The exit status: 0 where the run ends as is named, else 9.
+    /// The exit status: [`DONE`] where the run ends as is named, else [`TEXT_REFUSED`].
     pub status: u8,
     /// The text that is printed, with its line feed.
     pub text: Vec<u8>,
 }
-
-/// The exit status of a report that was replayed.
-const REPLAYED: u8 = 0;
-
-/// The exit status of each other report.
-const REFUSED: u8 = 9;
 
 /// The refusal with a text.
 fn refusal(alloc: Global, text: &[u8]) -> Result<Replay, AllocError>
@@ -38,7 +33,7 @@ fn refusal(alloc: Global, text: &[u8]) -> Result<Replay, AllocError>
     let mut out = Vec::new(alloc);
     out.extend_from_slice(text)?;
     Ok(Replay {
-        status: REFUSED,
+        status: TEXT_REFUSED,
         text: out,
     })
 }
@@ -81,7 +76,7 @@ pub(crate) fn refused(alloc: Global, line: u64, kind: StateFault) -> Result<Repl
     push_number(alloc, &mut out, line)?;
     out.extend_from_slice(fault_text(kind))?;
     Ok(Replay {
-        status: REFUSED,
+        status: TEXT_REFUSED,
         text: out,
     })
 }
@@ -96,7 +91,7 @@ pub(crate) fn false_require(alloc: Global, line: u32) -> Result<Replay, AllocErr
     push_number(alloc, &mut out, line as u64)?;
     out.push(b'\n')?;
     Ok(Replay {
-        status: REFUSED,
+        status: TEXT_REFUSED,
         text: out,
     })
 }
@@ -110,7 +105,7 @@ fn replayed(alloc: Global, named: NamedEnding) -> Result<Replay, AllocError>
     push_ending(alloc, &mut out, named)?;
     out.push(b'\n')?;
     Ok(Replay {
-        status: REPLAYED,
+        status: DONE,
         text: out,
     })
 }
@@ -162,7 +157,7 @@ fn found_other(alloc: Global, named: NamedEnding, ending: Ending) -> Result<Repl
     push_found(alloc, &mut out, turns_within(named), ending)?;
     out.push(b'\n')?;
     Ok(Replay {
-        status: REFUSED,
+        status: TEXT_REFUSED,
         text: out,
     })
 }

@@ -1,7 +1,8 @@
 use Rattle.std.proofs.Common.{subst, sym, ◌≤◌, length}
 use Rattle.std.proofs.lemmas.Result.{IfOk-weaker}
 use Rattle.bilv_spec.specs.Outside.{Agrees}
-use Rattle.bilv_top.specs.Answers.{answer_of, seen}
+use Rattle.io_edges.specs.Met.{seen}
+use Rattle.bilv_top.specs.Answers.{answer_of}
 use Rattle.bilv_spec.specs.Outcomes.{IsLifted}
 use Rattle.bilv_top.proofs.Refused.{elf_unread, elf_refuses, elf_accepts}
 use Rattle.bilv_top.proofs.lift.lift.Goals as goal

@@ -6,7 +6,8 @@ use Rattle.bilv_spec.specs.Files.{layout_of, program_of}
 use Rattle.bilv_spec.specs.Outcomes.{AfterRead}
 use Rattle.bilv_spec.specs.Replays.{replay_answer}
 use Rattle.notes_lang.specs.Drafting.{notes_of}
-use Rattle.bilv_top.specs.Answers.{answer_of, seen}
+use Rattle.io_edges.specs.Met.{seen}
+use Rattle.bilv_top.specs.Answers.{answer_of}
 use Rattle.bilv_top.proofs.Refused.{elf_unread, both_answered, both_found, read_since}
 use Rattle.bilv_top.proofs.replay.replay.Goals as goal
 

@@ -3,7 +3,8 @@ use Rattle.bilv_spec.specs.Outside.{Agrees}
 use Rattle.bilv_spec.specs.Files.{layout_of, program_of}
 use Rattle.bilv_spec.specs.Outcomes.{was_read}
 use Rattle.notes_lang.specs.Drafting.{notes_of}
-use Rattle.bilv_top.specs.Answers.{answer_of, seen}
+use Rattle.io_edges.specs.Met.{seen}
+use Rattle.bilv_top.specs.Answers.{answer_of}
 use Rattle.bilv_top.proofs.Reported.{report_unread}
 use Rattle.bilv_top.proofs.replay.replay_program.Goals as goal
 

@@ -4,7 +4,8 @@ use Rattle.bilv_spec.specs.Outside.{Agrees}
 use Rattle.bilv_spec.specs.Files.{layout_of, program_of}
 use Rattle.bilv_spec.specs.Scripts.{IsScriptAnswer}
 use Rattle.notes_lang.specs.Drafting.{notes_of}
-use Rattle.bilv_top.specs.Answers.{answer_of, seen}
+use Rattle.io_edges.specs.Met.{seen}
+use Rattle.bilv_top.specs.Answers.{answer_of}
 use Rattle.command_line.specs.Commands.{budget_of, question_of}
 use Rattle.bilv_top.proofs.Refused.{elf_unread, both_answered, both_found}
 use Rattle.bilv_top.proofs.script.script.Goals as goal

@@ -1,7 +1,8 @@
 use Rattle.std.proofs.Common.{map, string_bytes, subst}
 use Rattle.bilv_spec.specs.Outside.{Appends}
 use Rattle.io_edges.specs.WriteFaults.{Stopped}
-use Rattle.cnf_solver.specs.Met.{answer_of, seen}
+use Rattle.io_edges.specs.Met.{seen}
+use Rattle.cnf_solver.specs.Answers.{answer_of}
 use Rattle.cnf_solver.specs.Requests.{lawful_request}
 use Rattle.cnf_solver.proofs.Answered.{whole_of, cut_of}
 use Rattle.cnf_solver.proofs.call.bilv_solve.Goals as goal

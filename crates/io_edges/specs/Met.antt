@@ -1,13 +1,7 @@
--- What a call meets outside, and answers as the definitions have them.
+-- What a call meets of the files that it reads and of the text that it writes.
 use Rattle.std.specs.Prelude.{ℕ, List, Option, None}
 use Rattle.bilv_spec.specs.Outside.{Held}
-use Rattle.bilv_spec.specs.Answers as spec
 use Rattle.bilv_spec.specs.Outcomes.{Surroundings}
-use Rattle.cnf_solver.specs.declared.answer.Answer.{Answer}
-
--- an answer
-abbrev pub answer_of : Answer → spec.Answer
-answer_of a = spec.plain_answer a.status a.text.items
 
 -- what is told of files, and the counts of their faults before and after
 abbrev pub seen : (List ℕ → Held) → (before after : List ℕ → ℕ) → Surroundings
