@@ -1,7 +1,6 @@
 pub mod Checked
 pub mod Refused
 pub mod Reported
-pub mod Graphed
 pub mod Ended
 pub mod Verdicts
 pub mod Founds

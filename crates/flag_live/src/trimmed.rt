@@ -75,6 +75,7 @@ fn with_keeps(alloc: Global, node: &Node, keeps: u8) -> Result<Node, AllocError>
 /// Want of memory.
 pub fn trim(alloc: Global, graph: &Graph) -> Result<Graph, AllocError>
     ensures same { IfOk result (λ t. IsSameGraph graph.now t) }
+    ensures graph { (p : Program) → IsGraph p graph.now → IfOk result (λ t. IsGraph p t) }
     ensures live { (p : Program) → IsGraph p graph.now → IfOk result (λ t. LiveStay p t) }
 {
     let lives = Lives {

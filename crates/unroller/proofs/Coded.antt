@@ -10,9 +10,10 @@ use Rattle.bilv_spec.specs.Run.{Program, fetchable}
 use Rattle.bilv_spec.specs.Points.{file_row, file_word, row_price, loads_at, stores_at}
 use Rattle.bil_ast.specs.declared.statements.Stmt.{Stmt}
 use Rattle.bil_ast.specs.Views.{statements}
+use Rattle.bil_trim.specs.Flags.{kept_in, with_flags}
 use Rattle.bil_trim.specs.Literals.{with_literal}
 use Rattle.graph_nodes.specs.declared.nodes.Node.{Node}
-use Rattle.graph_nodes.specs.Graphs.{IsNode}
+use Rattle.graph_nodes.specs.Graphs.{IsNode, IsKeptLive}
 use Rattle.walk_spec.specs.Unrolling.{row_draws}
 use Rattle.question_form.specs.declared.unrolled.Code.{Code}
 use Rattle.unroller.specs.Places.{IsRowCode}
@@ -87,22 +88,32 @@ pub row_literal : (p : Program) (n : Node) (r : Row) (found : Option ℕ) → fi
     found ≡ literal_at p n.at
 row_literal p n r found some e = e ∙ ap (λ (o : Option Row). literal_by p o n.at) (sym some)
 
--- a list as it is lifted, where no literal is kept
-pub plain_list : (p : Program) (bank : Bank) (r : Row) (at : ℕ) (list : Statements) → IsLifting p.machine bank r at list → None ≡ kept_literal p (r.literal at) →
-    IsListAt p bank r at list
-plain_list p bank r at list lifting k =
-    record { lifted = list; lifting = lifting; is = ap (λ (o : Option ℕ). list_with p o list) k; word = λ a h. absurd (cc) }
-
--- a list with the constant of a kept literal
-pub literal_list : (p : Program) (bank : Bank) (r : Row) (at place a v : ℕ) (o : Endian) (lifted list : Statements) → IsLifting p.machine bank r at lifted →
-    Some place ≡ kept_literal p (r.literal at) → list ≡ with_literal o a v lifted → o ≡ p.machine.endian → a ≡ place → v ≡ file_word p place → v < 2 ^ 32 →
-    IsListAt p bank r at list
-literal_list p bank r at place a v o lifted list lifting k is order here value small = record {
+-- a list without a kept literal
+pub plain_list : (p : Program) (bank : Bank) (r : Row) (n : Node) (lifted list : Statements) → IsLifting p.machine bank r n.at lifted → IsKeptLive p n →
+    list ≡ with_flags (kept_in n.keeps) lifted → None ≡ kept_literal p (r.literal n.at) → IsListAt p bank r n.at list
+plain_list p bank r n lifted list lifting kept is k = record {
   lifted = lifted;
   lifting = lifting;
+  keeps = n.keeps;
+  live = kept.exact;
+  is = is ∙ ap (λ (o : Option ℕ). list_with p o (with_flags (kept_in n.keeps) lifted)) k;
+  word = λ a h. absurd (cc);
+}
+
+-- a list with the constant of a kept literal
+pub literal_list : (p : Program) (bank : Bank) (r : Row) (n : Node) (place a v : ℕ) (o : Endian) (lifted trimmed list : Statements) →
+    IsLifting p.machine bank r n.at lifted → IsKeptLive p n → trimmed ≡ with_flags (kept_in n.keeps) lifted →
+    Some place ≡ kept_literal p (r.literal n.at) → list ≡ with_literal o a v trimmed → o ≡ p.machine.endian → a ≡ place → v ≡ file_word p place → v < 2 ^ 32 →
+    IsListAt p bank r n.at list
+literal_list p bank r n place a v o lifted trimmed list lifting kept without k is order here value small = record {
+  lifted = lifted;
+  lifting = lifting;
+  keeps = n.keeps;
+  live = kept.exact;
   is =
-      is ∙ ap (λ (z : Endian). with_literal z a v lifted) order ∙ ap (λ (z : ℕ). with_literal p.machine.endian z v lifted) here
-      ∙ ap (λ (z : ℕ). with_literal p.machine.endian place z lifted) value ∙ ap (λ (z : Option ℕ). list_with p z lifted) k;
+      is ∙ ap (λ (z : Endian). with_literal z a v trimmed) order ∙ ap (λ (z : ℕ). with_literal p.machine.endian z v trimmed) here
+      ∙ ap (λ (z : ℕ). with_literal p.machine.endian place z trimmed) value ∙ ap (λ (z : Option ℕ). list_with p z trimmed) k
+      ∙ ap (λ (z : Statements). list_with p (kept_literal p (r.literal n.at)) z) without;
   word = λ x h.
       let same = one_place place x (k ∙ h) in
       subst (λ (z : ℕ). file_word p z < 2 ^ 32) same (subst (λ (z : ℕ). z < 2 ^ 32) value small);

@@ -4,7 +4,7 @@ use Rattle.std.proofs.lemmas.Bool.{cases_lt}
 use Rattle.bilv_spec.specs.Bil.{Bank}
 use Rattle.bilv_spec.specs.Run.{Program}
 use Rattle.std.specs.Prelude.{Contains}
-use Rattle.graph_nodes.specs.Graphs.{IsGraph, IsNode}
+use Rattle.graph_nodes.specs.Graphs.{IsGraph, IsNode, IsKeptLive, LiveStay}
 use Rattle.graph_nodes.specs.declared.nodes.Graph.{Graph}
 use Rattle.graph_nodes.specs.declared.nodes.Node.{Node}
 use Rattle.program_points.proofs.Lists.{or_left, or_last, grown as push_length}
@@ -37,3 +37,7 @@ codes_more p bank addresses asserts i codes more c are is of = record {
 -- a node of a graph says what the program has
 pub of_nodes : (p : Program) (g : Graph) (n : Node) → IsGraph p g → Contains g.nodes.items n → IsNode p n
 of_nodes p g n is (i, w, e) = subst (IsNode p) e (is.nodes i n w)
+
+-- and keeps the assignments that are live, where the graph does
+pub kept_of_nodes : (p : Program) (g : Graph) (n : Node) → LiveStay p g → Contains g.nodes.items n → IsKeptLive p n
+kept_of_nodes p g n live (i, w, e) = subst (IsKeptLive p) e (live i n w)

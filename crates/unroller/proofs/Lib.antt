@@ -1,5 +1,6 @@
 mod Capped
 mod Coded
+mod Dropped
 pub mod EdgeLists
 pub mod FirstPoints
 pub mod KeptRuns

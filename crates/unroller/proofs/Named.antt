@@ -8,7 +8,7 @@ use Rattle.walk_spec.specs.Unrolled.{UnrolledProgram, is_register_of, is_flag_of
 use Rattle.walk_spec.specs.Unrolling.{is_variable_of}
 use Rattle.unroller.proofs.Mixed.{both, all_three, all_four}
 
-join : (a b : Bool) → a ≡ true → b ≡ true → (a && b) ≡ true
+pub join : (a b : Bool) → a ≡ true → b ≡ true → (a && b) ≡ true
 join true b h i = i
 join false b h i = absurd (cc)
 

@@ -1,5 +1,5 @@
 -- The list of a lawful row as it is lifted does what the row does, as far as it is read later.
-use Rattle.std.proofs.Common.{◌≡◌, refl, ap, sym, ◌∙◌, subst, arith, ℕ, zero, suc, ◌+◌, ◌<◌, ◌≤◌, Option, Some, None, Bool, true, false, List}
+use Rattle.std.proofs.Common.{◌≡◌, refl, ap, sym, ◌∙◌, subst, arith, ℕ, zero, suc, ◌<◌, ◌≤◌, Option, Some, None, Bool, true, false, List}
 use Rattle.std.specs.Prelude.{if◌then◌else◌, ◌==◌, nat_lt, ◌↔◌, Contains, length}
 use Rattle.std.proofs.lemmas.Bool.Decides.{nat_tests}
 use mathlib.Core.Path.{fun_ext}
@@ -10,18 +10,17 @@ use Rattle.bilv_spec.specs.MachineLaws.{IsLawful, IsFitted, IsLifting, with_flag
 use Rattle.bilv_spec.specs.StateText.{Layout}
 use Rattle.bilv_spec.specs.Bil.{Bank, Statements}
 use Rattle.bilv_spec.specs.Bil as bil
-use Rattle.bilv_spec.specs.BilCounts.{is_own, list_weight, byte_loads, byte_stores}
+use Rattle.bilv_spec.specs.BilCounts.{is_own}
 use Rattle.bilv_spec.specs.BilMeaning.{Stuck, Position, Ending, Ends, RaisesException, OutOfTurns, Wrong, execute}
 use Rattle.bilv_spec.specs.BilStores.{list_stored}
 use Rattle.bilv_spec.specs.Simulation.{position, jump_of, Finished, Raised, of_list, of_row}
-use Rattle.bilv_spec.specs.Run.{Program, literal_target}
-use Rattle.bilv_spec.specs.Points.{file_row, file_word, is_empty}
+use Rattle.bilv_spec.specs.Run.{Program}
+use Rattle.bilv_spec.specs.Points.{file_row}
 use Rattle.bilv_spec.specs.LiveFlags.{IsRead, by_row, later, IsReadAfter, reads_by, surely_by}
 use Rattle.walk_spec.specs.Unrolled.{Carried, state_at, UnrolledPoint, Leaving, GoesOn, RaisesOne, IsStuck, leaving_by, begins}
 use Rattle.walk_spec.specs.Unrolled as walk
 use Rattle.walk_spec.specs.Unrolling.{IsCarriedOf, jumps, LeavesAs}
 use Rattle.unroller.proofs.Mixed.{mix_end, list_same, list_stores_same}
-use Rattle.unroller.proofs.Named.{list_wider}
 
 -- a lawful row surely assigns no flag that no machine has
 not_sure : (row : Row) → IsLawful row → (f : ℕ) → 4 ≤ f → (b : Bool) → row.flags.surely f ≡ b → row.flags.surely f ≡ false
@@ -135,7 +134,7 @@ module _ (p : Program) (row : Row) (at : ℕ) (is : file_row p at ≡ Some row) 
 abbrev low_flag : ℕ → Bool
 low_flag f = nat_lt f 4
 
-high : (n : ℕ) → nat_lt (suc (suc (suc (suc n)))) 4 ≡ false
+pub high : (n : ℕ) → nat_lt (suc (suc (suc (suc n)))) 4 ≡ false
 high n = grind (arith, nat_tests)
 
 lower_below : (s : State) (g : ℕ → ℕ) (f : ℕ) → low_flag f ≡ true →
@@ -157,11 +156,11 @@ lower_beyond s g f h =
     (λ e. omega arith) ∙ put_other a.flags 1 (g 1) f (f == 1) refl (λ e. omega arith)
     ∙ put_other s.flags 0 (g 0) f (f == 0) refl (λ e. omega arith)
 
-pick : (b : Bool) (x y z : ℕ) → (b ≡ true → x ≡ z) → (b ≡ false → y ≡ z) → (if b then x else y) ≡ z
+pub pick : (b : Bool) (x y z : ℕ) → (b ≡ true → x ≡ z) → (b ≡ false → y ≡ z) → (if b then x else y) ≡ z
 pick true x y z t f = t refl
 pick false x y z t f = f refl
 
-pick_below : (b : Bool) (x y : ℕ) → x < 2 → y < 2 → (if b then x else y) < 2
+pub pick_below : (b : Bool) (x y : ℕ) → x < 2 → y < 2 → (if b then x else y) < 2
 pick_below true x y t f = t
 pick_below false x y t f = f
 

@@ -1,6 +1,6 @@
 -- The value is the unrolled program of a program.
 use Rattle.std.proofs.Common.{◌≡◌, inl, inr, refl, ap, sym, ◌∙◌, subst, arith, ℕ, zero, suc, ◌+◌, ◌<◌, ◌≤◌, ◌^◌, Some, List, [], ◌∷◌, length, get_or, drop, map}
-use Rattle.std.specs.Prelude.{Contains, ◌↔◌, Option, None, Bool, true, ◌==◌, filter, slice_get, slice_range}
+use Rattle.std.specs.Prelude.{Contains, ◌↔◌, Option, None, true, ◌==◌, filter, slice_get, slice_range}
 use Rattle.std.specs.BTreeMap.{BTreeMap}
 use Rattle.std.proofs.lemmas.Bool.{cases_lt}
 use Rattle.std.proofs.lemmas.List.{get_or_default, get_or-map}
@@ -12,6 +12,7 @@ use Rattle.bilv_spec.specs.Notes as notes
 use Rattle.bilv_spec.specs.Run.{Program, all_kept}
 use Rattle.bilv_spec.specs.Points as spec
 use Rattle.bilv_spec.specs.Points.{IsPoint, ArePoints, file_row}
+use Rattle.bilv_spec.specs.LiveFlags.{IsLive}
 use Rattle.bilv_spec.proofs.PointsInGraph.{points_are_in_graph, of_map}
 use Rattle.graph_nodes.specs.declared.nodes.Node.{Node}
 use Rattle.graph_nodes.specs.declared.nodes.Graph.{Graph}
@@ -39,8 +40,8 @@ use Rattle.unroller.proofs.Coding.{of_nodes}
 use Rattle.unroller.proofs.FirstPoints.{entry_comes_first}
 use Rattle.unroller.proofs.Grouped.{asserts_are}
 use Rattle.unroller.proofs.Leads.{edges_at}
-use Rattle.unroller.proofs.Literals.{of_kept, is_kept_one}
-use Rattle.unroller.specs.Rows.{literal_by, literal_at, AreLiterals}
+use Rattle.unroller.proofs.Literals.{of_kept, is_kept_one, code_is_lean}
+use Rattle.unroller.specs.Rows.{literal_by, literal_at, AreLiterals, AssignsLiveOnly, may_assign_in}
 use Rattle.unroller.proofs.Looked.{points_are_at}
 use Rattle.unroller.proofs.Placed.{places_are_right}
 
@@ -171,6 +172,14 @@ module _ (p : Program) (k : ℕ) (bank : Bank) (g : Graph) (u : Unrolled) (numbe
       subst (λ (z : UnrolledPoint). IsPlace p k (unrolled_of u) i z (file_row p z.point.at)) (sym (point_is i w))
       (places_are_right p k u (layout_of u.form) bank i (own i) (code i) (led i) fitted registers flags (fit i w)
       (record { own = (code_is i w).row; asserts = asserts i w }) (edges_are i w))
+
+  pub lean : AssignsLiveOnly p (unrolled_of u)
+  lean i f w low h =
+      let inside : i < length keys = (let s = size in omega arith) in
+      let e = point_is i inside in
+      subst (λ (z : UnrolledPoint). IsLive p f z.point.at) (sym e)
+      (code_is_lean p bank (file_row p (code i).at) (code i).at f (code i).list (code_is i inside).row.list low
+      (ap (λ (z : UnrolledPoint). may_assign_in f z.does) (sym e) ∙ h))
 
   pub words : (i : ℕ) → i < length (unrolled_of u).points → (point_at (unrolled_of u) i).point.at < 2 ^ 32
   words i w =

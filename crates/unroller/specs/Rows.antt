@@ -1,16 +1,20 @@
 -- What the lists of rows do at points.
-use Rattle.std.specs.Prelude.{ℕ, ◌≡◌, ◌<◌, ◌^◌, ◌↔◌, true, List, Option, Some, None, Contains, slice_index, if◌then◌else◌}
+use Rattle.std.specs.Prelude.{ℕ, ◌≡◌, ◌<◌, ◌^◌, ◌↔◌, Bool, true, List, Option, Some, None, Contains, length, slice_index, if◌then◌else◌}
 use Rattle.std.specs.Global.{Vec}
 use Rattle.bilv_spec.specs.Machine.{Row}
 use Rattle.bilv_spec.specs.MachineLaws.{IsLawful, IsFitted, IsLifting}
 use Rattle.bilv_spec.specs.StateText.{Layout}
 use Rattle.bilv_spec.specs.Bil.{Bank, Statements}
+use Rattle.bilv_spec.specs.BilCounts.{may_assign}
 use Rattle.bilv_spec.specs.Run.{Program, all_kept}
 use Rattle.bilv_spec.specs.Points.{file_row, file_word}
+use Rattle.bilv_spec.specs.LiveFlags.{IsLive}
 use Rattle.bil_ast.specs.declared.statements.Stmt.{Stmt}
 use Rattle.bil_ast.specs.Views.{statements}
+use Rattle.bil_trim.specs.Flags.{kept_in, with_flags}
 use Rattle.bil_trim.specs.Literals.{with_literal}
-use Rattle.walk_spec.specs.Unrolled.{Executes, UnrolledPoint, UnrolledProgram, is_register_of, is_flag_of}
+use Rattle.graph_nodes.specs.Graphs.{has_flag}
+use Rattle.walk_spec.specs.Unrolled.{Action, Executes, UnrolledPoint, UnrolledProgram, is_register_of, is_flag_of, point_at}
 use Rattle.walk_spec.specs.Unrolling.{DoesRow, IsRunnable, IsCounted}
 
 -- the address of a literal, if its four bytes are kept
@@ -37,11 +41,14 @@ abbrev pub list_with : Program → Option ℕ → Statements → Statements
 list_with p None list = list
 list_with p (Some a) list = with_literal p.machine.endian a (file_word p a) list
 
--- The list of a row that stands at an address: as it is lifted, but with the constant of a literal in place of its load where the literal is kept.
+-- The list of a row that stands at an address: as it is lifted, but without the assignments of flags that are not live there, and with the constant of a
+-- literal in place of its load where the literal is kept.
 pub record IsListAt (p : Program) (bank : Bank) (row : Row) (at : ℕ) (list : Statements) : Type 0 where
   pub lifted : Statements
   pub lifting : IsLifting p.machine bank row at lifted
-  pub is : list ≡ list_with p (kept_literal p (row.literal at)) lifted
+  pub keeps : ℕ
+  pub live : (f : ℕ) → f < 4 → (has_flag keeps f ≡ true) ↔ IsLive p f at
+  pub is : list ≡ list_with p (kept_literal p (row.literal at)) (with_flags (kept_in keeps) lifted)
   pub word : (a : ℕ) → kept_literal p (row.literal at) ≡ Some a → file_word p a < 2 ^ 32
 
 -- the list of what stands at an address, and none where there is no row
@@ -57,3 +64,11 @@ ListsDoRows = (p : Program) (u : UnrolledProgram) (form : Layout) (bank : Bank) 
     IsFitted p.machine form → ((r : ℕ) → is_register_of u r ≡ p.machine.has_register r) → ((f : ℕ) → is_flag_of u f ≡ p.machine.has_flag f) →
     file_row p q.point.at ≡ Some row → IsLawful row → IsListAt p bank row q.point.at list →
     q.does ≡ Executes list → q.length ≡ row.length → IsCounted p q (Some row) → DoesRow p q row × IsRunnable u q list
+
+-- what is done assigns the flag somewhere
+abbrev pub may_assign_in : ℕ → Action → Bool
+may_assign_in f (Executes list) = may_assign f list
+
+-- a point assigns a flag only where the assignment is live
+abbrev pub AssignsLiveOnly : Program → UnrolledProgram → Type 0
+AssignsLiveOnly p u = (i f : ℕ) → i < length u.points → f < 4 → may_assign_in f (point_at u i).does ≡ true → IsLive p f (point_at u i).point.at

@@ -8,14 +8,14 @@ ghost use Rattle.bilv_spec.specs.Points.{loads_at};
 ghost use Rattle.bilv_spec.specs.Run.{some_of};
 ghost use Rattle.bil_ast.specs.Views.{statements};
 ghost use Rattle.byte_mem.specs.Views.{endian_of};
-ghost use Rattle.graph_nodes.specs.Graphs.{IsGraph, IsNode, addresses_of};
+ghost use Rattle.graph_nodes.specs.Graphs.{IsGraph, IsKeptLive, IsNode, LiveStay, addresses_of};
 ghost use Rattle.graph_nodes.specs.Places.{AreRising};
 ghost use Rattle.unroller.specs.Places.{AreCodes, IsRowCode};
 ghost use Rattle.unroller.specs.Rows as rows;
 ghost use Rattle.unroller.specs.Rows.{AreLiterals, IsListAt};
 
 use bil_ast::Stmt;
-use bil_trim::{Literal, with_literal};
+use bil_trim::{Literal, with_flags, with_literal};
 use byte_mem::Endian;
 use elf32_reader::Image;
 use file_words::{all_kept, file_word};
@@ -94,33 +94,35 @@ struct RowList {
     loads: u64,
 }
 
-/// What an instruction does where it stands at an address. The constant of a kept literal stands in place of its load, which costs nothing then. The error is
-/// want of memory.
+/// What the instruction of a node does. The assignments of flags that the node does not keep are left out, and the constant of a kept literal stands in place
+/// of its load, which costs nothing then. The error is want of memory.
 fn listed<M: Machine>(
     alloc: Global,
     image: &Image,
     insn: &M::Insn,
-    at: u32,
+    node: &Node,
 ) -> Result<RowList, AllocError>
     requires { machine_of image.now ≡ M.machine }
-    ensures list { (n : Notes) (e : ℕ) →
-        IfOk result (λ l. IsListAt (program_of image.now n e) M.bank (M.Machine.row insn.now) at (statements l.list.items)) }
-    ensures loads { (n : Notes) (e : ℕ) → IfOk result (λ l. l.loads ≡ loads_at (program_of image.now n e) at (Some (M.Machine.row insn.now))) }
+    ensures list { (n : Notes) (e : ℕ) → IsKeptLive (program_of image.now n e) node.now →
+        IfOk result (λ l. IsListAt (program_of image.now n e) M.bank (M.Machine.row insn.now) node.now.at (statements l.list.items)) }
+    ensures loads { (n : Notes) (e : ℕ) → IfOk result (λ l. l.loads ≡ loads_at (program_of image.now n e) node.now.at (Some (M.Machine.row insn.now))) }
 {
-    let lifted = M::lift(alloc, insn, at)?;
-    match kept_literal::<M>(image, insn, at) {
+    let lifted = M::lift(alloc, insn, node.at)?;
+    let trimmed = with_flags(lifted, alloc, node.keeps)?;
+    match kept_literal::<M>(image, insn, node.at) {
         None => Ok(RowList {
-            list: lifted,
+            list: trimmed,
             loads: M::cost(insn).loads,
         }),
         Some(place) => {
-            let list = with_literal(&lifted, alloc, word_at(image, place))?;
+            let list = with_literal(&trimmed, alloc, word_at(image, place))?;
             Ok(RowList { list, loads: 0 })
         }
     }
 }
 
-/// What stands at the address of a node, with a part of the assert lines by address. The error is want of memory.
+/// What stands at the address of a node, with a part of the assert lines by address. Of the row's assignments of flags those stay that the node keeps. The
+/// error is want of memory.
 pub fn code_at<M: Machine>(
     alloc: Global,
     image: &Image,
@@ -130,7 +132,8 @@ pub fn code_at<M: Machine>(
     requires { machine_of image.now ≡ M.machine }
     ensures at { IfOk result (λ c. c.at ≡ node.now.at) }
     ensures asserts { IfOk result (λ c. c.asserts ≡ asserts) }
-    ensures row { (n : Notes) (e : ℕ) → IsNode (program_of image.now n e) node.now → IfOk result (λ c. IsRowCode (program_of image.now n e) M.bank c) }
+    ensures row { (n : Notes) (e : ℕ) → IsNode (program_of image.now n e) node.now → IsKeptLive (program_of image.now n e) node.now →
+        IfOk result (λ c. IsRowCode (program_of image.now n e) M.bank c) }
 {
     let word = match node.word {
         None => return Ok(bare(node, asserts)),
@@ -140,7 +143,7 @@ pub fn code_at<M: Machine>(
         None => return Ok(bare(node, asserts)),
         Some(insn) => insn,
     };
-    let listed = listed::<M>(alloc, image, &insn, node.at)?;
+    let listed = listed::<M>(alloc, image, &insn, node)?;
     let cost = M::cost(&insn);
     Ok(Code {
         at: node.at,
@@ -154,7 +157,8 @@ pub fn code_at<M: Machine>(
     })
 }
 
-/// What stands at addresses of a graph, each with its part of the assert lines by address. The error is want of memory.
+/// What stands at addresses of a graph that keeps the assignments of flags that are live, each with its part of the assert lines by address. The error is want
+/// of memory.
 pub fn codes_at<M: Machine>(
     alloc: Global,
     image: &Image,
@@ -166,7 +170,7 @@ pub fn codes_at<M: Machine>(
     requires nodes { AreRising graph.now.nodes.items }
     requires among { (a : ℕ) → Contains addresses.now a → Contains (addresses_of graph.now) a }
     requires sorted { IsNonDecreasingBy (λ x. x.0) asserts.now }
-    ensures { (n : Notes) (e : ℕ) → IsGraph (program_of image.now n e) graph.now →
+    ensures { (n : Notes) (e : ℕ) → IsGraph (program_of image.now n e) graph.now → LiveStay (program_of image.now n e) graph.now →
         IfOk result (λ v. AreCodes (program_of image.now n e) M.bank addresses.now asserts.now (length addresses.now) v.items) }
 {
     let mut codes: Vec<Code> = Vec::with_capacity(alloc, addresses.len())?;

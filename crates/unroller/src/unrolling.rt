@@ -8,6 +8,7 @@ ghost use Rattle.program_points.specs.Listed.{HasOneWay, IsTooMany};
 ghost use Rattle.question_form.specs.Forms.{IsFormed};
 ghost use Rattle.question_form.specs.Views.{unrolled_of};
 ghost use Rattle.unroller.specs.Lookups.{HasForm};
+ghost use Rattle.unroller.specs.Rows.{AssignsLiveOnly};
 ghost use Rattle.known_bytes.specs.Runs.{AreRuns};
 ghost use Rattle.state_text.specs.Starts.{layout_of};
 ghost use Rattle.walk_spec.specs.Unrolled.{byte_of_runs, point_at};
@@ -17,6 +18,7 @@ use crate::codes::{codes_at, literals_at};
 use crate::keys::{addresses, keys_in_order, point_keys};
 use crate::placing::{calls, points_of};
 use elf32_reader::Image;
+use flag_live::trim;
 use graph_nodes::Graph;
 use known_bytes::known_bytes;
 use machine_law::Machine;
@@ -42,7 +44,8 @@ fn kept<'a>(image: &'a Image<'a>) -> &'a [(u32, u32)]
 /// The unrolled program of a program with at most `k` backward transfers, from its flow graph: every point once, by backward transfers, address and stack, with
 /// its exits in the order of a step and an edge for each of the program's. Lists stand once for each address; known bytes are borrowed from the file.
 ///
-/// A list is that of the row as it is lifted, but with the constant of a literal in place of its load where the literal's four bytes are kept.
+/// A list is that of the row as it is lifted, but without the assignments of flags that no path reads before the flag is surely assigned again, and with the
+/// constant of a literal in place of its load where the literal's four bytes are kept.
 ///
 /// # Errors
 ///
@@ -62,6 +65,7 @@ pub fn unroll<'a, M: Machine>(
     requires graph { IsGraph (program_of image.now (notes_of notes.now) entry) graph.now }
     requires one_way { HasOneWay (program_of image.now (notes_of notes.now) entry) }
     ensures unrolled { IfOk result (λ u. IsUnrolling (program_of image.now (notes_of notes.now) entry) k (unrolled_of u)) }
+    ensures lean { IfOk result (λ u. AssignsLiveOnly (program_of image.now (notes_of notes.now) entry) (unrolled_of u)) }
     ensures formed { IfOk result (λ u. IsFormed u) }
     ensures few { IfOk result (λ u. length u.points.items ≤ max) }
     ensures form { IfOk result (λ u. HasForm M.machine u) }
@@ -77,7 +81,8 @@ pub fn unroll<'a, M: Machine>(
     let addresses = addresses(alloc, &keys)?;
     let index = index_of(alloc, notes)?;
     let called = calls(alloc, graph, &mut stacks, &keys)?;
-    let codes = codes_at::<M>(alloc, image, graph, &addresses, &index.asserts)?;
+    let live = trim(alloc, graph)?;
+    let codes = codes_at::<M>(alloc, image, &live, &addresses, &index.asserts)?;
     let literals = literals_at::<M>(alloc, image, graph, &addresses)?;
     let placed = points_of(alloc, graph, &stacks.frames, &keys, &addresses, &called)?;
     let known = known_bytes(alloc, image, notes)?;

@@ -1,11 +1,9 @@
 use Rattle.bilv_spec.specs.Files.{program_of}
 use Rattle.bilv_spec.specs.Run.{Program}
 use Rattle.notes_lang.specs.Drafting.{notes_of}
-use Rattle.bilv_top.proofs.Graphed.{same_graph}
 use Rattle.bilv_top.proofs.graph.live_text.Goals as goal
 
 pub returns : goal.returns
 returns g c =
     let p : Program = program_of c.args.image.now (notes_of c.args.found.now.notes) c.args.found.now.entry in
-    c.in_ok-text.ensures.text p (same_graph p c.in_ok-whole.whole c.in_ok-live.live c.in_ok-live.ensures.same c.in_ok-whole.ensures.graph)
-    (c.in_ok-live.ensures.live p c.in_ok-whole.ensures.graph)
+    c.in_ok-text.ensures.text p (c.in_ok-live.ensures.graph p c.in_ok-whole.ensures.graph) (c.in_ok-live.ensures.live p c.in_ok-whole.ensures.graph)

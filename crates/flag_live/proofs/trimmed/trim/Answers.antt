@@ -1,9 +1,10 @@
-use Rattle.std.proofs.Common.{◌≤◌, ◌<◌, ◌+◌, ℕ, List, take, length, arith, subst, sym, false, get_or}
+use Rattle.std.proofs.Common.{◌≤◌, ◌<◌, ◌+◌, refl, ℕ, List, take, length, arith, subst, sym, false, get_or}
 use Rattle.std.specs.List.{AllZip}
 use Rattle.std.proofs.lemmas.List.Elements.{all_zip_more}
 use Rattle.graph_nodes.specs.Graphs.{IsSameNode}
 use Rattle.graph_nodes.specs.declared.nodes.Node.{Node}
 use Rattle.flag_live.specs.Keeps.{IsSetOf}
+use Rattle.flag_live.proofs.Graphed.{same_graph}
 use Rattle.flag_live.proofs.Lives.{kept_more, same_count, same_all, stay_live}
 use Rattle.flag_live.proofs.trimmed.trim.Goals as goal
 
@@ -28,6 +29,13 @@ loop-i-preserved c =
           (sym c.in_ok-node.ensures.kept) c.keeps_at.ensures)
           c.loop-i.invariant.kept;
     }
+
+pub returns-clause-graph : goal.returns-clause-graph
+returns-clause-graph c p is =
+    let old = c.args.graph.now.nodes in
+    let all : length old.items ≤ c.loop-i.i = omega (arith, old.ok.0) in
+    let same = same_all old.items c.loop-i.nodes.items c.loop-i.i all c.loop-i.invariant.same in
+    same_graph p c.args.graph.now (record { nodes = c.loop-i.nodes; ensured = c.args.graph.now.ensured }) (record { nodes = same; ensured = refl }) is
 
 pub returns-clause-live : goal.returns-clause-live
 returns-clause-live c p is =

@@ -3,7 +3,7 @@ use Rattle.std.proofs.lemmas.List.{get_or_default}
 use Rattle.bilv_spec.specs.Files.{program_of}
 use Rattle.bilv_spec.specs.Run.{Program}
 use Rattle.unroller.specs.Places.{IsGroup, AreCodes}
-use Rattle.unroller.proofs.Coding.{codes_none, codes_more, of_nodes}
+use Rattle.unroller.proofs.Coding.{codes_none, codes_more, of_nodes, kept_of_nodes}
 use Rattle.unroller.proofs.codes.codes_at.Goals as goal
 
 pub unreachable-requires : goal.unreachable-requires
@@ -17,16 +17,19 @@ unreachable-requires g c =
     ))
 
 pub loop-at-init : goal.loop-at-init
-loop-at-init g c = λ n e is. codes_none (program_of c.args.image.now n e) g.M.Machine.bank c.args.addresses.now c.args.asserts.now c.in_ok-codes.codes.items c.in_ok-codes.ensures.items
+loop-at-init g c = λ n e is live.
+    codes_none (program_of c.args.image.now n e) g.M.Machine.bank c.args.addresses.now c.args.asserts.now c.in_ok-codes.codes.items
+    c.in_ok-codes.ensures.items
 
 pub loop-at-preserved : goal.loop-at-preserved
-loop-at-preserved g c = λ n e is.
+loop-at-preserved g c = λ n e is live.
     let p : Program = program_of c.args.image.now n e in
     codes_more p g.M.Machine.bank c.args.addresses.now c.args.asserts.now c.loop-at.at-index c.loop-at.codes.items c.push.new.self.items c.in_ok-code.code
-    (c.loop-at.invariant n e is)
+    (c.loop-at.invariant n e is live)
     c.in_ok-push.ensures.items (record {
       here = c.in_ok-code.ensures.at ∙ c.in-Some.ensures.0;
-      row = c.in_ok-code.ensures.row n e (of_nodes p c.args.graph.now c.in-Some.node.now is c.in-Some.ensures.1);
+      row = c.in_ok-code.ensures.row n e (of_nodes p c.args.graph.now c.in-Some.node.now is c.in-Some.ensures.1)
+          (kept_of_nodes p c.args.graph.now c.in-Some.node.now live c.in-Some.ensures.1);
       group =
           subst (λ (b : ℕ × ℕ). IsGroup c.args.asserts.now (get_or c.args.addresses.now c.loop-at.at-index 0) b) (sym c.in_ok-code.ensures.asserts) (record {
             ordered = c.group.ensures.ordered;
@@ -38,7 +41,7 @@ loop-at-preserved g c = λ n e is.
     })
 
 pub returns : goal.returns
-returns g c = λ n e is.
+returns g c = λ n e is live.
     let p : Program = program_of c.args.image.now n e in
     let whole : c.loop-at.at-index ≡ length c.args.addresses.now = omega arith in
-    subst (λ (z : ℕ). AreCodes p g.M.Machine.bank c.args.addresses.now c.args.asserts.now z c.loop-at.codes.items) whole (c.loop-at.invariant n e is)
+    subst (λ (z : ℕ). AreCodes p g.M.Machine.bank c.args.addresses.now c.args.asserts.now z c.loop-at.codes.items) whole (c.loop-at.invariant n e is live)

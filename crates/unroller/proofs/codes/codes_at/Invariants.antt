@@ -1,10 +1,10 @@
-use Rattle.std.proofs.Common.{◌≡◌, ℕ}
+use Rattle.std.proofs.Common.{ℕ}
 use Rattle.bilv_spec.specs.Files.{program_of}
 use Rattle.bilv_spec.specs.Notes.{Notes}
-use Rattle.graph_nodes.specs.Graphs.{IsGraph}
+use Rattle.graph_nodes.specs.Graphs.{IsGraph, LiveStay}
 use Rattle.unroller.specs.Places.{AreCodes}
 use Rattle.unroller.proofs.codes.codes_at.Given as goal
 
 abbrev pub invariant-loop-at : goal.invariant-loop-at
-invariant-loop-at g l = (n : Notes) (e : ℕ) → IsGraph (program_of l.image n e) l.graph →
+invariant-loop-at g l = (n : Notes) (e : ℕ) → IsGraph (program_of l.image n e) l.graph → LiveStay (program_of l.image n e) l.graph →
     AreCodes (program_of l.image n e) g.M.Machine.bank l.addresses l.asserts l.at-index l.codes.items

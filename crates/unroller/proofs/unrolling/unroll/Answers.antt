@@ -22,7 +22,7 @@ use Rattle.unroller.specs.Rows.{AreLiterals}
 use Rattle.unroller.proofs.KeptRuns.{kept_runs_are_right}
 use Rattle.unroller.proofs.Looked.{forms_are_right}
 use Rattle.unroller.proofs.Listing.{low_turns, keys_of, among_graph, addresses_among, keys_coded, keys_fit, keys_low}
-use Rattle.unroller.proofs.Whole.{size, places, words, are_points, first, formed, literals_are}
+use Rattle.unroller.proofs.Whole.{size, places, lean, words, are_points, first, formed, literals_are}
 use Rattle.unroller.proofs.unrolling.unroll.Goals as goal
 
 pub point_keys-requires : goal.point_keys-requires
@@ -58,6 +58,10 @@ calls-requires-clause-fits g c =
     c.in_ok-listed.ensures.numbered c.in_ok-point_keys.ensures.small c.in_ok-point_keys.ensures.listed c.in_ok-keys.ensures.same c.in_ok-keys.ensures.rise in
     keys_fit p c.args.k v.stacks.frames.items keys c.deref-3.result.now are c.deref-3.ensures.value
 
+pub codes_at-requires-clause-nodes : goal.codes_at-requires-clause-nodes
+codes_at-requires-clause-nodes g c =
+    let p : Program = program_of c.args.image.now (notes_of c.args.notes.now) c.args.entry in (c.in_ok-live.ensures.graph p c.requires.graph).rising
+
 pub codes_at-requires-clause-among : goal.codes_at-requires-clause-among
 codes_at-requires-clause-among g c =
     let notes = notes_of c.args.notes.now in
@@ -69,8 +73,8 @@ codes_at-requires-clause-among g c =
     keys_of p c.args.k v v.stacks.frames.items v.stacks.numbers [] keys c.in_ok-point_keys.field-0.items c.deref.result.now
     (nothing_more v.stacks.frames.items) c.deref.ensures.value listed
     c.in_ok-listed.ensures.numbered c.in_ok-point_keys.ensures.small c.in_ok-point_keys.ensures.listed c.in_ok-keys.ensures.same c.in_ok-keys.ensures.rise in
-    addresses_among p c.args.k c.args.graph.now v.stacks.frames.items keys c.deref-2.result.now c.in_ok-addresses.addresses.items c.deref-4.result.now
-    c.requires.graph are c.deref-2.ensures.value
+    addresses_among p c.args.k c.in_ok-live.live v.stacks.frames.items keys c.deref-2.result.now c.in_ok-addresses.addresses.items c.deref-4.result.now
+    (c.in_ok-live.ensures.graph p c.requires.graph) are c.deref-2.ensures.value
     c.deref-4.ensures.value c.in_ok-addresses.ensures.same
 
 pub literals_at-requires-clause-among : goal.literals_at-requires-clause-among
@@ -163,7 +167,8 @@ returns-clause-unrolled g c =
     let codes : AreCodes p g.M.Machine.bank addresses u.asserts.items (length addresses) u.codes.items =
     subst (λ (l : List ℕ). AreCodes p g.M.Machine.bank l u.asserts.items (length l) u.codes.items) c.deref-4.ensures.value
     (subst (λ (l : List (ℕ × ℕ)). AreCodes p g.M.Machine.bank c.deref-4.result.now l (length c.deref-4.result.now) u.codes.items) c.deref-5.ensures.value
-    (c.in_ok-codes.ensures notes c.args.entry c.requires.graph)) in
+    (c.in_ok-codes.ensures notes c.args.entry (c.in_ok-live.ensures.graph p c.requires.graph)
+    (c.in_ok-live.ensures.live p c.requires.graph))) in
     let placed : ArePlaced c.args.graph.now frames keys addresses called (length keys) u.points.items u.edges.items =
     subst (λ (l : List ℕ). ArePlaced c.args.graph.now frames l addresses called (length l) u.points.items u.edges.items) c.deref-8.ensures.value
     (subst (λ (l : List ℕ). ArePlaced c.args.graph.now frames c.deref-8.result.now l called
@@ -248,7 +253,8 @@ returns-clause-formed g c =
     let codes : AreCodes p g.M.Machine.bank addresses u.asserts.items (length addresses) u.codes.items =
     subst (λ (l : List ℕ). AreCodes p g.M.Machine.bank l u.asserts.items (length l) u.codes.items) c.deref-4.ensures.value
     (subst (λ (l : List (ℕ × ℕ)). AreCodes p g.M.Machine.bank c.deref-4.result.now l (length c.deref-4.result.now) u.codes.items) c.deref-5.ensures.value
-    (c.in_ok-codes.ensures notes c.args.entry c.requires.graph)) in
+    (c.in_ok-codes.ensures notes c.args.entry (c.in_ok-live.ensures.graph p c.requires.graph)
+    (c.in_ok-live.ensures.live p c.requires.graph))) in
     let placed : ArePlaced c.args.graph.now frames keys addresses called (length keys) u.points.items u.edges.items =
     subst (λ (l : List ℕ). ArePlaced c.args.graph.now frames l addresses called (length l) u.points.items u.edges.items) c.deref-8.ensures.value
     (subst (λ (l : List ℕ). ArePlaced c.args.graph.now frames c.deref-8.result.now l called
@@ -265,6 +271,63 @@ returns-clause-formed g c =
 pub returns-clause-form : goal.returns-clause-form
 returns-clause-form g c =
     forms_are_right g.M.Machine.machine _ (subst (λ (z : Layout). IsFitted g.M.Machine.machine z) (sym c.layout.ensures) g.met.M.Machine.fitted)
+
+pub returns-clause-lean : goal.returns-clause-lean
+returns-clause-lean g c =
+    let notes = notes_of c.args.notes.now in
+    let p : Program = program_of c.args.image.now notes c.args.entry in
+    let v = c.in_ok-listed.listed in
+    let keys = c.in_ok-keys.keys.items in
+    let addresses = c.in_ok-addresses.addresses.items in
+    let called = c.in_ok-called.called.items in
+    let frames = c.calls.new.stacks.frames.items in
+    let begins = c.in_ok-called.ensures.begins in
+    let u : Unrolled = record {
+      form = c.layout.result;
+      big = c.is_big_machine.result;
+      link = c.link.result;
+      entry = c.args.entry;
+      notes = c.args.notes;
+      asserts
+          = c.in_ok-index.index.asserts;
+      kept = c.kept.result;
+      known = c.in_ok-known.known.runs;
+      literals = c.in_ok-literals.literals;
+      frames = c.calls.new.stacks.frames;
+      codes
+          = c.in_ok-codes.codes;
+      points = c.in_ok-placed.placed.points;
+      edges = c.in_ok-placed.placed.edges;
+    } in
+    let listed = c.in_ok-listed.ensures.points p c.requires.graph refl c.requires.one_way in
+    let are =
+    keys_of p c.args.k v frames v.stacks.numbers begins.0 keys c.in_ok-point_keys.field-0.items c.deref.result.now begins.1 c.deref.ensures.value listed
+    c.in_ok-listed.ensures.numbered c.in_ok-point_keys.ensures.small c.in_ok-point_keys.ensures.listed c.in_ok-keys.ensures.same c.in_ok-keys.ensures.rise in
+    let mach = c.requires.machine in
+    let fitted : IsFitted g.M.Machine.machine (layout_of c.layout.result) = subst
+    (λ (z : Layout). IsFitted g.M.Machine.machine z) (sym c.layout.ensures) g.met.M.Machine.fitted in
+    let form : HasForm g.M.Machine.machine u = forms_are_right g.M.Machine.machine u fitted in
+    let here : IsFitted p.machine (layout_of c.layout.result) = subst (λ (z : Machine). IsFitted z (layout_of c.layout.result)) (sym mach) fitted in
+    let registers = λ (r : ℕ). form.registers r ∙ ap (λ (z : Machine). z.has_register r) (sym mach) in
+    let flags = λ (f : ℕ). form.flags f ∙ ap (λ (z : Machine). z.has_flag f) (sym mach) in
+    let calls : AreCalled c.args.graph.now keys frames (length keys) called = subst
+    (λ (l : List ℕ). AreCalled c.args.graph.now l frames (length l) called) c.deref-3.ensures.value c.in_ok-called.ensures.called in
+    let codes : AreCodes p g.M.Machine.bank addresses u.asserts.items (length addresses) u.codes.items =
+    subst (λ (l : List ℕ). AreCodes p g.M.Machine.bank l u.asserts.items (length l) u.codes.items) c.deref-4.ensures.value
+    (subst (λ (l : List (ℕ × ℕ)). AreCodes p g.M.Machine.bank c.deref-4.result.now l (length c.deref-4.result.now) u.codes.items) c.deref-5.ensures.value
+    (c.in_ok-codes.ensures notes c.args.entry (c.in_ok-live.ensures.graph p c.requires.graph)
+    (c.in_ok-live.ensures.live p c.requires.graph))) in
+    let placed : ArePlaced c.args.graph.now frames keys addresses called (length keys) u.points.items u.edges.items =
+    subst (λ (l : List ℕ). ArePlaced c.args.graph.now frames l addresses called (length l) u.points.items u.edges.items) c.deref-8.ensures.value
+    (subst (λ (l : List ℕ). ArePlaced c.args.graph.now frames c.deref-8.result.now l called
+    (length c.deref-8.result.now) u.points.items u.edges.items) c.deref-9.ensures.value
+    (subst (λ (l : List ℕ). ArePlaced c.args.graph.now frames c.deref-8.result.now c.deref-9.result.now l
+    (length c.deref-8.result.now) u.points.items u.edges.items) c.deref-10.ensures.value
+    (subst (λ (l : List Frame). ArePlaced c.args.graph.now l c.deref-8.result.now c.deref-9.result.now c.deref-10.result.now
+    (length c.deref-8.result.now) u.points.items u.edges.items) c.deref-7.ensures.value
+    c.in_ok-placed.ensures))) in
+    lean p c.args.k g.M.Machine.bank c.args.graph.now u c.calls.new.stacks.numbers keys addresses called c.requires.graph c.requires.one_way here registers
+    flags c.in_ok-called.ensures.table are calls codes placed c.in_ok-index.ensures.asserts.order refl
 
 pub returns-clause-addresses : goal.returns-clause-addresses
 returns-clause-addresses g c =
@@ -309,7 +372,8 @@ returns-clause-addresses g c =
     let codes : AreCodes p g.M.Machine.bank addresses u.asserts.items (length addresses) u.codes.items =
     subst (λ (l : List ℕ). AreCodes p g.M.Machine.bank l u.asserts.items (length l) u.codes.items) c.deref-4.ensures.value
     (subst (λ (l : List (ℕ × ℕ)). AreCodes p g.M.Machine.bank c.deref-4.result.now l (length c.deref-4.result.now) u.codes.items) c.deref-5.ensures.value
-    (c.in_ok-codes.ensures notes c.args.entry c.requires.graph)) in
+    (c.in_ok-codes.ensures notes c.args.entry (c.in_ok-live.ensures.graph p c.requires.graph)
+    (c.in_ok-live.ensures.live p c.requires.graph))) in
     let placed : ArePlaced c.args.graph.now frames keys addresses called (length keys) u.points.items u.edges.items =
     subst (λ (l : List ℕ). ArePlaced c.args.graph.now frames l addresses called (length l) u.points.items u.edges.items) c.deref-8.ensures.value
     (subst (λ (l : List ℕ). ArePlaced c.args.graph.now frames c.deref-8.result.now l called
