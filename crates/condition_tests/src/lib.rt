@@ -4,11 +4,11 @@
 #![tactic(auto)]
 
 #[cfg(test)]
-mod clauses;
+mod cells;
 #[cfg(test)]
 mod conditions;
 #[cfg(test)]
-mod frames;
+mod counts;
 #[cfg(test)]
 mod logs;
 #[cfg(test)]
@@ -19,5 +19,3 @@ mod propagation;
 mod starts;
 #[cfg(test)]
 mod studies;
-#[cfg(test)]
-mod wide;

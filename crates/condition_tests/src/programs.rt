@@ -1,5 +1,5 @@
 //! Small programs of RISC-V.
-ghost use Rattle.std.specs.Prelude.{◌≡◌, ◌≤◌, IfOk, length};
+ghost use Rattle.std.specs.Prelude.{IfOk};
 ghost use Rattle.verdict.specs.Rounds.{AreRising};
 
 use elf32_reader::Image;
@@ -17,19 +17,28 @@ const HEADER: [u8; 52] = [
 /// Where the code begins.
 pub const ENTRY: u32 = 0x1_0000;
 
-/// A program with its notes, and how many backward transfers a run may make.
+/// Words of code, the text of their notes, and how many backward transfers a run may make.
+#[derive(Clone, Copy)]
+pub struct Program<'a> {
+    pub words: &'a [u32],
+    pub notes: &'a [u8],
+    pub k: u8,
+}
+
+/// The same with what was read.
 #[derive(Clone, Copy)]
 pub struct Case<'a, 'b> {
     pub words: &'a [u32],
     pub image: &'a Image<'b>,
     pub notes: &'a Notes,
-    pub k: u64,
+    pub k: u8,
 }
 
-/// A file of words of code.
-pub fn file(alloc: Global, words: &[u32]) -> Result<Vec<u8>, AllocError>
-    requires { length words.now ≤ 100000 }
-{
+/// A file of at most 100,000 words of code. The error is more of them, or want of memory.
+pub fn file(alloc: Global, words: &[u32]) -> Result<Vec<u8>, AllocError> {
+    if words.len() > 100_000 {
+        return Err(AllocError);
+    }
     let size = words.len() as u32 * 4;
     let mut file = Vec::from_slice(alloc, &HEADER)?;
     for number in [1, 84, ENTRY, ENTRY, size, size, 5, 4] {
@@ -41,15 +50,48 @@ pub fn file(alloc: Global, words: &[u32]) -> Result<Vec<u8>, AllocError>
     Ok(file)
 }
 
+/// `ret`.
+const RETURN: u32 = 0x0000_8067;
+
 /// 32 times: where `a0` is 0, 1 is added to it.
-pub fn diamonds(alloc: Global) -> Result<Vec<u32>, AllocError>
-    ensures { IfOk result (λ v. length v.items ≡ 65) }
-{
-    let mut words = vec![in alloc; 0x0000_8067; 65]?;
-    for place in 0..32 {
-        words[2 * place] = 0x0005_1463;
-        words[2 * place + 1] = 0x0015_0513;
+pub fn diamonds(alloc: Global) -> Result<Vec<u32>, AllocError> {
+    let mut words = Vec::new(alloc);
+    for _ in 0..32 {
+        words.extend_from_slice(&[0x0005_1463, 0x0015_0513])?;
     }
+    words.push(RETURN)?;
+    Ok(words)
+}
+
+/// Of 64 words from `sp` on each is loaded, added to `a0`, and the sum stored in its place; then each is loaded and added again.
+pub fn frame(alloc: Global) -> Result<Vec<u32>, AllocError> {
+    let mut words = Vec::new(alloc);
+    for place in 0..64u32 {
+        let offset = 4 * place;
+        // lw a2,offset(sp); add a0,a0,a2; sw a0,offset(sp)
+        let store = 0x00a1_2023 + (offset / 32 << 25) + (offset % 32 << 7);
+        words.extend_from_slice(&[0x0001_2603 + (offset << 20), 0x00c5_0533, store])?;
+    }
+    for place in 0..64u32 {
+        // lw a2,offset(sp); add a0,a0,a2
+        words.extend_from_slice(&[0x0001_2603 + (4 * place << 20), 0x00c5_0533])?;
+    }
+    words.push(RETURN)?;
+    Ok(words)
+}
+
+/// Where the data behind loads begin.
+pub const DATA: u32 = ENTRY + 4 * 802;
+
+/// Behind a first word 400 bytes from the address in `a1` on are loaded and added to `a0`; then come 64 KiB of data.
+pub fn loads(alloc: Global, first: u32) -> Result<Vec<u32>, AllocError> {
+    let mut words = vec![in alloc; first]?;
+    for place in 0..400u32 {
+        // lbu a2,place(a1); add a0,a0,a2
+        words.extend_from_slice(&[0x0005_c603 + (place << 20), 0x00c5_0533])?;
+    }
+    words.push(RETURN)?;
+    words.resize(802 + 16384, 0x1234_5678)?;
     Ok(words)
 }
 

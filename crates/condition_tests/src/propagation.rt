@@ -1,7 +1,6 @@
 //! What values of inputs make of clauses.
 use cnf_form::{Clause, Cnf, Lit};
 use std::alloc::{AllocError, Global};
-use std::process::Abort;
 
 /// What values make of a clause.
 enum Outcome {
@@ -58,33 +57,29 @@ fn propagate(values: &mut [Option<bool>], clauses: &[Clause]) -> bool {
     true
 }
 
-/// Whether all clauses are true; none of them is left open by the values.
-fn are_true(rt: &impl Abort, values: &[Option<bool>], clauses: &[Clause]) -> bool {
+/// Whether all clauses are true; nothing where the values leave one of them open.
+fn are_true(values: &[Option<bool>], clauses: &[Clause]) -> Option<bool> {
     for clause in clauses {
         match outcome_of(values, clause) {
             Outcome::True => {}
-            Outcome::False => return false,
-            Outcome::Unit(_) | Outcome::Open => assert!(rt; false, "a clause is left open"),
+            Outcome::False => return Some(false),
+            Outcome::Unit(_) | Outcome::Open => return None,
         }
     }
-    true
+    Some(true)
 }
 
-/// Whether the values of the first variables, which fix all others, satisfy clauses.
-pub fn satisfy(
-    rt: &impl Abort,
-    alloc: Global,
-    inputs: &[bool],
-    cnf: &Cnf,
-) -> Result<bool, AllocError> {
+/// Whether the values of the first variables satisfy clauses; nothing where they do not fix all others.
+pub fn satisfy(alloc: Global, inputs: &[bool], cnf: &Cnf) -> Result<Option<bool>, AllocError> {
     let mut values: Vec<Option<bool>> = Vec::new(alloc);
     for input in inputs {
         values.push(Some(*input))?;
     }
-    assert!(rt; inputs.len() as u64 <= cnf.variables && cnf.variables < 1_000_000);
-    values.resize(cnf.variables as usize, None)?;
-    if !propagate(&mut values, &cnf.clauses) {
-        return Ok(false);
+    for _ in inputs.len() as u64..cnf.variables {
+        values.push(None)?;
     }
-    Ok(are_true(rt, &values, &cnf.clauses))
+    if !propagate(&mut values, &cnf.clauses) {
+        return Ok(Some(false));
+    }
+    Ok(are_true(&values, &cnf.clauses))
 }

@@ -18,9 +18,8 @@ use question_form::Kind;
 use rv_lift::Rv32;
 use state_text::Start;
 use std::alloc::{AllocError, Global};
-use std::process::Abort;
 use table_run::{Ending, entry_ok, run, start_state};
-use term_dag::{Reading, Term};
+use term_dag::{Dag, Reading, Term};
 
 /// Where memory has a byte that the file does not give.
 const DATA: u32 = 0x2_0001;
@@ -98,9 +97,8 @@ fn start_with(
     })
 }
 
-/// Whether a question is true of the start with registers, by its run.
+/// Whether a question is true of the start with registers, by its run. The error is a run of more than 1,000 steps, or want of memory.
 pub fn is_true(
-    rt: &impl Abort,
     alloc: Global,
     case: &Case,
     registers: &[u32],
@@ -110,26 +108,30 @@ pub fn is_true(
     requires readable { AreReadable rv32.has_register (notes_of case.now.notes.now) }
     requires registers { length registers.now ≡ 31 }
 {
-    let start = start_with(alloc, case.image, case.notes, registers)?;
-    let state = start_state::<Rv32>(alloc, case.image, case.notes, ENTRY, &start)?;
-    if entry_ok::<Rv32>(case.image, case.notes, &state).is_err() {
+    let (image, notes, k) = (case.image, case.notes, u64::from(case.k));
+    let start = start_with(alloc, image, notes, registers)?;
+    let state = start_state::<Rv32>(alloc, image, notes, ENTRY, &start)?;
+    if entry_ok::<Rv32>(image, notes, &state).is_err() {
         return Ok(false);
     }
-    let ending = run::<Rv32>(
-        alloc,
-        case.image,
-        case.notes,
-        ENTRY,
-        &start,
-        Some(case.k),
-        1000,
-    )?;
-    assert!(rt; !matches!(ending, Ending::Left { .. }));
-    Ok(match kind {
-        Kind::Entry => true,
-        Kind::Fail => matches!(ending, Ending::Failed { .. }),
-        Kind::Turn => matches!(ending, Ending::Turned { .. }),
-    })
+    match run::<Rv32>(alloc, image, notes, ENTRY, &start, Some(k), 1000)? {
+        Ending::Exit { .. } => Ok(kind == Kind::Entry),
+        Ending::Failed { .. } => Ok(kind != Kind::Turn),
+        Ending::Turned { .. } => Ok(kind != Kind::Fail),
+        Ending::Left { .. } => Err(AllocError),
+    }
+}
+
+/// The bytes of code and the byte that the file does not give.
+fn memory_with(alloc: Global, words: &[u32]) -> Result<Bytes32, AllocError> {
+    let mut memory = Bytes32::new(alloc);
+    memory.store(DATA, 1, Endian::Little, Word::new(8, u64::from(BYTE)))?;
+    let mut at = ENTRY;
+    for word in words {
+        memory.store(at, 4, Endian::Little, Word::new(32, u64::from(*word)))?;
+        at = at.wrapping_add(4);
+    }
+    Ok(memory)
 }
 
 /// The reading that the same start gives.
@@ -140,13 +142,7 @@ pub fn reading_with(
 ) -> Result<Reading, AllocError> {
     let mut numbers = vec![in alloc; 0u32]?;
     numbers.extend_from_slice(registers)?;
-    let mut memory = Bytes32::new(alloc);
-    memory.store(DATA, 1, Endian::Little, Word::new(8, BYTE as u64))?;
-    let mut at = ENTRY;
-    for word in words {
-        memory.store(at, 4, Endian::Little, Word::new(32, u64::from(*word)))?;
-        at = at.wrapping_add(4);
-    }
+    let memory = memory_with(alloc, words)?;
     Ok(Reading {
         registers: numbers,
         flags: Vec::new(alloc),
@@ -162,4 +158,10 @@ pub fn word(words: &[u64], term: Term) -> u64 {
         None => u64::MAX,
         Some(word) => *word,
     }
+}
+
+/// The word of a term under a reading.
+pub fn word_of(alloc: Global, dag: &Dag, reading: &Reading, term: Term) -> Result<u64, AllocError> {
+    let words = dag.values(alloc, reading)?;
+    Ok(word(&words, term))
 }

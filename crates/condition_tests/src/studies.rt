@@ -1,49 +1,56 @@
 //! What is counted of small programs, each made a passive program.
-ghost use Rattle.std.specs.Prelude.{◌≡◌, ◌≤◌, true, IfOk, length};
+ghost use Rattle.std.specs.Prelude.{◌≡◌, ◌≤◌, true, IfOk};
 ghost use Rattle.bilv_spec.specs.Files.{is_rv};
 ghost use Rattle.bilv_spec.specs.Rv.{rv32};
+ghost use Rattle.mem_cells.specs.Views.{cells_of, program_of_cells};
 ghost use Rattle.notes_lang.specs.Drafting.{notes_of};
 ghost use Rattle.notes_value.specs.Reads.{AreOver, AreReadable};
 ghost use Rattle.verdict.specs.Measures.{IsMeasurable};
-ghost use Rattle.verdict.specs.Rounds.{IsAskable};
+ghost use Rattle.verdict.specs.Rounds.{AreRising, IsAskable};
+ghost use Rattle.question_form.specs.Questions.{program_of_question, question_of, term_of};
+ghost use Rattle.walk_spec.specs.Cells.{AreFormed};
+ghost use Rattle.walk_spec.specs.WalkQuestions.{TellsQuestion};
 
-use crate::clauses::{broken_zeros, count_clauses};
-use crate::conditions::{count_questions, count_selections};
-use crate::frames::count_pairs;
-use crate::programs::{Case, ENTRY, file};
-use crate::wide::count_sizes;
-use elf32_reader::{Image, read_image};
+use crate::cells::{broken_zeros, count_clauses};
+use crate::conditions::{count_questions, equalities, selections};
+use crate::logs::count_given;
+use crate::programs::{Case, DATA, ENTRY, Program, addresses, file};
+use elf32_reader::{ElfFault, Image, read_image};
 use flow_graph::descend;
+use mem_cells::{Celled, cells_some};
 use notes_lang::{Notes, parse};
 use passify::passive;
 use program_points::PointsFault;
-use question_form::{Passive, Unrolled};
+use question_form::{Kind, Passive, Question, Unrolled};
 use rv_lift::Rv32;
 use state_text::Layout;
 use std::alloc::{AllocError, Global};
-use std::process::Abort;
 use std::test::Fail;
 use unroller::unroll;
+use weakest_pre::question;
 
 /// What is counted.
-#[derive(Clone, Copy)]
+#[derive(Clone, Copy, PartialEq)]
 pub enum Study {
-    /// Of how many readings each question is true, against runs.
+    /// Of how many of 100 readings each of the three questions is true by their runs, and of how many its term says otherwise.
     Questions,
-    /// Of how many readings it is true that the program fails, by clauses and against runs.
-    Clauses,
-    /// Selections and nodes.
+    /// In the terms of whether the program fails: selections between two constants, other ones, nodes; and edges.
     Selections,
-    /// Known bytes that are broken by zeros behind an address in `a3`.
+    /// Of how many of 500 readings it is true by their runs that the program fails, and of how many cells or clauses say otherwise, where so many bytes of code
+    /// are asked.
+    Clauses { asked: u32 },
+    /// The first, the last and the number of the known bytes that are broken by zeros, where `a3` is an address.
     Broken { at: u32 },
-    /// Base reads, and pairs that are not certain.
+    /// Base reads, pairs of them that have to agree, and tests for equality in cells and in terms.
     Pairs,
-    /// What the cells have where so many bytes behind the code are asked.
+    /// Base reads, pairs of them, and asked bytes, where so many bytes of data are asked.
     Sizes { asked: u32 },
+    /// How many logs of the verdict are those that the search gives.
+    Logs,
 }
 
 /// A program unrolled.
-pub fn unrolled<'a>(
+fn unrolled<'a>(
     alloc: Global,
     file: &[u8],
     image: &'a Image<'a>,
@@ -61,7 +68,7 @@ pub fn unrolled<'a>(
 }
 
 /// Its passive program.
-pub fn passive_of<'a>(alloc: Global, unrolled: &'a Unrolled<'a>) -> Result<Passive<'a>, AllocError>
+fn passive_of<'a>(alloc: Global, unrolled: &'a Unrolled<'a>) -> Result<Passive<'a>, AllocError>
     requires { IsMeasurable unrolled.now }
     ensures { IfOk result IsAskable }
 {
@@ -69,105 +76,167 @@ pub fn passive_of<'a>(alloc: Global, unrolled: &'a Unrolled<'a>) -> Result<Passi
     Ok(passive)
 }
 
-/// The counts of a passive program.
-fn study_passive(
-    rt: &impl Abort,
+/// The counts of a question's cells.
+fn study_cells(
     alloc: Global,
+    celled: &Celled,
     case: &Case,
+    study: Study,
+) -> Result<[usize; 4], AllocError>
+    requires formed { AreFormed (program_of_cells celled.now) (cells_of celled.now) }
+    requires machine { is_rv case.now.image.now ≡ true }
+    requires readable { AreReadable rv32.has_register (notes_of case.now.notes.now) }
+{
+    let (reads, pairs) = (celled.addresses.len(), celled.agrees.len());
+    match study {
+        Study::Clauses { .. } => {
+            let [trues, wrong] = count_clauses(alloc, celled, case)?;
+            Ok([trues, wrong, 0, 0])
+        }
+        Study::Broken { at } => {
+            let [first, last, count] = broken_zeros(alloc, celled, at)?;
+            Ok([first, last, count, 0])
+        }
+        Study::Pairs => {
+            let before = equalities(&celled.question.dag);
+            Ok([reads, pairs, equalities(&celled.dag), before])
+        }
+        _ => Ok([reads, pairs, celled.asked.len(), 0]),
+    }
+}
+
+/// The bytes that a study asks.
+fn asked_of(alloc: Global, study: Study) -> Result<Vec<u32>, AllocError>
+    ensures { IfOk result (λ v. AreRising v.items) }
+{
+    match study {
+        Study::Clauses { asked } => addresses(alloc, ENTRY, asked),
+        Study::Sizes { asked } => addresses(alloc, DATA, asked),
+        _ => addresses(alloc, ENTRY, 0),
+    }
+}
+
+/// The counts of a question by its cells.
+fn study_question(
+    alloc: Global,
+    question: &Question,
+    case: &Case,
+    study: Study,
+) -> Result<[usize; 4], AllocError>
+    requires askable { IsAskable question.now.passive.now }
+    requires tells { TellsQuestion (program_of_question question.now) (question_of question.now) (term_of question.now) }
+    requires machine { is_rv case.now.image.now ≡ true }
+    requires readable { AreReadable rv32.has_register (notes_of case.now.notes.now) }
+{
+    let asked = asked_of(alloc, study)?;
+    let celled = cells_some(alloc, question, &asked)?;
+    study_cells(alloc, &celled, case, study)
+}
+
+/// The counts of whether a passive program fails.
+fn study_fails(
+    alloc: Global,
     passive: &Passive,
+    case: &Case,
     study: Study,
 ) -> Result<[usize; 4], AllocError>
     requires askable { IsAskable passive.now }
     requires machine { is_rv case.now.image.now ≡ true }
     requires readable { AreReadable rv32.has_register (notes_of case.now.notes.now) }
-    requires few { length case.now.words.now ≤ 100000 }
+{
+    let question = question(alloc, passive, Kind::Fail)?;
+    if study == Study::Selections {
+        let [fixed, others] = selections(&question.dag);
+        let edges = passive.unrolled.edges.len();
+        return Ok([fixed, others, question.dag.nodes(), edges]);
+    }
+    study_question(alloc, &question, case, study)
+}
+
+/// The counts of a passive program.
+fn study_passive(
+    alloc: Global,
+    passive: &Passive,
+    case: &Case,
+    study: Study,
+) -> Result<[usize; 4], AllocError>
+    requires askable { IsAskable passive.now }
+    requires machine { is_rv case.now.image.now ≡ true }
+    requires readable { AreReadable rv32.has_register (notes_of case.now.notes.now) }
 {
     match study {
-        Study::Questions => count_questions(rt, alloc, passive, case),
-        Study::Clauses => count_clauses(rt, alloc, passive, case),
-        Study::Selections => count_selections(alloc, passive),
-        Study::Broken { at } => broken_zeros(alloc, passive, at),
-        Study::Pairs => count_pairs(alloc, passive),
-        Study::Sizes { asked } => count_sizes(alloc, passive, asked),
+        Study::Questions => count_questions(alloc, passive, case),
+        _ => study_fails(alloc, passive, case, study),
     }
 }
 
 /// The counts of an unrolled program.
 fn study_unrolled(
-    rt: &impl Abort,
     alloc: Global,
-    case: &Case,
     unrolled: &Unrolled,
+    case: &Case,
     study: Study,
 ) -> Result<[usize; 4], AllocError>
     requires measurable { IsMeasurable unrolled.now }
     requires machine { is_rv case.now.image.now ≡ true }
     requires readable { AreReadable rv32.has_register (notes_of case.now.notes.now) }
-    requires few { length case.now.words.now ≤ 100000 }
 {
     let passive = passive_of(alloc, unrolled)?;
-    study_passive(rt, alloc, case, &passive, study)
+    study_passive(alloc, &passive, case, study)
 }
 
 /// The counts of a program, whose file has these bytes.
-fn study_program(
-    rt: &impl Abort,
-    alloc: Global,
-    bytes: &[u8],
-    case: &Case,
-    study: Study,
-) -> Result<[usize; 4], Fail>
+fn study_program(alloc: Global, bytes: &[u8], case: &Case, study: Study) -> Result<[usize; 4], Fail>
     requires same { case.now.image.now ≡ bytes.now }
     requires machine { is_rv case.now.image.now ≡ true }
     requires readable { AreReadable rv32.has_register (notes_of case.now.notes.now) }
     requires over { AreOver rv32.has_register rv32.has_flag (notes_of case.now.notes.now) }
-    requires few { length case.now.words.now ≤ 100000 }
-    requires k { case.now.k ≤ 4096 }
 {
-    let unrolled = unrolled(alloc, bytes, case.image, case.notes, case.k)?;
-    let counts = study_unrolled(rt, alloc, case, &unrolled, study)?;
+    if study == Study::Logs {
+        return Ok([count_given(alloc, bytes, case)?, 0, 0, 0]);
+    }
+    let unrolled = unrolled(alloc, bytes, case.image, case.notes, u64::from(case.k))?;
+    let counts = study_unrolled(alloc, &unrolled, case, study)?;
     Ok(counts)
 }
 
-/// The counts of words, in a file of these bytes.
-fn study_file(
-    rt: &impl Abort,
+/// The counts of words and notes, where the words' file has these bytes.
+fn study_notes(
     alloc: Global,
-    words: &[u32],
     bytes: &[u8],
-    notes: &[u8],
-    k: u64,
+    image: &Image,
+    program: &Program,
     study: Study,
 ) -> Result<[usize; 4], Fail>
-    requires few { length words.now ≤ 100000 }
-    requires k { k ≤ 4096 }
+    requires same { image.now ≡ bytes.now }
+    requires machine { is_rv image.now ≡ true }
 {
-    let image = read_image(alloc, bytes)?;
-    assert!(rt; image.is_risc_v());
-    let notes = parse(alloc, notes, Layout::Rv32)?;
+    let notes = parse(alloc, program.notes, Layout::Rv32)?;
     let case = Case {
-        words,
-        image: &image,
+        words: program.words,
+        image,
         notes: &notes,
-        k,
+        k: program.k,
     };
-    let counts = study_program(rt, alloc, bytes, &case, study)?;
-    Ok(counts)
+    study_program(alloc, bytes, &case, study)
 }
 
-/// The counts of words by notes.
-pub fn counts_of(
-    rt: &impl Abort,
+/// The counts of a program, whose file has these bytes.
+fn study_file(
     alloc: Global,
-    words: &[u32],
-    notes: &[u8],
-    k: u64,
+    bytes: &[u8],
+    program: &Program,
     study: Study,
-) -> Result<[usize; 4], Fail>
-    requires few { length words.now ≤ 100000 }
-    requires k { k ≤ 4096 }
-{
-    let file = file(alloc, words)?;
-    let counts = study_file(rt, alloc, words, file.as_slice(), notes, k, study)?;
-    Ok(counts)
+) -> Result<[usize; 4], Fail> {
+    let image = read_image(alloc, bytes)?;
+    if !image.is_risc_v() {
+        return Err(Fail::from(ElfFault::Machine));
+    }
+    study_notes(alloc, bytes, &image, program, study)
+}
+
+/// The counts of a program.
+pub fn counts_of(alloc: Global, program: &Program, study: Study) -> Result<[usize; 4], Fail> {
+    let file = file(alloc, program.words)?;
+    study_file(alloc, file.as_slice(), program, study)
 }

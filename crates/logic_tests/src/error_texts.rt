@@ -4,70 +4,82 @@ use bil_eval::EvalFault;
 use bil_types::{Need, TypeFault};
 use cnf_form::{CnfError, CnfFault};
 use refutation_checker::Cause;
-use std::alloc::{AllocError, Global};
+use std::alloc::AllocError;
 use std::fmt::Display;
 
-/// The first text that is another than the one beside its error.
-fn other_text<E: Display>(
-    alloc: Global,
-    cases: &[(E, &str)],
-) -> Result<Option<String>, AllocError> {
-    for case in cases {
-        let text = format!(in alloc; "{}", case.0)?;
-        if text.as_str() != case.1 {
-            return Ok(Some(text));
-        }
+/// Appends a line for each error.
+fn append<E: Display>(text: &mut String, errors: &[E]) -> Result<(), AllocError> {
+    for error in errors {
+        write!(text, "{error}\n")?;
     }
-    Ok(None)
+    Ok(())
 }
+
+const TYPING: [TypeFault; 1] = [TypeFault {
+    place: 0,
+    need: Need::Memory,
+    found: BilType::Memory,
+}];
+
+const RUNS: [EvalFault; 2] = [EvalFault::OutOfTurns, EvalFault::Memory];
+
+const LINES: [CnfFault; 5] = [
+    CnfFault::Token,
+    CnfFault::Header,
+    CnfFault::Variable,
+    CnfFault::Count,
+    CnfFault::Proof,
+];
+
+const CLAUSES: [CnfError; 2] = [
+    CnfError::Refused {
+        line: 7,
+        fault: CnfFault::Count,
+    },
+    CnfError::Memory,
+];
+
+const CAUSES: [Cause; 9] = [
+    Cause::NotOfGrammar,
+    Cause::IdNotAbove,
+    Cause::VariableAbove,
+    Cause::Tautology,
+    Cause::NegativeHint,
+    Cause::UnknownHint,
+    Cause::NotUnit,
+    Cause::NoConflict,
+    Cause::NoEmptyClause,
+];
+
+const TEXT: &str = "a rule of typing is broken
+a loop was out of turns
+out of memory
+K1 Token
+K2 Header
+K3 Variable
+K4 Count
+K5 Proof
+line 7 K4 Count
+memory
+L1 Line
+L2 Id
+L3 Variable
+L4 Tautology
+L5 NegativeHint
+L6 UnknownHint
+L7 NotUnit
+L8 NoConflict
+L9 End
+";
 
 #[test]
 fn errors_are_printed(rt: HostRuntime) -> Result<(), AllocError> {
-    let alloc = rt.alloc();
-    let typing = [(
-        TypeFault {
-            place: 0,
-            need: Need::Memory,
-            found: BilType::Memory,
-        },
-        "a rule of typing is broken",
-    )];
-    assert_eq!(rt; other_text(alloc, &typing)?, None);
-    let evaluation = [
-        (EvalFault::OutOfTurns, "a loop was out of turns"),
-        (EvalFault::Memory, "out of memory"),
-    ];
-    assert_eq!(rt; other_text(alloc, &evaluation)?, None);
-    let lines = [
-        (CnfFault::Token, "K1 Token"),
-        (CnfFault::Header, "K2 Header"),
-        (CnfFault::Variable, "K3 Variable"),
-        (CnfFault::Count, "K4 Count"),
-        (CnfFault::Proof, "K5 Proof"),
-    ];
-    assert_eq!(rt; other_text(alloc, &lines)?, None);
-    let clauses = [
-        (
-            CnfError::Refused {
-                line: 7,
-                fault: CnfFault::Count,
-            },
-            "line 7 K4 Count",
-        ),
-        (CnfError::Memory, "memory"),
-    ];
-    assert_eq!(rt; other_text(alloc, &clauses)?, None);
-    let causes = [
-        (Cause::NotOfGrammar, "L1 Line"),
-        (Cause::IdNotAbove, "L2 Id"),
-        (Cause::VariableAbove, "L3 Variable"),
-        (Cause::Tautology, "L4 Tautology"),
-        (Cause::NegativeHint, "L5 NegativeHint"),
-        (Cause::UnknownHint, "L6 UnknownHint"),
-        (Cause::NotUnit, "L7 NotUnit"),
-        (Cause::NoConflict, "L8 NoConflict"),
-        (Cause::NoEmptyClause, "L9 End"),
-    ];
-    assert_eq!(rt; other_text(alloc, &causes)?, None);
+    let mut text = String::new(rt.alloc());
+    append(&mut text, &TYPING)?;
+    append(&mut text, &RUNS)?;
+    append(&mut text, &LINES)?;
+    append(&mut text, &CLAUSES)?;
+    append(&mut text, &CAUSES)?;
+    assert_eq!(rt; text.as_str(), TEXT);
     Ok(())
 }

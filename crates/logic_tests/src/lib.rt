@@ -1,21 +1,13 @@
-//! Tests of BIL, clauses and refutations, each by its public calls: worked cases, and that calls which may run out of memory succeed with ample memory.
+//! Tests of lists of BIL, memories, circuits and texts of errors: of calls that no command makes, and of what no clause says.
 //!
 //! They stand apart so that each part is proved once, and not again with its tests.
 #![tactic(auto)]
 
 #[cfg(test)]
-mod clauses;
+mod circuits;
 #[cfg(test)]
 mod error_texts;
 #[cfg(test)]
-mod evaluation;
+mod lists;
 #[cfg(test)]
 mod memory;
-#[cfg(test)]
-mod printing;
-#[cfg(test)]
-mod refutations;
-#[cfg(test)]
-mod trees;
-#[cfg(test)]
-mod typing;

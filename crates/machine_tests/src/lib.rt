@@ -1,17 +1,10 @@
-//! Tests of files, notes, state texts and RV32IM, each by its public calls: worked cases, and that calls which may run out of memory succeed with ample memory.
+//! Tests of instructions of RV32IM that are words again, which no command makes of them, and of the texts of errors of files, notes, states, points and
+//! entries.
 //!
 //! They stand apart so that each part is proved once, and not again with its tests.
 #![tactic(auto)]
 
 #[cfg(test)]
-mod decoding;
+mod encoding;
 #[cfg(test)]
 mod error_texts;
-#[cfg(test)]
-mod images;
-#[cfg(test)]
-mod lifting;
-#[cfg(test)]
-mod notes;
-#[cfg(test)]
-mod state_texts;

@@ -1,16 +1,15 @@
 -- What the list of a row of RV32IM is fit for: to be run, and to become terms over the registers of a state.
-use Rattle.std.proofs.Common.{◌≡◌, ℕ, zero, suc, ◌+◌, ◌<◌, ◌≤◌, Bool, true, false, List, Option, Some, None, length, refl, ap, sym, subst, ◌∙◌, arith}
+use Rattle.std.proofs.Common.{◌≡◌, ℕ, zero, suc, ◌+◌, ◌<◌, ◌≤◌, Bool, true, false, Option, Some, None, length, refl, ap, subst, ◌∙◌, arith}
 use Rattle.std.specs.Prelude.{◌&&◌, ◌||◌, nat_eq, nat_le, nat_lt}
 use Rattle.std.specs.Global.{Vec}
 use Rattle.std.specs.List.{list_any}
 use Rattle.std.proofs.lemmas.Bool.Decides.{nat_tests}
-use Rattle.bilv_spec.specs.Bil.{XRegisters, BilVariable, Register, Flag, Mem, Local, Statements}
+use Rattle.bilv_spec.specs.Bil.{XRegisters, Register, Flag, Mem, Local, Statements}
 use Rattle.bilv_spec.specs.BilCounts.{list_names_only, is_own, is_bank}
 use Rattle.bilv_spec.specs.Machine.{Row}
 use Rattle.bilv_spec.specs.MachineLaws.{IsLifting}
 use Rattle.bilv_spec.specs.Rv.{rv32}
 use Rattle.bilv_spec.specs.RowFiles.{from_to}
-use Rattle.walk_spec.specs.Unrolled.{UnrolledProgram, is_register_of}
 use Rattle.walk_spec.specs.Unrolling.{is_variable_of}
 use Rattle.bil_ast.specs.Views.{statements}
 use Rattle.bil_ast.specs.declared.statements.Stmt.{Stmt}

@@ -1,11 +1,8 @@
-//! Tests of the known bytes of a file with notes, of shared terms, and of lists as terms against runs, each by its public calls: worked cases, and that calls
-//! which may run out of memory succeed with ample memory.
+//! Tests of the lists of instructions as terms against their runs, of terms that are folded, and of the runs of kept bytes of a file.
 //!
 //! They stand apart so that each part is proved once, and not again with its tests.
 #![tactic(auto)]
 
-#[cfg(test)]
-mod file;
 #[cfg(test)]
 mod known;
 #[cfg(test)]

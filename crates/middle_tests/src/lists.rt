@@ -18,9 +18,7 @@ use byte_mem::{Bytes32, Endian};
 use machine_law::lift_word;
 use rv_lift::Rv32;
 use std::alloc::{AllocError, Global};
-use std::process::Abort;
-use std::test::Fail;
-use term_dag::{Dag, Reading};
+use term_dag::{Dag, Reading, Term};
 use term_names::{Names, entry_names};
 
 /// A word for each instruction of RV32IM, most from `a0` and `a1` to `a2`, and some that write `x0`.
@@ -88,117 +86,136 @@ const WORDS: [u32; 51] = [
     0x0000_8067,
 ];
 
-/// A state, once as what terms are read under and once as what a list runs on.
-#[derive(Drop)]
-struct EntryState {
-    reading: Reading,
-    env: Env,
+/// Registers without a plain order.
+fn registers(seed: &mut u32) -> [u32; 32] {
+    let mut registers = [0u32; 32];
+    for place in 1..32 {
+        registers[place] = next(seed);
+    }
+    registers
 }
 
-/// Registers without a plain order, and eight such bytes from the address in `a0` on.
-fn some_state(alloc: Global, seed: &mut u32) -> Result<EntryState, AllocError>
-    ensures { IfOk result (λ b. held b.env.locals.items ≡ is_machine) }
-{
-    let mut registers = [0u32; 32];
-    for register in 1..32 {
-        registers[register] = next(seed);
-    }
+/// A memory with eight bytes from an address on.
+fn memory(alloc: Global, at: u32, bits: u64) -> Result<Bytes32, AllocError> {
     let mut memory = Bytes32::new(alloc);
-    let (low, high) = (next(seed), next(seed));
-    memory.store(
-        registers[10],
-        4,
-        Endian::Little,
-        Word::new(32, u64::from(low)),
-    )?;
-    memory.store(
-        registers[10].wrapping_add(4),
-        4,
-        Endian::Little,
-        Word::new(32, u64::from(high)),
-    )?;
-    let reading = Reading {
-        registers: Vec::from_slice(alloc, &registers)?,
+    memory.store(at, 8, Endian::Little, Word::new(64, bits))?;
+    Ok(memory)
+}
+
+/// The state with registers and eight bytes from the address in `a0` on, as what terms are read under.
+fn reading_of(alloc: Global, registers: &[u32; 32], bits: u64) -> Result<Reading, AllocError> {
+    let memory = memory(alloc, registers[10], bits)?;
+    let registers = Vec::from_slice(alloc, registers)?;
+    Ok(Reading {
+        registers,
         flags: Vec::new(alloc),
-        memory: memory.copy(alloc)?,
+        memory,
         choices: Vec::new(alloc),
         base: Vec::new(alloc),
-    };
+    })
+}
+
+/// The same state, as what a list runs on.
+fn env_of(alloc: Global, registers: [u32; 32], bits: u64) -> Result<Env, AllocError>
+    ensures { IfOk result (λ e. held e.locals.items ≡ is_machine) }
+{
+    let memory = memory(alloc, registers[10], bits)?;
     let machine = Machine {
         registers,
         flags: [false; 4],
         memory,
         choice: 0,
     };
-    let env = Env {
-        machine,
-        locals: Vec::new(alloc),
-    };
-    Ok(EntryState { reading, env })
+    let locals = Vec::new(alloc);
+    Ok(Env { machine, locals })
 }
 
-/// Whether a list raises, whether it jumps, and where to.
-fn numbers_of(end: End) -> (u64, u64, u64) {
+/// Whether terms say how a list ends: whether it raises, whether it jumps, and where to.
+fn is_end(words: &[u64], left: &Left, end: End) -> bool {
+    let raised = word(words, left.raised);
+    let jumped = word(words, left.jumped);
     match end {
-        End::Next => (0, 0, 0),
-        End::Jump(to) => (0, 1, u64::from(to)),
-        End::Exn(_) => (1, 0, 0),
+        End::Exn(_) => raised == 1,
+        End::Next => raised == 0 && jumped == 0,
+        End::Jump(to) => raised == 0 && jumped == 1 && word(words, left.target) == u64::from(to),
     }
 }
 
-/// The registers and the bytes near the address in `a0` are those of a state.
-fn same_state(
-    rt: &impl Abort,
+/// Whether terms are the registers of a machine.
+fn are_registers(words: &[u64], names: &Names, machine: &Machine) -> bool {
+    for place in 0..31 {
+        match names.registers.get(place) {
+            Some(term) if word(words, *term) == u64::from(machine.registers[place + 1]) => {}
+            _ => return false,
+        }
+    }
+    true
+}
+
+/// Whether a term has the bytes of a machine near the address in `a0`.
+fn is_memory(
     alloc: Global,
     dag: &Dag,
-    names: &Names,
     reading: &Reading,
+    term: Term,
     machine: &Machine,
-) -> Result<(), AllocError> {
-    let words = dag.values(alloc, reading)?;
-    assert_eq!(rt; names.registers.len(), 31);
-    for (term, register) in names.registers.iter().zip(machine.registers[1..].iter()) {
-        assert_eq!(rt; word(&words, *term), u64::from(*register));
+) -> Result<bool, AllocError> {
+    if term.0 as usize >= dag.nodes() {
+        return Ok(false);
     }
-    assert!(rt; (names.memory.0 as usize) < dag.nodes());
+    let words = dag.values(alloc, reading)?;
     let first = machine.registers[10].wrapping_sub(4);
     for place in 0..16 {
         let at = first.wrapping_add(place);
         let byte = machine.memory.load(at, 1, Endian::Little).bits;
-        assert_eq!(rt;
-            u64::from(dag.byte(&words, reading, names.memory, at)),
-            byte
-        );
+        if u64::from(dag.byte(&words, reading, term, at)) != byte {
+            return Ok(false);
+        }
     }
-    Ok(())
+    Ok(true)
 }
 
-/// Under a reading the terms are what the list comes to.
+/// Whether terms say how a list ends, and what it leaves where it raises nothing.
+fn agrees(
+    alloc: Global,
+    dag: &Dag,
+    reading: &Reading,
+    left: &Left,
+    end: End,
+    machine: &Machine,
+) -> Result<bool, AllocError> {
+    let words = dag.values(alloc, reading)?;
+    if !is_end(&words, left, end) {
+        return Ok(false);
+    }
+    if matches!(end, End::Exn(_)) {
+        return Ok(true);
+    }
+    if !are_registers(&words, &left.names, machine) {
+        return Ok(false);
+    }
+    is_memory(alloc, dag, reading, left.names.memory, machine)
+}
+
+/// Whether under a reading the terms are what the list comes to.
 fn compare(
-    rt: &impl Abort,
     alloc: Global,
     dag: &Dag,
     left: &Left,
     list: &[Stmt],
     seed: &mut u32,
-) -> Result<(), Fail>
+) -> Result<bool, AllocError>
     requires typed { IsWellTyped (statements list.now) }
     requires names { list_names_only (statements list.now) is_machine ≡ true }
 {
-    let EntryState { reading, mut env } = some_state(alloc, seed)?;
-    let end = eval(alloc, list, &mut env, 0)?;
-    let (raised, jumped, target) = numbers_of(end);
-    let words = dag.values(alloc, &reading)?;
-    assert_eq!(rt; word(&words, left.raised), raised);
-    if raised == 1 {
-        return Ok(());
+    let registers = registers(seed);
+    let bits = u64::from(next(seed)) << 32 | u64::from(next(seed));
+    let reading = reading_of(alloc, &registers, bits)?;
+    let mut env = env_of(alloc, registers, bits)?;
+    match eval(alloc, list, &mut env, 0) {
+        Ok(end) => agrees(alloc, dag, &reading, left, end, &env.machine),
+        Err(_) => Ok(false),
     }
-    assert_eq!(rt; word(&words, left.jumped), jumped);
-    if jumped == 1 {
-        assert_eq!(rt; word(&words, left.target), target);
-    }
-    same_state(rt, alloc, dag, &left.names, &reading, &env.machine)?;
-    Ok(())
 }
 
 /// The list of a word.
@@ -211,31 +228,49 @@ fn lifted(alloc: Global, word: u32) -> Result<Vec<Stmt>, AllocError>
     }
 }
 
-/// A list as terms over the state at entry, against its runs.
-fn try_list(rt: &impl Abort, alloc: Global, list: &[Stmt], seed: &mut u32) -> Result<(), Fail>
+/// Whether terms agree with a list under 20 readings.
+fn agrees_always(
+    alloc: Global,
+    dag: &Dag,
+    left: &Left,
+    list: &[Stmt],
+    seed: &mut u32,
+) -> Result<bool, AllocError>
+    requires typed { IsWellTyped (statements list.now) }
+    requires names { list_names_only (statements list.now) is_machine ≡ true }
+{
+    for _ in 0..20 {
+        if !compare(alloc, dag, left, list, seed)? {
+            return Ok(false);
+        }
+    }
+    Ok(true)
+}
+
+/// A list as terms over the state at entry.
+fn terms_of(alloc: Global, dag: &mut Dag, list: &[Stmt]) -> Result<Left, AllocError>
+    requires { (row : Row) × IsLifting rv32 XRegisters row 65536 (statements list.now) }
+{
+    let names = entry_names(alloc, dag, 1, 31, 0)?;
+    let left = run_list(alloc, dag, list, &names, 0)?;
+    Ok(left)
+}
+
+/// Whether a list as terms agrees with its runs.
+fn try_list(alloc: Global, list: &[Stmt], seed: &mut u32) -> Result<bool, AllocError>
     requires { (row : Row) × IsLifting rv32 XRegisters row 65536 (statements list.now) }
 {
     let mut dag = Dag::new(alloc);
-    let names = entry_names(alloc, &mut dag, 1, 31, 0)?;
-    let left = run_list(alloc, &mut dag, list, &names, 0)?;
-    for _ in 0..20 {
-        compare(rt, alloc, &dag, &left, list, seed)?;
-    }
-    Ok(())
-}
-
-/// The lists of words, each against its runs.
-fn try_words(rt: &impl Abort, alloc: Global, words: &[u32]) -> Result<(), Fail> {
-    let mut seed = 0x2545_f491;
-    for word in words {
-        let list = lifted(alloc, *word)?;
-        try_list(rt, alloc, &list, &mut seed)?;
-    }
-    Ok(())
+    let left = terms_of(alloc, &mut dag, list)?;
+    agrees_always(alloc, &dag, &left, list, seed)
 }
 
 #[test]
-fn lists_as_terms_are_as_their_runs(rt: HostRuntime) -> Result<(), Fail> {
-    try_words(&rt, rt.alloc(), &WORDS)?;
+fn lists_as_terms_are_as_their_runs(rt: HostRuntime) -> Result<(), AllocError> {
+    let mut seed = 0x2545_f491;
+    for word in WORDS {
+        let list = lifted(rt.alloc(), word)?;
+        assert!(rt; try_list(rt.alloc(), &list, &mut seed)?, "{word:08x}");
+    }
     Ok(())
 }

@@ -1,7 +1,0 @@
-use Rattle.condition_tests.proofs.conditions.count_selections.Goals as goal
-
-pub question-requires-clause-walkable : goal.question-requires-clause-walkable
-question-requires-clause-walkable c = c.requires.walkable
-
-pub question-requires-clause-passive : goal.question-requires-clause-passive
-question-requires-clause-passive c = c.requires.tells

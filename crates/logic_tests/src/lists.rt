@@ -1,0 +1,101 @@
+//! A list with a loop, which no machine lifts: its size, a copy, its text, its type and its runs.
+ghost use Rattle.std.specs.Prelude.{◌≡◌, true, IfOk};
+ghost use Rattle.bilv_spec.specs.BilCounts.{list_names_only};
+ghost use Rattle.bil_ast.specs.Views.{statements};
+ghost use Rattle.bil_eval.specs.Views.{is_machine};
+
+use bil_ast::{Bank, BilType, CastKind, Exp, Local, Stmt, Var, Width};
+use bil_eval::{End, Env, EvalFault, Machine, eval};
+use bil_print::print_stmts;
+use bil_types::{Need, TypeFault, check};
+use bv_word::Word;
+use byte_mem::{Bytes32, Endian};
+use std::alloc::{AllocError, Global};
+use std::test::Fail;
+
+const X10: Var = Var::Register(Bank::XRegisters, 10);
+
+/// A loop that ends by itself only where the choice's lowest bit is 0.
+fn spins(alloc: Global) -> Result<Vec<Stmt>, AllocError>
+    ensures { IfOk result (λ list. list_names_only (statements list.items) is_machine ≡ true) }
+{
+    let seen = Stmt::Special(String::from_str(alloc, "seen")?);
+    let bit = Exp::Unknown(BilType::Bits(Width::new(1)));
+    let list = vec![in alloc; Stmt::repeat(bit, vec![in alloc; seen]?)]?;
+    Ok(list)
+}
+
+/// A byte behind its own highest bit, by a local.
+fn bound(alloc: Global) -> Result<Exp, AllocError> {
+    let width = Width::new(8);
+    let local = Local { number: 3, width };
+    let memory = Exp::Var(Var::Memory);
+    let byte = Exp::load(alloc, memory, Exp::Var(X10), Endian::Big, width)?;
+    let high = Exp::cast(
+        alloc,
+        CastKind::High,
+        Width::new(1),
+        Exp::Var(Var::Local(local)),
+    )?;
+    let both = Exp::concat(alloc, high, Exp::Var(Var::Local(local)))?;
+    Exp::bind(alloc, local, byte, both)
+}
+
+/// The text of a copy of a list.
+fn copied_text(alloc: Global, list: &[Stmt]) -> Result<Vec<u8>, AllocError> {
+    let copy = Stmt::copy_list(list, alloc)?;
+    print_stmts(alloc, &copy)
+}
+
+/// A loop and a remark, which no lifted list has, and forms that those of RV32IM have not.
+#[test]
+fn copies_are_printed(rt: HostRuntime) -> Result<(), AllocError> {
+    let mut list = spins(rt.alloc())?;
+    list.push(Stmt::Assign(X10, bound(rt.alloc())?))?;
+    assert_eq!(rt; Stmt::list_size(&list), 12);
+    let text = copied_text(rt.alloc(), &list)?;
+    let expected = b"while unknown[imm<1>]:1 {
+  special (seen)
+}
+x10 := let v3_8 = mem[x10, be]:8 in (high:1[v3_8] @ v3_8)
+";
+    assert_eq!(rt; text.as_slice(), expected.as_slice());
+    Ok(())
+}
+
+#[test]
+fn faults_of_type_are_found(rt: HostRuntime) {
+    let fault = TypeFault {
+        place: 0,
+        need: Need::Bits(Width::new(32)),
+        found: BilType::Bits(Width::new(8)),
+    };
+    let list = [Stmt::Jump(Exp::Constant(Word::new(8, 1)))];
+    assert_eq!(rt; check(&list), Err(fault));
+}
+
+/// How a list ends with a choice, from registers and a memory of zeros, within five turns.
+fn outcome(alloc: Global, list: &[Stmt], choice: u8) -> Result<End, EvalFault>
+    requires { list_names_only (statements list.now) is_machine ≡ true }
+{
+    if check(list).is_err() {
+        return Ok(End::Exn(0));
+    }
+    let machine = Machine {
+        registers: [0; 32],
+        flags: [false; 4],
+        memory: Bytes32::new(alloc),
+        choice,
+    };
+    let locals = Vec::new(alloc);
+    let mut env = Env { machine, locals };
+    eval(alloc, list, &mut env, 5)
+}
+
+#[test]
+fn turns_are_counted(rt: HostRuntime) -> Result<(), Fail> {
+    let list = spins(rt.alloc())?;
+    assert_eq!(rt; outcome(rt.alloc(), &list, 1), Err(EvalFault::OutOfTurns));
+    assert_eq!(rt; outcome(rt.alloc(), &list, 2), Ok(End::Next));
+    Ok(())
+}
