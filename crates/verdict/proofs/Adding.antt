@@ -49,13 +49,12 @@ added_few : (u : UnrolledProgram) (added : List ℕ) → AreAdded u added → le
 added_few u added h = few_by added h.rise (λ a has. (h.known a has).0) (length added) refl
 
 -- so rounds end
-pub fewer_left : (u : UnrolledProgram) (added further joined : List ℕ) → AreAdded u added → AreFurther u added further → IsMerged added further joined →
+pub fewer_left : (u : UnrolledProgram) (added asked joined : List ℕ) → asked ≡ added → AreAdded u joined × (length asked < length joined) →
     2 ^ 32 - length joined < 2 ^ 32 - length added
-fewer_left u added further joined h f m =
-    let most = added_few u joined (added_merged u added further joined h f m) in
-    let count = m.count in
-    let some = f.some in
-    omega (arith, most, count, some)
+fewer_left u added asked joined e h =
+    let most = added_few u joined h.0 in
+    let more : length added < length joined = subst (λ (z : List ℕ). length z < length joined) e h.1 in
+    omega (arith, most, more)
 
 -- the answer to a question of a passive program
 pub answers : (p : Passive) (kind : Kind) (q : Question) (conflicts : ℕ) (a : Answered) → IsQuestionOf p kind q →
@@ -80,9 +79,6 @@ askable_question p kind q h is = subst IsAskable (sym h.0) is
 -- the same of equal lists
 pub further_same : (u : UnrolledProgram) (x y added further : List ℕ) → AreFurther u x y → x ≡ added → y ≡ further → AreFurther u added further
 further_same u x y added further h e f = subst (λ (z : List ℕ). AreFurther u z further) e (subst (λ (z : List ℕ). AreFurther u x z) f h)
-
-pub merged_same : (x y added further joined : List ℕ) → IsMerged x y joined → x ≡ added → y ≡ further → IsMerged added further joined
-merged_same x y added further joined h e f = subst (λ (z : List ℕ). IsMerged z further joined) e (subst (λ (z : List ℕ). IsMerged x z joined) f h)
 
 -- the answer that a question has, over a program
 pub answered : (u : UnrolledProgram) (question : Asked) (conflicts : ℕ) (a b : Answered) → Answers u question conflicts a → a ≡ b →

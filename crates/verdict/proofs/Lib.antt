@@ -4,6 +4,7 @@ pub mod Judging
 pub mod RoundAnswers
 pub mod Endings
 pub mod Adding
+pub mod Beside
 pub mod Grounding
 pub mod ThreeQuestions
 pub mod Certifies

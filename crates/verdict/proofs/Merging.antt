@@ -24,7 +24,7 @@ snoc_before (x ∷ xs) y zero lt = refl
 snoc_before (x ∷ xs) y (suc i) lt = snoc_before xs y i (omega arith)
 
 -- an element behind rising ones that are below it
-snoc_rises : (xs : List ℕ) (y : ℕ) → AreRising xs → ((a : ℕ) → Contains xs a → a < y) → AreRising (xs ++ y ∷ [])
+pub snoc_rises : (xs : List ℕ) (y : ℕ) → AreRising xs → ((a : ℕ) → Contains xs a → a < y) → AreRising (xs ++ y ∷ [])
 snoc_rises xs y rise below i j lt end = elim (split j (length xs) (let e = length-append xs (y ∷ []) in omega (arith, e, end))) [
   | inl inside ↦ subst (λ (n : ℕ). n < slice_index (xs ++ y ∷ []) j) (sym (snoc_before xs y i (omega (arith, lt, inside))))
       (subst (λ (n : ℕ). slice_index xs i < n) (sym (snoc_before xs y j inside)) (rise i j lt inside))

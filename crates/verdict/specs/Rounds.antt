@@ -1,5 +1,5 @@
 -- What a round of a question comes to.
-use Rattle.std.specs.Prelude.{ℕ, ◌≡◌, ◌<◌, ◌+◌, ◌^◌, ◌⊎◌, Bool, List, Some, length, slice_index, Contains}
+use Rattle.std.specs.Prelude.{ℕ, ◌≡◌, ◌<◌, ◌+◌, ◌^◌, ◌⊎◌, Bool, List, Some, length, map, slice_index, Contains}
 use Rattle.walk_spec.specs.Passive.{IsPassive}
 use Rattle.walk_spec.specs.Unrolled.{UnrolledProgram, byte_of_runs}
 use Rattle.walk_spec.specs.Unrolling.{IsWalkable}
@@ -9,7 +9,8 @@ use Rattle.state_text.specs.Starts.{written_of}
 use Rattle.bit_blast.specs.Broken.{AreBroken}
 use Rattle.mem_cells.specs.Views.{cells_of, program_of_cells}
 use Rattle.mem_cells.specs.declared.cells.Celled.{Celled}
-use Rattle.known_bytes.specs.Runs.{AreRuns}
+use Rattle.known_bytes.specs.declared.listing.Known.{Known}
+use Rattle.known_bytes.specs.Runs.{AreRuns, run_of}
 use Rattle.question_form.specs.Questions.{passive_of, program_of_question, question_of}
 use Rattle.question_form.specs.Views.{unrolled_of}
 use Rattle.question_form.specs.declared.questions.Passive.{Passive}
@@ -44,6 +45,13 @@ pub record AreFurther (u : UnrolledProgram) (added further : List ℕ) : Type 0 
   pub are : AreAdded u further
   pub some : 0 < length further
   pub new : (a : ℕ) → Contains further a → ¬ Contains added a
+
+-- rising addresses of known bytes before one, of which none was among those that were added
+pub record AreBeside (known : List Known) (added : List ℕ) (before : ℕ) (found : List ℕ) : Type 0 where
+  pub rise : AreRising found
+  pub known_byte : (a : ℕ) → Contains found a → (a < 2 ^ 32) × ((b : ℕ) × (byte_of_runs (map run_of known) a ≡ Some b))
+  pub new : (a : ℕ) → Contains found a → ¬ Contains added a
+  pub below : (a : ℕ) → Contains found a → a < before
 
 -- Of two rising lists without common elements the first ones of each are put together, rising, before all that are left.
 pub record IsMerging (xs ys : List ℕ) (i j : ℕ) (joined : List ℕ) : Type 0 where

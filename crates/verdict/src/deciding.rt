@@ -1,14 +1,15 @@
 //! Questions, decided in rounds.
 ghost use Rattle.std.specs.Prelude.{◌≡◌, ◌≤◌, ◌<◌, ◌⊎◌, ℕ, true, false, IfOk, Contains, length, slice_index};
+ghost use Rattle.question_form.specs.Questions.{program_of_question};
 ghost use Rattle.question_form.specs.Views.{kind_of, unrolled_of};
-ghost use Rattle.verdict.specs.Rounds.{AreRising, IsAskable, IsMerged};
+ghost use Rattle.verdict.specs.Rounds.{AreAdded, AreFurther, AreRising, IsAskable, IsMerged};
 ghost use Rattle.verdict.specs.Grounds.{Answers};
 
 use crate::Answered;
+use crate::blocks::known_beside;
 use crate::rounds::{Round, one_round};
-use question_form::{Kind, Passive};
+use question_form::{Kind, Passive, Question};
 use std::alloc::{AllocError, Global};
-use std::collections::BTreeSet;
 use weakest_pre::question;
 
 /// Whether the next of two lists is that of the first one, by places in each, one of which is within its list.
@@ -48,8 +49,29 @@ fn with_further(alloc: Global, added: &[u32], further: &[u32]) -> Result<Vec<u32
     Ok(joined)
 }
 
+/// The addresses whose bytes the next round asks: those that were asked, and the known ones in the blocks of the broken ones. The error is want of memory.
+fn asked_next(
+    alloc: Global,
+    question: &Question,
+    added: &[u32],
+    broken: &[u32],
+) -> Result<Vec<u32>, AllocError>
+    requires added { AreAdded (program_of_question question.now) added.now }
+    requires broken { AreFurther (program_of_question question.now) added.now broken.now }
+    ensures { IfOk result (λ v. AreAdded (program_of_question question.now) v.items × (length added.now < length v.items)) }
+{
+    let beside = known_beside(alloc, &question.passive.unrolled.known, added, broken)?;
+    if beside.is_empty() {
+        let joined = with_further(alloc, added, broken)?;
+        return Ok(joined);
+    }
+    let joined = with_further(alloc, added, &beside)?;
+    Ok(joined)
+}
+
 /// What a question of a passive program comes to, within so many conflicts of the search. The bytes of the file are asked on demand: at first those of literals
-/// alone, and where values are found that have not some known bytes, those too. The error is want of memory.
+/// alone, and where values are found that have not some known bytes, those too, with the known ones beside them in blocks that grow with the number of bytes
+/// that are asked. The error is want of memory.
 pub fn decide(
     alloc: Global,
     passive: &Passive,
@@ -65,7 +87,7 @@ pub fn decide(
     loop {
         match one_round(alloc, &question, &added, conflicts)? {
             Round::Answered(answered) => return Ok(answered),
-            Round::Broken(broken) => added = with_further(alloc, &added, &broken)?,
+            Round::Broken(broken) => added = asked_next(alloc, &question, &added, &broken)?,
         }
     }
 }

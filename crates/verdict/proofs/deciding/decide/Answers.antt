@@ -1,7 +1,7 @@
-use Rattle.std.proofs.Common.{refl, sym, subst, ◌∙◌, ℕ, List}
+use Rattle.std.proofs.Common.{sym, subst, ◌∙◌, ℕ, List}
 use Rattle.question_form.specs.Questions.{program_of_question}
-use Rattle.verdict.specs.Rounds.{AreAdded, AreRising}
-use Rattle.verdict.proofs.Adding.{added_none, added_merged, further_same, merged_same, fewer_left, answers, round_answers, round_breaks, askable_question, question_is}
+use Rattle.verdict.specs.Rounds.{AreAdded}
+use Rattle.verdict.proofs.Adding.{added_none, further_same, fewer_left, answers, round_answers, round_breaks, askable_question, question_is}
 use Rattle.verdict.proofs.deciding.decide.Goals as goal
 
 pub loop-added-init : goal.loop-added-init
@@ -21,40 +21,21 @@ returns-in-Answered c =
     (round_answers c.in_ok-question.question c.deref.result.now c.args.conflicts c.in_ok-answered.field-0 c.in-Answered.answered c.in_ok-answered.ensures
     c.in-Answered.is)
 
-pub with_further-requires-clause-added : goal.with_further-requires-clause-added
-with_further-requires-clause-added c = subst AreRising (sym c.deref-in-Broken.ensures.value) c.loop-added.invariant.rise
+pub asked_next-requires-clause-added : goal.asked_next-requires-clause-added
+asked_next-requires-clause-added c = subst (λ (z : List ℕ). AreAdded (program_of_question c.in_ok-question.question) z)
+    (sym c.deref-in-Broken.ensures.value) c.loop-added.invariant
 
-pub with_further-requires-clause-further : goal.with_further-requires-clause-further
-with_further-requires-clause-further c =
-    subst AreRising (sym c.deref-in-Broken-2.ensures.value)
-    (round_breaks c.in_ok-question.question c.deref.result.now c.args.conflicts c.in_ok-answered.field-0 c.in-Broken.broken c.in_ok-answered.ensures
-    c.in-Broken.is).are.rise
-
-pub with_further-requires-clause-apart : goal.with_further-requires-clause-apart
-with_further-requires-clause-apart c =
-    (further_same (program_of_question c.in_ok-question.question) c.deref.result.now c.in-Broken.broken.items c.deref-in-Broken.result.now
+pub asked_next-requires-clause-broken : goal.asked_next-requires-clause-broken
+asked_next-requires-clause-broken c =
+    further_same (program_of_question c.in_ok-question.question) c.deref.result.now c.in-Broken.broken.items c.deref-in-Broken.result.now
     c.deref-in-Broken-2.result.now
     (round_breaks c.in_ok-question.question c.deref.result.now c.args.conflicts c.in_ok-answered.field-0 c.in-Broken.broken c.in_ok-answered.ensures
-    c.in-Broken.is) (c.deref.ensures.value ∙ sym c.deref-in-Broken.ensures.value) (sym c.deref-in-Broken-2.ensures.value)).new
+    c.in-Broken.is) (c.deref.ensures.value ∙ sym c.deref-in-Broken.ensures.value) (sym c.deref-in-Broken-2.ensures.value)
 
 pub loop-added-smaller : goal.loop-added-smaller
 loop-added-smaller c =
-    fewer_left (program_of_question c.in_ok-question.question) c.loop-added.added.items c.in-Broken.broken.items c.in_ok-added-in-Broken.added.items
-    c.loop-added.invariant
-    (further_same (program_of_question c.in_ok-question.question) c.deref.result.now c.in-Broken.broken.items c.loop-added.added.items c.in-Broken.broken.items
-    (round_breaks c.in_ok-question.question c.deref.result.now c.args.conflicts c.in_ok-answered.field-0 c.in-Broken.broken c.in_ok-answered.ensures
-    c.in-Broken.is) c.deref.ensures.value refl)
-    (merged_same c.deref-in-Broken.result.now c.deref-in-Broken-2.result.now c.loop-added.added.items c.in-Broken.broken.items
-    c.in_ok-added-in-Broken.added.items c.in_ok-added-in-Broken.ensures
-    c.deref-in-Broken.ensures.value c.deref-in-Broken-2.ensures.value)
+    fewer_left (program_of_question c.in_ok-question.question) c.loop-added.added.items c.deref-in-Broken.result.now c.in_ok-added-in-Broken.added.items
+    c.deref-in-Broken.ensures.value c.in_ok-added-in-Broken.ensures
 
 pub loop-added-preserved : goal.loop-added-preserved
-loop-added-preserved c =
-    added_merged (program_of_question c.in_ok-question.question) c.loop-added.added.items c.in-Broken.broken.items c.in_ok-added-in-Broken.added.items
-    c.loop-added.invariant
-    (further_same (program_of_question c.in_ok-question.question) c.deref.result.now c.in-Broken.broken.items c.loop-added.added.items c.in-Broken.broken.items
-    (round_breaks c.in_ok-question.question c.deref.result.now c.args.conflicts c.in_ok-answered.field-0 c.in-Broken.broken c.in_ok-answered.ensures
-    c.in-Broken.is) c.deref.ensures.value refl)
-    (merged_same c.deref-in-Broken.result.now c.deref-in-Broken-2.result.now c.loop-added.added.items c.in-Broken.broken.items
-    c.in_ok-added-in-Broken.added.items c.in_ok-added-in-Broken.ensures
-    c.deref-in-Broken.ensures.value c.deref-in-Broken-2.ensures.value)
+loop-added-preserved c = c.in_ok-added-in-Broken.ensures.0

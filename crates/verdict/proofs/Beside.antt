@@ -1,0 +1,95 @@
+-- Known addresses beside broken ones.
+use Rattle.std.proofs.Common.{◌≡◌, refl, sym, subst, ◌∙◌, ℕ, zero, suc, ◌+◌, ◌-◌, ◌<◌, ◌≤◌, ◌^◌, inl, inr, Bool, true, false, List, [], ◌∷◌, ◌++◌, Some, get_or, map, arith}
+use Rattle.std.specs.Prelude.{Option, ◌&&◌, nat_le, nat_lt, find, if◌then◌else◌, length, Contains}
+use Rattle.std.proofs.lemmas.Bool.Decides.{nat_tests}
+use Rattle.std.proofs.lemmas.List.Elements.{Contains-push_cases, at_from_Contains}
+use Rattle.walk_spec.specs.Unrolled.{ByteRun, byte_in_run, byte_of_runs}
+use Rattle.known_bytes.specs.declared.listing.Known.{Known}
+use Rattle.known_bytes.specs.Runs.{run_of}
+use Rattle.question_form.specs.Questions.{program_of_question}
+use Rattle.question_form.specs.declared.questions.Question.{Question}
+use Rattle.verdict.specs.Rounds.{AreAdded, AreBeside, AreFurther, IsMerged}
+use Rattle.verdict.proofs.Adding.{added_merged}
+use Rattle.verdict.proofs.Merging.{snoc_rises}
+
+head_by : (t : Bool) (r : ByteRun) (rest : Option ByteRun) (a : ℕ) → (t ≡ false → (b : ℕ) × (byte_in_run a rest ≡ Some b)) →
+    (b : ℕ) × (byte_in_run a (if t then Some r else rest) ≡ Some b)
+head_by true r rest a h = (_, refl)
+head_by false r rest a h = h refl
+
+abbrev pub none : Known
+none = record { first = 0; last = 0; bytes = record { ref_ptr = (0, 0); now = [] } }
+
+-- an address within one of the runs is known
+pub within_run : (runs : List Known) (i a : ℕ) (d : Known) → i < length runs → (get_or runs i d).first ≤ a → a ≤ (get_or runs i d).last →
+    (b : ℕ) × (byte_of_runs (map run_of runs) a ≡ Some b)
+within_run [] i a d lt low high = absurd (omega arith)
+within_run (r ∷ rs) zero a d lt low high =
+    head_by (nat_le r.first a && nat_lt a (r.first + (r.last - r.first + 1))) (run_of r)
+    (find (λ (q : ByteRun). nat_le q.at a && nat_lt a (q.at + q.count)) (map run_of rs)) a (λ not. absurd (differ (sym is ∙ not)))
+  where
+    is : (nat_le r.first a && nat_lt a (r.first + (r.last - r.first + 1))) ≡ true
+    is = grind (arith, nat_tests)
+
+    differ : true ≡ false → ⊥
+    differ e = cc
+within_run (r ∷ rs) (suc i) a d lt low high =
+    head_by (nat_le r.first a && nat_lt a (r.first + (r.last - r.first + 1))) (run_of r)
+    (find (λ (q : ByteRun). nat_le q.at a && nat_lt a (q.at + q.count)) (map run_of rs)) a (λ not. within_run rs i a d (omega arith) low high)
+
+pub beside_none : (known : List Known) (added found : List ℕ) → found ≡ [] → AreBeside known added 0 found
+beside_none known added found e = subst (λ (z : List ℕ). AreBeside known added 0 z) (sym e) (record {
+  rise = λ i j lt end. absurd (omega arith);
+  known_byte = λ a has. absurd (empty a has);
+  new = λ a has. absurd (empty a has);
+  below = λ a has. absurd (empty a has);
+})
+  where
+    empty : (a : ℕ) → Contains {X = ℕ} [] a → ⊥
+    empty a has = let q = at_from_Contains [] a has in omega (arith, q.1)
+
+-- before a later address
+pub beside_later : (known : List Known) (added : List ℕ) (before later : ℕ) (found : List ℕ) → AreBeside known added before found → before ≤ later →
+    AreBeside known added later found
+beside_later known added before later found h le = record {
+  rise = h.rise;
+  known_byte = h.known_byte;
+  new = h.new;
+  below = λ a has. let lt = h.below a has in omega (arith, lt, le);
+}
+
+-- one more address
+pub beside_more : (known : List Known) (added : List ℕ) (a : ℕ) (old more : List ℕ) → AreBeside known added a old → more ≡ old ++ a ∷ [] → a < 2 ^ 32 →
+    (b : ℕ) × (byte_of_runs (map run_of known) a ≡ Some b) → ¬ Contains added a → AreBeside known added (a + 1) more
+beside_more known added a old more h e small byte apart = subst (λ (z : List ℕ). AreBeside known added (a + 1) z) (sym e) (record {
+  rise = snoc_rises old a h.rise h.below;
+  known_byte = λ x has. elim (Contains-push_cases old a x has) [
+    | inl before ↦ h.known_byte x before
+    | inr is ↦ subst (λ (n : ℕ). (n < 2 ^ 32) × ((b : ℕ) × (byte_of_runs (map run_of known) n ≡ Some b))) is (small, byte)
+  ];
+  new = λ x has. elim (Contains-push_cases old a x has) [
+    | inl before ↦ h.new x before
+    | inr is ↦ subst (λ (n : ℕ). ¬ Contains added n) is apart
+  ];
+  below = λ x has. elim (Contains-push_cases old a x has) [
+    | inl before ↦ (let lt = h.below x before in omega (arith, lt))
+    | inr is ↦ subst (λ (n : ℕ). n < a + 1) is (omega arith)
+  ];
+})
+
+-- those of a question's program, if there are some
+pub beside_further : (q : Question) (known : List Known) (added found further : List ℕ) → known ≡ q.passive.now.unrolled.now.known.items →
+    (before : ℕ) × AreBeside known added before found → 0 < length found → further ≡ found → AreFurther (program_of_question q) added further
+beside_further q known added found further e (before, h) some f = subst (λ (z : List ℕ). AreFurther (program_of_question q) added z) (sym f)
+    (record { are = record { rise = h.rise; known = byte }; some = some; new = h.new })
+  where
+    byte : (a : ℕ) → Contains found a → (a < 2 ^ 32) × ((b : ℕ) × (byte_of_runs (program_of_question q).known a ≡ Some b))
+    byte a has = subst (λ (z : List Known). (a < 2 ^ 32) × ((b : ℕ) × (byte_of_runs (map run_of z) a ≡ Some b))) e (h.known_byte a has)
+
+-- the next round asks more
+pub asks_more : (q : Question) (added further joined : List ℕ) → AreAdded (program_of_question q) added → AreFurther (program_of_question q) added further →
+    IsMerged added further joined → AreAdded (program_of_question q) joined × (length added < length joined)
+asks_more q added further joined h f m = (added_merged (program_of_question q) added further joined h f m, longer)
+  where
+    longer : length added < length joined
+    longer = let count = m.count in let some = f.some in omega (arith, count, some)
