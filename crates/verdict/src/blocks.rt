@@ -20,16 +20,15 @@ fn place_bits(added: usize, broken: usize) -> u32 {
     bits
 }
 
-/// Whether the byte at an address is known.
+/// Whether the byte at an address is known, by binary search among the runs, which rise.
 fn is_known(known: &[Known], address: u32) -> bool
     ensures { result ≡ true → (b : ℕ) × (byte_of_runs (map run_of known.now) address ≡ Some b) }
 {
-    for i in 0..known.len() {
-        if known[i].first <= address && address <= known[i].last {
-            return true;
-        }
+    let at = known.partition_point(|run| run.last < address);
+    if at >= known.len() {
+        return false;
     }
-    false
+    known[at].first <= address && address <= known[at].last
 }
 
 /// Whether an address is among rising ones, by binary search.

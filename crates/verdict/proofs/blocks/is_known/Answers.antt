@@ -1,6 +1,8 @@
+use Rattle.std.proofs.Common.{arith}
+use Rattle.std.proofs.lemmas.Bool.Decides.{nat_tests}
 use Rattle.verdict.proofs.Beside.{none, within_run}
 use Rattle.verdict.proofs.blocks.is_known.Goals as goal
 
-pub returns-then-address-known : goal.returns-then-address-known
-returns-then-address-known c is =
-    within_run c.args.known.now c.loop-i.i c.args.address none c.loop-i-test.true c.if-known-i.true c.if-address-known.true
+pub returns-then-known-at : goal.returns-then-known-at
+returns-then-known-at c is =
+    within_run c.args.known.now c.partition_point-at.result c.args.address none c.if-at-known.false c.if-known-at.true (grind (arith, nat_tests))
