@@ -1,4 +1,4 @@
-use Rattle.std.proofs.Common.{ℕ, List, refl, ap, sym, ◌∙◌, subst, arith, [], length, map}
+use Rattle.std.proofs.Common.{◌≡◌, ℕ, List, refl, ap, sym, ◌∙◌, subst, arith, [], length, map}
 use Rattle.std.specs.Prelude.{Contains, ◌↔◌}
 use Rattle.std.proofs.lemmas.List.{length-map}
 use Rattle.bilv_spec.specs.Machine.{Machine}
@@ -13,16 +13,18 @@ use Rattle.program_points.specs.declared.values.Frame.{Frame}
 use Rattle.program_points.proofs.Lists.{nothing_more}
 use Rattle.state_text.specs.Starts.{layout_of}
 use Rattle.question_form.specs.declared.unrolled.Unrolled.{Unrolled}
-use Rattle.question_form.specs.Views.{kept_of}
+use Rattle.question_form.specs.Views.{kept_of, unrolled_of}
+use Rattle.walk_spec.specs.Unrolled.{is_register_of, is_flag_of}
 use Rattle.unroller.specs.Led.{AreCalled, ArePlaced}
 use Rattle.unroller.specs.Lookups.{HasForm}
-use Rattle.unroller.specs.Keys.{address_of}
+use Rattle.unroller.specs.Keys.{AreKeys, address_of}
 use Rattle.unroller.specs.Places.{AreCodes}
 use Rattle.unroller.specs.Rows.{AreLiterals}
 use Rattle.unroller.proofs.KeptRuns.{kept_runs_are_right}
 use Rattle.unroller.proofs.Looked.{forms_are_right}
 use Rattle.unroller.proofs.Listing.{low_turns, keys_of, among_graph, addresses_among, keys_coded, keys_fit, keys_low}
 use Rattle.unroller.proofs.Whole.{size, places, lean, words, are_points, first, formed, literals_are}
+use Rattle.unroller.proofs.unrolling.unroll.Given as given
 use Rattle.unroller.proofs.unrolling.unroll.Goals as goal
 
 pub point_keys-requires : goal.point_keys-requires
@@ -124,148 +126,130 @@ points_of-requires-clause-coded g c =
     c.deref-8.ensures.value
     c.deref-9.ensures.value c.in_ok-addresses.ensures.same
 
+-- what is made of a program's points, and what is known of it
+module _ (g : given.Over) (c : goal.After-drop-listed-2 g) where
+  abbrev program : Program
+  program = program_of c.args.image.now (notes_of c.args.notes.now) c.args.entry
+
+  abbrev keys : List ℕ
+  keys = c.in_ok-keys.keys.items
+
+  abbrev addresses : List ℕ
+  addresses = c.in_ok-addresses.addresses.items
+
+  abbrev frames : List Frame
+  frames = c.calls.new.stacks.frames.items
+
+  abbrev made : Unrolled
+  made = record {
+    form = c.layout.result;
+    big = c.is_big_machine.result;
+    link = c.link.result;
+    entry = c.args.entry;
+    notes = c.args.notes;
+    asserts = c.in_ok-index.index.asserts;
+    kept = c.kept.result;
+    known = c.in_ok-known.known.runs;
+    literals = c.in_ok-literals.literals;
+    frames = c.calls.new.stacks.frames;
+    codes = c.in_ok-codes.codes;
+    points = c.in_ok-placed.placed.points;
+    edges = c.in_ok-placed.placed.edges;
+  }
+
+  are : AreKeys program c.args.k frames keys
+  are =
+      let v = c.in_ok-listed.listed in
+      let begins = c.in_ok-called.ensures.begins in
+      keys_of program c.args.k v frames v.stacks.numbers begins.0 keys c.in_ok-point_keys.field-0.items c.deref.result.now begins.1 c.deref.ensures.value
+      (c.in_ok-listed.ensures.points program c.requires.graph refl c.requires.one_way) c.in_ok-listed.ensures.numbered c.in_ok-point_keys.ensures.small
+      c.in_ok-point_keys.ensures.listed c.in_ok-keys.ensures.same c.in_ok-keys.ensures.rise
+
+  fitted : IsFitted g.M.Machine.machine (layout_of c.layout.result)
+  fitted = subst (λ (z : Layout). IsFitted g.M.Machine.machine z) (sym c.layout.ensures) g.met.M.Machine.fitted
+
+  form : HasForm g.M.Machine.machine made
+  form = forms_are_right g.M.Machine.machine made fitted
+
+  here : IsFitted program.machine (layout_of c.layout.result)
+  here = subst (λ (z : Machine). IsFitted z (layout_of c.layout.result)) (sym c.requires.machine) fitted
+
+  registers : (r : ℕ) → is_register_of (unrolled_of made) r ≡ program.machine.has_register r
+  registers r = form.registers r ∙ ap (λ (z : Machine). z.has_register r) (sym c.requires.machine)
+
+  flags : (f : ℕ) → is_flag_of (unrolled_of made) f ≡ program.machine.has_flag f
+  flags f = form.flags f ∙ ap (λ (z : Machine). z.has_flag f) (sym c.requires.machine)
+
+  calls : AreCalled c.args.graph.now keys frames (length keys) c.in_ok-called.called.items
+  calls = subst (λ (l : List ℕ). AreCalled c.args.graph.now l frames (length l) c.in_ok-called.called.items) c.deref-3.ensures.value
+      c.in_ok-called.ensures.called
+
+  codes : AreCodes program g.M.Machine.bank addresses made.asserts.items (length addresses) made.codes.items
+  codes =
+      subst (λ (l : List ℕ). AreCodes program g.M.Machine.bank l made.asserts.items (length l) made.codes.items) c.deref-4.ensures.value
+      (subst (λ (l : List (ℕ × ℕ)). AreCodes program g.M.Machine.bank c.deref-4.result.now l (length c.deref-4.result.now) made.codes.items)
+      c.deref-5.ensures.value
+      (c.in_ok-codes.ensures (notes_of c.args.notes.now) c.args.entry (c.in_ok-live.ensures.graph program c.requires.graph)
+      (c.in_ok-live.ensures.live program c.requires.graph)))
+
+  placed : ArePlaced c.args.graph.now frames keys addresses c.in_ok-called.called.items (length keys) made.points.items made.edges.items
+  placed =
+      subst (λ (l : List ℕ). ArePlaced c.args.graph.now frames l addresses c.in_ok-called.called.items (length l) made.points.items made.edges.items)
+      c.deref-8.ensures.value
+      (subst (λ (l : List ℕ). ArePlaced c.args.graph.now frames c.deref-8.result.now l c.in_ok-called.called.items
+      (length c.deref-8.result.now) made.points.items made.edges.items) c.deref-9.ensures.value
+      (subst (λ (l : List ℕ). ArePlaced c.args.graph.now frames c.deref-8.result.now c.deref-9.result.now l
+      (length c.deref-8.result.now) made.points.items made.edges.items) c.deref-10.ensures.value
+      (subst (λ (l : List Frame). ArePlaced c.args.graph.now l c.deref-8.result.now c.deref-9.result.now c.deref-10.result.now
+      (length c.deref-8.result.now) made.points.items made.edges.items) c.deref-7.ensures.value
+      c.in_ok-placed.ensures)))
+
 pub returns-clause-unrolled : goal.returns-clause-unrolled
 returns-clause-unrolled g c =
-    let notes = notes_of c.args.notes.now in
-    let p : Program = program_of c.args.image.now notes c.args.entry in
-    let v = c.in_ok-listed.listed in
-    let keys = c.in_ok-keys.keys.items in
-    let addresses = c.in_ok-addresses.addresses.items in
-    let called = c.in_ok-called.called.items in
-    let frames = c.calls.new.stacks.frames.items in
-    let begins = c.in_ok-called.ensures.begins in
-    let u : Unrolled = record {
-      form = c.layout.result;
-      big = c.is_big_machine.result;
-      link = c.link.result;
-      entry = c.args.entry;
-      notes = c.args.notes;
-      asserts
-          = c.in_ok-index.index.asserts;
-      kept = c.kept.result;
-      known = c.in_ok-known.known.runs;
-      literals = c.in_ok-literals.literals;
-      frames = c.calls.new.stacks.frames;
-      codes
-          = c.in_ok-codes.codes;
-      points = c.in_ok-placed.placed.points;
-      edges = c.in_ok-placed.placed.edges;
-    } in
-    let listed = c.in_ok-listed.ensures.points p c.requires.graph refl c.requires.one_way in
-    let are =
-    keys_of p c.args.k v frames v.stacks.numbers begins.0 keys c.in_ok-point_keys.field-0.items c.deref.result.now begins.1 c.deref.ensures.value listed
-    c.in_ok-listed.ensures.numbered c.in_ok-point_keys.ensures.small c.in_ok-point_keys.ensures.listed c.in_ok-keys.ensures.same c.in_ok-keys.ensures.rise in
-    let mach = c.requires.machine in
-    let fitted : IsFitted g.M.Machine.machine (layout_of c.layout.result) = subst
-    (λ (z : Layout). IsFitted g.M.Machine.machine z) (sym c.layout.ensures) g.met.M.Machine.fitted in
-    let form : HasForm g.M.Machine.machine u = forms_are_right g.M.Machine.machine u fitted in
-    let here : IsFitted p.machine (layout_of c.layout.result) = subst (λ (z : Machine). IsFitted z (layout_of c.layout.result)) (sym mach) fitted in
-    let registers = λ (r : ℕ). form.registers r ∙ ap (λ (z : Machine). z.has_register r) (sym mach) in
-    let flags = λ (f : ℕ). form.flags f ∙ ap (λ (z : Machine). z.has_flag f) (sym mach) in
-    let calls : AreCalled c.args.graph.now keys frames (length keys) called = subst
-    (λ (l : List ℕ). AreCalled c.args.graph.now l frames (length l) called) c.deref-3.ensures.value c.in_ok-called.ensures.called in
-    let codes : AreCodes p g.M.Machine.bank addresses u.asserts.items (length addresses) u.codes.items =
-    subst (λ (l : List ℕ). AreCodes p g.M.Machine.bank l u.asserts.items (length l) u.codes.items) c.deref-4.ensures.value
-    (subst (λ (l : List (ℕ × ℕ)). AreCodes p g.M.Machine.bank c.deref-4.result.now l (length c.deref-4.result.now) u.codes.items) c.deref-5.ensures.value
-    (c.in_ok-codes.ensures notes c.args.entry (c.in_ok-live.ensures.graph p c.requires.graph)
-    (c.in_ok-live.ensures.live p c.requires.graph))) in
-    let placed : ArePlaced c.args.graph.now frames keys addresses called (length keys) u.points.items u.edges.items =
-    subst (λ (l : List ℕ). ArePlaced c.args.graph.now frames l addresses called (length l) u.points.items u.edges.items) c.deref-8.ensures.value
-    (subst (λ (l : List ℕ). ArePlaced c.args.graph.now frames c.deref-8.result.now l called
-    (length c.deref-8.result.now) u.points.items u.edges.items) c.deref-9.ensures.value
-    (subst (λ (l : List ℕ). ArePlaced c.args.graph.now frames c.deref-8.result.now c.deref-9.result.now l
-    (length c.deref-8.result.now) u.points.items u.edges.items) c.deref-10.ensures.value
-    (subst (λ (l : List Frame). ArePlaced c.args.graph.now l c.deref-8.result.now c.deref-9.result.now c.deref-10.result.now
-    (length c.deref-8.result.now) u.points.items u.edges.items) c.deref-7.ensures.value
-    c.in_ok-placed.ensures))) in
     let runs = kept_runs_are_right c.args.image.now c.kept.result.now c.kept.ensures.runs (λ i w. (c.kept.ensures.words i w).1) in
     record {
       endian = c.is_big_machine.ensures;
-      registers = registers;
-      registers_rise = form.rise;
-      flags = flags;
-      link = c.link.ensures ∙ ap (λ (z : Machine). z.link) (sym mach);
+      registers = registers g c;
+      registers_rise = (form g c).rise;
+      flags = flags g c;
+      link = c.link.ensures ∙ ap (λ (z : Machine). z.link) (sym c.requires.machine);
       entry = refl;
       requires = refl;
       ensures = refl;
       kept = runs.0;
       runs = runs.1;
       kept_runs =
-          subst (λ (z : ℕ). IsCount (begins_run p) z) (sym (length-map c.kept.result.now kept_of))
-          (run_starts c.args.image.now c.kept.result.now c.kept.ensures.runs (λ i w. (c.kept.ensures.words i w).0) notes c.args.entry);
+          subst (λ (z : ℕ). IsCount (begins_run (program g c)) z) (sym (length-map c.kept.result.now kept_of))
+          (run_starts c.args.image.now c.kept.result.now c.kept.ensures.runs (λ i w. (c.kept.ensures.words i w).0) (notes_of c.args.notes.now) c.args.entry);
       known = λ a w. c.in_ok-known.ensures.bytes c.args.entry a w;
-      known_bytes = subst (λ (z : ℕ). IsCount (is_known_at p) z) (sym c.in_ok-known.ensures.sum) (c.in_ok-known.ensures.count c.args.entry);
-      literals = literals_are p c.args.k g.M.Machine.bank c.args.graph.now u c.calls.new.stacks.numbers keys addresses called c.requires.graph c.requires.one_way
-          here registers flags c.in_ok-called.ensures.table are calls codes placed c.in_ok-index.ensures.asserts.order refl c.in_ok-literals.literals.items
-          (subst (λ (l : List ℕ). (x : ℕ) → Contains (map address_of l) x ↔ Contains addresses x) c.deref-2.ensures.value c.in_ok-addresses.ensures.same)
-          (subst (λ (l : List ℕ). AreLiterals p l (length l) c.in_ok-literals.literals.items) c.deref-6.ensures.value
-          (c.in_ok-literals.ensures notes c.args.entry c.requires.graph));
-      points = are_points p c.args.k g.M.Machine.bank c.args.graph.now u c.calls.new.stacks.numbers keys addresses called c.requires.graph c.requires.one_way
-          here registers flags c.in_ok-called.ensures.table are calls codes placed c.in_ok-index.ensures.asserts.order refl;
-      first = first p c.args.k g.M.Machine.bank c.args.graph.now u c.calls.new.stacks.numbers keys addresses called c.requires.graph c.requires.one_way here
-          registers flags c.in_ok-called.ensures.table are calls codes placed c.in_ok-index.ensures.asserts.order refl;
-      places = λ i w. places p c.args.k g.M.Machine.bank c.args.graph.now u c.calls.new.stacks.numbers keys addresses called c.requires.graph c.requires.one_way
-          here registers flags c.in_ok-called.ensures.table are calls codes placed c.in_ok-index.ensures.asserts.order refl i
-          (let s = size p c.args.k g.M.Machine.bank c.args.graph.now u c.calls.new.stacks.numbers keys addresses called c.requires.graph c.requires.one_way here
-          registers flags c.in_ok-called.ensures.table are calls codes placed c.in_ok-index.ensures.asserts.order refl in omega arith);
+      known_bytes = subst (λ (z : ℕ). IsCount (is_known_at (program g c)) z) (sym c.in_ok-known.ensures.sum) (c.in_ok-known.ensures.count c.args.entry);
+      literals = literals_are (program g c) c.args.k g.M.Machine.bank c.args.graph.now (made g c) c.calls.new.stacks.numbers (keys g c) (addresses g c)
+          c.in_ok-called.called.items c.requires.graph c.requires.one_way (here g c) (registers g c) (flags g c) c.in_ok-called.ensures.table (are g c)
+          (calls g c) (codes g c) (placed g c) c.in_ok-index.ensures.asserts.order refl
+          c.in_ok-literals.literals.items
+          (subst (λ (l : List ℕ). (x : ℕ) → Contains (map address_of l) x ↔ Contains (addresses g c) x) c.deref-2.ensures.value c.in_ok-addresses.ensures.same)
+          (subst (λ (l : List ℕ). AreLiterals (program g c) l (length l) c.in_ok-literals.literals.items) c.deref-6.ensures.value
+          (c.in_ok-literals.ensures (notes_of c.args.notes.now) c.args.entry c.requires.graph));
+      points = are_points (program g c) c.args.k g.M.Machine.bank c.args.graph.now (made g c) c.calls.new.stacks.numbers (keys g c) (addresses g c)
+          c.in_ok-called.called.items c.requires.graph c.requires.one_way (here g c) (registers g c) (flags g c) c.in_ok-called.ensures.table (are g c)
+          (calls g c) (codes g c) (placed g c) c.in_ok-index.ensures.asserts.order refl;
+      first = first (program g c) c.args.k g.M.Machine.bank c.args.graph.now (made g c) c.calls.new.stacks.numbers (keys g c) (addresses g c)
+          c.in_ok-called.called.items c.requires.graph c.requires.one_way (here g c) (registers g c) (flags g c) c.in_ok-called.ensures.table (are g c)
+          (calls g c) (codes g c) (placed g c) c.in_ok-index.ensures.asserts.order refl;
+      places = λ i w. places (program g c) c.args.k g.M.Machine.bank c.args.graph.now (made g c) c.calls.new.stacks.numbers (keys g c) (addresses g c)
+          c.in_ok-called.called.items c.requires.graph c.requires.one_way (here g c) (registers g c) (flags g c) c.in_ok-called.ensures.table (are g c)
+          (calls g c) (codes g c) (placed g c) c.in_ok-index.ensures.asserts.order refl
+          i
+          (let s = size (program g c) c.args.k g.M.Machine.bank c.args.graph.now (made g c) c.calls.new.stacks.numbers (keys g c) (addresses g c)
+          c.in_ok-called.called.items c.requires.graph c.requires.one_way (here g c) (registers g c) (flags g c) c.in_ok-called.ensures.table (are g c)
+          (calls g c) (codes g c) (placed g c) c.in_ok-index.ensures.asserts.order refl in omega arith);
     }
 
 pub returns-clause-formed : goal.returns-clause-formed
 returns-clause-formed g c =
-    let notes = notes_of c.args.notes.now in
-    let p : Program = program_of c.args.image.now notes c.args.entry in
-    let v = c.in_ok-listed.listed in
-    let keys = c.in_ok-keys.keys.items in
-    let addresses = c.in_ok-addresses.addresses.items in
-    let called = c.in_ok-called.called.items in
-    let frames = c.calls.new.stacks.frames.items in
-    let begins = c.in_ok-called.ensures.begins in
-    let u : Unrolled = record {
-      form = c.layout.result;
-      big = c.is_big_machine.result;
-      link = c.link.result;
-      entry = c.args.entry;
-      notes = c.args.notes;
-      asserts
-          = c.in_ok-index.index.asserts;
-      kept = c.kept.result;
-      known = c.in_ok-known.known.runs;
-      literals = c.in_ok-literals.literals;
-      frames = c.calls.new.stacks.frames;
-      codes
-          = c.in_ok-codes.codes;
-      points = c.in_ok-placed.placed.points;
-      edges = c.in_ok-placed.placed.edges;
-    } in
-    let listed = c.in_ok-listed.ensures.points p c.requires.graph refl c.requires.one_way in
-    let are =
-    keys_of p c.args.k v frames v.stacks.numbers begins.0 keys c.in_ok-point_keys.field-0.items c.deref.result.now begins.1 c.deref.ensures.value listed
-    c.in_ok-listed.ensures.numbered c.in_ok-point_keys.ensures.small c.in_ok-point_keys.ensures.listed c.in_ok-keys.ensures.same c.in_ok-keys.ensures.rise in
-    let mach = c.requires.machine in
-    let fitted : IsFitted g.M.Machine.machine (layout_of c.layout.result) = subst
-    (λ (z : Layout). IsFitted g.M.Machine.machine z) (sym c.layout.ensures) g.met.M.Machine.fitted in
-    let form : HasForm g.M.Machine.machine u = forms_are_right g.M.Machine.machine u fitted in
-    let here : IsFitted p.machine (layout_of c.layout.result) = subst (λ (z : Machine). IsFitted z (layout_of c.layout.result)) (sym mach) fitted in
-    let registers = λ (r : ℕ). form.registers r ∙ ap (λ (z : Machine). z.has_register r) (sym mach) in
-    let flags = λ (f : ℕ). form.flags f ∙ ap (λ (z : Machine). z.has_flag f) (sym mach) in
-    let calls : AreCalled c.args.graph.now keys frames (length keys) called = subst
-    (λ (l : List ℕ). AreCalled c.args.graph.now l frames (length l) called) c.deref-3.ensures.value c.in_ok-called.ensures.called in
-    let codes : AreCodes p g.M.Machine.bank addresses u.asserts.items (length addresses) u.codes.items =
-    subst (λ (l : List ℕ). AreCodes p g.M.Machine.bank l u.asserts.items (length l) u.codes.items) c.deref-4.ensures.value
-    (subst (λ (l : List (ℕ × ℕ)). AreCodes p g.M.Machine.bank c.deref-4.result.now l (length c.deref-4.result.now) u.codes.items) c.deref-5.ensures.value
-    (c.in_ok-codes.ensures notes c.args.entry (c.in_ok-live.ensures.graph p c.requires.graph)
-    (c.in_ok-live.ensures.live p c.requires.graph))) in
-    let placed : ArePlaced c.args.graph.now frames keys addresses called (length keys) u.points.items u.edges.items =
-    subst (λ (l : List ℕ). ArePlaced c.args.graph.now frames l addresses called (length l) u.points.items u.edges.items) c.deref-8.ensures.value
-    (subst (λ (l : List ℕ). ArePlaced c.args.graph.now frames c.deref-8.result.now l called
-    (length c.deref-8.result.now) u.points.items u.edges.items) c.deref-9.ensures.value
-    (subst (λ (l : List ℕ). ArePlaced c.args.graph.now frames c.deref-8.result.now c.deref-9.result.now l
-    (length c.deref-8.result.now) u.points.items u.edges.items) c.deref-10.ensures.value
-    (subst (λ (l : List Frame). ArePlaced c.args.graph.now l c.deref-8.result.now c.deref-9.result.now c.deref-10.result.now
-    (length c.deref-8.result.now) u.points.items u.edges.items) c.deref-7.ensures.value
-    c.in_ok-placed.ensures))) in
-    formed p c.args.k g.M.Machine.bank c.args.graph.now u c.calls.new.stacks.numbers keys addresses called c.requires.graph c.requires.one_way here registers
-    flags c.in_ok-called.ensures.table are calls codes placed c.in_ok-index.ensures.asserts.order refl
+    formed (program g c) c.args.k g.M.Machine.bank c.args.graph.now (made g c) c.calls.new.stacks.numbers (keys g c) (addresses g c)
+    c.in_ok-called.called.items c.requires.graph c.requires.one_way (here g c) (registers g c) (flags g c) c.in_ok-called.ensures.table (are g c)
+    (calls g c) (codes g c) (placed g c) c.in_ok-index.ensures.asserts.order refl
     (λ i d w. (let q = (c.in_ok-index.ensures.asserts.only i d w).0 in let l = length-map c.args.notes.now.asserts.items (λ a. a.at) in omega arith))
 
 pub returns-clause-form : goal.returns-clause-form
@@ -274,117 +258,15 @@ returns-clause-form g c =
 
 pub returns-clause-lean : goal.returns-clause-lean
 returns-clause-lean g c =
-    let notes = notes_of c.args.notes.now in
-    let p : Program = program_of c.args.image.now notes c.args.entry in
-    let v = c.in_ok-listed.listed in
-    let keys = c.in_ok-keys.keys.items in
-    let addresses = c.in_ok-addresses.addresses.items in
-    let called = c.in_ok-called.called.items in
-    let frames = c.calls.new.stacks.frames.items in
-    let begins = c.in_ok-called.ensures.begins in
-    let u : Unrolled = record {
-      form = c.layout.result;
-      big = c.is_big_machine.result;
-      link = c.link.result;
-      entry = c.args.entry;
-      notes = c.args.notes;
-      asserts
-          = c.in_ok-index.index.asserts;
-      kept = c.kept.result;
-      known = c.in_ok-known.known.runs;
-      literals = c.in_ok-literals.literals;
-      frames = c.calls.new.stacks.frames;
-      codes
-          = c.in_ok-codes.codes;
-      points = c.in_ok-placed.placed.points;
-      edges = c.in_ok-placed.placed.edges;
-    } in
-    let listed = c.in_ok-listed.ensures.points p c.requires.graph refl c.requires.one_way in
-    let are =
-    keys_of p c.args.k v frames v.stacks.numbers begins.0 keys c.in_ok-point_keys.field-0.items c.deref.result.now begins.1 c.deref.ensures.value listed
-    c.in_ok-listed.ensures.numbered c.in_ok-point_keys.ensures.small c.in_ok-point_keys.ensures.listed c.in_ok-keys.ensures.same c.in_ok-keys.ensures.rise in
-    let mach = c.requires.machine in
-    let fitted : IsFitted g.M.Machine.machine (layout_of c.layout.result) = subst
-    (λ (z : Layout). IsFitted g.M.Machine.machine z) (sym c.layout.ensures) g.met.M.Machine.fitted in
-    let form : HasForm g.M.Machine.machine u = forms_are_right g.M.Machine.machine u fitted in
-    let here : IsFitted p.machine (layout_of c.layout.result) = subst (λ (z : Machine). IsFitted z (layout_of c.layout.result)) (sym mach) fitted in
-    let registers = λ (r : ℕ). form.registers r ∙ ap (λ (z : Machine). z.has_register r) (sym mach) in
-    let flags = λ (f : ℕ). form.flags f ∙ ap (λ (z : Machine). z.has_flag f) (sym mach) in
-    let calls : AreCalled c.args.graph.now keys frames (length keys) called = subst
-    (λ (l : List ℕ). AreCalled c.args.graph.now l frames (length l) called) c.deref-3.ensures.value c.in_ok-called.ensures.called in
-    let codes : AreCodes p g.M.Machine.bank addresses u.asserts.items (length addresses) u.codes.items =
-    subst (λ (l : List ℕ). AreCodes p g.M.Machine.bank l u.asserts.items (length l) u.codes.items) c.deref-4.ensures.value
-    (subst (λ (l : List (ℕ × ℕ)). AreCodes p g.M.Machine.bank c.deref-4.result.now l (length c.deref-4.result.now) u.codes.items) c.deref-5.ensures.value
-    (c.in_ok-codes.ensures notes c.args.entry (c.in_ok-live.ensures.graph p c.requires.graph)
-    (c.in_ok-live.ensures.live p c.requires.graph))) in
-    let placed : ArePlaced c.args.graph.now frames keys addresses called (length keys) u.points.items u.edges.items =
-    subst (λ (l : List ℕ). ArePlaced c.args.graph.now frames l addresses called (length l) u.points.items u.edges.items) c.deref-8.ensures.value
-    (subst (λ (l : List ℕ). ArePlaced c.args.graph.now frames c.deref-8.result.now l called
-    (length c.deref-8.result.now) u.points.items u.edges.items) c.deref-9.ensures.value
-    (subst (λ (l : List ℕ). ArePlaced c.args.graph.now frames c.deref-8.result.now c.deref-9.result.now l
-    (length c.deref-8.result.now) u.points.items u.edges.items) c.deref-10.ensures.value
-    (subst (λ (l : List Frame). ArePlaced c.args.graph.now l c.deref-8.result.now c.deref-9.result.now c.deref-10.result.now
-    (length c.deref-8.result.now) u.points.items u.edges.items) c.deref-7.ensures.value
-    c.in_ok-placed.ensures))) in
-    lean p c.args.k g.M.Machine.bank c.args.graph.now u c.calls.new.stacks.numbers keys addresses called c.requires.graph c.requires.one_way here registers
-    flags c.in_ok-called.ensures.table are calls codes placed c.in_ok-index.ensures.asserts.order refl
+    lean (program g c) c.args.k g.M.Machine.bank c.args.graph.now (made g c) c.calls.new.stacks.numbers (keys g c) (addresses g c)
+    c.in_ok-called.called.items c.requires.graph c.requires.one_way (here g c) (registers g c) (flags g c) c.in_ok-called.ensures.table (are g c)
+    (calls g c) (codes g c) (placed g c) c.in_ok-index.ensures.asserts.order refl
 
 pub returns-clause-addresses : goal.returns-clause-addresses
 returns-clause-addresses g c =
-    let notes = notes_of c.args.notes.now in
-    let p : Program = program_of c.args.image.now notes c.args.entry in
-    let v = c.in_ok-listed.listed in
-    let keys = c.in_ok-keys.keys.items in
-    let addresses = c.in_ok-addresses.addresses.items in
-    let called = c.in_ok-called.called.items in
-    let frames = c.calls.new.stacks.frames.items in
-    let begins = c.in_ok-called.ensures.begins in
-    let u : Unrolled = record {
-      form = c.layout.result;
-      big = c.is_big_machine.result;
-      link = c.link.result;
-      entry = c.args.entry;
-      notes = c.args.notes;
-      asserts
-          = c.in_ok-index.index.asserts;
-      kept = c.kept.result;
-      known = c.in_ok-known.known.runs;
-      literals = c.in_ok-literals.literals;
-      frames = c.calls.new.stacks.frames;
-      codes
-          = c.in_ok-codes.codes;
-      points = c.in_ok-placed.placed.points;
-      edges = c.in_ok-placed.placed.edges;
-    } in
-    let listed = c.in_ok-listed.ensures.points p c.requires.graph refl c.requires.one_way in
-    let are =
-    keys_of p c.args.k v frames v.stacks.numbers begins.0 keys c.in_ok-point_keys.field-0.items c.deref.result.now begins.1 c.deref.ensures.value listed
-    c.in_ok-listed.ensures.numbered c.in_ok-point_keys.ensures.small c.in_ok-point_keys.ensures.listed c.in_ok-keys.ensures.same c.in_ok-keys.ensures.rise in
-    let mach = c.requires.machine in
-    let fitted : IsFitted g.M.Machine.machine (layout_of c.layout.result) = subst
-    (λ (z : Layout). IsFitted g.M.Machine.machine z) (sym c.layout.ensures) g.met.M.Machine.fitted in
-    let form : HasForm g.M.Machine.machine u = forms_are_right g.M.Machine.machine u fitted in
-    let here : IsFitted p.machine (layout_of c.layout.result) = subst (λ (z : Machine). IsFitted z (layout_of c.layout.result)) (sym mach) fitted in
-    let registers = λ (r : ℕ). form.registers r ∙ ap (λ (z : Machine). z.has_register r) (sym mach) in
-    let flags = λ (f : ℕ). form.flags f ∙ ap (λ (z : Machine). z.has_flag f) (sym mach) in
-    let calls : AreCalled c.args.graph.now keys frames (length keys) called = subst
-    (λ (l : List ℕ). AreCalled c.args.graph.now l frames (length l) called) c.deref-3.ensures.value c.in_ok-called.ensures.called in
-    let codes : AreCodes p g.M.Machine.bank addresses u.asserts.items (length addresses) u.codes.items =
-    subst (λ (l : List ℕ). AreCodes p g.M.Machine.bank l u.asserts.items (length l) u.codes.items) c.deref-4.ensures.value
-    (subst (λ (l : List (ℕ × ℕ)). AreCodes p g.M.Machine.bank c.deref-4.result.now l (length c.deref-4.result.now) u.codes.items) c.deref-5.ensures.value
-    (c.in_ok-codes.ensures notes c.args.entry (c.in_ok-live.ensures.graph p c.requires.graph)
-    (c.in_ok-live.ensures.live p c.requires.graph))) in
-    let placed : ArePlaced c.args.graph.now frames keys addresses called (length keys) u.points.items u.edges.items =
-    subst (λ (l : List ℕ). ArePlaced c.args.graph.now frames l addresses called (length l) u.points.items u.edges.items) c.deref-8.ensures.value
-    (subst (λ (l : List ℕ). ArePlaced c.args.graph.now frames c.deref-8.result.now l called
-    (length c.deref-8.result.now) u.points.items u.edges.items) c.deref-9.ensures.value
-    (subst (λ (l : List ℕ). ArePlaced c.args.graph.now frames c.deref-8.result.now c.deref-9.result.now l
-    (length c.deref-8.result.now) u.points.items u.edges.items) c.deref-10.ensures.value
-    (subst (λ (l : List Frame). ArePlaced c.args.graph.now l c.deref-8.result.now c.deref-9.result.now c.deref-10.result.now
-    (length c.deref-8.result.now) u.points.items u.edges.items) c.deref-7.ensures.value
-    c.in_ok-placed.ensures))) in
-    words p c.args.k g.M.Machine.bank c.args.graph.now u c.calls.new.stacks.numbers keys addresses called c.requires.graph c.requires.one_way here registers
-    flags c.in_ok-called.ensures.table are calls codes placed c.in_ok-index.ensures.asserts.order refl
+    words (program g c) c.args.k g.M.Machine.bank c.args.graph.now (made g c) c.calls.new.stacks.numbers (keys g c) (addresses g c)
+    c.in_ok-called.called.items c.requires.graph c.requires.one_way (here g c) (registers g c) (flags g c) c.in_ok-called.ensures.table (are g c)
+    (calls g c) (codes g c) (placed g c) c.in_ok-index.ensures.asserts.order refl
 
 pub returns-clause-layout : goal.returns-clause-layout
 returns-clause-layout g c = c.layout.ensures
