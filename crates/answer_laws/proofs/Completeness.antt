@@ -5,7 +5,7 @@ use Rattle.bilv_spec.specs.Run.{Program, Event, Run, Failed, Turned, IsOver}
 use Rattle.bilv_spec.specs.Verdict.{Holds, Vacuous, Fails, Unroll}
 use Rattle.bilv_spec.specs.Points.{IsPrice}
 use Rattle.bilv_spec.specs.StateText.{Layout, Written}
-use Rattle.bilv_spec.specs.Files.{layout_of}
+use Rattle.bilv_spec.specs.Files.{Options, layout_of}
 use Rattle.bilv_spec.specs.Answers.{Budget, Report, HoldsReport, VacuousReport, FailsReport, UnrollReport, PointsReport, SizeReport, ConflictsReport, Evidence, Refutations, EntryRefuted, RunOf, SpentOn, Count, IsRightReport, EndsAs, start_in, Answer, plain_answer, report_answer, report_text, status_of, IsReported}
 use Rattle.bilv_spec.specs.Verified.{IsAccepted, IsFound, AfterImage, elf_refused, elf_accepted, AfterNotes, notes_refused, program_found}
 use Rattle.bilv_spec.specs.Outcomes.{Surroundings, Verify, AfterRead, read_failed, was_read, IsOutcome, whole, cut, no_memory}
@@ -48,41 +48,43 @@ finding_of p layout b (FailsReport event at step) other s a = absurd a
 finding_of p layout b (UnrollReport at step) (RunOf w) s a = (HasVerdict Unroll, (a.0, a.1), tt)
 finding_of p layout b (UnrollReport at step) other s a = absurd a
 
-reported : (file text : List ℕ) (b : Budget) (a : Answer) (p : Program) → (¬ IsSpentEvidence a.evidence) → IsFound file text p →
-    IsReported p (layout_of file) b a → Answers file text b a
-reported file text b a p unspent found (r, e, right, is) =
-    let f = finding_of p (layout_of file) b r e (λ s. unspent (subst (λ (x : Answer). IsSpentEvidence x.evidence) (sym is) s)) right in
+reported : (o : Options) (file text : List ℕ) (b : Budget) (a : Answer) (p : Program) → (¬ IsSpentEvidence a.evidence) → IsFound o file text p →
+    IsReported p (layout_of o file) b a → Answers o file text b a
+reported o file text b a p unspent found (r, e, right, is) =
+    let f = finding_of p (layout_of o file) b r e (λ s. unspent (subst (λ (x : Answer). IsSpentEvidence x.evidence) (sym is) s)) right in
     is_reported p f.0 r e found f.1 f.2 right is
 
-by_notes : (file text : List ℕ) (b : Budget) (a : Answer) → (¬ IsSpentEvidence a.evidence) → IsAccepted file →
-    AfterNotes file text (λ p. IsReported p (layout_of file) b) a → Answers file text b a
-by_notes file text b a unspent accepted (notes_refused written h is) = notes_are_refused written accepted h is
-by_notes file text b a unspent accepted (program_found p found next) = reported file text b a p unspent found next
+by_notes : (o : Options) (file text : List ℕ) (b : Budget) (a : Answer) → (¬ IsSpentEvidence a.evidence) → IsAccepted file →
+    AfterNotes o file text (λ p. IsReported p (layout_of o file) b) a → Answers o file text b a
+by_notes o file text b a unspent accepted (notes_refused written h is) = notes_are_refused written accepted h is
+by_notes o file text b a unspent accepted (program_found p found next) = reported o file text b a p unspent found next
 
-read_calm : {Next : List ℕ → Answer → Type 0} {a : Answer} (s : Surroundings) (name file : List ℕ) → s.held name ≡ Bytes file →
+pub read_calm : {Next : List ℕ → Answer → Type 0} {a : Answer} (s : Surroundings) (name file : List ℕ) → s.held name ≡ Bytes file →
     (¬ Rose (s.shelf_before name) (s.shelf_after name)) → AfterRead s name Next a → Next file a
 read_calm {Next} {a} s name file held calm (read_failed rose is) = absurd (calm rose)
 read_calm {Next} {a} s name file held calm (was_read bytes agrees next) =
     let is : bytes ≡ file = subst (λ (h : Held). Agrees h bytes) held agrees in subst (λ (x : List ℕ). Next x a) is next
 
-by_image : (s : Surroundings) (elf notes file text : List ℕ) (b : Budget) (a : Answer) → AreTold s elf notes file text → (¬ IsSpentEvidence a.evidence) →
-    AfterImage file (AfterRead s notes (λ text. AfterNotes file text (λ p. IsReported p (layout_of file) b))) a → Answers file text b a
-by_image s elf notes file text b a told unspent (elf_refused written h is) = elf_is_refused written h is
-by_image s elf notes file text b a told unspent (elf_accepted accepted next) =
-    by_notes file text b a unspent accepted (read_calm s notes text told.notes_held told.notes_calm next)
+by_image : (s : Surroundings) (o : Options) (elf notes file text : List ℕ) (b : Budget) (a : Answer) → AreTold s elf notes file text →
+    (¬ IsSpentEvidence a.evidence) →
+    AfterImage file (AfterRead s notes (λ text. AfterNotes o file text (λ p. IsReported p (layout_of o file) b))) a → Answers o file text b a
+by_image s o elf notes file text b a told unspent (elf_refused written h is) = elf_is_refused written h is
+by_image s o elf notes file text b a told unspent (elf_accepted accepted next) =
+    by_notes o file text b a unspent accepted (read_calm s notes text told.notes_held told.notes_calm next)
 
-pub verify_is_complete : (s : Surroundings) (elf notes file text : List ℕ) (b : Budget) (status : ℕ) (shown : Evidence) → AreTold s elf notes file text →
-    (status ≡ 7 → ¬ Rose s.sink_before s.sink_after) → status ≢ 8 → (¬ IsSpentEvidence shown) → IsOutcome s (Some (Verify elf notes b)) status shown →
-    (a : Answer) × Answers file text b a × (status ≡ a.status) × (shown ≡ a.evidence) × Appends s.text_before a.text s.text_after
-verify_is_complete s elf notes file text b status shown told calm memory unspent (whole a due appends e d) = (
+pub verify_is_complete : (s : Surroundings) (o : Options) (elf notes file text : List ℕ) (b : Budget) (status : ℕ) (shown : Evidence) →
+    AreTold s elf notes file text →
+    (status ≡ 7 → ¬ Rose s.sink_before s.sink_after) → status ≢ 8 → (¬ IsSpentEvidence shown) → IsOutcome s (Some (Verify o elf notes b)) status shown →
+    (a : Answer) × Answers o file text b a × (status ≡ a.status) × (shown ≡ a.evidence) × Appends s.text_before a.text s.text_after
+verify_is_complete s o elf notes file text b status shown told calm memory unspent (whole a due appends e d) = (
   a,
-  by_image s elf notes file text b a told (λ h. unspent (subst IsSpentEvidence (sym d) h)) (read_calm s elf file told.elf_held told.elf_calm due),
+  by_image s o elf notes file text b a told (λ h. unspent (subst IsSpentEvidence (sym d) h)) (read_calm s elf file told.elf_held told.elf_calm due),
   e,
   d,
   appends,
 )
-verify_is_complete s elf notes file text b status shown told calm memory unspent (cut a n due l appends rose e d) = absurd (calm e rose)
-verify_is_complete s elf notes file text b status shown told calm memory unspent (no_memory appends e d) = absurd (memory e)
+verify_is_complete s o elf notes file text b status shown told calm memory unspent (cut a n due l appends rose e d) = absurd (calm e rose)
+verify_is_complete s o elf notes file text b status shown told calm memory unspent (no_memory appends e d) = absurd (memory e)
 
 -- equal answers
 same_answer : (a c : Answer) → a ≡ c → AreSameButRun a c
@@ -207,53 +209,56 @@ module _ (p : Program) (layout : Layout) (b : Budget) where
   one_report (HasVerdict Unroll) r t e d s u x y = by_turning r t e d s u x y
 
 -- two reports of two files
-two_reports : (file : List ℕ) (b : Budget) (p q : Program) (f g : Finding) (r t : Report) (e d : Evidence) → p ≡ q →
-    ComesTo p b f → ComesTo q b g → Says r f → Says t g → IsRightReport p (layout_of file) b r e → IsRightReport q (layout_of file) b t d →
-    AreSameButRun (report_answer (layout_of file) b r e) (report_answer (layout_of file) b t d)
-two_reports file b p q f g r t e d same x y s u right other =
+two_reports : (o : Options) (file : List ℕ) (b : Budget) (p q : Program) (f g : Finding) (r t : Report) (e d : Evidence) → p ≡ q →
+    ComesTo p b f → ComesTo q b g → Says r f → Says t g → IsRightReport p (layout_of o file) b r e → IsRightReport q (layout_of o file) b t d →
+    AreSameButRun (report_answer (layout_of o file) b r e) (report_answer (layout_of o file) b t d)
+two_reports o file b p q f g r t e d same x y s u right other =
     let finding : f ≡ g = one_finding q b f g (subst (λ (z : Program). ComesTo z b f) same x) y in
-    one_report q (layout_of file) b g r t e d (subst (Says r) finding s) u (subst (λ (z : Program). IsRightReport z (layout_of file) b r e) same right) other
+    one_report q (layout_of o file) b g r t e d (subst (Says r) finding s) u
+    (subst (λ (z : Program). IsRightReport z (layout_of o file) b r e) same right) other
 
-pub one_answer : (file text : List ℕ) (b : Budget) (a c : Answer) → Answers file text b a → Answers file text b c → AreSameButRun a c
-one_answer file text b a c (elf_is_refused v x i) (elf_is_refused w y j) =
+pub one_answer : (o : Options) (file text : List ℕ) (b : Budget) (a c : Answer) → Answers o file text b a → Answers o file text b c → AreSameButRun a c
+one_answer o file text b a c (elf_is_refused v x i) (elf_is_refused w y j) =
     same_answer a c (i ∙ ap (plain_answer 4) (one_elf_refusal file v w x y) ∙ sym j)
-one_answer file text b a c (elf_is_refused v x i) (notes_are_refused w accepted y j) = absurd (refused_or_accepted file v x accepted)
-one_answer file text b a c (elf_is_refused v x i) (is_reported p f r e found y s right j) = absurd (refused_or_accepted file v x found.0)
-one_answer file text b a c (notes_are_refused v accepted x i) (elf_is_refused w y j) = absurd (refused_or_accepted file w y accepted)
-one_answer file text b a c (notes_are_refused v accepted x i) (notes_are_refused w too y j) =
+one_answer o file text b a c (elf_is_refused v x i) (notes_are_refused w accepted y j) = absurd (refused_or_accepted file v x accepted)
+one_answer o file text b a c (elf_is_refused v x i) (is_reported p f r e found y s right j) = absurd (refused_or_accepted file v x found.0)
+one_answer o file text b a c (notes_are_refused v accepted x i) (elf_is_refused w y j) = absurd (refused_or_accepted file w y accepted)
+one_answer o file text b a c (notes_are_refused v accepted x i) (notes_are_refused w too y j) =
     same_answer a c (i ∙ ap (plain_answer 5) (one_notes_refusal file text v w x y) ∙ sym j)
-one_answer file text b a c (notes_are_refused v accepted x i) (is_reported p f r e found y s right j) = absurd (refused_or_found file text v p x found)
-one_answer file text b a c (is_reported p f r e found x s right i) (elf_is_refused w y j) = absurd (refused_or_accepted file w y found.0)
-one_answer file text b a c (is_reported p f r e found x s right i) (notes_are_refused w accepted y j) = absurd (refused_or_found file text w p y found)
-one_answer file text b a c (is_reported p f r e found x s right i) (is_reported q g t d too y u other j) =
+one_answer o file text b a c (notes_are_refused v accepted x i) (is_reported p f r e found y s right j) = absurd (refused_or_found o file text v p x found)
+one_answer o file text b a c (is_reported p f r e found x s right i) (elf_is_refused w y j) = absurd (refused_or_accepted file w y found.0)
+one_answer o file text b a c (is_reported p f r e found x s right i) (notes_are_refused w accepted y j) = absurd (refused_or_found o file text w p y found)
+one_answer o file text b a c (is_reported p f r e found x s right i) (is_reported q g t d too y u other j) =
     subst (λ (z : Answer). AreSameButRun z c) (sym i)
-    (subst (λ (z : Answer). AreSameButRun (report_answer (layout_of file) b r e) z) (sym j)
-    (two_reports file b p q f g r t e d (one_program file text p q found too) x y s u right other))
+    (subst (λ (z : Answer). AreSameButRun (report_answer (layout_of o file) b r e) z) (sym j)
+    (two_reports o file b p q f g r t e d (one_program o file text p q found too) x y s u right other))
 
 -- what is reported of the files' program is what it comes to
-reported_as : (s : Surroundings) (file text : List ℕ) (b : Budget) (status : ℕ) (shown : Evidence) (p : Program) → IsFound file text p →
-    (f : Finding) → ComesTo p b f → (a : Answer) → Answers file text b a → status ≡ a.status → shown ≡ a.evidence → Appends s.text_before a.text s.text_after →
-    (r : Report) × Says r f × IsRightReport p (layout_of file) b r shown × (status ≡ status_of r)
-    × Appends s.text_before (report_text (layout_of file) b r shown) s.text_after
-reported_as s file text b status shown p found f comes a (elf_is_refused w x i) e d appends = absurd (refused_or_accepted file w x found.0)
-reported_as s file text b status shown p found f comes a (notes_are_refused w accepted x i) e d appends = absurd (refused_or_found file text w p x found)
-reported_as s file text b status shown p found f comes a (is_reported q g r t too other says right i) e d appends =
-    let same : q ≡ p = one_program file text q p too found in
+reported_as : (s : Surroundings) (o : Options) (file text : List ℕ) (b : Budget) (status : ℕ) (shown : Evidence) (p : Program) → IsFound o file text p →
+    (f : Finding) → ComesTo p b f → (a : Answer) → Answers o file text b a → status ≡ a.status → shown ≡ a.evidence →
+    Appends s.text_before a.text s.text_after →
+    (r : Report) × Says r f × IsRightReport p (layout_of o file) b r shown × (status ≡ status_of r)
+    × Appends s.text_before (report_text (layout_of o file) b r shown) s.text_after
+reported_as s o file text b status shown p found f comes a (elf_is_refused w x i) e d appends = absurd (refused_or_accepted file w x found.0)
+reported_as s o file text b status shown p found f comes a (notes_are_refused w accepted x i) e d appends = absurd (refused_or_found o file text w p x found)
+reported_as s o file text b status shown p found f comes a (is_reported q g r t too other says right i) e d appends =
+    let same : q ≡ p = one_program o file text q p too found in
     let finding : g ≡ f = one_finding p b g f (subst (λ (z : Program). ComesTo z b g) same other) comes in
     let evidence_is : t ≡ shown = sym (d ∙ ap (λ x. x.evidence) i) in (
       r,
       subst (Says r) finding says,
-      subst (λ (z : Evidence). IsRightReport p (layout_of file) b r z) evidence_is
-          (subst (λ (z : Program). IsRightReport z (layout_of file) b r t) same right),
+      subst (λ (z : Evidence). IsRightReport p (layout_of o file) b r z) evidence_is
+          (subst (λ (z : Program). IsRightReport z (layout_of o file) b r t) same right),
       e ∙ ap (λ x. x.status) i,
-      subst (λ (z : List ℕ). Appends s.text_before z s.text_after) (ap (λ x. x.text) i ∙ ap (report_text (layout_of file) b r) evidence_is) appends,
+      subst (λ (z : List ℕ). Appends s.text_before z s.text_after) (ap (λ x. x.text) i ∙ ap (report_text (layout_of o file) b r) evidence_is) appends,
     )
 
-pub finding_is_reported : (s : Surroundings) (elf notes file text : List ℕ) (b : Budget) (status : ℕ) (shown : Evidence) → AreTold s elf notes file text →
-    (status ≡ 7 → ¬ Rose s.sink_before s.sink_after) → status ≢ 8 → (¬ IsSpentEvidence shown) → (p : Program) → IsFound file text p →
-    (f : Finding) → ComesTo p b f → IsOutcome s (Some (Verify elf notes b)) status shown →
-    (r : Report) × Says r f × IsRightReport p (layout_of file) b r shown × (status ≡ status_of r)
-    × Appends s.text_before (report_text (layout_of file) b r shown) s.text_after
-finding_is_reported s elf notes file text b status shown told calm memory unspent p found f comes outcome =
-    let c = verify_is_complete s elf notes file text b status shown told calm memory unspent outcome in
-    reported_as s file text b status shown p found f comes c.0 c.1 c.2 c.3 c.4
+pub finding_is_reported : (s : Surroundings) (o : Options) (elf notes file text : List ℕ) (b : Budget) (status : ℕ) (shown : Evidence) →
+    AreTold s elf notes file text →
+    (status ≡ 7 → ¬ Rose s.sink_before s.sink_after) → status ≢ 8 → (¬ IsSpentEvidence shown) → (p : Program) → IsFound o file text p →
+    (f : Finding) → ComesTo p b f → IsOutcome s (Some (Verify o elf notes b)) status shown →
+    (r : Report) × Says r f × IsRightReport p (layout_of o file) b r shown × (status ≡ status_of r)
+    × Appends s.text_before (report_text (layout_of o file) b r shown) s.text_after
+finding_is_reported s o elf notes file text b status shown told calm memory unspent p found f comes outcome =
+    let c = verify_is_complete s o elf notes file text b status shown told calm memory unspent outcome in
+    reported_as s o file text b status shown p found f comes c.0 c.1 c.2 c.3 c.4

@@ -6,7 +6,7 @@ use Rattle.bilv_spec.specs.Points.{HasMore}
 use Rattle.bilv_spec.specs.Verdict.{IsEntryState}
 use Rattle.bilv_spec.specs.Questions.{by_file}
 use Rattle.bilv_spec.specs.PointLaws.{HasLawfulRows, ReadsMemory}
-use Rattle.bilv_spec.specs.Files.{IsProgram, layout_of}
+use Rattle.bilv_spec.specs.Files.{Options, IsProgram, layout_of}
 use Rattle.bilv_spec.specs.StateText.{Layout, IsEvent, IsNamed}
 use Rattle.bilv_spec.specs.Reports.{NamedEnding, FailsBy, UnknownBy, named_line}
 use Rattle.bilv_spec.specs.Texts.{line}
@@ -67,8 +67,8 @@ module _ (p : Program) (k : ℕ) (lawful : HasLawfulRows p) (few : HasFewLines p
       let same : run p k start max ≡ r = one_end p k start max ends.0 (run p k start max) r last over refl ends.1 in
       subst (IsFine max) (sym (runs_by_file p lawful memory k start is max) ∙ same) (fine is max)
 
-reads_memory : (file text : List ℕ) (p : Program) → IsProgram file text p → ReadsMemory p
-reads_memory file text p is = subst ReadsMemory (sym is.4) (λ s a. refl)
+reads_memory : (o : Options) (file text : List ℕ) (p : Program) → IsProgram o file text p → ReadsMemory p
+reads_memory o file text p is = subst ReadsMemory (sym is.4) (λ s a. refl)
 
 no_name : (n : NamedEnding) → ◌≡◌ {A = Option NamedEnding} None (Some n) → ⊥
 no_name n e = cc
@@ -76,29 +76,30 @@ no_name n e = cc
 below_last : (m max : ℕ) → m < max → max ≤ 16777216 → m ≤ 16777215
 below_last m max l h = omega arith
 
-pub names_can_be_written : (file text : List ℕ) (p : Program) → AreBytes file → IsProgram file text p → (layout : Layout) (b : Budget) → IsReplayable b →
+pub names_can_be_written : (o : Options) (file text : List ℕ) (p : Program) → AreBytes file → IsProgram o file text p →
+    (layout : Layout) (b : Budget) → IsReplayable b →
     (r : Report) (e : Evidence) (n : NamedEnding) → IsRightReport p layout b r e → named_of b r ≡ Some n → IsNamed n
-names_can_be_written file text p bytes is layout b small HoldsReport e n a f = absurd (no_name n f)
-names_can_be_written file text p bytes is layout b small VacuousReport e n a f = absurd (no_name n f)
-names_can_be_written file text p bytes is layout b small PointsReport e n a f = absurd (no_name n f)
-names_can_be_written file text p bytes is layout b small SizeReport e n a f = absurd (no_name n f)
-names_can_be_written file text p bytes is layout b small ConflictsReport e n a f = absurd (no_name n f)
-names_can_be_written file text p bytes is layout b small (FailsReport event at j) (RunOf w) n a f =
+names_can_be_written o file text p bytes is layout b small HoldsReport e n a f = absurd (no_name n f)
+names_can_be_written o file text p bytes is layout b small VacuousReport e n a f = absurd (no_name n f)
+names_can_be_written o file text p bytes is layout b small PointsReport e n a f = absurd (no_name n f)
+names_can_be_written o file text p bytes is layout b small SizeReport e n a f = absurd (no_name n f)
+names_can_be_written o file text p bytes is layout b small ConflictsReport e n a f = absurd (no_name n f)
+names_can_be_written o file text p bytes is layout b small (FailsReport event at j) (RunOf w) n a f =
     let same : FailsBy event at j ≡ n = cc in
-    let end = end_is_fine p b.unroll (program_rows_are_lawful file text p bytes is) (few_note_lines file text p is) _ (reads_memory file text p is)
+    let end = end_is_fine p b.unroll (program_rows_are_lawful o file text p bytes is) (few_note_lines o file text p is) _ (reads_memory o file text p is)
     a.3.entry b.points a.0.points (Failed event at j) tt a.4 in
     subst IsNamed same (end.0, end.1, below_last j b.points end.2 small.1)
-names_can_be_written file text p bytes is layout b small (FailsReport event at j) other n a f = absurd a
-names_can_be_written file text p bytes is layout b small (UnrollReport at j) (RunOf w) n a f =
+names_can_be_written o file text p bytes is layout b small (FailsReport event at j) other n a f = absurd a
+names_can_be_written o file text p bytes is layout b small (UnrollReport at j) (RunOf w) n a f =
     let same : UnknownBy b.unroll at j ≡ n = cc in
-    let end = end_is_fine p b.unroll (program_rows_are_lawful file text p bytes is) (few_note_lines file text p is) _ (reads_memory file text p is)
+    let end = end_is_fine p b.unroll (program_rows_are_lawful o file text p bytes is) (few_note_lines o file text p is) _ (reads_memory o file text p is)
     a.3.entry b.points a.0.points (Turned at j) tt a.4 in
     subst IsNamed same (small.0, end.0, below_last j b.points end.1 small.1)
-names_can_be_written file text p bytes is layout b small (UnrollReport at j) other n a f = absurd a
+names_can_be_written o file text p bytes is layout b small (UnrollReport at j) other n a f = absurd a
 
-pub right_report_replays : (file text : List ℕ) (p : Program) → AreBytes file → IsProgram file text p → (b : Budget) → IsReplayable b →
-    (r : Report) (e : Evidence) (n : NamedEnding) → IsRightReport p (layout_of file) b r e → named_of b r ≡ Some n →
-    length (report_text (layout_of file) b r e) ≤ text_limit →
-    replay_answer p (layout_of file) (report_text (layout_of file) b r e) ≡ plain_answer 0 (line (codes "replayed " ++ named_line n))
-right_report_replays file text p bytes is b small r e n right name room =
-    report_replays file p b r e n right name (names_can_be_written file text p bytes is (layout_of file) b small r e n right name) room
+pub right_report_replays : (o : Options) (file text : List ℕ) (p : Program) → AreBytes file → IsProgram o file text p → (b : Budget) → IsReplayable b →
+    (r : Report) (e : Evidence) (n : NamedEnding) → IsRightReport p (layout_of o file) b r e → named_of b r ≡ Some n →
+    length (report_text (layout_of o file) b r e) ≤ text_limit →
+    replay_answer p (layout_of o file) (report_text (layout_of o file) b r e) ≡ plain_answer 0 (line (codes "replayed " ++ named_line n))
+right_report_replays o file text p bytes is b small r e n right name room =
+    report_replays o file p b r e n right name (names_can_be_written o file text p bytes is (layout_of o file) b small r e n right name) room

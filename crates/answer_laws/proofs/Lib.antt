@@ -10,3 +10,6 @@ pub mod ItemRows
 pub mod WorkRuns
 pub mod WorkNotes
 pub mod WorkHolds
+pub mod Upgraded
+pub mod Told
+pub mod TwoCalls

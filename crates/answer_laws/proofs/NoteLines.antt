@@ -4,9 +4,10 @@ use Rattle.std.specs.Prelude.{◌==◌, ◌&&◌, not, if◌then◌else◌}
 use Rattle.bilv_spec.specs.Memory.{Endian}
 use Rattle.bilv_spec.specs.State.{State}
 use Rattle.bilv_spec.specs.Machine.{Row, How, On, Direct, DirectCall, Indirect, IndirectCall, Exception, EnvironmentCall, Breakpoint, SoftwareInterrupt, OddHalfword, UnalignedLoad, Outcome, Goes, Raises}
-use Rattle.bilv_spec.specs.Notes.{Expr, NoteLine, Assert, value, is_true}
-use Rattle.bilv_spec.specs.NotesGrammar.{Says, Nothing, EntryIs, RequireIs, EnsureIs, AssertIs, TargetsAre, FixedIs, AreLines, lines_of, ensures_of, asserts_of}
-use Rattle.bilv_spec.specs.Files.{IsProgram, names_of}
+use Rattle.bilv_spec.specs.Notes.{NoteLine, Assert, value, is_true}
+use Rattle.bilv_spec.specs.NotesGrammar.{Says, Nothing, EntryIs, RequireIs, EnsureIs, AssertIs, TargetsAre, FixedIs, VersionIs, ConstIs, LoadedIs, AreLines, after, is_second, line_limit, lines_of, ensures_of, asserts_of}
+use Rattle.bilv_spec.specs.Scopes.{Scope, begin}
+use Rattle.bilv_spec.specs.Files.{Options, IsProgram, names_of}
 use Rattle.bilv_spec.specs.StateText.{IsEvent}
 use Rattle.bilv_spec.specs.Run.{Program, Place, Step, Stops, Arrives, Exits, false_assert, false_line, step, after_asserts, by_fetch, by_row, after_row, exception_event, going_on, aligned_transfer, transfer, leave, exit_or, exit_by, return_or, allowed, exit}
 
@@ -32,6 +33,9 @@ few_asserts n (EnsureIs e ∷ says) h = few_asserts (n + 1) says (omega arith)
 few_asserts n (AssertIs a e ∷ says) h = (omega arith, few_asserts (n + 1) says (omega arith))
 few_asserts n (TargetsAre a to ∷ says) h = few_asserts (n + 1) says (omega arith)
 few_asserts n (FixedIs low high ∷ says) h = few_asserts (n + 1) says (omega arith)
+few_asserts n (VersionIs b ∷ says) h = few_asserts (n + 1) says (omega arith)
+few_asserts n (ConstIs w v ∷ says) h = few_asserts (n + 1) says (omega arith)
+few_asserts n (LoadedIs ∷ says) h = few_asserts (n + 1) says (omega arith)
 
 few_lines : (n : ℕ) (says : List Says) → n + length says ≤ 8192 → AreFewLines (ensures_of n says)
 few_lines n [] h = tt
@@ -42,18 +46,25 @@ few_lines n (EnsureIs e ∷ says) h = (omega arith, few_lines (n + 1) says (omeg
 few_lines n (AssertIs a e ∷ says) h = few_lines (n + 1) says (omega arith)
 few_lines n (TargetsAre a to ∷ says) h = few_lines (n + 1) says (omega arith)
 few_lines n (FixedIs low high ∷ says) h = few_lines (n + 1) says (omega arith)
+few_lines n (VersionIs b ∷ says) h = few_lines (n + 1) says (omega arith)
+few_lines n (ConstIs w v ∷ says) h = few_lines (n + 1) says (omega arith)
+few_lines n (LoadedIs ∷ says) h = few_lines (n + 1) says (omega arith)
 
-as_many : (names : List ℕ → Option Expr) (texts : List (List ℕ)) (says : List Says) → AreLines names texts says → length says ≡ length texts
-as_many names [] [] lines = refl
-as_many names [] (s ∷ says) lines = absurd lines
-as_many names (t ∷ texts) [] lines = absurd lines
-as_many names (t ∷ texts) (s ∷ says) lines = ap suc (as_many names texts says lines.1)
+as_many : (s : Scope) (texts : List (List ℕ)) (says : List Says) → AreLines s texts says → length says ≡ length texts
+as_many s [] [] lines = refl
+as_many s [] (x ∷ says) lines = absurd lines
+as_many s (t ∷ texts) [] lines = absurd lines
+as_many s (t ∷ texts) (x ∷ says) lines = ap suc (as_many (after s x) texts says lines.1)
 
-pub few_note_lines : (file text : List ℕ) (p : Program) → IsProgram file text p → HasFewLines p
-few_note_lines file text p is =
+few_texts : (is_second : Bool) (n : ℕ) → n ≤ line_limit is_second → n ≤ 4097
+few_texts true n h = h
+few_texts false n h = omega arith
+
+pub few_note_lines : (o : Options) (file text : List ℕ) (p : Program) → IsProgram o file text p → HasFewLines p
+few_note_lines o file text p is =
     let text_is = is.2 in
-    let count = as_many (names_of file) (lines_of text) text_is.says text_is.lines in
-    let short = text_is.short in
+    let count = as_many (begin (names_of file) (is_second (lines_of text))) (lines_of text) text_is.says text_is.lines in
+    let short = few_texts (is_second (lines_of text)) (length (lines_of text)) text_is.short in
     let few : 1 + length text_is.says ≤ 8192 = omega arith in
     subst HasFewLines (sym is.4) (record {
       asserts = subst AreFewAsserts text_is.notes_are.3 (few_asserts 1 text_is.says few);

@@ -1,43 +1,31 @@
 -- Two files have one program or one refusal.
-use Rattle.std.proofs.Common.{◌≡◌, ◌⊎◌, inl, inr, ℕ, ◌<◌, ◌≤◌, refl, ap, sym, ◌∙◌, subst, arith, Bool, true, false, List}
-use Rattle.std.specs.Prelude.{if◌then◌else◌}
+use Rattle.std.proofs.Common.{◌≡◌, ◌⊎◌, inl, inr, ℕ, ◌<◌, ◌≤◌, refl, ap, sym, ◌∙◌, subst, arith, List}
 use Rattle.bilv_spec.specs.Notes.{Notes, Function, At, Named}
 use Rattle.bilv_spec.specs.NotesGrammar.{IsNotesText}
-use Rattle.bilv_spec.specs.NotesLaws.{KeepsReserved}
 use Rattle.bilv_spec.specs.NotesFaults.{NoteFault, IsFirstNoteFault}
-use Rattle.bilv_spec.specs.RvNames.{rv_names}
-use Rattle.bilv_spec.specs.ArmNames.{arm_names}
 use Rattle.bilv_spec.specs.ElfFaults.{IsFunction, Finds, IsAmbiguous}
 use Rattle.bilv_spec.specs.Run.{Program}
-use Rattle.bilv_spec.specs.Files.{is_rv, names_of, program_of, IsFunctionAt, IsProgram}
+use Rattle.bilv_spec.specs.Files.{Options, names_of, machine_of, program_of, IsFunctionAt, IsProgram}
 use Rattle.bilv_spec.specs.Verified.{IsAccepted, IsElfRefused, elf_large, elf_fault, elf_fault_text, AreNotesRefused, notes_large, notes_fault, no_function, ambiguous, note_fault_text, ambiguous_text, IsFound}
 use Rattle.bilv_spec.proofs.Faults as elf
 use Rattle.bilv_spec.proofs.NotesFirst as notes
 use Rattle.bilv_spec.proofs.NotesSaid.{one_reading}
-use Rattle.bilv_spec.proofs.NotesNames.{machines_keep_reserved}
-
-keeps_by : (b : Bool) → KeepsReserved (λ w. if b then rv_names w else arm_names w)
-keeps_by true = machines_keep_reserved.0
-keeps_by false = machines_keep_reserved.1
-
-keeps : (file : List ℕ) → KeepsReserved (names_of file)
-keeps file = keeps_by (is_rv file)
 
 same_notes : (file text : List ℕ) (m n : Notes) → IsNotesText (names_of file) text m → IsNotesText (names_of file) text n → m ≡ n
-same_notes file text m n a b = one_reading (names_of file) (keeps file) text m n a b
+same_notes file text m n a b = one_reading (names_of file) text m n a b
 
 same_entry : (file : List ℕ) (f : Function) (a b : ℕ) → IsFunctionAt file f a → IsFunctionAt file f b → a ≡ b
 same_entry file (At n) a b x y = sym x ∙ y
 same_entry file (Named name) a b x y = y.1 a x.0
 
-pub one_program_of : (file text : List ℕ) (p q : Program) → IsProgram file text p → IsProgram file text q → p ≡ q
-one_program_of file text p q x y =
+pub one_program_of : (o : Options) (file text : List ℕ) (p q : Program) → IsProgram o file text p → IsProgram o file text q → p ≡ q
+one_program_of o file text p q x y =
     let e = same_notes file text x.0 y.0 x.2 y.2 in
     let at = same_entry file y.0.entry x.1 y.1 (subst (λ (n : Notes). IsFunctionAt file n.entry x.1) e x.3) y.3 in
-    x.4 ∙ ap (λ n. program_of file n x.1) e ∙ ap (program_of file y.0) at ∙ sym y.4
+    x.4 ∙ ap (λ n. program_of (machine_of o file) file n x.1) e ∙ ap (program_of (machine_of o file) file y.0) at ∙ sym y.4
 
-pub one_program : (file text : List ℕ) (p q : Program) → IsFound file text p → IsFound file text q → p ≡ q
-one_program file text p q x y = one_program_of file text p q x.2 y.2
+pub one_program : (o : Options) (file text : List ℕ) (p q : Program) → IsFound o file text p → IsFound o file text q → p ≡ q
+one_program o file text p q x y = one_program_of o file text p q x.2 y.2
 
 pub one_elf_refusal : (file v w : List ℕ) → IsElfRefused file v → IsElfRefused file w → v ≡ w
 one_elf_refusal file _ _ (elf_large h) (elf_large k) = refl
@@ -51,7 +39,7 @@ refused_or_accepted file _ (elf_fault f h e) a = a.1 f e.0
 
 -- notes without a fault have no first fault
 faultless : (file text : List ℕ) (m : Notes) (n : ℕ) (f : NoteFault) → IsNotesText (names_of file) text m → IsFirstNoteFault (names_of file) text n f → ⊥
-faultless file text m n f a b = notes.never_both (names_of file) (keeps file) text m n f a b
+faultless file text m n f a b = notes.never_both (names_of file) text m n f a b
 
 same_name : (file text : List ℕ) (m n : Notes) (x y : List ℕ) → IsNotesText (names_of file) text m → IsNotesText (names_of file) text n →
     m.entry ≡ Named x → n.entry ≡ Named y → x ≡ y
@@ -86,7 +74,7 @@ one_notes_refusal file text _ _ (notes_large h) (no_function n name k t e none) 
 one_notes_refusal file text _ _ (notes_large h) (ambiguous n name a c k t e two) = absurd (omega arith)
 one_notes_refusal file text _ _ (notes_fault m f h x) (notes_large k) = absurd (omega arith)
 one_notes_refusal file text _ _ (notes_fault m f h x) (notes_fault n g k e) =
-    let same = notes.one_fault (names_of file) (keeps file) text m n f g x e in
+    let same = notes.one_fault (names_of file) text m n f g x e in
     ap (λ z. note_fault_text z f) same.0 ∙ ap (note_fault_text n) same.1
 one_notes_refusal file text _ _ (notes_fault m f h x) (no_function n name k t e none) = absurd (faultless file text n m f t x)
 one_notes_refusal file text _ _ (notes_fault m f h x) (ambiguous n name a c k t e two) = absurd (faultless file text n m f t x)
@@ -107,13 +95,13 @@ one_notes_refusal file text _ _ (ambiguous m name a c h t e two) (ambiguous n ot
 found_named : (file : List ℕ) (f : Function) (name : List ℕ) (entry : ℕ) → f ≡ Named name → IsFunctionAt file f entry → Finds file name entry
 found_named file f name entry e is = subst (λ (z : Function). IsFunctionAt file z entry) e is
 
-pub refused_or_found : (file text w : List ℕ) (p : Program) → AreNotesRefused file text w → IsFound file text p → ⊥
-refused_or_found file text _ p (notes_large h) is = omega (arith, h, is.1)
-refused_or_found file text _ p (notes_fault n f h x) is = faultless file text is.2.0 n f is.2.2 x
-refused_or_found file text _ p (no_function m name h t e none) is =
+pub refused_or_found : (o : Options) (file text w : List ℕ) (p : Program) → AreNotesRefused file text w → IsFound o file text p → ⊥
+refused_or_found o file text _ p (notes_large h) is = omega (arith, h, is.1)
+refused_or_found o file text _ p (notes_fault n f h x) is = faultless file text is.2.0 n f is.2.2 x
+refused_or_found o file text _ p (no_function m name h t e none) is =
     let same : is.2.0.entry ≡ Named name = ap (λ z. z.entry) (same_notes file text is.2.0 m is.2.2 t) ∙ e in
     none is.2.1 (found_named file is.2.0.entry name is.2.1 same is.2.3).0
-refused_or_found file text _ p (ambiguous m name a c h t e two) is =
+refused_or_found o file text _ p (ambiguous m name a c h t e two) is =
     let same : is.2.0.entry ≡ Named name = ap (λ z. z.entry) (same_notes file text is.2.0 m is.2.2 t) ∙ e in
     let finds = found_named file is.2.0.entry name is.2.1 same is.2.3 in
     let x = finds.1 a two.0 in let y = finds.1 c two.1 in let l = two.2 in omega arith

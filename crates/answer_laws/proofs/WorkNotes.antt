@@ -16,7 +16,8 @@ use Rattle.std.proofs.lemmas.List.Folds.{list_all-append}
 use Rattle.std.proofs.lemmas.List.Sums.{take_while-cons}
 use Rattle.std.proofs.lemmas.Str.Parse.{digit_from_value}
 use Rattle.bilv_spec.specs.Notes.{Expr, Register, Number, Binary, Equal, At}
-use Rattle.bilv_spec.specs.NotesGrammar.{Token, NumberToken, NameToken, SignToken, Parses, tighter, binary_of, number_of, name_of, Says, EntryIs, RequireIs, EnsureIs, IsLine, IsGood, AreLines, IsNotesText, are_digits, is_blank, is_digit, is_digit_of, is_hexadecimal, lines_of, number_length, number_value, begins_with_letter, BadText, onto_first, run_of, tokens_after, tokens_of}
+use Rattle.bilv_spec.specs.NotesGrammar.{Token, NumberToken, NameToken, SignToken, Parses, tighter, binary_of, number_of, name_of, Says, EntryIs, RequireIs, EnsureIs, IsLine, IsGood, AreLines, IsNotesText, is_second, line_limit, are_digits, is_blank, is_digit, is_digit_of, is_hexadecimal, lines_of, number_length, number_value, begins_with_letter, BadText, onto_first, run_of, tokens_after, tokens_of}
+use Rattle.bilv_spec.specs.Scopes.{Scope, begin, named}
 use Rattle.bilv_spec.specs.RvNames.{rv_names, rv_table}
 use Rattle.bilv_spec.specs.Texts.{hex_digit, hex_digits, word_text, number_text, line, lines}
 use Rattle.bilv_spec.specs.Work.{work_notes, result}
@@ -179,16 +180,20 @@ word_read v h =
 abbrev said_by : (k n : ℕ) → List Token
 said_by k n = NameToken (97 ∷ (48 + k) ∷ []) ∷ SignToken (codes "=") ∷ NumberToken n ∷ []
 
-name_is : (k : ℕ) → k < 2 → rv_names (97 ∷ (48 + k) ∷ []) ≡ Some (Register (10 + k))
+-- words mean what the machine has, on the first line and on later ones
+abbrev scope : (is_first : Bool) → Scope
+scope is_first = record (begin rv_names false) { is_first = is_first }
+
+name_is : (k : ℕ) → k < 2 → named (scope false) (97 ∷ (48 + k) ∷ []) ≡ Some (Register (10 + k))
 unfolding rv_table
 name_is zero h = refl
 name_is (suc zero) h = refl
 name_is (suc (suc k)) h = absurd (omega arith)
 
-loosen : (e : Expr) (ts : List Token) → Parses rv_names 11 ts e → Parses rv_names 5 ts e
+loosen : (e : Expr) (ts : List Token) → Parses (scope false) 11 ts e → Parses (scope false) 5 ts e
 loosen e ts p = tighter (lit< tt) (tighter (lit< tt) (tighter (lit< tt) (tighter (lit< tt) (tighter (lit< tt) (tighter (lit< tt) p)))))
 
-parses : (k n : ℕ) → k < 2 → Parses rv_names 1 (said_by k n) (Binary Equal (Register (10 + k)) (Number n))
+parses : (k n : ℕ) → k < 2 → Parses (scope false) 1 (said_by k n) (Binary Equal (Register (10 + k)) (Number n))
 parses k n h =
     let a = loosen (Register (10 + k)) (NameToken (97 ∷ (48 + k) ∷ []) ∷ []) (name_of (name_is k h)) in
     let b = loosen (Number n) (NumberToken n ∷ []) number_of in
@@ -204,14 +209,16 @@ all_good (t ∷ ts) h = All-cons IsGood t ts h.0 (all_good ts h.1)
 good_said : (word : List ℕ) (k n : ℕ) → n < 2 ^ 32 → All IsGood (NameToken word ∷ said_by k n)
 good_said word k n h = all_good (NameToken word ∷ said_by k n) (tt, (tt, (tt, (h, tt))))
 
-entry_line : IsLine rv_names (codes "entry 0x10000") (EntryIs (At 65536))
+entry_line : IsLine (scope true) (codes "entry 0x10000") (EntryIs (At 65536))
 entry_line = record {
   short = lit≤ tt;
   good = all_good (NameToken (codes "entry") ∷ NumberToken 65536 ∷ []) (tt, (lit< tt, tt));
   depth = lit≤ tt;
-  said = refl;
+  said = (NumberToken 65536, refl, refl);
   aligned = refl;
   range = tt;
+  version = tt;
+  new = tt;
 }
 
 -- a line of the first words and a number
@@ -245,7 +252,7 @@ ensure_tokens : (v : ℕ) → v < 2 ^ 32 → read (ensure_text v) ≡ NameToken 
 ensure_tokens v l =
     ensure_scanned (word_text v ++ []) ∙ ap (λ ts. NameToken (codes "ensure") ∷ NameToken (97 ∷ 48 ∷ []) ∷ SignToken (codes "=") ∷ ts) (word_read v l)
 
-require_line : (k n : ℕ) → k < 2 → n < 2 ^ 32 → IsLine rv_names (require_text k n) (RequireIs (Binary Equal (Register (10 + k)) (Number n)))
+require_line : (k n : ℕ) → k < 2 → n < 2 ^ 32 → IsLine (scope false) (require_text k n) (RequireIs (Binary Equal (Register (10 + k)) (Number n)))
 unfolding read
 require_line k n h l =
     let ts : tokens_of (require_text k n) ≡ NameToken (codes "require") ∷ said_by k n = require_tokens k n h l in
@@ -256,9 +263,11 @@ require_line k n h l =
       said = (said_by k n, ts, parses k n h);
       aligned = tt;
       range = tt;
+      version = tt;
+      new = tt;
     }
 
-ensure_line : (v : ℕ) → v < 2 ^ 32 → IsLine rv_names (ensure_text v) (EnsureIs (Binary Equal (Register 10) (Number v)))
+ensure_line : (v : ℕ) → v < 2 ^ 32 → IsLine (scope false) (ensure_text v) (EnsureIs (Binary Equal (Register 10) (Number v)))
 unfolding read
 ensure_line v l =
     let ts : tokens_of (ensure_text v) ≡ NameToken (codes "ensure") ∷ said_by 0 v = ensure_tokens v l in
@@ -269,6 +278,8 @@ ensure_line v l =
       said = (said_by 0 v, ts, parses 0 v (lit< tt));
       aligned = tt;
       range = tt;
+      version = tt;
+      new = tt;
     }
 
 -- the texts are plain
@@ -302,9 +313,9 @@ module _ (seed count : ℕ) (seed_small : seed < 2 ^ 31) (few : count ≤ 16000)
 
   pub reads_made : IsNotesText rv_names (work_notes seed count) (made_notes seed count)
   reads_made = record {
-    short = subst (λ (ls : List (List ℕ)). length ls ≤ 4096) (sym lines_are) (lit≤ tt);
+    short = subst (λ (ls : List (List ℕ)). length ls ≤ line_limit (is_second ls)) (sym lines_are) (lit≤ tt);
     says = says;
-    lines = subst (λ (ls : List (List ℕ)). AreLines rv_names ls says) (sym lines_are) (
+    lines = subst (λ (ls : List (List ℕ)). AreLines (begin rv_names (is_second ls)) ls says) (sym lines_are) (
       entry_line,
       (
         require_line 0 seed (lit< tt) (omega arith),

@@ -10,7 +10,7 @@ use Rattle.bilv_spec.specs.State.{State, put}
 use Rattle.bilv_spec.specs.Machine.{Indirect, Goes, is_place, IsAtPlace}
 use Rattle.bilv_spec.specs.Elf.{loaded}
 use Rattle.bilv_spec.specs.Notes.{Notes, At, Register, Number, Binary, Equal, is_true}
-use Rattle.bilv_spec.specs.Rv.{jalr, fields, imm_i, rv_row}
+use Rattle.bilv_spec.specs.Rv.{jalr, fields, imm_i, rv32, rv_row}
 use Rattle.bilv_spec.specs.Run.{Program, Place, Start, Arrives, Exits, step, run, Going, Exited, fetchable, one_more, after_step, arrive}
 use Rattle.bilv_spec.specs.Points.{byte_of_cell}
 use Rattle.bilv_spec.specs.Verdict.{IsEntryState, IsRight, Holds}
@@ -34,7 +34,7 @@ made_notes seed count = record {
 
 -- the program
 abbrev pub made_program : (seed count : ℕ) → Program
-made_program seed count = program_of (work_file seed count) (made_notes seed count) 0x10000
+made_program seed count = program_of rv32 (work_file seed count) (made_notes seed count) 0x10000
 
 -- the registers after i words, from those at entry
 abbrev regs_at : (x : ℕ) → (ℕ → ℕ) → ℕ → ℕ → ℕ
@@ -95,10 +95,10 @@ module _ (words : List ℕ) (short : length words ≤ 65536) (notes : Notes) whe
       loaded (rv_file words) (add 32 (65536 + 4 * i) j) ≡ Some (record { byte = get_or (code words) (4 * i + j) 0; flags = 5 })
   fetch_one i j h k = rw (at_byte i j (omega arith) k) (loads words (4 * i + j) short (omega arith))
 
-  fetches : (i : ℕ) → i < length words → fetchable (program_of (rv_file words) notes 65536) (65536 + 4 * i) ≡ true
+  fetches : (i : ℕ) → i < length words → fetchable (program_of rv32 (rv_file words) notes 65536) (65536 + 4 * i) ≡ true
   fetches i h = simp (fetch_one i 0 h (lit< tt), fetch_one i 1 h (lit< tt), fetch_one i 2 h (lit< tt), fetch_one i 3 h (lit< tt))
 
-  module _ (s : State) (entry : IsEntryState (program_of (rv_file words) notes 65536) s) where
+  module _ (s : State) (entry : IsEntryState (program_of rv32 (rv_file words) notes 65536) s) where
     byte_is : (i j : ℕ) → i < length words → j < 4 → s.mem (add 32 (65536 + 4 * i) j) ≡ get_or (code words) (4 * i + j) 0
     byte_is i j h k = entry.kept_bytes (add 32 (65536 + 4 * i) j) _ (mod-lt _ (lit< tt)) (fetch_one i j h k) refl
 

@@ -4,7 +4,7 @@ use Rattle.bilv_spec.specs.Outside.{Bytes, Rose, Appends}
 use Rattle.bilv_spec.specs.Run.{Program}
 use Rattle.bilv_spec.specs.Verdict.{Verdict, Holds, Vacuous, Fails, Unroll, IsRight}
 use Rattle.bilv_spec.specs.Points.{HasMore, IsPrice}
-use Rattle.bilv_spec.specs.Files.{layout_of}
+use Rattle.bilv_spec.specs.Files.{Options, layout_of}
 use Rattle.bilv_spec.specs.Answers.{Budget, IsWithin, Report, HoldsReport, VacuousReport, FailsReport, UnrollReport, PointsReport, SizeReport, Evidence, RunOf, SpentOn, IsRightReport, Answer, plain_answer, report_answer, report_text, status_of}
 use Rattle.bilv_spec.specs.Verified.{IsAccepted, IsElfRefused, AreNotesRefused, IsFound}
 use Rattle.bilv_spec.specs.Outcomes.{Surroundings, Verify, IsOutcome}
@@ -45,12 +45,12 @@ abbrev pub ShowsRun : Evidence → Type 0
 ShowsRun (RunOf w) = Unit {0}
 ShowsRun other = ⊥
 
--- The answer to two files, by what they are: the refusal of the first that is refused, or the right report that says what their program comes to.
-pub data Answers (file text : List ℕ) (b : Budget) (a : Answer) : Type 0 where
-  elf_is_refused : (written : List ℕ) → IsElfRefused file written → a ≡ plain_answer 4 written → Answers file text b a
-  notes_are_refused : (written : List ℕ) → IsAccepted file → AreNotesRefused file text written → a ≡ plain_answer 5 written → Answers file text b a
-  is_reported : (p : Program) (f : Finding) (r : Report) (e : Evidence) → IsFound file text p → ComesTo p b f → Says r f →
-      IsRightReport p (layout_of file) b r e → a ≡ report_answer (layout_of file) b r e → Answers file text b a
+-- The answer to two files and options, by what they are: the refusal of the first that is refused, or the right report that says what their program comes to.
+pub data Answers (o : Options) (file text : List ℕ) (b : Budget) (a : Answer) : Type 0 where
+  elf_is_refused : (written : List ℕ) → IsElfRefused file written → a ≡ plain_answer 4 written → Answers o file text b a
+  notes_are_refused : (written : List ℕ) → IsAccepted file → AreNotesRefused file text written → a ≡ plain_answer 5 written → Answers o file text b a
+  is_reported : (p : Program) (f : Finding) (r : Report) (e : Evidence) → IsFound o file text p → ComesTo p b f → Says r f →
+      IsRightReport p (layout_of o file) b r e → a ≡ report_answer (layout_of o file) b r e → Answers o file text b a
 
 -- both files are told, and the counts of faults of their names did not rise
 pub record AreTold (s : Surroundings) (elf notes file text : List ℕ) : Type 0 where
@@ -63,18 +63,18 @@ pub record AreTold (s : Surroundings) (elf notes file text : List ℕ) : Type 0 
 -- memory, and the evidence is not of a question that spent its conflicts, the outcome is such an answer, written whole.
 abbrev pub VerifyIsComplete : Type 0
 VerifyIsComplete =
-    (s : Surroundings) (elf notes file text : List ℕ) (b : Budget) (status : ℕ) (evidence : Evidence) → AreTold s elf notes file text →
-    (status ≡ 7 → ¬ Rose s.sink_before s.sink_after) → status ≢ 8 → (¬ IsSpentEvidence evidence) → IsOutcome s (Some (Verify elf notes b)) status evidence →
-    (a : Answer) × Answers file text b a × (status ≡ a.status) × (evidence ≡ a.evidence) × Appends s.text_before a.text s.text_after
+    (s : Surroundings) (o : Options) (elf notes file text : List ℕ) (b : Budget) (status : ℕ) (evidence : Evidence) → AreTold s elf notes file text →
+    (status ≡ 7 → ¬ Rose s.sink_before s.sink_after) → status ≢ 8 → (¬ IsSpentEvidence evidence) → IsOutcome s (Some (Verify o elf notes b)) status evidence →
+    (a : Answer) × Answers o file text b a × (status ≡ a.status) × (evidence ≡ a.evidence) × Appends s.text_before a.text s.text_after
 
 -- So a program that both files are is reported as what it comes to, and in no other way.
 abbrev pub FindingIsReported : Type 0
 FindingIsReported =
-    (s : Surroundings) (elf notes file text : List ℕ) (b : Budget) (status : ℕ) (evidence : Evidence) → AreTold s elf notes file text →
-    (status ≡ 7 → ¬ Rose s.sink_before s.sink_after) → status ≢ 8 → (¬ IsSpentEvidence evidence) → (p : Program) → IsFound file text p →
-    (f : Finding) → ComesTo p b f → IsOutcome s (Some (Verify elf notes b)) status evidence →
-    (r : Report) × Says r f × IsRightReport p (layout_of file) b r evidence × (status ≡ status_of r)
-    × Appends s.text_before (report_text (layout_of file) b r evidence) s.text_after
+    (s : Surroundings) (o : Options) (elf notes file text : List ℕ) (b : Budget) (status : ℕ) (evidence : Evidence) → AreTold s elf notes file text →
+    (status ≡ 7 → ¬ Rose s.sink_before s.sink_after) → status ≢ 8 → (¬ IsSpentEvidence evidence) → (p : Program) → IsFound o file text p →
+    (f : Finding) → ComesTo p b f → IsOutcome s (Some (Verify o elf notes b)) status evidence →
+    (r : Report) × Says r f × IsRightReport p (layout_of o file) b r evidence × (status ≡ status_of r)
+    × Appends s.text_before (report_text (layout_of o file) b r evidence) s.text_after
 
 -- The same answer but for the run that is shown: one status; a run is shown by both or by neither; the same text where none is shown; and all the same
 -- where the evidence is, so that the text is that of the start that it shows.
@@ -84,10 +84,10 @@ pub record AreSameButRun (a c : Answer) : Type 0 where
   pub text : (¬ ShowsRun a.evidence) → a.text ≡ c.text
   pub whole : a.evidence ≡ c.evidence → a ≡ c
 
--- two files and a budget have one such answer, but for the run that it shows
+-- two files, options and a budget have one such answer, but for the run that it shows
 abbrev pub OneAnswer : Type 0
-OneAnswer = (file text : List ℕ) (b : Budget) (a c : Answer) → Answers file text b a → Answers file text b c → AreSameButRun a c
+OneAnswer = (o : Options) (file text : List ℕ) (b : Budget) (a c : Answer) → Answers o file text b a → Answers o file text b c → AreSameButRun a c
 
--- and two files have one program at most
+-- and two files and options have one program at most
 abbrev pub OneProgram : Type 0
-OneProgram = (file text : List ℕ) (p q : Program) → IsFound file text p → IsFound file text q → p ≡ q
+OneProgram = (o : Options) (file text : List ℕ) (p q : Program) → IsFound o file text p → IsFound o file text q → p ≡ q

@@ -3,3 +3,6 @@ pub mod Readings
 pub mod Replayed
 pub mod Completeness
 pub mod Worked
+pub mod Upgrading
+pub mod Told
+pub mod TwoCalls

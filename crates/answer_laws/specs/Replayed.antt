@@ -1,7 +1,7 @@
 -- What a right report names can be written, and its text is replayed.
 use Rattle.std.specs.Prelude.{ℕ, ◌≡◌, ◌≤◌, ◌<◌, ◌++◌, List, Some, codes, length, slice_index}
 use Rattle.bilv_spec.specs.Run.{Program}
-use Rattle.bilv_spec.specs.Files.{layout_of, IsProgram}
+use Rattle.bilv_spec.specs.Files.{Options, layout_of, IsProgram}
 use Rattle.bilv_spec.specs.StateText.{Layout, IsNamed}
 use Rattle.bilv_spec.specs.Reports.{NamedEnding, named_line}
 use Rattle.bilv_spec.specs.Answers.{Budget, Report, Evidence, IsRightReport, report_text, plain_answer}
@@ -21,13 +21,13 @@ IsReplayable b = (b.unroll ≤ 4096) × (b.points ≤ 16777216)
 -- most 4096 lines.
 abbrev pub NamesCanBeWritten : Type 0
 NamesCanBeWritten =
-    (file text : List ℕ) (p : Program) → AreBytes file → IsProgram file text p → (layout : Layout) (b : Budget) → IsReplayable b →
+    (o : Options) (file text : List ℕ) (p : Program) → AreBytes file → IsProgram o file text p → (layout : Layout) (b : Budget) → IsReplayable b →
     (r : Report) (e : Evidence) (n : NamedEnding) → IsRightReport p layout b r e → named_of b r ≡ Some n → IsNamed n
 
 -- the text of a right report that names an ending is replayed, where it is no longer than texts may be
 abbrev pub RightReportReplays : Type 0
 RightReportReplays =
-    (file text : List ℕ) (p : Program) → AreBytes file → IsProgram file text p → (b : Budget) → IsReplayable b →
-    (r : Report) (e : Evidence) (n : NamedEnding) → IsRightReport p (layout_of file) b r e → named_of b r ≡ Some n →
-    length (report_text (layout_of file) b r e) ≤ text_limit →
-    replay_answer p (layout_of file) (report_text (layout_of file) b r e) ≡ plain_answer 0 (line (codes "replayed " ++ named_line n))
+    (o : Options) (file text : List ℕ) (p : Program) → AreBytes file → IsProgram o file text p → (b : Budget) → IsReplayable b →
+    (r : Report) (e : Evidence) (n : NamedEnding) → IsRightReport p (layout_of o file) b r e → named_of b r ≡ Some n →
+    length (report_text (layout_of o file) b r e) ≤ text_limit →
+    replay_answer p (layout_of o file) (report_text (layout_of o file) b r e) ≡ plain_answer 0 (line (codes "replayed " ++ named_line n))

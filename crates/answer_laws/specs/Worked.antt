@@ -2,6 +2,7 @@
 use Rattle.std.specs.Prelude.{ℕ}
 use Rattle.bilv_spec.specs.Run.{Program}
 use Rattle.bilv_spec.specs.Verdict.{IsRight, Holds}
+use Rattle.bilv_spec.specs.Files.{default_options}
 use Rattle.bilv_spec.specs.Verified.{IsFound}
 use Rattle.bilv_spec.specs.Work.{work_file, work_notes}
 use Rattle.bilv_spec.specs.Outcomes.{SelfRun, IsLawfulCommand}
@@ -9,5 +10,5 @@ use Rattle.bilv_spec.specs.Outcomes.{SelfRun, IsLawfulCommand}
 -- The file and the notes that are made are a program, and their program holds for every number of backward transfers.
 abbrev pub WorkHolds : Type 0
 WorkHolds = (seed count : ℕ) → IsLawfulCommand (SelfRun seed count) →
-    ((p : Program) × IsFound (work_file seed count) (work_notes seed count) p)
-    × ((p : Program) → IsFound (work_file seed count) (work_notes seed count) p → (k : ℕ) → IsRight p k Holds)
+    ((p : Program) × IsFound default_options (work_file seed count) (work_notes seed count) p)
+    × ((p : Program) → IsFound default_options (work_file seed count) (work_notes seed count) p → (k : ℕ) → IsRight p k Holds)

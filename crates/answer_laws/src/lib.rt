@@ -5,5 +5,7 @@
 pub mod readings;
 pub mod reports;
 pub mod runs;
+pub mod twice;
+pub mod upgrades;
 pub mod verify;
 pub mod work;

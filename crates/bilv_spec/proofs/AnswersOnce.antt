@@ -6,7 +6,7 @@ use Rattle.bilv_spec.specs.Verdict.{Verdict, Holds, Vacuous, Fails, Unroll, IsRi
 use Rattle.bilv_spec.specs.Points.{HasMore}
 use Rattle.bilv_spec.specs.StateText.{Layout}
 use Rattle.bilv_spec.specs.Answers.{Budget, Report, HoldsReport, VacuousReport, FailsReport, UnrollReport, PointsReport, SizeReport, ConflictsReport, Evidence, Refutations, EntryRefuted, RunOf, SpentOn, Count, IsRightReport, Answer, plain_answer}
-use Rattle.bilv_spec.specs.Outcomes.{Command, Verify, Lift, Graph, Script, Replay, Certify, Check, SelfRun, Surroundings, AfterRead, read_failed, was_read, read_fault, IsRightAnswer}
+use Rattle.bilv_spec.specs.Outcomes.{Command, Verify, Lift, Graph, Script, Replay, Certify, Check, SelfRun, Upgrade, Surroundings, AfterRead, read_failed, was_read, read_fault, IsRightAnswer}
 use Rattle.bilv_spec.specs.Verified.{IsAccepted, IsElfRefused, elf_large, elf_fault, elf_fault_text, AfterImage, elf_refused, elf_accepted}
 use Rattle.bilv_spec.specs.AnswerLaws.{verdict_of, first_file, elf_of}
 use Rattle.bilv_spec.proofs.Faults.{one_fault}
@@ -23,14 +23,15 @@ no_name n e = cc
 
 pub absent_fails : (s : Surroundings) (c : Command) (name : List ℕ) (a : Answer) → first_file c ≡ Some name → s.held name ≡ Absent → IsRightAnswer s c a →
     (a ≡ read_fault) × Rose (s.shelf_before name) (s.shelf_after name)
-absent_fails s (Verify elf notes b) name a f h r = absent_read s elf name f h r
-absent_fails s (Lift elf) name a f h r = absent_read s elf name f h r
-absent_fails s (Graph elf notes) name a f h r = absent_read s elf name f h r
-absent_fails s (Script elf notes kind b) name a f h r = absent_read s elf name f h r
-absent_fails s (Replay elf notes report) name a f h r = absent_read s elf name f h r
-absent_fails s (Certify elf notes kind b) name a f h r = absent_read s elf name f h r
+absent_fails s (Verify o elf notes b) name a f h r = absent_read s elf name f h r
+absent_fails s (Lift o elf) name a f h r = absent_read s elf name f h r
+absent_fails s (Graph o elf notes) name a f h r = absent_read s elf name f h r
+absent_fails s (Script o elf notes kind b) name a f h r = absent_read s elf name f h r
+absent_fails s (Replay o elf notes report) name a f h r = absent_read s elf name f h r
+absent_fails s (Certify o elf notes kind b) name a f h r = absent_read s elf name f h r
 absent_fails s (Check certificate) name a f h r = absent_read s certificate name f h r
 absent_fails s (SelfRun seed count) name a f h r = absurd (no_name name f)
+absent_fails s (Upgrade o elf notes) name a f h r = absent_read s elf name f h r
 
 -- a right report's verdict is right
 no_verdict : (v : Verdict) → ◌≡◌ {A = Option Verdict} None (Some v) → ⊥
@@ -104,11 +105,12 @@ elf_read s first name file written f e calm r (was_read bytes agrees next) =
 
 pub elf_refused_once : (s : Surroundings) (c : Command) (name file written : List ℕ) (a : Answer) → elf_of c ≡ Some name → s.held name ≡ Bytes file →
     (¬ Rose (s.shelf_before name) (s.shelf_after name)) → IsElfRefused file written → IsRightAnswer s c a → a ≡ plain_answer 4 written
-elf_refused_once s (Verify elf notes b) name file written a f h calm r x = elf_read s elf name file written f h calm r x
-elf_refused_once s (Lift elf) name file written a f h calm r x = elf_read s elf name file written f h calm r x
-elf_refused_once s (Graph elf notes) name file written a f h calm r x = elf_read s elf name file written f h calm r x
-elf_refused_once s (Script elf notes kind b) name file written a f h calm r x = elf_read s elf name file written f h calm r x
-elf_refused_once s (Replay elf notes report) name file written a f h calm r x = elf_read s elf name file written f h calm r x
-elf_refused_once s (Certify elf notes kind b) name file written a f h calm r x = elf_read s elf name file written f h calm r x
+elf_refused_once s (Verify o elf notes b) name file written a f h calm r x = elf_read s elf name file written f h calm r x
+elf_refused_once s (Lift o elf) name file written a f h calm r x = elf_read s elf name file written f h calm r x
+elf_refused_once s (Graph o elf notes) name file written a f h calm r x = elf_read s elf name file written f h calm r x
+elf_refused_once s (Script o elf notes kind b) name file written a f h calm r x = elf_read s elf name file written f h calm r x
+elf_refused_once s (Replay o elf notes report) name file written a f h calm r x = elf_read s elf name file written f h calm r x
+elf_refused_once s (Certify o elf notes kind b) name file written a f h calm r x = elf_read s elf name file written f h calm r x
 elf_refused_once s (Check certificate) name file written a f h calm r x = absurd (no_name name f)
 elf_refused_once s (SelfRun seed count) name file written a f h calm r x = absurd (no_name name f)
+elf_refused_once s (Upgrade o elf notes) name file written a f h calm r x = elf_read s elf name file written f h calm r x

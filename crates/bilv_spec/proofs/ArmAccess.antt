@@ -1,15 +1,17 @@
--- The rows of ARM that use no flag but by their condition are lawful: SWP, LDR and STR, halfwords, LDM and STM, B and BL, SWI.
+-- The rows of ARM that use no flag but by their condition are lawful: SWP, LDR and STR, halfwords, LDM and STM, B and BL, SWI, BX, CLZ.
 use Rattle.std.proofs.Common.{◌≡◌, ℕ, zero, suc, ◌+◌, ◌*◌, ◌%◌, ◌^◌, ◌<◌, ◌≤◌, refl, sym, ap, subst, ◌∙◌, true, false, Bool, arith, Option, Some, None, List, [], ◌∷◌, length}
 use Rattle.std.specs.Prelude.{◌==◌, ◌&&◌, not, if◌then◌else◌, Contains}
 use Rattle.std.proofs.lemmas.Bool.{ne_eqb, eq-eqb}
+use Rattle.std.specs.Int.Count.{count_leading_zeros}
+use Rattle.std.proofs.lemmas.Nat.{leading_le}
 use Rattle.bilv_spec.proofs.WordBounds.{stored_below, sign_extend_below}
 use Rattle.bilv_spec.proofs.ArmConditional.{Way, IsDone, conditional, agrees, neither}
 use Rattle.bilv_spec.proofs.ArmRanges.{below_if, mod_word, put_below, reg_small, load_1, load_2, load_4, load_by_small, store_by_small, store_by_keeps, untouched, outside, base_small, load_all_small, store_all_small, store_all_keeps, moved_small}
 use Rattle.bilv_spec.specs.Words.{add, aligned, bits}
 use Rattle.bilv_spec.specs.Memory.{Endian, Memory, load, store}
-use Rattle.bilv_spec.specs.State.{State, IsState, put}
-use Rattle.bilv_spec.specs.Machine.{Outcome, Goes, Raises, SoftwareInterrupt, Successors, only_next, addresses}
-use Rattle.bilv_spec.specs.Arm.{on, reg, stored_reg, has_bit, is_always, when_stored, write_by, may_write_pc, none, flag_set, by_number, load_by, store_by, access_of, is_byte, is_load, bit_i, kind_of, amount_of, field_n, field_d, field_m, swapped, swap, base_written, transfer_offset, transfer_address, address, is_pre, moved, loaded_by, transferred, single_transfer, literal_address, halfword_offset, halfword_address, halfword_value, halfword_size, halfword_by, halfword_done, halfword, listed, listed_from, block_start, block_base, store_all, block_loaded, block_done, block, bit_w, branch_target, branched, branch, is_linked, software_interrupt}
+use Rattle.bilv_spec.specs.State.{State, IsState, put, with_pc}
+use Rattle.bilv_spec.specs.Machine.{Indirect, Outcome, Goes, Raises, SoftwareInterrupt, Successors, only_next, addresses}
+use Rattle.bilv_spec.specs.Arm.{on, reg, stored_reg, has_bit, is_always, when_stored, write_by, may_write_pc, none, flag_set, by_number, load_by, store_by, access_of, is_byte, is_load, bit_i, kind_of, amount_of, field_n, field_d, field_m, swapped, swap, base_written, transfer_offset, transfer_address, address, is_pre, moved, loaded_by, transferred, single_transfer, literal_address, halfword_offset, halfword_address, halfword_value, halfword_size, halfword_by, halfword_done, halfword, listed, listed_from, block_start, block_base, store_all, block_loaded, block_done, block, bit_w, branch_target, branched, branch, is_linked, software_interrupt, exchange, counted, count}
 use Rattle.bilv_spec.specs.MachineLaws.{IsLawful, IsPriced, IfGoes, IfRaises, with_flag, OutcomesAgreeBut}
 
 -- one outcome that stores the bytes, goes to the successors, and leaves the flags
@@ -63,6 +65,34 @@ software_interrupt_lawful w =
     (record { least = omega arith; most = omega arith; loads = omega arith; stores = omega arith })
     (fine_done w _ _ _ none false (λ s c is. record { kept = tt; raised = refl; ways = tt; states = tt }) (λ at h. rw h refl) (λ at h. refl) (λ s c. tt)
     (λ s c f v h. refl) (λ h s c d. refl) (λ b s f v h. refl))
+
+-- BX
+pub exchange_lawful : (w : ℕ) → IsLawful (exchange w)
+exchange_lawful w =
+    conditional w (λ s c. Goes Indirect (with_pc s (reg s (field_m w)))) (λ b s. None) (may_write_pc w true) (λ at. None)
+    (record { row = 4096; loads = 0; stores = 0 }) none none none false
+    (record { least = omega arith; most = omega arith; loads = omega arith; stores = omega arith })
+    (fine_done w _ _ _ none false (λ s c is. record {
+      kept = λ a lt out. refl;
+      raised = tt;
+      ways = (refl, refl);
+      states = record { pc = reg_small s (field_m w) is; regs = is.regs; flags = is.flags; mem = is.mem };
+    }) (skips_pc w true) (λ at h. refl) (λ s c. refl) (λ s c f v h. (refl, agrees _ _ f v refl refl refl refl)) (λ h s c d. refl) (λ b s f v h. refl))
+
+-- CLZ
+zeros_small : (v : ℕ) → count_leading_zeros 32 v < 2 ^ 32
+zeros_small v = let p = leading_le 32 v in omega (arith, p)
+
+pub count_lawful : (w : ℕ) → IsLawful (count w)
+count_lawful w =
+    conditional w (λ s c. counted w s) (λ b s. None) only_next (λ at. None) (record { row = 4096; loads = 0; stores = 0 }) none none none false
+    (record { least = omega arith; most = omega arith; loads = omega arith; stores = omega arith })
+    (fine_done w _ _ _ none false (λ s c is. record {
+      kept = λ a lt out. refl;
+      raised = tt;
+      ways = (refl, refl);
+      states = record { pc = mod_word _; regs = put_below s.regs (field_d w) _ (2 ^ 32) is.regs (zeros_small _); flags = is.flags; mem = is.mem };
+    }) (λ at h. refl) (λ at h. refl) (λ s c. refl) (λ s c f v h. (refl, agrees _ _ f v refl refl refl refl)) (λ h s c d. refl) (λ b s f v h. refl))
 
 -- B and BL
 branched_fine : (l : Bool) (w : ℕ) (s : State) → IsState s →

@@ -1,14 +1,14 @@
 -- The rows of ARM that set flags are lawful: multiplies.
 use Rattle.std.proofs.Common.{◌≡◌, ℕ, zero, suc, ◌/◌, ◌%◌, ◌^◌, ◌<◌, refl, sym, ◌∙◌, true, false, Bool, arith, None}
-use Rattle.std.specs.Prelude.{◌==◌, ◌&&◌, ◌||◌, if◌then◌else◌}
+use Rattle.std.specs.Prelude.{◌==◌, ◌&&◌, ◌||◌, not, if◌then◌else◌}
 use Rattle.std.proofs.lemmas.Bool.{ne_eqb, eqb-true}
 use Rattle.bilv_spec.proofs.WordBounds.{bit_below}
 use Rattle.bilv_spec.proofs.ArmConditional.{conditional}
 use Rattle.bilv_spec.proofs.ArmRanges.{mod_word, put_below, with_flags_small}
 use Rattle.bilv_spec.specs.Words.{bit_at}
-use Rattle.bilv_spec.specs.State.{put}
+use Rattle.bilv_spec.specs.State.{State, put}
 use Rattle.bilv_spec.specs.Machine.{only_next}
-use Rattle.bilv_spec.specs.Arm.{with_flags, sets_flags, flag_set, none, multiplied, multiply, multiplied_long, multiply_long, field_n, field_d}
+use Rattle.bilv_spec.specs.Arm.{with_flags, sets_flags, by_choice, flag_set, none, multiplied, multiply, multiplied_long, multiply_long, field_n, field_d}
 use Rattle.bilv_spec.specs.MachineLaws.{IsLawful}
 
 pub bit_at_small : (i v : ℕ) → bit_at i v < 2
@@ -69,28 +69,48 @@ flags_agree true g f x n z c v m y d u hn hz hc hv k other =
     (put_agree (put g 3 n) (put h 3 m) 2 z y k (λ e. hz (λ t. other (e ∙ t)))
     (put_agree g h 3 n m k (λ e. hn (λ t. other (e ∙ t))) (kept_flag g f x k other))))
 
+-- a flag that is kept, or is the choice's bit
+kept_or_small : (keeps : Bool) (a d : ℕ) → a < 2 → d < 2 → (if keeps then a else d) < 2
+kept_or_small true a d p q = p
+kept_or_small false a d p q = q
+
+kept_or_same : (keeps : Bool) (g : ℕ → ℕ) (f x at d : ℕ) → (at ≡ f → ⊥) → (if keeps then g at else d) ≡ (if keeps then put g f x at else d)
+kept_or_same true g f x at d other = kept_flag g f x at other
+kept_or_same false g f x at d other = refl
+
 -- MUL and MLA
-mul_unassigned : (sets : Bool) (g : ℕ → ℕ) (n z c f : ℕ) → f < 4 → flag_set sets sets false f ≡ false → flags_if sets g n z c (g 0) f ≡ g f
-mul_unassigned false g n z c f lt h = refl
-mul_unassigned true g n z c zero lt h = refl
-mul_unassigned true g n z c (suc zero) lt h = cc
-mul_unassigned true g n z c (suc (suc zero)) lt h = cc
-mul_unassigned true g n z c (suc (suc (suc zero))) lt h = cc
-mul_unassigned true g n z c (suc (suc (suc (suc f)))) lt h = absurd (omega arith)
+mul_unassigned : (keeps sets : Bool) (g : ℕ → ℕ) (n z c f : ℕ) → f < 4 → flag_set sets (not keeps && sets) false f ≡ false →
+    flags_if sets g n z (if keeps then g 1 else c) (g 0) f ≡ g f
+mul_unassigned keeps false g n z c f lt h = refl
+mul_unassigned keeps true g n z c zero lt h = refl
+mul_unassigned true true g n z c (suc zero) lt h = refl
+mul_unassigned false true g n z c (suc zero) lt h = cc
+mul_unassigned keeps true g n z c (suc (suc zero)) lt h = cc
+mul_unassigned keeps true g n z c (suc (suc (suc zero))) lt h = cc
+mul_unassigned keeps true g n z c (suc (suc (suc (suc f)))) lt h = absurd (omega arith)
 
-mul_sure : (sets : Bool) (g h : ℕ → ℕ) (n z c v u f : ℕ) → f < 4 → flag_set sets sets false f ≡ true → flags_if sets g n z c v f ≡ flags_if sets h n z c u f
-mul_sure false g h n z c v u zero lt e = cc
-mul_sure false g h n z c v u (suc f) lt e = cc
-mul_sure true g h n z c v u zero lt e = cc
-mul_sure true g h n z c v u (suc zero) lt e = refl
-mul_sure true g h n z c v u (suc (suc zero)) lt e = refl
-mul_sure true g h n z c v u (suc (suc (suc zero))) lt e = refl
-mul_sure true g h n z c v u (suc (suc (suc (suc f)))) lt e = absurd (omega arith)
+mul_sure : (keeps sets : Bool) (g h : ℕ → ℕ) (n z c v u f : ℕ) → f < 4 → flag_set sets (not keeps && sets) false f ≡ true →
+    flags_if sets g n z (if keeps then g 1 else c) v f ≡ flags_if sets h n z (if keeps then h 1 else c) u f
+mul_sure true false g h n z c v u zero lt e = cc
+mul_sure true false g h n z c v u (suc f) lt e = cc
+mul_sure false false g h n z c v u zero lt e = cc
+mul_sure false false g h n z c v u (suc f) lt e = cc
+mul_sure true true g h n z c v u zero lt e = cc
+mul_sure false true g h n z c v u zero lt e = cc
+mul_sure true true g h n z c v u (suc zero) lt e = cc
+mul_sure false true g h n z c v u (suc zero) lt e = refl
+mul_sure keeps true g h n z c v u (suc (suc zero)) lt e = refl
+mul_sure keeps true g h n z c v u (suc (suc (suc zero))) lt e = refl
+mul_sure keeps true g h n z c v u (suc (suc (suc (suc f)))) lt e = absurd (omega arith)
 
-pub multiply_lawful : (w : ℕ) → IsLawful (multiply w)
-multiply_lawful w =
-    conditional w (multiplied w) (λ b s. None) only_next (λ at. None) (record { row = 20000; loads = 0; stores = 0 })
-    none (flag_set (sets_flags w) (sets_flags w) false) (flag_set (sets_flags w) (sets_flags w) false) (sets_flags w)
+multiplied_draws : (keeps : Bool) (w : ℕ) → by_choice keeps w ≡ false → (s : State) (c d : ℕ) → multiplied keeps w s c ≡ multiplied keeps w s d
+multiplied_draws true w h s c d = refl
+multiplied_draws false w h s c d = let k : sets_flags w ≡ false = h in rw k refl
+
+pub multiply_lawful : (keeps : Bool) (w : ℕ) → IsLawful (multiply keeps w)
+multiply_lawful keeps w =
+    conditional w (multiplied keeps w) (λ b s. None) only_next (λ at. None) (record { row = 20000; loads = 0; stores = 0 })
+    none (flag_set (sets_flags w) (by_choice keeps w) false) (flag_set (sets_flags w) (by_choice keeps w) false) (by_choice keeps w)
     (record { least = omega arith; most = omega arith; loads = omega arith; stores = omega arith }) (record {
       kept = λ s c is a lt out. refl;
       raised = λ s c is. tt;
@@ -100,10 +120,11 @@ multiply_lawful w =
       states = λ s c is. record {
         pc = mod_word _;
         regs = put_below s.regs (field_n w) _ (2 ^ 32) is.regs (mod_word _);
-        flags = flags_if_small (sets_flags w) s.flags _ _ _ (s.flags 0) is.flags (bit_at_small 31 _) (bit_below _) (bit_at_small 0 c) (is.flags 0);
+        flags = flags_if_small (sets_flags w) s.flags _ _ _ (s.flags 0) is.flags (bit_at_small 31 _) (bit_below _)
+            (kept_or_small keeps _ _ (is.flags 1) (bit_at_small 0 c)) (is.flags 0);
         mem = is.mem;
       };
-      unassigned = λ s c f lt h. mul_unassigned (sets_flags w) s.flags _ _ (bit_at 0 c) f lt h;
+      unassigned = λ s c f lt h. mul_unassigned keeps (sets_flags w) s.flags _ _ (bit_at 0 c) f lt h;
       unread = λ s c f v lt h. (
         refl,
         record {
@@ -111,41 +132,53 @@ multiply_lawful w =
           regs = refl;
           mem = refl;
           flags = flags_agree (sets_flags w) s.flags f v _ _ _ (s.flags 0) _ _ _ (put s.flags f v 0) (λ e. refl) (λ e. refl)
-              (λ e. refl) (kept_flag s.flags f v 0);
+              (kept_or_same keeps s.flags f v 1 (bit_at 0 c)) (kept_flag s.flags f v 0);
         },
       );
-      sure = λ s c f v lt h surely. mul_sure (sets_flags w) s.flags (put s.flags f v) _ _ (bit_at 0 c) (s.flags 0) (put s.flags f v 0) f lt surely;
-      sure_flags = λ f surely. set_low (sets_flags w) (sets_flags w) false f surely;
-      draws = λ h s c d. rw h refl;
+      sure = λ s c f v lt h surely. mul_sure keeps (sets_flags w) s.flags (put s.flags f v) _ _ (bit_at 0 c) (s.flags 0) (put s.flags f v 0) f lt surely;
+      sure_flags = λ f surely. set_low (sets_flags w) (by_choice keeps w) false f surely;
+      draws = multiplied_draws keeps w;
       plain = λ f h b s. refl;
       stored_unread = λ b s f v h. refl;
     })
 
 -- UMULL to SMLAL
-long_unassigned : (sets : Bool) (g : ℕ → ℕ) (n z c v f : ℕ) → f < 4 → flag_set sets sets sets f ≡ false → flags_if sets g n z c v f ≡ g f
-long_unassigned false g n z c v f lt h = refl
-long_unassigned true g n z c v zero lt h = cc
-long_unassigned true g n z c v (suc zero) lt h = cc
-long_unassigned true g n z c v (suc (suc zero)) lt h = cc
-long_unassigned true g n z c v (suc (suc (suc zero))) lt h = cc
-long_unassigned true g n z c v (suc (suc (suc (suc f)))) lt h = absurd (omega arith)
+long_unassigned : (keeps sets : Bool) (g : ℕ → ℕ) (n z c v f : ℕ) → f < 4 → flag_set sets (not keeps && sets) (not keeps && sets) f ≡ false →
+    flags_if sets g n z (if keeps then g 1 else c) (if keeps then g 0 else v) f ≡ g f
+long_unassigned keeps false g n z c v f lt h = refl
+long_unassigned true true g n z c v zero lt h = refl
+long_unassigned false true g n z c v zero lt h = cc
+long_unassigned true true g n z c v (suc zero) lt h = refl
+long_unassigned false true g n z c v (suc zero) lt h = cc
+long_unassigned keeps true g n z c v (suc (suc zero)) lt h = cc
+long_unassigned keeps true g n z c v (suc (suc (suc zero))) lt h = cc
+long_unassigned keeps true g n z c v (suc (suc (suc (suc f)))) lt h = absurd (omega arith)
 
-long_sure : (sets : Bool) (g h : ℕ → ℕ) (n z c v f : ℕ) → f < 4 → flag_set sets sets sets f ≡ true → flags_if sets g n z c v f ≡ flags_if sets h n z c v f
-long_sure false g h n z c v zero lt e = cc
-long_sure false g h n z c v (suc f) lt e = cc
-long_sure true g h n z c v zero lt e = refl
-long_sure true g h n z c v (suc zero) lt e = refl
-long_sure true g h n z c v (suc (suc zero)) lt e = refl
-long_sure true g h n z c v (suc (suc (suc zero))) lt e = refl
-long_sure true g h n z c v (suc (suc (suc (suc f)))) lt e = absurd (omega arith)
+long_sure : (keeps sets : Bool) (g h : ℕ → ℕ) (n z c v f : ℕ) → f < 4 → flag_set sets (not keeps && sets) (not keeps && sets) f ≡ true →
+    flags_if sets g n z (if keeps then g 1 else c) (if keeps then g 0 else v) f ≡ flags_if sets h n z (if keeps then h 1 else c) (if keeps then h 0 else v) f
+long_sure true false g h n z c v zero lt e = cc
+long_sure true false g h n z c v (suc f) lt e = cc
+long_sure false false g h n z c v zero lt e = cc
+long_sure false false g h n z c v (suc f) lt e = cc
+long_sure true true g h n z c v zero lt e = cc
+long_sure false true g h n z c v zero lt e = refl
+long_sure true true g h n z c v (suc zero) lt e = cc
+long_sure false true g h n z c v (suc zero) lt e = refl
+long_sure keeps true g h n z c v (suc (suc zero)) lt e = refl
+long_sure keeps true g h n z c v (suc (suc (suc zero))) lt e = refl
+long_sure keeps true g h n z c v (suc (suc (suc (suc f)))) lt e = absurd (omega arith)
+
+multiplied_long_draws : (keeps : Bool) (w : ℕ) → by_choice keeps w ≡ false → (s : State) (c d : ℕ) → multiplied_long keeps w s c ≡ multiplied_long keeps w s d
+multiplied_long_draws true w h s c d = refl
+multiplied_long_draws false w h s c d = let k : sets_flags w ≡ false = h in rw k refl
 
 upper_small : (a : ℕ) → a % 2 ^ 64 / 2 ^ 32 < 2 ^ 32
 upper_small a = omega arith
 
-pub multiply_long_lawful : (w : ℕ) → IsLawful (multiply_long w)
-multiply_long_lawful w =
-    conditional w (multiplied_long w) (λ b s. None) only_next (λ at. None) (record { row = 20000; loads = 0; stores = 0 })
-    none (flag_set (sets_flags w) (sets_flags w) (sets_flags w)) (flag_set (sets_flags w) (sets_flags w) (sets_flags w)) (sets_flags w)
+pub multiply_long_lawful : (keeps : Bool) (w : ℕ) → IsLawful (multiply_long keeps w)
+multiply_long_lawful keeps w =
+    conditional w (multiplied_long keeps w) (λ b s. None) only_next (λ at. None) (record { row = 20000; loads = 0; stores = 0 })
+    none (flag_set (sets_flags w) (by_choice keeps w) (by_choice keeps w)) (flag_set (sets_flags w) (by_choice keeps w) (by_choice keeps w)) (by_choice keeps w)
     (record { least = omega arith; most = omega arith; loads = omega arith; stores = omega arith }) (record {
       kept = λ s c is a lt out. refl;
       raised = λ s c is. tt;
@@ -155,22 +188,24 @@ multiply_long_lawful w =
       states = λ s c is. record {
         pc = mod_word _;
         regs = put_below _ (field_n w) _ (2 ^ 32) (put_below s.regs (field_d w) _ (2 ^ 32) is.regs (mod_word _)) (upper_small _);
-        flags = flags_if_small (sets_flags w) s.flags _ _ _ _ is.flags (bit_at_small 63 _) (bit_below _) (bit_at_small 0 c) (bit_at_small 1 c);
+        flags = flags_if_small (sets_flags w) s.flags _ _ _ _ is.flags (bit_at_small 63 _) (bit_below _)
+            (kept_or_small keeps _ _ (is.flags 1) (bit_at_small 0 c)) (kept_or_small keeps _ _ (is.flags 0) (bit_at_small 1 c));
         mem = is.mem;
       };
-      unassigned = λ s c f lt h. long_unassigned (sets_flags w) s.flags _ _ (bit_at 0 c) (bit_at 1 c) f lt h;
+      unassigned = λ s c f lt h. long_unassigned keeps (sets_flags w) s.flags _ _ (bit_at 0 c) (bit_at 1 c) f lt h;
       unread = λ s c f v lt h. (
         refl,
         record {
           pc = refl;
           regs = refl;
           mem = refl;
-          flags = flags_agree (sets_flags w) s.flags f v _ _ _ _ _ _ _ _ (λ e. refl) (λ e. refl) (λ e. refl) (λ e. refl);
+          flags = flags_agree (sets_flags w) s.flags f v _ _ _ _ _ _ _ _ (λ e. refl) (λ e. refl)
+              (kept_or_same keeps s.flags f v 1 (bit_at 0 c)) (kept_or_same keeps s.flags f v 0 (bit_at 1 c));
         },
       );
-      sure = λ s c f v lt h surely. long_sure (sets_flags w) s.flags (put s.flags f v) _ _ (bit_at 0 c) (bit_at 1 c) f lt surely;
-      sure_flags = λ f surely. set_low (sets_flags w) (sets_flags w) (sets_flags w) f surely;
-      draws = λ h s c d. rw h refl;
+      sure = λ s c f v lt h surely. long_sure keeps (sets_flags w) s.flags (put s.flags f v) _ _ (bit_at 0 c) (bit_at 1 c) f lt surely;
+      sure_flags = λ f surely. set_low (sets_flags w) (by_choice keeps w) (by_choice keeps w) f surely;
+      draws = multiplied_long_draws keeps w;
       plain = λ f h b s. refl;
       stored_unread = λ b s f v h. refl;
     })

@@ -1,13 +1,13 @@
--- The machine of ARM is lawful, in both byte orders.
+-- The machine of ARM is lawful, in both byte orders and each profile.
 use Rattle.std.proofs.Common.{◌≡◌, ℕ, refl, ap, subst, true, false, Bool, Some, None, List, [], ◌∷◌}
 use Rattle.std.specs.Prelude.{◌==◌, ◌&&◌, ◌||◌, if◌then◌else◌}
 use Rattle.std.proofs.lemmas.Bool.{eqb-true}
 use Rattle.bilv_spec.proofs.ArmComputing.{computing_lawful}
 use Rattle.bilv_spec.proofs.ArmFlags.{multiply_lawful, multiply_long_lawful}
-use Rattle.bilv_spec.proofs.ArmAccess.{swap_lawful, transfer_lawful, halfword_lawful, block_lawful, branch_lawful, software_interrupt_lawful}
+use Rattle.bilv_spec.proofs.ArmAccess.{swap_lawful, transfer_lawful, halfword_lawful, block_lawful, branch_lawful, software_interrupt_lawful, exchange_lawful, count_lawful}
 use Rattle.bilv_spec.specs.Memory.{Endian}
 use Rattle.bilv_spec.specs.Machine.{Row}
-use Rattle.bilv_spec.specs.Arm.{Instruction, table, row_in, arm_row, condition_code, is_halfword, is_load, kind_of, halfword_size}
+use Rattle.bilv_spec.specs.Arm.{Profile, Instruction, table, is_fifth, row_in, arm_row, condition_code, is_halfword, is_load, kind_of, halfword_size}
 use Rattle.bilv_spec.specs.MachineLaws.{IsLawful}
 use Rattle.bilv_spec.specs.ArmMachineLaws.{ArmIsLawful}
 
@@ -30,19 +30,25 @@ stored_size w h l =
     let k : (kind_of w == 1) ≡ true = subst (λ (b : Bool). (b || (kind_of w == 1)) ≡ true) l o in
     let e = eqb-true (kind_of w) 1 k in ap (λ z. if z == 2 then 1 else 2) e
 
-table_lawful : (e : Endian) → AreLawful (table e)
+table_lawful : (e : Endian) (profile : Profile) → AreLawful (table e profile)
 unfolding table
-table_lawful e = (
+table_lawful e profile = (
   λ w h. computing_lawful w,
   (
-    λ w h. multiply_lawful w,
+    λ w h. multiply_lawful (is_fifth profile) w,
     (
-      λ w h. multiply_long_lawful w,
+      λ w h. multiply_long_lawful (is_fifth profile) w,
       (
         λ w h. swap_lawful e w,
         (
           λ w h. transfer_lawful e w,
-          (λ w h. halfword_lawful e w (stored_size w h), (λ w h. block_lawful e w, (λ w h. branch_lawful w, (λ w h. software_interrupt_lawful w, tt)))),
+          (
+            λ w h. halfword_lawful e w (stored_size w h),
+            (
+              λ w h. block_lawful e w,
+              (λ w h. branch_lawful w, (λ w h. software_interrupt_lawful w, (λ w h. exchange_lawful w, (λ w h. count_lawful w, tt)))),
+            ),
+          ),
         ),
       ),
     ),
@@ -60,13 +66,14 @@ lawful_in (x ∷ rest) h w row e = by_first (x.is w) refl e (lawful_in rest h.1 
         same e = cc
     by_first false t e other = other e
 
-by_condition : (e : Endian) (w : ℕ) (row : Row) (never : Bool) → (if never then None else row_in (table e) w) ≡ Some row → IsLawful row
-by_condition e w row true h = cc
-by_condition e w row false h = lawful_in (table e) (table_lawful e) w row h
+by_condition : (e : Endian) (profile : Profile) (w : ℕ) (row : Row) (never : Bool) →
+    (if never then None else row_in (table e profile) w) ≡ Some row → IsLawful row
+by_condition e profile w row true h = cc
+by_condition e profile w row false h = lawful_in (table e profile) (table_lawful e profile) w row h
 
-row_lawful : (e : Endian) (w : ℕ) (row : Row) → arm_row e w ≡ Some row → IsLawful row
+row_lawful : (e : Endian) (profile : Profile) (w : ℕ) (row : Row) → arm_row e profile w ≡ Some row → IsLawful row
 unfolding arm_row
-row_lawful e w row h = by_condition e w row (condition_code w == 15) h
+row_lawful e profile w row h = by_condition e profile w row (condition_code w == 15) h
 
 pub arm_is_lawful : ArmIsLawful
-arm_is_lawful e = record { rows = λ w row small h. row_lawful e w row h }
+arm_is_lawful e profile = record { rows = λ w row small h. row_lawful e profile w row h }

@@ -8,7 +8,7 @@ use Rattle.bilv_spec.specs.Refutation.{LogLine, Add, Delete, Bad, ById, Cause, r
 use Rattle.bilv_spec.specs.Texts.{lines}
 use Rattle.bilv_spec.specs.Memory.{Big}
 use Rattle.bilv_spec.specs.Rv.{rv32}
-use Rattle.bilv_spec.specs.Arm.{arm}
+use Rattle.bilv_spec.specs.Arm.{arm, V4}
 use Rattle.bilv_spec.specs.Run.{Program}
 use Rattle.bilv_spec.specs.Evidence.{OfRegister, AreInputs}
 use Rattle.bilv_spec.specs.Certificates.{certificate_text, check_text}
@@ -232,10 +232,10 @@ proof_missing = refl
 has_rv : map rv32.has_register (0 ∷ 1 ∷ 31 ∷ 32 ∷ []) ≡ false ∷ true ∷ true ∷ false ∷ []
 has_rv = refl
 
-has_arm : map (arm Big).has_register (0 ∷ 14 ∷ 15 ∷ []) ≡ true ∷ true ∷ false ∷ []
+has_arm : map (arm Big V4).has_register (0 ∷ 14 ∷ 15 ∷ []) ≡ true ∷ true ∷ false ∷ []
 has_arm = refl
 
-has_flags : map (arm Big).has_flag (0 ∷ 3 ∷ 4 ∷ []) ≡ true ∷ true ∷ false ∷ []
+has_flags : map (arm Big V4).has_flag (0 ∷ 3 ∷ 4 ∷ []) ≡ true ∷ true ∷ false ∷ []
 has_flags = refl
 
 -- a question's list of inputs is not empty

@@ -5,7 +5,7 @@ use Rattle.bilv_spec.specs.Memory.{Little, Big, memory_of, byte_in}
 use Rattle.bilv_spec.specs.Machine.{Machine}
 use Rattle.bilv_spec.specs.RowFiles.{rv_file, arm_file, arm_big_file, bytes_of}
 use Rattle.std.specs.List.{flat_map}
-use Rattle.bilv_spec.specs.Arm.{arm, arm_row}
+use Rattle.bilv_spec.specs.Arm.{arm, arm_row, V4}
 use Rattle.bilv_spec.specs.Arm as arm_rows
 use Rattle.bilv_spec.specs.Elf.{loaded, Cell}
 use Rattle.bilv_spec.specs.Points.{byte_of_cell}
@@ -193,10 +193,10 @@ file_is : file_1 ≡
 file_is = refl
 
 abbrev le : Machine
-le = arm Little
+le = arm Little V4
 
 abbrev be : Machine
-be = arm Big
+be = arm Big V4
 
 -- movs r0,r0,lsr #32: the carry is bit 31
 abbrev file_12 : List ℕ

@@ -28,7 +28,7 @@ rv_is_fitted = record {
 }
 
 pub arm_is_fitted : ArmIsFitted
-arm_is_fitted e = record {
+arm_is_fitted e profile = record {
   registers = from_zero;
   enough_registers = omega arith;
   few_registers = omega arith;

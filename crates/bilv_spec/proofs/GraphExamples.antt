@@ -5,13 +5,13 @@ use Rattle.bilv_spec.specs.GraphText.{graph_line}
 use Rattle.bilv_spec.specs.Memory.{Little}
 use Rattle.bilv_spec.specs.Machine.{Machine}
 use Rattle.bilv_spec.specs.RowFiles.{rv_file, arm_file}
-use Rattle.bilv_spec.specs.Arm.{arm, arm_row}
+use Rattle.bilv_spec.specs.Arm.{arm, arm_row, V4}
 use Rattle.bilv_spec.specs.Arm as arm_rows
 use Rattle.bilv_spec.specs.Elf.{loaded}
 use Rattle.bilv_spec.specs.Rv.{rv32, table, rv_row}
-use Rattle.bilv_spec.specs.Notes.{NoteLine, Targets, At, Number, Register, Memory, Old, Binary, Equal, Plus, BitAnd}
+use Rattle.bilv_spec.specs.Notes.{Expr, NoteLine, Targets, At, Number, Register, Bound, Memory, Old, Binary, Equal, Plus, BitAnd, Times, written_out}
 use Rattle.bilv_spec.specs.Run.{Program, in_memory}
-use Rattle.bilv_spec.specs.Points.{price_of, Point, ToAddress, ToExit, edges, ArePoints, HasMore}
+use Rattle.bilv_spec.specs.Points.{price_of, line_price, Point, ToAddress, ToExit, edges, ArePoints, HasMore}
 use Rattle.bilv_spec.proofs.PointTests.{points_by_test}
 use Rattle.bilv_spec.proofs.AllPoints.{no_more_points}
 
@@ -45,7 +45,7 @@ branches = 0x00000263 ∷ 0x00008067 ∷ []
 
 -- movs r0,r0,lsr #32; mov pc,lr
 abbrev moves : Program
-moves = program (arm Little) (arm_file (0xe1b00020 ∷ 0xe1a0f00e ∷ [])) [] [] []
+moves = program (arm Little V4) (arm_file (0xe1b00020 ∷ 0xe1a0f00e ∷ [])) [] [] []
 
 abbrev point : List ℕ → ℕ → Point
 point stack at = record { turns = 0; stack = stack; at = at }
@@ -68,6 +68,25 @@ require_price : price_of (rv adds a0_is_3 (record { line = 3; says = Register 10
 unfolding table rv_row
 require_price = refl
 
+-- all i 0 3 (mem8[0x8000 + i] = 0): eight operators, four loads and four values
+abbrev four_zeros : Expr
+four_zeros = written_out 0 3 (Binary Equal (Memory 1 (Binary Plus (Number 0x8000) Bound)) (Number 0))
+
+-- ret, where a line requires that, and one ensures mem32[0x8000] = 0
+all_price : price_of (rv (0x00008067 ∷ []) (record { line = 3; says = four_zeros } ∷ [])
+    (record { line = 4; says = Binary Equal (Memory 4 (Number 0x8000)) (Number 0) } ∷ []) []) (point [] 0x10000 ∷ []) 4 1
+    ≡ 14208
+unfolding table rv_row
+all_price = refl
+
+-- all i 0 3 (i): the line has no operator, and four values
+plain_all_price : line_price (written_out 0 3 Bound) ≡ 512 + 4 * 512
+plain_all_price = refl
+
+-- all i 0 3 (i * i = i): four products, four other operators and four values
+squares_price : line_price (written_out 0 3 (Binary Equal (Binary Times Bound Bound) Bound)) ≡ 4 * 8192 + 4 * 512 + 4 * 512
+squares_price = refl
+
 -- a point without a row
 stop_price : price_of (rv (0 ∷ []) [] [] []) (point [] 0x10000 ∷ []) 4 1 ≡ 1024 + 64
 unfolding table rv_row
@@ -89,7 +108,7 @@ unfolding table rv_row
 loads_price = refl
 
 -- ldr r0,[pc,#-8]; mov pc,lr: a literal that is kept is no load
-literal_price : price_of (program (arm Little) (arm_file (0xe51f0008 ∷ 0xe1a0f00e ∷ [])) [] [] []) (point [] 0x10000 ∷ point [] 0x10004 ∷ []) 8 1
+literal_price : price_of (program (arm Little V4) (arm_file (0xe51f0008 ∷ 0xe1a0f00e ∷ [])) [] [] []) (point [] 0x10000 ∷ point [] 0x10004 ∷ []) 8 1
     ≡ 1024 + 2 * 4096 + 2 * 1280
 unfolding arm_row arm_rows.table
 literal_price = refl

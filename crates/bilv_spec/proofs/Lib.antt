@@ -70,6 +70,10 @@ pub mod NotesRefused
 pub mod NotesDecided
 pub mod NotesOutcome
 pub mod NotesWords
+pub mod Alls
+pub mod Modes
+pub mod Upgrading
+pub mod LaterRuns
 pub mod RvTable
 pub mod ArmTable
 pub mod ProgramRows

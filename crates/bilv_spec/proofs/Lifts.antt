@@ -12,7 +12,7 @@ use Rattle.bilv_spec.specs.BilStores.{list_stored}
 use Rattle.bilv_spec.specs.BilCounts.{reads_within, other_loads, memory_choices}
 use Rattle.bilv_spec.specs.Simulation.{Simulates, Locals, position, of_list, of_row}
 use Rattle.bilv_spec.specs.BilMeaning.{execute}
-use Rattle.bilv_spec.specs.Arm.{computing, arm}
+use Rattle.bilv_spec.specs.Arm.{computing, arm, V4}
 
 abbrev x : ℕ → BilVariable
 x r = Register XRegisters r
@@ -148,7 +148,7 @@ moveq_reads (suc (suc zero)) small = refl
 moveq_reads (suc (suc (suc zero))) small = refl
 moveq_reads (suc (suc (suc (suc f)))) small = absurd (omega arith)
 
-moveq_lifting : (at : ℕ) → IsLifting (arm Little) RRegisters (computing 0x01a00001) at moveq
+moveq_lifting : (at : ℕ) → IsLifting (arm Little V4) RRegisters (computing 0x01a00001) at moveq
 moveq_lifting at = record {
   simulates = moveq_simulates at;
   stored = λ s is e choice turns small l a. nothing _ a (moveq_stored s choice turns l (s.flags 2) refl (is.flags 2));

@@ -1,10 +1,11 @@
 -- Whether a line says something can be decided.
-use Rattle.std.proofs.Common.{◌≡◌, ℕ, suc, ◌<◌, refl, ap, sym, ◌∙◌, subst, arith, List, [], ◌∷◌, Option, Bool, true, false, ◌⊎◌, inl, inr, codes, length, map}
-use Rattle.bilv_spec.specs.Notes.{Expr, At, Named}
-use Rattle.bilv_spec.specs.NotesGrammar.{Token, NumberToken, NameToken, SignToken, BadByte, BadText, Says, Nothing, EntryIs, RequireIs, EnsureIs, AssertIs, TargetsAre, FixedIs, IsSaid}
-use Rattle.bilv_spec.specs.NotesLaws.{KeepsReserved}
-use Rattle.bilv_spec.proofs.Decided.{Decided, through, both, either, same_text, same_number, is_less}
+use Rattle.std.proofs.Common.{◌≡◌, ℕ, suc, ◌<◌, refl, ap, sym, ◌∙◌, subst, arith, List, [], ◌∷◌, Option, Some, None, Bool, true, false, ◌⊎◌, inl, inr, codes, length}
+use Rattle.bilv_spec.specs.Notes.{At, Named}
+use Rattle.bilv_spec.specs.NotesGrammar.{Token, NumberToken, NameToken, SignToken, BadByte, BadText, Says, Nothing, EntryIs, RequireIs, EnsureIs, AssertIs, TargetsAre, FixedIs, VersionIs, ConstIs, LoadedIs, IsSaid, IsNumber, AreNumbers, number_at, is_two}
+use Rattle.bilv_spec.specs.Scopes.{Scope}
+use Rattle.bilv_spec.proofs.Decided.{Decided, through, both, either, same_text, same_number, is_less, none_some}
 use Rattle.bilv_spec.proofs.ParserEnds.{Parsed, is_parsed}
+use Rattle.bilv_spec.proofs.NotesSaid.{one_number}
 
 -- two tokens are one
 pub same_tokens : (t u : Token) → Decided (t ≡ u)
@@ -30,15 +31,36 @@ begins t Q [] d = inr (λ b. let x = b.1 in let y : ⊥ = cc in y)
 begins t Q (u ∷ us) d = by_head t Q u us (d us (omega arith)) (same_tokens u t)
 
 -- a number first, and something of the rest
-abbrev Numbered : (ℕ → List Token → Type 0) → List Token → Type 0
-Numbered Q ts = (n : ℕ) × (rest : List Token) × (ts ≡ NumberToken n ∷ rest) × Q n rest
+abbrev Numbered : Scope → (ℕ → List Token → Type 0) → List Token → Type 0
+Numbered s Q ts = (t : Token) × (n : ℕ) × (rest : List Token) × (ts ≡ t ∷ rest) × IsNumber s t n × Q n rest
 
-numbered : (Q : ℕ → List Token → Type 0) (ts : List Token) → ((n : ℕ) (rest : List Token) → Decided (Q n rest)) → Decided (Numbered Q ts)
-numbered Q [] d = inr (λ b. let x = b.2 in let y : ⊥ = cc in y)
-numbered Q (NumberToken n ∷ ts) d =
-    through (λ q. (n, ts, refl, q)) (λ b. let x = b.2 in let m_is : b.0 ≡ n = cc in let us_is : b.1
-    ≡ ts = cc in subst (λ us. Q n us) us_is (subst (λ m. Q m b.1) m_is b.3)) (d n ts)
-numbered Q (t ∷ ts) d = inr (λ b. let x = b.2 in let y : ⊥ = cc in y)
+is_some : (o : Option ℕ) → ((n : ℕ) × (o ≡ Some n)) ⊎ (o ≡ None)
+is_some (Some n) = inl (n, refl)
+is_some None = inr refl
+
+-- a token is a number, or it is none
+is_number : (s : Scope) (t : Token) → ((n : ℕ) × IsNumber s t n) ⊎ (number_at s t ≡ None)
+is_number s t = is_some (number_at s t)
+
+other_number : (s : Scope) (t u : Token) (n : ℕ) → number_at s t ≡ None → u ≡ t → number_at s u ≡ Some n → ⊥
+other_number s t u n nothing is some = none_some ℕ n (sym nothing ∙ ap (number_at s) (sym is) ∙ some)
+
+first_number : (s : Scope) (Q : ℕ → List Token → Type 0) (t : Token) (ts : List Token) → ((n : ℕ) (rest : List Token) → Decided (Q n rest)) →
+    ((n : ℕ) × IsNumber s t n) ⊎ (number_at s t ≡ None) → Decided (Numbered s Q (t ∷ ts))
+first_number s Q t ts d (inl m) =
+    through (λ q. (t, m.0, ts, refl, m.1, q)) (λ b. again b.0 b.1 b.2 b.3 b.4 b.5) (d m.0 ts) where
+      again : (u : Token) (n : ℕ) (us : List Token) → t ∷ ts ≡ u ∷ us → IsNumber s u n → Q n us → Q m.0 ts
+      again u n us is number q =
+          let first : u ≡ t = cc in
+          let rest : us ≡ ts = cc in
+          subst (λ us. Q m.0 us) rest (subst (λ k. Q k us) (one_number s u t n m.0 first number m.1) q)
+first_number s Q t ts d (inr nothing) = inr (λ b. none b.0 b.1 b.2 b.3 b.4) where
+  none : (u : Token) (n : ℕ) (us : List Token) → t ∷ ts ≡ u ∷ us → IsNumber s u n → ⊥
+  none u n us is number = let first : u ≡ t = cc in other_number s t u n nothing first number
+
+numbered : (s : Scope) (Q : ℕ → List Token → Type 0) (ts : List Token) → ((n : ℕ) (rest : List Token) → Decided (Q n rest)) → Decided (Numbered s Q ts)
+numbered s Q [] d = inr (λ b. let x = b.3 in let y : ⊥ = cc in y)
+numbered s Q (t ∷ ts) d = first_number s Q t ts d (is_number s t)
 
 is_end : (ts : List Token) → Decided (ts ≡ [])
 is_end [] = inl refl
@@ -49,98 +71,112 @@ is_name [] = inr (λ b. let x = b.1 in let y : ⊥ = cc in y)
 is_name (NameToken w ∷ []) = inl (w, refl)
 is_name (t ∷ ts) = inr (λ b. let x = b.1 in let y : ⊥ = cc in y)
 
--- a token is no number
-abbrev no_number : Token → Bool
-no_number (NumberToken n) = false
-no_number t = true
+is_const : (ts : List Token) → Decided ((w : List ℕ) × (v : ℕ) × (ts ≡ NameToken w ∷ NumberToken v ∷ []))
+is_const [] = inr (λ b. let x = b.2 in let y : ⊥ = cc in y)
+is_const (NameToken w ∷ NumberToken v ∷ []) = inl (w, v, refl)
+is_const (t ∷ ts) = inr (λ b. let x = b.2 in let y : ⊥ = cc in y)
 
-other_first : (t : Token) (ts : List Token) (ns : List ℕ) → no_number t ≡ true → t ∷ ts ≡ map (λ n. NumberToken n) ns → ⊥
-other_first t ts [] is e = cc
-other_first t ts (n ∷ ns) is e = let a : t ≡ NumberToken n = cc in let b : false ≡ true = sym (ap no_number a) ∙ is in cc
+list_after : (s : Scope) (t : Token) (ts : List Token) → ((n : ℕ) × IsNumber s t n) ⊎ (number_at s t ≡ None) →
+    Decided ((ns : List ℕ) × AreNumbers s ts ns) → Decided ((ns : List ℕ) × AreNumbers s (t ∷ ts) ns)
+list_after s t ts (inl m) d = through (λ r. (m.0 ∷ r.0, (m.1, r.1))) (λ r. rest r.0 r.1) d where
+  rest : (ns : List ℕ) → AreNumbers s (t ∷ ts) ns → (ms : List ℕ) × AreNumbers s ts ms
+  rest [] h = absurd h
+  rest (n ∷ ns) h = (ns, h.1)
+list_after s t ts (inr nothing) d = inr (λ r. none r.0 r.1) where
+  none : (ns : List ℕ) → AreNumbers s (t ∷ ts) ns → ⊥
+  none [] h = h
+  none (n ∷ ns) h = other_number s t t n nothing refl h.0
 
-rest_are : (n : ℕ) (ts : List Token) (ns : List ℕ) → NumberToken n ∷ ts ≡ map (λ n. NumberToken n) ns → (ms : List ℕ) × (ts ≡ map (λ n. NumberToken n) ms)
-rest_are n ts [] e = absurd (let b : ⊥ = cc in b)
-rest_are n ts (m ∷ ns) e = (ns, let r : ts ≡ map (λ n. NumberToken n) ns = cc in r)
+are_numbers : (s : Scope) (ts : List Token) → Decided ((ns : List ℕ) × AreNumbers s ts ns)
+are_numbers s [] = inl ([], tt)
+are_numbers s (t ∷ ts) = list_after s t ts (is_number s t) (are_numbers s ts)
 
-are_numbers : (ts : List Token) → Decided ((ns : List ℕ) × (ts ≡ map (λ n. NumberToken n) ns))
-are_numbers [] = inl ([], refl)
-are_numbers (NumberToken n ∷ ts) =
-    through (λ p. (n ∷ p.0, ap (λ us. NumberToken n ∷ us) p.1)) (λ p. rest_are n ts p.0 p.1) (are_numbers ts)
-are_numbers (t ∷ ts) = inr (λ p. other_first t ts p.0 refl p.1)
+numbers_length : (s : Scope) (ts : List Token) (ns : List ℕ) → AreNumbers s ts ns → length ts ≡ length ns
+numbers_length s [] [] h = refl
+numbers_length s (t ∷ ts) (n ∷ ns) h = ap suc (numbers_length s ts ns h.1)
+numbers_length s [] (n ∷ ns) h = absurd h
+numbers_length s (t ∷ ts) [] h = absurd h
+
+-- numbers, at least one
+abbrev Listed : Scope → List Token → Type 0
+Listed s ts = ((to : List ℕ) × AreNumbers s ts to) × (0 < length ts)
 
 -- the forms of a line
-abbrev Lines : (List ℕ → Option Expr) → List Token → Type 0
-Lines names ts =
-    (ts ≡ []) ⊎ (Begins (NameToken (codes "entry")) (Numbered (λ n us. us ≡ [])) ts ⊎
+abbrev Lines : Scope → List Token → Type 0
+Lines s ts =
+    (ts ≡ []) ⊎ (Begins (NameToken (codes "entry")) (Numbered s (λ n us. us ≡ [])) ts ⊎
     (Begins (NameToken (codes "function")) (λ us. (w : List ℕ) × (us ≡ NameToken w ∷ [])) ts ⊎
-    (Begins (NameToken (codes "require")) (Parsed names) ts ⊎ (Begins (NameToken (codes "ensure")) (Parsed names) ts ⊎
-    (Begins (NameToken (codes "assert")) (Numbered (λ n us. Parsed names us)) ts ⊎
-    (Begins (NameToken (codes "targets")) (Numbered (λ n us. ((to : List ℕ) × (us ≡ map (λ n. NumberToken n) to)) × (0 < length us))) ts ⊎
-    Begins (NameToken (codes "fixed")) (Numbered (λ n us. Numbered (λ m vs. vs ≡ []) us)) ts))))))
-
-map_length : (ns : List ℕ) → length (map (λ n. NumberToken n) ns) ≡ length ns
-map_length [] = refl
-map_length (n ∷ ns) = ap suc (map_length ns)
+    (Begins (NameToken (codes "require")) (Parsed s) ts ⊎ (Begins (NameToken (codes "ensure")) (Parsed s) ts ⊎
+    (Begins (NameToken (codes "assert")) (Numbered s (λ n us. Parsed s us)) ts ⊎
+    (Begins (NameToken (codes "targets")) (Numbered s (λ n us. Listed s us)) ts ⊎
+    (Begins (NameToken (codes "fixed")) (Numbered s (λ n us. Numbered s (λ m vs. vs ≡ []) us)) ts ⊎
+    (Begins (NameToken (codes "notes")) (λ us. Unit {0}) ts ⊎
+    (Begins (NameToken (codes "const")) (λ us. ((w : List ℕ) × (v : ℕ) × (us ≡ NameToken w ∷ NumberToken v ∷ [])) × (s.is_second ≡ true)) ts ⊎
+    Begins (NameToken (codes "loaded")) (λ us. (us ≡ []) × (s.is_second ≡ true)) ts)))))))))
 
 -- tokens say something
-abbrev pub Said : (List ℕ → Option Expr) → List Token → Type 0
-Said names ts = (s : Says) × IsSaid names ts s
+abbrev pub Said : Scope → List Token → Type 0
+Said s ts = (x : Says) × IsSaid s ts x
 
-of_line : (names : List ℕ → Option Expr) (ts : List Token) → Lines names ts → Said names ts
-of_line names ts (inl p) = (Nothing, p)
-of_line names ts (inr (inl p)) = (EntryIs (At p.2.0), p.1 ∙ ap (λ us. NameToken (codes "entry") ∷ us) (p.2.2 ∙ ap (λ us. NumberToken p.2.0 ∷ us) p.2.3))
-of_line names ts (inr (inr (inl p))) = (EntryIs (Named p.2.0), p.1 ∙ ap (λ us. NameToken (codes "function") ∷ us) p.2.1)
-of_line names ts (inr (inr (inr (inl p)))) = (RequireIs p.2.0, (p.0, p.1, p.2.1))
-of_line names ts (inr (inr (inr (inr (inl p))))) = (EnsureIs p.2.0, (p.0, p.1, p.2.1))
-of_line names ts (inr (inr (inr (inr (inr (inl p)))))) = (AssertIs p.2.0 p.2.3.0, (p.2.1, p.1 ∙ ap (λ us. NameToken (codes "assert") ∷ us) p.2.2, p.2.3.1))
-of_line names ts (inr (inr (inr (inr (inr (inr (inl p))))))) =
-    let n : length p.2.1 ≡ length p.2.3.0.0 = ap length p.2.3.0.1 ∙ map_length p.2.3.0.0 in (
-      TargetsAre p.2.0 p.2.3.0.0,
-      (
-        p.1 ∙ ap (λ us. NameToken (codes "targets")
-            ∷ us) (p.2.2 ∙ ap (λ us. NumberToken p.2.0 ∷ us) p.2.3.0.1),
-        omega (arith, n, p.2.3.1),
-      ),
-    )
-of_line names ts (inr (inr (inr (inr (inr (inr (inr p))))))) = (
-  FixedIs p.2.0 p.2.3.0,
-  p.1 ∙ ap (λ us. NameToken (codes "fixed")
-      ∷ us) (p.2.2 ∙ ap (λ us. NumberToken p.2.0 ∷ us) (p.2.3.2 ∙ ap (λ us. NumberToken p.2.3.0 ∷ us) p.2.3.3)),
-)
+-- two tokens and the tokens after them
+whole : (t u : Token) (ts us vs : List Token) → ts ≡ t ∷ us → us ≡ u ∷ vs → ts ≡ t ∷ u ∷ vs
+whole t u ts us vs p q = p ∙ ap (λ l. t ∷ l) q
 
-to_line : (names : List ℕ → Option Expr) (ts : List Token) (s : Says) → IsSaid names ts s → Lines names ts
-to_line names ts Nothing p = inl p
-to_line names ts (EntryIs (At a)) p = inr (inl (NumberToken a ∷ [], p, (a, [], refl, refl)))
-to_line names ts (EntryIs (Named w)) p = inr (inr (inl (NameToken w ∷ [], p, (w, refl))))
-to_line names ts (RequireIs e) p = inr (inr (inr (inl (p.0, p.1, (e, p.2)))))
-to_line names ts (EnsureIs e) p = inr (inr (inr (inr (inl (p.0, p.1, (e, p.2))))))
-to_line names ts (AssertIs a e) p = inr (inr (inr (inr (inr (inl (NumberToken a ∷ p.0, p.1, (a, p.0, refl, (e, p.2))))))))
-to_line names ts (TargetsAre a to) p =
-    inr (inr (inr (inr (inr (inr (inl (
-      NumberToken a ∷ map (λ n. NumberToken n) to,
-      p.0,
-      (
-        a,
-        map (λ n. NumberToken n) to,
-        refl,
-        ((to, refl), let n = map_length to in omega (arith, n, p.1)),
-      ),
-    )))))))
-to_line names ts (FixedIs low high) p =
-    inr (inr (inr (inr (inr (inr (inr (NumberToken low ∷ NumberToken high ∷ [], p, (low, NumberToken high ∷ [], refl, (high, [], refl, refl)))))))))
+of_line : (s : Scope) (ts : List Token) → Lines s ts → Said s ts
+of_line s ts (inl p) = (Nothing, p)
+of_line s ts (inr (inl (us, p, (t, n, vs, q, is, end)))) = (EntryIs (At n), (t, whole (NameToken (codes "entry")) t ts us [] p (q ∙ ap (λ l. t ∷ l) end), is))
+of_line s ts (inr (inr (inl p))) = (EntryIs (Named p.2.0), p.1 ∙ ap (λ us. NameToken (codes "function") ∷ us) p.2.1)
+of_line s ts (inr (inr (inr (inl p)))) = (RequireIs p.2.0, (p.0, p.1, p.2.1))
+of_line s ts (inr (inr (inr (inr (inl p))))) = (EnsureIs p.2.0, (p.0, p.1, p.2.1))
+of_line s ts (inr (inr (inr (inr (inr (inl (us, p, (t, n, vs, q, is, e)))))))) =
+    (AssertIs n e.0, (t, vs, whole (NameToken (codes "assert")) t ts us vs p q, is, e.1))
+of_line s ts (inr (inr (inr (inr (inr (inr (inl (us, p, (t, n, vs, q, is, (list, some)))))))))) =
+    let count = numbers_length s vs list.0 list.1 in
+    (TargetsAre n list.0, (t, vs, whole (NameToken (codes "targets")) t ts us vs p q, is, list.1, omega (arith, count, some)))
+of_line s ts (inr (inr (inr (inr (inr (inr (inr (inl (us, p, (t, n, vs, q, is, (u, m, ws, r, number, end))))))))))) =
+    (FixedIs n m, (t, u, whole (NameToken (codes "fixed")) t ts us (u ∷ []) p (q ∙ ap (λ l. t ∷ l) (r ∙ ap (λ l. u ∷ l) end)), is, number))
+of_line s ts (inr (inr (inr (inr (inr (inr (inr (inr (inl p))))))))) = (VersionIs (is_two p.0), (p.0, p.1, refl))
+of_line s ts (inr (inr (inr (inr (inr (inr (inr (inr (inr (inl (us, p, ((w, v, q), second)))))))))))) =
+    (ConstIs w v, (p ∙ ap (λ us. NameToken (codes "const") ∷ us) q, second))
+of_line s ts (inr (inr (inr (inr (inr (inr (inr (inr (inr (inr (us, p, (end, second)))))))))))) =
+    (LoadedIs, (p ∙ ap (λ us. NameToken (codes "loaded") ∷ us) end, second))
 
-pub is_said : (names : List ℕ → Option Expr) → KeepsReserved names → (ts : List Token) → Decided (Said names ts)
-is_said names keeps ts =
-    through (of_line names ts) (λ p. to_line names ts p.0 p.1)
-    (either (is_end ts) (either (begins (NameToken (codes "entry")) (Numbered (λ n us. us ≡ [])) ts
-    (λ us less. numbered (λ n us. us ≡ []) us (λ n vs. is_end vs)))
+to_line : (s : Scope) (ts : List Token) (x : Says) → IsSaid s ts x → Lines s ts
+to_line s ts Nothing p = inl p
+to_line s ts (EntryIs (At a)) (t, p, is) = inr (inl (t ∷ [], p, (t, a, [], refl, is, refl)))
+to_line s ts (EntryIs (Named w)) p = inr (inr (inl (NameToken w ∷ [], p, (w, refl))))
+to_line s ts (RequireIs e) p = inr (inr (inr (inl (p.0, p.1, (e, p.2)))))
+to_line s ts (EnsureIs e) p = inr (inr (inr (inr (inl (p.0, p.1, (e, p.2))))))
+to_line s ts (AssertIs a e) (t, us, p, is, q) = inr (inr (inr (inr (inr (inl (t ∷ us, p, (t, a, us, refl, is, (e, q))))))))
+to_line s ts (TargetsAre a to) (t, us, p, is, q, some) =
+    let count = numbers_length s us to q in
+    inr (inr (inr (inr (inr (inr (inl (t ∷ us, p, (t, a, us, refl, is, ((to, q), omega (arith, count, some))))))))))
+to_line s ts (FixedIs low high) (t, u, p, is, number) =
+    inr (inr (inr (inr (inr (inr (inr (inl (t ∷ u ∷ [], p, (t, low, u ∷ [], refl, is, (u, high, [], refl, number, refl))))))))))
+to_line s ts (VersionIs b) p = inr (inr (inr (inr (inr (inr (inr (inr (inl (p.0, p.1, tt)))))))))
+to_line s ts (ConstIs w v) p =
+    inr (inr (inr (inr (inr (inr (inr (inr (inr (inl (NameToken w ∷ NumberToken v ∷ [], p.0, ((w, v, refl), p.1)))))))))))
+to_line s ts LoadedIs p = inr (inr (inr (inr (inr (inr (inr (inr (inr (inr ([], p.0, (refl, p.1)))))))))))
+
+second : (b : Bool) → Decided (b ≡ true)
+second true = inl refl
+second false = inr (λ e. let b : ⊥ = cc in b)
+
+pub is_said : (s : Scope) (ts : List Token) → Decided (Said s ts)
+is_said s ts =
+    through (of_line s ts) (λ p. to_line s ts p.0 p.1)
+    (either (is_end ts) (either (begins (NameToken (codes "entry")) (Numbered s (λ n us. us ≡ [])) ts
+    (λ us less. numbered s (λ n us. us ≡ []) us (λ n vs. is_end vs)))
     (either (begins (NameToken (codes "function")) (λ us. (w : List ℕ) × (us ≡ NameToken w ∷ [])) ts (λ us less. is_name us))
-    (either (begins (NameToken (codes "require")) (Parsed names) ts (λ us less. is_parsed names keeps us))
-    (either (begins (NameToken (codes "ensure")) (Parsed names) ts (λ us less. is_parsed names keeps us))
-    (either (begins (NameToken (codes "assert")) (Numbered (λ n us. Parsed names us)) ts
-    (λ us less. numbered (λ n us. Parsed names us) us (λ n vs. is_parsed names keeps vs)))
-    (either (begins (NameToken (codes "targets")) (Numbered (λ n us. ((to : List ℕ) × (us ≡ map (λ n. NumberToken n) to)) × (0 < length us))) ts
-    (λ us less. numbered (λ n us. ((to : List ℕ) × (us ≡ map (λ n. NumberToken n) to)) ×
-    (0 < length us)) us (λ n vs. both (are_numbers vs) (is_less 0 (length vs)))))
-    (begins (NameToken (codes "fixed")) (Numbered (λ n us. Numbered (λ m vs. vs ≡ []) us)) ts
-    (λ us less. numbered (λ n us. Numbered (λ m vs. vs ≡ []) us) us (λ n vs. numbered (λ m ws. ws ≡ []) vs (λ m ws. is_end ws)))))))))))
+    (either (begins (NameToken (codes "require")) (Parsed s) ts (λ us less. is_parsed s us))
+    (either (begins (NameToken (codes "ensure")) (Parsed s) ts (λ us less. is_parsed s us))
+    (either (begins (NameToken (codes "assert")) (Numbered s (λ n us. Parsed s us)) ts
+    (λ us less. numbered s (λ n us. Parsed s us) us (λ n vs. is_parsed s vs)))
+    (either (begins (NameToken (codes "targets")) (Numbered s (λ n us. Listed s us)) ts
+    (λ us less. numbered s (λ n us. Listed s us) us (λ n vs. both (are_numbers s vs) (is_less 0 (length vs)))))
+    (either (begins (NameToken (codes "fixed")) (Numbered s (λ n us. Numbered s (λ m vs. vs ≡ []) us)) ts
+    (λ us less. numbered s (λ n us. Numbered s (λ m vs. vs ≡ []) us) us (λ n vs. numbered s (λ m ws. ws ≡ []) vs (λ m ws. is_end ws))))
+    (either (begins (NameToken (codes "notes")) (λ us. Unit {0}) ts (λ us less. inl tt))
+    (either (begins (NameToken (codes "const")) (λ us. ((w : List ℕ) × (v : ℕ) × (us ≡ NameToken w ∷ NumberToken v ∷ [])) × (s.is_second ≡ true)) ts
+    (λ us less. both (is_const us) (second s.is_second)))
+    (begins (NameToken (codes "loaded")) (λ us. (us ≡ []) × (s.is_second ≡ true)) ts (λ us less. both (is_end us) (second s.is_second)))))))))))))

@@ -1,27 +1,11 @@
--- No register and no flag of a machine has a reserved word as its name.
-use Rattle.std.proofs.Common.{◌≡◌, refl, subst, Option, None, Some, ℕ, List, [], ◌∷◌, Bool, true, false, if◌then◌else◌, bytes_eq, lit<}
+-- The names of machines stand for expressions of words.
+use Rattle.std.proofs.Common.{◌≡◌, subst, Option, Some, ℕ, List, [], ◌∷◌, Bool, true, false, if◌then◌else◌, bytes_eq, lit<}
 use Rattle.bilv_spec.specs.Notes.{Expr}
-use Rattle.bilv_spec.specs.NotesFaults.{reserved, any_name}
-use Rattle.bilv_spec.specs.NotesLaws.{KeepsReserved, IsOfWords, MachinesKeepReserved, MachineNamesOfWords}
-use Rattle.bilv_spec.specs.RvNames.{name_in, rv_names, rv_table}
-use Rattle.bilv_spec.specs.ArmNames.{arm_names, arm_table}
-use Rattle.bilv_spec.proofs.NotesTables.{Each, of_each}
+use Rattle.bilv_spec.specs.NotesLaws.{IsOfWords, MachineNamesOfWords}
+use Rattle.bilv_spec.specs.RvNames.{name_in, rv_table}
+use Rattle.bilv_spec.specs.ArmNames.{arm_table}
+use Rattle.bilv_spec.proofs.NotesTables.{Each}
 use Rattle.bilv_spec.proofs.Decided.{none_some}
-
-rv_keeps : KeepsReserved rv_names
-unfolding rv_table
-rv_keeps w c = of_each (λ w. rv_names w ≡ None) reserved w (refl, (refl, (refl, (refl, (refl, (refl, (refl, tt))))))) c
-
-arm_keeps : KeepsReserved arm_names
-unfolding arm_table
-arm_keeps w c = of_each (λ w. arm_names w ≡ None) reserved w (refl, (refl, (refl, (refl, (refl, (refl, (refl, tt))))))) c
-
--- nor among all other words
-pub any_keeps : KeepsReserved any_name
-any_keeps w c = of_each (λ w. any_name w ≡ None) reserved w (refl, (refl, (refl, (refl, (refl, (refl, (refl, tt))))))) c
-
-pub machines_keep_reserved : MachinesKeepReserved
-machines_keep_reserved = (rv_keeps, arm_keeps)
 
 -- what each line of a table has, each name has
 by_line : (P : Expr → Type 0) (b : Bool) (x e : Expr) (other : Option Expr) → P x → (other ≡ Some e → P e) → (if b then Some x else other) ≡ Some e → P e

@@ -1,12 +1,12 @@
 -- A text is notes, or it has a first fault.
-use Rattle.std.proofs.Common.{◌≡◌, ◌≢◌, ℕ, zero, suc, ◌<◌, ◌≤◌, ◌+◌, ◌%◌, ◌^◌, refl, ap, sym, ◌∙◌, subst, arith, List, [], ◌∷◌, ◌++◌, Option, ◌⊎◌, inl, inr, length, get_or, All, AllPairs, Contains, count_by, append_assoc, append-nil, length-append, lit<, lit≤}
+use Rattle.std.proofs.Common.{◌≡◌, ◌≢◌, ℕ, zero, suc, ◌<◌, ◌≤◌, ◌+◌, ◌%◌, ◌^◌, refl, ap, sym, ◌∙◌, subst, arith, List, [], ◌∷◌, ◌++◌, Option, Bool, true, false, ◌⊎◌, inl, inr, length, get_or, All, AllPairs, Contains, count_by, append_assoc, append-nil, length-append, lit<}
 use Rattle.bilv_spec.specs.Notes.{Expr, Notes, At, Named, Function, Targets}
-use Rattle.bilv_spec.specs.NotesGrammar.{Token, NumberToken, NameToken, SignToken, BadByte, BadText, tokens_of, lines_of, is_depth, IsGood, IsAligned, Says, Nothing, EntryIs, RequireIs, EnsureIs, AssertIs, TargetsAre, FixedIs, IsSaid, IsLine, AreLines, AreAligned, IsRange, IsNotesText, entries, requires_of, ensures_of, asserts_of, targets_of, fixed_of}
-use Rattle.bilv_spec.specs.NotesFaults.{NoteFault, LimitFault, ByteFault, TokenFault, NumberFault, DepthFault, WordFault, SyntaxFault, NameFault, AlignFault, RangeFault, EntryFault, note_fault_rank, any_name, line_words, IsLineWord, BeginsBadly, Repeats, NoteFaultApplies, NoneRepeats, AreGood, IsFirstNoteFault, at_line, no_entry}
-use Rattle.bilv_spec.specs.NotesLaws.{KeepsReserved}
+use Rattle.bilv_spec.specs.NotesGrammar.{Token, NumberToken, NameToken, SignToken, BadByte, BadText, tokens_of, lines_of, is_depth, IsGood, IsAligned, Says, Nothing, EntryIs, RequireIs, EnsureIs, AssertIs, TargetsAre, FixedIs, VersionIs, ConstIs, LoadedIs, IsSaid, IsLine, AreLines, AreAligned, IsRange, IsVersion, IsNew, after, after_all, line_limit, IsNotesText, entries, requires_of, ensures_of, asserts_of, targets_of, fixed_of}
+use Rattle.bilv_spec.specs.NotesFaults.{NoteFault, LimitFault, ByteFault, TokenFault, NumberFault, DepthFault, WordFault, SyntaxFault, NameFault, AlignFault, RangeFault, EntryFault, VersionFault, ConstFault, AllFault, note_fault_rank, line_words, begin_of, IsLineWord, BeginsBadly, Repeats, NoteFaultApplies, NoneRepeats, AreGood, IsFirstNoteFault, at_line, no_entry}
+use Rattle.bilv_spec.specs.Scopes.{Scope, Strict, lenient, loose, is_free}
 use Rattle.bilv_spec.proofs.Decided.{Decided, through, both, either, negation, same_text, same_number, is_less, is_at_most}
 use Rattle.bilv_spec.proofs.NotesDecided.{same_tokens, Said, is_said}
-use Rattle.bilv_spec.proofs.NotesNames.{any_keeps}
+use Rattle.bilv_spec.proofs.Modes.{strict_is_lenient, all_mode, all_second}
 use Rattle.bilv_spec.proofs.NotesSaid.{one_saying}
 use Rattle.bilv_spec.proofs.NotesFirst.{of_rank, ranked, entries_append, targets_append}
 use Rattle.std.proofs.lemmas.List.Elements.{Contains-append_left, Contains-append_right}
@@ -50,6 +50,9 @@ are_aligned (AssertIs a e) = aligned a
 are_aligned (TargetsAre a to) = both (aligned a) (every_one IsAligned aligned to)
 are_aligned Nothing = inl tt
 are_aligned (RequireIs e) = inl tt
+are_aligned (VersionIs b) = inl tt
+are_aligned (ConstIs w v) = inl tt
+are_aligned LoadedIs = inl tt
 are_aligned (EnsureIs e) = inl tt
 are_aligned (FixedIs low high) = inl tt
 
@@ -60,6 +63,9 @@ is_range (AssertIs a e) = inl tt
 is_range (TargetsAre a to) = inl tt
 is_range Nothing = inl tt
 is_range (RequireIs e) = inl tt
+is_range (VersionIs b) = inl tt
+is_range (ConstIs w v) = inl tt
+is_range LoadedIs = inl tt
 is_range (EnsureIs e) = inl tt
 
 none : (xs : List Function) → Decided (xs ≡ [])
@@ -74,46 +80,81 @@ repeats before (RequireIs e) = inr (λ r. r)
 repeats before (EnsureIs e) = inr (λ r. r)
 repeats before (AssertIs a e) = inr (λ r. r)
 repeats before (FixedIs low high) = inr (λ r. r)
+repeats before (VersionIs b) = inr (λ r. r)
+repeats before (ConstIs w v) = inr (λ r. r)
+repeats before LoadedIs = inr (λ r. r)
+
+is_true : (b : Bool) → Decided (b ≡ true)
+is_true true = inl refl
+is_true false = inr (λ e. let b : ⊥ = cc in b)
+
+is_version : (s : Scope) (x : Says) → Decided (IsVersion s x)
+is_version s (VersionIs b) = both (is_true s.is_first) (is_true b)
+is_version s (EntryIs e) = inl tt
+is_version s (AssertIs a e) = inl tt
+is_version s (TargetsAre a to) = inl tt
+is_version s Nothing = inl tt
+is_version s (RequireIs e) = inl tt
+is_version s (EnsureIs e) = inl tt
+is_version s (FixedIs low high) = inl tt
+is_version s (ConstIs w v) = inl tt
+is_version s LoadedIs = inl tt
+
+is_new : (s : Scope) (x : Says) → Decided (IsNew s x)
+is_new s (ConstIs w v) = is_true (is_free s w)
+is_new s (EntryIs e) = inl tt
+is_new s (AssertIs a e) = inl tt
+is_new s (TargetsAre a to) = inl tt
+is_new s Nothing = inl tt
+is_new s (RequireIs e) = inl tt
+is_new s (EnsureIs e) = inl tt
+is_new s (FixedIs low high) = inl tt
+is_new s (VersionIs b) = inl tt
+is_new s LoadedIs = inl tt
 
 -- of the one thing that a line says
-of_said : (names : List ℕ → Option Expr) → KeepsReserved names → (ts : List Token) (Q : Says → Type 0) → ((s : Says) → Decided (Q s)) →
-    Decided (Said names ts) →
-    Decided ((s : Says) × IsSaid names ts s × Q s)
-of_said names keeps ts Q d (inl p) = through (λ q. (p.0, p.1, q)) (λ r. subst Q (one_saying names keeps ts r.0 p.0 r.1 p.1) r.2) (d p.0)
-of_said names keeps ts Q d (inr not_said) = inr (λ r. not_said (r.0, r.1))
+of_said : (s : Scope) (ts : List Token) (Q : Says → Type 0) → ((x : Says) → Decided (Q x)) → Decided (Said s ts) → Decided ((x : Says) × IsSaid s ts x × Q x)
+of_said s ts Q d (inl p) = through (λ q. (p.0, p.1, q)) (λ r. subst Q (one_saying s ts r.0 p.0 r.1 p.1) r.2) (d p.0)
+of_said s ts Q d (inr not_said) = inr (λ r. not_said (r.0, r.1))
 
 large : (t : Token) → Decided ((v : ℕ) × (t ≡ NumberToken v) × (2 ^ 32 ≤ v))
 large (NumberToken n) = through (λ le. (n, refl, le)) (λ p. let x = p.1 in let is : p.0 ≡ n = cc in subst (λ v. 2 ^ 32 ≤ v) is p.2) (is_at_most (2 ^ 32) n)
 large t = inr (λ p. let x = p.1 in let y : ⊥ = cc in y)
 
-line_word : (t : Token) → Decided (IsLineWord t)
-line_word (NameToken w) = contains same_text line_words w
-line_word (NumberToken n) = inr (λ b. b)
-line_word (SignToken s) = inr (λ b. b)
-line_word BadByte = inr (λ b. b)
-line_word BadText = inr (λ b. b)
+line_word : (b : Bool) (t : Token) → Decided (IsLineWord b t)
+line_word b (NameToken w) = contains same_text (line_words b) w
+line_word b (NumberToken n) = inr (λ b. b)
+line_word b (SignToken s) = inr (λ b. b)
+line_word b BadByte = inr (λ b. b)
+line_word b BadText = inr (λ b. b)
 
-badly : (ts : List Token) → Decided (BeginsBadly ts)
-badly [] = inr (λ b. b)
-badly (t ∷ ts) = negation (line_word t)
+badly : (b : Bool) (ts : List Token) → Decided (BeginsBadly b ts)
+badly b [] = inr (λ b. b)
+badly b (t ∷ ts) = negation (line_word b t)
 
-applies : (names : List ℕ → Option Expr) → KeepsReserved names → (n : ℕ) (before : List Says) (text : List ℕ) (f : NoteFault) →
-    Decided (NoteFaultApplies names n before text f)
-applies names keeps n before text LimitFault = either (is_less 4096 n) (is_less 1024 (length text))
-applies names keeps n before text ByteFault = contains same_tokens (tokens_of text) BadByte
-applies names keeps n before text TokenFault = contains same_tokens (tokens_of text) BadText
-applies names keeps n before text NumberFault =
+none_said : (s : Scope) (ts : List Token) → Decided ((x : Says) → IsSaid s ts x → ⊥)
+none_said s ts = through (λ f x p. f (x, p)) (λ f p. f p.0 p.1) (negation (is_said s ts))
+
+not_so : (s : Scope) (ts : List Token) (Q : Says → Type 0) → ((x : Says) → Decided (Q x)) → Decided ((x : Says) × IsSaid s ts x × (Q x → ⊥))
+not_so s ts Q d = of_said s ts (λ x. Q x → ⊥) (λ x. negation (d x)) (is_said s ts)
+
+applies : (s : Scope) (n : ℕ) (before : List Says) (text : List ℕ) (f : NoteFault) → Decided (NoteFaultApplies s n before text f)
+applies s n before text LimitFault = either (is_less (line_limit s.is_second) n) (is_less 1024 (length text))
+applies s n before text ByteFault = contains same_tokens (tokens_of text) BadByte
+applies s n before text TokenFault = contains same_tokens (tokens_of text) BadText
+applies s n before text NumberFault =
     through (λ s. (s.2.0, subst (λ t. Contains (tokens_of text) t) s.2.1 s.1, s.2.2)) (λ p. (NumberToken p.0, p.1, (p.0, refl, p.2)))
     (some_element (λ t. (v : ℕ) × (t ≡ NumberToken v) × (2 ^ 32 ≤ v)) large (tokens_of text))
-applies names keeps n before text DepthFault = is_less 64 (count_by is_depth (tokens_of text))
-applies names keeps n before text WordFault = badly (tokens_of text)
-applies names keeps n before text SyntaxFault = through (λ f s p. f (s, p)) (λ f p. f p.0 p.1) (negation (is_said any_name any_keeps (tokens_of text)))
-applies names keeps n before text NameFault = through (λ f s p. f (s, p)) (λ f p. f p.0 p.1) (negation (is_said names keeps (tokens_of text)))
-applies names keeps n before text AlignFault = of_said names keeps (tokens_of text) (λ s. AreAligned s →
-    ⊥) (λ s. negation (are_aligned s)) (is_said names keeps (tokens_of text))
-applies names keeps n before text RangeFault = of_said names keeps (tokens_of text) (λ s. IsRange s →
-    ⊥) (λ s. negation (is_range s)) (is_said names keeps (tokens_of text))
-applies names keeps n before text EntryFault = of_said names keeps (tokens_of text) (Repeats before) (repeats before) (is_said names keeps (tokens_of text))
+applies s n before text DepthFault = is_less 64 (count_by (is_depth s.is_second) (tokens_of text))
+applies s n before text WordFault = badly s.is_second (tokens_of text)
+applies s n before text SyntaxFault = none_said (loose s) (tokens_of text)
+applies s n before text NameFault = none_said (lenient s) (tokens_of text)
+applies s n before text AlignFault = not_so (lenient s) (tokens_of text) AreAligned are_aligned
+applies s n before text RangeFault = not_so (lenient s) (tokens_of text) IsRange is_range
+applies s n before text EntryFault = of_said (lenient s) (tokens_of text) (Repeats before) (repeats before) (is_said (lenient s) (tokens_of text))
+applies s n before text VersionFault = not_so (lenient s) (tokens_of text) (IsVersion s) (is_version s)
+applies s n before text ConstFault = not_so (lenient s) (tokens_of text) (IsNew s) (is_new s)
+applies s n before text AllFault = none_said s (tokens_of text)
 
 -- the least fault below a rank
 abbrev Least : (NoteFault → Type 0) → Type 0
@@ -137,15 +178,15 @@ next_rank : (P : NoteFault → Type 0) (k : ℕ) → Free P k → Decided ((note
 next_rank P k free (inl p) = inl (of_rank k, p.1, λ g less q. free g (omega (arith, less, p.0)) q)
 next_rank P k free (inr f) = inr (λ g less q. by_order P k free f g (is_less (note_fault_rank g) k) less q)
 
-after : (P : NoteFault → Type 0) → ((f : NoteFault) → Decided (P f)) → (k : ℕ) → Least P ⊎ Free P k → Least P ⊎ Free P (suc k)
-after P d k (inl l) = inl l
-after P d k (inr free) = next_rank P k free (both (same_number (note_fault_rank (of_rank k)) k) (d (of_rank k)))
+onward : (P : NoteFault → Type 0) → ((f : NoteFault) → Decided (P f)) → (k : ℕ) → Least P ⊎ Free P k → Least P ⊎ Free P (suc k)
+onward P d k (inl l) = inl l
+onward P d k (inr free) = next_rank P k free (both (same_number (note_fault_rank (of_rank k)) k) (d (of_rank k)))
 
 below : (P : NoteFault → Type 0) → ((f : NoteFault) → Decided (P f)) → (k : ℕ) → Least P ⊎ Free P k
 below P d zero = inr (λ g less q. omega (arith, less))
-below P d (suc k) = after P d k (below P d k)
+below P d (suc k) = onward P d k (below P d k)
 
-rank_below : (f : NoteFault) → note_fault_rank f < 12
+rank_below : (f : NoteFault) → note_fault_rank f < 15
 rank_below LimitFault = lit< tt
 rank_below ByteFault = lit< tt
 rank_below TokenFault = lit< tt
@@ -157,8 +198,11 @@ rank_below NameFault = lit< tt
 rank_below AlignFault = lit< tt
 rank_below RangeFault = lit< tt
 rank_below EntryFault = lit< tt
+rank_below VersionFault = lit< tt
+rank_below ConstFault = lit< tt
+rank_below AllFault = lit< tt
 
-least_or_none : (P : NoteFault → Type 0) → Least P ⊎ Free P 12 → Least P ⊎ ((f : NoteFault) → P f → ⊥)
+least_or_none : (P : NoteFault → Type 0) → Least P ⊎ Free P 15 → Least P ⊎ ((f : NoteFault) → P f → ⊥)
 least_or_none P (inl l) = inl l
 least_or_none P (inr free) = inr (λ f p. free f (rank_below f) p)
 
@@ -170,11 +214,11 @@ surely P (inl p) f = p
 surely P (inr g) f = absurd (f g)
 
 -- a line to which no fault applies says something new
-record Good (names : List ℕ → Option Expr) (n : ℕ) (before : List Says) (text : List ℕ) : Type 0 where
+record Good (s : Scope) (n : ℕ) (before : List Says) (text : List ℕ) : Type 0 where
   says : Says
-  line : IsLine names text says
+  line : IsLine s text says
   new : Repeats before says → ⊥
-  count : n ≤ 4096
+  count : n ≤ line_limit s.is_second
 
 free_default : {X : Type 0} (xs : List X) (k : ℕ) (d e : X) → k < length xs → get_or xs k d ≡ get_or xs k e
 free_default [] k d e less = absurd (omega (arith, less))
@@ -189,70 +233,76 @@ good_token ts (SignToken w) c f g h = tt
 good_token ts BadByte c f g h = f c
 good_token ts BadText c f g h = g c
 
-no_fault_good : (names : List ℕ → Option Expr) → KeepsReserved names → (n : ℕ) (before : List Says) (text : List ℕ) →
-    ((f : NoteFault) → NoteFaultApplies names n before text f → ⊥) →
-    Decided (Said names (tokens_of text)) → Good names n before text
-no_fault_good names keeps n before text f (inr not_said) = absurd (f NameFault (λ s p. not_said (s, p)))
-no_fault_good names keeps n before text f (inl p) = record {
-  says = p.0;
-  line = record {
-    short = not_less 1024 (length text) (λ less. f LimitFault (inr less));
-    good = λ k d less. good_token (tokens_of text) (get_or (tokens_of text) k d) (k, less, free_default (tokens_of text) k (get_or (tokens_of text) k d) d less)
-        (f ByteFault) (f TokenFault) (f NumberFault);
-    depth = not_less 64 (count_by is_depth (tokens_of text)) (f DepthFault);
-    said = p.1;
-    aligned = surely (AreAligned p.0) (are_aligned p.0) (λ g. f AlignFault (p.0, p.1, g));
-    range = surely (IsRange p.0) (is_range p.0) (λ g. f RangeFault (p.0, p.1, g));
-  };
-  new = λ r. f EntryFault (p.0, p.1, r);
-  count = not_less 4096 n (λ less. f LimitFault (inl less));
-}
+no_fault_good : (s : Scope) → s.mode ≡ Strict → (n : ℕ) (before : List Says) (text : List ℕ) → ((f : NoteFault) → NoteFaultApplies s n before text f → ⊥) →
+    Decided (Said s (tokens_of text)) → Good s n before text
+no_fault_good s strict n before text f (inr not_said) = absurd (f AllFault (λ x p. not_said (x, p)))
+no_fault_good s strict n before text f (inl p) =
+    let soft = strict_is_lenient s (tokens_of text) p.0 strict p.1 in
+    record {
+      says = p.0;
+      line = record {
+        short = not_less 1024 (length text) (λ less. f LimitFault (inr less));
+        good = λ k d less. good_token (tokens_of text) (get_or (tokens_of text) k d)
+            (k, less, free_default (tokens_of text) k (get_or (tokens_of text) k d) d less) (f ByteFault) (f TokenFault) (f NumberFault);
+        depth = not_less 64 (count_by (is_depth s.is_second) (tokens_of text)) (f DepthFault);
+        said = p.1;
+        aligned = surely (AreAligned p.0) (are_aligned p.0) (λ g. f AlignFault (p.0, soft, g));
+        range = surely (IsRange p.0) (is_range p.0) (λ g. f RangeFault (p.0, soft, g));
+        version = surely (IsVersion s p.0) (is_version s p.0) (λ g. f VersionFault (p.0, soft, g));
+        new = surely (IsNew s p.0) (is_new s p.0) (λ g. f ConstFault (p.0, soft, g));
+      };
+      new = λ r. f EntryFault (p.0, soft, r);
+      count = not_less (line_limit s.is_second) n (λ less. f LimitFault (inl less));
+    }
 
 -- one more good line
-pub lines_and : (names : List ℕ → Option Expr) (texts : List (List ℕ)) (says : List Says) (text : List ℕ) (s : Says) → AreLines names texts says →
-    IsLine names text s →
-    AreLines names (texts ++ text ∷ []) (says ++ s ∷ [])
-lines_and names [] [] text s p q = (q, tt)
-lines_and names [] (t ∷ says) text s p q = absurd p
-lines_and names (x ∷ texts) [] text s p q = absurd p
-lines_and names (x ∷ texts) (t ∷ says) text s p q = (p.0, lines_and names texts says text s p.1 q)
+pub lines_and : (s : Scope) (texts : List (List ℕ)) (says : List Says) (text : List ℕ) (x : Says) → AreLines s texts says →
+    IsLine (after_all s says) text x → AreLines s (texts ++ text ∷ []) (says ++ x ∷ [])
+lines_and s [] [] text x p q = (q, tt)
+lines_and s [] (y ∷ says) text x p q = absurd p
+lines_and s (t ∷ texts) [] text x p q = absurd p
+lines_and s (t ∷ texts) (y ∷ says) text x p q = (p.0, lines_and (after s y) texts says text x p.1 q)
 
 pub none_and : (first says : List Says) (s : Says) → NoneRepeats first says → (Repeats (first ++ says) s → ⊥) → NoneRepeats first (says ++ s ∷ [])
 none_and first [] s p new = (λ r. new (subst (λ l. Repeats l s) (sym (append-nil first)) r), tt)
 none_and first (t ∷ says) s p new = (p.0, none_and (first ++ t ∷ []) says s p.1 (λ r. new (subst (λ l. Repeats l s) (append_assoc first (t ∷ []) says) r)))
 
-good_and : (names : List ℕ → Option Expr) (texts : List (List ℕ)) (says : List Says) (text : List ℕ) → AreGood names texts says →
-    (g : Good names (length texts + 1) says text) →
-    AreGood names (texts ++ text ∷ []) (says ++ g.says ∷ [])
-good_and names texts says text p g = record {
-  count = let n = length-append texts (text ∷ []) in omega (arith, n, g.count);
-  lines = lines_and names texts says text g.says p.lines g.line;
+good_and : (s : Scope) (texts : List (List ℕ)) (says : List Says) (text : List ℕ) → AreGood s texts says →
+    (g : Good (after_all s says) (length texts + 1) says text) → AreGood s (texts ++ text ∷ []) (says ++ g.says ∷ [])
+good_and s texts says text p g = record {
+  count =
+      let n = length-append texts (text ∷ []) in
+      let c : length texts + 1 ≤ line_limit s.is_second = subst (λ b. length texts + 1 ≤ line_limit b) (all_second s says) g.count in
+      omega (arith, n, c);
+  lines = lines_and s texts says text g.says p.lines g.line;
   none_repeats = none_and [] says g.says p.none_repeats g.new;
 }
 
+-- the faults of the next line
+abbrev Next : Scope → List (List ℕ) → List Says → List ℕ → NoteFault → Type 0
+Next s good says text f = NoteFaultApplies (after_all s says) (length good + 1) says text f
+
 -- lines that are all good, or the first that is not
-data Judged (names : List ℕ → Option Expr) (texts : List (List ℕ)) : Type 0 where
-  all_good : (says : List Says) → AreGood names texts says → Judged names texts
-  bad_at : (good rest : List (List ℕ)) (bad : List ℕ) (says : List Says) → texts ≡ good ++ bad ∷ rest → AreGood names good says →
-      Least (NoteFaultApplies names (length good + 1) says bad) → Judged names texts
+data Judged (s : Scope) (texts : List (List ℕ)) : Type 0 where
+  all_good : (says : List Says) → AreGood s texts says → Judged s texts
+  bad_at : (good rest : List (List ℕ)) (bad : List ℕ) (says : List Says) → texts ≡ good ++ bad ∷ rest → AreGood s good says →
+      Least (Next s good says bad) → Judged s texts
 
-on_line : (names : List ℕ → Option Expr) (texts good rest : List (List ℕ)) (text : List ℕ) (says : List Says) → texts ≡ good ++ text ∷ rest →
-    AreGood names good says →
-    Least (NoteFaultApplies names (length good + 1) says text) ⊎ ((f : NoteFault) → NoteFaultApplies names (length good + 1) says text f → ⊥) →
-    (((f : NoteFault) → NoteFaultApplies names (length good + 1) says text f → ⊥) → Judged names texts) → Judged names texts
-on_line names texts good rest text says is g (inl l) next = bad_at good rest text says is g l
-on_line names texts good rest text says is g (inr f) next = next f
+on_line : (s : Scope) (texts good rest : List (List ℕ)) (text : List ℕ) (says : List Says) → texts ≡ good ++ text ∷ rest → AreGood s good says →
+    Least (Next s good says text) ⊎ ((f : NoteFault) → Next s good says text f → ⊥) →
+    (((f : NoteFault) → Next s good says text f → ⊥) → Judged s texts) → Judged s texts
+on_line s texts good rest text says is g (inl l) next = bad_at good rest text says is g l
+on_line s texts good rest text says is g (inr f) next = next f
 
-judge : (names : List ℕ → Option Expr) → KeepsReserved names → (texts good rest : List (List ℕ)) (says : List Says) → texts ≡ good ++ rest →
-    AreGood names good says → Judged names texts
-judge names keeps texts good [] says is g = all_good says (subst (λ l. AreGood names l says) (sym (is ∙ append-nil good)) g)
-judge names keeps texts good (text ∷ rest) says is g =
-    on_line names texts good rest text says is g
-    (least_or_none (NoteFaultApplies names (length good + 1) says text)
-    (below (NoteFaultApplies names (length good + 1) says text) (applies names keeps (length good + 1) says text) 12))
-    (λ f. let next = no_fault_good names keeps (length good + 1) says text f (is_said names keeps (tokens_of text)) in
-    judge names keeps texts (good ++ text ∷ []) rest (says ++ next.says
-    ∷ []) (is ∙ sym (append_assoc good (text ∷ []) rest)) (good_and names good says text g next))
+judge : (s : Scope) → s.mode ≡ Strict → (texts good rest : List (List ℕ)) (says : List Says) → texts ≡ good ++ rest → AreGood s good says → Judged s texts
+judge s strict texts good [] says is g = all_good says (subst (λ l. AreGood s l says) (sym (is ∙ append-nil good)) g)
+judge s strict texts good (text ∷ rest) says is g =
+    on_line s texts good rest text says is g
+    (least_or_none (Next s good says text) (below (Next s good says text) (applies (after_all s says) (length good + 1) says text) 15))
+    (λ f.
+    let next = no_fault_good (after_all s says) (all_mode s says ∙ strict) (length good + 1) says text f (is_said (after_all s says) (tokens_of text)) in
+    judge s strict texts (good ++ text ∷ []) rest (says ++ next.says ∷ [])
+    (is ∙ sym (append_assoc good (text ∷ []) rest)) (good_and s good says text g next))
 
 -- functions that do not repeat
 grown : (before : List Says) (s : Says) (fs : List Function) → entries (s ∷ []) ≡ [] → entries before ≡ fs → entries (before ++ s ∷ []) ≡ fs
@@ -262,6 +312,9 @@ no_entry_after : (before says : List Says) (e : Function) → entries before ≡
 no_entry_after before [] e is p = refl
 no_entry_after before (EntryIs f ∷ says) e is p = absurd (p.0 (λ empty. let b : ⊥ = cc in b))
 no_entry_after before (Nothing ∷ says) e is p = no_entry_after (before ++ Nothing ∷ []) says e (grown before Nothing (e ∷ []) refl is) p.1
+no_entry_after before (VersionIs b ∷ says) e is p = no_entry_after (before ++ VersionIs b ∷ []) says e (grown before (VersionIs b) (e ∷ []) refl is) p.1
+no_entry_after before (ConstIs w v ∷ says) e is p = no_entry_after (before ++ ConstIs w v ∷ []) says e (grown before (ConstIs w v) (e ∷ []) refl is) p.1
+no_entry_after before (LoadedIs ∷ says) e is p = no_entry_after (before ++ LoadedIs ∷ []) says e (grown before LoadedIs (e ∷ []) refl is) p.1
 no_entry_after before (RequireIs x ∷ says) e is p = no_entry_after (before ++ RequireIs x ∷ []) says e (grown before (RequireIs x) (e ∷ []) refl is) p.1
 no_entry_after before (EnsureIs x ∷ says) e is p = no_entry_after (before ++ EnsureIs x ∷ []) says e (grown before (EnsureIs x) (e ∷ []) refl is) p.1
 no_entry_after before (AssertIs a x ∷ says) e is p = no_entry_after (before ++ AssertIs a x ∷ []) says e (grown before (AssertIs a x) (e ∷ []) refl is) p.1
@@ -276,6 +329,9 @@ one_entry before (EntryIs f ∷ says) e es is p has =
     let rest : es ≡ entries says = cc in
     rest ∙ no_entry_after (before ++ EntryIs f ∷ []) says f (entries_append before (EntryIs f ∷ []) ∙ ap (λ l. l ++ f ∷ []) is) p.1
 one_entry before (Nothing ∷ says) e es is p has = one_entry (before ++ Nothing ∷ []) says e es (grown before Nothing [] refl is) p.1 has
+one_entry before (VersionIs b ∷ says) e es is p has = one_entry (before ++ VersionIs b ∷ []) says e es (grown before (VersionIs b) [] refl is) p.1 has
+one_entry before (ConstIs w v ∷ says) e es is p has = one_entry (before ++ ConstIs w v ∷ []) says e es (grown before (ConstIs w v) [] refl is) p.1 has
+one_entry before (LoadedIs ∷ says) e es is p has = one_entry (before ++ LoadedIs ∷ []) says e es (grown before LoadedIs [] refl is) p.1 has
 one_entry before (RequireIs x ∷ says) e es is p has = one_entry (before ++ RequireIs x ∷ []) says e es (grown before (RequireIs x) [] refl is) p.1 has
 one_entry before (EnsureIs x ∷ says) e es is p has = one_entry (before ++ EnsureIs x ∷ []) says e es (grown before (EnsureIs x) [] refl is) p.1 has
 one_entry before (AssertIs a x ∷ says) e es is p has = one_entry (before ++ AssertIs a x ∷ []) says e es (grown before (AssertIs a x) [] refl is) p.1 has
@@ -301,6 +357,9 @@ apart_after before (TargetsAre a to ∷ says) t u p c (suc k, less, is) same_at 
     apart_after (before ++ TargetsAre a to ∷ []) says t u p.1 (kept before (TargetsAre a to) t c) (k, omega (arith, less), is) same_at
 apart_after before (Nothing ∷ says) t u p c d same_at = apart_after (before ++ Nothing ∷ []) says t u p.1 (kept before Nothing t c) d same_at
 apart_after before (EntryIs e ∷ says) t u p c d same_at = apart_after (before ++ EntryIs e ∷ []) says t u p.1 (kept before (EntryIs e) t c) d same_at
+apart_after before (VersionIs b ∷ says) t u p c d same_at = apart_after (before ++ VersionIs b ∷ []) says t u p.1 (kept before (VersionIs b) t c) d same_at
+apart_after before (ConstIs w v ∷ says) t u p c d same_at = apart_after (before ++ ConstIs w v ∷ []) says t u p.1 (kept before (ConstIs w v) t c) d same_at
+apart_after before (LoadedIs ∷ says) t u p c d same_at = apart_after (before ++ LoadedIs ∷ []) says t u p.1 (kept before LoadedIs t c) d same_at
 apart_after before (RequireIs x ∷ says) t u p c d same_at = apart_after (before ++ RequireIs x ∷ []) says t u p.1 (kept before (RequireIs x) t c) d same_at
 apart_after before (EnsureIs x ∷ says) t u p c d same_at = apart_after (before ++ EnsureIs x ∷ []) says t u p.1 (kept before (EnsureIs x) t c) d same_at
 apart_after before (AssertIs a x ∷ says) t u p c d same_at = apart_after (before ++ AssertIs a x ∷ []) says t u p.1 (kept before (AssertIs a x) t c) d same_at
@@ -323,6 +382,9 @@ pairs before (TargetsAre a to ∷ says) p =
     ∷ []) says p.1)
 pairs before (Nothing ∷ says) p = pairs (before ++ Nothing ∷ []) says p.1
 pairs before (EntryIs e ∷ says) p = pairs (before ++ EntryIs e ∷ []) says p.1
+pairs before (VersionIs b ∷ says) p = pairs (before ++ VersionIs b ∷ []) says p.1
+pairs before (ConstIs w v ∷ says) p = pairs (before ++ ConstIs w v ∷ []) says p.1
+pairs before (LoadedIs ∷ says) p = pairs (before ++ LoadedIs ∷ []) says p.1
 pairs before (RequireIs x ∷ says) p = pairs (before ++ RequireIs x ∷ []) says p.1
 pairs before (EnsureIs x ∷ says) p = pairs (before ++ EnsureIs x ∷ []) says p.1
 pairs before (AssertIs a x ∷ says) p = pairs (before ++ AssertIs a x ∷ []) says p.1
@@ -332,7 +394,7 @@ pairs before (FixedIs low high ∷ says) p = pairs (before ++ FixedIs low high �
 abbrev Outcome : (List ℕ → Option Expr) → List ℕ → Type 0
 Outcome names text = ((m : Notes) × IsNotesText names text m) ⊎ ((line : ℕ) × (f : NoteFault) × IsFirstNoteFault names text line f)
 
-by_entries : (names : List ℕ → Option Expr) (text : List ℕ) (says : List Says) → AreGood names (lines_of text) says → (fs : List Function) → entries says ≡ fs →
+by_entries : (names : List ℕ → Option Expr) (text : List ℕ) (says : List Says) → AreGood (begin_of names text) (lines_of text) says → (fs : List Function) → entries says ≡ fs →
     Outcome names text
 by_entries names text says g [] is = inr (length (lines_of text) + 1, EntryFault, no_entry says g is)
 by_entries names text says g (e ∷ es) is =
@@ -354,11 +416,13 @@ by_entries names text says g (e ∷ es) is =
       },
     )
 
-of_judged : (names : List ℕ → Option Expr) (text : List ℕ) → Judged names (lines_of text) → Outcome names text
+of_judged : (names : List ℕ → Option Expr) (text : List ℕ) → Judged (begin_of names text) (lines_of text) → Outcome names text
 of_judged names text (all_good says g) = by_entries names text says g (entries says) refl
 of_judged names text (bad_at good rest bad says is g l) = inr (length good + 1, l.0, at_line good rest bad says is g l.1 l.2)
 
+none_yet : (s : Scope) → AreGood s [] []
+none_yet s = record { count = omega arith; lines = tt; none_repeats = tt }
+
 -- a text is notes, or it has a first fault
-pub one_of_both : (names : List ℕ → Option Expr) → KeepsReserved names → (text : List ℕ) → Outcome names text
-one_of_both names keeps text = of_judged names text (judge names keeps (lines_of text) [] (lines_of text) [] refl
-    (record { count = lit≤ tt; lines = tt; none_repeats = tt }))
+pub one_of_both : (names : List ℕ → Option Expr) (text : List ℕ) → Outcome names text
+one_of_both names text = of_judged names text (judge (begin_of names text) refl (lines_of text) [] (lines_of text) [] refl (none_yet (begin_of names text)))

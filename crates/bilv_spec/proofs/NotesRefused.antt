@@ -2,17 +2,21 @@
 use Rattle.std.proofs.Common.{◌≡◌, ℕ, ◌<◌, refl, subst, arith, List, [], ◌∷◌, ◌++◌, None, Bool, true, false, map, codes, Contains, inl, inr, ◌^◌, lit≤, nat_le}
 use Rattle.bilv_spec.specs.Notes.{Expr, At}
 use Rattle.bilv_spec.specs.NotesGrammar.{Token, NumberToken, NameToken, SignToken, BadByte, BadText, tokens_of, Parses, Says, Nothing, EntryIs, RequireIs, IsSaid}
-use Rattle.bilv_spec.specs.NotesFaults.{NoteFault, LimitFault, ByteFault, TokenFault, NumberFault, DepthFault, WordFault, SyntaxFault, NameFault, AlignFault, RangeFault, EntryFault, note_fault_rank, any_name, NoteFaultApplies, AreGood, IsFirstNoteFault, at_line, no_entry}
+use Rattle.bilv_spec.specs.NotesFaults.{NoteFault, LimitFault, ByteFault, TokenFault, NumberFault, DepthFault, WordFault, SyntaxFault, NameFault, AlignFault, RangeFault, EntryFault, note_fault_rank, VersionFault, ConstFault, AllFault, NoteFaultApplies, AreGood, IsFirstNoteFault, at_line, no_entry}
 use Rattle.bilv_spec.specs.RvNames.{rv_names}
 use Rattle.bilv_spec.proofs.NotesTables.{Each, of_each}
-use Rattle.bilv_spec.proofs.NotesNames.{any_keeps}
+use Rattle.bilv_spec.specs.Scopes.{Scope, begin, loose}
 use Rattle.bilv_spec.proofs.NotesParser.{Level, Read, work, all_read, is_ready}
 use Rattle.bilv_spec.proofs.ParserFinds.{no_expression}
 use Rattle.bilv_spec.proofs.NotesSaid.{kind_is}
 use Rattle.bilv_spec.proofs.NotesSamples.{line_1}
 
+-- the scope after the line that names the function, in version 1, and with every word taken as a name
+abbrev later : Scope
+later = record (begin rv_names false) { is_first = false }
+
 abbrev read : List ℕ → Read
-read text = work any_name 40 (Level 1) (tokens_of text)
+read text = work (loose later) 40 (Level 1) (tokens_of text)
 
 -- a comparison is not chained, and its operands are no `not`; an operator wants two operands; brackets close; `old` wants them
 abbrev refused : List (List ℕ)
@@ -25,13 +29,13 @@ refused_ready = refl
 refused_none : map (λ text. all_read (read text)) refused ≡ None ∷ None ∷ None ∷ None ∷ None ∷ None ∷ None ∷ None ∷ None ∷ []
 refused_none = refl
 
-unfinished : (e : Expr) → Parses any_name 1 (tokens_of (codes "a0 = 5 +")) e → ⊥
-unfinished = no_expression any_name any_keeps 40 (tokens_of (codes "a0 = 5 +")) refl refl
+unfinished : (e : Expr) → Parses (loose later) 1 (tokens_of (codes "a0 = 5 +")) e → ⊥
+unfinished = no_expression (loose later) 40 (tokens_of (codes "a0 = 5 +")) refl refl
 
 -- a line of `require` without an expression says nothing
-require_refused : (ts : List Token) → ((e : Expr) → Parses any_name 1 ts e → ⊥) → (s : Says) → IsSaid any_name (NameToken (codes "require") ∷ ts) s → ⊥
-require_refused ts f (RequireIs e) p = let is : p.0 ≡ ts = let x = p.1 in cc in f e (subst (λ us. Parses any_name 1 us e) is p.2)
-require_refused ts f s p = let k = kind_is any_name (NameToken (codes "require") ∷ ts) s p in absurd (omega (arith, k))
+require_refused : (ts : List Token) → ((e : Expr) → Parses (loose later) 1 ts e → ⊥) → (s : Says) → IsSaid (loose later) (NameToken (codes "require") ∷ ts) s → ⊥
+require_refused ts f (RequireIs e) p = let is : p.0 ≡ ts = let x = p.1 in cc in f e (subst (λ us. Parses (loose later) 1 us e) is p.2)
+require_refused ts f s p = let k = kind_is (loose later) (NameToken (codes "require") ∷ ts) s p in absurd (omega (arith, k))
 
 -- tokens that may stand in every line, but for their numbers
 abbrev is_bad : Token → Bool
@@ -49,7 +53,7 @@ is_large (NumberToken n) = nat_le (2 ^ 32) n
 is_large t = false
 
 -- the first line of these texts is good
-first_good : AreGood rv_names (codes "entry 0x10000" ∷ []) (EntryIs (At 0x10000) ∷ [])
+first_good : AreGood (begin rv_names false) (codes "entry 0x10000" ∷ []) (EntryIs (At 0x10000) ∷ [])
 first_good = record { count = lit≤ tt; lines = (line_1, tt); none_repeats = (λ r. r refl, tt) }
 
 -- an expression without its end: the line is of the seven words, and its rest is not of the grammar
@@ -59,7 +63,7 @@ unfinished_text = codes "entry 0x10000" ++ 10 ∷ codes "require a0 = 5 +" ++ 10
 abbrev unfinished_tokens : List Token
 unfinished_tokens = tokens_of (codes "require a0 = 5 +")
 
-no_lesser : (g : NoteFault) → note_fault_rank g < 7 → NoteFaultApplies rv_names 2 (EntryIs (At 0x10000) ∷ []) (codes "require a0 = 5 +") g → ⊥
+no_lesser : (g : NoteFault) → note_fault_rank g < 7 → NoteFaultApplies later 2 (EntryIs (At 0x10000) ∷ []) (codes "require a0 = 5 +") g → ⊥
 no_lesser LimitFault less (inl above) = omega (arith, above)
 no_lesser LimitFault less (inr above) = omega (arith, above)
 no_lesser ByteFault less a = none_bad unfinished_tokens BadByte (refl, (refl, (refl, (refl, (refl, tt))))) refl a
@@ -74,6 +78,9 @@ no_lesser NameFault less a = omega (arith, less)
 no_lesser AlignFault less a = omega (arith, less)
 no_lesser RangeFault less a = omega (arith, less)
 no_lesser EntryFault less a = omega (arith, less)
+no_lesser VersionFault less a = omega (arith, less)
+no_lesser ConstFault less a = omega (arith, less)
+no_lesser AllFault less a = omega (arith, less)
 
 unfinished_is_refused : IsFirstNoteFault rv_names unfinished_text 2 SyntaxFault
 unfinished_is_refused =
@@ -84,7 +91,7 @@ unfinished_is_refused =
 abbrev large_text : List ℕ
 large_text = codes "entry 0x10000" ++ 10 ∷ codes "ensure 4294967296 = 0" ++ 10 ∷ []
 
-no_less : (g : NoteFault) → note_fault_rank g < 4 → NoteFaultApplies rv_names 2 (EntryIs (At 0x10000) ∷ []) (codes "ensure 4294967296 = 0") g → ⊥
+no_less : (g : NoteFault) → note_fault_rank g < 4 → NoteFaultApplies later 2 (EntryIs (At 0x10000) ∷ []) (codes "ensure 4294967296 = 0") g → ⊥
 no_less LimitFault less (inl above) = omega (arith, above)
 no_less LimitFault less (inr above) = omega (arith, above)
 no_less ByteFault less a = none_bad (tokens_of (codes "ensure 4294967296 = 0")) BadByte (refl, (refl, (refl, (refl, tt)))) refl a
@@ -97,6 +104,9 @@ no_less NameFault less a = omega (arith, less)
 no_less AlignFault less a = omega (arith, less)
 no_less RangeFault less a = omega (arith, less)
 no_less EntryFault less a = omega (arith, less)
+no_less VersionFault less a = omega (arith, less)
+no_less ConstFault less a = omega (arith, less)
+no_less AllFault less a = omega (arith, less)
 
 large_is_refused : IsFirstNoteFault rv_names large_text 2 NumberFault
 large_is_refused =
@@ -111,6 +121,6 @@ blank_is_refused : IsFirstNoteFault rv_names (codes "# nothing" ++ 10 ∷ []) 2 
 blank_is_refused =
     no_entry (Nothing ∷ []) (record {
       count = lit≤ tt;
-      lines = (record { short = lit≤ tt; good = λ k d less. absurd (omega (arith, less)); depth = lit≤ tt; said = refl; aligned = tt; range = tt }, tt);
+      lines = (record { short = lit≤ tt; good = λ k d less. absurd (omega (arith, less)); depth = lit≤ tt; said = refl; aligned = tt; range = tt; version = tt; new = tt }, tt);
       none_repeats = (λ r. r, tt);
     }) refl

@@ -1,13 +1,16 @@
 -- Worked notes: lines, tokens, an expression, a text and the values of operators.
-use Rattle.std.proofs.Common.{◌≡◌, ℕ, zero, suc, refl, List, [], ◌∷◌, ◌++◌, Option, Some, None, arith, All, map, codes, lit<, lit≤, ◌%◌}
+use Rattle.std.proofs.Common.{◌≡◌, ℕ, zero, suc, refl, List, [], ◌∷◌, ◌++◌, Option, Some, None, Bool, false, true, arith, All, map, codes, lit<, lit≤, ◌%◌}
 use Rattle.bilv_spec.specs.Memory.{Little, Big}
 use Rattle.bilv_spec.specs.State.{State}
-use Rattle.bilv_spec.specs.Notes.{Expr, BitOr, BitXor, BitAnd, Number, Register, Flag, Pc, Old, Not, Binary, Op, Or, And, Equal, Below, SignedBelow, SignedAtLeast, ShiftLeft, ShiftRight, ShiftSigned, Plus, Minus, Times, Notes, At, apply, value}
+use Rattle.bilv_spec.specs.Notes.{Expr, BitOr, BitXor, BitAnd, Number, Register, Flag, Pc, Old, Not, Binary, Op, Or, And, Equal, Below, SignedBelow, SignedAtLeast, ShiftLeft, ShiftRight, ShiftSigned, Plus, Minus, Times, Each, Notes, At, apply, value}
 use Rattle.bilv_spec.specs.Notes as notes
-use Rattle.bilv_spec.specs.NotesGrammar.{NumberToken, NameToken, SignToken, BadText, BadByte, tokens_of, lines_of, Parses, IsGood, EntryIs, EnsureIs, IsLine, IsNotesText}
+use Rattle.bilv_spec.specs.NotesGrammar.{NumberToken, NameToken, SignToken, BadText, BadByte, tokens_of, lines_of, Parses, IsGood, EntryIs, EnsureIs, IsLine, IsNotesText, is_second}
+use Rattle.bilv_spec.specs.Upgrades.{upgraded}
+use Rattle.std.specs.Prelude.{is_some}
+use Rattle.bilv_spec.specs.Scopes.{Scope, begin, declaring, lenient, loose}
 use Rattle.bilv_spec.specs.RvNames.{rv_names, rv_table}
 use Rattle.bilv_spec.specs.ArmNames.{arm_names, arm_table}
-use Rattle.bilv_spec.proofs.NotesTables.{Each}
+use Rattle.bilv_spec.proofs.NotesTables.{Each as EachOf}
 use Rattle.bilv_spec.proofs.NotesParser.{Level, work, all_read}
 use Rattle.bilv_spec.proofs.ParserEnds.{by_reading}
 
@@ -52,8 +55,12 @@ lines_3 : (lines_of [] ≡ []) × (lines_of (10 ∷ []) ≡ [] ∷ []) × (lines
 lines_3 = (refl, refl, refl)
 
 -- expressions: the levels, the grouping to the left, `not`, loads, and the names of both machines
+-- the scope of a line of version 1
+abbrev pub first : (List ℕ → Option Expr) → Bool → Scope
+first names is_first = record (begin names false) { is_first = is_first }
+
 abbrev read : (List ℕ → Option Expr) → List ℕ → Option Expr
-read names text = all_read (work names 60 (Level 1) (tokens_of text))
+read names text = all_read (work (first names false) 60 (Level 1) (tokens_of text))
 
 levels : read rv_names (codes "1 | 2 ^ 3 & 4 << 5 + 6 * 7") ≡
     Some (Binary BitOr (Number 1) (Binary BitXor (Number 2) (Binary BitAnd (Number 3)
@@ -85,9 +92,9 @@ other_machine = (refl, refl)
 abbrev one_larger : Expr
 one_larger = Binary Equal (Register 10) (Binary Plus (Old (Register 10)) (Number 1))
 
-line_says : Parses rv_names 1 (tokens_of (codes "a0 = old(a0) + 1")) one_larger
+line_says : Parses (first rv_names false) 1 (tokens_of (codes "a0 = old(a0) + 1")) one_larger
 unfolding rv_table
-line_says = by_reading rv_names 40 (tokens_of (codes "a0 = old(a0) + 1")) one_larger refl
+line_says = by_reading (first rv_names false) 40 (tokens_of (codes "a0 = old(a0) + 1")) one_larger refl
 
 -- the value of an operator at some words
 values : map (λ (o : Op). apply o 0x80000000 32) (ShiftLeft ∷ ShiftRight ∷ ShiftSigned ∷ SignedBelow ∷ Below ∷ Minus ∷ Times ∷ []) ≡ 0 ∷ 0 ∷ 0xffffffff ∷ 1 ∷ 0
@@ -130,22 +137,24 @@ one_more = record {
   fixed = [];
 }
 
-every : {X : Type 0} (P : X → Type 0) (xs : List X) → Each P xs → All P xs
+every : {X : Type 0} (P : X → Type 0) (xs : List X) → EachOf P xs → All P xs
 every P [] each k d below = absurd (omega (arith, below))
 every P (x ∷ xs) each zero d below = each.0
 every P (x ∷ xs) each (suc k) d below = every P xs each.1 k d (omega (arith, below))
 
-pub line_1 : IsLine rv_names (codes "entry 0x10000") (EntryIs (At 0x10000))
+pub line_1 : IsLine (first rv_names true) (codes "entry 0x10000") (EntryIs (At 0x10000))
 line_1 = record {
   short = lit≤ tt;
   good = every IsGood (tokens_of (codes "entry 0x10000")) (tt, (lit< tt, tt));
   depth = lit≤ tt;
-  said = refl;
+  said = (NumberToken 0x10000, refl, refl);
   aligned = refl;
   range = tt;
+  version = tt;
+  new = tt;
 }
 
-line_2 : IsLine rv_names (codes "ensure a0 = old(a0) + 1") (EnsureIs one_larger)
+line_2 : IsLine (first rv_names false) (codes "ensure a0 = old(a0) + 1") (EnsureIs one_larger)
 line_2 = record {
   short = lit≤ tt;
   good = every IsGood (tokens_of (codes "ensure a0 = old(a0) + 1")) (tt, (tt, (tt, (tt, (tt, (tt, (tt, (tt, (lit< tt, tt)))))))));
@@ -153,6 +162,8 @@ line_2 = record {
   said = (tokens_of (codes "a0 = old(a0) + 1"), refl, line_says);
   aligned = tt;
   range = tt;
+  version = tt;
+  new = tt;
 }
 
 notes_of_two_lines : IsNotesText rv_names two_lines one_more
@@ -162,3 +173,61 @@ notes_of_two_lines = record {
   lines = (line_1, (line_2, tt));
   notes_are = (refl, refl, refl, refl, refl, refl, λ i j d less below. absurd (omega (arith, below)));
 }
+
+-- version 2: an `all` written out, a constant, and what is refused of an `all`
+abbrev second : Scope
+second = declaring (begin rv_names true) (codes "n") 3
+
+abbrev read_second : Scope → List ℕ → Option Expr
+read_second s text = all_read (work s 40 (Level 1) (tokens_of text))
+
+each_of_four : read_second second (codes "all i 0 n (i)") ≡ Some
+    (Binary Each (Number 0) (Binary Each (Number 1) (Binary Each (Number 2) (Binary Each (Number 3) (Number 1)))))
+unfolding rv_table
+each_of_four = refl
+
+-- the constant within an `all`, and the bound name outside of it
+within_all : read_second second (codes "all i n n (i = n + 1) and n = 3") ≡ Some
+    (Binary And (Binary Each (Binary Equal (Number 3) (Binary Plus (Number 3) (Number 1))) (Number 1)) (Binary Equal (Number 3) (Number 3)))
+unfolding rv_table
+within_all = refl
+
+abbrev alls : List (List ℕ)
+alls = codes "all i 0 64 (i)" ∷ codes "all i 1 0 (i)" ∷ codes "all a0 0 3 (a0)" ∷ codes "all n 0 3 (n)" ∷ codes "all old 0 3 (1)"
+    ∷ codes "all i 0 3 (all j 0 3 (i + j))" ∷ []
+
+strictly_none : map (λ text. read_second second text) alls ≡ None ∷ None ∷ None ∷ None ∷ None ∷ None ∷ []
+unfolding rv_table
+strictly_none = refl
+
+leniently_some : map (λ text. is_some (read_second (lenient second) text)) alls ≡ true ∷ true ∷ true ∷ true ∷ true ∷ true ∷ []
+unfolding rv_table
+leniently_some = refl
+
+-- leniently none, and of the form: a name that nothing has, within an `all`, in its bounds, or outside of it
+abbrev nameless : List (List ℕ)
+nameless = codes "all i 0 3 (q)" ∷ codes "all i i 3 (i)" ∷ codes "all i 0 3 (i) and i = 1" ∷ codes "all i 0 old (i)" ∷ []
+
+leniently_none : map (λ text. read_second (lenient second) text) nameless ≡ None ∷ None ∷ None ∷ None ∷ []
+unfolding rv_table
+leniently_none = refl
+
+loosely_some : map (λ text. is_some (read_second (loose second) text)) nameless ≡ true ∷ true ∷ true ∷ true ∷ []
+loosely_some = refl
+
+-- no form: a reserved word in an expression, and an `all` in a text of version 1
+loosely_none : (read_second (loose second) (codes "all old 0 3 (old)") ≡ None) × (read_second (loose (begin rv_names false)) (codes "all i 0 3 (i)") ≡ None)
+loosely_none = (refl, refl)
+
+-- the version of a text is that of its first line with tokens, whatever stands in the lines before it
+versions : map (λ text. is_second (lines_of text))
+    (codes "notes 2" ∷ (codes "# a" ++ 10 ∷ codes " notes 0x2 # b") ∷ codes "notes 2 x" ∷ codes "notes 3" ∷ (codes "entry 4" ++ 10 ∷ codes "notes 2") ∷ [] ∷ [])
+    ≡ true ∷ true ∷ false ∷ false ∷ false ∷ false ∷ []
+versions = refl
+
+-- a line of notes in text
+upgraded_1 : upgraded (codes "entry 4" ++ 10 ∷ []) ≡ codes "notes 2" ++ 10 ∷ codes "entry 4" ++ 10 ∷ []
+upgraded_1 = refl
+
+upgraded_2 : upgraded (codes "notes 2" ++ 10 ∷ codes "entry 4") ≡ codes "notes 2" ++ 10 ∷ codes "entry 4"
+upgraded_2 = refl

@@ -1,10 +1,11 @@
 -- The tables of operators and of load_words, by token.
-use Rattle.std.proofs.Common.{◌≡◌, ℕ, zero, suc, ◌<◌, refl, ap, sym, subst, arith, List, [], ◌∷◌, Option, Some, None, Bool, true, false, ◌||◌, ◌==◌, nat_le, nat_lt, if◌then◌else◌, codes, bytes_eq, Contains, rules}
+use Rattle.std.proofs.Common.{◌≡◌, ℕ, zero, suc, ◌<◌, refl, ap, sym, subst, ◌∙◌, arith, List, [], ◌∷◌, Option, Some, None, Bool, true, false, ◌||◌, ◌&&◌, ◌==◌, nat_le, nat_lt, if◌then◌else◌, codes, bytes_eq, Contains, rules}
 use Rattle.std.proofs.lemmas.Slice.Eq.{bytes_eq-Decides}
 use Rattle.bilv_spec.specs.Notes.{Op, Expr}
-use Rattle.bilv_spec.specs.NotesGrammar.{Token, NameToken, SignToken, operators, load_words, left_of}
-use Rattle.bilv_spec.specs.NotesFaults.{reserved}
-use Rattle.bilv_spec.specs.NotesLaws.{KeepsReserved}
+use Rattle.bilv_spec.specs.NotesGrammar.{Token, NameToken, SignToken, load_words, left_of, operators}
+use Rattle.std.specs.Prelude.{◌++◌}
+use Rattle.std.specs.List.{list_any}
+use Rattle.bilv_spec.specs.Scopes.{Scope, reserved_first, is_reserved, reserved, named, name_by}
 
 -- a fact of each element
 abbrev pub Each : {X : Type 0} → (X → Type 0) → List X → Type 0
@@ -22,10 +23,49 @@ pub is_false : (b : Bool) → (b ≡ true → ⊥) → b ≡ false
 is_false false f = refl
 is_false true f = absurd (f refl)
 
+-- the reserved words, and `all` in version 2
+listed_any : (xs : List (List ℕ)) (x : List ℕ) → Contains xs x → list_any (bytes_eq x) xs ≡ true
+listed_any [] x c = absurd (omega (arith, c.1))
+listed_any (y ∷ ys) x (zero, below, is) = ap (λ z. z || list_any (bytes_eq x) ys) ((bytes_eq-Decides x y).1 (sym is))
+listed_any (y ∷ ys) x (suc k, below, is) = or_true (bytes_eq x y) (list_any (bytes_eq x) ys) (listed_any ys x (k, omega (arith, below), is)) where
+  or_true : (a b : Bool) → b ≡ true → (a || b) ≡ true
+  or_true true b h = refl
+  or_true false b h = h
+
+more_any : (xs ys : List (List ℕ)) (x : List ℕ) → list_any (bytes_eq x) xs ≡ true → list_any (bytes_eq x) (xs ++ ys) ≡ true
+more_any [] ys x h = absurd (let b : ⊥ = cc in b)
+more_any (z ∷ xs) ys x h = by (bytes_eq x z) h (more_any xs ys x) where
+  by : (b : Bool) → (b || list_any (bytes_eq x) xs) ≡ true → (list_any (bytes_eq x) xs ≡ true → list_any (bytes_eq x) (xs ++ ys) ≡ true) →
+      (b || list_any (bytes_eq x) (xs ++ ys)) ≡ true
+  by true h f = refl
+  by false h f = f h
+
+reserved_by : (b : Bool) (x : List ℕ) → Contains reserved_first x → list_any (bytes_eq x) (reserved b) ≡ true
+reserved_by false x c = listed_any reserved_first x c
+reserved_by true x c = more_any reserved_first (codes "all" ∷ []) x (listed_any reserved_first x c)
+
+all_reserved : (b : Bool) → b ≡ true → list_any (bytes_eq (codes "all")) (reserved b) ≡ true
+all_reserved b e = ap (λ z. list_any (bytes_eq (codes "all")) (reserved z)) e
+
+nameless : (s : Scope) (w : List ℕ) → is_reserved s w ≡ true → named s w ≡ None
+nameless s w h = ap (λ b. if b then None else name_by s.mode s w) h
+
+differs : (s : Scope) (w v : List ℕ) (e : Expr) → named s w ≡ Some e → named s v ≡ None → bytes_eq w v ≡ false
+differs s w v e is none =
+    is_false (bytes_eq w v) (λ h. let x : named s v ≡ Some e = subst (λ x. named s x ≡ Some e) ((bytes_eq-Decides w v).0 h) is in
+    let b : None ≡ Some e = sym none ∙ x in cc)
+
 -- a word with a meaning is no reserved word
-pub not_word : (names : List ℕ → Option Expr) → KeepsReserved names → (w v : List ℕ) (e : Expr) → names w ≡ Some e → Contains reserved v → bytes_eq w v ≡ false
-not_word names keeps w v e is c =
-    is_false (bytes_eq w v) (λ h. let n = keeps v c in let s : names v ≡ Some e = subst (λ x. names x ≡ Some e) ((bytes_eq-Decides w v).0 h) is in cc)
+pub not_word : (s : Scope) → (w v : List ℕ) (e : Expr) → named s w ≡ Some e → Contains reserved_first v → bytes_eq w v ≡ false
+not_word s w v e is c = differs s w v e is (nameless s v (reserved_by s.is_second v c))
+
+-- nor `all`
+and_false : (a b : Bool) → (a ≡ true → b ≡ false) → (a && b) ≡ false
+and_false true b f = f refl
+and_false false b f = refl
+
+pub not_all : (s : Scope) → (w : List ℕ) (e : Expr) → named s w ≡ Some e → (s.is_second && bytes_eq w (codes "all")) ≡ false
+not_all s w e is = and_false s.is_second (bytes_eq w (codes "all")) (λ b. differs s w (codes "all") e is (nameless s (codes "all") (all_reserved s.is_second b)))
 
 -- the same token
 abbrev pub same_token : Token → Token → Bool

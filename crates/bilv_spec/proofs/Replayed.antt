@@ -8,7 +8,7 @@ use Rattle.bilv_spec.specs.Points.{is_known_at}
 use Rattle.bilv_spec.specs.Texts.{line}
 use Rattle.bilv_spec.specs.Reports.{NamedEnding, FailsBy, UnknownBy, named_line, FoundEvent, FoundTurn, found_by}
 use Rattle.bilv_spec.specs.StateText.{Written, StateText, IsWritten, IsNamed, printed}
-use Rattle.bilv_spec.specs.Files.{layout_of}
+use Rattle.bilv_spec.specs.Files.{Options, layout_of}
 use Rattle.bilv_spec.specs.Answers.{Budget, Report, HoldsReport, VacuousReport, FailsReport, UnrollReport, PointsReport, SizeReport, ConflictsReport, Evidence, RunOf, IsRightReport, report_text, plain_answer, start_in}
 use Rattle.bilv_spec.specs.Replays.{text_limit, same_event, is_found, found_of, ending_answer, require_answer, start_answer, run_answer, told_answer, sized_answer, replay_answer}
 use Rattle.bilv_spec.specs.AnswerLaws.{named_of}
@@ -146,16 +146,17 @@ run_replays p n start entry is_found =
     (λ b. ending_answer b n (found_of p n start)) is_found
 
 -- a text that isn't too long, and is printed of the start
-text_replays : (file : List ℕ) (p : Program) (n : NamedEnding) (w : Written) → IsWritten (layout_of file) (is_known_at p) w → IsNamed n →
-    IsEntryState p (start_in p (layout_of file) w).state → is_found n (found_of p n (start_in p (layout_of file) w)) ≡ true →
-    length (printed (layout_of file) (record { named = n; start = w })) ≤ text_limit →
-    replay_answer p (layout_of file) (printed (layout_of file) (record { named = n; start = w })) ≡ plain_answer 0 (line (codes "replayed " ++ named_line n))
-text_replays file p n w written named entry is_found room =
+text_replays : (o : Options) (file : List ℕ) (p : Program) (n : NamedEnding) (w : Written) → IsWritten (layout_of o file) (is_known_at p) w → IsNamed n →
+    IsEntryState p (start_in p (layout_of o file) w).state → is_found n (found_of p n (start_in p (layout_of o file) w)) ≡ true →
+    length (printed (layout_of o file) (record { named = n; start = w })) ≤ text_limit →
+    replay_answer p (layout_of o file) (printed (layout_of o file) (record { named = n; start = w }))
+    ≡ plain_answer 0 (line (codes "replayed " ++ named_line n))
+text_replays o file p n w written named entry is_found room =
     let t : StateText = record { named = n; start = w } in
-    let text = printed (layout_of file) t in
+    let text = printed (layout_of o file) t in
     let short : nat_lt text_limit (length text) ≡ false = grind (arith, nat_tests) in
-    ap (λ b. sized_answer b p (layout_of file) text) short ∙ ap (told_answer p (layout_of file)) (printed_is_told file (is_known_at p) t written named)
-    ∙ run_replays p n (start_in p (layout_of file) w) entry is_found
+    ap (λ b. sized_answer b p (layout_of o file) text) short ∙ ap (told_answer p (layout_of o file)) (printed_is_told o file (is_known_at p) t written named)
+    ∙ run_replays p n (start_in p (layout_of o file) w) entry is_found
 
 -- what is found of a run that fails, and of one that turns
 found_failing : (p : Program) (start : Start) (k steps : ℕ) (e : Event) (at j : ℕ) → run p k start steps ≡ Failed e at j →
@@ -170,29 +171,30 @@ found_turning p start k steps at j h =
 no_name : (n : NamedEnding) → ◌≡◌ {A = Option NamedEnding} None (Some n) → ⊥
 no_name n e = cc
 
-pub report_replays : (file : List ℕ) (p : Program) (b : Budget) (r : Report) (e : Evidence) (n : NamedEnding) → IsRightReport p (layout_of file) b r e →
+pub report_replays : (o : Options) (file : List ℕ) (p : Program) (b : Budget) (r : Report) (e : Evidence) (n : NamedEnding) →
+    IsRightReport p (layout_of o file) b r e →
     named_of b r ≡ Some n →
-    IsNamed n → length (report_text (layout_of file) b r e) ≤ text_limit →
-    replay_answer p (layout_of file) (report_text (layout_of file) b r e) ≡ plain_answer 0 (line (codes "replayed " ++ named_line n))
-report_replays file p b HoldsReport e n a f named room = absurd (no_name n f)
-report_replays file p b VacuousReport e n a f named room = absurd (no_name n f)
-report_replays file p b PointsReport e n a f named room = absurd (no_name n f)
-report_replays file p b SizeReport e n a f named room = absurd (no_name n f)
-report_replays file p b ConflictsReport e n a f named room = absurd (no_name n f)
-report_replays file p b (FailsReport event at j) (RunOf w) n a f named room =
+    IsNamed n → length (report_text (layout_of o file) b r e) ≤ text_limit →
+    replay_answer p (layout_of o file) (report_text (layout_of o file) b r e) ≡ plain_answer 0 (line (codes "replayed " ++ named_line n))
+report_replays o file p b HoldsReport e n a f named room = absurd (no_name n f)
+report_replays o file p b VacuousReport e n a f named room = absurd (no_name n f)
+report_replays o file p b PointsReport e n a f named room = absurd (no_name n f)
+report_replays o file p b SizeReport e n a f named room = absurd (no_name n f)
+report_replays o file p b ConflictsReport e n a f named room = absurd (no_name n f)
+report_replays o file p b (FailsReport event at j) (RunOf w) n a f named room =
     let same : FailsBy event at j ≡ n = cc in
-    let start = start_in p (layout_of file) w in
+    let start = start_in p (layout_of o file) w in
     let found_is = found_failing p start b.unroll a.4.0 event at j a.4.1 in
     let is_found : is_found (FailsBy event at j) (found_of p (FailsBy event at j) start)
     ≡ true = rw (found_is, same_events event, same_number at, same_number j) refl in
-    text_replays file p (FailsBy event at j) w a.2 (subst IsNamed (sym same) named) a.3.entry is_found room ∙ ap
+    text_replays o file p (FailsBy event at j) w a.2 (subst IsNamed (sym same) named) a.3.entry is_found room ∙ ap
     (λ x. plain_answer 0 (line (codes "replayed " ++ named_line x))) same
-report_replays file p b (FailsReport event at j) other n a f named room = absurd a
-report_replays file p b (UnrollReport at j) (RunOf w) n a f named room =
+report_replays o file p b (FailsReport event at j) other n a f named room = absurd a
+report_replays o file p b (UnrollReport at j) (RunOf w) n a f named room =
     let same : UnknownBy b.unroll at j ≡ n = cc in
-    let start = start_in p (layout_of file) w in
+    let start = start_in p (layout_of o file) w in
     let found_is = found_turning p start b.unroll a.4.0 at j a.4.1 in
     let is_found : is_found (UnknownBy b.unroll at j) (found_of p (UnknownBy b.unroll at j) start) ≡ true = rw (found_is, same_number at, same_number j) refl in
-    text_replays file p (UnknownBy b.unroll at j) w a.2 (subst IsNamed (sym same) named) a.3.entry is_found room
+    text_replays o file p (UnknownBy b.unroll at j) w a.2 (subst IsNamed (sym same) named) a.3.entry is_found room
     ∙ ap (λ x. plain_answer 0 (line (codes "replayed " ++ named_line x))) same
-report_replays file p b (UnrollReport at j) other n a f named room = absurd a
+report_replays o file p b (UnrollReport at j) other n a f named room = absurd a

@@ -1,12 +1,13 @@
 -- Rows on single states, by computation: registers, flags and bytes after a word.
 use Rattle.std.proofs.Common.{◌≡◌, ℕ, ◌+◌, ◌*◌, refl, List, [], ◌∷◌, ◌++◌, Bool, Option, Some, None}
 use Rattle.std.specs.Prelude.{map}
+use Rattle.std.specs.Int.Count.{count_leading_zeros}
 use Rattle.bilv_spec.specs.Words.{bit}
 use Rattle.bilv_spec.specs.State.{State}
 use Rattle.bilv_spec.specs.Memory.{Little, Big, memory_of, byte_in}
 use Rattle.bilv_spec.specs.Machine.{Row, Outcome, Goes, Raises, OddHalfword}
 use Rattle.bilv_spec.specs.Rv.{rv32, table, rv_row}
-use Rattle.bilv_spec.specs.Arm.{arm, arm_row}
+use Rattle.bilv_spec.specs.Arm.{Profile, V4, V4T, V5, arm, arm_row}
 use Rattle.bilv_spec.specs.Arm as arm_rows
 
 -- the state at 0x10000 with these registers, flags (N, Z, C and V are 3, 2, 1 and 0) and bytes
@@ -173,7 +174,7 @@ abbrev regs_3 : ℕ → ℕ → ℕ → List (ℕ × ℕ)
 regs_3 a b c = (1, a) ∷ (2, b) ∷ (3, c) ∷ []
 
 abbrev arm_on : ℕ → (a b c carry : ℕ) → List ℕ
-arm_on w a b c carry = shown (0 ∷ []) [] (effect ((arm Little).row w) (state (regs_3 a b c) ((1, carry) ∷ []) []) 0)
+arm_on w a b c carry = shown (0 ∷ []) [] (effect ((arm Little V4).row w) (state (regs_3 a b c) ((1, carry) ∷ []) []) 0)
 
 arm_adds : arm_on 0xe0910002 0x7fffffff 0x1 0x0 0 ≡ 0x10004 ∷ 0x80000000 ∷ 1 ∷ 0 ∷ 0 ∷ 1 ∷ []
 unfolding arm_row arm_rows.table
@@ -284,53 +285,103 @@ unfolding arm_row arm_rows.table
 arm_beq = refl
 
 -- umull r0,r3,r1,r2; smulls r0,r3,r1,r2; umlal
-umull : shown (0 ∷ 3 ∷ []) [] (effect ((arm Little).row 0xe0830291) (state (regs_3 0xffffffff 0xffffffff 0) [] []) 0) ≡ 0x10004 ∷ 1 ∷ 0xfffffffe ∷ 0 ∷ 0 ∷ 0 ∷ 0
-    ∷ []
+umull : shown (0 ∷ 3 ∷ []) [] (effect ((arm Little V4).row 0xe0830291) (state (regs_3 0xffffffff 0xffffffff 0) [] []) 0) ≡
+    0x10004 ∷ 1 ∷ 0xfffffffe ∷ 0 ∷ 0 ∷ 0 ∷ 0 ∷ []
 unfolding arm_row arm_rows.table
 umull = refl
 
-smulls : shown (0 ∷ 3 ∷ []) [] (effect ((arm Little).row 0xe0d30291) (state (regs_3 0xffffffff 2 0) [] []) 3) ≡ 0x10004 ∷ 0xfffffffe ∷ 0xffffffff ∷ 1 ∷ 0 ∷ 1
+smulls : shown (0 ∷ 3 ∷ []) [] (effect ((arm Little V4).row 0xe0d30291) (state (regs_3 0xffffffff 2 0) [] []) 3) ≡ 0x10004 ∷ 0xfffffffe ∷ 0xffffffff ∷ 1 ∷ 0 ∷ 1
     ∷ 1 ∷ []
 unfolding arm_row arm_rows.table
 smulls = refl
 
 -- strh at an odd address; swp; ldrsb with write-back; stmdb with write-back of the base's old value; ldmib
-strh_odd : effect ((arm Little).row 0xe1c100b0) (state (regs_3 0x8001 0 0) [] []) 0 ≡ Some (Raises OddHalfword)
+strh_odd : effect ((arm Little V4).row 0xe1c100b0) (state (regs_3 0x8001 0 0) [] []) 0 ≡ Some (Raises OddHalfword)
 unfolding arm_row arm_rows.table
 strh_odd = refl
 
-swp : shown (0 ∷ []) (0x8000 ∷ 0x8003 ∷ []) (effect ((arm Little).row 0xe1010092) (state (regs_3 0x8001 0x11223344 0) [] ((0x8000, 0xaa) ∷ (0x8001, 0xbb)
+swp : shown (0 ∷ []) (0x8000 ∷ 0x8003 ∷ []) (effect ((arm Little V4).row 0xe1010092) (state (regs_3 0x8001 0x11223344 0) [] ((0x8000, 0xaa) ∷ (0x8001, 0xbb)
     ∷ [])) 0) ≡
     0x10004 ∷ 0xaa0000bb ∷ 0 ∷ 0 ∷ 0 ∷ 0 ∷ 0x44 ∷ 0x11 ∷ []
 unfolding arm_row arm_rows.table
 swp = refl
 
 -- ldrsb r0,[r1,#-1]!
-ldrsb : shown (0 ∷ 1 ∷ []) [] (effect ((arm Little).row 0xe17100d1) (state (regs_3 0x8001 0 0) [] ((0x8000, 0xfe) ∷ [])) 0) ≡
+ldrsb : shown (0 ∷ 1 ∷ []) [] (effect ((arm Little V4).row 0xe17100d1) (state (regs_3 0x8001 0 0) [] ((0x8000, 0xfe) ∷ [])) 0) ≡
     0x10004 ∷ 0xfffffffe ∷ 0x8000 ∷ 0 ∷ 0 ∷ 0 ∷ 0 ∷ []
 unfolding arm_row arm_rows.table
 ldrsb = refl
 
 -- ldr r0,[r1],-r2,lsl #2
-ldr_post : shown (0 ∷ 1 ∷ []) [] (effect ((arm Little).row 0xe6110102) (state (regs_3 0x8000 3 0) [] ((0x8000, 0xfe) ∷ [])) 0) ≡
+ldr_post : shown (0 ∷ 1 ∷ []) [] (effect ((arm Little V4).row 0xe6110102) (state (regs_3 0x8000 3 0) [] ((0x8000, 0xfe) ∷ [])) 0) ≡
     0x10004 ∷ 0xfe ∷ 0x7ff4 ∷ 0 ∷ 0 ∷ 0 ∷ 0 ∷ []
 unfolding arm_row arm_rows.table
 ldr_post = refl
 
 -- stmdb r1!,{r1,r2}
-stmdb : shown (1 ∷ []) (0x7ff8 ∷ 0x7ff9 ∷ 0x7ffc ∷ []) (effect ((arm Little).row 0xe9210006) (state (regs_3 0x8000 3 0) [] []) 0) ≡
+stmdb : shown (1 ∷ []) (0x7ff8 ∷ 0x7ff9 ∷ 0x7ffc ∷ []) (effect ((arm Little V4).row 0xe9210006) (state (regs_3 0x8000 3 0) [] []) 0) ≡
     0x10004 ∷ 0x7ff8 ∷ 0 ∷ 0 ∷ 0 ∷ 0 ∷ 0 ∷ 0x80 ∷ 3 ∷ []
 unfolding arm_row arm_rows.table
 stmdb = refl
 
 -- ldmib r1,{r0,pc}
-ldmib : shown (0 ∷ 1 ∷ []) [] (effect ((arm Big).row 0xe9918001) (state (regs_3 0x8000 3 0) [] ((0x8007, 5) ∷ (0x800b, 0x40) ∷ [])) 0) ≡
+ldmib : shown (0 ∷ 1 ∷ []) [] (effect ((arm Big V4).row 0xe9918001) (state (regs_3 0x8000 3 0) [] ((0x8007, 5) ∷ (0x800b, 0x40) ∷ [])) 0) ≡
     0x40 ∷ 5 ∷ 0x8000 ∷ 0 ∷ 0 ∷ 0 ∷ 0 ∷ []
 unfolding arm_row arm_rows.table
 ldmib = refl
 
+-- by profile: bx lr, bxeq lr with Z clear, clz r0,r1
+abbrev arm_by : Profile → ℕ → (a carry overflow choice : ℕ) → List ℕ
+arm_by profile w a carry overflow choice =
+    shown (0 ∷ []) [] (effect ((arm Little profile).row w) (state ((14, 0x8001) ∷ regs_3 a 2 0) ((1, carry) ∷ (0, overflow) ∷ []) []) choice)
+
+bx : arm_by V4T 0xe12fff1e 0 0 0 0 ≡ 0x8001 ∷ 0 ∷ 0 ∷ 0 ∷ 0 ∷ 0 ∷ []
+unfolding arm_row arm_rows.table
+bx = refl
+
+bx_eq : arm_by V5 0x012fff1e 0 0 0 0 ≡ 0x10004 ∷ 0 ∷ 0 ∷ 0 ∷ 0 ∷ 0 ∷ []
+unfolding arm_row arm_rows.table
+bx_eq = refl
+
+clz_0 : arm_by V5 0xe16f0f11 0 1 1 0 ≡ 0x10004 ∷ 32 ∷ 0 ∷ 0 ∷ 1 ∷ 1 ∷ []
+unfolding arm_row arm_rows.table count_leading_zeros
+clz_0 = refl
+
+clz_1 : arm_by V5 0xe16f0f11 1 0 0 0 ≡ 0x10004 ∷ 31 ∷ 0 ∷ 0 ∷ 0 ∷ 0 ∷ []
+unfolding arm_row arm_rows.table count_leading_zeros
+clz_1 = refl
+
+clz_2_16 : arm_by V5 0xe16f0f11 0x10000 0 0 0 ≡ 0x10004 ∷ 15 ∷ 0 ∷ 0 ∷ 0 ∷ 0 ∷ []
+unfolding arm_row arm_rows.table count_leading_zeros
+clz_2_16 = refl
+
+clz_full : arm_by V5 0xe16f0f11 0xffffffff 0 0 0 ≡ 0x10004 ∷ 0 ∷ 0 ∷ 0 ∷ 0 ∷ 0 ∷ []
+unfolding arm_row arm_rows.table count_leading_zeros
+clz_full = refl
+
+-- muls r0,r1,r2 and smulls r0,r3,r1,r2 where C and V are set and the choice is 0: under version 5 they stay
+muls_by_choice : arm_by V4T 0xe0100291 0xffffffff 1 1 0 ≡ 0x10004 ∷ 0xfffffffe ∷ 1 ∷ 0 ∷ 0 ∷ 1 ∷ []
+unfolding arm_row arm_rows.table
+muls_by_choice = refl
+
+muls_keeps : arm_by V5 0xe0100291 0xffffffff 1 1 0 ≡ 0x10004 ∷ 0xfffffffe ∷ 1 ∷ 0 ∷ 1 ∷ 1 ∷ []
+unfolding arm_row arm_rows.table
+muls_keeps = refl
+
+smulls_keeps : arm_by V5 0xe0d30291 0xffffffff 1 1 0 ≡ 0x10004 ∷ 0xfffffffe ∷ 1 ∷ 0 ∷ 1 ∷ 1 ∷ []
+unfolding arm_row arm_rows.table
+smulls_keeps = refl
+
+-- words without a row by profile: clz under version 4T, bx pc, clz of pc and to pc, bx and clz with another field
+no_rows_by : map (arm Little V4T).row (0xe16f0f11 ∷ 0xe12fff1f ∷ []) ++
+    map (arm Little V5).row (0xe12fff1f ∷ 0xe16f0f1f ∷ 0xe16fff11 ∷ 0xe12fff3e ∷ 0xe12f0f1e ∷ 0xe1600f11
+    ∷ 0xe16f0011 ∷ []) ≡
+    None ∷ None ∷ None ∷ None ∷ None ∷ None ∷ None ∷ None ∷ None ∷ []
+unfolding arm_row arm_rows.table
+no_rows_by = refl
+
 -- words without a row: bx lr, mrs, msr, clz, cond 15, mul with rd = rm, ldr with write-back to its own base, stm of a base that is not the lowest
-no_rows : map (arm Little).row (0xe12fff1e ∷ 0xe10f0000 ∷ 0xe129f000 ∷ 0xe16f0f11 ∷ 0xf0810002 ∷ 0xe0000190 ∷ 0xe5b11004 ∷ 0xe9210003 ∷ 0xe8d18000 ∷ []) ≡
+no_rows : map (arm Little V4).row (0xe12fff1e ∷ 0xe10f0000 ∷ 0xe129f000 ∷ 0xe16f0f11 ∷ 0xf0810002 ∷ 0xe0000190 ∷ 0xe5b11004 ∷ 0xe9210003 ∷ 0xe8d18000 ∷ []) ≡
     None ∷ None ∷ None ∷ None ∷ None ∷ None ∷ None ∷ None ∷ None ∷ []
 unfolding arm_row arm_rows.table
 no_rows = refl
@@ -343,7 +394,13 @@ abbrev flags_of : Option Row → List ℕ
 flags_of None = []
 flags_of (Some row) = sum_of row.flags.reads ∷ sum_of row.flags.assigns ∷ sum_of row.flags.surely ∷ []
 
-flags_are : map (λ w. flags_of ((arm Little).row w)) (0xe1b00020 ∷ 0xe1b00211 ∷ 0xe0a10002 ∷ 0x00910002 ∷ 0xe1b00001 ∷ []) ≡
+flags_are : map (λ w. flags_of ((arm Little V4).row w)) (0xe1b00020 ∷ 0xe1b00211 ∷ 0xe0a10002 ∷ 0x00910002 ∷ 0xe1b00001 ∷ []) ≡
     (0 ∷ 14 ∷ 14 ∷ []) ∷ (0 ∷ 14 ∷ 12 ∷ []) ∷ (2 ∷ 0 ∷ 0 ∷ []) ∷ (4 ∷ 15 ∷ 0 ∷ []) ∷ (0 ∷ 12 ∷ 12 ∷ []) ∷ []
 unfolding arm_row arm_rows.table
 flags_are = refl
+
+-- the flags that muls and smulls use by profile
+flags_by : map (λ profile. flags_of ((arm Little profile).row 0xe0100291) ++ flags_of ((arm Little profile).row 0xe0d30291)) (V4T ∷ V5 ∷ []) ≡
+    (0 ∷ 14 ∷ 14 ∷ 0 ∷ 15 ∷ 15 ∷ []) ∷ (0 ∷ 12 ∷ 12 ∷ 0 ∷ 12 ∷ 12 ∷ []) ∷ []
+unfolding arm_row arm_rows.table
+flags_by = refl

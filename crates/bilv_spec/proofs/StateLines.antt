@@ -10,6 +10,7 @@ use Rattle.bilv_spec.specs.Memory.{Endian, Little, Big}
 use Rattle.bilv_spec.specs.Run.{AssertFails, FetchFails, NoRow, HalfwordFails, CodeWritten, Trapped, AlignFails, JumpFails, EnsureFails}
 use Rattle.bilv_spec.specs.Reports.{NamedEnding, FailsBy, UnknownBy, named_words, place_words}
 use Rattle.bilv_spec.specs.Texts.{word_text, number_text, joined, words_in, decimal_word}
+use Rattle.bilv_spec.specs.Arm.{Profile, V4, V4T, V5}
 use Rattle.bilv_spec.specs.StateText.{Layout, rv_layout, arm_layout, IsNamed, StateLine, NamedLine, MachineLine, RegisterLine, ByteLine, ChoiceLine, EndLine, value_names, value_text, words_of_line, line_of, line_of_words, place_in, place_of, at_most, last_step, value_of, register_line}
 use Rattle.bilv_spec.proofs.Spelling.{same_text, Above, AllAbove, words_in_joined, joined_above, number_above, decimal_back, hex_back, hex_word_above}
 
@@ -59,10 +60,14 @@ pub rv_is_layout : IsLayout rv_layout
 unfolding digits
 rv_is_layout = record { machine = refl; names = refl }
 
-pub arm_is_layout : (e : Endian) → IsLayout (arm_layout e)
+pub arm_is_layout : (e : Endian) (profile : Profile) → IsLayout (arm_layout e profile)
 unfolding digits
-arm_is_layout Little = record { machine = refl; names = refl }
-arm_is_layout Big = record { machine = refl; names = refl }
+arm_is_layout Little V4 = record { machine = refl; names = refl }
+arm_is_layout Little V4T = record { machine = refl; names = refl }
+arm_is_layout Little V5 = record { machine = refl; names = refl }
+arm_is_layout Big V4 = record { machine = refl; names = refl }
+arm_is_layout Big V4T = record { machine = refl; names = refl }
+arm_is_layout Big V5 = record { machine = refl; names = refl }
 
 plain_above : (w : List ℕ) → is_plain w ≡ true → Above 32 w
 plain_above [] e = tt

@@ -2,13 +2,14 @@
 use Rattle.std.proofs.Common.{◌≡◌, ℕ, refl, List, [], ◌∷◌, ◌++◌, Option, Some, None, Bool, true, false}
 use Rattle.std.specs.Prelude.{codes, map, replicate, ◌==◌, if◌then◌else◌}
 use Rattle.std.specs.Fmt.{digits}
-use Rattle.bilv_spec.specs.Memory.{Little}
+use Rattle.bilv_spec.specs.Memory.{Little, Big}
 use Rattle.bilv_spec.specs.Elf.{loaded}
 use Rattle.bilv_spec.specs.Notes.{Notes, At, Register, Number, Old, Binary, Above, Equal}
 use Rattle.bilv_spec.specs.RowFiles.{rv_file}
 use Rattle.bilv_spec.specs.Rv.{rv32, table, rv_row}
 use Rattle.bilv_spec.specs.Run.{Program, in_memory, run, AssertFails, FetchFails, AlignFails, EnsureFails}
 use Rattle.bilv_spec.specs.Reports.{FailsBy, UnknownBy, named_line, FoundExit, FoundLeft, found}
+use Rattle.bilv_spec.specs.Arm.{V4, V4T, V5}
 use Rattle.bilv_spec.specs.StateText.{StateText, Written, StateLineFault, StateRegisterFault, StateByteFault, StateChoiceFault, StateEndFault, Told, StateIs, StateRefused, rv_layout, arm_layout, printed, state_of}
 use Rattle.bilv_spec.specs.Answers.{HoldsReport, VacuousReport, PointsReport, SizeReport, ConflictsReport, NoEvidence, default_budget, report_text, start_in}
 use Rattle.bilv_spec.specs.Verified.{usage_text, ambiguous_text, note_fault_text, elf_fault_text}
@@ -68,17 +69,27 @@ arm_head =
 abbrev arm_lines : List (List ℕ)
 arm_lines = arm_head ++ codes "choice 0 3" ∷ codes "choice 17 1" ∷ codes "end" ∷ []
 
-arm_printed : printed (arm_layout Little) arm_report ≡ lines arm_lines
+arm_headers : map (λ profile. (arm_layout Little profile).machine) (V4 ∷ V4T ∷ V5 ∷ []) ++
+    map (λ profile. (arm_layout Big profile).machine) (V4 ∷ V4T ∷ V5 ∷ []) ≡
+    codes "armv4-le" ∷ codes "armv4t-le" ∷ codes "armv5-le" ∷ codes "armv4-be" ∷ codes "armv4t-be" ∷ codes "armv5-be" ∷ []
+arm_headers = refl
+
+-- a report under one profile is none under another
+other_profile : state_of (arm_layout Little V4T) (λ a. false) (lines arm_lines) ≡ StateRefused 2 StateLineFault
+unfolding state_of digits
+other_profile = refl
+
+arm_printed : printed (arm_layout Little V4) arm_report ≡ lines arm_lines
 unfolding printed digits
 arm_printed = refl
 
-arm_told : state_of (arm_layout Little) (λ a. false) (lines arm_lines) ≡ StateIs arm_report
+arm_told : state_of (arm_layout Little V4) (λ a. false) (lines arm_lines) ≡ StateIs arm_report
 unfolding state_of digits
 arm_told = refl
 
 -- what ARM's text is told where behind its registers and flags these lines stand, and the byte at 0x10000 is known
 abbrev arm_tells : List (List ℕ) → Told
-arm_tells more = state_of (arm_layout Little) (λ a. a == 0x10000) (lines (arm_head ++ more))
+arm_tells more = state_of (arm_layout Little V4) (λ a. a == 0x10000) (lines (arm_head ++ more))
 
 -- line 22 is the first behind the flags: a byte that is 0, known or out of order; a choice out of range or out of order; an end that is missed or not the last
 byte_faults :
@@ -146,7 +157,7 @@ unfolding state_of digits
 head_faults = refl
 
 -- the last line feed may lack
-no_last_feed : state_of (arm_layout Little) (λ a. false) (lines arm_head ++ codes "end") ≡
+no_last_feed : state_of (arm_layout Little V4) (λ a. false) (lines arm_head ++ codes "end") ≡
     StateIs (record { named = UnknownBy 64 0x10004 129; start = record { regs = 0xdeadbeef ∷ replicate 14 0; flags = 2; bytes = []; choices = [] } })
 unfolding state_of digits
 no_last_feed = refl
@@ -204,7 +215,7 @@ refusals : elf_fault_text elf.SegmentsOverlap ∷ note_fault_text 2 note_faults.
 unfolding digits
 refusals = refl
 
-usage : usage_text ≡ line (codes "usage: bilv verify|lift|graph|smt|replay|cert|check|selfrun")
+usage : usage_text ≡ line (codes "usage: bilv verify|lift|graph|smt|replay|cert|check|selfrun|upgrade")
 usage = refl
 
 -- work of three items: a0 after it, its words, its notes and the text before the verdict's line

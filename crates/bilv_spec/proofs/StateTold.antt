@@ -2,23 +2,24 @@
 use Rattle.std.proofs.Common.{◌≡◌, ℕ, refl, ap, sym, ◌∙◌, Bool, true, false, List, if◌then◌else◌, ◌⊎◌, inl, inr}
 use Rattle.bilv_spec.specs.Memory.{Endian}
 use Rattle.bilv_spec.specs.Elf.{file_endian}
-use Rattle.bilv_spec.specs.Files.{is_rv, layout_of}
+use Rattle.bilv_spec.specs.Arm.{Profile}
+use Rattle.bilv_spec.specs.Files.{Options, is_rv, layout_of}
 use Rattle.bilv_spec.specs.StateText.{Layout, rv_layout, arm_layout, StateText, StateFault, IsWritten, IsNamed, state_lines, printed, Told, StateIs, StateRefused, state_of}
 use Rattle.bilv_spec.proofs.StateLines.{IsLayout, rv_is_layout, arm_is_layout}
 use Rattle.bilv_spec.specs.Texts.{split_lines}
 use Rattle.bilv_spec.proofs.StateBack.{printed_back}
 use Rattle.bilv_spec.proofs.StateExact.{told_exact}
 
-layout_by : (b : Bool) (e : Endian) → IsLayout (if b then rv_layout else arm_layout e)
-layout_by true e = rv_is_layout
-layout_by false e = arm_is_layout e
+layout_by : (b : Bool) (e : Endian) (profile : Profile) → IsLayout (if b then rv_layout else arm_layout e profile)
+layout_by true e profile = rv_is_layout
+layout_by false e profile = arm_is_layout e profile
 
-pub file_layout : (file : List ℕ) → IsLayout (layout_of file)
-file_layout file = layout_by (is_rv file) (file_endian file)
+pub file_layout : (o : Options) (file : List ℕ) → IsLayout (layout_of o file)
+file_layout o file = layout_by (is_rv file) (file_endian file) o.profile
 
-pub printed_is_told : (file : List ℕ) (known : ℕ → Bool) (t : StateText) → IsWritten (layout_of file) known t.start → IsNamed t.named →
-    state_of (layout_of file) known (printed (layout_of file) t) ≡ StateIs t
-printed_is_told file known t w n = printed_back (layout_of file) (file_layout file) known t w n
+pub printed_is_told : (o : Options) (file : List ℕ) (known : ℕ → Bool) (t : StateText) → IsWritten (layout_of o file) known t.start → IsNamed t.named →
+    state_of (layout_of o file) known (printed (layout_of o file) t) ≡ StateIs t
+printed_is_told o file known t w n = printed_back (layout_of o file) (file_layout o file) known t w n
 
 same_state : (t u : StateText) → StateIs t ≡ StateIs u → t ≡ u
 same_state t u e = ap (state_in t) e
@@ -27,10 +28,10 @@ same_state t u e = ap (state_in t) e
     state_in d (StateIs x) = x
     state_in d (StateRefused n f) = d
 
-pub printed_once : (file : List ℕ) (known : ℕ → Bool) (t u : StateText) → IsWritten (layout_of file) known t.start → IsNamed t.named →
-    IsWritten (layout_of file) known u.start → IsNamed u.named → printed (layout_of file) t ≡ printed (layout_of file) u → t ≡ u
-printed_once file known t u w n x m e =
-    same_state t u (sym (printed_is_told file known t w n) ∙ ap (state_of (layout_of file) known) e ∙ printed_is_told file known u x m)
+pub printed_once : (o : Options) (file : List ℕ) (known : ℕ → Bool) (t u : StateText) → IsWritten (layout_of o file) known t.start → IsNamed t.named →
+    IsWritten (layout_of o file) known u.start → IsNamed u.named → printed (layout_of o file) t ≡ printed (layout_of o file) u → t ≡ u
+printed_once o file known t u w n x m e =
+    same_state t u (sym (printed_is_told o file known t w n) ∙ ap (state_of (layout_of o file) known) e ∙ printed_is_told o file known u x m)
 
 pub told_is_printed : (layout : Layout) (known : ℕ → Bool) (text : List ℕ) (t : StateText) → state_of layout known text ≡ StateIs t →
     IsWritten layout known t.start × IsNamed t.named × (split_lines text ≡ state_lines layout t)

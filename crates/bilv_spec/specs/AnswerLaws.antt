@@ -8,7 +8,7 @@ use Rattle.bilv_spec.specs.Verdict.{IsEntryState, Verdict, Holds, Vacuous, Fails
 use Rattle.bilv_spec.specs.Reports.{NamedEnding, FailsBy, UnknownBy}
 use Rattle.bilv_spec.specs.StateText.{Layout}
 use Rattle.bilv_spec.specs.Answers.{Budget, Report, HoldsReport, VacuousReport, FailsReport, UnrollReport, PointsReport, Evidence, IsRightReport, Answer, plain_answer}
-use Rattle.bilv_spec.specs.Outcomes.{Command, Verify, Lift, Graph, Script, Replay, Certify, Check, SelfRun, Surroundings, read_fault, IsRightAnswer}
+use Rattle.bilv_spec.specs.Outcomes.{Command, Verify, Lift, Graph, Script, Replay, Certify, Check, SelfRun, Upgrade, Surroundings, read_fault, IsRightAnswer}
 use Rattle.bilv_spec.specs.Verified.{IsElfRefused}
 
 -- the verdict that a report gives
@@ -39,14 +39,15 @@ named_of b other = None
 
 -- the file that a command reads first
 abbrev pub first_file : Command → Option (List ℕ)
-first_file (Verify elf notes b) = Some elf
-first_file (Lift elf) = Some elf
-first_file (Graph elf notes) = Some elf
-first_file (Script elf notes kind b) = Some elf
-first_file (Replay elf notes report) = Some elf
-first_file (Certify elf notes kind b) = Some elf
+first_file (Verify o elf notes b) = Some elf
+first_file (Lift o elf) = Some elf
+first_file (Graph o elf notes) = Some elf
+first_file (Script o elf notes kind b) = Some elf
+first_file (Replay o elf notes report) = Some elf
+first_file (Certify o elf notes kind b) = Some elf
 first_file (Check certificate) = Some certificate
 first_file (SelfRun seed count) = None
+first_file (Upgrade o elf notes) = Some elf
 
 -- where no file has the name that a command reads first, its answer is a read fault, and the count of that name rose
 abbrev pub AbsentFails : Type 0

@@ -1,10 +1,34 @@
--- The instruction table of ARM state, version 4 (ARM Architecture Reference Manual, ARM DDI 0100I, chapters A2 to A5).
+-- The instruction table of ARM state by profile: version 4, version 4T with BX, version 5 with BX and CLZ (ARM Architecture Reference Manual, ARM DDI 0100I,
+-- chapters A2 to A5).
 use Rattle.std.specs.Prelude.{ℕ, zero, suc, ◌+◌, ◌-◌, ◌*◌, ◌/◌, ◌%◌, ◌^◌, Bool, true, false, List, [], ◌∷◌, Option, Some, None, ◌==◌, ◌&&◌, ◌||◌, not, nat_le, if◌then◌else◌, bit_and, bit_or, bit_xor, length}
 use Rattle.std.specs.List.{list_any}
+use Rattle.std.specs.Int.Count.{count_leading_zeros}
 use Rattle.bilv_spec.specs.Words.{add, sub, mul, bits, bit, bit_at, sign_extend, complement, shl, shr, sar, ror, aligned}
 use Rattle.bilv_spec.specs.Memory.{Endian, Memory, load, store}
 use Rattle.bilv_spec.specs.State.{State, put, with_pc, flag_n, flag_z, flag_c, flag_v}
 use Rattle.bilv_spec.specs.Machine.{On, Direct, DirectCall, Indirect, Outcome, Goes, Raises, SoftwareInterrupt, OddHalfword, UnalignedLoad, Successors, only_next, Cost, FlagUse, Row, Machine}
+
+-- which instructions beside those of version 4 have rows
+pub data Profile : Type 0 where
+  V4 : Profile
+  V4T : Profile
+  V5 : Profile
+
+-- BX comes with version 4T
+abbrev pub has_exchange : Profile → Bool
+has_exchange V4 = false
+has_exchange V4T = true
+has_exchange V5 = true
+
+-- CLZ comes with version 5, from which on a multiply that sets the flags keeps C and V
+abbrev pub is_fifth : Profile → Bool
+is_fifth V4 = false
+is_fifth V4T = false
+is_fifth V5 = true
+
+-- the profile of a number: 0 version 4, 1 version 4T, any other version 5
+abbrev pub profile_of : ℕ → Profile
+profile_of n = if n == 0 then V4 else if n == 1 then V4T else V5
 
 -- the register in bits 19 to 16
 abbrev pub field_n : ℕ → ℕ
@@ -359,21 +383,26 @@ is_multiply w =
     && not (is_pc_among (field_n w ∷ field_d w ∷ field_s w ∷ field_m w ∷ []))
     && not (field_n w == field_m w) && (accumulates w || (field_d w == 0))
 
--- The destination is in bits 19 to 16 and the addend in bits 15 to 12. With S, N and Z are the result's, C is the choice's low bit and V is kept.
-abbrev pub multiplied : ℕ → State → ℕ → Outcome
-multiplied w s c =
+-- a multiply that sets the flags, unless it keeps C and V, takes them from the choice
+abbrev pub by_choice : (keeps : Bool) → ℕ → Bool
+by_choice keeps w = not keeps && sets_flags w
+
+-- The destination is in bits 19 to 16 and the addend in bits 15 to 12. With S, N and Z are the result's; C is kept, or is the choice's low bit; V is kept.
+abbrev pub multiplied : (keeps : Bool) → ℕ → State → ℕ → Outcome
+multiplied keeps w s c =
     let v = add 32 (mul 32 (reg s (field_m w)) (reg s (field_s w))) (if accumulates w then reg s (field_d w) else 0) in
+    let carry = if keeps then s.flags flag_c else bit_at 0 c in
     on s (record s {
       regs = put s.regs (field_n w) v;
-      flags = (if sets_flags w then with_flags s.flags (bit_at 31 v) (bit (v == 0)) (bit_at 0 c) (s.flags flag_v) else s.flags);
+      flags = (if sets_flags w then with_flags s.flags (bit_at 31 v) (bit (v == 0)) carry (s.flags flag_v) else s.flags);
     })
 
 -- the row of MUL and MLA
-abbrev pub multiply : ℕ → Row
-multiply w = record (row_of w (multiplied w)) {
+abbrev pub multiply : (keeps : Bool) → ℕ → Row
+multiply keeps w = record (row_of w (multiplied keeps w)) {
   cost = record { row = 20000; loads = 0; stores = 0 };
-  flags = flag_use w none (flag_set (sets_flags w) (sets_flags w) false) (flag_set (sets_flags w) (sets_flags w) false);
-  draws = sets_flags w;
+  flags = flag_use w none (flag_set (sets_flags w) (by_choice keeps w) false) (flag_set (sets_flags w) (by_choice keeps w) false);
+  draws = by_choice keeps w;
 }
 
 -- a word has a row of UMULL, UMLAL, SMULL or SMLAL
@@ -383,24 +412,26 @@ is_multiply_long w =
     && not (is_pc_among (field_n w ∷ field_d w ∷ field_s w ∷ field_m w ∷ []))
     && not (field_n w == field_d w) && not (field_n w == field_m w) && not (field_d w == field_m w)
 
--- The upper half goes to the register in bits 19 to 16, the lower to that in bits 15 to 12. Bit 22 is set for signed ones. With S, C and V are the choice's
--- bits.
-abbrev pub multiplied_long : ℕ → State → ℕ → Outcome
-multiplied_long w s c =
+-- The upper half goes to the register in bits 19 to 16, the lower to that in bits 15 to 12. Bit 22 is set for signed ones. With S, C and V are kept, or are the
+-- choice's bits.
+abbrev pub multiplied_long : (keeps : Bool) → ℕ → State → ℕ → Outcome
+multiplied_long keeps w s c =
     let wide = λ (x : ℕ). if has_bit 22 w then sign_extend 32 64 x else x in
     let product = mul 64 (wide (reg s (field_m w))) (wide (reg s (field_s w))) in
     let v = add 64 product (if accumulates w then reg s (field_n w) * 2 ^ 32 + reg s (field_d w) else 0) in
+    let carry = if keeps then s.flags flag_c else bit_at 0 c in
+    let overflow = if keeps then s.flags flag_v else bit_at 1 c in
     on s (record s {
       regs = put (put s.regs (field_d w) (v % 2 ^ 32)) (field_n w) (v / 2 ^ 32);
-      flags = (if sets_flags w then with_flags s.flags (bit_at 63 v) (bit (v == 0)) (bit_at 0 c) (bit_at 1 c) else s.flags);
+      flags = (if sets_flags w then with_flags s.flags (bit_at 63 v) (bit (v == 0)) carry overflow else s.flags);
     })
 
 -- the row of UMULL, UMLAL, SMULL and SMLAL
-abbrev pub multiply_long : ℕ → Row
-multiply_long w = record (row_of w (multiplied_long w)) {
+abbrev pub multiply_long : (keeps : Bool) → ℕ → Row
+multiply_long keeps w = record (row_of w (multiplied_long keeps w)) {
   cost = record { row = 20000; loads = 0; stores = 0 };
-  flags = flag_use w none (flag_set (sets_flags w) (sets_flags w) (sets_flags w)) (flag_set (sets_flags w) (sets_flags w) (sets_flags w));
-  draws = sets_flags w;
+  flags = flag_use w none (flag_set (sets_flags w) (by_choice keeps w) (by_choice keeps w)) (flag_set (sets_flags w) (by_choice keeps w) (by_choice keeps w));
+  draws = by_choice keeps w;
 }
 
 -- a word's load: the aligned word, rotated so that the addressed byte is the lowest (section A3.11)
@@ -676,33 +707,57 @@ software_interrupt w = record (row_of w (λ s c. Raises SoftwareInterrupt)) {
   successors = λ at. record { next = not (is_always w); direct = None; indirect = false; call = false };
 }
 
+-- a word has a row of BX (section A4.1.10)
+abbrev pub is_exchange : ℕ → Bool
+is_exchange w = (bits 27 4 w == 0x12fff1) && not (field_m w == 15)
+
+-- The row of BX: an indirect jump to the register with its low bits, and no call. There is no other state to go to, so an address with a low bit is not
+-- aligned.
+abbrev pub exchange : ℕ → Row
+exchange w = record (row_of w (λ s c. Goes Indirect (with_pc s (reg s (field_m w))))) { successors = may_write_pc w true }
+
+-- a word has a row of CLZ (section A4.1.13)
+abbrev pub is_count : ℕ → Bool
+is_count w = (bits 27 16 w == 0x16f) && (bits 11 4 w == 0xf1) && not (field_d w == 15) && not (field_m w == 15)
+
+-- what CLZ does: the number of bits above the highest one bit, 32 for 0
+abbrev pub counted : ℕ → State → Outcome
+counted w s = on s (record s { regs = put s.regs (field_d w) (count_leading_zeros 32 (reg s (field_m w))) })
+
+-- the row of CLZ
+abbrev pub count : ℕ → Row
+count w = row_of w (λ s c. counted w s)
+
 -- instructions: which words they have, and their rows
 pub record Instruction : Type 0 where
   pub is : ℕ → Bool
   pub row : ℕ → Row
 
--- The table: data processing, MUL and MLA, UMULL to SMLAL, SWP, LDR and STR, halfwords and signed bytes, LDM and STM, B and BL, SWI. No word is of two lines.
-unfoldable pub table : Endian → List Instruction
-table e =
+-- The table of a profile: data processing, MUL and MLA, UMULL to SMLAL, SWP, LDR and STR, halfwords and signed bytes, LDM and STM, B and BL, SWI, BX, CLZ. No
+-- word is of two lines.
+unfoldable pub table : Endian → Profile → List Instruction
+table e profile =
     record { is = is_computing; row = computing } ∷
-    record { is = is_multiply; row = multiply } ∷
-    record { is = is_multiply_long; row = multiply_long } ∷
+    record { is = is_multiply; row = multiply (is_fifth profile) } ∷
+    record { is = is_multiply_long; row = multiply_long (is_fifth profile) } ∷
     record { is = is_swap; row = swap e } ∷
     record { is = is_transfer; row = single_transfer e } ∷
     record { is = is_halfword; row = halfword e } ∷
     record { is = is_block; row = block e } ∷
     record { is = is_branch; row = branch } ∷
-    record { is = is_software_interrupt; row = software_interrupt } ∷ []
+    record { is = is_software_interrupt; row = software_interrupt } ∷
+    record { is = λ w. has_exchange profile && is_exchange w; row = exchange } ∷
+    record { is = λ w. is_fifth profile && is_count w; row = count } ∷ []
 
 -- the row of a word by a table
 abbrev pub row_in : List Instruction → ℕ → Option Row
 row_in [] w = None
 row_in (x ∷ rest) w = if x.is w then Some (x.row w) else row_in rest w
 
--- the row of a word, in a byte order
-unfoldable pub arm_row : Endian → ℕ → Option Row
-arm_row e w = if condition_code w == 15 then None else row_in (table e) w
+-- the row of a word, in a byte order and a profile
+unfoldable pub arm_row : Endian → Profile → ℕ → Option Row
+arm_row e profile w = if condition_code w == 15 then None else row_in (table e profile) w
 
--- the machine, in a byte order
-abbrev pub arm : Endian → Machine
-arm e = record { endian = e; link = 14; has_register = λ r. nat_le r 14; has_flag = λ f. nat_le f 3; row = arm_row e }
+-- the machine, in a byte order and a profile
+abbrev pub arm : Endian → Profile → Machine
+arm e profile = record { endian = e; link = 14; has_register = λ r. nat_le r 14; has_flag = λ f. nat_le f 3; row = arm_row e profile }

@@ -1,13 +1,13 @@
 -- Laws of the machine of ARM.
 use Rattle.bilv_spec.specs.Memory.{Endian}
-use Rattle.bilv_spec.specs.Arm.{arm}
+use Rattle.bilv_spec.specs.Arm.{Profile, arm}
 use Rattle.bilv_spec.specs.StateText.{arm_layout}
 use Rattle.bilv_spec.specs.MachineLaws.{IsLawfulMachine, IsFitted}
 
--- each row of ARM state is lawful, in both byte orders
+-- each row of ARM state is lawful, in both byte orders and each profile
 abbrev pub ArmIsLawful : Type 0
-ArmIsLawful = (e : Endian) → IsLawfulMachine (arm e)
+ArmIsLawful = (e : Endian) (profile : Profile) → IsLawfulMachine (arm e profile)
 
--- its state texts name its registers and flags
+-- its state texts name its registers and flags, in both byte orders and each profile
 abbrev pub ArmIsFitted : Type 0
-ArmIsFitted = (e : Endian) → IsFitted (arm e) (arm_layout e)
+ArmIsFitted = (e : Endian) (profile : Profile) → IsFitted (arm e profile) (arm_layout e profile)

@@ -1,5 +1,6 @@
 -- The program of two files: an ELF file and notes.
 use Rattle.std.specs.Prelude.{ℕ, ◌≡◌, ◌==◌, Bool, List, Option, if◌then◌else◌}
+use Rattle.bilv_spec.specs.Memory.{Endian, Little}
 use Rattle.bilv_spec.specs.Machine.{Machine}
 use Rattle.bilv_spec.specs.Elf.{field, file_endian, loaded}
 use Rattle.bilv_spec.specs.ElfFaults.{Finds}
@@ -7,7 +8,7 @@ use Rattle.bilv_spec.specs.Notes.{Notes, Expr, Function, At, Named}
 use Rattle.bilv_spec.specs.NotesGrammar.{IsNotesText}
 use Rattle.bilv_spec.specs.Run.{Program, in_memory}
 use Rattle.bilv_spec.specs.Rv.{rv32}
-use Rattle.bilv_spec.specs.Arm.{arm}
+use Rattle.bilv_spec.specs.Arm.{Profile, V4, arm}
 use Rattle.bilv_spec.specs.RvNames.{rv_names}
 use Rattle.bilv_spec.specs.ArmNames.{arm_names}
 use Rattle.bilv_spec.specs.StateText.{Layout, rv_layout, arm_layout}
@@ -16,22 +17,33 @@ use Rattle.bilv_spec.specs.StateText.{Layout, rv_layout, arm_layout}
 abbrev pub is_rv : List ℕ → Bool
 is_rv file = field file 2 18 == 243
 
+-- what a file leaves open of its machine: ARM's profile, which changes nothing of a RISC-V file
+pub record Options : Type 0 where
+  pub profile : Profile
+
+-- the options where none are given
+abbrev pub default_options : Options
+default_options = record { profile = V4 }
+
+-- the byte order of a file's words, which no option changes
+abbrev pub order_of : List ℕ → Endian
+order_of file = if is_rv file then Little else file_endian file
+
 -- the machine of a file
-abbrev pub machine_of : List ℕ → Machine
-machine_of file = if is_rv file then rv32 else arm (file_endian file)
+abbrev pub machine_of : Options → List ℕ → Machine
+machine_of o file = if is_rv file then rv32 else arm (file_endian file) o.profile
 
 -- what notes call its registers and flags
 abbrev pub names_of : List ℕ → List ℕ → Option Expr
 names_of file w = if is_rv file then rv_names w else arm_names w
 
 -- the layout of its state texts
-abbrev pub layout_of : List ℕ → Layout
-layout_of file = if is_rv file then rv_layout else arm_layout (file_endian file)
+abbrev pub layout_of : Options → List ℕ → Layout
+layout_of o file = if is_rv file then rv_layout else arm_layout (file_endian file) o.profile
 
--- the program of an ELF file, notes and the address of their function
-abbrev pub program_of : List ℕ → Notes → ℕ → Program
-program_of file notes entry =
-    record { machine = machine_of file; word = in_memory (machine_of file); loaded = loaded file; entry = entry; notes = notes }
+-- the program of a machine, an ELF file, notes and the address of their function
+abbrev pub program_of : Machine → List ℕ → Notes → ℕ → Program
+program_of m file notes entry = record { machine = m; word = in_memory m; loaded = loaded file; entry = entry; notes = notes }
 
 -- the address of the function: the number that the notes give, or what their name finds
 abbrev pub IsFunctionAt : List ℕ → Function → ℕ → Type 0
@@ -39,6 +51,7 @@ IsFunctionAt file (At a) entry = a ≡ entry
 IsFunctionAt file (Named name) entry = Finds file name entry
 
 -- the two texts are this program
-abbrev pub IsProgram : List ℕ → List ℕ → Program → Type 0
-IsProgram file text p =
-    (notes : Notes) × (entry : ℕ) × IsNotesText (names_of file) text notes × IsFunctionAt file notes.entry entry × (p ≡ program_of file notes entry)
+abbrev pub IsProgram : Options → List ℕ → List ℕ → Program → Type 0
+IsProgram o file text p =
+    (notes : Notes) × (entry : ℕ) × IsNotesText (names_of file) text notes × IsFunctionAt file notes.entry entry
+    × (p ≡ program_of (machine_of o file) file notes entry)

@@ -10,6 +10,7 @@ pub mod ElfFaults
 pub mod Notes
 pub mod RvNames
 pub mod ArmNames
+pub mod Scopes
 pub mod NotesGrammar
 pub mod NotesFaults
 pub mod Run
@@ -60,5 +61,6 @@ pub mod EntryFaults
 pub mod SmtLib
 pub mod Scripts
 pub mod NotesLaws
+pub mod Upgrades
 pub mod TableLaws
 pub mod ProgramLaws

@@ -2,10 +2,10 @@
 use Rattle.std.specs.Prelude.{ℕ, ◌≡◌, ◌<◌, ◌+◌, ◌-◌, ◌&&◌, Bool, true, false, nat_lt, ◌↔◌, ◌^◌, List, [], ◌∷◌, ◌++◌, Option, Some, None, codes, length, slice_index, Contains, find}
 use Rattle.std.specs.List.{list_all, flat_map}
 use Rattle.bilv_spec.specs.Memory.{number}
-use Rattle.bilv_spec.specs.Machine.{Row, is_place}
+use Rattle.bilv_spec.specs.Machine.{Machine, Row, is_place}
 use Rattle.bilv_spec.specs.MachineLaws.{IsLifting}
 use Rattle.bilv_spec.specs.Elf.{Segment, Cell, segments, covers, loaded, executable}
-use Rattle.bilv_spec.specs.Files.{machine_of, is_rv}
+use Rattle.bilv_spec.specs.Files.{Options, machine_of, is_rv}
 use Rattle.bilv_spec.specs.Bil.{Bank, XRegisters, RRegisters, Statements}
 use Rattle.bilv_spec.specs.BilText.{list_text}
 use Rattle.bilv_spec.specs.Texts.{word_text, hex_digits, line}
@@ -28,9 +28,9 @@ abbrev pub byte_at : Option Cell → ℕ
 byte_at None = 0
 byte_at (Some c) = c.byte
 
--- the word at an address
-abbrev pub word_in : List ℕ → ℕ → ℕ
-word_in file a = number (machine_of file).endian 4 (λ i. byte_at (loaded file (a + i)))
+-- the word at an address, in the machine's byte order
+abbrev pub word_in : Machine → List ℕ → ℕ → ℕ
+word_in m file a = number m.endian 4 (λ i. byte_at (loaded file (a + i)))
 
 -- the address, and the bytes in the file's order
 abbrev pub word_words : List ℕ → ℕ → List ℕ
@@ -42,20 +42,20 @@ bank_by true = XRegisters
 bank_by false = RRegisters
 
 -- what is printed for the word at an address: none where no row matches, and else a list that does what the row does, two blanks deep
-abbrev pub IsWordText : List ℕ → ℕ → Option Row → List ℕ → Type 0
-IsWordText file a None text = text ≡ line (word_words file a ++ codes " none")
-IsWordText file a (Some row) text =
-    (list : Statements) × IsLifting (machine_of file) (bank_by (is_rv file)) row a list × (text ≡ line (word_words file a) ++ list_text 1 list)
+abbrev pub IsWordText : Machine → Bank → List ℕ → ℕ → Option Row → List ℕ → Type 0
+IsWordText m bank file a None text = text ≡ line (word_words file a ++ codes " none")
+IsWordText m bank file a (Some row) text =
+    (list : Statements) × IsLifting m bank row a list × (text ≡ line (word_words file a) ++ list_text 1 list)
 
--- the text of all words, by rising addresses, for the rows of a table
-pub record IsLiftTextBy (row : ℕ → Option Row) (file text : List ℕ) : Type 0 where
+-- the text of all words of a file, by rising addresses, for a machine and the names of its registers
+pub record IsLiftTextBy (m : Machine) (bank : Bank) (file text : List ℕ) : Type 0 where
   pub words : List ℕ
   pub texts : ℕ → List ℕ
   pub all : (a : ℕ) → Contains words a ↔ ((a < 2 ^ 32) × (is_word_at file a ≡ true))
   pub rising : (i j : ℕ) → i < j → j < length words → slice_index words i < slice_index words j
-  pub each : (a : ℕ) → Contains words a → IsWordText file a (row (word_in file a)) (texts a)
+  pub each : (a : ℕ) → Contains words a → IsWordText m bank file a (m.row (word_in m file a)) (texts a)
   pub text_is : text ≡ flat_map texts words
 
 -- the text by the file's machine
-abbrev pub IsLiftText : List ℕ → List ℕ → Type 0
-IsLiftText file text = IsLiftTextBy (machine_of file).row file text
+abbrev pub IsLiftText : Options → List ℕ → List ℕ → Type 0
+IsLiftText o file text = IsLiftTextBy (machine_of o file) (bank_by (is_rv file)) file text

@@ -2,7 +2,7 @@
 use Rattle.std.specs.Prelude.{ℕ, ◌≡◌, ◌==◌, ◌&&◌, ◌||◌, Bool, true, false, Option, Some, None}
 use Rattle.std.specs.List.{list_any}
 use Rattle.bilv_spec.specs.Machine.{Row}
-use Rattle.bilv_spec.specs.Notes.{Expr, Number, Register, Flag, Pc, Memory, Old, Not, Binary}
+use Rattle.bilv_spec.specs.Notes.{Expr, Number, Register, Flag, Pc, Bound, Memory, Old, Not, Binary}
 use Rattle.bilv_spec.specs.Run.{Program}
 use Rattle.bilv_spec.specs.Points.{file_row}
 use Rattle.bilv_spec.specs.Graph.{may_return, LeadsTo}
@@ -17,6 +17,7 @@ names_flag f (Old e) = false
 names_flag f (Number n) = false
 names_flag f (Register r) = false
 names_flag f Pc = false
+names_flag f Bound = false
 
 -- the row reads the flag
 abbrev pub reads_by : ℕ → Option Row → Bool

@@ -1,9 +1,8 @@
 -- The first faulty line of notes, with its least fault.
-use Rattle.std.specs.Prelude.{ℕ, ◌≡◌, ◌≢◌, ◌≤◌, ◌<◌, ◌+◌, ◌^◌, ◌⊎◌, List, [], ◌∷◌, ◌++◌, Option, Some, None, length, codes, count_by, Contains, if◌then◌else◌}
-use Rattle.std.specs.List.{list_any}
-use Rattle.std.specs.Str.{bytes_eq}
-use Rattle.bilv_spec.specs.Notes.{Expr, Number}
-use Rattle.bilv_spec.specs.NotesGrammar.{Token, NumberToken, NameToken, SignToken, BadByte, BadText, tokens_of, is_depth, Says, EntryIs, TargetsAre, IsSaid, AreAligned, IsRange, AreLines, lines_of, entries, targets_of}
+use Rattle.std.specs.Prelude.{ℕ, ◌≡◌, ◌≢◌, ◌≤◌, ◌<◌, ◌+◌, ◌^◌, ◌⊎◌, Bool, true, false, List, [], ◌∷◌, ◌++◌, Option, length, codes, count_by, Contains}
+use Rattle.bilv_spec.specs.Notes.{Expr}
+use Rattle.bilv_spec.specs.Scopes.{Scope, begin, lenient, loose}
+use Rattle.bilv_spec.specs.NotesGrammar.{Token, NumberToken, NameToken, SignToken, BadByte, BadText, tokens_of, is_depth, Says, EntryIs, TargetsAre, IsSaid, AreAligned, IsRange, IsVersion, IsNew, AreLines, after_all, is_second, line_limit, lines_of, entries, targets_of}
 
 -- why a line is refused
 pub data NoteFault : Type 0 where
@@ -18,6 +17,9 @@ pub data NoteFault : Type 0 where
   AlignFault : NoteFault
   RangeFault : NoteFault
   EntryFault : NoteFault
+  VersionFault : NoteFault
+  ConstFault : NoteFault
+  AllFault : NoteFault
 
 -- the faults in their order
 abbrev pub note_fault_rank : NoteFault → ℕ
@@ -32,32 +34,30 @@ note_fault_rank NameFault = 8
 note_fault_rank AlignFault = 9
 note_fault_rank RangeFault = 10
 note_fault_rank EntryFault = 11
+note_fault_rank VersionFault = 12
+note_fault_rank ConstFault = 13
+note_fault_rank AllFault = 14
 
--- words that are no names in expressions
-abbrev pub reserved : List (List ℕ)
-reserved = codes "mem8" ∷ codes "mem16" ∷ codes "mem32" ∷ codes "old" ∷ codes "not" ∷ codes "and" ∷ codes "or" ∷ []
+-- the words that begin lines; that of the version does in both
+abbrev pub line_words_first : List (List ℕ)
+line_words_first =
+    codes "entry" ∷ codes "function" ∷ codes "require" ∷ codes "ensure" ∷ codes "assert" ∷ codes "targets" ∷ codes "fixed" ∷ codes "notes" ∷ []
 
--- every other word taken as a name, to ask for the grammar alone
-abbrev pub any_name : List ℕ → Option Expr
-any_name w = if list_any (bytes_eq w) reserved then None else Some (Number 0)
+abbrev pub line_words : (is_second : Bool) → List (List ℕ)
+line_words false = line_words_first
+line_words true = codes "const" ∷ codes "loaded" ∷ line_words_first
 
--- the words that begin lines
-abbrev pub line_words : List (List ℕ)
-line_words =
-    codes "entry" ∷ codes "function" ∷ codes "require" ∷ codes "ensure" ∷ codes "assert" ∷ codes "targets" ∷ codes "fixed" ∷ []
-
--- a token is one of the words that begin lines
-abbrev pub IsLineWord : Token → Type 0
-IsLineWord (NameToken w) = Contains line_words w
-IsLineWord (NumberToken n) = ⊥
-IsLineWord (SignToken s) = ⊥
-IsLineWord BadByte = ⊥
-IsLineWord BadText = ⊥
+abbrev pub IsLineWord : (is_second : Bool) → Token → Type 0
+IsLineWord is_second (NameToken w) = Contains (line_words is_second) w
+IsLineWord is_second (NumberToken n) = ⊥
+IsLineWord is_second (SignToken s) = ⊥
+IsLineWord is_second BadByte = ⊥
+IsLineWord is_second BadText = ⊥
 
 -- the first token is none of those words
-abbrev pub BeginsBadly : List Token → Type 0
-BeginsBadly [] = ⊥
-BeginsBadly (t ∷ ts) = ¬ IsLineWord t
+abbrev pub BeginsBadly : (is_second : Bool) → List Token → Type 0
+BeginsBadly is_second [] = ⊥
+BeginsBadly is_second (t ∷ ts) = ¬ IsLineWord is_second t
 
 -- what is said repeats what earlier lines said: a second entry or function, or the same address of targets
 abbrev pub Repeats : List Says → Says → Type 0
@@ -65,36 +65,45 @@ Repeats earlier (EntryIs e) = entries earlier ≢ []
 Repeats earlier (TargetsAre a to) = (t : _) × Contains (targets_of earlier) t × (t.at ≡ a)
 Repeats earlier _ = ⊥
 
--- A fault applies to the line n with this text, after lines that say what is given. Several may apply: the least one counts.
-abbrev pub NoteFaultApplies : (List ℕ → Option Expr) → ℕ → List Says → List ℕ → NoteFault → Type 0
-NoteFaultApplies names n earlier text LimitFault = (4096 < n) ⊎ (1024 < length text)
-NoteFaultApplies names n earlier text ByteFault = Contains (tokens_of text) BadByte
-NoteFaultApplies names n earlier text TokenFault = Contains (tokens_of text) BadText
-NoteFaultApplies names n earlier text NumberFault = (v : ℕ) × Contains (tokens_of text) (NumberToken v) × (2 ^ 32 ≤ v)
-NoteFaultApplies names n earlier text DepthFault = 64 < count_by is_depth (tokens_of text)
-NoteFaultApplies names n earlier text WordFault = BeginsBadly (tokens_of text)
-NoteFaultApplies names n earlier text SyntaxFault = (s : Says) → ¬ IsSaid any_name (tokens_of text) s
-NoteFaultApplies names n earlier text NameFault = (s : Says) → ¬ IsSaid names (tokens_of text) s
-NoteFaultApplies names n earlier text AlignFault = (s : Says) × IsSaid names (tokens_of text) s × ¬ AreAligned s
-NoteFaultApplies names n earlier text RangeFault = (s : Says) × IsSaid names (tokens_of text) s × ¬ IsRange s
-NoteFaultApplies names n earlier text EntryFault = (s : Says) × IsSaid names (tokens_of text) s × Repeats earlier s
+-- A fault applies to the line n with this text, where s is what words mean after the lines before, which say what is given. Several may apply: the least one
+-- counts. That a line has no form is asked as if every word had a meaning; from NameFault to ConstFault any name and bounds of an `all` will do.
+abbrev pub NoteFaultApplies : Scope → ℕ → List Says → List ℕ → NoteFault → Type 0
+NoteFaultApplies s n earlier text LimitFault = (line_limit s.is_second < n) ⊎ (1024 < length text)
+NoteFaultApplies s n earlier text ByteFault = Contains (tokens_of text) BadByte
+NoteFaultApplies s n earlier text TokenFault = Contains (tokens_of text) BadText
+NoteFaultApplies s n earlier text NumberFault = (v : ℕ) × Contains (tokens_of text) (NumberToken v) × (2 ^ 32 ≤ v)
+NoteFaultApplies s n earlier text DepthFault = 64 < count_by (is_depth s.is_second) (tokens_of text)
+NoteFaultApplies s n earlier text WordFault = BeginsBadly s.is_second (tokens_of text)
+NoteFaultApplies s n earlier text SyntaxFault = (x : Says) → ¬ IsSaid (loose s) (tokens_of text) x
+NoteFaultApplies s n earlier text NameFault = (x : Says) → ¬ IsSaid (lenient s) (tokens_of text) x
+NoteFaultApplies s n earlier text AlignFault = (x : Says) × IsSaid (lenient s) (tokens_of text) x × ¬ AreAligned x
+NoteFaultApplies s n earlier text RangeFault = (x : Says) × IsSaid (lenient s) (tokens_of text) x × ¬ IsRange x
+NoteFaultApplies s n earlier text EntryFault = (x : Says) × IsSaid (lenient s) (tokens_of text) x × Repeats earlier x
+NoteFaultApplies s n earlier text VersionFault = (x : Says) × IsSaid (lenient s) (tokens_of text) x × ¬ IsVersion s x
+NoteFaultApplies s n earlier text ConstFault = (x : Says) × IsSaid (lenient s) (tokens_of text) x × ¬ IsNew s x
+NoteFaultApplies s n earlier text AllFault = (x : Says) → ¬ IsSaid s (tokens_of text) x
 
 -- no line of a list repeats what lines before it said
 abbrev pub NoneRepeats : List Says → List Says → Type 0
 NoneRepeats earlier [] = Unit {0}
-NoneRepeats earlier (s ∷ says) = ¬ Repeats earlier s × NoneRepeats (earlier ++ s ∷ []) says
+NoneRepeats earlier (x ∷ says) = ¬ Repeats earlier x × NoneRepeats (earlier ++ x ∷ []) says
 
 -- lines without fault, and what they say
-pub record AreGood (names : List ℕ → Option Expr) (texts : List (List ℕ)) (says : List Says) : Type 0 where
-  pub count : length texts ≤ 4096
-  pub lines : AreLines names texts says
+pub record AreGood (s : Scope) (texts : List (List ℕ)) (says : List Says) : Type 0 where
+  pub count : length texts ≤ line_limit s.is_second
+  pub lines : AreLines s texts says
   pub none_repeats : NoneRepeats [] says
+
+-- what words mean at the first line of a text
+abbrev pub begin_of : (List ℕ → Option Expr) → List ℕ → Scope
+begin_of names text = begin names (is_second (lines_of text))
 
 -- The first faulty line is line n, and this is its least fault. Where each line is good but none names the function, it is the line after the last.
 pub data IsFirstNoteFault (names : List ℕ → Option Expr) (text : List ℕ) : ℕ → NoteFault → Type 0 where
   at_line : (good rest : List (List ℕ)) (bad : List ℕ) (says : List Says) {f : NoteFault} →
-      lines_of text ≡ good ++ bad ∷ rest → AreGood names good says → NoteFaultApplies names (length good + 1) says bad f →
-      ((g : NoteFault) → note_fault_rank g < note_fault_rank f → ¬ NoteFaultApplies names (length good + 1) says bad g) →
+      lines_of text ≡ good ++ bad ∷ rest → AreGood (begin_of names text) good says →
+      NoteFaultApplies (after_all (begin_of names text) says) (length good + 1) says bad f →
+      ((g : NoteFault) → note_fault_rank g < note_fault_rank f → ¬ NoteFaultApplies (after_all (begin_of names text) says) (length good + 1) says bad g) →
       IsFirstNoteFault names text (length good + 1) f
-  no_entry : (says : List Says) → AreGood names (lines_of text) says → entries says ≡ [] →
+  no_entry : (says : List Says) → AreGood (begin_of names text) (lines_of text) says → entries says ≡ [] →
       IsFirstNoteFault names text (length (lines_of text) + 1) EntryFault

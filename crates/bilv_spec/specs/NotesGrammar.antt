@@ -1,11 +1,12 @@
 -- The text of notes: lines, tokens, expressions.
-use Rattle.std.specs.Prelude.{ℕ, zero, suc, ◌≡◌, ◌≤◌, ◌<◌, ◌+◌, ◌-◌, ◌^◌, Bool, true, false, List, [], ◌∷◌, ◌++◌, Option, Some, None, ◌==◌, ◌&&◌, ◌||◌, not, nat_eq, nat_lt, nat_le, if◌then◌else◌, length, map, find, codes, drop, count_by, take_while, All, AllPairs, Contains, ◌≢◌}
+use Rattle.std.specs.Prelude.{ℕ, zero, suc, ◌≡◌, ◌≤◌, ◌<◌, ◌+◌, ◌-◌, ◌^◌, Bool, true, false, List, [], ◌∷◌, ◌++◌, Option, Some, None, ◌==◌, ◌&&◌, ◌||◌, not, nat_eq, nat_lt, nat_le, if◌then◌else◌, length, find, codes, drop, count_by, take_while, All, AllPairs, Contains, ◌≢◌}
 use Rattle.std.specs.List.{starts_with, list_any, list_all}
 use Rattle.std.specs.Str.{bytes_eq}
 use Rattle.std.specs.Char.{digit_value}
 use Rattle.std.specs.Str.Parse.{digits_value}
 use Rattle.bilv_spec.specs.Machine.{IsAtPlace}
-use Rattle.bilv_spec.specs.Notes.{Op, Or, And, Equal, NotEqual, Below, AtMost, Above, AtLeast, SignedBelow, SignedAtMost, SignedAbove, SignedAtLeast, BitOr, BitXor, BitAnd, ShiftLeft, ShiftRight, ShiftSigned, Plus, Minus, Times, Expr, Number, Memory, Old, Not, Binary, NoteLine, Assert, Targets, FixedRange, Function, At, Named, Notes}
+use Rattle.bilv_spec.specs.Scopes.{Scope, begin, named, number_of_name, is_free, binding, may_bind, declaring, begun}
+use Rattle.bilv_spec.specs.Notes.{Op, Or, And, Equal, NotEqual, Below, AtMost, Above, AtLeast, SignedBelow, SignedAtMost, SignedAbove, SignedAtLeast, BitOr, BitXor, BitAnd, ShiftLeft, ShiftRight, ShiftSigned, Plus, Minus, Times, Expr, Number, Memory, Old, Not, Binary, written_out, NoteLine, Assert, Targets, FixedRange, Function, At, Named, Notes}
 
 -- the first line with a byte before it
 abbrev pub onto_first : ℕ → List (List ℕ) → List (List ℕ)
@@ -174,21 +175,42 @@ left_of level = if level == 4 then 5 else level
 abbrev pub load_words : List (ℕ × List ℕ)
 load_words = (1, codes "mem8") ∷ (2, codes "mem16") ∷ (4, codes "mem32") ∷ []
 
+-- the number that a token is
+abbrev pub number_at : Scope → Token → Option ℕ
+number_at s (NumberToken n) = Some n
+number_at s (NameToken w) = number_of_name s w
+number_at s (SignToken w) = None
+number_at s BadByte = None
+number_at s BadText = None
+
+abbrev pub IsNumber : Scope → Token → ℕ → Type 0
+IsNumber s t n = number_at s t ≡ Some n
+
+-- the numbers stand one after the other
+abbrev pub AreNumbers : Scope → List Token → List ℕ → Type 0
+AreNumbers s [] [] = Unit {0}
+AreNumbers s (t ∷ ts) (n ∷ ns) = IsNumber s t n × AreNumbers s ts ns
+AreNumbers s ts ns = ⊥
+
 -- The levels, the loosest first: 1 or, 2 and, 3 not, 4 comparisons, 5 |, 6 ^, 7 &, 8 shifts, 9 sums, 10 products, 11 what stands alone or in brackets.
--- names : what the machine's registers, flags and pc are called.
--- Parses names level tokens e: the tokens are the expression e, of an operator of this level or of a tighter one.
-pub data Parses (names : List ℕ → Option Expr) : ℕ → List Token → Expr → Type 0 where
-  tighter : {level : ℕ} {ts : List Token} {e : Expr} → level < 11 → Parses names (level + 1) ts e → Parses names level ts e
-  binary_of : {level : ℕ} {ts xs ys : List Token} {t : Token} {op : Op} {a b : Expr} → Contains {X = ℕ × Token × Op} operators (level, t, op) →
-      Parses names (left_of level) xs a → Parses names (level + 1) ys b → ts ≡ xs ++ t ∷ ys → Parses names level ts (Binary op a b)
-  not_of : {ts : List Token} {e : Expr} → Parses names 3 ts e → Parses names 3 (NameToken (codes "not") ∷ ts) (Not e)
-  number_of : {n : ℕ} → Parses names 11 (NumberToken n ∷ []) (Number n)
-  name_of : {w : List ℕ} {e : Expr} → names w ≡ Some e → Parses names 11 (NameToken w ∷ []) e
-  memory_of : {n : ℕ} {w : List ℕ} {ts us : List Token} {e : Expr} → Contains {X = ℕ × List ℕ} load_words (n, w) →
-      Parses names 1 us e → ts ≡ NameToken w ∷ SignToken (codes "[") ∷ us ++ SignToken (codes "]") ∷ [] → Parses names 11 ts (Memory n e)
-  old_of : {ts us : List Token} {e : Expr} → Parses names 1 us e → ts ≡ NameToken (codes "old") ∷ SignToken (codes "(") ∷ us ++ SignToken (codes ")") ∷ [] →
-      Parses names 11 ts (Old e)
-  in_brackets : {ts us : List Token} {e : Expr} → Parses names 1 us e → ts ≡ SignToken (codes "(") ∷ us ++ SignToken (codes ")") ∷ [] → Parses names 11 ts e
+-- Parses s level tokens e: the tokens are the expression e, of an operator of this level or of a tighter one.
+pub data Parses : Scope → ℕ → List Token → Expr → Type 0 where
+  tighter : {s : Scope} {level : ℕ} {ts : List Token} {e : Expr} → level < 11 → Parses s (level + 1) ts e → Parses s level ts e
+  binary_of : {s : Scope} {level : ℕ} {ts xs ys : List Token} {t : Token} {op : Op} {a b : Expr} → Contains {X = ℕ × Token × Op} operators (level, t, op) →
+      Parses s (left_of level) xs a → Parses s (level + 1) ys b → ts ≡ xs ++ t ∷ ys → Parses s level ts (Binary op a b)
+  not_of : {s : Scope} {ts : List Token} {e : Expr} → Parses s 3 ts e → Parses s 3 (NameToken (codes "not") ∷ ts) (Not e)
+  number_of : {s : Scope} {n : ℕ} → Parses s 11 (NumberToken n ∷ []) (Number n)
+  name_of : {s : Scope} {w : List ℕ} {e : Expr} → named s w ≡ Some e → Parses s 11 (NameToken w ∷ []) e
+  memory_of : {s : Scope} {n : ℕ} {w : List ℕ} {ts us : List Token} {e : Expr} → Contains {X = ℕ × List ℕ} load_words (n, w) →
+      Parses s 1 us e → ts ≡ NameToken w ∷ SignToken (codes "[") ∷ us ++ SignToken (codes "]") ∷ [] → Parses s 11 ts (Memory n e)
+  old_of : {s : Scope} {ts us : List Token} {e : Expr} → Parses s 1 us e →
+      ts ≡ NameToken (codes "old") ∷ SignToken (codes "(") ∷ us ++ SignToken (codes ")") ∷ [] → Parses s 11 ts (Old e)
+  all_of : {s : Scope} {w : List ℕ} {b c : Token} (low high : ℕ) {ts us : List Token} (e : Expr) → s.is_second ≡ true →
+      number_at s b ≡ Some low → number_at s c ≡ Some high → may_bind s w low high ≡ true → Parses (binding s w) 1 us e →
+      ts ≡ NameToken (codes "all") ∷ NameToken w ∷ b ∷ c ∷ SignToken (codes "(") ∷ us ++ SignToken (codes ")") ∷ [] →
+      Parses s 11 ts (written_out low high e)
+  in_brackets : {s : Scope} {ts us : List Token} {e : Expr} → Parses s 1 us e → ts ≡ SignToken (codes "(") ∷ us ++ SignToken (codes ")") ∷ [] →
+      Parses s 11 ts e
 
 -- what a line says
 pub data Says : Type 0 where
@@ -199,21 +221,35 @@ pub data Says : Type 0 where
   AssertIs : ℕ → Expr → Says
   TargetsAre : ℕ → List ℕ → Says
   FixedIs : ℕ → ℕ → Says
+  VersionIs : Bool → Says
+  ConstIs : List ℕ → ℕ → Says
+  LoadedIs : Says
+
+-- after the word `notes` stands the number 2 alone
+abbrev pub is_two : List Token → Bool
+is_two (NumberToken n ∷ []) = n == 2
+is_two _ = false
+
+-- The tokens say this. After `notes` anything may stand here: whether the line is lawful is asked apart.
+abbrev pub IsSaid : Scope → List Token → Says → Type 0
+IsSaid s ts Nothing = ts ≡ []
+IsSaid s ts (EntryIs (At a)) = (t : Token) × (ts ≡ NameToken (codes "entry") ∷ t ∷ []) × IsNumber s t a
+IsSaid s ts (EntryIs (Named w)) = ts ≡ NameToken (codes "function") ∷ NameToken w ∷ []
+IsSaid s ts (RequireIs e) = (rest : List Token) × (ts ≡ NameToken (codes "require") ∷ rest) × Parses s 1 rest e
+IsSaid s ts (EnsureIs e) = (rest : List Token) × (ts ≡ NameToken (codes "ensure") ∷ rest) × Parses s 1 rest e
+IsSaid s ts (AssertIs a e) =
+    (t : Token) × (rest : List Token) × (ts ≡ NameToken (codes "assert") ∷ t ∷ rest) × IsNumber s t a × Parses s 1 rest e
+IsSaid s ts (TargetsAre a to) =
+    (t : Token) × (rest : List Token) × (ts ≡ NameToken (codes "targets") ∷ t ∷ rest) × IsNumber s t a × AreNumbers s rest to × (0 < length to)
+IsSaid s ts (FixedIs low high) =
+    (t u : Token) × (ts ≡ NameToken (codes "fixed") ∷ t ∷ u ∷ []) × IsNumber s t low × IsNumber s u high
+IsSaid s ts (VersionIs b) = (rest : List Token) × (ts ≡ NameToken (codes "notes") ∷ rest) × (b ≡ is_two rest)
+IsSaid s ts (ConstIs w v) = (ts ≡ NameToken (codes "const") ∷ NameToken w ∷ NumberToken v ∷ []) × (s.is_second ≡ true)
+IsSaid s ts LoadedIs = (ts ≡ NameToken (codes "loaded") ∷ []) × (s.is_second ≡ true)
 
 -- a multiple of 4
 abbrev pub IsAligned : ℕ → Type 0
 IsAligned a = IsAtPlace a
-
--- the tokens say this
-abbrev pub IsSaid : (List ℕ → Option Expr) → List Token → Says → Type 0
-IsSaid names ts Nothing = ts ≡ []
-IsSaid names ts (EntryIs (At a)) = ts ≡ NameToken (codes "entry") ∷ NumberToken a ∷ []
-IsSaid names ts (EntryIs (Named w)) = ts ≡ NameToken (codes "function") ∷ NameToken w ∷ []
-IsSaid names ts (RequireIs e) = (rest : List Token) × (ts ≡ NameToken (codes "require") ∷ rest) × Parses names 1 rest e
-IsSaid names ts (EnsureIs e) = (rest : List Token) × (ts ≡ NameToken (codes "ensure") ∷ rest) × Parses names 1 rest e
-IsSaid names ts (AssertIs a e) = (rest : List Token) × (ts ≡ NameToken (codes "assert") ∷ NumberToken a ∷ rest) × Parses names 1 rest e
-IsSaid names ts (TargetsAre a to) = (ts ≡ NameToken (codes "targets") ∷ NumberToken a ∷ map (λ t. NumberToken t) to) × (0 < length to)
-IsSaid names ts (FixedIs low high) = ts ≡ NameToken (codes "fixed") ∷ NumberToken low ∷ NumberToken high ∷ []
 
 -- the addresses that it names are multiples of 4
 abbrev pub AreAligned : Says → Type 0
@@ -227,13 +263,23 @@ abbrev pub IsRange : Says → Type 0
 IsRange (FixedIs low high) = low ≤ high
 IsRange _ = Unit {0}
 
+-- a line of the version is the first that says something, and names version 2
+abbrev pub IsVersion : Scope → Says → Type 0
+IsVersion s (VersionIs b) = (s.is_first ≡ true) × (b ≡ true)
+IsVersion s _ = Unit {0}
+
+-- a declared name is free
+abbrev pub IsNew : Scope → Says → Type 0
+IsNew s (ConstIs w v) = is_free s w ≡ true
+IsNew s _ = Unit {0}
+
 -- the tokens of which a line has 64 at most
-abbrev pub is_depth : Token → Bool
-is_depth (NumberToken n) = false
-is_depth (NameToken w) = bytes_eq w (codes "not")
-is_depth (SignToken s) = bytes_eq s (codes "(") || bytes_eq s (codes "[")
-is_depth BadByte = false
-is_depth BadText = false
+abbrev pub is_depth : (is_second : Bool) → Token → Bool
+is_depth is_second (NumberToken n) = false
+is_depth is_second (NameToken w) = bytes_eq w (codes "not") || (is_second && bytes_eq w (codes "all"))
+is_depth is_second (SignToken s) = bytes_eq s (codes "(") || bytes_eq s (codes "[")
+is_depth is_second BadByte = false
+is_depth is_second BadText = false
 
 -- tokens that may stand in a line: a number is below 2 ^ 32
 abbrev pub IsGood : Token → Type 0
@@ -244,20 +290,48 @@ IsGood BadByte = ⊥
 IsGood BadText = ⊥
 
 -- a line without a fault of its own, and what it says
-pub record IsLine (names : List ℕ → Option Expr) (text : List ℕ) (says : Says) : Type 0 where
+pub record IsLine (s : Scope) (text : List ℕ) (says : Says) : Type 0 where
   pub short : length text ≤ 1024
   pub good : All IsGood (tokens_of text)
-  pub depth : count_by is_depth (tokens_of text) ≤ 64
-  pub said : IsSaid names (tokens_of text) says
+  pub depth : count_by (is_depth s.is_second) (tokens_of text) ≤ 64
+  pub said : IsSaid s (tokens_of text) says
   pub aligned : AreAligned says
   pub range : IsRange says
+  pub version : IsVersion s says
+  pub new : IsNew s says
+
+-- what words mean after a line
+abbrev pub after : Scope → Says → Scope
+after s Nothing = s
+after s (ConstIs w v) = declaring s w v
+after s _ = begun s
+
+-- what they mean after some lines
+abbrev pub after_all : Scope → List Says → Scope
+after_all s [] = s
+after_all s (x ∷ says) = after_all (after s x) says
 
 -- each line is without fault, and says this
-abbrev pub AreLines : (List ℕ → Option Expr) → List (List ℕ) → List Says → Type 0
-AreLines names [] [] = Unit {0}
-AreLines names (text ∷ texts) (s ∷ says) = IsLine names text s × AreLines names texts says
-AreLines names [] (s ∷ says) = ⊥
-AreLines names (text ∷ texts) [] = ⊥
+abbrev pub AreLines : Scope → List (List ℕ) → List Says → Type 0
+AreLines s [] [] = Unit {0}
+AreLines s (text ∷ texts) (x ∷ says) = IsLine s text x × AreLines (after s x) texts says
+AreLines s [] (x ∷ says) = ⊥
+AreLines s (text ∷ texts) [] = ⊥
+
+-- the first line that says something is `notes 2`
+abbrev pub version_line : List Token → (later : Bool) → Bool
+version_line [] later = later
+version_line (NameToken w ∷ rest) later = bytes_eq w (codes "notes") && is_two rest
+version_line _ later = false
+
+abbrev pub is_second : List (List ℕ) → Bool
+is_second [] = false
+is_second (text ∷ texts) = version_line (tokens_of text) (is_second texts)
+
+-- how many lines a text may have
+abbrev pub line_limit : (is_second : Bool) → ℕ
+line_limit false = 4096
+line_limit true = 4097
 
 -- what the lines say of the function's place
 abbrev pub entries : List Says → List Function
@@ -289,10 +363,11 @@ targets_of [] = []
 targets_of (TargetsAre a to ∷ says) = record { at = a; to = to } ∷ targets_of says
 targets_of (_ ∷ says) = targets_of says
 
--- the fixed lines
+-- the fixed lines; `loaded` is the range of all addresses
 abbrev pub fixed_of : List Says → List FixedRange
 fixed_of [] = []
 fixed_of (FixedIs low high ∷ says) = record { low = low; high = high } ∷ fixed_of says
+fixed_of (LoadedIs ∷ says) = record { low = 0; high = 2 ^ 32 - 1 } ∷ fixed_of says
 fixed_of (_ ∷ says) = fixed_of says
 
 -- what is said are these notes
@@ -304,7 +379,7 @@ AreNotes says notes =
 
 -- the text says these notes
 pub record IsNotesText (names : List ℕ → Option Expr) (text : List ℕ) (notes : Notes) : Type 0 where
-  pub short : length (lines_of text) ≤ 4096
+  pub short : length (lines_of text) ≤ line_limit (is_second (lines_of text))
   pub says : List Says
-  pub lines : AreLines names (lines_of text) says
+  pub lines : AreLines (begin names (is_second (lines_of text))) (lines_of text) says
   pub notes_are : AreNotes says notes

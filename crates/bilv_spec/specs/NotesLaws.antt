@@ -1,47 +1,50 @@
 -- Laws of notes: a text has one meaning, or one first fault, and never both.
-use Rattle.std.specs.Prelude.{ℕ, ◌≡◌, ◌<◌, ◌≤◌, ◌^◌, ◌⊎◌, List, Option, None, Some, All, Contains}
+use Rattle.std.specs.Prelude.{ℕ, ◌≡◌, ◌<◌, ◌≤◌, ◌^◌, ◌⊎◌, List, Option, Some, All, Contains}
+use Rattle.std.specs.List.{list_all}
+use Rattle.bilv_spec.specs.Words.{bit}
 use Rattle.bilv_spec.specs.Memory.{Endian}
 use Rattle.bilv_spec.specs.State.{State, IsState}
-use Rattle.bilv_spec.specs.Notes.{Expr, Number, Register, Flag, Pc, Memory, Old, Not, Binary, Notes, value}
+use Rattle.bilv_spec.specs.Notes.{Expr, Number, Register, Flag, Pc, Bound, Memory, Old, Not, Binary, Notes, value, is_true, put_bound, values, written_out}
+use Rattle.bilv_spec.specs.Scopes.{Scope, Constant, Strict, lenient}
 use Rattle.bilv_spec.specs.NotesGrammar.{Token, IsGood, Parses, Says, IsSaid, IsNotesText}
-use Rattle.bilv_spec.specs.NotesFaults.{NoteFault, reserved, IsFirstNoteFault}
+use Rattle.bilv_spec.specs.NotesFaults.{NoteFault, IsFirstNoteFault}
 use Rattle.bilv_spec.specs.RvNames.{rv_names}
 use Rattle.bilv_spec.specs.ArmNames.{arm_names}
 
--- no register or flag has a reserved word as its name
-abbrev pub KeepsReserved : (List ℕ → Option Expr) → Type 0
-KeepsReserved names = (w : List ℕ) → Contains reserved w → names w ≡ None
-
--- both machines name nothing by a reserved word
-abbrev pub MachinesKeepReserved : Type 0
-MachinesKeepReserved = KeepsReserved rv_names × KeepsReserved arm_names
+-- an `all` is 1 where its expression is true for each of its numbers, else 0
+abbrev pub AllIsEach : Type 0
+AllIsEach = (order : Endian) (low high : ℕ) (e : Expr) (now entry : State) →
+    value order (written_out low high e) now entry ≡ bit (list_all (λ v. is_true (value order (put_bound v e) now entry)) (values low high))
 
 -- tokens are one expression at most
 abbrev pub OneExpression : Type 0
-OneExpression = (names : List ℕ → Option Expr) → KeepsReserved names → (level : ℕ) (ts : List Token) (e f : Expr) →
-    Parses names level ts e → Parses names level ts f → e ≡ f
+OneExpression = (s : Scope) (level : ℕ) (ts : List Token) (e f : Expr) → Parses s level ts e → Parses s level ts f → e ≡ f
 
 -- a line says one thing at most
 abbrev pub OneSaying : Type 0
-OneSaying = (names : List ℕ → Option Expr) → KeepsReserved names → (ts : List Token) (s t : Says) → IsSaid names ts s → IsSaid names ts t → s ≡ t
+OneSaying = (s : Scope) (ts : List Token) (x y : Says) → IsSaid s ts x → IsSaid s ts y → x ≡ y
+
+-- what a line says as it must be read, it says as well with any name and any bounds of an `all`
+abbrev pub StrictIsLenient : Type 0
+StrictIsLenient = (s : Scope) (ts : List Token) (x : Says) → s.mode ≡ Strict → IsSaid s ts x → IsSaid (lenient s) ts x
 
 -- a text is the text of one value of notes at most
 abbrev pub OneReading : Type 0
-OneReading = (names : List ℕ → Option Expr) → KeepsReserved names → (text : List ℕ) (m n : Notes) → IsNotesText names text m → IsNotesText names text n → m ≡ n
+OneReading = (names : List ℕ → Option Expr) (text : List ℕ) (m n : Notes) → IsNotesText names text m → IsNotesText names text n → m ≡ n
 
 -- a text that is notes has no first fault
 abbrev pub NeverBoth : Type 0
-NeverBoth = (names : List ℕ → Option Expr) → KeepsReserved names → (text : List ℕ) (notes : Notes) (line : ℕ) (fault : NoteFault) →
+NeverBoth = (names : List ℕ → Option Expr) (text : List ℕ) (notes : Notes) (line : ℕ) (fault : NoteFault) →
     IsNotesText names text notes → ¬ IsFirstNoteFault names text line fault
 
 -- a text is notes, or it has a first fault
 abbrev pub OneOfBoth : Type 0
-OneOfBoth = (names : List ℕ → Option Expr) → KeepsReserved names → (text : List ℕ) →
+OneOfBoth = (names : List ℕ → Option Expr) (text : List ℕ) →
     ((notes : Notes) × IsNotesText names text notes) ⊎ ((line : ℕ) × (fault : NoteFault) × IsFirstNoteFault names text line fault)
 
 -- a text has one first fault at most
 abbrev pub OneNoteFault : Type 0
-OneNoteFault = (names : List ℕ → Option Expr) → KeepsReserved names → (text : List ℕ) (line other : ℕ) (fault different : NoteFault) →
+OneNoteFault = (names : List ℕ → Option Expr) (text : List ℕ) (line other : ℕ) (fault different : NoteFault) →
     IsFirstNoteFault names text line fault → IsFirstNoteFault names text other different → (line ≡ other) × (fault ≡ different)
 
 -- an expression of words: its numbers are below 2 ^ 32, and its loads are of 4 bytes at most
@@ -50,6 +53,7 @@ IsOfWords (Number n) = n < 2 ^ 32
 IsOfWords (Register r) = Unit {0}
 IsOfWords (Flag f) = Unit {0}
 IsOfWords Pc = Unit {0}
+IsOfWords Bound = Unit {0}
 IsOfWords (Memory n a) = (n ≤ 4) × IsOfWords a
 IsOfWords (Old a) = IsOfWords a
 IsOfWords (Not a) = IsOfWords a
@@ -59,10 +63,10 @@ IsOfWords (Binary op a b) = IsOfWords a × IsOfWords b
 abbrev pub WordValue : Type 0
 WordValue = (order : Endian) (e : Expr) (now entry : State) → IsOfWords e → IsState now → IsState entry → value order e now entry < 2 ^ 32
 
--- what tokens say that may stand in a line is of words, where names are
+-- what tokens say that may stand in a line is of words, where names and constants are
 abbrev pub WordsSaid : Type 0
-WordsSaid = (names : List ℕ → Option Expr) → ((w : List ℕ) (e : Expr) → names w ≡ Some e → IsOfWords e) → (level : ℕ) (ts : List Token) (e : Expr) →
-    All IsGood ts → Parses names level ts e → IsOfWords e
+WordsSaid = (s : Scope) → ((w : List ℕ) (e : Expr) → s.names w ≡ Some e → IsOfWords e) → ((c : Constant) → Contains s.consts c → c.number < 2 ^ 32) →
+    (level : ℕ) (ts : List Token) (e : Expr) → All IsGood ts → Parses s level ts e → IsOfWords e
 
 -- the names of both machines are of words
 abbrev pub MachineNamesOfWords : Type 0

@@ -1,11 +1,12 @@
 -- What the program answers to a command: its status, what it writes, and its evidence.
-use Rattle.std.specs.Prelude.{ℕ, ◌≡◌, ◌<◌, ◌≤◌, ◌^◌, ◌++◌, List, [], Option, Some, None, codes, length, take, Contains}
+use Rattle.std.specs.Prelude.{ℕ, ◌≡◌, ◌<◌, ◌≤◌, ◌^◌, ◌++◌, List, [], Option, Some, None, codes, length, take, Contains, nat_le, if◌then◌else◌}
 use Rattle.bilv_spec.specs.Outside.{Held, Agrees, Rose, Appends}
 use Rattle.bilv_spec.specs.Run.{Program}
 use Rattle.bilv_spec.specs.Questions.{Question}
-use Rattle.bilv_spec.specs.Files.{layout_of}
+use Rattle.bilv_spec.specs.Files.{Options, default_options, layout_of}
 use Rattle.bilv_spec.specs.Answers.{Budget, IsBudget, Evidence, NoEvidence, Answer, plain_answer, IsReported, default_budget}
-use Rattle.bilv_spec.specs.Verified.{AfterImage, AfterNotes, IsVerified, usage_text}
+use Rattle.bilv_spec.specs.Upgrades.{upgraded}
+use Rattle.bilv_spec.specs.Verified.{AfterImage, AfterNotes, IsVerified, notes_limit, usage_text}
 use Rattle.bilv_spec.specs.LiftText.{IsLiftText}
 use Rattle.bilv_spec.specs.GraphText.{IsGraphText}
 use Rattle.bilv_spec.specs.Scripts.{IsScriptAnswer}
@@ -14,22 +15,23 @@ use Rattle.bilv_spec.specs.Replays.{replay_answer, IsChecked}
 use Rattle.bilv_spec.specs.Work.{work_file, work_notes, work_text}
 use Rattle.bilv_spec.specs.Texts.{line, line_feed}
 
--- a command, its files by their names
+-- a command, its files by their names: options of the machine stand first
 pub data Command : Type 0 where
-  Verify : (elf notes : List ℕ) → Budget → Command
-  Lift : (elf : List ℕ) → Command
-  Graph : (elf notes : List ℕ) → Command
-  Script : (elf notes : List ℕ) → Question → Budget → Command
-  Replay : (elf notes state : List ℕ) → Command
-  Certify : (elf notes : List ℕ) → Question → Budget → Command
+  Verify : Options → (elf notes : List ℕ) → Budget → Command
+  Lift : Options → (elf : List ℕ) → Command
+  Graph : Options → (elf notes : List ℕ) → Command
+  Script : Options → (elf notes : List ℕ) → Question → Budget → Command
+  Replay : Options → (elf notes state : List ℕ) → Command
+  Certify : Options → (elf notes : List ℕ) → Question → Budget → Command
   Check : (certificate : List ℕ) → Command
   SelfRun : (seed count : ℕ) → Command
+  Upgrade : Options → (elf notes : List ℕ) → Command
 
 -- the numbers that a command may have
 abbrev pub IsLawfulCommand : Command → Type 0
-IsLawfulCommand (Verify elf notes b) = IsBudget b
-IsLawfulCommand (Script elf notes kind b) = IsBudget b
-IsLawfulCommand (Certify elf notes kind b) = IsBudget b
+IsLawfulCommand (Verify o elf notes b) = IsBudget b
+IsLawfulCommand (Script o elf notes kind b) = IsBudget b
+IsLawfulCommand (Certify o elf notes kind b) = IsBudget b
 IsLawfulCommand (SelfRun seed count) = (seed < 2 ^ 31) × (1 ≤ count) × (count ≤ 16000)
 IsLawfulCommand other = Unit {0}
 
@@ -59,12 +61,12 @@ abbrev pub AfterElf : Surroundings → (elf : List ℕ) → (Next : List ℕ →
 AfterElf s elf Next = AfterRead s elf (λ file. AfterImage file (Next file))
 
 -- The answer behind the reading of an ELF file and of notes, in this order: the notes are read once the file is accepted.
-abbrev pub AfterBoth : Surroundings → (elf notes : List ℕ) → (Next : List ℕ → Program → Answer → Type 0) → Answer → Type 0
-AfterBoth s elf notes Next = AfterElf s elf (λ file. AfterRead s notes (λ text. AfterNotes file text (Next file)))
+abbrev pub AfterBoth : Surroundings → Options → (elf notes : List ℕ) → (Next : List ℕ → Program → Answer → Type 0) → Answer → Type 0
+AfterBoth s o elf notes Next = AfterElf s elf (λ file. AfterRead s notes (λ text. AfterNotes o file text (Next file)))
 
 -- the answer that prints the lifted words of an accepted file
-abbrev pub IsLifted : List ℕ → Answer → Type 0
-IsLifted file a = (written : List ℕ) × IsLiftText file written × (a ≡ plain_answer 0 written)
+abbrev pub IsLifted : Options → List ℕ → Answer → Type 0
+IsLifted o file a = (written : List ℕ) × IsLiftText o file written × (a ≡ plain_answer 0 written)
 
 -- the answer that prints a program's graph
 abbrev pub IsGraphed : Program → Answer → Type 0
@@ -77,20 +79,26 @@ IsFirstLine text first = (rest : List ℕ) × (text ≡ line first ++ rest) × �
 -- the answer to work that was made: its verdict's status and evidence, with the first line of its text
 abbrev pub IsSelfRun : (seed count : ℕ) → Answer → Type 0
 IsSelfRun seed count a =
-    (inner : Answer) × (first : List ℕ) × IsVerified (work_file seed count) (work_notes seed count) default_budget inner × IsFirstLine inner.text first
-    × (a ≡ record inner { text = line (work_text seed count ++ first) })
+    (inner : Answer) × (first : List ℕ) × IsVerified default_options (work_file seed count) (work_notes seed count) default_budget inner
+    × IsFirstLine inner.text first × (a ≡ record inner { text = line (work_text seed count ++ first) })
+
+-- the answer that prints notes of version 2, or that these would be longer than notes may be
+abbrev pub upgrade_answer : (text : List ℕ) → Answer
+upgrade_answer text =
+    if nat_le (length (upgraded text)) notes_limit then plain_answer 0 (upgraded text) else plain_answer 5 (line (codes "notes: TooLarge"))
 
 -- The right answer to a command: refusals come in the order in which files are read, and a report's text is read once the program is found.
 abbrev pub IsRightAnswer : Surroundings → Command → Answer → Type 0
-IsRightAnswer s (Verify elf notes b) = AfterBoth s elf notes (λ file p. IsReported p (layout_of file) b)
-IsRightAnswer s (Lift elf) = AfterElf s elf IsLifted
-IsRightAnswer s (Graph elf notes) = AfterBoth s elf notes (λ file p. IsGraphed p)
-IsRightAnswer s (Script elf notes kind b) = AfterBoth s elf notes (λ file p. IsScriptAnswer p (layout_of file) b kind)
-IsRightAnswer s (Replay elf notes report) =
-    AfterBoth s elf notes (λ file p. AfterRead s report (λ text a. a ≡ replay_answer p (layout_of file) text))
-IsRightAnswer s (Certify elf notes kind b) = AfterBoth s elf notes (λ file p a. IsCertified p b kind a.status a.text a.evidence)
+IsRightAnswer s (Verify o elf notes b) = AfterBoth s o elf notes (λ file p. IsReported p (layout_of o file) b)
+IsRightAnswer s (Lift o elf) = AfterElf s elf (IsLifted o)
+IsRightAnswer s (Graph o elf notes) = AfterBoth s o elf notes (λ file p. IsGraphed p)
+IsRightAnswer s (Script o elf notes kind b) = AfterBoth s o elf notes (λ file p. IsScriptAnswer p (layout_of o file) b kind)
+IsRightAnswer s (Replay o elf notes report) =
+    AfterBoth s o elf notes (λ file p. AfterRead s report (λ text a. a ≡ replay_answer p (layout_of o file) text))
+IsRightAnswer s (Certify o elf notes kind b) = AfterBoth s o elf notes (λ file p a. IsCertified p b kind a.status a.text a.evidence)
 IsRightAnswer s (Check certificate) = AfterRead s certificate (λ text a. IsChecked text a.status a.text × (a.evidence ≡ NoEvidence))
 IsRightAnswer s (SelfRun seed count) = IsSelfRun seed count
+IsRightAnswer s (Upgrade o elf notes) = AfterElf s elf (λ file. AfterRead s notes (λ text. AfterNotes o file text (λ p a. a ≡ upgrade_answer text)))
 
 -- the answer that is due: the usage where the words are no lawful command
 abbrev pub IsDueAnswer : Surroundings → Option Command → Answer → Type 0

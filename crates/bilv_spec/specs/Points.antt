@@ -7,7 +7,7 @@ use Rattle.bilv_spec.specs.Words.{add}
 use Rattle.bilv_spec.specs.Memory.{number}
 use Rattle.bilv_spec.specs.Machine.{Row, Successors, is_place}
 use Rattle.bilv_spec.specs.Elf.{Cell}
-use Rattle.bilv_spec.specs.Notes.{Expr, Memory, Old, Not, Binary, Op, Times}
+use Rattle.bilv_spec.specs.Notes.{Expr, Memory, Old, Not, Binary, Op, Times, Each}
 use Rattle.bilv_spec.specs.Run.{Program, row_at, some_of, named, literal_target, is_kept}
 use Rattle.bilv_spec.specs.Verdict.{fixed}
 
@@ -122,6 +122,11 @@ abbrev pub is_product : Op → ℕ
 is_product Times = 1
 is_product _ = 0
 
+-- 1 for an operator of the text, so not for the one that joins the values of an `all`
+abbrev pub is_written : Op → ℕ
+is_written Each = 0
+is_written _ = 1
+
 -- an expression's products
 abbrev pub products : Expr → ℕ
 products (Memory n e) = products e
@@ -135,8 +140,16 @@ abbrev pub operations : Expr → ℕ
 operations (Memory n e) = operations e
 operations (Old e) = operations e
 operations (Not e) = 1 + operations e
-operations (Binary op a b) = 1 + operations a + operations b
+operations (Binary op a b) = is_written op + operations a + operations b
 operations _ = 0
+
+-- the values of an expression's `all`s
+abbrev pub value_count : Expr → ℕ
+value_count (Memory n e) = value_count e
+value_count (Old e) = value_count e
+value_count (Not e) = value_count e
+value_count (Binary op a b) = (1 - is_written op) + value_count a + value_count b
+value_count _ = 0
 
 -- the bytes that an expression loads
 abbrev pub bytes_loaded : Expr → ℕ
@@ -146,9 +159,9 @@ bytes_loaded (Not e) = bytes_loaded e
 bytes_loaded (Binary op a b) = bytes_loaded a + bytes_loaded b
 bytes_loaded _ = 0
 
--- the price of a line: products cost more, and a line without an operator counts as one
+-- the price of a line: products cost more, a line without an operator counts as one, and each value of an `all` counts as one operator more
 abbrev pub line_price : Expr → ℕ
-line_price e = 8192 * products e + 512 * (if operations e == 0 then 1 else operations e - products e)
+line_price e = 8192 * products e + 512 * ((if operations e == 0 then 1 else operations e - products e) + value_count e)
 
 -- a list without elements
 abbrev pub is_empty : List ℕ → Bool

@@ -2,19 +2,19 @@
 use Rattle.std.specs.Prelude.{ℕ, ◌≡◌, ◌+◌, ◌⊎◌, Bool, false, nat_lt, if◌then◌else◌, List, [], ◌∷◌, Option, Some, None, map}
 use Rattle.bilv_spec.specs.Texts.{split_lines}
 use Rattle.bilv_spec.specs.StateText.{Layout, StateText, StateLine, ByteLine, StateFault, StateByteFault, IsWritten, IsNamed, state_lines, printed, line_of, Told, StateIs, StateRefused, state_of}
-use Rattle.bilv_spec.specs.Files.{layout_of}
+use Rattle.bilv_spec.specs.Files.{Options, layout_of}
 
 -- a text that is printed of a written state says that state, in the layout of every file and whatever bytes are known
 abbrev pub PrintedIsTold : Type 0
 PrintedIsTold =
-    (file : List ℕ) (known : ℕ → Bool) (t : StateText) → IsWritten (layout_of file) known t.start → IsNamed t.named →
-    state_of (layout_of file) known (printed (layout_of file) t) ≡ StateIs t
+    (o : Options) (file : List ℕ) (known : ℕ → Bool) (t : StateText) → IsWritten (layout_of o file) known t.start → IsNamed t.named →
+    state_of (layout_of o file) known (printed (layout_of o file) t) ≡ StateIs t
 
 -- two written states with one text are the same
 abbrev pub PrintedOnce : Type 0
 PrintedOnce =
-    (file : List ℕ) (known : ℕ → Bool) (t u : StateText) → IsWritten (layout_of file) known t.start → IsNamed t.named →
-    IsWritten (layout_of file) known u.start → IsNamed u.named → printed (layout_of file) t ≡ printed (layout_of file) u → t ≡ u
+    (o : Options) (file : List ℕ) (known : ℕ → Bool) (t u : StateText) → IsWritten (layout_of o file) known t.start → IsNamed t.named →
+    IsWritten (layout_of o file) known u.start → IsNamed u.named → printed (layout_of o file) t ≡ printed (layout_of o file) u → t ≡ u
 
 -- a text that says a state is printed of it, but for the last line feed, which may lack; the state can be written
 abbrev pub ToldIsPrinted : Type 0

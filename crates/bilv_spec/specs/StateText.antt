@@ -6,6 +6,7 @@ use Rattle.std.specs.Option.{option_map}
 use Rattle.std.specs.Str.{bytes_eq}
 use Rattle.bilv_spec.specs.Words.{bit_at}
 use Rattle.bilv_spec.specs.Memory.{Endian, Little, Big, byte_in, memory_of}
+use Rattle.bilv_spec.specs.Arm.{Profile, V4, V4T, V5}
 use Rattle.bilv_spec.specs.RowFiles.{from_to}
 use Rattle.bilv_spec.specs.Texts.{word_text, byte_text, number_text, lines, joined, words_in, decimal_word, hex_word}
 pub use Rattle.bilv_spec.specs.Texts.{split_lines}
@@ -27,15 +28,19 @@ register_names letter first count = map (λ r. letter ∷ number_text r) (from_t
 abbrev pub rv_layout : Layout
 rv_layout = record { machine = codes "rv32im"; first = 1; registers = register_names 120 1 31; flags = [] }
 
--- what the text calls ARM in a byte order
-abbrev pub arm_name : Endian → List ℕ
-arm_name Little = codes "armv4-le"
-arm_name Big = codes "armv4-be"
+-- what the text calls ARM in a byte order and a profile
+abbrev pub arm_name : Endian → Profile → List ℕ
+arm_name Little V4 = codes "armv4-le"
+arm_name Little V4T = codes "armv4t-le"
+arm_name Little V5 = codes "armv5-le"
+arm_name Big V4 = codes "armv4-be"
+arm_name Big V4T = codes "armv4t-be"
+arm_name Big V5 = codes "armv5-be"
 
 -- the layout of ARM: r0 to r14 and the flags
-abbrev pub arm_layout : Endian → Layout
-arm_layout e = record {
-  machine = arm_name e;
+abbrev pub arm_layout : Endian → Profile → Layout
+arm_layout e profile = record {
+  machine = arm_name e profile;
   first = 0;
   registers = register_names 114 0 15;
   flags = codes "N" ∷ codes "Z" ∷ codes "C" ∷ codes "V" ∷ [];

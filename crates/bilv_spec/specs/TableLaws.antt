@@ -8,8 +8,8 @@ use Rattle.bilv_spec.specs.Arm as arm
 abbrev pub RvOneRow : Type 0
 RvOneRow = (w i j : ℕ) (a b : Instruction) → slice_get table i ≡ Some a → slice_get table j ≡ Some b → fits a w ≡ true → fits b w ≡ true → i ≡ j
 
--- No word is of two lines of the ARM table.
+-- No word is of two lines of the ARM table of a profile.
 abbrev pub ArmOneRow : Type 0
 ArmOneRow =
-    (e : Endian) (w i j : ℕ) (a b : arm.Instruction) → slice_get (arm.table e) i ≡ Some a → slice_get (arm.table e) j ≡ Some b → a.is w ≡ true → b.is w ≡ true →
-    i ≡ j
+    (e : Endian) (profile : arm.Profile) (w i j : ℕ) (a b : arm.Instruction) → slice_get (arm.table e profile) i ≡ Some a →
+    slice_get (arm.table e profile) j ≡ Some b → a.is w ≡ true → b.is w ≡ true → i ≡ j

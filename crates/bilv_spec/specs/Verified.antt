@@ -5,7 +5,7 @@ use Rattle.bilv_spec.specs.NotesFaults as faults
 use Rattle.bilv_spec.specs.Notes.{Notes, Named}
 use Rattle.bilv_spec.specs.Run.{Program}
 use Rattle.bilv_spec.specs.NotesGrammar.{IsNotesText}
-use Rattle.bilv_spec.specs.Files.{names_of, layout_of, IsProgram}
+use Rattle.bilv_spec.specs.Files.{Options, names_of, layout_of, IsProgram}
 use Rattle.bilv_spec.specs.Answers.{Budget, Answer, plain_answer, IsReported}
 use Rattle.bilv_spec.specs.Texts.{line, spaced, number_text, word_text}
 
@@ -37,6 +37,9 @@ note_fault_words faults.NameFault = codes "N8 Name"
 note_fault_words faults.AlignFault = codes "N9 Align"
 note_fault_words faults.RangeFault = codes "N10 Range"
 note_fault_words faults.EntryFault = codes "N11 Entry"
+note_fault_words faults.VersionFault = codes "N12 Version"
+note_fault_words faults.ConstFault = codes "N13 Const"
+note_fault_words faults.AllFault = codes "N14 All"
 
 -- the text of a refused file
 abbrev pub elf_fault_text : elf.FileFault → List ℕ
@@ -52,7 +55,7 @@ ambiguous_text a b = line (codes "notes: Ambiguous" ++ spaced (word_text a ∷ w
 
 -- the usage
 abbrev pub usage_text : List ℕ
-usage_text = line (codes "usage: bilv verify|lift|graph|smt|replay|cert|check|selfrun")
+usage_text = line (codes "usage: bilv verify|lift|graph|smt|replay|cert|check|selfrun|upgrade")
 
 -- the greatest length of an ELF file
 abbrev pub elf_limit : ℕ
@@ -82,8 +85,8 @@ pub data AreNotesRefused (file text : List ℕ) : (written : List ℕ) → Type 
       notes.entry ≡ Named name → elf.IsAmbiguous file name a c → AreNotesRefused file text (ambiguous_text a c)
 
 -- the program of an accepted file and of accepted notes
-abbrev pub IsFound : List ℕ → List ℕ → Program → Type 0
-IsFound file text p = IsAccepted file × (length text ≤ notes_limit) × IsProgram file text p
+abbrev pub IsFound : Options → List ℕ → List ℕ → Program → Type 0
+IsFound o file text p = IsAccepted file × (length text ≤ notes_limit) × IsProgram o file text p
 
 -- An ELF file's bytes are refused, or accepted and answered by what comes next.
 pub data AfterImage (file : List ℕ) (Next : Answer → Type 0) (a : Answer) : Type 0 where
@@ -91,10 +94,10 @@ pub data AfterImage (file : List ℕ) (Next : Answer → Type 0) (a : Answer) : 
   elf_accepted : IsAccepted file → Next a → AfterImage file Next a
 
 -- Notes over an accepted file are refused, or are a program that is answered by what comes next.
-pub data AfterNotes (file text : List ℕ) (Next : Program → Answer → Type 0) (a : Answer) : Type 0 where
-  notes_refused : (written : List ℕ) → AreNotesRefused file text written → a ≡ plain_answer 5 written → AfterNotes file text Next a
-  program_found : (p : Program) → IsFound file text p → Next p a → AfterNotes file text Next a
+pub data AfterNotes (o : Options) (file text : List ℕ) (Next : Program → Answer → Type 0) (a : Answer) : Type 0 where
+  notes_refused : (written : List ℕ) → AreNotesRefused file text written → a ≡ plain_answer 5 written → AfterNotes o file text Next a
+  program_found : (p : Program) → IsFound o file text p → Next p a → AfterNotes o file text Next a
 
 -- the right answer of the command that verifies, for the contents of an ELF file and of notes: the first case that applies
-abbrev pub IsVerified : (file text : List ℕ) → Budget → Answer → Type 0
-IsVerified file text b = AfterImage file (AfterNotes file text (λ p. IsReported p (layout_of file) b))
+abbrev pub IsVerified : Options → (file text : List ℕ) → Budget → Answer → Type 0
+IsVerified o file text b = AfterImage file (AfterNotes o file text (λ p. IsReported p (layout_of o file) b))

@@ -13,7 +13,7 @@ pub fn rv_is_lawful()
     ensures { RvIsLawful }
 {}
 
-/// Each row of ARM state is lawful, in both byte orders.
+/// Each row of ARM state is lawful, in both byte orders and each profile.
 #[tactic(auto, using(crate::proofs::ArmLawful::arm_is_lawful))]
 pub fn arm_is_lawful()
     ensures { ArmIsLawful }
@@ -25,7 +25,7 @@ pub fn rv_is_fitted()
     ensures { RvIsFitted }
 {}
 
-/// The state texts of ARM name its registers and flags, in both byte orders.
+/// The state texts of ARM name its registers and flags, in both byte orders and each profile.
 #[tactic(auto, using(crate::proofs::Fitted::arm_is_fitted))]
 pub fn arm_is_fitted()
     ensures { ArmIsFitted }

@@ -1,12 +1,13 @@
 //! Laws of notes: tokens, lines and texts have one meaning at most, and a text that is refused has one first fault.
 //!
-//! They hold for all names of registers and flags among which no reserved word is, as those of both machines are.
-ghost use Rattle.bilv_spec.specs.NotesLaws.{MachineNamesOfWords, MachinesKeepReserved, NeverBoth, OneExpression, OneNoteFault, OneOfBoth, OneReading, OneSaying, WordsSaid, WordValue};
+//! They hold for all names of registers and flags; reserved words mean nothing, whatever they name.
+ghost use Rattle.bilv_spec.specs.NotesLaws.{AllIsEach, MachineNamesOfWords, NeverBoth, OneExpression, OneNoteFault, OneOfBoth, OneReading, OneSaying, StrictIsLenient, WordsSaid, WordValue};
+ghost use Rattle.bilv_spec.specs.Upgrades.{NoneIsAll, UpgradeSaysSame, VerdictIsSame};
 
-/// No register and no flag of RV32 or of ARM has a reserved word as its name.
-#[tactic(auto, using(crate::proofs::NotesNames::machines_keep_reserved))]
-pub fn machines_keep_reserved()
-    ensures { MachinesKeepReserved }
+/// An `all` is 1 where its expression is true for each of its numbers, else 0.
+#[tactic(auto, using(crate::proofs::Alls::all_is_each))]
+pub fn all_is_each()
+    ensures { AllIsEach }
 {}
 
 /// Tokens are one expression at most.
@@ -19,6 +20,12 @@ pub fn one_expression()
 #[tactic(auto, using(crate::proofs::NotesSaid::one_saying))]
 pub fn one_saying()
     ensures { OneSaying }
+{}
+
+/// What a line says as it must be read, it says as well with any name and any bounds of an `all`.
+#[tactic(auto, using(crate::proofs::Modes::strict_is_lenient))]
+pub fn strict_is_lenient()
+    ensures { StrictIsLenient }
 {}
 
 /// A text is the text of one value of notes at most.
@@ -48,7 +55,7 @@ pub fn word_value()
     ensures { WordValue }
 {}
 
-/// The tokens of a line without fault say such an expression, where the names of registers and flags do.
+/// The tokens of a line without fault say such an expression, where the names of registers and flags and the constants do.
 #[tactic(auto, using(crate::proofs::NotesWords::words_said))]
 pub fn words_said()
     ensures { WordsSaid }
@@ -58,4 +65,22 @@ pub fn words_said()
 #[tactic(auto, using(crate::proofs::NotesNames::machine_names_of_words))]
 pub fn machine_names_of_words()
     ensures { MachineNamesOfWords }
+{}
+
+/// Notes of version 1 after the line of the version are the same notes, each line number one greater, where the machine names nothing `all`.
+#[tactic(auto, using(crate::proofs::Upgrading::upgrade_says_same))]
+pub fn upgrade_says_same()
+    ensures { UpgradeSaysSame }
+{}
+
+/// Neither RV32 nor ARM names anything `all`.
+#[tactic(auto, using(crate::proofs::Upgrading::none_is_all))]
+pub fn none_is_all()
+    ensures { NoneIsAll }
+{}
+
+/// A program whose lines have numbers one greater has the same right verdict.
+#[tactic(auto, using(crate::proofs::LaterRuns::verdict_is_same))]
+pub fn verdict_is_same()
+    ensures { VerdictIsSame }
 {}

@@ -7,7 +7,7 @@ pub fn rv_one_row()
     ensures { RvOneRow }
 {}
 
-/// No word is of two lines of the ARM table.
+/// No word is of two lines of the ARM table of a profile.
 #[tactic(auto, using(crate::proofs::ArmTable::one_row))]
 pub fn arm_one_row()
     ensures { ArmOneRow }

@@ -6,7 +6,7 @@ use Rattle.std.proofs.lemmas.Bool.Decides.{nat_tests}
 use Rattle.bilv_spec.specs.Words.{bit}
 use Rattle.bilv_spec.specs.Memory.{Endian, load}
 use Rattle.bilv_spec.specs.State.{State}
-use Rattle.bilv_spec.specs.Notes.{Expr, Number, Register, Flag, Pc, Memory, Old, Not, Binary, NoteLine, Assert, apply, value, is_true}
+use Rattle.bilv_spec.specs.Notes.{Expr, Number, Register, Flag, Pc, Bound, Memory, Old, Not, Binary, NoteLine, Assert, apply, value, is_true}
 use Rattle.bilv_spec.specs.Run.{Program, AssertFails, JumpFails, false_assert, false_line}
 use Rattle.bilv_spec.specs.Points.{Point, EdgeEnd, fall_ends, jump_ends, same_end}
 use Rattle.bilv_spec.specs.Machine.{Row}
@@ -38,6 +38,7 @@ value_same e (Number n) s t entry a = refl
 value_same e (Register r) s t entry a = ap (λ z. z r) a.regs
 value_same e (Flag f) s t entry a = a.flags f (same_number f)
 value_same e Pc s t entry a = a.pc
+value_same e Bound s t entry a = refl
 value_same e (Memory n x) s t entry a = ap (λ z. load e n z (value e x s entry)) a.mem ∙ ap (load e n t.mem) (value_same e x s t entry a)
 value_same e (Old x) s t entry a = refl
 value_same e (Not x) s t entry a = ap (λ z. bit (not (is_true z))) (value_same e x s t entry a)

@@ -1,7 +1,7 @@
 -- What an unrolled program costs: its price, and bounds on the terms that are made of it.
 use Rattle.std.specs.Prelude.{ℕ, ◌≡◌, ◌+◌, ◌-◌, ◌*◌, if◌then◌else◌, List, [], ◌∷◌, ◌++◌, length, map, sum_by}
 use Rattle.std.specs.List.{list_any, flat_map}
-use Rattle.bilv_spec.specs.Notes.{Expr, Number, Register, Flag, Pc, Memory, Old, Not, Binary}
+use Rattle.bilv_spec.specs.Notes.{Expr, Number, Register, Flag, Pc, Bound, Memory, Old, Not, Binary}
 use Rattle.bilv_spec.specs.Bil.{list_size}
 use Rattle.bilv_spec.specs.Run.{Program}
 use Rattle.bilv_spec.specs.Points.{IsPrice, line_price, bytes_loaded}
@@ -75,6 +75,7 @@ line_size (Number n) = 1
 line_size (Register r) = 1
 line_size (Flag f) = 1
 line_size Pc = 1
+line_size Bound = 1
 line_size (Memory n e) = 1 + line_size e
 line_size (Old e) = 1 + line_size e
 line_size (Not e) = 1 + line_size e

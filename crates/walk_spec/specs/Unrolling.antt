@@ -4,7 +4,7 @@ use Rattle.std.specs.List.{list_any, AllZip}
 use Rattle.bilv_spec.specs.Words.{bit}
 use Rattle.bilv_spec.specs.State.{State, IsState}
 use Rattle.bilv_spec.specs.Machine.{How, On, Direct, DirectCall, Indirect, IndirectCall, Outcome, Goes, Raises, Row, addresses, exception_number}
-use Rattle.bilv_spec.specs.Notes.{Expr, Number, Register, Flag, Pc, Memory, Old, Not, Binary, NoteLine, Assert, Notes}
+use Rattle.bilv_spec.specs.Notes.{Expr, Number, Register, Flag, Pc, Bound, Memory, Old, Not, Binary, NoteLine, Assert, Notes}
 use Rattle.bilv_spec.specs.Bil as bil
 use Rattle.bilv_spec.specs.Bil.{BilVariable, Statements, Empty}
 use Rattle.bilv_spec.specs.BilTyping.{IsWellTyped}
@@ -181,6 +181,7 @@ IsReadable u (Number n) = n < 2 ^ 32
 IsReadable u (Register r) = is_register_of u r ≡ true
 IsReadable u (Flag f) = is_flag_of u f ≡ true
 IsReadable u Pc = Unit {0}
+IsReadable u Bound = Unit {0}
 IsReadable u (Memory n a) = (1 ≤ n) × (n ≤ 4) × IsReadable u a
 IsReadable u (Old a) = IsReadable u a
 IsReadable u (Not a) = IsReadable u a

@@ -1,0 +1,49 @@
+-- The answer to a command over files that are told.
+use Rattle.std.specs.Prelude.{ℕ, ◌≡◌, List, Option}
+use Rattle.bilv_spec.specs.Outside.{Bytes, Rose, Appends}
+use Rattle.bilv_spec.specs.Answers.{Answer, Evidence, NoEvidence}
+use Rattle.bilv_spec.specs.Certified.{IsCertified}
+use Rattle.bilv_spec.specs.Files.{Options, layout_of}
+use Rattle.bilv_spec.specs.Outcomes.{Surroundings, Command, Verify, Lift, Graph, Script, Replay, Certify, Check, SelfRun, Upgrade, IsLifted, IsGraphed, IsSelfRun, upgrade_answer}
+use Rattle.bilv_spec.specs.Replays.{replay_answer, IsChecked}
+use Rattle.bilv_spec.specs.Run.{Program}
+use Rattle.bilv_spec.specs.Scripts.{IsScriptAnswer}
+use Rattle.bilv_spec.specs.Verified.{AfterImage, AfterNotes, IsVerified}
+
+-- the file of a name is told, by what the names' files are, and the count of its faults did not rise
+abbrev pub IsTold : Surroundings → (content : List ℕ → List ℕ) → (name : List ℕ) → Type 0
+IsTold s content name = (s.held name ≡ Bytes (content name)) × ¬ Rose (s.shelf_before name) (s.shelf_after name)
+
+-- all files that a command names are told
+abbrev pub AreToldTo : Surroundings → (content : List ℕ → List ℕ) → Command → Type 0
+AreToldTo s content (Verify o elf notes b) = IsTold s content elf × IsTold s content notes
+AreToldTo s content (Lift o elf) = IsTold s content elf
+AreToldTo s content (Graph o elf notes) = IsTold s content elf × IsTold s content notes
+AreToldTo s content (Script o elf notes kind b) = IsTold s content elf × IsTold s content notes
+AreToldTo s content (Replay o elf notes report) = IsTold s content elf × IsTold s content notes × IsTold s content report
+AreToldTo s content (Certify o elf notes kind b) = IsTold s content elf × IsTold s content notes
+AreToldTo s content (Check certificate) = IsTold s content certificate
+AreToldTo s content (SelfRun seed count) = Unit {0}
+AreToldTo s content (Upgrade o elf notes) = IsTold s content elf × IsTold s content notes
+
+-- the answer to an ELF file and notes: the refusal of the first that is refused, or what is due to their program
+abbrev pub AfterFiles : Options → (file text : List ℕ) → (Program → Answer → Type 0) → Answer → Type 0
+AfterFiles o file text Next = AfterImage file (AfterNotes o file text Next)
+
+-- the answer to a command, by what the names' files are
+abbrev pub IsAnswerTo : (content : List ℕ → List ℕ) → Command → Answer → Type 0
+IsAnswerTo content (Verify o elf notes b) = IsVerified o (content elf) (content notes) b
+IsAnswerTo content (Lift o elf) = AfterImage (content elf) (IsLifted o (content elf))
+IsAnswerTo content (Graph o elf notes) = AfterFiles o (content elf) (content notes) IsGraphed
+IsAnswerTo content (Script o elf notes kind b) = AfterFiles o (content elf) (content notes) (λ p. IsScriptAnswer p (layout_of o (content elf)) b kind)
+IsAnswerTo content (Replay o elf notes report) =
+    AfterFiles o (content elf) (content notes) (λ p a. a ≡ replay_answer p (layout_of o (content elf)) (content report))
+IsAnswerTo content (Certify o elf notes kind b) = AfterFiles o (content elf) (content notes) (λ p a. IsCertified p b kind a.status a.text a.evidence)
+IsAnswerTo content (Check certificate) = λ a. IsChecked (content certificate) a.status a.text × (a.evidence ≡ NoEvidence)
+IsAnswerTo content (SelfRun seed count) = IsSelfRun seed count
+IsAnswerTo content (Upgrade o elf notes) = AfterFiles o (content elf) (content notes) (λ p a. a ≡ upgrade_answer (content notes))
+
+-- it was written whole, and its status and its evidence are those of the call
+abbrev pub IsAnswered : (content : List ℕ → List ℕ) → Command → (before after : Option (List ℕ)) → (status : ℕ) → Evidence → Type 0
+IsAnswered content c before after status evidence =
+    (a : Answer) × IsAnswerTo content c a × (status ≡ a.status) × (evidence ≡ a.evidence) × Appends before a.text after

@@ -1,0 +1,46 @@
+-- What two calls answer, of which the second reads what the first one printed.
+use Rattle.std.specs.Prelude.{ℕ, ◌≡◌, ◌≢◌, ◌≤◌, ◌^◌, ◌++◌, List, Some, codes, length}
+use Rattle.answer_laws.specs.Completeness.{ShowsRun}
+use Rattle.answer_laws.specs.Replayed.{AreBytes, IsReplayable}
+use Rattle.bilv_spec.specs.Answers.{Budget, Evidence}
+use Rattle.bilv_spec.specs.Certificates.{certificate_text}
+use Rattle.bilv_spec.specs.Evidence.{Proof}
+use Rattle.bilv_spec.specs.Files.{Options}
+use Rattle.bilv_spec.specs.Outcomes.{Surroundings, Command, Verify, Replay, Certify, Check, IsOutcome}
+use Rattle.bilv_spec.specs.Outside.{Rose, Appends}
+use Rattle.bilv_spec.specs.Questions.{Question}
+use Rattle.bilv_spec.specs.Replays.{text_limit}
+use Rattle.bilv_spec.specs.Reports.{NamedEnding, named_line}
+use Rattle.bilv_spec.specs.Texts.{line}
+use Rattle.answer_laws.specs.Told.{IsTold, AreToldTo}
+
+-- a call of a command wrote this text whole, with status 0
+abbrev pub Writes : Surroundings → (status : ℕ) → List ℕ → Type 0
+Writes s status text = (status ≡ 0) × Appends s.text_before text s.text_after
+
+-- no write of a call failed, and memory sufficed
+abbrev pub Sufficed : Surroundings → (status : ℕ) → Type 0
+Sufficed s status = (status ≡ 7 → ¬ Rose s.sink_before s.sink_after) × (status ≢ 8)
+
+-- the text of a name's file is what a call wrote
+abbrev pub IsPrinted : Surroundings → (text : List ℕ) → Type 0
+IsPrinted s text = (before : List ℕ) × (s.text_before ≡ Some before) × (s.text_after ≡ Some (before ++ text))
+
+-- What a call that certifies wrote with status 0 is the certificate of a proof, and a call that checks it accepts it, within the bounds of the grammar and the
+-- limit of bytes.
+abbrev pub CertificateIsAccepted : Type 0
+CertificateIsAccepted =
+    (s t : Surroundings) (o : Options) (content : List ℕ → List ℕ) (elf notes name : List ℕ) (kind : Question) (b : Budget) (status : ℕ) (e f : Evidence) →
+    IsOutcome s (Some (Certify o elf notes kind b)) 0 e → IsPrinted s (content name) →
+    (proof : Proof) × (content name ≡ certificate_text proof.clauses proof.log)
+    × (proof.clauses.variables ≤ 2 ^ 30 → length proof.clauses.clauses ≤ 2 ^ 30 → length (content name) ≤ text_limit →
+    AreToldTo t content (Check name) → Sufficed t status → IsOutcome t (Some (Check name)) status f → Writes t status (line (codes "accepted")))
+
+-- The report that a call that verifies wrote, where it shows a run, is replayed by a call over the same files, within the limit of bytes.
+abbrev pub ReportIsReplayed : Type 0
+ReportIsReplayed =
+    (s t : Surroundings) (o : Options) (content : List ℕ → List ℕ) (elf notes report : List ℕ) (b : Budget) (first status : ℕ) (e f : Evidence) →
+    AreBytes (content elf) → IsReplayable b → AreToldTo s content (Verify o elf notes b) → IsOutcome s (Some (Verify o elf notes b)) first e → ShowsRun e →
+    IsPrinted s (content report) → length (content report) ≤ text_limit → AreToldTo t content (Replay o elf notes report) → Sufficed t status →
+    IsOutcome t (Some (Replay o elf notes report)) status f →
+    (n : NamedEnding) × Writes t status (line (codes "replayed " ++ named_line n))
