@@ -8,6 +8,7 @@ use Rattle.std.proofs.Math.Nat.{eq-or-lt_of_le}
 use Rattle.std.proofs.Math.ListN.{get_or-append}
 use Rattle.std.proofs.Math.Seq.{get_or-append_seam}
 use Rattle.bilv_spec.specs.Elf.{kept_at, IsInRuns, IsKeptRuns}
+use Rattle.bilv_spec.specs.Machine.{Machine}
 use Rattle.bilv_spec.specs.Files.{program_of}
 use Rattle.bilv_spec.specs.Notes.{Notes}
 use Rattle.bilv_spec.specs.Points.{IsCount, begins_run}
@@ -145,8 +146,8 @@ module _ (file : List ℕ) (runs : List (ℕ × ℕ)) (is : IsKeptRuns file runs
   closed : (a : ℕ) (b : Bool) → a ≢ 0 → b ≡ true → ((a == 0) || not b) ≡ true → ⊥
   closed a b some h g = let f : (a == 0) ≡ false = ne_eqb a 0 some in let z : ((a == 0) || not b) ≡ false = rw (f, h) refl in absurd (cc)
 
-  pub run_starts : (notes : Notes) (entry : ℕ) → IsCount (begins_run (program_of file notes entry)) (length runs)
-  run_starts notes entry = (
+  pub run_starts : (m : Machine) (notes : Notes) (entry : ℕ) → IsCount (begins_run (program_of m file notes entry)) (length runs)
+  run_starts m notes entry = (
     starts,
     size,
     (λ i j l w. (

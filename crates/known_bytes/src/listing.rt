@@ -1,5 +1,6 @@
 //! The known bytes as runs.
 ghost use Rattle.std.specs.Prelude.{◌≡◌, ℕ, ◌<◌, ◌≤◌, ◌^◌, None, IfOk, map};
+ghost use Rattle.bilv_spec.specs.Machine.{Machine};
 ghost use Rattle.bilv_spec.specs.Notes as notes_of_program;
 ghost use Rattle.bilv_spec.specs.Files.{program_of};
 ghost use Rattle.bilv_spec.specs.Points.{IsCount, is_known_at, begins_run};
@@ -45,11 +46,11 @@ pub fn known_bytes<'a>(
     notes: &Notes,
 ) -> Result<KnownBytes<'a>, AllocError>
     ensures rising { IfOk result (λ k. AreRuns k.runs.items) }
-    ensures bytes { (entry x : ℕ) → x < 2 ^ 32 → IfOk result (λ k. byte_of_runs (map run_of k.runs.items) x
-        ≡ file_known (program_of image.now (notes_of notes.now) entry) x) }
+    ensures bytes { (m : Machine) (entry x : ℕ) → x < 2 ^ 32 → IfOk result (λ k. byte_of_runs (map run_of k.runs.items) x
+        ≡ file_known (program_of m image.now (notes_of notes.now) entry) x) }
     ensures beyond { (x : ℕ) → 2 ^ 32 ≤ x → IfOk result (λ k. byte_of_runs (map run_of k.runs.items) x ≡ None) }
     ensures sum { IfOk result (λ k. sum_of k.runs.items ≡ k.count) }
-    ensures count { (entry : ℕ) → IfOk result (λ k. IsCount (is_known_at (program_of image.now (notes_of notes.now) entry)) k.count) }
+    ensures count { (m : Machine) (entry : ℕ) → IfOk result (λ k. IsCount (is_known_at (program_of m image.now (notes_of notes.now) entry)) k.count) }
 {
     let mut runs: Vec<Known<'a>> = Vec::new(alloc);
     let mut count = 0u64;
@@ -74,7 +75,7 @@ pub fn known_bytes<'a>(
 
 /// The number of the maximal runs of kept bytes of a file.
 pub fn kept_run_count(image: &Image) -> usize
-    ensures { (notes : notes_of_program.Notes) (entry : ℕ) → IsCount (begins_run (program_of image.now notes entry)) result }
+    ensures { (m : Machine) (notes : notes_of_program.Notes) (entry : ℕ) → IsCount (begins_run (program_of m image.now notes entry)) result }
 {
     let runs = image.kept_runs();
     for (first, _) in runs {

@@ -1,6 +1,7 @@
 //! The addresses whose byte the file gives: those that are kept, and those of fixed ranges.
 ghost use Rattle.std.specs.Prelude.{◌≡◌, ℕ, ◌≤◌, ◌<◌, ◌⊎◌, ◌+◌, ◌-◌, ◌^◌, not, false, MatchOption, map, true, length, slice_index};
 ghost use Rattle.bilv_spec.specs.Verdict.{fixed};
+ghost use Rattle.bilv_spec.specs.Machine.{Machine};
 ghost use Rattle.bilv_spec.specs.Files.{program_of};
 ghost use Rattle.bilv_spec.specs.Points.{is_known_at};
 ghost use Rattle.notes_lang.specs.Drafting.{fixed_of, notes_of};
@@ -111,7 +112,7 @@ pub fn first_known<'a>(image: &Image<'a>, notes: &Notes, a: u32) -> Option<Part<
 /// far as one segment and one range tell. One search, and a look at each range.
 fn stretch_from(image: &Image, notes: &Notes, at: u32) -> Stretch
     ensures last { at ≤ result.last }
-    ensures same { (entry x : ℕ) → at ≤ x → x ≤ result.last → is_known_at (program_of image.now (notes_of notes.now) entry) x ≡ result.known }
+    ensures same { (m : Machine) (entry x : ℕ) → at ≤ x → x ≤ result.last → is_known_at (program_of m image.now (notes_of notes.now) entry) x ≡ result.known }
 {
     let Some(part) = image.part_from(at) else {
         return Stretch {
@@ -142,8 +143,9 @@ fn stretch_from(image: &Image, notes: &Notes, at: u32) -> Stretch
 /// One search, and a look at each range, for each segment and each range among these addresses.
 pub fn known_stretch(image: &Image, notes: &Notes, at: u32) -> Stretch
     ensures last { at ≤ result.last }
-    ensures same { (entry x : ℕ) → at ≤ x → x ≤ result.last → is_known_at (program_of image.now (notes_of notes.now) entry) x ≡ result.known }
-    ensures end { (entry : ℕ) → result.last + 1 < 2 ^ 32 → is_known_at (program_of image.now (notes_of notes.now) entry) (result.last + 1) ≡ not result.known }
+    ensures same { (m : Machine) (entry x : ℕ) → at ≤ x → x ≤ result.last → is_known_at (program_of m image.now (notes_of notes.now) entry) x ≡ result.known }
+    ensures end { (m : Machine) (entry : ℕ) → result.last + 1 < 2 ^ 32 →
+        is_known_at (program_of m image.now (notes_of notes.now) entry) (result.last + 1) ≡ not result.known }
 {
     let mut seen = stretch_from(image, notes, at);
     loop {

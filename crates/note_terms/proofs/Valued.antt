@@ -1,12 +1,12 @@
 -- Values of expressions as terms.
-use Rattle.std.proofs.Common.{inl, inr, ◌≡◌, ℕ, zero, suc, ◌+◌, ◌-◌, ◌*◌, ◌<◌, ◌≤◌, Bool, true, false, not, ◌||◌, nat_eq, List, [], length, slice_index, refl, ap, sym, subst, ◌∙◌, arith, if◌then◌else◌, ◌==◌}
+use Rattle.std.proofs.Common.{inl, inr, ◌≡◌, ℕ, zero, suc, ◌+◌, ◌-◌, ◌*◌, ◌<◌, ◌≤◌, ◌⊎◌, Bool, true, false, not, ◌||◌, nat_eq, List, [], ◌∷◌, map, length, slice_index, refl, ap, sym, subst, ◌∙◌, arith, if◌then◌else◌, ◌==◌}
 use Rattle.std.proofs.lemmas.Bool.{eqb-true}
 use Rattle.std.proofs.lemmas.Bool.Decides.{eqb_tells}
 use Rattle.std.specs.List.{list_any}
 use Rattle.bilv_spec.specs.Words.{bit}
 use Rattle.bilv_spec.specs.Memory.{Endian, Little, endian, load}
-use Rattle.bilv_spec.specs.Notes.{Expr, Op, Number, Register, Flag, Pc, Memory, Old, Not, Binary, apply, is_true, value}
-use Rattle.bilv_spec.specs.Points.{line_price, bytes_loaded, products, operations, is_product}
+use Rattle.bilv_spec.specs.Notes.{Expr, Op, Number, Register, Flag, Pc, Bound, Memory, Old, Not, Binary, Each, apply, is_true, value, put_bound, each, written_out}
+use Rattle.bilv_spec.specs.Points.{line_price, bytes_loaded, products, operations, value_count, is_product, is_written}
 use Rattle.bilv_spec.specs.Notes as notes
 use Rattle.bilv_spec.specs.RowFiles.{from_to}
 use Rattle.walk_spec.specs.Terms.{TermReading, TermNode, ConstantNode, LoadNode, AreTyped, HasMemory, HasWidth, term_value, term_word, width_of}
@@ -19,6 +19,8 @@ use Rattle.term_dag.proofs.Growth.{grew_none, grew_on, grew_more, grew_width, in
 use Rattle.notes_value.specs.declared.expressions.Size.{Size}
 use Rattle.notes_value.specs.declared.expressions.Size.TheVariants as size
 use Rattle.notes_value.specs.Views.{bytes_of}
+use Rattle.notes_value.proofs.WrittenOut.{put_written, put_zero, loads_put}
+use Rattle.notes_value.proofs.Looped.{behind, behind_is, behind_none}
 use Rattle.term_names.specs.declared.names.Names.{Names}
 use Rattle.term_names.specs.Views.{form_of, names_of}
 use Rattle.term_names.specs.Chosen.{HaveSameForm}
@@ -270,10 +272,169 @@ binary_value a b c d big o e e' now entry l r t h h' v v' s = record {
       s.value x ok ∙ ap (λ w. apply o w (term_word x c r)) left ∙ ap (apply o (value (endian big) e (state_at k at) (state_at m from))) right;
 }
 
--- an operator is at most one product
-product_few : (o : Op) → is_product o ≤ 1
+-- The value of an `all`'s first value, made after the others.
+each_value : (a b c d : List TermNode) (big : Bool) (e rest : Expr) (now entry : Now) (l r t : ℕ) → AreStateTerms a now → AreStateTerms a entry →
+    IsValue a b big rest now entry r → IsValue b c big e now entry l →
+    IsStep c d 384 0 6 IsShown (λ x. apply notes.And (term_word x c l) (term_word x c r)) t →
+    IsValue a d big (Binary Each e rest) now entry t
+each_value a b c d big e rest now entry l r t h h' v v' s = record {
+  grew = grew_more a d (gates_of rest + gates_of e + 384) (bytes_loaded rest + bytes_loaded e + 0) 0 0 (nodes_of rest + nodes_of e + 6)
+      (384 + gates_of e + gates_of rest) (bytes_loaded e + bytes_loaded rest) 0 0 (7 + nodes_of e + nodes_of rest)
+      (omega arith) (omega arith) (omega arith) (omega arith) (omega arith)
+      (grew_on a c d (gates_of rest + gates_of e) (bytes_loaded rest + bytes_loaded e) 0 0 (nodes_of rest + nodes_of e) 384 0 0 0 6
+      (grew_on a b c (gates_of rest) (bytes_loaded rest) 0 0 (nodes_of rest) (gates_of e) (bytes_loaded e) 0 0 (nodes_of e) v.grew v'.grew) s.grew);
+  inputs = inputs_on a c d _ (inputs_on a b c _ v.inputs v'.inputs) s.inputs;
+  typed = s.typed;
+  within = s.within;
+  shown = s.fits;
+  value = λ x ok k m at from g f.
+      let right = ap (λ w. w.word) (v'.grew.keeps x r v.within) ∙ v.value x ok k m at from g f in
+      let left = v'.value x ok k m at from (is_state_stays a b _ _ _ _ _ now x k at v.grew h g) (is_state_stays a b _ _ _ _ _ entry x m from v.grew h' f) in
+      s.value x ok ∙ ap (λ w. apply Each w (term_word x c r)) left ∙ ap (apply Each (value (endian big) e (state_at k at) (state_at m from))) right;
+}
+
+-- an expression for each of some values, joined
+abbrev pub joined : Expr → List ℕ → Expr
+joined e vs = each (map (λ v. put_bound v e) vs)
+
+-- From the last value down to one above another, the values of an `all` are joined.
+pub record IsJoinedTo (old new : List TermNode) (big : Bool) (e : Expr) (now entry : Now) (low high v t : ℕ) : Type 0 where
+  pub value : IsValue old new big (joined e (behind high v)) now entry t
+  pub below : v ≤ high
+  pub above : (high ≤ v) ⊎ (low ≤ v)
+
+module _ (big : Bool) (e : Expr) (now entry : Now) (low high : ℕ) where
+  -- none is
+  pub joined_none : (old new : List TermNode) (t : ℕ) → IsInterned old new (ConstantNode 32 1) t → IsJoinedTo old new big e now entry low high high t
+  joined_none old new t k = record {
+    value = subst (λ vs. IsValue old new big (joined e vs) now entry t) (sym (behind_none high high (omega arith))) (number_value old new big 1 now entry t k);
+    below = omega arith;
+    above = inl (omega arith);
+  }
+
+  -- one more is
+  pub joined_more : (a b c d : List TermNode) (v u l r t : ℕ) → AreStateTerms a now → AreStateTerms a entry →
+      IsJoinedTo a b big e now entry low high v r → low < v → u ≡ v - 1 → IsValue b c big (put_bound v e) now entry l →
+      IsStep c d 384 0 6 IsShown (λ x. apply notes.And (term_word x c l) (term_word x c r)) t →
+      IsJoinedTo a d big e now entry low high u t
+  joined_more a b c d v u l r t h h' j less is one s =
+      let whole = each_value a b c d big (put_bound v e) (joined e (behind high v)) now entry l r t h h' j.value one s in
+      let below = j.below in
+      let same : u + 1 ≡ v = omega arith in
+      record {
+        value = subst (λ vs. IsValue a d big (joined e vs) now entry t)
+            (sym (behind_is high u (omega arith) ∙ ap (λ z. z ∷ behind high z) same)) whole;
+        below = omega arith;
+        above = inr (omega arith);
+      }
+
+  -- the first is, and so all are
+  pub joined_all : (a b c d : List TermNode) (v l r t : ℕ) → AreStateTerms a now → AreStateTerms a entry →
+      IsJoinedTo a b big e now entry low high v r → v ≤ low → IsValue b c big (put_bound low e) now entry l →
+      IsStep c d 384 0 6 IsShown (λ x. apply notes.And (term_word x c l) (term_word x c r)) t →
+      IsValue a d big (written_out low high e) now entry t
+  joined_all a b c d v l r t h h' j le one s =
+      let below = j.below in
+      let same : behind high v ≡ behind high low =
+      elim j.above [
+        | inl k ↦ behind_none high v k ∙ sym (behind_none high low (omega arith))
+        | inr k ↦ let q : v ≡ low = omega arith in ap (behind high) q
+      ] in
+      each_value a b c d big (put_bound low e) (joined e (behind high low)) now entry l r t h h'
+      (subst (λ vs. IsValue a b big (joined e vs) now entry r) same j.value) one s
+
+-- the value of an `all` has no bound name
+pub all_value : (old new : List TermNode) (big : Bool) (bound low high : ℕ) (a b : Expr) (now entry : Now) (t : ℕ) → a ≡ b →
+    IsValue old new big (written_out low high a) now entry t → IsValue old new big (put_bound bound (written_out low high b)) now entry t
+all_value old new big bound low high a b now entry t same v =
+    subst (λ z. IsValue old new big z now entry t) (ap (written_out low high) same ∙ sym (put_written bound low high b)) v
+
+-- an expression may have as many gates with a number in place of its bound name
+gates_put : (v : ℕ) (e : Expr) → gates_of (put_bound v e) ≡ gates_of e
+gates_put v (Number n) = refl
+gates_put v (Register r) = refl
+gates_put v (Flag f) = refl
+gates_put v Pc = refl
+gates_put v Bound = refl
+gates_put v (Memory n e) = gates_put v e
+gates_put v (Old e) = gates_put v e
+gates_put v (Not e) = ap (λ z. 384 + z) (gates_put v e)
+gates_put v (Binary o a b) = let h = gates_put v a in let k = gates_put v b in omega arith
+
+-- and as many nodes
+nodes_put : (v : ℕ) (e : Expr) → nodes_of (put_bound v e) ≡ nodes_of e
+nodes_put v (Number n) = refl
+nodes_put v (Register r) = refl
+nodes_put v (Flag f) = refl
+nodes_put v Pc = refl
+nodes_put v Bound = refl
+nodes_put v (Memory n e) = ap (λ z. 4 + z) (nodes_put v e)
+nodes_put v (Old e) = ap (λ z. 4 + z) (nodes_put v e)
+nodes_put v (Not e) = ap (λ z. 4 + z) (nodes_put v e)
+nodes_put v (Binary o a b) = let h = nodes_put v a in let k = nodes_put v b in omega arith
+
+-- the value of an expression whose bound name counts as 0
+pub free_value : (old new : List TermNode) (big : Bool) (e : Expr) (now entry : Now) (t : ℕ) → IsValue old new big (put_bound 0 e) now entry t →
+    IsValue old new big e now entry t
+free_value old new big e now entry t v =
+    let gates = gates_put 0 e in
+    let loads = loads_put 0 e in
+    let nodes = nodes_put 0 e in
+    record {
+      grew = grew_more old new (gates_of (put_bound 0 e)) (bytes_loaded (put_bound 0 e)) 0 0 (nodes_of (put_bound 0 e))
+          (gates_of e) (bytes_loaded e) 0 0 (nodes_of e) (omega arith) (omega arith) (omega arith) (omega arith) (omega arith) v.grew;
+      inputs = v.inputs;
+      typed = v.typed;
+      within = v.within;
+      shown = v.shown;
+      value = λ x ok c d at from g f. v.value x ok c d at from g f ∙ put_zero (endian big) e (state_at c at) (state_at d from);
+    }
+
+-- what can be read with a number in place of the bound name can be read
+reads_open : (u : UnrolledProgram) (v : ℕ) (e : Expr) → IsReadable u (put_bound v e) → IsReadable u e
+reads_open u v (Number n) h = h
+reads_open u v (Register r) h = h
+reads_open u v (Flag f) h = h
+reads_open u v Pc h = h
+reads_open u v Bound h = tt
+reads_open u v (Memory n a) h = (h.0, h.1, reads_open u v a h.2)
+reads_open u v (Old a) h = reads_open u v a h
+reads_open u v (Not a) h = reads_open u v a h
+reads_open u v (Binary o a b) h = (reads_open u v a h.0, reads_open u v b h.1)
+
+-- the expression of an `all` can be, where it can
+pub reads_all : (u : UnrolledProgram) (low high : ℕ) (e : Expr) → IsReadable u (written_out low high e) → IsReadable u e
+reads_all u low high e h = reads_open u low e h.0
+
+-- an operator of the text is at most one product, and the one that joins values is none
+product_few : (o : Op) → is_product o ≤ is_written o
+product_few notes.Or = omega arith
+product_few notes.And = omega arith
+product_few notes.Equal = omega arith
+product_few notes.NotEqual = omega arith
+product_few notes.Below = omega arith
+product_few notes.AtMost = omega arith
+product_few notes.Above = omega arith
+product_few notes.AtLeast = omega arith
+product_few notes.SignedBelow = omega arith
+product_few notes.SignedAtMost = omega arith
+product_few notes.SignedAbove = omega arith
+product_few notes.SignedAtLeast = omega arith
+product_few notes.BitOr = omega arith
+product_few notes.BitXor = omega arith
+product_few notes.BitAnd = omega arith
+product_few notes.ShiftLeft = omega arith
+product_few notes.ShiftRight = omega arith
+product_few notes.ShiftSigned = omega arith
+product_few notes.Plus = omega arith
+product_few notes.Minus = omega arith
 product_few notes.Times = omega arith
-product_few o = omega arith
+product_few notes.Each = omega arith
+
+-- an operator is of the text or joins values
+written_few : (o : Op) → is_written o ≤ 1
+written_few notes.Each = omega arith
+written_few o = omega arith
 
 -- products are among the operators
 products_few : (e : Expr) → products e ≤ operations e
@@ -281,6 +442,7 @@ products_few (Number n) = omega arith
 products_few (Register r) = omega arith
 products_few (Flag f) = omega arith
 products_few Pc = omega arith
+products_few Bound = omega arith
 products_few (Memory n e) = products_few e
 products_few (Old e) = products_few e
 products_few (Not e) = let h = products_few e in omega arith
@@ -292,15 +454,16 @@ operator_few notes.Times = refl
 operator_few o = refl
 
 -- the gates of an expression are within its price
-gates_few : (e : Expr) → gates_of e ≡ 384 * operations e + 2688 * products e
+gates_few : (e : Expr) → gates_of e ≡ 384 * (operations e + value_count e) + 2688 * products e
 gates_few (Number n) = refl
 gates_few (Register r) = refl
 gates_few (Flag f) = refl
 gates_few Pc = refl
+gates_few Bound = refl
 gates_few (Memory n e) = gates_few e
 gates_few (Old e) = gates_few e
 gates_few (Not e) = let h = gates_few e in omega arith
-gates_few (Binary o a b) = let h = gates_few a in let k = gates_few b in let p = operator_few o in omega arith
+gates_few (Binary o a b) = let h = gates_few a in let k = gates_few b in let p = operator_few o in let w = written_few o in omega arith
 
 -- four nodes for each of an expression
 nodes_few : (e : Expr) → nodes_of e + 3 ≤ 4 * line_size e
@@ -308,14 +471,15 @@ nodes_few (Number n) = omega arith
 nodes_few (Register r) = omega arith
 nodes_few (Flag f) = omega arith
 nodes_few Pc = omega arith
+nodes_few Bound = omega arith
 nodes_few (Memory n e) = let h = nodes_few e in omega arith
 nodes_few (Old e) = let h = nodes_few e in omega arith
 nodes_few (Not e) = let h = nodes_few e in omega arith
 nodes_few (Binary o a b) = let h = nodes_few a in let k = nodes_few b in omega arith
 
 -- with 32 more they are within the price
-price_enough : (n p g : ℕ) → p ≤ n → g ≡ 384 * n + 2688 * p → g + 32 ≤ 8192 * p + 512 * (if n == 0 then 1 else n - p) - 64
-price_enough n p g h e = elim (eqb_tells n 0) [ inl k ↦ rw k.0 (omega (arith, h, e, k.1)) | inr k ↦ rw k.0 (omega (arith, h, e, k.1)) ]
+price_enough : (n p v g : ℕ) → p ≤ n → g ≡ 384 * (n + v) + 2688 * p → g + 32 ≤ 8192 * p + 512 * ((if n == 0 then 1 else n - p) + v) - 64
+price_enough n p v g h e = elim (eqb_tells n 0) [ inl k ↦ rw k.0 (omega (arith, h, e, k.1)) | inr k ↦ rw k.0 (omega (arith, h, e, k.1)) ]
 
 -- a line, from its value
 pub line_made : (a b c d : List TermNode) (big : Bool) (e : Expr) (now entry : Now) (z l t : ℕ) → AreStateTerms a now → AreStateTerms a entry →
@@ -323,7 +487,7 @@ pub line_made : (a b c d : List TermNode) (big : Bool) (e : Expr) (now entry : N
     IsValue b c big e now entry l → IsStep c d 32 0 2 (λ w. w ≡ 1) (λ x. bit (is_true (term_word x c l))) t → IsLine a d big e now entry t
 line_made a b c d big e now entry z l t h h' k v s =
     let first : IsStep a b 0 0 1 (λ w. w ≡ 32) (λ x. 0) z = step_kept a b _ _ (ConstantNode 32 0) z k refl refl refl refl (λ i. i) (λ w e. e) (λ x r. refl) in
-    let enough = price_enough (operations e) (products e) (gates_of e) (products_few e) (gates_few e) in
+    let enough = price_enough (operations e) (products e) (value_count e) (gates_of e) (products_few e) (gates_few e) in
     let few = nodes_few e in
     record {
       grew = grew_more a d (0 + gates_of e + 32) (0 + bytes_loaded e + 0) 0 0 (1 + nodes_of e + 2) (line_price e - 64) (bytes_loaded e) 0 0
@@ -341,4 +505,4 @@ line_made a b c d big e now entry z l t h h' k v s =
 
 -- a line costs 64 gates at least
 pub line_enough : (e : Expr) → 64 ≤ line_price e
-line_enough e = let enough = price_enough (operations e) (products e) (gates_of e) (products_few e) (gates_few e) in omega (arith, enough)
+line_enough e = let enough = price_enough (operations e) (products e) (value_count e) (gates_of e) (products_few e) (gates_few e) in omega (arith, enough)

@@ -43,6 +43,7 @@ pub record IsStep (old new : List TermNode) (gates loads nodes : ℕ) (Fits : �
 abbrev pub IsOnWords : Op → Type 0
 IsOnWords notes.Or = ⊥
 IsOnWords notes.And = ⊥
+IsOnWords notes.Each = ⊥
 IsOnWords o = Unit {0}
 
 -- a bound on the gates of an operator, those that ask whether its operands count as true among them

@@ -48,7 +48,7 @@ pub fn line<'a>(
         width: 32,
         value: 0,
     })?;
-    let found = value(says, dag, now, entry, big, zero)?;
+    let found = value(says, 0, dag, now, entry, big, zero)?;
     let bit = truth(dag, zero, found)?;
     Ok(bit)
 }

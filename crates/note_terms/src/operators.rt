@@ -111,7 +111,7 @@ fn connective(both: bool) -> Op
 }
 
 /// Whether both of two values count as true, or one of them.
-fn connected(
+pub fn connected(
     dag: &mut Dag,
     zero: Term,
     both: bool,

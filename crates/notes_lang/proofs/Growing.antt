@@ -1,5 +1,5 @@
 -- What one more line adds to what was said.
-use Rattle.std.proofs.Common.{◌≡◌, ℕ, ◌+◌, refl, ap, sym, ◌∙◌, subst, arith, List, [], ◌∷◌, ◌++◌, Option, Some, None, zero, suc, Bool, true, false, if◌then◌else◌, ◌||◌, ◌==◌, IsTrue, ◌↔◌, Contains, length, map, append-nil}
+use Rattle.std.proofs.Common.{◌≡◌, ℕ, ◌+◌, ◌-◌, ◌^◌, refl, ap, sym, ◌∙◌, subst, arith, List, [], ◌∷◌, ◌++◌, Option, Some, None, zero, suc, Bool, true, false, if◌then◌else◌, ◌||◌, ◌==◌, IsTrue, ◌↔◌, Contains, length, map, append-nil}
 use Rattle.std.specs.List.{list_any}
 use Rattle.std.specs.Ordering.{is_eq, nat_cmp}
 use Rattle.std.specs.BTreeSet.{BTreeSet, contains}
@@ -9,7 +9,7 @@ use Rattle.std.proofs.lemmas.Bool.Decides.{nat_tests}
 use Rattle.std.proofs.lemmas.List.{map-append}
 use Rattle.std.proofs.lemmas.List.Folds.{list_any-append}
 use Rattle.bilv_spec.specs.Notes as notes
-use Rattle.bilv_spec.specs.NotesGrammar.{Says, EntryIs, RequireIs, EnsureIs, AssertIs, FixedIs, entries, requires_of, ensures_of, asserts_of, targets_of as targets_in, fixed_of as fixed_in}
+use Rattle.bilv_spec.specs.NotesGrammar.{Says, EntryIs, RequireIs, EnsureIs, AssertIs, FixedIs, LoadedIs, entries, requires_of, ensures_of, asserts_of, targets_of as targets_in, fixed_of as fixed_in}
 use Rattle.bilv_spec.proofs.NotesFirst.{entries_append, targets_append}
 use Rattle.notes_lang.specs.declared.drafts.Draft.{Draft}
 use Rattle.notes_lang.specs.declared.notes.Function.{Function}
@@ -43,6 +43,7 @@ asserts_and n (s ∷ xs) y =
 fixed_and : (xs : List Says) (y : Says) → fixed_in (xs ++ y ∷ []) ≡ fixed_in xs ++ fixed_in (y ∷ [])
 fixed_and [] y = refl
 fixed_and (FixedIs low high ∷ xs) y = ap (λ l. record { low = low; high = high } ∷ l) (fixed_and xs y)
+fixed_and (LoadedIs ∷ xs) y = ap (λ l. record { low = 0; high = 2 ^ 32 - 1 } ∷ l) (fixed_and xs y)
 fixed_and (s ∷ xs) y = fixed_and xs y
 
 -- a list to which the line adds nothing, or one element

@@ -1,20 +1,20 @@
 -- The least fault of a line, by the tests of its tokens.
 use Rattle.std.proofs.Common.{◌≡◌, ℕ, zero, suc, ◌<◌, ◌≤◌, ◌+◌, ◌^◌, refl, ap, sym, ◌∙◌, subst, arith, List, [], ◌∷◌, Option, Some, None, Bool, true, false, ◌||◌, min, inl, inr, length, map, count_by, All, Contains, lit≤, cond, ◌↔◌, IsTrue}
 use Rattle.std.specs.List.{list_any, fold}
-use Rattle.bilv_spec.specs.Notes.{Expr}
-use Rattle.bilv_spec.specs.NotesGrammar.{Token, NumberToken, NameToken, SignToken, BadByte, BadText, IsGood, is_depth, tokens_of, Says, IsSaid, IsLine, AreAligned, IsRange}
-use Rattle.bilv_spec.specs.NotesFaults.{NoteFault, LimitFault, ByteFault, TokenFault, NumberFault, DepthFault, WordFault, SyntaxFault, NameFault, AlignFault, RangeFault, EntryFault, note_fault_rank, any_name, BeginsBadly, NoteFaultApplies}
-use Rattle.bilv_spec.specs.NotesLaws.{KeepsReserved}
+use Rattle.bilv_spec.specs.Notes.{At, Named}
+use Rattle.bilv_spec.specs.Scopes.{Scope, Strict, lenient, loose}
+use Rattle.bilv_spec.specs.NotesGrammar.{Token, NumberToken, NameToken, SignToken, BadByte, BadText, IsGood, is_depth, line_limit, tokens_of, Says, Nothing, EntryIs, RequireIs, EnsureIs, AssertIs, TargetsAre, FixedIs, VersionIs, ConstIs, LoadedIs, IsSaid, IsLine, AreAligned, IsRange, IsVersion, IsNew}
+use Rattle.bilv_spec.specs.NotesFaults.{NoteFault, LimitFault, ByteFault, TokenFault, NumberFault, DepthFault, WordFault, SyntaxFault, NameFault, AlignFault, RangeFault, EntryFault, VersionFault, ConstFault, AllFault, note_fault_rank, BeginsBadly, Repeats, NoteFaultApplies}
 use Rattle.bilv_spec.proofs.Decided.{Decided, is_less, neither}
-use Rattle.bilv_spec.proofs.NotesFirst.{of_rank, ranked, said_by_any}
+use Rattle.bilv_spec.proofs.NotesFirst.{begins_well, of_rank, ranked}
+use Rattle.bilv_spec.proofs.Modes.{said_loosely, strict_is_lenient, strict_number, strict_numbers}
 use Rattle.bilv_spec.proofs.NotesSaid.{one_saying}
 use Rattle.line_tokens.specs.declared.lexer.Token as code
 use Rattle.line_tokens.specs.declared.lexer.Token.TheVariants.{Number, TooLarge, Name, Sign, BadByte as ABadByte, BadText as ABadText}
 use Rattle.line_tokens.specs.Tokens.{capped, token_of}
-use Rattle.notes_lang.specs.Judging.{is_bad_byte, is_bad_text, is_large, fault_of, IsTokenFault, IsRefusal, IsLeast}
+use Rattle.notes_lang.specs.Judging.{is_bad_byte, is_bad_text, is_large, fault_of, IsTokenFault, IsOfForm, IsOwnFault, IsRefusal, IsLeast}
 use Rattle.notes_lang.specs.declared.faults.FaultKind.{FaultKind}
 use Rattle.notes_lang.specs.declared.faults.FaultKind.TheVariants as kind
-use Rattle.notes_lang.proofs.Forms.{said_word}
 use Rattle.notes_lang.specs.declared.sayings.Says as code_says
 use Rattle.notes_lang.specs.Saying.{Tells, says_of}
 use Rattle.notes_lang.specs.Reading.{AreGood, tokens_view}
@@ -35,6 +35,9 @@ positive NameFault = lit≤ tt
 positive AlignFault = lit≤ tt
 positive RangeFault = lit≤ tt
 positive EntryFault = lit≤ tt
+positive VersionFault = lit≤ tt
+positive ConstFault = lit≤ tt
+positive AllFault = lit≤ tt
 
 pub free_first : (P : NoteFault → Type 0) → Free P 1
 free_first P g less p = let q = positive g in omega (arith, less, q)
@@ -77,12 +80,12 @@ large_kept (SignToken s) = refl
 large_kept BadByte = refl
 large_kept BadText = refl
 
-depth_kept : (t : Token) → is_depth (capped t) ≡ is_depth t
-depth_kept (NumberToken n) = refl
-depth_kept (NameToken w) = refl
-depth_kept (SignToken s) = refl
-depth_kept BadByte = refl
-depth_kept BadText = refl
+depth_kept : (b : Bool) (t : Token) → is_depth b (capped t) ≡ is_depth b t
+depth_kept b (NumberToken n) = refl
+depth_kept b (NameToken w) = refl
+depth_kept b (SignToken s) = refl
+depth_kept b BadByte = refl
+depth_kept b BadText = refl
 
 -- tests of tokens
 module _ (p : Token → Bool) where
@@ -109,18 +112,19 @@ module _ (p : Token → Bool) where
   none (t ∷ ts) y e (zero, below, is) q = let n = or_none (p t) (list_any p ts) e in let r : p t ≡ true = ap p is ∙ q in let f = n.0 in cc
   none (t ∷ ts) y e (suc k, below, is) q = none ts y (or_none (p t) (list_any p ts) e).1 (k, omega (arith, below), is) q
 
-fold_same : (n : ℕ) (us : List code.Token) (ts : List Token) → tokens_view us ≡ map capped ts →
-    fold (λ a x. a + cond (is_depth (token_of x)) 1 0) n us ≡ fold (λ a x. a + cond (is_depth x) 1 0) n ts
-fold_same n [] [] is = refl
-fold_same n [] (t ∷ ts) is = absurd (let b : ⊥ = cc in b)
-fold_same n (u ∷ us) [] is = absurd (let b : ⊥ = cc in b)
-fold_same n (u ∷ us) (t ∷ ts) is =
+fold_same : (b : Bool) (n : ℕ) (us : List code.Token) (ts : List Token) → tokens_view us ≡ map capped ts →
+    fold (λ a x. a + cond (is_depth b (token_of x)) 1 0) n us ≡ fold (λ a x. a + cond (is_depth b x) 1 0) n ts
+fold_same b n [] [] is = refl
+fold_same b n [] (t ∷ ts) is = absurd (let b : ⊥ = cc in b)
+fold_same b n (u ∷ us) [] is = absurd (let b : ⊥ = cc in b)
+fold_same b n (u ∷ us) (t ∷ ts) is =
     let first : token_of u ≡ capped t = cc in let rest : tokens_view us ≡ map capped ts = cc in
-    ap (λ b. fold (λ a x. a + cond (is_depth (token_of x)) 1 0) (n + cond b 1 0) us) (ap is_depth first ∙ depth_kept t) ∙ fold_same
-    (n + cond (is_depth t) 1 0) us ts rest
+    ap (λ c. fold (λ a x. a + cond (is_depth b (token_of x)) 1 0) (n + cond c 1 0) us) (ap (is_depth b) first ∙ depth_kept b t)
+    ∙ fold_same b (n + cond (is_depth b t) 1 0) us ts rest
 
-count_same : (us : List code.Token) (ts : List Token) → tokens_view us ≡ map capped ts → count_by (λ t. is_depth (token_of t)) us ≡ count_by is_depth ts
-count_same us ts is = fold_same 0 us ts is
+count_same : (b : Bool) (us : List code.Token) (ts : List Token) → tokens_view us ≡ map capped ts →
+    count_by (λ t. is_depth b (token_of t)) us ≡ count_by (is_depth b) ts
+count_same b us ts is = fold_same b 0 us ts is
 
 -- tokens without a fault of their own
 good_one : (u : code.Token) → is_bad_byte (token_of u) ≡ false → is_bad_text (token_of u) ≡ false → is_large (token_of u) ≡ false → IsGood (token_of u)
@@ -164,18 +168,11 @@ pub is_true : (b : Bool) (A : Type 0) → (IsTrue b ↔ A) → b ≡ true → A
 is_true b A is e = is.0 e
 
 -- what an answer tells
-pub told : (names : List ℕ → Option Expr) (ts : List Token) (o : Option code_says.Says) (s : code_says.Says) → Tells says_of (IsSaid names ts) o → o ≡ Some s →
-    IsSaid names ts (says_of s)
-told names ts o s p is = subst (λ o. Tells says_of (IsSaid names ts) o) is p
+pub told : (s : Scope) (ts : List Token) (o : Option code_says.Says) (x : code_says.Says) → Tells says_of (IsSaid s ts) o → o ≡ Some x → IsSaid s ts (says_of x)
+told s ts o x p is = subst (λ o. Tells says_of (IsSaid s ts) o) is p
 
-pub told_none : (names : List ℕ → Option Expr) (ts : List Token) (o : Option code_says.Says) → Tells says_of (IsSaid names ts) o → o ≡ None → (s : Says) →
-    IsSaid names ts s → ⊥
-told_none names ts o p is = subst (λ o. Tells says_of (IsSaid names ts) o) is p
-
--- a line that says something begins with a word
-not_badly : (names : List ℕ → Option Expr) (ts : List Token) (s : Says) → IsSaid names ts s → BeginsBadly ts → ⊥
-not_badly names [] s p bad = bad
-not_badly names (t ∷ ts) s p bad = bad (said_word names t ts s p)
+pub told_none : (s : Scope) (ts : List Token) (o : Option code_says.Says) → Tells says_of (IsSaid s ts) o → o ≡ None → (x : Says) → IsSaid s ts x → ⊥
+told_none s ts o p is = subst (λ o. Tells says_of (IsSaid s ts) o) is p
 
 a_bad_byte : (t : Token) → is_bad_byte t ≡ true → t ≡ BadByte
 a_bad_byte BadByte e = refl
@@ -189,34 +186,106 @@ a_large : (t : Token) → is_large t ≡ true → (v : ℕ) × (t ≡ NumberToke
 a_large (NumberToken n) e = (n, refl, grind arith)
 a_large t e = absurd (let b : ⊥ = cc in b)
 
-module _ (names : List ℕ → Option Expr) (keeps : KeepsReserved names) (n : ℕ) (earlier : List Says) (text : List ℕ) (us : List code.Token) (small : n
-    ≤ 4096) (short : length text ≤ 1024)
-    (is : tokens_view us ≡ map capped (tokens_of text)) where
-  free_2 : Free (NoteFaultApplies names n earlier text) 2
-  free_2 = free_next (NoteFaultApplies names n earlier text) LimitFault (free_first (NoteFaultApplies names n earlier text)) (neither
-      (λ l. omega (arith, l, small)) (λ l. omega (arith, l, short)))
+-- what repeats earlier lines is said as it must be read, where it is said leniently
+repeats_strictly : (s : Scope) → s.mode ≡ Strict → (ts : List Token) (earlier : List Says) (x : Says) → IsSaid (lenient s) ts x → Repeats earlier x →
+    IsSaid s ts x
+repeats_strictly s strict ts earlier (EntryIs (At a)) (t, is, n) r = (t, is, strict_number s strict t a n)
+repeats_strictly s strict ts earlier (EntryIs (Named w)) is r = is
+repeats_strictly s strict ts earlier (TargetsAre a to) (t, us, is, n, ns, some) r = (t, us, is, strict_number s strict t a n, strict_numbers s strict us to ns, some)
+repeats_strictly s strict ts earlier Nothing is r = absurd r
+repeats_strictly s strict ts earlier (RequireIs e) is r = absurd r
+repeats_strictly s strict ts earlier (EnsureIs e) is r = absurd r
+repeats_strictly s strict ts earlier (AssertIs a e) is r = absurd r
+repeats_strictly s strict ts earlier (FixedIs low high) is r = absurd r
+repeats_strictly s strict ts earlier (VersionIs b) is r = absurd r
+repeats_strictly s strict ts earlier (ConstIs w v) is r = absurd r
+repeats_strictly s strict ts earlier LoadedIs is r = absurd r
 
-  free_3 : false ≡ list_any (λ t. is_bad_byte (token_of t)) us → Free (NoteFaultApplies names n earlier text) 3
-  free_3 a = free_next (NoteFaultApplies names n earlier text) ByteFault free_2
+-- what is of the version, or declares, repeats nothing
+version_new : (s : Scope) (earlier : List Says) (x : Says) → (IsVersion s x → ⊥) → Repeats earlier x → ⊥
+version_new s earlier (VersionIs b) other r = r
+version_new s earlier Nothing other r = other tt
+version_new s earlier (EntryIs e) other r = other tt
+version_new s earlier (RequireIs e) other r = other tt
+version_new s earlier (EnsureIs e) other r = other tt
+version_new s earlier (AssertIs a e) other r = other tt
+version_new s earlier (TargetsAre a to) other r = other tt
+version_new s earlier (FixedIs low high) other r = other tt
+version_new s earlier (ConstIs w v) other r = other tt
+version_new s earlier LoadedIs other r = other tt
+
+const_new : (s : Scope) (earlier : List Says) (x : Says) → (IsNew s x → ⊥) → Repeats earlier x → ⊥
+const_new s earlier (ConstIs w v) other r = r
+const_new s earlier (VersionIs b) other r = other tt
+const_new s earlier Nothing other r = other tt
+const_new s earlier (EntryIs e) other r = other tt
+const_new s earlier (RequireIs e) other r = other tt
+const_new s earlier (EnsureIs e) other r = other tt
+const_new s earlier (AssertIs a e) other r = other tt
+const_new s earlier (TargetsAre a to) other r = other tt
+const_new s earlier (FixedIs low high) other r = other tt
+const_new s earlier LoadedIs other r = other tt
+
+-- tokens that begin well and are read as if every word had a meaning
+pub form_of : (s t : Scope) (ts : List Token) (b : Bool) (o : Option code_says.Says) (x : code_says.Says) → (IsTrue b ↔ BeginsBadly s.is_second ts) → b ≡ false →
+    t ≡ loose s → Tells says_of (IsSaid t ts) o → o ≡ Some x → IsOfForm s ts
+form_of s t ts b o x badly well t_is tells some =
+    (not_true b (BeginsBadly s.is_second ts) badly well, (says_of x, subst (λ s. IsSaid s ts (says_of x)) t_is (told t ts o x tells some)))
+
+pub name_unknown : (s t : Scope) (ts : List Token) (o : Option code_says.Says) → t ≡ lenient s → Tells says_of (IsSaid t ts) o → o ≡ None → (x : Says) →
+    IsSaid (lenient s) ts x → ⊥
+name_unknown s t ts o t_is tells none x p = told_none t ts o tells none x (subst (λ s. IsSaid s ts x) (sym t_is) p)
+
+pub said_leniently : (s t : Scope) (ts : List Token) (o : Option code_says.Says) (x : code_says.Says) → t ≡ lenient s → Tells says_of (IsSaid t ts) o →
+    o ≡ Some x → IsSaid (lenient s) ts (says_of x)
+said_leniently s t ts o x t_is tells some = subst (λ s. IsSaid s ts (says_of x)) t_is (told t ts o x tells some)
+
+-- what is wrong with what is said leniently
+pub refusal_of : (s : Scope) (ts : List Token) → IsOfForm s ts → (x : Says) → IsSaid (lenient s) ts x → (k : FaultKind) → IsOwnFault s x (Some k) →
+    IsRefusal s ts k
+refusal_of s ts form x said kind.Align f = (form, (x, said, f))
+refusal_of s ts form x said kind.Range f = (form, (x, said, f))
+refusal_of s ts form x said kind.Version f = (form, (x, said, f))
+refusal_of s ts form x said kind.Const f = (form, (x, said, f))
+refusal_of s ts form x said kind.Limit f = absurd f
+refusal_of s ts form x said kind.Byte f = absurd f
+refusal_of s ts form x said kind.Token f = absurd f
+refusal_of s ts form x said kind.Number f = absurd f
+refusal_of s ts form x said kind.Depth f = absurd f
+refusal_of s ts form x said kind.Word f = absurd f
+refusal_of s ts form x said kind.Syntax f = absurd f
+refusal_of s ts form x said kind.Name f = absurd f
+refusal_of s ts form x said kind.Entry f = absurd f
+refusal_of s ts form x said kind.All f = absurd f
+
+module _ (s : Scope) (strict : s.mode ≡ Strict) (n : ℕ) (earlier : List Says) (text : List ℕ) (us : List code.Token) (small : n ≤ line_limit s.is_second)
+    (short : length text ≤ 1024) (is : tokens_view us ≡ map capped (tokens_of text)) where
+  abbrev Applies : NoteFault → Type 0
+  Applies = NoteFaultApplies s n earlier text
+
+  free_2 : Free Applies 2
+  free_2 = free_next Applies LimitFault (free_first Applies) (neither (λ l. omega (arith, l, small)) (λ l. omega (arith, l, short)))
+
+  free_3 : false ≡ list_any (λ t. is_bad_byte (token_of t)) us → Free Applies 3
+  free_3 a = free_next Applies ByteFault free_2
       (λ c. none is_bad_byte (tokens_of text) BadByte (sym (any_same is_bad_byte byte_kept us (tokens_of text) is) ∙ sym a) c refl)
 
-  free_4 : false ≡ list_any (λ t. is_bad_byte (token_of t)) us → false ≡ list_any (λ t. is_bad_text (token_of t)) us →
-      Free (NoteFaultApplies names n earlier text) 4
-  free_4 a b = free_next (NoteFaultApplies names n earlier text) TokenFault (free_3 a)
+  free_4 : false ≡ list_any (λ t. is_bad_byte (token_of t)) us → false ≡ list_any (λ t. is_bad_text (token_of t)) us → Free Applies 4
+  free_4 a b = free_next Applies TokenFault (free_3 a)
       (λ c. none is_bad_text (tokens_of text) BadText (sym (any_same is_bad_text text_kept us (tokens_of text) is) ∙ sym b) c refl)
 
   free_5 : false ≡ list_any (λ t. is_bad_byte (token_of t)) us → false ≡ list_any (λ t. is_bad_text (token_of t)) us →
-      false ≡ list_any (λ t. is_large (token_of t)) us → Free (NoteFaultApplies names n earlier text) 5
-  free_5 a b c = free_next (NoteFaultApplies names n earlier text) NumberFault (free_4 a b) (λ v.
-      none is_large (tokens_of text) (NumberToken v.0) (sym (any_same is_large large_kept us (tokens_of text) is) ∙ sym c) v.1 (let le = v.2
-      in grind (arith, le)))
+      false ≡ list_any (λ t. is_large (token_of t)) us → Free Applies 5
+  free_5 a b c = free_next Applies NumberFault (free_4 a b) (λ v.
+      none is_large (tokens_of text) (NumberToken v.0) (sym (any_same is_large large_kept us (tokens_of text) is) ∙ sym c) v.1
+      (let le = v.2 in grind (arith, le)))
 
-  free_6 : IsTokenFault us None → Free (NoteFaultApplies names n earlier text) 6
-  free_6 p = free_next (NoteFaultApplies names n earlier text) DepthFault (free_5 p.0 p.1 p.2)
-      (λ deep. let same = count_same us (tokens_of text) is in let le = p.3 in omega (arith, deep, same, le))
+  free_6 : IsTokenFault s.is_second us None → Free Applies 6
+  free_6 p = free_next Applies DepthFault (free_5 p.0 p.1 p.2)
+      (λ deep. let same = count_same s.is_second us (tokens_of text) is in let le = p.3 in omega (arith, deep, same, le))
 
   -- the least fault of tokens alone
-  pub token_faulty : (k : FaultKind) → IsTokenFault us (Some k) → IsLeast (NoteFaultApplies names n earlier text) (fault_of k)
+  pub token_faulty : (k : FaultKind) → IsTokenFault s.is_second us (Some k) → IsLeast Applies (fault_of k)
   token_faulty kind.Byte p =
       let f = found is_bad_byte (tokens_of text) (sym (any_same is_bad_byte byte_kept us (tokens_of text) is) ∙ sym p) in
       (subst (Contains (tokens_of text)) (a_bad_byte f.0 f.2) f.1, free_2)
@@ -227,7 +296,8 @@ module _ (names : List ℕ → Option Expr) (keeps : KeepsReserved names) (n : �
       let f = found is_large (tokens_of text) (sym (any_same is_large large_kept us (tokens_of text) is) ∙ sym p.2) in
       let v = a_large f.0 f.2 in
       ((v.0, subst (Contains (tokens_of text)) v.1 f.1, v.2), free_4 p.0 p.1)
-  token_faulty kind.Depth p = (let same = count_same us (tokens_of text) is in let deep = p.3 in omega (arith, deep, same), free_5 p.0 p.1 p.2)
+  token_faulty kind.Depth p =
+      (let same = count_same s.is_second us (tokens_of text) is in let deep = p.3 in omega (arith, deep, same), free_5 p.0 p.1 p.2)
   token_faulty kind.Limit p = absurd p
   token_faulty kind.Word p = absurd p
   token_faulty kind.Syntax p = absurd p
@@ -235,60 +305,106 @@ module _ (names : List ℕ → Option Expr) (keeps : KeepsReserved names) (n : �
   token_faulty kind.Align p = absurd p
   token_faulty kind.Range p = absurd p
   token_faulty kind.Entry p = absurd p
+  token_faulty kind.Version p = absurd p
+  token_faulty kind.Const p = absurd p
+  token_faulty kind.All p = absurd p
 
-  ts_are : IsTokenFault us None → tokens_view us ≡ tokens_of text
+  ts_are : IsTokenFault s.is_second us None → tokens_view us ≡ tokens_of text
   ts_are p = same_view us (tokens_of text) (all_good us (sym p.0) (sym p.1) (sym p.2)) is
 
-  free_7 : IsTokenFault us None → (BeginsBadly (tokens_view us) → ⊥) → Free (NoteFaultApplies names n earlier text) 7
-  free_7 p word = free_next (NoteFaultApplies names n earlier text) WordFault (free_6 p) (λ bad. word (subst BeginsBadly (sym (ts_are p)) bad))
+  free_7 : IsTokenFault s.is_second us None → (BeginsBadly s.is_second (tokens_view us) → ⊥) → Free Applies 7
+  free_7 p word = free_next Applies WordFault (free_6 p) (λ bad. word (subst (BeginsBadly s.is_second) (sym (ts_are p)) bad))
 
-  free_8 : IsTokenFault us None → (BeginsBadly (tokens_view us) → ⊥) → (s : Says) → IsSaid any_name (tokens_view us) s →
-      Free (NoteFaultApplies names n earlier text) 8
-  free_8 p word s said =
-      free_next (NoteFaultApplies names n earlier text) SyntaxFault (free_7 p word) (λ f. f s (subst (λ ts. IsSaid any_name ts s) (ts_are p) said))
+  free_8 : IsTokenFault s.is_second us None → IsOfForm s (tokens_view us) → Free Applies 8
+  free_8 p form =
+      free_next Applies SyntaxFault (free_7 p form.0) (λ f. f form.1.0 (subst (λ ts. IsSaid (loose s) ts form.1.0) (ts_are p) form.1.1))
+
+  -- what is said leniently
+  free_9 : IsTokenFault s.is_second us None → IsOfForm s (tokens_view us) → (x : Says) → IsSaid (lenient s) (tokens_of text) x → Free Applies 9
+  free_9 p form x said = free_next Applies NameFault (free_8 p form) (λ f. f x said)
+
+  one : (x y : Says) → IsSaid (lenient s) (tokens_of text) x → IsSaid (lenient s) (tokens_of text) y → y ≡ x
+  one x y said other = one_saying (lenient s) (tokens_of text) y x other said
+
+  module _ (p : IsTokenFault s.is_second us None) (form : IsOfForm s (tokens_view us)) (x : Says) (said : IsSaid (lenient s) (tokens_of text) x) where
+    free_10 : AreAligned x → Free Applies 10
+    free_10 aligned = free_next Applies AlignFault (free_9 p form x said) (λ f. f.2 (subst AreAligned (sym (one x f.0 said f.1)) aligned))
+
+    free_11 : AreAligned x → IsRange x → Free Applies 11
+    free_11 aligned range = free_next Applies RangeFault (free_10 aligned) (λ f. f.2 (subst IsRange (sym (one x f.0 said f.1)) range))
+
+    free_12 : AreAligned x → IsRange x → (Repeats earlier x → ⊥) → Free Applies 12
+    free_12 aligned range new =
+        free_next Applies EntryFault (free_11 aligned range) (λ f. new (subst (Repeats earlier) (one x f.0 said f.1) f.2))
+
+    free_13 : AreAligned x → IsRange x → (Repeats earlier x → ⊥) → IsVersion s x → Free Applies 13
+    free_13 aligned range new version =
+        free_next Applies VersionFault (free_12 aligned range new) (λ f. f.2 (subst (IsVersion s) (sym (one x f.0 said f.1)) version))
+
+    free_14 : AreAligned x → IsRange x → (Repeats earlier x → ⊥) → IsVersion s x → IsNew s x → Free Applies 14
+    free_14 aligned range new version is_new =
+        free_next Applies ConstFault (free_13 aligned range new version) (λ f. f.2 (subst (IsNew s) (sym (one x f.0 said f.1)) is_new))
+
+    own_least : (k : FaultKind) → IsOwnFault s x (Some k) → IsLeast Applies (fault_of k)
+    own_least kind.Align f = ((x, said, f), free_9 p form x said)
+    own_least kind.Range f = ((x, said, f.1), free_10 f.0)
+    own_least kind.Version f = ((x, said, f.2), free_12 f.0 f.1 (version_new s earlier x f.2))
+    own_least kind.Const f = ((x, said, f.3), free_13 f.0 f.1 (const_new s earlier x f.3) f.2)
+    own_least kind.Limit f = absurd f
+    own_least kind.Byte f = absurd f
+    own_least kind.Token f = absurd f
+    own_least kind.Number f = absurd f
+    own_least kind.Depth f = absurd f
+    own_least kind.Word f = absurd f
+    own_least kind.Syntax f = absurd f
+    own_least kind.Name f = absurd f
+    own_least kind.Entry f = absurd f
+    own_least kind.All f = absurd f
+
+  lenient_here : IsTokenFault s.is_second us None → (x : Says) → IsSaid (lenient s) (tokens_view us) x → IsSaid (lenient s) (tokens_of text) x
+  lenient_here p x said = subst (λ ts. IsSaid (lenient s) ts x) (ts_are p) said
 
   -- why nothing is said
-  pub refused : IsTokenFault us None → ((s : Says) → IsSaid names (tokens_view us) s → ⊥) → (k : FaultKind) → IsRefusal (tokens_view us) k →
-      IsLeast (NoteFaultApplies names n earlier text) (fault_of k)
-  refused p nothing kind.Word r = (subst BeginsBadly (ts_are p) r, free_6 p)
-  refused p nothing kind.Syntax r = (λ s said. r.1 s (subst (λ ts. IsSaid any_name ts s) (sym (ts_are p)) said), free_7 p r.0)
-  refused p nothing kind.Name r = (λ s said. nothing s (subst (λ ts. IsSaid names ts s) (sym (ts_are p)) said), free_8 p r.0 r.1.0 r.1.1)
+  pub refused : IsTokenFault s.is_second us None → ((x : Says) → IsSaid s (tokens_view us) x → ⊥) → (k : FaultKind) → IsRefusal s (tokens_view us) k →
+      IsLeast Applies (fault_of k)
+  refused p nothing kind.Word r = (subst (BeginsBadly s.is_second) (ts_are p) r, free_6 p)
+  refused p nothing kind.Syntax r = (λ x said. r.1 x (subst (λ ts. IsSaid (loose s) ts x) (sym (ts_are p)) said), free_7 p r.0)
+  refused p nothing kind.Name r = (λ x said. r.1 x (subst (λ ts. IsSaid (lenient s) ts x) (sym (ts_are p)) said), free_8 p r.0)
+  refused p nothing kind.Align r = own_least p r.0 r.1.0 (lenient_here p r.1.0 r.1.1) kind.Align r.1.2
+  refused p nothing kind.Range r = own_least p r.0 r.1.0 (lenient_here p r.1.0 r.1.1) kind.Range r.1.2
+  refused p nothing kind.Version r = own_least p r.0 r.1.0 (lenient_here p r.1.0 r.1.1) kind.Version r.1.2
+  refused p nothing kind.Const r = own_least p r.0 r.1.0 (lenient_here p r.1.0 r.1.1) kind.Const r.1.2
+  refused p nothing kind.All r =
+      let here = lenient_here p r.1.0 r.1.1 in
+      let strictly_none : (x : Says) → IsSaid s (tokens_of text) x → ⊥ = λ x said. nothing x (subst (λ ts. IsSaid s ts x) (sym (ts_are p)) said) in
+      let new : Repeats earlier r.1.0 → ⊥ = λ again. strictly_none r.1.0 (repeats_strictly s strict (tokens_of text) earlier r.1.0 here again) in
+      (strictly_none, free_14 p r.0 r.1.0 here r.1.2.0 r.1.2.1 new r.1.2.2 r.1.2.3)
   refused p nothing kind.Limit r = absurd r
   refused p nothing kind.Byte r = absurd r
   refused p nothing kind.Token r = absurd r
   refused p nothing kind.Number r = absurd r
   refused p nothing kind.Depth r = absurd r
-  refused p nothing kind.Align r = absurd r
-  refused p nothing kind.Range r = absurd r
   refused p nothing kind.Entry r = absurd r
 
-  free_9 : IsTokenFault us None → (s : Says) → IsSaid names (tokens_view us) s → Free (NoteFaultApplies names n earlier text) 9
-  free_9 p s said =
-      let any = said_by_any names keeps (tokens_view us) s said in
-      free_next (NoteFaultApplies names n earlier text) NameFault (free_8 p (not_badly names (tokens_view us) s said) any.0 any.1)
-      (λ f. f s (subst (λ ts. IsSaid names ts s) (ts_are p) said))
+  -- tokens that say something are of the form
+  of_form : (x : Says) → IsSaid s (tokens_view us) x → IsOfForm s (tokens_view us)
+  of_form x said = (begins_well s (tokens_view us) x said, said_loosely s (tokens_view us) x said)
 
-  -- what is said names an address that is not aligned, or a range that is empty
-  pub unaligned : IsTokenFault us None → (s : Says) → IsSaid names (tokens_view us) s → (AreAligned s → ⊥) →
-      IsLeast (NoteFaultApplies names n earlier text) AlignFault
-  unaligned p s said other = ((s, subst (λ ts. IsSaid names ts s) (ts_are p) said, other), free_9 p s said)
-
-  pub empty_range : IsTokenFault us None → (s : Says) → IsSaid names (tokens_view us) s → AreAligned s → (IsRange s → ⊥) →
-      IsLeast (NoteFaultApplies names n earlier text) RangeFault
-  empty_range p s said aligned other =
-      let here = subst (λ ts. IsSaid names ts s) (ts_are p) said in (
-        (s, here, other),
-        free_next (NoteFaultApplies names n earlier text) AlignFault (free_9 p s said)
-            (λ f. f.2 (subst AreAligned (one_saying names keeps (tokens_of text) s f.0 here f.1) aligned)),
-      )
+  -- what is wrong with what is said
+  pub own_faulty : IsTokenFault s.is_second us None → (x : Says) → IsSaid s (tokens_view us) x → (k : FaultKind) → IsOwnFault s x (Some k) →
+      IsLeast Applies (fault_of k)
+  own_faulty p x said k f =
+      own_least p (of_form x said) x (lenient_here p x (strict_is_lenient s (tokens_view us) x strict said)) k f
 
   -- a line without a fault of its own
-  pub a_line : IsTokenFault us None → (s : Says) → IsSaid names (tokens_view us) s → AreAligned s → IsRange s → IsLine names text s
-  a_line p s said aligned range = record {
+  pub a_line : IsTokenFault s.is_second us None → (x : Says) → IsSaid s (tokens_view us) x → IsOwnFault s x None → IsLine s text x
+  a_line p x said own = record {
     short = short;
     good = subst (λ ts. All IsGood ts) (ts_are p) (all_are us (all_good us (sym p.0) (sym p.1) (sym p.2)));
-    depth = let same = count_same us (tokens_of text) is in let le = p.3 in omega (arith, same, le);
-    said = subst (λ ts. IsSaid names ts s) (ts_are p) said;
-    aligned = aligned;
-    range = range;
+    depth = let same = count_same s.is_second us (tokens_of text) is in let le = p.3 in omega (arith, same, le);
+    said = subst (λ ts. IsSaid s ts x) (ts_are p) said;
+    aligned = own.0;
+    range = own.1;
+    version = own.2;
+    new = own.3;
   }

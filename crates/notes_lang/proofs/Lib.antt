@@ -1,4 +1,5 @@
 pub mod Tables
+pub mod Constants
 pub mod Steps
 pub mod Whole
 pub mod Forms
@@ -9,3 +10,4 @@ pub mod Growing
 pub mod SoFar
 pub mod Finished
 pub mod Readable
+pub mod VersionLines

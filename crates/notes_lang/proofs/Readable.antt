@@ -1,13 +1,14 @@
 -- What the grammar reads, a machine can evaluate.
-use Rattle.std.proofs.Common.{◌≡◌, ℕ, ◌+◌, ◌≤◌, refl, subst, arith, List, [], ◌∷◌, Option, Some, Bool, true, false, if◌then◌else◌, ◌&&◌, nat_le, bytes_eq, All, Contains, IsTrue, codes}
-use Rattle.std.specs.List.{list_all}
+use Rattle.std.proofs.Common.{◌≡◌, ℕ, zero, suc, ◌+◌, ◌<◌, ◌≤◌, ◌^◌, refl, ap, sym, subst, arith, List, [], ◌∷◌, ◌++◌, map, Option, Some, None, Bool, true, false, if◌then◌else◌, ◌&&◌, nat_le, bytes_eq, All, Contains, IsTrue, codes}
+use Rattle.std.specs.List.{list_all, list_any}
 use Rattle.std.proofs.lemmas.Bool.Decides.{nat_tests}
 use Rattle.std.proofs.lemmas.List.Elements.{All-nil, All-cons, All-tail}
 use Rattle.bilv_spec.specs.Memory.{Little}
-use Rattle.bilv_spec.specs.Notes.{Expr, Number, Register, Flag, Pc, Memory, Old, Not, Binary, Notes}
-use Rattle.bilv_spec.specs.NotesGrammar.{Token, NameToken, NumberToken, load_words, IsGood, left_of, Parses, tighter, binary_of, not_of, number_of, name_of, memory_of, old_of, in_brackets, Says, RequireIs, EnsureIs, AssertIs, requires_of, ensures_of, asserts_of, tokens_of, IsSaid, AreLines, IsNotesText}
+use Rattle.bilv_spec.specs.Notes.{Expr, Number, Register, Flag, Pc, Bound, Memory, Old, Not, Binary, Notes, put_bound, each, values}
+use Rattle.bilv_spec.specs.Scopes.{Scope, Mode, Strict, Lenient, Loose, Constant, begin, const_of, const_or, meaning, name_by, named, is_reserved, binding}
+use Rattle.bilv_spec.specs.NotesGrammar.{Token, NameToken, NumberToken, load_words, IsGood, left_of, Parses, tighter, binary_of, not_of, number_of, name_of, memory_of, old_of, all_of, in_brackets, after, is_second, lines_of, Says, Nothing, EntryIs, RequireIs, EnsureIs, AssertIs, TargetsAre, FixedIs, VersionIs, ConstIs, LoadedIs, requires_of, ensures_of, asserts_of, tokens_of, IsSaid, AreLines, IsNotesText}
 use Rattle.bilv_spec.specs.Rv.{rv32}
-use Rattle.bilv_spec.specs.Arm.{arm}
+use Rattle.bilv_spec.specs.Arm.{arm, V4}
 use Rattle.bilv_spec.specs.RvNames.{name_in, rv_table}
 use Rattle.bilv_spec.specs.ArmNames.{arm_table}
 use Rattle.bilv_spec.specs.NotesLaws.{IsOfWords}
@@ -16,7 +17,7 @@ use Rattle.bilv_spec.proofs.NotesTables.{of_each}
 use Rattle.bilv_spec.proofs.NotesNames.{machine_names_of_words}
 use Rattle.bilv_spec.proofs.NotesWords.{words_said}
 use Rattle.state_text.specs.declared.layout.Layout.{Layout}
-use Rattle.state_text.specs.declared.layout.Layout.TheVariants.{Rv32, ArmLittle, ArmBig}
+use Rattle.state_text.specs.declared.layout.Layout.TheVariants.{Rv32, Arm}
 use Rattle.notes_value.specs.Reads.{IsReadable, AreReadable, IsOver, AreOver}
 use Rattle.notes_lang.specs.Parsing.{layout_names, layout_registers, layout_flags}
 
@@ -26,6 +27,7 @@ reads has_register has_flag (Number n) = true
 reads has_register has_flag (Register r) = has_register r
 reads has_register has_flag (Flag f) = has_flag f
 reads has_register has_flag Pc = true
+reads has_register has_flag Bound = true
 reads has_register has_flag (Memory n a) = false
 reads has_register has_flag (Old a) = false
 reads has_register has_flag (Not a) = false
@@ -48,7 +50,7 @@ rv_reads : list_all (λ n. reads rv32.has_register rv32.has_flag n.1) rv_table �
 unfolding rv_table
 rv_reads = refl
 
-arm_reads : list_all (λ n. reads (arm Little).has_register (arm Little).has_flag n.1) arm_table ≡ true
+arm_reads : list_all (λ n. reads (arm Little V4).has_register (arm Little V4).has_flag n.1) arm_table ≡ true
 unfolding arm_table
 arm_reads = refl
 
@@ -58,21 +60,18 @@ NamesRead has_register has_flag names = (w : List ℕ) (e : Expr) → names w �
 
 layout_reads : (layout : Layout) → NamesRead (layout_registers layout) (layout_flags layout) (layout_names layout)
 layout_reads Rv32 w e is = by_table (reads rv32.has_register rv32.has_flag) rv_table rv_reads w e is
-layout_reads ArmLittle w e is = by_table (reads (arm Little).has_register (arm Little).has_flag) arm_table arm_reads w e is
-layout_reads ArmBig w e is = by_table (reads (arm Little).has_register (arm Little).has_flag) arm_table arm_reads w e is
+layout_reads (Arm big profile) w e is = by_table (reads (arm Little V4).has_register (arm Little V4).has_flag) arm_table arm_reads w e is
 
 layout_words : (layout : Layout) (w : List ℕ) (e : Expr) → layout_names layout w ≡ Some e → IsOfWords e
 layout_words Rv32 = machine_names_of_words.0
-layout_words ArmLittle = machine_names_of_words.1
-layout_words ArmBig = machine_names_of_words.1
+layout_words (Arm big profile) = machine_names_of_words.1
 
 no_flag : (f : ℕ) → IsTrue false → f ≤ 3
 no_flag f is = absurd (let x : ⊥ = cc in x)
 
 layout_few : (layout : Layout) (f : ℕ) → IsTrue (layout_flags layout f) → f ≤ 3
 layout_few Rv32 f is = no_flag f is
-layout_few ArmLittle f is = grind (arith, nat_tests)
-layout_few ArmBig f is = grind (arith, nat_tests)
+layout_few (Arm big profile) f is = grind (arith, nat_tests)
 
 -- an expression that names registers and flags of the machine alone, and loads bytes
 abbrev HasParts : (has_register has_flag : ℕ → Bool) → Expr → Type 0
@@ -80,6 +79,7 @@ HasParts has_register has_flag (Number n) = Unit {0}
 HasParts has_register has_flag (Register r) = IsTrue (has_register r)
 HasParts has_register has_flag (Flag f) = IsTrue (has_flag f)
 HasParts has_register has_flag Pc = Unit {0}
+HasParts has_register has_flag Bound = Unit {0}
 HasParts has_register has_flag (Memory n a) = (1 ≤ n) × HasParts has_register has_flag a
 HasParts has_register has_flag (Old a) = HasParts has_register has_flag a
 HasParts has_register has_flag (Not a) = HasParts has_register has_flag a
@@ -94,27 +94,68 @@ module _ (has_register has_flag : ℕ → Bool) where
   of_name (Register r) is = is
   of_name (Flag f) is = is
   of_name Pc is = tt
+  of_name Bound is = tt
   of_name (Memory n a) is = absurd (let f : ⊥ = cc in f)
   of_name (Old a) is = absurd (let f : ⊥ = cc in f)
   of_name (Not a) is = absurd (let f : ⊥ = cc in f)
   of_name (Binary op a b) is = absurd (let f : ⊥ = cc in f)
 
-  parts : (names : List ℕ → Option Expr) → NamesRead has_register has_flag names → (l : ℕ) (ts : List Token) (e : Expr) → Parses names l ts e →
+  -- a number in place of the bound name
+  put_parts : (v : ℕ) (e : Expr) → HasParts has_register has_flag e → HasParts has_register has_flag (put_bound v e)
+  put_parts v (Number n) h = tt
+  put_parts v (Register r) h = h
+  put_parts v (Flag f) h = h
+  put_parts v Pc h = tt
+  put_parts v Bound h = tt
+  put_parts v (Memory n a) h = (h.0, put_parts v a h.1)
+  put_parts v (Old a) h = put_parts v a h
+  put_parts v (Not a) h = put_parts v a h
+  put_parts v (Binary op a b) h = (put_parts v a h.0, put_parts v b h.1)
+
+  each_parts : (vs : List ℕ) (e : Expr) → HasParts has_register has_flag e → HasParts has_register has_flag (each (map (λ v. put_bound v e) vs))
+  each_parts [] e h = tt
+  each_parts (v ∷ vs) e h = (put_parts v e h, each_parts vs e h)
+
+  -- what words mean
+  meaning_parts : (s : Scope) → NamesRead has_register has_flag s.names → (w : List ℕ) (e : Expr) → meaning s w ≡ Some e → HasParts has_register has_flag e
+  meaning_parts s read w e is = by (list_any (bytes_eq w) s.bound) is where
+    of_const : (o : Option ℕ) → const_or o (s.names w) ≡ Some e → HasParts has_register has_flag e
+    of_const (Some n) e_is = let same : Number n ≡ e = cc in subst (HasParts has_register has_flag) same tt
+    of_const None e_is = of_name e (read w e e_is)
+
+    by : (b : Bool) → (if b then Some Bound else const_or (const_of s.consts w) (s.names w)) ≡ Some e → HasParts has_register has_flag e
+    by true e_is = let same : Bound ≡ e = cc in subst (HasParts has_register has_flag) same tt
+    by false e_is = of_const (const_of s.consts w) e_is
+
+  mode_parts : (m : Mode) (s : Scope) → NamesRead has_register has_flag s.names → (w : List ℕ) (e : Expr) → name_by m s w ≡ Some e →
       HasParts has_register has_flag e
-  parts names each l ts e (tighter below p) = parts names each (l + 1) ts e p
-  parts names each l ts e (binary_of {xs = xs} {ys = ys} {a = a} {b = b} c p q is) = (parts names each (left_of l) xs a p, parts names each (l + 1) ys b q)
-  parts names each l ts e (not_of {ts = us} {e = a} p) = parts names each 3 us a p
-  parts names each l ts e (number_of) = tt
-  parts names each l ts e (name_of {w = w} {e = a} is) = of_name a (each w a is)
-  parts names each l ts e (memory_of {n = n} {w = w} {us = us} {e = a} c p is) = let some = some_bytes n w c in (grind (arith, some), parts names each 1 us a p)
-  parts names each l ts e (old_of {us = us} {e = a} p is) = parts names each 1 us a p
-  parts names each l ts e (in_brackets {us = us} p is) = parts names each 1 us e p
+  mode_parts Strict s read w e is = meaning_parts s read w e is
+  mode_parts Lenient s read w e is = meaning_parts s read w e is
+  mode_parts Loose s read w e is = let same : Number 0 ≡ e = cc in subst (HasParts has_register has_flag) same tt
+
+  named_parts : (s : Scope) → NamesRead has_register has_flag s.names → (w : List ℕ) (e : Expr) → named s w ≡ Some e → HasParts has_register has_flag e
+  named_parts s read w e is = by (is_reserved s w) is where
+    by : (b : Bool) → (if b then None else name_by s.mode s w) ≡ Some e → HasParts has_register has_flag e
+    by true e_is = absurd (none_some Expr e e_is)
+    by false e_is = mode_parts s.mode s read w e e_is
+
+  parts : (s : Scope) → NamesRead has_register has_flag s.names → (l : ℕ) (ts : List Token) (e : Expr) → Parses s l ts e → HasParts has_register has_flag e
+  parts s read l ts e (tighter below p) = parts s read (l + 1) ts e p
+  parts s read l ts e (binary_of {xs = xs} {ys = ys} {a = a} {b = b} c p q is) = (parts s read (left_of l) xs a p, parts s read (l + 1) ys b q)
+  parts s read l ts e (not_of {ts = us} {e = a} p) = parts s read 3 us a p
+  parts s read l ts e (number_of) = tt
+  parts s read l ts e (name_of {w = w} {e = a} is) = named_parts s read w a is
+  parts s read l ts e (memory_of {n = n} {w = w} {us = us} {e = a} c p is) = let some = some_bytes n w c in (grind (arith, some), parts s read 1 us a p)
+  parts s read l ts e (old_of {us = us} {e = a} p is) = parts s read 1 us a p
+  parts s read l ts e (all_of {w = w} low high {us = us} a two p q may r is) = each_parts (values low high) a (parts (binding s w) read 1 us a r)
+  parts s read l ts e (in_brackets {us = us} p is) = parts s read 1 us e p
 
   over : (e : Expr) → HasParts has_register has_flag e → IsOfWords e → IsOver has_register has_flag e
   over (Number n) h w = w
   over (Register r) h w = h
   over (Flag f) h w = h
   over Pc h w = tt
+  over Bound h w = tt
   over (Memory n a) h w = (h.0, w.0, over a h.1 w.1)
   over (Old a) h w = over a h w
   over (Not a) h w = over a h w
@@ -125,14 +166,30 @@ module _ (has_register has_flag : ℕ → Bool) where
   readable few (Register r) h = h
   readable few (Flag f) h = few f h
   readable few Pc h = tt
+  readable few Bound h = tt
   readable few (Memory n a) h = readable few a h.1
   readable few (Old a) h = readable few a h
   readable few (Not a) h = readable few a h
   readable few (Binary op a b) h = (readable few a h.0, readable few b h.1)
 
+-- the numbers of constants are words
+abbrev SmallConsts : List Constant → Type 0
+SmallConsts cs = (c : Constant) → Contains cs c → c.number < 2 ^ 32
+
+small_and : (cs : List Constant) (w : List ℕ) (v : ℕ) → SmallConsts cs → v < 2 ^ 32 → SmallConsts (cs ++ record { word = w; number = v } ∷ [])
+small_and [] w v small less c (zero, below, is) = subst (λ n. n < 2 ^ 32) (ap (λ c. c.number) is) less
+small_and [] w v small less c (suc k, below, is) = absurd (omega (arith, below))
+small_and (d ∷ cs) w v small less c (zero, below, is) = small c (0, omega arith, is)
+small_and (d ∷ cs) w v small less c (suc k, below, is) =
+    small_and cs w v (λ e in_rest. small e (suc in_rest.0, omega (arith, in_rest.1), in_rest.2)) less c (k, omega (arith, below), is)
+
+-- a number among good tokens
+good_number : (w : List ℕ) (v : ℕ) (ts : List Token) → ts ≡ NameToken (codes "const") ∷ NameToken w ∷ NumberToken v ∷ [] → All IsGood ts → v < 2 ^ 32
+good_number w v ts is good = let g : All IsGood (NameToken (codes "const") ∷ NameToken w ∷ NumberToken v ∷ []) = subst (All IsGood) is good in g 2 (NumberToken v) (omega arith)
+
 -- what holds of each expression that good tokens say holds of each line
-module _ (Claim : Expr → Type 0) (names : List ℕ → Option Expr) (each : (l : ℕ) (ts : List Token) (e : Expr) → All IsGood ts → Parses names l ts e →
-    Claim e) where
+module _ (Claim : Expr → Type 0) (names : List ℕ → Option Expr) (each : (s : Scope) → s.names ≡ names → SmallConsts s.consts → (l : ℕ) (ts : List Token)
+    (e : Expr) → All IsGood ts → Parses s l ts e → Claim e) where
   abbrev HoldsOfSaid : Says → Type 0
   HoldsOfSaid (RequireIs e) = Claim e
   HoldsOfSaid (EnsureIs e) = Claim e
@@ -143,18 +200,45 @@ module _ (Claim : Expr → Type 0) (names : List ℕ → Option Expr) (each : (l
   HoldsOfAll [] = Unit {0}
   HoldsOfAll (s ∷ says) = HoldsOfSaid s × HoldsOfAll says
 
-  said : (ts : List Token) (s : Says) → All IsGood ts → IsSaid names ts s → HoldsOfSaid s
-  said ts (RequireIs e) good p = each 1 p.0 e (All-tail IsGood _ p.0 (subst (All IsGood) p.1 good)) p.2
-  said ts (EnsureIs e) good p = each 1 p.0 e (All-tail IsGood _ p.0 (subst (All IsGood) p.1 good)) p.2
-  said ts (AssertIs a e) good p =
-      each 1 p.0 e (All-tail IsGood (NumberToken a) p.0 (All-tail IsGood (NameToken (codes "assert")) (NumberToken a ∷ p.0) (subst (All IsGood) p.1 good))) p.2
-  said ts s good p = tt
+  said : (s : Scope) → s.names ≡ names → SmallConsts s.consts → (ts : List Token) (x : Says) → All IsGood ts → IsSaid s ts x → HoldsOfSaid x
+  said s same small ts (RequireIs e) good p = each s same small 1 p.0 e (All-tail IsGood _ p.0 (subst (All IsGood) p.1 good)) p.2
+  said s same small ts (EnsureIs e) good p = each s same small 1 p.0 e (All-tail IsGood _ p.0 (subst (All IsGood) p.1 good)) p.2
+  said s same small ts (AssertIs a e) good (t, rest, is, n, p) =
+      each s same small 1 rest e (All-tail IsGood t rest (All-tail IsGood (NameToken (codes "assert")) (t ∷ rest) (subst (All IsGood) is good))) p
+  said s same small ts x good p = tt
 
-  lines : (texts : List (List ℕ)) (says : List Says) → AreLines names texts says → HoldsOfAll says
-  lines [] [] p = tt
-  lines [] (s ∷ says) p = absurd p
-  lines (text ∷ texts) [] p = tt
-  lines (text ∷ texts) (s ∷ says) p = (said (tokens_of text) s p.0.good p.0.said, lines texts says p.1)
+  still : (s : Scope) (x : Says) → s.names ≡ names → (after s x).names ≡ names
+  still s Nothing same = same
+  still s (EntryIs e) same = same
+  still s (RequireIs e) same = same
+  still s (EnsureIs e) same = same
+  still s (AssertIs a e) same = same
+  still s (TargetsAre a to) same = same
+  still s (FixedIs low high) same = same
+  still s (VersionIs b) same = same
+  still s (ConstIs w v) same = same
+  still s LoadedIs same = same
+
+  still_small : (s : Scope) (ts : List Token) (x : Says) → All IsGood ts → IsSaid s ts x → SmallConsts s.consts → SmallConsts (after s x).consts
+  still_small s ts (ConstIs w v) good p small = small_and s.consts w v small (good_number w v ts p.0 good)
+  still_small s ts Nothing good p small = small
+  still_small s ts (EntryIs e) good p small = small
+  still_small s ts (RequireIs e) good p small = small
+  still_small s ts (EnsureIs e) good p small = small
+  still_small s ts (AssertIs a e) good p small = small
+  still_small s ts (TargetsAre a to) good p small = small
+  still_small s ts (FixedIs low high) good p small = small
+  still_small s ts (VersionIs b) good p small = small
+  still_small s ts LoadedIs good p small = small
+
+  lines : (s : Scope) → s.names ≡ names → SmallConsts s.consts → (texts : List (List ℕ)) (says : List Says) → AreLines s texts says → HoldsOfAll says
+  lines s same small [] [] p = tt
+  lines s same small [] (x ∷ says) p = absurd p
+  lines s same small (text ∷ texts) [] p = tt
+  lines s same small (text ∷ texts) (x ∷ says) p = (
+    said s same small (tokens_of text) x p.0.good p.0.said,
+    lines (after s x) (still s x same) (still_small s (tokens_of text) x p.0.good p.0.said small) texts says p.1,
+  )
 
   required : (n : ℕ) (says : List Says) → HoldsOfAll says → All (λ l. Claim l.says) (requires_of n says)
   required n [] p = All-nil (λ l. Claim l.says)
@@ -179,25 +263,32 @@ module _ (Claim : Expr → Type 0) (names : List ℕ → Option Expr) (each : (l
 
   claimed : (text : List ℕ) (n : Notes) → IsNotesText names text n → Claimed n
   claimed text n p =
-      let r = lines _ p.says p.lines in record {
+      let r = lines (begin names (is_second (lines_of text))) refl (λ c none. absurd (omega (arith, none.1))) (lines_of text) p.says p.lines in record {
         requires = subst (All (λ l. Claim l.says)) p.notes_are.1 (required 1 p.says r);
         ensures = subst (All (λ l. Claim l.says)) p.notes_are.2 (ensured 1 p.says r);
         asserts = subst (All (λ l. Claim l.says)) p.notes_are.3 (asserted 1 p.says r);
       }
 
+-- what the names of a scope stand for, where they are those of a layout
+scope_reads : (layout : Layout) (s : Scope) → s.names ≡ layout_names layout → NamesRead (layout_registers layout) (layout_flags layout) s.names
+scope_reads layout s same = subst (NamesRead (layout_registers layout) (layout_flags layout)) (sym same) (layout_reads layout)
+
+scope_words : (layout : Layout) (s : Scope) → s.names ≡ layout_names layout → (w : List ℕ) (e : Expr) → s.names w ≡ Some e → IsOfWords e
+scope_words layout s same = subst (λ names. (w : List ℕ) (e : Expr) → names w ≡ Some e → IsOfWords e) (sym same) (layout_words layout)
+
 -- notes for a layout
 pub notes_readable : (layout : Layout) (text : List ℕ) (n : Notes) → IsNotesText (layout_names layout) text n → AreReadable (layout_registers layout) n
 notes_readable layout text n p =
     let c = claimed (IsReadable (layout_registers layout)) (layout_names layout)
-    (λ l ts e good q. readable (layout_registers layout) (layout_flags layout) (layout_few layout) e
-    (parts (layout_registers layout) (layout_flags layout) (layout_names layout) (layout_reads layout) l ts e q)) text n p in
+    (λ s same small l ts e good q. readable (layout_registers layout) (layout_flags layout) (layout_few layout) e
+    (parts (layout_registers layout) (layout_flags layout) s (scope_reads layout s same) l ts e q)) text n p in
     record { requires = c.requires; ensures = c.ensures; asserts = c.asserts }
 
 pub notes_over : (layout : Layout) (text : List ℕ) (n : Notes) → IsNotesText (layout_names layout) text n →
     AreOver (layout_registers layout) (layout_flags layout) n
 notes_over layout text n p =
     let c = claimed (IsOver (layout_registers layout) (layout_flags layout)) (layout_names layout)
-    (λ l ts e good q. over (layout_registers layout) (layout_flags layout) e
-    (parts (layout_registers layout) (layout_flags layout) (layout_names layout) (layout_reads layout) l ts e q)
-    (words_said (layout_names layout) (layout_words layout) l ts e good q)) text n p in
+    (λ s same small l ts e good q. over (layout_registers layout) (layout_flags layout) e
+    (parts (layout_registers layout) (layout_flags layout) s (scope_reads layout s same) l ts e q)
+    (words_said s (scope_words layout s same) small l ts e good q)) text n p in
     record { requires = c.requires; ensures = c.ensures; asserts = c.asserts }

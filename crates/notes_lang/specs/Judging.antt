@@ -1,14 +1,16 @@
 -- Faults of a line.
 use Rattle.std.specs.Prelude.{ℕ, ◌≡◌, ◌<◌, ◌≤◌, ◌^◌, Bool, true, false, nat_le, List, Option, Some, None, Result, Ok, Err, count_by}
 use Rattle.std.specs.List.{list_any}
-use Rattle.bilv_spec.specs.Notes.{Expr}
-use Rattle.bilv_spec.specs.NotesGrammar.{Token, NumberToken, NameToken, SignToken, BadByte, BadText, Says, IsSaid, IsLine, is_depth}
+use Rattle.bilv_spec.specs.Scopes.{Scope, loose, lenient}
+use Rattle.bilv_spec.specs.NotesGrammar.{Token, NumberToken, NameToken, SignToken, BadByte, BadText, Says, IsSaid, IsLine, AreAligned, IsRange, IsVersion, IsNew, is_depth, line_limit}
 use Rattle.bilv_spec.specs.NotesFaults as faults
 use Rattle.line_tokens.specs.declared.lexer.Token as code
 use Rattle.line_tokens.specs.Tokens.{token_of}
 use Rattle.notes_lang.specs.declared.faults.FaultKind.{FaultKind}
 use Rattle.notes_lang.specs.declared.faults.FaultKind.TheVariants as kind
 use Rattle.notes_lang.specs.declared.sayings.Says as code_says
+use Rattle.notes_lang.specs.declared.sayings.LineWord.{LineWord}
+use Rattle.notes_lang.specs.declared.sayings.LineWord.TheVariants as word
 use Rattle.notes_lang.specs.Saying.{says_of}
 
 -- a byte that may stand only in a comment
@@ -48,49 +50,90 @@ fault_of kind.Name = faults.NameFault
 fault_of kind.Align = faults.AlignFault
 fault_of kind.Range = faults.RangeFault
 fault_of kind.Entry = faults.EntryFault
+fault_of kind.Version = faults.VersionFault
+fault_of kind.Const = faults.ConstFault
+fault_of kind.All = faults.AllFault
 
 -- what is wrong with tokens, the least fault alone
-abbrev pub IsTokenFault : List code.Token → Option FaultKind → Type 0
-IsTokenFault ts None =
+abbrev pub IsTokenFault : (is_second : Bool) → List code.Token → Option FaultKind → Type 0
+IsTokenFault b ts None =
     (false ≡ list_any (λ t. is_bad_byte (token_of t)) ts) × (false ≡ list_any (λ t. is_bad_text (token_of t)) ts) ×
     (false ≡ list_any (λ t. is_large (token_of t)) ts)
-    × (count_by (λ t. is_depth (token_of t)) ts ≤ 64)
-IsTokenFault ts (Some kind.Byte) = true ≡ list_any (λ t. is_bad_byte (token_of t)) ts
-IsTokenFault ts (Some kind.Token) = (false ≡ list_any (λ t. is_bad_byte (token_of t)) ts) × (true ≡ list_any (λ t. is_bad_text (token_of t)) ts)
-IsTokenFault ts (Some kind.Number) =
+    × (count_by (λ t. is_depth b (token_of t)) ts ≤ 64)
+IsTokenFault b ts (Some kind.Byte) = true ≡ list_any (λ t. is_bad_byte (token_of t)) ts
+IsTokenFault b ts (Some kind.Token) = (false ≡ list_any (λ t. is_bad_byte (token_of t)) ts) × (true ≡ list_any (λ t. is_bad_text (token_of t)) ts)
+IsTokenFault b ts (Some kind.Number) =
     (false ≡ list_any (λ t. is_bad_byte (token_of t)) ts) × (false ≡ list_any (λ t. is_bad_text (token_of t)) ts) ×
     (true ≡ list_any (λ t. is_large (token_of t)) ts)
-IsTokenFault ts (Some kind.Depth) =
+IsTokenFault b ts (Some kind.Depth) =
     (false ≡ list_any (λ t. is_bad_byte (token_of t)) ts) × (false ≡ list_any (λ t. is_bad_text (token_of t)) ts) ×
     (false ≡ list_any (λ t. is_large (token_of t)) ts)
-    × (64 < count_by (λ t. is_depth (token_of t)) ts)
-IsTokenFault ts (Some kind.Limit) = ⊥
-IsTokenFault ts (Some kind.Word) = ⊥
-IsTokenFault ts (Some kind.Syntax) = ⊥
-IsTokenFault ts (Some kind.Name) = ⊥
-IsTokenFault ts (Some kind.Align) = ⊥
-IsTokenFault ts (Some kind.Range) = ⊥
-IsTokenFault ts (Some kind.Entry) = ⊥
+    × (64 < count_by (λ t. is_depth b (token_of t)) ts)
+IsTokenFault b ts (Some kind.Limit) = ⊥
+IsTokenFault b ts (Some kind.Word) = ⊥
+IsTokenFault b ts (Some kind.Syntax) = ⊥
+IsTokenFault b ts (Some kind.Name) = ⊥
+IsTokenFault b ts (Some kind.Align) = ⊥
+IsTokenFault b ts (Some kind.Range) = ⊥
+IsTokenFault b ts (Some kind.Entry) = ⊥
+IsTokenFault b ts (Some kind.Version) = ⊥
+IsTokenFault b ts (Some kind.Const) = ⊥
+IsTokenFault b ts (Some kind.All) = ⊥
 
--- why tokens say nothing: they begin badly, they are not of the grammar, or a name is unknown
-abbrev pub IsRefusal : List Token → FaultKind → Type 0
-IsRefusal ts kind.Word = faults.BeginsBadly ts
-IsRefusal ts kind.Syntax = (faults.BeginsBadly ts → ⊥) × ((s : Says) → IsSaid faults.any_name ts s → ⊥)
-IsRefusal ts kind.Name = (faults.BeginsBadly ts → ⊥) × ((s : Says) × IsSaid faults.any_name ts s)
-IsRefusal ts kind.Limit = ⊥
-IsRefusal ts kind.Byte = ⊥
-IsRefusal ts kind.Token = ⊥
-IsRefusal ts kind.Number = ⊥
-IsRefusal ts kind.Depth = ⊥
-IsRefusal ts kind.Align = ⊥
-IsRefusal ts kind.Range = ⊥
-IsRefusal ts kind.Entry = ⊥
+-- the word begins lines of version 2 alone
+abbrev pub is_later_word : LineWord → Bool
+is_later_word word.Const = true
+is_later_word word.Loaded = true
+is_later_word _ = false
+
+-- what is wrong with what a line says by itself, the least fault alone
+abbrev pub IsOwnFault : Scope → Says → Option FaultKind → Type 0
+IsOwnFault s x None = AreAligned x × IsRange x × IsVersion s x × IsNew s x
+IsOwnFault s x (Some kind.Align) = AreAligned x → ⊥
+IsOwnFault s x (Some kind.Range) = AreAligned x × (IsRange x → ⊥)
+IsOwnFault s x (Some kind.Version) = AreAligned x × IsRange x × (IsVersion s x → ⊥)
+IsOwnFault s x (Some kind.Const) = AreAligned x × IsRange x × IsVersion s x × (IsNew s x → ⊥)
+IsOwnFault s x (Some kind.Limit) = ⊥
+IsOwnFault s x (Some kind.Byte) = ⊥
+IsOwnFault s x (Some kind.Token) = ⊥
+IsOwnFault s x (Some kind.Number) = ⊥
+IsOwnFault s x (Some kind.Depth) = ⊥
+IsOwnFault s x (Some kind.Word) = ⊥
+IsOwnFault s x (Some kind.Syntax) = ⊥
+IsOwnFault s x (Some kind.Name) = ⊥
+IsOwnFault s x (Some kind.Entry) = ⊥
+IsOwnFault s x (Some kind.All) = ⊥
+
+-- tokens begin well, and are of the grammar
+abbrev pub IsOfForm : Scope → List Token → Type 0
+IsOfForm s ts = (faults.BeginsBadly s.is_second ts → ⊥) × ((x : Says) × IsSaid (loose s) ts x)
+
+-- they say something but for the names and numbers of an `all`, and this is wrong with it
+abbrev pub IsLenientFault : Scope → List Token → Option FaultKind → Type 0
+IsLenientFault s ts o = IsOfForm s ts × ((x : Says) × IsSaid (lenient s) ts x × IsOwnFault s x o)
+
+-- why tokens say nothing: they begin badly, they are not of the grammar, a name is unknown, something is wrong with what they say leniently, or an `all` is
+abbrev pub IsRefusal : Scope → List Token → FaultKind → Type 0
+IsRefusal s ts kind.Word = faults.BeginsBadly s.is_second ts
+IsRefusal s ts kind.Syntax = (faults.BeginsBadly s.is_second ts → ⊥) × ((x : Says) → IsSaid (loose s) ts x → ⊥)
+IsRefusal s ts kind.Name = IsOfForm s ts × ((x : Says) → IsSaid (lenient s) ts x → ⊥)
+IsRefusal s ts kind.Align = IsLenientFault s ts (Some kind.Align)
+IsRefusal s ts kind.Range = IsLenientFault s ts (Some kind.Range)
+IsRefusal s ts kind.Version = IsLenientFault s ts (Some kind.Version)
+IsRefusal s ts kind.Const = IsLenientFault s ts (Some kind.Const)
+IsRefusal s ts kind.All = IsLenientFault s ts None
+IsRefusal s ts kind.Limit = ⊥
+IsRefusal s ts kind.Byte = ⊥
+IsRefusal s ts kind.Token = ⊥
+IsRefusal s ts kind.Number = ⊥
+IsRefusal s ts kind.Depth = ⊥
+IsRefusal s ts kind.Entry = ⊥
 
 -- a fault applies, and none before it in their order
 abbrev pub IsLeast : (faults.NoteFault → Type 0) → faults.NoteFault → Type 0
 IsLeast P f = P f × ((g : faults.NoteFault) → faults.note_fault_rank g < faults.note_fault_rank f → P g → ⊥)
 
 -- what a line says, or its least fault, whatever the lines before it say; that it repeats what they say is not asked
-abbrev pub IsJudged : (List ℕ → Option Expr) → ℕ → List ℕ → Result code_says.Says FaultKind → Type 0
-IsJudged names n text (Ok s) = IsLine names text (says_of s) × (n ≤ 4096)
-IsJudged names n text (Err k) = (earlier : List Says) → IsLeast (faults.NoteFaultApplies names n earlier text) (fault_of k)
+abbrev pub IsJudged : Scope → ℕ → List ℕ → Result code_says.Says FaultKind → Type 0
+IsJudged s n text (Ok x) = IsLine s text (says_of x) × (n ≤ line_limit s.is_second)
+IsJudged s n text (Err k) = (earlier : List Says) → IsLeast (faults.NoteFaultApplies s n earlier text) (fault_of k)

@@ -1,7 +1,9 @@
 pub mod Named
+pub mod Scoping
 pub mod Reading
 pub mod Saying
 pub mod Lines
 pub mod Judging
 pub mod Drafting
 pub mod Parsing
+pub mod Version

@@ -2,13 +2,12 @@
 use Rattle.std.specs.Prelude.{ℕ, List, Option}
 use Rattle.std.specs.Borrow.{Bor}
 use Rattle.bilv_spec.specs.Notes as notes
-use Rattle.bilv_spec.specs.NotesFaults.{any_name}
 use Rattle.bilv_spec.specs.RvNames.{rv_names}
 use Rattle.bilv_spec.specs.ArmNames.{arm_names}
 use Rattle.notes_lang.specs.declared.names.Meaning.{Meaning}
 use Rattle.notes_lang.specs.declared.names.Meaning.TheVariants as meaning
 use Rattle.notes_lang.specs.declared.names.Names.{Names}
-use Rattle.notes_lang.specs.declared.names.Names.TheVariants.{Rv32, Arm, Any}
+use Rattle.notes_lang.specs.declared.names.Names.TheVariants.{Rv32, Arm}
 
 -- what a name stands for
 abbrev pub meaning_of : Meaning → notes.Expr
@@ -16,13 +15,13 @@ meaning_of (meaning.Number n) = notes.Number n
 meaning_of (meaning.Register r) = notes.Register r
 meaning_of (meaning.Flag f) = notes.Flag f
 meaning_of meaning.Pc = notes.Pc
+meaning_of meaning.Bound = notes.Bound
 
 -- a row of a table
 abbrev pub named_of : Bor (List ℕ) × Meaning → List ℕ × notes.Expr
 named_of row = (row.0.now, meaning_of row.1)
 
--- the names of a machine, or every word that is not reserved
+-- the names of a machine
 abbrev pub names_of : Names → List ℕ → Option notes.Expr
 names_of Rv32 = rv_names
 names_of Arm = arm_names
-names_of Any = any_name

@@ -1,15 +1,17 @@
 -- Notes that were read.
-use Rattle.std.specs.Prelude.{ℕ, Bool, ◌≡◌, ◌+◌, List, ◌++◌, Option, Result, Ok, Err, length}
-use Rattle.bilv_spec.specs.Memory.{Little, Big}
+use Rattle.std.specs.Prelude.{ℕ, Bool, ◌≡◌, ◌+◌, List, [], ◌++◌, Option, Result, Ok, Err, length}
+use Rattle.bilv_spec.specs.Memory.{endian}
 use Rattle.bilv_spec.specs.Notes.{Expr}
-use Rattle.bilv_spec.specs.NotesGrammar.{lines_of, Says}
-use Rattle.bilv_spec.specs.NotesFaults.{AreGood, IsFirstNoteFault}
+use Rattle.bilv_spec.specs.NotesGrammar.{lines_of, Says, after_all}
+use Rattle.bilv_spec.specs.Scopes.{Scope, Constant, Strict}
+use Rattle.bilv_spec.specs.NotesFaults.{AreGood, IsFirstNoteFault, begin_of}
 use Rattle.bilv_spec.specs.Rv.{rv32}
 use Rattle.bilv_spec.specs.Arm.{arm}
 use Rattle.bilv_spec.specs.RvNames.{rv_names}
 use Rattle.bilv_spec.specs.ArmNames.{arm_names}
 use Rattle.state_text.specs.declared.layout.Layout.{Layout}
-use Rattle.state_text.specs.declared.layout.Layout.TheVariants.{Rv32, ArmLittle, ArmBig}
+use Rattle.state_text.specs.declared.layout.Layout.TheVariants.{Rv32, Arm}
+use Rattle.state_text.specs.Starts.{profile_in}
 use Rattle.notes_lang.specs.declared.drafts.Draft.{Draft}
 use Rattle.notes_lang.specs.declared.notes_text.NoteFault.{NoteFault}
 use Rattle.notes_lang.specs.declared.notes_text.NotesError.{NotesError}
@@ -20,38 +22,41 @@ use Rattle.notes_lang.specs.Drafting.{IsDraft}
 -- the names of a machine
 abbrev pub layout_names : Layout → List ℕ → Option Expr
 layout_names Rv32 = rv_names
-layout_names ArmLittle = arm_names
-layout_names ArmBig = arm_names
+layout_names (Arm big profile) = arm_names
 
 -- the registers that it has
 abbrev pub layout_registers : Layout → ℕ → Bool
 layout_registers Rv32 = rv32.has_register
-layout_registers ArmLittle = (arm Little).has_register
-layout_registers ArmBig = (arm Big).has_register
+layout_registers (Arm big profile) = (arm (endian big) (profile_in profile)).has_register
 
 -- the flags that it has
 abbrev pub layout_flags : Layout → ℕ → Bool
 layout_flags Rv32 = rv32.has_flag
-layout_flags ArmLittle = (arm Little).has_flag
-layout_flags ArmBig = (arm Big).has_flag
+layout_flags (Arm big profile) = (arm (endian big) (profile_in profile)).has_flag
 
 -- lines without fault, and what they say
-pub record IsGoodDraft (names : List ℕ → Option Expr) (texts : List (List ℕ)) (draft : Draft) : Type 0 where
+pub record IsGoodDraft (s : Scope) (texts : List (List ℕ)) (draft : Draft) : Type 0 where
   pub says : List Says
-  pub good : AreGood names texts says
+  pub good : AreGood s texts says
   pub is : IsDraft says draft
 
 -- the lines of a text are all good, and this is the number of the line behind them; or one is the first that is not good
 abbrev pub IsLinesRead : (List ℕ → Option Expr) → List ℕ → Result (Draft × ℕ) NoteFault → Type 0
-IsLinesRead names text (Ok d) = IsGoodDraft names (lines_of text) d.0 × (d.1 ≡ length (lines_of text) + 1)
+IsLinesRead names text (Ok d) = IsGoodDraft (begin_of names text) (lines_of text) d.0 × (d.1 ≡ length (lines_of text) + 1)
 IsLinesRead names text (Err f) = IsFirstNoteFault names text f.line (fault_of f.kind)
 
--- lines so far, and the text that is left
-pub record IsSoFar (names : List ℕ → Option Expr) (text rest : List ℕ) (line : ℕ) (draft : Draft) : Type 0 where
+-- lines so far, the text that is left, and what words mean at the next line
+pub record IsSoFar (names : List ℕ → Option Expr) (text rest : List ℕ) (line : ℕ) (draft : Draft) (scope : Scope) : Type 0 where
   pub texts : List (List ℕ)
   pub split : lines_of text ≡ texts ++ lines_of rest
   pub number : line ≡ length texts + 1
-  pub read : IsGoodDraft names texts draft
+  pub read : IsGoodDraft (begin_of names text) texts draft
+  pub scope_is : scope ≡ after_all (begin_of names text) read.says
+
+-- what words mean at a line, by the constants so far
+abbrev pub scope_at : (List ℕ → Option Expr) → List Constant → (is_second is_first : Bool) → Scope
+scope_at names consts is_second is_first =
+    record { names = names; consts = consts; bound = []; is_second = is_second; is_first = is_first; mode = Strict }
 
 -- why notes were not read: the first fault of the text, or want of memory, of which nothing is said
 abbrev pub IsRefused : (List ℕ → Option Expr) → List ℕ → NotesError → Type 0

@@ -1,15 +1,18 @@
 -- What is read of tokens, as the definition's parser reads them.
-use Rattle.std.specs.Prelude.{ℕ, ◌<◌, ◌≤◌, ◌≡◌, Bool, true, false, List, [], ◌∷◌, map, length, Option, Some, None}
+use Rattle.std.specs.Prelude.{ℕ, ◌<◌, ◌≤◌, ◌≡◌, Bool, true, false, List, [], ◌∷◌, map, length, Option, Some, None, ◌&&◌, codes}
+use Rattle.std.specs.Str.{bytes_eq}
 use Rattle.bilv_spec.specs.Notes as notes
 use Rattle.bilv_spec.specs.NotesGrammar as grammar
 use Rattle.bilv_spec.specs.NotesGrammar.{IsGood, operators}
 use Rattle.bilv_spec.proofs.NotesTables.{line_of, same_token}
-use Rattle.bilv_spec.proofs.NotesParser.{Read, Fails, Reads, of_level, opened_if, work}
+use Rattle.bilv_spec.specs.Scopes.{Scope, binding, may_bind}
+use Rattle.bilv_spec.proofs.NotesParser.{Task, Read, Fails, Reads, of_level, opened_if, all_at, work}
 use Rattle.line_tokens.specs.declared.lexer.Token.{Token}
 use Rattle.line_tokens.specs.Tokens.{token_of}
 use Rattle.notes_value.specs.Views.{bytes_of, expr_of}
 use Rattle.notes_value.specs.declared.expressions.Size.{Size}
 use Rattle.notes_lang.specs.declared.parser.Reading.{Reading}
+use Rattle.notes_lang.specs.declared.parser.AllHead.{AllHead}
 
 -- tokens
 abbrev pub tokens_view : List Token → List grammar.Token
@@ -45,8 +48,8 @@ abbrev pub Settles : (ℕ → Read) → Read → Type 0
 Settles read r = (n : ℕ) × ((m : ℕ) → n ≤ m → read m ≡ r)
 
 -- an expression and what closes it were read, for whatever is made of it
-abbrev pub IsEnclosed : (List ℕ → Option notes.Expr) → grammar.Token → List grammar.Token → Option Reading → Type 0
-IsEnclosed names close ts o = (f : notes.Expr → notes.Expr) → Settles (λ m. opened_if (work names m) true close f ts) (read_as f o)
+abbrev pub IsEnclosed : Scope → grammar.Token → List grammar.Token → Option Reading → Type 0
+IsEnclosed s close ts o = (f : notes.Expr → notes.Expr) → Settles (λ m. opened_if (work s m) true close f ts) (read_as f o)
 
 -- the tokens that are left are no more, and each may stand in a line
 abbrev pub IsRest : List Token → Option Reading → Type 0
@@ -62,3 +65,18 @@ begins t (u ∷ us) = same_token u t
 abbrev pub size_or_zero : Option Size → ℕ
 size_or_zero None = 0
 size_or_zero (Some size) = bytes_of size
+
+-- the steps within an `all` that binds a name
+abbrev pub within : Scope → ℕ → List ℕ → Task → List grammar.Token → Read
+within s m w = work (binding s w) m
+
+-- the word begins an `all`
+abbrev pub is_all_word : (is_second : Bool) → List ℕ → Bool
+is_all_word is_second w = is_second && bytes_eq w (codes "all")
+
+-- tokens begin with a name and two numbers that an `all` may have, and its bracket; or nothing is read of them as an `all`
+abbrev pub IsHead : Scope → List grammar.Token → Option AllHead → Type 0
+IsHead s ts None = (inner : List ℕ → Task → List grammar.Token → Read) → all_at s inner ts ≡ Fails
+IsHead s ts (Some h) =
+    (b c : grammar.Token) × (ts ≡ grammar.NameToken h.word.now ∷ b ∷ c ∷ grammar.SignToken (codes "(") ∷ tokens_view h.rest.now) ×
+    (grammar.number_at s b ≡ Some h.low) × (grammar.number_at s c ≡ Some h.high) × (may_bind s h.word.now h.low h.high ≡ true)

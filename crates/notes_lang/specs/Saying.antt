@@ -1,12 +1,13 @@
 -- What is said, as definitions see it.
-use Rattle.std.specs.Prelude.{ℕ, List, Option, Some, None, codes}
+use Rattle.std.specs.Prelude.{ℕ, ◌≡◌, Bool, true, false, List, [], ◌∷◌, ◌++◌, Option, Some, None, codes}
+use Rattle.bilv_spec.specs.Scopes.{Scope, Constant}
 use Rattle.bilv_spec.specs.Notes as notes
 use Rattle.bilv_spec.specs.NotesGrammar as grammar
 use Rattle.notes_value.specs.Views.{expr_of}
 use Rattle.notes_lang.specs.declared.notes.Function.{Function}
 use Rattle.notes_lang.specs.declared.notes.Function.TheVariants.{At, Named}
 use Rattle.notes_lang.specs.declared.sayings.Says.{Says}
-use Rattle.notes_lang.specs.declared.sayings.Says.TheVariants.{Nothing, Entry, Require, Ensure, Assert, Targets, Fixed}
+use Rattle.notes_lang.specs.declared.sayings.Says.TheVariants.{Nothing, Entry, Require, Ensure, Assert, Targets, Fixed, Version, Const, Loaded}
 use Rattle.notes_lang.specs.declared.sayings.LineWord.{LineWord}
 use Rattle.notes_lang.specs.declared.sayings.LineWord.TheVariants as word
 
@@ -29,6 +30,9 @@ says_of (Ensure e) = grammar.EnsureIs (expr_of e)
 says_of (Assert a e) = grammar.AssertIs a (expr_of e)
 says_of (Targets a to) = grammar.TargetsAre a to.items
 says_of (Fixed low high) = grammar.FixedIs low high
+says_of (Version b) = grammar.VersionIs b
+says_of (Const w v) = grammar.ConstIs w.now v
+says_of Loaded = grammar.LoadedIs
 
 -- the text of a word that begins lines
 abbrev pub word_text : LineWord → List ℕ
@@ -39,7 +43,24 @@ word_text word.Ensure = codes "ensure"
 word_text word.Assert = codes "assert"
 word_text word.Targets = codes "targets"
 word_text word.Fixed = codes "fixed"
+word_text word.Notes = codes "notes"
+word_text word.Const = codes "const"
+word_text word.Loaded = codes "loaded"
 
--- a number as a token
-abbrev pub number_token : ℕ → grammar.Token
-number_token n = grammar.NumberToken n
+-- tokens begin with a number, and these are behind it
+abbrev pub BeginsWith : Scope → List grammar.Token → ℕ × List grammar.Token → Type 0
+BeginsWith s ts p = (t : grammar.Token) × (ts ≡ t ∷ p.1) × grammar.IsNumber s t p.0
+
+-- a number is all of the tokens
+abbrev pub IsOne : Scope → List grammar.Token → ℕ → Type 0
+IsOne s ts n = (t : grammar.Token) × (ts ≡ t ∷ []) × grammar.IsNumber s t n
+
+-- a line says something
+abbrev pub is_something : grammar.Says → Bool
+is_something grammar.Nothing = false
+is_something _ = true
+
+-- the constants after a line
+abbrev pub consts_after : List Constant → grammar.Says → List Constant
+consts_after consts (grammar.ConstIs w v) = consts ++ record { word = w; number = v } ∷ []
+consts_after consts _ = consts

@@ -59,8 +59,8 @@ impl Draft {
 
     /// Adds what one more line says, by its number. The error is want of memory.
     pub(crate) fn add(&mut self, line: u32, says: Says) -> Result<(), AllocError>
-        ensures { OnOk result ((earlier : List grammar.Says) → line ≡ length earlier + 1 → (Repeats earlier (says_of says) → ⊥) → IsDraft earlier self.old →
-            IsDraft (earlier ++ says_of says ∷ []) self.new) }
+        ensures { OnOk result ((earlier : List grammar.Says) → line ≡ length earlier + 1 → (Repeats earlier (says_of says.entry) → ⊥) → IsDraft earlier self.old →
+            IsDraft (earlier ++ says_of says.entry ∷ []) self.new) }
     {
         match says {
             Says::Nothing => {}
@@ -73,6 +73,12 @@ impl Draft {
                 self.addresses.insert(at)?;
             }
             Says::Fixed(low, high) => self.fixed.push(FixedRange { low, high })?,
+            Says::Loaded => self.fixed.push(FixedRange {
+                low: 0,
+                high: 0xFFFF_FFFF,
+            })?,
+            Says::Version(_) => {}
+            Says::Const(_, _) => {}
         }
         Ok(())
     }

@@ -1,18 +1,19 @@
 //! Faults of lines.
 ghost use Rattle.std.specs.Prelude.{◌≡◌, ◌≤◌, ◌↔◌, ℕ, List, map, count_by, length, All, IfOk, IsTrue};
 ghost use Rattle.std.specs.List.{list_any};
-ghost use Rattle.bilv_spec.specs.NotesGrammar.{AreAligned, IsAligned, IsRange, is_depth, tokens_of};
+ghost use Rattle.bilv_spec.specs.Scopes as scopes;
+ghost use Rattle.bilv_spec.specs.NotesGrammar.{AreAligned, IsAligned, IsNew, IsRange, IsVersion, is_depth, line_limit, tokens_of};
 ghost use Rattle.line_tokens.specs.Tokens.{capped, token_of};
-ghost use Rattle.notes_lang.specs.Named.{names_of};
 ghost use Rattle.notes_lang.specs.Reading.{AreGood, tokens_view};
 ghost use Rattle.notes_lang.specs.Saying.{says_of};
-ghost use Rattle.notes_lang.specs.Judging.{IsJudged, IsRefusal, IsTokenFault, is_bad_byte, is_bad_text, is_large};
+ghost use Rattle.notes_lang.specs.Judging.{IsJudged, IsOwnFault, IsRefusal, IsTokenFault, is_bad_byte, is_bad_text, is_large, is_later_word};
+ghost use Rattle.notes_lang.specs.Scoping.{scope_of};
 ghost use Rattle.bilv_spec.specs.NotesFaults.{BeginsBadly};
 
-use crate::names::Names;
 use crate::notes::Function;
 use crate::parser::{is_sign, is_word};
-use crate::sayings::{Says, line_word, said};
+use crate::sayings::{LineWord, Says, line_word, said};
+use crate::scopes::{Scope, is_free, lenient, loose};
 use line_tokens::{Sign, Token, tokens};
 use std::alloc::{AllocError, Global};
 use thiserror::Error;
@@ -20,7 +21,7 @@ use thiserror::Error;
 /// Why a line is refused. Of several faults of a line the first in this order counts.
 #[derive(Clone, Copy, PartialEq, Eq, Debug, Error)]
 pub enum FaultKind {
-    /// There are more than 4096 lines, or the line has more than 1024 bytes.
+    /// There are more than 4096 lines, or 4097 in version 2; or the line has more than 1024 bytes.
     #[error("N1 Limit")]
     Limit,
     /// A byte that may stand only in a comment.
@@ -32,7 +33,7 @@ pub enum FaultKind {
     /// A number of 2^32 or more.
     #[error("N4 Number")]
     Number,
-    /// More than 64 open brackets and `not`s.
+    /// More than 64 open brackets, `not`s and, in version 2, `all`s.
     #[error("N5 Depth")]
     Depth,
     /// The line begins with none of the words that begin lines.
@@ -41,7 +42,7 @@ pub enum FaultKind {
     /// The line has no form that the grammar allows.
     #[error("N7 Syntax")]
     Syntax,
-    /// A name of no register and no flag.
+    /// A name of no register, no flag and no constant.
     #[error("N8 Name")]
     Name,
     /// An address that is no multiple of 4.
@@ -53,6 +54,16 @@ pub enum FaultKind {
     /// A second line that names the function, a second `targets` line of one address, or no line that names the function.
     #[error("N11 Entry")]
     Entry,
+    /// A line of the version that is not the first that says something, or that does not name version 2.
+    #[error("N12 Version")]
+    Version,
+    /// A constant whose name is a register, a flag or reserved, or is declared already.
+    #[error("N13 Const")]
+    Const,
+    /// An `all` whose first number is above its last, that binds more than 64 numbers, that stands within another, or whose name is a register, a flag, reserved or
+    /// a constant.
+    #[error("N14 All")]
+    All,
 }
 
 /// Whether a token is a byte that may stand only in a comment.
@@ -89,12 +100,12 @@ fn is_number_fault(token: &Token) -> bool
     }
 }
 
-/// Whether a token is an open bracket or `not`.
-fn is_deep(token: &Token) -> bool
-    ensures { result ≡ is_depth (token_of token.now) }
+/// Whether a token is an open bracket, `not`, or in version 2 `all`.
+fn is_deep(is_second: bool, token: &Token) -> bool
+    ensures { result ≡ is_depth is_second (token_of token.now) }
 {
     match token {
-        Token::Name(_) => is_word(token, b"not"),
+        Token::Name(_) => is_word(token, b"not") || (is_second && is_word(token, b"all")),
         Token::Sign(_) => is_sign(token, Sign::OpenRound) || is_sign(token, Sign::OpenSquare),
         _ => false,
     }
@@ -121,11 +132,14 @@ fn has_number_fault(tokens: &[Token]) -> bool
     tokens.iter().any(|token| is_number_fault(token))
 }
 
-/// How many tokens are open brackets or `not`s.
-fn depth(tokens: &[Token]) -> usize
-    ensures { result ≡ count_by (λ t. is_depth (token_of t)) tokens.now }
+/// How many tokens are open brackets, `not`s or, in version 2, `all`s.
+fn depth(is_second: bool, tokens: &[Token]) -> usize
+    ensures { result ≡ count_by (λ t. is_depth is_second (token_of t)) tokens.now }
 {
-    tokens.iter().filter(|token| is_deep(token)).count()
+    tokens
+        .iter()
+        .filter(|token| is_deep(is_second, token))
+        .count()
 }
 
 /// Whether addresses are multiples of 4.
@@ -157,9 +171,48 @@ fn is_range(says: &Says) -> bool
     }
 }
 
+/// Whether a line of the version is the first that says something, and names version 2.
+fn is_version(scope: Scope, says: &Says) -> bool
+    ensures { IsTrue result ↔ IsVersion (scope_of scope.entry) (says_of says.now) }
+{
+    match says {
+        Says::Version(is_two) => scope.is_first && *is_two,
+        _ => true,
+    }
+}
+
+/// Whether a name that is declared is free.
+fn is_new(scope: Scope, says: &Says) -> bool
+    ensures { IsTrue result ↔ IsNew (scope_of scope.entry) (says_of says.now) }
+{
+    match says {
+        Says::Const(word, _) => is_free(scope, word),
+        _ => true,
+    }
+}
+
+/// The least fault of what a line says by itself.
+fn own_fault(scope: Scope, says: &Says) -> Option<FaultKind>
+    ensures { IsOwnFault (scope_of scope.entry) (says_of says.now) result }
+{
+    if !is_aligned(says) {
+        return Some(FaultKind::Align);
+    }
+    if !is_range(says) {
+        return Some(FaultKind::Range);
+    }
+    if !is_version(scope, says) {
+        return Some(FaultKind::Version);
+    }
+    if !is_new(scope, says) {
+        return Some(FaultKind::Const);
+    }
+    None
+}
+
 /// The least fault of tokens alone.
-fn token_fault(tokens: &[Token]) -> Option<FaultKind>
-    ensures { IsTokenFault tokens.now result }
+fn token_fault(is_second: bool, tokens: &[Token]) -> Option<FaultKind>
+    ensures { IsTokenFault is_second tokens.now result }
 {
     if has_byte_fault(tokens) {
         return Some(FaultKind::Byte);
@@ -170,80 +223,107 @@ fn token_fault(tokens: &[Token]) -> Option<FaultKind>
     if has_number_fault(tokens) {
         return Some(FaultKind::Number);
     }
-    if depth(tokens) > 64 {
+    if depth(is_second, tokens) > 64 {
         return Some(FaultKind::Depth);
     }
     None
 }
 
+/// Whether a word begins lines of version 2 alone.
+fn is_later(word: LineWord) -> bool
+    ensures { result ≡ is_later_word word }
+{
+    match word {
+        LineWord::Const => true,
+        LineWord::Loaded => true,
+        _ => false,
+    }
+}
+
 /// Whether tokens begin with none of the words that begin lines.
-fn begins_badly(tokens: &[Token]) -> bool
-    ensures { IsTrue result ↔ BeginsBadly (tokens_view tokens.now) }
+fn begins_badly(is_second: bool, tokens: &[Token]) -> bool
+    ensures { IsTrue result ↔ BeginsBadly is_second (tokens_view tokens.now) }
 {
     let Some((first, _)) = tokens.split_first() else {
         return false;
     };
     match line_word(first) {
-        Some(_) => false,
+        Some(word) => !is_second && is_later(word),
         None => true,
     }
 }
 
-/// Why tokens say nothing: of the grammar or of the names.
-fn refusal(alloc: Global, tokens: &[Token]) -> Result<FaultKind, AllocError>
+/// Why tokens say nothing as they must be read: of the grammar, of the names, of what they say but for the names and numbers of an `all`, or of an `all`.
+fn refusal<'a>(
+    alloc: Global,
+    scope: Scope<'a, '_>,
+    tokens: &[Token<'a>],
+) -> Result<FaultKind, AllocError>
     requires { AreGood tokens.now }
-    ensures { IfOk result (λ k. IsRefusal (tokens_view tokens.now) k) }
+    ensures { IfOk result (λ k. IsRefusal (scope_of scope.entry) (tokens_view tokens.now) k) }
 {
-    if begins_badly(tokens) {
+    if begins_badly(scope.is_second, tokens) {
         return Ok(FaultKind::Word);
     }
-    let Some(_says) = said(alloc, Names::Any, tokens)? else {
+    let Some(_says) = said(alloc, loose(scope), tokens)? else {
         return Ok(FaultKind::Syntax);
     };
-    Ok(FaultKind::Name)
+    let Some(says) = said(alloc, lenient(scope), tokens)? else {
+        return Ok(FaultKind::Name);
+    };
+    match own_fault(scope, &says) {
+        Some(fault) => Ok(fault),
+        None => Ok(FaultKind::All),
+    }
 }
 
 /// What a line says by its tokens, or its least fault but for its length.
-fn judge_tokens(
+fn judge_tokens<'a>(
     alloc: Global,
-    names: Names,
-    tokens: &[Token],
-) -> Result<Result<Says, FaultKind>, AllocError>
-    ensures { IfOk result (λ r. (number : ℕ) (text : List ℕ) → number ≤ 4096 → length text ≤ 1024 → tokens_view tokens.now ≡ map capped (tokens_of text) →
-        IsJudged (names_of names) number text r) }
+    scope: Scope<'a, '_>,
+    tokens: &[Token<'a>],
+) -> Result<Result<Says<'a>, FaultKind>, AllocError>
+    requires { (scope_of scope).mode ≡ scopes.Strict }
+    ensures { IfOk result (λ r. (number : ℕ) (text : List ℕ) → number ≤ line_limit scope.entry.is_second → length text ≤ 1024 →
+        tokens_view tokens.now ≡ map capped (tokens_of text) → IsJudged (scope_of scope.entry) number text r) }
 {
-    if let Some(fault) = token_fault(tokens) {
+    if let Some(fault) = token_fault(scope.is_second, tokens) {
         return Ok(Err(fault));
     }
-    let Some(says) = said(alloc, names, tokens)? else {
-        let fault = refusal(alloc, tokens)?;
+    let Some(says) = said(alloc, scope, tokens)? else {
+        let fault = refusal(alloc, scope, tokens)?;
         return Ok(Err(fault));
     };
-    if !is_aligned(&says) {
-        return Ok(Err(FaultKind::Align));
+    match own_fault(scope, &says) {
+        Some(fault) => Ok(Err(fault)),
+        None => Ok(Ok(says)),
     }
-    if !is_range(&says) {
-        return Ok(Err(FaultKind::Range));
-    }
-    Ok(Ok(says))
+}
+
+/// How many lines a text may have.
+fn limit(is_second: bool) -> u32
+    ensures { result ≡ line_limit is_second }
+{
+    if is_second { 4097 } else { 4096 }
 }
 
 /// What a line says, or its least fault but that it repeats what lines before it say; `number` counts lines from 1.
-pub(crate) fn judge(
+pub(crate) fn judge<'a>(
     alloc: Global,
-    names: Names,
+    scope: Scope<'a, '_>,
     number: u32,
-    text: &[u8],
-) -> Result<Result<Says, FaultKind>, AllocError>
-    ensures { IfOk result (λ r. IsJudged (names_of names) number text.now r) }
+    text: &'a [u8],
+) -> Result<Result<Says<'a>, FaultKind>, AllocError>
+    requires { (scope_of scope).mode ≡ scopes.Strict }
+    ensures { IfOk result (λ r. IsJudged (scope_of scope.entry) number text.now r) }
 {
-    if number > 4096 {
+    if number > limit(scope.is_second) {
         return Ok(Err(FaultKind::Limit));
     }
     if text.len() > 1024 {
         return Ok(Err(FaultKind::Limit));
     }
     let tokens = tokens(alloc, text)?;
-    let judged = judge_tokens(alloc, names, &tokens)?;
+    let judged = judge_tokens(alloc, scope, &tokens)?;
     Ok(judged)
 }

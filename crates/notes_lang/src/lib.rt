@@ -8,9 +8,12 @@ mod notes;
 mod notes_text;
 mod parser;
 mod sayings;
+mod scopes;
 mod texts;
+mod versions;
 
 pub use faults::FaultKind;
 pub use notes::{Assert, FixedRange, Function, NoteLine, Notes, Targets};
 pub use notes_text::{NoteFault, NotesError, parse};
 pub use notes_value::{Expr, Operator, Size, value};
+pub use versions::upgrade;

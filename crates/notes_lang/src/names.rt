@@ -2,7 +2,7 @@
 ghost use Rattle.std.specs.Prelude.{◌≡◌, map, option_map};
 ghost use Rattle.std.specs.List.{list_any};
 ghost use Rattle.std.specs.Str.{bytes_eq};
-ghost use Rattle.bilv_spec.specs.NotesFaults.{any_name, reserved};
+ghost use Rattle.bilv_spec.specs.Scopes.{reserved_first};
 ghost use Rattle.bilv_spec.specs.RvNames.{name_in, rv_names};
 ghost use Rattle.bilv_spec.specs.ArmNames.{arm_names};
 ghost use Rattle.notes_value.specs.Views.{expr_of};
@@ -17,14 +17,14 @@ pub(crate) enum Meaning {
     Register(u8),
     Flag(u8),
     Pc,
+    Bound,
 }
 
-/// Which words name something: the registers of RV32IM, the registers and flags of ARM, or every word that is not reserved, to ask for the grammar alone.
+/// Which words name something of the machine: the registers of RV32IM, or the registers and flags of ARM.
 #[derive(Clone, Copy)]
 pub(crate) enum Names {
     Rv32,
     Arm,
-    Any,
 }
 
 /// The registers x0 to x31 with the names of the ABI, and the program counter (RISC-V Unprivileged ISA 20191213, chapter 25).
@@ -126,7 +126,7 @@ const ARM_NAMES: [(&[u8], Meaning); 25] = [
     (b"V", Meaning::Flag(0)),
 ];
 
-/// The words that are no names.
+/// The words that are no names in both versions.
 const RESERVED: [&[u8]; 7] = [b"mem8", b"mem16", b"mem32", b"old", b"not", b"and", b"or"];
 
 /// What the first row of a table with this name stands for.
@@ -159,43 +159,31 @@ fn find_arm(word: &[u8]) -> Option<Meaning>
 }
 
 /// Whether a word is one of these.
-fn is_among(words: &[&[u8]], word: &[u8]) -> bool
+pub(crate) fn is_among(words: &[&[u8]], word: &[u8]) -> bool
     ensures { result ≡ list_any (λ other. bytes_eq word.now other.now) words.now }
 {
     words.iter().any(|other| word == *other)
 }
 
-/// Whether a word is no name.
-fn is_reserved(word: &[u8]) -> bool
-    ensures { result ≡ list_any (bytes_eq word.now) reserved }
+/// Whether a word is no name in both versions.
+pub(crate) fn is_reserved_first(word: &[u8]) -> bool
+    ensures { result ≡ list_any (bytes_eq word.now) reserved_first }
 {
     is_among(&RESERVED, word)
 }
 
-/// Every word that is not reserved taken as a name.
-fn find_any(word: &[u8]) -> Option<Meaning>
-    ensures { option_map meaning_of result ≡ any_name word.now }
-{
-    if is_reserved(word) {
-        None
-    } else {
-        Some(Meaning::Number(0))
-    }
-}
-
-/// What a word stands for.
-fn find_meaning(names: Names, word: &[u8]) -> Option<Meaning>
+/// What a word stands for on the machine.
+pub(crate) fn find_meaning(names: Names, word: &[u8]) -> Option<Meaning>
     ensures { option_map meaning_of result ≡ names_of names word.now }
 {
     match names {
         Names::Rv32 => find_rv(word),
         Names::Arm => find_arm(word),
-        Names::Any => find_any(word),
     }
 }
 
 /// The expression that a meaning is.
-fn expression(meaning: Meaning) -> Expr
+pub(crate) fn expression(meaning: Meaning) -> Expr
     ensures { expr_of result ≡ meaning_of meaning }
 {
     match meaning {
@@ -203,15 +191,6 @@ fn expression(meaning: Meaning) -> Expr
         Meaning::Register(r) => Expr::Register(r),
         Meaning::Flag(f) => Expr::Flag(f),
         Meaning::Pc => Expr::Pc,
-    }
-}
-
-/// The expression that a word stands for.
-pub(crate) fn named(names: Names, word: &[u8]) -> Option<Expr>
-    ensures { option_map expr_of result ≡ names_of names word.now }
-{
-    match find_meaning(names, word) {
-        Some(meaning) => Some(expression(meaning)),
-        None => None,
+        Meaning::Bound => Expr::Bound,
     }
 }

@@ -1,16 +1,21 @@
 //! The text of notes.
-ghost use Rattle.std.specs.Prelude.{◌≡◌, IfOk, IfErr};
+ghost use Rattle.std.specs.Prelude.{◌≡◌, ◌&&◌, map, not, IfOk, IfErr, OnOk};
 ghost use Rattle.bilv_spec.specs.NotesGrammar.{IsNotesText};
 ghost use Rattle.notes_value.specs.Reads.{AreOver, AreReadable};
 ghost use Rattle.notes_lang.specs.Named.{names_of};
 ghost use Rattle.notes_lang.specs.Drafting.{notes_of};
+ghost use Rattle.notes_lang.specs.Saying.{consts_after, is_something, says_of};
+ghost use Rattle.notes_lang.specs.Scoping.{constant_of};
 ghost use Rattle.notes_lang.specs.Parsing.{IsLinesRead, IsRefused, layout_flags, layout_names, layout_registers};
 
 use crate::drafts::Draft;
 use crate::faults::{FaultKind, judge};
 use crate::names::Names;
 use crate::notes::Notes;
+use crate::sayings::Says;
+use crate::scopes::{Constant, Mode, Scope};
 use crate::texts::first_line;
+use crate::versions::is_second_text;
 use state_text::Layout;
 use std::alloc::{AllocError, Global};
 use thiserror::Error;
@@ -42,9 +47,32 @@ fn names_for(layout: Layout) -> Names
 {
     match layout {
         Layout::Rv32 => Names::Rv32,
-        Layout::ArmLittle => Names::Arm,
-        Layout::ArmBig => Names::Arm,
+        Layout::Arm { .. } => Names::Arm,
     }
+}
+
+/// Whether no line so far says something, after one more line.
+fn still_first(is_first: bool, says: &Says) -> bool
+    ensures { result ≡ (is_first && not (is_something (says_of says.now))) }
+{
+    match says {
+        Says::Nothing => is_first,
+        _ => false,
+    }
+}
+
+/// Adds the constant of a line to those so far.
+fn declare<'a>(consts: &mut Vec<Constant<'a>>, says: &Says<'a>) -> Result<(), AllocError>
+    ensures { OnOk result (map constant_of consts.new.items ≡ consts_after (map constant_of consts.old.items) (says_of says.now)) }
+{
+    match says {
+        Says::Const(word, number) => consts.push(Constant {
+            word: *word,
+            number: *number,
+        })?,
+        _ => {}
+    }
+    Ok(())
 }
 
 /// What the lines of a text say, with the number of the line behind the last, or the first line that is refused.
@@ -55,13 +83,25 @@ fn read_lines(
 ) -> Result<Result<(Draft, u32), NoteFault>, AllocError>
     ensures { IfOk result (λ r. IsLinesRead (names_of names) text.now r) }
 {
+    let is_second = is_second_text(alloc, text)?;
+    let outside: Vec<&[u8]> = Vec::new(alloc);
+    let mut consts = Vec::new(alloc);
+    let mut is_first = true;
     let mut draft = Draft::new(alloc);
     let mut at = 0usize;
     let mut line = 1u32;
     while at < text.len() {
         let rest = &text[at..];
         let (first, behind) = first_line(rest);
-        let says = match judge(alloc, names, line, first)? {
+        let scope = Scope {
+            names,
+            consts: &consts,
+            bound: &outside,
+            is_second,
+            is_first,
+            mode: Mode::Strict,
+        };
+        let says = match judge(alloc, scope, line, first)? {
             Ok(says) => says,
             Err(kind) => return Ok(Err(NoteFault { line, kind })),
         };
@@ -71,6 +111,8 @@ fn read_lines(
                 kind: FaultKind::Entry,
             }));
         }
+        declare(&mut consts, &says)?;
+        is_first = still_first(is_first, &says);
         draft.add(line, says)?;
         at = text.len() - behind.len();
         line += 1;
@@ -79,7 +121,7 @@ fn read_lines(
 }
 
 /// The notes that a text says, for the machine of a layout. `Fault` tells the first line that is refused, with the first of its faults; where each line is good
-/// but none names the function, it is the line behind the last. What the expressions of the notes read, the machine has; their numbers have 32 bits.
+/// but none names the function, it is the line behind the last. A text whose first line that says something is `notes 2` is of version 2. What the expressions of the notes read, the machine has; their numbers have 32 bits.
 pub fn parse(alloc: Global, bytes: &[u8], layout: Layout) -> Result<Notes, NotesError>
     ensures ok { IfOk result (λ notes. IsNotesText (layout_names layout) bytes.now (notes_of notes)) }
     ensures readable { IfOk result (λ notes. AreReadable (layout_registers layout) (notes_of notes)) }

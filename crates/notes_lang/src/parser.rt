@@ -1,15 +1,15 @@
 //! The expressions of notes, read from tokens from the left to the right.
-ghost use Rattle.std.specs.Prelude.{◌≡◌, ◌≢◌, ◌≤◌, ◌<◌, option_map, drop, IfOk, IfSome, is_some, codes};
+ghost use Rattle.std.specs.Prelude.{◌≡◌, ◌≢◌, ◌≤◌, ◌<◌, option_map, drop, length, IfOk, IfSome, is_some, codes};
 ghost use Rattle.std.specs.Str.{bytes_eq};
 ghost use Rattle.bilv_spec.specs.NotesGrammar.{operators, SignToken, NameToken};
 ghost use Rattle.bilv_spec.proofs.NotesTables.{line_of, same_token, size_of};
-ghost use Rattle.bilv_spec.proofs.NotesParser.{Ends, Level, atom_at, negated_at, of_level, word_at, work};
+ghost use Rattle.bilv_spec.proofs.NotesParser.{Ends, Level, all_at, atom_at, negated_at, of_level, word_at, work};
 ghost use Rattle.line_tokens.specs.Tokens.{token_of, sign_text};
-ghost use Rattle.notes_lang.specs.Named.{names_of};
 ghost use Rattle.notes_value.specs.Views.{op_of};
-ghost use Rattle.notes_lang.specs.Reading.{AreGood, IsEnclosed, IsLeft, IsRest, Settles, begins, operator_at, read_of, size_or_zero, tokens_view};
+ghost use Rattle.notes_lang.specs.Reading.{AreGood, IsEnclosed, IsHead, IsLeft, IsRest, Settles, begins, is_all_word, operator_at, read_of, size_or_zero, tokens_view, within};
+ghost use Rattle.notes_lang.specs.Scoping.{scope_of};
 
-use crate::names::{Names, named};
+use crate::scopes::{Scope, may_bind, named, number};
 use line_tokens::{Sign, Token};
 use notes_value::{Expr, Operator, Size};
 use std::alloc::{AllocError, Global};
@@ -152,28 +152,72 @@ fn is_old(word: &[u8]) -> bool
     word == b"old".as_slice()
 }
 
+/// Whether a word begins an `all`, in version 2.
+fn is_all(is_second: bool, word: &[u8]) -> bool
+    ensures { result ≡ is_all_word is_second word.now }
+{
+    is_second && word == b"all".as_slice()
+}
+
+/// How an `all` begins: the name that it binds, the first and the last number, and the tokens behind the bracket.
+#[derive(Clone, Copy)]
+struct AllHead<'t, 'a> {
+    word: &'a [u8],
+    low: u32,
+    high: u32,
+    rest: &'t [Token<'a>],
+}
+
+/// How an `all` begins, by the tokens behind that word.
+fn all_head<'t, 'a>(scope: Scope<'a, '_>, tokens: &'t [Token<'a>]) -> Option<AllHead<'t, 'a>>
+    requires { AreGood tokens.now }
+    ensures head { IsHead (scope_of scope.entry) (tokens_view tokens.now) result }
+    ensures rest { IfSome result (λ h. (length h.rest.now < length tokens.now) × AreGood h.rest.now) }
+{
+    let (first, behind) = tokens.split_first()?;
+    let Token::Name(word) = first else {
+        return None;
+    };
+    let (second, behind) = behind.split_first()?;
+    let low = number(scope, second)?;
+    let (third, behind) = behind.split_first()?;
+    let high = number(scope, third)?;
+    if !may_bind(scope, word, low, high) {
+        return None;
+    }
+    match behind_sign(Sign::OpenRound, behind) {
+        Some(rest) => Some(AllHead {
+            word: *word,
+            low,
+            high,
+            rest,
+        }),
+        None => None,
+    }
+}
+
 /// An expression of a level, from the front of tokens.
 #[cycle(parser)]
 pub(crate) fn read<'t, 'a>(
     alloc: Global,
-    names: Names,
+    scope: Scope<'a, '_>,
     level: u8,
     tokens: &'t [Token<'a>],
 ) -> Result<Option<Reading<'t, 'a>>, AllocError>
     requires level { level ≤ 11 }
     requires good { AreGood tokens.now }
-    ensures read { IfOk result (λ o. Ends (names_of names) (Level level) (tokens_view tokens.now) (read_of o)) }
+    ensures read { IfOk result (λ o. Ends (scope_of scope.entry) (Level level) (tokens_view tokens.now) (read_of o)) }
     ensures left { IfOk result (λ o. IsLeft tokens.now o) }
 {
     if level == 3 {
-        let read = negation(alloc, names, tokens)?;
+        let read = negation(alloc, scope, tokens)?;
         return Ok(read);
     }
     if level == 11 {
-        let read = atom(alloc, names, tokens)?;
+        let read = atom(alloc, scope, tokens)?;
         return Ok(read);
     }
-    let read = chain(alloc, names, level, tokens)?;
+    let read = chain(alloc, scope, level, tokens)?;
     Ok(read)
 }
 
@@ -181,21 +225,21 @@ pub(crate) fn read<'t, 'a>(
 #[cycle(parser)]
 fn negation<'t, 'a>(
     alloc: Global,
-    names: Names,
+    scope: Scope<'a, '_>,
     tokens: &'t [Token<'a>],
 ) -> Result<Option<Reading<'t, 'a>>, AllocError>
     requires { AreGood tokens.now }
-    ensures read { IfOk result (λ o. Settles (λ m. negated_at (work (names_of names) m) (tokens_view tokens.now)) (read_of o)) }
+    ensures read { IfOk result (λ o. Settles (λ m. negated_at (work (scope_of scope.entry) m) (tokens_view tokens.now)) (read_of o)) }
     ensures left { IfOk result (λ o. IsLeft tokens.now o) }
 {
     let Some((first, rest)) = tokens.split_first() else {
         return Ok(None);
     };
     if !is_word(first, b"not") {
-        let read = read(alloc, names, 4, tokens)?;
+        let read = read(alloc, scope, 4, tokens)?;
         return Ok(read);
     }
-    let Some(inner) = read(alloc, names, 3, rest)? else {
+    let Some(inner) = read(alloc, scope, 3, rest)? else {
         return Ok(None);
     };
     let negated = Expr::Not(Box::new(alloc, inner.expr)?);
@@ -209,23 +253,23 @@ fn negation<'t, 'a>(
 #[cycle(parser)]
 fn chain<'t, 'a>(
     alloc: Global,
-    names: Names,
+    scope: Scope<'a, '_>,
     level: u8,
     tokens: &'t [Token<'a>],
 ) -> Result<Option<Reading<'t, 'a>>, AllocError>
     requires level { level < 11 }
     requires not_three { level ≢ 3 }
     requires good { AreGood tokens.now }
-    ensures read { IfOk result (λ o. Ends (names_of names) (Level level) (tokens_view tokens.now) (read_of o)) }
+    ensures read { IfOk result (λ o. Ends (scope_of scope.entry) (Level level) (tokens_view tokens.now) (read_of o)) }
     ensures left { IfOk result (λ o. IsLeft tokens.now o) }
 {
-    let Some(first) = read(alloc, names, level + 1, tokens)? else {
+    let Some(first) = read(alloc, scope, level + 1, tokens)? else {
         return Ok(None);
     };
     let mut expr = first.expr;
     let mut rest = first.rest;
     while let Some((op, behind)) = operator(level, rest) {
-        let Some(right) = read(alloc, names, level + 1, behind)? else {
+        let Some(right) = read(alloc, scope, level + 1, behind)? else {
             return Ok(None);
         };
         expr = Expr::Binary(op, Box::new(alloc, expr)?, Box::new(alloc, right.expr)?);
@@ -241,11 +285,11 @@ fn chain<'t, 'a>(
 #[cycle(parser)]
 fn atom<'t, 'a>(
     alloc: Global,
-    names: Names,
+    scope: Scope<'a, '_>,
     tokens: &'t [Token<'a>],
 ) -> Result<Option<Reading<'t, 'a>>, AllocError>
     requires { AreGood tokens.now }
-    ensures read { IfOk result (λ o. Settles (λ m. atom_at (names_of names) (work (names_of names) m) (tokens_view tokens.now)) (read_of o)) }
+    ensures read { IfOk result (λ o. Settles (λ m. atom_at (scope_of scope.entry) (work (scope_of scope.entry) m) (within (scope_of scope.entry) m) (tokens_view tokens.now)) (read_of o)) }
     ensures left { IfOk result (λ o. IsLeft tokens.now o) }
 {
     let Some((first, rest)) = tokens.split_first() else {
@@ -257,38 +301,38 @@ fn atom<'t, 'a>(
             rest,
         })),
         Token::Name(word) => {
-            let read = word_atom(alloc, names, word, rest)?;
+            let read = word_atom(alloc, scope, *word, rest)?;
             Ok(read)
         }
         Token::Sign(_) => {
             if !is_sign(first, Sign::OpenRound) {
                 return Ok(None);
             }
-            let read = enclosed(alloc, names, Sign::CloseRound, rest)?;
+            let read = enclosed(alloc, scope, Sign::CloseRound, rest)?;
             Ok(read)
         }
         _ => Ok(None),
     }
 }
 
-/// A load, `old` or a name, by its word and the tokens behind it.
+/// A load, `old`, `all` or a name, by its word and the tokens behind it.
 #[cycle(parser)]
 fn word_atom<'t, 'a>(
     alloc: Global,
-    names: Names,
-    word: &[u8],
+    scope: Scope<'a, '_>,
+    word: &'a [u8],
     tokens: &'t [Token<'a>],
 ) -> Result<Option<Reading<'t, 'a>>, AllocError>
     requires { AreGood tokens.now }
-    ensures read { IfOk result (λ o. Settles (λ m. word_at (names_of names) (work (names_of names) m) (size_of word.now)
-        (bytes_eq word.now (codes "old")) word.now (tokens_view tokens.now)) (read_of o)) }
+    ensures read { IfOk result (λ o. Settles (λ m. word_at (scope_of scope.entry) (work (scope_of scope.entry) m) (within (scope_of scope.entry) m) (size_of word.now)
+        (bytes_eq word.now (codes "old")) (is_all_word scope.entry.is_second word.now) word.now (tokens_view tokens.now)) (read_of o)) }
     ensures left { IfOk result (λ o. IsRest tokens.now o) }
 {
     if let Some(size) = load_size(word) {
         let Some(behind) = behind_sign(Sign::OpenSquare, tokens) else {
             return Ok(None);
         };
-        let Some(inner) = enclosed(alloc, names, Sign::CloseSquare, behind)? else {
+        let Some(inner) = enclosed(alloc, scope, Sign::CloseSquare, behind)? else {
             return Ok(None);
         };
         let load = Expr::Memory(size, Box::new(alloc, inner.expr)?);
@@ -301,7 +345,7 @@ fn word_atom<'t, 'a>(
         let Some(behind) = behind_sign(Sign::OpenRound, tokens) else {
             return Ok(None);
         };
-        let Some(inner) = enclosed(alloc, names, Sign::CloseRound, behind)? else {
+        let Some(inner) = enclosed(alloc, scope, Sign::CloseRound, behind)? else {
             return Ok(None);
         };
         let old = Expr::Old(Box::new(alloc, inner.expr)?);
@@ -310,25 +354,60 @@ fn word_atom<'t, 'a>(
             rest: inner.rest,
         }));
     }
-    match named(names, word) {
+    if is_all(scope.is_second, word) {
+        let read = all_values(alloc, scope, tokens)?;
+        return Ok(read);
+    }
+    match named(scope, word) {
         Some(expr) => Ok(Some(Reading { expr, rest: tokens })),
         None => Ok(None),
     }
+}
+
+/// An `all`, by the tokens behind that word.
+#[cycle(parser)]
+fn all_values<'t, 'a>(
+    alloc: Global,
+    scope: Scope<'a, '_>,
+    tokens: &'t [Token<'a>],
+) -> Result<Option<Reading<'t, 'a>>, AllocError>
+    requires { AreGood tokens.now }
+    ensures read { IfOk result (λ o. Settles (λ m. all_at (scope_of scope.entry) (within (scope_of scope.entry) m) (tokens_view tokens.now)) (read_of o)) }
+    ensures left { IfOk result (λ o. IsRest tokens.now o) }
+{
+    let Some(head) = all_head(scope, tokens) else {
+        return Ok(None);
+    };
+    let mut bound = Vec::with_capacity(alloc, scope.bound.len() + 1)?;
+    bound.extend_from_slice(scope.bound)?;
+    bound.push(head.word)?;
+    let inside = Scope {
+        bound: &bound,
+        ..scope
+    };
+    let Some(inner) = enclosed(alloc, inside, Sign::CloseRound, head.rest)? else {
+        return Ok(None);
+    };
+    let all = Expr::All(head.low, head.high, Box::new(alloc, inner.expr)?);
+    Ok(Some(Reading {
+        expr: all,
+        rest: inner.rest,
+    }))
 }
 
 /// An expression behind a bracket, and the sign that closes it.
 #[cycle(parser)]
 fn enclosed<'t, 'a>(
     alloc: Global,
-    names: Names,
+    scope: Scope<'a, '_>,
     close: Sign,
     tokens: &'t [Token<'a>],
 ) -> Result<Option<Reading<'t, 'a>>, AllocError>
     requires { AreGood tokens.now }
-    ensures read { IfOk result (λ o. IsEnclosed (names_of names) (SignToken (sign_text close)) (tokens_view tokens.now) o) }
+    ensures read { IfOk result (λ o. IsEnclosed (scope_of scope.entry) (SignToken (sign_text close)) (tokens_view tokens.now) o) }
     ensures left { IfOk result (λ o. IsLeft tokens.now o) }
 {
-    let Some(inner) = read(alloc, names, 1, tokens)? else {
+    let Some(inner) = read(alloc, scope, 1, tokens)? else {
         return Ok(None);
     };
     let Some(rest) = behind_sign(close, inner.rest) else {

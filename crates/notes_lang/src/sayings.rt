@@ -1,24 +1,25 @@
 //! What one line of notes says.
-ghost use Rattle.std.specs.Prelude.{◌≡◌, ◌∷◌, [], ℕ, List, Option, map, codes, Contains, IfOk, IfSome, IfNone};
-ghost use Rattle.bilv_spec.specs.Notes as meaning;
-ghost use Rattle.bilv_spec.specs.NotesGrammar.{IsSaid, NameToken, NumberToken, Parses};
+ghost use Rattle.std.specs.Prelude.{◌≡◌, ◌∷◌, [], ℕ, List, codes, Contains, true, IfOk, IfSome, IfNone};
+ghost use Rattle.bilv_spec.specs.Scopes as scopes;
+ghost use Rattle.bilv_spec.specs.NotesGrammar as grammar;
+ghost use Rattle.bilv_spec.specs.NotesGrammar.{AreNumbers, IsSaid, NameToken, NumberToken, Parses};
 ghost use Rattle.bilv_spec.specs.NotesFaults.{IsLineWord, line_words};
 ghost use Rattle.line_tokens.specs.Tokens.{token_of};
-ghost use Rattle.notes_lang.specs.Named.{names_of};
 ghost use Rattle.notes_value.specs.Views.{expr_of};
 ghost use Rattle.notes_lang.specs.Reading.{AreGood, tokens_view};
-ghost use Rattle.notes_lang.specs.Saying.{Tells, number_token, says_of, word_text};
+ghost use Rattle.notes_lang.specs.Saying.{BeginsWith, IsOne, Tells, says_of, word_text};
+ghost use Rattle.notes_lang.specs.Scoping.{scope_of};
 
-use crate::names::Names;
 use crate::notes::Function;
 use crate::parser::read;
+use crate::scopes::{Scope, number};
 use line_tokens::Token;
 use notes_value::Expr;
 use std::alloc::{AllocError, Global};
 
 /// What a line says.
 #[derive(Drop)]
-pub(crate) enum Says {
+pub(crate) enum Says<'a> {
     Nothing,
     Entry(Function),
     Require(Expr),
@@ -26,6 +27,10 @@ pub(crate) enum Says {
     Assert(u32, Expr),
     Targets(u32, Vec<u32>),
     Fixed(u32, u32),
+    /// The line of a version, which names version 2 or does not.
+    Version(bool),
+    Const(&'a [u8], u32),
+    Loaded,
 }
 
 /// The words that begin lines.
@@ -38,14 +43,21 @@ pub(crate) enum LineWord {
     Assert,
     Targets,
     Fixed,
+    Notes,
+    Const,
+    Loaded,
 }
 
 /// The expression that all of the tokens are.
-fn expression(alloc: Global, names: Names, tokens: &[Token]) -> Result<Option<Expr>, AllocError>
+fn expression<'a>(
+    alloc: Global,
+    scope: Scope<'a, '_>,
+    tokens: &[Token<'a>],
+) -> Result<Option<Expr>, AllocError>
     requires { AreGood tokens.now }
-    ensures { IfOk result (λ o. Tells expr_of (λ e. Parses (names_of names) 1 (tokens_view tokens.now) e) o) }
+    ensures { IfOk result (λ o. Tells expr_of (λ e. Parses (scope_of scope.entry) 1 (tokens_view tokens.now) e) o) }
 {
-    let Some(all) = read(alloc, names, 1, tokens)? else {
+    let Some(all) = read(alloc, scope, 1, tokens)? else {
         return Ok(None);
     };
     if !all.rest.is_empty() {
@@ -55,26 +67,25 @@ fn expression(alloc: Global, names: Names, tokens: &[Token]) -> Result<Option<Ex
 }
 
 /// The number with which tokens begin, and the tokens behind it.
-fn number_first<'t, 'a>(tokens: &'t [Token<'a>]) -> Option<(u32, &'t [Token<'a>])>
+fn number_first<'t, 'a>(scope: Scope, tokens: &'t [Token<'a>]) -> Option<(u32, &'t [Token<'a>])>
     requires { AreGood tokens.now }
-    ensures tells { Tells (λ p. (p.0, tokens_view p.1.now)) (λ (p : ℕ × List _). tokens_view tokens.now ≡ NumberToken p.0 ∷ p.1) result }
+    ensures tells { Tells (λ p. (p.0, tokens_view p.1.now)) (BeginsWith (scope_of scope.entry) (tokens_view tokens.now)) result }
     ensures good { IfSome result (λ p. AreGood p.1.now) }
 {
-    match tokens.split_first()? {
-        (Token::Number(n), rest) => Some((*n, rest)),
-        _ => None,
-    }
+    let (first, rest) = tokens.split_first()?;
+    let n = number(scope, first)?;
+    Some((n, rest))
 }
 
 /// The number that all of the tokens are.
-fn one_number(tokens: &[Token]) -> Option<u32>
+fn one_number(scope: Scope, tokens: &[Token]) -> Option<u32>
     requires { AreGood tokens.now }
-    ensures { Tells (λ n. n) (λ n. tokens_view tokens.now ≡ NumberToken n ∷ []) result }
+    ensures { Tells (λ n. n) (IsOne (scope_of scope.entry) (tokens_view tokens.now)) result }
 {
-    let Some((n, rest)) = number_first(tokens) else {
-        return None;
-    };
-    if rest.is_empty() { Some(n) } else { None }
+    match number_first(scope, tokens) {
+        Some((n, rest)) => if rest.is_empty() { Some(n) } else { None },
+        None => None,
+    }
 }
 
 /// The name that all of the tokens are.
@@ -90,7 +101,7 @@ fn one_name<'a>(tokens: &[Token<'a>]) -> Option<&'a [u8]>
 /// The word with which a line begins.
 pub(crate) fn line_word(token: &Token) -> Option<LineWord>
     ensures word { IfSome result (λ word. token_of token.now ≡ NameToken (word_text word)) }
-    ensures none { IfNone result (IsLineWord (token_of token.now) → ⊥) }
+    ensures none { IfNone result (IsLineWord true (token_of token.now) → ⊥) }
 {
     match token {
         Token::Name(word) => word_named(word),
@@ -101,7 +112,7 @@ pub(crate) fn line_word(token: &Token) -> Option<LineWord>
 /// The word of this text that begins lines.
 fn word_named(text: &[u8]) -> Option<LineWord>
     ensures word { IfSome result (λ word. text.now ≡ word_text word) }
-    ensures none { IfNone result (Contains line_words text.now → ⊥) }
+    ensures none { IfNone result (Contains (line_words true) text.now → ⊥) }
 {
     if text == b"entry".as_slice() {
         return Some(LineWord::Entry);
@@ -124,38 +135,47 @@ fn word_named(text: &[u8]) -> Option<LineWord>
     if text == b"fixed".as_slice() {
         return Some(LineWord::Fixed);
     }
+    if text == b"notes".as_slice() {
+        return Some(LineWord::Notes);
+    }
+    if text == b"const".as_slice() {
+        return Some(LineWord::Const);
+    }
+    if text == b"loaded".as_slice() {
+        return Some(LineWord::Loaded);
+    }
     None
 }
 
 /// The numbers that all of the tokens are.
-fn numbers(alloc: Global, tokens: &[Token]) -> Result<Option<Vec<u32>>, AllocError>
+fn numbers(alloc: Global, scope: Scope, tokens: &[Token]) -> Result<Option<Vec<u32>>, AllocError>
     requires { AreGood tokens.now }
-    ensures { IfOk result (λ o. Tells (λ v. v.items) (λ ns. tokens_view tokens.now ≡ map number_token ns) o) }
+    ensures { IfOk result (λ o. Tells (λ v. v.items) (AreNumbers (scope_of scope.entry) (tokens_view tokens.now)) o) }
 {
     let mut numbers = Vec::new(alloc);
     for token in tokens {
-        let Token::Number(n) = token else {
+        let Some(n) = number(scope, token) else {
             return Ok(None);
         };
-        numbers.push(*n)?;
+        numbers.push(n)?;
     }
     Ok(Some(numbers))
 }
 
 /// An `entry` line, by the tokens behind that word.
-fn entry(rest: &[Token]) -> Option<Says>
+fn entry<'a>(scope: Scope, rest: &[Token<'a>]) -> Option<Says<'a>>
     requires { AreGood rest.now }
-    ensures { (names : List ℕ → Option meaning.Expr) → Tells says_of (IsSaid names (NameToken (codes "entry") ∷ tokens_view rest.now)) result }
+    ensures { Tells says_of (IsSaid (scope_of scope.entry) (NameToken (codes "entry") ∷ tokens_view rest.now)) result }
 {
-    match one_number(rest) {
+    match one_number(scope, rest) {
         Some(at) => Some(Says::Entry(Function::At(at))),
         None => None,
     }
 }
 
 /// A `function` line, by the tokens behind that word.
-fn function(alloc: Global, rest: &[Token]) -> Result<Option<Says>, AllocError>
-    ensures { (names : List ℕ → Option meaning.Expr) → IfOk result (λ o. Tells says_of (IsSaid names (NameToken (codes "function") ∷ tokens_view rest.now)) o) }
+fn function<'a>(alloc: Global, rest: &[Token<'a>]) -> Result<Option<Says<'a>>, AllocError>
+    ensures { (s : scopes.Scope) → IfOk result (λ o. Tells says_of (IsSaid s (NameToken (codes "function") ∷ tokens_view rest.now)) o) }
 {
     let Some(name) = one_name(rest) else {
         return Ok(None);
@@ -166,50 +186,66 @@ fn function(alloc: Global, rest: &[Token]) -> Result<Option<Says>, AllocError>
 }
 
 /// A `require` line, by the tokens behind that word.
-fn require(alloc: Global, names: Names, rest: &[Token]) -> Result<Option<Says>, AllocError>
+fn require<'a>(
+    alloc: Global,
+    scope: Scope<'a, '_>,
+    rest: &[Token<'a>],
+) -> Result<Option<Says<'a>>, AllocError>
     requires { AreGood rest.now }
-    ensures { IfOk result (λ o. Tells says_of (IsSaid (names_of names) (NameToken (codes "require") ∷ tokens_view rest.now)) o) }
+    ensures { IfOk result (λ o. Tells says_of (IsSaid (scope_of scope.entry) (NameToken (codes "require") ∷ tokens_view rest.now)) o) }
 {
-    let Some(says) = expression(alloc, names, rest)? else {
+    let Some(says) = expression(alloc, scope, rest)? else {
         return Ok(None);
     };
     Ok(Some(Says::Require(says)))
 }
 
 /// An `ensure` line, by the tokens behind that word.
-fn ensure(alloc: Global, names: Names, rest: &[Token]) -> Result<Option<Says>, AllocError>
+fn ensure<'a>(
+    alloc: Global,
+    scope: Scope<'a, '_>,
+    rest: &[Token<'a>],
+) -> Result<Option<Says<'a>>, AllocError>
     requires { AreGood rest.now }
-    ensures { IfOk result (λ o. Tells says_of (IsSaid (names_of names) (NameToken (codes "ensure") ∷ tokens_view rest.now)) o) }
+    ensures { IfOk result (λ o. Tells says_of (IsSaid (scope_of scope.entry) (NameToken (codes "ensure") ∷ tokens_view rest.now)) o) }
 {
-    let Some(says) = expression(alloc, names, rest)? else {
+    let Some(says) = expression(alloc, scope, rest)? else {
         return Ok(None);
     };
     Ok(Some(Says::Ensure(says)))
 }
 
 /// An `assert` line, by the tokens behind that word.
-fn assert(alloc: Global, names: Names, rest: &[Token]) -> Result<Option<Says>, AllocError>
+fn assert<'a>(
+    alloc: Global,
+    scope: Scope<'a, '_>,
+    rest: &[Token<'a>],
+) -> Result<Option<Says<'a>>, AllocError>
     requires { AreGood rest.now }
-    ensures { IfOk result (λ o. Tells says_of (IsSaid (names_of names) (NameToken (codes "assert") ∷ tokens_view rest.now)) o) }
+    ensures { IfOk result (λ o. Tells says_of (IsSaid (scope_of scope.entry) (NameToken (codes "assert") ∷ tokens_view rest.now)) o) }
 {
-    let Some((at, behind)) = number_first(rest) else {
+    let Some((at, behind)) = number_first(scope, rest) else {
         return Ok(None);
     };
-    let Some(says) = expression(alloc, names, behind)? else {
+    let Some(says) = expression(alloc, scope, behind)? else {
         return Ok(None);
     };
     Ok(Some(Says::Assert(at, says)))
 }
 
 /// A `targets` line, by the tokens behind that word.
-fn targets(alloc: Global, rest: &[Token]) -> Result<Option<Says>, AllocError>
+fn targets<'a>(
+    alloc: Global,
+    scope: Scope,
+    rest: &[Token<'a>],
+) -> Result<Option<Says<'a>>, AllocError>
     requires { AreGood rest.now }
-    ensures { (names : List ℕ → Option meaning.Expr) → IfOk result (λ o. Tells says_of (IsSaid names (NameToken (codes "targets") ∷ tokens_view rest.now)) o) }
+    ensures { IfOk result (λ o. Tells says_of (IsSaid (scope_of scope.entry) (NameToken (codes "targets") ∷ tokens_view rest.now)) o) }
 {
-    let Some((at, behind)) = number_first(rest) else {
+    let Some((at, behind)) = number_first(scope, rest) else {
         return Ok(None);
     };
-    let Some(to) = numbers(alloc, behind)? else {
+    let Some(to) = numbers(alloc, scope, behind)? else {
         return Ok(None);
     };
     if to.is_empty() {
@@ -219,48 +255,109 @@ fn targets(alloc: Global, rest: &[Token]) -> Result<Option<Says>, AllocError>
 }
 
 /// A `fixed` line, by the tokens behind that word.
-fn fixed(rest: &[Token]) -> Option<Says>
+fn fixed<'a>(scope: Scope, rest: &[Token<'a>]) -> Option<Says<'a>>
     requires { AreGood rest.now }
-    ensures { (names : List ℕ → Option meaning.Expr) → Tells says_of (IsSaid names (NameToken (codes "fixed") ∷ tokens_view rest.now)) result }
+    ensures { Tells says_of (IsSaid (scope_of scope.entry) (NameToken (codes "fixed") ∷ tokens_view rest.now)) result }
 {
-    let Some((low, behind)) = number_first(rest) else {
+    let Some((low, behind)) = number_first(scope, rest) else {
         return None;
     };
-    match one_number(behind) {
+    match one_number(scope, behind) {
         Some(high) => Some(Says::Fixed(low, high)),
         None => None,
     }
 }
 
-/// What a line says, by its word and the tokens behind it.
-fn behind_word(
-    alloc: Global,
-    names: Names,
-    word: LineWord,
-    rest: &[Token],
-) -> Result<Option<Says>, AllocError>
+/// Whether the number 2 is all of the tokens.
+pub(crate) fn is_two(rest: &[Token]) -> bool
+    ensures { result ≡ grammar.is_two (tokens_view rest.now) }
+{
+    let Some((first, others)) = rest.split_first() else {
+        return false;
+    };
+    match first {
+        Token::Number(n) => *n == 2 && others.is_empty(),
+        _ => false,
+    }
+}
+
+/// A name and a number that are all of the tokens.
+fn name_and_number<'a>(tokens: &[Token<'a>]) -> Option<(&'a [u8], u32)>
+    requires { AreGood tokens.now }
+    ensures { Tells (λ p. (p.0.now, p.1)) (λ (p : List ℕ × ℕ). tokens_view tokens.now ≡ NameToken p.0 ∷ NumberToken p.1 ∷ []) result }
+{
+    let (first, behind) = tokens.split_first()?;
+    let Token::Name(word) = first else {
+        return None;
+    };
+    let (second, rest) = behind.split_first()?;
+    let Token::Number(n) = second else {
+        return None;
+    };
+    if rest.is_empty() {
+        Some((*word, *n))
+    } else {
+        None
+    }
+}
+
+/// A `const` line, by the tokens behind that word.
+fn constant<'a>(scope: Scope, rest: &[Token<'a>]) -> Option<Says<'a>>
     requires { AreGood rest.now }
-    ensures { IfOk result (λ o. Tells says_of (IsSaid (names_of names) (NameToken (word_text word) ∷ tokens_view rest.now)) o) }
+    ensures { Tells says_of (IsSaid (scope_of scope.entry) (NameToken (codes "const") ∷ tokens_view rest.now)) result }
+{
+    if !scope.is_second {
+        return None;
+    }
+    match name_and_number(rest) {
+        Some((word, n)) => Some(Says::Const(word, n)),
+        None => None,
+    }
+}
+
+/// A `loaded` line, by the tokens behind that word.
+fn loaded<'a>(scope: Scope, rest: &[Token<'a>]) -> Option<Says<'a>>
+    ensures { Tells says_of (IsSaid (scope_of scope.entry) (NameToken (codes "loaded") ∷ tokens_view rest.now)) result }
+{
+    if scope.is_second && rest.is_empty() {
+        Some(Says::Loaded)
+    } else {
+        None
+    }
+}
+
+/// What a line says, by its word and the tokens behind it.
+fn behind_word<'a>(
+    alloc: Global,
+    scope: Scope<'a, '_>,
+    word: LineWord,
+    rest: &[Token<'a>],
+) -> Result<Option<Says<'a>>, AllocError>
+    requires { AreGood rest.now }
+    ensures { IfOk result (λ o. Tells says_of (IsSaid (scope_of scope.entry) (NameToken (word_text word) ∷ tokens_view rest.now)) o) }
 {
     match word {
-        LineWord::Entry => Ok(entry(rest)),
+        LineWord::Entry => Ok(entry(scope, rest)),
         LineWord::Function => function(alloc, rest),
-        LineWord::Require => require(alloc, names, rest),
-        LineWord::Ensure => ensure(alloc, names, rest),
-        LineWord::Assert => assert(alloc, names, rest),
-        LineWord::Targets => targets(alloc, rest),
-        LineWord::Fixed => Ok(fixed(rest)),
+        LineWord::Require => require(alloc, scope, rest),
+        LineWord::Ensure => ensure(alloc, scope, rest),
+        LineWord::Assert => assert(alloc, scope, rest),
+        LineWord::Targets => targets(alloc, scope, rest),
+        LineWord::Fixed => Ok(fixed(scope, rest)),
+        LineWord::Notes => Ok(Some(Says::Version(is_two(rest)))),
+        LineWord::Const => Ok(constant(scope, rest)),
+        LineWord::Loaded => Ok(loaded(scope, rest)),
     }
 }
 
 /// What a line says, or `None` where it says nothing that the grammar and the names allow.
-pub(crate) fn said(
+pub(crate) fn said<'a>(
     alloc: Global,
-    names: Names,
-    tokens: &[Token],
-) -> Result<Option<Says>, AllocError>
+    scope: Scope<'a, '_>,
+    tokens: &[Token<'a>],
+) -> Result<Option<Says<'a>>, AllocError>
     requires { AreGood tokens.now }
-    ensures { IfOk result (λ o. Tells says_of (IsSaid (names_of names) (tokens_view tokens.now)) o) }
+    ensures { IfOk result (λ o. Tells says_of (IsSaid (scope_of scope.entry) (tokens_view tokens.now)) o) }
 {
     let Some((first, rest)) = tokens.split_first() else {
         return Ok(Some(Says::Nothing));
@@ -268,6 +365,6 @@ pub(crate) fn said(
     let Some(word) = line_word(first) else {
         return Ok(None);
     };
-    let says = behind_word(alloc, names, word, rest)?;
+    let says = behind_word(alloc, scope, word, rest)?;
     Ok(says)
 }

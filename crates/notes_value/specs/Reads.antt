@@ -2,7 +2,7 @@
 use Rattle.std.specs.Prelude.{ℕ, ◌≤◌, ◌<◌, ◌^◌, Bool, IsTrue}
 use Rattle.std.specs.List.{All}
 use Rattle.bilv_spec.specs.Notes as notes
-use Rattle.bilv_spec.specs.Notes.{Expr, Number, Register, Flag, Pc, Memory, Old, Not, Binary}
+use Rattle.bilv_spec.specs.Notes.{Expr, Number, Register, Flag, Pc, Bound, Memory, Old, Not, Binary}
 
 -- it reads registers of the machine alone, and flags from V, 0, to N, 3
 abbrev pub IsReadable : (ℕ → Bool) → Expr → Type 0
@@ -10,6 +10,7 @@ IsReadable has_register (Number n) = Unit {0}
 IsReadable has_register (Register r) = IsTrue (has_register r)
 IsReadable has_register (Flag f) = f ≤ 3
 IsReadable has_register Pc = Unit {0}
+IsReadable has_register Bound = Unit {0}
 IsReadable has_register (Memory n a) = IsReadable has_register a
 IsReadable has_register (Old a) = IsReadable has_register a
 IsReadable has_register (Not a) = IsReadable has_register a
@@ -27,6 +28,7 @@ IsOver has_register has_flag (Number n) = n < 2 ^ 32
 IsOver has_register has_flag (Register r) = IsTrue (has_register r)
 IsOver has_register has_flag (Flag f) = IsTrue (has_flag f)
 IsOver has_register has_flag Pc = Unit {0}
+IsOver has_register has_flag Bound = Unit {0}
 IsOver has_register has_flag (Memory n a) = (1 ≤ n) × (n ≤ 4) × IsOver has_register has_flag a
 IsOver has_register has_flag (Old a) = IsOver has_register has_flag a
 IsOver has_register has_flag (Not a) = IsOver has_register has_flag a

@@ -38,13 +38,15 @@ bytes_of size.Byte = 1
 bytes_of size.Half = 2
 bytes_of size.Word = 4
 
--- an expression
+-- an expression; an `all` is written out
 abbrev pub expr_of : Expr → notes.Expr
 expr_of (expr.Number n) = notes.Number n
 expr_of (expr.Register r) = notes.Register r
 expr_of (expr.Flag f) = notes.Flag f
 expr_of expr.Pc = notes.Pc
+expr_of expr.Bound = notes.Bound
 expr_of (expr.Memory' n p a) = notes.Memory (bytes_of n) (expr_of a)
 expr_of (expr.Old' p a) = notes.Old (expr_of a)
 expr_of (expr.Not' p a) = notes.Not (expr_of a)
 expr_of (expr.Binary' op p a q b) = notes.Binary (op_of op) (expr_of a) (expr_of b)
+expr_of (expr.All' low high p a) = notes.written_out low high (expr_of a)

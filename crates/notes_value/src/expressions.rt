@@ -46,6 +46,8 @@ pub enum Expr {
     Flag(u8),
     /// The address of the step at hand.
     Pc,
+    /// The name that an `all` binds; 0 outside of one.
+    Bound,
     /// The number of so many bytes at an address, which wraps.
     Memory(Size, Box<Expr>),
     /// The value in the state at entry.
@@ -54,4 +56,7 @@ pub enum Expr {
     Not(Box<Expr>),
     /// A binary operator on two values.
     Binary(Operator, Box<Expr>, Box<Expr>),
+    /// 1 where the expression is true for each number from the first to the second, put for the bound name, else 0. The first is tried also where the second
+    /// is below it.
+    All(u32, u32, Box<Expr>),
 }

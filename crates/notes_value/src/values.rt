@@ -80,20 +80,55 @@ fn load<V: View>(state: &V, address: u32, size: Size, big: bool) -> u32
     state.load(address, bytes(size), order(big)).bits as u32
 }
 
-/// The value of an expression in the state now, for a run that began in the state at entry; `big` is the machine's byte order. The expression may name only
-/// registers that the machine has, and flags up to 3, both outside and inside `old`. It takes no memory.
-pub fn value<V: View>(expr: &Expr, now: &V, old: &V, big: bool) -> u32
+/// The value of an expression with a number for its bound name.
+#[cycle(values)]
+fn value_with<V: View>(expr: &Expr, bound: u32, now: &V, old: &V, big: bool) -> u32
     requires readable { IsReadable V.has_register (expr_of expr.now) }
-    ensures { result ≡ meaning.value (memory.endian big) (expr_of expr.now) (V.view now.now) (V.view old.now) }
+    ensures { result ≡ meaning.value (memory.endian big) (meaning.put_bound bound (expr_of expr.now)) (V.view now.now) (V.view old.now) }
 {
     match expr {
         Expr::Number(n) => *n,
         Expr::Register(r) => now.reg(*r),
         Expr::Flag(f) => truth(now.flag(*f)),
         Expr::Pc => now.pc(),
-        Expr::Memory(size, a) => load(now, value(a, now, old, big), *size, big),
-        Expr::Old(a) => value(a, old, old, big),
-        Expr::Not(a) => truth(value(a, now, old, big) == 0),
-        Expr::Binary(op, a, b) => apply(*op, value(a, now, old, big), value(b, now, old, big)),
+        Expr::Bound => bound,
+        Expr::Memory(size, a) => load(now, value_with(a, bound, now, old, big), *size, big),
+        Expr::Old(a) => value_with(a, bound, old, old, big),
+        Expr::Not(a) => truth(value_with(a, bound, now, old, big) == 0),
+        Expr::Binary(op, a, b) => apply(
+            *op,
+            value_with(a, bound, now, old, big),
+            value_with(b, bound, now, old, big),
+        ),
+        Expr::All(low, high, a) => truth(all_true(a, *low, *high, now, old, big)),
     }
+}
+
+/// Whether an expression is true for each number from `low` to `high`, and for `low` in any case.
+#[cycle(values)]
+fn all_true<V: View>(expr: &Expr, low: u32, high: u32, now: &V, old: &V, big: bool) -> bool
+    requires readable { IsReadable V.has_register (expr_of expr.now) }
+    ensures { words.bit result ≡ meaning.value (memory.endian big) (meaning.written_out low high (expr_of expr.now)) (V.view now.now) (V.view old.now) }
+{
+    if value_with(expr, low, now, old, big) == 0 {
+        return false;
+    }
+    let mut v = low;
+    while v < high {
+        v += 1;
+        if value_with(expr, v, now, old, big) == 0 {
+            return false;
+        }
+    }
+    true
+}
+
+/// The value of an expression in the state now, for a run that began in the state at entry; `big` is the machine's byte order. The expression may name only
+/// registers that the machine has, and flags up to 3, both outside and inside `old`. It takes no memory; its time is that of the expression with each `all`
+/// written out.
+pub fn value<V: View>(expr: &Expr, now: &V, old: &V, big: bool) -> u32
+    requires readable { IsReadable V.has_register (expr_of expr.now) }
+    ensures { result ≡ meaning.value (memory.endian big) (expr_of expr.now) (V.view now.now) (V.view old.now) }
+{
+    value_with(expr, 0, now, old, big)
 }

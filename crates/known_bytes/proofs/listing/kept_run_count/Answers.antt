@@ -12,4 +12,4 @@ loop-first-preserved c = λ k less.
     ]
 
 pub returns : goal.returns
-returns c notes entry = run_starts _ _ c.kept_runs-runs.ensures (λ k w. c.loop-first.invariant k (omega arith)) notes entry
+returns c m notes entry = run_starts _ _ c.kept_runs-runs.ensures (λ k w. c.loop-first.invariant k (omega arith)) m notes entry

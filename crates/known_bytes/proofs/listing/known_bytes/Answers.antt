@@ -10,7 +10,7 @@ pub returns-in-None-clause-rising : goal.returns-in-None-clause-rising
 returns-in-None-clause-rising c = c.loop-runs.invariant.known.are
 
 pub returns-in-None-clause-bytes : goal.returns-in-None-clause-bytes
-returns-in-None-clause-bytes c = λ entry.
+returns-in-None-clause-bytes c = λ m entry.
     let below = c.loop-runs.invariant.below in
     (known_all _ _ _ _
     (known_gap c.args.image.now (map fixed_of c.args.notes.now.fixed.items) c.loop-runs.at (2 ^ 32) _ _
@@ -20,7 +20,7 @@ pub returns-in-None-clause-sum : goal.returns-in-None-clause-sum
 returns-in-None-clause-sum c = c.loop-runs.invariant.known.sum
 
 pub returns-in-None-clause-count : goal.returns-in-None-clause-count
-returns-in-None-clause-count c = λ entry.
+returns-in-None-clause-count c = λ m entry.
     let below = c.loop-runs.invariant.below in
     (known_all _ _ _ _
     (known_gap c.args.image.now (map fixed_of c.args.notes.now.fixed.items) c.loop-runs.at (2 ^ 32) _ _
@@ -33,7 +33,7 @@ returns-then-part-clause-rising c =
     c.loop-runs.invariant.known c.in_ok-push.ensures.items refl).are
 
 pub returns-then-part-clause-bytes : goal.returns-then-part-clause-bytes
-returns-then-part-clause-bytes c = λ entry.
+returns-then-part-clause-bytes c = λ m entry.
     (part_last c.args.image.now (map fixed_of c.args.notes.now.fixed.items) c.loop-runs.at c.in-Some.part _ _ c.loop-runs.count _ _ refl refl refl
     c.in-Some.ensures
     c.loop-runs.invariant.known c.in_ok-push.ensures.items refl (omega arith)).0
@@ -45,7 +45,7 @@ returns-then-part-clause-sum c =
     c.loop-runs.invariant.known c.in_ok-push.ensures.items refl).sum
 
 pub returns-then-part-clause-count : goal.returns-then-part-clause-count
-returns-then-part-clause-count c = λ entry.
+returns-then-part-clause-count c = λ m entry.
     (part_last c.args.image.now (map fixed_of c.args.notes.now.fixed.items) c.loop-runs.at c.in-Some.part _ _ c.loop-runs.count _ _ refl refl refl
     c.in-Some.ensures
     c.loop-runs.invariant.known c.in_ok-push.ensures.items refl (omega arith)).1

@@ -1,4 +1,5 @@
 use Rattle.std.proofs.Common.{◌≡◌, ℕ, ◌≤◌, ◌-◌, ◌^◌}
+use Rattle.bilv_spec.specs.Machine.{Machine}
 use Rattle.bilv_spec.specs.Files.{program_of}
 use Rattle.bilv_spec.specs.Points.{is_known_at}
 use Rattle.notes_lang.specs.Drafting.{notes_of}
@@ -7,7 +8,7 @@ use Rattle.known_bytes.proofs.stretches.known_stretch.Given as goal
 abbrev pub invariant-loop-seen : goal.invariant-loop-seen
 invariant-loop-seen l = record {
   last : l.at ≤ l.seen.last;
-  same : (entry x : ℕ) → l.at ≤ x → x ≤ l.seen.last → is_known_at (program_of l.image (notes_of l.notes) entry) x ≡ l.seen.known;
+  same : (m : Machine) (entry x : ℕ) → l.at ≤ x → x ≤ l.seen.last → is_known_at (program_of m l.image (notes_of l.notes) entry) x ≡ l.seen.known;
 }
 
 abbrev pub decreases-loop-seen : goal.decreases-loop-seen

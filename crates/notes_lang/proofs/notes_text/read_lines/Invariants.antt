@@ -1,11 +1,16 @@
-use Rattle.std.proofs.Common.{length, drop, ◌-◌, ◌≤◌}
+use Rattle.std.proofs.Common.{length, drop, map, ◌-◌, ◌≤◌}
 use Rattle.notes_lang.specs.Named.{names_of}
-use Rattle.notes_lang.specs.Parsing.{IsSoFar}
+use Rattle.notes_lang.specs.Parsing.{IsSoFar, scope_at}
+use Rattle.notes_lang.specs.Scoping.{constant_of}
 use Rattle.notes_lang.proofs.notes_text.read_lines.Given as goal
 
--- the lines so far are good, and the draft is what they say
+-- the lines so far are good, the draft is what they say, and the constants are those that they declare
 abbrev pub invariant-loop-at : goal.invariant-loop-at
-invariant-loop-at l = record { within : l.at ≤ length l.text; so_far : IsSoFar (names_of l.names) l.text (drop l.at l.text) l.line l.draft }
+invariant-loop-at l = record {
+  within : l.at ≤ length l.text;
+  so_far : IsSoFar (names_of l.names) l.text (drop l.at l.text) l.line l.draft
+      (scope_at (names_of l.names) (map constant_of l.consts.items) l.is_second l.is_first);
+}
 
 abbrev pub decreases-loop-at : goal.decreases-loop-at
 decreases-loop-at l = length l.text - l.at

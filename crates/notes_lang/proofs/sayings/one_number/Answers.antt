@@ -1,5 +1,8 @@
-use Rattle.std.proofs.Common.{[]}
+use Rattle.notes_lang.specs.Scoping.{scope_of}
+use Rattle.notes_lang.specs.Reading.{tokens_view}
+use Rattle.notes_lang.proofs.Lists.{none_one}
 use Rattle.notes_lang.proofs.sayings.one_number.Goals as goal
 
-pub returns-in_default : goal.returns-in_default
-returns-in_default c = λ n is. c.in_default.ensures.tells (n, []) is
+pub returns-in-None : goal.returns-in-None
+returns-in-None c =
+    none_one (scope_of c.args.scope) (tokens_view c.args.tokens.now) c.in-None.ensures.tells

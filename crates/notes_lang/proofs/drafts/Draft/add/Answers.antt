@@ -50,3 +50,21 @@ returns-in-Entry c says number new p =
     (same note_line_of c.args.self.now.required.items) (same note_line_of c.args.self.now.ensured.items) (same assert_of c.args.self.now.asserts.items)
     (same targets_of c.args.self.now.targets.items)
     (same fixed_of c.args.self.now.fixed.items) p.addresses)
+
+pub returns-in-Version : goal.returns-in-Version
+returns-in-Version c says number new p =
+    rw c.in-Version.is (grows says _ c.args.self.now _ c.args.line number p (sym (append-nil (place_list c.args.self.now.entry)))
+    (same note_line_of c.args.self.now.required.items) (same note_line_of c.args.self.now.ensured.items) (same assert_of c.args.self.now.asserts.items)
+    (same targets_of c.args.self.now.targets.items) (same fixed_of c.args.self.now.fixed.items) p.addresses)
+
+pub returns-in-Const : goal.returns-in-Const
+returns-in-Const c says number new p =
+    rw c.in-Const.is (grows says _ c.args.self.now _ c.args.line number p (sym (append-nil (place_list c.args.self.now.entry)))
+    (same note_line_of c.args.self.now.required.items) (same note_line_of c.args.self.now.ensured.items) (same assert_of c.args.self.now.asserts.items)
+    (same targets_of c.args.self.now.targets.items) (same fixed_of c.args.self.now.fixed.items) p.addresses)
+
+pub returns-in_ok-push-in-Loaded : goal.returns-in_ok-push-in-Loaded
+returns-in_ok-push-in-Loaded c says number new p =
+    rw c.in-Loaded.is (grows says _ c.args.self.now _ c.args.line number p (sym (append-nil (place_list c.args.self.now.entry)))
+    (same note_line_of c.args.self.now.required.items) (same note_line_of c.args.self.now.ensured.items) (same assert_of c.args.self.now.asserts.items)
+    (same targets_of c.args.self.now.targets.items) (more fixed_of c.args.self.now.fixed.items _ _ _ c.in_ok-push-in-Loaded.ensures.items refl) p.addresses)

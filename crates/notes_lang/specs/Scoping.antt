@@ -1,0 +1,34 @@
+-- Scopes, as definitions see them.
+use Rattle.std.specs.Prelude.{ℕ, List, map}
+use Rattle.std.specs.Borrow.{Bor}
+use Rattle.bilv_spec.specs.Scopes as scopes
+use Rattle.notes_lang.specs.declared.scopes.Mode.{Mode}
+use Rattle.notes_lang.specs.declared.scopes.Mode.TheVariants.{Strict, Lenient, Loose}
+use Rattle.notes_lang.specs.declared.scopes.Constant.{Constant}
+use Rattle.notes_lang.specs.declared.scopes.Scope.{Scope}
+use Rattle.notes_lang.specs.Named.{names_of}
+
+-- how a line is read
+abbrev pub mode_of : Mode → scopes.Mode
+mode_of Strict = scopes.Strict
+mode_of Lenient = scopes.Lenient
+mode_of Loose = scopes.Loose
+
+-- a constant
+abbrev pub constant_of : Constant → scopes.Constant
+constant_of c = record { word = c.word.now; number = c.number }
+
+-- a name that is bound
+abbrev pub text_of : Bor (List ℕ) → List ℕ
+text_of w = w.now
+
+-- a scope
+abbrev pub scope_of : Scope → scopes.Scope
+scope_of s = record {
+  names = names_of s.names;
+  consts = map constant_of s.consts.now;
+  bound = map text_of s.bound.now;
+  is_second = s.is_second;
+  is_first = s.is_first;
+  mode = mode_of s.mode;
+}
