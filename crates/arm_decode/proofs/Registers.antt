@@ -4,7 +4,7 @@ use Rattle.std.specs.Prelude.{◌≢◌, ◌==◌, ◌&&◌, ◌||◌, not, if�
 use Rattle.std.proofs.lemmas.Bool.{eqb-true, eqb-false, le-leb, lt-leb}
 use Rattle.std.proofs.lemmas.Bool.Decides.{nat_tests}
 use Rattle.bilv_spec.specs.Words.{bits, sign_extend, is_negative}
-use Rattle.bilv_spec.specs.Arm.{is_computing, is_multiply, is_multiply_long, is_swap, is_transfer, is_halfword, is_block, is_pc_among, by_a_register, bit_i, has_bit, has_offset, is_load, kind_of}
+use Rattle.bilv_spec.specs.Arm.{is_computing, is_multiply, is_multiply_long, is_swap, is_transfer, is_halfword, is_block, is_exchange, is_count, is_pc_among, by_a_register, bit_i, has_bit, has_offset, is_load, kind_of}
 
 left : (a b : Bool) → (a && b) ≡ true → a ≡ true
 left true b h = refl
@@ -66,6 +66,15 @@ not_15 n l h = grind (arith, nat_tests)
 
 pub halfword_d : (w : ℕ) → is_halfword w ≡ true → bits 15 12 w < 15
 halfword_d w h = not_15 (bits 15 12 w) (under_16 _) (right _ _ (left _ _ h))
+
+pub exchange_m : (w : ℕ) → is_exchange w ≡ true → bits 3 0 w < 15
+exchange_m w h = not_15 (bits 3 0 w) (under_16 _) (right _ _ h)
+
+pub count_d : (w : ℕ) → is_count w ≡ true → bits 15 12 w < 15
+count_d w h = not_15 (bits 15 12 w) (under_16 _) (right _ _ (left _ _ h))
+
+pub count_m : (w : ℕ) → is_count w ≡ true → bits 3 0 w < 15
+count_m w h = not_15 (bits 3 0 w) (under_16 _) (right _ _ h)
 
 not_0 : (n : ℕ) → not (n == 0) ≡ true → n ≢ 0
 not_0 n h = grind (arith, nat_tests)

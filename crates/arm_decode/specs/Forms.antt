@@ -11,6 +11,7 @@ use Rattle.arm_decode.specs.declared.forms.TransferFields.{TransferFields}
 use Rattle.arm_decode.specs.declared.forms.HalfwordFields.{HalfwordFields}
 use Rattle.arm_decode.specs.declared.forms.BlockFields.{BlockFields}
 use Rattle.arm_decode.specs.declared.forms.BranchFields.{BranchFields}
+use Rattle.arm_decode.specs.declared.forms.CountFields.{CountFields}
 use Rattle.arm_decode.specs.Parts.{opcode_number, HasOperand, HasAddressing, HasOffset, HasHalfwordOffset, HasHalfwordOp}
 
 -- data processing
@@ -81,3 +82,8 @@ pub record IsBlock (w : ℕ) (x : BlockFields) : Type 0 where
 pub record IsBranch (w : ℕ) (x : BranchFields) : Type 0 where
   pub is_linked : x.is_linked ≡ is_linked w
   pub offset : x.offset ≡ sign_extend 26 32 (4 * bits 23 0 w)
+
+-- CLZ
+pub record IsCount (w : ℕ) (x : CountFields) : Type 0 where
+  pub rd : x.rd.number ≡ field_d w
+  pub rm : x.rm.number ≡ field_m w

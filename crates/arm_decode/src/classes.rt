@@ -1,5 +1,5 @@
 //! The classes of instructions, each a line of the table: words that have a row of it.
-ghost use Rattle.std.specs.Prelude.{◌≡◌, ◌≢◌, true, false, MatchOption};
+ghost use Rattle.std.specs.Prelude.{◌≡◌, ◌≢◌, ◌&&◌, true, false, MatchOption};
 ghost use Rattle.bilv_spec.specs.Arm as rows;
 
 use crate::tests;
@@ -38,17 +38,18 @@ impl Computing {
 #[derive(Clone, Copy, PartialEq, Eq, Debug)]
 pub struct Multiply {
     word: u32,
+    keeps: bool,
     ghost row: { (rows.condition_code word ≢ 15) × (rows.is_multiply word ≡ true) },
 }
 
 impl Multiply {
-    /// The instruction of a word, where it has a row of this class.
-    pub(crate) fn of(word: u32) -> Option<Multiply>
+    /// The instruction of a word, where it has a row of this class; it keeps C and V, or takes them from the choice.
+    pub(crate) fn of(word: u32, keeps: bool) -> Option<Multiply>
         requires { rows.condition_code word ≢ 15 }
-        ensures { MatchOption result (rows.is_multiply word ≡ false) (λ x. x.word ≡ word) }
+        ensures { MatchOption result (rows.is_multiply word ≡ false) (λ x. (x.word ≡ word) × (x.keeps ≡ keeps)) }
     {
         if tests::is_multiply(word) {
-            Some(Multiply { word })
+            Some(Multiply { word, keeps })
         } else {
             None
         }
@@ -62,23 +63,31 @@ impl Multiply {
     {
         self.word
     }
+
+    /// Whether it keeps C and V where it sets the flags; else they are the choice's bits.
+    pub fn keeps(self) -> bool
+        ensures { result ≡ self.keeps }
+    {
+        self.keeps
+    }
 }
 
 /// An instruction of UMULL, UMLAL, SMULL and SMLAL (section A3.5).
 #[derive(Clone, Copy, PartialEq, Eq, Debug)]
 pub struct MultiplyLong {
     word: u32,
+    keeps: bool,
     ghost row: { (rows.condition_code word ≢ 15) × (rows.is_multiply_long word ≡ true) },
 }
 
 impl MultiplyLong {
-    /// The instruction of a word, where it has a row of this class.
-    pub(crate) fn of(word: u32) -> Option<MultiplyLong>
+    /// The instruction of a word, where it has a row of this class; it keeps C and V, or takes them from the choice.
+    pub(crate) fn of(word: u32, keeps: bool) -> Option<MultiplyLong>
         requires { rows.condition_code word ≢ 15 }
-        ensures { MatchOption result (rows.is_multiply_long word ≡ false) (λ x. x.word ≡ word) }
+        ensures { MatchOption result (rows.is_multiply_long word ≡ false) (λ x. (x.word ≡ word) × (x.keeps ≡ keeps)) }
     {
         if tests::is_multiply_long(word) {
-            Some(MultiplyLong { word })
+            Some(MultiplyLong { word, keeps })
         } else {
             None
         }
@@ -91,6 +100,13 @@ impl MultiplyLong {
         ensures row { rows.is_multiply_long result ≡ true }
     {
         self.word
+    }
+
+    /// Whether it keeps C and V where it sets the flags; else they are the choice's bits.
+    pub fn keeps(self) -> bool
+        ensures { result ≡ self.keeps }
+    {
+        self.keeps
     }
 }
 
@@ -269,6 +285,74 @@ impl SoftwareInterrupt {
         ensures same { result ≡ self.word }
         ensures condition { rows.condition_code result ≢ 15 }
         ensures row { rows.is_software_interrupt result ≡ true }
+    {
+        self.word
+    }
+}
+
+/// An instruction of BX (section A4.1.10).
+#[derive(Clone, Copy, PartialEq, Eq, Debug)]
+pub struct Exchange {
+    word: u32,
+    ghost row: { (rows.condition_code word ≢ 15) × (rows.is_exchange word ≡ true) },
+}
+
+impl Exchange {
+    /// The instruction of a word, where it has a row of this class in the profile of a number.
+    #[tactic(auto, using(crate::proofs::Profiles::no_exchange))]
+    pub(crate) fn of(word: u32, profile: u8) -> Option<Exchange>
+        requires { rows.condition_code word ≢ 15 }
+        ensures { MatchOption result ((rows.has_exchange (rows.profile_of profile) && rows.is_exchange word) ≡ false)
+            (λ x. (x.word ≡ word) × (rows.has_exchange (rows.profile_of profile) ≡ true)) }
+    {
+        if !tests::has_exchange(profile) {
+            return None;
+        }
+        if !tests::is_exchange(word) {
+            return None;
+        }
+        Some(Exchange { word })
+    }
+
+    /// Its word.
+    pub fn word(self) -> u32
+        ensures same { result ≡ self.word }
+        ensures condition { rows.condition_code result ≢ 15 }
+        ensures row { rows.is_exchange result ≡ true }
+    {
+        self.word
+    }
+}
+
+/// An instruction of CLZ (section A4.1.13).
+#[derive(Clone, Copy, PartialEq, Eq, Debug)]
+pub struct Count {
+    word: u32,
+    ghost row: { (rows.condition_code word ≢ 15) × (rows.is_count word ≡ true) },
+}
+
+impl Count {
+    /// The instruction of a word, where it has a row of this class in the profile of a number.
+    #[tactic(auto, using(crate::proofs::Profiles::no_count))]
+    pub(crate) fn of(word: u32, profile: u8) -> Option<Count>
+        requires { rows.condition_code word ≢ 15 }
+        ensures { MatchOption result ((rows.is_fifth (rows.profile_of profile) && rows.is_count word) ≡ false)
+            (λ x. (x.word ≡ word) × (rows.is_fifth (rows.profile_of profile) ≡ true)) }
+    {
+        if !tests::is_fifth(profile) {
+            return None;
+        }
+        if !tests::is_count(word) {
+            return None;
+        }
+        Some(Count { word })
+    }
+
+    /// Its word.
+    pub fn word(self) -> u32
+        ensures same { result ≡ self.word }
+        ensures condition { rows.condition_code result ≢ 15 }
+        ensures row { rows.is_count result ≡ true }
     {
         self.word
     }

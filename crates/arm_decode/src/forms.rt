@@ -6,7 +6,8 @@ ghost use Rattle.arm_decode.specs.Forms as forms;
 ghost use Rattle.arm_decode.specs.Parts.{kind_number, HasIndexing, HasOperand, HasAddressing, HasOffset, HasHalfwordOffset, HasHalfwordOp};
 
 use crate::classes::{
-    Block, Branch, Computing, Halfword, Multiply, MultiplyLong, SoftwareInterrupt, Swap, Transfer,
+    Block, Branch, Computing, Count, Exchange, Halfword, Multiply, MultiplyLong, SoftwareInterrupt,
+    Swap, Transfer,
 };
 use crate::fields::{field, is_set};
 use crate::parts::{
@@ -104,6 +105,13 @@ pub struct BranchFields {
     pub is_linked: bool,
     /// What is added to the address and 8, as a word with its sign.
     pub offset: u32,
+}
+
+/// The fields of CLZ: rd takes how many zeros stand above the highest one of rm.
+#[derive(Clone, Copy, PartialEq, Eq, Debug)]
+pub struct CountFields {
+    pub rd: Register,
+    pub rm: Register,
 }
 
 /// The register whose number stands from a bit on.
@@ -459,5 +467,29 @@ impl SoftwareInterrupt {
         ensures { result ≡ bits 23 0 self.word }
     {
         field(self.word(), 23, 0)
+    }
+}
+
+impl Exchange {
+    /// The register that has the target.
+    #[tactic(auto, using(crate::proofs::Registers::exchange_m))]
+    pub fn rm(self) -> Register
+        ensures { result.number ≡ rows.field_m self.word }
+    {
+        register(self.word(), 0)
+    }
+}
+
+impl Count {
+    /// Its fields.
+    #[tactic(auto, using(crate::proofs::Registers::count_d, crate::proofs::Registers::count_m))]
+    pub fn fields(self) -> CountFields
+        ensures { forms.IsCount self.word result }
+    {
+        let word = self.word();
+        CountFields {
+            rd: register(word, 12),
+            rm: register(word, 0),
+        }
     }
 }

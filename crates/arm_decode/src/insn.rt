@@ -5,7 +5,8 @@ ghost use Rattle.arm_decode.specs.Insns.{word_of};
 ghost use Rattle.arm_decode.specs.Parts.{condition_number};
 
 use crate::classes::{
-    Block, Branch, Computing, Halfword, Multiply, MultiplyLong, SoftwareInterrupt, Swap, Transfer,
+    Block, Branch, Computing, Count, Exchange, Halfword, Multiply, MultiplyLong, SoftwareInterrupt,
+    Swap, Transfer,
 };
 use crate::fields::field;
 use crate::parts::Condition;
@@ -22,6 +23,8 @@ pub enum Insn {
     Block(Block),
     Branch(Branch),
     SoftwareInterrupt(SoftwareInterrupt),
+    Exchange(Exchange),
+    Count(Count),
 }
 
 impl Insn {
@@ -40,6 +43,8 @@ impl Insn {
             Insn::Block(x) => x.word(),
             Insn::Branch(x) => x.word(),
             Insn::SoftwareInterrupt(x) => x.word(),
+            Insn::Exchange(x) => x.word(),
+            Insn::Count(x) => x.word(),
         }
     }
 

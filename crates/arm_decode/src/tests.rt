@@ -185,3 +185,36 @@ pub(crate) fn is_software_interrupt(word: u32) -> bool
 {
     field(word, 27, 24) == 15
 }
+
+/// Whether BX has a row in the profile of a number.
+#[tactic(auto, using(crate::proofs::Profiles::exchange_is))]
+pub(crate) fn has_exchange(profile: u8) -> bool
+    ensures { result ≡ rows.has_exchange (rows.profile_of profile) }
+{
+    profile != 0
+}
+
+/// Whether the profile of a number is version 5.
+#[tactic(auto, using(crate::proofs::Profiles::fifth_is))]
+pub(crate) fn is_fifth(profile: u8) -> bool
+    ensures { result ≡ rows.is_fifth (rows.profile_of profile) }
+{
+    profile != 0 && profile != 1
+}
+
+/// Whether the word has a row of BX, in a profile that has it.
+pub(crate) fn is_exchange(word: u32) -> bool
+    ensures { result ≡ rows.is_exchange word }
+{
+    field(word, 27, 4) == 0x12_fff1 && field(word, 3, 0) != 15
+}
+
+/// Whether the word has a row of CLZ, in a profile that has it.
+pub(crate) fn is_count(word: u32) -> bool
+    ensures { result ≡ rows.is_count word }
+{
+    field(word, 27, 16) == 0x16f
+        && field(word, 11, 4) == 0xf1
+        && field(word, 15, 12) != 15
+        && field(word, 3, 0) != 15
+}

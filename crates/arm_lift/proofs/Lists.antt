@@ -1,9 +1,7 @@
--- Lists that do a row in every byte order.
+-- Lists that do a row in every byte order and every profile.
 use Rattle.std.proofs.Common.{IfOk, Result, Ok, Err}
-use Rattle.bilv_spec.specs.Memory.{Endian}
 
--- what is so in every byte order is so in one
-pub in_order : {T E : Type 0} (r : Result T E) (claim : Endian → T → Type 0) (e : Endian) → IfOk r (λ t. (order : Endian) → claim order t) →
-    IfOk r (claim e)
-in_order (Ok t) claim e h = h e
-in_order (Err x) claim e h = tt
+-- what is so in every one is so in one
+pub in_one : {I T E : Type 0} (r : Result T E) (claim : I → T → Type 0) (i : I) → IfOk r (λ t. (i : I) → claim i t) → IfOk r (claim i)
+in_one (Ok t) claim i h = h i
+in_one (Err x) claim i h = tt

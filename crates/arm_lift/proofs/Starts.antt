@@ -4,6 +4,7 @@ use Rattle.std.specs.Prelude.{OnOk, OnErr, nat_lt, slice_index, if◌then◌else
 use Rattle.std.proofs.Math.Path.{fun_ext}
 use Rattle.std.proofs.lemmas.Bool.Decides.{nat_tests}
 use Rattle.bilv_spec.specs.Memory.{Endian}
+use Rattle.bilv_spec.specs.Arm.{Profile}
 use Rattle.bilv_spec.specs.StateText.{arm_layout, register_at}
 use Rattle.arm_step.specs.RegisterFile.{registers_of}
 
@@ -16,12 +17,12 @@ first_register : (b : Bool) (x y : ℕ) → b ≡ false → (if b then x else y)
 first_register false x y e = refl
 first_register true x y e = absurd (cc)
 
-register_is : (e : Endian) (regs : List ℕ) (r : ℕ) → registers_of regs r ≡ register_at (arm_layout e) regs r
-register_is e regs r =
+register_is : (e : Endian) (profile : Profile) (regs : List ℕ) (r : ℕ) → registers_of regs r ≡ register_at (arm_layout e profile) regs r
+register_is e profile regs r =
     let none : nat_lt r 0 ≡ false = grind (arith, nat_tests) in
     let same : r - 0 ≡ r = omega arith in
     sym (first_register (nat_lt r 0) 0 (slice_index regs (r - 0)) none ∙ ap (λ i. slice_index regs i) same)
 
 -- the registers of a start, from r0 on
-pub registers_are : (e : Endian) (regs : List ℕ) → registers_of regs ≡ register_at (arm_layout e) regs
-registers_are e regs = fun_ext (λ r. register_is e regs r)
+pub registers_are : (e : Endian) (profile : Profile) (regs : List ℕ) → registers_of regs ≡ register_at (arm_layout e profile) regs
+registers_are e profile regs = fun_ext (λ r. register_is e profile regs r)

@@ -2,7 +2,7 @@
 use Rattle.std.specs.Prelude.{◌≡◌, refl}
 use Rattle.bilv_spec.specs.Memory.{Endian}
 use Rattle.arm_decode.specs.declared.insn.Insn.{Insn}
-use Rattle.arm_decode.specs.declared.insn.Insn.TheVariants.{Computing, Multiply, MultiplyLong, Swap, Transfer, Halfword, Block, Branch, SoftwareInterrupt}
+use Rattle.arm_decode.specs.declared.insn.Insn.TheVariants.{Computing, Multiply, MultiplyLong, Swap, Transfer, Halfword, Block, Branch, SoftwareInterrupt, Exchange, Count}
 use Rattle.arm_decode.specs.Insns.{row_of}
 
 -- each row has four bytes
@@ -16,3 +16,5 @@ four_bytes e (Halfword x) = refl
 four_bytes e (Block x) = refl
 four_bytes e (Branch x) = refl
 four_bytes e (SoftwareInterrupt x) = refl
+four_bytes e (Exchange x) = refl
+four_bytes e (Count x) = refl

@@ -1,12 +1,13 @@
-//! The byte order that a number says.
+//! The byte order and the form of state texts that numbers say.
 ghost use Rattle.std.specs.Prelude.{◌≡◌};
+ghost use Rattle.bilv_spec.specs.Arm.{profile_of};
 ghost use Rattle.bilv_spec.specs.StateText.{arm_layout};
 ghost use Rattle.byte_mem.specs.Views.{endian_of};
 ghost use Rattle.state_text.specs.Starts.{layout_of};
 ghost use Rattle.arm_lift.specs.Orders.{order_of};
 
 use byte_mem::Endian;
-use state_text::Layout;
+use state_text::{Layout, Profile};
 
 /// The byte order of a number: 0 is little, any other big.
 pub(crate) fn order(big: u8) -> Endian
@@ -19,12 +20,12 @@ pub(crate) fn order(big: u8) -> Endian
     }
 }
 
-/// The form of state texts in a byte order.
-pub(crate) fn layout(order: Endian) -> Layout
-    ensures { layout_of result ≡ arm_layout (endian_of order) }
+/// The form of state texts in the byte order and the profile of numbers.
+pub(crate) fn layout(big: u8, profile: u8) -> Layout
+    ensures { layout_of result ≡ arm_layout (order_of big) (profile_of profile) }
 {
-    match order {
-        Endian::Little => Layout::ArmLittle,
-        Endian::Big => Layout::ArmBig,
+    Layout::Arm {
+        big: big != 0,
+        profile: Profile::of(profile),
     }
 }

@@ -9,17 +9,18 @@ use machine_law::{Cost, FlagUse, Machine, Succ};
 use state_text::{Layout, Start};
 use std::alloc::{AllocError, Global};
 
-/// ARM version 4, in a byte order: little where `BIG` is 0, and else big.
-pub struct Arm<const BIG: u8>;
+/// ARM state in a byte order and a profile: little where `BIG` is 0, and else big; version 4 where `PROFILE` is 0, version 4T where it is 1, and else
+/// version 5.
+pub struct Arm<const BIG: u8, const PROFILE: u8>;
 
-impl<const BIG: u8> Machine for Arm<BIG> {
+impl<const BIG: u8, const PROFILE: u8> Machine for Arm<BIG, PROFILE> {
     ghost use Rattle.std.specs.Prelude.{refl};
     ghost use Rattle.arm_decode.specs.Insns.{row_of};
     ghost use Rattle.arm_lift.specs.Ranges.{in_range};
     ghost use Rattle.arm_step.specs.States.{spare_of};
     ghost use Rattle.bilv_spec.proofs.ArmLawful.{arm_is_lawful};
     ghost use Rattle.bilv_spec.proofs.Fitted.{arm_is_fitted};
-    ghost use Rattle.bilv_spec.specs.Arm.{arm};
+    ghost use Rattle.bilv_spec.specs.Arm.{arm, profile_of};
     ghost use Rattle.bilv_spec.specs.Bil.{RRegisters};
     ghost use Rattle.bilv_spec.specs.StateText.{arm_layout};
     ghost use Rattle.arm_lift.specs.Laws.{four_bytes};
@@ -29,18 +30,18 @@ impl<const BIG: u8> Machine for Arm<BIG> {
 
     type State = State;
 
-    ghost machine = { arm (order_of BIG) };
+    ghost machine = { arm (order_of BIG) (profile_of PROFILE) };
 
     ghost bank = { RRegisters };
 
-    ghost form = { arm_layout (order_of BIG) };
+    ghost form = { arm_layout (order_of BIG) (profile_of PROFILE) };
 
     ghost row = { row_of (order_of BIG) };
 
     ghost spare = { spare_of };
 
     fn decode(word: u32) -> Option<Insn> {
-        arm_decode::decode(word)
+        arm_decode::decode(word, PROFILE)
     }
 
     fn step(insn: &Insn, state: &mut State, choice: u8) -> StepOut {
@@ -84,7 +85,7 @@ impl<const BIG: u8> Machine for Arm<BIG> {
     }
 
     fn layout() -> Layout {
-        layout(order(BIG))
+        layout(BIG, PROFILE)
     }
 
     fn make(start: &Start, pc: u32, memory: Bytes32) -> State {
@@ -99,7 +100,7 @@ impl<const BIG: u8> Machine for Arm<BIG> {
         state.reserve(n)
     }
 
-    ghost lawful = { arm_is_lawful (order_of BIG) };
+    ghost lawful = { arm_is_lawful (order_of BIG) (profile_of PROFILE) };
 
     ghost states = { in_range };
 
@@ -109,5 +110,5 @@ impl<const BIG: u8> Machine for Arm<BIG> {
 
     ghost same_registers = { refl };
 
-    ghost fitted = { arm_is_fitted (order_of BIG) };
+    ghost fitted = { arm_is_fitted (order_of BIG) (profile_of PROFILE) };
 }

@@ -5,7 +5,7 @@ use Rattle.bilv_spec.specs.Words.{bit}
 use Rattle.bilv_spec.specs.Memory.{Endian}
 use Rattle.bilv_spec.specs.State.{State, IsState}
 use Rattle.bilv_spec.specs.Machine.{Row, Successors, Outcome, addresses}
-use Rattle.bilv_spec.specs.Arm.{arm, row_of, flag_use, none, condition_code, condition_flags, condition_reads, is_always, holds}
+use Rattle.bilv_spec.specs.Arm.{V4, arm, row_of, flag_use, none, condition_code, condition_flags, condition_reads, is_always, holds}
 use Rattle.bilv_spec.specs.Bil.{RRegisters, Statements, Empty, If}
 use Rattle.bilv_spec.specs.BilMeaning.{Word, Ending, Ends, RaisesException, OutOfTurns, Wrong, branch_on, execute}
 use Rattle.bilv_spec.specs.BilCounts.{reads_flag, other_loads, byte_stores}
@@ -64,7 +64,7 @@ module _ (m : Endian) (w at v price l t u : ℕ) (effect : State → ℕ → Out
   row = row_from w effect stored reads draws price loads stores next literal
 
   -- the list of a row whose condition may fail
-  tested : (k : Condition) → condition_number k ≡ condition_code w → IsLifting (arm m) RRegisters row at (If (lifts.test k) list Empty Empty)
+  tested : (k : Condition) → condition_number k ≡ condition_code w → IsLifting (arm m V4) RRegisters row at (If (lifts.test k) list Empty Empty)
   tested k code =
       let plain = test_plain k in
       record {
@@ -117,7 +117,7 @@ module _ (m : Endian) (w at v price l t u : ℕ) (effect : State → ℕ → Out
       test_loads m a Al h = rw h refl
 
   -- the list of a row whose condition always holds
-  always : 14 ≡ condition_code w → IsLifting (arm m) RRegisters row at list
+  always : 14 ≡ condition_code w → IsLifting (arm m V4) RRegisters row at list
   always code =
       let ever : is_always w ≡ true = ap (λ n. n == 14) (sym code) in
       record {
@@ -142,7 +142,7 @@ module _ (m : Endian) (w at v price l t u : ℕ) (effect : State → ℕ → Out
       }
 
   -- the list of a row
-  pub conditional_lifting : (k : Condition) → condition_number k ≡ condition_code w → IsLifting (arm m) RRegisters row at (lifts.conditional k list)
+  pub conditional_lifting : (k : Condition) → condition_number k ≡ condition_code w → IsLifting (arm m V4) RRegisters row at (lifts.conditional k list)
   conditional_lifting Eq h = tested Eq h
   conditional_lifting Ne h = tested Ne h
   conditional_lifting Cs h = tested Cs h

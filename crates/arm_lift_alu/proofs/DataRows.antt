@@ -6,7 +6,7 @@ use Rattle.bilv_spec.specs.Words.{bit, bit_at}
 use Rattle.bilv_spec.specs.Memory.{Endian}
 use Rattle.bilv_spec.specs.State.{State, IsState, flag_c, flag_v}
 use Rattle.bilv_spec.specs.Arm as rows
-use Rattle.bilv_spec.specs.Arm.{arm, Result, results, result_at, reg, field_n, field_d, opcode, operand, with_flags, computed_by, on, write, write_by, flag_set, none, condition_code, is_computing}
+use Rattle.bilv_spec.specs.Arm.{V4, arm, Result, results, result_at, reg, field_n, field_d, opcode, operand, with_flags, computed_by, on, write, write_by, flag_set, none, condition_code, is_computing}
 use Rattle.bilv_spec.specs.Bil.{RRegisters, Expression, Statements}
 use Rattle.bilv_spec.specs.BilMeaning.{Word, evaluate, execute}
 use Rattle.bilv_spec.specs.Simulation.{Locals, env_of, position, of_list, of_row, Simulates}
@@ -259,7 +259,7 @@ module _ (m : Endian) (w at : ℕ) (k : Condition) (i : ComputingFields) (code :
   finish : (v : ℕ) (list : Statements) → Simulates (λ s c. rows.computed w s) at list → IsListed v 1 0 list →
       IsUsing (flag_set false read false) (flag_set sets_flags (sets_flags && changes_c) (sets_flags && changes_v))
       (flag_set sets_flags (sets_flags && surely_changes_c) (sets_flags && changes_v)) list →
-      v + 70 ≤ 4096 → IsLifting (arm m) RRegisters (rows.computing w) at (conditional k list)
+      v + 70 ≤ 4096 → IsLifting (arm m V4) RRegisters (rows.computing w) at (conditional k list)
   finish v list runs static using fit =
       conditional_lifting m w at v 4096 0 (λ s c. rows.computed w s) (flag_set false read false)
       (flag_set sets_flags (sets_flags && changes_c) (sets_flags && changes_v))
@@ -292,7 +292,7 @@ module _ (m : Endian) (w at : ℕ) (k : Condition) (i : ComputingFields) (code :
       ∙ sym (ap (of_row l turns) (plain_row w s r t f)) ∙ ap (of_row l turns) (same_result s)
 
   by : (t f : Bool) → lifts.is_test i.opcode ≡ t → i.sets_flags ≡ f →
-      IsLifting (arm m) RRegisters (rows.computing w) at (conditional k (lifts.computed_by t f i at))
+      IsLifting (arm m V4) RRegisters (rows.computing w) at (conditional k (lifts.computed_by t f i at))
   by true f t e =
       let test : rows.is_test w ≡ true = sym (test_is w i.opcode x.opcode) ∙ t in
       finish 3000 (lifts.tested i at) (test_runs test)
@@ -334,5 +334,5 @@ module _ (m : Endian) (w at : ℕ) (k : Condition) (i : ComputingFields) (code :
       needed true h f e = grind (arith, nat_tests)
       needed false h f e = cc
 
-  pub computing_lifting : IsLifting (arm m) RRegisters (rows.computing w) at (conditional k (lifts.computed i at))
+  pub computing_lifting : IsLifting (arm m V4) RRegisters (rows.computing w) at (conditional k (lifts.computed i at))
   computing_lifting = by (lifts.is_test i.opcode) i.sets_flags refl refl

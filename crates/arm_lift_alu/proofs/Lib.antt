@@ -2,6 +2,7 @@ pub mod Plain
 pub mod Lists
 pub mod Conditions
 pub mod Tests
+pub mod Profiles
 pub mod Rows
 pub mod Fetches
 pub mod Accesses
@@ -23,3 +24,5 @@ pub mod Pushed
 pub mod Products
 pub mod Returned
 pub mod LongProducts
+pub mod CountStages
+pub mod Counts

@@ -7,9 +7,10 @@ use Rattle.std.proofs.Math.Path.{fun_ext}
 use Rattle.std.proofs.lemmas.Nat.{mul-mod}
 use Rattle.bilv_spec.specs.Words.{add, sub, mul, bit, bit_at, sign_extend}
 use Rattle.bilv_spec.specs.Memory.{Endian}
-use Rattle.bilv_spec.specs.State.{State, IsState, put, flag_c, flag_v}
+use Rattle.bilv_spec.specs.Machine.{Row, only_next}
+use Rattle.bilv_spec.specs.State.{State, IsState, put, flag_n, flag_z, flag_c, flag_v}
 use Rattle.bilv_spec.specs.Arm as rows
-use Rattle.bilv_spec.specs.Arm.{arm, reg, on, with_flags, flag_set, none, condition_code, accumulates, has_bit, field_n, field_d, field_m, field_s, is_multiply_long}
+use Rattle.bilv_spec.specs.Arm.{V4, arm, reg, on, with_flags, flag_set, none, condition_code, accumulates, has_bit, field_n, field_d, field_m, field_s, is_multiply_long}
 use Rattle.bilv_spec.specs.Bil.{Bits, RRegisters, Expression, Unknown, Statements, Empty, Assign}
 use Rattle.bilv_spec.specs.Bil as bil
 use Rattle.bilv_spec.specs.BilMeaning.{Word, evaluate, execute}
@@ -24,10 +25,10 @@ use Rattle.arm_lift_alu.specs.Operands.{own}
 use Rattle.arm_lift_alu.specs.MultipliedLong as lifts
 use Rattle.arm_lift_alu.proofs.Plain.{IsPlain, own_register, constant_plain, binary_plain, cast_plain, extract_plain, concat_plain, lighter}
 use Rattle.arm_lift_alu.proofs.Lists.{IsListed, IsUsing, empty_listed, shallow}
-use Rattle.arm_lift_alu.proofs.Rows.{conditional_lifting}
-use Rattle.arm_lift_alu.proofs.Flagged.{made, flagged, put_same, register_runs}
+use Rattle.arm_lift_alu.proofs.Rows.{row_from, conditional_lifting}
+use Rattle.arm_lift_alu.proofs.Flagged.{made, flagged, put_same, register_runs, tests_end}
 use Rattle.arm_lift_alu.proofs.Uses.{heavier, register_listed, flag_listed}
-use Rattle.arm_lift_alu.proofs.Products.{own_reg}
+use Rattle.arm_lift_alu.proofs.Products.{own_reg, draws, same_draws, nz}
 
 -- a word in 64 bits, with its sign or without
 abbrev wide_of : Bool → ℕ → ℕ
@@ -169,8 +170,9 @@ module _ (adds k : Bool) (n d m s c turns : ℕ) (l : Locals) (t : State) (is : 
       true_false false p q = cc
 
 -- the flags behind a long product
-abbrev flags_behind : Bool → (ℕ → ℕ) → ℕ → ℕ → ℕ → ℕ
-flags_behind b f v c = if b then with_flags f (bit_at 63 v) (bit (v == 0)) (bit_at 0 c) (bit_at 1 c) else f
+abbrev flags_behind : (set keeps : Bool) → (ℕ → ℕ) → ℕ → ℕ → ℕ → ℕ
+flags_behind b keeps f v c =
+    if b then with_flags f (bit_at 63 v) (bit (v == 0)) (if keeps then f flag_c else bit_at 0 c) (if keeps then f flag_v else bit_at 1 c) else f
 
 four : (f : ℕ → ℕ) (n z c v x y p q : ℕ) → n ≡ x → z ≡ y → c ≡ p → v ≡ q → with_flags f n z c v ≡ with_flags f x y p q
 four f n z c v x y p q h i j k =
@@ -190,17 +192,35 @@ next_bit : (c : ℕ) → c % 2 ^ 2 / 2 ^ 1 % 2 ^ 1 ≡ bit_at 1 c
 next_bit c = omega arith
 
 flags_from : (n d c turns : ℕ) (l : Locals) (t : State) →
-    of_list (execute (lifts.long_flags true n d Empty) c (position l turns None t)) ≡ Finished (position l turns None
+    of_list (execute (lifts.long_flags true false n d Empty) c (position l turns None t)) ≡ Finished (position l turns None
     (flagged t (with_flags t.flags (t.regs n / 2 ^ 31 % 2 ^ 1) (bit ((t.regs n * 2 ^ 32 + t.regs d) == 0)) (c % 2 ^ 1) (c % 2 ^ 2 / 2 ^ 1 % 2 ^ 1))))
 flags_from n d c turns l t = refl
 
-flags_run : (b : Bool) (n d v c turns : ℕ) (l : Locals) (t : State) → t.regs n ≡ v / 2 ^ 32 → t.regs d ≡ v % 2 ^ 32 → v < 2 ^ 64 →
-    of_list (execute (lifts.long_flags b n d Empty) c (position l turns None t)) ≡ Finished (position l turns None (flagged t (flags_behind b t.flags v c)))
-flags_run true n d v c turns l t h i small =
-    flags_from n d c turns l t ∙ ap (λ g. Finished (position l turns None (flagged t g))) (four t.flags _ _ _ _ _ _ _ _
-    (ap (λ x. x / 2 ^ 31 % 2 ^ 1) h ∙ long_sign v small) (ap (λ x. bit ((x * 2 ^ 32 + t.regs d) == 0)) h ∙ ap (λ x. bit ((v / 2 ^ 32 * 2 ^ 32 + x) == 0)) i
-    ∙ ap (λ x. bit (x == 0)) (halves v)) (low_bit c) (next_bit c))
-flags_run false n d v c turns l t h i small = refl
+-- N and Z alone
+signs_from : (n d c turns : ℕ) (l : Locals) (t : State) →
+    of_list (execute (lifts.long_flags true true n d Empty) c (position l turns None t)) ≡ Finished (position l turns None
+    (flagged t (put (put t.flags flag_n (t.regs n / 2 ^ 31 % 2 ^ 1)) flag_z (bit ((t.regs n * 2 ^ 32 + t.regs d) == 0)))))
+signs_from n d c turns l t = refl
+
+flags_run : (b keeps : Bool) (n d v c turns : ℕ) (l : Locals) (t : State) → t.regs n ≡ v / 2 ^ 32 → t.regs d ≡ v % 2 ^ 32 → v < 2 ^ 64 →
+    of_list (execute (lifts.long_flags b keeps n d Empty) c (position l turns None t))
+    ≡ Finished (position l turns None (flagged t (flags_behind b keeps t.flags v c)))
+flags_run true keeps n d v c turns l t h i small =
+    let sign = ap (λ x. x / 2 ^ 31 % 2 ^ 1) h ∙ long_sign v small in
+    let none = ap (λ x. bit ((x * 2 ^ 32 + t.regs d) == 0)) h ∙ ap (λ x. bit ((v / 2 ^ 32 * 2 ^ 32 + x) == 0)) i ∙ ap (λ x. bit (x == 0)) (halves v) in
+    by keeps sign none
+  where
+    by : (keeps : Bool) → t.regs n / 2 ^ 31 % 2 ^ 1 ≡ bit_at 63 v → bit ((t.regs n * 2 ^ 32 + t.regs d) == 0) ≡ bit (v == 0) →
+        of_list (execute (lifts.long_flags true keeps n d Empty) c (position l turns None t))
+        ≡ Finished (position l turns None (flagged t (flags_behind true keeps t.flags v c)))
+    by false sign none =
+        flags_from n d c turns l t
+        ∙ ap (λ g. Finished (position l turns None (flagged t g))) (four t.flags _ _ _ _ _ _ _ _ sign none (low_bit c) (next_bit c))
+    by true sign none =
+        signs_from n d c turns l t
+        ∙ ap (λ g. Finished (position l turns None (flagged t g)))
+        (tests_end false false t.flags _ _ (t.flags flag_c) (t.flags flag_v) (λ e. refl) (λ e. refl) ∙ four t.flags _ _ _ _ _ _ _ _ sign none refl refl)
+flags_run false keeps n d v c turns l t h i small = refl
 
 -- what is said of the list beside its end
 wide_plain : (k : Bool) (r : ℕ) → r < 15 → IsPlain 64 0 none (lifts.wide k r)
@@ -228,9 +248,10 @@ upper_plain true k n m s e g h i p =
 upper_plain false k n m s e g h i p = extract_plain 63 32 64 15552 none _ (lighter 64 12288 15552 none _ (product_plain k m s h i) (omega arith)) refl refl
 
 -- how many unknowns there are
-abbrev drawn : Bool → ℕ
-drawn true = 2
-drawn false = 0
+abbrev drawn : (set keeps : Bool) → ℕ
+drawn true false = 2
+drawn true true = 0
+drawn false keeps = 0
 
 unknown_listed : IsListed 4 0 2
     (Assign (bil.Flag flag_c) (Unknown (Bits 1)) (Assign (bil.Flag flag_v) (bil.Extract 1 1 (Unknown (Bits 2))) Empty))
@@ -249,13 +270,17 @@ unknown_listed = record {
   stored = λ c s. refl;
 }
 
-flags_listed : (b : Bool) (n d : ℕ) → n < 15 → d < 15 → IsListed 72 1 (drawn b) (lifts.long_flags b n d Empty)
-flags_listed true n d h i =
-    flag_listed 3 0 70 1 2 72 none _ _ refl (extract_plain 31 31 32 0 none _ (own_register n none h) refl refl)
-    (flag_listed 2 64 4 1 2 70 none _ _ refl (binary_plain bil.Equal 64 0 0 64 none _ _
+signs_listed : (n d u : ℕ) (rest : Statements) → n < 15 → d < 15 → IsListed 4 1 u rest → IsListed 72 1 u (lifts.long_signs n d rest)
+signs_listed n d u rest h i p =
+    flag_listed 3 0 70 1 u 72 none _ _ refl (extract_plain 31 31 32 0 none _ (own_register n none h) refl refl)
+    (flag_listed 2 64 4 1 u 70 none _ rest refl (binary_plain bil.Equal 64 0 0 64 none _ _
     (concat_plain 32 32 0 0 none _ _ (own_register n none h) (own_register d none i) refl) (constant_plain 64 0 none refl) refl (omega arith))
-    (shallow 1 unknown_listed) (omega arith)) (omega arith)
-flags_listed false n d h i = heavier 0 72 1 0 Empty (shallow 1 empty_listed) (omega arith)
+    p (omega arith)) (omega arith)
+
+flags_listed : (b keeps : Bool) (n d : ℕ) → n < 15 → d < 15 → IsListed 72 1 (drawn b keeps) (lifts.long_flags b keeps n d Empty)
+flags_listed true false n d h i = signs_listed n d 2 _ h i (shallow 1 unknown_listed)
+flags_listed true true n d h i = signs_listed n d 0 Empty h i (heavier 0 4 1 0 Empty (shallow 1 empty_listed) (omega arith))
+flags_listed false keeps n d h i = heavier 0 72 1 0 Empty (shallow 1 empty_listed) (omega arith)
 
 both_listed : (first adds k : Bool) (n d m s w u : ℕ) (rest : Statements) → n < 15 → d < 15 → m < 15 → s < 15 → IsListed w 1 u rest →
     IsListed (18816 + w) 1 u (lifts.both first adds k n d m s rest)
@@ -279,14 +304,29 @@ none_read : (x : Bool) → (x && false) ≡ false
 none_read true = refl
 none_read false = refl
 
-flags_using : (b : Bool) (n d : ℕ) → IsUsing none (flag_set b b b) (flag_set b b b) (lifts.long_flags b n d Empty)
-flags_using true n d = record {
+abbrev flags_of : (set keeps : Bool) → ℕ → Bool
+flags_of b keeps = flag_set b (draws b keeps) (draws b keeps)
+
+flags_using : (b keeps : Bool) (n d : ℕ) → IsUsing none (flags_of b keeps) (flags_of b keeps) (lifts.long_flags b keeps n d Empty)
+flags_using true true n d = record {
+  assigns = λ f few h. sym (nz f few) ∙ h;
+  surely = λ f few h. nz f few ∙ h;
+  reads = λ f a i few r s. refl;
+  reads_first = λ f few. rw (none_read (3 == f)) refl;
+}
+flags_using true false n d = record {
   assigns = λ f few h. sym (all_set f few) ∙ h;
   surely = λ f few h. all_set f few ∙ h;
   reads = λ f a i few r s. refl;
   reads_first = λ f few. rw (none_read (3 == f), none_read ((3 == f) || (2 == f)), none_read ((3 == f) || (2 == f) || (1 == f))) refl;
 }
-flags_using false n d = record {
+flags_using false true n d = record {
+  assigns = λ f few h. cc;
+  surely = λ f few h. cc;
+  reads = λ f a i few r s. refl;
+  reads_first = λ f few. refl;
+}
+flags_using false false n d = record {
   assigns = λ f few h. cc;
   surely = λ f few h. cc;
   reads = λ f a i few r s. refl;
@@ -329,7 +369,7 @@ apart x y h e = let f : (x == y) ≡ true = grind (arith, nat_tests) in no (x ==
     no true p q = cc
     no false p q = cc
 
-module _ (m : Endian) (w at : ℕ) (k : Condition) (i : MultiplyLongFields) (code : condition_number k ≡ condition_code w) (x : IsMultiplyLong w i)
+module _ (m : Endian) (w at : ℕ) (keeps : Bool) (k : Condition) (i : MultiplyLongFields) (code : condition_number k ≡ condition_code w) (x : IsMultiplyLong w i)
     (row : is_multiply_long w ≡ true) where
   abbrev set : Bool
   set = rows.sets_flags w
@@ -341,7 +381,7 @@ module _ (m : Endian) (w at : ℕ) (k : Condition) (i : MultiplyLongFields) (cod
   d = i.lower.number
 
   abbrev list : Bool → Statements
-  list b = lifts.both (i.rs.number == n) i.accumulates i.is_signed n d i.rm.number i.rs.number (lifts.long_flags b n d Empty)
+  list b = lifts.both (i.rs.number == n) i.accumulates i.is_signed n d i.rm.number i.rs.number (lifts.long_flags b keeps n d Empty)
 
   nd : n ≢ d
   nd e = apart (field_n w) (field_d w) (back _ _ (front _ _ (front _ _ row))) (sym x.upper ∙ e ∙ x.lower)
@@ -369,31 +409,37 @@ module _ (m : Endian) (w at : ℕ) (k : Condition) (i : MultiplyLongFields) (cod
 
   -- the row's end from its parts
   abbrev ended : State → (c n d v : ℕ) → State
-  ended s c n d v = record s { regs = put (put s.regs d (v % 2 ^ 32)) n (v / 2 ^ 32); flags = flags_behind set s.flags v c }
+  ended s c n d v = record s { regs = put (put s.regs d (v % 2 ^ 32)) n (v / 2 ^ 32); flags = flags_behind set keeps s.flags v c }
 
-  runs : Simulates (rows.multiplied_long w) at (list set)
+  runs : Simulates (rows.multiplied_long keeps w) at (list set)
   runs = λ s is here c turns few l.
       let v : ℕ = long_of i.accumulates i.is_signed (s.regs n) (s.regs d) (s.regs i.rm.number) (s.regs i.rs.number) in
       let t : State = both_made s n d v in
-      ap of_list (both_run i.accumulates i.is_signed n d i.rm.number i.rs.number c turns l s is nd mn md (lifts.long_flags set n d Empty)
+      ap of_list (both_run i.accumulates i.is_signed n d i.rm.number i.rs.number c turns l s is nd mn md (lifts.long_flags set keeps n d Empty)
       (i.rs.number == n) refl)
-      ∙ flags_run set n d v c turns l t (put_same (put s.regs d (v % 2 ^ 32)) n (v / 2 ^ 32))
+      ∙ flags_run set keeps n d v c turns l t (put_same (put s.regs d (v % 2 ^ 32)) n (v / 2 ^ 32))
       (put_other (put s.regs d (v % 2 ^ 32)) n (v / 2 ^ 32) d (λ e. nd (sym e)) ∙ put_same s.regs d (v % 2 ^ 32)) (omega arith)
       ∙ ap (λ a. of_row l turns (on s (ended s c a d v))) x.upper
       ∙ ap (λ a. of_row l turns (on s (ended s c (field_n w) a v))) x.lower
       ∙ ap (λ a. of_row l turns (on s (ended s c (field_n w) (field_d w) a))) (result_is s)
 
-  none_drawn : (b : Bool) → b ≡ false → drawn b ≡ 0
-  none_drawn false h = refl
-  none_drawn true h = cc
+  none_drawn : (b keeps : Bool) → draws b keeps ≡ false → drawn b keeps ≡ 0
+  none_drawn false keeps h = refl
+  none_drawn true true h = refl
+  none_drawn true false h = cc
 
-  pub multiplied_long_lifting : IsLifting (arm m) RRegisters (rows.multiply_long w) at (conditional k (lifts.multiplied_long i))
+  -- the row, by what is drawn
+  abbrev row_by : Bool → Row
+  row_by x = row_from w (rows.multiplied_long keeps w) none (flag_set set x x) (flag_set set x x) x 20000 only_next
+
+  pub multiplied_long_lifting : IsLifting (arm m V4) RRegisters (rows.multiply_long keeps w) at (conditional k (lifts.multiplied_long keeps i))
   multiplied_long_lifting =
       let first : Bool = i.rs.number == n in
-      subst (λ (b : Bool). IsLifting (arm m) RRegisters (rows.multiply_long w) at (conditional k (list b))) (sym x.sets_flags)
-      (conditional_lifting m w at 18888 20000 (drawn set) (rows.multiplied_long w) none (flag_set set set set) (flag_set set set set) set
-      (rows.multiply_long w).successors (list set) runs
-      (both_listed first i.accumulates i.is_signed n d i.rm.number i.rs.number 72 (drawn set) _ i.upper.in_range i.lower.in_range i.rm.in_range i.rs.in_range
-      (flags_listed set n d i.upper.in_range i.lower.in_range))
-      (both_using first i.accumulates i.is_signed n d i.rm.number i.rs.number (flag_set set set set) _ i.upper.in_range i.lower.in_range i.rm.in_range
-      i.rs.in_range (flags_using set n d)) (none_drawn set) (omega arith) k code)
+      let used : ℕ → Bool = flags_of set keeps in
+      subst (λ (b : Bool). IsLifting (arm m V4) RRegisters (rows.multiply_long keeps w) at (conditional k (list b))) (sym x.sets_flags)
+      (subst (λ (y : Bool). IsLifting (arm m V4) RRegisters (row_by y) at (conditional k (list set))) (same_draws w keeps)
+      (conditional_lifting m w at 18888 20000 (drawn set keeps) (rows.multiplied_long keeps w) none used used (draws set keeps) only_next (list set) runs
+      (both_listed first i.accumulates i.is_signed n d i.rm.number i.rs.number 72 (drawn set keeps) _ i.upper.in_range i.lower.in_range i.rm.in_range
+      i.rs.in_range (flags_listed set keeps n d i.upper.in_range i.lower.in_range))
+      (both_using first i.accumulates i.is_signed n d i.rm.number i.rs.number used _ i.upper.in_range i.lower.in_range i.rm.in_range i.rs.in_range
+      (flags_using set keeps n d)) (none_drawn set keeps) (omega arith) k code))

@@ -3,7 +3,7 @@
 use Rattle.std.proofs.Common.{◌≡◌, ℕ, zero, suc, ◌+◌, ◌-◌, ◌^◌, ◌<◌, ◌≤◌, ◌==◌, min, nat_lt, nat_le, Bool, true, false, ◌&&◌, refl, ap, ◌∙◌, arith, []}
 use Rattle.std.proofs.lemmas.Bool.Decides.{nat_tests}
 use Rattle.bilv_spec.specs.Memory.{Endian}
-use Rattle.bilv_spec.specs.Arm.{arm}
+use Rattle.bilv_spec.specs.Arm.{V4, arm}
 use Rattle.bilv_spec.specs.Bil.{Bits, RRegisters, BilVariable, BinaryOp, Not, CastKind, Expression, Var, Constant, Binary, Unary, Cast, Choose, Extract, Concat, total, size}
 use Rattle.bilv_spec.specs.Bil as bil
 use Rattle.bilv_spec.specs.BilMeaning.{Value, Word, Bytes, Stuck, Env, evaluate}
@@ -14,7 +14,7 @@ use Rattle.arm_lift_alu.specs.Lifted as lifts
 
 -- the machine's variables
 abbrev pub own : Endian → BilVariable → Bool
-own m = is_own (arm m) RRegisters
+own m = is_own (arm m V4) RRegisters
 
 -- an expression of n bits that weighs at most w and reads no flag outside a set
 pub record IsPlain (n w : ℕ) (r : ℕ → Bool) (e : Expression) : Type 0 where

@@ -5,7 +5,7 @@ use Rattle.bilv_spec.specs.Words.{bit}
 use Rattle.bilv_spec.specs.Memory.{Endian}
 use Rattle.bilv_spec.specs.State.{State}
 use Rattle.bilv_spec.specs.Machine.{Row, Successors, Outcome}
-use Rattle.bilv_spec.specs.Arm.{arm, row_of, flag_use, condition_code, condition_flags, condition_reads, is_always, holds, when}
+use Rattle.bilv_spec.specs.Arm.{V4, arm, row_of, flag_use, condition_code, condition_flags, condition_reads, is_always, holds, when}
 use Rattle.bilv_spec.specs.Bil.{RRegisters, Statements, Empty, If}
 use Rattle.bilv_spec.specs.BilMeaning.{Word, Ending, Ends, RaisesException, OutOfTurns, Wrong, then_do, branch_on, execute}
 use Rattle.bilv_spec.specs.BilCounts.{reads_flag}
@@ -79,7 +79,7 @@ under_test : (m : Endian) (w at v price u : ℕ) (k : Condition) (effect : State
     (next : ℕ → Successors)
     (list : Statements) → condition_number k ≡ condition_code w → (condition_number k == 14) ≡ false → Simulates effect at list → IsListed v 1 u list →
     IsUsing reads assigns surely list → (draws ≡ false → u ≡ 0) → v + 70 ≤ price →
-    IsLifting (arm m) RRegisters (row_from w effect reads assigns surely draws price next) at (If (lifts.test k) list Empty Empty)
+    IsLifting (arm m V4) RRegisters (row_from w effect reads assigns surely draws price next) at (If (lifts.test k) list Empty Empty)
 under_test m w at v price u k effect reads assigns surely draws next list code some runs static flags drawn fits =
     let never : is_always w ≡ false = ap (λ n. n == 14) (sym code) ∙ some in
     let plain = test_plain k in
@@ -117,7 +117,7 @@ under_test m w at v price u k effect reads assigns surely draws next list code s
 -- the list of a row whose condition always holds
 always : (m : Endian) (w at v price u : ℕ) (effect : State → ℕ → Outcome) (reads assigns surely : ℕ → Bool) (draws : Bool) (next : ℕ → Successors)
     (list : Statements) → 14 ≡ condition_code w → Simulates effect at list → IsListed v 1 u list → IsUsing reads assigns surely list → (draws ≡ false → u ≡ 0) →
-    v + 70 ≤ price → IsLifting (arm m) RRegisters (row_from w effect reads assigns surely draws price next) at list
+    v + 70 ≤ price → IsLifting (arm m V4) RRegisters (row_from w effect reads assigns surely draws price next) at list
 always m w at v price u effect reads assigns surely draws next list code runs static flags drawn fits =
     let ever : is_always w ≡ true = ap (λ n. n == 14) (sym code) in
     record {
@@ -147,12 +147,12 @@ module _ (m : Endian) (w at v price u : ℕ) (effect : State → ℕ → Outcome
     (runs : Simulates effect at list) (static : IsListed v 1 u list) (flags : IsUsing reads assigns surely list) (drawn : draws ≡ false → u ≡ 0)
     (fits : v + 70 ≤ price) where
   tested : (k : Condition) → condition_number k ≡ condition_code w → (condition_number k == 14) ≡ false →
-      IsLifting (arm m) RRegisters (row_from w effect reads assigns surely draws price next) at (If (lifts.test k) list Empty Empty)
+      IsLifting (arm m V4) RRegisters (row_from w effect reads assigns surely draws price next) at (If (lifts.test k) list Empty Empty)
   tested k code some = under_test m w at v price u k effect reads assigns surely draws next list code some runs static flags drawn fits
 
   -- the list of a row
   pub conditional_lifting : (k : Condition) → condition_number k ≡ condition_code w →
-      IsLifting (arm m) RRegisters (row_from w effect reads assigns surely draws price next) at (lifts.conditional k list)
+      IsLifting (arm m V4) RRegisters (row_from w effect reads assigns surely draws price next) at (lifts.conditional k list)
   conditional_lifting Eq h = tested Eq h refl
   conditional_lifting Ne h = tested Ne h refl
   conditional_lifting Cs h = tested Cs h refl

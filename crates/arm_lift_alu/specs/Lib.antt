@@ -4,3 +4,4 @@ pub mod Computing
 pub mod Before
 pub mod Multiplied
 pub mod MultipliedLong
+pub mod Counted

@@ -54,6 +54,10 @@ abbrev pub branch : (linked : Bool) → (target behind : ℕ) → Statements
 branch true to behind = JumpTo (number to) (Assign (bil.Register RRegisters 14) (number behind) Empty)
 branch false to behind = JumpTo (number to) Empty
 
+-- the list of BX (section A4.1.10): the address is taken as it is
+abbrev pub exchange : ℕ → Statements
+exchange m = JumpTo (Var (bil.Register RRegisters m)) Empty
+
 -- the list of SWI (section A3.14)
 abbrev pub software_interrupt : Statements
 software_interrupt = Raise 3 Empty

@@ -13,11 +13,12 @@ abbrev pub product : (rm rs : ℕ) → Option Register → Expression
 product m s None = Binary bil.Times (own m) (own s)
 product m s (Some r) = Binary bil.Plus (Binary bil.Times (own m) (own s)) (own r.number)
 
--- N and Z of a register; C becomes what nobody knows
-abbrev pub flags_from : (set : Bool) → ℕ → Statements
-flags_from true r = signs (own r) (Assign (bil.Flag flag_c) (Unknown (Bits 1)) Empty)
-flags_from false r = Empty
+-- N and Z of a register; C is kept, or becomes what nobody knows
+abbrev pub flags_from : (set keeps : Bool) → ℕ → Statements
+flags_from true false r = signs (own r) (Assign (bil.Flag flag_c) (Unknown (Bits 1)) Empty)
+flags_from true true r = signs (own r) Empty
+flags_from false keeps r = Empty
 
 -- the list of MUL and MLA
-abbrev pub multiplied : MultiplyFields → Statements
-multiplied i = Assign (bil.Register RRegisters i.rd.number) (product i.rm.number i.rs.number i.addend) (flags_from i.sets_flags i.rd.number)
+abbrev pub multiplied : (keeps : Bool) → MultiplyFields → Statements
+multiplied keeps i = Assign (bil.Register RRegisters i.rd.number) (product i.rm.number i.rs.number i.addend) (flags_from i.sets_flags keeps i.rd.number)

@@ -33,12 +33,19 @@ upper false k n m s was = Extract 63 32 (long_product k m s)
 abbrev pub was_lower : (d m s : ℕ) → Expression
 was_lower d m s = Binary bil.Minus (own d) (lower_product m s)
 
--- N and Z of both registers; C and V become what nobody knows
-abbrev pub long_flags : (set : Bool) → (n d : ℕ) → Statements → Statements
-long_flags true n d rest =
-    Assign (bil.Flag flag_n) (bit_of 31 (own n)) (Assign (bil.Flag flag_z) (Binary bil.Equal (Concat (own n) (own d)) (Constant 64 0))
-    (Assign (bil.Flag flag_c) (Unknown (Bits 1)) (Assign (bil.Flag flag_v) (bit_of 1 (Unknown (Bits 2))) rest)))
-long_flags false n d rest = rest
+-- N and Z of both registers
+abbrev pub long_signs : (n d : ℕ) → Statements → Statements
+long_signs n d rest = Assign (bil.Flag flag_n) (bit_of 31 (own n)) (Assign (bil.Flag flag_z) (Binary bil.Equal (Concat (own n) (own d)) (Constant 64 0)) rest)
+
+-- C and V become what nobody knows
+abbrev pub long_unknown : Statements → Statements
+long_unknown rest = Assign (bil.Flag flag_c) (Unknown (Bits 1)) (Assign (bil.Flag flag_v) (bit_of 1 (Unknown (Bits 2))) rest)
+
+-- N and Z of both registers; C and V are kept, or become what nobody knows
+abbrev pub long_flags : (set keeps : Bool) → (n d : ℕ) → Statements → Statements
+long_flags true false n d rest = long_signs n d (long_unknown rest)
+long_flags true true n d rest = long_signs n d rest
+long_flags false keeps n d rest = rest
 
 -- Both registers are written, and then others. The one that is written first is not read again: the lower one, where the upper one is a factor.
 abbrev pub both : (lower_first adds is_signed : Bool) → (n d m s : ℕ) → Statements → Statements
@@ -48,8 +55,8 @@ both true adds k n d m s rest =
     Assign (bil.Register RRegisters d) (lower adds d m s) (Assign (bil.Register RRegisters n) (upper adds k n m s (was_lower d m s)) rest)
 
 -- the list of a long multiply
-abbrev pub multiplied_long : MultiplyLongFields → Statements
-multiplied_long i =
+abbrev pub multiplied_long : (keeps : Bool) → MultiplyLongFields → Statements
+multiplied_long keeps i =
     let n = i.upper.number in
     let d = i.lower.number in
-    both (i.rs.number == n) i.accumulates i.is_signed n d i.rm.number i.rs.number (long_flags i.sets_flags n d Empty)
+    both (i.rs.number == n) i.accumulates i.is_signed n d i.rm.number i.rs.number (long_flags i.sets_flags keeps n d Empty)

@@ -1,4 +1,4 @@
-//! Branches and SWI.
+//! Branches, BX and SWI.
 ghost use Rattle.std.specs.Prelude.{◌≡◌, IfOk};
 ghost use Rattle.bilv_spec.specs.Arm as rows;
 ghost use Rattle.bilv_spec.specs.Arm.{arm};
@@ -10,7 +10,8 @@ ghost use Rattle.arm_lift_alu.specs.Lifted as lifts;
 
 use crate::conditional::{conditional, one};
 use crate::expressions::number;
-use arm_decode::{Branch, Insn, SoftwareInterrupt};
+use crate::shifter::own;
+use arm_decode::{Branch, Exchange, Insn, SoftwareInterrupt};
 use bil_ast::{Bank, Stmt, Var};
 use std::alloc::{AllocError, Global};
 
@@ -27,9 +28,10 @@ fn branch(alloc: Global, linked: bool, target: u32, behind: u32) -> Result<Vec<S
     Ok(list)
 }
 
-/// The list of B or BL that stands at an address, in either byte order. The error is want of memory.
+/// The list of B or BL that stands at an address, in either byte order and every profile. The error is want of memory.
 pub fn lift_branch(alloc: Global, insn: &Branch, at: u32) -> Result<Vec<Stmt>, AllocError>
-    ensures { IfOk result (λ list. (order : memory.Endian) → IsLifting (arm order) RRegisters (rows.branch insn.now.word) at (statements list.items)) }
+    ensures { IfOk result (λ list. (order : memory.Endian) (profile : rows.Profile) →
+        IsLifting (arm order profile) RRegisters (rows.branch insn.now.word) at (statements list.items)) }
 {
     let condition = Insn::Branch(*insn).condition();
     let linked = insn.fields().is_linked;
@@ -37,14 +39,25 @@ pub fn lift_branch(alloc: Global, insn: &Branch, at: u32) -> Result<Vec<Stmt>, A
     conditional(alloc, condition, list)
 }
 
-/// The list of SWI that stands at an address, in either byte order. The error is want of memory.
+/// The list of BX that stands at an address, in either byte order and every profile: a jump to the register's word as it is (section A4.1.10). The error is
+/// want of memory.
+pub fn lift_exchange(alloc: Global, insn: &Exchange, at: u32) -> Result<Vec<Stmt>, AllocError>
+    ensures { IfOk result (λ list. (order : memory.Endian) (profile : rows.Profile) →
+        IsLifting (arm order profile) RRegisters (rows.exchange insn.now.word) at (statements list.items)) }
+{
+    let condition = Insn::Exchange(*insn).condition();
+    let list = one(alloc, Stmt::Jump(own(insn.rm().number())))?;
+    conditional(alloc, condition, list)
+}
+
+/// The list of SWI that stands at an address, in either byte order and every profile. The error is want of memory.
 pub fn lift_software_interrupt(
     alloc: Global,
     insn: &SoftwareInterrupt,
     at: u32,
 ) -> Result<Vec<Stmt>, AllocError>
-    ensures { IfOk result (λ list. (order : memory.Endian) → IsLifting (arm order) RRegisters (rows.software_interrupt insn.now.word) at
-        (statements list.items)) }
+    ensures { IfOk result (λ list. (order : memory.Endian) (profile : rows.Profile) →
+        IsLifting (arm order profile) RRegisters (rows.software_interrupt insn.now.word) at (statements list.items)) }
 {
     let condition = Insn::SoftwareInterrupt(*insn).condition();
     let list = one(alloc, Stmt::Raise(3))?;

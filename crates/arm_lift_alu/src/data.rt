@@ -369,9 +369,10 @@ fn computed(alloc: Global, insn: ComputingFields, at: u32) -> Result<Vec<Stmt>, 
     }
 }
 
-/// The list of data processing that stands at an address, in either byte order. The error is want of memory.
+/// The list of data processing that stands at an address, in either byte order and every profile. The error is want of memory.
 pub fn lift_computing(alloc: Global, insn: &Computing, at: u32) -> Result<Vec<Stmt>, AllocError>
-    ensures { IfOk result (λ list. (order : memory.Endian) → IsLifting (arm order) RRegisters (rows.computing insn.now.word) at (statements list.items)) }
+    ensures { IfOk result (λ list. (order : memory.Endian) (profile : rows.Profile) →
+        IsLifting (arm order profile) RRegisters (rows.computing insn.now.word) at (statements list.items)) }
 {
     let condition = Insn::Computing(*insn).condition();
     let list = computed(alloc, insn.fields(), at)?;

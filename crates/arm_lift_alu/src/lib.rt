@@ -5,13 +5,15 @@
 
 mod branching;
 pub mod conditional;
+mod counting;
 mod data;
 pub mod expressions;
 mod multiplying;
 mod multiplying_long;
 pub mod shifter;
 
-pub use branching::{lift_branch, lift_software_interrupt};
+pub use branching::{lift_branch, lift_exchange, lift_software_interrupt};
+pub use counting::lift_count;
 pub use data::lift_computing;
 pub use multiplying::lift_multiply;
 pub use multiplying_long::lift_multiply_long;

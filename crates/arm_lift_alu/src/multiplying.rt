@@ -32,8 +32,8 @@ fn product(alloc: Global, insn: MultiplyFields) -> Result<Exp, AllocError>
 }
 
 /// The list of MUL and MLA where its condition holds.
-fn multiplied(alloc: Global, insn: MultiplyFields) -> Result<Vec<Stmt>, AllocError>
-    ensures { IfOk result (λ list. statements list.items ≡ lifts.multiplied insn) }
+fn multiplied(alloc: Global, insn: MultiplyFields, keeps: bool) -> Result<Vec<Stmt>, AllocError>
+    ensures { IfOk result (λ list. statements list.items ≡ lifts.multiplied keeps insn) }
 {
     let rd = insn.rd.number();
     let value = product(alloc, insn)?;
@@ -46,16 +46,20 @@ fn multiplied(alloc: Global, insn: MultiplyFields) -> Result<Vec<Stmt>, AllocErr
     let zero = Exp::binary(alloc, BinaryOp::Equal, own(rd), number(0))?;
     list.push(Stmt::Assign(Var::Flag(3), negative))?;
     list.push(Stmt::Assign(Var::Flag(2), zero))?;
+    if keeps {
+        return Ok(list);
+    }
     let unknown = Exp::Unknown(BilType::Bits(Width::new(1)));
     list.push(Stmt::Assign(Var::Flag(1), unknown))?;
     Ok(list)
 }
 
-/// The list of MUL or MLA that stands at an address, in either byte order. The error is want of memory.
+/// The list of MUL or MLA that stands at an address, in either byte order and every profile. The error is want of memory.
 pub fn lift_multiply(alloc: Global, insn: &Multiply, at: u32) -> Result<Vec<Stmt>, AllocError>
-    ensures { IfOk result (λ list. (order : memory.Endian) → IsLifting (arm order) RRegisters (rows.multiply insn.now.word) at (statements list.items)) }
+    ensures { IfOk result (λ list. (order : memory.Endian) (profile : rows.Profile) →
+        IsLifting (arm order profile) RRegisters (rows.multiply insn.now.keeps insn.now.word) at (statements list.items)) }
 {
     let condition = Insn::Multiply(*insn).condition();
-    let list = multiplied(alloc, insn.fields())?;
+    let list = multiplied(alloc, insn.fields(), insn.keeps())?;
     conditional(alloc, condition, list)
 }

@@ -105,14 +105,14 @@ fn both(alloc: Global, insn: MultiplyLongFields) -> Result<Vec<Stmt>, AllocError
     Ok(list)
 }
 
-/// N and Z of both registers; C and V become what nobody knows.
-fn push_flags(
+/// N and Z of both registers.
+fn push_signs(
     alloc: Global,
     list: &mut Vec<Stmt>,
     insn: MultiplyLongFields,
 ) -> Result<(), AllocError>
     ensures { OnOk result ((z : bil.Statements) → before list.new.items z
-        ≡ before list.old.items (lifts.long_flags true insn.upper.number insn.lower.number z)) }
+        ≡ before list.old.items (lifts.long_signs insn.upper.number insn.lower.number z)) }
 {
     let negative = bit_of(alloc, 31, own(insn.upper.number()))?;
     let word = Exp::concat(alloc, own(insn.upper.number()), own(insn.lower.number()))?;
@@ -122,9 +122,15 @@ fn push_flags(
         word,
         Exp::Constant(Word::new(64, 0)),
     )?;
-    let overflow = bit_of(alloc, 1, Exp::Unknown(BilType::Bits(Width::new(2))))?;
     add(list, Stmt::Assign(Var::Flag(3), negative))?;
-    add(list, Stmt::Assign(Var::Flag(2), zero))?;
+    add(list, Stmt::Assign(Var::Flag(2), zero))
+}
+
+/// C and V become what nobody knows.
+fn push_unknown(alloc: Global, list: &mut Vec<Stmt>) -> Result<(), AllocError>
+    ensures { OnOk result ((z : bil.Statements) → before list.new.items z ≡ before list.old.items (lifts.long_unknown z)) }
+{
+    let overflow = bit_of(alloc, 1, Exp::Unknown(BilType::Bits(Width::new(2))))?;
     add(
         list,
         Stmt::Assign(Var::Flag(1), Exp::Unknown(BilType::Bits(Width::new(1)))),
@@ -133,28 +139,36 @@ fn push_flags(
 }
 
 /// The list of a long multiply where its condition holds.
-fn multiplied_long(alloc: Global, insn: MultiplyLongFields) -> Result<Vec<Stmt>, AllocError>
-    ensures { IfOk result (λ list. statements list.items ≡ lifts.multiplied_long insn) }
+fn multiplied_long(
+    alloc: Global,
+    insn: MultiplyLongFields,
+    keeps: bool,
+) -> Result<Vec<Stmt>, AllocError>
+    ensures { IfOk result (λ list. statements list.items ≡ lifts.multiplied_long keeps insn) }
 {
     let mut list = both(alloc, insn)?;
     if !insn.sets_flags {
         return Ok(list);
     }
-    push_flags(alloc, &mut list, insn)?;
+    push_signs(alloc, &mut list, insn)?;
+    if keeps {
+        return Ok(list);
+    }
+    push_unknown(alloc, &mut list)?;
     Ok(list)
 }
 
-/// The list of UMULL, UMLAL, SMULL or SMLAL that stands at an address, in either byte order: 64-bit product and sum (section A3.5). The error is want of
-/// memory.
+/// The list of UMULL, UMLAL, SMULL or SMLAL that stands at an address, in either byte order and every profile: 64-bit product and sum (section A3.5). The error
+/// is want of memory.
 pub fn lift_multiply_long(
     alloc: Global,
     insn: &MultiplyLong,
     at: u32,
 ) -> Result<Vec<Stmt>, AllocError>
-    ensures { IfOk result (λ list. (order : memory.Endian) → IsLifting (arm order) RRegisters (rows.multiply_long insn.now.word) at
-        (statements list.items)) }
+    ensures { IfOk result (λ list. (order : memory.Endian) (profile : rows.Profile) →
+        IsLifting (arm order profile) RRegisters (rows.multiply_long insn.now.keeps insn.now.word) at (statements list.items)) }
 {
     let condition = Insn::MultiplyLong(*insn).condition();
-    let list = multiplied_long(alloc, insn.fields())?;
+    let list = multiplied_long(alloc, insn.fields(), insn.keeps())?;
     conditional(alloc, condition, list)
 }

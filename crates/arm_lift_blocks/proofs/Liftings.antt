@@ -10,7 +10,7 @@ use Rattle.bilv_spec.specs.Memory.{Endian, span}
 use Rattle.bilv_spec.specs.State.{State, IsState}
 use Rattle.bilv_spec.specs.Machine.{Row, addresses}
 use Rattle.bilv_spec.specs.Arm as rows
-use Rattle.bilv_spec.specs.Arm.{arm, has_bit, is_load, is_up, is_pre, bit_w, field_n, listed, listed_from, condition_code, may_write_pc, block_start, block_done, holds, none, when_stored}
+use Rattle.bilv_spec.specs.Arm.{Profile, V4, arm, has_bit, is_load, is_up, is_pre, bit_w, field_n, listed, listed_from, condition_code, may_write_pc, block_start, block_done, holds, none, when_stored}
 use Rattle.bilv_spec.specs.Bil.{RRegisters, Statements}
 use Rattle.bilv_spec.specs.BilStores.{list_stored}
 use Rattle.bilv_spec.specs.Simulation.{Locals, position}
@@ -24,6 +24,7 @@ use Rattle.arm_decode.specs.Parts.{condition_number}
 use Rattle.arm_lift_alu.specs.Lifted.{conditional}
 use Rattle.arm_lift_alu.proofs.Accesses.{IsAccess, spare}
 use Rattle.arm_lift_alu.proofs.AccessRows.{row_from, conditional_lifting}
+use Rattle.arm_lift_alu.proofs.Profiles.{in_profile}
 use Rattle.arm_lift_blocks.specs.Lifted as lifts
 use Rattle.arm_lift_blocks.proofs.Parts.{written_part, base_part, place_bytes, place_is_word, other_bytes, all_bytes, loads_part, drawn, stores_part}
 use Rattle.arm_lift_blocks.proofs.Listed.{are_registers, few_listed, none_drawn}
@@ -103,7 +104,7 @@ skipped_bytes : (held stores : Bool) (bytes : ℕ × ℕ) → held ≡ false →
 skipped_bytes held stores bytes h = rw h refl
 
 lifting_by : (load : Bool) (e : Endian) (w at : ℕ) (k : Condition) → field_n w < 15 → condition_number k ≡ condition_code w →
-    IsLifting (arm e) RRegisters (row_by load e w) at (conditional k (list_by load e w at))
+    IsLifting (arm e V4) RRegisters (row_by load e w) at (conditional k (list_by load e w at))
 lifting_by true e w at k few code =
     let n : ℕ = length (listed w) in
     let static = load_part e w at few in
@@ -155,13 +156,14 @@ pub returned : (e : Endian) (w at n : ℕ) (k : Condition) (x : BlockFields) (li
     IsBlock w x → condition_number k ≡ condition_code w → n ≡ 16 →
     list ≡ lifts.block x.is_load e x.writes_back x.is_up x.is_before x.rn.number at (listed_from x.list.bits 0 n) →
     IfOk r (λ all. statements all.items ≡ conditional k list) →
-    IfOk r (λ all. IsLifting (arm e) RRegisters (rows.block e w) at (statements all.items))
+    IfOk r (λ all. (profile : Profile) → IsLifting (arm e profile) RRegisters (rows.block e w) at (statements all.items))
 returned e w at n k x list (Ok all) h code whole same made =
     let few : field_n w < 15 = subst (λ (r : ℕ). r < 15) h.rn x.rn.in_range in
     let registers : listed_from x.list.bits 0 n ≡ listed w = ap (listed_from x.list.bits 0) whole ∙ same_listed x.list.bits w 16 h.list (omega arith) in
     let is : list ≡ list_by (is_load w) e w at = same ∙ same_block e w at x h (listed_from x.list.bits 0 n) registers in
-    subst (λ (z : Statements). IsLifting (arm e) RRegisters (rows.block e w) at z) (sym (made ∙ ap (conditional k) is))
-    (lifting_by (is_load w) e w at k few code)
+    λ p. in_profile e p (rows.block e w) at (statements all.items)
+    (subst (λ (z : Statements). IsLifting (arm e V4) RRegisters (rows.block e w) at z) (sym (made ∙ ap (conditional k) is))
+    (lifting_by (is_load w) e w at k few code))
 returned e w at n k x list (Err error) h code whole same made = tt
 
 -- the list of LDM, where it is one

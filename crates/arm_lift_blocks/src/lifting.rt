@@ -80,7 +80,8 @@ pub fn lift_block(
     at: u32,
     order: Endian,
 ) -> Result<Vec<Stmt>, AllocError>
-    ensures { IfOk result (λ list. IsLifting (arm (endian_of order)) RRegisters (rows.block (endian_of order) insn.now.word) at (statements list.items)) }
+    ensures { IfOk result (λ list. (profile : rows.Profile) →
+        IsLifting (arm (endian_of order) profile) RRegisters (rows.block (endian_of order) insn.now.word) at (statements list.items)) }
 {
     let condition = Insn::Block(*insn).condition();
     let list = transferring(alloc, insn.fields(), 16, order, at)?;

@@ -6,7 +6,7 @@ use Rattle.bilv_spec.specs.Memory.{Endian, Memory, load, store}
 use Rattle.bilv_spec.specs.State.{State, IsState, put}
 use Rattle.bilv_spec.specs.Machine.{Outcome, Raises, OddHalfword, addresses}
 use Rattle.bilv_spec.specs.Arm as rows
-use Rattle.bilv_spec.specs.Arm.{arm, reg, on, field_d, is_load, is_halfword, writes_back, base_written, halfword_size, halfword_value, halfword_by, halfword_done, halfword_address, halfword_offset, halfword, condition_code, holds, when_stored, none}
+use Rattle.bilv_spec.specs.Arm.{V4, arm, reg, on, field_d, is_load, is_halfword, writes_back, base_written, halfword_size, halfword_value, halfword_by, halfword_done, halfword_address, halfword_offset, halfword, condition_code, holds, when_stored, none}
 use Rattle.bilv_spec.specs.Bil.{RRegisters, Mem, CastKind, Expression, Var, Load, Store, Cast, Statements, Empty, Assign}
 use Rattle.bilv_spec.specs.Bil as bil
 use Rattle.bilv_spec.specs.BilMeaning.{Word, Bytes, Position, Ends, RaisesException, branch_on, then_do, evaluate, execute}
@@ -169,7 +169,7 @@ module _ (m : Endian) (w at : ℕ) (k : Condition) (i : HalfwordFields) (code : 
   lifting : (l t : ℕ) (list : Statements) → Simulates (λ s c. halfword_done m w s) at list → IsAccess 600 l t 0 none list →
       ((s : State) → IsState s → s.pc ≡ at → holds w s ≡ true → (c turns : ℕ) (k : Locals) →
       list_stored list c (position k turns None s) ≡ addresses ((halfword m w).stored s)) →
-      l ≤ (halfword m w).cost.loads → t ≤ (halfword m w).cost.stores → IsLifting (arm m) RRegisters (halfword m w) at (conditional k list)
+      l ≤ (halfword m w).cost.loads → t ≤ (halfword m w).cost.stores → IsLifting (arm m V4) RRegisters (halfword m w) at (conditional k list)
   lifting l t list runs static places loads stores =
       conditional_lifting m w at 600 4096 l t 0 (λ s c. halfword_done m w s) (halfword m w).stored none false (halfword m w).cost.loads (halfword m w).cost.stores
       (halfword m w).successors (halfword m w).literal list runs static places
@@ -236,7 +236,7 @@ module _ (m : Endian) (w at : ℕ) (k : Condition) (i : HalfwordFields) (code : 
   half_lifting : (p : HalfwordOp) (g : CastKind) → HasHalfwordOp w p → size_of p ≡ 2 → is_load w ≡ true → IsFetch 32 64 2 0 none (half_expression g) →
       ((s : State) → IsState s → s.pc ≡ at → (c : ℕ) (l : Locals) →
       evaluate (half_expression g) c (env_of l (based w s (moved_by s))) ≡ Word 32 (value_of p m s.mem (place s))) →
-      IsLifting (arm m) RRegisters (halfword m w) at
+      IsLifting (arm m V4) RRegisters (halfword m w) at
       (conditional k (parts.unless (lifts.is_odd (lifts.place i base offset)) 4 (lifts.load_list i (half_expression g) offset)))
   half_lifting p g h two e f v =
       lifting 2 0 _ (half_runs p g h two e v) (half_static g f) (λ s is here held c turns k. no_places 2 _ (half_static g f) e s c turns k)
@@ -256,7 +256,7 @@ module _ (m : Endian) (w at : ℕ) (k : Condition) (i : HalfwordFields) (code : 
       spare _ _ _ _ 600 1 0 0 _ _ (load_static 1 byte_expression (cast_fetch bil.Signed 32 8 64 1 0 none _ (load_fetch 8 64 m none _ address_again refl) refl))
       (omega arith) (omega arith) (omega arith) (omega arith)
 
-  byte_lifting : HasHalfwordOp w Ldrsb → IsLifting (arm m) RRegisters (halfword m w) at (conditional k (lifts.load_list i byte_expression offset))
+  byte_lifting : HasHalfwordOp w Ldrsb → IsLifting (arm m V4) RRegisters (halfword m w) at (conditional k (lifts.load_list i byte_expression offset))
   byte_lifting h =
       lifting 1 0 _ (byte_runs h) byte_static (λ s is here held c turns k. no_places 1 _ byte_static h.0 s c turns k)
       (loads_of (is_load w) (halfword_size w) 1 h.0 (size_is w Ldrsb h)) (omega arith)
@@ -321,14 +321,14 @@ module _ (m : Endian) (w at : ℕ) (k : Condition) (i : HalfwordFields) (code : 
       )
 
   store_lifting : HasHalfwordOp w Strh →
-      IsLifting (arm m) RRegisters (halfword m w) at (conditional k (parts.unless (lifts.is_odd (lifts.place i base offset)) 4 write_list))
+      IsLifting (arm m V4) RRegisters (halfword m w) at (conditional k (parts.unless (lifts.is_odd (lifts.place i base offset)) 4 write_list))
   store_lifting h =
       lifting 0 2 _ (store_runs h) store_static (λ s is here held c turns k. store_places h.0 s here held c turns k) (omega arith) (stores_of (is_load w) h.0)
 
-  pub halfword_lifting : IsLifting (arm m) RRegisters (halfword m w) at (conditional k (lifts.halfword i m at))
+  pub halfword_lifting : IsLifting (arm m V4) RRegisters (halfword m w) at (conditional k (lifts.halfword i m at))
   halfword_lifting = by i.op x.op
     where
-      by : (p : HalfwordOp) → HasHalfwordOp w p → IsLifting (arm m) RRegisters (halfword m w) at (conditional k (lifts.access_by p i m base offset))
+      by : (p : HalfwordOp) → HasHalfwordOp w p → IsLifting (arm m V4) RRegisters (halfword m w) at (conditional k (lifts.access_by p i m base offset))
       by Ldrh h = half_lifting Ldrh bil.Unsigned h refl h.0 (half_fetch bil.Unsigned refl) (λ s is here c l. rw (again c s is here l) refl)
       by Ldrsb h = byte_lifting h
       by Ldrsh h = half_lifting Ldrsh bil.Signed h refl h.0 (half_fetch bil.Signed refl) (λ s is here c l. rw (again c s is here l) refl)

@@ -9,7 +9,7 @@ use Rattle.bilv_spec.specs.Memory.{Endian, Little, Big}
 use Rattle.bilv_spec.specs.State.{State, put, with_pc}
 use Rattle.bilv_spec.specs.Machine.{Goes, Indirect}
 use Rattle.bilv_spec.specs.Arm as rows
-use Rattle.bilv_spec.specs.Arm.{arm, reg, on, field_n, field_d, bit_i, is_load, is_byte, is_up, is_transfer, writes_back, base_written, load_by, load_word, access_of, transferred, loaded_by, write_by, transfer_address, transfer_offset, single_transfer, literal_address, condition_code, holds}
+use Rattle.bilv_spec.specs.Arm.{V4, arm, reg, on, field_n, field_d, bit_i, is_load, is_byte, is_up, is_transfer, writes_back, base_written, load_by, load_word, access_of, transferred, loaded_by, write_by, transfer_address, transfer_offset, single_transfer, literal_address, condition_code, holds}
 use Rattle.bilv_spec.specs.Bil.{RRegisters, Mem, Var, Constant, Load, Statements, Empty, Assign, JumpTo}
 use Rattle.bilv_spec.specs.Bil as bil
 use Rattle.bilv_spec.specs.BilMeaning.{assign, assigned, then_do, execute}
@@ -98,7 +98,7 @@ module _ (m : Endian) (w at : ℕ) (k : Condition) (code : condition_number k �
       tests = rw (loads, byte, by_number, kept, base) refl
 
   lifting : (v : ℕ) (list : Statements) → Simulates (transferred (is_load w) m w) at list → IsAccess v 4 0 0 (offset_reads w) list → v + 70 ≤ 4096 →
-      other_loads m (words.aligned a) list ≡ 0 → byte_stores list ≡ 0 → IsLifting (arm m) RRegisters (single_transfer m w) at (conditional k list)
+      other_loads m (words.aligned a) list ≡ 0 → byte_stores list ≡ 0 → IsLifting (arm m V4) RRegisters (single_transfer m w) at (conditional k list)
   lifting v list runs static fits alone stores =
       conditional_lifting m w at v 4096 4 0 0 (transferred (is_load w) m w) (single_transfer m w).stored (offset_reads w) (single_transfer m w).draws
       (single_transfer m w).cost.loads (single_transfer m w).cost.stores (single_transfer m w).successors (literal_address w) list runs static
@@ -164,7 +164,7 @@ module _ (m : Endian) (w at : ℕ) (k : Condition) (code : condition_number k �
       fits y = let t : nat_lt (8 * (y % 4)) (2 ^ 64) ≡ true = grind (arith, nat_tests) in t
 
   by : (pc even : Bool) (d : ℕ) → d ≡ field_d w → d < 16 → (field_d w == 15) ≡ pc → (a % 4 == 0) ≡ even →
-      IsLifting (arm m) RRegisters (single_transfer m w) at (conditional k (list pc even d))
+      IsLifting (arm m V4) RRegisters (single_transfer m w) at (conditional k (list pc even d))
   by pc even d name small e t =
       let less : pc ≡ false → d < 15 = λ h. below d small (ap (λ d. d == 15) name ∙ e ∙ h) in
       lifting 600 (list pc even d) (runs pc even d name e t) (static pc even d less) (omega arith) (alone pc even) (unstored pc even)
@@ -185,7 +185,7 @@ module _ (m : Endian) (w at : ℕ) (k : Condition) (code : condition_number k �
       unstored false false = refl
 
   pub literal_lifting : (d : ℕ) → d ≡ field_d w → d < 16 →
-      IsLifting (arm m) RRegisters (single_transfer m w) at (conditional k (lifts.literal_list (d == 15) (a % 4 == 0) m d a))
+      IsLifting (arm m V4) RRegisters (single_transfer m w) at (conditional k (lifts.literal_list (d == 15) (a % 4 == 0) m d a))
   literal_lifting d name small = by (d == 15) (a % 4 == 0) d name small (ap (λ d. d == 15) (sym name)) refl
 
 -- the write-back of a word
@@ -235,10 +235,10 @@ module _ (m : Endian) (w at : ℕ) (k : Condition) (i : TransferFields) (code : 
       ∙ ap (λ b. is_load w && not (is_byte w) && (field_n w == 15) && not b) (writes_back_is w i.addressing.indexing x.addressing.1)
 
   -- an access that is no literal's load
-  access : literal_address w at ≡ None → IsLifting (arm m) RRegisters (single_transfer m w) at (conditional k (lifts.transfer_by None i m at))
+  access : literal_address w at ≡ None → IsLifting (arm m V4) RRegisters (single_transfer m w) at (conditional k (lifts.transfer_by None i m at))
   access none = by i.is_load (i.rd.number == 15) x.is_load (ap (λ d. d == 15) x.rd)
     where
-      by : (load pc : Bool) → load ≡ is_load w → pc ≡ (field_d w == 15) → IsLifting (arm m) RRegisters (single_transfer m w) at
+      by : (load pc : Bool) → load ≡ is_load w → pc ≡ (field_d w == 15) → IsLifting (arm m V4) RRegisters (single_transfer m w) at
           (conditional k (lifts.access_by load pc i m at (register i.rn.number at) (parts.offset_of i.offset at)))
       by true false h e = load_lifting m w at k i code x row (sym h) (sym e) none
       by true true h e = pc_lifting m w at k i code x row (sym h) (sym e) none
@@ -248,7 +248,7 @@ module _ (m : Endian) (w at : ℕ) (k : Condition) (i : TransferFields) (code : 
   unless_literal b h = rw h refl
 
   whole : (b : Bool) (o : offsets.Offset) → HasOffset w o → test ≡ b →
-      IsLifting (arm m) RRegisters (single_transfer m w) at (conditional k (lifts.transfer_by (lifts.literal_by b i.addressing.is_up o at) i m at))
+      IsLifting (arm m V4) RRegisters (single_transfer m w) at (conditional k (lifts.transfer_by (lifts.literal_by b i.addressing.is_up o at) i m at))
   whole true (offset.Number z) h t =
       let t : (is_load w && not (is_byte w) && (field_n w == 15) && not (writes_back w)) ≡ true = sym same_test ∙ t in
       literal_lifting m w at k code row (front _ _ (front _ _ (front _ _ t))) (not_true _ (back _ _ (front _ _ (front _ _ t))))
@@ -257,5 +257,5 @@ module _ (m : Endian) (w at : ℕ) (k : Condition) (i : TransferFields) (code : 
       access (unless_literal _ (ap (λ b. is_load w && not b && not (is_byte w) && (field_n w == 15) && not (writes_back w)) h.0 ∙ no_number _ _ _ _))
   whole false o h t = access (unless_literal _ (not_literal (is_load w) (not (bit_i w)) _ _ _ (sym same_test ∙ t)))
 
-  pub transfer_lifting : IsLifting (arm m) RRegisters (single_transfer m w) at (conditional k (lifts.transfer i m at))
+  pub transfer_lifting : IsLifting (arm m V4) RRegisters (single_transfer m w) at (conditional k (lifts.transfer i m at))
   transfer_lifting = whole test i.offset x.offset refl

@@ -9,7 +9,7 @@ use Rattle.bilv_spec.specs.Words.{add, sub}
 use Rattle.bilv_spec.specs.Memory.{Endian, Little, Big, Memory, load, store, number, byte_of}
 use Rattle.bilv_spec.specs.State.{State, IsState, put}
 use Rattle.bilv_spec.specs.Machine.{addresses}
-use Rattle.bilv_spec.specs.Arm.{arm, reg, on, field_n, field_d, field_m, is_byte, is_swap, load_by, store_by, access_of, swapped, swap, condition_code, holds, when_stored, none}
+use Rattle.bilv_spec.specs.Arm.{V4, arm, reg, on, field_n, field_d, field_m, is_byte, is_swap, load_by, store_by, access_of, swapped, swap, condition_code, holds, when_stored, none}
 use Rattle.bilv_spec.specs.Bil.{RRegisters, Expression, Binary, Statements, Empty}
 use Rattle.bilv_spec.specs.Bil as bil
 use Rattle.bilv_spec.specs.BilMeaning.{Word, Bytes, evaluate}
@@ -189,7 +189,7 @@ module _ (m : Endian) (w at : ℕ) (k : Condition) (i : SwapFields) (code : cond
   lifting : (v l : ℕ) (list : Statements) → Simulates (λ s c. swapped m w s) at list → IsAccess v l (bytes_of b) 0 none list →
       ((s : State) → IsState s → s.pc ≡ at → (c turns : ℕ) (k : Locals) →
       list_stored list c (position k turns None s) ≡ addresses (Some (access_of b (place s)))) →
-      v + 70 ≤ 4096 → l ≤ (swap m w).cost.loads → IsLifting (arm m) RRegisters (swap m w) at (conditional k list)
+      v + 70 ≤ 4096 → l ≤ (swap m w).cost.loads → IsLifting (arm m V4) RRegisters (swap m w) at (conditional k list)
   lifting v l list runs static places fits loads =
       conditional_lifting m w at v 4096 l (bytes_of b) 0 (λ s c. swapped m w s) (swap m w).stored none false (swap m w).cost.loads (swap m w).cost.stores
       (swap m w).successors (swap m w).literal list runs static
@@ -240,7 +240,7 @@ module _ (m : Endian) (w at : ℕ) (k : Condition) (i : SwapFields) (code : cond
       at_most : (u v y : ℕ) → u ≡ v → y ≡ v → u ≤ y
       at_most u v y e f = omega arith
 
-  apart_lifting : (d == q) ≡ false → IsLifting (arm m) RRegisters (swap m w) at (conditional k apart_list)
+  apart_lifting : (d == q) ≡ false → IsLifting (arm m V4) RRegisters (swap m w) at (conditional k apart_list)
   apart_lifting h =
       let t : (q == d) ≡ false = turned d q h in
       lifting 1216 (bytes_of b) apart_list (apart_runs t) apart_static (apart_places t) (omega arith) (loads_apart h)
@@ -343,13 +343,13 @@ module _ (m : Endian) (w at : ℕ) (k : Condition) (i : SwapFields) (code : cond
       at_most : (u v y : ℕ) → u ≡ v → y ≡ 3 * v → u + u + u ≤ y
       at_most u v y e f = omega arith
 
-  same_lifting : (d == q) ≡ true → IsLifting (arm m) RRegisters (swap m w) at (conditional k same_list)
+  same_lifting : (d == q) ≡ true → IsLifting (arm m V4) RRegisters (swap m w) at (conditional k same_list)
   same_lifting h =
       lifting 1472 (bytes_of b + bytes_of b + bytes_of b) same_list (same_runs (sym (eqb-true d q h))) same_static same_places (omega arith) (loads_same h)
 
-  pub swap_lifting : IsLifting (arm m) RRegisters (swap m w) at (conditional k (lifts.swap i m))
+  pub swap_lifting : IsLifting (arm m V4) RRegisters (swap m w) at (conditional k (lifts.swap i m))
   swap_lifting = by (d == q) refl
     where
-      by : (t : Bool) → (d == q) ≡ t → IsLifting (arm m) RRegisters (swap m w) at (conditional k (lifts.swap_by t b m n d q))
+      by : (t : Bool) → (d == q) ≡ t → IsLifting (arm m V4) RRegisters (swap m w) at (conditional k (lifts.swap_by t b m n d q))
       by true h = same_lifting h
       by false h = apart_lifting h

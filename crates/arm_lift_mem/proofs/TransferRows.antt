@@ -8,7 +8,7 @@ use Rattle.bilv_spec.specs.Memory.{Endian, Memory, load}
 use Rattle.bilv_spec.specs.State.{State, IsState, put, with_pc}
 use Rattle.bilv_spec.specs.Machine.{Goes, Indirect, addresses}
 use Rattle.bilv_spec.specs.Arm as rows
-use Rattle.bilv_spec.specs.Arm.{arm, reg, stored_reg, on, has_bit, field_d, is_load, is_byte, is_transfer, writes_back, base_written, load_by, load_word, store_by, access_of, transferred, loaded_by, write_by, transfer_address, transfer_offset, single_transfer, literal_address, condition_code, holds, when_stored}
+use Rattle.bilv_spec.specs.Arm.{V4, arm, reg, stored_reg, on, has_bit, field_d, is_load, is_byte, is_transfer, writes_back, base_written, load_by, load_word, store_by, access_of, transferred, loaded_by, write_by, transfer_address, transfer_offset, single_transfer, literal_address, condition_code, holds, when_stored}
 use Rattle.bilv_spec.specs.Bil.{RRegisters, Mem, Expression, Var, Load, Statements, Empty, JumpTo}
 use Rattle.bilv_spec.specs.Bil as bil
 use Rattle.bilv_spec.specs.BilMeaning.{Word, Position, Ends, RaisesException, choose, branch_on, then_do, execute}
@@ -188,7 +188,7 @@ module _ (m : Endian) (w at : ℕ) (k : Condition) (i : TransferFields) (code : 
       ((s : State) → IsState s → s.pc ≡ at → holds w s ≡ true → (c turns : ℕ) (k : Locals) →
       list_stored list c (position k turns None s) ≡ addresses ((single_transfer m w).stored s)) →
       ((single_transfer m w).draws ≡ false → u ≡ 0) → literal_address w at ≡ None → v + 70 ≤ 4096 → l ≤ (single_transfer m w).cost.loads →
-      t ≤ (single_transfer m w).cost.stores → IsLifting (arm m) RRegisters (single_transfer m w) at (conditional k list)
+      t ≤ (single_transfer m w).cost.stores → IsLifting (arm m V4) RRegisters (single_transfer m w) at (conditional k list)
   lifting v l t u list runs static places drawn none fits loads stores =
       conditional_lifting m w at v 4096 l t u (transferred (is_load w) m w) (single_transfer m w).stored (offset_reads w) (single_transfer m w).draws
       (single_transfer m w).cost.loads (single_transfer m w).cost.stores (single_transfer m w).successors (literal_address w) list runs static places
@@ -225,7 +225,7 @@ module _ (m : Endian) (w at : ℕ) (k : Condition) (i : TransferFields) (code : 
       (omega arith) (omega arith) (omega arith) (omega arith)
 
   pub load_lifting : is_load w ≡ true → (field_d w == 15) ≡ false → literal_address w at ≡ None →
-      IsLifting (arm m) RRegisters (single_transfer m w) at (conditional k load_list)
+      IsLifting (arm m V4) RRegisters (single_transfer m w) at (conditional k load_list)
   load_lifting h e none =
       let less : d < 15 = below d i.rd.in_range (ap (λ d. d == 15) x.rd ∙ e) in
       let static = load_static less in
@@ -284,7 +284,7 @@ module _ (m : Endian) (w at : ℕ) (k : Condition) (i : TransferFields) (code : 
       (omega arith) (omega arith) (omega arith) (omega arith)
 
   pub pc_lifting : is_load w ≡ true → (field_d w == 15) ≡ true → literal_address w at ≡ None →
-      IsLifting (arm m) RRegisters (single_transfer m w) at (conditional k pc_list)
+      IsLifting (arm m V4) RRegisters (single_transfer m w) at (conditional k pc_list)
   pc_lifting h e none =
       lifting 1866 4 0 0 pc_list (pc_runs h e) pc_static
       (λ s is here held c turns l. pc_static.stored refl c _ ∙ sym (none_stored (holds w s) (is_load w) (access_of (is_byte w) (transfer_address w s)) h))
@@ -346,7 +346,7 @@ module _ (m : Endian) (w at : ℕ) (k : Condition) (i : TransferFields) (code : 
       ∙ all_stored (holds w s) (is_load w) (access_of (is_byte w) (transfer_address w s)) held h
       )
 
-  pub store_lifting : is_load w ≡ false → literal_address w at ≡ None → IsLifting (arm m) RRegisters (single_transfer m w) at (conditional k store_list)
+  pub store_lifting : is_load w ≡ false → literal_address w at ≡ None → IsLifting (arm m V4) RRegisters (single_transfer m w) at (conditional k store_list)
   store_lifting h none =
       lifting 1280 0 (bytes_of i.is_byte) (unknowns_of (d == 15)) store_list (store_runs h) store_static (store_places h)
       (λ z. drawn_by (is_load w) (d == 15) h (ap (λ q. not (is_load w) && (q == 15)) x.rd ∙ z)) none (omega arith) (omega arith)

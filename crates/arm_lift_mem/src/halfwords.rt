@@ -124,7 +124,8 @@ pub fn lift_halfword(
     at: u32,
     order: Endian,
 ) -> Result<Vec<Stmt>, AllocError>
-    ensures { IfOk result (λ list. IsLifting (arm (endian_of order)) RRegisters (rows.halfword (endian_of order) insn.now.word) at (statements list.items)) }
+    ensures { IfOk result (λ list. (profile : rows.Profile) →
+        IsLifting (arm (endian_of order) profile) RRegisters (rows.halfword (endian_of order) insn.now.word) at (statements list.items)) }
 {
     let condition = Insn::Halfword(*insn).condition();
     let list = halfword(alloc, insn.fields(), order, at)?;

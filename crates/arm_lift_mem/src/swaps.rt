@@ -107,7 +107,8 @@ pub fn lift_swap(
     at: u32,
     order: Endian,
 ) -> Result<Vec<Stmt>, AllocError>
-    ensures { IfOk result (λ list. IsLifting (arm (endian_of order)) RRegisters (rows.swap (endian_of order) insn.now.word) at (statements list.items)) }
+    ensures { IfOk result (λ list. (profile : rows.Profile) →
+        IsLifting (arm (endian_of order) profile) RRegisters (rows.swap (endian_of order) insn.now.word) at (statements list.items)) }
 {
     let condition = Insn::Swap(*insn).condition();
     let list = swap(alloc, insn.fields(), order)?;

@@ -224,8 +224,8 @@ pub fn lift_transfer(
     at: u32,
     order: Endian,
 ) -> Result<Vec<Stmt>, AllocError>
-    ensures { IfOk result (λ list. IsLifting (arm (endian_of order)) RRegisters (rows.single_transfer (endian_of order) insn.now.word) at
-        (statements list.items)) }
+    ensures { IfOk result (λ list. (profile : rows.Profile) →
+        IsLifting (arm (endian_of order) profile) RRegisters (rows.single_transfer (endian_of order) insn.now.word) at (statements list.items)) }
 {
     let condition = Insn::Transfer(*insn).condition();
     let list = transfer(alloc, insn.fields(), order, at)?;

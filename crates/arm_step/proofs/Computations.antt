@@ -1,11 +1,12 @@
 -- Steps of data processing and of multiplies, by the states between.
 use Rattle.std.proofs.Common.{◌≡◌, ℕ, ◌/◌, ◌%◌, ◌^◌, ap, subst, ◌∙◌, Bool, true, false, arith}
 use Rattle.std.specs.Prelude.{◌==◌, if◌then◌else◌}
+use Rattle.std.specs.Int.Count.{count_leading_zeros}
 use Rattle.std.proofs.Math.Nat.{div-div-eq-div-mul}
 use Rattle.bilv_spec.specs.Words.{add, bit, bit_at}
-use Rattle.bilv_spec.specs.State.{State, put, with_pc, flag_v}
+use Rattle.bilv_spec.specs.State.{State, put, with_pc, flag_c, flag_v}
 use Rattle.bilv_spec.specs.Machine.{Outcome}
-use Rattle.bilv_spec.specs.Arm.{Shifted, Result, reg, results, result_at, operand, opcode, is_test, sets_flags, with_flags, flags_of, computed, write, field_n, field_d, multiplied, multiplied_long}
+use Rattle.bilv_spec.specs.Arm.{Shifted, Result, reg, results, result_at, operand, opcode, is_test, sets_flags, with_flags, flags_of, computed, write, field_n, field_d, field_m, multiplied, multiplied_long, counted}
 use Rattle.byte_mem.specs.declared.StepOut.{StepOut}
 use Rattle.byte_mem.specs.declared.StepOut.TheVariants.{Next}
 use Rattle.byte_mem.specs.Views.{IsStep}
@@ -63,32 +64,47 @@ set_and_on s mid last new f g r d v u a b h i j k =
     h ∙ ap (λ t. with_pc t (add 32 t.pc 4)) (b ∙ ap (λ t. let x : State = record t { regs = put t.regs r v } in x) a)
     ∙ ap (λ f. made f r v) i ∙ ap (λ r. made g r v) j ∙ ap (made g d) k
 
-pub multiplies : (w c : ℕ) (s mid last new : State) (out : StepOut) (sets : Bool) (n z y v rd value : ℕ) →
+-- a flag that is kept, or that is drawn
+pub kept_flag : (keeps : Bool) (r o d x y : ℕ) → r ≡ (if keeps then o else d) → o ≡ x → d ≡ y → r ≡ (if keeps then x else y)
+kept_flag true r o d x y e p q = e ∙ p
+kept_flag false r o d x y e p q = e ∙ q
+
+pub counts : (w v rd : ℕ) (s last new : State) (out : StepOut) → last ≡ record s { regs = put s.regs rd (count_leading_zeros 32 v) } →
+    new ≡ with_pc last (add 32 last.pc 4) → out ≡ Next → rd ≡ field_d w → v ≡ reg s (field_m w) → IsStep s new out (counted w s)
+counts w v rd s last new out a h o r m =
+    let made : ℕ → ℕ → State = λ r v. with_pc (record s { regs = put s.regs r (count_leading_zeros 32 v) }) (add 32 s.pc 4) in
+    (h ∙ ap (λ t. with_pc t (add 32 t.pc 4)) a ∙ ap (λ r. made r v) r ∙ ap (made (field_d w)) m, o)
+
+pub multiplies : (keeps : Bool) (w c : ℕ) (s mid last new : State) (out : StepOut) (sets : Bool) (n z y v rd value : ℕ) →
     mid ≡ record s { flags = (if sets then with_flags s.flags n z y v else s.flags) } → last ≡ record mid { regs = put mid.regs rd value } →
-    new ≡ with_pc last (add 32 last.pc 4) → out ≡ Next → sets ≡ sets_flags w → n ≡ bit_at 31 value → z ≡ bit (value == 0) → y ≡ bit_at 0 c →
+    new ≡ with_pc last (add 32 last.pc 4) → out ≡ Next → sets ≡ sets_flags w → n ≡ bit_at 31 value → z ≡ bit (value == 0) → y ≡ (if keeps then s.flags flag_c else bit_at 0 c) →
     v ≡ s.flags flag_v →
-    rd ≡ field_n w → value ≡ short_product w s → IsStep s new out (multiplied w s c)
-multiplies w c s mid last new out sets n z y v rd value a b h o i j k l m r e =
-    let x = short_product w s in (
-      set_and_on s mid last new _ (if sets_flags w then with_flags s.flags (bit_at 31 x) (bit (x == 0)) (bit_at 0 c) (s.flags flag_v)
+    rd ≡ field_n w → value ≡ short_product w s → IsStep s new out (multiplied keeps w s c)
+multiplies keeps w c s mid last new out sets n z y v rd value a b h o i j k l m r e =
+    let x = short_product w s in
+    let carry : ℕ = if keeps then s.flags flag_c else bit_at 0 c in (
+      set_and_on s mid last new _ (if sets_flags w then with_flags s.flags (bit_at 31 x) (bit (x == 0)) carry (s.flags flag_v)
           else s.flags) rd (field_n w) value x a b h
-          (flags_from s.flags sets (sets_flags w) n (bit_at 31 x) z (bit (x == 0)) y (bit_at 0 c) v (s.flags flag_v) i (j ∙ ap (bit_at 31) e) (k ∙ ap
+          (flags_from s.flags sets (sets_flags w) n (bit_at 31 x) z (bit (x == 0)) y carry v (s.flags flag_v) i (j ∙ ap (bit_at 31) e) (k ∙ ap
           (λ t. bit (t == 0)) e) l m) r e,
       o,
     )
 
-pub multiplies_long : (w c : ℕ) (s mid low last new : State) (out : StepOut) (sets : Bool) (n z y v lower upper value : ℕ) →
+pub multiplies_long : (keeps : Bool) (w c : ℕ) (s mid low last new : State) (out : StepOut) (sets : Bool) (n z y v lower upper value : ℕ) →
     mid ≡ record s { flags = (if sets then with_flags s.flags n z y v else s.flags) } → low ≡ record mid { regs = put mid.regs lower (value % 2 ^ 32) } →
     last ≡ record low { regs = put low.regs upper (value / 2 ^ 32) } →
-    new ≡ with_pc last (add 32 last.pc 4) → out ≡ Next → sets ≡ sets_flags w → n ≡ bit_at 63 value → z ≡ bit (value == 0) → y ≡ bit_at 0 c → v ≡ bit_at 1 c →
-    lower ≡ field_d w → upper ≡ field_n w → value ≡ long_product w s → IsStep s new out (multiplied_long w s c)
-multiplies_long w c s mid low last new out sets n z y v lower upper value a q b h o i j k l m p r e =
+    new ≡ with_pc last (add 32 last.pc 4) → out ≡ Next → sets ≡ sets_flags w → n ≡ bit_at 63 value → z ≡ bit (value == 0) →
+    y ≡ (if keeps then s.flags flag_c else bit_at 0 c) → v ≡ (if keeps then s.flags flag_v else bit_at 1 c) →
+    lower ≡ field_d w → upper ≡ field_n w → value ≡ long_product w s → IsStep s new out (multiplied_long keeps w s c)
+multiplies_long keeps w c s mid low last new out sets n z y v lower upper value a q b h o i j k l m p r e =
     let x = long_product w s in
+    let carry : ℕ = if keeps then s.flags flag_c else bit_at 0 c in
+    let overflow : ℕ = if keeps then s.flags flag_v else bit_at 1 c in
     let made : (ℕ → ℕ) → ℕ → ℕ → ℕ → State =
     λ f d u v. with_pc (record s { regs = put (put s.regs d (v % 2 ^ 32)) u (v / 2 ^ 32); flags = f }) (add 32 s.pc 4) in
     let f : ℕ → ℕ = if sets then with_flags s.flags n z y v else s.flags in
-    let g : ℕ → ℕ = if sets_flags w then with_flags s.flags (bit_at 63 x) (bit (x == 0)) (bit_at 0 c) (bit_at 1 c) else s.flags in
-    let same : f ≡ g = flags_from s.flags sets (sets_flags w) n (bit_at 63 x) z (bit (x == 0)) y (bit_at 0 c) v (bit_at 1 c) i (j ∙ ap (bit_at 63) e) (k ∙ ap
+    let g : ℕ → ℕ = if sets_flags w then with_flags s.flags (bit_at 63 x) (bit (x == 0)) carry overflow else s.flags in
+    let same : f ≡ g = flags_from s.flags sets (sets_flags w) n (bit_at 63 x) z (bit (x == 0)) y carry v overflow i (j ∙ ap (bit_at 63) e) (k ∙ ap
     (λ t. bit (t == 0)) e) l m in (
       h ∙ ap (λ t. with_pc t (add 32 t.pc 4)) (b ∙ ap (λ t. let x : State = record t { regs = put t.regs upper (value / 2 ^ 32) } in x)
           (q ∙ ap (λ t. let x : State = record t { regs = put t.regs lower (value % 2 ^ 32) } in x) a))

@@ -7,7 +7,7 @@ use Rattle.bilv_spec.specs.Arm.{with_flags, flag_set}
 use Rattle.machine_law.specs.declared.facts.FlagUse.{FlagUse}
 use Rattle.machine_law.specs.Facts.{IsFlagUse}
 use Rattle.arm_decode.specs.declared.insn.Insn.{Insn}
-use Rattle.arm_decode.specs.declared.insn.Insn.TheVariants.{Computing, Multiply, MultiplyLong, Swap, Transfer, Halfword, Block, Branch, SoftwareInterrupt}
+use Rattle.arm_decode.specs.declared.insn.Insn.TheVariants.{Computing, Multiply, MultiplyLong, Swap, Transfer, Halfword, Block, Branch, SoftwareInterrupt, Exchange, Count}
 use Rattle.arm_decode.specs.Insns.{row_of}
 use Rattle.arm_step.specs.FlagSets.{read_of, sure_of, sets_of, assigns_c_of, assigns_v_of}
 
@@ -79,6 +79,8 @@ row_reads e (Halfword x) f = refl
 row_reads e (Block x) f = refl
 row_reads e (Branch x) f = refl
 row_reads e (SoftwareInterrupt x) f = refl
+row_reads e (Exchange x) f = refl
+row_reads e (Count x) f = refl
 
 row_assigns : (e : Endian) (i : Insn) (f : ℕ) → flag_set (sets_of i) (assigns_c_of i) (assigns_v_of i) f ≡ (row_of e i).flags.assigns f
 row_assigns e (Computing x) f = refl
@@ -90,6 +92,8 @@ row_assigns e (Halfword x) f = refl
 row_assigns e (Block x) f = refl
 row_assigns e (Branch x) f = refl
 row_assigns e (SoftwareInterrupt x) f = refl
+row_assigns e (Exchange x) f = refl
+row_assigns e (Count x) f = refl
 
 row_surely : (e : Endian) (i : Insn) (f : ℕ) → sure_of i f ≡ (row_of e i).flags.surely f
 row_surely e (Computing x) f = refl
@@ -101,6 +105,8 @@ row_surely e (Halfword x) f = refl
 row_surely e (Block x) f = refl
 row_surely e (Branch x) f = refl
 row_surely e (SoftwareInterrupt x) f = refl
+row_surely e (Exchange x) f = refl
+row_surely e (Count x) f = refl
 
 pub use_is : (e : Endian) (i : Insn) (found : FlagUse) → found.reads < 16 → found.assigns < 16 → found.surely < 16 →
     ((f : ℕ) → f < 4 → (bit_at f found.reads == 1) ≡ read_of i f) →

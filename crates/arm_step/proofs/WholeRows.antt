@@ -11,7 +11,7 @@ use Rattle.byte_mem.specs.declared.StepOut.TheVariants.{Next, Jump}
 use Rattle.byte_mem.specs.declared.How.TheVariants.{Direct, DirectCall}
 use Rattle.byte_mem.specs.Views.{IsStep}
 use Rattle.arm_decode.specs.declared.insn.Insn.{Insn}
-use Rattle.arm_decode.specs.declared.insn.Insn.TheVariants.{Computing, Multiply, MultiplyLong, Swap, Transfer, Halfword, Block, Branch, SoftwareInterrupt}
+use Rattle.arm_decode.specs.declared.insn.Insn.TheVariants.{Computing, Multiply, MultiplyLong, Swap, Transfer, Halfword, Block, Branch, SoftwareInterrupt, Exchange, Count}
 use Rattle.arm_decode.specs.Insns.{row_of, word_of}
 use Rattle.arm_step.specs.Actions.{action_of, stores_of}
 
@@ -25,6 +25,8 @@ row_effect e (Halfword x) s c = refl
 row_effect e (Block x) s c = refl
 row_effect e (Branch x) s c = refl
 row_effect e (SoftwareInterrupt x) s c = refl
+row_effect e (Exchange x) s c = refl
+row_effect e (Count x) s c = refl
 
 when_true : (b : Bool) (s new : State) (out : StepOut) (o : Outcome) → b ≡ true → IsStep s new out o → IsStep s new out (when b s o)
 when_true b s new out o h k = rw h k
@@ -52,6 +54,8 @@ stores_then e (Halfword x) s h = rw h refl
 stores_then e (Block x) s h = rw h refl
 stores_then e (Branch x) s h = refl
 stores_then e (SoftwareInterrupt x) s h = refl
+stores_then e (Exchange x) s h = refl
+stores_then e (Count x) s h = refl
 
 pub stores_not : (e : Endian) (i : Insn) (s : State) → holds (word_of i) s ≡ false → None ≡ (row_of e i).stored s
 stores_not e (Computing x) s h = refl
@@ -63,6 +67,8 @@ stores_not e (Halfword x) s h = rw h refl
 stores_not e (Block x) s h = rw h refl
 stores_not e (Branch x) s h = refl
 stores_not e (SoftwareInterrupt x) s h = refl
+stores_not e (Exchange x) s h = refl
+stores_not e (Count x) s h = refl
 
 pub block_stored : (w : ℕ) (s : State) (a k : ℕ) → is_load w ≡ false → a ≡ block_start w s → k ≡ length (listed w) →
     Some (a, 4 * k) ≡ when_stored (not (is_load w)) (block_start w s, 4 * length (listed w))

@@ -19,6 +19,8 @@ reads_carry_of (insn.Halfword x) = false
 reads_carry_of (insn.Block x) = false
 reads_carry_of (insn.Branch x) = false
 reads_carry_of (insn.SoftwareInterrupt x) = false
+reads_carry_of (insn.Exchange x) = false
+reads_carry_of (insn.Count x) = false
 
 -- it assigns N and Z
 abbrev pub sets_of : Insn → Bool
@@ -31,42 +33,50 @@ sets_of (insn.Halfword x) = false
 sets_of (insn.Block x) = false
 sets_of (insn.Branch x) = false
 sets_of (insn.SoftwareInterrupt x) = false
+sets_of (insn.Exchange x) = false
+sets_of (insn.Count x) = false
 
 -- it may assign C
 abbrev pub assigns_c_of : Insn → Bool
 assigns_c_of (insn.Computing x) = rows.sets_flags x.word && not (rows.is_logical x.word && rows.keeps_carry x.word)
-assigns_c_of (insn.Multiply x) = rows.sets_flags x.word
-assigns_c_of (insn.MultiplyLong x) = rows.sets_flags x.word
+assigns_c_of (insn.Multiply x) = rows.by_choice x.keeps x.word
+assigns_c_of (insn.MultiplyLong x) = rows.by_choice x.keeps x.word
 assigns_c_of (insn.Swap x) = false
 assigns_c_of (insn.Transfer x) = false
 assigns_c_of (insn.Halfword x) = false
 assigns_c_of (insn.Block x) = false
 assigns_c_of (insn.Branch x) = false
 assigns_c_of (insn.SoftwareInterrupt x) = false
+assigns_c_of (insn.Exchange x) = false
+assigns_c_of (insn.Count x) = false
 
 -- it assigns V
 abbrev pub assigns_v_of : Insn → Bool
 assigns_v_of (insn.Computing x) = rows.sets_flags x.word && not (rows.is_logical x.word)
 assigns_v_of (insn.Multiply x) = false
-assigns_v_of (insn.MultiplyLong x) = rows.sets_flags x.word
+assigns_v_of (insn.MultiplyLong x) = rows.by_choice x.keeps x.word
 assigns_v_of (insn.Swap x) = false
 assigns_v_of (insn.Transfer x) = false
 assigns_v_of (insn.Halfword x) = false
 assigns_v_of (insn.Block x) = false
 assigns_v_of (insn.Branch x) = false
 assigns_v_of (insn.SoftwareInterrupt x) = false
+assigns_v_of (insn.Exchange x) = false
+assigns_v_of (insn.Count x) = false
 
 -- it assigns C whatever the state is, where its condition always holds
 abbrev pub surely_c_of : Insn → Bool
 surely_c_of (insn.Computing x) = rows.sets_flags x.word && not (rows.is_logical x.word && (rows.keeps_carry x.word || rows.by_a_register x.word))
-surely_c_of (insn.Multiply x) = rows.sets_flags x.word
-surely_c_of (insn.MultiplyLong x) = rows.sets_flags x.word
+surely_c_of (insn.Multiply x) = rows.by_choice x.keeps x.word
+surely_c_of (insn.MultiplyLong x) = rows.by_choice x.keeps x.word
 surely_c_of (insn.Swap x) = false
 surely_c_of (insn.Transfer x) = false
 surely_c_of (insn.Halfword x) = false
 surely_c_of (insn.Block x) = false
 surely_c_of (insn.Branch x) = false
 surely_c_of (insn.SoftwareInterrupt x) = false
+surely_c_of (insn.Exchange x) = false
+surely_c_of (insn.Count x) = false
 
 -- flags are those that a condition names
 abbrev pub flags_named : Condition → Flags → Type 0

@@ -1,4 +1,4 @@
-//! Data processing and multiplies (sections A3.4 and A3.5).
+//! Data processing, multiplies and CLZ (sections A3.4, A3.5 and A4.1.13).
 ghost use Rattle.std.specs.Prelude.{◌≡◌, ℕ, ◌==◌, if◌then◌else◌};
 ghost use Rattle.bilv_spec.specs.Arm as rows;
 ghost use Rattle.bilv_spec.specs.Words as words;
@@ -13,7 +13,9 @@ use crate::flags::Flags;
 use crate::state::State;
 use crate::sums::result_of;
 use crate::words::{is_set, multiplied, word};
-use arm_decode::{Computing, Multiply, MultiplyFields, MultiplyLong, MultiplyLongFields, Register};
+use arm_decode::{
+    Computing, Count, Multiply, MultiplyFields, MultiplyLong, MultiplyLongFields, Register,
+};
 use bv_word::Word;
 use byte_mem::StepOut;
 
@@ -96,14 +98,23 @@ fn product(fields: MultiplyFields, state: &State) -> u32
     product.wrapping_add(addend(fields.addend, state))
 }
 
+/// A flag as it was, or as it is drawn.
+fn kept_or(keeps: bool, old: bool, drawn: bool) -> bool
+    ensures { bit result ≡ (if keeps then bit old else bit drawn) }
+{
+    if keeps { old } else { drawn }
+}
+
 /// MUL and MLA.
 pub(crate) fn multiply(insn: Multiply, state: &mut State, choice: u8) -> StepOut
-    ensures step { IsStep (state_of state.old) (state_of state.new) result (rows.multiplied insn.word (state_of state.old) choice) }
+    ensures step { IsStep (state_of state.old) (state_of state.new) result (rows.multiplied insn.keeps insn.word (state_of state.old) choice) }
     ensures spare { spare_of state.new ≡ spare_of state.old }
 {
     let fields = insn.fields();
     let value = product(fields, state);
-    let flags = result_flags(value, is_set(0, choice as u32), state.flags().v);
+    let old = state.flags();
+    let carry = kept_or(insn.keeps(), old.c, is_set(0, choice as u32));
+    let flags = result_flags(value, carry, old.v);
     set_flags_if(fields.sets_flags, flags, state);
     state.set(fields.rd, value);
     state.go_on()
@@ -137,14 +148,28 @@ fn wide_product(fields: MultiplyLongFields, state: &State) -> u64
 
 /// UMULL, UMLAL, SMULL and SMLAL.
 pub(crate) fn multiply_long(insn: MultiplyLong, state: &mut State, choice: u8) -> StepOut
-    ensures step { IsStep (state_of state.old) (state_of state.new) result (rows.multiplied_long insn.word (state_of state.old) choice) }
+    ensures step { IsStep (state_of state.old) (state_of state.new) result (rows.multiplied_long insn.keeps insn.word (state_of state.old) choice) }
     ensures spare { spare_of state.new ≡ spare_of state.old }
 {
     let fields = insn.fields();
     let product = wide_product(fields, state);
-    let flags = long_flags(product, is_set(0, choice as u32), is_set(1, choice as u32));
+    let old = state.flags();
+    let carry = kept_or(insn.keeps(), old.c, is_set(0, choice as u32));
+    let overflow = kept_or(insn.keeps(), old.v, is_set(1, choice as u32));
+    let flags = long_flags(product, carry, overflow);
     set_flags_if(fields.sets_flags, flags, state);
     state.set(fields.lower, (product % 0x1_0000_0000) as u32);
     state.set(fields.upper, (product / 0x1_0000_0000) as u32);
+    state.go_on()
+}
+
+/// CLZ.
+pub(crate) fn count(insn: Count, state: &mut State) -> StepOut
+    ensures step { IsStep (state_of state.old) (state_of state.new) result (rows.counted insn.word (state_of state.old)) }
+    ensures spare { spare_of state.new ≡ spare_of state.old }
+{
+    let fields = insn.fields();
+    let value = state.read(fields.rm);
+    state.set(fields.rd, value.leading_zeros());
     state.go_on()
 }

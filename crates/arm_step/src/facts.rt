@@ -20,7 +20,7 @@ pub(crate) fn is_always(insn: &Insn) -> bool
     insn.condition().is_always()
 }
 
-/// Whether the instruction writes r15 where its condition holds, and is no branch.
+/// Whether the instruction writes r15 where its condition holds, and is not B or BL.
 fn writes_pc(insn: &Insn) -> bool
     ensures { result ≡ writes_pc_of insn.now }
 {
@@ -37,6 +37,7 @@ fn writes_pc(insn: &Insn) -> bool
             let fields = insn.fields();
             fields.is_load && insn.has_pc()
         }
+        Insn::Exchange(_) => true,
         _ => false,
     }
 }
@@ -165,8 +166,8 @@ pub fn draws(insn: &Insn) -> bool
     ensures { (e : memory.Endian) → result ≡ (row_of e insn.now).draws }
 {
     match *insn {
-        Insn::Multiply(insn) => insn.fields().sets_flags,
-        Insn::MultiplyLong(insn) => insn.fields().sets_flags,
+        Insn::Multiply(insn) => !insn.keeps() && insn.fields().sets_flags,
+        Insn::MultiplyLong(insn) => !insn.keeps() && insn.fields().sets_flags,
         Insn::Transfer(insn) => {
             let fields = insn.fields();
             !fields.is_load && fields.rd.number() == 15

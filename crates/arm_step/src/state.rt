@@ -21,15 +21,15 @@ pub struct State {
 }
 
 impl View for State {
-    ghost use Rattle.bilv_spec.specs.Arm.{arm};
+    ghost use Rattle.bilv_spec.specs.Arm.{V4, arm};
     ghost use Rattle.bilv_spec.specs.Memory.{Little};
     ghost use Rattle.arm_step.specs.States.{state_of};
 
     ghost view = { state_of };
 
-    ghost link_register = { (arm Little).link };
+    ghost link_register = { (arm Little V4).link };
 
-    ghost has_register = { (arm Little).has_register };
+    ghost has_register = { (arm Little V4).has_register };
 
     fn reg(&self, r: u8) -> u32 {
         self.registers.read(r)

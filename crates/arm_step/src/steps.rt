@@ -2,6 +2,8 @@
 ghost use Rattle.std.specs.Prelude.{◌≡◌, ◌≤◌, ◌+◌, ℕ};
 ghost use Rattle.bilv_spec.specs.Arm as rows;
 ghost use Rattle.bilv_spec.specs.Memory as memory;
+ghost use Rattle.bilv_spec.specs.Machine.{Indirect, Goes};
+ghost use Rattle.bilv_spec.specs.State.{with_pc};
 ghost use Rattle.byte_mem.specs.Views.{endian_of, IsStep};
 ghost use Rattle.arm_decode.specs.Insns.{row_of, word_of};
 ghost use Rattle.arm_step.specs.Actions.{action_of, stores_of};
@@ -9,10 +11,10 @@ ghost use Rattle.arm_step.specs.States.{state_of, spare_of};
 
 use crate::access::aligned;
 use crate::blocks::{block, block_start, listed};
-use crate::data::{compute, multiply, multiply_long};
+use crate::data::{compute, count, multiply, multiply_long};
 use crate::state::State;
 use crate::transfers::{halfword, halfword_address, swap, transfer, transfer_address};
-use arm_decode::{Branch, Insn, Register};
+use arm_decode::{Branch, Exchange, Insn, Register};
 use byte_mem::{Endian, How, StepOut, View};
 
 /// Whether the instruction's condition holds.
@@ -37,6 +39,16 @@ fn branch(insn: Branch, state: &mut State) -> StepOut
     }
 }
 
+/// BX: the register is the address with its low bits, and there is no link.
+fn exchange(insn: Exchange, state: &mut State) -> StepOut
+    ensures step { IsStep (state_of state.old) (state_of state.new) result (Goes Indirect (with_pc (state_of state.old)
+        (rows.reg (state_of state.old) (rows.field_m insn.word)))) }
+    ensures spare { spare_of state.new ≡ spare_of state.old }
+{
+    let to = state.read(insn.rm());
+    state.jump(to, How::Indirect)
+}
+
 /// What the instruction does where its condition holds.
 fn act(insn: &Insn, state: &mut State, endian: Endian, choice: u8) -> StepOut
     requires { 64 ≤ spare_of state.old }
@@ -53,6 +65,8 @@ fn act(insn: &Insn, state: &mut State, endian: Endian, choice: u8) -> StepOut
         Insn::Block(insn) => block(insn, state, endian, choice),
         Insn::Branch(insn) => branch(insn, state),
         Insn::SoftwareInterrupt(_) => StepOut::Trap,
+        Insn::Exchange(insn) => exchange(insn, state),
+        Insn::Count(insn) => count(insn, state),
     }
 }
 

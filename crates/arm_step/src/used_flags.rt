@@ -103,16 +103,17 @@ fn assigned(insn: &Insn) -> FlagSet
             let sets_flags = insn.fields().sets_flags;
             FlagSet {
                 nz: sets_flags,
-                c: sets_flags,
+                c: !insn.keeps() && sets_flags,
                 v: false,
             }
         }
         Insn::MultiplyLong(insn) => {
             let sets_flags = insn.fields().sets_flags;
+            let draws = !insn.keeps() && sets_flags;
             FlagSet {
                 nz: sets_flags,
-                c: sets_flags,
-                v: sets_flags,
+                c: draws,
+                v: draws,
             }
         }
         _ => FlagSet {
@@ -132,8 +133,8 @@ fn surely_carry(insn: &Insn) -> bool
             let keeps = insn.keeps_carry() || insn.is_by_register();
             insn.fields().sets_flags && !(insn.is_logical() && keeps)
         }
-        Insn::Multiply(insn) => insn.fields().sets_flags,
-        Insn::MultiplyLong(insn) => insn.fields().sets_flags,
+        Insn::Multiply(insn) => !insn.keeps() && insn.fields().sets_flags,
+        Insn::MultiplyLong(insn) => !insn.keeps() && insn.fields().sets_flags,
         _ => false,
     }
 }

@@ -12,7 +12,7 @@ use Rattle.state_text.specs.Readings.{fault_of, told_but, IsRefused, HasBytes, I
 use Rattle.state_text.specs.declared.state_fault.ParseFault.{ParseFault}
 use Rattle.state_text.specs.declared.state_fault.ParseFault.TheVariants.{Refused, Memory}
 use Rattle.state_text.specs.declared.layout.Layout.{Layout as Machine}
-use Rattle.state_text.specs.declared.layout.Layout.TheVariants.{Rv32, ArmLittle, ArmBig}
+use Rattle.state_text.specs.declared.layout.Layout.TheVariants.{Rv32, Arm}
 use Rattle.state_text.specs.declared.draft.Draft.{Draft}
 use Rattle.state_text.proofs.Judging.{none}
 use Rattle.state_text.proofs.Keeping.{none_known, no_text}
@@ -41,8 +41,7 @@ told_named layout known text first rest n e is =
 -- an ARM text has four flags
 pub few_flags : (m : Machine) → length (layout_of m).flags ≤ 8
 few_flags Rv32 = omega arith
-few_flags ArmLittle = omega arith
-few_flags ArmBig = omega arith
+few_flags (Arm big profile) = omega arith
 
 -- equal parts
 text_same : (n m : NamedEnding) (r s : List ℕ) (f g : ℕ) (b c x y : List (ℕ × ℕ)) → n ≡ m → r ≡ s → f ≡ g → b ≡ c → x ≡ y →

@@ -1,12 +1,15 @@
 -- The definitions' values that layouts, starts and endings stand for.
 use Rattle.std.specs.Prelude.{ℕ, List, map}
 use Rattle.bilv_spec.specs.Texts.{joined, lines}
-use Rattle.bilv_spec.specs.Memory.{Little, Big}
+use Rattle.bilv_spec.specs.Memory.{endian}
+use Rattle.bilv_spec.specs.Arm as rows
 use Rattle.bilv_spec.specs.Run as run
 use Rattle.bilv_spec.specs.Reports as reports
 use Rattle.bilv_spec.specs.StateText as texts
 use Rattle.state_text.specs.declared.layout.Layout.{Layout}
-use Rattle.state_text.specs.declared.layout.Layout.TheVariants.{Rv32, ArmLittle, ArmBig}
+use Rattle.state_text.specs.declared.layout.Layout.TheVariants.{Rv32, Arm}
+use Rattle.state_text.specs.declared.layout.Profile.{Profile}
+use Rattle.state_text.specs.declared.layout.Profile.TheVariants.{V4, V4T, V5}
 use Rattle.state_text.specs.declared.start.Event.{Event}
 use Rattle.state_text.specs.declared.start.Event.TheVariants.{AssertFails, FetchFails, NoRow, HalfwordFails, CodeWritten, Trapped, AlignFails, JumpFails, EnsureFails}
 use Rattle.state_text.specs.declared.start.NamedEnding.{NamedEnding}
@@ -14,11 +17,16 @@ use Rattle.state_text.specs.declared.start.NamedEnding.TheVariants.{FailsBy, Unk
 use Rattle.state_text.specs.declared.start.Start.{Start}
 use Rattle.state_text.specs.declared.start.StateText.{StateText}
 
+-- the profile
+abbrev pub profile_in : Profile → rows.Profile
+profile_in V4 = rows.V4
+profile_in V4T = rows.V4T
+profile_in V5 = rows.V5
+
 -- the layout
 abbrev pub layout_of : Layout → texts.Layout
 layout_of Rv32 = texts.rv_layout
-layout_of ArmLittle = texts.arm_layout Little
-layout_of ArmBig = texts.arm_layout Big
+layout_of (Arm big profile) = texts.arm_layout (endian big) (profile_in profile)
 
 -- the event
 abbrev pub event_of : Event → run.Event

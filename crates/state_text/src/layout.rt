@@ -1,14 +1,43 @@
 //! What state texts call a machine, its registers and its flags.
 ghost use Rattle.std.specs.Prelude.{◌≡◌, length, map};
 ghost use Rattle.bilv_spec.specs.StateText.{value_names, lines_of_head};
-ghost use Rattle.state_text.specs.Starts.{layout_of};
+ghost use Rattle.bilv_spec.specs.StateText as texts;
+ghost use Rattle.bilv_spec.specs.Arm.{profile_of};
+ghost use Rattle.bilv_spec.specs.Memory.{endian};
+ghost use Rattle.state_text.specs.Starts.{layout_of, profile_in};
 
-/// The machine of a text: RV32IM, or ARM version 4 in a byte order.
+/// The instructions of ARM state that have rows: those of version 4, with BX, and with BX and CLZ.
+#[derive(Clone, Copy, PartialEq, Eq, Debug)]
+pub enum Profile {
+    V4,
+    V4T,
+    V5,
+}
+
+impl Profile {
+    /// The profile of a number: 0 is version 4, 1 version 4T, and any other version 5.
+    pub fn of(number: u8) -> Profile
+        ensures { profile_in result ≡ profile_of number }
+    {
+        if number == 0 {
+            Profile::V4
+        } else if number == 1 {
+            Profile::V4T
+        } else {
+            Profile::V5
+        }
+    }
+}
+
+/// The machine of a text: RV32IM, or ARM in a byte order and a profile.
 #[derive(Clone, Copy, PartialEq, Eq, Debug)]
 pub enum Layout {
     Rv32,
-    ArmLittle,
-    ArmBig,
+    Arm {
+        /// Whether the byte order is big; else it is little.
+        big: bool,
+        profile: Profile,
+    },
 }
 
 /// The registers of RV32IM that a text has.
@@ -24,6 +53,17 @@ const ARM_NAMES: [&[u8]; 19] = [
     b"r13", b"r14", b"N", b"Z", b"C", b"V",
 ];
 
+/// What the text calls ARM.
+fn arm_name(big: bool, profile: Profile) -> &'static [u8]
+    ensures { result.now ≡ texts.arm_name (endian big) (profile_in profile) }
+{
+    match profile {
+        Profile::V4 => { if big { b"armv4-be" } else { b"armv4-le" } }
+        Profile::V4T => { if big { b"armv4t-be" } else { b"armv4t-le" } }
+        Profile::V5 => { if big { b"armv5-be" } else { b"armv5-le" } }
+    }
+}
+
 impl Layout {
     /// What the text calls the machine.
     pub fn machine(self) -> &'static [u8]
@@ -31,8 +71,7 @@ impl Layout {
     {
         match self {
             Layout::Rv32 => b"rv32im",
-            Layout::ArmLittle => b"armv4-le",
-            Layout::ArmBig => b"armv4-be",
+            Layout::Arm { big, profile } => arm_name(big, profile),
         }
     }
 
@@ -42,8 +81,7 @@ impl Layout {
     {
         match self {
             Layout::Rv32 => &RV_NAMES,
-            Layout::ArmLittle => &ARM_NAMES,
-            Layout::ArmBig => &ARM_NAMES,
+            Layout::Arm { .. } => &ARM_NAMES,
         }
     }
 
@@ -53,8 +91,7 @@ impl Layout {
     {
         match self {
             Layout::Rv32 => 31,
-            Layout::ArmLittle => 15,
-            Layout::ArmBig => 15,
+            Layout::Arm { .. } => 15,
         }
     }
 
@@ -65,7 +102,7 @@ impl Layout {
     {
         match self {
             Layout::Rv32 => (1, 31),
-            Layout::ArmLittle | Layout::ArmBig => (0, 15),
+            Layout::Arm { .. } => (0, 15),
         }
     }
 
@@ -75,8 +112,7 @@ impl Layout {
     {
         match self {
             Layout::Rv32 => 0,
-            Layout::ArmLittle => 4,
-            Layout::ArmBig => 4,
+            Layout::Arm { .. } => 4,
         }
     }
 
@@ -86,8 +122,7 @@ impl Layout {
     {
         match self {
             Layout::Rv32 => 33,
-            Layout::ArmLittle => 21,
-            Layout::ArmBig => 21,
+            Layout::Arm { .. } => 21,
         }
     }
 }

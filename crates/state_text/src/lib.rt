@@ -10,7 +10,7 @@ mod start;
 mod state_fault;
 mod state_line;
 
-pub use layout::Layout;
+pub use layout::{Layout, Profile};
 pub use line_tokens::{Sign, Token, tokens};
 pub use parser::parse_state;
 pub use printer::{print_state, push_ending, push_number, push_step, push_text, push_word};

@@ -23,3 +23,15 @@ returns-in-Swap-clause-step c =
     let s = state_of c.args.state.now in
     let r = c.swap in
     subst (λ (i : Insn). IsStep s (state_of r.new.state) r.result (action_of (endian_of c.args.endian) i s c.args.choice)) (sym c.in-Swap.is) r.ensures.step
+
+pub returns-in-Exchange-clause-step : goal.returns-in-Exchange-clause-step
+returns-in-Exchange-clause-step c =
+    let s = state_of c.args.state.now in
+    let r = c.exchange in
+    subst (λ (i : Insn). IsStep s (state_of r.new.state) r.result (action_of (endian_of c.args.endian) i s c.args.choice)) (sym c.in-Exchange.is) r.ensures.step
+
+pub returns-in-Count-clause-step : goal.returns-in-Count-clause-step
+returns-in-Count-clause-step c =
+    let s = state_of c.args.state.now in
+    let r = c.count in
+    subst (λ (i : Insn). IsStep s (state_of r.new.state) r.result (action_of (endian_of c.args.endian) i s c.args.choice)) (sym c.in-Count.is) r.ensures.step

@@ -1,6 +1,7 @@
 use Rattle.std.proofs.Common.{ℕ, ap, ◌∙◌}
 use Rattle.bilv_spec.specs.Memory.{memory_of}
 use Rattle.bilv_spec.specs.State.{State}
+use Rattle.bilv_spec.specs.Arm.{profile_of}
 use Rattle.bilv_spec.specs.Words.{bit_at}
 use Rattle.arm_step.specs.RegisterFile.{registers_of}
 use Rattle.arm_lift.specs.Orders.{order_of}
@@ -15,4 +16,5 @@ returns-clause-view g c =
       flags = λ f. bit_at f c.args.start.now.flags;
       mem = memory_of c.args.memory.entries;
     } in
-    c.new.ensures.state ∙ ap with_registers (ap registers_of c.deref.ensures.value ∙ registers_are (order_of g.row.BIG) c.args.start.now.regs.items)
+    c.new.ensures.state
+    ∙ ap with_registers (ap registers_of c.deref.ensures.value ∙ registers_are (order_of g.row.BIG) (profile_of g.row.PROFILE) c.args.start.now.regs.items)

@@ -9,10 +9,6 @@ pub returns-in-Rv32 : goal.returns-in-Rv32
 unfolding digits
 returns-in-Rv32 c = ap (λ (l : Layout). value_names (layout_of l)) (sym c.in-Rv32.is)
 
-pub returns-in-ArmLittle : goal.returns-in-ArmLittle
+pub returns-in-Arm : goal.returns-in-Arm
 unfolding digits
-returns-in-ArmLittle c = ap (λ (l : Layout). value_names (layout_of l)) (sym c.in-ArmLittle.is)
-
-pub returns-in-ArmBig : goal.returns-in-ArmBig
-unfolding digits
-returns-in-ArmBig c = ap (λ (l : Layout). value_names (layout_of l)) (sym c.in-ArmBig.is)
+returns-in-Arm c = ap (λ (l : Layout). value_names (layout_of l)) (sym c.in-Arm.is)
