@@ -9,7 +9,7 @@ use Rattle.walk_spec.specs.Unrolled.{UnrolledProgram, no_point, point_at}
 use Rattle.walk_spec.specs.ClauseForm.{drawn_below}
 use Rattle.term_dag.proofs.ListLaws.{last}
 use Rattle.state_text.specs.declared.layout.Layout.{Layout}
-use Rattle.state_text.specs.declared.layout.Layout.TheVariants.{Rv32, ArmLittle, ArmBig}
+use Rattle.state_text.specs.declared.layout.Layout.TheVariants.{Rv32, Arm}
 use Rattle.state_text.specs.Starts.{layout_of}
 use Rattle.question_form.specs.declared.unrolled.Point.{Point}
 use Rattle.question_form.specs.declared.unrolled.Unrolled.{Unrolled}
@@ -26,13 +26,11 @@ drawn_few u (suc i) = let a = drawn_few u i in let b = bit_small ((point_at u i)
 
 pub few_registers : (form : Layout) → length (layout_of form).registers ≤ 31
 few_registers Rv32 = let e : length (layout_of Rv32).registers ≡ 31 = refl in omega arith
-few_registers ArmLittle = let e : length (layout_of ArmLittle).registers ≡ 15 = refl in omega arith
-few_registers ArmBig = let e : length (layout_of ArmBig).registers ≡ 15 = refl in omega arith
+few_registers (Arm big profile) = let e : length (layout_of (Arm big profile)).registers ≡ 15 = refl in omega arith
 
 pub few_flags : (form : Layout) → length (layout_of form).flags ≤ 4
 few_flags Rv32 = let e : length (layout_of Rv32).flags ≡ 0 = refl in omega arith
-few_flags ArmLittle = let e : length (layout_of ArmLittle).flags ≡ 4 = refl in omega arith
-few_flags ArmBig = let e : length (layout_of ArmBig).flags ≡ 4 = refl in omega arith
+few_flags (Arm big profile) = let e : length (layout_of (Arm big profile)).flags ≡ 4 = refl in omega arith
 
 -- the points of a value
 pub points_length : (u : Unrolled) (qs : List Point) → length (points_of u qs) ≡ length qs

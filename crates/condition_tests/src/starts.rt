@@ -80,7 +80,7 @@ fn start_with(
     registers: &[u32],
 ) -> Result<Start, AllocError>
     requires { length registers.now ≡ 31 }
-    ensures { IfOk result (λ s. IsWritten rv_layout (is_known_at (program_of image.now (notes_of notes.now) 65536)) (written_of s)) }
+    ensures { IfOk result (λ s. IsWritten rv_layout (is_known_at (program_of rv32 image.now (notes_of notes.now) 65536)) (written_of s)) }
 {
     let stretch = known_stretch(image, notes, DATA);
     if stretch.known {

@@ -2,7 +2,7 @@
 ghost use Rattle.std.specs.Prelude.{ℕ, ◌≡◌, ◌≤◌, ◌<◌, ◌+◌, length, IfOk, IfErr, OnOk, MatchOption, MatchResult, IsTrue, ◌↔◌, None};
 ghost use Rattle.bilv_spec.specs.Elf.{field, is_big, loaded, byte_at, flags_at, kept_at, IsKeptRuns};
 ghost use Rattle.bilv_spec.specs.ElfFaults.{IsImage, Finds, BadSymbolTable, FileFaultApplies};
-ghost use Rattle.bilv_spec.specs.Files.{is_rv, machine_of};
+ghost use Rattle.bilv_spec.specs.Files.{is_rv, order_of};
 ghost use Rattle.bilv_spec.specs.Memory as memory;
 ghost use Rattle.elf32_reader.specs.Refusals.{IsRefused, IsClear};
 ghost use Rattle.elf32_reader.specs.Symbols.{IsMissed};
@@ -198,9 +198,9 @@ impl<'a> Image<'a> {
         self.file[5] == 2
     }
 
-    /// The byte order of the file's machine is big: that of RISC-V is little, that of ARM is the order of the file's numbers.
+    /// The byte order of the file's machine is big, whatever its profile: that of RISC-V is little, that of ARM is the order of the file's numbers.
     pub fn is_big_machine(&self) -> bool
-        ensures { memory.endian result ≡ (machine_of self.now).endian }
+        ensures { memory.endian result ≡ order_of self.now }
     {
         if self.is_risc_v() {
             return false;

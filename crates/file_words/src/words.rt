@@ -4,7 +4,7 @@ ghost use Rattle.std.specs.List.{list_all};
 ghost use Rattle.bilv_spec.specs.Memory as memory;
 ghost use Rattle.bilv_spec.specs.Words.{add};
 ghost use Rattle.bilv_spec.specs.Elf.{loaded, is_kept, is_executable};
-ghost use Rattle.bilv_spec.specs.Files.{machine_of};
+ghost use Rattle.bilv_spec.specs.Files.{order_of};
 ghost use Rattle.bilv_spec.specs.Points.{byte_of_cell};
 
 use elf32_reader::Image;
@@ -63,7 +63,7 @@ pub fn word_of(bytes: [u8; 4], big: bool) -> u32
 
 /// The word that a file has at an address, in the byte order of its machine; a byte that is not loaded counts as 0.
 pub fn file_word(image: &Image, a: u32) -> u32
-    ensures { result ≡ memory.number (machine_of image.now).endian 4 (λ i. byte_of_cell (loaded image.now (add 32 a i))) }
+    ensures { result ≡ memory.number (order_of image.now) 4 (λ i. byte_of_cell (loaded image.now (add 32 a i))) }
 {
     let bytes = [
         byte_behind(image, a, 0),

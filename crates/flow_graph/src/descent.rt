@@ -1,7 +1,7 @@
 //! The descent from the function's address to every address of the flow graph.
 ghost use Rattle.std.specs.Prelude.{◌≡◌, IfOk, OnOk, map};
 ghost use Rattle.std.specs.List.Sorted.{IsNonDecreasingBy, IsPermutation};
-ghost use Rattle.bilv_spec.specs.Files.{machine_of, program_of};
+ghost use Rattle.bilv_spec.specs.Files.{order_of, program_of};
 ghost use Rattle.notes_lang.specs.Drafting.{notes_of};
 ghost use Rattle.notes_index.specs.Indexed.{AreIndexed};
 ghost use Rattle.graph_nodes.specs.Graphs.{IsGraph, AllStay};
@@ -41,7 +41,7 @@ fn find_all(
 
 /// The nodes of all addresses of the graph, in the order in which they are found. The error is want of memory.
 fn all_nodes<M: Machine>(alloc: Global, p: &Program, index: &Index) -> Result<Vec<Node>, AllocError>
-    requires machine { machine_of p.now.image.now ≡ M.machine }
+    requires order { order_of p.now.image.now ≡ M.machine.endian }
     requires index { AreIndexed p.now.notes.now index.now }
     ensures { IfOk result (λ v. IsWhole (program M.machine p.now) v.items) }
 {
@@ -78,8 +78,8 @@ pub fn descend<M: Machine>(
     notes: &Notes,
     entry: u32,
 ) -> Result<Graph, AllocError>
-    requires machine { machine_of image.now ≡ M.machine }
-    ensures graph { IfOk result (λ g. IsGraph (program_of image.now (notes_of notes.now) entry) g) }
+    requires order { order_of image.now ≡ M.machine.endian }
+    ensures graph { IfOk result (λ g. IsGraph (program_of M.machine image.now (notes_of notes.now) entry) g) }
     ensures stay { IfOk result (λ g. AllStay g) }
 {
     let index = index_of(alloc, notes)?;

@@ -29,9 +29,10 @@ fn named_flags(expr: &Expr) -> u8
     ensures { IsFlagSet result (λ f. names_flag f (expr_of expr.now)) }
 {
     match expr {
-        Expr::Number(_) | Expr::Register(_) | Expr::Pc | Expr::Old(_) => 0,
+        Expr::Number(_) | Expr::Register(_) | Expr::Pc | Expr::Bound | Expr::Old(_) => 0,
         Expr::Flag(flag) => only(*flag),
         Expr::Memory(_, a) | Expr::Not(a) => named_flags(a),
+        Expr::All(_, _, a) => named_flags(a),
         Expr::Binary(_, a, b) => named_flags(a) | named_flags(b),
     }
 }

@@ -1,6 +1,6 @@
 //! The node of an address.
 ghost use Rattle.std.specs.Prelude.{◌≡◌, ◌&&◌, not, IfOk};
-ghost use Rattle.bilv_spec.specs.Files.{machine_of};
+ghost use Rattle.bilv_spec.specs.Files.{order_of};
 ghost use Rattle.notes_index.specs.Indexed.{AreIndexed};
 ghost use Rattle.graph_nodes.specs.Graphs.{IsNode};
 ghost use Rattle.flow_graph.specs.Programs.{program};
@@ -36,7 +36,7 @@ pub(crate) fn node<M: Machine>(
     index: &Index,
     at: u32,
 ) -> Result<Node, AllocError>
-    requires machine { machine_of p.now.image.now ≡ M.machine }
+    requires order { order_of p.now.image.now ≡ M.machine.endian }
     requires index { AreIndexed p.now.notes.now index.now }
     ensures at { IfOk result (λ n. n.at ≡ at) }
     ensures is { IfOk result (λ n. IsNode (program M.machine p.now) n) }

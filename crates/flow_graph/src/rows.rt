@@ -1,6 +1,6 @@
 //! Words and instructions, by the file.
 ghost use Rattle.std.specs.Prelude.{◌≡◌, option_map};
-ghost use Rattle.bilv_spec.specs.Files.{machine_of};
+ghost use Rattle.bilv_spec.specs.Files.{order_of};
 ghost use Rattle.bilv_spec.specs.Points as points;
 ghost use Rattle.flow_graph.specs.Programs.{program};
 
@@ -10,7 +10,7 @@ use machine_law::Machine;
 
 /// The word that the file has at an address.
 pub(crate) fn word<M: Machine>(p: &Program, at: u32) -> u32
-    requires { machine_of p.now.image.now ≡ M.machine }
+    requires { order_of p.now.image.now ≡ M.machine.endian }
     ensures { result ≡ points.file_word (program M.machine p.now) at }
 {
     file_word(p.image, at)
@@ -18,7 +18,7 @@ pub(crate) fn word<M: Machine>(p: &Program, at: u32) -> u32
 
 /// The instruction at an address, where a word may be fetched there and the table has a row for it.
 pub(crate) fn row<M: Machine>(p: &Program, at: u32) -> Option<M::Insn>
-    requires { machine_of p.now.image.now ≡ M.machine }
+    requires { order_of p.now.image.now ≡ M.machine.endian }
     ensures { option_map M.Machine.row result ≡ points.file_row (program M.machine p.now) at }
 {
     if !fetchable(p.image, at) {

@@ -1,6 +1,6 @@
 //! The successors of an instruction.
 ghost use Rattle.std.specs.Prelude.{◌≡◌, ◌%◌, ◌==◌, map, filter, IfOk, Some, if◌then◌else◌};
-ghost use Rattle.bilv_spec.specs.Files.{machine_of};
+ghost use Rattle.bilv_spec.specs.Files.{order_of};
 ghost use Rattle.bilv_spec.specs.Graph as graph;
 ghost use Rattle.machine_law.specs.Facts as facts;
 ghost use Rattle.notes_index.specs.Indexed.{targets_places, IsIndex};
@@ -31,7 +31,7 @@ fn all_successors<M: Machine>(
     at: u32,
     ways: Succ,
 ) -> Result<Vec<Successor>, AllocError>
-    requires machine { machine_of p.now.image.now ≡ M.machine }
+    requires order { order_of p.now.image.now ≡ M.machine.endian }
     requires index { IsIndex (targets_places p.now.notes.now.targets.items) index.now.targets.items }
     ensures { IfOk result (λ v. IsSameSet (map successor_of v.items)
         (graph.successors_of (program M.machine p.now) at (M.Machine.row insn.now) (facts.successors_of ways))) }
@@ -56,7 +56,7 @@ pub(crate) fn successors<M: Machine>(
     at: u32,
     ways: Succ,
 ) -> Result<Vec<Successor>, AllocError>
-    requires machine { machine_of p.now.image.now ≡ M.machine }
+    requires order { order_of p.now.image.now ≡ M.machine.endian }
     requires index { IsIndex (targets_places p.now.notes.now.targets.items) index.now.targets.items }
     requires ways { facts.successors_of ways ≡ (M.Machine.row insn.now).successors at }
     ensures { IfOk result (λ v. map successor_of v.items ≡ graph.sort (graph.successors_by (program M.machine p.now) at (Some (M.Machine.row insn.now)))) }

@@ -2,7 +2,7 @@
 ghost use Rattle.std.specs.Prelude.{◌≡◌, ◌++◌, ℕ, Bool, map, Some, IfOk, OnOk, if◌then◌else◌, []};
 ghost use Rattle.std.specs.List.{list_any};
 ghost use Rattle.bilv_spec.specs.Words.{sub};
-ghost use Rattle.bilv_spec.specs.Files.{machine_of};
+ghost use Rattle.bilv_spec.specs.Files.{order_of};
 ghost use Rattle.bilv_spec.specs.Machine.{pair_of};
 ghost use Rattle.bilv_spec.specs.Points as points;
 ghost use Rattle.bilv_spec.specs.Run as run;
@@ -38,7 +38,7 @@ fn listed(
 
 /// The target of the pair of an instruction at an address with the one before it.
 fn pair_target<M: Machine>(p: &Program, insn: &M::Insn, at: u32) -> Option<u32>
-    requires { machine_of p.now.image.now ≡ M.machine }
+    requires { order_of p.now.image.now ≡ M.machine.endian }
     ensures { pair_of (run.row_at (program M.machine p.now) (points.file_word (program M.machine p.now)) (sub 32 at 4)) (Some (M.Machine.row insn.now)) at
         ≡ result }
 {
@@ -50,7 +50,7 @@ fn pair_target<M: Machine>(p: &Program, insn: &M::Insn, at: u32) -> Option<u32>
 
 /// The word of the literal of an instruction at an address, where its bytes are kept.
 fn literal_word<M: Machine>(p: &Program, insn: &M::Insn, at: u32) -> Option<u32>
-    requires { machine_of p.now.image.now ≡ M.machine }
+    requires { order_of p.now.image.now ≡ M.machine.endian }
     ensures { run.literal_target (program M.machine p.now) (points.file_word (program M.machine p.now)) ((M.Machine.row insn.now).literal at)
         ≡ run.some_of result }
 {
@@ -86,7 +86,7 @@ fn named<M: Machine>(
     insn: &M::Insn,
     at: u32,
 ) -> Result<Vec<u32>, AllocError>
-    requires machine { machine_of p.now.image.now ≡ M.machine }
+    requires order { order_of p.now.image.now ≡ M.machine.endian }
     requires index { IsIndex (targets_places p.now.notes.now.targets.items) index.now.targets.items }
     ensures { IfOk result (λ v. IsSameSet v.items (run.named (program M.machine p.now) (points.file_word (program M.machine p.now))
         (M.Machine.row insn.now) at)) }
@@ -106,7 +106,7 @@ pub(crate) fn indirect_targets<M: Machine>(
     at: u32,
     indirect: bool,
 ) -> Result<Vec<u32>, AllocError>
-    requires machine { machine_of p.now.image.now ≡ M.machine }
+    requires order { order_of p.now.image.now ≡ M.machine.endian }
     requires index { IsIndex (targets_places p.now.notes.now.targets.items) index.now.targets.items }
     ensures { IfOk result (λ v. IsSameSet v.items (if indirect
         then run.named (program M.machine p.now) (points.file_word (program M.machine p.now)) (M.Machine.row insn.now) at else [])) }

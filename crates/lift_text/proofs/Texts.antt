@@ -1,5 +1,5 @@
 -- The text grows word by word.
-use Rattle.std.proofs.Common.{◌≡◌, ℕ, suc, ◌+◌, ◌≤◌, ◌<◌, ◌%◌, ◌^◌, ◌==◌, true, false, cond, List, [], ◌∷◌, ◌++◌, length, get_or, Option, refl, ap, sym, ◌∙◌, subst, inl, inr, ◌⊎◌, arith, eq-eqb, length-append}
+use Rattle.std.proofs.Common.{◌≡◌, ℕ, suc, ◌+◌, ◌≤◌, ◌<◌, ◌%◌, ◌^◌, ◌==◌, true, false, cond, List, [], ◌∷◌, ◌++◌, length, get_or, refl, ap, sym, ◌∙◌, subst, inl, inr, ◌⊎◌, arith, eq-eqb, length-append}
 use Rattle.std.specs.Prelude.{Contains}
 use Rattle.std.specs.List.{flat_map}
 use Rattle.std.proofs.Math.Nat.{eq-or-lt_of_le}
@@ -7,7 +7,8 @@ use Rattle.std.proofs.lemmas.Bool.{cases_lt}
 use Rattle.std.proofs.lemmas.Bool.Decides.{nat_tests}
 use Rattle.std.proofs.lemmas.List.{flat_map_more, get_or_append_left, get_or_at}
 use Rattle.std.proofs.lemmas.List.Elements.{Contains-get_or, Contains-append_left, Contains-push, Contains-push_cases}
-use Rattle.bilv_spec.specs.Machine.{Row}
+use Rattle.bilv_spec.specs.Machine.{Machine}
+use Rattle.bilv_spec.specs.Bil.{Bank}
 use Rattle.bilv_spec.specs.LiftText.{is_word_at, word_in, IsWordText, IsLiftTextBy}
 use Rattle.lift_text.specs.Progress.{IsTextTo, put_text, IsAppended}
 use Rattle.lift_text.proofs.Givens.{unaligned}
@@ -27,8 +28,8 @@ put_other : (f : ℕ → List ℕ) (at : ℕ) (t : List ℕ) (a : ℕ) → a < a
 put_other f at t a l = let no : (a == at) ≡ false = grind (arith, nat_tests) in ap (λ b. cond b t (f a)) no
 
 -- before the first address there is no text
-pub empty : (row : ℕ → Option Row) (file : List ℕ) → IsTextTo row file 0 []
-empty row file = record {
+pub empty : (m : Machine) (bank : Bank) (file : List ℕ) → IsTextTo m bank file 0 []
+empty m bank file = record {
   words = [];
   texts = λ a. [];
   all = λ a. ((λ h. absurd (omega (arith, h.1))), (λ h. absurd (omega (arith, h.0))));
@@ -38,9 +39,9 @@ empty row file = record {
 }
 
 -- addresses without a word are passed over
-pub skip : (row : ℕ → Option Row) (file : List ℕ) (at next : ℕ) (text : List ℕ) → at ≤ next
-    → ((a : ℕ) → at ≤ a → a < next → is_word_at file a ≡ false) → IsTextTo row file at text → IsTextTo row file next text
-skip row file at next text le none t = record {
+pub skip : (m : Machine) (bank : Bank) (file : List ℕ) (at next : ℕ) (text : List ℕ) → at ≤ next
+    → ((a : ℕ) → at ≤ a → a < next → is_word_at file a ≡ false) → IsTextTo m bank file at text → IsTextTo m bank file next text
+skip m bank file at next text le none t = record {
   words = t.words;
   texts = t.texts;
   all = λ a. (
@@ -85,9 +86,9 @@ rises words at below rising i j l w =
     ]
 
 -- a word more
-pub more : (row : ℕ → Option Row) (file : List ℕ) (at : ℕ) (old new : List ℕ) → at % 4 ≡ 0 → is_word_at file at ≡ true → IsAppended row file at old new
-    → IsTextTo row file at old → IsTextTo row file (at + 4) new
-more row file at old new m word added t =
+pub more : (m : Machine) (bank : Bank) (file : List ℕ) (at : ℕ) (old new : List ℕ) → at % 4 ≡ 0 → is_word_at file at ≡ true → IsAppended m bank file at old new
+    → IsTextTo m bank file at old → IsTextTo m bank file (at + 4) new
+more m bank file at old new even word added t =
     let texts = put_text t.texts at added.text in
     let other = λ (a : ℕ) (h : Contains t.words a). put_other t.texts at added.text a ((t.all a).0 h).0 in
     record {
@@ -98,17 +99,17 @@ more row file at old new m word added t =
           | inl before ↦ let k = (t.all a).0 before in (omega (arith, k.0), k.1)
           | inr same ↦ (omega arith, subst (λ n. is_word_at file n ≡ true) same word)
         ]),
-        (λ h. elim (here_or_before file at a m h.0 h.1) as (λ _. Contains (t.words ++ at ∷ []) a) [
+        (λ h. elim (here_or_before file at a even h.0 h.1) as (λ _. Contains (t.words ++ at ∷ []) a) [
           | inl before ↦ Contains-append_left t.words (at ∷ []) a ((t.all a).1 (before, h.1))
           | inr same ↦ subst (λ n. Contains (t.words ++ at ∷ []) n) same (Contains-push t.words at)
         ]),
       );
       rising = rises t.words at (λ a h. ((t.all a).0 h).0) t.rising;
-      each = λ a h. elim (Contains-push_cases t.words at a h) as (λ _. IsWordText file a (row (word_in file a)) (texts a)) [
-        | inl before ↦ subst (λ z. IsWordText file a (row (word_in file a)) z) (sym (other a before)) (t.each a before)
+      each = λ a h. elim (Contains-push_cases t.words at a h) as (λ _. IsWordText m bank file a (m.row (word_in m file a)) (texts a)) [
+        | inl before ↦ subst (λ z. IsWordText m bank file a (m.row (word_in m file a)) z) (sym (other a before)) (t.each a before)
         | inr same ↦
-            subst (λ n. IsWordText file n (row (word_in file n)) (texts n)) same
-            (subst (λ z. IsWordText file at (row (word_in file at)) z) (sym (put_same t.texts at added.text)) added.says)
+            subst (λ n. IsWordText m bank file n (m.row (word_in m file n)) (texts n)) same
+            (subst (λ z. IsWordText m bank file at (m.row (word_in m file at)) z) (sym (put_same t.texts at added.text)) added.says)
       ];
       text_is =
           added.is ∙ ap (λ z. z ++ added.text) (t.text_is ∙ flat_same t.texts texts t.words (λ a h. sym (other a h)))
@@ -117,5 +118,5 @@ more row file at old new m word added t =
     }
 
 -- the whole text
-pub done : (row : ℕ → Option Row) (file text : List ℕ) → IsTextTo row file (2 ^ 32) text → IsLiftTextBy row file text
-done row file text t = record { words = t.words; texts = t.texts; all = t.all; rising = t.rising; each = t.each; text_is = t.text_is }
+pub done : (m : Machine) (bank : Bank) (file text : List ℕ) → IsTextTo m bank file (2 ^ 32) text → IsLiftTextBy m bank file text
+done m bank file text t = record { words = t.words; texts = t.texts; all = t.all; rising = t.rising; each = t.each; text_is = t.text_is }

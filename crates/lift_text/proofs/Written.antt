@@ -6,10 +6,9 @@ use Rattle.bilv_spec.specs.Memory.{Endian, Little, Big, number}
 use Rattle.bilv_spec.specs.Machine.{Machine, Row}
 use Rattle.bilv_spec.specs.Bil.{Bank}
 use Rattle.bilv_spec.specs.Elf.{loaded}
-use Rattle.bilv_spec.specs.Files.{machine_of, is_rv}
 use Rattle.bilv_spec.specs.Texts.{word_text, hex_digits}
 use Rattle.bilv_spec.specs.BilText.{list_text}
-use Rattle.bilv_spec.specs.LiftText.{byte_at, word_in, word_words, bank_by, IsWordText}
+use Rattle.bilv_spec.specs.LiftText.{byte_at, word_in, word_words, IsWordText}
 use Rattle.bil_ast.specs.declared.statements.Stmt.{Stmt}
 use Rattle.bil_ast.specs.Views.{statements}
 use Rattle.machine_law.specs.Facts.{IsLiftedWord}
@@ -32,41 +31,35 @@ words_are file at bytes found =
     (four_texts (hex_digits 2) (λ i. get_or bytes i 0) (λ i. byte_at (loaded file (at + i)))
     (found.each 0 (omega arith)) (found.each 1 (omega arith)) (found.each 2 (omega arith)) (found.each 3 (omega arith)))
 
-word_is : (file : List ℕ) (at : ℕ) (bytes : List ℕ) (e : Endian) → IsWordFound file at bytes → e ≡ (machine_of file).endian
-    → number e 4 (λ i. get_or bytes i 0) ≡ word_in file at
-word_is file at bytes e found same =
+word_is : (m : Machine) (file : List ℕ) (at : ℕ) (bytes : List ℕ) (e : Endian) → IsWordFound file at bytes → e ≡ m.endian
+    → number e 4 (λ i. get_or bytes i 0) ≡ word_in m file at
+word_is m file at bytes e found same =
     ap (λ d. number d 4 (λ i. get_or bytes i 0)) same
-    ∙ four_bytes (machine_of file).endian (λ i. get_or bytes i 0) (λ i. byte_at (loaded file (at + i)))
+    ∙ four_bytes m.endian (λ i. get_or bytes i 0) (λ i. byte_at (loaded file (at + i)))
     (found.each 0 (omega arith)) (found.each 1 (omega arith)) (found.each 2 (omega arith)) (found.each 3 (omega arith))
 
--- what one machine lifts is lifted by its equal
-pub lifted_by : (m n : Machine) (b d : Bank) (row : Option Row) (at : ℕ) (lifted : Option (Vec Stmt)) → m ≡ n → b ≡ d → IsLiftedWord n d row at lifted
-    → IsLiftedWord m b row at lifted
-lifted_by m n b d row at lifted e h is =
-    subst (λ b. IsLiftedWord m b row at lifted) (sym h) (subst (λ m. IsLiftedWord m d row at lifted) (sym e) is)
-
 -- the text by what was lifted
-text_by : (file : List ℕ) (at : ℕ) (row : Option Row) (lifted : Option (Vec Stmt)) (head : List ℕ)
-    → IsLiftedWord (machine_of file) (bank_by (is_rv file)) row at lifted → head ≡ word_words file at → IsWordText file at row (head ++ rest_text lifted)
-text_by file at None None head is same = ap (λ z. z ++ rest_text None) same ∙ sym (append_assoc (word_words file at) (codes " none") (10 ∷ []))
-text_by file at (Some row) (Some v) head is same = (
+text_by : (m : Machine) (bank : Bank) (file : List ℕ) (at : ℕ) (row : Option Row) (lifted : Option (Vec Stmt)) (head : List ℕ)
+    → IsLiftedWord m bank row at lifted → head ≡ word_words file at → IsWordText m bank file at row (head ++ rest_text lifted)
+text_by m bank file at None None head is same = ap (λ z. z ++ rest_text None) same ∙ sym (append_assoc (word_words file at) (codes " none") (10 ∷ []))
+text_by m bank file at (Some row) (Some v) head is same = (
   statements v.items,
   is,
   ap (λ z. z ++ rest_text (Some v)) same ∙ sym (append_assoc (word_words file at) (10 ∷ []) (list_text 1 (statements v.items))),
 )
-text_by file at None (Some v) head is same = absurd is
-text_by file at (Some row) None head is same = absurd is
+text_by m bank file at None (Some v) head is same = absurd is
+text_by m bank file at (Some row) None head is same = absurd is
 
-pub appended : (row : ℕ → Option Row) (file : List ℕ) (at : ℕ) (bytes : List ℕ) (e : Endian) (word : ℕ) (lifted : Option (Vec Stmt)) (old mid new : List ℕ)
-    → IsWordFound file at bytes → e ≡ (machine_of file).endian → word ≡ number e 4 (λ i. get_or bytes i 0)
-    → IsLiftedWord (machine_of file) (bank_by (is_rv file)) (row word) at lifted
-    → mid ≡ old ++ (word_text at ++ 32 ∷ bytes_text bytes) → new ≡ mid ++ rest_text lifted → IsAppended row file at old new
-appended row file at bytes e word lifted old mid new found same is lifts first second =
+pub appended : (m : Machine) (bank : Bank) (file : List ℕ) (at : ℕ) (bytes : List ℕ) (e : Endian) (word : ℕ) (lifted : Option (Vec Stmt))
+    (old mid new : List ℕ) → IsWordFound file at bytes → e ≡ m.endian → word ≡ number e 4 (λ i. get_or bytes i 0)
+    → IsLiftedWord m bank (m.row word) at lifted
+    → mid ≡ old ++ (word_text at ++ 32 ∷ bytes_text bytes) → new ≡ mid ++ rest_text lifted → IsAppended m bank file at old new
+appended m bank file at bytes e word lifted old mid new found same is lifts first second =
     let head = word_text at ++ 32 ∷ bytes_text bytes in
-    let here : word ≡ word_in file at = is ∙ word_is file at bytes e found same in
-    let lifts_here = subst (λ w. IsLiftedWord (machine_of file) (bank_by (is_rv file)) (row w) at lifted) here lifts in
+    let here : word ≡ word_in m file at = is ∙ word_is m file at bytes e found same in
+    let lifts_here = subst (λ w. IsLiftedWord m bank (m.row w) at lifted) here lifts in
     record {
       text = head ++ rest_text lifted;
-      says = text_by file at (row (word_in file at)) lifted head lifts_here (words_are file at bytes found);
+      says = text_by m bank file at (m.row (word_in m file at)) lifted head lifts_here (words_are file at bytes found);
       is = second ∙ ap (λ z. z ++ rest_text lifted) first ∙ append_assoc old head (rest_text lifted);
     }

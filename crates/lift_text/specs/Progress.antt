@@ -1,16 +1,17 @@
 -- The text as far as it was built.
-use Rattle.std.specs.Prelude.{ℕ, ◌≡◌, ◌≤◌, ◌<◌, ◌%◌, ◌^◌, ◌==◌, ◌↔◌, true, if◌then◌else◌, List, ◌++◌, Option, length, slice_index, Contains}
+use Rattle.std.specs.Prelude.{ℕ, ◌≡◌, ◌≤◌, ◌<◌, ◌%◌, ◌^◌, ◌==◌, ◌↔◌, true, if◌then◌else◌, List, ◌++◌, length, slice_index, Contains}
 use Rattle.std.specs.List.{flat_map}
-use Rattle.bilv_spec.specs.Machine.{Row}
+use Rattle.bilv_spec.specs.Machine.{Machine}
+use Rattle.bilv_spec.specs.Bil.{Bank}
 use Rattle.bilv_spec.specs.LiftText.{is_word_at, word_in, IsWordText}
 
 -- the text of the words before an address
-pub record IsTextTo (row : ℕ → Option Row) (file : List ℕ) (at : ℕ) (text : List ℕ) : Type 0 where
+pub record IsTextTo (m : Machine) (bank : Bank) (file : List ℕ) (at : ℕ) (text : List ℕ) : Type 0 where
   pub words : List ℕ
   pub texts : ℕ → List ℕ
   pub all : (a : ℕ) → Contains words a ↔ ((a < at) × (is_word_at file a ≡ true))
   pub rising : (i j : ℕ) → i < j → j < length words → slice_index words i < slice_index words j
-  pub each : (a : ℕ) → Contains words a → IsWordText file a (row (word_in file a)) (texts a)
+  pub each : (a : ℕ) → Contains words a → IsWordText m bank file a (m.row (word_in m file a)) (texts a)
   pub text_is : text ≡ flat_map texts words
 
 -- texts by addresses, with another one at an address
@@ -18,14 +19,14 @@ abbrev pub put_text : (ℕ → List ℕ) → (at : ℕ) → List ℕ → ℕ →
 put_text texts at text a = if a == at then text else texts a
 
 -- the text of the word at an address was appended
-pub record IsAppended (row : ℕ → Option Row) (file : List ℕ) (at : ℕ) (old new : List ℕ) : Type 0 where
+pub record IsAppended (m : Machine) (bank : Bank) (file : List ℕ) (at : ℕ) (old new : List ℕ) : Type 0 where
   pub text : List ℕ
-  pub says : IsWordText file at (row (word_in file at)) text
+  pub says : IsWordText m bank file at (m.row (word_in m file at)) text
   pub is : new ≡ old ++ text
 
 -- the text of the words before an address became that of those before a later multiple of 4
-pub record IsAdvance (row : ℕ → Option Row) (file : List ℕ) (at : ℕ) (old : List ℕ) (next : ℕ) (new : List ℕ) : Type 0 where
+pub record IsAdvance (m : Machine) (bank : Bank) (file : List ℕ) (at : ℕ) (old : List ℕ) (next : ℕ) (new : List ℕ) : Type 0 where
   pub later : at < next
   pub within : next ≤ 2 ^ 32
   pub aligned : next % 4 ≡ 0
-  pub text : IsTextTo row file at old → IsTextTo row file next new
+  pub text : IsTextTo m bank file at old → IsTextTo m bank file next new

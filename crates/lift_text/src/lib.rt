@@ -4,8 +4,8 @@
 #![tactic(auto)]
 
 ghost use Rattle.std.specs.Prelude.{◌≡◌, IfOk};
-ghost use Rattle.bilv_spec.specs.Files.{machine_of, is_rv};
-ghost use Rattle.bilv_spec.specs.LiftText.{bank_by, IsLiftText};
+ghost use Rattle.bilv_spec.specs.Files.{order_of};
+ghost use Rattle.bilv_spec.specs.LiftText.{IsLiftTextBy};
 
 mod candidates;
 mod lines;
@@ -16,12 +16,11 @@ use machine_law::Machine;
 use std::alloc::{AllocError, Global};
 use words::text_by;
 
-/// The text of a file's words, each lifted by its row of the file's machine. Each takes about one search among the segments; a part without bytes of the file
+/// The text of a file's words, each lifted by its row of the machine. Each takes about one search among the segments; a part without bytes of the file
 /// takes one, however long it is. The error is want of memory.
 pub fn lift_text<M: Machine>(alloc: Global, image: &Image) -> Result<Vec<u8>, AllocError>
-    requires machine { machine_of image.now ≡ M.machine }
-    requires bank { bank_by (is_rv image.now) ≡ M.bank }
-    ensures { IfOk result (λ v. IsLiftText image.now v.items) }
+    requires { order_of image.now ≡ M.machine.endian }
+    ensures { IfOk result (λ v. IsLiftTextBy M.machine M.bank image.now v.items) }
 {
     let text = text_by::<M>(alloc, image)?;
     Ok(text)

@@ -1,8 +1,8 @@
 //! The words of a file, one behind the other.
 
 ghost use Rattle.std.specs.Prelude.{ℕ, ◌≡◌, ◌++◌, ◌%◌, List, IfOk, OnOk};
-ghost use Rattle.bilv_spec.specs.Files.{machine_of, is_rv};
-ghost use Rattle.bilv_spec.specs.LiftText.{bank_by, IsLiftTextBy};
+ghost use Rattle.bilv_spec.specs.Files.{order_of};
+ghost use Rattle.bilv_spec.specs.LiftText.{IsLiftTextBy};
 ghost use Rattle.lift_text.specs.Found.{IsWordFound};
 ghost use Rattle.lift_text.specs.Rest.{rest_text};
 ghost use Rattle.lift_text.specs.Progress.{IsAppended, IsAdvance};
@@ -44,10 +44,9 @@ fn push_word<M: Machine>(
     at: u32,
     bytes: [u8; 4],
 ) -> Result<(), AllocError>
-    requires machine { machine_of image.now ≡ M.machine }
-    requires bank { bank_by (is_rv image.now) ≡ M.bank }
+    requires order { order_of image.now ≡ M.machine.endian }
     requires found { IsWordFound image.now at bytes }
-    ensures { OnOk result (IsAppended M.machine.row image.now at out.old.items out.new.items) }
+    ensures { OnOk result (IsAppended M.machine M.bank image.now at out.old.items out.new.items) }
 {
     let word = word_of(bytes, image.is_big_machine());
     let lifted = lift_word::<M>(alloc, word, at)?;
@@ -63,10 +62,9 @@ fn push_next<M: Machine>(
     out: &mut Vec<u8>,
     at: u32,
 ) -> Result<u64, AllocError>
-    requires machine { machine_of image.now ≡ M.machine }
-    requires bank { bank_by (is_rv image.now) ≡ M.bank }
+    requires order { order_of image.now ≡ M.machine.endian }
     requires aligned { at % 4 ≡ 0 }
-    ensures { IfOk result (λ next. IsAdvance M.machine.row image.now at out.old.items next out.new.items) }
+    ensures { IfOk result (λ next. IsAdvance M.machine M.bank image.now at out.old.items next out.new.items) }
 {
     match look_at(image, at) {
         Candidate::Next(next) => Ok(next),
@@ -79,9 +77,8 @@ fn push_next<M: Machine>(
 
 /// The text of all words.
 pub(crate) fn text_by<M: Machine>(alloc: Global, image: &Image) -> Result<Vec<u8>, AllocError>
-    requires machine { machine_of image.now ≡ M.machine }
-    requires bank { bank_by (is_rv image.now) ≡ M.bank }
-    ensures { IfOk result (λ v. IsLiftTextBy M.machine.row image.now v.items) }
+    requires { order_of image.now ≡ M.machine.endian }
+    ensures { IfOk result (λ v. IsLiftTextBy M.machine M.bank image.now v.items) }
 {
     let mut out = Vec::new(alloc);
     let mut at: u64 = 0;

@@ -6,7 +6,7 @@ use Rattle.bilv_spec.specs.Words.{bit}
 use Rattle.bilv_spec.specs.Words as Words
 use Rattle.bilv_spec.specs.Memory.{endian}
 use Rattle.bilv_spec.specs.Notes.{Expr, value, is_true}
-use Rattle.bilv_spec.specs.Points.{line_price, bytes_loaded, products, operations}
+use Rattle.bilv_spec.specs.Points.{line_price, bytes_loaded, products, operations, value_count}
 use Rattle.walk_spec.specs.Prices.{line_size}
 use Rattle.walk_spec.specs.Terms.{TermReading, InRange, TermNode, AreTyped, AreTypedFrom, HasWidth, term_word}
 use Rattle.walk_spec.specs.Unrolled.{Walk, state_at}
@@ -271,12 +271,12 @@ module _ (old mid last new : List TermNode) (s z : Sweep) (big : Bool) (e : Expr
   pub denied_bit : HasWidth new 1 on
   denied_bit = grew_width last new 1 0 0 0 2 1 on steps.grew split.on_bit
 
-some_price : (p o : ℕ) → 64 ≤ 8192 * p + 512 * (if o == 0 then 1 else o - p)
-some_price p o = elim (truth (o == 0)) [
+some_price : (p o v : ℕ) → 64 ≤ 8192 * p + 512 * ((if o == 0 then 1 else o - p) + v)
+some_price p o v = elim (truth (o == 0)) [
   | inl e ↦ rw e (omega arith)
   | inr e ↦ rw e (let n : 0 < o = grind (arith, nat_tests) in omega (arith, n))
 ]
 
 -- a line's price has room for what is done with its bit
 pub price_room : (e : Expr) → 64 ≤ line_price e
-price_room e = some_price (products e) (operations e)
+price_room e = some_price (products e) (operations e) (value_count e)

@@ -1,6 +1,7 @@
 -- What is read of the text of a report, as definitions see it.
 use Rattle.std.specs.Prelude.{ℕ, ◌≡◌, ◌≤◌, List}
 use Rattle.bilv_spec.specs.Files.{program_of}
+use Rattle.bilv_spec.specs.Machine.{Machine}
 use Rattle.bilv_spec.specs.Points.{is_known_at}
 use Rattle.bilv_spec.specs.StateText as texts
 use Rattle.state_text.specs.Starts.{text_of}
@@ -19,4 +20,4 @@ told_of (Refused line kind) = texts.StateRefused line (fault_of kind)
 -- each of the addresses is known, or none is
 abbrev pub AreAlike : List ℕ → Notes → Alike → Type 0
 AreAlike file notes seen =
-    (entry x : ℕ) → seen.first ≤ x → x ≤ seen.stretch.last → is_known_at (program_of file (notes_of notes) entry) x ≡ seen.stretch.known
+    (m : Machine) (entry x : ℕ) → seen.first ≤ x → x ≤ seen.stretch.last → is_known_at (program_of m file (notes_of notes) entry) x ≡ seen.stretch.known

@@ -1,6 +1,7 @@
 //! What the text of a report says, where the file gives some bytes.
 ghost use Rattle.std.specs.Prelude.{◌≡◌, ℕ, ◌+◌, ◌≤◌, ◌<◌, ◌^◌, IfOk, MatchOption, length};
 ghost use Rattle.bilv_spec.specs.Files.{program_of};
+ghost use Rattle.bilv_spec.specs.Machine.{Machine};
 ghost use Rattle.bilv_spec.specs.Points.{is_known_at};
 ghost use Rattle.bilv_spec.specs.StateText.{Told, StateRefused, StateByteFault, state_of};
 ghost use Rattle.state_text.specs.Starts.{layout_of};
@@ -48,8 +49,8 @@ fn alike_at(image: &Image, notes: &Notes, seen: Alike, at: u32) -> Alike
 /// The number of the first line of a byte that the file gives, for bytes on lines that follow each other from a number on.
 fn known_line(image: &Image, notes: &Notes, bytes: &[(u32, u8)], first: u64) -> Option<u64>
     requires { first < 2 ^ 32 }
-    ensures { (entry : ℕ) (told : Told) →
-        let known = is_known_at (program_of image.now (notes_of notes.now) entry) in
+    ensures { (m : Machine) (entry : ℕ) (told : Told) →
+        let known = is_known_at (program_of m image.now (notes_of notes.now) entry) in
         MatchOption result (told_but known first bytes.now told ≡ told) (λ n. told_but known first bytes.now told ≡ StateRefused n StateByteFault) }
 {
     let mut seen = Alike {
@@ -68,8 +69,8 @@ fn known_line(image: &Image, notes: &Notes, bytes: &[(u32, u8)], first: u64) -> 
 /// A reading of a text with these bytes, but for one that the file gives, whose line is refused.
 fn unless_known(image: &Image, notes: &Notes, bytes: &[(u32, u8)], first: u64) -> Option<Reading>
     requires { first < 2 ^ 32 }
-    ensures { (entry : ℕ) (told : Told) →
-        let known = is_known_at (program_of image.now (notes_of notes.now) entry) in
+    ensures { (m : Machine) (entry : ℕ) (told : Told) →
+        let known = is_known_at (program_of m image.now (notes_of notes.now) entry) in
         MatchOption result (told_but known first bytes.now told ≡ told) (λ r. told_but known first bytes.now told ≡ told_of r) }
 {
     match known_line(image, notes, bytes, first) {
@@ -89,8 +90,8 @@ pub(crate) fn read_text(
     layout: Layout,
     text: &[u8],
 ) -> Result<Reading, AllocError>
-    ensures { (entry : ℕ) → IfOk result (λ r. state_of (layout_of layout) (is_known_at (program_of image.now (notes_of notes.now) entry)) text.now
-        ≡ told_of r) }
+    ensures { (m : Machine) (entry : ℕ) → IfOk result (λ r.
+        state_of (layout_of layout) (is_known_at (program_of m image.now (notes_of notes.now) entry)) text.now ≡ told_of r) }
 {
     let first = layout.head_lines() + 1;
     match parse_state(alloc, text, layout) {

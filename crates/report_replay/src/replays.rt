@@ -1,6 +1,6 @@
 //! The judgement of a report.
 ghost use Rattle.std.specs.Prelude.{◌≡◌, ℕ, IfOk};
-ghost use Rattle.bilv_spec.specs.Files.{machine_of, layout_of, program_of};
+ghost use Rattle.bilv_spec.specs.Files.{order_of, program_of};
 ghost use Rattle.bilv_spec.specs.Answers.{plain_answer};
 ghost use Rattle.bilv_spec.specs.Replays.{replay_answer, text_limit};
 ghost use Rattle.notes_lang.specs.Drafting.{notes_of};
@@ -31,11 +31,10 @@ pub fn replay<M: Machine>(
     entry: u32,
     text: &[u8],
 ) -> Result<Replay, AllocError>
-    requires machine { machine_of image.now ≡ M.machine }
-    requires form { layout_of image.now ≡ M.form }
+    requires order { order_of image.now ≡ M.machine.endian }
     requires readable { AreReadable M.machine.has_register (notes_of notes.now) }
     ensures { IfOk result (λ r. plain_answer r.status r.text.items
-        ≡ replay_answer (program_of image.now (notes_of notes.now) entry) (layout_of image.now) text.now) }
+        ≡ replay_answer (program_of M.machine image.now (notes_of notes.now) entry) M.form text.now) }
 {
     if text.len() > REPORT_LIMIT {
         return too_large(alloc);

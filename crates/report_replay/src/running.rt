@@ -2,7 +2,7 @@
 ghost use Rattle.std.specs.Prelude.{◌≡◌, ℕ, ◌+◌, ◌≤◌, IfOk};
 ghost use Rattle.bilv_spec.specs.Run.{Program, Start};
 ghost use Rattle.bilv_spec.specs.EntryFaults.{IsEntryStateFault};
-ghost use Rattle.bilv_spec.specs.Files.{machine_of, program_of};
+ghost use Rattle.bilv_spec.specs.Files.{order_of, program_of};
 ghost use Rattle.bilv_spec.specs.Points.{is_known_at};
 ghost use Rattle.bilv_spec.specs.StateText.{IsWritten, last_step};
 ghost use Rattle.bilv_spec.specs.Reports as reports;
@@ -63,13 +63,13 @@ pub(crate) fn run_named<M: Machine>(
     entry: u32,
     text: &StateText,
 ) -> Result<Replay, AllocError>
-    requires machine { machine_of image.now ≡ M.machine }
+    requires order { order_of image.now ≡ M.machine.endian }
     requires readable { AreReadable M.machine.has_register (notes_of notes.now) }
-    requires start { IsWritten M.form (is_known_at (program_of image.now (notes_of notes.now) entry)) (written_of text.now.start) }
+    requires start { IsWritten M.form (is_known_at (program_of M.machine image.now (notes_of notes.now) entry)) (written_of text.now.start) }
     requires step { named_step (named_of text.now.named) ≤ last_step }
     ensures { IfOk result (λ r. plain_answer r.status r.text.items
-        ≡ run_answer (program_of image.now (notes_of notes.now) entry) (named_of text.now.named)
-        (start_in (program_of image.now (notes_of notes.now) entry) M.form (written_of text.now.start))) }
+        ≡ run_answer (program_of M.machine image.now (notes_of notes.now) entry) (named_of text.now.named)
+        (start_in (program_of M.machine image.now (notes_of notes.now) entry) M.form (written_of text.now.start))) }
 {
     let state = start_state::<M>(alloc, image, notes, entry, &text.start)?;
     if let Err(fault) = lines_ok::<M>(image, notes, &state) {

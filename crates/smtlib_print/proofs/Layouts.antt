@@ -4,13 +4,14 @@ use Rattle.std.specs.Prelude.{◌==◌, ◌&&◌, ◌||◌, not, codes, if◌the
 use Rattle.std.specs.List.{list_all}
 use Rattle.std.specs.Option.{option_map}
 use Rattle.std.specs.Str.{bytes_eq}
-use Rattle.bilv_spec.specs.Memory.{Little, Big}
+use Rattle.bilv_spec.specs.Memory.{Endian, endian}
+use Rattle.bilv_spec.specs.Arm.{Profile}
 use Rattle.bilv_spec.specs.StateText.{Layout, value_names, place_in, rv_layout, arm_layout}
 use Rattle.bilv_spec.proofs.Spelling.{same_text}
 use Rattle.std.specs.Fmt.{digits}
 use Rattle.state_text.specs.declared.layout.Layout as forms
-use Rattle.state_text.specs.declared.layout.Layout.TheVariants.{Rv32, ArmLittle, ArmBig}
-use Rattle.state_text.specs.Starts.{layout_of}
+use Rattle.state_text.specs.declared.layout.Layout.TheVariants.{Rv32, Arm}
+use Rattle.state_text.specs.Starts.{layout_of, profile_in}
 use Rattle.smtlib_print.proofs.Declared.{onto, are_new, both_true, is_false}
 use Rattle.smtlib_print.proofs.Defined.{among}
 use Rattle.smtlib_print.proofs.Names.{is_symbol, other_text}
@@ -41,18 +42,13 @@ pub rv_usable : IsUsable rv_layout
 unfolding digits
 rv_usable = record { own = refl; distinct = refl; registers = refl; flags = refl }
 
-pub little_usable : IsUsable (arm_layout Little)
+pub arm_usable : (e : Endian) (profile : Profile) → IsUsable (arm_layout e profile)
 unfolding digits
-little_usable = record { own = refl; distinct = refl; registers = refl; flags = refl }
-
-pub big_usable : IsUsable (arm_layout Big)
-unfolding digits
-big_usable = record { own = refl; distinct = refl; registers = refl; flags = refl }
+arm_usable e profile = record { own = refl; distinct = refl; registers = refl; flags = refl }
 
 pub usable_of : (form : forms.Layout) → IsUsable (layout_of form)
 usable_of Rv32 = rv_usable
-usable_of ArmLittle = little_usable
-usable_of ArmBig = big_usable
+usable_of (Arm big profile) = arm_usable (endian big) (profile_in profile)
 
 -- a name by its place
 abbrev pub name_at : List (List ℕ) → ℕ → List ℕ

@@ -6,7 +6,7 @@ use Rattle.std.proofs.lemmas.Bool.{cases_eq}
 use Rattle.std.proofs.lemmas.Fmt.{decimal_digit}
 use Rattle.bilv_spec.specs.StateText.{register_names}
 use Rattle.state_text.specs.declared.layout.Layout.{Layout}
-use Rattle.state_text.specs.declared.layout.Layout.TheVariants.{Rv32, ArmLittle, ArmBig}
+use Rattle.state_text.specs.declared.layout.Layout.TheVariants.{Rv32, Arm}
 use Rattle.state_text.specs.Starts.{layout_of}
 use Rattle.state_text.proofs.Appends.{three, five, seven}
 use Rattle.bilv_spec.specs.Memory.{Endian, Little, Big, endian, place}
@@ -67,15 +67,13 @@ on_text r new out a b e h = on_ok r (new ≡ out ++ a) (new ≡ out ++ b) (λ f.
 pub rv_named : (form : Layout) (r : ℕ) → form ≡ Rv32 → (layout_of form).first ≤ r → r < (layout_of form).first + length (layout_of form).registers →
     120 ∷ number_text r ≡ slice_index_or (layout_of form).registers (r - (layout_of form).first) []
 rv_named Rv32 r e h k = sym (register_name 120 1 31 r h k)
-rv_named ArmLittle r e h k = absurd (cc e)
-rv_named ArmBig r e h k = absurd (cc e)
+rv_named (Arm big profile) r e h k = absurd (cc e)
 
 -- the names of ARM
 pub arm_named : (form : Layout) (r : ℕ) → (form ≡ Rv32 → ⊥) → (layout_of form).first ≤ r → r < (layout_of form).first + length (layout_of form).registers →
     114 ∷ number_text r ≡ slice_index_or (layout_of form).registers (r - (layout_of form).first) []
 arm_named Rv32 r e h k = absurd (e refl)
-arm_named ArmLittle r e h k = sym (register_name 114 0 15 r h k)
-arm_named ArmBig r e h k = sym (register_name 114 0 15 r h k)
+arm_named (Arm big profile) r e h k = sym (register_name 114 0 15 r h k)
 
 -- an address behind another
 pub behind_more : (a i : ℕ) → i ≢ 0 → three_of (Atom (codes "bvadd")) (term a) (address i) ≡ behind a i

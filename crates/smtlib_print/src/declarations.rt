@@ -17,8 +17,7 @@ fn first_register(form: Layout) -> u8
 {
     match form {
         Layout::Rv32 => 1,
-        Layout::ArmLittle => 0,
-        Layout::ArmBig => 0,
+        Layout::Arm { .. } => 0,
     }
 }
 

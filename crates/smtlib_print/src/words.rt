@@ -1,7 +1,8 @@
 //! Constants, numbers and names.
 ghost use Rattle.std.specs.Prelude.{◌≡◌, ◌≤◌, ◌<◌, ◌+◌, ◌-◌, ◌^◌, ◌++◌, ◌∷◌, ℕ, [], codes, length, string_bytes, slice_index_or, OnOk};
 ghost use Rattle.bilv_spec.specs.Texts.{hex_digit, hex_digits};
-ghost use Rattle.bilv_spec.specs.Memory.{Little, Big};
+ghost use Rattle.bilv_spec.specs.Arm.{V4};
+ghost use Rattle.bilv_spec.specs.Memory.{Little};
 ghost use Rattle.bilv_spec.specs.StateText.{arm_layout};
 ghost use Rattle.state_text.specs.Starts.{layout_of};
 ghost use Rattle.smtlib_print.specs.Commands as commands;
@@ -104,16 +105,14 @@ pub fn push_register(out: &mut String, form: Layout, register: u8) -> Result<(),
 {
     match form {
         Layout::Rv32 => write!(out, "x{register}"),
-        Layout::ArmLittle => write!(out, "r{register}"),
-        Layout::ArmBig => write!(out, "r{register}"),
+        Layout::Arm { .. } => write!(out, "r{register}"),
     }
 }
 
 /// The name of a flag of ARM.
 fn arm_flag(flag: u8) -> &'static str
     requires { flag < 4 }
-    ensures little { result.now ≡ slice_index_or (arm_layout Little).flags (3 - flag) [] }
-    ensures big { result.now ≡ slice_index_or (arm_layout Big).flags (3 - flag) [] }
+    ensures { result.now ≡ slice_index_or (arm_layout Little V4).flags (3 - flag) [] }
 {
     match flag {
         0 => "V",
@@ -130,7 +129,6 @@ pub fn flag_name(form: Layout, flag: u8) -> &'static str
 {
     match form {
         Layout::Rv32 => unreachable!(),
-        Layout::ArmLittle => arm_flag(flag),
-        Layout::ArmBig => arm_flag(flag),
+        Layout::Arm { .. } => arm_flag(flag),
     }
 }

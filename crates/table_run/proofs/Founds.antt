@@ -62,14 +62,13 @@ module _ (p : Program) (k : ℕ) (s : Start) (turns n last choice at : ℕ) (c :
         let before : run p k s last ≡ Going turns n c = subst (λ m. run p k s m ≡ Going turns n c) same going in
         ap (λ a. FoundLeft a n) here ∙ sym (ap (λ r. found_by r (Going more (n + 1) d)) before) ∙ sym (ap (found_by (run p k s last)) behind)
 
--- the same start of the same program, within the same bounds
-pub found_same : (p q : Program) (s t : Start) (bound last : ℕ) (k : Option ℕ) (f : Found) → p ≡ q → s ≡ t → bound ≡ turns_within last k
-    → f ≡ found_by (run p bound s last) (run p bound s (last + 1)) → f ≡ found q k t last
-found_same p q s t bound last k f programs starts bounds is =
+-- the same start, within the same bounds
+pub found_same : (p : Program) (s t : Start) (bound last : ℕ) (k : Option ℕ) (f : Found) → s ≡ t → bound ≡ turns_within last k
+    → f ≡ found_by (run p bound s last) (run p bound s (last + 1)) → f ≡ found p k t last
+found_same p s t bound last k f starts bounds is =
     is
     ∙ ap (λ b. found_by (run p b s last) (run p b s (last + 1))) bounds
-    ∙ ap (λ (r : Program). found r k s last) programs
-    ∙ ap (λ (r : Start). found q k r last) starts
+    ∙ ap (λ (r : Start). found p k r last) starts
 
 -- the state that the code makes is that of the start
 pub state_is : (p : Program) (form : Layout) (w : Written) (entries : List (ℕ × ℕ)) (s : State) → s ≡ made form w p.entry entries

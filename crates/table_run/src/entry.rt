@@ -1,6 +1,6 @@
 //! Whether a state may be the one at entry.
 ghost use Rattle.std.specs.Prelude.{◌≡◌, ℕ, ◌≤◌, ◌+◌, ◌%◌, ◌^◌, MatchOption, IfErr, OnOk, None};
-ghost use Rattle.bilv_spec.specs.Files.{machine_of, program_of as program_of_files};
+ghost use Rattle.bilv_spec.specs.Files.{order_of, program_of as program_of_files};
 ghost use Rattle.bilv_spec.specs.Verdict.{IsEntryState};
 ghost use Rattle.bilv_spec.specs.EntryFaults.{IsEntryStateFault, false_require};
 ghost use Rattle.notes_lang.specs.Drafting.{notes_of};
@@ -68,12 +68,13 @@ pub fn lines_ok<M: Machine>(
     notes: &Notes,
     state: &M::State,
 ) -> Result<(), EntryFault>
-    requires machine { machine_of image.now ≡ M.machine }
+    requires order { order_of image.now ≡ M.machine.endian }
     requires readable { AreReadable M.machine.has_register (notes_of notes.now) }
     ensures link { OnOk result ((M.State.view state.now).regs M.machine.link % 4 ≡ 0) }
-    ensures lines { OnOk result (false_require (program_of_files image.now (notes_of notes.now) (M.State.view state.now).pc) (M.State.view state.now) ≡ None) }
-    ensures fault { IfErr result (λ f. IsEntryStateFault (program_of_files image.now (notes_of notes.now) (M.State.view state.now).pc) (M.State.view state.now)
-        (fault_of f)) }
+    ensures lines { OnOk result
+        (false_require (program_of_files M.machine image.now (notes_of notes.now) (M.State.view state.now).pc) (M.State.view state.now) ≡ None) }
+    ensures fault { IfErr result (λ f.
+        IsEntryStateFault (program_of_files M.machine image.now (notes_of notes.now) (M.State.view state.now).pc) (M.State.view state.now) (fault_of f)) }
     ensures kind { IfErr result IsLinesFault }
 {
     if state.link() % 4 != 0 {
@@ -96,11 +97,11 @@ pub fn entry_ok<M: Machine>(
     notes: &Notes,
     state: &M::State,
 ) -> Result<(), EntryFault>
-    requires machine { machine_of image.now ≡ M.machine }
+    requires order { order_of image.now ≡ M.machine.endian }
     requires readable { AreReadable M.machine.has_register (notes_of notes.now) }
-    ensures ok { OnOk result (IsEntryState (program_of_files image.now (notes_of notes.now) (M.State.view state.now).pc) (M.State.view state.now)) }
-    ensures fault { IfErr result (λ f. IsEntryStateFault (program_of_files image.now (notes_of notes.now) (M.State.view state.now).pc) (M.State.view state.now)
-        (fault_of f)) }
+    ensures ok { OnOk result (IsEntryState (program_of_files M.machine image.now (notes_of notes.now) (M.State.view state.now).pc) (M.State.view state.now)) }
+    ensures fault { IfErr result (λ f.
+        IsEntryStateFault (program_of_files M.machine image.now (notes_of notes.now) (M.State.view state.now).pc) (M.State.view state.now) (fault_of f)) }
 {
     lines_ok::<M>(image, notes, state)?;
     let p = Program {

@@ -2,7 +2,7 @@
 ghost use Rattle.std.specs.Prelude.{◌≡◌, ℕ, ◌≤◌, ◌<◌, ◌+◌, ◌-◌, ◌^◌, IfOk, IfSome, MatchOption, nat_le};
 ghost use Rattle.bilv_spec.specs.Memory as memory;
 ghost use Rattle.bilv_spec.specs.Memory.{byte_in};
-ghost use Rattle.bilv_spec.specs.Files.{machine_of, program_of as program_of_files};
+ghost use Rattle.bilv_spec.specs.Files.{order_of, program_of as program_of_files};
 ghost use Rattle.bilv_spec.specs.Run as meaning;
 ghost use Rattle.bilv_spec.specs.Points.{is_known_at};
 ghost use Rattle.bilv_spec.specs.StateText.{AreRising, IsWritten};
@@ -107,8 +107,9 @@ pub fn start_state<M: Machine>(
     entry: u32,
     start: &Start,
 ) -> Result<M::State, AllocError>
-    requires { IsWritten M.form (is_known_at (program_of_files image.now (notes_of notes.now) entry)) (written_of start.now) }
-    ensures { IfOk result (λ s. M.State.view s ≡ (start_in (program_of_files image.now (notes_of notes.now) entry) M.form (written_of start.now)).state) }
+    requires { IsWritten M.form (is_known_at (program_of_files M.machine image.now (notes_of notes.now) entry)) (written_of start.now) }
+    ensures { IfOk result (λ s.
+        M.State.view s ≡ (start_in (program_of_files M.machine image.now (notes_of notes.now) entry) M.form (written_of start.now)).state) }
 {
     let p = Program {
         image,
@@ -136,12 +137,12 @@ pub fn run<M: Machine>(
     k: Option<u64>,
     limit: u64,
 ) -> Result<Ending, AllocError>
-    requires machine { machine_of image.now ≡ M.machine }
+    requires order { order_of image.now ≡ M.machine.endian }
     requires readable { AreReadable M.machine.has_register (notes_of notes.now) }
     requires some { 1 ≤ limit }
-    requires start { IsWritten M.form (is_known_at (program_of_files image.now (notes_of notes.now) entry)) (written_of start.now) }
-    ensures { IfOk result (λ e. found_of e ≡ found (program_of_files image.now (notes_of notes.now) entry) k
-        (start_in (program_of_files image.now (notes_of notes.now) entry) M.form (written_of start.now)) (limit - 1)) }
+    requires start { IsWritten M.form (is_known_at (program_of_files M.machine image.now (notes_of notes.now) entry)) (written_of start.now) }
+    ensures { IfOk result (λ e. found_of e ≡ found (program_of_files M.machine image.now (notes_of notes.now) entry) k
+        (start_in (program_of_files M.machine image.now (notes_of notes.now) entry) M.form (written_of start.now)) (limit - 1)) }
 {
     let p = Program {
         image,

@@ -4,8 +4,8 @@ use Rattle.std.specs.Prelude.{min, ◌⊎◌, ◌==◌, ◌&&◌, if◌then◌el
 use Rattle.std.proofs.Math.Nat.{mul-le-mul_left}
 use Rattle.std.proofs.lemmas.Bool.Decides.{nat_tests}
 use Rattle.bilv_spec.specs.Notes as notes
-use Rattle.bilv_spec.specs.Notes.{Op, Expr, Number, Register, Flag, Pc, Memory, Old, Not, Binary}
-use Rattle.bilv_spec.specs.Points.{is_product, products, operations, line_price}
+use Rattle.bilv_spec.specs.Notes.{Op, Expr, Number, Register, Flag, Pc, Bound, Memory, Old, Not, Binary}
+use Rattle.bilv_spec.specs.Points.{is_product, is_written, products, operations, value_count, line_price}
 use Rattle.unroller.specs.LineCosts.{capped, others, parts_price}
 
 pub capped_sum : (x y : ℕ) → capped (capped x + capped y) ≡ capped (x + y)
@@ -82,47 +82,50 @@ times_is a b x y r p q e = e ∙ ap (λ (z : ℕ). capped (z * b)) p ∙ ap (λ 
 pub pairs_is : (a x r : ℕ) → a ≡ capped x → r ≡ capped (a * (a - 1)) → r ≡ capped (x * (x - 1))
 pairs_is a x r p e = e ∙ ap (λ (z : ℕ). capped (z * (z - 1))) p ∙ capped_pairs x
 
-pub one_at_most : (op : Op) → is_product op ≤ 1
-one_at_most notes.Or = omega arith
-one_at_most notes.And = omega arith
-one_at_most notes.Equal = omega arith
-one_at_most notes.NotEqual = omega arith
-one_at_most notes.Below = omega arith
-one_at_most notes.AtMost = omega arith
-one_at_most notes.Above = omega arith
-one_at_most notes.AtLeast = omega arith
-one_at_most notes.SignedBelow = omega arith
-one_at_most notes.SignedAtMost = omega arith
-one_at_most notes.SignedAbove = omega arith
-one_at_most notes.SignedAtLeast = omega arith
-one_at_most notes.BitOr = omega arith
-one_at_most notes.BitXor = omega arith
-one_at_most notes.BitAnd = omega arith
-one_at_most notes.ShiftLeft = omega arith
-one_at_most notes.ShiftRight = omega arith
-one_at_most notes.ShiftSigned = omega arith
-one_at_most notes.Plus = omega arith
-one_at_most notes.Minus = omega arith
-one_at_most notes.Times = omega arith
+-- an operator of the text is at most one product, and the one that joins values is none
+product_few : (op : Op) → is_product op ≤ is_written op
+product_few notes.Or = omega arith
+product_few notes.And = omega arith
+product_few notes.Equal = omega arith
+product_few notes.NotEqual = omega arith
+product_few notes.Below = omega arith
+product_few notes.AtMost = omega arith
+product_few notes.Above = omega arith
+product_few notes.AtLeast = omega arith
+product_few notes.SignedBelow = omega arith
+product_few notes.SignedAtMost = omega arith
+product_few notes.SignedAbove = omega arith
+product_few notes.SignedAtLeast = omega arith
+product_few notes.BitOr = omega arith
+product_few notes.BitXor = omega arith
+product_few notes.BitAnd = omega arith
+product_few notes.ShiftLeft = omega arith
+product_few notes.ShiftRight = omega arith
+product_few notes.ShiftSigned = omega arith
+product_few notes.Plus = omega arith
+product_few notes.Minus = omega arith
+product_few notes.Times = omega arith
+product_few notes.Each = omega arith
 
 pub all_operations : (e : Expr) → operations e ≡ products e + others e
 all_operations (Number n) = refl
 all_operations (Register r) = refl
 all_operations (Flag f) = refl
 all_operations Pc = refl
+all_operations Bound = refl
 all_operations (Memory n e) = all_operations e
 all_operations (Old e) = all_operations e
 all_operations (Not e) = let h = all_operations e in omega arith
 all_operations (Binary op a b) =
-    let h = all_operations a in let i = all_operations b in let j = one_at_most op in omega arith
+    let h = all_operations a in let i = all_operations b in let j = product_few op in omega arith
 
 -- the price by the parts: cases for no operator
-price_cases : (p o : ℕ) (x y : Bool) → (p == 0) ≡ x → (o == 0) ≡ y →
-    capped (capped (capped p * 8192) + capped ((if (capped p == 0) && (capped o == 0) then 1 else capped o) * 512))
-    ≡ capped (8192 * p + 512 * (if p + o == 0 then 1 else p + o - p))
-price_cases p o x y h i = grind (arith, nat_tests)
+price_cases : (p o v : ℕ) (x y : Bool) → (p == 0) ≡ x → (o == 0) ≡ y →
+    capped (capped (capped p * 8192) + capped (capped ((if (capped p == 0) && (capped o == 0) then 1 else capped o) + capped v) * 512))
+    ≡ capped (8192 * p + 512 * ((if p + o == 0 then 1 else p + o - p) + v))
+price_cases p o v x y h i = grind (arith, nat_tests)
 
-pub parts_are : (e : Expr) → parts_price (capped (products e)) (capped (others e)) ≡ capped (line_price e)
+pub parts_are : (e : Expr) → parts_price (capped (products e)) (capped (others e)) (capped (value_count e)) ≡ capped (line_price e)
 parts_are e =
-    price_cases (products e) (others e) (products e == 0) (others e == 0) refl refl
-    ∙ ap (λ (z : ℕ). capped (8192 * products e + 512 * (if z == 0 then 1 else z - products e))) (sym (all_operations e))
+    price_cases (products e) (others e) (value_count e) (products e == 0) (others e == 0) refl refl
+    ∙ ap (λ (z : ℕ). capped (8192 * products e + 512 * ((if z == 0 then 1 else z - products e) + value_count e))) (sym (all_operations e))

@@ -1,4 +1,5 @@
 mod Capped
+mod Repeated
 mod Coded
 mod Dropped
 pub mod EdgeLists

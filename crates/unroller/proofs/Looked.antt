@@ -33,7 +33,7 @@ in_form : (r n c : ℕ) → list_any (nat_eq r) (from_to n c) ≡ (nat_le n r &&
 in_form r n zero = grind (arith, nat_tests)
 in_form r n (suc c) = one_more r n c (list_any (nat_eq r) (from_to (n + 1) c)) (in_form r (n + 1) c)
 
-count_of : (n count : ℕ) → length (from_to n count) ≡ count
+pub count_of : (n count : ℕ) → length (from_to n count) ≡ count
 count_of n zero = refl
 count_of n (suc count) = let e = count_of (n + 1) count in omega arith
 

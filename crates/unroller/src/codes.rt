@@ -1,7 +1,8 @@
 //! What stands at an address.
 ghost use Rattle.std.specs.Prelude.{◌≡◌, ◌++◌, ℕ, IfOk, OnOk, None, Some, false, Contains, length};
 ghost use Rattle.std.specs.List.Sorted.{IsNonDecreasingBy};
-ghost use Rattle.bilv_spec.specs.Files.{machine_of, program_of};
+ghost use Rattle.bilv_spec.specs.Files.{order_of, program_of};
+ghost use Rattle.bilv_spec.specs.Machine.{Machine};
 ghost use Rattle.bilv_spec.specs.Notes.{Notes};
 ghost use Rattle.bilv_spec.specs.Points as points;
 ghost use Rattle.bilv_spec.specs.Points.{loads_at};
@@ -52,7 +53,7 @@ fn bare(node: &Node, asserts: (usize, usize)) -> Code
 
 /// The address of the literal that an instruction loads where it stands at an address, if its four bytes are kept.
 fn kept_literal<M: Machine>(image: &Image, insn: &M::Insn, at: u32) -> Option<u32>
-    ensures { (n : Notes) (e : ℕ) → result ≡ rows.kept_literal (program_of image.now n e) ((M.Machine.row insn.now).literal at) }
+    ensures { (n : Notes) (e : ℕ) → result ≡ rows.kept_literal (program_of M.machine image.now n e) ((M.Machine.row insn.now).literal at) }
 {
     match M::literal(insn, at) {
         None => None,
@@ -66,7 +67,7 @@ fn kept_literal<M: Machine>(image: &Image, insn: &M::Insn, at: u32) -> Option<u3
 
 /// The byte order of a file's machine.
 fn order(image: &Image) -> Endian
-    ensures { endian_of result ≡ (machine_of image.now).endian }
+    ensures { endian_of result ≡ order_of image.now }
 {
     if image.is_big_machine() {
         return Endian::Big;
@@ -76,9 +77,9 @@ fn order(image: &Image) -> Endian
 
 /// The word that a file has at an address.
 fn word_at(image: &Image, at: u32) -> Literal
-    ensures order { endian_of result.order ≡ (machine_of image.now).endian }
+    ensures order { endian_of result.order ≡ order_of image.now }
     ensures at { result.at ≡ at }
-    ensures value { (n : Notes) (e : ℕ) → result.value ≡ points.file_word (program_of image.now n e) at }
+    ensures value { (m : Machine) (n : Notes) (e : ℕ) → order_of image.now ≡ m.endian → result.value ≡ points.file_word (program_of m image.now n e) at }
 {
     Literal {
         order: order(image),
@@ -102,10 +103,11 @@ fn listed<M: Machine>(
     insn: &M::Insn,
     node: &Node,
 ) -> Result<RowList, AllocError>
-    requires { machine_of image.now ≡ M.machine }
-    ensures list { (n : Notes) (e : ℕ) → IsKeptLive (program_of image.now n e) node.now →
-        IfOk result (λ l. IsListAt (program_of image.now n e) M.bank (M.Machine.row insn.now) node.now.at (statements l.list.items)) }
-    ensures loads { (n : Notes) (e : ℕ) → IfOk result (λ l. l.loads ≡ loads_at (program_of image.now n e) node.now.at (Some (M.Machine.row insn.now))) }
+    requires { order_of image.now ≡ M.machine.endian }
+    ensures list { (n : Notes) (e : ℕ) → IsKeptLive (program_of M.machine image.now n e) node.now →
+        IfOk result (λ l. IsListAt (program_of M.machine image.now n e) M.bank (M.Machine.row insn.now) node.now.at (statements l.list.items)) }
+    ensures loads { (n : Notes) (e : ℕ) → IfOk result (λ l.
+        l.loads ≡ loads_at (program_of M.machine image.now n e) node.now.at (Some (M.Machine.row insn.now))) }
 {
     let lifted = M::lift(alloc, insn, node.at)?;
     let trimmed = with_flags(lifted, alloc, node.keeps)?;
@@ -129,11 +131,11 @@ pub fn code_at<M: Machine>(
     node: &Node,
     asserts: (usize, usize),
 ) -> Result<Code, AllocError>
-    requires { machine_of image.now ≡ M.machine }
+    requires { order_of image.now ≡ M.machine.endian }
     ensures at { IfOk result (λ c. c.at ≡ node.now.at) }
     ensures asserts { IfOk result (λ c. c.asserts ≡ asserts) }
-    ensures row { (n : Notes) (e : ℕ) → IsNode (program_of image.now n e) node.now → IsKeptLive (program_of image.now n e) node.now →
-        IfOk result (λ c. IsRowCode (program_of image.now n e) M.bank c) }
+    ensures row { (n : Notes) (e : ℕ) → IsNode (program_of M.machine image.now n e) node.now → IsKeptLive (program_of M.machine image.now n e) node.now →
+        IfOk result (λ c. IsRowCode (program_of M.machine image.now n e) M.bank c) }
 {
     let word = match node.word {
         None => return Ok(bare(node, asserts)),
@@ -166,12 +168,12 @@ pub fn codes_at<M: Machine>(
     addresses: &[u32],
     asserts: &[(u32, usize)],
 ) -> Result<Vec<Code>, AllocError>
-    requires machine { machine_of image.now ≡ M.machine }
+    requires order { order_of image.now ≡ M.machine.endian }
     requires nodes { AreRising graph.now.nodes.items }
     requires among { (a : ℕ) → Contains addresses.now a → Contains (addresses_of graph.now) a }
     requires sorted { IsNonDecreasingBy (λ x. x.0) asserts.now }
-    ensures { (n : Notes) (e : ℕ) → IsGraph (program_of image.now n e) graph.now → LiveStay (program_of image.now n e) graph.now →
-        IfOk result (λ v. AreCodes (program_of image.now n e) M.bank addresses.now asserts.now (length addresses.now) v.items) }
+    ensures { (n : Notes) (e : ℕ) → IsGraph (program_of M.machine image.now n e) graph.now → LiveStay (program_of M.machine image.now n e) graph.now →
+        IfOk result (λ v. AreCodes (program_of M.machine image.now n e) M.bank addresses.now asserts.now (length addresses.now) v.items) }
 {
     let mut codes: Vec<Code> = Vec::with_capacity(alloc, addresses.len())?;
     for at in addresses {
@@ -187,8 +189,8 @@ pub fn codes_at<M: Machine>(
 
 /// The address of the literal that the row of a node loads, if its four bytes are kept.
 fn node_literal<M: Machine>(image: &Image, node: &Node) -> Option<u32>
-    requires { machine_of image.now ≡ M.machine }
-    ensures { (n : Notes) (e : ℕ) → IsNode (program_of image.now n e) node.now → result ≡ rows.literal_at (program_of image.now n e) node.now.at }
+    ensures { (n : Notes) (e : ℕ) → IsNode (program_of M.machine image.now n e) node.now →
+        result ≡ rows.literal_at (program_of M.machine image.now n e) node.now.at }
 {
     match node.word {
         None => None,
@@ -216,11 +218,10 @@ pub fn literals_at<M: Machine>(
     graph: &Graph,
     addresses: &[u32],
 ) -> Result<Vec<u32>, AllocError>
-    requires machine { machine_of image.now ≡ M.machine }
     requires nodes { AreRising graph.now.nodes.items }
     requires among { (a : ℕ) → Contains addresses.now a → Contains (addresses_of graph.now) a }
-    ensures { (n : Notes) (e : ℕ) → IsGraph (program_of image.now n e) graph.now →
-        IfOk result (λ v. AreLiterals (program_of image.now n e) addresses.now (length addresses.now) v.items) }
+    ensures { (n : Notes) (e : ℕ) → IsGraph (program_of M.machine image.now n e) graph.now →
+        IfOk result (λ v. AreLiterals (program_of M.machine image.now n e) addresses.now (length addresses.now) v.items) }
 {
     let mut found: Vec<u32> = Vec::new(alloc);
     for at in addresses {

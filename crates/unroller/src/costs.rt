@@ -2,15 +2,17 @@
 ghost use Rattle.std.specs.Prelude.{◌≡◌, ◌≤◌};
 ghost use Rattle.bilv_spec.specs.Points.{is_product};
 ghost use Rattle.notes_value.specs.Views.{bytes_of, expr_of, op_of};
-ghost use Rattle.unroller.specs.LineCosts.{HasParts, IsLineCost, IsJoined, parts_price};
+ghost use Rattle.unroller.specs.LineCosts.{HasParts, IsLineCost, IsJoined, IsRepeated, parts_price};
 
 use notes_value::{Expr, Operator, Size};
 
-/// What an expression has, each number at most 2^128 - 1: products, other operators, and bytes that it loads.
+/// What an expression has with each `all` written out, each number at most 2^128 - 1: products, other operators of the text, the values of its `all`s, and
+/// bytes that it loads.
 #[derive(Clone, Copy)]
 pub struct Parts {
     pub products: u128,
     pub others: u128,
+    pub values: u128,
     pub loads: u128,
 }
 
@@ -75,7 +77,20 @@ fn joined(product: u128, a: Parts, b: Parts) -> Parts
             .others
             .saturating_add(b.others)
             .saturating_add(1 - product),
+        values: a.values.saturating_add(b.values),
         loads: a.loads.saturating_add(b.loads),
+    }
+}
+
+/// The parts of an `all` of so many values, from those of its expression.
+fn repeated(inner: Parts, count: u128) -> Parts
+    ensures { IsRepeated count inner result }
+{
+    Parts {
+        products: inner.products.saturating_mul(count),
+        others: inner.others.saturating_mul(count),
+        values: inner.values.saturating_add(1).saturating_mul(count),
+        loads: inner.loads.saturating_mul(count),
     }
 }
 
@@ -84,9 +99,10 @@ fn parts_of(expr: &Expr) -> Parts
     ensures { HasParts result (expr_of expr.now) }
 {
     match expr {
-        Expr::Number(_) | Expr::Register(_) | Expr::Flag(_) | Expr::Pc => Parts {
+        Expr::Number(_) | Expr::Register(_) | Expr::Flag(_) | Expr::Pc | Expr::Bound => Parts {
             products: 0,
             others: 0,
+            values: 0,
             loads: 0,
         },
         Expr::Memory(size, address) => {
@@ -94,6 +110,7 @@ fn parts_of(expr: &Expr) -> Parts
             Parts {
                 products: inner.products,
                 others: inner.others,
+                values: inner.values,
                 loads: inner.loads.saturating_add(bytes(*size)),
             }
         }
@@ -103,16 +120,20 @@ fn parts_of(expr: &Expr) -> Parts
             Parts {
                 products: inner.products,
                 others: inner.others.saturating_add(1),
+                values: inner.values,
                 loads: inner.loads,
             }
         }
         Expr::Binary(op, a, b) => joined(product(*op), parts_of(a), parts_of(b)),
+        Expr::All(low, high, inner) => {
+            repeated(parts_of(inner), high.saturating_sub(*low) as u128 + 1)
+        }
     }
 }
 
-/// The price of parts; without an operator they count as one.
+/// The price of parts; without an operator they count as one, and each value of an `all` counts as one more.
 fn priced(parts: Parts) -> LineCost
-    ensures price { result.price ≡ parts_price parts.products parts.others }
+    ensures price { result.price ≡ parts_price parts.products parts.others parts.values }
     ensures loads { result.loads ≡ parts.loads }
 {
     let others = if parts.products == 0 && parts.others == 0 {
@@ -124,7 +145,7 @@ fn priced(parts: Parts) -> LineCost
         price: parts
             .products
             .saturating_mul(8192)
-            .saturating_add(others.saturating_mul(512)),
+            .saturating_add(others.saturating_add(parts.values).saturating_mul(512)),
         loads: parts.loads,
     }
 }

@@ -1,7 +1,7 @@
 //! The unrolled program of a program.
 ghost use Rattle.std.specs.Prelude.{◌≡◌, ◌≤◌, ◌<◌, ◌^◌, ℕ, None, IfOk, IfErr, length, slice_index_or};
 ghost use Rattle.bilv_spec.specs.Elf.{IsKeptRuns};
-ghost use Rattle.bilv_spec.specs.Files.{machine_of, program_of};
+ghost use Rattle.bilv_spec.specs.Files.{order_of, program_of};
 ghost use Rattle.graph_nodes.specs.Graphs.{IsGraph};
 ghost use Rattle.notes_lang.specs.Drafting.{notes_of};
 ghost use Rattle.program_points.specs.Listed.{HasOneWay, IsTooMany};
@@ -59,13 +59,13 @@ pub fn unroll<'a, M: Machine>(
     k: u64,
     max: u64,
 ) -> Result<Unrolled<'a>, PointsFault>
-    requires machine { machine_of image.now ≡ M.machine }
+    requires order { order_of image.now ≡ M.machine.endian }
     requires max { max ≤ 16777216 }
     requires k { k ≤ 4096 }
-    requires graph { IsGraph (program_of image.now (notes_of notes.now) entry) graph.now }
-    requires one_way { HasOneWay (program_of image.now (notes_of notes.now) entry) }
-    ensures unrolled { IfOk result (λ u. IsUnrolling (program_of image.now (notes_of notes.now) entry) k (unrolled_of u)) }
-    ensures lean { IfOk result (λ u. AssignsLiveOnly (program_of image.now (notes_of notes.now) entry) (unrolled_of u)) }
+    requires graph { IsGraph (program_of M.machine image.now (notes_of notes.now) entry) graph.now }
+    requires one_way { HasOneWay (program_of M.machine image.now (notes_of notes.now) entry) }
+    ensures unrolled { IfOk result (λ u. IsUnrolling (program_of M.machine image.now (notes_of notes.now) entry) k (unrolled_of u)) }
+    ensures lean { IfOk result (λ u. AssignsLiveOnly (program_of M.machine image.now (notes_of notes.now) entry) (unrolled_of u)) }
     ensures formed { IfOk result (λ u. IsFormed u) }
     ensures few { IfOk result (λ u. length u.points.items ≤ max) }
     ensures form { IfOk result (λ u. HasForm M.machine u) }
@@ -73,7 +73,7 @@ pub fn unroll<'a, M: Machine>(
     ensures layout { IfOk result (λ u. layout_of u.form ≡ M.form) }
     ensures runs { IfOk result (λ u. AreRuns u.known.items) }
     ensures beyond { (x : ℕ) → 2 ^ 32 ≤ x → IfOk result (λ u. byte_of_runs (unrolled_of u).known x ≡ None) }
-    ensures more { IfErr result (IsTooMany (program_of image.now (notes_of notes.now) entry) k max) }
+    ensures more { IfErr result (IsTooMany (program_of M.machine image.now (notes_of notes.now) entry) k max) }
 {
     let listed = points(alloc, graph, entry, k, max)?;
     let mut stacks = listed.stacks;

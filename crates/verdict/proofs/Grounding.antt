@@ -5,11 +5,11 @@ use Rattle.std.specs.Prelude.{if◌then◌else◌, nat_lt, length, map, slice_in
 use Rattle.std.proofs.lemmas.Bool.Decides.{nat_tests}
 use Rattle.std.proofs.lemmas.List.{length-map}
 use Rattle.std.proofs.lemmas.List.Elements.{All-contains}
-use Rattle.bilv_spec.specs.Files.{machine_of, program_of}
+use Rattle.bilv_spec.specs.Files.{program_of}
 use Rattle.bilv_spec.specs.Machine.{Machine}
 use Rattle.bilv_spec.specs.MachineLaws.{IsLawfulMachine, IsFitted}
 use Rattle.bilv_spec.specs.RowFiles.{from_to}
-use Rattle.bilv_spec.specs.Notes.{Notes, NoteLine, Assert, Expr, Number, Register, Flag, Pc, Memory, Old, Not, Binary}
+use Rattle.bilv_spec.specs.Notes.{Notes, NoteLine, Assert, Expr, Number, Register, Flag, Pc, Bound, Memory, Old, Not, Binary}
 use Rattle.bilv_spec.specs.StateText.{Layout, last_step}
 use Rattle.bilv_spec.specs.Run.{Program}
 use Rattle.bilv_spec.specs.Points.{byte_of_cell, is_known_at, HasMore, IsPrice}
@@ -40,12 +40,10 @@ use Rattle.verdict.specs.Rounds.{HasBytes, IsAskable}
 use Rattle.verdict.specs.declared.measuring.Measured.{Measured}
 use Rattle.verdict.specs.declared.measuring.Measured.TheVariants.{Above, Within}
 
--- the rows of a file of a lawful machine are lawful
-pub file_rows_lawful : (file : List ℕ) (notes : Notes) (entry : ℕ) (m : Machine) → machine_of file ≡ m → IsLawfulMachine m →
-    ((i : ℕ) → slice_index file i < 256) →
-    HasLawfulRows (program_of file notes entry)
-file_rows_lawful file notes entry m is lawful small =
-    rows_lawful (program_of file notes entry) (subst IsLawfulMachine (sym is) lawful) (λ a. cell_small file small a _)
+-- the rows that a lawful machine has in a file are lawful
+pub file_rows_lawful : (m : Machine) (file : List ℕ) (notes : Notes) (entry : ℕ) → IsLawfulMachine m → ((i : ℕ) → slice_index file i < 256) →
+    HasLawfulRows (program_of m file notes entry)
+file_rows_lawful m file notes entry lawful small = rows_lawful (program_of m file notes entry) lawful (λ a. cell_small file small a _)
 
 -- lines over a machine can be read by a program that has its registers and flags
 truth : (b : Bool) → IsTrue b → b ≡ true
@@ -57,6 +55,7 @@ readable u regs flags p q (Number n) h = h
 readable u regs flags p q (Register r) h = p r ∙ truth (regs r) h
 readable u regs flags p q (Flag f) h = q f ∙ truth (flags f) h
 readable u regs flags p q Pc h = tt
+readable u regs flags p q Bound h = tt
 readable u regs flags p q (Memory n a) h = (h.0, h.1, readable u regs flags p q a h.2)
 readable u regs flags p q (Old a) h = readable u regs flags p q a h
 readable u regs flags p q (Not a) h = readable u regs flags p q a h
@@ -118,20 +117,16 @@ bytes_by p k u un beyond small a b true e h =
 bytes_by p k u un beyond small a b false e h = let none = beyond a (grind (arith, nat_tests)) in absurd (let same : None ≡ Some b = sym none ∙ h in cc)
 
 -- the known bytes of a file of bytes are bytes
-pub has_bytes : (file : List ℕ) (notes : Notes) (entry k : ℕ) (u : UnrolledProgram) → IsUnrolling (program_of file notes entry) k u →
+pub has_bytes : (m : Machine) (file : List ℕ) (notes : Notes) (entry k : ℕ) (u : UnrolledProgram) → IsUnrolling (program_of m file notes entry) k u →
     ((x : ℕ) → 2 ^ 32 ≤ x → byte_of_runs u.known x ≡ None) → ((i : ℕ) → slice_index file i < 256) → HasBytes u
-has_bytes file notes entry k u un beyond small a b h =
-    bytes_by (program_of file notes entry) k u un beyond (λ x. cell_small file small x _) a b (nat_lt a (2 ^ 32)) refl h
+has_bytes m file notes entry k u un beyond small a b h =
+    bytes_by (program_of m file notes entry) k u un beyond (λ x. cell_small file small x _) a b (nat_lt a (2 ^ 32)) refl h
 
-module _ (file : List ℕ) (notes : Notes) (entry : ℕ) (m : Machine) (form : Layout) (b : Budget) (is : machine_of file
-    ≡ m) (lawful : IsLawfulMachine m) (fitted : IsFitted m form)
+module _ (file : List ℕ) (notes : Notes) (entry : ℕ) (m : Machine) (form : Layout) (b : Budget) (lawful : IsLawfulMachine m) (fitted : IsFitted m form)
     (small : (i : ℕ) → slice_index file i < 256) (over : AreOver m.has_register m.has_flag notes) (at : entry < 2 ^ 32) (most : b.points ≤ 16777216) where
   -- the program
   abbrev p : Program
-  p = program_of file notes entry
-
-  fits : IsFitted p.machine form
-  fits = subst (λ (n : Machine). IsFitted n form) (sym is) fitted
+  p = program_of m file notes entry
 
   -- an unrolled program with no more points than the budget
   module _ (u : Unrolled) (un : IsUnrolling p b.unroll (unrolled_of u)) (formed : IsFormed u) (few : length u.points.items ≤ b.points) (has : HasForm m u)
@@ -145,22 +140,21 @@ module _ (file : List ℕ) (notes : Notes) (entry : ℕ) (m : Machine) (form : L
     counted = subst (λ (n : ℕ). n ≤ b.points) (sym (count_points u u.points.items)) few
 
     bytes : HasBytes (unrolled_of u)
-    bytes = has_bytes file notes entry b.unroll (unrolled_of u) un beyond small
+    bytes = has_bytes m file notes entry b.unroll (unrolled_of u) un beyond small
 
     readable_notes : AreReadableBy (unrolled_of u) notes
     readable_notes =
-        all_readable (unrolled_of u) p.machine.has_register p.machine.has_flag notes un.registers un.flags
-        (subst (λ (n : Machine). AreOver n.has_register n.has_flag notes) (sym is) over)
+        all_readable (unrolled_of u) m.has_register m.has_flag notes un.registers un.flags over
 
     is_unrolled : IsUnrolledOf p form b u
     is_unrolled = record {
       measurable = record {
-        walkable = unrolling_is_walkable p b.unroll (unrolled_of u) un form fits laid readable_notes at addresses;
+        walkable = unrolling_is_walkable p b.unroll (unrolled_of u) un form fitted laid readable_notes at addresses;
         formed = formed;
         bytes = bytes;
         runs = runs;
       };
-      ground = grounded p b.unroll form (unrolled_of u) un fits laid (file_rows_lawful file notes entry m is lawful small) at bytes
+      ground = grounded p b.unroll form (unrolled_of u) un fitted laid (file_rows_lawful m file notes entry lawful small) at bytes
           (omega (arith, counted, most));
       few = counted;
     }

@@ -9,10 +9,10 @@ use Rattle.bilv_spec.specs.Machine.{Row, Machine}
 use Rattle.bilv_spec.specs.Rv as rv
 use Rattle.bilv_spec.specs.Rv.{rv32, rv_row}
 use Rattle.bilv_spec.specs.Arm as arms
-use Rattle.bilv_spec.specs.Arm.{arm, arm_row, condition_code}
+use Rattle.bilv_spec.specs.Arm.{Profile, arm, arm_row, condition_code}
 use Rattle.bilv_spec.specs.Run.{Program, fetchable}
 use Rattle.bilv_spec.specs.Points.{file_row, file_word}
-use Rattle.bilv_spec.specs.Files.{is_rv, machine_of, program_of}
+use Rattle.bilv_spec.specs.Files.{Options, is_rv, machine_of, program_of}
 use Rattle.program_points.specs.Listed.{HasOneWay}
 
 -- a row has 4 bytes and one way
@@ -75,9 +75,9 @@ abbrev ArmWays : List arms.Instruction → Type 0
 ArmWays [] = Unit {0}
 ArmWays (i ∷ rest) = ((w : ℕ) → HasWay (i.row w)) × ArmWays rest
 
-arm_table_ways : (e : Endian) → ArmWays (arms.table e)
+arm_table_ways : (e : Endian) (profile : Profile) → ArmWays (arms.table e profile)
 unfolding arms.table
-arm_table_ways e = (
+arm_table_ways e profile = (
   λ w. record { four = refl; direct = λ at i. refl },
   (
     λ w. record { four = refl; direct = λ at i. refl },
@@ -91,7 +91,16 @@ arm_table_ways e = (
             λ w. record { four = refl; direct = λ at i. refl },
             (
               λ w. record { four = refl; direct = λ at i. refl },
-              (λ w. record { four = refl; direct = λ at i. absurd (cc) }, (λ w. record { four = refl; direct = λ at i. refl }, tt)),
+              (
+                λ w. record { four = refl; direct = λ at i. absurd (cc) },
+                (
+                  λ w. record { four = refl; direct = λ at i. refl },
+                  (
+                    λ w. record { four = refl; direct = λ at i. refl },
+                    (λ w. record { four = refl; direct = λ at i. refl }, tt),
+                  ),
+                ),
+              ),
             ),
           ),
         ),
@@ -109,19 +118,13 @@ unless_never : (never : Bool) (o : Option Row) (row : Row) → (if never then No
 unless_never false o row e = e
 unless_never true o row e = absurd (cc)
 
-arm_has_ways : (e : Endian) → HaveWays (arm_row e)
+arm_has_ways : (e : Endian) (profile : Profile) → HaveWays (arm_row e profile)
 unfolding arm_row
-arm_has_ways e w row is =
-    arm_rows_have (arms.table e) w row (arm_table_ways e) (unless_never (condition_code w == 15) (arms.row_in (arms.table e) w) row is)
+arm_has_ways e profile w row is =
+    arm_rows_have (arms.table e profile) w row (arm_table_ways e profile)
+    (unless_never (condition_code w == 15) (arms.row_in (arms.table e profile) w) row is)
 
 -- programs
-
-abbrev machine_by : Bool → Endian → Machine
-machine_by b e = if b then rv32 else arm e
-
-by_machine : (b : Bool) (e : Endian) → HaveWays (machine_by b e).row
-by_machine true e = rv_has_ways
-by_machine false e = arm_has_ways e
 
 row_where : (b : Bool) (o : Option Row) (row : Row) → (if b then o else None) ≡ Some row → o ≡ Some row
 row_where true o row e = e
@@ -130,11 +133,23 @@ row_where false o row e = absurd (cc)
 file_way : (p : Program) → HaveWays p.machine.row → (a : ℕ) (row : Row) → file_row p a ≡ Some row → HasWay row
 file_way p have a row e = have (file_word p a) row (row_where (fetchable p a) (p.machine.row (file_word p a)) row e)
 
-pub has_one_way : (file : List ℕ) (notes : Notes) (entry : ℕ) → HasOneWay (program_of file notes entry)
-has_one_way file notes entry =
-    let p : Program = program_of file notes entry in
-    let have = by_machine (is_rv file) (file_endian file) in
+one_way : (m : Machine) (file : List ℕ) (notes : Notes) (entry : ℕ) → HaveWays m.row → HasOneWay (program_of m file notes entry)
+one_way m file notes entry have =
+    let p : Program = program_of m file notes entry in
     record {
       direct = λ a row e. (file_way p have a row e).direct a;
       four = λ a row e. (file_way p have a row e).four;
     }
+
+pub rv_has_one_way : (file : List ℕ) (notes : Notes) (entry : ℕ) → HasOneWay (program_of rv32 file notes entry)
+rv_has_one_way file notes entry = one_way rv32 file notes entry rv_has_ways
+
+by_machine : (b : Bool) (e : Endian) (profile : Profile) → HaveWays (if b then rv32 else arm e profile).row
+by_machine true e profile = rv_has_ways
+by_machine false e profile = arm_has_ways e profile
+
+-- the machine of a file, whatever the options are
+pub has_one_way : (o : Options) (m : Machine) (file : List ℕ) (notes : Notes) (entry : ℕ) → machine_of o file ≡ m → HasOneWay (program_of m file notes entry)
+has_one_way o m file notes entry is =
+    subst (λ (n : Machine). HasOneWay (program_of n file notes entry)) is
+    (one_way (machine_of o file) file notes entry (by_machine (is_rv file) (file_endian file) o.profile))

@@ -1,6 +1,6 @@
 //! The questions of a function of two files, certified one by one.
 ghost use Rattle.std.specs.Prelude.{◌≡◌, ◌<◌, ℕ, IfOk, slice_index};
-ghost use Rattle.bilv_spec.specs.Files.{machine_of, program_of};
+ghost use Rattle.bilv_spec.specs.Files.{order_of, program_of};
 ghost use Rattle.bilv_spec.specs.Answers as answers;
 ghost use Rattle.bilv_spec.specs.Answers.{IsBudget, IsWithin};
 ghost use Rattle.bilv_spec.specs.Questions.{Question};
@@ -67,12 +67,12 @@ pub fn certify<'a, M: Machine>(
     budget: &Budget,
     kind: Kind,
 ) -> Result<Certified, AllocError>
-    requires machine { machine_of image.now ≡ M.machine }
+    requires order { order_of image.now ≡ M.machine.endian }
     requires file { (i : ℕ) → slice_index image.now i < 256 }
-    requires one_way { HasOneWay (program_of image.now (notes_of notes.now) entry) }
+    requires one_way { HasOneWay (program_of M.machine image.now (notes_of notes.now) entry) }
     requires over { AreOver M.machine.has_register M.machine.has_flag (notes_of notes.now) }
     requires budget { IsBudget (budget_of budget.now) }
-    ensures { IfOk result (λ c. IsCertificate (program_of image.now (notes_of notes.now) entry) (budget_of budget.now) (kind_of kind) c) }
+    ensures { IfOk result (λ c. IsCertificate (program_of M.machine image.now (notes_of notes.now) entry) (budget_of budget.now) (kind_of kind) c) }
 {
     match unroll_within::<M>(alloc, image, notes, entry, budget) {
         Ok(unrolled) => {

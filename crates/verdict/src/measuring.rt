@@ -1,6 +1,6 @@
 //! Functions of two files, unrolled, and measured by the budgets.
 ghost use Rattle.std.specs.Prelude.{◌≡◌, ◌<◌, ℕ, IfErr, IfOk, slice_index};
-ghost use Rattle.bilv_spec.specs.Files.{machine_of, program_of};
+ghost use Rattle.bilv_spec.specs.Files.{order_of, program_of};
 ghost use Rattle.bilv_spec.specs.Answers.{IsBudget};
 ghost use Rattle.program_points.specs.Listed.{HasOneWay, IsTooMany};
 ghost use Rattle.state_text.specs.Starts.{layout_of};
@@ -41,14 +41,14 @@ pub fn unroll_within<'a, M: Machine>(
     entry: u32,
     budget: &Budget,
 ) -> Result<Unrolled<'a>, PointsFault>
-    requires machine { machine_of image.now ≡ M.machine }
+    requires order { order_of image.now ≡ M.machine.endian }
     requires file { (i : ℕ) → slice_index image.now i < 256 }
-    requires one_way { HasOneWay (program_of image.now (notes_of notes.now) entry) }
+    requires one_way { HasOneWay (program_of M.machine image.now (notes_of notes.now) entry) }
     requires over { AreOver M.machine.has_register M.machine.has_flag (notes_of notes.now) }
     requires budget { IsBudget (budget_of budget.now) }
-    ensures unrolled { IfOk result (IsUnrolledOf (program_of image.now (notes_of notes.now) entry) M.form (budget_of budget.now)) }
+    ensures unrolled { IfOk result (IsUnrolledOf (program_of M.machine image.now (notes_of notes.now) entry) M.form (budget_of budget.now)) }
     ensures form { IfOk result (λ u. layout_of u.form ≡ M.form) }
-    ensures more { IfErr result (IsTooMany (program_of image.now (notes_of notes.now) entry) budget.now.unroll budget.now.points) }
+    ensures more { IfErr result (IsTooMany (program_of M.machine image.now (notes_of notes.now) entry) budget.now.unroll budget.now.points) }
 {
     let graph = descend::<M>(alloc, image, notes, entry)?;
     unroll::<M>(

@@ -1,7 +1,7 @@
 //! The scripts of the questions of a function of two files, for another solver.
 ghost use Rattle.std.specs.Prelude.{◌≡◌, ◌<◌, ℕ, IfOk, slice_index, string_bytes};
 ghost use Rattle.bilv_spec.specs.Answers.{IsBudget};
-ghost use Rattle.bilv_spec.specs.Files.{machine_of, program_of};
+ghost use Rattle.bilv_spec.specs.Files.{order_of, program_of};
 ghost use Rattle.bilv_spec.specs.Scripts.{IsScript};
 ghost use Rattle.notes_lang.specs.Drafting.{notes_of};
 ghost use Rattle.notes_value.specs.Reads.{AreOver};
@@ -34,10 +34,10 @@ fn script_passive<M: Machine>(
     kind: Kind,
     passive: &Passive,
 ) -> Result<String, AllocError>
-    requires ground { IsGround (program_of_function function.now) budget.now.unroll M.form (unrolled_of passive.now.unrolled.now) }
+    requires ground { IsGround (program_of_function M.machine function.now) budget.now.unroll M.form (unrolled_of passive.now.unrolled.now) }
     requires askable { IsAskable passive.now }
     requires form { layout_of passive.now.unrolled.now.form ≡ M.form }
-    ensures { IfOk result (λ text. IsScript (program_of_function function.now) M.form budget.now.unroll (kind_of kind) (string_bytes text)) }
+    ensures { IfOk result (λ text. IsScript (program_of_function M.machine function.now) M.form budget.now.unroll (kind_of kind) (string_bytes text)) }
 {
     let question = question(alloc, passive, kind)?;
     let text = script_of(alloc, &question)?;
@@ -53,9 +53,9 @@ fn script_unrolled<M: Machine>(
     unrolled: &Unrolled,
 ) -> Result<Scripted, AllocError>
     requires budget { IsBudget (budget_of budget.now) }
-    requires unrolled { IsUnrolledOf (program_of_function function.now) M.form (budget_of budget.now) unrolled.now }
+    requires unrolled { IsUnrolledOf (program_of_function M.machine function.now) M.form (budget_of budget.now) unrolled.now }
     requires form { layout_of unrolled.now.form ≡ M.form }
-    ensures { IfOk result (λ s. IsScripted (program_of_function function.now) M.form (budget_of budget.now) (kind_of kind) s) }
+    ensures { IfOk result (λ s. IsScripted (program_of_function M.machine function.now) M.form (budget_of budget.now) (kind_of kind) s) }
 {
     match measure(alloc, budget, unrolled)? {
         Measured::Above(price) => Ok(Scripted::Size { price }),
@@ -76,12 +76,12 @@ pub fn script<'a, M: Machine>(
     budget: &Budget,
     kind: Kind,
 ) -> Result<Scripted, AllocError>
-    requires machine { machine_of image.now ≡ M.machine }
+    requires order { order_of image.now ≡ M.machine.endian }
     requires file { (i : ℕ) → slice_index image.now i < 256 }
-    requires one_way { HasOneWay (program_of image.now (notes_of notes.now) entry) }
+    requires one_way { HasOneWay (program_of M.machine image.now (notes_of notes.now) entry) }
     requires over { AreOver M.machine.has_register M.machine.has_flag (notes_of notes.now) }
     requires budget { IsBudget (budget_of budget.now) }
-    ensures { IfOk result (λ s. IsScripted (program_of image.now (notes_of notes.now) entry) M.form (budget_of budget.now) (kind_of kind) s) }
+    ensures { IfOk result (λ s. IsScripted (program_of M.machine image.now (notes_of notes.now) entry) M.form (budget_of budget.now) (kind_of kind) s) }
 {
     match unroll_within::<M>(alloc, image, notes, entry, budget) {
         Ok(unrolled) => {

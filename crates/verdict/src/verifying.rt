@@ -1,6 +1,6 @@
 //! The verdict on the function of two files.
 ghost use Rattle.std.specs.Prelude.{◌≡◌, ◌<◌, ◌-◌, ℕ, Some, IfOk, slice_index};
-ghost use Rattle.bilv_spec.specs.Files.{machine_of, program_of};
+ghost use Rattle.bilv_spec.specs.Files.{order_of, program_of};
 ghost use Rattle.bilv_spec.specs.Answers.{IsBudget, IsWithin, start_in};
 ghost use Rattle.bilv_spec.specs.Points.{is_known_at};
 ghost use Rattle.bilv_spec.specs.PointLaws.{HasLawfulRows};
@@ -45,12 +45,12 @@ fn ending<M: Machine>(
     budget: &Budget,
     start: &Start,
 ) -> Result<Ending, AllocError>
-    requires machine { machine_of function.now.image.now ≡ M.machine }
+    requires order { order_of function.now.image.now ≡ M.machine.endian }
     requires readable { AreReadable M.machine.has_register (notes_of function.now.notes.now) }
     requires budget { IsBudget (budget_of budget.now) }
-    requires written { IsWritten M.form (is_known_at (program_of_function function.now)) (written_of start.now) }
-    ensures { IfOk result (λ e. found_of e ≡ found (program_of_function function.now) (Some budget.now.unroll)
-        (start_in (program_of_function function.now) M.form (written_of start.now))
+    requires written { IsWritten M.form (is_known_at (program_of_function M.machine function.now)) (written_of start.now) }
+    ensures { IfOk result (λ e. found_of e ≡ found (program_of_function M.machine function.now) (Some budget.now.unroll)
+        (start_in (program_of_function M.machine function.now) M.form (written_of start.now))
         (budget.now.points - 1)) }
 {
     let ending = run::<M>(
@@ -72,13 +72,13 @@ fn failing<M: Machine>(
     budget: &Budget,
     start: Start,
 ) -> Result<Verdict, AllocError>
-    requires machine { machine_of function.now.image.now ≡ M.machine }
+    requires order { order_of function.now.image.now ≡ M.machine.endian }
     requires readable { AreReadable M.machine.has_register (notes_of function.now.notes.now) }
     requires budget { IsBudget (budget_of budget.now) }
-    requires within { IsWithin (program_of_function function.now) (budget_of budget.now) }
-    requires lawful { HasLawfulRows (program_of_function function.now) }
-    requires fails { IsAnswered (program_of_function function.now) budget.now.unroll M.form FailQuestion budget.now.conflicts (Answered.Sat start) }
-    ensures { IfOk result (λ v. IsVerdict (program_of_function function.now) M.form budget.now v) }
+    requires within { IsWithin (program_of_function M.machine function.now) (budget_of budget.now) }
+    requires lawful { HasLawfulRows (program_of_function M.machine function.now) }
+    requires fails { IsAnswered (program_of_function M.machine function.now) budget.now.unroll M.form FailQuestion budget.now.conflicts (Answered.Sat start) }
+    ensures { IfOk result (λ v. IsVerdict (program_of_function M.machine function.now) M.form budget.now v) }
 {
     match ending::<M>(alloc, function, budget, &start)? {
         Ending::Failed { event, at, step } => Ok(Verdict::Fails {
@@ -98,14 +98,14 @@ fn turning<M: Machine>(
     budget: &Budget,
     start: Start,
 ) -> Result<Verdict, AllocError>
-    requires machine { machine_of function.now.image.now ≡ M.machine }
+    requires order { order_of function.now.image.now ≡ M.machine.endian }
     requires readable { AreReadable M.machine.has_register (notes_of function.now.notes.now) }
     requires budget { IsBudget (budget_of budget.now) }
-    requires within { IsWithin (program_of_function function.now) (budget_of budget.now) }
-    requires lawful { HasLawfulRows (program_of_function function.now) }
-    requires never { IsSatisfiable (program_of_function function.now) budget.now.unroll FailQuestion → ⊥ }
-    requires turns { IsAnswered (program_of_function function.now) budget.now.unroll M.form TurnQuestion budget.now.conflicts (Answered.Sat start) }
-    ensures { IfOk result (λ v. IsVerdict (program_of_function function.now) M.form budget.now v) }
+    requires within { IsWithin (program_of_function M.machine function.now) (budget_of budget.now) }
+    requires lawful { HasLawfulRows (program_of_function M.machine function.now) }
+    requires never { IsSatisfiable (program_of_function M.machine function.now) budget.now.unroll FailQuestion → ⊥ }
+    requires turns { IsAnswered (program_of_function M.machine function.now) budget.now.unroll M.form TurnQuestion budget.now.conflicts (Answered.Sat start) }
+    ensures { IfOk result (λ v. IsVerdict (program_of_function M.machine function.now) M.form budget.now v) }
 {
     match ending::<M>(alloc, function, budget, &start)? {
         Ending::Turned { at, step } => Ok(Verdict::Unroll { at, step, start }),
@@ -120,13 +120,13 @@ fn judge<M: Machine>(
     budget: &Budget,
     passive: &Passive,
 ) -> Result<Verdict, AllocError>
-    requires machine { machine_of function.now.image.now ≡ M.machine }
+    requires order { order_of function.now.image.now ≡ M.machine.endian }
     requires readable { AreReadable M.machine.has_register (notes_of function.now.notes.now) }
     requires budget { IsBudget (budget_of budget.now) }
-    requires within { IsWithin (program_of_function function.now) (budget_of budget.now) }
-    requires ground { IsGround (program_of_function function.now) budget.now.unroll M.form (unrolled_of passive.now.unrolled.now) }
+    requires within { IsWithin (program_of_function M.machine function.now) (budget_of budget.now) }
+    requires ground { IsGround (program_of_function M.machine function.now) budget.now.unroll M.form (unrolled_of passive.now.unrolled.now) }
     requires askable { IsAskable passive.now }
-    ensures { IfOk result (λ v. IsVerdict (program_of_function function.now) M.form budget.now v) }
+    ensures { IfOk result (λ v. IsVerdict (program_of_function M.machine function.now) M.form budget.now v) }
 {
     let entered = match decide(alloc, passive, Kind::Entry, budget.conflicts)? {
         Answered::Sat(start) => start,
@@ -169,11 +169,11 @@ fn judge_unrolled<M: Machine>(
     budget: &Budget,
     unrolled: &Unrolled,
 ) -> Result<Verdict, AllocError>
-    requires machine { machine_of function.now.image.now ≡ M.machine }
+    requires order { order_of function.now.image.now ≡ M.machine.endian }
     requires readable { AreReadable M.machine.has_register (notes_of function.now.notes.now) }
     requires budget { IsBudget (budget_of budget.now) }
-    requires unrolled { IsUnrolledOf (program_of_function function.now) M.form (budget_of budget.now) unrolled.now }
-    ensures { IfOk result (λ v. IsVerdict (program_of_function function.now) M.form budget.now v) }
+    requires unrolled { IsUnrolledOf (program_of_function M.machine function.now) M.form (budget_of budget.now) unrolled.now }
+    ensures { IfOk result (λ v. IsVerdict (program_of_function M.machine function.now) M.form budget.now v) }
 {
     match measure(alloc, budget, unrolled)? {
         Measured::Above(price) => Ok(Verdict::Size { price }),
@@ -191,13 +191,13 @@ pub fn verify<'a, M: Machine>(
     entry: u32,
     budget: &Budget,
 ) -> Result<Verdict, AllocError>
-    requires machine { machine_of image.now ≡ M.machine }
+    requires order { order_of image.now ≡ M.machine.endian }
     requires file { (i : ℕ) → slice_index image.now i < 256 }
-    requires one_way { HasOneWay (program_of image.now (notes_of notes.now) entry) }
+    requires one_way { HasOneWay (program_of M.machine image.now (notes_of notes.now) entry) }
     requires readable { AreReadable M.machine.has_register (notes_of notes.now) }
     requires over { AreOver M.machine.has_register M.machine.has_flag (notes_of notes.now) }
     requires budget { IsBudget (budget_of budget.now) }
-    ensures { IfOk result (λ v. IsVerdict (program_of image.now (notes_of notes.now) entry) M.form budget.now v) }
+    ensures { IfOk result (λ v. IsVerdict (program_of M.machine image.now (notes_of notes.now) entry) M.form budget.now v) }
 {
     match unroll_within::<M>(alloc, image, notes, entry, budget) {
         Ok(unrolled) => {

@@ -126,6 +126,7 @@ reads_by u v (notes.Number n) p q h = h
 reads_by u v (notes.Register r) p q h = subst (λ (l : List ℕ). list_any (nat_eq r) l ≡ true) p h
 reads_by u v (notes.Flag f) p q h = subst (λ (n : ℕ). nat_lt f n ≡ true) q h
 reads_by u v notes.Pc p q h = tt
+reads_by u v notes.Bound p q h = tt
 reads_by u v (notes.Memory n a) p q h = (h.0, h.1, reads_by u v a p q h.2)
 reads_by u v (notes.Old a) p q h = reads_by u v a p q h
 reads_by u v (notes.Not a) p q h = reads_by u v a p q h

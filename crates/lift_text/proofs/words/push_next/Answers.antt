@@ -10,7 +10,7 @@ returns-in-Next g c =
       later = gap.later;
       within = gap.within;
       aligned = gap.aligned;
-      text = skip g.M.Machine.machine.row c.args.image.now c.args.at c.in-Next.next c.args.out.now.items behind gap.none;
+      text = skip g.M.Machine.machine g.M.Machine.bank c.args.image.now c.args.at c.in-Next.next c.args.out.now.items behind gap.none;
     }
 
 pub returns-in_ok-push_word-in-Word : goal.returns-in_ok-push_word-in-Word
@@ -19,6 +19,6 @@ returns-in_ok-push_word-in-Word g c =
       later = omega arith;
       within = omega arith;
       aligned = omega arith;
-      text = more g.M.Machine.machine.row c.args.image.now c.args.at c.args.out.now.items c.push_word.new.out.items
+      text = more g.M.Machine.machine g.M.Machine.bank c.args.image.now c.args.at c.args.out.now.items c.push_word.new.out.items
           c.requires.aligned c.in-Word.ensures.word c.in_ok-push_word-in-Word.ensures;
     }

@@ -7,11 +7,13 @@ pub loop-at-init : goal.loop-at-init
 loop-at-init g c = record {
   within = omega arith;
   aligned = omega arith;
-  text = subst (IsTextTo g.M.Machine.machine.row c.args.image.now 0) (sym c.new-out.ensures.items) (empty g.M.Machine.machine.row c.args.image.now);
+  text =
+      subst (IsTextTo g.M.Machine.machine g.M.Machine.bank c.args.image.now 0) (sym c.new-out.ensures.items)
+      (empty g.M.Machine.machine g.M.Machine.bank c.args.image.now);
 }
 
 pub returns : goal.returns
 returns g c =
     let end : c.loop-at.at ≡ 2 ^ 32 = omega arith in
-    done g.M.Machine.machine.row c.args.image.now c.loop-at.out.items
-    (subst (λ at. IsTextTo g.M.Machine.machine.row c.args.image.now at c.loop-at.out.items) end c.loop-at.invariant.text)
+    done g.M.Machine.machine g.M.Machine.bank c.args.image.now c.loop-at.out.items
+    (subst (λ at. IsTextTo g.M.Machine.machine g.M.Machine.bank c.args.image.now at c.loop-at.out.items) end c.loop-at.invariant.text)

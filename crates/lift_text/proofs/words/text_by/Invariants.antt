@@ -6,7 +6,7 @@ abbrev pub invariant-loop-at : goal.invariant-loop-at
 invariant-loop-at g l = record {
   within : l.at ≤ 2 ^ 32;
   aligned : l.at % 4 ≡ 0;
-  text : IsTextTo g.M.Machine.machine.row l.image l.at l.out.items;
+  text : IsTextTo g.M.Machine.machine g.M.Machine.bank l.image l.at l.out.items;
 }
 
 abbrev pub decreases-loop-at : goal.decreases-loop-at

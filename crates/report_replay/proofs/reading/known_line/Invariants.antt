@@ -1,5 +1,6 @@
 use Rattle.std.proofs.Common.{◌≡◌, ℕ, ◌+◌, drop}
 use Rattle.bilv_spec.specs.Files.{program_of}
+use Rattle.bilv_spec.specs.Machine.{Machine}
 use Rattle.bilv_spec.specs.Points.{is_known_at}
 use Rattle.bilv_spec.specs.StateText.{Told}
 use Rattle.state_text.specs.Readings.{told_but}
@@ -11,7 +12,7 @@ abbrev pub invariant-loop-i : goal.invariant-loop-i
 invariant-loop-i l = record {
   alike : AreAlike l.image l.notes l.seen;
   same :
-      (entry : ℕ) (told : Told) →
-      told_but (is_known_at (program_of l.image (notes_of l.notes) entry)) l.first l.bytes told
-      ≡ told_but (is_known_at (program_of l.image (notes_of l.notes) entry)) (l.first + l.i) (drop l.i l.bytes) told;
+      (m : Machine) (entry : ℕ) (told : Told) →
+      told_but (is_known_at (program_of m l.image (notes_of l.notes) entry)) l.first l.bytes told
+      ≡ told_but (is_known_at (program_of m l.image (notes_of l.notes) entry)) (l.first + l.i) (drop l.i l.bytes) told;
 }

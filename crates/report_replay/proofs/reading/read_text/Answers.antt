@@ -11,8 +11,8 @@ use Rattle.report_replay.proofs.Lines.{told_left}
 use Rattle.report_replay.proofs.reading.read_text.Goals as goal
 
 pub returns-in-None-unless_known : goal.returns-in-None-unless_known
-returns-in-None-unless_known c entry =
-    let known = is_known_at (program_of c.args.image.now (notes_of c.args.notes.now) entry) in
+returns-in-None-unless_known c m entry =
+    let known = is_known_at (program_of m c.args.image.now (notes_of c.args.notes.now) entry) in
     let is =
     subst (λ (f : ParseFault). IsRefusedBy known (layout_of c.args.layout)
     (state_of (layout_of c.args.layout) known c.args.text.now) f) c.in-Err-Refused.field-0-is
@@ -20,11 +20,11 @@ returns-in-None-unless_known c entry =
     let told = StateRefused c.in-Err-Refused.line (fault_of c.in-Err-Refused.kind) in
     told_left known (c.head_lines-first.result + 1) (lines_of_head (layout_of c.args.layout) + 1) c.deref-in-Err-Refused.result.now c.in-Err-Refused.bytes.items
     _ told told (ap (λ n. n + 1) c.head_lines-first.ensures) c.deref-in-Err-Refused.ensures.value is
-    (c.in-None-unless_known.ensures entry told)
+    (c.in-None-unless_known.ensures m entry told)
 
 pub returns-in-Err-Refused : goal.returns-in-Err-Refused
-returns-in-Err-Refused c entry =
-    let known = is_known_at (program_of c.args.image.now (notes_of c.args.notes.now) entry) in
+returns-in-Err-Refused c m entry =
+    let known = is_known_at (program_of m c.args.image.now (notes_of c.args.notes.now) entry) in
     let is =
     subst (λ (f : ParseFault). IsRefusedBy known (layout_of c.args.layout)
     (state_of (layout_of c.args.layout) known c.args.text.now) f) c.in-Err-Refused.field-0-is
@@ -32,4 +32,4 @@ returns-in-Err-Refused c entry =
     let told = StateRefused c.in-Err-Refused.line (fault_of c.in-Err-Refused.kind) in
     told_left known (c.head_lines-first.result + 1) (lines_of_head (layout_of c.args.layout) + 1) c.deref-in-Err-Refused.result.now c.in-Err-Refused.bytes.items
     _ told (told_of c.in-Some-unless_known.refused) (ap (λ n. n + 1) c.head_lines-first.ensures) c.deref-in-Err-Refused.ensures.value
-    is (c.in-Some-unless_known.ensures entry told)
+    is (c.in-Some-unless_known.ensures m entry told)

@@ -1,5 +1,5 @@
-use Rattle.std.proofs.Common.{◌≡◌, IfOk, ◌≤◌, length, sym, ap, ◌∙◌, subst, arith}
-use Rattle.bilv_spec.specs.Files.{layout_of, program_of}
+use Rattle.std.proofs.Common.{◌≡◌, IfOk, ◌≤◌, length, ap, ◌∙◌, subst, arith}
+use Rattle.bilv_spec.specs.Files.{program_of}
 use Rattle.bilv_spec.specs.Points.{is_known_at}
 use Rattle.bilv_spec.specs.StateText.{StateRefused}
 use Rattle.bilv_spec.specs.Answers.{Answer, plain_answer}
@@ -13,27 +13,28 @@ use Rattle.report_replay.proofs.replays.replay.Goals as goal
 
 pub returns-then-text-gt-REPORT_LIMIT : goal.returns-then-text-gt-REPORT_LIMIT
 returns-then-text-gt-REPORT_LIMIT g c =
-    let p = program_of c.args.image.now (notes_of c.args.notes.now) c.args.entry in
+    let p = program_of g.M.Machine.machine c.args.image.now (notes_of c.args.notes.now) c.args.entry in
     subst (λ (a : Answer). IfOk c.too_large.result (λ r. plain_answer r.status r.text.items ≡ a))
-    (large_is p (layout_of c.args.image.now) c.args.text.now c.if-text-gt-REPORT_LIMIT.true)
-    (c.too_large.ensures p (layout_of c.args.image.now) c.args.text.now)
+    (large_is p g.M.Machine.form c.args.text.now c.if-text-gt-REPORT_LIMIT.true)
+    (c.too_large.ensures p g.M.Machine.form c.args.text.now)
 
 pub returns-in-Refused : goal.returns-in-Refused
 returns-in-Refused g c =
-    let p = program_of c.args.image.now (notes_of c.args.notes.now) c.args.entry in
+    let p = program_of g.M.Machine.machine c.args.image.now (notes_of c.args.notes.now) c.args.entry in
     let few : length c.args.text.now ≤ text_limit = omega arith in
     subst (λ (a : Answer). IfOk c.refused.result (λ r. plain_answer r.status r.text.items ≡ a))
-    (told_is p (states.layout_of c.layout.result) (layout_of c.args.image.now) c.args.text.now (StateRefused c.in-Refused.line (fault_of c.in-Refused.kind)) few
-    (c.layout.ensures ∙ sym c.requires.form) (c.in_ok-line.ensures c.args.entry ∙ ap told_of c.in-Refused.is))
-    (c.refused.ensures p (layout_of c.args.image.now))
+    (told_is p (states.layout_of c.layout.result) g.M.Machine.form c.args.text.now (StateRefused c.in-Refused.line (fault_of c.in-Refused.kind)) few
+    c.layout.ensures (c.in_ok-line.ensures g.M.Machine.machine c.args.entry ∙ ap told_of c.in-Refused.is))
+    (c.refused.ensures p g.M.Machine.form)
 
 pub run_named-requires-clause-start : goal.run_named-requires-clause-start
 run_named-requires-clause-start g c =
     told_written (states.layout_of c.layout.result) g.M.Machine.form
-    (is_known_at (program_of c.args.image.now (notes_of c.args.notes.now) c.args.entry)) c.args.text.now
-    (states.text_of c.in-State.state) c.layout.ensures (c.in_ok-line.ensures c.args.entry ∙ ap told_of c.in-State.is)
+    (is_known_at (program_of g.M.Machine.machine c.args.image.now (notes_of c.args.notes.now) c.args.entry)) c.args.text.now
+    (states.text_of c.in-State.state) c.layout.ensures (c.in_ok-line.ensures g.M.Machine.machine c.args.entry ∙ ap told_of c.in-State.is)
 
 pub run_named-requires-clause-step : goal.run_named-requires-clause-step
 run_named-requires-clause-step g c =
-    told_step (states.layout_of c.layout.result) (is_known_at (program_of c.args.image.now (notes_of c.args.notes.now) c.args.entry)) c.args.text.now
-    (states.text_of c.in-State.state) (c.in_ok-line.ensures c.args.entry ∙ ap told_of c.in-State.is)
+    told_step (states.layout_of c.layout.result)
+    (is_known_at (program_of g.M.Machine.machine c.args.image.now (notes_of c.args.notes.now) c.args.entry)) c.args.text.now
+    (states.text_of c.in-State.state) (c.in_ok-line.ensures g.M.Machine.machine c.args.entry ∙ ap told_of c.in-State.is)

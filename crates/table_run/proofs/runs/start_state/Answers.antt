@@ -16,5 +16,6 @@ returns g c =
     (λ (bytes : List (ℕ × ℕ)).
     (x : ℕ) → memory_of c.in_ok-memory.memory.entries x ≡ known_or (given c.args.image.now (map fixed_of c.args.notes.now.fixed.items) (word 32 x)) bytes x)
     c.deref.ensures.value c.in_ok-memory.ensures.bytes in
-    state_is (program_of c.args.image.now (notes_of c.args.notes.now) c.args.entry) g.M.Machine.form (written_of c.args.start.now) c.in_ok-memory.memory.entries
+    state_is (program_of g.M.Machine.machine c.args.image.now (notes_of c.args.notes.now) c.args.entry) g.M.Machine.form (written_of c.args.start.now)
+    c.in_ok-memory.memory.entries
     (g.M.State.View.view c.make.result) c.make.ensures.view memory

@@ -18,11 +18,12 @@ unreachable-requires g c =
     ))
 
 pub loop-at-init : goal.loop-at-init
-loop-at-init g c = λ n e is. literals_none (program_of c.args.image.now n e) c.args.addresses.now c.new-found.result.items c.new-found.ensures.items
+loop-at-init g c = λ n e is.
+    literals_none (program_of g.M.Machine.machine c.args.image.now n e) c.args.addresses.now c.new-found.result.items c.new-found.ensures.items
 
 pub loop-at-preserved : goal.loop-at-preserved
 loop-at-preserved g c = λ n e is.
-    let p : Program = program_of c.args.image.now n e in
+    let p : Program = program_of g.M.Machine.machine c.args.image.now n e in
     literals_more p c.args.addresses.now c.loop-at.at-index c.loop-at.found.items c.add_address.new.found.items c.node_literal.result
     (c.loop-at.invariant n e is) c.in_ok-add_address.ensures
     (c.node_literal.ensures n e (of_nodes p c.args.graph.now c.in-Some.node.now is c.in-Some.ensures.1) ∙ ap (literal_at p) c.in-Some.ensures.0)
@@ -30,4 +31,5 @@ loop-at-preserved g c = λ n e is.
 pub returns : goal.returns
 returns g c = λ n e is.
     let whole : c.loop-at.at-index ≡ length c.args.addresses.now = omega arith in
-    subst (λ (z : ℕ). AreLiterals (program_of c.args.image.now n e) c.args.addresses.now z c.loop-at.found.items) whole (c.loop-at.invariant n e is)
+    subst (λ (z : ℕ). AreLiterals (program_of g.M.Machine.machine c.args.image.now n e) c.args.addresses.now z c.loop-at.found.items) whole
+    (c.loop-at.invariant n e is)

@@ -1,7 +1,6 @@
-use Rattle.std.proofs.Common.{◌≡◌, ℕ, List, refl, ap, sym, ◌∙◌, subst, arith, [], length, map}
+use Rattle.std.proofs.Common.{◌≡◌, ℕ, List, refl, sym, ◌∙◌, subst, arith, [], length, map}
 use Rattle.std.specs.Prelude.{Contains, ◌↔◌}
 use Rattle.std.proofs.lemmas.List.{length-map}
-use Rattle.bilv_spec.specs.Machine.{Machine}
 use Rattle.bilv_spec.specs.MachineLaws.{IsFitted}
 use Rattle.bilv_spec.specs.StateText.{Layout}
 use Rattle.bilv_spec.specs.Files.{program_of}
@@ -30,14 +29,14 @@ use Rattle.unroller.proofs.unrolling.unroll.Goals as goal
 pub point_keys-requires : goal.point_keys-requires
 point_keys-requires g c =
     let notes = notes_of c.args.notes.now in
-    let p : Program = program_of c.args.image.now notes c.args.entry in
+    let p : Program = program_of g.M.Machine.machine c.args.image.now notes c.args.entry in
     low_turns p c.args.k c.in_ok-listed.listed c.deref.result.now
     (c.in_ok-listed.ensures.points p c.requires.graph refl c.requires.one_way) c.deref.ensures.value c.requires.k
 
 pub calls-requires-clause-among : goal.calls-requires-clause-among
 calls-requires-clause-among g c =
     let notes = notes_of c.args.notes.now in
-    let p : Program = program_of c.args.image.now notes c.args.entry in
+    let p : Program = program_of g.M.Machine.machine c.args.image.now notes c.args.entry in
     let v = c.in_ok-listed.listed in
     let keys = c.in_ok-keys.keys.items in
     let listed = c.in_ok-listed.ensures.points p c.requires.graph refl c.requires.one_way in
@@ -50,7 +49,7 @@ calls-requires-clause-among g c =
 pub calls-requires-clause-fits : goal.calls-requires-clause-fits
 calls-requires-clause-fits g c =
     let notes = notes_of c.args.notes.now in
-    let p : Program = program_of c.args.image.now notes c.args.entry in
+    let p : Program = program_of g.M.Machine.machine c.args.image.now notes c.args.entry in
     let v = c.in_ok-listed.listed in
     let keys = c.in_ok-keys.keys.items in
     let listed = c.in_ok-listed.ensures.points p c.requires.graph refl c.requires.one_way in
@@ -62,12 +61,13 @@ calls-requires-clause-fits g c =
 
 pub codes_at-requires-clause-nodes : goal.codes_at-requires-clause-nodes
 codes_at-requires-clause-nodes g c =
-    let p : Program = program_of c.args.image.now (notes_of c.args.notes.now) c.args.entry in (c.in_ok-live.ensures.graph p c.requires.graph).rising
+    let p : Program = program_of g.M.Machine.machine c.args.image.now (notes_of c.args.notes.now) c.args.entry in
+    (c.in_ok-live.ensures.graph p c.requires.graph).rising
 
 pub codes_at-requires-clause-among : goal.codes_at-requires-clause-among
 codes_at-requires-clause-among g c =
     let notes = notes_of c.args.notes.now in
-    let p : Program = program_of c.args.image.now notes c.args.entry in
+    let p : Program = program_of g.M.Machine.machine c.args.image.now notes c.args.entry in
     let v = c.in_ok-listed.listed in
     let keys = c.in_ok-keys.keys.items in
     let listed = c.in_ok-listed.ensures.points p c.requires.graph refl c.requires.one_way in
@@ -82,7 +82,7 @@ codes_at-requires-clause-among g c =
 pub literals_at-requires-clause-among : goal.literals_at-requires-clause-among
 literals_at-requires-clause-among g c =
     let notes = notes_of c.args.notes.now in
-    let p : Program = program_of c.args.image.now notes c.args.entry in
+    let p : Program = program_of g.M.Machine.machine c.args.image.now notes c.args.entry in
     let v = c.in_ok-listed.listed in
     let keys = c.in_ok-keys.keys.items in
     let listed = c.in_ok-listed.ensures.points p c.requires.graph refl c.requires.one_way in
@@ -97,7 +97,7 @@ literals_at-requires-clause-among g c =
 pub points_of-requires-clause-low : goal.points_of-requires-clause-low
 points_of-requires-clause-low g c =
     let notes = notes_of c.args.notes.now in
-    let p : Program = program_of c.args.image.now notes c.args.entry in
+    let p : Program = program_of g.M.Machine.machine c.args.image.now notes c.args.entry in
     let v = c.in_ok-listed.listed in
     let keys = c.in_ok-keys.keys.items in
     let listed = c.in_ok-listed.ensures.points p c.requires.graph refl c.requires.one_way in
@@ -110,7 +110,7 @@ points_of-requires-clause-low g c =
 pub points_of-requires-clause-among : goal.points_of-requires-clause-among
 points_of-requires-clause-among g c =
     let notes = notes_of c.args.notes.now in
-    let p : Program = program_of c.args.image.now notes c.args.entry in
+    let p : Program = program_of g.M.Machine.machine c.args.image.now notes c.args.entry in
     let v = c.in_ok-listed.listed in
     let keys = c.in_ok-keys.keys.items in
     let listed = c.in_ok-listed.ensures.points p c.requires.graph refl c.requires.one_way in
@@ -129,7 +129,7 @@ points_of-requires-clause-coded g c =
 -- what is made of a program's points, and what is known of it
 module _ (g : given.Over) (c : goal.After-drop-listed-2 g) where
   abbrev program : Program
-  program = program_of c.args.image.now (notes_of c.args.notes.now) c.args.entry
+  program = program_of g.M.Machine.machine c.args.image.now (notes_of c.args.notes.now) c.args.entry
 
   abbrev keys : List ℕ
   keys = c.in_ok-keys.keys.items
@@ -171,14 +171,11 @@ module _ (g : given.Over) (c : goal.After-drop-listed-2 g) where
   form : HasForm g.M.Machine.machine made
   form = forms_are_right g.M.Machine.machine made fitted
 
-  here : IsFitted program.machine (layout_of c.layout.result)
-  here = subst (λ (z : Machine). IsFitted z (layout_of c.layout.result)) (sym c.requires.machine) fitted
-
   registers : (r : ℕ) → is_register_of (unrolled_of made) r ≡ program.machine.has_register r
-  registers r = form.registers r ∙ ap (λ (z : Machine). z.has_register r) (sym c.requires.machine)
+  registers r = form.registers r
 
   flags : (f : ℕ) → is_flag_of (unrolled_of made) f ≡ program.machine.has_flag f
-  flags f = form.flags f ∙ ap (λ (z : Machine). z.has_flag f) (sym c.requires.machine)
+  flags f = form.flags f
 
   calls : AreCalled c.args.graph.now keys frames (length keys) c.in_ok-called.called.items
   calls = subst (λ (l : List ℕ). AreCalled c.args.graph.now l frames (length l) c.in_ok-called.called.items) c.deref-3.ensures.value
@@ -208,11 +205,11 @@ pub returns-clause-unrolled : goal.returns-clause-unrolled
 returns-clause-unrolled g c =
     let runs = kept_runs_are_right c.args.image.now c.kept.result.now c.kept.ensures.runs (λ i w. (c.kept.ensures.words i w).1) in
     record {
-      endian = c.is_big_machine.ensures;
+      endian = c.is_big_machine.ensures ∙ c.requires.order;
       registers = registers g c;
       registers_rise = (form g c).rise;
       flags = flags g c;
-      link = c.link.ensures ∙ ap (λ (z : Machine). z.link) (sym c.requires.machine);
+      link = c.link.ensures;
       entry = refl;
       requires = refl;
       ensures = refl;
@@ -220,35 +217,38 @@ returns-clause-unrolled g c =
       runs = runs.1;
       kept_runs =
           subst (λ (z : ℕ). IsCount (begins_run (program g c)) z) (sym (length-map c.kept.result.now kept_of))
-          (run_starts c.args.image.now c.kept.result.now c.kept.ensures.runs (λ i w. (c.kept.ensures.words i w).0) (notes_of c.args.notes.now) c.args.entry);
-      known = λ a w. c.in_ok-known.ensures.bytes c.args.entry a w;
-      known_bytes = subst (λ (z : ℕ). IsCount (is_known_at (program g c)) z) (sym c.in_ok-known.ensures.sum) (c.in_ok-known.ensures.count c.args.entry);
+          (run_starts c.args.image.now c.kept.result.now c.kept.ensures.runs (λ i w. (c.kept.ensures.words i w).0) g.M.Machine.machine
+          (notes_of c.args.notes.now) c.args.entry);
+      known = λ a w. c.in_ok-known.ensures.bytes g.M.Machine.machine c.args.entry a w;
+      known_bytes =
+          subst (λ (z : ℕ). IsCount (is_known_at (program g c)) z) (sym c.in_ok-known.ensures.sum)
+          (c.in_ok-known.ensures.count g.M.Machine.machine c.args.entry);
       literals = literals_are (program g c) c.args.k g.M.Machine.bank c.args.graph.now (made g c) c.calls.new.stacks.numbers (keys g c) (addresses g c)
-          c.in_ok-called.called.items c.requires.graph c.requires.one_way (here g c) (registers g c) (flags g c) c.in_ok-called.ensures.table (are g c)
+          c.in_ok-called.called.items c.requires.graph c.requires.one_way (fitted g c) (registers g c) (flags g c) c.in_ok-called.ensures.table (are g c)
           (calls g c) (codes g c) (placed g c) c.in_ok-index.ensures.asserts.order refl
           c.in_ok-literals.literals.items
           (subst (λ (l : List ℕ). (x : ℕ) → Contains (map address_of l) x ↔ Contains (addresses g c) x) c.deref-2.ensures.value c.in_ok-addresses.ensures.same)
           (subst (λ (l : List ℕ). AreLiterals (program g c) l (length l) c.in_ok-literals.literals.items) c.deref-6.ensures.value
           (c.in_ok-literals.ensures (notes_of c.args.notes.now) c.args.entry c.requires.graph));
       points = are_points (program g c) c.args.k g.M.Machine.bank c.args.graph.now (made g c) c.calls.new.stacks.numbers (keys g c) (addresses g c)
-          c.in_ok-called.called.items c.requires.graph c.requires.one_way (here g c) (registers g c) (flags g c) c.in_ok-called.ensures.table (are g c)
+          c.in_ok-called.called.items c.requires.graph c.requires.one_way (fitted g c) (registers g c) (flags g c) c.in_ok-called.ensures.table (are g c)
           (calls g c) (codes g c) (placed g c) c.in_ok-index.ensures.asserts.order refl;
       first = first (program g c) c.args.k g.M.Machine.bank c.args.graph.now (made g c) c.calls.new.stacks.numbers (keys g c) (addresses g c)
-          c.in_ok-called.called.items c.requires.graph c.requires.one_way (here g c) (registers g c) (flags g c) c.in_ok-called.ensures.table (are g c)
+          c.in_ok-called.called.items c.requires.graph c.requires.one_way (fitted g c) (registers g c) (flags g c) c.in_ok-called.ensures.table (are g c)
           (calls g c) (codes g c) (placed g c) c.in_ok-index.ensures.asserts.order refl;
       places = λ i w. places (program g c) c.args.k g.M.Machine.bank c.args.graph.now (made g c) c.calls.new.stacks.numbers (keys g c) (addresses g c)
-          c.in_ok-called.called.items c.requires.graph c.requires.one_way (here g c) (registers g c) (flags g c) c.in_ok-called.ensures.table (are g c)
+          c.in_ok-called.called.items c.requires.graph c.requires.one_way (fitted g c) (registers g c) (flags g c) c.in_ok-called.ensures.table (are g c)
           (calls g c) (codes g c) (placed g c) c.in_ok-index.ensures.asserts.order refl
           i
           (let s = size (program g c) c.args.k g.M.Machine.bank c.args.graph.now (made g c) c.calls.new.stacks.numbers (keys g c) (addresses g c)
-          c.in_ok-called.called.items c.requires.graph c.requires.one_way (here g c) (registers g c) (flags g c) c.in_ok-called.ensures.table (are g c)
+          c.in_ok-called.called.items c.requires.graph c.requires.one_way (fitted g c) (registers g c) (flags g c) c.in_ok-called.ensures.table (are g c)
           (calls g c) (codes g c) (placed g c) c.in_ok-index.ensures.asserts.order refl in omega arith);
     }
 
 pub returns-clause-formed : goal.returns-clause-formed
 returns-clause-formed g c =
     formed (program g c) c.args.k g.M.Machine.bank c.args.graph.now (made g c) c.calls.new.stacks.numbers (keys g c) (addresses g c)
-    c.in_ok-called.called.items c.requires.graph c.requires.one_way (here g c) (registers g c) (flags g c) c.in_ok-called.ensures.table (are g c)
+    c.in_ok-called.called.items c.requires.graph c.requires.one_way (fitted g c) (registers g c) (flags g c) c.in_ok-called.ensures.table (are g c)
     (calls g c) (codes g c) (placed g c) c.in_ok-index.ensures.asserts.order refl
     (λ i d w. (let q = (c.in_ok-index.ensures.asserts.only i d w).0 in let l = length-map c.args.notes.now.asserts.items (λ a. a.at) in omega arith))
 
@@ -259,13 +259,13 @@ returns-clause-form g c =
 pub returns-clause-lean : goal.returns-clause-lean
 returns-clause-lean g c =
     lean (program g c) c.args.k g.M.Machine.bank c.args.graph.now (made g c) c.calls.new.stacks.numbers (keys g c) (addresses g c)
-    c.in_ok-called.called.items c.requires.graph c.requires.one_way (here g c) (registers g c) (flags g c) c.in_ok-called.ensures.table (are g c)
+    c.in_ok-called.called.items c.requires.graph c.requires.one_way (fitted g c) (registers g c) (flags g c) c.in_ok-called.ensures.table (are g c)
     (calls g c) (codes g c) (placed g c) c.in_ok-index.ensures.asserts.order refl
 
 pub returns-clause-addresses : goal.returns-clause-addresses
 returns-clause-addresses g c =
     words (program g c) c.args.k g.M.Machine.bank c.args.graph.now (made g c) c.calls.new.stacks.numbers (keys g c) (addresses g c)
-    c.in_ok-called.called.items c.requires.graph c.requires.one_way (here g c) (registers g c) (flags g c) c.in_ok-called.ensures.table (are g c)
+    c.in_ok-called.called.items c.requires.graph c.requires.one_way (fitted g c) (registers g c) (flags g c) c.in_ok-called.ensures.table (are g c)
     (calls g c) (codes g c) (placed g c) c.in_ok-index.ensures.asserts.order refl
 
 pub returns-clause-layout : goal.returns-clause-layout
