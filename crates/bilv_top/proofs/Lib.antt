@@ -5,3 +5,4 @@ pub mod Ended
 pub mod Verdicts
 pub mod Founds
 pub mod Made
+pub mod Done

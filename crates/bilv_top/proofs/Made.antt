@@ -10,7 +10,7 @@ use Rattle.bilv_spec.specs.Run.{Program}
 use Rattle.bilv_spec.specs.Texts.{line, line_feed, lines, joined, spaced, number_text, word_text}
 use Rattle.bilv_spec.specs.Work.{item_words, next_item, work_file, work_notes, work_text}
 use Rattle.bilv_spec.specs.RowFiles.{bytes_of, rv_file}
-use Rattle.bilv_spec.specs.Files.{layout_of, names_of, program_of}
+use Rattle.bilv_spec.specs.Files.{default_options, layout_of, machine_of, names_of, program_of}
 use Rattle.bilv_spec.specs.NotesGrammar.{IsNotesText}
 use Rattle.bilv_spec.specs.Reports.{NamedEnding, FailsBy, UnknownBy}
 use Rattle.bilv_spec.specs.StateText.{Layout, Written, NamedLine, words_of_line, lines_behind, printed}
@@ -43,21 +43,22 @@ file_short file seed count is few = subst (λ f. length f ≤ elf_limit) (sym is
 -- notes over an accepted file
 
 module _ (file text image : List ℕ) (b : Budget) (a : Answer) (same : image ≡ file) (accepted : IsAccepted file) where
-  pub large_verified : notes_limit < length text → a ≡ plain_answer 5 (line (codes "notes: TooLarge")) → IsVerified file text b a
+  pub large_verified : notes_limit < length text → a ≡ plain_answer 5 (line (codes "notes: TooLarge")) → IsVerified default_options file text b a
   large_verified long is = elf_accepted accepted (notes_refused (line (codes "notes: TooLarge")) (notes_large long) is)
 
-  pub answered_verified : AreNotesAnswered image text a → IsVerified file text b a
+  pub answered_verified : AreNotesAnswered image text a → IsVerified default_options file text b a
   answered_verified answered =
       elf_accepted accepted (notes_refused answered.0 (subst (λ x. AreNotesRefused x text answered.0) same answered.1) answered.2)
 
   pub found_verified : (f : Found) → length text ≤ notes_limit → (f.text.items ≡ text) × IsFoundBy image f →
-      IsReported (program_of image (notes_of f.notes) f.entry) (layout_of image) b a → IsVerified file text b a
+      IsReported (program_of (machine_of default_options image) image (notes_of f.notes) f.entry) (layout_of default_options image) b a →
+      IsVerified default_options file text b a
   found_verified f short found said =
       let by = subst (λ x. IsFoundBy x f) same found.1 in
       let says = subst (λ t. IsNotesText (names_of file) t (notes_of f.notes)) found.0 by.says in
-      elf_accepted accepted (program_found (program_of file (notes_of f.notes) f.entry)
+      elf_accepted accepted (program_found (program_of (machine_of default_options file) file (notes_of f.notes) f.entry)
       (accepted, short, (notes_of f.notes, f.entry, says, by.at, refl))
-      (subst (λ x. IsReported (program_of x (notes_of f.notes) f.entry) (layout_of x) b a) same said))
+      (subst (λ x. IsReported (program_of (machine_of default_options x) x (notes_of f.notes) f.entry) (layout_of default_options x) b a) same said))
 
 -- each answer has a line
 
@@ -106,12 +107,13 @@ notes_have file text written (ambiguous notes name a c short is at two) = line_h
 text_has : (a : Answer) (status : ℕ) (written : List ℕ) → a ≡ plain_answer status written → Contains written line_feed → Contains a.text line_feed
 text_has a status written is has = subst (λ t. Contains t line_feed) (sym (ap (λ x. x.text) is)) has
 
-found_has : (file text : List ℕ) (b : Budget) (a : Answer) → AfterNotes file text (λ p. IsReported p (layout_of file) b) a → Contains a.text line_feed
+found_has : (file text : List ℕ) (b : Budget) (a : Answer) → AfterNotes default_options file text (λ p. IsReported p (layout_of default_options file) b) a →
+    Contains a.text line_feed
 found_has file text b a (notes_refused written refused is) = text_has a 5 written is (notes_have file text written refused)
 found_has file text b a (program_found p found is) =
-    subst (λ t. Contains t line_feed) (sym (ap (λ x. x.text) is.3)) (report_has p (layout_of file) b is.0 is.1 is.2)
+    subst (λ t. Contains t line_feed) (sym (ap (λ x. x.text) is.3)) (report_has p (layout_of default_options file) b is.0 is.1 is.2)
 
-pub verified_has : (file text : List ℕ) (b : Budget) (a : Answer) → IsVerified file text b a → Contains a.text line_feed
+pub verified_has : (file text : List ℕ) (b : Budget) (a : Answer) → IsVerified default_options file text b a → Contains a.text line_feed
 verified_has file text b a (elf_refused written refused is) = text_has a 4 written is (elf_has file written refused)
 verified_has file text b a (elf_accepted accepted next) = found_has file text b a next
 
@@ -147,12 +149,12 @@ first_line_is (b ∷ rest) has = first_more b rest (b == 10) refl (first_line_is
 -- the answer
 
 module _ (seed count : ℕ) (file notes : List ℕ) (b : Budget) (inner : Answer) (file_is : file ≡ work_file seed count) (notes_is : notes ≡ work_notes seed count)
-    (b_is : b ≡ default_budget) (verified : IsVerified file notes b inner) where
-  made_verified : IsVerified (work_file seed count) (work_notes seed count) default_budget inner
+    (b_is : b ≡ default_budget) (verified : IsVerified default_options file notes b inner) where
+  made_verified : IsVerified default_options (work_file seed count) (work_notes seed count) default_budget inner
   made_verified =
-      let f = subst (λ x. IsVerified x notes b inner) file_is verified in
-      let n = subst (λ x. IsVerified (work_file seed count) x b inner) notes_is f in
-      subst (λ x. IsVerified (work_file seed count) (work_notes seed count) x inner) b_is n
+      let f = subst (λ x. IsVerified default_options x notes b inner) file_is verified in
+      let n = subst (λ x. IsVerified default_options (work_file seed count) x b inner) notes_is f in
+      subst (λ x. IsVerified default_options (work_file seed count) (work_notes seed count) x inner) b_is n
 
   pub selfrun_is : (shown first front with_first text : List ℕ) → shown ≡ inner.text → IsFirstLine shown first → front ≡ work_text seed count →
       with_first ≡ front ++ first → text ≡ with_first ++ line_feed ∷ [] → IsSelfRun seed count (record inner { text = text })

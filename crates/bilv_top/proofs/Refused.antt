@@ -7,7 +7,7 @@ use Rattle.bilv_spec.specs.Run.{Program}
 use Rattle.bilv_spec.specs.Notes.{Notes, Function, At, Named}
 use Rattle.bilv_spec.specs.NotesGrammar.{IsNotesText}
 use Rattle.bilv_spec.specs.NotesFaults.{NoteFault, IsFirstNoteFault}
-use Rattle.bilv_spec.specs.Files.{names_of, is_rv, program_of, IsFunctionAt}
+use Rattle.bilv_spec.specs.Files.{Options, machine_of, names_of, is_rv, program_of, IsFunctionAt}
 use Rattle.bilv_spec.specs.RvNames.{rv_names}
 use Rattle.bilv_spec.specs.ArmNames.{arm_names}
 use Rattle.bilv_spec.specs.Texts.{line}
@@ -88,10 +88,10 @@ module _ (s : Surroundings) (elf : List ℕ) (Next : List ℕ → Answer → Typ
   pub elf_accepts : (file : List ℕ) → Agrees (s.held elf) file → IsAccepted file → Next file a → AfterElf s elf Next a
   elf_accepts file agrees accepted next = was_read file agrees (elf_accepted accepted next)
 
-module _ (s : Surroundings) (notes file : List ℕ) (Next : List ℕ → Program → Answer → Type 0) (a : Answer) where
+module _ (s : Surroundings) (o : Options) (notes file : List ℕ) (Next : List ℕ → Program → Answer → Type 0) (a : Answer) where
   -- no program is found
   pub notes_answered : IsNotesAnswer (s.held notes) (s.shelf_before notes) (s.shelf_after notes) file a →
-      AfterRead s notes (λ text. AfterNotes file text (Next text)) a
+      AfterRead s notes (λ text. AfterNotes o file text (Next text)) a
   notes_answered (unread (failed rose is)) = read_failed rose is
   notes_answered (unread (longer long is)) = was_read long.0 long.1 (notes_refused (line (codes "notes: TooLarge")) (notes_large long.2) is)
   notes_answered (refused text agrees answered) = was_read text agrees (notes_refused answered.0 answered.1 answered.2)
@@ -99,11 +99,11 @@ module _ (s : Surroundings) (notes file : List ℕ) (Next : List ℕ → Program
   -- a program is found
   pub notes_found : (text : List ℕ) (found : Notes) (entry : ℕ) → Agrees (s.held notes) text → length text ≤ notes_limit → IsAccepted file →
       IsNotesText (names_of file) text found → IsFunctionAt file found.entry entry →
-      (IsFound file text (program_of file found entry) → Next text (program_of file found entry) a) →
-      AfterRead s notes (λ text. AfterNotes file text (Next text)) a
+      (IsFound o file text (program_of (machine_of o file) file found entry) → Next text (program_of (machine_of o file) file found entry) a) →
+      AfterRead s notes (λ text. AfterNotes o file text (Next text)) a
   notes_found text found entry agrees le accepted says at next =
-      let is : IsFound file text (program_of file found entry) = (accepted, le, (found, entry, says, at, refl)) in
-      was_read text agrees (program_found (program_of file found entry) is (next is))
+      let is : IsFound o file text (program_of (machine_of o file) file found entry) = (accepted, le, (found, entry, says, at, refl)) in
+      was_read text agrees (program_found (program_of (machine_of o file) file found entry) is (next is))
 
 -- what rises behind a count that never falls has risen from before
 pub rose_since : (a b c : ℕ) → a ≤ b → Rose b c → Rose a c
@@ -132,23 +132,24 @@ step_found held before after file text (Answered a) agrees le is = refused text 
 step_found held before after file text (Go f) agrees le is =
     (subst (Agrees held) (sym is.0) agrees, subst (λ t. length t ≤ notes_limit) (sym is.0) le, is.1)
 
-module _ (s : Surroundings) (elf notes file : List ℕ) (Next : List ℕ → List ℕ → Program → Answer → Type 0) (a : Answer) (held : Held) (before : ℕ)
+module _ (s : Surroundings) (o : Options) (elf notes file : List ℕ) (Next : List ℕ → List ℕ → Program → Answer → Type 0) (a : Answer) (held : Held) (before : ℕ)
     (agrees : Agrees (s.held elf) file) (same : held ≡ s.held notes) (le : s.shelf_before notes ≤ before) where
   -- no program is found over an ELF file that was read, by what is told of the notes behind that
   pub both_answered : AfterImage file (IsNotesAnswer held before (s.shelf_after notes) file) a
-      → AfterElf s elf (λ file. AfterRead s notes (λ text. AfterNotes file text (Next file text))) a
+      → AfterElf s elf (λ file. AfterRead s notes (λ text. AfterNotes o file text (Next file text))) a
   both_answered (elf_refused written is a_is) = was_read file agrees (elf_refused written is a_is)
   both_answered (elf_accepted accepted is) =
-      elf_accepts s elf (λ file. AfterRead s notes (λ text. AfterNotes file text (Next file text))) a file agrees accepted
-      (notes_answered s notes file (Next file) a
+      elf_accepts s elf (λ file. AfterRead s notes (λ text. AfterNotes o file text (Next file text))) a file agrees accepted
+      (notes_answered s o notes file (Next file) a
       (answer_since (s.held notes) (s.shelf_before notes) before (s.shelf_after notes) file a le (subst
       (λ h. IsNotesAnswer h before (s.shelf_after notes) file a) same is)))
 
   -- a program is found
-  pub both_found : (f : Found) → IsAccepted file → Agrees held f.text.items → length f.text.items ≤ notes_limit → IsFoundBy file f
-      → (IsFound file f.text.items (program_of file (notes_of f.notes) f.entry) → Next file f.text.items (program_of file (notes_of f.notes) f.entry) a)
-      → AfterElf s elf (λ file. AfterRead s notes (λ text. AfterNotes file text (Next file text))) a
+  pub both_found : (f : Found) → IsAccepted file → Agrees held f.text.items → length f.text.items ≤ notes_limit → IsFoundBy file f →
+      (IsFound o file f.text.items (program_of (machine_of o file) file (notes_of f.notes) f.entry) →
+      Next file f.text.items (program_of (machine_of o file) file (notes_of f.notes) f.entry) a)
+      → AfterElf s elf (λ file. AfterRead s notes (λ text. AfterNotes o file text (Next file text))) a
   both_found f accepted told short by next =
-      elf_accepts s elf (λ file. AfterRead s notes (λ text. AfterNotes file text (Next file text))) a file agrees accepted
-      (notes_found s notes file (Next file) a f.text.items (notes_of f.notes) f.entry (subst
+      elf_accepts s elf (λ file. AfterRead s notes (λ text. AfterNotes o file text (Next file text))) a file agrees accepted
+      (notes_found s o notes file (Next file) a f.text.items (notes_of f.notes) f.entry (subst
       (λ h. Agrees h f.text.items) same told) short accepted by.says by.at next)

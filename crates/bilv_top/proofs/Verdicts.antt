@@ -1,10 +1,9 @@
 -- What verdicts and certified questions answer.
-use Rattle.std.proofs.Common.{◌≡◌, ℕ, List, ap, sym, subst, ◌∙◌}
+use Rattle.std.proofs.Common.{◌≡◌, ℕ, ap, sym, subst, ◌∙◌}
 use Rattle.std.specs.Prelude.{codes}
 use Rattle.bilv_spec.specs.Run.{Program}
 use Rattle.bilv_spec.specs.Questions.{Question}
 use Rattle.bilv_spec.specs.StateText.{Layout}
-use Rattle.bilv_spec.specs.Files.{layout_of}
 use Rattle.bilv_spec.specs.Texts.{line}
 use Rattle.bilv_spec.specs.Answers.{Answer, Budget, Count, SpentOn, budget_text, plain_answer, report_answer, IsReported, IsRightReport}
 use Rattle.bilv_spec.specs.Certificates.{certificate_text}
@@ -22,15 +21,14 @@ use Rattle.verdict.specs.declared.verdicts.Scripted.TheVariants as scripted
 use Rattle.verdict.specs.declared.verdicts.Certified.TheVariants.{Points, Size, Conflicts, Satisfiable, Refuted}
 
 -- the report of a verdict is right
-pub verdict_reported : (file : List ℕ) (p : Program) (form written : Layout) (b : Budget) (l : Limits) (v : Verdict) (a : Answer) → layout_of file ≡ form →
-    written ≡ form → budget_of l ≡ b → IsVerdict p form l v → a ≡ report_answer written b (report_of v) (evidence_of v) → IsReported p (layout_of file) b a
-verdict_reported file p form written b l v a has writes same right is =
-    subst (λ layout. IsReported p layout b a) (sym has) (
-      report_of v,
-      evidence_of v,
-      subst (λ x. IsRightReport p form x (report_of v) (evidence_of v)) same right,
-      is ∙ ap (λ layout. report_answer layout b (report_of v) (evidence_of v)) writes,
-    )
+pub verdict_reported : (p : Program) (form written : Layout) (b : Budget) (l : Limits) (v : Verdict) (a : Answer) → written ≡ form → budget_of l ≡ b →
+    IsVerdict p form l v → a ≡ report_answer written b (report_of v) (evidence_of v) → IsReported p form b a
+verdict_reported p form written b l v a writes same right is = (
+  report_of v,
+  evidence_of v,
+  subst (λ x. IsRightReport p form x (report_of v) (evidence_of v)) same right,
+  is ∙ ap (λ layout. report_answer layout b (report_of v) (evidence_of v)) writes,
+)
 
 -- the answer to a question
 abbrev IsSaid : Program → Budget → Question → Answer → Type 0
@@ -75,9 +73,7 @@ module _ (p : Program) (layout : Layout) (b : Budget) (q : Question) (a : Answer
   large_scripted price is came = too_large price came.0 came.1 came.2 is
 
 -- the script of a question of the command line, within its budgets
-pub question_scripted : (file : List ℕ) (p : Program) (form : Layout) (b l : Budget) (q r : Question) (v : Scripted) (a : Answer) → layout_of file ≡ form →
-    l ≡ b → q ≡ r → IsScripted p form l q v → ((layout : Layout) (x : Question) → IsScripted p layout b x v → IsScriptAnswer p layout b x a) →
-    IsScriptAnswer p (layout_of file) b r a
-question_scripted file p form b l q r v a has same asked came said =
-    let here = subst (λ z. IsScripted p form z q v) same came in
-    said (layout_of file) r (subst (λ z. IsScripted p z b r v) (sym has) (subst (λ z. IsScripted p form b z v) asked here))
+pub question_scripted : (p : Program) (form : Layout) (b l : Budget) (q r : Question) (v : Scripted) (a : Answer) → l ≡ b → q ≡ r → IsScripted p form l q v →
+    ((layout : Layout) (x : Question) → IsScripted p layout b x v → IsScriptAnswer p layout b x a) → IsScriptAnswer p form b r a
+question_scripted p form b l q r v a same asked came said =
+    let here = subst (λ z. IsScripted p form z q v) same came in said form r (subst (λ z. IsScripted p form b z v) asked here)

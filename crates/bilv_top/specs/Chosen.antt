@@ -1,20 +1,25 @@
 -- The machines of forms of state texts.
-use Rattle.bilv_spec.specs.Memory.{Little, Big}
+use Rattle.std.specs.Prelude.{List, ℕ, ◌≡◌}
+use Rattle.bilv_spec.specs.Memory.{endian}
 use Rattle.bilv_spec.specs.Machine.{Machine}
 use Rattle.bilv_spec.specs.Bil.{Bank, XRegisters, RRegisters}
+use Rattle.bilv_spec.specs.Files.{Options, machine_of}
 use Rattle.bilv_spec.specs.Rv.{rv32}
 use Rattle.bilv_spec.specs.Arm.{arm}
+use Rattle.state_text.specs.Starts.{profile_in}
 use Rattle.state_text.specs.declared.layout.Layout.{Layout}
-use Rattle.state_text.specs.declared.layout.Layout.TheVariants.{Rv32, ArmLittle, ArmBig}
+use Rattle.state_text.specs.declared.layout.Layout.TheVariants.{Rv32, Arm}
 
 -- the machine
 abbrev pub machine_in : Layout → Machine
 machine_in Rv32 = rv32
-machine_in ArmLittle = arm Little
-machine_in ArmBig = arm Big
+machine_in (Arm big profile) = arm (endian big) (profile_in profile)
 
 -- the letter of its registers
 abbrev pub bank_in : Layout → Bank
 bank_in Rv32 = XRegisters
-bank_in ArmLittle = RRegisters
-bank_in ArmBig = RRegisters
+bank_in (Arm big profile) = RRegisters
+
+-- the machine is that of a file by some options
+abbrev pub IsMachineOf : (file : List ℕ) → Machine → Type 0
+IsMachineOf file m = (o : Options) × (machine_of o file ≡ m)

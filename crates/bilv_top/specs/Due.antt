@@ -1,7 +1,7 @@
 -- What is met on the way to the answer that is due.
 use Rattle.std.specs.Prelude.{ℕ, ◌≡◌, List, codes}
 use Rattle.bilv_spec.specs.Outside.{Held, Agrees, IsLonger, Rose}
-use Rattle.bilv_spec.specs.Files.{machine_of, names_of, IsFunctionAt}
+use Rattle.bilv_spec.specs.Files.{Options, machine_of, names_of, IsFunctionAt}
 use Rattle.bilv_spec.specs.NotesGrammar.{IsNotesText}
 use Rattle.bilv_spec.specs.Answers.{Answer, plain_answer}
 use Rattle.bilv_spec.specs.Outcomes.{read_fault}
@@ -25,9 +25,10 @@ pub data IsNotesAnswer (held : Held) (before after : ℕ) (file : List ℕ) (a :
   unread : IsUnread held before after notes_limit (plain_answer 5 (line (codes "notes: TooLarge"))) a → IsNotesAnswer held before after file a
   refused : (text : List ℕ) → Agrees held text → AreNotesAnswered file text a → IsNotesAnswer held before after file a
 
--- what was found over a file: the notes that the text says, the address of their function, and that the machine has the registers and flags that they name
+-- what was found over a file: the notes that the text says, the address of their function, and that the machine has the registers and flags that they name,
+-- whatever its options
 pub record IsFoundBy (file : List ℕ) (f : Found) : Type 0 where
   pub says : IsNotesText (names_of file) f.text.items (notes_of f.notes)
   pub at : IsFunctionAt file (notes_of f.notes).entry f.entry
-  pub readable : AreReadable (machine_of file).has_register (notes_of f.notes)
-  pub over : AreOver (machine_of file).has_register (machine_of file).has_flag (notes_of f.notes)
+  pub readable : (o : Options) → AreReadable (machine_of o file).has_register (notes_of f.notes)
+  pub over : (o : Options) → AreOver (machine_of o file).has_register (machine_of o file).has_flag (notes_of f.notes)

@@ -4,3 +4,4 @@ pub mod Names
 pub mod Read
 pub mod Ends
 pub mod Chosen
+pub mod Tasks

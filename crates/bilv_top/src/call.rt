@@ -1,9 +1,13 @@
 //! The public call.
-ghost use Rattle.std.specs.Prelude.{◌≡◌, ◌≢◌, ℕ, List, Some, IfOk, map, string_bytes};
+ghost use Rattle.std.specs.Prelude.{◌≡◌, ◌≢◌, ◌≤◌, ℕ, List, Some, IfOk, map, string_bytes};
 ghost use Rattle.answer_laws.specs.Completeness.{AreTold, IsSpentEvidence};
+ghost use Rattle.answer_laws.specs.Told.{AreToldTo, IsAnswered};
+ghost use Rattle.answer_laws.specs.Upgrading.{KeepsVerdict};
 ghost use Rattle.bilv_spec.specs.Answers as answers;
-ghost use Rattle.bilv_spec.specs.Outcomes.{IsDueAnswer, IsLawfulCommand, IsOutcome, IsRightAnswer, Verify};
-ghost use Rattle.bilv_spec.specs.Outside.{Rose};
+ghost use Rattle.bilv_spec.specs.Files.{Options};
+ghost use Rattle.bilv_spec.specs.Outcomes as outcomes;
+ghost use Rattle.bilv_spec.specs.Outcomes.{IsDueAnswer, IsLawfulCommand, IsOutcome, IsRightAnswer, Upgrade, Verify};
+ghost use Rattle.bilv_spec.specs.Outside.{Appends, Rose};
 ghost use Rattle.bilv_top.specs.Answers.{answer_of, evidence_of};
 ghost use Rattle.bilv_top.specs.Ends.{AreAnswered};
 ghost use Rattle.command_line.specs.Commands.{command_of};
@@ -12,14 +16,11 @@ ghost use Rattle.io_edges.specs.Met.{met, seen};
 
 use crate::answer::{Answer, Evidence};
 use crate::certificate::check_certificate;
-use crate::certify::certify;
-use crate::graph::graph;
 use crate::lift::lift;
 use crate::reading::answer;
-use crate::replay::replay;
-use crate::script::script;
 use crate::selfrun::selfrun;
-use crate::verify::verify;
+use crate::tasks::{Task, answer_about};
+use crate::upgrade::upgrade;
 use command_line::{Command, LineError, read_command};
 use exit_status::{NO_MEMORY, USAGE, WRITE_FAULT};
 use io_edges::{Shelf, Sink, write_all};
@@ -35,33 +36,73 @@ pub struct Outcome {
 /// The answer that is due to a command.
 fn obey<H: Shelf>(alloc: Global, command: Command, shelf: &mut H) -> Result<Answer, AllocError>
     requires { IsLawfulCommand (command_of command) }
-    ensures { IfOk result (λ a. IsRightAnswer (seen (H.holds shelf.old) (H.faults shelf.old) (H.faults shelf.new)) (command_of command.entry) (answer_of a)) }
+    ensures keeps { (n : List ℕ) → H.holds shelf.new n ≡ H.holds shelf.old n }
+    ensures never_falls { (n : List ℕ) → H.faults shelf.old n ≤ H.faults shelf.new n }
+    ensures right { IfOk result (λ a. IsRightAnswer (seen (H.holds shelf.old) (H.faults shelf.old) (H.faults shelf.new))
+        (command_of command.entry) (answer_of a)) }
 {
     match command {
-        Command::Verify { elf, notes, budget } => verify(alloc, shelf, elf, notes, budget),
-        Command::Lift { elf } => lift(alloc, shelf, elf),
-        Command::Graph { elf, notes } => graph(alloc, shelf, elf, notes),
+        Command::Verify {
+            elf,
+            notes,
+            options,
+            budget,
+        } => answer_about(alloc, shelf, elf, notes, options, Task::Report(budget)),
+        Command::Lift { elf, options } => lift(alloc, shelf, elf, options),
+        Command::Graph {
+            elf,
+            notes,
+            options,
+        } => answer_about(alloc, shelf, elf, notes, options, Task::Graph),
         Command::Script {
             elf,
             notes,
+            options,
             question,
             budget,
-        } => script(alloc, shelf, elf, notes, question, budget),
-        Command::Replay { elf, notes, state } => replay(alloc, shelf, elf, notes, state),
+        } => answer_about(
+            alloc,
+            shelf,
+            elf,
+            notes,
+            options,
+            Task::Script(question, budget),
+        ),
+        Command::Replay {
+            elf,
+            notes,
+            options,
+            state,
+        } => answer_about(alloc, shelf, elf, notes, options, Task::Replay(state)),
         Command::Certify {
             elf,
             notes,
+            options,
             question,
             budget,
-        } => certify(alloc, shelf, elf, notes, question, budget),
+        } => answer_about(
+            alloc,
+            shelf,
+            elf,
+            notes,
+            options,
+            Task::Certificate(question, budget),
+        ),
         Command::Check { certificate } => check_certificate(alloc, shelf, certificate),
-        Command::SelfRun { seed, count } => selfrun(alloc, seed, count),
+        Command::SelfRun { seed, count } => selfrun(alloc, shelf, seed, count),
+        Command::Upgrade {
+            elf,
+            notes,
+            options,
+        } => upgrade(alloc, shelf, elf, notes, options),
     }
 }
 
 /// The answer that is due to words.
 fn due<H: Shelf>(alloc: Global, words: &[String], shelf: &mut H) -> Result<Answer, AllocError>
-    ensures { IfOk result (λ a. IsDueAnswer (seen (H.holds shelf.old) (H.faults shelf.old) (H.faults shelf.new))
+    ensures keeps { (n : List ℕ) → H.holds shelf.new n ≡ H.holds shelf.old n }
+    ensures never_falls { (n : List ℕ) → H.faults shelf.old n ≤ H.faults shelf.new n }
+    ensures due { IfOk result (λ a. IsDueAnswer (seen (H.holds shelf.old) (H.faults shelf.old) (H.faults shelf.new))
         (lawful_command (map (λ w. string_bytes w) words.now)) (answer_of a)) }
 {
     match read_command(alloc, words) {
@@ -69,7 +110,7 @@ fn due<H: Shelf>(alloc: Global, words: &[String], shelf: &mut H) -> Result<Answe
         Err(LineError::Usage) => answer(
             alloc,
             USAGE,
-            b"usage: bilv verify|lift|graph|smt|replay|cert|check|selfrun\n",
+            b"usage: bilv verify|lift|graph|smt|replay|cert|check|selfrun|upgrade\n",
         ),
         Err(LineError::Memory) => Err(AllocError),
     }
@@ -82,14 +123,28 @@ pub fn bilv<H: Shelf, K: Sink>(
     shelf: &mut H,
     out: &mut K,
 ) -> Outcome
+    // The shelf holds what it held, and no count of faults falls.
+    ensures keeps { (n : List ℕ) → H.holds shelf.new n ≡ H.holds shelf.old n }
+    ensures never_falls { (n : List ℕ) → H.faults shelf.old n ≤ H.faults shelf.new n }
+    ensures sink_never_falls { K.faults out.old ≤ K.faults out.new }
     // A due answer was written whole; or a write failed (7) behind a proper front of its text; or memory ran out (8), and nothing was written.
     ensures outcome { IsOutcome (met (seen (H.holds shelf.old) (H.faults shelf.old) (H.faults shelf.new)) (K.written out.old) (K.written out.new)
         (K.faults out.old) (K.faults out.new)) (lawful_command (map (λ w. string_bytes w) words.now)) result.status (evidence_of result.evidence) }
     // Where no write failed, memory sufficed and no question spent its conflicts, a verification of files that are told comes to the answer that is theirs.
-    ensures complete { (elf notes file text : List ℕ) (b : answers.Budget) → lawful_command (map (λ w. string_bytes w) words.now) ≡ Some (Verify elf notes b) →
+    ensures complete { (o : Options) (elf notes file text : List ℕ) (b : answers.Budget) →
+        lawful_command (map (λ w. string_bytes w) words.now) ≡ Some (Verify o elf notes b) →
         AreTold (seen (H.holds shelf.old) (H.faults shelf.old) (H.faults shelf.new)) elf notes file text →
         (result.status ≡ 7 → ¬ Rose (K.faults out.old) (K.faults out.new)) → result.status ≢ 8 → (¬ IsSpentEvidence (evidence_of result.evidence)) →
-        AreAnswered file text b (K.written out.old) (K.written out.new) result.status (evidence_of result.evidence) }
+        AreAnswered o file text b (K.written out.old) (K.written out.new) result.status (evidence_of result.evidence) }
+    // Any other command comes to such an answer too.
+    ensures complete_all { (content : List ℕ → List ℕ) (c : outcomes.Command) → lawful_command (map (λ w. string_bytes w) words.now) ≡ Some c →
+        AreToldTo (seen (H.holds shelf.old) (H.faults shelf.old) (H.faults shelf.new)) content c →
+        (result.status ≡ 7 → ¬ Rose (K.faults out.old) (K.faults out.new)) → result.status ≢ 8 →
+        IsAnswered content c (K.written out.old) (K.written out.new) result.status (evidence_of result.evidence) }
+    // Notes that are printed again keep the verdict.
+    ensures upgraded { (o : Options) (elf notes file text : List ℕ) → lawful_command (map (λ w. string_bytes w) words.now) ≡ Some (Upgrade o elf notes) →
+        AreTold (seen (H.holds shelf.old) (H.faults shelf.old) (H.faults shelf.new)) elf notes file text → result.status ≡ 0 →
+        (q : List ℕ) × Appends (K.written out.old) q (K.written out.new) × KeepsVerdict o file text q }
 {
     let Ok(answer) = due(alloc, words, shelf) else {
         return Outcome {

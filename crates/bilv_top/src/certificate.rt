@@ -1,5 +1,5 @@
 //! The command that checks a certificate.
-ghost use Rattle.std.specs.Prelude.{◌≡◌, ◌≤◌, length, IfOk};
+ghost use Rattle.std.specs.Prelude.{◌≡◌, ◌≤◌, ℕ, List, length, IfOk};
 ghost use Rattle.bilv_spec.specs.Answers.{NoEvidence};
 ghost use Rattle.bilv_spec.specs.Certificates.{check_text};
 ghost use Rattle.bilv_spec.specs.Outcomes.{Check, IsRightAnswer};
@@ -68,7 +68,9 @@ pub fn check_certificate<H: Shelf>(
     shelf: &mut H,
     name: &str,
 ) -> Result<Answer, AllocError>
-    ensures { IfOk result (λ a. IsRightAnswer (seen (H.holds shelf.old) (H.faults shelf.old) (H.faults shelf.new)) (Check name.now) (answer_of a)) }
+    ensures keeps { (n : List ℕ) → H.holds shelf.new n ≡ H.holds shelf.old n }
+    ensures never_falls { (n : List ℕ) → H.faults shelf.old n ≤ H.faults shelf.new n }
+    ensures right { IfOk result (λ a. IsRightAnswer (seen (H.holds shelf.old) (H.faults shelf.old) (H.faults shelf.new)) (Check name.now) (answer_of a)) }
 {
     match read_within(alloc, shelf, name, TEXT_LIMIT)? {
         FileRead::Failed => unread(alloc),

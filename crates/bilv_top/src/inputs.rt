@@ -16,6 +16,7 @@ use crate::answer::{Answer, Evidence, Step};
 use crate::machines::layout;
 use crate::reading::{answer, read_or_answer};
 use crate::texts::{ambiguous_line, elf_fault_line, note_fault_words, refused_line};
+use command_line::Options;
 use elf32_reader::{ElfFault, Image, SymFault, read_image};
 use exit_status::{ELF_REFUSED, NOTES_REFUSED};
 use io_edges::Shelf;
@@ -109,7 +110,7 @@ pub fn find_program(alloc: Global, image: &Image, text: Vec<u8>) -> Result<Step<
     requires short { length text.items ≤ verified.notes_limit }
     ensures { IfOk result (λ step. IfStep step (AreNotesAnswered image.now text.items) (λ f. (f.text.items ≡ text.items) × IsFoundBy image.now f)) }
 {
-    let notes = match parse(alloc, &text, layout(image)) {
+    let notes = match parse(alloc, &text, layout(image, Options::standard())) {
         Ok(notes) => notes,
         Err(NotesError::Fault(fault)) => return Ok(Step::Answered(refuse_line(alloc, fault)?)),
         Err(NotesError::Memory) => return Err(AllocError),

@@ -15,7 +15,9 @@ mod replay;
 mod reports;
 mod script;
 mod selfrun;
+mod tasks;
 mod texts;
+mod upgrade;
 mod verify;
 
 pub use answer::Evidence;

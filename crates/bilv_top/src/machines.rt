@@ -1,28 +1,49 @@
 //! The machine of a file.
 ghost use Rattle.std.specs.Prelude.{◌≡◌};
+ghost use Rattle.bilv_spec.specs.Files as files;
 ghost use Rattle.bilv_spec.specs.Files.{is_rv, layout_of, machine_of, names_of};
 ghost use Rattle.bilv_spec.specs.LiftText.{bank_by};
+ghost use Rattle.command_line.specs.Commands.{options_of};
 ghost use Rattle.notes_lang.specs.Parsing.{layout_flags, layout_names, layout_registers};
 ghost use Rattle.state_text.specs.Starts as starts;
 ghost use Rattle.bilv_top.specs.Chosen.{bank_in, machine_in};
 
+use command_line::Options;
 use elf32_reader::Image;
 use state_text::Layout;
 
-/// The form of a file's machine, which says what machine it is.
-pub fn layout(image: &Image) -> Layout
+/// The form of a file's machine by some options, which says what machine it is. Its names, registers and flags are the same whatever the options.
+pub fn layout(image: &Image, options: Options) -> Layout
     ensures names { layout_names result ≡ names_of image.now }
-    ensures registers { layout_registers result ≡ (machine_of image.now).has_register }
-    ensures flags { layout_flags result ≡ (machine_of image.now).has_flag }
-    ensures machine { machine_of image.now ≡ machine_in result }
-    ensures form { layout_of image.now ≡ starts.layout_of result }
+    ensures registers { (o : files.Options) → layout_registers result ≡ (machine_of o image.now).has_register }
+    ensures flags { (o : files.Options) → layout_flags result ≡ (machine_of o image.now).has_flag }
+    ensures machine { machine_of (options_of options) image.now ≡ machine_in result }
+    ensures form { layout_of (options_of options) image.now ≡ starts.layout_of result }
     ensures bank { bank_by (is_rv image.now) ≡ bank_in result }
 {
     if image.is_risc_v() {
         Layout::Rv32
-    } else if image.big() {
-        Layout::ArmBig
     } else {
-        Layout::ArmLittle
+        Layout::Arm {
+            big: image.big(),
+            profile: options.profile,
+        }
     }
 }
+
+/// Calls a function that is generic over machines with the machine of an image by some options. In square brackets stand its further type arguments.
+macro_rules! on_machine {
+    ($image:expr, $options:expr, $call:ident [$($more:ident),*] ($($argument:expr),*)) => {
+        match layout($image, $options) {
+            Layout::Rv32 => $call::<Rv32 $(, $more)*>($($argument),*),
+            Layout::Arm { big: false, profile: Profile::V4 } => $call::<Arm<0, 0> $(, $more)*>($($argument),*),
+            Layout::Arm { big: false, profile: Profile::V4T } => $call::<Arm<0, 1> $(, $more)*>($($argument),*),
+            Layout::Arm { big: false, profile: Profile::V5 } => $call::<Arm<0, 2> $(, $more)*>($($argument),*),
+            Layout::Arm { big: true, profile: Profile::V4 } => $call::<Arm<1, 0> $(, $more)*>($($argument),*),
+            Layout::Arm { big: true, profile: Profile::V4T } => $call::<Arm<1, 1> $(, $more)*>($($argument),*),
+            Layout::Arm { big: true, profile: Profile::V5 } => $call::<Arm<1, 2> $(, $more)*>($($argument),*),
+        }
+    };
+}
+
+pub(crate) use on_machine;

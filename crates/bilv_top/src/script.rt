@@ -1,32 +1,26 @@
-//! The command that prints the script of a question.
+//! The answer that prints the script of a question.
 ghost use Rattle.std.specs.Prelude.{◌≡◌, string_bytes, IfOk};
 ghost use Rattle.bilv_spec.specs.Answers.{IsBudget, plain_answer};
-ghost use Rattle.bilv_spec.specs.Files.{layout_of, machine_of, program_of};
-ghost use Rattle.bilv_spec.specs.Outcomes.{Script, IsRightAnswer};
+ghost use Rattle.bilv_spec.specs.Files.{program_of};
 ghost use Rattle.bilv_spec.specs.Questions.{Question as AskedQuestion};
 ghost use Rattle.bilv_spec.specs.Run.{Program};
 ghost use Rattle.bilv_spec.specs.Scripts.{IsScriptAnswer};
 ghost use Rattle.bilv_spec.specs.StateText as texts;
 ghost use Rattle.bilv_top.specs.Answers.{answer_of};
-ghost use Rattle.io_edges.specs.Met.{seen};
+ghost use Rattle.bilv_top.specs.Chosen.{IsMachineOf};
 ghost use Rattle.bilv_top.specs.Due.{IsFoundBy};
 ghost use Rattle.command_line.specs.Commands.{budget_of, question_of};
 ghost use Rattle.notes_lang.specs.Drafting.{notes_of};
 ghost use Rattle.verdict.specs.Verdicts.{IsScripted};
 
-use crate::answer::{Answer, Evidence, Step};
+use crate::answer::{Answer, Evidence};
 use crate::certify::asked;
-use crate::inputs::{Found, read_elf, read_program};
-use crate::machines::layout;
+use crate::inputs::Found;
 use crate::reports::{exceeded, limits};
-use arm_lift::Arm;
 use command_line::{Budget, Question};
 use elf32_reader::Image;
 use exit_status::DONE;
-use io_edges::Shelf;
 use machine_law::Machine;
-use rv_lift::Rv32;
-use state_text::Layout;
 use std::alloc::{AllocError, Global};
 use verdict::{Scripted, script as script_of};
 
@@ -57,7 +51,7 @@ fn say(alloc: Global, budget: Budget, scripted: Scripted) -> Result<Answer, Allo
 }
 
 /// The answer that prints the script of a question about a program of a machine, whose file has these bytes. The error is want of memory.
-fn script_by<M: Machine>(
+pub fn script_by<M: Machine>(
     alloc: Global,
     file: &[u8],
     image: &Image,
@@ -65,64 +59,15 @@ fn script_by<M: Machine>(
     budget: Budget,
     question: Question,
 ) -> Result<Answer, AllocError>
-    requires machine { machine_of image.now ≡ M.machine }
-    requires form { layout_of image.now ≡ M.form }
+    requires machine { IsMachineOf image.now M.machine }
     requires same { image.now ≡ file.now }
     requires found { IsFoundBy image.now found.now }
     requires budget { IsBudget (budget_of budget) }
-    ensures { IfOk result (λ a. IsScriptAnswer (program_of image.now (notes_of found.now.notes) found.now.entry) (layout_of image.now) (budget_of budget)
+    ensures { IfOk result (λ a. IsScriptAnswer (program_of M.machine image.now (notes_of found.now.notes) found.now.entry) M.form (budget_of budget)
         (question_of question) (answer_of a)) }
 {
     let limits = limits(budget);
     let kind = asked(question);
     let scripted = script_of::<M>(alloc, image, &found.notes, found.entry, &limits, kind)?;
     say(alloc, budget, scripted)
-}
-
-/// The answer that prints the script of a question about a program, whose file has these bytes. The error is want of memory.
-fn script_program(
-    alloc: Global,
-    file: &[u8],
-    image: &Image,
-    found: &Found,
-    budget: Budget,
-    question: Question,
-) -> Result<Answer, AllocError>
-    requires same { image.now ≡ file.now }
-    requires found { IsFoundBy image.now found.now }
-    requires budget { IsBudget (budget_of budget) }
-    ensures { IfOk result (λ a. IsScriptAnswer (program_of image.now (notes_of found.now.notes) found.now.entry) (layout_of image.now) (budget_of budget)
-        (question_of question) (answer_of a)) }
-{
-    match layout(image) {
-        Layout::Rv32 => script_by::<Rv32>(alloc, file, image, found, budget, question),
-        Layout::ArmLittle => script_by::<Arm<0>>(alloc, file, image, found, budget, question),
-        Layout::ArmBig => script_by::<Arm<1>>(alloc, file, image, found, budget, question),
-    }
-}
-
-/// Prints the script of a question about the program that the ELF file and the notes of two names are, for another solver. The error is want of memory, which a
-/// price of 2^128 - 1 or more counts as too, and want of numbers for terms.
-pub fn script<H: Shelf>(
-    alloc: Global,
-    shelf: &mut H,
-    elf: &str,
-    notes: &str,
-    question: Question,
-    budget: Budget,
-) -> Result<Answer, AllocError>
-    requires budget { IsBudget (budget_of budget) }
-    ensures { IfOk result (λ a. IsRightAnswer (seen (H.holds shelf.old) (H.faults shelf.old) (H.faults shelf.new))
-        (Script elf.now notes.now (question_of question) (budget_of budget)) (answer_of a)) }
-{
-    let file = match read_elf(alloc, shelf, elf)? {
-        Step::Go(file) => file,
-        Step::Answered(answer) => return Ok(answer),
-    };
-    match read_program(alloc, shelf, &file, notes)? {
-        Step::Go((image, found)) => {
-            script_program(alloc, &file, &image, &found, budget, question)
-        }
-        Step::Answered(answer) => Ok(answer),
-    }
 }

@@ -1,8 +1,8 @@
 //! The command that verifies work which is made from a number.
-ghost use Rattle.std.specs.Prelude.{◌≡◌, ◌≤◌, ◌==◌, not, Contains, IfOk, length};
+ghost use Rattle.std.specs.Prelude.{◌≡◌, ◌≤◌, ◌==◌, ℕ, List, not, Contains, IfOk, length};
 ghost use Rattle.std.specs.List.{prefix_len};
-ghost use Rattle.bilv_spec.specs.Answers as answers;
 ghost use Rattle.bilv_spec.specs.Answers.{IsBudget};
+ghost use Rattle.bilv_spec.specs.Files.{default_options};
 ghost use Rattle.bilv_spec.specs.Outcomes.{IsFirstLine, IsLawfulCommand, IsSelfRun, SelfRun};
 ghost use Rattle.bilv_spec.specs.Texts.{line_feed};
 ghost use Rattle.bilv_spec.specs.Verified.{IsVerified, elf_limit};
@@ -12,35 +12,27 @@ ghost use Rattle.command_line.specs.Commands.{budget_of};
 use crate::answer::{Answer, Step};
 use crate::inputs::{NOTES_LIMIT, find_program, refuse_elf};
 use crate::reading::answer;
-use crate::verify::report_on;
-use command_line::Budget;
+use crate::tasks::{Task, answer_on};
+use command_line::{Budget, Options};
 use elf32_reader::read_image;
 use exit_status::NOTES_REFUSED;
+use io_edges::Shelf;
 use std::alloc::{AllocError, Global};
 use work_gen::{front, work};
 
-/// The budgets where none are given.
-fn default_budget() -> Budget
-    ensures { budget_of result ≡ answers.default_budget }
-{
-    Budget {
-        unroll: 64,
-        points: 65_536,
-        size: 1_073_741_824,
-        conflicts: 200_000,
-    }
-}
-
 /// The answer to an ELF file and to notes, by their bytes. The error is want of memory.
-fn verify_bytes(
+fn verify_bytes<H: Shelf>(
     alloc: Global,
+    shelf: &mut H,
     file: &[u8],
     notes: Vec<u8>,
     budget: Budget,
 ) -> Result<Answer, AllocError>
     requires short { length file.now ≤ elf_limit }
     requires budget { IsBudget (budget_of budget) }
-    ensures { IfOk result (λ a. IsVerified file.now notes.items (budget_of budget) (answer_of a)) }
+    ensures keeps { (n : List ℕ) → H.holds shelf.new n ≡ H.holds shelf.old n }
+    ensures never_falls { (n : List ℕ) → H.faults shelf.old n ≤ H.faults shelf.new n }
+    ensures verified { IfOk result (λ a. IsVerified default_options file.now notes.items (budget_of budget) (answer_of a)) }
 {
     let image = match read_image(alloc, file) {
         Ok(image) => image,
@@ -50,7 +42,18 @@ fn verify_bytes(
         return answer(alloc, NOTES_REFUSED, b"notes: TooLarge\n");
     }
     match find_program(alloc, &image, notes)? {
-        Step::Go(found) => report_on(alloc, file, &image, &found, budget),
+        Step::Go(found) => {
+            let task = Task::Report(budget);
+            answer_on(
+                alloc,
+                shelf,
+                file,
+                &image,
+                &found,
+                Options::standard(),
+                task,
+            )
+        }
         Step::Answered(answer) => Ok(answer),
     }
 }
@@ -73,15 +76,22 @@ fn first_line<'a>(text: &'a [u8]) -> &'a [u8]
 }
 
 /// Verifies the work of a seed, below 2^31, and a number of items, 1 to 16000, with the default budgets. The answer's text is one line: what was made, and the
-/// first line of the report on it; the status and what shows that it is right are the report's. The error is want of memory.
-pub fn selfrun(alloc: Global, seed: u32, count: u32) -> Result<Answer, AllocError>
+/// first line of the report on it; the status and what shows that it is right are the report's. The shelf is not read. The error is out of memory.
+pub fn selfrun<H: Shelf>(
+    alloc: Global,
+    shelf: &mut H,
+    seed: u32,
+    count: u32,
+) -> Result<Answer, AllocError>
     requires lawful { IsLawfulCommand (SelfRun seed count) }
-    ensures { IfOk result (λ a. IsSelfRun seed count (answer_of a)) }
+    ensures keeps { (n : List ℕ) → H.holds shelf.new n ≡ H.holds shelf.old n }
+    ensures never_falls { (n : List ℕ) → H.faults shelf.old n ≤ H.faults shelf.new n }
+    ensures right { IfOk result (λ a. IsSelfRun seed count (answer_of a)) }
 {
     let made = work(alloc, seed, count)?;
     let mut text = front(alloc, seed, count, made.result)?;
     let notes = made.notes;
-    let inner = verify_bytes(alloc, &made.file, notes, default_budget())?;
+    let inner = verify_bytes(alloc, shelf, &made.file, notes, Budget::standard())?;
     let evidence = inner.evidence;
     text.extend_from_slice(first_line(&inner.text))?;
     text.extend_from_slice(b"\n")?;

@@ -115,6 +115,9 @@ pub fn note_fault_words(kind: FaultKind) -> &'static [u8]
         FaultKind::Align => b"N9 Align",
         FaultKind::Range => b"N10 Range",
         FaultKind::Entry => b"N11 Entry",
+        FaultKind::Version => b"N12 Version",
+        FaultKind::Const => b"N13 Const",
+        FaultKind::All => b"N14 All",
     }
 }
 

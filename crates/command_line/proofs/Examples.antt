@@ -1,35 +1,39 @@
 -- Command lines, and what they ask for.
 use Rattle.std.proofs.Common.{◌≡◌, refl, codes, [], ◌∷◌, Some, None}
 use Rattle.bilv_spec.specs.Answers.{default_budget}
-use Rattle.bilv_spec.specs.Outcomes.{Lift, Graph, Script, SelfRun, Verify}
+use Rattle.bilv_spec.specs.Arm.{V4T, V5}
+use Rattle.bilv_spec.specs.Files.{default_options}
+use Rattle.bilv_spec.specs.Outcomes.{Lift, Graph, Script, SelfRun, Upgrade, Verify}
 use Rattle.bilv_spec.specs.Questions.{FailQuestion}
 use Rattle.clap.proofs.OnLiterals.{clap_on_literals}
 use Rattle.command_line.specs.Lines.{bilv_app, command_named, lawful_command, takes_line}
 
-verify_plain : lawful_command (codes "bilv" ∷ codes "verify" ∷ codes "e" ∷ codes "n" ∷ []) ≡ Some (Verify (codes "e") (codes "n") default_budget)
+verify_plain : lawful_command (codes "bilv" ∷ codes "verify" ∷ codes "e" ∷ codes "n" ∷ [])
+    ≡ Some (Verify default_options (codes "e") (codes "n") default_budget)
 unfolding clap_on_literals bilv_app takes_line command_named
 verify_plain = refl
 
 verify_most : lawful_command (codes "bilv" ∷ codes "verify" ∷ codes "e" ∷ codes "n" ∷ codes "--unroll" ∷ codes "4096" ∷ [])
-    ≡ Some (Verify (codes "e") (codes "n") (record default_budget { unroll = 4096 }))
+    ≡ Some (Verify default_options (codes "e") (codes "n") (record default_budget { unroll = 4096 }))
 unfolding clap_on_literals bilv_app takes_line command_named
 verify_most = refl
 
 verify_attached : lawful_command (codes "bilv" ∷ codes "verify" ∷ codes "--unroll=+007" ∷ codes "e" ∷ codes "n" ∷ [])
-    ≡ Some (Verify (codes "e") (codes "n") (record default_budget { unroll = 7 }))
+    ≡ Some (Verify default_options (codes "e") (codes "n") (record default_budget { unroll = 7 }))
 unfolding clap_on_literals bilv_app takes_line command_named
 verify_attached = refl
 
 smt_fail : lawful_command (codes "bilv" ∷ codes "smt" ∷ codes "e" ∷ codes "n" ∷ codes "--question" ∷ codes "fail" ∷ codes "--size" ∷ codes "5" ∷ [])
-    ≡ Some (Script (codes "e") (codes "n") FailQuestion (record default_budget { size = 5 }))
+    ≡ Some (Script default_options (codes "e") (codes "n") FailQuestion (record default_budget { size = 5 }))
 unfolding clap_on_literals bilv_app takes_line command_named
 smt_fail = refl
 
-graph_by_dashes : lawful_command (codes "bilv" ∷ codes "graph" ∷ codes "--" ∷ codes "-e" ∷ codes "--n" ∷ []) ≡ Some (Graph (codes "-e") (codes "--n"))
+graph_by_dashes : lawful_command (codes "bilv" ∷ codes "graph" ∷ codes "--" ∷ codes "-e" ∷ codes "--n" ∷ [])
+    ≡ Some (Graph default_options (codes "-e") (codes "--n"))
 unfolding clap_on_literals bilv_app takes_line command_named
 graph_by_dashes = refl
 
-help_is_a_name : lawful_command (codes "bilv" ∷ codes "lift" ∷ codes "help" ∷ []) ≡ Some (Lift (codes "help"))
+help_is_a_name : lawful_command (codes "bilv" ∷ codes "lift" ∷ codes "help" ∷ []) ≡ Some (Lift default_options (codes "help"))
 unfolding clap_on_literals bilv_app takes_line command_named
 help_is_a_name = refl
 
@@ -92,3 +96,28 @@ other_name = refl
 no_words : lawful_command [] ≡ None
 unfolding clap_on_literals bilv_app takes_line command_named
 no_words = refl
+
+lift_fifth : lawful_command (codes "bilv" ∷ codes "lift" ∷ codes "e" ∷ codes "--arm=v5" ∷ []) ≡ Some (Lift (record { profile = V5 }) (codes "e"))
+unfolding clap_on_literals bilv_app takes_line command_named
+lift_fifth = refl
+
+upgrade_with_exchange : lawful_command (codes "bilv" ∷ codes "upgrade" ∷ codes "e" ∷ codes "n" ∷ codes "--arm" ∷ codes "v4t" ∷ [])
+    ≡ Some (Upgrade (record { profile = V4T }) (codes "e") (codes "n"))
+unfolding clap_on_literals bilv_app takes_line command_named
+upgrade_with_exchange = refl
+
+other_profile : lawful_command (codes "bilv" ∷ codes "graph" ∷ codes "e" ∷ codes "n" ∷ codes "--arm" ∷ codes "v6" ∷ []) ≡ None
+unfolding clap_on_literals bilv_app takes_line command_named
+other_profile = refl
+
+profile_twice : lawful_command (codes "bilv" ∷ codes "lift" ∷ codes "e" ∷ codes "--arm=v5" ∷ codes "--arm=v5" ∷ []) ≡ None
+unfolding clap_on_literals bilv_app takes_line command_named
+profile_twice = refl
+
+check_of_profile : lawful_command (codes "bilv" ∷ codes "check" ∷ codes "c" ∷ codes "--arm=v5" ∷ []) ≡ None
+unfolding clap_on_literals bilv_app takes_line command_named
+check_of_profile = refl
+
+upgrade_with_budget : lawful_command (codes "bilv" ∷ codes "upgrade" ∷ codes "e" ∷ codes "n" ∷ codes "--unroll" ∷ codes "5" ∷ []) ≡ None
+unfolding clap_on_literals bilv_app takes_line command_named
+upgrade_with_budget = refl

@@ -1,12 +1,15 @@
 -- The commands of the code as the definitions have them.
 use Rattle.bilv_spec.specs.Questions as asked
 use Rattle.bilv_spec.specs.Answers as answers
+use Rattle.bilv_spec.specs.Files as files
 use Rattle.bilv_spec.specs.Outcomes as outcomes
+use Rattle.state_text.specs.Starts.{profile_in}
+use Rattle.command_line.specs.declared.command.Options.{Options}
 use Rattle.command_line.specs.declared.command.Question.{Question}
 use Rattle.command_line.specs.declared.command.Question.TheVariants.{Entry, Fail, Turn}
 use Rattle.command_line.specs.declared.command.Budget.{Budget}
 use Rattle.command_line.specs.declared.command.Command.{Command}
-use Rattle.command_line.specs.declared.command.Command.TheVariants.{Verify, Lift, Graph, Script, Replay, Certify, Check, SelfRun}
+use Rattle.command_line.specs.declared.command.Command.TheVariants.{Verify, Lift, Graph, Script, Replay, Certify, Check, SelfRun, Upgrade}
 
 abbrev pub question_of : Question → asked.Question
 question_of Entry = asked.EntryQuestion
@@ -16,12 +19,16 @@ question_of Turn = asked.TurnQuestion
 abbrev pub budget_of : Budget → answers.Budget
 budget_of b = record { unroll = b.unroll; points = b.points; size = b.size; conflicts = b.conflicts }
 
+abbrev pub options_of : Options → files.Options
+options_of o = record { profile = profile_in o.profile }
+
 abbrev pub command_of : Command → outcomes.Command
-command_of (Verify elf notes budget) = outcomes.Verify elf.now notes.now (budget_of budget)
-command_of (Lift elf) = outcomes.Lift elf.now
-command_of (Graph elf notes) = outcomes.Graph elf.now notes.now
-command_of (Script elf notes question budget) = outcomes.Script elf.now notes.now (question_of question) (budget_of budget)
-command_of (Replay elf notes state) = outcomes.Replay elf.now notes.now state.now
-command_of (Certify elf notes question budget) = outcomes.Certify elf.now notes.now (question_of question) (budget_of budget)
+command_of (Verify elf notes options budget) = outcomes.Verify (options_of options) elf.now notes.now (budget_of budget)
+command_of (Lift elf options) = outcomes.Lift (options_of options) elf.now
+command_of (Graph elf notes options) = outcomes.Graph (options_of options) elf.now notes.now
+command_of (Script elf notes options question budget) = outcomes.Script (options_of options) elf.now notes.now (question_of question) (budget_of budget)
+command_of (Replay elf notes options state) = outcomes.Replay (options_of options) elf.now notes.now state.now
+command_of (Certify elf notes options question budget) = outcomes.Certify (options_of options) elf.now notes.now (question_of question) (budget_of budget)
 command_of (Check certificate) = outcomes.Check certificate.now
 command_of (SelfRun seed count) = outcomes.SelfRun seed count
+command_of (Upgrade elf notes options) = outcomes.Upgrade (options_of options) elf.now notes.now

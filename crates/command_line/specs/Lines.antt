@@ -4,6 +4,8 @@ use Rattle.std.specs.Str.{bytes_eq}
 use Rattle.std.specs.Str.Parse.{digits_value, without_leading_plus}
 use Rattle.bilv_spec.specs.Questions.{Question, EntryQuestion, FailQuestion, TurnQuestion}
 use Rattle.bilv_spec.specs.Answers.{Budget}
+use Rattle.bilv_spec.specs.Arm.{Profile, V4, V4T, V5}
+use Rattle.bilv_spec.specs.Files.{Options}
 use Rattle.bilv_spec.specs.Outcomes as of
 use Rattle.clap.specs.Words.{App, Row, Rule, Text, app_of, fault_of, first_of, new_app, new_rule, one_of, subcommand_of, with_rule}
 use Rattle.clap.specs.Simple.{new_shape}
@@ -31,6 +33,10 @@ number_option name low high default = record (new_rule name) { long = Some name;
 abbrev pub question_option : Rule
 question_option = record (new_rule (codes "question")) { long = Some (codes "question"); required = true }
 
+-- the option that names ARM's profile
+abbrev pub arm_option : Rule
+arm_option = record (new_rule (codes "arm")) { long = Some (codes "arm"); defaults = codes "v4" ∷ [] }
+
 -- the options for the four budgets
 abbrev pub budgets : List Rule
 budgets = number_option (codes "unroll") 0 4096 (codes "64")
@@ -50,23 +56,36 @@ elf = file_argument (codes "elf")
 abbrev pub notes : Rule
 notes = file_argument (codes "notes")
 
+-- a command over an ELF file, one over notes as well, and one that asks a question of both
+abbrev pub over_elf : (name : Text) → App
+over_elf name = command_with name (elf ∷ arm_option ∷ [])
+
+abbrev pub over_program : (name : Text) → App
+over_program name = command_with name (elf ∷ notes ∷ arm_option ∷ [])
+
+abbrev pub asking : (name : Text) → App
+asking name = with_rules (over_program name) (question_option ∷ budgets)
+
 abbrev pub verify : App
-verify = command_with (codes "verify") (elf ∷ notes ∷ budgets)
+verify = with_rules (over_program (codes "verify")) budgets
 
 abbrev pub lift : App
-lift = command_with (codes "lift") (elf ∷ [])
+lift = over_elf (codes "lift")
 
 abbrev pub graph : App
-graph = command_with (codes "graph") (elf ∷ notes ∷ [])
+graph = over_program (codes "graph")
 
 abbrev pub smt : App
-smt = command_with (codes "smt") (elf ∷ notes ∷ question_option ∷ budgets)
+smt = asking (codes "smt")
 
 abbrev pub replay : App
-replay = command_with (codes "replay") (elf ∷ notes ∷ file_argument (codes "state") ∷ [])
+replay = with_rule (over_program (codes "replay")) (file_argument (codes "state"))
 
 abbrev pub cert : App
-cert = command_with (codes "cert") (elf ∷ notes ∷ question_option ∷ budgets)
+cert = asking (codes "cert")
+
+abbrev pub upgrade : App
+upgrade = over_program (codes "upgrade")
 
 abbrev pub check : App
 check = command_with (codes "check") (file_argument (codes "certificate") ∷ [])
@@ -78,7 +97,7 @@ selfrun = command_with (codes "selfrun") (number_argument (codes "seed") 0 21474
 unfoldable pub bilv_app : App
 bilv_app = record {
   top = record (new_shape (codes "bilv")) { is_leaf = false; subcommand_required = true };
-  subs = verify.top ∷ lift.top ∷ graph.top ∷ smt.top ∷ replay.top ∷ cert.top ∷ check.top ∷ selfrun.top ∷ [];
+  subs = verify.top ∷ lift.top ∷ graph.top ∷ smt.top ∷ replay.top ∷ cert.top ∷ check.top ∷ selfrun.top ∷ upgrade.top ∷ [];
 }
 
 -- a command of the code is this one to `clap`, and shares no argument with its subcommands
@@ -122,47 +141,66 @@ question_named name = if bytes_eq name (codes "entry") then Some EntryQuestion
 abbrev pub question_in : List Row → Option Question
 question_in rows = first_of (codes "question") rows >>= question_named
 
+abbrev pub profile_named : Text → Option Profile
+profile_named name = if bytes_eq name (codes "v4") then Some V4
+    else if bytes_eq name (codes "v4t") then Some V4T
+    else if bytes_eq name (codes "v5") then Some V5 else None
+
+abbrev pub profile_in : List Row → Option Profile
+profile_in rows = first_of (codes "arm") rows >>= profile_named
+
+abbrev pub options_in : List Row → Option Options
+options_in rows = do
+  profile ← profile_in rows
+  Some (record { profile = profile })
+
 -- each command, from what was found for its arguments
 abbrev pub verify_in : List Row → Option of.Command
 verify_in rows = do
   elf ← first_of (codes "elf") rows
   notes ← first_of (codes "notes") rows
+  options ← options_in rows
   budget ← budget_in rows
-  Some (of.Verify elf notes budget)
+  Some (of.Verify options elf notes budget)
 
 abbrev pub lift_in : List Row → Option of.Command
 lift_in rows = do
   elf ← first_of (codes "elf") rows
-  Some (of.Lift elf)
+  options ← options_in rows
+  Some (of.Lift options elf)
 
 abbrev pub graph_in : List Row → Option of.Command
 graph_in rows = do
   elf ← first_of (codes "elf") rows
   notes ← first_of (codes "notes") rows
-  Some (of.Graph elf notes)
+  options ← options_in rows
+  Some (of.Graph options elf notes)
 
 abbrev pub smt_in : List Row → Option of.Command
 smt_in rows = do
   elf ← first_of (codes "elf") rows
   notes ← first_of (codes "notes") rows
+  options ← options_in rows
   question ← question_in rows
   budget ← budget_in rows
-  Some (of.Script elf notes question budget)
+  Some (of.Script options elf notes question budget)
 
 abbrev pub replay_in : List Row → Option of.Command
 replay_in rows = do
   elf ← first_of (codes "elf") rows
   notes ← first_of (codes "notes") rows
+  options ← options_in rows
   state ← first_of (codes "state") rows
-  Some (of.Replay elf notes state)
+  Some (of.Replay options elf notes state)
 
 abbrev pub cert_in : List Row → Option of.Command
 cert_in rows = do
   elf ← first_of (codes "elf") rows
   notes ← first_of (codes "notes") rows
+  options ← options_in rows
   question ← question_in rows
   budget ← budget_in rows
-  Some (of.Certify elf notes question budget)
+  Some (of.Certify options elf notes question budget)
 
 abbrev pub check_in : List Row → Option of.Command
 check_in rows = do
@@ -175,6 +213,13 @@ selfrun_in rows = do
   count ← number_in 1 16000 (codes "count") rows
   Some (of.SelfRun seed count)
 
+abbrev pub upgrade_in : List Row → Option of.Command
+upgrade_in rows = do
+  elf ← first_of (codes "elf") rows
+  notes ← first_of (codes "notes") rows
+  options ← options_in rows
+  Some (of.Upgrade options elf notes)
+
 -- the command of a subcommand, by its name and what was found for its arguments
 unfoldable pub command_named : Text → List Row → Option of.Command
 command_named name rows = if bytes_eq name (codes "verify") then verify_in rows
@@ -184,7 +229,8 @@ command_named name rows = if bytes_eq name (codes "verify") then verify_in rows
     else if bytes_eq name (codes "replay") then replay_in rows
     else if bytes_eq name (codes "cert") then cert_in rows
     else if bytes_eq name (codes "check") then check_in rows
-    else if bytes_eq name (codes "selfrun") then selfrun_in rows else None
+    else if bytes_eq name (codes "selfrun") then selfrun_in rows
+    else if bytes_eq name (codes "upgrade") then upgrade_in rows else None
 
 abbrev pub command_in : Option (Text × List Row) → Option of.Command
 command_in found = found >>= λ p. command_named p.0 p.1
@@ -193,7 +239,7 @@ command_in found = found >>= λ p. command_named p.0 p.1
 unfoldable pub takes_line : List Text → Bool
 takes_line words = is_empty (fault_of bilv_app words)
 
--- The command of a line, by its words, the first of which is the program's name. A line is lawful where `clap` takes it and its question, if it has one, is one
--- of the three.
+-- The command of a line, by its words, the first of which is the program's name. A line is lawful where `clap` takes it, and its question and its
+-- profile, if it has them, are each one of the three.
 abbrev pub lawful_command : List Text → Option of.Command
 lawful_command words = if takes_line words then command_in (subcommand_of bilv_app words) else None

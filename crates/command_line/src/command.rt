@@ -1,4 +1,17 @@
 //! Commands.
+use state_text::Profile;
+
+/// The most backward transfers of a run that a budget allows.
+pub(crate) const MOST_UNROLL: u64 = 4096;
+
+/// The most points.
+pub(crate) const MOST_POINTS: u64 = 16_777_216;
+
+/// The highest price.
+pub(crate) const MOST_SIZE: u64 = 1 << 62;
+
+/// The most conflicts.
+pub(crate) const MOST_CONFLICTS: u64 = 4_294_967_295;
 
 /// What `smt` and `cert` ask.
 #[derive(Clone, Copy, PartialEq, Eq, Debug)]
@@ -16,12 +29,52 @@ pub enum Question {
 pub struct Budget {
     /// Backward transfers of a run, 0 to 4096.
     pub unroll: u64,
-    /// Points of the graph, 1 to 16777216.
+    /// Points of the unrolled program, 1 to 16777216.
     pub points: u64,
     /// The price of the clauses, 1 to 2^62.
     pub size: u64,
-    /// Learned clauses, 1 to 4294967295.
+    /// Conflicts of a search, 1 to 4294967295.
     pub conflicts: u64,
+}
+
+impl Budget {
+    ghost use Rattle.std.specs.Prelude.{◌≡◌};
+    ghost use Rattle.bilv_spec.specs.Answers.{default_budget};
+    ghost use Rattle.command_line.specs.Commands.{budget_of};
+
+    /// The budget where none is given.
+    pub fn standard() -> Budget
+        ensures { budget_of result ≡ default_budget }
+    {
+        Budget {
+            unroll: 64,
+            points: 65_536,
+            size: 1_073_741_824,
+            conflicts: 200_000,
+        }
+    }
+}
+
+/// What an executable leaves open of its machine.
+#[derive(Clone, Copy, PartialEq, Eq, Debug)]
+pub struct Options {
+    /// The profile of an ARM file. It changes nothing of a RISC-V file.
+    pub profile: Profile,
+}
+
+impl Options {
+    ghost use Rattle.std.specs.Prelude.{◌≡◌};
+    ghost use Rattle.bilv_spec.specs.Files.{default_options};
+    ghost use Rattle.command_line.specs.Commands.{options_of};
+
+    /// The options where none are given.
+    pub fn standard() -> Options
+        ensures { options_of result ≡ default_options }
+    {
+        Options {
+            profile: Profile::V4,
+        }
+    }
 }
 
 /// What the program is asked to do. File names stand as they were written.
@@ -31,21 +84,25 @@ pub enum Command<'a> {
     Verify {
         elf: &'a str,
         notes: &'a str,
+        options: Options,
         budget: Budget,
     },
     /// Prints the lifted code.
     Lift {
         elf: &'a str,
+        options: Options,
     },
     /// Prints the control flow graph.
     Graph {
         elf: &'a str,
         notes: &'a str,
+        options: Options,
     },
     /// Prints the SMT-LIB script of a question.
     Script {
         elf: &'a str,
         notes: &'a str,
+        options: Options,
         question: Question,
         budget: Budget,
     },
@@ -53,12 +110,14 @@ pub enum Command<'a> {
     Replay {
         elf: &'a str,
         notes: &'a str,
+        options: Options,
         state: &'a str,
     },
     /// Prints the certificate of a question.
     Certify {
         elf: &'a str,
         notes: &'a str,
+        options: Options,
         question: Question,
         budget: Budget,
     },
@@ -70,5 +129,11 @@ pub enum Command<'a> {
     SelfRun {
         seed: u32,
         count: u32,
+    },
+    /// Prints notes again as version 2.
+    Upgrade {
+        elf: &'a str,
+        notes: &'a str,
+        options: Options,
     },
 }

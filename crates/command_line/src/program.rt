@@ -1,8 +1,9 @@
 //! What the program's command line may hold, as `clap` is told.
 ghost use Rattle.std.specs.Prelude.{◌≡◌, IfOk, false};
 ghost use Rattle.clap.specs.Words.{App, rule_of};
-ghost use Rattle.command_line.specs.Lines.{IsMade, bilv_app, budgets, cert, check, file_argument, graph, lift, number_argument, number_option, question_option, replay, selfrun, smt, verify, with_rules};
+ghost use Rattle.command_line.specs.Lines.{IsMade, arm_option, asking, bilv_app, budgets, check, file_argument, number_argument, number_option, over_elf, over_program, question_option, replay, selfrun, verify, with_rules};
 
+use crate::command::{MOST_CONFLICTS, MOST_POINTS, MOST_SIZE, MOST_UNROLL};
 use clap::builder::ValueParser;
 use clap::{Arg, Command};
 use std::alloc::{AllocError, Global};
@@ -44,51 +45,60 @@ fn question<'a>(alloc: Global) -> Arg<'a>
     Arg::new(alloc, "question").long("question").required(true)
 }
 
+// The option that names ARM's profile.
+fn arm<'a>(alloc: Global) -> Arg<'a>
+    ensures rule { rule_of result ≡ arm_option }
+    ensures local { result.global ≡ false }
+{
+    Arg::new(alloc, "arm").long("arm").default_value("v4")
+}
+
 // The command with the four options for budgets.
 fn with_budgets<'a>(alloc: Global, command: Command<'a>) -> Result<Command<'a>, AllocError>
     ensures { IfOk result (λ c. (a : App) → IsMade a command.entry → IsMade (with_rules a budgets) c) }
 {
     let command = command
-        .arg(budget(alloc, "unroll", 0, 4096, "64"))?
-        .arg(budget(alloc, "points", 1, 16777216, "65536"))?
-        .arg(budget(alloc, "size", 1, 1 << 62, "1073741824"))?
-        .arg(budget(alloc, "conflicts", 1, 4294967295, "200000"))?;
+        .arg(budget(alloc, "unroll", 0, MOST_UNROLL, "64"))?
+        .arg(budget(alloc, "points", 1, MOST_POINTS, "65536"))?
+        .arg(budget(alloc, "size", 1, MOST_SIZE, "1073741824"))?
+        .arg(budget(alloc, "conflicts", 1, MOST_CONFLICTS, "200000"))?;
+    Ok(command)
+}
+
+// A command over an ELF file.
+fn over_elf<'a>(alloc: Global, name: &'a str) -> Result<Command<'a>, AllocError>
+    ensures { IfOk result (IsMade (over_elf name.entry.now)) }
+{
+    let command = Command::new(alloc, name)
+        .arg(file(alloc, "elf"))?
+        .arg(arm(alloc))?;
+    Ok(command)
+}
+
+// A command over an ELF file and notes.
+fn over_program<'a>(alloc: Global, name: &'a str) -> Result<Command<'a>, AllocError>
+    ensures { IfOk result (IsMade (over_program name.entry.now)) }
+{
+    let command = Command::new(alloc, name)
+        .arg(file(alloc, "elf"))?
+        .arg(file(alloc, "notes"))?
+        .arg(arm(alloc))?;
+    Ok(command)
+}
+
+// A command that asks a question of an ELF file and notes.
+fn asking<'a>(alloc: Global, name: &'a str) -> Result<Command<'a>, AllocError>
+    ensures { IfOk result (IsMade (asking name.entry.now)) }
+{
+    let command = over_program(alloc, name)?.arg(question(alloc))?;
+    let command = with_budgets(alloc, command)?;
     Ok(command)
 }
 
 fn verify<'a>(alloc: Global) -> Result<Command<'a>, AllocError>
     ensures { IfOk result (IsMade verify) }
 {
-    let command = Command::new(alloc, "verify")
-        .arg(file(alloc, "elf"))?
-        .arg(file(alloc, "notes"))?;
-    let command = with_budgets(alloc, command)?;
-    Ok(command)
-}
-
-fn lift<'a>(alloc: Global) -> Result<Command<'a>, AllocError>
-    ensures { IfOk result (IsMade lift) }
-{
-    let command = Command::new(alloc, "lift").arg(file(alloc, "elf"))?;
-    Ok(command)
-}
-
-fn graph<'a>(alloc: Global) -> Result<Command<'a>, AllocError>
-    ensures { IfOk result (IsMade graph) }
-{
-    let command = Command::new(alloc, "graph")
-        .arg(file(alloc, "elf"))?
-        .arg(file(alloc, "notes"))?;
-    Ok(command)
-}
-
-fn smt<'a>(alloc: Global) -> Result<Command<'a>, AllocError>
-    ensures { IfOk result (IsMade smt) }
-{
-    let command = Command::new(alloc, "smt")
-        .arg(file(alloc, "elf"))?
-        .arg(file(alloc, "notes"))?
-        .arg(question(alloc))?;
+    let command = over_program(alloc, "verify")?;
     let command = with_budgets(alloc, command)?;
     Ok(command)
 }
@@ -96,21 +106,7 @@ fn smt<'a>(alloc: Global) -> Result<Command<'a>, AllocError>
 fn replay<'a>(alloc: Global) -> Result<Command<'a>, AllocError>
     ensures { IfOk result (IsMade replay) }
 {
-    let command = Command::new(alloc, "replay")
-        .arg(file(alloc, "elf"))?
-        .arg(file(alloc, "notes"))?
-        .arg(file(alloc, "state"))?;
-    Ok(command)
-}
-
-fn cert<'a>(alloc: Global) -> Result<Command<'a>, AllocError>
-    ensures { IfOk result (IsMade cert) }
-{
-    let command = Command::new(alloc, "cert")
-        .arg(file(alloc, "elf"))?
-        .arg(file(alloc, "notes"))?
-        .arg(question(alloc))?;
-    let command = with_budgets(alloc, command)?;
+    let command = over_program(alloc, "replay")?.arg(file(alloc, "state"))?;
     Ok(command)
 }
 
@@ -137,12 +133,13 @@ pub(crate) fn bilv<'a>(alloc: Global) -> Result<Command<'a>, AllocError>
     let command = Command::new(alloc, "bilv")
         .subcommand_required(true)
         .subcommand(verify(alloc)?)?
-        .subcommand(lift(alloc)?)?
-        .subcommand(graph(alloc)?)?
-        .subcommand(smt(alloc)?)?
+        .subcommand(over_elf(alloc, "lift")?)?
+        .subcommand(over_program(alloc, "graph")?)?
+        .subcommand(asking(alloc, "smt")?)?
         .subcommand(replay(alloc)?)?
-        .subcommand(cert(alloc)?)?
+        .subcommand(asking(alloc, "cert")?)?
         .subcommand(check(alloc)?)?
-        .subcommand(selfrun(alloc)?)?;
+        .subcommand(selfrun(alloc)?)?
+        .subcommand(over_program(alloc, "upgrade")?)?;
     Ok(command)
 }

@@ -35,7 +35,8 @@ impl From<AllocError> for LineError {
     }
 }
 
-fn line_error(error: &clap::Error) -> LineError
+/// What an error of `clap` says of the line.
+pub fn line_error(error: &clap::Error) -> LineError
     ensures memory { kind_of error.now ≡ kind.OutOfMemory → result ≡ LineError.Memory }
     ensures usage { kind_of error.now ≢ kind.OutOfMemory → result ≡ LineError.Usage }
 {

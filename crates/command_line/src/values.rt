@@ -3,11 +3,15 @@ ghost use Rattle.std.specs.Prelude.{◌≡◌, ◌≤◌, IfSome, option_map};
 ghost use Rattle.bilv_spec.specs.Answers.{IsBudget};
 ghost use Rattle.bilv_spec.specs.Outcomes.{IsLawfulCommand};
 ghost use Rattle.clap.specs.Words.{first_of, found_of, rows_of};
-ghost use Rattle.command_line.specs.Commands.{budget_of, command_of, question_of};
+ghost use Rattle.command_line.specs.Commands.{budget_of, command_of, options_of, question_of};
 ghost use Rattle.command_line.specs.Lines as lines;
+ghost use Rattle.state_text.specs.Starts.{profile_in};
 
-use crate::command::{Budget, Command, Question};
+use crate::command::{
+    Budget, Command, MOST_CONFLICTS, MOST_POINTS, MOST_SIZE, MOST_UNROLL, Options, Question,
+};
 use clap::ArgMatches;
+use state_text::Profile;
 
 fn text<'a>(matches: &ArgMatches<'a>, id: &str) -> Option<&'a str>
     ensures { option_map (λ s. s.now) result ≡ first_of id.now (rows_of (found_of matches.now)) }
@@ -37,10 +41,10 @@ fn budget(matches: &ArgMatches<'_>) -> Option<Budget>
     ensures value { option_map budget_of result ≡ lines.budget_in (rows_of (found_of matches.now)) }
     ensures range { IfSome result (λ b. IsBudget (budget_of b)) }
 {
-    let unroll = number(matches, "unroll", 0, 4096)?;
-    let points = number(matches, "points", 1, 16777216)?;
-    let size = number(matches, "size", 1, 1 << 62)?;
-    let conflicts = number(matches, "conflicts", 1, 4294967295)?;
+    let unroll = number(matches, "unroll", 0, MOST_UNROLL)?;
+    let points = number(matches, "points", 1, MOST_POINTS)?;
+    let size = number(matches, "size", 1, MOST_SIZE)?;
+    let conflicts = number(matches, "conflicts", 1, MOST_CONFLICTS)?;
     Some(Budget {
         unroll,
         points,
@@ -66,14 +70,44 @@ fn question(matches: &ArgMatches<'_>) -> Option<Question>
     question_named(text(matches, "question")?)
 }
 
+fn profile_named(name: &str) -> Option<Profile>
+    ensures { option_map profile_in result ≡ lines.profile_named name.now }
+{
+    match name {
+        "v4" => Some(Profile::V4),
+        "v4t" => Some(Profile::V4T),
+        "v5" => Some(Profile::V5),
+        _ => None,
+    }
+}
+
+fn profile(matches: &ArgMatches<'_>) -> Option<Profile>
+    ensures { option_map profile_in result ≡ lines.profile_in (rows_of (found_of matches.now)) }
+{
+    profile_named(text(matches, "arm")?)
+}
+
+fn options(matches: &ArgMatches<'_>) -> Option<Options>
+    ensures { option_map options_of result ≡ lines.options_in (rows_of (found_of matches.now)) }
+{
+    let profile = profile(matches)?;
+    Some(Options { profile })
+}
+
 fn verify<'a>(matches: &ArgMatches<'a>) -> Option<Command<'a>>
     ensures value { option_map command_of result ≡ lines.verify_in (rows_of (found_of matches.now)) }
     ensures lawful { IfSome result (λ c. IsLawfulCommand (command_of c)) }
 {
     let elf = text(matches, "elf")?;
     let notes = text(matches, "notes")?;
+    let options = options(matches)?;
     let budget = budget(matches)?;
-    Some(Command::Verify { elf, notes, budget })
+    Some(Command::Verify {
+        elf,
+        notes,
+        options,
+        budget,
+    })
 }
 
 fn lift<'a>(matches: &ArgMatches<'a>) -> Option<Command<'a>>
@@ -81,7 +115,8 @@ fn lift<'a>(matches: &ArgMatches<'a>) -> Option<Command<'a>>
     ensures lawful { IfSome result (λ c. IsLawfulCommand (command_of c)) }
 {
     let elf = text(matches, "elf")?;
-    Some(Command::Lift { elf })
+    let options = options(matches)?;
+    Some(Command::Lift { elf, options })
 }
 
 fn graph<'a>(matches: &ArgMatches<'a>) -> Option<Command<'a>>
@@ -90,7 +125,12 @@ fn graph<'a>(matches: &ArgMatches<'a>) -> Option<Command<'a>>
 {
     let elf = text(matches, "elf")?;
     let notes = text(matches, "notes")?;
-    Some(Command::Graph { elf, notes })
+    let options = options(matches)?;
+    Some(Command::Graph {
+        elf,
+        notes,
+        options,
+    })
 }
 
 fn smt<'a>(matches: &ArgMatches<'a>) -> Option<Command<'a>>
@@ -99,11 +139,13 @@ fn smt<'a>(matches: &ArgMatches<'a>) -> Option<Command<'a>>
 {
     let elf = text(matches, "elf")?;
     let notes = text(matches, "notes")?;
+    let options = options(matches)?;
     let question = question(matches)?;
     let budget = budget(matches)?;
     Some(Command::Script {
         elf,
         notes,
+        options,
         question,
         budget,
     })
@@ -115,8 +157,14 @@ fn replay<'a>(matches: &ArgMatches<'a>) -> Option<Command<'a>>
 {
     let elf = text(matches, "elf")?;
     let notes = text(matches, "notes")?;
+    let options = options(matches)?;
     let state = text(matches, "state")?;
-    Some(Command::Replay { elf, notes, state })
+    Some(Command::Replay {
+        elf,
+        notes,
+        options,
+        state,
+    })
 }
 
 fn cert<'a>(matches: &ArgMatches<'a>) -> Option<Command<'a>>
@@ -125,11 +173,13 @@ fn cert<'a>(matches: &ArgMatches<'a>) -> Option<Command<'a>>
 {
     let elf = text(matches, "elf")?;
     let notes = text(matches, "notes")?;
+    let options = options(matches)?;
     let question = question(matches)?;
     let budget = budget(matches)?;
     Some(Command::Certify {
         elf,
         notes,
+        options,
         question,
         budget,
     })
@@ -155,6 +205,20 @@ fn selfrun<'a>(matches: &ArgMatches<'a>) -> Option<Command<'a>>
     })
 }
 
+fn upgrade<'a>(matches: &ArgMatches<'a>) -> Option<Command<'a>>
+    ensures value { option_map command_of result ≡ lines.upgrade_in (rows_of (found_of matches.now)) }
+    ensures lawful { IfSome result (λ c. IsLawfulCommand (command_of c)) }
+{
+    let elf = text(matches, "elf")?;
+    let notes = text(matches, "notes")?;
+    let options = options(matches)?;
+    Some(Command::Upgrade {
+        elf,
+        notes,
+        options,
+    })
+}
+
 /// The command of a subcommand's name and what was found for it.
 #[tactic(auto, unfolding(crate::specs::Lines::command_named))]
 pub(crate) fn command_named<'a>(name: &str, matches: &ArgMatches<'a>) -> Option<Command<'a>>
@@ -170,6 +234,7 @@ pub(crate) fn command_named<'a>(name: &str, matches: &ArgMatches<'a>) -> Option<
         "cert" => cert(matches),
         "check" => check(matches),
         "selfrun" => selfrun(matches),
+        "upgrade" => upgrade(matches),
         _ => None,
     }
 }

@@ -1,5 +1,5 @@
 -- Files that stand at a place, and what a read takes of one.
-use Rattle.std.specs.Prelude.{ℕ, ◌≡◌, ◌<◌, ◌⊎◌, List, Option, Some, IfSome, length, take, string_bytes}
+use Rattle.std.specs.Prelude.{ℕ, ◌≡◌, ◌<◌, ◌⊎◌, List, Option, Some, None, IfSome, length, take, string_bytes}
 use Rattle.std.specs.Io.KnownBytes.{Consumes, IsAtEnd}
 use Rattle.io_edges.specs.declared.placed.PlacedFile.{PlacedFile}
 use Rattle.io_edges.specs.declared.system.NamedFile.{NamedFile}
@@ -25,13 +25,16 @@ pub record Takes {F : Type 0} (remaining : F → Option (List ℕ)) (position : 
 abbrev pub name_of : {F : Type 0} → NamedFile F → List ℕ
 name_of f = string_bytes f.name
 
--- A read of a name took the bytes from the file of that name that was read last, or from one that was just opened; that file is the last one now.
+-- the file that was read last is this one, under this name
+abbrev pub IsLast : {F : Type 0} → Option (NamedFile F) → (name : List ℕ) → PlacedFile F → Type 0
+IsLast None name p = ⊥
+IsLast (Some f) name p = (name_of f ≡ name) × (f.placed ≡ p)
+
+-- A read of a name took the bytes from the file of that name that was read last, or from one that was just opened. That file is the last one now; where memory
+-- ran out for the name of a file that was opened, there is none.
 pub record TakesNamed {F : Type 0} (remaining : F → Option (List ℕ)) (position : F →
     Option ℕ) (old : Option (NamedFile F)) (name : List ℕ) (at : ℕ) (buffer : List ℕ) (new : Option (NamedFile F)) (n : ℕ) : Type 0 where
-  pub before : NamedFile F
-  pub after : NamedFile F
-  pub is : (old ≡ Some before) ⊎ (place_of before.placed ≡ Some 0)
-  pub is_last : new ≡ Some after
-  pub named_before : name_of before ≡ name
-  pub named_after : name_of after ≡ name
-  pub takes : Takes remaining position before.placed at buffer after.placed n
+  pub before : PlacedFile F
+  pub after : PlacedFile F
+  pub is : (IsLast old name before × IsLast new name after) ⊎ ((place_of before ≡ Some 0) × (IsLast new name after ⊎ (new ≡ None)))
+  pub takes : Takes remaining position before at buffer after n

@@ -8,6 +8,7 @@ ghost use Rattle.io_edges.specs.WriteFaults.{Stopped, CountsError};
 use std::alloc::Global;
 use thiserror::Error;
 
+mod arguments;
 mod counts;
 mod files;
 mod mem_shelf;
@@ -16,6 +17,7 @@ mod never_fail;
 mod placed;
 mod system;
 
+pub use arguments::words;
 pub use files::MemFile;
 pub use mem_shelf::MemShelf;
 pub use mem_sink::MemSink;

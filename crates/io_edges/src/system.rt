@@ -1,11 +1,11 @@
 //! The file system, and a writer as standard output. What they hold is not told: they are trusted.
-ghost use Rattle.std.specs.Prelude.{◌≡◌, ◌⊎◌, ℕ, ◌≤◌, ◌<◌, List, None, Some, length, IfOk, OnOk, OnErr};
+ghost use Rattle.std.specs.Prelude.{◌≡◌, ◌⊎◌, ℕ, ◌≤◌, ◌<◌, List, None, Some, length, IfOk, IfSome, OnOk, OnErr};
 ghost use Rattle.std.specs.Io.KnownBytes.{WriteAppends};
 ghost use Rattle.bilv_spec.specs.Outside.{Untold, Reads, Rose};
 ghost use Rattle.io_edges.specs.Counts.{one_more, count_after};
 ghost use Rattle.io_edges.specs.Shelves.{file_faults, last_file};
 ghost use Rattle.io_edges.specs.Sinks.{writer_of, out_faults, out_errors};
-ghost use Rattle.io_edges.specs.Takes.{name_of, place_of, TakesNamed};
+ghost use Rattle.io_edges.specs.Takes.{IsLast, name_of, place_of, TakesNamed};
 
 use crate::counts::raised;
 use crate::{Failed, PlacedFile, Shelf, Sink};
@@ -21,7 +21,8 @@ struct NamedFile<F> {
 }
 
 /// Files by path. Its one count, of all reads that failed, stands for every name.
-/// The file that was read last stays open, so a file that is read piece by piece is opened once, and may be a pipe.
+/// The file that was read last stays open, so a file that is read piece by piece is opened once, and may be a pipe. It is not kept where memory runs out for
+/// its name: the next read then opens it again.
 #[derive(Drop)]
 pub struct FileShelf<'a, R: Files> {
     files: &'a R,
@@ -49,37 +50,58 @@ impl<'a, R: Files + AllocGlobal> FileShelf<'a, R> {
         self.faults
     }
 
-    /// The file of a name: the last one where that has the name, else one that is opened. The error is a file that can't be opened, or want of memory.
-    fn opened(&mut self, name: &str) -> Result<NamedFile<R::File>, Failed>
-        ensures named { IfOk result (λ f. name_of f ≡ name.now) }
-        ensures is { IfOk result (λ f. (last_file self.old ≡ Some f) ⊎ (place_of f.placed ≡ Some 0)) }
+    /// The file that was read last, where it has the name.
+    fn taken(&mut self, name: &str) -> Option<NamedFile<R::File>>
+        ensures named { IfSome result (λ f. name_of f ≡ name.now) }
+        ensures last { IfSome result (λ f. last_file self.old ≡ Some f) }
         ensures same { file_faults self.new ≡ file_faults self.old }
     {
         match self.last.take() {
-            Some(last) if last.name.as_str() == name => Ok(last),
-            _ => match (
-                File::open(self.files, name),
-                String::from_str(self.files.alloc(), name),
-            ) {
-                (Ok(file), Ok(name)) => Ok(NamedFile {
-                    name,
-                    placed: PlacedFile::new(file),
-                }),
-                _ => Err(Failed),
-            },
+            Some(last) if last.name.as_str() == name => Some(last),
+            _ => None,
         }
     }
 
-    /// A read of the file of a name, which is the last one then.
+    /// The file of a name, just opened. The error is a file that can't be opened.
+    fn open(&self, name: &str) -> Result<PlacedFile<R::File>, Failed>
+        ensures first { IfOk result (λ p. place_of p ≡ Some 0) }
+    {
+        match File::open(self.files, name) {
+            Ok(file) => Ok(PlacedFile::new(file)),
+            Err(_) => Err(Failed),
+        }
+    }
+
+    /// Keeps a file as the last one. Where memory runs out for its name none is kept, so that the next read opens it again.
+    fn keep(&mut self, name: &str, placed: PlacedFile<R::File>)
+        ensures kept { IsLast (last_file self.new) name.now placed ⊎ (last_file self.new ≡ None) }
+        ensures same { file_faults self.new ≡ file_faults self.old }
+    {
+        self.last = match String::from_str(self.files.alloc(), name) {
+            Ok(name) => Some(NamedFile { name, placed }),
+            Err(_) => None,
+        };
+    }
+
+    /// A read of the file of a name: the last one where that has the name, else one that is opened.
     fn read_named(&mut self, name: &str, at: u64, into: &mut [u8]) -> Result<usize, Failed>
         ensures within { IfOk result (λ n. n ≤ length into.new) }
         ensures takes { IfOk result (TakesNamed R.File.remaining R.File.stream_position (last_file self.old) name.now at into.new (last_file self.new)) }
         ensures same { file_faults self.new ≡ file_faults self.old }
     {
-        let mut file = self.opened(name)?;
-        let read = file.placed.read_at(at, into);
-        self.last = Some(file);
-        read
+        match self.taken(name) {
+            Some(mut last) => {
+                let read = last.placed.read_at(at, into);
+                self.last = Some(last);
+                read
+            }
+            None => {
+                let mut placed = self.open(name)?;
+                let read = placed.read_at(at, into);
+                self.keep(name, placed);
+                read
+            }
+        }
     }
 }
 

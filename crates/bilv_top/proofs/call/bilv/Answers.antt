@@ -4,27 +4,41 @@ use Rattle.io_edges.specs.Met.{seen}
 use Rattle.io_edges.specs.WriteFaults.{Stopped}
 use Rattle.command_line.specs.Lines.{lawful_command}
 use Rattle.bilv_top.specs.Answers.{answer_of}
-use Rattle.bilv_top.proofs.Ended.{whole_of, cut_of, complete_of}
+use Rattle.bilv_top.proofs.Ended.{whole_of, cut_of, complete_of, answered_of, upgraded_of}
 use Rattle.bilv_top.proofs.call.bilv.Goals as goal
 
 pub returns-in-Ok-write_all-clause-outcome : goal.returns-in-Ok-write_all-clause-outcome
 returns-in-Ok-write_all-clause-outcome g c =
     whole_of (seen (g.H.Shelf.holds c.args.shelf.now) (g.H.Shelf.faults c.args.shelf.now) (g.H.Shelf.faults c.due.new.shelf))
     (g.K.Sink.written c.args.out.now) (g.K.Sink.written c.write_all.new.sink) (g.K.Sink.faults c.args.out.now) (g.K.Sink.faults c.write_all.new.sink)
-    (lawful_command (map (λ w. string_bytes w) c.args.words.now)) (answer_of c.in-Ok.answer) c.in-Ok.ensures
+    (lawful_command (map (λ w. string_bytes w) c.args.words.now)) (answer_of c.in-Ok.answer) c.in-Ok.ensures.due
     (subst (λ t. Appends (g.K.Sink.written c.args.out.now) t (g.K.Sink.written c.write_all.new.sink)) c.deref.ensures.value c.in-Ok-write_all.ensures.ok)
 
 pub returns-in-Ok-write_all-clause-complete : goal.returns-in-Ok-write_all-clause-complete
 returns-in-Ok-write_all-clause-complete g c =
     complete_of (seen (g.H.Shelf.holds c.args.shelf.now) (g.H.Shelf.faults c.args.shelf.now) (g.H.Shelf.faults c.due.new.shelf))
     (g.K.Sink.written c.args.out.now) (g.K.Sink.written c.write_all.new.sink) (g.K.Sink.faults c.args.out.now) (g.K.Sink.faults c.write_all.new.sink)
-    (lawful_command (map (λ w. string_bytes w) c.args.words.now)) (answer_of c.in-Ok.answer) c.in-Ok.ensures
+    (lawful_command (map (λ w. string_bytes w) c.args.words.now)) (answer_of c.in-Ok.answer) c.in-Ok.ensures.due
+    (subst (λ t. Appends (g.K.Sink.written c.args.out.now) t (g.K.Sink.written c.write_all.new.sink)) c.deref.ensures.value c.in-Ok-write_all.ensures.ok)
+
+pub returns-in-Ok-write_all-clause-complete_all : goal.returns-in-Ok-write_all-clause-complete_all
+returns-in-Ok-write_all-clause-complete_all g c =
+    answered_of (seen (g.H.Shelf.holds c.args.shelf.now) (g.H.Shelf.faults c.args.shelf.now) (g.H.Shelf.faults c.due.new.shelf))
+    (g.K.Sink.written c.args.out.now) (g.K.Sink.written c.write_all.new.sink) (g.K.Sink.faults c.args.out.now) (g.K.Sink.faults c.write_all.new.sink)
+    (lawful_command (map (λ w. string_bytes w) c.args.words.now)) (answer_of c.in-Ok.answer) c.in-Ok.ensures.due
+    (subst (λ t. Appends (g.K.Sink.written c.args.out.now) t (g.K.Sink.written c.write_all.new.sink)) c.deref.ensures.value c.in-Ok-write_all.ensures.ok)
+
+pub returns-in-Ok-write_all-clause-upgraded : goal.returns-in-Ok-write_all-clause-upgraded
+returns-in-Ok-write_all-clause-upgraded g c =
+    upgraded_of (seen (g.H.Shelf.holds c.args.shelf.now) (g.H.Shelf.faults c.args.shelf.now) (g.H.Shelf.faults c.due.new.shelf))
+    (g.K.Sink.written c.args.out.now) (g.K.Sink.written c.write_all.new.sink) (g.K.Sink.faults c.args.out.now) (g.K.Sink.faults c.write_all.new.sink)
+    (lawful_command (map (λ w. string_bytes w) c.args.words.now)) (answer_of c.in-Ok.answer) c.in-Ok.ensures.due
     (subst (λ t. Appends (g.K.Sink.written c.args.out.now) t (g.K.Sink.written c.write_all.new.sink)) c.deref.ensures.value c.in-Ok-write_all.ensures.ok)
 
 pub returns-in-Err-clause-outcome : goal.returns-in-Err-clause-outcome
 returns-in-Err-clause-outcome g c =
     cut_of (seen (g.H.Shelf.holds c.args.shelf.now) (g.H.Shelf.faults c.args.shelf.now) (g.H.Shelf.faults c.due.new.shelf))
     (g.K.Sink.written c.args.out.now) (g.K.Sink.written c.write_all.new.sink) (g.K.Sink.faults c.args.out.now) (g.K.Sink.faults c.write_all.new.sink)
-    (lawful_command (map (λ w. string_bytes w) c.args.words.now)) (answer_of c.in-Ok.answer) c.in-Err.field-0 c.in-Ok.ensures
+    (lawful_command (map (λ w. string_bytes w) c.args.words.now)) (answer_of c.in-Ok.answer) c.in-Err.field-0 c.in-Ok.ensures.due
     (subst (λ t. Stopped (g.K.Sink.written c.args.out.now) t (g.K.Sink.written c.write_all.new.sink) c.in-Err.field-0) c.deref.ensures.value
     c.in-Err.ensures.by_fault) c.in-Err.ensures.risen

@@ -6,15 +6,15 @@ use Rattle.bilv_top.specs.Answers.{answer_of}
 use Rattle.bilv_top.proofs.Checked.{too_large, judged}
 use Rattle.bilv_top.proofs.certificate.check_certificate.Goals as goal
 
-pub returns-in-TooLarge : goal.returns-in-TooLarge
-returns-in-TooLarge g c =
+pub returns-in-TooLarge-clause-right : goal.returns-in-TooLarge-clause-right
+returns-in-TooLarge-clause-right g c =
     let longer = rw c.in-TooLarge.is at c.in_ok-read_within.ensures.read in
     IfOk-weaker c.answer.result _ _
     (λ a is. too_large (seen (g.H.Shelf.holds c.args.shelf.now) (g.H.Shelf.faults c.args.shelf.now) (g.H.Shelf.faults c.read_within.new.shelf)) c.args.name.now
     (answer_of a) longer is) c.answer.ensures
 
-pub returns-in-Bytes : goal.returns-in-Bytes
-returns-in-Bytes g c =
+pub returns-in-Bytes-clause-right : goal.returns-in-Bytes-clause-right
+returns-in-Bytes-clause-right g c =
     let read = rw c.in-Bytes.is at c.in_ok-read_within.ensures.read in
     IfOk-weaker c.judge.result _ _
     (λ a is. judged (seen (g.H.Shelf.holds c.args.shelf.now) (g.H.Shelf.faults c.args.shelf.now) (g.H.Shelf.faults c.read_within.new.shelf)) c.args.name.now

@@ -7,17 +7,17 @@ use Rattle.bilv_top.proofs.Made.{file_short, verified_has, selfrun_is}
 use Rattle.bilv_top.proofs.selfrun.selfrun.Goals as goal
 
 pub verify_bytes-requires-clause-short : goal.verify_bytes-requires-clause-short
-verify_bytes-requires-clause-short c =
+verify_bytes-requires-clause-short g c =
     file_short c.deref.result.now c.args.seed c.args.count (c.deref.ensures.value ∙ c.in_ok-made.ensures.file) c.requires.lawful.2
 
 pub first_line-requires : goal.first_line-requires
-first_line-requires c =
+first_line-requires g c =
     subst (λ t. Contains t line_feed) (sym c.deref-2.ensures.value)
-    (verified_has c.deref.result.now c.in_ok-made.made.notes.items (budget_of c.default_budget.result) (answer_of c.in_ok-inner.inner) c.in_ok-inner.ensures)
+    (verified_has c.deref.result.now c.in_ok-made.made.notes.items (budget_of c.standard.result) (answer_of c.in_ok-inner.inner) c.in_ok-inner.ensures.verified)
 
-pub returns : goal.returns
-returns c =
-    selfrun_is c.args.seed c.args.count c.deref.result.now c.in_ok-made.made.notes.items (budget_of c.default_budget.result) (answer_of c.in_ok-inner.inner)
-    (c.deref.ensures.value ∙ c.in_ok-made.ensures.file) c.in_ok-made.ensures.notes c.default_budget.ensures c.in_ok-inner.ensures
+pub returns-clause-right : goal.returns-clause-right
+returns-clause-right g c =
+    selfrun_is c.args.seed c.args.count c.deref.result.now c.in_ok-made.made.notes.items (budget_of c.standard.result) (answer_of c.in_ok-inner.inner)
+    (c.deref.ensures.value ∙ c.in_ok-made.ensures.file) c.in_ok-made.ensures.notes c.standard.ensures c.in_ok-inner.ensures.verified
     c.deref-2.result.now c.first_line.result.now c.in_ok-text.text.items c.extend_from_slice.new.self.items c.extend_from_slice-2.new.self.items
     c.deref-2.ensures.value c.first_line.ensures c.in_ok-text.ensures c.in_ok-extend_from_slice.ensures.items c.in_ok-extend_from_slice-2.ensures.items

@@ -1,32 +1,39 @@
-use Rattle.std.proofs.Common.{arith}
+use Rattle.std.proofs.Common.{arith, subst}
 use Rattle.std.proofs.lemmas.Result.{IfOk-weaker}
+use Rattle.bilv_spec.specs.Answers.{Answer, IsReported}
+use Rattle.bilv_spec.specs.Files.{Options, layout_of, machine_of, program_of}
 use Rattle.bilv_spec.specs.Verified.{elf_refused}
 use Rattle.command_line.specs.Commands.{budget_of}
+use Rattle.notes_lang.specs.Drafting.{notes_of}
 use Rattle.bilv_top.specs.Answers.{answer_of, elf_text_of}
 use Rattle.bilv_top.proofs.Made.{large_verified, answered_verified, found_verified}
 use Rattle.bilv_top.proofs.Refused.{elf_is_refused}
 use Rattle.bilv_top.proofs.selfrun.verify_bytes.Goals as goal
 
-pub returns-in-Err : goal.returns-in-Err
-returns-in-Err c =
+pub returns-in-Err-clause-verified : goal.returns-in-Err-clause-verified
+returns-in-Err-clause-verified g c =
     IfOk-weaker c.refuse_elf.result _ _
     (λ a is. elf_refused (elf_text_of c.in-Err.fault) (elf_is_refused c.args.file.now c.in-Err.fault is.0 c.requires.short c.in-Err.ensures.refused) is.1)
     c.refuse_elf.ensures
 
-pub returns-then-len-gt-NOTES_LIMIT : goal.returns-then-len-gt-NOTES_LIMIT
-returns-then-len-gt-NOTES_LIMIT c =
+pub returns-then-len-gt-NOTES_LIMIT-clause-verified : goal.returns-then-len-gt-NOTES_LIMIT-clause-verified
+returns-then-len-gt-NOTES_LIMIT-clause-verified g c =
     IfOk-weaker c.answer.result _ _
     (λ a is. large_verified c.args.file.now c.args.notes.items _ (budget_of c.args.budget) (answer_of a) c.in-Ok.ensures.image
     (c.requires.short, c.in-Ok.ensures.accepted) (omega (arith, c.if-len-gt-NOTES_LIMIT.true, c.len.ensures)) is) c.answer.ensures
 
-pub returns-in-Go : goal.returns-in-Go
-returns-in-Go c =
-    IfOk-weaker c.report_on.result _ _
-    (λ a is. found_verified c.args.file.now c.args.notes.items _ (budget_of c.args.budget) (answer_of a) c.in-Ok.ensures.image
-    (c.requires.short, c.in-Ok.ensures.accepted) c.in-Go.found (omega (arith, c.if-len-gt-NOTES_LIMIT.false, c.len.ensures))
-    (rw c.in-Go.is at c.in_ok-found.ensures) is) c.report_on.ensures
+pub returns-in-Go-clause-verified : goal.returns-in-Go-clause-verified
+returns-in-Go-clause-verified g c =
+    let f = c.in-Go.found in
+    let b = budget_of c.args.budget in
+    let said : Options → Answer → Type 0 = λ o a. IsReported (program_of (machine_of o c.in-Ok.image) c.in-Ok.image (notes_of f.notes) f.entry)
+    (layout_of o c.in-Ok.image) b a in
+    IfOk-weaker c.answer_on.result _ _
+    (λ a is. found_verified c.args.file.now c.args.notes.items _ b (answer_of a) c.in-Ok.ensures.image
+    (c.requires.short, c.in-Ok.ensures.accepted) f (omega (arith, c.if-len-gt-NOTES_LIMIT.false, c.len.ensures))
+    (rw c.in-Go.is at c.in_ok-found.ensures) (subst (λ o. said o (answer_of a)) c.standard.ensures is)) c.answer_on.ensures.done
 
-pub returns : goal.returns
-returns c =
+pub returns-clause-verified : goal.returns-clause-verified
+returns-clause-verified g c =
     answered_verified c.args.file.now c.args.notes.items _ (budget_of c.args.budget) (answer_of c.in-Answered.answer) c.in-Ok.ensures.image
     (c.requires.short, c.in-Ok.ensures.accepted) (rw c.in-Answered.is at c.in_ok-found.ensures)

@@ -16,10 +16,11 @@ returns c =
       globals = ap (λ f. f.has_globals) c.subcommand_required.ensures ∙ c.new.ensures.local;
     } in
     let with_verify = made_sub bare c.in_ok-verify.ensures c.in_ok-subcommand.ensures in
-    let with_lift = made_sub with_verify c.in_ok-lift.ensures c.in_ok-subcommand-2.ensures in
-    let with_graph = made_sub with_lift c.in_ok-graph.ensures c.in_ok-subcommand-3.ensures in
-    let with_smt = made_sub with_graph c.in_ok-smt.ensures c.in_ok-subcommand-4.ensures in
+    let with_lift = made_sub with_verify c.in_ok-over_elf.ensures c.in_ok-subcommand-2.ensures in
+    let with_graph = made_sub with_lift c.in_ok-over_program.ensures c.in_ok-subcommand-3.ensures in
+    let with_smt = made_sub with_graph c.in_ok-asking.ensures c.in_ok-subcommand-4.ensures in
     let with_replay = made_sub with_smt c.in_ok-replay.ensures c.in_ok-subcommand-5.ensures in
-    let with_cert = made_sub with_replay c.in_ok-cert.ensures c.in_ok-subcommand-6.ensures in
+    let with_cert = made_sub with_replay c.in_ok-asking-2.ensures c.in_ok-subcommand-6.ensures in
     let with_check = made_sub with_cert c.in_ok-check.ensures c.in_ok-subcommand-7.ensures in
-    made_sub with_check c.in_ok-selfrun.ensures c.in_ok-command.ensures
+    let with_selfrun = made_sub with_check c.in_ok-selfrun.ensures c.in_ok-subcommand-8.ensures in
+    made_sub with_selfrun c.in_ok-over_program-2.ensures c.in_ok-command.ensures

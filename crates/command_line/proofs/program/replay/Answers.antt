@@ -1,12 +1,5 @@
 use Rattle.command_line.proofs.Made.{made_arg}
-use Rattle.command_line.specs.Lines.{IsMade}
-use Rattle.clap.specs.Words.{new_app}
-use Rattle.std.proofs.Common.{codes}
 use Rattle.command_line.proofs.program.replay.Goals as goal
 
 pub returns : goal.returns
-returns c =
-    let bare : IsMade (new_app (codes "replay")) c.new.result = record { app = c.new.ensures.app; globals = c.new.ensures.local } in
-    let first = made_arg bare c.in_ok-arg.ensures c.file.ensures.rule c.file.ensures.local in
-    let second = made_arg first c.in_ok-arg-2.ensures c.file-2.ensures.rule c.file-2.ensures.local in
-    made_arg second c.in_ok-command.ensures c.file-3.ensures.rule c.file-3.ensures.local
+returns c = made_arg c.in_ok-over_program.ensures c.in_ok-command.ensures c.file.ensures.rule c.file.ensures.local

@@ -1,11 +1,4 @@
-use Rattle.command_line.proofs.Made.{made_arg}
-use Rattle.command_line.specs.Lines.{IsMade}
-use Rattle.clap.specs.Words.{new_app}
-use Rattle.std.proofs.Common.{codes}
 use Rattle.command_line.proofs.program.verify.Goals as goal
 
 pub returns : goal.returns
-returns c =
-    let bare : IsMade (new_app (codes "verify")) c.new.result = record { app = c.new.ensures.app; globals = c.new.ensures.local } in
-    let first = made_arg bare c.in_ok-arg.ensures c.file.ensures.rule c.file.ensures.local in
-    c.in_ok-command-2.ensures _ (made_arg first c.in_ok-command.ensures c.file-2.ensures.rule c.file-2.ensures.local)
+returns c = c.in_ok-command-2.ensures _ c.in_ok-command.ensures

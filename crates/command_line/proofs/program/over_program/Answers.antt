@@ -1,12 +1,11 @@
 use Rattle.command_line.proofs.Made.{made_arg}
 use Rattle.command_line.specs.Lines.{IsMade}
 use Rattle.clap.specs.Words.{new_app}
-use Rattle.std.proofs.Common.{codes}
-use Rattle.command_line.proofs.program.cert.Goals as goal
+use Rattle.command_line.proofs.program.over_program.Goals as goal
 
 pub returns : goal.returns
 returns c =
-    let bare : IsMade (new_app (codes "cert")) c.new.result = record { app = c.new.ensures.app; globals = c.new.ensures.local } in
+    let bare : IsMade (new_app c.args.name.now) c.new.result = record { app = c.new.ensures.app; globals = c.new.ensures.local } in
     let first = made_arg bare c.in_ok-arg.ensures c.file.ensures.rule c.file.ensures.local in
     let second = made_arg first c.in_ok-arg-2.ensures c.file-2.ensures.rule c.file-2.ensures.local in
-    c.in_ok-command-2.ensures _ (made_arg second c.in_ok-command.ensures c.question.ensures.rule c.question.ensures.local)
+    made_arg second c.in_ok-command.ensures c.arm.ensures.rule c.arm.ensures.local

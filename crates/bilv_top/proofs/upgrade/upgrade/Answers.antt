@@ -1,41 +1,40 @@
-use Rattle.std.proofs.Common.{sym, subst}
+use Rattle.std.proofs.Common.{◌≡◌, sym, subst}
 use Rattle.std.proofs.lemmas.Result.{IfOk-weaker}
 use Rattle.bilv_spec.specs.Outside.{Agrees}
-use Rattle.bilv_spec.specs.Files.{program_of}
-use Rattle.notes_lang.specs.Drafting.{notes_of}
+use Rattle.bilv_spec.specs.Outcomes.{upgrade_answer}
+use Rattle.command_line.specs.Commands.{options_of}
 use Rattle.io_edges.specs.Met.{seen}
 use Rattle.bilv_top.specs.Answers.{answer_of}
-use Rattle.bilv_spec.specs.Outcomes.{IsGraphed}
 use Rattle.bilv_top.proofs.Refused.{elf_unread, both_answered, both_found}
-use Rattle.bilv_top.proofs.graph.graph.Goals as goal
+use Rattle.bilv_top.proofs.upgrade.upgrade.Goals as goal
 
-pub returns-in-Answered : goal.returns-in-Answered
-returns-in-Answered g c =
+pub returns-in-Answered-clause-right : goal.returns-in-Answered-clause-right
+returns-in-Answered-clause-right g c =
     elf_unread (seen (g.H.Shelf.holds c.args.shelf.now) (g.H.Shelf.faults c.args.shelf.now) (g.H.Shelf.faults c.read_elf.new.shelf))
     c.args.elf.now _ (answer_of c.in-Answered.answer) (rw c.in-Answered.is at c.in_ok-file.ensures.read)
 
-pub returns-in-Go-2 : goal.returns-in-Go-2
-returns-in-Go-2 g c =
+pub returns-in-Go-2-clause-right : goal.returns-in-Go-2-clause-right
+returns-in-Go-2-clause-right g c =
     let read = rw c.in-Go.is at c.in_ok-file.ensures.read in
     let file = c.deref.result.now in
     let agrees = subst (λ x. Agrees (g.H.Shelf.holds c.args.shelf.now c.args.elf.now) x) (sym c.deref.ensures.value) read.0 in
     let notes = c.args.notes.now in
     let s = seen (g.H.Shelf.holds c.args.shelf.now) (g.H.Shelf.faults c.args.shelf.now) (g.H.Shelf.faults c.read_program.new.shelf) in
-    let found = rw c.in-Go-2.is at c.in_ok-image.ensures.read in
+    let found = rw c.in-Go-2.is at c.in_ok-found.ensures.read in
     let f = c.in-Go-2.found in
-    IfOk-weaker c.print_program.result _ _
-    (λ a done. both_found s c.args.elf.now notes file (λ file text. IsGraphed) (answer_of a) (g.H.Shelf.holds c.read_elf.new.shelf notes)
-    (g.H.Shelf.faults c.read_elf.new.shelf notes)
+    IfOk-weaker c.print_again.result _ _
+    (λ a is. both_found s (options_of c.args.options) c.args.elf.now notes file (λ file text p x. x ≡ upgrade_answer text) (answer_of a)
+    (g.H.Shelf.holds c.read_elf.new.shelf notes) (g.H.Shelf.faults c.read_elf.new.shelf notes)
     agrees (c.read_elf.ensures.keeps notes) (c.read_elf.ensures.never_falls notes) f found.1 found.2 found.3 found.4
-    (λ is. subst (λ x. IsGraphed (program_of x (notes_of f.notes) f.entry) (answer_of a)) found.0 done)) c.print_program.ensures
+    (λ found_is. subst (λ t. answer_of a ≡ upgrade_answer t) c.deref-in-Go-2.ensures.value is)) c.print_again.ensures
 
-pub returns : goal.returns
-returns g c =
+pub returns-clause-right : goal.returns-clause-right
+returns-clause-right g c =
     let read = rw c.in-Go.is at c.in_ok-file.ensures.read in
     let agrees = subst (λ x. Agrees (g.H.Shelf.holds c.args.shelf.now c.args.elf.now) x) (sym c.deref.ensures.value) read.0 in
     let notes = c.args.notes.now in
     let s = seen (g.H.Shelf.holds c.args.shelf.now) (g.H.Shelf.faults c.args.shelf.now) (g.H.Shelf.faults c.read_program.new.shelf) in
-    both_answered s c.args.elf.now notes c.deref.result.now (λ file text. IsGraphed) (answer_of c.in-Answered-2.answer)
-    (g.H.Shelf.holds c.read_elf.new.shelf notes)
+    both_answered s (options_of c.args.options) c.args.elf.now notes c.deref.result.now (λ file text p x. x ≡ upgrade_answer text)
+    (answer_of c.in-Answered-2.answer) (g.H.Shelf.holds c.read_elf.new.shelf notes)
     (g.H.Shelf.faults c.read_elf.new.shelf notes) agrees (c.read_elf.ensures.keeps notes) (c.read_elf.ensures.never_falls notes)
-    (rw c.in-Answered-2.is at c.in_ok-image.ensures.read)
+    (rw c.in-Answered-2.is at c.in_ok-found.ensures.read)

@@ -1,21 +1,21 @@
 use Rattle.std.proofs.Common.{subst, sym}
-use Rattle.bilv_spec.specs.Outside.{Agrees}
-use Rattle.bilv_spec.specs.Files.{layout_of, program_of}
+use Rattle.bilv_spec.specs.Files.{program_of}
 use Rattle.bilv_spec.specs.Outcomes.{was_read}
+use Rattle.bilv_spec.specs.Outside.{Agrees}
 use Rattle.notes_lang.specs.Drafting.{notes_of}
 use Rattle.io_edges.specs.Met.{seen}
 use Rattle.bilv_top.specs.Answers.{answer_of}
 use Rattle.bilv_top.proofs.Reported.{report_unread}
-use Rattle.bilv_top.proofs.replay.replay_program.Goals as goal
+use Rattle.bilv_top.proofs.replay.replay_by.Goals as goal
 
-pub returns-in-Answered : goal.returns-in-Answered
-returns-in-Answered g c =
+pub returns-in-Answered-clause-read : goal.returns-in-Answered-clause-read
+returns-in-Answered-clause-read g c =
     report_unread (seen (g.H.Shelf.holds c.args.shelf.now) (g.H.Shelf.faults c.args.shelf.now) (g.H.Shelf.faults c.read_or_answer.new.shelf))
-    c.args.name.now (program_of c.args.image.now (notes_of c.args.found.now.notes) c.args.found.now.entry) (layout_of c.args.image.now)
+    c.args.name.now (program_of g.M.Machine.machine c.args.image.now (notes_of c.args.found.now.notes) c.args.found.now.entry) g.M.Machine.form
     (answer_of c.in-Answered.answer) (rw c.in-Answered.is at c.in_ok-text.ensures.read)
 
-pub returns : goal.returns
-returns g c =
+pub returns-clause-read : goal.returns-clause-read
+returns-clause-read g c =
     let read = rw c.in-Go.is at c.in_ok-text.ensures.read in
     was_read c.deref.result.now (subst (λ x. Agrees (g.H.Shelf.holds c.args.shelf.now c.args.name.now) x) (sym c.deref.ensures.value) read.0)
     c.in_ok-answer.ensures

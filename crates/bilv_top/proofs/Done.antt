@@ -1,0 +1,39 @@
+-- Answers to tasks, on the machine of a file, and by counts that did not fall before.
+use Rattle.std.proofs.Common.{◌≡◌, ℕ, ◌≤◌, List, refl, sym, subst}
+use Rattle.bilv_spec.specs.Answers.{Answer}
+use Rattle.bilv_spec.specs.Files.{program_of}
+use Rattle.bilv_spec.specs.Machine.{Machine}
+use Rattle.bilv_spec.specs.Notes.{Notes}
+use Rattle.bilv_spec.specs.Outcomes.{Surroundings}
+use Rattle.bilv_spec.specs.Replays.{replay_answer}
+use Rattle.bilv_spec.specs.Run.{Program}
+use Rattle.bilv_spec.specs.StateText.{Layout}
+use Rattle.bilv_top.specs.Tasks.{IsDone}
+use Rattle.bilv_top.specs.declared.tasks.Task.{Task}
+use Rattle.bilv_top.specs.declared.tasks.Task.TheVariants as task
+use Rattle.bilv_top.proofs.Refused.{read_since}
+
+-- of the machine that a file is of
+pub done_on : (s : Surroundings) (t : Task) (m n : Machine) (l k : Layout) (file : List ℕ) (notes : Notes) (entry : ℕ) (a : Answer) → n ≡ m → k ≡ l →
+    IsDone s t l (program_of m file notes entry) a → IsDone s t k (program_of n file notes entry) a
+done_on s t m n l k file notes entry a machine form done =
+    subst (λ (x : Machine). IsDone s t k (program_of x file notes entry) a) (sym machine)
+    (subst (λ (x : Layout). IsDone s t x (program_of m file notes entry) a) (sym form) done)
+
+-- of a file that is known by two names
+pub done_of : (s : Surroundings) (t : Task) (machine : List ℕ → Machine) (layout : List ℕ → Layout) (image file : List ℕ) (notes : Notes) (entry : ℕ)
+    (a : Answer) → image ≡ file → IsDone s t (layout image) (program_of (machine image) image notes entry) a →
+    IsDone s t (layout file) (program_of (machine file) file notes entry) a
+done_of s t machine layout image file notes entry a same done =
+    subst (λ x. IsDone s t (layout x) (program_of (machine x) x notes entry) a) same done
+
+-- since before other files were read
+pub done_since : (s t : Surroundings) (asked : Task) (layout : Layout) (p : Program) (a : Answer) → ((n : List ℕ) → s.held n ≡ t.held n) →
+    ((n : List ℕ) → t.shelf_before n ≤ s.shelf_before n) → ((n : List ℕ) → s.shelf_after n ≡ t.shelf_after n) → IsDone s asked layout p a →
+    IsDone t asked layout p a
+done_since s t (task.Report budget) layout p a held before after done = done
+done_since s t task.Graph layout p a held before after done = done
+done_since s t (task.Script question budget) layout p a held before after done = done
+done_since s t (task.Certificate question budget) layout p a held before after done = done
+done_since s t (task.Replay name) layout p a held before after done =
+    read_since s t name.now (λ text x. x ≡ replay_answer p layout text) a (held name.now) (before name.now) (after name.now) done

@@ -1,0 +1,151 @@
+//! What is asked about the program that an ELF file and notes are, and its answer on the machine of the file.
+ghost use Rattle.std.specs.Prelude.{◌≡◌, ◌≤◌, ℕ, List, IfOk};
+ghost use Rattle.bilv_spec.specs.Files.{layout_of, machine_of, program_of};
+ghost use Rattle.bilv_spec.specs.Outcomes.{AfterBoth};
+ghost use Rattle.command_line.specs.Commands.{options_of};
+ghost use Rattle.notes_lang.specs.Drafting.{notes_of};
+ghost use Rattle.io_edges.specs.Met.{seen};
+ghost use Rattle.bilv_top.specs.Answers.{answer_of};
+ghost use Rattle.bilv_top.specs.Chosen.{IsMachineOf};
+ghost use Rattle.bilv_top.specs.Due.{IsFoundBy};
+ghost use Rattle.bilv_top.specs.Tasks.{IsDone, IsLawfulTask};
+
+use crate::answer::{Answer, Step};
+use crate::certify::certify_by;
+use crate::graph::graph_by;
+use crate::inputs::{Found, read_elf, read_program};
+use crate::machines::{layout, on_machine};
+use crate::replay::replay_by;
+use crate::script::script_by;
+use crate::verify::report_by;
+use arm_lift::Arm;
+use command_line::{Budget, Options, Question};
+use elf32_reader::Image;
+use io_edges::Shelf;
+use machine_law::Machine;
+use rv_lift::Rv32;
+use state_text::{Layout, Profile};
+use std::alloc::{AllocError, Global};
+
+/// What is asked about a program.
+#[derive(Clone, Copy)]
+pub enum Task<'a> {
+    /// The report of its verdict within budgets.
+    Report(Budget),
+    /// Its flow graph.
+    Graph,
+    /// The script of a question, within budgets.
+    Script(Question, Budget),
+    /// The certificate of a question, within budgets.
+    Certificate(Question, Budget),
+    /// Whether the run from the start of the report of this name ends as the report says.
+    Replay(&'a str),
+}
+
+/// The answer to a task about a program of a machine, whose file has these bytes. The error is out of memory.
+fn answer_by<M: Machine, H: Shelf>(
+    alloc: Global,
+    shelf: &mut H,
+    file: &[u8],
+    image: &Image,
+    found: &Found,
+    task: Task,
+) -> Result<Answer, AllocError>
+    requires machine { IsMachineOf image.now M.machine }
+    requires same { image.now ≡ file.now }
+    requires found { IsFoundBy image.now found.now }
+    requires lawful { IsLawfulTask task }
+    ensures keeps { (n : List ℕ) → H.holds shelf.new n ≡ H.holds shelf.old n }
+    ensures never_falls { (n : List ℕ) → H.faults shelf.old n ≤ H.faults shelf.new n }
+    ensures done { IfOk result (λ a. IsDone (seen (H.holds shelf.old) (H.faults shelf.old) (H.faults shelf.new)) task.entry M.form
+        (program_of M.machine image.now (notes_of found.now.notes) found.now.entry) (answer_of a)) }
+{
+    match task {
+        Task::Report(budget) => report_by::<M>(alloc, file, image, found, budget),
+        Task::Graph => graph_by::<M>(alloc, image, found),
+        Task::Script(question, budget) => {
+            script_by::<M>(alloc, file, image, found, budget, question)
+        }
+        Task::Certificate(question, budget) => {
+            certify_by::<M>(alloc, file, image, found, budget, question)
+        }
+        Task::Replay(name) => replay_by::<M, H>(alloc, shelf, image, found, name),
+    }
+}
+
+/// The same, of the machine that a file is of by some options.
+fn answer_of_machine<M: Machine, H: Shelf>(
+    alloc: Global,
+    shelf: &mut H,
+    file: &[u8],
+    image: &Image,
+    found: &Found,
+    options: Options,
+    task: Task,
+) -> Result<Answer, AllocError>
+    requires machine { machine_of (options_of options) image.now ≡ M.machine }
+    requires form { layout_of (options_of options) image.now ≡ M.form }
+    requires same { image.now ≡ file.now }
+    requires found { IsFoundBy image.now found.now }
+    requires lawful { IsLawfulTask task }
+    ensures keeps { (n : List ℕ) → H.holds shelf.new n ≡ H.holds shelf.old n }
+    ensures never_falls { (n : List ℕ) → H.faults shelf.old n ≤ H.faults shelf.new n }
+    ensures done { IfOk result (λ a. IsDone (seen (H.holds shelf.old) (H.faults shelf.old) (H.faults shelf.new)) task.entry
+        (layout_of (options_of options) image.now)
+        (program_of (machine_of (options_of options) image.now) image.now (notes_of found.now.notes) found.now.entry) (answer_of a)) }
+{
+    answer_by::<M, H>(alloc, shelf, file, image, found, task)
+}
+
+/// The answer to a task about a program, whose file has these bytes. The error is out of memory.
+pub fn answer_on<H: Shelf>(
+    alloc: Global,
+    shelf: &mut H,
+    file: &[u8],
+    image: &Image,
+    found: &Found,
+    options: Options,
+    task: Task,
+) -> Result<Answer, AllocError>
+    requires same { image.now ≡ file.now }
+    requires found { IsFoundBy image.now found.now }
+    requires lawful { IsLawfulTask task }
+    ensures keeps { (n : List ℕ) → H.holds shelf.new n ≡ H.holds shelf.old n }
+    ensures never_falls { (n : List ℕ) → H.faults shelf.old n ≤ H.faults shelf.new n }
+    ensures done { IfOk result (λ a. IsDone (seen (H.holds shelf.old) (H.faults shelf.old) (H.faults shelf.new)) task.entry
+        (layout_of (options_of options) image.now)
+        (program_of (machine_of (options_of options) image.now) image.now (notes_of found.now.notes) found.now.entry) (answer_of a)) }
+{
+    on_machine!(
+        image,
+        options,
+        answer_of_machine[H](alloc, shelf, file, image, found, options, task)
+    )
+}
+
+/// The answer to a task about the program that the ELF file and the notes of two names are, or to what refuses them. The error is out of memory, which a price
+/// of 2^128 - 1 or more counts as too, and want of numbers for terms.
+pub fn answer_about<H: Shelf>(
+    alloc: Global,
+    shelf: &mut H,
+    elf: &str,
+    notes: &str,
+    options: Options,
+    task: Task,
+) -> Result<Answer, AllocError>
+    requires lawful { IsLawfulTask task }
+    ensures keeps { (n : List ℕ) → H.holds shelf.new n ≡ H.holds shelf.old n }
+    ensures never_falls { (n : List ℕ) → H.faults shelf.old n ≤ H.faults shelf.new n }
+    ensures answered { IfOk result (λ a. AfterBoth (seen (H.holds shelf.old) (H.faults shelf.old) (H.faults shelf.new)) (options_of options) elf.now notes.now
+        (λ file. IsDone (seen (H.holds shelf.old) (H.faults shelf.old) (H.faults shelf.new)) task.entry (layout_of (options_of options) file))
+        (answer_of a)) }
+{
+    let file = match read_elf(alloc, shelf, elf)? {
+        Step::Go(file) => file,
+        Step::Answered(answer) => return Ok(answer),
+    };
+    match read_program(alloc, shelf, &file, notes)? {
+        Step::Go((image, found)) => answer_on(alloc, shelf, &file, &image, &found, options, task),
+        Step::Answered(answer) => Ok(answer),
+    }
+}
