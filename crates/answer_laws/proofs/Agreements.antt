@@ -2,15 +2,18 @@
 use Rattle.std.proofs.Common.{◌≡◌, ℕ, zero, suc, refl, ap, sym, ◌∙◌, subst, arith, Bool, true, false, Some, None}
 use Rattle.std.specs.Prelude.{◌||◌, ◌&&◌, is_some, if◌then◌else◌}
 use Rattle.bilv_spec.specs.Elf.{Cell, kept}
-use Rattle.bilv_spec.specs.Run.{Program, Start, Run, Going, Exited, Failed, Turned, Place, run, one_more, is_kept}
+use Rattle.bilv_spec.specs.Run.{Program, Run, Going, Exited, Failed, Turned, Place, run, one_more, is_kept}
+use Rattle.machine_spec.specs.Endings.{Start}
 use Rattle.bilv_spec.specs.Verdict.{fixed}
 use Rattle.bilv_spec.specs.Points.{is_known_at, byte_of_cell}
-use Rattle.bilv_spec.specs.Questions.{Reading, Question, IsTrue, IsTrueOver, by_file, point_of, read_run, read_on}
+use Rattle.bilv_spec.specs.Questions.{Reading, IsTrue, IsTrueOver, by_file, point_of, read_run, read_on}
+use Rattle.call_spec.specs.Calls.{Question}
 use Rattle.bilv_spec.specs.QuestionLaws.{Follows}
 use Rattle.bilv_spec.specs.Evidence.{AgreesOn}
-use Rattle.bilv_spec.specs.StateText.{Layout, Written, known_or}
+use Rattle.machine_spec.specs.StateText.{Layout, known_or}
+use Rattle.word_spec.specs.State.{Written}
 use Rattle.bilv_spec.specs.Answers.{known_byte, start_in}
-use Rattle.bilv_spec.specs.Words.{word}
+use Rattle.word_spec.specs.Words.{word}
 use Rattle.bilv_spec.proofs.ReadingRuns.{Numbered, numbered}
 
 or_left : (x y : Bool) → x ≡ true → (x || y) ≡ true

@@ -1,14 +1,18 @@
 -- A verification's answer is the report of what the program comes to, and there is one such answer but for the run that it shows.
 use Rattle.std.proofs.Common.{◌≡◌, ◌≢◌, ℕ, ◌<◌, ◌≤◌, refl, ap, sym, ◌∙◌, subst, arith, List, Some}
-use Rattle.bilv_spec.specs.Outside.{Held, Bytes, Agrees, Rose, Appends}
-use Rattle.bilv_spec.specs.Run.{Program, Event, Run, Failed, Turned, IsOver}
+use Rattle.call_spec.specs.Outside.{Held, Bytes, Agrees, Rose, Appends}
+use Rattle.bilv_spec.specs.Run.{Program, Run, Failed, Turned, IsOver}
+use Rattle.machine_spec.specs.Endings.{Event}
 use Rattle.bilv_spec.specs.Verdict.{Holds, Vacuous, Fails, Unroll}
 use Rattle.bilv_spec.specs.Points.{IsPrice}
-use Rattle.bilv_spec.specs.StateText.{Layout, Written}
-use Rattle.bilv_spec.specs.Files.{Options, layout_of}
-use Rattle.bilv_spec.specs.Answers.{Budget, Report, HoldsReport, VacuousReport, FailsReport, UnrollReport, PointsReport, SizeReport, ConflictsReport, Evidence, Refutations, EntryRefuted, RunOf, SpentOn, Count, IsRightReport, EndsAs, start_in, Answer, plain_answer, report_answer, report_text, status_of, IsReported}
+use Rattle.machine_spec.specs.StateText.{Layout}
+use Rattle.word_spec.specs.State.{Written}
+use Rattle.call_spec.specs.Calls.{Options, Budget, Evidence, Refutations, EntryRefuted, RunOf, SpentOn, Count, Answer, plain_answer, Surroundings, AfterRead, read_failed, was_read}
+use Rattle.bilv_spec.specs.Files.{layout_of}
+use Rattle.bilv_spec.specs.Answers.{Report, HoldsReport, VacuousReport, FailsReport, UnrollReport, PointsReport, SizeReport, ConflictsReport, IsRightReport, EndsAs, start_in, report_answer, report_text, status_of, IsReported}
 use Rattle.bilv_spec.specs.Verified.{IsAccepted, IsFound, AfterImage, elf_refused, elf_accepted, AfterNotes, notes_refused, program_found}
-use Rattle.bilv_spec.specs.Outcomes.{Surroundings, Verify, AfterRead, read_failed, was_read, IsOutcome, whole, cut, no_memory}
+use Rattle.command_spec.specs.Commands.{Verify}
+use Rattle.answer_spec.specs.Outcomes.{IsOutcome, whole, cut, no_memory}
 use Rattle.bilv_spec.proofs.AllPoints.{one_price}
 use Rattle.bilv_spec.proofs.One.{one_verdict}
 use Rattle.bilv_spec.proofs.Over.{one_end}

@@ -1,26 +1,28 @@
 -- What a right report names can be written.
 use Rattle.std.proofs.Common.{◌≡◌, ℕ, zero, suc, ◌<◌, ◌≤◌, ◌^◌, refl, sym, ◌∙◌, subst, arith, Bool, true, false, List, Option, Some, None, length}
 use Rattle.std.specs.Prelude.{◌==◌, ◌++◌, nat_le, codes}
-use Rattle.bilv_spec.specs.Run.{Program, Start, Run, Going, Exited, Failed, Turned, Place, Step, Stops, Arrives, Exits, run, one_more, after_step, arrive, turn, step, IsOver}
+use Rattle.bilv_spec.specs.Run.{Program, Run, Going, Exited, Failed, Turned, Place, Step, Stops, Arrives, Exits, run, one_more, after_step, arrive, turn, step, IsOver}
+use Rattle.machine_spec.specs.Endings.{Start, NamedEnding, FailsBy, UnknownBy, named_line}
 use Rattle.bilv_spec.specs.Points.{HasMore}
 use Rattle.bilv_spec.specs.Verdict.{IsEntryState}
 use Rattle.bilv_spec.specs.Questions.{by_file}
 use Rattle.bilv_spec.specs.PointLaws.{HasLawfulRows, ReadsMemory}
-use Rattle.bilv_spec.specs.Files.{Options, IsProgram, layout_of}
-use Rattle.bilv_spec.specs.StateText.{Layout, IsEvent, IsNamed}
-use Rattle.bilv_spec.specs.Reports.{NamedEnding, FailsBy, UnknownBy, named_line}
-use Rattle.bilv_spec.specs.Texts.{line}
-use Rattle.bilv_spec.specs.Answers.{Budget, Report, HoldsReport, VacuousReport, FailsReport, UnrollReport, PointsReport, SizeReport, ConflictsReport, Evidence, RunOf, IsRightReport, EndsAs, report_text, plain_answer}
-use Rattle.bilv_spec.specs.Replays.{text_limit, replay_answer}
-use Rattle.bilv_spec.specs.AnswerLaws.{named_of}
+use Rattle.call_spec.specs.Calls.{Options, Budget, Evidence, RunOf, plain_answer}
+use Rattle.bilv_spec.specs.Files.{IsProgram, layout_of}
+use Rattle.machine_spec.specs.StateText.{Layout, IsEvent, IsNamed}
+use Rattle.word_spec.specs.Texts.{line}
+use Rattle.bilv_spec.specs.Answers.{Report, HoldsReport, VacuousReport, FailsReport, UnrollReport, PointsReport, SizeReport, ConflictsReport, IsRightReport, EndsAs, report_text}
+use Rattle.clause_spec.specs.Checks.{text_limit}
+use Rattle.bilv_spec.specs.Replays.{replay_answer}
+use Rattle.answer_spec.specs.AnswerLaws.{named_of}
 use Rattle.bilv_spec.proofs.Over.{one_end}
 use Rattle.bilv_spec.proofs.PointRuns.{Stands, stands}
 use Rattle.bilv_spec.proofs.ReadingRuns.{Numbered, numbered}
 use Rattle.bilv_spec.proofs.FileWords.{runs_by_file}
 use Rattle.bilv_spec.proofs.ProgramRows.{program_rows_are_lawful}
-use Rattle.bilv_spec.proofs.Replayed.{report_replays}
+use Rattle.answer_spec.proofs.Replayed.{report_replays}
 use Rattle.answer_laws.specs.Replayed.{AreBytes, IsReplayable}
-use Rattle.answer_laws.proofs.RunEnds.{few_points_end_runs}
+use Rattle.walk_laws.proofs.RunEnds.{few_points_end_runs}
 use Rattle.answer_laws.proofs.NoteLines.{HasFewLines, few_note_lines, IsFineStep, steps_are_fine}
 
 -- the end of a run after so many steps can be written, but for the size of its step's number, which is below theirs

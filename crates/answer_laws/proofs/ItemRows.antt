@@ -3,15 +3,15 @@ use Rattle.std.proofs.Common.{◌≡◌, ◌≢◌, ℕ, zero, suc, ◌+◌, ◌
 use Rattle.std.specs.Prelude.{◌==◌, nat_le, if◌then◌else◌, bit_xor}
 use Rattle.std.proofs.lemmas.Bool.{ne_eqb}
 use Rattle.std.proofs.lemmas.Bool.Decides.{nat_tests}
-use Rattle.bilv_spec.specs.Words.{add, shl, bits, sign_extend}
-use Rattle.bilv_spec.specs.State.{State, put}
-use Rattle.bilv_spec.specs.Machine.{Row, On, Goes}
+use Rattle.word_spec.specs.Words.{add, shl, bits, sign_extend}
+use Rattle.word_spec.specs.State.{State, put}
+use Rattle.machine_spec.specs.Machine.{Row, On, Goes}
 use Rattle.bilv_spec.specs.Notes.{BitXor}
-use Rattle.bilv_spec.specs.Rv.{reg, with_reg, on, rv_row, table, sets, fields, imm_i, jalr}
-use Rattle.bilv_spec.specs.Work.{next_item, item_kind, item_number, item_word, result_of, item_words, result_from}
-use Rattle.bilv_spec.proofs.RvRows.{addi_row}
+use Rattle.machine_spec.specs.Rv.{reg, with_reg, on, rv_row, table, sets, fields, imm_i, jalr}
+use Rattle.command_spec.specs.Work.{next_item, item_kind, item_number, item_word, result_of, item_words, result_from}
+use Rattle.machine_spec.proofs.RvRows.{addi_row}
 use Rattle.bilv_spec.proofs.NotesWords.{apply_word}
-use Rattle.bilv_spec.proofs.WordBounds.{shl_below}
+use Rattle.machine_spec.proofs.WordBounds.{shl_below}
 
 other : (w n m : ℕ) → bits 6 0 w ≡ m → bits 6 0 n ≢ m → (w == n) ≡ false
 other w n m e ne = ne_eqb w n (λ same. ne (ap (λ x. bits 6 0 x) (sym same) ∙ e))

@@ -1,4 +1,3 @@
-pub mod RunEnds
 pub mod Agreements
 pub mod NoteLines
 pub mod EndingNames

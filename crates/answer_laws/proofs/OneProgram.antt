@@ -5,7 +5,8 @@ use Rattle.bilv_spec.specs.NotesGrammar.{IsNotesText}
 use Rattle.bilv_spec.specs.NotesFaults.{NoteFault, IsFirstNoteFault}
 use Rattle.bilv_spec.specs.ElfFaults.{IsFunction, Finds, IsAmbiguous}
 use Rattle.bilv_spec.specs.Run.{Program}
-use Rattle.bilv_spec.specs.Files.{Options, names_of, machine_of, program_of, IsFunctionAt, IsProgram}
+use Rattle.call_spec.specs.Calls.{Options}
+use Rattle.bilv_spec.specs.Files.{names_of, machine_of, program_of, IsFunctionAt, IsProgram}
 use Rattle.bilv_spec.specs.Verified.{IsAccepted, IsElfRefused, elf_large, elf_fault, elf_fault_text, AreNotesRefused, notes_large, notes_fault, no_function, ambiguous, note_fault_text, ambiguous_text, IsFound}
 use Rattle.bilv_spec.proofs.Faults as elf
 use Rattle.bilv_spec.proofs.NotesFirst as notes

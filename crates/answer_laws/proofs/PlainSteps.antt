@@ -2,8 +2,8 @@
 use Rattle.std.proofs.Common.{◌≡◌, ℕ, ap, ◌∙◌, true, false, [], Some, None}
 use Rattle.std.specs.Prelude.{◌==◌}
 use Rattle.std.specs.List.{list_any}
-use Rattle.bilv_spec.specs.State.{State}
-use Rattle.bilv_spec.specs.Machine.{Row, On, Indirect, Goes, addresses, is_place}
+use Rattle.word_spec.specs.State.{State}
+use Rattle.machine_spec.specs.Machine.{Row, On, Indirect, Goes, addresses, is_place}
 use Rattle.bilv_spec.specs.Run.{Program, Place, Arrives, Exits, step, fetchable, false_assert, false_line, after_asserts, by_fetch, by_row, after_row, aligned_transfer, exit_or, exit_by, is_named, is_kept}
 
 -- no assert line is judged before the row, its word may be fetched, and it stores nothing

@@ -4,11 +4,11 @@ use Rattle.std.specs.Prelude.{nat_le, nat_lt, slice_get, if◌then◌else◌, fi
 use Rattle.std.specs.List.{flat_map}
 use Rattle.std.proofs.lemmas.Bool.Decides.{nat_tests}
 use Rattle.std.proofs.lemmas.List.{get_or-append-add}
-use Rattle.bilv_spec.specs.Memory.{Little, little}
+use Rattle.word_spec.specs.Memory.{Little, little}
 use Rattle.bilv_spec.specs.Elf.{Segment, segments, loaded, covers, cell_in}
 use Rattle.bilv_spec.specs.ElfFaults.{IsImage, IsLoad, ShortFile, BadMagic, BadClass, BadData, BadVersion, BadType, BadMachine, BadHeaderTable, BadSegmentRange, BadFileSize, SegmentsOverlap, BadSymbolTable}
 use Rattle.bilv_spec.specs.Points.{byte_of_cell}
-use Rattle.bilv_spec.specs.RowFiles.{bytes_of, headers, rv_file}
+use Rattle.word_spec.specs.RowFiles.{bytes_of, headers, rv_file}
 use Rattle.bilv_spec.specs.Verified.{IsAccepted}
 
 -- the bytes of the words

@@ -1,11 +1,14 @@
 -- What is answered over files that are told.
 use Rattle.std.proofs.Common.{◌≡◌, ◌≢◌, ℕ, List, Option, Some, sym, subst}
-use Rattle.bilv_spec.specs.Answers.{Answer, Evidence, NoEvidence, IsReported}
+use Rattle.call_spec.specs.Calls.{Answer, Evidence, NoEvidence, Options, Surroundings, AfterRead, read_failed, was_read}
+use Rattle.bilv_spec.specs.Answers.{IsReported}
 use Rattle.bilv_spec.specs.Certified.{IsCertified}
-use Rattle.bilv_spec.specs.Files.{Options, layout_of}
-use Rattle.bilv_spec.specs.Outcomes.{Surroundings, Command, Verify, Lift, Graph, Script, Replay, Certify, Check, SelfRun, Upgrade, AfterRead, read_failed, was_read, AfterElf, AfterBoth, IsLifted, IsGraphed, IsRightAnswer, upgrade_answer, IsOutcome, whole, cut, no_memory}
-use Rattle.bilv_spec.specs.Outside.{Agrees, Appends, Rose}
-use Rattle.bilv_spec.specs.Replays.{replay_answer, IsChecked}
+use Rattle.bilv_spec.specs.Files.{layout_of}
+use Rattle.command_spec.specs.Commands.{Command, Verify, Lift, Graph, Script, Replay, Certify, Check, SelfRun, Upgrade}
+use Rattle.answer_spec.specs.Outcomes.{AfterElf, AfterBoth, IsLifted, IsGraphed, IsRightAnswer, upgrade_answer, IsOutcome, whole, cut, no_memory}
+use Rattle.call_spec.specs.Outside.{Agrees, Appends, Rose}
+use Rattle.bilv_spec.specs.Replays.{replay_answer}
+use Rattle.clause_spec.specs.Checks.{IsChecked}
 use Rattle.bilv_spec.specs.Run.{Program}
 use Rattle.bilv_spec.specs.Scripts.{IsScriptAnswer}
 use Rattle.bilv_spec.specs.Verified.{AfterImage, elf_refused, elf_accepted, AfterNotes, notes_refused, program_found}

@@ -6,23 +6,26 @@ use Rattle.answer_laws.specs.Completeness.{ShowsRun}
 use Rattle.answer_laws.specs.Replayed.{AreBytes, IsReplayable}
 use Rattle.answer_laws.proofs.EndingNames.{right_report_replays}
 use Rattle.answer_laws.proofs.OneProgram.{one_program, refused_or_accepted, refused_or_found}
-use Rattle.bilv_spec.specs.AnswerLaws.{named_of}
-use Rattle.bilv_spec.specs.Answers.{Answer, Budget, Evidence, NoEvidence, RunOf, Refutations, EntryRefuted, SpentOn, Count, Report, HoldsReport, VacuousReport, FailsReport, UnrollReport, PointsReport, SizeReport, ConflictsReport, IsRightReport, IsReported, plain_answer, report_answer, report_text}
-use Rattle.bilv_spec.specs.Certificates.{certificate_text}
+use Rattle.answer_spec.specs.AnswerLaws.{named_of}
+use Rattle.call_spec.specs.Calls.{Answer, Budget, Evidence, NoEvidence, RunOf, Refutations, EntryRefuted, SpentOn, Count, plain_answer, Options, Surroundings, AfterRead, read_failed, was_read, Question}
+use Rattle.bilv_spec.specs.Answers.{Report, HoldsReport, VacuousReport, FailsReport, UnrollReport, PointsReport, SizeReport, ConflictsReport, IsRightReport, IsReported, report_answer, report_text}
+use Rattle.clause_spec.specs.Certificates.{certificate_text}
 use Rattle.bilv_spec.specs.Certified as certified
 use Rattle.bilv_spec.specs.Certified.{IsCertified}
-use Rattle.bilv_spec.specs.Evidence.{Proof, Refutes}
-use Rattle.bilv_spec.specs.Files.{Options, layout_of}
-use Rattle.bilv_spec.specs.Outcomes.{Surroundings, Verify, Replay, Certify, Check, AfterRead, read_failed, was_read, AfterBoth, IsRightAnswer, IsOutcome, whole, cut, no_memory}
-use Rattle.bilv_spec.specs.Outside.{Appends, Rose}
-use Rattle.bilv_spec.specs.Questions.{Question}
-use Rattle.bilv_spec.specs.Replays.{replay_answer, text_limit, IsChecked}
-use Rattle.bilv_spec.specs.Reports.{NamedEnding, FailsBy, UnknownBy, named_line}
+use Rattle.clause_spec.specs.Refutation.{Proof}
+use Rattle.bilv_spec.specs.Evidence.{Refutes}
+use Rattle.bilv_spec.specs.Files.{layout_of}
+use Rattle.command_spec.specs.Commands.{Verify, Replay, Certify, Check}
+use Rattle.answer_spec.specs.Outcomes.{AfterBoth, IsRightAnswer, IsOutcome, whole, cut, no_memory}
+use Rattle.call_spec.specs.Outside.{Appends, Rose}
+use Rattle.bilv_spec.specs.Replays.{replay_answer}
+use Rattle.clause_spec.specs.Checks.{text_limit, IsChecked}
+use Rattle.machine_spec.specs.Endings.{NamedEnding, FailsBy, UnknownBy, named_line}
 use Rattle.bilv_spec.specs.Run.{Program}
-use Rattle.bilv_spec.specs.Texts.{line}
+use Rattle.word_spec.specs.Texts.{line}
 use Rattle.bilv_spec.specs.Verified.{AfterImage, elf_refused, elf_accepted, AfterNotes, notes_refused, program_found, IsFound, IsVerified}
-use Rattle.bilv_spec.proofs.AcceptedCertificates.{certified_is_accepted}
-use Rattle.bilv_spec.proofs.OneCheck.{one_check}
+use Rattle.bilv_spec.proofs.CertifiedQuestions.{certified_is_accepted}
+use Rattle.clause_spec.proofs.OneCheck.{one_check}
 use Rattle.answer_laws.specs.Told.{IsTold, AreToldTo, AfterFiles}
 use Rattle.answer_laws.specs.TwoCalls.{Writes, Sufficed, IsPrinted}
 use Rattle.answer_laws.proofs.Told.{answer_told, outcome_told}
@@ -144,8 +147,15 @@ run_of_notes : (o : Options) (file text : List ℕ) (b : Budget) (a : Answer) �
     IsOfRun o file text b a
 run_of_notes o file text b a shows (notes_refused written x is) = absurd (bare a 5 written is shows)
 run_of_notes o file text b a shows (program_found p x is) =
-    record { program = p; found = x; report = is.0; evidence = is.1; right = is.2; is = is.3;
-      shows = subst ShowsRun (ap (λ (x : Answer). x.evidence) is.3) shows }
+    record {
+      program = p;
+      found = x;
+      report = is.0;
+      evidence = is.1;
+      right = is.2;
+      is = is.3;
+      shows = subst ShowsRun (ap (λ (x : Answer). x.evidence) is.3) shows;
+    }
 
 run_of_file : (o : Options) (file text : List ℕ) (b : Budget) (a : Answer) → ShowsRun a.evidence → IsVerified o file text b a → IsOfRun o file text b a
 run_of_file o file text b a shows (elf_refused written x is) = absurd (bare a 4 written is shows)

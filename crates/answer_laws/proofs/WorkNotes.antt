@@ -16,13 +16,14 @@ use Rattle.std.proofs.lemmas.List.Folds.{list_all-append}
 use Rattle.std.proofs.lemmas.List.Sums.{take_while-cons}
 use Rattle.std.proofs.lemmas.Str.Parse.{digit_from_value}
 use Rattle.bilv_spec.specs.Notes.{Expr, Register, Number, Binary, Equal, At}
-use Rattle.bilv_spec.specs.NotesGrammar.{Token, NumberToken, NameToken, SignToken, Parses, tighter, binary_of, number_of, name_of, Says, EntryIs, RequireIs, EnsureIs, IsLine, IsGood, AreLines, IsNotesText, is_second, line_limit, are_digits, is_blank, is_digit, is_digit_of, is_hexadecimal, lines_of, number_length, number_value, begins_with_letter, BadText, onto_first, run_of, tokens_after, tokens_of}
+use Rattle.word_spec.specs.Tokens.{Token, NumberToken, NameToken, SignToken, is_digit, is_hexadecimal, number_length, number_value, begins_with_letter, BadText, run_of, tokens_after, tokens_of}
+use Rattle.bilv_spec.specs.NotesGrammar.{Parses, tighter, binary_of, number_of, name_of, Says, EntryIs, RequireIs, EnsureIs, IsLine, IsGood, AreLines, IsNotesText, is_second, line_limit, lines_of, onto_first}
+use Rattle.word_spec.specs.Texts.{are_digits, is_blank, is_digit_of, hex_digit, hex_digits, word_text, number_text, line, lines}
 use Rattle.bilv_spec.specs.Scopes.{Scope, begin, named}
 use Rattle.bilv_spec.specs.RvNames.{rv_names, rv_table}
-use Rattle.bilv_spec.specs.Texts.{hex_digit, hex_digits, word_text, number_text, line, lines}
-use Rattle.bilv_spec.specs.Work.{work_notes, result}
-use Rattle.bilv_spec.proofs.PrintedWords.{printed_digits}
-use Rattle.bilv_spec.proofs.Spelling.{Above, number_above, hex_word_above, hex_length}
+use Rattle.command_spec.specs.Work.{work_notes, result}
+use Rattle.clause_spec.proofs.PrintedWords.{printed_digits}
+use Rattle.machine_spec.proofs.Spelling.{Above, number_above, hex_word_above, hex_length}
 use Rattle.answer_laws.proofs.ItemRows.{results_small}
 use Rattle.answer_laws.proofs.WorkRuns.{made_notes}
 

@@ -4,19 +4,20 @@ use Rattle.std.specs.Prelude.{◌==◌, nat_le, if◌then◌else◌}
 use Rattle.std.proofs.lemmas.Bool.{cond-false, ne_eqb}
 use Rattle.std.proofs.lemmas.Bool.Decides.{nat_tests}
 use Rattle.std.proofs.Math.Nat.{mod-lt}
-use Rattle.bilv_spec.specs.Words.{add, bit}
-use Rattle.bilv_spec.specs.Memory.{Little, load}
-use Rattle.bilv_spec.specs.State.{State, put}
-use Rattle.bilv_spec.specs.Machine.{Indirect, Goes, is_place, IsAtPlace}
+use Rattle.word_spec.specs.Words.{add, bit}
+use Rattle.word_spec.specs.Memory.{Little, load}
+use Rattle.word_spec.specs.State.{State, put}
+use Rattle.machine_spec.specs.Machine.{Indirect, Goes, is_place, IsAtPlace}
 use Rattle.bilv_spec.specs.Elf.{loaded}
 use Rattle.bilv_spec.specs.Notes.{Notes, At, Register, Number, Binary, Equal, is_true}
-use Rattle.bilv_spec.specs.Rv.{jalr, fields, imm_i, rv32, rv_row}
-use Rattle.bilv_spec.specs.Run.{Program, Place, Start, Arrives, Exits, step, run, Going, Exited, fetchable, one_more, after_step, arrive}
+use Rattle.machine_spec.specs.Rv.{jalr, fields, imm_i, rv32, rv_row}
+use Rattle.bilv_spec.specs.Run.{Program, Place, Arrives, Exits, step, run, Going, Exited, fetchable, one_more, after_step, arrive}
+use Rattle.machine_spec.specs.Endings.{Start}
 use Rattle.bilv_spec.specs.Points.{byte_of_cell}
 use Rattle.bilv_spec.specs.Verdict.{IsEntryState, IsRight, Holds}
-use Rattle.bilv_spec.specs.RowFiles.{rv_file}
+use Rattle.word_spec.specs.RowFiles.{rv_file}
 use Rattle.bilv_spec.specs.Files.{program_of}
-use Rattle.bilv_spec.specs.Work.{item_words, result_of, result_from, result, work_file}
+use Rattle.command_spec.specs.Work.{item_words, result_of, result_from, result, work_file}
 use Rattle.answer_laws.proofs.RowFileBytes.{code, loads, code_word, loads_bytes}
 use Rattle.answer_laws.proofs.PlainSteps.{IsPlainStep, step_on, step_exits}
 use Rattle.answer_laws.proofs.ItemRows.{return_row, moved, item_sets, item_small, item, words_long, word_is, last_word, one_more_result}

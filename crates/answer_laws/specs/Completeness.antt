@@ -1,13 +1,15 @@
 -- A whole verification has one right answer, but for the run that it prints and for a question that spends its conflicts.
 use Rattle.std.specs.Prelude.{ℕ, ◌≡◌, ◌≢◌, ◌<◌, ◌↔◌, List, Some}
-use Rattle.bilv_spec.specs.Outside.{Bytes, Rose, Appends}
+use Rattle.call_spec.specs.Outside.{Bytes, Rose, Appends}
 use Rattle.bilv_spec.specs.Run.{Program}
 use Rattle.bilv_spec.specs.Verdict.{Verdict, Holds, Vacuous, Fails, Unroll, IsRight}
 use Rattle.bilv_spec.specs.Points.{HasMore, IsPrice}
-use Rattle.bilv_spec.specs.Files.{Options, layout_of}
-use Rattle.bilv_spec.specs.Answers.{Budget, IsWithin, Report, HoldsReport, VacuousReport, FailsReport, UnrollReport, PointsReport, SizeReport, Evidence, RunOf, SpentOn, IsRightReport, Answer, plain_answer, report_answer, report_text, status_of}
+use Rattle.call_spec.specs.Calls.{Options, Budget, Evidence, RunOf, SpentOn, Answer, plain_answer, Surroundings}
+use Rattle.bilv_spec.specs.Files.{layout_of}
+use Rattle.bilv_spec.specs.Answers.{IsWithin, Report, HoldsReport, VacuousReport, FailsReport, UnrollReport, PointsReport, SizeReport, IsRightReport, report_answer, report_text, status_of}
 use Rattle.bilv_spec.specs.Verified.{IsAccepted, IsElfRefused, AreNotesRefused, IsFound}
-use Rattle.bilv_spec.specs.Outcomes.{Surroundings, Verify, IsOutcome}
+use Rattle.command_spec.specs.Commands.{Verify}
+use Rattle.answer_spec.specs.Outcomes.{IsOutcome}
 
 -- what a program comes to within a budget, where no question spends its conflicts: too many points, a price above the size, or a verdict
 pub data Finding : Type 0 where

@@ -1,4 +1,3 @@
-pub mod RunEnds
 pub mod Readings
 pub mod Replayed
 pub mod Completeness

@@ -1,11 +1,14 @@
 -- From a written start to a reading of which the question is true: memory that agrees with the file, and choices along the reading's run.
 use Rattle.std.specs.Prelude.{ℕ, ◌≡◌, Bool}
-use Rattle.bilv_spec.specs.Run.{Program, Start, Place, Going}
+use Rattle.bilv_spec.specs.Run.{Program, Place, Going}
+use Rattle.machine_spec.specs.Endings.{Start}
 use Rattle.bilv_spec.specs.Points.{is_known_at}
-use Rattle.bilv_spec.specs.Questions.{Reading, Question, IsTrue, IsTrueOver, point_of, read_run}
+use Rattle.bilv_spec.specs.Questions.{Reading, IsTrue, IsTrueOver, point_of, read_run}
+use Rattle.call_spec.specs.Calls.{Question}
 use Rattle.bilv_spec.specs.QuestionLaws.{Follows}
 use Rattle.bilv_spec.specs.Evidence.{AgreesOn}
-use Rattle.bilv_spec.specs.StateText.{Layout, Written}
+use Rattle.machine_spec.specs.StateText.{Layout}
+use Rattle.word_spec.specs.State.{Written}
 use Rattle.bilv_spec.specs.Answers.{start_in}
 
 -- the memory of a start that is written agrees with the file on all known bytes

@@ -1,13 +1,15 @@
 -- What a right report names can be written, and its text is replayed.
 use Rattle.std.specs.Prelude.{ℕ, ◌≡◌, ◌≤◌, ◌<◌, ◌++◌, List, Some, codes, length, slice_index}
 use Rattle.bilv_spec.specs.Run.{Program}
-use Rattle.bilv_spec.specs.Files.{Options, layout_of, IsProgram}
-use Rattle.bilv_spec.specs.StateText.{Layout, IsNamed}
-use Rattle.bilv_spec.specs.Reports.{NamedEnding, named_line}
-use Rattle.bilv_spec.specs.Answers.{Budget, Report, Evidence, IsRightReport, report_text, plain_answer}
-use Rattle.bilv_spec.specs.Replays.{text_limit, replay_answer}
-use Rattle.bilv_spec.specs.Texts.{line}
-use Rattle.bilv_spec.specs.AnswerLaws.{named_of}
+use Rattle.call_spec.specs.Calls.{Options, Budget, Evidence, plain_answer}
+use Rattle.bilv_spec.specs.Files.{layout_of, IsProgram}
+use Rattle.machine_spec.specs.StateText.{Layout, IsNamed}
+use Rattle.machine_spec.specs.Endings.{NamedEnding, named_line}
+use Rattle.bilv_spec.specs.Answers.{Report, IsRightReport, report_text}
+use Rattle.clause_spec.specs.Checks.{text_limit}
+use Rattle.bilv_spec.specs.Replays.{replay_answer}
+use Rattle.word_spec.specs.Texts.{line}
+use Rattle.answer_spec.specs.AnswerLaws.{named_of}
 
 -- each number of the list is that of a byte
 abbrev pub AreBytes : List ℕ → Type 0

@@ -1,11 +1,13 @@
 -- The answer to a command over files that are told.
 use Rattle.std.specs.Prelude.{ℕ, ◌≡◌, List, Option}
-use Rattle.bilv_spec.specs.Outside.{Bytes, Rose, Appends}
-use Rattle.bilv_spec.specs.Answers.{Answer, Evidence, NoEvidence}
+use Rattle.call_spec.specs.Outside.{Bytes, Rose, Appends}
+use Rattle.call_spec.specs.Calls.{Answer, Evidence, NoEvidence, Options, Surroundings}
 use Rattle.bilv_spec.specs.Certified.{IsCertified}
-use Rattle.bilv_spec.specs.Files.{Options, layout_of}
-use Rattle.bilv_spec.specs.Outcomes.{Surroundings, Command, Verify, Lift, Graph, Script, Replay, Certify, Check, SelfRun, Upgrade, IsLifted, IsGraphed, IsSelfRun, upgrade_answer}
-use Rattle.bilv_spec.specs.Replays.{replay_answer, IsChecked}
+use Rattle.bilv_spec.specs.Files.{layout_of}
+use Rattle.command_spec.specs.Commands.{Command, Verify, Lift, Graph, Script, Replay, Certify, Check, SelfRun, Upgrade}
+use Rattle.answer_spec.specs.Outcomes.{IsLifted, IsGraphed, IsSelfRun, upgrade_answer}
+use Rattle.bilv_spec.specs.Replays.{replay_answer}
+use Rattle.clause_spec.specs.Checks.{IsChecked}
 use Rattle.bilv_spec.specs.Run.{Program}
 use Rattle.bilv_spec.specs.Scripts.{IsScriptAnswer}
 use Rattle.bilv_spec.specs.Verified.{AfterImage, AfterNotes, IsVerified}

@@ -2,16 +2,15 @@
 use Rattle.std.specs.Prelude.{ℕ, ◌≡◌, ◌≢◌, ◌≤◌, ◌^◌, ◌++◌, List, Some, codes, length}
 use Rattle.answer_laws.specs.Completeness.{ShowsRun}
 use Rattle.answer_laws.specs.Replayed.{AreBytes, IsReplayable}
-use Rattle.bilv_spec.specs.Answers.{Budget, Evidence}
-use Rattle.bilv_spec.specs.Certificates.{certificate_text}
-use Rattle.bilv_spec.specs.Evidence.{Proof}
-use Rattle.bilv_spec.specs.Files.{Options}
-use Rattle.bilv_spec.specs.Outcomes.{Surroundings, Command, Verify, Replay, Certify, Check, IsOutcome}
-use Rattle.bilv_spec.specs.Outside.{Rose, Appends}
-use Rattle.bilv_spec.specs.Questions.{Question}
-use Rattle.bilv_spec.specs.Replays.{text_limit}
-use Rattle.bilv_spec.specs.Reports.{NamedEnding, named_line}
-use Rattle.bilv_spec.specs.Texts.{line}
+use Rattle.call_spec.specs.Calls.{Budget, Evidence, Options, Surroundings, Question}
+use Rattle.clause_spec.specs.Certificates.{certificate_text}
+use Rattle.clause_spec.specs.Refutation.{Proof}
+use Rattle.command_spec.specs.Commands.{Command, Verify, Replay, Certify, Check}
+use Rattle.answer_spec.specs.Outcomes.{IsOutcome}
+use Rattle.call_spec.specs.Outside.{Rose, Appends}
+use Rattle.clause_spec.specs.Checks.{text_limit}
+use Rattle.machine_spec.specs.Endings.{NamedEnding, named_line}
+use Rattle.word_spec.specs.Texts.{line}
 use Rattle.answer_laws.specs.Told.{IsTold, AreToldTo}
 
 -- a call of a command wrote this text whole, with status 0

@@ -1,13 +1,14 @@
 -- What `upgrade` prints keeps the verdict.
 use Rattle.std.specs.Prelude.{ℕ, ◌≡◌, ◌≤◌, ◌↔◌, List, Some, length}
-use Rattle.bilv_spec.specs.Outside.{Appends}
+use Rattle.call_spec.specs.Outside.{Appends}
 use Rattle.bilv_spec.specs.Run.{Program}
 use Rattle.bilv_spec.specs.Verdict.{Verdict, IsRight}
-use Rattle.bilv_spec.specs.Files.{Options, IsProgram}
-use Rattle.bilv_spec.specs.Answers.{Evidence}
+use Rattle.call_spec.specs.Calls.{Options, Evidence, Surroundings}
+use Rattle.bilv_spec.specs.Files.{IsProgram}
 use Rattle.bilv_spec.specs.Upgrades.{upgraded}
 use Rattle.bilv_spec.specs.Verified.{notes_limit, IsFound}
-use Rattle.bilv_spec.specs.Outcomes.{Surroundings, Upgrade, IsOutcome}
+use Rattle.command_spec.specs.Commands.{Upgrade}
+use Rattle.answer_spec.specs.Outcomes.{IsOutcome}
 use Rattle.answer_laws.specs.Completeness.{AreTold}
 
 -- with the second text as its notes in place of the first, a file is a program as well, and one with the same right verdicts

@@ -2,10 +2,10 @@
 use Rattle.std.specs.Prelude.{ℕ}
 use Rattle.bilv_spec.specs.Run.{Program}
 use Rattle.bilv_spec.specs.Verdict.{IsRight, Holds}
-use Rattle.bilv_spec.specs.Files.{default_options}
+use Rattle.call_spec.specs.Calls.{default_options}
 use Rattle.bilv_spec.specs.Verified.{IsFound}
-use Rattle.bilv_spec.specs.Work.{work_file, work_notes}
-use Rattle.bilv_spec.specs.Outcomes.{SelfRun, IsLawfulCommand}
+use Rattle.command_spec.specs.Work.{work_file, work_notes}
+use Rattle.command_spec.specs.Commands.{SelfRun, IsLawfulCommand}
 
 -- The file and the notes that are made are a program, and their program holds for every number of backward transfers.
 abbrev pub WorkHolds : Type 0

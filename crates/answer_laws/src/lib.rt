@@ -4,7 +4,6 @@
 
 pub mod readings;
 pub mod reports;
-pub mod runs;
 pub mod twice;
 pub mod upgrades;
 pub mod verify;

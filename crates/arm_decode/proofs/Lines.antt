@@ -4,10 +4,11 @@ use Rattle.std.specs.Prelude.{◌≢◌, slice_get, MatchOption, IfSome, ◌==�
 use Rattle.std.specs.Option.{option_map}
 use Rattle.std.proofs.lemmas.Bool.{ne_eqb}
 use denote.Struct.Props.{props}
-use Rattle.bilv_spec.specs.Memory.{Endian, Little}
-use Rattle.bilv_spec.specs.Arm as rows
-use Rattle.bilv_spec.specs.Arm.{Profile, Instruction, table, row_in, arm_row, condition_code}
-use Rattle.bilv_spec.proofs.ArmTable.{one_row}
+use Rattle.word_spec.specs.Memory.{Endian, Little}
+use Rattle.machine_spec.specs.Arm as rows
+use Rattle.word_spec.specs.Profiles.{Profile}
+use Rattle.machine_spec.specs.Arm.{Instruction, table, row_in, arm_row, condition_code}
+use Rattle.machine_spec.proofs.ArmTable.{one_row}
 use Rattle.arm_decode.specs.declared.classes.Computing as computing
 use Rattle.arm_decode.specs.declared.classes.Multiply as multiply
 use Rattle.arm_decode.specs.declared.classes.MultiplyLong as multiply_long

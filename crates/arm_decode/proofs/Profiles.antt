@@ -1,7 +1,8 @@
 -- The profile of a number.
 use Rattle.std.proofs.Common.{◌≡◌, ℕ, refl, Bool, true, false}
 use Rattle.std.specs.Prelude.{◌==◌, ◌&&◌, not}
-use Rattle.bilv_spec.specs.Arm.{Profile, profile_of, has_exchange, is_fifth, is_exchange, is_count}
+use Rattle.word_spec.specs.Profiles.{Profile}
+use Rattle.machine_spec.specs.Arm.{profile_of, has_exchange, is_fifth, is_exchange, is_count}
 
 pub exchange_is : (n : ℕ) → not (n == 0) ≡ has_exchange (profile_of n)
 exchange_is n = by_tests (n == 0) (n == 1) refl refl

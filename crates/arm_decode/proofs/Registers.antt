@@ -3,8 +3,8 @@ use Rattle.std.proofs.Common.{◌≡◌, ℕ, ◌+◌, ◌*◌, ◌/◌, ◌%◌
 use Rattle.std.specs.Prelude.{◌≢◌, ◌==◌, ◌&&◌, ◌||◌, not, if◌then◌else◌}
 use Rattle.std.proofs.lemmas.Bool.{eqb-true, eqb-false, le-leb, lt-leb}
 use Rattle.std.proofs.lemmas.Bool.Decides.{nat_tests}
-use Rattle.bilv_spec.specs.Words.{bits, sign_extend, is_negative}
-use Rattle.bilv_spec.specs.Arm.{is_computing, is_multiply, is_multiply_long, is_swap, is_transfer, is_halfword, is_block, is_exchange, is_count, is_pc_among, by_a_register, bit_i, has_bit, has_offset, is_load, kind_of}
+use Rattle.word_spec.specs.Words.{bits, sign_extend, is_negative}
+use Rattle.machine_spec.specs.Arm.{is_computing, is_multiply, is_multiply_long, is_swap, is_transfer, is_halfword, is_block, is_exchange, is_count, is_pc_among, by_a_register, bit_i, has_bit, has_offset, is_load, kind_of}
 
 left : (a b : Bool) → (a && b) ≡ true → a ≡ true
 left true b h = refl

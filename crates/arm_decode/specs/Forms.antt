@@ -1,7 +1,7 @@
 -- The fields of each class, as those of its word.
 use Rattle.std.specs.Prelude.{ℕ, ◌≡◌, ◌*◌, true, false, Option, Some, None}
-use Rattle.bilv_spec.specs.Words.{bits, sign_extend}
-use Rattle.bilv_spec.specs.Arm.{field_n, field_d, field_s, field_m, has_bit, is_pre, is_up, is_byte, bit_w, accumulates, is_load, opcode, sets_flags, is_linked}
+use Rattle.word_spec.specs.Words.{bits, sign_extend}
+use Rattle.machine_spec.specs.Arm.{field_n, field_d, field_s, field_m, has_bit, is_pre, is_up, is_byte, bit_w, accumulates, is_load, opcode, sets_flags, is_linked}
 use Rattle.arm_decode.specs.declared.register.Register.{Register}
 use Rattle.arm_decode.specs.declared.forms.ComputingFields.{ComputingFields}
 use Rattle.arm_decode.specs.declared.forms.MultiplyFields.{MultiplyFields}

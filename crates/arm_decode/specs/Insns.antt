@@ -1,8 +1,8 @@
 -- The instructions as words of the table.
 use Rattle.std.specs.Prelude.{ℕ, ◌≡◌, true}
-use Rattle.bilv_spec.specs.Memory.{Endian}
-use Rattle.bilv_spec.specs.Machine.{Row}
-use Rattle.bilv_spec.specs.Arm as rows
+use Rattle.word_spec.specs.Memory.{Endian}
+use Rattle.machine_spec.specs.Machine.{Row}
+use Rattle.machine_spec.specs.Arm as rows
 use Rattle.arm_decode.specs.declared.insn.Insn.{Insn}
 use Rattle.arm_decode.specs.declared.insn.Insn.TheVariants.{Computing, Multiply, MultiplyLong, Swap, Transfer, Halfword, Block, Branch, SoftwareInterrupt, Exchange, Count}
 

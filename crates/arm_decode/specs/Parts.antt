@@ -1,7 +1,7 @@
 -- The numbers that words have for parts of instructions.
 use Rattle.std.specs.Prelude.{ℕ, ◌≡◌, ◌+◌, ◌*◌, true, false}
-use Rattle.bilv_spec.specs.Words.{bits}
-use Rattle.bilv_spec.specs.Arm.{field_s, field_m, has_bit, bit_i, is_pre, is_up, is_load, writes_back, kind_of, amount_of, has_offset}
+use Rattle.word_spec.specs.Words.{bits}
+use Rattle.machine_spec.specs.Arm.{field_s, field_m, has_bit, bit_i, is_pre, is_up, is_load, writes_back, kind_of, amount_of, has_offset}
 use Rattle.arm_decode.specs.declared.parts.Condition.{Condition}
 use Rattle.arm_decode.specs.declared.parts.Condition.TheVariants.{Eq, Ne, Cs, Cc, Mi, Pl, Vs, Vc, Hi, Ls, Ge, Lt, Gt, Le, Al}
 use Rattle.arm_decode.specs.declared.parts.Opcode.{Opcode}

@@ -1,6 +1,6 @@
 //! The classes of instructions, each a line of the table: words that have a row of it.
 ghost use Rattle.std.specs.Prelude.{◌≡◌, ◌≢◌, ◌&&◌, true, false, MatchOption};
-ghost use Rattle.bilv_spec.specs.Arm as rows;
+ghost use Rattle.machine_spec.specs.Arm as rows;
 
 use crate::tests;
 

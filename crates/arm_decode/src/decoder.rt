@@ -1,8 +1,8 @@
 //! From a word to its instruction, and back.
 ghost use Rattle.std.specs.Prelude.{◌≡◌, ◌≢◌, None, MatchOption, IfSome};
 ghost use Rattle.std.specs.Option.{option_map};
-ghost use Rattle.bilv_spec.specs.Arm as rows;
-ghost use Rattle.bilv_spec.specs.Memory.{Endian};
+ghost use Rattle.machine_spec.specs.Arm as rows;
+ghost use Rattle.word_spec.specs.Memory.{Endian};
 ghost use Rattle.arm_decode.specs.declared.insn.Insn.{Insn};
 ghost use Rattle.arm_decode.specs.Insns.{word_of, row_of, IsOfProfile};
 

@@ -1,7 +1,7 @@
 //! The fields of a word.
 ghost use Rattle.std.specs.Prelude.{◌≡◌, ◌<◌, ◌≤◌, ◌+◌, ◌-◌, ◌^◌};
-ghost use Rattle.bilv_spec.specs.Words.{bits};
-ghost use Rattle.bilv_spec.specs.Arm.{has_bit};
+ghost use Rattle.word_spec.specs.Words.{bits};
+ghost use Rattle.machine_spec.specs.Arm.{has_bit};
 
 /// Bits `high` to `low` of a word.
 pub(crate) fn field(word: u32, high: u32, low: u32) -> u32

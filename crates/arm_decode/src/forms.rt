@@ -1,7 +1,7 @@
 //! The fields of each class of instructions.
 ghost use Rattle.std.specs.Prelude.{◌≡◌, ◌≤◌, ◌<◌, ◌+◌, ◌==◌, ◌&&◌, true, false};
-ghost use Rattle.bilv_spec.specs.Arm as rows;
-ghost use Rattle.bilv_spec.specs.Words.{bits};
+ghost use Rattle.machine_spec.specs.Arm as rows;
+ghost use Rattle.word_spec.specs.Words.{bits};
 ghost use Rattle.arm_decode.specs.Forms as forms;
 ghost use Rattle.arm_decode.specs.Parts.{kind_number, HasIndexing, HasOperand, HasAddressing, HasOffset, HasHalfwordOffset, HasHalfwordOp};
 

@@ -1,6 +1,6 @@
 //! The instructions of ARM state.
 ghost use Rattle.std.specs.Prelude.{◌≡◌, ◌≢◌};
-ghost use Rattle.bilv_spec.specs.Arm as rows;
+ghost use Rattle.machine_spec.specs.Arm as rows;
 ghost use Rattle.arm_decode.specs.Insns.{word_of};
 ghost use Rattle.arm_decode.specs.Parts.{condition_number};
 

@@ -1,6 +1,6 @@
 //! The parts of instructions.
 ghost use Rattle.std.specs.Prelude.{◌≡◌, ◌<◌, ◌/◌, ◌==◌, ℕ};
-ghost use Rattle.bilv_spec.specs.Arm.{is_load, is_pre, writes_back};
+ghost use Rattle.machine_spec.specs.Arm.{is_load, is_pre, writes_back};
 ghost use Rattle.arm_decode.specs.Parts.{condition_number, opcode_number, kind_number, HasIndexing, HasHalfwordOp};
 
 use crate::register::{AnyRegister, Register, ShiftAmount};

@@ -1,6 +1,6 @@
 //! Numbers of registers, lists of them, and amounts of shifts.
 ghost use Rattle.std.specs.Prelude.{◌≡◌, ◌≢◌, ◌<◌, MatchOption};
-ghost use Rattle.bilv_spec.specs.Arm.{has_bit};
+ghost use Rattle.machine_spec.specs.Arm.{has_bit};
 
 /// The number of a register that is not the program counter, r0 to r14 (section A2.3).
 #[derive(Clone, Copy, PartialEq, Eq, Debug)]

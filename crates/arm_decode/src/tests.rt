@@ -1,6 +1,6 @@
 //! Which line of the table a word is of.
 ghost use Rattle.std.specs.Prelude.{◌≡◌, ◌≤◌, ◌∷◌, [], ◌&&◌, ◌||◌, ◌==◌, not};
-ghost use Rattle.bilv_spec.specs.Arm as rows;
+ghost use Rattle.machine_spec.specs.Arm as rows;
 
 use crate::fields::{field, is_set};
 

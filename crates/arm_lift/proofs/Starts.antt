@@ -3,9 +3,9 @@ use Rattle.std.proofs.Common.{◌≡◌, ℕ, ◌-◌, List, Bool, true, false, 
 use Rattle.std.specs.Prelude.{OnOk, OnErr, nat_lt, slice_index, if◌then◌else◌}
 use Rattle.std.proofs.Math.Path.{fun_ext}
 use Rattle.std.proofs.lemmas.Bool.Decides.{nat_tests}
-use Rattle.bilv_spec.specs.Memory.{Endian}
-use Rattle.bilv_spec.specs.Arm.{Profile}
-use Rattle.bilv_spec.specs.StateText.{arm_layout, register_at}
+use Rattle.word_spec.specs.Memory.{Endian}
+use Rattle.word_spec.specs.Profiles.{Profile}
+use Rattle.machine_spec.specs.StateText.{arm_layout, register_at}
 use Rattle.arm_step.specs.RegisterFile.{registers_of}
 
 -- what stays the same whether memory was given or not

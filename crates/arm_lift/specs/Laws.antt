@@ -1,6 +1,6 @@
 -- Laws of the machine.
 use Rattle.std.specs.Prelude.{◌≡◌, refl}
-use Rattle.bilv_spec.specs.Memory.{Endian}
+use Rattle.word_spec.specs.Memory.{Endian}
 use Rattle.arm_decode.specs.declared.insn.Insn.{Insn}
 use Rattle.arm_decode.specs.declared.insn.Insn.TheVariants.{Computing, Multiply, MultiplyLong, Swap, Transfer, Halfword, Block, Branch, SoftwareInterrupt, Exchange, Count}
 use Rattle.arm_decode.specs.Insns.{row_of}

@@ -1,8 +1,8 @@
 -- What is kept is in range.
 use Rattle.std.proofs.Common.{ℕ, ◌<◌, Bool, true, false, lit<}
 use Rattle.std.specs.Prelude.{◌==◌, if◌then◌else◌}
-use Rattle.bilv_spec.specs.State.{IsState}
-use Rattle.bilv_spec.specs.Words.{bit}
+use Rattle.word_spec.specs.State.{IsState}
+use Rattle.word_spec.specs.Words.{bit}
 use Rattle.arm_step.specs.Parts.{flags_of}
 use Rattle.arm_step.specs.States.{state_of}
 use Rattle.arm_step.specs.declared.flags.Flags.{Flags}

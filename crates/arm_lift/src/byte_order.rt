@@ -1,7 +1,7 @@
 //! The byte order and the form of state texts that numbers say.
 ghost use Rattle.std.specs.Prelude.{◌≡◌};
-ghost use Rattle.bilv_spec.specs.Arm.{profile_of};
-ghost use Rattle.bilv_spec.specs.StateText.{arm_layout};
+ghost use Rattle.machine_spec.specs.Arm.{profile_of};
+ghost use Rattle.machine_spec.specs.StateText.{arm_layout};
 ghost use Rattle.byte_mem.specs.Views.{endian_of};
 ghost use Rattle.state_text.specs.Starts.{layout_of};
 ghost use Rattle.arm_lift.specs.Orders.{order_of};

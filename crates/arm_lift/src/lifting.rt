@@ -2,9 +2,10 @@
 ghost use Rattle.std.specs.Prelude.{IfOk};
 ghost use Rattle.arm_decode.specs.Insns.{row_of};
 ghost use Rattle.bil_ast.specs.Views.{statements};
-ghost use Rattle.bilv_spec.specs.Arm.{Profile, arm};
-ghost use Rattle.bilv_spec.specs.Bil.{RRegisters};
-ghost use Rattle.bilv_spec.specs.MachineLaws.{IsLifting};
+ghost use Rattle.word_spec.specs.Profiles.{Profile};
+ghost use Rattle.machine_spec.specs.Arm.{arm};
+ghost use Rattle.machine_spec.specs.Bil.{RRegisters};
+ghost use Rattle.machine_spec.specs.MachineLaws.{IsLifting};
 ghost use Rattle.byte_mem.specs.Views.{endian_of};
 
 use arm_decode::Insn;

@@ -18,11 +18,11 @@ impl<const BIG: u8, const PROFILE: u8> Machine for Arm<BIG, PROFILE> {
     ghost use Rattle.arm_decode.specs.Insns.{row_of};
     ghost use Rattle.arm_lift.specs.Ranges.{in_range};
     ghost use Rattle.arm_step.specs.States.{spare_of};
-    ghost use Rattle.bilv_spec.proofs.ArmLawful.{arm_is_lawful};
-    ghost use Rattle.bilv_spec.proofs.Fitted.{arm_is_fitted};
-    ghost use Rattle.bilv_spec.specs.Arm.{arm, profile_of};
-    ghost use Rattle.bilv_spec.specs.Bil.{RRegisters};
-    ghost use Rattle.bilv_spec.specs.StateText.{arm_layout};
+    ghost use Rattle.machine_spec.proofs.ArmLawful.{arm_is_lawful};
+    ghost use Rattle.machine_spec.proofs.Fitted.{arm_is_fitted};
+    ghost use Rattle.machine_spec.specs.Arm.{arm, profile_of};
+    ghost use Rattle.machine_spec.specs.Bil.{RRegisters};
+    ghost use Rattle.machine_spec.specs.StateText.{arm_layout};
     ghost use Rattle.arm_lift.specs.Laws.{four_bytes};
     ghost use Rattle.arm_lift.specs.Orders.{order_of};
 

@@ -1,13 +1,13 @@
 -- What is said of a list that loads and stores, beside its end: it is put together from its statements.
 use Rattle.std.proofs.Common.{◌≡◌, ℕ, ◌+◌, ◌/◌, ◌<◌, ◌≤◌, Bool, true, false, not, ◌&&◌, ◌||◌, refl, arith, [], None}
 use Rattle.std.specs.Prelude.{◌==◌}
-use Rattle.bilv_spec.specs.Memory.{Endian}
-use Rattle.bilv_spec.specs.Bil.{RRegisters, Mem, Expression, Var, Store, Statements, Empty, Assign, JumpTo, Raise}
-use Rattle.bilv_spec.specs.Bil as bil
-use Rattle.bilv_spec.specs.BilMeaning.{Position}
-use Rattle.bilv_spec.specs.BilTyping.{list_fault, is_load_width}
-use Rattle.bilv_spec.specs.BilCounts.{list_weight, byte_loads, byte_stores, memory_choices, chosen_stores, unknowns, has_no_loop, has_no_special, nesting, list_names_only, may_assign, reads_within, reads_first, reads_flag}
-use Rattle.bilv_spec.specs.BilStores.{list_stored}
+use Rattle.word_spec.specs.Memory.{Endian}
+use Rattle.machine_spec.specs.Bil.{RRegisters, Mem, Expression, Var, Store, Statements, Empty, Assign, JumpTo, Raise}
+use Rattle.machine_spec.specs.Bil as bil
+use Rattle.machine_spec.specs.BilMeaning.{Position}
+use Rattle.machine_spec.specs.BilTyping.{list_fault, is_load_width}
+use Rattle.machine_spec.specs.BilCounts.{list_weight, byte_loads, byte_stores, memory_choices, chosen_stores, unknowns, has_no_loop, has_no_special, nesting, list_names_only, may_assign, reads_within, reads_first, reads_flag}
+use Rattle.machine_spec.specs.BilStores.{list_stored}
 use Rattle.arm_lift_alu.proofs.Plain.{own, IsPlain, own_register}
 use Rattle.arm_lift_alu.proofs.Lists.{then_nothing}
 use Rattle.arm_lift_alu.proofs.Fetches.{IsFetch}

@@ -1,7 +1,7 @@
 -- Expressions that do not have the carry that comes in are the same, whatever is known of it.
 use Rattle.std.proofs.Common.{◌≡◌, ℕ, zero, suc, false, refl, ap, ◌∙◌}
-use Rattle.bilv_spec.specs.Bil.{RRegisters, Expression, Statements, Assign}
-use Rattle.bilv_spec.specs.Bil as bil
+use Rattle.machine_spec.specs.Bil.{RRegisters, Expression, Statements, Assign}
+use Rattle.machine_spec.specs.Bil as bil
 use Rattle.arm_decode.specs.declared.parts.ShiftKind.{ShiftKind}
 use Rattle.arm_decode.specs.declared.parts.ShiftKind.TheVariants.{Lsl, Lsr, Asr, Ror}
 use Rattle.arm_decode.specs.declared.parts.Operand as operands

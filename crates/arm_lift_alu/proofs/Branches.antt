@@ -1,15 +1,16 @@
 -- Branches and SWI.
 use Rattle.std.proofs.Common.{◌≡◌, ℕ, ◌^◌, ◌<◌, Bool, true, false, refl, sym, subst, ap, ◌∙◌, arith, None}
-use Rattle.bilv_spec.specs.Words.{add}
-use Rattle.bilv_spec.specs.Memory.{Endian}
-use Rattle.bilv_spec.specs.State.{State, with_pc}
-use Rattle.bilv_spec.specs.Machine.{Indirect, Goes, Raises, SoftwareInterrupt}
-use Rattle.bilv_spec.specs.Arm.{V4, arm, branch, branched, branch_target, is_linked, software_interrupt, exchange, reg, field_m, condition_code, none}
-use Rattle.bilv_spec.specs.Bil.{RRegisters, Statements}
-use Rattle.bilv_spec.specs.Bil as bil
-use Rattle.bilv_spec.specs.BilMeaning.{execute}
-use Rattle.bilv_spec.specs.Simulation.{Locals, position, of_list, of_row}
-use Rattle.bilv_spec.specs.MachineLaws.{IsLifting}
+use Rattle.word_spec.specs.Words.{add}
+use Rattle.word_spec.specs.Memory.{Endian}
+use Rattle.word_spec.specs.State.{State, with_pc}
+use Rattle.machine_spec.specs.Machine.{Indirect, Goes, Raises, SoftwareInterrupt}
+use Rattle.word_spec.specs.Profiles.{V4}
+use Rattle.machine_spec.specs.Arm.{arm, branch, branched, branch_target, is_linked, software_interrupt, exchange, reg, field_m, condition_code, none}
+use Rattle.machine_spec.specs.Bil.{RRegisters, Statements}
+use Rattle.machine_spec.specs.Bil as bil
+use Rattle.machine_spec.specs.BilMeaning.{execute}
+use Rattle.machine_spec.specs.Simulation.{Locals, position, of_list, of_row}
+use Rattle.machine_spec.specs.MachineLaws.{IsLifting}
 use Rattle.arm_decode.specs.declared.parts.Condition.{Condition}
 use Rattle.arm_decode.specs.Parts.{condition_number}
 use Rattle.arm_decode.specs.declared.register.Register.{Register}

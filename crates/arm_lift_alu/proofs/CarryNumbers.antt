@@ -5,9 +5,9 @@ use Rattle.std.proofs.lemmas.Bool.{ne_eqb}
 use Rattle.std.proofs.lemmas.Bool.Decides.{nat_tests}
 use Rattle.std.proofs.lemmas.Nat.{pow-add, pow_pos, div-add-mod', shr-shr, shl-shr, mod_below, shr_below, mul-add-lt, div-mul-add, shr_le, mod-pow-add}
 use Rattle.std.proofs.Math.Nat.{mul-add-div_right}
-use Rattle.bilv_spec.specs.Words.{bit_at, sar, complement}
-use Rattle.bilv_spec.specs.Arm as rows
-use Rattle.bilv_spec.specs.BilMeaning.{Word, extract_from}
+use Rattle.word_spec.specs.Words.{bit_at, sar, complement}
+use Rattle.machine_spec.specs.Arm as rows
+use Rattle.machine_spec.specs.BilMeaning.{Word, extract_from}
 use Rattle.arm_lift_alu.proofs.Shifts.{turned_by}
 
 truth : (b : Bool) → (b ≡ true) ⊎ (b ≡ false)

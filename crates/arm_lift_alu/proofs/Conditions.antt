@@ -1,13 +1,13 @@
 -- What a condition tests.
 use Rattle.std.proofs.Common.{◌≡◌, ℕ, zero, suc, ◌<◌, Bool, true, false, not, ◌&&◌, ◌||◌, refl, ap, ◌∙◌, arith, bit_and, nat_le, if◌then◌else◌}
 use Rattle.std.specs.Prelude.{◌==◌}
-use Rattle.bilv_spec.specs.Words.{bit, complement}
-use Rattle.bilv_spec.specs.State.{State, IsState, flag_n, flag_z, flag_c, flag_v}
-use Rattle.bilv_spec.specs.Arm.{conditions, nth, condition_flags, condition_reads}
-use Rattle.bilv_spec.specs.Bil.{Expression}
-use Rattle.bilv_spec.specs.Bil as bil
-use Rattle.bilv_spec.specs.BilMeaning.{Word, evaluate}
-use Rattle.bilv_spec.specs.Simulation.{Locals, env_of}
+use Rattle.word_spec.specs.Words.{bit, complement}
+use Rattle.word_spec.specs.State.{State, IsState, flag_n, flag_z, flag_c, flag_v}
+use Rattle.machine_spec.specs.Arm.{conditions, nth, condition_flags, condition_reads}
+use Rattle.machine_spec.specs.Bil.{Expression}
+use Rattle.machine_spec.specs.Bil as bil
+use Rattle.machine_spec.specs.BilMeaning.{Word, evaluate}
+use Rattle.machine_spec.specs.Simulation.{Locals, env_of}
 use Rattle.arm_decode.specs.declared.parts.Condition.{Condition}
 use Rattle.arm_decode.specs.declared.parts.Condition.TheVariants.{Eq, Ne, Cs, Cc, Mi, Pl, Vs, Vc, Hi, Ls, Ge, Lt, Gt, Le, Al}
 use Rattle.arm_decode.specs.Parts.{condition_number}

@@ -3,18 +3,19 @@ use Rattle.std.proofs.Common.{◌≡◌, ℕ, zero, suc, ◌+◌, ◌-◌, ◌*�
 use Rattle.std.specs.Prelude.{◌==◌, nat_lt, nat_le}
 use Rattle.std.specs.Int.Count.{count_leading_zeros, leading_unique}
 use Rattle.std.proofs.lemmas.Bool.Decides.{nat_tests}
-use Rattle.bilv_spec.specs.Words.{add, bit, bits, complement, concat}
-use Rattle.bilv_spec.specs.Memory.{Endian}
-use Rattle.bilv_spec.specs.State.{State}
-use Rattle.bilv_spec.specs.Machine.{only_next}
-use Rattle.bilv_spec.specs.Arm as rows
-use Rattle.bilv_spec.specs.Arm.{V4, arm, reg, on, none, condition_code, field_d, field_m}
-use Rattle.bilv_spec.specs.Bil.{RRegisters, Expression, Let, Local, Choose}
-use Rattle.bilv_spec.specs.Bil as bil
-use Rattle.bilv_spec.specs.BilMeaning.{Word, Env, put_local, assign, in_env, evaluate}
-use Rattle.bilv_spec.specs.BilStores.{stored_by, stored_in}
-use Rattle.bilv_spec.specs.Simulation.{Locals, env_of, of_list, of_row, Simulates}
-use Rattle.bilv_spec.specs.MachineLaws.{IsLifting}
+use Rattle.word_spec.specs.Words.{add, bit, bits, complement, concat}
+use Rattle.word_spec.specs.Memory.{Endian}
+use Rattle.word_spec.specs.State.{State}
+use Rattle.machine_spec.specs.Machine.{only_next}
+use Rattle.machine_spec.specs.Arm as rows
+use Rattle.word_spec.specs.Profiles.{V4}
+use Rattle.machine_spec.specs.Arm.{arm, reg, on, none, condition_code, field_d, field_m}
+use Rattle.machine_spec.specs.Bil.{RRegisters, Expression, Let, Local, Choose}
+use Rattle.machine_spec.specs.Bil as bil
+use Rattle.machine_spec.specs.BilMeaning.{Word, Env, put_local, assign, in_env, evaluate}
+use Rattle.machine_spec.specs.BilStores.{stored_by, stored_in}
+use Rattle.machine_spec.specs.Simulation.{Locals, env_of, of_list, of_row, Simulates}
+use Rattle.machine_spec.specs.MachineLaws.{IsLifting}
 use Rattle.arm_decode.specs.declared.parts.Condition.{Condition}
 use Rattle.arm_decode.specs.Parts.{condition_number}
 use Rattle.arm_decode.specs.declared.forms.CountFields.{CountFields}

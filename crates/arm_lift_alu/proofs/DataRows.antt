@@ -2,17 +2,18 @@
 use Rattle.std.proofs.Common.{◌≡◌, ℕ, ◌+◌, ◌^◌, ◌<◌, Bool, true, false, not, ◌&&◌, ◌||◌, refl, ap, sym, subst, ◌∙◌, arith, None, ◌≤◌}
 use Rattle.std.specs.Prelude.{◌==◌}
 use Rattle.std.proofs.lemmas.Bool.Decides.{nat_tests}
-use Rattle.bilv_spec.specs.Words.{bit, bit_at}
-use Rattle.bilv_spec.specs.Memory.{Endian}
-use Rattle.bilv_spec.specs.State.{State, IsState, flag_c, flag_v}
-use Rattle.bilv_spec.specs.Arm as rows
-use Rattle.bilv_spec.specs.Arm.{V4, arm, Result, results, result_at, reg, field_n, field_d, opcode, operand, with_flags, computed_by, on, write, write_by, flag_set, none, condition_code, is_computing}
-use Rattle.bilv_spec.specs.Bil.{RRegisters, Expression, Statements}
-use Rattle.bilv_spec.specs.BilMeaning.{Word, evaluate, execute}
-use Rattle.bilv_spec.specs.Simulation.{Locals, env_of, position, of_list, of_row, Simulates}
-use Rattle.bilv_spec.specs.BilCounts.{reads_flag}
-use Rattle.bilv_spec.specs.MachineLaws.{IsLifting}
-use Rattle.bilv_spec.proofs.ArmRanges.{reg_small}
+use Rattle.word_spec.specs.Words.{bit, bit_at}
+use Rattle.word_spec.specs.Memory.{Endian}
+use Rattle.word_spec.specs.State.{State, IsState, flag_c, flag_v}
+use Rattle.machine_spec.specs.Arm as rows
+use Rattle.word_spec.specs.Profiles.{V4}
+use Rattle.machine_spec.specs.Arm.{arm, Result, results, result_at, reg, field_n, field_d, opcode, operand, with_flags, computed_by, on, write, write_by, flag_set, none, condition_code, is_computing}
+use Rattle.machine_spec.specs.Bil.{RRegisters, Expression, Statements}
+use Rattle.machine_spec.specs.BilMeaning.{Word, evaluate, execute}
+use Rattle.machine_spec.specs.Simulation.{Locals, env_of, position, of_list, of_row, Simulates}
+use Rattle.machine_spec.specs.BilCounts.{reads_flag}
+use Rattle.machine_spec.specs.MachineLaws.{IsLifting}
+use Rattle.machine_spec.proofs.ArmRanges.{reg_small}
 use Rattle.arm_decode.specs.declared.parts.Condition.{Condition}
 use Rattle.arm_decode.specs.Parts.{condition_number, opcode_number}
 use Rattle.arm_decode.specs.Forms.{IsComputing}

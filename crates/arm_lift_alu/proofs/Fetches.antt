@@ -2,12 +2,12 @@
 -- variables, and the flags that it reads.
 use Rattle.std.proofs.Common.{◌≡◌, ℕ, ◌+◌, ◌/◌, ◌≤◌, Bool, true, false, ◌&&◌, refl, ap, arith, []}
 use Rattle.std.specs.Prelude.{◌==◌}
-use Rattle.bilv_spec.specs.Memory.{Endian}
-use Rattle.bilv_spec.specs.Bil.{Bits, Mem, BinaryOp, CastKind, Expression, Var, Load, Binary, Cast, Unknown, Choose, total, size}
-use Rattle.bilv_spec.specs.BilMeaning.{Env, evaluate}
-use Rattle.bilv_spec.specs.BilTyping.{Has, type_or_fault, result_width, cast_fits, is_width, is_load_width}
-use Rattle.bilv_spec.specs.BilCounts.{width, op_weight, weight, own_loads, own_stores, own_unknowns, own_memory_choices, own_chosen_stores, names_only, reads_flag}
-use Rattle.bilv_spec.specs.BilStores.{stored_by}
+use Rattle.word_spec.specs.Memory.{Endian}
+use Rattle.machine_spec.specs.Bil.{Bits, Mem, BinaryOp, CastKind, Expression, Var, Load, Binary, Cast, Unknown, Choose, total, size}
+use Rattle.machine_spec.specs.BilMeaning.{Env, evaluate}
+use Rattle.machine_spec.specs.BilTyping.{Has, type_or_fault, result_width, cast_fits, is_width, is_load_width}
+use Rattle.machine_spec.specs.BilCounts.{width, op_weight, weight, own_loads, own_stores, own_unknowns, own_memory_choices, own_chosen_stores, names_only, reads_flag}
+use Rattle.machine_spec.specs.BilStores.{stored_by}
 use Rattle.arm_lift_alu.proofs.Plain.{own, IsPlain, nothing_chosen}
 
 -- an expression of n bits that weighs at most w, loads at most l bytes, has at most u unknowns, and reads no flag outside a set

@@ -4,13 +4,13 @@ use Rattle.std.specs.Prelude.{◌==◌}
 use Rattle.std.proofs.lemmas.Bool.Decides.{nat_tests}
 use Rattle.std.proofs.lemmas.Bool.{ne_eqb}
 use Rattle.std.proofs.Math.Path.{fun_ext}
-use Rattle.bilv_spec.specs.Words.{bit, bit_at}
-use Rattle.bilv_spec.specs.State.{State, put, flag_n, flag_z, flag_c, flag_v}
-use Rattle.bilv_spec.specs.Arm.{Result, with_flags}
-use Rattle.bilv_spec.specs.Bil.{RRegisters, Expression, Statements, Empty, Assign, If}
-use Rattle.bilv_spec.specs.Bil as bil
-use Rattle.bilv_spec.specs.BilMeaning.{Word, Position, Ends, evaluate, execute}
-use Rattle.bilv_spec.specs.Simulation.{Locals, env_of, position}
+use Rattle.word_spec.specs.Words.{bit, bit_at}
+use Rattle.word_spec.specs.State.{State, put, flag_n, flag_z, flag_c, flag_v}
+use Rattle.machine_spec.specs.Arm.{Result, with_flags}
+use Rattle.machine_spec.specs.Bil.{RRegisters, Expression, Statements, Empty, Assign, If}
+use Rattle.machine_spec.specs.Bil as bil
+use Rattle.machine_spec.specs.BilMeaning.{Word, Position, Ends, evaluate, execute}
+use Rattle.machine_spec.specs.Simulation.{Locals, env_of, position}
 use Rattle.arm_decode.specs.declared.forms.ComputingFields.{ComputingFields}
 use Rattle.arm_lift_alu.specs.declared.shifter.CarryIn.{CarryIn}
 use Rattle.arm_lift_alu.specs.declared.shifter.CarryIn.TheVariants.{Clear, Set, Flag}

@@ -1,11 +1,11 @@
 -- What is said of a list beside its end: it is put together from its statements.
 use Rattle.std.proofs.Common.{◌≡◌, ℕ, suc, ◌+◌, ◌*◌, ◌<◌, ◌≤◌, Bool, true, false, refl, arith, List, [], ◌==◌, None}
-use Rattle.bilv_spec.specs.Memory.{Endian}
-use Rattle.bilv_spec.specs.Bil.{Bits, BilVariable, Expression, Statements, Empty, Assign, JumpTo, Raise, If, type_of, size, list_size}
-use Rattle.bilv_spec.specs.BilMeaning.{Position, Ending, Ends, RaisesException, OutOfTurns, Wrong, evaluate}
-use Rattle.bilv_spec.specs.BilTyping.{list_fault}
-use Rattle.bilv_spec.specs.BilCounts.{list_weight, byte_loads, byte_stores, memory_choices, chosen_stores, unknowns, has_no_loop, has_no_special, nesting, list_names_only, may_assign, surely_assigns, reads_within, reads_first}
-use Rattle.bilv_spec.specs.BilStores.{list_stored, then_stored}
+use Rattle.word_spec.specs.Memory.{Endian}
+use Rattle.machine_spec.specs.Bil.{Bits, BilVariable, Expression, Statements, Empty, Assign, JumpTo, Raise, If, type_of, size, list_size}
+use Rattle.machine_spec.specs.BilMeaning.{Position, Ending, Ends, RaisesException, OutOfTurns, Wrong, evaluate}
+use Rattle.machine_spec.specs.BilTyping.{list_fault}
+use Rattle.machine_spec.specs.BilCounts.{list_weight, byte_loads, byte_stores, memory_choices, chosen_stores, unknowns, has_no_loop, has_no_special, nesting, list_names_only, may_assign, surely_assigns, reads_within, reads_first}
+use Rattle.machine_spec.specs.BilStores.{list_stored, then_stored}
 use Rattle.arm_lift_alu.proofs.Plain.{own, IsPlain, nothing_chosen}
 
 -- a list that weighs at most w, nests at most d deep and has u unknowns, and neither loads nor stores

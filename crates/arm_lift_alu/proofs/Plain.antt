@@ -2,14 +2,15 @@
 -- flags that it reads.
 use Rattle.std.proofs.Common.{◌≡◌, ℕ, zero, suc, ◌+◌, ◌-◌, ◌^◌, ◌<◌, ◌≤◌, ◌==◌, min, nat_lt, nat_le, Bool, true, false, ◌&&◌, refl, ap, ◌∙◌, arith, []}
 use Rattle.std.proofs.lemmas.Bool.Decides.{nat_tests}
-use Rattle.bilv_spec.specs.Memory.{Endian}
-use Rattle.bilv_spec.specs.Arm.{V4, arm}
-use Rattle.bilv_spec.specs.Bil.{Bits, RRegisters, BilVariable, BinaryOp, Not, CastKind, Expression, Var, Constant, Binary, Unary, Cast, Choose, Extract, Concat, total, size}
-use Rattle.bilv_spec.specs.Bil as bil
-use Rattle.bilv_spec.specs.BilMeaning.{Value, Word, Bytes, Stuck, Env, evaluate}
-use Rattle.bilv_spec.specs.BilTyping.{Has, type_or_fault, result_width, cast_fits, is_width}
-use Rattle.bilv_spec.specs.BilCounts.{width, op_weight, weight, own_loads, own_stores, own_unknowns, own_memory_choices, own_chosen_stores, names_only, is_own, reads_flag}
-use Rattle.bilv_spec.specs.BilStores.{stored_by, chosen}
+use Rattle.word_spec.specs.Memory.{Endian}
+use Rattle.word_spec.specs.Profiles.{V4}
+use Rattle.machine_spec.specs.Arm.{arm}
+use Rattle.machine_spec.specs.Bil.{Bits, RRegisters, BilVariable, BinaryOp, Not, CastKind, Expression, Var, Constant, Binary, Unary, Cast, Choose, Extract, Concat, total, size}
+use Rattle.machine_spec.specs.Bil as bil
+use Rattle.machine_spec.specs.BilMeaning.{Value, Word, Bytes, Stuck, Env, evaluate}
+use Rattle.machine_spec.specs.BilTyping.{Has, type_or_fault, result_width, cast_fits, is_width}
+use Rattle.machine_spec.specs.BilCounts.{width, op_weight, weight, own_loads, own_stores, own_unknowns, own_memory_choices, own_chosen_stores, names_only, is_own, reads_flag}
+use Rattle.machine_spec.specs.BilStores.{stored_by, chosen}
 use Rattle.arm_lift_alu.specs.Lifted as lifts
 
 -- the machine's variables

@@ -2,17 +2,18 @@
 use Rattle.std.proofs.Common.{◌≡◌, ℕ, zero, suc, ◌+◌, ◌*◌, ◌%◌, ◌^◌, ◌<◌, Bool, true, false, ◌&&◌, ◌||◌, refl, ap, sym, subst, ◌∙◌, arith, Option, Some, None, if◌then◌else◌}
 use Rattle.std.specs.Prelude.{◌==◌}
 use Rattle.std.proofs.lemmas.Bool.{ne_eqb}
-use Rattle.bilv_spec.specs.Words.{add, mul, bit, bit_at}
-use Rattle.bilv_spec.specs.Memory.{Endian}
-use Rattle.bilv_spec.specs.Machine.{Row, only_next}
-use Rattle.bilv_spec.specs.State.{State, put, flag_n, flag_z, flag_c, flag_v}
-use Rattle.bilv_spec.specs.Arm as rows
-use Rattle.bilv_spec.specs.Arm.{V4, arm, reg, on, with_flags, flag_set, none, condition_code, accumulates, field_n, field_d, field_m, field_s}
-use Rattle.bilv_spec.specs.Bil.{Bits, RRegisters, Expression, Unknown, Statements, Empty, Assign}
-use Rattle.bilv_spec.specs.Bil as bil
-use Rattle.bilv_spec.specs.BilMeaning.{Word, evaluate, execute}
-use Rattle.bilv_spec.specs.Simulation.{Locals, env_of, position, of_list, of_row, Finished, Simulates}
-use Rattle.bilv_spec.specs.MachineLaws.{IsLifting}
+use Rattle.word_spec.specs.Words.{add, mul, bit, bit_at}
+use Rattle.word_spec.specs.Memory.{Endian}
+use Rattle.machine_spec.specs.Machine.{Row, only_next}
+use Rattle.word_spec.specs.State.{State, put, flag_n, flag_z, flag_c, flag_v}
+use Rattle.machine_spec.specs.Arm as rows
+use Rattle.word_spec.specs.Profiles.{V4}
+use Rattle.machine_spec.specs.Arm.{arm, reg, on, with_flags, flag_set, none, condition_code, accumulates, field_n, field_d, field_m, field_s}
+use Rattle.machine_spec.specs.Bil.{Bits, RRegisters, Expression, Unknown, Statements, Empty, Assign}
+use Rattle.machine_spec.specs.Bil as bil
+use Rattle.machine_spec.specs.BilMeaning.{Word, evaluate, execute}
+use Rattle.machine_spec.specs.Simulation.{Locals, env_of, position, of_list, of_row, Finished, Simulates}
+use Rattle.machine_spec.specs.MachineLaws.{IsLifting}
 use Rattle.arm_decode.specs.declared.parts.Condition.{Condition}
 use Rattle.arm_decode.specs.Parts.{condition_number}
 use Rattle.arm_decode.specs.declared.register.Register.{Register}

@@ -1,12 +1,13 @@
 -- A lifting of a row in one profile is one in each: what it says asks of the machine its byte order, registers and flags alone.
 use Rattle.std.proofs.Common.{◌≡◌, ℕ, refl, ap, ◌∙◌}
 use Rattle.std.proofs.Math.Path.{fun_ext}
-use Rattle.bilv_spec.specs.Memory.{Endian}
-use Rattle.bilv_spec.specs.Machine.{Row}
-use Rattle.bilv_spec.specs.Arm.{Profile, V4, arm}
-use Rattle.bilv_spec.specs.Bil.{RRegisters, BilVariable, Register, Flag, Mem, Local, Statements}
-use Rattle.bilv_spec.specs.BilCounts.{is_own, list_names_only}
-use Rattle.bilv_spec.specs.MachineLaws.{IsLifting}
+use Rattle.word_spec.specs.Memory.{Endian}
+use Rattle.machine_spec.specs.Machine.{Row}
+use Rattle.word_spec.specs.Profiles.{Profile, V4}
+use Rattle.machine_spec.specs.Arm.{arm}
+use Rattle.machine_spec.specs.Bil.{RRegisters, BilVariable, Register, Flag, Mem, Local, Statements}
+use Rattle.machine_spec.specs.BilCounts.{is_own, list_names_only}
+use Rattle.machine_spec.specs.MachineLaws.{IsLifting}
 
 same_own : (m : Endian) (p : Profile) (x : BilVariable) → is_own (arm m p) RRegisters x ≡ is_own (arm m V4) RRegisters x
 same_own m p (Register b r) = refl

@@ -1,6 +1,6 @@
 -- A list with one more statement, and a whole list.
 use Rattle.std.proofs.Common.{◌≡◌, refl, ap, List, [], ◌∷◌, ◌++◌}
-use Rattle.bilv_spec.specs.Bil.{Statements, Empty}
+use Rattle.machine_spec.specs.Bil.{Statements, Empty}
 use Rattle.bil_ast.specs.Views.{statement, statements}
 use Rattle.bil_ast.specs.declared.statements.Stmt.{Stmt}
 use Rattle.arm_lift_alu.specs.Before.{before}

@@ -1,8 +1,8 @@
 -- Where a register is the program counter, and where a shift's number is 0.
 use Rattle.std.proofs.Common.{◌≡◌, ◌≢◌, ℕ, zero, suc, ◌-◌, refl, ap, arith}
 use Rattle.std.proofs.lemmas.Bool.{ne_eqb}
-use Rattle.bilv_spec.specs.Words.{add, bit_at}
-use Rattle.bilv_spec.specs.Bil.{Expression, Constant}
+use Rattle.word_spec.specs.Words.{add, bit_at}
+use Rattle.machine_spec.specs.Bil.{Expression, Constant}
 use Rattle.arm_decode.specs.declared.parts.ShiftKind.{ShiftKind}
 use Rattle.arm_decode.specs.declared.parts.ShiftKind.TheVariants.{Lsl, Lsr, Asr, Ror}
 use Rattle.arm_lift_alu.specs.declared.shifter.CarryIn.{CarryIn}

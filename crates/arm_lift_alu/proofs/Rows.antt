@@ -1,16 +1,17 @@
 -- A list under a condition is a lifting of its row.
 use Rattle.std.proofs.Common.{◌≡◌, ◌↔◌, ℕ, ◌+◌, ◌≤◌, Bool, true, false, not, ◌&&◌, ◌||◌, refl, sym, ap, subst, ◌∙◌, arith, List, [], None}
 use Rattle.std.specs.Prelude.{◌==◌, Contains}
-use Rattle.bilv_spec.specs.Words.{bit}
-use Rattle.bilv_spec.specs.Memory.{Endian}
-use Rattle.bilv_spec.specs.State.{State}
-use Rattle.bilv_spec.specs.Machine.{Row, Successors, Outcome}
-use Rattle.bilv_spec.specs.Arm.{V4, arm, row_of, flag_use, condition_code, condition_flags, condition_reads, is_always, holds, when}
-use Rattle.bilv_spec.specs.Bil.{RRegisters, Statements, Empty, If}
-use Rattle.bilv_spec.specs.BilMeaning.{Word, Ending, Ends, RaisesException, OutOfTurns, Wrong, then_do, branch_on, execute}
-use Rattle.bilv_spec.specs.BilCounts.{reads_flag}
-use Rattle.bilv_spec.specs.Simulation.{Locals, position, of_list, of_row, Simulates}
-use Rattle.bilv_spec.specs.MachineLaws.{IsLifting}
+use Rattle.word_spec.specs.Words.{bit}
+use Rattle.word_spec.specs.Memory.{Endian}
+use Rattle.word_spec.specs.State.{State}
+use Rattle.machine_spec.specs.Machine.{Row, Successors, Outcome}
+use Rattle.word_spec.specs.Profiles.{V4}
+use Rattle.machine_spec.specs.Arm.{arm, row_of, flag_use, condition_code, condition_flags, condition_reads, is_always, holds, when}
+use Rattle.machine_spec.specs.Bil.{RRegisters, Statements, Empty, If}
+use Rattle.machine_spec.specs.BilMeaning.{Word, Ending, Ends, RaisesException, OutOfTurns, Wrong, then_do, branch_on, execute}
+use Rattle.machine_spec.specs.BilCounts.{reads_flag}
+use Rattle.machine_spec.specs.Simulation.{Locals, position, of_list, of_row, Simulates}
+use Rattle.machine_spec.specs.MachineLaws.{IsLifting}
 use Rattle.arm_decode.specs.declared.parts.Condition.{Condition}
 use Rattle.arm_decode.specs.declared.parts.Condition.TheVariants.{Eq, Ne, Cs, Cc, Mi, Pl, Vs, Vc, Hi, Ls, Ge, Lt, Gt, Le, Al}
 use Rattle.arm_decode.specs.Parts.{condition_number}

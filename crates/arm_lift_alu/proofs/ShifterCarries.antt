@@ -3,13 +3,13 @@ use Rattle.std.proofs.Common.{◌≡◌, ℕ, zero, suc, ◌+◌, ◌-◌, ◌*�
 use Rattle.std.specs.Prelude.{◌==◌}
 use Rattle.std.proofs.lemmas.Bool.{ne_eqb}
 use Rattle.std.proofs.lemmas.Bool.Decides.{nat_tests}
-use Rattle.bilv_spec.specs.Words.{bit, bit_at}
-use Rattle.bilv_spec.specs.State.{State, IsState, flag_c}
-use Rattle.bilv_spec.specs.Arm as rows
-use Rattle.bilv_spec.specs.Arm.{reg}
-use Rattle.bilv_spec.specs.Bil.{Expression}
-use Rattle.bilv_spec.specs.BilMeaning.{Word, choose}
-use Rattle.bilv_spec.proofs.ArmRanges.{reg_small}
+use Rattle.word_spec.specs.Words.{bit, bit_at}
+use Rattle.word_spec.specs.State.{State, IsState, flag_c}
+use Rattle.machine_spec.specs.Arm as rows
+use Rattle.machine_spec.specs.Arm.{reg}
+use Rattle.machine_spec.specs.Bil.{Expression}
+use Rattle.machine_spec.specs.BilMeaning.{Word, choose}
+use Rattle.machine_spec.proofs.ArmRanges.{reg_small}
 use Rattle.arm_decode.specs.declared.parts.ShiftKind.{ShiftKind}
 use Rattle.arm_decode.specs.declared.parts.ShiftKind.TheVariants.{Lsl, Lsr, Asr, Ror}
 use Rattle.arm_decode.specs.declared.parts.Operand as operands

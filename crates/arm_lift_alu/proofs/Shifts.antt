@@ -4,9 +4,9 @@ use Rattle.std.proofs.lemmas.Grind.{common_steps}
 use Rattle.std.proofs.lemmas.Nat.{pow-add, pow_pos, div-add-mod'}
 use Rattle.std.proofs.Math.Nat.{mul-add-div_right}
 use Rattle.std.proofs.lemmas.Bool.Decides.{nat_tests}
-use Rattle.bilv_spec.specs.Words.{shl, shr, sar}
-use Rattle.bilv_spec.specs.Arm as rows
-use Rattle.bilv_spec.proofs.ArmRanges.{ror_small}
+use Rattle.word_spec.specs.Words.{shl, shr, sar}
+use Rattle.machine_spec.specs.Arm as rows
+use Rattle.machine_spec.proofs.ArmRanges.{ror_small}
 
 -- a rotation by k
 abbrev pub turned_by : ℕ → ℕ → ℕ

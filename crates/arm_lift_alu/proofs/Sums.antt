@@ -1,11 +1,11 @@
 -- What opcodes evaluate to: the value, the carry and the overflow.
 use Rattle.std.proofs.Common.{◌≡◌, ℕ, ◌+◌, ◌/◌, ◌%◌, ◌^◌, ◌<◌, nat_le, nat_lt, true, false, refl, ap, arith}
 use Rattle.std.proofs.lemmas.Bool.Decides.{nat_tests}
-use Rattle.bilv_spec.specs.Words.{add, sub, bit, bits, complement, sign_extend}
-use Rattle.bilv_spec.specs.State.{State, flag_c, flag_v}
-use Rattle.bilv_spec.specs.Arm.{Result, results, result_at, sum}
-use Rattle.bilv_spec.specs.Bil.{Expression}
-use Rattle.bilv_spec.specs.BilMeaning.{Word}
+use Rattle.word_spec.specs.Words.{add, sub, bit, bits, complement, sign_extend}
+use Rattle.word_spec.specs.State.{State, flag_c, flag_v}
+use Rattle.machine_spec.specs.Arm.{Result, results, result_at, sum}
+use Rattle.machine_spec.specs.Bil.{Expression}
+use Rattle.machine_spec.specs.BilMeaning.{Word}
 use Rattle.arm_decode.specs.declared.parts.Opcode.{Opcode}
 use Rattle.arm_decode.specs.declared.parts.Opcode.TheVariants.{And, Eor, Sub, Rsb, Add, Adc, Sbc, Rsc, Tst, Teq, Cmp, Cmn, Orr, Mov, Bic, Mvn}
 use Rattle.arm_decode.specs.Parts.{opcode_number}

@@ -1,7 +1,7 @@
 -- Where a condition may fail.
 use Rattle.std.proofs.Common.{◌≡◌, true, false, refl}
 use Rattle.std.specs.Prelude.{◌==◌}
-use Rattle.bilv_spec.specs.Bil.{Statements, Empty, If}
+use Rattle.machine_spec.specs.Bil.{Statements, Empty, If}
 use Rattle.arm_decode.specs.declared.parts.Condition.{Condition}
 use Rattle.arm_decode.specs.declared.parts.Condition.TheVariants.{Eq, Ne, Cs, Cc, Mi, Pl, Vs, Vc, Hi, Ls, Ge, Lt, Gt, Le, Al}
 use Rattle.arm_decode.specs.Parts.{condition_number}

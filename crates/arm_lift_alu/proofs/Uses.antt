@@ -3,11 +3,11 @@ use Rattle.std.proofs.Common.{◌≡◌, ℕ, zero, suc, ◌+◌, ◌<◌, ◌�
 use Rattle.std.specs.Prelude.{◌==◌}
 use Rattle.std.proofs.lemmas.Bool.{ne_eqb}
 use Rattle.std.proofs.lemmas.Bool.Decides.{nat_tests}
-use Rattle.bilv_spec.specs.State.{flag_c}
-use Rattle.bilv_spec.specs.Arm.{flag_set, none}
-use Rattle.bilv_spec.specs.Bil.{RRegisters, Expression, Statements, Empty, Assign}
-use Rattle.bilv_spec.specs.Bil as bil
-use Rattle.bilv_spec.specs.BilCounts.{reads_flag, may_assign, surely_assigns, reads_within, reads_first}
+use Rattle.word_spec.specs.State.{flag_c}
+use Rattle.machine_spec.specs.Arm.{flag_set, none}
+use Rattle.machine_spec.specs.Bil.{RRegisters, Expression, Statements, Empty, Assign}
+use Rattle.machine_spec.specs.Bil as bil
+use Rattle.machine_spec.specs.BilCounts.{reads_flag, may_assign, surely_assigns, reads_within, reads_first}
 use Rattle.arm_decode.specs.declared.forms.ComputingFields.{ComputingFields}
 use Rattle.arm_lift_alu.specs.declared.shifter.CarryIn.{CarryIn}
 use Rattle.arm_lift_alu.specs.declared.shifter.CarryIn.TheVariants.{Clear, Set, Flag}

@@ -2,17 +2,17 @@
 use Rattle.std.proofs.Common.{◌≡◌, ℕ, zero, suc, ◌+◌, ◌*◌, ◌/◌, ◌%◌, ◌^◌, ◌<◌, Bool, true, false, refl, ap, sym, subst, ◌∙◌, arith, min, if◌then◌else◌}
 use Rattle.std.specs.Prelude.{◌==◌}
 use Rattle.std.proofs.lemmas.Bool.{ne_eqb}
-use Rattle.bilv_spec.specs.Words.{add, bits, bit_at}
-use Rattle.bilv_spec.specs.Memory.{Little}
-use Rattle.bilv_spec.specs.State.{State, IsState, flag_c}
-use Rattle.bilv_spec.specs.Arm as rows
-use Rattle.bilv_spec.specs.Arm.{Shifted, reg}
-use Rattle.bilv_spec.specs.Bil.{Bits, BilVariable, Register, Mem, Local, Expression, type_of}
-use Rattle.bilv_spec.specs.Bil as bil
-use Rattle.bilv_spec.specs.BilMeaning.{Value, Word, Stuck, get, evaluate, HoldsVariables, IsOfType}
-use Rattle.bilv_spec.specs.Simulation.{Locals, env_of}
-use Rattle.bilv_spec.proofs.BilSound.{sound}
-use Rattle.bilv_spec.proofs.ArmRanges.{reg_small}
+use Rattle.word_spec.specs.Words.{add, bits, bit_at}
+use Rattle.word_spec.specs.Memory.{Little}
+use Rattle.word_spec.specs.State.{State, IsState, flag_c}
+use Rattle.machine_spec.specs.Arm as rows
+use Rattle.machine_spec.specs.Arm.{Shifted, reg}
+use Rattle.machine_spec.specs.Bil.{Bits, BilVariable, Register, Mem, Local, Expression, type_of}
+use Rattle.machine_spec.specs.Bil as bil
+use Rattle.machine_spec.specs.BilMeaning.{Value, Word, Stuck, get, evaluate, HoldsVariables, IsOfType}
+use Rattle.machine_spec.specs.Simulation.{Locals, env_of}
+use Rattle.machine_spec.proofs.BilSound.{sound}
+use Rattle.machine_spec.proofs.ArmRanges.{reg_small}
 use Rattle.arm_decode.specs.declared.parts.ShiftKind.{ShiftKind}
 use Rattle.arm_decode.specs.declared.parts.ShiftKind.TheVariants.{Lsl, Lsr, Asr, Ror}
 use Rattle.arm_decode.specs.declared.parts.Operand as operands

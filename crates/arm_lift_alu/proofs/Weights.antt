@@ -1,10 +1,10 @@
 -- What is said of operands and opcodes without their values.
 use Rattle.std.proofs.Common.{◌≡◌, ℕ, zero, suc, ◌+◌, ◌-◌, ◌*◌, ◌^◌, ◌<◌, ◌==◌, nat_le, nat_lt, Bool, true, false, ◌&&◌, refl, subst, arith, ◌/◌, ◌%◌}
 use Rattle.std.proofs.lemmas.Bool.Decides.{nat_tests}
-use Rattle.bilv_spec.specs.Words.{add, bit_at}
-use Rattle.bilv_spec.specs.Bil.{Expression, Constant}
-use Rattle.bilv_spec.specs.Bil as bil
-use Rattle.bilv_spec.proofs.ArmRanges.{ror_small}
+use Rattle.word_spec.specs.Words.{add, bit_at}
+use Rattle.machine_spec.specs.Bil.{Expression, Constant}
+use Rattle.machine_spec.specs.Bil as bil
+use Rattle.machine_spec.proofs.ArmRanges.{ror_small}
 use Rattle.arm_decode.specs.declared.parts.ShiftKind.{ShiftKind}
 use Rattle.arm_decode.specs.declared.parts.ShiftKind.TheVariants.{Lsl, Lsr, Asr, Ror}
 use Rattle.arm_decode.specs.declared.parts.Operand as operands

@@ -1,6 +1,6 @@
 -- A list of the code before statements of the definitions, by which a list that grows is described.
 use Rattle.std.specs.Prelude.{List, [], ◌∷◌}
-use Rattle.bilv_spec.specs.Bil as bil
+use Rattle.machine_spec.specs.Bil as bil
 use Rattle.bil_ast.specs.Views.{statement}
 use Rattle.bil_ast.specs.declared.statements.Stmt.{Stmt}
 

@@ -1,8 +1,8 @@
 -- The lists of data processing (section A3.4).
 use Rattle.std.specs.Prelude.{ℕ, ◌==◌, ◌||◌, not, Bool, true, false, ◌&&◌}
-use Rattle.bilv_spec.specs.State.{flag_n, flag_z, flag_c, flag_v}
-use Rattle.bilv_spec.specs.Bil as bil
-use Rattle.bilv_spec.specs.Bil.{RRegisters, Expression, Var, Constant, Binary, Unary, Cast, Extract, Statements, Empty, Assign, JumpTo, If}
+use Rattle.word_spec.specs.State.{flag_n, flag_z, flag_c, flag_v}
+use Rattle.machine_spec.specs.Bil as bil
+use Rattle.machine_spec.specs.Bil.{RRegisters, Expression, Var, Constant, Binary, Unary, Cast, Extract, Statements, Empty, Assign, JumpTo, If}
 use Rattle.arm_decode.specs.declared.parts.Opcode.{Opcode}
 use Rattle.arm_decode.specs.declared.parts.Opcode.TheVariants.{And, Eor, Sub, Rsb, Add, Adc, Sbc, Rsc, Tst, Teq, Cmp, Cmn, Orr, Mov, Bic, Mvn}
 use Rattle.arm_decode.specs.declared.forms.ComputingFields.{ComputingFields}

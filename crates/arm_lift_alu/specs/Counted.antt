@@ -1,7 +1,7 @@
 -- The list of CLZ (section A4.1.13): five stages, by 16, 8, 4, 2 and 1 bits. Each tests the highest bits of a word, and shifts them out where all are 0.
 use Rattle.std.specs.Prelude.{ℕ, ◌+◌, ◌-◌}
-use Rattle.bilv_spec.specs.Bil as bil
-use Rattle.bilv_spec.specs.Bil.{RRegisters, Local, Expression, Var, Constant, Binary, Unary, Cast, Let, Choose, Extract, Concat, Statements, Empty, Assign}
+use Rattle.machine_spec.specs.Bil as bil
+use Rattle.machine_spec.specs.Bil.{RRegisters, Local, Expression, Var, Constant, Binary, Unary, Cast, Let, Choose, Extract, Concat, Statements, Empty, Assign}
 use Rattle.arm_lift_alu.specs.Operands.{own}
 
 -- the word that a stage begins with, a local by the stage's number

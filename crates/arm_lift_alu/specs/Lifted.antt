@@ -1,8 +1,8 @@
 -- The list that each instruction is lifted to.
 use Rattle.std.specs.Prelude.{ℕ, Bool, true, false}
-use Rattle.bilv_spec.specs.State.{flag_n, flag_z, flag_c, flag_v}
-use Rattle.bilv_spec.specs.Bil as bil
-use Rattle.bilv_spec.specs.Bil.{RRegisters, Expression, Var, Constant, Binary, Unary, Cast, Extract, Concat, Statements, Empty, Assign, JumpTo, Raise, If}
+use Rattle.word_spec.specs.State.{flag_n, flag_z, flag_c, flag_v}
+use Rattle.machine_spec.specs.Bil as bil
+use Rattle.machine_spec.specs.Bil.{RRegisters, Expression, Var, Constant, Binary, Unary, Cast, Extract, Concat, Statements, Empty, Assign, JumpTo, Raise, If}
 use Rattle.arm_decode.specs.declared.parts.Condition.{Condition}
 use Rattle.arm_decode.specs.declared.parts.Condition.TheVariants.{Eq, Ne, Cs, Cc, Mi, Pl, Vs, Vc, Hi, Ls, Ge, Lt, Gt, Le, Al}
 

@@ -1,8 +1,8 @@
 -- The lists of MUL and MLA (section A3.5).
 use Rattle.std.specs.Prelude.{ℕ, Bool, true, false, Option, Some, None}
-use Rattle.bilv_spec.specs.State.{flag_c}
-use Rattle.bilv_spec.specs.Bil as bil
-use Rattle.bilv_spec.specs.Bil.{RRegisters, Bits, Expression, Binary, Unknown, Statements, Empty, Assign}
+use Rattle.word_spec.specs.State.{flag_c}
+use Rattle.machine_spec.specs.Bil as bil
+use Rattle.machine_spec.specs.Bil.{RRegisters, Bits, Expression, Binary, Unknown, Statements, Empty, Assign}
 use Rattle.arm_decode.specs.declared.register.Register.{Register}
 use Rattle.arm_decode.specs.declared.forms.MultiplyFields.{MultiplyFields}
 use Rattle.arm_lift_alu.specs.Operands.{own}

@@ -1,8 +1,8 @@
 -- The lists of UMULL, UMLAL, SMULL and SMLAL (section A3.5).
 use Rattle.std.specs.Prelude.{ℕ, ◌==◌, Bool, true, false}
-use Rattle.bilv_spec.specs.State.{flag_n, flag_z, flag_c, flag_v}
-use Rattle.bilv_spec.specs.Bil as bil
-use Rattle.bilv_spec.specs.Bil.{RRegisters, Bits, Expression, Constant, Binary, Cast, Unknown, Extract, Concat, Statements, Empty, Assign}
+use Rattle.word_spec.specs.State.{flag_n, flag_z, flag_c, flag_v}
+use Rattle.machine_spec.specs.Bil as bil
+use Rattle.machine_spec.specs.Bil.{RRegisters, Bits, Expression, Constant, Binary, Cast, Unknown, Extract, Concat, Statements, Empty, Assign}
 use Rattle.arm_decode.specs.declared.forms.MultiplyLongFields.{MultiplyLongFields}
 use Rattle.arm_lift_alu.specs.Operands.{own, bit_of}
 

@@ -1,9 +1,9 @@
 -- The operands of data processing, and the carry out of their shifts (section A5.1).
 use Rattle.std.specs.Prelude.{ℕ, zero, suc, ◌-◌, ◌*◌, ◌==◌, Bool, true, false}
-use Rattle.bilv_spec.specs.Words.{add, bit_at, ror}
-use Rattle.bilv_spec.specs.State.{flag_c}
-use Rattle.bilv_spec.specs.Bil as bil
-use Rattle.bilv_spec.specs.Bil.{RRegisters, Expression, Var, Constant, Binary, Cast, Choose, Extract, Concat}
+use Rattle.word_spec.specs.Words.{add, bit_at, ror}
+use Rattle.word_spec.specs.State.{flag_c}
+use Rattle.machine_spec.specs.Bil as bil
+use Rattle.machine_spec.specs.Bil.{RRegisters, Expression, Var, Constant, Binary, Cast, Choose, Extract, Concat}
 use Rattle.arm_decode.specs.declared.parts.ShiftKind.{ShiftKind}
 use Rattle.arm_decode.specs.declared.parts.ShiftKind.TheVariants.{Lsl, Lsr, Asr, Ror}
 use Rattle.arm_decode.specs.declared.parts.Operand as operands

@@ -1,10 +1,10 @@
 //! Branches, BX and SWI.
 ghost use Rattle.std.specs.Prelude.{◌≡◌, IfOk};
-ghost use Rattle.bilv_spec.specs.Arm as rows;
-ghost use Rattle.bilv_spec.specs.Arm.{arm};
-ghost use Rattle.bilv_spec.specs.Memory as memory;
-ghost use Rattle.bilv_spec.specs.Bil.{RRegisters};
-ghost use Rattle.bilv_spec.specs.MachineLaws.{IsLifting};
+ghost use Rattle.machine_spec.specs.Arm as rows;
+ghost use Rattle.machine_spec.specs.Arm.{arm};
+ghost use Rattle.word_spec.specs.Memory as memory;
+ghost use Rattle.machine_spec.specs.Bil.{RRegisters};
+ghost use Rattle.machine_spec.specs.MachineLaws.{IsLifting};
 ghost use Rattle.bil_ast.specs.Views.{statements};
 ghost use Rattle.arm_lift_alu.specs.Lifted as lifts;
 

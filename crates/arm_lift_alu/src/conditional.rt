@@ -1,6 +1,6 @@
 //! Lists under a condition, which are shared by every class.
 ghost use Rattle.std.specs.Prelude.{◌≡◌, IfOk, OnOk};
-ghost use Rattle.bilv_spec.specs.Bil as bil;
+ghost use Rattle.machine_spec.specs.Bil as bil;
 ghost use Rattle.bil_ast.specs.Views.{statement, statements};
 ghost use Rattle.arm_lift_alu.specs.Before.{before};
 ghost use Rattle.arm_lift_alu.specs.Lifted as lifts;

@@ -1,11 +1,11 @@
 //! Data processing (section A3.4).
 ghost use Rattle.std.specs.Prelude.{◌≡◌, not, true, false, IfOk, OnOk};
-ghost use Rattle.bilv_spec.specs.Arm as rows;
-ghost use Rattle.bilv_spec.specs.Arm.{arm};
-ghost use Rattle.bilv_spec.specs.Memory as memory;
-ghost use Rattle.bilv_spec.specs.Bil as bil;
-ghost use Rattle.bilv_spec.specs.Bil.{RRegisters};
-ghost use Rattle.bilv_spec.specs.MachineLaws.{IsLifting};
+ghost use Rattle.machine_spec.specs.Arm as rows;
+ghost use Rattle.machine_spec.specs.Arm.{arm};
+ghost use Rattle.word_spec.specs.Memory as memory;
+ghost use Rattle.machine_spec.specs.Bil as bil;
+ghost use Rattle.machine_spec.specs.Bil.{RRegisters};
+ghost use Rattle.machine_spec.specs.MachineLaws.{IsLifting};
 ghost use Rattle.bil_ast.specs.Views.{cast_of, expression, statements};
 ghost use Rattle.arm_lift_alu.specs.Before.{before};
 ghost use Rattle.arm_lift_alu.specs.Operands as parts;

@@ -1,6 +1,6 @@
 //! The expressions of lifted instructions.
 ghost use Rattle.std.specs.Prelude.{◌≡◌, IfOk};
-ghost use Rattle.bilv_spec.specs.Bil as bil;
+ghost use Rattle.machine_spec.specs.Bil as bil;
 ghost use Rattle.bil_ast.specs.Views.{binary_of, expression};
 ghost use Rattle.arm_lift_alu.specs.Lifted as lifts;
 

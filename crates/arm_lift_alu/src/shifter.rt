@@ -1,7 +1,7 @@
 //! The operands of data processing, and the carry out of their shifts (section A5.1).
 ghost use Rattle.std.specs.Prelude.{◌≡◌, ◌≢◌, ◌<◌, ◌≤◌, ◌*◌, ◌==◌, IfOk};
-ghost use Rattle.bilv_spec.specs.Bil as bil;
-ghost use Rattle.bilv_spec.specs.Words as words;
+ghost use Rattle.machine_spec.specs.Bil as bil;
+ghost use Rattle.word_spec.specs.Words as words;
 ghost use Rattle.bil_ast.specs.Views.{binary_of, cast_of, expression};
 ghost use Rattle.arm_lift_alu.specs.Operands as lifts;
 ghost use Rattle.arm_lift_alu.specs.Lifted as lists;

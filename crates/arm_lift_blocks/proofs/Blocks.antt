@@ -2,11 +2,11 @@
 use Rattle.std.proofs.Common.{◌≡◌, ℕ, ◌-◌, ◌*◌, ◌<◌, ◌≤◌, Bool, true, false, refl, ap, sym, ◌∙◌, arith, List, length, Option, Some, None}
 use Rattle.std.specs.Prelude.{◌==◌, if◌then◌else◌}
 use Rattle.std.proofs.lemmas.Bool.{ne_eqb}
-use Rattle.bilv_spec.specs.Words.{add, sub, aligned}
-use Rattle.bilv_spec.specs.Memory.{Endian, Memory, load}
-use Rattle.bilv_spec.specs.State.{State, put}
-use Rattle.bilv_spec.specs.Arm.{reg, has_bit, is_up, is_pre, bit_w, field_n, listed, load_all, store_all, block_start, block_base, block_loaded, block_done}
-use Rattle.bilv_spec.specs.Simulation.{Locals, position, of_list, of_row, Finished, Simulates}
+use Rattle.word_spec.specs.Words.{add, sub, aligned}
+use Rattle.word_spec.specs.Memory.{Endian, Memory, load}
+use Rattle.word_spec.specs.State.{State, put}
+use Rattle.machine_spec.specs.Arm.{reg, has_bit, is_up, is_pre, bit_w, field_n, listed, load_all, store_all, block_start, block_base, block_loaded, block_done}
+use Rattle.machine_spec.specs.Simulation.{Locals, position, of_list, of_row, Finished, Simulates}
 use Rattle.arm_lift_blocks.specs.Lifted as lifts
 use Rattle.arm_lift_blocks.proofs.Numbers.{first_up, first_down}
 use Rattle.arm_lift_blocks.proofs.LoadedRegisters.{load_others, base_of, base_kept, all_loaded, all_written, put_kept, value_at, base_placed}

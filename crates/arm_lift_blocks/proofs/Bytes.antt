@@ -1,15 +1,15 @@
 -- The bytes that the list of STM stores.
 use Rattle.std.proofs.Common.{◌≡◌, ℕ, suc, ◌*◌, ◌^◌, ◌<◌, Bool, true, false, refl, ap, ◌∙◌, arith, List, [], ◌∷◌, ◌++◌, length, Option}
 use Rattle.std.specs.Prelude.{◌==◌}
-use Rattle.bilv_spec.specs.Words.{add, aligned}
-use Rattle.bilv_spec.specs.Memory.{Endian, Memory, store, span}
-use Rattle.bilv_spec.specs.State.{State}
-use Rattle.bilv_spec.specs.Arm.{stored_reg}
-use Rattle.bilv_spec.specs.Bil as bil
-use Rattle.bilv_spec.specs.Bil.{Statements}
-use Rattle.bilv_spec.specs.BilMeaning.{Value, Word, Bytes, Env, Position, assign, assigned, store_to, evaluate}
-use Rattle.bilv_spec.specs.BilStores.{bytes_at, stored_by, then_stored, list_stored}
-use Rattle.bilv_spec.specs.Simulation.{Locals, env_of, position}
+use Rattle.word_spec.specs.Words.{add, aligned}
+use Rattle.word_spec.specs.Memory.{Endian, Memory, store, span}
+use Rattle.word_spec.specs.State.{State}
+use Rattle.machine_spec.specs.Arm.{stored_reg}
+use Rattle.machine_spec.specs.Bil as bil
+use Rattle.machine_spec.specs.Bil.{Statements}
+use Rattle.machine_spec.specs.BilMeaning.{Value, Word, Bytes, Env, Position, assign, assigned, store_to, evaluate}
+use Rattle.machine_spec.specs.BilStores.{bytes_at, stored_by, then_stored, list_stored}
+use Rattle.machine_spec.specs.Simulation.{Locals, env_of, position}
 use Rattle.arm_lift_alu.proofs.Plain.{nothing_chosen}
 use Rattle.arm_lift_blocks.specs.Lifted as lifts
 use Rattle.arm_lift_blocks.proofs.Numbers.{address_is}

@@ -5,16 +5,17 @@ use Rattle.std.specs.declared.alloc.AllocError.{AllocError}
 use Rattle.std.proofs.Math.Nat.{div-one}
 use Rattle.std.proofs.Math.Pow.{mod-mod-pow}
 use Rattle.std.proofs.lemmas.Nat.{field_of}
-use Rattle.bilv_spec.specs.Words.{bits}
-use Rattle.bilv_spec.specs.Memory.{Endian, span}
-use Rattle.bilv_spec.specs.State.{State, IsState}
-use Rattle.bilv_spec.specs.Machine.{Row, addresses}
-use Rattle.bilv_spec.specs.Arm as rows
-use Rattle.bilv_spec.specs.Arm.{Profile, V4, arm, has_bit, is_load, is_up, is_pre, bit_w, field_n, listed, listed_from, condition_code, may_write_pc, block_start, block_done, holds, none, when_stored}
-use Rattle.bilv_spec.specs.Bil.{RRegisters, Statements}
-use Rattle.bilv_spec.specs.BilStores.{list_stored}
-use Rattle.bilv_spec.specs.Simulation.{Locals, position}
-use Rattle.bilv_spec.specs.MachineLaws.{IsLifting}
+use Rattle.word_spec.specs.Words.{bits}
+use Rattle.word_spec.specs.Memory.{Endian, span}
+use Rattle.word_spec.specs.State.{State, IsState}
+use Rattle.machine_spec.specs.Machine.{Row, addresses}
+use Rattle.machine_spec.specs.Arm as rows
+use Rattle.word_spec.specs.Profiles.{Profile, V4}
+use Rattle.machine_spec.specs.Arm.{arm, has_bit, is_load, is_up, is_pre, bit_w, field_n, listed, listed_from, condition_code, may_write_pc, block_start, block_done, holds, none, when_stored}
+use Rattle.machine_spec.specs.Bil.{RRegisters, Statements}
+use Rattle.machine_spec.specs.BilStores.{list_stored}
+use Rattle.machine_spec.specs.Simulation.{Locals, position}
+use Rattle.machine_spec.specs.MachineLaws.{IsLifting}
 use Rattle.bil_ast.specs.Views.{statements}
 use Rattle.bil_ast.specs.declared.statements.Stmt.{Stmt}
 use Rattle.arm_decode.specs.declared.parts.Condition.{Condition}

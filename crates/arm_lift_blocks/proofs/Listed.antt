@@ -2,9 +2,9 @@
 use Rattle.std.proofs.Common.{◌≡◌, ◌⊎◌, ℕ, zero, suc, ◌+◌, ◌-◌, ◌*◌, ◌^◌, ◌<◌, ◌≤◌, Bool, true, false, refl, ap, sym, ◌∙◌, arith, List, ◌∷◌, length, Option, Some, inl, inr}
 use Rattle.std.specs.Prelude.{◌==◌}
 use Rattle.std.proofs.lemmas.Bool.{eq-eqb, ne_eqb, cases_eq}
-use Rattle.bilv_spec.specs.Words.{add}
-use Rattle.bilv_spec.specs.Memory.{Endian, Memory, load}
-use Rattle.bilv_spec.specs.Arm.{has_bit, listed_from}
+use Rattle.word_spec.specs.Words.{add}
+use Rattle.word_spec.specs.Memory.{Endian, Memory, load}
+use Rattle.machine_spec.specs.Arm.{has_bit, listed_from}
 use Rattle.arm_lift_blocks.proofs.Runs.{one_jump, jump_by}
 use Rattle.arm_lift_blocks.proofs.Parts.{AreRegisters, drawn}
 

@@ -3,10 +3,10 @@ use Rattle.std.proofs.Common.{◌≡◌, ℕ, Bool, true, false, refl, ap, sym, 
 use Rattle.std.specs.Prelude.{◌==◌, if◌then◌else◌}
 use Rattle.std.proofs.lemmas.Bool.{cases_eq, eq-eqb, ne_eqb}
 use Rattle.std.proofs.Math.Path.{fun_ext}
-use Rattle.bilv_spec.specs.Words.{add}
-use Rattle.bilv_spec.specs.Memory.{Endian, Memory, load}
-use Rattle.bilv_spec.specs.State.{put}
-use Rattle.bilv_spec.specs.Arm.{load_all}
+use Rattle.word_spec.specs.Words.{add}
+use Rattle.word_spec.specs.Memory.{Endian, Memory, load}
+use Rattle.word_spec.specs.State.{put}
+use Rattle.machine_spec.specs.Arm.{load_all}
 use Rattle.arm_lift_blocks.specs.Lifted as lifts
 use Rattle.arm_lift_blocks.proofs.Numbers.{next_word}
 

@@ -2,9 +2,9 @@
 use Rattle.std.proofs.Common.{◌≡◌, ℕ, zero, suc, ◌/◌, ◌%◌, ◌^◌, ◌<◌, ◌≤◌, refl, ap, ◌∙◌, arith, bit_and}
 use Rattle.std.specs.Prelude.{◌==◌, if◌then◌else◌}
 use Rattle.std.proofs.lemmas.Nat.Bits.{and_high_mask}
-use Rattle.bilv_spec.specs.Words.{add, sub, aligned}
-use Rattle.bilv_spec.specs.Arm.{has_bit}
-use Rattle.bilv_spec.specs.BilMeaning.{Word, choose}
+use Rattle.word_spec.specs.Words.{add, sub, aligned}
+use Rattle.machine_spec.specs.Arm.{has_bit}
+use Rattle.machine_spec.specs.BilMeaning.{Word, choose}
 
 -- the multiple of 4 below a word
 masked : (x : ℕ) → x < 2 ^ 32 → bit_and x 0xfffffffc ≡ aligned x

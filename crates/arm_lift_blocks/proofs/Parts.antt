@@ -2,11 +2,11 @@
 use Rattle.std.proofs.Common.{◌≡◌, ℕ, ◌+◌, ◌*◌, ◌^◌, ◌<◌, ◌≤◌, Bool, true, false, refl, arith, List, [], ◌∷◌, length, Option, Some, None, inl, inr}
 use Rattle.std.specs.Prelude.{◌==◌, if◌then◌else◌}
 use Rattle.std.proofs.lemmas.Bool.{eq-eqb, cases_eq}
-use Rattle.bilv_spec.specs.Words.{add}
-use Rattle.bilv_spec.specs.Memory.{Endian}
-use Rattle.bilv_spec.specs.Arm.{none}
-use Rattle.bilv_spec.specs.Bil.{Statements, Empty, Assign}
-use Rattle.bilv_spec.specs.Bil as bil
+use Rattle.word_spec.specs.Words.{add}
+use Rattle.word_spec.specs.Memory.{Endian}
+use Rattle.machine_spec.specs.Arm.{none}
+use Rattle.machine_spec.specs.Bil.{Statements, Empty, Assign}
+use Rattle.machine_spec.specs.Bil as bil
 use Rattle.arm_lift_alu.proofs.Plain.{IsPlain, number_plain, own_register, binary_plain}
 use Rattle.arm_lift_alu.proofs.Fetches.{IsFetch, fetch, roomier, load_fetch, choice_fetch, unknown_fetch}
 use Rattle.arm_lift_alu.proofs.Accesses.{IsAccess, empty_access, spare, register_access, jump_access, store_access}

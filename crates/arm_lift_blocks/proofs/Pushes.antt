@@ -1,9 +1,9 @@
 -- The loops over the registers of a list, one register more.
 use Rattle.std.proofs.Common.{◌≡◌, ℕ, suc, ◌+◌, ◌-◌, ◌<◌, ◌≤◌, true, false, refl, ap, sym, ◌∙◌, arith, List, [], ◌∷◌, length, Option, Some}
 use Rattle.std.specs.Prelude.{◌==◌, if◌then◌else◌}
-use Rattle.bilv_spec.specs.Words.{add}
-use Rattle.bilv_spec.specs.Arm.{has_bit, listed_from}
-use Rattle.bilv_spec.specs.Bil.{Statements}
+use Rattle.word_spec.specs.Words.{add}
+use Rattle.machine_spec.specs.Arm.{has_bit, listed_from}
+use Rattle.machine_spec.specs.Bil.{Statements}
 use Rattle.bil_ast.specs.declared.statements.Stmt.{Stmt}
 use Rattle.arm_lift_alu.specs.Before.{before}
 use Rattle.arm_lift_blocks.specs.Lifted as lifts

@@ -1,14 +1,14 @@
 -- What the lists of LDM and STM do.
 use Rattle.std.proofs.Common.{◌≡◌, ℕ, ◌^◌, ◌<◌, Bool, true, false, refl, ap, sym, ◌∙◌, List, [], ◌∷◌, Option, Some, None}
 use Rattle.std.specs.Prelude.{◌==◌, if◌then◌else◌}
-use Rattle.bilv_spec.specs.Words.{add, sub, aligned}
-use Rattle.bilv_spec.specs.Memory.{Endian, Memory, load, store}
-use Rattle.bilv_spec.specs.State.{State, put}
-use Rattle.bilv_spec.specs.Arm.{has_bit, stored_reg, store_all}
-use Rattle.bilv_spec.specs.Bil as bil
-use Rattle.bilv_spec.specs.Bil.{Statements}
-use Rattle.bilv_spec.specs.BilMeaning.{Value, Word, Bytes, Ending, Ends, assign, assigned, store_to, then_do, evaluate, execute}
-use Rattle.bilv_spec.specs.Simulation.{Locals, env_of, position}
+use Rattle.word_spec.specs.Words.{add, sub, aligned}
+use Rattle.word_spec.specs.Memory.{Endian, Memory, load, store}
+use Rattle.word_spec.specs.State.{State, put}
+use Rattle.machine_spec.specs.Arm.{has_bit, stored_reg, store_all}
+use Rattle.machine_spec.specs.Bil as bil
+use Rattle.machine_spec.specs.Bil.{Statements}
+use Rattle.machine_spec.specs.BilMeaning.{Value, Word, Bytes, Ending, Ends, assign, assigned, store_to, then_do, evaluate, execute}
+use Rattle.machine_spec.specs.Simulation.{Locals, env_of, position}
 use Rattle.arm_lift_blocks.specs.Lifted as lifts
 use Rattle.arm_lift_blocks.proofs.Numbers.{address_is, next_word, picked}
 use Rattle.arm_lift_blocks.proofs.LoadedRegisters.{one_put, load_others, one_kept}

@@ -1,9 +1,9 @@
 -- The lists of LDM and STM (section A3.12), from the registers that they name.
 use Rattle.std.specs.Prelude.{ℕ, ◌-◌, ◌*◌, Bool, true, false, List, [], ◌∷◌, Option, Some, None, ◌==◌, if◌then◌else◌, length}
-use Rattle.bilv_spec.specs.Words.{add, sub}
-use Rattle.bilv_spec.specs.Memory.{Endian}
-use Rattle.bilv_spec.specs.Bil as bil
-use Rattle.bilv_spec.specs.Bil.{Bits, RRegisters, Expression, Var, Constant, Load, Store, Binary, Unknown, Choose, Statements, Empty, Assign, JumpTo}
+use Rattle.word_spec.specs.Words.{add, sub}
+use Rattle.word_spec.specs.Memory.{Endian}
+use Rattle.machine_spec.specs.Bil as bil
+use Rattle.machine_spec.specs.Bil.{Bits, RRegisters, Expression, Var, Constant, Load, Store, Binary, Unknown, Choose, Statements, Empty, Assign, JumpTo}
 use Rattle.arm_lift_alu.specs.Lifted.{number}
 
 -- a register, as a variable

@@ -1,9 +1,9 @@
 //! The lists of LDM and STM (section A3.12).
 ghost use Rattle.std.specs.Prelude.{ℕ, ◌≡◌, ◌≤◌, true, false, IfOk};
-ghost use Rattle.bilv_spec.specs.Arm as rows;
-ghost use Rattle.bilv_spec.specs.Arm.{arm, listed_from};
-ghost use Rattle.bilv_spec.specs.Bil.{RRegisters};
-ghost use Rattle.bilv_spec.specs.MachineLaws.{IsLifting};
+ghost use Rattle.machine_spec.specs.Arm as rows;
+ghost use Rattle.machine_spec.specs.Arm.{arm, listed_from};
+ghost use Rattle.machine_spec.specs.Bil.{RRegisters};
+ghost use Rattle.machine_spec.specs.MachineLaws.{IsLifting};
 ghost use Rattle.bil_ast.specs.Views.{statements};
 ghost use Rattle.byte_mem.specs.Views.{endian_of};
 ghost use Rattle.arm_lift_blocks.specs.Lifted as lifts;

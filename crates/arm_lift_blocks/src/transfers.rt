@@ -1,7 +1,7 @@
 //! The registers of a list, one after the other.
 ghost use Rattle.std.specs.Prelude.{◌≡◌, ◌≤◌, ◌==◌, length, None, IfOk, OnOk, if◌then◌else◌, Some};
-ghost use Rattle.bilv_spec.specs.Arm.{listed_from};
-ghost use Rattle.bilv_spec.specs.Bil as bil;
+ghost use Rattle.machine_spec.specs.Arm.{listed_from};
+ghost use Rattle.machine_spec.specs.Bil as bil;
 ghost use Rattle.byte_mem.specs.Views.{endian_of};
 ghost use Rattle.arm_lift_alu.specs.Before.{before};
 ghost use Rattle.arm_lift_blocks.specs.Lifted as lifts;

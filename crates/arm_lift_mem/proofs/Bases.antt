@@ -3,16 +3,16 @@ use Rattle.std.proofs.Common.{◌≡◌, ℕ, ◌^◌, ◌<◌, Bool, true, fals
 use Rattle.std.specs.Prelude.{◌==◌}
 use Rattle.std.proofs.lemmas.Bool.{ne_eqb}
 use Rattle.std.proofs.lemmas.Bool.Decides.{nat_tests}
-use Rattle.bilv_spec.specs.Words.{add}
-use Rattle.bilv_spec.specs.State.{State, IsState, put}
-use Rattle.bilv_spec.specs.Arm as rows
-use Rattle.bilv_spec.specs.Arm.{reg, is_up, is_pre, writes_back, base_written, field_n}
-use Rattle.bilv_spec.specs.Bil.{RRegisters, Expression, Statements}
-use Rattle.bilv_spec.specs.Bil as bil
-use Rattle.bilv_spec.specs.BilMeaning.{execute}
-use Rattle.bilv_spec.specs.BilStores.{list_stored, stored_by}
-use Rattle.bilv_spec.specs.Simulation.{Locals, env_of, position}
-use Rattle.bilv_spec.proofs.ArmRanges.{reg_small, base_small, moved_small}
+use Rattle.word_spec.specs.Words.{add}
+use Rattle.word_spec.specs.State.{State, IsState, put}
+use Rattle.machine_spec.specs.Arm as rows
+use Rattle.machine_spec.specs.Arm.{reg, is_up, is_pre, writes_back, base_written, field_n}
+use Rattle.machine_spec.specs.Bil.{RRegisters, Expression, Statements}
+use Rattle.machine_spec.specs.Bil as bil
+use Rattle.machine_spec.specs.BilMeaning.{execute}
+use Rattle.machine_spec.specs.BilStores.{list_stored, stored_by}
+use Rattle.machine_spec.specs.Simulation.{Locals, env_of, position}
+use Rattle.machine_spec.proofs.ArmRanges.{reg_small, base_small, moved_small}
 use Rattle.arm_decode.specs.declared.parts.Indexing.{Indexing}
 use Rattle.arm_decode.specs.declared.parts.Indexing.TheVariants as indexing
 use Rattle.arm_decode.specs.Parts.{HasIndexing}

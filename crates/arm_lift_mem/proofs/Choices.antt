@@ -3,11 +3,11 @@ use Rattle.std.proofs.Common.{◌≡◌, ◌≢◌, ℕ, ◌*◌, ◌%◌, true,
 use Rattle.std.specs.Prelude.{◌==◌}
 use Rattle.std.specs.List.{insert}
 use Rattle.std.proofs.lemmas.Bool.{ne_eqb, eq-eqb}
-use Rattle.bilv_spec.specs.Words as words
-use Rattle.bilv_spec.specs.Words.{add}
-use Rattle.bilv_spec.specs.Memory.{Endian}
-use Rattle.bilv_spec.specs.Bil.{RRegisters, Bits, Mem, Var, Constant, Load, Unknown, Choose, Empty, Assign, JumpTo, Raise}
-use Rattle.bilv_spec.specs.Bil as bil
+use Rattle.word_spec.specs.Words as words
+use Rattle.word_spec.specs.Words.{add}
+use Rattle.word_spec.specs.Memory.{Endian}
+use Rattle.machine_spec.specs.Bil.{RRegisters, Bits, Mem, Var, Constant, Load, Unknown, Choose, Empty, Assign, JumpTo, Raise}
+use Rattle.machine_spec.specs.Bil as bil
 use Rattle.bil_ast.specs.Views.{statement, statements}
 use Rattle.bil_ast.specs.declared.statements.Stmt.{Stmt}
 use Rattle.arm_decode.specs.declared.forms.TransferFields.{TransferFields}

@@ -2,8 +2,8 @@
 use Rattle.std.proofs.Common.{◌≡◌, ℕ, ◌%◌, ◌<◌, Bool, true, false, not, ◌&&◌, ◌||◌, refl, ap, arith}
 use Rattle.std.specs.Prelude.{◌==◌}
 use Rattle.std.proofs.lemmas.Bool.Decides.{nat_tests}
-use Rattle.bilv_spec.specs.Words.{bits}
-use Rattle.bilv_spec.specs.Arm.{field_n, field_d, field_m, bit_i, bit_w, is_pre, is_byte, has_offset, writes_back, is_bad_base, is_transfer, is_halfword, is_swap}
+use Rattle.word_spec.specs.Words.{bits}
+use Rattle.machine_spec.specs.Arm.{field_n, field_d, field_m, bit_i, bit_w, is_pre, is_byte, has_offset, writes_back, is_bad_base, is_transfer, is_halfword, is_swap}
 
 left : (a b : Bool) → (a && b) ≡ true → a ≡ true
 left true b h = refl

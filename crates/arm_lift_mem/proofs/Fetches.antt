@@ -1,10 +1,10 @@
 -- What is said of a word that is loaded and rotated, without its value.
 use Rattle.std.proofs.Common.{◌≡◌, ℕ, ◌+◌, Bool, true, false, ◌&&◌, ◌||◌, refl, arith, List, [], Option, Some, None}
-use Rattle.bilv_spec.specs.Memory.{Endian}
-use Rattle.bilv_spec.specs.Bil.{BilVariable, Mem, Local, Expression, Var, Constant, Load, Store, Binary, Unary, Cast, Let, Unknown, Choose, Extract, Concat}
-use Rattle.bilv_spec.specs.BilMeaning.{Env, assign, evaluate}
-use Rattle.bilv_spec.specs.BilCounts.{names_only, is_local}
-use Rattle.bilv_spec.specs.BilStores.{stored_in}
+use Rattle.word_spec.specs.Memory.{Endian}
+use Rattle.machine_spec.specs.Bil.{BilVariable, Mem, Local, Expression, Var, Constant, Load, Store, Binary, Unary, Cast, Let, Unknown, Choose, Extract, Concat}
+use Rattle.machine_spec.specs.BilMeaning.{Env, assign, evaluate}
+use Rattle.machine_spec.specs.BilCounts.{names_only, is_local}
+use Rattle.machine_spec.specs.BilStores.{stored_in}
 use Rattle.arm_lift_alu.proofs.Plain.{own, IsPlain}
 use Rattle.arm_lift_alu.proofs.Fetches.{IsFetch}
 use Rattle.arm_lift_mem.specs.Accesses.{word}

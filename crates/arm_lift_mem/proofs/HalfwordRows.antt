@@ -1,20 +1,21 @@
 -- The lists of LDRH, STRH, LDRSB and LDRSH are liftings of their rows.
 use Rattle.std.proofs.Common.{◌≡◌, ℕ, zero, suc, ◌+◌, ◌/◌, ◌%◌, ◌^◌, ◌<◌, ◌≤◌, Bool, true, false, not, ◌&&◌, refl, ap, sym, subst, ◌∙◌, arith, [], ◌++◌, append-nil, Some, None, if◌then◌else◌}
 use Rattle.std.specs.Prelude.{◌==◌}
-use Rattle.bilv_spec.specs.Words.{sign_extend}
-use Rattle.bilv_spec.specs.Memory.{Endian, Memory, load, store}
-use Rattle.bilv_spec.specs.State.{State, IsState, put}
-use Rattle.bilv_spec.specs.Machine.{Outcome, Raises, OddHalfword, addresses}
-use Rattle.bilv_spec.specs.Arm as rows
-use Rattle.bilv_spec.specs.Arm.{V4, arm, reg, on, field_d, is_load, is_halfword, writes_back, base_written, halfword_size, halfword_value, halfword_by, halfword_done, halfword_address, halfword_offset, halfword, condition_code, holds, when_stored, none}
-use Rattle.bilv_spec.specs.Bil.{RRegisters, Mem, CastKind, Expression, Var, Load, Store, Cast, Statements, Empty, Assign}
-use Rattle.bilv_spec.specs.Bil as bil
-use Rattle.bilv_spec.specs.BilMeaning.{Word, Bytes, Position, Ends, RaisesException, branch_on, then_do, evaluate, execute}
-use Rattle.bilv_spec.specs.BilTyping.{cast_fits}
-use Rattle.bilv_spec.specs.BilStores.{list_stored, then_stored, chosen}
-use Rattle.bilv_spec.specs.Simulation.{Locals, env_of, position, of_list, of_row, Simulates}
-use Rattle.bilv_spec.specs.MachineLaws.{IsLifting}
-use Rattle.bilv_spec.proofs.ArmRanges.{reg_small}
+use Rattle.word_spec.specs.Words.{sign_extend}
+use Rattle.word_spec.specs.Memory.{Endian, Memory, load, store}
+use Rattle.word_spec.specs.State.{State, IsState, put}
+use Rattle.machine_spec.specs.Machine.{Outcome, Raises, OddHalfword, addresses}
+use Rattle.machine_spec.specs.Arm as rows
+use Rattle.word_spec.specs.Profiles.{V4}
+use Rattle.machine_spec.specs.Arm.{arm, reg, on, field_d, is_load, is_halfword, writes_back, base_written, halfword_size, halfword_value, halfword_by, halfword_done, halfword_address, halfword_offset, halfword, condition_code, holds, when_stored, none}
+use Rattle.machine_spec.specs.Bil.{RRegisters, Mem, CastKind, Expression, Var, Load, Store, Cast, Statements, Empty, Assign}
+use Rattle.machine_spec.specs.Bil as bil
+use Rattle.machine_spec.specs.BilMeaning.{Word, Bytes, Position, Ends, RaisesException, branch_on, then_do, evaluate, execute}
+use Rattle.machine_spec.specs.BilTyping.{cast_fits}
+use Rattle.machine_spec.specs.BilStores.{list_stored, then_stored, chosen}
+use Rattle.machine_spec.specs.Simulation.{Locals, env_of, position, of_list, of_row, Simulates}
+use Rattle.machine_spec.specs.MachineLaws.{IsLifting}
+use Rattle.machine_spec.proofs.ArmRanges.{reg_small}
 use Rattle.byte_mem.proofs.Numbers.{store_cut}
 use Rattle.arm_decode.specs.declared.parts.Condition.{Condition}
 use Rattle.arm_decode.specs.declared.parts.Indexing.{Indexing}

@@ -3,19 +3,20 @@ use Rattle.std.proofs.Common.{◌≡◌, ℕ, ◌+◌, ◌*◌, ◌%◌, ◌^◌
 use Rattle.std.specs.Prelude.{◌==◌, nat_lt}
 use Rattle.std.proofs.lemmas.Bool.{eqb-true}
 use Rattle.std.proofs.lemmas.Bool.Decides.{nat_tests}
-use Rattle.bilv_spec.specs.Words as words
-use Rattle.bilv_spec.specs.Words.{add, bits}
-use Rattle.bilv_spec.specs.Memory.{Endian, Little, Big}
-use Rattle.bilv_spec.specs.State.{State, put, with_pc}
-use Rattle.bilv_spec.specs.Machine.{Goes, Indirect}
-use Rattle.bilv_spec.specs.Arm as rows
-use Rattle.bilv_spec.specs.Arm.{V4, arm, reg, on, field_n, field_d, bit_i, is_load, is_byte, is_up, is_transfer, writes_back, base_written, load_by, load_word, access_of, transferred, loaded_by, write_by, transfer_address, transfer_offset, single_transfer, literal_address, condition_code, holds}
-use Rattle.bilv_spec.specs.Bil.{RRegisters, Mem, Var, Constant, Load, Statements, Empty, Assign, JumpTo}
-use Rattle.bilv_spec.specs.Bil as bil
-use Rattle.bilv_spec.specs.BilMeaning.{assign, assigned, then_do, execute}
-use Rattle.bilv_spec.specs.BilCounts.{other_loads, byte_stores, same_order}
-use Rattle.bilv_spec.specs.Simulation.{env_of, position, of_list, of_row, Simulates}
-use Rattle.bilv_spec.specs.MachineLaws.{IsLifting}
+use Rattle.word_spec.specs.Words as words
+use Rattle.word_spec.specs.Words.{add, bits}
+use Rattle.word_spec.specs.Memory.{Endian, Little, Big}
+use Rattle.word_spec.specs.State.{State, put, with_pc}
+use Rattle.machine_spec.specs.Machine.{Goes, Indirect}
+use Rattle.machine_spec.specs.Arm as rows
+use Rattle.word_spec.specs.Profiles.{V4}
+use Rattle.machine_spec.specs.Arm.{arm, reg, on, field_n, field_d, bit_i, is_load, is_byte, is_up, is_transfer, writes_back, base_written, load_by, load_word, access_of, transferred, loaded_by, write_by, transfer_address, transfer_offset, single_transfer, literal_address, condition_code, holds}
+use Rattle.machine_spec.specs.Bil.{RRegisters, Mem, Var, Constant, Load, Statements, Empty, Assign, JumpTo}
+use Rattle.machine_spec.specs.Bil as bil
+use Rattle.machine_spec.specs.BilMeaning.{assign, assigned, then_do, execute}
+use Rattle.machine_spec.specs.BilCounts.{other_loads, byte_stores, same_order}
+use Rattle.machine_spec.specs.Simulation.{env_of, position, of_list, of_row, Simulates}
+use Rattle.machine_spec.specs.MachineLaws.{IsLifting}
 use Rattle.arm_decode.specs.declared.parts.Condition.{Condition}
 use Rattle.arm_decode.specs.declared.parts.Indexing.{Indexing}
 use Rattle.arm_decode.specs.declared.parts.Indexing.TheVariants as indexing

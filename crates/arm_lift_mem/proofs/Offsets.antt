@@ -2,11 +2,11 @@
 use Rattle.std.proofs.Common.{◌≡◌, ℕ, ◌+◌, ◌*◌, ◌^◌, ◌<◌, Bool, true, false, ◌&&◌, refl, ap, sym, subst, ◌∙◌, arith, if◌then◌else◌}
 use Rattle.std.proofs.lemmas.Bool.Decides.{nat_tests}
 use Rattle.std.specs.Prelude.{◌==◌}
-use Rattle.bilv_spec.specs.Words.{bits}
-use Rattle.bilv_spec.specs.State.{State, IsState, flag_c}
-use Rattle.bilv_spec.specs.Arm as rows
-use Rattle.bilv_spec.specs.Arm.{reg, bit_i, has_offset, field_m, field_s, kind_of, amount_of, flag_set, is_transfer, is_halfword, transfer_offset, halfword_offset, none}
-use Rattle.bilv_spec.proofs.ArmRanges.{reg_small}
+use Rattle.word_spec.specs.Words.{bits}
+use Rattle.word_spec.specs.State.{State, IsState, flag_c}
+use Rattle.machine_spec.specs.Arm as rows
+use Rattle.machine_spec.specs.Arm.{reg, bit_i, has_offset, field_m, field_s, kind_of, amount_of, flag_set, is_transfer, is_halfword, transfer_offset, halfword_offset, none}
+use Rattle.machine_spec.proofs.ArmRanges.{reg_small}
 use Rattle.arm_decode.specs.declared.parts.ShiftKind.{ShiftKind}
 use Rattle.arm_decode.specs.declared.parts.ShiftKind.TheVariants.{Lsl, Lsr, Asr, Ror}
 use Rattle.arm_decode.specs.declared.register.Register.{Register}

@@ -1,12 +1,12 @@
 -- What is said of addresses, of what is loaded and stored, and of the write-back, without their values.
 use Rattle.std.proofs.Common.{◌≡◌, ℕ, ◌+◌, ◌<◌, ◌≤◌, Bool, true, false, refl, arith}
-use Rattle.bilv_spec.specs.Memory.{Endian}
-use Rattle.bilv_spec.specs.Bil.{RRegisters, Mem, Expression, Statements, Assign}
-use Rattle.bilv_spec.specs.Bil as bil
-use Rattle.bilv_spec.specs.BilMeaning.{evaluate}
-use Rattle.bilv_spec.specs.BilCounts.{reads_flag}
-use Rattle.bilv_spec.specs.BilStores.{list_stored}
-use Rattle.bilv_spec.specs.Arm.{writes_back}
+use Rattle.word_spec.specs.Memory.{Endian}
+use Rattle.machine_spec.specs.Bil.{RRegisters, Mem, Expression, Statements, Assign}
+use Rattle.machine_spec.specs.Bil as bil
+use Rattle.machine_spec.specs.BilMeaning.{evaluate}
+use Rattle.machine_spec.specs.BilCounts.{reads_flag}
+use Rattle.machine_spec.specs.BilStores.{list_stored}
+use Rattle.machine_spec.specs.Arm.{writes_back}
 use Rattle.arm_decode.specs.declared.parts.Indexing.{Indexing}
 use Rattle.arm_decode.specs.declared.parts.Indexing.TheVariants as indexing
 use Rattle.arm_decode.specs.Parts.{HasIndexing}

@@ -3,11 +3,12 @@ use Rattle.std.proofs.Common.{◌≡◌, ℕ, sym, subst, ap, ◌∙◌, IfOk, R
 use Rattle.std.specs.declared.alloc.AllocError.{AllocError}
 use Rattle.bil_ast.specs.Views.{statements}
 use Rattle.bil_ast.specs.declared.statements.Stmt.{Stmt}
-use Rattle.bilv_spec.specs.Memory.{Endian}
-use Rattle.bilv_spec.specs.Machine.{Row}
-use Rattle.bilv_spec.specs.Arm.{Profile, V4, arm}
-use Rattle.bilv_spec.specs.Bil.{RRegisters, Statements}
-use Rattle.bilv_spec.specs.MachineLaws.{IsLifting}
+use Rattle.word_spec.specs.Memory.{Endian}
+use Rattle.machine_spec.specs.Machine.{Row}
+use Rattle.word_spec.specs.Profiles.{Profile, V4}
+use Rattle.machine_spec.specs.Arm.{arm}
+use Rattle.machine_spec.specs.Bil.{RRegisters, Statements}
+use Rattle.machine_spec.specs.MachineLaws.{IsLifting}
 use Rattle.arm_decode.specs.declared.parts.Condition.{Condition}
 use Rattle.arm_lift_alu.specs.Lifted.{conditional}
 use Rattle.arm_lift_alu.proofs.Profiles.{in_profile}

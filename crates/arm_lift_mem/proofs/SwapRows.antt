@@ -4,19 +4,20 @@ use Rattle.std.specs.Prelude.{◌==◌, nat_lt}
 use Rattle.std.proofs.lemmas.Bool.{eqb-true}
 use Rattle.std.proofs.lemmas.Bool.Decides.{nat_tests}
 use Rattle.std.proofs.Math.Path.{fun_ext}
-use Rattle.bilv_spec.specs.Words as words
-use Rattle.bilv_spec.specs.Words.{add, sub}
-use Rattle.bilv_spec.specs.Memory.{Endian, Little, Big, Memory, load, store, number, byte_of}
-use Rattle.bilv_spec.specs.State.{State, IsState, put}
-use Rattle.bilv_spec.specs.Machine.{addresses}
-use Rattle.bilv_spec.specs.Arm.{V4, arm, reg, on, field_n, field_d, field_m, is_byte, is_swap, load_by, store_by, access_of, swapped, swap, condition_code, holds, when_stored, none}
-use Rattle.bilv_spec.specs.Bil.{RRegisters, Expression, Binary, Statements, Empty}
-use Rattle.bilv_spec.specs.Bil as bil
-use Rattle.bilv_spec.specs.BilMeaning.{Word, Bytes, evaluate}
-use Rattle.bilv_spec.specs.BilStores.{list_stored}
-use Rattle.bilv_spec.specs.Simulation.{Locals, env_of, position, of_row, Simulates}
-use Rattle.bilv_spec.specs.MachineLaws.{IsLifting}
-use Rattle.bilv_spec.proofs.ArmRanges.{load_1, load_by_small, reg_small, put_below}
+use Rattle.word_spec.specs.Words as words
+use Rattle.word_spec.specs.Words.{add, sub}
+use Rattle.word_spec.specs.Memory.{Endian, Little, Big, Memory, load, store, number, byte_of}
+use Rattle.word_spec.specs.State.{State, IsState, put}
+use Rattle.machine_spec.specs.Machine.{addresses}
+use Rattle.word_spec.specs.Profiles.{V4}
+use Rattle.machine_spec.specs.Arm.{arm, reg, on, field_n, field_d, field_m, is_byte, is_swap, load_by, store_by, access_of, swapped, swap, condition_code, holds, when_stored, none}
+use Rattle.machine_spec.specs.Bil.{RRegisters, Expression, Binary, Statements, Empty}
+use Rattle.machine_spec.specs.Bil as bil
+use Rattle.machine_spec.specs.BilMeaning.{Word, Bytes, evaluate}
+use Rattle.machine_spec.specs.BilStores.{list_stored}
+use Rattle.machine_spec.specs.Simulation.{Locals, env_of, position, of_row, Simulates}
+use Rattle.machine_spec.specs.MachineLaws.{IsLifting}
+use Rattle.machine_spec.proofs.ArmRanges.{load_1, load_by_small, reg_small, put_below}
 use Rattle.arm_decode.specs.declared.parts.Condition.{Condition}
 use Rattle.arm_decode.specs.Parts.{condition_number}
 use Rattle.arm_decode.specs.Forms.{IsSwap}

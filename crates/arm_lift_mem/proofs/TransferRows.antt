@@ -2,20 +2,21 @@
 use Rattle.std.proofs.Common.{◌≡◌, ℕ, zero, suc, ◌+◌, ◌*◌, ◌/◌, ◌%◌, ◌^◌, ◌<◌, ◌≤◌, Bool, true, false, not, ◌&&◌, refl, ap, sym, subst, ◌∙◌, arith, [], append-nil, Some, None, if◌then◌else◌}
 use Rattle.std.specs.Prelude.{◌==◌}
 use Rattle.std.proofs.lemmas.Bool.Decides.{nat_tests}
-use Rattle.bilv_spec.specs.Words as words
-use Rattle.bilv_spec.specs.Words.{add, bit, ror}
-use Rattle.bilv_spec.specs.Memory.{Endian, Memory, load}
-use Rattle.bilv_spec.specs.State.{State, IsState, put, with_pc}
-use Rattle.bilv_spec.specs.Machine.{Goes, Indirect, addresses}
-use Rattle.bilv_spec.specs.Arm as rows
-use Rattle.bilv_spec.specs.Arm.{V4, arm, reg, stored_reg, on, has_bit, field_d, is_load, is_byte, is_transfer, writes_back, base_written, load_by, load_word, store_by, access_of, transferred, loaded_by, write_by, transfer_address, transfer_offset, single_transfer, literal_address, condition_code, holds, when_stored}
-use Rattle.bilv_spec.specs.Bil.{RRegisters, Mem, Expression, Var, Load, Statements, Empty, JumpTo}
-use Rattle.bilv_spec.specs.Bil as bil
-use Rattle.bilv_spec.specs.BilMeaning.{Word, Position, Ends, RaisesException, choose, branch_on, then_do, execute}
-use Rattle.bilv_spec.specs.BilStores.{list_stored}
-use Rattle.bilv_spec.specs.Simulation.{Locals, position, of_list, of_row, Simulates}
-use Rattle.bilv_spec.specs.MachineLaws.{IsLifting}
-use Rattle.bilv_spec.proofs.ArmRanges.{reg_small, store_by_small}
+use Rattle.word_spec.specs.Words as words
+use Rattle.word_spec.specs.Words.{add, bit, ror}
+use Rattle.word_spec.specs.Memory.{Endian, Memory, load}
+use Rattle.word_spec.specs.State.{State, IsState, put, with_pc}
+use Rattle.machine_spec.specs.Machine.{Goes, Indirect, addresses}
+use Rattle.machine_spec.specs.Arm as rows
+use Rattle.word_spec.specs.Profiles.{V4}
+use Rattle.machine_spec.specs.Arm.{arm, reg, stored_reg, on, has_bit, field_d, is_load, is_byte, is_transfer, writes_back, base_written, load_by, load_word, store_by, access_of, transferred, loaded_by, write_by, transfer_address, transfer_offset, single_transfer, literal_address, condition_code, holds, when_stored}
+use Rattle.machine_spec.specs.Bil.{RRegisters, Mem, Expression, Var, Load, Statements, Empty, JumpTo}
+use Rattle.machine_spec.specs.Bil as bil
+use Rattle.machine_spec.specs.BilMeaning.{Word, Position, Ends, RaisesException, choose, branch_on, then_do, execute}
+use Rattle.machine_spec.specs.BilStores.{list_stored}
+use Rattle.machine_spec.specs.Simulation.{Locals, position, of_list, of_row, Simulates}
+use Rattle.machine_spec.specs.MachineLaws.{IsLifting}
+use Rattle.machine_spec.proofs.ArmRanges.{reg_small, store_by_small}
 use Rattle.arm_decode.specs.declared.parts.Condition.{Condition}
 use Rattle.arm_decode.specs.Parts.{condition_number}
 use Rattle.arm_decode.specs.Forms.{IsTransfer}

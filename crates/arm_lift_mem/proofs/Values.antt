@@ -1,18 +1,18 @@
 -- What addresses, offsets, loads and stores evaluate to.
 use Rattle.std.proofs.Common.{◌≡◌, ℕ, ◌+◌, ◌*◌, ◌/◌, ◌%◌, ◌^◌, ◌<◌, Bool, true, false, not, refl, ap, ◌∙◌, arith, min, bit_and, [], Some, if◌then◌else◌}
 use Rattle.std.proofs.lemmas.Nat.Bits.{and_high}
-use Rattle.bilv_spec.specs.Words as words
-use Rattle.bilv_spec.specs.Words.{add, sub, ror}
-use Rattle.bilv_spec.specs.Memory.{Endian, load}
-use Rattle.bilv_spec.specs.State.{State, IsState}
-use Rattle.bilv_spec.specs.Machine.{addresses}
-use Rattle.bilv_spec.specs.Arm as rows
-use Rattle.bilv_spec.specs.Arm.{is_up, load_by, store_by, access_of}
-use Rattle.bilv_spec.specs.Bil.{Expression}
-use Rattle.bilv_spec.specs.BilMeaning.{Word, Bytes, Env, evaluate}
-use Rattle.bilv_spec.specs.BilStores.{stored_by}
-use Rattle.bilv_spec.specs.Simulation.{Locals, env_of}
-use Rattle.bilv_spec.proofs.ArmRanges.{load_4}
+use Rattle.word_spec.specs.Words as words
+use Rattle.word_spec.specs.Words.{add, sub, ror}
+use Rattle.word_spec.specs.Memory.{Endian, load}
+use Rattle.word_spec.specs.State.{State, IsState}
+use Rattle.machine_spec.specs.Machine.{addresses}
+use Rattle.machine_spec.specs.Arm as rows
+use Rattle.machine_spec.specs.Arm.{is_up, load_by, store_by, access_of}
+use Rattle.machine_spec.specs.Bil.{Expression}
+use Rattle.machine_spec.specs.BilMeaning.{Word, Bytes, Env, evaluate}
+use Rattle.machine_spec.specs.BilStores.{stored_by}
+use Rattle.machine_spec.specs.Simulation.{Locals, env_of}
+use Rattle.machine_spec.proofs.ArmRanges.{load_4}
 use Rattle.byte_mem.proofs.Numbers.{store_cut}
 use Rattle.arm_lift_alu.proofs.Shifts.{turned_by, rotation}
 use Rattle.arm_lift_mem.specs.Accesses as lifts

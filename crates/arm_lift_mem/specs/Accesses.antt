@@ -1,9 +1,9 @@
 -- What the lists of loads and stores are made of: addresses, bases that are written back, words and bytes.
 use Rattle.std.specs.Prelude.{ℕ, Bool, true, false, not}
-use Rattle.bilv_spec.specs.Words.{add, sub}
-use Rattle.bilv_spec.specs.Memory.{Endian}
-use Rattle.bilv_spec.specs.Bil as bil
-use Rattle.bilv_spec.specs.Bil.{RRegisters, Mem, Local, Expression, Var, Constant, Load, Store, Binary, Cast, Let, Concat, Statements, Empty, Assign, Raise, If}
+use Rattle.word_spec.specs.Words.{add, sub}
+use Rattle.word_spec.specs.Memory.{Endian}
+use Rattle.machine_spec.specs.Bil as bil
+use Rattle.machine_spec.specs.Bil.{RRegisters, Mem, Local, Expression, Var, Constant, Load, Store, Binary, Cast, Let, Concat, Statements, Empty, Assign, Raise, If}
 use Rattle.arm_decode.specs.declared.parts.Indexing.{Indexing}
 use Rattle.arm_decode.specs.declared.parts.Indexing.TheVariants as indexing
 use Rattle.arm_decode.specs.declared.parts.Offset as offsets

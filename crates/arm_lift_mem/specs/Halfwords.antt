@@ -1,8 +1,8 @@
 -- The lists of LDRH, STRH, LDRSB and LDRSH (section A3.11).
 use Rattle.std.specs.Prelude.{ℕ}
-use Rattle.bilv_spec.specs.Memory.{Endian}
-use Rattle.bilv_spec.specs.Bil as bil
-use Rattle.bilv_spec.specs.Bil.{RRegisters, Mem, Expression, Var, Load, Store, Cast, Statements, Empty, Assign}
+use Rattle.word_spec.specs.Memory.{Endian}
+use Rattle.machine_spec.specs.Bil as bil
+use Rattle.machine_spec.specs.Bil.{RRegisters, Mem, Expression, Var, Load, Store, Cast, Statements, Empty, Assign}
 use Rattle.arm_decode.specs.declared.parts.HalfwordOffset as offsets
 use Rattle.arm_decode.specs.declared.parts.HalfwordOffset.TheVariants as offset
 use Rattle.arm_decode.specs.declared.parts.HalfwordOp.{HalfwordOp}

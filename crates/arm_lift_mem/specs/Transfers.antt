@@ -1,10 +1,10 @@
 -- The lists of LDR, LDRB, STR and STRB (section A3.11).
 use Rattle.std.specs.Prelude.{ℕ, ◌*◌, ◌%◌, ◌==◌, ◌&&◌, not, Bool, true, false, Option, Some, None}
-use Rattle.bilv_spec.specs.Words as words
-use Rattle.bilv_spec.specs.Words.{add}
-use Rattle.bilv_spec.specs.Memory.{Endian}
-use Rattle.bilv_spec.specs.Bil as bil
-use Rattle.bilv_spec.specs.Bil.{RRegisters, Bits, Mem, Expression, Var, Constant, Load, Binary, Cast, Unknown, Choose, Statements, Empty, Assign, JumpTo, Raise}
+use Rattle.word_spec.specs.Words as words
+use Rattle.word_spec.specs.Words.{add}
+use Rattle.word_spec.specs.Memory.{Endian}
+use Rattle.machine_spec.specs.Bil as bil
+use Rattle.machine_spec.specs.Bil.{RRegisters, Bits, Mem, Expression, Var, Constant, Load, Binary, Cast, Unknown, Choose, Statements, Empty, Assign, JumpTo, Raise}
 use Rattle.arm_decode.specs.declared.parts.Indexing.{Indexing}
 use Rattle.arm_decode.specs.declared.parts.Indexing.TheVariants as indexing
 use Rattle.arm_decode.specs.declared.parts.Offset as offsets

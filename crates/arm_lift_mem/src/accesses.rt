@@ -1,6 +1,6 @@
 //! Addresses, bases that are written back, words and bytes.
 ghost use Rattle.std.specs.Prelude.{◌≡◌, ◌≤◌, ◌<◌, ℕ, IfOk};
-ghost use Rattle.bilv_spec.specs.Bil as bil;
+ghost use Rattle.machine_spec.specs.Bil as bil;
 ghost use Rattle.bil_ast.specs.Views.{cast_of, expression, statement, statements};
 ghost use Rattle.byte_mem.specs.Views.{endian_of};
 ghost use Rattle.arm_lift_alu.specs.Operands as operands;

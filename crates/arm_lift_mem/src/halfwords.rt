@@ -1,10 +1,10 @@
 //! LDRH, STRH, LDRSB and LDRSH (section A3.11).
 ghost use Rattle.std.specs.Prelude.{◌≡◌, ◌≤◌, IfOk};
-ghost use Rattle.bilv_spec.specs.Arm as rows;
-ghost use Rattle.bilv_spec.specs.Arm.{arm};
-ghost use Rattle.bilv_spec.specs.Bil as bil;
-ghost use Rattle.bilv_spec.specs.Bil.{RRegisters};
-ghost use Rattle.bilv_spec.specs.MachineLaws.{IsLifting};
+ghost use Rattle.machine_spec.specs.Arm as rows;
+ghost use Rattle.machine_spec.specs.Arm.{arm};
+ghost use Rattle.machine_spec.specs.Bil as bil;
+ghost use Rattle.machine_spec.specs.Bil.{RRegisters};
+ghost use Rattle.machine_spec.specs.MachineLaws.{IsLifting};
 ghost use Rattle.bil_ast.specs.Views.{cast_of, expression, statements};
 ghost use Rattle.byte_mem.specs.Views.{endian_of};
 ghost use Rattle.arm_lift_alu.specs.Operands as operands;

@@ -1,9 +1,9 @@
 //! LDR, LDRB, STR and STRB (section A3.11).
 ghost use Rattle.std.specs.Prelude.{◌≡◌, ◌≢◌, ◌<◌, ◌%◌, ◌==◌, ◌&&◌, not, IfOk, true, false};
-ghost use Rattle.bilv_spec.specs.Arm as rows;
-ghost use Rattle.bilv_spec.specs.Arm.{arm};
-ghost use Rattle.bilv_spec.specs.Bil.{RRegisters};
-ghost use Rattle.bilv_spec.specs.MachineLaws.{IsLifting};
+ghost use Rattle.machine_spec.specs.Arm as rows;
+ghost use Rattle.machine_spec.specs.Arm.{arm};
+ghost use Rattle.machine_spec.specs.Bil.{RRegisters};
+ghost use Rattle.machine_spec.specs.MachineLaws.{IsLifting};
 ghost use Rattle.bil_ast.specs.Views.{expression, statements};
 ghost use Rattle.byte_mem.specs.Views.{endian_of};
 ghost use Rattle.arm_lift_mem.specs.Accesses as parts;

@@ -2,11 +2,11 @@
 use Rattle.std.proofs.Common.{◌≡◌, ℕ, ◌%◌, ◌<◌, refl, ap, sym, subst, ◌∙◌, Bool, true, false, arith}
 use Rattle.std.specs.Prelude.{◌==◌, ◌&&◌, ◌||◌, not}
 use Rattle.std.proofs.lemmas.Bool.Decides.{nat_tests}
-use Rattle.bilv_spec.specs.Words.{add, bits}
-use Rattle.bilv_spec.specs.Memory.{Endian, store}
-use Rattle.bilv_spec.specs.State.{State, put, with_pc}
-use Rattle.bilv_spec.specs.Machine.{Outcome}
-use Rattle.bilv_spec.specs.Arm.{reg, field_n, field_d, field_m, is_byte, is_load, is_pre, bit_i, bit_w, has_offset, is_bad_base, writes_back, is_transfer, is_halfword, load_by, store_by, swapped, base_written, write, word_loaded, loaded_by, stored, stored_reg, transfer_address, transfer_offset, halfword_by, halfword_done, halfword_offset, halfword_address, halfword_size, halfword_value}
+use Rattle.word_spec.specs.Words.{add, bits}
+use Rattle.word_spec.specs.Memory.{Endian, store}
+use Rattle.word_spec.specs.State.{State, put, with_pc}
+use Rattle.machine_spec.specs.Machine.{Outcome}
+use Rattle.machine_spec.specs.Arm.{reg, field_n, field_d, field_m, is_byte, is_load, is_pre, bit_i, bit_w, has_offset, is_bad_base, writes_back, is_transfer, is_halfword, load_by, store_by, swapped, base_written, write, word_loaded, loaded_by, stored, stored_reg, transfer_address, transfer_offset, halfword_by, halfword_done, halfword_offset, halfword_address, halfword_size, halfword_value}
 use Rattle.byte_mem.specs.declared.StepOut.{StepOut}
 use Rattle.byte_mem.specs.declared.StepOut.TheVariants.{Next}
 use Rattle.byte_mem.specs.Views.{IsStep}

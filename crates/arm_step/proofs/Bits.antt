@@ -7,9 +7,9 @@ use Rattle.std.proofs.lemmas.Grind.{common_steps}
 use Rattle.std.proofs.lemmas.Nat.{pow_pos, pow-add}
 use Rattle.std.proofs.Math.Nat.{div-eq_of_lt}
 use Rattle.std.proofs.Math.Path.{fun_ext}
-use Rattle.bilv_spec.specs.Words.{bit, bit_at}
-use Rattle.bilv_spec.specs.Arm.{with_flags}
-use Rattle.bilv_spec.proofs.ArmRanges.{ror_small}
+use Rattle.word_spec.specs.Words.{bit, bit_at}
+use Rattle.machine_spec.specs.Arm.{with_flags}
+use Rattle.machine_spec.proofs.ArmRanges.{ror_small}
 
 -- a bit from its test
 pub of_test : (x : ℕ) → x < 2 → bit (x == 1) ≡ x

@@ -3,10 +3,10 @@ use Rattle.std.proofs.Common.{◌≡◌, ℕ, ◌/◌, ◌%◌, ◌^◌, ap, sub
 use Rattle.std.specs.Prelude.{◌==◌, if◌then◌else◌}
 use Rattle.std.specs.Int.Count.{count_leading_zeros}
 use Rattle.std.proofs.Math.Nat.{div-div-eq-div-mul}
-use Rattle.bilv_spec.specs.Words.{add, bit, bit_at}
-use Rattle.bilv_spec.specs.State.{State, put, with_pc, flag_c, flag_v}
-use Rattle.bilv_spec.specs.Machine.{Outcome}
-use Rattle.bilv_spec.specs.Arm.{Shifted, Result, reg, results, result_at, operand, opcode, is_test, sets_flags, with_flags, flags_of, computed, write, field_n, field_d, field_m, multiplied, multiplied_long, counted}
+use Rattle.word_spec.specs.Words.{add, bit, bit_at}
+use Rattle.word_spec.specs.State.{State, put, with_pc, flag_c, flag_v}
+use Rattle.machine_spec.specs.Machine.{Outcome}
+use Rattle.machine_spec.specs.Arm.{Shifted, Result, reg, results, result_at, operand, opcode, is_test, sets_flags, with_flags, flags_of, computed, write, field_n, field_d, field_m, multiplied, multiplied_long, counted}
 use Rattle.byte_mem.specs.declared.StepOut.{StepOut}
 use Rattle.byte_mem.specs.declared.StepOut.TheVariants.{Next}
 use Rattle.byte_mem.specs.Views.{IsStep}

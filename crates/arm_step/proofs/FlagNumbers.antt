@@ -1,9 +1,9 @@
 -- Sets of flags as numbers.
 use Rattle.std.proofs.Common.{◌≡◌, ℕ, zero, suc, ◌+◌, ◌*◌, ◌/◌, ◌%◌, ◌<◌, refl, ap, ◌∙◌, Bool, true, false, arith}
 use Rattle.std.specs.Prelude.{◌==◌, ◌&&◌, ◌||◌}
-use Rattle.bilv_spec.specs.Words.{bit, bit_at}
-use Rattle.bilv_spec.specs.Memory.{Endian}
-use Rattle.bilv_spec.specs.Arm.{with_flags, flag_set}
+use Rattle.word_spec.specs.Words.{bit, bit_at}
+use Rattle.word_spec.specs.Memory.{Endian}
+use Rattle.machine_spec.specs.Arm.{with_flags, flag_set}
 use Rattle.machine_law.specs.declared.facts.FlagUse.{FlagUse}
 use Rattle.machine_law.specs.Facts.{IsFlagUse}
 use Rattle.arm_decode.specs.declared.insn.Insn.{Insn}

@@ -1,10 +1,10 @@
 -- The operand by its kind, offsets, and what is written back.
 use Rattle.std.proofs.Common.{◌≡◌, ℕ, ◌%◌, ◌<◌, refl, ap, sym, ◌∙◌, Bool, true, false, arith}
 use Rattle.std.proofs.lemmas.Bool.{ne_eqb}
-use Rattle.bilv_spec.specs.Words.{add, aligned}
-use Rattle.bilv_spec.specs.Memory.{Endian, Memory, store}
-use Rattle.bilv_spec.specs.State.{State, flag_c, put, with_pc}
-use Rattle.bilv_spec.specs.Arm.{Shifted, operand, bit_i, has_bit, rotated, by_number, by_register, kind_of, amount_of, field_n, field_m, field_s, reg, transfer_offset, base_written, writes_back, moved, store_by, write}
+use Rattle.word_spec.specs.Words.{add, aligned}
+use Rattle.word_spec.specs.Memory.{Endian, Memory, store}
+use Rattle.word_spec.specs.State.{State, flag_c, put, with_pc}
+use Rattle.machine_spec.specs.Arm.{Shifted, operand, bit_i, has_bit, rotated, by_number, by_register, kind_of, amount_of, field_n, field_m, field_s, reg, transfer_offset, base_written, writes_back, moved, store_by, write}
 use Rattle.byte_mem.specs.declared.StepOut.{StepOut}
 use Rattle.byte_mem.specs.declared.StepOut.TheVariants.{Next, Jump}
 use Rattle.byte_mem.specs.declared.How.TheVariants.{Indirect}

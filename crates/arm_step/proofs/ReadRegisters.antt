@@ -3,9 +3,9 @@ use Rattle.std.proofs.Common.{◌≡◌, ℕ, ◌/◌, ◌%◌, ◌<◌, Bool, t
 use Rattle.std.specs.Prelude.{◌==◌, if◌then◌else◌}
 use Rattle.std.proofs.lemmas.Bool.{ne_eqb}
 use Rattle.std.proofs.Math.Path.{fun_ext}
-use Rattle.bilv_spec.specs.Words.{bit}
-use Rattle.bilv_spec.specs.State.{State}
-use Rattle.bilv_spec.specs.Arm.{reg, has_bit, with_flags}
+use Rattle.word_spec.specs.Words.{bit}
+use Rattle.word_spec.specs.State.{State}
+use Rattle.machine_spec.specs.Arm.{reg, has_bit, with_flags}
 use Rattle.arm_step.specs.declared.flags.Flags.{Flags}
 use Rattle.arm_step.specs.Parts.{flags_of}
 

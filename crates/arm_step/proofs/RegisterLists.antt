@@ -2,10 +2,10 @@
 use Rattle.std.proofs.Common.{◌≡◌, ℕ, zero, suc, ◌+◌, ◌-◌, ◌*◌, ◌/◌, ◌%◌, ◌<◌, ◌≤◌, refl, ap, sym, ◌∙◌, Bool, true, false, List, [], ◌∷◌, length, arith}
 use Rattle.std.specs.Prelude.{◌==◌, if◌then◌else◌}
 use Rattle.std.proofs.lemmas.Bool.{ne_eqb}
-use Rattle.bilv_spec.specs.Words.{add, sub, bits, aligned}
-use Rattle.bilv_spec.specs.Memory.{Endian, Memory, load, store}
-use Rattle.bilv_spec.specs.State.{State, put, with_pc}
-use Rattle.bilv_spec.specs.Arm.{reg, has_bit, is_up, is_pre, bit_w, moved, field_n, listed, listed_from, load_all, store_all, stored_reg, block_start, block_base, block_loaded, block_done}
+use Rattle.word_spec.specs.Words.{add, sub, bits, aligned}
+use Rattle.word_spec.specs.Memory.{Endian, Memory, load, store}
+use Rattle.word_spec.specs.State.{State, put, with_pc}
+use Rattle.machine_spec.specs.Arm.{reg, has_bit, is_up, is_pre, bit_w, moved, field_n, listed, listed_from, load_all, store_all, stored_reg, block_start, block_base, block_loaded, block_done}
 use Rattle.byte_mem.specs.declared.StepOut.{StepOut}
 use Rattle.byte_mem.specs.declared.StepOut.TheVariants.{Next, Jump}
 use Rattle.byte_mem.specs.declared.How.TheVariants.{Indirect}

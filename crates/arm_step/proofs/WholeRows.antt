@@ -1,11 +1,11 @@
 -- Rows as wholes: the condition, and what is done where it holds.
 use Rattle.std.proofs.Common.{◌≡◌, ℕ, ◌*◌, refl, ap, sym, subst, ◌∙◌, Bool, true, false, Some, None, length}
 use Rattle.std.specs.Prelude.{not}
-use Rattle.bilv_spec.specs.Words.{add}
-use Rattle.bilv_spec.specs.Memory.{Endian}
-use Rattle.bilv_spec.specs.State.{State, put, with_pc}
-use Rattle.bilv_spec.specs.Machine.{Outcome}
-use Rattle.bilv_spec.specs.Arm.{holds, when, when_stored, branch_target, branched, is_linked, is_load, block_start, listed}
+use Rattle.word_spec.specs.Words.{add}
+use Rattle.word_spec.specs.Memory.{Endian}
+use Rattle.word_spec.specs.State.{State, put, with_pc}
+use Rattle.machine_spec.specs.Machine.{Outcome}
+use Rattle.machine_spec.specs.Arm.{holds, when, when_stored, branch_target, branched, is_linked, is_load, block_start, listed}
 use Rattle.byte_mem.specs.declared.StepOut.{StepOut}
 use Rattle.byte_mem.specs.declared.StepOut.TheVariants.{Next, Jump}
 use Rattle.byte_mem.specs.declared.How.TheVariants.{Direct, DirectCall}

@@ -1,9 +1,9 @@
 -- What an instruction does and stores where its condition holds, by the table's parts for its class.
 use Rattle.std.specs.Prelude.{ℕ, Bool, true, false, ◌*◌, ◌%◌, ◌==◌, ◌&&◌, not, Option, None, Some, length}
-use Rattle.bilv_spec.specs.Memory.{Endian}
-use Rattle.bilv_spec.specs.State.{State, with_pc}
-use Rattle.bilv_spec.specs.Machine.{Indirect, Outcome, Goes, Raises, SoftwareInterrupt}
-use Rattle.bilv_spec.specs.Arm as rows
+use Rattle.word_spec.specs.Memory.{Endian}
+use Rattle.word_spec.specs.State.{State, with_pc}
+use Rattle.machine_spec.specs.Machine.{Indirect, Outcome, Goes, Raises, SoftwareInterrupt}
+use Rattle.machine_spec.specs.Arm as rows
 use Rattle.arm_decode.specs.declared.insn.Insn.{Insn}
 use Rattle.arm_decode.specs.declared.insn.Insn.TheVariants as insn
 

@@ -1,6 +1,6 @@
 -- The flags that an instruction uses, by the table's parts for its class.
 use Rattle.std.specs.Prelude.{ℕ, ◌≡◌, ◌==◌, ◌&&◌, ◌||◌, not, Bool, false}
-use Rattle.bilv_spec.specs.Arm as rows
+use Rattle.machine_spec.specs.Arm as rows
 use Rattle.arm_decode.specs.declared.parts.Condition.{Condition}
 use Rattle.arm_decode.specs.Parts.{condition_number}
 use Rattle.arm_decode.specs.declared.insn.Insn.{Insn}

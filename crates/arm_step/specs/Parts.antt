@@ -1,9 +1,9 @@
 -- The parts of a state and of a result, as the table has them.
 use Rattle.std.specs.Prelude.{ℕ, ◌+◌, ◌*◌, ◌^◌, if◌then◌else◌}
-use Rattle.bilv_spec.specs.Words.{bit, add, mul, sign_extend}
-use Rattle.bilv_spec.specs.State.{State}
-use Rattle.bilv_spec.specs.Arm as rows
-use Rattle.bilv_spec.specs.Arm.{with_flags, reg, has_bit, accumulates, field_n, field_d, field_s, field_m}
+use Rattle.word_spec.specs.Words.{bit, add, mul, sign_extend}
+use Rattle.word_spec.specs.State.{State}
+use Rattle.machine_spec.specs.Arm as rows
+use Rattle.machine_spec.specs.Arm.{with_flags, reg, has_bit, accumulates, field_n, field_d, field_s, field_m}
 use Rattle.arm_step.specs.declared.flags.Flags.{Flags}
 use Rattle.arm_step.specs.declared.shifter.Shifted.{Shifted}
 use Rattle.arm_step.specs.declared.sums.Computed.{Computed}

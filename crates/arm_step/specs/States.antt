@@ -1,7 +1,7 @@
 -- The state that is kept, as a machine's state.
 use Rattle.std.specs.Prelude.{ℕ}
-use Rattle.bilv_spec.specs.Memory.{memory_of}
-use Rattle.bilv_spec.specs.State as machine
+use Rattle.word_spec.specs.Memory.{memory_of}
+use Rattle.word_spec.specs.State as machine
 use Rattle.arm_step.specs.Parts.{flags_of}
 use Rattle.arm_step.specs.RegisterFile.{registers_of}
 use Rattle.arm_step.specs.declared.state.State.{State}

@@ -1,8 +1,8 @@
 //! The operand, and the addresses and values of accesses (sections A5.1 to A5.4).
 ghost use Rattle.std.specs.Prelude.{◌≡◌, ℕ, ◌≤◌, ◌<◌, ◌+◌, true};
-ghost use Rattle.bilv_spec.specs.Arm as rows;
-ghost use Rattle.bilv_spec.specs.State as machine;
-ghost use Rattle.bilv_spec.specs.Words as words;
+ghost use Rattle.machine_spec.specs.Arm as rows;
+ghost use Rattle.word_spec.specs.State as machine;
+ghost use Rattle.word_spec.specs.Words as words;
 ghost use Rattle.byte_mem.specs.Views.{endian_of, IsStep};
 ghost use Rattle.arm_decode.specs.Parts.{HasOperand, HasAddressing, HasOffset, HasHalfwordOffset};
 ghost use Rattle.arm_step.specs.Parts.{shifted_of};

@@ -1,8 +1,8 @@
 //! LDM and STM (section A3.12).
 ghost use Rattle.std.specs.Prelude.{◌≡◌, ℕ, ◌≤◌, ◌<◌, ◌+◌, ◌-◌, ◌*◌, ◌==◌, false, if◌then◌else◌, length};
-ghost use Rattle.bilv_spec.specs.Memory.{load};
-ghost use Rattle.bilv_spec.specs.State.{put};
-ghost use Rattle.bilv_spec.specs.Arm as rows;
+ghost use Rattle.word_spec.specs.Memory.{load};
+ghost use Rattle.word_spec.specs.State.{put};
+ghost use Rattle.machine_spec.specs.Arm as rows;
 ghost use Rattle.byte_mem.specs.Views.{endian_of, IsStep};
 ghost use Rattle.arm_decode.specs.Forms.{IsBlock};
 ghost use Rattle.arm_step.specs.States.{state_of, spare_of};

@@ -1,8 +1,8 @@
 //! Data processing, multiplies and CLZ (sections A3.4, A3.5 and A4.1.13).
 ghost use Rattle.std.specs.Prelude.{◌≡◌, ℕ, ◌==◌, if◌then◌else◌};
-ghost use Rattle.bilv_spec.specs.Arm as rows;
-ghost use Rattle.bilv_spec.specs.Words as words;
-ghost use Rattle.bilv_spec.specs.Words.{bit};
+ghost use Rattle.machine_spec.specs.Arm as rows;
+ghost use Rattle.word_spec.specs.Words as words;
+ghost use Rattle.word_spec.specs.Words.{bit};
 ghost use Rattle.byte_mem.specs.Views.{IsStep};
 ghost use Rattle.arm_decode.specs.Forms.{HasAddend, IsMultiply, IsMultiplyLong};
 ghost use Rattle.arm_step.specs.Parts.{long_product, short_product};

@@ -1,7 +1,7 @@
 //! What is told of an instruction without a state.
 ghost use Rattle.std.specs.Prelude.{◌≡◌, ◌≤◌, ◌+◌, ◌*◌, ℕ, ◌==◌, ◌&&◌, not, None, Some, false, if◌then◌else◌};
-ghost use Rattle.bilv_spec.specs.Arm as rows;
-ghost use Rattle.bilv_spec.specs.Memory as memory;
+ghost use Rattle.machine_spec.specs.Arm as rows;
+ghost use Rattle.word_spec.specs.Memory as memory;
 ghost use Rattle.machine_law.specs.Facts.{cost_of, successors_of};
 ghost use Rattle.arm_decode.specs.Forms.{IsTransfer};
 ghost use Rattle.arm_decode.specs.Insns.{row_of, word_of};

@@ -1,8 +1,8 @@
 //! The flags (section A2.5), and the conditions (section A3.2).
 ghost use Rattle.std.specs.Prelude.{◌≡◌, ℕ, ◌≤◌, ◌<◌, ◌^◌, ◌==◌};
-ghost use Rattle.bilv_spec.specs.Words.{bit_at};
-ghost use Rattle.bilv_spec.specs.Arm as rows;
-ghost use Rattle.bilv_spec.specs.State.{State};
+ghost use Rattle.word_spec.specs.Words.{bit_at};
+ghost use Rattle.machine_spec.specs.Arm as rows;
+ghost use Rattle.word_spec.specs.State.{State};
 ghost use Rattle.arm_decode.specs.Parts.{condition_number};
 ghost use Rattle.arm_step.specs.Parts.{flags_of};
 

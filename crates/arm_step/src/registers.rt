@@ -1,6 +1,6 @@
 //! The registers r0 to r14.
 ghost use Rattle.std.specs.Prelude.{◌≡◌, ℕ, ◌<◌, ◌^◌, length};
-ghost use Rattle.bilv_spec.specs.State.{put};
+ghost use Rattle.word_spec.specs.State.{put};
 ghost use Rattle.arm_step.specs.RegisterFile.{registers_of};
 
 use arm_decode::Register;

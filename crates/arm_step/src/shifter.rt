@@ -1,8 +1,8 @@
 //! The shifter operand (section A5.1).
 ghost use Rattle.std.specs.Prelude.{◌≡◌, ℕ, ◌<◌, ◌-◌, ◌%◌, ◌==◌, nat_le, if◌then◌else◌};
-ghost use Rattle.bilv_spec.specs.Arm as rows;
-ghost use Rattle.bilv_spec.specs.Words as words;
-ghost use Rattle.bilv_spec.specs.Words.{bit};
+ghost use Rattle.machine_spec.specs.Arm as rows;
+ghost use Rattle.word_spec.specs.Words as words;
+ghost use Rattle.word_spec.specs.Words.{bit};
 ghost use Rattle.arm_decode.specs.Parts.{kind_number};
 ghost use Rattle.arm_step.specs.Parts.{shifted_of};
 

@@ -1,6 +1,6 @@
 //! The state of ARM.
 ghost use Rattle.std.specs.Prelude.{ℕ, ◌<◌, ◌^◌};
-ghost use Rattle.bilv_spec.specs.Memory.{memory_of};
+ghost use Rattle.word_spec.specs.Memory.{memory_of};
 
 use crate::flags::Flags;
 use crate::registers::Registers;
@@ -21,8 +21,9 @@ pub struct State {
 }
 
 impl View for State {
-    ghost use Rattle.bilv_spec.specs.Arm.{V4, arm};
-    ghost use Rattle.bilv_spec.specs.Memory.{Little};
+    ghost use Rattle.word_spec.specs.Profiles.{V4};
+    ghost use Rattle.machine_spec.specs.Arm.{arm};
+    ghost use Rattle.word_spec.specs.Memory.{Little};
     ghost use Rattle.arm_step.specs.States.{state_of};
 
     ghost view = { state_of };
@@ -54,13 +55,13 @@ impl View for State {
 
 impl State {
     ghost use Rattle.std.specs.Prelude.{◌≡◌, ◌≤◌, ◌+◌, ◌*◌, length, OnOk, OnErr, IfOk};
-    ghost use Rattle.bilv_spec.specs.Memory as memory;
-    ghost use Rattle.bilv_spec.specs.Memory.{store};
-    ghost use Rattle.bilv_spec.specs.State as machine;
-    ghost use Rattle.bilv_spec.specs.State.{put, with_pc};
-    ghost use Rattle.bilv_spec.specs.Arm as rows;
-    ghost use Rattle.bilv_spec.specs.Words as words;
-    ghost use Rattle.bilv_spec.specs.Words.{add, bit, bit_at};
+    ghost use Rattle.word_spec.specs.Memory as memory;
+    ghost use Rattle.word_spec.specs.Memory.{store};
+    ghost use Rattle.word_spec.specs.State as machine;
+    ghost use Rattle.word_spec.specs.State.{put, with_pc};
+    ghost use Rattle.machine_spec.specs.Arm as rows;
+    ghost use Rattle.word_spec.specs.Words as words;
+    ghost use Rattle.word_spec.specs.Words.{add, bit, bit_at};
     ghost use Rattle.byte_mem.specs.Views.{endian_of, IsStep};
     ghost use Rattle.arm_step.specs.Parts.{flags_of};
     ghost use Rattle.arm_step.specs.RegisterFile.{registers_of};

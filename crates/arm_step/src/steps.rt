@@ -1,9 +1,9 @@
 //! Steps.
 ghost use Rattle.std.specs.Prelude.{◌≡◌, ◌≤◌, ◌+◌, ℕ};
-ghost use Rattle.bilv_spec.specs.Arm as rows;
-ghost use Rattle.bilv_spec.specs.Memory as memory;
-ghost use Rattle.bilv_spec.specs.Machine.{Indirect, Goes};
-ghost use Rattle.bilv_spec.specs.State.{with_pc};
+ghost use Rattle.machine_spec.specs.Arm as rows;
+ghost use Rattle.word_spec.specs.Memory as memory;
+ghost use Rattle.machine_spec.specs.Machine.{Indirect, Goes};
+ghost use Rattle.word_spec.specs.State.{with_pc};
 ghost use Rattle.byte_mem.specs.Views.{endian_of, IsStep};
 ghost use Rattle.arm_decode.specs.Insns.{row_of, word_of};
 ghost use Rattle.arm_step.specs.Actions.{action_of, stores_of};

@@ -1,8 +1,8 @@
 //! What data processing makes (section A3.4).
 ghost use Rattle.std.specs.Prelude.{◌≡◌, ℕ};
-ghost use Rattle.bilv_spec.specs.Arm as rows;
-ghost use Rattle.bilv_spec.specs.State.{State};
-ghost use Rattle.bilv_spec.specs.Words.{bit};
+ghost use Rattle.machine_spec.specs.Arm as rows;
+ghost use Rattle.word_spec.specs.State.{State};
+ghost use Rattle.word_spec.specs.Words.{bit};
 ghost use Rattle.arm_decode.specs.Parts.{opcode_number};
 ghost use Rattle.arm_step.specs.Parts.{shifted_of, computed_of, flags_of};
 

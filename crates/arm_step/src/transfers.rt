@@ -1,6 +1,6 @@
 //! Accesses to one place (sections A3.11 and A3.13).
 ghost use Rattle.std.specs.Prelude.{◌≡◌, ℕ, ◌≤◌, ◌<◌, ◌+◌, ◌%◌, ◌==◌, ◌&&◌, not, true, false};
-ghost use Rattle.bilv_spec.specs.Arm as rows;
+ghost use Rattle.machine_spec.specs.Arm as rows;
 ghost use Rattle.byte_mem.specs.Views.{endian_of, IsStep};
 ghost use Rattle.arm_decode.specs.Forms.{IsTransfer, IsHalfword};
 ghost use Rattle.arm_decode.specs.Parts.{HasHalfwordOp};

@@ -1,8 +1,8 @@
 //! The flags that an instruction reads and assigns.
 ghost use Rattle.std.specs.Prelude.{◌≡◌, ◌<◌, ◌==◌, ◌||◌, ℕ};
-ghost use Rattle.bilv_spec.specs.Arm as rows;
-ghost use Rattle.bilv_spec.specs.Memory as memory;
-ghost use Rattle.bilv_spec.specs.Words as words;
+ghost use Rattle.machine_spec.specs.Arm as rows;
+ghost use Rattle.word_spec.specs.Memory as memory;
+ghost use Rattle.word_spec.specs.Words as words;
 ghost use Rattle.machine_law.specs.Facts.{IsFlagUse};
 ghost use Rattle.arm_decode.specs.Insns.{row_of};
 ghost use Rattle.arm_step.specs.FlagSets.{reads_carry_of, sets_of, assigns_c_of, assigns_v_of, surely_c_of, flags_named, read_of, sure_of};

@@ -1,6 +1,6 @@
 //! Words of 32 bits.
 ghost use Rattle.std.specs.Prelude.{◌≡◌, ◌≤◌, ◌<◌, ◌+◌, ◌*◌, ◌-◌, ◌/◌, ◌%◌, ◌^◌};
-ghost use Rattle.bilv_spec.specs.Words as words;
+ghost use Rattle.word_spec.specs.Words as words;
 
 use bv_word::Word;
 

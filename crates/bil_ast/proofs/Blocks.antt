@@ -1,7 +1,7 @@
 -- The lists inside a statement, read as lists.
 use Rattle.std.proofs.Common.{◌≡◌, ◌+◌, List, Vec, Global, refl, sym, ap, ◌∙◌, add-zero}
 use mathlib.Core.Former.{Count}
-use Rattle.bilv_spec.specs.Bil.{Statements, Empty, While, If, size, list_size}
+use Rattle.machine_spec.specs.Bil.{Statements, Empty, While, If, size, list_size}
 use Rattle.bil_ast.specs.declared.expressions.Exp.{Exp}
 use Rattle.bil_ast.specs.declared.statements.Stmt.{Stmt, Row_of-Stmt, end_of-Stmt, more_of-Stmt, items-the_row-Stmt, items_hidden-the_row-Stmt-0}
 use Rattle.bil_ast.specs.declared.statements.Stmt.TheVariants as stmt

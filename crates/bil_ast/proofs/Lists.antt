@@ -2,7 +2,7 @@
 use Rattle.std.proofs.Common.{◌≡◌, ℕ, ◌+◌, ◌-◌, ◌^◌, ◌<◌, ◌≤◌, min, suc, List, [], ◌∷◌, ◌++◌, length, get_or, drop, sym, ap, ◌∙◌, arith, add-one, append_assoc}
 use Rattle.std.proofs.Math.Seq.{drop-cons}
 use Rattle.std.proofs.Math.ListN.{drop_of_length-le}
-use Rattle.bilv_spec.specs.Bil.{Statements, Empty, list_size}
+use Rattle.machine_spec.specs.Bil.{Statements, Empty, list_size}
 use Rattle.bil_ast.specs.declared.statements.Stmt.{Stmt}
 use Rattle.bil_ast.specs.declared.statements.Stmt.TheVariants as stmt
 use Rattle.bil_ast.specs.Views.{statement, statements}

@@ -1,6 +1,6 @@
 -- The trees of the code as the trees of the definitions: what is boxed and listed in memory is seen as a value.
 use Rattle.std.specs.Prelude.{List, [], ◌∷◌, string_bytes}
-use Rattle.bilv_spec.specs.Bil as bil
+use Rattle.machine_spec.specs.Bil as bil
 use Rattle.byte_mem.specs.Views.{endian_of}
 use Rattle.bil_ast.specs.declared.names.Bank.{Bank}
 use Rattle.bil_ast.specs.declared.names.Bank.TheVariants as bank

@@ -1,7 +1,7 @@
 //! Expressions.
 
 ghost use Rattle.std.specs.Prelude.{◌≡◌, ◌-◌, ◌^◌, ◌+◌, min, IfOk};
-ghost use Rattle.bilv_spec.specs.Bil as bil;
+ghost use Rattle.machine_spec.specs.Bil as bil;
 ghost use Rattle.byte_mem.specs.Views.{endian_of};
 ghost use Rattle.bil_ast.specs.Views.{binary_of, cast_of, expression, unary_of};
 

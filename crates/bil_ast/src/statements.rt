@@ -1,7 +1,7 @@
 //! Statements.
 
 ghost use Rattle.std.specs.Prelude.{◌≡◌, ◌-◌, ◌^◌, min, IfOk};
-ghost use Rattle.bilv_spec.specs.Bil as bil;
+ghost use Rattle.machine_spec.specs.Bil as bil;
 ghost use Rattle.bil_ast.specs.Views.{expression, statement, statements};
 
 use crate::{Exp, Var};

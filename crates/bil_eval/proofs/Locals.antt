@@ -6,12 +6,12 @@ use Rattle.std.proofs.Math.Seq.{take-suc, drop-cons, drop-length}
 use Rattle.std.proofs.lemmas.List.{drop-set, take-append-drop, take-set, get_or-set_same, get_or-set_other}
 use borrow.Author.Tests.{ltb-true}
 use Rattle.std.proofs.lemmas.Bool.{eq-eqb, eqb-true, eqb-false, false≢true}
-use Rattle.bilv_spec.proofs.BilSound.{both}
-use Rattle.bilv_spec.specs.Bil.{Bits, Bank, BilVariable, Register, Flag, Local, Let}
-use Rattle.bilv_spec.specs.BilCounts.{is_local}
-use Rattle.bilv_spec.specs.State.{put}
-use Rattle.bilv_spec.specs.Words.{bit}
-use Rattle.bilv_spec.specs.BilMeaning.{Value, Word, Stuck, put_local, evaluate, assign, in_env}
+use Rattle.machine_spec.proofs.BilSound.{both}
+use Rattle.machine_spec.specs.Bil.{Bits, Bank, BilVariable, Register, Flag, Local, Let}
+use Rattle.machine_spec.specs.BilCounts.{is_local}
+use Rattle.word_spec.specs.State.{put}
+use Rattle.word_spec.specs.Words.{bit}
+use Rattle.machine_spec.specs.BilMeaning.{Value, Word, Stuck, put_local, evaluate, assign, in_env}
 use Rattle.bil_ast.specs.declared.expressions.Exp.{Exp}
 use Rattle.bil_ast.specs.Views.{expression}
 use Rattle.bil_eval.specs.declared.env.Machine.{Machine}

@@ -2,9 +2,9 @@
 use Rattle.std.proofs.Common.{◌≡◌, ℕ, zero, suc, ◌+◌, ◌-◌, ◌<◌, ◌≢◌, Bool, true, false, List, [], ◌∷◌, length, get_or, drop, Result, Ok, Err, Vec, Global, refl, sym, ap, ◌∙◌, subst, add-one, arith}
 use Rattle.std.specs.Prelude.{if◌then◌else◌}
 use Rattle.std.proofs.Math.Seq.{drop-cons}
-use Rattle.bilv_spec.specs.Words.{bit}
-use Rattle.bilv_spec.specs.Bil.{Bits, BilVariable, Expression, Statements, Empty, While, If}
-use Rattle.bilv_spec.specs.BilMeaning.{Value, Word, Env, Position, Ending, Ends, RaisesException, OutOfTurns, Wrong, execute, evaluate, assign, then_do, assigned, jumped, branch_on, loop, spend}
+use Rattle.word_spec.specs.Words.{bit}
+use Rattle.machine_spec.specs.Bil.{Bits, BilVariable, Expression, Statements, Empty, While, If}
+use Rattle.machine_spec.specs.BilMeaning.{Value, Word, Env, Position, Ending, Ends, RaisesException, OutOfTurns, Wrong, execute, evaluate, assign, then_do, assigned, jumped, branch_on, loop, spend}
 use Rattle.bil_ast.proofs.Blocks.{statement_if, statement_while}
 use Rattle.bil_ast.specs.declared.expressions.Exp.{Exp}
 use Rattle.bil_ast.specs.declared.statements.Stmt.{Stmt}

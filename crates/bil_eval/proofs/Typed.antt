@@ -2,10 +2,10 @@
 use Rattle.std.proofs.Common.{◌≡◌, ℕ, ◌+◌, ◌-◌, ◌<◌, ◌≤◌, Bool, true, None, refl, sym, ap, ◌∙◌, subst, arith}
 use Rattle.std.specs.Prelude.{◌&&◌, ◌||◌, nat_lt, nat_le}
 use Rattle.std.proofs.lemmas.Bool.Decides.{nat_tests}
-use Rattle.bilv_spec.proofs.BilSound.{any_gave, bits_gave, both, fit_gave, memory_gave, neither, of_operand_gave, of_three, of_two, same, type_gave, wants_gave}
-use Rattle.bilv_spec.specs.Bil.{BilType, Bits, Memory, BilVariable, Register, Flag, Mem, Local, Expression, Var, Constant, Load, Store, Binary, Unary, Cast, Let, Unknown, Choose, Extract, Concat, type_of, size, list_size, Statements, Empty, Assign, JumpTo, Raise, Special, While, If}
-use Rattle.bilv_spec.specs.BilTyping.{list_fault, Has, type_or_fault, is_width, cast_fits, result_width, IsWellTyped}
-use Rattle.bilv_spec.specs.BilCounts.{names_only, list_names_only, is_local, width}
+use Rattle.machine_spec.proofs.BilSound.{any_gave, bits_gave, both, fit_gave, memory_gave, neither, of_operand_gave, of_three, of_two, same, type_gave, wants_gave}
+use Rattle.machine_spec.specs.Bil.{BilType, Bits, Memory, BilVariable, Register, Flag, Mem, Local, Expression, Var, Constant, Load, Store, Binary, Unary, Cast, Let, Unknown, Choose, Extract, Concat, type_of, size, list_size, Statements, Empty, Assign, JumpTo, Raise, Special, While, If}
+use Rattle.machine_spec.specs.BilTyping.{list_fault, Has, type_or_fault, is_width, cast_fits, result_width, IsWellTyped}
+use Rattle.machine_spec.specs.BilCounts.{names_only, list_names_only, is_local, width}
 use Rattle.bil_eval.specs.Checked.{IsChecked, IsRunnable}
 
 width_of_bits : (hi lo : ℕ) → lo ≤ hi → hi + 1 - lo ≡ hi - lo + 1

@@ -1,7 +1,7 @@
 -- What the call answers.
 use Rattle.std.specs.Prelude.{ℕ, ◌≡◌, Some, None, Result, Ok, Err}
-use Rattle.bilv_spec.specs.Bil.{Statements}
-use Rattle.bilv_spec.specs.BilMeaning as means
+use Rattle.machine_spec.specs.Bil.{Statements}
+use Rattle.machine_spec.specs.BilMeaning as means
 use Rattle.bil_eval.specs.declared.faults.EvalFault.{EvalFault}
 use Rattle.bil_eval.specs.declared.faults.EvalFault.TheVariants as fault
 use Rattle.bil_eval.specs.declared.lists.End.{End}

@@ -1,8 +1,8 @@
 -- What an evaluation asks of an expression: it is well typed, and its variables are known. These words follow the tree, so that they hold of a node's operands.
 use Rattle.std.specs.Prelude.{◌≡◌, ◌+◌, ◌≤◌, ◌<◌, Bool, true, false, ◌||◌}
-use Rattle.bilv_spec.specs.Bil.{BilType, Bits, Memory, BilVariable, Register, Flag, Mem, Local, Expression, Var, Constant, Load, Store, Binary, Unary, Cast, Let, Unknown, Choose, Extract, Concat, Statements, Empty, Assign, JumpTo, Raise, Special, While, If, type_of}
-use Rattle.bilv_spec.specs.BilTyping.{is_load_width, cast_fits}
-use Rattle.bilv_spec.specs.BilCounts.{width, is_local}
+use Rattle.machine_spec.specs.Bil.{BilType, Bits, Memory, BilVariable, Register, Flag, Mem, Local, Expression, Var, Constant, Load, Store, Binary, Unary, Cast, Let, Unknown, Choose, Extract, Concat, Statements, Empty, Assign, JumpTo, Raise, Special, While, If, type_of}
+use Rattle.machine_spec.specs.BilTyping.{is_load_width, cast_fits}
+use Rattle.machine_spec.specs.BilCounts.{width, is_local}
 
 -- the expression is the machine's memory itself
 abbrev pub is_memory_variable : Expression → Bool

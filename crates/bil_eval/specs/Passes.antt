@@ -1,7 +1,7 @@
 -- Where a run of a list comes by.
 use Rattle.std.specs.Prelude.{ℕ, suc, ◌≡◌}
-use Rattle.bilv_spec.specs.Bil.{Expression, Statements, Empty, Assign, JumpTo, Raise, Special, While, If}
-use Rattle.bilv_spec.specs.BilMeaning.{Env, Word, Position, Ends, evaluate, execute}
+use Rattle.machine_spec.specs.Bil.{Expression, Statements, Empty, Assign, JumpTo, Raise, Special, While, If}
+use Rattle.machine_spec.specs.BilMeaning.{Env, Word, Position, Ends, evaluate, execute}
 
 -- one list behind another
 abbrev pub join : Statements → Statements → Statements

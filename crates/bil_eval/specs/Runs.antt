@@ -1,7 +1,7 @@
 -- Where a run of a list stands, and how it came to its end.
 use Rattle.std.specs.Prelude.{ℕ, ◌≡◌, Result, Ok, Err}
-use Rattle.bilv_spec.specs.Bil.{Expression}
-use Rattle.bilv_spec.specs.BilMeaning as means
+use Rattle.machine_spec.specs.Bil.{Expression}
+use Rattle.machine_spec.specs.BilMeaning as means
 use Rattle.bil_eval.specs.declared.env.Env.{Env}
 use Rattle.bil_eval.specs.declared.faults.EvalFault.{EvalFault}
 use Rattle.bil_eval.specs.declared.faults.EvalFault.TheVariants as fault

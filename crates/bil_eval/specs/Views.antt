@@ -1,10 +1,10 @@
 -- What environments stand for.
 use Rattle.std.specs.Prelude.{ℕ, nat_lt, Bool, true, false, ◌||◌, List, [], ◌∷◌, get_or, slice_index}
-use Rattle.bilv_spec.specs.Words.{bit}
-use Rattle.bilv_spec.specs.Memory.{memory_of}
-use Rattle.bilv_spec.specs.Bil.{BilVariable, Register, Flag, Mem, Local}
-use Rattle.bilv_spec.specs.BilCounts.{is_local}
-use Rattle.bilv_spec.specs.BilMeaning as means
+use Rattle.word_spec.specs.Words.{bit}
+use Rattle.word_spec.specs.Memory.{memory_of}
+use Rattle.machine_spec.specs.Bil.{BilVariable, Register, Flag, Mem, Local}
+use Rattle.machine_spec.specs.BilCounts.{is_local}
+use Rattle.machine_spec.specs.BilMeaning as means
 use Rattle.bil_eval.specs.declared.env.LocalWord.{LocalWord}
 use Rattle.bil_eval.specs.declared.env.Machine.{Machine}
 

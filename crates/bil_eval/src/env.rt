@@ -1,9 +1,9 @@
 //! The variables that a list reads and assigns.
 
 ghost use Rattle.std.specs.Prelude.{◌≡◌, ◌==◌, ◌&&◌, true, Some};
-ghost use Rattle.bilv_spec.specs.Bil as bil;
-ghost use Rattle.bilv_spec.specs.BilCounts.{width};
-ghost use Rattle.bilv_spec.specs.BilMeaning as means;
+ghost use Rattle.machine_spec.specs.Bil as bil;
+ghost use Rattle.machine_spec.specs.BilCounts.{width};
+ghost use Rattle.machine_spec.specs.BilMeaning as means;
 ghost use Rattle.bil_ast.specs.Views.{variable_of};
 ghost use Rattle.bil_eval.specs.Checked.{IsWord};
 ghost use Rattle.bil_eval.specs.Views.{env_of, held, values};

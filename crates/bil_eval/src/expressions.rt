@@ -1,11 +1,11 @@
 //! Values of expressions.
 
 ghost use Rattle.std.specs.Prelude.{◌≡◌, true, IfOk};
-ghost use Rattle.bilv_spec.specs.Bil as bil;
-ghost use Rattle.bilv_spec.specs.Memory.{memory_of};
-ghost use Rattle.bilv_spec.specs.BilTyping.{type_width};
-ghost use Rattle.bilv_spec.specs.BilCounts as counts;
-ghost use Rattle.bilv_spec.specs.BilMeaning as means;
+ghost use Rattle.machine_spec.specs.Bil as bil;
+ghost use Rattle.word_spec.specs.Memory.{memory_of};
+ghost use Rattle.machine_spec.specs.BilTyping.{type_width};
+ghost use Rattle.machine_spec.specs.BilCounts as counts;
+ghost use Rattle.machine_spec.specs.BilMeaning as means;
 ghost use Rattle.bil_ast.specs.Views.{bil_type_of, expression};
 ghost use Rattle.bil_eval.specs.Checked.{IsMemory, IsWord, is_memory_variable};
 ghost use Rattle.bil_eval.specs.Views.{env_of, held};

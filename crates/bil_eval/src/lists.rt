@@ -1,9 +1,9 @@
 //! Runs of whole lists.
 
 ghost use Rattle.std.specs.Prelude.{◌≡◌, true};
-ghost use Rattle.bilv_spec.specs.BilCounts.{list_names_only};
-ghost use Rattle.bilv_spec.specs.BilMeaning.{execute};
-ghost use Rattle.bilv_spec.specs.BilTyping.{IsWellTyped};
+ghost use Rattle.machine_spec.specs.BilCounts.{list_names_only};
+ghost use Rattle.machine_spec.specs.BilMeaning.{execute};
+ghost use Rattle.machine_spec.specs.BilTyping.{IsWellTyped};
 ghost use Rattle.bil_ast.specs.Views.{statements};
 ghost use Rattle.bil_eval.specs.Answers.{Answers, LeftMidway, start};
 ghost use Rattle.bil_eval.specs.Views.{env_of, held};

@@ -1,8 +1,8 @@
 //! Operators on words.
 
 ghost use Rattle.std.specs.Prelude.{◌≡◌, true};
-ghost use Rattle.bilv_spec.specs.BilMeaning as means;
-ghost use Rattle.bilv_spec.specs.BilTyping.{cast_fits, result_width};
+ghost use Rattle.machine_spec.specs.BilMeaning as means;
+ghost use Rattle.machine_spec.specs.BilTyping.{cast_fits, result_width};
 ghost use Rattle.bil_ast.specs.Views.{binary_of, cast_of, unary_of};
 
 use bil_ast::{BinaryOp, CastKind, UnaryOp, Width};

@@ -1,9 +1,9 @@
 //! Runs of lists of statements.
 
 ghost use Rattle.std.specs.Prelude.{◌≡◌, IfOk};
-ghost use Rattle.bilv_spec.specs.Bil as bil;
-ghost use Rattle.bilv_spec.specs.Words as words;
-ghost use Rattle.bilv_spec.specs.BilMeaning as means;
+ghost use Rattle.machine_spec.specs.Bil as bil;
+ghost use Rattle.word_spec.specs.Words as words;
+ghost use Rattle.machine_spec.specs.BilMeaning as means;
 ghost use Rattle.bil_ast.specs.Views.{expression, statement, statements};
 ghost use Rattle.bil_eval.specs.Checked.{IsChecked, IsRunnable};
 ghost use Rattle.bil_eval.specs.Views.{env_of, held};

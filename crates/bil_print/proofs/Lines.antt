@@ -1,8 +1,8 @@
 -- Lines of statements, one statement at a time.
 use Rattle.std.proofs.Common.{◌≡◌, ℕ, zero, suc, ◌+◌, ◌<◌, List, [], ◌∷◌, ◌++◌, length, get_or, drop, codes, append_assoc, add-one, refl, sym, ap, ◌∙◌, Vec, Global, Result, Ok, Err, OnOk}
 use Rattle.std.proofs.Math.Seq.{drop-cons}
-use Rattle.bilv_spec.specs.Bil.{Statements}
-use Rattle.bilv_spec.specs.BilText.{indent, line_at, list_text, text_of}
+use Rattle.machine_spec.specs.Bil.{Statements}
+use Rattle.machine_spec.specs.BilText.{indent, line_at, list_text, text_of}
 use Rattle.bil_ast.specs.declared.expressions.Exp.{Exp}
 use Rattle.bil_ast.specs.declared.statements.Stmt.{Stmt}
 use Rattle.bil_ast.specs.declared.statements.Stmt.TheVariants as stmt

@@ -1,7 +1,7 @@
 //! Expressions.
 
 ghost use Rattle.std.specs.Prelude.{◌≡◌, ◌++◌, string_bytes, OnOk};
-ghost use Rattle.bilv_spec.specs.BilText as text;
+ghost use Rattle.machine_spec.specs.BilText as text;
 ghost use Rattle.bil_ast.specs.Views.{expression};
 
 use crate::names::{

@@ -2,7 +2,7 @@
 #![tactic(auto)]
 
 ghost use Rattle.std.specs.Prelude.{◌≡◌, ◌++◌, string_bytes, IfOk, OnOk};
-ghost use Rattle.bilv_spec.specs.BilText as text;
+ghost use Rattle.machine_spec.specs.BilText as text;
 ghost use Rattle.bil_ast.specs.Views.{statements};
 
 mod expressions;

@@ -1,9 +1,9 @@
 //! Names of variables, types and operators, and constants.
 
 ghost use Rattle.std.specs.Prelude.{◌≡◌, ◌++◌, string_bytes, OnOk};
-ghost use Rattle.bilv_spec.specs.Bil as bil;
-ghost use Rattle.bilv_spec.specs.BilText as text;
-ghost use Rattle.bilv_spec.specs.BilTyping as typing;
+ghost use Rattle.machine_spec.specs.Bil as bil;
+ghost use Rattle.machine_spec.specs.BilText as text;
+ghost use Rattle.machine_spec.specs.BilTyping as typing;
 ghost use Rattle.byte_mem.specs.Views.{endian_of};
 ghost use Rattle.bil_ast.specs.Views.{bank_of, bil_type_of, binary_of, cast_of, unary_of, variable_of};
 

@@ -1,8 +1,8 @@
 //! Statements.
 
 ghost use Rattle.std.specs.Prelude.{◌≡◌, ℕ, ◌+◌, ◌++◌, codes, string_bytes, IfOk, OnOk};
-ghost use Rattle.bilv_spec.specs.Bil.{Statements};
-ghost use Rattle.bilv_spec.specs.BilText.{indent, line_at, list_text, text_of};
+ghost use Rattle.machine_spec.specs.Bil.{Statements};
+ghost use Rattle.machine_spec.specs.BilText.{indent, line_at, list_text, text_of};
 ghost use Rattle.bil_ast.specs.Views.{expression, statement, statements};
 
 use crate::expressions::append_expression;

@@ -1,9 +1,9 @@
 -- A list of which terms may be made, in the words that its parts are made by.
 use Rattle.std.proofs.Common.{◌≡◌, Bool, true, arith}
 use Rattle.std.specs.Prelude.{◌&&◌}
-use Rattle.bilv_spec.proofs.BilSound.{both}
-use Rattle.bilv_spec.specs.Bil.{BilVariable, Statements, Empty, Assign, JumpTo, Raise, Special, While, If}
-use Rattle.bilv_spec.specs.BilCounts.{has_no_loop, has_no_special, memory_choices, chosen_stores}
+use Rattle.machine_spec.proofs.BilSound.{both}
+use Rattle.machine_spec.specs.Bil.{BilVariable, Statements, Empty, Assign, JumpTo, Raise, Special, While, If}
+use Rattle.machine_spec.specs.BilCounts.{has_no_loop, has_no_special, memory_choices, chosen_stores}
 use Rattle.bil_eval.specs.Checked.{IsRunnable}
 use Rattle.bil_eval.proofs.Typed.{runnable}
 use Rattle.walk_spec.specs.Unrolled.{UnrolledProgram}

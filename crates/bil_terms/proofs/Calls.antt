@@ -3,9 +3,9 @@ use Rattle.std.proofs.Common.{◌≡◌, ℕ, ◌≤◌, true, List, [], ◌∷�
 use Rattle.std.specs.Prelude.{◌||◌, ◌==◌, if◌then◌else◌, Bool}
 use Rattle.std.proofs.lemmas.Bool.{eq-eqb}
 use Rattle.std.proofs.lemmas.Bool.Decides.{nat_tests}
-use Rattle.bilv_spec.specs.Bil.{BilVariable, Register, Flag, Mem, Local, CastKind, Low, High, Signed, Unsigned, Expression, Var, Constant, Load, Store, Binary, Unary, Cast, Let, Unknown, Choose, Extract, Concat, total}
-use Rattle.bilv_spec.specs.BilTyping.{cast_fits}
-use Rattle.bilv_spec.specs.BilCounts.{is_local, own_memory_choices, width}
+use Rattle.machine_spec.specs.Bil.{BilVariable, Register, Flag, Mem, Local, CastKind, Low, High, Signed, Unsigned, Expression, Var, Constant, Load, Store, Binary, Unary, Cast, Let, Unknown, Choose, Extract, Concat, total}
+use Rattle.machine_spec.specs.BilTyping.{cast_fits}
+use Rattle.machine_spec.specs.BilCounts.{is_local, own_memory_choices, width}
 use Rattle.walk_spec.specs.Terms.{TermNode, HasWidth, IsWidth, IsTypedOver}
 use Rattle.term_dag.specs.Made.{Grew}
 use Rattle.bil_ast.specs.declared.expressions.Exp.{Exp}

@@ -2,11 +2,11 @@
 use Rattle.std.proofs.Common.{◌≡◌, ℕ, zero, suc, ◌<◌, ◌≤◌, List, [], ◌++◌, length, set, Vec, Global, Some, refl, sym, ap, ◌∙◌, subst, arith, append-nil}
 use Rattle.std.specs.Prelude.{slice_index}
 use Rattle.std.proofs.lemmas.List.{length-set}
-use Rattle.bilv_spec.specs.State.{put}
-use Rattle.bilv_spec.specs.Bil.{Flag, Mem, Expression, Empty, Assign, JumpTo, Raise, total}
-use Rattle.bilv_spec.specs.BilCounts.{width, own_stores}
-use Rattle.bilv_spec.specs.BilMeaning.{Value, Word, Bytes, Env, Position, Ending, Ends, assign, assigned, jumped, evaluate, execute, then_do}
-use Rattle.bilv_spec.specs.BilStores.{stored_by}
+use Rattle.word_spec.specs.State.{put}
+use Rattle.machine_spec.specs.Bil.{Flag, Mem, Expression, Empty, Assign, JumpTo, Raise, total}
+use Rattle.machine_spec.specs.BilCounts.{width, own_stores}
+use Rattle.machine_spec.specs.BilMeaning.{Value, Word, Bytes, Env, Position, Ending, Ends, assign, assigned, jumped, evaluate, execute, then_do}
+use Rattle.machine_spec.specs.BilStores.{stored_by}
 use Rattle.walk_spec.specs.Terms.{TermReading, TermNode, HasWidth, term_word, term_value}
 use Rattle.walk_spec.specs.Passive.{Denotes}
 use Rattle.term_dag.specs.declared.nodes.Term.{Term}

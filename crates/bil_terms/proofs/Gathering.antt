@@ -3,8 +3,8 @@ use Rattle.std.proofs.Common.{◌≡◌, ℕ, ◌+◌, ◌≤◌, List, [], ◌�
 use Rattle.std.specs.Prelude.{◌↔◌, Contains}
 use Rattle.std.proofs.lemmas.List.Elements.{Contains-append_left, Contains-append_right, Contains-append_cases}
 use Rattle.std.proofs.lemmas.List.Sums.{sum_by-append}
-use Rattle.bilv_spec.specs.Memory.{span}
-use Rattle.bilv_spec.specs.BilMeaning.{Env}
+use Rattle.word_spec.specs.Memory.{span}
+use Rattle.machine_spec.specs.BilMeaning.{Env}
 use Rattle.walk_spec.specs.Terms.{TermReading, InRange, TermNode, ChoiceNode, HasWidth, term_word, own_gates, own_loads, own_stores, own_joins}
 use Rattle.term_dag.specs.Nodes.{IsInput}
 use Rattle.term_dag.specs.Made.{Grew, InputsFrom, IsMade}

@@ -4,11 +4,11 @@ use Rattle.std.specs.Prelude.{◌↔◌, Contains}
 use Rattle.std.proofs.lemmas.Bool.{cases_lt}
 use Rattle.std.proofs.lemmas.List.Elements.{Contains-append_cases}
 use Rattle.std.proofs.lemmas.List.Sums.{sum_by-append}
-use Rattle.bilv_spec.specs.RowFiles.{from_to}
-use Rattle.bilv_spec.specs.Bil.{Expression, Statements, Empty, If, total}
-use Rattle.bilv_spec.specs.BilCounts.{width, own_unknowns, unknowns}
-use Rattle.bilv_spec.specs.BilMeaning.{Value, Word, Position, Ending, Ends, RaisesException, OutOfTurns, Wrong, evaluate, execute, then_do, branch_on}
-use Rattle.bilv_spec.specs.BilStores.{stored_by, list_stored, chosen}
+use Rattle.word_spec.specs.RowFiles.{from_to}
+use Rattle.machine_spec.specs.Bil.{Expression, Statements, Empty, If, total}
+use Rattle.machine_spec.specs.BilCounts.{width, own_unknowns, unknowns}
+use Rattle.machine_spec.specs.BilMeaning.{Value, Word, Position, Ending, Ends, RaisesException, OutOfTurns, Wrong, evaluate, execute, then_do, branch_on}
+use Rattle.machine_spec.specs.BilStores.{stored_by, list_stored, chosen}
 use Rattle.walk_spec.specs.Terms.{TermReading, InRange, TermNode, HasWidth, term_word}
 use Rattle.walk_spec.specs.Passive.{AreNames, Denotes}
 use Rattle.walk_spec.specs.Unrolled.{Carried, UnrolledProgram}

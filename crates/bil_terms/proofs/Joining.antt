@@ -4,11 +4,11 @@ use Rattle.std.specs.Prelude.{◌↔◌, ◌&&◌, Contains}
 use Rattle.std.proofs.lemmas.Bool.{false≢true}
 use Rattle.std.proofs.lemmas.List.Elements.{Contains-append_cases}
 use Rattle.std.proofs.lemmas.List.Sums.{sum_by-append}
-use Rattle.bilv_spec.proofs.BilSound.{both}
-use Rattle.bilv_spec.specs.Bil.{Expression, Statements, Empty, Assign, JumpTo, Raise, Special, While, If, total, list_total}
-use Rattle.bilv_spec.specs.BilCounts.{has_no_loop, unknowns, own_loads, own_stores, own_unknowns}
-use Rattle.bilv_spec.specs.BilMeaning.{Position, Ending, Ends, RaisesException, OutOfTurns, Wrong, assign, assigned, jumped, branch_on, loop, evaluate, execute, then_do}
-use Rattle.bilv_spec.specs.BilStores.{stored_by, list_stored, then_stored, chosen}
+use Rattle.machine_spec.proofs.BilSound.{both}
+use Rattle.machine_spec.specs.Bil.{Expression, Statements, Empty, Assign, JumpTo, Raise, Special, While, If, total, list_total}
+use Rattle.machine_spec.specs.BilCounts.{has_no_loop, unknowns, own_loads, own_stores, own_unknowns}
+use Rattle.machine_spec.specs.BilMeaning.{Position, Ending, Ends, RaisesException, OutOfTurns, Wrong, assign, assigned, jumped, branch_on, loop, evaluate, execute, then_do}
+use Rattle.machine_spec.specs.BilStores.{stored_by, list_stored, then_stored, chosen}
 use Rattle.walk_spec.specs.Terms.{TermReading, TermNode, term_word}
 use Rattle.term_dag.proofs.Growth.{grew_on, grew_more, inputs_on, inputs_more}
 use Rattle.term_names.specs.Choices.{places}

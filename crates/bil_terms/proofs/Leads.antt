@@ -3,9 +3,9 @@ use Rattle.std.proofs.Common.{◌≡◌, ℕ, zero, suc, ◌+◌, ◌<◌, ◌�
 use Rattle.std.specs.Prelude.{◌&&◌}
 use Rattle.std.proofs.Math.Seq.{take-suc}
 use Rattle.std.proofs.lemmas.List.{take_all}
-use Rattle.bilv_spec.specs.RowFiles.{from_to}
-use Rattle.bilv_spec.specs.Bil.{Bits as OfBits, BilVariable, Statements, Empty, Assign, JumpTo, Raise, Special, While, If}
-use Rattle.bilv_spec.specs.BilCounts.{has_no_loop}
+use Rattle.word_spec.specs.RowFiles.{from_to}
+use Rattle.machine_spec.specs.Bil.{Bits as OfBits, BilVariable, Statements, Empty, Assign, JumpTo, Raise, Special, While, If}
+use Rattle.machine_spec.specs.BilCounts.{has_no_loop}
 use Rattle.bil_ast.proofs.Blocks.{statement_if}
 use Rattle.bil_ast.specs.declared.names.Bank.{Bank}
 use Rattle.bil_ast.specs.declared.names.Var.{Var}

@@ -1,9 +1,9 @@
 -- Terms that are made of few nodes: negatives and unknowns.
 use Rattle.std.proofs.Common.{◌≡◌, ℕ, ◌+◌, ◌-◌, ◌*◌, ◌/◌, ◌%◌, ◌^◌, ◌≤◌, List, refl, sym, ap, ◌∙◌, subst, arith, false}
 use Rattle.std.proofs.Math.Nat.{mod-eq_of_lt, pow-le-pow_right}
-use Rattle.bilv_spec.specs.Words as words
-use Rattle.bilv_spec.specs.Bil.{Minus, Negate, Bits}
-use Rattle.bilv_spec.specs.BilMeaning.{Word}
+use Rattle.word_spec.specs.Words as words
+use Rattle.machine_spec.specs.Bil.{Minus, Negate, Bits}
+use Rattle.machine_spec.specs.BilMeaning.{Word}
 use Rattle.walk_spec.specs.Terms.{TermNode, TermValue, ConstantNode, ChoiceNode, BinaryNode, ExtractNode, ExtendNode, HasWidth, IsWidth, term_word}
 use Rattle.term_dag.specs.Nodes.{IsInput}
 use Rattle.term_dag.specs.Made.{InputsFrom, IsInterned, IsMade}

@@ -1,12 +1,12 @@
 -- What a list leaves, by where it leads.
 use Rattle.std.proofs.Common.{◌≡◌, ℕ, ◌≤◌, List, [], ◌++◌, length, Vec, Global, None, refl, sym, ap, ◌∙◌, subst, arith}
 use Rattle.std.specs.Prelude.{◌↔◌, Contains, sum_by}
-use Rattle.bilv_spec.specs.Words as words
-use Rattle.bilv_spec.specs.Bil.{Statements}
-use Rattle.bilv_spec.specs.BilCounts.{byte_stores, unknowns}
-use Rattle.bilv_spec.specs.BilMeaning.{Stuck, Ending, Ends, RaisesException, OutOfTurns, Wrong, execute}
-use Rattle.bilv_spec.specs.BilStores.{list_stored}
-use Rattle.bilv_spec.specs.Simulation.{position}
+use Rattle.word_spec.specs.Words as words
+use Rattle.machine_spec.specs.Bil.{Statements}
+use Rattle.machine_spec.specs.BilCounts.{byte_stores, unknowns}
+use Rattle.machine_spec.specs.BilMeaning.{Stuck, Ending, Ends, RaisesException, OutOfTurns, Wrong, execute}
+use Rattle.machine_spec.specs.BilStores.{list_stored}
+use Rattle.machine_spec.specs.Simulation.{position}
 use Rattle.walk_spec.specs.Terms.{TermReading, InRange, TermNode, TermValue, ConstantNode, NotNode, HasWidth, term_word}
 use Rattle.walk_spec.specs.Unrolled.{state_at}
 use Rattle.walk_spec.specs.Unrolling.{is_variable_of}

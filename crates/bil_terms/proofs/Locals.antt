@@ -4,10 +4,10 @@ use Rattle.std.specs.Prelude.{◌==◌, ◌&&◌, ◌||◌, if◌then◌else◌,
 use Rattle.std.proofs.Math.Seq.{take-suc}
 use Rattle.std.proofs.lemmas.Bool.{eqb-true, false≢true}
 use Rattle.std.proofs.lemmas.List.Elements.{Contains-get_or}
-use Rattle.bilv_spec.proofs.BilSound.{both}
-use Rattle.bilv_spec.specs.Bil.{BilVariable, Local}
-use Rattle.bilv_spec.specs.BilCounts.{is_local}
-use Rattle.bilv_spec.specs.BilMeaning.{Value, Word, Stuck, put_local}
+use Rattle.machine_spec.proofs.BilSound.{both}
+use Rattle.machine_spec.specs.Bil.{BilVariable, Local}
+use Rattle.machine_spec.specs.BilCounts.{is_local}
+use Rattle.machine_spec.specs.BilMeaning.{Value, Word, Stuck, put_local}
 use Rattle.walk_spec.specs.Terms.{TermReading, TermNode, HasWidth, IsWidth, term_word}
 use Rattle.walk_spec.specs.Unrolling.{is_variable_of}
 use Rattle.term_names.specs.Views.{form_of}

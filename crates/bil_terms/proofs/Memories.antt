@@ -3,14 +3,14 @@ use Rattle.std.proofs.Common.{◌≡◌, ℕ, zero, suc, ◌+◌, ◌-◌, ◌/�
 use Rattle.std.specs.Prelude.{Option, ◌↔◌, Contains, ◌==◌, nat_lt, nat_le, if◌then◌else◌}
 use Rattle.std.proofs.lemmas.Bool.{eq-eqb, eqb-true}
 use Rattle.std.proofs.lemmas.Bool.Decides.{nat_tests}
-use Rattle.bilv_spec.proofs.BilSound.{both}
-use Rattle.bilv_spec.specs.Memory as memory
-use Rattle.bilv_spec.specs.Memory.{load, store, span}
-use Rattle.bilv_spec.specs.Bil.{BilVariable, Register, Flag, Mem, Local, CastKind, Low, High, Signed, Unsigned, Expression, Var, Constant, Load, Store, Binary, Unary, Cast, Let, Unknown, Choose, Extract, Concat, total}
-use Rattle.bilv_spec.specs.BilTyping.{cast_fits, is_width, is_load_width}
-use Rattle.bilv_spec.specs.BilCounts.{width, own_stores, own_chosen_stores}
-use Rattle.bilv_spec.specs.BilMeaning.{Value, Word, Bytes, Stuck, Env, assign, evaluate, put_local, load_from, store_to, extract_from, choose, cast_to, in_env}
-use Rattle.bilv_spec.specs.BilStores.{bytes_at, chosen, stored_in, stored_by}
+use Rattle.machine_spec.proofs.BilSound.{both}
+use Rattle.word_spec.specs.Memory as memory
+use Rattle.word_spec.specs.Memory.{load, store, span}
+use Rattle.machine_spec.specs.Bil.{BilVariable, Register, Flag, Mem, Local, CastKind, Low, High, Signed, Unsigned, Expression, Var, Constant, Load, Store, Binary, Unary, Cast, Let, Unknown, Choose, Extract, Concat, total}
+use Rattle.machine_spec.specs.BilTyping.{cast_fits, is_width, is_load_width}
+use Rattle.machine_spec.specs.BilCounts.{width, own_stores, own_chosen_stores}
+use Rattle.machine_spec.specs.BilMeaning.{Value, Word, Bytes, Stuck, Env, assign, evaluate, put_local, load_from, store_to, extract_from, choose, cast_to, in_env}
+use Rattle.machine_spec.specs.BilStores.{bytes_at, chosen, stored_in, stored_by}
 use Rattle.walk_spec.specs.Terms.{TermReading, InRange, TermNode, TermValue, SelectNode, ExtractNode, ExtendNode, LoadNode, StoreNode, HasWidth, HasMemory, IsWidth, term_value, term_word, width_of, node_at, select, own_gates, own_loads, own_joins}
 use Rattle.walk_spec.specs.Terms as terms
 use Rattle.term_dag.specs.Nodes.{IsInput}

@@ -1,7 +1,7 @@
 -- What a list costs as terms is within its weight, its stores and its size.
 use Rattle.std.proofs.Common.{◌+◌, ◌*◌, ◌≤◌, arith}
-use Rattle.bilv_spec.specs.Bil.{Expression, Var, Constant, Load, Store, Binary, Unary, Cast, Let, Unknown, Choose, Extract, Concat, Statements, Empty, Assign, JumpTo, Raise, Special, While, If, total, size, list_size}
-use Rattle.bilv_spec.specs.BilCounts.{list_weight, byte_stores, nesting}
+use Rattle.machine_spec.specs.Bil.{Expression, Var, Constant, Load, Store, Binary, Unary, Cast, Let, Unknown, Choose, Extract, Concat, Statements, Empty, Assign, JumpTo, Raise, Special, While, If, total, size, list_size}
+use Rattle.machine_spec.specs.BilCounts.{list_weight, byte_stores, nesting}
 use Rattle.bil_terms.specs.Gathered.{own_nodes}
 use Rattle.bil_terms.specs.Costs.{changed_bits, changes, list_gates, list_nodes, list_joins}
 

@@ -6,10 +6,10 @@ use Rattle.std.proofs.lemmas.Bool.{eqb-true, false≢true}
 use Rattle.std.proofs.lemmas.Bool.Decides.{nat_tests}
 use Rattle.std.proofs.lemmas.List.{get_or-map}
 use Rattle.std.proofs.lemmas.List.Elements.{Contains-append_cases}
-use Rattle.bilv_spec.specs.RowFiles.{from_to}
-use Rattle.bilv_spec.specs.Bil.{Bank, BilVariable, Register, Flag, Local}
-use Rattle.bilv_spec.specs.BilCounts.{is_local}
-use Rattle.bilv_spec.specs.BilMeaning.{Value, Word, Stuck, Env, put_local}
+use Rattle.word_spec.specs.RowFiles.{from_to}
+use Rattle.machine_spec.specs.Bil.{Bank, BilVariable, Register, Flag, Local}
+use Rattle.machine_spec.specs.BilCounts.{is_local}
+use Rattle.machine_spec.specs.BilMeaning.{Value, Word, Stuck, Env, put_local}
 use Rattle.walk_spec.specs.Terms.{TermReading, TermNode, TermValue, HasWidth, IsWidth, term_word}
 use Rattle.walk_spec.specs.Unrolled.{Carried}
 use Rattle.walk_spec.specs.Unrolling.{is_variable_of}

@@ -1,7 +1,7 @@
 -- The sides of an if, and what calls on them ask for.
 use Rattle.std.proofs.Common.{rules, ◌≡◌, ℕ, ◌<◌, List, [], Vec, Global, sym, subst}
 use denote.Param.Weighed.{most}
-use Rattle.bilv_spec.specs.Bil.{Expression, Statements, Empty}
+use Rattle.machine_spec.specs.Bil.{Expression, Statements, Empty}
 use Rattle.bil_ast.proofs.Blocks.{seen_if}
 use Rattle.bil_ast.specs.declared.expressions.Exp.{Exp}
 use Rattle.bil_ast.specs.declared.statements.Stmt.{Stmt, size-Stmt}

@@ -2,12 +2,12 @@
 use Rattle.std.proofs.Common.{◌≡◌, ℕ, ◌+◌, ◌<◌, ◌≤◌, List, [], ◌++◌, length, set, Vec, Global, Some, None, refl, sym, ap, ◌∙◌, subst, arith, append-nil}
 use Rattle.std.specs.Prelude.{◌↔◌, Option, Contains, slice_index}
 use Rattle.std.proofs.lemmas.List.{length-map, length-set}
-use Rattle.bilv_spec.specs.RowFiles.{from_to}
-use Rattle.bilv_spec.specs.State.{put}
-use Rattle.bilv_spec.specs.Bil.{Bank, Register, Expression, Statements, Empty, Assign, total}
-use Rattle.bilv_spec.specs.BilCounts.{width, weight, own_loads, own_stores, own_unknowns, byte_loads, byte_stores, unknowns}
-use Rattle.bilv_spec.specs.BilMeaning.{Value, Word, Env, Position, Ending, Ends, RaisesException, OutOfTurns, Wrong, assign, assigned, jumped, evaluate, execute, then_do}
-use Rattle.bilv_spec.specs.BilStores.{stored_by, list_stored, then_stored}
+use Rattle.word_spec.specs.RowFiles.{from_to}
+use Rattle.word_spec.specs.State.{put}
+use Rattle.machine_spec.specs.Bil.{Bank, Register, Expression, Statements, Empty, Assign, total}
+use Rattle.machine_spec.specs.BilCounts.{width, weight, own_loads, own_stores, own_unknowns, byte_loads, byte_stores, unknowns}
+use Rattle.machine_spec.specs.BilMeaning.{Value, Word, Env, Position, Ending, Ends, RaisesException, OutOfTurns, Wrong, assign, assigned, jumped, evaluate, execute, then_do}
+use Rattle.machine_spec.specs.BilStores.{stored_by, list_stored, then_stored}
 use Rattle.walk_spec.specs.Terms.{TermReading, InRange, TermNode, HasWidth, term_word}
 use Rattle.walk_spec.specs.Unrolling.{is_variable_of}
 use Rattle.walk_spec.specs.Passive.{AreNames, Denotes}

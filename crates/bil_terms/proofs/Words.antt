@@ -1,10 +1,10 @@
 -- Terms of expressions, by their operands.
 use Rattle.std.proofs.Common.{◌≡◌, ℕ, ◌+◌, ◌≤◌, List, refl, sym, ap, ◌∙◌, subst, arith, inl, inr}
-use Rattle.bilv_spec.specs.Bil.{BilVariable, BinaryOp, UnaryOp, Negate, Not, BilType, Expression, Var, Constant, Binary, Unary, Unknown, Concat}
-use Rattle.bilv_spec.specs.BilTyping.{result_width}
-use Rattle.bilv_spec.specs.BilCounts.{width, own_weight, op_weight}
-use Rattle.bilv_spec.specs.BilMeaning.{Word, Bytes, Env, evaluate, binary, unary, concat_of}
-use Rattle.bilv_spec.specs.BilStores.{stored_by}
+use Rattle.machine_spec.specs.Bil.{BilVariable, BinaryOp, UnaryOp, Negate, Not, BilType, Expression, Var, Constant, Binary, Unary, Unknown, Concat}
+use Rattle.machine_spec.specs.BilTyping.{result_width}
+use Rattle.machine_spec.specs.BilCounts.{width, own_weight, op_weight}
+use Rattle.machine_spec.specs.BilMeaning.{Word, Bytes, Env, evaluate, binary, unary, concat_of}
+use Rattle.machine_spec.specs.BilStores.{stored_by}
 use Rattle.walk_spec.specs.Terms.{TermReading, InRange, TermNode, TermValue, ConstantNode, BinaryNode, ConcatNode, HasWidth, HasMemory, IsWidth, term_value, term_word, width_of, node_at}
 use Rattle.term_dag.specs.Made.{Grew, IsMade}
 use Rattle.term_dag.proofs.Growth.{grew_width, made_width}

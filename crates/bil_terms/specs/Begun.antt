@@ -1,7 +1,7 @@
 -- The beginning of a list.
 use Rattle.std.specs.Prelude.{ℕ, List, None}
-use Rattle.bilv_spec.specs.BilMeaning.{Stuck}
-use Rattle.bilv_spec.specs.Simulation.{position}
+use Rattle.machine_spec.specs.BilMeaning.{Stuck}
+use Rattle.machine_spec.specs.Simulation.{position}
 use Rattle.walk_spec.specs.Terms.{TermReading, TermNode}
 use Rattle.walk_spec.specs.Unrolled.{Carried, state_at}
 use Rattle.walk_spec.specs.Passive.{Denotes}

@@ -1,9 +1,9 @@
 -- What a list of statements may cost as terms. What the sides of an if leave different is selected behind it, so that what a side assigns is paid for once
 -- more.
 use Rattle.std.specs.Prelude.{ℕ, ◌+◌, ◌*◌}
-use Rattle.bilv_spec.specs.Bil.{Statements, Empty, Assign, JumpTo, Raise, Special, While, If, type_of, total}
-use Rattle.bilv_spec.specs.BilTyping.{type_width}
-use Rattle.bilv_spec.specs.BilCounts.{weight, byte_stores}
+use Rattle.machine_spec.specs.Bil.{Statements, Empty, Assign, JumpTo, Raise, Special, While, If, type_of, total}
+use Rattle.machine_spec.specs.BilTyping.{type_width}
+use Rattle.machine_spec.specs.BilCounts.{weight, byte_stores}
 use Rattle.bil_terms.specs.Gathered.{own_nodes}
 
 -- the bits that a list assigns: those of registers and flags, of the target of a jump, and whether the run goes on

@@ -1,9 +1,9 @@
 -- What making terms of an expression costs, and the stores that were gathered on the way.
 use Rattle.std.specs.Prelude.{ℕ, ◌≡◌, ◌≤◌, ◌+◌, ◌↔◌, List, ◌++◌, sum_by, Contains}
-use Rattle.bilv_spec.specs.Memory.{span}
-use Rattle.bilv_spec.specs.Bil.{Expression, Var, Unary, Let, total}
-use Rattle.bilv_spec.specs.BilCounts.{weight, own_loads, own_stores, own_unknowns}
-use Rattle.bilv_spec.specs.BilMeaning.{Env}
+use Rattle.word_spec.specs.Memory.{span}
+use Rattle.machine_spec.specs.Bil.{Expression, Var, Unary, Let, total}
+use Rattle.machine_spec.specs.BilCounts.{weight, own_loads, own_stores, own_unknowns}
+use Rattle.machine_spec.specs.BilMeaning.{Env}
 use Rattle.walk_spec.specs.Terms.{TermReading, InRange, TermNode, ChoiceNode, HasWidth, term_word}
 use Rattle.term_dag.specs.Made.{Grew, InputsFrom}
 use Rattle.term_names.specs.declared.names.Names.{Names}

@@ -1,6 +1,6 @@
 -- What making terms asks of a list.
 use Rattle.std.specs.Prelude.{◌≡◌, Bool, true}
-use Rattle.bilv_spec.specs.Bil.{Bits, BilVariable, Statements, Empty, Assign, JumpTo, Raise, Special, While, If, type_of}
+use Rattle.machine_spec.specs.Bil.{Bits, BilVariable, Statements, Empty, Assign, JumpTo, Raise, Special, While, If, type_of}
 use Rattle.bil_eval.specs.Checked.{IsChecked}
 use Rattle.bil_terms.specs.Lowered.{IsSteady}
 

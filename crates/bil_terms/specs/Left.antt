@@ -1,11 +1,11 @@
 -- What a list of statements leaves, as terms.
 use Rattle.std.specs.Prelude.{ℕ, ◌≡◌, ◌≤◌, ◌+◌, ◌*◌, ◌↔◌, List, None, true, sum_by, Contains}
-use Rattle.bilv_spec.specs.Bil.{Statements, list_size}
-use Rattle.bilv_spec.specs.BilTyping.{IsWellTyped}
-use Rattle.bilv_spec.specs.BilCounts.{list_weight, byte_loads, byte_stores, memory_choices, chosen_stores, unknowns, has_no_loop, has_no_special, nesting, list_names_only}
-use Rattle.bilv_spec.specs.BilMeaning.{Stuck, Ending, Ends, RaisesException, OutOfTurns, Wrong, execute}
-use Rattle.bilv_spec.specs.BilStores.{list_stored}
-use Rattle.bilv_spec.specs.Simulation.{position}
+use Rattle.machine_spec.specs.Bil.{Statements, list_size}
+use Rattle.machine_spec.specs.BilTyping.{IsWellTyped}
+use Rattle.machine_spec.specs.BilCounts.{list_weight, byte_loads, byte_stores, memory_choices, chosen_stores, unknowns, has_no_loop, has_no_special, nesting, list_names_only}
+use Rattle.machine_spec.specs.BilMeaning.{Stuck, Ending, Ends, RaisesException, OutOfTurns, Wrong, execute}
+use Rattle.machine_spec.specs.BilStores.{list_stored}
+use Rattle.machine_spec.specs.Simulation.{position}
 use Rattle.walk_spec.specs.Terms.{TermReading, InRange, TermNode, ChoiceNode, AreTyped, HasWidth, term_word}
 use Rattle.walk_spec.specs.Unrolled.{UnrolledProgram, Carried, state_at}
 use Rattle.walk_spec.specs.Unrolling.{is_variable_of}

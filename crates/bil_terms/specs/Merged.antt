@@ -1,6 +1,6 @@
 -- Two runs made one, by a condition.
 use Rattle.std.specs.Prelude.{ℕ, ◌≡◌, ◌≤◌, ◌<◌, ◌+◌, ◌*◌, List, bit_or}
-use Rattle.bilv_spec.specs.BilMeaning.{Position}
+use Rattle.machine_spec.specs.BilMeaning.{Position}
 use Rattle.walk_spec.specs.Terms.{TermReading, InRange, TermNode, HasWidth, term_word}
 use Rattle.term_dag.specs.Made.{Grew, InputsFrom}
 use Rattle.term_names.specs.Choices.{differs}

@@ -1,9 +1,9 @@
 -- Terms for the variables of an environment.
 use Rattle.std.specs.Prelude.{ℕ, ◌≡◌, ◌||◌, Bool, List, [], ◌∷◌, Contains}
-use Rattle.bilv_spec.specs.Bil.{BilVariable, type_of}
-use Rattle.bilv_spec.specs.BilTyping.{type_width}
-use Rattle.bilv_spec.specs.BilCounts.{is_local}
-use Rattle.bilv_spec.specs.BilMeaning.{Value, Word, Stuck, Env, get, put_local}
+use Rattle.machine_spec.specs.Bil.{BilVariable, type_of}
+use Rattle.machine_spec.specs.BilTyping.{type_width}
+use Rattle.machine_spec.specs.BilCounts.{is_local}
+use Rattle.machine_spec.specs.BilMeaning.{Value, Word, Stuck, Env, get, put_local}
 use Rattle.walk_spec.specs.Terms.{TermReading, TermNode, HasWidth, IsWidth, term_word}
 use Rattle.walk_spec.specs.Unrolling.{is_variable_of}
 use Rattle.walk_spec.specs.Passive.{AreNames, Denotes}

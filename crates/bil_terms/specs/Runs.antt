@@ -1,10 +1,10 @@
 -- What a list of statements has come to, as terms.
 use Rattle.std.specs.Prelude.{ℕ, ◌≡◌, ◌≤◌, ◌+◌, ◌*◌, ◌↔◌, List, [], ◌++◌, Option, Some, None, sum_by, Contains}
-use Rattle.bilv_spec.specs.Memory.{span}
-use Rattle.bilv_spec.specs.Bil.{Statements}
-use Rattle.bilv_spec.specs.BilCounts.{byte_loads, byte_stores, unknowns}
-use Rattle.bilv_spec.specs.BilMeaning.{Position, Ending, Ends, RaisesException, OutOfTurns, Wrong, execute}
-use Rattle.bilv_spec.specs.BilStores.{list_stored}
+use Rattle.word_spec.specs.Memory.{span}
+use Rattle.machine_spec.specs.Bil.{Statements}
+use Rattle.machine_spec.specs.BilCounts.{byte_loads, byte_stores, unknowns}
+use Rattle.machine_spec.specs.BilMeaning.{Position, Ending, Ends, RaisesException, OutOfTurns, Wrong, execute}
+use Rattle.machine_spec.specs.BilStores.{list_stored}
 use Rattle.walk_spec.specs.Terms.{TermReading, InRange, TermNode, ChoiceNode, HasWidth, term_word}
 use Rattle.walk_spec.specs.Passive.{AreNames}
 use Rattle.term_dag.specs.Made.{Grew, InputsFrom}

@@ -1,11 +1,11 @@
 //! Expressions as terms.
 
 ghost use Rattle.std.specs.Prelude.{◌≡◌, true, IfOk};
-ghost use Rattle.bilv_spec.specs.Bil as bil;
-ghost use Rattle.bilv_spec.specs.Memory.{endian};
+ghost use Rattle.machine_spec.specs.Bil as bil;
+ghost use Rattle.word_spec.specs.Memory.{endian};
 ghost use Rattle.byte_mem.specs.Views.{endian_of};
 ghost use Rattle.bil_ast.specs.Views.{bil_type_of, cast_of, expression, unary_of, variable_of};
-ghost use Rattle.bilv_spec.specs.BilTyping.{cast_fits};
+ghost use Rattle.machine_spec.specs.BilTyping.{cast_fits};
 ghost use Rattle.walk_spec.specs.Terms.{HasWidth, IsWidth};
 ghost use Rattle.term_dag.specs.Nodes.{node_of};
 ghost use Rattle.bil_eval.specs.Checked.{IsMemory, IsWord};

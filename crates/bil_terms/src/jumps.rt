@@ -1,7 +1,7 @@
 //! Jumps and exceptions as terms.
 
 ghost use Rattle.std.specs.Prelude.{ℕ, IfOk};
-ghost use Rattle.bilv_spec.specs.Bil as bil;
+ghost use Rattle.machine_spec.specs.Bil as bil;
 ghost use Rattle.bil_ast.specs.Views.{expression};
 ghost use Rattle.walk_spec.specs.Unrolling.{is_variable_of};
 ghost use Rattle.term_names.specs.Views.{form_of};

@@ -1,7 +1,7 @@
 //! Lists of statements as terms.
 
 ghost use Rattle.std.specs.Prelude.{◌≡◌, true, IfOk};
-ghost use Rattle.bilv_spec.specs.Bil as bil;
+ghost use Rattle.machine_spec.specs.Bil as bil;
 ghost use Rattle.bil_ast.specs.Views.{expression, statement, statements, variable_of};
 ghost use Rattle.walk_spec.specs.Unrolling.{is_variable_of};
 ghost use Rattle.term_names.specs.Views.{form_of};

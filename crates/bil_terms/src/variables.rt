@@ -1,7 +1,7 @@
 //! Terms of variables.
 
 ghost use Rattle.std.specs.Prelude.{◌≡◌, ◌==◌, ◌&&◌, true};
-ghost use Rattle.bilv_spec.specs.Bil as bil;
+ghost use Rattle.machine_spec.specs.Bil as bil;
 ghost use Rattle.bil_ast.specs.Views.{variable_of};
 ghost use Rattle.bil_eval.specs.Checked.{IsWord};
 ghost use Rattle.bil_terms.specs.Naming.{AreLocals, IsLocalTerm, IsScope, IsVariableTerm, known};

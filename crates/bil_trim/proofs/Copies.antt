@@ -2,8 +2,8 @@
 use Rattle.std.proofs.Common.{◌≡◌, ℕ, ◌+◌, ◌<◌, ◌≤◌, suc, List, [], ◌∷◌, ◌++◌, Vec, Global, length, get_or, drop, refl, sym, ap, ◌∙◌, add-one}
 use Rattle.std.proofs.Math.Seq.{drop-cons}
 use Rattle.std.proofs.Math.ListN.{drop_of_length-le}
-use Rattle.bilv_spec.specs.Memory.{Endian}
-use Rattle.bilv_spec.specs.Bil.{Statements, Empty, While, If}
+use Rattle.word_spec.specs.Memory.{Endian}
+use Rattle.machine_spec.specs.Bil.{Statements, Empty, While, If}
 use Rattle.bil_ast.specs.declared.expressions.Exp.{Exp}
 use Rattle.bil_ast.specs.declared.statements.Stmt.{Stmt}
 use Rattle.bil_ast.specs.declared.statements.Stmt.TheVariants as stmt

@@ -1,10 +1,10 @@
 -- What a list has in it once a known word stands for its loads.
 use Rattle.std.proofs.Common.{◌≡◌, refl, ap, sym, ◌∙◌, arith, ℕ, ◌+◌, ◌≤◌, Bool, true, false}
 use Rattle.std.specs.Prelude.{◌==◌, ◌&&◌, ◌||◌, ◌*◌, ◌/◌, max, if◌then◌else◌}
-use Rattle.bilv_spec.specs.Memory.{Endian}
-use Rattle.bilv_spec.specs.Bil.{BilVariable, Mem, Negate, Not, Expression, Var, Constant, Load, Store, Binary, Unary, Cast, Let, Unknown, Choose, Extract, Concat, Statements, Empty, Assign, JumpTo, Raise, Special, While, If, type_of, total, list_total}
-use Rattle.bilv_spec.specs.BilTyping.{result_width, type_width}
-use Rattle.bilv_spec.specs.BilCounts.{width, op_weight, own_weight, weight, list_weight, own_loads, own_stores, own_memory_choices, own_chosen_stores, own_other_loads, own_unknowns, has_no_loop, has_no_special, nesting, names_only, is_local, list_names_only, is_flag, may_assign}
+use Rattle.word_spec.specs.Memory.{Endian}
+use Rattle.machine_spec.specs.Bil.{BilVariable, Mem, Negate, Not, Expression, Var, Constant, Load, Store, Binary, Unary, Cast, Let, Unknown, Choose, Extract, Concat, Statements, Empty, Assign, JumpTo, Raise, Special, While, If, type_of, total, list_total}
+use Rattle.machine_spec.specs.BilTyping.{result_width, type_width}
+use Rattle.machine_spec.specs.BilCounts.{width, op_weight, own_weight, weight, list_weight, own_loads, own_stores, own_memory_choices, own_chosen_stores, own_other_loads, own_unknowns, has_no_loop, has_no_special, nesting, names_only, is_local, list_names_only, is_flag, may_assign}
 use Rattle.bil_trim.specs.Literals.{is_load_of, put_literal, with_literal}
 use Rattle.bil_trim.proofs.Loads.{both, all_three, all_four, join, that_load}
 

@@ -1,6 +1,6 @@
 -- Lists that are made one by one, some statements of a list left out.
 use Rattle.std.proofs.Common.{◌≡◌, ℕ, Bool, List, [], ◌∷◌, ◌++◌, Vec, Global, length, Option, Some, refl, sym, ap, ◌∙◌, arith}
-use Rattle.bilv_spec.specs.Bil.{Statements, Empty, While, If}
+use Rattle.machine_spec.specs.Bil.{Statements, Empty, While, If}
 use Rattle.bil_ast.specs.declared.expressions.Exp.{Exp}
 use Rattle.bil_ast.specs.declared.statements.Stmt.{Stmt}
 use Rattle.bil_ast.specs.declared.statements.Stmt.TheVariants as stmt

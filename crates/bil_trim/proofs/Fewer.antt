@@ -3,9 +3,9 @@ use Rattle.std.proofs.Common.{◌≡◌, refl, ap, sym, ◌∙◌, arith, ℕ, �
 use Rattle.std.specs.Prelude.{◌==◌, ◌&&◌, ◌||◌, ◌*◌, max, if◌then◌else◌}
 use Rattle.std.proofs.Math.Nat.{le-max_left, le-max_right, max-le}
 use Rattle.std.proofs.lemmas.Bool.Decides.{nat_tests}
-use Rattle.bilv_spec.specs.Bil.{Bits, BilVariable, Register, Flag, Mem, Local, Expression, Statements, Empty, Assign, JumpTo, Raise, Special, While, If, type_of, total, list_total}
-use Rattle.bilv_spec.specs.BilTyping.{list_fault, type_width}
-use Rattle.bilv_spec.specs.BilCounts.{weight, list_weight, own_loads, own_stores, own_memory_choices, own_chosen_stores, own_other_loads, own_unknowns, has_no_loop, has_no_special, nesting, names_only, list_names_only, may_assign}
+use Rattle.machine_spec.specs.Bil.{Bits, BilVariable, Register, Flag, Mem, Local, Expression, Statements, Empty, Assign, JumpTo, Raise, Special, While, If, type_of, total, list_total}
+use Rattle.machine_spec.specs.BilTyping.{list_fault, type_width}
+use Rattle.machine_spec.specs.BilCounts.{weight, list_weight, own_loads, own_stores, own_memory_choices, own_chosen_stores, own_other_loads, own_unknowns, has_no_loop, has_no_special, nesting, names_only, list_names_only, may_assign}
 use Rattle.bil_trim.specs.Flags.{stays, with_flags, FlagsAddNothing}
 use Rattle.bil_trim.proofs.Loads.{both, all_three, all_four, join}
 use Rattle.bil_trim.proofs.Typed.{anywhere, fault_follows, wants_follows, two_none, none_two}

@@ -2,9 +2,9 @@
 use Rattle.std.proofs.Common.{◌≡◌, refl, ap, ◌∙◌, ℕ, Bool, true, false}
 use Rattle.std.specs.Prelude.{◌==◌, ◌&&◌, if◌then◌else◌}
 use Rattle.std.proofs.lemmas.Bool.{eqb-true}
-use Rattle.bilv_spec.specs.Memory.{Endian, Little, Big}
-use Rattle.bilv_spec.specs.Bil.{Register, Flag, Mem, Local, Expression, Var, Constant, Load, Store, Binary, Unary, Cast, Let, Unknown, Choose, Extract, Concat}
-use Rattle.bilv_spec.specs.BilCounts.{same_order}
+use Rattle.word_spec.specs.Memory.{Endian, Little, Big}
+use Rattle.machine_spec.specs.Bil.{Register, Flag, Mem, Local, Expression, Var, Constant, Load, Store, Binary, Unary, Cast, Let, Unknown, Choose, Extract, Concat}
+use Rattle.machine_spec.specs.BilCounts.{same_order}
 use Rattle.bil_trim.specs.Literals.{is_load_of, is_memory, is_constant}
 
 pub both : (a b : Bool) → (a && b) ≡ true → (a ≡ true) × (b ≡ true)

@@ -1,7 +1,7 @@
 -- A list with a known word in place of its loads has no more in it.
 use Rattle.std.proofs.Common.{◌≡◌, ◌∙◌, ℕ, ◌≤◌, arith}
-use Rattle.bilv_spec.specs.Bil.{total}
-use Rattle.bilv_spec.specs.BilCounts.{own_stores, own_memory_choices, own_chosen_stores, own_unknowns}
+use Rattle.machine_spec.specs.Bil.{total}
+use Rattle.machine_spec.specs.BilCounts.{own_stores, own_memory_choices, own_chosen_stores, own_unknowns}
 use Rattle.bil_trim.specs.Parts.{LiteralsAddNothing}
 use Rattle.bil_trim.specs.Flags.{LiteralsAssignTheSame}
 use Rattle.bil_trim.proofs.Counted.{lists_same, total_same, stores_own, choices_own, chosen_own, unknowns_own, weight_same, loop_same, special_same, nesting_same, names_same, assigns_same, no_loads, fewer_loads}

@@ -3,14 +3,14 @@ use Rattle.std.proofs.Common.{◌≡◌, refl, ap, sym, ◌∙◌, arith, ℕ, z
 use Rattle.std.specs.Prelude.{if◌then◌else◌, ◌&&◌, ◌==◌, ◌/◌, ◌-◌, nat_lt, nat_le}
 use Rattle.std.proofs.lemmas.Bool.Decides.{nat_tests}
 use mathlib.Core.Path.{fun_ext}
-use Rattle.bilv_spec.specs.Words.{sub}
-use Rattle.bilv_spec.specs.Words as words
-use Rattle.bilv_spec.specs.Memory.{Endian, Memory, load, store, span, byte_of}
-use Rattle.bilv_spec.specs.Bil.{BilType, Bits, BilVariable, Register, Flag, Mem, Local, BinaryOp, Plus, Minus, Times, Divide, SignedDivide, Modulo, SignedModulo, And, Or, Xor, ShiftLeft, ShiftRight, ShiftSigned, Equal, NotEqual, Less, LessEqual, SignedLess, SignedLessEqual, UnaryOp, Negate, Not, CastKind, Low, High, Signed, Unsigned, Expression, Var, Constant, Load, Store, Binary, Unary, Cast, Let, Unknown, Choose, Extract, Concat, Statements, Empty, Assign, JumpTo, Raise, Special, While, If, total}
-use Rattle.bilv_spec.specs.Bil as bil
-use Rattle.bilv_spec.specs.BilCounts.{own_stores, byte_stores, has_no_loop}
-use Rattle.bilv_spec.specs.BilMeaning.{Value, Word, Bytes, Stuck, Env, get, assign, put_local, load_from, store_value, store_to, on_words, binary, unary, cast_to, unknown, in_env, choose, extract_from, concat_of, evaluate, Position, Ending, Ends, RaisesException, OutOfTurns, Wrong, then_do, assigned, jumped, branch_on, execute}
-use Rattle.bilv_spec.specs.BilStores.{bytes_at, chosen, stored_in, stored_by, then_stored, list_stored}
+use Rattle.word_spec.specs.Words.{sub}
+use Rattle.word_spec.specs.Words as words
+use Rattle.word_spec.specs.Memory.{Endian, Memory, load, store, span, byte_of}
+use Rattle.machine_spec.specs.Bil.{BilType, Bits, BilVariable, Register, Flag, Mem, Local, BinaryOp, Plus, Minus, Times, Divide, SignedDivide, Modulo, SignedModulo, And, Or, Xor, ShiftLeft, ShiftRight, ShiftSigned, Equal, NotEqual, Less, LessEqual, SignedLess, SignedLessEqual, UnaryOp, Negate, Not, CastKind, Low, High, Signed, Unsigned, Expression, Var, Constant, Load, Store, Binary, Unary, Cast, Let, Unknown, Choose, Extract, Concat, Statements, Empty, Assign, JumpTo, Raise, Special, While, If, total}
+use Rattle.machine_spec.specs.Bil as bil
+use Rattle.machine_spec.specs.BilCounts.{own_stores, byte_stores, has_no_loop}
+use Rattle.machine_spec.specs.BilMeaning.{Value, Word, Bytes, Stuck, Env, get, assign, put_local, load_from, store_value, store_to, on_words, binary, unary, cast_to, unknown, in_env, choose, extract_from, concat_of, evaluate, Position, Ending, Ends, RaisesException, OutOfTurns, Wrong, then_do, assigned, jumped, branch_on, execute}
+use Rattle.machine_spec.specs.BilStores.{bytes_at, chosen, stored_in, stored_by, then_stored, list_stored}
 use Rattle.bil_trim.specs.Literals.{is_load_of, put_literal, with_literal, IsNoOther, LiteralsKeepMeaning}
 use Rattle.bil_trim.proofs.Loads.{all_three, that_load}
 use Rattle.bil_trim.proofs.Counted.{either}

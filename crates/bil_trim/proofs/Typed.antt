@@ -2,10 +2,10 @@
 use Rattle.std.proofs.Common.{◌≡◌, refl, ap, sym, ◌∙◌, arith, ℕ, ◌+◌, ◌-◌, ◌<◌, ◌^◌, Bool, true, false, Option, Some, None}
 use Rattle.std.specs.Prelude.{◌==◌, ◌&&◌, nat_lt, nat_le, min, if◌then◌else◌}
 use Rattle.std.proofs.lemmas.Bool.Decides.{nat_tests}
-use Rattle.bilv_spec.specs.Memory.{Endian}
-use Rattle.bilv_spec.specs.Bil.{BilType, Bits, Memory, BilVariable, BinaryOp, UnaryOp, CastKind, Expression, Var, Constant, Load, Store, Binary, Unary, Cast, Let, Unknown, Choose, Extract, Concat, Statements, Empty, Assign, JumpTo, Raise, Special, While, If, type_of, size}
-use Rattle.bilv_spec.specs.BilTyping.{Typed, Has, Faulty, TypeFault, asks_bits, asks_any, asks_memory, asks_type, asks_fit, of_operand, is_width, is_load_width, is_type, cast_fits, result_width, unknown_type, type_or_fault, fault_in, or_fault, wants, list_fault}
-use Rattle.bilv_spec.proofs.BilSound.{bits_gave, memory_gave, fit_gave, of_operand_gave}
+use Rattle.word_spec.specs.Memory.{Endian}
+use Rattle.machine_spec.specs.Bil.{BilType, Bits, Memory, BilVariable, BinaryOp, UnaryOp, CastKind, Expression, Var, Constant, Load, Store, Binary, Unary, Cast, Let, Unknown, Choose, Extract, Concat, Statements, Empty, Assign, JumpTo, Raise, Special, While, If, type_of, size}
+use Rattle.machine_spec.specs.BilTyping.{Typed, Has, Faulty, TypeFault, asks_bits, asks_any, asks_memory, asks_type, asks_fit, of_operand, is_width, is_load_width, is_type, cast_fits, result_width, unknown_type, type_or_fault, fault_in, or_fault, wants, list_fault}
+use Rattle.machine_spec.proofs.BilSound.{bits_gave, memory_gave, fit_gave, of_operand_gave}
 use Rattle.bil_trim.specs.Literals.{is_load_of, put_literal, with_literal}
 use Rattle.bil_trim.proofs.Loads.{that_load}
 use Rattle.bil_trim.proofs.Counted.{either}

@@ -4,11 +4,11 @@ use Rattle.std.specs.Prelude.{Contains, if◌then◌else◌, ◌&&◌, ◌||◌,
 use Rattle.std.specs.Option.{option_map}
 use Rattle.std.proofs.lemmas.List.Elements.{Contains-append_left, Contains-append_right, Contains-append_cases}
 use mathlib.Core.Path.{fun_ext}
-use Rattle.bilv_spec.specs.State as state
-use Rattle.bilv_spec.specs.Bil.{BilVariable, Register, Flag, Mem, Local, Expression, Var, Constant, Load, Store, Binary, Unary, Cast, Let, Unknown, Choose, Extract, Concat, Statements, Empty, Assign, JumpTo, Raise, Special, While, If}
-use Rattle.bilv_spec.specs.BilCounts.{has_no_loop, is_flag, reads_flag, may_assign, reads_first}
-use Rattle.bilv_spec.specs.BilMeaning.{Value, Word, Bytes, Stuck, Env, get, assign, put_local, load_from, store_to, binary, unary, cast_to, in_env, choose, extract_from, concat_of, evaluate, Position, Ending, Ends, RaisesException, OutOfTurns, Wrong, then_do, assigned, jumped, branch_on, execute}
-use Rattle.bilv_spec.specs.BilStores.{bytes_at, chosen, stored_in, stored_by, then_stored, list_stored}
+use Rattle.word_spec.specs.State as state
+use Rattle.machine_spec.specs.Bil.{BilVariable, Register, Flag, Mem, Local, Expression, Var, Constant, Load, Store, Binary, Unary, Cast, Let, Unknown, Choose, Extract, Concat, Statements, Empty, Assign, JumpTo, Raise, Special, While, If}
+use Rattle.machine_spec.specs.BilCounts.{has_no_loop, is_flag, reads_flag, may_assign, reads_first}
+use Rattle.machine_spec.specs.BilMeaning.{Value, Word, Bytes, Stuck, Env, get, assign, put_local, load_from, store_to, binary, unary, cast_to, in_env, choose, extract_from, concat_of, evaluate, Position, Ending, Ends, RaisesException, OutOfTurns, Wrong, then_do, assigned, jumped, branch_on, execute}
+use Rattle.machine_spec.specs.BilStores.{bytes_at, chosen, stored_in, stored_by, then_stored, list_stored}
 use Rattle.bil_trim.specs.Flags.{stays, with_flags, env_with, position_with, ending_with, IsMeant, FlagsKeepMeaning, FlagsStoreNoMore}
 use Rattle.bil_trim.proofs.Loads.{both, all_three, all_four}
 use Rattle.bil_trim.proofs.Fewer.{of_if, left_or, right_or, same_flag, one_flag}

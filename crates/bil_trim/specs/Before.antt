@@ -1,6 +1,6 @@
 -- A statement that there may be, before others.
 use Rattle.std.specs.Prelude.{Option, Some, None}
-use Rattle.bilv_spec.specs.Bil.{Statements}
+use Rattle.machine_spec.specs.Bil.{Statements}
 use Rattle.bil_ast.specs.declared.statements.Stmt.{Stmt}
 use Rattle.bil_ast.specs.Views.{statement}
 

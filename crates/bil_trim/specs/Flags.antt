@@ -1,10 +1,10 @@
 -- Lists without the assignments of flags that nothing reads.
 use Rattle.std.specs.Prelude.{ℕ, ◌≡◌, ◌≤◌, ◌&&◌, nat_lt, Bool, true, false, if◌then◌else◌, Contains}
-use Rattle.bilv_spec.specs.Memory.{Endian}
-use Rattle.bilv_spec.specs.Bil.{BilVariable, Register, Flag, Mem, Local, Statements, Empty, Assign, JumpTo, Raise, Special, While, If}
-use Rattle.bilv_spec.specs.BilCounts.{other_loads, has_no_loop, may_assign, reads_first}
-use Rattle.bilv_spec.specs.BilMeaning.{Env, Position, Ending, Ends, RaisesException, OutOfTurns, Wrong, execute}
-use Rattle.bilv_spec.specs.BilStores.{list_stored}
+use Rattle.word_spec.specs.Memory.{Endian}
+use Rattle.machine_spec.specs.Bil.{BilVariable, Register, Flag, Mem, Local, Statements, Empty, Assign, JumpTo, Raise, Special, While, If}
+use Rattle.machine_spec.specs.BilCounts.{other_loads, has_no_loop, may_assign, reads_first}
+use Rattle.machine_spec.specs.BilMeaning.{Env, Position, Ending, Ends, RaisesException, OutOfTurns, Wrong, execute}
+use Rattle.machine_spec.specs.BilStores.{list_stored}
 use Rattle.graph_nodes.specs.Graphs.{has_flag}
 use Rattle.bil_trim.specs.Literals.{with_literal}
 use Rattle.bil_trim.specs.Parts.{HasNoMore}

@@ -1,9 +1,9 @@
 -- Lists in which the load of a word that is known is its constant.
 use Rattle.std.specs.Prelude.{ℕ, ◌≡◌, ◌==◌, ◌&&◌, Bool, true, false, if◌then◌else◌}
-use Rattle.bilv_spec.specs.Memory.{Endian, Memory, load}
-use Rattle.bilv_spec.specs.Bil.{Mem, Expression, Var, Constant, Load, Store, Binary, Unary, Cast, Let, Unknown, Choose, Extract, Concat, Statements, Empty, Assign, JumpTo, Raise, Special, While, If}
-use Rattle.bilv_spec.specs.BilCounts.{own_other_loads, byte_stores, has_no_loop}
-use Rattle.bilv_spec.specs.BilMeaning.{Value, Word, Bytes, Stuck, Position, execute}
+use Rattle.word_spec.specs.Memory.{Endian, Memory, load}
+use Rattle.machine_spec.specs.Bil.{Mem, Expression, Var, Constant, Load, Store, Binary, Unary, Cast, Let, Unknown, Choose, Extract, Concat, Statements, Empty, Assign, JumpTo, Raise, Special, While, If}
+use Rattle.machine_spec.specs.BilCounts.{own_other_loads, byte_stores, has_no_loop}
+use Rattle.machine_spec.specs.BilMeaning.{Value, Word, Bytes, Stuck, Position, execute}
 
 -- the load is that of the word at an address, in a byte order, out of the machine's memory
 abbrev pub is_load_of : Endian → (address : ℕ) → (memory at : Expression) → Endian → (width : ℕ) → Bool

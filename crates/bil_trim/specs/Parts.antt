@@ -1,9 +1,9 @@
 -- Lists that have no more in them than others.
 use Rattle.std.specs.Prelude.{ℕ, ◌≡◌, ◌≤◌, ◌<◌, ◌^◌, Bool, true}
-use Rattle.bilv_spec.specs.Memory.{Endian}
-use Rattle.bilv_spec.specs.Bil.{BilVariable, Statements}
-use Rattle.bilv_spec.specs.BilTyping.{IsWellTyped}
-use Rattle.bilv_spec.specs.BilCounts.{list_weight, byte_loads, byte_stores, memory_choices, chosen_stores, other_loads, unknowns, has_no_loop, has_no_special, nesting, list_names_only}
+use Rattle.word_spec.specs.Memory.{Endian}
+use Rattle.machine_spec.specs.Bil.{BilVariable, Statements}
+use Rattle.machine_spec.specs.BilTyping.{IsWellTyped}
+use Rattle.machine_spec.specs.BilCounts.{list_weight, byte_loads, byte_stores, memory_choices, chosen_stores, other_loads, unknowns, has_no_loop, has_no_special, nesting, list_names_only}
 use Rattle.bil_trim.specs.Literals.{with_literal}
 
 -- a list is well typed and without loops and specials if another is, names no more, and has no more of what is counted

@@ -1,7 +1,7 @@
 //! Known words in place of their loads.
 ghost use Rattle.std.specs.Prelude.{◌≡◌, ◌==◌, IfOk, true, false};
-ghost use Rattle.bilv_spec.specs.Bil as bil;
-ghost use Rattle.bilv_spec.specs.BilCounts as counts;
+ghost use Rattle.machine_spec.specs.Bil as bil;
+ghost use Rattle.machine_spec.specs.BilCounts as counts;
 ghost use Rattle.byte_mem.specs.Views.{endian_of};
 ghost use Rattle.bil_ast.specs.Views.{expression, statement, statements};
 ghost use Rattle.bil_trim.specs.Literals as literals;

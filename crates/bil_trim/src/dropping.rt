@@ -1,6 +1,6 @@
 //! Lists without the assignments of flags that nothing reads.
 ghost use Rattle.std.specs.Prelude.{◌≡◌, IfOk};
-ghost use Rattle.bilv_spec.specs.Bil as bil;
+ghost use Rattle.machine_spec.specs.Bil as bil;
 ghost use Rattle.bil_ast.specs.Views.{statement, statements, variable_of};
 ghost use Rattle.bil_trim.specs.Before.{maybe_statement};
 ghost use Rattle.bil_trim.specs.Flags as flags;

@@ -2,8 +2,8 @@
 use Rattle.std.proofs.Common.{◌≡◌, ℕ, suc, ◌+◌, ◌-◌, ◌^◌, ◌<◌, ◌≤◌, min, Option, Some, None, List, [], ◌∷◌, length, get_or, drop, refl, sym, ap, ◌∙◌, arith, add-one}
 use Rattle.std.proofs.Math.Seq.{drop-cons}
 use Rattle.std.proofs.Math.ListN.{drop_of_length-le}
-use Rattle.bilv_spec.specs.Bil.{BilType, Bits, Statements, Empty, Assign, JumpTo, Raise, Special, While, If, size, list_size, type_of}
-use Rattle.bilv_spec.specs.BilTyping.{TypeFault, Typed, Has, of_operand, type_or_fault, fault_in, or_fault, wants, list_fault}
+use Rattle.machine_spec.specs.Bil.{BilType, Bits, Statements, Empty, Assign, JumpTo, Raise, Special, While, If, size, list_size, type_of}
+use Rattle.machine_spec.specs.BilTyping.{TypeFault, Typed, Has, of_operand, type_or_fault, fault_in, or_fault, wants, list_fault}
 use Rattle.bil_ast.specs.declared.statements.Stmt.{Stmt}
 use Rattle.bil_ast.specs.declared.statements.Stmt.TheVariants as stmt
 use Rattle.bil_ast.specs.Views.{variable_of, expression, statement, block, statements}

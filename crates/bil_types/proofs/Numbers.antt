@@ -1,8 +1,8 @@
 -- The number of a node shows only in the place of a fault, where it is at most 2 ^ 64 - 1: what the code counts, which stops there, serves as well.
 use Rattle.std.proofs.Common.{◌≡◌, ℕ, ◌+◌, ◌-◌, ◌*◌, ◌%◌, ◌^◌, ◌==◌, min, nat_lt, nat_le, Bool, true, false, ◌&&◌, refl, ap, ◌∙◌, arith}
 use Rattle.std.specs.Prelude.{if◌then◌else◌}
-use Rattle.bilv_spec.specs.Bil.{BilType, Bits, Memory, Expression, Var, Constant, Load, Store, Binary, Unary, Cast, Let, Unknown, Choose, Extract, Concat, size, type_of}
-use Rattle.bilv_spec.specs.BilTyping.{Typed, Has, Faulty, Need, NeedBits, AnyBits, NeedMemory, Fits, of_operand, type_or_fault, is_width, is_type, is_load_width, result_width, cast_fits}
+use Rattle.machine_spec.specs.Bil.{BilType, Bits, Memory, Expression, Var, Constant, Load, Store, Binary, Unary, Cast, Let, Unknown, Choose, Extract, Concat, size, type_of}
+use Rattle.machine_spec.specs.BilTyping.{Typed, Has, Faulty, Need, NeedBits, AnyBits, NeedMemory, Fits, of_operand, type_or_fault, is_width, is_type, is_load_width, result_width, cast_fits}
 
 -- two numbers that faults show alike
 abbrev pub Alike : ℕ → ℕ → Type 0

@@ -1,7 +1,7 @@
 -- Faults and results of the code as those of the definitions.
 use Rattle.std.specs.Prelude.{ℕ, Option, Some, None, Result, Ok, Err}
-use Rattle.bilv_spec.specs.BilTyping as typing
-use Rattle.bilv_spec.specs.BilTyping.{Typed, Has, Faulty}
+use Rattle.machine_spec.specs.BilTyping as typing
+use Rattle.machine_spec.specs.BilTyping.{Typed, Has, Faulty}
 use Rattle.bil_ast.specs.declared.names.BilType.{BilType}
 use Rattle.bil_ast.specs.declared.width.Width.{Width}
 use Rattle.bil_ast.specs.Views.{bil_type_of}

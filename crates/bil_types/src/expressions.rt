@@ -1,8 +1,8 @@
 //! Types of expressions.
 
 ghost use Rattle.std.specs.Prelude.{◌≡◌, ◌+◌, ◌-◌, ◌^◌, min, IfOk, IfErr, Some};
-ghost use Rattle.bilv_spec.specs.Bil.{size};
-ghost use Rattle.bilv_spec.specs.BilTyping.{Faulty, type_or_fault, typed};
+ghost use Rattle.machine_spec.specs.Bil.{size};
+ghost use Rattle.machine_spec.specs.BilTyping.{Faulty, type_or_fault, typed};
 ghost use Rattle.bil_ast.specs.Views.{bil_type_of, expression};
 ghost use Rattle.bil_types.specs.Views.{fault_of, numbered_of};
 

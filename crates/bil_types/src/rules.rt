@@ -1,9 +1,9 @@
 //! The rules of typing, each over the types of a node's operands and the node's number.
 
 ghost use Rattle.std.specs.Prelude.{◌≡◌, ◌<◌, ◌≤◌, ◌+◌, ◌-◌, ◌&&◌, ◌%◌, ◌==◌, ◌^◌, min, nat_lt, nat_le, true, ℕ, IfOk};
-ghost use Rattle.bilv_spec.specs.Bil as bil;
-ghost use Rattle.bilv_spec.specs.Bil.{Bits};
-ghost use Rattle.bilv_spec.specs.BilTyping.{Typed, Has, asks_bits, asks_any, asks_memory, asks_type, asks_fit, cast_fits, is_load_width, is_type, is_width, result_width, unknown_type};
+ghost use Rattle.machine_spec.specs.Bil as bil;
+ghost use Rattle.machine_spec.specs.Bil.{Bits};
+ghost use Rattle.machine_spec.specs.BilTyping.{Typed, Has, asks_bits, asks_any, asks_memory, asks_type, asks_fit, cast_fits, is_load_width, is_type, is_width, result_width, unknown_type};
 ghost use Rattle.bil_ast.specs.Views.{bil_type_of, binary_of, cast_of, variable_of};
 ghost use Rattle.bil_types.specs.Views.{met, met_word, typed_of};
 

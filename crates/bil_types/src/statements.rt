@@ -1,8 +1,8 @@
 //! Types of lists of statements.
 
 ghost use Rattle.std.specs.Prelude.{◌≡◌, ◌+◌, ◌-◌, ◌^◌, min, IfOk, IfErr, IsOk, Some, ◌↔◌};
-ghost use Rattle.bilv_spec.specs.Bil.{Empty, While, If, size, list_size};
-ghost use Rattle.bilv_spec.specs.BilTyping.{IsWellTyped, list_fault, type_or_fault, wants};
+ghost use Rattle.machine_spec.specs.Bil.{Empty, While, If, size, list_size};
+ghost use Rattle.machine_spec.specs.BilTyping.{IsWellTyped, list_fault, type_or_fault, wants};
 ghost use Rattle.bil_ast.specs.Views.{bil_type_of, expression, statement, statements};
 ghost use Rattle.bil_types.specs.Views.{fault_in, fault_of};
 

@@ -1,12 +1,13 @@
 -- A question that is true of a reading is true over each set of known bytes.
 use Rattle.std.proofs.Common.{◌≡◌, ◌⊎◌, inl, inr, ℕ, ◌^◌, ◌<◌, refl, true, false, Bool, Some}
 use Rattle.std.specs.Prelude.{◌||◌}
-use Rattle.bilv_spec.specs.State.{State}
+use Rattle.word_spec.specs.State.{State}
 use Rattle.bilv_spec.specs.Elf.{Cell, kept}
 use Rattle.bilv_spec.specs.Run.{Program}
 use Rattle.bilv_spec.specs.Verdict.{IsEntryState, fixed}
 use Rattle.bilv_spec.specs.Points.{is_known_at}
-use Rattle.bilv_spec.specs.Questions.{Reading, Question, IsTrue, IsTrueOver, IsEntryStateOver}
+use Rattle.bilv_spec.specs.Questions.{Reading, IsTrue, IsTrueOver, IsEntryStateOver}
+use Rattle.call_spec.specs.Calls.{Question}
 
 either : (x y : Bool) → (x || y) ≡ true → (x ≡ true) ⊎ (y ≡ true)
 either true y e = inl refl

@@ -2,10 +2,12 @@
 use Rattle.std.proofs.Common.{◌≡◌, inl, inr, ℕ, zero, suc, ◌+◌, ◌-◌, ◌<◌, refl, ap, sym, ◌∙◌, subst, arith, Bool, true, false}
 use Rattle.std.specs.Prelude.{◌↔◌, if◌then◌else◌, nat_lt}
 use Rattle.std.proofs.lemmas.Bool.Decides.{nat_tests}
-use Rattle.bilv_spec.specs.Run.{Program, Start, Run, Going, Exited, Failed, Turned, Place, run, IsOver}
+use Rattle.bilv_spec.specs.Run.{Program, Run, Going, Exited, Failed, Turned, Place, run, IsOver}
+use Rattle.machine_spec.specs.Endings.{Start}
 use Rattle.bilv_spec.specs.Points.{Point}
 use Rattle.bilv_spec.specs.Verdict.{Verdict, Holds, Vacuous, Fails, Unroll, IsEntryState, IsStart, IsRight, RunExits, RunFails, RunTurns}
-use Rattle.bilv_spec.specs.Questions.{Reading, Question, EntryQuestion, FailQuestion, TurnQuestion, by_file, point_of, read_run, IsSatisfiable}
+use Rattle.bilv_spec.specs.Questions.{Reading, by_file, point_of, read_run, IsSatisfiable}
+use Rattle.call_spec.specs.Calls.{Question, EntryQuestion, FailQuestion, TurnQuestion}
 use Rattle.bilv_spec.specs.QuestionLaws.{Follows, StartEndsBy, HasRun, IsDecided}
 use Rattle.bilv_spec.specs.PointLaws.{HasLawfulRows, ReadsMemory, ComesBefore}
 use Rattle.bilv_spec.proofs.Pigeons.{truth}

@@ -1,6 +1,7 @@
 -- A run from an entry state ends: the number of backward transfers and then the address rise, and both are bounded.
 use Rattle.std.proofs.Common.{inl, inr, ℕ, zero, suc, ◌+◌, ◌*◌, ◌≤◌, ◌<◌, sym, subst, arith}
-use Rattle.bilv_spec.specs.Run.{Program, Start, Run, Going, Exited, Failed, Turned, run, one_more, IsOver}
+use Rattle.bilv_spec.specs.Run.{Program, Run, Going, Exited, Failed, Turned, run, one_more, IsOver}
+use Rattle.machine_spec.specs.Endings.{Start}
 use Rattle.bilv_spec.specs.Points.{Point}
 use Rattle.bilv_spec.specs.Verdict.{IsEntryState}
 use Rattle.bilv_spec.specs.Questions.{by_file, point_of}

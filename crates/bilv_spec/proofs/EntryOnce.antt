@@ -2,7 +2,7 @@
 use Rattle.std.proofs.Common.{◌≡◌, ℕ, ◌<◌, ◌^◌, refl, ap, sym, ◌∙◌, Bool, true, false, ◌||◌, ◌&&◌, Option, Some, None, is_some, ⊎_elim}
 use Rattle.std.proofs.Math.Nat.{eq-or-lt_of_le}
 use Rattle.std.proofs.lemmas.Bool.{cases_lt}
-use Rattle.bilv_spec.specs.State.{State}
+use Rattle.word_spec.specs.State.{State}
 use Rattle.bilv_spec.specs.Elf.{Cell, kept}
 use Rattle.bilv_spec.specs.Run.{Program, is_kept}
 use Rattle.bilv_spec.specs.Verdict.{IsEntryState, fixed}

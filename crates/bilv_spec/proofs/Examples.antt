@@ -1,17 +1,19 @@
 -- Worked runs, by computation alone.
 use Rattle.std.proofs.Common.{◌≡◌, ℕ, ◌+◌, refl, List, [], ◌∷◌, ◌++◌, Option}
 use Rattle.std.specs.Prelude.{◌==◌, if◌then◌else◌}
-use Rattle.bilv_spec.specs.Memory.{Little, Big, memory_of, byte_in}
-use Rattle.bilv_spec.specs.Machine.{Machine}
-use Rattle.bilv_spec.specs.RowFiles.{rv_file, arm_file, arm_big_file, bytes_of}
+use Rattle.word_spec.specs.Memory.{Little, Big, memory_of, byte_in}
+use Rattle.machine_spec.specs.Machine.{Machine}
+use Rattle.word_spec.specs.RowFiles.{rv_file, arm_file, arm_big_file, bytes_of}
 use Rattle.std.specs.List.{flat_map}
-use Rattle.bilv_spec.specs.Arm.{arm, arm_row, V4}
-use Rattle.bilv_spec.specs.Arm as arm_rows
+use Rattle.machine_spec.specs.Arm.{arm, arm_row}
+use Rattle.word_spec.specs.Profiles.{V4}
+use Rattle.machine_spec.specs.Arm as arm_rows
 use Rattle.bilv_spec.specs.Elf.{loaded, Cell}
 use Rattle.bilv_spec.specs.Points.{byte_of_cell}
-use Rattle.bilv_spec.specs.Rv.{rv32, table, rv_row}
+use Rattle.machine_spec.specs.Rv.{rv32, table, rv_row}
 use Rattle.bilv_spec.specs.Notes.{Notes, NoteLine, At, Number, Register, Flag, Memory, Old, Binary, Equal, Above, Plus, BitAnd, And, ShiftRight}
-use Rattle.bilv_spec.specs.Run.{Program, Start, Run, Exited, Failed, Turned, run, in_memory, EnsureFails, CodeWritten, NoRow, Trapped, JumpFails, HalfwordFails}
+use Rattle.bilv_spec.specs.Run.{Program, Run, Exited, Failed, Turned, run, in_memory}
+use Rattle.machine_spec.specs.Endings.{Start, EnsureFails, CodeWritten, NoRow, Trapped, JumpFails, HalfwordFails}
 
 -- the notes of a function at 0x10000 with these requires and ensures
 abbrev notes : List NoteLine → List NoteLine → Notes

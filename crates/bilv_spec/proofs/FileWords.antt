@@ -2,13 +2,14 @@
 use Rattle.std.proofs.Common.{◌≡◌, ℕ, zero, suc, ◌%◌, ◌^◌, ◌<◌, refl, ap, sym, ◌∙◌, arith, List, [], ◌∷◌, ◌++◌, Option, Some, None, Bool, true, false}
 use Rattle.std.specs.Prelude.{Contains, ◌==◌, ◌||◌, not, nat_le, nat_eq, if◌then◌else◌}
 use Rattle.std.specs.List.{list_any, list_all}
-use Rattle.bilv_spec.specs.Words.{add, sub}
-use Rattle.bilv_spec.specs.Memory.{Endian, Little, Big, number}
-use Rattle.bilv_spec.specs.State.{State, IsState}
+use Rattle.word_spec.specs.Words.{add, sub}
+use Rattle.word_spec.specs.Memory.{Endian, Little, Big, number}
+use Rattle.word_spec.specs.State.{State, IsState}
 use Rattle.bilv_spec.specs.Elf.{Cell, kept, writable}
-use Rattle.bilv_spec.specs.Machine.{Row, How, On, Direct, DirectCall, Indirect, IndirectCall, Outcome, Goes, Raises, addresses, pair_of}
-use Rattle.bilv_spec.specs.MachineLaws.{KeepsOthers, LeavesState}
-use Rattle.bilv_spec.specs.Run.{Program, Start, Run, Going, Exited, Failed, Turned, Place, Step, Stops, Arrives, Exits, in_memory, step, run, one_more, after_step, arrive, turn, named, is_named, some_of, targets_at, literal_target, row_at, exit_by, exit_or, return_or, allowed, transfer, aligned_transfer, going_on, after_row, by_row, by_fetch, after_asserts, false_line, false_assert, fetchable, all_kept, is_kept, is_executable, writes_kept}
+use Rattle.machine_spec.specs.Machine.{Row, How, On, Direct, DirectCall, Indirect, IndirectCall, Outcome, Goes, Raises, addresses, pair_of}
+use Rattle.machine_spec.specs.MachineLaws.{KeepsOthers, LeavesState}
+use Rattle.bilv_spec.specs.Run.{Program, Run, Going, Exited, Failed, Turned, Place, Step, Stops, Arrives, Exits, in_memory, step, run, one_more, after_step, arrive, turn, named, is_named, some_of, targets_at, literal_target, row_at, exit_by, exit_or, return_or, allowed, transfer, aligned_transfer, going_on, after_row, by_row, by_fetch, after_asserts, false_line, false_assert, fetchable, all_kept, is_kept, is_executable, writes_kept}
+use Rattle.machine_spec.specs.Endings.{Start}
 use Rattle.bilv_spec.specs.Points.{file_word, file_row, byte_of_cell}
 use Rattle.bilv_spec.specs.Verdict.{IsEntryState}
 use Rattle.bilv_spec.specs.Questions.{by_file}

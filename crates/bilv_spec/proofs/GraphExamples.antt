@@ -2,13 +2,14 @@
 use Rattle.std.proofs.Common.{◌≡◌, ℕ, ◌+◌, ◌*◌, arith, refl, List, [], ◌∷◌, ◌++◌, Bool, true, false}
 use Rattle.std.specs.Prelude.{◌==◌, codes}
 use Rattle.bilv_spec.specs.GraphText.{graph_line}
-use Rattle.bilv_spec.specs.Memory.{Little}
-use Rattle.bilv_spec.specs.Machine.{Machine}
-use Rattle.bilv_spec.specs.RowFiles.{rv_file, arm_file}
-use Rattle.bilv_spec.specs.Arm.{arm, arm_row, V4}
-use Rattle.bilv_spec.specs.Arm as arm_rows
+use Rattle.word_spec.specs.Memory.{Little}
+use Rattle.machine_spec.specs.Machine.{Machine}
+use Rattle.word_spec.specs.RowFiles.{rv_file, arm_file}
+use Rattle.machine_spec.specs.Arm.{arm, arm_row}
+use Rattle.word_spec.specs.Profiles.{V4}
+use Rattle.machine_spec.specs.Arm as arm_rows
 use Rattle.bilv_spec.specs.Elf.{loaded}
-use Rattle.bilv_spec.specs.Rv.{rv32, table, rv_row}
+use Rattle.machine_spec.specs.Rv.{rv32, table, rv_row}
 use Rattle.bilv_spec.specs.Notes.{Expr, NoteLine, Targets, At, Number, Register, Bound, Memory, Old, Binary, Equal, Plus, BitAnd, Times, written_out}
 use Rattle.bilv_spec.specs.Run.{Program, in_memory}
 use Rattle.bilv_spec.specs.Points.{price_of, line_price, Point, ToAddress, ToExit, edges, ArePoints, HasMore}

@@ -1,11 +1,12 @@
 -- A run over notes whose lines have numbers one greater is the same, but for the numbers in its event.
 use Rattle.std.proofs.Common.{◌≡◌, ℕ, zero, suc, ◌+◌, refl, ap, sym, ◌∙◌, List, [], ◌∷◌, map, Option, Some, None, Bool, true, false, ◌==◌, ◌&&◌, nat_le, if◌then◌else◌}
 use Rattle.std.specs.Prelude.{not}
-use Rattle.bilv_spec.specs.Memory.{Endian}
-use Rattle.bilv_spec.specs.State.{State}
-use Rattle.bilv_spec.specs.Machine.{Row, How, On, Direct, DirectCall, Indirect, IndirectCall, Exception, EnvironmentCall, Breakpoint, SoftwareInterrupt, OddHalfword, UnalignedLoad, Outcome, Goes, Raises}
+use Rattle.word_spec.specs.Memory.{Endian}
+use Rattle.word_spec.specs.State.{State}
+use Rattle.machine_spec.specs.Machine.{Row, How, On, Direct, DirectCall, Indirect, IndirectCall, Exception, EnvironmentCall, Breakpoint, SoftwareInterrupt, OddHalfword, UnalignedLoad, Outcome, Goes, Raises}
 use Rattle.bilv_spec.specs.Notes.{NoteLine, Assert, value, is_true}
-use Rattle.bilv_spec.specs.Run.{Program, Event, AssertFails, FetchFails, NoRow, HalfwordFails, CodeWritten, Trapped, AlignFails, JumpFails, EnsureFails, Place, Step, Stops, Arrives, Exits, false_assert, false_line, fetchable, is_named, exit_by, exit, allowed, exit_or, return_or, leave, transfer, aligned_transfer, event_of, exception_event, going_on, after_row, writes_kept, by_row, by_fetch, after_asserts, step, Start, Run, Going, Exited, Failed, Turned, turn, arrive, after_step, one_more, run}
+use Rattle.bilv_spec.specs.Run.{Program, Place, Step, Stops, Arrives, Exits, false_assert, false_line, fetchable, is_named, exit_by, exit, allowed, exit_or, return_or, leave, transfer, aligned_transfer, event_of, exception_event, going_on, after_row, writes_kept, by_row, by_fetch, after_asserts, step, Run, Going, Exited, Failed, Turned, turn, arrive, after_step, one_more, run}
+use Rattle.machine_spec.specs.Endings.{Event, AssertFails, FetchFails, NoRow, HalfwordFails, CodeWritten, Trapped, AlignFails, JumpFails, EnsureFails, Start}
 use Rattle.bilv_spec.specs.Verdict.{IsEntryState, IsStart, RunExits, RunFails, RunTurns, Verdict, Holds, Vacuous, Fails, Unroll, IsRight}
 use Rattle.bilv_spec.specs.Upgrades.{later_line, later_assert, later_program, VerdictIsSame}
 

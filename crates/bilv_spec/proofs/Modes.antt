@@ -1,7 +1,8 @@
 -- What is read as it must be is read leniently as well, and is the same; and what is read is read as if every word had a meaning.
 use Rattle.std.proofs.Common.{◌≡◌, refl, ap, sym, subst, ◌∙◌, ℕ, suc, ◌<◌, ◌+◌, List, [], ◌∷◌, ◌++◌, length, Option, Some, None, Bool, true, false, if◌then◌else◌}
 use Rattle.bilv_spec.specs.Notes.{Expr, Number, Memory, Old, Not, Binary, At, Named, written_out}
-use Rattle.bilv_spec.specs.NotesGrammar.{Token, NumberToken, NameToken, SignToken, BadByte, BadText, number_at, AreNumbers, Parses, tighter, binary_of, not_of, number_of, name_of, memory_of, old_of, all_of, in_brackets, Says, Nothing, EntryIs, RequireIs, EnsureIs, AssertIs, TargetsAre, FixedIs, VersionIs, ConstIs, LoadedIs, IsSaid, left_of, after, after_all}
+use Rattle.word_spec.specs.Tokens.{Token, NumberToken, NameToken, SignToken, BadByte, BadText}
+use Rattle.bilv_spec.specs.NotesGrammar.{number_at, AreNumbers, Parses, tighter, binary_of, not_of, number_of, name_of, memory_of, old_of, all_of, in_brackets, Says, Nothing, EntryIs, RequireIs, EnsureIs, AssertIs, TargetsAre, FixedIs, VersionIs, ConstIs, LoadedIs, IsSaid, left_of, after, after_all}
 use Rattle.bilv_spec.specs.Scopes.{Scope, Strict, lenient, loose, binding, is_reserved, name_by, number_by}
 use Rattle.bilv_spec.proofs.Decided.{none_some}
 

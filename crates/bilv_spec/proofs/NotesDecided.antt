@@ -1,7 +1,8 @@
 -- Whether a line says something can be decided.
 use Rattle.std.proofs.Common.{◌≡◌, ℕ, suc, ◌<◌, refl, ap, sym, ◌∙◌, subst, arith, List, [], ◌∷◌, Option, Some, None, Bool, true, false, ◌⊎◌, inl, inr, codes, length}
 use Rattle.bilv_spec.specs.Notes.{At, Named}
-use Rattle.bilv_spec.specs.NotesGrammar.{Token, NumberToken, NameToken, SignToken, BadByte, BadText, Says, Nothing, EntryIs, RequireIs, EnsureIs, AssertIs, TargetsAre, FixedIs, VersionIs, ConstIs, LoadedIs, IsSaid, IsNumber, AreNumbers, number_at, is_two}
+use Rattle.word_spec.specs.Tokens.{Token, NumberToken, NameToken, SignToken, BadByte, BadText}
+use Rattle.bilv_spec.specs.NotesGrammar.{Says, Nothing, EntryIs, RequireIs, EnsureIs, AssertIs, TargetsAre, FixedIs, VersionIs, ConstIs, LoadedIs, IsSaid, IsNumber, AreNumbers, number_at, is_two}
 use Rattle.bilv_spec.specs.Scopes.{Scope}
 use Rattle.bilv_spec.proofs.Decided.{Decided, through, both, either, same_text, same_number, is_less, none_some}
 use Rattle.bilv_spec.proofs.ParserEnds.{Parsed, is_parsed}

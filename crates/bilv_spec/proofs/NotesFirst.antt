@@ -2,7 +2,8 @@
 use Rattle.std.proofs.Common.{◌≡◌, ◌≢◌, ℕ, suc, ◌<◌, ◌≤◌, ◌+◌, ◌^◌, refl, ap, sym, ◌∙◌, subst, arith, List, [], ◌∷◌, ◌++◌, Option, Bool, true, false, length, get_or, All, AllPairs, Contains, inl, inr, append_assoc, append-nil, length-append}
 use Rattle.std.proofs.lemmas.List.{get_or_append_left, get_or-append-add}
 use Rattle.bilv_spec.specs.Notes.{Expr, Notes, At, Named, Function, Targets}
-use Rattle.bilv_spec.specs.NotesGrammar.{Token, NumberToken, BadByte, BadText, tokens_of, lines_of, IsGood, Says, Nothing, EntryIs, RequireIs, EnsureIs, AssertIs, TargetsAre, FixedIs, VersionIs, ConstIs, LoadedIs, IsSaid, IsLine, AreLines, AreAligned, IsRange, IsVersion, IsNew, after, after_all, line_limit, IsNotesText, entries, targets_of}
+use Rattle.word_spec.specs.Tokens.{Token, NumberToken, BadByte, BadText, tokens_of}
+use Rattle.bilv_spec.specs.NotesGrammar.{lines_of, IsGood, Says, Nothing, EntryIs, RequireIs, EnsureIs, AssertIs, TargetsAre, FixedIs, VersionIs, ConstIs, LoadedIs, IsSaid, IsLine, AreLines, AreAligned, IsRange, IsVersion, IsNew, after, after_all, line_limit, IsNotesText, entries, targets_of}
 use Rattle.bilv_spec.specs.NotesFaults.{NoteFault, LimitFault, ByteFault, TokenFault, NumberFault, DepthFault, WordFault, SyntaxFault, NameFault, AlignFault, RangeFault, EntryFault, VersionFault, ConstFault, AllFault, note_fault_rank, line_words_first, line_words, begin_of, BeginsBadly, Repeats, NoteFaultApplies, NoneRepeats, AreGood, IsFirstNoteFault, at_line, no_entry}
 use Rattle.bilv_spec.specs.Scopes.{Scope, Strict, lenient}
 use Rattle.bilv_spec.proofs.Cuts.{Cuts, same, earlier, later, cuts}

@@ -1,7 +1,8 @@
 -- A text is notes, or it has a first fault.
 use Rattle.std.proofs.Common.{◌≡◌, ◌≢◌, ℕ, zero, suc, ◌<◌, ◌≤◌, ◌+◌, ◌%◌, ◌^◌, refl, ap, sym, ◌∙◌, subst, arith, List, [], ◌∷◌, ◌++◌, Option, Bool, true, false, ◌⊎◌, inl, inr, length, get_or, All, AllPairs, Contains, count_by, append_assoc, append-nil, length-append, lit<}
 use Rattle.bilv_spec.specs.Notes.{Expr, Notes, At, Named, Function, Targets}
-use Rattle.bilv_spec.specs.NotesGrammar.{Token, NumberToken, NameToken, SignToken, BadByte, BadText, tokens_of, lines_of, is_depth, IsGood, IsAligned, Says, Nothing, EntryIs, RequireIs, EnsureIs, AssertIs, TargetsAre, FixedIs, VersionIs, ConstIs, LoadedIs, IsSaid, IsLine, AreLines, AreAligned, IsRange, IsVersion, IsNew, after, after_all, line_limit, IsNotesText, entries, requires_of, ensures_of, asserts_of, targets_of, fixed_of}
+use Rattle.word_spec.specs.Tokens.{Token, NumberToken, NameToken, SignToken, BadByte, BadText, tokens_of}
+use Rattle.bilv_spec.specs.NotesGrammar.{lines_of, is_depth, IsGood, IsAligned, Says, Nothing, EntryIs, RequireIs, EnsureIs, AssertIs, TargetsAre, FixedIs, VersionIs, ConstIs, LoadedIs, IsSaid, IsLine, AreLines, AreAligned, IsRange, IsVersion, IsNew, after, after_all, line_limit, IsNotesText, entries, requires_of, ensures_of, asserts_of, targets_of, fixed_of}
 use Rattle.bilv_spec.specs.NotesFaults.{NoteFault, LimitFault, ByteFault, TokenFault, NumberFault, DepthFault, WordFault, SyntaxFault, NameFault, AlignFault, RangeFault, EntryFault, VersionFault, ConstFault, AllFault, note_fault_rank, line_words, begin_of, IsLineWord, BeginsBadly, Repeats, NoteFaultApplies, NoneRepeats, AreGood, IsFirstNoteFault, at_line, no_entry}
 use Rattle.bilv_spec.specs.Scopes.{Scope, Strict, lenient, loose, is_free}
 use Rattle.bilv_spec.proofs.Decided.{Decided, through, both, either, negation, same_text, same_number, is_less, is_at_most}

@@ -1,7 +1,8 @@
 -- A parser of expressions that reads from the left to the right.
 use Rattle.std.proofs.Common.{◌≡◌, ℕ, zero, suc, ◌≤◌, ◌+◌, arith, List, [], ◌∷◌, Option, Some, None, Bool, true, false, if◌then◌else◌, codes, bytes_eq, nat_lt, ◌==◌, ◌&&◌}
 use Rattle.bilv_spec.specs.Notes.{Op, Expr, Number, Memory, Old, Not, Binary, written_out}
-use Rattle.bilv_spec.specs.NotesGrammar.{Token, NumberToken, NameToken, SignToken, BadByte, BadText, operators, number_at}
+use Rattle.word_spec.specs.Tokens.{Token, NumberToken, NameToken, SignToken, BadByte, BadText}
+use Rattle.bilv_spec.specs.NotesGrammar.{operators, number_at}
 use Rattle.bilv_spec.specs.Scopes.{Scope, named, may_bind, binding}
 use Rattle.bilv_spec.proofs.NotesTables.{same_token, line_of, size_of}
 

@@ -1,7 +1,8 @@
 -- Worked notes that are refused: what is no expression, and first faults.
 use Rattle.std.proofs.Common.{◌≡◌, ℕ, ◌<◌, refl, subst, arith, List, [], ◌∷◌, ◌++◌, None, Bool, true, false, map, codes, Contains, inl, inr, ◌^◌, lit≤, nat_le}
 use Rattle.bilv_spec.specs.Notes.{Expr, At}
-use Rattle.bilv_spec.specs.NotesGrammar.{Token, NumberToken, NameToken, SignToken, BadByte, BadText, tokens_of, Parses, Says, Nothing, EntryIs, RequireIs, IsSaid}
+use Rattle.word_spec.specs.Tokens.{Token, NumberToken, NameToken, SignToken, BadByte, BadText, tokens_of}
+use Rattle.bilv_spec.specs.NotesGrammar.{Parses, Says, Nothing, EntryIs, RequireIs, IsSaid}
 use Rattle.bilv_spec.specs.NotesFaults.{NoteFault, LimitFault, ByteFault, TokenFault, NumberFault, DepthFault, WordFault, SyntaxFault, NameFault, AlignFault, RangeFault, EntryFault, note_fault_rank, VersionFault, ConstFault, AllFault, NoteFaultApplies, AreGood, IsFirstNoteFault, at_line, no_entry}
 use Rattle.bilv_spec.specs.RvNames.{rv_names}
 use Rattle.bilv_spec.proofs.NotesTables.{Each, of_each}

@@ -1,7 +1,8 @@
 -- A line says one thing at most, and a text is one value of notes at most.
 use Rattle.std.proofs.Common.{◌≡◌, ℕ, refl, ap, ap₂, sym, ◌∙◌, subst, arith, List, [], ◌∷◌, Option, Some, codes, bytes_eq, if◌then◌else◌}
 use Rattle.bilv_spec.specs.Notes.{Expr, Notes, At, Named, Function}
-use Rattle.bilv_spec.specs.NotesGrammar.{Token, NumberToken, NameToken, SignToken, BadByte, BadText, Parses, tokens_of, lines_of, Says, Nothing, EntryIs, RequireIs, EnsureIs, AssertIs, TargetsAre, FixedIs, VersionIs, ConstIs, LoadedIs, IsSaid, number_at, AreNumbers, is_two, is_second, after, AreLines, AreNotes, IsNotesText, entries}
+use Rattle.word_spec.specs.Tokens.{Token, NumberToken, NameToken, SignToken, BadByte, BadText, tokens_of}
+use Rattle.bilv_spec.specs.NotesGrammar.{Parses, lines_of, Says, Nothing, EntryIs, RequireIs, EnsureIs, AssertIs, TargetsAre, FixedIs, VersionIs, ConstIs, LoadedIs, IsSaid, number_at, AreNumbers, is_two, is_second, after, AreLines, AreNotes, IsNotesText, entries}
 use Rattle.bilv_spec.specs.Scopes.{Scope, begin}
 use Rattle.bilv_spec.proofs.ParserFinds.{one_expression}
 

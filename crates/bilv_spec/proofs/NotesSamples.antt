@@ -1,10 +1,11 @@
 -- Worked notes: lines, tokens, an expression, a text and the values of operators.
 use Rattle.std.proofs.Common.{◌≡◌, ℕ, zero, suc, refl, List, [], ◌∷◌, ◌++◌, Option, Some, None, Bool, false, true, arith, All, map, codes, lit<, lit≤, ◌%◌}
-use Rattle.bilv_spec.specs.Memory.{Little, Big}
-use Rattle.bilv_spec.specs.State.{State}
+use Rattle.word_spec.specs.Memory.{Little, Big}
+use Rattle.word_spec.specs.State.{State}
 use Rattle.bilv_spec.specs.Notes.{Expr, BitOr, BitXor, BitAnd, Number, Register, Flag, Pc, Old, Not, Binary, Op, Or, And, Equal, Below, SignedBelow, SignedAtLeast, ShiftLeft, ShiftRight, ShiftSigned, Plus, Minus, Times, Each, Notes, At, apply, value}
 use Rattle.bilv_spec.specs.Notes as notes
-use Rattle.bilv_spec.specs.NotesGrammar.{NumberToken, NameToken, SignToken, BadText, BadByte, tokens_of, lines_of, Parses, IsGood, EntryIs, EnsureIs, IsLine, IsNotesText, is_second}
+use Rattle.word_spec.specs.Tokens.{NumberToken, NameToken, SignToken, BadText, BadByte, tokens_of}
+use Rattle.bilv_spec.specs.NotesGrammar.{lines_of, Parses, IsGood, EntryIs, EnsureIs, IsLine, IsNotesText, is_second}
 use Rattle.bilv_spec.specs.Upgrades.{upgraded}
 use Rattle.std.specs.Prelude.{is_some}
 use Rattle.bilv_spec.specs.Scopes.{Scope, begin, declaring, lenient, loose}

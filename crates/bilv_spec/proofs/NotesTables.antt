@@ -2,7 +2,8 @@
 use Rattle.std.proofs.Common.{◌≡◌, ℕ, zero, suc, ◌<◌, refl, ap, sym, subst, ◌∙◌, arith, List, [], ◌∷◌, Option, Some, None, Bool, true, false, ◌||◌, ◌&&◌, ◌==◌, nat_le, nat_lt, if◌then◌else◌, codes, bytes_eq, Contains, rules}
 use Rattle.std.proofs.lemmas.Slice.Eq.{bytes_eq-Decides}
 use Rattle.bilv_spec.specs.Notes.{Op, Expr}
-use Rattle.bilv_spec.specs.NotesGrammar.{Token, NameToken, SignToken, load_words, left_of, operators}
+use Rattle.word_spec.specs.Tokens.{Token, NameToken, SignToken}
+use Rattle.bilv_spec.specs.NotesGrammar.{load_words, left_of, operators}
 use Rattle.std.specs.Prelude.{◌++◌}
 use Rattle.std.specs.List.{list_any}
 use Rattle.bilv_spec.specs.Scopes.{Scope, reserved_first, is_reserved, reserved, named, name_by}

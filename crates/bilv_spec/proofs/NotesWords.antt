@@ -2,14 +2,15 @@
 use Rattle.std.proofs.Common.{◌≡◌, ℕ, zero, suc, ◌<◌, ◌≤◌, ◌+◌, ◌-◌, ◌*◌, ◌/◌, ◌^◌, min, refl, subst, arith, List, [], ◌∷◌, ◌++◌, Option, Some, None, map, bytes_eq, Bool, true, false, if◌then◌else◌, codes, All, Contains, div-le_self, pow-suc, mul-le-mul_right, lt_of_le_of_lt, lt_of_lt_of_le, lit<, lit≤, nat_le}
 use Rattle.std.specs.List.{list_any}
 use Rattle.std.proofs.lemmas.Nat.{or_lt, xor_lt, and_le_l}
-use Rattle.bilv_spec.specs.Words.{bit, is_negative, complement}
-use Rattle.bilv_spec.specs.Memory.{Endian, Little, Big, little, big, number}
-use Rattle.bilv_spec.specs.State.{State, IsState}
+use Rattle.word_spec.specs.Words.{bit, is_negative, complement}
+use Rattle.word_spec.specs.Memory.{Endian, Little, Big, little, big, number}
+use Rattle.word_spec.specs.State.{State, IsState}
 use Rattle.bilv_spec.specs.Notes.{Op, Or, And, Equal, NotEqual, Below, AtMost, Above, AtLeast, SignedBelow, SignedAtMost, SignedAbove, SignedAtLeast, BitOr, BitXor, BitAnd, ShiftLeft, ShiftRight, ShiftSigned, Plus, Minus, Times, Each, Expr, Number, Register, Flag, Pc, Bound, Old, Not, Binary, apply, value, put_bound, each, written_out}
 use Rattle.bilv_spec.specs.Notes as notes
-use Rattle.bilv_spec.specs.NotesGrammar.{Token, NumberToken, NameToken, SignToken, BadByte, BadText, load_words, left_of, number_at, IsGood, Parses, tighter, binary_of, not_of, number_of, name_of, memory_of, old_of, all_of, in_brackets}
+use Rattle.word_spec.specs.Tokens.{Token, NumberToken, NameToken, SignToken, BadByte, BadText}
+use Rattle.bilv_spec.specs.NotesGrammar.{load_words, left_of, number_at, IsGood, Parses, tighter, binary_of, not_of, number_of, name_of, memory_of, old_of, all_of, in_brackets}
 use Rattle.bilv_spec.specs.Scopes.{Scope, Mode, Strict, Lenient, Loose, Constant, const_of, const_or, meaning, name_by, named, number_by, is_reserved, binding}
-use Rattle.bilv_spec.specs.RowFiles.{from_to}
+use Rattle.word_spec.specs.RowFiles.{from_to}
 use Rattle.bilv_spec.proofs.Decided.{none_some}
 use Rattle.bilv_spec.specs.NotesLaws.{IsOfWords}
 use Rattle.bilv_spec.proofs.NotesTables.{of_each}

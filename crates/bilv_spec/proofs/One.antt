@@ -1,6 +1,7 @@
 -- A program has at most one right verdict.
 use Rattle.std.proofs.Common.{◌≡◌, ℕ, refl}
-use Rattle.bilv_spec.specs.Run.{Program, Start, Exited, Failed, Turned}
+use Rattle.bilv_spec.specs.Run.{Program, Exited, Failed, Turned}
+use Rattle.machine_spec.specs.Endings.{Start}
 use Rattle.bilv_spec.specs.Verdict.{Verdict, Holds, Vacuous, Fails, Unroll, IsRight, RunExits, RunFails, RunTurns}
 use Rattle.bilv_spec.proofs.Over.{one_end}
 

@@ -1,7 +1,8 @@
 -- The parser comes to an end, so whether tokens are an expression can be decided.
 use Rattle.std.proofs.Common.{◌≡◌, ℕ, zero, suc, ◌<◌, ◌≤◌, ◌+◌, ◌*◌, ◌-◌, refl, ap, sym, ◌∙◌, subst, arith, List, [], ◌∷◌, length, Option, Some, None, Bool, true, false, if◌then◌else◌, inl, inr, codes, bytes_eq, length-append, append-nil, ◌==◌, ◌&&◌}
 use Rattle.bilv_spec.specs.Notes.{Op, Expr, Memory, Old, Not, Binary, written_out}
-use Rattle.bilv_spec.specs.NotesGrammar.{Token, NumberToken, NameToken, SignToken, BadByte, BadText, operators, Parses, tighter, binary_of, not_of, number_of, name_of, memory_of, old_of, all_of, in_brackets, number_at}
+use Rattle.word_spec.specs.Tokens.{Token, NumberToken, NameToken, SignToken, BadByte, BadText}
+use Rattle.bilv_spec.specs.NotesGrammar.{operators, Parses, tighter, binary_of, not_of, number_of, name_of, memory_of, old_of, all_of, in_brackets, number_at}
 use Rattle.bilv_spec.specs.Scopes.{Scope, named, may_bind, binding}
 use Rattle.bilv_spec.proofs.Decided.{Decided, none_some}
 use Rattle.bilv_spec.proofs.NotesTables.{same_token, line_of, size_of}

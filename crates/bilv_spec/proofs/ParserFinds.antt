@@ -3,7 +3,8 @@ use Rattle.std.proofs.Common.{◌≡◌, ℕ, zero, suc, ◌<◌, ◌≤◌, ◌
 use Rattle.std.proofs.lemmas.List.{append_cancel_right}
 use Rattle.std.specs.Prelude.{◌||◌}
 use Rattle.bilv_spec.specs.Notes.{Op, Expr, Number, Memory, Old, Not, Binary, written_out}
-use Rattle.bilv_spec.specs.NotesGrammar.{Token, NumberToken, NameToken, SignToken, BadByte, BadText, load_words, left_of, operators, Parses, tighter, binary_of, not_of, number_of, name_of, memory_of, old_of, all_of, in_brackets, number_at}
+use Rattle.word_spec.specs.Tokens.{Token, NumberToken, NameToken, SignToken, BadByte, BadText}
+use Rattle.bilv_spec.specs.NotesGrammar.{load_words, left_of, operators, Parses, tighter, binary_of, not_of, number_of, name_of, memory_of, old_of, all_of, in_brackets, number_at}
 use Rattle.bilv_spec.specs.Scopes.{Scope, named, may_bind, binding}
 use Rattle.bilv_spec.proofs.Decided.{Decided, same_number, none_some}
 use Rattle.bilv_spec.proofs.NotesTables.{is_false, same_token, line_of, found_by, size_of, size_is, a_size, not_word, not_all, operator_levels, no_three, below_eleven, left_same, left_tight, load_other}

@@ -1,7 +1,8 @@
 -- What the parser reads is right, and it comes to an end.
 use Rattle.std.proofs.Common.{◌≡◌, ℕ, zero, suc, ◌<◌, ◌+◌, refl, ap, sym, ◌∙◌, subst, arith, List, [], ◌∷◌, ◌++◌, Option, Some, None, Bool, true, false, if◌then◌else◌, inl, inr, codes, bytes_eq, Contains, append_assoc, append-nil, nat_lt, ◌==◌, ◌&&◌}
 use Rattle.bilv_spec.specs.Notes.{Op, Expr, Memory, Old, Not, Binary, written_out}
-use Rattle.bilv_spec.specs.NotesGrammar.{Token, NumberToken, NameToken, SignToken, BadByte, BadText, left_of, operators, Parses, tighter, binary_of, not_of, number_of, name_of, memory_of, old_of, all_of, in_brackets, number_at}
+use Rattle.word_spec.specs.Tokens.{Token, NumberToken, NameToken, SignToken, BadByte, BadText}
+use Rattle.bilv_spec.specs.NotesGrammar.{left_of, operators, Parses, tighter, binary_of, not_of, number_of, name_of, memory_of, old_of, all_of, in_brackets, number_at}
 use Rattle.bilv_spec.specs.Scopes.{Scope, named, may_bind, binding}
 use Rattle.bilv_spec.proofs.Decided.{Decided, same_number, none_some}
 use Rattle.std.proofs.lemmas.Slice.Eq.{bytes_eq-Decides}

@@ -2,7 +2,8 @@
 use Rattle.std.proofs.Common.{◌≡◌, inl, inr, ℕ, zero, suc, ◌+◌, ◌-◌, ◌<◌, refl, ap, sym, ◌∙◌, subst, arith, List, Bool, true, false}
 use Rattle.std.specs.Prelude.{nat_le, ◌==◌, if◌then◌else◌}
 use Rattle.std.proofs.lemmas.Bool.Decides.{nat_tests}
-use Rattle.bilv_spec.specs.Run.{Program, Start, Run, Going, Exited, Failed, Turned, Place, Step, Stops, Arrives, Exits, run, one_more, after_step, arrive, turn, step}
+use Rattle.bilv_spec.specs.Run.{Program, Run, Going, Exited, Failed, Turned, Place, Step, Stops, Arrives, Exits, run, one_more, after_step, arrive, turn, step}
+use Rattle.machine_spec.specs.Endings.{Start}
 use Rattle.bilv_spec.specs.Points.{Point, end_of}
 use Rattle.bilv_spec.specs.Questions.{point_of}
 use Rattle.bilv_spec.specs.PointLaws.{ComesBefore}

@@ -2,8 +2,9 @@
 use Rattle.std.proofs.Common.{◌≡◌, ℕ, zero, suc, ◌+◌, ◌≤◌, refl, sym, subst, arith, [], Bool, true, false}
 use Rattle.std.specs.Prelude.{Contains, nat_le, ◌==◌, if◌then◌else◌}
 use Rattle.std.proofs.lemmas.Bool.Decides.{nat_tests}
-use Rattle.bilv_spec.specs.State.{IsState}
-use Rattle.bilv_spec.specs.Run.{Program, Start, Run, Going, Exited, Failed, Turned, Place, Step, Stops, Arrives, Exits, step, run, one_more, after_step, arrive, turn}
+use Rattle.word_spec.specs.State.{IsState}
+use Rattle.bilv_spec.specs.Run.{Program, Run, Going, Exited, Failed, Turned, Place, Step, Stops, Arrives, Exits, step, run, one_more, after_step, arrive, turn}
+use Rattle.machine_spec.specs.Endings.{Start}
 use Rattle.bilv_spec.specs.Points.{Point, ToAddress, edges, IsPoint, first, next}
 use Rattle.bilv_spec.specs.Questions.{by_file, point_of}
 use Rattle.bilv_spec.specs.PointLaws.{HasLawfulRows, GoesAlong}

@@ -5,10 +5,10 @@ use Rattle.std.specs.List.{list_any}
 use Rattle.std.specs.Str.{bytes_eq}
 use Rattle.std.proofs.lemmas.Bool.Decides.{nat_tests}
 use Rattle.std.proofs.lemmas.Slice.Eq.{bytes_eq-Decides}
-use Rattle.bilv_spec.specs.Words.{add}
-use Rattle.bilv_spec.specs.State.{State, IsState}
-use Rattle.bilv_spec.specs.Machine.{Row, Successors, How, On, Direct, DirectCall, Indirect, IndirectCall, Outcome, Goes, Raises, Exception, EnvironmentCall, Breakpoint, SoftwareInterrupt, OddHalfword, UnalignedLoad}
-use Rattle.bilv_spec.specs.MachineLaws.{IsLawful, IsSuccessor, ComesNext, LeavesState}
+use Rattle.word_spec.specs.Words.{add}
+use Rattle.word_spec.specs.State.{State, IsState}
+use Rattle.machine_spec.specs.Machine.{Row, Successors, How, On, Direct, DirectCall, Indirect, IndirectCall, Outcome, Goes, Raises, Exception, EnvironmentCall, Breakpoint, SoftwareInterrupt, OddHalfword, UnalignedLoad}
+use Rattle.machine_spec.specs.MachineLaws.{IsLawful, IsSuccessor, ComesNext, LeavesState}
 use Rattle.bilv_spec.specs.Run.{Program, Place, Stops, step, named, is_named, some_of, exit_by, exit_or, return_or, allowed, leave, transfer, aligned_transfer, going_on, after_row, by_row, by_fetch, after_asserts, false_line, false_assert, fetchable, writes_kept, exception_event}
 use Rattle.bilv_spec.specs.Points.{Point, EdgeEnd, ToAddress, ToExit, edges, edges_of, jump_ends, edges_by, file_row, file_word, distinct, leads_on, same_end, is_top, after_call, return_ends, indirect_ends}
 use Rattle.bilv_spec.specs.Questions.{by_file, point_of}

@@ -2,8 +2,8 @@
 use Rattle.std.proofs.Common.{◌≡◌, ◌≢◌, ◌⊎◌, ⊎_elim, inl, inr, ℕ, zero, suc, ◌%◌, refl, ap, sym, ◌∙◌, subst, arith, List, [], ◌∷◌, ◌++◌, Option, Some, None, Bool, true, false}
 use Rattle.std.specs.Prelude.{Contains, ◌==◌, ◌&&◌, ◌||◌, not, nat_lt, if◌then◌else◌, map, filter}
 use Rattle.std.proofs.lemmas.Bool.Decides.{nat_tests}
-use Rattle.bilv_spec.specs.Words.{add}
-use Rattle.bilv_spec.specs.Machine.{Row, Successors}
+use Rattle.word_spec.specs.Words.{add}
+use Rattle.machine_spec.specs.Machine.{Row, Successors}
 use Rattle.bilv_spec.specs.Run.{Program, named, some_of}
 use Rattle.bilv_spec.specs.Points.{Point, EdgeEnd, ToAddress, ToExit, edges, edges_of, edges_by, fall_ends, jump_ends, indirect_ends, return_ends, after_call, is_top, leads_on, distinct, same_end, file_row, file_word, IsPoint, first, next}
 use Rattle.bilv_spec.specs.Graph.{Letter, NextLetter, JumpLetter, CallLetter, ReturnLetter, letter_order, Successor, successor, successors_of, successors_by, comes_before, insert, sort, successors_at, may_return, returns_by, IsAddress, entry, listed, LeadsTo, along, back}

@@ -1,23 +1,25 @@
 -- The program of two files: its entry is aligned, and its rows are lawful.
 use Rattle.std.proofs.Common.{◌≡◌, ℕ, ◌<◌, ◌%◌, ◌^◌, List, [], ◌∷◌, Option, Some, None, Bool, true, false, refl, sym, ap, ◌∙◌, subst, arith}
 use Rattle.std.specs.Prelude.{slice_index, if◌then◌else◌, nat_lt, ◌-◌, ◌+◌}
-use Rattle.bilv_spec.specs.Memory.{Endian, Little}
+use Rattle.word_spec.specs.Memory.{Endian, Little}
 use Rattle.bilv_spec.specs.Elf.{file_endian, Segment, cell_in}
-use Rattle.bilv_spec.specs.Machine.{Machine, Row}
-use Rattle.bilv_spec.specs.MachineLaws.{IsLawfulMachine}
+use Rattle.machine_spec.specs.Machine.{Machine, Row}
+use Rattle.machine_spec.specs.MachineLaws.{IsLawfulMachine}
 use Rattle.bilv_spec.specs.Run.{Program, fetchable}
-use Rattle.bilv_spec.specs.Rv.{rv32}
-use Rattle.bilv_spec.specs.Arm.{Profile, V4, arm}
+use Rattle.machine_spec.specs.Rv.{rv32}
+use Rattle.word_spec.specs.Profiles.{Profile, V4}
+use Rattle.machine_spec.specs.Arm.{arm}
 use Rattle.bilv_spec.specs.Points.{byte_of_cell, file_word}
 use Rattle.bilv_spec.specs.Notes.{Function, At, Named}
 use Rattle.bilv_spec.specs.NotesGrammar.{Says, Nothing, EntryIs, RequireIs, EnsureIs, AssertIs, TargetsAre, FixedIs, VersionIs, ConstIs, LoadedIs, AreLines, entries, lines_of}
 use Rattle.bilv_spec.specs.Scopes.{Scope, declaring, begun}
-use Rattle.bilv_spec.specs.Files.{Options, default_options, order_of, machine_of, layout_of, is_rv, IsProgram, IsFunctionAt, program_of}
-use Rattle.bilv_spec.specs.StateText.{rv_layout, arm_layout}
+use Rattle.call_spec.specs.Calls.{Options, default_options}
+use Rattle.bilv_spec.specs.Files.{order_of, machine_of, layout_of, is_rv, IsProgram, IsFunctionAt, program_of}
+use Rattle.machine_spec.specs.StateText.{rv_layout, arm_layout}
 use Rattle.bilv_spec.specs.PointLaws.{HasLawfulRows}
-use Rattle.bilv_spec.proofs.WordBounds.{load_below}
-use Rattle.bilv_spec.proofs.RvLawful.{rv_is_lawful}
-use Rattle.bilv_spec.proofs.ArmLawful.{arm_is_lawful}
+use Rattle.machine_spec.proofs.WordBounds.{load_below}
+use Rattle.machine_spec.proofs.RvLawful.{rv_is_lawful}
+use Rattle.machine_spec.proofs.ArmLawful.{arm_is_lawful}
 
 -- the function's address of lines that say one is aligned
 said_aligned : (s : Scope) (texts : List (List ℕ)) (says : List Says) (a : ℕ) → AreLines s texts says → entries says ≡ At a ∷ [] → a % 4 ≡ 0

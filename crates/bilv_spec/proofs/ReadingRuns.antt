@@ -1,8 +1,10 @@
 -- The run of a reading is that of the starts that follow it.
 use Rattle.std.proofs.Common.{◌≡◌, ℕ, zero, suc, refl, ap, sym, ◌∙◌, subst, arith, Bool, true, false}
 use Rattle.std.specs.Prelude.{◌==◌, nat_le, ◌↔◌}
-use Rattle.bilv_spec.specs.Run.{Program, Start, Run, Going, Exited, Failed, Turned, Place, Step, Stops, Arrives, Exits, run, one_more, after_step, arrive, turn, step}
-use Rattle.bilv_spec.specs.Questions.{Reading, by_file, point_of, read_run, read_on, Question, EntryQuestion, FailQuestion, TurnQuestion, EndsBy}
+use Rattle.bilv_spec.specs.Run.{Program, Run, Going, Exited, Failed, Turned, Place, Step, Stops, Arrives, Exits, run, one_more, after_step, arrive, turn, step}
+use Rattle.machine_spec.specs.Endings.{Start}
+use Rattle.bilv_spec.specs.Questions.{Reading, by_file, point_of, read_run, read_on, EndsBy}
+use Rattle.call_spec.specs.Calls.{Question, EntryQuestion, FailQuestion, TurnQuestion}
 use Rattle.bilv_spec.specs.QuestionLaws.{Follows, StartEndsBy}
 
 -- a run that goes on is at the step of its number

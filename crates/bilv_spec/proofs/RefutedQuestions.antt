@@ -2,10 +2,12 @@
 use Rattle.std.proofs.Common.{ℕ, zero, suc, Bool, false, List, Option, Some, None, ap, add-one}
 use Rattle.std.specs.Prelude.{slice_get}
 use Rattle.bilv_spec.specs.Run.{Program}
-use Rattle.bilv_spec.specs.Questions.{Reading, Question, IsSatisfiable}
-use Rattle.bilv_spec.specs.Evidence.{Input, Addresses, input_value, ComesFrom, Proof, Refutes}
+use Rattle.bilv_spec.specs.Questions.{Reading, IsSatisfiable}
+use Rattle.call_spec.specs.Calls.{Question}
+use Rattle.bilv_spec.specs.Evidence.{Input, Addresses, input_value, ComesFrom, Refutes}
+use Rattle.clause_spec.specs.Refutation.{Proof}
 use Rattle.bilv_spec.proofs.AskedBytes.{true_over}
-use Rattle.bilv_spec.proofs.RefutationSound.{refutation_sound}
+use Rattle.clause_spec.proofs.RefutationSound.{refutation_sound}
 
 abbrev value_if : Addresses → Reading → Option Input → Bool
 value_if address r None = false

@@ -3,10 +3,10 @@ use Rattle.std.proofs.Common.{◌≡◌, ℕ, ◌+◌, ◌<◌, ◌≤◌, refl,
 use Rattle.std.specs.Prelude.{◌&&◌, not, nat_lt, map, if◌then◌else◌}
 use Rattle.std.specs.List.{list_any, list_all}
 use Rattle.std.proofs.lemmas.Bool.Decides.{nat_tests}
-use Rattle.bilv_spec.specs.Texts.{split_lines}
-use Rattle.bilv_spec.specs.StateText.{Layout, StateLine, NamedLine, MachineLine, RegisterLine, ByteLine, ChoiceLine, EndLine, StateFault, StateByteFault, is_byte_below, is_behind_bytes, unless, or_else, missed, line_refusal, end_refusal, refused_or, first_refused, StateRefused, told_by, told_of, line_of, state_of}
+use Rattle.word_spec.specs.Texts.{split_lines}
+use Rattle.machine_spec.specs.StateText.{Layout, StateLine, NamedLine, MachineLine, RegisterLine, ByteLine, ChoiceLine, EndLine, StateFault, StateByteFault, is_byte_below, is_behind_bytes, unless, or_else, missed, line_refusal, end_refusal, refused_or, first_refused, StateRefused, told_by, told_of, line_of, state_of}
 use Rattle.bilv_spec.specs.StateLaws.{first_known, unless_known}
-use Rattle.bilv_spec.proofs.StateShape.{FirstShape, first_shape}
+use Rattle.machine_spec.proofs.StateShape.{FirstShape, first_shape}
 
 -- the earlier of a known byte's line and of a refusal
 abbrev least : Option ℕ → Option (ℕ × StateFault) → Option (ℕ × StateFault)

@@ -2,24 +2,24 @@
 use Rattle.std.proofs.Common.{◌≡◌, ℕ, refl, List, [], ◌∷◌, ◌++◌, Option, Some, None, Bool, true, false}
 use Rattle.std.specs.Prelude.{codes, map, replicate, ◌==◌, if◌then◌else◌}
 use Rattle.std.specs.Fmt.{digits}
-use Rattle.bilv_spec.specs.Memory.{Little, Big}
+use Rattle.word_spec.specs.Memory.{Little, Big}
 use Rattle.bilv_spec.specs.Elf.{loaded}
-use Rattle.bilv_spec.specs.Notes.{Notes, At, Register, Number, Old, Binary, Above, Equal}
-use Rattle.bilv_spec.specs.RowFiles.{rv_file}
-use Rattle.bilv_spec.specs.Rv.{rv32, table, rv_row}
-use Rattle.bilv_spec.specs.Run.{Program, in_memory, run, AssertFails, FetchFails, AlignFails, EnsureFails}
-use Rattle.bilv_spec.specs.Reports.{FailsBy, UnknownBy, named_line, FoundExit, FoundLeft, found}
-use Rattle.bilv_spec.specs.Arm.{V4, V4T, V5}
-use Rattle.bilv_spec.specs.StateText.{StateText, Written, StateLineFault, StateRegisterFault, StateByteFault, StateChoiceFault, StateEndFault, Told, StateIs, StateRefused, rv_layout, arm_layout, printed, state_of}
-use Rattle.bilv_spec.specs.Answers.{HoldsReport, VacuousReport, PointsReport, SizeReport, ConflictsReport, NoEvidence, default_budget, report_text, start_in}
-use Rattle.bilv_spec.specs.Verified.{usage_text, ambiguous_text, note_fault_text, elf_fault_text}
+use Rattle.bilv_spec.specs.Notes.{Notes, At, Register, Old, Binary, Above}
+use Rattle.word_spec.specs.RowFiles.{rv_file}
+use Rattle.machine_spec.specs.Rv.{rv32, table, rv_row}
+use Rattle.bilv_spec.specs.Run.{Program, in_memory, run}
+use Rattle.machine_spec.specs.Endings.{AssertFails, FetchFails, AlignFails, EnsureFails, FailsBy, UnknownBy, named_line}
+use Rattle.bilv_spec.specs.Reports.{FoundExit, FoundLeft, found}
+use Rattle.word_spec.specs.Profiles.{V4, V4T, V5}
+use Rattle.machine_spec.specs.StateText.{StateText, StateLineFault, StateRegisterFault, StateByteFault, StateChoiceFault, StateEndFault, Told, StateIs, StateRefused, rv_layout, arm_layout, printed, state_of}
+use Rattle.word_spec.specs.State.{Written}
+use Rattle.bilv_spec.specs.Answers.{HoldsReport, VacuousReport, PointsReport, SizeReport, ConflictsReport, report_text, start_in}
+use Rattle.call_spec.specs.Calls.{NoEvidence, default_budget, plain_answer, read_fault}
+use Rattle.bilv_spec.specs.Verified.{ambiguous_text, note_fault_text, elf_fault_text}
 use Rattle.bilv_spec.specs.ElfFaults as elf
 use Rattle.bilv_spec.specs.NotesFaults as note_faults
 use Rattle.bilv_spec.specs.Replays.{replay_answer}
-use Rattle.bilv_spec.specs.Answers.{plain_answer}
-use Rattle.bilv_spec.specs.Outcomes.{read_fault}
-use Rattle.bilv_spec.specs.Texts.{lines, line}
-use Rattle.bilv_spec.specs.Work.{result, work_file, work_notes, work_text}
+use Rattle.word_spec.specs.Texts.{lines, line}
 use Rattle.bilv_spec.specs.SmtLib.{SmtValue, WordValue, ArrayValue, Sexp, sexps_of, commands_truth}
 
 -- a state of RV32IM at which the largest word is in x10
@@ -163,7 +163,7 @@ unfolding state_of digits
 no_last_feed = refl
 
 -- a function that counts up once, of which a note says that it rises
-abbrev notes : Notes
+abbrev pub notes : Notes
 notes = record {
   entry = At 0x10000;
   requires = [];
@@ -214,38 +214,6 @@ refusals : elf_fault_text elf.SegmentsOverlap ∷ note_fault_text 2 note_faults.
     map (λ text. line text) (codes "elf: E11 Overlap" ∷ codes "notes: line 2 N7 Syntax" ∷ codes "notes: Ambiguous 0x00010000 0x00010010" ∷ [])
 unfolding digits
 refusals = refl
-
-usage : usage_text ≡ line (codes "usage: bilv verify|lift|graph|smt|replay|cert|check|selfrun|upgrade")
-usage = refl
-
--- work of three items: a0 after it, its words, its notes and the text before the verdict's line
-work_result : result 1 3 ≡ 0x1e4
-work_result = refl
-
-work_begins : work_text 1 3 ≡ codes "selfrun 1 3 words 4 a0 0x000001e4 "
-unfolding digits
-work_begins = refl
-
-work_says : work_notes 1 3 ≡ lines (codes "entry 0x10000" ∷ codes "require a0 = 1" ∷ codes "require a1 = 3" ∷ codes "ensure a0 = 0x000001e4" ∷ [])
-unfolding digits
-work_says = refl
-
--- its rows compute that number: the run from 1 and 3 exits, and the note that names it is true
-abbrev work_program : Program
-work_program = record {
-  machine = rv32;
-  word = in_memory rv32;
-  loaded = loaded (work_file 1 3);
-  entry = 0x10000;
-  notes = record notes { ensures = record { line = 4; says = Binary Equal (Register 10) (Number 0x1e4) } ∷ [] };
-}
-
-abbrev work_state : Written
-work_state = record { regs = replicate 9 0 ++ 1 ∷ 3 ∷ replicate 20 0; flags = 0; bytes = []; choices = [] }
-
-work_runs : found work_program None (start_in work_program rv_layout work_state) 9 ≡ FoundExit 0x1000c 3
-unfolding run table rv_row
-work_runs = refl
 
 -- a file that can't be read
 fault_is : read_fault ≡ plain_answer 6 (line (codes "read fault"))

@@ -1,14 +1,13 @@
 -- Printed states are told, so that a text is printed of one state alone.
-use Rattle.std.proofs.Common.{◌≡◌, ℕ, refl, ap, sym, ◌∙◌, Bool, true, false, List, if◌then◌else◌, ◌⊎◌, inl, inr}
-use Rattle.bilv_spec.specs.Memory.{Endian}
+use Rattle.std.proofs.Common.{◌≡◌, ℕ, ap, sym, ◌∙◌, Bool, true, false, List, if◌then◌else◌}
+use Rattle.word_spec.specs.Memory.{Endian}
 use Rattle.bilv_spec.specs.Elf.{file_endian}
-use Rattle.bilv_spec.specs.Arm.{Profile}
-use Rattle.bilv_spec.specs.Files.{Options, is_rv, layout_of}
-use Rattle.bilv_spec.specs.StateText.{Layout, rv_layout, arm_layout, StateText, StateFault, IsWritten, IsNamed, state_lines, printed, Told, StateIs, StateRefused, state_of}
-use Rattle.bilv_spec.proofs.StateLines.{IsLayout, rv_is_layout, arm_is_layout}
-use Rattle.bilv_spec.specs.Texts.{split_lines}
-use Rattle.bilv_spec.proofs.StateBack.{printed_back}
-use Rattle.bilv_spec.proofs.StateExact.{told_exact}
+use Rattle.word_spec.specs.Profiles.{Profile}
+use Rattle.call_spec.specs.Calls.{Options}
+use Rattle.bilv_spec.specs.Files.{is_rv, layout_of}
+use Rattle.machine_spec.specs.StateText.{rv_layout, arm_layout, StateText, IsWritten, IsNamed, printed, Told, StateIs, StateRefused, state_of}
+use Rattle.machine_spec.proofs.StateLines.{IsLayout, rv_is_layout, arm_is_layout}
+use Rattle.machine_spec.proofs.StateBack.{printed_back}
 
 layout_by : (b : Bool) (e : Endian) (profile : Profile) → IsLayout (if b then rv_layout else arm_layout e profile)
 layout_by true e profile = rv_is_layout
@@ -32,22 +31,3 @@ pub printed_once : (o : Options) (file : List ℕ) (known : ℕ → Bool) (t u :
     IsWritten (layout_of o file) known u.start → IsNamed u.named → printed (layout_of o file) t ≡ printed (layout_of o file) u → t ≡ u
 printed_once o file known t u w n x m e =
     same_state t u (sym (printed_is_told o file known t w n) ∙ ap (state_of (layout_of o file) known) e ∙ printed_is_told o file known u x m)
-
-pub told_is_printed : (layout : Layout) (known : ℕ → Bool) (text : List ℕ) (t : StateText) → state_of layout known text ≡ StateIs t →
-    IsWritten layout known t.start × IsNamed t.named × (split_lines text ≡ state_lines layout t)
-told_is_printed layout known text t e = let x = told_exact layout known text t e in (x.written, x.named, x.lines)
-
-abbrev IsTold : Told → Type 0
-IsTold told = ((t : StateText) × (told ≡ StateIs t)) ⊎ ((n : ℕ) × (f : StateFault) × (told ≡ StateRefused n f))
-
-either : (told : Told) → IsTold told
-either (StateIs t) = inl (t, refl)
-either (StateRefused n f) = inr (n, f, refl)
-
-never_both : (told : Told) (t : StateText) (n : ℕ) (f : StateFault) → told ≡ StateIs t → told ≡ StateRefused n f → ⊥
-never_both told t n f a b = let z : StateIs t ≡ StateRefused n f = sym a ∙ b in cc
-
-pub told_or_refused : (layout : Layout) (known : ℕ → Bool) (text : List ℕ) →
-    IsTold (state_of layout known text)
-    × ((t : StateText) (n : ℕ) (f : StateFault) → state_of layout known text ≡ StateIs t → state_of layout known text ≡ StateRefused n f → ⊥)
-told_or_refused layout known text = (either (state_of layout known text), never_both (state_of layout known text))

@@ -4,7 +4,8 @@ use Rattle.std.specs.List.{list_any}
 use Rattle.std.proofs.lemmas.Slice.Eq.{bytes_eq-Decides}
 use Rattle.std.proofs.lemmas.List.Sums.{count_by-le-length, sum_by-append}
 use Rattle.bilv_spec.specs.Notes.{Op, Expr, At, Named}
-use Rattle.bilv_spec.specs.NotesGrammar.{Token, NumberToken, NameToken, SignToken, BadByte, BadText, load_words, tokens_of, lines_of, number_at, AreNumbers, operators, Parses, tighter, binary_of, not_of, number_of, name_of, memory_of, old_of, all_of, in_brackets, Says, Nothing, EntryIs, RequireIs, EnsureIs, AssertIs, TargetsAre, FixedIs, VersionIs, ConstIs, LoadedIs, IsSaid, IsVersion, IsNew, is_depth, IsLine, AreLines, version_line, is_second, line_limit, requires_of, ensures_of, asserts_of, IsNotesText}
+use Rattle.word_spec.specs.Tokens.{Token, NumberToken, NameToken, SignToken, BadByte, BadText, tokens_of}
+use Rattle.bilv_spec.specs.NotesGrammar.{load_words, lines_of, number_at, AreNumbers, operators, Parses, tighter, binary_of, not_of, number_of, name_of, memory_of, old_of, all_of, in_brackets, Says, Nothing, EntryIs, RequireIs, EnsureIs, AssertIs, TargetsAre, FixedIs, VersionIs, ConstIs, LoadedIs, IsSaid, IsVersion, IsNew, is_depth, IsLine, AreLines, version_line, is_second, line_limit, requires_of, ensures_of, asserts_of, IsNotesText}
 use Rattle.bilv_spec.proofs.Decided.{none_some}
 use Rattle.bilv_spec.specs.Scopes.{Scope, Strict, begin, reserved_first, named}
 use Rattle.bilv_spec.specs.RvNames.{rv_table}

@@ -1,32 +1,15 @@
 -- Budgets, reports with their evidence, the texts of reports, and answers.
-use Rattle.std.specs.Prelude.{ℕ, ◌≡◌, ◌≤◌, ◌<◌, ◌+◌, ◌^◌, List, [], ◌∷◌, Option, Some, None, codes, if◌then◌else◌}
-use Rattle.bilv_spec.specs.Words.{word}
-use Rattle.bilv_spec.specs.Run.{Program, Start, Event, Run, Failed, Turned, run}
+use Rattle.std.specs.Prelude.{ℕ, ◌≡◌, ◌≤◌, ◌<◌, ◌+◌, List, [], ◌∷◌, Option, Some, None, codes, if◌then◌else◌}
+use Rattle.word_spec.specs.Words.{word}
+use Rattle.bilv_spec.specs.Run.{Program, Run, Failed, Turned, run}
+use Rattle.machine_spec.specs.Endings.{Start, Event, NamedEnding, FailsBy, UnknownBy}
 use Rattle.bilv_spec.specs.Verdict.{Holds, Vacuous, Fails, Unroll, IsRight, IsEntryState, IsStart}
 use Rattle.bilv_spec.specs.Points.{HasMore, IsPrice, is_known_at, byte_of_cell}
-use Rattle.bilv_spec.specs.Questions.{Question, EntryQuestion, FailQuestion, TurnQuestion}
-use Rattle.bilv_spec.specs.Evidence.{Proof, Refutes, Spends, IsDue}
-use Rattle.bilv_spec.specs.StateText.{Layout, Written, IsWritten, printed, start_of}
-use Rattle.bilv_spec.specs.Reports.{NamedEnding, FailsBy, UnknownBy}
-use Rattle.bilv_spec.specs.Texts.{line, number_text, joined}
-
--- the four budgets: backward transfers, points, price, conflicts
-pub record Budget : Type 0 where
-  pub unroll : ℕ
-  pub points : ℕ
-  pub size : ℕ
-  pub conflicts : ℕ
-
--- what each may be
-pub record IsBudget (b : Budget) : Type 0 where
-  pub unroll : b.unroll ≤ 4096
-  pub points : (1 ≤ b.points) × (b.points ≤ 16777216)
-  pub size : (1 ≤ b.size) × (b.size ≤ 2 ^ 62)
-  pub conflicts : (1 ≤ b.conflicts) × (b.conflicts ≤ 4294967295)
-
--- the budget where none is given
-abbrev pub default_budget : Budget
-default_budget = record { unroll = 64; points = 65536; size = 1073741824; conflicts = 200000 }
+use Rattle.call_spec.specs.Calls.{EntryQuestion, FailQuestion, TurnQuestion, Budget, Evidence, Refutations, EntryRefuted, RunOf, SpentOn, Count, Answer}
+use Rattle.bilv_spec.specs.Evidence.{Refutes, Spends, IsDue}
+use Rattle.machine_spec.specs.StateText.{Layout, IsWritten, printed, start_of}
+use Rattle.word_spec.specs.State.{Written}
+use Rattle.word_spec.specs.Texts.{line, number_text, joined}
 
 -- what a report says
 pub data Report : Type 0 where
@@ -37,15 +20,6 @@ pub data Report : Type 0 where
   PointsReport : Report
   SizeReport : Report
   ConflictsReport : Report
-
--- what shows it
-pub data Evidence : Type 0 where
-  NoEvidence : Evidence
-  Refutations : Written → (fail turn : Proof) → Evidence
-  EntryRefuted : Proof → Evidence
-  RunOf : Written → Evidence
-  SpentOn : Question → Proof → Evidence
-  Count : ℕ → Evidence
 
 -- at most so many points, and a price within the size
 pub record IsWithin (p : Program) (b : Budget) : Type 0 where
@@ -108,16 +82,6 @@ report_text layout b (UnrollReport at step) e = named_text layout (UnknownBy b.u
 report_text layout b PointsReport e = budget_text (codes "points") b.points
 report_text layout b SizeReport e = budget_text (codes "size") b.size
 report_text layout b ConflictsReport e = budget_text (codes "conflicts") b.conflicts
-
--- what a command answers: a status, a text, and evidence
-pub record Answer : Type 0 where
-  pub status : ℕ
-  pub text : List ℕ
-  pub evidence : Evidence
-
--- an answer without evidence
-abbrev pub plain_answer : ℕ → List ℕ → Answer
-plain_answer status text = record { status = status; text = text; evidence = NoEvidence }
 
 -- the answer of a report
 abbrev pub report_answer : Layout → Budget → Report → Evidence → Answer

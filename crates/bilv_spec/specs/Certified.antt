@@ -2,11 +2,13 @@
 use Rattle.std.specs.Prelude.{ℕ, ◌<◌, ◌+◌, List, [], ◌∷◌, ◌++◌, codes}
 use Rattle.bilv_spec.specs.Run.{Program}
 use Rattle.bilv_spec.specs.Points.{HasMore, IsPrice}
-use Rattle.bilv_spec.specs.Questions.{Question, IsSatisfiable}
-use Rattle.bilv_spec.specs.Evidence.{Proof, Refutes, Spends}
-use Rattle.bilv_spec.specs.Answers.{Budget, Evidence, NoEvidence, SpentOn, Count, IsWithin}
-use Rattle.bilv_spec.specs.Certificates.{certificate_text}
-use Rattle.bilv_spec.specs.Texts.{line, number_text, spaced}
+use Rattle.call_spec.specs.Calls.{Question, Budget, Evidence, NoEvidence, SpentOn, Count}
+use Rattle.bilv_spec.specs.Questions.{IsSatisfiable}
+use Rattle.clause_spec.specs.Refutation.{Proof}
+use Rattle.bilv_spec.specs.Evidence.{Refutes, Spends}
+use Rattle.bilv_spec.specs.Answers.{IsWithin}
+use Rattle.clause_spec.specs.Certificates.{certificate_text}
+use Rattle.word_spec.specs.Texts.{line, number_text, spaced}
 
 -- The status, the text and the evidence for a question. Whether a question is due plays no part here.
 pub data IsCertified (p : Program) (b : Budget) (question : Question) : (status : ℕ) → (written : List ℕ) → Evidence → Type 0 where

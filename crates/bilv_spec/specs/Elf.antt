@@ -1,6 +1,6 @@
 -- What an ELF32 file loads (System V ABI, chapters 4, object files, and 5, program loading).
 use Rattle.std.specs.Prelude.{ℕ, zero, suc, ◌≡◌, ◌≤◌, ◌<◌, ◌↔◌, true, false, length, slice_index_or, ◌+◌, ◌-◌, ◌/◌, ◌%◌, Bool, List, [], ◌∷◌, Option, Some, None, ◌==◌, ◌&&◌, ◌||◌, not, nat_lt, nat_le, if◌then◌else◌, slice_index, find}
-use Rattle.bilv_spec.specs.Memory.{number, Endian, endian}
+use Rattle.word_spec.specs.Memory.{number, Endian, endian}
 
 -- the file's numbers have their highest byte first, by e_ident (System V ABI, ELF header)
 abbrev pub is_big : List ℕ → Bool

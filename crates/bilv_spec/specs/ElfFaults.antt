@@ -1,6 +1,6 @@
 -- Which files are refused, and the functions that the symbols name (System V ABI, chapters 4 and 5).
 use Rattle.std.specs.Prelude.{ℕ, ◌≡◌, ◌≢◌, ◌≤◌, ◌<◌, ◌+◌, ◌*◌, ◌%◌, ◌^◌, ◌⊎◌, List, [], ◌∷◌, length, take, drop, slice_index, slice_get, Some}
-use Rattle.bilv_spec.specs.Machine.{IsAtPlace}
+use Rattle.machine_spec.specs.Machine.{IsAtPlace}
 use Rattle.bilv_spec.specs.Elf.{field, Segment, segments}
 
 -- a section header (System V ABI, object files: sections)

@@ -1,7 +1,7 @@
 -- Why a state at the entry address is no entry state.
 use Rattle.std.specs.Prelude.{ℕ, ◌≡◌, ◌≢◌, ◌<◌, ◌^◌, true, Option, Some, None}
-use Rattle.bilv_spec.specs.Machine.{IsAtPlace}
-use Rattle.bilv_spec.specs.State.{State}
+use Rattle.machine_spec.specs.Machine.{IsAtPlace}
+use Rattle.word_spec.specs.State.{State}
 use Rattle.bilv_spec.specs.Run.{Program, false_line}
 use Rattle.bilv_spec.specs.Points.{is_known_at, byte_of_cell}
 

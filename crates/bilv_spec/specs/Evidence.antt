@@ -1,16 +1,17 @@
 -- Evidence: clauses that are tied to a question, and proofs over them.
 use Rattle.std.specs.Prelude.{true, false, ℕ, ◌≡◌, ◌≢◌, ◌≤◌, ◌<◌, ◌+◌, ◌^◌, ◌==◌, ◌++◌, Bool, List, Option, Some, None, length, map, filter, sum_by, slice_get, Contains}
 use Rattle.std.specs.List.{flat_map}
-use Rattle.bilv_spec.specs.Words.{bit_at}
-use Rattle.bilv_spec.specs.State.{State}
-use Rattle.bilv_spec.specs.Machine.{Row}
+use Rattle.word_spec.specs.Words.{bit_at}
+use Rattle.word_spec.specs.State.{State}
+use Rattle.machine_spec.specs.Machine.{Row}
 use Rattle.bilv_spec.specs.Elf.{Cell}
-use Rattle.bilv_spec.specs.Clauses.{Cnf, ExtendsOnceWhere}
-use Rattle.bilv_spec.specs.Refutation.{LogLine, IsRefutation}
-use Rattle.bilv_spec.specs.Empowering.{IsSpent}
+use Rattle.clause_spec.specs.Clauses.{Cnf, ExtendsOnceWhere}
+use Rattle.clause_spec.specs.Refutation.{IsRefutation, Proof}
+use Rattle.clause_spec.specs.Empowering.{IsSpent}
 use Rattle.bilv_spec.specs.Run.{Program}
 use Rattle.bilv_spec.specs.Points.{Point, IsPoint, ArePoints, IsPrice, is_known_at, file_row, loads_at, evaluated, bytes_loaded}
-use Rattle.bilv_spec.specs.Questions.{Reading, IsReading, Question, EntryQuestion, FailQuestion, TurnQuestion, IsTrueOver}
+use Rattle.bilv_spec.specs.Questions.{Reading, IsReading, IsTrueOver}
+use Rattle.call_spec.specs.Calls.{Question, EntryQuestion, FailQuestion, TurnQuestion}
 use Rattle.bilv_spec.specs.Verdict.{IsEntryState, IsStart, RunFails}
 
 -- the byte loads of these points and of the notes: those that the price counts
@@ -106,11 +107,6 @@ pub record AreOfQuestion (p : Program) (k : ℕ) (question : Question) (cnf : Cn
   pub is_price : IsPrice p k price
   pub few_inputs : (length inputs ≤ price) × (length inputs ≤ cnf.variables)
   pub few_gates : cnf.variables + length (filter is_of_byte inputs) ≤ length inputs + price
-
--- clauses with a log
-pub record Proof : Type 0 where
-  pub clauses : Cnf
-  pub log : List LogLine
 
 -- a refutation of a question
 pub record Refutes (p : Program) (k : ℕ) (question : Question) (proof : Proof) : Type 0 where

@@ -1,29 +1,22 @@
 -- The program of two files: an ELF file and notes.
 use Rattle.std.specs.Prelude.{ℕ, ◌≡◌, ◌==◌, Bool, List, Option, if◌then◌else◌}
-use Rattle.bilv_spec.specs.Memory.{Endian, Little}
-use Rattle.bilv_spec.specs.Machine.{Machine}
+use Rattle.word_spec.specs.Memory.{Endian, Little}
+use Rattle.machine_spec.specs.Machine.{Machine}
 use Rattle.bilv_spec.specs.Elf.{field, file_endian, loaded}
 use Rattle.bilv_spec.specs.ElfFaults.{Finds}
 use Rattle.bilv_spec.specs.Notes.{Notes, Expr, Function, At, Named}
 use Rattle.bilv_spec.specs.NotesGrammar.{IsNotesText}
 use Rattle.bilv_spec.specs.Run.{Program, in_memory}
-use Rattle.bilv_spec.specs.Rv.{rv32}
-use Rattle.bilv_spec.specs.Arm.{Profile, V4, arm}
+use Rattle.machine_spec.specs.Rv.{rv32}
+use Rattle.machine_spec.specs.Arm.{arm}
 use Rattle.bilv_spec.specs.RvNames.{rv_names}
 use Rattle.bilv_spec.specs.ArmNames.{arm_names}
-use Rattle.bilv_spec.specs.StateText.{Layout, rv_layout, arm_layout}
+use Rattle.machine_spec.specs.StateText.{Layout, rv_layout, arm_layout}
+use Rattle.call_spec.specs.Calls.{Options}
 
 -- e_machine is 243 for RISC-V, and 40 for ARM
 abbrev pub is_rv : List ℕ → Bool
 is_rv file = field file 2 18 == 243
-
--- what a file leaves open of its machine: ARM's profile, which changes nothing of a RISC-V file
-pub record Options : Type 0 where
-  pub profile : Profile
-
--- the options where none are given
-abbrev pub default_options : Options
-default_options = record { profile = V4 }
 
 -- the byte order of a file's words, which no option changes
 abbrev pub order_of : List ℕ → Endian

@@ -1,7 +1,7 @@
 -- The flow graph of a program: its addresses, the successors of each, and the flags whose assignments stay.
 use Rattle.std.specs.Prelude.{ℕ, ◌≡◌, ◌≢◌, Bool, true, false, ◌==◌, ◌&&◌, ◌||◌, not, nat_lt, if◌then◌else◌, List, [], ◌∷◌, ◌++◌, Option, Some, None, map, filter, Contains}
-use Rattle.bilv_spec.specs.Words.{add}
-use Rattle.bilv_spec.specs.Machine.{Row, Successors, is_place}
+use Rattle.word_spec.specs.Words.{add}
+use Rattle.machine_spec.specs.Machine.{Row, Successors, is_place}
 use Rattle.bilv_spec.specs.Run.{Program, named, some_of}
 use Rattle.bilv_spec.specs.Points.{file_row, file_word}
 

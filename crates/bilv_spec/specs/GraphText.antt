@@ -1,10 +1,10 @@
 -- The text of the flow graph.
 use Rattle.std.specs.Prelude.{ℕ, ◌≡◌, ◌<◌, Bool, true, if◌then◌else◌, ◌↔◌, List, [], ◌∷◌, ◌++◌, Option, Some, None, codes, Contains, length, slice_index}
 use Rattle.std.specs.List.{flat_map}
-use Rattle.bilv_spec.specs.Machine.{Row}
+use Rattle.machine_spec.specs.Machine.{Row}
 use Rattle.bilv_spec.specs.Run.{Program, fetchable}
 use Rattle.bilv_spec.specs.Points.{file_row}
-use Rattle.bilv_spec.specs.Texts.{word_text, spaced, line}
+use Rattle.word_spec.specs.Texts.{word_text, spaced, line}
 use Rattle.bilv_spec.specs.Graph.{Letter, NextLetter, JumpLetter, CallLetter, ReturnLetter, Successor, successors_at, may_return, IsAddress}
 use Rattle.bilv_spec.specs.LiveFlags.{IsLive}
 

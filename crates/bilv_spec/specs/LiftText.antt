@@ -1,14 +1,15 @@
 -- The text of a file's lifted words.
 use Rattle.std.specs.Prelude.{ℕ, ◌≡◌, ◌<◌, ◌+◌, ◌-◌, ◌&&◌, Bool, true, false, nat_lt, ◌↔◌, ◌^◌, List, [], ◌∷◌, ◌++◌, Option, Some, None, codes, length, slice_index, Contains, find}
 use Rattle.std.specs.List.{list_all, flat_map}
-use Rattle.bilv_spec.specs.Memory.{number}
-use Rattle.bilv_spec.specs.Machine.{Machine, Row, is_place}
-use Rattle.bilv_spec.specs.MachineLaws.{IsLifting}
+use Rattle.word_spec.specs.Memory.{number}
+use Rattle.machine_spec.specs.Machine.{Machine, Row, is_place}
+use Rattle.machine_spec.specs.MachineLaws.{IsLifting}
 use Rattle.bilv_spec.specs.Elf.{Segment, Cell, segments, covers, loaded, executable}
-use Rattle.bilv_spec.specs.Files.{Options, machine_of, is_rv}
-use Rattle.bilv_spec.specs.Bil.{Bank, XRegisters, RRegisters, Statements}
-use Rattle.bilv_spec.specs.BilText.{list_text}
-use Rattle.bilv_spec.specs.Texts.{word_text, hex_digits, line}
+use Rattle.call_spec.specs.Calls.{Options}
+use Rattle.bilv_spec.specs.Files.{machine_of, is_rv}
+use Rattle.machine_spec.specs.Bil.{Bank, XRegisters, RRegisters, Statements}
+use Rattle.machine_spec.specs.BilText.{list_text}
+use Rattle.word_spec.specs.Texts.{word_text, hex_digits, line}
 
 -- the segment at an address is executable, and the file itself gives the byte there
 abbrev pub is_given_by : ℕ → Option Segment → Bool

@@ -1,7 +1,7 @@
 -- Live flags: the assignments of flags that some static path reads.
 use Rattle.std.specs.Prelude.{ℕ, ◌≡◌, ◌==◌, ◌&&◌, ◌||◌, Bool, true, false, Option, Some, None}
 use Rattle.std.specs.List.{list_any}
-use Rattle.bilv_spec.specs.Machine.{Row}
+use Rattle.machine_spec.specs.Machine.{Row}
 use Rattle.bilv_spec.specs.Notes.{Expr, Number, Register, Flag, Pc, Bound, Memory, Old, Not, Binary}
 use Rattle.bilv_spec.specs.Run.{Program}
 use Rattle.bilv_spec.specs.Points.{file_row}

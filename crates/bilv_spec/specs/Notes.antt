@@ -1,9 +1,9 @@
 -- Notes, and the value of an expression.
 use Rattle.std.specs.Prelude.{ℕ, ◌+◌, ◌-◌, Bool, List, [], ◌∷◌, ◌==◌, not, ◌&&◌, ◌||◌, nat_lt, nat_le, bit_and, bit_or, bit_xor, map}
-use Rattle.bilv_spec.specs.Words.{add, sub, mul, bit, signed_lt, signed_le, shl, shr, sar}
-use Rattle.bilv_spec.specs.Memory.{Endian, load}
-use Rattle.bilv_spec.specs.State.{State}
-use Rattle.bilv_spec.specs.RowFiles.{from_to}
+use Rattle.word_spec.specs.Words.{add, sub, mul, bit, signed_lt, signed_le, shl, shr, sar}
+use Rattle.word_spec.specs.Memory.{Endian, load}
+use Rattle.word_spec.specs.State.{State}
+use Rattle.word_spec.specs.RowFiles.{from_to}
 
 -- the binary operators; Each joins the values of an `all`, and is no operator of the text
 pub data Op : Type 0 where

@@ -2,7 +2,8 @@
 use Rattle.std.specs.Prelude.{ℕ, ◌≡◌, ◌≢◌, ◌≤◌, ◌<◌, ◌+◌, ◌^◌, ◌⊎◌, Bool, true, false, List, [], ◌∷◌, ◌++◌, Option, length, codes, count_by, Contains}
 use Rattle.bilv_spec.specs.Notes.{Expr}
 use Rattle.bilv_spec.specs.Scopes.{Scope, begin, lenient, loose}
-use Rattle.bilv_spec.specs.NotesGrammar.{Token, NumberToken, NameToken, SignToken, BadByte, BadText, tokens_of, is_depth, Says, EntryIs, TargetsAre, IsSaid, AreAligned, IsRange, IsVersion, IsNew, AreLines, after_all, is_second, line_limit, lines_of, entries, targets_of}
+use Rattle.word_spec.specs.Tokens.{Token, NumberToken, NameToken, SignToken, BadByte, BadText, tokens_of}
+use Rattle.bilv_spec.specs.NotesGrammar.{is_depth, Says, EntryIs, TargetsAre, IsSaid, AreAligned, IsRange, IsVersion, IsNew, AreLines, after_all, is_second, line_limit, lines_of, entries, targets_of}
 
 -- why a line is refused
 pub data NoteFault : Type 0 where

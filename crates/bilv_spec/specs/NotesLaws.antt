@@ -1,12 +1,13 @@
 -- Laws of notes: a text has one meaning, or one first fault, and never both.
 use Rattle.std.specs.Prelude.{ℕ, ◌≡◌, ◌<◌, ◌≤◌, ◌^◌, ◌⊎◌, List, Option, Some, All, Contains}
 use Rattle.std.specs.List.{list_all}
-use Rattle.bilv_spec.specs.Words.{bit}
-use Rattle.bilv_spec.specs.Memory.{Endian}
-use Rattle.bilv_spec.specs.State.{State, IsState}
+use Rattle.word_spec.specs.Words.{bit}
+use Rattle.word_spec.specs.Memory.{Endian}
+use Rattle.word_spec.specs.State.{State, IsState}
 use Rattle.bilv_spec.specs.Notes.{Expr, Number, Register, Flag, Pc, Bound, Memory, Old, Not, Binary, Notes, value, is_true, put_bound, values, written_out}
 use Rattle.bilv_spec.specs.Scopes.{Scope, Constant, Strict, lenient}
-use Rattle.bilv_spec.specs.NotesGrammar.{Token, IsGood, Parses, Says, IsSaid, IsNotesText}
+use Rattle.word_spec.specs.Tokens.{Token}
+use Rattle.bilv_spec.specs.NotesGrammar.{IsGood, Parses, Says, IsSaid, IsNotesText}
 use Rattle.bilv_spec.specs.NotesFaults.{NoteFault, IsFirstNoteFault}
 use Rattle.bilv_spec.specs.RvNames.{rv_names}
 use Rattle.bilv_spec.specs.ArmNames.{arm_names}

@@ -1,9 +1,10 @@
 -- Laws of points: runs go along edges, meet each point at most once, and there is one price.
 use Rattle.std.specs.Prelude.{ℕ, ◌≡◌, ◌≤◌, ◌<◌, ◌⊎◌, true, List, Some, Contains, length}
-use Rattle.bilv_spec.specs.State.{State, IsState}
-use Rattle.bilv_spec.specs.Machine.{Row, IsAtPlace}
-use Rattle.bilv_spec.specs.MachineLaws.{IsLawful}
-use Rattle.bilv_spec.specs.Run.{Program, EnsureFails, Start, Place, Step, Stops, Arrives, Exits, Going, step, run, in_memory, IsOver}
+use Rattle.word_spec.specs.State.{State, IsState}
+use Rattle.machine_spec.specs.Machine.{Row, IsAtPlace}
+use Rattle.machine_spec.specs.MachineLaws.{IsLawful}
+use Rattle.bilv_spec.specs.Run.{Program, Place, Step, Stops, Arrives, Exits, Going, step, run, in_memory, IsOver}
+use Rattle.machine_spec.specs.Endings.{EnsureFails, Start}
 use Rattle.bilv_spec.specs.Verdict.{IsEntryState}
 use Rattle.bilv_spec.specs.Points.{Point, ToAddress, ToExit, end_of, edges, file_row, IsPoint, ArePoints, HasMore, IsPrice}
 use Rattle.bilv_spec.specs.Graph.{ReturnLetter, successor, successors_at, may_return, IsAddress, LeadsTo}

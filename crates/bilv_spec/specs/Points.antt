@@ -1,11 +1,10 @@
 -- The points of a program, their edges, and what they cost.
 use Rattle.std.specs.Prelude.{ℕ, ◌≡◌, ◌≢◌, ◌≤◌, ◌<◌, ◌+◌, ◌-◌, ◌*◌, ◌^◌, Bool, true, false, List, [], ◌∷◌, ◌++◌, Option, Some, None, ◌==◌, ◌&&◌, nat_le, if◌then◌else◌, ◌||◌, ◌↔◌, not, filter, is_some, slice_get, Contains, length, map, sum_by, slice_index}
-use Rattle.std.specs.List.{list_any}
+use Rattle.std.specs.List.{list_any, flat_map}
 use Rattle.std.specs.Str.{bytes_eq}
-use Rattle.std.specs.List.{flat_map}
-use Rattle.bilv_spec.specs.Words.{add}
-use Rattle.bilv_spec.specs.Memory.{number}
-use Rattle.bilv_spec.specs.Machine.{Row, Successors, is_place}
+use Rattle.word_spec.specs.Words.{add}
+use Rattle.word_spec.specs.Memory.{number}
+use Rattle.machine_spec.specs.Machine.{Row, Successors, is_place}
 use Rattle.bilv_spec.specs.Elf.{Cell}
 use Rattle.bilv_spec.specs.Notes.{Expr, Memory, Old, Not, Binary, Op, Times, Each}
 use Rattle.bilv_spec.specs.Run.{Program, row_at, some_of, named, literal_target, is_kept}

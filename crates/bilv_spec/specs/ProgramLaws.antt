@@ -1,12 +1,14 @@
 -- Laws of the program of two files.
 use Rattle.std.specs.Prelude.{ℕ, ◌≡◌, ◌<◌, true, false, List, slice_index}
 use Rattle.bilv_spec.specs.Elf.{file_endian}
-use Rattle.bilv_spec.specs.Machine.{IsAtPlace}
+use Rattle.machine_spec.specs.Machine.{IsAtPlace}
 use Rattle.bilv_spec.specs.Run.{Program}
-use Rattle.bilv_spec.specs.Files.{Options, default_options, is_rv, order_of, machine_of, layout_of, IsProgram}
-use Rattle.bilv_spec.specs.Rv.{rv32}
-use Rattle.bilv_spec.specs.Arm.{V4, arm}
-use Rattle.bilv_spec.specs.StateText.{rv_layout, arm_layout}
+use Rattle.call_spec.specs.Calls.{Options, default_options}
+use Rattle.bilv_spec.specs.Files.{is_rv, order_of, machine_of, layout_of, IsProgram}
+use Rattle.machine_spec.specs.Rv.{rv32}
+use Rattle.word_spec.specs.Profiles.{V4}
+use Rattle.machine_spec.specs.Arm.{arm}
+use Rattle.machine_spec.specs.StateText.{rv_layout, arm_layout}
 use Rattle.bilv_spec.specs.PointLaws.{HasLawfulRows}
 
 -- the address of a program's function is a multiple of 4

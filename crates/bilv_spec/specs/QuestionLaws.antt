@@ -1,10 +1,12 @@
 -- Laws of questions.
 use Rattle.std.specs.Prelude.{ℕ, ◌≡◌, ◌↔◌, Bool, true}
-use Rattle.bilv_spec.specs.State.{State}
-use Rattle.bilv_spec.specs.Run.{Program, Start, Place, Going, run}
+use Rattle.word_spec.specs.State.{State}
+use Rattle.bilv_spec.specs.Run.{Program, Place, Going, run}
+use Rattle.machine_spec.specs.Endings.{Start}
 use Rattle.bilv_spec.specs.Verdict.{Verdict, Holds, Vacuous, Fails, Unroll, IsEntryState, IsStart, RunFails, RunTurns, IsRight}
 use Rattle.bilv_spec.specs.Points.{is_known_at}
-use Rattle.bilv_spec.specs.Questions.{Reading, Question, EntryQuestion, FailQuestion, TurnQuestion, IsTrue, IsTrueOver, IsSatisfiable, by_file, point_of, EndsBy}
+use Rattle.bilv_spec.specs.Questions.{Reading, IsTrue, IsTrueOver, IsSatisfiable, by_file, point_of, EndsBy}
+use Rattle.call_spec.specs.Calls.{Question, EntryQuestion, FailQuestion, TurnQuestion}
 use Rattle.bilv_spec.specs.PointLaws.{HasLawfulRows, ReadsMemory}
 
 -- a question that is true of a reading is true over each set of kept and fixed bytes

@@ -1,11 +1,13 @@
 -- Readings, and the three questions that are asked of them. A question is true of exactly those readings that its clauses and its script are satisfied by.
 use Rattle.std.specs.Prelude.{ℕ, zero, suc, ◌≡◌, ◌<◌, ◌^◌, Bool, true, [], Some, None}
-use Rattle.bilv_spec.specs.Machine.{IsAtPlace}
-use Rattle.bilv_spec.specs.State.{State, IsState}
+use Rattle.machine_spec.specs.Machine.{IsAtPlace}
+use Rattle.word_spec.specs.State.{State, IsState}
 use Rattle.bilv_spec.specs.Elf.{Cell}
-use Rattle.bilv_spec.specs.Run.{Program, Event, Place, Run, Going, Exited, Failed, Turned, step, after_step, false_line}
+use Rattle.bilv_spec.specs.Run.{Program, Place, Run, Going, Exited, Failed, Turned, step, after_step, false_line}
+use Rattle.machine_spec.specs.Endings.{Event}
 use Rattle.bilv_spec.specs.Points.{Point, file_word}
 use Rattle.bilv_spec.specs.Verdict.{IsEntryState}
+use Rattle.call_spec.specs.Calls.{Question, EntryQuestion, FailQuestion, TurnQuestion}
 
 -- a state at entry, and a choice for each point
 pub record Reading : Type 0 where
@@ -44,12 +46,6 @@ ReadingFails p k r = (steps at n : ℕ) × (e : Event) × (read_run p k r steps 
 -- the run of the reading makes one backward transfer too many
 abbrev pub ReadingTurns : Program → ℕ → Reading → Type 0
 ReadingTurns p k r = (steps at n : ℕ) × (read_run p k r steps ≡ Turned at n)
-
--- the three questions: whether there is an entry state, whether its run has an event, whether its run makes too many backward transfers
-pub data Question : Type 0 where
-  EntryQuestion : Question
-  FailQuestion : Question
-  TurnQuestion : Question
 
 -- how the run of the reading ends where the question is true of it
 abbrev pub EndsBy : Program → ℕ → Reading → Question → Type 0

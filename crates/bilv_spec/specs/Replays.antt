@@ -1,21 +1,16 @@
 -- What the commands that replay a report and check a certificate answer.
-use Rattle.std.specs.Prelude.{ℕ, ◌≡◌, ◌<◌, ◌≤◌, Bool, true, false, ◌==◌, ◌&&◌, nat_lt, List, [], ◌∷◌, ◌++◌, codes, Option, Some, None, length, drop}
-use Rattle.bilv_spec.specs.Machine.{is_place}
-use Rattle.bilv_spec.specs.Run.{Program, Start, Event, AssertFails, FetchFails, NoRow, HalfwordFails, CodeWritten, Trapped, AlignFails, JumpFails, EnsureFails}
+use Rattle.std.specs.Prelude.{ℕ, Bool, true, false, ◌==◌, ◌&&◌, nat_lt, List, [], ◌∷◌, ◌++◌, codes, Option, Some, None, length}
+use Rattle.machine_spec.specs.Machine.{is_place}
+use Rattle.bilv_spec.specs.Run.{Program}
+use Rattle.machine_spec.specs.Endings.{Start, Event, AssertFails, FetchFails, NoRow, HalfwordFails, CodeWritten, Trapped, AlignFails, JumpFails, EnsureFails, NamedEnding, FailsBy, UnknownBy, named_line, named_step}
 use Rattle.bilv_spec.specs.Points.{is_known_at}
 use Rattle.bilv_spec.specs.EntryFaults.{false_require}
-use Rattle.bilv_spec.specs.Reports.{NamedEnding, FailsBy, UnknownBy, named_line, named_step, Found, FoundEvent, FoundTurn, found, found_words, turns_within}
-use Rattle.bilv_spec.specs.StateText.{Layout, StateFault, StateLineFault, StateRegisterFault, StateByteFault, StateChoiceFault, StateEndFault, Told, StateIs, StateRefused, state_of, split_lines}
-use Rattle.bilv_spec.specs.Answers.{start_in, Answer, plain_answer}
-use Rattle.bilv_spec.specs.Clauses.{Cnf}
-use Rattle.bilv_spec.specs.Refutation.{Cause, refusal}
-use Rattle.bilv_spec.specs.Certificates.{check_text}
-use Rattle.bilv_spec.specs.CertificateGrammar.{CnfFault, TokenFault, HeaderFault, VariableFault, CountFault, ProofFault, Clauses, RefusedAt, cnf_of, log_of_lines}
-use Rattle.bilv_spec.specs.Texts.{line, number_text, spaced, joined}
-
--- the greatest length of a state text and of a certificate
-abbrev pub text_limit : ℕ
-text_limit = 268435456
+use Rattle.bilv_spec.specs.Reports.{Found, FoundEvent, FoundTurn, found, found_words, turns_within}
+use Rattle.machine_spec.specs.StateText.{Layout, StateFault, StateLineFault, StateRegisterFault, StateByteFault, StateChoiceFault, StateEndFault, Told, StateIs, StateRefused, state_of}
+use Rattle.bilv_spec.specs.Answers.{start_in}
+use Rattle.call_spec.specs.Calls.{Answer, plain_answer}
+use Rattle.word_spec.specs.Texts.{line, number_text, spaced, joined}
+use Rattle.clause_spec.specs.Checks.{text_limit}
 
 -- the text of a fault
 abbrev pub state_fault_words : StateFault → List ℕ
@@ -90,28 +85,3 @@ sized_answer false p layout text = told_answer p layout (state_of layout (is_kno
 -- the answer to a report, over a program that is found: the first of its causes
 abbrev pub replay_answer : Program → Layout → List ℕ → Answer
 replay_answer p layout text = sized_answer (nat_lt text_limit (length text)) p layout text
-
--- the text of a fault of clauses
-abbrev pub cnf_fault_words : CnfFault → List ℕ
-cnf_fault_words TokenFault = codes "K1 Token"
-cnf_fault_words HeaderFault = codes "K2 Header"
-cnf_fault_words VariableFault = codes "K3 Variable"
-cnf_fault_words CountFault = codes "K4 Count"
-cnf_fault_words ProofFault = codes "K5 Proof"
-
--- accepted, or at the first refused line
-abbrev pub check_status : Option (ℕ × Cause) → ℕ
-check_status None = 0
-check_status (Some refused) = 9
-
--- the first refused line of the proof behind the clauses
-abbrev pub log_refusal : List ℕ → Cnf → ℕ → Option (ℕ × Cause)
-log_refusal text cnf n = refusal cnf.variables cnf.clauses (log_of_lines (drop n (split_lines text)))
-
--- the status and the text for a certificate
-pub data IsChecked (text : List ℕ) : (status : ℕ) → (written : List ℕ) → Type 0 where
-  large : text_limit < length text → IsChecked text 9 (line (codes "cert: TooLarge"))
-  refused : (n : ℕ) (f : CnfFault) → length text ≤ text_limit → cnf_of text ≡ RefusedAt n f →
-      IsChecked text 9 (line (codes "cnf: line" ++ spaced (number_text n ∷ cnf_fault_words f ∷ [])))
-  checked : (cnf : Cnf) (n : ℕ) → length text ≤ text_limit → cnf_of text ≡ Clauses cnf n →
-      IsChecked text (check_status (log_refusal text cnf n)) (check_text (log_refusal text cnf n))

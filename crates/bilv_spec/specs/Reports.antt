@@ -1,42 +1,7 @@
 -- How a verdict's ending and the end of a run are written.
-use Rattle.std.specs.Prelude.{ℕ, ◌+◌, List, [], ◌∷◌, ◌++◌, Option, Some, None, codes}
-use Rattle.bilv_spec.specs.Run.{Program, Start, Event, AssertFails, FetchFails, NoRow, HalfwordFails, CodeWritten, Trapped, AlignFails, JumpFails, EnsureFails, Run, Going, Exited, Failed, Turned, run}
-use Rattle.bilv_spec.specs.Texts.{word_text, number_text, joined}
-
--- an event
-abbrev pub event_words : Event → List (List ℕ)
-event_words (AssertFails n) = codes "assert" ∷ number_text n ∷ []
-event_words FetchFails = codes "fetch" ∷ []
-event_words NoRow = codes "norow" ∷ []
-event_words HalfwordFails = codes "halfword" ∷ []
-event_words CodeWritten = codes "codewrite" ∷ []
-event_words Trapped = codes "trap" ∷ []
-event_words AlignFails = codes "align" ∷ []
-event_words JumpFails = codes "jump" ∷ []
-event_words (EnsureFails n) = codes "ensure" ∷ number_text n ∷ []
-
--- the address of a step, and its number
-abbrev pub place_words : ℕ → ℕ → List (List ℕ)
-place_words at step = codes "at" ∷ word_text at ∷ codes "step" ∷ number_text step ∷ []
-
--- the ending that a report names: an event, or the (k + 1)th backward transfer
-pub data NamedEnding : Type 0 where
-  FailsBy : Event → (at step : ℕ) → NamedEnding
-  UnknownBy : (k at step : ℕ) → NamedEnding
-
--- the words of a named ending
-abbrev pub named_words : NamedEnding → List (List ℕ)
-named_words (FailsBy e at step) = codes "fails" ∷ event_words e ++ place_words at step
-named_words (UnknownBy k at step) = codes "unknown" ∷ codes "unroll" ∷ number_text k ∷ place_words at step
-
--- its line
-abbrev pub named_line : NamedEnding → List ℕ
-named_line n = joined (named_words n)
-
--- the number of its step
-abbrev pub named_step : NamedEnding → ℕ
-named_step (FailsBy e at step) = step
-named_step (UnknownBy k at step) = step
+use Rattle.std.specs.Prelude.{ℕ, ◌+◌, List, ◌∷◌, Option, Some, None, codes}
+use Rattle.bilv_spec.specs.Run.{Program, Run, Going, Exited, Failed, Turned, run}
+use Rattle.machine_spec.specs.Endings.{Start, Event, place_words, FailsBy, UnknownBy, named_words}
 
 -- What a run of a bounded number of steps is found to end in, each with the address and the number of the last step that was made: the exit, an event, one
 -- backward transfer too many, or nothing: its steps were made, and it would go on.

@@ -1,13 +1,14 @@
 -- One step of a run of the instruction table, and a run.
 use Rattle.std.specs.Prelude.{ℕ, zero, suc, ◌+◌, Bool, true, false, List, [], ◌∷◌, ◌++◌, Option, Some, None, ◌==◌, ◌&&◌, not, nat_le, if◌then◌else◌, nat_eq}
 use Rattle.std.specs.List.{list_any, list_all}
-use Rattle.bilv_spec.specs.Words.{add, sub}
-use Rattle.bilv_spec.specs.Memory.{Endian, load}
-use Rattle.bilv_spec.specs.State.{State}
-use Rattle.bilv_spec.specs.Machine.{Machine, Row, How, On, Direct, DirectCall, Indirect, IndirectCall, Exception, EnvironmentCall, Breakpoint, SoftwareInterrupt, OddHalfword, UnalignedLoad, Outcome, Goes, Raises, addresses, pair_of, is_place}
+use Rattle.word_spec.specs.Words.{add, sub}
+use Rattle.word_spec.specs.Memory.{Endian, load}
+use Rattle.word_spec.specs.State.{State}
+use Rattle.machine_spec.specs.Machine.{Machine, Row, How, On, Direct, DirectCall, Indirect, IndirectCall, Exception, EnvironmentCall, Breakpoint, SoftwareInterrupt, OddHalfword, UnalignedLoad, Outcome, Goes, Raises, addresses, pair_of, is_place}
 pub use Rattle.bilv_spec.specs.Elf.{is_kept, is_executable}
 use Rattle.bilv_spec.specs.Elf.{Cell}
 use Rattle.bilv_spec.specs.Notes.{Notes, NoteLine, Assert, Targets, value, is_true}
+use Rattle.machine_spec.specs.Endings.{Event, AssertFails, FetchFails, NoRow, HalfwordFails, CodeWritten, Trapped, AlignFails, JumpFails, EnsureFails, Start}
 
 -- What is verified: a machine, the word that is executed at an address in a state, the bytes that the file loads, the address of the function, and the notes.
 pub record Program : Type 0 where
@@ -16,20 +17,6 @@ pub record Program : Type 0 where
   pub loaded : ℕ → Option Cell
   pub entry : ℕ
   pub notes : Notes
-
--- What ends a run without an exit: an assert line that is false, by its number; a byte that can't be fetched; a word without a row; an odd address of a
--- halfword; a kept byte that would be written; a trap; an address that is no multiple of 4; a jump that isn't allowed; an ensure line that is false at the
--- exit.
-pub data Event : Type 0 where
-  AssertFails : ℕ → Event
-  FetchFails : Event
-  NoRow : Event
-  HalfwordFails : Event
-  CodeWritten : Event
-  Trapped : Event
-  AlignFails : Event
-  JumpFails : Event
-  EnsureFails : ℕ → Event
 
 -- where a run stands: the state, and the addresses that calls are to return to, the last one first
 pub record Place : Type 0 where
@@ -185,11 +172,6 @@ after_asserts None p entry c choice = by_fetch (fetchable p c.state.pc) p entry 
 -- one step from a place, under a choice, of a run that began in the state at entry
 abbrev pub step : Program → State → Place → ℕ → Step
 step p entry c choice = after_asserts (false_assert p.machine.endian p.notes.asserts c.state entry) p entry c choice
-
--- a start: a state, and a choice for each step, 0 where there is none
-pub record Start : Type 0 where
-  pub state : State
-  pub choices : ℕ → ℕ
 
 -- A run after some steps: it goes on, with so many backward transfers made, at the next step's number, from a place; or it has ended, with the address and
 -- the number of its last step.

@@ -1,6 +1,7 @@
 -- Laws of runs and verdicts.
 use Rattle.std.specs.Prelude.{ℕ, ◌≡◌}
-use Rattle.bilv_spec.specs.Run.{Program, Start, Run, IsOver, run}
+use Rattle.bilv_spec.specs.Run.{Program, Run, IsOver, run}
+use Rattle.machine_spec.specs.Endings.{Start}
 use Rattle.bilv_spec.specs.Verdict.{Verdict, IsRight}
 
 -- a program has at most one right verdict

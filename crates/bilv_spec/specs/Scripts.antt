@@ -1,15 +1,16 @@
 -- The script of a question, in SMT-LIB 2.6 (logic QF_ABV), and the answer that prints it.
 use Rattle.std.specs.Prelude.{ℕ, ◌≡◌, ◌<◌, ◌+◌, ◌-◌, Bool, true, false, ◌==◌, ◌&&◌, ◌||◌, ◌⊎◌, not, nat_lt, if◌then◌else◌, ◌↔◌, List, [], ◌∷◌, ◌++◌, Option, Some, None, is_some, codes, length, map, AllPairs, slice_get, Contains}
 use Rattle.std.specs.Str.{bytes_eq}
-use Rattle.bilv_spec.specs.RowFiles.{from_to}
-use Rattle.bilv_spec.specs.Machine.{Row}
+use Rattle.word_spec.specs.RowFiles.{from_to}
+use Rattle.machine_spec.specs.Machine.{Row}
 use Rattle.bilv_spec.specs.Run.{Program}
 use Rattle.bilv_spec.specs.Points.{Point, ArePoints, HasMore, IsPrice, file_row}
-use Rattle.bilv_spec.specs.Questions.{Reading, Question, IsTrue, IsReading}
-use Rattle.bilv_spec.specs.StateText.{Layout, value_names, place_in}
-use Rattle.bilv_spec.specs.Answers.{Budget, Count, IsWithin, Answer, plain_answer, budget_text}
+use Rattle.bilv_spec.specs.Questions.{Reading, IsTrue, IsReading}
+use Rattle.call_spec.specs.Calls.{Question, Budget, Count, Answer, plain_answer}
+use Rattle.machine_spec.specs.StateText.{Layout, value_names, place_in}
+use Rattle.bilv_spec.specs.Answers.{IsWithin, budget_text}
 use Rattle.bilv_spec.specs.SmtLib.{Sexp, sexps_of, declared_symbols, defined_symbols, commands_truth, SmtValue, WordValue, ArrayValue}
-use Rattle.bilv_spec.specs.Texts.{number_text, line}
+use Rattle.word_spec.specs.Texts.{number_text, line}
 
 -- the order of lists of one length, by their last elements first
 abbrev pub is_below_from_end : List ℕ → List ℕ → Bool

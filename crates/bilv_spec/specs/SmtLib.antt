@@ -4,8 +4,8 @@ use Rattle.std.specs.Prelude.{ℕ, ◌+◌, ◌-◌, ◌*◌, ◌^◌, Bool, tru
 use Rattle.std.specs.List.{list_all}
 use Rattle.std.specs.Str.{bytes_eq}
 use Rattle.std.specs.Str.Parse.{digits_value}
-use Rattle.bilv_spec.specs.Words.{add, sub, mul, neg, complement, udiv, urem, srem, is_negative, with_sign, magnitude, differ, signed_lt, signed_le, shl, shr, sar, bits, sign_extend, concat}
-use Rattle.bilv_spec.specs.Texts.{decimal_word, is_hex_digit}
+use Rattle.word_spec.specs.Words.{add, sub, mul, neg, complement, udiv, urem, srem, is_negative, with_sign, magnitude, differ, signed_lt, signed_le, shl, shr, sar, bits, sign_extend, concat}
+use Rattle.word_spec.specs.Texts.{decimal_word, is_hex_digit}
 
 -- an S-expression (SMT-LIB 2.6, section 3.2): a word, or a list
 pub data Sexp : Type 0 where

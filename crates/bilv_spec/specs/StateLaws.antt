@@ -1,8 +1,9 @@
 -- Laws of state texts.
 use Rattle.std.specs.Prelude.{ℕ, ◌≡◌, ◌+◌, ◌⊎◌, Bool, false, nat_lt, if◌then◌else◌, List, [], ◌∷◌, Option, Some, None, map}
-use Rattle.bilv_spec.specs.Texts.{split_lines}
-use Rattle.bilv_spec.specs.StateText.{Layout, StateText, StateLine, ByteLine, StateFault, StateByteFault, IsWritten, IsNamed, state_lines, printed, line_of, Told, StateIs, StateRefused, state_of}
-use Rattle.bilv_spec.specs.Files.{Options, layout_of}
+use Rattle.word_spec.specs.Texts.{split_lines}
+use Rattle.machine_spec.specs.StateText.{Layout, StateText, StateLine, ByteLine, StateFault, StateByteFault, IsWritten, IsNamed, state_lines, printed, line_of, Told, StateIs, StateRefused, state_of}
+use Rattle.call_spec.specs.Calls.{Options}
+use Rattle.bilv_spec.specs.Files.{layout_of}
 
 -- a text that is printed of a written state says that state, in the layout of every file and whatever bytes are known
 abbrev pub PrintedIsTold : Type 0

@@ -1,11 +1,12 @@
 -- Entry states and the right verdict.
 use Rattle.std.specs.Prelude.{ℕ, ◌≡◌, ◌<◌, ◌^◌, Bool, true, List, Some, None, ◌&&◌, nat_le}
 use Rattle.std.specs.List.{list_any}
-use Rattle.bilv_spec.specs.Machine.{IsAtPlace}
-use Rattle.bilv_spec.specs.State.{State, IsState}
+use Rattle.machine_spec.specs.Machine.{IsAtPlace}
+use Rattle.word_spec.specs.State.{State, IsState}
 use Rattle.bilv_spec.specs.Elf.{Cell, kept}
 use Rattle.bilv_spec.specs.Notes.{FixedRange}
-use Rattle.bilv_spec.specs.Run.{false_line, Program, Start, Event, Exited, Failed, Turned, run}
+use Rattle.bilv_spec.specs.Run.{false_line, Program, Exited, Failed, Turned, run}
+use Rattle.machine_spec.specs.Endings.{Start, Event}
 
 -- an address is within a fixed range
 abbrev pub fixed : List FixedRange → ℕ → Bool

@@ -5,9 +5,10 @@ use Rattle.bilv_spec.specs.NotesFaults as faults
 use Rattle.bilv_spec.specs.Notes.{Notes, Named}
 use Rattle.bilv_spec.specs.Run.{Program}
 use Rattle.bilv_spec.specs.NotesGrammar.{IsNotesText}
-use Rattle.bilv_spec.specs.Files.{Options, names_of, layout_of, IsProgram}
-use Rattle.bilv_spec.specs.Answers.{Budget, Answer, plain_answer, IsReported}
-use Rattle.bilv_spec.specs.Texts.{line, spaced, number_text, word_text}
+use Rattle.call_spec.specs.Calls.{Options, Budget, Answer, plain_answer}
+use Rattle.bilv_spec.specs.Files.{names_of, layout_of, IsProgram}
+use Rattle.bilv_spec.specs.Answers.{IsReported}
+use Rattle.word_spec.specs.Texts.{line, spaced, number_text, word_text}
 
 -- the texts of refusals
 abbrev pub elf_fault_words : elf.FileFault → List ℕ
@@ -52,10 +53,6 @@ note_fault_text n f = line (codes "notes: line" ++ spaced (number_text n ∷ not
 -- the text of a name with several addresses
 abbrev pub ambiguous_text : ℕ → ℕ → List ℕ
 ambiguous_text a b = line (codes "notes: Ambiguous" ++ spaced (word_text a ∷ word_text b ∷ []))
-
--- the usage
-abbrev pub usage_text : List ℕ
-usage_text = line (codes "usage: bilv verify|lift|graph|smt|replay|cert|check|selfrun|upgrade")
 
 -- the greatest length of an ELF file
 abbrev pub elf_limit : ℕ

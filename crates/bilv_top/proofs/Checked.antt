@@ -1,16 +1,16 @@
 -- What a check of a certificate answers.
 use Rattle.std.proofs.Common.{◌≡◌, ℕ, ◌≤◌, List, [], ◌∷◌, ◌++◌, length, refl, ap, sym, subst, ◌∙◌, Option}
 use Rattle.std.specs.Prelude.{codes, drop}
-use Rattle.bilv_spec.specs.Outside.{Agrees, IsLonger}
-use Rattle.bilv_spec.specs.Clauses.{Cnf}
-use Rattle.bilv_spec.specs.Refutation.{LogLine, Cause, refusal}
-use Rattle.bilv_spec.specs.Certificates.{check_text}
-use Rattle.bilv_spec.specs.CertificateGrammar.{CnfFault, Clauses, RefusedAt, cnf_of, log_of, log_of_lines}
-use Rattle.bilv_spec.specs.StateText.{split_lines}
-use Rattle.bilv_spec.specs.Texts.{line, spaced, number_text}
-use Rattle.bilv_spec.specs.Replays.{IsChecked, large, refused, checked, check_status, log_refusal, cnf_fault_words, text_limit}
-use Rattle.bilv_spec.specs.Answers.{NoEvidence, Answer, plain_answer}
-use Rattle.bilv_spec.specs.Outcomes.{Surroundings, Check, IsRightAnswer, was_read}
+use Rattle.call_spec.specs.Outside.{Agrees, IsLonger}
+use Rattle.clause_spec.specs.Clauses.{Cnf}
+use Rattle.clause_spec.specs.Refutation.{LogLine, Cause, refusal}
+use Rattle.clause_spec.specs.Certificates.{check_text}
+use Rattle.clause_spec.specs.CertificateGrammar.{CnfFault, Clauses, RefusedAt, cnf_of, log_of, log_of_lines}
+use Rattle.word_spec.specs.Texts.{split_lines, line, spaced, number_text}
+use Rattle.clause_spec.specs.Checks.{IsChecked, large, refused, checked, check_status, log_refusal, cnf_fault_words, text_limit}
+use Rattle.call_spec.specs.Calls.{NoEvidence, Answer, plain_answer, Surroundings, was_read}
+use Rattle.command_spec.specs.Commands.{Check}
+use Rattle.answer_spec.specs.Outcomes.{IsRightAnswer}
 
 -- the clauses are refused
 pub refused_by : (text words written : List ℕ) (n : ℕ) (f : CnfFault) → length text ≤ text_limit → cnf_of text ≡ RefusedAt n f → words ≡ cnf_fault_words f →

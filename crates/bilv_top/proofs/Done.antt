@@ -1,13 +1,12 @@
 -- Answers to tasks, on the machine of a file, and by counts that did not fall before.
 use Rattle.std.proofs.Common.{◌≡◌, ℕ, ◌≤◌, List, refl, sym, subst}
-use Rattle.bilv_spec.specs.Answers.{Answer}
+use Rattle.call_spec.specs.Calls.{Answer, Surroundings}
 use Rattle.bilv_spec.specs.Files.{program_of}
-use Rattle.bilv_spec.specs.Machine.{Machine}
+use Rattle.machine_spec.specs.Machine.{Machine}
 use Rattle.bilv_spec.specs.Notes.{Notes}
-use Rattle.bilv_spec.specs.Outcomes.{Surroundings}
 use Rattle.bilv_spec.specs.Replays.{replay_answer}
 use Rattle.bilv_spec.specs.Run.{Program}
-use Rattle.bilv_spec.specs.StateText.{Layout}
+use Rattle.machine_spec.specs.StateText.{Layout}
 use Rattle.bilv_top.specs.Tasks.{IsDone}
 use Rattle.bilv_top.specs.declared.tasks.Task.{Task}
 use Rattle.bilv_top.specs.declared.tasks.Task.TheVariants as task

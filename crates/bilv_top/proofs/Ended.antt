@@ -2,14 +2,17 @@
 use Rattle.std.proofs.Common.{◌≡◌, ◌≢◌, ℕ, List, [], Option, Some, None, refl, ap, sym, subst}
 use Rattle.std.proofs.lemmas.List.{append-nil}
 use Rattle.bilv_spec.specs.Run.{Program}
-use Rattle.bilv_spec.specs.Files.{Options, layout_of}
-use Rattle.bilv_spec.specs.Outside.{Appends, Rose}
-use Rattle.bilv_spec.specs.Answers.{Answer, Budget, NoEvidence, IsReported}
+use Rattle.call_spec.specs.Calls.{Options, Answer, Budget, NoEvidence, Surroundings, AfterRead}
+use Rattle.bilv_spec.specs.Files.{layout_of}
+use Rattle.call_spec.specs.Outside.{Appends, Rose}
+use Rattle.bilv_spec.specs.Answers.{IsReported}
 use Rattle.bilv_spec.specs.Verified.{AfterImage, elf_refused, elf_accepted, AfterNotes, notes_refused, program_found}
 use Rattle.bilv_spec.specs.Certified.{IsCertified}
-use Rattle.bilv_spec.specs.Replays.{IsChecked, replay_answer}
+use Rattle.clause_spec.specs.Checks.{IsChecked}
+use Rattle.bilv_spec.specs.Replays.{replay_answer}
 use Rattle.bilv_spec.specs.Scripts.{IsScriptAnswer}
-use Rattle.bilv_spec.specs.Outcomes.{Surroundings, Command, Verify, Lift, Graph, Script, Replay, Certify, Check, SelfRun, Upgrade, AfterRead, AfterBoth, IsLifted, IsGraphed, upgrade_answer, IsDueAnswer, IsOutcome, whole, cut, no_memory}
+use Rattle.command_spec.specs.Commands.{Command, Verify, Lift, Graph, Script, Replay, Certify, Check, SelfRun, Upgrade}
+use Rattle.answer_spec.specs.Outcomes.{AfterBoth, IsLifted, IsGraphed, upgrade_answer, IsDueAnswer, IsOutcome, whole, cut, no_memory}
 use Rattle.answer_laws.specs.Completeness.{AreTold, IsSpentEvidence}
 use Rattle.answer_laws.specs.Told.{AreToldTo, IsAnswered}
 use Rattle.answer_laws.specs.Upgrading.{KeepsVerdict}

@@ -1,15 +1,16 @@
 -- What is known of a program that was found: its notes are over the registers and flags of the machine.
 use Rattle.std.proofs.Common.{◌≡◌, ℕ, ◌<◌, List, Bool, true, false, refl, sym, subst, ◌∙◌, ap}
 use Rattle.std.specs.Prelude.{slice_index, if◌then◌else◌}
-use Rattle.bilv_spec.specs.Arm.{Profile, arm}
+use Rattle.word_spec.specs.Profiles.{Profile}
+use Rattle.machine_spec.specs.Arm.{arm}
 use Rattle.bilv_spec.specs.Elf.{file_endian}
-use Rattle.bilv_spec.specs.Files.{Options, is_rv, machine_of, order_of}
-use Rattle.bilv_spec.specs.Machine.{Machine}
-use Rattle.bilv_spec.specs.Memory.{Endian, Little}
+use Rattle.call_spec.specs.Calls.{Options}
+use Rattle.bilv_spec.specs.Files.{is_rv, machine_of, order_of, program_of}
+use Rattle.machine_spec.specs.Machine.{Machine}
+use Rattle.word_spec.specs.Memory.{Endian, Little}
 use Rattle.bilv_spec.specs.Notes.{Notes}
-use Rattle.bilv_spec.specs.Rv.{rv32}
+use Rattle.machine_spec.specs.Rv.{rv32}
 use Rattle.program_points.specs.Listed.{HasOneWay}
-use Rattle.bilv_spec.specs.Files.{program_of}
 use Rattle.notes_lang.specs.Drafting.{notes_of}
 use Rattle.notes_value.specs.Reads.{AreOver, AreReadable}
 use Rattle.verdict.proofs.OneWay.{has_one_way}

@@ -5,18 +5,20 @@ use Rattle.std.specs.List.{prefix_len, flat_map}
 use Rattle.std.proofs.lemmas.Bool.{eqb-true}
 use Rattle.std.proofs.lemmas.Bool.Decides.{nat_tests}
 use Rattle.std.proofs.lemmas.List.Elements.{Contains-push, Contains-append_left}
-use Rattle.bilv_spec.specs.Memory.{Little}
+use Rattle.word_spec.specs.Memory.{Little}
 use Rattle.bilv_spec.specs.Run.{Program}
-use Rattle.bilv_spec.specs.Texts.{line, line_feed, lines, joined, spaced, number_text, word_text}
-use Rattle.bilv_spec.specs.Work.{item_words, next_item, work_file, work_notes, work_text}
-use Rattle.bilv_spec.specs.RowFiles.{bytes_of, rv_file}
-use Rattle.bilv_spec.specs.Files.{default_options, layout_of, machine_of, names_of, program_of}
+use Rattle.word_spec.specs.Texts.{line, line_feed, lines, joined, spaced, number_text, word_text}
+use Rattle.command_spec.specs.Work.{item_words, next_item, work_file, work_notes, work_text}
+use Rattle.word_spec.specs.RowFiles.{bytes_of, rv_file}
+use Rattle.call_spec.specs.Calls.{default_options, Answer, Budget, Evidence, NoEvidence, Refutations, EntryRefuted, RunOf, SpentOn, Count, plain_answer, default_budget}
+use Rattle.bilv_spec.specs.Files.{layout_of, machine_of, names_of, program_of}
 use Rattle.bilv_spec.specs.NotesGrammar.{IsNotesText}
-use Rattle.bilv_spec.specs.Reports.{NamedEnding, FailsBy, UnknownBy}
-use Rattle.bilv_spec.specs.StateText.{Layout, Written, NamedLine, words_of_line, lines_behind, printed}
-use Rattle.bilv_spec.specs.Answers.{Answer, Budget, Evidence, NoEvidence, Refutations, EntryRefuted, RunOf, SpentOn, Count, Report, HoldsReport, VacuousReport, FailsReport, UnrollReport, PointsReport, SizeReport, ConflictsReport, IsRightReport, IsReported, plain_answer, budget_text, report_text, default_budget}
+use Rattle.machine_spec.specs.Endings.{NamedEnding, FailsBy, UnknownBy}
+use Rattle.machine_spec.specs.StateText.{Layout, NamedLine, words_of_line, lines_behind, printed}
+use Rattle.word_spec.specs.State.{Written}
+use Rattle.bilv_spec.specs.Answers.{Report, HoldsReport, VacuousReport, FailsReport, UnrollReport, PointsReport, SizeReport, ConflictsReport, IsRightReport, IsReported, budget_text, report_text}
 use Rattle.bilv_spec.specs.Verified.{elf_fault_words, note_fault_words, elf_refused, elf_accepted, AfterNotes, notes_refused, program_found, IsElfRefused, elf_large, elf_fault, AreNotesRefused, notes_large, notes_fault, no_function, ambiguous, IsVerified, IsAccepted, elf_limit, notes_limit}
-use Rattle.bilv_spec.specs.Outcomes.{IsFirstLine, IsSelfRun}
+use Rattle.answer_spec.specs.Outcomes.{IsFirstLine, IsSelfRun}
 use Rattle.notes_lang.specs.Drafting.{notes_of}
 use Rattle.bilv_top.specs.declared.inputs.Found.{Found}
 use Rattle.bilv_top.specs.Due.{AreNotesAnswered, IsFoundBy}

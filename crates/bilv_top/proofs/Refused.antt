@@ -2,17 +2,17 @@
 use Rattle.std.proofs.Common.{◌≡◌, ℕ, ◌≤◌, List, length, true, false, refl, ap, sym, subst, arith}
 use Rattle.std.specs.Prelude.{codes, if◌then◌else◌}
 use mathlib.Core.Path.{fun_ext}
-use Rattle.bilv_spec.specs.Outside.{Held, Agrees, Rose}
+use Rattle.call_spec.specs.Outside.{Held, Agrees, Rose}
 use Rattle.bilv_spec.specs.Run.{Program}
 use Rattle.bilv_spec.specs.Notes.{Notes, Function, At, Named}
 use Rattle.bilv_spec.specs.NotesGrammar.{IsNotesText}
 use Rattle.bilv_spec.specs.NotesFaults.{NoteFault, IsFirstNoteFault}
-use Rattle.bilv_spec.specs.Files.{Options, machine_of, names_of, is_rv, program_of, IsFunctionAt}
+use Rattle.call_spec.specs.Calls.{Options, Answer, plain_answer, Surroundings, AfterRead, read_failed, was_read}
+use Rattle.bilv_spec.specs.Files.{machine_of, names_of, is_rv, program_of, IsFunctionAt}
 use Rattle.bilv_spec.specs.RvNames.{rv_names}
 use Rattle.bilv_spec.specs.ArmNames.{arm_names}
-use Rattle.bilv_spec.specs.Texts.{line}
-use Rattle.bilv_spec.specs.Answers.{Answer, plain_answer}
-use Rattle.bilv_spec.specs.Outcomes.{Surroundings, AfterRead, read_failed, was_read, AfterElf}
+use Rattle.word_spec.specs.Texts.{line}
+use Rattle.answer_spec.specs.Outcomes.{AfterElf}
 use Rattle.bilv_spec.specs.Verified.{AfterImage, elf_refused, elf_accepted, AfterNotes, notes_refused, program_found, IsElfRefused, elf_large, elf_fault, AreNotesRefused, notes_large, notes_fault, no_function, ambiguous, note_fault_text, elf_fault_text, IsFound, IsAccepted, elf_limit, notes_limit}
 use Rattle.bilv_spec.specs.ElfFaults as elf
 use Rattle.elf32_reader.specs.declared.fault.ElfFault.{ElfFault}

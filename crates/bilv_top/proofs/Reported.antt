@@ -3,11 +3,11 @@ use Rattle.std.proofs.Common.{◌≡◌, ◌<◌, List, length, ℕ, true, ap, s
 use Rattle.std.proofs.lemmas.Bool.Decides.{nat_tests}
 use Rattle.std.specs.Prelude.{codes, nat_lt}
 use Rattle.bilv_spec.specs.Run.{Program}
-use Rattle.bilv_spec.specs.StateText.{Layout}
-use Rattle.bilv_spec.specs.Texts.{line}
-use Rattle.bilv_spec.specs.Answers.{Answer, plain_answer}
-use Rattle.bilv_spec.specs.Outcomes.{Surroundings, AfterRead, read_failed, was_read}
-use Rattle.bilv_spec.specs.Replays.{replay_answer, sized_answer, text_limit}
+use Rattle.machine_spec.specs.StateText.{Layout}
+use Rattle.word_spec.specs.Texts.{line}
+use Rattle.call_spec.specs.Calls.{Answer, plain_answer, Surroundings, AfterRead, read_failed, was_read}
+use Rattle.bilv_spec.specs.Replays.{replay_answer, sized_answer}
+use Rattle.clause_spec.specs.Checks.{text_limit}
 use Rattle.bilv_top.specs.Due.{IsUnread, failed, longer}
 
 -- a report that is too long

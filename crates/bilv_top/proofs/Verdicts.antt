@@ -2,11 +2,11 @@
 use Rattle.std.proofs.Common.{◌≡◌, ℕ, ap, sym, subst, ◌∙◌}
 use Rattle.std.specs.Prelude.{codes}
 use Rattle.bilv_spec.specs.Run.{Program}
-use Rattle.bilv_spec.specs.Questions.{Question}
-use Rattle.bilv_spec.specs.StateText.{Layout}
-use Rattle.bilv_spec.specs.Texts.{line}
-use Rattle.bilv_spec.specs.Answers.{Answer, Budget, Count, SpentOn, budget_text, plain_answer, report_answer, IsReported, IsRightReport}
-use Rattle.bilv_spec.specs.Certificates.{certificate_text}
+use Rattle.call_spec.specs.Calls.{Question, Answer, Budget, Count, SpentOn, plain_answer}
+use Rattle.machine_spec.specs.StateText.{Layout}
+use Rattle.word_spec.specs.Texts.{line}
+use Rattle.bilv_spec.specs.Answers.{budget_text, report_answer, IsReported, IsRightReport}
+use Rattle.clause_spec.specs.Certificates.{certificate_text}
 use Rattle.bilv_spec.specs.Certified as spec
 use Rattle.bilv_spec.specs.Certified.{IsCertified}
 use Rattle.bilv_spec.specs.Scripts.{IsScriptAnswer, too_many_points, too_large}

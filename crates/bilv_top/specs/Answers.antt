@@ -1,6 +1,6 @@
 -- Answers, as the definitions have them, and what is met on the way to one.
 use Rattle.std.specs.Prelude.{ℕ, List, []}
-use Rattle.bilv_spec.specs.Answers as spec
+use Rattle.call_spec.specs.Calls as spec
 use Rattle.bilv_spec.specs.Verified.{elf_fault_text}
 use Rattle.bilv_spec.specs.ElfFaults.{ShortFile, BadMagic, BadClass, BadData, BadVersion, BadType, BadMachine, BadHeaderTable, BadSegmentRange, BadFileSize, SegmentsOverlap, BadSymbolTable}
 use Rattle.cnf_form.specs.Views.{proof_of}

@@ -1,11 +1,12 @@
 -- The machines of forms of state texts.
 use Rattle.std.specs.Prelude.{List, ℕ, ◌≡◌}
-use Rattle.bilv_spec.specs.Memory.{endian}
-use Rattle.bilv_spec.specs.Machine.{Machine}
-use Rattle.bilv_spec.specs.Bil.{Bank, XRegisters, RRegisters}
-use Rattle.bilv_spec.specs.Files.{Options, machine_of}
-use Rattle.bilv_spec.specs.Rv.{rv32}
-use Rattle.bilv_spec.specs.Arm.{arm}
+use Rattle.word_spec.specs.Memory.{endian}
+use Rattle.machine_spec.specs.Machine.{Machine}
+use Rattle.machine_spec.specs.Bil.{Bank, XRegisters, RRegisters}
+use Rattle.call_spec.specs.Calls.{Options}
+use Rattle.bilv_spec.specs.Files.{machine_of}
+use Rattle.machine_spec.specs.Rv.{rv32}
+use Rattle.machine_spec.specs.Arm.{arm}
 use Rattle.state_text.specs.Starts.{profile_in}
 use Rattle.state_text.specs.declared.layout.Layout.{Layout}
 use Rattle.state_text.specs.declared.layout.Layout.TheVariants.{Rv32, Arm}

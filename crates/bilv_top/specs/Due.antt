@@ -1,12 +1,11 @@
 -- What is met on the way to the answer that is due.
 use Rattle.std.specs.Prelude.{ℕ, ◌≡◌, List, codes}
-use Rattle.bilv_spec.specs.Outside.{Held, Agrees, IsLonger, Rose}
-use Rattle.bilv_spec.specs.Files.{Options, machine_of, names_of, IsFunctionAt}
+use Rattle.call_spec.specs.Outside.{Held, Agrees, IsLonger, Rose}
+use Rattle.call_spec.specs.Calls.{Options, Answer, plain_answer, read_fault}
+use Rattle.bilv_spec.specs.Files.{machine_of, names_of, IsFunctionAt}
 use Rattle.bilv_spec.specs.NotesGrammar.{IsNotesText}
-use Rattle.bilv_spec.specs.Answers.{Answer, plain_answer}
-use Rattle.bilv_spec.specs.Outcomes.{read_fault}
 use Rattle.bilv_spec.specs.Verified.{AreNotesRefused, notes_limit}
-use Rattle.bilv_spec.specs.Texts.{line}
+use Rattle.word_spec.specs.Texts.{line}
 use Rattle.notes_lang.specs.Drafting.{notes_of}
 use Rattle.notes_value.specs.Reads.{AreOver, AreReadable}
 use Rattle.bilv_top.specs.declared.inputs.Found.{Found}

@@ -1,9 +1,8 @@
 -- How a call and the program end.
 use Rattle.std.specs.Prelude.{ℕ, ◌≡◌, List, Option}
-use Rattle.bilv_spec.specs.Outside.{Appends}
-use Rattle.bilv_spec.specs.Answers.{Answer, Budget, Evidence}
-use Rattle.bilv_spec.specs.Files.{Options}
-use Rattle.bilv_spec.specs.Outcomes.{Surroundings, IsOutcome}
+use Rattle.call_spec.specs.Outside.{Appends}
+use Rattle.call_spec.specs.Calls.{Answer, Budget, Evidence, Options, Surroundings}
+use Rattle.answer_spec.specs.Outcomes.{IsOutcome}
 use Rattle.answer_laws.specs.Completeness.{Answers}
 use Rattle.command_line.specs.Lines.{lawful_command}
 

@@ -1,7 +1,7 @@
 -- Names of functions that give no address.
 use Rattle.std.specs.Prelude.{ℕ, List, codes}
 use Rattle.bilv_spec.specs.Notes.{Function, At, Named}
-use Rattle.bilv_spec.specs.Texts.{line}
+use Rattle.word_spec.specs.Texts.{line}
 use Rattle.bilv_spec.specs.Verified.{ambiguous_text}
 use Rattle.elf32_reader.specs.declared.symbols.SymFault.{SymFault}
 use Rattle.elf32_reader.specs.declared.symbols.SymFault.TheVariants.{NoFunction, Ambiguous}

@@ -1,6 +1,6 @@
 -- What was read of a file.
 use Rattle.std.specs.Prelude.{ℕ, ◌≤◌, length}
-use Rattle.bilv_spec.specs.Outside.{Held, Agrees, IsLonger, Rose}
+use Rattle.call_spec.specs.Outside.{Held, Agrees, IsLonger, Rose}
 use Rattle.bilv_top.specs.declared.reading.FileRead.{FileRead}
 use Rattle.bilv_top.specs.declared.reading.FileRead.TheVariants.{Bytes, TooLarge, Failed}
 

@@ -1,12 +1,13 @@
 -- What is asked about a program, and its answer.
 use Rattle.std.specs.Prelude.{ℕ, ◌≡◌, List}
-use Rattle.bilv_spec.specs.Answers.{Answer, IsBudget, IsReported}
+use Rattle.call_spec.specs.Calls.{Answer, IsBudget, Surroundings, AfterRead}
+use Rattle.bilv_spec.specs.Answers.{IsReported}
 use Rattle.bilv_spec.specs.Certified.{IsCertified}
-use Rattle.bilv_spec.specs.Outcomes.{Surroundings, AfterRead, IsGraphed}
+use Rattle.answer_spec.specs.Outcomes.{IsGraphed}
 use Rattle.bilv_spec.specs.Replays.{replay_answer}
 use Rattle.bilv_spec.specs.Run.{Program}
 use Rattle.bilv_spec.specs.Scripts.{IsScriptAnswer}
-use Rattle.bilv_spec.specs.StateText.{Layout}
+use Rattle.machine_spec.specs.StateText.{Layout}
 use Rattle.command_line.specs.Commands.{budget_of, question_of}
 use Rattle.bilv_top.specs.declared.tasks.Task.{Task}
 use Rattle.bilv_top.specs.declared.tasks.Task.TheVariants as task

@@ -3,11 +3,12 @@ ghost use Rattle.std.specs.Prelude.{◌≡◌, ◌≢◌, ◌≤◌, ℕ, List, 
 ghost use Rattle.answer_laws.specs.Completeness.{AreTold, IsSpentEvidence};
 ghost use Rattle.answer_laws.specs.Told.{AreToldTo, IsAnswered};
 ghost use Rattle.answer_laws.specs.Upgrading.{KeepsVerdict};
-ghost use Rattle.bilv_spec.specs.Answers as answers;
-ghost use Rattle.bilv_spec.specs.Files.{Options};
-ghost use Rattle.bilv_spec.specs.Outcomes as outcomes;
-ghost use Rattle.bilv_spec.specs.Outcomes.{IsDueAnswer, IsLawfulCommand, IsOutcome, IsRightAnswer, Upgrade, Verify};
-ghost use Rattle.bilv_spec.specs.Outside.{Appends, Rose};
+ghost use Rattle.call_spec.specs.Calls as answers;
+ghost use Rattle.call_spec.specs.Calls.{Options};
+ghost use Rattle.command_spec.specs.Commands as outcomes;
+ghost use Rattle.answer_spec.specs.Outcomes.{IsDueAnswer, IsOutcome, IsRightAnswer};
+ghost use Rattle.command_spec.specs.Commands.{IsLawfulCommand, Upgrade, Verify};
+ghost use Rattle.call_spec.specs.Outside.{Appends, Rose};
 ghost use Rattle.bilv_top.specs.Answers.{answer_of, evidence_of};
 ghost use Rattle.bilv_top.specs.Ends.{AreAnswered};
 ghost use Rattle.command_line.specs.Commands.{command_of};

@@ -1,9 +1,10 @@
 //! The command that checks a certificate.
 ghost use Rattle.std.specs.Prelude.{◌≡◌, ◌≤◌, ℕ, List, length, IfOk};
-ghost use Rattle.bilv_spec.specs.Answers.{NoEvidence};
-ghost use Rattle.bilv_spec.specs.Certificates.{check_text};
-ghost use Rattle.bilv_spec.specs.Outcomes.{Check, IsRightAnswer};
-ghost use Rattle.bilv_spec.specs.Replays.{IsChecked, check_status, text_limit};
+ghost use Rattle.call_spec.specs.Calls.{NoEvidence};
+ghost use Rattle.clause_spec.specs.Certificates.{check_text};
+ghost use Rattle.command_spec.specs.Commands.{Check};
+ghost use Rattle.answer_spec.specs.Outcomes.{IsRightAnswer};
+ghost use Rattle.clause_spec.specs.Checks.{IsChecked, check_status, text_limit};
 ghost use Rattle.refutation_checker.specs.Answers.{refusal_of};
 ghost use Rattle.bilv_top.specs.Answers.{answer_of, evidence_of};
 ghost use Rattle.io_edges.specs.Met.{seen};

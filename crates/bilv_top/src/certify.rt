@@ -1,7 +1,7 @@
 //! The answer that certifies a question.
 ghost use Rattle.std.specs.Prelude.{◌≡◌, IfOk};
-ghost use Rattle.bilv_spec.specs.Answers.{IsBudget, plain_answer};
-ghost use Rattle.bilv_spec.specs.Certificates.{certificate_text};
+ghost use Rattle.call_spec.specs.Calls.{IsBudget, plain_answer};
+ghost use Rattle.clause_spec.specs.Certificates.{certificate_text};
 ghost use Rattle.bilv_spec.specs.Certified.{IsCertified};
 ghost use Rattle.bilv_spec.specs.Files.{program_of};
 ghost use Rattle.bilv_spec.specs.Run.{Program};

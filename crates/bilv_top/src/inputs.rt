@@ -1,9 +1,9 @@
 //! The inputs of commands: an ELF file, and notes over it; and the answers where they are refused.
 ghost use Rattle.std.specs.Prelude.{◌≡◌, ◌≤◌, ℕ, List, IfOk, MatchResult, codes, length};
-ghost use Rattle.bilv_spec.specs.Answers.{plain_answer};
+ghost use Rattle.call_spec.specs.Calls.{plain_answer};
 ghost use Rattle.bilv_spec.specs.Files.{IsFunctionAt};
-ghost use Rattle.bilv_spec.specs.Outside.{Agrees};
-ghost use Rattle.bilv_spec.specs.Texts.{line};
+ghost use Rattle.call_spec.specs.Outside.{Agrees};
+ghost use Rattle.word_spec.specs.Texts.{line};
 ghost use Rattle.bilv_spec.specs.Verified as verified;
 ghost use Rattle.bilv_spec.specs.Verified.{AfterImage, IsAccepted};
 ghost use Rattle.notes_lang.specs.Judging.{fault_of};

@@ -2,7 +2,8 @@
 ghost use Rattle.std.specs.Prelude.{◌≡◌, ◌≤◌, ℕ, List, IfOk};
 ghost use Rattle.bilv_spec.specs.Files.{is_rv, machine_of};
 ghost use Rattle.bilv_spec.specs.LiftText.{bank_by};
-ghost use Rattle.bilv_spec.specs.Outcomes.{IsLifted, IsRightAnswer, Lift};
+ghost use Rattle.answer_spec.specs.Outcomes.{IsLifted, IsRightAnswer};
+ghost use Rattle.command_spec.specs.Commands.{Lift};
 ghost use Rattle.command_line.specs.Commands.{options_of};
 ghost use Rattle.bilv_top.specs.Answers.{answer_of};
 ghost use Rattle.io_edges.specs.Met.{seen};

@@ -1,6 +1,6 @@
 //! The machine of a file.
 ghost use Rattle.std.specs.Prelude.{◌≡◌};
-ghost use Rattle.bilv_spec.specs.Files as files;
+ghost use Rattle.call_spec.specs.Calls as files;
 ghost use Rattle.bilv_spec.specs.Files.{is_rv, layout_of, machine_of, names_of};
 ghost use Rattle.bilv_spec.specs.LiftText.{bank_by};
 ghost use Rattle.command_line.specs.Commands.{options_of};

@@ -1,8 +1,7 @@
 //! Reading whole files, and the answers where that fails.
 ghost use Rattle.std.specs.Prelude.{◌≡◌, ℕ, ◌≤◌, List, IfOk, length};
-ghost use Rattle.bilv_spec.specs.Answers.{plain_answer};
-ghost use Rattle.bilv_spec.specs.Outcomes.{read_fault};
-ghost use Rattle.bilv_spec.specs.Outside.{Agrees};
+ghost use Rattle.call_spec.specs.Calls.{plain_answer, read_fault};
+ghost use Rattle.call_spec.specs.Outside.{Agrees};
 ghost use Rattle.bilv_top.specs.Answers.{IfStep, answer_of};
 ghost use Rattle.bilv_top.specs.Due.{IsUnread};
 ghost use Rattle.bilv_top.specs.Read.{IsFileRead};

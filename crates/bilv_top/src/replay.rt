@@ -1,8 +1,7 @@
 //! The answer that replays a report.
 ghost use Rattle.std.specs.Prelude.{◌≡◌, ◌≤◌, ℕ, List, IfOk};
-ghost use Rattle.bilv_spec.specs.Answers.{plain_answer};
+ghost use Rattle.call_spec.specs.Calls.{plain_answer, AfterRead};
 ghost use Rattle.bilv_spec.specs.Files.{program_of};
-ghost use Rattle.bilv_spec.specs.Outcomes.{AfterRead};
 ghost use Rattle.bilv_spec.specs.Replays.{replay_answer};
 ghost use Rattle.notes_lang.specs.Drafting.{notes_of};
 ghost use Rattle.bilv_top.specs.Answers.{answer_of};

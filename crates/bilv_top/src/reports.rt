@@ -1,8 +1,8 @@
 //! The answers of reports.
 ghost use Rattle.std.specs.Prelude.{◌≡◌, IfOk};
-ghost use Rattle.bilv_spec.specs.Answers as answers;
+ghost use Rattle.call_spec.specs.Calls as answers;
 ghost use Rattle.bilv_spec.specs.Answers.{budget_text, report_answer};
-ghost use Rattle.bilv_spec.specs.StateText.{printed};
+ghost use Rattle.machine_spec.specs.StateText.{printed};
 ghost use Rattle.command_line.specs.Commands.{budget_of};
 ghost use Rattle.state_text.specs.Starts.{layout_of, named_of, written_of};
 ghost use Rattle.verdict.specs.Verdicts as verdicts;

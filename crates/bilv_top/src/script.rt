@@ -1,11 +1,10 @@
 //! The answer that prints the script of a question.
 ghost use Rattle.std.specs.Prelude.{◌≡◌, string_bytes, IfOk};
-ghost use Rattle.bilv_spec.specs.Answers.{IsBudget, plain_answer};
+ghost use Rattle.call_spec.specs.Calls.{IsBudget, plain_answer, Question as AskedQuestion};
 ghost use Rattle.bilv_spec.specs.Files.{program_of};
-ghost use Rattle.bilv_spec.specs.Questions.{Question as AskedQuestion};
 ghost use Rattle.bilv_spec.specs.Run.{Program};
 ghost use Rattle.bilv_spec.specs.Scripts.{IsScriptAnswer};
-ghost use Rattle.bilv_spec.specs.StateText as texts;
+ghost use Rattle.machine_spec.specs.StateText as texts;
 ghost use Rattle.bilv_top.specs.Answers.{answer_of};
 ghost use Rattle.bilv_top.specs.Chosen.{IsMachineOf};
 ghost use Rattle.bilv_top.specs.Due.{IsFoundBy};

@@ -1,10 +1,10 @@
 //! The command that verifies work which is made from a number.
 ghost use Rattle.std.specs.Prelude.{◌≡◌, ◌≤◌, ◌==◌, ℕ, List, not, Contains, IfOk, length};
 ghost use Rattle.std.specs.List.{prefix_len};
-ghost use Rattle.bilv_spec.specs.Answers.{IsBudget};
-ghost use Rattle.bilv_spec.specs.Files.{default_options};
-ghost use Rattle.bilv_spec.specs.Outcomes.{IsFirstLine, IsLawfulCommand, IsSelfRun, SelfRun};
-ghost use Rattle.bilv_spec.specs.Texts.{line_feed};
+ghost use Rattle.call_spec.specs.Calls.{IsBudget, default_options};
+ghost use Rattle.answer_spec.specs.Outcomes.{IsFirstLine, IsSelfRun};
+ghost use Rattle.command_spec.specs.Commands.{IsLawfulCommand, SelfRun};
+ghost use Rattle.word_spec.specs.Texts.{line_feed};
 ghost use Rattle.bilv_spec.specs.Verified.{IsVerified, elf_limit};
 ghost use Rattle.bilv_top.specs.Answers.{answer_of};
 ghost use Rattle.command_line.specs.Commands.{budget_of};

@@ -1,7 +1,7 @@
 //! What is asked about the program that an ELF file and notes are, and its answer on the machine of the file.
 ghost use Rattle.std.specs.Prelude.{◌≡◌, ◌≤◌, ℕ, List, IfOk};
 ghost use Rattle.bilv_spec.specs.Files.{layout_of, machine_of, program_of};
-ghost use Rattle.bilv_spec.specs.Outcomes.{AfterBoth};
+ghost use Rattle.answer_spec.specs.Outcomes.{AfterBoth};
 ghost use Rattle.command_line.specs.Commands.{options_of};
 ghost use Rattle.notes_lang.specs.Drafting.{notes_of};
 ghost use Rattle.io_edges.specs.Met.{seen};

@@ -1,9 +1,9 @@
 //! The texts of refusals and of budgets that are exceeded.
 ghost use Rattle.std.specs.Prelude.{◌≡◌, ◌++◌, ◌∷◌, [], IfOk, MatchOption};
 ghost use Rattle.bilv_spec.specs.Answers.{budget_text};
-ghost use Rattle.bilv_spec.specs.Texts.{line, spaced, number_text};
-ghost use Rattle.bilv_spec.specs.Certificates.{cause_words};
-ghost use Rattle.bilv_spec.specs.Replays.{cnf_fault_words};
+ghost use Rattle.word_spec.specs.Texts.{line, spaced, number_text};
+ghost use Rattle.clause_spec.specs.Certificates.{cause_words};
+ghost use Rattle.clause_spec.specs.Checks.{cnf_fault_words};
 ghost use Rattle.cnf_form.specs.Faults.{fault_of as cnf_fault_of};
 ghost use Rattle.bilv_spec.specs.Verified as verified;
 ghost use Rattle.notes_lang.specs.Judging.{fault_of as note_fault_of};

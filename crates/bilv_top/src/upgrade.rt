@@ -1,6 +1,7 @@
 //! The answer that prints notes again as version 2.
 ghost use Rattle.std.specs.Prelude.{◌≡◌, ◌≤◌, ℕ, List, IfOk};
-ghost use Rattle.bilv_spec.specs.Outcomes.{IsRightAnswer, Upgrade, upgrade_answer};
+ghost use Rattle.answer_spec.specs.Outcomes.{IsRightAnswer, upgrade_answer};
+ghost use Rattle.command_spec.specs.Commands.{Upgrade};
 ghost use Rattle.command_line.specs.Commands.{options_of};
 ghost use Rattle.io_edges.specs.Met.{seen};
 ghost use Rattle.bilv_top.specs.Answers.{answer_of};

@@ -1,6 +1,7 @@
 //! The answer that verifies.
 ghost use Rattle.std.specs.Prelude.{◌≡◌, IfOk};
-ghost use Rattle.bilv_spec.specs.Answers.{IsBudget, IsReported};
+ghost use Rattle.call_spec.specs.Calls.{IsBudget};
+ghost use Rattle.bilv_spec.specs.Answers.{IsReported};
 ghost use Rattle.bilv_spec.specs.Files.{program_of};
 ghost use Rattle.bilv_top.specs.Answers.{answer_of};
 ghost use Rattle.bilv_top.specs.Chosen.{IsMachineOf};

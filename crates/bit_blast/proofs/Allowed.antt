@@ -5,7 +5,7 @@ use Rattle.std.specs.List.{list_all}
 use Rattle.std.specs.Global.{Vec}
 use Rattle.std.proofs.lemmas.Bool.{and_parts, and_from}
 use Rattle.std.proofs.lemmas.List.{take_more}
-use Rattle.bilv_spec.specs.Words.{bit}
+use Rattle.word_spec.specs.Words.{bit}
 use Rattle.gates.specs.Circuits.{bit_value}
 use Rattle.word_gates.specs.Numbers.{number}
 use Rattle.word_gates.proofs.Words.{no_bit}

@@ -3,8 +3,8 @@ use Rattle.std.proofs.Common.{◌≡◌, ℕ, zero, suc, ◌+◌, ◌<◌, ◌�
 use Rattle.std.specs.Prelude.{Option, Some, None, slice_index_or, if◌then◌else◌}
 use Rattle.std.proofs.lemmas.Bool.{cases_lt}
 use Rattle.std.proofs.lemmas.List.{get_or_append_left, length_push, map-append}
-use Rattle.bilv_spec.specs.RowFiles.{from_to}
-use Rattle.bilv_spec.specs.Words.{bit}
+use Rattle.word_spec.specs.RowFiles.{from_to}
+use Rattle.word_spec.specs.Words.{bit}
 use Rattle.walk_spec.specs.Unrolled.{UnrolledProgram, no_point, point_at}
 use Rattle.walk_spec.specs.ClauseForm.{drawn_below}
 use Rattle.term_dag.proofs.ListLaws.{last}

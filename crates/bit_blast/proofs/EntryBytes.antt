@@ -5,9 +5,9 @@ use Rattle.std.proofs.lemmas.Bool.{cases_eq}
 use Rattle.std.proofs.lemmas.Bool.Decides.{nat_tests}
 use Rattle.std.proofs.lemmas.List.Elements.{All-filter, Contains-get_or, filter_passes}
 use Rattle.std.proofs.lemmas.List.Kept.{AllPairs-filter}
-use Rattle.bilv_spec.specs.Words.{word}
-use Rattle.bilv_spec.specs.Memory.{Memory, byte_in}
-use Rattle.bilv_spec.specs.StateText.{AreRising, known_or}
+use Rattle.word_spec.specs.Words.{word}
+use Rattle.word_spec.specs.Memory.{Memory, byte_in}
+use Rattle.machine_spec.specs.StateText.{AreRising, known_or}
 use Rattle.bilv_spec.proofs.Pigeons.{truth}
 use Rattle.walk_spec.specs.Terms.{TermReading, with_mem}
 use Rattle.walk_spec.specs.Unrolled.{UnrolledProgram, byte_of_runs}

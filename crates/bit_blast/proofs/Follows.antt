@@ -1,10 +1,10 @@
 -- A start of values follows their choices: the choice of a step is that of the place that the walk meets then.
 use Rattle.std.proofs.Common.{◌≡◌, ℕ, ◌%◌, ◌^◌, ◌<◌, Bool, true, false, List, length, refl, ap, sym, ◌∙◌, subst, arith}
 use Rattle.std.specs.Prelude.{◌==◌, slice_index}
-use Rattle.bilv_spec.specs.Words.{bit}
-use Rattle.bilv_spec.specs.Memory.{Memory, byte_in}
+use Rattle.word_spec.specs.Words.{bit}
+use Rattle.word_spec.specs.Memory.{Memory, byte_in}
 use Rattle.bilv_spec.specs.Questions.{Reading, IsReading}
-use Rattle.bilv_spec.specs.StateText.{Written}
+use Rattle.word_spec.specs.State.{Written}
 use Rattle.walk_spec.specs.Terms.{TermReading, term_word, node_at}
 use Rattle.walk_spec.specs.Unrolled.{Carried, UnrolledProgram, point_at, WalkIsAt, walk, ExitsLeadLater, is_flag_of, is_register_of}
 use Rattle.walk_spec.specs.Passive.{Passive, IsPassive}

@@ -5,9 +5,9 @@ use Rattle.std.specs.List.{list_any}
 use Rattle.std.proofs.Math.Path.{fun_ext}
 use Rattle.std.proofs.lemmas.Bool.{cases_lt}
 use Rattle.std.proofs.lemmas.Bool.Decides.{nat_tests}
-use Rattle.bilv_spec.specs.Words.{bit}
-use Rattle.bilv_spec.specs.RowFiles.{from_to}
-use Rattle.bilv_spec.specs.Clauses.{AgreeUpTo}
+use Rattle.word_spec.specs.Words.{bit}
+use Rattle.word_spec.specs.RowFiles.{from_to}
+use Rattle.clause_spec.specs.Clauses.{AgreeUpTo}
 use Rattle.bilv_spec.proofs.Pigeons.{truth}
 use Rattle.walk_spec.specs.Unrolled.{UnrolledPoint, UnrolledProgram, no_point, point_at, is_register_of, is_flag_of}
 use Rattle.walk_spec.specs.Cells.{Cells}

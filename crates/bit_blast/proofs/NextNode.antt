@@ -7,8 +7,8 @@ use Rattle.std.proofs.lemmas.List.{get_or_append_left, length-map, map-append, t
 use Rattle.std.proofs.lemmas.List.Sums.{sum_by-append, sum_by-cons}
 use Rattle.walk_spec.specs.Terms.{TermReading, TermValue, TermNode, RegisterNode, FlagNode, ChoiceNode, BaseNode, MemoryNode, ConstantNode, BinaryNode, NotNode, SelectNode, ExtractNode, ConcatNode, ExtendNode, LoadNode, StoreNode, JoinNode, word_value, value_at, node_at, node_value, values_from, term_value, width_of, own_gates, term_gates, select, extend, operate, HasWidth, IsTypedOver, AreTyped}
 use Rattle.walk_spec.specs.Cells.{IsOfWords}
-use Rattle.bilv_spec.specs.Words as words
-use Rattle.bilv_spec.specs.Words.{bit}
+use Rattle.word_spec.specs.Words as words
+use Rattle.word_spec.specs.Words.{bit}
 use Rattle.gates.specs.declared.bit.Bit.{Bit}
 use Rattle.gates.specs.Circuits.{Netlist, next, Holds, Within, bit_value}
 use Rattle.gates.proofs.Netlists.{grows_none, grows_then}

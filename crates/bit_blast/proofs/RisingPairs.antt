@@ -9,7 +9,7 @@ use Rattle.std.specs.declared.cmp.Ordering.TheVariants.{Less, Equal, Greater}
 use Rattle.std.proofs.lemmas.Bool.{and_from, cases_lt}
 use Rattle.std.proofs.lemmas.Bool.Decides.{nat_tests}
 use Rattle.std.proofs.lemmas.List.Sorted.{Contains-permutation, IsPermutation-sym}
-use Rattle.bilv_spec.specs.StateText.{AreRising}
+use Rattle.machine_spec.specs.StateText.{AreRising}
 use Rattle.bit_blast.proofs.Kept.{equal_pairs, exact}
 
 -- the order of pairs

@@ -5,10 +5,11 @@ use Rattle.std.specs.List.{list_any}
 use Rattle.std.proofs.Math.Path.{fun_ext}
 use Rattle.std.proofs.lemmas.Bool.{cases_lt}
 use Rattle.std.proofs.lemmas.Bool.Decides.{nat_tests}
-use Rattle.bilv_spec.specs.Words.{bit_at}
-use Rattle.bilv_spec.specs.Memory.{byte_in}
-use Rattle.bilv_spec.specs.RowFiles.{from_to}
-use Rattle.bilv_spec.specs.StateText.{AreRising, Written}
+use Rattle.word_spec.specs.Words.{bit_at}
+use Rattle.word_spec.specs.Memory.{byte_in}
+use Rattle.word_spec.specs.RowFiles.{from_to}
+use Rattle.machine_spec.specs.StateText.{AreRising}
+use Rattle.word_spec.specs.State.{Written}
 use Rattle.walk_spec.specs.Terms.{TermReading, with_mem}
 use Rattle.walk_spec.specs.Unrolled.{UnrolledPoint, UnrolledProgram, byte_of_runs, no_point, point_at, is_flag_of, is_register_of}
 use Rattle.walk_spec.specs.Unrolling.{IsWalkable}

@@ -5,9 +5,9 @@ use Rattle.std.proofs.lemmas.Bool.{cases_lt}
 use Rattle.std.proofs.lemmas.Bool.Decides.{nat_tests}
 use Rattle.std.proofs.lemmas.List.Elements.{All-push}
 use Rattle.std.proofs.lemmas.List.Quantifiers.{all_pairs_push}
-use Rattle.bilv_spec.specs.Memory.{byte_in}
+use Rattle.word_spec.specs.Memory.{byte_in}
 use Rattle.bilv_spec.specs.Questions.{Reading}
-use Rattle.bilv_spec.specs.StateText.{AreRising}
+use Rattle.machine_spec.specs.StateText.{AreRising}
 use Rattle.walk_spec.specs.Unrolled.{carried_of, UnrolledProgram, point_at, Walk, WalkIsAt, WalkExits, WalkFails, WalkTurns, walk_from, walk_on, walk, ExitsLeadLater}
 use Rattle.walk_spec.specs.Sweep.{Held, met_below}
 use Rattle.walk_spec.proofs.SweepWalk.{sweep_is_walk}

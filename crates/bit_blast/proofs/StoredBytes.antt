@@ -6,9 +6,9 @@ use Rattle.std.proofs.lemmas.Bool.{and_parts}
 use Rattle.std.proofs.lemmas.List.{drop_more, get_or-drop, get_or_past}
 use Rattle.byte_mem.proofs.Spans.{byte_none}
 use Rattle.bit_blast.proofs.StepChoices.{any_default}
-use Rattle.bilv_spec.specs.Words.{word, sub}
-use Rattle.bilv_spec.specs.Memory.{Little, store, byte_of, byte_in, memory_of}
-use Rattle.bilv_spec.specs.StateText.{known_or}
+use Rattle.word_spec.specs.Words.{word, sub}
+use Rattle.word_spec.specs.Memory.{Little, store, byte_of, byte_in, memory_of}
+use Rattle.machine_spec.specs.StateText.{known_or}
 use Rattle.bilv_spec.proofs.Pigeons.{truth}
 use Rattle.walk_spec.specs.Unrolled.{ByteRun, byte_in_run, byte_of_runs}
 use Rattle.known_bytes.specs.declared.listing.Known.{Known}

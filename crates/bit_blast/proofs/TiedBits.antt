@@ -3,7 +3,7 @@ use Rattle.std.proofs.Common.{◌≡◌, ◌==◌, ℕ, ◌+◌, ◌*◌, ◌/�
 use Rattle.std.specs.Bool.{beq}
 use Rattle.std.proofs.lemmas.Bool.Decides.{nat_tests}
 use Rattle.std.proofs.lemmas.List.{drop_all}
-use Rattle.bilv_spec.specs.Words.{bit, differ}
+use Rattle.word_spec.specs.Words.{bit, differ}
 use Rattle.gates.specs.declared.bit.Bit.{Bit}
 use Rattle.gates.specs.Circuits.{bit_value}
 use Rattle.word_gates.specs.Numbers.{number, digit}

@@ -5,7 +5,7 @@ use Rattle.std.specs.List.{list_all}
 use Rattle.std.specs.Global.{Vec}
 use Rattle.std.proofs.lemmas.Bool.{and_parts, and_from}
 use Rattle.std.proofs.lemmas.Bool.Decides.{nat_tests}
-use Rattle.bilv_spec.specs.Clauses.{Clause, Cnf, Satisfies, AgreeUpTo, ExtendsOnceWhere}
+use Rattle.clause_spec.specs.Clauses.{Clause, Cnf, Satisfies, AgreeUpTo, ExtendsOnceWhere}
 use Rattle.walk_spec.specs.Terms.{term_word, value_at}
 use Rattle.walk_spec.specs.Unrolled.{UnrolledProgram}
 use Rattle.walk_spec.specs.Cells.{Cells, IsAllowed, AreFormed}

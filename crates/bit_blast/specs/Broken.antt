@@ -1,6 +1,6 @@
 -- The addresses at which values go against the known bytes.
 use Rattle.std.specs.Prelude.{ℕ, ◌<◌, ◌↔◌, Bool, false, not, ◌==◌, List, Option, Some, None, Contains, length, slice_index}
-use Rattle.bilv_spec.specs.Clauses.{valuation}
+use Rattle.clause_spec.specs.Clauses.{valuation}
 use Rattle.walk_spec.specs.Unrolled.{ByteRun, byte_of_runs}
 use Rattle.walk_spec.specs.ClauseForm.{IsBroken, reading}
 use Rattle.mem_cells.specs.declared.cells.Celled.{Celled}

@@ -1,9 +1,9 @@
 -- What the choices of a start are by, over plain data.
 use Rattle.std.specs.Prelude.{ℕ, ◌≡◌, ◌≤◌, ◌<◌, Bool, true, List, length, All}
-use Rattle.bilv_spec.specs.Words.{word}
-use Rattle.bilv_spec.specs.Memory.{byte_in}
+use Rattle.word_spec.specs.Words.{word}
+use Rattle.word_spec.specs.Memory.{byte_in}
 use Rattle.bilv_spec.specs.Questions.{Reading}
-use Rattle.bilv_spec.specs.StateText.{AreRising, known_or}
+use Rattle.machine_spec.specs.StateText.{AreRising, known_or}
 use Rattle.walk_spec.specs.Terms.{TermReading}
 use Rattle.walk_spec.specs.Unrolled.{Carried, UnrolledProgram, WalkIsAt, walk, is_flag_of, is_register_of, byte_of_runs}
 use Rattle.walk_spec.specs.WalkQuestions.{DrawsAt}

@@ -1,6 +1,6 @@
 -- The places of the inputs of cells.
 use Rattle.std.specs.Prelude.{ℕ, ◌≡◌, ◌<◌, List, Option, Some, None, length, slice_index_or, if◌then◌else◌}
-use Rattle.bilv_spec.specs.RowFiles.{from_to}
+use Rattle.word_spec.specs.RowFiles.{from_to}
 use Rattle.walk_spec.specs.Unrolled.{UnrolledProgram, point_at}
 use Rattle.walk_spec.specs.Cells.{Cells}
 use Rattle.walk_spec.specs.ClauseForm.{drawn_below}

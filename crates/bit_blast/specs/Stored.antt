@@ -1,6 +1,6 @@
 -- Bytes of a run in a memory.
 use Rattle.std.specs.Prelude.{ℕ, ◌<◌, ◌+◌, ◌-◌, ◌&&◌, nat_le, nat_lt, slice_index, if◌then◌else◌}
-use Rattle.bilv_spec.specs.Memory.{Memory}
+use Rattle.word_spec.specs.Memory.{Memory}
 use Rattle.known_bytes.specs.declared.listing.Known.{Known}
 
 -- the byte at an address once the first bytes of a run are stored

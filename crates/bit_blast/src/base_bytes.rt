@@ -1,6 +1,6 @@
 //! The bytes that values give to base reads, and the addresses at which these read.
 ghost use Rattle.std.specs.Prelude.{◌≡◌, ℕ, ◌<◌, ◌+◌, ◌*◌, ◌^◌, length, slice_index, slice_index_or, IfOk};
-ghost use Rattle.bilv_spec.specs.Clauses.{valuation};
+ghost use Rattle.clause_spec.specs.Clauses.{valuation};
 ghost use Rattle.walk_spec.specs.Unrolled.{UnrolledProgram};
 ghost use Rattle.walk_spec.specs.Cells.{Cells, AreFormed};
 ghost use Rattle.walk_spec.specs.ClauseForm.{bits_from, reading};

@@ -1,8 +1,8 @@
 //! The memory at entry that values give.
 ghost use Rattle.std.specs.Prelude.{◌≡◌, ◌↔◌, ◌++◌, ℕ, [], ◌∷◌, ◌≤◌, ◌<◌, ◌^◌, None, All, Contains, filter, map, nat_lt, IfOk, OnOk};
-ghost use Rattle.bilv_spec.specs.Words.{word};
-ghost use Rattle.bilv_spec.specs.Clauses.{valuation};
-ghost use Rattle.bilv_spec.specs.StateText.{AreRising, known_or};
+ghost use Rattle.word_spec.specs.Words.{word};
+ghost use Rattle.clause_spec.specs.Clauses.{valuation};
+ghost use Rattle.machine_spec.specs.StateText.{AreRising, known_or};
 ghost use Rattle.walk_spec.specs.Terms.{with_mem};
 ghost use Rattle.walk_spec.specs.Unrolled.{byte_of_runs};
 ghost use Rattle.walk_spec.specs.Cells.{AreFormed, Gives};

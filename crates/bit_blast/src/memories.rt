@@ -1,8 +1,8 @@
 //! The memory of a start.
 ghost use Rattle.std.specs.Prelude.{◌≡◌, ◌==◌, ℕ, ◌≤◌, ◌<◌, ◌+◌, ◌-◌, None, All, IfOk, OnOk, if◌then◌else◌, length, map, min};
-ghost use Rattle.bilv_spec.specs.Words.{word};
-ghost use Rattle.bilv_spec.specs.Memory.{memory_of};
-ghost use Rattle.bilv_spec.specs.StateText.{known_or};
+ghost use Rattle.word_spec.specs.Words.{word};
+ghost use Rattle.word_spec.specs.Memory.{memory_of};
+ghost use Rattle.machine_spec.specs.StateText.{known_or};
 ghost use Rattle.walk_spec.specs.Unrolled.{byte_of_runs};
 ghost use Rattle.known_bytes.specs.Runs.{AreRuns, run_of};
 ghost use Rattle.bit_blast.specs.Stored.{AreBytes, filled};

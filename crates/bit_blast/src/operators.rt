@@ -1,7 +1,7 @@
 //! The circuits of operators.
 ghost use Rattle.std.specs.Prelude.{◌≡◌, ℕ, ◌<◌, ◌≤◌, ◌∷◌, [], Bool, length, IfOk};
-ghost use Rattle.bilv_spec.specs.BilCounts.{op_weight};
-ghost use Rattle.bilv_spec.specs.BilTyping.{result_width};
+ghost use Rattle.machine_spec.specs.BilCounts.{op_weight};
+ghost use Rattle.machine_spec.specs.BilTyping.{result_width};
 ghost use Rattle.walk_spec.specs.Terms.{operate};
 ghost use Rattle.term_dag.specs.Nodes.{op_of};
 ghost use Rattle.gates.specs.Circuits.{next, Holds, Within};

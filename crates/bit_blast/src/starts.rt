@@ -1,7 +1,7 @@
 //! The registers and flags of a start.
 ghost use Rattle.std.specs.Prelude.{◌≡◌, ℕ, ◌<◌, ◌≤◌, ◌+◌, ◌-◌, ◌*◌, map, slice_index, IfOk};
-ghost use Rattle.bilv_spec.specs.Clauses.{valuation};
-ghost use Rattle.bilv_spec.specs.RowFiles.{from_to};
+ghost use Rattle.clause_spec.specs.Clauses.{valuation};
+ghost use Rattle.word_spec.specs.RowFiles.{from_to};
 ghost use Rattle.walk_spec.specs.ClauseForm.{bits_from};
 
 use crate::values::number_at;

@@ -4,7 +4,7 @@ use mathlib.Core.Bool.{not}
 use Rattle.std.proofs.lemmas.Nat.{and_mask, shl_whole, or_shifted, pow-add, mul-add-lt, pow_pos, div_below, le-div}
 use Rattle.std.specs.Prelude.{◌==◌}
 use Rattle.std.proofs.lemmas.Bool.{ne_eqb}
-use Rattle.bilv_spec.specs.Words.{word, magnitude, udiv, sdiv, with_sign, differ, is_negative}
+use Rattle.word_spec.specs.Words.{word, magnitude, udiv, sdiv, with_sign, differ, is_negative}
 use Rattle.std.specs.Int.Bits.{and_lt}
 use Rattle.std.proofs.lemmas.Nat.Bits.{ones_shr}
 use Rattle.std.proofs.Math.Pow.{mod-mod-pow, pow-lt}

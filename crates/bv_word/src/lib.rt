@@ -4,7 +4,7 @@
 #![tactic(auto)]
 
 ghost use Rattle.std.specs.Prelude.{◌≡◌, ◌≤◌, ◌<◌, ◌+◌, ◌-◌, ◌%◌, ◌^◌, ◌==◌, bit_and, bit_or, bit_xor, nat_lt, nat_le, if◌then◌else◌};
-ghost use Rattle.bilv_spec.specs.Words as words;
+ghost use Rattle.word_spec.specs.Words as words;
 
 /// A number below 2 to the width.
 #[derive(Clone, Copy, PartialEq, Eq, Debug)]

@@ -8,8 +8,8 @@ use Rattle.std.proofs.lemmas.List.{get_or-take, get_or-drop, length-take-le, len
 use Rattle.std.proofs.Math.Nat.{div-one, pow-suc, pow-le-pow_right}
 use Rattle.std.proofs.lemmas.Nat.{pow-add, field_of, mod-pow-add, mod_low}
 use Rattle.std.proofs.Math.Path.{fun_ext}
-use Rattle.bilv_spec.specs.Words.{add, sub}
-use Rattle.bilv_spec.specs.Memory.{Endian, Little, Big, Memory, place, byte_of, byte_in, memory_of, store, little}
+use Rattle.word_spec.specs.Words.{add, sub}
+use Rattle.word_spec.specs.Memory.{Endian, Little, Big, Memory, place, byte_of, byte_in, memory_of, store, little}
 use Rattle.byte_mem.specs.Puts.{IsPut, PutsTo}
 
 -- what is asked for where the test holds is asked for there alone

@@ -4,7 +4,7 @@ use Rattle.std.specs.Prelude.{◌==◌, if◌then◌else◌}
 use Rattle.std.proofs.lemmas.Bool.{ne_eqb, eq-eqb, cases_eq}
 use Rattle.std.proofs.Math.Nat.{eq-or-lt_of_le}
 use Rattle.std.proofs.Math.ListN.{take-append-drop}
-use Rattle.bilv_spec.specs.Memory.{byte_in}
+use Rattle.word_spec.specs.Memory.{byte_in}
 use Rattle.byte_mem.proofs.Places.{side}
 use Rattle.byte_mem.specs.Kept.{IsKept, IsRising}
 use Rattle.byte_mem.specs.Puts.{AreAround, IsMemory, IsPut, entries_at}

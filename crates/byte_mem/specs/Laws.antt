@@ -1,6 +1,6 @@
 -- Laws of kept memories.
 use Rattle.std.specs.Prelude.{ℕ, ◌≡◌, ◌<◌, ◌^◌, List}
-use Rattle.bilv_spec.specs.Memory.{memory_of}
+use Rattle.word_spec.specs.Memory.{memory_of}
 use Rattle.byte_mem.specs.Kept.{IsKept}
 
 -- kept lists whose memories are equal at every address of 32 bits are equal

@@ -1,7 +1,7 @@
 -- Bytes that are written to entries.
 use Rattle.std.specs.Prelude.{ℕ, ◌≡◌, ◌≤◌, ◌<◌, ◌+◌, ◌^◌, ◌==◌, List, [], ◌∷◌, length, get_or, nat_lt, if◌then◌else◌}
-use Rattle.bilv_spec.specs.Words.{sub}
-use Rattle.bilv_spec.specs.Memory.{byte_in}
+use Rattle.word_spec.specs.Words.{sub}
+use Rattle.word_spec.specs.Memory.{byte_in}
 use Rattle.byte_mem.specs.Kept.{IsKept}
 
 -- kept entries of bytes

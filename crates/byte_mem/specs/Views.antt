@@ -1,9 +1,9 @@
 -- The types of steps, as definitions see them.
 use Rattle.std.specs.Prelude.{◌≡◌}
-use Rattle.bilv_spec.specs.Memory as memory
-use Rattle.bilv_spec.specs.State.{State}
-use Rattle.bilv_spec.specs.Machine as machine
-use Rattle.bilv_spec.specs.Machine.{Exception, EnvironmentCall, Breakpoint, SoftwareInterrupt, OddHalfword, UnalignedLoad, Outcome, Goes, Raises}
+use Rattle.word_spec.specs.Memory as memory
+use Rattle.word_spec.specs.State.{State}
+use Rattle.machine_spec.specs.Machine as machine
+use Rattle.machine_spec.specs.Machine.{Exception, EnvironmentCall, Breakpoint, SoftwareInterrupt, OddHalfword, UnalignedLoad, Outcome, Goes, Raises}
 use Rattle.byte_mem.specs.declared.Endian.{Endian}
 use Rattle.byte_mem.specs.declared.Endian.TheVariants.{Little, Big}
 use Rattle.byte_mem.specs.declared.How.{How}

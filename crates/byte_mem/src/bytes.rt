@@ -1,8 +1,8 @@
 //! A memory that keeps the bytes that are not 0.
 ghost use Rattle.std.specs.Prelude.{◌≡◌, ℕ, ◌≤◌, ◌<◌, ◌+◌, ◌*◌, ◌^◌, true, false, [], length, get_or, OnOk, OnErr, IfOk};
-ghost use Rattle.bilv_spec.specs.Memory as memory;
-ghost use Rattle.bilv_spec.specs.Memory.{byte_in};
-ghost use Rattle.bilv_spec.specs.Words.{add};
+ghost use Rattle.word_spec.specs.Memory as memory;
+ghost use Rattle.word_spec.specs.Memory.{byte_in};
+ghost use Rattle.word_spec.specs.Words.{add};
 ghost use Rattle.byte_mem.specs.Gaps.{entries_of, HasRoom, IsStored};
 ghost use Rattle.byte_mem.specs.Kept.{Contents, IsKept, IsRising};
 ghost use Rattle.byte_mem.specs.Laws.{OneList};

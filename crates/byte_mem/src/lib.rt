@@ -2,8 +2,8 @@
 #![tactic(auto)]
 
 ghost use Rattle.std.specs.Prelude.{◌≡◌, ℕ, ◌≤◌, ◌<◌, ◌*◌, ◌==◌, Bool, IsTrue};
-ghost use Rattle.bilv_spec.specs.State.{State};
-ghost use Rattle.bilv_spec.specs.Memory as memory;
+ghost use Rattle.word_spec.specs.State.{State};
+ghost use Rattle.word_spec.specs.Memory as memory;
 ghost use Rattle.byte_mem.specs.Views.{endian_of};
 
 mod bytes;

@@ -2,7 +2,7 @@
 use Rattle.std.proofs.Common.{◌≡◌, ℕ, ◌<◌, ◌+◌, ◌*◌, ◌^◌, true, List, [], ◌∷◌, refl, arith, sym, ap, ◌∙◌, length, drop, drop-cons, add-one, get_or}
 use Rattle.std.specs.Prelude.{min}
 use Rattle.std.specs.List.{list_all}
-use Rattle.bilv_spec.specs.NotesGrammar.{is_digit_of}
+use Rattle.word_spec.specs.Texts.{is_digit_of}
 use Rattle.std.specs.Char.{digit_value}
 use Rattle.std.specs.Str.Parse.{digits_value_after}
 

@@ -4,10 +4,9 @@ use Rattle.std.specs.Prelude.{◌==◌, filter}
 use Rattle.std.specs.List.{list_all}
 use Rattle.std.proofs.lemmas.List.{take_all, drop_all, drop-drop}
 use Rattle.std.proofs.lemmas.Bool.{and_parts, both_ways}
-use Rattle.bilv_spec.specs.NotesGrammar.{is_blank}
-use Rattle.bilv_spec.specs.Texts.{split_lines, in_front, line}
-use Rattle.bilv_spec.specs.CertificateGrammar.{parts, is_word, words_of}
-use Rattle.bilv_spec.proofs.PrintedWords.{in_line, split_line, parts_cut, parts_last}
+use Rattle.word_spec.specs.Texts.{is_blank, split_lines, in_front, line}
+use Rattle.clause_spec.specs.CertificateGrammar.{parts, is_word, words_of}
+use Rattle.clause_spec.proofs.PrintedWords.{in_line, split_line, parts_cut, parts_last}
 
 -- what the code writes for all that stands behind a place
 pub behind : (xs : List ℕ) (n : ℕ) → take (length xs - n) (drop n xs) ≡ drop n xs

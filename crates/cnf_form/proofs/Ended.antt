@@ -1,8 +1,8 @@
 -- Words that 0 ends, and lines, one after another.
 use Rattle.std.proofs.Common.{◌≡◌, ℕ, List, [], ◌∷◌, ◌++◌, refl, sym, ap, ◌∙◌, append_assoc}
 use Rattle.std.specs.Prelude.{codes}
-use Rattle.bilv_spec.specs.Texts.{spaced, joined}
-use Rattle.bilv_spec.specs.Certificates.{to_zero}
+use Rattle.word_spec.specs.Texts.{spaced, joined}
+use Rattle.clause_spec.specs.Certificates.{to_zero}
 
 -- words in front of others are behind a blank
 spaced-zero : (ws vs : List (List ℕ)) → spaced (to_zero ws ++ vs) ≡ 32 ∷ joined (to_zero ws ++ vs)

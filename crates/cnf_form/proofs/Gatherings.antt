@@ -4,10 +4,10 @@ use Rattle.std.specs.Prelude.{◌==◌, nat_le}
 use Rattle.std.specs.List.{list_all}
 use Rattle.std.proofs.lemmas.Bool.{eqb-true, and_parts}
 use Rattle.std.proofs.lemmas.Bool.Decides.{nat_tests}
-use Rattle.bilv_spec.specs.Clauses.{Literal, Clause}
-use Rattle.bilv_spec.specs.CertificateGrammar.{Integer, Header, is_zero, is_ended, literal_of, clauses_in, is_counted}
-use Rattle.bilv_spec.proofs.PrintedWords.{parts_cut}
-use Rattle.bilv_spec.proofs.PrintedLogs.{no_zero, map_back}
+use Rattle.clause_spec.specs.Clauses.{Literal, Clause}
+use Rattle.clause_spec.specs.CertificateGrammar.{Integer, Header, is_zero, is_ended, literal_of, clauses_in, is_counted}
+use Rattle.clause_spec.proofs.PrintedWords.{parts_cut}
+use Rattle.clause_spec.proofs.PrintedLogs.{no_zero, map_back}
 use Rattle.cnf_form.specs.Gathers.{number_of, end_number, numbers_from, is_nonzero, are_nonzero}
 use Rattle.cnf_form.proofs.Splits.{ended-behind}
 

@@ -4,8 +4,8 @@ use Rattle.std.specs.Prelude.{nat_le}
 use Rattle.std.specs.List.{list_all}
 use Rattle.std.proofs.lemmas.Bool.{and_parts, and_from, or_cases}
 use Rattle.std.proofs.lemmas.Bool.Decides.{nat_tests}
-use Rattle.bilv_spec.specs.Clauses.{Literal, Clause, same, has, IsOnVariables, AreOnVariables}
-use Rattle.bilv_spec.proofs.Looks.{same-self, same-true, or_left, or_right}
+use Rattle.clause_spec.specs.Clauses.{Literal, Clause, same, has, IsOnVariables, AreOnVariables}
+use Rattle.clause_spec.proofs.Looks.{same-self, same-true, or_left, or_right}
 use Rattle.cnf_form.specs.Ranges.{is_on_variables}
 
 one-sound : (n : ℕ) (c : Clause) → is_on_variables n c ≡ true → IsOnVariables n c

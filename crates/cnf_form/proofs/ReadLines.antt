@@ -2,7 +2,7 @@
 use Rattle.std.proofs.Common.{◌≡◌, ℕ, true, List, ◌∷◌, ◌++◌, Option, Some, None, ap, ◌∙◌}
 use Rattle.std.specs.Prelude.{codes}
 use Rattle.std.specs.Str.{bytes_eq}
-use Rattle.bilv_spec.specs.CertificateGrammar.{Integer, CnfFault, numbers_line, numbers_in, Header, line_fault, CnfAnswer, at_proof, answer_from}
+use Rattle.clause_spec.specs.CertificateGrammar.{Integer, CnfFault, numbers_line, numbers_in, Header, line_fault, CnfAnswer, at_proof, answer_from}
 
 -- what comes of a line of numbers: all numbers up to its end, or its fault
 pub data Outcome : Type 0 where

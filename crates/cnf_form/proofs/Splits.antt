@@ -2,8 +2,8 @@
 use Rattle.std.proofs.Common.{◌≡◌, ℕ, ◌<◌, ◌+◌, ◌-◌, true, not, List, [], ◌∷◌, ◌++◌, refl, arith, sym, ap, ◌∙◌, length, take, drop, drop-cons, length-drop, get_or, add-one, take-append-drop}
 use Rattle.std.specs.List.{list_all}
 use Rattle.std.proofs.lemmas.List.{take_all}
-use Rattle.bilv_spec.specs.CertificateGrammar.{Integer, parts, is_zero, is_ended}
-use Rattle.bilv_spec.proofs.PrintedWords.{parts_cut}
+use Rattle.clause_spec.specs.CertificateGrammar.{Integer, parts, is_zero, is_ended}
+use Rattle.clause_spec.proofs.PrintedWords.{parts_cut}
 
 pub ended-behind : (xs : List Integer) (x : Integer) (rest : List Integer) → is_zero x ≡ true → is_ended (xs ++ x ∷ rest) ≡ is_ended rest
 ended-behind [] x [] h = h

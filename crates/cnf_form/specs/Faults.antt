@@ -1,7 +1,7 @@
 -- The faults that errors name.
 use Rattle.std.specs.Prelude.{◌≡◌}
-use Rattle.bilv_spec.specs.CertificateGrammar as grammar
-use Rattle.bilv_spec.specs.CertificateGrammar.{CnfAnswer, RefusedAt}
+use Rattle.clause_spec.specs.CertificateGrammar as grammar
+use Rattle.clause_spec.specs.CertificateGrammar.{CnfAnswer, RefusedAt}
 use Rattle.cnf_form.specs.declared.fault.CnfFault.{CnfFault}
 use Rattle.cnf_form.specs.declared.fault.CnfFault.TheVariants.{Token, Header, Variable, Count, Proof}
 use Rattle.cnf_form.specs.declared.fault.CnfError.{CnfError}

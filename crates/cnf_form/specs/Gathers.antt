@@ -1,8 +1,8 @@
 -- The numbers that were read, by the clauses that they are.
 use Rattle.std.specs.Prelude.{Bool, false, not, ◌&&◌, nat_le, List, [], ◌∷◌, ◌++◌, map}
 use Rattle.std.specs.List.{list_all}
-use Rattle.bilv_spec.specs.Clauses.{Literal, Clause}
-use Rattle.bilv_spec.specs.CertificateGrammar.{Integer}
+use Rattle.clause_spec.specs.Clauses.{Literal, Clause}
+use Rattle.clause_spec.specs.CertificateGrammar.{Integer}
 
 -- the number of a literal
 abbrev pub number_of : Literal → Integer

@@ -1,6 +1,6 @@
 -- Numbers as they are read: each that is too large for a log is seen as one number.
 use Rattle.std.specs.Prelude.{◌+◌, ◌^◌, min}
-use Rattle.bilv_spec.specs.CertificateGrammar.{Integer}
+use Rattle.clause_spec.specs.CertificateGrammar.{Integer}
 
 -- the number that stands for all above 2 ^ 62
 abbrev pub capped : Integer → Integer

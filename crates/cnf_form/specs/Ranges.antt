@@ -1,7 +1,7 @@
 -- Clauses over variables, as a test.
 use Rattle.std.specs.Prelude.{ℕ, Bool, ◌&&◌, nat_le}
 use Rattle.std.specs.List.{list_all}
-use Rattle.bilv_spec.specs.Clauses.{Literal, Clause}
+use Rattle.clause_spec.specs.Clauses.{Literal, Clause}
 
 -- each literal is over a variable from 1 to n
 abbrev pub is_on_variables : ℕ → Clause → Bool

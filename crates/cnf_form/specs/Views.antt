@@ -1,8 +1,7 @@
 -- The definitions' values that sets of clauses, logs and proofs stand for.
 use Rattle.std.specs.Prelude.{List, map}
-use Rattle.bilv_spec.specs.Clauses as clauses
-use Rattle.bilv_spec.specs.Refutation as refutation
-use Rattle.bilv_spec.specs.Evidence as evidence
+use Rattle.clause_spec.specs.Clauses as clauses
+use Rattle.clause_spec.specs.Refutation as refutation
 use Rattle.cnf_form.specs.declared.form.Cnf.{Cnf}
 use Rattle.cnf_form.specs.declared.form.Hint.{Hint}
 use Rattle.cnf_form.specs.declared.form.Hint.TheVariants.{ById, Negative}
@@ -31,5 +30,5 @@ abbrev pub lines_of : Log → List refutation.LogLine
 lines_of log = map line_of log.lines.items
 
 -- clauses with the log of a proof
-abbrev pub proof_of : Proof → evidence.Proof
+abbrev pub proof_of : Proof → refutation.Proof
 proof_of p = record { clauses = cnf_of p.clauses; log = lines_of p.log }

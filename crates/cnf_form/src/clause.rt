@@ -14,7 +14,7 @@ pub struct Clause {
 
 impl Model for Clause {
     ghost use Rattle.std.specs.Prelude.{List};
-    ghost use Rattle.bilv_spec.specs.Clauses.{Literal};
+    ghost use Rattle.clause_spec.specs.Clauses.{Literal};
 
     ghost Value = { List Literal };
 

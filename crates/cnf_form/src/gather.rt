@@ -1,6 +1,6 @@
 //! The clauses that numbers are.
 ghost use Rattle.std.specs.Prelude.{◌≡◌, ◌≤◌, ◌^◌, [], ◌∷◌, ◌++◌, true, false, OnOk};
-ghost use Rattle.bilv_spec.specs.CertificateGrammar.{is_counted, is_ended, clauses_in};
+ghost use Rattle.clause_spec.specs.CertificateGrammar.{is_counted, is_ended, clauses_in};
 
 use crate::clause::Clause;
 use crate::header::Header;
@@ -19,7 +19,7 @@ pub(crate) struct Gathered {
 
 impl Model for Gathered {
     ghost use Rattle.std.specs.Prelude.{◌≡◌, true, List};
-    ghost use Rattle.bilv_spec.specs.CertificateGrammar.{Integer};
+    ghost use Rattle.clause_spec.specs.CertificateGrammar.{Integer};
     ghost use Rattle.cnf_form.specs.Gathers.{numbers_from, are_nonzero};
 
     ghost Value = { List Integer };

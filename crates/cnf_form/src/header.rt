@@ -1,6 +1,6 @@
 //! The line `p cnf`.
 ghost use Rattle.std.specs.Prelude.{◌≡◌, ◌≤◌, ◌^◌, [], ◌∷◌, true, Option, Some, MatchOption, MatchResult};
-ghost use Rattle.bilv_spec.specs.CertificateGrammar.{words_of, behind_p, HeaderLine, NoCnfLine, is_small, line_fault, Header as GrammarHeader};
+ghost use Rattle.clause_spec.specs.CertificateGrammar.{words_of, behind_p, HeaderLine, NoCnfLine, is_small, line_fault, Header as GrammarHeader};
 ghost use Rattle.cnf_form.specs.Faults.{fault_of};
 
 use crate::fault::CnfFault;
@@ -20,7 +20,7 @@ pub(crate) struct Header {
 
 impl Model for Header {
     ghost use Rattle.std.specs.Prelude.{◌≤◌, ◌^◌};
-    ghost use Rattle.bilv_spec.specs.CertificateGrammar.{Header as GrammarHeader};
+    ghost use Rattle.clause_spec.specs.CertificateGrammar.{Header as GrammarHeader};
 
     ghost Value = { GrammarHeader };
 

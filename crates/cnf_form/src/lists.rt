@@ -1,8 +1,8 @@
 //! Lists of numbers that 0 ends, and literals.
 ghost use Rattle.std.specs.Prelude.{◌≡◌, ◌<◌, ◌≤◌, ◌^◌, [], ◌∷◌, ◌++◌, ℕ, List, map, not, length, true, false, IfOk, IfSome, MatchOption, ◌&&◌, nat_le};
 ghost use Rattle.std.specs.List.{list_all};
-ghost use Rattle.bilv_spec.specs.CertificateGrammar.{Integer, parts, is_zero, is_ended, literal_of};
-ghost use Rattle.bilv_spec.specs.Refutation.{is_listed};
+ghost use Rattle.clause_spec.specs.CertificateGrammar.{Integer, parts, is_zero, is_ended, literal_of};
+ghost use Rattle.clause_spec.specs.Refutation.{is_listed};
 
 use crate::clause::Clause;
 use crate::lit::Lit;

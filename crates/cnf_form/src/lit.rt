@@ -1,6 +1,6 @@
 //! Literals.
 ghost use Rattle.std.specs.Prelude.{◌≡◌, ℕ, ◌≤◌, ◌^◌, not};
-ghost use Rattle.bilv_spec.specs.Clauses.{Literal, opposite, same};
+ghost use Rattle.clause_spec.specs.Clauses.{Literal, opposite, same};
 
 use std::marker::Model;
 
@@ -14,7 +14,7 @@ pub struct Lit {
 
 impl Model for Lit {
     ghost use Rattle.std.specs.Prelude.{◌≤◌, ◌^◌};
-    ghost use Rattle.bilv_spec.specs.Clauses.{Literal};
+    ghost use Rattle.clause_spec.specs.Clauses.{Literal};
 
     ghost Value = { Literal };
 

@@ -2,8 +2,8 @@
 ghost use Rattle.std.specs.Prelude.{◌≡◌, ◌<◌, ◌≤◌, ◌+◌, ◌^◌, ℕ, true, false, min, IfOk, MatchOption, option_map};
 ghost use Rattle.std.specs.Char.{digit_value};
 ghost use Rattle.std.specs.Str.Parse.{digits_value};
-ghost use Rattle.bilv_spec.specs.NotesGrammar.{are_digits, is_digit_of};
-ghost use Rattle.bilv_spec.specs.CertificateGrammar.{integer_of, is_zero};
+ghost use Rattle.word_spec.specs.Texts.{are_digits, is_digit_of};
+ghost use Rattle.clause_spec.specs.CertificateGrammar.{integer_of, is_zero};
 ghost use Rattle.cnf_form.specs.Numbers.{capped};
 
 use std::marker::Model;
@@ -19,7 +19,7 @@ pub struct Number {
 }
 
 impl Model for Number {
-    ghost use Rattle.bilv_spec.specs.CertificateGrammar.{Integer};
+    ghost use Rattle.clause_spec.specs.CertificateGrammar.{Integer};
 
     ghost Value = { Integer };
 

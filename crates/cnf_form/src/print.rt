@@ -1,7 +1,7 @@
 //! The text of clauses (DIMACS CNF), and its parts, which the text of a log has too.
 ghost use Rattle.std.specs.Prelude.{◌≡◌, ◌++◌, ◌∷◌, [], List, ℕ, codes, IfOk, OnOk, length, map};
-ghost use Rattle.bilv_spec.specs.Certificates.{cnf_text, cnf_header, clause_line, literal_text, to_zero};
-ghost use Rattle.bilv_spec.specs.Texts.{line, lines, number_text, joined};
+ghost use Rattle.clause_spec.specs.Certificates.{cnf_text, cnf_header, clause_line, literal_text, to_zero};
+ghost use Rattle.word_spec.specs.Texts.{line, lines, number_text, joined};
 ghost use Rattle.cnf_form.specs.Views.{cnf_of};
 
 use crate::clause::Clause;

@@ -1,7 +1,7 @@
 //! Whether clauses are over their variables.
 ghost use Rattle.std.specs.Prelude.{◌≡◌, ◌&&◌, true, nat_le};
 ghost use Rattle.std.specs.List.{list_all};
-ghost use Rattle.bilv_spec.specs.Clauses.{AreOnVariables, Literal};
+ghost use Rattle.clause_spec.specs.Clauses.{AreOnVariables, Literal};
 ghost use Rattle.cnf_form.specs.Ranges.{is_on_variables};
 
 use crate::clause::Clause;

@@ -1,8 +1,8 @@
 //! Reads the text of clauses (DIMACS CNF), up to the line `proof`.
 ghost use Rattle.std.specs.Prelude.{◌≡◌, ℕ, [], ◌++◌, ◌-◌, drop, length, Some, None, is_some, IfOk, IfErr, MatchOption};
-ghost use Rattle.bilv_spec.specs.Clauses.{AreOnVariables};
-ghost use Rattle.bilv_spec.specs.StateText.{split_lines};
-ghost use Rattle.bilv_spec.specs.CertificateGrammar.{behind_p, words_of, numbers_of, numbers_line, numbers_in, cnf_line, line_fault, header_after, at_proof, at_end, Clauses, RefusedAt, cnf_of as answer_of};
+ghost use Rattle.clause_spec.specs.Clauses.{AreOnVariables};
+ghost use Rattle.word_spec.specs.Texts.{split_lines};
+ghost use Rattle.clause_spec.specs.CertificateGrammar.{behind_p, words_of, numbers_of, numbers_line, numbers_in, cnf_line, line_fault, header_after, at_proof, at_end, Clauses, RefusedAt, cnf_of as answer_of};
 ghost use Rattle.cnf_form.specs.Faults.{fault_of, IsRefusal};
 ghost use Rattle.cnf_form.specs.Views.{cnf_of};
 

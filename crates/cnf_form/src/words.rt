@@ -1,8 +1,7 @@
 //! The lines of a text, the words of a line, and the numbers that words are.
 ghost use Rattle.std.specs.Prelude.{◌≡◌, ◌<◌, ◌≤◌, ◌-◌, [], ◌∷◌, ℕ, List, map, length, drop, slice_index, true, false, IfOk, IfSome, MatchOption, option_map};
-ghost use Rattle.bilv_spec.specs.NotesGrammar.{is_blank};
-ghost use Rattle.bilv_spec.specs.StateText.{split_lines};
-ghost use Rattle.bilv_spec.specs.CertificateGrammar.{Integer, words_of, numbers_of};
+ghost use Rattle.word_spec.specs.Texts.{is_blank, split_lines};
+ghost use Rattle.clause_spec.specs.CertificateGrammar.{Integer, words_of, numbers_of};
 ghost use Rattle.cnf_form.specs.Numbers.{capped};
 
 use crate::number::{Number, integer};

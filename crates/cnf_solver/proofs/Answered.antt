@@ -1,8 +1,7 @@
 -- How a call ends.
 use Rattle.std.proofs.Common.{ℕ, List, Option, Some, None, refl}
-use Rattle.bilv_spec.specs.Answers.{Answer}
-use Rattle.bilv_spec.specs.Outcomes.{Surroundings}
-use Rattle.bilv_spec.specs.Outside.{Appends, Rose}
+use Rattle.call_spec.specs.Calls.{Answer, Surroundings}
+use Rattle.call_spec.specs.Outside.{Appends, Rose}
 use Rattle.io_edges.specs.Met.{met}
 use Rattle.io_edges.specs.WriteFaults.{Stopped}
 use Rattle.io_edges.specs.declared.WriteFault.{WriteFault}

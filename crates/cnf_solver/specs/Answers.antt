@@ -1,5 +1,5 @@
 -- Answers, as the definitions have them.
-use Rattle.bilv_spec.specs.Answers as spec
+use Rattle.call_spec.specs.Calls as spec
 use Rattle.cnf_solver.specs.declared.answer.Answer.{Answer}
 
 -- an answer

@@ -1,9 +1,8 @@
 -- How a call ends.
 use Rattle.std.specs.Prelude.{ℕ, ◌≡◌, ◌<◌, List, Option, Some, None, codes, length, take}
-use Rattle.bilv_spec.specs.Outside.{Appends, Rose}
-use Rattle.bilv_spec.specs.Answers.{Answer, plain_answer}
-use Rattle.bilv_spec.specs.Outcomes.{Surroundings, AfterRead}
-use Rattle.bilv_spec.specs.Texts.{line}
+use Rattle.call_spec.specs.Outside.{Appends, Rose}
+use Rattle.call_spec.specs.Calls.{Answer, plain_answer, Surroundings, AfterRead}
+use Rattle.word_spec.specs.Texts.{line}
 use Rattle.cnf_solver.specs.Requests.{Request, lawful_request}
 use Rattle.cnf_solver.specs.Solutions.{IsSolved}
 

@@ -1,14 +1,13 @@
 -- What a solver says of clauses.
-use Rattle.std.specs.Prelude.{ℕ, ◌≡◌, ◌<◌, ◌≤◌, ◌+◌, ◌-◌, ◌%◌, ◌==◌, Bool, true, false, if◌then◌else◌, List, [], ◌∷◌, ◌++◌, codes, length}
-use Rattle.std.specs.Prelude.{slice_index_or}
-use Rattle.bilv_spec.specs.Clauses.{Cnf, Satisfies, Unsatisfiable, valuation}
-use Rattle.bilv_spec.specs.Refutation.{LogLine, IsRefutation}
-use Rattle.bilv_spec.specs.Empowering.{IsSpent}
-use Rattle.bilv_spec.specs.Certificates.{certificate_text, literal_text}
-use Rattle.bilv_spec.specs.CertificateGrammar.{CnfFault, Clauses, RefusedAt, cnf_of}
-use Rattle.bilv_spec.specs.Replays.{cnf_fault_words, text_limit}
-use Rattle.bilv_spec.specs.Answers.{Answer, plain_answer}
-use Rattle.bilv_spec.specs.Texts.{line, spaced, number_text, line_feed, blank}
+use Rattle.std.specs.Prelude.{ℕ, ◌≡◌, ◌<◌, ◌≤◌, ◌+◌, ◌-◌, ◌%◌, ◌==◌, Bool, true, false, if◌then◌else◌, List, [], ◌∷◌, ◌++◌, codes, length, slice_index_or}
+use Rattle.clause_spec.specs.Clauses.{Cnf, Satisfies, Unsatisfiable, valuation}
+use Rattle.clause_spec.specs.Refutation.{LogLine, IsRefutation}
+use Rattle.clause_spec.specs.Empowering.{IsSpent}
+use Rattle.clause_spec.specs.Certificates.{certificate_text, literal_text}
+use Rattle.clause_spec.specs.CertificateGrammar.{CnfFault, Clauses, RefusedAt, cnf_of}
+use Rattle.clause_spec.specs.Checks.{cnf_fault_words, text_limit}
+use Rattle.call_spec.specs.Calls.{Answer, plain_answer}
+use Rattle.word_spec.specs.Texts.{line, spaced, number_text, line_feed, blank}
 use Rattle.cnf_solver.specs.Requests.{Request}
 
 -- the last line of a text has its line feed, or there is no line

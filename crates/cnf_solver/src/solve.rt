@@ -1,10 +1,9 @@
 //! From the name of a file to the answer.
 ghost use Rattle.std.specs.Prelude.{◌≡◌, ℕ, ◌≤◌, ◌^◌, IfOk, IfErr, length};
-ghost use Rattle.bilv_spec.specs.Answers.{plain_answer};
-ghost use Rattle.bilv_spec.specs.CertificateGrammar.{Clauses, cnf_of as clauses_of};
-ghost use Rattle.bilv_spec.specs.Clauses.{AreOnVariables};
-ghost use Rattle.bilv_spec.specs.Outcomes.{AfterRead};
-ghost use Rattle.bilv_spec.specs.Replays.{text_limit};
+ghost use Rattle.call_spec.specs.Calls.{plain_answer, AfterRead};
+ghost use Rattle.clause_spec.specs.CertificateGrammar.{Clauses, cnf_of as clauses_of};
+ghost use Rattle.clause_spec.specs.Clauses.{AreOnVariables};
+ghost use Rattle.clause_spec.specs.Checks.{text_limit};
 ghost use Rattle.cnf_form.specs.Faults.{IsRefusal};
 ghost use Rattle.cnf_form.specs.Views.{cnf_of};
 ghost use Rattle.cnf_solver.specs.Answers.{answer_of};

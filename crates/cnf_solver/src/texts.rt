@@ -1,7 +1,7 @@
 //! The texts of answers.
 ghost use Rattle.std.specs.Prelude.{◌≡◌, ◌≤◌, ◌^◌, ◌++◌, ◌∷◌, [], IfOk, OnOk, codes, length};
-ghost use Rattle.bilv_spec.specs.Texts.{line, spaced, number_text};
-ghost use Rattle.bilv_spec.specs.Replays.{cnf_fault_words};
+ghost use Rattle.word_spec.specs.Texts.{line, spaced, number_text};
+ghost use Rattle.clause_spec.specs.Checks.{cnf_fault_words};
 ghost use Rattle.cnf_form.specs.Faults.{fault_of};
 ghost use Rattle.cnf_form.specs.Views.{cnf_of, lines_of};
 ghost use Rattle.cnf_solver.specs.Solutions.{break_behind, satisfiable_text, unsatisfiable_text, values_from};

@@ -1,10 +1,8 @@
 -- Command lines, and what they ask for.
 use Rattle.std.proofs.Common.{◌≡◌, refl, codes, [], ◌∷◌, Some, None}
-use Rattle.bilv_spec.specs.Answers.{default_budget}
-use Rattle.bilv_spec.specs.Arm.{V4T, V5}
-use Rattle.bilv_spec.specs.Files.{default_options}
-use Rattle.bilv_spec.specs.Outcomes.{Lift, Graph, Script, SelfRun, Upgrade, Verify}
-use Rattle.bilv_spec.specs.Questions.{FailQuestion}
+use Rattle.call_spec.specs.Calls.{default_budget, default_options, FailQuestion}
+use Rattle.word_spec.specs.Profiles.{V4T, V5}
+use Rattle.command_spec.specs.Commands.{Lift, Graph, Script, SelfRun, Upgrade, Verify}
 use Rattle.clap.proofs.OnLiterals.{clap_on_literals}
 use Rattle.command_line.specs.Lines.{bilv_app, command_named, lawful_command, takes_line}
 

@@ -1,8 +1,6 @@
 -- The commands of the code as the definitions have them.
-use Rattle.bilv_spec.specs.Questions as asked
-use Rattle.bilv_spec.specs.Answers as answers
-use Rattle.bilv_spec.specs.Files as files
-use Rattle.bilv_spec.specs.Outcomes as outcomes
+use Rattle.call_spec.specs.Calls as asked
+use Rattle.command_spec.specs.Commands as outcomes
 use Rattle.state_text.specs.Starts.{profile_in}
 use Rattle.command_line.specs.declared.command.Options.{Options}
 use Rattle.command_line.specs.declared.command.Question.{Question}
@@ -16,10 +14,10 @@ question_of Entry = asked.EntryQuestion
 question_of Fail = asked.FailQuestion
 question_of Turn = asked.TurnQuestion
 
-abbrev pub budget_of : Budget → answers.Budget
+abbrev pub budget_of : Budget → asked.Budget
 budget_of b = record { unroll = b.unroll; points = b.points; size = b.size; conflicts = b.conflicts }
 
-abbrev pub options_of : Options → files.Options
+abbrev pub options_of : Options → asked.Options
 options_of o = record { profile = profile_in o.profile }
 
 abbrev pub command_of : Command → outcomes.Command

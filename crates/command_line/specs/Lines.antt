@@ -2,11 +2,9 @@
 use Rattle.std.specs.Prelude.{ℕ, ◌≡◌, ◌^◌, ◌&&◌, List, [], ◌∷◌, Option, Some, None, Bool, true, false, codes, fold, if◌then◌else◌, nat_le}
 use Rattle.std.specs.Str.{bytes_eq}
 use Rattle.std.specs.Str.Parse.{digits_value, without_leading_plus}
-use Rattle.bilv_spec.specs.Questions.{Question, EntryQuestion, FailQuestion, TurnQuestion}
-use Rattle.bilv_spec.specs.Answers.{Budget}
-use Rattle.bilv_spec.specs.Arm.{Profile, V4, V4T, V5}
-use Rattle.bilv_spec.specs.Files.{Options}
-use Rattle.bilv_spec.specs.Outcomes as of
+use Rattle.call_spec.specs.Calls.{Question, EntryQuestion, FailQuestion, TurnQuestion, Budget, Options}
+use Rattle.word_spec.specs.Profiles.{Profile, V4, V4T, V5}
+use Rattle.command_spec.specs.Commands as of
 use Rattle.clap.specs.Words.{App, Row, Rule, Text, app_of, fault_of, first_of, new_app, new_rule, one_of, subcommand_of, with_rule}
 use Rattle.clap.specs.Simple.{new_shape}
 use Rattle.clap.specs.Walk.{is_empty}

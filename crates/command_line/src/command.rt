@@ -39,7 +39,7 @@ pub struct Budget {
 
 impl Budget {
     ghost use Rattle.std.specs.Prelude.{◌≡◌};
-    ghost use Rattle.bilv_spec.specs.Answers.{default_budget};
+    ghost use Rattle.call_spec.specs.Calls.{default_budget};
     ghost use Rattle.command_line.specs.Commands.{budget_of};
 
     /// The budget where none is given.
@@ -64,7 +64,7 @@ pub struct Options {
 
 impl Options {
     ghost use Rattle.std.specs.Prelude.{◌≡◌};
-    ghost use Rattle.bilv_spec.specs.Files.{default_options};
+    ghost use Rattle.call_spec.specs.Calls.{default_options};
     ghost use Rattle.command_line.specs.Commands.{options_of};
 
     /// The options where none are given.

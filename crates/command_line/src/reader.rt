@@ -1,6 +1,6 @@
 //! Command lines.
 ghost use Rattle.std.specs.Prelude.{◌≡◌, ◌≢◌, false, true, None, Some, IfOk, IfSome, IsErrOf, map, option_map, string_bytes};
-ghost use Rattle.bilv_spec.specs.Outcomes.{IsLawfulCommand};
+ghost use Rattle.command_spec.specs.Commands.{IsLawfulCommand};
 ghost use Rattle.clap.specs.Words.{kind_of, subcommand_rows_of, subcommand_of};
 ghost use Rattle.command_line.specs.Commands.{command_of};
 ghost use Rattle.command_line.specs.Lines.{bilv_app, command_in, lawful_command, takes_line};

@@ -1,7 +1,7 @@
 //! Commands, from what was found for a subcommand.
 ghost use Rattle.std.specs.Prelude.{◌≡◌, ◌≤◌, IfSome, option_map};
-ghost use Rattle.bilv_spec.specs.Answers.{IsBudget};
-ghost use Rattle.bilv_spec.specs.Outcomes.{IsLawfulCommand};
+ghost use Rattle.call_spec.specs.Calls.{IsBudget};
+ghost use Rattle.command_spec.specs.Commands.{IsLawfulCommand};
 ghost use Rattle.clap.specs.Words.{first_of, found_of, rows_of};
 ghost use Rattle.command_line.specs.Commands.{budget_of, command_of, options_of, question_of};
 ghost use Rattle.command_line.specs.Lines as lines;

@@ -1,7 +1,7 @@
 -- Starts with registers and one byte can be written.
 use Rattle.std.proofs.Common.{◌≡◌, ℕ, zero, suc, ◌<◌, ◌≤◌, ◌^◌, List, [], ◌∷◌, length, sym, subst, Bool, false, All, arith}
 use Rattle.std.specs.Prelude.{slice_index}
-use Rattle.bilv_spec.specs.StateText.{IsWritten, rv_layout}
+use Rattle.machine_spec.specs.StateText.{IsWritten, rv_layout}
 
 all_words : (xs : List ℕ) → ((i : ℕ) → slice_index xs i < 2 ^ 32) → All (λ v. v < 2 ^ 32) xs
 all_words [] h k d within = absurd (omega (arith, within))

@@ -1,7 +1,7 @@
 //! The cells and the clauses of questions, against runs of the instruction table.
 ghost use Rattle.std.specs.Prelude.{◌≡◌, true};
 ghost use Rattle.bilv_spec.specs.Files.{is_rv};
-ghost use Rattle.bilv_spec.specs.Rv.{rv32};
+ghost use Rattle.machine_spec.specs.Rv.{rv32};
 ghost use Rattle.mem_cells.specs.Views.{cells_of, program_of_cells};
 ghost use Rattle.notes_lang.specs.Drafting.{notes_of};
 ghost use Rattle.notes_value.specs.Reads.{AreReadable};

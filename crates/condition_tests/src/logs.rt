@@ -1,7 +1,7 @@
 //! The logs in the evidence of verdicts.
 ghost use Rattle.std.specs.Prelude.{◌≡◌, true};
 ghost use Rattle.bilv_spec.specs.Files.{is_rv};
-ghost use Rattle.bilv_spec.specs.Rv.{rv32};
+ghost use Rattle.machine_spec.specs.Rv.{rv32};
 ghost use Rattle.notes_lang.specs.Drafting.{notes_of};
 ghost use Rattle.notes_value.specs.Reads.{AreOver, AreReadable};
 

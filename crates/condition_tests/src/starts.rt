@@ -2,8 +2,8 @@
 ghost use Rattle.std.specs.Prelude.{◌≡◌, true, IfOk, length};
 ghost use Rattle.bilv_spec.specs.Files.{is_rv, program_of};
 ghost use Rattle.bilv_spec.specs.Points.{is_known_at};
-ghost use Rattle.bilv_spec.specs.Rv.{rv32};
-ghost use Rattle.bilv_spec.specs.StateText.{IsWritten, rv_layout};
+ghost use Rattle.machine_spec.specs.Rv.{rv32};
+ghost use Rattle.machine_spec.specs.StateText.{IsWritten, rv_layout};
 ghost use Rattle.notes_lang.specs.Drafting.{notes_of};
 ghost use Rattle.notes_value.specs.Reads.{AreReadable};
 ghost use Rattle.state_text.specs.Starts.{written_of};

@@ -1,6 +1,6 @@
 -- The numbers of a slice that starts at an offset are those of the file at that offset.
 use Rattle.std.proofs.Common.{◌≡◌, ℕ, ◌+◌, List, drop, arith, get_or, get_or-drop}
-use Rattle.bilv_spec.specs.Memory.{little, big}
+use Rattle.word_spec.specs.Memory.{little, big}
 use Rattle.byteorder.specs.Endian.{big_number, little_number}
 
 pub little_half : (file : List ℕ) (at : ℕ) → little_number 2 (drop at file) ≡ little 2 (λ i. get_or file (at + i) 0)

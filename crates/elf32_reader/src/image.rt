@@ -3,7 +3,7 @@ ghost use Rattle.std.specs.Prelude.{ℕ, ◌≡◌, ◌≤◌, ◌<◌, ◌+◌,
 ghost use Rattle.bilv_spec.specs.Elf.{field, is_big, loaded, byte_at, flags_at, kept_at, IsKeptRuns};
 ghost use Rattle.bilv_spec.specs.ElfFaults.{IsImage, Finds, BadSymbolTable, FileFaultApplies};
 ghost use Rattle.bilv_spec.specs.Files.{is_rv, order_of};
-ghost use Rattle.bilv_spec.specs.Memory as memory;
+ghost use Rattle.word_spec.specs.Memory as memory;
 ghost use Rattle.elf32_reader.specs.Refusals.{IsRefused, IsClear};
 ghost use Rattle.elf32_reader.specs.Symbols.{IsMissed};
 ghost use Rattle.elf32_reader.specs.Images.{IsTied};

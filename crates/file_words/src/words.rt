@@ -1,8 +1,8 @@
 //! The four bytes from an address on.
 ghost use Rattle.std.specs.Prelude.{◌≡◌, ◌∷◌, [], slice_index};
 ghost use Rattle.std.specs.List.{list_all};
-ghost use Rattle.bilv_spec.specs.Memory as memory;
-ghost use Rattle.bilv_spec.specs.Words.{add};
+ghost use Rattle.word_spec.specs.Memory as memory;
+ghost use Rattle.word_spec.specs.Words.{add};
 ghost use Rattle.bilv_spec.specs.Elf.{loaded, is_kept, is_executable};
 ghost use Rattle.bilv_spec.specs.Files.{order_of};
 ghost use Rattle.bilv_spec.specs.Points.{byte_of_cell};

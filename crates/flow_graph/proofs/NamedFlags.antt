@@ -2,7 +2,7 @@
 use Rattle.std.proofs.Common.{◌≡◌, ℕ, ◌+◌, ◌-◌, refl, ap, ◌∙◌, Bool, true, false, List, [], ◌∷◌, map}
 use Rattle.std.specs.Prelude.{◌||◌}
 use Rattle.bilv_spec.specs.Notes.{Expr, Number, Register, Flag, Pc, Bound, Memory, Old, Not, Binary, put_bound, each, written_out}
-use Rattle.bilv_spec.specs.RowFiles.{from_to}
+use Rattle.word_spec.specs.RowFiles.{from_to}
 use Rattle.bilv_spec.specs.LiveFlags.{names_flag}
 
 -- a number in place of the bound name names no flag

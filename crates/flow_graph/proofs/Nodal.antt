@@ -4,8 +4,8 @@ use Rattle.std.specs.Prelude.{nat_eq, ◌==◌, ◌||◌, ◌&&◌, not, filter,
 use Rattle.std.specs.List.{list_any}
 use Rattle.std.specs.Bool.{then_some}
 use Rattle.std.proofs.lemmas.List.Folds.{list_any-append}
-use Rattle.bilv_spec.specs.Words.{add}
-use Rattle.bilv_spec.specs.Machine as table
+use Rattle.word_spec.specs.Words.{add}
+use Rattle.machine_spec.specs.Machine as table
 use Rattle.bilv_spec.specs.Run as run
 use Rattle.bilv_spec.specs.Points.{file_row, file_word}
 use Rattle.bilv_spec.specs.Graph as graph

@@ -3,7 +3,7 @@ use Rattle.std.specs.Prelude.{ℕ, ◌≡◌, ◌+◌, ◌*◌, Bool, List}
 use Rattle.std.specs.List.{list_any}
 use Rattle.bilv_spec.specs.Files.{program_of}
 use Rattle.bilv_spec.specs.Graph as graph
-use Rattle.bilv_spec.specs.Machine.{Machine}
+use Rattle.machine_spec.specs.Machine.{Machine}
 use Rattle.bilv_spec.specs.Run as run
 use Rattle.notes_lang.specs.Drafting.{notes_of}
 use Rattle.flow_graph.specs.declared.program.Program.{Program}

@@ -1,9 +1,9 @@
 //! The targets that an indirect jump may have whatever the stack is.
 ghost use Rattle.std.specs.Prelude.{◌≡◌, ◌++◌, ℕ, Bool, map, Some, IfOk, OnOk, if◌then◌else◌, []};
 ghost use Rattle.std.specs.List.{list_any};
-ghost use Rattle.bilv_spec.specs.Words.{sub};
+ghost use Rattle.word_spec.specs.Words.{sub};
 ghost use Rattle.bilv_spec.specs.Files.{order_of};
-ghost use Rattle.bilv_spec.specs.Machine.{pair_of};
+ghost use Rattle.machine_spec.specs.Machine.{pair_of};
 ghost use Rattle.bilv_spec.specs.Points as points;
 ghost use Rattle.bilv_spec.specs.Run as run;
 ghost use Rattle.notes_lang.specs.Drafting.{targets_of};

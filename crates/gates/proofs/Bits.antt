@@ -1,7 +1,7 @@
 -- Bits and their literals.
 use Rattle.std.proofs.Common.{◌≡◌, ◌==◌, ℕ, suc, ◌+◌, ◌-◌, ◌*◌, ◌/◌, ◌%◌, Bool, true, false, not, refl, sym, ◌∙◌, ap, arith}
 use Rattle.std.proofs.lemmas.Bool.Decides.{nat_tests}
-use Rattle.bilv_spec.specs.Clauses.{same_sign}
+use Rattle.clause_spec.specs.Clauses.{same_sign}
 use Rattle.gates.specs.Circuits.{bit_value}
 
 pub is_value : (x : Bool) → same_sign x true ≡ x

@@ -3,7 +3,7 @@ use Rattle.std.proofs.Common.{◌≡◌, ℕ, zero, suc, ◌+◌, ◌<◌, ◌�
 use Rattle.std.specs.Bool.{beq}
 use Rattle.std.proofs.lemmas.Bool.{and_parts, and_from}
 use Rattle.std.proofs.lemmas.List.{take_more, take_all}
-use Rattle.bilv_spec.specs.Clauses.{Clause, Cnf, Satisfies, AreOnVariables, AgreeUpTo, ExtendsOnceWhere, IsOnVariables}
+use Rattle.clause_spec.specs.Clauses.{Clause, Cnf, Satisfies, AreOnVariables, AgreeUpTo, ExtendsOnceWhere, IsOnVariables}
 use Rattle.cnf_form.proofs.OnVariables.{on-sound, on-complete}
 use Rattle.gates.specs.declared.bit.Bit.{Bit}
 use Rattle.gates.specs.declared.gate.Gate.{Gate}

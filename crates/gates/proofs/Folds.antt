@@ -1,6 +1,6 @@
 -- Signs of operands.
 use Rattle.std.proofs.Common.{◌≡◌, Bool, true, false, refl, sym, ◌∙◌, ap}
-use Rattle.bilv_spec.specs.Words.{differ}
+use Rattle.word_spec.specs.Words.{differ}
 use Rattle.gates.specs.Circuits.{parity}
 
 differ_last : (a p b : Bool) → differ (differ a p) b ≡ differ (differ a b) p

@@ -4,7 +4,7 @@ use Rattle.std.specs.Prelude.{nat_le}
 use Rattle.std.proofs.lemmas.Bool.{and_parts, and_from}
 use Rattle.std.proofs.lemmas.Bool.Decides.{nat_tests}
 use Rattle.std.proofs.lemmas.List.Folds.{list_all-append}
-use Rattle.bilv_spec.specs.Clauses.{Clause, clause_value, literal_value, Satisfies}
+use Rattle.clause_spec.specs.Clauses.{Clause, clause_value, literal_value, Satisfies}
 use Rattle.cnf_form.specs.Ranges.{is_on_variables}
 use Rattle.gates.specs.declared.bit.Bit.{Bit}
 use Rattle.gates.specs.Circuits.{literal_of, bit_value, any_of, Within, variable_of}

@@ -2,7 +2,7 @@
 use Rattle.std.proofs.Common.{◌≡◌, ◌==◌, ℕ, suc, ◌+◌, ◌%◌, ◌<◌, Bool, true, false, cond, List, [], ◌∷◌, length, refl, sym, ◌∙◌, ap, arith, ⊎_elim}
 use Rattle.std.specs.Bool.{beq}
 use Rattle.std.proofs.lemmas.Bool.{and_parts, and_from, eq-eqb, ne_eqb, cases_eq, cond-true, cond-false}
-use Rattle.bilv_spec.specs.Clauses.{AgreeUpTo, same_sign}
+use Rattle.clause_spec.specs.Clauses.{AgreeUpTo, same_sign}
 use Rattle.gates.specs.declared.bit.Bit.{Bit}
 use Rattle.gates.specs.declared.gate.Gate.{Gate}
 use Rattle.gates.specs.declared.gate.Gate.TheVariants.{And, Xor, Ite, Parity, Majority, Same}

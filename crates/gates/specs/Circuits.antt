@@ -1,8 +1,8 @@
 -- Bits, gates, and the valuations that a circuit allows. A valuation is one of the clauses': variable i of a circuit is the clauses' variable i + 1.
 use Rattle.std.specs.Prelude.{◌≡◌, ◌==◌, ℕ, suc, ◌+◌, ◌/◌, ◌%◌, ◌<◌, ◌≤◌, Bool, true, false, not, cond, ◌&&◌, ◌||◌, List, [], ◌∷◌, length, All}
 use Rattle.std.specs.Bool.{beq}
-use Rattle.bilv_spec.specs.Words.{differ}
-use Rattle.bilv_spec.specs.Clauses.{Literal, literal_value}
+use Rattle.word_spec.specs.Words.{differ}
+use Rattle.clause_spec.specs.Clauses.{Literal, literal_value}
 use Rattle.gates.specs.declared.bit.Bit.{Bit}
 use Rattle.gates.specs.declared.gate.Gate.{Gate}
 use Rattle.gates.specs.declared.gate.Gate.TheVariants.{And, Xor, Ite, Parity, Majority, Same}

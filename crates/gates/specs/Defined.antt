@@ -1,6 +1,6 @@
 -- The clauses of a circuit.
 use Rattle.std.specs.Prelude.{◌≡◌, ℕ, Bool, true, List}
-use Rattle.bilv_spec.specs.Clauses.{Clause, Cnf, Satisfies, AreOnVariables, AgreeUpTo}
+use Rattle.clause_spec.specs.Clauses.{Clause, Cnf, Satisfies, AreOnVariables, AgreeUpTo}
 use Rattle.gates.specs.declared.bit.Bit.{Bit}
 use Rattle.gates.specs.Circuits.{Netlist, next, Holds, bit_value}
 

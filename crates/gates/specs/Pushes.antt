@@ -1,7 +1,7 @@
 -- Clauses as they are pushed, by tests.
 use Rattle.std.specs.Prelude.{◌≡◌, ℕ, Bool, true, List}
 use Rattle.std.specs.List.{list_all}
-use Rattle.bilv_spec.specs.Clauses.{Clause, clause_value}
+use Rattle.clause_spec.specs.Clauses.{Clause, clause_value}
 use Rattle.cnf_form.specs.Ranges.{is_on_variables}
 
 -- every clause is true under the valuation

@@ -1,6 +1,6 @@
 //! Bits.
 ghost use Rattle.std.specs.Prelude.{◌≡◌, ℕ, suc, ◌<◌, ◌^◌, Bool, not};
-ghost use Rattle.bilv_spec.specs.Words.{differ};
+ghost use Rattle.word_spec.specs.Words.{differ};
 ghost use Rattle.gates.specs.Circuits.{variable_of, bit_value, literal_of};
 
 use cnf_form::Lit;

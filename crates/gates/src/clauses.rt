@@ -1,7 +1,7 @@
 //! The clauses that define gates.
 ghost use Rattle.std.specs.Prelude.{◌≡◌, ℕ, ◌<◌, ◌&&◌, Bool, cond, map, IfOk, OnOk};
 ghost use Rattle.std.specs.Bool.{beq};
-ghost use Rattle.bilv_spec.specs.Words.{differ};
+ghost use Rattle.word_spec.specs.Words.{differ};
 ghost use Rattle.gates.specs.Circuits.{variable_of, literal_of, bit_value, any_of, gate_value, majority, parity, same, Within, IsGateBelow};
 ghost use Rattle.gates.specs.Pushes.{satisfied, AreOver};
 

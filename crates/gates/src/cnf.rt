@@ -1,6 +1,6 @@
 //! The clauses of a circuit.
 ghost use Rattle.std.specs.Prelude.{◌<◌, IfOk};
-ghost use Rattle.bilv_spec.specs.Clauses.{AreOnVariables};
+ghost use Rattle.clause_spec.specs.Clauses.{AreOnVariables};
 ghost use Rattle.cnf_form.specs.Views.{cnf_of};
 ghost use Rattle.gates.specs.Circuits.{next, variable_of};
 ghost use Rattle.gates.specs.Defined.{IsDefined};

@@ -1,7 +1,7 @@
 //! Gates with their operands folded: constants, equal and opposite operands take none, and those that are left have an order and signs that are always the
 //! same.
 ghost use Rattle.std.specs.Prelude.{◌≡◌, ℕ, ◌<◌, ◌&&◌, ◌||◌, Bool, cond, not, IfOk};
-ghost use Rattle.bilv_spec.specs.Words.{differ};
+ghost use Rattle.word_spec.specs.Words.{differ};
 ghost use Rattle.gates.specs.Circuits.{next, Holds, IsBit, variable_of, bit_value, majority, parity, same};
 
 use crate::bit::Bit;

@@ -1,6 +1,6 @@
 //! The order of operands.
 ghost use Rattle.std.specs.Prelude.{◌≡◌, ℕ, ◌<◌, ◌&&◌, Bool};
-ghost use Rattle.bilv_spec.specs.Words.{differ};
+ghost use Rattle.word_spec.specs.Words.{differ};
 ghost use Rattle.gates.specs.Circuits.{variable_of, bit_value, majority, parity};
 
 use crate::bit::Bit;

@@ -1,7 +1,7 @@
 -- What a value says of the flow graph of a program.
 use Rattle.std.specs.Prelude.{ℕ, ◌≡◌, ◌<◌, ◌==◌, ◌↔◌, Bool, true, List, Option, Some, None, is_some, map, length, slice_index, Contains, All, if◌then◌else◌}
 use Rattle.std.specs.List.{AllZip}
-use Rattle.bilv_spec.specs.Words.{bit_at}
+use Rattle.word_spec.specs.Words.{bit_at}
 use Rattle.bilv_spec.specs.Run.{Program, fetchable}
 use Rattle.bilv_spec.specs.Points.{file_row, file_word}
 use Rattle.bilv_spec.specs.Graph as graph

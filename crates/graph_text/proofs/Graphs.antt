@@ -6,12 +6,12 @@ use Rattle.std.proofs.lemmas.Bool.{cases_eq}
 use Rattle.std.proofs.lemmas.Bool.Decides.{nat_tests}
 use Rattle.std.proofs.lemmas.List.{get_or-map, length-map}
 use Rattle.std.proofs.lemmas.List.Elements.{All-nil, All-cons, All-head, All-tail}
-use Rattle.bilv_spec.specs.Machine.{Row}
+use Rattle.machine_spec.specs.Machine.{Row}
 use Rattle.bilv_spec.specs.Run.{Program, fetchable}
 use Rattle.bilv_spec.specs.Points.{file_row, file_word}
 use Rattle.bilv_spec.specs.Graph.{Successor, successors_at, may_return}
 use Rattle.bilv_spec.specs.LiveFlags.{IsLive}
-use Rattle.bilv_spec.specs.Texts.{word_text, spaced, line}
+use Rattle.word_spec.specs.Texts.{word_text, spaced, line}
 use Rattle.bilv_spec.specs.GraphText.{successor_words, kept_names, keeps_words, row_words, graph_line, IsGraphText}
 use Rattle.graph_nodes.specs.declared.nodes.Node.{Node}
 use Rattle.graph_nodes.specs.declared.nodes.Graph.{Graph}

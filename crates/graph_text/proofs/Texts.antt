@@ -2,7 +2,7 @@
 use Rattle.std.proofs.Common.{◌≡◌, ℕ, suc, ◌+◌, ◌<◌, refl, ap, sym, ◌∙◌, List, [], ◌∷◌, ◌++◌, length, get_or, ◌≤◌, drop, map, append_assoc, append-nil, add-one, drop-cons}
 use Rattle.std.specs.List.{flat_map}
 use Rattle.std.proofs.lemmas.List.{drop_all}
-use Rattle.bilv_spec.specs.Texts.{blank, spaced}
+use Rattle.word_spec.specs.Texts.{blank, spaced}
 use Rattle.bilv_spec.specs.GraphText.{successor_words}
 use Rattle.graph_nodes.specs.declared.nodes.Successor.{Successor}
 use Rattle.graph_nodes.specs.Graphs.{successor_of}

@@ -1,7 +1,7 @@
 -- The text of a node, by its own fields.
 use Rattle.std.specs.Prelude.{ℕ, List, [], ◌∷◌, ◌++◌, Option, Some, None, if◌then◌else◌, codes}
 use Rattle.std.specs.List.{flat_map}
-use Rattle.bilv_spec.specs.Texts.{word_text, spaced, line}
+use Rattle.word_spec.specs.Texts.{word_text, spaced, line}
 use Rattle.bilv_spec.specs.GraphText.{successor_words, kept_names, keeps_words}
 use Rattle.graph_nodes.specs.declared.nodes.Node.{Node}
 use Rattle.graph_nodes.specs.Graphs.{successors_of, has_flag}

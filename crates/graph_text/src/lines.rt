@@ -2,7 +2,7 @@
 ghost use Rattle.std.specs.Prelude.{◌≡◌, ◌++◌, OnOk, IfOk};
 ghost use Rattle.std.specs.List.{flat_map};
 ghost use Rattle.bilv_spec.specs.Run.{Program};
-ghost use Rattle.bilv_spec.specs.Texts.{spaced};
+ghost use Rattle.word_spec.specs.Texts.{spaced};
 ghost use Rattle.bilv_spec.specs.GraphText.{graph_line, IsGraphText};
 ghost use Rattle.graph_nodes.specs.Graphs.{has_flag, IsGraph, LiveStay};
 ghost use Rattle.graph_text.specs.NodeText.{known_words, words_of, node_line};

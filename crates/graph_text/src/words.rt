@@ -1,7 +1,7 @@
 //! The words of a node.
 ghost use Rattle.std.specs.Prelude.{◌≡◌, ◌<◌, ◌++◌, [], ◌∷◌, if◌then◌else◌, map, OnOk};
 ghost use Rattle.std.specs.List.{flat_map};
-ghost use Rattle.bilv_spec.specs.Texts.{spaced};
+ghost use Rattle.word_spec.specs.Texts.{spaced};
 ghost use Rattle.bilv_spec.specs.GraphText.{letter_text, successor_words, kept_names, keeps_words};
 ghost use Rattle.graph_nodes.specs.Graphs.{letter_of, successor_of, has_flag};
 

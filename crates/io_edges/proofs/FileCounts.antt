@@ -4,7 +4,7 @@ use Rattle.std.specs.Prelude.{if◌then◌else◌}
 use Rattle.std.specs.Str.{bytes_eq}
 use Rattle.std.proofs.Math.Nat.{le_refl}
 use Rattle.std.proofs.lemmas.Slice.Eq.{bytes_eq-Decides}
-use Rattle.bilv_spec.specs.Outside.{Held, Absent, Bytes}
+use Rattle.call_spec.specs.Outside.{Held, Absent, Bytes}
 use Rattle.io_edges.specs.declared.files.MemFile.{MemFile}
 use Rattle.io_edges.specs.Counts.{one_more, RaisesOnly}
 use Rattle.io_edges.specs.Files.{held_by}

@@ -2,7 +2,7 @@
 use Rattle.std.proofs.Common.{◌≡◌, ℕ, zero, suc, ◌<◌, List, [], ◌∷◌, ◌++◌, Bool, true, false, length, take, get_or, refl, ap, sym, ◌∙◌, arith, string_bytes}
 use Rattle.std.specs.Prelude.{if◌then◌else◌}
 use Rattle.std.specs.Str.{bytes_eq}
-use Rattle.bilv_spec.specs.Outside.{Held, Absent, Bytes}
+use Rattle.call_spec.specs.Outside.{Held, Absent, Bytes}
 use Rattle.io_edges.specs.declared.files.MemFile.{MemFile}
 use Rattle.io_edges.specs.Files.{held_by}
 use Rattle.io_edges.specs.Places.{IsPlace}

@@ -2,7 +2,7 @@
 use Rattle.std.proofs.Common.{◌≡◌, ℕ, ◌+◌, ◌-◌, ◌≤◌, ◌<◌, List, [], ◌++◌, Option, Some, None, length, take, drop, refl, ap, sym, ◌∙◌, arith, append_assoc, subst}
 use Rattle.std.proofs.Math.Seq.{take-add}
 use Rattle.std.proofs.lemmas.Grind.{common_steps}
-use Rattle.bilv_spec.specs.Outside.{Held, Untold, Absent, Bytes, Agrees, IsLonger, Reads, Appends}
+use Rattle.call_spec.specs.Outside.{Held, Untold, Absent, Bytes, Agrees, IsLonger, Reads, Appends}
 
 -- the bytes read so far are the front of the file, as far as it is told; of a file that is absent none was read
 abbrev pub IsFront : Held → List ℕ → Type 0

@@ -1,8 +1,7 @@
 -- What is written changes nothing of what is read, and what it leaves where it stops.
 use Rattle.std.proofs.Common.{ℕ, ◌<◌, List, length, take, Option, arith}
-use Rattle.bilv_spec.specs.Answers.{Answer}
-use Rattle.bilv_spec.specs.Outside.{Appends}
-use Rattle.bilv_spec.specs.Outcomes.{Surroundings, AfterRead, read_failed, was_read}
+use Rattle.call_spec.specs.Calls.{Answer, Surroundings, AfterRead, read_failed, was_read}
+use Rattle.call_spec.specs.Outside.{Appends}
 use Rattle.io_edges.specs.Met.{met}
 use Rattle.io_edges.specs.WriteFaults.{Stopped}
 use Rattle.io_edges.specs.declared.WriteFault.{WriteFault}

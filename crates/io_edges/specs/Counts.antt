@@ -1,6 +1,6 @@
 -- Counts of faults, and how a read or a write raises one.
 use Rattle.std.specs.Prelude.{ℕ, ◌≡◌, ◌≢◌, ◌+◌, ◌-◌, ◌^◌, ◌&&◌, ◌==◌, min, List, length, nat_lt, if◌then◌else◌}
-use Rattle.bilv_spec.specs.Outside.{Held, Absent}
+use Rattle.call_spec.specs.Outside.{Held, Absent}
 
 -- a count of 64 bits and one more, which stays at its last value
 abbrev pub one_more : ℕ → ℕ

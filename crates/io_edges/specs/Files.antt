@@ -1,7 +1,7 @@
 -- Files in memory, and what a read of one fills.
 use Rattle.std.specs.Prelude.{ℕ, ◌≡◌, ◌-◌, min, List, [], ◌∷◌, length, string_bytes, if◌then◌else◌}
 use Rattle.std.specs.Str.{bytes_eq}
-use Rattle.bilv_spec.specs.Outside.{Held, Untold, Absent, Bytes}
+use Rattle.call_spec.specs.Outside.{Held, Untold, Absent, Bytes}
 use Rattle.io_edges.specs.declared.files.MemFile.{MemFile}
 
 -- what files tell of a name: the bytes of the first file that has it

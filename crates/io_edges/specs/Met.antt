@@ -1,7 +1,7 @@
 -- What a call meets of the files that it reads and of the text that it writes.
 use Rattle.std.specs.Prelude.{ℕ, List, Option, None}
-use Rattle.bilv_spec.specs.Outside.{Held}
-use Rattle.bilv_spec.specs.Outcomes.{Surroundings}
+use Rattle.call_spec.specs.Outside.{Held}
+use Rattle.call_spec.specs.Calls.{Surroundings}
 
 -- what is told of files, and the counts of their faults before and after
 abbrev pub seen : (List ℕ → Held) → (before after : List ℕ → ℕ) → Surroundings

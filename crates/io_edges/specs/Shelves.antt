@@ -1,7 +1,7 @@
 -- What shelves tell, and their counts.
 use Rattle.std.specs.Prelude.{ℕ, ◌≡◌, ◌⊎◌, List, [], ◌∷◌, Option, Contains, string_bytes, if◌then◌else◌}
 use Rattle.std.specs.Str.{bytes_eq}
-use Rattle.bilv_spec.specs.Outside.{Held, Absent}
+use Rattle.call_spec.specs.Outside.{Held, Absent}
 use Rattle.io_edges.specs.declared.files.MemFile.{MemFile}
 use Rattle.io_edges.specs.declared.mem_shelf.MemShelf.{MemShelf}
 use Rattle.io_edges.specs.declared.never_fail.NeverFailShelf.{NeverFailShelf}

@@ -1,6 +1,6 @@
 -- What was written before a write failed.
 use Rattle.std.specs.Prelude.{ℕ, ◌≡◌, List, Option}
-use Rattle.bilv_spec.specs.Outside.{Rose, FailedWrite, StuckWrite}
+use Rattle.call_spec.specs.Outside.{Rose, FailedWrite, StuckWrite}
 use Rattle.io_edges.specs.declared.WriteFault.{WriteFault}
 use Rattle.io_edges.specs.declared.WriteFault.TheVariants.{Failed, Stuck}
 

@@ -1,6 +1,6 @@
 //! Files in memory.
 ghost use Rattle.std.specs.Prelude.{◌≡◌, ◌+◌, ◌-◌, ◌<◌, length, min, MatchOption};
-ghost use Rattle.bilv_spec.specs.Outside.{Absent, Bytes, Reads};
+ghost use Rattle.call_spec.specs.Outside.{Absent, Bytes, Reads};
 ghost use Rattle.io_edges.specs.Files.{held_by, Fills};
 ghost use Rattle.io_edges.specs.Places.{IsPlace};
 

@@ -2,7 +2,7 @@
 #![tactic(auto)]
 
 ghost use Rattle.std.specs.Prelude.{◌≡◌, ◌≢◌, ℕ, ◌≤◌, ◌<◌, List, Option, length, take, IfOk, IfErr, OnOk, OnErr, IsErrOf};
-ghost use Rattle.bilv_spec.specs.Outside.{Held, Agrees, IsLonger, Rose, Reads, Appends};
+ghost use Rattle.call_spec.specs.Outside.{Held, Agrees, IsLonger, Rose, Reads, Appends};
 ghost use Rattle.io_edges.specs.WriteFaults.{Stopped, CountsError};
 
 use std::alloc::Global;

@@ -59,7 +59,7 @@ impl MemShelf {
 
 impl Shelf for MemShelf {
     ghost use Rattle.std.specs.Prelude.{ℕ, ◌≤◌, ◌↔◌, List, length, IsErr, IfOk, OnOk, OnErr};
-    ghost use Rattle.bilv_spec.specs.Outside.{Rose, Reads};
+    ghost use Rattle.call_spec.specs.Outside.{Rose, Reads};
     ghost use Rattle.io_edges.specs.Counts.{one_more, RaisesOnly};
     ghost use Rattle.io_edges.specs.Files.{Fills};
     ghost use Rattle.io_edges.specs.Shelves.{held_in, faults_in, failing_reads, reads_made, FailsNext};

@@ -69,7 +69,7 @@ impl MemSink {
 
 impl Sink for MemSink {
     ghost use Rattle.std.specs.Prelude.{◌≡◌, ◌<◌, ◌↔◌, length, take, Some, Contains, IsErr, IfOk, OnOk, OnErr};
-    ghost use Rattle.bilv_spec.specs.Outside.{Rose, Appends};
+    ghost use Rattle.call_spec.specs.Outside.{Rose, Appends};
     ghost use Rattle.io_edges.specs.Counts.{one_more, count_after};
     ghost use Rattle.io_edges.specs.Sinks.{text_in, room_of, most_of, taken_of, failing_writes, writes_made, write_faults, write_errors};
 

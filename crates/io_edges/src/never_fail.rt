@@ -23,7 +23,7 @@ impl NeverFailShelf {
 
 impl Shelf for NeverFailShelf {
     ghost use Rattle.std.specs.Prelude.{◌≡◌, ℕ, ◌≤◌, List, length, IfOk, IsOk};
-    ghost use Rattle.bilv_spec.specs.Outside.{Reads};
+    ghost use Rattle.call_spec.specs.Outside.{Reads};
     ghost use Rattle.io_edges.specs.Files.{Fills};
     ghost use Rattle.io_edges.specs.Shelves.{kept_in};
 

@@ -1,7 +1,7 @@
 //! The file system, and a writer as standard output. What they hold is not told: they are trusted.
 ghost use Rattle.std.specs.Prelude.{◌≡◌, ◌⊎◌, ℕ, ◌≤◌, ◌<◌, List, None, Some, length, IfOk, IfSome, OnOk, OnErr};
 ghost use Rattle.std.specs.Io.KnownBytes.{WriteAppends};
-ghost use Rattle.bilv_spec.specs.Outside.{Untold, Reads, Rose};
+ghost use Rattle.call_spec.specs.Outside.{Untold, Reads, Rose};
 ghost use Rattle.io_edges.specs.Counts.{one_more, count_after};
 ghost use Rattle.io_edges.specs.Shelves.{file_faults, last_file};
 ghost use Rattle.io_edges.specs.Sinks.{writer_of, out_faults, out_errors};

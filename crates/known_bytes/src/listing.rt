@@ -1,6 +1,6 @@
 //! The known bytes as runs.
 ghost use Rattle.std.specs.Prelude.{◌≡◌, ℕ, ◌<◌, ◌≤◌, ◌^◌, None, IfOk, map};
-ghost use Rattle.bilv_spec.specs.Machine.{Machine};
+ghost use Rattle.machine_spec.specs.Machine.{Machine};
 ghost use Rattle.bilv_spec.specs.Notes as notes_of_program;
 ghost use Rattle.bilv_spec.specs.Files.{program_of};
 ghost use Rattle.bilv_spec.specs.Points.{IsCount, is_known_at, begins_run};

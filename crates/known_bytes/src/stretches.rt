@@ -1,7 +1,7 @@
 //! The addresses whose byte the file gives: those that are kept, and those of fixed ranges.
 ghost use Rattle.std.specs.Prelude.{◌≡◌, ℕ, ◌≤◌, ◌<◌, ◌⊎◌, ◌+◌, ◌-◌, ◌^◌, not, false, MatchOption, map, true, length, slice_index};
 ghost use Rattle.bilv_spec.specs.Verdict.{fixed};
-ghost use Rattle.bilv_spec.specs.Machine.{Machine};
+ghost use Rattle.machine_spec.specs.Machine.{Machine};
 ghost use Rattle.bilv_spec.specs.Files.{program_of};
 ghost use Rattle.bilv_spec.specs.Points.{is_known_at};
 ghost use Rattle.notes_lang.specs.Drafting.{fixed_of, notes_of};

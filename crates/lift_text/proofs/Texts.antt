@@ -7,8 +7,8 @@ use Rattle.std.proofs.lemmas.Bool.{cases_lt}
 use Rattle.std.proofs.lemmas.Bool.Decides.{nat_tests}
 use Rattle.std.proofs.lemmas.List.{flat_map_more, get_or_append_left, get_or_at}
 use Rattle.std.proofs.lemmas.List.Elements.{Contains-get_or, Contains-append_left, Contains-push, Contains-push_cases}
-use Rattle.bilv_spec.specs.Machine.{Machine}
-use Rattle.bilv_spec.specs.Bil.{Bank}
+use Rattle.machine_spec.specs.Machine.{Machine}
+use Rattle.machine_spec.specs.Bil.{Bank}
 use Rattle.bilv_spec.specs.LiftText.{is_word_at, word_in, IsWordText, IsLiftTextBy}
 use Rattle.lift_text.specs.Progress.{IsTextTo, put_text, IsAppended}
 use Rattle.lift_text.proofs.Givens.{unaligned}

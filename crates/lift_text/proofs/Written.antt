@@ -2,12 +2,12 @@
 use Rattle.std.proofs.Common.{◌≡◌, ℕ, ◌+◌, List, [], ◌∷◌, ◌++◌, get_or, codes, append_assoc, Option, Some, None, ap, sym, ◌∙◌, subst, arith}
 use Rattle.std.specs.Global.{Vec}
 use Rattle.std.specs.List.{flat_map}
-use Rattle.bilv_spec.specs.Memory.{Endian, Little, Big, number}
-use Rattle.bilv_spec.specs.Machine.{Machine, Row}
-use Rattle.bilv_spec.specs.Bil.{Bank}
+use Rattle.word_spec.specs.Memory.{Endian, Little, Big, number}
+use Rattle.machine_spec.specs.Machine.{Machine, Row}
+use Rattle.machine_spec.specs.Bil.{Bank}
 use Rattle.bilv_spec.specs.Elf.{loaded}
-use Rattle.bilv_spec.specs.Texts.{word_text, hex_digits}
-use Rattle.bilv_spec.specs.BilText.{list_text}
+use Rattle.word_spec.specs.Texts.{word_text, hex_digits}
+use Rattle.machine_spec.specs.BilText.{list_text}
 use Rattle.bilv_spec.specs.LiftText.{byte_at, word_in, word_words, IsWordText}
 use Rattle.bil_ast.specs.declared.statements.Stmt.{Stmt}
 use Rattle.bil_ast.specs.Views.{statements}

@@ -2,7 +2,7 @@
 use Rattle.std.specs.Prelude.{ℕ, ◌≡◌, ◌≤◌, ◌<◌, ◌+◌, ◌%◌, ◌^◌, true, false, List, [], ◌∷◌, length, slice_index}
 use Rattle.std.specs.List.{flat_map}
 use Rattle.bilv_spec.specs.Elf.{loaded}
-use Rattle.bilv_spec.specs.Texts.{hex_digits}
+use Rattle.word_spec.specs.Texts.{hex_digits}
 use Rattle.bilv_spec.specs.LiftText.{is_given, is_word_at, byte_at}
 use Rattle.lift_text.specs.declared.candidates.Candidate.{Candidate}
 use Rattle.lift_text.specs.declared.candidates.Candidate.TheVariants.{Word, Next}

@@ -1,8 +1,8 @@
 -- The text as far as it was built.
 use Rattle.std.specs.Prelude.{ℕ, ◌≡◌, ◌≤◌, ◌<◌, ◌%◌, ◌^◌, ◌==◌, ◌↔◌, true, if◌then◌else◌, List, ◌++◌, length, slice_index, Contains}
 use Rattle.std.specs.List.{flat_map}
-use Rattle.bilv_spec.specs.Machine.{Machine}
-use Rattle.bilv_spec.specs.Bil.{Bank}
+use Rattle.machine_spec.specs.Machine.{Machine}
+use Rattle.machine_spec.specs.Bil.{Bank}
 use Rattle.bilv_spec.specs.LiftText.{is_word_at, word_in, IsWordText}
 
 -- the text of the words before an address

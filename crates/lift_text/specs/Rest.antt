@@ -1,7 +1,7 @@
 -- What stands behind a word's bytes.
 use Rattle.std.specs.Prelude.{ℕ, List, [], ◌∷◌, ◌++◌, Option, Some, None, codes}
 use Rattle.std.specs.Global.{Vec}
-use Rattle.bilv_spec.specs.BilText.{list_text}
+use Rattle.machine_spec.specs.BilText.{list_text}
 use Rattle.bil_ast.specs.declared.statements.Stmt.{Stmt}
 use Rattle.bil_ast.specs.Views.{statements}
 

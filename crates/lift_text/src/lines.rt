@@ -1,7 +1,7 @@
 //! The line of a word.
 
 ghost use Rattle.std.specs.Prelude.{◌≡◌, ◌++◌, ◌∷◌, length, OnOk};
-ghost use Rattle.bilv_spec.specs.Texts.{word_text};
+ghost use Rattle.word_spec.specs.Texts.{word_text};
 ghost use Rattle.lift_text.specs.Found.{bytes_text};
 
 use state_text::{push_text, push_word};

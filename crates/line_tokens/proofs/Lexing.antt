@@ -4,8 +4,9 @@ use Rattle.std.specs.Prelude.{◌==◌, map}
 use Rattle.std.specs.List.{prefix_len}
 use Rattle.line_tokens.proofs.Numbers.{one_more, none_more}
 use Rattle.line_tokens.specs.Tokens.{capped}
-use Rattle.bilv_spec.specs.NotesGrammar as grammar
-use Rattle.bilv_spec.specs.NotesGrammar.{tokens_of, tokens_after, token_at, token_length, is_blank}
+use Rattle.word_spec.specs.Tokens as grammar
+use Rattle.word_spec.specs.Tokens.{tokens_of, tokens_after, token_at, token_length}
+use Rattle.word_spec.specs.Texts.{is_blank}
 
 -- what stands behind bytes of the token before
 pub skipped : (n : ℕ) (text : List ℕ) → tokens_after n text ≡ tokens_of (drop n text)

@@ -7,7 +7,8 @@ use Rattle.std.proofs.lemmas.List.Sums.{take_while-cons}
 use Rattle.std.proofs.lemmas.List.Folds.{length-prefix_len}
 use Rattle.std.proofs.lemmas.List.{drop-drop}
 use Rattle.std.proofs.lemmas.Bool.Decides.{nat_tests}
-use Rattle.bilv_spec.specs.NotesGrammar.{run_of, are_digits, is_digit_of, is_digit, is_hexadecimal, number_token, number_length, number_value, begins_with_letter, BadText, NumberToken}
+use Rattle.word_spec.specs.Tokens.{run_of, is_digit, is_hexadecimal, number_token, number_length, number_value, begins_with_letter, BadText, NumberToken}
+use Rattle.word_spec.specs.Texts.{are_digits, is_digit_of}
 use Rattle.line_tokens.specs.Tokens.{capped, number_before}
 
 -- a number that is capped goes on as the number does

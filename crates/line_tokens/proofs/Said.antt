@@ -8,8 +8,7 @@ use Rattle.std.proofs.lemmas.Bool.Decides.{nat_tests}
 use Rattle.std.proofs.lemmas.Int.Digits.{digits_value-lt, digits_value_more}
 use Rattle.std.proofs.lemmas.Str.Parse.{digits_value-take-le}
 use Rattle.std.proofs.Math.Nat.{pow-le-pow_right}
-use Rattle.bilv_spec.specs.Texts.{is_decimal, is_decimal_digit, is_hex_digit, decimal_word}
-use Rattle.bilv_spec.specs.StateText.{at_most}
+use Rattle.word_spec.specs.Texts.{is_decimal, is_decimal_digit, is_hex_digit, decimal_word, at_most}
 use Rattle.line_tokens.specs.Words.{hex_value}
 
 -- several digits, the first above 0

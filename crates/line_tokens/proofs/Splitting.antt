@@ -3,7 +3,7 @@ use Rattle.std.proofs.Common.{◌≡◌, ℕ, suc, ◌+◌, ◌-◌, ◌<◌, re
 use Rattle.std.specs.Prelude.{◌==◌, not}
 use Rattle.std.specs.List.{prefix_len}
 use Rattle.std.proofs.lemmas.List.{take_all, length-drop, drop_min}
-use Rattle.bilv_spec.specs.Texts.{split_lines, in_front, words_in}
+use Rattle.word_spec.specs.Texts.{split_lines, in_front, words_in}
 use Rattle.line_tokens.proofs.Numbers.{one_more, none_more}
 use Rattle.line_tokens.specs.Words.{is_other}
 

@@ -1,7 +1,7 @@
 -- The tokens that a line's tokens stand for.
 use Rattle.std.specs.Prelude.{ℕ, ◌^◌, List, codes, min, if◌then◌else◌}
 use Rattle.std.specs.Str.Parse.{digits_value}
-use Rattle.bilv_spec.specs.NotesGrammar as grammar
+use Rattle.word_spec.specs.Tokens as grammar
 use Rattle.line_tokens.specs.declared.sign.Sign.{Sign}
 use Rattle.line_tokens.specs.declared.sign.Sign.TheVariants.{ShiftSigned, AtMost, AtLeast, SignedAtMost, SignedAtLeast, Below, Above, SignedBelow, SignedAbove, ShiftLeft, ShiftRight, NotEqual, Equal, BitOr, BitXor, BitAnd, Plus, Minus, Times, OpenRound, CloseRound, OpenSquare, CloseSquare}
 use Rattle.line_tokens.specs.declared.lexer.Token.{Token}

@@ -2,7 +2,7 @@
 use Rattle.std.specs.Prelude.{ℕ, ◌==◌, ◌&&◌, Bool, not, List, Option, Some, None, length, if◌then◌else◌}
 use Rattle.std.specs.List.{list_all}
 use Rattle.std.specs.Str.Parse.{digits_value}
-use Rattle.bilv_spec.specs.Texts.{is_hex_digit}
+use Rattle.word_spec.specs.Texts.{is_hex_digit}
 
 -- a byte is another one
 abbrev pub is_other : ℕ → ℕ → Bool

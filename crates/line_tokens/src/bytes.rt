@@ -2,7 +2,8 @@
 ghost use Rattle.std.specs.Prelude.{◌≡◌, ◌≤◌, ◌<◌, ◌^◌, min, length, slice_index};
 ghost use Rattle.std.specs.Char.{digit_value};
 ghost use Rattle.std.specs.Str.Parse.{digits_value};
-ghost use Rattle.bilv_spec.specs.NotesGrammar.{is_blank, is_digit, begins_name, goes_on_name, is_plain, is_letter, stops, begins_with_letter, run_of, is_hexadecimal};
+ghost use Rattle.word_spec.specs.Texts.{is_blank};
+ghost use Rattle.word_spec.specs.Tokens.{is_digit, begins_name, goes_on_name, is_plain, is_letter, stops, begins_with_letter, run_of, is_hexadecimal};
 
 /// Whether it is a blank or a tab.
 pub(crate) fn is_blank(b: u8) -> bool

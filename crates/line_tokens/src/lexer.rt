@@ -2,8 +2,9 @@
 ghost use Rattle.std.specs.Prelude.{◌≡◌, ℕ, ◌≤◌, ◌<◌, false, List, [], ◌∷◌, length, map, take, drop, IfOk, IfSome, IfNone, min, ◌^◌};
 ghost use Rattle.std.specs.List.{prefix_len};
 ghost use Rattle.std.specs.Option.{option_map};
-ghost use Rattle.bilv_spec.specs.NotesGrammar.{tokens_of, token_at, token_length, number_token, number_length, name_at, is_blank};
-ghost use Rattle.bilv_spec.specs.NotesGrammar as grammar;
+ghost use Rattle.word_spec.specs.Tokens.{tokens_of, token_at, token_length, number_token, number_length, name_at};
+ghost use Rattle.word_spec.specs.Texts.{is_blank};
+ghost use Rattle.word_spec.specs.Tokens as grammar;
 ghost use Rattle.line_tokens.specs.Tokens.{token_of, sign_text, capped, number_before};
 
 use crate::bytes::{

@@ -1,7 +1,7 @@
 //! Operators and brackets.
 ghost use Rattle.std.specs.Prelude.{◌≡◌, ◌≤◌, true, find, map, length, IfSome};
 ghost use Rattle.std.specs.Option.{option_map};
-ghost use Rattle.bilv_spec.specs.NotesGrammar.{signs, begins_sign, ends_in_letter};
+ghost use Rattle.word_spec.specs.Tokens.{signs, begins_sign, ends_in_letter};
 ghost use Rattle.line_tokens.specs.Tokens.{sign_text};
 
 use crate::bytes::stops;

@@ -2,8 +2,7 @@
 ghost use Rattle.std.specs.Prelude.{◌≡◌, ℕ, ◌+◌, ◌^◌, ◌≤◌, ◌<◌, List, [], ◌∷◌, length, map, take, IfOk, IfSome, IfNone};
 ghost use Rattle.std.specs.List.{list_all, prefix_len};
 ghost use Rattle.line_tokens.specs.Words.{is_other, hex_value};
-ghost use Rattle.bilv_spec.specs.Texts.{split_lines, words_in, is_decimal, is_decimal_digit, is_hex_digit, decimal_word, hex_word};
-ghost use Rattle.bilv_spec.specs.StateText.{at_most};
+ghost use Rattle.word_spec.specs.Texts.{split_lines, words_in, is_decimal, is_decimal_digit, is_hex_digit, decimal_word, hex_word, at_most};
 
 use crate::bytes::{capped_value, digit_value, is_digit};
 use std::alloc::{AllocError, Global};

@@ -1,6 +1,6 @@
 //! A list with a loop, which no machine lifts: its size, a copy, its text, its type and its runs.
 ghost use Rattle.std.specs.Prelude.{◌≡◌, true, IfOk};
-ghost use Rattle.bilv_spec.specs.BilCounts.{list_names_only};
+ghost use Rattle.machine_spec.specs.BilCounts.{list_names_only};
 ghost use Rattle.bil_ast.specs.Views.{statements};
 ghost use Rattle.bil_eval.specs.Views.{is_machine};
 

@@ -1,13 +1,13 @@
 -- What is told of an instruction, as the definitions have it.
 use Rattle.std.specs.Prelude.{ℕ, ◌≡◌, ◌<◌, ◌^◌, ◌==◌, List, Option, Some, None, length}
 use Rattle.std.specs.Global.{Vec}
-use Rattle.bilv_spec.specs.Words.{bit_at}
-use Rattle.bilv_spec.specs.Memory.{memory_of}
-use Rattle.bilv_spec.specs.State.{State}
-use Rattle.bilv_spec.specs.Machine as table
-use Rattle.bilv_spec.specs.MachineLaws.{IsLifting}
-use Rattle.bilv_spec.specs.Bil.{Bank}
-use Rattle.bilv_spec.specs.StateText.{Layout, Written, register_at}
+use Rattle.word_spec.specs.Words.{bit_at}
+use Rattle.word_spec.specs.Memory.{memory_of}
+use Rattle.word_spec.specs.State.{State, Written}
+use Rattle.machine_spec.specs.Machine as table
+use Rattle.machine_spec.specs.MachineLaws.{IsLifting}
+use Rattle.machine_spec.specs.Bil.{Bank}
+use Rattle.machine_spec.specs.StateText.{Layout, register_at}
 use Rattle.bil_ast.specs.declared.statements.Stmt.{Stmt}
 use Rattle.bil_ast.specs.Views.{statements}
 use Rattle.machine_law.specs.declared.facts.Succ.{Succ}

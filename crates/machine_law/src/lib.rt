@@ -4,11 +4,11 @@
 #![tactic(auto)]
 
 ghost use Rattle.std.specs.Prelude.{◌≡◌, ◌≤◌, ◌<◌, ◌+◌, ◌^◌, ℕ, Some, length, option_map, IfOk, OnOk, OnErr};
-ghost use Rattle.bilv_spec.specs.Machine as table;
-ghost use Rattle.bilv_spec.specs.MachineLaws.{IsFitted, IsLawfulMachine, IsLifting};
-ghost use Rattle.bilv_spec.specs.State.{IsState};
-ghost use Rattle.bilv_spec.specs.Bil as bil;
-ghost use Rattle.bilv_spec.specs.StateText as texts;
+ghost use Rattle.machine_spec.specs.Machine as table;
+ghost use Rattle.machine_spec.specs.MachineLaws.{IsFitted, IsLawfulMachine, IsLifting};
+ghost use Rattle.word_spec.specs.State.{IsState};
+ghost use Rattle.machine_spec.specs.Bil as bil;
+ghost use Rattle.machine_spec.specs.StateText as texts;
 ghost use Rattle.bil_ast.specs.Views.{statements};
 ghost use Rattle.byte_mem.specs.Views.{IsStep};
 ghost use Rattle.state_text.specs.Starts.{layout_of, written_of};

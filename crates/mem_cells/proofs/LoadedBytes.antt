@@ -1,8 +1,8 @@
 -- Loads of several bytes.
 use Rattle.std.proofs.Common.{◌≡◌, ◌⊎◌, inl, inr, [], ℕ, suc, ◌+◌, ◌*◌, ◌^◌, ◌<◌, Bool, true, false, List, ap, sym, ◌∙◌, arith}
-use Rattle.bilv_spec.specs.Words.{add}
-use Rattle.bilv_spec.specs.Memory.{Memory, Endian, Little, Big, endian, load, number}
-use Rattle.bilv_spec.specs.Bil.{Plus}
+use Rattle.word_spec.specs.Words.{add}
+use Rattle.word_spec.specs.Memory.{Memory, Endian, Little, Big, endian, load, number}
+use Rattle.machine_spec.specs.Bil.{Plus}
 use Rattle.walk_spec.specs.Terms.{TermReading, TermNode, BinaryNode, ConstantNode, ConcatNode, HasWidth, term_word, values_from, node_value, width_of}
 use Rattle.term_dag.proofs.Joins.{power}
 use Rattle.mem_cells.specs.declared.building.Build.{Build}

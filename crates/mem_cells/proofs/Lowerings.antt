@@ -6,8 +6,8 @@ use Rattle.std.proofs.lemmas.List.{get_or-take}
 use Rattle.std.proofs.lemmas.List.Elements.{Contains-get_or}
 use Rattle.std.proofs.lemmas.List.Sums.{sum_by-append}
 use mathlib.Core.Path.{fun_ext}
-use Rattle.bilv_spec.specs.Words.{add, sub}
-use Rattle.bilv_spec.specs.Memory.{Memory, Endian, number, load, store, byte_of}
+use Rattle.word_spec.specs.Words.{add, sub}
+use Rattle.word_spec.specs.Memory.{Memory, Endian, number, load, store, byte_of}
 use Rattle.walk_spec.specs.Terms.{TermReading, InRange, TermNode, RegisterNode, FlagNode, ChoiceNode, BaseNode, MemoryNode, ConstantNode, BinaryNode, NotNode, SelectNode, ExtractNode, ConcatNode, ExtendNode, LoadNode, StoreNode, JoinNode, AreTyped, IsTypedOver, HasWidth, node_at, node_value, values_from, value_at, width_of, word_value, select, term_word, term_value, term_gates, term_loads, own_gates, own_loads}
 use Rattle.walk_spec.specs.Cells.{IsOfWords}
 use Rattle.walk_spec.specs.Unrolled.{UnrolledProgram}

@@ -1,7 +1,7 @@
 -- Words as sums of a term and a constant.
 use Rattle.std.proofs.Common.{◌≡◌, ℕ, ◌+◌, ◌%◌, ◌^◌, ◌<◌, List, ap, sym, ◌∙◌, subst, arith}
-use Rattle.bilv_spec.specs.Words.{add}
-use Rattle.bilv_spec.specs.Bil.{Plus}
+use Rattle.word_spec.specs.Words.{add}
+use Rattle.machine_spec.specs.Bil.{Plus}
 use Rattle.walk_spec.specs.Terms.{TermReading, InRange, TermNode, BinaryNode, HasWidth, AreTyped, node_at, width_of, term_word}
 use Rattle.term_dag.proofs.ListLaws.{by_node, typed_here}
 use Rattle.term_dag.proofs.Ranges.{word_fits}

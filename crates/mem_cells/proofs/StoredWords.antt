@@ -4,8 +4,8 @@ use Rattle.std.specs.Prelude.{if◌then◌else◌, nat_lt}
 use Rattle.std.proofs.lemmas.Bool.{cases_lt}
 use Rattle.std.proofs.lemmas.Bool.Decides.{nat_tests}
 use Rattle.std.proofs.lemmas.List.{get_or_append_left}
-use Rattle.bilv_spec.specs.Words.{add, sub}
-use Rattle.bilv_spec.specs.Memory.{Memory, Endian, place, byte_of, store}
+use Rattle.word_spec.specs.Words.{add, sub}
+use Rattle.word_spec.specs.Memory.{Memory, Endian, place, byte_of, store}
 use Rattle.walk_spec.specs.Terms.{TermReading, InRange, ExtractNode, HasWidth, term_word, values_from, node_value}
 use Rattle.term_dag.proofs.Joins.{power}
 use Rattle.term_dag.proofs.ListLaws.{last}

@@ -8,8 +8,8 @@ use Rattle.question_form.specs.Questions.{program_of_question}
 use Rattle.mem_cells.specs.declared.building.Build.{Build}
 use Rattle.mem_cells.specs.declared.pieces.StoredByte.{StoredByte}
 use Rattle.mem_cells.specs.declared.pieces.Piece.{Piece}
-use Rattle.bilv_spec.specs.Memory.{Memory, Endian, Little, Big, byte_of, store}
-use Rattle.bilv_spec.specs.Words.{add}
+use Rattle.word_spec.specs.Memory.{Memory, Endian, Little, Big, byte_of, store}
+use Rattle.word_spec.specs.Words.{add}
 use Rattle.mem_cells.specs.declared.pieces.Split.{Split}
 use Rattle.mem_cells.specs.declared.pieces.Piece.TheVariants.{Entry, Store, Join}
 use Rattle.mem_cells.specs.Pieces.{piece_at, piece_byte, puts, stored_at, IsStored}

@@ -1,7 +1,7 @@
 -- Memories as pieces: the byte that each has at an address, and which bytes of others that takes.
 use Rattle.std.specs.Prelude.{ℕ, zero, suc, ◌≡◌, ◌≤◌, ◌<◌, ◌+◌, ◌*◌, ◌^◌, Bool, true, false, ◌==◌, ◌&&◌, nat_lt, nat_le, if◌then◌else◌, List, length, slice_index_or}
-use Rattle.bilv_spec.specs.Words.{add, sub}
-use Rattle.bilv_spec.specs.Memory.{Memory}
+use Rattle.word_spec.specs.Words.{add, sub}
+use Rattle.word_spec.specs.Memory.{Memory}
 use Rattle.walk_spec.specs.Terms.{TermReading, InRange, TermNode, term_word, select, HasWidth}
 use Rattle.term_dag.specs.declared.nodes.Term.{Term}
 use Rattle.mem_cells.specs.declared.pieces.Split.{Split}

@@ -1,8 +1,8 @@
 //! Loads and stores of several bytes.
 
 ghost use Rattle.std.specs.Prelude.{◌≡◌, ℕ, ◌+◌, ◌*◌, ◌<◌, ◌≤◌, length, sum_by, IfOk, OnOk};
-ghost use Rattle.bilv_spec.specs.Words.{add};
-ghost use Rattle.bilv_spec.specs.Memory.{endian, load};
+ghost use Rattle.word_spec.specs.Words.{add};
+ghost use Rattle.word_spec.specs.Memory.{endian, load};
 ghost use Rattle.walk_spec.specs.Terms.{HasWidth, IsBytes, term_word};
 ghost use Rattle.mem_cells.specs.Pieces.{ArePieces, piece_gates};
 ghost use Rattle.mem_cells.specs.Building.{with_byte, IsBuilt, Grown, IsWord, IsOfMemory};

@@ -4,12 +4,12 @@ use Rattle.std.specs.Prelude.{◌&&◌, ◌||◌, nat_eq, nat_le, nat_lt}
 use Rattle.std.specs.Global.{Vec}
 use Rattle.std.specs.List.{list_any}
 use Rattle.std.proofs.lemmas.Bool.Decides.{nat_tests}
-use Rattle.bilv_spec.specs.Bil.{XRegisters, Register, Flag, Mem, Local, Statements}
-use Rattle.bilv_spec.specs.BilCounts.{list_names_only, is_own, is_bank}
-use Rattle.bilv_spec.specs.Machine.{Row}
-use Rattle.bilv_spec.specs.MachineLaws.{IsLifting}
-use Rattle.bilv_spec.specs.Rv.{rv32}
-use Rattle.bilv_spec.specs.RowFiles.{from_to}
+use Rattle.machine_spec.specs.Bil.{XRegisters, Register, Flag, Mem, Local, Statements}
+use Rattle.machine_spec.specs.BilCounts.{list_names_only, is_own, is_bank}
+use Rattle.machine_spec.specs.Machine.{Row}
+use Rattle.machine_spec.specs.MachineLaws.{IsLifting}
+use Rattle.machine_spec.specs.Rv.{rv32}
+use Rattle.word_spec.specs.RowFiles.{from_to}
 use Rattle.walk_spec.specs.Unrolling.{is_variable_of}
 use Rattle.bil_ast.specs.Views.{statements}
 use Rattle.bil_ast.specs.declared.statements.Stmt.{Stmt}

@@ -1,8 +1,8 @@
 -- A list that names only variables of a set names only those of a greater one.
 use Rattle.std.proofs.Common.{◌≡◌, refl, Bool, true, false}
 use Rattle.std.specs.Prelude.{◌&&◌, ◌||◌}
-use Rattle.bilv_spec.specs.Bil.{BilVariable, Expression, Var, Constant, Load, Store, Binary, Unary, Cast, Let, Unknown, Choose, Extract, Concat, Statements, Empty, Assign, JumpTo, Raise, Special, While, If}
-use Rattle.bilv_spec.specs.BilCounts.{names_only, is_local, list_names_only}
+use Rattle.machine_spec.specs.Bil.{BilVariable, Expression, Var, Constant, Load, Store, Binary, Unary, Cast, Let, Unknown, Choose, Extract, Concat, Statements, Empty, Assign, JumpTo, Raise, Special, While, If}
+use Rattle.machine_spec.specs.BilCounts.{names_only, is_local, list_names_only}
 
 pub both : (a b : Bool) → (a && b) ≡ true → (a ≡ true) × (b ≡ true)
 both true b h = (refl, h)

@@ -1,11 +1,11 @@
 //! The lists of instructions as terms, against their runs.
 ghost use Rattle.std.specs.Prelude.{◌≡◌, true, IfOk};
-ghost use Rattle.bilv_spec.specs.Bil.{XRegisters};
-ghost use Rattle.bilv_spec.specs.BilCounts.{list_names_only};
-ghost use Rattle.bilv_spec.specs.BilTyping.{IsWellTyped};
-ghost use Rattle.bilv_spec.specs.Machine.{Row};
-ghost use Rattle.bilv_spec.specs.MachineLaws.{IsLifting};
-ghost use Rattle.bilv_spec.specs.Rv.{rv32};
+ghost use Rattle.machine_spec.specs.Bil.{XRegisters};
+ghost use Rattle.machine_spec.specs.BilCounts.{list_names_only};
+ghost use Rattle.machine_spec.specs.BilTyping.{IsWellTyped};
+ghost use Rattle.machine_spec.specs.Machine.{Row};
+ghost use Rattle.machine_spec.specs.MachineLaws.{IsLifting};
+ghost use Rattle.machine_spec.specs.Rv.{rv32};
 ghost use Rattle.bil_ast.specs.Views.{statements};
 ghost use Rattle.bil_eval.specs.Views.{held, is_machine};
 

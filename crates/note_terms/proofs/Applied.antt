@@ -1,8 +1,8 @@
 -- Operators of notes as steps.
 use Rattle.std.proofs.Common.{inl, ◌≡◌, ℕ, zero, suc, ◌+◌, ◌<◌, ◌≤◌, ◌^◌, Bool, true, false, if◌then◌else◌, List, length, refl, sym, subst, arith, bit_and, bit_or}
 use Rattle.std.proofs.Math.Nat.{pow-le-pow_right}
-use Rattle.bilv_spec.specs.Bil as bil
-use Rattle.bilv_spec.specs.Words.{bit}
+use Rattle.machine_spec.specs.Bil as bil
+use Rattle.word_spec.specs.Words.{bit}
 use Rattle.bilv_spec.specs.Notes as notes
 use Rattle.bilv_spec.specs.Notes.{Op, apply, is_true}
 use Rattle.walk_spec.specs.Terms.{TermReading, InRange, TermNode, ConstantNode, BinaryNode, ExtendNode, AreTyped, IsTypedOver, HasWidth, term_word, width_of, node_at}

@@ -1,6 +1,6 @@
 -- Steps by which a line becomes a term, one after another.
 use Rattle.std.proofs.Common.{inl, inr, ◌≡◌, ℕ, ◌+◌, ◌<◌, ◌≤◌, Bool, true, false, List, [], length, refl, ap, ◌∙◌, arith, bit_and, bit_or, ◌&&◌, ◌||◌}
-use Rattle.bilv_spec.specs.Words.{bit}
+use Rattle.word_spec.specs.Words.{bit}
 use Rattle.walk_spec.specs.Terms.{TermReading, InRange, TermNode, AreTyped, node_value, values_from, term_word, width_of, node_at, own_gates, own_loads, own_stores, own_joins}
 use Rattle.term_dag.specs.Nodes.{IsInput}
 use Rattle.term_dag.specs.Made.{Grew, IsMade, IsInterned}

@@ -3,12 +3,12 @@ use Rattle.std.proofs.Common.{inl, inr, ◌≡◌, ℕ, zero, suc, ◌+◌, ◌-
 use Rattle.std.proofs.lemmas.Bool.{eqb-true}
 use Rattle.std.proofs.lemmas.Bool.Decides.{eqb_tells}
 use Rattle.std.specs.List.{list_any}
-use Rattle.bilv_spec.specs.Words.{bit}
-use Rattle.bilv_spec.specs.Memory.{Endian, Little, endian, load}
+use Rattle.word_spec.specs.Words.{bit}
+use Rattle.word_spec.specs.Memory.{Endian, Little, endian, load}
 use Rattle.bilv_spec.specs.Notes.{Expr, Op, Number, Register, Flag, Pc, Bound, Memory, Old, Not, Binary, Each, apply, is_true, value, put_bound, each, written_out}
 use Rattle.bilv_spec.specs.Points.{line_price, bytes_loaded, products, operations, value_count, is_product, is_written}
 use Rattle.bilv_spec.specs.Notes as notes
-use Rattle.bilv_spec.specs.RowFiles.{from_to}
+use Rattle.word_spec.specs.RowFiles.{from_to}
 use Rattle.walk_spec.specs.Terms.{TermReading, TermNode, ConstantNode, LoadNode, AreTyped, HasMemory, HasWidth, term_value, term_word, width_of}
 use Rattle.walk_spec.specs.Unrolled.{Carried, UnrolledProgram, state_at}
 use Rattle.walk_spec.specs.Unrolling.{IsReadable}

@@ -1,7 +1,7 @@
 -- A line of notes as a term.
 use Rattle.std.specs.Prelude.{ℕ, ◌≡◌, ◌<◌, ◌+◌, ◌-◌, ◌*◌, Bool, List, length}
-use Rattle.bilv_spec.specs.Words.{bit}
-use Rattle.bilv_spec.specs.Memory.{endian}
+use Rattle.word_spec.specs.Words.{bit}
+use Rattle.word_spec.specs.Memory.{endian}
 use Rattle.bilv_spec.specs.Notes.{Expr, value, is_true}
 use Rattle.bilv_spec.specs.Points.{line_price, bytes_loaded}
 use Rattle.walk_spec.specs.Terms.{TermReading, InRange, TermNode, AreTyped, HasWidth, node_at, term_word, width_of}

@@ -1,9 +1,9 @@
 -- Steps by which a line becomes a term, and what they may cost.
 use Rattle.std.specs.Prelude.{ℕ, ◌≡◌, ◌<◌, ◌≤◌, ◌+◌, ◌⊎◌, Bool, if◌then◌else◌, List, length}
-use Rattle.bilv_spec.specs.Memory.{Endian, load}
-use Rattle.bilv_spec.specs.Bil.{BinaryOp}
-use Rattle.bilv_spec.specs.BilTyping.{result_width}
-use Rattle.bilv_spec.specs.BilCounts.{op_weight}
+use Rattle.word_spec.specs.Memory.{Endian, load}
+use Rattle.machine_spec.specs.Bil.{BinaryOp}
+use Rattle.machine_spec.specs.BilTyping.{result_width}
+use Rattle.machine_spec.specs.BilCounts.{op_weight}
 use Rattle.bilv_spec.specs.Notes as notes
 use Rattle.bilv_spec.specs.Notes.{Expr, Op, Number, Register, Flag, Pc, Memory, Old, Not, Binary, apply}
 use Rattle.walk_spec.specs.Terms.{TermReading, InRange, TermNode, AreTyped, HasWidth, term_value, term_word, width_of, node_at, operate}

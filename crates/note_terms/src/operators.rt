@@ -1,8 +1,8 @@
 //! Operators of notes as those of terms.
 
 ghost use Rattle.std.specs.Prelude.{◌≡◌, ℕ, if◌then◌else◌, not, true, false, IfOk};
-ghost use Rattle.bilv_spec.specs.Bil as bil;
-ghost use Rattle.bilv_spec.specs.Words.{bit};
+ghost use Rattle.machine_spec.specs.Bil as bil;
+ghost use Rattle.word_spec.specs.Words.{bit};
 ghost use Rattle.bilv_spec.specs.Notes as notes;
 ghost use Rattle.bilv_spec.specs.Notes.{apply, is_true};
 ghost use Rattle.walk_spec.specs.Terms.{TermReading, BinaryNode, AreTyped, HasWidth, term_word};

@@ -1,7 +1,7 @@
 //! The values of expressions as terms.
 
 ghost use Rattle.std.specs.Prelude.{◌≡◌, ◌<◌, ◌≤◌, ◌-◌, ◌+◌, true, length, slice_index, IfOk};
-ghost use Rattle.bilv_spec.specs.Memory.{endian, load};
+ghost use Rattle.word_spec.specs.Memory.{endian, load};
 ghost use Rattle.bilv_spec.specs.Notes.{put_bound, written_out};
 ghost use Rattle.walk_spec.specs.Terms.{TermReading, ConstantNode, AreTyped, HasMemory, HasWidth, term_value, term_word};
 ghost use Rattle.walk_spec.specs.Unrolled.{is_flag_of, is_register_of};

@@ -5,7 +5,8 @@ use Rattle.std.specs.List.{list_any}
 use Rattle.std.proofs.lemmas.Slice.Eq.{bytes_eq-Decides}
 use Rattle.bilv_spec.specs.Scopes.{Scope}
 use Rattle.bilv_spec.specs.Notes.{Expr, At, Named}
-use Rattle.bilv_spec.specs.NotesGrammar.{Token, NumberToken, NameToken, SignToken, BadByte, BadText, Parses, AreNumbers, Says, Nothing, EntryIs, RequireIs, EnsureIs, AssertIs, TargetsAre, FixedIs, VersionIs, ConstIs, LoadedIs, IsSaid}
+use Rattle.word_spec.specs.Tokens.{Token, NumberToken, NameToken, SignToken, BadByte, BadText}
+use Rattle.bilv_spec.specs.NotesGrammar.{Parses, AreNumbers, Says, Nothing, EntryIs, RequireIs, EnsureIs, AssertIs, TargetsAre, FixedIs, VersionIs, ConstIs, LoadedIs, IsSaid}
 use Rattle.bilv_spec.specs.NotesFaults.{IsLineWord, BeginsBadly, line_words_first}
 use Rattle.notes_lang.specs.declared.sayings.LineWord.{LineWord}
 use Rattle.notes_lang.specs.declared.sayings.LineWord.TheVariants as word

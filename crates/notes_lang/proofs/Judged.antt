@@ -3,7 +3,8 @@ use Rattle.std.proofs.Common.{◌≡◌, ℕ, zero, suc, ◌<◌, ◌≤◌, ◌
 use Rattle.std.specs.List.{list_any, fold}
 use Rattle.bilv_spec.specs.Notes.{At, Named}
 use Rattle.bilv_spec.specs.Scopes.{Scope, Strict, lenient, loose}
-use Rattle.bilv_spec.specs.NotesGrammar.{Token, NumberToken, NameToken, SignToken, BadByte, BadText, IsGood, is_depth, line_limit, tokens_of, Says, Nothing, EntryIs, RequireIs, EnsureIs, AssertIs, TargetsAre, FixedIs, VersionIs, ConstIs, LoadedIs, IsSaid, IsLine, AreAligned, IsRange, IsVersion, IsNew}
+use Rattle.word_spec.specs.Tokens.{Token, NumberToken, NameToken, SignToken, BadByte, BadText, tokens_of}
+use Rattle.bilv_spec.specs.NotesGrammar.{IsGood, is_depth, line_limit, Says, Nothing, EntryIs, RequireIs, EnsureIs, AssertIs, TargetsAre, FixedIs, VersionIs, ConstIs, LoadedIs, IsSaid, IsLine, AreAligned, IsRange, IsVersion, IsNew}
 use Rattle.bilv_spec.specs.NotesFaults.{NoteFault, LimitFault, ByteFault, TokenFault, NumberFault, DepthFault, WordFault, SyntaxFault, NameFault, AlignFault, RangeFault, EntryFault, VersionFault, ConstFault, AllFault, note_fault_rank, BeginsBadly, Repeats, NoteFaultApplies}
 use Rattle.bilv_spec.proofs.Decided.{Decided, is_less, neither}
 use Rattle.bilv_spec.proofs.NotesFirst.{begins_well, of_rank, ranked}

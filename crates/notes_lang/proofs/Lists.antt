@@ -1,7 +1,8 @@
 -- Tokens that are numbers.
 use Rattle.std.proofs.Common.{◌≡◌, ℕ, zero, suc, ◌<◌, refl, ap, arith, sym, ◌∙◌, List, [], ◌∷◌, ◌++◌, Option, Some, None, length, get_or, take, ◌+◌, add-one, subst, Vec, Global}
 use Rattle.bilv_spec.specs.Scopes.{Scope}
-use Rattle.bilv_spec.specs.NotesGrammar.{Token, number_at, AreNumbers}
+use Rattle.word_spec.specs.Tokens.{Token}
+use Rattle.bilv_spec.specs.NotesGrammar.{number_at, AreNumbers}
 use Rattle.bilv_spec.proofs.Decided.{none_some}
 use Rattle.line_tokens.specs.declared.lexer.Token as code
 use Rattle.line_tokens.specs.Tokens.{token_of}

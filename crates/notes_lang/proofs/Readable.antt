@@ -3,12 +3,14 @@ use Rattle.std.proofs.Common.{◌≡◌, ℕ, zero, suc, ◌+◌, ◌<◌, ◌�
 use Rattle.std.specs.List.{list_all, list_any}
 use Rattle.std.proofs.lemmas.Bool.Decides.{nat_tests}
 use Rattle.std.proofs.lemmas.List.Elements.{All-nil, All-cons, All-tail}
-use Rattle.bilv_spec.specs.Memory.{Little}
+use Rattle.word_spec.specs.Memory.{Little}
 use Rattle.bilv_spec.specs.Notes.{Expr, Number, Register, Flag, Pc, Bound, Memory, Old, Not, Binary, Notes, put_bound, each, values}
 use Rattle.bilv_spec.specs.Scopes.{Scope, Mode, Strict, Lenient, Loose, Constant, begin, const_of, const_or, meaning, name_by, named, is_reserved, binding}
-use Rattle.bilv_spec.specs.NotesGrammar.{Token, NameToken, NumberToken, load_words, IsGood, left_of, Parses, tighter, binary_of, not_of, number_of, name_of, memory_of, old_of, all_of, in_brackets, after, is_second, lines_of, Says, Nothing, EntryIs, RequireIs, EnsureIs, AssertIs, TargetsAre, FixedIs, VersionIs, ConstIs, LoadedIs, requires_of, ensures_of, asserts_of, tokens_of, IsSaid, AreLines, IsNotesText}
-use Rattle.bilv_spec.specs.Rv.{rv32}
-use Rattle.bilv_spec.specs.Arm.{arm, V4}
+use Rattle.word_spec.specs.Tokens.{Token, NameToken, NumberToken, tokens_of}
+use Rattle.bilv_spec.specs.NotesGrammar.{load_words, IsGood, left_of, Parses, tighter, binary_of, not_of, number_of, name_of, memory_of, old_of, all_of, in_brackets, after, is_second, lines_of, Says, Nothing, EntryIs, RequireIs, EnsureIs, AssertIs, TargetsAre, FixedIs, VersionIs, ConstIs, LoadedIs, requires_of, ensures_of, asserts_of, IsSaid, AreLines, IsNotesText}
+use Rattle.machine_spec.specs.Rv.{rv32}
+use Rattle.machine_spec.specs.Arm.{arm}
+use Rattle.word_spec.specs.Profiles.{V4}
 use Rattle.bilv_spec.specs.RvNames.{name_in, rv_table}
 use Rattle.bilv_spec.specs.ArmNames.{arm_table}
 use Rattle.bilv_spec.specs.NotesLaws.{IsOfWords}

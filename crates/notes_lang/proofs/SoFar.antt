@@ -1,7 +1,8 @@
 -- Lines, one by one.
-use Rattle.std.proofs.Common.{◌≡◌, ℕ, ◌<◌, ◌≤◌, ◌+◌, refl, ap, sym, ◌∙◌, subst, arith, List, [], ◌∷◌, ◌++◌, Option, length, append_assoc, length-append, IsTrue, ◌↔◌, Bool, true, false}
+use Rattle.std.proofs.Common.{◌≡◌, ℕ, ◌<◌, ◌≤◌, ◌+◌, refl, ap, sym, ◌∙◌, subst, arith, List, [], ◌∷◌, ◌++◌, Option, length, append_assoc, length-append, IsTrue, ◌↔◌, Bool, true, false, map, drop, take, ◌-◌}
 use Rattle.bilv_spec.specs.Notes.{Expr}
-use Rattle.bilv_spec.specs.NotesGrammar.{Says, Nothing, EntryIs, RequireIs, EnsureIs, AssertIs, TargetsAre, FixedIs, VersionIs, ConstIs, LoadedIs, IsLine, AreLines, after, after_all, is_second, line_limit, lines_of, tokens_of}
+use Rattle.bilv_spec.specs.NotesGrammar.{Says, Nothing, EntryIs, RequireIs, EnsureIs, AssertIs, TargetsAre, FixedIs, VersionIs, ConstIs, LoadedIs, IsLine, AreLines, after, after_all, is_second, line_limit, lines_of}
+use Rattle.word_spec.specs.Tokens.{tokens_of}
 use Rattle.bilv_spec.specs.Scopes.{Scope, Constant, Strict}
 use Rattle.std.specs.Prelude.{not, ◌&&◌}
 use Rattle.bilv_spec.specs.NotesFaults.{NoteFault, LimitFault, ByteFault, TokenFault, NumberFault, DepthFault, WordFault, SyntaxFault, NameFault, AlignFault, RangeFault, EntryFault, VersionFault, ConstFault, AllFault, note_fault_rank, NoteFaultApplies, Repeats, IsFirstNoteFault, at_line, begin_of}
@@ -10,7 +11,6 @@ use Rattle.bilv_spec.proofs.NotesFirst.{not_faulty}
 use Rattle.bilv_spec.proofs.NotesOutcome.{lines_and, none_and}
 use Rattle.notes_lang.specs.declared.drafts.Draft.{Draft}
 use Rattle.std.specs.Borrow.{Bor}
-use Rattle.std.proofs.Common.{map, drop, take, ◌-◌}
 use Rattle.notes_lang.specs.declared.scopes.Constant.{Constant as CodeConstant}
 use Rattle.notes_lang.specs.Scoping.{constant_of, text_of}
 use Rattle.notes_lang.proofs.FirstLines.{rest_is}

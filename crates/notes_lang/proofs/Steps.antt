@@ -1,7 +1,8 @@
 -- Steps of the definition's parser, as the functions that read take them.
-use Rattle.std.proofs.Common.{◌≡◌, ◌≢◌, ℕ, suc, ◌<◌, ◌≤◌, ◌+◌, max, refl, ap, sym, ◌∙◌, subst, arith, List, [], ◌∷◌, Option, Some, None, Bool, true, false, if◌then◌else◌, codes, bytes_eq, length, drop, nat_lt, ◌==◌}
+use Rattle.std.proofs.Common.{◌≡◌, ◌≢◌, ℕ, suc, ◌<◌, ◌≤◌, ◌+◌, max, refl, ap, sym, ◌∙◌, subst, arith, List, [], ◌∷◌, Option, Some, None, Bool, true, false, if◌then◌else◌, codes, bytes_eq, length, drop, nat_lt, ◌==◌, ◌++◌, map}
 use Rattle.bilv_spec.specs.Notes.{Op, Expr, Memory, Old, Binary, written_out}
-use Rattle.bilv_spec.specs.NotesGrammar.{Token, NameToken, SignToken, number_at}
+use Rattle.word_spec.specs.Tokens.{Token, NameToken, SignToken}
+use Rattle.bilv_spec.specs.NotesGrammar.{number_at}
 use Rattle.bilv_spec.specs.Scopes.{Scope, binding, may_bind}
 use Rattle.bilv_spec.proofs.NotesTables.{is_false, same_token, same_token_is, size_of}
 use Rattle.bilv_spec.proofs.NotesParser.{Task, Level, Behind, Read, Fails, Reads, then_read, opened_if, opened, all_at, all_with, all_if, word_at, atom_at, negated_at, Sort, Negation, Tightest, Chains, NoLevel, sort, level_at, again, behind_by, work, Ends, by_step}
@@ -17,7 +18,6 @@ use Rattle.notes_lang.specs.declared.scopes.Scope as code_scope
 use Rattle.notes_lang.specs.Scoping.{scope_of, text_of}
 use Rattle.std.specs.Borrow.{Bor}
 use Rattle.std.proofs.lemmas.List.{map-append}
-use Rattle.std.proofs.Common.{◌++◌, map}
 
 -- how the tokens of one level are read, as far as they were: what is read behind the expression so far is what is read of all
 pub record Chained (names : Scope) (l : ℕ) (ts : List code.Token) (a : Expr) (rest : List code.Token) : Type 0 where

@@ -1,7 +1,8 @@
 -- Whether tokens are an expression.
 use Rattle.std.proofs.Common.{◌≡◌, ℕ, ◌<◌, refl, ap, sym, ◌∙◌, subst, arith, List, [], ◌∷◌, Option, Some, None, Bool, true, false, length, ◌==◌}
 use Rattle.bilv_spec.specs.Notes.{Expr}
-use Rattle.bilv_spec.specs.NotesGrammar.{Token, Parses}
+use Rattle.word_spec.specs.Tokens.{Token}
+use Rattle.bilv_spec.specs.NotesGrammar.{Parses}
 use Rattle.bilv_spec.specs.Scopes.{Scope}
 use Rattle.bilv_spec.proofs.Decided.{none_some}
 use Rattle.bilv_spec.proofs.NotesParser.{Level, Read, Fails, Reads, Ends, all_read, is_ready}

@@ -2,7 +2,8 @@
 use Rattle.std.specs.Prelude.{ℕ, ◌≡◌, ◌<◌, ◌≤◌, ◌^◌, Bool, true, false, nat_le, List, Option, Some, None, Result, Ok, Err, count_by}
 use Rattle.std.specs.List.{list_any}
 use Rattle.bilv_spec.specs.Scopes.{Scope, loose, lenient}
-use Rattle.bilv_spec.specs.NotesGrammar.{Token, NumberToken, NameToken, SignToken, BadByte, BadText, Says, IsSaid, IsLine, AreAligned, IsRange, IsVersion, IsNew, is_depth, line_limit}
+use Rattle.word_spec.specs.Tokens.{Token, NumberToken, NameToken, SignToken, BadByte, BadText}
+use Rattle.bilv_spec.specs.NotesGrammar.{Says, IsSaid, IsLine, AreAligned, IsRange, IsVersion, IsNew, is_depth, line_limit}
 use Rattle.bilv_spec.specs.NotesFaults as faults
 use Rattle.line_tokens.specs.declared.lexer.Token as code
 use Rattle.line_tokens.specs.Tokens.{token_of}

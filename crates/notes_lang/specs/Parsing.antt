@@ -1,12 +1,12 @@
 -- Notes that were read.
 use Rattle.std.specs.Prelude.{ℕ, Bool, ◌≡◌, ◌+◌, List, [], ◌++◌, Option, Result, Ok, Err, length}
-use Rattle.bilv_spec.specs.Memory.{endian}
+use Rattle.word_spec.specs.Memory.{endian}
 use Rattle.bilv_spec.specs.Notes.{Expr}
 use Rattle.bilv_spec.specs.NotesGrammar.{lines_of, Says, after_all}
 use Rattle.bilv_spec.specs.Scopes.{Scope, Constant, Strict}
 use Rattle.bilv_spec.specs.NotesFaults.{AreGood, IsFirstNoteFault, begin_of}
-use Rattle.bilv_spec.specs.Rv.{rv32}
-use Rattle.bilv_spec.specs.Arm.{arm}
+use Rattle.machine_spec.specs.Rv.{rv32}
+use Rattle.machine_spec.specs.Arm.{arm}
 use Rattle.bilv_spec.specs.RvNames.{rv_names}
 use Rattle.bilv_spec.specs.ArmNames.{arm_names}
 use Rattle.state_text.specs.declared.layout.Layout.{Layout}

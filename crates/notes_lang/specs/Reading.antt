@@ -3,6 +3,7 @@ use Rattle.std.specs.Prelude.{ℕ, ◌<◌, ◌≤◌, ◌≡◌, Bool, true, fa
 use Rattle.std.specs.Str.{bytes_eq}
 use Rattle.bilv_spec.specs.Notes as notes
 use Rattle.bilv_spec.specs.NotesGrammar as grammar
+use Rattle.word_spec.specs.Tokens as tokens
 use Rattle.bilv_spec.specs.NotesGrammar.{IsGood, operators}
 use Rattle.bilv_spec.proofs.NotesTables.{line_of, same_token}
 use Rattle.bilv_spec.specs.Scopes.{Scope, binding, may_bind}
@@ -15,7 +16,7 @@ use Rattle.notes_lang.specs.declared.parser.Reading.{Reading}
 use Rattle.notes_lang.specs.declared.parser.AllHead.{AllHead}
 
 -- tokens
-abbrev pub tokens_view : List Token → List grammar.Token
+abbrev pub tokens_view : List Token → List tokens.Token
 tokens_view ts = map token_of ts
 
 -- each may stand in a line
@@ -34,7 +35,7 @@ IsLeft ts None = Unit {0}
 IsLeft ts (Some r) = (length r.rest.now < length ts) × AreGood r.rest.now
 
 -- the operator of a level with which tokens begin
-abbrev pub operator_at : ℕ → List grammar.Token → Option notes.Op
+abbrev pub operator_at : ℕ → List tokens.Token → Option notes.Op
 operator_at l [] = None
 operator_at l (t ∷ ts) = of_level (line_of operators t) l
 
@@ -48,7 +49,7 @@ abbrev pub Settles : (ℕ → Read) → Read → Type 0
 Settles read r = (n : ℕ) × ((m : ℕ) → n ≤ m → read m ≡ r)
 
 -- an expression and what closes it were read, for whatever is made of it
-abbrev pub IsEnclosed : Scope → grammar.Token → List grammar.Token → Option Reading → Type 0
+abbrev pub IsEnclosed : Scope → tokens.Token → List tokens.Token → Option Reading → Type 0
 IsEnclosed s close ts o = (f : notes.Expr → notes.Expr) → Settles (λ m. opened_if (work s m) true close f ts) (read_as f o)
 
 -- the tokens that are left are no more, and each may stand in a line
@@ -57,7 +58,7 @@ IsRest ts None = Unit {0}
 IsRest ts (Some r) = (length r.rest.now ≤ length ts) × AreGood r.rest.now
 
 -- tokens begin with this one
-abbrev pub begins : grammar.Token → List grammar.Token → Bool
+abbrev pub begins : tokens.Token → List tokens.Token → Bool
 begins t [] = false
 begins t (u ∷ us) = same_token u t
 
@@ -67,7 +68,7 @@ size_or_zero None = 0
 size_or_zero (Some size) = bytes_of size
 
 -- the steps within an `all` that binds a name
-abbrev pub within : Scope → ℕ → List ℕ → Task → List grammar.Token → Read
+abbrev pub within : Scope → ℕ → List ℕ → Task → List tokens.Token → Read
 within s m w = work (binding s w) m
 
 -- the word begins an `all`
@@ -75,8 +76,8 @@ abbrev pub is_all_word : (is_second : Bool) → List ℕ → Bool
 is_all_word is_second w = is_second && bytes_eq w (codes "all")
 
 -- tokens begin with a name and two numbers that an `all` may have, and its bracket; or nothing is read of them as an `all`
-abbrev pub IsHead : Scope → List grammar.Token → Option AllHead → Type 0
-IsHead s ts None = (inner : List ℕ → Task → List grammar.Token → Read) → all_at s inner ts ≡ Fails
+abbrev pub IsHead : Scope → List tokens.Token → Option AllHead → Type 0
+IsHead s ts None = (inner : List ℕ → Task → List tokens.Token → Read) → all_at s inner ts ≡ Fails
 IsHead s ts (Some h) =
-    (b c : grammar.Token) × (ts ≡ grammar.NameToken h.word.now ∷ b ∷ c ∷ grammar.SignToken (codes "(") ∷ tokens_view h.rest.now) ×
+    (b c : tokens.Token) × (ts ≡ tokens.NameToken h.word.now ∷ b ∷ c ∷ tokens.SignToken (codes "(") ∷ tokens_view h.rest.now) ×
     (grammar.number_at s b ≡ Some h.low) × (grammar.number_at s c ≡ Some h.high) × (may_bind s h.word.now h.low h.high ≡ true)

@@ -3,6 +3,7 @@ use Rattle.std.specs.Prelude.{ℕ, ◌≡◌, Bool, true, false, List, [], ◌�
 use Rattle.bilv_spec.specs.Scopes.{Scope, Constant}
 use Rattle.bilv_spec.specs.Notes as notes
 use Rattle.bilv_spec.specs.NotesGrammar as grammar
+use Rattle.word_spec.specs.Tokens as tokens
 use Rattle.notes_value.specs.Views.{expr_of}
 use Rattle.notes_lang.specs.declared.notes.Function.{Function}
 use Rattle.notes_lang.specs.declared.notes.Function.TheVariants.{At, Named}
@@ -48,12 +49,12 @@ word_text word.Const = codes "const"
 word_text word.Loaded = codes "loaded"
 
 -- tokens begin with a number, and these are behind it
-abbrev pub BeginsWith : Scope → List grammar.Token → ℕ × List grammar.Token → Type 0
-BeginsWith s ts p = (t : grammar.Token) × (ts ≡ t ∷ p.1) × grammar.IsNumber s t p.0
+abbrev pub BeginsWith : Scope → List tokens.Token → ℕ × List tokens.Token → Type 0
+BeginsWith s ts p = (t : tokens.Token) × (ts ≡ t ∷ p.1) × grammar.IsNumber s t p.0
 
 -- a number is all of the tokens
-abbrev pub IsOne : Scope → List grammar.Token → ℕ → Type 0
-IsOne s ts n = (t : grammar.Token) × (ts ≡ t ∷ []) × grammar.IsNumber s t n
+abbrev pub IsOne : Scope → List tokens.Token → ℕ → Type 0
+IsOne s ts n = (t : tokens.Token) × (ts ≡ t ∷ []) × grammar.IsNumber s t n
 
 -- a line says something
 abbrev pub is_something : grammar.Says → Bool

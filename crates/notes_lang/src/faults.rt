@@ -2,7 +2,8 @@
 ghost use Rattle.std.specs.Prelude.{◌≡◌, ◌≤◌, ◌↔◌, ℕ, List, map, count_by, length, All, IfOk, IsTrue};
 ghost use Rattle.std.specs.List.{list_any};
 ghost use Rattle.bilv_spec.specs.Scopes as scopes;
-ghost use Rattle.bilv_spec.specs.NotesGrammar.{AreAligned, IsAligned, IsNew, IsRange, IsVersion, is_depth, line_limit, tokens_of};
+ghost use Rattle.bilv_spec.specs.NotesGrammar.{AreAligned, IsAligned, IsNew, IsRange, IsVersion, is_depth, line_limit};
+ghost use Rattle.word_spec.specs.Tokens.{tokens_of};
 ghost use Rattle.line_tokens.specs.Tokens.{capped, token_of};
 ghost use Rattle.notes_lang.specs.Reading.{AreGood, tokens_view};
 ghost use Rattle.notes_lang.specs.Saying.{says_of};

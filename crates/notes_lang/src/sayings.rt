@@ -2,7 +2,8 @@
 ghost use Rattle.std.specs.Prelude.{◌≡◌, ◌∷◌, [], ℕ, List, codes, Contains, true, IfOk, IfSome, IfNone};
 ghost use Rattle.bilv_spec.specs.Scopes as scopes;
 ghost use Rattle.bilv_spec.specs.NotesGrammar as grammar;
-ghost use Rattle.bilv_spec.specs.NotesGrammar.{AreNumbers, IsSaid, NameToken, NumberToken, Parses};
+ghost use Rattle.bilv_spec.specs.NotesGrammar.{AreNumbers, IsSaid, Parses};
+ghost use Rattle.word_spec.specs.Tokens.{NameToken, NumberToken};
 ghost use Rattle.bilv_spec.specs.NotesFaults.{IsLineWord, line_words};
 ghost use Rattle.line_tokens.specs.Tokens.{token_of};
 ghost use Rattle.notes_value.specs.Views.{expr_of};

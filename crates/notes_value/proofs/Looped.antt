@@ -1,10 +1,10 @@
 -- The values of an `all`, tried one after the other.
 use Rattle.std.proofs.Common.{rules, Box, Global, ◌≡◌, ℕ, zero, suc, ◌+◌, ◌-◌, ◌<◌, ◌≤◌, Bool, true, false, List, [], ◌∷◌, refl, sym, ap, subst, ◌∙◌, map, arith}
 use Rattle.std.specs.Prelude.{◌==◌, ◌&&◌, not}
-use Rattle.bilv_spec.specs.Words.{bit}
-use Rattle.bilv_spec.specs.Memory.{Endian}
-use Rattle.bilv_spec.specs.State.{State}
-use Rattle.bilv_spec.specs.RowFiles.{from_to}
+use Rattle.word_spec.specs.Words.{bit}
+use Rattle.word_spec.specs.Memory.{Endian}
+use Rattle.word_spec.specs.State.{State}
+use Rattle.word_spec.specs.RowFiles.{from_to}
 use Rattle.bilv_spec.specs.Notes.{Expr, Number, Register, Flag, Pc, Bound, Memory, Old, Not, Binary, value, is_true, put_bound, each, written_out}
 use Rattle.notes_value.specs.Reads.{IsReadable}
 use Rattle.notes_value.specs.declared.expressions.Expr as code

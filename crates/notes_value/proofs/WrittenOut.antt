@@ -1,9 +1,9 @@
 -- Expressions with a number in place of the bound name, and `all` written out.
 use Rattle.std.proofs.Common.{◌≡◌, ℕ, ◌+◌, refl, ap, ◌∙◌, List, [], ◌∷◌, map}
 use Rattle.std.specs.Prelude.{not}
-use Rattle.bilv_spec.specs.Words.{bit}
-use Rattle.bilv_spec.specs.Memory.{Endian, load}
-use Rattle.bilv_spec.specs.State.{State}
+use Rattle.word_spec.specs.Words.{bit}
+use Rattle.word_spec.specs.Memory.{Endian, load}
+use Rattle.word_spec.specs.State.{State}
 use Rattle.bilv_spec.specs.Notes.{Expr, Number, Register, Flag, Pc, Bound, Memory, Old, Not, Binary, Each, value, is_true, apply, put_bound, each, values, written_out}
 use Rattle.bilv_spec.specs.Points.{bytes_loaded}
 

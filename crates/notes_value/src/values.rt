@@ -1,8 +1,8 @@
 //! The value of an expression.
 ghost use Rattle.std.specs.Prelude.{◌≡◌};
-ghost use Rattle.bilv_spec.specs.Memory as memory;
+ghost use Rattle.word_spec.specs.Memory as memory;
 ghost use Rattle.bilv_spec.specs.Notes as meaning;
-ghost use Rattle.bilv_spec.specs.Words as words;
+ghost use Rattle.word_spec.specs.Words as words;
 ghost use Rattle.byte_mem.specs.Views.{endian_of};
 ghost use Rattle.notes_value.specs.Views.{bytes_of, expr_of, op_of};
 ghost use Rattle.notes_value.specs.Reads.{IsReadable};

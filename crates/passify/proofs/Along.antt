@@ -1,9 +1,9 @@
 -- An edge that is tried.
 use Rattle.std.proofs.Common.{◌≡◌, ℕ, ◌+◌, Bool, List, ap, sym, ◌∙◌, subst, arith}
 use Rattle.std.specs.Prelude.{◌==◌}
-use Rattle.bilv_spec.specs.Words.{bit}
+use Rattle.word_spec.specs.Words.{bit}
 use Rattle.bilv_spec.specs.Notes.{NoteLine}
-use Rattle.bilv_spec.specs.Bil.{Equal}
+use Rattle.machine_spec.specs.Bil.{Equal}
 use Rattle.walk_spec.specs.Terms.{TermReading, TermNode, BinaryNode, HasWidth, term_word}
 use Rattle.walk_spec.specs.Unrolled.{Walk, carried_of}
 use Rattle.walk_spec.specs.Passive.{Tells}

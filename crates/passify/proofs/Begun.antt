@@ -6,7 +6,7 @@ use Rattle.std.proofs.lemmas.List.{get_or-replicate, length-replicate, replicate
 use Rattle.std.proofs.lemmas.Bool.{true≢false}
 use Rattle.std.proofs.lemmas.Bool.Decides.{nat_tests}
 use Rattle.bilv_spec.specs.Questions.{Reading, IsReading}
-use Rattle.bilv_spec.specs.RowFiles.{from_to}
+use Rattle.word_spec.specs.RowFiles.{from_to}
 use Rattle.walk_spec.specs.Terms.{InRange, TermReading, TermNode, ConstantNode, HasWidth}
 use Rattle.walk_spec.specs.Unrolled.{UnrolledProgram, carried_of}
 use Rattle.walk_spec.specs.Sweep.{Held, held}

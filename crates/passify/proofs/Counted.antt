@@ -7,12 +7,12 @@ use Rattle.std.proofs.lemmas.Nat.{mul-le}
 use Rattle.std.proofs.lemmas.List.Sums.{sum_by-cons, sum_by-append}
 use Rattle.std.proofs.lemmas.List.Concat.{flat_map-append}
 use Rattle.std.proofs.lemmas.List.Folds.{list_any-append}
-use Rattle.bilv_spec.specs.Words.{bit}
+use Rattle.word_spec.specs.Words.{bit}
 use Rattle.bilv_spec.specs.Notes as notes
 use Rattle.bilv_spec.specs.Notes.{Expr, NoteLine}
 use Rattle.bilv_spec.specs.Points.{line_price, bytes_loaded}
-use Rattle.bilv_spec.specs.Bil.{list_size}
-use Rattle.bilv_spec.specs.BilCounts.{list_weight, byte_loads, byte_stores}
+use Rattle.machine_spec.specs.Bil.{list_size}
+use Rattle.machine_spec.specs.BilCounts.{list_weight, byte_loads, byte_stores}
 use Rattle.bil_ast.specs.declared.statements.Stmt.{Stmt}
 use Rattle.bil_ast.specs.Views.{statements}
 use Rattle.bil_terms.specs.declared.stored.Stored.{Stored}

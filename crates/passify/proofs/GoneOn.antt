@@ -1,9 +1,9 @@
 -- How a point is left.
 use Rattle.std.proofs.Common.{◌≡◌, ℕ, ◌%◌, Bool, true, false, List, refl, ap, ◌∙◌, arith}
 use Rattle.std.specs.Prelude.{◌==◌, not, if◌then◌else◌}
-use Rattle.bilv_spec.specs.Words.{bit, bits, add}
-use Rattle.bilv_spec.specs.Bil.{NotEqual}
-use Rattle.bilv_spec.specs.Machine.{is_place}
+use Rattle.word_spec.specs.Words.{bit, bits, add}
+use Rattle.machine_spec.specs.Bil.{NotEqual}
+use Rattle.machine_spec.specs.Machine.{is_place}
 use Rattle.walk_spec.specs.Terms.{TermNode, BinaryNode, ConstantNode, ExtractNode, SelectNode, HasWidth, term_word, select}
 use Rattle.walk_spec.specs.Passive.{Tells}
 use Rattle.term_dag.specs.Made.{IsMade, IsInterned}

@@ -4,8 +4,8 @@ use Rattle.std.specs.Prelude.{◌==◌, if◌then◌else◌, map}
 use Rattle.walk_spec.specs.Terms.{TermReading, TermNode}
 use Rattle.term_dag.specs.Made.{Separates}
 use Rattle.term_dag.proofs.Growth.{grew_none, grew_more, inputs_none}
-use Rattle.bilv_spec.specs.Memory.{Little}
-use Rattle.bilv_spec.specs.RowFiles.{from_to}
+use Rattle.word_spec.specs.Memory.{Little}
+use Rattle.word_spec.specs.RowFiles.{from_to}
 use Rattle.term_dag.specs.declared.nodes.Term.{Term}
 use Rattle.walk_spec.specs.Passive.{AreNames, Denotes}
 use Rattle.walk_spec.specs.Passive as walk

@@ -3,10 +3,11 @@ use Rattle.std.proofs.Common.{◌≡◌, ℕ, zero, suc, ◌+◌, ◌*◌, ◌<�
 use Rattle.std.specs.Prelude.{not, if◌then◌else◌, map, slice_index_or, Option, Some}
 use Rattle.question_form.specs.Views.{no_assert}
 use Rattle.std.proofs.lemmas.List.Sums.{sum_by-cons}
-use Rattle.bilv_spec.specs.Memory.{endian, Endian}
-use Rattle.bilv_spec.specs.State.{State}
+use Rattle.word_spec.specs.Memory.{endian, Endian}
+use Rattle.word_spec.specs.State.{State}
 use Rattle.bilv_spec.specs.Notes.{Expr, value, is_true, NoteLine, Assert}
-use Rattle.bilv_spec.specs.Run.{Event, AssertFails, EnsureFails, false_line}
+use Rattle.machine_spec.specs.Endings.{Event, AssertFails, EnsureFails}
+use Rattle.bilv_spec.specs.Run.{false_line}
 use Rattle.bilv_spec.specs.Points.{line_price, bytes_loaded}
 use Rattle.walk_spec.specs.Terms.{TermReading, TermNode, HasWidth}
 use Rattle.walk_spec.specs.Unrolled.{UnrolledProgram, WalkFails, Aim, ToEvent, PointExit, state_at, walk_to, out_by, carried_of}

@@ -2,9 +2,9 @@
 use Rattle.std.proofs.Common.{◌≡◌, ℕ, suc, ◌+◌, ◌*◌, ◌<◌, ◌≤◌, Bool, true, List, [], Option, Some, None, length, refl, ap, sym, ◌∙◌, subst, arith, get_or}
 use Rattle.std.specs.Prelude.{◌-◌, not, if◌then◌else◌, slice_index, sum_by}
 use Rattle.std.specs.Global.{Vec}
-use Rattle.bilv_spec.specs.Words.{add}
-use Rattle.bilv_spec.specs.Machine.{is_place}
-use Rattle.bilv_spec.specs.Bil.{Empty}
+use Rattle.word_spec.specs.Words.{add}
+use Rattle.machine_spec.specs.Machine.{is_place}
+use Rattle.machine_spec.specs.Bil.{Empty}
 use Rattle.bilv_spec.specs.Notes as notes
 use Rattle.bilv_spec.specs.Notes.{Expr, NoteLine}
 use Rattle.bilv_spec.specs.Points.{line_price, bytes_loaded}

@@ -2,7 +2,7 @@
 use Rattle.std.proofs.Common.{◌≡◌, ℕ, ◌+◌, Bool, true, false, List, [], ◌∷◌, ◌++◌, map, refl, ap, sym, ◌∙◌, subst, arith}
 use Rattle.std.specs.Prelude.{sum_by}
 use Rattle.bilv_spec.specs.Notes.{NoteLine}
-use Rattle.bilv_spec.specs.Run.{CodeWritten, AlignFails}
+use Rattle.machine_spec.specs.Endings.{CodeWritten, AlignFails}
 use Rattle.walk_spec.specs.Terms.{TermReading, InRange, TermNode, HasWidth, term_word}
 use Rattle.walk_spec.specs.Unrolled.{PointExit, Raising, WritingKept, Unaligned, WalkFails, carried_of, state_at, first_aim, is_raised, is_unaligned, raised_event}
 use Rattle.walk_spec.specs.Sweep.{Held, held_if}

@@ -2,12 +2,12 @@
 use Rattle.std.proofs.Common.{◌≡◌, ℕ, suc, ◌+◌, ◌*◌, ◌≤◌, Bool, true, false, List, [], ◌∷◌, Option, Some, None, length, map, refl, ap, sym, ◌∙◌, subst, arith, inl, inr, ◌↔◌, ◌⊎◌, Contains, not}
 use Rattle.std.specs.Prelude.{if◌then◌else◌, sum_by}
 use Rattle.std.specs.Global.{Vec}
-use Rattle.bilv_spec.specs.Words.{bit, add}
-use Rattle.bilv_spec.specs.Machine.{is_place}
-use Rattle.bilv_spec.specs.State.{State}
-use Rattle.bilv_spec.specs.Bil.{Statements, list_size}
-use Rattle.bilv_spec.specs.BilCounts.{list_weight, byte_loads, byte_stores, unknowns}
-use Rattle.bilv_spec.specs.BilMeaning.{Ending, Ends, RaisesException, OutOfTurns, Wrong, execute}
+use Rattle.word_spec.specs.Words.{bit, add}
+use Rattle.machine_spec.specs.Machine.{is_place}
+use Rattle.word_spec.specs.State.{State}
+use Rattle.machine_spec.specs.Bil.{Statements, list_size}
+use Rattle.machine_spec.specs.BilCounts.{list_weight, byte_loads, byte_stores, unknowns}
+use Rattle.machine_spec.specs.BilMeaning.{Ending, Ends, RaisesException, OutOfTurns, Wrong, execute}
 use Rattle.bil_ast.specs.declared.statements.Stmt.{Stmt}
 use Rattle.bil_ast.specs.Views.{statements}
 use Rattle.bil_terms.specs.declared.left.Left.{Left}

@@ -2,9 +2,9 @@
 use Rattle.std.proofs.Common.{◌≡◌, inl, inr, ℕ, ◌+◌, ◌-◌, ◌*◌, ◌<◌, ◌≤◌, Bool, true, false, List, [], ◌∷◌, ◌++◌, refl, ap, sym, ◌∙◌, subst, arith}
 use Rattle.std.specs.Prelude.{◌&&◌, not, ◌==◌, if◌then◌else◌}
 use Rattle.std.proofs.lemmas.Bool.Decides.{nat_tests}
-use Rattle.bilv_spec.specs.Words.{bit}
-use Rattle.bilv_spec.specs.Words as Words
-use Rattle.bilv_spec.specs.Memory.{endian}
+use Rattle.word_spec.specs.Words.{bit}
+use Rattle.word_spec.specs.Words as Words
+use Rattle.word_spec.specs.Memory.{endian}
 use Rattle.bilv_spec.specs.Notes.{Expr, value, is_true}
 use Rattle.bilv_spec.specs.Points.{line_price, bytes_loaded, products, operations, value_count}
 use Rattle.walk_spec.specs.Prices.{line_size}

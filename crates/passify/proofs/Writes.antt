@@ -5,9 +5,9 @@ use Rattle.std.proofs.lemmas.Bool.Decides.{nat_tests}
 use Rattle.std.proofs.Math.Seq.{take-length}
 use Rattle.std.proofs.lemmas.List.{map-append, take_more, length-map, get_or-map}
 use Rattle.std.proofs.lemmas.List.Folds.{list_any-append, list_any_more}
-use Rattle.bilv_spec.specs.Words.{add, sub, bit}
-use Rattle.bilv_spec.specs.Memory.{span}
-use Rattle.bilv_spec.specs.Bil.{Minus, LessEqual}
+use Rattle.word_spec.specs.Words.{add, sub, bit}
+use Rattle.word_spec.specs.Memory.{span}
+use Rattle.machine_spec.specs.Bil.{Minus, LessEqual}
 use Rattle.bilv_spec.proofs.PointTests.{any_is, not_any}
 use Rattle.walk_spec.specs.Terms.{TermReading, TermNode, BinaryNode, ConstantNode, AreTyped, HasWidth, term_word}
 use Rattle.walk_spec.specs.Unrolled.{AddressRun, is_in}

@@ -1,6 +1,6 @@
 -- The exits of a point, tried one by one.
 use Rattle.std.specs.Prelude.{ℕ, ◌≡◌, Bool, true, false, not, List}
-use Rattle.bilv_spec.specs.Memory.{endian}
+use Rattle.word_spec.specs.Memory.{endian}
 use Rattle.bilv_spec.specs.Notes.{Expr, value, is_true}
 use Rattle.walk_spec.specs.Terms.{TermReading, InRange, TermNode, term_word}
 use Rattle.walk_spec.specs.Unrolled.{Walk, Carried, state_at}

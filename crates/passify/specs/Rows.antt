@@ -3,7 +3,7 @@ use Rattle.std.specs.Prelude.{ℕ, suc, ◌≡◌, ◌≤◌, ◌+◌, ◌*◌, 
 use Rattle.std.specs.List.{list_any}
 use Rattle.bilv_spec.specs.Notes.{Expr, NoteLine}
 use Rattle.bilv_spec.specs.Points.{line_price, bytes_loaded}
-use Rattle.bilv_spec.specs.State.{State}
+use Rattle.word_spec.specs.State.{State}
 use Rattle.walk_spec.specs.Terms.{TermReading, InRange, TermNode, ChoiceNode, HasWidth, term_word}
 use Rattle.walk_spec.specs.Unrolled.{UnrolledProgram, UnrolledPoint, Raising, WritingKept, Unaligned, Carried, state_at, carried_on, next_address, leaving, stored_at, is_in, is_raised, is_unaligned}
 use Rattle.walk_spec.specs.Sweep.{Held}

@@ -1,7 +1,7 @@
 -- The exits of a point under a reading.
 use Rattle.std.specs.Prelude.{ℕ, ◌≡◌, ◌≤◌, ◌+◌, ◌*◌, Bool, List, ◌++◌, map, slice_index_or, sum_by}
-use Rattle.bilv_spec.specs.Memory.{endian}
-use Rattle.bilv_spec.specs.State.{State}
+use Rattle.word_spec.specs.Memory.{endian}
+use Rattle.word_spec.specs.State.{State}
 use Rattle.bilv_spec.specs.Notes.{Expr, Number, Assert, NoteLine}
 use Rattle.bilv_spec.specs.Run.{false_line}
 use Rattle.bilv_spec.specs.Points.{line_price, bytes_loaded}

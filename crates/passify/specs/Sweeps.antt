@@ -1,6 +1,6 @@
 -- What is kept of the points while they are handled in their order.
 use Rattle.std.specs.Prelude.{ℕ, ◌≡◌, ◌≤◌, ◌<◌, ◌+◌, ◌*◌, Bool, true, false, List, Option, Some, length, slice_get, slice_index_or}
-use Rattle.bilv_spec.specs.Run.{Event}
+use Rattle.machine_spec.specs.Endings.{Event}
 use Rattle.walk_spec.specs.Terms.{TermReading, InRange, TermNode, AreTyped, HasWidth, term_word}
 use Rattle.walk_spec.specs.Unrolled.{Carried, Walk, WalkIsAt, WalkFails}
 use Rattle.walk_spec.specs.Sweep.{Held, held_if, hand}

@@ -1,8 +1,8 @@
 //! How a point is left.
 
 ghost use Rattle.std.specs.Prelude.{◌≡◌, ℕ, ◌+◌, ◌%◌, ◌^◌, ◌<◌, ◌==◌, not, Bool, if◌then◌else◌, IfOk};
-ghost use Rattle.bilv_spec.specs.Words.{add};
-ghost use Rattle.bilv_spec.specs.Machine.{is_place};
+ghost use Rattle.word_spec.specs.Words.{add};
+ghost use Rattle.machine_spec.specs.Machine.{is_place};
 ghost use Rattle.walk_spec.specs.Terms.{HasWidth, term_word};
 ghost use Rattle.walk_spec.specs.Passive.{Tells};
 ghost use Rattle.passify.specs.Bits.{Makes};

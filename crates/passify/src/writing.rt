@@ -2,7 +2,7 @@
 
 ghost use Rattle.std.specs.Prelude.{◌≤◌, ◌<◌, ◌+◌, ◌*◌, ◌^◌, ◌&&◌, ◌||◌, Bool, nat_le, IfOk, Contains, length, map};
 ghost use Rattle.std.specs.List.{list_any};
-ghost use Rattle.bilv_spec.specs.Memory.{span};
+ghost use Rattle.word_spec.specs.Memory.{span};
 ghost use Rattle.walk_spec.specs.Terms.{AreTyped, HasWidth, term_word};
 ghost use Rattle.walk_spec.specs.Unrolled.{is_in};
 ghost use Rattle.walk_spec.specs.Unrolling.{AreRuns};

@@ -4,7 +4,7 @@ use Rattle.std.specs.Prelude.{map, slice_get, Contains, ◌==◌, ◌&&◌, if�
 use Rattle.std.specs.List.{filter_map, cons_option}
 use Rattle.std.proofs.lemmas.Bool.Decides.{nat_tests}
 use Rattle.std.proofs.lemmas.Option.{slice_get-get_or, slice_get_within}
-use Rattle.bilv_spec.specs.Words.{add}
+use Rattle.word_spec.specs.Words.{add}
 use Rattle.bilv_spec.specs.Points.{is_top}
 use Rattle.bilv_spec.specs.Graph as graph
 use Rattle.bilv_spec.specs.Graph.{NextLetter, JumpLetter, CallLetter, ReturnLetter}

@@ -1,6 +1,6 @@
 -- The ends of a point at its node are its edges to addresses.
 use Rattle.std.proofs.Common.{sym, subst}
-use Rattle.bilv_spec.specs.Words.{add}
+use Rattle.word_spec.specs.Words.{add}
 use Rattle.bilv_spec.specs.Graph.{successors_at, may_return}
 use Rattle.graph_nodes.specs.Graphs.{successors_of}
 use Rattle.program_points.specs.Tables.{stack_at}

@@ -1,7 +1,7 @@
 -- Which ends of a point at its node are taken by going on, and which by a jump.
 use Rattle.std.proofs.Common.{◌≡◌, ℕ, List, refl, sym, ap, ◌∙◌, subst}
 use Rattle.std.specs.Prelude.{Contains, not, filter, map}
-use Rattle.bilv_spec.specs.Words.{add}
+use Rattle.word_spec.specs.Words.{add}
 use Rattle.bilv_spec.specs.Graph as graph
 use Rattle.bilv_spec.specs.Graph.{NextLetter, successors_at, may_return}
 use Rattle.bilv_spec.proofs.PointSteps.{in_filter, in_map}

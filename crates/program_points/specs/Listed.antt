@@ -1,6 +1,6 @@
 -- What a list of points says of a program.
 use Rattle.std.specs.Prelude.{ℕ, ◌≡◌, ◌≢◌, ◌+◌, ◌<◌, ◌≤◌, true, List, [], ◌∷◌, Some, None, map, length, slice_get, slice_index_or}
-use Rattle.bilv_spec.specs.Machine.{Row}
+use Rattle.machine_spec.specs.Machine.{Row}
 use Rattle.bilv_spec.specs.Run.{Program}
 use Rattle.bilv_spec.specs.Points as points
 use Rattle.bilv_spec.specs.Points.{file_row, ArePoints, HasMore}

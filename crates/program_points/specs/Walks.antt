@@ -1,7 +1,7 @@
 -- How far the listing of points has come.
 use Rattle.std.specs.Prelude.{ℕ, ◌%◌, ◌≡◌, ◌<◌, ◌≤◌, List, Some, Contains, length, slice_get, ◌↔◌}
 use Rattle.bilv_spec.specs.Run.{Program}
-use Rattle.bilv_spec.specs.Machine.{Row}
+use Rattle.machine_spec.specs.Machine.{Row}
 use Rattle.bilv_spec.specs.Points.{ToAddress, edges, end_of, file_row, fall_ends, jump_ends, IsPoint}
 use Rattle.bilv_spec.specs.Points as points
 use Rattle.program_points.specs.declared.values.Frame.{Frame}
@@ -14,7 +14,7 @@ use Rattle.graph_nodes.specs.Graphs.{addresses_of, IsNode}
 use Rattle.graph_nodes.specs.Places.{AreRising}
 use Rattle.graph_nodes.specs.declared.nodes.Letter.TheVariants.{Next, Call}
 use Rattle.graph_nodes.specs.declared.nodes.Successor.{Successor}
-use Rattle.bilv_spec.specs.Words.{add}
+use Rattle.word_spec.specs.Words.{add}
 use Rattle.program_points.specs.declared.values.End.{End}
 
 -- the points are points of the program, with the entry's; where there are no more than may be, what the first n lead to is among them

@@ -1,6 +1,6 @@
 -- Passive programs and questions as those of the definitions.
 use Rattle.std.specs.Prelude.{map}
-use Rattle.bilv_spec.specs.Questions as questions
+use Rattle.call_spec.specs.Calls as questions
 use Rattle.walk_spec.specs.Passive as walk
 use Rattle.walk_spec.specs.Unrolled.{UnrolledProgram}
 use Rattle.walk_spec.specs.WalkQuestions.{QuestionTerm}

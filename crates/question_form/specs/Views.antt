@@ -1,10 +1,10 @@
 -- The unrolled program of the definitions that a value stands for.
 use Rattle.std.specs.Prelude.{ℕ, Bool, false, List, [], ◌∷◌, ◌++◌, Option, Some, None, length, map, slice_index_or, slice_range}
-use Rattle.bilv_spec.specs.Memory.{endian}
+use Rattle.word_spec.specs.Memory.{endian}
 use Rattle.bilv_spec.specs.Notes as notes
-use Rattle.bilv_spec.specs.Bil.{Empty}
-use Rattle.bilv_spec.specs.RowFiles.{from_to}
-use Rattle.bilv_spec.specs.Questions.{Question, EntryQuestion, FailQuestion, TurnQuestion}
+use Rattle.machine_spec.specs.Bil.{Empty}
+use Rattle.word_spec.specs.RowFiles.{from_to}
+use Rattle.call_spec.specs.Calls.{Question, EntryQuestion, FailQuestion, TurnQuestion}
 use Rattle.walk_spec.specs.Unrolled as walk
 use Rattle.walk_spec.specs.Unrolled.{Aim as WalkAim, PointExit, FalseAssert, Always, Raising, WritingKept, Unaligned, Along, Action, Executes, UnrolledPoint, UnrolledProgram, AddressRun}
 use Rattle.walk_spec.specs.Unrolling.{stop_event}

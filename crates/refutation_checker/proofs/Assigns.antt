@@ -4,8 +4,8 @@ use Rattle.std.specs.Prelude.{◌==◌, slice_set}
 use Rattle.std.proofs.lemmas.Bool.{cases_eq, ne_eqb}
 use Rattle.std.proofs.lemmas.Grind.{get_or-set_at}
 use Rattle.std.proofs.lemmas.List.{get_or-set_other}
-use Rattle.bilv_spec.specs.Clauses.{Literal, same_sign, opposite}
-use Rattle.bilv_spec.specs.Refutation.{added}
+use Rattle.clause_spec.specs.Clauses.{Literal, same_sign, opposite}
+use Rattle.clause_spec.specs.Refutation.{added}
 use Rattle.refutation_checker.specs.declared.slots.Slot.{Slot}
 use Rattle.refutation_checker.specs.Slots.{unset, tells, true_in, place_of}
 use Rattle.refutation_checker.proofs.Occurs.{place-same}

@@ -5,9 +5,9 @@ use Rattle.std.specs.List.{list_all}
 use Rattle.std.specs.Str.{bytes_eq}
 use Rattle.std.proofs.lemmas.Bool.{and_parts, and_from, cases_Bool}
 use Rattle.std.proofs.lemmas.Bool.Decides.{nat_tests}
-use Rattle.bilv_spec.specs.Clauses.{Literal}
-use Rattle.bilv_spec.specs.Refutation.{LogLine, Bad, is_of_grammar, is_listed, greatest_number, hint_size}
-use Rattle.bilv_spec.specs.CertificateGrammar.{Integer, parts, before_first, is_zero, is_ended, some_below, added_by, deleted_by, literal_of, hint_by, hint_of, words_of, integer_of, numbers_of, clauses_line, line_by_number, line_by_id, line_behind_id, line_of_numbers, proof_line}
+use Rattle.clause_spec.specs.Clauses.{Literal}
+use Rattle.clause_spec.specs.Refutation.{LogLine, Bad, is_of_grammar, is_listed, greatest_number, hint_size}
+use Rattle.clause_spec.specs.CertificateGrammar.{Integer, parts, before_first, is_zero, is_ended, some_below, added_by, deleted_by, literal_of, hint_by, hint_of, words_of, integer_of, numbers_of, clauses_line, line_by_number, line_by_id, line_behind_id, line_of_numbers, proof_line}
 use Rattle.cnf_form.specs.Numbers.{capped}
 use Rattle.refutation_checker.specs.Readings.{read_as}
 

@@ -1,7 +1,7 @@
 -- A whole log, line by line.
 use Rattle.std.proofs.Common.{◌≡◌, ℕ, ◌<◌, ◌+◌, ◌-◌, List, ◌∷◌, Option, Some, None, arith, sym, ap, ◌∙◌, length, drop, drop-cons, add-one, get_or}
-use Rattle.bilv_spec.specs.Clauses.{Clause}
-use Rattle.bilv_spec.specs.Refutation.{LogLine, Bad, Cause, Known, known_at_start, known_after, judge, after_judge, first_refusal, refusal}
+use Rattle.clause_spec.specs.Clauses.{Clause}
+use Rattle.clause_spec.specs.Refutation.{LogLine, Bad, Cause, Known, known_at_start, known_after, judge, after_judge, first_refusal, refusal}
 use Rattle.refutation_checker.specs.Known.{known_behind}
 use Rattle.refutation_checker.proofs.Taken.{known_through-more}
 

@@ -2,9 +2,9 @@
 use Rattle.std.proofs.Common.{◌≡◌, ℕ, Bool, false, List, ◌∷◌, Option, Some, sym, ap, ◌∙◌, ◌<◌, arith}
 use Rattle.std.specs.Prelude.{nat_le}
 use Rattle.std.proofs.lemmas.Bool.Decides.{nat_tests}
-use Rattle.bilv_spec.specs.Clauses.{Literal, Clause}
-use Rattle.bilv_spec.specs.UnitPropagation.{negations}
-use Rattle.bilv_spec.specs.Refutation.{Hint, ById, Present, UnitOf, look_of, judge_hints, added, Cause, Known, judge_added, some_above, is_tautology, some_negative}
+use Rattle.clause_spec.specs.Clauses.{Literal, Clause}
+use Rattle.clause_spec.specs.UnitPropagation.{negations}
+use Rattle.clause_spec.specs.Refutation.{Hint, ById, Present, UnitOf, look_of, judge_hints, added, Cause, Known, judge_added, some_above, is_tautology, some_negative}
 
 pub fun_ext : {A B : Type 0} (f g : A → B) → ((x : A) → f x ≡ g x) → f ≡ g
 fun_ext f g h = λ i. λ x. h x i

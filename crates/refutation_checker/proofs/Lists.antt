@@ -3,10 +3,10 @@ use Rattle.std.proofs.Common.{◌≡◌, ℕ, Bool, true, false, not, ◌&&◌, 
 use Rattle.std.specs.Prelude.{◌==◌, nat_le}
 use Rattle.std.specs.List.{list_all}
 use Rattle.std.proofs.lemmas.Bool.{and_parts, cases_Bool, both_ways, ne_eqb}
-use Rattle.bilv_spec.specs.Clauses.{Literal}
-use Rattle.bilv_spec.specs.Refutation.{LogLine, Add, Bad, is_of_grammar, is_listed, greatest_number}
-use Rattle.bilv_spec.specs.CertificateGrammar.{Integer, parts, before_first, is_zero, is_ended, added_by, deleted_by, literal_of, hint_of}
-use Rattle.bilv_spec.proofs.PrintedWords.{parts_last}
+use Rattle.clause_spec.specs.Clauses.{Literal}
+use Rattle.clause_spec.specs.Refutation.{LogLine, Add, Bad, is_of_grammar, is_listed, greatest_number}
+use Rattle.clause_spec.specs.CertificateGrammar.{Integer, parts, before_first, is_zero, is_ended, added_by, deleted_by, literal_of, hint_of}
+use Rattle.clause_spec.proofs.PrintedWords.{parts_last}
 use Rattle.refutation_checker.specs.Readings.{read_as}
 
 abbrev nonzero : Integer → Bool

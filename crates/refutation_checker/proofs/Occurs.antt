@@ -4,10 +4,10 @@ use Rattle.std.specs.Prelude.{◌==◌}
 use Rattle.std.specs.List.{Contains}
 use Rattle.std.proofs.lemmas.Bool.{cases_Bool, cases_eq, cases_order, or_cases, eqb-true, ne_eqb}
 use Rattle.std.proofs.lemmas.List.Elements.{Contains-append_left, Contains-append_right}
-use Rattle.bilv_spec.specs.Clauses.{Literal, Clause, same, has, AreOnVariables}
-use Rattle.bilv_spec.specs.Refutation.{Hint, LogLine, Add, at_start}
-use Rattle.bilv_spec.proofs.Looks.{same-true}
-use Rattle.bilv_spec.proofs.RefutationSound.{get-contains}
+use Rattle.clause_spec.specs.Clauses.{Literal, Clause, same, has, AreOnVariables}
+use Rattle.clause_spec.specs.Refutation.{Hint, LogLine, Add, at_start}
+use Rattle.clause_spec.proofs.Looks.{same-true}
+use Rattle.clause_spec.proofs.RefutationSound.{get-contains}
 use Rattle.refutation_checker.specs.Entries.{IsRising}
 use Rattle.refutation_checker.specs.Known.{HaveSlots}
 use Rattle.refutation_checker.specs.Occurrences.{variables_of, variables_in, variables_by, variables_added}

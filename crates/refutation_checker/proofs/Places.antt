@@ -5,7 +5,7 @@ use Rattle.std.specs.List.{list_any}
 use Rattle.std.proofs.lemmas.Bool.{eqb-true, cases_Bool, cases_eq, ne_eqb}
 use Rattle.std.proofs.lemmas.List.{get_or-map, length-map, take_more}
 use Rattle.std.proofs.Math.Seq.{map-set_same}
-use Rattle.bilv_spec.specs.Clauses.{Clause}
+use Rattle.clause_spec.specs.Clauses.{Clause}
 use Rattle.refutation_checker.specs.declared.entries.Entry.{Entry}
 use Rattle.refutation_checker.specs.Entries.{look_up, present_in, ids_of, IsRising}
 

@@ -4,8 +4,8 @@ use Rattle.std.specs.Prelude.{◌==◌, max, if◌then◌else◌}
 use Rattle.std.proofs.lemmas.Bool.{eqb-true, cases_Bool, ne_eqb, cases_eq}
 use Rattle.std.proofs.lemmas.List.{map-append, get_or_append_left}
 use Rattle.std.proofs.Math.Seq.{get_or-append_seam}
-use Rattle.bilv_spec.specs.Clauses.{Clause}
-use Rattle.bilv_spec.specs.Refutation.{Hint, Known, Present, Add, is_empty_clause, present_after, known_after_line}
+use Rattle.clause_spec.specs.Clauses.{Clause}
+use Rattle.clause_spec.specs.Refutation.{Hint, Known, Present, Add, is_empty_clause, present_after, known_after_line}
 use Rattle.refutation_checker.specs.declared.entries.Entry.{Entry}
 use Rattle.refutation_checker.specs.Entries.{look_up, ids_of, IsRising}
 use Rattle.refutation_checker.proofs.Hints.{fun_ext}

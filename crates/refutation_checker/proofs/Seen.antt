@@ -1,9 +1,9 @@
 -- A look at a clause that has met one literal that is not false, or none.
 use Rattle.std.proofs.Common.{◌≡◌, ℕ, zero, suc, ◌+◌, ◌<◌, Bool, true, false, [], ◌∷◌, Option, Some, None, refl, arith, ap, ◌∙◌, length, get_or, drop, drop-cons, add-one}
 use Rattle.std.specs.Prelude.{if◌then◌else◌}
-use Rattle.bilv_spec.specs.Clauses.{Literal, Clause, same, opposite, has}
-use Rattle.bilv_spec.specs.Refutation.{Look, Other, left_over, look_left}
-use Rattle.bilv_spec.proofs.Looks.{same-self, or_left, or_right}
+use Rattle.clause_spec.specs.Clauses.{Literal, Clause, same, opposite, has}
+use Rattle.clause_spec.specs.Refutation.{Look, Other, left_over, look_left}
+use Rattle.clause_spec.proofs.Looks.{same-self, or_left, or_right}
 
 -- a look that has met one literal that is not false, or none, and has `ls` left
 abbrev pub resume : (Literal → Bool) → Option Literal → Clause → Look

@@ -3,10 +3,10 @@ use Rattle.std.proofs.Common.{◌≡◌, ℕ, ◌<◌, ◌≤◌, ◌+◌, Bool,
 use Rattle.std.specs.Prelude.{◌==◌, nat_lt}
 use Rattle.std.proofs.lemmas.Bool.{cases_Bool, or_cases, cases_eq, ne_eqb, ltb-false}
 use Rattle.std.proofs.lemmas.List.{take_more}
-use Rattle.bilv_spec.specs.Clauses.{Literal, Clause, same, same_sign, opposite, has}
-use Rattle.bilv_spec.specs.UnitPropagation.{negations}
-use Rattle.bilv_spec.specs.Refutation.{is_tautology, some_above, added}
-use Rattle.bilv_spec.proofs.Looks.{same-true, or_left, or_right}
+use Rattle.clause_spec.specs.Clauses.{Literal, Clause, same, same_sign, opposite, has}
+use Rattle.clause_spec.specs.UnitPropagation.{negations}
+use Rattle.clause_spec.specs.Refutation.{is_tautology, some_above, added}
+use Rattle.clause_spec.proofs.Looks.{same-true, or_left, or_right}
 use Rattle.refutation_checker.specs.declared.slots.Slot.{Slot}
 use Rattle.refutation_checker.specs.Slots.{unset, true_in, place_of, AreUpTo}
 

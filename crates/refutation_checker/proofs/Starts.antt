@@ -3,8 +3,8 @@ use Rattle.std.proofs.Common.{◌≡◌, ℕ, zero, suc, ◌<◌, ◌≤◌, ◌
 use Rattle.std.specs.Prelude.{◌==◌, slice_get, if◌then◌else◌}
 use Rattle.std.proofs.lemmas.Bool.{ne_eqb, cases_order}
 use Rattle.std.proofs.lemmas.Option.{slice_get_past, slice_get-get_or}
-use Rattle.bilv_spec.specs.Clauses.{Clause}
-use Rattle.bilv_spec.specs.Refutation.{at_start}
+use Rattle.clause_spec.specs.Clauses.{Clause}
+use Rattle.clause_spec.specs.Refutation.{at_start}
 use Rattle.refutation_checker.specs.Slots.{unset}
 
 get-take : (cs : List Clause) (k i : ℕ) (d : Clause) → i < k → k ≤ length cs → slice_get (take k cs) i ≡ Some (get_or cs i d)

@@ -3,8 +3,8 @@ use Rattle.std.proofs.Common.{◌≡◌, ℕ, zero, suc, ◌<◌, ◌≤◌, ◌
 use Rattle.std.specs.Prelude.{nat_le}
 use Rattle.std.proofs.lemmas.Bool.{cases_Bool}
 use Rattle.std.proofs.lemmas.List.{get_or-map, length-map}
-use Rattle.bilv_spec.specs.Clauses.{Clause, Cnf}
-use Rattle.bilv_spec.specs.Refutation.{Hint, LogLine, Add, Known, known_after, known_after_line, judge_added, some_above}
+use Rattle.clause_spec.specs.Clauses.{Clause, Cnf}
+use Rattle.clause_spec.specs.Refutation.{Hint, LogLine, Add, Known, known_after, known_after_line, judge_added, some_above}
 use Rattle.std.specs.Option.{is_some}
 use Rattle.cnf_form.specs.declared.form.Log.{Log}
 use Rattle.cnf_form.specs.declared.form.LogLine.{LogLine as DeclaredLine}

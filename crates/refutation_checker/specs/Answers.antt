@@ -1,6 +1,6 @@
 -- The causes and the refusal that an answer names.
 use Rattle.std.specs.Prelude.{ℕ, Option, Some, None}
-use Rattle.bilv_spec.specs.Refutation as refutation
+use Rattle.clause_spec.specs.Refutation as refutation
 use Rattle.refutation_checker.specs.declared.cause.Cause.{Cause}
 use Rattle.refutation_checker.specs.declared.cause.Cause.TheVariants.{NotOfGrammar, IdNotAbove, VariableAbove, Tautology, NegativeHint, UnknownHint, NotUnit, NoConflict, NoEmptyClause}
 use Rattle.refutation_checker.specs.declared.cause.Checked.{Checked}

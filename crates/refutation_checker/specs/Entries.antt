@@ -1,6 +1,6 @@
 -- The clauses that a checker keeps, by their ids.
 use Rattle.std.specs.Prelude.{ℕ, ◌<◌, ◌==◌, if◌then◌else◌, List, [], ◌∷◌, Option, Some, None, map, length, slice_index_or}
-use Rattle.bilv_spec.specs.Clauses.{Clause}
+use Rattle.clause_spec.specs.Clauses.{Clause}
 use Rattle.refutation_checker.specs.declared.entries.Entry.{Entry}
 
 -- the clause of an entry that is present

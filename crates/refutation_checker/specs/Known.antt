@@ -1,7 +1,7 @@
 -- What a checker's marks stand for.
 use Rattle.std.specs.Prelude.{◌≡◌, ℕ, ◌+◌, ◌-◌, ◌≤◌, ◌<◌, false, List, [], ◌∷◌, Some, take, length, slice_index_or, vec_len, vec_capacity}
-use Rattle.bilv_spec.specs.Clauses.{Clause, Cnf}
-use Rattle.bilv_spec.specs.Refutation.{LogLine, Add, Hint, Known, known_at_start, known_after, some_above}
+use Rattle.clause_spec.specs.Clauses.{Clause, Cnf}
+use Rattle.clause_spec.specs.Refutation.{LogLine, Add, Hint, Known, known_at_start, known_after, some_above}
 use Rattle.refutation_checker.specs.declared.marks.Marks.{Marks}
 use Rattle.refutation_checker.specs.Entries.{look_up, ids_of, IsRising}
 use Rattle.refutation_checker.specs.Slots.{AreUpTo, IsWithin}

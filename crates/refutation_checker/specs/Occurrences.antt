@@ -1,7 +1,7 @@
 -- The variables of clauses and of logs.
 use Rattle.std.specs.Prelude.{ℕ, List, [], ◌∷◌, ◌++◌, map}
-use Rattle.bilv_spec.specs.Clauses.{Literal, Clause}
-use Rattle.bilv_spec.specs.Refutation.{LogLine, Add, Delete, Bad}
+use Rattle.clause_spec.specs.Clauses.{Literal, Clause}
+use Rattle.clause_spec.specs.Refutation.{LogLine, Add, Delete, Bad}
 
 -- of a clause, one for each literal
 abbrev pub variables_of : Clause → List ℕ

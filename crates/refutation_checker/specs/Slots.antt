@@ -1,7 +1,7 @@
 -- The values of variables that a checker keeps, each with the line that set it.
 use Rattle.std.specs.Prelude.{◌≡◌, ℕ, suc, ◌≤◌, ◌<◌, Bool, true, false, ◌&&◌, ◌==◌, if◌then◌else◌, List, [], ◌∷◌, slice_index_or}
-use Rattle.bilv_spec.specs.Clauses.{Literal, Clause, same_sign, has}
-use Rattle.bilv_spec.specs.Refutation as refutation
+use Rattle.clause_spec.specs.Clauses.{Literal, Clause, same_sign, has}
+use Rattle.clause_spec.specs.Refutation as refutation
 use Rattle.refutation_checker.specs.declared.slots.Slot.{Slot}
 use Rattle.refutation_checker.specs.declared.slots.Look.{Look}
 use Rattle.refutation_checker.specs.declared.slots.Look.TheVariants.{Conflict, Unit as UnitOf, Other}

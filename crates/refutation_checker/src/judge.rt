@@ -1,8 +1,8 @@
 //! Judges one line.
 ghost use Rattle.std.specs.Prelude.{◌≡◌, ℕ, ◌<◌, ◌+◌, ◌^◌, Some, None, true, false, length, map, option_map, nat_lt, nat_le, ◌&&◌};
 ghost use Rattle.std.specs.List.{list_all};
-ghost use Rattle.bilv_spec.specs.Clauses.{Literal, Clause as SpecClause};
-ghost use Rattle.bilv_spec.specs.Refutation.{judge_hints, judge_added, is_of_grammar, is_listed, hint_size, some_above, some_negative};
+ghost use Rattle.clause_spec.specs.Clauses.{Literal, Clause as SpecClause};
+ghost use Rattle.clause_spec.specs.Refutation.{judge_hints, judge_added, is_of_grammar, is_listed, hint_size, some_above, some_negative};
 ghost use Rattle.cnf_form.specs.Views.{hint_of, line_of};
 ghost use Rattle.refutation_checker.specs.Answers.{cause_of};
 ghost use Rattle.refutation_checker.specs.Slots.{true_in, AreUpTo, IsWithin};

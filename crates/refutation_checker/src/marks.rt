@@ -1,7 +1,7 @@
 //! What a checker keeps between two lines, and the check of a whole log.
 ghost use Rattle.std.specs.Prelude.{◌≡◌, ℕ, ◌≤◌, ◌<◌, ◌+◌, ◌-◌, List, Some, None, IfOk, IfSome, option_map, take, length, slice_index_or, vec_len, vec_capacity};
-ghost use Rattle.bilv_spec.specs.Clauses.{AreOnVariables, Unsatisfiable};
-ghost use Rattle.bilv_spec.specs.Refutation as spec;
+ghost use Rattle.clause_spec.specs.Clauses.{AreOnVariables, Unsatisfiable};
+ghost use Rattle.clause_spec.specs.Refutation as spec;
 ghost use Rattle.cnf_form.specs.Views.{cnf_of, lines_of};
 ghost use Rattle.refutation_checker.specs.Answers.{cause_of, refusal_of};
 ghost use Rattle.refutation_checker.specs.Known.{HaveTaken, IsGood, known_of, known_behind};

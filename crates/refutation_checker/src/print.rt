@@ -1,7 +1,7 @@
 //! The text of a log (LRAT).
 ghost use Rattle.std.specs.Prelude.{◌≡◌, ◌++◌, ◌∷◌, [], List, ℕ, codes, IfOk, OnOk, length, map};
-ghost use Rattle.bilv_spec.specs.Certificates.{hint_text, to_zero, log_line, log_text};
-ghost use Rattle.bilv_spec.specs.Texts.{lines, number_text, joined};
+ghost use Rattle.clause_spec.specs.Certificates.{hint_text, to_zero, log_line, log_text};
+ghost use Rattle.word_spec.specs.Texts.{lines, number_text, joined};
 ghost use Rattle.cnf_form.specs.Views.{hint_of, line_of, lines_of};
 
 use cnf_form::print::{print_literals, print_number};

@@ -1,7 +1,7 @@
 //! Reads a log (LRAT).
 ghost use Rattle.std.specs.Prelude.{◌≡◌, ◌++◌, ◌∷◌, [], List, ℕ, IfOk, map, not, ◌&&◌};
 ghost use Rattle.std.specs.List.{list_any};
-ghost use Rattle.bilv_spec.specs.CertificateGrammar.{Integer, parts, is_zero, is_ended, some_below, added_by, deleted_by, proof_line, log_of, hint_of as hint_from};
+ghost use Rattle.clause_spec.specs.CertificateGrammar.{Integer, parts, is_zero, is_ended, some_below, added_by, deleted_by, proof_line, log_of, hint_of as hint_from};
 ghost use Rattle.cnf_form.specs.Views.{hint_of, line_of, lines_of};
 ghost use Rattle.refutation_checker.specs.Readings.{read_as};
 

@@ -3,9 +3,9 @@
 //! Each value carries the number of the line that set it, and says nothing at another line. So no line has to take back what it set.
 //! A variable has its slot at its place among the names.
 ghost use Rattle.std.specs.Prelude.{◌≡◌, ℕ, ◌<◌, ◌^◌, true, false, length};
-ghost use Rattle.bilv_spec.specs.Clauses.{Literal, opposite};
-ghost use Rattle.bilv_spec.specs.UnitPropagation.{negations};
-ghost use Rattle.bilv_spec.specs.Refutation.{added, look_of, is_tautology};
+ghost use Rattle.clause_spec.specs.Clauses.{Literal, opposite};
+ghost use Rattle.clause_spec.specs.UnitPropagation.{negations};
+ghost use Rattle.clause_spec.specs.Refutation.{added, look_of, is_tautology};
 ghost use Rattle.refutation_checker.specs.Entries.{IsRising};
 ghost use Rattle.refutation_checker.specs.Slots.{true_in, place_of, AreUpTo, IsWithin, seen_as};
 

@@ -2,13 +2,15 @@
 use Rattle.std.proofs.Common.{◌≡◌, ℕ, ◌-◌, ◌≤◌, ◌<◌, ◌+◌, ◌%◌, List, length, true, false, Some, None, ap, sym, ◌∙◌, subst, arith, ne_eqb, eq-eqb}
 use Rattle.std.specs.Prelude.{Bool, Option, nat_lt}
 use Rattle.std.proofs.lemmas.Bool.Decides.{nat_tests}
-use Rattle.bilv_spec.specs.Run.{Program, Start}
+use Rattle.bilv_spec.specs.Run.{Program}
+use Rattle.machine_spec.specs.Endings.{Start, NamedEnding, FailsBy, UnknownBy, named_step}
 use Rattle.bilv_spec.specs.Points.{is_known_at}
 use Rattle.bilv_spec.specs.EntryFaults.{UnalignedLink, FalseRequire, IsEntryStateFault, false_require}
-use Rattle.bilv_spec.specs.Reports.{NamedEnding, FailsBy, UnknownBy, Found, found, named_step}
-use Rattle.bilv_spec.specs.StateText.{Layout, StateText, Told, StateIs, IsWritten, IsNamed, last_step, state_of}
-use Rattle.bilv_spec.specs.Replays.{text_limit, bound_of, found_of, require_answer, start_answer, run_answer, told_answer, sized_answer, replay_answer}
-use Rattle.bilv_spec.proofs.StateTold.{told_is_printed}
+use Rattle.bilv_spec.specs.Reports.{Found, found}
+use Rattle.machine_spec.specs.StateText.{Layout, StateText, Told, StateIs, IsWritten, IsNamed, last_step, state_of}
+use Rattle.clause_spec.specs.Checks.{text_limit}
+use Rattle.bilv_spec.specs.Replays.{bound_of, found_of, require_answer, start_answer, run_answer, told_answer, sized_answer, replay_answer}
+use Rattle.machine_spec.proofs.StateRead.{told_is_printed}
 
 module _ (p : Program) (named : NamedEnding) (start : Start) where
   pub unaligned_is : IsEntryStateFault p start.state UnalignedLink → start_answer false p named start ≡ run_answer p named start

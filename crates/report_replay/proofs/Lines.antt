@@ -1,7 +1,7 @@
 -- What a text says by the lines of its bytes.
 use Rattle.std.proofs.Common.{◌≡◌, ℕ, suc, ◌+◌, ◌<◌, List, length, get_or, drop, drop-cons, true, false, ap, sym, ◌∙◌, arith}
 use Rattle.std.specs.Prelude.{Bool, if◌then◌else◌}
-use Rattle.bilv_spec.specs.StateText.{Told, StateRefused, StateByteFault}
+use Rattle.machine_spec.specs.StateText.{Told, StateRefused, StateByteFault}
 use Rattle.state_text.specs.Readings.{told_but}
 
 -- the byte at a place of the list is known, or it is not

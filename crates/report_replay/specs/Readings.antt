@@ -1,9 +1,9 @@
 -- What is read of the text of a report, as definitions see it.
 use Rattle.std.specs.Prelude.{ℕ, ◌≡◌, ◌≤◌, List}
 use Rattle.bilv_spec.specs.Files.{program_of}
-use Rattle.bilv_spec.specs.Machine.{Machine}
+use Rattle.machine_spec.specs.Machine.{Machine}
 use Rattle.bilv_spec.specs.Points.{is_known_at}
-use Rattle.bilv_spec.specs.StateText as texts
+use Rattle.machine_spec.specs.StateText as texts
 use Rattle.state_text.specs.Starts.{text_of}
 use Rattle.state_text.specs.Readings.{fault_of}
 use Rattle.notes_lang.specs.Drafting.{notes_of}

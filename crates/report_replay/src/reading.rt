@@ -1,9 +1,9 @@
 //! What the text of a report says, where the file gives some bytes.
 ghost use Rattle.std.specs.Prelude.{◌≡◌, ℕ, ◌+◌, ◌≤◌, ◌<◌, ◌^◌, IfOk, MatchOption, length};
 ghost use Rattle.bilv_spec.specs.Files.{program_of};
-ghost use Rattle.bilv_spec.specs.Machine.{Machine};
+ghost use Rattle.machine_spec.specs.Machine.{Machine};
 ghost use Rattle.bilv_spec.specs.Points.{is_known_at};
-ghost use Rattle.bilv_spec.specs.StateText.{Told, StateRefused, StateByteFault, state_of};
+ghost use Rattle.machine_spec.specs.StateText.{Told, StateRefused, StateByteFault, state_of};
 ghost use Rattle.state_text.specs.Starts.{layout_of};
 ghost use Rattle.state_text.specs.Readings.{told_but};
 ghost use Rattle.notes_lang.specs.Drafting.{notes_of};

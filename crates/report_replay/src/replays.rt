@@ -1,8 +1,9 @@
 //! The judgement of a report.
 ghost use Rattle.std.specs.Prelude.{◌≡◌, ℕ, IfOk};
 ghost use Rattle.bilv_spec.specs.Files.{order_of, program_of};
-ghost use Rattle.bilv_spec.specs.Answers.{plain_answer};
-ghost use Rattle.bilv_spec.specs.Replays.{replay_answer, text_limit};
+ghost use Rattle.call_spec.specs.Calls.{plain_answer};
+ghost use Rattle.bilv_spec.specs.Replays.{replay_answer};
+ghost use Rattle.clause_spec.specs.Checks.{text_limit};
 ghost use Rattle.notes_lang.specs.Drafting.{notes_of};
 ghost use Rattle.notes_value.specs.Reads.{AreReadable};
 

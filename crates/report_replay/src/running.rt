@@ -1,13 +1,14 @@
 //! The run of a named ending.
 ghost use Rattle.std.specs.Prelude.{◌≡◌, ℕ, ◌+◌, ◌≤◌, IfOk};
-ghost use Rattle.bilv_spec.specs.Run.{Program, Start};
+ghost use Rattle.bilv_spec.specs.Run.{Program};
+ghost use Rattle.machine_spec.specs.Endings.{Start, named_step};
 ghost use Rattle.bilv_spec.specs.EntryFaults.{IsEntryStateFault};
 ghost use Rattle.bilv_spec.specs.Files.{order_of, program_of};
 ghost use Rattle.bilv_spec.specs.Points.{is_known_at};
-ghost use Rattle.bilv_spec.specs.StateText.{IsWritten, last_step};
-ghost use Rattle.bilv_spec.specs.Reports as reports;
-ghost use Rattle.bilv_spec.specs.Reports.{named_step};
-ghost use Rattle.bilv_spec.specs.Answers.{plain_answer, start_in};
+ghost use Rattle.machine_spec.specs.StateText.{IsWritten, last_step};
+ghost use Rattle.machine_spec.specs.Endings as reports;
+ghost use Rattle.call_spec.specs.Calls.{plain_answer};
+ghost use Rattle.bilv_spec.specs.Answers.{start_in};
 ghost use Rattle.bilv_spec.specs.Replays.{run_answer, bound_of};
 ghost use Rattle.state_text.specs.Starts.{named_of, written_of};
 ghost use Rattle.notes_lang.specs.Drafting.{notes_of};

@@ -1,11 +1,13 @@
 //! The texts of answers.
 ghost use Rattle.std.specs.Prelude.{◌≡◌, ℕ, ◌+◌, ◌++◌, ◌≤◌, List, Some, None, true, false, IfOk, OnOk, codes};
-ghost use Rattle.bilv_spec.specs.Run.{Program, Start};
-ghost use Rattle.bilv_spec.specs.StateText.{Layout, StateRefused, last_step};
+ghost use Rattle.bilv_spec.specs.Run.{Program};
+ghost use Rattle.machine_spec.specs.Endings.{Start, named_step};
+ghost use Rattle.machine_spec.specs.StateText.{Layout, StateRefused, last_step};
 ghost use Rattle.bilv_spec.specs.Reports as reports;
-ghost use Rattle.bilv_spec.specs.Reports.{named_step, found_words};
-ghost use Rattle.bilv_spec.specs.Texts.{line, joined};
-ghost use Rattle.bilv_spec.specs.Answers.{plain_answer};
+ghost use Rattle.machine_spec.specs.Endings as endings;
+ghost use Rattle.bilv_spec.specs.Reports.{found_words};
+ghost use Rattle.word_spec.specs.Texts.{line, joined};
+ghost use Rattle.call_spec.specs.Calls.{plain_answer};
 ghost use Rattle.bilv_spec.specs.Replays.{sized_answer, told_answer, start_answer, require_answer, ending_answer, state_fault_words, bound_of};
 ghost use Rattle.state_text.specs.Starts.{named_of};
 ghost use Rattle.state_text.specs.Readings.{fault_of};
@@ -47,7 +49,7 @@ pub(crate) fn too_large(alloc: Global) -> Result<Replay, AllocError>
 
 /// The answer where the link register is no multiple of 4.
 pub(crate) fn unaligned(alloc: Global) -> Result<Replay, AllocError>
-    ensures { (p : Program) (named : reports.NamedEnding) (start : Start) →
+    ensures { (p : Program) (named : endings.NamedEnding) (start : Start) →
         IfOk result (λ r. plain_answer r.status r.text.items ≡ start_answer false p named start) }
 {
     refusal(alloc, b"state: link\n")
@@ -83,7 +85,7 @@ pub(crate) fn refused(alloc: Global, line: u64, kind: StateFault) -> Result<Repl
 
 /// The answer where a require line is the first that is false.
 pub(crate) fn false_require(alloc: Global, line: u32) -> Result<Replay, AllocError>
-    ensures { (named : reports.NamedEnding) (found : reports.Found) →
+    ensures { (named : endings.NamedEnding) (found : reports.Found) →
         IfOk result (λ r. plain_answer r.status r.text.items ≡ require_answer (Some line) named found) }
 {
     let mut out = Vec::new(alloc);

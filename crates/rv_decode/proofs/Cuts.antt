@@ -2,8 +2,8 @@
 use Rattle.std.proofs.Common.{◌≡◌, ℕ, ◌+◌, ◌*◌, ◌%◌, ◌^◌, ◌<◌, true, refl, sym, ap, ◌∙◌, arith, lit<}
 use Rattle.std.specs.Prelude.{◌==◌, ◌&&◌}
 use Rattle.std.proofs.lemmas.Bool.{eq-eqb}
-use Rattle.bilv_spec.specs.Words.{bits, sign_extend}
-use Rattle.bilv_spec.specs.Rv.{imm_u}
+use Rattle.word_spec.specs.Words.{bits, sign_extend}
+use Rattle.machine_spec.specs.Rv.{imm_u}
 use Rattle.rv_decode.specs.declared.insn.BranchOp.{BranchOp}
 use Rattle.rv_decode.specs.declared.insn.BranchOp.TheVariants.{Beq, Bne, Blt, Bge, Bltu, Bgeu}
 use Rattle.rv_decode.specs.declared.insn.LoadOp.{LoadOp}

@@ -3,8 +3,8 @@ use Rattle.std.proofs.Common.{◌≡◌, ◌⊎◌, inl, inr, ℕ, zero, suc, re
 use Rattle.std.specs.Prelude.{slice_get, MatchOption}
 use Rattle.std.specs.Option.{option_map}
 use Rattle.std.proofs.lemmas.Option.{slice_get-map}
-use Rattle.bilv_spec.specs.Rv.{Instruction, table, fits, fields, row_in, rv_row}
-use Rattle.bilv_spec.proofs.RvTable.{one_row}
+use Rattle.machine_spec.specs.Rv.{Instruction, table, fits, fields, row_in, rv_row}
+use Rattle.machine_spec.proofs.RvTable.{one_row}
 use Rattle.rv_decode.specs.declared.insn.BranchOp.{BranchOp}
 use Rattle.rv_decode.specs.declared.insn.BranchOp.TheVariants.{Beq, Bne, Blt, Bge, Bltu, Bgeu}
 use Rattle.rv_decode.specs.declared.insn.LoadOp.{LoadOp}

@@ -2,8 +2,8 @@
 use Rattle.std.proofs.Common.{◌≡◌, ◌≢◌, ◌⊎◌, inl, inr, ℕ, ◌<◌, ◌∙◌, sym, None, arith}
 use Rattle.std.proofs.lemmas.Bool.{ne_eqb}
 use Rattle.std.proofs.Math.Bool.{and-false}
-use Rattle.bilv_spec.specs.Words.{bits}
-use Rattle.bilv_spec.specs.Rv.{rv_row, table}
+use Rattle.word_spec.specs.Words.{bits}
+use Rattle.machine_spec.specs.Rv.{rv_row, table}
 
 pub no_opcode : (w o : ℕ) → o ≡ bits 6 0 w → o ≢ 0x37 → o ≢ 0x17 → o ≢ 0x6f → o ≢ 0x67 → o ≢ 0x63 → o ≢ 0x03 → o ≢ 0x23 → o ≢ 0x13 → o ≢ 0x33 → o ≢ 0x0f →
     o ≢ 0x73 → rv_row w ≡ None

@@ -1,8 +1,8 @@
 -- An instruction is its line with the fields of a word: two that a word has on one line are the same.
 use Rattle.std.proofs.Common.{◌≡◌, ℕ, ◌+◌, ◌*◌, ◌%◌, ◌^◌, ◌<◌, refl, sym, ap, subst, ◌∙◌, arith}
 use denote.Struct.Props.{props}
-use Rattle.bilv_spec.specs.Words.{bits}
-use Rattle.bilv_spec.specs.Rv.{imm_i, imm_s, imm_b, imm_u, imm_j}
+use Rattle.word_spec.specs.Words.{bits}
+use Rattle.machine_spec.specs.Rv.{imm_i, imm_s, imm_b, imm_u, imm_j}
 use Rattle.rv_decode.specs.declared.register.Register.{Register}
 use Rattle.rv_decode.specs.declared.shift_amount.ShiftAmount.{ShiftAmount}
 use Rattle.rv_decode.specs.declared.insn.Insn.{Insn}

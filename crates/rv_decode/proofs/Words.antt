@@ -4,8 +4,8 @@ use Rattle.std.specs.Prelude.{◌==◌, ◌&&◌}
 use Rattle.std.proofs.lemmas.Bool.{eqb-true}
 use Rattle.std.proofs.lemmas.Bool.Decides.{nat_tests}
 use Rattle.std.proofs.Math.Nat.{div-div-eq-div-mul}
-use Rattle.bilv_spec.specs.Words.{bits, sign_extend}
-use Rattle.bilv_spec.specs.Rv.{imm_i, imm_s, imm_b, imm_u, imm_j}
+use Rattle.word_spec.specs.Words.{bits, sign_extend}
+use Rattle.machine_spec.specs.Rv.{imm_i, imm_s, imm_b, imm_u, imm_j}
 use Rattle.rv_decode.specs.declared.insn.Insn.{Insn}
 use Rattle.rv_decode.specs.declared.insn.Insn.TheVariants.{Lui, Auipc, Jal, Jalr, Branch, Load, Store, Immediate, Shift, Computation, Fence, Ecall, Ebreak}
 use Rattle.rv_decode.specs.Insns.{Decodes}

@@ -1,6 +1,6 @@
 -- The word of an instruction, by the formats R, I, S, B, U and J (section 2.2).
 use Rattle.std.specs.Prelude.{ℕ, ◌+◌, ◌*◌, ◌^◌}
-use Rattle.bilv_spec.specs.Words.{bits}
+use Rattle.word_spec.specs.Words.{bits}
 use Rattle.rv_decode.specs.Insns.{branch_code, load_code, store_code, immediate_code, shift_code, shift_upper_code, register_code, register_upper_code}
 use Rattle.rv_decode.specs.declared.insn.Insn.{Insn}
 use Rattle.rv_decode.specs.declared.insn.Insn.TheVariants.{Lui, Auipc, Jal, Jalr, Branch, Load, Store, Immediate, Shift, Computation, Fence, Ecall, Ebreak}

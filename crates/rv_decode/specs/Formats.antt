@@ -1,7 +1,7 @@
 -- The instructions that have a word: those whose immediate is one of their format (section 2.3).
 use Rattle.std.specs.Prelude.{ℕ, ◌≡◌, ◌%◌, ◌^◌, ◌<◌}
-use Rattle.bilv_spec.specs.Words.{sign_extend}
-use Rattle.bilv_spec.specs.Rv.{imm_u}
+use Rattle.word_spec.specs.Words.{sign_extend}
+use Rattle.machine_spec.specs.Rv.{imm_u}
 use Rattle.rv_decode.specs.declared.insn.Insn.{Insn}
 use Rattle.rv_decode.specs.declared.insn.Insn.TheVariants.{Lui, Auipc, Jal, Jalr, Branch, Load, Store, Immediate, Shift, Computation, Fence, Ecall, Ebreak}
 use Rattle.rv_decode.specs.Insns.{IsDecodable}

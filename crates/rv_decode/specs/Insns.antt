@@ -1,8 +1,8 @@
 -- The instructions as lines of the table of RV32IM (RISC-V Unprivileged ISA 20191213, chapters 2 and 7): their rows, and their words.
 use Rattle.std.specs.Prelude.{◌≡◌, ℕ, ◌+◌, ◌*◌, ◌^◌, ◌<◌, ◌==◌, nat_lt, not, Bool, true, bit_and, bit_or, bit_xor}
-use Rattle.bilv_spec.specs.Words.{add, sub, mul, bits, bit, sign_extend, signed_lt, shl, shr, sar, udiv, urem, sdiv, srem}
-use Rattle.bilv_spec.specs.Machine.{Row, EnvironmentCall, Breakpoint}
-use Rattle.bilv_spec.specs.Rv.{Fields, Instruction, reg, sets, auipc, jal, jalr, fence, raises, dear, upper, wide, low_five, fits, fields, imm_i, imm_s, imm_b, imm_u, imm_j, by_opcode, by_funct3, by_funct7, by_word, branch, load_of, store_of, immediate, shift}
+use Rattle.word_spec.specs.Words.{add, sub, mul, bits, bit, sign_extend, signed_lt, shl, shr, sar, udiv, urem, sdiv, srem}
+use Rattle.machine_spec.specs.Machine.{Row, EnvironmentCall, Breakpoint}
+use Rattle.machine_spec.specs.Rv.{Fields, Instruction, reg, sets, auipc, jal, jalr, fence, raises, dear, upper, wide, low_five, fits, fields, imm_i, imm_s, imm_b, imm_u, imm_j, by_opcode, by_funct3, by_funct7, by_word, branch, load_of, store_of, immediate, shift}
 use Rattle.rv_decode.specs.declared.insn.BranchOp.{BranchOp}
 use Rattle.rv_decode.specs.declared.insn.BranchOp.TheVariants.{Beq, Bne, Blt, Bge, Bltu, Bgeu}
 use Rattle.rv_decode.specs.declared.insn.LoadOp.{LoadOp}

@@ -1,8 +1,8 @@
 //! From a word to its instruction: by its opcode, then by funct3 and funct7.
 ghost use Rattle.std.specs.Prelude.{◌≡◌, ◌≢◌, ◌⊎◌, ◌<◌, ◌^◌, MatchOption, IfSome, IfNone};
 ghost use Rattle.std.specs.Option.{option_map};
-ghost use Rattle.bilv_spec.specs.Words.{bits};
-ghost use Rattle.bilv_spec.specs.Rv.{rv_row};
+ghost use Rattle.word_spec.specs.Words.{bits};
+ghost use Rattle.machine_spec.specs.Rv.{rv_row};
 ghost use Rattle.rv_decode.specs.declared.insn.Insn.{Insn};
 ghost use Rattle.rv_decode.specs.Insns.{row_of, Decodes, branch_code, load_code, store_code, immediate_code, shift_code, shift_upper_code, register_code, register_upper_code};
 

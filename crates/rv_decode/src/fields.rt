@@ -1,7 +1,7 @@
 //! The fields of a word (section 2.2) and its immediates (section 2.3).
 ghost use Rattle.std.specs.Prelude.{◌≡◌, ◌<◌, ◌≤◌, ◌+◌, ◌*◌, ◌^◌};
-ghost use Rattle.bilv_spec.specs.Words as words;
-ghost use Rattle.bilv_spec.specs.Rv.{imm_i, imm_s, imm_b, imm_u, imm_j};
+ghost use Rattle.word_spec.specs.Words as words;
+ghost use Rattle.machine_spec.specs.Rv.{imm_i, imm_s, imm_b, imm_u, imm_j};
 
 use crate::register::Register;
 use crate::shift_amount::ShiftAmount;

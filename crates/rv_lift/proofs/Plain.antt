@@ -2,14 +2,14 @@
 -- the memory.
 use Rattle.std.proofs.Common.{◌≡◌, ℕ, zero, suc, ◌+◌, ◌-◌, ◌/◌, ◌^◌, ◌<◌, ◌≤◌, ◌==◌, nat_lt, nat_le, Bool, true, false, ◌&&◌, refl, ap, ◌∙◌, arith, [], add-zero}
 use Rattle.std.proofs.lemmas.Bool.Decides.{nat_tests}
-use Rattle.bilv_spec.specs.Memory.{Little}
-use Rattle.bilv_spec.specs.Rv.{Fields, rv32}
-use Rattle.bilv_spec.specs.Bil.{Bits, XRegisters, Mem, BinaryOp, UnaryOp, Not, CastKind, Expression, Var, Constant, Load, Binary, Unary, Cast, Extract, Statements, Empty, total, size}
-use Rattle.bilv_spec.specs.Bil as bil
-use Rattle.bilv_spec.specs.BilMeaning.{Env}
-use Rattle.bilv_spec.specs.BilTyping.{Has, type_or_fault, result_width, cast_fits, is_width, is_load_width}
-use Rattle.bilv_spec.specs.BilCounts.{width, op_weight, weight, own_loads, own_stores, own_unknowns, own_memory_choices, own_chosen_stores, names_only, is_own, reads_flag}
-use Rattle.bilv_spec.specs.BilStores.{stored_by}
+use Rattle.word_spec.specs.Memory.{Little}
+use Rattle.machine_spec.specs.Rv.{Fields, rv32}
+use Rattle.machine_spec.specs.Bil.{Bits, XRegisters, Mem, BinaryOp, UnaryOp, Not, CastKind, Expression, Var, Constant, Load, Binary, Unary, Cast, Extract, Statements, Empty, total, size}
+use Rattle.machine_spec.specs.Bil as bil
+use Rattle.machine_spec.specs.BilMeaning.{Env}
+use Rattle.machine_spec.specs.BilTyping.{Has, type_or_fault, result_width, cast_fits, is_width, is_load_width}
+use Rattle.machine_spec.specs.BilCounts.{width, op_weight, weight, own_loads, own_stores, own_unknowns, own_memory_choices, own_chosen_stores, names_only, is_own, reads_flag}
+use Rattle.machine_spec.specs.BilStores.{stored_by}
 use Rattle.rv_decode.specs.declared.insn.BranchOp.{BranchOp}
 use Rattle.rv_decode.specs.declared.insn.BranchOp.TheVariants.{Beq, Bne, Blt, Bge, Bltu, Bgeu}
 use Rattle.rv_decode.specs.declared.insn.LoadOp.{LoadOp}

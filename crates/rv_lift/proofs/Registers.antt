@@ -1,7 +1,7 @@
 -- Where a register is not x0.
 use Rattle.std.proofs.Common.{◌≡◌, ◌≢◌, ℕ, zero, suc, refl}
-use Rattle.bilv_spec.specs.Bil.{XRegisters, Expression, Var, Empty, Assign}
-use Rattle.bilv_spec.specs.Bil as bil
+use Rattle.machine_spec.specs.Bil.{XRegisters, Expression, Var, Empty, Assign}
+use Rattle.machine_spec.specs.Bil as bil
 use Rattle.rv_lift.specs.Lifted as lifts
 
 pub register_is : (r : ℕ) → r ≢ 0 → lifts.register r ≡ Var (bil.Register XRegisters r)

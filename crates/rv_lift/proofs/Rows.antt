@@ -3,16 +3,16 @@ use Rattle.std.proofs.Common.{◌≡◌, ℕ, ◌^◌, ◌<◌, [], Bool, true, 
 use Rattle.std.specs.declared.alloc.AllocError.{AllocError}
 use Rattle.bil_ast.specs.Views.{statements}
 use Rattle.bil_ast.specs.declared.statements.Stmt.{Stmt}
-use Rattle.bilv_spec.specs.Words.{add}
-use Rattle.bilv_spec.specs.Memory.{Little, load}
-use Rattle.bilv_spec.specs.State.{State}
-use Rattle.bilv_spec.specs.Machine.{EnvironmentCall, Breakpoint, Exception, exception_number, even}
-use Rattle.bilv_spec.specs.Rv.{rv32, plain_cost, reg, links, direct_by, indirect_by, raises, Fields, stores}
-use Rattle.bilv_spec.specs.Bil.{XRegisters, Mem, Low, Assign, Binary, Cast, Raise, Empty, Statements}
-use Rattle.bilv_spec.specs.Bil as bil
-use Rattle.bilv_spec.specs.BilMeaning.{Word}
-use Rattle.bilv_spec.specs.Simulation.{env_of, jump_of}
-use Rattle.bilv_spec.specs.MachineLaws.{IsLifting}
+use Rattle.word_spec.specs.Words.{add}
+use Rattle.word_spec.specs.Memory.{Little, load}
+use Rattle.word_spec.specs.State.{State}
+use Rattle.machine_spec.specs.Machine.{EnvironmentCall, Breakpoint, Exception, exception_number, even}
+use Rattle.machine_spec.specs.Rv.{rv32, plain_cost, reg, links, direct_by, indirect_by, raises, Fields, stores}
+use Rattle.machine_spec.specs.Bil.{XRegisters, Mem, Low, Assign, Binary, Cast, Raise, Empty, Statements}
+use Rattle.machine_spec.specs.Bil as bil
+use Rattle.machine_spec.specs.BilMeaning.{Word}
+use Rattle.machine_spec.specs.Simulation.{env_of, jump_of}
+use Rattle.machine_spec.specs.MachineLaws.{IsLifting}
 use Rattle.rv_decode.specs.declared.insn.StoreOp.{StoreOp}
 use Rattle.rv_decode.specs.declared.insn.StoreOp.TheVariants.{Sb, Sh, Sw}
 use Rattle.rv_decode.specs.declared.insn.Insn.{Insn}

@@ -1,18 +1,18 @@
 -- The liftings of rows by shape: an assignment to a register, a branch, a jump with a link, a store, nothing, and an exception.
 use Rattle.std.proofs.Common.{◌≡◌, ◌↔◌, ℕ, zero, suc, ◌+◌, ◌/◌, ◌^◌, ◌<◌, ◌≤◌, ◌==◌, Bool, true, false, refl, sym, subst, ap, arith, List, [], ◌++◌, append-nil, Option, Some, None}
 use Rattle.std.specs.Prelude.{Contains}
-use Rattle.bilv_spec.specs.Words.{add, bit}
-use Rattle.bilv_spec.specs.Memory.{Little, store, span}
-use Rattle.bilv_spec.specs.State.{State, with_pc}
-use Rattle.bilv_spec.specs.Machine.{Cost, Offset, Successors, How, Goes}
-use Rattle.bilv_spec.specs.Rv.{rv32, row_of, plain_cost, with_reg, on, branch_by}
-use Rattle.bilv_spec.specs.Bil.{XRegisters, Mem, Expression, Var, Store, Empty, Assign, JumpTo, If}
-use Rattle.bilv_spec.specs.BilMeaning.{Word, Bytes, Position, Ends, then_do, branch_on, execute, evaluate}
-use Rattle.bilv_spec.specs.BilTyping.{is_load_width, list_fault}
-use Rattle.bilv_spec.specs.BilCounts.{list_weight}
-use Rattle.bilv_spec.specs.BilStores.{list_stored, chosen, then_stored}
-use Rattle.bilv_spec.specs.Simulation.{Locals, env_of, position, of_list, of_row, jump_of}
-use Rattle.bilv_spec.specs.MachineLaws.{IsLifting}
+use Rattle.word_spec.specs.Words.{add, bit}
+use Rattle.word_spec.specs.Memory.{Little, store, span}
+use Rattle.word_spec.specs.State.{State, with_pc}
+use Rattle.machine_spec.specs.Machine.{Cost, Offset, Successors, How, Goes}
+use Rattle.machine_spec.specs.Rv.{rv32, row_of, plain_cost, with_reg, on, branch_by}
+use Rattle.machine_spec.specs.Bil.{XRegisters, Mem, Expression, Var, Store, Empty, Assign, JumpTo, If}
+use Rattle.machine_spec.specs.BilMeaning.{Word, Bytes, Position, Ends, then_do, branch_on, execute, evaluate}
+use Rattle.machine_spec.specs.BilTyping.{is_load_width, list_fault}
+use Rattle.machine_spec.specs.BilCounts.{list_weight}
+use Rattle.machine_spec.specs.BilStores.{list_stored, chosen, then_stored}
+use Rattle.machine_spec.specs.Simulation.{Locals, env_of, position, of_list, of_row, jump_of}
+use Rattle.machine_spec.specs.MachineLaws.{IsLifting}
 use Rattle.rv_lift.specs.Lifted as lifts
 use Rattle.rv_lift.proofs.Plain.{IsPlain, own_register, number_plain}
 

@@ -2,14 +2,14 @@
 use Rattle.std.proofs.Common.{◌≡◌, ℕ, zero, suc, ◌+◌, ◌/◌, ◌%◌, ◌^◌, nat_lt, not, Bool, true, false, refl, ap, ◌∙◌, arith, bit_and}
 use Rattle.std.proofs.lemmas.Nat.{and_mask}
 use Rattle.std.proofs.lemmas.Nat.Bits.{and_high}
-use Rattle.bilv_spec.specs.Words.{add, bit, signed_lt, complement}
-use Rattle.bilv_spec.specs.Memory.{Little, load, store}
-use Rattle.bilv_spec.specs.State.{State}
-use Rattle.bilv_spec.specs.Machine.{even}
-use Rattle.bilv_spec.specs.Rv.{reg}
-use Rattle.bilv_spec.specs.Bil.{Expression}
-use Rattle.bilv_spec.specs.BilMeaning.{Word, Bytes, Env, evaluate}
-use Rattle.bilv_spec.specs.Simulation.{Locals, env_of}
+use Rattle.word_spec.specs.Words.{add, bit, signed_lt, complement}
+use Rattle.word_spec.specs.Memory.{Little, load, store}
+use Rattle.word_spec.specs.State.{State}
+use Rattle.machine_spec.specs.Machine.{even}
+use Rattle.machine_spec.specs.Rv.{reg}
+use Rattle.machine_spec.specs.Bil.{Expression}
+use Rattle.machine_spec.specs.BilMeaning.{Word, Bytes, Env, evaluate}
+use Rattle.machine_spec.specs.Simulation.{Locals, env_of}
 use Rattle.byte_mem.proofs.Numbers.{store_cut}
 use Rattle.rv_decode.specs.declared.insn.BranchOp.{BranchOp}
 use Rattle.rv_decode.specs.declared.insn.BranchOp.TheVariants.{Beq, Bne, Blt, Bge, Bltu, Bgeu}

@@ -1,9 +1,9 @@
 -- The list that each instruction is lifted to.
 use Rattle.std.specs.Prelude.{ℕ, zero, suc}
-use Rattle.bilv_spec.specs.Words.{add}
-use Rattle.bilv_spec.specs.Memory.{Little}
-use Rattle.bilv_spec.specs.Bil as bil
-use Rattle.bilv_spec.specs.Bil.{XRegisters, Mem, Expression, Var, Constant, Load, Store, Binary, Unary, Cast, Extract, Statements, Empty, Assign, JumpTo, Raise, If}
+use Rattle.word_spec.specs.Words.{add}
+use Rattle.word_spec.specs.Memory.{Little}
+use Rattle.machine_spec.specs.Bil as bil
+use Rattle.machine_spec.specs.Bil.{XRegisters, Mem, Expression, Var, Constant, Load, Store, Binary, Unary, Cast, Extract, Statements, Empty, Assign, JumpTo, Raise, If}
 use Rattle.rv_decode.specs.declared.insn.BranchOp.{BranchOp}
 use Rattle.rv_decode.specs.declared.insn.BranchOp.TheVariants.{Beq, Bne, Blt, Bge, Bltu, Bgeu}
 use Rattle.rv_decode.specs.declared.insn.LoadOp.{LoadOp}

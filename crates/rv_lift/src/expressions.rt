@@ -1,7 +1,7 @@
 //! The expressions of lifted instructions.
 ghost use Rattle.std.specs.Prelude.{◌≡◌, ◌≤◌, IfOk};
-ghost use Rattle.bilv_spec.specs.Memory.{Little};
-ghost use Rattle.bilv_spec.specs.Bil as bil;
+ghost use Rattle.word_spec.specs.Memory.{Little};
+ghost use Rattle.machine_spec.specs.Bil as bil;
 ghost use Rattle.bil_ast.specs.Views.{binary_of, cast_of, expression};
 ghost use Rattle.rv_lift.specs.Lifted as lifts;
 

@@ -1,7 +1,7 @@
 //! What is told of an instruction without a state.
 ghost use Rattle.std.specs.Prelude.{◌≡◌, Some, None, true, false};
-ghost use Rattle.bilv_spec.specs.Machine as table;
-ghost use Rattle.bilv_spec.specs.Rv.{Fields};
+ghost use Rattle.machine_spec.specs.Machine as table;
+ghost use Rattle.machine_spec.specs.Rv.{Fields};
 ghost use Rattle.machine_law.specs.Facts.{cost_of, successors_of};
 ghost use Rattle.rv_decode.specs.Insns as insns;
 ghost use Rattle.rv_decode.specs.Insns.{row_of};

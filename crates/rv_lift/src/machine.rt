@@ -16,15 +16,15 @@ use std::alloc::{AllocError, Global};
 pub struct Rv32;
 
 impl Machine for Rv32 {
-    ghost use Rattle.bilv_spec.specs.Rv.{rv32};
-    ghost use Rattle.bilv_spec.specs.Bil.{XRegisters};
-    ghost use Rattle.bilv_spec.specs.StateText.{rv_layout};
+    ghost use Rattle.machine_spec.specs.Rv.{rv32};
+    ghost use Rattle.machine_spec.specs.Bil.{XRegisters};
+    ghost use Rattle.machine_spec.specs.StateText.{rv_layout};
     ghost use Rattle.rv_decode.specs.Insns.{row_of};
     ghost use Rattle.rv_step.proofs.Ranges.{in_range};
     ghost use Rattle.rv_step.specs.States.{spare_of};
     ghost use Rattle.std.specs.Prelude.{refl};
-    ghost use Rattle.bilv_spec.proofs.Fitted.{rv_is_fitted};
-    ghost use Rattle.bilv_spec.proofs.RvLawful.{rv_is_lawful};
+    ghost use Rattle.machine_spec.proofs.Fitted.{rv_is_fitted};
+    ghost use Rattle.machine_spec.proofs.RvLawful.{rv_is_lawful};
     ghost use Rattle.rv_lift.specs.Laws.{four_bytes};
 
     type Insn = Insn;

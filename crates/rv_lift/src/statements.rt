@@ -1,6 +1,6 @@
 //! The statements of lifted instructions.
 ghost use Rattle.std.specs.Prelude.{◌≡◌, [], ◌∷◌, IfOk};
-ghost use Rattle.bilv_spec.specs.Bil as bil;
+ghost use Rattle.machine_spec.specs.Bil as bil;
 ghost use Rattle.bil_ast.specs.Views.{expression, statement, statements};
 ghost use Rattle.rv_lift.specs.Lifted as lifts;
 

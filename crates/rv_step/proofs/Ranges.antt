@@ -1,6 +1,6 @@
 -- What is kept is in range.
 use Rattle.std.proofs.Common.{lit<}
-use Rattle.bilv_spec.specs.State.{IsState}
+use Rattle.word_spec.specs.State.{IsState}
 use Rattle.rv_step.specs.States.{state_of}
 use Rattle.rv_step.specs.declared.state.State.{State}
 

@@ -1,7 +1,7 @@
 -- Registers that are read and written.
 use Rattle.std.proofs.Common.{◌≡◌, ℕ, zero, suc, List, refl, sym, replicate, ap}
-use Rattle.bilv_spec.specs.State.{State}
-use Rattle.bilv_spec.specs.Rv.{reg}
+use Rattle.word_spec.specs.State.{State}
+use Rattle.machine_spec.specs.Rv.{reg}
 use Rattle.rv_step.specs.RegisterFile.{registers_of}
 
 -- x0 reads 0

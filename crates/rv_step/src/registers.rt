@@ -1,6 +1,6 @@
 //! The registers x0 to x31.
 ghost use Rattle.std.specs.Prelude.{◌≡◌, ℕ, ◌<◌, ◌^◌, ◌∷◌, get_or, length};
-ghost use Rattle.bilv_spec.specs.Rv.{put_reg};
+ghost use Rattle.machine_spec.specs.Rv.{put_reg};
 ghost use Rattle.rv_step.specs.RegisterFile.{registers_of};
 
 use rv_decode::Register;

@@ -1,6 +1,6 @@
 //! The state of RV32IM.
 ghost use Rattle.std.specs.Prelude.{ℕ, ◌<◌, ◌^◌};
-ghost use Rattle.bilv_spec.specs.Memory.{memory_of};
+ghost use Rattle.word_spec.specs.Memory.{memory_of};
 
 use crate::registers::Registers;
 use bv_word::Word;
@@ -19,7 +19,7 @@ pub struct State {
 }
 
 impl View for State {
-    ghost use Rattle.bilv_spec.specs.Rv.{rv32};
+    ghost use Rattle.machine_spec.specs.Rv.{rv32};
     ghost use Rattle.rv_step.specs.States.{state_of};
 
     ghost view = { state_of };
@@ -51,10 +51,10 @@ impl View for State {
 
 impl State {
     ghost use Rattle.std.specs.Prelude.{◌≡◌, ◌≤◌, ◌+◌, ◌∷◌, length, OnOk, OnErr, IfOk};
-    ghost use Rattle.bilv_spec.specs.Memory.{Little, store};
-    ghost use Rattle.bilv_spec.specs.State.{with_pc};
-    ghost use Rattle.bilv_spec.specs.Rv.{reg, with_reg};
-    ghost use Rattle.bilv_spec.specs.Words.{add};
+    ghost use Rattle.word_spec.specs.Memory.{Little, store};
+    ghost use Rattle.word_spec.specs.State.{with_pc};
+    ghost use Rattle.machine_spec.specs.Rv.{reg, with_reg};
+    ghost use Rattle.word_spec.specs.Words.{add};
     ghost use Rattle.rv_step.specs.RegisterFile.{registers_of};
     ghost use Rattle.rv_step.specs.States.{state_of, spare_of};
 

@@ -1,7 +1,7 @@
 //! Steps.
 ghost use Rattle.std.specs.Prelude.{◌≡◌, ◌≤◌, ◌+◌, ◌-◌, ◌%◌};
-ghost use Rattle.bilv_spec.specs.Machine as machine;
-ghost use Rattle.bilv_spec.specs.Rv.{links, direct_by, indirect_by};
+ghost use Rattle.machine_spec.specs.Machine as machine;
+ghost use Rattle.machine_spec.specs.Rv.{links, direct_by, indirect_by};
 ghost use Rattle.byte_mem.specs.Views.{how_of, IsStep};
 ghost use Rattle.rv_decode.specs.Insns.{row_of};
 ghost use Rattle.rv_step.specs.States.{state_of, spare_of};

@@ -1,8 +1,8 @@
 //! What rows make of words.
 ghost use Rattle.std.specs.Prelude.{◌≡◌, ◌*◌};
-ghost use Rattle.bilv_spec.specs.Memory.{Little, load, memory_of};
-ghost use Rattle.bilv_spec.specs.Rv as rows;
-ghost use Rattle.bilv_spec.specs.Words.{signed_lt};
+ghost use Rattle.word_spec.specs.Memory.{Little, load, memory_of};
+ghost use Rattle.machine_spec.specs.Rv as rows;
+ghost use Rattle.word_spec.specs.Words.{signed_lt};
 ghost use Rattle.rv_decode.specs.Insns as insns;
 
 use bv_word::Word;

@@ -6,8 +6,8 @@ use Rattle.std.proofs.lemmas.List.{get_or_append_left, get_or-append-add}
 use Rattle.std.proofs.Math.Seq.{get_or-append_seam}
 use Rattle.std.proofs.lemmas.List.Elements.{Contains-push_cases}
 use Rattle.std.proofs.lemmas.Option.{slice_get_within}
-use Rattle.bilv_spec.specs.Clauses.{Literal, Clause, same, has, IsOnVariables, AreOnVariables}
-use Rattle.bilv_spec.proofs.NewClauses.{differ_swap}
+use Rattle.clause_spec.specs.Clauses.{Literal, Clause, same, has, IsOnVariables, AreOnVariables}
+use Rattle.clause_spec.proofs.NewClauses.{differ_swap}
 use Rattle.sat_core.specs.Links.{no_watch, watched_at, some_literal, mate, IsLinked, IsPlaced}
 use Rattle.sat_core.specs.Moves.{IsShort, IsIn, AreCovered, AreReady}
 use Rattle.sat_core.proofs.Logs.{get-last}

@@ -6,10 +6,10 @@ use Rattle.std.proofs.lemmas.List.{reverse-append}
 use Rattle.std.proofs.lemmas.Option.{slice_get_within, get_or_from_slice_get}
 use Rattle.std.proofs.lemmas.Bool.Decides.{nat_tests}
 use Rattle.std.proofs.lemmas.Bool.{cases_Bool, both_ways}
-use Rattle.bilv_spec.specs.Clauses.{Literal, Clause, same, opposite, has, AreOnVariables}
-use Rattle.bilv_spec.specs.Refutation.{Hint, ById, Conflict, UnitOf, look_of, judge_hints, at_start, added}
-use Rattle.bilv_spec.proofs.Looks.{same-true, look-unit}
-use Rattle.bilv_spec.proofs.RefutationSound.{get-contains}
+use Rattle.clause_spec.specs.Clauses.{Literal, Clause, same, opposite, has, AreOnVariables}
+use Rattle.clause_spec.specs.Refutation.{Hint, ById, Conflict, UnitOf, look_of, judge_hints, at_start, added}
+use Rattle.clause_spec.proofs.Looks.{same-true, look-unit}
+use Rattle.clause_spec.proofs.RefutationSound.{get-contains}
 use Rattle.cnf_form.specs.declared.form.Hint as code
 use Rattle.cnf_form.specs.declared.form.Hint.TheVariants as variants
 use Rattle.cnf_form.specs.Views.{hint_of}

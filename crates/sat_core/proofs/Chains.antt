@@ -8,7 +8,7 @@ use Rattle.std.proofs.Math.Seq.{get_or-append_seam}
 use Rattle.std.proofs.lemmas.Bool.Decides.{nat_tests}
 use Rattle.std.proofs.lemmas.Map.Keys.{IsDistinct-cons}
 use Rattle.std.proofs.lemmas.Map.Steps.{length-le_from_distinct_below}
-use Rattle.bilv_spec.specs.Clauses.{Literal, same, same_sign}
+use Rattle.clause_spec.specs.Clauses.{Literal, same, same_sign}
 use Rattle.sat_core.specs.Links.{place, no_watch, some_literal, watched_at, among, IsChain, IsLinked}
 
 pub among-parts : (x : ℕ) (xs : List ℕ) (n : ℕ) → among (x ∷ xs) n ≡ false → (n ≢ x) × (among xs n ≡ false)

@@ -5,10 +5,10 @@ use Rattle.std.proofs.lemmas.Bool.{cases_Bool}
 use Rattle.std.proofs.lemmas.List.{take_more, take-append-drop, take-append-le, reverse-append}
 use Rattle.std.proofs.lemmas.Option.{slice_get-get_or}
 use Rattle.std.proofs.Math.Seq.{take-append_seam, drop-append_seam}
-use Rattle.bilv_spec.specs.Clauses.{Literal, Clause, opposite, same, has}
-use Rattle.bilv_spec.specs.UnitPropagation.{Includes}
-use Rattle.bilv_spec.specs.Refutation.{added, look_of, Other}
-use Rattle.bilv_spec.proofs.Looks.{or_left, or_right, same-self}
+use Rattle.clause_spec.specs.Clauses.{Literal, Clause, opposite, same, has}
+use Rattle.clause_spec.specs.UnitPropagation.{Includes}
+use Rattle.clause_spec.specs.Refutation.{added, look_of, Other}
+use Rattle.clause_spec.proofs.Looks.{or_left, or_right, same-self}
 use Rattle.sat_core.specs.declared.trail.Step.{Step}
 use Rattle.sat_core.specs.ClosedSets.{IsQuiet, IsGiven}
 use Rattle.sat_core.specs.Tables.{open_count}
@@ -16,8 +16,8 @@ use Rattle.sat_core.specs.Steps.{told, AreSteps, IsWay, IsConflictAt}
 use Rattle.sat_core.specs.Trails.{nothing, AreFresh, IsRun}
 use Rattle.sat_core.specs.Links.{watched_at, mate, AreKept}
 use Rattle.sat_core.specs.Moves.{AreMet, AreReady}
-use Rattle.bilv_spec.proofs.RefutationSound.{get-contains}
-use Rattle.bilv_spec.proofs.AcceptedLines.{given-unit}
+use Rattle.clause_spec.proofs.RefutationSound.{get-contains}
+use Rattle.clause_spec.proofs.AcceptedLines.{given-unit}
 use Rattle.sat_core.proofs.Backwards.{last-first}
 use Rattle.sat_core.proofs.Literals.{fun_ext}
 use Rattle.sat_core.proofs.Stepping.{told-after}

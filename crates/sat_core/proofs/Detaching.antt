@@ -3,11 +3,11 @@ use Rattle.std.proofs.Common.{◌≡◌, ◌≢◌, ℕ, ◌<◌, ◌≤◌, tru
 use Rattle.std.specs.Prelude.{nat_eq}
 use Rattle.std.specs.List.{IsDistinct, AllByRecursion}
 use Rattle.std.proofs.lemmas.Bool.{cases_Bool, eqb-true, both_ways}
-use Rattle.bilv_spec.proofs.Looks.{or_right}
+use Rattle.clause_spec.proofs.Looks.{or_right}
 use Rattle.std.proofs.lemmas.List.{get_or_default}
 use Rattle.std.proofs.lemmas.Map.Keys.{IsDistinct-head, IsDistinct-tail}
 use Rattle.std.proofs.lemmas.Map.Steps.{length-le_from_distinct_below}
-use Rattle.bilv_spec.specs.Clauses.{Literal}
+use Rattle.clause_spec.specs.Clauses.{Literal}
 use Rattle.sat_core.specs.Links.{place, no_watch, watched_at, among, IsChain, IsLinked}
 use Rattle.sat_core.specs.Moves.{IsDetached}
 use Rattle.sat_core.proofs.Chains.{chain-step, chain-frame, chain-end, walk, walk-chain, detached, linked}

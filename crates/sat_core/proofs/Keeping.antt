@@ -3,9 +3,9 @@ use Rattle.std.proofs.Common.{◌≡◌, ◌≢◌, ℕ, ◌*◌, ◌/◌, ◌<�
 use Rattle.std.specs.Prelude.{nat_eq, slice_get, Some}
 use Rattle.std.proofs.lemmas.Bool.{cases_Bool, eqb-true, both_ways}
 use Rattle.std.proofs.lemmas.List.{length-set}
-use Rattle.bilv_spec.specs.Clauses.{Literal, Clause, same, opposite, has}
-use Rattle.bilv_spec.specs.UnitPropagation.{Includes}
-use Rattle.bilv_spec.proofs.NewClauses.{differ_swap}
+use Rattle.clause_spec.specs.Clauses.{Literal, Clause, same, opposite, has}
+use Rattle.clause_spec.specs.UnitPropagation.{Includes}
+use Rattle.clause_spec.proofs.NewClauses.{differ_swap}
 use Rattle.sat_core.specs.Links.{watched_at, some_literal, mate, among, IsPlaced, AreKept}
 
 pub mate-mate : (n : ℕ) → mate (mate n) ≡ n

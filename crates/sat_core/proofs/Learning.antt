@@ -1,12 +1,12 @@
 -- Why a learned clause is empowering.
 use Rattle.std.proofs.Common.{◌≡◌, Bool, true, false, not, List, [], ◌∷◌, ◌++◌, sym, ap, ◌∙◌, inl, inr, ◌⊎◌}
 use Rattle.std.proofs.lemmas.Bool.{cases_Bool, and_parts, both_ways, not-true}
-use Rattle.bilv_spec.specs.Clauses.{Literal, Clause, same, opposite, has}
-use Rattle.bilv_spec.specs.UnitPropagation.{Includes, Conflicts, negations, negations_but}
-use Rattle.bilv_spec.specs.Refutation.{is_tautology}
-use Rattle.bilv_spec.specs.Empowering.{IsEmpowering}
-use Rattle.bilv_spec.proofs.Looks.{same-true, same-self}
-use Rattle.bilv_spec.proofs.NewClauses.{opposite_twice}
+use Rattle.clause_spec.specs.Clauses.{Literal, Clause, same, opposite, has}
+use Rattle.clause_spec.specs.UnitPropagation.{Includes, Conflicts, negations, negations_but}
+use Rattle.clause_spec.specs.Refutation.{is_tautology}
+use Rattle.clause_spec.specs.Empowering.{IsEmpowering}
+use Rattle.clause_spec.proofs.Looks.{same-true, same-self}
+use Rattle.clause_spec.proofs.NewClauses.{opposite_twice}
 use Rattle.cnf_form.specs.declared.form.Hint.{Hint}
 use Rattle.sat_core.specs.ClosedSets.{IsQuiet}
 use Rattle.sat_core.specs.Kept.{IsKept, IsNeeded}

@@ -2,12 +2,12 @@
 use Rattle.std.proofs.Common.{◌≡◌, ℕ, zero, suc, ◌+◌, ◌-◌, ◌<◌, Bool, true, false, not, ◌&&◌, ◌||◌, [], ◌∷◌, ◌++◌, refl, arith, sym, ap, ◌∙◌, length, inl, inr, ◌⊎◌, get_or, take}
 use Rattle.std.specs.Prelude.{◌==◌}
 use Rattle.std.proofs.lemmas.Bool.{cases_Bool, or_cases, and_parts, both_ways}
-use Rattle.bilv_spec.specs.Clauses.{Literal, Clause, same, same_sign, opposite, has}
-use Rattle.bilv_spec.specs.UnitPropagation.{negations}
-use Rattle.bilv_spec.specs.Refutation.{is_tautology, added}
+use Rattle.clause_spec.specs.Clauses.{Literal, Clause, same, same_sign, opposite, has}
+use Rattle.clause_spec.specs.UnitPropagation.{negations}
+use Rattle.clause_spec.specs.Refutation.{is_tautology, added}
 use Rattle.std.proofs.lemmas.List.{take_more, take_all}
-use Rattle.bilv_spec.proofs.Looks.{same-true, same-self, or_left, or_right}
-use Rattle.bilv_spec.proofs.NewClauses.{opposite_twice, differ_swap}
+use Rattle.clause_spec.proofs.Looks.{same-true, same-self, or_left, or_right}
+use Rattle.clause_spec.proofs.NewClauses.{opposite_twice, differ_swap}
 use Rattle.sat_core.specs.Kept.{others}
 
 pub fun_ext : {A B : Type 0} (f g : A → B) → ((x : A) → f x ≡ g x) → f ≡ g

@@ -6,10 +6,10 @@ use Rattle.std.proofs.lemmas.Bool.{and_parts, both_ways, ne_eqb, cases_eq}
 use Rattle.std.proofs.lemmas.Bool.Decides.{nat_tests}
 use Rattle.std.proofs.lemmas.List.{map-append}
 use Rattle.std.proofs.lemmas.List.Elements.{Contains-append_left, Contains-push_cases}
-use Rattle.bilv_spec.specs.Clauses.{Literal, Clause, same, has, IsOnVariables, AreOnVariables}
-use Rattle.bilv_spec.specs.Refutation.{LogLine, Add, Known, Present, judge, at_start, present_after, known_at_start, known_after, first_refusal, some_above, some_negative, is_listed, hint_size, is_empty_clause}
-use Rattle.bilv_spec.specs.Empowering.{IsEmpowering, AreLearned}
-use Rattle.bilv_spec.proofs.Looks.{same-self, or_left, or_right}
+use Rattle.clause_spec.specs.Clauses.{Literal, Clause, same, has, IsOnVariables, AreOnVariables}
+use Rattle.clause_spec.specs.Refutation.{LogLine, Add, Known, Present, judge, at_start, present_after, known_at_start, known_after, first_refusal, some_above, some_negative, is_listed, hint_size, is_empty_clause}
+use Rattle.clause_spec.specs.Empowering.{IsEmpowering, AreLearned}
+use Rattle.clause_spec.proofs.Looks.{same-self, or_left, or_right}
 use Rattle.cnf_form.specs.declared.form.Hint.{Hint}
 use Rattle.cnf_form.specs.declared.form.Hint.TheVariants.{ById, Negative}
 use Rattle.cnf_form.specs.declared.form.LogLine as code

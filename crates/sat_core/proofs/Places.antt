@@ -2,8 +2,8 @@
 use Rattle.std.proofs.Common.{◌≡◌, ℕ, zero, suc, ◌+◌, ◌-◌, ◌≤◌, ◌<◌, Bool, true, false, not, List, [], ◌∷◌, Option, Some, None, refl, arith, sym, ap, ◌∙◌, length, get_or, slice_set, map, drop, inl, inr}
 use Rattle.std.proofs.lemmas.Bool.{cases_Bool}
 use Rattle.std.proofs.lemmas.List.{length-map}
-use Rattle.bilv_spec.specs.Clauses.{Literal, Clause, opposite, same_sign, clause_value, Satisfies, valuation, AreOnVariables}
-use Rattle.bilv_spec.proofs.RefutationSound.{clause_false-lit}
+use Rattle.clause_spec.specs.Clauses.{Literal, Clause, opposite, same_sign, clause_value, Satisfies, valuation, AreOnVariables}
+use Rattle.clause_spec.proofs.RefutationSound.{clause_false-lit}
 use Rattle.sat_core.specs.Tables.{value_is, true_in, open_count, IsFilled, is_set}
 use Rattle.sat_core.specs.ClosedSets.{IsQuiet}
 use Rattle.sat_core.proofs.Quiet.{other-not_false}

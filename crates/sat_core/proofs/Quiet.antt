@@ -1,10 +1,10 @@
 -- Sets of literals in which propagation has nothing to do: what they say of conflicts, of given literals and of looks.
 use Rattle.std.proofs.Common.{◌≡◌, Bool, true, false, ◌||◌, List, [], ◌∷◌, refl, sym, ap, ◌∙◌, inl, inr}
 use Rattle.std.proofs.lemmas.Bool.{cases_Bool, and_parts, or_cases, and_from, both_ways}
-use Rattle.bilv_spec.specs.Clauses.{Literal, Clause, same, opposite, has}
-use Rattle.bilv_spec.specs.UnitPropagation.{others_false, IsClosed, Includes, Gives, Conflicts}
-use Rattle.bilv_spec.specs.Refutation.{Other, all_same, left_over, look_left, look_of}
-use Rattle.bilv_spec.proofs.Looks.{same-true, same-self, or_left, or_right, left-has}
+use Rattle.clause_spec.specs.Clauses.{Literal, Clause, same, opposite, has}
+use Rattle.clause_spec.specs.UnitPropagation.{others_false, IsClosed, Includes, Gives, Conflicts}
+use Rattle.clause_spec.specs.Refutation.{Other, all_same, left_over, look_left, look_of}
+use Rattle.clause_spec.proofs.Looks.{same-true, same-self, or_left, or_right, left-has}
 use Rattle.sat_core.specs.ClosedSets.{IsQuiet}
 
 module _ (holds : Literal → Bool) where

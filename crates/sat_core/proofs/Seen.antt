@@ -1,8 +1,8 @@
 -- A look at a clause that has met one literal that is not false, or none.
 use Rattle.std.proofs.Common.{◌≡◌, ℕ, ◌+◌, ◌<◌, Bool, true, false, ◌∷◌, Option, Some, None, refl, length, get_or, drop, drop-cons, add-one, ap}
 use Rattle.std.specs.Prelude.{if◌then◌else◌}
-use Rattle.bilv_spec.specs.Clauses.{Literal, Clause, same, opposite, has}
-use Rattle.bilv_spec.specs.Refutation.{Look, left_over, look_left}
+use Rattle.clause_spec.specs.Clauses.{Literal, Clause, same, opposite, has}
+use Rattle.clause_spec.specs.Refutation.{Look, left_over, look_left}
 
 -- a look that has met one literal that is not false, or none, and has `ls` left
 abbrev pub resume : (Literal → Bool) → Option Literal → Clause → Look

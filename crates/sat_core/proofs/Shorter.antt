@@ -1,11 +1,11 @@
 -- Leaving out literals of a clause that follows.
 use Rattle.std.proofs.Common.{◌≡◌, Bool, true, false, not, ◌&&◌, List, refl, sym, ap, ◌∙◌, inl, inr}
 use Rattle.std.proofs.lemmas.Bool.{cases_Bool, and_parts, and_from, both_ways}
-use Rattle.bilv_spec.specs.Clauses.{Literal, Clause, same, opposite, has}
-use Rattle.bilv_spec.specs.UnitPropagation.{Includes, Conflicts, negations, negations_but, FollowsByUnits}
-use Rattle.bilv_spec.specs.Refutation.{at_start}
-use Rattle.bilv_spec.proofs.Looks.{same-true, same-self}
-use Rattle.bilv_spec.proofs.AcceptedLines.{accepted_follows}
+use Rattle.clause_spec.specs.Clauses.{Literal, Clause, same, opposite, has}
+use Rattle.clause_spec.specs.UnitPropagation.{Includes, Conflicts, negations, negations_but, FollowsByUnits}
+use Rattle.clause_spec.specs.Refutation.{at_start}
+use Rattle.clause_spec.proofs.Looks.{same-true, same-self}
+use Rattle.clause_spec.proofs.AcceptedLines.{accepted_follows}
 use Rattle.cnf_form.specs.declared.form.Hint.{Hint}
 use Rattle.cnf_form.specs.Views.{hint_of}
 use Rattle.std.specs.Prelude.{map}

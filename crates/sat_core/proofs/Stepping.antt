@@ -3,9 +3,9 @@ use Rattle.std.proofs.Common.{◌≡◌, ◌≢◌, ℕ, zero, suc, ◌+◌, ◌
 use Rattle.std.specs.Prelude.{◌==◌, reverse}
 use Rattle.std.proofs.lemmas.Bool.{cases_Bool, eqb-true, both_ways, ne_eqb}
 use Rattle.std.proofs.lemmas.List.{length-set, reverse-append}
-use Rattle.bilv_spec.specs.Clauses.{Literal, Clause, opposite, same}
-use Rattle.bilv_spec.specs.Refutation.{added}
-use Rattle.bilv_spec.proofs.Looks.{same-self}
+use Rattle.clause_spec.specs.Clauses.{Literal, Clause, opposite, same}
+use Rattle.clause_spec.specs.Refutation.{added}
+use Rattle.clause_spec.proofs.Looks.{same-self}
 use Rattle.sat_core.specs.declared.trail.Step.{Step}
 use Rattle.sat_core.specs.Tables.{value_is, true_in, open_count}
 use Rattle.sat_core.specs.Steps.{told, IsStep, AreSteps}

@@ -1,11 +1,11 @@
 -- Decisions: one more, and what propagation adds.
 use Rattle.std.proofs.Common.{◌≡◌, ℕ, ◌≤◌, Bool, false, List, [], ◌∷◌, ◌++◌, refl, sym, ap, ◌∙◌, inl, inr}
 use Rattle.std.proofs.lemmas.Bool.{cases_Bool, both_ways, or_cases}
-use Rattle.bilv_spec.specs.Clauses.{Literal, Clause, same, opposite, has}
-use Rattle.bilv_spec.specs.UnitPropagation.{Includes, negations}
-use Rattle.bilv_spec.specs.Refutation.{added}
-use Rattle.bilv_spec.proofs.Looks.{same-true, same-self, or_left, or_right}
-use Rattle.bilv_spec.proofs.NewClauses.{opposite_twice}
+use Rattle.clause_spec.specs.Clauses.{Literal, Clause, same, opposite, has}
+use Rattle.clause_spec.specs.UnitPropagation.{Includes, negations}
+use Rattle.clause_spec.specs.Refutation.{added}
+use Rattle.clause_spec.proofs.Looks.{same-true, same-self, or_left, or_right}
+use Rattle.clause_spec.proofs.NewClauses.{opposite_twice}
 use Rattle.sat_core.specs.ClosedSets.{IsQuiet, IsGiven}
 use Rattle.sat_core.specs.Descents.{IsTaken}
 use Rattle.sat_core.proofs.Literals.{has-last, last-front, last-self, plain-last, same-last}

@@ -3,10 +3,10 @@ use Rattle.std.proofs.Common.{◌≡◌, ℕ, ◌<◌, ◌-◌, Bool, true, fals
 use Rattle.std.specs.Prelude.{reverse}
 use Rattle.std.proofs.lemmas.Bool.{or_cases, and_parts, not-true, both_ways}
 use Rattle.std.proofs.lemmas.List.{take-append-drop, take_all}
-use Rattle.bilv_spec.specs.Clauses.{Literal, Clause, same, opposite, has}
-use Rattle.bilv_spec.specs.UnitPropagation.{Includes, negations_but}
-use Rattle.bilv_spec.proofs.Looks.{same-true, or_left, or_right}
-use Rattle.bilv_spec.proofs.NewClauses.{opposite_twice}
+use Rattle.clause_spec.specs.Clauses.{Literal, Clause, same, opposite, has}
+use Rattle.clause_spec.specs.UnitPropagation.{Includes, negations_but}
+use Rattle.clause_spec.proofs.Looks.{same-true, or_left, or_right}
+use Rattle.clause_spec.proofs.NewClauses.{opposite_twice}
 use Rattle.sat_core.specs.declared.propagator.Propagator.{Propagator}
 use Rattle.sat_core.specs.declared.trail.Step.{Step}
 use Rattle.sat_core.specs.declared.trail.Trail.{Trail}

@@ -1,14 +1,13 @@
 -- A watch is visited: where it goes, and what is kept.
 use Rattle.std.proofs.Common.{◌≡◌, ◌≢◌, ℕ, zero, suc, ◌+◌, ◌-◌, ◌*◌, ◌/◌, ◌<◌, ◌≤◌, Bool, true, false, not, List, [], ◌∷◌, Option, Some, None, refl, arith, sym, ap, ◌∙◌, length, get_or, slice_set, inl, inr}
 use Rattle.std.specs.Prelude.{slice_get, Contains, if◌then◌else◌}
-use Rattle.std.proofs.lemmas.Bool.{both_ways, or_cases}
-use Rattle.std.proofs.lemmas.Bool.{ne_eqb}
-use Rattle.bilv_spec.specs.Clauses.{Literal, Clause, same, opposite, has, AreOnVariables}
-use Rattle.bilv_spec.specs.UnitPropagation.{Includes}
-use Rattle.bilv_spec.specs.Refutation.{added}
-use Rattle.bilv_spec.proofs.Looks.{same-true}
-use Rattle.bilv_spec.proofs.NewClauses.{opposite_twice}
-use Rattle.bilv_spec.proofs.RefutationSound.{get-contains}
+use Rattle.std.proofs.lemmas.Bool.{both_ways, or_cases, ne_eqb}
+use Rattle.clause_spec.specs.Clauses.{Literal, Clause, same, opposite, has, AreOnVariables}
+use Rattle.clause_spec.specs.UnitPropagation.{Includes}
+use Rattle.clause_spec.specs.Refutation.{added}
+use Rattle.clause_spec.proofs.Looks.{same-true}
+use Rattle.clause_spec.proofs.NewClauses.{opposite_twice}
+use Rattle.clause_spec.proofs.RefutationSound.{get-contains}
 use Rattle.sat_core.specs.Tables.{value_is, true_in}
 use Rattle.sat_core.specs.Links.{place, no_watch, watched_at, mate, among, IsLinked, IsPlaced, AreKept}
 use Rattle.sat_core.specs.Moves.{HasAt, IsMetAt, IsTarget, IsDetached}

@@ -1,9 +1,9 @@
 -- Looks at clauses by their watched literals.
 use Rattle.std.proofs.Common.{◌≡◌, Bool, true, false, not, ◌&&◌, [], ◌∷◌, refl, sym, ap, ◌∙◌, inl, inr}
 use Rattle.std.proofs.lemmas.Bool.{cases_Bool, and_parts, both_ways, or_cases, not-true}
-use Rattle.bilv_spec.specs.Clauses.{Literal, Clause, same, opposite, has}
-use Rattle.bilv_spec.specs.Refutation.{Other, UnitOf, Conflict, all_same, left_over, look_left, look_of}
-use Rattle.bilv_spec.proofs.Looks.{same-true, same-self, or_left, or_right, left-has, all_same-has}
+use Rattle.clause_spec.specs.Clauses.{Literal, Clause, same, opposite, has}
+use Rattle.clause_spec.specs.Refutation.{Other, UnitOf, Conflict, all_same, left_over, look_left, look_of}
+use Rattle.clause_spec.proofs.Looks.{same-true, same-self, or_left, or_right, left-has, all_same-has}
 use Rattle.sat_core.specs.Moves.{IsShort}
 use Rattle.sat_core.proofs.Quiet.{all_same-from, nothing-left, other-not_false}
 

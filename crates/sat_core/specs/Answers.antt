@@ -1,8 +1,8 @@
 -- What the search answers.
 use Rattle.std.specs.Prelude.{◌≡◌, ℕ, ◌⊎◌, false, List, [], length}
-use Rattle.bilv_spec.specs.Clauses.{Clause, Cnf, IsOnVariables, Satisfies, valuation}
-use Rattle.bilv_spec.specs.Refutation.{is_tautology, IsRefutation}
-use Rattle.bilv_spec.specs.Empowering.{IsEmpowering, IsSpent}
+use Rattle.clause_spec.specs.Clauses.{Clause, Cnf, IsOnVariables, Satisfies, valuation}
+use Rattle.clause_spec.specs.Refutation.{is_tautology, IsRefutation}
+use Rattle.clause_spec.specs.Empowering.{IsEmpowering, IsSpent}
 use Rattle.cnf_form.specs.declared.form.Hint.{Hint}
 use Rattle.cnf_form.specs.Views.{lines_of}
 use Rattle.sat_core.specs.declared.search.Turn.{Turn}

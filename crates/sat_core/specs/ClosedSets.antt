@@ -1,8 +1,8 @@
 -- Sets of literals in which propagation has nothing to do, and those that it leads to.
 use Rattle.std.specs.Prelude.{◌≡◌, Bool, List, Contains}
-use Rattle.bilv_spec.specs.Clauses.{Literal, Clause}
-use Rattle.bilv_spec.specs.UnitPropagation.{IsClosed, Includes}
-use Rattle.bilv_spec.specs.Refutation.{look_of, Other}
+use Rattle.clause_spec.specs.Clauses.{Literal, Clause}
+use Rattle.clause_spec.specs.UnitPropagation.{IsClosed, Includes}
+use Rattle.clause_spec.specs.Refutation.{look_of, Other}
 
 -- no clause is a unit or a conflict
 abbrev pub IsQuiet : List Clause → (Literal → Bool) → Type 0

@@ -1,8 +1,8 @@
 -- What a descent by decisions ends in.
 use Rattle.std.specs.Prelude.{◌≡◌, ◌-◌, ℕ, Bool, false, List, [], ◌∷◌, ◌++◌, Option, length}
-use Rattle.bilv_spec.specs.Clauses.{Literal, Clause, IsOnVariables}
-use Rattle.bilv_spec.specs.UnitPropagation.{Conflicts, Includes, negations}
-use Rattle.bilv_spec.specs.Refutation.{is_tautology}
+use Rattle.clause_spec.specs.Clauses.{Literal, Clause, IsOnVariables}
+use Rattle.clause_spec.specs.UnitPropagation.{Conflicts, Includes, negations}
+use Rattle.clause_spec.specs.Refutation.{is_tautology}
 use Rattle.sat_core.specs.declared.decide.Descent.{Descent}
 use Rattle.sat_core.specs.declared.decide.Descent.TheVariants.{Model, Blocked}
 use Rattle.sat_core.specs.ClosedSets.{IsQuiet, IsGiven}

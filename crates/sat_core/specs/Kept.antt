@@ -1,9 +1,9 @@
 -- Learned clauses with their hints.
 use Rattle.std.specs.Prelude.{◌≡◌, ℕ, Bool, true, false, not, ◌&&◌, nat_lt, nat_le, List, None, length, map, filter}
 use Rattle.std.specs.List.{list_all}
-use Rattle.bilv_spec.specs.Clauses.{Literal, Clause, same, has}
-use Rattle.bilv_spec.specs.UnitPropagation.{Conflicts, negations, negations_but}
-use Rattle.bilv_spec.specs.Refutation.{judge_hints, at_start, is_tautology}
+use Rattle.clause_spec.specs.Clauses.{Literal, Clause, same, has}
+use Rattle.clause_spec.specs.UnitPropagation.{Conflicts, negations, negations_but}
+use Rattle.clause_spec.specs.Refutation.{judge_hints, at_start, is_tautology}
 use Rattle.cnf_form.specs.declared.form.Hint.{Hint}
 use Rattle.cnf_form.specs.declared.form.Hint.TheVariants.{ById, Negative}
 use Rattle.cnf_form.specs.Views.{hint_of}

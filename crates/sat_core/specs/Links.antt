@@ -2,7 +2,7 @@
 -- The watches of a literal are a list, which is linked by one number for each watch.
 use Rattle.std.specs.Prelude.{◌≡◌, ℕ, ◌+◌, ◌-◌, ◌*◌, ◌/◌, ◌%◌, ◌<◌, ◌≤◌, Bool, true, false, List, [], ◌∷◌, nat_eq, slice_index_or, slice_get, length, Some, if◌then◌else◌}
 use Rattle.std.specs.List.{list_any, IsDistinct}
-use Rattle.bilv_spec.specs.Clauses.{Literal, Clause, same, opposite, has}
+use Rattle.clause_spec.specs.Clauses.{Literal, Clause, same, opposite, has}
 
 -- the place of a literal's list
 abbrev pub place : Literal → ℕ

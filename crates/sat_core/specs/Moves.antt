@@ -1,9 +1,8 @@
 -- What becomes of watches, and of clauses that have none.
-use Rattle.std.specs.Prelude.{◌≡◌, ℕ, ◌<◌, ◌-◌, ◌*◌, ◌⊎◌, Bool, true, false, List, [], Some, slice_get, slice_index_or, length}
+use Rattle.std.specs.Prelude.{◌≡◌, ℕ, ◌<◌, ◌-◌, ◌*◌, ◌⊎◌, Bool, true, false, List, [], Some, slice_get, slice_index_or, length, nat_eq}
 use Rattle.std.specs.List.{IsDistinct}
-use Rattle.std.specs.Prelude.{nat_eq}
-use Rattle.bilv_spec.specs.Clauses.{Literal, Clause, same, opposite, has, AreOnVariables}
-use Rattle.bilv_spec.specs.UnitPropagation.{Includes}
+use Rattle.clause_spec.specs.Clauses.{Literal, Clause, same, opposite, has, AreOnVariables}
+use Rattle.clause_spec.specs.UnitPropagation.{Includes}
 use Rattle.sat_core.specs.Steps.{IsConflictAt}
 use Rattle.sat_core.specs.Links.{place, watched_at, among, AreKept, IsChain, IsLinked, IsPlaced}
 use Rattle.sat_core.specs.declared.visit.Move.{Move}

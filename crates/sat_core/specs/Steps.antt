@@ -1,7 +1,7 @@
 -- Steps of propagation, and how it ends.
 use Rattle.std.specs.Prelude.{◌≡◌, ℕ, Bool, List, [], ◌∷◌, Some, slice_get}
-use Rattle.bilv_spec.specs.Clauses.{Literal, Clause}
-use Rattle.bilv_spec.specs.Refutation.{look_of, UnitOf, Conflict, added}
+use Rattle.clause_spec.specs.Clauses.{Literal, Clause}
+use Rattle.clause_spec.specs.Refutation.{look_of, UnitOf, Conflict, added}
 use Rattle.sat_core.specs.declared.trail.Step.{Step}
 
 -- the clause at the place is a unit, and this literal is what is left of it

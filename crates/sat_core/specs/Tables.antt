@@ -1,7 +1,7 @@
 -- Tables of the variables' values.
 use Rattle.std.specs.Prelude.{◌≢◌, ℕ, ◌+◌, ◌≤◌, ◌<◌, Bool, false, List, [], ◌∷◌, Option, Some, None, slice_index_or, length}
-use Rattle.bilv_spec.specs.Clauses.{Literal, same_sign}
-use Rattle.bilv_spec.specs.Refutation as refutation
+use Rattle.clause_spec.specs.Clauses.{Literal, same_sign}
+use Rattle.clause_spec.specs.Refutation as refutation
 use Rattle.sat_core.specs.declared.table.Look.{Look}
 use Rattle.sat_core.specs.declared.table.Look.TheVariants.{Conflict, Unit as UnitOf, Other}
 

@@ -1,6 +1,6 @@
 -- Trails: the literals that became true, in order, and the table of values that they make.
 use Rattle.std.specs.Prelude.{◌≡◌, ℕ, ◌+◌, ◌≤◌, ◌<◌, Bool, false, List, [], ◌∷◌, ◌++◌, Option, length, reverse}
-use Rattle.bilv_spec.specs.Clauses.{Literal, Clause, opposite}
+use Rattle.clause_spec.specs.Clauses.{Literal, Clause, opposite}
 use Rattle.sat_core.specs.Tables.{true_in, open_count}
 use Rattle.sat_core.specs.Steps.{told, AreSteps}
 use Rattle.sat_core.specs.declared.trail.Step.{Step}

@@ -1,7 +1,7 @@
 -- Trials: literals are made false, and taken back.
 use Rattle.std.specs.Prelude.{◌≡◌, ◌++◌, Bool, true, false, ◌||◌, List, [], length}
-use Rattle.bilv_spec.specs.Clauses.{Literal, Clause, same, opposite, has}
-use Rattle.bilv_spec.specs.UnitPropagation.{Includes}
+use Rattle.clause_spec.specs.Clauses.{Literal, Clause, same, opposite, has}
+use Rattle.clause_spec.specs.UnitPropagation.{Includes}
 use Rattle.sat_core.specs.declared.propagator.Propagator.{Propagator}
 use Rattle.sat_core.specs.declared.trail.Step.{Step}
 use Rattle.sat_core.specs.ClosedSets.{IsQuiet}

@@ -1,8 +1,8 @@
 //! The hints of a learned clause.
 ghost use Rattle.std.specs.Prelude.{◌≡◌, ◌-◌, ℕ, Bool, None, true, false, length, map, reverse, slice_index_or, IfOk};
 ghost use Rattle.std.specs.List.{list_all};
-ghost use Rattle.bilv_spec.specs.Clauses.{Literal, has, AreOnVariables, IsOnVariables};
-ghost use Rattle.bilv_spec.specs.Refutation.{judge_hints, at_start};
+ghost use Rattle.clause_spec.specs.Clauses.{Literal, has, AreOnVariables, IsOnVariables};
+ghost use Rattle.clause_spec.specs.Refutation.{judge_hints, at_start};
 ghost use Rattle.cnf_form.specs.Views.{hint_of};
 ghost use Rattle.sat_core.specs.Steps.{IsWay};
 ghost use Rattle.sat_core.specs.Kept.{names};

@@ -1,7 +1,7 @@
 //! Learns clauses that are told by a search, if they follow and say something new.
 ghost use Rattle.std.specs.Prelude.{◌≡◌, ◌-◌, [], true, false, length, IfOk, OnOk, IfSome};
-ghost use Rattle.bilv_spec.specs.Clauses.{has, IsOnVariables};
-ghost use Rattle.bilv_spec.specs.Refutation.{is_tautology};
+ghost use Rattle.clause_spec.specs.Clauses.{has, IsOnVariables};
+ghost use Rattle.clause_spec.specs.Refutation.{is_tautology};
 ghost use Rattle.sat_core.specs.Descents.{IsDecided};
 ghost use Rattle.sat_core.specs.Answers.{IsLearned};
 ghost use Rattle.sat_core.specs.Propagators.{IsSound};

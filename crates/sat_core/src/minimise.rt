@@ -1,8 +1,8 @@
 //! Makes a learned clause smaller.
 ghost use Rattle.std.specs.Prelude.{◌≡◌, ◌-◌, [], false, length, IfOk, OnOk, MatchOption};
-ghost use Rattle.bilv_spec.specs.Clauses.{Literal, IsOnVariables};
-ghost use Rattle.bilv_spec.specs.UnitPropagation.{Conflicts, negations};
-ghost use Rattle.bilv_spec.specs.Refutation.{is_tautology};
+ghost use Rattle.clause_spec.specs.Clauses.{Literal, IsOnVariables};
+ghost use Rattle.clause_spec.specs.UnitPropagation.{Conflicts, negations};
+ghost use Rattle.clause_spec.specs.Refutation.{is_tautology};
 ghost use Rattle.sat_core.specs.Propagators.{IsSound};
 ghost use Rattle.sat_core.specs.Kept.{AreHintsOf, others, IsKept, IsNeeded};
 

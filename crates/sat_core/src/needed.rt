@@ -1,7 +1,7 @@
 //! Whether a clause can lose no literal.
 ghost use Rattle.std.specs.Prelude.{◌≡◌, ◌-◌, [], true, false, length};
-ghost use Rattle.bilv_spec.specs.Clauses.{Literal, IsOnVariables};
-ghost use Rattle.bilv_spec.specs.UnitPropagation.{Includes, negations};
+ghost use Rattle.clause_spec.specs.Clauses.{Literal, IsOnVariables};
+ghost use Rattle.clause_spec.specs.UnitPropagation.{Includes, negations};
 ghost use Rattle.sat_core.specs.Kept.{IsNeeded};
 ghost use Rattle.sat_core.specs.Tables.{true_in};
 ghost use Rattle.sat_core.specs.Propagators.{IsSound};

@@ -1,7 +1,7 @@
 //! Unit propagation by watched literals.
 ghost use Rattle.std.specs.Prelude.{◌≡◌, ◌-◌, ◌*◌, ◌<◌, ◌≤◌, ℕ, Bool, Some, [], length, take, reverse, slice_get, slice_index_or, vec_capacity, IfSome, IfNone};
-ghost use Rattle.bilv_spec.specs.Clauses.{Literal, Clause, AreOnVariables};
-ghost use Rattle.bilv_spec.specs.UnitPropagation.{Includes};
+ghost use Rattle.clause_spec.specs.Clauses.{Literal, Clause, AreOnVariables};
+ghost use Rattle.clause_spec.specs.UnitPropagation.{Includes};
 ghost use Rattle.sat_core.specs.ClosedSets.{IsQuiet};
 ghost use Rattle.sat_core.specs.Tables.{true_in};
 ghost use Rattle.sat_core.specs.Steps.{told, IsConflictAt};

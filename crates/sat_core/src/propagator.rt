@@ -1,7 +1,7 @@
 //! Clauses that are propagated.
 ghost use Rattle.std.specs.Prelude.{◌≡◌, Bool, take, reverse, ◌-◌, ◌+◌, ◌≤◌, ◌^◌, ◌∷◌, ◌++◌, [], false, true, length, vec_capacity, IfOk, OnOk, IfSome, IfNone};
-ghost use Rattle.bilv_spec.specs.Clauses.{Literal, same, has, IsOnVariables};
-ghost use Rattle.bilv_spec.specs.UnitPropagation.{Includes};
+ghost use Rattle.clause_spec.specs.Clauses.{Literal, same, has, IsOnVariables};
+ghost use Rattle.clause_spec.specs.UnitPropagation.{Includes};
 ghost use Rattle.sat_core.specs.ClosedSets.{IsQuiet};
 ghost use Rattle.sat_core.specs.Links.{AreKept};
 ghost use Rattle.sat_core.specs.Steps.{told, IsConflictAt};

@@ -1,6 +1,6 @@
 //! The search.
 ghost use Rattle.std.specs.Prelude.{◌≡◌, ◌+◌, ◌-◌, ◌≤◌, ◌^◌, [], length, IfOk, OnOk, IfSome};
-ghost use Rattle.bilv_spec.specs.Clauses.{AreOnVariables};
+ghost use Rattle.clause_spec.specs.Clauses.{AreOnVariables};
 ghost use Rattle.cnf_form.specs.Views.{cnf_of};
 ghost use Rattle.sat_core.specs.Answers.{IsTurn, IsAnswer};
 ghost use Rattle.sat_core.specs.Propagators.{IsSound};

@@ -1,7 +1,7 @@
 //! Answers by the fast search, where what it finds is right.
 ghost use Rattle.std.specs.Prelude.{◌≡◌, true, length, IfOk, IfSome};
 ghost use Rattle.std.specs.List.{list_all};
-ghost use Rattle.bilv_spec.specs.Clauses.{AreOnVariables, Satisfies, literal_value, clause_value, valuation};
+ghost use Rattle.clause_spec.specs.Clauses.{AreOnVariables, Satisfies, literal_value, clause_value, valuation};
 ghost use Rattle.cnf_form.specs.Views.{cnf_of};
 ghost use Rattle.sat_core.specs.Answers.{IsAnswer};
 

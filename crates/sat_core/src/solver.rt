@@ -1,9 +1,9 @@
 //! The state of a search.
 ghost use Rattle.std.specs.Prelude.{◌≡◌, ◌+◌, ◌≤◌, ◌^◌, [], length, vec_capacity, IfOk, IfSome, IfNone};
-ghost use Rattle.bilv_spec.specs.Clauses.{AreOnVariables};
+ghost use Rattle.clause_spec.specs.Clauses.{AreOnVariables};
 ghost use Rattle.sat_core.specs.ClosedSets.{IsQuiet};
 ghost use Rattle.sat_core.specs.Tables.{true_in};
-ghost use Rattle.bilv_spec.specs.UnitPropagation.{Includes};
+ghost use Rattle.clause_spec.specs.UnitPropagation.{Includes};
 ghost use Rattle.sat_core.specs.Steps.{IsConflictAt};
 ghost use Rattle.sat_core.specs.Trails.{IsRun};
 ghost use Rattle.sat_core.specs.Propagators.{IsSound};

@@ -2,8 +2,8 @@
 //!
 //! A table has a place for each variable, and one for the number 0, which is no variable.
 ghost use Rattle.std.specs.Prelude.{◌≡◌, ◌+◌, ◌-◌, ◌<◌, ◌≤◌, false, length, map, drop, slice_index_or, IfOk};
-ghost use Rattle.bilv_spec.specs.Clauses.{Literal, opposite, IsOnVariables};
-ghost use Rattle.bilv_spec.specs.Refutation.{added, look_of};
+ghost use Rattle.clause_spec.specs.Clauses.{Literal, opposite, IsOnVariables};
+ghost use Rattle.clause_spec.specs.Refutation.{added, look_of};
 ghost use Rattle.sat_core.specs.Tables.{true_in, open_count, seen_as, is_set};
 
 use cnf_form::Lit;

@@ -1,8 +1,8 @@
 //! The literals that became true, in order.
 ghost use Rattle.std.specs.Prelude.{◌≡◌, ◌-◌, ◌≤◌, ◌+◌, ◌<◌, ◌^◌, ◌∷◌, ◌++◌, [], false, List, length, take, IfOk, vec_capacity};
-ghost use Rattle.bilv_spec.specs.Clauses.{Literal, opposite, IsOnVariables};
-ghost use Rattle.bilv_spec.specs.Refutation.{added, is_tautology};
-ghost use Rattle.bilv_spec.specs.UnitPropagation.{Includes, negations};
+ghost use Rattle.clause_spec.specs.Clauses.{Literal, opposite, IsOnVariables};
+ghost use Rattle.clause_spec.specs.Refutation.{added, is_tautology};
+ghost use Rattle.clause_spec.specs.UnitPropagation.{Includes, negations};
 ghost use Rattle.sat_core.specs.Tables.{true_in};
 ghost use Rattle.sat_core.specs.Trails.{IsTrail};
 ghost use Rattle.sat_core.specs.declared.trail.Step.{Step};

@@ -1,8 +1,8 @@
 //! Visits the watches of a literal that has become false.
 ghost use Rattle.std.specs.Prelude.{◌≡◌, ◌-◌, ◌+◌, ◌*◌, ◌/◌, ◌<◌, ℕ, Bool, [], false, true, length, slice_index, vec_capacity, IfSome, IfNone};
-ghost use Rattle.bilv_spec.specs.Clauses.{Literal, Clause, same, opposite, has, IsOnVariables, AreOnVariables};
-ghost use Rattle.bilv_spec.specs.UnitPropagation.{Includes};
-ghost use Rattle.bilv_spec.specs.Refutation.{added};
+ghost use Rattle.clause_spec.specs.Clauses.{Literal, Clause, same, opposite, has, IsOnVariables, AreOnVariables};
+ghost use Rattle.clause_spec.specs.UnitPropagation.{Includes};
+ghost use Rattle.clause_spec.specs.Refutation.{added};
 ghost use Rattle.sat_core.specs.Tables.{true_in};
 ghost use Rattle.sat_core.specs.Steps.{IsConflictAt};
 ghost use Rattle.sat_core.specs.Trails.{IsTrail, IsRun};

@@ -3,7 +3,7 @@ use Rattle.std.proofs.Common.{◌≡◌, ℕ, suc, ◌+◌, ◌-◌, ◌<◌, re
 use Rattle.std.specs.Prelude.{codes, slice_index}
 use Rattle.std.proofs.Math.Seq.{drop-cons}
 use Rattle.bilv_spec.specs.SmtLib.{Sexp}
-use Rattle.bilv_spec.specs.StateText.{Layout}
+use Rattle.machine_spec.specs.StateText.{Layout}
 use Rattle.walk_spec.specs.Terms.{TermNode, node_at, width_of, MemoryNode}
 use Rattle.walk_spec.specs.Unrolled.{ByteRun}
 use Rattle.smtlib_print.specs.Commands.{definition, sort_of, node_term, node_definitions, declaration, declarations, byte_definitions, further, has_byte}

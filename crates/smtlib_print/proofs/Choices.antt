@@ -4,7 +4,7 @@ use Rattle.std.specs.Prelude.{codes, slice_index_or}
 use Rattle.std.proofs.Math.Seq.{drop-cons}
 use Rattle.bilv_spec.specs.SmtLib.{Atom}
 use Rattle.bilv_spec.specs.Scripts.{choice_name}
-use Rattle.bilv_spec.specs.Texts.{number_text}
+use Rattle.word_spec.specs.Texts.{number_text}
 use Rattle.question_form.specs.declared.unrolled.Point.{Point}
 use Rattle.question_form.specs.declared.unrolled.Unrolled.{Unrolled}
 use Rattle.question_form.specs.Views.{no_code, points_of}

@@ -8,9 +8,9 @@ use Rattle.std.proofs.lemmas.Bool.Decides.{nat_tests}
 use Rattle.std.proofs.lemmas.Int.Digits.{digits_value_push}
 use Rattle.std.proofs.lemmas.List.Folds.{list_all-append}
 use Rattle.std.proofs.lemmas.Nat.{pow-add}
-use Rattle.bilv_spec.specs.Texts.{hex_digits, is_hex_digit}
+use Rattle.word_spec.specs.Texts.{hex_digits, is_hex_digit}
 use Rattle.bilv_spec.specs.SmtLib.{SmtValue, WordValue, atom_value, constant_of, is_binary_digit}
-use Rattle.bilv_spec.proofs.Spelling.{hex_back, hex_length}
+use Rattle.machine_spec.proofs.Spelling.{hex_back, hex_length}
 use Rattle.smtlib_print.specs.Commands.{binary_digits, constant_text}
 use Rattle.smtlib_print.proofs.ReadBack.{is_inner}
 

@@ -3,7 +3,7 @@ use Rattle.std.proofs.Common.{◌≡◌, ◌≢◌, ℕ, zero, suc, ◌^◌, ◌
 use Rattle.std.specs.Prelude.{◌||◌, slice_index, slice_index_or}
 use Rattle.bilv_spec.specs.Scripts.{choice_name}
 use Rattle.bilv_spec.specs.SmtLib.{Sexp, SmtValue}
-use Rattle.bilv_spec.proofs.Spelling.{same_text}
+use Rattle.machine_spec.proofs.Spelling.{same_text}
 use Rattle.smtlib_print.specs.Commands.{term_name, drawn}
 use Rattle.smtlib_print.proofs.Declared.{are_new, AreSorted, IsSorted}
 use Rattle.smtlib_print.proofs.Defined.{among}

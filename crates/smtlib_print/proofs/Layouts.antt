@@ -4,10 +4,10 @@ use Rattle.std.specs.Prelude.{◌==◌, ◌&&◌, ◌||◌, not, codes, if◌the
 use Rattle.std.specs.List.{list_all}
 use Rattle.std.specs.Option.{option_map}
 use Rattle.std.specs.Str.{bytes_eq}
-use Rattle.bilv_spec.specs.Memory.{Endian, endian}
-use Rattle.bilv_spec.specs.Arm.{Profile}
-use Rattle.bilv_spec.specs.StateText.{Layout, value_names, place_in, rv_layout, arm_layout}
-use Rattle.bilv_spec.proofs.Spelling.{same_text}
+use Rattle.word_spec.specs.Memory.{Endian, endian}
+use Rattle.word_spec.specs.Profiles.{Profile}
+use Rattle.machine_spec.specs.StateText.{Layout, value_names, place_in, rv_layout, arm_layout}
+use Rattle.machine_spec.proofs.Spelling.{same_text}
 use Rattle.std.specs.Fmt.{digits}
 use Rattle.state_text.specs.declared.layout.Layout as forms
 use Rattle.state_text.specs.declared.layout.Layout.TheVariants.{Rv32, Arm}

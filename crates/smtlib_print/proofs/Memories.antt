@@ -3,10 +3,10 @@ use Rattle.std.proofs.Common.{◌≡◌, ℕ, zero, suc, ◌+◌, ◌-◌, ◌*�
 use Rattle.std.specs.Prelude.{◌==◌, nat_lt, nat_le, if◌then◌else◌}
 use Rattle.std.proofs.lemmas.Bool.{cases_lt, cases_eq}
 use Rattle.std.proofs.lemmas.Bool.Decides.{nat_tests}
-use Rattle.bilv_spec.specs.Words as words
-use Rattle.bilv_spec.specs.Memory.{Memory, Endian, Little, Big, little, number, load, place, byte_of}
+use Rattle.word_spec.specs.Words as words
+use Rattle.word_spec.specs.Memory.{Memory, Endian, Little, Big, little, number, load, place, byte_of}
 use Rattle.bilv_spec.specs.SmtLib.{SmtValue, WordValue, ArrayValue, atom_value, term_value, store_byte}
-use Rattle.bilv_spec.proofs.Spelling.{decimal_back}
+use Rattle.machine_spec.proofs.Spelling.{decimal_back}
 use Rattle.smtlib_print.specs.Commands.{term_name, behind, selected, loading, storing, extract}
 use Rattle.smtlib_print.proofs.Constants.{eight, hex_constant}
 

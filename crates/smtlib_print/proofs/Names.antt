@@ -8,7 +8,7 @@ use Rattle.std.proofs.lemmas.Bool.Decides.{nat_tests}
 use Rattle.std.proofs.lemmas.Slice.Eq.{bytes_eq-Decides}
 use Rattle.std.proofs.lemmas.Fmt.{decimal_is_IsNumeral, decimal_injective}
 use Rattle.std.proofs.lemmas.Str.Parse.{digit_from_value}
-use Rattle.bilv_spec.specs.Texts.{number_text}
+use Rattle.word_spec.specs.Texts.{number_text}
 use Rattle.bilv_spec.specs.Scripts.{choice_name}
 use Rattle.bilv_spec.specs.SmtLib.{SmtValue, atom_value, constant_of}
 use Rattle.smtlib_print.specs.Commands.{term_name}

@@ -2,13 +2,13 @@
 use Rattle.std.proofs.Common.{◌≡◌, ℕ, zero, suc, ◌+◌, ◌-◌, ◌*◌, ◌^◌, ◌<◌, ◌≤◌, refl, ap, sym, ◌∙◌, subst, arith, true, false, List, [], Option, Some, length}
 use Rattle.std.specs.Prelude.{◌==◌, nat_lt, nat_le, codes, if◌then◌else◌, slice_index, slice_index_or}
 use Rattle.std.proofs.lemmas.Bool.Decides.{nat_tests}
-use Rattle.bilv_spec.specs.Words as words
-use Rattle.bilv_spec.specs.Memory.{Memory}
-use Rattle.bilv_spec.specs.BilTyping.{result_width}
+use Rattle.word_spec.specs.Words as words
+use Rattle.word_spec.specs.Memory.{Memory}
+use Rattle.machine_spec.specs.BilTyping.{result_width}
 use Rattle.bilv_spec.specs.Scripts.{choice_name}
-use Rattle.bilv_spec.specs.StateText.{Layout}
+use Rattle.machine_spec.specs.StateText.{Layout}
 use Rattle.bilv_spec.specs.SmtLib.{SmtValue, WordValue, ArrayValue, atom_value, term_value}
-use Rattle.bilv_spec.proofs.Spelling.{same_number, decimal_back}
+use Rattle.machine_spec.proofs.Spelling.{same_number, decimal_back}
 use Rattle.walk_spec.specs.Terms as terms
 use Rattle.walk_spec.specs.Terms.{TermReading, InRange, TermValue, TermNode, RegisterNode, FlagNode, ChoiceNode, BaseNode, MemoryNode, ConstantNode, BinaryNode, NotNode, SelectNode, ExtractNode, ConcatNode, ExtendNode, LoadNode, StoreNode, JoinNode, word_value, bytes_value, value_at, node_value, values_from, width_of, node_at, HasWidth, IsTypedOver, AreTyped, select, extend}
 use Rattle.term_dag.proofs.Ranges.{word_fits, result_is_width}

@@ -4,11 +4,11 @@ use Rattle.std.specs.Prelude.{◌==◌, not, nat_lt, nat_le, if◌then◌else◌
 use Rattle.std.proofs.lemmas.Bool.Decides.{nat_tests}
 use Rattle.std.proofs.lemmas.Nat.{pow_pos}
 use Rattle.std.proofs.Math.Nat.{mod-eq_of_lt, div-le_self}
-use Rattle.bilv_spec.specs.Words as words
-use Rattle.bilv_spec.specs.Bil.{BinaryOp, Plus, Minus, Times, Divide, SignedDivide, Modulo, SignedModulo, And, Or, Xor, ShiftLeft, ShiftRight, ShiftSigned, Equal, NotEqual, Less, LessEqual, SignedLess, SignedLessEqual}
-use Rattle.bilv_spec.specs.BilTyping.{result_width}
+use Rattle.word_spec.specs.Words as words
+use Rattle.machine_spec.specs.Bil.{BinaryOp, Plus, Minus, Times, Divide, SignedDivide, Modulo, SignedModulo, And, Or, Xor, ShiftLeft, ShiftRight, ShiftSigned, Equal, NotEqual, Less, LessEqual, SignedLess, SignedLessEqual}
+use Rattle.machine_spec.specs.BilTyping.{result_width}
 use Rattle.bilv_spec.specs.SmtLib.{SmtValue, WordValue, atom_value, term_value, smt_sdiv}
-use Rattle.bilv_spec.proofs.Spelling.{same_number}
+use Rattle.machine_spec.proofs.Spelling.{same_number}
 use Rattle.walk_spec.specs.Terms.{operate}
 use Rattle.smtlib_print.specs.Commands.{term_name, operation, constant_text}
 

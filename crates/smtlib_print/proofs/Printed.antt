@@ -4,16 +4,16 @@ use Rattle.std.specs.Prelude.{codes, slice_index_or, decimal, if◌then◌else�
 use Rattle.std.specs.Result.{is_ok}
 use Rattle.std.proofs.lemmas.Bool.{cases_eq}
 use Rattle.std.proofs.lemmas.Fmt.{decimal_digit}
-use Rattle.bilv_spec.specs.StateText.{register_names}
+use Rattle.machine_spec.specs.StateText.{register_names}
 use Rattle.state_text.specs.declared.layout.Layout.{Layout}
 use Rattle.state_text.specs.declared.layout.Layout.TheVariants.{Rv32, Arm}
 use Rattle.state_text.specs.Starts.{layout_of}
 use Rattle.state_text.proofs.Appends.{three, five, seven}
-use Rattle.bilv_spec.specs.Memory.{Endian, Little, Big, endian, place}
+use Rattle.word_spec.specs.Memory.{Endian, Little, Big, endian, place}
 use Rattle.bilv_spec.specs.SmtLib.{Sexp, Atom}
-use Rattle.bilv_spec.specs.Texts.{hex_digit, hex_digits, number_text}
+use Rattle.word_spec.specs.Texts.{hex_digit, hex_digits, number_text}
 use Rattle.smtlib_print.specs.Commands.{binary_digits, term, address, behind, selected, loading, storing, extract, constant_text, operation, apply, word_sort, numeral, sort_of, definition, declaration}
-use Rattle.bilv_spec.specs.Bil.{SignedDivide}
+use Rattle.machine_spec.specs.Bil.{SignedDivide}
 use Rattle.smtlib_print.specs.Written.{three as three_of, written}
 
 -- the name of a register by its number

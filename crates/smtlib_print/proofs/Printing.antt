@@ -4,9 +4,9 @@ use Rattle.std.specs.Prelude.{codes, nat_eq}
 use Rattle.std.specs.List.{list_any}
 use Rattle.std.proofs.lemmas.Bool.Decides.{nat_tests}
 use Rattle.bilv_spec.specs.Points.{Point}
-use Rattle.bilv_spec.specs.Questions.{Question}
+use Rattle.call_spec.specs.Calls.{Question}
 use Rattle.bilv_spec.specs.SmtLib.{Atom}
-use Rattle.bilv_spec.specs.StateText as texts
+use Rattle.machine_spec.specs.StateText as texts
 use Rattle.walk_spec.specs.Terms as terms
 use Rattle.walk_spec.specs.Terms.{TermNode, IsTypedOver, AreTypedFrom, AreTyped, node_at}
 use Rattle.walk_spec.specs.Unrolled.{UnrolledProgram, ByteRun}

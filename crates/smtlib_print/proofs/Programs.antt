@@ -6,13 +6,14 @@ use Rattle.std.proofs.lemmas.Bool.Decides.{nat_tests}
 use Rattle.std.proofs.lemmas.List.{get_or-map, length-map}
 use Rattle.std.proofs.lemmas.List.Elements.{Contains-append_left, Contains-append_right, Contains-append_cases}
 use Rattle.std.proofs.lemmas.Option.{slice_get_within, slice_get-get_or, get_or_from_slice_get}
-use Rattle.bilv_spec.specs.Machine.{Row}
+use Rattle.machine_spec.specs.Machine.{Row}
 use Rattle.bilv_spec.specs.PointLaws.{HasLawfulRows}
 use Rattle.bilv_spec.specs.Points.{Point, file_row, is_known_at, byte_of_cell}
-use Rattle.bilv_spec.specs.Questions.{Reading, Question, IsTrue, IsTrueOver}
+use Rattle.bilv_spec.specs.Questions.{Reading, IsTrue, IsTrueOver}
+use Rattle.call_spec.specs.Calls.{Question}
 use Rattle.bilv_spec.specs.Run.{Program}
 use Rattle.bilv_spec.specs.Scripts.{AreNumbered, IsScript, choice_name, draws, drawn_names, is_below_from_end, is_point_below, symbols_of}
-use Rattle.bilv_spec.specs.StateText.{Layout, value_names}
+use Rattle.machine_spec.specs.StateText.{Layout, value_names}
 use Rattle.bilv_spec.proofs.AskedBytes.{true_over}
 use Rattle.walk_spec.specs.Unrolled.{UnrolledPoint, UnrolledProgram, no_point, point_at}
 use Rattle.walk_spec.specs.Unrolling.{IsUnrolling, row_draws}

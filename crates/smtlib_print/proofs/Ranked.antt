@@ -14,7 +14,7 @@ use Rattle.std.proofs.lemmas.List.Sums.{sum_by-cons, get_or-le-sum_by}
 use Rattle.std.proofs.lemmas.Option.{slice_get_within, slice_get-get_or, get_or_from_slice_get}
 use Rattle.bilv_spec.specs.Points.{Point}
 use Rattle.bilv_spec.specs.Scripts.{is_point_below}
-use Rattle.bilv_spec.specs.Words.{bit}
+use Rattle.word_spec.specs.Words.{bit}
 use Rattle.program_points.specs.declared.values.Frame.{Frame}
 use Rattle.walk_spec.specs.Unrolled.{UnrolledPoint, UnrolledProgram, no_point, point_at}
 use Rattle.smtlib_print.specs.Numbered.{AreApart, AreNumbersOf}

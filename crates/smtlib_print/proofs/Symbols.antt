@@ -3,7 +3,7 @@ use Rattle.std.proofs.Common.{◌≡◌, ℕ, zero, suc, ◌+◌, refl, ap, sym,
 use Rattle.std.specs.Prelude.{codes}
 use Rattle.bilv_spec.specs.Scripts.{IsTermName}
 use Rattle.bilv_spec.specs.SmtLib.{Sexp, Atom, Nil, declared_symbols, defined_symbols}
-use Rattle.bilv_spec.specs.StateText.{Layout}
+use Rattle.machine_spec.specs.StateText.{Layout}
 use Rattle.walk_spec.specs.Terms.{TermNode}
 use Rattle.walk_spec.specs.Unrolled.{ByteRun}
 use Rattle.smtlib_print.specs.Commands.{term, definition, declaration, declarations, all_declarations, node_definitions, byte_definitions, run_definitions, bytes_of, middle_commands, all_commands, is_one, word_sort, array_sort}

@@ -7,10 +7,11 @@ use Rattle.std.proofs.lemmas.Bool.Decides.{nat_tests}
 use Rattle.std.proofs.lemmas.Map.Views.{Contains-from_any}
 use Rattle.std.proofs.lemmas.List.Elements.{Contains-append_left, Contains-append_right, Contains-append_cases}
 use Rattle.bilv_spec.specs.Points.{Point}
-use Rattle.bilv_spec.specs.Questions.{Reading, IsReading, Question}
+use Rattle.bilv_spec.specs.Questions.{Reading, IsReading}
+use Rattle.call_spec.specs.Calls.{Question}
 use Rattle.bilv_spec.specs.Scripts.{AreWholeLines, choice_name, is_plain_byte, values_of}
 use Rattle.bilv_spec.specs.SmtLib.{Sexp, Atom, Nil, commands_truth, truth_of, SmtValue}
-use Rattle.bilv_spec.specs.StateText.{Layout}
+use Rattle.machine_spec.specs.StateText.{Layout}
 use Rattle.walk_spec.specs.Terms as terms
 use Rattle.walk_spec.specs.Terms.{TermNode, HasWidth}
 use Rattle.walk_spec.specs.Unrolled.{UnrolledProgram}

@@ -9,12 +9,12 @@ use Rattle.std.proofs.lemmas.Fmt.{decimal_injective}
 use Rattle.std.proofs.lemmas.List.{get_or_append_left, get_or-append_right}
 use Rattle.bilv_spec.specs.Points.{Point}
 use Rattle.bilv_spec.specs.Questions.{Reading}
-use Rattle.bilv_spec.specs.RowFiles.{from_to}
+use Rattle.word_spec.specs.RowFiles.{from_to}
 use Rattle.bilv_spec.specs.Scripts.{choice_name, values_of}
 use Rattle.bilv_spec.specs.SmtLib.{WordValue, ArrayValue}
-use Rattle.bilv_spec.specs.StateText.{Layout, value_names, place_in}
-use Rattle.bilv_spec.specs.Texts.{number_text}
-use Rattle.bilv_spec.proofs.Spelling.{same_text}
+use Rattle.machine_spec.specs.StateText.{Layout, value_names, place_in}
+use Rattle.word_spec.specs.Texts.{number_text}
+use Rattle.machine_spec.proofs.Spelling.{same_text}
 use Rattle.smtlib_print.proofs.Declared.{both_true, is_false}
 use Rattle.smtlib_print.proofs.Defined.{among}
 use Rattle.smtlib_print.proofs.Layouts.{is_lettered, is_own, IsUsable, name_at, place_at, place_none}

@@ -5,9 +5,9 @@ use Rattle.std.proofs.lemmas.Bool.Decides.{nat_tests}
 use Rattle.bilv_spec.specs.Points.{Point}
 use Rattle.bilv_spec.specs.Questions.{Reading, IsReading}
 use Rattle.bilv_spec.specs.Scripts.{values_of}
-use Rattle.bilv_spec.specs.StateText.{Layout}
+use Rattle.machine_spec.specs.StateText.{Layout}
 use Rattle.bilv_spec.specs.SmtLib.{Sexp, Atom, Nil, SmtValue, TruthValue, WordValue, ArrayValue, atom_value, binds, truth_of}
-use Rattle.bilv_spec.specs.Texts.{number_text}
+use Rattle.word_spec.specs.Texts.{number_text}
 use Rattle.walk_spec.specs.Terms as terms
 use Rattle.walk_spec.specs.Terms.{TermReading, InRange, TermNode, HasWidth, AreTyped}
 use Rattle.walk_spec.specs.Unrolled.{ByteRun, UnrolledProgram, point_at}

@@ -4,12 +4,12 @@ use Rattle.std.specs.Prelude.{◌==◌, codes, if◌then◌else◌, slice_index,
 use Rattle.std.specs.List.{list_all}
 use Rattle.std.proofs.lemmas.Bool.Decides.{nat_tests}
 use Rattle.std.proofs.lemmas.List.Folds.{list_all-append}
-use Rattle.bilv_spec.specs.Memory.{Endian, Little, Big, place}
-use Rattle.bilv_spec.specs.Bil.{BinaryOp, Plus, Minus, Times, Divide, SignedDivide, Modulo, SignedModulo, And, Or, Xor, ShiftLeft, ShiftRight, ShiftSigned, Equal, NotEqual, Less, LessEqual, SignedLess, SignedLessEqual}
+use Rattle.word_spec.specs.Memory.{Endian, Little, Big, place}
+use Rattle.machine_spec.specs.Bil.{BinaryOp, Plus, Minus, Times, Divide, SignedDivide, Modulo, SignedModulo, And, Or, Xor, ShiftLeft, ShiftRight, ShiftSigned, Equal, NotEqual, Less, LessEqual, SignedLess, SignedLessEqual}
 use Rattle.bilv_spec.specs.Scripts.{choice_name}
 use Rattle.bilv_spec.specs.SmtLib.{Sexp}
-use Rattle.bilv_spec.specs.StateText.{Layout}
-use Rattle.bilv_spec.specs.Texts.{hex_digit, hex_digits}
+use Rattle.machine_spec.specs.StateText.{Layout}
+use Rattle.word_spec.specs.Texts.{hex_digit, hex_digits}
 use Rattle.walk_spec.specs.Terms as terms
 use Rattle.walk_spec.specs.Terms.{TermNode, HasWidth, IsTypedOver, AreTypedFrom, width_of}
 use Rattle.walk_spec.specs.Unrolled.{ByteRun}

@@ -1,9 +1,9 @@
 -- The commands of a script: its declarations, a definition for each node, one for each byte of the file, and the assertion.
 use Rattle.std.specs.Prelude.{ℕ, zero, suc, ◌+◌, ◌-◌, ◌*◌, ◌/◌, ◌%◌, ◌^◌, ◌==◌, ◌&&◌, Bool, true, false, if◌then◌else◌, List, [], ◌∷◌, ◌++◌, codes, length, map, slice_index, slice_index_or}
-use Rattle.bilv_spec.specs.Memory.{Endian, Little, Big, place}
-use Rattle.bilv_spec.specs.Bil.{BinaryOp, Plus, Minus, Times, Divide, SignedDivide, Modulo, SignedModulo, And, Or, Xor, ShiftLeft, ShiftRight, ShiftSigned, Equal, NotEqual, Less, LessEqual, SignedLess, SignedLessEqual}
-use Rattle.bilv_spec.specs.Texts.{number_text, hex_digits}
-use Rattle.bilv_spec.specs.StateText.{Layout}
+use Rattle.word_spec.specs.Memory.{Endian, Little, Big, place}
+use Rattle.machine_spec.specs.Bil.{BinaryOp, Plus, Minus, Times, Divide, SignedDivide, Modulo, SignedModulo, And, Or, Xor, ShiftLeft, ShiftRight, ShiftSigned, Equal, NotEqual, Less, LessEqual, SignedLess, SignedLessEqual}
+use Rattle.word_spec.specs.Texts.{number_text, hex_digits}
+use Rattle.machine_spec.specs.StateText.{Layout}
 use Rattle.bilv_spec.specs.Scripts.{choice_name}
 use Rattle.bilv_spec.specs.SmtLib.{Sexp, Atom, Nil}
 use Rattle.walk_spec.specs.Terms.{TermNode, RegisterNode, FlagNode, ChoiceNode, BaseNode, MemoryNode, ConstantNode, BinaryNode, NotNode, SelectNode, ExtractNode, ConcatNode, ExtendNode, LoadNode, StoreNode, JoinNode, width_of}

@@ -1,6 +1,6 @@
 -- What the printer of a node can rely on.
 use Rattle.std.specs.Prelude.{ℕ, ◌≤◌, ◌<◌, ◌+◌, length}
-use Rattle.bilv_spec.specs.StateText.{Layout}
+use Rattle.machine_spec.specs.StateText.{Layout}
 use Rattle.walk_spec.specs.Terms.{TermNode, RegisterNode, FlagNode, ChoiceNode, BinaryNode, SelectNode, ExtendNode, LoadNode, StoreNode, JoinNode, IsWidth, IsBytes}
 
 -- inputs have names among those of the layout and among so many numbers; widths and counts of bytes are in range

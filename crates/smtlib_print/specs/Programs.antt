@@ -1,10 +1,10 @@
 -- A script that tells a question over an unrolled program is one of the program that it is of.
 use Rattle.std.specs.Prelude.{ℕ, List}
 use Rattle.bilv_spec.specs.PointLaws.{HasLawfulRows}
-use Rattle.bilv_spec.specs.Questions.{Question}
+use Rattle.call_spec.specs.Calls.{Question}
 use Rattle.bilv_spec.specs.Run.{Program}
 use Rattle.bilv_spec.specs.Scripts.{IsScript}
-use Rattle.bilv_spec.specs.StateText.{Layout}
+use Rattle.machine_spec.specs.StateText.{Layout}
 use Rattle.walk_spec.specs.Unrolled.{UnrolledProgram}
 use Rattle.walk_spec.specs.Unrolling.{IsUnrolling}
 use Rattle.smtlib_print.specs.Told.{TellsScript}

@@ -1,8 +1,8 @@
 -- The text of a script, and the law that it tells its question.
 use Rattle.std.specs.Prelude.{ℕ, ◌≡◌, ◌≢◌, ◌≤◌, ◌<◌, ◌+◌, ◌^◌, List, [], ◌∷◌, Some, length, map, slice_get, slice_index}
 use Rattle.bilv_spec.specs.Points.{Point}
-use Rattle.bilv_spec.specs.Questions.{Question}
-use Rattle.bilv_spec.specs.StateText as texts
+use Rattle.call_spec.specs.Calls.{Question}
+use Rattle.machine_spec.specs.StateText as texts
 use Rattle.walk_spec.specs.Terms.{TermNode}
 use Rattle.walk_spec.specs.Unrolled.{ByteRun, UnrolledProgram, point_at}
 use Rattle.walk_spec.specs.Unrolling.{IsLaidOut}

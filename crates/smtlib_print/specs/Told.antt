@@ -1,11 +1,12 @@
 -- What the script of a question says, over an unrolled program.
 use Rattle.std.specs.Prelude.{ℕ, ◌≡◌, ◌⊎◌, ◌↔◌, true, List, ◌++◌, Some, is_some, codes, map, AllPairs, slice_get, Contains}
 use Rattle.bilv_spec.specs.Points.{Point}
-use Rattle.bilv_spec.specs.Questions.{Reading, IsReading, Question}
+use Rattle.bilv_spec.specs.Questions.{Reading, IsReading}
+use Rattle.call_spec.specs.Calls.{Question}
 use Rattle.bilv_spec.specs.Scripts.{AreWholeLines, IsTermName, choice_name, is_plain_byte, is_point_below, values_of}
 use Rattle.bilv_spec.specs.SmtLib.{Sexp, commands_truth, declared_symbols, defined_symbols, sexps_of}
-use Rattle.bilv_spec.specs.StateText.{Layout, value_names}
-use Rattle.bilv_spec.specs.Texts.{line}
+use Rattle.machine_spec.specs.StateText.{Layout, value_names}
+use Rattle.word_spec.specs.Texts.{line}
 use Rattle.walk_spec.specs.Unrolled.{UnrolledProgram, point_at}
 use Rattle.walk_spec.specs.WalkQuestions.{DrawsAt, IsTrueOfWalk}
 

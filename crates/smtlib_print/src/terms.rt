@@ -1,9 +1,9 @@
 //! The terms of nodes.
 ghost use Rattle.std.specs.Prelude.{◌≡◌, ◌≤◌, ◌<◌, ◌+◌, ◌-◌, ◌*◌, ◌++◌, true, false, codes, length, slice_index, string_bytes, OnOk};
-ghost use Rattle.bilv_spec.specs.Bil.{SignedDivide};
+ghost use Rattle.machine_spec.specs.Bil.{SignedDivide};
 ghost use Rattle.bilv_spec.specs.Scripts.{choice_name};
 ghost use Rattle.bilv_spec.specs.SmtLib.{Atom};
-ghost use Rattle.bilv_spec.specs.Memory.{endian, place};
+ghost use Rattle.word_spec.specs.Memory.{endian, place};
 ghost use Rattle.walk_spec.specs.Terms.{IsBytes, IsWidth};
 ghost use Rattle.state_text.specs.Starts.{layout_of};
 ghost use Rattle.term_dag.specs.Nodes.{node_of, op_of};

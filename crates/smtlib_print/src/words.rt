@@ -1,9 +1,9 @@
 //! Constants, numbers and names.
 ghost use Rattle.std.specs.Prelude.{◌≡◌, ◌≤◌, ◌<◌, ◌+◌, ◌-◌, ◌^◌, ◌++◌, ◌∷◌, ℕ, [], codes, length, string_bytes, slice_index_or, OnOk};
-ghost use Rattle.bilv_spec.specs.Texts.{hex_digit, hex_digits};
-ghost use Rattle.bilv_spec.specs.Arm.{V4};
-ghost use Rattle.bilv_spec.specs.Memory.{Little};
-ghost use Rattle.bilv_spec.specs.StateText.{arm_layout};
+ghost use Rattle.word_spec.specs.Texts.{hex_digit, hex_digits};
+ghost use Rattle.word_spec.specs.Profiles.{V4};
+ghost use Rattle.word_spec.specs.Memory.{Little};
+ghost use Rattle.machine_spec.specs.StateText.{arm_layout};
 ghost use Rattle.state_text.specs.Starts.{layout_of};
 ghost use Rattle.smtlib_print.specs.Commands as commands;
 ghost use Rattle.smtlib_print.specs.Commands.{binary_digits, constant_text};

@@ -1,9 +1,8 @@
 -- Texts to which texts are appended.
 use Rattle.std.proofs.Common.{◌≡◌, ℕ, zero, suc, ◌-◌, ◌/◌, ◌%◌, ◌≢◌, refl, ap, ◌∙◌, arith, List, [], ◌∷◌, ◌++◌, append_assoc, append-nil}
 use Rattle.std.specs.Prelude.{codes}
-use Rattle.bilv_spec.specs.Texts.{hex_digit, hex_digits, joined, spaced, number_text}
-use Rattle.bilv_spec.specs.Run.{Event, AssertFails, FetchFails, NoRow, HalfwordFails, CodeWritten, Trapped, AlignFails, JumpFails, EnsureFails}
-use Rattle.bilv_spec.specs.Reports.{FailsBy, event_words, place_words, named_line}
+use Rattle.word_spec.specs.Texts.{hex_digit, hex_digits, joined, spaced, number_text}
+use Rattle.machine_spec.specs.Endings.{Event, AssertFails, FetchFails, NoRow, HalfwordFails, CodeWritten, Trapped, AlignFails, JumpFails, EnsureFails, FailsBy, event_words, place_words, named_line}
 
 -- one text behind another
 pub two : (start first all a b : List ℕ) → first ≡ start ++ a → all ≡ first ++ b → all ≡ start ++ (a ++ b)

@@ -4,7 +4,7 @@ use Rattle.std.specs.Prelude.{◌&&◌, not, nat_lt, nat_le}
 use Rattle.std.specs.List.{list_any, list_all}
 use Rattle.std.specs.Option.{option_map}
 use Rattle.std.proofs.lemmas.Bool.Decides.{nat_tests}
-use Rattle.bilv_spec.specs.StateText.{Layout, StateLine, NamedLine, MachineLine, RegisterLine, ByteLine, ChoiceLine, EndLine, StateFault, StateLineFault, StateChoiceFault, is_byte_below, is_choice_below, is_end_line, unless, or_else, missed, line_refusal, StateRefused, told_of}
+use Rattle.machine_spec.specs.StateText.{Layout, StateLine, NamedLine, MachineLine, RegisterLine, ByteLine, ChoiceLine, EndLine, StateFault, StateLineFault, StateChoiceFault, is_byte_below, is_choice_below, is_end_line, unless, or_else, missed, line_refusal, StateRefused, told_of}
 use Rattle.state_text.specs.Lines.{line_said, capped_line}
 use Rattle.state_text.specs.Readings.{IsBehind, refusal_of}
 use Rattle.state_text.specs.declared.state_line.StateLine.{StateLine as Line}

@@ -6,10 +6,10 @@ use Rattle.std.proofs.Math.Seq.{take-append_seam}
 use Rattle.std.specs.Prelude.{Result, Ok, Err, IfOk, IfErr, IfSome, IfNone, ◌==◌, ◌&&◌, not, nat_lt, if◌then◌else◌}
 use Rattle.std.specs.List.{list_any, list_all}
 use Rattle.std.proofs.lemmas.Bool.Decides.{nat_tests}
-use Rattle.bilv_spec.specs.Reports.{NamedEnding}
-use Rattle.bilv_spec.specs.Texts.{split_lines}
-use Rattle.bilv_spec.specs.StateText.{Layout, StateLine, NamedLine, MachineLine, RegisterLine, ByteLine, ChoiceLine, EndLine, StateFault, StateByteFault, value_names, is_byte_below, is_behind_bytes, lines_of_head, unless, or_else, missed, line_refusal, end_refusal, refused_or, first_refused, values_in, bytes_in, choices_in, number_of_bits, Told, StateIs, StateRefused, told_by, told_of, line_of}
-use Rattle.bilv_spec.proofs.StateSaid.{place_said_of}
+use Rattle.machine_spec.specs.Endings.{NamedEnding}
+use Rattle.word_spec.specs.Texts.{split_lines}
+use Rattle.machine_spec.specs.StateText.{Layout, StateLine, NamedLine, MachineLine, RegisterLine, ByteLine, ChoiceLine, EndLine, StateFault, StateByteFault, value_names, is_byte_below, is_behind_bytes, lines_of_head, unless, or_else, missed, line_refusal, end_refusal, refused_or, first_refused, values_in, bytes_in, choices_in, number_of_bits, Told, StateIs, StateRefused, told_by, told_of, line_of}
+use Rattle.machine_spec.proofs.StateSaid.{place_said_of}
 use Rattle.state_text.specs.Readings.{told_but, IsBehind, refusal_of, written_by}
 use Rattle.state_text.specs.declared.progress.Progress.{Progress}
 use Rattle.state_text.specs.declared.draft.Draft.{Draft}

@@ -1,9 +1,9 @@
 -- The lines of a text, printed one after another.
 use Rattle.std.proofs.Common.{◌≡◌, ℕ, zero, suc, ◌+◌, ◌-◌, ◌<◌, ◌≢◌, refl, ap, sym, ◌∙◌, arith, List, [], ◌∷◌, ◌++◌, length, get_or, drop, map, append_assoc, add-one, drop-cons, codes}
-use Rattle.bilv_spec.specs.Words.{bit_at}
-use Rattle.bilv_spec.specs.Texts.{line}
-use Rattle.bilv_spec.specs.Reports.{named_line}
-use Rattle.bilv_spec.specs.StateText.{Layout, StateText, StateLine, MachineLine, RegisterLine, ByteLine, ChoiceLine, EndLine, register_lines, flag_bits, printed}
+use Rattle.word_spec.specs.Words.{bit_at}
+use Rattle.word_spec.specs.Texts.{line}
+use Rattle.machine_spec.specs.Endings.{named_line}
+use Rattle.machine_spec.specs.StateText.{Layout, StateText, StateLine, MachineLine, RegisterLine, ByteLine, ChoiceLine, EndLine, register_lines, flag_bits, printed}
 use Rattle.state_text.specs.Starts.{line_text, lines_text}
 
 -- the next line of a list

@@ -1,7 +1,7 @@
 -- What lines say by their words.
 use Rattle.std.proofs.Common.{◌≡◌, ℕ, ◌<◌, ◌≤◌, refl, ap, arith, List, [], ◌∷◌, Option, Some, None, Bor, length, map, take}
 use Rattle.std.specs.Option.{option_map}
-use Rattle.bilv_spec.specs.StateText.{Layout, after_fails, after_unknown, register_line, place_in, value_names, line_of_words}
+use Rattle.machine_spec.specs.StateText.{Layout, after_fails, after_unknown, register_line, place_in, value_names, line_of_words}
 use Rattle.std.specs.Prelude.{if◌then◌else◌, codes}
 use Rattle.std.specs.Str.{bytes_eq}
 use Rattle.state_text.specs.Lines.{capped_line}

@@ -3,10 +3,10 @@ use Rattle.std.proofs.Common.{◌≡◌, ℕ, ◌+◌, ◌-◌, ◌^◌, ◌%◌
 use Rattle.std.specs.Prelude.{nat_le}
 use Rattle.std.proofs.Math.Nat.{pow-le-pow_right}
 use Rattle.std.proofs.lemmas.Bool.Decides.{nat_tests}
-use Rattle.bilv_spec.specs.Reports.{NamedEnding}
-use Rattle.bilv_spec.specs.Texts.{split_lines}
-use Rattle.bilv_spec.specs.StateText.{Layout, StateText, StateLine, NamedLine, StateRegisterFault, StateEndFault, lines_of_head, unless, or_else, refused_or, number_of_bits, bytes_in, Told, StateIs, StateRefused, told_by, told_of, line_of, state_of}
-use Rattle.bilv_spec.proofs.StateTold.{told_is_printed}
+use Rattle.machine_spec.specs.Endings.{NamedEnding}
+use Rattle.word_spec.specs.Texts.{split_lines}
+use Rattle.machine_spec.specs.StateText.{Layout, StateText, StateLine, NamedLine, StateRegisterFault, StateEndFault, lines_of_head, unless, or_else, refused_or, number_of_bits, bytes_in, Told, StateIs, StateRefused, told_by, told_of, line_of, state_of}
+use Rattle.machine_spec.proofs.StateRead.{told_is_printed}
 use Rattle.state_text.specs.Starts.{layout_of}
 use Rattle.state_text.specs.Readings.{fault_of, told_but, IsRefused, HasBytes, IsRefusedBy, written_by}
 use Rattle.state_text.specs.declared.state_fault.ParseFault.{ParseFault}

@@ -1,6 +1,6 @@
 -- The definition's lines that lines of a state text stand for.
 use Rattle.std.specs.Prelude.{min}
-use Rattle.bilv_spec.specs.StateText as texts
+use Rattle.machine_spec.specs.StateText as texts
 use Rattle.state_text.specs.Starts.{named_of}
 use Rattle.state_text.specs.declared.state_line.StateLine.{StateLine}
 use Rattle.state_text.specs.declared.state_line.StateLine.TheVariants.{Named, Machine, Register, Byte, Choice, End}

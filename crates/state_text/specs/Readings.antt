@@ -1,8 +1,9 @@
 -- What the reader of state texts keeps of the lines that it has read, and what its faults say.
 use Rattle.std.specs.Prelude.{ℕ, ◌≡◌, ◌+◌, ◌-◌, Bool, false, nat_le, if◌then◌else◌, List, [], ◌∷◌, Option, Some, None, length, take, drop}
 use Rattle.std.specs.List.{list_any, list_all}
-use Rattle.bilv_spec.specs.StateText as texts
-use Rattle.bilv_spec.specs.StateText.{Layout, Written, is_byte_below, is_choice_below, is_end_line, is_behind_bytes, lines_of_head, line_refusal, number_of_bits, bytes_in, Told, StateRefused, state_of}
+use Rattle.machine_spec.specs.StateText as texts
+use Rattle.machine_spec.specs.StateText.{Layout, is_byte_below, is_choice_below, is_end_line, is_behind_bytes, lines_of_head, line_refusal, number_of_bits, bytes_in, Told, StateRefused, state_of}
+use Rattle.word_spec.specs.State.{Written}
 use Rattle.state_text.specs.declared.state_fault.StateFault.{StateFault}
 use Rattle.state_text.specs.declared.state_fault.StateFault.TheVariants.{Line, Register, Byte, Choice, End}
 use Rattle.state_text.specs.declared.state_fault.ParseFault.{ParseFault}

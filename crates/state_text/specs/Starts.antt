@@ -1,11 +1,11 @@
 -- The definitions' values that layouts, starts and endings stand for.
 use Rattle.std.specs.Prelude.{ℕ, List, map}
-use Rattle.bilv_spec.specs.Texts.{joined, lines}
-use Rattle.bilv_spec.specs.Memory.{endian}
-use Rattle.bilv_spec.specs.Arm as rows
-use Rattle.bilv_spec.specs.Run as run
-use Rattle.bilv_spec.specs.Reports as reports
-use Rattle.bilv_spec.specs.StateText as texts
+use Rattle.word_spec.specs.Texts.{joined, lines}
+use Rattle.word_spec.specs.Memory.{endian}
+use Rattle.machine_spec.specs.Arm as rows
+use Rattle.machine_spec.specs.Endings as run
+use Rattle.machine_spec.specs.StateText as texts
+use Rattle.word_spec.specs.State as state
 use Rattle.state_text.specs.declared.layout.Layout.{Layout}
 use Rattle.state_text.specs.declared.layout.Layout.TheVariants.{Rv32, Arm}
 use Rattle.state_text.specs.declared.layout.Profile.{Profile}
@@ -41,12 +41,12 @@ event_of JumpFails = run.JumpFails
 event_of (EnsureFails line) = run.EnsureFails line
 
 -- the ending
-abbrev pub named_of : NamedEnding → reports.NamedEnding
-named_of (FailsBy event at step) = reports.FailsBy (event_of event) at step
-named_of (UnknownBy k at step) = reports.UnknownBy k at step
+abbrev pub named_of : NamedEnding → run.NamedEnding
+named_of (FailsBy event at step) = run.FailsBy (event_of event) at step
+named_of (UnknownBy k at step) = run.UnknownBy k at step
 
 -- the start as it is written
-abbrev pub written_of : Start → texts.Written
+abbrev pub written_of : Start → state.Written
 written_of s = record { regs = s.regs.items; flags = s.flags; bytes = s.bytes.items; choices = s.choices.items }
 
 -- the start with its ending

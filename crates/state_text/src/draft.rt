@@ -1,7 +1,7 @@
 //! What is kept of the lines of a state text.
 ghost use Rattle.std.specs.Prelude.{◌≡◌, ℕ, ◌+◌, ◌-◌, ◌++◌, ◌%◌, Bool, List, [], ◌∷◌, Option, Some, OnOk, length, take, drop};
-ghost use Rattle.bilv_spec.specs.StateText.{values_in, bytes_in, choices_in, number_of_bits, lines_of_head, StateRefused};
-ghost use Rattle.bilv_spec.specs.StateText as texts;
+ghost use Rattle.machine_spec.specs.StateText.{values_in, bytes_in, choices_in, number_of_bits, lines_of_head, StateRefused};
+ghost use Rattle.machine_spec.specs.StateText as texts;
 ghost use Rattle.state_text.specs.Starts.{layout_of, named_of, text_of};
 ghost use Rattle.state_text.specs.Lines.{line_said};
 ghost use Rattle.state_text.specs.Readings.{fault_of, told_but, HasBytes, IsRefusedBy};

@@ -1,9 +1,9 @@
 //! What state texts call a machine, its registers and its flags.
 ghost use Rattle.std.specs.Prelude.{◌≡◌, length, map};
-ghost use Rattle.bilv_spec.specs.StateText.{value_names, lines_of_head};
-ghost use Rattle.bilv_spec.specs.StateText as texts;
-ghost use Rattle.bilv_spec.specs.Arm.{profile_of};
-ghost use Rattle.bilv_spec.specs.Memory.{endian};
+ghost use Rattle.machine_spec.specs.StateText.{value_names, lines_of_head};
+ghost use Rattle.machine_spec.specs.StateText as texts;
+ghost use Rattle.machine_spec.specs.Arm.{profile_of};
+ghost use Rattle.word_spec.specs.Memory.{endian};
 ghost use Rattle.state_text.specs.Starts.{layout_of, profile_in};
 
 /// The instructions of ARM state that have rows: those of version 4, with BX, and with BX and CLZ.

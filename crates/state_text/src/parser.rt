@@ -1,8 +1,8 @@
 //! Reads state texts.
 ghost use Rattle.std.specs.Prelude.{◌≡◌, ℕ, ◌+◌, ◌<◌, ◌^◌, List, [], ◌∷◌, Bool, false, Option, Some, None, IfOk, IfErr, IfSome, IfNone, length, map};
-ghost use Rattle.bilv_spec.specs.StateText as texts;
-ghost use Rattle.bilv_spec.specs.StateText.{NamedLine, StateIs, StateRefused, StateLineFault, line_of, lines_of_head, told_of, state_of};
-ghost use Rattle.bilv_spec.specs.Texts.{split_lines};
+ghost use Rattle.machine_spec.specs.StateText as texts;
+ghost use Rattle.machine_spec.specs.StateText.{NamedLine, StateIs, StateRefused, StateLineFault, line_of, lines_of_head, told_of, state_of};
+ghost use Rattle.word_spec.specs.Texts.{split_lines};
 ghost use Rattle.state_text.specs.Starts.{layout_of, named_of, text_of};
 ghost use Rattle.state_text.specs.Lines.{line_said};
 ghost use Rattle.state_text.specs.Readings.{fault_of, told_but, IsRefused, HasBytes, IsRefusedBy, IsBehind, refusal_of, written_by};

@@ -1,9 +1,9 @@
 //! Prints state texts.
 ghost use Rattle.std.specs.Prelude.{◌≡◌, ◌+◌, ◌++◌, ◌≤◌, ◌<◌, ◌*◌, ◌%◌, ◌^◌, List, [], ◌∷◌, OnOk, IfOk, slice_index_or, map, length, codes};
-ghost use Rattle.bilv_spec.specs.Texts.{hex_digit, hex_digits, word_text, byte_text, number_text, line, lines, joined};
-ghost use Rattle.bilv_spec.specs.Reports.{event_words, named_line, place_words};
-ghost use Rattle.bilv_spec.specs.StateText.{printed, value_names, value_text, words_of_line, StateLine, RegisterLine, ByteLine, ChoiceLine, EndLine, MachineLine, NamedLine, register_lines, flag_bits, lines_behind};
-ghost use Rattle.bilv_spec.specs.StateText as texts;
+ghost use Rattle.word_spec.specs.Texts.{hex_digit, hex_digits, word_text, byte_text, number_text, line, lines, joined};
+ghost use Rattle.machine_spec.specs.Endings.{event_words, named_line, place_words};
+ghost use Rattle.machine_spec.specs.StateText.{printed, value_names, value_text, words_of_line, StateLine, RegisterLine, ByteLine, ChoiceLine, EndLine, MachineLine, NamedLine, register_lines, flag_bits, lines_behind};
+ghost use Rattle.machine_spec.specs.StateText as texts;
 ghost use Rattle.state_text.specs.Starts.{layout_of, event_of, named_of, text_of, line_text, lines_text};
 
 use crate::layout::Layout;

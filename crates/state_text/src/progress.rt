@@ -1,9 +1,9 @@
 //! Where the reading of a state text stands, and whether a line may follow.
 ghost use Rattle.std.specs.Prelude.{◌≡◌, ℕ, ◌+◌, ◌<◌, ◌^◌, ◌∷◌, List, [], None, false, ◌&&◌, not, nat_le, nat_lt};
 ghost use Rattle.std.specs.Option.{option_map};
-ghost use Rattle.bilv_spec.specs.StateText as texts;
-ghost use Rattle.bilv_spec.specs.StateText.{NamedLine, RegisterLine, ByteLine, ChoiceLine, missed, line_refusal, end_refusal};
-ghost use Rattle.bilv_spec.specs.Reports as reports;
+ghost use Rattle.machine_spec.specs.StateText as texts;
+ghost use Rattle.machine_spec.specs.StateText.{NamedLine, RegisterLine, ByteLine, ChoiceLine, missed, line_refusal, end_refusal};
+ghost use Rattle.machine_spec.specs.Endings as reports;
 ghost use Rattle.state_text.specs.Starts.{layout_of};
 ghost use Rattle.state_text.specs.Lines.{line_said};
 ghost use Rattle.state_text.specs.Readings.{fault_of, IsBehind};

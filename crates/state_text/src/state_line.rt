@@ -2,9 +2,9 @@
 ghost use Rattle.std.specs.Prelude.{◌≡◌, ℕ, List, [], ◌∷◌, map, length, Option, Some, None, min, MatchOption, IfSome, IfNone, IfOk};
 ghost use Rattle.std.specs.Option.{option_map};
 ghost use Rattle.std.specs.Str.{bytes_eq};
-ghost use Rattle.bilv_spec.specs.Texts.{decimal_word};
-ghost use Rattle.bilv_spec.specs.StateText as texts;
-ghost use Rattle.bilv_spec.specs.StateText.{at_most, place_of, event_of_word, event_of_line, after_fails, after_unknown, after_state, after_byte, after_choice, after_end, register_line, line_of, line_of_words, value_of, place_in, ChoiceLine};
+ghost use Rattle.word_spec.specs.Texts.{decimal_word, at_most};
+ghost use Rattle.machine_spec.specs.StateText as texts;
+ghost use Rattle.machine_spec.specs.StateText.{place_of, event_of_word, event_of_line, after_fails, after_unknown, after_state, after_byte, after_choice, after_end, register_line, line_of, line_of_words, value_of, place_in, ChoiceLine};
 ghost use Rattle.state_text.specs.Starts.{layout_of, event_of, named_of};
 ghost use Rattle.state_text.specs.Lines.{line_said, capped_line};
 

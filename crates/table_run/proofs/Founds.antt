@@ -2,12 +2,13 @@
 use Rattle.std.proofs.Common.{◌≡◌, ℕ, suc, ◌+◌, ◌-◌, ◌≤◌, sym, ap, ◌∙◌, subst, arith, List, []}
 use Rattle.std.specs.Prelude.{Option, Some, None, nat_le, reverse}
 use Rattle.std.proofs.Math.Path.{fun_ext}
-use Rattle.bilv_spec.specs.Words.{word}
-use Rattle.bilv_spec.specs.Memory.{memory_of, byte_in}
-use Rattle.bilv_spec.specs.State.{State}
-use Rattle.bilv_spec.specs.Run.{Program, Start, Place, Stops, Arrives, Exits, Event, Run, Going, Exited, Failed, Turned, IsOver, run, one_more, after_step, arrive, step}
+use Rattle.word_spec.specs.Words.{word}
+use Rattle.word_spec.specs.Memory.{memory_of, byte_in}
+use Rattle.word_spec.specs.State.{State, Written}
+use Rattle.bilv_spec.specs.Run.{Program, Place, Stops, Arrives, Exits, Run, Going, Exited, Failed, Turned, IsOver, run, one_more, after_step, arrive, step}
+use Rattle.machine_spec.specs.Endings.{Start, Event}
 use Rattle.bilv_spec.specs.Reports.{Found, FoundExit, FoundEvent, FoundTurn, FoundLeft, found, found_by, turns_within}
-use Rattle.bilv_spec.specs.StateText.{Layout, Written, known_or}
+use Rattle.machine_spec.specs.StateText.{Layout, known_or}
 use Rattle.bilv_spec.specs.Answers.{known_byte, start_in}
 use Rattle.bilv_spec.proofs.Over.{over_stays}
 use Rattle.machine_law.specs.Facts.{made}

@@ -6,8 +6,8 @@ use Rattle.std.proofs.lemmas.Bool.{cases_eq}
 use Rattle.std.proofs.lemmas.List.{length-map, get_or_default}
 use Rattle.std.proofs.Math.ListN.{get_or-map}
 use Rattle.std.proofs.lemmas.List.Folds.{list_any-append}
-use Rattle.bilv_spec.specs.Memory.{Endian}
-use Rattle.bilv_spec.specs.State.{State}
+use Rattle.word_spec.specs.Memory.{Endian}
+use Rattle.word_spec.specs.State.{State}
 use Rattle.bilv_spec.specs.Notes as notes
 use Rattle.bilv_spec.specs.Run.{false_assert, targets_at}
 use Rattle.notes_value.specs.Views.{expr_of}

@@ -4,8 +4,8 @@ use Rattle.std.specs.List.{All}
 use Rattle.std.proofs.lemmas.List.{length-map}
 use Rattle.std.proofs.Math.Numerals.{add-one}
 use Rattle.std.proofs.Math.ListN.{get_or-map}
-use Rattle.bilv_spec.specs.Words.{add}
-use Rattle.bilv_spec.specs.Memory.{span}
+use Rattle.word_spec.specs.Words.{add}
+use Rattle.word_spec.specs.Memory.{span}
 
 -- a fact of each element of a mapped list
 pub unmapped : {X Y : Type 0} (Q : Y → Type 0) (f : X → Y) (xs ys : List X) → ys ≡ xs → All Q (map f xs) → All (λ x. Q (f x)) ys

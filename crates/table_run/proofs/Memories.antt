@@ -6,12 +6,12 @@ use Rattle.std.proofs.lemmas.Bool.{cases_lt, cases_eq}
 use Rattle.std.proofs.lemmas.Bool.Decides.{nat_tests}
 use Rattle.std.proofs.lemmas.List.{get_or_default, get_or_past}
 use Rattle.std.proofs.Math.Nat.{eq-or-lt_of_le}
-use Rattle.bilv_spec.specs.Words.{word, sub}
-use Rattle.bilv_spec.specs.Memory.{Little, store, byte_of, byte_in, memory_of}
+use Rattle.word_spec.specs.Words.{word, sub}
+use Rattle.word_spec.specs.Memory.{Little, store, byte_of, byte_in, memory_of}
 use Rattle.bilv_spec.specs.Elf.{loaded}
 use Rattle.bilv_spec.specs.Points.{byte_of_cell}
 use Rattle.bilv_spec.specs.Notes.{FixedRange}
-use Rattle.bilv_spec.specs.StateText.{AreRising, known_or}
+use Rattle.machine_spec.specs.StateText.{AreRising, known_or}
 use Rattle.byte_mem.proofs.Spans.{byte_none}
 use Rattle.elf32_reader.specs.declared.parts.Part.{Part}
 use Rattle.known_bytes.specs.Known.{is_known, given, IsFirstKnown}

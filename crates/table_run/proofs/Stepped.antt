@@ -1,10 +1,10 @@
 -- The step of a row by what the machine answers.
 use Rattle.std.proofs.Common.{◌≡◌, ℕ, ◌<◌, ◌^◌, List, false, sym, ap, subst}
 use Rattle.std.specs.Prelude.{Bool, Option, Some, None}
-use Rattle.bilv_spec.specs.State.{State, IsState}
-use Rattle.bilv_spec.specs.Machine as machine
-use Rattle.bilv_spec.specs.Machine.{Row, Outcome, Goes, Raises, Exception, EnvironmentCall, Breakpoint, SoftwareInterrupt, OddHalfword, UnalignedLoad}
-use Rattle.bilv_spec.specs.MachineLaws.{IsLawful, IsLawfulMachine, IsWay, IsSuccessor}
+use Rattle.word_spec.specs.State.{State, IsState}
+use Rattle.machine_spec.specs.Machine as machine
+use Rattle.machine_spec.specs.Machine.{Row, Outcome, Goes, Raises, Exception, EnvironmentCall, Breakpoint, SoftwareInterrupt, OddHalfword, UnalignedLoad}
+use Rattle.machine_spec.specs.MachineLaws.{IsLawful, IsLawfulMachine, IsWay, IsSuccessor}
 use Rattle.bilv_spec.specs.Run as run
 use Rattle.byte_mem.specs.Views.{exception_out, goes_out, IsStep}
 use Rattle.byte_mem.specs.declared.How.{How}

@@ -1,7 +1,7 @@
 -- Assert lines in a state.
 use Rattle.std.specs.Prelude.{◌==◌, ◌&&◌, not, Bool}
-use Rattle.bilv_spec.specs.Memory.{Endian}
-use Rattle.bilv_spec.specs.State.{State}
+use Rattle.word_spec.specs.Memory.{Endian}
+use Rattle.word_spec.specs.State.{State}
 use Rattle.bilv_spec.specs.Notes as notes
 use Rattle.notes_value.specs.Views.{expr_of}
 use Rattle.notes_lang.specs.declared.notes.Assert.{Assert}

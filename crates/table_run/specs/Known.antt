@@ -1,11 +1,11 @@
 -- Memories that have the bytes that the file gives.
 use Rattle.std.specs.Prelude.{ℕ, ◌≡◌, ◌≤◌, ◌<◌, ◌^◌, ◌+◌, ◌-◌, ◌⊎◌, List, slice_index, slice_index_or}
-use Rattle.bilv_spec.specs.Memory.{memory_of}
-use Rattle.bilv_spec.specs.State.{State}
+use Rattle.word_spec.specs.Memory.{memory_of}
+use Rattle.word_spec.specs.State.{State}
 use Rattle.bilv_spec.specs.Notes.{FixedRange}
 use Rattle.bilv_spec.specs.Run.{Program}
 use Rattle.bilv_spec.specs.EntryFaults.{IsWrongByte}
-use Rattle.bilv_spec.specs.StateText.{known_or}
+use Rattle.machine_spec.specs.StateText.{known_or}
 use Rattle.known_bytes.specs.Known.{given}
 use Rattle.elf32_reader.specs.declared.parts.Part.{Part}
 

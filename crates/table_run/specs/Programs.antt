@@ -1,6 +1,6 @@
 -- A program of the code, as definitions see it.
 use Rattle.bilv_spec.specs.Files as files
-use Rattle.bilv_spec.specs.Machine.{Machine}
+use Rattle.machine_spec.specs.Machine.{Machine}
 use Rattle.bilv_spec.specs.Run as run
 use Rattle.notes_lang.specs.Drafting.{notes_of}
 use Rattle.table_run.specs.declared.program.Program.{Program}

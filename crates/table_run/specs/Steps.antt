@@ -1,8 +1,8 @@
 -- What a step of the code comes to, as definitions see it.
 use Rattle.std.specs.Prelude.{ℕ, ◌≡◌, true, List, Option, Some, None}
-use Rattle.bilv_spec.specs.Words.{sub}
-use Rattle.bilv_spec.specs.State.{State}
-use Rattle.bilv_spec.specs.Machine as machine
+use Rattle.word_spec.specs.Words.{sub}
+use Rattle.word_spec.specs.State.{State}
+use Rattle.machine_spec.specs.Machine as machine
 use Rattle.bilv_spec.specs.Run as run
 use Rattle.byte_mem.specs.Views.{how_of}
 use Rattle.byte_mem.specs.declared.How.{How}

@@ -1,7 +1,7 @@
 //! The choice of a step.
 ghost use Rattle.std.specs.Prelude.{◌≡◌, ℕ, ◌≤◌, ◌<◌, length, get_or};
-ghost use Rattle.bilv_spec.specs.Memory.{byte_in};
-ghost use Rattle.bilv_spec.specs.StateText.{AreRising};
+ghost use Rattle.word_spec.specs.Memory.{byte_in};
+ghost use Rattle.machine_spec.specs.StateText.{AreRising};
 
 /// The place of the first choice whose step is not below this one.
 fn place(choices: &[(u64, u8)], step: u64) -> usize

@@ -1,9 +1,9 @@
 //! The targets that an indirect jump may have whatever the stack is.
 ghost use Rattle.std.specs.Prelude.{◌≡◌, ◌++◌, map, nat_eq, Some};
 ghost use Rattle.std.specs.List.{list_any};
-ghost use Rattle.bilv_spec.specs.Memory as memory;
-ghost use Rattle.bilv_spec.specs.Words.{sub};
-ghost use Rattle.bilv_spec.specs.Machine.{pair_of};
+ghost use Rattle.word_spec.specs.Memory as memory;
+ghost use Rattle.word_spec.specs.Words.{sub};
+ghost use Rattle.machine_spec.specs.Machine.{pair_of};
 ghost use Rattle.bilv_spec.specs.Run.{some_of, row_at, targets_at, literal_target};
 ghost use Rattle.notes_lang.specs.Drafting.{targets_of};
 ghost use Rattle.table_run.specs.Programs.{program_of};

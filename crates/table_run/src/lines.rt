@@ -1,6 +1,6 @@
 //! Lines of notes in a state.
 ghost use Rattle.std.specs.Prelude.{◌≡◌, map, All};
-ghost use Rattle.bilv_spec.specs.Memory as memory;
+ghost use Rattle.word_spec.specs.Memory as memory;
 ghost use Rattle.bilv_spec.specs.Run as meaning;
 ghost use Rattle.notes_value.specs.Views.{expr_of};
 ghost use Rattle.notes_value.specs.Reads.{IsReadable};

@@ -1,11 +1,11 @@
 //! A run from a start.
 ghost use Rattle.std.specs.Prelude.{◌≡◌, ℕ, ◌≤◌, ◌<◌, ◌+◌, ◌-◌, ◌^◌, IfOk, IfSome, MatchOption, nat_le};
-ghost use Rattle.bilv_spec.specs.Memory as memory;
-ghost use Rattle.bilv_spec.specs.Memory.{byte_in};
+ghost use Rattle.word_spec.specs.Memory as memory;
+ghost use Rattle.word_spec.specs.Memory.{byte_in};
 ghost use Rattle.bilv_spec.specs.Files.{order_of, program_of as program_of_files};
 ghost use Rattle.bilv_spec.specs.Run as meaning;
 ghost use Rattle.bilv_spec.specs.Points.{is_known_at};
-ghost use Rattle.bilv_spec.specs.StateText.{AreRising, IsWritten};
+ghost use Rattle.machine_spec.specs.StateText.{AreRising, IsWritten};
 ghost use Rattle.bilv_spec.specs.Reports.{found, found_by};
 ghost use Rattle.bilv_spec.specs.Answers.{start_in};
 ghost use Rattle.state_text.specs.Starts.{written_of};

@@ -1,9 +1,9 @@
 //! One step of a run.
 ghost use Rattle.std.specs.Prelude.{◌≡◌, false, List, true, IfOk, reverse, ℕ, if◌then◌else◌};
-ghost use Rattle.bilv_spec.specs.Memory as memory;
-ghost use Rattle.bilv_spec.specs.State.{State};
-ghost use Rattle.bilv_spec.specs.Machine.{Row};
-ghost use Rattle.bilv_spec.specs.MachineLaws.{IsLawful, IsWay};
+ghost use Rattle.word_spec.specs.Memory as memory;
+ghost use Rattle.word_spec.specs.State.{State};
+ghost use Rattle.machine_spec.specs.Machine.{Row};
+ghost use Rattle.machine_spec.specs.MachineLaws.{IsLawful, IsWay};
 ghost use Rattle.bilv_spec.specs.Run as meaning;
 ghost use Rattle.byte_mem.specs.Views.{IsStep};
 ghost use Rattle.notes_lang.specs.Drafting.{notes_of};

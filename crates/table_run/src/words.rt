@@ -1,8 +1,8 @@
 //! Bytes that are stored, whether one of them is kept; and bytes and words at an address in a state.
 ghost use Rattle.std.specs.Prelude.{◌≡◌, ◌^◌};
 ghost use Rattle.std.specs.List.{list_any};
-ghost use Rattle.bilv_spec.specs.Memory as memory;
-ghost use Rattle.bilv_spec.specs.Machine.{addresses};
+ghost use Rattle.word_spec.specs.Memory as memory;
+ghost use Rattle.machine_spec.specs.Machine.{addresses};
 ghost use Rattle.bilv_spec.specs.Elf.{loaded, is_kept};
 
 use byte_mem::{Endian, View};

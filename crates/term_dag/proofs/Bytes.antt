@@ -3,8 +3,8 @@ use Rattle.std.proofs.Common.{◌≡◌, ℕ, zero, suc, ◌^◌, ◌<◌, ◌�
 use Rattle.std.specs.Prelude.{nat_lt, if◌then◌else◌, slice_index}
 use Rattle.std.proofs.lemmas.Bool.Decides.{nat_tests}
 use Rattle.std.proofs.lemmas.Nat.{mod_below, pow_pos}
-use Rattle.bilv_spec.specs.Words as words
-use Rattle.bilv_spec.specs.Memory.{endian, byte_of}
+use Rattle.word_spec.specs.Words as words
+use Rattle.word_spec.specs.Memory.{endian, byte_of}
 use Rattle.walk_spec.specs.Terms.{TermReading, InRange, TermNode, MemoryNode, StoreNode, JoinNode, TermValue, node_value, values_from, term_value, term_word, node_at, AreTyped, select}
 use Rattle.term_dag.specs.declared.nodes.Term.{Term}
 use Rattle.term_dag.specs.declared.nodes.Node.{Node}

@@ -2,7 +2,7 @@
 use Rattle.std.proofs.Common.{◌≡◌, ◌≢◌, ℕ, ◌-◌, ◌^◌, ◌<◌, true, false, refl, arith}
 use Rattle.std.specs.Prelude.{nat_lt, nat_le}
 use Rattle.std.proofs.lemmas.Bool.Decides.{nat_tests}
-use Rattle.bilv_spec.specs.Words as words
+use Rattle.word_spec.specs.Words as words
 
 pub below_none : (v r : ℕ) → r ≡ 0 → words.bit false ≡ words.bit (nat_lt v r)
 below_none v r e = let t : nat_lt v r ≡ false = grind (arith, nat_tests) in rw t refl

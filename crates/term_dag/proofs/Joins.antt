@@ -5,8 +5,8 @@ use Rattle.std.proofs.lemmas.Bool.Decides.{nat_tests}
 use Rattle.std.proofs.lemmas.Nat.{pow-add, mod-pow-add}
 use Rattle.std.proofs.Math.Nat.{mod-eq_of_lt, mod-one, div-one, div-eq_of_lt, div-div-eq-div-mul, pow-suc}
 use mathlib.Core.Path.{fun_ext}
-use Rattle.bilv_spec.specs.Words as words
-use Rattle.bilv_spec.specs.Memory.{Memory, Endian, Little, Big, endian, little, big, number, load, store, byte_of}
+use Rattle.word_spec.specs.Words as words
+use Rattle.word_spec.specs.Memory.{Memory, Endian, Little, Big, endian, little, big, number, load, store, byte_of}
 use Rattle.walk_spec.specs.Terms.{TermReading, InRange, TermNode, LoadNode, StoreNode, JoinNode, word_value, bytes_value, term_value, term_word, node_at, HasWidth, AreTyped}
 use Rattle.term_dag.specs.declared.folds.Folded.{Folded}
 use Rattle.term_dag.specs.declared.folds.Folded.TheVariants.{Old, New, Onto, Unless}

@@ -4,12 +4,12 @@ use Rattle.std.proofs.lemmas.Bool.{cases_lt}
 use Rattle.std.proofs.lemmas.List.{get_or_append_left}
 use Rattle.std.proofs.lemmas.Nat.{mod_below, pow_pos, pow-add, mul-add-lt}
 use Rattle.std.proofs.Math.Nat.{mul_comm, pow-le-pow_right}
-use Rattle.bilv_spec.specs.Words as words
-use Rattle.bilv_spec.specs.Memory.{load}
-use Rattle.bilv_spec.specs.Bil.{Bits, BinaryOp, Plus, Minus, Times, Divide, SignedDivide, Modulo, SignedModulo, And, Or, Xor, ShiftLeft, ShiftRight, ShiftSigned, Equal, NotEqual, Less, LessEqual, SignedLess, SignedLessEqual}
-use Rattle.bilv_spec.specs.BilTyping.{result_width}
-use Rattle.bilv_spec.specs.BilMeaning.{Value, Word, Bytes, Stuck, IsOfType, on_words}
-use Rattle.bilv_spec.proofs.WordBounds.{op_below, complement_below, sign_extend_below, load_below, stored_below}
+use Rattle.word_spec.specs.Words as words
+use Rattle.word_spec.specs.Memory.{load}
+use Rattle.machine_spec.specs.Bil.{Bits, BinaryOp, Plus, Minus, Times, Divide, SignedDivide, Modulo, SignedModulo, And, Or, Xor, ShiftLeft, ShiftRight, ShiftSigned, Equal, NotEqual, Less, LessEqual, SignedLess, SignedLessEqual}
+use Rattle.machine_spec.specs.BilTyping.{result_width}
+use Rattle.machine_spec.specs.BilMeaning.{Value, Word, Bytes, Stuck, IsOfType, on_words}
+use Rattle.machine_spec.proofs.WordBounds.{op_below, complement_below, sign_extend_below, load_below, stored_below}
 use Rattle.walk_spec.specs.Terms.{TermReading, InRange, TermValue, TermNode, RegisterNode, FlagNode, ChoiceNode, BaseNode, MemoryNode, ConstantNode, BinaryNode, NotNode, SelectNode, ExtractNode, ConcatNode, ExtendNode, LoadNode, StoreNode, JoinNode, word_value, bytes_value, value_at, node_value, values_from, term_value, term_word, width_of, node_at, HasWidth, IsTypedOver, AreTypedFrom, AreTyped, operate, select, extend, word_part}
 use Rattle.term_dag.proofs.ListLaws.{longer, last, unfolds, typed_here}
 

@@ -6,7 +6,7 @@ use Rattle.std.proofs.lemmas.Bool.{cases_lt}
 use Rattle.std.proofs.lemmas.Nat.{pow_pos, pow-add, shr-shr, shr_high, mod_below, div_below, div-add-mod'}
 use Rattle.std.proofs.Math.Nat.{mod-eq_of_lt, div-one, div-eq_of_lt, pow-le-pow_right, zero-min}
 use Rattle.bv_word.proofs.Bits.{all_out_left, all_out_right}
-use Rattle.bilv_spec.specs.Words as words
+use Rattle.word_spec.specs.Words as words
 use Rattle.term_dag.proofs.WordLaws.{bits_of_bits, lower_bits, upper_bits}
 
 -- a shift by less than the width

@@ -2,11 +2,11 @@
 use Rattle.std.proofs.Common.{◌≡◌, ℕ, ◌^◌, ◌<◌, ◌≤◌, List, length, refl, ap, sym, ◌∙◌, subst, arith, Bool, true, false, Option, Some, None}
 use Rattle.std.specs.Prelude.{◌==◌, not, if◌then◌else◌, unwrap_or, IfSome}
 use Rattle.std.proofs.Math.Nat.{pow-le-pow_right}
-use Rattle.bilv_spec.proofs.WordBounds.{bit_below}
-use Rattle.bilv_spec.specs.Words as words
-use Rattle.bilv_spec.specs.Bil.{BinaryOp, NotEqual, Equal}
-use Rattle.bilv_spec.specs.BilTyping.{result_width}
-use Rattle.bilv_spec.specs.BilCounts.{op_weight}
+use Rattle.machine_spec.proofs.WordBounds.{bit_below}
+use Rattle.word_spec.specs.Words as words
+use Rattle.machine_spec.specs.Bil.{BinaryOp, NotEqual, Equal}
+use Rattle.machine_spec.specs.BilTyping.{result_width}
+use Rattle.machine_spec.specs.BilCounts.{op_weight}
 use Rattle.walk_spec.specs.Terms.{TermReading, InRange, TermNode, ConstantNode, BinaryNode, word_value, term_word, width_of, node_at, HasWidth, IsWidth, IsTypedOver, AreTyped, operate, own_gates}
 use Rattle.term_dag.specs.declared.nodes.Node.TheVariants as node
 use Rattle.term_dag.specs.declared.folds.Folded.{Folded}

@@ -1,10 +1,10 @@
 -- What a node may be folded to: whatever has its width, its value under every reading in range, and no more cost.
 use Rattle.std.specs.Prelude.{◌≡◌, ℕ, ◌+◌, ◌-◌, ◌^◌, ◌<◌, ◌≤◌, Bool, true, false, bit_and, List, [], length}
-use Rattle.bilv_spec.specs.Words as words
-use Rattle.bilv_spec.specs.Words.{bit}
-use Rattle.bilv_spec.specs.Bil.{BinaryOp}
-use Rattle.bilv_spec.specs.BilTyping.{result_width}
-use Rattle.bilv_spec.specs.BilCounts.{op_weight}
+use Rattle.word_spec.specs.Words as words
+use Rattle.word_spec.specs.Words.{bit}
+use Rattle.machine_spec.specs.Bil.{BinaryOp}
+use Rattle.machine_spec.specs.BilTyping.{result_width}
+use Rattle.machine_spec.specs.BilCounts.{op_weight}
 use Rattle.walk_spec.specs.Terms.{TermReading, InRange, TermValue, TermNode, word_value, operate, node_value, values_from, term_value, term_word, width_of, node_at, HasWidth, IsWidth, IsTypedOver, own_gates, own_loads, own_stores, own_joins}
 use Rattle.term_dag.specs.declared.folds.Folded.{Folded}
 use Rattle.term_dag.specs.declared.folds.Folded.TheVariants.{Old, New, Onto, Unless}

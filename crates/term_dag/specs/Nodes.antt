@@ -1,7 +1,7 @@
 -- The nodes of the code as those of the definitions, and which of them are inputs.
 use Rattle.std.specs.Prelude.{List, map}
-use Rattle.bilv_spec.specs.Bil as bil
-use Rattle.bilv_spec.specs.Memory.{endian}
+use Rattle.machine_spec.specs.Bil as bil
+use Rattle.word_spec.specs.Memory.{endian}
 use Rattle.walk_spec.specs.Terms.{TermNode, RegisterNode, FlagNode, ChoiceNode, BaseNode, MemoryNode, ConstantNode, BinaryNode, NotNode, SelectNode, ExtractNode, ConcatNode, ExtendNode, LoadNode, StoreNode, JoinNode}
 use Rattle.term_dag.specs.declared.nodes.Op.{Op}
 use Rattle.term_dag.specs.declared.nodes.Op.TheVariants as op

@@ -1,6 +1,6 @@
 -- The reading that stands for data, and the words of terms under it.
 use Rattle.std.specs.Prelude.{◌≡◌, ℕ, ◌%◌, ◌^◌, ◌<◌, List, length, slice_index}
-use Rattle.bilv_spec.specs.Memory.{memory_of}
+use Rattle.word_spec.specs.Memory.{memory_of}
 use Rattle.walk_spec.specs.Terms.{TermReading, TermNode, term_word}
 use Rattle.term_dag.specs.declared.values.Reading.{Reading}
 

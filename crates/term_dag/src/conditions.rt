@@ -1,9 +1,9 @@
 //! Folds of `and` and `or` between bits, one level deep.
 
 ghost use Rattle.std.specs.Prelude.{◌≡◌, ℕ, ◌+◌, ◌<◌, ◌≤◌, ◌⊎◌, bit_and, bit_or, IsTrue, IfSome};
-ghost use Rattle.bilv_spec.specs.Words as words;
-ghost use Rattle.bilv_spec.specs.BilTyping.{result_width};
-ghost use Rattle.bilv_spec.specs.BilCounts.{op_weight};
+ghost use Rattle.word_spec.specs.Words as words;
+ghost use Rattle.machine_spec.specs.BilTyping.{result_width};
+ghost use Rattle.machine_spec.specs.BilCounts.{op_weight};
 ghost use Rattle.walk_spec.specs.Terms.{TermReading, InRange, operate, term_word, HasWidth, AreTyped};
 ghost use Rattle.term_dag.specs.Nodes.{nodes_of, op_of};
 ghost use Rattle.term_dag.specs.Made.{Separates};

@@ -1,10 +1,10 @@
 //! Folds of operators on words.
 
 ghost use Rattle.std.specs.Prelude.{◌≡◌, ℕ, ◌*◌, ◌<◌, ◌≤◌, ◌^◌, ◌==◌, ◌⊎◌, List, length, if◌then◌else◌, nat_lt, IsTrue, IfSome};
-ghost use Rattle.bilv_spec.specs.Words as words;
-ghost use Rattle.bilv_spec.specs.Bil as bil;
-ghost use Rattle.bilv_spec.specs.BilTyping.{result_width};
-ghost use Rattle.bilv_spec.specs.BilCounts.{op_weight};
+ghost use Rattle.word_spec.specs.Words as words;
+ghost use Rattle.machine_spec.specs.Bil as bil;
+ghost use Rattle.machine_spec.specs.BilTyping.{result_width};
+ghost use Rattle.machine_spec.specs.BilCounts.{op_weight};
 ghost use Rattle.walk_spec.specs.Terms.{TermNode, TermReading, operate, term_word, HasWidth, IsWidth, AreTyped};
 ghost use Rattle.term_dag.specs.Nodes.{nodes_of, op_of};
 ghost use Rattle.term_dag.specs.Folds.{IsConstant, IsSum, IsSymmetric, IsWordFold};

@@ -1,9 +1,9 @@
 //! Values of terms.
 
 ghost use Rattle.std.specs.Prelude.{◌≡◌, ◌%◌, ◌*◌, ◌+◌, ◌^◌, ◌<◌, ◌≤◌, List, length, slice_index, IfOk};
-ghost use Rattle.bilv_spec.specs.Words.{add};
-ghost use Rattle.bilv_spec.specs.Memory as memory;
-ghost use Rattle.bilv_spec.specs.Memory.{endian};
+ghost use Rattle.word_spec.specs.Words.{add};
+ghost use Rattle.word_spec.specs.Memory as memory;
+ghost use Rattle.word_spec.specs.Memory.{endian};
 ghost use Rattle.walk_spec.specs.Terms.{TermNode, term_value, term_word, HasWidth, IsBytes, IsTypedOver, AreTyped};
 ghost use Rattle.term_dag.specs.Nodes.{IsInput, node_of, nodes_of};
 ghost use Rattle.term_dag.specs.Folds.{value_over};

@@ -4,7 +4,7 @@ use Rattle.std.specs.List.{list_any}
 use Rattle.std.proofs.lemmas.Bool.{true≢false, lt-ltb}
 use Rattle.std.proofs.lemmas.Bool.Decides.{eqb_tells}
 use Rattle.bilv_spec.specs.Questions.{Reading, IsReading}
-use Rattle.bilv_spec.specs.RowFiles.{from_to}
+use Rattle.word_spec.specs.RowFiles.{from_to}
 use Rattle.walk_spec.specs.Terms.{InRange, TermNode, RegisterNode, FlagNode, ChoiceNode, BaseNode, MemoryNode, ConstantNode, BinaryNode, NotNode, SelectNode, ExtractNode, ConcatNode, ExtendNode, LoadNode, StoreNode, JoinNode}
 use Rattle.walk_spec.specs.Unrolled.{UnrolledProgram}
 use Rattle.walk_spec.specs.WalkQuestions.{IsNamedBelow, term_reading}

@@ -2,7 +2,7 @@
 use Rattle.std.proofs.Common.{◌≡◌, ℕ, zero, suc, ◌+◌, ◌*◌, ◌<◌, List, length, refl, ap, sym, ◌∙◌, subst, arith}
 use Rattle.std.specs.Prelude.{slice_index}
 use Rattle.std.proofs.lemmas.List.{length-map}
-use Rattle.bilv_spec.specs.RowFiles.{from_to}
+use Rattle.word_spec.specs.RowFiles.{from_to}
 use Rattle.walk_spec.specs.Terms.{TermReading, TermNode, MemoryNode, RegisterNode, FlagNode, ChoiceNode, BaseNode, TermValue, HasWidth, HasMemory, term_word}
 use Rattle.walk_spec.specs.Passive.{AreNames}
 use Rattle.term_dag.specs.Nodes.{IsInput}

@@ -1,7 +1,7 @@
 -- Terms for a state as those of the definitions.
 use Rattle.std.specs.Prelude.{◌≡◌, [], length, map}
-use Rattle.bilv_spec.specs.Memory.{Little}
-use Rattle.bilv_spec.specs.RowFiles.{from_to}
+use Rattle.word_spec.specs.Memory.{Little}
+use Rattle.word_spec.specs.RowFiles.{from_to}
 use Rattle.walk_spec.specs.Passive as walk
 use Rattle.walk_spec.specs.Unrolled.{UnrolledProgram}
 use Rattle.term_names.specs.declared.names.Names.{Names}

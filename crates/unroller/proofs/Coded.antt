@@ -2,10 +2,10 @@
 use Rattle.std.proofs.Common.{◌≡◌, refl, ap, sym, ◌∙◌, subst, ℕ, ◌<◌, ◌^◌, Option, Some, None, Bool, true, false}
 use Rattle.std.specs.Prelude.{is_some, if◌then◌else◌}
 use Rattle.std.specs.Global.{Vec}
-use Rattle.bilv_spec.specs.Memory.{Endian}
-use Rattle.bilv_spec.specs.Machine.{Row}
-use Rattle.bilv_spec.specs.MachineLaws.{IsLawful, IsLifting}
-use Rattle.bilv_spec.specs.Bil.{Bank, Statements}
+use Rattle.word_spec.specs.Memory.{Endian}
+use Rattle.machine_spec.specs.Machine.{Row}
+use Rattle.machine_spec.specs.MachineLaws.{IsLawful, IsLifting}
+use Rattle.machine_spec.specs.Bil.{Bank, Statements}
 use Rattle.bilv_spec.specs.Run.{Program, fetchable}
 use Rattle.bilv_spec.specs.Points.{file_row, file_word, row_price, loads_at, stores_at}
 use Rattle.bil_ast.specs.declared.statements.Stmt.{Stmt}

@@ -1,7 +1,7 @@
 -- Codes that are listed one by one.
 use Rattle.std.proofs.Common.{◌≡◌, inl, inr, ap, sym, ◌∙◌, subst, arith, ℕ, ◌+◌, List, [], ◌∷◌, ◌++◌, length, get_or}
 use Rattle.std.proofs.lemmas.Bool.{cases_lt}
-use Rattle.bilv_spec.specs.Bil.{Bank}
+use Rattle.machine_spec.specs.Bil.{Bank}
 use Rattle.bilv_spec.specs.Run.{Program}
 use Rattle.std.specs.Prelude.{Contains}
 use Rattle.graph_nodes.specs.Graphs.{IsGraph, IsNode, IsKeptLive, LiveStay}

@@ -2,14 +2,14 @@
 use Rattle.std.proofs.Common.{◌≡◌, ◌⊎◌, inl, inr, refl, ap, sym, ◌∙◌, subst, arith, ℕ, zero, suc, ◌<◌, Option, Some, None, Bool, true, false}
 use Rattle.std.specs.Prelude.{◌==◌, ◌&&◌, ◌||◌, nat_lt, ◌↔◌, Contains, length}
 use Rattle.std.proofs.lemmas.Bool.Decides.{nat_tests}
-use Rattle.bilv_spec.specs.State.{State, IsState}
-use Rattle.bilv_spec.specs.Machine.{Row, Outcome, Goes, Raises, addresses}
-use Rattle.bilv_spec.specs.MachineLaws.{IsLawful, IsFitted, IsLifting}
-use Rattle.bilv_spec.specs.StateText.{Layout}
-use Rattle.bilv_spec.specs.Bil.{Bank, BilVariable, Register, Flag, Mem, Local, Statements, Empty, Assign, JumpTo, Raise, Special, While, If}
-use Rattle.bilv_spec.specs.BilCounts.{names_only, list_names_only, has_no_loop, is_own, is_flag, may_assign, reads_first}
-use Rattle.bilv_spec.specs.BilMeaning.{Position, Ending, Ends, RaisesException, OutOfTurns, Wrong, execute}
-use Rattle.bilv_spec.specs.BilStores.{list_stored}
+use Rattle.word_spec.specs.State.{State, IsState}
+use Rattle.machine_spec.specs.Machine.{Row, Outcome, Goes, Raises, addresses}
+use Rattle.machine_spec.specs.MachineLaws.{IsLawful, IsFitted, IsLifting}
+use Rattle.machine_spec.specs.StateText.{Layout}
+use Rattle.machine_spec.specs.Bil.{Bank, BilVariable, Register, Flag, Mem, Local, Statements, Empty, Assign, JumpTo, Raise, Special, While, If}
+use Rattle.machine_spec.specs.BilCounts.{names_only, list_names_only, has_no_loop, is_own, is_flag, may_assign, reads_first}
+use Rattle.machine_spec.specs.BilMeaning.{Position, Ending, Ends, RaisesException, OutOfTurns, Wrong, execute}
+use Rattle.machine_spec.specs.BilStores.{list_stored}
 use Rattle.bilv_spec.specs.Run.{Program}
 use Rattle.bilv_spec.specs.Points.{file_row}
 use Rattle.bilv_spec.specs.LiveFlags.{IsRead, IsReadAfter, IsLive, assigns_by}

@@ -1,8 +1,8 @@
 -- Lists of the edges of a point.
 use Rattle.std.proofs.Common.{◌≡◌, ⊎_elim, refl, ap, sym, ◌∙◌, subst, arith, ℕ, zero, suc, Option, Some, None, Bool, true, false, List, [], ◌∷◌}
 use Rattle.std.specs.Prelude.{map, filter, not, ◌&&◌, Contains, if◌then◌else◌}
-use Rattle.bilv_spec.specs.Words.{add}
-use Rattle.bilv_spec.specs.Machine.{Row, Successors}
+use Rattle.word_spec.specs.Words.{add}
+use Rattle.machine_spec.specs.Machine.{Row, Successors}
 use Rattle.bilv_spec.specs.Run.{Program, some_of, named}
 use Rattle.bilv_spec.specs.Points.{Point, EdgeEnd, ToAddress, ToExit, distinct, same_end, leads_on, is_top, after_call, return_ends, indirect_ends, fall_ends, jump_ends, edges_by, edges, file_row, file_word}
 use Rattle.bilv_spec.specs.Graph.{returns_by}

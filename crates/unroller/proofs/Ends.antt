@@ -4,8 +4,8 @@ use Rattle.std.specs.Prelude.{Contains, ◌↔◌, ◌||◌, not, filter, if◌t
 use Rattle.std.specs.List.{filter_map, cons_option}
 use Rattle.std.specs.BTreeMap.{BTreeMap}
 use Rattle.std.proofs.lemmas.Bool.Decides.{nat_tests}
-use Rattle.bilv_spec.specs.Words.{add}
-use Rattle.bilv_spec.specs.Machine.{Row}
+use Rattle.word_spec.specs.Words.{add}
+use Rattle.machine_spec.specs.Machine.{Row}
 use Rattle.bilv_spec.specs.Run.{Program}
 use Rattle.bilv_spec.specs.Points.{Point, EdgeEnd, ToAddress, edges, edges_by, leads_on, fall_ends, jump_ends, file_row}
 use Rattle.bilv_spec.proofs.PointSteps.{there, in_left, in_right}

@@ -9,10 +9,9 @@ use Rattle.bilv_spec.specs.Run.{Program}
 use Rattle.bilv_spec.specs.Points as spec
 use Rattle.bilv_spec.specs.Points.{IsPoint}
 use Rattle.bilv_spec.proofs.PointSteps.{in_map}
-use Rattle.bilv_spec.proofs.PointsInGraph.{of_map}
+use Rattle.bilv_spec.proofs.PointsInGraph.{of_map, points_are_in_graph}
 use Rattle.graph_nodes.specs.declared.nodes.Graph.{Graph}
 use Rattle.graph_nodes.specs.Graphs.{IsGraph, addresses_of}
-use Rattle.bilv_spec.proofs.PointsInGraph.{points_are_in_graph}
 use Rattle.program_points.specs.declared.values.Frame.{Frame}
 use Rattle.program_points.specs.declared.values.Point.{Point}
 use Rattle.program_points.specs.declared.values.Points.{Points}

@@ -2,14 +2,14 @@
 use Rattle.std.proofs.Common.{◌≡◌, refl, ap, sym, ◌∙◌, subst, arith, ℕ, ◌<◌, ◌≤◌, ◌^◌, Option, Some, None, Bool, true, false, List, [], ◌∷◌}
 use Rattle.std.specs.Prelude.{if◌then◌else◌, ◌&&◌, nat_lt, ◌↔◌, Contains}
 use Rattle.std.specs.Global.{Vec}
-use Rattle.bilv_spec.specs.Memory.{load}
-use Rattle.bilv_spec.specs.State.{State}
-use Rattle.bilv_spec.specs.Machine.{Row, addresses}
-use Rattle.bilv_spec.specs.MachineLaws.{IsLifting}
-use Rattle.bilv_spec.specs.Bil.{Bank, Statements}
-use Rattle.bilv_spec.specs.BilCounts.{byte_loads, byte_stores, other_loads, may_assign}
-use Rattle.bilv_spec.specs.BilMeaning.{Ending, execute}
-use Rattle.bilv_spec.specs.BilStores.{list_stored}
+use Rattle.word_spec.specs.Memory.{load}
+use Rattle.word_spec.specs.State.{State}
+use Rattle.machine_spec.specs.Machine.{Row, addresses}
+use Rattle.machine_spec.specs.MachineLaws.{IsLifting}
+use Rattle.machine_spec.specs.Bil.{Bank, Statements}
+use Rattle.machine_spec.specs.BilCounts.{byte_loads, byte_stores, other_loads, may_assign}
+use Rattle.machine_spec.specs.BilMeaning.{Ending, execute}
+use Rattle.machine_spec.specs.BilStores.{list_stored}
 use Rattle.bilv_spec.specs.Run.{Program, all_kept, literal_target}
 use Rattle.bilv_spec.specs.Points.{file_word, is_empty}
 use Rattle.bilv_spec.specs.LiveFlags.{IsReadAfter, IsLive}

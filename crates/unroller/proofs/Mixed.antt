@@ -3,11 +3,11 @@ use Rattle.std.proofs.Common.{◌≡◌, refl, ap, sym, ◌∙◌, subst, arith,
 use Rattle.std.specs.Prelude.{if◌then◌else◌, ◌&&◌, ◌||◌, ◌==◌, ◌/◌}
 use Rattle.std.specs.Option.{option_map}
 use mathlib.Core.Path.{fun_ext}
-use Rattle.bilv_spec.specs.State as state
-use Rattle.bilv_spec.specs.Bil.{BilVariable, Register, Flag, Mem, Local, Expression, Var, Constant, Load, Store, Binary, Unary, Cast, Let, Unknown, Choose, Extract, Concat, Statements, Empty, Assign, JumpTo, Raise, Special, While, If}
-use Rattle.bilv_spec.specs.BilCounts.{names_only, is_local, list_names_only, has_no_loop}
-use Rattle.bilv_spec.specs.BilMeaning.{Value, Word, Bytes, Stuck, Env, get, assign, put_local, load_from, store_to, binary, unary, cast_to, in_env, choose, extract_from, concat_of, evaluate, Position, Ending, Ends, RaisesException, OutOfTurns, Wrong, then_do, assigned, jumped, branch_on, execute}
-use Rattle.bilv_spec.specs.BilStores.{bytes_at, chosen, stored_in, stored_by, then_stored, list_stored}
+use Rattle.word_spec.specs.State as state
+use Rattle.machine_spec.specs.Bil.{BilVariable, Register, Flag, Mem, Local, Expression, Var, Constant, Load, Store, Binary, Unary, Cast, Let, Unknown, Choose, Extract, Concat, Statements, Empty, Assign, JumpTo, Raise, Special, While, If}
+use Rattle.machine_spec.specs.BilCounts.{names_only, is_local, list_names_only, has_no_loop}
+use Rattle.machine_spec.specs.BilMeaning.{Value, Word, Bytes, Stuck, Env, get, assign, put_local, load_from, store_to, binary, unary, cast_to, in_env, choose, extract_from, concat_of, evaluate, Position, Ending, Ends, RaisesException, OutOfTurns, Wrong, then_do, assigned, jumped, branch_on, execute}
+use Rattle.machine_spec.specs.BilStores.{bytes_at, chosen, stored_in, stored_by, then_stored, list_stored}
 
 pub both : (a b : Bool) → (a && b) ≡ true → (a ≡ true) × (b ≡ true)
 both true true h = (refl, refl)

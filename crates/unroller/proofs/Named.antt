@@ -1,9 +1,9 @@
 -- A list that names the variables of a machine names those of its unrolled program.
 use Rattle.std.proofs.Common.{◌≡◌, refl, ◌∙◌, ℕ, Bool, true, false}
 use Rattle.std.specs.Prelude.{◌&&◌, ◌||◌}
-use Rattle.bilv_spec.specs.Machine.{Machine}
-use Rattle.bilv_spec.specs.Bil.{Bank, BilVariable, Register, Flag, Mem, Local, Expression, Var, Constant, Load, Store, Binary, Unary, Cast, Let, Unknown, Choose, Extract, Concat, Statements, Empty, Assign, JumpTo, Raise, Special, While, If}
-use Rattle.bilv_spec.specs.BilCounts.{names_only, is_local, list_names_only, is_own, is_bank}
+use Rattle.machine_spec.specs.Machine.{Machine}
+use Rattle.machine_spec.specs.Bil.{Bank, BilVariable, Register, Flag, Mem, Local, Expression, Var, Constant, Load, Store, Binary, Unary, Cast, Let, Unknown, Choose, Extract, Concat, Statements, Empty, Assign, JumpTo, Raise, Special, While, If}
+use Rattle.machine_spec.specs.BilCounts.{names_only, is_local, list_names_only, is_own, is_bank}
 use Rattle.walk_spec.specs.Unrolled.{UnrolledProgram, is_register_of, is_flag_of}
 use Rattle.walk_spec.specs.Unrolling.{is_variable_of}
 use Rattle.unroller.proofs.Mixed.{both, all_three, all_four}

@@ -3,17 +3,17 @@ use Rattle.std.proofs.Common.{◌≡◌, refl, ap, sym, ◌∙◌, subst, arith,
 use Rattle.std.specs.Prelude.{if◌then◌else◌, ◌==◌, nat_lt, ◌↔◌, Contains, length}
 use Rattle.std.proofs.lemmas.Bool.Decides.{nat_tests}
 use mathlib.Core.Path.{fun_ext}
-use Rattle.bilv_spec.specs.Words.{add}
-use Rattle.bilv_spec.specs.State.{State, IsState}
-use Rattle.bilv_spec.specs.Machine.{Row, How, On, Direct, DirectCall, Indirect, IndirectCall, Outcome, Goes, Raises, addresses, exception_number}
-use Rattle.bilv_spec.specs.MachineLaws.{IsLawful, IsFitted, IsLifting, with_flag, AgreeBut, OutcomesAgreeBut, HaveSameFlag, IfGoes}
-use Rattle.bilv_spec.specs.StateText.{Layout}
-use Rattle.bilv_spec.specs.Bil.{Bank, Statements}
-use Rattle.bilv_spec.specs.Bil as bil
-use Rattle.bilv_spec.specs.BilCounts.{is_own}
-use Rattle.bilv_spec.specs.BilMeaning.{Stuck, Position, Ending, Ends, RaisesException, OutOfTurns, Wrong, execute}
-use Rattle.bilv_spec.specs.BilStores.{list_stored}
-use Rattle.bilv_spec.specs.Simulation.{position, jump_of, Finished, Raised, of_list, of_row}
+use Rattle.word_spec.specs.Words.{add}
+use Rattle.word_spec.specs.State.{State, IsState}
+use Rattle.machine_spec.specs.Machine.{Row, How, On, Direct, DirectCall, Indirect, IndirectCall, Outcome, Goes, Raises, addresses, exception_number}
+use Rattle.machine_spec.specs.MachineLaws.{IsLawful, IsFitted, IsLifting, with_flag, AgreeBut, OutcomesAgreeBut, HaveSameFlag, IfGoes}
+use Rattle.machine_spec.specs.StateText.{Layout}
+use Rattle.machine_spec.specs.Bil.{Bank, Statements}
+use Rattle.machine_spec.specs.Bil as bil
+use Rattle.machine_spec.specs.BilCounts.{is_own}
+use Rattle.machine_spec.specs.BilMeaning.{Stuck, Position, Ending, Ends, RaisesException, OutOfTurns, Wrong, execute}
+use Rattle.machine_spec.specs.BilStores.{list_stored}
+use Rattle.machine_spec.specs.Simulation.{position, jump_of, Finished, Raised, of_list, of_row}
 use Rattle.bilv_spec.specs.Run.{Program}
 use Rattle.bilv_spec.specs.Points.{file_row}
 use Rattle.bilv_spec.specs.LiveFlags.{IsRead, by_row, later, IsReadAfter, reads_by, surely_by}

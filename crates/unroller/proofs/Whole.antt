@@ -5,9 +5,9 @@ use Rattle.std.specs.BTreeMap.{BTreeMap}
 use Rattle.std.proofs.lemmas.Bool.{cases_lt}
 use Rattle.std.proofs.lemmas.List.{get_or_default, get_or-map}
 use Rattle.std.proofs.lemmas.Option.{slice_get-get_or}
-use Rattle.bilv_spec.specs.Machine.{Row}
-use Rattle.bilv_spec.specs.MachineLaws.{IsFitted}
-use Rattle.bilv_spec.specs.Bil.{Bank}
+use Rattle.machine_spec.specs.Machine.{Row}
+use Rattle.machine_spec.specs.MachineLaws.{IsFitted}
+use Rattle.machine_spec.specs.Bil.{Bank}
 use Rattle.bilv_spec.specs.Notes as notes
 use Rattle.bilv_spec.specs.Run.{Program, all_kept}
 use Rattle.bilv_spec.specs.Points as spec

@@ -1,7 +1,7 @@
 -- What an unrolled program as a value says at a place, and of its form.
 use Rattle.std.specs.Prelude.{ℕ, ◌≡◌, ◌+◌, ◌<◌, Some, length, drop, slice_get, slice_index}
-use Rattle.bilv_spec.specs.Machine.{Machine}
-use Rattle.bilv_spec.specs.MachineLaws.{IsFitted}
+use Rattle.machine_spec.specs.Machine.{Machine}
+use Rattle.machine_spec.specs.MachineLaws.{IsFitted}
 use Rattle.state_text.specs.Starts.{layout_of}
 use Rattle.walk_spec.specs.Unrolled.{is_register_of, is_flag_of, point_at}
 use Rattle.walk_spec.specs.Unrolling.{IsLaidOut}

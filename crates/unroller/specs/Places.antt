@@ -1,10 +1,10 @@
 -- What stands at the places of an unrolled program.
 use Rattle.std.specs.Prelude.{ℕ, ◌≡◌, ◌≤◌, ◌<◌, List, Some, map, length, slice_index, slice_index_or}
 use Rattle.std.specs.List.{AllZip, AllWithin}
-use Rattle.bilv_spec.specs.Machine.{Row}
-use Rattle.bilv_spec.specs.MachineLaws.{IsLawful, IsFitted}
-use Rattle.bilv_spec.specs.StateText.{Layout}
-use Rattle.bilv_spec.specs.Bil.{Bank}
+use Rattle.machine_spec.specs.Machine.{Row}
+use Rattle.machine_spec.specs.MachineLaws.{IsLawful, IsFitted}
+use Rattle.machine_spec.specs.StateText.{Layout}
+use Rattle.machine_spec.specs.Bil.{Bank}
 use Rattle.bilv_spec.specs.Run.{Program, fetchable}
 use Rattle.bilv_spec.specs.Points.{Point, EdgeEnd, file_row, row_price, loads_at, stores_at}
 use Rattle.walk_spec.specs.Unrolled.{UnrolledProgram, is_register_of, is_flag_of}

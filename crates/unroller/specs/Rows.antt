@@ -1,11 +1,11 @@
 -- What the lists of rows do at points.
 use Rattle.std.specs.Prelude.{ℕ, ◌≡◌, ◌<◌, ◌^◌, ◌↔◌, Bool, true, List, Option, Some, None, Contains, length, slice_index, if◌then◌else◌}
 use Rattle.std.specs.Global.{Vec}
-use Rattle.bilv_spec.specs.Machine.{Row}
-use Rattle.bilv_spec.specs.MachineLaws.{IsLawful, IsFitted, IsLifting}
-use Rattle.bilv_spec.specs.StateText.{Layout}
-use Rattle.bilv_spec.specs.Bil.{Bank, Statements}
-use Rattle.bilv_spec.specs.BilCounts.{may_assign}
+use Rattle.machine_spec.specs.Machine.{Row}
+use Rattle.machine_spec.specs.MachineLaws.{IsLawful, IsFitted, IsLifting}
+use Rattle.machine_spec.specs.StateText.{Layout}
+use Rattle.machine_spec.specs.Bil.{Bank, Statements}
+use Rattle.machine_spec.specs.BilCounts.{may_assign}
 use Rattle.bilv_spec.specs.Run.{Program, all_kept}
 use Rattle.bilv_spec.specs.Points.{file_row, file_word}
 use Rattle.bilv_spec.specs.LiveFlags.{IsLive}

@@ -2,7 +2,7 @@
 ghost use Rattle.std.specs.Prelude.{◌≡◌, ◌++◌, ℕ, IfOk, OnOk, None, Some, false, Contains, length};
 ghost use Rattle.std.specs.List.Sorted.{IsNonDecreasingBy};
 ghost use Rattle.bilv_spec.specs.Files.{order_of, program_of};
-ghost use Rattle.bilv_spec.specs.Machine.{Machine};
+ghost use Rattle.machine_spec.specs.Machine.{Machine};
 ghost use Rattle.bilv_spec.specs.Notes.{Notes};
 ghost use Rattle.bilv_spec.specs.Points as points;
 ghost use Rattle.bilv_spec.specs.Points.{loads_at};

@@ -2,7 +2,7 @@
 use Rattle.std.proofs.Common.{◌≡◌, refl, sym, subst, ℕ, zero, suc, ◌-◌, ◌<◌, ◌≤◌, ◌^◌, inl, inr, List, [], arith}
 use Rattle.std.specs.Prelude.{length, Contains, slice_index}
 use Rattle.std.proofs.lemmas.List.Elements.{Contains-get_or, at_from_Contains}
-use Rattle.bilv_spec.specs.Questions.{Question as Asked}
+use Rattle.call_spec.specs.Calls.{Question as Asked}
 use Rattle.walk_spec.specs.Unrolled.{UnrolledProgram}
 use Rattle.question_form.specs.Views.{kind_of, unrolled_of}
 use Rattle.question_form.specs.Questions.{program_of_question, question_of}
@@ -10,7 +10,7 @@ use Rattle.question_form.specs.declared.unrolled.Kind.{Kind}
 use Rattle.question_form.specs.declared.questions.Passive.{Passive}
 use Rattle.question_form.specs.declared.questions.Question.{Question}
 use Rattle.bilv_spec.specs.Run.{Program}
-use Rattle.bilv_spec.specs.StateText.{Layout}
+use Rattle.machine_spec.specs.StateText.{Layout}
 use Rattle.verdict.specs.Grounds.{Answers, IsAnswered, IsGround, IsQuestionOf}
 use Rattle.verdict.specs.Rounds.{AreAdded, AreFurther, AreRising, IsAskable, IsMerged, IsRound}
 use Rattle.verdict.specs.declared.verdicts.Answered.{Answered}

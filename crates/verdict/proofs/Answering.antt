@@ -5,13 +5,14 @@ use Rattle.std.specs.List.{list_any}
 use Rattle.std.specs.Cmp.{IsEquivalence}
 use Rattle.std.proofs.lemmas.Map.Views.{list_any-from_Contains}
 use Rattle.std.proofs.lemmas.Bool.Decides.{nat_tests}
-use Rattle.bilv_spec.specs.Clauses.{Cnf, Satisfies}
-use Rattle.bilv_spec.specs.Refutation.{LogLine, IsRefutation}
-use Rattle.bilv_spec.specs.Empowering.{IsSpent}
-use Rattle.bilv_spec.specs.StateText.{Layout, Written, IsWritten}
+use Rattle.clause_spec.specs.Clauses.{Cnf, Satisfies}
+use Rattle.clause_spec.specs.Refutation.{LogLine, IsRefutation}
+use Rattle.clause_spec.specs.Empowering.{IsSpent}
+use Rattle.machine_spec.specs.StateText.{Layout, IsWritten}
+use Rattle.word_spec.specs.State.{Written}
 use Rattle.bilv_spec.specs.Run.{Program}
 use Rattle.bilv_spec.specs.Points.{is_known_at, byte_of_cell}
-use Rattle.bilv_spec.specs.Questions.{Question}
+use Rattle.call_spec.specs.Calls.{Question}
 use Rattle.bilv_spec.specs.Answers.{start_in}
 use Rattle.bilv_spec.specs.Evidence.{Refutes, Spends}
 use Rattle.walk_spec.specs.Unrolled.{UnrolledProgram, byte_of_runs}

@@ -1,9 +1,9 @@
 -- What the answer to a question within the budgets certifies.
 use Rattle.std.proofs.Common.{◌≡◌, subst}
-use Rattle.bilv_spec.specs.Answers.{Budget, IsWithin}
-use Rattle.bilv_spec.specs.Questions.{Question}
+use Rattle.call_spec.specs.Calls.{Budget, Question}
+use Rattle.bilv_spec.specs.Answers.{IsWithin}
 use Rattle.bilv_spec.specs.Run.{Program}
-use Rattle.bilv_spec.specs.StateText.{Layout}
+use Rattle.machine_spec.specs.StateText.{Layout}
 use Rattle.bilv_spec.proofs.RefutedQuestions.{refuted_is_false}
 use Rattle.cnf_form.specs.Views.{proof_of}
 use Rattle.cnf_form.specs.declared.form.Proof.{Proof}

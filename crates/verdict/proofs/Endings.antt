@@ -1,10 +1,12 @@
 -- What a run that is found says of a verdict.
 use Rattle.std.proofs.Common.{◌≡◌, refl, sym, ap, ◌∙◌, ℕ, ◌-◌, ◌≤◌, Some}
-use Rattle.bilv_spec.specs.Run.{Program, Event as RunEvent}
+use Rattle.bilv_spec.specs.Run.{Program}
+use Rattle.machine_spec.specs.Endings.{Event as RunEvent}
 use Rattle.bilv_spec.specs.Reports.{FoundEvent, FoundTurn, found}
-use Rattle.bilv_spec.specs.StateText.{Layout}
+use Rattle.machine_spec.specs.StateText.{Layout}
 use Rattle.bilv_spec.specs.PointLaws.{HasLawfulRows, ReadsMemory}
-use Rattle.bilv_spec.specs.Questions.{FailQuestion, TurnQuestion, IsSatisfiable}
+use Rattle.call_spec.specs.Calls.{FailQuestion, TurnQuestion}
+use Rattle.bilv_spec.specs.Questions.{IsSatisfiable}
 use Rattle.bilv_spec.specs.Answers.{IsWithin, start_in}
 use Rattle.state_text.specs.Starts.{event_of, written_of}
 use Rattle.state_text.specs.declared.start.Start.{Start}

@@ -6,15 +6,16 @@ use Rattle.std.proofs.lemmas.Bool.Decides.{nat_tests}
 use Rattle.std.proofs.lemmas.List.{length-map}
 use Rattle.std.proofs.lemmas.List.Elements.{All-contains}
 use Rattle.bilv_spec.specs.Files.{program_of}
-use Rattle.bilv_spec.specs.Machine.{Machine}
-use Rattle.bilv_spec.specs.MachineLaws.{IsLawfulMachine, IsFitted}
-use Rattle.bilv_spec.specs.RowFiles.{from_to}
+use Rattle.machine_spec.specs.Machine.{Machine}
+use Rattle.machine_spec.specs.MachineLaws.{IsLawfulMachine, IsFitted}
+use Rattle.word_spec.specs.RowFiles.{from_to}
 use Rattle.bilv_spec.specs.Notes.{Notes, NoteLine, Assert, Expr, Number, Register, Flag, Pc, Bound, Memory, Old, Not, Binary}
-use Rattle.bilv_spec.specs.StateText.{Layout, last_step}
+use Rattle.machine_spec.specs.StateText.{Layout, last_step}
 use Rattle.bilv_spec.specs.Run.{Program}
 use Rattle.bilv_spec.specs.Points.{byte_of_cell, is_known_at, HasMore, IsPrice}
 use Rattle.bilv_spec.specs.PointLaws.{HasLawfulRows}
-use Rattle.bilv_spec.specs.Answers.{Budget, IsWithin}
+use Rattle.call_spec.specs.Calls.{Budget}
+use Rattle.bilv_spec.specs.Answers.{IsWithin}
 use Rattle.bilv_spec.proofs.ProgramRows.{cell_small, rows_lawful}
 use Rattle.bilv_spec.proofs.AllPoints.{no_more_points}
 use Rattle.walk_spec.specs.Unrolled.{UnrolledProgram, byte_of_runs, is_register_of, is_flag_of, point_at}

@@ -2,23 +2,26 @@
 use Rattle.std.proofs.Common.{◌≡◌, sym, ap, subst, ◌∙◌, ℕ, ◌-◌, ◌<◌, ◌≤◌, Bool, true, false, List, [], ◌∷◌, Some, arith}
 use Rattle.std.specs.Prelude.{◌==◌, if◌then◌else◌, Contains}
 use Rattle.std.proofs.lemmas.List.Elements.{All-contains, Contains-append_left, Contains-append_right, Contains-push}
-use Rattle.bilv_spec.specs.Memory.{byte_in}
-use Rattle.bilv_spec.specs.State.{State}
-use Rattle.bilv_spec.specs.Run.{Program, Event, Run, Failed, Turned}
+use Rattle.word_spec.specs.Memory.{byte_in}
+use Rattle.word_spec.specs.State.{State, Written}
+use Rattle.bilv_spec.specs.Run.{Program, Run, Failed, Turned}
+use Rattle.machine_spec.specs.Endings.{Event}
 use Rattle.bilv_spec.specs.Reports.{Found, FoundEvent, FoundTurn, found, found_going}
-use Rattle.bilv_spec.specs.StateText.{Layout, Written, IsWritten, last_step}
+use Rattle.machine_spec.specs.StateText.{Layout, IsWritten, last_step}
 use Rattle.bilv_spec.specs.Points.{is_known_at}
 use Rattle.bilv_spec.specs.PointLaws.{HasLawfulRows, ReadsMemory}
 use Rattle.bilv_spec.specs.Verdict.{Holds, Vacuous, Unroll, IsEntryState, IsStart, RunFails, RunTurns}
-use Rattle.bilv_spec.specs.Questions.{Question, EntryQuestion, FailQuestion, TurnQuestion, IsSatisfiable}
-use Rattle.bilv_spec.specs.Evidence.{Proof, Refutes, Spends}
-use Rattle.bilv_spec.specs.Answers.{Budget, IsWithin, HoldsReport, VacuousReport, FailsReport, UnrollReport, ConflictsReport, Refutations, EntryRefuted, RunOf, SpentOn, IsRightReport, EndsAs, start_in}
+use Rattle.call_spec.specs.Calls.{Question, EntryQuestion, FailQuestion, TurnQuestion, Budget, Refutations, EntryRefuted, RunOf, SpentOn}
+use Rattle.bilv_spec.specs.Questions.{IsSatisfiable}
+use Rattle.clause_spec.specs.Refutation.{Proof}
+use Rattle.bilv_spec.specs.Evidence.{Refutes, Spends}
+use Rattle.bilv_spec.specs.Answers.{IsWithin, HoldsReport, VacuousReport, FailsReport, UnrollReport, ConflictsReport, IsRightReport, EndsAs, start_in}
 use Rattle.bilv_spec.proofs.Deciding.{questions_are_of_runs, questions_decide}
 use Rattle.bilv_spec.proofs.FileWords.{runs_by_file}
 use Rattle.bilv_spec.proofs.Over.{one_end}
 use Rattle.bilv_spec.proofs.ReadingRuns.{ends_to}
 use Rattle.bilv_spec.proofs.RefutedQuestions.{refuted_is_false}
-use Rattle.answer_laws.proofs.RunEnds.{few_points_are_found}
+use Rattle.walk_laws.proofs.RunEnds.{few_points_are_found}
 use Rattle.verdict.specs.Grounds.{IsFollowedBy}
 
 -- what written choices give is a choice

@@ -3,16 +3,18 @@ use Rattle.std.proofs.Common.{◌≡◌, ℕ, List, [], ◌∷◌, Option, Some,
 use Rattle.std.specs.Prelude.{◌==◌, ◌&&◌, not, is_some, if◌then◌else◌}
 use Rattle.std.proofs.lemmas.Bool.{eqb-true}
 use Rattle.bilv_spec.specs.Elf.{file_endian}
-use Rattle.bilv_spec.specs.Memory.{Endian}
+use Rattle.word_spec.specs.Memory.{Endian}
 use Rattle.bilv_spec.specs.Notes.{Notes}
-use Rattle.bilv_spec.specs.Machine.{Row, Machine}
-use Rattle.bilv_spec.specs.Rv as rv
-use Rattle.bilv_spec.specs.Rv.{rv32, rv_row}
-use Rattle.bilv_spec.specs.Arm as arms
-use Rattle.bilv_spec.specs.Arm.{Profile, arm, arm_row, condition_code}
+use Rattle.machine_spec.specs.Machine.{Row, Machine}
+use Rattle.machine_spec.specs.Rv as rv
+use Rattle.machine_spec.specs.Rv.{rv32, rv_row}
+use Rattle.machine_spec.specs.Arm as arms
+use Rattle.word_spec.specs.Profiles.{Profile}
+use Rattle.machine_spec.specs.Arm.{arm, arm_row, condition_code}
 use Rattle.bilv_spec.specs.Run.{Program, fetchable}
 use Rattle.bilv_spec.specs.Points.{file_row, file_word}
-use Rattle.bilv_spec.specs.Files.{Options, is_rv, machine_of, program_of}
+use Rattle.call_spec.specs.Calls.{Options}
+use Rattle.bilv_spec.specs.Files.{is_rv, machine_of, program_of}
 use Rattle.program_points.specs.Listed.{HasOneWay}
 
 -- a row has 4 bytes and one way

@@ -3,10 +3,10 @@ use Rattle.std.proofs.Common.{◌≡◌, sym, subst, ℕ, ◌<◌, Bool, true, f
 use Rattle.std.specs.Prelude.{◌==◌, length}
 use Rattle.std.proofs.lemmas.Bool.Decides.{nat_tests}
 use Rattle.std.proofs.lemmas.List.Elements.{at_from_Contains}
-use Rattle.bilv_spec.specs.Memory.{Memory}
-use Rattle.bilv_spec.specs.Clauses.{Satisfies, valuation}
-use Rattle.bilv_spec.specs.Refutation.{IsRefutation}
-use Rattle.bilv_spec.specs.Empowering.{IsSpent}
+use Rattle.word_spec.specs.Memory.{Memory}
+use Rattle.clause_spec.specs.Clauses.{Satisfies, valuation}
+use Rattle.clause_spec.specs.Refutation.{IsRefutation}
+use Rattle.clause_spec.specs.Empowering.{IsSpent}
 use Rattle.cnf_form.specs.Views.{cnf_of, lines_of}
 use Rattle.cnf_form.specs.declared.form.Cnf.{Cnf}
 use Rattle.cnf_form.specs.declared.form.Log.{Log}

@@ -2,7 +2,7 @@
 use Rattle.std.proofs.Common.{◌≡◌, ℕ, List, sym, subst}
 use Rattle.bilv_spec.specs.Run.{Program}
 use Rattle.bilv_spec.specs.Scripts.{IsScript}
-use Rattle.bilv_spec.specs.StateText.{Layout}
+use Rattle.machine_spec.specs.StateText.{Layout}
 use Rattle.known_bytes.specs.Runs.{AreRuns}
 use Rattle.question_form.specs.Questions.{program_of_question, question_of}
 use Rattle.question_form.specs.Views.{kind_of, unrolled_of}

@@ -2,9 +2,10 @@
 use Rattle.std.proofs.Common.{◌≡◌, ◌≤◌}
 use Rattle.bilv_spec.specs.Answers.{IsWithin}
 use Rattle.bilv_spec.specs.PointLaws.{ReadsMemory}
-use Rattle.bilv_spec.specs.Questions.{Question, EntryQuestion, FailQuestion, TurnQuestion, IsSatisfiable}
+use Rattle.call_spec.specs.Calls.{Question, EntryQuestion, FailQuestion, TurnQuestion}
+use Rattle.bilv_spec.specs.Questions.{IsSatisfiable}
 use Rattle.bilv_spec.specs.Run.{Program}
-use Rattle.bilv_spec.specs.StateText.{Layout}
+use Rattle.machine_spec.specs.StateText.{Layout}
 use Rattle.bilv_spec.proofs.RefutedQuestions.{refuted_is_false}
 use Rattle.cnf_form.specs.Views.{proof_of}
 use Rattle.cnf_form.specs.declared.form.Proof.{Proof}

@@ -1,5 +1,5 @@
 -- The program that a function of two files is.
-use Rattle.bilv_spec.specs.Machine.{Machine}
+use Rattle.machine_spec.specs.Machine.{Machine}
 use Rattle.bilv_spec.specs.Run.{Program}
 use Rattle.bilv_spec.specs.Files.{program_of}
 use Rattle.notes_lang.specs.Drafting.{notes_of}

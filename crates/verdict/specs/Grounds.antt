@@ -1,10 +1,12 @@
 -- What a question of a program comes to.
 use Rattle.std.specs.Prelude.{ℕ, ◌≡◌, ◌≤◌, ◌+◌, length}
-use Rattle.bilv_spec.specs.StateText.{Layout, IsWritten, last_step}
-use Rattle.bilv_spec.specs.Run.{Program, Start}
+use Rattle.machine_spec.specs.StateText.{Layout, IsWritten, last_step}
+use Rattle.bilv_spec.specs.Run.{Program}
+use Rattle.machine_spec.specs.Endings.{Start}
 use Rattle.bilv_spec.specs.Points.{is_known_at}
 use Rattle.bilv_spec.specs.PointLaws.{HasLawfulRows}
-use Rattle.bilv_spec.specs.Questions.{Reading, Question, IsTrue}
+use Rattle.bilv_spec.specs.Questions.{Reading, IsTrue}
+use Rattle.call_spec.specs.Calls.{Question}
 use Rattle.bilv_spec.specs.QuestionLaws.{Follows}
 use Rattle.bilv_spec.specs.Answers.{start_in}
 use Rattle.bilv_spec.specs.Evidence.{Refutes, Spends}

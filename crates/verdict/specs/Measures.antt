@@ -1,9 +1,10 @@
 -- What an unrolled program comes to by the budgets.
 use Rattle.std.specs.Prelude.{◌≡◌, ◌≤◌, ◌<◌, length}
-use Rattle.bilv_spec.specs.Answers.{Budget, IsWithin}
+use Rattle.call_spec.specs.Calls.{Budget}
+use Rattle.bilv_spec.specs.Answers.{IsWithin}
 use Rattle.bilv_spec.specs.Points.{HasMore, IsPrice}
 use Rattle.bilv_spec.specs.Run.{Program}
-use Rattle.bilv_spec.specs.StateText.{Layout}
+use Rattle.machine_spec.specs.StateText.{Layout}
 use Rattle.known_bytes.specs.Runs.{AreRuns}
 use Rattle.question_form.specs.Forms.{IsFormed}
 use Rattle.question_form.specs.Views.{unrolled_of}

@@ -3,7 +3,7 @@ use Rattle.std.specs.Prelude.{ℕ, ◌≡◌, ◌<◌, ◌+◌, ◌^◌, ◌⊎�
 use Rattle.walk_spec.specs.Passive.{IsPassive}
 use Rattle.walk_spec.specs.Unrolled.{UnrolledProgram, byte_of_runs}
 use Rattle.walk_spec.specs.Unrolling.{IsWalkable}
-use Rattle.bilv_spec.specs.Clauses.{valuation}
+use Rattle.clause_spec.specs.Clauses.{valuation}
 use Rattle.walk_spec.specs.ClauseForm.{IsStartOf}
 use Rattle.state_text.specs.Starts.{written_of}
 use Rattle.bit_blast.specs.Broken.{AreBroken}

@@ -1,13 +1,14 @@
 -- Verdicts as the reports of the definitions, with their evidence.
 use Rattle.std.specs.Prelude.{◌≡◌, ◌<◌, ◌+◌, string_bytes}
-use Rattle.bilv_spec.specs.Answers as answers
-use Rattle.bilv_spec.specs.Answers.{Report, HoldsReport, VacuousReport, FailsReport, UnrollReport, PointsReport, SizeReport, ConflictsReport, Evidence, Refutations, EntryRefuted, RunOf, SpentOn, Count, IsRightReport, IsWithin}
+use Rattle.call_spec.specs.Calls as answers
+use Rattle.bilv_spec.specs.Answers.{Report, HoldsReport, VacuousReport, FailsReport, UnrollReport, PointsReport, SizeReport, ConflictsReport, IsRightReport, IsWithin}
+use Rattle.call_spec.specs.Calls.{Evidence, Refutations, EntryRefuted, RunOf, SpentOn, Count, Question}
 use Rattle.bilv_spec.specs.Evidence.{Refutes, Spends}
 use Rattle.bilv_spec.specs.Points.{HasMore, IsPrice}
-use Rattle.bilv_spec.specs.Questions.{Question, IsSatisfiable}
+use Rattle.bilv_spec.specs.Questions.{IsSatisfiable}
 use Rattle.bilv_spec.specs.Run.{Program}
 use Rattle.bilv_spec.specs.Scripts.{IsScript}
-use Rattle.bilv_spec.specs.StateText.{Layout}
+use Rattle.machine_spec.specs.StateText.{Layout}
 use Rattle.cnf_form.specs.Views.{proof_of}
 use Rattle.state_text.specs.Starts.{event_of, written_of}
 use Rattle.question_form.specs.Views.{kind_of}

@@ -1,11 +1,11 @@
 //! The questions of a function of two files, certified one by one.
 ghost use Rattle.std.specs.Prelude.{◌≡◌, ◌<◌, ℕ, IfOk, slice_index};
 ghost use Rattle.bilv_spec.specs.Files.{order_of, program_of};
-ghost use Rattle.bilv_spec.specs.Answers as answers;
-ghost use Rattle.bilv_spec.specs.Answers.{IsBudget, IsWithin};
-ghost use Rattle.bilv_spec.specs.Questions.{Question};
+ghost use Rattle.call_spec.specs.Calls as answers;
+ghost use Rattle.call_spec.specs.Calls.{IsBudget, Question};
+ghost use Rattle.bilv_spec.specs.Answers.{IsWithin};
 ghost use Rattle.bilv_spec.specs.Run.{Program};
-ghost use Rattle.bilv_spec.specs.StateText.{Layout};
+ghost use Rattle.machine_spec.specs.StateText.{Layout};
 ghost use Rattle.program_points.specs.Listed.{HasOneWay};
 ghost use Rattle.question_form.specs.Views.{kind_of};
 ghost use Rattle.notes_lang.specs.Drafting.{notes_of};

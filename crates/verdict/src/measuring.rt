@@ -1,7 +1,7 @@
 //! Functions of two files, unrolled, and measured by the budgets.
 ghost use Rattle.std.specs.Prelude.{◌≡◌, ◌<◌, ℕ, IfErr, IfOk, slice_index};
 ghost use Rattle.bilv_spec.specs.Files.{order_of, program_of};
-ghost use Rattle.bilv_spec.specs.Answers.{IsBudget};
+ghost use Rattle.call_spec.specs.Calls.{IsBudget};
 ghost use Rattle.program_points.specs.Listed.{HasOneWay, IsTooMany};
 ghost use Rattle.state_text.specs.Starts.{layout_of};
 ghost use Rattle.notes_lang.specs.Drafting.{notes_of};

@@ -1,7 +1,7 @@
 //! One round of a question: its clauses over some bytes of the file, and what the search says of them.
 ghost use Rattle.std.specs.Prelude.{◌≡◌, ◌≤◌, ℕ, IfOk};
-ghost use Rattle.bilv_spec.specs.Clauses.{AreOnVariables, valuation};
-ghost use Rattle.bilv_spec.specs.Refutation.{IsRefutation};
+ghost use Rattle.clause_spec.specs.Clauses.{AreOnVariables, valuation};
+ghost use Rattle.clause_spec.specs.Refutation.{IsRefutation};
 ghost use Rattle.cnf_form.specs.Views.{lines_of};
 ghost use Rattle.walk_spec.specs.Terms.{with_mem};
 ghost use Rattle.walk_spec.specs.Cells.{AreFormed, Gives};

@@ -1,6 +1,6 @@
 //! The scripts of the questions of a function of two files, for another solver.
 ghost use Rattle.std.specs.Prelude.{◌≡◌, ◌<◌, ℕ, IfOk, slice_index, string_bytes};
-ghost use Rattle.bilv_spec.specs.Answers.{IsBudget};
+ghost use Rattle.call_spec.specs.Calls.{IsBudget};
 ghost use Rattle.bilv_spec.specs.Files.{order_of, program_of};
 ghost use Rattle.bilv_spec.specs.Scripts.{IsScript};
 ghost use Rattle.notes_lang.specs.Drafting.{notes_of};

@@ -1,12 +1,13 @@
 //! The verdict on the function of two files.
 ghost use Rattle.std.specs.Prelude.{◌≡◌, ◌<◌, ◌-◌, ℕ, Some, IfOk, slice_index};
 ghost use Rattle.bilv_spec.specs.Files.{order_of, program_of};
-ghost use Rattle.bilv_spec.specs.Answers.{IsBudget, IsWithin, start_in};
+ghost use Rattle.call_spec.specs.Calls.{IsBudget, FailQuestion, TurnQuestion};
+ghost use Rattle.bilv_spec.specs.Answers.{IsWithin, start_in};
 ghost use Rattle.bilv_spec.specs.Points.{is_known_at};
 ghost use Rattle.bilv_spec.specs.PointLaws.{HasLawfulRows};
-ghost use Rattle.bilv_spec.specs.Questions.{IsSatisfiable, FailQuestion, TurnQuestion};
+ghost use Rattle.bilv_spec.specs.Questions.{IsSatisfiable};
 ghost use Rattle.bilv_spec.specs.Reports.{found};
-ghost use Rattle.bilv_spec.specs.StateText.{IsWritten};
+ghost use Rattle.machine_spec.specs.StateText.{IsWritten};
 ghost use Rattle.program_points.specs.Listed.{HasOneWay};
 ghost use Rattle.question_form.specs.Views.{unrolled_of};
 ghost use Rattle.notes_lang.specs.Drafting.{notes_of};

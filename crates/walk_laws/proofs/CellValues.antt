@@ -3,11 +3,11 @@ use Rattle.std.proofs.Common.{◌≡◌, refl, ap, sym, ◌∙◌, subst, arith,
 use Rattle.std.specs.Prelude.{◌++◌, Contains}
 use Rattle.std.proofs.lemmas.Nat.{mod_below, pow_pos, pow-add, mul-add-lt}
 use Rattle.std.proofs.Math.Nat.{mul_comm, pow-le-pow_right}
-use Rattle.bilv_spec.specs.Bil.{BinaryOp}
-use Rattle.bilv_spec.specs.BilTyping.{result_width}
-use Rattle.bilv_spec.specs.BilMeaning.{on_words}
-use Rattle.bilv_spec.proofs.BilSound.{word_of}
-use Rattle.bilv_spec.proofs.WordBounds.{op_below, complement_below, sign_extend_below}
+use Rattle.machine_spec.specs.Bil.{BinaryOp}
+use Rattle.machine_spec.specs.BilTyping.{result_width}
+use Rattle.machine_spec.specs.BilMeaning.{on_words}
+use Rattle.machine_spec.proofs.BilSound.{word_of}
+use Rattle.machine_spec.proofs.WordBounds.{op_below, complement_below, sign_extend_below}
 use Rattle.walk_spec.specs.Terms.{TermReading, InRange, TermValue, TermNode, RegisterNode, FlagNode, ChoiceNode, BaseNode, MemoryNode, ConstantNode, BinaryNode, NotNode, SelectNode, ExtractNode, ConcatNode, ExtendNode, LoadNode, StoreNode, JoinNode, word_part, operate, select, word_value, value_at, node_at, node_value, values_from, term_word, width_of, HasWidth, IsTypedOver, AreTypedFrom}
 use Rattle.walk_spec.specs.Unrolled.{UnrolledProgram, is_register_of, is_flag_of}
 use Rattle.walk_spec.specs.WalkQuestions.{IsNamedBelow, DrawsAt}

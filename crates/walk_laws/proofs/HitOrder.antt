@@ -3,9 +3,9 @@ use Rattle.std.proofs.Common.{◌≡◌, ◌⊎◌, ⊎_elim, inl, inr, ℕ, zer
 use Rattle.std.specs.Prelude.{Contains, ◌==◌, ◌&&◌, ◌↔◌, not, if◌then◌else◌, map, filter}
 use Rattle.std.specs.List.{list_any}
 use Rattle.std.proofs.lemmas.Bool.Decides.{nat_tests}
-use Rattle.bilv_spec.specs.Words.{add}
-use Rattle.bilv_spec.specs.State.{State}
-use Rattle.bilv_spec.specs.Machine.{Row, Successors}
+use Rattle.word_spec.specs.Words.{add}
+use Rattle.word_spec.specs.State.{State}
+use Rattle.machine_spec.specs.Machine.{Row, Successors}
 use Rattle.bilv_spec.specs.Run.{Program, named, some_of}
 use Rattle.bilv_spec.specs.Points.{Point, EdgeEnd, ToAddress, ToExit, edges, edges_by, indirect_ends, return_ends, after_call, is_top, leads_on, distinct, same_end, file_row, file_word}
 use Rattle.walk_spec.specs.Unrolled.{UnrolledProgram, edge_address}

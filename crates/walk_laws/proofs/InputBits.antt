@@ -2,7 +2,7 @@
 use Rattle.std.proofs.Common.{◌≡◌, refl, ap, sym, ◌∙◌, arith, ℕ, zero, suc, ◌+◌, ◌*◌, ◌/◌, ◌%◌, ◌^◌, ◌<◌, Bool, true, false}
 use Rattle.std.specs.Prelude.{◌==◌}
 use Rattle.std.proofs.Math.Nat.{div-div-eq-div-mul, pow-succ'}
-use Rattle.bilv_spec.specs.Words.{bit, bit_at}
+use Rattle.word_spec.specs.Words.{bit, bit_at}
 use Rattle.walk_spec.specs.ClauseForm.{bits_from}
 
 -- a higher bit is one of the half

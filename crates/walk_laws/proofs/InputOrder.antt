@@ -4,8 +4,8 @@ use Rattle.std.specs.Prelude.{Contains, nat_lt, slice_get, slice_index, map, fil
 use Rattle.std.specs.List.{flat_map}
 use Rattle.std.proofs.lemmas.Bool.Decides.{nat_tests}
 use Rattle.std.proofs.lemmas.Option.{slice_get_within, slice_get-get_or}
-use Rattle.bilv_spec.specs.RowFiles.{from_to}
-use Rattle.bilv_spec.specs.Words.{bit}
+use Rattle.word_spec.specs.RowFiles.{from_to}
+use Rattle.word_spec.specs.Words.{bit}
 use Rattle.bilv_spec.proofs.Pigeons.{truth}
 
 module _ {X : Type 0} where

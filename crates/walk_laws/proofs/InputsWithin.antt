@@ -2,7 +2,7 @@
 use Rattle.std.proofs.Common.{◌≡◌, arith, ℕ, zero, suc, ◌+◌, ◌*◌, ◌^◌, ◌<◌, ◌≤◌, [], ◌∷◌, List, Bool, true, false, length}
 use Rattle.std.specs.Prelude.{sum_by, slice_index_or, if◌then◌else◌, nat_lt}
 use Rattle.std.proofs.lemmas.List.Sums.{sum_by-cons}
-use Rattle.bilv_spec.specs.Words.{bit}
+use Rattle.word_spec.specs.Words.{bit}
 use Rattle.walk_spec.specs.Terms.{InRange}
 use Rattle.walk_spec.specs.Unrolled.{Action, Executes, UnrolledPoint, UnrolledProgram, no_point, point_at, is_register_of, is_flag_of}
 use Rattle.walk_spec.specs.Unrolling.{CanBeTerms}

@@ -12,3 +12,4 @@ pub mod InputPlaces
 pub mod InputReadings
 pub mod QuestionClauses
 pub mod StartReadings
+pub mod RunEnds

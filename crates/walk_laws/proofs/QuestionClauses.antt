@@ -3,15 +3,16 @@ use Rattle.std.proofs.Common.{◌≡◌, refl, ap, sym, ◌∙◌, subst, arith,
 use Rattle.std.specs.Prelude.{Contains, ◌&&◌, ◌||◌, is_some, slice_get, slice_index_or, map, filter, sum_by, if◌then◌else◌}
 use Rattle.std.proofs.lemmas.Nat.{mod_below}
 use Rattle.std.proofs.lemmas.Option.{slice_get-get_or}
-use Rattle.bilv_spec.specs.State.{State}
-use Rattle.bilv_spec.specs.Machine.{Row}
+use Rattle.word_spec.specs.State.{State}
+use Rattle.machine_spec.specs.Machine.{Row}
 use Rattle.bilv_spec.specs.Elf.{Cell}
-use Rattle.bilv_spec.specs.RowFiles.{from_to}
-use Rattle.bilv_spec.specs.Clauses.{Cnf, ExtendsOnceWhere, Satisfies}
+use Rattle.word_spec.specs.RowFiles.{from_to}
+use Rattle.clause_spec.specs.Clauses.{Cnf, ExtendsOnceWhere, Satisfies}
 use Rattle.bilv_spec.specs.Run.{Program, is_kept}
 use Rattle.bilv_spec.specs.Verdict.{fixed}
 use Rattle.bilv_spec.specs.Points.{Point, byte_of_cell, is_known_at, file_row, loads_at, bytes_loaded}
-use Rattle.bilv_spec.specs.Questions.{Reading, IsReading, Question, IsTrueOver}
+use Rattle.bilv_spec.specs.Questions.{Reading, IsReading, IsTrueOver}
+use Rattle.call_spec.specs.Calls.{Question}
 use Rattle.bilv_spec.specs.Evidence.{Input, OfRegister, OfFlag, OfChoice, OfByte, RowDraws, IsInput, is_of_byte, AreInputs, ComesFrom, AgreesOn, AgreeOnFirst, AreOfQuestion, loads_among}
 use Rattle.bilv_spec.proofs.Pigeons.{at_in}
 use Rattle.walk_spec.specs.Terms.{TermReading, with_mem, term_word, term_gates}

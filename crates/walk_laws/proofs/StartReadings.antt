@@ -7,14 +7,17 @@ use Rattle.std.proofs.lemmas.Nat.{mod_below}
 use Rattle.std.proofs.lemmas.Option.{get_or_from_slice_get}
 use Rattle.std.proofs.Math.Nat.{pow-le-pow_right, div-eq_of_lt}
 use Rattle.std.proofs.Math.Path.{fun_ext}
-use Rattle.bilv_spec.specs.RowFiles.{from_to}
-use Rattle.bilv_spec.specs.Words.{bit_at, word}
-use Rattle.bilv_spec.specs.Memory.{Memory, byte_in}
-use Rattle.bilv_spec.specs.Clauses.{Cnf, Satisfies}
-use Rattle.bilv_spec.specs.StateText.{Layout, Written, register_at, known_or}
-use Rattle.bilv_spec.specs.Run.{Program, Start, Run, Going, Exited, Failed, Turned, Place, run, one_more}
+use Rattle.word_spec.specs.RowFiles.{from_to}
+use Rattle.word_spec.specs.Words.{bit_at, word}
+use Rattle.word_spec.specs.Memory.{Memory, byte_in}
+use Rattle.clause_spec.specs.Clauses.{Cnf, Satisfies}
+use Rattle.machine_spec.specs.StateText.{Layout, register_at, known_or}
+use Rattle.word_spec.specs.State.{Written}
+use Rattle.bilv_spec.specs.Run.{Program, Run, Going, Exited, Failed, Turned, Place, run, one_more}
+use Rattle.machine_spec.specs.Endings.{Start}
 use Rattle.bilv_spec.specs.Points.{is_known_at}
-use Rattle.bilv_spec.specs.Questions.{Reading, IsReading, Question, IsTrue, IsTrueOver, by_file, point_of, read_run, read_on}
+use Rattle.bilv_spec.specs.Questions.{Reading, IsReading, IsTrue, IsTrueOver, by_file, point_of, read_run, read_on}
+use Rattle.call_spec.specs.Calls.{Question}
 use Rattle.bilv_spec.specs.QuestionLaws.{Follows}
 use Rattle.bilv_spec.specs.Answers.{start_in, known_byte}
 use Rattle.bilv_spec.proofs.Pigeons.{truth}

@@ -3,11 +3,12 @@ use Rattle.std.proofs.Common.{◌≡◌, inl, inr, ℕ, zero, suc, ◌%◌, refl
 use Rattle.std.specs.Prelude.{Contains, ◌==◌, ◌&&◌, ◌||◌, not, nat_eq, if◌then◌else◌, map, filter}
 use Rattle.std.specs.List.{list_any}
 use Rattle.std.proofs.lemmas.Bool.Decides.{nat_tests}
-use Rattle.bilv_spec.specs.Words.{add}
-use Rattle.bilv_spec.specs.State.{State}
-use Rattle.bilv_spec.specs.Machine.{Row, Successors, How, On, Direct, DirectCall, Indirect, IndirectCall, Goes}
-use Rattle.bilv_spec.specs.MachineLaws.{IsSuccessor}
-use Rattle.bilv_spec.specs.Run.{Program, Step, Stops, Arrives, JumpFails, named, is_named, some_of, exit, exit_or, return_or, allowed, leave, transfer}
+use Rattle.word_spec.specs.Words.{add}
+use Rattle.word_spec.specs.State.{State}
+use Rattle.machine_spec.specs.Machine.{Row, Successors, How, On, Direct, DirectCall, Indirect, IndirectCall, Goes}
+use Rattle.machine_spec.specs.MachineLaws.{IsSuccessor}
+use Rattle.bilv_spec.specs.Run.{Program, Step, Stops, Arrives, named, is_named, some_of, exit, exit_or, return_or, allowed, leave, transfer}
+use Rattle.machine_spec.specs.Endings.{JumpFails}
 use Rattle.bilv_spec.specs.Points.{Point, EdgeEnd, ToAddress, ToExit, edges, edges_by, fall_ends, jump_ends, indirect_ends, return_ends, after_call, is_top, leads_on, distinct, same_end, file_row, file_word}
 use Rattle.bilv_spec.specs.Questions.{by_file}
 use Rattle.walk_spec.specs.Unrolled.{UnrolledProgram, edge_address}

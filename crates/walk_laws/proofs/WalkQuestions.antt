@@ -1,8 +1,10 @@
 -- The questions of an unrolled program are those of its program.
 use Rattle.std.proofs.Common.{◌≡◌, ℕ, ◌<◌, refl, ap, sym, subst, Bool}
-use Rattle.bilv_spec.specs.Run.{Program, Event, Run, Going, Exited, Failed, Turned}
+use Rattle.bilv_spec.specs.Run.{Program, Run, Going, Exited, Failed, Turned}
+use Rattle.machine_spec.specs.Endings.{Event}
 use Rattle.bilv_spec.specs.Points.{Point}
-use Rattle.bilv_spec.specs.Questions.{Reading, Question, EntryQuestion, FailQuestion, TurnQuestion, EndsBy, IsEntryStateOver, read_run}
+use Rattle.bilv_spec.specs.Questions.{Reading, EndsBy, IsEntryStateOver, read_run}
+use Rattle.call_spec.specs.Calls.{Question, EntryQuestion, FailQuestion, TurnQuestion}
 use Rattle.bilv_spec.specs.PointLaws.{HasLawfulRows}
 use Rattle.walk_spec.specs.Unrolled.{UnrolledProgram, Walk, WalkIsAt, WalkExits, WalkFails, WalkTurns, walk}
 use Rattle.walk_spec.specs.Unrolling.{IsUnrolling}

@@ -4,11 +4,12 @@ use Rattle.std.specs.Prelude.{Contains, ◌==◌, ◌||◌, not, nat_le, if◌th
 use Rattle.std.specs.List.{list_any, AllZip}
 use Rattle.std.proofs.lemmas.Bool.Decides.{nat_tests}
 use Rattle.std.proofs.lemmas.Option.{slice_get-get_or}
-use Rattle.bilv_spec.specs.Words.{add}
-use Rattle.bilv_spec.specs.State.{State, IsState}
-use Rattle.bilv_spec.specs.Machine.{Row, How, On, Outcome, Goes, Raises, Exception, EnvironmentCall, Breakpoint, SoftwareInterrupt, OddHalfword, UnalignedLoad, addresses, exception_number}
-use Rattle.bilv_spec.specs.MachineLaws.{IsLawful, IsSuccessor, ComesNext, LeavesState, IfRaises}
-use Rattle.bilv_spec.specs.Run.{Program, CodeWritten, AlignFails, JumpFails, FetchFails, Place, Step, Stops, Run, Going, Exited, Failed, Turned, step, after_step, arrive, turn, exit_by, transfer, aligned_transfer, going_on, after_row, by_row, by_fetch, after_asserts, false_assert, false_line, fetchable, is_kept, writes_kept, exception_event}
+use Rattle.word_spec.specs.Words.{add}
+use Rattle.word_spec.specs.State.{State, IsState}
+use Rattle.machine_spec.specs.Machine.{Row, How, On, Outcome, Goes, Raises, Exception, EnvironmentCall, Breakpoint, SoftwareInterrupt, OddHalfword, UnalignedLoad, addresses, exception_number}
+use Rattle.machine_spec.specs.MachineLaws.{IsLawful, IsSuccessor, ComesNext, LeavesState, IfRaises}
+use Rattle.bilv_spec.specs.Run.{Program, Place, Step, Stops, Run, Going, Exited, Failed, Turned, step, after_step, arrive, turn, exit_by, transfer, aligned_transfer, going_on, after_row, by_row, by_fetch, after_asserts, false_assert, false_line, fetchable, is_kept, writes_kept, exception_event}
+use Rattle.machine_spec.specs.Endings.{CodeWritten, AlignFails, JumpFails, FetchFails}
 use Rattle.bilv_spec.specs.Points.{Point, EdgeEnd, ToAddress, ToExit, end_of, edges, file_row, file_word, IsPoint, first, next, is_kept_at}
 use Rattle.bilv_spec.specs.LiveFlags.{IsRead, IsReadAfter, by_assert, on_path, at_exit}
 use Rattle.bilv_spec.specs.Graph.{LeadsTo}

@@ -3,13 +3,14 @@ use Rattle.std.proofs.Common.{◌≡◌, ℕ, refl, ap, sym, ◌∙◌, subst, a
 use Rattle.std.specs.Prelude.{◌==◌, ◌&&◌, ◌||◌, not, if◌then◌else◌, map, filter}
 use Rattle.std.specs.List.{list_any, AllZip}
 use Rattle.std.proofs.lemmas.Bool.Decides.{nat_tests}
-use Rattle.bilv_spec.specs.Words.{bit}
-use Rattle.bilv_spec.specs.Memory.{Endian, load}
-use Rattle.bilv_spec.specs.State.{State}
+use Rattle.word_spec.specs.Words.{bit}
+use Rattle.word_spec.specs.Memory.{Endian, load}
+use Rattle.word_spec.specs.State.{State}
 use Rattle.bilv_spec.specs.Notes.{Expr, Number, Register, Flag, Pc, Bound, Memory, Old, Not, Binary, NoteLine, Assert, apply, value, is_true}
-use Rattle.bilv_spec.specs.Run.{Program, AssertFails, JumpFails, false_assert, false_line}
+use Rattle.bilv_spec.specs.Run.{Program, false_assert, false_line}
+use Rattle.machine_spec.specs.Endings.{AssertFails, JumpFails}
 use Rattle.bilv_spec.specs.Points.{Point, EdgeEnd, fall_ends, jump_ends, same_end}
-use Rattle.bilv_spec.specs.Machine.{Row}
+use Rattle.machine_spec.specs.Machine.{Row}
 use Rattle.bilv_spec.specs.LiveFlags.{names_flag}
 use Rattle.walk_spec.specs.Unrolled.{Carried, Aim, ToEvent, PointExit, FalseAssert, UnrolledProgram, Leaving, GoesOn, first_aim, is_taken, aim_of, edge_address}
 use Rattle.walk_spec.specs.Unrolling.{IsEdge, IsAim, address_of}

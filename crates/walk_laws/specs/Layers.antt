@@ -1,10 +1,12 @@
 -- What joins the layers below the clauses of a question to what is claimed of a program.
 use Rattle.std.specs.Prelude.{ℕ, ◌≡◌, ◌≤◌, ◌<◌, ◌+◌, ◌^◌, Bool, false, Some, length}
-use Rattle.bilv_spec.specs.Clauses.{Cnf, Satisfies}
-use Rattle.bilv_spec.specs.StateText.{Layout, Written, IsWritten, last_step}
+use Rattle.clause_spec.specs.Clauses.{Cnf, Satisfies}
+use Rattle.machine_spec.specs.StateText.{Layout, IsWritten, last_step}
+use Rattle.word_spec.specs.State.{Written}
 use Rattle.bilv_spec.specs.Run.{Program}
 use Rattle.bilv_spec.specs.Points.{is_known_at}
-use Rattle.bilv_spec.specs.Questions.{Reading, Question, IsTrue}
+use Rattle.bilv_spec.specs.Questions.{Reading, IsTrue}
+use Rattle.call_spec.specs.Calls.{Question}
 use Rattle.bilv_spec.specs.QuestionLaws.{Follows}
 use Rattle.bilv_spec.specs.PointLaws.{HasLawfulRows}
 use Rattle.bilv_spec.specs.Answers.{start_in}

@@ -1,2 +1,3 @@
 pub mod RunOfWalk
 pub mod Layers
+pub mod RunEnds

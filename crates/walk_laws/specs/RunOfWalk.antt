@@ -3,7 +3,8 @@ use Rattle.std.specs.Prelude.{ℕ, ◌≡◌, ◌<◌, ◌↔◌, Bool, length}
 use Rattle.bilv_spec.specs.Run.{Program, Run, Going, Exited, Failed, Turned}
 use Rattle.bilv_spec.specs.Points.{Point}
 use Rattle.bilv_spec.specs.LiveFlags.{IsRead}
-use Rattle.bilv_spec.specs.Questions.{Reading, Question, IsTrueOver, IsEntryStateOver, point_of, read_run}
+use Rattle.bilv_spec.specs.Questions.{Reading, IsTrueOver, IsEntryStateOver, point_of, read_run}
+use Rattle.call_spec.specs.Calls.{Question}
 use Rattle.bilv_spec.specs.PointLaws.{HasLawfulRows}
 use Rattle.walk_spec.specs.Unrolled.{UnrolledProgram, Walk, WalkIsAt, WalkExits, WalkFails, WalkTurns, point_at, walk}
 use Rattle.walk_spec.specs.Unrolling.{IsCarriedOf, IsUnrolling}

@@ -3,4 +3,5 @@
 //! A law about definitions alone is a public function without a body to speak of: its contract is the law.
 #![tactic(auto)]
 
+pub mod runs;
 pub mod walks;

@@ -1,8 +1,8 @@
 -- The order of the inputs, and the readings of valuations.
 use Rattle.std.proofs.Common.{◌≡◌, refl, ℕ, [], ◌∷◌, Some, None, Bool, true, false}
 use Rattle.std.specs.Prelude.{◌==◌, ◌||◌, nat_le, length, slice_get}
-use Rattle.bilv_spec.specs.Memory.{Little}
-use Rattle.bilv_spec.specs.Bil.{Empty}
+use Rattle.word_spec.specs.Memory.{Little}
+use Rattle.machine_spec.specs.Bil.{Empty}
 use Rattle.walk_spec.specs.Unrolled.{UnrolledPoint, UnrolledProgram, Executes}
 use Rattle.walk_spec.specs.Cells.{Cells}
 use Rattle.bilv_spec.specs.Evidence.{OfRegister, OfFlag, OfChoice, OfByte}

@@ -1,9 +1,9 @@
 -- The entry condition of an unrolled program is that of its program.
 use Rattle.std.proofs.Common.{◌≡◌, ℕ, ◌^◌, ◌<◌, refl, ap, sym, ◌∙◌, subst, Option, Some, None, Bool, true, false}
 use Rattle.std.specs.Prelude.{◌↔◌, ◌&&◌, ◌||◌, is_some, if◌then◌else◌}
-use Rattle.bilv_spec.specs.State.{State}
+use Rattle.word_spec.specs.State.{State}
 use Rattle.bilv_spec.specs.Elf.{Cell, kept}
-use Rattle.bilv_spec.specs.Machine.{IsAtPlace}
+use Rattle.machine_spec.specs.Machine.{IsAtPlace}
 use Rattle.bilv_spec.specs.Run.{Program, is_kept, false_line}
 use Rattle.bilv_spec.specs.Verdict.{IsEntryState, fixed}
 use Rattle.bilv_spec.specs.Points.{is_known_at, byte_of_cell}

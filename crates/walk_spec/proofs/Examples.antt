@@ -1,11 +1,11 @@
 -- Unrolled programs written out: their prices, their walks, and what their lists are.
 use Rattle.std.proofs.Common.{◌≡◌, refl, arith, ℕ, [], ◌∷◌, List, Some, None, true, false}
 use Rattle.std.specs.Prelude.{◌==◌, if◌then◌else◌}
-use Rattle.bilv_spec.specs.Memory.{Little}
-use Rattle.bilv_spec.specs.RowFiles.{from_to}
+use Rattle.word_spec.specs.Memory.{Little}
+use Rattle.word_spec.specs.RowFiles.{from_to}
 use Rattle.bilv_spec.specs.Notes as notes
-use Rattle.bilv_spec.specs.Bil.{Var, Constant, Binary, Plus, And, NotEqual, Register, XRegisters, Statements, Empty, Assign, JumpTo, If, BilVariable}
-use Rattle.bilv_spec.specs.BilCounts.{list_weight}
+use Rattle.machine_spec.specs.Bil.{Var, Constant, Binary, Plus, And, NotEqual, Register, XRegisters, Statements, Empty, Assign, JumpTo, If, BilVariable}
+use Rattle.machine_spec.specs.BilCounts.{list_weight}
 use Rattle.bilv_spec.specs.Questions.{Reading}
 use Rattle.walk_spec.specs.Terms.{TermNode, RegisterNode, ConstantNode, BinaryNode, SelectNode, values_from, term_word, term_gates}
 use Rattle.walk_spec.specs.WalkQuestions.{term_reading}

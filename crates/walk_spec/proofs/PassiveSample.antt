@@ -2,12 +2,13 @@
 use Rattle.std.proofs.Common.{◌≡◌, refl, ap, sym, ◌∙◌, subst, arith, ℕ, zero, suc, ◌/◌, ◌%◌, ◌<◌, ◌≤◌, [], ◌∷◌, Bool, true, false}
 use Rattle.std.specs.Prelude.{Contains, ◌==◌, not, ◌↔◌, if◌then◌else◌, slice_index}
 use Rattle.std.proofs.lemmas.Bool.Decides.{nat_tests}
-use Rattle.bilv_spec.specs.Words.{bit}
-use Rattle.bilv_spec.specs.State.{State}
-use Rattle.bilv_spec.specs.Bil.{Equal, NotEqual}
-use Rattle.bilv_spec.specs.Machine.{is_place}
-use Rattle.bilv_spec.specs.Run.{AlignFails, JumpFails}
-use Rattle.bilv_spec.specs.Questions.{Reading, EntryQuestion, FailQuestion}
+use Rattle.word_spec.specs.Words.{bit}
+use Rattle.word_spec.specs.State.{State}
+use Rattle.machine_spec.specs.Bil.{Equal, NotEqual}
+use Rattle.machine_spec.specs.Machine.{is_place}
+use Rattle.machine_spec.specs.Endings.{AlignFails, JumpFails}
+use Rattle.bilv_spec.specs.Questions.{Reading}
+use Rattle.call_spec.specs.Calls.{EntryQuestion, FailQuestion}
 use Rattle.walk_spec.specs.Terms.{TermNode, RegisterNode, ConstantNode, BinaryNode, ExtractNode, values_from, term_word, HasWidth}
 use Rattle.walk_spec.specs.Unrolled.{Walk, Outward, ToEvent, walk_to}
 use Rattle.walk_spec.specs.Sweep.{Held, hand, held, swept}

@@ -6,7 +6,7 @@ use Rattle.std.proofs.lemmas.List.Sums.{sum_by-cons, sum_by-append}
 use Rattle.std.proofs.lemmas.List.Folds.{list_any-append}
 use Rattle.std.proofs.lemmas.Grind.{flat_map-append}
 use Rattle.std.proofs.lemmas.List.{append-nil}
-use Rattle.bilv_spec.specs.Machine.{Row}
+use Rattle.machine_spec.specs.Machine.{Row}
 use Rattle.bilv_spec.specs.Notes.{Expr, Assert}
 use Rattle.bilv_spec.specs.Run.{Program, fetchable}
 use Rattle.bilv_spec.specs.Points.{Point, EdgeEnd, ToAddress, ToExit, edges, edges_by, distinct, leads_on, is_exit, evaluated, file_row, row_price, loads_at, stores_at, bytes_loaded, line_price, price_of}

@@ -1,7 +1,7 @@
 -- Wrong points of unrolled programs, and that what a point has to be refuses them.
 use Rattle.std.proofs.Common.{refl, arith, ℕ, [], ◌∷◌, None, true, false}
-use Rattle.bilv_spec.specs.Memory.{Little}
-use Rattle.bilv_spec.specs.Bil.{Var, Constant, Load, Store, Binary, Cast, Choose, Unsigned, Plus, Divide, Register, Mem, XRegisters, Statements, Empty, Assign, If, BilVariable}
+use Rattle.word_spec.specs.Memory.{Little}
+use Rattle.machine_spec.specs.Bil.{Var, Constant, Load, Store, Binary, Cast, Choose, Unsigned, Plus, Divide, Register, Mem, XRegisters, Statements, Empty, Assign, If, BilVariable}
 use Rattle.bilv_spec.specs.Run.{Program}
 use Rattle.bilv_spec.specs.Points.{Point, ToAddress, ToExit}
 use Rattle.walk_spec.specs.Unrolled.{UnrolledPoint, UnrolledProgram, Executes, Raising, WritingKept, Unaligned, Along, Outward}

@@ -4,19 +4,18 @@ use Rattle.std.specs.Prelude.{Contains, ◌==◌, ◌&&◌, ◌||◌, not, nat_l
 use Rattle.std.specs.List.{list_any}
 use Rattle.std.proofs.lemmas.Bool.{ne_eqb}
 use Rattle.std.proofs.lemmas.Bool.Decides.{nat_tests}
-use Rattle.bilv_spec.specs.Memory.{Little}
-use Rattle.bilv_spec.specs.State.{State, put}
-use Rattle.bilv_spec.specs.Machine.{Machine, Row, Goes, Indirect, no_flags}
-use Rattle.bilv_spec.specs.MachineLaws.{IsLawful}
+use Rattle.word_spec.specs.Memory.{Little}
+use Rattle.word_spec.specs.State.{State, put}
+use Rattle.machine_spec.specs.Machine.{Machine, Row, Goes, Indirect, no_flags}
+use Rattle.machine_spec.specs.MachineLaws.{IsLawful}
 use Rattle.bilv_spec.specs.Elf.{Cell}
 use Rattle.bilv_spec.specs.Notes.{At}
-use Rattle.bilv_spec.specs.Bil.{Register, XRegisters, Var, JumpTo, Empty}
+use Rattle.machine_spec.specs.Bil.{Register, XRegisters, Var, JumpTo, Empty}
 use Rattle.bilv_spec.specs.Run.{Program, in_memory, is_kept}
-use Rattle.bilv_spec.specs.Points.{ArePoints, IsCount, is_known_at, begins_run, is_kept_at, byte_of_cell, file_row}
+use Rattle.bilv_spec.specs.Points.{ArePoints, IsCount, is_known_at, begins_run, is_kept_at, byte_of_cell, file_row, EdgeEnd, ToExit}
 use Rattle.bilv_spec.specs.LiveFlags.{IsRead, IsReadAfter, later}
 use Rattle.bilv_spec.specs.PointLaws.{HasLawfulRows, ReadsMemory}
 use Rattle.walk_spec.specs.Unrolled.{UnrolledProgram, AddressRun, Executes, Raising, WritingKept, Unaligned, Along, Outward, is_in, byte_of_runs, byte_in_run, point_at}
-use Rattle.bilv_spec.specs.Points.{EdgeEnd, ToExit}
 use Rattle.walk_spec.specs.Unrolling.{IsUnrolling, DoesRow, IsRunnable, AreEdgesOf, IsPlace, IsLiteralOf, file_known}
 use Rattle.walk_spec.specs.Prices.{unrolled_price}
 use Rattle.bilv_spec.proofs.Pigeons.{truth}

@@ -1,12 +1,13 @@
 -- Clauses of cells: which variables are the inputs, the reading of a valuation, what the clauses say, and the start that a valuation gives.
 use Rattle.std.specs.Prelude.{ℕ, zero, suc, ◌≡◌, ◌≤◌, ◌<◌, ◌+◌, ◌*◌, ◌^◌, Bool, ◌==◌, nat_lt, if◌then◌else◌, List, [], ◌∷◌, ◌++◌, Some, None, length, map, filter, All}
 use Rattle.std.specs.List.{flat_map}
-use Rattle.bilv_spec.specs.Words.{bit, bit_at, word}
-use Rattle.bilv_spec.specs.Memory.{Memory, byte_in}
-use Rattle.bilv_spec.specs.RowFiles.{from_to}
-use Rattle.bilv_spec.specs.Clauses.{Cnf, ExtendsOnceWhere}
+use Rattle.word_spec.specs.Words.{bit, bit_at, word}
+use Rattle.word_spec.specs.Memory.{Memory, byte_in}
+use Rattle.word_spec.specs.RowFiles.{from_to}
+use Rattle.clause_spec.specs.Clauses.{Cnf, ExtendsOnceWhere}
 use Rattle.bilv_spec.specs.Questions.{Reading}
-use Rattle.bilv_spec.specs.StateText.{Written, AreRising, known_or}
+use Rattle.word_spec.specs.State.{Written}
+use Rattle.machine_spec.specs.StateText.{AreRising, known_or}
 use Rattle.walk_spec.specs.Terms.{TermReading, with_mem, term_word, term_gates}
 use Rattle.walk_spec.specs.Unrolled.{Carried, UnrolledProgram, is_register_of, is_flag_of, byte_of_runs, point_at, WalkIsAt, walk}
 use Rattle.walk_spec.specs.Cells.{Cells, Gives, IsAllowed, read_address}

@@ -2,7 +2,7 @@
 use Rattle.std.specs.Prelude.{ℕ, ◌≡◌, ◌+◌, ◌-◌, ◌*◌, if◌then◌else◌, List, [], ◌∷◌, ◌++◌, length, map, sum_by}
 use Rattle.std.specs.List.{list_any, flat_map}
 use Rattle.bilv_spec.specs.Notes.{Expr, Number, Register, Flag, Pc, Bound, Memory, Old, Not, Binary}
-use Rattle.bilv_spec.specs.Bil.{list_size}
+use Rattle.machine_spec.specs.Bil.{list_size}
 use Rattle.bilv_spec.specs.Run.{Program}
 use Rattle.bilv_spec.specs.Points.{IsPrice, line_price, bytes_loaded}
 use Rattle.walk_spec.specs.Unrolled.{PointExit, FalseAssert, Action, Executes, UnrolledPoint, UnrolledProgram, is_edge, goes_out}

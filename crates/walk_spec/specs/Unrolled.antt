@@ -1,16 +1,17 @@
 -- An unrolled program, in which each point says what may happen there, and the walk of a reading through it. A walk names no machine and no row of a table.
 use Rattle.std.specs.Prelude.{ℕ, zero, suc, ◌<◌, ◌+◌, ◌-◌, Bool, true, false, not, ◌==◌, ◌&&◌, nat_le, nat_lt, nat_eq, if◌then◌else◌, List, [], ◌∷◌, Option, Some, None, slice_index, slice_index_or, find, length, Contains}
 use Rattle.std.specs.List.{list_any}
-use Rattle.bilv_spec.specs.Words.{add}
-use Rattle.bilv_spec.specs.Memory.{Endian, Memory}
-use Rattle.bilv_spec.specs.State.{State}
-use Rattle.bilv_spec.specs.Machine.{OddHalfword, UnalignedLoad, exception_number, is_place}
+use Rattle.word_spec.specs.Words.{add}
+use Rattle.word_spec.specs.Memory.{Endian, Memory}
+use Rattle.word_spec.specs.State.{State}
+use Rattle.machine_spec.specs.Machine.{OddHalfword, UnalignedLoad, exception_number, is_place}
 use Rattle.bilv_spec.specs.Notes.{Expr, NoteLine, value, is_true}
-use Rattle.bilv_spec.specs.Bil.{Statements, Empty}
-use Rattle.bilv_spec.specs.BilMeaning.{Position, Ending, Ends, RaisesException, OutOfTurns, Wrong, Stuck, execute}
-use Rattle.bilv_spec.specs.BilStores.{list_stored}
-use Rattle.bilv_spec.specs.Simulation.{position}
-use Rattle.bilv_spec.specs.Run.{Event, AssertFails, EnsureFails, HalfwordFails, CodeWritten, Trapped, AlignFails, JumpFails, false_line}
+use Rattle.machine_spec.specs.Bil.{Statements, Empty}
+use Rattle.machine_spec.specs.BilMeaning.{Position, Ending, Ends, RaisesException, OutOfTurns, Wrong, Stuck, execute}
+use Rattle.machine_spec.specs.BilStores.{list_stored}
+use Rattle.machine_spec.specs.Simulation.{position}
+use Rattle.machine_spec.specs.Endings.{Event, AssertFails, EnsureFails, HalfwordFails, CodeWritten, Trapped, AlignFails, JumpFails}
+use Rattle.bilv_spec.specs.Run.{false_line}
 use Rattle.bilv_spec.specs.Points.{Point}
 use Rattle.bilv_spec.specs.Questions.{Reading}
 

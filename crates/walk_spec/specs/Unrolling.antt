@@ -1,17 +1,18 @@
 -- What the unrolled program of a program is, and what of it layers use that know no program.
 use Rattle.std.specs.Prelude.{ℕ, suc, ◌≡◌, ◌≤◌, ◌<◌, ◌+◌, ◌^◌, Bool, true, false, ◌==◌, if◌then◌else◌, List, [], ◌∷◌, ◌++◌, ◌↔◌, Contains, Option, Some, None, length, map, filter, sum_by, slice_index}
 use Rattle.std.specs.List.{list_any, AllZip}
-use Rattle.bilv_spec.specs.Words.{bit}
-use Rattle.bilv_spec.specs.State.{State, IsState}
-use Rattle.bilv_spec.specs.Machine.{How, On, Direct, DirectCall, Indirect, IndirectCall, Outcome, Goes, Raises, Row, addresses, exception_number}
+use Rattle.word_spec.specs.Words.{bit}
+use Rattle.word_spec.specs.State.{State, IsState}
+use Rattle.machine_spec.specs.Machine.{How, On, Direct, DirectCall, Indirect, IndirectCall, Outcome, Goes, Raises, Row, addresses, exception_number}
 use Rattle.bilv_spec.specs.Notes.{Expr, Number, Register, Flag, Pc, Bound, Memory, Old, Not, Binary, NoteLine, Assert, Notes}
-use Rattle.bilv_spec.specs.Bil as bil
-use Rattle.bilv_spec.specs.Bil.{BilVariable, Statements, Empty}
-use Rattle.bilv_spec.specs.BilTyping.{IsWellTyped}
-use Rattle.bilv_spec.specs.BilCounts.{list_weight, byte_loads, byte_stores, memory_choices, chosen_stores, unknowns, has_no_loop, has_no_special, nesting, list_names_only}
-use Rattle.bilv_spec.specs.RowFiles.{from_to}
-use Rattle.bilv_spec.specs.StateText.{Layout}
-use Rattle.bilv_spec.specs.Run.{Program, Event, FetchFails, NoRow, fetchable, all_kept, in_memory}
+use Rattle.machine_spec.specs.Bil as bil
+use Rattle.machine_spec.specs.Bil.{BilVariable, Statements, Empty}
+use Rattle.machine_spec.specs.BilTyping.{IsWellTyped}
+use Rattle.machine_spec.specs.BilCounts.{list_weight, byte_loads, byte_stores, memory_choices, chosen_stores, unknowns, has_no_loop, has_no_special, nesting, list_names_only}
+use Rattle.word_spec.specs.RowFiles.{from_to}
+use Rattle.machine_spec.specs.StateText.{Layout}
+use Rattle.bilv_spec.specs.Run.{Program, fetchable, all_kept, in_memory}
+use Rattle.machine_spec.specs.Endings.{Event, FetchFails, NoRow}
 use Rattle.bilv_spec.specs.Points.{Point, EdgeEnd, ToAddress, ToExit, end_of, edges, fall_ends, jump_ends, same_end, file_row, file_word, row_price, loads_at, stores_at, IsPoint, ArePoints, IsCount, is_kept_at, is_known_at, begins_run, byte_of_cell}
 use Rattle.bilv_spec.specs.LiveFlags.{IsRead, IsReadAfter}
 use Rattle.walk_spec.specs.Unrolled.{Carried, state_at, Aim, OnTo, Outward, OverLast, PointExit, FalseAssert, Always, Raising, WritingKept, Unaligned, Along, Action, Executes, UnrolledPoint, UnrolledProgram, AddressRun, goes_out, is_register_of, is_flag_of, is_in, byte_of_runs, point_at, Leaving, GoesOn, RaisesOne, leaving, stored_at, ExitsLeadLater}

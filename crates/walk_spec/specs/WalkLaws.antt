@@ -1,9 +1,9 @@
 -- Laws of unrolled programs and their walks.
 use Rattle.std.specs.Prelude.{ℕ, ◌≡◌, ◌<◌, ◌^◌, ◌↔◌, Bool, true, List, length, Contains}
-use Rattle.bilv_spec.specs.Words.{add}
-use Rattle.bilv_spec.specs.State.{State}
-use Rattle.bilv_spec.specs.MachineLaws.{IsFitted}
-use Rattle.bilv_spec.specs.StateText.{Layout}
+use Rattle.word_spec.specs.Words.{add}
+use Rattle.word_spec.specs.State.{State}
+use Rattle.machine_spec.specs.MachineLaws.{IsFitted}
+use Rattle.machine_spec.specs.StateText.{Layout}
 use Rattle.bilv_spec.specs.Run.{Program}
 use Rattle.bilv_spec.specs.Points.{is_known_at}
 use Rattle.bilv_spec.specs.Verdict.{IsEntryState}

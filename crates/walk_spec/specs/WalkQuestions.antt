@@ -1,12 +1,14 @@
 -- The questions of an unrolled program, over a walk, and what a term of a question says.
 use Rattle.std.specs.Prelude.{ℕ, ◌≡◌, ◌≤◌, ◌<◌, ◌+◌, ◌-◌, ◌*◌, ◌^◌, ◌↔◌, Bool, true, ◌==◌, ◌||◌, nat_eq, List, [], ◌∷◌, Some, None, length, Contains}
 use Rattle.std.specs.List.{list_any}
-use Rattle.bilv_spec.specs.Words.{add}
-use Rattle.bilv_spec.specs.State.{State, IsState}
-use Rattle.bilv_spec.specs.Machine.{IsAtPlace}
-use Rattle.bilv_spec.specs.Run.{Event, false_line}
+use Rattle.word_spec.specs.Words.{add}
+use Rattle.word_spec.specs.State.{State, IsState}
+use Rattle.machine_spec.specs.Machine.{IsAtPlace}
+use Rattle.machine_spec.specs.Endings.{Event}
+use Rattle.bilv_spec.specs.Run.{false_line}
 use Rattle.bilv_spec.specs.Points.{Point}
-use Rattle.bilv_spec.specs.Questions.{Reading, IsReading, Question, EntryQuestion, FailQuestion, TurnQuestion}
+use Rattle.bilv_spec.specs.Questions.{Reading, IsReading}
+use Rattle.call_spec.specs.Calls.{Question, EntryQuestion, FailQuestion, TurnQuestion}
 use Rattle.walk_spec.specs.Terms.{TermReading, TermNode, RegisterNode, FlagNode, ChoiceNode, BaseNode, AreTyped, HasWidth, term_word, term_gates, term_loads, term_stores, term_joins}
 use Rattle.walk_spec.specs.Unrolled.{UnrolledProgram, is_register_of, is_flag_of, byte_of_runs, point_at, WalkFails, WalkTurns, walk}
 use Rattle.walk_spec.specs.Prices.{point_price, term_price, point_loads, loads_of, stores_of, edges_of, point_bound, node_bound}

@@ -5,13 +5,13 @@ use Rattle.std.proofs.lemmas.List.{map-append, length-map, get_or-map, take_more
 use Rattle.std.proofs.lemmas.List.Sums.{sum_by-append}
 use Rattle.std.proofs.lemmas.List.Folds.{list_all-append}
 use Rattle.std.proofs.Math.Nat.{div-one}
-use Rattle.bilv_spec.specs.Words.{bit, bits}
-use Rattle.bilv_spec.specs.Memory.{Endian, endian}
-use Rattle.bilv_spec.specs.Machine.{is_place}
-use Rattle.bilv_spec.specs.Bil as bil
+use Rattle.word_spec.specs.Words.{bit, bits}
+use Rattle.word_spec.specs.Memory.{Endian, endian}
+use Rattle.machine_spec.specs.Machine.{is_place}
+use Rattle.machine_spec.specs.Bil as bil
 use Rattle.bilv_spec.specs.Notes as notes
 use Rattle.bilv_spec.specs.Notes.{Expr, value, is_true}
-use Rattle.bilv_spec.specs.RowFiles.{from_to}
+use Rattle.word_spec.specs.RowFiles.{from_to}
 use Rattle.bilv_spec.specs.Points.{line_price, bytes_loaded}
 use Rattle.walk_spec.specs.Terms.{TermReading, TermNode, ConstantNode, BinaryNode, ExtractNode, AreTyped, HasWidth, term_value, term_word, width_of}
 use Rattle.walk_spec.specs.Unrolled.{UnrolledProgram, state_at}

@@ -2,13 +2,14 @@
 use Rattle.std.proofs.Common.{inl, inr, ◌≡◌, ◌↔◌, ℕ, ◌+◌, ◌<◌, Bool, true, false, ◌&&◌, if◌then◌else◌, bit_and, List, [], ◌∷◌, length, map, Contains, refl, ap, sym, ◌∙◌, arith, Option, None, Some}
 use Rattle.std.specs.List.{list_all}
 use Rattle.std.proofs.lemmas.Bool.{false≢true, eqb-true, eq-eqb}
-use Rattle.bilv_spec.specs.Words.{bit}
-use Rattle.bilv_spec.specs.Memory.{Endian}
-use Rattle.bilv_spec.specs.Bil as bil
-use Rattle.bilv_spec.specs.State.{State}
+use Rattle.word_spec.specs.Words.{bit}
+use Rattle.word_spec.specs.Memory.{Endian}
+use Rattle.machine_spec.specs.Bil as bil
+use Rattle.word_spec.specs.State.{State}
 use Rattle.bilv_spec.specs.Notes.{NoteLine, value, is_true}
 use Rattle.bilv_spec.specs.Run.{false_line}
-use Rattle.bilv_spec.specs.Questions.{Reading, IsReading, Question, EntryQuestion}
+use Rattle.bilv_spec.specs.Questions.{Reading, IsReading}
+use Rattle.call_spec.specs.Calls.{Question, EntryQuestion}
 use Rattle.walk_spec.specs.Terms.{TermNode, BinaryNode, HasWidth, term_word, term_gates, term_loads, term_stores, term_joins}
 use Rattle.walk_spec.specs.Unrolled.{UnrolledProgram, state_at}
 use Rattle.walk_spec.specs.Unrolling.{IsWalkable}

@@ -1,10 +1,10 @@
 -- The entry condition as a term.
 use Rattle.std.specs.Prelude.{ℕ, ◌≡◌, ◌+◌, ◌*◌, Bool, ◌&&◌, List, map, sum_by}
 use Rattle.std.specs.List.{list_all}
-use Rattle.bilv_spec.specs.Words.{bit}
-use Rattle.bilv_spec.specs.Memory.{Endian, endian}
-use Rattle.bilv_spec.specs.Machine.{is_place}
-use Rattle.bilv_spec.specs.State.{State}
+use Rattle.word_spec.specs.Words.{bit}
+use Rattle.word_spec.specs.Memory.{Endian, endian}
+use Rattle.machine_spec.specs.Machine.{is_place}
+use Rattle.word_spec.specs.State.{State}
 use Rattle.bilv_spec.specs.Notes.{Expr, value, is_true}
 use Rattle.bilv_spec.specs.Points.{line_price, bytes_loaded}
 use Rattle.walk_spec.specs.Terms.{TermReading, InRange, TermNode, AreTyped, HasWidth, term_word}

@@ -4,11 +4,9 @@ use Rattle.std.proofs.lemmas.List.{take_all}
 use Rattle.std.proofs.Math.Nat.{pow-suc, div-add-mod, mod-eq_of_lt}
 use Rattle.std.proofs.lemmas.Nat.{mod_low, pow_pos}
 use Rattle.std.proofs.lemmas.Bool.Decides.{nat_tests}
-use Rattle.bilv_spec.specs.Words.{bit}
+use Rattle.word_spec.specs.Words.{bit, word, complement}
 use Rattle.gates.specs.declared.bit.Bit.{Bit}
-use Rattle.word_gates.specs.Numbers.{number}
-use Rattle.bilv_spec.specs.Words.{word, complement}
-use Rattle.word_gates.specs.Numbers.{input_number}
+use Rattle.word_gates.specs.Numbers.{number, input_number}
 use Rattle.word_gates.proofs.Words.{number_below}
 
 low_digit : (n : ℕ) → bit (n % 2 == 1) ≡ n % 2

@@ -1,7 +1,7 @@
 -- Operators on each bit, the lowest first.
 use Rattle.std.proofs.Common.{◌≡◌, ℕ, suc, zero, ◌+◌, ◌*◌, ◌^◌, ◌<◌, ◌≤◌, Bool, true, false, List, [], ◌∷◌, ◌++◌, length, get_or, refl, ◌∙◌, ap, arith, ◌&&◌, ◌||◌, drop, min, ◌/◌, ◌%◌}
 use Rattle.std.proofs.lemmas.List.{drop_all, drop_more}
-use Rattle.bilv_spec.specs.Words.{bit, differ}
+use Rattle.word_spec.specs.Words.{bit, differ}
 use Rattle.gates.specs.declared.bit.Bit.{Bit}
 use Rattle.gates.specs.Circuits.{bit_value}
 use Rattle.word_gates.specs.Numbers.{number, digit}

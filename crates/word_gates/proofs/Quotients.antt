@@ -1,18 +1,13 @@
 -- Division, one bit after another.
-use Rattle.std.proofs.Common.{◌≡◌, ℕ, ◌+◌, ◌*◌, ◌^◌, ◌<◌, ◌≤◌, Bool, true, false, cond, List, [], ◌∷◌, ◌++◌, length, refl, sym, ◌∙◌, ap, arith, ◌==◌, nat_lt, ◌-◌, ◌/◌, ◌%◌, ⊎_elim}
+use Rattle.std.proofs.Common.{◌≡◌, ℕ, ◌+◌, ◌*◌, ◌^◌, ◌<◌, ◌≤◌, Bool, true, false, cond, List, [], ◌∷◌, ◌++◌, length, refl, sym, ◌∙◌, ap, arith, ◌==◌, nat_lt, ◌-◌, ◌/◌, ◌%◌, ⊎_elim, inl, inr}
 use Rattle.std.proofs.Math.Nat.{mod-eq_of_lt, add-mul-mod_self_left}
-use Rattle.std.proofs.lemmas.Nat.{pow_pos}
-use Rattle.std.proofs.lemmas.Bool.{cases_lt}
+use Rattle.std.proofs.lemmas.Nat.{pow_pos, div-mul-add}
+use Rattle.std.proofs.lemmas.Bool.{cases_lt, eqb-true, cases_Bool}
 use Rattle.std.proofs.lemmas.Bool.Decides.{nat_tests}
-use Rattle.bilv_spec.specs.Words.{bit, differ}
+use Rattle.word_spec.specs.Words.{bit, differ, udiv, urem, sdiv, srem, is_negative, magnitude, with_sign}
 use Rattle.gates.specs.declared.bit.Bit.{Bit}
 use Rattle.gates.specs.Circuits.{bit_value}
-use Rattle.word_gates.specs.Numbers.{number, digit}
-use Rattle.std.proofs.Common.{inl, inr}
-use Rattle.std.proofs.lemmas.Bool.{eqb-true, cases_Bool}
-use Rattle.std.proofs.lemmas.Nat.{div-mul-add}
-use Rattle.bilv_spec.specs.Words.{udiv, urem, sdiv, srem, is_negative, magnitude, with_sign}
-use Rattle.word_gates.specs.Numbers.{IsQuotient, IsReduced}
+use Rattle.word_gates.specs.Numbers.{number, digit, IsQuotient, IsReduced}
 use Rattle.word_gates.proofs.Words.{pow_more, number_push_at}
 
 -- the divisor is taken off

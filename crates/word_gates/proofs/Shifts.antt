@@ -5,12 +5,10 @@ use Rattle.std.proofs.lemmas.List.Elements.{All-append, All-replicate, All-take}
 use Rattle.std.proofs.Math.Nat.{pow-le-pow_right, div-eq_of_lt, mul-mod_left, mod-eq_of_lt}
 use Rattle.std.proofs.lemmas.Nat.{mod-pow-add, pow-add, shl-shr, mul-mod_first, mod_below, shr_high, shr-shr, pow_pos, mul-le}
 use Rattle.std.proofs.lemmas.Bool.{cases_lt, ltb-true, ltb-false}
-use Rattle.bilv_spec.specs.Words.{bit}
+use Rattle.word_spec.specs.Words.{bit, complement, is_negative, shl, shr, sar}
 use Rattle.gates.specs.declared.bit.Bit.{Bit}
 use Rattle.gates.specs.Circuits.{Within, bit_value, variable_of}
-use Rattle.word_gates.specs.Numbers.{number}
-use Rattle.bilv_spec.specs.Words.{complement, is_negative, shl, shr, sar}
-use Rattle.word_gates.specs.Numbers.{turned}
+use Rattle.word_gates.specs.Numbers.{number, turned}
 use Rattle.word_gates.proofs.Signs.{number_ones}
 use Rattle.word_gates.proofs.Words.{number_split, number_take_below, number_append, number_take, number_drop, number_zeros, number_below}
 

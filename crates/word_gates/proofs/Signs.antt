@@ -4,12 +4,11 @@ use Rattle.std.proofs.lemmas.List.{take_all}
 use Rattle.std.proofs.Math.Nat.{pow-suc}
 use Rattle.std.proofs.lemmas.Nat.{pow-add}
 use Rattle.std.proofs.lemmas.Bool.Decides.{nat_tests}
-use Rattle.bilv_spec.specs.Words.{bit}
+use Rattle.word_spec.specs.Words.{bit, is_negative, sign_extend, bits, concat}
 use Rattle.gates.specs.declared.bit.Bit.{Bit}
 use Rattle.gates.specs.Circuits.{bit_value}
 use Rattle.word_gates.specs.Numbers.{number, digit}
 use Rattle.std.specs.Prelude.{nat_le}
-use Rattle.bilv_spec.specs.Words.{is_negative, sign_extend, bits, concat}
 use Rattle.word_gates.proofs.Words.{no_bit, number_take_below, number_append, number_drop, number_take, number_top, number_zeros}
 
 high : (p m : ℕ) → m < p → true ≡ nat_le p (m + p * 1)

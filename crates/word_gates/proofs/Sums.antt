@@ -1,11 +1,10 @@
 -- Sums.
 use Rattle.std.proofs.Common.{◌≡◌, ℕ, ◌+◌, ◌*◌, ◌^◌, ◌<◌, Bool, true, false, cond, List, [], ◌∷◌, ◌++◌, length, refl, sym, ◌∙◌, ap, arith, ◌-◌, ◌%◌}
 use Rattle.std.proofs.Math.Nat.{mod-eq_of_lt, add-mul-mod_self_left}
-use Rattle.bilv_spec.specs.Words.{bit, differ}
+use Rattle.word_spec.specs.Words.{bit, differ, mul}
 use Rattle.gates.specs.declared.bit.Bit.{Bit}
 use Rattle.gates.specs.Circuits.{bit_value, majority}
 use Rattle.word_gates.specs.Numbers.{number, digit}
-use Rattle.bilv_spec.specs.Words.{mul}
 use Rattle.word_gates.proofs.Words.{number_push, pow_more}
 use Rattle.word_gates.proofs.Places.{full_adder}
 

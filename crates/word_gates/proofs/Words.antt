@@ -4,7 +4,7 @@ use Rattle.std.proofs.lemmas.List.{take_more, take_all, drop_more, take-append-d
 use Rattle.std.proofs.lemmas.List.Elements.{All-push, All-append, All-replicate, All-take, All-drop, All-cons, All-nil}
 use Rattle.std.proofs.Math.Nat.{pow-suc}
 use Rattle.std.proofs.lemmas.Nat.{shr_high, mod_low, shr_le}
-use Rattle.bilv_spec.specs.Words.{bit}
+use Rattle.word_spec.specs.Words.{bit}
 use Rattle.gates.specs.declared.bit.Bit.{Bit}
 use Rattle.gates.specs.Circuits.{Within, bit_value, variable_of, Netlist, next, Grows, IsBit}
 use Rattle.word_gates.specs.Numbers.{number, digit, IsWord}

@@ -1,6 +1,6 @@
 -- Words as lists of bits, the lowest first.
 use Rattle.std.specs.Prelude.{◌≡◌, ℕ, zero, suc, ◌+◌, ◌*◌, ◌^◌, ◌%◌, ◌<◌, Bool, cond, List, [], ◌∷◌, length}
-use Rattle.bilv_spec.specs.Words.{bit, complement}
+use Rattle.word_spec.specs.Words.{bit, complement}
 use Rattle.gates.specs.declared.bit.Bit.{Bit}
 use Rattle.gates.specs.Circuits.{Netlist, next, Grows, Within, bit_value}
 

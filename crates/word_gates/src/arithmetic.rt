@@ -1,6 +1,6 @@
 //! Sums, differences, negatives and products.
 ghost use Rattle.std.specs.Prelude.{◌≡◌, ℕ, ◌+◌, ◌*◌, ◌^◌, ◌<◌, Bool, cond, length, IfOk};
-ghost use Rattle.bilv_spec.specs.Words.{add, sub, neg, mul, with_sign};
+ghost use Rattle.word_spec.specs.Words.{add, sub, neg, mul, with_sign};
 ghost use Rattle.gates.specs.Circuits.{next, Holds, Within, variable_of, bit_value};
 ghost use Rattle.word_gates.specs.Numbers.{number, digit, IsWord};
 

@@ -1,6 +1,6 @@
 //! Comparisons.
 ghost use Rattle.std.specs.Prelude.{◌≡◌, ◌==◌, nat_lt, nat_le, ℕ, ◌<◌, Bool, length, IfOk};
-ghost use Rattle.bilv_spec.specs.Words.{signed_lt, signed_le};
+ghost use Rattle.word_spec.specs.Words.{signed_lt, signed_le};
 ghost use Rattle.gates.specs.Circuits.{next, Holds, IsBit, Within, bit_value};
 ghost use Rattle.word_gates.specs.Numbers.{number};
 

@@ -1,6 +1,6 @@
 //! Quotients and remainders.
 ghost use Rattle.std.specs.Prelude.{◌≡◌, ℕ, ◌+◌, ◌-◌, ◌*◌, ◌<◌, Bool, length, IfOk};
-ghost use Rattle.bilv_spec.specs.Words.{udiv, urem, sdiv, srem};
+ghost use Rattle.word_spec.specs.Words.{udiv, urem, sdiv, srem};
 ghost use Rattle.gates.specs.Circuits.{next, Holds, Within, variable_of, bit_value};
 ghost use Rattle.word_gates.specs.Numbers.{number, IsWord, IsQuotient, IsReduced};
 

@@ -1,6 +1,6 @@
 //! Words that take no gates: constants, inputs, and bits of other words.
 ghost use Rattle.std.specs.Prelude.{◌≡◌, ℕ, ◌+◌, ◌-◌, ◌<◌, ◌≤◌, ◌^◌, Bool, length, take, drop, replicate, ◌++◌, ◌∷◌, IfOk};
-ghost use Rattle.bilv_spec.specs.Words.{word, complement, flip, bits, concat, sign_extend};
+ghost use Rattle.word_spec.specs.Words.{word, complement, flip, bits, concat, sign_extend};
 ghost use Rattle.gates.specs.declared.bit.Bit.{Bit};
 ghost use Rattle.gates.specs.Circuits.{next, Holds, Within, variable_of};
 ghost use Rattle.word_gates.specs.Numbers.{number, input_number, IsWord};

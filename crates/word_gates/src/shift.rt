@@ -1,6 +1,6 @@
 //! Shifts by words, as a barrel: a choice for each low bit of the amount, and one for the others, which shift all bits out.
 ghost use Rattle.std.specs.Prelude.{◌≡◌, ℕ, ◌+◌, ◌-◌, ◌*◌, ◌/◌, ◌^◌, ◌<◌, ◌≤◌, ◌++◌, Bool, length, take, drop, replicate, IfOk};
-ghost use Rattle.bilv_spec.specs.Words.{shl, shr, sar};
+ghost use Rattle.word_spec.specs.Words.{shl, shr, sar};
 ghost use Rattle.gates.specs.Circuits.{next, Holds, Within, variable_of, bit_value};
 ghost use Rattle.word_gates.specs.Numbers.{number, turned, IsWord};
 

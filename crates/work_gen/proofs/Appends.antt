@@ -1,7 +1,7 @@
 -- Texts that were appended one by one, and the steps of items.
 use Rattle.std.proofs.Common.{◌≡◌, ℕ, zero, suc, ◌-◌, ◌<◌, List, [], ◌∷◌, ◌++◌, codes, ap, ◌∙◌, sym, arith, append_assoc, append-nil}
-use Rattle.bilv_spec.specs.Texts.{lines, spaced}
-use Rattle.bilv_spec.specs.Work.{item_word, item_words, next_item, result_from, result_of}
+use Rattle.word_spec.specs.Texts.{lines, spaced}
+use Rattle.command_spec.specs.Work.{item_word, item_words, next_item, result_from, result_of}
 
 pub seven_texts : (u v w x y z o : List ℕ) (a b c d e f g : List ℕ) → u ≡ a → v ≡ u ++ b → w ≡ v ++ c → x ≡ w ++ d → y ≡ x ++ e → z ≡ y ++ f → o ≡ z ++ g →
     o ≡ a ++ (b ++ (c ++ (d ++ (e ++ (f ++ g)))))

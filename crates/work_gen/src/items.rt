@@ -1,8 +1,8 @@
 //! Items: the numbers of a sequence, and the row that each stands for.
 
 ghost use Rattle.std.specs.Prelude.{◌≡◌, ◌+◌, ◌<◌, ◌≤◌, ◌^◌, ◌++◌, IfOk, length};
-ghost use Rattle.bilv_spec.specs.Work as made;
-ghost use Rattle.bilv_spec.specs.Work.{item_kind, item_number, item_word, item_words, next_item, result_of};
+ghost use Rattle.command_spec.specs.Work as made;
+ghost use Rattle.command_spec.specs.Work.{item_kind, item_number, item_word, item_words, next_item, result_of};
 
 use std::alloc::{AllocError, Global};
 

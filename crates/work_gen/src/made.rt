@@ -1,8 +1,8 @@
 //! The work of a number.
 
 ghost use Rattle.std.specs.Prelude.{◌≡◌, ◌+◌, ◌<◌, ◌≤◌, ◌^◌, ◌++◌, IfOk, [], ◌∷◌};
-ghost use Rattle.bilv_spec.specs.Work as work_of;
-ghost use Rattle.bilv_spec.specs.Work.{work_file, work_notes, work_text};
+ghost use Rattle.command_spec.specs.Work as work_of;
+ghost use Rattle.command_spec.specs.Work.{work_file, work_notes, work_text};
 
 use crate::items::computed;
 use crate::row_file::row_file;

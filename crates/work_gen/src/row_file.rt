@@ -1,7 +1,7 @@
 //! Row files: an executable for RISC-V with one readable and executable segment of words at 0x10000 (System V ABI, ELF header and program header).
 
 ghost use Rattle.std.specs.Prelude.{◌≡◌, ◌≤◌, ◌++◌, IfOk, length};
-ghost use Rattle.bilv_spec.specs.RowFiles.{rv_file};
+ghost use Rattle.word_spec.specs.RowFiles.{rv_file};
 
 use std::alloc::{AllocError, Global};
 

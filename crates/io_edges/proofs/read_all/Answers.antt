@@ -1,5 +1,5 @@
 use Rattle.std.proofs.Common.{◌≡◌, ◌∙◌, length, length-take, sym, subst, arith}
-use Rattle.bilv_spec.specs.Outside.{Reads}
+use Rattle.call_spec.specs.Outside.{Reads}
 use Rattle.io_edges.proofs.Fronts.{IsFront, front_more, front_over}
 use Rattle.io_edges.proofs.read_all.Goals as goal
 

@@ -1,5 +1,5 @@
 use Rattle.std.proofs.Common.{◌≡◌, length, ◌-◌, ◌≤◌, take}
-use Rattle.bilv_spec.specs.Outside.{Appends}
+use Rattle.call_spec.specs.Outside.{Appends}
 use Rattle.io_edges.proofs.write_all.Given as goal
 
 abbrev pub invariant-loop-written : goal.invariant-loop-written

@@ -1,4 +1,4 @@
-use Rattle.bilv_spec.specs.Questions.{FailQuestion, TurnQuestion}
+use Rattle.call_spec.specs.Calls.{FailQuestion, TurnQuestion}
 use Rattle.question_form.specs.Questions.{passive_of}
 use Rattle.weakest_pre.proofs.Told.{entry_told, end_told}
 use Rattle.weakest_pre.proofs.root.Goals as goal

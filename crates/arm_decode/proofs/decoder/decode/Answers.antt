@@ -1,4 +1,4 @@
-use Rattle.bilv_spec.specs.Arm.{profile_of}
+use Rattle.machine_spec.specs.Arm.{profile_of}
 use Rattle.arm_decode.proofs.Lines.{row_is, word_is, profile_is, only_is}
 use Rattle.arm_decode.proofs.decoder.decode.Goals as goal
 

@@ -1,5 +1,5 @@
 use Rattle.std.proofs.Common.{◌∙◌, sym}
-use Rattle.bilv_spec.specs.Arm.{profile_of}
+use Rattle.machine_spec.specs.Arm.{profile_of}
 use Rattle.arm_decode.proofs.Lines.{no_condition}
 use Rattle.arm_decode.proofs.decoder.decode_by_class.Goals as goal
 

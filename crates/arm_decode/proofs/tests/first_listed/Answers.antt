@@ -1,5 +1,5 @@
 use Rattle.std.proofs.Common.{◌≡◌, ℕ, ◌+◌, ◌-◌, ◌<◌, suc, refl, sym, ◌∙◌, true, false, arith}
-use Rattle.bilv_spec.specs.Arm.{has_bit, first_of, listed_from}
+use Rattle.machine_spec.specs.Arm.{has_bit, first_of, listed_from}
 use Rattle.arm_decode.proofs.tests.first_listed.Goals as goal
 
 found : (w r n : ℕ) → r < n → has_bit r w ≡ true → first_of (listed_from w r (n - r)) ≡ r

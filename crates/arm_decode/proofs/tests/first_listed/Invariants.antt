@@ -1,5 +1,5 @@
 use Rattle.std.proofs.Common.{◌≡◌, ◌-◌}
-use Rattle.bilv_spec.specs.Arm.{first_of, listed_from}
+use Rattle.machine_spec.specs.Arm.{first_of, listed_from}
 use Rattle.arm_decode.proofs.tests.first_listed.Given as goal
 
 abbrev pub invariant-loop-register : goal.invariant-loop-register

@@ -1,7 +1,7 @@
-use Rattle.bilv_spec.specs.Arm as rows
-use Rattle.bilv_spec.specs.Arm.{arm}
-use Rattle.bilv_spec.specs.Bil.{RRegisters}
-use Rattle.bilv_spec.specs.MachineLaws.{IsLifting}
+use Rattle.machine_spec.specs.Arm as rows
+use Rattle.machine_spec.specs.Arm.{arm}
+use Rattle.machine_spec.specs.Bil.{RRegisters}
+use Rattle.machine_spec.specs.MachineLaws.{IsLifting}
 use Rattle.bil_ast.specs.Views.{statements}
 use Rattle.byte_mem.specs.Views.{endian_of}
 use Rattle.arm_lift.proofs.Lists.{in_one}

@@ -1,6 +1,6 @@
 use Rattle.std.proofs.Common.{refl}
-use Rattle.bilv_spec.specs.Words.{add}
-use Rattle.bilv_spec.specs.Arm as rows
+use Rattle.word_spec.specs.Words.{add}
+use Rattle.machine_spec.specs.Arm as rows
 use Rattle.arm_lift_alu.specs.Lifted as lifts
 use Rattle.arm_lift_alu.proofs.Branches.{branch_lifting}
 use Rattle.arm_lift_alu.proofs.Returned.{returned}

@@ -1,6 +1,6 @@
 use Rattle.std.proofs.Common.{ap, ◌∙◌}
-use Rattle.bilv_spec.specs.Arm as rows
-use Rattle.bilv_spec.specs.Bil.{Empty, JumpTo}
+use Rattle.machine_spec.specs.Arm as rows
+use Rattle.machine_spec.specs.Bil.{Empty, JumpTo}
 use Rattle.arm_lift_alu.specs.Lifted as lifts
 use Rattle.arm_lift_alu.proofs.Branches.{exchange_lifting}
 use Rattle.arm_lift_alu.proofs.Returned.{returned}

@@ -1,4 +1,4 @@
-use Rattle.bilv_spec.specs.Arm as rows
+use Rattle.machine_spec.specs.Arm as rows
 use Rattle.arm_lift_alu.specs.Lifted as lifts
 use Rattle.arm_lift_alu.proofs.Branches.{software_interrupt_lifting}
 use Rattle.arm_lift_alu.proofs.Returned.{returned}

@@ -1,5 +1,5 @@
 use Rattle.std.proofs.Common.{ap, ◌∙◌}
-use Rattle.bilv_spec.specs.Bil as bil
+use Rattle.machine_spec.specs.Bil as bil
 use Rattle.arm_lift_alu.specs.Before.{before}
 use Rattle.arm_lift_alu.specs.Computing as lifts
 use Rattle.arm_lift_alu.proofs.Pushed.{whole}

@@ -1,4 +1,4 @@
-use Rattle.bilv_spec.specs.Arm as rows
+use Rattle.machine_spec.specs.Arm as rows
 use Rattle.arm_lift_alu.specs.Computing as lifts
 use Rattle.arm_lift_alu.proofs.DataRows.{computing_lifting}
 use Rattle.arm_lift_alu.proofs.Returned.{returned}

@@ -1,5 +1,5 @@
 use Rattle.std.proofs.Common.{ap, ◌∙◌}
-use Rattle.bilv_spec.specs.Arm as rows
+use Rattle.machine_spec.specs.Arm as rows
 use Rattle.arm_lift_alu.specs.MultipliedLong as lifts
 use Rattle.arm_lift_alu.proofs.LongProducts.{multiplied_long_lifting}
 use Rattle.arm_lift_alu.proofs.Returned.{returned}

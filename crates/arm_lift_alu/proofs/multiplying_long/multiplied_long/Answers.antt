@@ -1,6 +1,6 @@
 use Rattle.std.proofs.Common.{Bool, true, sym, ap, ◌∙◌}
 use Rattle.std.specs.Prelude.{◌==◌}
-use Rattle.bilv_spec.specs.Bil as bil
+use Rattle.machine_spec.specs.Bil as bil
 use Rattle.arm_lift_alu.specs.MultipliedLong as lifts
 use Rattle.arm_lift_alu.proofs.Flagged.{was_false, was_true}
 use Rattle.arm_lift_alu.proofs.Pushed.{whole}

@@ -1,5 +1,5 @@
 use Rattle.std.proofs.Common.{◌∙◌, ◌*◌, ap}
-use Rattle.bilv_spec.specs.Arm.{listed_from}
+use Rattle.machine_spec.specs.Arm.{listed_from}
 use Rattle.byte_mem.specs.Views.{endian_of}
 use Rattle.arm_lift_alu.proofs.Pushed.{whole}
 use Rattle.arm_lift_blocks.specs.Lifted as lifts

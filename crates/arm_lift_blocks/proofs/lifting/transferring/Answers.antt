@@ -1,4 +1,4 @@
-use Rattle.bilv_spec.specs.Arm.{listed_from}
+use Rattle.machine_spec.specs.Arm.{listed_from}
 use Rattle.byte_mem.specs.Views.{endian_of}
 use Rattle.arm_lift_blocks.proofs.Liftings.{chosen}
 use Rattle.arm_lift_blocks.proofs.lifting.transferring.Goals as goal

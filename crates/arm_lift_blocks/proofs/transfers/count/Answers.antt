@@ -1,5 +1,5 @@
 use Rattle.std.proofs.Common.{◌∙◌, sym, arith, length}
-use Rattle.bilv_spec.specs.Arm.{listed_from}
+use Rattle.machine_spec.specs.Arm.{listed_from}
 use Rattle.arm_lift_blocks.proofs.Pushes.{counted_hit, counted_miss}
 use Rattle.arm_lift_blocks.proofs.transfers.count.Goals as goal
 use Rattle.arm_lift_blocks.proofs.transfers.count.Goals.{then-has, else-has}

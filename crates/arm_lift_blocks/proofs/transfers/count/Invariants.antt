@@ -1,5 +1,5 @@
 use Rattle.std.proofs.Common.{◌≡◌, ◌-◌, ◌+◌, ◌≤◌, length}
-use Rattle.bilv_spec.specs.Arm.{listed_from}
+use Rattle.machine_spec.specs.Arm.{listed_from}
 use Rattle.arm_lift_blocks.proofs.transfers.count.Given as goal
 
 -- those that are counted and those that are left are all

@@ -1,6 +1,6 @@
 use Rattle.std.proofs.Common.{◌≡◌, ◌-◌}
-use Rattle.bilv_spec.specs.Arm.{listed_from}
-use Rattle.bilv_spec.specs.Bil.{Statements}
+use Rattle.machine_spec.specs.Arm.{listed_from}
+use Rattle.machine_spec.specs.Bil.{Statements}
 use Rattle.byte_mem.specs.Views.{endian_of}
 use Rattle.arm_lift_alu.specs.Before.{before}
 use Rattle.arm_lift_blocks.specs.Lifted as lifts

@@ -1,6 +1,6 @@
 use Rattle.std.proofs.Common.{◌∙◌, sym, ap, None, Some}
 use Rattle.std.specs.Prelude.{◌==◌, if◌then◌else◌}
-use Rattle.bilv_spec.specs.Arm.{listed_from}
+use Rattle.machine_spec.specs.Arm.{listed_from}
 use Rattle.arm_lift_blocks.specs.Lifted as lifts
 use Rattle.arm_lift_blocks.proofs.Pushes.{placed_hit, placed_miss}
 use Rattle.arm_lift_blocks.proofs.transfers.place_of.Goals as goal

@@ -1,5 +1,5 @@
 use Rattle.std.proofs.Common.{◌≡◌, ◌-◌, None}
-use Rattle.bilv_spec.specs.Arm.{listed_from}
+use Rattle.machine_spec.specs.Arm.{listed_from}
 use Rattle.arm_lift_blocks.specs.Lifted as lifts
 use Rattle.arm_lift_blocks.proofs.transfers.place_of.Given as goal
 

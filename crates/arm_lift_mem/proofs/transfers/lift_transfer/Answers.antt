@@ -1,4 +1,4 @@
-use Rattle.bilv_spec.specs.Arm as rows
+use Rattle.machine_spec.specs.Arm as rows
 use Rattle.byte_mem.specs.Views.{endian_of}
 use Rattle.arm_lift_mem.specs.Transfers as lifts
 use Rattle.arm_lift_mem.proofs.Literals.{transfer_lifting}

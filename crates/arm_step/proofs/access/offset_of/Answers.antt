@@ -1,7 +1,7 @@
 use Rattle.std.proofs.Common.{◌∙◌, ap, subst}
-use Rattle.bilv_spec.specs.State.{flag_c}
-use Rattle.bilv_spec.specs.Words.{bit}
-use Rattle.bilv_spec.specs.Arm.{reg}
+use Rattle.word_spec.specs.State.{flag_c}
+use Rattle.word_spec.specs.Words.{bit}
+use Rattle.machine_spec.specs.Arm.{reg}
 use Rattle.arm_decode.specs.declared.parts.Offset.{Offset}
 use Rattle.arm_decode.specs.Parts.{HasOffset, kind_number}
 use Rattle.arm_step.specs.Parts.{shifted_of}

@@ -1,5 +1,5 @@
 use Rattle.std.proofs.Common.{◌∙◌, ℕ, ap, sym}
-use Rattle.bilv_spec.specs.State.{State}
+use Rattle.word_spec.specs.State.{State}
 use Rattle.arm_step.specs.States.{state_of}
 use Rattle.arm_step.proofs.Operands.{base_put}
 use Rattle.arm_step.proofs.access.write_back.Goals as goal

@@ -1,5 +1,5 @@
 use Rattle.std.proofs.Common.{◌∙◌, ap}
-use Rattle.bilv_spec.specs.Arm.{reg}
+use Rattle.machine_spec.specs.Arm.{reg}
 use Rattle.arm_step.specs.States.{state_of}
 use Rattle.arm_step.proofs.RegisterLists.{starts}
 use Rattle.arm_step.proofs.blocks.block_start.Goals as goal

@@ -1,5 +1,5 @@
 use Rattle.std.proofs.Common.{◌∙◌, ◌+◌, ◌-◌, ap, sym, arith, length}
-use Rattle.bilv_spec.specs.Arm.{listed_from}
+use Rattle.machine_spec.specs.Arm.{listed_from}
 use Rattle.arm_step.proofs.RegisterLists.{counted_hit, counted_miss}
 use Rattle.arm_step.proofs.blocks.count.Goals as goal
 use Rattle.arm_step.proofs.blocks.count.Goals.{then-has, else-has}

@@ -1,6 +1,6 @@
 use Rattle.std.proofs.Common.{◌∙◌, ◌+◌, ◌-◌, ap, sym}
-use Rattle.bilv_spec.specs.State.{State}
-use Rattle.bilv_spec.specs.Arm as rows
+use Rattle.word_spec.specs.State.{State}
+use Rattle.machine_spec.specs.Arm as rows
 use Rattle.byte_mem.specs.Views.{endian_of}
 use Rattle.arm_step.specs.States.{state_of, spare_of}
 use Rattle.arm_step.proofs.RegisterLists.{loads_hit, loads_miss, loads_done}

@@ -1,5 +1,5 @@
 use Rattle.std.proofs.Common.{◌≡◌, ◌-◌}
-use Rattle.bilv_spec.specs.Arm as rows
+use Rattle.machine_spec.specs.Arm as rows
 use Rattle.byte_mem.specs.Views.{endian_of}
 use Rattle.arm_step.specs.States.{state_of, spare_of}
 use Rattle.arm_step.proofs.blocks.load_all.Given as goal

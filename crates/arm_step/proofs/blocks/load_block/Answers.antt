@@ -1,6 +1,6 @@
 use Rattle.std.proofs.Common.{◌∙◌, ap, sym, lit≤, lit<}
-use Rattle.bilv_spec.specs.Words.{add}
-use Rattle.bilv_spec.specs.Arm.{listed_from}
+use Rattle.word_spec.specs.Words.{add}
+use Rattle.machine_spec.specs.Arm.{listed_from}
 use Rattle.byte_mem.specs.Views.{endian_of}
 use Rattle.arm_step.specs.States.{state_of}
 use Rattle.arm_step.proofs.RegisterLists.{same_list, bit_of, block_jumps, block_goes}

@@ -1,6 +1,6 @@
 use Rattle.std.proofs.Common.{◌∙◌, ℕ, ap}
-use Rattle.bilv_spec.specs.Memory.{load}
-use Rattle.bilv_spec.specs.State.{State}
+use Rattle.word_spec.specs.Memory.{load}
+use Rattle.word_spec.specs.State.{State}
 use Rattle.byte_mem.specs.Views.{endian_of}
 use Rattle.arm_step.specs.States.{state_of}
 use Rattle.arm_step.proofs.RegisterLists.{one_loaded}

@@ -1,5 +1,5 @@
 use Rattle.std.proofs.Common.{lit≤}
-use Rattle.bilv_spec.specs.Arm.{listed_from}
+use Rattle.machine_spec.specs.Arm.{listed_from}
 use Rattle.byte_mem.specs.Views.{endian_of}
 use Rattle.arm_step.specs.States.{state_of}
 use Rattle.arm_step.proofs.RegisterLists.{same_list, block_stores}

@@ -1,5 +1,5 @@
 use Rattle.std.proofs.Common.{◌∙◌, ℕ, ap, sym}
-use Rattle.bilv_spec.specs.State.{State}
+use Rattle.word_spec.specs.State.{State}
 use Rattle.arm_step.specs.States.{state_of}
 use Rattle.arm_step.proofs.RegisterLists.{block_put, block_kept}
 use Rattle.arm_step.proofs.blocks.write_block_base.Goals as goal

@@ -1,7 +1,7 @@
 use Rattle.std.proofs.Common.{◌∙◌, ap, sym}
-use Rattle.bilv_spec.specs.Words.{bit, bit_at}
-use Rattle.bilv_spec.specs.State.{State}
-use Rattle.bilv_spec.specs.Arm.{reg, sets_flags}
+use Rattle.word_spec.specs.Words.{bit, bit_at}
+use Rattle.word_spec.specs.State.{State}
+use Rattle.machine_spec.specs.Arm.{reg, sets_flags}
 use Rattle.arm_decode.specs.Parts.{opcode_number}
 use Rattle.arm_step.specs.Parts.{computed_of, shifted_of}
 use Rattle.arm_step.specs.States.{state_of}

@@ -1,7 +1,7 @@
 use Rattle.std.proofs.Common.{◌∙◌, ap, Bool}
 use Rattle.std.specs.Prelude.{if◌then◌else◌}
-use Rattle.bilv_spec.specs.Words.{bit, bit_at}
-use Rattle.bilv_spec.specs.State.{flag_c, flag_v}
+use Rattle.word_spec.specs.Words.{bit, bit_at}
+use Rattle.word_spec.specs.State.{flag_c, flag_v}
 use Rattle.arm_step.specs.States.{state_of}
 use Rattle.arm_step.proofs.Computations.{multiplies, kept_flag}
 use Rattle.arm_step.proofs.data.multiply.Goals as goal

@@ -1,8 +1,8 @@
 use Rattle.std.proofs.Common.{◌∙◌, Bool, ap, sym}
 use Rattle.std.specs.Prelude.{if◌then◌else◌}
-use Rattle.bilv_spec.specs.Words.{bit}
-use Rattle.bilv_spec.specs.State.{State}
-use Rattle.bilv_spec.specs.Arm.{with_flags}
+use Rattle.word_spec.specs.Words.{bit}
+use Rattle.word_spec.specs.State.{State}
+use Rattle.machine_spec.specs.Arm.{with_flags}
 use Rattle.arm_step.specs.States.{state_of}
 use Rattle.arm_step.proofs.data.set_flags_if.Goals as goal
 

@@ -1,6 +1,6 @@
 use Rattle.std.proofs.Common.{◌∙◌, ap}
-use Rattle.bilv_spec.specs.State.{with_pc}
-use Rattle.bilv_spec.specs.Arm.{reg}
+use Rattle.word_spec.specs.State.{with_pc}
+use Rattle.machine_spec.specs.Arm.{reg}
 use Rattle.byte_mem.specs.declared.StepOut.TheVariants.{Jump}
 use Rattle.byte_mem.specs.declared.How.TheVariants.{Indirect}
 use Rattle.arm_step.specs.States.{state_of}

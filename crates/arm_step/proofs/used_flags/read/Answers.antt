@@ -1,6 +1,6 @@
 use Rattle.std.proofs.Common.{◌∙◌, ◌≡◌, ℕ, ap, Bool}
 use Rattle.std.specs.Prelude.{◌||◌}
-use Rattle.bilv_spec.specs.Arm.{condition_reads, condition_flags, condition_code}
+use Rattle.machine_spec.specs.Arm.{condition_reads, condition_flags, condition_code}
 use Rattle.arm_decode.specs.Parts.{condition_number}
 use Rattle.arm_decode.specs.Insns.{word_of}
 use Rattle.arm_step.specs.FlagSets.{reads_carry_of}

@@ -1,5 +1,5 @@
 use Rattle.std.proofs.Common.{rules, ◌≡◌, length, ap, ◌∙◌, arith}
-use Rattle.bilv_spec.specs.BilMeaning.{Word, assign}
+use Rattle.machine_spec.specs.BilMeaning.{Word, assign}
 use Rattle.bil_ast.specs.declared.names.Var.{Var}
 use Rattle.bil_ast.specs.Views.{bank_of, variable_of}
 use Rattle.bil_eval.specs.Views.{env_of}

@@ -1,8 +1,8 @@
 use Rattle.std.proofs.Common.{◌≡◌, ◌-◌, List, take, refl, sym, ap, ◌∙◌, arith}
 use Rattle.std.proofs.lemmas.Bool.{eqb-true}
-use Rattle.bilv_spec.proofs.BilSound.{both}
-use Rattle.bilv_spec.specs.Bil.{Local}
-use Rattle.bilv_spec.specs.BilMeaning.{put_local}
+use Rattle.machine_spec.proofs.BilSound.{both}
+use Rattle.machine_spec.specs.Bil.{Local}
+use Rattle.machine_spec.specs.BilMeaning.{put_local}
 use Rattle.bil_eval.specs.declared.env.LocalWord.{LocalWord}
 use Rattle.bil_eval.specs.Views.{held, values}
 use Rattle.bil_eval.proofs.Locals.{apart_more, held_set, held_word, read_miss, values_set}

@@ -1,7 +1,7 @@
 use Rattle.std.proofs.Common.{◌≡◌, Bool, rules, refl, ap, ◌∙◌, subst}
-use Rattle.bilv_spec.specs.Bil.{BilVariable}
-use Rattle.bilv_spec.specs.BilCounts.{width}
-use Rattle.bilv_spec.specs.BilMeaning.{evaluate}
+use Rattle.machine_spec.specs.Bil.{BilVariable}
+use Rattle.machine_spec.specs.BilCounts.{width}
+use Rattle.machine_spec.specs.BilMeaning.{evaluate}
 use Rattle.bil_ast.specs.declared.expressions.Exp.{Exp}
 use Rattle.bil_ast.specs.declared.expressions.Exp.TheViews.{the_lemmas}
 use Rattle.bil_ast.specs.Views.{expression}

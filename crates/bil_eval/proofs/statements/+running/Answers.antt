@@ -1,7 +1,6 @@
-use Rattle.std.proofs.Common.{rules, ◌-◌, Ok, Err, refl, ap, sym, ◌∙◌}
+use Rattle.std.proofs.Common.{rules, ◌-◌, Ok, Err, refl, ap, sym, ◌∙◌, arith}
 use Rattle.std.proofs.lemmas.Grind.{common_steps}
-use Rattle.std.proofs.Common.{arith}
-use Rattle.bilv_spec.specs.BilMeaning as means
+use Rattle.machine_spec.specs.BilMeaning as means
 use Rattle.bil_ast.specs.declared.statements.Stmt.TheViews.{the_lemmas}
 use Rattle.bil_ast.specs.Views.{expression, statements}
 use Rattle.bil_eval.specs.Views.{env_of, held}

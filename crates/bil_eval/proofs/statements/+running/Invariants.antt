@@ -1,6 +1,6 @@
 use Rattle.std.proofs.Common.{◌≡◌, ◌-◌, drop}
-use Rattle.bilv_spec.specs.Bil.{Empty, While}
-use Rattle.bilv_spec.specs.BilMeaning.{Env, execute, loop}
+use Rattle.machine_spec.specs.Bil.{Empty, While}
+use Rattle.machine_spec.specs.BilMeaning.{Env, execute, loop}
 use Rattle.bil_ast.specs.Views.{expression, statements}
 use Rattle.bil_eval.specs.Views.{held}
 use Rattle.bil_eval.specs.Passes.{Passes}

@@ -1,5 +1,5 @@
 use Rattle.std.proofs.Common.{◌≡◌, ℕ, ◌++◌, string_bytes, drop}
-use Rattle.bilv_spec.specs.BilText.{indent, list_text}
+use Rattle.machine_spec.specs.BilText.{indent, list_text}
 use Rattle.bil_ast.specs.Views.{statements}
 use Rattle.bil_print.proofs.statements.+statements.Given as goal
 

@@ -1,5 +1,5 @@
 use Rattle.std.proofs.Common.{add-one, ap, sym, ◌∙◌, [], ◌∷◌, ◌++◌}
-use Rattle.bilv_spec.specs.BilText.{indent}
+use Rattle.machine_spec.specs.BilText.{indent}
 use Rattle.bil_print.proofs.Lines.{deeper}
 use Rattle.bil_print.proofs.statements.blanks_of.Goals as goal
 

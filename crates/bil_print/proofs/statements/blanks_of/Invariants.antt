@@ -1,5 +1,5 @@
 use Rattle.std.proofs.Common.{◌≡◌, string_bytes}
-use Rattle.bilv_spec.specs.BilText.{indent}
+use Rattle.machine_spec.specs.BilText.{indent}
 use Rattle.bil_print.proofs.statements.blanks_of.Given as goal
 
 abbrev pub invariant-loop : goal.invariant-loop

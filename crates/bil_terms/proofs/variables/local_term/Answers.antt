@@ -1,7 +1,7 @@
 use Rattle.std.proofs.Common.{◌-◌, refl, sym, ap, ◌∙◌, arith}
 use Rattle.std.proofs.Math.Seq.{take-length}
 use Rattle.bil_terms.specs.Naming.{known, values}
-use Rattle.bilv_spec.specs.Bil as bil
+use Rattle.machine_spec.specs.Bil as bil
 use Rattle.bil_terms.proofs.Locals.{hit, miss, none_before}
 use Rattle.bil_terms.proofs.variables.local_term.Goals as goal
 

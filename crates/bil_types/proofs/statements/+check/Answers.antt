@@ -1,7 +1,7 @@
 use Rattle.std.proofs.Common.{◌≡◌, ◌+◌, ◌-◌, ◌^◌, ◌∙◌, ap, min, subst, IfOk, Some, None, Option, refl, arith}
 use Rattle.std.proofs.lemmas.Grind.{common_steps}
-use Rattle.bilv_spec.specs.Bil.{Statements, Empty, list_size}
-use Rattle.bilv_spec.specs.BilTyping.{TypeFault, list_fault}
+use Rattle.machine_spec.specs.Bil.{Statements, Empty, list_size}
+use Rattle.machine_spec.specs.BilTyping.{TypeFault, list_fault}
 use Rattle.bil_ast.proofs.Blocks.{seen_if, seen_while}
 use Rattle.bil_types.specs.Views.{fault_in, fault_of}
 use Rattle.bil_types.proofs.ListFaults.{checked_next, fault_at, list_second, list_third}

@@ -1,4 +1,4 @@
-use Rattle.bilv_spec.proofs.AcceptedCertificates.{certified_is_accepted}
+use Rattle.bilv_spec.proofs.CertifiedQuestions.{certified_is_accepted}
 use Rattle.bilv_spec.proofs.certificates.certified_is_accepted.Goals as goal
 
 pub returns : goal.returns

@@ -1,4 +1,4 @@
-use Rattle.bilv_spec.proofs.StateTold.{told_or_refused}
+use Rattle.machine_spec.proofs.StateRead.{told_or_refused}
 use Rattle.bilv_spec.proofs.states.told_or_refused.Goals as goal
 
 pub returns : goal.returns

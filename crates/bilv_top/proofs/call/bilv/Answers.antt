@@ -1,5 +1,5 @@
 use Rattle.std.proofs.Common.{map, string_bytes, subst}
-use Rattle.bilv_spec.specs.Outside.{Appends}
+use Rattle.call_spec.specs.Outside.{Appends}
 use Rattle.io_edges.specs.Met.{seen}
 use Rattle.io_edges.specs.WriteFaults.{Stopped}
 use Rattle.command_line.specs.Lines.{lawful_command}

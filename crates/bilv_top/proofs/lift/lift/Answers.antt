@@ -1,10 +1,10 @@
 use Rattle.std.proofs.Common.{subst, sym, ◌≤◌, length}
 use Rattle.std.proofs.lemmas.Result.{IfOk-weaker}
-use Rattle.bilv_spec.specs.Outside.{Agrees}
+use Rattle.call_spec.specs.Outside.{Agrees}
 use Rattle.command_line.specs.Commands.{options_of}
 use Rattle.io_edges.specs.Met.{seen}
 use Rattle.bilv_top.specs.Answers.{answer_of}
-use Rattle.bilv_spec.specs.Outcomes.{IsLifted}
+use Rattle.answer_spec.specs.Outcomes.{IsLifted}
 use Rattle.bilv_top.proofs.Refused.{elf_unread, elf_refuses, elf_accepts}
 use Rattle.bilv_top.proofs.lift.lift.Goals as goal
 

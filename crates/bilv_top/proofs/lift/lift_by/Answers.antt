@@ -1,8 +1,8 @@
 use Rattle.std.proofs.Common.{refl, sym, subst}
-use Rattle.bilv_spec.specs.Bil.{Bank}
+use Rattle.machine_spec.specs.Bil.{Bank}
 use Rattle.bilv_spec.specs.Files.{machine_of}
 use Rattle.bilv_spec.specs.LiftText.{IsLiftTextBy}
-use Rattle.bilv_spec.specs.Machine.{Machine}
+use Rattle.machine_spec.specs.Machine.{Machine}
 use Rattle.command_line.specs.Commands.{options_of}
 use Rattle.bilv_top.proofs.Founds.{machine_order}
 use Rattle.bilv_top.proofs.lift.lift_by.Goals as goal

@@ -1,6 +1,6 @@
 use Rattle.std.proofs.Common.{sym, subst}
 use Rattle.std.specs.Prelude.{take}
-use Rattle.bilv_spec.specs.Outcomes.{IsFirstLine}
+use Rattle.answer_spec.specs.Outcomes.{IsFirstLine}
 use Rattle.bilv_top.proofs.Made.{first_line_is}
 use Rattle.bilv_top.proofs.selfrun.first_line.Goals as goal
 

@@ -1,6 +1,6 @@
 use Rattle.std.proofs.Common.{sym, subst, ◌∙◌}
 use Rattle.std.specs.Prelude.{Contains}
-use Rattle.bilv_spec.specs.Texts.{line_feed}
+use Rattle.word_spec.specs.Texts.{line_feed}
 use Rattle.command_line.specs.Commands.{budget_of}
 use Rattle.bilv_top.specs.Answers.{answer_of}
 use Rattle.bilv_top.proofs.Made.{file_short, verified_has, selfrun_is}

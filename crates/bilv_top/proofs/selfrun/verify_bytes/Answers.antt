@@ -1,7 +1,8 @@
 use Rattle.std.proofs.Common.{arith, subst}
 use Rattle.std.proofs.lemmas.Result.{IfOk-weaker}
-use Rattle.bilv_spec.specs.Answers.{Answer, IsReported}
-use Rattle.bilv_spec.specs.Files.{Options, layout_of, machine_of, program_of}
+use Rattle.call_spec.specs.Calls.{Answer, Options}
+use Rattle.bilv_spec.specs.Answers.{IsReported}
+use Rattle.bilv_spec.specs.Files.{layout_of, machine_of, program_of}
 use Rattle.bilv_spec.specs.Verified.{elf_refused}
 use Rattle.command_line.specs.Commands.{budget_of}
 use Rattle.notes_lang.specs.Drafting.{notes_of}

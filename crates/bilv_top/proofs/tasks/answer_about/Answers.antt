@@ -1,7 +1,7 @@
 use Rattle.std.proofs.Common.{◌∙◌, refl, sym, subst}
 use Rattle.std.proofs.Math.Nat.{le_trans}
 use Rattle.std.proofs.lemmas.Result.{IfOk-weaker}
-use Rattle.bilv_spec.specs.Outside.{Agrees}
+use Rattle.call_spec.specs.Outside.{Agrees}
 use Rattle.bilv_spec.specs.Files.{layout_of, machine_of, program_of}
 use Rattle.command_line.specs.Commands.{options_of}
 use Rattle.notes_lang.specs.Drafting.{notes_of}

@@ -1,7 +1,7 @@
 use Rattle.std.proofs.Common.{◌≡◌, sym, subst}
 use Rattle.std.proofs.lemmas.Result.{IfOk-weaker}
-use Rattle.bilv_spec.specs.Outside.{Agrees}
-use Rattle.bilv_spec.specs.Outcomes.{upgrade_answer}
+use Rattle.call_spec.specs.Outside.{Agrees}
+use Rattle.answer_spec.specs.Outcomes.{upgrade_answer}
 use Rattle.command_line.specs.Commands.{options_of}
 use Rattle.io_edges.specs.Met.{seen}
 use Rattle.bilv_top.specs.Answers.{answer_of}

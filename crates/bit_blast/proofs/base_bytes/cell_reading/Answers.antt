@@ -1,5 +1,5 @@
 use Rattle.std.proofs.Common.{◌∙◌, arith}
-use Rattle.bilv_spec.specs.Clauses.{valuation}
+use Rattle.clause_spec.specs.Clauses.{valuation}
 use Rattle.bit_blast.proofs.ReadValues.{byte_is}
 use Rattle.bit_blast.proofs.StartInputs.{drawn_is, flag_of, register_is}
 use Rattle.bit_blast.proofs.base_bytes.cell_reading.Goals as goal

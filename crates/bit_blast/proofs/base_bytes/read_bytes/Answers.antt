@@ -1,5 +1,5 @@
 use Rattle.std.proofs.Common.{refl}
-use Rattle.bilv_spec.specs.Clauses.{valuation}
+use Rattle.clause_spec.specs.Clauses.{valuation}
 use Rattle.mem_cells.specs.Views.{cells_of, program_of_cells}
 use Rattle.bit_blast.proofs.ReadValues.{are_reads, as_many, small, within}
 use Rattle.bit_blast.proofs.base_bytes.read_bytes.Goals as goal

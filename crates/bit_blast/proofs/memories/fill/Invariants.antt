@@ -1,6 +1,6 @@
 use Rattle.std.proofs.Common.{◌≡◌, ℕ}
-use Rattle.bilv_spec.specs.Words.{word}
-use Rattle.bilv_spec.specs.Memory.{memory_of}
+use Rattle.word_spec.specs.Words.{word}
+use Rattle.word_spec.specs.Memory.{memory_of}
 use Rattle.bit_blast.specs.Stored.{AreBytes, filled}
 use Rattle.bit_blast.proofs.memories.fill.Given as goal
 

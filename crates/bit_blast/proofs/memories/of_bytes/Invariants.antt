@@ -1,5 +1,5 @@
 use Rattle.std.proofs.Common.{◌≡◌, ℕ, ◌-◌, drop, length}
-use Rattle.bilv_spec.specs.Memory.{memory_of}
+use Rattle.word_spec.specs.Memory.{memory_of}
 use Rattle.bit_blast.specs.Stored.{AreBytes}
 use Rattle.bit_blast.proofs.memories.of_bytes.Given as goal
 

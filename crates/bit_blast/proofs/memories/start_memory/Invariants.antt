@@ -1,7 +1,7 @@
 use Rattle.std.proofs.Common.{◌≡◌, ℕ, ◌-◌, drop, length, map}
-use Rattle.bilv_spec.specs.Words.{word}
-use Rattle.bilv_spec.specs.Memory.{memory_of}
-use Rattle.bilv_spec.specs.StateText.{known_or}
+use Rattle.word_spec.specs.Words.{word}
+use Rattle.word_spec.specs.Memory.{memory_of}
+use Rattle.machine_spec.specs.StateText.{known_or}
 use Rattle.walk_spec.specs.Unrolled.{byte_of_runs}
 use Rattle.known_bytes.specs.Runs.{run_of}
 use Rattle.bit_blast.specs.Stored.{AreBytes}

@@ -1,6 +1,6 @@
 use Rattle.std.proofs.Common.{◌≡◌, ℕ, List, refl, subst, sym, arith}
 use Rattle.std.proofs.lemmas.Bool.Decides.{nat_tests}
-use Rattle.bilv_spec.specs.Clauses.{valuation}
+use Rattle.clause_spec.specs.Clauses.{valuation}
 use Rattle.term_dag.specs.Readings.{reading_of}
 use Rattle.question_form.specs.Questions.{passive_of}
 use Rattle.mem_cells.specs.Views.{cells_of, program_of_cells}

@@ -1,7 +1,7 @@
 use Rattle.std.proofs.Common.{◌∙◌, List, ap, map}
-use Rattle.bilv_spec.specs.Words.{word}
-use Rattle.bilv_spec.specs.Clauses.{valuation}
-use Rattle.bilv_spec.specs.StateText.{known_or}
+use Rattle.word_spec.specs.Words.{word}
+use Rattle.clause_spec.specs.Clauses.{valuation}
+use Rattle.machine_spec.specs.StateText.{known_or}
 use Rattle.walk_spec.specs.Unrolled.{byte_of_runs}
 use Rattle.known_bytes.specs.declared.listing.Known.{Known}
 use Rattle.known_bytes.specs.Runs.{run_of}

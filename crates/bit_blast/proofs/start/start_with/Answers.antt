@@ -1,5 +1,5 @@
 use Rattle.std.proofs.Common.{ℕ, List, subst}
-use Rattle.bilv_spec.specs.Clauses.{valuation}
+use Rattle.clause_spec.specs.Clauses.{valuation}
 use Rattle.mem_cells.specs.Views.{cells_of, program_of_cells}
 use Rattle.bit_blast.specs.Followed.{AreFollowed}
 use Rattle.bit_blast.proofs.StartInputs.{is_start}

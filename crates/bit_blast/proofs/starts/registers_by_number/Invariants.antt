@@ -1,5 +1,5 @@
 use Rattle.std.proofs.Common.{◌≡◌, ℕ, ◌+◌, ◌-◌, ◌*◌, ◌<◌, ◌≤◌, length, get_or}
-use Rattle.bilv_spec.specs.Clauses.{valuation}
+use Rattle.clause_spec.specs.Clauses.{valuation}
 use Rattle.walk_spec.specs.ClauseForm.{bits_from}
 use Rattle.bit_blast.proofs.starts.registers_by_number.Given as goal
 

@@ -1,6 +1,6 @@
 use Rattle.std.proofs.Common.{◌≡◌, ◌*◌, map}
-use Rattle.bilv_spec.specs.Clauses.{valuation}
-use Rattle.bilv_spec.specs.RowFiles.{from_to}
+use Rattle.clause_spec.specs.Clauses.{valuation}
+use Rattle.word_spec.specs.RowFiles.{from_to}
 use Rattle.walk_spec.specs.ClauseForm.{bits_from}
 use Rattle.bit_blast.proofs.starts.registers_of.Given as goal
 

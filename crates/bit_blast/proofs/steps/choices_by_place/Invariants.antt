@@ -1,5 +1,5 @@
 use Rattle.std.proofs.Common.{◌≡◌, ℕ, ◌<◌, length, get_or}
-use Rattle.bilv_spec.specs.Clauses.{valuation}
+use Rattle.clause_spec.specs.Clauses.{valuation}
 use Rattle.bit_blast.specs.Steps.{choice_at}
 use Rattle.bit_blast.proofs.steps.choices_by_place.Given as goal
 

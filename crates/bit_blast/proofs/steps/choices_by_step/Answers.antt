@@ -1,7 +1,7 @@
 use Rattle.std.proofs.Common.{◌≡◌, true, false, ◌<◌, ◌∙◌, ap, sym, length, arith}
 use Rattle.std.specs.Prelude.{None}
 use Rattle.std.proofs.lemmas.Bool.Decides.{nat_tests}
-use Rattle.bilv_spec.specs.Clauses.{valuation}
+use Rattle.clause_spec.specs.Clauses.{valuation}
 use Rattle.bit_blast.specs.Steps.{choice_at, choice_by, is_met_by}
 use Rattle.bit_blast.proofs.StepChoices.{any_default, next_met, next_unmet}
 use Rattle.bit_blast.proofs.steps.choices_by_step.Goals as goal

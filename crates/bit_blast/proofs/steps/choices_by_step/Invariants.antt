@@ -1,5 +1,5 @@
 use Rattle.std.proofs.Common.{◌≤◌}
-use Rattle.bilv_spec.specs.Clauses.{valuation}
+use Rattle.clause_spec.specs.Clauses.{valuation}
 use Rattle.bit_blast.specs.Steps.{AreChoices, choice_at, is_met_by}
 use Rattle.bit_blast.proofs.steps.choices_by_step.Given as goal
 

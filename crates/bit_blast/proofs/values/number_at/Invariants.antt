@@ -1,5 +1,5 @@
 use Rattle.std.proofs.Common.{◌≡◌, ◌<◌, ◌^◌}
-use Rattle.bilv_spec.specs.Clauses.{valuation}
+use Rattle.clause_spec.specs.Clauses.{valuation}
 use Rattle.walk_spec.specs.ClauseForm.{bits_from}
 use Rattle.bit_blast.proofs.values.number_at.Given as goal
 

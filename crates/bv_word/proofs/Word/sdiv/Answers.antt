@@ -1,5 +1,5 @@
 use Rattle.std.proofs.Common.{◌≡◌, ◌<◌, ◌^◌, subst}
-use Rattle.bilv_spec.specs.Words as words
+use Rattle.word_spec.specs.Words as words
 use Rattle.bv_word.proofs.Bits.{sdiv_of}
 use Rattle.bv_word.proofs.Word.sdiv.Goals as goal
 

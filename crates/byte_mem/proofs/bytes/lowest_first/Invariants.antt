@@ -1,7 +1,7 @@
 use Rattle.std.proofs.Common.{◌≡◌, ◌+◌, ◌-◌, ◌<◌, ◌*◌, ◌^◌}
 use Rattle.byte_mem.specs.Gaps.{entries_of}
-use Rattle.bilv_spec.specs.Words.{add}
-use Rattle.bilv_spec.specs.Memory.{little, memory_of}
+use Rattle.word_spec.specs.Words.{add}
+use Rattle.word_spec.specs.Memory.{little, memory_of}
 use Rattle.byte_mem.proofs.bytes.lowest_first.Given as goal
 
 abbrev pub invariant-loop-i : goal.invariant-loop-i

@@ -1,5 +1,5 @@
 use Rattle.std.proofs.Common.{◌^◌, ◌%◌, ◌≡◌, sym, ap, ◌∙◌, arith}
-use Rattle.bilv_spec.specs.Memory.{byte_in}
+use Rattle.word_spec.specs.Memory.{byte_in}
 use Rattle.byte_mem.proofs.Spans.{spans_of, one_list}
 use Rattle.byte_mem.proofs.bytes.one_list.Goals as goal
 

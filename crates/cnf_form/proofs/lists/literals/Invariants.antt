@@ -1,7 +1,7 @@
 use Rattle.std.proofs.Common.{◌≡◌, ◌++◌, drop, map}
 use Rattle.std.specs.List.{list_all}
-use Rattle.bilv_spec.specs.CertificateGrammar.{Integer, literal_of}
-use Rattle.bilv_spec.specs.Refutation.{is_listed}
+use Rattle.clause_spec.specs.CertificateGrammar.{Integer, literal_of}
+use Rattle.clause_spec.specs.Refutation.{is_listed}
 use Rattle.cnf_form.proofs.lists.literals.Given as goal
 
 abbrev pub invariant-loop-number : goal.invariant-loop-number

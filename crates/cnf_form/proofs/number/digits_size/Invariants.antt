@@ -2,7 +2,7 @@ use Rattle.std.proofs.Common.{◌≡◌, ◌≤◌, ◌+◌, ◌^◌, drop}
 use Rattle.std.specs.Prelude.{min}
 use Rattle.std.specs.List.{list_all}
 use Rattle.std.specs.Str.Parse.{digits_value_after}
-use Rattle.bilv_spec.specs.NotesGrammar.{is_digit_of}
+use Rattle.word_spec.specs.Texts.{is_digit_of}
 use Rattle.cnf_form.proofs.number.digits_size.Given as goal
 
 abbrev pub invariant-loop-byte : goal.invariant-loop-byte

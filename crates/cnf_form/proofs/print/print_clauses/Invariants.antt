@@ -1,6 +1,6 @@
 use Rattle.std.proofs.Common.{◌≡◌, ◌++◌, drop, map}
-use Rattle.bilv_spec.specs.Texts.{lines}
-use Rattle.bilv_spec.specs.Certificates.{clause_line}
+use Rattle.word_spec.specs.Texts.{lines}
+use Rattle.clause_spec.specs.Certificates.{clause_line}
 use Rattle.cnf_form.proofs.print.print_clauses.Given as goal
 
 abbrev pub invariant-loop-clause : goal.invariant-loop-clause

@@ -1,5 +1,5 @@
 use Rattle.std.proofs.Common.{◌≡◌, ◌++◌, drop}
-use Rattle.bilv_spec.specs.Certificates.{clause_line}
+use Rattle.clause_spec.specs.Certificates.{clause_line}
 use Rattle.cnf_form.proofs.print.print_literals.Given as goal
 
 abbrev pub invariant-loop-lit : goal.invariant-loop-lit

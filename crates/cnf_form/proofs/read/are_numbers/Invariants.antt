@@ -1,5 +1,5 @@
 use Rattle.std.proofs.Common.{◌≡◌, is_some, length}
-use Rattle.bilv_spec.specs.CertificateGrammar.{words_of, numbers_of}
+use Rattle.clause_spec.specs.CertificateGrammar.{words_of, numbers_of}
 use Rattle.cnf_form.proofs.read.are_numbers.Given as goal
 
 abbrev pub invariant-loop-word : goal.invariant-loop-word

@@ -1,5 +1,5 @@
 use Rattle.std.proofs.Common.{◌≡◌, ◌-◌, ◌≤◌, drop, length}
-use Rattle.bilv_spec.specs.StateText.{split_lines}
+use Rattle.word_spec.specs.Texts.{split_lines}
 use Rattle.cnf_form.proofs.read.behind_lines.Given as goal
 
 abbrev pub invariant-loop : goal.invariant-loop

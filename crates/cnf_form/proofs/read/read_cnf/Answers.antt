@@ -1,8 +1,8 @@
 use Rattle.std.proofs.Common.{sym, ◌∙◌, ap}
 use Rattle.std.specs.Str.{bytes_eq}
-use Rattle.bilv_spec.specs.StateText.{split_lines}
-use Rattle.bilv_spec.specs.CertificateGrammar.{cnf_of as answer_of, Clauses}
-use Rattle.bilv_spec.proofs.ReadClauses.{read_is_printable}
+use Rattle.word_spec.specs.Texts.{split_lines}
+use Rattle.clause_spec.specs.CertificateGrammar.{cnf_of as answer_of, Clauses}
+use Rattle.clause_spec.proofs.ReadClauses.{read_is_printable}
 use Rattle.cnf_form.specs.Views.{cnf_of}
 use Rattle.cnf_form.proofs.ReadLines.{proof-line}
 use Rattle.cnf_form.proofs.read.read_cnf.Goals as goal

@@ -1,6 +1,6 @@
 use Rattle.std.proofs.Common.{◌≡◌, ◌≤◌, ◌+◌, length}
-use Rattle.bilv_spec.specs.StateText.{split_lines}
-use Rattle.bilv_spec.specs.CertificateGrammar.{answer_from, cnf_of}
+use Rattle.word_spec.specs.Texts.{split_lines}
+use Rattle.clause_spec.specs.CertificateGrammar.{answer_from, cnf_of}
 use Rattle.cnf_form.proofs.read.read_cnf.Given as goal
 
 abbrev pub invariant-loop-line : goal.invariant-loop-line

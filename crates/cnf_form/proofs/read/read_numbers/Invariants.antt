@@ -1,5 +1,5 @@
 use Rattle.std.proofs.Common.{◌≡◌, length}
-use Rattle.bilv_spec.specs.CertificateGrammar.{words_of, numbers_of}
+use Rattle.clause_spec.specs.CertificateGrammar.{words_of, numbers_of}
 use Rattle.cnf_form.proofs.ReadLines.{outcome}
 use Rattle.cnf_form.proofs.read.read_numbers.Given as goal
 

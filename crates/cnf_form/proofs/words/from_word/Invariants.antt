@@ -1,5 +1,5 @@
 use Rattle.std.proofs.Common.{◌≡◌, drop}
-use Rattle.bilv_spec.specs.CertificateGrammar.{words_of}
+use Rattle.clause_spec.specs.CertificateGrammar.{words_of}
 use Rattle.cnf_form.proofs.words.from_word.Given as goal
 
 abbrev pub invariant-loop-i : goal.invariant-loop-i

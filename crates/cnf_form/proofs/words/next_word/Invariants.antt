@@ -1,6 +1,6 @@
 use Rattle.std.proofs.Common.{◌≡◌, take, true, not}
 use Rattle.std.specs.List.{list_all}
-use Rattle.bilv_spec.specs.NotesGrammar.{is_blank}
+use Rattle.word_spec.specs.Texts.{is_blank}
 use Rattle.cnf_form.proofs.words.next_word.Given as goal
 
 abbrev pub invariant-loop-i : goal.invariant-loop-i

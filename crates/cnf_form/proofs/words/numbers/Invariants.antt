@@ -1,5 +1,5 @@
 use Rattle.std.proofs.Common.{◌≡◌, map, length, option_map}
-use Rattle.bilv_spec.specs.CertificateGrammar.{words_of, numbers_of}
+use Rattle.clause_spec.specs.CertificateGrammar.{words_of, numbers_of}
 use Rattle.cnf_form.specs.Numbers.{capped}
 use Rattle.cnf_form.proofs.NumbersRead.{behind}
 use Rattle.cnf_form.proofs.words.numbers.Given as goal

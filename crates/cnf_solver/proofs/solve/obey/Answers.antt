@@ -1,6 +1,6 @@
 use Rattle.std.proofs.Common.{Err, ap}
 use Rattle.std.proofs.lemmas.Result.{IfOk-weaker}
-use Rattle.bilv_spec.specs.Outcomes.{was_read}
+use Rattle.call_spec.specs.Calls.{was_read}
 use Rattle.cnf_solver.specs.Solutions.{large}
 use Rattle.cnf_solver.proofs.solve.obey.Goals as goal
 

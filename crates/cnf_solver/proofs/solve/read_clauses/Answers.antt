@@ -1,4 +1,4 @@
-use Rattle.bilv_spec.proofs.ReadClauses.{read_is_printable}
+use Rattle.clause_spec.proofs.ReadClauses.{read_is_printable}
 use Rattle.cnf_form.specs.Views.{cnf_of}
 use Rattle.cnf_solver.proofs.solve.read_clauses.Goals as goal
 

@@ -1,7 +1,7 @@
 use Rattle.std.proofs.Common.{◌∙◌, ap}
 use Rattle.std.proofs.lemmas.Result.{IfOk-weaker}
-use Rattle.bilv_spec.specs.Answers.{plain_answer}
-use Rattle.bilv_spec.proofs.RefutationSound.{refutation_sound}
+use Rattle.call_spec.specs.Calls.{plain_answer}
+use Rattle.clause_spec.proofs.RefutationSound.{refutation_sound}
 use Rattle.cnf_form.specs.Views.{lines_of}
 use Rattle.cnf_solver.specs.Solutions.{satisfiable_text, satisfiable, unsatisfiable, unknown}
 use Rattle.cnf_solver.proofs.solve.search.Goals as goal

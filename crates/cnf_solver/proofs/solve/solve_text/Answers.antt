@@ -1,6 +1,6 @@
 use Rattle.std.proofs.Common.{ap}
 use Rattle.std.proofs.lemmas.Result.{IfOk-weaker}
-use Rattle.bilv_spec.specs.Answers.{plain_answer}
+use Rattle.call_spec.specs.Calls.{plain_answer}
 use Rattle.cnf_form.specs.Faults.{fault_of}
 use Rattle.cnf_form.specs.Views.{cnf_of}
 use Rattle.cnf_solver.specs.Solutions.{refused, said}

@@ -1,5 +1,5 @@
 use Rattle.std.proofs.Common.{◌∙◌, arith}
-use Rattle.bilv_spec.specs.Rv.{rv32}
+use Rattle.machine_spec.specs.Rv.{rv32}
 use Rattle.condition_tests.proofs.Written.{written}
 use Rattle.condition_tests.proofs.starts.start_with.Goals as goal
 

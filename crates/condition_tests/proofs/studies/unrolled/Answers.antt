@@ -1,10 +1,10 @@
 use Rattle.std.proofs.Common.{arith, subst, sym, ◌<◌}
 use Rattle.std.specs.Prelude.{slice_index}
 use Rattle.std.proofs.lemmas.Result.{IfOk-weaker}
-use Rattle.bilv_spec.specs.Rv.{rv32}
-use Rattle.bilv_spec.specs.StateText.{rv_layout}
-use Rattle.bilv_spec.proofs.Fitted.{rv_is_fitted}
-use Rattle.bilv_spec.proofs.RvLawful.{rv_is_lawful}
+use Rattle.machine_spec.specs.Rv.{rv32}
+use Rattle.machine_spec.specs.StateText.{rv_layout}
+use Rattle.machine_spec.proofs.Fitted.{rv_is_fitted}
+use Rattle.machine_spec.proofs.RvLawful.{rv_is_lawful}
 use Rattle.notes_lang.specs.Drafting.{notes_of}
 use Rattle.verdict.proofs.Grounding.{unrolled_within}
 use Rattle.verdict.proofs.OneWay.{rv_has_one_way}

@@ -1,7 +1,7 @@
 use Rattle.std.proofs.Common.{◌++◌, ◌∷◌, [], List, ℕ, ap, ◌∙◌, codes, map}
 use Rattle.std.specs.Prelude.{if◌then◌else◌}
 use Rattle.std.specs.List.{flat_map}
-use Rattle.bilv_spec.specs.Texts.{spaced}
+use Rattle.word_spec.specs.Texts.{spaced}
 use Rattle.bilv_spec.specs.GraphText.{successor_words, kept_names, keeps_words}
 use Rattle.graph_nodes.specs.declared.nodes.Successor.{Successor}
 use Rattle.graph_nodes.specs.Graphs.{successor_of, successors_of, has_flag}

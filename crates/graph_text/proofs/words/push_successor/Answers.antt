@@ -1,5 +1,5 @@
 use Rattle.std.proofs.Common.{codes}
-use Rattle.bilv_spec.specs.Texts.{word_text}
+use Rattle.word_spec.specs.Texts.{word_text}
 use Rattle.bilv_spec.specs.GraphText.{letter_text}
 use Rattle.graph_nodes.specs.Graphs.{letter_of}
 use Rattle.graph_text.proofs.Texts.{four}

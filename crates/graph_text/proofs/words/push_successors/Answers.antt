@@ -1,6 +1,6 @@
 use Rattle.std.proofs.Common.{◌++◌, ap, ◌∙◌}
 use Rattle.std.specs.List.{flat_map}
-use Rattle.bilv_spec.specs.Texts.{spaced}
+use Rattle.word_spec.specs.Texts.{spaced}
 use Rattle.bilv_spec.specs.GraphText.{successor_words}
 use Rattle.graph_nodes.specs.declared.nodes.Letter.TheVariants.{Next}
 use Rattle.graph_nodes.specs.declared.nodes.Successor.{Successor}

@@ -1,5 +1,5 @@
 use Rattle.std.proofs.Common.{◌≡◌, take}
-use Rattle.bilv_spec.specs.Outside.{Absent}
+use Rattle.call_spec.specs.Outside.{Absent}
 use Rattle.io_edges.specs.Files.{held_by}
 use Rattle.io_edges.proofs.files.find_file.Given as goal
 

@@ -1,5 +1,5 @@
 use Rattle.std.proofs.Common.{◌≡◌, ℕ, ◌≤◌, ◌-◌, ◌^◌}
-use Rattle.bilv_spec.specs.Machine.{Machine}
+use Rattle.machine_spec.specs.Machine.{Machine}
 use Rattle.bilv_spec.specs.Files.{program_of}
 use Rattle.bilv_spec.specs.Points.{is_known_at}
 use Rattle.notes_lang.specs.Drafting.{notes_of}

@@ -1,5 +1,5 @@
 use Rattle.std.proofs.Common.{◌∙◌}
-use Rattle.bilv_spec.specs.Memory.{endian}
+use Rattle.word_spec.specs.Memory.{endian}
 use Rattle.lift_text.proofs.Written.{appended}
 use Rattle.lift_text.proofs.words.push_word.Goals as goal
 

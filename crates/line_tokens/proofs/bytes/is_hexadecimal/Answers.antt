@@ -1,6 +1,6 @@
 use Rattle.std.proofs.Common.{◌≡◌, ℕ, List, ap, sym, ◌∙◌, ◌-◌, length, take, drop, arith}
 use Rattle.std.proofs.lemmas.List.{take_all, length-drop}
-use Rattle.bilv_spec.specs.NotesGrammar.{run_of}
+use Rattle.word_spec.specs.Tokens.{run_of}
 use Rattle.line_tokens.proofs.Numbers.{hexadecimal_by}
 use Rattle.line_tokens.proofs.bytes.is_hexadecimal.Goals as goal
 

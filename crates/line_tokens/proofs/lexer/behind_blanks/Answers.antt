@@ -1,7 +1,8 @@
 use Rattle.std.proofs.Common.{◌≡◌, ℕ, List, ap, sym, ◌∙◌, ◌-◌, length, take, drop, arith}
 use Rattle.std.proofs.lemmas.List.{take_all, length-drop}
 use Rattle.std.specs.List.{prefix_len}
-use Rattle.bilv_spec.specs.NotesGrammar.{tokens_of, is_blank}
+use Rattle.word_spec.specs.Tokens.{tokens_of}
+use Rattle.word_spec.specs.Texts.{is_blank}
 use Rattle.line_tokens.proofs.Lexing
 use Rattle.line_tokens.proofs.lexer.behind_blanks.Goals as goal
 

@@ -1,7 +1,7 @@
 use Rattle.std.proofs.Common.{◌≡◌, ℕ, List, ap, sym, ◌∙◌, ◌-◌, ◌∷◌, map, length, take, drop, arith, nat_eq, false}
 use Rattle.std.proofs.lemmas.List.{take_all, length-drop}
 use Rattle.std.proofs.lemmas.Bool.Decides.{nat_tests}
-use Rattle.bilv_spec.specs.NotesGrammar.{tokens_of}
+use Rattle.word_spec.specs.Tokens.{tokens_of}
 use Rattle.line_tokens.specs.Tokens.{capped, token_of}
 use Rattle.line_tokens.proofs.Lexing.{next_left}
 use Rattle.line_tokens.proofs.lexer.next_token.Goals as goal

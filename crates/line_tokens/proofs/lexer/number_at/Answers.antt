@@ -1,6 +1,6 @@
 use Rattle.std.proofs.Common.{◌≡◌, ap, sym, ◌∙◌, length, take, drop, arith, List, ℕ, ◌-◌}
 use Rattle.std.proofs.lemmas.List.{take_all, length-drop}
-use Rattle.bilv_spec.specs.NotesGrammar.{run_of}
+use Rattle.word_spec.specs.Tokens.{run_of}
 use Rattle.line_tokens.specs.Tokens.{number_before}
 use Rattle.line_tokens.proofs.Numbers.{hexadecimal_token, decimal_token}
 use Rattle.line_tokens.proofs.lexer.number_at.Goals as goal

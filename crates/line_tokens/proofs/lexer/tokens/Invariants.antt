@@ -1,5 +1,5 @@
 use Rattle.std.proofs.Common.{◌≡◌, ◌++◌, map, length}
-use Rattle.bilv_spec.specs.NotesGrammar.{tokens_of}
+use Rattle.word_spec.specs.Tokens.{tokens_of}
 use Rattle.line_tokens.specs.Tokens.{token_of, capped}
 use Rattle.line_tokens.proofs.lexer.tokens.Given as goal
 

@@ -1,6 +1,6 @@
 use Rattle.std.proofs.Common.{◌≡◌, drop, map}
 use Rattle.std.specs.Prelude.{find}
-use Rattle.bilv_spec.specs.NotesGrammar.{begins_sign}
+use Rattle.word_spec.specs.Tokens.{begins_sign}
 use Rattle.line_tokens.specs.Tokens.{sign_text}
 use Rattle.line_tokens.proofs.sign.first_sign.Given as goal
 

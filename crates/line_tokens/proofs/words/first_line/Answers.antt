@@ -1,5 +1,5 @@
 use Rattle.std.proofs.Common.{ap, sym, ◌∙◌, ◌∷◌, take}
-use Rattle.bilv_spec.specs.Texts.{split_lines}
+use Rattle.word_spec.specs.Texts.{split_lines}
 use Rattle.line_tokens.proofs.Splitting.{lines_at, line_first, left_behind}
 use Rattle.line_tokens.proofs.words.first_line.Goals as goal
 

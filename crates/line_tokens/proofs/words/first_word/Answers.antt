@@ -1,7 +1,7 @@
 use Rattle.std.proofs.Common.{ℕ, List, ap, sym, ◌∙◌, ◌∷◌, [], ◌<◌, ◌-◌, ◌+◌, take, drop, length, arith}
 use Rattle.std.proofs.lemmas.List.{take_all, length-drop}
 use Rattle.std.specs.List.{prefix_len}
-use Rattle.bilv_spec.specs.Texts.{words_in}
+use Rattle.word_spec.specs.Texts.{words_in}
 use Rattle.line_tokens.specs.Words.{is_other}
 use Rattle.line_tokens.proofs.Splitting.{words_at, word_first, word_last}
 use Rattle.line_tokens.proofs.words.first_word.Goals as goal

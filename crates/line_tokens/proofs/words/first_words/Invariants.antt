@@ -1,5 +1,5 @@
 use Rattle.std.proofs.Common.{◌≡◌, ◌≤◌, ◌++◌, map, length}
-use Rattle.bilv_spec.specs.Texts.{words_in}
+use Rattle.word_spec.specs.Texts.{words_in}
 use Rattle.line_tokens.proofs.Splitting.{words_left, size_left}
 use Rattle.line_tokens.proofs.words.first_words.Given as goal
 

@@ -1,6 +1,6 @@
 use Rattle.std.proofs.Common.{◌+◌, ◌*◌, arith}
 use Rattle.std.specs.Prelude.{sum_by}
-use Rattle.bilv_spec.specs.Memory.{endian}
+use Rattle.word_spec.specs.Memory.{endian}
 use Rattle.mem_cells.specs.Pieces.{piece_gates}
 use Rattle.mem_cells.proofs.Growing.{grown_on, grown_more}
 use Rattle.mem_cells.proofs.Chains.{pieces_kept}

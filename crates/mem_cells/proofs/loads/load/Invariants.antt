@@ -1,6 +1,6 @@
 use Rattle.std.proofs.Common.{◌*◌, ◌+◌}
 use Rattle.std.specs.Prelude.{sum_by}
-use Rattle.bilv_spec.specs.Memory.{endian, load}
+use Rattle.word_spec.specs.Memory.{endian, load}
 use Rattle.walk_spec.specs.Terms.{term_word}
 use Rattle.mem_cells.specs.Pieces.{piece_gates}
 use Rattle.mem_cells.specs.Building.{Grown, IsOfMemory}

@@ -1,5 +1,5 @@
 use Rattle.std.proofs.Common.{◌≡◌, ◌+◌, ◌*◌, [], ◌∷◌, ◌++◌, List, length, refl, ap, sym, ◌∙◌, subst, arith, append_assoc}
-use Rattle.bilv_spec.specs.Memory.{endian}
+use Rattle.word_spec.specs.Memory.{endian}
 use Rattle.term_dag.proofs.ListLaws.{longer}
 use Rattle.mem_cells.specs.declared.pieces.StoredByte.{StoredByte}
 use Rattle.mem_cells.specs.Building.{IsWritten}

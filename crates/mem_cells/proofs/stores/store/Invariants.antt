@@ -1,5 +1,5 @@
 use Rattle.std.proofs.Common.{◌≡◌, ◌*◌, ◌+◌, List, ◌++◌, length}
-use Rattle.bilv_spec.specs.Memory.{endian}
+use Rattle.word_spec.specs.Memory.{endian}
 use Rattle.mem_cells.specs.declared.pieces.StoredByte.{StoredByte}
 use Rattle.mem_cells.specs.Building.{Grown, IsWritten}
 use Rattle.mem_cells.proofs.stores.store.Given as goal

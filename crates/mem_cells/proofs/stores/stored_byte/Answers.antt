@@ -1,5 +1,5 @@
 use Rattle.std.proofs.Common.{ap, sym, ◌∙◌}
-use Rattle.bilv_spec.specs.Memory.{endian, place}
+use Rattle.word_spec.specs.Memory.{endian, place}
 use Rattle.mem_cells.proofs.StoredWords.{extracted}
 use Rattle.mem_cells.proofs.stores.stored_byte.Goals as goal
 use Rattle.mem_cells.proofs.stores.stored_byte.Goals.{then-big, else-big}

@@ -1,4 +1,4 @@
-use Rattle.bilv_spec.specs.Rv.{rv32}
+use Rattle.machine_spec.specs.Rv.{rv32}
 use Rattle.middle_tests.proofs.Lifted.{has_row}
 use Rattle.middle_tests.proofs.lists.lifted.Goals as goal
 

@@ -1,5 +1,5 @@
 use Rattle.std.proofs.Common.{rules, ◌<◌, subst, sym, ap, ◌∙◌, arith}
-use Rattle.bilv_spec.specs.Memory as memory
+use Rattle.word_spec.specs.Memory as memory
 use Rattle.bilv_spec.specs.Notes as meaning
 use Rattle.notes_value.proofs.WrittenOut.{put_written}
 use Rattle.notes_value.specs.Views.{expr_of}

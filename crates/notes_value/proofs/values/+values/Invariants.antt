@@ -1,5 +1,5 @@
 use Rattle.std.proofs.Common.{◌-◌}
-use Rattle.bilv_spec.specs.Memory as memory
+use Rattle.word_spec.specs.Memory as memory
 use Rattle.notes_value.specs.Views.{expr_of}
 use Rattle.notes_value.proofs.Looped.{IsLeft}
 use Rattle.notes_value.proofs.values.+values.Given as goal

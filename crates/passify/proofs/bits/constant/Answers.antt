@@ -1,7 +1,7 @@
 use mir.Val.{bool_byte}
 use Rattle.std.proofs.Common.{Bool, true, false, refl, ◌≡◌, ℕ, List, ap, ◌∙◌}
 use Rattle.walk_spec.specs.Terms.{TermNode, ConstantNode}
-use Rattle.bilv_spec.specs.Words.{bit}
+use Rattle.word_spec.specs.Words.{bit}
 use Rattle.passify.specs.Bits.{Makes}
 use Rattle.walk_spec.specs.Passive.{Tells}
 use Rattle.term_dag.specs.Made.{IsInterned}

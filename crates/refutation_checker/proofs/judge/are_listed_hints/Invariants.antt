@@ -1,5 +1,5 @@
 use Rattle.std.proofs.Common.{◌≡◌, drop, map}
-use Rattle.bilv_spec.specs.Refutation.{is_listed, hint_size}
+use Rattle.clause_spec.specs.Refutation.{is_listed, hint_size}
 use Rattle.std.specs.List.{list_all}
 use Rattle.cnf_form.specs.Views.{hint_of}
 use Rattle.refutation_checker.proofs.judge.are_listed_hints.Given as goal

@@ -1,5 +1,5 @@
 use Rattle.std.proofs.Common.{◌≡◌, drop}
-use Rattle.bilv_spec.specs.Refutation.{is_listed}
+use Rattle.clause_spec.specs.Refutation.{is_listed}
 use Rattle.std.specs.List.{list_all}
 use Rattle.refutation_checker.proofs.judge.are_listed_ids.Given as goal
 

@@ -1,7 +1,7 @@
 use Rattle.std.proofs.Common.{◌≡◌, drop}
-use Rattle.bilv_spec.specs.Refutation.{is_listed}
+use Rattle.clause_spec.specs.Refutation.{is_listed}
 use Rattle.std.specs.List.{list_all}
-use Rattle.bilv_spec.specs.Clauses.{Literal}
+use Rattle.clause_spec.specs.Clauses.{Literal}
 use Rattle.refutation_checker.proofs.judge.are_listed_literals.Given as goal
 
 abbrev pub invariant-loop-lit : goal.invariant-loop-lit

@@ -1,5 +1,5 @@
 use Rattle.std.proofs.Common.{◌+◌, map, drop, drop-cons, add-one, sym, ◌∙◌}
-use Rattle.bilv_spec.proofs.Looks.{look-unit}
+use Rattle.clause_spec.proofs.Looks.{look-unit}
 use Rattle.cnf_form.specs.declared.form.Hint.TheVariants.{ById}
 use Rattle.cnf_form.specs.Views.{hint_of}
 use Rattle.refutation_checker.specs.Slots.{true_in}

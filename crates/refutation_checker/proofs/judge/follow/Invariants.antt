@@ -1,5 +1,5 @@
 use Rattle.std.proofs.Common.{◌≡◌, drop, map}
-use Rattle.bilv_spec.specs.Refutation.{judge_hints}
+use Rattle.clause_spec.specs.Refutation.{judge_hints}
 use Rattle.cnf_form.specs.Views.{hint_of}
 use Rattle.refutation_checker.specs.Slots.{true_in, AreUpTo}
 use Rattle.refutation_checker.specs.Entries.{look_up}

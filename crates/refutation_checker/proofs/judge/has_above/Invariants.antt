@@ -1,5 +1,5 @@
 use Rattle.std.proofs.Common.{◌≡◌, drop}
-use Rattle.bilv_spec.specs.Refutation.{some_above}
+use Rattle.clause_spec.specs.Refutation.{some_above}
 use Rattle.refutation_checker.proofs.judge.has_above.Given as goal
 
 abbrev pub invariant-loop-lit : goal.invariant-loop-lit

@@ -1,5 +1,5 @@
 use Rattle.std.proofs.Common.{◌≡◌, drop, map}
-use Rattle.bilv_spec.specs.Refutation.{some_negative}
+use Rattle.clause_spec.specs.Refutation.{some_negative}
 use Rattle.cnf_form.specs.Views.{hint_of}
 use Rattle.refutation_checker.proofs.judge.has_negative.Given as goal
 

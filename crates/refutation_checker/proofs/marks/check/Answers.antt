@@ -1,7 +1,7 @@
 use Rattle.std.proofs.Common.{sym, refl, ap, ◌<◌, Some, None, length, arith}
 use Rattle.std.proofs.lemmas.List.{drop_all}
-use Rattle.bilv_spec.specs.Refutation.{Known, first_refusal}
-use Rattle.bilv_spec.proofs.RefutationSound.{refutation_sound}
+use Rattle.clause_spec.specs.Refutation.{Known, first_refusal}
+use Rattle.clause_spec.proofs.RefutationSound.{refutation_sound}
 use Rattle.cnf_form.specs.Views.{lines_of}
 use Rattle.refutation_checker.specs.Answers.{cause_of}
 use Rattle.refutation_checker.specs.Known.{known_of}

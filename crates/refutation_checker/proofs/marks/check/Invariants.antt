@@ -1,5 +1,5 @@
 use Rattle.std.proofs.Common.{◌≡◌, ◌+◌, drop}
-use Rattle.bilv_spec.specs.Refutation.{refusal, first_refusal}
+use Rattle.clause_spec.specs.Refutation.{refusal, first_refusal}
 use Rattle.cnf_form.specs.Views.{cnf_of, lines_of}
 use Rattle.refutation_checker.specs.Known.{HaveTaken, known_of}
 use Rattle.refutation_checker.proofs.marks.check.Given as goal

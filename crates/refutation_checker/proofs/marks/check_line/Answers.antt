@@ -1,6 +1,6 @@
 use Rattle.std.proofs.Common.{sym, ◌∙◌, ap, refl, ◌≡◌, arith, ◌<◌, ◌-◌, length, map, false, not, option_map}
 use Rattle.std.proofs.lemmas.List.{with_items_is}
-use Rattle.bilv_spec.specs.Refutation.{Add, Delete}
+use Rattle.clause_spec.specs.Refutation.{Add, Delete}
 use Rattle.cnf_form.specs.Views.{cnf_of, lines_of, line_of, hint_of}
 use Rattle.refutation_checker.specs.Answers.{cause_of}
 use Rattle.refutation_checker.specs.Entries.{look_up}

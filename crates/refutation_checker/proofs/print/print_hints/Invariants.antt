@@ -1,6 +1,6 @@
 use Rattle.std.proofs.Common.{◌≡◌, ◌++◌, drop, map}
-use Rattle.bilv_spec.specs.Certificates.{to_zero, hint_text}
-use Rattle.bilv_spec.specs.Texts.{joined}
+use Rattle.clause_spec.specs.Certificates.{to_zero, hint_text}
+use Rattle.word_spec.specs.Texts.{joined}
 use Rattle.cnf_form.specs.Views.{hint_of}
 use Rattle.refutation_checker.proofs.print.print_hints.Given as goal
 

@@ -1,6 +1,6 @@
 use Rattle.std.proofs.Common.{◌≡◌, ◌++◌, drop, map}
-use Rattle.bilv_spec.specs.Texts.{number_text, joined}
-use Rattle.bilv_spec.specs.Certificates.{to_zero}
+use Rattle.word_spec.specs.Texts.{number_text, joined}
+use Rattle.clause_spec.specs.Certificates.{to_zero}
 use Rattle.refutation_checker.proofs.print.print_ids.Given as goal
 
 abbrev pub invariant-loop-id : goal.invariant-loop-id

@@ -1,6 +1,6 @@
 use Rattle.std.proofs.Common.{◌≡◌, ◌++◌, ◌∷◌, [], List, ℕ, map, sym, ◌∙◌, ap, append_assoc}
-use Rattle.bilv_spec.specs.Texts.{number_text, joined}
-use Rattle.bilv_spec.specs.Certificates.{literal_text, hint_text, to_zero, log_line}
+use Rattle.word_spec.specs.Texts.{number_text, joined}
+use Rattle.clause_spec.specs.Certificates.{literal_text, hint_text, to_zero, log_line}
 use Rattle.cnf_form.specs.Views.{hint_of, line_of}
 use Rattle.cnf_form.proofs.Ended.{added-line}
 use Rattle.refutation_checker.proofs.print.print_line.Goals as goal

@@ -1,6 +1,6 @@
 use Rattle.std.proofs.Common.{◌≡◌, ◌++◌, drop, map}
-use Rattle.bilv_spec.specs.Texts.{lines}
-use Rattle.bilv_spec.specs.Certificates.{log_line}
+use Rattle.word_spec.specs.Texts.{lines}
+use Rattle.clause_spec.specs.Certificates.{log_line}
 use Rattle.cnf_form.specs.Views.{line_of}
 use Rattle.refutation_checker.proofs.print.print_lrat.Given as goal
 

@@ -1,5 +1,5 @@
 use Rattle.std.proofs.Common.{sym, ◌∙◌, ap}
-use Rattle.bilv_spec.specs.CertificateGrammar.{is_ended}
+use Rattle.clause_spec.specs.CertificateGrammar.{is_ended}
 use Rattle.refutation_checker.specs.Readings.{read_as}
 use Rattle.refutation_checker.proofs.Lists.{without-zero, with-one-zero, with-more, with-unlisted}
 use Rattle.refutation_checker.proofs.read.addition.Goals as goal

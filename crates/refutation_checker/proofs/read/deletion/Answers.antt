@@ -1,5 +1,5 @@
 use Rattle.std.proofs.Common.{sym, ◌∙◌, not, ◌&&◌}
-use Rattle.bilv_spec.specs.CertificateGrammar.{is_ended, some_below}
+use Rattle.clause_spec.specs.CertificateGrammar.{is_ended, some_below}
 use Rattle.refutation_checker.proofs.Lists.{deleted-without-zero, deleted-with-more}
 use Rattle.refutation_checker.proofs.read.deletion.Goals as goal
 

@@ -1,5 +1,5 @@
 use Rattle.std.proofs.Common.{◌≡◌, drop}
-use Rattle.bilv_spec.specs.CertificateGrammar.{some_below}
+use Rattle.clause_spec.specs.CertificateGrammar.{some_below}
 use Rattle.refutation_checker.proofs.read.has_below.Given as goal
 
 abbrev pub invariant-loop-number : goal.invariant-loop-number

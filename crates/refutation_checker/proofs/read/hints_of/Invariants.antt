@@ -1,5 +1,5 @@
 use Rattle.std.proofs.Common.{◌≡◌, ◌++◌, drop, map}
-use Rattle.bilv_spec.specs.CertificateGrammar.{hint_of as hint_from}
+use Rattle.clause_spec.specs.CertificateGrammar.{hint_of as hint_from}
 use Rattle.cnf_form.specs.Views.{hint_of}
 use Rattle.refutation_checker.proofs.read.hints_of.Given as goal
 

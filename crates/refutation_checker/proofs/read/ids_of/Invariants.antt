@@ -1,5 +1,5 @@
 use Rattle.std.proofs.Common.{◌≡◌, ◌++◌, drop, map}
-use Rattle.bilv_spec.specs.CertificateGrammar.{Integer}
+use Rattle.clause_spec.specs.CertificateGrammar.{Integer}
 use Rattle.refutation_checker.proofs.read.ids_of.Given as goal
 
 abbrev pub invariant-loop-number : goal.invariant-loop-number

@@ -1,6 +1,6 @@
 use Rattle.std.proofs.Common.{◌≡◌, ◌++◌, map, length}
-use Rattle.bilv_spec.specs.StateText.{split_lines}
-use Rattle.bilv_spec.specs.CertificateGrammar.{log_of_lines}
+use Rattle.word_spec.specs.Texts.{split_lines}
+use Rattle.clause_spec.specs.CertificateGrammar.{log_of_lines}
 use Rattle.cnf_form.specs.Views.{line_of}
 use Rattle.refutation_checker.proofs.read.read_lrat.Given as goal
 

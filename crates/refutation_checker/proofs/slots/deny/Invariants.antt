@@ -1,7 +1,7 @@
 use Rattle.std.proofs.Common.{◌≡◌, take, false}
-use Rattle.bilv_spec.specs.Clauses.{Literal}
-use Rattle.bilv_spec.specs.UnitPropagation.{negations}
-use Rattle.bilv_spec.specs.Refutation.{is_tautology}
+use Rattle.clause_spec.specs.Clauses.{Literal}
+use Rattle.clause_spec.specs.UnitPropagation.{negations}
+use Rattle.clause_spec.specs.Refutation.{is_tautology}
 use Rattle.refutation_checker.specs.Slots.{true_in, AreUpTo}
 use Rattle.refutation_checker.proofs.slots.deny.Given as goal
 

@@ -1,5 +1,5 @@
 use Rattle.std.proofs.Common.{sym, ◌∙◌, ap, ◌≡◌}
-use Rattle.bilv_spec.specs.Clauses.{opposite}
+use Rattle.clause_spec.specs.Clauses.{opposite}
 use Rattle.refutation_checker.specs.Slots.{true_in}
 use Rattle.refutation_checker.proofs.Seen.{has-item, resume-false, resume-first, resume-same}
 use Rattle.refutation_checker.proofs.slots.look_at.Goals as goal

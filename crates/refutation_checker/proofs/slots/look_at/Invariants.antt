@@ -1,5 +1,5 @@
 use Rattle.std.proofs.Common.{◌≡◌, drop}
-use Rattle.bilv_spec.specs.Refutation.{look_of, left_over}
+use Rattle.clause_spec.specs.Refutation.{look_of, left_over}
 use Rattle.refutation_checker.specs.Slots.{true_in}
 use Rattle.refutation_checker.proofs.Seen.{resume, IsOpenIn}
 use Rattle.refutation_checker.proofs.slots.look_at.Given as goal

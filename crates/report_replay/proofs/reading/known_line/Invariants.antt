@@ -1,8 +1,8 @@
 use Rattle.std.proofs.Common.{◌≡◌, ℕ, ◌+◌, drop}
 use Rattle.bilv_spec.specs.Files.{program_of}
-use Rattle.bilv_spec.specs.Machine.{Machine}
+use Rattle.machine_spec.specs.Machine.{Machine}
 use Rattle.bilv_spec.specs.Points.{is_known_at}
-use Rattle.bilv_spec.specs.StateText.{Told}
+use Rattle.machine_spec.specs.StateText.{Told}
 use Rattle.state_text.specs.Readings.{told_but}
 use Rattle.notes_lang.specs.Drafting.{notes_of}
 use Rattle.report_replay.specs.Readings.{AreAlike}

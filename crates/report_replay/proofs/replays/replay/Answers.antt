@@ -1,9 +1,9 @@
 use Rattle.std.proofs.Common.{◌≡◌, IfOk, ◌≤◌, length, ap, ◌∙◌, subst, arith}
 use Rattle.bilv_spec.specs.Files.{program_of}
 use Rattle.bilv_spec.specs.Points.{is_known_at}
-use Rattle.bilv_spec.specs.StateText.{StateRefused}
-use Rattle.bilv_spec.specs.Answers.{Answer, plain_answer}
-use Rattle.bilv_spec.specs.Replays.{text_limit}
+use Rattle.machine_spec.specs.StateText.{StateRefused}
+use Rattle.call_spec.specs.Calls.{Answer, plain_answer}
+use Rattle.clause_spec.specs.Checks.{text_limit}
 use Rattle.state_text.specs.Starts as states
 use Rattle.state_text.specs.Readings.{fault_of}
 use Rattle.notes_lang.specs.Drafting.{notes_of}

@@ -1,6 +1,6 @@
 use Rattle.std.proofs.Common.{◌≡◌, IfOk, subst}
 use Rattle.bilv_spec.specs.EntryFaults.{IsEntryStateFault}
-use Rattle.bilv_spec.specs.Answers.{Answer, plain_answer}
+use Rattle.call_spec.specs.Calls.{Answer, plain_answer}
 use Rattle.bilv_spec.specs.Replays.{found_of}
 use Rattle.table_run.specs.Endings.{fault_of}
 use Rattle.table_run.specs.declared.ending.EntryFault.{EntryFault}

@@ -1,6 +1,6 @@
 use Rattle.std.proofs.Common.{◌≡◌, IfOk, sym, subst, ◌∙◌}
 use Rattle.std.specs.Prelude.{Bool}
-use Rattle.bilv_spec.specs.Answers.{plain_answer}
+use Rattle.call_spec.specs.Calls.{plain_answer}
 use Rattle.bilv_spec.specs.Replays.{ending_answer}
 use Rattle.state_text.specs.Starts.{named_of}
 use Rattle.table_run.specs.Endings.{found_of}

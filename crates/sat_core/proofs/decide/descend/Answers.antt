@@ -1,10 +1,10 @@
 use Rattle.std.proofs.Common.{◌≡◌, ◌+◌, ◌≤◌, ◌-◌, ◌∙◌, List, [], ◌∷◌, length, length-append, take, arith, sym, ap, refl}
 use Rattle.std.specs.Prelude.{reverse}
-use Rattle.bilv_spec.specs.Clauses.{Literal, same, opposite}
-use Rattle.bilv_spec.specs.UnitPropagation.{negations}
-use Rattle.bilv_spec.proofs.AcceptedLines.{given-conflict}
-use Rattle.bilv_spec.proofs.Looks.{or_right}
-use Rattle.bilv_spec.proofs.RefutationSound.{get-contains}
+use Rattle.clause_spec.specs.Clauses.{Literal, same, opposite}
+use Rattle.clause_spec.specs.UnitPropagation.{negations}
+use Rattle.clause_spec.proofs.AcceptedLines.{given-conflict}
+use Rattle.clause_spec.proofs.Looks.{or_right}
+use Rattle.clause_spec.proofs.RefutationSound.{get-contains}
 use Rattle.sat_core.specs.declared.trail.Step.{Step}
 use Rattle.sat_core.specs.Links.{no_watch}
 use Rattle.sat_core.specs.Tables.{true_in}

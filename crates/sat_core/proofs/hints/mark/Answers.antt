@@ -1,5 +1,5 @@
 use Rattle.std.proofs.Common.{◌<◌, length, arith, true, false, get_or, slice_set, ap, ◌∙◌, sym, inl, inr}
-use Rattle.bilv_spec.specs.Clauses.{Literal}
+use Rattle.clause_spec.specs.Clauses.{Literal}
 use Rattle.sat_core.proofs.Literals.{has-item, has-taken}
 use Rattle.sat_core.proofs.Backwards.{set-stays, set-self}
 use Rattle.sat_core.proofs.hints.mark.Goals as goal

@@ -1,5 +1,5 @@
 use Rattle.std.proofs.Common.{◌≡◌, ℕ, true, false, take, get_or}
-use Rattle.bilv_spec.specs.Clauses.{Literal, has}
+use Rattle.clause_spec.specs.Clauses.{Literal, has}
 use Rattle.sat_core.proofs.hints.mark.Given as goal
 
 abbrev pub invariant-loop-lit : goal.invariant-loop-lit

@@ -1,7 +1,7 @@
 use Rattle.std.proofs.Common.{◌≡◌, ◌<◌, ◌-◌, ◌∙◌, sym, ap, subst, length, arith, rules, map, [], List, refl, false, get_or, vec_len}
 use Rattle.std.specs.Prelude.{reverse}
 use Rattle.std.proofs.lemmas.Option.{slice_get_within}
-use Rattle.bilv_spec.proofs.RefutationSound.{get-contains}
+use Rattle.clause_spec.proofs.RefutationSound.{get-contains}
 use Rattle.cnf_form.specs.Views.{hint_of}
 use Rattle.sat_core.specs.declared.trail.Step.{Step}
 use Rattle.sat_core.specs.Steps.{told}

@@ -1,6 +1,6 @@
 use Rattle.std.proofs.Common.{◌≤◌, ◌<◌, ◌∙◌, ap, arith, subst, inl, inr}
 use Rattle.std.proofs.lemmas.List.{take_all}
-use Rattle.bilv_spec.specs.Clauses.{Literal, Clause, has}
+use Rattle.clause_spec.specs.Clauses.{Literal, Clause, has}
 use Rattle.sat_core.proofs.Literals.{has-taken}
 use Rattle.sat_core.proofs.learn.are_over.Goals as goal
 

@@ -1,5 +1,5 @@
 use Rattle.std.proofs.Common.{◌≡◌, ◌≤◌, ◌<◌, true, take}
-use Rattle.bilv_spec.specs.Clauses.{Literal, has}
+use Rattle.clause_spec.specs.Clauses.{Literal, has}
 use Rattle.sat_core.proofs.learn.are_over.Given as goal
 
 abbrev pub invariant-loop-lit : goal.invariant-loop-lit

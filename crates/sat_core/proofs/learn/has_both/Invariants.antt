@@ -1,5 +1,5 @@
 use Rattle.std.proofs.Common.{◌≡◌, drop}
-use Rattle.bilv_spec.specs.Refutation.{is_tautology}
+use Rattle.clause_spec.specs.Refutation.{is_tautology}
 use Rattle.sat_core.proofs.learn.has_both.Given as goal
 
 abbrev pub invariant-loop-i : goal.invariant-loop-i

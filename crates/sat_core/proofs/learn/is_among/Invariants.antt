@@ -1,5 +1,5 @@
 use Rattle.std.proofs.Common.{◌≡◌, drop}
-use Rattle.bilv_spec.specs.Clauses.{has}
+use Rattle.clause_spec.specs.Clauses.{has}
 use Rattle.sat_core.proofs.learn.is_among.Given as goal
 
 abbrev pub invariant-loop-other : goal.invariant-loop-other

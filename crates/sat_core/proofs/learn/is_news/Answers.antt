@@ -1,7 +1,7 @@
 use Rattle.std.proofs.Common.{◌<◌, ◌-◌, ◌∙◌, length, take, ap, sym, arith, rules}
-use Rattle.bilv_spec.specs.Clauses.{Clause, has}
-use Rattle.bilv_spec.specs.UnitPropagation.{negations}
-use Rattle.bilv_spec.specs.Refutation.{is_tautology}
+use Rattle.clause_spec.specs.Clauses.{Clause, has}
+use Rattle.clause_spec.specs.UnitPropagation.{negations}
+use Rattle.clause_spec.specs.Refutation.{is_tautology}
 use Rattle.std.proofs.lemmas.Bool.{not-true}
 use Rattle.sat_core.specs.Tables.{true_in}
 use Rattle.sat_core.proofs.Literals.{has-item, last-front, plain-front, split-last, same-last}

@@ -1,5 +1,5 @@
 use Rattle.std.proofs.Common.{◌≡◌, ◌∙◌, length}
-use Rattle.bilv_spec.specs.Clauses.{Literal}
+use Rattle.clause_spec.specs.Clauses.{Literal}
 use Rattle.sat_core.specs.Kept.{IsKept, IsNeeded}
 use Rattle.sat_core.proofs.Learning.{learned-useful}
 use Rattle.sat_core.proofs.Shorter.{hints-follow}

@@ -1,6 +1,6 @@
 use Rattle.std.proofs.Common.{◌∙◌, ap, refl, subst, inl, inr}
 use Rattle.std.proofs.lemmas.List.{take_all}
-use Rattle.bilv_spec.specs.Clauses.{Literal, Clause, has}
+use Rattle.clause_spec.specs.Clauses.{Literal, Clause, has}
 use Rattle.sat_core.specs.Kept.{others, IsNeeded}
 use Rattle.sat_core.proofs.Literals.{others-part, others-plain, has-taken}
 use Rattle.sat_core.proofs.Shorter.{kept-drop, needed-drop, needed-dropped, needed-stays}

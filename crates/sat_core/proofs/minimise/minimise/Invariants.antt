@@ -1,5 +1,5 @@
 use Rattle.std.proofs.Common.{◌≡◌, [], true, length, take}
-use Rattle.bilv_spec.specs.Clauses.{Literal, has}
+use Rattle.clause_spec.specs.Clauses.{Literal, has}
 use Rattle.sat_core.specs.Kept.{IsKept, IsNeeded}
 use Rattle.sat_core.specs.Propagators.{IsSound}
 use Rattle.sat_core.proofs.minimise.minimise.Given as goal

@@ -1,7 +1,7 @@
 use Rattle.std.proofs.Common.{◌≡◌, ◌∙◌, ◌-◌, arith, sym, ap, length, length-drop, take, drop}
 use Rattle.std.specs.Prelude.{reverse}
 use Rattle.std.proofs.lemmas.List.{take_all}
-use Rattle.bilv_spec.specs.UnitPropagation.{negations}
+use Rattle.clause_spec.specs.UnitPropagation.{negations}
 use Rattle.sat_core.specs.Tables.{true_in}
 use Rattle.sat_core.specs.Steps.{IsWay}
 use Rattle.sat_core.proofs.Closing.{run-way}

@@ -1,9 +1,9 @@
 use Rattle.std.proofs.Common.{◌≡◌, ◌<◌, ◌∙◌, sym, rules, length, get_or, below_more}
 use Rattle.std.proofs.lemmas.Option.{slice_get_within}
-use Rattle.bilv_spec.specs.Clauses.{same}
-use Rattle.bilv_spec.specs.Refutation.{look_of}
-use Rattle.bilv_spec.proofs.Looks.{look-unit, same-self, or_left, or_right}
-use Rattle.bilv_spec.proofs.RefutationSound.{get-contains}
+use Rattle.clause_spec.specs.Clauses.{same}
+use Rattle.clause_spec.specs.Refutation.{look_of}
+use Rattle.clause_spec.proofs.Looks.{look-unit, same-self, or_left, or_right}
+use Rattle.clause_spec.proofs.RefutationSound.{get-contains}
 use Rattle.sat_core.specs.declared.trail.Step.{Step}
 use Rattle.sat_core.specs.Tables.{true_in}
 use Rattle.sat_core.proofs.Backwards.{clause-read}

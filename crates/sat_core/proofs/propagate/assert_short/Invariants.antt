@@ -1,5 +1,5 @@
 use Rattle.std.proofs.Common.{◌≡◌, ◌<◌, ℕ, length, get_or, vec_capacity}
-use Rattle.bilv_spec.specs.UnitPropagation.{Includes}
+use Rattle.clause_spec.specs.UnitPropagation.{Includes}
 use Rattle.sat_core.specs.Tables.{true_in}
 use Rattle.sat_core.specs.Trails.{IsTrail, IsRun}
 use Rattle.sat_core.specs.Moves.{IsMetAt}

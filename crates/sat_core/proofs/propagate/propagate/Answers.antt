@@ -1,10 +1,10 @@
 use Rattle.std.proofs.Common.{◌<◌, ◌≤◌, ◌+◌, ◌∙◌, ap, sym, arith, length, length-append, take, []}
 use Rattle.std.specs.Prelude.{reverse}
 use Rattle.std.proofs.lemmas.List.{take_all, take-append-le}
-use Rattle.bilv_spec.specs.Clauses.{Literal, opposite}
-use Rattle.bilv_spec.specs.UnitPropagation.{Includes}
-use Rattle.bilv_spec.specs.Refutation.{added}
-use Rattle.bilv_spec.proofs.NewClauses.{opposite_twice}
+use Rattle.clause_spec.specs.Clauses.{Literal, opposite}
+use Rattle.clause_spec.specs.UnitPropagation.{Includes}
+use Rattle.clause_spec.specs.Refutation.{added}
+use Rattle.clause_spec.proofs.NewClauses.{opposite_twice}
 use Rattle.sat_core.specs.Tables.{true_in}
 use Rattle.sat_core.specs.Steps.{told}
 use Rattle.sat_core.specs.Trails.{nothing}

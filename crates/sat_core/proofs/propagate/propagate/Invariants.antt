@@ -1,7 +1,7 @@
 use Rattle.std.proofs.Common.{◌≡◌, ◌≤◌, ◌-◌, Bool, [], length, take, vec_capacity}
 use Rattle.std.specs.Prelude.{reverse}
-use Rattle.bilv_spec.specs.Clauses.{Literal}
-use Rattle.bilv_spec.specs.UnitPropagation.{Includes}
+use Rattle.clause_spec.specs.Clauses.{Literal}
+use Rattle.clause_spec.specs.UnitPropagation.{Includes}
 use Rattle.sat_core.specs.Tables.{true_in}
 use Rattle.sat_core.specs.Steps.{told}
 use Rattle.sat_core.specs.Trails.{nothing, IsTrail, IsRun}

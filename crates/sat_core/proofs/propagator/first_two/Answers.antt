@@ -1,5 +1,5 @@
 use Rattle.std.proofs.Common.{◌∙◌, ap, sym, inl, inr}
-use Rattle.bilv_spec.specs.Clauses.{same}
+use Rattle.clause_spec.specs.Clauses.{same}
 use Rattle.sat_core.proofs.Literals.{has-item, has-taken}
 use Rattle.sat_core.proofs.propagator.first_two.Goals as goal
 

@@ -1,5 +1,5 @@
 use Rattle.std.proofs.Common.{◌≡◌, true, take}
-use Rattle.bilv_spec.specs.Clauses.{Literal, same, has}
+use Rattle.clause_spec.specs.Clauses.{Literal, same, has}
 use Rattle.sat_core.proofs.propagator.first_two.Given as goal
 
 abbrev pub invariant-loop-lit : goal.invariant-loop-lit

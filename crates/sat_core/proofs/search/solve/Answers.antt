@@ -2,7 +2,7 @@ use Rattle.std.proofs.Common.{◌≡◌, ◌+◌, ◌-◌, ◌≤◌, ◌^◌, �
 use Rattle.std.proofs.lemmas.List.{length-map}
 use Rattle.std.proofs.lemmas.Bool.{both_ways}
 use Rattle.std.specs.Prelude.{◌==◌}
-use Rattle.bilv_spec.specs.Refutation.{first_refusal, known_at_start}
+use Rattle.clause_spec.specs.Refutation.{first_refusal, known_at_start}
 use Rattle.cnf_form.specs.Views.{line_of}
 use Rattle.sat_core.specs.declared.trail.Trail.{Trail}
 use Rattle.sat_core.proofs.Logs.{searched-start, searched-step, searched-end, searched-spent, line-pushed}

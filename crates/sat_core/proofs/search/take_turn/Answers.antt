@@ -1,5 +1,5 @@
 use Rattle.std.proofs.Common.{◌≡◌, ◌+◌, ◌-◌, length, arith}
-use Rattle.bilv_spec.specs.Clauses.{AreOnVariables}
+use Rattle.clause_spec.specs.Clauses.{AreOnVariables}
 use Rattle.sat_core.proofs.Places.{count-values, table-satisfies}
 use Rattle.sat_core.proofs.Learning.{learned-useful}
 use Rattle.sat_core.proofs.search.take_turn.Goals as goal

@@ -1,6 +1,6 @@
 use Rattle.std.proofs.Common.{◌≡◌, drop}
 use Rattle.std.specs.List.{list_all}
-use Rattle.bilv_spec.specs.Clauses.{clause_value, valuation}
+use Rattle.clause_spec.specs.Clauses.{clause_value, valuation}
 use Rattle.sat_core.proofs.settle.are_satisfied.Given as goal
 
 abbrev pub invariant-loop-clause : goal.invariant-loop-clause

@@ -1,5 +1,5 @@
 use Rattle.std.proofs.Common.{◌≡◌, drop}
-use Rattle.bilv_spec.specs.Clauses.{clause_value, valuation}
+use Rattle.clause_spec.specs.Clauses.{clause_value, valuation}
 use Rattle.sat_core.proofs.settle.is_satisfied.Given as goal
 
 abbrev pub invariant-loop-lit : goal.invariant-loop-lit

@@ -1,5 +1,5 @@
 use Rattle.std.proofs.Common.{sym, ◌∙◌, ap, ◌≡◌, arith}
-use Rattle.bilv_spec.specs.Clauses.{opposite}
+use Rattle.clause_spec.specs.Clauses.{opposite}
 use Rattle.sat_core.specs.Tables.{true_in}
 use Rattle.sat_core.proofs.Literals.{has-item}
 use Rattle.sat_core.proofs.Seen.{resume-false, resume-first, resume-same}

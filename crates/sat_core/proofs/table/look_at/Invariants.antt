@@ -1,5 +1,5 @@
 use Rattle.std.proofs.Common.{◌≡◌, drop}
-use Rattle.bilv_spec.specs.Refutation.{look_of, left_over}
+use Rattle.clause_spec.specs.Refutation.{look_of, left_over}
 use Rattle.sat_core.specs.Tables.{true_in}
 use Rattle.sat_core.proofs.Seen.{resume, IsOpenIn}
 use Rattle.sat_core.proofs.table.look_at.Given as goal

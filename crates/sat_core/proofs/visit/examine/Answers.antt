@@ -1,6 +1,6 @@
 use Rattle.std.proofs.Common.{◌∙◌, ap, sym, ◌/◌, length}
 use Rattle.std.specs.Prelude.{slice_index}
-use Rattle.bilv_spec.specs.Clauses.{Clause, has}
+use Rattle.clause_spec.specs.Clauses.{Clause, has}
 use Rattle.sat_core.specs.declared.trail.Step.{Step}
 use Rattle.sat_core.specs.Tables.{true_in}
 use Rattle.sat_core.specs.Links.{mate, watched_at}

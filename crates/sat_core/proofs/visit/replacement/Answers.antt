@@ -1,6 +1,6 @@
 use Rattle.std.proofs.Common.{◌∙◌, ap, sym, inl, inr, arith}
 use Rattle.std.proofs.lemmas.Bool.{both_ways}
-use Rattle.bilv_spec.specs.Clauses.{Literal, same, opposite}
+use Rattle.clause_spec.specs.Clauses.{Literal, same, opposite}
 use Rattle.sat_core.specs.Tables.{true_in}
 use Rattle.sat_core.proofs.Literals.{has-item, has-taken}
 use Rattle.sat_core.proofs.visit.replacement.Goals as goal

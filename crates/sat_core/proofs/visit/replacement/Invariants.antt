@@ -1,5 +1,5 @@
 use Rattle.std.proofs.Common.{◌≡◌, true, false, take}
-use Rattle.bilv_spec.specs.Clauses.{Literal, same, opposite, has}
+use Rattle.clause_spec.specs.Clauses.{Literal, same, opposite, has}
 use Rattle.sat_core.specs.Tables.{true_in}
 use Rattle.sat_core.proofs.visit.replacement.Given as goal
 

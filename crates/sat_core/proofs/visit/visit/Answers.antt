@@ -1,8 +1,8 @@
 use Rattle.std.proofs.Common.{◌≡◌, ◌<◌, ◌*◌, ◌/◌, true, refl, sym, ap, ◌∙◌, length}
 use Rattle.std.proofs.lemmas.List.{length-set}
 use Rattle.std.specs.Prelude.{slice_index}
-use Rattle.bilv_spec.specs.Clauses.{opposite}
-use Rattle.bilv_spec.proofs.Looks.{same-true}
+use Rattle.clause_spec.specs.Clauses.{opposite}
+use Rattle.clause_spec.proofs.Looks.{same-true}
 use Rattle.sat_core.specs.Tables.{true_in}
 use Rattle.sat_core.specs.Links.{place}
 use Rattle.sat_core.proofs.Chains.{place-same}

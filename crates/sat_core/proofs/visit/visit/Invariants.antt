@@ -1,6 +1,6 @@
 use Rattle.std.proofs.Common.{◌≡◌, Bool, [], length, vec_capacity}
-use Rattle.bilv_spec.specs.Clauses.{Literal}
-use Rattle.bilv_spec.specs.UnitPropagation.{Includes}
+use Rattle.clause_spec.specs.Clauses.{Literal}
+use Rattle.clause_spec.specs.UnitPropagation.{Includes}
 use Rattle.sat_core.specs.Tables.{true_in}
 use Rattle.sat_core.specs.Trails.{IsTrail, IsRun}
 use Rattle.sat_core.specs.Links.{IsPlaced, AreKept}

@@ -1,5 +1,5 @@
 use Rattle.std.proofs.Common.{string_bytes}
-use Rattle.bilv_spec.specs.Texts.{number_text}
+use Rattle.word_spec.specs.Texts.{number_text}
 use Rattle.smtlib_print.proofs.Printed.{on_text, rooted}
 use Rattle.smtlib_print.proofs.definitions.push_root.Goals as goal
 

@@ -1,5 +1,5 @@
 use Rattle.std.proofs.Common.{string_bytes, ap, ◌*◌}
-use Rattle.bilv_spec.specs.Memory.{endian}
+use Rattle.word_spec.specs.Memory.{endian}
 use Rattle.smtlib_print.proofs.Printed.{on_ok, pushed, byte_stored}
 use Rattle.smtlib_print.proofs.terms.+push_store.Goals as goal
 

@@ -1,6 +1,6 @@
 use Rattle.std.proofs.Common.{string_bytes, [], ◌∷◌, ◌++◌}
 use Rattle.std.specs.Prelude.{codes}
-use Rattle.bilv_spec.specs.Texts.{number_text}
+use Rattle.word_spec.specs.Texts.{number_text}
 use Rattle.smtlib_print.proofs.Printed.{on_text, closed}
 use Rattle.smtlib_print.proofs.terms.push_signed.Goals as goal
 

@@ -1,5 +1,5 @@
 use Rattle.std.proofs.Common.{◌≡◌, ◌%◌, take}
-use Rattle.bilv_spec.specs.StateText.{number_of_bits}
+use Rattle.machine_spec.specs.StateText.{number_of_bits}
 use Rattle.state_text.proofs.draft.flags_of.Given as goal
 
 abbrev pub invariant-loop-bit : goal.invariant-loop-bit

@@ -1,6 +1,6 @@
 use Rattle.std.proofs.Common.{◌≡◌, ℕ, ◌+◌, ◌∷◌, Bool, Some, ap, ◌∙◌, map, length}
-use Rattle.bilv_spec.specs.Texts.{split_lines}
-use Rattle.bilv_spec.specs.StateText.{StateRegisterFault, StateLineFault, StateRefused, StateIs, NamedLine, line_of, lines_of_head, told_of, state_of}
+use Rattle.word_spec.specs.Texts.{split_lines}
+use Rattle.machine_spec.specs.StateText.{StateRegisterFault, StateLineFault, StateRefused, StateIs, NamedLine, line_of, lines_of_head, told_of, state_of}
 use Rattle.state_text.specs.Starts.{layout_of, named_of, text_of}
 use Rattle.state_text.specs.declared.start.NamedEnding.{NamedEnding}
 use Rattle.state_text.proofs.Judging.{none}

@@ -1,7 +1,7 @@
 use Rattle.std.proofs.Common.{ℕ, refl, ap, ◌∙◌, ◌++◌, ◌+◌, ◌-◌}
-use Rattle.bilv_spec.specs.Words.{bit_at}
-use Rattle.bilv_spec.specs.Texts.{line}
-use Rattle.bilv_spec.specs.StateText.{RegisterLine, register_lines, flag_bits}
+use Rattle.word_spec.specs.Words.{bit_at}
+use Rattle.word_spec.specs.Texts.{line}
+use Rattle.machine_spec.specs.StateText.{RegisterLine, register_lines, flag_bits}
 use Rattle.state_text.specs.Starts.{layout_of, line_text, lines_text}
 use Rattle.state_text.proofs.Appends.{two}
 use Rattle.state_text.proofs.Printing.{flags_more}

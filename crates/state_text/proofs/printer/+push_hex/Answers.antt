@@ -1,5 +1,5 @@
 use Rattle.std.proofs.Common.{◌≡◌, ap, ◌∙◌, ◌++◌, ◌-◌, ◌/◌, ◌%◌, ◌∷◌, []}
-use Rattle.bilv_spec.specs.Texts.{hex_digit, hex_digits}
+use Rattle.word_spec.specs.Texts.{hex_digit, hex_digits}
 use Rattle.state_text.proofs.Appends.{two, hex_more}
 use Rattle.state_text.proofs.printer.+push_hex.Goals as goal
 

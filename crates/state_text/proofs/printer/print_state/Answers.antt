@@ -1,8 +1,8 @@
 use Rattle.std.proofs.Common.{ap, ◌∙◌, ◌++◌, [], length, map, codes}
-use Rattle.bilv_spec.specs.Texts.{line}
-use Rattle.bilv_spec.specs.Reports.{named_line}
-use Rattle.bilv_spec.specs.StateText as texts
-use Rattle.bilv_spec.specs.StateText.{MachineLine, ByteLine, ChoiceLine, register_lines, flag_bits}
+use Rattle.word_spec.specs.Texts.{line}
+use Rattle.machine_spec.specs.Endings.{named_line}
+use Rattle.machine_spec.specs.StateText as texts
+use Rattle.machine_spec.specs.StateText.{MachineLine, ByteLine, ChoiceLine, register_lines, flag_bits}
 use Rattle.state_text.specs.Starts.{layout_of, line_text, lines_text, text_of}
 use Rattle.state_text.proofs.Appends.{seven}
 use Rattle.state_text.proofs.Printing.{whole_by}

@@ -1,5 +1,5 @@
 use Rattle.std.proofs.Common.{codes}
-use Rattle.bilv_spec.specs.Texts.{word_text, byte_text}
+use Rattle.word_spec.specs.Texts.{word_text, byte_text}
 use Rattle.state_text.proofs.Appends.{five}
 use Rattle.state_text.proofs.printer.push_byte_line.Goals as goal
 

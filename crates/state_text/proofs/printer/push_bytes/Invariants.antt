@@ -1,5 +1,5 @@
 use Rattle.std.proofs.Common.{◌≡◌, ◌++◌, drop, map}
-use Rattle.bilv_spec.specs.StateText.{Layout, ByteLine}
+use Rattle.machine_spec.specs.StateText.{Layout, ByteLine}
 use Rattle.state_text.specs.Starts.{lines_text}
 use Rattle.state_text.proofs.printer.push_bytes.Given as goal
 

@@ -1,4 +1,4 @@
-use Rattle.bilv_spec.specs.StateText.{ChoiceLine}
+use Rattle.machine_spec.specs.StateText.{ChoiceLine}
 use Rattle.state_text.proofs.Printing.{next_line}
 use Rattle.std.proofs.Common.{◌++◌, map}
 use Rattle.state_text.specs.Starts.{lines_text}

@@ -1,5 +1,5 @@
 use Rattle.std.proofs.Common.{◌≡◌, ◌++◌, drop, map}
-use Rattle.bilv_spec.specs.StateText.{Layout, ChoiceLine}
+use Rattle.machine_spec.specs.StateText.{Layout, ChoiceLine}
 use Rattle.state_text.specs.Starts.{lines_text}
 use Rattle.state_text.proofs.printer.push_choices.Given as goal
 

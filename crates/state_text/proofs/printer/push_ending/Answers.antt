@@ -1,6 +1,6 @@
 use Rattle.std.proofs.Common.{ap, sym, ◌∙◌, ◌++◌, codes}
-use Rattle.bilv_spec.specs.Texts.{joined, number_text}
-use Rattle.bilv_spec.specs.Reports.{event_words, place_words, named_line}
+use Rattle.word_spec.specs.Texts.{joined, number_text}
+use Rattle.machine_spec.specs.Endings.{event_words, place_words, named_line}
 use Rattle.state_text.specs.Starts.{event_of, named_of}
 use Rattle.state_text.specs.declared.start.NamedEnding.{NamedEnding}
 use Rattle.state_text.proofs.Appends.{four, fails_line}

@@ -1,5 +1,5 @@
 use Rattle.std.proofs.Common.{◌≡◌, ◌++◌, drop}
-use Rattle.bilv_spec.specs.StateText.{register_lines}
+use Rattle.machine_spec.specs.StateText.{register_lines}
 use Rattle.state_text.specs.Starts.{layout_of, lines_text}
 use Rattle.state_text.proofs.printer.push_registers.Given as goal
 

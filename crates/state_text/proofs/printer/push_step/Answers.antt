@@ -1,5 +1,5 @@
 use Rattle.std.proofs.Common.{ap, sym, ◌∙◌, ◌++◌, codes, append-nil}
-use Rattle.bilv_spec.specs.Texts.{word_text, number_text}
+use Rattle.word_spec.specs.Texts.{word_text, number_text}
 use Rattle.state_text.proofs.Appends.{four}
 use Rattle.state_text.proofs.printer.push_step.Goals as goal
 

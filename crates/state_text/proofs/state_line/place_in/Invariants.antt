@@ -1,6 +1,6 @@
 use Rattle.std.proofs.Common.{◌≡◌, ◌+◌, drop, map}
 use Rattle.std.specs.Option.{option_map}
-use Rattle.bilv_spec.specs.StateText.{place_in}
+use Rattle.machine_spec.specs.StateText.{place_in}
 use Rattle.state_text.proofs.state_line.place_in.Given as goal
 
 abbrev pub invariant-loop-place : goal.invariant-loop-place

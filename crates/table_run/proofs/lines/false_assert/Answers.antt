@@ -1,5 +1,5 @@
 use Rattle.std.proofs.Common.{◌<◌, length, subst, arith}
-use Rattle.bilv_spec.specs.Memory.{endian}
+use Rattle.word_spec.specs.Memory.{endian}
 use Rattle.notes_index.specs.Indexed.{ArePlacesOf, assert_places}
 use Rattle.table_run.proofs.Hits.{no_assert, some_assert}
 use Rattle.table_run.proofs.lines.false_assert.Goals as goal

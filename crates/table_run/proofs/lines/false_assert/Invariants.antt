@@ -1,5 +1,5 @@
 use Rattle.std.proofs.Common.{◌≡◌, ℕ, ◌≤◌, ◌<◌, length, get_or, true, false}
-use Rattle.bilv_spec.specs.Memory.{endian}
+use Rattle.word_spec.specs.Memory.{endian}
 use Rattle.notes_lang.specs.declared.notes.Assert.{Assert}
 use Rattle.table_run.specs.Asserts.{is_hit}
 use Rattle.table_run.proofs.lines.false_assert.Given as goal

@@ -1,6 +1,6 @@
 use Rattle.std.proofs.Common.{◌≡◌, ◌≤◌, ◌<◌, ◌-◌}
 use Rattle.std.specs.Prelude.{reverse}
-use Rattle.bilv_spec.specs.Memory.{byte_in}
+use Rattle.word_spec.specs.Memory.{byte_in}
 use Rattle.bilv_spec.specs.Run.{run, Going}
 use Rattle.table_run.specs.Programs.{program_of}
 use Rattle.table_run.proofs.runs.follow.Given as goal

@@ -1,5 +1,5 @@
 use Rattle.std.proofs.Common.{◌≡◌, ◌-◌, ◌∙◌, refl}
-use Rattle.bilv_spec.specs.Memory.{byte_in}
+use Rattle.word_spec.specs.Memory.{byte_in}
 use Rattle.bilv_spec.specs.Files.{program_of}
 use Rattle.bilv_spec.specs.Reports.{turns_within}
 use Rattle.bilv_spec.specs.Answers.{start_in}

@@ -1,8 +1,8 @@
 use Rattle.std.proofs.Common.{◌≡◌, ℕ, List, map, subst}
-use Rattle.bilv_spec.specs.Words.{word}
-use Rattle.bilv_spec.specs.Memory.{memory_of}
+use Rattle.word_spec.specs.Words.{word}
+use Rattle.word_spec.specs.Memory.{memory_of}
 use Rattle.bilv_spec.specs.Files.{program_of}
-use Rattle.bilv_spec.specs.StateText.{known_or}
+use Rattle.machine_spec.specs.StateText.{known_or}
 use Rattle.state_text.specs.Starts.{written_of}
 use Rattle.notes_lang.specs.Drafting.{notes_of, fixed_of}
 use Rattle.known_bytes.specs.Known.{given}

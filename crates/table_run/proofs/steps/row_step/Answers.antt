@@ -1,7 +1,7 @@
 use Rattle.std.proofs.Common.{sym, ◌∙◌, ap, subst, ℕ}
 use Rattle.std.specs.Prelude.{reverse, Option}
 use Rattle.std.specs.List.{list_any}
-use Rattle.bilv_spec.specs.Machine.{addresses}
+use Rattle.machine_spec.specs.Machine.{addresses}
 use Rattle.bilv_spec.specs.Elf.{loaded, is_kept}
 use Rattle.byte_mem.specs.declared.StepOut.{StepOut}
 use Rattle.table_run.specs.Programs.{program_of}

@@ -1,6 +1,6 @@
 use Rattle.std.proofs.Common.{◌≡◌, ◌-◌, ℕ}
 use Rattle.std.specs.List.{list_any}
-use Rattle.bilv_spec.specs.Memory.{span}
+use Rattle.word_spec.specs.Memory.{span}
 use Rattle.bilv_spec.specs.Elf.{loaded, is_kept}
 use Rattle.table_run.proofs.words.any_kept.Given as goal
 

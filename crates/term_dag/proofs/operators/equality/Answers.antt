@@ -1,6 +1,6 @@
 use Rattle.std.proofs.Common.{ap, sym, arith}
 use Rattle.std.specs.Prelude.{◌==◌}
-use Rattle.bilv_spec.specs.Words as words
+use Rattle.word_spec.specs.Words as words
 use Rattle.term_dag.proofs.WordFolds.{same_fold, moved_onto}
 use Rattle.term_dag.proofs.operators.equality.Goals as goal
 

@@ -1,5 +1,5 @@
 use Rattle.std.proofs.Common.{refl, ap, sym, ◌∙◌}
-use Rattle.bilv_spec.specs.Bil.{Plus}
+use Rattle.machine_spec.specs.Bil.{Plus}
 use Rattle.walk_spec.specs.Terms.{BinaryNode}
 use Rattle.term_dag.specs.Nodes.{op_of}
 use Rattle.term_dag.proofs.Shapes.{binary_sides, own_sum, sum_of}

@@ -1,7 +1,7 @@
 use Rattle.std.proofs.Common.{◌≡◌, refl, sym, ◌∙◌, Bool, true, false}
 use mir.Val.{bool_byte}
 use Rattle.std.specs.Int.Bits.{and_self, or_self}
-use Rattle.bilv_spec.specs.Words as words
+use Rattle.word_spec.specs.Words as words
 use Rattle.term_dag.proofs.Ranges.{word_fits}
 use Rattle.term_dag.proofs.WordFolds.{fixed_bit}
 use Rattle.term_dag.proofs.operators.with_itself.Goals as goal

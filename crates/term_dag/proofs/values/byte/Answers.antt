@@ -1,6 +1,6 @@
 use Rattle.std.proofs.Common.{◌≡◌, ℕ, ◌+◌, ◌%◌, ◌^◌, ◌<◌, refl, ap, subst, ◌∙◌, arith}
 use Rattle.std.proofs.Math.Facts.{Fits-of_lt}
-use Rattle.bilv_spec.specs.Memory.{byte_in}
+use Rattle.word_spec.specs.Memory.{byte_in}
 use Rattle.term_dag.specs.Readings.{reading_of}
 use Rattle.term_dag.proofs.Bytes.{entry_byte, address_within, in_store, past_store, store_before, first_before, second_before, join_first, join_second, no_bytes, in_range}
 use Rattle.term_dag.proofs.Ranges.{word_fits}

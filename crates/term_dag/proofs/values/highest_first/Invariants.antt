@@ -1,6 +1,6 @@
 use Rattle.std.proofs.Common.{◌≡◌, ◌<◌, ◌^◌}
-use Rattle.bilv_spec.specs.Words.{add}
-use Rattle.bilv_spec.specs.Memory.{big}
+use Rattle.word_spec.specs.Words.{add}
+use Rattle.word_spec.specs.Memory.{big}
 use Rattle.walk_spec.specs.Terms.{term_value}
 use Rattle.term_dag.specs.Nodes.{nodes_of}
 use Rattle.term_dag.specs.Readings.{reading_of}

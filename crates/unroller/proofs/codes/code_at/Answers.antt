@@ -1,6 +1,6 @@
 use Rattle.std.proofs.Common.{◌≡◌, ap, sym, ◌∙◌, arith, Some, None, ◌<◌, ◌^◌}
 use Rattle.bilv_spec.specs.Files.{program_of}
-use Rattle.bilv_spec.specs.Machine.{Row, Cost}
+use Rattle.machine_spec.specs.Machine.{Row, Cost}
 use Rattle.bilv_spec.specs.Run.{Program}
 use Rattle.unroller.proofs.codes.code_at.Goals as goal
 use Rattle.unroller.proofs.Coded.{word_row, lifted_code}

@@ -1,7 +1,7 @@
 use Rattle.std.proofs.Common.{◌≡◌, ap, sym, ◌∙◌, subst, arith, ◌<◌, ◌^◌, List}
 use Rattle.bilv_spec.specs.Files.{program_of}
-use Rattle.bilv_spec.specs.Machine.{Cost}
-use Rattle.bilv_spec.specs.MachineLaws.{IsLifting}
+use Rattle.machine_spec.specs.Machine.{Cost}
+use Rattle.machine_spec.specs.MachineLaws.{IsLifting}
 use Rattle.bilv_spec.specs.Run.{Program}
 use Rattle.bil_ast.specs.declared.statements.Stmt.{Stmt}
 use Rattle.bil_ast.specs.Views.{statements}

@@ -1,5 +1,5 @@
 use Rattle.std.proofs.Common.{refl}
-use Rattle.bilv_spec.specs.Questions.{FailQuestion, TurnQuestion}
+use Rattle.call_spec.specs.Calls.{FailQuestion, TurnQuestion}
 use Rattle.question_form.specs.Views.{unrolled_of}
 use Rattle.verdict.specs.Functions.{program_of_function}
 use Rattle.verdict.specs.declared.verdicts.Answered.TheVariants.{Sat}

@@ -1,5 +1,5 @@
 use Rattle.std.proofs.Common.{◌≡◌, ◌-◌, ◌^◌, ◌<◌, length, sym, ◌∙◌, ap}
-use Rattle.bilv_spec.specs.Words.{bit, complement}
+use Rattle.word_spec.specs.Words.{bit, complement}
 use Rattle.word_gates.specs.Numbers.{number}
 use Rattle.word_gates.proofs.Words.{number_below}
 use Rattle.word_gates.proofs.Sums.{difference_modulo}

@@ -1,5 +1,5 @@
 use Rattle.std.proofs.Common.{◌≡◌, ◌-◌, ◌^◌, ◌<◌, length, ◌∙◌, ap}
-use Rattle.bilv_spec.specs.Words.{bit}
+use Rattle.word_spec.specs.Words.{bit}
 use Rattle.word_gates.specs.Numbers.{number}
 use Rattle.word_gates.proofs.Constants.{zero_word}
 use Rattle.word_gates.proofs.Words.{number_below}

@@ -1,12 +1,11 @@
-use Rattle.std.proofs.Common.{◌≡◌, ◌+◌, ◌-◌, ◌*◌, ◌^◌, ◌<◌, ◌++◌, cond, [], ◌∷◌, length, take, drop, get_or, refl, sym, ◌∙◌, ap, arith}
-use Rattle.bilv_spec.specs.Words.{bit}
+use Rattle.std.proofs.Common.{◌≡◌, ◌+◌, ◌-◌, ◌*◌, ◌^◌, ◌<◌, ◌++◌, cond, [], ◌∷◌, length, take, drop, get_or, refl, sym, ◌∙◌, ap, arith, length-take, length-drop}
+use Rattle.word_spec.specs.Words.{bit}
 use Rattle.gates.specs.Circuits.{IsBit, bit_value}
 use Rattle.gates.proofs.Netlists.{grows_none, grows_then}
 use Rattle.word_gates.specs.Numbers.{number, digit}
 use Rattle.word_gates.proofs.Words.{no_bit, within_none, within_drop, pow_more, number_push_at, number_more, number_below, number_split, number_from, rest_is, word_push, word_then}
 use Rattle.std.proofs.lemmas.Nat.{pow-add}
 use Rattle.std.proofs.lemmas.Grind.{common_steps}
-use Rattle.std.proofs.Common.{length-take, length-drop}
 use Rattle.std.proofs.lemmas.List.{take_all}
 use Rattle.word_gates.proofs.Constants.{zero_word}
 use Rattle.word_gates.proofs.Sums.{row_step, product_modulo, nothing}

@@ -1,5 +1,5 @@
 use Rattle.std.proofs.Common.{◌≡◌, ◌+◌, ◌-◌, ◌*◌, ◌^◌, ◌<◌, ◌++◌, [], ◌∷◌, length, drop, get_or, refl, sym, ◌∙◌, ap, arith, length-append}
-use Rattle.bilv_spec.specs.Words.{complement}
+use Rattle.word_spec.specs.Words.{complement}
 use Rattle.gates.specs.Circuits.{next, bit_value, variable_of}
 use Rattle.gates.proofs.Netlists.{grows_none}
 use Rattle.word_gates.specs.Numbers.{number}

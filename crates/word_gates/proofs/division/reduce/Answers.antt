@@ -1,5 +1,5 @@
 use Rattle.std.proofs.Common.{◌≡◌, ◌+◌, ◌-◌, ◌*◌, ◌%◌, ◌^◌, ◌<◌, length, take, ap, arith}
-use Rattle.bilv_spec.specs.Words.{bit}
+use Rattle.word_spec.specs.Words.{bit}
 use Rattle.word_gates.specs.Numbers.{number, digit}
 use Rattle.word_gates.proofs.Words.{number_below, number_take, half_pow}
 use Rattle.word_gates.proofs.division.reduce.Goals as goal

@@ -1,5 +1,5 @@
 use Rattle.std.proofs.Common.{◌≡◌, ◌-◌, ◌^◌, ◌<◌, length, get_or, refl, sym, ◌∙◌, ap}
-use Rattle.bilv_spec.specs.Words.{is_negative, magnitude, with_sign}
+use Rattle.word_spec.specs.Words.{is_negative, magnitude, with_sign}
 use Rattle.gates.specs.Circuits.{bit_value}
 use Rattle.word_gates.specs.Numbers.{number}
 use Rattle.word_gates.proofs.Words.{no_bit, number_below}

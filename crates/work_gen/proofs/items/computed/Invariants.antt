@@ -1,6 +1,6 @@
 use Rattle.std.proofs.Common.{◌≡◌, ◌++◌, ◌+◌, ◌<◌, ◌^◌, length}
-use Rattle.bilv_spec.specs.Work as made
-use Rattle.bilv_spec.specs.Work.{item_words, result_from}
+use Rattle.command_spec.specs.Work as made
+use Rattle.command_spec.specs.Work.{item_words, result_from}
 use Rattle.work_gen.proofs.items.computed.Given as goal
 
 abbrev pub invariant-loop-left : goal.invariant-loop-left

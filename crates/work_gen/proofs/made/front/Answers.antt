@@ -1,5 +1,5 @@
 use Rattle.std.proofs.Common.{◌+◌, ◌∷◌, ◌++◌, [], codes, ◌∙◌, ap}
-use Rattle.bilv_spec.specs.Texts.{spaced, number_text, word_text}
+use Rattle.word_spec.specs.Texts.{spaced, number_text, word_text}
 use Rattle.work_gen.proofs.Appends.{nine_texts, front_is}
 use Rattle.work_gen.proofs.made.front.Goals as goal
 

@@ -1,5 +1,5 @@
 use Rattle.std.proofs.Common.{◌∷◌, ◌++◌, [], codes, ◌∙◌, ap}
-use Rattle.bilv_spec.specs.Texts.{lines, spaced, number_text, word_text}
+use Rattle.word_spec.specs.Texts.{lines, spaced, number_text, word_text}
 use Rattle.work_gen.proofs.Appends.{seven_texts, notes_are}
 use Rattle.work_gen.proofs.made.notes.Goals as goal
 

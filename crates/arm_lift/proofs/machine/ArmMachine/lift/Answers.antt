@@ -1,8 +1,8 @@
 use Rattle.std.proofs.Common.{IfOk, subst}
-use Rattle.bilv_spec.specs.Arm.{arm, profile_of}
-use Rattle.bilv_spec.specs.Memory.{Endian}
-use Rattle.bilv_spec.specs.Bil.{RRegisters}
-use Rattle.bilv_spec.specs.MachineLaws.{IsLifting}
+use Rattle.machine_spec.specs.Arm.{arm, profile_of}
+use Rattle.word_spec.specs.Memory.{Endian}
+use Rattle.machine_spec.specs.Bil.{RRegisters}
+use Rattle.machine_spec.specs.MachineLaws.{IsLifting}
 use Rattle.bil_ast.specs.Views.{statements}
 use Rattle.arm_decode.specs.Insns.{row_of}
 use Rattle.byte_mem.specs.Views.{endian_of}

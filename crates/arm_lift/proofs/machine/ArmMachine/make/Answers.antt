@@ -1,8 +1,8 @@
 use Rattle.std.proofs.Common.{ℕ, ap, ◌∙◌}
-use Rattle.bilv_spec.specs.Memory.{memory_of}
-use Rattle.bilv_spec.specs.State.{State}
-use Rattle.bilv_spec.specs.Arm.{profile_of}
-use Rattle.bilv_spec.specs.Words.{bit_at}
+use Rattle.word_spec.specs.Memory.{memory_of}
+use Rattle.word_spec.specs.State.{State}
+use Rattle.machine_spec.specs.Arm.{profile_of}
+use Rattle.word_spec.specs.Words.{bit_at}
 use Rattle.arm_step.specs.RegisterFile.{registers_of}
 use Rattle.arm_lift.specs.Orders.{order_of}
 use Rattle.arm_lift.proofs.Starts.{registers_are}

@@ -1,6 +1,6 @@
 use Rattle.std.proofs.Common.{◌∙◌, ℕ, List, ap}
-use Rattle.bilv_spec.specs.Memory.{memory_of}
-use Rattle.bilv_spec.specs.State.{State}
+use Rattle.word_spec.specs.Memory.{memory_of}
+use Rattle.word_spec.specs.State.{State}
 use Rattle.arm_step.specs.Parts.{flags_of}
 use Rattle.arm_step.specs.RegisterFile.{registers_of}
 use Rattle.arm_step.proofs.state.State.new.Goals as goal

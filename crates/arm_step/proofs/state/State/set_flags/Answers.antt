@@ -1,5 +1,5 @@
 use Rattle.std.proofs.Common.{ℕ, ap}
-use Rattle.bilv_spec.specs.State.{State}
+use Rattle.word_spec.specs.State.{State}
 use Rattle.arm_step.specs.States.{state_of}
 use Rattle.arm_step.proofs.ReadRegisters.{all_flags}
 use Rattle.arm_step.proofs.state.State.set_flags.Goals as goal

@@ -1,7 +1,7 @@
 use Rattle.std.proofs.Common.{◌∙◌, ◌*◌, ◌%◌, ◌^◌, ◌<◌, ap, subst, sym}
-use Rattle.bilv_spec.specs.Memory.{Memory, memory_of, store}
-use Rattle.bilv_spec.specs.State.{State}
-use Rattle.bilv_spec.proofs.WordBounds.{stored_below}
+use Rattle.word_spec.specs.Memory.{Memory, memory_of, store}
+use Rattle.word_spec.specs.State.{State}
+use Rattle.machine_spec.proofs.WordBounds.{stored_below}
 use Rattle.byte_mem.specs.Views.{endian_of}
 use Rattle.byte_mem.proofs.Numbers.{store_cut}
 use Rattle.arm_step.specs.States.{state_of}

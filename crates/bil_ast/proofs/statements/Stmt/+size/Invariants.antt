@@ -1,5 +1,5 @@
 use Rattle.std.proofs.Common.{◌≡◌, ◌+◌, ◌-◌, ◌^◌, ◌<◌, min, drop}
-use Rattle.bilv_spec.specs.Bil.{list_size}
+use Rattle.machine_spec.specs.Bil.{list_size}
 use Rattle.bil_ast.specs.Views.{statements}
 use Rattle.bil_ast.proofs.statements.Stmt.+size.Given as goal
 

@@ -1,5 +1,5 @@
 use Rattle.std.proofs.Common.{◌≡◌, arith, ap, ◌∙◌, subst}
-use Rattle.bilv_spec.specs.Outside.{Absent}
+use Rattle.call_spec.specs.Outside.{Absent}
 use Rattle.io_edges.specs.Counts.{one_more}
 use Rattle.io_edges.specs.Files.{held_by}
 use Rattle.io_edges.specs.Places.{IsPlace}

@@ -1,8 +1,8 @@
 use Rattle.std.proofs.Common.{sym, ◌∙◌, ap, refl, ◌≡◌, arith, ◌<◌, ◌≤◌, ◌+◌, ◌++◌, length, false, vec_len, ℕ, List}
 use Rattle.std.specs.List.{Contains}
-use Rattle.bilv_spec.specs.Clauses.{Clause}
+use Rattle.clause_spec.specs.Clauses.{Clause}
 use Rattle.std.proofs.lemmas.List.{take_all}
-use Rattle.bilv_spec.specs.Refutation.{at_start, Present}
+use Rattle.clause_spec.specs.Refutation.{at_start, Present}
 use Rattle.cnf_form.specs.Views.{lines_of}
 use Rattle.refutation_checker.specs.Entries.{look_up}
 use Rattle.refutation_checker.specs.Occurrences.{variables_in, variables_added}

@@ -1,5 +1,5 @@
 use Rattle.std.proofs.Common.{◌≡◌, ℕ, ◌≤◌, take, get_or, vec_len, vec_capacity}
-use Rattle.bilv_spec.specs.Refutation.{at_start}
+use Rattle.clause_spec.specs.Refutation.{at_start}
 use Rattle.refutation_checker.specs.Entries.{look_up, ids_of, IsRising}
 use Rattle.refutation_checker.proofs.marks.Marks.new.Given as goal
 

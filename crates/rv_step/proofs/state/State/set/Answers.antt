@@ -1,6 +1,6 @@
 use Rattle.std.proofs.Common.{ℕ, ap}
-use Rattle.bilv_spec.specs.State.{State}
-use Rattle.bilv_spec.specs.Memory.{memory_of}
+use Rattle.word_spec.specs.State.{State}
+use Rattle.word_spec.specs.Memory.{memory_of}
 use Rattle.rv_step.proofs.state.State.set.Goals as goal
 
 pub returns-clause-state : goal.returns-clause-state

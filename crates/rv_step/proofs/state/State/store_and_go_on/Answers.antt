@@ -1,7 +1,7 @@
 use Rattle.std.proofs.Common.{◌∙◌, ◌+◌, ◌*◌, ◌%◌, ◌^◌, ◌<◌, ap, subst, sym}
-use Rattle.bilv_spec.specs.Memory.{Memory, Little, memory_of, store}
-use Rattle.bilv_spec.specs.State.{State}
-use Rattle.bilv_spec.proofs.WordBounds.{stored_below}
+use Rattle.word_spec.specs.Memory.{Memory, Little, memory_of, store}
+use Rattle.word_spec.specs.State.{State}
+use Rattle.machine_spec.proofs.WordBounds.{stored_below}
 use Rattle.byte_mem.proofs.Numbers.{store_cut}
 use Rattle.rv_step.specs.RegisterFile.{registers_of}
 use Rattle.rv_step.proofs.state.State.store_and_go_on.Goals as goal

@@ -1,6 +1,6 @@
 use Rattle.std.proofs.Common.{◌∙◌, ap, sym, arith, refl}
-use Rattle.bilv_spec.specs.Clauses.{opposite}
-use Rattle.bilv_spec.proofs.NewClauses.{opposite_twice}
+use Rattle.clause_spec.specs.Clauses.{opposite}
+use Rattle.clause_spec.proofs.NewClauses.{opposite_twice}
 use Rattle.sat_core.specs.Tables.{true_in}
 use Rattle.sat_core.proofs.Literals.{has-item, not-behind, denied-more, added-same}
 use Rattle.sat_core.proofs.trail.Trail.deny.Goals as goal

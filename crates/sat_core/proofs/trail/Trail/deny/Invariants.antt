@@ -1,6 +1,6 @@
 use Rattle.std.proofs.Common.{◌≡◌, length, take, vec_capacity}
-use Rattle.bilv_spec.specs.Clauses.{Literal}
-use Rattle.bilv_spec.specs.UnitPropagation.{negations}
+use Rattle.clause_spec.specs.Clauses.{Literal}
+use Rattle.clause_spec.specs.UnitPropagation.{negations}
 use Rattle.sat_core.specs.Tables.{true_in}
 use Rattle.sat_core.specs.Trails.{IsTrail}
 use Rattle.sat_core.proofs.trail.Trail.deny.Given as goal

@@ -1,6 +1,6 @@
 use Rattle.std.proofs.Common.{◌∙◌, ap, sym, arith, inl, inr}
-use Rattle.bilv_spec.specs.Clauses.{Literal, same, opposite}
-use Rattle.bilv_spec.proofs.Looks.{same-self, or_left, or_right}
+use Rattle.clause_spec.specs.Clauses.{Literal, same, opposite}
+use Rattle.clause_spec.proofs.Looks.{same-self, or_left, or_right}
 use Rattle.sat_core.specs.Tables.{true_in}
 use Rattle.sat_core.proofs.Literals.{has-item, has-taken}
 use Rattle.sat_core.proofs.Stepping.{steps-more}

@@ -1,6 +1,6 @@
 use Rattle.std.proofs.Common.{◌≡◌, ◌++◌, List, true, length, take, vec_capacity}
-use Rattle.bilv_spec.specs.Clauses.{Literal, opposite, has}
-use Rattle.bilv_spec.specs.UnitPropagation.{Includes}
+use Rattle.clause_spec.specs.Clauses.{Literal, opposite, has}
+use Rattle.clause_spec.specs.UnitPropagation.{Includes}
 use Rattle.sat_core.specs.declared.trail.Step.{Step}
 use Rattle.sat_core.specs.Tables.{true_in}
 use Rattle.sat_core.specs.Trails.{IsTrail}

@@ -1,6 +1,6 @@
 use Rattle.std.proofs.Common.{ap, sym}
 use Rattle.std.specs.Fmt.{digits}
-use Rattle.bilv_spec.specs.StateText.{value_names}
+use Rattle.machine_spec.specs.StateText.{value_names}
 use Rattle.state_text.specs.Starts.{layout_of}
 use Rattle.state_text.specs.declared.layout.Layout.{Layout}
 use Rattle.state_text.proofs.layout.Layout.names.Goals as goal

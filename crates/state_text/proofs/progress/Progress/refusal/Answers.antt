@@ -1,5 +1,5 @@
 use Rattle.std.proofs.Common.{ap, sym, ◌∙◌, false}
-use Rattle.bilv_spec.specs.StateText.{line_refusal}
+use Rattle.machine_spec.specs.StateText.{line_refusal}
 use Rattle.state_text.specs.Starts.{layout_of}
 use Rattle.state_text.specs.Lines.{line_said}
 use Rattle.state_text.specs.declared.state_line.StateLine.{StateLine}

@@ -1,5 +1,0 @@
-use Rattle.answer_laws.proofs.RunEnds.{runs_end_within}
-use Rattle.answer_laws.proofs.runs.runs_end_within.Goals as goal
-
-pub returns : goal.returns
-returns c = runs_end_within

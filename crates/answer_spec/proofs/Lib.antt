@@ -1,0 +1,3 @@
+pub mod AnswersOnce
+pub mod Replayed
+pub mod WorkSamples

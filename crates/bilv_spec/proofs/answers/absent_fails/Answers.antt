@@ -1,5 +1,0 @@
-use Rattle.bilv_spec.proofs.AnswersOnce.{absent_fails}
-use Rattle.bilv_spec.proofs.answers.absent_fails.Goals as goal
-
-pub returns : goal.returns
-returns c = absent_fails

@@ -1,5 +1,0 @@
-use Rattle.bilv_spec.proofs.EntryOnce.{one_entry_fault}
-use Rattle.bilv_spec.proofs.answers.one_entry_fault.Goals as goal
-
-pub returns : goal.returns
-returns c = one_entry_fault

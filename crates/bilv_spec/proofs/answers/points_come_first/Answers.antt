@@ -1,5 +1,0 @@
-use Rattle.bilv_spec.proofs.AnswersOnce.{points_come_first}
-use Rattle.bilv_spec.proofs.answers.points_come_first.Goals as goal
-
-pub returns : goal.returns
-returns c = points_come_first

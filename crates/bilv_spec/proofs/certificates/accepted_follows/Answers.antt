@@ -1,5 +1,0 @@
-use Rattle.bilv_spec.proofs.AcceptedLines.{accepted_follows}
-use Rattle.bilv_spec.proofs.certificates.accepted_follows.Goals as goal
-
-pub returns : goal.returns
-returns c = accepted_follows

@@ -1,5 +1,0 @@
-use Rattle.bilv_spec.proofs.NewClauses.{empowering_is_new}
-use Rattle.bilv_spec.proofs.certificates.empowering_is_new.Goals as goal
-
-pub returns : goal.returns
-returns c = empowering_is_new

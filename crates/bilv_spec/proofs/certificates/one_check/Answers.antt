@@ -1,5 +1,0 @@
-use Rattle.bilv_spec.proofs.OneCheck.{one_check}
-use Rattle.bilv_spec.proofs.certificates.one_check.Goals as goal
-
-pub returns : goal.returns
-returns c = one_check

@@ -1,5 +1,0 @@
-use Rattle.bilv_spec.proofs.AcceptedCertificates.{printed_is_accepted}
-use Rattle.bilv_spec.proofs.certificates.printed_is_accepted.Goals as goal
-
-pub returns : goal.returns
-returns c = printed_is_accepted

@@ -1,5 +1,0 @@
-use Rattle.bilv_spec.proofs.PrintedClauses.{read_again}
-use Rattle.bilv_spec.proofs.certificates.read_again.Goals as goal
-
-pub returns : goal.returns
-returns c = read_again

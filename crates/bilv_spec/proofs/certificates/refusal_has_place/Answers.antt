@@ -1,5 +1,0 @@
-use Rattle.bilv_spec.proofs.Refusals.{refusal_has_place}
-use Rattle.bilv_spec.proofs.certificates.refusal_has_place.Goals as goal
-
-pub returns : goal.returns
-returns c = refusal_has_place

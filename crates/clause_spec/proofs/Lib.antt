@@ -1,0 +1,12 @@
+pub mod Looks
+pub mod RefutationSound
+pub mod Refusals
+pub mod CertificateSamples
+pub mod PrintedWords
+pub mod PrintedLogs
+pub mod PrintedClauses
+pub mod AcceptedCertificates
+pub mod ReadClauses
+pub mod AcceptedLines
+pub mod OneCheck
+pub mod NewClauses

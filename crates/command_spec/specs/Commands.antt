@@ -1,0 +1,28 @@
+-- The commands.
+use Rattle.std.specs.Prelude.{ℕ, ◌<◌, ◌≤◌, ◌^◌, List, codes}
+use Rattle.call_spec.specs.Calls.{Question, Options, Budget, IsBudget}
+use Rattle.word_spec.specs.Texts.{line}
+
+-- a command, its files by their names: options of the machine stand first
+pub data Command : Type 0 where
+  Verify : Options → (elf notes : List ℕ) → Budget → Command
+  Lift : Options → (elf : List ℕ) → Command
+  Graph : Options → (elf notes : List ℕ) → Command
+  Script : Options → (elf notes : List ℕ) → Question → Budget → Command
+  Replay : Options → (elf notes state : List ℕ) → Command
+  Certify : Options → (elf notes : List ℕ) → Question → Budget → Command
+  Check : (certificate : List ℕ) → Command
+  SelfRun : (seed count : ℕ) → Command
+  Upgrade : Options → (elf notes : List ℕ) → Command
+
+-- the numbers that a command may have
+abbrev pub IsLawfulCommand : Command → Type 0
+IsLawfulCommand (Verify o elf notes b) = IsBudget b
+IsLawfulCommand (Script o elf notes kind b) = IsBudget b
+IsLawfulCommand (Certify o elf notes kind b) = IsBudget b
+IsLawfulCommand (SelfRun seed count) = (seed < 2 ^ 31) × (1 ≤ count) × (count ≤ 16000)
+IsLawfulCommand other = Unit {0}
+
+-- the usage
+abbrev pub usage_text : List ℕ
+usage_text = line (codes "usage: bilv verify|lift|graph|smt|replay|cert|check|selfrun|upgrade")

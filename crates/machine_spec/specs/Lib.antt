@@ -1,0 +1,17 @@
+pub mod Machine
+pub mod Rv
+pub mod Arm
+pub mod StateText
+pub mod Bil
+pub mod BilTyping
+pub mod BilMeaning
+pub mod BilStores
+pub mod BilCounts
+pub mod BilText
+pub mod BilLaws
+pub mod Simulation
+pub mod MachineLaws
+pub mod RvMachineLaws
+pub mod ArmMachineLaws
+pub mod TableLaws
+pub mod Endings

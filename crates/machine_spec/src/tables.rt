@@ -1,0 +1,14 @@
+//! Laws of the tables of rows.
+ghost use Rattle.machine_spec.specs.TableLaws.{ArmOneRow, RvOneRow};
+
+/// No word is of two lines of the RV32IM table.
+#[tactic(auto, using(crate::proofs::RvTable::one_row))]
+pub fn rv_one_row()
+    ensures { RvOneRow }
+{}
+
+/// No word is of two lines of the ARM table of a profile.
+#[tactic(auto, using(crate::proofs::ArmTable::one_row))]
+pub fn arm_one_row()
+    ensures { ArmOneRow }
+{}
