@@ -2,6 +2,8 @@
 use Rattle.std.proofs.Common.{◌≡◌, ℕ, zero, suc, ◌+◌, ◌%◌, ◌<◌, ◌≤◌, refl, ap, sym, ◌∙◌, subst, arith, Bool, true, false, List, [], ◌++◌, Option, Some, None, length}
 use Rattle.std.specs.Prelude.{◌==◌, nat_lt, nat_le, codes}
 use Rattle.std.proofs.lemmas.Bool.Decides.{nat_tests}
+use Rattle.std.proofs.lemmas.Bool.{eq-eqb}
+use Rattle.machine_spec.specs.Machine.{is_place, unit}
 use Rattle.std.proofs.Math.Numerals.{add-one}
 use Rattle.bilv_spec.specs.Verdict.{IsEntryState}
 use Rattle.bilv_spec.specs.Points.{is_known_at}
@@ -145,7 +147,7 @@ same_events (EnsureFails n) = same_number n
 run_replays : (p : Program) (n : NamedEnding) (start : Start) → IsEntryState p start.state → is_found n (found_of p n start) ≡ true →
     run_answer p n start ≡ plain_answer 0 (line (codes "replayed " ++ named_line n))
 run_replays p n start entry is_found =
-    let link : (start.state.regs p.machine.link % 4 == 0) ≡ true = grind (arith, nat_tests, entry.link) in
+    let link : is_place p.machine.narrow (start.state.regs p.machine.link) ≡ true = eq-eqb (start.state.regs p.machine.link % unit p.machine.narrow) 0 entry.link in
     ap (λ b. start_answer b p n start) link ∙ ap (λ o. require_answer o n (found_of p n start)) entry.requires ∙ ap
     (λ b. ending_answer b n (found_of p n start)) is_found
 

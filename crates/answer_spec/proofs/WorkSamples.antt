@@ -1,10 +1,11 @@
 -- Worked work that is made from a number, by computation alone.
-use Rattle.std.proofs.Common.{◌≡◌, refl, [], ◌∷◌, ◌++◌, None}
+use Rattle.std.proofs.Common.{◌≡◌, refl, [], ◌∷◌, ◌++◌, None, false}
 use Rattle.std.specs.Prelude.{codes, replicate}
 use Rattle.std.specs.Fmt.{digits}
 use Rattle.bilv_spec.specs.Elf.{loaded}
 use Rattle.bilv_spec.specs.Notes.{Register, Number, Binary, Equal}
-use Rattle.machine_spec.specs.Rv.{rv32, table, rv_row}
+use Rattle.machine_spec.specs.Rv.{table, rv_row}
+use Rattle.machine_spec.specs.RvMachine.{rv32}
 use Rattle.bilv_spec.specs.Run.{Program, in_memory, run}
 use Rattle.bilv_spec.specs.Reports.{FoundExit, found}
 use Rattle.word_spec.specs.State.{Written}
@@ -33,9 +34,10 @@ work_says = refl
 -- its rows compute that number: the run from 1 and 3 exits, and the note that names it is true
 abbrev work_program : Program
 work_program = record {
-  machine = rv32;
-  word = in_memory rv32;
+  machine = rv32 false;
+  word = in_memory (rv32 false);
   loaded = loaded (work_file 1 3);
+  out = λ f. false;
   entry = 0x10000;
   notes = record notes { ensures = record { line = 4; says = Binary Equal (Register 10) (Number 0x1e4) } ∷ [] };
 }
@@ -43,6 +45,6 @@ work_program = record {
 abbrev work_state : Written
 work_state = record { regs = replicate 9 0 ++ 1 ∷ 3 ∷ replicate 20 0; flags = 0; bytes = []; choices = [] }
 
-work_runs : found work_program None (start_in work_program rv_layout work_state) 9 ≡ FoundExit 0x1000c 3
+work_runs : found work_program None (start_in work_program (rv_layout false) work_state) 9 ≡ FoundExit 0x1000c 3
 unfolding run table rv_row
 work_runs = refl

@@ -1,5 +1,5 @@
 -- Worked runs, by computation alone.
-use Rattle.std.proofs.Common.{◌≡◌, ℕ, ◌+◌, refl, List, [], ◌∷◌, ◌++◌, Option}
+use Rattle.std.proofs.Common.{false, ◌≡◌, ℕ, ◌+◌, refl, List, [], ◌∷◌, ◌++◌, Option}
 use Rattle.std.specs.Prelude.{◌==◌, if◌then◌else◌}
 use Rattle.word_spec.specs.Memory.{Little, Big, memory_of, byte_in}
 use Rattle.machine_spec.specs.Machine.{Machine}
@@ -10,7 +10,8 @@ use Rattle.word_spec.specs.Profiles.{V4}
 use Rattle.machine_spec.specs.Arm as arm_rows
 use Rattle.bilv_spec.specs.Elf.{loaded, Cell}
 use Rattle.bilv_spec.specs.Points.{byte_of_cell}
-use Rattle.machine_spec.specs.Rv.{rv32, table, rv_row}
+use Rattle.machine_spec.specs.Rv.{table, rv_row}
+use Rattle.machine_spec.specs.RvMachine.{rv32}
 use Rattle.bilv_spec.specs.Notes.{Notes, NoteLine, At, Number, Register, Flag, Memory, Old, Binary, Equal, Above, Plus, BitAnd, And, ShiftRight}
 use Rattle.bilv_spec.specs.Run.{Program, Run, Exited, Failed, Turned, run, in_memory}
 use Rattle.machine_spec.specs.Endings.{Start, EnsureFails, CodeWritten, NoRow, Trapped, JumpFails, HalfwordFails}
@@ -21,7 +22,7 @@ notes requires ensures = record { entry = At 0x10000; requires = requires; ensur
 
 abbrev program : Machine → List ℕ → List NoteLine → List NoteLine → Program
 program machine file requires ensures =
-    record { machine = machine; word = in_memory machine; loaded = loaded file; entry = 0x10000; notes = notes requires ensures }
+    record { machine = machine; word = in_memory machine; loaded = loaded file; entry = 0x10000; notes = notes requires ensures; out = λ f. false }
 
 -- the state at 0x10000 with these registers; its memory has these bytes, and else those of the file
 abbrev or_cell : List (ℕ × ℕ) → Option Cell → ℕ → ℕ
@@ -49,12 +50,12 @@ abbrev file_1 : List ℕ
 file_1 = rv_file (0x00150513 ∷ 0x00008067 ∷ [])
 
 -- addi a0,a0,1; ret: the sum wraps, and the run exits
-row_1 : runs rv32 file_1 [] one_up 64 (start_of file_1 ((10, 0xffffffff) ∷ (1, 0x40) ∷ []) [] []) 2 ≡ Exited 0x10004 1
+row_1 : runs (rv32 false) file_1 [] one_up 64 (start_of file_1 ((10, 0xffffffff) ∷ (1, 0x40) ∷ []) [] []) 2 ≡ Exited 0x10004 1
 unfolding run table rv_row
 row_1 = refl
 
 -- a0 above its old value is false at the largest word
-row_2 : runs rv32 file_1 [] (record { line = 2; says = Binary Above (Register 10) (Old (Register 10)) } ∷ []) 64
+row_2 : runs (rv32 false) file_1 [] (record { line = 2; says = Binary Above (Register 10) (Old (Register 10)) } ∷ []) 64
     (start_of file_1 ((10, 0xffffffff) ∷ (1, 0x40) ∷ []) [] []) 2 ≡ Failed (EnsureFails 2) 0x10004 1
 unfolding run table rv_row
 row_2 = refl
@@ -63,11 +64,11 @@ row_2 = refl
 abbrev file_4 : List ℕ
 file_4 = rv_file (0xfff50513 ∷ 0xfe051ee3 ∷ 0x00008067 ∷ [])
 
-row_4 : runs rv32 file_4 [] [] 2 (start_of file_4 ((10, 3) ∷ (1, 0x40) ∷ []) [] []) 7 ≡ Exited 0x10008 6
+row_4 : runs (rv32 false) file_4 [] [] 2 (start_of file_4 ((10, 3) ∷ (1, 0x40) ∷ []) [] []) 7 ≡ Exited 0x10008 6
 unfolding run table rv_row
 row_4 = refl
 
-row_5 : runs rv32 file_4 [] [] 1 (start_of file_4 ((10, 3) ∷ (1, 0x40) ∷ []) [] []) 4 ≡ Turned 0x10004 3
+row_5 : runs (rv32 false) file_4 [] [] 1 (start_of file_4 ((10, 3) ∷ (1, 0x40) ∷ []) [] []) 4 ≡ Turned 0x10004 3
 unfolding run table rv_row
 row_5 = refl
 
@@ -75,7 +76,7 @@ row_5 = refl
 abbrev file_7 : List ℕ
 file_7 = rv_file (0x02b55533 ∷ 0x00008067 ∷ [])
 
-row_7 : runs rv32 file_7 [] (record { line = 3; says = Binary Equal (Register 10) (Number 0xffffffff) } ∷ []) 64
+row_7 : runs (rv32 false) file_7 [] (record { line = 3; says = Binary Equal (Register 10) (Number 0xffffffff) } ∷ []) 64
     (start_of file_7 ((10, 77) ∷ (1, 0x40) ∷ []) [] []) 2 ≡ Exited 0x10004 1
 unfolding run table rv_row
 row_7 = refl
@@ -84,7 +85,7 @@ row_7 = refl
 abbrev file_8 : List ℕ
 file_8 = rv_file (0x02b54533 ∷ 0x00008067 ∷ [])
 
-row_8 : runs rv32 file_8 [] (record { line = 4; says = Binary Equal (Register 10) (Number 0x80000000) } ∷ []) 64
+row_8 : runs (rv32 false) file_8 [] (record { line = 4; says = Binary Equal (Register 10) (Number 0x80000000) } ∷ []) 64
     (start_of file_8 ((10, 0x80000000) ∷ (11, 0xffffffff) ∷ (1, 0x40) ∷ []) [] []) 2 ≡ Exited 0x10004 1
 unfolding run table rv_row
 row_8 = refl
@@ -93,16 +94,16 @@ row_8 = refl
 abbrev file_9 : List ℕ
 file_9 = rv_file (0x00a5a023 ∷ 0x00008067 ∷ [])
 
-row_9 : runs rv32 file_9 [] [] 64 (start_of file_9 ((11, 0xfffd) ∷ (1, 0x40) ∷ []) [] []) 1 ≡ Failed CodeWritten 0x10000 0
+row_9 : runs (rv32 false) file_9 [] [] 64 (start_of file_9 ((11, 0xfffd) ∷ (1, 0x40) ∷ []) [] []) 1 ≡ Failed CodeWritten 0x10000 0
 unfolding run table rv_row
 row_9 = refl
 
-row_9_last : runs rv32 file_9 [] [] 64 (start_of file_9 ((11, 0x10007) ∷ (1, 0x40) ∷ []) [] []) 1 ≡ Failed CodeWritten 0x10000 0
+row_9_last : runs (rv32 false) file_9 [] [] 64 (start_of file_9 ((11, 0x10007) ∷ (1, 0x40) ∷ []) [] []) 1 ≡ Failed CodeWritten 0x10000 0
 unfolding run table rv_row
 row_9_last = refl
 
 -- the store wraps at the top of the memory
-row_10 : runs rv32 file_9 [] (record {
+row_10 : runs (rv32 false) file_9 [] (record {
   line = 3;
   says =
       Binary And (Binary Equal (Memory 1 (Number 0xffffffff)) (Binary BitAnd (Register 10) (Number 255)))
@@ -113,7 +114,7 @@ unfolding run table rv_row
 row_10 = refl
 
 -- no row
-row_11 : runs rv32 (rv_file (0 ∷ [])) [] [] 64 (start_of (rv_file (0 ∷ [])) ((1, 0x40) ∷ []) [] []) 1 ≡ Failed NoRow 0x10000 0
+row_11 : runs (rv32 false) (rv_file (0 ∷ [])) [] [] 64 (start_of (rv_file (0 ∷ [])) ((1, 0x40) ∷ []) [] []) 1 ≡ Failed NoRow 0x10000 0
 unfolding run table rv_row
 row_11 = refl
 
@@ -121,19 +122,19 @@ row_11 = refl
 abbrev file_19 : List ℕ
 file_19 = rv_file (0x00008313 ∷ 0x00000097 ∷ 0x00c080e7 ∷ 0x00030067 ∷ 0x00150513 ∷ 0x00008067 ∷ [])
 
-row_19 : runs rv32 file_19 [] one_up 64 (start_of file_19 ((10, 5) ∷ (1, 0x40) ∷ []) [] []) 6 ≡ Exited 0x1000c 5
+row_19 : runs (rv32 false) file_19 [] one_up 64 (start_of file_19 ((10, 5) ∷ (1, 0x40) ∷ []) [] []) 6 ≡ Exited 0x1000c 5
 unfolding run table rv_row
 row_19 = refl
 
 abbrev file_20 : List ℕ
 file_20 = rv_file (0x00008313 ∷ 0x00000097 ∷ 0x00c080e7 ∷ 0x00030067 ∷ 0x00408093 ∷ 0x00008067 ∷ [])
 
-row_20 : runs rv32 file_20 [] one_up 64 (start_of file_20 ((10, 5) ∷ (1, 0x40) ∷ []) [] []) 5 ≡ Failed JumpFails 0x10014 4
+row_20 : runs (rv32 false) file_20 [] one_up 64 (start_of file_20 ((10, 5) ∷ (1, 0x40) ∷ []) [] []) 5 ≡ Failed JumpFails 0x10014 4
 unfolding run table rv_row
 row_20 = refl
 
 -- ecall
-row_21 : runs rv32 (rv_file (0x73 ∷ [])) [] [] 64 (start_of (rv_file (0x73 ∷ [])) ((1, 0x40) ∷ []) [] []) 1 ≡ Failed Trapped 0x10000 0
+row_21 : runs (rv32 false) (rv_file (0x73 ∷ [])) [] [] 64 (start_of (rv_file (0x73 ∷ [])) ((1, 0x40) ∷ []) [] []) 1 ≡ Failed Trapped 0x10000 0
 unfolding run table rv_row
 row_21 = refl
 
@@ -148,9 +149,10 @@ file_22 second_last last first =
 
 abbrev program_22 : List ℕ → List NoteLine → Program
 program_22 file ensures = record {
-  machine = rv32;
-  word = in_memory rv32;
+  machine = rv32 false;
+  word = in_memory (rv32 false);
   loaded = loaded file;
+  out = λ f. false;
   entry = 0xfffffff8;
   notes = record { entry = At 0xfffffff8; requires = []; ensures = ensures; asserts = []; targets = []; fixed = [] };
 }

@@ -9,7 +9,8 @@ use Rattle.machine_spec.specs.Arm.{arm, arm_row}
 use Rattle.word_spec.specs.Profiles.{V4}
 use Rattle.machine_spec.specs.Arm as arm_rows
 use Rattle.bilv_spec.specs.Elf.{loaded}
-use Rattle.machine_spec.specs.Rv.{rv32, table, rv_row}
+use Rattle.machine_spec.specs.Rv.{table, rv_row}
+use Rattle.machine_spec.specs.RvMachine.{rv32}
 use Rattle.bilv_spec.specs.Notes.{Expr, NoteLine, Targets, At, Number, Register, Bound, Memory, Old, Binary, Equal, Plus, BitAnd, Times, written_out}
 use Rattle.bilv_spec.specs.Run.{Program, in_memory}
 use Rattle.bilv_spec.specs.Points.{price_of, line_price, Point, ToAddress, ToExit, edges, ArePoints, HasMore}
@@ -21,12 +22,13 @@ program machine file requires ensures targets = record {
   machine = machine;
   word = in_memory machine;
   loaded = loaded file;
+  out = λ f. false;
   entry = 0x10000;
   notes = record { entry = At 0x10000; requires = requires; ensures = ensures; asserts = []; targets = targets; fixed = [] };
 }
 
 abbrev rv : List ℕ → List NoteLine → List NoteLine → List Targets → Program
-rv words requires ensures targets = program rv32 (rv_file words) requires ensures targets
+rv words requires ensures targets = program (rv32 false) (rv_file words) requires ensures targets
 
 -- addi a0,a0,1; ret
 abbrev adds : List ℕ

@@ -132,7 +132,7 @@ module _ (p : Program) where
 
   judged_same : (o : Option ℕ) (entry : State) (c : Place) (choice : ℕ) →
       after_asserts (one_greater o) (later_program p) entry c choice ≡ later_step (after_asserts o p entry c choice)
-  judged_same None entry c choice = fetch_same (fetchable p c.state.pc) entry c choice
+  judged_same None entry c choice = fetch_same (fetchable p (p.word c.state c.state.pc) c.state.pc) entry c choice
   judged_same (Some n) entry c choice = refl
 
   step_same : (entry : State) (c : Place) (choice : ℕ) → step (later_program p) entry c choice ≡ later_step (step p entry c choice)

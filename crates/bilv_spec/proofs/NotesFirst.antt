@@ -5,7 +5,7 @@ use Rattle.bilv_spec.specs.Notes.{Expr, Notes, At, Named, Function, Targets}
 use Rattle.word_spec.specs.Tokens.{Token, NumberToken, BadByte, BadText, tokens_of}
 use Rattle.bilv_spec.specs.NotesGrammar.{lines_of, IsGood, Says, Nothing, EntryIs, RequireIs, EnsureIs, AssertIs, TargetsAre, FixedIs, VersionIs, ConstIs, LoadedIs, IsSaid, IsLine, AreLines, AreAligned, IsRange, IsVersion, IsNew, after, after_all, line_limit, IsNotesText, entries, targets_of}
 use Rattle.bilv_spec.specs.NotesFaults.{NoteFault, LimitFault, ByteFault, TokenFault, NumberFault, DepthFault, WordFault, SyntaxFault, NameFault, AlignFault, RangeFault, EntryFault, VersionFault, ConstFault, AllFault, note_fault_rank, line_words_first, line_words, begin_of, BeginsBadly, Repeats, NoteFaultApplies, NoneRepeats, AreGood, IsFirstNoteFault, at_line, no_entry}
-use Rattle.bilv_spec.specs.Scopes.{Scope, Strict, lenient}
+use Rattle.bilv_spec.specs.Scopes.{Vocabulary, Scope, Strict, lenient}
 use Rattle.bilv_spec.proofs.Cuts.{Cuts, same, earlier, later, cuts}
 use Rattle.bilv_spec.proofs.Modes.{strict_is_lenient, said_loosely, all_mode, all_second}
 use Rattle.bilv_spec.proofs.NotesSaid.{one_saying, same_says}
@@ -52,7 +52,7 @@ not_faulty s strict n before text x DepthFault le line new a = omega (arith, lin
 not_faulty s strict n before text x WordFault le line new a = begins_well s (tokens_of text) x line.said a
 not_faulty s strict n before text x SyntaxFault le line new a = let r = said_loosely s (tokens_of text) x line.said in a r.0 r.1
 not_faulty s strict n before text x NameFault le line new a = a x (strict_is_lenient s (tokens_of text) x strict line.said)
-not_faulty s strict n before text x AlignFault le line new a = a.2 (subst AreAligned (only s strict text x a.0 line a.1) line.aligned)
+not_faulty s strict n before text x AlignFault le line new a = a.2 (subst (AreAligned s.narrow) (only s strict text x a.0 line a.1) line.aligned)
 not_faulty s strict n before text x RangeFault le line new a = a.2 (subst IsRange (only s strict text x a.0 line a.1) line.range)
 not_faulty s strict n before text x EntryFault le line new a = new (subst (λ y. Repeats before y) (sym (only s strict text x a.0 line a.1)) a.2)
 not_faulty s strict n before text x VersionFault le line new a = a.2 (subst (IsVersion s) (only s strict text x a.0 line a.1) line.version)
@@ -161,8 +161,8 @@ none_repeat before (s ∷ says) only is all =
     )
 
 -- the lines of notes are good
-notes_are_good : (names : List ℕ → Option Expr) (text : List ℕ) (m : Notes) (p : IsNotesText names text m) → AreGood (begin_of names text) (lines_of text) p.says
-notes_are_good names text m p =
+notes_are_good : (v : Vocabulary) (text : List ℕ) (m : Notes) (p : IsNotesText v text m) → AreGood (begin_of v text) (lines_of text) p.says
+notes_are_good v text m p =
     record {
       count = p.short;
       lines = p.lines;
@@ -174,13 +174,13 @@ notes_are_good names text m p =
 no_function : (says : List Says) (e : Function) → entries says ≡ e ∷ [] → entries says ≡ [] → ⊥
 no_function says e p q = cc
 
-pub never_both : (names : List ℕ → Option Expr) (text : List ℕ) (m : Notes) (line : ℕ) (f : NoteFault) →
-    IsNotesText names text m → IsFirstNoteFault names text line f → ⊥
-never_both names text m line f p (at_line good rest bad says is g a least) =
-    no_fault (begin_of names text) refl (lines_of text) good rest bad p.says says f is (notes_are_good names text m p) g.lines a
-never_both names text m line f p (no_entry says g none) =
+pub never_both : (v : Vocabulary) (text : List ℕ) (m : Notes) (line : ℕ) (f : NoteFault) →
+    IsNotesText v text m → IsFirstNoteFault v text line f → ⊥
+never_both v text m line f p (at_line good rest bad says is g a least) =
+    no_fault (begin_of v text) refl (lines_of text) good rest bad p.says says f is (notes_are_good v text m p) g.lines a
+never_both v text m line f p (no_entry says g none) =
     no_function says m.entry
-    (subst (λ l. entries l ≡ m.entry ∷ []) (same_says (begin_of names text) (lines_of text) p.says says p.lines g.lines) p.notes_are.0) none
+    (subst (λ l. entries l ≡ m.entry ∷ []) (same_says (begin_of v text) (lines_of text) p.says says p.lines g.lines) p.notes_are.0) none
 
 -- the fault of a rank
 abbrev pub of_rank : ℕ → NoteFault
@@ -232,13 +232,13 @@ at_cuts s strict good rest fine others bad worse says told f g p q a b (earlier 
 at_cuts s strict good rest fine others bad worse says told f g p q a b (later zs i j) =
     absurd (no_fault s strict good fine zs worse says told g i p q.lines b.0)
 
-pub one_fault : (names : List ℕ → Option Expr) (text : List ℕ) (line other : ℕ) (f g : NoteFault) →
-    IsFirstNoteFault names text line f → IsFirstNoteFault names text other g → (line ≡ other) × (f ≡ g)
-one_fault names text line other f g (at_line good rest bad says is p a least) (at_line fine others worse told as_is q b smallest) =
-    at_cuts (begin_of names text) refl good rest fine others bad worse says told f g p q (a, least) (b, smallest)
+pub one_fault : (v : Vocabulary) (text : List ℕ) (line other : ℕ) (f g : NoteFault) →
+    IsFirstNoteFault v text line f → IsFirstNoteFault v text other g → (line ≡ other) × (f ≡ g)
+one_fault v text line other f g (at_line good rest bad says is p a least) (at_line fine others worse told as_is q b smallest) =
+    at_cuts (begin_of v text) refl good rest fine others bad worse says told f g p q (a, least) (b, smallest)
     (cuts good bad rest fine worse others (sym is ∙ as_is))
-one_fault names text line other f g (at_line good rest bad says is p a least) (no_entry told q none) =
-    absurd (no_fault (begin_of names text) refl (lines_of text) good rest bad told says f is q p.lines a)
-one_fault names text line other f g (no_entry told q none) (at_line good rest bad says is p a least) =
-    absurd (no_fault (begin_of names text) refl (lines_of text) good rest bad told says g is q p.lines a)
-one_fault names text line other f g (no_entry says p none) (no_entry told q nothing) = (refl, refl)
+one_fault v text line other f g (at_line good rest bad says is p a least) (no_entry told q none) =
+    absurd (no_fault (begin_of v text) refl (lines_of text) good rest bad told says f is q p.lines a)
+one_fault v text line other f g (no_entry told q none) (at_line good rest bad says is p a least) =
+    absurd (no_fault (begin_of v text) refl (lines_of text) good rest bad told says g is q p.lines a)
+one_fault v text line other f g (no_entry says p none) (no_entry told q nothing) = (refl, refl)

@@ -2,9 +2,10 @@
 use Rattle.std.proofs.Common.{◌≡◌, ◌≢◌, ℕ, zero, suc, ◌<◌, ◌≤◌, ◌+◌, ◌%◌, ◌^◌, refl, ap, sym, ◌∙◌, subst, arith, List, [], ◌∷◌, ◌++◌, Option, Bool, true, false, ◌⊎◌, inl, inr, length, get_or, All, AllPairs, Contains, count_by, append_assoc, append-nil, length-append, lit<}
 use Rattle.bilv_spec.specs.Notes.{Expr, Notes, At, Named, Function, Targets}
 use Rattle.word_spec.specs.Tokens.{Token, NumberToken, NameToken, SignToken, BadByte, BadText, tokens_of}
-use Rattle.bilv_spec.specs.NotesGrammar.{lines_of, is_depth, IsGood, IsAligned, Says, Nothing, EntryIs, RequireIs, EnsureIs, AssertIs, TargetsAre, FixedIs, VersionIs, ConstIs, LoadedIs, IsSaid, IsLine, AreLines, AreAligned, IsRange, IsVersion, IsNew, after, after_all, line_limit, IsNotesText, entries, requires_of, ensures_of, asserts_of, targets_of, fixed_of}
+use Rattle.bilv_spec.specs.NotesGrammar.{lines_of, is_depth, IsGood, Says, Nothing, EntryIs, RequireIs, EnsureIs, AssertIs, TargetsAre, FixedIs, VersionIs, ConstIs, LoadedIs, IsSaid, IsLine, AreLines, AreAligned, IsRange, IsVersion, IsNew, after, after_all, line_limit, IsNotesText, entries, requires_of, ensures_of, asserts_of, targets_of, fixed_of}
 use Rattle.bilv_spec.specs.NotesFaults.{NoteFault, LimitFault, ByteFault, TokenFault, NumberFault, DepthFault, WordFault, SyntaxFault, NameFault, AlignFault, RangeFault, EntryFault, VersionFault, ConstFault, AllFault, note_fault_rank, line_words, begin_of, IsLineWord, BeginsBadly, Repeats, NoteFaultApplies, NoneRepeats, AreGood, IsFirstNoteFault, at_line, no_entry}
-use Rattle.bilv_spec.specs.Scopes.{Scope, Strict, lenient, loose, is_free}
+use Rattle.machine_spec.specs.Machine.{IsAtPlace, unit}
+use Rattle.bilv_spec.specs.Scopes.{Vocabulary, Scope, Strict, lenient, loose, is_free}
 use Rattle.bilv_spec.proofs.Decided.{Decided, through, both, either, negation, same_text, same_number, is_less, is_at_most}
 use Rattle.bilv_spec.proofs.NotesDecided.{same_tokens, Said, is_said}
 use Rattle.bilv_spec.proofs.Modes.{strict_is_lenient, all_mode, all_second}
@@ -41,21 +42,21 @@ every_one P d (x ∷ xs) = through (λ p. join P x xs p.0 p.1) (λ all. (all 0 x
     (both (d x) (every_one P d xs))
 
 -- the parts of a line's claim
-aligned : (a : ℕ) → Decided (IsAligned a)
-aligned a = same_number (a % 4) 0
+aligned : (n : Bool) (a : ℕ) → Decided (IsAtPlace n a)
+aligned n a = same_number (a % unit n) 0
 
-are_aligned : (s : Says) → Decided (AreAligned s)
-are_aligned (EntryIs (At a)) = aligned a
-are_aligned (EntryIs (Named w)) = inl tt
-are_aligned (AssertIs a e) = aligned a
-are_aligned (TargetsAre a to) = both (aligned a) (every_one IsAligned aligned to)
-are_aligned Nothing = inl tt
-are_aligned (RequireIs e) = inl tt
-are_aligned (VersionIs b) = inl tt
-are_aligned (ConstIs w v) = inl tt
-are_aligned LoadedIs = inl tt
-are_aligned (EnsureIs e) = inl tt
-are_aligned (FixedIs low high) = inl tt
+are_aligned : (n : Bool) (s : Says) → Decided (AreAligned n s)
+are_aligned n (EntryIs (At a)) = aligned n a
+are_aligned n (EntryIs (Named w)) = inl tt
+are_aligned n (AssertIs a e) = aligned n a
+are_aligned n (TargetsAre a to) = both (aligned n a) (every_one (IsAtPlace n) (aligned n) to)
+are_aligned n Nothing = inl tt
+are_aligned n (RequireIs e) = inl tt
+are_aligned n (VersionIs b) = inl tt
+are_aligned n (ConstIs w v) = inl tt
+are_aligned n LoadedIs = inl tt
+are_aligned n (EnsureIs e) = inl tt
+are_aligned n (FixedIs low high) = inl tt
 
 is_range : (s : Says) → Decided (IsRange s)
 is_range (FixedIs low high) = is_at_most low high
@@ -150,7 +151,7 @@ applies s n before text DepthFault = is_less 64 (count_by (is_depth s.is_second)
 applies s n before text WordFault = badly s.is_second (tokens_of text)
 applies s n before text SyntaxFault = none_said (loose s) (tokens_of text)
 applies s n before text NameFault = none_said (lenient s) (tokens_of text)
-applies s n before text AlignFault = not_so (lenient s) (tokens_of text) AreAligned are_aligned
+applies s n before text AlignFault = not_so (lenient s) (tokens_of text) (AreAligned s.narrow) (are_aligned s.narrow)
 applies s n before text RangeFault = not_so (lenient s) (tokens_of text) IsRange is_range
 applies s n before text EntryFault = of_said (lenient s) (tokens_of text) (Repeats before) (repeats before) (is_said (lenient s) (tokens_of text))
 applies s n before text VersionFault = not_so (lenient s) (tokens_of text) (IsVersion s) (is_version s)
@@ -247,7 +248,7 @@ no_fault_good s strict n before text f (inl p) =
             (k, less, free_default (tokens_of text) k (get_or (tokens_of text) k d) d less) (f ByteFault) (f TokenFault) (f NumberFault);
         depth = not_less 64 (count_by (is_depth s.is_second) (tokens_of text)) (f DepthFault);
         said = p.1;
-        aligned = surely (AreAligned p.0) (are_aligned p.0) (λ g. f AlignFault (p.0, soft, g));
+        aligned = surely (AreAligned s.narrow p.0) (are_aligned s.narrow p.0) (λ g. f AlignFault (p.0, soft, g));
         range = surely (IsRange p.0) (is_range p.0) (λ g. f RangeFault (p.0, soft, g));
         version = surely (IsVersion s p.0) (is_version s p.0) (λ g. f VersionFault (p.0, soft, g));
         new = surely (IsNew s p.0) (is_new s p.0) (λ g. f ConstFault (p.0, soft, g));
@@ -392,13 +393,13 @@ pairs before (AssertIs a x ∷ says) p = pairs (before ++ AssertIs a x ∷ []) s
 pairs before (FixedIs low high ∷ says) p = pairs (before ++ FixedIs low high ∷ []) says p.1
 
 -- good lines are notes, unless no line names the function
-abbrev Outcome : (List ℕ → Option Expr) → List ℕ → Type 0
-Outcome names text = ((m : Notes) × IsNotesText names text m) ⊎ ((line : ℕ) × (f : NoteFault) × IsFirstNoteFault names text line f)
+abbrev Outcome : Vocabulary → List ℕ → Type 0
+Outcome v text = ((m : Notes) × IsNotesText v text m) ⊎ ((line : ℕ) × (f : NoteFault) × IsFirstNoteFault v text line f)
 
-by_entries : (names : List ℕ → Option Expr) (text : List ℕ) (says : List Says) → AreGood (begin_of names text) (lines_of text) says → (fs : List Function) → entries says ≡ fs →
-    Outcome names text
-by_entries names text says g [] is = inr (length (lines_of text) + 1, EntryFault, no_entry says g is)
-by_entries names text says g (e ∷ es) is =
+by_entries : (v : Vocabulary) (text : List ℕ) (says : List Says) → AreGood (begin_of v text) (lines_of text) says → (fs : List Function) → entries says ≡ fs →
+    Outcome v text
+by_entries v text says g [] is = inr (length (lines_of text) + 1, EntryFault, no_entry says g is)
+by_entries v text says g (e ∷ es) is =
     inl (
       record {
         entry = e;
@@ -417,13 +418,13 @@ by_entries names text says g (e ∷ es) is =
       },
     )
 
-of_judged : (names : List ℕ → Option Expr) (text : List ℕ) → Judged (begin_of names text) (lines_of text) → Outcome names text
-of_judged names text (all_good says g) = by_entries names text says g (entries says) refl
-of_judged names text (bad_at good rest bad says is g l) = inr (length good + 1, l.0, at_line good rest bad says is g l.1 l.2)
+of_judged : (v : Vocabulary) (text : List ℕ) → Judged (begin_of v text) (lines_of text) → Outcome v text
+of_judged v text (all_good says g) = by_entries v text says g (entries says) refl
+of_judged v text (bad_at good rest bad says is g l) = inr (length good + 1, l.0, at_line good rest bad says is g l.1 l.2)
 
 none_yet : (s : Scope) → AreGood s [] []
 none_yet s = record { count = omega arith; lines = tt; none_repeats = tt }
 
 -- a text is notes, or it has a first fault
-pub one_of_both : (names : List ℕ → Option Expr) (text : List ℕ) → Outcome names text
-one_of_both names text = of_judged names text (judge (begin_of names text) refl (lines_of text) [] (lines_of text) [] refl (none_yet (begin_of names text)))
+pub one_of_both : (v : Vocabulary) (text : List ℕ) → Outcome v text
+one_of_both v text = of_judged v text (judge (begin_of v text) refl (lines_of text) [] (lines_of text) [] refl (none_yet (begin_of v text)))

@@ -4,17 +4,16 @@ use Rattle.bilv_spec.specs.Notes.{Expr, At}
 use Rattle.word_spec.specs.Tokens.{Token, NumberToken, NameToken, SignToken, BadByte, BadText, tokens_of}
 use Rattle.bilv_spec.specs.NotesGrammar.{Parses, Says, Nothing, EntryIs, RequireIs, IsSaid}
 use Rattle.bilv_spec.specs.NotesFaults.{NoteFault, LimitFault, ByteFault, TokenFault, NumberFault, DepthFault, WordFault, SyntaxFault, NameFault, AlignFault, RangeFault, EntryFault, note_fault_rank, VersionFault, ConstFault, AllFault, NoteFaultApplies, AreGood, IsFirstNoteFault, at_line, no_entry}
-use Rattle.bilv_spec.specs.RvNames.{rv_names}
 use Rattle.bilv_spec.proofs.NotesTables.{Each, of_each}
 use Rattle.bilv_spec.specs.Scopes.{Scope, begin, loose}
 use Rattle.bilv_spec.proofs.NotesParser.{Level, Read, work, all_read, is_ready}
 use Rattle.bilv_spec.proofs.ParserFinds.{no_expression}
 use Rattle.bilv_spec.proofs.NotesSaid.{kind_is}
-use Rattle.bilv_spec.proofs.NotesSamples.{line_1}
+use Rattle.bilv_spec.proofs.NotesSamples.{rv_words, line_1}
 
 -- the scope after the line that names the function, in version 1, and with every word taken as a name
 abbrev later : Scope
-later = record (begin rv_names false) { is_first = false }
+later = record (begin rv_words false) { is_first = false }
 
 abbrev read : List ℕ → Read
 read text = work (loose later) 40 (Level 1) (tokens_of text)
@@ -54,7 +53,7 @@ is_large (NumberToken n) = nat_le (2 ^ 32) n
 is_large t = false
 
 -- the first line of these texts is good
-first_good : AreGood (begin rv_names false) (codes "entry 0x10000" ∷ []) (EntryIs (At 0x10000) ∷ [])
+first_good : AreGood (begin rv_words false) (codes "entry 0x10000" ∷ []) (EntryIs (At 0x10000) ∷ [])
 first_good = record { count = lit≤ tt; lines = (line_1, tt); none_repeats = (λ r. r refl, tt) }
 
 -- an expression without its end: the line is of the seven words, and its rest is not of the grammar
@@ -83,7 +82,7 @@ no_lesser VersionFault less a = omega (arith, less)
 no_lesser ConstFault less a = omega (arith, less)
 no_lesser AllFault less a = omega (arith, less)
 
-unfinished_is_refused : IsFirstNoteFault rv_names unfinished_text 2 SyntaxFault
+unfinished_is_refused : IsFirstNoteFault rv_words unfinished_text 2 SyntaxFault
 unfinished_is_refused =
     at_line (codes "entry 0x10000" ∷ []) (codes "ensure a0 = old(a0) + 1" ∷ []) (codes "require a0 = 5 +") (EntryIs (At 0x10000) ∷ []) refl first_good
     (require_refused (tokens_of (codes "a0 = 5 +")) unfinished) no_lesser
@@ -109,16 +108,16 @@ no_less VersionFault less a = omega (arith, less)
 no_less ConstFault less a = omega (arith, less)
 no_less AllFault less a = omega (arith, less)
 
-large_is_refused : IsFirstNoteFault rv_names large_text 2 NumberFault
+large_is_refused : IsFirstNoteFault rv_words large_text 2 NumberFault
 large_is_refused =
     at_line (codes "entry 0x10000" ∷ []) [] (codes "ensure 4294967296 = 0") (EntryIs (At 0x10000)
     ∷ []) refl first_good (4294967296, (1, omega arith, refl), lit≤ tt) no_less
 
 -- nothing names the function: the line after the last
-empty_is_refused : IsFirstNoteFault rv_names [] 1 EntryFault
+empty_is_refused : IsFirstNoteFault rv_words [] 1 EntryFault
 empty_is_refused = no_entry [] (record { count = lit≤ tt; lines = tt; none_repeats = tt }) refl
 
-blank_is_refused : IsFirstNoteFault rv_names (codes "# nothing" ++ 10 ∷ []) 2 EntryFault
+blank_is_refused : IsFirstNoteFault rv_words (codes "# nothing" ++ 10 ∷ []) 2 EntryFault
 blank_is_refused =
     no_entry (Nothing ∷ []) (record {
       count = lit≤ tt;

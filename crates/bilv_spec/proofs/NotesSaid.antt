@@ -3,7 +3,7 @@ use Rattle.std.proofs.Common.{◌≡◌, ℕ, refl, ap, ap₂, sym, ◌∙◌, s
 use Rattle.bilv_spec.specs.Notes.{Expr, Notes, At, Named, Function}
 use Rattle.word_spec.specs.Tokens.{Token, NumberToken, NameToken, SignToken, BadByte, BadText, tokens_of}
 use Rattle.bilv_spec.specs.NotesGrammar.{Parses, lines_of, Says, Nothing, EntryIs, RequireIs, EnsureIs, AssertIs, TargetsAre, FixedIs, VersionIs, ConstIs, LoadedIs, IsSaid, number_at, AreNumbers, is_two, is_second, after, AreLines, AreNotes, IsNotesText, entries}
-use Rattle.bilv_spec.specs.Scopes.{Scope, begin}
+use Rattle.bilv_spec.specs.Scopes.{Vocabulary, Scope, begin}
 use Rattle.bilv_spec.proofs.ParserFinds.{one_expression}
 
 -- the kinds of lines, by a number
@@ -110,9 +110,9 @@ same_notes m n a b c d e f = λ i. record { entry = a i; requires = b i; ensures
 same_head : (xs : List Function) (a b : Function) → xs ≡ a ∷ [] → xs ≡ b ∷ [] → a ≡ b
 same_head xs a b p q = cc
 
-pub one_reading : (names : List ℕ → Option Expr) (text : List ℕ) (m n : Notes) → IsNotesText names text m → IsNotesText names text n → m ≡ n
-one_reading names text m n p q =
-    let is = same_says (begin names (is_second (lines_of text))) (lines_of text) p.says q.says p.lines q.lines in
+pub one_reading : (v : Vocabulary) (text : List ℕ) (m n : Notes) → IsNotesText v text m → IsNotesText v text n → m ≡ n
+one_reading v text m n p q =
+    let is = same_says (begin v (is_second (lines_of text))) (lines_of text) p.says q.says p.lines q.lines in
     let r : AreNotes p.says n = subst (λ says. AreNotes says n) (sym is) q.notes_are in
     let a = p.notes_are in
     same_notes m n (same_head (entries p.says) m.entry n.entry a.0 r.0) (sym a.1 ∙ r.1) (sym a.2 ∙ r.2) (sym a.3 ∙ r.3) (sym a.4 ∙ r.4) (sym a.5 ∙ r.5)

@@ -8,7 +8,7 @@ use Rattle.word_spec.specs.Tokens.{NumberToken, NameToken, SignToken, BadText, B
 use Rattle.bilv_spec.specs.NotesGrammar.{lines_of, Parses, IsGood, EntryIs, EnsureIs, IsLine, IsNotesText, is_second}
 use Rattle.bilv_spec.specs.Upgrades.{upgraded}
 use Rattle.std.specs.Prelude.{is_some}
-use Rattle.bilv_spec.specs.Scopes.{Scope, begin, declaring, lenient, loose}
+use Rattle.bilv_spec.specs.Scopes.{Vocabulary, Scope, begin, declaring, lenient, loose}
 use Rattle.bilv_spec.specs.RvNames.{rv_names, rv_table}
 use Rattle.bilv_spec.specs.ArmNames.{arm_names, arm_table}
 use Rattle.bilv_spec.proofs.NotesTables.{Each as EachOf}
@@ -55,47 +55,54 @@ lines_2 = refl
 lines_3 : (lines_of [] ≡ []) × (lines_of (10 ∷ []) ≡ [] ∷ []) × (lines_of (codes "e" ++ 13 ∷ []) ≡ (codes "e" ++ 13 ∷ []) ∷ [])
 lines_3 = (refl, refl, refl)
 
+-- what notes call the two machines, RISC-V without compressed instructions
+abbrev pub rv_words : Vocabulary
+rv_words = record { names = rv_names; narrow = false }
+
+abbrev arm_words : Vocabulary
+arm_words = record { names = arm_names; narrow = false }
+
 -- expressions: the levels, the grouping to the left, `not`, loads, and the names of both machines
 -- the scope of a line of version 1
-abbrev pub first : (List ℕ → Option Expr) → Bool → Scope
-first names is_first = record (begin names false) { is_first = is_first }
+abbrev pub first : Vocabulary → Bool → Scope
+first v is_first = record (begin v false) { is_first = is_first }
 
-abbrev read : (List ℕ → Option Expr) → List ℕ → Option Expr
-read names text = all_read (work (first names false) 60 (Level 1) (tokens_of text))
+abbrev read : Vocabulary → List ℕ → Option Expr
+read v text = all_read (work (first v false) 60 (Level 1) (tokens_of text))
 
-levels : read rv_names (codes "1 | 2 ^ 3 & 4 << 5 + 6 * 7") ≡
+levels : read rv_words (codes "1 | 2 ^ 3 & 4 << 5 + 6 * 7") ≡
     Some (Binary BitOr (Number 1) (Binary BitXor (Number 2) (Binary BitAnd (Number 3)
     (Binary ShiftLeft (Number 4) (Binary Plus (Number 5) (Binary Times (Number 6) (Number 7)))))))
 levels = refl
 
-grouping : read rv_names (codes "1 - 2 + 3 - (4 - 5)") ≡
+grouping : read rv_words (codes "1 - 2 + 3 - (4 - 5)") ≡
     Some (Binary Minus (Binary Plus (Binary Minus (Number 1) (Number 2)) (Number 3)) (Binary Minus (Number 4) (Number 5)))
 grouping = refl
 
-logic : read rv_names (codes "1 or not 2 = 3 and not not 4") ≡ Some
+logic : read rv_words (codes "1 or not 2 = 3 and not not 4") ≡ Some
     (Binary Or (Number 1) (Binary And (Not (Binary Equal (Number 2) (Number 3))) (Not (Not (Number 4)))))
 logic = refl
 
-of_rv : read rv_names (codes "mem32[sp + 4] >=s old(mem8[pc] - x0)") ≡
+of_rv : read rv_words (codes "mem32[sp + 4] >=s old(mem8[pc] - x0)") ≡
     Some (Binary SignedAtLeast (notes.Memory 4 (Binary Plus (Register 2) (Number 4))) (Old (Binary Minus (notes.Memory 1 Pc) (Number 0))))
 unfolding rv_table
 of_rv = refl
 
-of_arm : read arm_names (codes "N and r15 = lr") ≡ Some (Binary And (Flag 3) (Binary Equal Pc (Register 14)))
+of_arm : read arm_words (codes "N and r15 = lr") ≡ Some (Binary And (Flag 3) (Binary Equal Pc (Register 14)))
 unfolding arm_table
 of_arm = refl
 
 -- a name of one machine is none of the other
-other_machine : (read rv_names (codes "r0") ≡ None) × (read arm_names (codes "a0") ≡ None)
+other_machine : (read rv_words (codes "r0") ≡ None) × (read arm_words (codes "a0") ≡ None)
 unfolding rv_table arm_table
 other_machine = (refl, refl)
 
 abbrev one_larger : Expr
 one_larger = Binary Equal (Register 10) (Binary Plus (Old (Register 10)) (Number 1))
 
-line_says : Parses (first rv_names false) 1 (tokens_of (codes "a0 = old(a0) + 1")) one_larger
+line_says : Parses (first rv_words false) 1 (tokens_of (codes "a0 = old(a0) + 1")) one_larger
 unfolding rv_table
-line_says = by_reading (first rv_names false) 40 (tokens_of (codes "a0 = old(a0) + 1")) one_larger refl
+line_says = by_reading (first rv_words false) 40 (tokens_of (codes "a0 = old(a0) + 1")) one_larger refl
 
 -- the value of an operator at some words
 values : map (λ (o : Op). apply o 0x80000000 32) (ShiftLeft ∷ ShiftRight ∷ ShiftSigned ∷ SignedBelow ∷ Below ∷ Minus ∷ Times ∷ []) ≡ 0 ∷ 0 ∷ 0xffffffff ∷ 1 ∷ 0
@@ -143,7 +150,7 @@ every P [] each k d below = absurd (omega (arith, below))
 every P (x ∷ xs) each zero d below = each.0
 every P (x ∷ xs) each (suc k) d below = every P xs each.1 k d (omega (arith, below))
 
-pub line_1 : IsLine (first rv_names true) (codes "entry 0x10000") (EntryIs (At 0x10000))
+pub line_1 : IsLine (first rv_words true) (codes "entry 0x10000") (EntryIs (At 0x10000))
 line_1 = record {
   short = lit≤ tt;
   good = every IsGood (tokens_of (codes "entry 0x10000")) (tt, (lit< tt, tt));
@@ -155,7 +162,7 @@ line_1 = record {
   new = tt;
 }
 
-line_2 : IsLine (first rv_names false) (codes "ensure a0 = old(a0) + 1") (EnsureIs one_larger)
+line_2 : IsLine (first rv_words false) (codes "ensure a0 = old(a0) + 1") (EnsureIs one_larger)
 line_2 = record {
   short = lit≤ tt;
   good = every IsGood (tokens_of (codes "ensure a0 = old(a0) + 1")) (tt, (tt, (tt, (tt, (tt, (tt, (tt, (tt, (lit< tt, tt)))))))));
@@ -167,7 +174,7 @@ line_2 = record {
   new = tt;
 }
 
-notes_of_two_lines : IsNotesText rv_names two_lines one_more
+notes_of_two_lines : IsNotesText rv_words two_lines one_more
 notes_of_two_lines = record {
   short = lit≤ tt;
   says = EntryIs (At 0x10000) ∷ EnsureIs one_larger ∷ [];
@@ -177,7 +184,7 @@ notes_of_two_lines = record {
 
 -- version 2: an `all` written out, a constant, and what is refused of an `all`
 abbrev second : Scope
-second = declaring (begin rv_names true) (codes "n") 3
+second = declaring (begin rv_words true) (codes "n") 3
 
 abbrev read_second : Scope → List ℕ → Option Expr
 read_second s text = all_read (work s 40 (Level 1) (tokens_of text))
@@ -217,7 +224,7 @@ loosely_some : map (λ text. is_some (read_second (loose second) text)) nameless
 loosely_some = refl
 
 -- no form: a reserved word in an expression, and an `all` in a text of version 1
-loosely_none : (read_second (loose second) (codes "all old 0 3 (old)") ≡ None) × (read_second (loose (begin rv_names false)) (codes "all i 0 3 (i)") ≡ None)
+loosely_none : (read_second (loose second) (codes "all old 0 3 (old)") ≡ None) × (read_second (loose (begin rv_words false)) (codes "all i 0 3 (i)") ≡ None)
 loosely_none = (refl, refl)
 
 -- the version of a text is that of its first line with tokens, whatever stands in the lines before it

@@ -7,7 +7,7 @@ use Rattle.std.proofs.lemmas.Bool.Decides.{nat_tests}
 use Rattle.std.proofs.lemmas.Slice.Eq.{bytes_eq-Decides}
 use Rattle.word_spec.specs.Words.{add}
 use Rattle.word_spec.specs.State.{State, IsState}
-use Rattle.machine_spec.specs.Machine.{Row, Successors, How, On, Direct, DirectCall, Indirect, IndirectCall, Outcome, Goes, Raises, Exception, EnvironmentCall, Breakpoint, SoftwareInterrupt, OddHalfword, UnalignedLoad}
+use Rattle.machine_spec.specs.Machine.{is_place, Row, Successors, How, On, Direct, DirectCall, Indirect, IndirectCall, Outcome, Goes, Raises, Exception, EnvironmentCall, Breakpoint, SoftwareInterrupt, OddHalfword, UnalignedLoad}
 use Rattle.machine_spec.specs.MachineLaws.{IsLawful, IsSuccessor, ComesNext, LeavesState}
 use Rattle.bilv_spec.specs.Run.{Program, Place, Stops, step, named, is_named, some_of, exit_by, exit_or, return_or, allowed, leave, transfer, aligned_transfer, going_on, after_row, by_row, by_fetch, after_asserts, false_line, false_assert, fetchable, writes_kept, exception_event}
 use Rattle.bilv_spec.specs.Points.{Point, EdgeEnd, ToAddress, ToExit, edges, edges_of, jump_ends, edges_by, file_row, file_word, distinct, leads_on, same_end, is_top, after_call, return_ends, indirect_ends}
@@ -138,11 +138,11 @@ module _ (p : Program) (row : Row) (turns at : ℕ) (stack : List ℕ) where
       Contains (edges_of p point row s) t
   in_indirect call t i c h = in_left (jump_ends p point row s) (nexts s.next) t (jump_indirect call t i c h)
 
-  pub in_edges : file_row p at ≡ Some row → (t : EdgeEnd) → leads_on t ≡ true → Contains (edges_of p point row s) t → Contains (edges p point) t
+  pub in_edges : file_row p at ≡ Some row → (t : EdgeEnd) → leads_on p.machine.narrow t ≡ true → Contains (edges_of p point row s) t → Contains (edges p point) t
   in_edges e t l h =
       let all : List EdgeEnd = edges_of p point row s in
-      subst (λ (z : Option Row). Contains (distinct (filter leads_on (edges_by p point z))) t) (sym e)
-      (in_distinct (filter leads_on all) t (in_filter leads_on all t h l))
+      subst (λ (z : Option Row). Contains (distinct (filter (leads_on p.machine.narrow) (edges_by p point z))) t) (sym e)
+      (in_distinct (filter (leads_on p.machine.narrow) all) t (in_filter (leads_on p.machine.narrow) all t h l))
 
   named_return : (a : ℕ) → is_top stack a ≡ false → Contains names a → Contains (indirect_ends false row.length at stack names) (ToAddress stack a)
   named_return a e h =
@@ -163,8 +163,7 @@ allowed_along : (p : Program) (q : Point) (b : Bool) (c : Place) → (b ≡ true
 allowed_along p q true c h ok = (h refl, ok)
 allowed_along p q false c h ok = tt
 
-module _ (p : Program) (row : Row) (turns : ℕ) (entry old new : State) (at : file_row p old.pc ≡ Some row) (ok : IsState new) (aligned : (new.pc % 4 == 0)
-    ≡ true) where
+module _ (p : Program) (row : Row) (turns : ℕ) (entry old new : State) (at : file_row p old.pc ≡ Some row) (ok : IsState new) (aligned : is_place p.machine.narrow new.pc ≡ true) where
   abbrev from : List ℕ → Point
   from stack = point p row turns old.pc stack
 
@@ -226,7 +225,7 @@ module _ (p : Program) (row : Row) (turns : ℕ) (entry old : State) (at : file_
   abbrev its_point : Point
   its_point = point p row turns old.pc stack
 
-  aligned_along : (how : How) (new : State) (b : Bool) → (new.pc % 4 == 0) ≡ b → IsState new → IsSuccessor (row.successors old.pc) (Goes how new) →
+  aligned_along : (how : How) (new : State) (b : Bool) → is_place p.machine.narrow new.pc ≡ b → IsState new → IsSuccessor (row.successors old.pc) (Goes how new) →
       ComesNext row.length old (Goes how new) →
       GoesAlong p its_point (aligned_transfer b (by_file p) entry row old stack how new)
   aligned_along how new true b state h e = transfer_along p row turns entry old new at state b how stack h e
@@ -236,7 +235,7 @@ module _ (p : Program) (row : Row) (turns : ℕ) (entry old : State) (at : file_
       ComesNext row.length old (Goes how new) →
       GoesAlong p its_point (going_on writes (by_file p) entry row old stack how new)
   going_along how new true state h e = tt
-  going_along how new false state h e = aligned_along how new (new.pc % 4 == 0) refl state h e
+  going_along how new false state h e = aligned_along how new (is_place p.machine.narrow new.pc) refl state h e
 
   raised_along : (writes : Bool) (e : Exception) → GoesAlong p its_point (Stops (exception_event writes e))
   raised_along true EnvironmentCall = tt
@@ -263,14 +262,14 @@ module _ (p : Program) (lawful : HasLawfulRows p) (turns choice : ℕ) (entry : 
       row_along p row turns entry c.state e law ok c.stack (writes_kept (by_file p) row c.state) (row.effect c.state choice)
       (law.successors c.state choice ok) (law.next c.state choice ok) (law.states c.state choice ok)
 
-  by_fetch_along : (b : Bool) → fetchable p c.state.pc ≡ b → GoesAlong p (point_of turns c) (by_fetch b (by_file p) entry c choice)
+  by_fetch_along : (b : Bool) → fetchable p (file_word p c.state.pc) c.state.pc ≡ b → GoesAlong p (point_of turns c) (by_fetch b (by_file p) entry c choice)
   by_fetch_along false e = tt
   by_fetch_along true e =
       by_row_along (p.machine.row (file_word p c.state.pc)) (ap (λ z. if z then p.machine.row (file_word p c.state.pc) else None) e)
 
   after_asserts_along : (o : Option ℕ) → GoesAlong p (point_of turns c) (after_asserts o (by_file p) entry c choice)
   after_asserts_along (Some line) = tt
-  after_asserts_along None = by_fetch_along (fetchable p c.state.pc) refl
+  after_asserts_along None = by_fetch_along (fetchable p (file_word p c.state.pc) c.state.pc) refl
 
   pub steps_along : GoesAlong p (point_of turns c) (step (by_file p) entry c choice)
   steps_along = after_asserts_along (false_assert p.machine.endian p.notes.asserts c.state entry)

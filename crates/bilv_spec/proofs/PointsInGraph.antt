@@ -2,8 +2,9 @@
 use Rattle.std.proofs.Common.{◌≡◌, ◌≢◌, ◌⊎◌, ⊎_elim, inl, inr, ℕ, zero, suc, ◌%◌, refl, ap, sym, ◌∙◌, subst, arith, List, [], ◌∷◌, ◌++◌, Option, Some, None, Bool, true, false}
 use Rattle.std.specs.Prelude.{Contains, ◌==◌, ◌&&◌, ◌||◌, not, nat_lt, if◌then◌else◌, map, filter}
 use Rattle.std.proofs.lemmas.Bool.Decides.{nat_tests}
+use Rattle.std.proofs.lemmas.Bool.{eq-eqb}
 use Rattle.word_spec.specs.Words.{add}
-use Rattle.machine_spec.specs.Machine.{Row, Successors}
+use Rattle.machine_spec.specs.Machine.{Row, Successors, IsAtPlace, is_place, unit}
 use Rattle.bilv_spec.specs.Run.{Program, named, some_of}
 use Rattle.bilv_spec.specs.Points.{Point, EdgeEnd, ToAddress, ToExit, edges, edges_of, edges_by, fall_ends, jump_ends, indirect_ends, return_ends, after_call, is_top, leads_on, distinct, same_end, file_row, file_word, IsPoint, first, next}
 use Rattle.bilv_spec.specs.Graph.{Letter, NextLetter, JumpLetter, CallLetter, ReturnLetter, letter_order, Successor, successor, successors_of, successors_by, comes_before, insert, sort, successors_at, may_return, returns_by, IsAddress, entry, listed, LeadsTo, along, back}
@@ -115,7 +116,7 @@ is_address (ToAddress s a) = true
 
 module _ (p : Program) where
   abbrev Returns : List ℕ → Type 0
-  Returns stack = (b : ℕ) → Contains stack b → b % 4 ≡ 0 → IsReturnAddress p b
+  Returns stack = (b : ℕ) → Contains stack b → IsAtPlace p.machine.narrow b → IsReturnAddress p b
 
   -- what an edge's end is to be
   record Follows (at : ℕ) (stack : List ℕ) (a : ℕ) : Type 0 where
@@ -148,13 +149,13 @@ module _ (p : Program) where
     abbrev backs : Bool → List Successor
     backs b = if b then successor ReturnLetter (add 32 at row.length) ∷ [] else []
 
-    in_successors : (x : Successor) → x.to % 4 ≡ 0 → Contains (successors_of p at row s) x → Contains (successors_at p at) x
+    in_successors : (x : Successor) → IsAtPlace p.machine.narrow x.to → Contains (successors_of p at row s) x → Contains (successors_at p at) x
     in_successors x e h =
-        let t : (x.to % 4 == 0) ≡ true = grind (arith, nat_tests) in
+        let t : is_place p.machine.narrow x.to ≡ true = eq-eqb (x.to % unit p.machine.narrow) 0 e in
         subst (λ (z : Option Row). Contains (sort (successors_by p at z)) x) (sym is)
-        (in_sort (filter (λ y. y.to % 4 == 0) (successors_of p at row s)) x (in_filter (λ y. y.to % 4 == 0) (successors_of p at row s) x h t))
+        (in_sort (filter (λ y. is_place p.machine.narrow y.to) (successors_of p at row s)) x (in_filter (λ y. is_place p.machine.narrow y.to) (successors_of p at row s) x h t))
 
-    next_in : (a : ℕ) → a % 4 ≡ 0 → s.next ≡ true → a ≡ add 32 at row.length → LeadsTo p at a
+    next_in : (a : ℕ) → IsAtPlace p.machine.narrow a → s.next ≡ true → a ≡ add 32 at row.length → LeadsTo p at a
     next_in a e t q =
         let x : Successor = successor NextLetter a in
         let h : Contains (ons true) x = (0, omega arith, ap (successor NextLetter) (sym q)) in
@@ -162,14 +163,14 @@ module _ (p : Program) where
         (in_left (ons s.next ++ jumps) (throughs s.indirect) x (in_left (ons s.next) jumps x (subst (λ (z : Bool). Contains (ons z) x) (sym t) h)))))
         (λ c. let d = ap letter_order c in absurd (omega arith)) refl
 
-    direct_in : (a : ℕ) → a % 4 ≡ 0 → Contains (some_of s.direct) a → LeadsTo p at a
+    direct_in : (a : ℕ) → IsAtPlace p.machine.narrow a → Contains (some_of s.direct) a → LeadsTo p at a
     direct_in a e h =
         let x : Successor = successor letter a in
         along x (in_successors x e (in_left (ons s.next ++ jumps ++ throughs s.indirect) (backs s.call) x
         (in_left (ons s.next ++ jumps) (throughs s.indirect) x (in_right (ons s.next) jumps x (in_map (successor letter) (some_of s.direct) a h)))))
         (no_return s.call) refl
 
-    named_in : (a : ℕ) → a % 4 ≡ 0 → s.indirect ≡ true → Contains names a → LeadsTo p at a
+    named_in : (a : ℕ) → IsAtPlace p.machine.narrow a → s.indirect ≡ true → Contains names a → LeadsTo p at a
     named_in a e t h =
         let x : Successor = successor letter a in
         let g : Contains (throughs true) x = in_map (successor letter) names a h in
@@ -177,7 +178,7 @@ module _ (p : Program) where
         (in_right (ons s.next ++ jumps) (throughs s.indirect) x (subst (λ (z : Bool). Contains (throughs z) x) (sym t) g))))
         (no_return s.call) refl
 
-    pushed : (b : ℕ) → b % 4 ≡ 0 → s.call ≡ true → b ≡ add 32 at row.length → IsReturnAddress p b
+    pushed : (b : ℕ) → IsAtPlace p.machine.narrow b → s.call ≡ true → b ≡ add 32 at row.length → IsReturnAddress p b
     pushed b e t q =
         let x : Successor = successor ReturnLetter b in
         let h : Contains (backs true) x = (0, omega arith, ap (successor ReturnLetter) (sym q)) in (
@@ -196,7 +197,7 @@ module _ (p : Program) where
     pops : (call indirect : Bool) → s.call ≡ call → s.indirect ≡ indirect → (indirect && not call) ≡ true → may_return p at ≡ true
     pops call indirect c i h = ap (returns_by at) is ∙ ap (λ z. z && not s.call) i ∙ ap (λ z. indirect && not z) c ∙ h
 
-    return_follows : (l : List ℕ) → Returns l → s.call ≡ false → s.indirect ≡ true → (below : List ℕ) (a : ℕ) → a % 4 ≡ 0 →
+    return_follows : (l : List ℕ) → Returns l → s.call ≡ false → s.indirect ≡ true → (below : List ℕ) (a : ℕ) → IsAtPlace p.machine.narrow a →
         Contains (return_ends l) (ToAddress below a) →
         Follows at below a
     return_follows [] r c i below a e (zero, l, q) = absurd (let t : false ≡ true = ap is_address q in cc)
@@ -211,7 +212,7 @@ module _ (p : Program) where
           returns = λ b h g. r b (there top rest b (subst (λ (z : List ℕ). Contains z b) (sym same_stack) h)) g;
         }
 
-    indirect_follows : (call : Bool) → s.call ≡ call → s.indirect ≡ true → (new : List ℕ) (a : ℕ) → a % 4 ≡ 0 →
+    indirect_follows : (call : Bool) → s.call ≡ call → s.indirect ≡ true → (new : List ℕ) (a : ℕ) → IsAtPlace p.machine.narrow a →
         Contains (indirect_ends call row.length at stack names) (ToAddress new a) →
         Follows at new a
     indirect_follows true c i new a e h =
@@ -232,12 +233,12 @@ module _ (p : Program) where
               })
         ]
 
-    through_by : (b : Bool) → s.indirect ≡ b → (new : List ℕ) (a : ℕ) → a % 4 ≡ 0 →
+    through_by : (b : Bool) → s.indirect ≡ b → (new : List ℕ) (a : ℕ) → IsAtPlace p.machine.narrow a →
         Contains (if b then indirect_ends s.call row.length at stack names else []) (ToAddress new a) → Follows at new a
     through_by false i new a e h = none_in (ToAddress new a) h
     through_by true i new a e h = indirect_follows s.call refl i new a e h
 
-    fall_by : (b : Bool) → s.next ≡ b → (new : List ℕ) (a : ℕ) → a % 4 ≡ 0 →
+    fall_by : (b : Bool) → s.next ≡ b → (new : List ℕ) (a : ℕ) → IsAtPlace p.machine.narrow a →
         Contains (if b then ToAddress stack (add 32 at row.length) ∷ [] else []) (ToAddress new a) → Follows at new a
     fall_by false n new a e h = none_in (ToAddress new a) h
     fall_by true n new a e (suc i, l, q) = absurd (omega arith)
@@ -246,7 +247,7 @@ module _ (p : Program) where
     abbrev point : ℕ → Point
     point turns = record { turns = turns; stack = stack; at = at }
 
-    edge_follows : (turns : ℕ) (new : List ℕ) (a : ℕ) → a % 4 ≡ 0 → Contains (edges_of p (point turns) row s) (ToAddress new a) → Follows at new a
+    edge_follows : (turns : ℕ) (new : List ℕ) (a : ℕ) → IsAtPlace p.machine.narrow a → Contains (edges_of p (point turns) row s) (ToAddress new a) → Follows at new a
     edge_follows turns new a e h = elim (split_in (jump_ends p (point turns) row s) (fall_ends (point turns) row s) (ToAddress new a) h) [
       | inr f ↦ fall_by s.next refl new a e f
       | inl j ↦ elim (split_in (map (λ a. ToAddress (after_call s.call row.length at stack) a) (some_of s.direct)) (if s.indirect
@@ -284,19 +285,19 @@ module _ (p : Program) where
     ]
 
   exit_by_row : (o : Option Row) (turns at : ℕ) (stack : List ℕ) → file_row p at ≡ o → IsAddress p at → Returns stack →
-      Contains (distinct (filter leads_on (edges_by p (record { turns = turns; stack = stack; at = at }) o))) ToExit → may_return p at ≡ true
+      Contains (distinct (filter (leads_on p.machine.narrow) (edges_by p (record { turns = turns; stack = stack; at = at }) o))) ToExit → may_return p at ≡ true
   exit_by_row None turns at stack e is r h = none_in ToExit h
   exit_by_row (Some row) turns at stack e is r h =
       let all : List EdgeEnd = edges_of p (record { turns = turns; stack = stack; at = at }) row (row.successors at) in
-      exit_returns row at stack e is r turns (of_filter leads_on all ToExit (of_distinct (filter leads_on all) ToExit h)).0
+      exit_returns row at stack e is r turns (of_filter (leads_on p.machine.narrow) all ToExit (of_distinct (filter (leads_on p.machine.narrow) all) ToExit h)).0
 
   edge_by : (o : Option Row) (turns at : ℕ) (stack : List ℕ) → file_row p at ≡ o → IsAddress p at → Returns stack → (new : List ℕ) (a : ℕ) →
-      Contains (distinct (filter leads_on (edges_by p (record { turns = turns; stack = stack; at = at }) o))) (ToAddress new a) → Follows at new a
+      Contains (distinct (filter (leads_on p.machine.narrow) (edges_by p (record { turns = turns; stack = stack; at = at }) o))) (ToAddress new a) → Follows at new a
   edge_by None turns at stack e is r new a h = none_in (ToAddress new a) h
   edge_by (Some row) turns at stack e is r new a h =
       let all : List EdgeEnd = edges_of p (record { turns = turns; stack = stack; at = at }) row (row.successors at) in
-      let q = of_filter leads_on all (ToAddress new a) (of_distinct (filter leads_on all) (ToAddress new a) h) in
-      edge_follows row at stack e is r turns new a (same_number (a % 4) 0 q.1) q.0
+      let q = of_filter (leads_on p.machine.narrow) all (ToAddress new a) (of_distinct (filter (leads_on p.machine.narrow) all) (ToAddress new a) h) in
+      edge_follows row at stack e is r turns new a (same_number (a % unit p.machine.narrow) 0 q.1) q.0
 
   edge_of_point : (point : Point) → IsAddress p point.at → Returns point.stack → (new : List ℕ) (a : ℕ) → Contains (edges p point) (ToAddress new a) →
       Follows point.at new a

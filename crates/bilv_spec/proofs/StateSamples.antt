@@ -6,7 +6,8 @@ use Rattle.word_spec.specs.Memory.{Little, Big}
 use Rattle.bilv_spec.specs.Elf.{loaded}
 use Rattle.bilv_spec.specs.Notes.{Notes, At, Register, Old, Binary, Above}
 use Rattle.word_spec.specs.RowFiles.{rv_file}
-use Rattle.machine_spec.specs.Rv.{rv32, table, rv_row}
+use Rattle.machine_spec.specs.Rv.{table, rv_row}
+use Rattle.machine_spec.specs.RvMachine.{rv32}
 use Rattle.bilv_spec.specs.Run.{Program, in_memory, run}
 use Rattle.machine_spec.specs.Endings.{AssertFails, FetchFails, AlignFails, EnsureFails, FailsBy, UnknownBy, named_line}
 use Rattle.bilv_spec.specs.Reports.{FoundExit, FoundLeft, found}
@@ -43,12 +44,12 @@ rv_lines =
     ∷ [])
     ++ codes "byte 0x00008000 0x11" ∷ codes "byte 0x00008001 0xfe" ∷ codes "end" ∷ []
 
-rv_printed : printed rv_layout (rv_report 0xffffffff) ≡ lines rv_lines
+rv_printed : printed (rv_layout false) (rv_report 0xffffffff) ≡ lines rv_lines
 unfolding printed digits
 rv_printed = refl
 
 -- the same text says the same state, where no byte is known
-rv_told : state_of rv_layout (λ a. false) (lines rv_lines) ≡ StateIs (rv_report 0xffffffff)
+rv_told : state_of (rv_layout false) (λ a. false) (lines rv_lines) ≡ StateIs (rv_report 0xffffffff)
 unfolding state_of digits
 rv_told = refl
 
@@ -139,7 +140,7 @@ behind_end = refl
 
 -- heads: no line, an ending that is none, a missing machine, another machine, a missing register at the first other line or behind the last
 abbrev rv_tells : List (List ℕ) → Told
-rv_tells text = state_of rv_layout (λ a. false) (lines text)
+rv_tells text = state_of (rv_layout false) (λ a. false) (lines text)
 
 head_faults :
     map rv_tells
@@ -174,30 +175,30 @@ notes = record {
 }
 
 abbrev program : Program
-program = record { machine = rv32; word = in_memory rv32; loaded = loaded (rv_file (0x00150513 ∷ 0x00008067 ∷ [])); entry = 0x10000; notes = notes }
+program = record { machine = rv32 false; word = in_memory (rv32 false); loaded = loaded (rv_file (0x00150513 ∷ 0x00008067 ∷ [])); entry = 0x10000; notes = notes; out = λ f. false }
 
 -- the largest word wraps, and 0 does not
-replays : replay_answer program rv_layout (printed rv_layout (rv_report 0xffffffff))
+replays : replay_answer program (rv_layout false) (printed (rv_layout false) (rv_report 0xffffffff))
     ≡ plain_answer 0 (line (codes "replayed fails ensure 2 at 0x00010004 step 1"))
 unfolding printed state_of digits run table rv_row
 replays = refl
 
-replays_not : replay_answer program rv_layout (printed rv_layout (rv_report 0)) ≡
+replays_not : replay_answer program (rv_layout false) (printed (rv_layout false) (rv_report 0)) ≡
     plain_answer 9 (line (codes "replay: named fails ensure 2 at 0x00010004 step 1, found exit at 0x00010004 step 1"))
 unfolding printed state_of digits run table rv_row
 replays_not = refl
 
 -- after one step of two the run goes on: the last step is that at 0x10000
-runs_on : found program None (start_in program rv_layout (rv_state 0)) 0 ≡ FoundLeft 0x10000 0
+runs_on : found program None (start_in program (rv_layout false) (rv_state 0)) 0 ≡ FoundLeft 0x10000 0
 unfolding run table rv_row
 runs_on = refl
 
-runs_out : found program None (start_in program rv_layout (rv_state 0)) 5 ≡ FoundExit 0x10004 1
+runs_out : found program None (start_in program (rv_layout false) (rv_state 0)) 5 ≡ FoundExit 0x10004 1
 unfolding run table rv_row
 runs_out = refl
 
 -- the lines of reports
-reports : map (λ r. report_text rv_layout default_budget r NoEvidence) (HoldsReport ∷ VacuousReport ∷ PointsReport ∷ SizeReport ∷ ConflictsReport ∷ []) ≡
+reports : map (λ r. report_text (rv_layout false) default_budget r NoEvidence) (HoldsReport ∷ VacuousReport ∷ PointsReport ∷ SizeReport ∷ ConflictsReport ∷ []) ≡
     map (λ text. line text)
     (codes "holds" ∷ codes "vacuous" ∷ codes "unknown points 65536" ∷ codes "unknown size 1073741824" ∷ codes "unknown conflicts 200000" ∷ [])
 unfolding digits

@@ -2,19 +2,18 @@
 use Rattle.std.proofs.Common.{◌≡◌, ℕ, ap, sym, ◌∙◌, Bool, true, false, List, if◌then◌else◌}
 use Rattle.word_spec.specs.Memory.{Endian}
 use Rattle.bilv_spec.specs.Elf.{file_endian}
-use Rattle.word_spec.specs.Profiles.{Profile}
 use Rattle.call_spec.specs.Calls.{Options}
 use Rattle.bilv_spec.specs.Files.{is_rv, layout_of}
 use Rattle.machine_spec.specs.StateText.{rv_layout, arm_layout, StateText, IsWritten, IsNamed, printed, Told, StateIs, StateRefused, state_of}
 use Rattle.machine_spec.proofs.StateLines.{IsLayout, rv_is_layout, arm_is_layout}
 use Rattle.machine_spec.proofs.StateBack.{printed_back}
 
-layout_by : (b : Bool) (e : Endian) (profile : Profile) → IsLayout (if b then rv_layout else arm_layout e profile)
-layout_by true e profile = rv_is_layout
-layout_by false e profile = arm_is_layout e profile
+layout_by : (b : Bool) (e : Endian) (o : Options) → IsLayout (if b then rv_layout o.compressed else arm_layout e o.profile)
+layout_by true e o = rv_is_layout o.compressed
+layout_by false e o = arm_is_layout e o.profile
 
 pub file_layout : (o : Options) (file : List ℕ) → IsLayout (layout_of o file)
-file_layout o file = layout_by (is_rv file) (file_endian file) o.profile
+file_layout o file = layout_by (is_rv file) (file_endian file) o
 
 pub printed_is_told : (o : Options) (file : List ℕ) (known : ℕ → Bool) (t : StateText) → IsWritten (layout_of o file) known t.start → IsNamed t.named →
     state_of (layout_of o file) known (printed (layout_of o file) t) ≡ StateIs t

@@ -7,7 +7,7 @@ use Rattle.bilv_spec.specs.Notes.{Op, Expr, At, Named}
 use Rattle.word_spec.specs.Tokens.{Token, NumberToken, NameToken, SignToken, BadByte, BadText, tokens_of}
 use Rattle.bilv_spec.specs.NotesGrammar.{load_words, lines_of, number_at, AreNumbers, operators, Parses, tighter, binary_of, not_of, number_of, name_of, memory_of, old_of, all_of, in_brackets, Says, Nothing, EntryIs, RequireIs, EnsureIs, AssertIs, TargetsAre, FixedIs, VersionIs, ConstIs, LoadedIs, IsSaid, IsVersion, IsNew, is_depth, IsLine, AreLines, version_line, is_second, line_limit, requires_of, ensures_of, asserts_of, IsNotesText}
 use Rattle.bilv_spec.proofs.Decided.{none_some}
-use Rattle.bilv_spec.specs.Scopes.{Scope, Strict, begin, reserved_first, named}
+use Rattle.bilv_spec.specs.Scopes.{Vocabulary, Scope, Strict, begin, reserved_first, named}
 use Rattle.bilv_spec.specs.RvNames.{rv_table}
 use Rattle.bilv_spec.specs.ArmNames.{arm_table}
 use Rattle.bilv_spec.specs.Upgrades.{NoneIsAll, later_line, later_assert, later_notes, UpgradeSaysSame}
@@ -51,28 +51,28 @@ any_more p (x ∷ xs) y a b = by (p x) a (any_more p xs y) where
   by false a f = f a b
   by true a f = absurd (let x : ⊥ = cc in x)
 
-module _ (names : List ℕ → Option Expr) (no_all : names (codes "all") ≡ None) where
+module _ (words : Vocabulary) (no_all : words.names (codes "all") ≡ None) where
   -- the scopes of the lines of version 1 and of version 2
   abbrev pub first : Bool → Scope
-  first f = record { names = names; consts = []; bound = []; is_second = false; is_first = f; mode = Strict }
+  first f = record { names = words.names; narrow = words.narrow; consts = []; bound = []; is_second = false; is_first = f; mode = Strict }
 
   abbrev pub second : Scope
-  second = record { names = names; consts = []; bound = []; is_second = true; is_first = false; mode = Strict }
+  second = record { names = words.names; narrow = words.narrow; consts = []; bound = []; is_second = true; is_first = false; mode = Strict }
 
   is_named : (b : Bool) (o : Option Expr) (e : Expr) → (if b then None else o) ≡ Some e → (b ≡ false) × (o ≡ Some e)
   is_named true o e is = absurd (none_some Expr e is)
   is_named false o e is = (refl, is)
 
-  not_all : (w : List ℕ) (e : Expr) → names w ≡ Some e → bytes_eq w (codes "all") ≡ false
+  not_all : (w : List ℕ) (e : Expr) → words.names w ≡ Some e → bytes_eq w (codes "all") ≡ false
   not_all w e is = is_false (bytes_eq w (codes "all")) (λ h.
-      none_some Expr e (sym no_all ∙ subst (λ x. names x ≡ Some e) ((bytes_eq-Decides w (codes "all")).0 h) is))
+      none_some Expr e (sym no_all ∙ subst (λ x. words.names x ≡ Some e) ((bytes_eq-Decides w (codes "all")).0 h) is))
 
   -- a name means the same
   name_lifted : (f : Bool) (w : List ℕ) (e : Expr) → named (first f) w ≡ Some e → (named second w ≡ Some e) × (bytes_eq w (codes "all") ≡ false)
   name_lifted f w e is =
-      let n = is_named (list_any (bytes_eq w) reserved_first) (names w) e is in
+      let n = is_named (list_any (bytes_eq w) reserved_first) (words.names w) e is in
       let a = not_all w e n.1 in
-      (ap (λ b. if b then None else names w) (any_more (bytes_eq w) reserved_first (codes "all") n.0 a) ∙ n.1, a)
+      (ap (λ b. if b then None else words.names w) (any_more (bytes_eq w) reserved_first (codes "all") n.0 a) ∙ n.1, a)
 
   same_name : (w : List ℕ) → bytes_eq w (codes "all") ≡ false → is_depth true (NameToken w) ≡ is_depth false (NameToken w)
   same_name w a = ap (λ b. bytes_eq w (codes "not") || b) a
@@ -260,8 +260,8 @@ asserts_later n (ConstIs w v ∷ says) = asserts_later (n + 1) says
 asserts_later n (LoadedIs ∷ says) = asserts_later (n + 1) says
 
 -- the line of the version
-version_said : (names : List ℕ → Option Expr) → IsLine (begin names true) (codes "notes 2") (VersionIs true)
-version_said names = record {
+version_said : (v : Vocabulary) → IsLine (begin v true) (codes "notes 2") (VersionIs true)
+version_said v = record {
   short = omega arith;
   good = search rules;
   depth = omega arith;
@@ -273,14 +273,14 @@ version_said names = record {
 }
 
 pub upgrade_says_same : UpgradeSaysSame
-upgrade_says_same names no_all text notes one is =
-    let from : AreLines (begin names false) (lines_of text) is.says = subst (λ b. AreLines (begin names b) (lines_of text) is.says) one is.lines in
+upgrade_says_same v no_all text notes one is =
+    let from : AreLines (begin v false) (lines_of text) is.says = subst (λ b. AreLines (begin v b) (lines_of text) is.says) one is.lines in
     let few : length (lines_of text) ≤ 4096 = subst (λ b. length (lines_of text) ≤ line_limit b) one is.short in
     let n = is.notes_are in
-    subst (λ t. IsNotesText names t (later_notes notes)) (sym (ap (λ b. if b then text else codes "notes 2" ++ 10 ∷ text) one)) (record {
+    subst (λ t. IsNotesText v t (later_notes notes)) (sym (ap (λ b. if b then text else codes "notes 2" ++ 10 ∷ text) one)) (record {
       short = omega (arith, few);
       says = VersionIs true ∷ is.says;
-      lines = (version_said names, lines_lifted names no_all true (lines_of text) is.says (λ e. one) from);
+      lines = (version_said v, lines_lifted v no_all true (lines_of text) is.says (λ e. one) from);
       notes_are = (
         n.0,
         requires_later 1 is.says ∙ ap (map later_line) n.1,

@@ -1,5 +1,5 @@
 -- Which files are refused, and the functions that the symbols name (System V ABI, chapters 4 and 5).
-use Rattle.std.specs.Prelude.{ℕ, ◌≡◌, ◌≢◌, ◌≤◌, ◌<◌, ◌+◌, ◌*◌, ◌%◌, ◌^◌, ◌⊎◌, List, [], ◌∷◌, length, take, drop, slice_index, slice_get, Some}
+use Rattle.std.specs.Prelude.{Bool, ℕ, ◌≡◌, ◌≢◌, ◌≤◌, ◌<◌, ◌+◌, ◌*◌, ◌%◌, ◌^◌, ◌⊎◌, List, [], ◌∷◌, length, take, drop, slice_index, slice_get, Some}
 use Rattle.machine_spec.specs.Machine.{IsAtPlace}
 use Rattle.bilv_spec.specs.Elf.{field, Segment, segments}
 
@@ -43,16 +43,16 @@ IsName file table at name =
     (at + length name < table.size) × (take (length name) (drop (table.offset + at) file) ≡ name)
     × (slice_index file (table.offset + at + length name) ≡ 0) × ((i : ℕ) → i < length name → slice_index name i ≢ 0)
 
--- symbol k of section i is the function name at the address a: STT_FUNC is 2, and it is defined in some section
-abbrev pub IsFunctionSymbol : List ℕ → ℕ → ℕ → List ℕ → ℕ → Type 0
-IsFunctionSymbol file i k name a =
+-- symbol k of section i is the function name at the address a, at which a row can stand: STT_FUNC is 2, and it is defined in some section
+abbrev pub IsFunctionSymbol : (narrow : Bool) → List ℕ → ℕ → ℕ → List ℕ → ℕ → Type 0
+IsFunctionSymbol narrow file i k name a =
     let at = (section file i).offset + 16 * k in
     IsName file (section file (section file i).link) (field file 4 at) name
-    × (field file 4 (at + 4) ≡ a) × (slice_index file (at + 12) % 16 ≡ 2) × (field file 2 (at + 14) ≢ 0) × IsAtPlace a
+    × (field file 4 (at + 4) ≡ a) × (slice_index file (at + 12) % 16 ≡ 2) × (field file 2 (at + 14) ≢ 0) × IsAtPlace narrow a
 
 -- a symbol is the function name at the address a
-abbrev pub IsFunction : List ℕ → List ℕ → ℕ → Type 0
-IsFunction file name a = (i k : ℕ) × IsSymbols file i × (16 * k < (section file i).size) × IsFunctionSymbol file i k name a
+abbrev pub IsFunction : (narrow : Bool) → List ℕ → List ℕ → ℕ → Type 0
+IsFunction narrow file name a = (i k : ℕ) × IsSymbols file i × (16 * k < (section file i).size) × IsFunctionSymbol narrow file i k name a
 
 -- a symbol table that is refused
 abbrev pub IsBadSymbols : List ℕ → ℕ → Type 0
@@ -126,11 +126,11 @@ abbrev pub IsImage : List ℕ → Type 0
 IsImage file = (f : FileFault) → ¬ FileFaultApplies file f
 
 -- what a name finds
-abbrev pub Finds : List ℕ → List ℕ → ℕ → Type 0
-Finds file name a = IsFunction file name a × ((b : ℕ) → IsFunction file name b → b ≡ a)
+abbrev pub Finds : (narrow : Bool) → List ℕ → List ℕ → ℕ → Type 0
+Finds narrow file name a = IsFunction narrow file name a × ((b : ℕ) → IsFunction narrow file name b → b ≡ a)
 
 -- the two least addresses of a name that has several
-abbrev pub IsAmbiguous : List ℕ → List ℕ → ℕ → ℕ → Type 0
-IsAmbiguous file name a b =
-    IsFunction file name a × IsFunction file name b × (a < b)
-    × ((c : ℕ) → IsFunction file name c → (c ≡ a) ⊎ (b ≤ c))
+abbrev pub IsAmbiguous : (narrow : Bool) → List ℕ → List ℕ → ℕ → ℕ → Type 0
+IsAmbiguous narrow file name a b =
+    IsFunction narrow file name a × IsFunction narrow file name b × (a < b)
+    × ((c : ℕ) → IsFunction narrow file name c → (c ≡ a) ⊎ (b ≤ c))

@@ -5,7 +5,7 @@ use Rattle.word_spec.specs.State.{State}
 use Rattle.bilv_spec.specs.Run.{Program, false_line}
 use Rattle.bilv_spec.specs.Points.{is_known_at, byte_of_cell}
 
--- the link register is no multiple of 4; a require line is false, by its number; the byte at an address isn't the file's
+-- at the address in the link register no row can stand; a require line is false, by its number; the byte at an address isn't the file's
 pub data EntryStateFault : Type 0 where
   UnalignedLink : EntryStateFault
   FalseRequire : (line : ℕ) → EntryStateFault
@@ -21,7 +21,7 @@ false_require p s = false_line p.machine.endian p.notes.requires s s
 
 -- the first fault, in the order link, require lines by their numbers, bytes by their addresses
 abbrev pub IsEntryStateFault : Program → State → EntryStateFault → Type 0
-IsEntryStateFault p s UnalignedLink = ¬ IsAtPlace (s.regs p.machine.link)
-IsEntryStateFault p s (FalseRequire n) = IsAtPlace (s.regs p.machine.link) × (false_require p s ≡ Some n)
+IsEntryStateFault p s UnalignedLink = ¬ IsAtPlace p.machine.narrow (s.regs p.machine.link)
+IsEntryStateFault p s (FalseRequire n) = IsAtPlace p.machine.narrow (s.regs p.machine.link) × (false_require p s ≡ Some n)
 IsEntryStateFault p s (WrongByte a) =
-    IsAtPlace (s.regs p.machine.link) × (false_require p s ≡ None) × IsWrongByte p s a × ((c : ℕ) → c < a → ¬ IsWrongByte p s c)
+    IsAtPlace p.machine.narrow (s.regs p.machine.link) × (false_require p s ≡ None) × IsWrongByte p s a × ((c : ℕ) → c < a → ¬ IsWrongByte p s c)

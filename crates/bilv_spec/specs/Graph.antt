@@ -36,10 +36,10 @@ successors_of p at row s =
     ++ (if s.indirect then map (successor (if s.call then CallLetter else JumpLetter)) (named p (file_word p) row at) else [])
     ++ (if s.call then successor ReturnLetter (add 32 at row.length) ∷ [] else [])
 
--- the successors by the row at the address that are multiples of 4; any other next address ends a run
+-- the successors by the row at the address at which a row can stand; any other next address ends a run
 abbrev pub successors_by : Program → ℕ → Option Row → List Successor
 successors_by p at None = []
-successors_by p at (Some row) = filter (λ x. is_place x.to) (successors_of p at row (row.successors at))
+successors_by p at (Some row) = filter (λ x. is_place p.machine.narrow x.to) (successors_of p at row (row.successors at))
 
 -- one successor stands before another: its address is less, or it is the same and its letter comes first
 abbrev pub comes_before : Successor → Successor → Bool

@@ -3,7 +3,7 @@ use Rattle.std.specs.Prelude.{ℕ, ◌≡◌, ◌<◌, Bool, true, if◌then◌e
 use Rattle.std.specs.List.{flat_map}
 use Rattle.machine_spec.specs.Machine.{Row}
 use Rattle.bilv_spec.specs.Run.{Program, fetchable}
-use Rattle.bilv_spec.specs.Points.{file_row}
+use Rattle.bilv_spec.specs.Points.{file_row, file_word}
 use Rattle.word_spec.specs.Texts.{word_text, spaced, line}
 use Rattle.bilv_spec.specs.Graph.{Letter, NextLetter, JumpLetter, CallLetter, ReturnLetter, Successor, successors_at, may_return, IsAddress}
 use Rattle.bilv_spec.specs.LiveFlags.{IsLive}
@@ -32,7 +32,7 @@ keeps_words (n ∷ ns) = codes "keeps" ∷ n ∷ ns
 
 -- what stands behind the address
 abbrev pub row_words : Program → ℕ → (ℕ → Bool) → Option Row → List (List ℕ)
-row_words p a keeps None = (if fetchable p a then codes "norow" else codes "fetch") ∷ []
+row_words p a keeps None = (if fetchable p (file_word p a) a then codes "norow" else codes "fetch") ∷ []
 row_words p a keeps (Some row) =
     flat_map successor_words (successors_at p a) ++ (if may_return p a then codes "x" ∷ [] else []) ++ keeps_words (kept_names keeps)
 

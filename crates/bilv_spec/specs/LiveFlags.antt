@@ -38,9 +38,9 @@ surely_by f (Some row) = row.flags.surely f
 abbrev pub asserts_flag : Program → ℕ → ℕ → Bool
 asserts_flag p f a = list_any (λ x. (x.at == a) && names_flag f x.says) p.notes.asserts
 
--- an ensure line names the flag
+-- the flag is asked for at the exit: by itself, or as an ensure line names it
 abbrev pub ensures_flag : Program → ℕ → Bool
-ensures_flag p f = list_any (λ l. names_flag f l.says) p.notes.ensures
+ensures_flag p f = p.out f || list_any (λ l. names_flag f l.says) p.notes.ensures
 
 mutual
   -- the flag is read from an address on before it is surely assigned

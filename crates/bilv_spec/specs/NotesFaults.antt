@@ -1,7 +1,6 @@
 -- The first faulty line of notes, with its least fault.
 use Rattle.std.specs.Prelude.{ℕ, ◌≡◌, ◌≢◌, ◌≤◌, ◌<◌, ◌+◌, ◌^◌, ◌⊎◌, Bool, true, false, List, [], ◌∷◌, ◌++◌, Option, length, codes, count_by, Contains}
-use Rattle.bilv_spec.specs.Notes.{Expr}
-use Rattle.bilv_spec.specs.Scopes.{Scope, begin, lenient, loose}
+use Rattle.bilv_spec.specs.Scopes.{Vocabulary, Scope, begin, lenient, loose}
 use Rattle.word_spec.specs.Tokens.{Token, NumberToken, NameToken, SignToken, BadByte, BadText, tokens_of}
 use Rattle.bilv_spec.specs.NotesGrammar.{is_depth, Says, EntryIs, TargetsAre, IsSaid, AreAligned, IsRange, IsVersion, IsNew, AreLines, after_all, is_second, line_limit, lines_of, entries, targets_of}
 
@@ -77,7 +76,7 @@ NoteFaultApplies s n earlier text DepthFault = 64 < count_by (is_depth s.is_seco
 NoteFaultApplies s n earlier text WordFault = BeginsBadly s.is_second (tokens_of text)
 NoteFaultApplies s n earlier text SyntaxFault = (x : Says) → ¬ IsSaid (loose s) (tokens_of text) x
 NoteFaultApplies s n earlier text NameFault = (x : Says) → ¬ IsSaid (lenient s) (tokens_of text) x
-NoteFaultApplies s n earlier text AlignFault = (x : Says) × IsSaid (lenient s) (tokens_of text) x × ¬ AreAligned x
+NoteFaultApplies s n earlier text AlignFault = (x : Says) × IsSaid (lenient s) (tokens_of text) x × ¬ AreAligned s.narrow x
 NoteFaultApplies s n earlier text RangeFault = (x : Says) × IsSaid (lenient s) (tokens_of text) x × ¬ IsRange x
 NoteFaultApplies s n earlier text EntryFault = (x : Says) × IsSaid (lenient s) (tokens_of text) x × Repeats earlier x
 NoteFaultApplies s n earlier text VersionFault = (x : Says) × IsSaid (lenient s) (tokens_of text) x × ¬ IsVersion s x
@@ -96,15 +95,15 @@ pub record AreGood (s : Scope) (texts : List (List ℕ)) (says : List Says) : Ty
   pub none_repeats : NoneRepeats [] says
 
 -- what words mean at the first line of a text
-abbrev pub begin_of : (List ℕ → Option Expr) → List ℕ → Scope
-begin_of names text = begin names (is_second (lines_of text))
+abbrev pub begin_of : Vocabulary → List ℕ → Scope
+begin_of v text = begin v (is_second (lines_of text))
 
 -- The first faulty line is line n, and this is its least fault. Where each line is good but none names the function, it is the line after the last.
-pub data IsFirstNoteFault (names : List ℕ → Option Expr) (text : List ℕ) : ℕ → NoteFault → Type 0 where
+pub data IsFirstNoteFault (v : Vocabulary) (text : List ℕ) : ℕ → NoteFault → Type 0 where
   at_line : (good rest : List (List ℕ)) (bad : List ℕ) (says : List Says) {f : NoteFault} →
-      lines_of text ≡ good ++ bad ∷ rest → AreGood (begin_of names text) good says →
-      NoteFaultApplies (after_all (begin_of names text) says) (length good + 1) says bad f →
-      ((g : NoteFault) → note_fault_rank g < note_fault_rank f → ¬ NoteFaultApplies (after_all (begin_of names text) says) (length good + 1) says bad g) →
-      IsFirstNoteFault names text (length good + 1) f
-  no_entry : (says : List Says) → AreGood (begin_of names text) (lines_of text) says → entries says ≡ [] →
-      IsFirstNoteFault names text (length (lines_of text) + 1) EntryFault
+      lines_of text ≡ good ++ bad ∷ rest → AreGood (begin_of v text) good says →
+      NoteFaultApplies (after_all (begin_of v text) says) (length good + 1) says bad f →
+      ((g : NoteFault) → note_fault_rank g < note_fault_rank f → ¬ NoteFaultApplies (after_all (begin_of v text) says) (length good + 1) says bad g) →
+      IsFirstNoteFault v text (length good + 1) f
+  no_entry : (says : List Says) → AreGood (begin_of v text) (lines_of text) says → entries says ≡ [] →
+      IsFirstNoteFault v text (length (lines_of text) + 1) EntryFault

@@ -2,7 +2,7 @@
 use Rattle.std.specs.Prelude.{ℕ, ◌≡◌, ◌≤◌, ◌<◌, ◌+◌, ◌-◌, ◌^◌, Bool, true, false, List, [], ◌∷◌, ◌++◌, Option, Some, None, ◌==◌, ◌&&◌, ◌||◌, if◌then◌else◌, length, codes, count_by, All, AllPairs, Contains, ◌≢◌}
 use Rattle.std.specs.Str.{bytes_eq}
 use Rattle.machine_spec.specs.Machine.{IsAtPlace}
-use Rattle.bilv_spec.specs.Scopes.{Scope, begin, named, number_of_name, is_free, binding, may_bind, declaring, begun}
+use Rattle.bilv_spec.specs.Scopes.{Vocabulary, Scope, begin, named, number_of_name, is_free, binding, may_bind, declaring, begun}
 use Rattle.bilv_spec.specs.Notes.{Op, Or, And, Equal, NotEqual, Below, AtMost, Above, AtLeast, SignedBelow, SignedAtMost, SignedAbove, SignedAtLeast, BitOr, BitXor, BitAnd, ShiftLeft, ShiftRight, ShiftSigned, Plus, Minus, Times, Expr, Number, Memory, Old, Not, Binary, written_out, NoteLine, Assert, Targets, FixedRange, Function, At, Named, Notes}
 use Rattle.word_spec.specs.Tokens.{Token, NumberToken, NameToken, SignToken, BadByte, BadText, tokens_of}
 
@@ -115,16 +115,12 @@ IsSaid s ts (VersionIs b) = (rest : List Token) × (ts ≡ NameToken (codes "not
 IsSaid s ts (ConstIs w v) = (ts ≡ NameToken (codes "const") ∷ NameToken w ∷ NumberToken v ∷ []) × (s.is_second ≡ true)
 IsSaid s ts LoadedIs = (ts ≡ NameToken (codes "loaded") ∷ []) × (s.is_second ≡ true)
 
--- a multiple of 4
-abbrev pub IsAligned : ℕ → Type 0
-IsAligned a = IsAtPlace a
-
--- the addresses that it names are multiples of 4
-abbrev pub AreAligned : Says → Type 0
-AreAligned (EntryIs (At a)) = IsAligned a
-AreAligned (AssertIs a e) = IsAligned a
-AreAligned (TargetsAre a to) = IsAligned a × All IsAligned to
-AreAligned _ = Unit {0}
+-- rows can stand at the addresses that it names
+abbrev pub AreAligned : (narrow : Bool) → Says → Type 0
+AreAligned narrow (EntryIs (At a)) = IsAtPlace narrow a
+AreAligned narrow (AssertIs a e) = IsAtPlace narrow a
+AreAligned narrow (TargetsAre a to) = IsAtPlace narrow a × All (IsAtPlace narrow) to
+AreAligned narrow _ = Unit {0}
 
 -- its range is not empty
 abbrev pub IsRange : Says → Type 0
@@ -163,7 +159,7 @@ pub record IsLine (s : Scope) (text : List ℕ) (says : Says) : Type 0 where
   pub good : All IsGood (tokens_of text)
   pub depth : count_by (is_depth s.is_second) (tokens_of text) ≤ 64
   pub said : IsSaid s (tokens_of text) says
-  pub aligned : AreAligned says
+  pub aligned : AreAligned s.narrow says
   pub range : IsRange says
   pub version : IsVersion s says
   pub new : IsNew s says
@@ -246,8 +242,8 @@ AreNotes says notes =
     × AllPairs (λ s t. s.at ≢ t.at) notes.targets
 
 -- the text says these notes
-pub record IsNotesText (names : List ℕ → Option Expr) (text : List ℕ) (notes : Notes) : Type 0 where
+pub record IsNotesText (v : Vocabulary) (text : List ℕ) (notes : Notes) : Type 0 where
   pub short : length (lines_of text) ≤ line_limit (is_second (lines_of text))
   pub says : List Says
-  pub lines : AreLines (begin names (is_second (lines_of text))) (lines_of text) says
+  pub lines : AreLines (begin v (is_second (lines_of text))) (lines_of text) says
   pub notes_are : AreNotes says notes

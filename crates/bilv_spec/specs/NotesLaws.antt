@@ -5,7 +5,7 @@ use Rattle.word_spec.specs.Words.{bit}
 use Rattle.word_spec.specs.Memory.{Endian}
 use Rattle.word_spec.specs.State.{State, IsState}
 use Rattle.bilv_spec.specs.Notes.{Expr, Number, Register, Flag, Pc, Bound, Memory, Old, Not, Binary, Notes, value, is_true, put_bound, values, written_out}
-use Rattle.bilv_spec.specs.Scopes.{Scope, Constant, Strict, lenient}
+use Rattle.bilv_spec.specs.Scopes.{Vocabulary, Scope, Constant, Strict, lenient}
 use Rattle.word_spec.specs.Tokens.{Token}
 use Rattle.bilv_spec.specs.NotesGrammar.{IsGood, Parses, Says, IsSaid, IsNotesText}
 use Rattle.bilv_spec.specs.NotesFaults.{NoteFault, IsFirstNoteFault}
@@ -31,22 +31,22 @@ StrictIsLenient = (s : Scope) (ts : List Token) (x : Says) → s.mode ≡ Strict
 
 -- a text is the text of one value of notes at most
 abbrev pub OneReading : Type 0
-OneReading = (names : List ℕ → Option Expr) (text : List ℕ) (m n : Notes) → IsNotesText names text m → IsNotesText names text n → m ≡ n
+OneReading = (v : Vocabulary) (text : List ℕ) (m n : Notes) → IsNotesText v text m → IsNotesText v text n → m ≡ n
 
 -- a text that is notes has no first fault
 abbrev pub NeverBoth : Type 0
-NeverBoth = (names : List ℕ → Option Expr) (text : List ℕ) (notes : Notes) (line : ℕ) (fault : NoteFault) →
-    IsNotesText names text notes → ¬ IsFirstNoteFault names text line fault
+NeverBoth = (v : Vocabulary) (text : List ℕ) (notes : Notes) (line : ℕ) (fault : NoteFault) →
+    IsNotesText v text notes → ¬ IsFirstNoteFault v text line fault
 
 -- a text is notes, or it has a first fault
 abbrev pub OneOfBoth : Type 0
-OneOfBoth = (names : List ℕ → Option Expr) (text : List ℕ) →
-    ((notes : Notes) × IsNotesText names text notes) ⊎ ((line : ℕ) × (fault : NoteFault) × IsFirstNoteFault names text line fault)
+OneOfBoth = (v : Vocabulary) (text : List ℕ) →
+    ((notes : Notes) × IsNotesText v text notes) ⊎ ((line : ℕ) × (fault : NoteFault) × IsFirstNoteFault v text line fault)
 
 -- a text has one first fault at most
 abbrev pub OneNoteFault : Type 0
-OneNoteFault = (names : List ℕ → Option Expr) (text : List ℕ) (line other : ℕ) (fault different : NoteFault) →
-    IsFirstNoteFault names text line fault → IsFirstNoteFault names text other different → (line ≡ other) × (fault ≡ different)
+OneNoteFault = (v : Vocabulary) (text : List ℕ) (line other : ℕ) (fault different : NoteFault) →
+    IsFirstNoteFault v text line fault → IsFirstNoteFault v text other different → (line ≡ other) × (fault ≡ different)
 
 -- an expression of words: its numbers are below 2 ^ 32, and its loads are of 4 bytes at most
 abbrev pub IsOfWords : Expr → Type 0

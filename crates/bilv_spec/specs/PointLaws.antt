@@ -1,5 +1,6 @@
 -- Laws of points: runs go along edges, meet each point at most once, and there is one price.
 use Rattle.std.specs.Prelude.{ℕ, ◌≡◌, ◌≤◌, ◌<◌, ◌⊎◌, true, List, Some, Contains, length}
+use Rattle.word_spec.specs.Memory.{Little}
 use Rattle.word_spec.specs.State.{State, IsState}
 use Rattle.machine_spec.specs.Machine.{Row, IsAtPlace}
 use Rattle.machine_spec.specs.MachineLaws.{IsLawful}
@@ -27,9 +28,10 @@ RunsRise = (p : Program) (k : ℕ) (start : Start) (i j : ℕ) → i < j → (tu
 abbrev pub HasLawfulRows : Program → Type 0
 HasLawfulRows p = (a : ℕ) (row : Row) → file_row p a ≡ Some row → IsLawful row
 
--- the word that is executed at an address is the one in memory
-abbrev pub ReadsMemory : Program → Type 0
-ReadsMemory p = (s : State) (a : ℕ) → p.word s a ≡ in_memory p.machine s a
+-- what is decoded at an address is what memory has there; where some rows have 2 bytes, the lowest byte stands first
+pub record ReadsMemory (p : Program) : Type 0 where
+  pub word : (s : State) (a : ℕ) → p.word s a ≡ in_memory p.machine s a
+  pub little : p.machine.narrow ≡ true → p.machine.endian ≡ Little
 
 -- the step goes along an edge of the point, or exits or has a false ensure line where an edge is the exit, or has another event
 abbrev pub GoesAlong : Program → Point → Step → Type 0
@@ -52,11 +54,11 @@ RunsMeetPoints = (p : Program) → HasLawfulRows p → (k : ℕ) (start : Start)
 abbrev pub IsReturnAddress : Program → ℕ → Type 0
 IsReturnAddress p b = (a : ℕ) × IsAddress p a × Contains (successors_at p a) (successor ReturnLetter b)
 
--- The graph is closed under the successors of every stack: it has the address of the point, and those of its stack (one that is no multiple of 4 is never
+-- The graph is closed under the successors of every stack: it has the address of the point, and those of its stack (one at which no row can stand is never
 -- gone to); each edge is a static path; and where an edge is the exit, the row may return.
 pub record IsInGraph (p : Program) (point : Point) : Type 0 where
   pub at : IsAddress p point.at
-  pub stack : (b : ℕ) → Contains point.stack b → IsAtPlace b → IsReturnAddress p b
+  pub stack : (b : ℕ) → Contains point.stack b → IsAtPlace p.machine.narrow b → IsReturnAddress p b
   pub leads : (stack : List ℕ) (a : ℕ) → Contains (edges p point) (ToAddress stack a) → LeadsTo p point.at a
   pub exits : Contains (edges p point) ToExit → may_return p point.at ≡ true
 

@@ -4,7 +4,7 @@ use Rattle.std.specs.List.{list_any, flat_map}
 use Rattle.std.specs.Str.{bytes_eq}
 use Rattle.word_spec.specs.Words.{add}
 use Rattle.word_spec.specs.Memory.{number}
-use Rattle.machine_spec.specs.Machine.{Row, Successors, is_place}
+use Rattle.machine_spec.specs.Machine.{Row, Successors, is_place, taken}
 use Rattle.bilv_spec.specs.Elf.{Cell}
 use Rattle.bilv_spec.specs.Notes.{Expr, Memory, Old, Not, Binary, Op, Times, Each}
 use Rattle.bilv_spec.specs.Run.{Program, row_at, some_of, named, literal_target, is_kept}
@@ -26,9 +26,13 @@ abbrev pub byte_of_cell : Option Cell → ℕ
 byte_of_cell None = 0
 byte_of_cell (Some c) = c.byte
 
--- the word that the file has at an address
+-- the number of the four bytes that the file has from an address on
+abbrev pub file_number : Program → ℕ → ℕ
+file_number p a = number p.machine.endian 4 (λ i. byte_of_cell (p.loaded (add 32 a i)))
+
+-- what is decoded of them
 abbrev pub file_word : Program → ℕ → ℕ
-file_word p a = number p.machine.endian 4 (λ i. byte_of_cell (p.loaded (add 32 a i)))
+file_word p a = taken p.machine.narrow (file_number p a)
 
 -- the row at an address, by the file
 abbrev pub file_row : Program → ℕ → Option Row
@@ -80,10 +84,10 @@ same_end ToExit ToExit = true
 same_end (ToAddress s a) (ToAddress t b) = (a == b) && bytes_eq s t
 same_end _ _ = false
 
--- an end is the exit, or an address that is a multiple of 4
-abbrev pub leads_on : EdgeEnd → Bool
-leads_on ToExit = true
-leads_on (ToAddress stack a) = is_place a
+-- an end is the exit, or an address at which a row can stand
+abbrev pub leads_on : (narrow : Bool) → EdgeEnd → Bool
+leads_on narrow ToExit = true
+leads_on narrow (ToAddress stack a) = is_place narrow a
 
 -- each end once, at its first place
 abbrev pub distinct : List EdgeEnd → List EdgeEnd
@@ -92,7 +96,7 @@ distinct (t ∷ rest) = t ∷ filter (λ u. not (same_end t u)) (distinct rest)
 
 -- the edges of a point
 abbrev pub edges : Program → Point → List EdgeEnd
-edges p point = distinct (filter leads_on (edges_by p point (file_row p point.at)))
+edges p point = distinct (filter (leads_on p.machine.narrow) (edges_by p point (file_row p point.at)))
 
 -- the point at an edge's end
 abbrev pub end_of : Point → List ℕ → ℕ → Point

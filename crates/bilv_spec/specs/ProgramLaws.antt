@@ -5,15 +5,15 @@ use Rattle.machine_spec.specs.Machine.{IsAtPlace}
 use Rattle.bilv_spec.specs.Run.{Program}
 use Rattle.call_spec.specs.Calls.{Options, default_options}
 use Rattle.bilv_spec.specs.Files.{is_rv, order_of, machine_of, layout_of, IsProgram}
-use Rattle.machine_spec.specs.Rv.{rv32}
+use Rattle.machine_spec.specs.RvMachine.{rv32}
 use Rattle.word_spec.specs.Profiles.{V4}
 use Rattle.machine_spec.specs.Arm.{arm}
 use Rattle.machine_spec.specs.StateText.{rv_layout, arm_layout}
 use Rattle.bilv_spec.specs.PointLaws.{HasLawfulRows}
 
--- the address of a program's function is a multiple of 4
+-- a row can stand at the address of a program's function
 abbrev pub EntryIsAligned : Type 0
-EntryIsAligned = (o : Options) (file text : List ℕ) (p : Program) → IsProgram o file text p → IsAtPlace p.entry
+EntryIsAligned = (o : Options) (file text : List ℕ) (p : Program) → IsProgram o file text p → IsAtPlace p.machine.narrow p.entry
 
 -- the rows of a program of a file of bytes are lawful, so that the laws that ask this of rows speak of every program
 abbrev pub ProgramRowsAreLawful : Type 0
@@ -23,12 +23,17 @@ ProgramRowsAreLawful = (o : Options) (file text : List ℕ) (p : Program) → ((
 abbrev pub OrderIsOfFile : Type 0
 OrderIsOfFile = (o : Options) (file : List ℕ) → order_of file ≡ (machine_of o file).endian
 
--- no option changes the machine of a RISC-V file, nor the layout of its state texts
-abbrev pub RiscVHasNoOption : Type 0
-RiscVHasNoOption = (o : Options) (file : List ℕ) → is_rv file ≡ true → (machine_of o file ≡ rv32) × (layout_of o file ≡ rv_layout)
+-- of a RISC-V file the compressed instructions alone are an option
+abbrev pub RiscVHasOneOption : Type 0
+RiscVHasOneOption =
+    (o : Options) (file : List ℕ) → is_rv file ≡ true → (machine_of o file ≡ rv32 o.compressed) × (layout_of o file ≡ rv_layout o.compressed)
 
--- where no option is given, an ARM file is of version 4
-abbrev pub DefaultIsVersionFour : Type 0
-DefaultIsVersionFour =
-    (file : List ℕ) → is_rv file ≡ false →
-    (machine_of default_options file ≡ arm (file_endian file) V4) × (layout_of default_options file ≡ arm_layout (file_endian file) V4)
+-- of an ARM file the profile alone is an option
+abbrev pub ArmHasOneOption : Type 0
+ArmHasOneOption =
+    (o : Options) (file : List ℕ) → is_rv file ≡ false →
+    (machine_of o file ≡ arm (file_endian file) o.profile) × (layout_of o file ≡ arm_layout (file_endian file) o.profile)
+
+-- where no option is given, an ARM file is of version 4, and a RISC-V file has no compressed instructions
+abbrev pub DefaultsAreFirst : Type 0
+DefaultsAreFirst = (default_options.profile ≡ V4) × (default_options.compressed ≡ false)

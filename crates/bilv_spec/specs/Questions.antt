@@ -63,7 +63,7 @@ pub record IsTrue (p : Program) (k : ℕ) (r : Reading) (question : Question) : 
 pub record IsEntryStateOver (p : Program) (asked : ℕ → Bool) (s : State) : Type 0 where
   pub state : IsState s
   pub pc : s.pc ≡ p.entry
-  pub link : IsAtPlace (s.regs p.machine.link)
+  pub link : IsAtPlace p.machine.narrow (s.regs p.machine.link)
   pub bytes : (a : ℕ) (c : Cell) → a < 2 ^ 32 → p.loaded a ≡ Some c → asked a ≡ true → s.mem a ≡ c.byte
   pub requires : false_line p.machine.endian p.notes.requires s s ≡ None
 

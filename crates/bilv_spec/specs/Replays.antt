@@ -63,14 +63,14 @@ abbrev pub require_answer : Option ℕ → NamedEnding → Found → Answer
 require_answer (Some n) named f = plain_answer 9 (line (codes "state: require" ++ spaced (number_text n ∷ [])))
 require_answer None named f = ending_answer (is_found named f) named f
 
--- the answer by whether the link register is a multiple of 4
+-- the answer by whether a row can stand at the address in the link register
 abbrev pub start_answer : (is_aligned : Bool) → Program → NamedEnding → Start → Answer
 start_answer false p n start = plain_answer 9 (line (codes "state: link"))
 start_answer true p n start = require_answer (false_require p start.state) n (found_of p n start)
 
 -- the answer to a named ending with a start
 abbrev pub run_answer : Program → NamedEnding → Start → Answer
-run_answer p n start = start_answer (is_place (start.state.regs p.machine.link)) p n start
+run_answer p n start = start_answer (is_place p.machine.narrow (start.state.regs p.machine.link)) p n start
 
 -- the answer to what a text says
 abbrev pub told_answer : Program → Layout → Told → Answer

@@ -4,19 +4,21 @@ use Rattle.std.specs.List.{list_any, list_all}
 use Rattle.word_spec.specs.Words.{add, sub}
 use Rattle.word_spec.specs.Memory.{Endian, load}
 use Rattle.word_spec.specs.State.{State}
-use Rattle.machine_spec.specs.Machine.{Machine, Row, How, On, Direct, DirectCall, Indirect, IndirectCall, Exception, EnvironmentCall, Breakpoint, SoftwareInterrupt, OddHalfword, UnalignedLoad, Outcome, Goes, Raises, addresses, pair_of, is_place}
+use Rattle.machine_spec.specs.Machine.{Machine, Row, How, On, Direct, DirectCall, Indirect, IndirectCall, Exception, EnvironmentCall, Breakpoint, SoftwareInterrupt, OddHalfword, UnalignedLoad, Outcome, Goes, Raises, addresses, pair_of, is_place, width, first_half, taken, offsets}
 pub use Rattle.bilv_spec.specs.Elf.{is_kept, is_executable}
 use Rattle.bilv_spec.specs.Elf.{Cell}
 use Rattle.bilv_spec.specs.Notes.{Notes, NoteLine, Assert, Targets, value, is_true}
 use Rattle.machine_spec.specs.Endings.{Event, AssertFails, FetchFails, NoRow, HalfwordFails, CodeWritten, Trapped, AlignFails, JumpFails, EnsureFails, Start}
 
--- What is verified: a machine, the word that is executed at an address in a state, the bytes that the file loads, the address of the function, and the notes.
+-- What is verified: a machine, what is decoded at an address in a state, the bytes that the file loads, the address of the function, and the notes; and the
+-- flags that are asked for at the exit besides those that the notes name, which no run looks at.
 pub record Program : Type 0 where
   pub machine : Machine
   pub word : State → ℕ → ℕ
   pub loaded : ℕ → Option Cell
   pub entry : ℕ
   pub notes : Notes
+  pub out : ℕ → Bool
 
 -- where a run stands: the state, and the addresses that calls are to return to, the last one first
 pub record Place : Type 0 where
@@ -40,21 +42,21 @@ abbrev pub false_line : Endian → List NoteLine → State → State → Option 
 false_line e [] now entry = None
 false_line e (l ∷ rest) now entry = if is_true (value e l.says now entry) then false_line e rest now entry else Some l.line
 
--- the four bytes from an address on are loaded and executable
-abbrev pub fetchable : Program → ℕ → Bool
-fetchable p a = list_all (λ i. is_executable (p.loaded (add 32 a i))) (0 ∷ 1 ∷ 2 ∷ 3 ∷ [])
+-- the bytes from an address on are loaded and executable, as many as the row of the word has
+abbrev pub fetchable : Program → (word at : ℕ) → Bool
+fetchable p w a = list_all (λ i. is_executable (p.loaded (add 32 a i))) (offsets (width p.machine.narrow (first_half w)))
 
 -- the four bytes from an address on are kept
 abbrev pub all_kept : Program → ℕ → Bool
 all_kept p a = list_all (λ i. is_kept (p.loaded (add 32 a i))) (0 ∷ 1 ∷ 2 ∷ 3 ∷ [])
 
--- the word in memory at an address, in the machine's byte order
+-- what is decoded of the bytes in memory at an address, in the machine's byte order
 abbrev pub in_memory : Machine → State → ℕ → ℕ
-in_memory m s a = load m.endian 4 s.mem a
+in_memory m s a = taken m.narrow (load m.endian 4 s.mem a)
 
 -- word : the word at each address. The row of the word at an address, where it may be fetched.
 abbrev pub row_at : Program → (word : ℕ → ℕ) → ℕ → Option Row
-row_at p word at = if fetchable p at then p.machine.row (word at) else None
+row_at p word at = if fetchable p (word at) at then p.machine.row (word at) else None
 
 -- the address that there is, if there is one
 abbrev pub some_of : Option ℕ → List ℕ
@@ -121,7 +123,7 @@ transfer p entry row old stack DirectCall new = Arrives (called row old stack ne
 transfer p entry row old stack Indirect new = leave p entry row old stack new
 transfer p entry row old stack IndirectCall new = allowed (is_named p old row new.pc) (called row old stack new)
 
--- the step of a row that goes on, where its next address is a multiple of 4
+-- the step of a row that goes on, where a row can stand at its next address
 abbrev pub aligned_transfer : Bool → Program → State → Row → State → List ℕ → How → State → Step
 aligned_transfer true p entry row old stack how new = transfer p entry row old stack how new
 aligned_transfer false p entry row old stack how new = Stops AlignFails
@@ -143,7 +145,7 @@ exception_event false e = event_of e
 -- a row that goes on
 abbrev pub going_on : (writes_kept : Bool) → Program → State → Row → State → List ℕ → How → State → Step
 going_on true p entry row old stack how new = Stops CodeWritten
-going_on false p entry row old stack how new = aligned_transfer (is_place new.pc) p entry row old stack how new
+going_on false p entry row old stack how new = aligned_transfer (is_place p.machine.narrow new.pc) p entry row old stack how new
 
 -- what a row comes to, in the order: an odd address, a kept byte that is written, a trap, an unaligned target, a jump that isn't allowed, the row's effect
 abbrev pub after_row : Program → State → Row → State → List ℕ → (writes_kept : Bool) → Outcome → Step
@@ -167,7 +169,7 @@ by_fetch false p entry c choice = Stops FetchFails
 -- the step after the assert lines
 abbrev pub after_asserts : Option ℕ → Program → State → Place → ℕ → Step
 after_asserts (Some line) p entry c choice = Stops (AssertFails line)
-after_asserts None p entry c choice = by_fetch (fetchable p c.state.pc) p entry c choice
+after_asserts None p entry c choice = by_fetch (fetchable p (p.word c.state c.state.pc) c.state.pc) p entry c choice
 
 -- one step from a place, under a choice, of a run that began in the state at entry
 abbrev pub step : Program → State → Place → ℕ → Step

@@ -15,10 +15,16 @@ pub record Constant : Type 0 where
   pub word : List ℕ
   pub number : ℕ
 
--- What words mean. names: those of the machine; consts: the constants so far; bound: the names that the `all`s around the place bind, the outermost first.
+-- what notes call a machine's registers and flags, and whether some of its rows have 2 bytes
+pub record Vocabulary : Type 0 where
+  pub names : List ℕ → Option Expr
+  pub narrow : Bool
+
+-- What words mean. names: those of the machine, with rows of 2 bytes where it is narrow; consts: the constants so far; bound: the names that the `all`s around the place bind, the outermost first.
 -- is_second: the text is of version 2. is_first: no line before this one says something.
 pub record Scope : Type 0 where
   pub names : List ℕ → Option Expr
+  pub narrow : Bool
   pub consts : List Constant
   pub bound : List (List ℕ)
   pub is_second : Bool
@@ -26,8 +32,9 @@ pub record Scope : Type 0 where
   pub mode : Mode
 
 -- nothing is said yet
-abbrev pub begin : (List ℕ → Option Expr) → (is_second : Bool) → Scope
-begin names is_second = record { names = names; consts = []; bound = []; is_second = is_second; is_first = true; mode = Strict }
+abbrev pub begin : Vocabulary → (is_second : Bool) → Scope
+begin v is_second =
+    record { names = v.names; narrow = v.narrow; consts = []; bound = []; is_second = is_second; is_first = true; mode = Strict }
 
 -- an `all` may have any name and bounds
 abbrev pub lenient : Scope → Scope

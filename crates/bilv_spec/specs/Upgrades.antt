@@ -1,6 +1,7 @@
 -- The upgrade of notes to version 2: the same notes, each line number one greater, and so the same verdict.
 use Rattle.std.specs.Prelude.{ℕ, ◌≡◌, ◌↔◌, ◌+◌, false, List, ◌∷◌, ◌++◌, Option, None, if◌then◌else◌, map, codes}
-use Rattle.bilv_spec.specs.Notes.{Expr, Notes, NoteLine, Assert}
+use Rattle.bilv_spec.specs.Scopes.{Vocabulary}
+use Rattle.bilv_spec.specs.Notes.{Notes, NoteLine, Assert}
 use Rattle.bilv_spec.specs.NotesGrammar.{lines_of, is_second, IsNotesText}
 use Rattle.bilv_spec.specs.RvNames.{rv_names}
 use Rattle.bilv_spec.specs.ArmNames.{arm_names}
@@ -27,8 +28,8 @@ later_program p = record p { notes = later_notes p.notes }
 
 -- what is printed of a text of version 1 says the same notes, each line number one greater, where nothing of the machine has the name `all`
 abbrev pub UpgradeSaysSame : Type 0
-UpgradeSaysSame = (names : List ℕ → Option Expr) → names (codes "all") ≡ None → (text : List ℕ) (notes : Notes) →
-    is_second (lines_of text) ≡ false → IsNotesText names text notes → IsNotesText names (upgraded text) (later_notes notes)
+UpgradeSaysSame = (v : Vocabulary) → v.names (codes "all") ≡ None → (text : List ℕ) (notes : Notes) →
+    is_second (lines_of text) ≡ false → IsNotesText v text notes → IsNotesText v (upgraded text) (later_notes notes)
 
 -- no machine names anything `all`
 abbrev pub NoneIsAll : Type 0

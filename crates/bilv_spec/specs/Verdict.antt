@@ -16,7 +16,7 @@ fixed ranges a = list_any (λ r. nat_le r.low a && nat_le a r.high) ranges
 pub record IsEntryState (p : Program) (s : State) : Type 0 where
   pub state : IsState s
   pub pc : s.pc ≡ p.entry
-  pub link : IsAtPlace (s.regs p.machine.link)
+  pub link : IsAtPlace p.machine.narrow (s.regs p.machine.link)
   -- memory agrees with the file on kept and on fixed bytes
   pub kept_bytes : (a : ℕ) (c : Cell) → a < 2 ^ 32 → p.loaded a ≡ Some c → kept c ≡ true → s.mem a ≡ c.byte
   pub fixed_bytes : (a : ℕ) (c : Cell) → a < 2 ^ 32 → p.loaded a ≡ Some c → fixed p.notes.fixed a ≡ true → s.mem a ≡ c.byte

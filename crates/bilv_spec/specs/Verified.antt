@@ -6,7 +6,7 @@ use Rattle.bilv_spec.specs.Notes.{Notes, Named}
 use Rattle.bilv_spec.specs.Run.{Program}
 use Rattle.bilv_spec.specs.NotesGrammar.{IsNotesText}
 use Rattle.call_spec.specs.Calls.{Options, Budget, Answer, plain_answer}
-use Rattle.bilv_spec.specs.Files.{names_of, layout_of, IsProgram}
+use Rattle.bilv_spec.specs.Files.{vocabulary_of, machine_of, layout_of, IsProgram}
 use Rattle.bilv_spec.specs.Answers.{IsReported}
 use Rattle.word_spec.specs.Texts.{line, spaced, number_text, word_text}
 
@@ -72,14 +72,14 @@ pub data IsElfRefused (file : List ℕ) : (written : List ℕ) → Type 0 where
   elf_fault : (f : elf.FileFault) → length file ≤ elf_limit → elf.IsFirstFileFault file f → IsElfRefused file (elf_fault_text f)
 
 -- notes are refused over an accepted file, or name no function of it or several
-pub data AreNotesRefused (file text : List ℕ) : (written : List ℕ) → Type 0 where
-  notes_large : notes_limit < length text → AreNotesRefused file text (line (codes "notes: TooLarge"))
-  notes_fault : (n : ℕ) (f : faults.NoteFault) → length text ≤ notes_limit → faults.IsFirstNoteFault (names_of file) text n f →
-      AreNotesRefused file text (note_fault_text n f)
-  no_function : (notes : Notes) (name : List ℕ) → length text ≤ notes_limit → IsNotesText (names_of file) text notes →
-      notes.entry ≡ Named name → ((a : ℕ) → ¬ elf.IsFunction file name a) → AreNotesRefused file text (line (codes "notes: NoFunction"))
-  ambiguous : (notes : Notes) (name : List ℕ) (a c : ℕ) → length text ≤ notes_limit → IsNotesText (names_of file) text notes →
-      notes.entry ≡ Named name → elf.IsAmbiguous file name a c → AreNotesRefused file text (ambiguous_text a c)
+pub data AreNotesRefused (o : Options) (file text : List ℕ) : (written : List ℕ) → Type 0 where
+  notes_large : notes_limit < length text → AreNotesRefused o file text (line (codes "notes: TooLarge"))
+  notes_fault : (n : ℕ) (f : faults.NoteFault) → length text ≤ notes_limit → faults.IsFirstNoteFault (vocabulary_of o file) text n f →
+      AreNotesRefused o file text (note_fault_text n f)
+  no_function : (notes : Notes) (name : List ℕ) → length text ≤ notes_limit → IsNotesText (vocabulary_of o file) text notes →
+      notes.entry ≡ Named name → ((a : ℕ) → ¬ elf.IsFunction (machine_of o file).narrow file name a) → AreNotesRefused o file text (line (codes "notes: NoFunction"))
+  ambiguous : (notes : Notes) (name : List ℕ) (a c : ℕ) → length text ≤ notes_limit → IsNotesText (vocabulary_of o file) text notes →
+      notes.entry ≡ Named name → elf.IsAmbiguous (machine_of o file).narrow file name a c → AreNotesRefused o file text (ambiguous_text a c)
 
 -- the program of an accepted file and of accepted notes
 abbrev pub IsFound : Options → List ℕ → List ℕ → Program → Type 0
@@ -92,7 +92,7 @@ pub data AfterImage (file : List ℕ) (Next : Answer → Type 0) (a : Answer) : 
 
 -- Notes over an accepted file are refused, or are a program that is answered by what comes next.
 pub data AfterNotes (o : Options) (file text : List ℕ) (Next : Program → Answer → Type 0) (a : Answer) : Type 0 where
-  notes_refused : (written : List ℕ) → AreNotesRefused file text written → a ≡ plain_answer 5 written → AfterNotes o file text Next a
+  notes_refused : (written : List ℕ) → AreNotesRefused o file text written → a ≡ plain_answer 5 written → AfterNotes o file text Next a
   program_found : (p : Program) → IsFound o file text p → Next p a → AfterNotes o file text Next a
 
 -- the right answer of the command that verifies, for the contents of an ELF file and of notes: the first case that applies

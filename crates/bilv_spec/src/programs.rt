@@ -1,7 +1,7 @@
 //! Laws of the program of two files.
-ghost use Rattle.bilv_spec.specs.ProgramLaws.{DefaultIsVersionFour, EntryIsAligned, OrderIsOfFile, ProgramRowsAreLawful, RiscVHasNoOption};
+ghost use Rattle.bilv_spec.specs.ProgramLaws.{ArmHasOneOption, DefaultsAreFirst, EntryIsAligned, OrderIsOfFile, ProgramRowsAreLawful, RiscVHasOneOption};
 
-/// The address of a program's function is a multiple of 4.
+/// A row can stand at the address of a program's function.
 pub fn entry_is_aligned()
     ensures { EntryIsAligned }
 {}
@@ -16,12 +16,17 @@ pub fn order_is_of_file()
     ensures { OrderIsOfFile }
 {}
 
-/// No option changes the machine of a RISC-V file.
-pub fn risc_v_has_no_option()
-    ensures { RiscVHasNoOption }
+/// Of a RISC-V file the compressed instructions alone are an option.
+pub fn risc_v_has_one_option()
+    ensures { RiscVHasOneOption }
 {}
 
-/// Where no option is given, an ARM file is of version 4.
-pub fn default_is_version_four()
-    ensures { DefaultIsVersionFour }
+/// Of an ARM file the profile alone is an option.
+pub fn arm_has_one_option()
+    ensures { ArmHasOneOption }
+{}
+
+/// Where no option is given, an ARM file is of version 4, and a RISC-V file has no compressed instructions.
+pub fn defaults_are_first()
+    ensures { DefaultsAreFirst }
 {}

@@ -1,5 +1,5 @@
 -- What a call is asked, what it meets outside, and what it answers.
-use Rattle.std.specs.Prelude.{ℕ, ◌≤◌, ◌^◌, List, ◌≡◌, Option, codes}
+use Rattle.std.specs.Prelude.{ℕ, ◌≤◌, ◌^◌, Bool, false, List, ◌≡◌, Option, codes}
 use Rattle.clause_spec.specs.Refutation.{Proof}
 use Rattle.word_spec.specs.State.{Written}
 use Rattle.word_spec.specs.Profiles.{Profile, V4}
@@ -49,13 +49,15 @@ pub record Answer : Type 0 where
 abbrev pub plain_answer : ℕ → List ℕ → Answer
 plain_answer status text = record { status = status; text = text; evidence = NoEvidence }
 
--- what a file leaves open of its machine: ARM's profile, which changes nothing of a RISC-V file
+-- What a file leaves open of its machine: ARM's profile, which changes nothing of a RISC-V file; and whether a RISC-V file has compressed instructions, which
+-- changes nothing of an ARM file.
 pub record Options : Type 0 where
   pub profile : Profile
+  pub compressed : Bool
 
 -- the options where none are given
 abbrev pub default_options : Options
-default_options = record { profile = V4 }
+default_options = record { profile = V4; compressed = false }
 
 -- what a call meets outside: what the shelf tells of each name, its counts of faults before and after the call; what the sink tells of the bytes written before
 -- and after, and its counts

@@ -5,15 +5,17 @@ use Rattle.std.specs.List.{list_any}
 use Rattle.std.proofs.lemmas.Nat.{or_lt, xor_lt}
 use Rattle.std.proofs.lemmas.Bool.{ne_eqb}
 use Rattle.machine_spec.proofs.WordBounds.{bit_below, and_below, complement_below, shl_below, shr_below, sar_below}
+use Rattle.machine_spec.proofs.LoadedBytes.{kept_same}
 use Rattle.machine_spec.proofs.ArmConditional.{Way, conditional, neither}
 use Rattle.machine_spec.proofs.ArmRanges.{below_if, mod_word, put_below, reg_small, ror_small}
 use Rattle.machine_spec.proofs.ArmAccess.{shift_same, skips_pc}
 use Rattle.machine_spec.proofs.ArmFlags.{bit_at_small, set_low, flags_if, flags_if_small, flags_agree, kept_flag}
 use Rattle.word_spec.specs.Words.{add, bit, bit_at, bits, complement}
+use Rattle.word_spec.specs.Memory.{Memory}
 use Rattle.word_spec.specs.State.{State, IsState, put, with_pc}
 use Rattle.machine_spec.specs.Machine.{How, On, Indirect, addresses}
 use Rattle.machine_spec.specs.Arm.{Shifted, Result, reg, has_bit, bit_i, kind_of, amount_of, field_n, field_d, field_m, field_s, by_number, by_register, rotated, register_operand, operand_by, operand, sum, difference, results, result_at, opcode, sets_flags, is_test, is_logical, adds_carry, is_rrx, keeps_carry, by_a_register, computed_by, computed, flags_of, flag_set, write_by, may_write_pc, computing}
-use Rattle.machine_spec.specs.MachineLaws.{IsLawful, IfGoes, IfRaises, with_flag, AgreeBut, OutcomesAgreeBut, HaveSameFlag}
+use Rattle.machine_spec.specs.MachineLaws.{IsLawful, IfGoes, IfRaises, with_flag, AgreeBut, OutcomesAgreeBut, HaveSameFlag, with_memory, SameButMemory}
 
 -- the operand, as a function of the carry
 abbrev operand_of : (i by_reg : Bool) → ℕ → State → ℕ → Shifted
@@ -230,6 +232,17 @@ result_there : (w : ℕ) (s : State) (f v : ℕ) → result_in w (with_flag s f 
 result_there w s f v =
     ap (λ (o : Shifted). result_of (opcode w) (put s.flags f v 1) (put s.flags f v 0) (reg s (field_n w)) o) (operand_is (bit_i w) (has_bit 4 w) w s f v refl)
 
+register_over : (b : Bool) (w : ℕ) (s : State) (m : Memory) → register_operand b w s ≡ register_operand b w (with_memory s m)
+register_over true w s m = refl
+register_over false w s m = refl
+
+operand_over : (i : Bool) (w : ℕ) (s : State) (m : Memory) → operand_by i w s ≡ operand_by i w (with_memory s m)
+operand_over true w s m = refl
+operand_over false w s m = register_over (has_bit 4 w) w s m
+
+result_over : (w : ℕ) (s : State) (m : Memory) → result_in w s ≡ result_in w (with_memory s m)
+result_over w s m = ap (λ (o : Shifted). result_of (opcode w) (s.flags 1) (s.flags 0) (reg s (field_n w)) o) (operand_over (bit_i w) w s m)
+
 opcode_small : (w : ℕ) → opcode w < 16
 opcode_small w = omega arith
 
@@ -298,6 +311,17 @@ computed_ways : (test : Bool) (w : ℕ) (s : State) (r : Result) →
     IfGoes (computed_by test w s r) (λ how to. Way (may_write_pc w (not test && (field_d w == 15)) s.pc) (add 32 s.pc 4) how to.pc)
 computed_ways true w s r = (refl, refl)
 computed_ways false w s r = write_ways (field_d w == 15) w s _ (field_d w) r.value
+
+-- another memory changes nothing but itself
+write_over : (pc : Bool) (s new : State) (m : Memory) (r v : ℕ) → new.mem ≡ s.mem →
+    SameButMemory s m [] (write_by pc s new r v) (write_by pc (with_memory s m) (with_memory new m) r v)
+write_over true s new m r v e = (refl, refl, refl, refl, λ a lt h. ap (λ (g : Memory). g a) e ∙ kept_same a s.mem m h)
+write_over false s new m r v e = (refl, refl, refl, refl, λ a lt h. ap (λ (g : Memory). g a) e ∙ kept_same a s.mem m h)
+
+computed_over : (test : Bool) (w : ℕ) (s : State) (m : Memory) (r : Result) →
+    SameButMemory s m [] (computed_by test w s r) (computed_by test w (with_memory s m) r)
+computed_over true w s m r = (refl, refl, refl, refl, λ a lt h. kept_same a s.mem m h)
+computed_over false w s m r = write_over (field_d w == 15) s (record s { flags = flags_of w s r }) m (field_d w) r.value refl
 
 write_agree : (pc : Bool) (s t : State) (new old : State) (r v u f : ℕ) → s.pc ≡ t.pc → AgreeBut f new old → v ≡ u →
     OutcomesAgreeBut f (write_by pc s new r v) (write_by pc t old r u)
@@ -424,12 +448,12 @@ sure_computed w s f v lt h e =
 
 pub computing_lawful : (w : ℕ) → IsLawful (computing w)
 computing_lawful w =
-    conditional w (λ s c. computed w s) (λ b s. None) (may_write_pc w (not (is_test w) && (field_d w == 15)))
+    conditional w (λ s c. computed w s) (λ b s. None) (λ b s. None) (may_write_pc w (not (is_test w) && (field_d w == 15)))
     (λ at. None) (record { row = 4096; loads = 0; stores = 0 })
     (flag_set false (adds_carry w || is_rrx w) false)
     (flag_set (sets_flags w) (sets_flags w && not (is_logical w && keeps_carry w)) (sets_flags w && not (is_logical w)))
-    (flag_set (sets_flags w) (sets_flags w && not (is_logical w && (keeps_carry w || by_a_register w))) (sets_flags w && not (is_logical w))) false
-    (record { least = omega arith; most = omega arith; loads = omega arith; stores = omega arith }) (record {
+    (flag_set (sets_flags w) (sets_flags w && not (is_logical w && (keeps_carry w || by_a_register w))) (sets_flags w && not (is_logical w))) false false
+    (record { least = omega arith; most = omega arith; loads = omega arith; stores = omega arith }) (λ b s. omega arith) (λ l at. cc) (record {
       kept = λ s c is. any_computed (is_test w) w s (result_in w s) (λ how new. (a : ℕ) → a < 2 ^ 32 → (Contains (addresses None) a → ⊥) → new.mem a ≡ s.mem a)
           (λ a lt out. refl) (λ a lt out. refl) (λ a lt out. refl);
       raised = λ s c is. computed_raises (is_test w) w s (result_in w s) _;
@@ -454,4 +478,10 @@ computing_lawful w =
       draws = λ h s c d. refl;
       plain = λ f h b s. refl;
       stored_unread = λ b s f v h. refl;
+      idle = λ s. refl;
+      steady = λ b s m. (refl, refl);
+      loads = λ s m c is same.
+          subst (λ (r : Result). SameButMemory s m [] (computed w s) (computed_by (is_test w) w (with_memory s m) r)) (result_over w s m)
+          (computed_over (is_test w) w s m (result_in w s));
+      unloaded = λ s c is. computed_raises (is_test w) w s (result_in w s) _;
     })

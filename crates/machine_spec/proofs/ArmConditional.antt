@@ -1,12 +1,14 @@
 -- A row of ARM is lawful where what it does under its condition is.
-use Rattle.std.proofs.Common.{◌≡◌, ℕ, zero, suc, ◌+◌, ◌%◌, ◌^◌, ◌<◌, refl, sym, ap, ◌∙◌, true, false, Bool, arith, Option, None}
+use Rattle.std.proofs.Common.{◌≡◌, ℕ, zero, suc, ◌+◌, ◌%◌, ◌^◌, ◌<◌, ◌≤◌, refl, sym, ap, subst, ◌∙◌, true, false, Bool, arith, Option, None}
 use Rattle.std.specs.Prelude.{◌==◌, ◌&&◌, ◌||◌, if◌then◌else◌, Contains}
 use Rattle.std.proofs.lemmas.Bool.{ne_eqb}
 use Rattle.word_spec.specs.Words.{add}
+use Rattle.machine_spec.proofs.LoadedBytes.{kept_same}
+use Rattle.word_spec.specs.Memory.{Memory}
 use Rattle.word_spec.specs.State.{State, IsState, put, with_pc}
-use Rattle.machine_spec.specs.Machine.{Cost, On, Direct, DirectCall, Indirect, IndirectCall, How, Outcome, Successors, addresses, Goes, Raises}
+use Rattle.machine_spec.specs.Machine.{Cost, On, Direct, DirectCall, Indirect, IndirectCall, How, Outcome, Successors, addresses, byte_count, Goes, Raises}
 use Rattle.machine_spec.specs.Arm.{row_of, when, holds, is_always, condition_code, conditions, nth, condition_reads, condition_flags, flag_use}
-use Rattle.machine_spec.specs.MachineLaws.{IsLawful, IsPriced, IsWay, IfGoes, IfRaises, with_flag, AgreeBut, OutcomesAgreeBut, HaveSameFlag}
+use Rattle.machine_spec.specs.MachineLaws.{IsLawful, IsPriced, IsWay, IfGoes, IfRaises, with_flag, AgreeBut, OutcomesAgreeBut, HaveSameFlag, with_memory, SameButMemory}
 
 other_flag : (g : ℕ → ℕ) (f v k : ℕ) → (k ≡ f → ⊥) → g k ≡ put g f v k
 other_flag g f v k other = rw (ne_eqb k f other) refl
@@ -79,8 +81,8 @@ goes_maps : (e : Outcome) (P Q : How → State → Type 0) → ((how : How) (new
 goes_maps (Goes how new) P Q f h = f how new h
 goes_maps (Raises e) P Q f h = tt
 
--- What a row does where its condition holds. stored: the bytes that it stores where the condition holds, by that test.
-pub record IsDone (w : ℕ) (effect : State → ℕ → Outcome) (stored : Bool → State → Option (ℕ × ℕ)) (successors : ℕ → Successors)
+-- What a row does where its condition holds. stored, loaded: the bytes that it stores and loads where the condition holds, by that test.
+pub record IsDone (w : ℕ) (effect : State → ℕ → Outcome) (stored loaded : Bool → State → Option (ℕ × ℕ)) (successors : ℕ → Successors)
     (reads assigns surely : ℕ → Bool) (drawing : Bool) : Type 0 where
   pub kept : (s : State) (c : ℕ) → IsState s →
       IfGoes (effect s c) (λ how new. (a : ℕ) → a < 2 ^ 32 → (Contains (addresses (stored true s)) a → ⊥) → new.mem a ≡ s.mem a)
@@ -96,6 +98,11 @@ pub record IsDone (w : ℕ) (effect : State → ℕ → Outcome) (stored : Bool 
   pub draws : drawing ≡ false → (s : State) (c d : ℕ) → effect s c ≡ effect s d
   pub plain : (f : ℕ) → assigns f ≡ true → (b : Bool) (s : State) → stored b s ≡ None
   pub stored_unread : (b : Bool) (s : State) (f v : ℕ) → reads f ≡ false → stored b s ≡ stored b (with_flag s f v)
+  pub idle : (s : State) → stored false s ≡ None
+  pub steady : (b : Bool) (s : State) (m : Memory) → (loaded b s ≡ loaded b (with_memory s m)) × (stored b s ≡ stored b (with_memory s m))
+  pub loads : (s : State) (m : Memory) (c : ℕ) → IsState s → ((a : ℕ) → Contains (addresses (loaded true s)) a → s.mem a ≡ m a) →
+      SameButMemory s m (addresses (stored true s)) (effect s c) (effect (with_memory s m) c)
+  pub unloaded : (s : State) (c : ℕ) → IsState s → IfRaises (effect s c) (loaded true s ≡ None)
 
 -- where the condition doesn't hold, the row goes on
 goes_when : (b : Bool) (s : State) (e : Outcome) (claim : Bool → How → State → Type 0) → IfGoes e (claim true) →
@@ -119,12 +126,23 @@ same_when true true s f v x y p q h = h
 same_when true false s f v x y p q h = cc
 same_when false d s f v x y p q h = cc
 
+loads_when : (b : Bool) (s : State) (m : Memory) (stored loaded : Bool → State → Option (ℕ × ℕ)) (x y : Outcome) → stored false s ≡ None →
+    ((a : ℕ) → Contains (addresses (loaded b s)) a → s.mem a ≡ m a) →
+    (((a : ℕ) → Contains (addresses (loaded true s)) a → s.mem a ≡ m a) → SameButMemory s m (addresses (stored true s)) x y) →
+    SameButMemory s m (addresses (stored b s)) (when b s x) (when b (with_memory s m) y)
+loads_when true s m stored loaded x y idle same h = h same
+loads_when false s m stored loaded x y idle same h =
+    subst (λ (o : Option (ℕ × ℕ)). SameButMemory s m (addresses o) (when false s x) (when false (with_memory s m) y)) (sym idle)
+    (refl, refl, refl, refl, λ a lt e. kept_same a s.mem m e)
+
 both : (a b : Bool) → (a && b) ≡ true → (a ≡ true) × (b ≡ true)
 both true b h = (refl, h)
 both false b h = cc
 
-pub conditional : (w : ℕ) (effect : State → ℕ → Outcome) (stored : Bool → State → Option (ℕ × ℕ)) (successors : ℕ → Successors) (literal : ℕ → Option ℕ)
-    (cost : Cost) (reads assigns surely : ℕ → Bool) (draws : Bool) → IsPriced cost → IsDone w effect stored successors reads assigns surely draws →
+pub conditional : (w : ℕ) (effect : State → ℕ → Outcome) (stored loaded : Bool → State → Option (ℕ × ℕ)) (successors : ℕ → Successors)
+    (literal : ℕ → Option ℕ) (cost : Cost) (reads assigns surely : ℕ → Bool) (draws links : Bool) → IsPriced cost →
+    ((b : Bool) (s : State) → byte_count (loaded b s) ≤ cost.loads) → (links ≡ true → (at : ℕ) → (successors at).call ≡ true) →
+    IsDone w effect stored loaded successors reads assigns surely draws →
     IsLawful (record (row_of w effect) {
       stored = λ s. stored (holds w s) s;
       successors = successors;
@@ -132,8 +150,10 @@ pub conditional : (w : ℕ) (effect : State → ℕ → Outcome) (stored : Bool 
       cost = cost;
       flags = flag_use w reads assigns surely;
       draws = draws;
+      links = links;
+      loaded = λ s. loaded (holds w s) s;
     })
-conditional w effect stored successors literal cost reads assigns surely draws priced h = record {
+conditional w effect stored loaded successors literal cost reads assigns surely draws links priced few calls h = record {
   stored = λ s c is. goes_when (holds w s) s (effect s c)
       (λ b how new. (a : ℕ) → a < 2 ^ 32 → (Contains (addresses (stored b s)) a → ⊥) → new.mem a ≡ s.mem a) (h.kept s c is) (λ e a lt out. refl);
   raised = λ s c is. raises_when (holds w s) s (effect s c) (λ b. stored b s ≡ None) (h.raised s c is);
@@ -161,6 +181,12 @@ conditional w effect stored successors literal cost reads assigns surely draws p
       let n = neither (condition_reads condition_flags (condition_code w) f) (reads f) no_use in
       ap (λ b. stored b s) (same_holds w s f v n.0) ∙ h.stored_unread (holds w (with_flag s f v)) s f v n.1;
   priced = priced;
+  loads = λ s m c is other same.
+      let e = h.steady (holds w s) s m in
+      (e.0, e.1, loads_when (holds w s) s m stored loaded (effect s c) (effect (with_memory s m) c) (h.idle s) same (h.loads s m c is));
+  unloaded = λ s c is. raises_when (holds w s) s (effect s c) (λ b. loaded b s ≡ None) (h.unloaded s c is);
+  few_loads = λ s. few (holds w s) s;
+  calls = calls;
 }
   where
     ways : (s : State) (c : ℕ) → IsState s → IfGoes (when (holds w s) s (effect s c)) (λ how new. Way (successors s.pc) (add 32 s.pc 4) how new.pc)

@@ -3,6 +3,7 @@ use Rattle.std.proofs.Common.{◌≡◌, ℕ, zero, suc, ◌/◌, ◌%◌, ◌^�
 use Rattle.std.specs.Prelude.{◌==◌, ◌&&◌, ◌||◌, not, if◌then◌else◌}
 use Rattle.std.proofs.lemmas.Bool.{ne_eqb, eqb-true}
 use Rattle.machine_spec.proofs.WordBounds.{bit_below}
+use Rattle.machine_spec.proofs.LoadedBytes.{kept_same}
 use Rattle.machine_spec.proofs.ArmConditional.{conditional}
 use Rattle.machine_spec.proofs.ArmRanges.{mod_word, put_below, with_flags_small}
 use Rattle.word_spec.specs.Words.{bit_at}
@@ -109,9 +110,9 @@ multiplied_draws false w h s c d = let k : sets_flags w ≡ false = h in rw k re
 
 pub multiply_lawful : (keeps : Bool) (w : ℕ) → IsLawful (multiply keeps w)
 multiply_lawful keeps w =
-    conditional w (multiplied keeps w) (λ b s. None) only_next (λ at. None) (record { row = 20000; loads = 0; stores = 0 })
-    none (flag_set (sets_flags w) (by_choice keeps w) false) (flag_set (sets_flags w) (by_choice keeps w) false) (by_choice keeps w)
-    (record { least = omega arith; most = omega arith; loads = omega arith; stores = omega arith }) (record {
+    conditional w (multiplied keeps w) (λ b s. None) (λ b s. None) only_next (λ at. None) (record { row = 20000; loads = 0; stores = 0 })
+    none (flag_set (sets_flags w) (by_choice keeps w) false) (flag_set (sets_flags w) (by_choice keeps w) false) (by_choice keeps w) false
+    (record { least = omega arith; most = omega arith; loads = omega arith; stores = omega arith }) (λ b s. omega arith) (λ l at. cc) (record {
       kept = λ s c is a lt out. refl;
       raised = λ s c is. tt;
       ways = λ s c is. (refl, refl);
@@ -140,6 +141,10 @@ multiply_lawful keeps w =
       draws = multiplied_draws keeps w;
       plain = λ f h b s. refl;
       stored_unread = λ b s f v h. refl;
+      idle = λ s. refl;
+      steady = λ b s m. (refl, refl);
+      loads = λ s m c is same. (refl, refl, refl, refl, λ a lt e. kept_same a s.mem m e);
+      unloaded = λ s c is. tt;
     })
 
 -- UMULL to SMLAL
@@ -177,9 +182,9 @@ upper_small a = omega arith
 
 pub multiply_long_lawful : (keeps : Bool) (w : ℕ) → IsLawful (multiply_long keeps w)
 multiply_long_lawful keeps w =
-    conditional w (multiplied_long keeps w) (λ b s. None) only_next (λ at. None) (record { row = 20000; loads = 0; stores = 0 })
-    none (flag_set (sets_flags w) (by_choice keeps w) (by_choice keeps w)) (flag_set (sets_flags w) (by_choice keeps w) (by_choice keeps w)) (by_choice keeps w)
-    (record { least = omega arith; most = omega arith; loads = omega arith; stores = omega arith }) (record {
+    conditional w (multiplied_long keeps w) (λ b s. None) (λ b s. None) only_next (λ at. None) (record { row = 20000; loads = 0; stores = 0 })
+    none (flag_set (sets_flags w) (by_choice keeps w) (by_choice keeps w)) (flag_set (sets_flags w) (by_choice keeps w) (by_choice keeps w)) (by_choice keeps w) false
+    (record { least = omega arith; most = omega arith; loads = omega arith; stores = omega arith }) (λ b s. omega arith) (λ l at. cc) (record {
       kept = λ s c is a lt out. refl;
       raised = λ s c is. tt;
       ways = λ s c is. (refl, refl);
@@ -208,4 +213,8 @@ multiply_long_lawful keeps w =
       draws = multiplied_long_draws keeps w;
       plain = λ f h b s. refl;
       stored_unread = λ b s f v h. refl;
+      idle = λ s. refl;
+      steady = λ b s m. (refl, refl);
+      loads = λ s m c is same. (refl, refl, refl, refl, λ a lt e. kept_same a s.mem m e);
+      unloaded = λ s c is. tt;
     })

@@ -1,15 +1,17 @@
 -- What the rows of ARM leave in registers, flags and bytes is in range.
-use Rattle.std.proofs.Common.{◌≡◌, ℕ, ◌+◌, ◌-◌, ◌*◌, ◌/◌, ◌%◌, ◌^◌, ◌<◌, ◌≤◌, refl, sym, ap, subst, ◌∙◌, true, false, Bool, arith, Some, List, [], ◌∷◌, length}
+use Rattle.std.proofs.Common.{◌≡◌, ℕ, ◌+◌, ◌-◌, ◌*◌, ◌/◌, ◌%◌, ◌^◌, ◌<◌, ◌≤◌, refl, sym, ap, subst, ◌∙◌, inl, inr, ◌⊎◌, true, false, Bool, arith, Some, List, [], ◌∷◌, length}
 use Rattle.std.specs.Prelude.{◌==◌, nat_lt, if◌then◌else◌, Contains}
 use Rattle.std.proofs.lemmas.Nat.{mod_below, pow_pos, pow-add, mul-add-lt, shr_below}
 use Rattle.std.proofs.lemmas.Bool.Decides.{nat_tests}
 use Rattle.machine_spec.proofs.WordBounds.{load_below, stored_below}
 use Rattle.machine_spec.proofs.Lawful.{in_span}
+use Rattle.machine_spec.proofs.LoadedBytes.{number_same, load_same, store_near, store_same}
 use Rattle.word_spec.specs.Words.{add, sub, ror, aligned}
 use Rattle.word_spec.specs.Memory.{Endian, Memory, load, store, span}
 use Rattle.word_spec.specs.State.{State, IsState, put}
 use Rattle.machine_spec.specs.Machine.{addresses}
 use Rattle.machine_spec.specs.Arm.{reg, stored_reg, load_by, store_by, access_of, moved, base_written, load_all, store_all, with_flags, is_up, writes_back, field_n}
+use Rattle.machine_spec.specs.MachineLaws.{with_memory}
 
 pub below_if : (b : Bool) (x y m : ℕ) → x < m → y < m → (if b then x else y) < m
 below_if true x y m p q = p
@@ -103,3 +105,57 @@ store_all_keeps e s c a (r ∷ rs) m x p q l =
 
 pub with_flags_small : (f : ℕ → ℕ) (n z c v : ℕ) → ((k : ℕ) → f k < 2) → n < 2 → z < 2 → c < 2 → v < 2 → (k : ℕ) → with_flags f n z c v k < 2
 with_flags_small f n z c v h p q r t k = put_below _ 0 v 2 (put_below _ 1 c 2 (put_below _ 2 z 2 (put_below f 3 n 2 h p) q) r) t k
+
+-- over two memories with the same bytes where they are loaded, loads give the same
+aligned_small : (a : ℕ) → a < 2 ^ 32 → aligned a < 2 ^ 32
+aligned_small a p = omega arith
+
+pub load_by_same : (byte : Bool) (e : Endian) (m k : Memory) (a : ℕ) → a < 2 ^ 32 →
+    ((x : ℕ) → Contains (addresses (Some (access_of byte a))) x → m x ≡ k x) → load_by byte e m a ≡ load_by byte e k a
+load_by_same true e m k a p h = load_same e 1 a m k p h
+load_by_same false e m k a p h = ap (λ z. ror 32 z (8 * (a % 4))) (load_same e 4 (aligned a) m k (aligned_small a p) h)
+
+pub store_by_same : (byte : Bool) (e : Endian) (m k : Memory) (a v x : ℕ) → a < 2 ^ 32 →
+    (m x ≡ k x) ⊎ Contains (addresses (Some (access_of byte a))) x → store_by byte e m a v x ≡ store_by byte e k a v x
+store_by_same true e m k a v x p h = store_same e 1 a v x m k p (omega arith) h
+store_by_same false e m k a v x p h = store_same e 4 (aligned a) v x m k (aligned_small a p) (omega arith) h
+
+add_add : (a b i : ℕ) → add 32 a (b + i) ≡ add 32 (add 32 a b) i
+add_add a b i = omega arith
+
+-- the words of a list, by their distance from the first byte
+pub load_at : (e : Endian) (m k : Memory) (a b n : ℕ) → b + 4 ≤ n → ((i : ℕ) → i < n → m (add 32 a i) ≡ k (add 32 a i)) →
+    load e 4 m (add 32 a b) ≡ load e 4 k (add 32 a b)
+load_at e m k a b n few h =
+    number_same e 4 (λ i. m (add 32 (add 32 a b) i)) (λ i. k (add 32 (add 32 a b) i))
+    (λ i l. ap m (sym (add_add a b i)) ∙ h (b + i) (omega arith) ∙ ap k (add_add a b i))
+
+pub load_all_same : (e : Endian) (m k : Memory) (a : ℕ) (rs : List ℕ) (f : ℕ → ℕ) → a < 2 ^ 32 →
+    ((i : ℕ) → i < 4 * length rs → m (add 32 a i) ≡ k (add 32 a i)) → load_all e m a rs f ≡ load_all e k a rs f
+load_all_same e m k a [] f p h = refl
+load_all_same e m k a (r ∷ rs) f p h =
+    ap (λ (v : ℕ). load_all e m (add 32 a 4) rs (if r == 15 then f else put f r v)) first
+    ∙ load_all_same e m k (add 32 a 4) rs (if r == 15 then f else put f r (load e 4 k a)) (mod_word _)
+    (λ i l. ap m (sym (add_add a 4 i)) ∙ h (4 + i) (omega arith) ∙ ap k (add_add a 4 i))
+  where
+    first : load e 4 m a ≡ load e 4 k a
+    first = number_same e 4 (λ i. m (add 32 a i)) (λ i. k (add 32 a i)) (λ i l. h i (omega arith))
+
+pub store_all_same : (e : Endian) (s : State) (o : Memory) (c a : ℕ) (rs : List ℕ) (m k : Memory) (x : ℕ) → a < 2 ^ 32 → x < 2 ^ 32 →
+    (m x ≡ k x) ⊎ (sub 32 x a < 4 * length rs) → store_all e s c a rs m x ≡ store_all e (with_memory s o) c a rs k x
+store_all_same e s o c a [] m k x p q (inl same) = same
+store_all_same e s o c a [] m k x p q (inr l) = absurd (omega arith)
+store_all_same e s o c a (r ∷ rs) m k x p q h =
+    store_all_same e s o c (add 32 a 4) rs (store e 4 m a (stored_reg s c r)) (store e 4 k a (stored_reg s c r)) x (mod_word _) q
+    (by_place (nat_lt (sub 32 x a) 4) refl h)
+  where
+    near : (m x ≡ k x) ⊎ (sub 32 x a < 4) → store e 4 m a (stored_reg s c r) x ≡ store e 4 k a (stored_reg s c r) x
+    near h = store_near e 4 a (stored_reg s c r) x m k h
+
+    by_place : (b : Bool) → nat_lt (sub 32 x a) 4 ≡ b → (m x ≡ k x) ⊎ (sub 32 x a < 4 * length (r ∷ rs)) →
+        (store e 4 m a (stored_reg s c r) x ≡ store e 4 k a (stored_reg s c r) x) ⊎ (sub 32 x (add 32 a 4) < 4 * length rs)
+    by_place b t (inl same) = inl (near (inl same))
+    by_place true t (inr l) = inl (near (inr (grind (arith, nat_tests))))
+    by_place false t (inr l) =
+        let far : 4 ≤ sub 32 x a = grind (arith, nat_tests) in
+        let few : sub 32 x a < 4 + 4 * length rs = omega arith in inr (omega arith)

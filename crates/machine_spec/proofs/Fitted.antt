@@ -18,7 +18,7 @@ no_flag : (f : ℕ) → false ≡ nat_lt f 0
 no_flag f = grind (arith, nat_tests)
 
 pub rv_is_fitted : RvIsFitted
-rv_is_fitted = record {
+rv_is_fitted compressed = record {
   registers = from_one;
   enough_registers = omega arith;
   few_registers = omega arith;

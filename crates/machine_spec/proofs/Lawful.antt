@@ -1,15 +1,16 @@
 -- Each form of row of RV32IM is lawful.
-use Rattle.std.proofs.Common.{◌≡◌, ◌≢◌, ℕ, zero, suc, ◌+◌, ◌*◌, ◌/◌, ◌%◌, ◌^◌, ◌<◌, ◌≤◌, refl, sym, ap, subst, ◌∙◌, true, false, Bool, arith, Some, None, List, ◌∷◌}
+use Rattle.std.proofs.Common.{◌≡◌, ◌≢◌, ℕ, zero, suc, ◌+◌, ◌*◌, ◌/◌, ◌%◌, ◌^◌, ◌<◌, ◌≤◌, refl, sym, ap, subst, ◌∙◌, true, false, Bool, arith, Option, Some, None, List, [], ◌∷◌}
 use Rattle.std.specs.Prelude.{◌==◌, if◌then◌else◌, nat_lt, Contains}
 use Rattle.std.proofs.lemmas.Bool.Decides.{nat_tests}
 use Rattle.std.proofs.lemmas.Bool.{ne_eqb, eqb-true}
 use Rattle.machine_spec.proofs.WordBounds.{load_below, stored_below}
+use Rattle.machine_spec.proofs.LoadedBytes.{load_same, kept_same, store_same}
 use Rattle.word_spec.specs.Words.{add, sub}
-use Rattle.word_spec.specs.Memory.{Little, load, store, span}
+use Rattle.word_spec.specs.Memory.{Little, Memory, load, store, span}
 use Rattle.word_spec.specs.State.{State, IsState, put}
-use Rattle.machine_spec.specs.Machine.{On, Row, Cost, Exception, addresses, even}
-use Rattle.machine_spec.specs.Rv.{Fields, row_of, sets, auipc, reg, put_reg, with_reg, on, branches, branch_by, loads, stores, jal, jalr, links, direct_by, indirect_by, fence, raises}
-use Rattle.machine_spec.specs.MachineLaws.{IsLawful, IsPriced, IsWay, IsSuccessor, ComesNext, IfGoes, IfRaises, with_flag, AgreeBut, OutcomesAgreeBut}
+use Rattle.machine_spec.specs.Machine.{On, Row, Cost, Exception, addresses, byte_count, even}
+use Rattle.machine_spec.specs.Rv.{Fields, sets, auipc, reg, put_reg, branches, branch_by, loads, stores, jal, jalr, links, direct_by, indirect_by, fence, raises, plain_cost}
+use Rattle.machine_spec.specs.MachineLaws.{IsLawful, IsPriced, IsWay, IsSuccessor, ComesNext, IfGoes, IfRaises, with_flag, AgreeBut, OutcomesAgreeBut, with_memory, SameButMemory}
 
 -- ranges
 one_small : (b : Bool) (v w : ℕ) → v < 2 ^ 32 → w < 2 ^ 32 → (if b then v else w) < 2 ^ 32
@@ -41,10 +42,18 @@ other_flag g f v k other = rw (ne_eqb k f other) refl
 agrees : (s t : State) (f v : ℕ) → s.pc ≡ t.pc → s.regs ≡ t.regs → s.mem ≡ t.mem → t.flags ≡ put s.flags f v → AgreeBut f s t
 agrees s t f v p r m e = record { pc = p; regs = r; mem = m; flags = λ k other. other_flag s.flags f v k other ∙ ap (λ (g : ℕ → ℕ). g k) (sym e) }
 
--- a row that sets a register to what no flag changes
-pub sets_lawful : (f : Fields → State → ℕ) (x : Fields) → ((s : State) → IsState s → f x s < 2 ^ 32) →
-    ((s : State) (g v : ℕ) → f x s ≡ f x (with_flag s g v)) → IsLawful (sets f x)
-sets_lawful f x small same = record {
+-- another memory changes no register
+pub reg_same : (s : State) (m : Memory) (r : ℕ) → reg s r ≡ reg (with_memory s m) r
+reg_same s m zero = refl
+reg_same s m (suc r) = refl
+
+-- a row that sets a register to what no flag changes, and that only the bytes that it loads change
+setting_lawful : (f : Fields → State → ℕ) (x : Fields) (loaded : State → Option (ℕ × ℕ)) (cost : Cost) → IsPriced cost →
+    ((s : State) → IsState s → f x s < 2 ^ 32) → ((s : State) (g v : ℕ) → f x s ≡ f x (with_flag s g v)) →
+    ((s : State) → byte_count (loaded s) ≤ cost.loads) → ((s : State) (m : Memory) → loaded s ≡ loaded (with_memory s m)) →
+    ((s : State) (m : Memory) → ((a : ℕ) → Contains (addresses (loaded s)) a → s.mem a ≡ m a) → f x s ≡ f x (with_memory s m)) →
+    IsLawful (record (sets f x) { cost = cost; loaded = loaded })
+setting_lawful f x loaded cost priced small same few steady by_loads = record {
   stored = λ s c is a lt out. refl;
   raised = λ s c is. tt;
   successors = λ s c is. refl;
@@ -63,12 +72,28 @@ sets_lawful f x small same = record {
   draws = λ none s c d. refl;
   plain = λ f lt assigned s. cc;
   stored_unread = λ s f v lt no_use. refl;
-  priced = record { least = omega arith; most = omega arith; loads = omega arith; stores = omega arith };
+  priced = priced;
+  loads = λ s m c is other h. (
+    steady s m,
+    refl,
+    (refl, refl, ap (λ z. put_reg s.regs x.rd z) (by_loads s m h), refl, λ a lt e. kept_same a s.mem m e),
+  );
+  unloaded = λ s c is. tt;
+  few_loads = few;
+  calls = λ l at. cc;
 }
 
--- the laws ask of the price only that it is within its bounds, and do not speak of pairs
-pub with_price : (row : Row) (cost : Cost) → IsPriced cost → IsLawful row → IsLawful (record row { cost = cost })
-with_price row cost within h = record {
+-- one that loads nothing
+pub sets_lawful : (f : Fields → State → ℕ) (x : Fields) → ((s : State) → IsState s → f x s < 2 ^ 32) →
+    ((s : State) (g v : ℕ) → f x s ≡ f x (with_flag s g v)) → ((s : State) (m : Memory) → f x s ≡ f x (with_memory s m)) → IsLawful (sets f x)
+sets_lawful f x small same steady =
+    setting_lawful f x (λ s. None) plain_cost (record { least = omega arith; most = omega arith; loads = omega arith; stores = omega arith }) small same
+    (λ s. omega arith) (λ s m. refl) (λ s m h. steady s m)
+
+-- the laws ask of the price only that it is within its bounds and pays for the loads, and do not speak of pairs
+pub with_price : (row : Row) (cost : Cost) → IsPriced cost → ((s : State) → byte_count (row.loaded s) ≤ cost.loads) → IsLawful row →
+    IsLawful (record row { cost = cost })
+with_price row cost within few h = record {
   stored = h.stored;
   raised = h.raised;
   successors = h.successors;
@@ -83,11 +108,15 @@ with_price row cost within h = record {
   plain = h.plain;
   stored_unread = h.stored_unread;
   priced = within;
+  loads = h.loads;
+  unloaded = h.unloaded;
+  few_loads = few;
+  calls = h.calls;
 }
 
 pub auipc_lawful : (x : Fields) → IsLawful (auipc x)
 auipc_lawful x =
-    let h = sets_lawful (λ y s. add 32 s.pc y.imm) x (λ s is. mod_small _) (λ s g v. refl) in
+    let h = sets_lawful (λ y s. add 32 s.pc y.imm) x (λ s is. mod_small _) (λ s g v. refl) (λ s m. refl) in
     record {
       stored = h.stored;
       raised = h.raised;
@@ -103,6 +132,10 @@ auipc_lawful x =
       plain = h.plain;
       stored_unread = h.stored_unread;
       priced = h.priced;
+      loads = h.loads;
+      unloaded = h.unloaded;
+      few_loads = h.few_loads;
+      calls = h.calls;
     }
 
 -- a jump does not go on to the next address
@@ -140,6 +173,10 @@ branch_raises : (b : Bool) (s : State) (imm : ℕ) (P : Type 0) → IfRaises (br
 branch_raises true s imm P = tt
 branch_raises false s imm P = tt
 
+branch_same : (b : Bool) (s : State) (m : Memory) (imm : ℕ) → SameButMemory s m [] (branch_by b s imm) (branch_by b (with_memory s m) imm)
+branch_same true s m imm = (refl, refl, refl, refl, λ a lt e. kept_same a s.mem m e)
+branch_same false s m imm = (refl, refl, refl, refl, λ a lt e. kept_same a s.mem m e)
+
 pub branches_lawful : (test : ℕ → ℕ → Bool) (x : Fields) → IsLawful (branches test x)
 branches_lawful test x = record {
   stored = λ s c is. branch_keeps _ s x.imm (λ new. (a : ℕ) → a < 2 ^ 32 → (Contains (addresses None) a → ⊥) → new.mem a ≡ s.mem a) (λ pc a lt out. refl);
@@ -159,16 +196,28 @@ branches_lawful test x = record {
   plain = λ f lt assigned s. cc;
   stored_unread = λ s f v lt no_use. refl;
   priced = record { least = omega arith; most = omega arith; loads = omega arith; stores = omega arith };
+  loads = λ s m c is other h. (
+    refl,
+    refl,
+    subst (λ (b : Bool). SameButMemory s m [] (branch_by (test (reg s x.rs1) (reg s x.rs2)) s x.imm) (branch_by b (with_memory s m) x.imm))
+        (ap (λ z. test z (reg s x.rs2)) (reg_same s m x.rs1) ∙ ap (λ z. test (reg (with_memory s m) x.rs1) z) (reg_same s m x.rs2))
+        (branch_same _ s m x.imm),
+  );
+  unloaded = λ s c is. branch_raises _ s x.imm _;
+  few_loads = λ s. omega arith;
+  calls = λ l at. cc;
 }
 
 -- a load of n bytes, 1, 2 or 4
 pub loads_lawful : (n : ℕ) (extend : ℕ → ℕ) (x : Fields) → n ≤ 4 → ((v : ℕ) → v < 2 ^ (8 * n) → extend v < 2 ^ 32) → IsLawful (loads n extend x)
 loads_lawful n extend x few small =
-    with_price (row_of (λ s. on s (with_reg s x.rd (extend (load Little n s.mem (add 32 (reg s x.rs1) x.imm)))))) (record { row = 1024; loads = n; stores = 0 })
-    (record { least = omega arith; most = omega arith; loads = omega arith; stores = omega arith })
-    (sets_lawful (λ y s. extend (load Little n s.mem (add 32 (reg s y.rs1) y.imm))) x
+    setting_lawful (λ y s. extend (load Little n s.mem (add 32 (reg s y.rs1) y.imm))) x (λ s. Some (add 32 (reg s x.rs1) x.imm, n))
+    (record { row = 1024; loads = n; stores = 0 }) (record { least = omega arith; most = omega arith; loads = omega arith; stores = omega arith })
     (λ s is. small _ (loaded_below n s.mem (add 32 (reg s x.rs1) x.imm) is.mem))
-    (λ s g v. ap (λ z. extend (load Little n s.mem (add 32 z x.imm))) (reg_flag s x.rs1 g v)))
+    (λ s g v. ap (λ z. extend (load Little n s.mem (add 32 z x.imm))) (reg_flag s x.rs1 g v))
+    (λ s. omega arith) (λ s m. ap (λ z. Some (add 32 z x.imm, n)) (reg_same s m x.rs1))
+    (λ s m h. ap extend
+    (load_same Little n (add 32 (reg s x.rs1) x.imm) s.mem m (mod_small _) h ∙ ap (λ z. load Little n m (add 32 z x.imm)) (reg_same s m x.rs1)))
   where
     loaded_below : (n : ℕ) (m : ℕ → ℕ) (a : ℕ) → ((i : ℕ) → m i < 256) → load Little n m a < 2 ^ (8 * n)
     loaded_below n m a h =
@@ -220,6 +269,22 @@ stores_lawful n x few = record {
   plain = λ f lt assigned s. cc;
   stored_unread = λ s f v lt no_use. ap (λ z. Some (add 32 z x.imm, n)) (reg_flag s x.rs1 f v);
   priced = record { least = omega arith; most = omega arith; loads = omega arith; stores = omega arith };
+  loads = λ s m c is other h. (
+    refl,
+    ap (λ z. Some (add 32 z x.imm, n)) (reg_same s m x.rs1),
+    (
+      refl,
+      refl,
+      refl,
+      refl,
+      λ a lt e. store_same Little n (add 32 (reg s x.rs1) x.imm) (reg s x.rs2) a s.mem m (mod_small _) (omega arith) e
+          ∙ ap (λ z. store Little n m (add 32 z x.imm) (reg s x.rs2) a) (reg_same s m x.rs1)
+          ∙ ap (λ z. store Little n m (add 32 (reg (with_memory s m) x.rs1) x.imm) z a) (reg_same s m x.rs2),
+    ),
+  );
+  unloaded = λ s c is. tt;
+  few_loads = λ s. omega arith;
+  calls = λ l at. cc;
 }
 
 direct_goes : (call : Bool) (to : ℕ) → IsWay (record { next = false; direct = Some to; indirect = false; call = call }) (direct_by call) to
@@ -229,6 +294,10 @@ direct_goes false to = (refl, refl)
 indirect_goes : (call : Bool) (to : ℕ) → IsWay (record { next = false; direct = None; indirect = true; call = call }) (indirect_by call) to
 indirect_goes true to = (refl, refl)
 indirect_goes false to = (refl, refl)
+
+-- a jump that sets x1 is a call
+linking_calls : (rd : ℕ) → (rd == 1) ≡ true → links rd ≡ true
+linking_calls rd e = rw e refl
 
 pub jal_lawful : (x : Fields) → IsLawful (jal x)
 jal_lawful x = record {
@@ -246,6 +315,10 @@ jal_lawful x = record {
   plain = λ f lt assigned s. cc;
   stored_unread = λ s f v lt no_use. refl;
   priced = record { least = omega arith; most = omega arith; loads = omega arith; stores = omega arith };
+  loads = λ s m c is other h. (refl, refl, (refl, refl, refl, refl, λ a lt e. kept_same a s.mem m e));
+  unloaded = λ s c is. tt;
+  few_loads = λ s. omega arith;
+  calls = λ l at. linking_calls x.rd l;
 }
 
 pub jalr_lawful : (x : Fields) → IsLawful (jalr x)
@@ -264,6 +337,14 @@ jalr_lawful x = record {
   plain = λ f lt assigned s. cc;
   stored_unread = λ s f v lt no_use. refl;
   priced = record { least = omega arith; most = omega arith; loads = omega arith; stores = omega arith };
+  loads = λ s m c is other h. (
+    refl,
+    refl,
+    (refl, ap (λ z. even (add 32 z x.imm)) (reg_same s m x.rs1), refl, refl, λ a lt e. kept_same a s.mem m e),
+  );
+  unloaded = λ s c is. tt;
+  few_loads = λ s. omega arith;
+  calls = λ l at. linking_calls x.rd l;
 }
 
 pub fence_lawful : (x : Fields) → IsLawful (fence x)
@@ -282,6 +363,10 @@ fence_lawful x = record {
   plain = λ f lt assigned s. cc;
   stored_unread = λ s f v lt no_use. refl;
   priced = record { least = omega arith; most = omega arith; loads = omega arith; stores = omega arith };
+  loads = λ s m c is other h. (refl, refl, (refl, refl, refl, refl, λ a lt e. kept_same a s.mem m e));
+  unloaded = λ s c is. tt;
+  few_loads = λ s. omega arith;
+  calls = λ l at. cc;
 }
 
 pub raises_lawful : (e : Exception) (x : Fields) → IsLawful (raises e x)
@@ -300,4 +385,8 @@ raises_lawful e x = record {
   plain = λ f lt assigned s. cc;
   stored_unread = λ s f v lt no_use. refl;
   priced = record { least = omega arith; most = omega arith; loads = omega arith; stores = omega arith };
+  loads = λ s m c is other h. (refl, refl, refl);
+  unloaded = λ s c is. refl;
+  few_loads = λ s. omega arith;
+  calls = λ l at. cc;
 }

@@ -4,8 +4,16 @@ pub mod WordBounds
 pub mod BilSound
 pub mod Rows
 pub mod Lifts
+pub mod LoadedBytes
 pub mod Lawful
 pub mod RvLawful
+pub mod LinkRegister
+pub mod ShortParts
+pub mod ShortTable
+pub mod ShortLawful
+pub mod ShortLifted
+pub mod ShortJumps
+pub mod RvNarrow
 pub mod ArmConditional
 pub mod ArmRanges
 pub mod ArmAccess

@@ -1,11 +1,12 @@
 -- Worked lists: what they do is what their rows do, and the liftings of four rows.
-use Rattle.std.proofs.Common.{◌≡◌, ℕ, zero, suc, refl, sym, subst, true, None, Some, ◌↔◌, List, [], arith, ◌<◌}
+use Rattle.std.proofs.Common.{◌≡◌, ℕ, zero, suc, refl, sym, subst, true, false, None, Some, ◌↔◌, List, [], arith, ◌<◌}
 use Rattle.std.specs.Prelude.{Contains, not}
 use Rattle.word_spec.specs.Words.{add}
 use Rattle.word_spec.specs.Memory.{Little, Big}
 use Rattle.word_spec.specs.State.{State}
 use Rattle.machine_spec.specs.MachineLaws.{IsLifting}
-use Rattle.machine_spec.specs.Rv.{rv32, rv_row, table, fields, imm_i, Fields, sets, reg, loads, stores, raises}
+use Rattle.machine_spec.specs.Rv.{rv_row, table, fields, imm_i, Fields, sets, reg, loads, stores, raises}
+use Rattle.machine_spec.specs.RvMachine.{rv32}
 use Rattle.machine_spec.specs.Machine.{Row, EnvironmentCall}
 use Rattle.machine_spec.specs.Bil.{BilVariable, Register, Flag, XRegisters, RRegisters, Mem, Statements, Assign, Raise, If, Empty, Expression, Var, Constant, Binary, Plus, Load, Store, Choose}
 use Rattle.machine_spec.specs.BilStores.{list_stored}
@@ -62,7 +63,7 @@ addi_row_is : rv_row 0x00150513 ≡ Some addi_row
 unfolding rv_row table
 addi_row_is = refl
 
-addi_lifting : (at : ℕ) → IsLifting rv32 XRegisters addi_row at (Assign (x 10) (address 10 1) Empty)
+addi_lifting : (at : ℕ) → IsLifting (rv32 false) XRegisters addi_row at (Assign (x 10) (address 10 1) Empty)
 addi_lifting at = record {
   simulates = addi 9 9 1 at;
   stored = λ s is e choice turns small l a. stays;
@@ -88,7 +89,7 @@ addi_lifting at = record {
 abbrev sw_row : Row
 sw_row = stores 4 (record { rd = 4; rs1 = 10; rs2 = 11; imm = 4 })
 
-sw_lifting : (at : ℕ) → IsLifting rv32 XRegisters sw_row at (Assign Mem (Store (Var Mem) (address 10 4) Little 32 (Var (x 11))) Empty)
+sw_lifting : (at : ℕ) → IsLifting (rv32 false) XRegisters sw_row at (Assign Mem (Store (Var Mem) (address 10 4) Little 32 (Var (x 11))) Empty)
 sw_lifting at = record {
   simulates = sw 9 10 4 at;
   stored = λ s is e choice turns small l a. stays;
@@ -111,7 +112,7 @@ sw_lifting at = record {
 }
 
 -- ecall of RISC-V
-ecall_lifting : (at : ℕ) (y : Fields) → IsLifting rv32 XRegisters (raises EnvironmentCall y) at (Raise 1 Empty)
+ecall_lifting : (at : ℕ) (y : Fields) → IsLifting (rv32 false) XRegisters (raises EnvironmentCall y) at (Raise 1 Empty)
 ecall_lifting at y = record {
   simulates = ecall at y;
   stored = λ s is e choice turns small l a. stays;

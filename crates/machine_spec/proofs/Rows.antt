@@ -6,7 +6,8 @@ use Rattle.word_spec.specs.Words.{bit}
 use Rattle.word_spec.specs.State.{State}
 use Rattle.word_spec.specs.Memory.{Little, Big, memory_of, byte_in}
 use Rattle.machine_spec.specs.Machine.{Row, Outcome, Goes, Raises, OddHalfword}
-use Rattle.machine_spec.specs.Rv.{rv32, table, rv_row}
+use Rattle.machine_spec.specs.Rv.{table, rv_row}
+use Rattle.machine_spec.specs.RvMachine.{rv32}
 use Rattle.word_spec.specs.Profiles.{Profile, V4, V4T, V5}
 use Rattle.machine_spec.specs.Arm.{arm, arm_row}
 use Rattle.machine_spec.specs.Arm as arm_rows
@@ -29,7 +30,7 @@ shown regs bytes None = []
 shown regs bytes (Some o) = seen regs bytes o
 
 abbrev rv : ℕ → State → List ℕ
-rv w s = shown (10 ∷ []) [] (effect (rv32.row w) s 0)
+rv w s = shown (10 ∷ []) [] (effect (rv_row w) s 0)
 
 abbrev two : ℕ → ℕ → State
 two a b = state ((11, a) ∷ (12, b) ∷ []) [] []
@@ -156,16 +157,16 @@ unfolding table rv_row
 rv_bge = refl
 
 -- loads with signs, and a store of a halfword
-rv_lb : shown (10 ∷ []) [] (effect (rv32.row 0xfff58503) (state ((11, 0) ∷ []) [] ((0xffffffff, 0x80) ∷ [])) 0) ≡ 0x10004 ∷ 0xffffff80 ∷ 0 ∷ 0 ∷ 0 ∷ 0 ∷ []
+rv_lb : shown (10 ∷ []) [] (effect (rv_row 0xfff58503) (state ((11, 0) ∷ []) [] ((0xffffffff, 0x80) ∷ [])) 0) ≡ 0x10004 ∷ 0xffffff80 ∷ 0 ∷ 0 ∷ 0 ∷ 0 ∷ []
 unfolding table rv_row
 rv_lb = refl
 
-rv_lhu : shown (10 ∷ []) [] (effect (rv32.row 0xfff5d503) (state ((11, 0) ∷ []) [] ((0xffffffff, 0x80) ∷ (0, 0xff) ∷ [])) 0) ≡ 0x10004 ∷ 0xff80 ∷ 0 ∷ 0 ∷ 0 ∷ 0
+rv_lhu : shown (10 ∷ []) [] (effect (rv_row 0xfff5d503) (state ((11, 0) ∷ []) [] ((0xffffffff, 0x80) ∷ (0, 0xff) ∷ [])) 0) ≡ 0x10004 ∷ 0xff80 ∷ 0 ∷ 0 ∷ 0 ∷ 0
     ∷ []
 unfolding table rv_row
 rv_lhu = refl
 
-rv_sh : shown [] (0xffffffff ∷ 0 ∷ 1 ∷ []) (effect (rv32.row 0xfec59fa3) (state ((11, 0) ∷ (12, 0x12345678) ∷ []) [] []) 0) ≡
+rv_sh : shown [] (0xffffffff ∷ 0 ∷ 1 ∷ []) (effect (rv_row 0xfec59fa3) (state ((11, 0) ∷ (12, 0x12345678) ∷ []) [] []) 0) ≡
     0x10004 ∷ 0 ∷ 0 ∷ 0 ∷ 0 ∷ 0x78 ∷ 0x56 ∷ 0 ∷ []
 unfolding table rv_row
 rv_sh = refl

@@ -3,12 +3,12 @@ use Rattle.std.proofs.Common.{◌≡◌, ℕ, zero, suc, ◌+◌, ◌-◌, ◌*�
 use Rattle.std.specs.Prelude.{if◌then◌else◌, Contains, length, slice_index_or, nat_lt, not, ◌==◌}
 use Rattle.std.proofs.lemmas.Nat.{mod_below, pow_pos, or_lt, xor_lt}
 use Rattle.machine_spec.proofs.WordBounds.{sign_extend_below, and_below, shl_below, shr_below, sar_below, udiv_below, urem_below, sdiv_below, srem_below}
-use Rattle.machine_spec.proofs.Lawful.{sets_lawful, with_price, auipc_lawful, branches_lawful, loads_lawful, stores_lawful, jal_lawful, jalr_lawful, fence_lawful, raises_lawful, reg_small, reg_flag}
+use Rattle.machine_spec.proofs.Lawful.{sets_lawful, with_price, auipc_lawful, branches_lawful, loads_lawful, stores_lawful, jal_lawful, jalr_lawful, fence_lawful, raises_lawful, reg_small, reg_flag, reg_same}
 use Rattle.word_spec.specs.Words.{add, sub, mul, bits, bit, sign_extend, signed_lt, shl, shr, sar, udiv, urem, sdiv, srem}
 use Rattle.machine_spec.specs.Machine.{Row, EnvironmentCall, Breakpoint}
 use Rattle.machine_spec.specs.Rv.{Instruction, table, fits, fields, rv_row, row_in, sets, reg, imm_i, imm_s, imm_b, imm_u, imm_j, immediate, shift, registers, dear_registers, upper, wide, low_five}
-use Rattle.machine_spec.specs.MachineLaws.{IsLawful, with_flag}
-use Rattle.machine_spec.specs.RvMachineLaws.{RowsAreOfTheTable, RvIsLawful}
+use Rattle.machine_spec.specs.MachineLaws.{IsLawful, with_flag, with_memory}
+use Rattle.machine_spec.specs.RvMachineLaws.{RowsAreOfTheTable}
 
 -- immediates are words
 imm_i_small : (w : ℕ) → imm_i w < 2 ^ 32
@@ -35,22 +35,24 @@ IsLawfulInstruction i = (w : ℕ) → IsLawful (i.row (fields i.imm w))
 immediate_lawful : (funct3 : ℕ) (f : ℕ → ℕ → ℕ) → GivesWords f → IsLawfulInstruction (immediate funct3 f)
 immediate_lawful funct3 f h w =
     sets_lawful (λ x s. f (reg s x.rs1) x.imm) (fields imm_i w) (λ s is. h _ _ (reg_small s (bits 19 15 w) is) (imm_i_small w))
-    (λ s g v. ap (λ z. f z (imm_i w)) (reg_flag s (bits 19 15 w) g v))
+    (λ s g v. ap (λ z. f z (imm_i w)) (reg_flag s (bits 19 15 w) g v)) (λ s m. ap (λ z. f z (imm_i w)) (reg_same s m (bits 19 15 w)))
 
 shift_lawful : (funct3 funct7 : ℕ) (f : ℕ → ℕ → ℕ) → ((a b : ℕ) → a < 2 ^ 32 → f a b < 2 ^ 32) → IsLawfulInstruction (shift funct3 funct7 f)
 shift_lawful funct3 funct7 f h w =
     sets_lawful (λ x s. f (reg s x.rs1) x.rs2) (fields imm_i w) (λ s is. h _ _ (reg_small s (bits 19 15 w) is))
-    (λ s g v. ap (λ z. f z (bits 24 20 w)) (reg_flag s (bits 19 15 w) g v))
+    (λ s g v. ap (λ z. f z (bits 24 20 w)) (reg_flag s (bits 19 15 w) g v)) (λ s m. ap (λ z. f z (bits 24 20 w)) (reg_same s m (bits 19 15 w)))
 
 registers_lawful : (funct3 funct7 : ℕ) (f : ℕ → ℕ → ℕ) → GivesWords f → IsLawfulInstruction (registers funct3 funct7 f)
 registers_lawful funct3 funct7 f h w =
     sets_lawful (λ x s. f (reg s x.rs1) (reg s x.rs2)) (fields imm_i w) (λ s is. h _ _ (reg_small s (bits 19 15 w) is) (reg_small s (bits 24 20 w) is))
     (λ s g v. ap (λ z. f z (reg s (bits 24 20 w))) (reg_flag s (bits 19 15 w) g v)
     ∙ ap (λ z. f (reg (with_flag s g v) (bits 19 15 w)) z) (reg_flag s (bits 24 20 w) g v))
+    (λ s m. ap (λ z. f z (reg s (bits 24 20 w))) (reg_same s m (bits 19 15 w))
+    ∙ ap (λ z. f (reg (with_memory s m) (bits 19 15 w)) z) (reg_same s m (bits 24 20 w)))
 
 dear_lawful : (funct3 : ℕ) (f : ℕ → ℕ → ℕ) → GivesWords f → IsLawfulInstruction (dear_registers funct3 f)
 dear_lawful funct3 f h w = with_price (sets (λ y s. f (reg s y.rs1) (reg s y.rs2)) (fields imm_i w)) (record { row = 20000; loads = 0; stores = 0 })
-    (record { least = omega arith; most = omega arith; loads = omega arith; stores = omega arith }) (registers_lawful funct3 1 f h w)
+    (record { least = omega arith; most = omega arith; loads = omega arith; stores = omega arith }) (λ s. omega arith) (registers_lawful funct3 1 f h w)
 
 -- the whole table
 abbrev AreLawful : List Instruction → Type 0
@@ -60,7 +62,7 @@ AreLawful (i ∷ rest) = IsLawfulInstruction i × AreLawful rest
 table_lawful : AreLawful table
 unfolding table
 table_lawful = (
-  λ w. sets_lawful (λ x s. x.imm) (fields imm_u w) (λ s is. imm_u_small w) (λ s g v. refl),
+  λ w. sets_lawful (λ x s. x.imm) (fields imm_u w) (λ s is. imm_u_small w) (λ s g v. refl) (λ s m. refl),
   (
     λ w. auipc_lawful (fields imm_u w),
     (
@@ -234,8 +236,8 @@ lawful_in [] h i k l e = absurd (omega arith)
 lawful_in (x ∷ rest) h i zero l e = subst IsLawfulInstruction e h.0
 lawful_in (x ∷ rest) h i (suc k) l e = lawful_in rest h.1 i k (omega arith) e
 
-pub rv_is_lawful : RvIsLawful
-rv_is_lawful = record { rows = λ w row small e. lawful w row (rows_are_of_the_table w row e) }
+pub row_lawful : (w : ℕ) (row : Row) → rv_row w ≡ Some row → IsLawful row
+row_lawful w row e = lawful w row (rows_are_of_the_table w row e)
   where
     lawful : (w : ℕ) (row : Row) → IsOf table w row → IsLawful row
     lawful w row (i, (k, l, at), f, r) = subst IsLawful (sym r) (lawful_in table table_lawful i k l at w)

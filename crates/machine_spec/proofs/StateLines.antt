@@ -55,9 +55,10 @@ pub record IsLayout (layout : Layout) : Type 0 where
   pub machine : is_plain layout.machine ≡ true
   pub names : all_below (fits layout) (length (value_names layout)) ≡ true
 
-pub rv_is_layout : IsLayout rv_layout
+pub rv_is_layout : (compressed : Bool) → IsLayout (rv_layout compressed)
 unfolding digits
-rv_is_layout = record { machine = refl; names = refl }
+rv_is_layout true = record { machine = refl; names = refl }
+rv_is_layout false = record { machine = refl; names = refl }
 
 pub arm_is_layout : (e : Endian) (profile : Profile) → IsLayout (arm_layout e profile)
 unfolding digits

@@ -135,7 +135,7 @@ abbrev pub when : Bool → State → Outcome → Outcome
 when true s done = done
 when false s done = on s s
 
--- the bytes that are stored where the condition holds
+-- the bytes that are loaded or stored where the condition holds
 abbrev pub when_stored : Bool → ℕ × ℕ → Option (ℕ × ℕ)
 when_stored true bytes = Some bytes
 when_stored false bytes = None
@@ -349,6 +349,8 @@ row_of w effect = record {
   draws = false;
   adds_pc = None;
   jumps_to = None;
+  links = false;
+  loaded = λ s. None;
 }
 
 -- register 15 is at one of these places
@@ -473,6 +475,7 @@ swap e w =
     record (row_of w (λ s c. swapped e w s)) {
       stored = λ s. when_stored (holds w s) (access_of (is_byte w) (reg s (field_n w)));
       cost = record { row = 4096; loads = if field_d w == field_m w then 3 * n else n; stores = n };
+      loaded = λ s. when_stored (holds w s) (access_of (is_byte w) (reg s (field_n w)));
     }
 
 -- the base with the offset added or subtracted (section A5.2)
@@ -511,6 +514,10 @@ transfer_offset w s =
 abbrev pub transfer_address : ℕ → State → ℕ
 transfer_address w s = address w (reg s (field_n w)) (transfer_offset w s)
 
+-- a load to register 15 from an unaligned address
+abbrev pub is_unaligned : ℕ → State → Bool
+is_unaligned w s = (field_d w == 15) && not (transfer_address w s % 4 == 0)
+
 -- a load, unless it is one to register 15 from an unaligned address
 abbrev pub loaded_by : (unaligned : Bool) → Endian → ℕ → State → Outcome
 loaded_by true e w s = Raises UnalignedLoad
@@ -519,7 +526,7 @@ loaded_by false e w s =
 
 -- what LDR and LDRB do; a word that is word_loaded to register 15 is taken as it is
 abbrev pub word_loaded : Endian → ℕ → State → Outcome
-word_loaded e w s = loaded_by ((field_d w == 15) && not (transfer_address w s % 4 == 0)) e w s
+word_loaded e w s = loaded_by (is_unaligned w s) e w s
 
 -- what STR and STRB do
 abbrev pub stored : Endian → ℕ → State → ℕ → Outcome
@@ -550,6 +557,7 @@ single_transfer e w =
       cost = record { row = 4096; loads = if is_load w then n else 0; stores = if is_load w then 0 else n };
       flags = flag_use w (flag_set false (bit_i w && (kind_of w == 3) && (amount_of w == 0)) false) none none;
       draws = not (is_load w) && (field_d w == 15);
+      loaded = λ s. when_stored (holds w s && is_load w && not (is_unaligned w s)) (access_of (is_byte w) (transfer_address w s));
     }
 
 -- the bit 22 of halfword accesses: the offset is a number, in bits 11 to 8 and 3 to 0
@@ -575,6 +583,10 @@ halfword_address w s = address w (reg s (field_n w)) (halfword_offset w s)
 abbrev pub halfword_size : ℕ → ℕ
 halfword_size w = if kind_of w == 2 then 1 else 2
 
+-- a halfword has an even address
+abbrev pub is_even : ℕ → State → Bool
+is_even w s = halfword_address w s % halfword_size w == 0
+
 -- what it loads
 abbrev pub halfword_value : Endian → ℕ → Memory → ℕ → ℕ
 halfword_value e w m a =
@@ -594,13 +606,14 @@ halfword_by true false e w s = on s (record s {
 
 -- what LDRH, STRH, LDRSB and LDRSH do
 abbrev pub halfword_done : Endian → ℕ → State → Outcome
-halfword_done e w s = halfword_by (halfword_address w s % halfword_size w == 0) (is_load w) e w s
+halfword_done e w s = halfword_by (is_even w s) (is_load w) e w s
 
 -- the row of LDRH, STRH, LDRSB and LDRSH
 abbrev pub halfword : Endian → ℕ → Row
 halfword e w = record (row_of w (λ s c. halfword_done e w s)) {
   stored = λ s. when_stored (holds w s && not (is_load w) && (halfword_address w s % 2 == 0)) (halfword_address w s, 2);
   cost = record { row = 4096; loads = if is_load w then halfword_size w else 0; stores = if is_load w then 0 else 2 };
+  loaded = λ s. when_stored (holds w s && is_load w && is_even w s) (halfword_address w s, halfword_size w);
 }
 
 -- the registers from r on, of which there are n, that the list has (section A3.12)
@@ -667,6 +680,7 @@ block e w =
       successors = may_write_pc w (is_load w && has_bit 15 w);
       cost = record { row = 4096 + 512 * n; loads = if is_load w then 4 * n else 0; stores = if is_load w then 0 else 4 * n };
       draws = not (is_load w) && has_bit 15 w;
+      loaded = λ s. when_stored (holds w s && is_load w) (block_start w s, 4 * n);
     }
 
 -- a word has a row of B or BL (section A3.3)
@@ -690,6 +704,7 @@ branched false w s = Goes Direct (with_pc s (branch_target w s.pc))
 abbrev pub branch : ℕ → Row
 branch w = record (row_of w (λ s c. branched (is_linked w) w s)) {
   successors = λ at. record { next = not (is_always w); direct = Some (branch_target w at); indirect = false; call = is_linked w };
+  links = is_linked w;
 }
 
 -- a word has a row of SWI (section A3.14)
@@ -755,4 +770,11 @@ arm_row e profile w = if condition_code w == 15 then None else row_in (table e p
 
 -- the machine, in a byte order and a profile
 abbrev pub arm : Endian → Profile → Machine
-arm e profile = record { endian = e; link = 14; has_register = λ r. nat_le r 14; has_flag = λ f. nat_le f 3; row = arm_row e profile }
+arm e profile = record {
+  endian = e;
+  link = 14;
+  has_register = λ r. nat_le r 14;
+  has_flag = λ f. nat_le f 3;
+  narrow = false;
+  row = arm_row e profile;
+}

@@ -1,5 +1,8 @@
 pub mod Machine
 pub mod Rv
+pub mod RvWords
+pub mod RvShort
+pub mod RvMachine
 pub mod Arm
 pub mod StateText
 pub mod Bil

@@ -1,5 +1,5 @@
 -- A machine as a table of rows, one for each instruction.
-use Rattle.std.specs.Prelude.{ℕ, ◌≡◌, ◌-◌, ◌%◌, Bool, true, false, List, [], Option, Some, None, ◌==◌, if◌then◌else◌}
+use Rattle.std.specs.Prelude.{ℕ, ◌≡◌, ◌-◌, ◌%◌, ◌^◌, Bool, true, false, List, [], ◌∷◌, Option, Some, None, ◌==◌, ◌&&◌, not, if◌then◌else◌}
 use Rattle.word_spec.specs.Words.{add, sub}
 use Rattle.word_spec.specs.Memory.{Endian, span}
 use Rattle.word_spec.specs.State.{State}
@@ -42,12 +42,34 @@ pub record Successors : Type 0 where
   pub indirect : Bool
   pub call : Bool
 
--- a row can stand at the address, which is a multiple of 4, as rows have 4 bytes: as a test, and as a fact
-abbrev pub is_place : ℕ → Bool
-is_place a = a % 4 == 0
+-- the unit of the addresses at which rows stand: 2 where some rows have 2 bytes, and else 4, as all rows then have
+abbrev pub unit : (narrow : Bool) → ℕ
+unit true = 2
+unit false = 4
 
-abbrev pub IsAtPlace : ℕ → Type 0
-IsAtPlace a = a % 4 ≡ 0
+-- a row can stand at the address, which is a multiple of the unit: as a test, and as a fact
+abbrev pub is_place : (narrow : Bool) → ℕ → Bool
+is_place narrow a = a % unit narrow == 0
+
+abbrev pub IsAtPlace : (narrow : Bool) → ℕ → Type 0
+IsAtPlace narrow a = a % unit narrow ≡ 0
+
+-- How many bytes the row has that begins with a halfword: 2 where some rows have 2 bytes and the low two bits are not 11, and else 4 (RISC-V Unprivileged ISA
+-- 20191213, section 1.5).
+abbrev pub width : (narrow : Bool) → ℕ → ℕ
+width narrow first = if narrow && not (first % 4 == 3) then 2 else 4
+
+-- the first halfword of a word, of a machine with rows of 2 bytes, which has the lowest byte first
+abbrev pub first_half : ℕ → ℕ
+first_half w = w % 2 ^ 16
+
+-- what is decoded of the four bytes at an address: the word, or its first halfword alone
+abbrev pub taken : (narrow : Bool) → ℕ → ℕ
+taken narrow w = if width narrow (first_half w) == 2 then first_half w else w
+
+-- the offsets of the bytes of a row of 2 or 4 bytes
+abbrev pub offsets : (bytes : ℕ) → List ℕ
+offsets bytes = 0 ∷ 1 ∷ (if bytes == 2 then [] else 2 ∷ 3 ∷ [])
 
 -- a row that only goes on
 abbrev pub only_next : ℕ → Successors
@@ -77,6 +99,8 @@ pub record Offset : Type 0 where
 -- A row, its fields filled in. length: its bytes. effect: what it does in a state under a choice. stored: the first address and the number of the bytes that
 -- it stores in a state. successors: for the address at which it stands. literal: the address of the literal that it loads, for the address at which it stands.
 -- draws: it reads the choice. adds_pc: the register that it sets to its own address and a number. jumps_to: the register and the number that give its target.
+-- links: where it calls, it keeps the address after it in the machine's link register. loaded: the first address and the number of the bytes that it loads in a
+-- state.
 pub record Row : Type 0 where
   pub length : ℕ
   pub effect : State → ℕ → Outcome
@@ -88,19 +112,28 @@ pub record Row : Type 0 where
   pub draws : Bool
   pub adds_pc : Option Offset
   pub jumps_to : Option Offset
+  pub links : Bool
+  pub loaded : State → Option (ℕ × ℕ)
 
--- a machine: its byte order, its link register, the registers and flags that it has, and the row of a word of 32 bits
+-- A machine: its byte order, its link register, the registers and flags that it has, whether some of its rows have 2 bytes, and the row of a word of 32 bits. A
+-- row of 2 bytes is that of the word whose low half they are and whose upper half is 0.
 pub record Machine : Type 0 where
   pub endian : Endian
   pub link : ℕ
   pub has_register : ℕ → Bool
   pub has_flag : ℕ → Bool
+  pub narrow : Bool
   pub row : ℕ → Option Row
 
--- the addresses of the bytes that are stored
+-- the addresses of the bytes that are loaded or stored
 abbrev pub addresses : Option (ℕ × ℕ) → List ℕ
 addresses None = []
 addresses (Some bytes) = span bytes.0 bytes.1
+
+-- how many bytes are loaded or stored
+abbrev pub byte_count : Option (ℕ × ℕ) → ℕ
+byte_count None = 0
+byte_count (Some bytes) = bytes.1
 
 -- a number with its lowest bit cleared
 abbrev pub even : ℕ → ℕ

@@ -1,8 +1,9 @@
 -- The laws of a row, of a machine, and of a row's lifted list.
-use Rattle.std.specs.Prelude.{◌≡◌, ◌↔◌, ℕ, ◌≤◌, ◌<◌, ◌+◌, ◌^◌, ◌&&◌, nat_le, nat_lt, length, true, false, not, Some, None, List, Contains}
+use Rattle.std.specs.Prelude.{◌≡◌, ◌↔◌, ◌⊎◌, ℕ, ◌≤◌, ◌<◌, ◌+◌, ◌^◌, ◌&&◌, nat_le, nat_lt, length, true, false, not, Some, None, List, Contains}
 use Rattle.word_spec.specs.Words.{add}
+use Rattle.word_spec.specs.Memory.{Little, Memory}
 use Rattle.word_spec.specs.State.{State, IsState, put}
-use Rattle.machine_spec.specs.Machine.{Row, Cost, Successors, How, On, Direct, DirectCall, Indirect, IndirectCall, Outcome, Goes, Raises, addresses, Machine}
+use Rattle.machine_spec.specs.Machine.{Row, Cost, Successors, How, On, Direct, DirectCall, Indirect, IndirectCall, Outcome, Goes, Raises, addresses, byte_count, Machine, width, first_half}
 use Rattle.machine_spec.specs.StateText.{Layout}
 use Rattle.machine_spec.specs.Bil.{Bank, Statements}
 use Rattle.machine_spec.specs.BilTyping.{IsWellTyped}
@@ -69,6 +70,43 @@ HaveSameFlag f (Goes how s) (Goes other t) = s.flags f ≡ t.flags f
 HaveSameFlag f (Raises d) other = Unit {0}
 HaveSameFlag f (Goes how s) (Raises e) = Unit {0}
 
+-- the state with another memory
+abbrev pub with_memory : State → Memory → State
+with_memory s m = record s { mem = m }
+
+-- Two outcomes, of a state and of the state with another memory, are the same but for memory: there the bytes that were the same still are, and those that are
+-- stored are the same.
+abbrev pub SameButMemory : State → Memory → (stored : List ℕ) → Outcome → Outcome → Type 0
+SameButMemory s m stored (Goes how x) (Goes other y) =
+    (how ≡ other) × (x.pc ≡ y.pc) × (x.regs ≡ y.regs) × (x.flags ≡ y.flags)
+    × ((a : ℕ) → a < 2 ^ 32 → (s.mem a ≡ m a) ⊎ Contains stored a → x.mem a ≡ y.mem a)
+SameButMemory s m stored (Raises d) (Raises e) = d ≡ e
+SameButMemory s m stored (Goes how x) (Raises e) = ⊥
+SameButMemory s m stored (Raises e) (Goes how x) = ⊥
+
+-- with another memory that has the same bytes where the row loads, it loads and stores at the same addresses and does the same
+abbrev pub OnlyLoads : Row → Type 0
+OnlyLoads row =
+    (s : State) (m : Memory) (c : ℕ) → IsState s → IsState (with_memory s m) → ((a : ℕ) → Contains (addresses (row.loaded s)) a → s.mem a ≡ m a) →
+    (row.loaded s ≡ row.loaded (with_memory s m)) × (row.stored s ≡ row.stored (with_memory s m))
+    × SameButMemory s m (addresses (row.stored s)) (row.effect s c) (row.effect (with_memory s m) c)
+
+-- the way on is a call
+abbrev pub IsCall : How → Type 0
+IsCall On = ⊥
+IsCall Direct = ⊥
+IsCall DirectCall = Unit {0}
+IsCall Indirect = ⊥
+IsCall IndirectCall = Unit {0}
+
+-- where the row calls, the link register has the address after the row
+abbrev pub LinksIn : (link : ℕ) → Row → Type 0
+LinksIn link row = (s : State) (c : ℕ) → IsState s → IfGoes (row.effect s c) (λ how new. IsCall how → new.regs link ≡ add 32 s.pc row.length)
+
+-- where the row calls, the link register is as it was
+abbrev pub KeepsLink : (link : ℕ) → Row → Type 0
+KeepsLink link row = (s : State) (c : ℕ) → IsState s → IfGoes (row.effect s c) (λ how new. IsCall how → new.regs link ≡ s.regs link)
+
 -- The price of a row's point, within bounds by which the price of a program fits 128 bits. The least of it pays for what a point costs besides its list.
 pub record IsPriced (cost : Cost) : Type 0 where
   pub least : 64 ≤ cost.row
@@ -82,7 +120,8 @@ pub record IsPriced (cost : Cost) : Type 0 where
 -- leaves is a state. unassigned, unread, sure: a flag that it doesn't assign is unchanged; a flag that it doesn't read changes nothing but that flag itself,
 -- and not even that where it surely assigns it. sure_flags: it surely assigns none but the four lowest. draws: it reads the choice only where it says so.
 -- plain: one that may assign a flag stores no byte. stored_unread: a flag that it doesn't read does not change which bytes it stores. priced: its cost is
--- within the bounds.
+-- within the bounds. loads, unloaded, few_loads: of the memory it reads only the bytes that it says; where it raises an exception, it says none; and they are no
+-- more than its cost has. calls: a row that links can call.
 pub record IsLawful (row : Row) : Type 0 where
   pub stored : (s : State) (c : ℕ) → IsState s → KeepsOthers (addresses (row.stored s)) s (row.effect s c)
   pub raised : (s : State) (c : ℕ) → IsState s → IfRaises (row.effect s c) (row.stored s ≡ None)
@@ -99,10 +138,20 @@ pub record IsLawful (row : Row) : Type 0 where
   pub plain : (f : ℕ) → f < 4 → row.flags.assigns f ≡ true → (s : State) → row.stored s ≡ None
   pub stored_unread : (s : State) (f v : ℕ) → f < 4 → row.flags.reads f ≡ false → row.stored s ≡ row.stored (with_flag s f v)
   pub priced : IsPriced row.cost
+  pub loads : OnlyLoads row
+  pub unloaded : (s : State) (c : ℕ) → IsState s → IfRaises (row.effect s c) (row.loaded s ≡ None)
+  pub few_loads : (s : State) → byte_count (row.loaded s) ≤ row.cost.loads
+  pub calls : row.links ≡ true → (at : ℕ) → (row.successors at).call ≡ true
 
--- each word of 32 bits that has a row has a lawful one
+-- Each word of 32 bits that has a row has a lawful one, as long as its first halfword says; and where some rows have 2 bytes, the lowest byte stands first, so
+-- that the first halfword is the low one. linked, unlinked: a call of a row that links keeps the address after it in the link register, and that of any other
+-- row leaves that register as it was.
 pub record IsLawfulMachine (m : Machine) : Type 0 where
   pub rows : (w : ℕ) (row : Row) → w < 2 ^ 32 → m.row w ≡ Some row → IsLawful row
+  pub lengths : (w : ℕ) (row : Row) → w < 2 ^ 32 → m.row w ≡ Some row → row.length ≡ width m.narrow (first_half w)
+  pub little : m.narrow ≡ true → m.endian ≡ Little
+  pub linked : (w : ℕ) (row : Row) → w < 2 ^ 32 → m.row w ≡ Some row → row.links ≡ true → LinksIn m.link row
+  pub unlinked : (w : ℕ) (row : Row) → w < 2 ^ 32 → m.row w ≡ Some row → row.links ≡ false → KeepsLink m.link row
 
 -- The form of state texts is the machine's: the registers are those from the form's first on, at least 15 and at most 31, for which prices and bounds are
 -- meant; the flags are those below the number of the form's, at most 4; the link register is one of the registers.

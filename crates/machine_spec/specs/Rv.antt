@@ -1,9 +1,9 @@
 -- The instruction table of RV32IM (RISC-V Unprivileged ISA 20191213, chapters 2 and 7; the encodings are listed in chapter 24).
-use Rattle.std.specs.Prelude.{ℕ, zero, suc, ◌+◌, ◌*◌, ◌/◌, ◌%◌, ◌^◌, Bool, true, false, List, [], ◌∷◌, Option, Some, None, ◌==◌, ◌&&◌, ◌||◌, not, nat_lt, nat_le, if◌then◌else◌, bit_and, bit_or, bit_xor}
+use Rattle.std.specs.Prelude.{ℕ, zero, suc, ◌+◌, ◌*◌, ◌/◌, ◌%◌, ◌^◌, Bool, true, false, List, [], ◌∷◌, Option, Some, None, ◌==◌, ◌&&◌, ◌||◌, not, nat_lt, if◌then◌else◌, bit_and, bit_or, bit_xor}
 use Rattle.word_spec.specs.Words.{add, sub, mul, bits, bit, sign_extend, signed_lt, shl, shr, sar, udiv, urem, sdiv, srem}
 use Rattle.word_spec.specs.Memory.{Little, load, store}
 use Rattle.word_spec.specs.State.{State, put, with_pc}
-use Rattle.machine_spec.specs.Machine.{On, Direct, DirectCall, Indirect, IndirectCall, How, Exception, EnvironmentCall, Breakpoint, Outcome, Goes, Raises, only_next, Cost, no_flags, Row, Machine, even}
+use Rattle.machine_spec.specs.Machine.{On, Direct, DirectCall, Indirect, IndirectCall, How, Exception, EnvironmentCall, Breakpoint, Outcome, Goes, Raises, only_next, Cost, no_flags, Row, even}
 
 -- the fields of a word: the registers rd, rs1 and rs2, and the immediate of its format (section 2.2)
 pub record Fields : Type 0 where
@@ -89,6 +89,8 @@ row_of effect = record {
   draws = false;
   adds_pc = None;
   jumps_to = None;
+  links = false;
+  loaded = λ s. None;
 }
 
 -- on to the next address
@@ -116,7 +118,7 @@ branches test x = record (row_of (λ s. branch_by (test (reg s x.rs1) (reg s x.r
 -- a load of n bytes, and what is made of them; an unaligned one is done byte by byte (section 2.6)
 abbrev pub loads : ℕ → (ℕ → ℕ) → Fields → Row
 loads n extend x = record (row_of (λ s. on s (with_reg s x.rd (extend (load Little n s.mem (add 32 (reg s x.rs1) x.imm))))))
-    { cost = record { row = 1024; loads = n; stores = 0 } }
+    { cost = record { row = 1024; loads = n; stores = 0 }; loaded = λ s. Some (add 32 (reg s x.rs1) x.imm, n) }
 
 -- a store of the low n bytes of rs2 (section 2.6)
 abbrev pub stores : ℕ → Fields → Row
@@ -133,16 +135,19 @@ abbrev pub indirect_by : Bool → How
 indirect_by true = IndirectCall
 indirect_by false = Indirect
 
--- JAL: rd becomes the address behind the row (section 2.5)
+-- JAL: rd becomes the address behind the row (section 2.5). A call that sets x5 does not link, since x1 alone is the machine's link register.
 abbrev pub jal : Fields → Row
-jal x = record (row_of (λ s. Goes (direct_by (links x.rd)) (with_pc (with_reg s x.rd (add 32 s.pc 4)) (add 32 s.pc x.imm))))
-    { successors = λ at. record { next = false; direct = Some (add 32 at x.imm); indirect = false; call = links x.rd } }
+jal x = record (row_of (λ s. Goes (direct_by (links x.rd)) (with_pc (with_reg s x.rd (add 32 s.pc 4)) (add 32 s.pc x.imm)))) {
+  successors = λ at. record { next = false; direct = Some (add 32 at x.imm); indirect = false; call = links x.rd };
+  links = x.rd == 1;
+}
 
 -- JALR: the target, its lowest bit cleared, is taken before rd changes (section 2.5)
 abbrev pub jalr : Fields → Row
 jalr x = record (row_of (λ s. Goes (indirect_by (links x.rd)) (with_pc (with_reg s x.rd (add 32 s.pc 4)) (even (add 32 (reg s x.rs1) x.imm))))) {
   successors = λ at. record { next = false; direct = None; indirect = true; call = links x.rd };
   jumps_to = Some (record { register = x.rs1; number = x.imm });
+  links = x.rd == 1;
 }
 
 -- FENCE: nothing, for one processor (section 2.7)
@@ -243,7 +248,3 @@ row_in (i ∷ rest) w = if fits i w then Some (i.row (fields i.imm w)) else row_
 -- the row of a word
 unfoldable pub rv_row : ℕ → Option Row
 rv_row w = row_in table w
-
--- the machine
-abbrev pub rv32 : Machine
-rv32 = record { endian = Little; link = 1; has_register = λ r. nat_le 1 r && nat_le r 31; has_flag = λ f. false; row = rv_row }

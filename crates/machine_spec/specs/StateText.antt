@@ -24,9 +24,14 @@ pub record Layout : Type 0 where
 abbrev pub register_names : ℕ → ℕ → ℕ → List (List ℕ)
 register_names letter first count = map (λ r. letter ∷ number_text r) (from_to first count)
 
+-- what the text calls RV32IM, with the compressed instructions or without them
+abbrev pub rv_name : (compressed : Bool) → List ℕ
+rv_name true = codes "rv32imc"
+rv_name false = codes "rv32im"
+
 -- the layout of RV32IM: x1 to x31
-abbrev pub rv_layout : Layout
-rv_layout = record { machine = codes "rv32im"; first = 1; registers = register_names 120 1 31; flags = [] }
+abbrev pub rv_layout : (compressed : Bool) → Layout
+rv_layout compressed = record { machine = rv_name compressed; first = 1; registers = register_names 120 1 31; flags = [] }
 
 -- what the text calls ARM in a byte order and a profile
 abbrev pub arm_name : Endian → Profile → List ℕ

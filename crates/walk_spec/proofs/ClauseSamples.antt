@@ -25,6 +25,7 @@ point at draws = record {
 abbrev u : UnrolledProgram
 u = record {
   endian = Little;
+  narrow = false;
   registers = 3 ∷ 5 ∷ [];
   flags = 2;
   link = 3;

@@ -31,11 +31,17 @@ module _ (p : Program) (k : ℕ) (u : UnrolledProgram) (un : IsUnrolling p k u) 
   byte_is : (a : ℕ) (c : Cell) → a < 2 ^ 32 → p.loaded a ≡ Some c → is_known_at p a ≡ true → byte_of_runs u.known a ≡ Some c.byte
   byte_is a c l e h = un.known a l ∙ ap (λ z. if z then Some (byte_of_cell (p.loaded a)) else None) h ∙ ap (λ z. Some (byte_of_cell z)) e
 
+  place_from : IsAtPlace u.narrow (s.regs u.link) → IsAtPlace p.machine.narrow (s.regs p.machine.link)
+  place_from h = subst (λ (z : ℕ). IsAtPlace p.machine.narrow (s.regs z)) un.link (subst (λ (n : Bool). IsAtPlace n (s.regs u.link)) un.narrow h)
+
+  place_to : IsAtPlace p.machine.narrow (s.regs p.machine.link) → IsAtPlace u.narrow (s.regs u.link)
+  place_to h = subst (λ (z : ℕ). IsAtPlace u.narrow (s.regs z)) (sym un.link) (subst (λ (n : Bool). IsAtPlace n (s.regs p.machine.link)) (sym un.narrow) h)
+
   entry_from : MeetsEntry u s → IsEntryState p s
   entry_from m = record {
     state = m.state;
     pc = m.pc ∙ un.entry;
-    link = subst (λ (z : ℕ). IsAtPlace (s.regs z)) un.link m.lines.link;
+    link = place_from m.lines.link;
     kept_bytes = λ a c l e h. m.bytes a c.byte l (byte_is a c l e (kept_known a c e h)) refl;
     fixed_bytes = λ a c l e h. m.bytes a c.byte l (byte_is a c l e (fixed_known a c e h)) refl;
     requires = sym requires_same ∙ m.lines.requires;
@@ -51,7 +57,7 @@ module _ (p : Program) (k : ℕ) (u : UnrolledProgram) (un : IsUnrolling p k u) 
   entry_to is = record {
     state = is.state;
     pc = is.pc ∙ sym un.entry;
-    lines = record { link = subst (λ (z : ℕ). IsAtPlace (s.regs z)) (sym un.link) is.link; requires = requires_same ∙ is.requires };
+    lines = record { link = place_to is.link; requires = requires_same ∙ is.requires };
     bytes = λ a b l e t. byte_by is a b (p.loaded a) (is_known_at p a) l refl refl (sym (un.known a l) ∙ e);
   }
 
@@ -67,7 +73,7 @@ module _ (p : Program) (k : ℕ) (u : UnrolledProgram) (un : IsUnrolling p k u) 
   over_from m = record {
     state = m.state;
     pc = m.pc ∙ un.entry;
-    link = subst (λ (z : ℕ). IsAtPlace (s.regs z)) un.link m.lines.link;
+    link = place_from p k u un s m.lines.link;
     bytes = λ a c l e t. m.bytes a c.byte l (byte_is p k u un s a c l e (asks a t)) t;
     requires = sym (requires_same p k u un s) ∙ m.lines.requires;
   }
@@ -82,7 +88,7 @@ module _ (p : Program) (k : ℕ) (u : UnrolledProgram) (un : IsUnrolling p k u) 
   over_to is = record {
     state = is.state;
     pc = is.pc ∙ sym un.entry;
-    lines = record { link = subst (λ (z : ℕ). IsAtPlace (s.regs z)) (sym un.link) is.link; requires = requires_same p k u un s ∙ is.requires };
+    lines = record { link = place_to p k u un s is.link; requires = requires_same p k u un s ∙ is.requires };
     bytes = λ a b l e t. byte_over is a b (p.loaded a) (is_known_at p a) l t refl refl (sym (un.known a l) ∙ e);
   }
 

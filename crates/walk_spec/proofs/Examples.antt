@@ -55,6 +55,7 @@ leaves = Along false true None Outward
 abbrev increment : UnrolledProgram
 increment = record {
   endian = Little;
+  narrow = false;
   registers = from_to 1 31;
   flags = 0;
   link = 1;
@@ -109,6 +110,7 @@ increment_exits = refl
 abbrev count_down : UnrolledProgram
 count_down = record {
   endian = Little;
+  narrow = false;
   registers = from_to 1 31;
   flags = 0;
   link = 1;

@@ -48,23 +48,23 @@ met_by entry next h false = refl
 same_eq : (j : ℕ) → (j == j) ≡ true
 same_eq j = grind (arith, nat_tests)
 
-fails_is : (r : Reading) → (swept u r).fails ≡ not (is_place (r.state.regs 1))
+fails_is : (r : Reading) → (swept u r).fails ≡ not (is_place false (r.state.regs 1))
 unfolding held
 fails_is r =
-    ap (λ z. (hand (ends r.state (record r.state { pc = r.state.regs 1 }) (is_place (r.state.regs 1)) z) (held u r 0)).fails) (same_eq (r.state.regs 1))
-    ∙ fails_by r.state (record r.state { pc = r.state.regs 1 }) (held u r 0) (is_place (r.state.regs 1)) refl
+    ap (λ z. (hand (ends r.state (record r.state { pc = r.state.regs 1 }) (is_place false (r.state.regs 1)) z) (held u r 0)).fails) (same_eq (r.state.regs 1))
+    ∙ fails_by r.state (record r.state { pc = r.state.regs 1 }) (held u r 0) (is_place false (r.state.regs 1)) refl
 
 turns_is : (r : Reading) → (swept u r).turns ≡ false
 unfolding held
 turns_is r =
-    ap (λ z. (hand (ends r.state (record r.state { pc = r.state.regs 1 }) (is_place (r.state.regs 1)) z) (held u r 0)).turns) (same_eq (r.state.regs 1))
-    ∙ turns_by r.state (record r.state { pc = r.state.regs 1 }) (held u r 0) (is_place (r.state.regs 1)) refl
+    ap (λ z. (hand (ends r.state (record r.state { pc = r.state.regs 1 }) (is_place false (r.state.regs 1)) z) (held u r 0)).turns) (same_eq (r.state.regs 1))
+    ∙ turns_by r.state (record r.state { pc = r.state.regs 1 }) (held u r 0) (is_place false (r.state.regs 1)) refl
 
 met_is : (r : Reading) → (swept u r).met 0 ≡ true
 unfolding held
 met_is r =
-    ap (λ z. (hand (ends r.state (record r.state { pc = r.state.regs 1 }) (is_place (r.state.regs 1)) z) (held u r 0)).met 0) (same_eq (r.state.regs 1))
-    ∙ met_by r.state (record r.state { pc = r.state.regs 1 }) (held u r 0) (is_place (r.state.regs 1))
+    ap (λ z. (hand (ends r.state (record r.state { pc = r.state.regs 1 }) (is_place false (r.state.regs 1)) z) (held u r 0)).met 0) (same_eq (r.state.regs 1))
+    ∙ met_by r.state (record r.state { pc = r.state.regs 1 }) (held u r 0) (is_place false (r.state.regs 1))
 
 two : (1 ≤ 2) × (2 ≤ 64)
 two = (omega arith, omega arith)

@@ -9,7 +9,7 @@ use Rattle.std.proofs.lemmas.List.{append-nil}
 use Rattle.machine_spec.specs.Machine.{Row}
 use Rattle.bilv_spec.specs.Notes.{Expr, Assert}
 use Rattle.bilv_spec.specs.Run.{Program, fetchable}
-use Rattle.bilv_spec.specs.Points.{Point, EdgeEnd, ToAddress, ToExit, edges, edges_by, distinct, leads_on, is_exit, evaluated, file_row, row_price, loads_at, stores_at, bytes_loaded, line_price, price_of}
+use Rattle.bilv_spec.specs.Points.{Point, EdgeEnd, ToAddress, ToExit, edges, edges_by, distinct, leads_on, is_exit, evaluated, file_row, file_word, row_price, loads_at, stores_at, bytes_loaded, line_price, price_of}
 use Rattle.bilv_spec.proofs.PointSteps.{here, there}
 use Rattle.walk_spec.specs.Unrolled.{Aim, OnTo, Outward, OverLast, ToEvent, PointExit, FalseAssert, Always, Raising, WritingKept, Unaligned, UnrolledPoint, UnrolledProgram, no_point, is_edge, is_outward, goes_out}
 use Rattle.walk_spec.specs.Unrolling.{IsUnrolling, IsPlace, DoesPlace, IsEdge, IsAim, assert_exits, stop_event}
@@ -103,17 +103,17 @@ module _ (p : Program) (k : ℕ) (u : UnrolledProgram) (i : ℕ) where
 
     counts : (o : Option Row) → file_row p q.point.at ≡ o → DoesPlace p k u i q o → Counts q
     counts None e d =
-        let none : edges p q.point ≡ [] = ap (λ z. distinct (filter leads_on (edges_by p q.point z))) e in
-        let stop = Always (stop_event (fetchable p q.point.at)) ∷ [] in
+        let none : edges p q.point ≡ [] = ap (λ z. distinct (filter (leads_on p.machine.narrow) (edges_by p q.point z))) e in
+        let stop = Always (stop_event (fetchable p (file_word p q.point.at) q.point.at)) ∷ [] in
         let xs0 = filter (λ a. a.at == q.point.at) p.notes.asserts in
         record {
           ends =
-              ap (sum_by is_edge) d.1 ∙ sum_by-append is_edge (assert_exits p q.point) (Always (stop_event (fetchable p q.point.at)) ∷ [])
+              ap (sum_by is_edge) d.1 ∙ sum_by-append is_edge (assert_exits p q.point) (Always (stop_event (fetchable p (file_word p q.point.at) q.point.at)) ∷ [])
               ∙ (let a = edges_in_asserts xs0 in let b : length (edges p q.point) ≡ 0 = ap (λ (z : List EdgeEnd). length z) none in omega arith);
           lines = lines_by (list_any is_exit (edges p q.point)) refl
-              (ap (flat_map line_of) d.1 ∙ flat_map-append line_of (assert_exits p q.point) (Always (stop_event (fetchable p q.point.at)) ∷ [])
+              (ap (flat_map line_of) d.1 ∙ flat_map-append line_of (assert_exits p q.point) (Always (stop_event (fetchable p (file_word p q.point.at) q.point.at)) ∷ [])
               ∙ ap (λ z. z ++ []) (lines_in_asserts xs0) ∙ append-nil (map (λ a. a.says) xs0))
-              (ap (list_any goes_out) d.1 ∙ list_any-append goes_out (assert_exits p q.point) (Always (stop_event (fetchable p q.point.at)) ∷ [])
+              (ap (list_any goes_out) d.1 ∙ list_any-append goes_out (assert_exits p q.point) (Always (stop_event (fetchable p (file_word p q.point.at) q.point.at)) ∷ [])
               ∙ ap (λ z. z || false) (out_in_asserts xs0) ∙ sym (ap (list_any is_exit) none));
         }
     counts (Some row) e d =

@@ -1,5 +1,5 @@
 -- A small program and its unrolled program: what an unrolled program has to be can be had.
-use Rattle.std.proofs.Common.{◌≡◌, inl, inr, ℕ, zero, suc, ◌^◌, ◌<◌, ◌≤◌, refl, ap, sym, ◌∙◌, subst, arith, [], ◌∷◌, Option, Some, None, Bool, true, false}
+use Rattle.std.proofs.Common.{◌≡◌, inl, inr, ℕ, zero, suc, ◌^◌, ◌<◌, ◌≤◌, refl, ap, sym, ◌∙◌, subst, arith, [], ◌∷◌, Option, Some, None, Bool, true, false, ⊎_elim}
 use Rattle.std.specs.Prelude.{Contains, ◌==◌, ◌&&◌, ◌||◌, not, nat_lt, nat_le, if◌then◌else◌, slice_index, is_some, ◌-◌, nat_eq, List}
 use Rattle.std.specs.List.{list_any}
 use Rattle.std.proofs.lemmas.Bool.{ne_eqb}
@@ -35,10 +35,19 @@ goes_back = record {
   draws = false;
   adds_pc = None;
   jumps_to = None;
+  links = false;
+  loaded = λ s. None;
 }
 
 abbrev machine : Machine
-machine = record { endian = Little; link = 1; has_register = λ r. list_any (nat_eq r) (1 ∷ []); has_flag = λ f. nat_lt f 0; row = λ w. Some goes_back }
+machine = record {
+  endian = Little;
+  link = 1;
+  has_register = λ r. list_any (nat_eq r) (1 ∷ []);
+  has_flag = λ f. nat_lt f 0;
+  narrow = false;
+  row = λ w. Some goes_back;
+}
 
 abbrev loads : Bool → Option Cell
 loads b = if b then Some (record { byte = 7; flags = 1 }) else None
@@ -49,6 +58,7 @@ p = record {
   machine = machine;
   word = in_memory machine;
   loaded = λ a. loads (nat_lt a 4);
+  out = λ f. false;
   entry = 0;
   notes = record { entry = At 0; requires = []; ensures = []; asserts = []; targets = []; fixed = [] };
 }
@@ -56,6 +66,7 @@ p = record {
 abbrev pub u : UnrolledProgram
 u = record {
   endian = Little;
+  narrow = false;
   registers = 1 ∷ [];
   flags = 0;
   link = 1;
@@ -80,6 +91,9 @@ u = record {
 other_flag : (s : State) (f v g : ℕ) → (g ≡ f → ⊥) → s.flags g ≡ put s.flags f v g
 other_flag s f v g ne = let n : (g == f) ≡ false = ne_eqb g f ne in rw n refl
 
+none_in : {a : ℕ} → Contains [] a → ⊥
+none_in h = absurd (omega (arith, h.1))
+
 lawful : IsLawful goes_back
 lawful = record {
   stored = λ s c is a l out. refl;
@@ -96,6 +110,10 @@ lawful = record {
   plain = λ f l h s. refl;
   stored_unread = λ s f v l h. refl;
   priced = record { least = omega arith; most = omega arith; loads = omega arith; stores = omega arith };
+  loads = λ s m c is also same. (refl, refl, (refl, refl, refl, refl, λ a l h. ⊎_elim (λ e. e) (λ q. absurd (none_in q)) h));
+  unloaded = λ s c is. tt;
+  few_loads = λ s. omega arith;
+  calls = λ h. cc;
 }
 
 some_row : (b : Bool) (row : Row) → (if b then Some goes_back else None) ≡ Some row → goes_back ≡ row
@@ -106,7 +124,7 @@ lawful_rows : HasLawfulRows p
 lawful_rows a row e = subst IsLawful (some_row _ row e) lawful
 
 reads_memory : ReadsMemory p
-reads_memory s a = refl
+reads_memory = record { word = λ s a. refl; little = λ n. refl }
 
 points : ArePoints p 3 (record { turns = 0; stack = []; at = 0 } ∷ [])
 points = points_by_test p 3 [] refl
@@ -284,6 +302,7 @@ no_literal a h = none (some_row _ h.row h.is_row) h.loads
 pub unrolling : IsUnrolling p 3 u
 unrolling = record {
   endian = refl;
+  narrow = refl;
   registers = λ r. refl;
   registers_rise = λ i j h l. absurd (omega arith);
   flags = λ f. refl;

@@ -8,7 +8,7 @@ use Rattle.word_spec.specs.RowFiles.{from_to}
 use Rattle.machine_spec.specs.Machine.{Row}
 use Rattle.bilv_spec.specs.Notes.{NoteLine, Assert}
 use Rattle.bilv_spec.specs.Run.{Program, fetchable}
-use Rattle.bilv_spec.specs.Points.{Point, EdgeEnd, ToAddress, ToExit, file_row}
+use Rattle.bilv_spec.specs.Points.{Point, EdgeEnd, ToAddress, ToExit, file_row, file_word}
 use Rattle.bilv_spec.proofs.PointsInGraph.{split_in, of_filter, of_map}
 use Rattle.walk_spec.specs.Unrolled.{Aim, OnTo, Outward, OverLast, ToEvent, PointExit, FalseAssert, Always, Raising, WritingKept, Unaligned, UnrolledPoint, UnrolledProgram, goes_out, is_outward, is_register_of, point_at}
 use Rattle.walk_spec.specs.Unrolling.{DoesPlace, IsEdge, IsAim, AreReadableBy, ExitIsReadable, assert_exits, stop_event}
@@ -66,7 +66,7 @@ module _ (p : Program) (k : ℕ) (u : UnrolledProgram) (i : ℕ) where
   place_outs : (q : UnrolledPoint) (o : Option Row) → DoesPlace p k u i q o → outs q.exits ≤ 1
   place_outs q None h =
       let xs = filter (λ a. a.at == q.point.at) p.notes.asserts in
-      let e = ap (λ z. outs z) h.1 ∙ sum_by-append (λ x. bit (goes_out x)) (assert_exits p q.point) (Always (stop_event (fetchable p q.point.at)) ∷ []) in
+      let e = ap (λ z. outs z) h.1 ∙ sum_by-append (λ x. bit (goes_out x)) (assert_exits p q.point) (Always (stop_event (fetchable p (file_word p q.point.at) q.point.at)) ∷ []) in
       let a = outs_in_asserts (filter (λ a. a.at == q.point.at) p.notes.asserts) in omega arith
   place_outs q (Some row) h =
       let e = ap (λ z. outs z) h.1 ∙ sum_by-append (λ x. bit (goes_out x)) (assert_exits p q.point) (Raising ∷ WritingKept ∷ Unaligned ∷ h.0) in
@@ -97,14 +97,14 @@ module _ (p : Program) (k : ℕ) (u : UnrolledProgram) (i : ℕ) where
     tail_read xs x f (suc (suc zero), l, e) = subst (ExitIsReadable u) e tt
     tail_read xs x f (suc (suc (suc n)), l, e) = f x (n, omega arith, e)
 
-    stop_read : (q : UnrolledPoint) (x : PointExit) → Contains (Always (stop_event (fetchable p q.point.at)) ∷ []) x → ExitIsReadable u x
+    stop_read : (q : UnrolledPoint) (x : PointExit) → Contains (Always (stop_event (fetchable p (file_word p q.point.at) q.point.at)) ∷ []) x → ExitIsReadable u x
     stop_read q x (zero, l, e) = subst (ExitIsReadable u) e tt
     stop_read q x (suc n, l, e) = absurd (omega arith)
 
     place_reads : (q : UnrolledPoint) (o : Option Row) → DoesPlace p k u i q o → (x : PointExit) → Contains q.exits x → ExitIsReadable u x
     place_reads q None h x c =
         ⊎_elim (asserts_read q x) (stop_read q x)
-        (split_in (assert_exits p q.point) (Always (stop_event (fetchable p q.point.at)) ∷ []) x (subst (λ (z : List PointExit). Contains z x) h.1 c))
+        (split_in (assert_exits p q.point) (Always (stop_event (fetchable p (file_word p q.point.at) q.point.at)) ∷ []) x (subst (λ (z : List PointExit). Contains z x) h.1 c))
     place_reads q (Some row) h x c =
         ⊎_elim (asserts_read q x) (tail_read h.0 x (edges_read q.point row h.2.0 h.0 h.2.2))
         (split_in (assert_exits p q.point) (Raising ∷ WritingKept ∷ Unaligned ∷ h.0) x (subst (λ (z : List PointExit). Contains z x) h.1 c))

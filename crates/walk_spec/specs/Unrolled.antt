@@ -37,7 +37,7 @@ pub data Aim : Type 0 where
   ToEvent : Event → Aim
 
 -- The exits of a point: an assert line that is false, by its number; an event whatever the state is; an exception that is raised; a kept byte that is stored;
--- a next address that is no multiple of 4; and an edge, which may be taken without a jump, by a jump, or by both, to an address, or to the entry's link value
+-- a next address at which no row can stand; and an edge, which may be taken without a jump, by a jump, or by both, to an address, or to the entry's link value
 -- where there is none.
 pub data PointExit : Type 0 where
   FalseAssert : (line : ℕ) → Expr → PointExit
@@ -89,12 +89,13 @@ pub record ByteRun : Type 0 where
   pub count : ℕ
   pub bytes : List ℕ
 
--- An unrolled program: its byte order; the registers of its machine in the order in which a state lists them, and how many flags it has; its entry condition
+-- An unrolled program: its byte order; whether some of its machine's rows have 2 bytes; the registers of its machine in the order in which a state lists them, and how many flags it has; its entry condition
 -- (the number of the link register, the address of the function, the lines that are required, the kept and the fixed bytes as runs); the lines that are
 -- ensured at the exit; the runs of kept bytes; the addresses of the words whose constants stand for their loads; and its points, of which the first is the
 -- entry's.
 pub record UnrolledProgram : Type 0 where
   pub endian : Endian
+  pub narrow : Bool
   pub registers : List ℕ
   pub flags : ℕ
   pub link : ℕ
@@ -190,10 +191,10 @@ is_raised (RaisesOne n) = true
 is_raised IsStuck = false
 
 -- the point goes on to an address at which no row can stand
-abbrev pub is_unaligned : Leaving → Bool
-is_unaligned (GoesOn jumped to c) = not (is_place to)
-is_unaligned (RaisesOne n) = false
-is_unaligned IsStuck = false
+abbrev pub is_unaligned : (narrow : Bool) → Leaving → Bool
+is_unaligned narrow (GoesOn jumped to c) = not (is_place narrow to)
+is_unaligned narrow (RaisesOne n) = false
+is_unaligned narrow IsStuck = false
 
 -- the address at which an edge is taken
 abbrev pub edge_address : UnrolledProgram → (entry : State) → Option ℕ → ℕ
@@ -212,7 +213,7 @@ is_taken u entry now writes_kept l (FalseAssert line e) = not (is_true (value u.
 is_taken u entry now writes_kept l (Always e) = true
 is_taken u entry now writes_kept l Raising = is_raised l
 is_taken u entry now writes_kept l WritingKept = writes_kept
-is_taken u entry now writes_kept l Unaligned = is_unaligned l
+is_taken u entry now writes_kept l Unaligned = is_unaligned u.narrow l
 is_taken u entry now writes_kept l (Along falls jumps to aim) = goes_along u entry falls jumps to l
 
 -- the event of an exception by its number

@@ -2,6 +2,7 @@
 use Rattle.std.specs.Prelude.{ℕ, suc, ◌≡◌, ◌≤◌, ◌<◌, ◌+◌, ◌^◌, Bool, true, false, ◌==◌, if◌then◌else◌, List, [], ◌∷◌, ◌++◌, ◌↔◌, Contains, Option, Some, None, length, map, filter, sum_by, slice_index}
 use Rattle.std.specs.List.{list_any, AllZip}
 use Rattle.word_spec.specs.Words.{bit}
+use Rattle.word_spec.specs.Memory.{load}
 use Rattle.word_spec.specs.State.{State, IsState}
 use Rattle.machine_spec.specs.Machine.{How, On, Direct, DirectCall, Indirect, IndirectCall, Outcome, Goes, Raises, Row, addresses, exception_number}
 use Rattle.bilv_spec.specs.Notes.{Expr, Number, Register, Flag, Pc, Bound, Memory, Old, Not, Binary, NoteLine, Assert, Notes}
@@ -11,9 +12,9 @@ use Rattle.machine_spec.specs.BilTyping.{IsWellTyped}
 use Rattle.machine_spec.specs.BilCounts.{list_weight, byte_loads, byte_stores, memory_choices, chosen_stores, unknowns, has_no_loop, has_no_special, nesting, list_names_only}
 use Rattle.word_spec.specs.RowFiles.{from_to}
 use Rattle.machine_spec.specs.StateText.{Layout}
-use Rattle.bilv_spec.specs.Run.{Program, fetchable, all_kept, in_memory}
+use Rattle.bilv_spec.specs.Run.{Program, fetchable, all_kept}
 use Rattle.machine_spec.specs.Endings.{Event, FetchFails, NoRow}
-use Rattle.bilv_spec.specs.Points.{Point, EdgeEnd, ToAddress, ToExit, end_of, edges, fall_ends, jump_ends, same_end, file_row, file_word, row_price, loads_at, stores_at, IsPoint, ArePoints, IsCount, is_kept_at, is_known_at, begins_run, byte_of_cell}
+use Rattle.bilv_spec.specs.Points.{Point, EdgeEnd, ToAddress, ToExit, end_of, edges, fall_ends, jump_ends, same_end, file_row, file_number, file_word, row_price, loads_at, stores_at, IsPoint, ArePoints, IsCount, is_kept_at, is_known_at, begins_run, byte_of_cell}
 use Rattle.bilv_spec.specs.LiveFlags.{IsRead, IsReadAfter}
 use Rattle.walk_spec.specs.Unrolled.{Carried, state_at, Aim, OnTo, Outward, OverLast, PointExit, FalseAssert, Always, Raising, WritingKept, Unaligned, Along, Action, Executes, UnrolledPoint, UnrolledProgram, AddressRun, goes_out, is_register_of, is_flag_of, is_in, byte_of_runs, point_at, Leaving, GoesOn, RaisesOne, leaving, stored_at, ExitsLeadLater}
 
@@ -40,7 +41,7 @@ LeavesAs reads o l = ⊥
 
 -- the literal of the row is the file's, where its four bytes are kept
 abbrev pub HoldsLiteral : Program → Row → State → Type 0
-HoldsLiteral p row s = (a : ℕ) → row.literal s.pc ≡ Some a → all_kept p a ≡ true → in_memory p.machine s a ≡ file_word p a
+HoldsLiteral p row s = (a : ℕ) → row.literal s.pc ≡ Some a → all_kept p a ≡ true → load p.machine.endian 4 s.mem a ≡ file_number p a
 
 -- A list may name the registers and flags of the program and the memory. Registers go by their numbers, whatever their bank.
 abbrev pub is_variable_of : UnrolledProgram → BilVariable → Bool
@@ -127,7 +128,7 @@ pub record IsCounted (p : Program) (q : UnrolledPoint) (row : Option Row) : Type
 -- What stands at a place, by the row at its address: its exits in the order of a step, with an edge for each of the program's, and what it does. Where there
 -- is no row it does nothing.
 abbrev pub DoesPlace : Program → (k : ℕ) → UnrolledProgram → (i : ℕ) → UnrolledPoint → Option Row → Type 0
-DoesPlace p k u i q None = (q.does ≡ Executes Empty) × (q.exits ≡ assert_exits p q.point ++ Always (stop_event (fetchable p q.point.at)) ∷ [])
+DoesPlace p k u i q None = (q.does ≡ Executes Empty) × (q.exits ≡ assert_exits p q.point ++ Always (stop_event (fetchable p (file_word p q.point.at) q.point.at)) ∷ [])
 DoesPlace p k u i q (Some row) =
     (along : List PointExit) × (q.exits ≡ assert_exits p q.point ++ Raising ∷ WritingKept ∷ Unaligned ∷ along)
     × ((ends : List EdgeEnd) × AreEdgesOf p q.point ends × AllZip (IsEdge p k u i q.point row) ends along) × DoesRow p q row
@@ -159,6 +160,7 @@ AreRuns runs = (r : AddressRun) → Contains runs r → (r.low ≤ r.high) × (r
 -- more runs and known bytes than the price counts.
 pub record IsUnrolling (p : Program) (k : ℕ) (u : UnrolledProgram) : Type 0 where
   pub endian : u.endian ≡ p.machine.endian
+  pub narrow : u.narrow ≡ p.machine.narrow
   pub registers : (r : ℕ) → is_register_of u r ≡ p.machine.has_register r
   pub registers_rise : (i j : ℕ) → i < j → j < length u.registers → slice_index u.registers i < slice_index u.registers j
   pub flags : (f : ℕ) → is_flag_of u f ≡ p.machine.has_flag f

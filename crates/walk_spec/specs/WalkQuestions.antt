@@ -21,7 +21,7 @@ WalkEndsBy u r TurnQuestion = (points : ℕ) × (walk u r points ≡ WalkTurns)
 
 -- the part of the entry condition that is no byte of the file: the link value is an address of a row, and the required lines are true
 pub record MeetsLines (u : UnrolledProgram) (s : State) : Type 0 where
-  pub link : IsAtPlace (s.regs u.link)
+  pub link : IsAtPlace u.narrow (s.regs u.link)
   pub requires : false_line u.endian u.requires s s ≡ None
 
 -- the known bytes that are asked on demand: some that were added, and the four of each literal
