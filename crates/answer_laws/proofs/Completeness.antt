@@ -228,7 +228,7 @@ one_answer o file text b a c (elf_is_refused v x i) (notes_are_refused w accepte
 one_answer o file text b a c (elf_is_refused v x i) (is_reported p f r e found y s right j) = absurd (refused_or_accepted file v x found.0)
 one_answer o file text b a c (notes_are_refused v accepted x i) (elf_is_refused w y j) = absurd (refused_or_accepted file w y accepted)
 one_answer o file text b a c (notes_are_refused v accepted x i) (notes_are_refused w too y j) =
-    same_answer a c (i ∙ ap (plain_answer 5) (one_notes_refusal file text v w x y) ∙ sym j)
+    same_answer a c (i ∙ ap (plain_answer 5) (one_notes_refusal o file text v w x y) ∙ sym j)
 one_answer o file text b a c (notes_are_refused v accepted x i) (is_reported p f r e found y s right j) = absurd (refused_or_found o file text v p x found)
 one_answer o file text b a c (is_reported p f r e found x s right i) (elf_is_refused w y j) = absurd (refused_or_accepted file w y found.0)
 one_answer o file text b a c (is_reported p f r e found x s right i) (notes_are_refused w accepted y j) = absurd (refused_or_found o file text w p y found)

@@ -8,7 +8,8 @@ use Rattle.bilv_spec.specs.Verdict.{IsEntryState}
 use Rattle.bilv_spec.specs.Questions.{by_file}
 use Rattle.bilv_spec.specs.PointLaws.{HasLawfulRows, ReadsMemory}
 use Rattle.call_spec.specs.Calls.{Options, Budget, Evidence, RunOf, plain_answer}
-use Rattle.bilv_spec.specs.Files.{IsProgram, layout_of}
+use Rattle.bilv_spec.specs.Files.{is_rv, IsProgram, layout_of}
+use Rattle.bilv_spec.specs.Elf.{file_endian}
 use Rattle.machine_spec.specs.StateText.{Layout, IsEvent, IsNamed}
 use Rattle.word_spec.specs.Texts.{line}
 use Rattle.bilv_spec.specs.Answers.{Report, HoldsReport, VacuousReport, FailsReport, UnrollReport, PointsReport, SizeReport, ConflictsReport, IsRightReport, EndsAs, report_text}
@@ -19,7 +20,7 @@ use Rattle.bilv_spec.proofs.Over.{one_end}
 use Rattle.bilv_spec.proofs.PointRuns.{Stands, stands}
 use Rattle.bilv_spec.proofs.ReadingRuns.{Numbered, numbered}
 use Rattle.bilv_spec.proofs.FileWords.{runs_by_file}
-use Rattle.bilv_spec.proofs.ProgramRows.{program_rows_are_lawful}
+use Rattle.bilv_spec.proofs.ProgramRows.{machine_lawful, program_rows_are_lawful}
 use Rattle.answer_spec.proofs.Replayed.{report_replays}
 use Rattle.answer_laws.specs.Replayed.{AreBytes, IsReplayable}
 use Rattle.walk_laws.proofs.RunEnds.{few_points_end_runs}
@@ -70,7 +71,8 @@ module _ (p : Program) (k : ℕ) (lawful : HasLawfulRows p) (few : HasFewLines p
       subst (IsFine max) (sym (runs_by_file p lawful memory k start is max) ∙ same) (fine is max)
 
 reads_memory : (o : Options) (file text : List ℕ) (p : Program) → IsProgram o file text p → ReadsMemory p
-reads_memory o file text p is = subst ReadsMemory (sym is.4) (λ s a. refl)
+reads_memory o file text p is =
+    subst ReadsMemory (sym is.4) (record { word = λ s a. refl; little = (machine_lawful (is_rv file) (file_endian file) o).little })
 
 no_name : (n : NamedEnding) → ◌≡◌ {A = Option NamedEnding} None (Some n) → ⊥
 no_name n e = cc

@@ -8,7 +8,7 @@ use Rattle.bilv_spec.specs.Notes.{NoteLine, Assert, value, is_true}
 use Rattle.bilv_spec.specs.NotesGrammar.{Says, Nothing, EntryIs, RequireIs, EnsureIs, AssertIs, TargetsAre, FixedIs, VersionIs, ConstIs, LoadedIs, AreLines, after, is_second, line_limit, lines_of, ensures_of, asserts_of}
 use Rattle.bilv_spec.specs.Scopes.{Scope, begin}
 use Rattle.call_spec.specs.Calls.{Options}
-use Rattle.bilv_spec.specs.Files.{IsProgram, names_of}
+use Rattle.bilv_spec.specs.Files.{IsProgram, vocabulary_of}
 use Rattle.machine_spec.specs.StateText.{IsEvent}
 use Rattle.bilv_spec.specs.Run.{Program, Place, Step, Stops, Arrives, Exits, false_assert, false_line, step, after_asserts, by_fetch, by_row, after_row, exception_event, going_on, aligned_transfer, transfer, leave, exit_or, exit_by, return_or, allowed, exit}
 
@@ -64,7 +64,7 @@ few_texts false n h = omega arith
 pub few_note_lines : (o : Options) (file text : List ℕ) (p : Program) → IsProgram o file text p → HasFewLines p
 few_note_lines o file text p is =
     let text_is = is.2 in
-    let count = as_many (begin (names_of file) (is_second (lines_of text))) (lines_of text) text_is.says text_is.lines in
+    let count = as_many (begin (vocabulary_of o file) (is_second (lines_of text))) (lines_of text) text_is.says text_is.lines in
     let short = few_texts (is_second (lines_of text)) (length (lines_of text)) text_is.short in
     let few : 1 + length text_is.says ≤ 8192 = omega arith in
     subst HasFewLines (sym is.4) (record {

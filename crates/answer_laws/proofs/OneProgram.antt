@@ -1,28 +1,28 @@
 -- Two files have one program or one refusal.
-use Rattle.std.proofs.Common.{◌≡◌, ◌⊎◌, inl, inr, ℕ, ◌<◌, ◌≤◌, refl, ap, sym, ◌∙◌, subst, arith, List}
+use Rattle.std.proofs.Common.{Bool, ◌≡◌, ◌⊎◌, inl, inr, ℕ, ◌<◌, ◌≤◌, refl, ap, sym, ◌∙◌, subst, arith, List}
 use Rattle.bilv_spec.specs.Notes.{Notes, Function, At, Named}
 use Rattle.bilv_spec.specs.NotesGrammar.{IsNotesText}
 use Rattle.bilv_spec.specs.NotesFaults.{NoteFault, IsFirstNoteFault}
 use Rattle.bilv_spec.specs.ElfFaults.{IsFunction, Finds, IsAmbiguous}
 use Rattle.bilv_spec.specs.Run.{Program}
 use Rattle.call_spec.specs.Calls.{Options}
-use Rattle.bilv_spec.specs.Files.{names_of, machine_of, program_of, IsFunctionAt, IsProgram}
+use Rattle.bilv_spec.specs.Files.{vocabulary_of, machine_of, program_of, IsFunctionAt, IsProgram}
 use Rattle.bilv_spec.specs.Verified.{IsAccepted, IsElfRefused, elf_large, elf_fault, elf_fault_text, AreNotesRefused, notes_large, notes_fault, no_function, ambiguous, note_fault_text, ambiguous_text, IsFound}
 use Rattle.bilv_spec.proofs.Faults as elf
 use Rattle.bilv_spec.proofs.NotesFirst as notes
 use Rattle.bilv_spec.proofs.NotesSaid.{one_reading}
 
-same_notes : (file text : List ℕ) (m n : Notes) → IsNotesText (names_of file) text m → IsNotesText (names_of file) text n → m ≡ n
-same_notes file text m n a b = one_reading (names_of file) text m n a b
+same_notes : (o : Options) (file text : List ℕ) (m n : Notes) → IsNotesText (vocabulary_of o file) text m → IsNotesText (vocabulary_of o file) text n → m ≡ n
+same_notes o file text m n a b = one_reading (vocabulary_of o file) text m n a b
 
-same_entry : (file : List ℕ) (f : Function) (a b : ℕ) → IsFunctionAt file f a → IsFunctionAt file f b → a ≡ b
-same_entry file (At n) a b x y = sym x ∙ y
-same_entry file (Named name) a b x y = y.1 a x.0
+same_entry : (n : Bool) (file : List ℕ) (f : Function) (a b : ℕ) → IsFunctionAt n file f a → IsFunctionAt n file f b → a ≡ b
+same_entry narrow file (At n) a b x y = sym x ∙ y
+same_entry narrow file (Named name) a b x y = y.1 a x.0
 
 pub one_program_of : (o : Options) (file text : List ℕ) (p q : Program) → IsProgram o file text p → IsProgram o file text q → p ≡ q
 one_program_of o file text p q x y =
-    let e = same_notes file text x.0 y.0 x.2 y.2 in
-    let at = same_entry file y.0.entry x.1 y.1 (subst (λ (n : Notes). IsFunctionAt file n.entry x.1) e x.3) y.3 in
+    let e = same_notes o file text x.0 y.0 x.2 y.2 in
+    let at = same_entry (machine_of o file).narrow file y.0.entry x.1 y.1 (subst (λ (n : Notes). IsFunctionAt (machine_of o file).narrow file n.entry x.1) e x.3) y.3 in
     x.4 ∙ ap (λ n. program_of (machine_of o file) file n x.1) e ∙ ap (program_of (machine_of o file) file y.0) at ∙ sym y.4
 
 pub one_program : (o : Options) (file text : List ℕ) (p q : Program) → IsFound o file text p → IsFound o file text q → p ≡ q
@@ -39,16 +39,16 @@ refused_or_accepted file _ (elf_large h) a = omega (arith, h, a.0)
 refused_or_accepted file _ (elf_fault f h e) a = a.1 f e.0
 
 -- notes without a fault have no first fault
-faultless : (file text : List ℕ) (m : Notes) (n : ℕ) (f : NoteFault) → IsNotesText (names_of file) text m → IsFirstNoteFault (names_of file) text n f → ⊥
-faultless file text m n f a b = notes.never_both (names_of file) text m n f a b
+faultless : (o : Options) (file text : List ℕ) (m : Notes) (n : ℕ) (f : NoteFault) → IsNotesText (vocabulary_of o file) text m → IsFirstNoteFault (vocabulary_of o file) text n f → ⊥
+faultless o file text m n f a b = notes.never_both (vocabulary_of o file) text m n f a b
 
-same_name : (file text : List ℕ) (m n : Notes) (x y : List ℕ) → IsNotesText (names_of file) text m → IsNotesText (names_of file) text n →
+same_name : (o : Options) (file text : List ℕ) (m n : Notes) (x y : List ℕ) → IsNotesText (vocabulary_of o file) text m → IsNotesText (vocabulary_of o file) text n →
     m.entry ≡ Named x → n.entry ≡ Named y → x ≡ y
-same_name file text m n x y a b e d =
-    let same : Named x ≡ Named y = sym e ∙ ap (λ z. z.entry) (same_notes file text m n a b) ∙ d in cc
+same_name o file text m n x y a b e d =
+    let same : Named x ≡ Named y = sym e ∙ ap (λ z. z.entry) (same_notes o file text m n a b) ∙ d in cc
 
-same_least : (file name : List ℕ) (a b c d : ℕ) → IsAmbiguous file name a b → IsAmbiguous file name c d → (a ≡ c) × (b ≡ d)
-same_least file name a b c d x y =
+same_least : (narrow : Bool) (file name : List ℕ) (a b c d : ℕ) → IsAmbiguous narrow file name a b → IsAmbiguous narrow file name c d → (a ≡ c) × (b ≡ d)
+same_least narrow file name a b c d x y =
     let first : a ≡ c = least (x.3 c y.0) (y.3 a x.0) in
     (first, second first (x.3 d y.1) (y.3 b x.1))
   where
@@ -68,41 +68,42 @@ same_least file name a b c d x y =
     second e (inr h) (inl g) = let l = below in absurd (omega arith)
     second e (inr h) (inr g) = omega arith
 
-pub one_notes_refusal : (file text v w : List ℕ) → AreNotesRefused file text v → AreNotesRefused file text w → v ≡ w
-one_notes_refusal file text _ _ (notes_large h) (notes_large k) = refl
-one_notes_refusal file text _ _ (notes_large h) (notes_fault n f k e) = absurd (omega arith)
-one_notes_refusal file text _ _ (notes_large h) (no_function n name k t e none) = absurd (omega arith)
-one_notes_refusal file text _ _ (notes_large h) (ambiguous n name a c k t e two) = absurd (omega arith)
-one_notes_refusal file text _ _ (notes_fault m f h x) (notes_large k) = absurd (omega arith)
-one_notes_refusal file text _ _ (notes_fault m f h x) (notes_fault n g k e) =
-    let same = notes.one_fault (names_of file) text m n f g x e in
+pub one_notes_refusal : (o : Options) (file text v w : List ℕ) → AreNotesRefused o file text v → AreNotesRefused o file text w → v ≡ w
+one_notes_refusal o file text _ _ (notes_large h) (notes_large k) = refl
+one_notes_refusal o file text _ _ (notes_large h) (notes_fault n f k e) = absurd (omega arith)
+one_notes_refusal o file text _ _ (notes_large h) (no_function n name k t e none) = absurd (omega arith)
+one_notes_refusal o file text _ _ (notes_large h) (ambiguous n name a c k t e two) = absurd (omega arith)
+one_notes_refusal o file text _ _ (notes_fault m f h x) (notes_large k) = absurd (omega arith)
+one_notes_refusal o file text _ _ (notes_fault m f h x) (notes_fault n g k e) =
+    let same = notes.one_fault (vocabulary_of o file) text m n f g x e in
     ap (λ z. note_fault_text z f) same.0 ∙ ap (note_fault_text n) same.1
-one_notes_refusal file text _ _ (notes_fault m f h x) (no_function n name k t e none) = absurd (faultless file text n m f t x)
-one_notes_refusal file text _ _ (notes_fault m f h x) (ambiguous n name a c k t e two) = absurd (faultless file text n m f t x)
-one_notes_refusal file text _ _ (no_function m name h t e none) (notes_large k) = absurd (omega arith)
-one_notes_refusal file text _ _ (no_function m name h t e none) (notes_fault n f k x) = absurd (faultless file text m n f t x)
-one_notes_refusal file text _ _ (no_function m name h t e none) (no_function n other k u d never) = refl
-one_notes_refusal file text _ _ (no_function m name h t e none) (ambiguous n other a c k u d two) =
-    absurd (none a (subst (λ (z : List ℕ). IsFunction file z a) (sym (same_name file text m n name other t u e d)) two.0))
-one_notes_refusal file text _ _ (ambiguous m name a c h t e two) (notes_large k) = absurd (omega arith)
-one_notes_refusal file text _ _ (ambiguous m name a c h t e two) (notes_fault n f k x) = absurd (faultless file text m n f t x)
-one_notes_refusal file text _ _ (ambiguous m name a c h t e two) (no_function n other k u d none) =
-    absurd (none a (subst (λ (z : List ℕ). IsFunction file z a) (same_name file text m n name other t u e d) two.0))
-one_notes_refusal file text _ _ (ambiguous m name a c h t e two) (ambiguous n other a' c' k u d few) =
-    let same = same_least file other a c a' c' (subst (λ (z : List ℕ). IsAmbiguous file z a c) (same_name file text m n name other t u e d) two) few in
+one_notes_refusal o file text _ _ (notes_fault m f h x) (no_function n name k t e none) = absurd (faultless o file text n m f t x)
+one_notes_refusal o file text _ _ (notes_fault m f h x) (ambiguous n name a c k t e two) = absurd (faultless o file text n m f t x)
+one_notes_refusal o file text _ _ (no_function m name h t e none) (notes_large k) = absurd (omega arith)
+one_notes_refusal o file text _ _ (no_function m name h t e none) (notes_fault n f k x) = absurd (faultless o file text m n f t x)
+one_notes_refusal o file text _ _ (no_function m name h t e none) (no_function n other k u d never) = refl
+one_notes_refusal o file text _ _ (no_function m name h t e none) (ambiguous n other a c k u d two) =
+    absurd (none a (subst (λ (z : List ℕ). IsFunction (machine_of o file).narrow file z a) (sym (same_name o file text m n name other t u e d)) two.0))
+one_notes_refusal o file text _ _ (ambiguous m name a c h t e two) (notes_large k) = absurd (omega arith)
+one_notes_refusal o file text _ _ (ambiguous m name a c h t e two) (notes_fault n f k x) = absurd (faultless o file text m n f t x)
+one_notes_refusal o file text _ _ (ambiguous m name a c h t e two) (no_function n other k u d none) =
+    absurd (none a (subst (λ (z : List ℕ). IsFunction (machine_of o file).narrow file z a) (same_name o file text m n name other t u e d) two.0))
+one_notes_refusal o file text _ _ (ambiguous m name a c h t e two) (ambiguous n other a' c' k u d few) =
+    let same = same_least (machine_of o file).narrow file other a c a' c' (subst (λ (z : List ℕ). IsAmbiguous (machine_of o file).narrow file z a c) (same_name o file text m n name other t u e d) two) few in
     ap (λ z. ambiguous_text z c) same.0 ∙ ap (ambiguous_text a') same.1
 
 -- the function that notes name, where it is found
-found_named : (file : List ℕ) (f : Function) (name : List ℕ) (entry : ℕ) → f ≡ Named name → IsFunctionAt file f entry → Finds file name entry
-found_named file f name entry e is = subst (λ (z : Function). IsFunctionAt file z entry) e is
+found_named : (narrow : Bool) (file : List ℕ) (f : Function) (name : List ℕ) (entry : ℕ) → f ≡ Named name → IsFunctionAt narrow file f entry →
+    Finds narrow file name entry
+found_named narrow file f name entry e is = subst (λ (z : Function). IsFunctionAt narrow file z entry) e is
 
-pub refused_or_found : (o : Options) (file text w : List ℕ) (p : Program) → AreNotesRefused file text w → IsFound o file text p → ⊥
+pub refused_or_found : (o : Options) (file text w : List ℕ) (p : Program) → AreNotesRefused o file text w → IsFound o file text p → ⊥
 refused_or_found o file text _ p (notes_large h) is = omega (arith, h, is.1)
-refused_or_found o file text _ p (notes_fault n f h x) is = faultless file text is.2.0 n f is.2.2 x
+refused_or_found o file text _ p (notes_fault n f h x) is = faultless o file text is.2.0 n f is.2.2 x
 refused_or_found o file text _ p (no_function m name h t e none) is =
-    let same : is.2.0.entry ≡ Named name = ap (λ z. z.entry) (same_notes file text is.2.0 m is.2.2 t) ∙ e in
-    none is.2.1 (found_named file is.2.0.entry name is.2.1 same is.2.3).0
+    let same : is.2.0.entry ≡ Named name = ap (λ z. z.entry) (same_notes o file text is.2.0 m is.2.2 t) ∙ e in
+    none is.2.1 (found_named (machine_of o file).narrow file is.2.0.entry name is.2.1 same is.2.3).0
 refused_or_found o file text _ p (ambiguous m name a c h t e two) is =
-    let same : is.2.0.entry ≡ Named name = ap (λ z. z.entry) (same_notes file text is.2.0 m is.2.2 t) ∙ e in
-    let finds = found_named file is.2.0.entry name is.2.1 same is.2.3 in
+    let same : is.2.0.entry ≡ Named name = ap (λ z. z.entry) (same_notes o file text is.2.0 m is.2.2 t) ∙ e in
+    let finds = found_named (machine_of o file).narrow file is.2.0.entry name is.2.1 same is.2.3 in
     let x = finds.1 a two.0 in let y = finds.1 c two.1 in let l = two.2 in omega arith

@@ -9,7 +9,7 @@ use Rattle.bilv_spec.specs.NotesGrammar.{lines_of, is_second, IsNotesText}
 use Rattle.bilv_spec.specs.RvNames.{rv_names}
 use Rattle.bilv_spec.specs.ArmNames.{arm_names}
 use Rattle.call_spec.specs.Calls.{Options, Evidence, Answer, plain_answer, Surroundings, AfterRead}
-use Rattle.bilv_spec.specs.Files.{is_rv, names_of}
+use Rattle.bilv_spec.specs.Files.{is_rv, vocabulary_of}
 use Rattle.word_spec.specs.Texts.{line}
 use Rattle.bilv_spec.specs.Upgrades.{upgraded, later_notes, later_program}
 use Rattle.bilv_spec.specs.Verified.{notes_limit, IsFound, AfterImage, elf_refused, elf_accepted, AfterNotes, notes_refused, program_found}
@@ -35,8 +35,8 @@ kept_by o file text false e p is =
       (
         later_notes is.0,
         is.1,
-        subst (λ (t : List ℕ). IsNotesText (names_of file) t (later_notes is.0)) printed
-            (upgrade_says_same (names_of file) (none_by (is_rv file)) text is.0 e is.2),
+        subst (λ (t : List ℕ). IsNotesText (vocabulary_of o file) t (later_notes is.0)) printed
+            (upgrade_says_same (vocabulary_of o file) (none_by (is_rv file)) text is.0 e is.2),
         is.3,
         ap later_program is.4,
       ),

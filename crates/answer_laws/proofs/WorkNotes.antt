@@ -19,7 +19,7 @@ use Rattle.bilv_spec.specs.Notes.{Expr, Register, Number, Binary, Equal, At}
 use Rattle.word_spec.specs.Tokens.{Token, NumberToken, NameToken, SignToken, is_digit, is_hexadecimal, number_length, number_value, begins_with_letter, BadText, run_of, tokens_after, tokens_of}
 use Rattle.bilv_spec.specs.NotesGrammar.{Parses, tighter, binary_of, number_of, name_of, Says, EntryIs, RequireIs, EnsureIs, IsLine, IsGood, AreLines, IsNotesText, is_second, line_limit, lines_of, onto_first}
 use Rattle.word_spec.specs.Texts.{are_digits, is_blank, is_digit_of, hex_digit, hex_digits, word_text, number_text, line, lines}
-use Rattle.bilv_spec.specs.Scopes.{Scope, begin, named}
+use Rattle.bilv_spec.specs.Scopes.{Vocabulary, Scope, begin, named}
 use Rattle.bilv_spec.specs.RvNames.{rv_names, rv_table}
 use Rattle.command_spec.specs.Work.{work_notes, result}
 use Rattle.clause_spec.proofs.PrintedWords.{printed_digits}
@@ -181,9 +181,13 @@ word_read v h =
 abbrev said_by : (k n : ℕ) → List Token
 said_by k n = NameToken (97 ∷ (48 + k) ∷ []) ∷ SignToken (codes "=") ∷ NumberToken n ∷ []
 
+-- what notes call RISC-V without compressed instructions
+abbrev pub rv_words : Vocabulary
+rv_words = record { names = rv_names; narrow = false }
+
 -- words mean what the machine has, on the first line and on later ones
 abbrev scope : (is_first : Bool) → Scope
-scope is_first = record (begin rv_names false) { is_first = is_first }
+scope is_first = record (begin rv_words false) { is_first = is_first }
 
 name_is : (k : ℕ) → k < 2 → named (scope false) (97 ∷ (48 + k) ∷ []) ≡ Some (Register (10 + k))
 unfolding rv_table
@@ -312,11 +316,11 @@ module _ (seed count : ℕ) (seed_small : seed < 2 ^ 31) (few : count ≤ 16000)
   lines_are =
       lines_read texts (refl, (require_plain 0 seed (omega arith), (require_plain 1 count (omega arith), (ensure_plain (result seed count), tt))))
 
-  pub reads_made : IsNotesText rv_names (work_notes seed count) (made_notes seed count)
+  pub reads_made : IsNotesText rv_words (work_notes seed count) (made_notes seed count)
   reads_made = record {
     short = subst (λ (ls : List (List ℕ)). length ls ≤ line_limit (is_second ls)) (sym lines_are) (lit≤ tt);
     says = says;
-    lines = subst (λ (ls : List (List ℕ)). AreLines (begin rv_names (is_second ls)) ls says) (sym lines_are) (
+    lines = subst (λ (ls : List (List ℕ)). AreLines (begin rv_words (is_second ls)) ls says) (sym lines_are) (
       entry_line,
       (
         require_line 0 seed (lit< tt) (omega arith),

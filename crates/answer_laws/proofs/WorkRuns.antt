@@ -10,7 +10,8 @@ use Rattle.word_spec.specs.State.{State, put}
 use Rattle.machine_spec.specs.Machine.{Indirect, Goes, is_place, IsAtPlace}
 use Rattle.bilv_spec.specs.Elf.{loaded}
 use Rattle.bilv_spec.specs.Notes.{Notes, At, Register, Number, Binary, Equal, is_true}
-use Rattle.machine_spec.specs.Rv.{jalr, fields, imm_i, rv32, rv_row}
+use Rattle.machine_spec.specs.Rv.{jalr, fields, imm_i, rv_row}
+use Rattle.machine_spec.specs.RvMachine.{rv32}
 use Rattle.bilv_spec.specs.Run.{Program, Place, Arrives, Exits, step, run, Going, Exited, fetchable, one_more, after_step, arrive}
 use Rattle.machine_spec.specs.Endings.{Start}
 use Rattle.bilv_spec.specs.Points.{byte_of_cell}
@@ -35,7 +36,7 @@ made_notes seed count = record {
 
 -- the program
 abbrev pub made_program : (seed count : ℕ) → Program
-made_program seed count = program_of rv32 (work_file seed count) (made_notes seed count) 0x10000
+made_program seed count = program_of (rv32 false) (work_file seed count) (made_notes seed count) 0x10000
 
 -- the registers after i words, from those at entry
 abbrev regs_at : (x : ℕ) → (ℕ → ℕ) → ℕ → ℕ → ℕ
@@ -72,17 +73,17 @@ at_byte i j h k = omega arith
 next_is : (i : ℕ) → i < 65536 → add 32 (65536 + 4 * i) 4 ≡ 65536 + 4 * suc i
 next_is i h = omega arith
 
-aligned : (i : ℕ) → is_place (65536 + 4 * i) ≡ true
+aligned : (i : ℕ) → is_place false (65536 + 4 * i) ≡ true
 aligned i = let e : (65536 + 4 * i) % 4 ≡ 0 = omega arith in grind (arith, nat_tests)
 
 forward : (i : ℕ) → nat_le (65536 + 4 * suc i) (65536 + 4 * i) ≡ false
 forward i = grind (arith, nat_tests)
 
 -- a return to an address that is a multiple of 4
-ret_to : (x : ℕ) → x < 2 ^ 32 → IsAtPlace x → add 32 x 0 - add 32 x 0 % 2 ≡ x
+ret_to : (x : ℕ) → x < 2 ^ 32 → IsAtPlace false x → add 32 x 0 - add 32 x 0 % 2 ≡ x
 ret_to x h e = omega arith
 
-is_multiple : (x : ℕ) → IsAtPlace x → is_place x ≡ true
+is_multiple : (x : ℕ) → IsAtPlace false x → is_place false x ≡ true
 is_multiple x e = grind (arith, nat_tests)
 
 same : (x : ℕ) → (x == x) ≡ true
@@ -96,10 +97,10 @@ module _ (words : List ℕ) (short : length words ≤ 65536) (notes : Notes) whe
       loaded (rv_file words) (add 32 (65536 + 4 * i) j) ≡ Some (record { byte = get_or (code words) (4 * i + j) 0; flags = 5 })
   fetch_one i j h k = rw (at_byte i j (omega arith) k) (loads words (4 * i + j) short (omega arith))
 
-  fetches : (i : ℕ) → i < length words → fetchable (program_of rv32 (rv_file words) notes 65536) (65536 + 4 * i) ≡ true
-  fetches i h = simp (fetch_one i 0 h (lit< tt), fetch_one i 1 h (lit< tt), fetch_one i 2 h (lit< tt), fetch_one i 3 h (lit< tt))
+  fetches : (i w : ℕ) → i < length words → fetchable (program_of (rv32 false) (rv_file words) notes 65536) w (65536 + 4 * i) ≡ true
+  fetches i w h = simp (fetch_one i 0 h (lit< tt), fetch_one i 1 h (lit< tt), fetch_one i 2 h (lit< tt), fetch_one i 3 h (lit< tt))
 
-  module _ (s : State) (entry : IsEntryState (program_of rv32 (rv_file words) notes 65536) s) where
+  module _ (s : State) (entry : IsEntryState (program_of (rv32 false) (rv_file words) notes 65536) s) where
     byte_is : (i j : ℕ) → i < length words → j < 4 → s.mem (add 32 (65536 + 4 * i) j) ≡ get_or (code words) (4 * i + j) 0
     byte_is i j h k = entry.kept_bytes (add 32 (65536 + 4 * i) j) _ (mod-lt _ (lit< tt)) (fetch_one i j h k) refl
 
@@ -140,14 +141,14 @@ module _ (seed count : ℕ) (seed_small : seed < 2 ^ 31) (few : count ≤ 16000)
         (subst (λ (w : ℕ). w < 2 ^ 32) (sym is) (item_small (item seed i))) in
         let plain : IsPlainStep (made_program seed count) (place_at i) sets.row = record {
           asserts = refl;
-          fetches = fetches (item_words seed count) short (made_notes seed count) i (within i (omega arith));
+          fetches = fetches (item_words seed count) short (made_notes seed count) i 0 (within i (omega arith));
           is_row = ap rv_row (at ∙ is) ∙ sets.is_row;
           stored = sets.stored (state_at seed s i);
         } in
         let next = next_is i (omega arith) in
         let new = moved (result_of (item seed i)) (state_at seed s i) in
         step_on (made_program seed count) s (place_at i) choice sets.row plain new (sets.effect (state_at seed s i) choice)
-        (ap is_place next ∙ aligned (suc i))
+        (ap (is_place false) next ∙ aligned (suc i))
         ∙ ap (λ a. Arrives (record { state = record (state_at seed s (suc i)) { pc = a }; stack = [] })) next
 
     require_lines : (s.regs 10 ≡ seed) × (s.regs 11 ≡ count)
@@ -173,7 +174,7 @@ module _ (seed count : ℕ) (seed_small : seed < 2 ^ 31) (few : count ≤ 16000)
         (subst (λ (w : ℕ). w < 2 ^ 32) (sym is) (lit< tt)) in
         let plain : IsPlainStep (made_program seed count) (place_at count) (jalr (fields imm_i 0x8067)) = record {
           asserts = refl;
-          fetches = fetches (item_words seed count) short (made_notes seed count) count (within count itself);
+          fetches = fetches (item_words seed count) short (made_notes seed count) count 0 (within count itself);
           is_row = ap rv_row (at ∙ is) ∙ return_row;
           stored = refl;
         } in

@@ -50,7 +50,7 @@ ShowsRun other = ⊥
 -- The answer to two files and options, by what they are: the refusal of the first that is refused, or the right report that says what their program comes to.
 pub data Answers (o : Options) (file text : List ℕ) (b : Budget) (a : Answer) : Type 0 where
   elf_is_refused : (written : List ℕ) → IsElfRefused file written → a ≡ plain_answer 4 written → Answers o file text b a
-  notes_are_refused : (written : List ℕ) → IsAccepted file → AreNotesRefused file text written → a ≡ plain_answer 5 written → Answers o file text b a
+  notes_are_refused : (written : List ℕ) → IsAccepted file → AreNotesRefused o file text written → a ≡ plain_answer 5 written → Answers o file text b a
   is_reported : (p : Program) (f : Finding) (r : Report) (e : Evidence) → IsFound o file text p → ComesTo p b f → Says r f →
       IsRightReport p (layout_of o file) b r e → a ≡ report_answer (layout_of o file) b r e → Answers o file text b a
 

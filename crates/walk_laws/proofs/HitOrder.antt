@@ -135,9 +135,9 @@ module _ (p : Program) (u : UnrolledProgram) (entry old new : State) (row : Row)
 
   edges_first : file_row p old.pc ≡ Some row → (s.indirect ≡ true → s.direct ≡ None) → ExitLeads (edges p point)
   edges_first is w =
-      subst (λ (z : Option Row). ExitLeads (distinct (filter leads_on (edges_by p point z)))) (sym is)
-      (distinct_leads (filter leads_on (leaps s.direct s.indirect s.call ++ falls s.next))
-      (kept_leads leads_on (leaps s.direct s.indirect s.call ++ falls s.next) (exit_first s.direct s.indirect s.call s.next w)))
+      subst (λ (z : Option Row). ExitLeads (distinct (filter (leads_on p.machine.narrow) (edges_by p point z)))) (sym is)
+      (distinct_leads (filter (leads_on p.machine.narrow) (leaps s.direct s.indirect s.call ++ falls s.next))
+      (kept_leads (leads_on p.machine.narrow) (leaps s.direct s.indirect s.call ++ falls s.next) (exit_first s.direct s.indirect s.call s.next w)))
 
   -- besides the exit one end is landed on
   to_address : (l xs : List ℕ) → Passes lands (map (λ a. ToAddress l a) xs) (ToAddress l new.pc)

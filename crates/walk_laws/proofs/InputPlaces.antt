@@ -3,6 +3,7 @@ use Rattle.std.proofs.Common.{◌≡◌, inl, inr, refl, ap, sym, ◌∙◌, sub
 use Rattle.std.specs.Prelude.{◌==◌, ◌||◌, nat_lt, nat_eq, slice_get, slice_index, slice_index_or, map, if◌then◌else◌}
 use Rattle.std.specs.List.{list_any}
 use Rattle.std.proofs.lemmas.Bool.Decides.{nat_tests}
+use Rattle.std.proofs.lemmas.Bool.{lt-ltb, ltb-true, ltb-false}
 use Rattle.std.proofs.lemmas.Option.{slice_get_within, slice_get-get_or, get_or_from_slice_get}
 use Rattle.word_spec.specs.RowFiles.{from_to}
 use Rattle.word_spec.specs.Words.{bit}
@@ -112,10 +113,10 @@ module _ (p : Program) (k : ℕ) (u : UnrolledProgram) (un : IsUnrolling p k u) 
   -- each register has one place
   one_register : (i j : ℕ) → i < length u.registers → j < length u.registers → slice_index u.registers i ≡ slice_index u.registers j → i ≡ j
   one_register i j l m e = elim (truth (nat_lt i j)) [
-    | inl t ↦ absurd (let r = un.registers_rise i j (grind (arith, nat_tests)) m in omega arith)
+    | inl t ↦ absurd (let r = un.registers_rise i j (ltb-true i j t) m in omega arith)
     | inr f ↦ elim (truth (nat_lt j i)) [
-      | inl t ↦ absurd (let r = un.registers_rise j i (grind (arith, nat_tests)) l in omega arith)
-      | inr g ↦ grind (arith, nat_tests)
+      | inl t ↦ absurd (let r = un.registers_rise j i (ltb-true j i t) l in omega arith)
+      | inr g ↦ (let a = ltb-false i j f in let b = ltb-false j i g in omega arith)
     ]
   ]
 
@@ -237,10 +238,7 @@ module _ (p : Program) (k : ℕ) (u : UnrolledProgram) (un : IsUnrolling p k u) 
       subst (Says i) (sym r.5) ((any_number u.registers r.0 r.2, r.3), ap (λ z. 32 * z + r.1) (register_is r.0 r.2) ∙ sym r.4)
 
   flag_says : (i : ℕ) (x : Input) → slice_get flag_list i ≡ Some x → Says (first_flag u + i) x
-  flag_says i x e = let r = row_is OfFlag u.flags i x e in subst (Says (first_flag u + i)) (sym r.1) (test i u.flags r.0, refl)
-    where
-      test : (f n : ℕ) → f < n → nat_lt f n ≡ true
-      test f n l = grind (arith, nat_tests)
+  flag_says i x e = let r = row_is OfFlag u.flags i x e in subst (Says (first_flag u + i)) (sym r.1) (lt-ltb i u.flags r.0, refl)
 
   choice_says : (i : ℕ) (x : Input) → slice_get choice_list i ≡ Some x → Says (first_choice u + i) x
   choice_says i x e =

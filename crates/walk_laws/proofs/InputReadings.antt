@@ -2,6 +2,7 @@
 use Rattle.std.proofs.Common.{◌≡◌, refl, ap, sym, ◌∙◌, arith, ℕ, ◌+◌, ◌*◌, ◌%◌, ◌^◌, ◌<◌, ◌≤◌, Some, Bool, true, length}
 use Rattle.std.specs.Prelude.{◌==◌, nat_lt, slice_get, if◌then◌else◌}
 use Rattle.std.proofs.lemmas.Bool.Decides.{nat_tests}
+use Rattle.std.proofs.lemmas.Bool.{lt-ltb}
 use Rattle.std.proofs.lemmas.Option.{slice_get_within}
 use Rattle.word_spec.specs.Words.{bit_at}
 use Rattle.bilv_spec.specs.Run.{Program}
@@ -53,7 +54,7 @@ module _ (p : Program) (k : ℕ) (u : UnrolledProgram) (un : IsUnrolling p k u) 
       ap (λ z. bit_at b (if z then bits_from v (first_choice u + 2 * drawn_below u (spot p k u un c x)) 2 else 0) == 1) drawn
       ∙ bit_is v (first_choice u + 2 * drawn_below u (spot p k u un c x)) 2 b l
   valuation_bit v (OfByte j b) (h, l) =
-      let t : nat_lt j (length c.addresses) ≡ true = grind (arith, nat_tests) in
+      let t : nat_lt j (length c.addresses) ≡ true = lt-ltb j (length c.addresses) h in
       ap (λ z. bit_at b (if z then bits_from v (first_byte u + 8 * j) 8 else 0) == 1) t ∙ bit_is v (first_byte u + 8 * j) 8 b l
 
   -- readings with the same bits have the same inputs

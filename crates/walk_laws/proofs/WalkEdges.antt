@@ -3,9 +3,10 @@ use Rattle.std.proofs.Common.{◌≡◌, inl, inr, ℕ, zero, suc, ◌%◌, refl
 use Rattle.std.specs.Prelude.{Contains, ◌==◌, ◌&&◌, ◌||◌, not, nat_eq, if◌then◌else◌, map, filter}
 use Rattle.std.specs.List.{list_any}
 use Rattle.std.proofs.lemmas.Bool.Decides.{nat_tests}
+use Rattle.std.proofs.lemmas.Bool.{eqb-true, eq-eqb}
 use Rattle.word_spec.specs.Words.{add}
 use Rattle.word_spec.specs.State.{State}
-use Rattle.machine_spec.specs.Machine.{Row, Successors, How, On, Direct, DirectCall, Indirect, IndirectCall, Goes}
+use Rattle.machine_spec.specs.Machine.{unit, is_place, IsAtPlace, Row, Successors, How, On, Direct, DirectCall, Indirect, IndirectCall, Goes}
 use Rattle.machine_spec.specs.MachineLaws.{IsSuccessor}
 use Rattle.bilv_spec.specs.Run.{Program, Step, Stops, Arrives, named, is_named, some_of, exit, exit_or, return_or, allowed, leave, transfer}
 use Rattle.machine_spec.specs.Endings.{JumpFails}
@@ -134,22 +135,29 @@ module _ (p : Program) (u : UnrolledProgram) (entry old new : State) (row : Row)
   step_of (Some ToExit) = exit (by_file p) entry new
   step_of (Some (ToAddress l a)) = Arrives (record { state = new; stack = l })
 
-  off_edge : new.pc % 4 ≡ 0 → (jumped : Bool) (t : EdgeEnd) → leads_on t ≡ false → takes jumped t ≡ false
+  off_edge : IsAtPlace p.machine.narrow new.pc → (jumped : Bool) (t : EdgeEnd) → leads_on p.machine.narrow t ≡ false → takes jumped t ≡ false
   off_edge e jumped ToExit h = absurd (let c : true ≡ false = h in cc)
   off_edge e jumped (ToAddress l a) h = by (if jumped then list_any (same_end (ToAddress l a)) jump_list
-      else list_any (same_end (ToAddress l a)) fall_list) (grind (arith, nat_tests))
+      else list_any (same_end (ToAddress l a)) fall_list) (other (new.pc == a) refl)
     where
+      other : (b : Bool) → (new.pc == a) ≡ b → b ≡ false
+      other true q =
+          let same : new.pc ≡ a = eqb-true new.pc a q in
+          let there : is_place p.machine.narrow a ≡ true = eq-eqb (a % unit p.machine.narrow) 0 (subst (IsAtPlace p.machine.narrow) same e) in
+          sym there ∙ h
+      other false q = refl
+
       by : (b : Bool) → (new.pc == a) ≡ false → (b && (new.pc == a)) ≡ false
       by true g = g
       by false g = refl
 
   -- the first of the point's edges is the first of the row's ends
-  pub of_row : new.pc % 4 ≡ 0 → file_row p old.pc ≡ Some row → (jumped : Bool) →
+  pub of_row : IsAtPlace p.machine.narrow new.pc → file_row p old.pc ≡ Some row → (jumped : Bool) →
       first_hit (takes jumped) (edges p point) ≡ first_hit (takes jumped) (jump_list ++ fall_list)
   of_row e is jumped =
-      ap (λ z. first_hit (takes jumped) (distinct (filter leads_on (edges_by p point z)))) is
-      ∙ once (takes jumped) (filter leads_on (jump_list ++ fall_list))
-      ∙ drops (takes jumped) leads_on (jump_list ++ fall_list) (off_edge e jumped)
+      ap (λ z. first_hit (takes jumped) (distinct (filter (leads_on p.machine.narrow) (edges_by p point z)))) is
+      ∙ once (takes jumped) (filter (leads_on p.machine.narrow) (jump_list ++ fall_list))
+      ∙ drops (takes jumped) (leads_on p.machine.narrow) (jump_list ++ fall_list) (off_edge e jumped)
 
   -- a row that goes on without a jump
   fall_end : EdgeEnd

@@ -4,9 +4,10 @@ use Rattle.std.specs.Prelude.{Contains, ◌==◌, ◌||◌, not, nat_le, if◌th
 use Rattle.std.specs.List.{list_any, AllZip}
 use Rattle.std.proofs.lemmas.Bool.Decides.{nat_tests}
 use Rattle.std.proofs.lemmas.Option.{slice_get-get_or}
+use Rattle.std.proofs.lemmas.Bool.{or_right}
 use Rattle.word_spec.specs.Words.{add}
 use Rattle.word_spec.specs.State.{State, IsState}
-use Rattle.machine_spec.specs.Machine.{Row, How, On, Outcome, Goes, Raises, Exception, EnvironmentCall, Breakpoint, SoftwareInterrupt, OddHalfword, UnalignedLoad, addresses, exception_number}
+use Rattle.machine_spec.specs.Machine.{unit, is_place, IsAtPlace, Row, How, On, Outcome, Goes, Raises, Exception, EnvironmentCall, Breakpoint, SoftwareInterrupt, OddHalfword, UnalignedLoad, addresses, exception_number}
 use Rattle.machine_spec.specs.MachineLaws.{IsLawful, IsSuccessor, ComesNext, LeavesState, IfRaises}
 use Rattle.bilv_spec.specs.Run.{Program, Place, Step, Stops, Run, Going, Exited, Failed, Turned, step, after_step, arrive, turn, exit_by, transfer, aligned_transfer, going_on, after_row, by_row, by_fetch, after_asserts, false_assert, false_line, fetchable, is_kept, writes_kept, exception_event}
 use Rattle.machine_spec.specs.Endings.{CodeWritten, AlignFails, JumpFails, FetchFails}
@@ -24,7 +25,7 @@ use Rattle.bilv_spec.proofs.PointSteps.{same_number, and_both, in_map, steps_alo
 use Rattle.bilv_spec.proofs.PointTests.{any_is, not_any}
 use Rattle.bilv_spec.proofs.PointRuns.{Stands, stepped}
 use Rattle.bilv_spec.proofs.PointsInGraph.{points_are_in_graph, of_map}
-use Rattle.bilv_spec.proofs.FileWords.{Sound, Standing, stepped_in, step_in, kept_word}
+use Rattle.bilv_spec.proofs.FileWords.{Sound, Standing, stepped_in, step_in, kept_number}
 use Rattle.walk_laws.proofs.WalkEdges.{first_hit, takes, found, of_row, step_is, step_of}
 use Rattle.walk_laws.proofs.HitOrder.{any_order}
 use Rattle.walk_laws.proofs.WalkSteps.{false_line_same, assert_or, asserts_aim, Chosen, chosen}
@@ -102,7 +103,7 @@ module _ (p : Program) (k : ℕ) (u : UnrolledProgram) (un : IsUnrolling p k u) 
         let lines : false_line u.endian u.ensures (state_at c new.pc) entry ≡ false_line p.machine.endian p.notes.ensures new entry
         = ap (λ z. false_line z u.ensures (state_at c new.pc) entry) un.endian ∙ ap (λ z. false_line p.machine.endian z (state_at c new.pc) entry) un.ensures
         ∙ false_line_same p.machine.endian p.notes.ensures (state_at c new.pc) new entry
-        (record { pc = refl; regs = carried.regs; mem = carried.mem; flags = λ f r. carried.flags f (at_exit (graph.exits h) r) }) in
+        (record { pc = refl; regs = carried.regs; mem = carried.mem; flags = λ f r. carried.flags f (at_exit (graph.exits h) (or_right (p.out f) _ r)) }) in
         subst (λ (z : Option ℕ). IsSame p u (out_by z) (after (exit_by (false_line p.machine.endian p.notes.ensures new entry) new))) (sym lines)
         (leaves_by (false_line p.machine.endian p.notes.ensures new entry) new)
 
@@ -142,7 +143,7 @@ module _ (p : Program) (k : ℕ) (u : UnrolledProgram) (un : IsUnrolling p k u) 
             let s : b ≡ a = cc in
             same_number new.pc b r.1 ∙ s
 
-        along_same : new.pc % 4 ≡ 0 → IsSame p u (walk_to u entry (state_at c new.pc) (first_aim u entry now writes (GoesOn (jumps how) new.pc c) exits))
+        along_same : IsAtPlace p.machine.narrow new.pc → IsSame p u (walk_to u entry (state_at c new.pc) (first_aim u entry now writes (GoesOn (jumps how) new.pc c) exits))
             (after (transfer (by_file p) entry row old stack how new))
         along_same aligned =
             let o : Option EdgeEnd = first_hit hit ends in
@@ -157,19 +158,23 @@ module _ (p : Program) (k : ℕ) (u : UnrolledProgram) (un : IsUnrolling p k u) 
             (λ t e. (are.same t).1 (found hit ends t e).1)
             (λ l a e. landing (ToAddress l a) l a refl (found hit ends (ToAddress l a) e).0))
 
-        aligned_same : (b : Bool) → (new.pc % 4 == 0) ≡ b →
+        aligned_same : (b : Bool) → is_place p.machine.narrow new.pc ≡ b →
             IsSame p u (walk_to u entry (state_at c new.pc) (if not b then ToEvent AlignFails
             else first_aim u entry now writes (GoesOn (jumps how) new.pc c) exits))
             (after (aligned_transfer b (by_file p) entry row old stack how new))
-        aligned_same true e = along_same (same_number (new.pc % 4) 0 e)
+        aligned_same true e = along_same (same_number (new.pc % unit p.machine.narrow) 0 e)
         aligned_same false e = refl
 
         going_same : (b : Bool) →
-            IsSame p u (walk_to u entry (state_at c new.pc) (if b then ToEvent CodeWritten else if not (new.pc % 4 == 0) then ToEvent AlignFails
+            IsSame p u (walk_to u entry (state_at c new.pc) (if b then ToEvent CodeWritten else if not (is_place u.narrow new.pc) then ToEvent AlignFails
             else first_aim u entry now writes (GoesOn (jumps how) new.pc c) exits))
             (after (going_on b (by_file p) entry row old stack how new))
         going_same true = refl
-        going_same false = aligned_same (new.pc % 4 == 0) refl
+        going_same false =
+            subst (λ (m : Bool). IsSame p u (walk_to u entry (state_at c new.pc) (if not (is_place m new.pc) then ToEvent AlignFails
+            else first_aim u entry now writes (GoesOn (jumps how) new.pc c) exits))
+            (after (going_on false (by_file p) entry row old stack how new))) (sym un.narrow)
+            (aligned_same (is_place p.machine.narrow new.pc) refl)
 
 module _ (p : Program) (lawful : HasLawfulRows p) (k : ℕ) (u : UnrolledProgram) (un : IsUnrolling p k u) (asked : ℕ → Bool) (asks : AsksLiterals p k asked)
     (entry : State) (i n turns choice : ℕ) (small : choice < 4) (old : State) (stack : List ℕ) (turns_fit : turns ≤ k)
@@ -203,7 +208,7 @@ module _ (p : Program) (lawful : HasLawfulRows p) (k : ℕ) (u : UnrolledProgram
       law = lawful old.pc row is
 
       literal : HoldsLiteral p row old
-      literal a e h = kept_word p asked old sound.0 a (λ j s. asks a j
+      literal a e h = kept_number p asked old sound.0 a (λ j s. asks a j
           (record { point = spot; is_point = met; row = row; is_row = is; loads = e; is_kept = h }) s) h
 
       pc : old.pc ≡ q.point.at
@@ -251,11 +256,11 @@ module _ (p : Program) (lawful : HasLawfulRows p) (k : ℕ) (u : UnrolledProgram
       row_same = outcome_same (row.effect old choice) l refl (does.leaves old c choice sound.1 pc small literal carried)
 
     -- where there is no row
-    no_row : (b : Bool) (o : Option Row) → fetchable p old.pc ≡ b → (if b then o else None) ≡ None →
-        IsSame p u (WalkFails (stop_event (fetchable p q.point.at))) (then_is (if b
+    no_row : (b : Bool) (o : Option Row) → fetchable p (file_word p old.pc) old.pc ≡ b → (if b then o else None) ≡ None →
+        IsSame p u (WalkFails (stop_event (fetchable p (file_word p q.point.at) q.point.at))) (then_is (if b
         then by_row (by_file p) entry (record { state = old; stack = stack }) choice o else Stops FetchFails))
-    no_row false o e h = ap stop_event (ap (λ z. fetchable p z.at) at ∙ e)
-    no_row true None e h = ap stop_event (ap (λ z. fetchable p z.at) at ∙ e)
+    no_row false o e h = ap stop_event (ap (λ z. fetchable p (file_word p z.at) z.at) at ∙ e)
+    no_row true None e h = ap stop_event (ap (λ z. fetchable p (file_word p z.at) z.at) at ∙ e)
     no_row true (Some row) e h = absurd (cc)
 
     asserts_same : (rest : List PointExit) → q.exits ≡ assert_exits p q.point ++ rest → (o : Option ℕ) →
@@ -277,7 +282,7 @@ module _ (p : Program) (lawful : HasLawfulRows p) (k : ℕ) (u : UnrolledProgram
 
     combine : (rest : List PointExit) → q.exits ≡ assert_exits p q.point ++ rest → (o : Option ℕ) →
         false_assert p.machine.endian p.notes.asserts old entry ≡ o →
-        IsSame p u (go_to (first_aim u entry now writes l rest)) (then_is (by_fetch (fetchable p old.pc) (by_file p) entry place choice)) →
+        IsSame p u (go_to (first_aim u entry now writes l rest)) (then_is (by_fetch (fetchable p (file_word p old.pc) old.pc) (by_file p) entry place choice)) →
         IsSame p u (go_to (first_aim u entry now writes l q.exits)) (then_is (after_asserts o (by_file p) entry place choice))
     combine rest e (Some line) h inner =
         subst (λ (z : Aim). IsSame p u (go_to z) (then_is (after_asserts (Some line) (by_file p) entry place choice)))
@@ -285,22 +290,22 @@ module _ (p : Program) (lawful : HasLawfulRows p) (k : ℕ) (u : UnrolledProgram
     combine rest e None h inner =
         subst (λ (z : Aim). IsSame p u (go_to z) (then_is (after_asserts None (by_file p) entry place choice))) (sym (asserts_same rest e None h)) inner
 
-    fetched : (b : Bool) (o : Option Row) → fetchable p old.pc ≡ b → p.machine.row (file_word p old.pc) ≡ o → (w : Walk) →
+    fetched : (b : Bool) (o : Option Row) → fetchable p (file_word p old.pc) old.pc ≡ b → p.machine.row (file_word p old.pc) ≡ o → (w : Walk) →
         IsSame p u w (then_is (if b then by_row (by_file p) entry place choice o else Stops FetchFails)) →
-        IsSame p u w (then_is (by_fetch (fetchable p old.pc) (by_file p) entry place choice))
+        IsSame p u w (then_is (by_fetch (fetchable p (file_word p old.pc) old.pc) (by_file p) entry place choice))
     fetched false o e r w h = subst (λ (z : Bool). IsSame p u w (then_is (by_fetch z (by_file p) entry place choice))) (sym e) h
     fetched true o e r w h =
         subst (λ (z : Bool). IsSame p u w (then_is (by_fetch z (by_file p) entry place choice))) (sym e)
         (subst (λ (z : Option Row). IsSame p u w (then_is (by_row (by_file p) entry place choice z))) (sym r) h)
 
-    step_same : (b : Bool) (o : Option Row) → fetchable p old.pc ≡ b → p.machine.row (file_word p old.pc) ≡ o → DoesPlace p k u i q (if b then o else None) →
+    step_same : (b : Bool) (o : Option Row) → fetchable p (file_word p old.pc) old.pc ≡ b → p.machine.row (file_word p old.pc) ≡ o → DoesPlace p k u i q (if b then o else None) →
         IsSame p u (go_to (first_aim u entry now writes l q.exits)) (then_is (step (by_file p) entry place choice))
     step_same false o e r at_place =
-        combine (Always (stop_event (fetchable p q.point.at)) ∷ []) at_place.1 (false_assert p.machine.endian p.notes.asserts old entry) refl
-        (fetched false o e r (WalkFails (stop_event (fetchable p q.point.at))) (no_row false o e refl))
+        combine (Always (stop_event (fetchable p (file_word p q.point.at) q.point.at)) ∷ []) at_place.1 (false_assert p.machine.endian p.notes.asserts old entry) refl
+        (fetched false o e r (WalkFails (stop_event (fetchable p (file_word p q.point.at) q.point.at))) (no_row false o e refl))
     step_same true None e r at_place =
-        combine (Always (stop_event (fetchable p q.point.at)) ∷ []) at_place.1 (false_assert p.machine.endian p.notes.asserts old entry) refl
-        (fetched true None e r (WalkFails (stop_event (fetchable p q.point.at))) (no_row true None e refl))
+        combine (Always (stop_event (fetchable p (file_word p q.point.at) q.point.at)) ∷ []) at_place.1 (false_assert p.machine.endian p.notes.asserts old entry) refl
+        (fetched true None e r (WalkFails (stop_event (fetchable p (file_word p q.point.at) q.point.at))) (no_row true None e refl))
     step_same true (Some row) e r at_place =
         let is : file_row p old.pc ≡ Some row = ap (λ z. if z then p.machine.row (file_word p old.pc) else None) e ∙ r in
         let are : AreEdgesOf p spot at_place.2.0 = subst (λ (z : Point). AreEdgesOf p z at_place.2.0) at at_place.2.1 in
@@ -312,7 +317,7 @@ module _ (p : Program) (lawful : HasLawfulRows p) (k : ℕ) (u : UnrolledProgram
 
     pub point_same : IsPlace p k u i q (file_row p q.point.at) → IsSame p u (walk_from u entry q choice c) (then_is (step (by_file p) entry place choice))
     point_same h =
-        step_same (fetchable p old.pc) (p.machine.row (file_word p old.pc)) refl refl (subst (λ (z : Point). DoesPlace p k u i q (file_row p z.at)) at h.does)
+        step_same (fetchable p (file_word p old.pc) old.pc) (p.machine.row (file_word p old.pc)) refl refl (subst (λ (z : Point). DoesPlace p k u i q (file_row p z.at)) at h.does)
 
 module _ (p : Program) (lawful : HasLawfulRows p) (k : ℕ) (u : UnrolledProgram) (un : IsUnrolling p k u) (asked : ℕ → Bool) (asks : AsksLiterals p k asked)
     (r : Reading) (small : (point : Point) → r.choice point < 4) where
