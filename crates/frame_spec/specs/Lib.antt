@@ -1,0 +1,11 @@
+pub mod Frames
+pub mod FrameRuns
+pub mod FramePoints
+pub mod FrameVerdict
+pub mod FrameQuestions
+pub mod FrameWalk
+pub mod FrameUnrolling
+pub mod FrameReports
+pub mod FrameLaws
+pub mod Theorems
+pub mod ReportLaws

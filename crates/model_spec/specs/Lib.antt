@@ -1,0 +1,4 @@
+pub mod ModelText
+pub mod Reads
+pub mod Models
+pub mod ModelLaws

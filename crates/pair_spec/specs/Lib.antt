@@ -1,0 +1,9 @@
+pub mod Links
+pub mod LinkLaws
+pub mod Pairs
+pub mod PairEvidence
+pub mod Equals
+pub mod Differs
+pub mod PairTerms
+pub mod PairLaws
+pub mod PairLayers
