@@ -5,7 +5,8 @@
 
 ghost use Rattle.std.specs.Prelude.{◌≡◌, ◌≤◌, ◌<◌, ◌+◌, ◌^◌, ℕ, Some, length, option_map, IfOk, OnOk, OnErr};
 ghost use Rattle.machine_spec.specs.Machine as table;
-ghost use Rattle.machine_spec.specs.MachineLaws.{IsFitted, IsLawfulMachine, IsLifting};
+ghost use Rattle.machine_spec.specs.MachineLaws.{IsFitted, IsLawfulMachine, IsLifting, with_memory};
+ghost use Rattle.word_spec.specs.Memory.{Little, store};
 ghost use Rattle.word_spec.specs.State.{IsState};
 ghost use Rattle.machine_spec.specs.Bil as bil;
 ghost use Rattle.machine_spec.specs.StateText as texts;
@@ -15,11 +16,13 @@ ghost use Rattle.state_text.specs.Starts.{layout_of, written_of};
 ghost use Rattle.machine_law.specs.Facts.{cost_of, successors_of, IsFlagUse, IsFit, made};
 
 mod facts;
+mod lengths;
 mod words;
 
 use bil_ast::Stmt;
 use byte_mem::{Bytes32, StepOut, View};
 pub use facts::{Cost, FlagUse, Succ};
+pub use lengths::{is_narrow, length, taken, unit};
 use state_text::{Layout, Start};
 use std::alloc::{AllocError, Global};
 pub use words::lift_word;
@@ -62,6 +65,10 @@ pub trait Machine {
     fn stored(insn: &Self::Insn, state: &Self::State) -> Option<(u32, u8)>
         ensures { result ≡ (row insn.now).stored (Self.State.view state.now) };
 
+    /// The first address and the number of the bytes that the row loads in the state.
+    fn loaded(insn: &Self::Insn, state: &Self::State) -> Option<(u32, u8)>
+        ensures { result ≡ (row insn.now).loaded (Self.State.view state.now) };
+
     /// The statements that do what the row does where it stands at an address. The error is want of memory.
     fn lift(alloc: Global, insn: &Self::Insn, at: u32) -> Result<Vec<Stmt>, AllocError>
         ensures { IfOk result (λ list. IsLifting machine bank (row insn.now) at (statements list.items)) };
@@ -90,6 +97,14 @@ pub trait Machine {
     fn draws(insn: &Self::Insn) -> bool
         ensures { result ≡ (row insn.now).draws };
 
+    /// Whether the row keeps the address after it in the link register where it calls.
+    fn links(insn: &Self::Insn) -> bool
+        ensures { result ≡ (row insn.now).links };
+
+    /// How many bytes the row has that begins with a halfword: 2 where the machine has rows of 2 bytes and the low two bits are not 11, and else 4.
+    fn width(first: u16) -> u8
+        ensures { result ≡ table.width machine.narrow first };
+
     /// The number of the link register.
     fn link() -> u8
         ensures { result ≡ machine.link };
@@ -114,14 +129,17 @@ pub trait Machine {
         ensures same { Self.State.view state.new ≡ Self.State.view state.old }
         ensures room { OnOk result (n ≤ spare state.new) };
 
-    /// Every row of the table is lawful.
+    /// Changes the byte at an address. It takes no memory: the state has to have room for a byte.
+    fn put(state: &mut Self::State, at: u32, byte: u8)
+        requires { 1 ≤ spare state.old }
+        ensures view { Self.State.view state.new ≡ with_memory (Self.State.view state.old) (store Little 1 (Self.State.view state.old).mem at byte) }
+        ensures room { spare state.old ≤ spare state.new + 1 };
+
+    /// Every row of the table is lawful, and as long as its first halfword says.
     ghost lawful: { IsLawfulMachine machine };
 
     /// The parts of every state are in range.
     ghost states: { (s : Self.State) → IsState (Self.State.view s) };
-
-    /// Every row has 4 bytes.
-    ghost four_bytes: { (i : Self.Insn) → (row i).length ≡ 4 };
 
     /// A state's link register is the machine's.
     ghost same_link: { Self.State.link_register ≡ machine.link };

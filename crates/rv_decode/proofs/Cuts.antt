@@ -1,26 +1,29 @@
 -- The fields of the words of the formats, so that each instruction whose immediate fits is of its word.
-use Rattle.std.proofs.Common.{◌≡◌, ℕ, ◌+◌, ◌*◌, ◌%◌, ◌^◌, ◌<◌, true, refl, sym, ap, ◌∙◌, arith, lit<}
+use Rattle.std.proofs.Common.{◌≡◌, ℕ, ◌+◌, ◌*◌, ◌%◌, ◌^◌, ◌<◌, true, Option, Some, None, refl, sym, ap, ◌∙◌, arith, lit<}
 use Rattle.std.specs.Prelude.{◌==◌, ◌&&◌}
 use Rattle.std.proofs.lemmas.Bool.{eq-eqb}
 use Rattle.word_spec.specs.Words.{bits, sign_extend}
 use Rattle.machine_spec.specs.Rv.{imm_u}
-use Rattle.rv_decode.specs.declared.insn.BranchOp.{BranchOp}
-use Rattle.rv_decode.specs.declared.insn.BranchOp.TheVariants.{Beq, Bne, Blt, Bge, Bltu, Bgeu}
-use Rattle.rv_decode.specs.declared.insn.LoadOp.{LoadOp}
-use Rattle.rv_decode.specs.declared.insn.LoadOp.TheVariants.{Lb, Lh, Lw, Lbu, Lhu}
-use Rattle.rv_decode.specs.declared.insn.StoreOp.{StoreOp}
-use Rattle.rv_decode.specs.declared.insn.StoreOp.TheVariants.{Sb, Sh, Sw}
-use Rattle.rv_decode.specs.declared.insn.ImmediateOp.{ImmediateOp}
-use Rattle.rv_decode.specs.declared.insn.ImmediateOp.TheVariants.{Addi, Slti, Sltiu, Xori, Ori, Andi}
-use Rattle.rv_decode.specs.declared.insn.ShiftOp.{ShiftOp}
-use Rattle.rv_decode.specs.declared.insn.ShiftOp.TheVariants.{Slli, Srli, Srai}
-use Rattle.rv_decode.specs.declared.insn.RegisterOp.{RegisterOp}
-use Rattle.rv_decode.specs.declared.insn.RegisterOp.TheVariants.{Add, Sub, Sll, Slt, Sltu, Xor, Srl, Sra, Or, And, Mul, Mulh, Mulhsu, Mulhu, Div, Divu, Rem, Remu}
-use Rattle.rv_decode.specs.declared.insn.Insn.{Insn}
-use Rattle.rv_decode.specs.declared.insn.Insn.TheVariants.{Lui, Auipc, Jal, Jalr, Branch, Load, Store, Immediate, Shift, Computation, Fence, Ecall, Ebreak}
-use Rattle.rv_decode.specs.Insns.{IsDecodable, branch_code, load_code, store_code, immediate_code, shift_code, shift_upper_code, register_code, register_upper_code}
-use Rattle.rv_decode.specs.Encodings.{encoded, word_r, word_i, word_s, word_b, word_u, word_j}
-use Rattle.rv_decode.specs.Formats.{FitsFormat}
+use Rattle.machine_spec.specs.RvWords.{word_r, word_i, word_s, word_b, word_u, word_j}
+use Rattle.rv_decode.specs.declared.plain.BranchOp.{BranchOp}
+use Rattle.rv_decode.specs.declared.plain.BranchOp.TheVariants.{Beq, Bne, Blt, Bge, Bltu, Bgeu}
+use Rattle.rv_decode.specs.declared.plain.LoadOp.{LoadOp}
+use Rattle.rv_decode.specs.declared.plain.LoadOp.TheVariants.{Lb, Lh, Lw, Lbu, Lhu}
+use Rattle.rv_decode.specs.declared.plain.StoreOp.{StoreOp}
+use Rattle.rv_decode.specs.declared.plain.StoreOp.TheVariants.{Sb, Sh, Sw}
+use Rattle.rv_decode.specs.declared.plain.ImmediateOp.{ImmediateOp}
+use Rattle.rv_decode.specs.declared.plain.ImmediateOp.TheVariants.{Addi, Slti, Sltiu, Xori, Ori, Andi}
+use Rattle.rv_decode.specs.declared.plain.ShiftOp.{ShiftOp}
+use Rattle.rv_decode.specs.declared.plain.ShiftOp.TheVariants.{Slli, Srli, Srai}
+use Rattle.rv_decode.specs.declared.plain.RegisterOp.{RegisterOp}
+use Rattle.rv_decode.specs.declared.plain.RegisterOp.TheVariants.{Add, Sub, Sll, Slt, Sltu, Xor, Srl, Sra, Or, And, Mul, Mulh, Mulhsu, Mulhu, Div, Divu, Rem, Remu}
+use Rattle.rv_decode.specs.declared.plain.Plain.{Plain}
+use Rattle.rv_decode.specs.declared.plain.Plain.TheVariants.{Lui, Auipc, Jal, Jalr, Branch, Load, Store, Immediate, Shift, Computation, Fence, Ecall, Ebreak}
+use Rattle.rv_decode.specs.Plains.{DecodesPlain, branch_code, load_code, store_code, immediate_code, shift_code, shift_upper_code, register_code, register_upper_code}
+use Rattle.rv_decode.specs.Encodings.{encoded}
+use Rattle.rv_decode.specs.Halves.{IsOfHalf}
+use Rattle.rv_decode.specs.Insns.{DecodesBy}
+use Rattle.rv_decode.specs.Formats.{FitsPlain, FitsBy, EachFitting}
 
 branch_small : (op : BranchOp) → branch_code op < 8
 branch_small Beq = lit< tt
@@ -161,40 +164,48 @@ fits_fence n h =
     (omega arith, omega arith, rw (u, l) (omega arith), omega arith)
 
 -- an instruction whose immediate fits is of its word
-pub fitting : (i : Insn) → FitsFormat i → IsDecodable i
-fitting (Lui rd imm) h =
+plain_fitting : (i : Plain) → FitsPlain i → (w : ℕ) × (w < 2 ^ 32) × DecodesPlain w i
+plain_fitting (Lui rd imm) h =
     let b = rd.in_range in let c = cut_u 0b0110111 rd.number imm (lit< tt) b in
     (encoded (Lui rd imm), c.3, record { line = fits_opcode _ _ c.0; fields = (sym c.1, h ∙ sym c.2) })
-fitting (Auipc rd imm) h =
+plain_fitting (Auipc rd imm) h =
     let b = rd.in_range in let c = cut_u 0b0010111 rd.number imm (lit< tt) b in
     (encoded (Auipc rd imm), c.3, record { line = fits_opcode _ _ c.0; fields = (sym c.1, h ∙ sym c.2) })
-fitting (Jal rd offset) h =
+plain_fitting (Jal rd offset) h =
     let c = cut_j 0b1101111 rd.number offset (lit< tt) rd.in_range h.1 in
     (encoded (Jal rd offset), c.3, record { line = fits_opcode _ _ c.0; fields = (sym c.1, h.0 ∙ ap (sign_extend 21 32) (sym c.2)) })
-fitting (Jalr rd rs1 offset) h =
+plain_fitting (Jalr rd rs1 offset) h =
     let c = cut_i 0b1100111 rd.number 0 rs1.number offset (lit< tt) rd.in_range (lit< tt) rs1.in_range in
     (encoded (Jalr rd rs1 offset), c.5, record { line = fits_3 _ _ _ c.0 c.2; fields = (sym c.1, sym c.3, h ∙ ap (sign_extend 12 32) (sym c.4)) })
-fitting (Branch op rs1 rs2 offset) h =
+plain_fitting (Branch op rs1 rs2 offset) h =
     let c = cut_b 0b1100011 (branch_code op) rs1.number rs2.number offset (lit< tt) (branch_small op) rs1.in_range rs2.in_range h.1 in
     (encoded (Branch op rs1 rs2 offset), c.5, record { line = fits_3 _ _ _ c.0 c.1; fields = (sym c.2, sym c.3, h.0 ∙ ap (sign_extend 13 32) (sym c.4)) })
-fitting (Load op rd rs1 offset) h =
+plain_fitting (Load op rd rs1 offset) h =
     let c = cut_i 0b0000011 rd.number (load_code op) rs1.number offset (lit< tt) rd.in_range (load_small op) rs1.in_range in
     (encoded (Load op rd rs1 offset), c.5, record { line = fits_3 _ _ _ c.0 c.2; fields = (sym c.1, sym c.3, h ∙ ap (sign_extend 12 32) (sym c.4)) })
-fitting (Store op rs1 rs2 offset) h =
+plain_fitting (Store op rs1 rs2 offset) h =
     let c = cut_s 0b0100011 (store_code op) rs1.number rs2.number offset (lit< tt) (store_small op) rs1.in_range rs2.in_range in
     (encoded (Store op rs1 rs2 offset), c.5, record { line = fits_3 _ _ _ c.0 c.1; fields = (sym c.2, sym c.3, h ∙ ap (sign_extend 12 32) (sym c.4)) })
-fitting (Immediate op rd rs1 imm) h =
+plain_fitting (Immediate op rd rs1 imm) h =
     let c = cut_i 0b0010011 rd.number (immediate_code op) rs1.number imm (lit< tt) rd.in_range (immediate_small op) rs1.in_range in
     (encoded (Immediate op rd rs1 imm), c.5, record { line = fits_3 _ _ _ c.0 c.2; fields = (sym c.1, sym c.3, h ∙ ap (sign_extend 12 32) (sym c.4)) })
-fitting (Shift op rd rs1 amount) h =
+plain_fitting (Shift op rd rs1 amount) h =
     let c = cut 0b0010011 rd.number (shift_code op) rs1.number amount.bits (shift_upper_code op)
     (lit< tt) rd.in_range (shift_small op) rs1.in_range amount.in_range (shift_upper_small op) in
     (encoded (Shift op rd rs1 amount), c.6, record { line = fits_7 _ _ _ _ c.0 c.2 c.5; fields = (sym c.1, sym c.3, sym c.4) })
-fitting (Computation op rd rs1 rs2) h =
+plain_fitting (Computation op rd rs1 rs2) h =
     let c = cut 0b0110011 rd.number (register_code op) rs1.number rs2.number (register_upper_code op)
     (lit< tt) rd.in_range (register_small op) rs1.in_range rs2.in_range (register_upper_small op) in
     (encoded (Computation op rd rs1 rs2), c.6, record { line = fits_7 _ _ _ _ c.0 c.2 c.5; fields = (sym c.1, sym c.3, sym c.4) })
-fitting (Fence fields) h =
+plain_fitting (Fence fields) h =
     let c = fits_fence fields h in (encoded (Fence fields), c.3, record { line = fits_3 _ _ _ c.0 c.1; fields = c.2 })
-fitting Ecall h = (0x73, lit< tt, record { line = refl; fields = tt })
-fitting Ebreak h = (0x100073, lit< tt, record { line = refl; fields = tt })
+plain_fitting Ecall h = (0x73, lit< tt, record { line = refl; fields = tt })
+plain_fitting Ebreak h = (0x100073, lit< tt, record { line = refl; fields = tt })
+
+-- so is one of a halfword
+fitting_by : (i : Plain) (half : Option ℕ) → IsOfHalf i half → FitsBy i half → (w : ℕ) × (w < 2 ^ 32) × DecodesBy true w i half
+fitting_by i None is h = plain_fitting i h
+fitting_by i (Some n) is h = let small : n < 2 ^ 16 = is.0 in (n, omega arith, (refl, refl))
+
+pub fitting : EachFitting
+fitting i h = let (w, small, d) = fitting_by i.plain i.half i.of_half h in (true, w, small, d)

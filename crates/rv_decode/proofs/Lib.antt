@@ -3,3 +3,7 @@ pub mod Lines
 pub mod NoRows
 pub mod Words
 pub mod Cuts
+pub mod Choices
+pub mod Expansions
+pub mod Lengths
+pub mod Quadrants

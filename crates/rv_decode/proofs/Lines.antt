@@ -1,29 +1,29 @@
 -- Each instruction stands at its place in the table, so a word is of one line at most.
-use Rattle.std.proofs.Common.{◌≡◌, ◌⊎◌, inl, inr, ℕ, zero, suc, refl, sym, ap, ◌∙◌, Bool, true, false, List, [], ◌∷◌, Option, Some, None, map}
-use Rattle.std.specs.Prelude.{slice_get, MatchOption}
+use Rattle.std.proofs.Common.{◌≡◌, ◌⊎◌, inl, inr, ℕ, zero, suc, refl, sym, ap, ◌∙◌, Bool, true, false, List, [], ◌∷◌, Some, map}
+use Rattle.std.specs.Prelude.{slice_get}
 use Rattle.std.specs.Option.{option_map}
 use Rattle.std.proofs.lemmas.Option.{slice_get-map}
 use Rattle.machine_spec.specs.Rv.{Instruction, table, fits, fields, row_in, rv_row}
 use Rattle.machine_spec.proofs.RvTable.{one_row}
-use Rattle.rv_decode.specs.declared.insn.BranchOp.{BranchOp}
-use Rattle.rv_decode.specs.declared.insn.BranchOp.TheVariants.{Beq, Bne, Blt, Bge, Bltu, Bgeu}
-use Rattle.rv_decode.specs.declared.insn.LoadOp.{LoadOp}
-use Rattle.rv_decode.specs.declared.insn.LoadOp.TheVariants.{Lb, Lh, Lw, Lbu, Lhu}
-use Rattle.rv_decode.specs.declared.insn.StoreOp.{StoreOp}
-use Rattle.rv_decode.specs.declared.insn.StoreOp.TheVariants.{Sb, Sh, Sw}
-use Rattle.rv_decode.specs.declared.insn.ImmediateOp.{ImmediateOp}
-use Rattle.rv_decode.specs.declared.insn.ImmediateOp.TheVariants.{Addi, Slti, Sltiu, Xori, Ori, Andi}
-use Rattle.rv_decode.specs.declared.insn.ShiftOp.{ShiftOp}
-use Rattle.rv_decode.specs.declared.insn.ShiftOp.TheVariants.{Slli, Srli, Srai}
-use Rattle.rv_decode.specs.declared.insn.RegisterOp.{RegisterOp}
-use Rattle.rv_decode.specs.declared.insn.RegisterOp.TheVariants.{Add, Sub, Sll, Slt, Sltu, Xor, Srl, Sra, Or, And, Mul, Mulh, Mulhsu, Mulhu, Div, Divu, Rem, Remu}
-use Rattle.rv_decode.specs.declared.insn.Insn.{Insn}
-use Rattle.rv_decode.specs.declared.insn.Insn.TheVariants.{Lui, Auipc, Jal, Jalr, Branch, Load, Store, Immediate, Shift, Computation, Fence, Ecall, Ebreak}
-use Rattle.rv_decode.specs.Insns.{line_of, row_of, HasFields, Decodes}
+use Rattle.rv_decode.specs.declared.plain.BranchOp.{BranchOp}
+use Rattle.rv_decode.specs.declared.plain.BranchOp.TheVariants.{Beq, Bne, Blt, Bge, Bltu, Bgeu}
+use Rattle.rv_decode.specs.declared.plain.LoadOp.{LoadOp}
+use Rattle.rv_decode.specs.declared.plain.LoadOp.TheVariants.{Lb, Lh, Lw, Lbu, Lhu}
+use Rattle.rv_decode.specs.declared.plain.StoreOp.{StoreOp}
+use Rattle.rv_decode.specs.declared.plain.StoreOp.TheVariants.{Sb, Sh, Sw}
+use Rattle.rv_decode.specs.declared.plain.ImmediateOp.{ImmediateOp}
+use Rattle.rv_decode.specs.declared.plain.ImmediateOp.TheVariants.{Addi, Slti, Sltiu, Xori, Ori, Andi}
+use Rattle.rv_decode.specs.declared.plain.ShiftOp.{ShiftOp}
+use Rattle.rv_decode.specs.declared.plain.ShiftOp.TheVariants.{Slli, Srli, Srai}
+use Rattle.rv_decode.specs.declared.plain.RegisterOp.{RegisterOp}
+use Rattle.rv_decode.specs.declared.plain.RegisterOp.TheVariants.{Add, Sub, Sll, Slt, Sltu, Xor, Srl, Sra, Or, And, Mul, Mulh, Mulhsu, Mulhu, Div, Divu, Rem, Remu}
+use Rattle.rv_decode.specs.declared.plain.Plain.{Plain}
+use Rattle.rv_decode.specs.declared.plain.Plain.TheVariants.{Lui, Auipc, Jal, Jalr, Branch, Load, Store, Immediate, Shift, Computation, Fence, Ecall, Ebreak}
+use Rattle.rv_decode.specs.Plains.{line_of, plain_row, HasFields, DecodesPlain}
 use Rattle.rv_decode.proofs.Shapes.{register_at, amount_at, blank, line_of-blank, same_insn}
 
 -- an instruction of each line, in the order of the table
-lines : List Insn
+lines : List Plain
 lines =
     let r = register_at 0 in
     Lui r 0 ∷
@@ -96,7 +96,7 @@ register_index Rem = 43
 register_index Remu = 44
 
 -- the place of its line
-abbrev place : Insn → ℕ
+abbrev place : Plain → ℕ
 place (Lui rd imm) = 0
 place (Auipc rd imm) = 1
 place (Jal rd offset) = 2
@@ -111,7 +111,7 @@ place (Fence fields) = 45
 place Ecall = 46
 place Ebreak = 47
 
-at_place : (i : Insn) → slice_get lines (place i) ≡ Some (blank i)
+at_place : (i : Plain) → slice_get lines (place i) ≡ Some (blank i)
 unfolding lines
 at_place (Lui rd imm) = refl
 at_place (Auipc rd imm) = refl
@@ -166,13 +166,13 @@ table_of_lines : map line_of lines ≡ table
 unfolding lines table
 table_of_lines = refl
 
-line_at : (i : Insn) → slice_get table (place i) ≡ Some (line_of i)
+line_at : (i : Plain) → slice_get table (place i) ≡ Some (line_of i)
 line_at i =
     ap (λ t. slice_get t (place i)) (sym table_of_lines) ∙ slice_get-map line_of lines (place i)
     ∙ ap (option_map line_of) (at_place i) ∙ ap Some (line_of-blank i)
 
 -- a word is of one instruction at most
-pub one_insn : (w : ℕ) (i j : Insn) → Decodes w i → Decodes w j → i ≡ j
+pub one_insn : (w : ℕ) (i j : Plain) → DecodesPlain w i → DecodesPlain w j → i ≡ j
 one_insn w i j h k =
     let e = one_row w (place i) (place j) (line_of i) (line_of j) (line_at i) (line_at j) h.line k.line in
     let same : Some (blank i) ≡ Some (blank j) = sym (at_place i) ∙ ap (slice_get lines) e ∙ at_place j in
@@ -201,7 +201,7 @@ row_at (x ∷ xs) w (suc k) a one at h =
     ]
 
 -- a line's row reads the fields that its instruction has
-same_row : (i : Insn) (w : ℕ) → HasFields i w → (line_of i).row (fields (line_of i).imm w) ≡ row_of i
+same_row : (i : Plain) (w : ℕ) → HasFields i w → (line_of i).row (fields (line_of i).imm w) ≡ plain_row i
 same_row (Lui rd imm) w h = rw (← h.0, ← h.1) refl
 same_row (Auipc rd imm) w h = rw (← h.0, ← h.1) refl
 same_row (Jal rd offset) w h = rw (← h.0, ← h.1) refl
@@ -216,16 +216,7 @@ same_row (Fence fields) w h = refl
 same_row Ecall w h = refl
 same_row Ebreak w h = refl
 
-only_row : (w : ℕ) (i : Insn) → Decodes w i → rv_row w ≡ Some (row_of i)
+pub only_row : (w : ℕ) (i : Plain) → DecodesPlain w i → rv_row w ≡ Some (plain_row i)
 unfolding rv_row
 only_row w i h =
     row_at table w (place i) (line_of i) (record { same = one_row w }) (line_at i) h.line ∙ ap Some (same_row i w h.fields)
-
--- what `decode` ensures, from the answer of its parts
-pub row_is : (w : ℕ) (r : Option Insn) → MatchOption r (rv_row w ≡ None) (Decodes w) → option_map row_of r ≡ rv_row w
-row_is w None h = sym h
-row_is w (Some i) h = sym (only_row w i h)
-
-pub only_is : (w : ℕ) (r : Option Insn) → MatchOption r (rv_row w ≡ None) (Decodes w) → (i : Insn) → Decodes w i → r ≡ Some i
-only_is w None h i d = let e = only_row w i d in cc
-only_is w (Some j) h i d = ap Some (one_insn w j i h d)

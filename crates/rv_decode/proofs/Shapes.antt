@@ -5,9 +5,9 @@ use Rattle.word_spec.specs.Words.{bits}
 use Rattle.machine_spec.specs.Rv.{imm_i, imm_s, imm_b, imm_u, imm_j}
 use Rattle.rv_decode.specs.declared.register.Register.{Register}
 use Rattle.rv_decode.specs.declared.shift_amount.ShiftAmount.{ShiftAmount}
-use Rattle.rv_decode.specs.declared.insn.Insn.{Insn}
-use Rattle.rv_decode.specs.declared.insn.Insn.TheVariants.{Lui, Auipc, Jal, Jalr, Branch, Load, Store, Immediate, Shift, Computation, Fence, Ecall, Ebreak}
-use Rattle.rv_decode.specs.Insns.{line_of, HasFields}
+use Rattle.rv_decode.specs.declared.plain.Plain.{Plain}
+use Rattle.rv_decode.specs.declared.plain.Plain.TheVariants.{Lui, Auipc, Jal, Jalr, Branch, Load, Store, Immediate, Shift, Computation, Fence, Ecall, Ebreak}
+use Rattle.rv_decode.specs.Plains.{line_of, HasFields}
 
 below : (n : ℕ) → n % 32 < 32
 below n = omega arith
@@ -45,7 +45,7 @@ unfolding amount_at
 is_amount a n h = amounts a.bits (n % 32) (let b = a.in_range in omega arith) a.in_range (below n)
 
 -- the instruction of the same line with the fields of a word
-abbrev pub with_fields : Insn → ℕ → Insn
+abbrev pub with_fields : Plain → ℕ → Plain
 with_fields (Lui rd imm) w = Lui (register_at (bits 11 7 w)) (imm_u w)
 with_fields (Auipc rd imm) w = Auipc (register_at (bits 11 7 w)) (imm_u w)
 with_fields (Jal rd offset) w = Jal (register_at (bits 11 7 w)) (imm_j w)
@@ -60,7 +60,7 @@ with_fields (Fence fields) w = Fence (bits 31 15 w * 2 ^ 5 + bits 11 7 w)
 with_fields Ecall w = Ecall
 with_fields Ebreak w = Ebreak
 
-pub is_with_fields : (i : Insn) (w : ℕ) → HasFields i w → i ≡ with_fields i w
+pub is_with_fields : (i : Plain) (w : ℕ) → HasFields i w → i ≡ with_fields i w
 is_with_fields (Lui rd imm) w h = let a = is_register rd _ h.0 in let b = h.1 in cc
 is_with_fields (Auipc rd imm) w h = let a = is_register rd _ h.0 in let b = h.1 in cc
 is_with_fields (Jal rd offset) w h = let a = is_register rd _ h.0 in let b = h.1 in cc
@@ -76,10 +76,10 @@ is_with_fields Ecall w h = refl
 is_with_fields Ebreak w h = refl
 
 -- an instruction with all fields 0, which stands for its line
-abbrev pub blank : Insn → Insn
+abbrev pub blank : Plain → Plain
 blank i = with_fields i 0
 
-pub refilled : (i : Insn) (w : ℕ) → with_fields (blank i) w ≡ with_fields i w
+pub refilled : (i : Plain) (w : ℕ) → with_fields (blank i) w ≡ with_fields i w
 refilled (Lui rd imm) w = refl
 refilled (Auipc rd imm) w = refl
 refilled (Jal rd offset) w = refl
@@ -94,7 +94,7 @@ refilled (Fence fields) w = refl
 refilled Ecall w = refl
 refilled Ebreak w = refl
 
-pub line_of-blank : (i : Insn) → line_of (blank i) ≡ line_of i
+pub line_of-blank : (i : Plain) → line_of (blank i) ≡ line_of i
 line_of-blank (Lui rd imm) = refl
 line_of-blank (Auipc rd imm) = refl
 line_of-blank (Jal rd offset) = refl
@@ -110,6 +110,6 @@ line_of-blank Ecall = refl
 line_of-blank Ebreak = refl
 
 -- two instructions of one line with the fields of one word
-pub same_insn : (i j : Insn) (w : ℕ) → blank i ≡ blank j → HasFields i w → HasFields j w → i ≡ j
+pub same_insn : (i j : Plain) (w : ℕ) → blank i ≡ blank j → HasFields i w → HasFields j w → i ≡ j
 same_insn i j w e h k =
     is_with_fields i w h ∙ sym (refilled i w) ∙ ap (λ x. with_fields x w) e ∙ refilled j w ∙ sym (is_with_fields j w k)

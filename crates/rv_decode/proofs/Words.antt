@@ -1,15 +1,18 @@
 -- An instruction's fields give back its word.
-use Rattle.std.proofs.Common.{◌≡◌, ℕ, ◌+◌, ◌*◌, ◌/◌, ◌^◌, ◌<◌, Bool, true, false, refl, sym, ap, ◌∙◌, arith}
+use Rattle.std.proofs.Common.{◌≡◌, ℕ, ◌+◌, ◌*◌, ◌/◌, ◌^◌, ◌<◌, Bool, true, false, Option, Some, None, refl, sym, ap, subst, ◌∙◌, arith}
 use Rattle.std.specs.Prelude.{◌==◌, ◌&&◌}
 use Rattle.std.proofs.lemmas.Bool.{eqb-true}
 use Rattle.std.proofs.lemmas.Bool.Decides.{nat_tests}
 use Rattle.std.proofs.Math.Nat.{div-div-eq-div-mul}
 use Rattle.word_spec.specs.Words.{bits, sign_extend}
 use Rattle.machine_spec.specs.Rv.{imm_i, imm_s, imm_b, imm_u, imm_j}
+use Rattle.machine_spec.specs.RvWords.{word_r, word_i, word_s, word_b, word_u, word_j}
+use Rattle.rv_decode.specs.declared.plain.Plain.{Plain}
+use Rattle.rv_decode.specs.declared.plain.Plain.TheVariants.{Lui, Auipc, Jal, Jalr, Branch, Load, Store, Immediate, Shift, Computation, Fence, Ecall, Ebreak}
+use Rattle.rv_decode.specs.Plains.{DecodesPlain}
+use Rattle.rv_decode.specs.Encodings.{encoded, encoded_by}
 use Rattle.rv_decode.specs.declared.insn.Insn.{Insn}
-use Rattle.rv_decode.specs.declared.insn.Insn.TheVariants.{Lui, Auipc, Jal, Jalr, Branch, Load, Store, Immediate, Shift, Computation, Fence, Ecall, Ebreak}
-use Rattle.rv_decode.specs.Insns.{Decodes}
-use Rattle.rv_decode.specs.Encodings.{encoded, word_r, word_i, word_s, word_b, word_u, word_j}
+use Rattle.rv_decode.specs.Insns.{Decodes, DecodesBy, IsDecodable}
 
 -- the quotients by which a word's fields are cut, each from the one before it
 quotients : (w : ℕ) →
@@ -89,7 +92,7 @@ back_fence : (w : ℕ) → w < 2 ^ 32 → bits 6 0 w ≡ 0b0001111 → bits 14 1
 back_fence w h e f = let q = quotients w in omega arith
 
 -- the word of an instruction is the one that it is of
-pub back : (i : Insn) (w : ℕ) → w < 2 ^ 32 → Decodes w i → encoded i ≡ w
+pub back : (i : Plain) (w : ℕ) → w < 2 ^ 32 → DecodesPlain w i → encoded i ≡ w
 back (Lui rd imm) w h d = let o = asked_opcode w _ d.line in let f = d.fields in rw (f.0, f.1, ← o) (back_u w h)
 back (Auipc rd imm) w h d = let o = asked_opcode w _ d.line in let f = d.fields in rw (f.0, f.1, ← o) (back_u w h)
 back (Jal rd offset) w h d = let o = asked_opcode w _ d.line in let f = d.fields in rw (f.0, f.1, ← o) (back_j w h)
@@ -104,6 +107,18 @@ back (Fence fields) w h d = let o = asked_3 w _ _ d.line in ap (λ f. encoded (F
 back Ecall w h d = sym (asked_word w _ _ d.line)
 back Ebreak w h d = sym (asked_word w _ _ d.line)
 
+encoded_is : (i : Plain) (half : Option ℕ) (rvc : Bool) (w : ℕ) → w < 2 ^ 32 → DecodesBy rvc w i half → encoded_by i half ≡ w
+encoded_is i None rvc w h d = back i w h d
+encoded_is i (Some n) rvc w h d = sym d.1
+
 -- what `encode` ensures of the word that it makes
-pub word_is : (i : Insn) (n w : ℕ) → n ≡ encoded i → w < 2 ^ 32 → Decodes w i → n ≡ w
-word_is i n w e h d = e ∙ back i w h d
+pub word_is : (i : Insn) (n : ℕ) (rvc : Bool) (w : ℕ) → n ≡ encoded_by i.plain i.half → w < 2 ^ 32 → Decodes rvc w i → n ≡ w
+word_is i n rvc w e h d = e ∙ encoded_is i.plain i.half rvc w h d
+
+with_rvc : (i : Plain) (half : Option ℕ) (rvc : Bool) (w : ℕ) → DecodesBy rvc w i half → DecodesBy true w i half
+with_rvc i None rvc w d = d
+with_rvc i (Some n) rvc w d = (refl, d.1)
+
+pub word_decodes : (i : Insn) (n : ℕ) → n ≡ encoded_by i.plain i.half → IsDecodable i → Decodes true n i
+word_decodes i n e (rvc, w, small, d) =
+    subst (λ m. Decodes true m i) (sym (word_is i n rvc w e small d)) (with_rvc i.plain i.half rvc w d)

@@ -1,40 +1,13 @@
 -- The word of an instruction, by the formats R, I, S, B, U and J (section 2.2).
-use Rattle.std.specs.Prelude.{ℕ, ◌+◌, ◌*◌, ◌^◌}
+use Rattle.std.specs.Prelude.{ℕ, ◌+◌, ◌*◌, ◌^◌, Option, Some, None}
 use Rattle.word_spec.specs.Words.{bits}
-use Rattle.rv_decode.specs.Insns.{branch_code, load_code, store_code, immediate_code, shift_code, shift_upper_code, register_code, register_upper_code}
-use Rattle.rv_decode.specs.declared.insn.Insn.{Insn}
-use Rattle.rv_decode.specs.declared.insn.Insn.TheVariants.{Lui, Auipc, Jal, Jalr, Branch, Load, Store, Immediate, Shift, Computation, Fence, Ecall, Ebreak}
-
--- format R: two registers to a third
-abbrev pub word_r : (opcode funct3 funct7 rd rs1 rs2 : ℕ) → ℕ
-word_r opcode funct3 funct7 rd rs1 rs2 = opcode + rd * 2 ^ 7 + funct3 * 2 ^ 12 + rs1 * 2 ^ 15 + rs2 * 2 ^ 20 + funct7 * 2 ^ 25
-
--- format I: a register and an immediate of 12 bits
-abbrev pub word_i : (opcode funct3 rd rs1 imm : ℕ) → ℕ
-word_i opcode funct3 rd rs1 imm = opcode + rd * 2 ^ 7 + funct3 * 2 ^ 12 + rs1 * 2 ^ 15 + bits 11 0 imm * 2 ^ 20
-
--- format S: two registers and an offset of 12 bits
-abbrev pub word_s : (opcode funct3 rs1 rs2 offset : ℕ) → ℕ
-word_s opcode funct3 rs1 rs2 offset =
-    opcode + bits 4 0 offset * 2 ^ 7 + funct3 * 2 ^ 12 + rs1 * 2 ^ 15 + rs2 * 2 ^ 20 + bits 11 5 offset * 2 ^ 25
-
--- format B: two registers and an even offset of 13 bits
-abbrev pub word_b : (opcode funct3 rs1 rs2 offset : ℕ) → ℕ
-word_b opcode funct3 rs1 rs2 offset =
-    opcode + bits 11 11 offset * 2 ^ 7 + bits 4 1 offset * 2 ^ 8 + funct3 * 2 ^ 12 + rs1 * 2 ^ 15 + rs2 * 2 ^ 20
-    + bits 10 5 offset * 2 ^ 25 + bits 12 12 offset * 2 ^ 31
-
--- format U: the upper 20 bits of an immediate
-abbrev pub word_u : (opcode rd imm : ℕ) → ℕ
-word_u opcode rd imm = opcode + rd * 2 ^ 7 + bits 31 12 imm * 2 ^ 12
-
--- format J: an even offset of 21 bits
-abbrev pub word_j : (opcode rd offset : ℕ) → ℕ
-word_j opcode rd offset =
-    opcode + rd * 2 ^ 7 + bits 19 12 offset * 2 ^ 12 + bits 11 11 offset * 2 ^ 20 + bits 10 1 offset * 2 ^ 21 + bits 20 20 offset * 2 ^ 31
+use Rattle.machine_spec.specs.RvWords.{word_r, word_i, word_s, word_b, word_u, word_j}
+use Rattle.rv_decode.specs.Plains.{branch_code, load_code, store_code, immediate_code, shift_code, shift_upper_code, register_code, register_upper_code}
+use Rattle.rv_decode.specs.declared.plain.Plain.{Plain}
+use Rattle.rv_decode.specs.declared.plain.Plain.TheVariants.{Lui, Auipc, Jal, Jalr, Branch, Load, Store, Immediate, Shift, Computation, Fence, Ecall, Ebreak}
 
 -- the word of an instruction
-abbrev pub encoded : Insn → ℕ
+abbrev pub encoded : Plain → ℕ
 encoded (Lui rd imm) = word_u 0b0110111 rd.number imm
 encoded (Auipc rd imm) = word_u 0b0010111 rd.number imm
 encoded (Jal rd offset) = word_j 0b1101111 rd.number offset
@@ -48,3 +21,8 @@ encoded (Computation op rd rs1 rs2) = word_r 0b0110011 (register_code op) (regis
 encoded (Fence fields) = 0b0001111 + bits 4 0 fields * 2 ^ 7 + bits 21 5 fields * 2 ^ 15
 encoded Ecall = 0x73
 encoded Ebreak = 0x100073
+
+-- the word or the halfword of an instruction
+abbrev pub encoded_by : Plain → Option ℕ → ℕ
+encoded_by i None = encoded i
+encoded_by i (Some h) = h

@@ -1,3 +1,5 @@
+pub mod Plains
+pub mod Halves
 pub mod Insns
 pub mod Encodings
 pub mod Formats

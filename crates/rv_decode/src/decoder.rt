@@ -1,43 +1,79 @@
-//! From a word to its instruction: by its opcode, then by funct3 and funct7.
-ghost use Rattle.std.specs.Prelude.{◌≡◌, ◌≢◌, ◌⊎◌, ◌<◌, ◌^◌, MatchOption, IfSome, IfNone};
+//! From a word to its instruction: by its opcode, then by funct3 and funct7; from a halfword by its expansion.
+ghost use Rattle.std.specs.Prelude.{◌≡◌, ◌≢◌, ◌⊎◌, ◌<◌, ◌^◌, true, false, Some, None, MatchOption, IfSome, IfNone};
 ghost use Rattle.std.specs.Option.{option_map};
 ghost use Rattle.word_spec.specs.Words.{bits};
 ghost use Rattle.machine_spec.specs.Rv.{rv_row};
+ghost use Rattle.machine_spec.specs.RvShort.{row_of_expansion, rvc_row};
+ghost use Rattle.machine_spec.specs.RvShort as shorts;
 ghost use Rattle.rv_decode.specs.declared.insn.Insn.{Insn};
-ghost use Rattle.rv_decode.specs.Insns.{row_of, Decodes, branch_code, load_code, store_code, immediate_code, shift_code, shift_upper_code, register_code, register_upper_code};
+ghost use Rattle.rv_decode.specs.Insns.{row_of, Decodes};
+ghost use Rattle.rv_decode.specs.Plains.{DecodesPlain, branch_code, load_code, store_code, immediate_code, shift_code, shift_upper_code, register_code, register_upper_code};
 
+use crate::expander::expansion;
 use crate::fields::{
     amount, b_immediate, field, i_immediate, j_immediate, rd, rs1, rs2, s_immediate, u_immediate,
 };
-use crate::insn::{BranchOp, ImmediateOp, Insn, LoadOp, RegisterOp, ShiftOp, StoreOp};
+use crate::insn::Insn;
+use crate::plain::{BranchOp, ImmediateOp, LoadOp, Plain, RegisterOp, ShiftOp, StoreOp};
 
-/// The instruction of a word, or `None` where the table has no row for it.
+/// The instruction of a word, or of the halfword that is its lower half where the upper half is 0 and the low two bits are not 11. `None` where the table has
+/// no row for it; halfwords have rows only with `rvc`, the compressed instructions.
 ///
 /// The row of the instruction is the word's, and its fields are the word's too: no other instruction is of the word.
-#[tactic(auto, using(crate::proofs::Lines::row_is, crate::proofs::Lines::only_is))]
-pub fn decode(word: u32) -> Option<Insn>
-    ensures row { option_map row_of result ≡ rv_row word }
-    ensures fields { IfSome result (Decodes word) }
-    ensures only { (i : Insn) → Decodes word i → result ≡ Some i }
+#[tactic(auto, using(crate::proofs::Choices::row_is, crate::proofs::Choices::only_is))]
+pub fn decode(word: u32, rvc: bool) -> Option<Insn>
+    ensures row { option_map row_of result ≡ rvc_row rvc word }
+    ensures fields { IfSome result (Decodes rvc word) }
+    ensures only { (i : Insn) → Decodes rvc word i → result ≡ Some i }
 {
-    decode_by_opcode(word)
+    decode_by_width(word, rvc)
 }
 
-// As each of its parts, it says no more than whose row the word has: the other clauses of `decode` follow.
+// As each of its parts, it says no more than whose row the word has: the clauses of `decode` follow.
+#[tactic(auto, using(crate::proofs::Choices::of_word, crate::proofs::Choices::of_none, crate::proofs::Choices::of_half))]
+fn decode_by_width(word: u32, rvc: bool) -> Option<Insn>
+    ensures { MatchOption result (rvc_row rvc word ≡ None) (Decodes rvc word) }
+{
+    if !rvc || word % 4 == 3 {
+        return decode_word(word);
+    }
+    if word >= 0x1_0000 {
+        return None;
+    }
+    decode_half(word as u16)
+}
+
+fn decode_word(word: u32) -> Option<Insn>
+    ensures { MatchOption result (rv_row word ≡ None) (Decodes false word) }
+{
+    let plain = decode_plain(word)?;
+    Some(Insn { plain, half: None })
+}
+
+fn decode_half(half: u16) -> Option<Insn>
+    ensures { MatchOption result (row_of_expansion (shorts.expansion half) ≡ None) (Decodes true half) }
+{
+    let plain = decode_plain(expansion(half)?)?;
+    Some(Insn {
+        plain,
+        half: Some(half),
+    })
+}
+
 #[tactic(auto, using(crate::proofs::NoRows::no_opcode))]
-fn decode_by_opcode(word: u32) -> Option<Insn>
-    ensures { MatchOption result (rv_row word ≡ None) (Decodes word) }
+fn decode_plain(word: u32) -> Option<Plain>
+    ensures { MatchOption result (rv_row word ≡ None) (DecodesPlain word) }
 {
     match field(word, 6, 0) {
-        0b0110111 => Some(Insn::Lui {
+        0b0110111 => Some(Plain::Lui {
             rd: rd(word),
             imm: u_immediate(word),
         }),
-        0b0010111 => Some(Insn::Auipc {
+        0b0010111 => Some(Plain::Auipc {
             rd: rd(word),
             imm: u_immediate(word),
         }),
-        0b1101111 => Some(Insn::Jal {
+        0b1101111 => Some(Plain::Jal {
             rd: rd(word),
             offset: j_immediate(word),
         }),
@@ -54,14 +90,14 @@ fn decode_by_opcode(word: u32) -> Option<Insn>
 }
 
 #[tactic(auto, using(crate::proofs::NoRows::no_jalr))]
-fn decode_jalr(word: u32) -> Option<Insn>
+fn decode_jalr(word: u32) -> Option<Plain>
     requires { bits 6 0 word ≡ 0b1100111 }
-    ensures { MatchOption result (rv_row word ≡ None) (Decodes word) }
+    ensures { MatchOption result (rv_row word ≡ None) (DecodesPlain word) }
 {
     if field(word, 14, 12) != 0 {
         return None;
     }
-    Some(Insn::Jalr {
+    Some(Plain::Jalr {
         rd: rd(word),
         rs1: rs1(word),
         offset: i_immediate(word),
@@ -84,12 +120,12 @@ fn branch_op(funct3: u32) -> Option<BranchOp>
 }
 
 #[tactic(auto, using(crate::proofs::NoRows::no_branch))]
-fn decode_branch(word: u32) -> Option<Insn>
+fn decode_branch(word: u32) -> Option<Plain>
     requires { bits 6 0 word ≡ 0b1100011 }
-    ensures { MatchOption result (rv_row word ≡ None) (Decodes word) }
+    ensures { MatchOption result (rv_row word ≡ None) (DecodesPlain word) }
 {
     let op = branch_op(field(word, 14, 12))?;
-    Some(Insn::Branch {
+    Some(Plain::Branch {
         op,
         rs1: rs1(word),
         rs2: rs2(word),
@@ -112,12 +148,12 @@ fn load_op(funct3: u32) -> Option<LoadOp>
 }
 
 #[tactic(auto, using(crate::proofs::NoRows::no_load))]
-fn decode_load(word: u32) -> Option<Insn>
+fn decode_load(word: u32) -> Option<Plain>
     requires { bits 6 0 word ≡ 0b0000011 }
-    ensures { MatchOption result (rv_row word ≡ None) (Decodes word) }
+    ensures { MatchOption result (rv_row word ≡ None) (DecodesPlain word) }
 {
     let op = load_op(field(word, 14, 12))?;
-    Some(Insn::Load {
+    Some(Plain::Load {
         op,
         rd: rd(word),
         rs1: rs1(word),
@@ -137,12 +173,12 @@ fn store_op(funct3: u32) -> Option<StoreOp>
 }
 
 #[tactic(auto, using(crate::proofs::NoRows::no_store))]
-fn decode_store(word: u32) -> Option<Insn>
+fn decode_store(word: u32) -> Option<Plain>
     requires { bits 6 0 word ≡ 0b0100011 }
-    ensures { MatchOption result (rv_row word ≡ None) (Decodes word) }
+    ensures { MatchOption result (rv_row word ≡ None) (DecodesPlain word) }
 {
     let op = store_op(field(word, 14, 12))?;
-    Some(Insn::Store {
+    Some(Plain::Store {
         op,
         rs1: rs1(word),
         rs2: rs2(word),
@@ -165,12 +201,12 @@ fn immediate_op(funct3: u32) -> Option<ImmediateOp>
     }
 }
 
-fn decode_immediate(word: u32) -> Option<Insn>
+fn decode_immediate(word: u32) -> Option<Plain>
     requires { bits 6 0 word ≡ 0b0010011 }
-    ensures { MatchOption result (rv_row word ≡ None) (Decodes word) }
+    ensures { MatchOption result (rv_row word ≡ None) (DecodesPlain word) }
 {
     match immediate_op(field(word, 14, 12)) {
-        Some(op) => Some(Insn::Immediate {
+        Some(op) => Some(Plain::Immediate {
             op,
             rd: rd(word),
             rs1: rs1(word),
@@ -194,13 +230,13 @@ fn shift_op(funct3: u32, funct7: u32) -> Option<ShiftOp>
 }
 
 #[tactic(auto, using(crate::proofs::NoRows::no_shift))]
-fn decode_shift(word: u32) -> Option<Insn>
+fn decode_shift(word: u32) -> Option<Plain>
     requires opcode { bits 6 0 word ≡ 0b0010011 }
     requires funct3 { (bits 14 12 word ≡ 1) ⊎ (bits 14 12 word ≡ 5) }
-    ensures { MatchOption result (rv_row word ≡ None) (Decodes word) }
+    ensures { MatchOption result (rv_row word ≡ None) (DecodesPlain word) }
 {
     let op = shift_op(field(word, 14, 12), field(word, 31, 25))?;
-    Some(Insn::Shift {
+    Some(Plain::Shift {
         op,
         rd: rd(word),
         rs1: rs1(word),
@@ -256,12 +292,12 @@ fn register_op(funct3: u32, funct7: u32) -> Option<RegisterOp>
 }
 
 #[tactic(auto, using(crate::proofs::NoRows::no_computation))]
-fn decode_computation(word: u32) -> Option<Insn>
+fn decode_computation(word: u32) -> Option<Plain>
     requires { bits 6 0 word ≡ 0b0110011 }
-    ensures { MatchOption result (rv_row word ≡ None) (Decodes word) }
+    ensures { MatchOption result (rv_row word ≡ None) (DecodesPlain word) }
 {
     let op = register_op(field(word, 14, 12), field(word, 31, 25))?;
-    Some(Insn::Computation {
+    Some(Plain::Computation {
         op,
         rd: rd(word),
         rs1: rs1(word),
@@ -270,12 +306,12 @@ fn decode_computation(word: u32) -> Option<Insn>
 }
 
 #[tactic(auto, using(crate::proofs::NoRows::no_fence))]
-fn decode_fence(word: u32) -> Option<Insn>
+fn decode_fence(word: u32) -> Option<Plain>
     requires { bits 6 0 word ≡ 0b0001111 }
-    ensures { MatchOption result (rv_row word ≡ None) (Decodes word) }
+    ensures { MatchOption result (rv_row word ≡ None) (DecodesPlain word) }
 {
     if field(word, 14, 12) == 0 {
-        Some(Insn::Fence {
+        Some(Plain::Fence {
             fields: field(word, 31, 15) * 32 + field(word, 11, 7),
         })
     } else {
@@ -284,13 +320,13 @@ fn decode_fence(word: u32) -> Option<Insn>
 }
 
 #[tactic(auto, using(crate::proofs::NoRows::no_system))]
-fn decode_system(word: u32) -> Option<Insn>
+fn decode_system(word: u32) -> Option<Plain>
     requires { bits 6 0 word ≡ 0b1110011 }
-    ensures { MatchOption result (rv_row word ≡ None) (Decodes word) }
+    ensures { MatchOption result (rv_row word ≡ None) (DecodesPlain word) }
 {
     match word {
-        0x73 => Some(Insn::Ecall),
-        0x100073 => Some(Insn::Ebreak),
+        0x73 => Some(Plain::Ecall),
+        0x100073 => Some(Plain::Ebreak),
         _ => None,
     }
 }

@@ -1,162 +1,140 @@
 //! From an instruction to its word, by its format (section 2.2).
-ghost use Rattle.std.specs.Prelude.{◌≡◌, ◌<◌, ◌^◌, ℕ};
-ghost use Rattle.rv_decode.specs.Insns.{Decodes, IsDecodable, branch_code, load_code, store_code, immediate_code, shift_code, shift_upper_code, register_code, register_upper_code};
-ghost use Rattle.rv_decode.specs.Encodings.{encoded, word_r, word_i, word_s, word_b, word_u, word_j};
+ghost use Rattle.std.specs.Prelude.{◌≡◌, ◌<◌, ◌^◌, ℕ, Bool, true};
+ghost use Rattle.rv_decode.specs.Insns.{Decodes, IsDecodable};
+ghost use Rattle.rv_decode.specs.Plains.{branch_code, load_code, store_code, immediate_code, shift_code, shift_upper_code, register_code, register_upper_code};
+ghost use Rattle.rv_decode.specs.Encodings.{encoded, encoded_by};
 
 use crate::fields::field;
-use crate::insn::{BranchOp, ImmediateOp, Insn, LoadOp, RegisterOp, ShiftOp, StoreOp};
+use crate::insn::Insn;
+use crate::plain::{BranchOp, ImmediateOp, LoadOp, Plain, RegisterOp, ShiftOp, StoreOp};
 use crate::register::Register;
 use crate::shift_amount::ShiftAmount;
+use crate::word_formats::{word_b, word_i, word_j, word_r, word_s, word_u};
 
-/// The word of an instruction that some word decodes to.
+/// The word of an instruction that some word decodes to; its lower half is the halfword of an instruction of 2 bytes, and its upper half is then 0.
 ///
 /// It is the only such word, so `encode` gives back the word that `decode` took, and `decode` gives back the instruction that `encode` took.
 /// An instruction whose immediate is one of its format always has a word: `fitting_is_decodable` says so.
-#[tactic(auto, using(crate::proofs::Words::word_is))]
+#[tactic(auto, using(crate::proofs::Words::word_is, crate::proofs::Words::word_decodes))]
 pub fn encode(insn: &Insn) -> u32
     requires { IsDecodable insn.now }
-    ensures decodes { Decodes result insn.now }
-    ensures only { (w : ℕ) → w < 2 ^ 32 → Decodes w insn.now → result ≡ w }
+    ensures decodes { Decodes true result insn.now }
+    ensures only { (rvc : Bool) (w : ℕ) → w < 2 ^ 32 → Decodes rvc w insn.now → result ≡ w }
 {
-    word_of(*insn)
+    word_by(insn.plain, insn.half)
 }
 
-fn word_of(insn: Insn) -> u32
-    ensures { result ≡ encoded insn }
+fn word_by(plain: Plain, half: Option<u16>) -> u32
+    ensures { result ≡ encoded_by plain half }
 {
-    match insn {
-        Insn::Lui { rd, imm } => u_word(0b0110111, rd, imm),
-        Insn::Auipc { rd, imm } => u_word(0b0010111, rd, imm),
-        Insn::Jal { rd, offset } => j_word(0b1101111, rd, offset),
-        Insn::Jalr { rd, rs1, offset } => i_word(0b1100111, 0, rd, rs1, offset),
-        Insn::Branch {
+    match half {
+        Some(half) => u32::from(half),
+        None => word_of(plain),
+    }
+}
+
+fn word_of(plain: Plain) -> u32
+    ensures { result ≡ encoded plain }
+{
+    match plain {
+        Plain::Lui { rd, imm } => word_u(0b0110111, number(rd), imm),
+        Plain::Auipc { rd, imm } => word_u(0b0010111, number(rd), imm),
+        Plain::Jal { rd, offset } => word_j(0b1101111, number(rd), offset),
+        Plain::Jalr { rd, rs1, offset } => word_i(0b1100111, 0, number(rd), number(rs1), offset),
+        Plain::Branch {
             op,
             rs1,
             rs2,
             offset,
-        } => b_word(0b1100011, branch_funct3(op), rs1, rs2, offset),
-        Insn::Load {
+        } => word_b(
+            0b1100011,
+            branch_funct3(op),
+            number(rs1),
+            number(rs2),
+            offset,
+        ),
+        Plain::Load {
             op,
             rd,
             rs1,
             offset,
-        } => i_word(0b0000011, load_funct3(op), rd, rs1, offset),
-        Insn::Store {
+        } => word_i(0b0000011, load_funct3(op), number(rd), number(rs1), offset),
+        Plain::Store {
             op,
             rs1,
             rs2,
             offset,
-        } => s_word(0b0100011, store_funct3(op), rs1, rs2, offset),
-        Insn::Immediate { op, rd, rs1, imm } => immediate_word(op, rd, rs1, imm),
-        Insn::Shift {
+        } => word_s(
+            0b0100011,
+            store_funct3(op),
+            number(rs1),
+            number(rs2),
+            offset,
+        ),
+        Plain::Immediate { op, rd, rs1, imm } => immediate_word(op, rd, rs1, imm),
+        Plain::Shift {
             op,
             rd,
             rs1,
             amount,
         } => shift_word(op, rd, rs1, amount),
-        Insn::Computation { op, rd, rs1, rs2 } => computation_word(op, rd, rs1, rs2),
-        Insn::Fence { fields } => fence_word(fields),
-        Insn::Ecall => 0x73,
-        Insn::Ebreak => 0x100073,
+        Plain::Computation { op, rd, rs1, rs2 } => computation_word(op, rd, rs1, rs2),
+        Plain::Fence { fields } => fence_word(fields),
+        Plain::Ecall => 0x73,
+        Plain::Ebreak => 0x100073,
     }
 }
 
+/// The number of a register, as a word's field.
+fn number(register: Register) -> u32
+    ensures is { result ≡ register.number }
+    ensures small { result < 32 }
+{
+    u32::from(register.number())
+}
+
 fn immediate_word(op: ImmediateOp, rd: Register, rs1: Register, imm: u32) -> u32
-    ensures { result ≡ encoded (Insn.Immediate op rd rs1 imm) }
+    ensures { result ≡ encoded (Plain.Immediate op rd rs1 imm) }
 {
-    i_word(0b0010011, immediate_funct3(op), rd, rs1, imm)
-}
-
-fn shift_word(op: ShiftOp, rd: Register, rs1: Register, amount: ShiftAmount) -> u32
-    ensures { result ≡ encoded (Insn.Shift op rd rs1 amount) }
-{
-    let funct3 = shift_funct3(op);
-    r_word(0b0010011, funct3, shift_funct7(op), rd, rs1, amount.bits())
-}
-
-fn computation_word(op: RegisterOp, rd: Register, rs1: Register, rs2: Register) -> u32
-    ensures { result ≡ encoded (Insn.Computation op rd rs1 rs2) }
-{
-    let funct3 = register_funct3(op);
-    r_word(
-        0b0110011,
-        funct3,
-        register_funct7(op),
-        rd,
-        rs1,
-        rs2.number(),
+    word_i(
+        0b0010011,
+        immediate_funct3(op),
+        number(rd),
+        number(rs1),
+        imm,
     )
 }
 
-fn r_word(opcode: u32, funct3: u32, funct7: u32, rd: Register, rs1: Register, rs2: u8) -> u32
-    requires opcode { opcode < 128 }
-    requires funct3 { funct3 < 8 }
-    requires funct7 { funct7 < 128 }
-    requires rs2 { rs2 < 32 }
-    ensures { result ≡ word_r opcode funct3 funct7 rd.number rs1.number rs2 }
+fn shift_word(op: ShiftOp, rd: Register, rs1: Register, amount: ShiftAmount) -> u32
+    ensures { result ≡ encoded (Plain.Shift op rd rs1 amount) }
 {
-    opcode
-        + u32::from(rd.number()) * 0x80
-        + funct3 * 0x1000
-        + u32::from(rs1.number()) * 0x8000
-        + u32::from(rs2) * 0x10_0000
-        + funct7 * 0x200_0000
+    let funct3 = shift_funct3(op);
+    word_r(
+        0b0010011,
+        funct3,
+        shift_funct7(op),
+        number(rd),
+        number(rs1),
+        u32::from(amount.bits()),
+    )
 }
 
-fn i_word(opcode: u32, funct3: u32, rd: Register, rs1: Register, imm: u32) -> u32
-    requires opcode { opcode < 128 }
-    requires funct3 { funct3 < 8 }
-    ensures { result ≡ word_i opcode funct3 rd.number rs1.number imm }
+fn computation_word(op: RegisterOp, rd: Register, rs1: Register, rs2: Register) -> u32
+    ensures { result ≡ encoded (Plain.Computation op rd rs1 rs2) }
 {
-    opcode
-        + u32::from(rd.number()) * 0x80
-        + funct3 * 0x1000
-        + u32::from(rs1.number()) * 0x8000
-        + field(imm, 11, 0) * 0x10_0000
-}
-
-fn s_word(opcode: u32, funct3: u32, rs1: Register, rs2: Register, offset: u32) -> u32
-    requires opcode { opcode < 128 }
-    requires funct3 { funct3 < 8 }
-    ensures { result ≡ word_s opcode funct3 rs1.number rs2.number offset }
-{
-    let registers = u32::from(rs1.number()) * 0x8000 + u32::from(rs2.number()) * 0x10_0000;
-    opcode
-        + field(offset, 4, 0) * 0x80
-        + funct3 * 0x1000
-        + registers
-        + field(offset, 11, 5) * 0x200_0000
-}
-
-fn b_word(opcode: u32, funct3: u32, rs1: Register, rs2: Register, offset: u32) -> u32
-    requires opcode { opcode < 128 }
-    requires funct3 { funct3 < 8 }
-    ensures { result ≡ word_b opcode funct3 rs1.number rs2.number offset }
-{
-    let registers = u32::from(rs1.number()) * 0x8000 + u32::from(rs2.number()) * 0x10_0000;
-    let low = field(offset, 11, 11) * 0x80 + field(offset, 4, 1) * 0x100;
-    let high = field(offset, 10, 5) * 0x200_0000 + field(offset, 12, 12) * 0x8000_0000;
-    opcode + low + funct3 * 0x1000 + registers + high
-}
-
-fn u_word(opcode: u32, rd: Register, imm: u32) -> u32
-    requires { opcode < 128 }
-    ensures { result ≡ word_u opcode rd.number imm }
-{
-    opcode + u32::from(rd.number()) * 0x80 + field(imm, 31, 12) * 0x1000
-}
-
-fn j_word(opcode: u32, rd: Register, offset: u32) -> u32
-    requires { opcode < 128 }
-    ensures { result ≡ word_j opcode rd.number offset }
-{
-    let low = field(offset, 19, 12) * 0x1000 + field(offset, 11, 11) * 0x10_0000;
-    let high = field(offset, 10, 1) * 0x20_0000 + field(offset, 20, 20) * 0x8000_0000;
-    opcode + u32::from(rd.number()) * 0x80 + low + high
+    let funct3 = register_funct3(op);
+    word_r(
+        0b0110011,
+        funct3,
+        register_funct7(op),
+        number(rd),
+        number(rs1),
+        number(rs2),
+    )
 }
 
 fn fence_word(fields: u32) -> u32
-    ensures { result ≡ encoded (Insn.Fence fields) }
+    ensures { result ≡ encoded (Plain.Fence fields) }
 {
     0b0001111 + field(fields, 4, 0) * 0x80 + field(fields, 21, 5) * 0x8000
 }

@@ -17,7 +17,7 @@ pub fn field(word: u32, high: u32, low: u32) -> u32
 }
 
 /// A number of `width` bits, with its sign, in 32 bits.
-fn sign_extended(value: u32, width: u32) -> u32
+pub fn sign_extended(value: u32, width: u32) -> u32
     requires some { 0 < width }
     requires within { width < 32 }
     requires fits { value < 2 ^ width }

@@ -1,140 +1,37 @@
-//! The instructions of RV32IM.
-use crate::register::Register;
-use crate::shift_amount::ShiftAmount;
+//! The instructions of RV32IM and RV32IMC.
+ghost use Rattle.rv_decode.specs.Halves.{IsOfHalf, IsOfHalf-prop};
 
-/// What a conditional branch tests of rs1 and rs2 (section 2.5).
+use crate::plain::Plain;
+
+/// An instruction of a word, or of a halfword, of which it is the expansion's (chapter 16).
 #[derive(Clone, Copy, PartialEq, Eq, Debug)]
-pub enum BranchOp {
-    Beq,
-    Bne,
-    Blt,
-    Bge,
-    Bltu,
-    Bgeu,
+pub struct Insn {
+    /// What it does but for its length.
+    pub plain: Plain,
+    /// The halfword, of an instruction of 2 bytes; the others have 4.
+    pub half: Option<u16>,
+    pub ghost of_half: { IsOfHalf plain half } by { IsOfHalf-prop plain half },
 }
 
-/// How many bytes a load reads, and whether with their sign (section 2.6).
-#[derive(Clone, Copy, PartialEq, Eq, Debug)]
-pub enum LoadOp {
-    Lb,
-    Lh,
-    Lw,
-    Lbu,
-    Lhu,
-}
+impl Insn {
+    ghost use Rattle.std.specs.Prelude.{◌≡◌};
+    ghost use Rattle.rv_decode.specs.Insns.{length_by, row_of};
 
-/// How many bytes a store writes (section 2.6).
-#[derive(Clone, Copy, PartialEq, Eq, Debug)]
-pub enum StoreOp {
-    Sb,
-    Sh,
-    Sw,
-}
+    /// How many bytes it has, 2 or 4.
+    #[tactic(auto, using(crate::proofs::Lengths::length_of_row))]
+    pub fn length(&self) -> u8
+        ensures of_row { result ≡ (row_of self.now).length }
+        ensures of_half { result ≡ length_by self.now.half 4 }
+    {
+        self.length_by_half()
+    }
 
-/// A computation with a register and an immediate (section 2.4).
-#[derive(Clone, Copy, PartialEq, Eq, Debug)]
-pub enum ImmediateOp {
-    Addi,
-    Slti,
-    Sltiu,
-    Xori,
-    Ori,
-    Andi,
-}
-
-/// A shift by a number (section 2.4).
-#[derive(Clone, Copy, PartialEq, Eq, Debug)]
-pub enum ShiftOp {
-    Slli,
-    Srli,
-    Srai,
-}
-
-/// A computation with two registers (sections 2.4, 7.1 and 7.2).
-#[derive(Clone, Copy, PartialEq, Eq, Debug)]
-pub enum RegisterOp {
-    Add,
-    Sub,
-    Sll,
-    Slt,
-    Sltu,
-    Xor,
-    Srl,
-    Sra,
-    Or,
-    And,
-    Mul,
-    Mulh,
-    Mulhsu,
-    Mulhu,
-    Div,
-    Divu,
-    Rem,
-    Remu,
-}
-
-/// An instruction with its fields.
-///
-/// Immediates and offsets are words of 32 bits, with their sign extended; those of LUI and AUIPC have their 20 bits in place.
-#[derive(Clone, Copy, PartialEq, Eq, Debug)]
-pub enum Insn {
-    Lui {
-        rd: Register,
-        imm: u32,
-    },
-    Auipc {
-        rd: Register,
-        imm: u32,
-    },
-    Jal {
-        rd: Register,
-        offset: u32,
-    },
-    Jalr {
-        rd: Register,
-        rs1: Register,
-        offset: u32,
-    },
-    Branch {
-        op: BranchOp,
-        rs1: Register,
-        rs2: Register,
-        offset: u32,
-    },
-    Load {
-        op: LoadOp,
-        rd: Register,
-        rs1: Register,
-        offset: u32,
-    },
-    Store {
-        op: StoreOp,
-        rs1: Register,
-        rs2: Register,
-        offset: u32,
-    },
-    Immediate {
-        op: ImmediateOp,
-        rd: Register,
-        rs1: Register,
-        imm: u32,
-    },
-    Shift {
-        op: ShiftOp,
-        rd: Register,
-        rs1: Register,
-        amount: ShiftAmount,
-    },
-    Computation {
-        op: RegisterOp,
-        rd: Register,
-        rs1: Register,
-        rs2: Register,
-    },
-    /// `fields` has the bits that the standard leaves free, so that `encode` gives the word back: bits 31 to 15 of the word above its bits 11 to 7.
-    Fence {
-        fields: u32,
-    },
-    Ecall,
-    Ebreak,
+    fn length_by_half(&self) -> u8
+        ensures { result ≡ length_by self.now.half 4 }
+    {
+        match self.half {
+            Some(_) => 2,
+            None => 4,
+        }
+    }
 }

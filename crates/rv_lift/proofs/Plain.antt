@@ -3,28 +3,29 @@
 use Rattle.std.proofs.Common.{◌≡◌, ℕ, zero, suc, ◌+◌, ◌-◌, ◌/◌, ◌^◌, ◌<◌, ◌≤◌, ◌==◌, nat_lt, nat_le, Bool, true, false, ◌&&◌, refl, ap, ◌∙◌, arith, [], add-zero}
 use Rattle.std.proofs.lemmas.Bool.Decides.{nat_tests}
 use Rattle.word_spec.specs.Memory.{Little}
-use Rattle.machine_spec.specs.Rv.{Fields, rv32}
+use Rattle.machine_spec.specs.Rv.{Fields}
+use Rattle.machine_spec.specs.RvMachine.{rv32}
 use Rattle.machine_spec.specs.Bil.{Bits, XRegisters, Mem, BinaryOp, UnaryOp, Not, CastKind, Expression, Var, Constant, Load, Binary, Unary, Cast, Extract, Statements, Empty, total, size}
 use Rattle.machine_spec.specs.Bil as bil
 use Rattle.machine_spec.specs.BilMeaning.{Env}
 use Rattle.machine_spec.specs.BilTyping.{Has, type_or_fault, result_width, cast_fits, is_width, is_load_width}
 use Rattle.machine_spec.specs.BilCounts.{width, op_weight, weight, own_loads, own_stores, own_unknowns, own_memory_choices, own_chosen_stores, names_only, is_own, reads_flag}
 use Rattle.machine_spec.specs.BilStores.{stored_by}
-use Rattle.rv_decode.specs.declared.insn.BranchOp.{BranchOp}
-use Rattle.rv_decode.specs.declared.insn.BranchOp.TheVariants.{Beq, Bne, Blt, Bge, Bltu, Bgeu}
-use Rattle.rv_decode.specs.declared.insn.LoadOp.{LoadOp}
-use Rattle.rv_decode.specs.declared.insn.LoadOp.TheVariants.{Lb, Lh, Lw, Lbu, Lhu}
-use Rattle.rv_decode.specs.declared.insn.ImmediateOp.{ImmediateOp}
-use Rattle.rv_decode.specs.declared.insn.ImmediateOp.TheVariants.{Addi, Slti, Sltiu, Xori, Ori, Andi}
-use Rattle.rv_decode.specs.declared.insn.ShiftOp.{ShiftOp}
-use Rattle.rv_decode.specs.declared.insn.ShiftOp.TheVariants.{Slli, Srli, Srai}
-use Rattle.rv_decode.specs.declared.insn.RegisterOp.{RegisterOp}
-use Rattle.rv_decode.specs.declared.insn.RegisterOp.TheVariants.{Add, Sub, Sll, Slt, Sltu, Xor, Srl, Sra, Or, And, Mul, Mulh, Mulhsu, Mulhu, Div, Divu, Rem, Remu}
-use Rattle.rv_decode.specs.Insns.{computes, loaded_bytes}
+use Rattle.rv_decode.specs.declared.plain.BranchOp.{BranchOp}
+use Rattle.rv_decode.specs.declared.plain.BranchOp.TheVariants.{Beq, Bne, Blt, Bge, Bltu, Bgeu}
+use Rattle.rv_decode.specs.declared.plain.LoadOp.{LoadOp}
+use Rattle.rv_decode.specs.declared.plain.LoadOp.TheVariants.{Lb, Lh, Lw, Lbu, Lhu}
+use Rattle.rv_decode.specs.declared.plain.ImmediateOp.{ImmediateOp}
+use Rattle.rv_decode.specs.declared.plain.ImmediateOp.TheVariants.{Addi, Slti, Sltiu, Xori, Ori, Andi}
+use Rattle.rv_decode.specs.declared.plain.ShiftOp.{ShiftOp}
+use Rattle.rv_decode.specs.declared.plain.ShiftOp.TheVariants.{Slli, Srli, Srai}
+use Rattle.rv_decode.specs.declared.plain.RegisterOp.{RegisterOp}
+use Rattle.rv_decode.specs.declared.plain.RegisterOp.TheVariants.{Add, Sub, Sll, Slt, Sltu, Xor, Srl, Sra, Or, And, Mul, Mulh, Mulhsu, Mulhu, Div, Divu, Rem, Remu}
+use Rattle.rv_decode.specs.Plains.{computes, loaded_bytes}
 use Rattle.rv_lift.specs.Lifted as lifts
 
 abbrev pub own : bil.BilVariable → Bool
-own = is_own rv32 XRegisters
+own = is_own (rv32 false) XRegisters
 
 -- an expression of n bits that weighs at most w and loads at most l bytes
 pub record IsPlain (n w l : ℕ) (e : Expression) : Type 0 where

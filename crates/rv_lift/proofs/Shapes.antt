@@ -5,7 +5,8 @@ use Rattle.word_spec.specs.Words.{add, bit}
 use Rattle.word_spec.specs.Memory.{Little, store, span}
 use Rattle.word_spec.specs.State.{State, with_pc}
 use Rattle.machine_spec.specs.Machine.{Cost, Offset, Successors, How, Goes}
-use Rattle.machine_spec.specs.Rv.{rv32, row_of, plain_cost, with_reg, on, branch_by}
+use Rattle.machine_spec.specs.Rv.{row_of, plain_cost, with_reg, on, branch_by}
+use Rattle.machine_spec.specs.RvMachine.{rv32}
 use Rattle.machine_spec.specs.Bil.{XRegisters, Mem, Expression, Var, Store, Empty, Assign, JumpTo, If}
 use Rattle.machine_spec.specs.BilMeaning.{Word, Bytes, Position, Ends, then_do, branch_on, execute, evaluate}
 use Rattle.machine_spec.specs.BilTyping.{is_load_width, list_fault}
@@ -25,10 +26,10 @@ pub same : (xs ys : List ℕ) (a : ℕ) → xs ≡ ys → Contains xs a ↔ Cont
 same xs ys a e = (subst (λ (z : List ℕ). Contains z a) e, subst (λ (z : List ℕ). Contains z a) (sym e))
 
 -- rd takes a word
-pub assigned_lifting : (d w l : ℕ) (e : Expression) (f : State → ℕ) (k : Cost) (p : Option Offset) (at : ℕ) → d < 32 → IsPlain 32 w l e → HasValue 32 e f at →
-    w + 128 ≤ k.row → l ≤ k.loads →
-    IsLifting rv32 XRegisters (record (row_of (λ s. on s (with_reg s d (f s)))) { cost = k; adds_pc = p }) at (lifts.assigned d e)
-assigned_lifting zero w l e f k p at small plain value h i = record {
+pub assigned_lifting : (rvc : Bool) (d w l : ℕ) (e : Expression) (f : State → ℕ) (k : Cost) (p : Option Offset) (g : State → Option (ℕ × ℕ)) (at : ℕ) →
+    d < 32 → IsPlain 32 w l e → HasValue 32 e f at → w + 128 ≤ k.row → l ≤ k.loads →
+    IsLifting (rv32 rvc) XRegisters (record (row_of (λ s. on s (with_reg s d (f s)))) { cost = k; adds_pc = p; loaded = g }) at (lifts.assigned d e)
+assigned_lifting rvc zero w l e f k p g at small plain value h i = record {
   simulates = λ s is here c turns few locals. refl;
   stored = λ s is here c turns few locals a. same [] [] a refl;
   typed = refl;
@@ -36,10 +37,10 @@ assigned_lifting zero w l e f k p at small plain value h i = record {
   no_special = refl;
   nests = omega arith;
   names = refl;
-  assigns = λ g few t. cc;
-  surely = λ g few t. cc;
-  reads = λ g few. refl;
-  reads_first = λ g few. refl;
+  assigns = λ f few t. cc;
+  surely = λ f few t. cc;
+  reads = λ f few. refl;
+  reads_first = λ f few. refl;
   draws = λ t. refl;
   picks = refl;
   steady = refl;
@@ -48,7 +49,7 @@ assigned_lifting zero w l e f k p at small plain value h i = record {
   loads = omega arith;
   stores = omega arith;
 }
-assigned_lifting (suc d) w l e f k p at small plain value h i = record {
+assigned_lifting rvc (suc d) w l e f k p g at small plain value h i = record {
   simulates = λ s is here c turns few locals. rw (value s here c locals) refl;
   stored = λ s is here c turns few locals a. same _ [] a (rw (plain.stored c (env_of locals s), value s here c locals) refl);
   typed = rw (plain.typed 1) refl;
@@ -56,10 +57,10 @@ assigned_lifting (suc d) w l e f k p at small plain value h i = record {
   no_special = refl;
   nests = omega arith;
   names = rw (own_register d small, plain.names) refl;
-  assigns = λ g few t. cc;
-  surely = λ g few t. cc;
-  reads = λ g few. rw (plain.flags g) refl;
-  reads_first = λ g few. refl;
+  assigns = λ f few t. cc;
+  surely = λ f few t. cc;
+  reads = λ f few. rw (plain.flags f) refl;
+  reads_first = λ f few. refl;
   draws = λ t. omega arith;
   picks = let h = plain.picks in omega arith;
   steady = let h = plain.steady in omega arith;
@@ -83,11 +84,11 @@ branch_stores true to c s = refl
 branch_stores false to c s = refl
 
 -- a jump where a test holds
-pub branch_lifting : (e : Expression) (f : State → Bool) (w to : ℕ) (next : ℕ → Successors) (at : ℕ) → IsPlain 1 w 0 e → HasValue 1 e (λ s. bit (f s)) at →
-    w ≤ 892 →
-    IsLifting rv32 XRegisters (record (row_of (λ s. branch_by (f s) s to)) { successors = next }) at
+pub branch_lifting : (rvc : Bool) (e : Expression) (f : State → Bool) (w to : ℕ) (next : ℕ → Successors) (at : ℕ) → IsPlain 1 w 0 e →
+    HasValue 1 e (λ s. bit (f s)) at → w ≤ 892 →
+    IsLifting (rv32 rvc) XRegisters (record (row_of (λ s. branch_by (f s) s to)) { successors = next }) at
     (If e (JumpTo (lifts.number (add 32 at to)) Empty) Empty Empty)
-branch_lifting e f w to next at plain value h = record {
+branch_lifting rvc e f w to next at plain value h = record {
   simulates = λ s is here c turns few locals. rw (value s here c locals, ← here) (branch_ends (f s) to c turns locals s);
   stored = λ s is here c turns few locals a. same _ [] a (rw (plain.stored c (env_of locals s), value s here c locals)
       (branch_stores (f s) (add 32 at to) c (position locals turns None s)));
@@ -109,11 +110,11 @@ branch_lifting e f w to next at plain value h = record {
   stores = omega arith;
 }
 
-linked_ends : (d to c turns : ℕ) (l : Locals) (s : State) →
-    execute (lifts.assigned d (lifts.number (add 32 s.pc 4))) c (position l turns (Some to) s)
-    ≡ Ends (position l turns (Some to) (with_pc (with_reg s d (add 32 s.pc 4)) to))
-linked_ends zero to c turns l s = refl
-linked_ends (suc d) to c turns l s = refl
+linked_ends : (d n to c turns : ℕ) (l : Locals) (s : State) →
+    execute (lifts.assigned d (lifts.number (add 32 s.pc n))) c (position l turns (Some to) s)
+    ≡ Ends (position l turns (Some to) (with_pc (with_reg s d (add 32 s.pc n)) to))
+linked_ends zero n to c turns l s = refl
+linked_ends (suc d) n to c turns l s = refl
 
 link_stores : (d v c : ℕ) (s : Position) → list_stored (lifts.assigned d (lifts.number v)) c s ≡ []
 link_stores zero v c s = refl
@@ -127,21 +128,26 @@ link_weight : (d v : ℕ) → list_weight (lifts.assigned d (lifts.number v)) �
 link_weight zero v = omega arith
 link_weight (suc d) v = omega arith
 
-link_lifting : (d v at : ℕ) → d < 32 → v < 2 ^ 32 → IsLifting rv32 XRegisters (row_of (λ s. on s (with_reg s d v))) at (lifts.assigned d (lifts.number v))
-link_lifting d v at h k = assigned_lifting d 0 0 (lifts.number v) (λ s. v) plain_cost None at h (number_plain v k)
+link_lifting : (rvc : Bool) (d v at : ℕ) → d < 32 → v < 2 ^ 32 →
+    IsLifting (rv32 rvc) XRegisters (row_of (λ s. on s (with_reg s d v))) at (lifts.assigned d (lifts.number v))
+link_lifting rvc d v at h k = assigned_lifting rvc d 0 0 (lifts.number v) (λ s. v) plain_cost None (λ s. None) at h (number_plain v k)
     (λ s here c l. refl) (omega arith) (omega arith)
 
--- a jump, and rd takes the address behind
-pub jump_lifting : (e : Expression) (f : State → ℕ) (d w : ℕ) (how : How) (next : ℕ → Successors) (p : Option Offset) (at : ℕ) → d < 32 → IsPlain 32 w 0 e →
-    HasValue 32 e f at → w ≤ 832 → ((s : State) → jump_of how s ≡ Some s.pc) →
-    IsLifting rv32 XRegisters (record (row_of (λ s. Goes how (with_pc (with_reg s d (add 32 s.pc 4)) (f s)))) { successors = next; jumps_to = p }) at
-    (JumpTo e (lifts.assigned d (lifts.number (add 32 at 4))))
-jump_lifting e f d w how next p at small plain value h jumps =
-    let rest = link_lifting d (add 32 at 4) at small (omega arith) in
+-- a jump of a row of m bytes, and rd takes the address n bytes on
+pub jump_lifting : (rvc : Bool) (m n : ℕ) (e : Expression) (f : State → ℕ) (d w : ℕ) (how : How) (next : ℕ → Successors) (p : Option Offset) (b : Bool)
+    (at : ℕ) → d < 32 → IsPlain 32 w 0 e → HasValue 32 e f at → w ≤ 832 → ((s : State) → jump_of how s ≡ Some s.pc) →
+    IsLifting (rv32 rvc) XRegisters (record (row_of (λ s. Goes how (with_pc (with_reg s d (add 32 s.pc n)) (f s)))) {
+      length = m;
+      successors = next;
+      jumps_to = p;
+      links = b;
+    }) at (JumpTo e (lifts.assigned d (lifts.number (add 32 at n))))
+jump_lifting rvc m n e f d w how next p b at small plain value h jumps =
+    let rest = link_lifting rvc d (add 32 at n) at small (omega arith) in
     record {
-      simulates = λ s is here c turns few locals. rw (value s here c locals, jumps _, ← here) (ap of_list (linked_ends d (f s) c turns locals s));
+      simulates = λ s is here c turns few locals. rw (value s here c locals, jumps _, ← here) (ap of_list (linked_ends d n (f s) c turns locals s));
       stored = λ s is here c turns few locals a. same _ [] a (rw (plain.stored c (env_of locals s), value s here c locals) (link_stores d _ c _));
-      typed = rw (plain.typed 1) (link_typed d (add 32 at 4) _ (omega arith));
+      typed = rw (plain.typed 1) (link_typed d (add 32 at n) _ (omega arith));
       no_loop = rest.no_loop;
       no_special = rest.no_special;
       nests = rest.nests;
@@ -154,22 +160,22 @@ jump_lifting e f d w how next p at small plain value h jumps =
       picks = let h = plain.picks in let r = rest.picks in omega arith;
       steady = let h = plain.steady in let r = rest.steady in omega arith;
       literal = λ a t. cc;
-      weight = let r = link_weight d (add 32 at 4) in omega arith;
+      weight = let r = link_weight d (add 32 at n) in omega arith;
       loads = let r = rest.loads in omega arith;
       stores = let r = rest.stores in omega arith;
     }
 
 -- a store of the low n / 8 bytes of a word
-pub store_lifting : (n w v : ℕ) (t u : Expression) (f g : State → ℕ) (at : ℕ) → IsPlain 32 w 0 t → IsPlain n v 0 u → HasValue 32 t f at →
+pub store_lifting : (rvc : Bool) (n w v : ℕ) (t u : Expression) (f g : State → ℕ) (at : ℕ) → IsPlain 32 w 0 t → IsPlain n v 0 u → HasValue 32 t f at →
     ((s : State) → s.pc ≡ at → (c : ℕ) (l : Locals) → evaluate (Store (Var Mem) t Little n u) c (env_of l s) ≡ Bytes (store Little (n / 8) s.mem (f s) (g s))) →
     w + v ≤ 960 → (n == n) ≡ true → is_load_width n ≡ true →
-    IsLifting rv32 XRegisters (record (row_of (λ s. on s (record s { mem = store Little (n / 8) s.mem (f s) (g s) }))) {
+    IsLifting (rv32 rvc) XRegisters (record (row_of (λ s. on s (record s { mem = store Little (n / 8) s.mem (f s) (g s) }))) {
       stored =
           λ s. Some (f s, n / 8);
       cost = record { row = 1024; loads = 0; stores = n / 8 };
     }) at
     (Assign Mem (Store (Var Mem) t Little n u) Empty)
-store_lifting n w v t u f g at p q value result h same_width wide = record {
+store_lifting rvc n w v t u f g at p q value result h same_width wide = record {
   simulates = λ s is here c turns few locals. rw (result s here c locals) refl;
   stored = λ s is here c turns few locals a. same _ (span (f s) (n / 8)) a
       (rw (p.stored c (env_of locals s), q.stored c (env_of locals s), result s here c locals, value s here c locals) (append-nil _));

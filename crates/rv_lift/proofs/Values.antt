@@ -11,19 +11,19 @@ use Rattle.machine_spec.specs.Bil.{Expression}
 use Rattle.machine_spec.specs.BilMeaning.{Word, Bytes, Env, evaluate}
 use Rattle.machine_spec.specs.Simulation.{Locals, env_of}
 use Rattle.byte_mem.proofs.Numbers.{store_cut}
-use Rattle.rv_decode.specs.declared.insn.BranchOp.{BranchOp}
-use Rattle.rv_decode.specs.declared.insn.BranchOp.TheVariants.{Beq, Bne, Blt, Bge, Bltu, Bgeu}
-use Rattle.rv_decode.specs.declared.insn.LoadOp.{LoadOp}
-use Rattle.rv_decode.specs.declared.insn.LoadOp.TheVariants.{Lb, Lh, Lw, Lbu, Lhu}
-use Rattle.rv_decode.specs.declared.insn.StoreOp.{StoreOp}
-use Rattle.rv_decode.specs.declared.insn.StoreOp.TheVariants.{Sb, Sh, Sw}
-use Rattle.rv_decode.specs.declared.insn.ImmediateOp.{ImmediateOp}
-use Rattle.rv_decode.specs.declared.insn.ImmediateOp.TheVariants.{Addi, Slti, Sltiu, Xori, Ori, Andi}
-use Rattle.rv_decode.specs.declared.insn.ShiftOp.{ShiftOp}
-use Rattle.rv_decode.specs.declared.insn.ShiftOp.TheVariants.{Slli, Srli, Srai}
-use Rattle.rv_decode.specs.declared.insn.RegisterOp.{RegisterOp}
-use Rattle.rv_decode.specs.declared.insn.RegisterOp.TheVariants.{Add, Sub, Sll, Slt, Sltu, Xor, Srl, Sra, Or, And, Mul, Mulh, Mulhsu, Mulhu, Div, Divu, Rem, Remu}
-use Rattle.rv_decode.specs.Insns.{register_value, immediate_value, shift_value, test_of, loaded_bytes, extended, stored_bytes}
+use Rattle.rv_decode.specs.declared.plain.BranchOp.{BranchOp}
+use Rattle.rv_decode.specs.declared.plain.BranchOp.TheVariants.{Beq, Bne, Blt, Bge, Bltu, Bgeu}
+use Rattle.rv_decode.specs.declared.plain.LoadOp.{LoadOp}
+use Rattle.rv_decode.specs.declared.plain.LoadOp.TheVariants.{Lb, Lh, Lw, Lbu, Lhu}
+use Rattle.rv_decode.specs.declared.plain.StoreOp.{StoreOp}
+use Rattle.rv_decode.specs.declared.plain.StoreOp.TheVariants.{Sb, Sh, Sw}
+use Rattle.rv_decode.specs.declared.plain.ImmediateOp.{ImmediateOp}
+use Rattle.rv_decode.specs.declared.plain.ImmediateOp.TheVariants.{Addi, Slti, Sltiu, Xori, Ori, Andi}
+use Rattle.rv_decode.specs.declared.plain.ShiftOp.{ShiftOp}
+use Rattle.rv_decode.specs.declared.plain.ShiftOp.TheVariants.{Slli, Srli, Srai}
+use Rattle.rv_decode.specs.declared.plain.RegisterOp.{RegisterOp}
+use Rattle.rv_decode.specs.declared.plain.RegisterOp.TheVariants.{Add, Sub, Sll, Slt, Sltu, Xor, Srl, Sra, Or, And, Mul, Mulh, Mulhsu, Mulhu, Div, Divu, Rem, Remu}
+use Rattle.rv_decode.specs.Plains.{register_value, immediate_value, shift_value, test_of, loaded_bytes, extended, stored_bytes}
 use Rattle.rv_lift.specs.Lifted as lifts
 
 -- the upper half of a product of 64 bits

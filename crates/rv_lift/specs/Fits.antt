@@ -1,9 +1,9 @@
 -- The numbers of an instruction are words of 32 bits.
 use Rattle.std.specs.Prelude.{◌<◌, ◌^◌}
-use Rattle.rv_decode.specs.declared.insn.Insn.{Insn}
-use Rattle.rv_decode.specs.declared.insn.Insn.TheVariants.{Lui, Auipc, Jal, Jalr, Branch, Load, Store, Immediate, Shift, Computation, Fence, Ecall, Ebreak}
+use Rattle.rv_decode.specs.declared.plain.Plain.{Plain}
+use Rattle.rv_decode.specs.declared.plain.Plain.TheVariants.{Lui, Auipc, Jal, Jalr, Branch, Load, Store, Immediate, Shift, Computation, Fence, Ecall, Ebreak}
 
-abbrev pub HasWords : Insn → Type 0
+abbrev pub HasWords : Plain → Type 0
 HasWords (Lui rd imm) = imm < 2 ^ 32
 HasWords (Jalr rd rs1 offset) = offset < 2 ^ 32
 HasWords (Load op rd rs1 offset) = offset < 2 ^ 32

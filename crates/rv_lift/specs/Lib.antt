@@ -1,3 +1,3 @@
 pub mod Lifted
 pub mod Fits
-pub mod Laws
+pub mod Flags

@@ -4,20 +4,20 @@ use Rattle.word_spec.specs.Words.{add}
 use Rattle.word_spec.specs.Memory.{Little}
 use Rattle.machine_spec.specs.Bil as bil
 use Rattle.machine_spec.specs.Bil.{XRegisters, Mem, Expression, Var, Constant, Load, Store, Binary, Unary, Cast, Extract, Statements, Empty, Assign, JumpTo, Raise, If}
-use Rattle.rv_decode.specs.declared.insn.BranchOp.{BranchOp}
-use Rattle.rv_decode.specs.declared.insn.BranchOp.TheVariants.{Beq, Bne, Blt, Bge, Bltu, Bgeu}
-use Rattle.rv_decode.specs.declared.insn.LoadOp.{LoadOp}
-use Rattle.rv_decode.specs.declared.insn.LoadOp.TheVariants.{Lb, Lh, Lw, Lbu, Lhu}
-use Rattle.rv_decode.specs.declared.insn.StoreOp.{StoreOp}
-use Rattle.rv_decode.specs.declared.insn.StoreOp.TheVariants.{Sb, Sh, Sw}
-use Rattle.rv_decode.specs.declared.insn.ImmediateOp.{ImmediateOp}
-use Rattle.rv_decode.specs.declared.insn.ImmediateOp.TheVariants.{Addi, Slti, Sltiu, Xori, Ori, Andi}
-use Rattle.rv_decode.specs.declared.insn.ShiftOp.{ShiftOp}
-use Rattle.rv_decode.specs.declared.insn.ShiftOp.TheVariants.{Slli, Srli, Srai}
-use Rattle.rv_decode.specs.declared.insn.RegisterOp.{RegisterOp}
-use Rattle.rv_decode.specs.declared.insn.RegisterOp.TheVariants.{Add, Sub, Sll, Slt, Sltu, Xor, Srl, Sra, Or, And, Mul, Mulh, Mulhsu, Mulhu, Div, Divu, Rem, Remu}
-use Rattle.rv_decode.specs.declared.insn.Insn.{Insn}
-use Rattle.rv_decode.specs.declared.insn.Insn.TheVariants as insn
+use Rattle.rv_decode.specs.declared.plain.BranchOp.{BranchOp}
+use Rattle.rv_decode.specs.declared.plain.BranchOp.TheVariants.{Beq, Bne, Blt, Bge, Bltu, Bgeu}
+use Rattle.rv_decode.specs.declared.plain.LoadOp.{LoadOp}
+use Rattle.rv_decode.specs.declared.plain.LoadOp.TheVariants.{Lb, Lh, Lw, Lbu, Lhu}
+use Rattle.rv_decode.specs.declared.plain.StoreOp.{StoreOp}
+use Rattle.rv_decode.specs.declared.plain.StoreOp.TheVariants.{Sb, Sh, Sw}
+use Rattle.rv_decode.specs.declared.plain.ImmediateOp.{ImmediateOp}
+use Rattle.rv_decode.specs.declared.plain.ImmediateOp.TheVariants.{Addi, Slti, Sltiu, Xori, Ori, Andi}
+use Rattle.rv_decode.specs.declared.plain.ShiftOp.{ShiftOp}
+use Rattle.rv_decode.specs.declared.plain.ShiftOp.TheVariants.{Slli, Srli, Srai}
+use Rattle.rv_decode.specs.declared.plain.RegisterOp.{RegisterOp}
+use Rattle.rv_decode.specs.declared.plain.RegisterOp.TheVariants.{Add, Sub, Sll, Slt, Sltu, Xor, Srl, Sra, Or, And, Mul, Mulh, Mulhsu, Mulhu, Div, Divu, Rem, Remu}
+use Rattle.rv_decode.specs.declared.plain.Plain.{Plain}
+use Rattle.rv_decode.specs.declared.plain.Plain.TheVariants as plain
 
 -- a word
 abbrev pub number : ℕ → Expression
@@ -116,20 +116,20 @@ abbrev pub assigned : ℕ → Expression → Statements
 assigned zero e = Empty
 assigned (suc r) e = Assign (bil.Register XRegisters (suc r)) e Empty
 
--- the list of an instruction that stands at an address
-abbrev pub lifted : Insn → ℕ → Statements
-lifted (insn.Lui rd imm) at = assigned rd.number (number imm)
-lifted (insn.Auipc rd imm) at = assigned rd.number (number (add 32 at imm))
-lifted (insn.Jal rd offset) at = JumpTo (number (add 32 at offset)) (assigned rd.number (number (add 32 at 4)))
-lifted (insn.Jalr rd rs1 offset) at =
-    JumpTo (Binary bil.And (address rs1.number offset) (number 0xfffffffe)) (assigned rd.number (number (add 32 at 4)))
-lifted (insn.Branch op rs1 rs2 offset) at =
+-- the list of an instruction that has a length in bytes and stands at an address
+abbrev pub lifted : Plain → (length at : ℕ) → Statements
+lifted (plain.Lui rd imm) n at = assigned rd.number (number imm)
+lifted (plain.Auipc rd imm) n at = assigned rd.number (number (add 32 at imm))
+lifted (plain.Jal rd offset) n at = JumpTo (number (add 32 at offset)) (assigned rd.number (number (add 32 at n)))
+lifted (plain.Jalr rd rs1 offset) n at =
+    JumpTo (Binary bil.And (address rs1.number offset) (number 0xfffffffe)) (assigned rd.number (number (add 32 at n)))
+lifted (plain.Branch op rs1 rs2 offset) n at =
     If (test op (register rs1.number) (register rs2.number)) (JumpTo (number (add 32 at offset)) Empty) Empty Empty
-lifted (insn.Load op rd rs1 offset) at = assigned rd.number (loaded op (address rs1.number offset))
-lifted (insn.Store op rs1 rs2 offset) at = Assign Mem (stored op (address rs1.number offset) (register rs2.number)) Empty
-lifted (insn.Immediate op rd rs1 imm) at = assigned rd.number (immediate op (register rs1.number) (number imm))
-lifted (insn.Shift op rd rs1 amount) at = assigned rd.number (shift op (register rs1.number) (number amount.bits))
-lifted (insn.Computation op rd rs1 rs2) at = assigned rd.number (computation op (register rs1.number) (register rs2.number))
-lifted (insn.Fence fields) at = Empty
-lifted insn.Ecall at = Raise 1 Empty
-lifted insn.Ebreak at = Raise 2 Empty
+lifted (plain.Load op rd rs1 offset) n at = assigned rd.number (loaded op (address rs1.number offset))
+lifted (plain.Store op rs1 rs2 offset) n at = Assign Mem (stored op (address rs1.number offset) (register rs2.number)) Empty
+lifted (plain.Immediate op rd rs1 imm) n at = assigned rd.number (immediate op (register rs1.number) (number imm))
+lifted (plain.Shift op rd rs1 amount) n at = assigned rd.number (shift op (register rs1.number) (number amount.bits))
+lifted (plain.Computation op rd rs1 rs2) n at = assigned rd.number (computation op (register rs1.number) (register rs2.number))
+lifted (plain.Fence fields) n at = Empty
+lifted plain.Ecall n at = Raise 1 Empty
+lifted plain.Ebreak n at = Raise 2 Empty

@@ -3,12 +3,12 @@ ghost use Rattle.std.specs.Prelude.{◌≡◌, Some, None, true, false};
 ghost use Rattle.machine_spec.specs.Machine as table;
 ghost use Rattle.machine_spec.specs.Rv.{Fields};
 ghost use Rattle.machine_law.specs.Facts.{cost_of, successors_of};
-ghost use Rattle.rv_decode.specs.Insns as insns;
+ghost use Rattle.rv_decode.specs.Plains as insns;
 ghost use Rattle.rv_decode.specs.Insns.{row_of};
 
 use machine_law::{Cost, Succ};
-use rv_decode::{Insn, LoadOp, RegisterOp};
-use rv_step::{is_link, stored_bytes};
+use rv_decode::{Insn, Plain, RegisterOp};
+use rv_step::{is_link, loaded_bytes, stored_bytes};
 
 /// Successors with a direct jump, which may not be made where `next`.
 fn direct(next: bool, to: u32, call: bool) -> Succ
@@ -38,11 +38,11 @@ fn no_direct(next: bool, indirect: bool, call: bool) -> Succ
 pub(crate) fn successors(insn: &Insn, at: u32) -> Succ
     ensures { successors_of result ≡ (row_of insn.now).successors at }
 {
-    match *insn {
-        Insn::Jal { rd, offset } => direct(false, at.wrapping_add(offset), is_link(rd)),
-        Insn::Jalr { rd, .. } => no_direct(false, true, is_link(rd)),
-        Insn::Branch { offset, .. } => direct(true, at.wrapping_add(offset), false),
-        Insn::Ecall | Insn::Ebreak => no_direct(false, false, false),
+    match insn.plain {
+        Plain::Jal { rd, offset } => direct(false, at.wrapping_add(offset), is_link(rd)),
+        Plain::Jalr { rd, .. } => no_direct(false, true, is_link(rd)),
+        Plain::Branch { offset, .. } => direct(true, at.wrapping_add(offset), false),
+        Plain::Ecall | Plain::Ebreak => no_direct(false, false, false),
         _ => no_direct(true, false, false),
     }
 }
@@ -51,8 +51,8 @@ pub(crate) fn successors(insn: &Insn, at: u32) -> Succ
 pub(crate) fn pair(before: &Insn, insn: &Insn, at: u32) -> Option<u32>
     ensures { result ≡ table.pair_of (Some (row_of before.now)) (Some (row_of insn.now)) at }
 {
-    match (*before, *insn) {
-        (Insn::Auipc { rd, imm }, Insn::Jalr { rs1, offset, .. }) => {
+    match (before.plain, insn.plain) {
+        (Plain::Auipc { rd, imm }, Plain::Jalr { rs1, offset, .. }) => {
             if rd.number() == rs1.number() {
                 let sum = at.wrapping_sub(4).wrapping_add(imm).wrapping_add(offset);
                 Some(sum - sum % 2)
@@ -61,17 +61,6 @@ pub(crate) fn pair(before: &Insn, insn: &Insn, at: u32) -> Option<u32>
             }
         }
         _ => None,
-    }
-}
-
-/// How many bytes a load reads.
-fn loaded_bytes(op: LoadOp) -> u64
-    ensures { result ≡ insns.loaded_bytes op }
-{
-    match op {
-        LoadOp::Lb | LoadOp::Lbu => 1,
-        LoadOp::Lh | LoadOp::Lhu => 2,
-        LoadOp::Lw => 4,
     }
 }
 
@@ -107,14 +96,24 @@ fn computation_cost(op: RegisterOp) -> Cost
 pub(crate) fn cost(insn: &Insn) -> Cost
     ensures { cost_of result ≡ (row_of insn.now).cost }
 {
-    match *insn {
-        Insn::Load { op, .. } => loading(1024, loaded_bytes(op)),
-        Insn::Store { op, .. } => Cost {
+    match insn.plain {
+        Plain::Load { op, .. } => loading(1024, loaded_bytes(op) as u64),
+        Plain::Store { op, .. } => Cost {
             row: 1024,
             loads: 0,
             stores: stored_bytes(op) as u64,
         },
-        Insn::Computation { op, .. } => computation_cost(op),
+        Plain::Computation { op, .. } => computation_cost(op),
         _ => loading(1024, 0),
+    }
+}
+
+/// Whether an instruction keeps the address after it in x1 where it calls.
+pub(crate) fn links(insn: &Insn) -> bool
+    ensures { result ≡ (row_of insn.now).links }
+{
+    match insn.plain {
+        Plain::Jal { rd, .. } | Plain::Jalr { rd, .. } => rd.number() == 1,
+        _ => false,
     }
 }

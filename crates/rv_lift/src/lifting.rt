@@ -1,6 +1,8 @@
 //! The list of each instruction.
-ghost use Rattle.std.specs.Prelude.{◌≡◌, IfOk};
+ghost use Rattle.std.specs.Prelude.{◌≡◌, ℕ, IfOk};
+ghost use Rattle.word_spec.specs.Words.{add};
 ghost use Rattle.bil_ast.specs.Views.{statements};
+ghost use Rattle.rv_decode.specs.Insns.{length_by};
 ghost use Rattle.rv_lift.specs.Lifted.{lifted};
 ghost use Rattle.rv_lift.specs.Fits.{HasWords};
 
@@ -9,30 +11,39 @@ use crate::expressions::{
 };
 use crate::statements::{assigned, jump_and_link, jump_if, one};
 use bil_ast::{BinaryOp, Exp, Stmt, Var};
-use rv_decode::Insn;
+use rv_decode::{Insn, Plain};
 use std::alloc::{AllocError, Global};
 
 /// The list of an instruction that stands at an address. The error is want of memory.
 ///
 /// The numbers of an instruction are words of 32 bits, as the typing of its constants needs.
 pub(crate) fn list_of(alloc: Global, insn: &Insn, at: u32) -> Result<Vec<Stmt>, AllocError>
-    ensures list { IfOk result (λ list. statements list.items ≡ lifted insn.now at) }
-    ensures words { HasWords insn.now }
+    ensures list { IfOk result (λ list. statements list.items ≡ lifted insn.now.plain (length_by insn.now.half 4) at) }
+    ensures words { HasWords insn.now.plain }
 {
-    let behind = at.wrapping_add(4);
-    match *insn {
-        Insn::Lui { rd, imm } => assigned(alloc, rd, number(imm)),
-        Insn::Auipc { rd, imm } => assigned(alloc, rd, number(at.wrapping_add(imm))),
-        Insn::Jal { rd, offset } => {
+    let behind = at.wrapping_add(u32::from(insn.length()));
+    let list = list_of_plain(alloc, insn.plain, at, behind)?;
+    Ok(list)
+}
+
+/// The list of an instruction, by the address behind it.
+fn list_of_plain(alloc: Global, plain: Plain, at: u32, behind: u32) -> Result<Vec<Stmt>, AllocError>
+    ensures list { (n : ℕ) → behind ≡ add 32 at n → IfOk result (λ list. statements list.items ≡ lifted plain n at) }
+    ensures words { HasWords plain }
+{
+    match plain {
+        Plain::Lui { rd, imm } => assigned(alloc, rd, number(imm)),
+        Plain::Auipc { rd, imm } => assigned(alloc, rd, number(at.wrapping_add(imm))),
+        Plain::Jal { rd, offset } => {
             let target = number(at.wrapping_add(offset));
             jump_and_link(alloc, target, rd, behind)
         }
-        Insn::Jalr { rd, rs1, offset } => {
+        Plain::Jalr { rd, rs1, offset } => {
             let sum = address(alloc, rs1, offset)?;
             let target = Exp::binary(alloc, BinaryOp::And, sum, number(0xFFFF_FFFE))?;
             jump_and_link(alloc, target, rd, behind)
         }
-        Insn::Branch {
+        Plain::Branch {
             op,
             rs1,
             rs2,
@@ -41,7 +52,7 @@ pub(crate) fn list_of(alloc: Global, insn: &Insn, at: u32) -> Result<Vec<Stmt>, 
             let condition = test(alloc, op, register(rs1), register(rs2))?;
             jump_if(alloc, condition, number(at.wrapping_add(offset)))
         }
-        Insn::Load {
+        Plain::Load {
             op,
             rd,
             rs1,
@@ -51,7 +62,7 @@ pub(crate) fn list_of(alloc: Global, insn: &Insn, at: u32) -> Result<Vec<Stmt>, 
             let value = loaded(alloc, op, from)?;
             assigned(alloc, rd, value)
         }
-        Insn::Store {
+        Plain::Store {
             op,
             rs1,
             rs2,
@@ -61,11 +72,11 @@ pub(crate) fn list_of(alloc: Global, insn: &Insn, at: u32) -> Result<Vec<Stmt>, 
             let memory = stored(alloc, op, to, register(rs2))?;
             one(alloc, Stmt::Assign(Var::Memory, memory))
         }
-        Insn::Immediate { op, rd, rs1, imm } => {
+        Plain::Immediate { op, rd, rs1, imm } => {
             let value = immediate(alloc, op, register(rs1), number(imm))?;
             assigned(alloc, rd, value)
         }
-        Insn::Shift {
+        Plain::Shift {
             op,
             rd,
             rs1,
@@ -75,12 +86,12 @@ pub(crate) fn list_of(alloc: Global, insn: &Insn, at: u32) -> Result<Vec<Stmt>, 
             let value = shift(alloc, op, register(rs1), by)?;
             assigned(alloc, rd, value)
         }
-        Insn::Computation { op, rd, rs1, rs2 } => {
+        Plain::Computation { op, rd, rs1, rs2 } => {
             let value = computation(alloc, op, register(rs1), register(rs2))?;
             assigned(alloc, rd, value)
         }
-        Insn::Fence { .. } => Ok(Vec::new(alloc)),
-        Insn::Ecall => one(alloc, Stmt::Raise(1)),
-        Insn::Ebreak => one(alloc, Stmt::Raise(2)),
+        Plain::Fence { .. } => Ok(Vec::new(alloc)),
+        Plain::Ecall => one(alloc, Stmt::Raise(1)),
+        Plain::Ebreak => one(alloc, Stmt::Raise(2)),
     }
 }

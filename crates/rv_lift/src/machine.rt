@@ -12,11 +12,11 @@ use rv_step::State;
 use state_text::{Layout, Start};
 use std::alloc::{AllocError, Global};
 
-/// RV32IM.
-pub struct Rv32;
+/// RV32IM, with the compressed instructions where `RVC` is not 0 (RV32IMC).
+pub struct Rv32<const RVC: u8>;
 
-impl Machine for Rv32 {
-    ghost use Rattle.machine_spec.specs.Rv.{rv32};
+impl<const RVC: u8> Machine for Rv32<RVC> {
+    ghost use Rattle.machine_spec.specs.RvMachine.{rv32};
     ghost use Rattle.machine_spec.specs.Bil.{XRegisters};
     ghost use Rattle.machine_spec.specs.StateText.{rv_layout};
     ghost use Rattle.rv_decode.specs.Insns.{row_of};
@@ -24,25 +24,25 @@ impl Machine for Rv32 {
     ghost use Rattle.rv_step.specs.States.{spare_of};
     ghost use Rattle.std.specs.Prelude.{refl};
     ghost use Rattle.machine_spec.proofs.Fitted.{rv_is_fitted};
-    ghost use Rattle.machine_spec.proofs.RvLawful.{rv_is_lawful};
-    ghost use Rattle.rv_lift.specs.Laws.{four_bytes};
+    ghost use Rattle.machine_spec.proofs.RvNarrow.{rv_is_lawful};
+    ghost use Rattle.rv_lift.specs.Flags.{is_on};
 
     type Insn = Insn;
 
     type State = State;
 
-    ghost machine = { rv32 };
+    ghost machine = { rv32 (is_on RVC) };
 
     ghost bank = { XRegisters };
 
-    ghost form = { rv_layout };
+    ghost form = { rv_layout (is_on RVC) };
 
     ghost row = { row_of };
 
     ghost spare = { spare_of };
 
     fn decode(word: u32) -> Option<Insn> {
-        rv_decode::decode(word)
+        rv_decode::decode(word, RVC != 0)
     }
 
     fn step(insn: &Insn, state: &mut State, choice: u8) -> StepOut {
@@ -51,6 +51,10 @@ impl Machine for Rv32 {
 
     fn stored(insn: &Insn, state: &State) -> Option<(u32, u8)> {
         rv_step::stored(insn, state)
+    }
+
+    fn loaded(insn: &Insn, state: &State) -> Option<(u32, u8)> {
+        rv_step::loaded(insn, state)
     }
 
     fn lift(alloc: Global, insn: &Insn, at: u32) -> Result<Vec<Stmt>, AllocError> {
@@ -85,12 +89,22 @@ impl Machine for Rv32 {
         false
     }
 
+    fn links(insn: &Insn) -> bool {
+        facts::links(insn)
+    }
+
+    fn width(first: u16) -> u8 {
+        if RVC != 0 && first % 4 != 3 { 2 } else { 4 }
+    }
+
     fn link() -> u8 {
         1
     }
 
     fn layout() -> Layout {
-        Layout::Rv32
+        Layout::Rv32 {
+            compressed: RVC != 0,
+        }
     }
 
     fn make(start: &Start, pc: u32, memory: Bytes32) -> State {
@@ -105,15 +119,17 @@ impl Machine for Rv32 {
         state.reserve(n)
     }
 
-    ghost lawful = { rv_is_lawful };
+    fn put(state: &mut State, at: u32, byte: u8) {
+        state.put(at, byte)
+    }
+
+    ghost lawful = { rv_is_lawful (is_on RVC) };
 
     ghost states = { in_range };
-
-    ghost four_bytes = { four_bytes };
 
     ghost same_link = { refl };
 
     ghost same_registers = { refl };
 
-    ghost fitted = { rv_is_fitted };
+    ghost fitted = { rv_is_fitted (is_on RVC) };
 }

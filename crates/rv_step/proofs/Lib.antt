@@ -1,3 +1,4 @@
 pub mod Products
 pub mod Ranges
 pub mod X0
+pub mod Shortened

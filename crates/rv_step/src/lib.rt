@@ -1,4 +1,4 @@
-//! What each row of RV32IM does in a state (RISC-V Unprivileged ISA 20191213, chapters 2 and 7).
+//! What each row of RV32IM and RV32IMC does in a state (RISC-V Unprivileged ISA 20191213, chapters 2, 7 and 16).
 #![tactic(auto)]
 
 mod registers;
@@ -7,5 +7,5 @@ mod steps;
 mod values;
 
 pub use state::State;
-pub use steps::{is_link, step, stored};
-pub use values::stored_bytes;
+pub use steps::{is_link, loaded, step, stored};
+pub use values::{loaded_bytes, stored_bytes};

@@ -19,14 +19,15 @@ pub struct State {
 }
 
 impl View for State {
-    ghost use Rattle.machine_spec.specs.Rv.{rv32};
+    ghost use Rattle.machine_spec.specs.RvMachine.{rv32};
+    ghost use Rattle.std.specs.Prelude.{false};
     ghost use Rattle.rv_step.specs.States.{state_of};
 
     ghost view = { state_of };
 
-    ghost link_register = { rv32.link };
+    ghost link_register = { (rv32 false).link };
 
-    ghost has_register = { rv32.has_register };
+    ghost has_register = { (rv32 false).has_register };
 
     fn reg(&self, r: u8) -> u32 {
         self.registers.read(r)
@@ -53,6 +54,7 @@ impl State {
     ghost use Rattle.std.specs.Prelude.{◌≡◌, ◌≤◌, ◌+◌, ◌∷◌, length, OnOk, OnErr, IfOk};
     ghost use Rattle.word_spec.specs.Memory.{Little, store};
     ghost use Rattle.word_spec.specs.State.{with_pc};
+    ghost use Rattle.machine_spec.specs.MachineLaws.{with_memory};
     ghost use Rattle.machine_spec.specs.Rv.{reg, with_reg};
     ghost use Rattle.word_spec.specs.Words.{add};
     ghost use Rattle.rv_step.specs.RegisterFile.{registers_of};
@@ -116,6 +118,27 @@ impl State {
         })
     }
 
+    /// Changes the byte at an address; there has to be room for it.
+    pub fn put(&mut self, at: u32, byte: u8)
+        requires { 1 ≤ spare_of self.old }
+        ensures state { state_of self.new ≡ with_memory (state_of self.old) (store Little 1 (state_of self.old).mem at byte) }
+        ensures spare { spare_of self.old ≤ spare_of self.new + 1 }
+    {
+        self.store(at, 1, u32::from(byte));
+    }
+
+    /// Stores the low `n` bytes of a word.
+    fn store(&mut self, a: u32, n: u8, value: u32)
+        requires some { 1 ≤ n }
+        requires few { n ≤ 4 }
+        requires room { n ≤ spare_of self.old }
+        ensures state { state_of self.new ≡ with_memory (state_of self.old) (store Little n (state_of self.old).mem a value) }
+        ensures spare { spare_of self.old ≤ spare_of self.new + n }
+    {
+        let low = Word::new(32, value as u64).low(8 * n);
+        self.memory.store_reserved(a, n, Endian::Little, low);
+    }
+
     /// The memory.
     pub fn memory(&self) -> &Bytes32
         ensures { memory_of result.now.entries ≡ (state_of self.now).mem }
@@ -131,13 +154,13 @@ impl State {
         self.registers.read(r.number())
     }
 
-    /// Goes on to the next address.
-    pub(crate) fn go_on(&mut self) -> StepOut
+    /// Goes on to the address behind the instruction, which has a length in bytes.
+    pub(crate) fn go_on(&mut self, length: u8) -> StepOut
         ensures out { result ≡ StepOut.Next }
-        ensures state { state_of self.new ≡ with_pc (state_of self.old) (add 32 (state_of self.old).pc 4) }
+        ensures state { state_of self.new ≡ with_pc (state_of self.old) (add 32 (state_of self.old).pc length) }
         ensures spare { spare_of self.new ≡ spare_of self.old }
     {
-        self.pc = self.pc.wrapping_add(4);
+        self.pc = self.pc.wrapping_add(u32::from(length));
         StepOut::Next
     }
 
@@ -151,39 +174,38 @@ impl State {
         StepOut::Jump { to, how }
     }
 
-    /// Sets a register, and goes on to the next address.
-    pub(crate) fn set_and_go_on(&mut self, rd: Register, value: u32) -> StepOut
+    /// Sets a register, and goes on to the address behind.
+    pub(crate) fn set_and_go_on(&mut self, rd: Register, value: u32, length: u8) -> StepOut
         ensures out { result ≡ StepOut.Next }
-        ensures state { state_of self.new ≡ with_pc (with_reg (state_of self.old) rd.number value) (add 32 (state_of self.old).pc 4) }
+        ensures state { state_of self.new ≡ with_pc (with_reg (state_of self.old) rd.number value) (add 32 (state_of self.old).pc length) }
         ensures spare { spare_of self.new ≡ spare_of self.old }
     {
         self.set(rd, value);
-        self.go_on()
+        self.go_on(length)
     }
 
     /// Sets a register to the address behind, and jumps.
-    pub(crate) fn link_and_jump(&mut self, rd: Register, to: u32, how: How) -> StepOut
+    pub(crate) fn link_and_jump(&mut self, rd: Register, to: u32, how: How, length: u8) -> StepOut
         ensures out { result ≡ StepOut.Jump to how }
-        ensures state { state_of self.new ≡ with_pc (with_reg (state_of self.old) rd.number (add 32 (state_of self.old).pc 4)) to }
+        ensures state { state_of self.new ≡ with_pc (with_reg (state_of self.old) rd.number (add 32 (state_of self.old).pc length)) to }
         ensures spare { spare_of self.new ≡ spare_of self.old }
     {
-        let behind = self.pc.wrapping_add(4);
+        let behind = self.pc.wrapping_add(u32::from(length));
         self.set(rd, behind);
         self.jump(to, how)
     }
 
-    /// Stores the low `n` bytes of a word, and goes on to the next address.
-    pub(crate) fn store_and_go_on(&mut self, a: u32, n: u8, value: u32) -> StepOut
+    /// Stores the low `n` bytes of a word, and goes on to the address behind.
+    pub(crate) fn store_and_go_on(&mut self, a: u32, n: u8, value: u32, length: u8) -> StepOut
         requires some { 1 ≤ n }
         requires few { n ≤ 4 }
         requires room { n ≤ spare_of self.old }
         ensures out { result ≡ StepOut.Next }
         ensures state { state_of self.new ≡ with_pc (record (state_of self.old) { mem = store Little n (state_of self.old).mem a value })
-            (add 32 (state_of self.old).pc 4) }
+            (add 32 (state_of self.old).pc length) }
         ensures spare { spare_of self.old ≤ spare_of self.new + n }
     {
-        let low = Word::new(32, value as u64).low(8 * n);
-        self.memory.store_reserved(a, n, Endian::Little, low);
-        self.go_on()
+        self.store(a, n, value);
+        self.go_on(length)
     }
 }

@@ -1,15 +1,17 @@
 //! Steps.
-ghost use Rattle.std.specs.Prelude.{◌≡◌, ◌≤◌, ◌+◌, ◌-◌, ◌%◌};
+ghost use Rattle.std.specs.Prelude.{◌≡◌, ◌≤◌, ◌+◌, ◌-◌, ◌%◌, ℕ, Option, Some};
 ghost use Rattle.machine_spec.specs.Machine as machine;
-ghost use Rattle.machine_spec.specs.Rv.{links, direct_by, indirect_by};
+ghost use Rattle.machine_spec.specs.Rv.{links, direct_by, indirect_by, rv_row};
+ghost use Rattle.machine_spec.specs.RvShort.{expansion, shortened};
 ghost use Rattle.byte_mem.specs.Views.{how_of, IsStep};
-ghost use Rattle.rv_decode.specs.Insns.{row_of};
+ghost use Rattle.rv_decode.specs.Halves.{IsOfHalf};
+ghost use Rattle.rv_decode.specs.Insns.{length_by, row_by, row_of};
 ghost use Rattle.rv_step.specs.States.{state_of, spare_of};
 
 use crate::state::State;
-use crate::values::{computation, immediate, loaded, shift, stored_bytes, test};
+use crate::values::{computation, immediate, load, loaded_bytes, shift, stored_bytes, test};
 use byte_mem::{How, StepOut, View};
-use rv_decode::{Insn, Register};
+use rv_decode::{Insn, Plain, Register};
 
 /// Whether a jump that sets this register is a call (section 2.5).
 pub fn is_link(rd: Register) -> bool
@@ -48,26 +50,40 @@ fn even(a: u32) -> u32
 }
 
 /// The instruction's effect on the state. Of the choice no row of this machine makes use. It takes no memory.
+///
+/// An instruction of 2 bytes does what the row of its expansion does, but that the address behind it is 2 bytes on.
 pub fn step(insn: &Insn, state: &mut State, choice: u8) -> StepOut
     requires { 64 ≤ spare_of state.old }
     ensures step { IsStep (state_of state.old) (state_of state.new) result ((row_of insn.now).effect (state_of state.old) choice) }
+    ensures short { (h w : ℕ) (row : machine.Row) → insn.now.half ≡ Some h → expansion h ≡ Some w → rv_row w ≡ Some row →
+        IsStep (state_of state.old) (state_of state.new) result (shortened (state_of state.old) (row.effect (state_of state.old) choice)) }
     ensures spare { spare_of state.old ≤ spare_of state.new + 4 }
 {
-    match *insn {
-        Insn::Lui { rd, imm } => state.set_and_go_on(rd, imm),
-        Insn::Auipc { rd, imm } => {
+    step_plain(insn.plain, state, insn.length())
+}
+
+/// What the instruction does but for its length, which is given in bytes.
+fn step_plain(plain: Plain, state: &mut State, length: u8) -> StepOut
+    requires { 64 ≤ spare_of state.old }
+    ensures step { (half : Option ℕ) (choice : ℕ) → length ≡ length_by half 4 → IsOfHalf plain half →
+        IsStep (state_of state.old) (state_of state.new) result ((row_by plain half).effect (state_of state.old) choice) }
+    ensures spare { spare_of state.old ≤ spare_of state.new + 4 }
+{
+    match plain {
+        Plain::Lui { rd, imm } => state.set_and_go_on(rd, imm, length),
+        Plain::Auipc { rd, imm } => {
             let value = state.pc().wrapping_add(imm);
-            state.set_and_go_on(rd, value)
+            state.set_and_go_on(rd, value, length)
         }
-        Insn::Jal { rd, offset } => {
+        Plain::Jal { rd, offset } => {
             let to = state.pc().wrapping_add(offset);
-            state.link_and_jump(rd, to, direct(rd))
+            state.link_and_jump(rd, to, direct(rd), length)
         }
-        Insn::Jalr { rd, rs1, offset } => {
+        Plain::Jalr { rd, rs1, offset } => {
             let to = even(state.read(rs1).wrapping_add(offset));
-            state.link_and_jump(rd, to, indirect(rd))
+            state.link_and_jump(rd, to, indirect(rd), length)
         }
-        Insn::Branch {
+        Plain::Branch {
             op,
             rs1,
             rs2,
@@ -77,20 +93,20 @@ pub fn step(insn: &Insn, state: &mut State, choice: u8) -> StepOut
                 let to = state.pc().wrapping_add(offset);
                 state.jump(to, How::Direct)
             } else {
-                state.go_on()
+                state.go_on(length)
             }
         }
-        Insn::Load {
+        Plain::Load {
             op,
             rd,
             rs1,
             offset,
         } => {
             let address = state.read(rs1).wrapping_add(offset);
-            let value = loaded(op, state.memory(), address);
-            state.set_and_go_on(rd, value)
+            let value = load(op, state.memory(), address);
+            state.set_and_go_on(rd, value, length)
         }
-        Insn::Store {
+        Plain::Store {
             op,
             rs1,
             rs2,
@@ -98,28 +114,28 @@ pub fn step(insn: &Insn, state: &mut State, choice: u8) -> StepOut
         } => {
             let address = state.read(rs1).wrapping_add(offset);
             let value = state.read(rs2);
-            state.store_and_go_on(address, stored_bytes(op), value)
+            state.store_and_go_on(address, stored_bytes(op), value, length)
         }
-        Insn::Immediate { op, rd, rs1, imm } => {
+        Plain::Immediate { op, rd, rs1, imm } => {
             let value = immediate(op, state.read(rs1), imm);
-            state.set_and_go_on(rd, value)
+            state.set_and_go_on(rd, value, length)
         }
-        Insn::Shift {
+        Plain::Shift {
             op,
             rd,
             rs1,
             amount,
         } => {
             let value = shift(op, state.read(rs1), amount.bits());
-            state.set_and_go_on(rd, value)
+            state.set_and_go_on(rd, value, length)
         }
-        Insn::Computation { op, rd, rs1, rs2 } => {
+        Plain::Computation { op, rd, rs1, rs2 } => {
             let value = computation(op, state.read(rs1), state.read(rs2));
-            state.set_and_go_on(rd, value)
+            state.set_and_go_on(rd, value, length)
         }
-        Insn::Fence { .. } => state.go_on(),
-        Insn::Ecall => StepOut::Trap,
-        Insn::Ebreak => StepOut::Trap,
+        Plain::Fence { .. } => state.go_on(length),
+        Plain::Ecall => StepOut::Trap,
+        Plain::Ebreak => StepOut::Trap,
     }
 }
 
@@ -127,13 +143,28 @@ pub fn step(insn: &Insn, state: &mut State, choice: u8) -> StepOut
 pub fn stored(insn: &Insn, state: &State) -> Option<(u32, u8)>
     ensures { result ≡ (row_of insn.now).stored (state_of state.now) }
 {
-    match *insn {
-        Insn::Store {
+    match insn.plain {
+        Plain::Store {
             op,
             rs1,
             offset,
             ..
         } => Some((state.read(rs1).wrapping_add(offset), stored_bytes(op))),
+        _ => None,
+    }
+}
+
+/// The first address and the number of the bytes that the instruction loads in the state.
+pub fn loaded(insn: &Insn, state: &State) -> Option<(u32, u8)>
+    ensures { result ≡ (row_of insn.now).loaded (state_of state.now) }
+{
+    match insn.plain {
+        Plain::Load {
+            op,
+            rs1,
+            offset,
+            ..
+        } => Some((state.read(rs1).wrapping_add(offset), loaded_bytes(op))),
         _ => None,
     }
 }

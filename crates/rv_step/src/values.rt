@@ -3,7 +3,7 @@ ghost use Rattle.std.specs.Prelude.{◌≡◌, ◌*◌};
 ghost use Rattle.word_spec.specs.Memory.{Little, load, memory_of};
 ghost use Rattle.machine_spec.specs.Rv as rows;
 ghost use Rattle.word_spec.specs.Words.{signed_lt};
-ghost use Rattle.rv_decode.specs.Insns as insns;
+ghost use Rattle.rv_decode.specs.Plains as insns;
 
 use bv_word::Word;
 use byte_mem::{Bytes32, Endian};
@@ -107,7 +107,7 @@ pub(crate) fn computation(op: RegisterOp, a: u32, b: u32) -> u32
 }
 
 /// What a load makes of the bytes at an address.
-pub(crate) fn loaded(op: LoadOp, memory: &Bytes32, a: u32) -> u32
+pub(crate) fn load(op: LoadOp, memory: &Bytes32, a: u32) -> u32
     ensures { result ≡ insns.extended op (load Little (insns.loaded_bytes op) (memory_of memory.now.entries) a) }
 {
     match op {
@@ -127,5 +127,16 @@ pub fn stored_bytes(op: StoreOp) -> u8
         StoreOp::Sb => 1,
         StoreOp::Sh => 2,
         StoreOp::Sw => 4,
+    }
+}
+
+/// How many bytes a load reads.
+pub fn loaded_bytes(op: LoadOp) -> u8
+    ensures { result ≡ insns.loaded_bytes op }
+{
+    match op {
+        LoadOp::Lb | LoadOp::Lbu => 1,
+        LoadOp::Lh | LoadOp::Lhu => 2,
+        LoadOp::Lw => 4,
     }
 }

@@ -38,9 +38,9 @@ pub told_named : (layout : Layout) (known : ℕ → Bool) (text first rest : Lis
 told_named layout known text first rest n e is =
     told_first layout known text first rest e ∙ ap (λ o. told_of layout known (o ∷ map (line_of layout) (split_lines rest))) is
 
--- an ARM text has four flags
+-- a text has at most four flags
 pub few_flags : (m : Machine) → length (layout_of m).flags ≤ 8
-few_flags Rv32 = omega arith
+few_flags (Rv32 compressed) = omega arith
 few_flags (Arm big profile) = omega arith
 
 -- equal parts

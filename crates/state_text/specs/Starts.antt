@@ -25,7 +25,7 @@ profile_in V5 = rows.V5
 
 -- the layout
 abbrev pub layout_of : Layout → texts.Layout
-layout_of Rv32 = texts.rv_layout
+layout_of (Rv32 compressed) = texts.rv_layout compressed
 layout_of (Arm big profile) = texts.arm_layout (endian big) (profile_in profile)
 
 -- the event

@@ -32,7 +32,10 @@ impl Profile {
 /// The machine of a text: RV32IM, or ARM in a byte order and a profile.
 #[derive(Clone, Copy, PartialEq, Eq, Debug)]
 pub enum Layout {
-    Rv32,
+    Rv32 {
+        /// Whether it has the compressed instructions (RV32IMC).
+        compressed: bool,
+    },
     Arm {
         /// Whether the byte order is big; else it is little.
         big: bool,
@@ -53,6 +56,13 @@ const ARM_NAMES: [&[u8]; 19] = [
     b"r13", b"r14", b"N", b"Z", b"C", b"V",
 ];
 
+/// What the text calls RV32IM.
+fn rv_name(compressed: bool) -> &'static [u8]
+    ensures { result.now ≡ texts.rv_name compressed }
+{
+    if compressed { b"rv32imc" } else { b"rv32im" }
+}
+
 /// What the text calls ARM.
 fn arm_name(big: bool, profile: Profile) -> &'static [u8]
     ensures { result.now ≡ texts.arm_name (endian big) (profile_in profile) }
@@ -70,7 +80,7 @@ impl Layout {
         ensures { result.now ≡ (layout_of self).machine }
     {
         match self {
-            Layout::Rv32 => b"rv32im",
+            Layout::Rv32 { compressed } => rv_name(compressed),
             Layout::Arm { big, profile } => arm_name(big, profile),
         }
     }
@@ -80,7 +90,7 @@ impl Layout {
         ensures { map (λ name. name.now) result.now ≡ value_names (layout_of self) }
     {
         match self {
-            Layout::Rv32 => &RV_NAMES,
+            Layout::Rv32 { .. } => &RV_NAMES,
             Layout::Arm { .. } => &ARM_NAMES,
         }
     }
@@ -90,7 +100,7 @@ impl Layout {
         ensures { result ≡ length (layout_of self).registers }
     {
         match self {
-            Layout::Rv32 => 31,
+            Layout::Rv32 { .. } => 31,
             Layout::Arm { .. } => 15,
         }
     }
@@ -101,7 +111,7 @@ impl Layout {
         ensures count { result.1 ≡ length (layout_of self).registers }
     {
         match self {
-            Layout::Rv32 => (1, 31),
+            Layout::Rv32 { .. } => (1, 31),
             Layout::Arm { .. } => (0, 15),
         }
     }
@@ -111,7 +121,7 @@ impl Layout {
         ensures { result ≡ length (layout_of self).flags }
     {
         match self {
-            Layout::Rv32 => 0,
+            Layout::Rv32 { .. } => 0,
             Layout::Arm { .. } => 4,
         }
     }
@@ -121,7 +131,7 @@ impl Layout {
         ensures { result ≡ lines_of_head (layout_of self) }
     {
         match self {
-            Layout::Rv32 => 33,
+            Layout::Rv32 { .. } => 33,
             Layout::Arm { .. } => 21,
         }
     }
