@@ -9,17 +9,17 @@ use Rattle.machine_spec.specs.Arm as rows
 use Rattle.word_spec.specs.Profiles.{Profile}
 use Rattle.machine_spec.specs.Arm.{Instruction, table, row_in, arm_row, condition_code}
 use Rattle.machine_spec.proofs.ArmTable.{one_row}
-use Rattle.arm_decode.specs.declared.classes.Computing as computing
-use Rattle.arm_decode.specs.declared.classes.Multiply as multiply
-use Rattle.arm_decode.specs.declared.classes.MultiplyLong as multiply_long
-use Rattle.arm_decode.specs.declared.classes.Swap as swap
-use Rattle.arm_decode.specs.declared.classes.Transfer as transfer
-use Rattle.arm_decode.specs.declared.classes.Halfword as halfword
-use Rattle.arm_decode.specs.declared.classes.Block as block
-use Rattle.arm_decode.specs.declared.classes.Branch as branch
-use Rattle.arm_decode.specs.declared.classes.SoftwareInterrupt as interrupt
-use Rattle.arm_decode.specs.declared.classes.Exchange as exchange
-use Rattle.arm_decode.specs.declared.classes.Count as count
+use Rattle.arm_decode.specs.declared.data.Computing as computing
+use Rattle.arm_decode.specs.declared.multiplies.Multiply as multiply
+use Rattle.arm_decode.specs.declared.long_multiplies.MultiplyLong as multiply_long
+use Rattle.arm_decode.specs.declared.swaps.Swap as swap
+use Rattle.arm_decode.specs.declared.transfers.Transfer as transfer
+use Rattle.arm_decode.specs.declared.halfwords.Halfword as halfword
+use Rattle.arm_decode.specs.declared.blocks.Block as block
+use Rattle.arm_decode.specs.declared.branches.Branch as branch
+use Rattle.arm_decode.specs.declared.interrupts.SoftwareInterrupt as interrupt
+use Rattle.arm_decode.specs.declared.exchanges.Exchange as exchange
+use Rattle.arm_decode.specs.declared.counts.Count as count
 use Rattle.arm_decode.specs.declared.insn.Insn.{Insn}
 use Rattle.arm_decode.specs.declared.insn.Insn.TheVariants.{Computing, Multiply, MultiplyLong, Swap, Transfer, Halfword, Block, Branch, SoftwareInterrupt, Exchange, Count}
 use Rattle.arm_decode.specs.Insns.{word_of, row_of, IsOfProfile}

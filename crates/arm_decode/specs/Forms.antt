@@ -3,15 +3,15 @@ use Rattle.std.specs.Prelude.{ℕ, ◌≡◌, ◌*◌, true, false, Option, Some
 use Rattle.word_spec.specs.Words.{bits, sign_extend}
 use Rattle.machine_spec.specs.Arm.{field_n, field_d, field_s, field_m, has_bit, is_pre, is_up, is_byte, bit_w, accumulates, is_load, opcode, sets_flags, is_linked}
 use Rattle.arm_decode.specs.declared.register.Register.{Register}
-use Rattle.arm_decode.specs.declared.forms.ComputingFields.{ComputingFields}
-use Rattle.arm_decode.specs.declared.forms.MultiplyFields.{MultiplyFields}
-use Rattle.arm_decode.specs.declared.forms.MultiplyLongFields.{MultiplyLongFields}
-use Rattle.arm_decode.specs.declared.forms.SwapFields.{SwapFields}
-use Rattle.arm_decode.specs.declared.forms.TransferFields.{TransferFields}
-use Rattle.arm_decode.specs.declared.forms.HalfwordFields.{HalfwordFields}
-use Rattle.arm_decode.specs.declared.forms.BlockFields.{BlockFields}
-use Rattle.arm_decode.specs.declared.forms.BranchFields.{BranchFields}
-use Rattle.arm_decode.specs.declared.forms.CountFields.{CountFields}
+use Rattle.arm_decode.specs.declared.data.ComputingFields.{ComputingFields}
+use Rattle.arm_decode.specs.declared.multiplies.MultiplyFields.{MultiplyFields}
+use Rattle.arm_decode.specs.declared.long_multiplies.MultiplyLongFields.{MultiplyLongFields}
+use Rattle.arm_decode.specs.declared.swaps.SwapFields.{SwapFields}
+use Rattle.arm_decode.specs.declared.transfers.TransferFields.{TransferFields}
+use Rattle.arm_decode.specs.declared.halfwords.HalfwordFields.{HalfwordFields}
+use Rattle.arm_decode.specs.declared.blocks.BlockFields.{BlockFields}
+use Rattle.arm_decode.specs.declared.branches.BranchFields.{BranchFields}
+use Rattle.arm_decode.specs.declared.counts.CountFields.{CountFields}
 use Rattle.arm_decode.specs.Parts.{opcode_number, HasOperand, HasAddressing, HasOffset, HasHalfwordOffset, HasHalfwordOp}
 
 -- data processing

@@ -1,5 +1,5 @@
 -- The numbers that words have for parts of instructions.
-use Rattle.std.specs.Prelude.{ℕ, ◌≡◌, ◌+◌, ◌*◌, true, false}
+use Rattle.std.specs.Prelude.{ℕ, zero, suc, ◌≡◌, ◌+◌, ◌*◌, ◌==◌, Bool, true, false}
 use Rattle.word_spec.specs.Words.{bits}
 use Rattle.machine_spec.specs.Arm.{field_s, field_m, has_bit, bit_i, is_pre, is_up, is_load, writes_back, kind_of, amount_of, has_offset}
 use Rattle.arm_decode.specs.declared.parts.Condition.{Condition}
@@ -99,3 +99,92 @@ HasHalfwordOp w Ldrh = (is_load w ≡ true) × (kind_of w ≡ 1)
 HasHalfwordOp w Ldrsb = (is_load w ≡ true) × (kind_of w ≡ 2)
 HasHalfwordOp w Ldrsh = (is_load w ≡ true) × (kind_of w ≡ 3)
 HasHalfwordOp w Strh = (is_load w ≡ false) × (kind_of w ≡ 1)
+
+-- a logical opcode
+abbrev pub is_logical : Opcode → Bool
+is_logical And = true
+is_logical Eor = true
+is_logical Sub = false
+is_logical Rsb = false
+is_logical Add = false
+is_logical Adc = false
+is_logical Sbc = false
+is_logical Rsc = false
+is_logical Tst = true
+is_logical Teq = true
+is_logical Cmp = false
+is_logical Cmn = false
+is_logical Orr = true
+is_logical Mov = true
+is_logical Bic = true
+is_logical Mvn = true
+
+-- an opcode that adds the carry
+abbrev pub adds_carry : Opcode → Bool
+adds_carry And = false
+adds_carry Eor = false
+adds_carry Sub = false
+adds_carry Rsb = false
+adds_carry Add = false
+adds_carry Adc = true
+adds_carry Sbc = true
+adds_carry Rsc = true
+adds_carry Tst = false
+adds_carry Teq = false
+adds_carry Cmp = false
+adds_carry Cmn = false
+adds_carry Orr = false
+adds_carry Mov = false
+adds_carry Bic = false
+adds_carry Mvn = false
+
+-- an opcode that writes no register
+abbrev pub is_test : Opcode → Bool
+is_test And = false
+is_test Eor = false
+is_test Sub = false
+is_test Rsb = false
+is_test Add = false
+is_test Adc = false
+is_test Sbc = false
+is_test Rsc = false
+is_test Tst = true
+is_test Teq = true
+is_test Cmp = true
+is_test Cmn = true
+is_test Orr = false
+is_test Mov = false
+is_test Bic = false
+is_test Mvn = false
+
+-- the shift of a kind by a number leaves the carry
+abbrev pub keeps_by_number : ShiftKind → ℕ → Bool
+keeps_by_number Lsl n = n == 0
+keeps_by_number Lsr n = false
+keeps_by_number Asr n = false
+keeps_by_number Ror n = false
+
+-- the carry is the flag C, whatever the registers are
+abbrev pub keeps_carry : operands.Operand → Bool
+keeps_carry (operand.Number byte rotation) = rotation == 0
+keeps_carry (operand.ByNumber r kind amount) = keeps_by_number kind amount.bits
+keeps_carry (operand.ByRegister r kind amount) = false
+
+-- the shift of a kind by a number is a rotation through the carry
+abbrev pub through_carry : ShiftKind → ℕ → Bool
+through_carry Lsl n = false
+through_carry Lsr n = false
+through_carry Asr n = false
+through_carry Ror n = n == 0
+
+-- the operand is a rotation through the carry
+abbrev pub is_rrx : operands.Operand → Bool
+is_rrx (operand.Number byte rotation) = false
+is_rrx (operand.ByNumber r kind amount) = through_carry kind amount.bits
+is_rrx (operand.ByRegister r kind amount) = false
+
+-- the operand is shifted by a register
+abbrev pub is_by_register : operands.Operand → Bool
+is_by_register (operand.Number byte rotation) = false
+is_by_register (operand.ByNumber q kind amount) = false
+is_by_register (operand.ByRegister q kind amount) = true

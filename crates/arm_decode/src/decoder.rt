@@ -6,13 +6,10 @@ ghost use Rattle.word_spec.specs.Memory.{Endian};
 ghost use Rattle.arm_decode.specs.declared.insn.Insn.{Insn};
 ghost use Rattle.arm_decode.specs.Insns.{word_of, row_of, IsOfProfile};
 
-use crate::classes::{
-    Block, Branch, Computing, Count, Exchange, Halfword, Multiply, MultiplyLong, SoftwareInterrupt,
-    Swap, Transfer,
-};
+use crate::class::Class;
+use crate::classes;
 use crate::fields::field;
 use crate::insn::Insn;
-use crate::tests::is_fifth;
 
 /// The instruction of a word in a profile, or `None` where the profile's table has no row for it. The profile is 0 for version 4, 1 for version 4T, and any
 /// other number for version 5.
@@ -42,39 +39,6 @@ fn decode_by_class(word: u32, profile: u8) -> Option<Insn>
     if field(word, 31, 28) == 15 {
         return None;
     }
-    let keeps = is_fifth(profile);
-    if let Some(x) = Computing::of(word) {
-        return Some(Insn::Computing(x));
-    }
-    if let Some(x) = Multiply::of(word, keeps) {
-        return Some(Insn::Multiply(x));
-    }
-    if let Some(x) = MultiplyLong::of(word, keeps) {
-        return Some(Insn::MultiplyLong(x));
-    }
-    if let Some(x) = Swap::of(word) {
-        return Some(Insn::Swap(x));
-    }
-    if let Some(x) = Transfer::of(word) {
-        return Some(Insn::Transfer(x));
-    }
-    if let Some(x) = Halfword::of(word) {
-        return Some(Insn::Halfword(x));
-    }
-    if let Some(x) = Block::of(word) {
-        return Some(Insn::Block(x));
-    }
-    if let Some(x) = Branch::of(word) {
-        return Some(Insn::Branch(x));
-    }
-    if let Some(x) = SoftwareInterrupt::of(word) {
-        return Some(Insn::SoftwareInterrupt(x));
-    }
-    if let Some(x) = Exchange::of(word, profile) {
-        return Some(Insn::Exchange(x));
-    }
-    if let Some(x) = Count::of(word, profile) {
-        return Some(Insn::Count(x));
-    }
+    classes!(find word, profile);
     None
 }

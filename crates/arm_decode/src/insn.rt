@@ -4,12 +4,20 @@ ghost use Rattle.machine_spec.specs.Arm as rows;
 ghost use Rattle.arm_decode.specs.Insns.{word_of};
 ghost use Rattle.arm_decode.specs.Parts.{condition_number};
 
-use crate::classes::{
-    Block, Branch, Computing, Count, Exchange, Halfword, Multiply, MultiplyLong, SoftwareInterrupt,
-    Swap, Transfer,
-};
+use crate::blocks::Block;
+use crate::branches::Branch;
+use crate::class::Class;
+use crate::counts::Count;
+use crate::data::Computing;
+use crate::exchanges::Exchange;
 use crate::fields::field;
+use crate::halfwords::Halfword;
+use crate::interrupts::SoftwareInterrupt;
+use crate::long_multiplies::MultiplyLong;
+use crate::multiplies::Multiply;
 use crate::parts::Condition;
+use crate::swaps::Swap;
+use crate::transfers::Transfer;
 
 /// An instruction, by its class.
 #[derive(Clone, Copy, PartialEq, Eq, Debug)]
@@ -27,25 +35,38 @@ pub enum Insn {
     Count(Count),
 }
 
+/// The classes, listed once: `classes!(match insn, x => value)` has the same value for each class, where `x` is the instruction of that class, and
+/// `classes!(find word, profile)` returns the instruction of a word.
+#[macro_export]
+macro_rules! classes {
+    (match $insn:expr, $x:ident => $value:expr) => {
+        classes!(@list match ($insn) $x ($value))
+    };
+    (find $word:expr, $profile:expr) => {
+        classes!(@list find ($word) ($profile))
+    };
+    (@list $($call:tt)*) => {
+        classes!(@ $($call)* Computing Multiply MultiplyLong Swap Transfer Halfword Block Branch SoftwareInterrupt Exchange Count)
+    };
+    (@ match ($insn:expr) $x:ident ($value:expr) $($class:ident)*) => {
+        match $insn {
+            $($crate::Insn::$class($x) => $value,)*
+        }
+    };
+    (@ find ($word:expr) ($profile:expr) $($class:ident)*) => {
+        $(if let Some(x) = $crate::$class::of($word, $profile) {
+            return Some($crate::Insn::$class(x));
+        })*
+    };
+}
+
 impl Insn {
     /// Its word.
     pub(crate) fn word(self) -> u32
         ensures same { result ≡ word_of self }
         ensures condition { rows.condition_code result ≢ 15 }
     {
-        match self {
-            Insn::Computing(x) => x.word(),
-            Insn::Multiply(x) => x.word(),
-            Insn::MultiplyLong(x) => x.word(),
-            Insn::Swap(x) => x.word(),
-            Insn::Transfer(x) => x.word(),
-            Insn::Halfword(x) => x.word(),
-            Insn::Block(x) => x.word(),
-            Insn::Branch(x) => x.word(),
-            Insn::SoftwareInterrupt(x) => x.word(),
-            Insn::Exchange(x) => x.word(),
-            Insn::Count(x) => x.word(),
-        }
+        classes!(match self, x => x.word())
     }
 
     /// Its condition.

@@ -1,6 +1,7 @@
 //! The parts of instructions.
 ghost use Rattle.std.specs.Prelude.{◌≡◌, ◌<◌, ◌/◌, ◌==◌, ℕ};
 ghost use Rattle.machine_spec.specs.Arm.{is_load, is_pre, writes_back};
+ghost use Rattle.arm_decode.specs.Parts as parts;
 ghost use Rattle.arm_decode.specs.Parts.{condition_number, opcode_number, kind_number, HasIndexing, HasHalfwordOp};
 
 use crate::register::{AnyRegister, Register, ShiftAmount};
@@ -110,10 +111,37 @@ impl Opcode {
 
     /// Whether it is one of TST, TEQ, CMP and CMN, which write no register.
     pub fn is_test(self) -> bool
-        ensures { result ≡ (opcode_number self / 4 == 2) }
+        ensures { result ≡ parts.is_test self }
     {
         match self {
             Opcode::Tst | Opcode::Teq | Opcode::Cmp | Opcode::Cmn => true,
+            _ => false,
+        }
+    }
+
+    /// Whether it is a logical one: its C is the shifter's, and it keeps V.
+    pub fn is_logical(self) -> bool
+        ensures { result ≡ parts.is_logical self }
+    {
+        match self {
+            Opcode::And
+            | Opcode::Eor
+            | Opcode::Tst
+            | Opcode::Teq
+            | Opcode::Orr
+            | Opcode::Mov
+            | Opcode::Bic
+            | Opcode::Mvn => true,
+            _ => false,
+        }
+    }
+
+    /// Whether it is one of ADC, SBC and RSC, which add the carry.
+    pub fn adds_carry(self) -> bool
+        ensures { result ≡ parts.adds_carry self }
+    {
+        match self {
+            Opcode::Adc | Opcode::Sbc | Opcode::Rsc => true,
             _ => false,
         }
     }
@@ -163,6 +191,42 @@ pub enum Operand {
         kind: ShiftKind,
         amount: Register,
     },
+}
+
+impl Operand {
+    /// Whether the carry out of its shift is the flag C, whatever the registers are.
+    pub fn keeps_carry(self) -> bool
+        ensures { result ≡ parts.keeps_carry self }
+    {
+        match self {
+            Operand::Number { rotation, .. } => rotation == 0,
+            Operand::ByNumber { kind, amount, .. } => match kind {
+                ShiftKind::Lsl => amount.bits() == 0,
+                ShiftKind::Lsr | ShiftKind::Asr | ShiftKind::Ror => false,
+            },
+            Operand::ByRegister { .. } => false,
+        }
+    }
+
+    /// Whether it is a rotation through the carry.
+    pub fn is_rrx(self) -> bool
+        ensures { result ≡ parts.is_rrx self }
+    {
+        match self {
+            Operand::Number { .. } | Operand::ByRegister { .. } => false,
+            Operand::ByNumber { kind, amount, .. } => match kind {
+                ShiftKind::Ror => amount.bits() == 0,
+                ShiftKind::Lsl | ShiftKind::Lsr | ShiftKind::Asr => false,
+            },
+        }
+    }
+
+    /// Whether it is shifted by a register.
+    pub fn is_by_register(self) -> bool
+        ensures { result ≡ parts.is_by_register self }
+    {
+        matches!(self, Operand::ByRegister { .. })
+    }
 }
 
 /// Whether the offset is added before the access, and whether the base is written back (section A5.2).

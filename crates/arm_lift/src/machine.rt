@@ -23,7 +23,6 @@ impl<const BIG: u8, const PROFILE: u8> Machine for Arm<BIG, PROFILE> {
     ghost use Rattle.machine_spec.specs.Arm.{arm, profile_of};
     ghost use Rattle.machine_spec.specs.Bil.{RRegisters};
     ghost use Rattle.machine_spec.specs.StateText.{arm_layout};
-    ghost use Rattle.arm_lift.specs.Laws.{four_bytes};
     ghost use Rattle.arm_lift.specs.Orders.{order_of};
 
     type Insn = Insn;
@@ -50,6 +49,10 @@ impl<const BIG: u8, const PROFILE: u8> Machine for Arm<BIG, PROFILE> {
 
     fn stored(insn: &Insn, state: &State) -> Option<(u32, u8)> {
         arm_step::stored(insn, state)
+    }
+
+    fn loaded(insn: &Insn, state: &State) -> Option<(u32, u8)> {
+        arm_step::loaded(insn, state)
     }
 
     fn lift(alloc: Global, insn: &Insn, at: u32) -> Result<Vec<Stmt>, AllocError> {
@@ -80,6 +83,14 @@ impl<const BIG: u8, const PROFILE: u8> Machine for Arm<BIG, PROFILE> {
         arm_step::draws(insn)
     }
 
+    fn links(insn: &Insn) -> bool {
+        arm_step::links(insn)
+    }
+
+    fn width(first: u16) -> u8 {
+        4
+    }
+
     fn link() -> u8 {
         14
     }
@@ -100,11 +111,13 @@ impl<const BIG: u8, const PROFILE: u8> Machine for Arm<BIG, PROFILE> {
         state.reserve(n)
     }
 
+    fn put(state: &mut State, at: u32, byte: u8) {
+        state.put(at, byte)
+    }
+
     ghost lawful = { arm_is_lawful (order_of BIG) (profile_of PROFILE) };
 
     ghost states = { in_range };
-
-    ghost four_bytes = { four_bytes (order_of BIG) };
 
     ghost same_link = { refl };
 

@@ -26,15 +26,16 @@ same : (xs ys : List ℕ) (a : ℕ) → xs ≡ ys → Contains xs a ↔ Contains
 same xs ys a e = (subst (λ (z : List ℕ). Contains z a) e, subst (λ (z : List ℕ). Contains z a) (sym e))
 
 -- a row of a word, by its parts
-abbrev pub row_from : ℕ → (State → ℕ → Outcome) → (stored : State → Option (ℕ × ℕ)) → (reads : ℕ → Bool) → (draws : Bool) → (price loads stores : ℕ) →
-    (successors : ℕ → Successors) → (literal : ℕ → Option ℕ) → Row
-row_from w effect stored reads draws price loads stores next literal = record (row_of w effect) {
+abbrev pub row_from : ℕ → (State → ℕ → Outcome) → (stored loaded : State → Option (ℕ × ℕ)) → (reads : ℕ → Bool) → (draws : Bool) →
+    (price loads stores : ℕ) → (successors : ℕ → Successors) → (literal : ℕ → Option ℕ) → Row
+row_from w effect stored loaded reads draws price loads stores next literal = record (row_of w effect) {
   stored = stored;
   successors = next;
   literal = literal;
   cost = record { row = price; loads = loads; stores = stores };
   flags = flag_use w reads none none;
   draws = draws;
+  loaded = loaded;
 }
 
 nothing_stored : (e : Ending) (c : ℕ) → then_stored e (list_stored Empty c) ≡ []
@@ -53,7 +54,7 @@ never_sure : (a : Bool) → (a && false) ≡ true → ⊥
 never_sure true h = cc
 never_sure false h = cc
 
-module _ (m : Endian) (w at v price l t u : ℕ) (effect : State → ℕ → Outcome) (stored : State → Option (ℕ × ℕ)) (reads : ℕ → Bool) (draws : Bool)
+module _ (m : Endian) (w at v price l t u : ℕ) (effect : State → ℕ → Outcome) (stored loaded : State → Option (ℕ × ℕ)) (reads : ℕ → Bool) (draws : Bool)
     (loads stores : ℕ) (next : ℕ → Successors) (literal : ℕ → Option ℕ) (list : Statements) (runs : Simulates effect at list)
     (static : IsAccess v l t u reads list)
     (places : (s : State) → IsState s → s.pc ≡ at → holds w s ≡ true → (c turns : ℕ) (k : Locals) →
@@ -62,7 +63,7 @@ module _ (m : Endian) (w at v price l t u : ℕ) (effect : State → ℕ → Out
     (only : (a : ℕ) → literal at ≡ Some a → (other_loads m a list ≡ 0) × (byte_stores list ≡ 0))
     (fits : v + 70 ≤ price) (few_loads : l ≤ loads) (few_stores : t ≤ stores) where
   abbrev row : Row
-  row = row_from w effect stored reads draws price loads stores next literal
+  row = row_from w effect stored loaded reads draws price loads stores next literal
 
   -- the list of a row whose condition may fail
   tested : (k : Condition) → condition_number k ≡ condition_code w → IsLifting (arm m V4) RRegisters row at (If (lifts.test k) list Empty Empty)

@@ -8,7 +8,7 @@ use Rattle.arm_decode.specs.declared.parts.Operand as operands
 use Rattle.arm_decode.specs.declared.parts.Operand.TheVariants as kinds
 use Rattle.arm_decode.specs.declared.parts.Opcode.{Opcode}
 use Rattle.arm_decode.specs.declared.parts.Opcode.TheVariants.{And, Eor, Sub, Rsb, Add, Adc, Sbc, Rsc, Tst, Teq, Cmp, Cmn, Orr, Mov, Bic, Mvn}
-use Rattle.arm_decode.specs.declared.forms.ComputingFields.{ComputingFields}
+use Rattle.arm_decode.specs.declared.data.ComputingFields.{ComputingFields}
 use Rattle.arm_lift_alu.specs.declared.shifter.CarryIn.TheVariants.{Clear, Set}
 use Rattle.arm_lift_alu.specs.Operands as parts
 use Rattle.arm_lift_alu.specs.Computing as lifts
@@ -21,7 +21,7 @@ by_number_alike Asr v zero h = refl
 by_number_alike Ror v zero h = cc
 by_number_alike kind v (suc n) h = refl
 
-operand_alike : (o : operands.Operand) (at : ℕ) → parts.has_carry o ≡ false → parts.operand o Clear at ≡ parts.operand o Set at
+operand_alike : (o : operands.Operand) (at : ℕ) → parts.is_rrx o ≡ false → parts.operand o Clear at ≡ parts.operand o Set at
 operand_alike (kinds.Number byte rotation) at h = refl
 operand_alike (kinds.ByNumber r kind amount) at h = by_number_alike kind (parts.register r.number at) amount.bits h
 operand_alike (kinds.ByRegister r kind amount) at h = refl
@@ -63,7 +63,7 @@ carry_alike Bic x y z h = refl
 carry_alike Mvn x y z h = refl
 
 -- what is assigned behind the overflow
-pub carried_alike : (i : ComputingFields) (at : ℕ) (rest : Statements) → lifts.adds_carry i.opcode ≡ false → parts.has_carry i.operand ≡ false →
+pub carried_alike : (i : ComputingFields) (at : ℕ) (rest : Statements) → lifts.adds_carry i.opcode ≡ false → parts.is_rrx i.operand ≡ false →
     lifts.carried i Clear at rest ≡ lifts.carried i Set at rest
 carried_alike i at rest adds has =
     let x : Expression = parts.register i.rn.number at in

@@ -11,6 +11,7 @@ use Rattle.machine_spec.specs.Bil as bil
 use Rattle.machine_spec.specs.BilMeaning.{execute}
 use Rattle.machine_spec.specs.Simulation.{Locals, position, of_list, of_row}
 use Rattle.machine_spec.specs.MachineLaws.{IsLifting}
+use Rattle.arm_lift_alu.proofs.LiftedAlike.{lifting_alike}
 use Rattle.arm_decode.specs.declared.parts.Condition.{Condition}
 use Rattle.arm_decode.specs.Parts.{condition_number}
 use Rattle.arm_decode.specs.declared.register.Register.{Register}
@@ -54,10 +55,12 @@ branch_lifting m w at k b to behind code linked target next =
     = ap (λ b. lifts.branch b to behind) linked ∙ ap (λ to. lifts.branch (is_linked w) to behind) target
     ∙ ap (lifts.branch (is_linked w) (branch_target w at)) next in
     subst (λ (z : Statements). IsLifting (arm m V4) RRegisters (branch w) at (lifts.conditional k z)) (sym same)
+    (lifting_alike (arm m V4) RRegisters (record (branch w) { links = false }) at
+    (lifts.conditional k (lifts.branch (is_linked w) (branch_target w at) (add 32 at 4))) (is_linked w) (λ s. None)
     (conditional_lifting m w at 128 4096 0 (λ s c. branched (is_linked w) w s) none none none false (branch w).successors
     (lifts.branch (is_linked w) (branch_target w at) (add 32 at 4)) (λ s is here c turns few l. rw (← here) (branch_runs (is_linked w) w c turns l s))
     (branch_listed (is_linked w) (branch_target w at) (add 32 at 4) (omega arith) (omega arith)) (branch_using (is_linked w) _ _) (λ t. refl)
-    (omega arith) k code)
+    (omega arith) k code))
 
 raise_using : IsUsing none none none lifts.software_interrupt
 raise_using = record {

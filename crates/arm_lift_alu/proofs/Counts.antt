@@ -18,7 +18,7 @@ use Rattle.machine_spec.specs.Simulation.{Locals, env_of, of_list, of_row, Simul
 use Rattle.machine_spec.specs.MachineLaws.{IsLifting}
 use Rattle.arm_decode.specs.declared.parts.Condition.{Condition}
 use Rattle.arm_decode.specs.Parts.{condition_number}
-use Rattle.arm_decode.specs.declared.forms.CountFields.{CountFields}
+use Rattle.arm_decode.specs.declared.counts.CountFields.{CountFields}
 use Rattle.arm_decode.specs.Forms.{IsCount}
 use Rattle.arm_lift_alu.specs.Lifted.{conditional}
 use Rattle.arm_lift_alu.specs.Operands.{own}

@@ -15,9 +15,9 @@ use Rattle.machine_spec.specs.BilCounts.{reads_flag}
 use Rattle.machine_spec.specs.MachineLaws.{IsLifting}
 use Rattle.machine_spec.proofs.ArmRanges.{reg_small}
 use Rattle.arm_decode.specs.declared.parts.Condition.{Condition}
-use Rattle.arm_decode.specs.Parts.{condition_number, opcode_number}
+use Rattle.arm_decode.specs.Parts.{condition_number, opcode_number, is_by_register}
 use Rattle.arm_decode.specs.Forms.{IsComputing}
-use Rattle.arm_decode.specs.declared.forms.ComputingFields.{ComputingFields}
+use Rattle.arm_decode.specs.declared.data.ComputingFields.{ComputingFields}
 use Rattle.arm_lift_alu.specs.declared.shifter.CarryIn.{CarryIn}
 use Rattle.arm_lift_alu.specs.declared.shifter.CarryIn.TheVariants.{Clear, Set, Flag}
 use Rattle.arm_lift_alu.specs.Lifted.{conditional}
@@ -29,11 +29,12 @@ use Rattle.arm_lift_alu.proofs.Rows.{conditional_lifting}
 use Rattle.arm_lift_alu.proofs.Values.{Gives, Carries, flag_carries, register_gives, operand_gives, operand_in, operand_of_word, small}
 use Rattle.arm_lift_alu.proofs.Sums.{result_of, value_gives, carry_given, overflow_given, overflow_kept, carry_kept}
 use Rattle.arm_lift_alu.proofs.ShifterCarries.{shifter_carry_gives, keeps}
-use Rattle.arm_lift_alu.proofs.Weights.{HasCarry, Fits, register_plain, operand_plain, value_plain, opcode_carry_plain, overflow_plain, shifter_carry_plain, fixed_shifter_plain, is_by_register}
+use Rattle.arm_lift_alu.proofs.Weights.{HasCarry, Fits, register_plain, operand_plain, value_plain, opcode_carry_plain, overflow_plain, shifter_carry_plain, fixed_shifter_plain}
 use Rattle.arm_lift_alu.proofs.Flagged.{made, flagged, with_flags_runs, tested_runs}
 use Rattle.arm_lift_alu.proofs.Uses.{needs, sets, only_c, read_ok, written_listed, with_flags_listed, tested_listed, with_flags_using, tested_using}
 use Rattle.arm_lift_alu.proofs.Alike.{carried_alike}
-use Rattle.arm_lift_alu.proofs.Words.{adds_is, logical_is, test_is, rrx_is, keeps_is, by_register_is, fits_is, not_pc, test_sets}
+use Rattle.arm_decode.proofs.Predicates.{adds_is, logical_is, test_is, rrx_is, keeps_is, by_register_is}
+use Rattle.arm_lift_alu.proofs.Words.{fits_is, not_pc, test_sets}
 
 or_left : (a b : Bool) → a ≡ true → (a || b) ≡ true
 or_left true b h = refl
@@ -239,7 +240,7 @@ module _ (m : Endian) (w at : ℕ) (k : Condition) (i : ComputingFields) (code :
   surely_changes_c = not (rows.is_logical w && (rows.keeps_carry w || rows.by_a_register w))
 
   same_need : lifts.needs_carry i ≡ read
-  same_need = ap (λ a. a || parts.has_carry i.operand) (adds_is w i.opcode x.opcode) ∙ ap (λ h. rows.adds_carry w || h) (rrx_is w i.operand x.operand)
+  same_need = ap (λ a. a || parts.is_rrx i.operand) (adds_is w i.opcode x.opcode) ∙ ap (λ h. rows.adds_carry w || h) (rrx_is w i.operand x.operand)
 
   same_c : lifts.assigns_carry i ≡ changes_c
   same_c = ap (λ l. not (l && parts.keeps_carry i.operand)) (logical_is w i.opcode x.opcode)

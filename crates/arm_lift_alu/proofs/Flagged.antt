@@ -11,7 +11,7 @@ use Rattle.machine_spec.specs.Bil.{RRegisters, Expression, Statements, Empty, As
 use Rattle.machine_spec.specs.Bil as bil
 use Rattle.machine_spec.specs.BilMeaning.{Word, Position, Ends, evaluate, execute}
 use Rattle.machine_spec.specs.Simulation.{Locals, env_of, position}
-use Rattle.arm_decode.specs.declared.forms.ComputingFields.{ComputingFields}
+use Rattle.arm_decode.specs.declared.data.ComputingFields.{ComputingFields}
 use Rattle.arm_lift_alu.specs.declared.shifter.CarryIn.{CarryIn}
 use Rattle.arm_lift_alu.specs.declared.shifter.CarryIn.TheVariants.{Clear, Set, Flag}
 use Rattle.arm_lift_alu.specs.Lifted.{flag}

@@ -7,6 +7,7 @@ pub mod Rows
 pub mod Fetches
 pub mod Accesses
 pub mod AccessRows
+pub mod LiftedAlike
 pub mod Branches
 pub mod Shifts
 pub mod Registers

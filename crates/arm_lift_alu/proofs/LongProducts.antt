@@ -19,7 +19,7 @@ use Rattle.machine_spec.specs.Simulation.{Locals, env_of, position, of_list, of_
 use Rattle.machine_spec.specs.MachineLaws.{IsLifting}
 use Rattle.arm_decode.specs.declared.parts.Condition.{Condition}
 use Rattle.arm_decode.specs.Parts.{condition_number}
-use Rattle.arm_decode.specs.declared.forms.MultiplyLongFields.{MultiplyLongFields}
+use Rattle.arm_decode.specs.declared.long_multiplies.MultiplyLongFields.{MultiplyLongFields}
 use Rattle.arm_decode.specs.Forms.{IsMultiplyLong}
 use Rattle.arm_lift_alu.specs.Lifted.{conditional}
 use Rattle.arm_lift_alu.specs.Operands.{own}

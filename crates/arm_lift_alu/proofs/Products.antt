@@ -17,7 +17,7 @@ use Rattle.machine_spec.specs.MachineLaws.{IsLifting}
 use Rattle.arm_decode.specs.declared.parts.Condition.{Condition}
 use Rattle.arm_decode.specs.Parts.{condition_number}
 use Rattle.arm_decode.specs.declared.register.Register.{Register}
-use Rattle.arm_decode.specs.declared.forms.MultiplyFields.{MultiplyFields}
+use Rattle.arm_decode.specs.declared.multiplies.MultiplyFields.{MultiplyFields}
 use Rattle.arm_decode.specs.Forms.{IsMultiply, HasAddend}
 use Rattle.arm_lift_alu.specs.Lifted.{conditional}
 use Rattle.arm_lift_alu.specs.Operands.{own}

@@ -13,10 +13,10 @@ use Rattle.arm_decode.specs.declared.parts.Condition.{Condition}
 use Rattle.arm_lift_alu.specs.Lifted.{conditional}
 use Rattle.arm_lift_alu.proofs.Profiles.{in_profile}
 
-pub returned : (row : Row) (at : ℕ) (k : Condition) (y z : Statements) (r : Result (Vec Stmt Global) AllocError) → y ≡ z →
-    IfOk r (λ list. statements list.items ≡ conditional k y) → ((m : Endian) → IsLifting (arm m V4) RRegisters row at (conditional k z)) →
-    IfOk r (λ list. (m : Endian) (profile : Profile) → IsLifting (arm m profile) RRegisters row at (statements list.items))
-returned row at k y z (Ok list) same e h = λ m p.
-    in_profile m p row at (statements list.items)
-    (subst (λ (x : Statements). IsLifting (arm m V4) RRegisters row at x) (sym (e ∙ ap (conditional k) same)) (h m))
-returned row at k y z (Err x) same e h = tt
+pub returned : (o : Endian) (row : Row) (at : ℕ) (k : Condition) (y z : Statements) (r : Result (Vec Stmt Global) AllocError) → y ≡ z →
+    IfOk r (λ list. statements list.items ≡ conditional k y) → IsLifting (arm o V4) RRegisters row at (conditional k z) →
+    IfOk r (λ list. (profile : Profile) → IsLifting (arm o profile) RRegisters row at (statements list.items))
+returned o row at k y z (Ok list) same e h = λ p.
+    in_profile o p row at (statements list.items)
+    (subst (λ (x : Statements). IsLifting (arm o V4) RRegisters row at x) (sym (e ∙ ap (conditional k) same)) h)
+returned o row at k y z (Err x) same e h = tt

@@ -8,7 +8,7 @@ use Rattle.machine_spec.specs.Arm.{flag_set, none}
 use Rattle.machine_spec.specs.Bil.{RRegisters, Expression, Statements, Empty, Assign}
 use Rattle.machine_spec.specs.Bil as bil
 use Rattle.machine_spec.specs.BilCounts.{reads_flag, may_assign, surely_assigns, reads_within, reads_first}
-use Rattle.arm_decode.specs.declared.forms.ComputingFields.{ComputingFields}
+use Rattle.arm_decode.specs.declared.data.ComputingFields.{ComputingFields}
 use Rattle.arm_lift_alu.specs.declared.shifter.CarryIn.{CarryIn}
 use Rattle.arm_lift_alu.specs.declared.shifter.CarryIn.TheVariants.{Clear, Set, Flag}
 use Rattle.arm_lift_alu.specs.Lifted.{number, flag}

@@ -14,6 +14,7 @@ use Rattle.arm_decode.specs.declared.parts.Opcode.TheVariants.{And, Eor, Sub, Rs
 use Rattle.arm_lift_alu.specs.declared.shifter.CarryIn.{CarryIn}
 use Rattle.arm_lift_alu.specs.declared.shifter.CarryIn.TheVariants.{Clear, Set, Flag}
 use Rattle.arm_lift_alu.specs.Lifted.{flag}
+use Rattle.arm_decode.specs.Parts.{is_by_register}
 use Rattle.arm_lift_alu.specs.Operands as lifts
 use Rattle.arm_lift_alu.specs.Computing as lists
 use Rattle.arm_lift_alu.proofs.Plain.{IsPlain, constant_plain, number_plain, flag_plain, own_register, not_plain, binary_plain, cast_plain, extract_plain, concat_plain, choose_plain, lighter}
@@ -82,7 +83,7 @@ Fits (kinds.ByNumber q kind amount) = Unit {0}
 Fits (kinds.ByRegister q kind amount) = Unit {0}
 
 -- an operand
-pub operand_plain : (o : operands.Operand) (k : CarryIn) (at : ℕ) (r : ℕ → Bool) → (lifts.has_carry o ≡ true → HasCarry k r) → Fits o →
+pub operand_plain : (o : operands.Operand) (k : CarryIn) (at : ℕ) (r : ℕ → Bool) → (lifts.is_rrx o ≡ true → HasCarry k r) → Fits o →
     IsPlain 32 512 r (lifts.operand o k at)
 operand_plain (kinds.Number byte rotation) k at r h small =
     lighter 32 0 512 r _ (number_plain (lifts.immediate byte rotation) r (ror_small byte (2 * rotation) (omega arith))) (omega arith)
@@ -261,12 +262,6 @@ shifter_carry_plain (kinds.ByNumber q kind amount) at =
 shifter_carry_plain (kinds.ByRegister q kind amount) at =
     register_carry_plain kind (lifts.own q.number) (lifts.own amount.number) (own_register q.number c_alone q.in_range)
     (own_register amount.number c_alone amount.in_range)
-
--- the operand is shifted by a register
-abbrev pub is_by_register : operands.Operand → Bool
-is_by_register (kinds.Number byte rotation) = false
-is_by_register (kinds.ByNumber q kind amount) = false
-is_by_register (kinds.ByRegister q kind amount) = true
 
 -- it reads no flag, unless it is kept or the shift is by a register
 pub fixed_shifter_plain : (o : operands.Operand) (at : ℕ) (r : ℕ → Bool) → lifts.keeps_carry o ≡ false → is_by_register o ≡ false →

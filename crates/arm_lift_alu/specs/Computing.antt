@@ -5,11 +5,12 @@ use Rattle.machine_spec.specs.Bil as bil
 use Rattle.machine_spec.specs.Bil.{RRegisters, Expression, Var, Constant, Binary, Unary, Cast, Extract, Statements, Empty, Assign, JumpTo, If}
 use Rattle.arm_decode.specs.declared.parts.Opcode.{Opcode}
 use Rattle.arm_decode.specs.declared.parts.Opcode.TheVariants.{And, Eor, Sub, Rsb, Add, Adc, Sbc, Rsc, Tst, Teq, Cmp, Cmn, Orr, Mov, Bic, Mvn}
-use Rattle.arm_decode.specs.declared.forms.ComputingFields.{ComputingFields}
+use Rattle.arm_decode.specs.declared.data.ComputingFields.{ComputingFields}
+pub use Rattle.arm_decode.specs.Parts.{is_test, is_logical, adds_carry}
 use Rattle.arm_lift_alu.specs.declared.shifter.CarryIn.{CarryIn}
 use Rattle.arm_lift_alu.specs.declared.shifter.CarryIn.TheVariants.{Clear, Set, Flag}
 use Rattle.arm_lift_alu.specs.Lifted.{number, flag}
-use Rattle.arm_lift_alu.specs.Operands.{carry_bit, own, register, operand, shifter_carry, keeps_carry, has_carry, bit_of}
+use Rattle.arm_lift_alu.specs.Operands.{carry_bit, own, register, operand, shifter_carry, keeps_carry, is_rrx, bit_of}
 
 -- each bit turned
 abbrev pub turned : Expression → Expression
@@ -93,63 +94,6 @@ overflow Mov k x y = flag flag_v
 overflow Bic k x y = flag flag_v
 overflow Mvn k x y = flag flag_v
 
--- a logical opcode
-abbrev pub is_logical : Opcode → Bool
-is_logical And = true
-is_logical Eor = true
-is_logical Sub = false
-is_logical Rsb = false
-is_logical Add = false
-is_logical Adc = false
-is_logical Sbc = false
-is_logical Rsc = false
-is_logical Tst = true
-is_logical Teq = true
-is_logical Cmp = false
-is_logical Cmn = false
-is_logical Orr = true
-is_logical Mov = true
-is_logical Bic = true
-is_logical Mvn = true
-
--- an opcode that adds the carry
-abbrev pub adds_carry : Opcode → Bool
-adds_carry And = false
-adds_carry Eor = false
-adds_carry Sub = false
-adds_carry Rsb = false
-adds_carry Add = false
-adds_carry Adc = true
-adds_carry Sbc = true
-adds_carry Rsc = true
-adds_carry Tst = false
-adds_carry Teq = false
-adds_carry Cmp = false
-adds_carry Cmn = false
-adds_carry Orr = false
-adds_carry Mov = false
-adds_carry Bic = false
-adds_carry Mvn = false
-
--- an opcode that writes no register
-abbrev pub is_test : Opcode → Bool
-is_test And = false
-is_test Eor = false
-is_test Sub = false
-is_test Rsb = false
-is_test Add = false
-is_test Adc = false
-is_test Sbc = false
-is_test Rsc = false
-is_test Tst = true
-is_test Teq = true
-is_test Cmp = true
-is_test Cmn = true
-is_test Orr = false
-is_test Mov = false
-is_test Bic = false
-is_test Mvn = false
-
 -- a register takes a value; a written r15 is a jump
 abbrev pub written_by : (to_pc : Bool) → ℕ → Expression → Statements
 written_by true r e = JumpTo e Empty
@@ -186,7 +130,7 @@ assigns_carry i = not (is_logical i.opcode && keeps_carry i.operand)
 
 -- it needs the carry that comes in
 abbrev pub needs_carry : ComputingFields → Bool
-needs_carry i = adds_carry i.opcode || has_carry i.operand
+needs_carry i = adds_carry i.opcode || is_rrx i.operand
 
 -- the carry and then the register, for what is known of the carry that comes in
 abbrev pub carried : ComputingFields → CarryIn → ℕ → Statements → Statements

@@ -4,7 +4,7 @@ use Rattle.word_spec.specs.State.{flag_c}
 use Rattle.machine_spec.specs.Bil as bil
 use Rattle.machine_spec.specs.Bil.{RRegisters, Bits, Expression, Binary, Unknown, Statements, Empty, Assign}
 use Rattle.arm_decode.specs.declared.register.Register.{Register}
-use Rattle.arm_decode.specs.declared.forms.MultiplyFields.{MultiplyFields}
+use Rattle.arm_decode.specs.declared.multiplies.MultiplyFields.{MultiplyFields}
 use Rattle.arm_lift_alu.specs.Operands.{own}
 use Rattle.arm_lift_alu.specs.Computing.{signs}
 

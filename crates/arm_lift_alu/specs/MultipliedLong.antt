@@ -3,7 +3,7 @@ use Rattle.std.specs.Prelude.{ℕ, ◌==◌, Bool, true, false}
 use Rattle.word_spec.specs.State.{flag_n, flag_z, flag_c, flag_v}
 use Rattle.machine_spec.specs.Bil as bil
 use Rattle.machine_spec.specs.Bil.{RRegisters, Bits, Expression, Constant, Binary, Cast, Unknown, Extract, Concat, Statements, Empty, Assign}
-use Rattle.arm_decode.specs.declared.forms.MultiplyLongFields.{MultiplyLongFields}
+use Rattle.arm_decode.specs.declared.long_multiplies.MultiplyLongFields.{MultiplyLongFields}
 use Rattle.arm_lift_alu.specs.Operands.{own, bit_of}
 
 -- a register's word in 64 bits, with its sign or without

@@ -8,6 +8,7 @@ use Rattle.arm_decode.specs.declared.parts.ShiftKind.{ShiftKind}
 use Rattle.arm_decode.specs.declared.parts.ShiftKind.TheVariants.{Lsl, Lsr, Asr, Ror}
 use Rattle.arm_decode.specs.declared.parts.Operand as operands
 use Rattle.arm_decode.specs.declared.parts.Operand.TheVariants as kinds
+pub use Rattle.arm_decode.specs.Parts.{keeps_carry, keeps_by_number, is_rrx, through_carry, is_by_register}
 use Rattle.arm_lift_alu.specs.declared.shifter.CarryIn.{CarryIn}
 use Rattle.arm_lift_alu.specs.declared.shifter.CarryIn.TheVariants.{Clear, Set, Flag}
 use Rattle.arm_lift_alu.specs.Lifted.{number, flag}
@@ -108,29 +109,3 @@ abbrev pub shifter_carry : operands.Operand → ℕ → Expression
 shifter_carry (kinds.Number byte rotation) at = immediate_carry byte rotation
 shifter_carry (kinds.ByNumber r kind amount) at = number_carry kind (register r.number at) amount.bits
 shifter_carry (kinds.ByRegister r kind amount) at = register_carry kind (own r.number) (own amount.number)
-
--- the shift of a kind by a number leaves the carry
-abbrev pub keeps_by_number : ShiftKind → ℕ → Bool
-keeps_by_number Lsl n = n == 0
-keeps_by_number Lsr n = false
-keeps_by_number Asr n = false
-keeps_by_number Ror n = false
-
--- the carry is the flag C, whatever the registers are
-abbrev pub keeps_carry : operands.Operand → Bool
-keeps_carry (kinds.Number byte rotation) = rotation == 0
-keeps_carry (kinds.ByNumber r kind amount) = keeps_by_number kind amount.bits
-keeps_carry (kinds.ByRegister r kind amount) = false
-
--- the shift of a kind by a number is a rotation through the carry
-abbrev pub through_carry : ShiftKind → ℕ → Bool
-through_carry Lsl n = false
-through_carry Lsr n = false
-through_carry Asr n = false
-through_carry Ror n = n == 0
-
--- the operand has the carry that comes in
-abbrev pub has_carry : operands.Operand → Bool
-has_carry (kinds.Number byte rotation) = false
-has_carry (kinds.ByNumber r kind amount) = through_carry kind amount.bits
-has_carry (kinds.ByRegister r kind amount) = false

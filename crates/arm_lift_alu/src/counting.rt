@@ -1,18 +1,19 @@
 //! CLZ (section A4.1.13).
-ghost use Rattle.std.specs.Prelude.{◌≡◌, ◌≤◌, ◌<◌, IfOk};
 ghost use Rattle.machine_spec.specs.Arm as rows;
 ghost use Rattle.machine_spec.specs.Arm.{arm};
-ghost use Rattle.word_spec.specs.Memory as memory;
-ghost use Rattle.machine_spec.specs.Bil.{RRegisters};
 ghost use Rattle.machine_spec.specs.MachineLaws.{IsLifting};
+ghost use Rattle.byte_mem.specs.Views.{endian_of};
+ghost use Rattle.std.specs.Prelude.{◌≡◌, ◌≤◌, ◌<◌, IfOk};
+ghost use Rattle.machine_spec.specs.Bil.{RRegisters};
 ghost use Rattle.bil_ast.specs.Views.{expression, statements};
 ghost use Rattle.arm_lift_alu.specs.Counted as lifts;
 
 use crate::conditional::conditional;
 use crate::shifter::{cast, own};
-use arm_decode::{Count, Insn};
+use arm_decode::{Class, Count};
 use bil_ast::{Bank, BinaryOp, CastKind, Exp, Local, Stmt, UnaryOp, Var, Width};
 use bv_word::Word;
+use byte_mem::Endian;
 use std::alloc::{AllocError, Global};
 
 /// The local of a stage that has its word.
@@ -131,13 +132,17 @@ fn counted(alloc: Global, written: u8, register: u8) -> Result<Vec<Stmt>, AllocE
     Ok(list)
 }
 
-/// The list of CLZ that stands at an address, in either byte order and every profile: the number of zeros above the highest one bit (section A4.1.13). The
-/// error is want of memory.
-pub fn lift_count(alloc: Global, insn: &Count, at: u32) -> Result<Vec<Stmt>, AllocError>
-    ensures { IfOk result (λ list. (order : memory.Endian) (profile : rows.Profile) →
-        IsLifting (arm order profile) RRegisters (rows.count insn.now.word) at (statements list.items)) }
+/// The list of CLZ that stands at an address, in a byte order and every profile; it is the same in both orders. The error is want of memory.
+pub fn lift_count(
+    alloc: Global,
+    insn: &Count,
+    at: u32,
+    order: Endian,
+) -> Result<Vec<Stmt>, AllocError>
+    ensures { IfOk result (λ list. (profile : rows.Profile) →
+        IsLifting (arm (endian_of order) profile) RRegisters (rows.count insn.now.word) at (statements list.items)) }
 {
-    let condition = Insn::Count(*insn).condition();
+    let condition = insn.condition();
     let fields = insn.fields();
     let list = counted(alloc, fields.rd.number(), fields.rm.number())?;
     conditional(alloc, condition, list)

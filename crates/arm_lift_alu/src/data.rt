@@ -1,11 +1,11 @@
 //! Data processing (section A3.4).
-ghost use Rattle.std.specs.Prelude.{◌≡◌, not, true, false, IfOk, OnOk};
 ghost use Rattle.machine_spec.specs.Arm as rows;
 ghost use Rattle.machine_spec.specs.Arm.{arm};
-ghost use Rattle.word_spec.specs.Memory as memory;
+ghost use Rattle.machine_spec.specs.MachineLaws.{IsLifting};
+ghost use Rattle.byte_mem.specs.Views.{endian_of};
+ghost use Rattle.std.specs.Prelude.{◌≡◌, not, IfOk, OnOk};
 ghost use Rattle.machine_spec.specs.Bil as bil;
 ghost use Rattle.machine_spec.specs.Bil.{RRegisters};
-ghost use Rattle.machine_spec.specs.MachineLaws.{IsLifting};
 ghost use Rattle.bil_ast.specs.Views.{cast_of, expression, statements};
 ghost use Rattle.arm_lift_alu.specs.Before.{before};
 ghost use Rattle.arm_lift_alu.specs.Operands as parts;
@@ -14,12 +14,11 @@ ghost use Rattle.arm_lift_alu.specs.declared.shifter.CarryIn.TheVariants.{Flag};
 
 use crate::conditional::{add, conditional, one};
 use crate::expressions::{flag, number, turned};
-use crate::shifter::{
-    CarryIn, bit_of, carry_bit, cast, has_carry, keeps_carry, operand, own, register, shifter_carry,
-};
-use arm_decode::{Computing, ComputingFields, Insn, Opcode};
+use crate::shifter::{CarryIn, bit_of, carry_bit, cast, operand, own, register, shifter_carry};
+use arm_decode::{Class, Computing, ComputingFields, Opcode};
 use bil_ast::{Bank, BinaryOp, CastKind, Exp, Stmt, Var};
 use bv_word::Word;
+use byte_mem::Endian;
 use std::alloc::{AllocError, Global};
 
 /// A sum with the carry that comes in.
@@ -186,43 +185,6 @@ fn overflow_of(alloc: Global, insn: ComputingFields, at: u32) -> Result<Exp, All
     }
 }
 
-/// Whether an opcode is a logical one.
-fn is_logical(op: Opcode) -> bool
-    ensures { result ≡ lifts.is_logical op }
-{
-    match op {
-        Opcode::And
-        | Opcode::Eor
-        | Opcode::Tst
-        | Opcode::Teq
-        | Opcode::Orr
-        | Opcode::Mov
-        | Opcode::Bic
-        | Opcode::Mvn => true,
-        _ => false,
-    }
-}
-
-/// Whether an opcode adds the carry.
-fn adds_carry(op: Opcode) -> bool
-    ensures { result ≡ lifts.adds_carry op }
-{
-    match op {
-        Opcode::Adc | Opcode::Sbc | Opcode::Rsc => true,
-        _ => false,
-    }
-}
-
-/// Whether an opcode writes no register.
-fn is_test(op: Opcode) -> bool
-    ensures { result ≡ lifts.is_test op }
-{
-    match op {
-        Opcode::Tst | Opcode::Teq | Opcode::Cmp | Opcode::Cmn => true,
-        _ => false,
-    }
-}
-
 /// The value of data processing goes to a register; a written r15 is a jump.
 fn written(alloc: Global, insn: ComputingFields, at: u32) -> Result<Vec<Stmt>, AllocError>
     ensures { IfOk result (λ list. statements list.items ≡ lifts.written insn.rd.number (lifts.value_of insn Flag at)) }
@@ -247,7 +209,7 @@ fn push_overflow(
     ensures { OnOk result ((z : bil.Statements) → before list.new.items z
         ≡ before list.old.items (lifts.flag_if (not (lifts.is_logical insn.opcode)) 0 (lifts.overflow_of insn at) z)) }
 {
-    if is_logical(insn.opcode) {
+    if insn.opcode.is_logical() {
         return Ok(());
     }
     let overflow = overflow_of(alloc, insn, at)?;
@@ -265,7 +227,7 @@ fn push_carry(
     ensures { OnOk result ((z : bil.Statements) → before list.new.items z
         ≡ before list.old.items (lifts.flag_if (lifts.assigns_carry insn) 1 (lifts.carry_of insn carry at) z)) }
 {
-    if is_logical(insn.opcode) && keeps_carry(insn.operand) {
+    if insn.opcode.is_logical() && insn.operand.keeps_carry() {
         return Ok(());
     }
     let out = carry_of(alloc, insn, carry, at)?;
@@ -311,7 +273,7 @@ fn push_carried_by(
 ) -> Result<(), AllocError>
     ensures { OnOk result ((z : bil.Statements) → before list.new.items z ≡ before list.old.items (lifts.carried_by (lifts.needs_carry insn) insn at z)) }
 {
-    if adds_carry(insn.opcode) || has_carry(insn.operand) {
+    if insn.opcode.adds_carry() || insn.operand.is_rrx() {
         let set = carried(alloc, insn, CarryIn::Set, at)?;
         let clear = carried(alloc, insn, CarryIn::Clear, at)?;
         add(list, Stmt::choose(flag(1), set, clear))
@@ -360,7 +322,7 @@ fn tested(alloc: Global, insn: ComputingFields, at: u32) -> Result<Vec<Stmt>, Al
 fn computed(alloc: Global, insn: ComputingFields, at: u32) -> Result<Vec<Stmt>, AllocError>
     ensures { IfOk result (λ list. statements list.items ≡ lifts.computed insn at) }
 {
-    if is_test(insn.opcode) {
+    if insn.opcode.is_test() {
         tested(alloc, insn, at)
     } else if insn.sets_flags {
         with_flags(alloc, insn, at)
@@ -369,12 +331,17 @@ fn computed(alloc: Global, insn: ComputingFields, at: u32) -> Result<Vec<Stmt>, 
     }
 }
 
-/// The list of data processing that stands at an address, in either byte order and every profile. The error is want of memory.
-pub fn lift_computing(alloc: Global, insn: &Computing, at: u32) -> Result<Vec<Stmt>, AllocError>
-    ensures { IfOk result (λ list. (order : memory.Endian) (profile : rows.Profile) →
-        IsLifting (arm order profile) RRegisters (rows.computing insn.now.word) at (statements list.items)) }
+/// The list of data processing that stands at an address, in a byte order and every profile; it is the same in both orders. The error is want of memory.
+pub fn lift_computing(
+    alloc: Global,
+    insn: &Computing,
+    at: u32,
+    order: Endian,
+) -> Result<Vec<Stmt>, AllocError>
+    ensures { IfOk result (λ list. (profile : rows.Profile) →
+        IsLifting (arm (endian_of order) profile) RRegisters (rows.computing insn.now.word) at (statements list.items)) }
 {
-    let condition = Insn::Computing(*insn).condition();
+    let condition = insn.condition();
     let list = computed(alloc, insn.fields(), at)?;
     conditional(alloc, condition, list)
 }

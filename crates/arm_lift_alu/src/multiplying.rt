@@ -1,18 +1,19 @@
 //! MUL and MLA (section A3.5).
-ghost use Rattle.std.specs.Prelude.{◌≡◌, IfOk};
 ghost use Rattle.machine_spec.specs.Arm as rows;
 ghost use Rattle.machine_spec.specs.Arm.{arm};
-ghost use Rattle.word_spec.specs.Memory as memory;
-ghost use Rattle.machine_spec.specs.Bil.{RRegisters};
 ghost use Rattle.machine_spec.specs.MachineLaws.{IsLifting};
+ghost use Rattle.byte_mem.specs.Views.{endian_of};
+ghost use Rattle.std.specs.Prelude.{◌≡◌, IfOk};
+ghost use Rattle.machine_spec.specs.Bil.{RRegisters};
 ghost use Rattle.bil_ast.specs.Views.{expression, statements};
 ghost use Rattle.arm_lift_alu.specs.Multiplied as lifts;
 
 use crate::conditional::conditional;
 use crate::expressions::number;
 use crate::shifter::{bit_of, own};
-use arm_decode::{Insn, Multiply, MultiplyFields};
+use arm_decode::{Class, Multiply, MultiplyFields};
 use bil_ast::{Bank, BilType, BinaryOp, Exp, Stmt, Var, Width};
+use byte_mem::Endian;
 use std::alloc::{AllocError, Global};
 
 /// The product, and what is added to it.
@@ -54,12 +55,17 @@ fn multiplied(alloc: Global, insn: MultiplyFields, keeps: bool) -> Result<Vec<St
     Ok(list)
 }
 
-/// The list of MUL or MLA that stands at an address, in either byte order and every profile. The error is want of memory.
-pub fn lift_multiply(alloc: Global, insn: &Multiply, at: u32) -> Result<Vec<Stmt>, AllocError>
-    ensures { IfOk result (λ list. (order : memory.Endian) (profile : rows.Profile) →
-        IsLifting (arm order profile) RRegisters (rows.multiply insn.now.keeps insn.now.word) at (statements list.items)) }
+/// The list of MUL or MLA that stands at an address, in a byte order and every profile; it is the same in both orders. The error is want of memory.
+pub fn lift_multiply(
+    alloc: Global,
+    insn: &Multiply,
+    at: u32,
+    order: Endian,
+) -> Result<Vec<Stmt>, AllocError>
+    ensures { IfOk result (λ list. (profile : rows.Profile) →
+        IsLifting (arm (endian_of order) profile) RRegisters (rows.multiply insn.now.keeps insn.now.word) at (statements list.items)) }
 {
-    let condition = Insn::Multiply(*insn).condition();
+    let condition = insn.condition();
     let list = multiplied(alloc, insn.fields(), insn.keeps())?;
     conditional(alloc, condition, list)
 }

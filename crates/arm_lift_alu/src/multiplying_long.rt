@@ -1,20 +1,21 @@
 //! UMULL, UMLAL, SMULL and SMLAL (section A3.5).
-ghost use Rattle.std.specs.Prelude.{◌≡◌, ◌==◌, true, IfOk, OnOk};
 ghost use Rattle.machine_spec.specs.Arm as rows;
 ghost use Rattle.machine_spec.specs.Arm.{arm};
-ghost use Rattle.word_spec.specs.Memory as memory;
+ghost use Rattle.machine_spec.specs.MachineLaws.{IsLifting};
+ghost use Rattle.byte_mem.specs.Views.{endian_of};
+ghost use Rattle.std.specs.Prelude.{◌≡◌, ◌==◌, IfOk, OnOk};
 ghost use Rattle.machine_spec.specs.Bil as bil;
 ghost use Rattle.machine_spec.specs.Bil.{RRegisters};
-ghost use Rattle.machine_spec.specs.MachineLaws.{IsLifting};
 ghost use Rattle.bil_ast.specs.Views.{expression, statements};
 ghost use Rattle.arm_lift_alu.specs.Before.{before};
 ghost use Rattle.arm_lift_alu.specs.MultipliedLong as lifts;
 
 use crate::conditional::{add, conditional};
 use crate::shifter::{bit_of, cast, own};
-use arm_decode::{Insn, MultiplyLong, MultiplyLongFields};
+use arm_decode::{Class, MultiplyLong, MultiplyLongFields};
 use bil_ast::{Bank, BilType, BinaryOp, CastKind, Exp, Stmt, Var, Width};
 use bv_word::Word;
+use byte_mem::Endian;
 use std::alloc::{AllocError, Global};
 
 /// A register's word in 64 bits, with its sign or without.
@@ -158,17 +159,17 @@ fn multiplied_long(
     Ok(list)
 }
 
-/// The list of UMULL, UMLAL, SMULL or SMLAL that stands at an address, in either byte order and every profile: 64-bit product and sum (section A3.5). The error
-/// is want of memory.
+/// The list of UMULL, UMLAL, SMULL or SMLAL that stands at an address, in a byte order and every profile; it is the same in both orders. The error is want of memory.
 pub fn lift_multiply_long(
     alloc: Global,
     insn: &MultiplyLong,
     at: u32,
+    order: Endian,
 ) -> Result<Vec<Stmt>, AllocError>
-    ensures { IfOk result (λ list. (order : memory.Endian) (profile : rows.Profile) →
-        IsLifting (arm order profile) RRegisters (rows.multiply_long insn.now.keeps insn.now.word) at (statements list.items)) }
+    ensures { IfOk result (λ list. (profile : rows.Profile) →
+        IsLifting (arm (endian_of order) profile) RRegisters (rows.multiply_long insn.now.keeps insn.now.word) at (statements list.items)) }
 {
-    let condition = Insn::MultiplyLong(*insn).condition();
+    let condition = insn.condition();
     let list = multiplied_long(alloc, insn.fields(), insn.keeps())?;
     conditional(alloc, condition, list)
 }

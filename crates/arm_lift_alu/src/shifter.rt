@@ -293,30 +293,3 @@ pub(crate) fn shifter_carry(alloc: Global, operand: Operand, at: u32) -> Result<
         } => register_carry(alloc, kind, r, amount),
     }
 }
-
-/// Whether the carry is the flag C, whatever the registers are.
-pub(crate) fn keeps_carry(operand: Operand) -> bool
-    ensures { result ≡ lifts.keeps_carry operand }
-{
-    match operand {
-        Operand::Number { rotation, .. } => rotation == 0,
-        Operand::ByNumber { kind, amount, .. } => match kind {
-            ShiftKind::Lsl => amount.bits() == 0,
-            ShiftKind::Lsr | ShiftKind::Asr | ShiftKind::Ror => false,
-        },
-        Operand::ByRegister { .. } => false,
-    }
-}
-
-/// Whether the operand has the carry that comes in.
-pub(crate) fn has_carry(operand: Operand) -> bool
-    ensures { result ≡ lifts.has_carry operand }
-{
-    match operand {
-        Operand::Number { .. } | Operand::ByRegister { .. } => false,
-        Operand::ByNumber { kind, amount, .. } => match kind {
-            ShiftKind::Ror => amount.bits() == 0,
-            ShiftKind::Lsl | ShiftKind::Lsr | ShiftKind::Asr => false,
-        },
-    }
-}

@@ -19,7 +19,7 @@ use Rattle.machine_spec.specs.MachineLaws.{IsLifting}
 use Rattle.bil_ast.specs.Views.{statements}
 use Rattle.bil_ast.specs.declared.statements.Stmt.{Stmt}
 use Rattle.arm_decode.specs.declared.parts.Condition.{Condition}
-use Rattle.arm_decode.specs.declared.forms.BlockFields.{BlockFields}
+use Rattle.arm_decode.specs.declared.blocks.BlockFields.{BlockFields}
 use Rattle.arm_decode.specs.Forms.{IsBlock}
 use Rattle.arm_decode.specs.Parts.{condition_number}
 use Rattle.arm_lift_alu.specs.Lifted.{conditional}
@@ -47,12 +47,16 @@ list_by l e w at = lifts.block l e (bit_w w) (is_up w) (is_pre w) (field_n w) at
 abbrev pub stored_by : (load : Bool) → (w : ℕ) → State → Option (ℕ × ℕ)
 stored_by l w s = when_stored (holds w s && not l) (block_start w s, 4 * length (listed w))
 
+-- the bytes that the row loads
+abbrev pub loaded_by : (load : Bool) → (w : ℕ) → State → Option (ℕ × ℕ)
+loaded_by l w s = when_stored (holds w s && l) (block_start w s, 4 * length (listed w))
+
 -- the row of a word's LDM, or STM
 abbrev pub row_by : (load : Bool) → Endian → (w : ℕ) → Row
 row_by l e w =
     let n = length (listed w) in
-    row_from w (block_done l e w) (stored_by l w) none (not l && has_bit 15 w) (4096 + 512 * n) (if l then 4 * n else 0) (if l then 0 else 4 * n)
-    (may_write_pc w (l && has_bit 15 w)) (λ a. None)
+    row_from w (block_done l e w) (stored_by l w) (loaded_by l w) none (not l && has_bit 15 w) (4096 + 512 * n) (if l then 4 * n else 0)
+    (if l then 0 else 4 * n) (may_write_pc w (l && has_bit 15 w)) (λ a. None)
 
 load_part : (e : Endian) (w at : ℕ) → field_n w < 15 → IsAccess (160 * length (listed w) + 160) (4 * length (listed w)) 0 0 none (list_by true e w at)
 load_part e w at few =
@@ -109,14 +113,14 @@ lifting_by : (load : Bool) (e : Endian) (w at : ℕ) (k : Condition) → field_n
 lifting_by true e w at k few code =
     let n : ℕ = length (listed w) in
     let static = load_part e w at few in
-    conditional_lifting e w at (160 * n + 160) (4096 + 512 * n) (4 * n) 0 0 (block_done true e w) (stored_by true w) none false (4 * n) 0
+    conditional_lifting e w at (160 * n + 160) (4096 + 512 * n) (4 * n) 0 0 (block_done true e w) (stored_by true w) (loaded_by true w) none false (4 * n) 0
     (may_write_pc w (has_bit 15 w)) (λ a. None) (list_by true e w at) (load_runs e w at few) static
     (λ s is here held c turns l. static.stored refl c _ ∙ stores_none (holds w s) (block_start w s, 4 * n))
     (λ s h. skipped_bytes (holds w s) false (block_start w s, 4 * n) h) (λ t. refl) (λ a h. cc) (omega arith) (omega arith) (omega arith) k code
 lifting_by false e w at k few code =
     let n : ℕ = length (listed w) in
-    conditional_lifting e w at (160 * n + 160) (4096 + 512 * n) 0 (4 * n) (drawn (listed w)) (block_done false e w) (stored_by false w) none (has_bit 15 w)
-    0 (4 * n) (may_write_pc w false) (λ a. None) (list_by false e w at) (store_runs e w at few) (store_part e w at few)
+    conditional_lifting e w at (160 * n + 160) (4096 + 512 * n) 0 (4 * n) (drawn (listed w)) (block_done false e w) (stored_by false w) (loaded_by false w) none
+    (has_bit 15 w) 0 (4 * n) (may_write_pc w false) (λ a. None) (list_by false e w at) (store_runs e w at few) (store_part e w at few)
     (λ s is here held c turns l. store_bytes e w at few s is here c turns l ∙ held_bytes (holds w s) (block_start w s, 4 * n) held)
     (λ s h. skipped_bytes (holds w s) true (block_start w s, 4 * n) h) (λ t. none_drawn w 0 16 t) (λ a h. cc)
     (omega arith) (omega arith) (omega arith) k code

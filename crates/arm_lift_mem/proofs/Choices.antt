@@ -10,8 +10,8 @@ use Rattle.machine_spec.specs.Bil.{RRegisters, Bits, Mem, Var, Constant, Load, U
 use Rattle.machine_spec.specs.Bil as bil
 use Rattle.bil_ast.specs.Views.{statement, statements}
 use Rattle.bil_ast.specs.declared.statements.Stmt.{Stmt}
-use Rattle.arm_decode.specs.declared.forms.TransferFields.{TransferFields}
-use Rattle.arm_decode.specs.declared.forms.SwapFields.{SwapFields}
+use Rattle.arm_decode.specs.declared.transfers.TransferFields.{TransferFields}
+use Rattle.arm_decode.specs.declared.swaps.SwapFields.{SwapFields}
 use Rattle.arm_lift_alu.specs.Lifted.{number}
 use Rattle.arm_lift_alu.specs.Operands.{own}
 use Rattle.arm_lift_mem.specs.Accesses.{word}

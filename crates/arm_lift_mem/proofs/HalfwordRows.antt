@@ -23,7 +23,7 @@ use Rattle.arm_decode.specs.declared.parts.HalfwordOp.{HalfwordOp}
 use Rattle.arm_decode.specs.declared.parts.HalfwordOp.TheVariants.{Ldrh, Ldrsb, Ldrsh, Strh}
 use Rattle.arm_decode.specs.Parts.{condition_number, HasHalfwordOp}
 use Rattle.arm_decode.specs.Forms.{IsHalfword}
-use Rattle.arm_decode.specs.declared.forms.HalfwordFields.{HalfwordFields}
+use Rattle.arm_decode.specs.declared.halfwords.HalfwordFields.{HalfwordFields}
 use Rattle.arm_lift_alu.specs.Lifted.{conditional}
 use Rattle.arm_lift_alu.specs.Operands.{own, register}
 use Rattle.arm_lift_alu.proofs.Plain.{IsPlain, own_register, cast_plain}
@@ -172,8 +172,8 @@ module _ (m : Endian) (w at : ℕ) (k : Condition) (i : HalfwordFields) (code : 
       list_stored list c (position k turns None s) ≡ addresses ((halfword m w).stored s)) →
       l ≤ (halfword m w).cost.loads → t ≤ (halfword m w).cost.stores → IsLifting (arm m V4) RRegisters (halfword m w) at (conditional k list)
   lifting l t list runs static places loads stores =
-      conditional_lifting m w at 600 4096 l t 0 (λ s c. halfword_done m w s) (halfword m w).stored none false (halfword m w).cost.loads (halfword m w).cost.stores
-      (halfword m w).successors (halfword m w).literal list runs static places
+      conditional_lifting m w at 600 4096 l t 0 (λ s c. halfword_done m w s) (halfword m w).stored (halfword m w).loaded none false
+      (halfword m w).cost.loads (halfword m w).cost.stores (halfword m w).successors (halfword m w).literal list runs static places
       (λ s h. skipped (holds w s) (not (is_load w)) (halfword_address w s % 2 == 0) (halfword_address w s, 2) h) (λ t. refl) (λ a h. cc)
       (omega arith) loads stores k code
 

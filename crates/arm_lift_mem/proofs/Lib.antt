@@ -8,5 +8,4 @@ pub mod TransferRows
 pub mod Literals
 pub mod SwapRows
 pub mod HalfwordRows
-pub mod Returned
 pub mod Choices

@@ -24,7 +24,7 @@ use Rattle.arm_decode.specs.declared.parts.Offset as offsets
 use Rattle.arm_decode.specs.declared.parts.Offset.TheVariants as offset
 use Rattle.arm_decode.specs.Parts.{condition_number, HasIndexing, HasOffset}
 use Rattle.arm_decode.specs.Forms.{IsTransfer}
-use Rattle.arm_decode.specs.declared.forms.TransferFields.{TransferFields}
+use Rattle.arm_decode.specs.declared.transfers.TransferFields.{TransferFields}
 use Rattle.arm_lift_alu.specs.Lifted.{conditional, number}
 use Rattle.arm_lift_alu.specs.Operands.{register}
 use Rattle.arm_lift_alu.proofs.Plain.{number_plain, constant_plain}
@@ -101,8 +101,8 @@ module _ (m : Endian) (w at : ℕ) (k : Condition) (code : condition_number k �
   lifting : (v : ℕ) (list : Statements) → Simulates (transferred (is_load w) m w) at list → IsAccess v 4 0 0 (offset_reads w) list → v + 70 ≤ 4096 →
       other_loads m (words.aligned a) list ≡ 0 → byte_stores list ≡ 0 → IsLifting (arm m V4) RRegisters (single_transfer m w) at (conditional k list)
   lifting v list runs static fits alone stores =
-      conditional_lifting m w at v 4096 4 0 0 (transferred (is_load w) m w) (single_transfer m w).stored (offset_reads w) (single_transfer m w).draws
-      (single_transfer m w).cost.loads (single_transfer m w).cost.stores (single_transfer m w).successors (literal_address w) list runs static
+      conditional_lifting m w at v 4096 4 0 0 (transferred (is_load w) m w) (single_transfer m w).stored (single_transfer m w).loaded (offset_reads w)
+      (single_transfer m w).draws (single_transfer m w).cost.loads (single_transfer m w).cost.stores (single_transfer m w).successors (literal_address w) list runs static
       (λ s is here held c turns l. static.stored refl c _ ∙ sym (none_stored (holds w s) (is_load w) (access_of (is_byte w) (transfer_address w s)) loads))
       (λ s h. skipped_stores (holds w s) (not (is_load w)) (access_of (is_byte w) (transfer_address w s)) h) (λ t. refl)
       (λ b h. (subst (λ (y : ℕ). other_loads m y list ≡ 0) (sym (some_is _ _ (sym told ∙ h))) alone, stores)) fits

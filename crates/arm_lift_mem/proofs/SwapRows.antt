@@ -21,7 +21,7 @@ use Rattle.machine_spec.proofs.ArmRanges.{load_1, load_by_small, reg_small, put_
 use Rattle.arm_decode.specs.declared.parts.Condition.{Condition}
 use Rattle.arm_decode.specs.Parts.{condition_number}
 use Rattle.arm_decode.specs.Forms.{IsSwap}
-use Rattle.arm_decode.specs.declared.forms.SwapFields.{SwapFields}
+use Rattle.arm_decode.specs.declared.swaps.SwapFields.{SwapFields}
 use Rattle.arm_lift_alu.specs.Lifted.{conditional}
 use Rattle.arm_lift_alu.specs.Operands.{own}
 use Rattle.arm_lift_alu.proofs.Plain.{IsPlain, own_register}
@@ -192,8 +192,8 @@ module _ (m : Endian) (w at : ℕ) (k : Condition) (i : SwapFields) (code : cond
       list_stored list c (position k turns None s) ≡ addresses (Some (access_of b (place s)))) →
       v + 70 ≤ 4096 → l ≤ (swap m w).cost.loads → IsLifting (arm m V4) RRegisters (swap m w) at (conditional k list)
   lifting v l list runs static places fits loads =
-      conditional_lifting m w at v 4096 l (bytes_of b) 0 (λ s c. swapped m w s) (swap m w).stored none false (swap m w).cost.loads (swap m w).cost.stores
-      (swap m w).successors (swap m w).literal list runs static
+      conditional_lifting m w at v 4096 l (bytes_of b) 0 (λ s c. swapped m w s) (swap m w).stored (swap m w).loaded none false (swap m w).cost.loads
+      (swap m w).cost.stores (swap m w).successors (swap m w).literal list runs static
       (λ s is here held c turns k. places s is here c turns k ∙ ap (λ z. addresses (Some z)) (place_is s) ∙ held_stores (holds w s) _ held)
       (λ s h. skipped (holds w s) _ h) (λ t. refl) (λ a h. cc) fits loads
       (let e : bytes_of b ≡ (if is_byte w then 1 else 4) = same_bytes b ∙ ap (λ b. if b then 1 else 4) x.is_byte in omega arith) k code

@@ -20,7 +20,7 @@ use Rattle.machine_spec.proofs.ArmRanges.{reg_small, store_by_small}
 use Rattle.arm_decode.specs.declared.parts.Condition.{Condition}
 use Rattle.arm_decode.specs.Parts.{condition_number}
 use Rattle.arm_decode.specs.Forms.{IsTransfer}
-use Rattle.arm_decode.specs.declared.forms.TransferFields.{TransferFields}
+use Rattle.arm_decode.specs.declared.transfers.TransferFields.{TransferFields}
 use Rattle.arm_decode.specs.declared.parts.Indexing.{Indexing}
 use Rattle.arm_lift_alu.specs.Lifted.{conditional}
 use Rattle.arm_lift_alu.specs.Operands.{register}
@@ -191,8 +191,8 @@ module _ (m : Endian) (w at : ℕ) (k : Condition) (i : TransferFields) (code : 
       ((single_transfer m w).draws ≡ false → u ≡ 0) → literal_address w at ≡ None → v + 70 ≤ 4096 → l ≤ (single_transfer m w).cost.loads →
       t ≤ (single_transfer m w).cost.stores → IsLifting (arm m V4) RRegisters (single_transfer m w) at (conditional k list)
   lifting v l t u list runs static places drawn none fits loads stores =
-      conditional_lifting m w at v 4096 l t u (transferred (is_load w) m w) (single_transfer m w).stored (offset_reads w) (single_transfer m w).draws
-      (single_transfer m w).cost.loads (single_transfer m w).cost.stores (single_transfer m w).successors (literal_address w) list runs static places
+      conditional_lifting m w at v 4096 l t u (transferred (is_load w) m w) (single_transfer m w).stored (single_transfer m w).loaded (offset_reads w)
+      (single_transfer m w).draws (single_transfer m w).cost.loads (single_transfer m w).cost.stores (single_transfer m w).successors (literal_address w) list runs static places
       (λ s h. skipped_stores (holds w s) (not (is_load w)) (access_of (is_byte w) (transfer_address w s)) h) drawn (λ a h. cc) fits loads stores k code
 
   -- a load to a register

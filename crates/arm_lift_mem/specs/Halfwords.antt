@@ -7,7 +7,7 @@ use Rattle.arm_decode.specs.declared.parts.HalfwordOffset as offsets
 use Rattle.arm_decode.specs.declared.parts.HalfwordOffset.TheVariants as offset
 use Rattle.arm_decode.specs.declared.parts.HalfwordOp.{HalfwordOp}
 use Rattle.arm_decode.specs.declared.parts.HalfwordOp.TheVariants.{Ldrh, Ldrsb, Ldrsh, Strh}
-use Rattle.arm_decode.specs.declared.forms.HalfwordFields.{HalfwordFields}
+use Rattle.arm_decode.specs.declared.halfwords.HalfwordFields.{HalfwordFields}
 use Rattle.arm_lift_alu.specs.Lifted.{number}
 use Rattle.arm_lift_alu.specs.Operands.{own, register}
 use Rattle.arm_lift_mem.specs.Accesses.{address, address_again, written_back, unless}

@@ -3,7 +3,7 @@ use Rattle.std.specs.Prelude.{ℕ, ◌==◌, Bool, true, false}
 use Rattle.word_spec.specs.Memory.{Endian}
 use Rattle.machine_spec.specs.Bil as bil
 use Rattle.machine_spec.specs.Bil.{RRegisters, Mem, Expression, Var, Load, Binary, Cast, Statements, Empty, Assign}
-use Rattle.arm_decode.specs.declared.forms.SwapFields.{SwapFields}
+use Rattle.arm_decode.specs.declared.swaps.SwapFields.{SwapFields}
 use Rattle.arm_lift_alu.specs.Operands.{own}
 use Rattle.arm_lift_mem.specs.Accesses.{aligned, loaded, stored}
 

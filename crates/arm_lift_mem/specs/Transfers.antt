@@ -9,7 +9,7 @@ use Rattle.arm_decode.specs.declared.parts.Indexing.{Indexing}
 use Rattle.arm_decode.specs.declared.parts.Indexing.TheVariants as indexing
 use Rattle.arm_decode.specs.declared.parts.Offset as offsets
 use Rattle.arm_decode.specs.declared.parts.Offset.TheVariants as offset
-use Rattle.arm_decode.specs.declared.forms.TransferFields.{TransferFields}
+use Rattle.arm_decode.specs.declared.transfers.TransferFields.{TransferFields}
 use Rattle.arm_lift_alu.specs.Lifted.{number}
 use Rattle.arm_lift_alu.specs.Operands.{own, register}
 use Rattle.arm_lift_mem.specs.Accesses.{offset_of, moved_number, address, address_again, written_back, word, loaded, stored, unless}

@@ -1,15 +1,11 @@
 -- Sets of flags as numbers.
-use Rattle.std.proofs.Common.{◌≡◌, ℕ, zero, suc, ◌+◌, ◌*◌, ◌/◌, ◌%◌, ◌<◌, refl, ap, ◌∙◌, Bool, true, false, arith}
+use Rattle.std.proofs.Common.{◌≡◌, ℕ, zero, suc, ◌+◌, ◌*◌, ◌/◌, ◌%◌, ◌<◌, refl, ap, subst, ◌∙◌, Bool, true, false, arith}
 use Rattle.std.specs.Prelude.{◌==◌, ◌&&◌, ◌||◌}
 use Rattle.word_spec.specs.Words.{bit, bit_at}
-use Rattle.word_spec.specs.Memory.{Endian}
-use Rattle.machine_spec.specs.Arm.{with_flags, flag_set}
+use Rattle.machine_spec.specs.Machine as table
+use Rattle.machine_spec.specs.Arm.{with_flags, flag_set, flag_use}
 use Rattle.machine_law.specs.declared.facts.FlagUse.{FlagUse}
 use Rattle.machine_law.specs.Facts.{IsFlagUse}
-use Rattle.arm_decode.specs.declared.insn.Insn.{Insn}
-use Rattle.arm_decode.specs.declared.insn.Insn.TheVariants.{Computing, Multiply, MultiplyLong, Swap, Transfer, Halfword, Block, Branch, SoftwareInterrupt, Exchange, Count}
-use Rattle.arm_decode.specs.Insns.{row_of}
-use Rattle.arm_step.specs.FlagSets.{read_of, sure_of, sets_of, assigns_c_of, assigns_v_of}
 
 -- the bits of four flags
 pub number_bit : (a b d g f : ℕ) → a < 2 → b < 2 → d < 2 → g < 2 → f < 4 →
@@ -66,55 +62,12 @@ read_flag n z c v r named (suc (suc zero)) l a b d e = ap (λ x. bit x == 1) d �
 read_flag n z c v r named (suc (suc (suc zero))) l a b d e = ap (λ x. bit x == 1) e ∙ kept (named 3) r
 read_flag n z c v r named (suc (suc (suc (suc f)))) l a b d e = absurd (omega arith)
 
-pub same_set : (a b c d x y : Bool) (f : ℕ) → a ≡ b → c ≡ d → x ≡ y → flag_set a c x f ≡ flag_set b d y f
-same_set a b c d x y f p q r = ap (λ a. flag_set a c x f) p ∙ ap (λ c. flag_set b c x f) q ∙ ap (λ x. flag_set b d x f) r
-
-row_reads : (e : Endian) (i : Insn) (f : ℕ) → read_of i f ≡ (row_of e i).flags.reads f
-row_reads e (Computing x) f = refl
-row_reads e (Multiply x) f = refl
-row_reads e (MultiplyLong x) f = refl
-row_reads e (Swap x) f = refl
-row_reads e (Transfer x) f = refl
-row_reads e (Halfword x) f = refl
-row_reads e (Block x) f = refl
-row_reads e (Branch x) f = refl
-row_reads e (SoftwareInterrupt x) f = refl
-row_reads e (Exchange x) f = refl
-row_reads e (Count x) f = refl
-
-row_assigns : (e : Endian) (i : Insn) (f : ℕ) → flag_set (sets_of i) (assigns_c_of i) (assigns_v_of i) f ≡ (row_of e i).flags.assigns f
-row_assigns e (Computing x) f = refl
-row_assigns e (Multiply x) f = refl
-row_assigns e (MultiplyLong x) f = refl
-row_assigns e (Swap x) f = refl
-row_assigns e (Transfer x) f = refl
-row_assigns e (Halfword x) f = refl
-row_assigns e (Block x) f = refl
-row_assigns e (Branch x) f = refl
-row_assigns e (SoftwareInterrupt x) f = refl
-row_assigns e (Exchange x) f = refl
-row_assigns e (Count x) f = refl
-
-row_surely : (e : Endian) (i : Insn) (f : ℕ) → sure_of i f ≡ (row_of e i).flags.surely f
-row_surely e (Computing x) f = refl
-row_surely e (Multiply x) f = refl
-row_surely e (MultiplyLong x) f = refl
-row_surely e (Swap x) f = refl
-row_surely e (Transfer x) f = refl
-row_surely e (Halfword x) f = refl
-row_surely e (Block x) f = refl
-row_surely e (Branch x) f = refl
-row_surely e (SoftwareInterrupt x) f = refl
-row_surely e (Exchange x) f = refl
-row_surely e (Count x) f = refl
-
-pub use_is : (e : Endian) (i : Insn) (found : FlagUse) → found.reads < 16 → found.assigns < 16 → found.surely < 16 →
-    ((f : ℕ) → f < 4 → (bit_at f found.reads == 1) ≡ read_of i f) →
-    ((f : ℕ) → f < 4 → (bit_at f found.assigns == 1) ≡ flag_set (sets_of i) (assigns_c_of i) (assigns_v_of i) f) →
-    ((f : ℕ) → f < 4 → (bit_at f found.surely == 1) ≡ sure_of i f) → IsFlagUse found (row_of e i).flags
-use_is e i found p q r a b c = record {
-  small = (p, q, r);
-  reads = λ f l. a f l ∙ row_reads e i f;
-  assigns = λ f l. b f l ∙ row_assigns e i f;
-  surely = λ f l. c f l ∙ row_surely e i f;
-}
+-- the flags of a row by equal parts
+pub same_use : (found : FlagUse) (w : ℕ) (r a b d x y z q k l m n o p : Bool) → r ≡ q → a ≡ k → b ≡ l → d ≡ m → x ≡ n → y ≡ o → z ≡ p →
+    IsFlagUse found (flag_use w (flag_set false r false) (flag_set a b d) (flag_set x y z)) →
+    IsFlagUse found (flag_use w (flag_set false q false) (flag_set k l m) (flag_set n o p))
+same_use found w r a b d x y z q k l m n o p er ea eb ed ex ey ez h =
+    let made : Bool → Bool → Bool → Bool → Bool → Bool → Bool → table.FlagUse =
+    λ r a b d x y z. flag_use w (flag_set false r false) (flag_set a b d) (flag_set x y z) in
+    subst (IsFlagUse found) (ap (λ r. made r a b d x y z) er ∙ ap (λ a. made q a b d x y z) ea ∙ ap (λ b. made q k b d x y z) eb
+    ∙ ap (λ d. made q k l d x y z) ed ∙ ap (λ x. made q k l m x y z) ex ∙ ap (λ y. made q k l m n y z) ey ∙ ap (made q k l m n o) ez) h

@@ -6,4 +6,5 @@ pub mod Operands
 pub mod ReadRegisters
 pub mod RegisterLists
 pub mod WholeRows
+pub mod LoadedRows
 pub mod FlagNumbers

@@ -1,9 +1,11 @@
 -- The parts of a state and of a result, as the table has them.
-use Rattle.std.specs.Prelude.{ℕ, ◌+◌, ◌*◌, ◌^◌, if◌then◌else◌}
+use Rattle.std.specs.Prelude.{ℕ, ◌≡◌, ◌+◌, ◌*◌, ◌^◌, if◌then◌else◌}
 use Rattle.word_spec.specs.Words.{bit, add, mul, sign_extend}
 use Rattle.word_spec.specs.State.{State}
 use Rattle.machine_spec.specs.Arm as rows
 use Rattle.machine_spec.specs.Arm.{with_flags, reg, has_bit, accumulates, field_n, field_d, field_s, field_m}
+use Rattle.arm_decode.specs.declared.parts.Condition.{Condition}
+use Rattle.arm_decode.specs.Parts.{condition_number}
 use Rattle.arm_step.specs.declared.flags.Flags.{Flags}
 use Rattle.arm_step.specs.declared.shifter.Shifted.{Shifted}
 use Rattle.arm_step.specs.declared.sums.Computed.{Computed}
@@ -29,3 +31,9 @@ long_product w s =
 -- what MUL and MLA make: a product of 32 bits, with what is added
 abbrev pub short_product : ℕ → State → ℕ
 short_product w s = add 32 (mul 32 (reg s (field_m w)) (reg s (field_s w))) (if accumulates w then reg s (field_d w) else 0)
+
+-- flags are those that a condition names
+abbrev pub flags_named : Condition → Flags → Type 0
+flags_named condition x =
+    let named = rows.condition_reads rows.condition_flags (condition_number condition) in
+    (x.v ≡ named 0) × (x.c ≡ named 1) × (x.z ≡ named 2) × (x.n ≡ named 3)

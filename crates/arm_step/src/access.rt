@@ -143,3 +143,10 @@ pub(crate) fn write(state: &mut State, rd: AnyRegister, value: u32) -> StepOut
         None => state.jump(value, How::Indirect),
     }
 }
+
+/// The first address and the number of the bytes of an access to a byte or a word.
+pub(crate) fn access_of(is_byte: bool, a: u32) -> (u32, u8)
+    ensures { result ≡ rows.access_of is_byte a }
+{
+    if is_byte { (a, 1) } else { (aligned(a), 4) }
+}

@@ -1,16 +1,18 @@
 //! LDM and STM (section A3.12).
-ghost use Rattle.std.specs.Prelude.{◌≡◌, ℕ, ◌≤◌, ◌<◌, ◌+◌, ◌-◌, ◌*◌, ◌==◌, false, if◌then◌else◌, length};
+ghost use Rattle.std.specs.Prelude.{◌≡◌, ◌≤◌, ◌<◌, ◌+◌, ◌-◌, ◌*◌, ◌==◌, false, ℕ, length, if◌then◌else◌, ◌&&◌, not};
+ghost use Rattle.machine_spec.specs.Arm as rows;
 ghost use Rattle.word_spec.specs.Memory.{load};
 ghost use Rattle.word_spec.specs.State.{put};
-ghost use Rattle.machine_spec.specs.Arm as rows;
 ghost use Rattle.byte_mem.specs.Views.{endian_of, IsStep};
 ghost use Rattle.arm_decode.specs.Forms.{IsBlock};
 ghost use Rattle.arm_step.specs.States.{state_of, spare_of};
 
 use crate::access::{aligned, moved};
+use crate::class::Step;
+use crate::facts::{Facts, access_cost, may_jump};
 use crate::state::State;
-use arm_decode::{AnyRegister, Block, BlockFields, Register, RegisterList};
-use byte_mem::{Endian, How, StepOut, View};
+use arm_decode::{AnyRegister, Block, BlockFields, Class, Register, RegisterList};
+use byte_mem::{Endian, How, StepOut};
 
 /// The number of the registers of a list that are below a number.
 fn count(list: RegisterList, end: u8) -> u32
@@ -28,7 +30,7 @@ fn count(list: RegisterList, end: u8) -> u32
 }
 
 /// The number of the registers that LDM and STM load and store.
-pub(crate) fn listed(fields: BlockFields) -> u32
+fn listed(fields: BlockFields) -> u32
     ensures listed { (w : ℕ) → IsBlock w fields → result ≡ length (rows.listed w) }
     ensures few { result ≤ 16 }
 {
@@ -48,7 +50,7 @@ fn first_offset(is_up: bool, is_before: bool, bytes: u32) -> u32
 }
 
 /// The address of the first word that LDM and STM load and store.
-pub(crate) fn block_start(fields: BlockFields, state: &State) -> u32
+fn block_start(fields: BlockFields, state: &State) -> u32
     ensures { (w : ℕ) → IsBlock w fields → result ≡ rows.block_start w (state_of state.now) }
 {
     let base = state.read(fields.rn);
@@ -147,17 +149,63 @@ fn store_block(fields: BlockFields, state: &mut State, endian: Endian, choice: u
     state.go_on()
 }
 
-/// LDM and STM.
-pub(crate) fn block(insn: Block, state: &mut State, endian: Endian, choice: u8) -> StepOut
-    requires { 64 ≤ spare_of state.old }
-    ensures step { IsStep (state_of state.old) (state_of state.new) result
-        (rows.block_done (rows.is_load insn.word) (endian_of endian) insn.word (state_of state.old) choice) }
-    ensures spare { spare_of state.old ≤ spare_of state.new + 64 }
+/// Whether it loads r15.
+fn loads_pc(insn: Block) -> bool
+    ensures { result ≡ (rows.is_load insn.word && rows.has_bit 15 insn.word) }
 {
     let fields = insn.fields();
-    if fields.is_load {
-        load_block(fields, state, endian)
-    } else {
-        store_block(fields, state, endian, choice)
+    fields.is_load && insn.has_pc()
+}
+
+/// Whether it stores r15.
+fn stores_pc(insn: Block) -> bool
+    ensures { result ≡ (not (rows.is_load insn.word) && rows.has_bit 15 insn.word) }
+{
+    let fields = insn.fields();
+    !fields.is_load && insn.has_pc()
+}
+
+/// What LDM loads where its condition holds.
+fn loaded_bytes(fields: BlockFields, state: &State) -> Option<(u32, u8)>
+    ensures { (w : ℕ) → IsBlock w fields → result ≡ rows.when_stored (rows.is_load w) (rows.block_start w (state_of state.now), 4 * length (rows.listed w)) }
+{
+    if !fields.is_load {
+        return None;
+    }
+    Some((block_start(fields, state), (4 * listed(fields)) as u8))
+}
+
+impl Step for Block {
+    fn act(self, state: &mut State, endian: Endian, choice: u8) -> StepOut {
+        let fields = self.fields();
+        if fields.is_load {
+            load_block(fields, state, endian)
+        } else {
+            store_block(fields, state, endian, choice)
+        }
+    }
+
+    fn stored(self, state: &State) -> Option<(u32, u8)> {
+        let fields = self.fields();
+        if fields.is_load {
+            return None;
+        }
+        Some((block_start(fields, state), (4 * listed(fields)) as u8))
+    }
+
+    fn loaded(self, state: &State) -> Option<(u32, u8)> {
+        loaded_bytes(self.fields(), state)
+    }
+
+    fn facts(self, at: u32) -> Facts {
+        let fields = self.fields();
+        let condition = self.condition();
+        let count = listed(fields) as u64;
+        Facts {
+            successors: may_jump(loads_pc(self), condition.is_always()),
+            cost: access_cost(4096 + 512 * count, fields.is_load, 4 * count, 4 * count),
+            draws: stores_pc(self),
+            ..Facts::plain(condition)
+        }
     }
 }

@@ -56,7 +56,7 @@ impl View for State {
 impl State {
     ghost use Rattle.std.specs.Prelude.{◌≡◌, ◌≤◌, ◌+◌, ◌*◌, length, OnOk, OnErr, IfOk};
     ghost use Rattle.word_spec.specs.Memory as memory;
-    ghost use Rattle.word_spec.specs.Memory.{store};
+    ghost use Rattle.word_spec.specs.Memory.{Little, store};
     ghost use Rattle.word_spec.specs.State as machine;
     ghost use Rattle.word_spec.specs.State.{put, with_pc};
     ghost use Rattle.machine_spec.specs.Arm as rows;
@@ -216,5 +216,14 @@ impl State {
     {
         let low = Word::new(32, value as u64).low(8 * n);
         self.memory.store_reserved(a, n, endian, low);
+    }
+
+    /// Changes the byte at an address.
+    pub fn put(&mut self, at: u32, byte: u8)
+        requires { 1 ≤ spare_of self.old }
+        ensures state { state_of self.new ≡ record (state_of self.old) { mem = store Little 1 (state_of self.old).mem at byte } }
+        ensures spare { spare_of self.old ≤ spare_of self.new + 1 }
+    {
+        self.store(at, 1, Endian::Little, byte as u32);
     }
 }

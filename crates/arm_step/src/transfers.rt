@@ -1,36 +1,22 @@
-//! Accesses to one place (sections A3.11 and A3.13).
-ghost use Rattle.std.specs.Prelude.{◌≡◌, ℕ, ◌≤◌, ◌<◌, ◌+◌, ◌%◌, ◌==◌, ◌&&◌, not, true, false};
+//! LDR, LDRB, STR and STRB (section A3.11).
+ghost use Rattle.std.specs.Prelude.{◌≡◌, ◌≤◌, ◌<◌, ◌+◌, ◌%◌, ◌==◌, ◌&&◌, not, true, ℕ};
 ghost use Rattle.machine_spec.specs.Arm as rows;
 ghost use Rattle.byte_mem.specs.Views.{endian_of, IsStep};
-ghost use Rattle.arm_decode.specs.Forms.{IsTransfer, IsHalfword};
-ghost use Rattle.arm_decode.specs.Parts.{HasHalfwordOp};
+ghost use Rattle.arm_decode.specs.Forms.{IsTransfer};
 ghost use Rattle.arm_step.specs.States.{state_of, spare_of};
 
-use crate::access::{address, halfword_offset_of, load_by, offset_of, store_by, write, write_back};
-use crate::state::State;
-use crate::words::extended;
-use arm_decode::{
-    AnyRegister, Halfword, HalfwordFields, HalfwordOp, Swap, Transfer, TransferFields,
+use crate::access::{
+    access_of, address, aligned, load_by, moved, offset_of, store_by, write, write_back,
 };
+use crate::class::Step;
+use crate::facts::{Facts, access_cost, bytes_of, may_jump};
+use crate::state::State;
+use crate::used_flags::{FlagSet, flags_by};
+use arm_decode::{AnyRegister, Class, Offset, Transfer, TransferFields};
 use byte_mem::{Endian, StepOut};
 
-/// SWP and SWPB.
-pub(crate) fn swap(insn: Swap, state: &mut State, endian: Endian) -> StepOut
-    requires { 4 ≤ spare_of state.old }
-    ensures step { IsStep (state_of state.old) (state_of state.new) result (rows.swapped (endian_of endian) insn.word (state_of state.old)) }
-    ensures spare { spare_of state.old ≤ spare_of state.new + 4 }
-{
-    let fields = insn.fields();
-    let a = state.read(fields.rn);
-    let stored = state.read(fields.rm);
-    let loaded = load_by(fields.is_byte, endian, state, a);
-    store_by(fields.is_byte, endian, state, a, stored);
-    state.set(fields.rd, loaded);
-    state.go_on()
-}
-
 /// The address of LDR and STR.
-pub(crate) fn transfer_address(fields: TransferFields, state: &State) -> u32
+fn transfer_address(fields: TransferFields, state: &State) -> u32
     ensures { (w : ℕ) → IsTransfer w fields → result ≡ rows.transfer_address w (state_of state.now) }
 {
     let offset = offset_of(fields.offset, state);
@@ -75,94 +61,86 @@ fn store(fields: TransferFields, state: &mut State, endian: Endian, choice: u8) 
     state.go_on()
 }
 
-/// LDR, LDRB, STR and STRB.
-pub(crate) fn transfer(insn: Transfer, state: &mut State, endian: Endian, choice: u8) -> StepOut
-    requires { 4 ≤ spare_of state.old }
-    ensures step { IsStep (state_of state.old) (state_of state.new) result
-        (rows.transferred (rows.is_load insn.word) (endian_of endian) insn.word (state_of state.old) choice) }
-    ensures spare { spare_of state.old ≤ spare_of state.new + 4 }
+/// The address of the literal that a load by r15 without write-back has.
+fn literal_of(fields: TransferFields, at: u32) -> Option<u32>
+    ensures { (w : ℕ) → IsTransfer w fields → result ≡ rows.literal_address w at }
+{
+    let Offset::Number(number) = fields.offset else {
+        return None;
+    };
+    let by_pc = fields.rn.number() == 15 && !fields.addressing.indexing.writes_back();
+    if fields.is_load && !fields.is_byte && by_pc {
+        let base = at.wrapping_add(8);
+        Some(aligned(moved(fields.addressing.is_up, base, number as u32)))
+    } else {
+        None
+    }
+}
+
+/// Whether it loads r15.
+fn loads_pc(insn: Transfer) -> bool
+    ensures { result ≡ (rows.is_load insn.word && (rows.field_d insn.word == 15)) }
 {
     let fields = insn.fields();
-    if fields.is_load {
-        load(fields, state, endian)
-    } else {
-        store(fields, state, endian, choice)
-    }
+    fields.is_load && fields.rd.number() == 15
 }
 
-/// The address of LDRH, STRH, LDRSB and LDRSH.
-pub(crate) fn halfword_address(fields: HalfwordFields, state: &State) -> u32
-    ensures { (w : ℕ) → IsHalfword w fields → result ≡ rows.halfword_address w (state_of state.now) }
-{
-    let offset = halfword_offset_of(fields.offset, state);
-    address(fields.addressing, state.read_any(fields.rn), offset)
-}
-
-/// How many bytes LDRH, STRH, LDRSB and LDRSH access.
-pub(crate) fn halfword_size(op: HalfwordOp) -> u32
-    ensures size { (w : ℕ) → HasHalfwordOp w op → result ≡ rows.halfword_size w }
-    ensures some { 1 ≤ result }
-    ensures few { result ≤ 2 }
-{
-    match op {
-        HalfwordOp::Ldrsb => 1,
-        HalfwordOp::Ldrh | HalfwordOp::Ldrsh | HalfwordOp::Strh => 2,
-    }
-}
-
-/// What LDRH, LDRSB and LDRSH load.
-fn halfword_value(op: HalfwordOp, state: &State, endian: Endian, a: u32) -> u32
-    ensures { (w : ℕ) → HasHalfwordOp w op → result ≡ rows.halfword_value (endian_of endian) w (state_of state.now).mem a }
-{
-    match op {
-        HalfwordOp::Ldrsb => extended(8, state.loaded(a, 1, endian)),
-        HalfwordOp::Ldrsh => extended(16, state.loaded(a, 2, endian)),
-        HalfwordOp::Ldrh | HalfwordOp::Strh => state.loaded(a, 2, endian),
-    }
-}
-
-/// LDRH, LDRSB and LDRSH.
-fn load_halfword(fields: HalfwordFields, state: &mut State, endian: Endian) -> StepOut
-    ensures step { (w : ℕ) → IsHalfword w fields → (rows.writes_back w ≡ true → rows.field_n w < 15)
-        → IsStep (state_of state.old) (state_of state.new) result (rows.halfword_by true true (endian_of endian) w (state_of state.old)) }
-    ensures spare { spare_of state.new ≡ spare_of state.old }
-{
-    let offset = halfword_offset_of(fields.offset, state);
-    let a = halfword_address(fields, state);
-    let value = halfword_value(fields.op, state, endian, a);
-    write_back(state, fields.addressing, fields.rn, offset);
-    state.set(fields.rd, value);
-    state.go_on()
-}
-
-/// STRH.
-fn store_halfword(fields: HalfwordFields, state: &mut State, endian: Endian) -> StepOut
-    requires { 4 ≤ spare_of state.old }
-    ensures step { (w : ℕ) → IsHalfword w fields → (rows.writes_back w ≡ true → rows.field_n w < 15)
-        → IsStep (state_of state.old) (state_of state.new) result (rows.halfword_by true false (endian_of endian) w (state_of state.old)) }
-    ensures spare { spare_of state.old ≤ spare_of state.new + 4 }
-{
-    let offset = halfword_offset_of(fields.offset, state);
-    let a = halfword_address(fields, state);
-    let value = state.read(fields.rd);
-    state.store(a, 2, endian, value);
-    write_back(state, fields.addressing, fields.rn, offset);
-    state.go_on()
-}
-
-/// LDRH, STRH, LDRSB and LDRSH: a halfword at an odd address is an exception.
-pub(crate) fn halfword(insn: Halfword, state: &mut State, endian: Endian) -> StepOut
-    requires { 4 ≤ spare_of state.old }
-    ensures step { IsStep (state_of state.old) (state_of state.new) result (rows.halfword_done (endian_of endian) insn.word (state_of state.old)) }
-    ensures spare { spare_of state.old ≤ spare_of state.new + 4 }
+/// Whether it stores r15.
+fn stores_pc(insn: Transfer) -> bool
+    ensures { result ≡ (not (rows.is_load insn.word) && (rows.field_d insn.word == 15)) }
 {
     let fields = insn.fields();
-    if halfword_address(fields, state) % halfword_size(fields.op) != 0 {
-        return StepOut::Halfword;
+    !fields.is_load && fields.rd.number() == 15
+}
+
+/// What LDR and LDRB load where their condition holds.
+fn loaded_bytes(fields: TransferFields, state: &State) -> Option<(u32, u8)>
+    ensures { (w : ℕ) → IsTransfer w fields → result ≡ rows.when_stored (rows.is_load w && not (rows.is_unaligned w (state_of state.now)))
+        (rows.access_of (rows.is_byte w) (rows.transfer_address w (state_of state.now))) }
+{
+    if !fields.is_load {
+        return None;
     }
-    if fields.op.is_load() {
-        load_halfword(fields, state, endian)
-    } else {
-        store_halfword(fields, state, endian)
+    let a = transfer_address(fields, state);
+    if is_unaligned(fields.rd, a) {
+        return None;
+    }
+    Some(access_of(fields.is_byte, a))
+}
+
+impl Step for Transfer {
+    fn act(self, state: &mut State, endian: Endian, choice: u8) -> StepOut {
+        let fields = self.fields();
+        if fields.is_load {
+            load(fields, state, endian)
+        } else {
+            store(fields, state, endian, choice)
+        }
+    }
+
+    fn stored(self, state: &State) -> Option<(u32, u8)> {
+        let fields = self.fields();
+        if fields.is_load {
+            return None;
+        }
+        Some(access_of(fields.is_byte, transfer_address(fields, state)))
+    }
+
+    fn loaded(self, state: &State) -> Option<(u32, u8)> {
+        loaded_bytes(self.fields(), state)
+    }
+
+    fn facts(self, at: u32) -> Facts {
+        let fields = self.fields();
+        let condition = self.condition();
+        let bytes = bytes_of(fields.is_byte);
+        Facts {
+            successors: may_jump(loads_pc(self), condition.is_always()),
+            literal: literal_of(fields, at),
+            cost: access_cost(4096, fields.is_load, bytes, bytes),
+            flags: flags_by(condition, self.is_rrx(), FlagSet::NONE, FlagSet::NONE),
+            draws: stores_pc(self),
+            links: false,
+        }
     }
 }

@@ -1,24 +1,30 @@
 //! The flags that an instruction reads and assigns.
-ghost use Rattle.std.specs.Prelude.{◌≡◌, ◌<◌, ◌==◌, ◌||◌, ℕ};
+ghost use Rattle.std.specs.Prelude.{◌≡◌, ◌<◌, ◌==◌, ◌&&◌, ◌||◌, false, ℕ};
 ghost use Rattle.machine_spec.specs.Arm as rows;
-ghost use Rattle.word_spec.specs.Memory as memory;
 ghost use Rattle.word_spec.specs.Words as words;
 ghost use Rattle.machine_law.specs.Facts.{IsFlagUse};
-ghost use Rattle.arm_decode.specs.Insns.{row_of};
-ghost use Rattle.arm_step.specs.FlagSets.{reads_carry_of, sets_of, assigns_c_of, assigns_v_of, surely_c_of, flags_named, read_of, sure_of};
-ghost use Rattle.arm_step.specs.Parts.{flags_of};
+ghost use Rattle.arm_decode.specs.Parts.{condition_number};
+ghost use Rattle.arm_step.specs.Parts.{flags_of, flags_named};
 
-use crate::facts::is_always;
 use crate::flags::Flags;
-use arm_decode::{Condition, Insn};
+use arm_decode::Condition;
 use machine_law::FlagUse;
 
 /// N and Z together, C, and V, as far as they are in a set.
 #[derive(Clone, Copy)]
-struct FlagSet {
-    nz: bool,
-    c: bool,
-    v: bool,
+pub(crate) struct FlagSet {
+    pub(crate) nz: bool,
+    pub(crate) c: bool,
+    pub(crate) v: bool,
+}
+
+impl FlagSet {
+    /// No flag.
+    pub(crate) const NONE: FlagSet = FlagSet {
+        nz: false,
+        c: false,
+        v: false,
+    };
 }
 
 fn bit(set: bool) -> u8
@@ -72,91 +78,6 @@ fn condition_flags(condition: Condition) -> Flags
     }
 }
 
-/// Whether the instruction reads C, beside its condition.
-fn reads_carry(insn: &Insn) -> bool
-    ensures { result ≡ reads_carry_of insn.now }
-{
-    match *insn {
-        Insn::Computing(insn) => insn.adds_carry() || insn.is_rrx(),
-        Insn::Transfer(insn) => insn.is_rrx(),
-        _ => false,
-    }
-}
-
-/// The flags that the instruction may assign.
-fn assigned(insn: &Insn) -> FlagSet
-    ensures nz { result.nz ≡ sets_of insn.now }
-    ensures c { result.c ≡ assigns_c_of insn.now }
-    ensures v { result.v ≡ assigns_v_of insn.now }
-{
-    match *insn {
-        Insn::Computing(insn) => {
-            let sets_flags = insn.fields().sets_flags;
-            let is_logical = insn.is_logical();
-            FlagSet {
-                nz: sets_flags,
-                c: sets_flags && !(is_logical && insn.keeps_carry()),
-                v: sets_flags && !is_logical,
-            }
-        }
-        Insn::Multiply(insn) => {
-            let sets_flags = insn.fields().sets_flags;
-            FlagSet {
-                nz: sets_flags,
-                c: !insn.keeps() && sets_flags,
-                v: false,
-            }
-        }
-        Insn::MultiplyLong(insn) => {
-            let sets_flags = insn.fields().sets_flags;
-            let draws = !insn.keeps() && sets_flags;
-            FlagSet {
-                nz: sets_flags,
-                c: draws,
-                v: draws,
-            }
-        }
-        _ => FlagSet {
-            nz: false,
-            c: false,
-            v: false,
-        },
-    }
-}
-
-/// Whether the instruction assigns C whatever the state is, where its condition always holds.
-fn surely_carry(insn: &Insn) -> bool
-    ensures { result ≡ surely_c_of insn.now }
-{
-    match *insn {
-        Insn::Computing(insn) => {
-            let keeps = insn.keeps_carry() || insn.is_by_register();
-            insn.fields().sets_flags && !(insn.is_logical() && keeps)
-        }
-        Insn::Multiply(insn) => !insn.keeps() && insn.fields().sets_flags,
-        Insn::MultiplyLong(insn) => !insn.keeps() && insn.fields().sets_flags,
-        _ => false,
-    }
-}
-
-/// The flags that the instruction assigns whatever the state is.
-fn surely(insn: &Insn) -> FlagSet
-    ensures { (f : ℕ) → rows.flag_set result.nz result.c result.v f ≡ sure_of insn.now f }
-{
-    if is_always(insn) {
-        FlagSet {
-            c: surely_carry(insn),
-            ..assigned(insn)
-        }
-    } else {
-        FlagSet {
-            nz: false,
-            c: false,
-            v: false,
-        }
-    }
-}
-
 /// Flags with C beside them, where it is read.
 fn with_carry(condition: Flags, carry: bool) -> Flags
     ensures n { result.n ≡ condition.n }
@@ -170,20 +91,32 @@ fn with_carry(condition: Flags, carry: bool) -> Flags
     }
 }
 
-/// The flags that the instruction reads.
-fn read(insn: &Insn) -> Flags
-    ensures { (f : ℕ) → f < 4 → (flags_of result f == 1) ≡ read_of insn.now f }
+/// A set where a condition always holds, and else none.
+fn where_always(condition: Condition, set: FlagSet) -> FlagSet
+    ensures { (w f : ℕ) → condition_number condition ≡ rows.condition_code w
+        → rows.flag_set result.nz result.c result.v f ≡ (rows.is_always w && rows.flag_set set.nz set.c set.v f) }
 {
-    with_carry(condition_flags(insn.condition()), reads_carry(insn))
+    if condition.is_always() {
+        set
+    } else {
+        FlagSet::NONE
+    }
 }
 
-/// The flags that the instruction reads, may assign, and surely assigns.
-pub fn flag_use(insn: &Insn) -> FlagUse
-    ensures { (e : memory.Endian) → IsFlagUse result (row_of e insn.now).flags }
+/// The flags that an instruction uses: it reads those of its condition, and C where that is said; it assigns some, and some surely where its condition always
+/// holds.
+pub(crate) fn flags_by(
+    condition: Condition,
+    reads_carry: bool,
+    assigned: FlagSet,
+    surely: FlagSet,
+) -> FlagUse
+    ensures { (w : ℕ) → condition_number condition ≡ rows.condition_code w → IsFlagUse result (rows.flag_use w (rows.flag_set false reads_carry false)
+        (rows.flag_set assigned.nz assigned.c assigned.v) (rows.flag_set surely.nz surely.c surely.v)) }
 {
     FlagUse {
-        reads: number(read(insn)),
-        assigns: number(flags_in(assigned(insn))),
-        surely: number(flags_in(surely(insn))),
+        reads: number(with_carry(condition_flags(condition), reads_carry)),
+        assigns: number(flags_in(assigned)),
+        surely: number(flags_in(where_always(condition, surely))),
     }
 }

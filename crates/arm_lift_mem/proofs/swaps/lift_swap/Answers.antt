@@ -2,7 +2,7 @@ use Rattle.machine_spec.specs.Arm as rows
 use Rattle.byte_mem.specs.Views.{endian_of}
 use Rattle.arm_lift_mem.specs.Swaps as lifts
 use Rattle.arm_lift_mem.proofs.SwapRows.{swap_lifting}
-use Rattle.arm_lift_mem.proofs.Returned.{returned}
+use Rattle.arm_lift_alu.proofs.Returned.{returned}
 use Rattle.arm_lift_mem.proofs.swaps.lift_swap.Goals as goal
 
 pub returns : goal.returns

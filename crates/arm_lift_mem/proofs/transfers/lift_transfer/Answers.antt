@@ -2,7 +2,7 @@ use Rattle.machine_spec.specs.Arm as rows
 use Rattle.byte_mem.specs.Views.{endian_of}
 use Rattle.arm_lift_mem.specs.Transfers as lifts
 use Rattle.arm_lift_mem.proofs.Literals.{transfer_lifting}
-use Rattle.arm_lift_mem.proofs.Returned.{returned}
+use Rattle.arm_lift_alu.proofs.Returned.{returned}
 use Rattle.arm_lift_mem.proofs.transfers.lift_transfer.Goals as goal
 
 pub returns : goal.returns
