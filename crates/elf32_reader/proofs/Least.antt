@@ -1,5 +1,5 @@
 -- The two least addresses, and the symbols that were seen.
-use Rattle.std.proofs.Common.{◌≡◌, ◌≢◌, ℕ, ◌+◌, ◌*◌, ◌/◌, ◌%◌, ◌≤◌, ◌<◌, ◌⊎◌, List, length, refl, sym, ◌∙◌, subst, arith, inl, inr}
+use Rattle.std.proofs.Common.{◌≡◌, ◌≢◌, ℕ, ◌+◌, ◌*◌, ◌/◌, ◌%◌, ◌≤◌, ◌<◌, ◌⊎◌, Bool, List, length, refl, sym, ◌∙◌, subst, arith, inl, inr}
 use Rattle.bilv_spec.specs.Elf.{field}
 use Rattle.bilv_spec.specs.ElfFaults.{section, section_count, HasSections, IsSymbols, IsBadSymbols, IsFunction, IsFunctionSymbol, FileFaultApplies, BadSymbolTable}
 use Rattle.std.proofs.lemmas.Bool.{cases_lt}
@@ -68,17 +68,17 @@ least_adds P (Several b d) a g h adds =
     ]
 
 -- before the first symbol none was seen
-pub seen_none : (file name : List ℕ) (f : Found) → f ≡ Nothing → IsLeast (IsSeen file name 0 0) f
-seen_none file name f e =
-    subst (IsLeast (IsSeen file name 0 0)) (sym e)
+pub seen_none : (narrow : Bool) (file name : List ℕ) (f : Found) → f ≡ Nothing → IsLeast (IsSeen narrow file name 0 0) f
+seen_none narrow file name f e =
+    subst (IsLeast (IsSeen narrow file name 0 0)) (sym e)
     (λ a s. elim s.4 as (λ _. ⊥) [ inl l ↦ absurd (omega arith) | inr x ↦ let l : s.1 < 0 = x.1 in absurd (omega arith) ])
 
 -- one symbol more, which is the function at an address
-pub seen_one : (file name : List ℕ) (i k a : ℕ) (f g : Found) → IsSymbols file i → 16 * k < (section file i).size
-    → IsFunctionSymbol file i k name a → IsLeast (IsSeen file name i k) f → Adds f a g → IsLeast (IsSeen file name i (k + 1)) g
-seen_one file name i k a f g table within is least adds =
-    least_same (λ c. IsSeen file name i k c ⊎ (c ≡ a)) (IsSeen file name i (k + 1))
-    (λ c q. elim q as (λ _. IsSeen file name i (k + 1) c) [
+pub seen_one : (narrow : Bool) (file name : List ℕ) (i k a : ℕ) (f g : Found) → IsSymbols file i → 16 * k < (section file i).size
+    → IsFunctionSymbol narrow file i k name a → IsLeast (IsSeen narrow file name i k) f → Adds f a g → IsLeast (IsSeen narrow file name i (k + 1)) g
+seen_one narrow file name i k a f g table within is least adds =
+    least_same (λ c. IsSeen narrow file name i k c ⊎ (c ≡ a)) (IsSeen narrow file name i (k + 1))
+    (λ c q. elim q as (λ _. IsSeen narrow file name i (k + 1) c) [
       | inl s ↦ (
         s.0,
         s.1,
@@ -88,28 +88,28 @@ seen_one file name i k a f g table within is least adds =
             (s.1 < k + 1))) [ inl l ↦ inl l | inr x ↦ inr (x.0, let l : s.1 < k = x.1 in omega arith) ],
         s.5,
       )
-      | inr e ↦ (i, k, table, within, inr (refl, omega arith), subst (IsFunctionSymbol file i k name) (sym e) is)
+      | inr e ↦ (i, k, table, within, inr (refl, omega arith), subst (IsFunctionSymbol narrow file i k name) (sym e) is)
     ])
-    (λ c s. elim s.4 as (λ _. IsSeen file name i k c ⊎ (c ≡ a)) [
+    (λ c s. elim s.4 as (λ _. IsSeen narrow file name i k c ⊎ (c ≡ a)) [
       | inl l ↦ inl (s.0, s.1, s.2, s.3, inl l, s.5)
       | inr x ↦
           let low : s.1 < k + 1 = x.1 in
-          elim (cases_lt s.1 k) as (λ _. IsSeen file name i k c ⊎ (c ≡ a)) [
+          elim (cases_lt s.1 k) as (λ _. IsSeen narrow file name i k c ⊎ (c ≡ a)) [
             | inl l ↦ inl (s.0, s.1, s.2, s.3, inr (x.0, l), s.5)
             | inr l ↦
                 let same : s.1 ≡ k = omega arith in
-                let there : IsFunctionSymbol file i k name c = subst
-                (λ m. IsFunctionSymbol file i m name c) same (subst (λ j. IsFunctionSymbol file j s.1 name c) x.0 s.5) in
+                let there : IsFunctionSymbol narrow file i k name c = subst
+                (λ m. IsFunctionSymbol narrow file i m name c) same (subst (λ j. IsFunctionSymbol narrow file j s.1 name c) x.0 s.5) in
                 inr (sym there.1 ∙ is.1)
           ]
     ])
-    g (least_adds (IsSeen file name i k) f a g least adds)
+    g (least_adds (IsSeen narrow file name i k) f a g least adds)
 
 -- one symbol more, which is not the function
-pub seen_other : (file name : List ℕ) (i k : ℕ) (f : Found)
-    → ((a : ℕ) → ¬ IsFunctionSymbol file i k name a) → IsLeast (IsSeen file name i k) f → IsLeast (IsSeen file name i (k + 1)) f
-seen_other file name i k f none least =
-    least_same (IsSeen file name i k) (IsSeen file name i (k + 1))
+pub seen_other : (narrow : Bool) (file name : List ℕ) (i k : ℕ) (f : Found)
+    → ((a : ℕ) → ¬ IsFunctionSymbol narrow file i k name a) → IsLeast (IsSeen narrow file name i k) f → IsLeast (IsSeen narrow file name i (k + 1)) f
+seen_other narrow file name i k f none least =
+    least_same (IsSeen narrow file name i k) (IsSeen narrow file name i (k + 1))
     (λ c s. (
       s.0,
       s.1,
@@ -119,28 +119,28 @@ seen_other file name i k f none least =
           (s.1 < k + 1))) [ inl l ↦ inl l | inr x ↦ inr (x.0, let l : s.1 < k = x.1 in omega arith) ],
       s.5,
     ))
-    (λ c s. elim s.4 as (λ _. IsSeen file name i k c) [
+    (λ c s. elim s.4 as (λ _. IsSeen narrow file name i k c) [
       | inl l ↦ (s.0, s.1, s.2, s.3, inl l, s.5)
       | inr x ↦
           let low : s.1 < k + 1 = x.1 in
-          elim (cases_lt s.1 k) as (λ _. IsSeen file name i k c) [
+          elim (cases_lt s.1 k) as (λ _. IsSeen narrow file name i k c) [
             | inl l ↦ (s.0, s.1, s.2, s.3, inr (x.0, l), s.5)
             | inr l ↦
                 let same : s.1 ≡ k = omega arith in
-                absurd (none c (subst (λ m. IsFunctionSymbol file i m name c) same (subst (λ j. IsFunctionSymbol file j s.1 name c) x.0 s.5)))
+                absurd (none c (subst (λ m. IsFunctionSymbol narrow file i m name c) same (subst (λ j. IsFunctionSymbol narrow file j s.1 name c) x.0 s.5)))
           ]
     ])
     f least
 
 -- the symbols of a section are those of the next before its first
-pub seen_table : (file name : List ℕ) (i m : ℕ) (f : Found) → (section file i).size ≤ 16 * m
-    → IsLeast (IsSeen file name i m) f → IsLeast (IsSeen file name (i + 1) 0) f
-seen_table file name i m f size least =
-    least_same (IsSeen file name i m) (IsSeen file name (i + 1) 0)
+pub seen_table : (narrow : Bool) (file name : List ℕ) (i m : ℕ) (f : Found) → (section file i).size ≤ 16 * m
+    → IsLeast (IsSeen narrow file name i m) f → IsLeast (IsSeen narrow file name (i + 1) 0) f
+seen_table narrow file name i m f size least =
+    least_same (IsSeen narrow file name i m) (IsSeen narrow file name (i + 1) 0)
     (λ c s. (s.0, s.1, s.2, s.3, inl (elim s.4 as (λ _. s.0 < i + 1) [ inl l ↦ omega arith | inr x ↦ let e : s.0 ≡ i = x.0 in omega arith ]), s.5))
     (λ c s.
     let low : s.0 < i + 1 = elim s.4 as (λ _. s.0 < i + 1) [ inl l ↦ l | inr x ↦ let z : s.1 < 0 = x.1 in absurd (omega arith) ] in
-    elim (cases_lt s.0 i) as (λ _. IsSeen file name i m c) [
+    elim (cases_lt s.0 i) as (λ _. IsSeen narrow file name i m c) [
       | inl l ↦ (s.0, s.1, s.2, s.3, inl l, s.5)
       | inr l ↦
           let same : s.0 ≡ i = omega arith in
@@ -150,14 +150,14 @@ seen_table file name i m f size least =
     f least
 
 -- a section that is no symbol table has no symbols
-pub seen_skip : (file name : List ℕ) (i : ℕ) (f : Found) → ((section file i).kind ≢ 2)
-    → IsLeast (IsSeen file name i 0) f → IsLeast (IsSeen file name (i + 1) 0) f
-seen_skip file name i f other least =
-    least_same (IsSeen file name i 0) (IsSeen file name (i + 1) 0)
+pub seen_skip : (narrow : Bool) (file name : List ℕ) (i : ℕ) (f : Found) → ((section file i).kind ≢ 2)
+    → IsLeast (IsSeen narrow file name i 0) f → IsLeast (IsSeen narrow file name (i + 1) 0) f
+seen_skip narrow file name i f other least =
+    least_same (IsSeen narrow file name i 0) (IsSeen narrow file name (i + 1) 0)
     (λ c s. (s.0, s.1, s.2, s.3, inl (elim s.4 as (λ _. s.0 < i + 1) [ inl l ↦ omega arith | inr x ↦ let e : s.0 ≡ i = x.0 in omega arith ]), s.5))
     (λ c s.
     let low : s.0 < i + 1 = elim s.4 as (λ _. s.0 < i + 1) [ inl l ↦ l | inr x ↦ let z : s.1 < 0 = x.1 in absurd (omega arith) ] in
-    elim (cases_lt s.0 i) as (λ _. IsSeen file name i 0 c) [
+    elim (cases_lt s.0 i) as (λ _. IsSeen narrow file name i 0 c) [
       | inl l ↦ (s.0, s.1, s.2, s.3, inl l, s.5)
       | inr l ↦
           let same : s.0 ≡ i = omega arith in
@@ -166,17 +166,17 @@ seen_skip file name i f other least =
     f least
 
 -- the symbols of all sections
-pub seen_all : (file name : List ℕ) (n : ℕ) (f : Found) → n ≡ section_count file
-    → IsLeast (IsSeen file name n 0) f → IsLeast (IsFunction file name) f
-seen_all file name n f e least =
-    least_same (IsSeen file name n 0) (IsFunction file name)
+pub seen_all : (narrow : Bool) (file name : List ℕ) (n : ℕ) (f : Found) → n ≡ section_count file
+    → IsLeast (IsSeen narrow file name n 0) f → IsLeast (IsFunction narrow file name) f
+seen_all narrow file name n f e least =
+    least_same (IsSeen narrow file name n 0) (IsFunction narrow file name)
     (λ c s. (s.0, s.1, s.2, s.3, s.5))
     (λ c s. (s.0, s.1, s.2, s.3, inl (subst (λ k. s.0 < k) (sym e) s.2.1), s.4))
     f least
 
 -- without sections there is no symbol
-pub no_sections : (file name : List ℕ) → (field file 4 32 ≡ 0) ⊎ (section_count file ≡ 0) → IsLeast (IsFunction file name) Nothing
-no_sections file name none a s =
+pub no_sections : (narrow : Bool) (file name : List ℕ) → (field file 4 32 ≡ 0) ⊎ (section_count file ≡ 0) → IsLeast (IsFunction narrow file name) Nothing
+no_sections narrow file name none a s =
     elim none as (λ _. ⊥) [ inl e ↦ s.2.0.0 e | inr e ↦ s.2.0.1 e ]
 
 -- what an accepted file's tables are

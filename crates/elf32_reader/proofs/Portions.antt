@@ -1,9 +1,9 @@
 -- The parts of the loaded addresses.
-use Rattle.std.proofs.Common.{◌≡◌, ℕ, zero, suc, ◌+◌, ◌-◌, ◌≤◌, ◌<◌, List, length, get_or, refl, ap, sym, subst, ◌∙◌, ◌&&◌, nat_lt, arith, true, Some}
+use Rattle.std.proofs.Common.{◌≡◌, ℕ, zero, suc, ◌+◌, ◌-◌, ◌≤◌, ◌<◌, List, length, get_or, refl, ap, sym, subst, ◌∙◌, ◌&&◌, nat_lt, arith, true, Some, None, ◌^◌}
 use Rattle.std.specs.Prelude.{slice_get}
 use Rattle.std.specs.List.{AllWithin}
 use Rattle.std.proofs.lemmas.List.{get_or_default}
-use Rattle.bilv_spec.specs.Elf.{segments, is_kept, byte_in, flags_in, executable}
+use Rattle.bilv_spec.specs.Elf.{segments, loaded, is_kept, byte_in, flags_in, executable}
 use Rattle.bilv_spec.specs.LiftText.{is_given_by}
 use Rattle.elf32_reader.specs.declared.segments.ProgramHeader.{ProgramHeader}
 use Rattle.elf32_reader.specs.declared.parts.Part.{Part}
@@ -63,3 +63,12 @@ first_part file found a first k h part tie within at behind low high is gap =
           ap byte_in (here x l m)
           ∙ sym (ap Some (ap (λ n. get_or part.bytes.now (x - n) 0) begins ∙ is.bytes x (omega arith)));
     }
+
+-- no segment covers a number that is no address
+pub beyond : (file : List ℕ) (found : List ProgramHeader) (x : ℕ) → IsTied file found → 2 ^ 32 ≤ x → loaded file x ≡ None
+beyond file found x tie high =
+    loaded_none file found x tie
+    (uncovered found x x (length found) tie.apart (omega arith) (omega arith)
+    (λ k d from upto. let end = tie.below k d upto in omega arith)
+    (λ i e is. let end = tie.below i e (omega arith) in omega arith)
+    (λ k d behind upto. absurd (omega arith)))

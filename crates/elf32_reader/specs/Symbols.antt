@@ -1,5 +1,5 @@
 -- What the reader knows of sections and symbols.
-use Rattle.std.specs.Prelude.{ℕ, ◌≡◌, ◌≤◌, ◌<◌, ◌+◌, ◌*◌, ◌⊎◌, List, length}
+use Rattle.std.specs.Prelude.{Bool, ℕ, ◌≡◌, ◌≤◌, ◌<◌, ◌+◌, ◌*◌, ◌⊎◌, List, length}
 use Rattle.bilv_spec.specs.Elf.{field}
 use Rattle.bilv_spec.specs.ElfFaults.{section, section_count, IsName, IsSymbols, IsFunction, IsFunctionSymbol, IsAmbiguous}
 use Rattle.elf32_reader.specs.declared.symbols.SectionHeader.{SectionHeader}
@@ -36,9 +36,9 @@ pub record IsReadable (file : List ℕ) (i : ℕ) : Type 0 where
   pub names : (section file (section file i).link).offset + (section file (section file i).link).size ≤ length file
 
 -- a symbol before symbol k of section i, or in a section before, is the function
-abbrev pub IsSeen : List ℕ → List ℕ → ℕ → ℕ → ℕ → Type 0
-IsSeen file name i k a =
-    (j m : ℕ) × IsSymbols file j × (16 * m < (section file j).size) × ((j < i) ⊎ ((j ≡ i) × (m < k))) × IsFunctionSymbol file j m name a
+abbrev pub IsSeen : (narrow : Bool) → List ℕ → List ℕ → ℕ → ℕ → ℕ → Type 0
+IsSeen narrow file name i k a =
+    (j m : ℕ) × IsSymbols file j × (16 * m < (section file j).size) × ((j < i) ⊎ ((j ≡ i) × (m < k))) × IsFunctionSymbol narrow file j m name a
 
 -- the two least of the addresses that have a property
 abbrev pub IsLeast : (ℕ → Type 0) → Found → Type 0
@@ -55,6 +55,6 @@ Adds (Several b c) a new =
     × (b < a → c ≤ a → new ≡ Several b c)
 
 -- why a name does not give one address
-abbrev pub IsMissed : List ℕ → List ℕ → SymFault → Type 0
-IsMissed file name NoFunction = (a : ℕ) → ¬ IsFunction file name a
-IsMissed file name (Ambiguous a b) = IsAmbiguous file name a b
+abbrev pub IsMissed : (narrow : Bool) → List ℕ → List ℕ → SymFault → Type 0
+IsMissed narrow file name NoFunction = (a : ℕ) → ¬ IsFunction narrow file name a
+IsMissed narrow file name (Ambiguous a b) = IsAmbiguous narrow file name a b

@@ -1,5 +1,5 @@
 //! The image of a file: what it loads, and where its functions are.
-ghost use Rattle.std.specs.Prelude.{ℕ, ◌≡◌, ◌≤◌, ◌<◌, ◌+◌, length, IfOk, IfErr, OnOk, MatchOption, MatchResult, IsTrue, ◌↔◌, None};
+ghost use Rattle.std.specs.Prelude.{ℕ, ◌≡◌, ◌≤◌, ◌<◌, ◌+◌, ◌^◌, ◌&&◌, length, IfOk, IfErr, OnOk, MatchOption, MatchResult, IsTrue, ◌↔◌, None};
 ghost use Rattle.bilv_spec.specs.Elf.{field, is_big, loaded, byte_at, flags_at, kept_at, IsKeptRuns};
 ghost use Rattle.bilv_spec.specs.ElfFaults.{IsImage, Finds, BadSymbolTable, FileFaultApplies};
 ghost use Rattle.bilv_spec.specs.Files.{is_rv, order_of};
@@ -140,7 +140,20 @@ fn kept_of(file: &[u8], found: &[ProgramHeader], a: u32) -> bool
     }
 }
 
+/// Segments end at or before 2^32.
+fn ends_of(file: &[u8], found: &[ProgramHeader])
+    requires { IsTied file.now found.now }
+    ensures { (x : ℕ) → 2 ^ 32 ≤ x → loaded file.now x ≡ None }
+{}
+
 impl<'a> Image<'a> {
+    /// No byte is loaded from 2^32 on.
+    pub fn ends(&self)
+        ensures { (x : ℕ) → 2 ^ 32 ≤ x → loaded self.now x ≡ None }
+    {
+        ends_of(self.file, &self.found);
+    }
+
     /// The byte that is loaded at an address.
     pub fn byte(&self, a: u32) -> Option<u8>
         ensures { result ≡ byte_at self.now a }
@@ -208,26 +221,27 @@ impl<'a> Image<'a> {
         self.big()
     }
 
-    /// The address of the function of this name: a symbol of STT_FUNC that is defined in a section and has a
-    /// multiple of 4 as its value (System V ABI, object files: symbol table).
+    /// The address of the function of this name: a symbol of STT_FUNC that is defined in a section and has a value at which a row can stand (System V ABI,
+    /// object files: symbol table). That is a multiple of 4, or of 2 in a RISC-V file with compressed instructions, which `rvc` says that it has; it changes
+    /// nothing of other files.
     ///
     /// # Errors
     ///
     /// `NoFunction` where there is none, and `Ambiguous` where there are several addresses.
-    pub fn function(&self, name: &str) -> Result<u32, SymFault>
-        ensures { MatchResult result (Finds self.now name.now) (IsMissed self.now name.now) }
+    pub fn function(&self, name: &str, rvc: bool) -> Result<u32, SymFault>
+        ensures { MatchResult result (Finds (is_rv self.now && rvc) self.now name.now) (IsMissed (is_rv self.now && rvc) self.now name.now) }
     {
-        self.function_named(name.as_bytes())
+        self.function_named(name.as_bytes(), self.is_risc_v() && rvc)
     }
 
-    /// The same for a name that is given as bytes.
+    /// The same for a name that is given as bytes, with rows of 2 bytes or without them.
     ///
     /// # Errors
     ///
     /// As those of [`Image::function`].
-    pub fn function_named(&self, name: &[u8]) -> Result<u32, SymFault>
-        ensures { MatchResult result (Finds self.now name.now) (IsMissed self.now name.now) }
+    pub fn function_named(&self, name: &[u8], narrow: bool) -> Result<u32, SymFault>
+        ensures { MatchResult result (Finds narrow self.now name.now) (IsMissed narrow self.now name.now) }
     {
-        find_function(self.file, name)
+        find_function(self.file, name, narrow)
     }
 }

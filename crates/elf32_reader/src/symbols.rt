@@ -1,6 +1,7 @@
 //! Sections and symbols (System V ABI, object files: sections, symbol table).
 ghost use Rattle.std.specs.Prelude.{ℕ, ◌≡◌, ◌≢◌, ◌≤◌, ◌<◌, ◌+◌, ◌*◌, ◌↔◌, IsTrue, IfOk, length, take, drop, MatchOption, MatchResult, slice_index};
 ghost use Rattle.std.specs.Bool.{MatchBool};
+ghost use Rattle.machine_spec.specs.Machine as machine;
 ghost use Rattle.bilv_spec.specs.Elf.{field};
 ghost use Rattle.bilv_spec.specs.ElfFaults.{BadSymbolTable, FileFaultApplies, section, section_count, HasSections, IsSymbols, IsBadSymbols, IsName, IsFunction, IsFunctionSymbol, Finds};
 ghost use Rattle.elf32_reader.specs.Marks.{AreMarks};
@@ -201,6 +202,13 @@ fn name_is(file: &[u8], link: u32, names: &SectionHeader, at: u32, name: &[u8]) 
     true
 }
 
+/// The unit of the addresses at which rows can stand.
+fn unit(narrow: bool) -> u32
+    ensures { result ≡ machine.unit narrow }
+{
+    if narrow { 2 } else { 4 }
+}
+
 /// The address of symbol `k` of section `i`, where it is the function `name`.
 fn function_at(
     file: &[u8],
@@ -209,13 +217,14 @@ fn function_at(
     names: &SectionHeader,
     k: u32,
     name: &[u8],
+    narrow: bool,
 ) -> Option<u32>
     requires order { 52 ≤ length file.now }
     requires header { IsHeader file.now i symbols.now }
     requires linked { IsHeader file.now symbols.now.link names.now }
     requires readable { IsReadable file.now i }
     requires within { 16 * k < symbols.now.size }
-    ensures { MatchOption result ((a : ℕ) → ¬ IsFunctionSymbol file.now i k name.now a) (IsFunctionSymbol file.now i k name.now) }
+    ensures { MatchOption result ((a : ℕ) → ¬ IsFunctionSymbol narrow file.now i k name.now a) (IsFunctionSymbol narrow file.now i k name.now) }
 {
     let at = symbols.offset as usize + 16 * k as usize;
     if file[at + 12] % 16 != FUNCTION {
@@ -225,7 +234,7 @@ fn function_at(
         return None;
     }
     let address = word(file, at + 4);
-    if address % 4 != 0 {
+    if address % unit(narrow) != 0 {
         return None;
     }
     if !name_is(file, symbols.link, names, word(file, at), name) {
@@ -269,6 +278,7 @@ fn with_symbol(
     names: &SectionHeader,
     k: u32,
     name: &[u8],
+    narrow: bool,
     found: Found,
 ) -> Found
     requires order { 52 ≤ length file.now }
@@ -277,53 +287,53 @@ fn with_symbol(
     requires readable { IsReadable file.now i }
     requires table { IsSymbols file.now i }
     requires within { 16 * k < symbols.now.size }
-    requires least { IsLeast (IsSeen file.now name.now i k) found }
-    ensures { IsLeast (IsSeen file.now name.now i (k + 1)) result }
+    requires least { IsLeast (IsSeen narrow file.now name.now i k) found }
+    ensures { IsLeast (IsSeen narrow file.now name.now i (k + 1)) result }
 {
-    match function_at(file, i, symbols, names, k, name) {
+    match function_at(file, i, symbols, names, k, name, narrow) {
         Some(a) => with_address(found, a),
         None => found,
     }
 }
 
 /// The two least addresses of the function, with the symbols of section `i`.
-fn with_table(file: &[u8], i: u32, name: &[u8], found: Found) -> Found
+fn with_table(file: &[u8], i: u32, name: &[u8], narrow: bool, found: Found) -> Found
     requires order { 52 ≤ length file.now }
     requires table { field file.now 4 32 + 40 * section_count file.now ≤ length file.now }
     requires readable { IsReadable file.now i }
     requires symbols { IsSymbols file.now i }
-    requires least { IsLeast (IsSeen file.now name.now i 0) found }
-    ensures { IsLeast (IsSeen file.now name.now (i + 1) 0) result }
+    requires least { IsLeast (IsSeen narrow file.now name.now i 0) found }
+    ensures { IsLeast (IsSeen narrow file.now name.now (i + 1) 0) result }
 {
     let symbols = section_header(file, i);
     let names = section_header(file, symbols.link);
     let mut found = found;
     for k in 0..symbols.size / 16 {
-        found = with_symbol(file, i, &symbols, &names, k, name, found);
+        found = with_symbol(file, i, &symbols, &names, k, name, narrow, found);
     }
     found
 }
 
 /// The two least addresses of the function, with section `i`.
-fn with_section(file: &[u8], i: u32, name: &[u8], found: Found) -> Found
+fn with_section(file: &[u8], i: u32, name: &[u8], narrow: bool, found: Found) -> Found
     requires order { 52 ≤ length file.now }
     requires accepted { ¬ FileFaultApplies file.now BadSymbolTable }
     requires sections { HasSections file.now }
     requires within { i < section_count file.now }
-    requires least { IsLeast (IsSeen file.now name.now i 0) found }
-    ensures { IsLeast (IsSeen file.now name.now (i + 1) 0) result }
+    requires least { IsLeast (IsSeen narrow file.now name.now i 0) found }
+    ensures { IsLeast (IsSeen narrow file.now name.now (i + 1) 0) result }
 {
     if section_header(file, i).kind != SYMBOLS {
         return found;
     }
-    with_table(file, i, name, found)
+    with_table(file, i, name, narrow, found)
 }
 
 /// The two least addresses of the function.
-fn least_addresses(file: &[u8], name: &[u8]) -> Found
+fn least_addresses(file: &[u8], name: &[u8], narrow: bool) -> Found
     requires order { 52 ≤ length file.now }
     requires accepted { ¬ FileFaultApplies file.now BadSymbolTable }
-    ensures { IsLeast (IsFunction file.now name.now) result }
+    ensures { IsLeast (IsFunction narrow file.now name.now) result }
 {
     let count = half(file, 48);
     if word(file, 32) == 0 || count == 0 {
@@ -331,18 +341,18 @@ fn least_addresses(file: &[u8], name: &[u8]) -> Found
     }
     let mut found = Found::Nothing;
     for i in 0..count as u32 {
-        found = with_section(file, i, name, found);
+        found = with_section(file, i, name, narrow, found);
     }
     found
 }
 
 /// The address of the function `name`, or why it has not one.
-pub(crate) fn find_function(file: &[u8], name: &[u8]) -> Result<u32, SymFault>
+pub(crate) fn find_function(file: &[u8], name: &[u8], narrow: bool) -> Result<u32, SymFault>
     requires order { 52 ≤ length file.now }
     requires accepted { ¬ FileFaultApplies file.now BadSymbolTable }
-    ensures { MatchResult result (Finds file.now name.now) (IsMissed file.now name.now) }
+    ensures { MatchResult result (Finds narrow file.now name.now) (IsMissed narrow file.now name.now) }
 {
-    match least_addresses(file, name) {
+    match least_addresses(file, name, narrow) {
         Found::Nothing => Err(SymFault::NoFunction),
         Found::One(a) => Ok(a),
         Found::Several(a, b) => Err(SymFault::Ambiguous(a, b)),

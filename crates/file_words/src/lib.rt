@@ -1,4 +1,4 @@
-//! What a file gives at an address: whether a word may be fetched there, whether it is kept, and the word. Addresses wrap.
+//! What a file gives at an address: whether a row may be fetched there, whether four bytes are kept, and their number. Addresses wrap.
 #![tactic(auto)]
 
 mod words;

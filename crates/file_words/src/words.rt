@@ -1,8 +1,9 @@
-//! The four bytes from an address on.
+//! The bytes from an address on.
 ghost use Rattle.std.specs.Prelude.{◌≡◌, ◌∷◌, [], slice_index};
 ghost use Rattle.std.specs.List.{list_all};
 ghost use Rattle.word_spec.specs.Memory as memory;
 ghost use Rattle.word_spec.specs.Words.{add};
+ghost use Rattle.machine_spec.specs.Machine.{offsets};
 ghost use Rattle.bilv_spec.specs.Elf.{loaded, is_kept, is_executable};
 ghost use Rattle.bilv_spec.specs.Files.{order_of};
 ghost use Rattle.bilv_spec.specs.Points.{byte_of_cell};
@@ -16,10 +17,13 @@ fn executable_behind(image: &Image, a: u32, i: u32) -> bool
     image.flags(a.wrapping_add(i)) % 2 == 1
 }
 
-/// The four bytes from an address on are loaded and executable.
-pub fn fetchable(image: &Image, a: u32) -> bool
-    ensures { result ≡ list_all (λ i. is_executable (loaded image.now (add 32 a i))) (0 ∷ 1 ∷ 2 ∷ 3 ∷ []) }
+/// The bytes of a row of 2 or 4 bytes from an address on are loaded and executable. For another number than 2 they are the four.
+pub fn fetchable(image: &Image, a: u32, bytes: u8) -> bool
+    ensures { result ≡ list_all (λ i. is_executable (loaded image.now (add 32 a i))) (offsets bytes) }
 {
+    if bytes == 2 {
+        return executable_behind(image, a, 0) && executable_behind(image, a, 1);
+    }
     executable_behind(image, a, 0)
         && executable_behind(image, a, 1)
         && executable_behind(image, a, 2)
@@ -61,7 +65,7 @@ pub fn word_of(bytes: [u8; 4], big: bool) -> u32
     }
 }
 
-/// The word that a file has at an address, in the byte order of its machine; a byte that is not loaded counts as 0.
+/// The number of the four bytes that a file has from an address on, in the byte order of its machine; a byte that is not loaded counts as 0.
 pub fn file_word(image: &Image, a: u32) -> u32
     ensures { result ≡ memory.number (order_of image.now) 4 (λ i. byte_of_cell (loaded image.now (add 32 a i))) }
 {

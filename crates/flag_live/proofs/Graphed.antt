@@ -4,17 +4,19 @@ use Rattle.std.specs.Prelude.{All, Contains}
 use Rattle.std.specs.List.{AllZip}
 use Rattle.std.proofs.lemmas.List.Elements.{All-cons, All-head, All-tail, length_all_zip}
 use Rattle.bilv_spec.specs.Run.{Program, fetchable}
+use Rattle.bilv_spec.specs.Points.{file_row, file_word}
 use Rattle.bilv_spec.specs.Graph.{successors_at, may_return, IsAddress}
 use Rattle.bilv_spec.specs.LiveFlags.{asserts_flag, ensures_flag}
 use Rattle.machine_law.specs.declared.facts.FlagUse.{FlagUse}
 use Rattle.graph_nodes.specs.declared.nodes.Node.{Node}
 use Rattle.graph_nodes.specs.declared.nodes.Graph.{Graph}
-use Rattle.graph_nodes.specs.Graphs.{addresses_of, node_word, IsFlagSet, IsFlagUseAt, IsNode, IsGraph, IsSameNode, IsSameGraph}
+use Rattle.graph_nodes.specs.Graphs.{addresses_of, node_word, row_length, IsFlagSet, IsFlagUseAt, IsNode, IsGraph, IsSameNode, IsSameGraph}
 
 -- a node stays the node of its address
 same_node : (p : Program) (old new : Node) → IsSameNode old new → IsNode p old → IsNode p new
 same_node p old new same is = record {
-  fetchable = same.fetchable ∙ is.fetchable ∙ ap (fetchable p) (sym same.at);
+  length = same.length ∙ is.length ∙ ap (λ a. row_length (file_row p a)) (sym same.at);
+  fetchable = same.fetchable ∙ is.fetchable ∙ ap (λ a. fetchable p (file_word p a) a) (sym same.at);
   word = same.word ∙ is.word ∙ ap (node_word p) (sym same.at);
   successors = same.successors ∙ is.successors ∙ ap (successors_at p) (sym same.at);
   returns = same.returns ∙ is.returns ∙ ap (may_return p) (sym same.at);
@@ -44,6 +46,7 @@ same_graph p old new same is =
     let at : addresses_of new ≡ addresses_of old = same_addresses old.nodes.items new.nodes.items same.nodes in
     let count : length old.nodes.items ≡ length new.nodes.items = length_all_zip IsSameNode old.nodes.items new.nodes.items same.nodes in
     record {
+      narrow = same.narrow ∙ is.narrow;
       all = λ a. subst (λ l. (Contains l a → IsAddress p a) × (IsAddress p a → Contains l a)) (sym at) (is.all a);
       rising = λ i j l w. subst (λ xs. get_or xs i 0 < get_or xs j 0) (sym at) (is.rising i j l (omega arith));
       nodes = same_nodes p old.nodes.items new.nodes.items same.nodes is.nodes;

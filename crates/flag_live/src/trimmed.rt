@@ -58,6 +58,7 @@ fn with_keeps(alloc: Global, node: &Node, keeps: u8) -> Result<Node, AllocError>
     let successors = copied(alloc, &node.successors)?;
     Ok(Node {
         at: node.at,
+        length: node.length,
         fetchable: node.fetchable,
         word: node.word,
         successors,
@@ -90,6 +91,7 @@ pub fn trim(alloc: Global, graph: &Graph) -> Result<Graph, AllocError>
         nodes.push(node)?;
     }
     Ok(Graph {
+        narrow: graph.narrow,
         nodes,
         ensured: graph.ensured,
     })

@@ -17,7 +17,7 @@ use Rattle.machine_law.specs.declared.facts.Succ.{Succ}
 use Rattle.graph_nodes.specs.declared.nodes.Letter.{Letter}
 use Rattle.graph_nodes.specs.declared.nodes.Letter.TheVariants as letter
 use Rattle.graph_nodes.specs.declared.nodes.Node.{Node}
-use Rattle.graph_nodes.specs.Graphs.{IsNode, IsFlagSet, IsFlagUseAt, successors_of, letter_of}
+use Rattle.graph_nodes.specs.Graphs.{IsNode, IsFlagSet, IsFlagUseAt, successors_of, letter_of, row_length}
 use Rattle.flow_graph.specs.Programs.{place, IsSameSet}
 use Rattle.flow_graph.proofs.Members.{any_map, any_filter}
 use Rattle.flow_graph.proofs.Orders.{unique, places_tell, any_sort, rises_sort}
@@ -49,7 +49,7 @@ one_of false l a to o e f = ap (λ x. map (graph.successor l) (run.some_of x)) e
 module _ (p : run.Program) (at : ℕ) (row : table.Row) (ways : Succ) where
   -- the successors that are pushed in turn
   pub all_is : (l : Letter) (targets : List ℕ) (behind : ℕ) (on back : Option ℕ) (none one two three four : List graph.Successor)
-      → behind ≡ add 32 at 4 → row.length ≡ 4 → l ≡ (if ways.call then letter.Call else letter.Jump)
+      → behind ≡ add 32 at row.length → l ≡ (if ways.call then letter.Call else letter.Jump)
       → IsSameSet targets (if ways.indirect then run.named p (file_word p) row at else [])
       → on ≡ then_some ways.next behind → back ≡ then_some ways.call behind
       → none ≡ []
@@ -58,8 +58,7 @@ module _ (p : run.Program) (at : ℕ) (row : table.Row) (ways : Succ) where
       → three ≡ two ++ map (graph.successor (letter_of l)) targets
       → four ≡ three ++ map (graph.successor graph.ReturnLetter) (run.some_of back)
       → IsSameSet four (graph.successors_of p at row (facts.successors_of ways))
-  all_is l targets behind on back none one two three four is_behind long is_letter set is_on is_back e0 e1 e2 e3 e4 =
-      let next : behind ≡ add 32 at row.length = is_behind ∙ ap (add 32 at) (sym long) in
+  all_is l targets behind on back none one two three four next is_letter set is_on is_back e0 e1 e2 e3 e4 =
       let jump : letter_of l ≡ (if ways.call then graph.CallLetter else graph.JumpLetter) = letters ways.call l is_letter in
       let first = if ways.next then graph.successor graph.NextLetter (add 32 at row.length) ∷ [] else [] in
       let direct = map (graph.successor (if ways.call then graph.CallLetter else graph.JumpLetter)) (run.some_of ways.direct) in
@@ -102,10 +101,11 @@ asserted_is p a set asserts lines e is flags =
     flags_as set _ _ (λ f. ap (λ xs. list_any (λ x. (x.at == a) && names_flag f x.says) xs) (ap (map assert_of) e ∙ sym is)) flags
 
 -- the node of an address without a row
-pub no_row : (p : run.Program) (n : Node) → None ≡ file_row p n.at → n.fetchable ≡ run.fetchable p n.at → n.word ≡ None → n.successors.items ≡ [] →
+pub no_row : (p : run.Program) (n : Node) → None ≡ file_row p n.at → n.length ≡ 4 → n.fetchable ≡ run.fetchable p (file_word p n.at) n.at → n.word ≡ None → n.successors.items ≡ [] →
     n.returns ≡ false
     → n.flags ≡ record { reads = 0; assigns = 0; surely = 15 } → IsFlagSet n.asserted (λ f. asserts_flag p f n.at) → IsNode p n
-no_row p n none fetchable word successors returns flags asserted = record {
+no_row p n none length fetchable word successors returns flags asserted = record {
+  length = length ∙ ap row_length none;
   fetchable = fetchable;
   word = word ∙ ap (λ o. if is_some o then Some (file_word p n.at) else None) none;
   successors = ap (map _) successors ∙ ap (λ o. graph.sort (graph.successors_by p n.at o)) none;
@@ -120,12 +120,14 @@ no_row p n none fetchable word successors returns flags asserted = record {
 }
 
 -- the node of an address with a row
-pub with_row : (p : run.Program) (n : Node) (row : table.Row) (ways : Succ) → Some row ≡ file_row p n.at → n.fetchable ≡ run.fetchable p n.at →
+pub with_row : (p : run.Program) (n : Node) (row : table.Row) (ways : Succ) → Some row ≡ file_row p n.at → n.length ≡ row.length →
+    n.fetchable ≡ run.fetchable p (file_word p n.at) n.at →
     n.word ≡ Some (file_word p n.at)
     → successors_of n ≡ graph.sort (graph.successors_by p n.at (Some row)) → facts.successors_of ways ≡ row.successors n.at →
     n.returns ≡ (ways.indirect && not ways.call)
     → facts.IsFlagUse n.flags row.flags → IsFlagSet n.asserted (λ f. asserts_flag p f n.at) → IsNode p n
-with_row p n row ways here fetchable word successors ways_are returns flags asserted = record {
+with_row p n row ways here length fetchable word successors ways_are returns flags asserted = record {
+  length = length ∙ ap row_length here;
   fetchable = fetchable;
   word = word ∙ ap (λ o. if is_some o then Some (file_word p n.at) else None) here;
   successors = successors ∙ ap (λ o. graph.sort (graph.successors_by p n.at o)) here;
@@ -137,3 +139,8 @@ with_row p n row ways here fetchable word successors ways_are returns flags asse
   };
   asserted = asserted;
 }
+
+-- a row at an address is that of the word there
+pub row_of_word : (b : Bool) (o : Option table.Row) (row : table.Row) → Some row ≡ (if b then o else None) → o ≡ Some row
+row_of_word true o row e = sym e
+row_of_word false o row e = absurd (cc)

@@ -1,11 +1,12 @@
 -- Successors in order.
-use Rattle.std.proofs.Common.{◌≡◌, inl, inr, ℕ, zero, suc, ◌+◌, ◌*◌, ◌%◌, ◌==◌, ◌<◌, ◌≤◌, refl, ap, sym, ◌∙◌, subst, arith, List, [], ◌∷◌, length, get_or, map, Bool, true, false}
+use Rattle.std.proofs.Common.{◌≡◌, inl, inr, ℕ, zero, suc, ◌+◌, ◌*◌, ◌==◌, ◌<◌, ◌≤◌, refl, ap, sym, ◌∙◌, subst, arith, List, [], ◌∷◌, length, get_or, map, Bool, true, false}
 use Rattle.std.specs.Prelude.{nat_eq, nat_lt, ◌||◌, ◌&&◌, filter, if◌then◌else◌}
 use Rattle.std.specs.List.{list_any, dedup, dedup_from}
 use Rattle.std.specs.List.Sorted.{IsNonDecreasingBy, IsPermutation}
 use Rattle.std.proofs.lemmas.Bool.{eqb-true}
 use Rattle.std.proofs.lemmas.Bool.Decides.{nat_tests}
 use Rattle.std.proofs.lemmas.List.Sorted.{list_any-IsPermutation}
+use Rattle.machine_spec.specs.Machine.{is_place}
 use Rattle.bilv_spec.specs.Graph as graph
 use Rattle.bilv_spec.specs.Graph.{Letter, NextLetter, JumpLetter, CallLetter, ReturnLetter, letter_order, comes_before}
 use Rattle.graph_nodes.specs.declared.nodes.Successor.{Successor}
@@ -220,15 +221,15 @@ abbrev number : Successor → ℕ
 number s = place (successor_of s)
 
 -- successors that are sorted, each once, are the sorted ones
-pub ordered_is : (found kept moved left : List Successor) → kept ≡ filter (λ s. s.to % 4 == 0) found → IsPermutation kept moved → IsNonDecreasingBy number moved
-    → left ≡ dedup (λ x y. number x == number y) moved
-    → map successor_of left ≡ graph.sort (filter (λ s. s.to % 4 == 0) (map successor_of found))
-ordered_is found kept moved left is_kept permutation up is_left =
-    let all = filter (λ s. s.to % 4 == 0) (map successor_of found) in
+pub ordered_is : (narrow : Bool) (found kept moved left : List Successor) → kept ≡ filter (λ s. is_place narrow s.to) found → IsPermutation kept moved
+    → IsNonDecreasingBy number moved → left ≡ dedup (λ x y. number x == number y) moved
+    → map successor_of left ≡ graph.sort (filter (λ s. is_place narrow s.to) (map successor_of found))
+ordered_is narrow found kept moved left is_kept permutation up is_left =
+    let all = filter (λ s. is_place narrow s.to) (map successor_of found) in
     let numbers : map place (map successor_of left) ≡ dedup nat_eq (map number moved) = maps place successor_of left ∙ ap
     (map number) is_left ∙ map_dedup number moved in
     let kept_is : map number kept ≡ map place all = sym (maps place successor_of kept) ∙ ap
-    (λ l. map place (map successor_of l)) is_kept ∙ ap (map place) (map_filter successor_of (λ s. s.to % 4 == 0) found) in
+    (λ l. map place (map successor_of l)) is_kept ∙ ap (map place) (map_filter successor_of (λ s. is_place narrow s.to) found) in
     places_tell (map successor_of left) (graph.sort all)
     (unique (map place (map successor_of left)) (map place (graph.sort all))
     (subst Rises (sym numbers) (rises_dedup (map number moved) (climbs number moved up))) (rises_sort all)

@@ -327,8 +327,8 @@ apart a b le ne = grind (arith, nat_tests)
 -- all nodes, by rising addresses, are the graph
 pub whole_graph : (p : Program) (nodes : List Node) (g : Graph) → IsWhole p nodes → IsPermutation nodes g.nodes.items →
     IsNonDecreasingBy (λ n. n.at) g.nodes.items
-    → IsFlagSet g.ensured (λ f. ensures_flag p f) → IsGraph p g
-whole_graph p nodes g whole moved rising ensured =
+    → g.narrow ≡ p.machine.narrow → IsFlagSet g.ensured (λ f. ensures_flag p f) → IsGraph p g
+whole_graph p nodes g whole moved rising narrow ensured =
     let sorted = g.nodes.items in
     let same : (a : ℕ) → list_any (nat_eq a) (addresses_of g) ≡ list_any (nat_eq a) (map (λ (n : Node). n.at) nodes) =
     λ a.
@@ -338,6 +338,7 @@ whole_graph p nodes g whole moved rising ensured =
     IsDistinct-IsPermutation nat_eq nat_eq_equiv.symm (map (λ (n : Node). n.at) nodes) (addresses_of g) (IsPermutation-map
     (λ (n : Node). n.at) nodes sorted moved) whole.distinct in
     record {
+      narrow = narrow;
       all = λ a. (
         λ (k, w, e). (whole.all a).0 (sym (same a) ∙ at_in a (addresses_of g) k a w e),
         λ i. let q = place_in a (addresses_of g) (same a ∙ (whole.all a).1 i) in (q.0, q.1, q.2),

@@ -13,7 +13,7 @@ use crate::node::node;
 use crate::program::Program;
 use elf32_reader::Image;
 use graph_nodes::{Graph, Node, Successor};
-use machine_law::Machine;
+use machine_law::{Machine, is_narrow};
 use notes_index::{Index, index_of};
 use notes_lang::Notes;
 use std::alloc::{AllocError, Global};
@@ -90,6 +90,7 @@ pub fn descend<M: Machine>(
     };
     let nodes = sorted(all_nodes::<M>(alloc, &p, &index)?)?;
     Ok(Graph {
+        narrow: is_narrow::<M>(),
         nodes,
         ensured: ensured(&notes.ensured),
     })

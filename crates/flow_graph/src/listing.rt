@@ -1,13 +1,14 @@
 //! Lists of successors.
-ghost use Rattle.std.specs.Prelude.{◌≡◌, ◌++◌, ◌%◌, ◌==◌, map, filter, IfOk, OnOk};
+ghost use Rattle.std.specs.Prelude.{◌≡◌, ◌++◌, ◌==◌, map, filter, IfOk, OnOk};
 ghost use Rattle.std.specs.List.{dedup};
 ghost use Rattle.std.specs.List.Sorted.{IsNonDecreasingBy, IsPermutation};
+ghost use Rattle.machine_spec.specs.Machine as table;
 ghost use Rattle.bilv_spec.specs.Run.{some_of};
 ghost use Rattle.bilv_spec.specs.Graph as graph;
 ghost use Rattle.graph_nodes.specs.Graphs.{letter_of, successor_of};
 ghost use Rattle.flow_graph.specs.Programs.{place};
 
-use graph_nodes::{Letter, Successor};
+use graph_nodes::{Letter, Successor, is_place};
 use std::alloc::AllocError;
 
 /// Adds a successor at the address that there is, if there is one. The error is want of memory.
@@ -60,11 +61,15 @@ fn place_of(successor: Successor) -> u64
     successor.to as u64 * 4 + letter_number(successor.letter)
 }
 
-/// Those whose address is a multiple of 4.
-fn aligned(mut found: Vec<Successor>) -> Vec<Successor>
-    ensures { result.items ≡ filter (λ s. s.to % 4 == 0) found.items }
+/// Those at whose address a row can stand.
+fn aligned(mut found: Vec<Successor>, narrow: bool) -> Vec<Successor>
+    ensures { result.items ≡ filter (λ s. table.is_place narrow s.to) found.items }
 {
-    found.retain(|s| s.to % 4 == 0);
+    if narrow {
+        found.retain(|s| is_place(true, s.to));
+        return found;
+    }
+    found.retain(|s| is_place(false, s.to));
     found
 }
 
@@ -85,10 +90,10 @@ fn distinct(mut found: Vec<Successor>) -> Vec<Successor>
     found
 }
 
-/// The successors whose address is a multiple of 4, by rising addresses and in the order of their letters, each once. The error is want of memory.
-pub(crate) fn ordered(found: Vec<Successor>) -> Result<Vec<Successor>, AllocError>
-    ensures { IfOk result (λ v. map successor_of v.items ≡ graph.sort (filter (λ s. s.to % 4 == 0) (map successor_of found.items))) }
+/// The successors at whose address a row can stand, by rising addresses and in the order of their letters, each once. The error is want of memory.
+pub(crate) fn ordered(found: Vec<Successor>, narrow: bool) -> Result<Vec<Successor>, AllocError>
+    ensures { IfOk result (λ v. map successor_of v.items ≡ graph.sort (filter (λ s. table.is_place narrow s.to) (map successor_of found.items))) }
 {
-    let found = sorted(aligned(found))?;
+    let found = sorted(aligned(found, narrow))?;
     Ok(distinct(found))
 }

@@ -7,11 +7,10 @@ ghost use Rattle.flow_graph.specs.Programs.{program};
 
 use crate::flags::asserted;
 use crate::program::Program;
-use crate::rows::{row, word};
+use crate::rows::{is_fetchable, row, word};
 use crate::successors::successors;
-use file_words::fetchable;
 use graph_nodes::Node;
-use machine_law::{FlagUse, Machine, Succ};
+use machine_law::{FlagUse, Machine, Succ, length};
 use notes_index::Index;
 use std::alloc::{AllocError, Global};
 
@@ -42,12 +41,14 @@ pub(crate) fn node<M: Machine>(
     ensures is { IfOk result (λ n. IsNode (program M.machine p.now) n) }
     ensures stay { IfOk result (λ n. n.keeps ≡ n.flags.assigns) }
 {
-    let fetchable = fetchable(p.image, at);
+    let word = word::<M>(p, at);
+    let fetchable = is_fetchable::<M>(p, word, at);
     let asserted = asserted(&p.notes.asserts, &index.asserts, at);
     let insn = match row::<M>(p, at) {
         None => {
             return Ok(Node {
                 at,
+                length: 4,
                 fetchable,
                 word: None,
                 successors: Vec::new(alloc),
@@ -59,13 +60,15 @@ pub(crate) fn node<M: Machine>(
         }
         Some(insn) => insn,
     };
+    let length = length::<M>(word);
     let ways = M::successors(&insn, at);
     let flags = M::flags(&insn);
     Ok(Node {
         at,
+        length,
         fetchable,
-        word: Some(word::<M>(p, at)),
-        successors: successors::<M>(alloc, p, index, &insn, at, ways)?,
+        word: Some(word),
+        successors: successors::<M>(alloc, p, index, &insn, at, length, ways)?,
         returns: may_return(ways),
         flags,
         asserted,

@@ -2,6 +2,7 @@
 use Rattle.std.specs.Prelude.{ℕ, ◌≡◌, ◌<◌, ◌==◌, ◌↔◌, Bool, true, List, Option, Some, None, is_some, map, length, slice_index, Contains, All, if◌then◌else◌}
 use Rattle.std.specs.List.{AllZip}
 use Rattle.word_spec.specs.Words.{bit_at}
+use Rattle.machine_spec.specs.Machine.{Row}
 use Rattle.bilv_spec.specs.Run.{Program, fetchable}
 use Rattle.bilv_spec.specs.Points.{file_row, file_word}
 use Rattle.bilv_spec.specs.Graph as graph
@@ -42,6 +43,11 @@ pub record IsFlagSet (set : ℕ) (test : ℕ → Bool) : Type 0 where
 abbrev pub node_word : Program → ℕ → Option ℕ
 node_word p a = if is_some (file_row p a) then Some (file_word p a) else None
 
+-- how many bytes a row has, 4 where there is none
+abbrev pub row_length : Option Row → ℕ
+row_length None = 4
+row_length (Some row) = row.length
+
 -- what a node says of the flags that the row at an address uses
 pub record IsFlagUseAt (p : Program) (a : ℕ) (u : FlagUse) : Type 0 where
   pub reads : IsFlagSet u.reads (λ f. reads_by f (file_row p a))
@@ -50,7 +56,8 @@ pub record IsFlagUseAt (p : Program) (a : ℕ) (u : FlagUse) : Type 0 where
 
 -- the node says what the program has at its address
 pub record IsNode (p : Program) (n : Node) : Type 0 where
-  pub fetchable : n.fetchable ≡ fetchable p n.at
+  pub length : n.length ≡ row_length (file_row p n.at)
+  pub fetchable : n.fetchable ≡ fetchable p (file_word p n.at) n.at
   pub word : n.word ≡ node_word p n.at
   pub successors : successors_of n ≡ successors_at p n.at
   pub returns : n.returns ≡ may_return p n.at
@@ -63,6 +70,7 @@ addresses_of g = map (λ n. n.at) g.nodes.items
 
 -- the value is the program's graph, whatever assignments stay: it has each address once, rising
 pub record IsGraph (p : Program) (g : Graph) : Type 0 where
+  pub narrow : g.narrow ≡ p.machine.narrow
   pub all : (a : ℕ) → Contains (addresses_of g) a ↔ IsAddress p a
   pub rising : (i j : ℕ) → i < j → j < length g.nodes.items → slice_index (addresses_of g) i < slice_index (addresses_of g) j
   pub nodes : All (λ n. IsNode p n) g.nodes.items
@@ -83,6 +91,7 @@ LiveStay p g = All (λ n. IsKeptLive p n) g.nodes.items
 -- two nodes are the same, whatever assignments stay
 pub record IsSameNode (old new : Node) : Type 0 where
   pub at : new.at ≡ old.at
+  pub length : new.length ≡ old.length
   pub fetchable : new.fetchable ≡ old.fetchable
   pub word : new.word ≡ old.word
   pub successors : successors_of new ≡ successors_of old
@@ -92,5 +101,6 @@ pub record IsSameNode (old new : Node) : Type 0 where
 
 -- two graphs are the same, whatever assignments stay
 pub record IsSameGraph (old new : Graph) : Type 0 where
+  pub narrow : new.narrow ≡ old.narrow
   pub nodes : AllZip IsSameNode old.nodes.items new.nodes.items
   pub ensured : new.ensured ≡ old.ensured

@@ -6,7 +6,9 @@
 mod flags;
 mod nodes;
 mod search;
+mod units;
 
 pub use flags::has_flag;
 pub use nodes::{Graph, Letter, Node, Successor};
 pub use search::{node_at, place};
+pub use units::is_place;

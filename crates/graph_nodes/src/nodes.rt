@@ -25,11 +25,13 @@ pub struct Successor {
 #[derive(Drop, Debug)]
 pub struct Node {
     pub at: u32,
-    /// The four bytes from the address on are loaded and executable.
+    /// How many bytes the row has, 2 or 4; 4 where there is no row.
+    pub length: u8,
+    /// The bytes from the address on are loaded and executable: two where they are those of a row of 2 bytes, and else four.
     pub fetchable: bool,
-    /// The word that the file has there, where it may be fetched and the table has a row for it.
+    /// What is decoded there of the file's bytes, where it may be fetched and the table has a row for it.
     pub word: Option<u32>,
-    /// The successors by rising addresses, and at one address in the order of their letters; none stands twice, and all are multiples of 4.
+    /// The successors by rising addresses, and at one address in the order of their letters; none stands twice, and a row can stand at each.
     pub successors: Vec<Successor>,
     /// The row may return or exit.
     pub returns: bool,
@@ -44,6 +46,8 @@ pub struct Node {
 /// The flow graph of a program.
 #[derive(Drop, Debug)]
 pub struct Graph {
+    /// Some rows of the machine have 2 bytes.
+    pub narrow: bool,
     /// The addresses, rising.
     pub nodes: Vec<Node>,
     /// The flags that ensure lines name outside `old`.

@@ -19,7 +19,8 @@ use Rattle.graph_nodes.specs.Graphs.{successors_of, has_flag, addresses_of, IsNo
 use Rattle.graph_text.specs.NodeText.{words_by, node_line}
 
 -- the words by the fields are those by the row
-words_same : (p : Program) (n : Node) (o : Option Row) (w : Option ℕ) (x : ℕ) → w ≡ (if is_some o then Some x else None) → n.fetchable ≡ fetchable p n.at
+words_same : (p : Program) (n : Node) (o : Option Row) (w : Option ℕ) (x : ℕ) → w ≡ (if is_some o then Some x else None) →
+    n.fetchable ≡ fetchable p (file_word p n.at) n.at
     → successors_of n ≡ successors_at p n.at → n.returns ≡ may_return p n.at → words_by n w ≡ row_words p n.at (has_flag n.keeps) o
 words_same p n None None x e f s r = ap (λ b. (if b then codes "norow" else codes "fetch") ∷ []) f
 words_same p n None (Some w) x e f s r = absurd (cc)

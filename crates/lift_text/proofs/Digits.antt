@@ -34,12 +34,8 @@ pair b rest other small same =
     ap (λ x. x ∷ get_or lower_digits (b % 16) 0 ∷ rest) first ∙ ap (λ x. hex_digit (b / 16 % 16) ∷ x ∷ rest) second
     ∙ ap (λ x. hex_digit (b / 16 % 16) ∷ hex_digit (b % 16) ∷ x) same
 
--- the digits of the four bytes of a word
-pub word_digits : (bytes : List ℕ) → length bytes ≡ 4 → ((i : ℕ) → get_or bytes i 0 < 256) → encode_lower bytes ≡ bytes_text bytes
+-- the digits of bytes
+pub byte_digits : (bytes : List ℕ) → ((i : ℕ) → get_or bytes i 0 < 256) → encode_lower bytes ≡ bytes_text bytes
 unfolding encode_with
-word_digits [] n small = absurd (omega arith)
-word_digits (a ∷ []) n small = absurd (omega arith)
-word_digits (a ∷ b ∷ []) n small = absurd (omega arith)
-word_digits (a ∷ b ∷ c ∷ []) n small = absurd (omega arith)
-word_digits (a ∷ b ∷ c ∷ d ∷ []) n small = pair a _ _ (small 0) (pair b _ _ (small 1) (pair c _ _ (small 2) (pair d _ _ (small 3) refl)))
-word_digits (a ∷ b ∷ c ∷ d ∷ e ∷ rest) n small = absurd (omega arith)
+byte_digits [] small = refl
+byte_digits (b ∷ bytes) small = pair b _ _ (small 0) (byte_digits bytes (λ i. small (suc i)))

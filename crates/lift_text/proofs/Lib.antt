@@ -1,3 +1,4 @@
+pub mod Places
 pub mod Givens
 pub mod Digits
 pub mod Texts

@@ -10,6 +10,7 @@ use Rattle.std.proofs.lemmas.List.Elements.{Contains-get_or, Contains-append_lef
 use Rattle.machine_spec.specs.Machine.{Machine}
 use Rattle.machine_spec.specs.Bil.{Bank}
 use Rattle.bilv_spec.specs.LiftText.{is_word_at, word_in, IsWordText, IsLiftTextBy}
+use Rattle.lift_text.specs.Found.{IsNextPlace}
 use Rattle.lift_text.specs.Progress.{IsTextTo, put_text, IsAppended}
 use Rattle.lift_text.proofs.Givens.{unaligned}
 
@@ -40,7 +41,7 @@ empty m bank file = record {
 
 -- addresses without a word are passed over
 pub skip : (m : Machine) (bank : Bank) (file : List ℕ) (at next : ℕ) (text : List ℕ) → at ≤ next
-    → ((a : ℕ) → at ≤ a → a < next → is_word_at file a ≡ false) → IsTextTo m bank file at text → IsTextTo m bank file next text
+    → ((a : ℕ) → at ≤ a → a < next → is_word_at m file a ≡ false) → IsTextTo m bank file at text → IsTextTo m bank file next text
 skip m bank file at next text le none t = record {
   words = t.words;
   texts = t.texts;
@@ -57,14 +58,14 @@ skip m bank file at next text le none t = record {
 }
 
 -- an address of a longer list of words
-here_or_before : (file : List ℕ) (at a : ℕ) → at % 4 ≡ 0 → a < at + 4 → is_word_at file a ≡ true → (a < at) ⊎ (at ≡ a)
-here_or_before file at a m l h =
+here_or_before : (m : Machine) (file : List ℕ) (at next a : ℕ) → IsNextPlace m.narrow (at + 1) next → a < next → is_word_at m file a ≡ true → (a < at) ⊎ (at ≡ a)
+here_or_before m file at next a is l h =
     elim (cases_lt a at) as (λ _. (a < at) ⊎ (at ≡ a)) [
       | inl less ↦ inl less
       | inr more ↦
           elim (eq-or-lt_of_le more) as (λ _. (a < at) ⊎ (at ≡ a)) [
             | inl same ↦ inr same
-            | inr less ↦ let no = unaligned file a (λ even. absurd (omega arith)) in absurd (cc (no, h))
+            | inr less ↦ let no = unaligned m file a (is.first a (omega arith) l) in absurd (cc (no, h))
           ]
     ]
 
@@ -86,20 +87,21 @@ rises words at below rising i j l w =
     ]
 
 -- a word more
-pub more : (m : Machine) (bank : Bank) (file : List ℕ) (at : ℕ) (old new : List ℕ) → at % 4 ≡ 0 → is_word_at file at ≡ true → IsAppended m bank file at old new
-    → IsTextTo m bank file at old → IsTextTo m bank file (at + 4) new
-more m bank file at old new even word added t =
+pub more : (m : Machine) (bank : Bank) (file : List ℕ) (at next : ℕ) (old new : List ℕ) → IsNextPlace m.narrow (at + 1) next → is_word_at m file at ≡ true → IsAppended m bank file at old new
+    → IsTextTo m bank file at old → IsTextTo m bank file next new
+more m bank file at next old new is word added t =
+    let behind = is.behind in
     let texts = put_text t.texts at added.text in
     let other = λ (a : ℕ) (h : Contains t.words a). put_other t.texts at added.text a ((t.all a).0 h).0 in
     record {
       words = t.words ++ at ∷ [];
       texts = texts;
       all = λ a. (
-        (λ h. elim (Contains-push_cases t.words at a h) as (λ _. (a < at + 4) × (is_word_at file a ≡ true)) [
+        (λ h. elim (Contains-push_cases t.words at a h) as (λ _. (a < next) × (is_word_at m file a ≡ true)) [
           | inl before ↦ let k = (t.all a).0 before in (omega (arith, k.0), k.1)
-          | inr same ↦ (omega arith, subst (λ n. is_word_at file n ≡ true) same word)
+          | inr same ↦ (omega arith, subst (λ n. is_word_at m file n ≡ true) same word)
         ]),
-        (λ h. elim (here_or_before file at a even h.0 h.1) as (λ _. Contains (t.words ++ at ∷ []) a) [
+        (λ h. elim (here_or_before m file at next a is h.0 h.1) as (λ _. Contains (t.words ++ at ∷ []) a) [
           | inl before ↦ Contains-append_left t.words (at ∷ []) a ((t.all a).1 (before, h.1))
           | inr same ↦ subst (λ n. Contains (t.words ++ at ∷ []) n) same (Contains-push t.words at)
         ]),

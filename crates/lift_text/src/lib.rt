@@ -1,4 +1,5 @@
-//! The text of a file's lifted words: those at multiples of 4 whose four bytes are executable and given by the file itself, by rising addresses.
+//! The text of a file's lifted words: those at addresses at which a row can stand whose bytes are executable and given by the file itself, by rising addresses.
+//! Where some rows have 2 bytes, words may overlap: one stands at each even address, whatever the rows before it are.
 //!
 //! Each word has a line, its address and its bytes in the file's order. Its statements follow, two blanks deep; a word without a row says ` none` on its line.
 #![tactic(auto)]

@@ -1,15 +1,14 @@
 //! The line of a word.
 
-ghost use Rattle.std.specs.Prelude.{◌≡◌, ◌++◌, ◌∷◌, length, OnOk};
+ghost use Rattle.std.specs.Prelude.{◌≡◌, ◌++◌, ◌∷◌, OnOk};
 ghost use Rattle.word_spec.specs.Texts.{word_text};
 ghost use Rattle.lift_text.specs.Found.{bytes_text};
 
 use state_text::{push_text, push_word};
 use std::alloc::{AllocError, Global};
 
-/// Appends two hexadecimal digits for each byte of a word.
+/// Appends two hexadecimal digits for each byte.
 fn push_bytes(alloc: Global, out: &mut Vec<u8>, bytes: &[u8]) -> Result<(), AllocError>
-    requires { length bytes.now ≡ 4 }
     ensures { OnOk result (out.new.items ≡ out.old.items ++ bytes_text bytes.now) }
 {
     let digits = hex::encode(alloc, bytes)?;
@@ -17,17 +16,17 @@ fn push_bytes(alloc: Global, out: &mut Vec<u8>, bytes: &[u8]) -> Result<(), Allo
     Ok(())
 }
 
-/// Appends the address of a word, and its bytes in the file's order.
+/// Appends the address of a word, and the bytes of its row in the file's order.
 pub(crate) fn push_word_line(
     alloc: Global,
     out: &mut Vec<u8>,
     at: u32,
-    bytes: [u8; 4],
+    bytes: &[u8],
 ) -> Result<(), AllocError>
-    ensures { OnOk result (out.new.items ≡ out.old.items ++ (word_text at ++ 32 ∷ bytes_text bytes)) }
+    ensures { OnOk result (out.new.items ≡ out.old.items ++ (word_text at ++ 32 ∷ bytes_text bytes.now)) }
 {
     push_word(out, at)?;
     push_text(out, b" ")?;
-    push_bytes(alloc, out, &bytes)?;
+    push_bytes(alloc, out, bytes)?;
     Ok(())
 }

@@ -1,19 +1,19 @@
 //! The words of a file, one behind the other.
 
-ghost use Rattle.std.specs.Prelude.{ℕ, ◌≡◌, ◌++◌, ◌%◌, List, IfOk, OnOk};
+ghost use Rattle.std.specs.Prelude.{ℕ, ◌≡◌, ◌++◌, List, IfOk, OnOk};
+ghost use Rattle.machine_spec.specs.Machine.{IsAtPlace};
 ghost use Rattle.bilv_spec.specs.Files.{order_of};
 ghost use Rattle.bilv_spec.specs.LiftText.{IsLiftTextBy};
 ghost use Rattle.lift_text.specs.Found.{IsWordFound};
 ghost use Rattle.lift_text.specs.Rest.{rest_text};
 ghost use Rattle.lift_text.specs.Progress.{IsAppended, IsAdvance};
 
-use crate::candidates::{Candidate, END, look_at};
+use crate::candidates::{Candidate, END, RowBytes, look_at, place_from};
 use crate::lines::push_word_line;
 use bil_ast::Stmt;
 use bil_print::append_stmts;
 use elf32_reader::Image;
-use file_words::word_of;
-use machine_law::{Machine, lift_word};
+use machine_law::{Machine, is_narrow, lift_word};
 use state_text::push_text;
 use std::alloc::{AllocError, Global};
 
@@ -42,20 +42,20 @@ fn push_word<M: Machine>(
     image: &Image,
     out: &mut Vec<u8>,
     at: u32,
-    bytes: [u8; 4],
+    row: RowBytes,
 ) -> Result<(), AllocError>
     requires order { order_of image.now ≡ M.machine.endian }
-    requires found { IsWordFound image.now at bytes }
+    requires found { IsWordFound M.machine image.now at row }
     ensures { OnOk result (IsAppended M.machine M.bank image.now at out.old.items out.new.items) }
 {
-    let word = word_of(bytes, image.is_big_machine());
+    let word = row.number(image.is_big_machine());
     let lifted = lift_word::<M>(alloc, word, at)?;
-    push_word_line(alloc, out, at, bytes)?;
+    push_word_line(alloc, out, at, row.bytes())?;
     push_rest(alloc, out, lifted)?;
     Ok(())
 }
 
-/// Appends the lines of the word at a multiple of 4, if one stands there. The result is the multiple of 4 to look at next, 2^32 behind the last.
+/// Appends the lines of the word at an address at which a row can stand, if one stands there. The result is the address to look at next, 2^32 behind the last.
 fn push_next<M: Machine>(
     alloc: Global,
     image: &Image,
@@ -63,14 +63,14 @@ fn push_next<M: Machine>(
     at: u32,
 ) -> Result<u64, AllocError>
     requires order { order_of image.now ≡ M.machine.endian }
-    requires aligned { at % 4 ≡ 0 }
+    requires aligned { IsAtPlace M.machine.narrow at }
     ensures { IfOk result (λ next. IsAdvance M.machine M.bank image.now at out.old.items next out.new.items) }
 {
-    match look_at(image, at) {
+    match look_at::<M>(image, at) {
         Candidate::Next(next) => Ok(next),
-        Candidate::Word(bytes) => {
-            push_word::<M>(alloc, image, out, at, bytes)?;
-            Ok(at as u64 + 4)
+        Candidate::Word(row) => {
+            push_word::<M>(alloc, image, out, at, row)?;
+            Ok(place_from(is_narrow::<M>(), at as u64 + 1))
         }
     }
 }

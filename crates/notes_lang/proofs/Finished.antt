@@ -1,6 +1,6 @@
 -- Notes whose lines are all good.
 use Rattle.std.proofs.Common.{◌≡◌, ◌≢◌, ℕ, ◌+◌, sym, ap, ◌∙◌, subst, List, [], Option, Some, None, length, map, AllPairs}
-use Rattle.bilv_spec.specs.Notes as notes
+use Rattle.bilv_spec.specs.Scopes.{Vocabulary}
 use Rattle.bilv_spec.specs.NotesGrammar.{IsNotesText, lines_of}
 use Rattle.bilv_spec.specs.NotesFaults.{EntryFault, IsFirstNoteFault, begin_of, no_entry}
 use Rattle.bilv_spec.proofs.NotesOutcome.{pairs}
@@ -10,7 +10,7 @@ use Rattle.notes_lang.specs.Saying.{function_of}
 use Rattle.notes_lang.specs.Drafting.{place_list, note_line_of, assert_of, targets_of, fixed_of}
 use Rattle.notes_lang.specs.Parsing.{IsGoodDraft}
 
-pub finished : (names all : List ℕ → Option notes.Expr) (text : List ℕ) (d : Draft) (f : Function) → names ≡ all → IsGoodDraft (begin_of names text) (lines_of text) d →
+pub finished : (v all : Vocabulary) (text : List ℕ) (d : Draft) (f : Function) → v ≡ all → IsGoodDraft (begin_of v text) (lines_of text) d →
     d.entry ≡ Some f →
     IsNotesText all text (record {
       entry = function_of f;
@@ -20,7 +20,7 @@ pub finished : (names all : List ℕ → Option notes.Expr) (text : List ℕ) (d
       targets = map targets_of d.targets.items;
       fixed = map fixed_of d.fixed.items;
     })
-finished names all text d f same p is =
+finished v all text d f same p is =
     let q : IsGoodDraft (begin_of all text) (lines_of text) d = subst (λ n. IsGoodDraft (begin_of n text) (lines_of text) d) same p in record {
       short = q.good.count;
       says = q.says;
@@ -36,9 +36,9 @@ finished names all text d f same p is =
       );
     }
 
-pub unnamed : (names all : List ℕ → Option notes.Expr) (text : List ℕ) (d : Draft) (line : ℕ) → names ≡ all → IsGoodDraft (begin_of names text) (lines_of text) d →
+pub unnamed : (v all : Vocabulary) (text : List ℕ) (d : Draft) (line : ℕ) → v ≡ all → IsGoodDraft (begin_of v text) (lines_of text) d →
     line ≡ length (lines_of text) + 1 → d.entry ≡ None →
     IsFirstNoteFault all text line EntryFault
-unnamed names all text d line same p number is =
+unnamed v all text d line same p number is =
     let q : IsGoodDraft (begin_of all text) (lines_of text) d = subst (λ n. IsGoodDraft (begin_of n text) (lines_of text) d) same p in
     subst (λ n. IsFirstNoteFault all text n EntryFault) (sym number) (no_entry q.says q.good (q.is.entry ∙ ap place_list is))

@@ -328,21 +328,21 @@ module _ (s : Scope) (strict : s.mode ≡ Strict) (n : ℕ) (earlier : List Says
   one x y said other = one_saying (lenient s) (tokens_of text) y x other said
 
   module _ (p : IsTokenFault s.is_second us None) (form : IsOfForm s (tokens_view us)) (x : Says) (said : IsSaid (lenient s) (tokens_of text) x) where
-    free_10 : AreAligned x → Free Applies 10
-    free_10 aligned = free_next Applies AlignFault (free_9 p form x said) (λ f. f.2 (subst AreAligned (sym (one x f.0 said f.1)) aligned))
+    free_10 : AreAligned s.narrow x → Free Applies 10
+    free_10 aligned = free_next Applies AlignFault (free_9 p form x said) (λ f. f.2 (subst (AreAligned s.narrow) (sym (one x f.0 said f.1)) aligned))
 
-    free_11 : AreAligned x → IsRange x → Free Applies 11
+    free_11 : AreAligned s.narrow x → IsRange x → Free Applies 11
     free_11 aligned range = free_next Applies RangeFault (free_10 aligned) (λ f. f.2 (subst IsRange (sym (one x f.0 said f.1)) range))
 
-    free_12 : AreAligned x → IsRange x → (Repeats earlier x → ⊥) → Free Applies 12
+    free_12 : AreAligned s.narrow x → IsRange x → (Repeats earlier x → ⊥) → Free Applies 12
     free_12 aligned range new =
         free_next Applies EntryFault (free_11 aligned range) (λ f. new (subst (Repeats earlier) (one x f.0 said f.1) f.2))
 
-    free_13 : AreAligned x → IsRange x → (Repeats earlier x → ⊥) → IsVersion s x → Free Applies 13
+    free_13 : AreAligned s.narrow x → IsRange x → (Repeats earlier x → ⊥) → IsVersion s x → Free Applies 13
     free_13 aligned range new version =
         free_next Applies VersionFault (free_12 aligned range new) (λ f. f.2 (subst (IsVersion s) (sym (one x f.0 said f.1)) version))
 
-    free_14 : AreAligned x → IsRange x → (Repeats earlier x → ⊥) → IsVersion s x → IsNew s x → Free Applies 14
+    free_14 : AreAligned s.narrow x → IsRange x → (Repeats earlier x → ⊥) → IsVersion s x → IsNew s x → Free Applies 14
     free_14 aligned range new version is_new =
         free_next Applies ConstFault (free_13 aligned range new version) (λ f. f.2 (subst (IsNew s) (sym (one x f.0 said f.1)) is_new))
 

@@ -5,10 +5,10 @@ use Rattle.std.proofs.lemmas.Bool.Decides.{nat_tests}
 use Rattle.std.proofs.lemmas.List.Elements.{All-nil, All-cons, All-tail}
 use Rattle.word_spec.specs.Memory.{Little}
 use Rattle.bilv_spec.specs.Notes.{Expr, Number, Register, Flag, Pc, Bound, Memory, Old, Not, Binary, Notes, put_bound, each, values}
-use Rattle.bilv_spec.specs.Scopes.{Scope, Mode, Strict, Lenient, Loose, Constant, begin, const_of, const_or, meaning, name_by, named, is_reserved, binding}
+use Rattle.bilv_spec.specs.Scopes.{Vocabulary, Scope, Mode, Strict, Lenient, Loose, Constant, begin, const_of, const_or, meaning, name_by, named, is_reserved, binding}
 use Rattle.word_spec.specs.Tokens.{Token, NameToken, NumberToken, tokens_of}
 use Rattle.bilv_spec.specs.NotesGrammar.{load_words, IsGood, left_of, Parses, tighter, binary_of, not_of, number_of, name_of, memory_of, old_of, all_of, in_brackets, after, is_second, lines_of, Says, Nothing, EntryIs, RequireIs, EnsureIs, AssertIs, TargetsAre, FixedIs, VersionIs, ConstIs, LoadedIs, requires_of, ensures_of, asserts_of, IsSaid, AreLines, IsNotesText}
-use Rattle.machine_spec.specs.Rv.{rv32}
+use Rattle.machine_spec.specs.RvMachine.{rv32}
 use Rattle.machine_spec.specs.Arm.{arm}
 use Rattle.word_spec.specs.Profiles.{V4}
 use Rattle.bilv_spec.specs.RvNames.{name_in, rv_table}
@@ -21,7 +21,7 @@ use Rattle.bilv_spec.proofs.NotesWords.{words_said}
 use Rattle.state_text.specs.declared.layout.Layout.{Layout}
 use Rattle.state_text.specs.declared.layout.Layout.TheVariants.{Rv32, Arm}
 use Rattle.notes_value.specs.Reads.{IsReadable, AreReadable, IsOver, AreOver}
-use Rattle.notes_lang.specs.Parsing.{layout_names, layout_registers, layout_flags}
+use Rattle.notes_lang.specs.Parsing.{layout_names, layout_vocabulary, layout_registers, layout_flags}
 
 -- a register or a flag of the machine, or what is no operator
 abbrev reads : (has_register has_flag : ℕ → Bool) → Expr → Bool
@@ -48,7 +48,7 @@ by_table test (n ∷ table) all w e is =
     by_row test (bytes_eq w n.0) (test n.1) (list_all (λ n. test n.1) table) n.1 e (name_in table w) refl all
     (λ rest later. by_table test table rest w e later) is
 
-rv_reads : list_all (λ n. reads rv32.has_register rv32.has_flag n.1) rv_table ≡ true
+rv_reads : list_all (λ n. reads (rv32 false).has_register (rv32 false).has_flag n.1) rv_table ≡ true
 unfolding rv_table
 rv_reads = refl
 
@@ -61,18 +61,18 @@ abbrev NamesRead : (has_register has_flag : ℕ → Bool) → (List ℕ → Opti
 NamesRead has_register has_flag names = (w : List ℕ) (e : Expr) → names w ≡ Some e → reads has_register has_flag e ≡ true
 
 layout_reads : (layout : Layout) → NamesRead (layout_registers layout) (layout_flags layout) (layout_names layout)
-layout_reads Rv32 w e is = by_table (reads rv32.has_register rv32.has_flag) rv_table rv_reads w e is
+layout_reads (Rv32 compressed) w e is = by_table (reads (rv32 false).has_register (rv32 false).has_flag) rv_table rv_reads w e is
 layout_reads (Arm big profile) w e is = by_table (reads (arm Little V4).has_register (arm Little V4).has_flag) arm_table arm_reads w e is
 
 layout_words : (layout : Layout) (w : List ℕ) (e : Expr) → layout_names layout w ≡ Some e → IsOfWords e
-layout_words Rv32 = machine_names_of_words.0
+layout_words (Rv32 compressed) = machine_names_of_words.0
 layout_words (Arm big profile) = machine_names_of_words.1
 
 no_flag : (f : ℕ) → IsTrue false → f ≤ 3
 no_flag f is = absurd (let x : ⊥ = cc in x)
 
 layout_few : (layout : Layout) (f : ℕ) → IsTrue (layout_flags layout f) → f ≤ 3
-layout_few Rv32 f is = no_flag f is
+layout_few (Rv32 compressed) f is = no_flag f is
 layout_few (Arm big profile) f is = grind (arith, nat_tests)
 
 -- an expression that names registers and flags of the machine alone, and loads bytes
@@ -190,7 +190,7 @@ good_number : (w : List ℕ) (v : ℕ) (ts : List Token) → ts ≡ NameToken (c
 good_number w v ts is good = let g : All IsGood (NameToken (codes "const") ∷ NameToken w ∷ NumberToken v ∷ []) = subst (All IsGood) is good in g 2 (NumberToken v) (omega arith)
 
 -- what holds of each expression that good tokens say holds of each line
-module _ (Claim : Expr → Type 0) (names : List ℕ → Option Expr) (each : (s : Scope) → s.names ≡ names → SmallConsts s.consts → (l : ℕ) (ts : List Token)
+module _ (Claim : Expr → Type 0) (words : Vocabulary) (each : (s : Scope) → s.names ≡ words.names → SmallConsts s.consts → (l : ℕ) (ts : List Token)
     (e : Expr) → All IsGood ts → Parses s l ts e → Claim e) where
   abbrev HoldsOfSaid : Says → Type 0
   HoldsOfSaid (RequireIs e) = Claim e
@@ -202,14 +202,14 @@ module _ (Claim : Expr → Type 0) (names : List ℕ → Option Expr) (each : (s
   HoldsOfAll [] = Unit {0}
   HoldsOfAll (s ∷ says) = HoldsOfSaid s × HoldsOfAll says
 
-  said : (s : Scope) → s.names ≡ names → SmallConsts s.consts → (ts : List Token) (x : Says) → All IsGood ts → IsSaid s ts x → HoldsOfSaid x
+  said : (s : Scope) → s.names ≡ words.names → SmallConsts s.consts → (ts : List Token) (x : Says) → All IsGood ts → IsSaid s ts x → HoldsOfSaid x
   said s same small ts (RequireIs e) good p = each s same small 1 p.0 e (All-tail IsGood _ p.0 (subst (All IsGood) p.1 good)) p.2
   said s same small ts (EnsureIs e) good p = each s same small 1 p.0 e (All-tail IsGood _ p.0 (subst (All IsGood) p.1 good)) p.2
   said s same small ts (AssertIs a e) good (t, rest, is, n, p) =
       each s same small 1 rest e (All-tail IsGood t rest (All-tail IsGood (NameToken (codes "assert")) (t ∷ rest) (subst (All IsGood) is good))) p
   said s same small ts x good p = tt
 
-  still : (s : Scope) (x : Says) → s.names ≡ names → (after s x).names ≡ names
+  still : (s : Scope) (x : Says) → s.names ≡ words.names → (after s x).names ≡ words.names
   still s Nothing same = same
   still s (EntryIs e) same = same
   still s (RequireIs e) same = same
@@ -233,7 +233,7 @@ module _ (Claim : Expr → Type 0) (names : List ℕ → Option Expr) (each : (s
   still_small s ts (VersionIs b) good p small = small
   still_small s ts LoadedIs good p small = small
 
-  lines : (s : Scope) → s.names ≡ names → SmallConsts s.consts → (texts : List (List ℕ)) (says : List Says) → AreLines s texts says → HoldsOfAll says
+  lines : (s : Scope) → s.names ≡ words.names → SmallConsts s.consts → (texts : List (List ℕ)) (says : List Says) → AreLines s texts says → HoldsOfAll says
   lines s same small [] [] p = tt
   lines s same small [] (x ∷ says) p = absurd p
   lines s same small (text ∷ texts) [] p = tt
@@ -263,9 +263,9 @@ module _ (Claim : Expr → Type 0) (names : List ℕ → Option Expr) (each : (s
     ensures : All (λ l. Claim l.says) n.ensures
     asserts : All (λ l. Claim l.says) n.asserts
 
-  claimed : (text : List ℕ) (n : Notes) → IsNotesText names text n → Claimed n
+  claimed : (text : List ℕ) (n : Notes) → IsNotesText words text n → Claimed n
   claimed text n p =
-      let r = lines (begin names (is_second (lines_of text))) refl (λ c none. absurd (omega (arith, none.1))) (lines_of text) p.says p.lines in record {
+      let r = lines (begin words (is_second (lines_of text))) refl (λ c none. absurd (omega (arith, none.1))) (lines_of text) p.says p.lines in record {
         requires = subst (All (λ l. Claim l.says)) p.notes_are.1 (required 1 p.says r);
         ensures = subst (All (λ l. Claim l.says)) p.notes_are.2 (ensured 1 p.says r);
         asserts = subst (All (λ l. Claim l.says)) p.notes_are.3 (asserted 1 p.says r);
@@ -279,17 +279,17 @@ scope_words : (layout : Layout) (s : Scope) → s.names ≡ layout_names layout 
 scope_words layout s same = subst (λ names. (w : List ℕ) (e : Expr) → names w ≡ Some e → IsOfWords e) (sym same) (layout_words layout)
 
 -- notes for a layout
-pub notes_readable : (layout : Layout) (text : List ℕ) (n : Notes) → IsNotesText (layout_names layout) text n → AreReadable (layout_registers layout) n
+pub notes_readable : (layout : Layout) (text : List ℕ) (n : Notes) → IsNotesText (layout_vocabulary layout) text n → AreReadable (layout_registers layout) n
 notes_readable layout text n p =
-    let c = claimed (IsReadable (layout_registers layout)) (layout_names layout)
+    let c = claimed (IsReadable (layout_registers layout)) (layout_vocabulary layout)
     (λ s same small l ts e good q. readable (layout_registers layout) (layout_flags layout) (layout_few layout) e
     (parts (layout_registers layout) (layout_flags layout) s (scope_reads layout s same) l ts e q)) text n p in
     record { requires = c.requires; ensures = c.ensures; asserts = c.asserts }
 
-pub notes_over : (layout : Layout) (text : List ℕ) (n : Notes) → IsNotesText (layout_names layout) text n →
+pub notes_over : (layout : Layout) (text : List ℕ) (n : Notes) → IsNotesText (layout_vocabulary layout) text n →
     AreOver (layout_registers layout) (layout_flags layout) n
 notes_over layout text n p =
-    let c = claimed (IsOver (layout_registers layout) (layout_flags layout)) (layout_names layout)
+    let c = claimed (IsOver (layout_registers layout) (layout_flags layout)) (layout_vocabulary layout)
     (λ s same small l ts e good q. over (layout_registers layout) (layout_flags layout) e
     (parts (layout_registers layout) (layout_flags layout) s (scope_reads layout s same) l ts e q)
     (words_said s (scope_words layout s same) small l ts e good q)) text n p in

@@ -89,11 +89,11 @@ is_later_word _ = false
 
 -- what is wrong with what a line says by itself, the least fault alone
 abbrev pub IsOwnFault : Scope → Says → Option FaultKind → Type 0
-IsOwnFault s x None = AreAligned x × IsRange x × IsVersion s x × IsNew s x
-IsOwnFault s x (Some kind.Align) = AreAligned x → ⊥
-IsOwnFault s x (Some kind.Range) = AreAligned x × (IsRange x → ⊥)
-IsOwnFault s x (Some kind.Version) = AreAligned x × IsRange x × (IsVersion s x → ⊥)
-IsOwnFault s x (Some kind.Const) = AreAligned x × IsRange x × IsVersion s x × (IsNew s x → ⊥)
+IsOwnFault s x None = AreAligned s.narrow x × IsRange x × IsVersion s x × IsNew s x
+IsOwnFault s x (Some kind.Align) = AreAligned s.narrow x → ⊥
+IsOwnFault s x (Some kind.Range) = AreAligned s.narrow x × (IsRange x → ⊥)
+IsOwnFault s x (Some kind.Version) = AreAligned s.narrow x × IsRange x × (IsVersion s x → ⊥)
+IsOwnFault s x (Some kind.Const) = AreAligned s.narrow x × IsRange x × IsVersion s x × (IsNew s x → ⊥)
 IsOwnFault s x (Some kind.Limit) = ⊥
 IsOwnFault s x (Some kind.Byte) = ⊥
 IsOwnFault s x (Some kind.Token) = ⊥

@@ -4,10 +4,12 @@ use Rattle.std.specs.Borrow.{Bor}
 use Rattle.bilv_spec.specs.Notes as notes
 use Rattle.bilv_spec.specs.RvNames.{rv_names}
 use Rattle.bilv_spec.specs.ArmNames.{arm_names}
+use Rattle.bilv_spec.specs.Scopes as scopes
 use Rattle.notes_lang.specs.declared.names.Meaning.{Meaning}
 use Rattle.notes_lang.specs.declared.names.Meaning.TheVariants as meaning
 use Rattle.notes_lang.specs.declared.names.Names.{Names}
 use Rattle.notes_lang.specs.declared.names.Names.TheVariants.{Rv32, Arm}
+use Rattle.notes_lang.specs.declared.names.Vocabulary.{Vocabulary}
 
 -- what a name stands for
 abbrev pub meaning_of : Meaning → notes.Expr
@@ -21,7 +23,11 @@ meaning_of meaning.Bound = notes.Bound
 abbrev pub named_of : Bor (List ℕ) × Meaning → List ℕ × notes.Expr
 named_of row = (row.0.now, meaning_of row.1)
 
--- the names of a machine
+-- the names of a machine's registers and flags
 abbrev pub names_of : Names → List ℕ → Option notes.Expr
 names_of Rv32 = rv_names
 names_of Arm = arm_names
+
+-- the vocabulary of a machine
+abbrev pub vocabulary_of : Vocabulary → scopes.Vocabulary
+vocabulary_of v = record { names = names_of v.names; narrow = v.narrow }

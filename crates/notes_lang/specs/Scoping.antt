@@ -6,7 +6,7 @@ use Rattle.notes_lang.specs.declared.scopes.Mode.{Mode}
 use Rattle.notes_lang.specs.declared.scopes.Mode.TheVariants.{Strict, Lenient, Loose}
 use Rattle.notes_lang.specs.declared.scopes.Constant.{Constant}
 use Rattle.notes_lang.specs.declared.scopes.Scope.{Scope}
-use Rattle.notes_lang.specs.Named.{names_of}
+use Rattle.notes_lang.specs.Named.{vocabulary_of}
 
 -- how a line is read
 abbrev pub mode_of : Mode → scopes.Mode
@@ -25,7 +25,8 @@ text_of w = w.now
 -- a scope
 abbrev pub scope_of : Scope → scopes.Scope
 scope_of s = record {
-  names = names_of s.names;
+  names = (vocabulary_of s.words).names;
+  narrow = (vocabulary_of s.words).narrow;
   consts = map constant_of s.consts.now;
   bound = map text_of s.bound.now;
   is_second = s.is_second;

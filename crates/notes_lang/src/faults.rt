@@ -1,8 +1,9 @@
 //! Faults of lines.
 ghost use Rattle.std.specs.Prelude.{◌≡◌, ◌≤◌, ◌↔◌, ℕ, List, map, count_by, length, All, IfOk, IsTrue};
 ghost use Rattle.std.specs.List.{list_any};
+ghost use Rattle.machine_spec.specs.Machine.{IsAtPlace};
 ghost use Rattle.bilv_spec.specs.Scopes as scopes;
-ghost use Rattle.bilv_spec.specs.NotesGrammar.{AreAligned, IsAligned, IsNew, IsRange, IsVersion, is_depth, line_limit};
+ghost use Rattle.bilv_spec.specs.NotesGrammar.{AreAligned, IsNew, IsRange, IsVersion, is_depth, line_limit};
 ghost use Rattle.word_spec.specs.Tokens.{tokens_of};
 ghost use Rattle.line_tokens.specs.Tokens.{capped, token_of};
 ghost use Rattle.notes_lang.specs.Reading.{AreGood, tokens_view};
@@ -46,7 +47,7 @@ pub enum FaultKind {
     /// A name of no register, no flag and no constant.
     #[error("N8 Name")]
     Name,
-    /// An address that is no multiple of 4.
+    /// An address at which no row can stand: no multiple of 4, or of 2 with the compressed instructions of RISC-V.
     #[error("N9 Align")]
     Align,
     /// A range whose low end is above its high end.
@@ -143,21 +144,32 @@ fn depth(is_second: bool, tokens: &[Token]) -> usize
         .count()
 }
 
-/// Whether addresses are multiples of 4.
-fn are_multiples(addresses: &[u32]) -> bool
-    ensures { IsTrue result ↔ All IsAligned addresses.now }
+/// Whether a row can stand at an address.
+fn is_place(narrow: bool, address: u32) -> bool
+    ensures { IsTrue result ↔ IsAtPlace narrow address }
 {
-    addresses.iter().all(|address| *address % 4 == 0)
+    if narrow {
+        address % 2 == 0
+    } else {
+        address % 4 == 0
+    }
 }
 
-/// Whether the addresses that a line names are multiples of 4.
-fn is_aligned(says: &Says) -> bool
-    ensures { IsTrue result ↔ AreAligned (says_of says.now) }
+/// Whether rows can stand at all of these addresses.
+fn are_places(narrow: bool, addresses: &[u32]) -> bool
+    ensures { IsTrue result ↔ All (IsAtPlace narrow) addresses.now }
+{
+    addresses.iter().all(|address| is_place(narrow, *address))
+}
+
+/// Whether rows can stand at the addresses that a line names.
+fn is_aligned(narrow: bool, says: &Says) -> bool
+    ensures { IsTrue result ↔ AreAligned narrow (says_of says.now) }
 {
     match says {
-        Says::Entry(Function::At(at)) => *at % 4 == 0,
-        Says::Assert(at, _) => *at % 4 == 0,
-        Says::Targets(at, to) => *at % 4 == 0 && are_multiples(to),
+        Says::Entry(Function::At(at)) => is_place(narrow, *at),
+        Says::Assert(at, _) => is_place(narrow, *at),
+        Says::Targets(at, to) => is_place(narrow, *at) && are_places(narrow, to),
         _ => true,
     }
 }
@@ -196,7 +208,7 @@ fn is_new(scope: Scope, says: &Says) -> bool
 fn own_fault(scope: Scope, says: &Says) -> Option<FaultKind>
     ensures { IsOwnFault (scope_of scope.entry) (says_of says.now) result }
 {
-    if !is_aligned(says) {
+    if !is_aligned(scope.words.narrow, says) {
         return Some(FaultKind::Align);
     }
     if !is_range(says) {

@@ -27,6 +27,13 @@ pub(crate) enum Names {
     Arm,
 }
 
+/// Which words name something of the machine, and whether some of its rows have 2 bytes.
+#[derive(Clone, Copy)]
+pub(crate) struct Vocabulary {
+    pub(crate) names: Names,
+    pub(crate) narrow: bool,
+}
+
 /// The registers x0 to x31 with the names of the ABI, and the program counter (RISC-V Unprivileged ISA 20191213, chapter 25).
 const RV_NAMES: [(&[u8], Meaning); 66] = [
     (b"zero", Meaning::Number(0)),

@@ -2,15 +2,15 @@
 ghost use Rattle.std.specs.Prelude.{◌≡◌, ◌&&◌, map, not, IfOk, IfErr, OnOk};
 ghost use Rattle.bilv_spec.specs.NotesGrammar.{IsNotesText};
 ghost use Rattle.notes_value.specs.Reads.{AreOver, AreReadable};
-ghost use Rattle.notes_lang.specs.Named.{names_of};
+ghost use Rattle.notes_lang.specs.Named.{vocabulary_of};
 ghost use Rattle.notes_lang.specs.Drafting.{notes_of};
 ghost use Rattle.notes_lang.specs.Saying.{consts_after, is_something, says_of};
 ghost use Rattle.notes_lang.specs.Scoping.{constant_of};
-ghost use Rattle.notes_lang.specs.Parsing.{IsLinesRead, IsRefused, layout_flags, layout_names, layout_registers};
+ghost use Rattle.notes_lang.specs.Parsing.{IsLinesRead, IsRefused, layout_flags, layout_registers, layout_vocabulary};
 
 use crate::drafts::Draft;
 use crate::faults::{FaultKind, judge};
-use crate::names::Names;
+use crate::names::{Names, Vocabulary};
 use crate::notes::Notes;
 use crate::sayings::Says;
 use crate::scopes::{Constant, Mode, Scope};
@@ -41,13 +41,19 @@ pub enum NotesError {
     Memory,
 }
 
-/// The names of a machine.
-fn names_for(layout: Layout) -> Names
-    ensures { names_of result ≡ layout_names layout }
+/// The vocabulary of a machine.
+fn vocabulary(layout: Layout) -> Vocabulary
+    ensures { vocabulary_of result ≡ layout_vocabulary layout }
 {
     match layout {
-        Layout::Rv32 => Names::Rv32,
-        Layout::Arm { .. } => Names::Arm,
+        Layout::Rv32 { compressed } => Vocabulary {
+            names: Names::Rv32,
+            narrow: compressed,
+        },
+        Layout::Arm { .. } => Vocabulary {
+            names: Names::Arm,
+            narrow: false,
+        },
     }
 }
 
@@ -78,10 +84,10 @@ fn declare<'a>(consts: &mut Vec<Constant<'a>>, says: &Says<'a>) -> Result<(), Al
 /// What the lines of a text say, with the number of the line behind the last, or the first line that is refused.
 fn read_lines(
     alloc: Global,
-    names: Names,
+    words: Vocabulary,
     text: &[u8],
 ) -> Result<Result<(Draft, u32), NoteFault>, AllocError>
-    ensures { IfOk result (λ r. IsLinesRead (names_of names) text.now r) }
+    ensures { IfOk result (λ r. IsLinesRead (vocabulary_of words) text.now r) }
 {
     let is_second = is_second_text(alloc, text)?;
     let outside: Vec<&[u8]> = Vec::new(alloc);
@@ -94,7 +100,7 @@ fn read_lines(
         let rest = &text[at..];
         let (first, behind) = first_line(rest);
         let scope = Scope {
-            names,
+            words,
             consts: &consts,
             bound: &outside,
             is_second,
@@ -123,12 +129,12 @@ fn read_lines(
 /// The notes that a text says, for the machine of a layout. `Fault` tells the first line that is refused, with the first of its faults; where each line is good
 /// but none names the function, it is the line behind the last. A text whose first line that says something is `notes 2` is of version 2. What the expressions of the notes read, the machine has; their numbers have 32 bits.
 pub fn parse(alloc: Global, bytes: &[u8], layout: Layout) -> Result<Notes, NotesError>
-    ensures ok { IfOk result (λ notes. IsNotesText (layout_names layout) bytes.now (notes_of notes)) }
+    ensures ok { IfOk result (λ notes. IsNotesText (layout_vocabulary layout) bytes.now (notes_of notes)) }
     ensures readable { IfOk result (λ notes. AreReadable (layout_registers layout) (notes_of notes)) }
     ensures over { IfOk result (λ notes. AreOver (layout_registers layout) (layout_flags layout) (notes_of notes)) }
-    ensures err { IfErr result (λ error. IsRefused (layout_names layout) bytes.now error) }
+    ensures err { IfErr result (λ error. IsRefused (layout_vocabulary layout) bytes.now error) }
 {
-    let Ok(read) = read_lines(alloc, names_for(layout), bytes) else {
+    let Ok(read) = read_lines(alloc, vocabulary(layout), bytes) else {
         return Err(NotesError::Memory);
     };
     let (draft, line) = match read {

@@ -9,7 +9,7 @@ ghost use Rattle.notes_value.specs.Views.{expr_of};
 ghost use Rattle.notes_lang.specs.Named.{meaning_of};
 ghost use Rattle.notes_lang.specs.Scoping.{constant_of, scope_of, text_of};
 
-use crate::names::{Meaning, Names, expression, find_meaning, is_among, is_reserved_first};
+use crate::names::{Meaning, Vocabulary, expression, find_meaning, is_among, is_reserved_first};
 use line_tokens::Token;
 use notes_value::Expr;
 
@@ -28,11 +28,11 @@ pub(crate) struct Constant<'a> {
     pub(crate) number: u32,
 }
 
-/// What words mean: the names of the machine, the constants so far, and the names that the `all`s around the place bind, the outermost first. The text is of
+/// What words mean: the vocabulary of the machine, the constants so far, and the names that the `all`s around the place bind, the outermost first. The text is of
 /// version 2 or of version 1, and no line before this one says something, or one does.
 #[derive(Clone, Copy)]
 pub(crate) struct Scope<'a, 's> {
-    pub(crate) names: Names,
+    pub(crate) words: Vocabulary,
     pub(crate) consts: &'s [Constant<'a>],
     pub(crate) bound: &'s [&'a [u8]],
     pub(crate) is_second: bool,
@@ -98,7 +98,7 @@ fn meaning(scope: Scope, word: &[u8]) -> Option<Meaning>
     }
     match const_number(scope.consts, word) {
         Some(number) => Some(Meaning::Number(number)),
-        None => find_meaning(scope.names, word),
+        None => find_meaning(scope.words.names, word),
     }
 }
 

@@ -3,30 +3,39 @@ use Rattle.std.proofs.Common.{◌≡◌, ◌≢◌, ◌⊎◌, inl, inr, ℕ, ze
 use Rattle.std.specs.Prelude.{Contains, ◌==◌, ◌&&◌, not, if◌then◌else◌, map, filter}
 use Rattle.std.proofs.lemmas.Bool.Decides.{nat_tests}
 use Rattle.word_spec.specs.Words.{add}
-use Rattle.machine_spec.specs.Machine.{Row, Successors}
+use Rattle.machine_spec.specs.Machine.{Row, Successors, unit, is_place, IsAtPlace}
 use Rattle.bilv_spec.specs.Run.{Program, named, some_of}
 use Rattle.bilv_spec.specs.Points.{EdgeEnd, ToAddress, ToExit, edges, edges_by, edges_of, indirect_ends, return_ends, after_call, is_top, leads_on, distinct, file_row, file_word}
 use Rattle.bilv_spec.specs.Points as points
 use Rattle.bilv_spec.specs.Graph.{Letter, NextLetter, JumpLetter, CallLetter, ReturnLetter, Successor, successor, successors_of, successors_by, comes_before, insert, sort, successors_at, may_return, returns_by}
 use Rattle.bilv_spec.proofs.PointSteps.{same_number, here, there, in_left, in_right, in_filter, in_map, in_edges}
 use Rattle.bilv_spec.proofs.PointsInGraph.{split_in, of_distinct, of_filter, of_map, in_sort}
+use Rattle.graph_nodes.specs.Graphs.{row_length}
 use Rattle.program_points.specs.Listed.{HasOneWay}
 
 -- an edge to an address with a stack, as successors say: back is the address behind a call
-pub data IsEdge (returns : Bool) (back : ℕ) (stack : List ℕ) (xs : List Successor) (s : List ℕ) (a : ℕ) : Type 0 where
-  goes : Contains xs (successor NextLetter a) → s ≡ stack → IsEdge returns back stack xs s a
-  jumps : Contains xs (successor JumpLetter a) → (returns && is_top stack a) ≡ false → s ≡ stack → IsEdge returns back stack xs s a
-  calls : Contains xs (successor CallLetter a) → s ≡ back ∷ stack → IsEdge returns back stack xs s a
-  backs : returns ≡ true → stack ≡ a ∷ s → a % 4 ≡ 0 → IsEdge returns back stack xs s a
+pub data IsEdge (narrow returns : Bool) (back : ℕ) (stack : List ℕ) (xs : List Successor) (s : List ℕ) (a : ℕ) : Type 0 where
+  goes : Contains xs (successor NextLetter a) → s ≡ stack → IsEdge narrow returns back stack xs s a
+  jumps : Contains xs (successor JumpLetter a) → (returns && is_top stack a) ≡ false → s ≡ stack → IsEdge narrow returns back stack xs s a
+  calls : Contains xs (successor CallLetter a) → s ≡ back ∷ stack → IsEdge narrow returns back stack xs s a
+  backs : returns ≡ true → stack ≡ a ∷ s → IsAtPlace narrow a → IsEdge narrow returns back stack xs s a
 
 -- the same where each successor to the address is among others
-pub moved : (returns : Bool) (back : ℕ) (stack : List ℕ) (xs ys : List Successor) (s : List ℕ) (a : ℕ) →
+pub moved : (narrow returns : Bool) (back : ℕ) (stack : List ℕ) (xs ys : List Successor) (s : List ℕ) (a : ℕ) →
     ((x : Successor) → x.to ≡ a → Contains xs x → Contains ys x)
-    → IsEdge returns back stack xs s a → IsEdge returns back stack ys s a
-moved returns back stack xs ys s a f (goes h e) = goes (f (successor NextLetter a) refl h) e
-moved returns back stack xs ys s a f (jumps h t e) = jumps (f (successor JumpLetter a) refl h) t e
-moved returns back stack xs ys s a f (calls h e) = calls (f (successor CallLetter a) refl h) e
-moved returns back stack xs ys s a f (backs r e m) = backs r e m
+    → IsEdge narrow returns back stack xs s a → IsEdge narrow returns back stack ys s a
+moved narrow returns back stack xs ys s a f (goes h e) = goes (f (successor NextLetter a) refl h) e
+moved narrow returns back stack xs ys s a f (jumps h t e) = jumps (f (successor JumpLetter a) refl h) t e
+moved narrow returns back stack xs ys s a f (calls h e) = calls (f (successor CallLetter a) refl h) e
+moved narrow returns back stack xs ys s a f (backs r e m) = backs r e m
+
+-- the same by equal parts
+pub same_edge : (m narrow r returns : Bool) (b back : ℕ) (stack : List ℕ) (xs ys : List Successor) (s : List ℕ) (a : ℕ) → m ≡ narrow → r ≡ returns → b ≡ back →
+    xs ≡ ys → IsEdge m r b stack xs s a → IsEdge narrow returns back stack ys s a
+same_edge m narrow r returns b back stack xs ys s a of_narrow of_returns of_back of_list e =
+    subst (λ (z : List Successor). IsEdge narrow returns back stack z s a) of_list
+    (subst (λ (z : ℕ). IsEdge narrow returns z stack xs s a) of_back
+    (subst (λ (z : Bool). IsEdge narrow z b stack xs s a) of_returns (subst (λ (z : Bool). IsEdge z r b stack xs s a) of_narrow e)))
 
 none_in : {X : Type 0} {P : Type 0} (x : X) → Contains [] x → P
 none_in x (i, h, e) = absurd (omega arith)
@@ -68,7 +77,7 @@ of_sort (x ∷ xs) z h = elim (of_insert x (sort xs) z h) [
 ]
 
 -- the parts of a row's successors, and of its ends
-module _ (next : Bool) (direct : Option ℕ) (indirect call : Bool) (names : List ℕ) (at length : ℕ) (stack : List ℕ) (one : indirect ≡ true →
+module _ (narrow next : Bool) (direct : Option ℕ) (indirect call : Bool) (names : List ℕ) (at length : ℕ) (stack : List ℕ) (one : indirect ≡ true →
     direct ≡ None) where
   abbrev letter : Bool → Letter
   letter c = if c then CallLetter else JumpLetter
@@ -101,7 +110,7 @@ module _ (next : Bool) (direct : Option ℕ) (indirect call : Bool) (names : Lis
   ends = ends_direct ++ ends_through ++ ends_next
 
   abbrev Edge : List ℕ → ℕ → Type 0
-  Edge s a = IsEdge (indirect && not call) (add 32 at length) stack all s a
+  Edge s a = IsEdge narrow (indirect && not call) (add 32 at length) stack all s a
 
   in_nexts : (x : Successor) → Contains nexts x → Contains all x
   in_nexts x h = in_left (nexts ++ straight ++ through) behind x (in_left (nexts ++ straight) through x (in_left nexts straight x h))
@@ -132,13 +141,13 @@ module _ (next : Bool) (direct : Option ℕ) (indirect call : Bool) (names : Lis
       lettered call refl a (in_through (successor (letter call) a) g) (λ n. ap (λ z. z && not call && is_top stack a) e ∙ ap (λ z. not z &&
       is_top stack a) n ∙ t n)
 
-  back_edge : (l : List ℕ) → stack ≡ l → call ≡ false → indirect ≡ true → (s : List ℕ) (a : ℕ) → a % 4 ≡ 0 → Contains (return_ends l) (ToAddress s a) → Edge s a
+  back_edge : (l : List ℕ) → stack ≡ l → call ≡ false → indirect ≡ true → (s : List ℕ) (a : ℕ) → IsAtPlace narrow a → Contains (return_ends l) (ToAddress s a) → Edge s a
   back_edge [] e c i s a m h = absurd (let t = only_in ToExit (ToAddress s a) h in let u : false ≡ true = ap is_address t in cc)
   back_edge (top ∷ below) e c i s a m h =
       let t = only_in (ToAddress below top) (ToAddress s a) h in
       backs (ap (λ z. z && not call) i ∙ ap not c) (e ∙ ap (λ z. z ∷ below) (ap at_of t) ∙ ap (λ z. a ∷ z) (ap stack_of t)) m
 
-  by_through : (c : Bool) → call ≡ c → indirect ≡ true → (s : List ℕ) (a : ℕ) → a % 4 ≡ 0 → Contains (indirect_ends c length at stack names) (ToAddress s a) →
+  by_through : (c : Bool) → call ≡ c → indirect ≡ true → (s : List ℕ) (a : ℕ) → IsAtPlace narrow a → Contains (indirect_ends c length at stack names) (ToAddress s a) →
       Edge s a
   by_through true c i s a m h =
       let q = of_map (λ b. ToAddress (after_call true length at stack) b) names (ToAddress s a) h in
@@ -157,7 +166,7 @@ module _ (next : Bool) (direct : Option ℕ) (indirect call : Bool) (names : Lis
       unless true e = absurd (cc)
       unless false e = refl
 
-  through_by : (i : Bool) → indirect ≡ i → (s : List ℕ) (a : ℕ) → a % 4 ≡ 0 →
+  through_by : (i : Bool) → indirect ≡ i → (s : List ℕ) (a : ℕ) → IsAtPlace narrow a →
       Contains (if i then indirect_ends call length at stack names else []) (ToAddress s a) → Edge s a
   through_by true i s a m h = by_through call refl i s a m h
   through_by false i s a m h = none_in (ToAddress s a) h
@@ -173,7 +182,7 @@ module _ (next : Bool) (direct : Option ℕ) (indirect call : Bool) (names : Lis
       (sym (ap stack_of t))
 
   -- each end is an edge
-  pub to_edge : (s : List ℕ) (a : ℕ) → a % 4 ≡ 0 → Contains ends (ToAddress s a) → Edge s a
+  pub to_edge : (s : List ℕ) (a : ℕ) → IsAtPlace narrow a → Contains ends (ToAddress s a) → Edge s a
   to_edge s a m h = elim (split_in (ends_direct ++ ends_through) ends_next (ToAddress s a) h) [
     | inr f ↦ next_by next refl s a f
     | inl j ↦ elim (split_in ends_direct ends_through (ToAddress s a) j) [
@@ -351,31 +360,31 @@ abbrev pub jumping_from : List Successor → List Successor
 jumping_from xs = filter (λ x. not (goes_on x.letter)) xs
 
 -- jumps alone: the same row without going on
-module _ (next : Bool) (direct : Option ℕ) (indirect call : Bool) (names : List ℕ) (at length : ℕ) (stack : List ℕ) (one : indirect ≡ true →
+module _ (narrow next : Bool) (direct : Option ℕ) (indirect call : Bool) (names : List ℕ) (at length : ℕ) (stack : List ℕ) (one : indirect ≡ true →
     direct ≡ None) where
   abbrev front : List Successor
-  front = nexts next direct indirect call names at length stack one
+  front = nexts narrow next direct indirect call names at length stack one
 
   abbrev middle : List Successor
-  middle = straight next direct indirect call names at length stack one
+  middle = straight narrow next direct indirect call names at length stack one
 
   abbrev named_ones : List Successor
-  named_ones = through next direct indirect call names at length stack one
+  named_ones = through narrow next direct indirect call names at length stack one
 
   abbrev last : List Successor
-  last = behind next direct indirect call names at length stack one
+  last = behind narrow next direct indirect call names at length stack one
 
   abbrev whole : List Successor
-  whole = all next direct indirect call names at length stack one
+  whole = all narrow next direct indirect call names at length stack one
 
   abbrev alone : List Successor
-  alone = all false direct indirect call names at length stack one
+  alone = all narrow false direct indirect call names at length stack one
 
   not_on : (b : Bool) → goes_on (if b then CallLetter else JumpLetter) ≡ false
   not_on true = refl
   not_on false = refl
 
-  jumps_on : (x : Successor) → Part false direct indirect call names at length stack one x → not (goes_on x.letter) ≡ true
+  jumps_on : (x : Successor) → Part narrow false direct indirect call names at length stack one x → not (goes_on x.letter) ≡ true
   jumps_on x (of_next n q) = absurd (cc)
   jumps_on x (of_direct b h q) = ap (λ (z : Successor). not (goes_on z.letter)) (sym q) ∙ ap not (not_on call)
   jumps_on x (of_named i b h q) = ap (λ (z : Successor). not (goes_on z.letter)) (sym q) ∙ ap not (not_on call)
@@ -391,7 +400,7 @@ module _ (next : Bool) (direct : Option ℕ) (indirect call : Bool) (names : Lis
           | inl m ↦ in_left (front ++ middle) named_ones x (in_right front middle x m)
         ])
       ])
-      (jumps_on x (part false direct indirect call names at length stack one x h))
+      (jumps_on x (part narrow false direct indirect call names at length stack one x h))
 
   going : (b : Bool) (x : Successor) → Contains (if b then successor NextLetter (add 32 at length) ∷ [] else []) x → goes_on x.letter ≡ true
   going true x h = ap (λ (z : Successor). goes_on z.letter) (sym (only_in (successor NextLetter (add 32 at length)) x h))
@@ -412,32 +421,40 @@ module _ (next : Bool) (direct : Option ℕ) (indirect call : Bool) (names : Lis
       ]
 
   abbrev jump_list : List EdgeEnd
-  jump_list = ends_direct next direct indirect call names at length stack one ++ ends_through next direct indirect call names at length stack one
+  jump_list = ends_direct narrow next direct indirect call names at length stack one ++ ends_through narrow next direct indirect call names at length stack one
 
-  pub jump_to : (s : List ℕ) (a : ℕ) → a % 4 ≡ 0 → Contains jump_list (ToAddress s a) →
-      IsEdge (indirect && not call) (add 32 at length) stack (jumping_from whole) s a
+  pub jump_to : (s : List ℕ) (a : ℕ) → IsAtPlace narrow a → Contains jump_list (ToAddress s a) →
+      IsEdge narrow (indirect && not call) (add 32 at length) stack (jumping_from whole) s a
   jump_to s a m h =
-      moved (indirect && not call) (add 32 at length) stack alone (jumping_from whole) s a (λ x to i. alone_in x i)
-      (to_edge false direct indirect call names at length stack one s a m (in_left jump_list [] (ToAddress s a) h))
+      moved narrow (indirect && not call) (add 32 at length) stack alone (jumping_from whole) s a (λ x to i. alone_in x i)
+      (to_edge narrow false direct indirect call names at length stack one s a m (in_left jump_list [] (ToAddress s a) h))
 
-  pub jump_of : (s : List ℕ) (a : ℕ) → IsEdge (indirect && not call) (add 32 at length) stack (jumping_from whole) s a → Contains jump_list (ToAddress s a)
+  pub jump_of : (s : List ℕ) (a : ℕ) → IsEdge narrow (indirect && not call) (add 32 at length) stack (jumping_from whole) s a → Contains jump_list (ToAddress s a)
   jump_of s a e =
-      elim (split_in jump_list [] (ToAddress s a) (of_edge false direct indirect call names at length stack one s a
-      (moved (indirect && not call) (add 32 at length) stack (jumping_from whole) alone s a (λ x to i. in_alone x i) e))) as
+      elim (split_in jump_list [] (ToAddress s a) (of_edge narrow false direct indirect call names at length stack one s a
+      (moved narrow (indirect && not call) (add 32 at length) stack (jumping_from whole) alone s a (λ x to i. in_alone x i) e))) as
       (λ _. Contains jump_list (ToAddress s a)) [
         | inl j ↦ j
         | inr n ↦ none_in (ToAddress s a) n
       ]
 
+-- a test of a number for 0
+pub tests_zero : (x : ℕ) → x ≡ 0 → (x == 0) ≡ true
+tests_zero x e = grind (arith, nat_tests)
+
 module _ (p : Program) (way : HasOneWay p) (turns at : ℕ) (stack : List ℕ) where
   abbrev point : points.Point
   point = record { turns = turns; stack = stack; at = at }
 
-  abbrev PointEdge : List ℕ → ℕ → Type 0
-  PointEdge s a = IsEdge (may_return p at) (add 32 at 4) stack (successors_at p at) s a
+  abbrev narrow : Bool
+  narrow = p.machine.narrow
 
-  aligned : (a : ℕ) → a % 4 ≡ 0 → (a % 4 == 0) ≡ true
-  aligned a e = grind (arith, nat_tests)
+  -- the address behind the row
+  abbrev back : ℕ
+  back = add 32 at (row_length (file_row p at))
+
+  abbrev PointEdge : List ℕ → ℕ → Type 0
+  PointEdge s a = IsEdge narrow (may_return p at) back stack (successors_at p at) s a
 
   module _ (row : Row) (is : file_row p at ≡ Some row) where
     abbrev s : Successors
@@ -447,26 +464,26 @@ module _ (p : Program) (way : HasOneWay p) (turns at : ℕ) (stack : List ℕ) w
     found = successors_of p at row s
 
     abbrev RowEdge : List ℕ → ℕ → Type 0
-    RowEdge t a = IsEdge (s.indirect && not s.call) (add 32 at row.length) stack found t a
+    RowEdge t a = IsEdge narrow (s.indirect && not s.call) (add 32 at row.length) stack found t a
 
     returns : may_return p at ≡ (s.indirect && not s.call)
     returns = ap (returns_by at) is
 
-    four_on : add 32 at row.length ≡ add 32 at 4
-    four_on = ap (add 32 at) (way.four at row is)
+    back_is : add 32 at row.length ≡ back
+    back_is = ap (λ (o : Option Row). add 32 at (row_length o)) (sym is)
 
-    listed : (x : Successor) → x.to % 4 ≡ 0 → Contains found x → Contains (successors_at p at) x
+    listed : (x : Successor) → IsAtPlace narrow x.to → Contains found x → Contains (successors_at p at) x
     listed x e h =
         subst (λ (z : Option Row). Contains (sort (successors_by p at z)) x) (sym is)
-        (in_sort (filter (λ y. y.to % 4 == 0) found) x (in_filter (λ y. y.to % 4 == 0) found x h (aligned x.to e)))
+        (in_sort (filter (λ y. is_place narrow y.to) found) x (in_filter (λ y. is_place narrow y.to) found x h (tests_zero (x.to % unit narrow) e)))
 
-    unlisted : (x : Successor) → Contains (successors_at p at) x → Contains found x × (x.to % 4 ≡ 0)
+    unlisted : (x : Successor) → Contains (successors_at p at) x → Contains found x × IsAtPlace narrow x.to
     unlisted x h =
-        let q = of_filter (λ y. y.to % 4 == 0) found x
-        (of_sort (filter (λ y. y.to % 4 == 0) found) x (subst (λ (z : Option Row). Contains (sort (successors_by p at z)) x) is h)) in
-        (q.0, same_number (x.to % 4) 0 q.1)
+        let q = of_filter (λ y. is_place narrow y.to) found x
+        (of_sort (filter (λ y. is_place narrow y.to) found) x (subst (λ (z : Option Row). Contains (sort (successors_by p at z)) x) is h)) in
+        (q.0, same_number (x.to % unit narrow) 0 q.1)
 
-    jumping_more : (x : Successor) → x.to % 4 ≡ 0 → Contains (jumping_from found) x → Contains (jumping_from (successors_at p at)) x
+    jumping_more : (x : Successor) → IsAtPlace narrow x.to → Contains (jumping_from found) x → Contains (jumping_from (successors_at p at)) x
     jumping_more x m h =
         let q = of_filter (λ (y : Successor). not (goes_on y.letter)) found x h in in_filter
         (λ (y : Successor). not (goes_on y.letter)) (successors_at p at) x (listed x m q.0) q.1
@@ -477,51 +494,50 @@ module _ (p : Program) (way : HasOneWay p) (turns at : ℕ) (stack : List ℕ) w
         (λ (y : Successor). not (goes_on y.letter)) found x (unlisted x q.0).0 q.1
 
     -- the ends of jumps are those that the other successors give
-    pub jump_from : (t : List ℕ) (a : ℕ) → a % 4 ≡ 0 → Contains (points.jump_ends p point row s) (ToAddress t a)
-        → IsEdge (may_return p at) (add 32 at 4) stack (jumping_from (successors_at p at)) t a
+    pub jump_from : (t : List ℕ) (a : ℕ) → IsAtPlace narrow a → Contains (points.jump_ends p point row s) (ToAddress t a)
+        → IsEdge narrow (may_return p at) back stack (jumping_from (successors_at p at)) t a
     jump_from t a m h =
-        subst (λ (z : Bool). IsEdge z (add 32 at 4) stack (jumping_from (successors_at p at)) t a) (sym returns)
-        (subst (λ (z : ℕ). IsEdge (s.indirect && not s.call) z stack (jumping_from (successors_at p at)) t a) four_on
-        (moved (s.indirect && not s.call) (add 32 at row.length) stack (jumping_from found) (jumping_from (successors_at p at)) t a
-        (λ x to i. jumping_more x (ap (λ z. z % 4) to ∙ m) i)
-        (jump_to s.next s.direct s.indirect s.call (named p (file_word p) row at) at row.length stack (way.direct at row is) t a m h)))
+        same_edge narrow narrow (s.indirect && not s.call) (may_return p at) (add 32 at row.length) back stack (jumping_from (successors_at p at))
+        (jumping_from (successors_at p at)) t a refl (sym returns) back_is refl
+        (moved narrow (s.indirect && not s.call) (add 32 at row.length) stack (jumping_from found) (jumping_from (successors_at p at)) t a
+        (λ x to i. jumping_more x (ap (λ z. z % unit narrow) to ∙ m) i)
+        (jump_to narrow s.next s.direct s.indirect s.call (named p (file_word p) row at) at row.length stack (way.direct at row is) t a m h))
 
-    pub jump_into : (t : List ℕ) (a : ℕ) → IsEdge (may_return p at) (add 32 at 4) stack (jumping_from (successors_at p at)) t a
+    pub jump_into : (t : List ℕ) (a : ℕ) → IsEdge narrow (may_return p at) back stack (jumping_from (successors_at p at)) t a
         → Contains (points.jump_ends p point row s) (ToAddress t a)
     jump_into t a e =
-        jump_of s.next s.direct s.indirect s.call (named p (file_word p) row at) at row.length stack (way.direct at row is) t a
-        (subst (λ (z : Bool). IsEdge z (add 32 at row.length) stack (jumping_from found) t a) returns
-        (subst (λ (z : ℕ). IsEdge (may_return p at) z stack (jumping_from found) t a) (sym four_on)
-        (moved (may_return p at) (add 32 at 4) stack (jumping_from (successors_at p at)) (jumping_from found) t a (λ x to i. jumping_less x i) e)))
+        jump_of narrow s.next s.direct s.indirect s.call (named p (file_word p) row at) at row.length stack (way.direct at row is) t a
+        (same_edge narrow narrow (may_return p at) (s.indirect && not s.call) back (add 32 at row.length) stack (jumping_from found) (jumping_from found) t a refl
+        returns (sym back_is) refl
+        (moved narrow (may_return p at) back stack (jumping_from (successors_at p at)) (jumping_from found) t a (λ x to i. jumping_less x i) e))
 
     -- and the end of going on is the next address, with the same stack
-    pub fall_from : (t : List ℕ) (a : ℕ) → a % 4 ≡ 0 → Contains (points.fall_ends point row s) (ToAddress t a) → (t ≡ stack) ×
+    pub fall_from : (t : List ℕ) (a : ℕ) → IsAtPlace narrow a → Contains (points.fall_ends point row s) (ToAddress t a) → (t ≡ stack) ×
         Contains (successors_at p at) (successor NextLetter a)
     fall_from t a m h =
-        let q = fall_to s.next s.direct s.indirect s.call (named p (file_word p) row at) at row.length stack (way.direct at row is) t a h in
+        let q = fall_to narrow s.next s.direct s.indirect s.call (named p (file_word p) row at) at row.length stack (way.direct at row is) t a h in
         (q.0, listed (successor NextLetter a) m q.1)
 
     pub fall_into : (t : List ℕ) (a : ℕ) → t ≡ stack → Contains (successors_at p at) (successor NextLetter a) →
         Contains (points.fall_ends point row s) (ToAddress t a)
     fall_into t a e h =
         subst (λ (z : List ℕ). Contains (points.fall_ends point row s) (ToAddress z a)) (sym e)
-        (fall_of s.next s.direct s.indirect s.call (named p (file_word p) row at) at row.length stack (way.direct at row is) a
+        (fall_of narrow s.next s.direct s.indirect s.call (named p (file_word p) row at) at row.length stack (way.direct at row is) a
         (unlisted (successor NextLetter a) h).0)
 
-    row_edge : (t : List ℕ) (a : ℕ) → a % 4 ≡ 0 → RowEdge t a → PointEdge t a
+    row_edge : (t : List ℕ) (a : ℕ) → IsAtPlace narrow a → RowEdge t a → PointEdge t a
     row_edge t a m e =
-        subst (λ (z : Bool). IsEdge z (add 32 at 4) stack (successors_at p at) t a) (sym returns)
-        (subst (λ (z : ℕ). IsEdge (s.indirect && not s.call) z stack (successors_at p at) t a) four_on
-        (moved (s.indirect && not s.call) (add 32 at row.length) stack found (successors_at p at) t a
-        (λ x to h. listed x (ap (λ z. z % 4) to ∙ m) h) e))
+        same_edge narrow narrow (s.indirect && not s.call) (may_return p at) (add 32 at row.length) back stack (successors_at p at) (successors_at p at) t a refl
+        (sym returns) back_is refl
+        (moved narrow (s.indirect && not s.call) (add 32 at row.length) stack found (successors_at p at) t a
+        (λ x to h. listed x (ap (λ z. z % unit narrow) to ∙ m) h) e)
 
     edge_row : (t : List ℕ) (a : ℕ) → PointEdge t a → RowEdge t a
     edge_row t a e =
-        subst (λ (z : Bool). IsEdge z (add 32 at row.length) stack found t a) returns
-        (subst (λ (z : ℕ). IsEdge (may_return p at) z stack found t a) (sym four_on)
-        (moved (may_return p at) (add 32 at 4) stack (successors_at p at) found t a (λ x to h. (unlisted x h).0) e))
+        same_edge narrow narrow (may_return p at) (s.indirect && not s.call) back (add 32 at row.length) stack found found t a refl returns (sym back_is) refl
+        (moved narrow (may_return p at) back stack (successors_at p at) found t a (λ x to h. (unlisted x h).0) e)
 
-    edge_aligned : (t : List ℕ) (a : ℕ) → PointEdge t a → a % 4 ≡ 0
+    edge_aligned : (t : List ℕ) (a : ℕ) → PointEdge t a → IsAtPlace narrow a
     edge_aligned t a (goes h e) = (unlisted (successor NextLetter a) h).1
     edge_aligned t a (jumps h r e) = (unlisted (successor JumpLetter a) h).1
     edge_aligned t a (calls h e) = (unlisted (successor CallLetter a) h).1
@@ -530,18 +546,18 @@ module _ (p : Program) (way : HasOneWay p) (turns at : ℕ) (stack : List ℕ) w
     row_to : (t : List ℕ) (a : ℕ) → Contains (edges p point) (ToAddress t a) → PointEdge t a
     row_to t a h =
         let all : List EdgeEnd = edges_of p point row s in
-        let g = subst (λ (z : Option Row). Contains (distinct (filter leads_on (edges_by p point z))) (ToAddress t a)) is h in
-        let q = of_filter leads_on all (ToAddress t a) (of_distinct (filter leads_on all) (ToAddress t a) g) in
-        let m = same_number (a % 4) 0 q.1 in
-        row_edge t a m (to_edge s.next s.direct s.indirect s.call (named p (file_word p) row at) at row.length stack (way.direct at row is) t a m q.0)
+        let g = subst (λ (z : Option Row). Contains (distinct (filter (leads_on narrow) (edges_by p point z))) (ToAddress t a)) is h in
+        let q = of_filter (leads_on narrow) all (ToAddress t a) (of_distinct (filter (leads_on narrow) all) (ToAddress t a) g) in
+        let m = same_number (a % unit narrow) 0 q.1 in
+        row_edge t a m (to_edge narrow s.next s.direct s.indirect s.call (named p (file_word p) row at) at row.length stack (way.direct at row is) t a m q.0)
 
     row_of : (t : List ℕ) (a : ℕ) → PointEdge t a → Contains (edges p point) (ToAddress t a)
     row_of t a e =
-        in_edges p row turns at stack is (ToAddress t a) (aligned a (edge_aligned t a e))
-        (of_edge s.next s.direct s.indirect s.call (named p (file_word p) row at) at row.length stack (way.direct at row is) t a (edge_row t a e))
+        in_edges p row turns at stack is (ToAddress t a) (tests_zero (a % unit narrow) (edge_aligned t a e))
+        (of_edge narrow s.next s.direct s.indirect s.call (named p (file_word p) row at) at row.length stack (way.direct at row is) t a (edge_row t a e))
 
   by_row : (o : Option Row) → file_row p at ≡ o → (t : List ℕ) (a : ℕ) → Contains (edges p point) (ToAddress t a) → PointEdge t a
-  by_row None is t a h = none_in (ToAddress t a) (subst (λ (z : Option Row). Contains (distinct (filter leads_on (edges_by p point z))) (ToAddress t a)) is h)
+  by_row None is t a h = none_in (ToAddress t a) (subst (λ (z : Option Row). Contains (distinct (filter (leads_on narrow) (edges_by p point z))) (ToAddress t a)) is h)
   by_row (Some row) is t a h = row_to row is t a h
 
   nothing_listed : file_row p at ≡ None → (x : Successor) → ¬ Contains (successors_at p at) x

@@ -1,10 +1,9 @@
 -- The ends of a node are the edges that its successors give.
 use Rattle.std.proofs.Common.{◌≡◌, inl, inr, ℕ, zero, suc, ◌%◌, ◌<◌, ◌≤◌, refl, ap, sym, ◌∙◌, subst, arith, List, [], ◌∷◌, length, get_or, Option, Some, None, Bool, true, false}
-use Rattle.std.specs.Prelude.{map, slice_get, Contains, ◌==◌, ◌&&◌, if◌then◌else◌}
+use Rattle.std.specs.Prelude.{map, slice_get, Contains, ◌&&◌, if◌then◌else◌}
 use Rattle.std.specs.List.{filter_map, cons_option}
-use Rattle.std.proofs.lemmas.Bool.Decides.{nat_tests}
 use Rattle.std.proofs.lemmas.Option.{slice_get-get_or, slice_get_within}
-use Rattle.word_spec.specs.Words.{add}
+use Rattle.machine_spec.specs.Machine.{unit, is_place, IsAtPlace}
 use Rattle.bilv_spec.specs.Points.{is_top}
 use Rattle.bilv_spec.specs.Graph as graph
 use Rattle.bilv_spec.specs.Graph.{NextLetter, JumpLetter, CallLetter, ReturnLetter}
@@ -17,7 +16,7 @@ use Rattle.graph_nodes.specs.Graphs.{letter_of, successor_of}
 use Rattle.program_points.specs.declared.values.Frame.{Frame}
 use Rattle.program_points.specs.declared.values.End.{End}
 use Rattle.program_points.specs.Tables.{end, has_top, jump_end, letter_end, successor_end, return_end, back_end, listed, ends_from, frame, frame_at, stack_at}
-use Rattle.program_points.proofs.Edges.{IsEdge, goes, jumps, calls, backs}
+use Rattle.program_points.proofs.Edges.{IsEdge, goes, jumps, calls, backs, tests_zero}
 use Rattle.program_points.proofs.Stacked.{stack_none, stack_next}
 
 both : (a b : ℕ) (xs ys : List ℕ) → a ∷ xs ≡ b ∷ ys → (a ≡ b) × (xs ≡ ys)
@@ -83,22 +82,22 @@ module _ (frames : List Frame) (low : (i : ℕ) (f : Frame) → slice_get frames
   top_by None n a le e = ap (λ l. is_top l a) (no_frame n le e)
   top_by (Some f) n a le e = ap (λ l. is_top l a) (stack_frame n f e)
 
-  module _ (returns : Bool) (items : List Successor) (at : ℕ) (stack called : ℕ) (fits : stack ≤ length frames)
-      (pushes : (x : Successor) → Contains items x → x.letter ≡ Call → frame_at frames called ≡ Some (frame (add 32 at 4) stack)) where
+  module _ (narrow returns : Bool) (items : List Successor) (at behind : ℕ) (stack called : ℕ) (fits : stack ≤ length frames)
+      (pushes : (x : Successor) → Contains items x → x.letter ≡ Call → frame_at frames called ≡ Some (frame behind stack)) where
     abbrev top : Option Frame
     top = frame_at frames stack
 
     abbrev Edge : List ℕ → ℕ → Type 0
-    Edge s a = IsEdge returns (add 32 at 4) (stack_at frames stack) (map successor_of items) s a
+    Edge s a = IsEdge narrow returns behind (stack_at frames stack) (map successor_of items) s a
 
     abbrev ends : List End
-    ends = ends_from returns items top stack called
+    ends = ends_from narrow returns items top stack called
 
     tops : (a : ℕ) → (returns && is_top (stack_at frames stack) a) ≡ (returns && has_top top a)
     tops a = ap (λ b. returns && b) (top_by top stack a fits refl)
 
-    called_stack : (x : Successor) → Contains items x → x.letter ≡ Call → stack_at frames called ≡ add 32 at 4 ∷ stack_at frames stack
-    called_stack x h l = stack_frame called (frame (add 32 at 4) stack) (pushes x h l)
+    called_stack : (x : Successor) → Contains items x → x.letter ≡ Call → stack_at frames called ≡ behind ∷ stack_at frames stack
+    called_stack x h l = stack_frame called (frame behind stack) (pushes x h l)
 
     as_letter : (x : Successor) → Contains items x → (l : Letter) → x.letter ≡ l → Contains (map successor_of items) (graph.successor (letter_of l) x.to)
     as_letter x h l e =
@@ -122,29 +121,29 @@ module _ (frames : List Frame) (low : (i : ℕ) (f : Frame) → slice_get frames
         subst (λ (z : End). Edge (stack_at frames z.stack) z.at) r (calls (as_letter x h Call l) (called_stack x h l))
     by_letter x h Return l e q = absurd (cc)
 
-    aligned_by : (b : Bool) (f : Frame) (e : End) → (f.top % 4 == 0) ≡ b → (if b then Some (end f.below f.top) else None) ≡ Some e → (f.top % 4 ≡ 0) ×
-        (end f.below f.top ≡ e)
-    aligned_by true f e t q = (same_number (f.top % 4) 0 t, (cc))
+    aligned_by : (b : Bool) (f : Frame) (e : End) → is_place narrow f.top ≡ b → (if b then Some (end f.below f.top) else None) ≡ Some e →
+        IsAtPlace narrow f.top × (end f.below f.top ≡ e)
+    aligned_by true f e t q = (same_number (f.top % unit narrow) 0 t, (cc))
     aligned_by false f e t q = absurd (cc)
 
-    return_by : (o : Option Frame) → top ≡ o → returns ≡ true → (e : End) → return_end o ≡ Some e → Edge (stack_at frames e.stack) e.at
+    return_by : (o : Option Frame) → top ≡ o → returns ≡ true → (e : End) → return_end narrow o ≡ Some e → Edge (stack_at frames e.stack) e.at
     return_by None is r e q = absurd (cc)
     return_by (Some f) is r e q =
-        let t = aligned_by (f.top % 4 == 0) f e refl q in
+        let t = aligned_by (is_place narrow f.top) f e refl q in
         subst (λ (z : End). Edge (stack_at frames z.stack) z.at) t.1 (backs r (stack_frame stack f is) t.0)
 
-    back_by : (b : Bool) → returns ≡ b → (e : End) → Contains (listed (back_end b top)) e → Edge (stack_at frames e.stack) e.at
+    back_by : (b : Bool) → returns ≡ b → (e : End) → Contains (listed (back_end narrow b top)) e → Edge (stack_at frames e.stack) e.at
     back_by false r e (i, h, q) = absurd (omega arith)
-    back_by true r e h = one (return_end top) refl h
+    back_by true r e h = one (return_end narrow top) refl h
       where
-        one : (o : Option End) → return_end top ≡ o → Contains (listed o) e → Edge (stack_at frames e.stack) e.at
+        one : (o : Option End) → return_end narrow top ≡ o → Contains (listed o) e → Edge (stack_at frames e.stack) e.at
         one None is (i, l, q) = absurd (omega arith)
         one (Some w) is (zero, l, q) = return_by top refl r e (is ∙ ap Some q)
         one (Some w) is (suc i, l, q) = absurd (omega arith)
 
     -- each end is an edge
     pub end_edge : (e : End) → Contains ends e → Edge (stack_at frames e.stack) e.at
-    end_edge e h = elim (split_in (filter_map (successor_end returns top stack called) items) (listed (back_end returns top)) e h) [
+    end_edge e h = elim (split_in (filter_map (successor_end returns top stack called) items) (listed (back_end narrow returns top)) e h) [
       | inl s ↦ (let q = of_some (successor_end returns top stack called) items e s in by_letter q.0 q.1 q.0.letter refl e q.2)
       | inr b ↦ back_by returns refl e b
     ]
@@ -158,7 +157,7 @@ module _ (frames : List Frame) (low : (i : ℕ) (f : Frame) → slice_get frames
     from_successor : (x : Successor) → Contains items x → (s a : ℕ) → x.to ≡ a → letter_end returns top stack called x.letter a ≡ Some (end s a) →
         Contains ends (end s a)
     from_successor x h s a t e =
-        in_left (filter_map (successor_end returns top stack called) items) (listed (back_end returns top)) (end s a)
+        in_left (filter_map (successor_end returns top stack called) items) (listed (back_end narrow returns top)) (end s a)
         (in_some (successor_end returns top stack called) items x (end s a) h (ap (letter_end returns top stack called x.letter) t ∙ e))
 
     -- each edge is an end
@@ -179,17 +178,17 @@ module _ (frames : List Frame) (low : (i : ℕ) (f : Frame) → slice_get frames
         (end called a, from_successor q.0 q.1 called a q.3 (ap (λ l. letter_end returns top stack called l a) q.2), called_stack q.0 q.1 q.2 ∙ sym e, refl)
     edge_end s a (backs r e m) = popped top refl
       where
-        aligned : (f : Frame) → f.top ≡ a → (f.top % 4 == 0) ≡ true
-        aligned f t = (let z : f.top % 4 ≡ 0 = ap (λ x. x % 4) t ∙ m in grind (arith, nat_tests))
+        aligned : (f : Frame) → f.top ≡ a → is_place narrow f.top ≡ true
+        aligned f t = tests_zero (f.top % unit narrow) (ap (λ x. x % unit narrow) t ∙ m)
 
         popped : (o : Option Frame) → top ≡ o → (w : End) × Contains ends w × (stack_at frames w.stack ≡ s) × (w.at ≡ a)
         popped None is = absurd (let q : [] ≡ a ∷ s = sym (no_frame stack fits is) ∙ e in cc)
         popped (Some f) is =
             let q = both f.top a (stack_at frames f.below) s (sym (stack_frame stack f is) ∙ e) in
-            let w : return_end top ≡ Some (end f.below f.top) = ap return_end is ∙ ap (λ b. if b then Some (end f.below f.top) else None) (aligned f q.0) in
-            let v : back_end returns top ≡ Some (end f.below f.top) = ap (λ b. back_end b top) r ∙ w in (
+            let w : return_end narrow top ≡ Some (end f.below f.top) = ap (return_end narrow) is ∙ ap (λ b. if b then Some (end f.below f.top) else None) (aligned f q.0) in
+            let v : back_end narrow returns top ≡ Some (end f.below f.top) = ap (λ b. back_end narrow b top) r ∙ w in (
               end f.below f.top,
-              in_right (filter_map (successor_end returns top stack called) items) (listed (back_end returns top)) (end f.below f.top)
+              in_right (filter_map (successor_end returns top stack called) items) (listed (back_end narrow returns top)) (end f.below f.top)
                   (subst (λ (z : Option End). Contains (listed z) (end f.below f.top)) (sym v) (0, omega arith, refl)),
               q.1,
               q.0,
@@ -211,25 +210,25 @@ module _ (frames : List Frame) (low : (i : ℕ) (f : Frame) → slice_get frames
         e.stack ≤ length frames
     low_letter x h Next l e q = low_as stack x.to e fits (let r : end stack x.to ≡ e = (cc) in r)
     low_letter x h Jump l e q = low_jump x.to (returns && has_top top x.to) e q
-    low_letter x h Call l e q = low_as called x.to e (frame_low called (frame (add 32 at 4) stack) (pushes x h l)).0 (let r : end called x.to ≡ e = (cc) in r)
+    low_letter x h Call l e q = low_as called x.to e (frame_low called (frame behind stack) (pushes x h l)).0 (let r : end called x.to ≡ e = (cc) in r)
     low_letter x h Return l e q = absurd (cc)
 
-    low_return : (o : Option Frame) → top ≡ o → (e : End) → return_end o ≡ Some e → e.stack ≤ length frames
+    low_return : (o : Option Frame) → top ≡ o → (e : End) → return_end narrow o ≡ Some e → e.stack ≤ length frames
     low_return None is e q = absurd (cc)
-    low_return (Some f) is e q = low_as f.below f.top e (frame_low stack f is).1 (aligned_by (f.top % 4 == 0) f e refl q).1
+    low_return (Some f) is e q = low_as f.below f.top e (frame_low stack f is).1 (aligned_by (is_place narrow f.top) f e refl q).1
 
-    low_one : (o : Option End) → return_end top ≡ o → (e : End) → Contains (listed o) e → e.stack ≤ length frames
+    low_one : (o : Option End) → return_end narrow top ≡ o → (e : End) → Contains (listed o) e → e.stack ≤ length frames
     low_one None is e (i, l, q) = absurd (omega arith)
     low_one (Some w) is e (zero, l, q) = low_return top refl e (is ∙ ap Some q)
     low_one (Some w) is e (suc i, l, q) = absurd (omega arith)
 
-    low_back : (b : Bool) (e : End) → Contains (listed (back_end b top)) e → e.stack ≤ length frames
+    low_back : (b : Bool) (e : End) → Contains (listed (back_end narrow b top)) e → e.stack ≤ length frames
     low_back false e (i, h, q) = absurd (omega arith)
-    low_back true e h = low_one (return_end top) refl e h
+    low_back true e h = low_one (return_end narrow top) refl e h
 
     -- the stack of each end has a number
     pub end_low : (e : End) → Contains ends e → e.stack ≤ length frames
-    end_low e h = elim (split_in (filter_map (successor_end returns top stack called) items) (listed (back_end returns top)) e h) [
+    end_low e h = elim (split_in (filter_map (successor_end returns top stack called) items) (listed (back_end narrow returns top)) e h) [
       | inl s ↦ (let q = of_some (successor_end returns top stack called) items e s in low_letter q.0 q.1 q.0.letter refl e q.2)
       | inr b ↦ low_back returns e b
     ]

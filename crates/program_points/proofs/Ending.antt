@@ -51,7 +51,7 @@ called_none n stack frames h = record {
       λ x c l. absurd (no_call n.successors.items x h c l);
 }
 
-pub called_pushed : (n : Node) (stack number : ℕ) (old new : List Frame) → IsPushed old new (add 32 n.at 4) stack number → IsCalled n stack old new number
+pub called_pushed : (n : Node) (stack number : ℕ) (old new : List Frame) → IsPushed old new (add 32 n.at n.length) stack number → IsCalled n stack old new number
 called_pushed n stack number old new is = record {
   rest = is.rest;
   begins = is.begins;
@@ -73,12 +73,12 @@ ways_kept f [] = refl
 ways_kept f (s ∷ xs) = kept_by f s (is_next s.letter) xs refl (ways_kept f xs)
 
 -- the ends so far and the return's are those of the successors that are not the next address
-pub ways_whole : (returns : Bool) (f o : Option Frame) (stack called : ℕ) (items xs : List Successor) (i : ℕ) (back : Option End) (found grown : List End) →
+pub ways_whole : (narrow returns : Bool) (f o : Option Frame) (stack called : ℕ) (items xs : List Successor) (i : ℕ) (back : Option End) (found grown : List End) →
     xs ≡ items → f ≡ o → length xs ≤ i
-    → back_end returns f ≡ back → found ≡ filter_map (way_end returns f stack called) (take i xs) → grown ≡ found ++ listed back
-    → grown ≡ ends_from returns (filter (λ s. not (is_next s.letter)) items) o stack called
-ways_whole returns f o stack called items xs i back found grown same top le e is more =
-    ends_whole (way_end returns f stack called) xs i (back_end returns f) back found grown le e is more
-    ∙ ap (λ (l : List End). l ++ listed (back_end returns f)) (ways_kept (successor_end returns f stack called) xs)
-    ∙ ap (λ (l : List Successor). ends_from returns (filter (λ s. not (is_next s.letter)) l) f stack called) same
-    ∙ ap (λ (t : Option Frame). ends_from returns (filter (λ s. not (is_next s.letter)) items) t stack called) top
+    → back_end narrow returns f ≡ back → found ≡ filter_map (way_end returns f stack called) (take i xs) → grown ≡ found ++ listed back
+    → grown ≡ ends_from narrow returns (filter (λ s. not (is_next s.letter)) items) o stack called
+ways_whole narrow returns f o stack called items xs i back found grown same top le e is more =
+    ends_whole (way_end returns f stack called) xs i (back_end narrow returns f) back found grown le e is more
+    ∙ ap (λ (l : List End). l ++ listed (back_end narrow returns f)) (ways_kept (successor_end returns f stack called) xs)
+    ∙ ap (λ (l : List Successor). ends_from narrow returns (filter (λ s. not (is_next s.letter)) l) f stack called) same
+    ∙ ap (λ (t : Option Frame). ends_from narrow returns (filter (λ s. not (is_next s.letter)) items) t stack called) top

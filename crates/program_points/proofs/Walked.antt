@@ -10,13 +10,13 @@ use Rattle.std.proofs.lemmas.Option.{slice_get_within}
 use Rattle.word_spec.specs.Words.{add}
 use Rattle.bilv_spec.specs.Run.{Program}
 use Rattle.bilv_spec.specs.Points as points
-use Rattle.bilv_spec.specs.Points.{ToAddress, edges, end_of, IsPoint, first, next, ArePoints, HasMore}
+use Rattle.bilv_spec.specs.Points.{ToAddress, edges, end_of, file_row, IsPoint, first, next, ArePoints, HasMore}
 use Rattle.bilv_spec.specs.Graph.{successors_at, may_return}
 use Rattle.bilv_spec.proofs.PointSteps.{in_map}
 use Rattle.bilv_spec.proofs.PointsInGraph.{of_map, points_are_in_graph}
 use Rattle.graph_nodes.specs.declared.nodes.Node.{Node}
 use Rattle.graph_nodes.specs.declared.nodes.Graph.{Graph}
-use Rattle.graph_nodes.specs.Graphs.{IsNode, IsGraph, successors_of}
+use Rattle.graph_nodes.specs.Graphs.{IsNode, IsGraph, successors_of, row_length}
 use Rattle.program_points.specs.declared.values.Frame.{Frame}
 use Rattle.program_points.specs.declared.values.Point.{Point}
 use Rattle.program_points.specs.declared.values.Points.{Points}
@@ -26,7 +26,7 @@ use Rattle.program_points.specs.Tables.{stacks_of, stack_at, frame_at, ends_of, 
 use Rattle.program_points.specs.Walks.{Walk, IsStep, nowhere, somewhere}
 use Rattle.program_points.proofs.Lists.{truth, at_in, in_at, get_left, longer}
 use Rattle.program_points.proofs.Added.{same_point}
-use Rattle.program_points.proofs.Edges.{IsEdge, edge_from, edge_to}
+use Rattle.program_points.proofs.Edges.{IsEdge, same_edge, edge_from, edge_to}
 use Rattle.program_points.proofs.Stacked.{stack_keeps, stack_none, one_number, are_stacks}
 use Rattle.program_points.proofs.Ended.{end_edge, edge_end}
 
@@ -67,7 +67,7 @@ module _ (p : Program) (g : Graph) (k max : ℕ) (is : IsGraph p g) (way : HasOn
     -- the ends of the point at its node
     module _ (node : Node) (called : ℕ) (here : node.at ≡ point.at) (there : Contains g.nodes.items node)
         (more : IsCalled node point.stack old_frames frames called)
-        (added : AreAdded k max point (ends_of node (frame_at frames point.stack) point.stack called) old found) where
+        (added : AreAdded k max point (ends_of g.narrow node (frame_at frames point.stack) point.stack called) old found) where
       low : point.stack ≤ length old_frames
       low = (within point (at_in old n point at)).0
 
@@ -81,13 +81,22 @@ module _ (p : Program) (g : Graph) (k max : ℕ) (is : IsGraph p g) (way : HasOn
       keeps q h = of_keeps old_frames more.rest frames q more.begins (within q h).0
 
       abbrev ends : List End
-      ends = ends_of node (frame_at frames point.stack) point.stack called
+      ends = ends_of g.narrow node (frame_at frames point.stack) point.stack called
+
+      abbrev beyond : ℕ
+      beyond = add 32 node.at node.length
+
+      abbrev back : ℕ
+      back = add 32 point.at (row_length (file_row p point.at))
+
+      behind : beyond ≡ back
+      behind = ap (add 32 node.at) node_is.length ∙ ap (λ b. add 32 b (row_length (file_row p b))) here
 
       abbrev NodeEdge : List ℕ → ℕ → Type 0
-      NodeEdge s a = IsEdge node.returns (add 32 node.at 4) (stack_at frames point.stack) (successors_of node) s a
+      NodeEdge s a = IsEdge g.narrow node.returns beyond (stack_at frames point.stack) (successors_of node) s a
 
       abbrev PointEdge : List ℕ → ℕ → Type 0
-      PointEdge s a = IsEdge (may_return p point.at) (add 32 point.at 4) (stack_at frames point.stack) (successors_at p point.at) s a
+      PointEdge s a = IsEdge p.machine.narrow (may_return p point.at) back (stack_at frames point.stack) (successors_at p point.at) s a
 
       returns : node.returns ≡ may_return p point.at
       returns = node_is.returns ∙ ap (may_return p) here
@@ -97,15 +106,13 @@ module _ (p : Program) (g : Graph) (k max : ℕ) (is : IsGraph p g) (way : HasOn
 
       to_point : (s : List ℕ) (a : ℕ) → NodeEdge s a → PointEdge s a
       to_point s a e =
-          subst (λ b. IsEdge b (add 32 point.at 4) (stack_at frames point.stack) (successors_at p point.at) s a) returns
-          (subst (λ b. IsEdge node.returns (add 32 b 4) (stack_at frames point.stack) (successors_at p point.at) s a) here
-          (subst (λ l. IsEdge node.returns (add 32 node.at 4) (stack_at frames point.stack) l s a) successors e))
+          same_edge g.narrow p.machine.narrow node.returns (may_return p point.at) beyond back (stack_at frames point.stack) (successors_of node)
+          (successors_at p point.at) s a is.narrow returns behind successors e
 
       to_node : (s : List ℕ) (a : ℕ) → PointEdge s a → NodeEdge s a
       to_node s a e =
-          subst (λ b. IsEdge b (add 32 node.at 4) (stack_at frames point.stack) (successors_of node) s a) (sym returns)
-          (subst (λ b. IsEdge (may_return p point.at) (add 32 b 4) (stack_at frames point.stack) (successors_of node) s a) (sym here)
-          (subst (λ l. IsEdge (may_return p point.at) (add 32 point.at 4) (stack_at frames point.stack) l s a) (sym successors) e))
+          same_edge p.machine.narrow g.narrow (may_return p point.at) node.returns back beyond (stack_at frames point.stack) (successors_at p point.at)
+          (successors_of node) s a (sym is.narrow) (sym returns) (sym behind) (sym successors) e
 
       reached_point : IsPoint p k (of frames point)
       reached_point = subst (λ z. IsPoint p k z) (sym (keeps point (at_in old n point at))) (w.reached point (at_in old n point at))
@@ -115,7 +122,7 @@ module _ (p : Program) (g : Graph) (k max : ℕ) (is : IsGraph p g) (way : HasOn
         | inl o ↦ subst (λ z. IsPoint p k z) (sym (keeps q o)) (w.reached q o)
         | inr (e, ce, is_target, small) ↦
             (let edge = edge_to p way point.turns point.at (stack_at frames point.stack) (stack_at frames e.stack) e.at
-            (to_point (stack_at frames e.stack) e.at (end_edge frames table.below node.returns node.successors.items node.at point.stack called fits more.pushes
+            (to_point (stack_at frames e.stack) e.at (end_edge frames table.below g.narrow node.returns node.successors.items node.at beyond point.stack called fits more.pushes
             e ce)) in
             let turns : (target point e).turns ≤ k = subst (λ (z : Point). z.turns ≤ k) is_target small in
             let r : IsPoint p k (of frames (target point e)) = next reached_point edge turns in
@@ -143,7 +150,7 @@ module _ (p : Program) (g : Graph) (k max : ℕ) (is : IsGraph p g) (way : HasOn
       closed_here : (s : List ℕ) (a : ℕ) → length found ≤ max → Contains (edges p (of frames point)) (ToAddress s a) →
           (end_of (of frames point) s a).turns ≤ k → Leads point s a
       closed_here s a le c small =
-          let e = edge_end frames table.below node.returns node.successors.items node.at point.stack called fits more.pushes s a
+          let e = edge_end frames table.below g.narrow node.returns node.successors.items node.at beyond point.stack called fits more.pushes s a
           (to_node s a (edge_from p way point.turns point.at (stack_at frames point.stack) s a c)) in
           let same = target_of frames point e.0 s a e.2 e.3 in
           let turns : (target point e.0).turns ≤ k = subst (λ (z : points.Point). z.turns ≤ k) (sym same) small in

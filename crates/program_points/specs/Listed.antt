@@ -10,10 +10,9 @@ use Rattle.program_points.specs.declared.values.Points.{Points}
 use Rattle.program_points.specs.declared.values.PointsFault.{PointsFault}
 use Rattle.program_points.specs.declared.values.PointsFault.TheVariants.{TooMany, Memory}
 
--- no row of the program has both a direct and an indirect successor, and each has 4 bytes
+-- no row of the program has both a direct and an indirect successor
 pub record HasOneWay (p : Program) : Type 0 where
   pub direct : (a : ℕ) (row : Row) → file_row p a ≡ Some row → (row.successors a).indirect ≡ true → (row.successors a).direct ≡ None
-  pub four : (a : ℕ) (row : Row) → file_row p a ≡ Some row → row.length ≡ 4
 
 -- the stacks by their numbers: the empty one, and each frame's top on the stack below it, which has a lower number; no two are equal
 pub record AreStacks (frames : List Frame) (stacks : List (List ℕ)) : Type 0 where

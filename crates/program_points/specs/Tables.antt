@@ -1,10 +1,11 @@
 -- Tables of stacks, the ends of a point, and points that are added.
-use Rattle.std.specs.Prelude.{ℕ, zero, suc, nat_le, ◌↔◌, ◌≡◌, ◌≢◌, ◌+◌, ◌<◌, ◌≤◌, ◌%◌, ◌==◌, ◌&&◌, ◌++◌, ◌⊎◌, not, filter, Bool, true, false, List, [], ◌∷◌, Option, Some, None, Contains, length, slice_get, slice_index_or, if◌then◌else◌}
+use Rattle.std.specs.Prelude.{ℕ, zero, suc, nat_le, ◌↔◌, ◌≡◌, ◌≢◌, ◌+◌, ◌<◌, ◌≤◌, ◌==◌, ◌&&◌, ◌++◌, ◌⊎◌, not, filter, Bool, true, false, List, [], ◌∷◌, Option, Some, None, Contains, length, slice_get, slice_index_or, if◌then◌else◌}
 use Rattle.std.specs.List.{filter_map}
 use Rattle.std.specs.BTreeMap.{BTreeMap}
 use Rattle.std.specs.BTreeMap as tree
 use Rattle.std.specs.BTreeSet.{BTreeSet, contains}
 use Rattle.word_spec.specs.Words.{add}
+use Rattle.machine_spec.specs.Machine.{is_place}
 use Rattle.graph_nodes.specs.declared.nodes.Letter.{Letter}
 use Rattle.graph_nodes.specs.declared.nodes.Letter.TheVariants.{Next, Jump, Call, Return}
 use Rattle.graph_nodes.specs.declared.nodes.Successor.{Successor}
@@ -81,15 +82,15 @@ letter_end returns f stack called Return a = None
 abbrev pub successor_end : Bool → Option Frame → (stack called : ℕ) → Successor → Option End
 successor_end returns f stack called s = letter_end returns f stack called s.letter s.to
 
--- the end of a return to the top of a stack
-abbrev pub return_end : Option Frame → Option End
-return_end None = None
-return_end (Some f) = if f.top % 4 == 0 then Some (end f.below f.top) else None
+-- the end of a return to the top of a stack, where a row can stand there
+abbrev pub return_end : (narrow : Bool) → Option Frame → Option End
+return_end narrow None = None
+return_end narrow (Some f) = if is_place narrow f.top then Some (end f.below f.top) else None
 
 -- the end of a return, where the row may return
-abbrev pub back_end : Bool → Option Frame → Option End
-back_end true f = return_end f
-back_end false f = None
+abbrev pub back_end : (narrow returns : Bool) → Option Frame → Option End
+back_end narrow true f = return_end narrow f
+back_end narrow false f = None
 
 -- the list of what there is
 abbrev pub listed : Option End → List End
@@ -97,12 +98,13 @@ listed None = []
 listed (Some e) = e ∷ []
 
 -- the ends by successors and by a return, where the row may return
-abbrev pub ends_from : Bool → List Successor → Option Frame → (stack called : ℕ) → List End
-ends_from returns successors f stack called = filter_map (successor_end returns f stack called) successors ++ listed (back_end returns f)
+abbrev pub ends_from : (narrow returns : Bool) → List Successor → Option Frame → (stack called : ℕ) → List End
+ends_from narrow returns successors f stack called =
+    filter_map (successor_end returns f stack called) successors ++ listed (back_end narrow returns f)
 
 -- the ends of a point at a node, but for the exit
-abbrev pub ends_of : Node → Option Frame → (stack called : ℕ) → List End
-ends_of n f stack called = ends_from n.returns n.successors.items f stack called
+abbrev pub ends_of : (narrow : Bool) → Node → Option Frame → (stack called : ℕ) → List End
+ends_of narrow n f stack called = ends_from narrow n.returns n.successors.items f stack called
 
 -- the letter is that of the next address
 abbrev pub is_next : Letter → Bool
@@ -114,8 +116,8 @@ abbrev pub way_end : Bool → Option Frame → (stack called : ℕ) → Successo
 way_end returns f stack called s = if is_next s.letter then None else successor_end returns f stack called s
 
 -- the ends of a point at a node by jumps, calls and returns
-abbrev pub jumps_of : Node → Option Frame → (stack called : ℕ) → List End
-jumps_of n f stack called = ends_from n.returns (filter (λ s. not (is_next s.letter)) n.successors.items) f stack called
+abbrev pub jumps_of : (narrow : Bool) → Node → Option Frame → (stack called : ℕ) → List End
+jumps_of narrow n f stack called = ends_from narrow n.returns (filter (λ s. not (is_next s.letter)) n.successors.items) f stack called
 
 -- the letter is a call's
 abbrev pub is_call : Letter → Bool
@@ -126,8 +128,8 @@ is_call _ = false
 pub record IsCalled (n : Node) (stack : ℕ) (old new : List Frame) (number : ℕ) : Type 0 where
   pub rest : List Frame
   pub begins : new ≡ old ++ rest
-  pub only : (rest ≡ []) ⊎ (rest ≡ frame (add 32 n.at 4) stack ∷ [])
-  pub pushes : (x : Successor) → Contains n.successors.items x → x.letter ≡ Call → frame_at new number ≡ Some (frame (add 32 n.at 4) stack)
+  pub only : (rest ≡ []) ⊎ (rest ≡ frame (add 32 n.at n.length) stack ∷ [])
+  pub pushes : (x : Successor) → Contains n.successors.items x → x.letter ≡ Call → frame_at new number ≡ Some (frame (add 32 n.at n.length) stack)
 
 -- the order of the keys of points
 abbrev pub triple_cmp : ℕ × ℕ × ℕ → ℕ × ℕ × ℕ → Ordering

@@ -1,7 +1,7 @@
 -- How far the listing of points has come.
-use Rattle.std.specs.Prelude.{ℕ, ◌%◌, ◌≡◌, ◌<◌, ◌≤◌, List, Some, Contains, length, slice_get, ◌↔◌}
+use Rattle.std.specs.Prelude.{ℕ, ◌≡◌, ◌<◌, ◌≤◌, List, Some, Contains, length, slice_get, ◌↔◌}
 use Rattle.bilv_spec.specs.Run.{Program}
-use Rattle.machine_spec.specs.Machine.{Row}
+use Rattle.machine_spec.specs.Machine.{Row, IsAtPlace}
 use Rattle.bilv_spec.specs.Points.{ToAddress, edges, end_of, file_row, fall_ends, jump_ends, IsPoint}
 use Rattle.bilv_spec.specs.Points as points
 use Rattle.program_points.specs.declared.values.Frame.{Frame}
@@ -30,7 +30,7 @@ pub data IsStep (g : Graph) (k max : ℕ) (point : Point) (old_frames frames : L
   nowhere : (AreRising g.nodes.items → ¬ Contains (addresses_of g) point.at) → frames ≡ old_frames → points ≡ old →
       IsStep g k max point old_frames frames old points
   somewhere : (n : Node) (called : ℕ) → n.at ≡ point.at → Contains g.nodes.items n → IsCalled n point.stack old_frames frames called
-      → AreAdded k max point (ends_of n (frame_at frames point.stack) point.stack called) old points → IsStep g k max point old_frames frames old points
+      → AreAdded k max point (ends_of g.narrow n (frame_at frames point.stack) point.stack called) old points → IsStep g k max point old_frames frames old points
 
 -- each frame stands on a stack of a lower number
 abbrev pub IsLow : List Frame → Type 0
@@ -40,20 +40,20 @@ IsLow frames = (i : ℕ) (f : Frame) → slice_get frames i ≡ Some f → f.bel
 -- call pushes
 abbrev pub EndsAreEdges : Type 0
 EndsAreEdges = (p : Program) (n : Node) (frames : List Frame) (turns stack called : ℕ) → IsNode p n → HasOneWay p → IsLow frames → stack ≤ length frames →
-    ((x : Successor) → Contains n.successors.items x → x.letter ≡ Call → frame_at frames called ≡ Some (frame (add 32 n.at 4) stack)) → (s : List ℕ) (a : ℕ) →
+    ((x : Successor) → Contains n.successors.items x → x.letter ≡ Call → frame_at frames called ≡ Some (frame (add 32 n.at n.length) stack)) → (s : List ℕ) (a : ℕ) →
     Contains (edges p (record { turns = turns; stack = stack_at frames stack; at = n.at })) (ToAddress s a)
-    ↔ ((e : End) × Contains (ends_of n (frame_at frames stack) stack called) e × (stack_at frames e.stack ≡ s) × (e.at ≡ a))
+    ↔ ((e : End) × Contains (ends_of p.machine.narrow n (frame_at frames stack) stack called) e × (stack_at frames e.stack ≡ s) × (e.at ≡ a))
 
 -- Which ends of a point at its node are taken by going on, and which by a jump: going on leads to the node's next address with the point's stack, and jumps
 -- lead to the ends by the other successors and by the return. One end may be both.
 abbrev pub EndsAreWays : Type 0
 EndsAreWays = (p : Program) (n : Node) (frames : List Frame) (turns stack called : ℕ) (row : Row) → IsNode p n → HasOneWay p → IsLow frames →
     stack ≤ length frames →
-    ((x : Successor) → Contains n.successors.items x → x.letter ≡ Call → frame_at frames called ≡ Some (frame (add 32 n.at 4) stack)) →
+    ((x : Successor) → Contains n.successors.items x → x.letter ≡ Call → frame_at frames called ≡ Some (frame (add 32 n.at n.length) stack)) →
     file_row p n.at ≡ Some row →
-    (s : List ℕ) (a : ℕ) → a % 4 ≡ 0 →
+    (s : List ℕ) (a : ℕ) → IsAtPlace p.machine.narrow a →
     let point : points.Point = record { turns = turns; stack = stack_at frames stack; at = n.at } in
     (Contains (fall_ends point row (row.successors n.at)) (ToAddress s a)
     ↔ ((s ≡ stack_at frames stack) × Contains n.successors.items (record { letter = Next; to = a })))
     × (Contains (jump_ends p point row (row.successors n.at)) (ToAddress s a)
-    ↔ ((e : End) × Contains (jumps_of n (frame_at frames stack) stack called) e × (stack_at frames e.stack ≡ s) × (e.at ≡ a)))
+    ↔ ((e : End) × Contains (jumps_of p.machine.narrow n (frame_at frames stack) stack called) e × (stack_at frames e.stack ≡ s) × (e.at ≡ a)))

@@ -6,7 +6,7 @@ ghost use Rattle.program_points.specs.Tables.{frame_at, ends_of, jumps_of, is_ca
 
 use crate::stacks::{Stacks, pushed};
 use crate::values::{End, Frame};
-use graph_nodes::{Letter, Node, Successor};
+use graph_nodes::{Letter, Node, Successor, is_place};
 use std::alloc::{AllocError, Global};
 
 /// The frame of a stack by number; the empty stack has none.
@@ -69,9 +69,9 @@ fn jump_end(
     successor_end(returns, frame, stack, called, successor)
 }
 
-/// The end of a return, where the row may return and the stack has a top that is a multiple of 4.
-fn back_end(returns: bool, frame: Option<Frame>) -> Option<End>
-    ensures { result ≡ tables.back_end returns frame }
+/// The end of a return, where the row may return and a row can stand at the stack's top.
+fn back_end(narrow: bool, returns: bool, frame: Option<Frame>) -> Option<End>
+    ensures { result ≡ tables.back_end narrow returns frame }
 {
     if !returns {
         return None;
@@ -79,7 +79,7 @@ fn back_end(returns: bool, frame: Option<Frame>) -> Option<End>
     match frame {
         None => None,
         Some(f) => {
-            if f.top % 4 == 0 {
+            if is_place(narrow, f.top) {
                 Some(End {
                     stack: f.below,
                     at: f.top,
@@ -103,7 +103,7 @@ pub fn called(stacks: &mut Stacks, node: &Node, stack: usize) -> Result<usize, A
     if !calls(&node.successors) {
         return Ok(0);
     }
-    let number = pushed(stacks, node.at.wrapping_add(4), stack)?;
+    let number = pushed(stacks, node.at.wrapping_add(node.length as u32), stack)?;
     Ok(number)
 }
 
@@ -114,15 +114,17 @@ fn calls(successors: &[Successor]) -> bool
     successors.iter().any(|s| s.letter == Letter::Call)
 }
 
-/// The ends of a point at a node, but for the exit: the stacks of the point and behind a call are given by number. The error is want of memory.
+/// The ends of a point at a node, but for the exit: the stacks of the point and behind a call are given by number, and `narrow` says whether some rows have 2
+/// bytes. The error is want of memory.
 pub fn ends(
     alloc: Global,
+    narrow: bool,
     node: &Node,
     frames: &[Frame],
     stack: usize,
     called: usize,
 ) -> Result<Vec<End>, AllocError>
-    ensures { IfOk result (λ v. v.items ≡ ends_of node.now (frame_at frames.now stack) stack called) }
+    ensures { IfOk result (λ v. v.items ≡ ends_of narrow node.now (frame_at frames.now stack) stack called) }
 {
     let frame = frame(frames, stack);
     let returns = node.returns;
@@ -132,22 +134,23 @@ pub fn ends(
             found.push(end)?;
         }
     }
-    if let Some(end) = back_end(returns, frame) {
+    if let Some(end) = back_end(narrow, returns, frame) {
         found.push(end)?;
     }
     Ok(found)
 }
 
 /// The ends of a point at a node by jumps, calls and returns, but for the exit: those of its edges that are not taken by going on to the next address. The
-/// stacks of the point and behind a call are given by number. The error is want of memory.
+/// stacks of the point and behind a call are given by number, and `narrow` says whether some rows have 2 bytes. The error is want of memory.
 pub fn jumps(
     alloc: Global,
+    narrow: bool,
     node: &Node,
     frames: &[Frame],
     stack: usize,
     called: usize,
 ) -> Result<Vec<End>, AllocError>
-    ensures { IfOk result (λ v. v.items ≡ jumps_of node.now (frame_at frames.now stack) stack called) }
+    ensures { IfOk result (λ v. v.items ≡ jumps_of narrow node.now (frame_at frames.now stack) stack called) }
 {
     let frame = frame(frames, stack);
     let returns = node.returns;
@@ -157,7 +160,7 @@ pub fn jumps(
             found.push(end)?;
         }
     }
-    if let Some(end) = back_end(returns, frame) {
+    if let Some(end) = back_end(narrow, returns, frame) {
         found.push(end)?;
     }
     Ok(found)

@@ -55,7 +55,14 @@ fn expand(
         Some(node) => node,
     };
     let called = called(stacks, node, point.stack)?;
-    let ends = ends(alloc, node, &stacks.frames, point.stack, called)?;
+    let ends = ends(
+        alloc,
+        graph.narrow,
+        node,
+        &stacks.frames,
+        point.stack,
+        called,
+    )?;
     add_ends(found, point, &ends, k, max)?;
     Ok(())
 }

@@ -2,6 +2,7 @@
 use Rattle.std.proofs.Common.{◌≡◌, ℕ, ◌-◌, ◌≤◌, ◌<◌, ◌+◌, ◌%◌, List, length, true, false, Some, None, ap, sym, ◌∙◌, subst, arith, ne_eqb, eq-eqb}
 use Rattle.std.specs.Prelude.{Bool, Option, nat_lt}
 use Rattle.std.proofs.lemmas.Bool.Decides.{nat_tests}
+use Rattle.machine_spec.specs.Machine.{unit, IsAtPlace}
 use Rattle.bilv_spec.specs.Run.{Program}
 use Rattle.machine_spec.specs.Endings.{Start, NamedEnding, FailsBy, UnknownBy, named_step}
 use Rattle.bilv_spec.specs.Points.{is_known_at}
@@ -14,19 +15,19 @@ use Rattle.machine_spec.proofs.StateRead.{told_is_printed}
 
 module _ (p : Program) (named : NamedEnding) (start : Start) where
   pub unaligned_is : IsEntryStateFault p start.state UnalignedLink → start_answer false p named start ≡ run_answer p named start
-  unaligned_is odd = sym (ap (λ b. start_answer b p named start) (ne_eqb (start.state.regs p.machine.link % 4) 0 odd))
+  unaligned_is odd = sym (ap (λ b. start_answer b p named start) (ne_eqb (start.state.regs p.machine.link % unit p.machine.narrow) 0 odd))
 
-  aligned_is : (o : Option ℕ) → start.state.regs p.machine.link % 4 ≡ 0 → false_require p start.state ≡ o →
+  aligned_is : (o : Option ℕ) → IsAtPlace p.machine.narrow (start.state.regs p.machine.link) → false_require p start.state ≡ o →
       require_answer o named (found_of p named start) ≡ run_answer p named start
   aligned_is o even is =
-      sym (ap (λ b. start_answer b p named start) (eq-eqb (start.state.regs p.machine.link % 4) 0 even) ∙ ap
+      sym (ap (λ b. start_answer b p named start) (eq-eqb (start.state.regs p.machine.link % unit p.machine.narrow) 0 even) ∙ ap
       (λ r. require_answer r named (found_of p named start)) is)
 
   pub required_is : (line : ℕ) → IsEntryStateFault p start.state (FalseRequire line) →
       require_answer (Some line) named (found_of p named start) ≡ run_answer p named start
   required_is line fault = aligned_is (Some line) fault.0 fault.1
 
-  pub ended_is : (f : Found) (k : Option ℕ) (limit : ℕ) → start.state.regs p.machine.link % 4 ≡ 0 → false_require p start.state ≡ None → k ≡ bound_of named
+  pub ended_is : (f : Found) (k : Option ℕ) (limit : ℕ) → IsAtPlace p.machine.narrow (start.state.regs p.machine.link) → false_require p start.state ≡ None → k ≡ bound_of named
       → limit ≡ named_step named + 1 → f ≡ found p k start (limit - 1) → require_answer None named f ≡ run_answer p named start
   ended_is f k limit even none bound steps is =
       let last : limit - 1 ≡ named_step named = omega arith in

@@ -19,8 +19,8 @@ use std::alloc::{AllocError, Global};
 pub const REPORT_LIMIT: usize = 268_435_456;
 
 /// Runs a report again: `text` is a state with the ending that is named, `entry` the address of the function of the notes. The answer is the first of its
-/// causes: the text is longer than [`REPORT_LIMIT`] bytes; a line of it is refused, among others a byte's that the file gives; the link register is no multiple
-/// of 4; a require line is false; and else whether the run, in the steps up to the one that is named, ends as is named.
+/// causes: the text is longer than [`REPORT_LIMIT`] bytes; a line of it is refused, among others a byte's that the file gives; no row can stand at the address
+/// in the link register; a require line is false; and else whether the run, in the steps up to the one that is named, ends as is named.
 ///
 /// # Errors
 ///

@@ -47,7 +47,7 @@ pub(crate) fn too_large(alloc: Global) -> Result<Replay, AllocError>
     refusal(alloc, b"state: TooLarge\n")
 }
 
-/// The answer where the link register is no multiple of 4.
+/// The answer where no row can stand at the address in the link register.
 pub(crate) fn unaligned(alloc: Global) -> Result<Replay, AllocError>
     ensures { (p : Program) (named : endings.NamedEnding) (start : Start) →
         IfOk result (λ r. plain_answer r.status r.text.items ≡ start_answer false p named start) }

@@ -24,7 +24,7 @@ way_of (Some how) = how_of how
 
 -- the code knows this of a row in the state before its step; of its targets where it may jump to an address that the state gives
 pub record IsBefore (p : run.Program) (row : machine.Row) (old : State) (b : Before) : Type 0 where
-  pub length : row.length ≡ 4
+  pub length : row.length ≡ b.length
   pub at : old.pc ≡ b.at
   pub pair : (row.successors old.pc).indirect ≡ true → machine.pair_of (run.row_at p (p.word old) (sub 32 old.pc 4)) (Some row) old.pc ≡ b.pair
   pub literal : (row.successors old.pc).indirect ≡ true → run.literal_target p (p.word old) (row.literal old.pc) ≡ run.some_of b.literal

@@ -5,7 +5,7 @@ use thiserror::Error;
 /// Why a state at the function's address is no entry state. Where several faults apply, the first in this order is answered.
 #[derive(Clone, Copy, PartialEq, Eq, Debug, Error)]
 pub enum EntryFault {
-    /// The link register is no multiple of 4.
+    /// At the address in the link register no row can stand.
     #[error("link")]
     Link,
     /// The require line of this number is the first that is false.

@@ -1,5 +1,6 @@
 //! Whether a state may be the one at entry.
-ghost use Rattle.std.specs.Prelude.{◌≡◌, ℕ, ◌≤◌, ◌+◌, ◌%◌, ◌^◌, MatchOption, IfErr, OnOk, None};
+ghost use Rattle.std.specs.Prelude.{◌≡◌, ℕ, ◌≤◌, ◌+◌, ◌^◌, MatchOption, IfErr, OnOk, None};
+ghost use Rattle.machine_spec.specs.Machine.{IsAtPlace};
 ghost use Rattle.bilv_spec.specs.Files.{order_of, program_of as program_of_files};
 ghost use Rattle.bilv_spec.specs.Verdict.{IsEntryState};
 ghost use Rattle.bilv_spec.specs.EntryFaults.{IsEntryStateFault, false_require};
@@ -12,7 +13,7 @@ ghost use Rattle.table_run.specs.Known.{HasBytesTo, IsFirstOther, IsRightTo, IsF
 use crate::ending::EntryFault;
 use crate::lines::false_line;
 use crate::program::Program;
-use crate::words::byte;
+use crate::words::{byte, is_place};
 use byte_mem::View;
 use elf32_reader::{Image, Part};
 use known_bytes::{byte_in, first_known};
@@ -57,7 +58,7 @@ fn first_wrong<M: Machine>(p: &Program, state: &M::State) -> Option<u32>
     }
 }
 
-/// The link register of a state is a multiple of 4, and each require line is true: for a state whose memory is known to agree with the file. It takes no
+/// A row can stand at the address in the link register of a state, and each require line is true: for a state whose memory is known to agree with the file. It takes no
 /// memory.
 ///
 /// # Errors
@@ -70,14 +71,14 @@ pub fn lines_ok<M: Machine>(
 ) -> Result<(), EntryFault>
     requires order { order_of image.now ≡ M.machine.endian }
     requires readable { AreReadable M.machine.has_register (notes_of notes.now) }
-    ensures link { OnOk result ((M.State.view state.now).regs M.machine.link % 4 ≡ 0) }
+    ensures link { OnOk result (IsAtPlace M.machine.narrow ((M.State.view state.now).regs M.machine.link)) }
     ensures lines { OnOk result
         (false_require (program_of_files M.machine image.now (notes_of notes.now) (M.State.view state.now).pc) (M.State.view state.now) ≡ None) }
     ensures fault { IfErr result (λ f.
         IsEntryStateFault (program_of_files M.machine image.now (notes_of notes.now) (M.State.view state.now).pc) (M.State.view state.now) (fault_of f)) }
     ensures kind { IfErr result IsLinesFault }
 {
-    if state.link() % 4 != 0 {
+    if !is_place::<M>(state.link()) {
         return Err(EntryFault::Link);
     }
     match false_line(&notes.required, state, state, image.is_big_machine()) {
@@ -86,8 +87,8 @@ pub fn lines_ok<M: Machine>(
     }
 }
 
-/// The state may be the one at entry, the function's address being its own: its link register is a multiple of 4, each require line is true, and its memory
-/// agrees with the file on the bytes that are kept or fixed. It takes no memory; its time is that of the loaded bytes that are kept or fixed.
+/// The state may be the one at entry, the function's address being its own: a row can stand at the address in its link register, each require line is true, and
+/// its memory agrees with the file on the bytes that are kept or fixed. It takes no memory; its time is that of the loaded bytes that are kept or fixed.
 ///
 /// # Errors
 ///

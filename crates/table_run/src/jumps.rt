@@ -11,18 +11,19 @@ ghost use Rattle.table_run.specs.Steps.{IsBefore};
 ghost use Rattle.notes_index.specs.Indexed.{targets_places, IsIndex};
 
 use crate::program::Program;
-use crate::words::word;
+use crate::words::decoded_at;
 use byte_mem::View;
 use file_words::{all_kept, fetchable};
-use machine_law::Machine;
+use machine_law::{Machine, length};
 use notes_index::group;
 use notes_lang::Targets;
 
-/// What is known of a step before it is made: its address, and the targets of its row's pair and of its literal, which are sought only where the row may jump
+/// What is known of a step before it is made: its address, how many bytes its row has, and the targets of its row's pair and of its literal, which are sought only where the row may jump
 /// to an address that the state gives.
 #[derive(Clone, Copy)]
 pub(crate) struct Before {
     pub(crate) at: u32,
+    pub(crate) length: u8,
     pub(crate) pair: Option<u32>,
     pub(crate) literal: Option<u32>,
 }
@@ -35,16 +36,17 @@ fn pair_target<M: Machine>(p: &Program, insn: &M::Insn, state: &M::State) -> Opt
 {
     let at = state.pc();
     let behind = at.wrapping_sub(4);
-    if !fetchable(p.image, behind) {
+    let word = decoded_at::<M>(p, state, behind);
+    if !fetchable(p.image, behind, length::<M>(word)) {
         return None;
     }
-    match M::decode(word(state, behind, p.big)) {
+    match M::decode(word) {
         None => None,
         Some(before) => M::pair(&before, insn, at),
     }
 }
 
-/// The word of the literal of an instruction, where its bytes are kept.
+/// The literal of an instruction, where its bytes are kept.
 fn literal_word<M: Machine>(p: &Program, insn: &M::Insn, state: &M::State) -> Option<u32>
     requires { memory.endian p.now.big ≡ M.machine.endian }
     ensures { literal_target (program_of M.machine p.now) ((program_of M.machine p.now).word (M.State.view state.now))
@@ -56,26 +58,29 @@ fn literal_word<M: Machine>(p: &Program, insn: &M::Insn, state: &M::State) -> Op
             if !all_kept(p.image, a) {
                 return None;
             }
-            Some(word(state, a, p.big))
+            Some(decoded_at::<M>(p, state, a))
         }
     }
 }
 
-/// What is known of the step of an instruction in a state.
-pub(crate) fn look<M: Machine>(p: &Program, insn: &M::Insn, state: &M::State) -> Before
-    requires { memory.endian p.now.big ≡ M.machine.endian }
+/// What is known of the step of an instruction, of so many bytes, in a state.
+pub(crate) fn look<M: Machine>(p: &Program, insn: &M::Insn, length: u8, state: &M::State) -> Before
+    requires order { memory.endian p.now.big ≡ M.machine.endian }
+    requires length { length ≡ (M.Machine.row insn.now).length }
     ensures { IsBefore (program_of M.machine p.now) (M.Machine.row insn.now) (M.State.view state.now) result }
 {
     let at = state.pc();
     if !M::successors(insn, at).indirect {
         return Before {
             at,
+            length,
             pair: None,
             literal: None,
         };
     }
     Before {
         at,
+        length,
         pair: pair_target::<M>(p, insn, state),
         literal: literal_word::<M>(p, insn, state),
     }

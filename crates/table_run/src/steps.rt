@@ -16,10 +16,10 @@ use crate::ending::StepEnd;
 use crate::jumps::{Before, is_named, look};
 use crate::lines::{false_assert, false_line};
 use crate::program::Program;
-use crate::words::{word, writes_kept};
+use crate::words::{decoded_at, is_place, writes_kept};
 use byte_mem::{How, StepOut, View};
 use file_words::fetchable;
-use machine_law::Machine;
+use machine_law::{Machine, length};
 use notes_index::Index;
 use state_text::Event;
 use std::alloc::AllocError;
@@ -89,7 +89,7 @@ fn go_on<M: Machine>(
         (M.State.view state.now))) }
 {
     let to = state.pc();
-    if to % 4 != 0 {
+    if !is_place::<M>(to) {
         return Ok(StepEnd::Stops(Event::AlignFails));
     }
     match how {
@@ -97,14 +97,14 @@ fn go_on<M: Machine>(
         Some(How::Direct) => Ok(StepEnd::Arrives),
         Some(How::Indirect) => Ok(leave::<M>(p, index, before, entry, state, stack)),
         Some(How::DirectCall) => {
-            stack.push(before.at.wrapping_add(4))?;
+            stack.push(before.at.wrapping_add(u32::from(before.length)))?;
             Ok(StepEnd::Arrives)
         }
         Some(How::IndirectCall) => {
             if !is_named(&p.notes.targets, &index.targets, before, to) {
                 return Ok(StepEnd::Stops(Event::JumpFails));
             }
-            stack.push(before.at.wrapping_add(4))?;
+            stack.push(before.at.wrapping_add(u32::from(before.length)))?;
             Ok(StepEnd::Arrives)
         }
     }
@@ -134,11 +134,12 @@ fn raised(writes_kept: bool, event: Event) -> StepEnd
     StepEnd::Stops(event)
 }
 
-/// The step of an instruction under a choice. The error is want of memory.
+/// The step of an instruction, of so many bytes, under a choice. The error is want of memory.
 fn row_step<M: Machine>(
     p: &Program,
     index: &Index,
     insn: &M::Insn,
+    length: u8,
     entry: &M::State,
     state: &mut M::State,
     stack: &mut Vec<u32>,
@@ -148,12 +149,13 @@ fn row_step<M: Machine>(
     requires readable { AreReadable M.State.has_register (notes_of p.now.notes.now) }
     requires index { AreIndexed p.now.notes.now index.now }
     requires lawful { IsLawful (M.Machine.row insn.now) }
+    requires length { length ≡ (M.Machine.row insn.now).length }
     ensures { IfOk result (λ end. IsStepEnd end (M.State.view state.new) (reverse stack.new.items)
         (meaning.after_row (program_of M.machine p.now) (M.State.view entry.now) (M.Machine.row insn.now) (M.State.view state.old) (reverse stack.old.items)
         (meaning.writes_kept (program_of M.machine p.now) (M.Machine.row insn.now) (M.State.view state.old))
         ((M.Machine.row insn.now).effect (M.State.view state.old) choice))) }
 {
-    let before = look::<M>(p, insn, state);
+    let before = look::<M>(p, insn, length, state);
     let writes = writes_kept(p.image, M::stored(insn, state));
     let out = advance::<M>(insn, state, choice)?;
     let how = match out {
@@ -191,13 +193,15 @@ pub(crate) fn step<M: Machine>(
         return Ok(StepEnd::Stops(Event::AssertFails { line: line as u64 }));
     }
     let at = state.pc();
-    if !fetchable(p.image, at) {
+    let word = decoded_at::<M>(p, state, at);
+    let length = length::<M>(word);
+    if !fetchable(p.image, at, length) {
         return Ok(StepEnd::Stops(Event::FetchFails));
     }
-    match M::decode(word(state, at, p.big)) {
+    match M::decode(word) {
         None => Ok(StepEnd::Stops(Event::NoRow)),
         Some(insn) => {
-            let end = row_step::<M>(p, index, &insn, entry, state, stack, choice)?;
+            let end = row_step::<M>(p, index, &insn, length, entry, state, stack, choice)?;
             Ok(end)
         }
     }

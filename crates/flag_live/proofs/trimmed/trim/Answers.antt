@@ -35,7 +35,8 @@ returns-clause-graph c p is =
     let old = c.args.graph.now.nodes in
     let all : length old.items ≤ c.loop-i.i = omega (arith, old.ok.0) in
     let same = same_all old.items c.loop-i.nodes.items c.loop-i.i all c.loop-i.invariant.same in
-    same_graph p c.args.graph.now (record { nodes = c.loop-i.nodes; ensured = c.args.graph.now.ensured }) (record { nodes = same; ensured = refl }) is
+    same_graph p c.args.graph.now (record { narrow = c.args.graph.now.narrow; nodes = c.loop-i.nodes; ensured = c.args.graph.now.ensured })
+    (record { narrow = refl; nodes = same; ensured = refl }) is
 
 pub returns-clause-live : goal.returns-clause-live
 returns-clause-live c p is =

@@ -10,10 +10,10 @@ use Rattle.flow_graph.proofs.descent.descend.Goals as goal
 
 pub returns-clause-graph : goal.returns-clause-graph
 returns-clause-graph g c =
-    let graph : Graph = record { nodes = c.in_ok-nodes.nodes; ensured = c.ensured.result } in
+    let graph : Graph = record { narrow = c.is_narrow.result; nodes = c.in_ok-nodes.nodes; ensured = c.ensured.result } in
     whole_graph (program_of g.M.Machine.machine c.args.image.now (notes_of c.args.notes.now) c.args.entry)
     c.in_ok-all_nodes.field-0.items graph c.in_ok-all_nodes.ensures c.in_ok-nodes.ensures.moved
-    c.in_ok-nodes.ensures.rising
+    c.in_ok-nodes.ensures.rising c.is_narrow.ensures
     (lines_are c.args.notes.now.ensured.items _ c.ensured.result c.deref.ensures.value c.ensured.ensures)
 
 pub returns-clause-stay : goal.returns-clause-stay

@@ -1,4 +1,5 @@
-use Rattle.std.proofs.Common.{refl, ap, map, ◌∙◌, ◌++◌}
+use Rattle.std.proofs.Common.{ap, map, ◌∙◌, ◌++◌}
+use Rattle.word_spec.specs.Words.{add}
 use Rattle.bilv_spec.specs.Graph as graph
 use Rattle.graph_nodes.specs.Graphs.{letter_of, successor_of}
 use Rattle.flow_graph.specs.Programs.{program}
@@ -11,8 +12,8 @@ returns g c =
     (g.M.Machine.row c.args.insn.now) c.args.ways c.jump_letter-letter.result c.in_ok-targets.targets.items _
     c.then_some.result c.then_some-2.result (map successor_of c.new-found.result.items) (map successor_of c.push_some.new.found.items)
     (map successor_of c.push_some-2.new.found.items)
-    (map successor_of c.push_each.new.found.items) (map successor_of c.push_some-3.new.found.items) refl
-    (g.met.M.Machine.four_bytes c.args.insn.now) c.jump_letter-letter.ensures
+    (map successor_of c.push_each.new.found.items) (map successor_of c.push_some-3.new.found.items)
+    (ap (add 32 c.args.at) c.requires.length) c.jump_letter-letter.ensures
     c.in_ok-targets.ensures c.then_some.ensures c.then_some-2.ensures
     (ap (map successor_of) c.new-found.ensures.items) c.in_ok-push_some.ensures c.in_ok-push_some-2.ensures
     (c.in_ok-push_each.ensures ∙ ap (λ l. map successor_of c.push_some-2.new.found.items

@@ -1,4 +1,7 @@
-use Rattle.std.proofs.Common.{◌%◌, ◌==◌, ◌∙◌, ap, filter}
+use Rattle.std.proofs.Common.{◌∙◌, ap}
+use Rattle.std.specs.Prelude.{Bool, filter}
+use Rattle.machine_spec.specs.Machine.{is_place}
+use Rattle.machine_law.specs.Facts as facts
 use Rattle.bilv_spec.specs.Graph as graph
 use Rattle.flow_graph.specs.Programs.{program}
 use Rattle.flow_graph.proofs.Nodal.{sort_same}
@@ -6,7 +9,9 @@ use Rattle.flow_graph.proofs.successors.successors.Goals as goal
 
 pub returns : goal.returns
 returns g c =
+    let p = program g.M.Machine.machine c.args.p.now in
+    let found = graph.successors_of p c.args.at (g.M.Machine.row c.args.insn.now) in
     c.in_ok-found-2.ensures
-    ∙ sort_same (λ (s : graph.Successor). s.to % 4 == 0) _ _ c.in_ok-found.ensures
-    ∙ ap (λ s. graph.sort (filter (λ (x : graph.Successor). x.to % 4 == 0)
-    (graph.successors_of (program g.M.Machine.machine c.args.p.now) c.args.at (g.M.Machine.row c.args.insn.now) s))) c.requires.ways
+    ∙ sort_same (λ (s : graph.Successor). is_place c.is_narrow.result s.to) _ _ c.in_ok-found.ensures
+    ∙ ap (λ (n : Bool). graph.sort (filter (λ (x : graph.Successor). is_place n x.to) (found (facts.successors_of c.args.ways)))) c.is_narrow.ensures
+    ∙ ap (λ s. graph.sort (filter (λ (x : graph.Successor). is_place g.M.Machine.machine.narrow x.to) (found s))) c.requires.ways

@@ -1,4 +1,5 @@
-use Rattle.std.proofs.Common.{◌≤◌, arith}
+use Rattle.std.proofs.Common.{Bool, ◌+◌, ◌≤◌, arith, subst}
+use Rattle.lift_text.specs.Found.{IsNextPlace}
 use Rattle.lift_text.proofs.Texts.{skip, more}
 use Rattle.lift_text.proofs.words.push_next.Goals as goal
 
@@ -15,10 +16,13 @@ returns-in-Next g c =
 
 pub returns-in_ok-push_word-in-Word : goal.returns-in_ok-push_word-in-Word
 returns-in_ok-push_word-in-Word g c =
+    let place : IsNextPlace g.M.Machine.machine.narrow (c.args.at + 1) c.place_from.result =
+    subst (λ (n : Bool). IsNextPlace n (c.args.at + 1) c.place_from.result) c.is_narrow.ensures c.place_from.ensures in
+    let behind = place.behind in
     record {
       later = omega arith;
-      within = omega arith;
-      aligned = omega arith;
-      text = more g.M.Machine.machine g.M.Machine.bank c.args.image.now c.args.at c.args.out.now.items c.push_word.new.out.items
-          c.requires.aligned c.in-Word.ensures.word c.in_ok-push_word-in-Word.ensures;
+      within = place.within;
+      aligned = place.aligned;
+      text = more g.M.Machine.machine g.M.Machine.bank c.args.image.now c.args.at c.place_from.result c.args.out.now.items c.push_word.new.out.items
+          place c.in-Word.ensures.word c.in_ok-push_word-in-Word.ensures;
     }

@@ -1,20 +1,20 @@
 use Rattle.std.proofs.Common.{subst}
-use Rattle.notes_lang.specs.Named.{names_of}
-use Rattle.notes_lang.specs.Parsing.{IsLinesRead, layout_names}
+use Rattle.notes_lang.specs.Named.{vocabulary_of}
+use Rattle.notes_lang.specs.Parsing.{IsLinesRead, layout_vocabulary}
 use Rattle.notes_lang.proofs.Finished.{finished, unnamed}
 use Rattle.notes_lang.proofs.Readable.{notes_over, notes_readable}
 use Rattle.notes_lang.proofs.notes_text.parse.Goals as goal
 
 pub returns-in_default-entry-clause-err : goal.returns-in_default-entry-clause-err
 returns-in_default-entry-clause-err c =
-    let q = subst (λ r. IsLinesRead (names_of c.names_for.result) c.args.bytes.now r) c.in-Ok-read.is c.in-Ok.ensures in
-    unnamed (names_of c.names_for.result) (layout_names c.args.layout) c.args.bytes.now c.in-Ok-read.read.0 c.in-Ok-read.read.1 c.names_for.ensures q.0 q.1
+    let q = subst (λ r. IsLinesRead (vocabulary_of c.vocabulary.result) c.args.bytes.now r) c.in-Ok-read.is c.in-Ok.ensures in
+    unnamed (vocabulary_of c.vocabulary.result) (layout_vocabulary c.args.layout) c.args.bytes.now c.in-Ok-read.read.0 c.in-Ok-read.read.1 c.vocabulary.ensures q.0 q.1
     c.in_default-entry.is
 
 pub returns-clause-ok : goal.returns-clause-ok
 returns-clause-ok c =
-    let q = subst (λ r. IsLinesRead (names_of c.names_for.result) c.args.bytes.now r) c.in-Ok-read.is c.in-Ok.ensures in
-    finished (names_of c.names_for.result) (layout_names c.args.layout) c.args.bytes.now c.in-Ok-read.read.0 c.in-Some.entry c.names_for.ensures q.0
+    let q = subst (λ r. IsLinesRead (vocabulary_of c.vocabulary.result) c.args.bytes.now r) c.in-Ok-read.is c.in-Ok.ensures in
+    finished (vocabulary_of c.vocabulary.result) (layout_vocabulary c.args.layout) c.args.bytes.now c.in-Ok-read.read.0 c.in-Some.entry c.vocabulary.ensures q.0
     c.in-Some.is
 
 pub returns-clause-readable : goal.returns-clause-readable

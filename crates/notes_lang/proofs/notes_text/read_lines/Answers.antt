@@ -1,5 +1,5 @@
 use Rattle.std.proofs.Common.{subst, drop, take, map, length, arith, ap, refl, ◌-◌, ◌∙◌}
-use Rattle.notes_lang.specs.Named.{names_of}
+use Rattle.notes_lang.specs.Named.{vocabulary_of}
 use Rattle.notes_lang.specs.Judging.{fault_of, IsJudged}
 use Rattle.notes_lang.specs.Saying.{says_of}
 use Rattle.notes_lang.specs.Scoping.{constant_of}
@@ -10,7 +10,7 @@ use Rattle.notes_lang.proofs.notes_text.read_lines.Goals as goal
 pub loop-at-init : goal.loop-at-init
 loop-at-init c = record {
   within = omega arith;
-  so_far = none_so_far (names_of c.args.names) c.args.text.now c.new-draft.result (map constant_of c.new-consts.result.items) c.in_ok-is_second.is_second
+  so_far = none_so_far (vocabulary_of c.args.words) c.args.text.now c.new-draft.result (map constant_of c.new-consts.result.items) c.in_ok-is_second.is_second
       (ap (map constant_of) c.new-consts.ensures.items) c.in_ok-is_second.ensures c.new-draft.ensures;
 }
 
@@ -19,39 +19,39 @@ judge-requires c = refl
 
 pub returns-in-Err : goal.returns-in-Err
 returns-in-Err c =
-    faulty (names_of c.args.names) c.args.text.now (take (length c.args.text.now - c.loop-at.at) (drop c.loop-at.at c.args.text.now)) c.first_line.result.0.now
+    faulty (vocabulary_of c.args.words) c.args.text.now (take (length c.args.text.now - c.loop-at.at) (drop c.loop-at.at c.args.text.now)) c.first_line.result.0.now
     c.first_line.result.1.now c.loop-at.line c.loop-at.draft
-    (scope_now (names_of c.args.names) c.deref.result.now c.deref-in-loop-at.result.now c.in_ok-is_second.is_second c.loop-at.is_first) refl
-    (so_far_at (names_of c.args.names) c.args.text.now c.loop-at.at c.loop-at.line c.loop-at.draft c.deref.result.now c.loop-at.consts.items
+    (scope_now (vocabulary_of c.args.words) c.deref.result.now c.deref-in-loop-at.result.now c.in_ok-is_second.is_second c.loop-at.is_first) refl
+    (so_far_at (vocabulary_of c.args.words) c.args.text.now c.loop-at.at c.loop-at.line c.loop-at.draft c.deref.result.now c.loop-at.consts.items
     c.deref-in-loop-at.result.now c.in_ok-is_second.is_second c.loop-at.is_first c.deref.ensures.value (c.deref-in-loop-at.ensures.value ∙ c.new-outside.ensures.items) c.loop-at.invariant.so_far)
     c.first_line.ensures.lines (fault_of c.in-Err.kind)
-    (subst (λ r. IsJudged (scope_now (names_of c.args.names) c.deref.result.now c.deref-in-loop-at.result.now c.in_ok-is_second.is_second c.loop-at.is_first) c.loop-at.line
+    (subst (λ r. IsJudged (scope_now (vocabulary_of c.args.words) c.deref.result.now c.deref-in-loop-at.result.now c.in_ok-is_second.is_second c.loop-at.is_first) c.loop-at.line
     c.first_line.result.0.now r) c.in-Err.is c.in_ok-says.ensures)
 
 pub returns-then-repeats : goal.returns-then-repeats
 returns-then-repeats c =
-    repeating (names_of c.args.names) c.args.text.now (take (length c.args.text.now - c.loop-at.at) (drop c.loop-at.at c.args.text.now)) c.first_line.result.0.now
+    repeating (vocabulary_of c.args.words) c.args.text.now (take (length c.args.text.now - c.loop-at.at) (drop c.loop-at.at c.args.text.now)) c.first_line.result.0.now
     c.first_line.result.1.now c.loop-at.line c.loop-at.draft
-    (scope_now (names_of c.args.names) c.deref.result.now c.deref-in-loop-at.result.now c.in_ok-is_second.is_second c.loop-at.is_first) refl
-    (so_far_at (names_of c.args.names) c.args.text.now c.loop-at.at c.loop-at.line c.loop-at.draft c.deref.result.now c.loop-at.consts.items
+    (scope_now (vocabulary_of c.args.words) c.deref.result.now c.deref-in-loop-at.result.now c.in_ok-is_second.is_second c.loop-at.is_first) refl
+    (so_far_at (vocabulary_of c.args.words) c.args.text.now c.loop-at.at c.loop-at.line c.loop-at.draft c.deref.result.now c.loop-at.consts.items
     c.deref-in-loop-at.result.now c.in_ok-is_second.is_second c.loop-at.is_first c.deref.ensures.value (c.deref-in-loop-at.ensures.value ∙ c.new-outside.ensures.items) c.loop-at.invariant.so_far)
     c.first_line.ensures.lines (says_of c.in-Ok.says) c.repeats.result
-    (subst (λ r. IsJudged (scope_now (names_of c.args.names) c.deref.result.now c.deref-in-loop-at.result.now c.in_ok-is_second.is_second c.loop-at.is_first) c.loop-at.line
+    (subst (λ r. IsJudged (scope_now (vocabulary_of c.args.words) c.deref.result.now c.deref-in-loop-at.result.now c.in_ok-is_second.is_second c.loop-at.is_first) c.loop-at.line
     c.first_line.result.0.now r) c.in-Ok.is c.in_ok-says.ensures) c.repeats.ensures c.if-repeats.true
 
 pub loop-at-preserved : goal.loop-at-preserved
 loop-at-preserved c = record {
   within = omega arith;
   so_far =
-      goes_on (names_of c.args.names) c.args.text.now (take (length c.args.text.now - c.loop-at.at) (drop c.loop-at.at c.args.text.now)) c.first_line.result.0.now
+      goes_on (vocabulary_of c.args.words) c.args.text.now (take (length c.args.text.now - c.loop-at.at) (drop c.loop-at.at c.args.text.now)) c.first_line.result.0.now
       c.first_line.result.1.now c.loop-at.line c.loop-at.draft
-      (scope_now (names_of c.args.names) c.deref.result.now c.deref-in-loop-at.result.now c.in_ok-is_second.is_second c.loop-at.is_first) refl
-      (so_far_at (names_of c.args.names) c.args.text.now c.loop-at.at c.loop-at.line c.loop-at.draft c.deref.result.now c.loop-at.consts.items
+      (scope_now (vocabulary_of c.args.words) c.deref.result.now c.deref-in-loop-at.result.now c.in_ok-is_second.is_second c.loop-at.is_first) refl
+      (so_far_at (vocabulary_of c.args.words) c.args.text.now c.loop-at.at c.loop-at.line c.loop-at.draft c.deref.result.now c.loop-at.consts.items
       c.deref-in-loop-at.result.now c.in_ok-is_second.is_second c.loop-at.is_first c.deref.ensures.value (c.deref-in-loop-at.ensures.value ∙ c.new-outside.ensures.items) c.loop-at.invariant.so_far)
       c.first_line.ensures.lines (says_of c.in-Ok.says) c.repeats.result _ _ _
-      (subst (λ r. IsJudged (scope_now (names_of c.args.names) c.deref.result.now c.deref-in-loop-at.result.now c.in_ok-is_second.is_second c.loop-at.is_first) c.loop-at.line
+      (subst (λ r. IsJudged (scope_now (vocabulary_of c.args.words) c.deref.result.now c.deref-in-loop-at.result.now c.in_ok-is_second.is_second c.loop-at.is_first) c.loop-at.line
       c.first_line.result.0.now r) c.in-Ok.is c.in_ok-says.ensures) c.repeats.ensures c.if-repeats.false
-      (scope_then (names_of c.args.names) c.deref.result.now c.loop-at.consts.items c.deref-in-loop-at.result.now _ c.in_ok-is_second.is_second
+      (scope_then (vocabulary_of c.args.words) c.deref.result.now c.loop-at.consts.items c.deref-in-loop-at.result.now _ c.in_ok-is_second.is_second
       c.loop-at.is_first c.still_first-is_first.result (says_of c.in-Ok.says) c.deref.ensures.value
       (c.deref-in-loop-at.ensures.value ∙ c.new-outside.ensures.items) c.in_ok-declare.ensures c.still_first-is_first.ensures)
       c.in_ok-add.ensures

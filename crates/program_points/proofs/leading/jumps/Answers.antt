@@ -27,14 +27,14 @@ returns c =
     elim c.match-back_end.branch [
       | in-Some-back_end+in_ok-push-2 w ↦
           rw (w.found-is)
-          (ways_whole c.args.node.now.returns c.frame-frame.result _ c.args.stack c.args.called c.args.node.now.successors.items
+          (ways_whole c.args.narrow c.args.node.now.returns c.frame-frame.result _ c.args.stack c.args.called c.args.node.now.successors.items
           c.deref-successor-items.result.now c.loop-successor.successor-index
           (Some w.in-Some-back_end.end) c.loop-successor.found.items w.push-in-Some-back_end.new.self.items c.deref-successor-items.ensures.value
           c.frame-frame.ensures (omega arith)
           (sym w.in-Some-back_end.ensures) c.loop-successor.invariant w.in_ok-push-2.ensures.items)
       | in_default-back_end w ↦
           rw (w.found-is)
-          (ways_whole c.args.node.now.returns c.frame-frame.result _ c.args.stack c.args.called c.args.node.now.successors.items
+          (ways_whole c.args.narrow c.args.node.now.returns c.frame-frame.result _ c.args.stack c.args.called c.args.node.now.successors.items
           c.deref-successor-items.result.now c.loop-successor.successor-index
           None c.loop-successor.found.items c.loop-successor.found.items c.deref-successor-items.ensures.value c.frame-frame.ensures (omega arith)
           (sym c.back_end.ensures ∙ w.in_default-back_end.is) c.loop-successor.invariant (nothing_more c.loop-successor.found.items))

@@ -4,7 +4,7 @@ use Rattle.program_points.proofs.listing.expand.Goals as goal
 
 pub returns-clause-listed : goal.returns-clause-listed
 returns-clause-listed c =
-    (expanded c.args.k c.args.max c.args.point c.in-Some.node.now c.in_ok-called.called c.args.stacks.now.frames.items c.called.new.stacks.frames.items
+    (expanded c.args.graph.now.narrow c.args.k c.args.max c.args.point c.in-Some.node.now c.in_ok-called.called c.args.stacks.now.frames.items c.called.new.stacks.frames.items
     c.deref.result.now
     c.called.new.stacks.numbers c.args.found.now.points.items c.add_ends.new.found.points.items c.args.found.now.seen c.add_ends.new.found.seen
     c.in_ok-ends.ends.items c.deref-2.result.now
@@ -14,7 +14,7 @@ returns-clause-listed c =
 pub returns-clause-step : goal.returns-clause-step
 returns-clause-step c =
     somewhere c.in-Some.node.now c.in_ok-called.called c.in-Some.ensures.0 c.in-Some.ensures.1 c.in_ok-called.ensures.called
-    (expanded c.args.k c.args.max c.args.point c.in-Some.node.now c.in_ok-called.called c.args.stacks.now.frames.items c.called.new.stacks.frames.items
+    (expanded c.args.graph.now.narrow c.args.k c.args.max c.args.point c.in-Some.node.now c.in_ok-called.called c.args.stacks.now.frames.items c.called.new.stacks.frames.items
     c.deref.result.now
     c.called.new.stacks.numbers c.args.found.now.points.items c.add_ends.new.found.points.items c.args.found.now.seen c.add_ends.new.found.seen
     c.in_ok-ends.ends.items c.deref-2.result.now
