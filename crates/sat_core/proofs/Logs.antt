@@ -111,6 +111,12 @@ searched-start n first cs lines w e f = rw (e, f) record { over = w; more = λ c
 pub searched-spent : (n : ℕ) (first cs : List Clause) (lines : List LogLine) → IsSearched n first cs lines → AreLearned first lines
 searched-spent n first cs lines s = let f = s.spent [] tt in let e : lines ++ [] ≡ lines = simp append-nil in rw e at f
 
+pub searched-next : (n : ℕ) (first cs : List Clause) (lines : List LogLine) → IsSearched n first cs lines → (c : Clause) (hints : List Hint) →
+    IsLearned cs n c hints → (length c == 0) ≡ false → AreLearned first (lines ++ Add 0 c [] ∷ [])
+searched-next n first cs lines s c hints h z =
+    let useful : IsEmpowering cs c = elim h.useful [ inl e ↦ absurd (let g = rw e at z in cc) | inr f ↦ f ] in
+    s.spent (Add 0 c [] ∷ []) (hints-follow cs c hints h.hinted, useful, tt)
+
 not-empty : (c : Clause) → (length c == 0) ≡ false → is_empty_clause c ≡ false
 not-empty [] h = absurd (cc)
 not-empty (x ∷ xs) h = refl

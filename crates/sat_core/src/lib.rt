@@ -6,7 +6,6 @@
 
 mod answer;
 mod decide;
-mod explore;
 mod hints;
 mod learn;
 mod minimise;

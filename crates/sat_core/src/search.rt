@@ -7,13 +7,13 @@ ghost use Rattle.sat_core.specs.Propagators.{IsSound};
 
 use crate::answer::Answer;
 use crate::decide::{Descent, descend};
-use crate::explore::{Guide, Proposal};
 use crate::learn::learn;
 use crate::minimise::{Learned, minimise};
 use crate::propagator::Propagator;
 use crate::settle::{are_model, settle};
 use crate::solver::{GREATEST_NUMBER, Solver};
 use crate::table::values;
+use cdcl_engine::{Guide, Proposal};
 use cnf_form::{Clause, Cnf, Log, LogLine};
 use std::alloc::{AllocError, Global};
 
@@ -108,8 +108,8 @@ fn next_turn(
 /// Looks for values that satisfy the clauses, and learns at most as many clauses as there are conflicts to spend.
 ///
 /// First it searches with clauses as the implication graph leaves them, whose log is checked where it is a refutation. Only where that ends undecided, it
-/// begins again with clauses that can lose no literal, since only a log that spends the conflicts owes those. Behind the last conflict it goes on until it has
-/// values, a refutation, or one more clause to learn. Learned clauses have the ids behind those of the clauses, which count from 1. The only error is want of
+/// begins again with clauses that can lose no literal, since only a log that spends the conflicts owes those. After the last conflict it goes on until it has
+/// values, a refutation, or one more clause to learn. Learned clauses have the ids after those of the clauses, which count from 1. The only error is out of
 /// memory. More than 2^62 variables or clauses count as that, since no machine has room for them.
 pub fn solve(alloc: Global, cnf: &Cnf, conflicts: u64) -> Result<Answer, AllocError>
     requires some { 1 ≤ conflicts }

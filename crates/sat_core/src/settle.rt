@@ -6,7 +6,7 @@ ghost use Rattle.cnf_form.specs.Views.{cnf_of};
 ghost use Rattle.sat_core.specs.Answers.{IsAnswer};
 
 use crate::answer::Answer;
-use crate::explore::{Finding, explore};
+use cdcl_engine::{Finding, explore};
 use cnf_form::{Clause, Cnf, Lit};
 use refutation_checker::{Checked, check};
 use std::alloc::{AllocError, Global};

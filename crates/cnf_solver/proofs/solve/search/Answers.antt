@@ -20,4 +20,4 @@ returns-in-Unsat c =
 pub returns : goal.returns
 returns c =
     let found = rw c.in-Spent.is at c.in_ok-values.ensures in
-    IfOk-weaker c.answer.result _ _ (λ a is. unknown (lines_of c.in-Spent.field-0) found is) c.answer.ensures
+    IfOk-weaker c.answer.result _ _ (λ a is. unknown (lines_of c.in-Spent.field-0) found.0 is) c.answer.ensures

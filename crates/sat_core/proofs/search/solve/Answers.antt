@@ -5,7 +5,7 @@ use Rattle.std.specs.Prelude.{◌==◌}
 use Rattle.clause_spec.specs.Refutation.{first_refusal, known_at_start}
 use Rattle.cnf_form.specs.Views.{line_of}
 use Rattle.sat_core.specs.declared.trail.Trail.{Trail}
-use Rattle.sat_core.proofs.Logs.{searched-start, searched-step, searched-end, searched-spent, line-pushed}
+use Rattle.sat_core.proofs.Logs.{searched-start, searched-step, searched-end, searched-spent, searched-next, line-pushed}
 use Rattle.sat_core.proofs.search.solve.Goals as goal
 use Rattle.sat_core.proofs.search.solve.Goals.{else-not-is_last-via-then-not-is_last+else-len-conflicts, else-not-is_last-via-else-not-is_last}
 
@@ -28,11 +28,20 @@ returns-in-Model c =
     (r.0, λ x k. r.1 x (c.loop-lines.invariant.searched.more x k))
 
 pub returns-then-len-conflicts : goal.returns-then-len-conflicts
-returns-then-len-conflicts c = (
-  searched-spent c.args.cnf.now.variables c.args.cnf.now.clauses.items c.loop-lines.solver.main.clauses.items
-      (map line_of c.loop-lines.lines.items) c.loop-lines.invariant.searched,
-  length-map c.loop-lines.lines.items line_of ∙ sym c.loop-lines.lines.ok.0 ∙ sym c.len.ensures ∙ c.if-len-conflicts.true,
-)
+returns-then-len-conflicts c =
+    let cs = c.loop-lines.solver.main.clauses.items in
+    let n = c.args.cnf.now.variables in
+    let first = c.args.cnf.now.clauses.items in
+    let lines = map line_of c.loop-lines.lines.items in
+    let lits = c.in-Clause.learned.lits.items in
+    let searched = c.loop-lines.invariant.searched in
+    let variables : length c.loop-lines.solver.main.trail.table.items - 1 ≡ n = (let e = c.loop-lines.invariant.size in omega arith) in
+    let h = rw (c.in-Clause.is, variables) at c.in_ok-list.ensures.turn in
+    let f : c.is_empty-is_last.result ≡ false = c.if-not-is_last.true in
+    let z : (length lits == 0) ≡ false = rw (← c.in-Clause.learned.lits.ok.0) (sym c.is_empty-is_last.ensures ∙ f) in (
+      (searched-spent n first cs lines searched, length-map c.loop-lines.lines.items line_of ∙ sym c.loop-lines.lines.ok.0 ∙ sym c.len.ensures ∙ c.if-len-conflicts.true),
+      (lits, searched-next n first cs lines searched lits c.in-Clause.learned.hints.items h z),
+    )
 
 pub returns-then-is_last : goal.returns-then-is_last
 returns-then-is_last c =

@@ -1,5 +1,5 @@
 use Rattle.std.proofs.Common.{length}
-use Rattle.sat_core.proofs.explore.trying.Trying.+halve.Given as goal
+use Rattle.cdcl_engine.proofs.trying.Trying.+halve.Given as goal
 
 abbrev pub decreases-halve : goal.decreases-halve
 decreases-halve l = length l.lits.now

@@ -1,5 +1,5 @@
 //! The variables that clauses use, by numbers without gaps.
-use crate::explore::cells::{count_of, variable_of};
+use crate::cells::{count_of, variable_of};
 use cnf_form::{Clause, Lit};
 use std::alloc::{AllocError, Global};
 

@@ -1,9 +1,12 @@
 //! The order in which variables are decided: those first that conflicts met most, lately counting more.
-use crate::explore::cells::{at, count_of, put};
+use crate::cells::{at, count_of, put};
 use std::alloc::{AllocError, Global};
 
 /// A score above this lowers all.
-const GREATEST_SCORE: u64 = 1 << 60;
+const GREATEST_SCORE: f64 = 1e150;
+
+/// By this much a conflict counts less than the next one.
+const DECAY: f64 = 0.95;
 
 /// A heap of variables by their scores, with the signs that they had last.
 #[derive(Drop)]
@@ -11,11 +14,13 @@ pub struct Order {
     heap: Vec<u32>,
     /// For each variable 1 more than its place in the heap, or 0.
     places: Vec<u32>,
-    scores: Vec<u64>,
+    scores: Vec<f64>,
     /// By so much a score rises.
-    rise: u64,
+    rise: f64,
     /// For each variable whether it was true last.
     signs: Vec<bool>,
+    /// For each variable whether it needs no decision.
+    retired: Vec<bool>,
 }
 
 impl Order {
@@ -24,9 +29,10 @@ impl Order {
         let mut order = Order {
             heap: Vec::with_capacity(alloc, variables)?,
             places: vec![in alloc; 0; variables]?,
-            scores: vec![in alloc; 0; variables]?,
-            rise: 1024,
+            scores: vec![in alloc; 0.0; variables]?,
+            rise: 1.0,
             signs: vec![in alloc; false; variables]?,
+            retired: vec![in alloc; false; variables]?,
         };
         for variable in (0..variables).rev() {
             order.insert(count_of(variable))?;
@@ -34,16 +40,17 @@ impl Order {
         Ok(order)
     }
 
-    fn score(&self, variable: u32) -> u64 {
+    fn score(&self, variable: u32) -> f64 {
         let place = variable as usize;
         if place < self.scores.len() {
             self.scores[place]
         } else {
-            0
+            0.0
         }
     }
 
-    fn is_before(&self, one: u32, other: u32) -> bool {
+    /// Whether a variable comes before another one.
+    pub fn is_before(&self, one: u32, other: u32) -> bool {
         let (first, second) = (self.score(one), self.score(other));
         first > second || first == second && one > other
     }
@@ -100,7 +107,7 @@ impl Order {
 
     /// Puts a variable into the heap, unless it is there.
     pub fn insert(&mut self, variable: u32) -> Result<(), AllocError> {
-        if at(&self.places, variable as usize) != 0 {
+        if at(&self.places, variable as usize) != 0 || self.is_retired(variable) {
             return Ok(());
         }
         let place = self.heap.len();
@@ -125,9 +132,9 @@ impl Order {
 
     fn lower_all(&mut self) {
         for score in &mut self.scores {
-            *score >>= 40;
+            *score /= GREATEST_SCORE;
         }
-        self.rise = (self.rise >> 40).max(1);
+        self.rise /= GREATEST_SCORE;
     }
 
     /// A conflict met the variable.
@@ -136,7 +143,7 @@ impl Order {
         if place >= self.scores.len() {
             return;
         }
-        let score = self.scores[place].saturating_add(self.rise);
+        let score = self.scores[place] + self.rise;
         self.scores[place] = score;
         if score > GREATEST_SCORE {
             self.lower_all();
@@ -149,7 +156,31 @@ impl Order {
 
     /// Another conflict: it counts more than those before.
     pub fn age(&mut self) {
-        self.rise = self.rise.saturating_add(self.rise / 16);
+        self.rise /= DECAY;
+    }
+
+    /// Whether a variable needs no decision.
+    pub fn is_retired(&self, variable: u32) -> bool {
+        let place = variable as usize;
+        place < self.retired.len() && self.retired[place]
+    }
+
+    /// From now on a variable needs no decision.
+    pub fn retire(&mut self, variable: u32) {
+        let place = variable as usize;
+        if place < self.retired.len() {
+            self.retired[place] = true;
+        }
+    }
+
+    /// The signs that the variables had last.
+    pub fn signs(&self, alloc: Global) -> Result<Vec<bool>, AllocError> {
+        Vec::from_slice(alloc, &self.signs)
+    }
+
+    /// Takes signs that were kept before.
+    pub fn set_signs(&mut self, signs: Vec<bool>) {
+        self.signs = signs;
     }
 
     /// The sign that a variable had last.

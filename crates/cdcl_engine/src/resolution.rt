@@ -1,8 +1,9 @@
 //! The clause of a conflict's first unique implication point.
-use crate::explore::arena::Arena;
-use crate::explore::assignment::{Assignment, NO_REASON};
-use crate::explore::cells::{at, negation, variable_of};
-use crate::explore::order::Order;
+use crate::arena::Arena;
+use crate::assignment::{Assignment, NO_REASON};
+use crate::cells::{at, negation, variable_of};
+use crate::levels::Levels;
+use crate::order::Order;
 use std::alloc::{AllocError, Global};
 
 /// What is gathered from the clauses of a conflict.
@@ -21,6 +22,8 @@ pub struct Resolution {
     keys: Vec<u64>,
     /// How many literals of the last level were met and not resolved.
     open: usize,
+    /// Counts levels.
+    pub levels: Levels,
 }
 
 impl Resolution {
@@ -33,6 +36,7 @@ impl Resolution {
             stack: Vec::new(alloc),
             keys: Vec::new(alloc),
             open: 0,
+            levels: Levels::new(alloc, variables)?,
         })
     }
 
@@ -74,13 +78,13 @@ impl Resolution {
     /// Goes back along the trail, and resolves with the reason of each literal of the last level that was met, up to the implication point.
     fn go_back(
         &mut self,
-        arena: &Arena,
+        arena: &mut Arena,
         assignment: &Assignment,
         order: &mut Order,
     ) -> Result<(), AllocError> {
         for lit in assignment.trail.iter().rev() {
             let variable = variable_of(*lit);
-            if !self.is_met(variable) {
+            if !self.is_met(variable) || assignment.level_of(*lit) < assignment.level() {
                 continue;
             }
             if self.open <= 1 {
@@ -89,16 +93,14 @@ impl Resolution {
             }
             self.open -= 1;
             self.used.push(*lit / 2)?;
-            self.meet(
-                arena.lits(assignment.origin(variable).reason),
-                assignment,
-                order,
-            )?;
+            let reason = assignment.origin(variable).reason;
+            self.levels.renew(arena, assignment, reason);
+            self.meet(arena.lits(reason), assignment, order)?;
         }
         Ok(())
     }
 
-    /// Takes back what was met behind the first `count`.
+    /// Takes back what was met after the first `count`.
     fn forget(&mut self, count: usize) {
         for i in count..self.met.len() {
             let variable = at(&self.met, i) as usize;
@@ -174,7 +176,7 @@ impl Resolution {
     /// Resolves back from a clause whose literals are all false, at least one of them by a decision.
     pub fn resolve(
         &mut self,
-        arena: &Arena,
+        arena: &mut Arena,
         assignment: &Assignment,
         order: &mut Order,
         conflict: u32,
@@ -182,6 +184,7 @@ impl Resolution {
         self.lits.clear();
         self.used.clear();
         self.open = 0;
+        self.levels.renew(arena, assignment, conflict);
         self.meet(arena.lits(conflict), assignment, order)?;
         self.go_back(arena, assignment, order)?;
         self.shorten(arena, assignment)?;

@@ -1,14 +1,14 @@
 //! Reads and writes of lists of numbers at any place.
 //!
-//! What this search finds is not trusted, so nothing is proved of its places: a read behind the end gives 0, and a write there does nothing.
+//! What this search finds is not trusted, so nothing is proved of its places: a read after the end gives 0, and a write there does nothing.
 
-/// The number at a place, or 0 behind the end.
+/// The number at a place, or 0 after the end.
 #[inline(always)]
 pub fn at(cells: &[u32], place: usize) -> u32 {
     if place < cells.len() { cells[place] } else { 0 }
 }
 
-/// Writes the number at a place, unless it is behind the end.
+/// Writes the number at a place, unless it is after the end.
 #[inline(always)]
 pub fn put(cells: &mut [u32], place: usize, number: u32) {
     if place < cells.len() {

@@ -1,11 +1,11 @@
 //! Looks for a least part of a clause that still follows by unit propagation.
-use crate::explore::arena::Arena;
-use crate::explore::assignment::{Assignment, NO_REASON};
-use crate::explore::cells::negation;
-use crate::explore::watching::WatchLists;
+use crate::arena::Arena;
+use crate::assignment::{Assignment, NO_REASON};
+use crate::cells::negation;
+use crate::watching::WatchLists;
 use std::alloc::{AllocError, Global};
 
-/// The clauses once more, with a trail for trials. What follows from nothing stays on it, and each trial begins behind that.
+/// The clauses once more, with a trail for trials. What follows from nothing stays on it, and each trial begins after that.
 #[derive(Drop)]
 pub struct Trying {
     arena: Arena,
@@ -33,14 +33,14 @@ impl Trying {
                 }
             }
             [first, second, ..] => {
-                let clause = self.arena.add(0, lits)?;
+                let clause = self.arena.add(0, 0, lits)?;
                 self.watches.attach(clause, *first, *second)?;
             }
         }
         Ok(())
     }
 
-    /// Takes back all behind so many literals.
+    /// Takes back all after so many literals.
     fn back_to(&mut self, length: usize) {
         for _ in length..self.assignment.trail.len() {
             if self.assignment.pop().is_none() {

@@ -1,7 +1,6 @@
 //! The log of a refutation, with only those lines that it needs.
-use crate::explore::arena::Arena;
-use crate::explore::names::Names;
-use crate::explore::record::Record;
+use crate::names::Names;
+use crate::record::Record;
 use cnf_form::{Clause, Hint, Log, LogLine};
 use std::alloc::{AllocError, Global};
 
@@ -26,17 +25,12 @@ fn needed_lines(alloc: Global, record: &Record) -> Result<Vec<bool>, AllocError>
 }
 
 /// The clause of a line.
-fn clause_of(
-    alloc: Global,
-    arena: &Arena,
-    names: &Names,
-    clause: u32,
-) -> Result<Clause, AllocError> {
-    let mut lits = Clause::new(alloc);
-    for code in arena.lits(clause) {
-        lits.push(names.lit(*code))?;
+fn clause_of(alloc: Global, names: &Names, lits: &[u32]) -> Result<Clause, AllocError> {
+    let mut clause = Clause::new(alloc);
+    for code in lits {
+        clause.push(names.lit(*code))?;
     }
-    Ok(lits)
+    Ok(clause)
 }
 
 /// The hints of a line, where `ids` are the new ids of the lines.
@@ -58,22 +52,16 @@ fn hints_of(
     Ok(hints)
 }
 
-/// The lines that the last one needs, with the ids that stand behind those of the clauses.
-pub fn log_of(
-    alloc: Global,
-    record: &Record,
-    arena: &Arena,
-    names: &Names,
-    given: u32,
-) -> Result<Log, AllocError> {
+/// The lines that the last one needs, with the ids after those of the clauses.
+pub fn log_of(alloc: Global, record: &Record, names: &Names) -> Result<Log, AllocError> {
     let needed = needed_lines(alloc, record)?;
     let mut ids = Vec::with_capacity(alloc, needed.len())?;
     let mut lines = Vec::new(alloc);
-    let mut last = given as u64;
+    let mut last = record.given() as u64;
     for (line, is_needed) in needed.iter().enumerate() {
         if *is_needed {
             last = last.saturating_add(1);
-            let clause = clause_of(alloc, arena, names, record.clause(line))?;
+            let clause = clause_of(alloc, names, record.lits(line))?;
             let hints = hints_of(alloc, record, line, &ids)?;
             lines.push(LogLine::Add {
                 id: last,

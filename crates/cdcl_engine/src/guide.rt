@@ -1,9 +1,9 @@
 //! Proposes what to learn next.
-use crate::explore::explorer::Explorer;
-use crate::explore::load::{load, load_trying};
-use crate::explore::names::Names;
-use crate::explore::trying::Trying;
-use crate::explore::values_of;
+use crate::explorer::Explorer;
+use crate::load::{load, load_trying};
+use crate::names::Names;
+use crate::trying::Trying;
+use crate::{truths, values_of};
 use cnf_form::{Cnf, Lit};
 use std::alloc::{AllocError, Global};
 
@@ -43,11 +43,14 @@ impl Guide {
         })
     }
 
-    /// Searches until there are values, or a clause to learn.
+    /// Searches until there are values, or a clause to learn. Where numbers of 32 bits do not suffice, the clause has no literals.
     pub fn propose(&mut self, alloc: Global) -> Result<Proposal, AllocError> {
+        if self.explorer.arena.is_full {
+            return Ok(Proposal::Clause(Vec::new(alloc)));
+        }
         let Some(conflict) = self.explorer.descend()? else {
-            let assignment = &self.explorer.assignment;
-            let values = values_of(alloc, self.variables, assignment, &self.names)?;
+            let holds = truths(alloc, &self.explorer.assignment)?;
+            let values = values_of(alloc, self.variables, &holds, &self.names)?;
             return Ok(Proposal::Values(values));
         };
         let mut lits = Vec::new(alloc);
