@@ -25,11 +25,11 @@ drawn_few u zero = omega arith
 drawn_few u (suc i) = let a = drawn_few u i in let b = bit_small ((point_at u i).draws) in omega arith
 
 pub few_registers : (form : Layout) → length (layout_of form).registers ≤ 31
-few_registers Rv32 = let e : length (layout_of Rv32).registers ≡ 31 = refl in omega arith
+few_registers (Rv32 compressed) = let e : length (layout_of (Rv32 compressed)).registers ≡ 31 = refl in omega arith
 few_registers (Arm big profile) = let e : length (layout_of (Arm big profile)).registers ≡ 15 = refl in omega arith
 
 pub few_flags : (form : Layout) → length (layout_of form).flags ≤ 4
-few_flags Rv32 = let e : length (layout_of Rv32).flags ≡ 0 = refl in omega arith
+few_flags (Rv32 compressed) = let e : length (layout_of (Rv32 compressed)).flags ≡ 0 = refl in omega arith
 few_flags (Arm big profile) = let e : length (layout_of (Arm big profile)).flags ≡ 4 = refl in omega arith
 
 -- the points of a value

@@ -26,7 +26,7 @@ fn first_register(form: Layout) -> u8
     ensures { result ≡ (layout_of form).first }
 {
     match form {
-        Layout::Rv32 => 1,
+        Layout::Rv32 { .. } => 1,
         Layout::Arm { .. } => 0,
     }
 }

@@ -81,6 +81,7 @@ value_at_place old new big e now entry t v = record { within = v.within; shown =
 abbrev form_by : (first registers flags : ℕ) → UnrolledProgram
 form_by first registers flags = record {
   endian = Little;
+  narrow = false;
   registers = from_to first registers;
   flags = flags;
   link = 0;

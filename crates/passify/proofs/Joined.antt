@@ -4,8 +4,6 @@ use Rattle.std.specs.Prelude.{◌==◌, if◌then◌else◌, map}
 use Rattle.walk_spec.specs.Terms.{TermReading, TermNode}
 use Rattle.term_dag.specs.Made.{Separates}
 use Rattle.term_dag.proofs.Growth.{grew_none, grew_more, inputs_none}
-use Rattle.word_spec.specs.Memory.{Little}
-use Rattle.word_spec.specs.RowFiles.{from_to}
 use Rattle.term_dag.specs.declared.nodes.Term.{Term}
 use Rattle.walk_spec.specs.Passive.{AreNames, Denotes}
 use Rattle.walk_spec.specs.Passive as walk
@@ -14,6 +12,7 @@ use Rattle.term_names.specs.declared.names.Names.{Names}
 use Rattle.term_names.specs.Views.{form_of, names_of}
 use Rattle.term_names.specs.Chosen.{HaveSameForm, HaveSameTerms, AreSelected, differing_bits, differing_memory, differing_terms}
 use Rattle.term_names.specs.Choices.{differing}
+use Rattle.note_terms.proofs.Valued.{form_same}
 use Rattle.passify.specs.Sweeps.{AreTermsOf, IsJoined, bits_of, terms_of}
 
 some_is : {X : Type 0} → (a b : X) → Some a ≡ Some b → a ≡ b
@@ -50,29 +49,6 @@ selected_joined old new hit met first a b n sep k = record {
 same_form : (a b : Names) → HaveSameTerms a b → HaveSameForm a b
 same_form a b h = record { first = h.first; registers = ap (λ l. length l) h.registers; flags = ap (λ l. length l) h.flags }
 
-pub forms_same : (a b : Names) → HaveSameForm a b → form_of a ≡ form_of b
-forms_same a b h = by a.first b.first (length a.registers.items) (length b.registers.items) (length a.flags.items)
-    (length b.flags.items) h.first h.registers h.flags
-  where
-    form : ℕ → ℕ → ℕ → UnrolledProgram
-    form f r g = record {
-      endian = Little;
-      registers = from_to f r;
-      flags = g;
-      link = 0;
-      entry = 0;
-      requires = [];
-      ensures = [];
-      kept = [];
-      known = [];
-      literals
-          = [];
-      points = [];
-    }
-
-    by : (f f' r r' g g' : ℕ) → f ≡ f' → r ≡ r' → g ≡ g' → form f r g ≡ form f' r' g'
-    by f f' r r' g g' p q k = ap (λ z. form z r g) p ∙ ap (λ z. form f' z g) q ∙ ap (λ z. form f' r' z) k
-
 terms_same : (a b : Names) → HaveSameTerms a b → names_of a ≡ names_of b
 terms_same a b h = ap (λ (z : List Term). put z a.flags.items a.memory) h.registers ∙ ap (λ (z : List Term). put b.registers.items z a.memory) h.flags ∙ ap
     (λ (z : Term). put b.registers.items b.flags.items z) h.memory
@@ -84,7 +60,7 @@ denotes_same : (nodes : List TermNode) (x : TermReading) (a b : Names) (c : Carr
     Denotes (form_of b) nodes x (names_of b) c
 denotes_same nodes x a b c h d =
     subst (λ (z : walk.Names). Denotes (form_of b) nodes x z c) (terms_same a b h) (subst
-    (λ (z : UnrolledProgram). Denotes z nodes x (names_of a) c) (forms_same a b (same_form a b h)) d)
+    (λ (z : UnrolledProgram). Denotes z nodes x (names_of a) c) (form_same a b (same_form a b h)) d)
 
 pub copied_joined : (ns : List TermNode) (hit met : ℕ) (a n : Names) → AreTermsOf a ns a → HaveSameTerms a n → IsJoined a ns ns hit met a None n
 copied_joined ns hit met a n w h = record {
@@ -93,7 +69,7 @@ copied_joined ns hit met a n w h = record {
   terms = record {
     same = same_form a n h;
     names = subst (λ (z : walk.Names). AreNames (form_of n) ns z) (terms_same a n h) (subst
-        (λ (z : UnrolledProgram). AreNames z ns (names_of a)) (forms_same a n (same_form a n h)) w.names);
+        (λ (z : UnrolledProgram). AreNames z ns (names_of a)) (form_same a n (same_form a n h)) w.names);
   };
   first = λ x r q c d. denotes_same ns x a n c h d;
   second = λ x r q m c d. absurd (no d.names d.is);

@@ -110,11 +110,11 @@ met_at s i t h e = ap (λ (z : Term). z.0) (e ∙ other_default s.met.items i t 
 
 -- where the point goes on, by its own code
 pub gone_at : (u : Unrolled) (place : ℕ) (c d : List TermNode) (to jumped target : ℕ) (k : Code) → k ≡ own_code u place →
-    Makes c d 32 3 32 to (λ x. (j : Bool) → Tells c x jumped j → term_word x d to ≡ (if j then term_word x c target else add 32 k.at 4)) →
-    Makes c d 32 3 32 to (λ x. (j : Bool) → Tells c x jumped j → term_word x d to ≡ (if j then term_word x c target else add 32 (own_code u place).at 4))
+    Makes c d 32 3 32 to (λ x. (j : Bool) → Tells c x jumped j → term_word x d to ≡ (if j then term_word x c target else add 32 k.at k.length)) →
+    Makes c d 32 3 32 to (λ x. (j : Bool) → Tells c x jumped j → term_word x d to ≡ (if j then term_word x c target else add 32 (own_code u place).at (own_code u place).length))
 gone_at u place c d to jumped target k e m =
     subst (λ (q : Code). Makes c d 32 3 32 to (λ x. (j : Bool) → Tells c x jumped j →
-    term_word x d to ≡ (if j then term_word x c target else add 32 q.at 4))) e m
+    term_word x d to ≡ (if j then term_word x c target else add 32 q.at q.length))) e m
 
 -- What is made of a row: its list, its bits and its exits.
 pub record RowMade (u : Unrolled) (place : ℕ) (n : Names) (a b c d e f : List TermNode) (s z : Sweep) (rest last : ℕ) (list : Vec Stmt) (items : List Stmt)
@@ -135,8 +135,8 @@ pub record RowMade (u : Unrolled) (place : ℕ) (n : Names) (a b c d e f : List 
   pub left : IsLeft a b place n (statements items) l
   pub kept : TellsKept b c stored (unrolled_of u).kept wrote
   pub gone : Makes c d 32 3 32 to (λ x. (j : Bool) → Tells c x l.jumped.0 j →
-      term_word x d to ≡ (if j then term_word x c l.target.0 else add 32 (own_code u place).at 4))
-  pub off : Makes d e 2 5 1 odd (λ x. Tells e x odd (not (is_place (term_word x d to))))
+      term_word x d to ≡ (if j then term_word x c l.target.0 else add 32 (own_code u place).at (own_code u place).length))
+  pub off : Makes d e 2 5 1 odd (λ x. Tells e x odd (not (is_place u.narrow (term_word x d to))))
   pub leaving : IsLeaving e f s z rest last u.big lines l.raised.0 wrote odd next l.jumped.0 link edges
   pub next_names : next.names.now ≡ l.names
   pub next_pc : next.pc.0 ≡ to

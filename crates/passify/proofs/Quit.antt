@@ -139,8 +139,8 @@ module _ (d0 d1 d2 d3 d4 : List TermNode) (s0 s1 s2 s3 s4 : Sweep) (rest quiet k
     not_raised : term_word x d2 kept ≡ 1 → (term_word x d0 rest ≡ 1) × (is_raised S.leaving ≡ false)
     not_raised h = let k = narrows1 x r (narrows2 x r h).0 in (k.0, bit_false (is_raised S.leaving) (sym (fits k.0).raised ∙ k.1))
 
-    takes3 : term_word x d2 kept ≡ 1 → Tells d2 x off (is_unaligned S.leaving)
-    takes3 h = let k = not_raised h in tells_keep st12.grew x off (is_unaligned S.leaving) wo.0 ((fits k.0).odd k.1)
+    takes3 : term_word x d2 kept ≡ 1 → Tells d2 x off (is_unaligned S.program.narrow S.leaving)
+    takes3 h = let k = not_raised h in tells_keep st12.grew x off (is_unaligned S.program.narrow S.leaving) wo.0 ((fits k.0).odd k.1)
 
     takes4 : term_word x d3 aligned ≡ 1 → GoesHere d3 s3 big next jumped link x S
     takes4 h =
@@ -168,9 +168,9 @@ module _ (d0 d1 d2 d3 d4 : List TermNode) (s0 s1 s2 s3 s4 : Sweep) (rest quiet k
         let p2 = tries2 x r from (WalkFails CodeWritten) S.writes_kept takes2
         (λ b h. (CodeWritten, refl)) before after (goes S behind1 before) (goes S behind2 before)
         (event_by S.writes_kept S.program S.entry S.next CodeWritten (first_aim S.program S.entry S.now S.writes_kept S.leaving behind2) before) p1 in
-        let p3 = tries3 x r from (WalkFails AlignFails) (is_unaligned S.leaving) takes3
+        let p3 = tries3 x r from (WalkFails AlignFails) (is_unaligned S.program.narrow S.leaving) takes3
         (λ b h. (AlignFails, refl)) before after (goes S behind2 before) (goes S behind3 before)
-        (event_by (is_unaligned S.leaving) S.program S.entry S.next AlignFails (first_aim S.program S.entry S.now S.writes_kept S.leaving behind3) before) p2 in
+        (event_by (is_unaligned S.program.narrow S.leaving) S.program S.entry S.next AlignFails (first_aim S.program S.entry S.now S.writes_kept S.leaving behind3) before) p2 in
         tried.tries x r from later S ensures takes4 before after []
         (subst (λ (xs : List PointExit). IsPending d3 s3 from x aligned before after (goes S xs before)) (sym (exits_end behind3)) p3)
 

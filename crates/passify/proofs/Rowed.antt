@@ -92,8 +92,8 @@ module _ (u : Unrolled) (place : ℕ) (n : Names) (a b c d e f : List TermNode) 
     (m1 : IsLeft a b place n (statements list.items) l)
     (m2 : TellsKept b c l.stored.items (unrolled_of u).kept wrote)
     (m3 : Makes c d 32 3 32 to (λ x. (j : Bool) → Tells c x l.jumped.0 j →
-    term_word x d to ≡ (if j then term_word x c l.target.0 else add 32 (own_code u place).at 4)))
-    (m4 : Makes d e 2 5 1 odd (λ x. Tells e x odd (not (is_place (term_word x d to)))))
+    term_word x d to ≡ (if j then term_word x c l.target.0 else add 32 (own_code u place).at (own_code u place).length)))
+    (m4 : Makes d e 2 5 1 odd (λ x. Tells e x odd (not (is_place u.narrow (term_word x d to)))))
     (v : IsLeaving e f s z rest last u.big (unrolled_of u).ensures l.raised.0 wrote odd next l.jumped.0 link (own_edges u place)) (names : next.names.now
     ≡ l.names)
     (pc_is : next.pc.0 ≡ to)
@@ -140,8 +140,8 @@ module _ (u : Unrolled) (place : ℕ) (n : Names) (a b c d e f : List TermNode) 
     leaves : S.leaving ≡ leaving_by (placed u place) ending
     leaves = ap (left_by (placed u place) (x.choice place) t) does
 
-    left : LeftAs b x l (add 32 (own_code u place).at 4) S.leaving
-    left = subst (λ (z : Leaving). LeftAs b x l (add 32 (own_code u place).at 4) z) (sym leaves)
+    left : LeftAs b x l (add 32 (own_code u place).at (own_code u place).length) S.leaving
+    left = subst (λ (z : Leaving). LeftAs b x l (add 32 (own_code u place).at (own_code u place).length) z) (sym leaves)
         (left_as b x l (placed u place) ending (m1.leaves x r t den (own_code u place).at))
 
     stores_are : (y : ℕ) → Contains (stored_at (placed u place) (x.choice place) t) y ↔ IsStoredBy b x l.stored.items y
@@ -149,12 +149,12 @@ module _ (u : Unrolled) (place : ℕ) (n : Names) (a b c d e f : List TermNode) 
         subst (λ (z : List ℕ). Contains z y ↔ IsStoredBy b x l.stored.items y) (sym (ap (stored_by (placed u place) (x.choice place) t) does))
         (m1.stored_bytes x r t den (own_code u place).at y)
 
-    address : (g : GoneAs b x l (add 32 (own_code u place).at 4) S.leaving) → term_word x d to ≡ g.goes_to
+    address : (g : GoneAs b x l (add 32 (own_code u place).at (own_code u place).length) S.leaving) → term_word x d to ≡ g.goes_to
     address g =
         m3.holds x r g.by_jump (tells_keep m2.grew x l.jumped.0 g.by_jump m1.jumped.0 g.tells)
-        ∙ ap (λ (z : ℕ). if g.by_jump then z else add 32 (own_code u place).at 4) (word_keeps m2.grew x l.target.0 m1.target.0) ∙ sym g.address
+        ∙ ap (λ (z : ℕ). if g.by_jump then z else add 32 (own_code u place).at (own_code u place).length) (word_keeps m2.grew x l.target.0 m1.target.0) ∙ sym g.address
 
-    here : (g : GoneAs b x l (add 32 (own_code u place).at 4) S.leaving) → GoesHere e s u.big next l.jumped.0 link x S
+    here : (g : GoneAs b x l (add 32 (own_code u place).at (own_code u place).length) S.leaving) → GoesHere e s u.big next l.jumped.0 link x S
     here g =
         let is_next : S.next ≡ state_at g.carried g.goes_to = ap (λ (z : Leaving). state_at (carried_on z t) (next_address z)) g.is in
         record {
@@ -181,7 +181,7 @@ module _ (u : Unrolled) (place : ℕ) (n : Names) (a b c d e f : List TermNode) 
       raised = tells_keep g234 x l.raised.0 (is_raised S.leaving) m1.raised.0 left.raises;
       wrote = tells_keep g34 x wrote S.writes_kept m2.width.0 (m2.tells x r (stored_at (placed u place) (x.choice place) t) stores_are);
       odd = λ h. (let g = left.gone h in
-          m4.holds x r ∙ ap (λ (z : ℕ). bit (not (is_place z))) (address g) ∙ sym (ap (λ (z : Leaving). bit (is_unaligned z)) g.is));
+          m4.holds x r ∙ ap (λ (z : ℕ). bit (not (is_place u.narrow z))) (address g) ∙ sym (ap (λ (z : Leaving). bit (is_unaligned u.narrow z)) g.is));
       goes_on = λ h. here (left.gone h);
     }
 

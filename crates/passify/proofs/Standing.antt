@@ -31,14 +31,13 @@ use Rattle.question_form.specs.Forms.{IsFormed}
 use Rattle.term_names.specs.declared.names.Names.{Names}
 use Rattle.term_names.specs.Views.{AreFor, form_of, names_of}
 use Rattle.term_names.specs.Chosen.{HaveSameForm}
-use Rattle.note_terms.proofs.Valued.{in_range, range_at, range_length}
+use Rattle.note_terms.proofs.Valued.{form_same, in_range, range_at, range_length}
 use Rattle.passify.specs.declared.sweep.Sweep.{Sweep}
 use Rattle.passify.specs.Sweeps.{AreWell}
 use Rattle.passify.specs.Situations.{no_line}
 use Rattle.passify.specs.Edges.{AreLater, IsLater, IsPlaceOf}
 use Rattle.passify.specs.Handled.{IsSweepOf}
 use Rattle.passify.specs.Rows.{no_point, own_point, own_code, own_edges, own_index, placed}
-use Rattle.passify.proofs.Joined.{forms_same}
 use Rattle.passify.proofs.Pushed.{other_default}
 
 pub points_length : (u : Unrolled) (ps : List Point) → length (points_of u ps) ≡ length ps
@@ -77,10 +76,10 @@ variable_by u v p q (bil.Local x n) = refl
 
 module _ (u : UnrolledProgram) (a b : Names) (f : AreFor u a) (h : HaveSameForm a b) where
   registers_for : u.registers ≡ (form_of b).registers
-  registers_for = f.registers ∙ ap (λ (v : UnrolledProgram). v.registers) (forms_same a b h)
+  registers_for = f.registers ∙ ap (λ (v : UnrolledProgram). v.registers) (form_same a b h)
 
   flags_for : u.flags ≡ (form_of b).flags
-  flags_for = f.flags ∙ ap (λ (v : UnrolledProgram). v.flags) (forms_same a b h)
+  flags_for = f.flags ∙ ap (λ (v : UnrolledProgram). v.flags) (form_same a b h)
 
   pub reads_for : (e : Expr) → IsReadable u e → IsReadable (form_of b) e
   reads_for e r = reads_by u (form_of b) e registers_for flags_for r

@@ -70,7 +70,7 @@ pub record LeavesHere (nodes : List TermNode) (s : Sweep) (big : Bool) (raise wr
     (S : Situation) : Type 0 where
   pub raised : Tells nodes x raise (is_raised S.leaving)
   pub wrote : Tells nodes x write S.writes_kept
-  pub odd : is_raised S.leaving ≡ false → Tells nodes x off (is_unaligned S.leaving)
+  pub odd : is_raised S.leaving ≡ false → Tells nodes x off (is_unaligned S.program.narrow S.leaving)
   pub goes_on : is_raised S.leaving ≡ false → GoesHere nodes s big next jumped link x S
 
 -- The exits of a row are tried, three to events and some edges.

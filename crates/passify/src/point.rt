@@ -118,8 +118,8 @@ fn row(
     };
     let left = run_list(alloc, dag, list, names, place)?;
     let wrote = writes_kept(dag, &left.stored, unrolled.kept)?;
-    let next = next_address(dag, code.at, left.jumped, left.target)?;
-    let odd = unaligned(dag, next)?;
+    let next = next_address(dag, code.at, code.length, left.jumped, left.target)?;
+    let odd = unaligned(dag, unrolled.narrow, next)?;
     let leaves = Leaves {
         raised: left.raised,
         wrote,

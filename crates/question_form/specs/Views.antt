@@ -66,11 +66,11 @@ abbrev pub row_exits : (fetchable : Bool) → Option (Vec Stmt) → List Edge �
 row_exits fetchable None edges = Always (stop_event fetchable) ∷ []
 row_exits fetchable (Some list) edges = Raising ∷ WritingKept ∷ Unaligned ∷ map edge_of edges
 
--- the point of a code, with its edges; rows have 4 bytes
+-- the point of a code, with its edges
 abbrev pub point_by : Unrolled → Point → Code → List Edge → UnrolledPoint
 point_by u q c edges = record {
   point = record { turns = q.turns; stack = stack_at u.frames.items q.stack; at = c.at };
-  length = 4;
+  length = c.length;
   does = action_of c.list;
   draws = c.draws;
   row = c.row;
@@ -81,7 +81,7 @@ point_by u q c edges = record {
 
 -- no code
 abbrev pub no_code : Code
-no_code = record { at = 0; fetchable = false; list = None; draws = false; row = 0; loads = 0; stores = 0; asserts = (0, 0) }
+no_code = record { at = 0; length = 0; fetchable = false; list = None; draws = false; row = 0; loads = 0; stores = 0; asserts = (0, 0) }
 
 -- the code of a point
 abbrev pub code_of : Unrolled → Point → Code
@@ -105,6 +105,7 @@ points_of u (q ∷ rest) = point_of u q rest ∷ points_of u rest
 abbrev pub unrolled_of : Unrolled → UnrolledProgram
 unrolled_of u = record {
   endian = endian u.big;
+  narrow = u.narrow;
   registers = from_to (layout_of u.form).first (length (layout_of u.form).registers);
   flags = length (layout_of u.form).flags;
   link = u.link;

@@ -40,7 +40,9 @@ pub struct Edge {
 #[derive(Drop)]
 pub struct Code {
     pub at: u32,
-    /// The four bytes from the address on are loaded and executable.
+    /// How many bytes the row has, 2 or 4; 4 where there is no row.
+    pub length: u8,
+    /// The bytes from the address on are loaded and executable: two where they are those of a row of 2 bytes, and else four.
     pub fetchable: bool,
     /// What the row of the address does; none where there is no row.
     pub list: Option<Vec<Stmt>>,
@@ -73,6 +75,8 @@ pub struct Unrolled<'a> {
     pub form: Layout,
     /// The byte order of the machine is big.
     pub big: bool,
+    /// Some rows of the machine have 2 bytes.
+    pub narrow: bool,
     /// The number of the link register.
     pub link: u8,
     /// The address of the function.

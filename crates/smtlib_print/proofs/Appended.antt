@@ -6,7 +6,7 @@ use Rattle.bilv_spec.specs.SmtLib.{Sexp}
 use Rattle.machine_spec.specs.StateText.{Layout}
 use Rattle.walk_spec.specs.Terms.{TermNode, node_at, width_of, MemoryNode}
 use Rattle.walk_spec.specs.Unrolled.{ByteRun}
-use Rattle.smtlib_print.specs.Commands.{definition, sort_of, node_term, node_definitions, declaration, declarations, byte_definitions, further, has_byte}
+use Rattle.smtlib_print.specs.Commands.{definition, sort_of, node_term, node_definitions, declaration, declarations, assertion, byte_assertions, has_byte}
 use Rattle.smtlib_print.specs.Written.{written, commands_text}
 
 -- texts of commands one behind the other
@@ -62,19 +62,18 @@ names_done sort names i out all e inv =
     sym (append-nil out) ∙ ap (λ t. out ++ commands_text (declarations sort t)) (sym (no_names names)) ∙ ap (λ k. out ++ undeclared sort names k) (sym e) ∙ inv
 
 -- the bytes of a run that are left from a distance on
-abbrev pub unlisted : ByteRun → (at i : ℕ) → List ℕ
-unlisted r at i = commands_text (byte_definitions r (at + i) i (r.count - i))
+abbrev pub unlisted : ByteRun → (i : ℕ) → List ℕ
+unlisted r i = commands_text (byte_assertions r i (r.count - i))
 
-pub byte_more : (r : ByteRun) (at i : ℕ) (out new all : List ℕ) → i < r.count →
-    new ≡ out ++ (written (further (at + i) (has_byte (r.at + i) (slice_index r.bytes i))) ++ codes "\n") →
-    out ++ unlisted r at i ≡ all → new ++ unlisted r at (i + 1) ≡ all
-byte_more r at i out new all l step inv =
+pub byte_more : (r : ByteRun) (i : ℕ) (out new all : List ℕ) → i < r.count →
+    new ≡ out ++ (written (assertion (has_byte (r.at + i) (slice_index r.bytes i))) ++ codes "\n") →
+    out ++ unlisted r i ≡ all → new ++ unlisted r (i + 1) ≡ all
+byte_more r i out new all l step inv =
     let n : r.count - i ≡ suc (r.count - suc i) = omega (arith, l) in
-    let p : at + suc i ≡ suc (at + i) = omega arith in
-    rw (add-one, p) (one_command out new (commands_text (byte_definitions r (suc (at + i)) (suc i) (r.count - suc i))) all
-    (further (at + i) (has_byte (r.at + i) (slice_index r.bytes i))) step (ap (λ k. out ++ commands_text (byte_definitions r (at + i) i k)) (sym n) ∙ inv))
+    rw add-one (one_command out new (commands_text (byte_assertions r (suc i) (r.count - suc i))) all
+    (assertion (has_byte (r.at + i) (slice_index r.bytes i))) step (ap (λ k. out ++ commands_text (byte_assertions r i k)) (sym n) ∙ inv))
 
-pub bytes_done : (r : ByteRun) (at i : ℕ) (out all : List ℕ) → i ≡ r.count → out ++ unlisted r at i ≡ all → out ≡ all
-bytes_done r at i out all e inv =
+pub bytes_done : (r : ByteRun) (i : ℕ) (out all : List ℕ) → i ≡ r.count → out ++ unlisted r i ≡ all → out ≡ all
+bytes_done r i out all e inv =
     let n : r.count - i ≡ 0 = omega (arith, e) in
-    sym (append-nil out) ∙ ap (λ k. out ++ commands_text (byte_definitions r (at + i) i k)) (sym n) ∙ inv
+    sym (append-nil out) ∙ ap (λ k. out ++ commands_text (byte_assertions r i k)) (sym n) ∙ inv

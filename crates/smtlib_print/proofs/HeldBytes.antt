@@ -19,14 +19,14 @@ HasRun mem r i n = (j : ℕ) → i ≤ j → j < i + n → mem (r.at + j) ≡ sl
 bytes_from : (mem : ℕ → ℕ) (r : ByteRun) (n i : ℕ) (b : Bool) → held_bytes mem r i n b ≡ true → (b ≡ true) × HasRun mem r i n
 bytes_from mem r zero i b h = (h, λ j l k. absurd (omega (arith, l, k)))
 bytes_from mem r (suc n) i b h =
-    let next = bytes_from mem r n (suc i) (b && (mem (r.at + i) == slice_index r.bytes i)) h in
-    let t = both_true b _ next.0 in (
-      t.0,
+    let t = both_true (mem (r.at + i) == slice_index r.bytes i) _ h in
+    let next = bytes_from mem r n (suc i) b t.1 in (
+      next.0,
       λ j l k. elim (cases_lt i j) [
         | inl m ↦ next.1 j m (omega (arith, k))
         | inr m ↦ (
             let e : j ≡ i = omega (arith, l, m) in
-            let s : mem (r.at + i) ≡ slice_index r.bytes i = grind (arith, nat_tests, t.1) in
+            let s : mem (r.at + i) ≡ slice_index r.bytes i = grind (arith, nat_tests, t.0) in
             ap (λ z. mem (r.at + z)) e ∙ s ∙ ap (slice_index r.bytes) (sym e))
       ],
     )
@@ -36,7 +36,8 @@ bytes_to mem r zero i b h f = h
 bytes_to mem r (suc n) i b h f =
     let e = f i (omega arith) (omega arith) in
     let s : (mem (r.at + i) == slice_index r.bytes i) ≡ true = grind (arith, nat_tests) in
-    bytes_to mem r n (suc i) (b && (mem (r.at + i) == slice_index r.bytes i)) (rw (h, s) refl) (λ j l k. f j (omega (arith, l)) (omega (arith, k)))
+    let more = bytes_to mem r n (suc i) b h (λ j l k. f j (omega (arith, l)) (omega (arith, k))) in
+    rw (s, more) refl
 
 -- the run has the address
 abbrev has : ℕ → ByteRun → Bool
@@ -67,9 +68,9 @@ known_by false mem a b r rs e l f run later = later a b l f
 pub from_held : (mem : ℕ → ℕ) (rs : List ByteRun) (b : Bool) → held_runs mem rs b ≡ true → (b ≡ true) × HasKnown rs mem
 from_held mem [] b h = (h, λ a v l f. absurd (cc f))
 from_held mem (r ∷ rs) b h =
-    let next = from_held mem rs (held_bytes mem r 0 r.count b) h in
-    let run = bytes_from mem r r.count 0 b next.0 in
-    (run.0, λ a v l f. known_by (has a r) mem a v r rs refl l f (λ j k m. run.1 j k (omega (arith, m))) next.1)
+    let run = bytes_from mem r r.count 0 (held_runs mem rs b) h in
+    let next = from_held mem rs b run.0 in
+    (next.0, λ a v l f. known_by (has a r) mem a v r rs refl l f (λ j k m. run.1 j k (omega (arith, m))) next.1)
 
 has_own : (r : ByteRun) (j : ℕ) → j < r.count → has (r.at + j) r ≡ true
 has_own r j l =
@@ -87,8 +88,8 @@ has_none r a l =
 pub to_held : (mem : ℕ → ℕ) (rs : List ByteRun) (low : ℕ) (b : Bool) → FitMemory rs → AreBehind low rs → b ≡ true → HasKnown rs mem → held_runs mem rs b ≡ true
 to_held mem [] low b fit behind h known = h
 to_held mem (r ∷ rs) low b fit behind h known =
-    to_held mem rs (r.at + r.count) (held_bytes mem r 0 r.count b) fit.1 behind.1
-    (bytes_to mem r r.count 0 b h
+    bytes_to mem r r.count 0 (held_runs mem rs b)
+    (to_held mem rs (r.at + r.count) b fit.1 behind.1 h
+    (λ a v l f. known a v l (let t = has_none r a (found_behind rs (r.at + r.count) a v behind.1 f) in rw t f)))
     (λ j l k. known (r.at + j) (slice_index r.bytes j) (omega (arith, fit.0.within, k))
-    (let t = has_own r j (omega (arith, k)) in let z : r.at + j - r.at ≡ j = omega arith in rw (t, z) refl)))
-    (λ a v l f. known a v l (let t = has_none r a (found_behind rs (r.at + r.count) a v behind.1 f) in rw t f))
+    (let t = has_own r j (omega (arith, k)) in let z : r.at + j - r.at ≡ j = omega arith in rw (t, z) refl))

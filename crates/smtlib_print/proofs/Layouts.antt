@@ -38,16 +38,16 @@ pub record IsUsable (layout : Layout) : Type 0 where
   pub registers : are_new [] layout.registers ≡ true
   pub flags : are_new (onto [] layout.registers) layout.flags ≡ true
 
-pub rv_usable : IsUsable rv_layout
+pub rv_usable : (compressed : Bool) → IsUsable (rv_layout compressed)
 unfolding digits
-rv_usable = record { own = refl; distinct = refl; registers = refl; flags = refl }
+rv_usable compressed = record { own = refl; distinct = refl; registers = refl; flags = refl }
 
 pub arm_usable : (e : Endian) (profile : Profile) → IsUsable (arm_layout e profile)
 unfolding digits
 arm_usable e profile = record { own = refl; distinct = refl; registers = refl; flags = refl }
 
 pub usable_of : (form : forms.Layout) → IsUsable (layout_of form)
-usable_of Rv32 = rv_usable
+usable_of (Rv32 compressed) = rv_usable compressed
 usable_of (Arm big profile) = arm_usable (endian big) (profile_in profile)
 
 -- a name by its place

@@ -1,5 +1,5 @@
 -- Texts that are appended, as those of the commands.
-use Rattle.std.proofs.Common.{◌≡◌, ◌≢◌, ℕ, zero, suc, ◌+◌, ◌-◌, ◌*◌, ◌/◌, ◌%◌, ◌^◌, ◌<◌, ◌≤◌, refl, ap, sym, ◌∙◌, arith, List, [], ◌∷◌, ◌++◌, length, append_assoc, inl, inr, true, false, Result, Ok, Err, OnOk}
+use Rattle.std.proofs.Common.{◌≡◌, ◌≢◌, ℕ, zero, suc, ◌+◌, ◌-◌, ◌*◌, ◌/◌, ◌%◌, ◌^◌, ◌<◌, ◌≤◌, refl, ap, sym, ◌∙◌, arith, List, [], ◌∷◌, ◌++◌, length, append_assoc, inl, inr, Bool, true, false, Result, Ok, Err, OnOk}
 use Rattle.std.specs.Prelude.{codes, slice_index_or, decimal, if◌then◌else◌}
 use Rattle.std.specs.Result.{is_ok}
 use Rattle.std.proofs.lemmas.Bool.{cases_eq}
@@ -64,15 +64,15 @@ pub on_text : {A E : Type 0} (r : Result A E) (new out a b : List ℕ) → a ≡
 on_text r new out a b e h = on_ok r (new ≡ out ++ a) (new ≡ out ++ b) (λ f. f ∙ ap (λ t. out ++ t) e) h
 
 -- the names of RV32IM
-pub rv_named : (form : Layout) (r : ℕ) → form ≡ Rv32 → (layout_of form).first ≤ r → r < (layout_of form).first + length (layout_of form).registers →
+pub rv_named : (form : Layout) (compressed : Bool) (r : ℕ) → form ≡ Rv32 compressed → (layout_of form).first ≤ r → r < (layout_of form).first + length (layout_of form).registers →
     120 ∷ number_text r ≡ slice_index_or (layout_of form).registers (r - (layout_of form).first) []
-rv_named Rv32 r e h k = sym (register_name 120 1 31 r h k)
-rv_named (Arm big profile) r e h k = absurd (cc e)
+rv_named (Rv32 compressed) c r e h k = sym (register_name 120 1 31 r h k)
+rv_named (Arm big profile) c r e h k = absurd (cc e)
 
 -- the names of ARM
-pub arm_named : (form : Layout) (r : ℕ) → (form ≡ Rv32 → ⊥) → (layout_of form).first ≤ r → r < (layout_of form).first + length (layout_of form).registers →
+pub arm_named : (form : Layout) (r : ℕ) → ((compressed : Bool) → form ≡ Rv32 compressed → ⊥) → (layout_of form).first ≤ r → r < (layout_of form).first + length (layout_of form).registers →
     114 ∷ number_text r ≡ slice_index_or (layout_of form).registers (r - (layout_of form).first) []
-arm_named Rv32 r e h k = absurd (e refl)
+arm_named (Rv32 compressed) r e h k = absurd (e compressed refl)
 arm_named (Arm big profile) r e h k = sym (register_name 114 0 15 r h k)
 
 -- an address behind another

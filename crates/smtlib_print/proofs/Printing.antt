@@ -17,7 +17,7 @@ use Rattle.state_text.specs.Starts.{layout_of}
 use Rattle.state_text.proofs.Appends.{five}
 use Rattle.known_bytes.specs.declared.listing.Known.{Known}
 use Rattle.known_bytes.specs.Runs.{run_of, AreRuns}
-use Rattle.smtlib_print.specs.Commands.{all_commands, all_declarations, array_sort, bytes_of, declaration, declarations, definition, is_one, middle_commands, node_definitions, run_definitions, term, word_sort}
+use Rattle.smtlib_print.specs.Commands.{all_commands, all_declarations, array_sort, assertion, declaration, declarations, definition, is_one, middle_commands, node_definitions, run_assertions, term, word_sort}
 use Rattle.smtlib_print.specs.Printable.{IsPrintable}
 use Rattle.smtlib_print.specs.Scripted.{AreBehind, AreNumbers, FitMemory, script_text}
 use Rattle.smtlib_print.specs.Told.{AreInOrder, TellsScript}
@@ -25,7 +25,7 @@ use Rattle.smtlib_print.specs.Written.{commands_text, two, written}
 use Rattle.smtlib_print.proofs.Appended.{text-append}
 use Rattle.smtlib_print.proofs.Inputs.{in_range}
 use Rattle.smtlib_print.proofs.Layouts.{usable_of}
-use Rattle.smtlib_print.proofs.Runs.{behind_runs, bytes_few}
+use Rattle.smtlib_print.proofs.Runs.{behind_runs}
 use Rattle.smtlib_print.proofs.Telling.{script_tells}
 
 module _ (u : UnrolledProgram) (layout : texts.Layout) (laid : IsLaidOut layout u) (count : ℕ) (same : count ≡ length u.points) where
@@ -92,15 +92,15 @@ middle_text : (layout : texts.Layout) (numbers : List ℕ) (choices : List (List
     ≡ commands_text (all_declarations layout choices)
     ++ (commands_text (node_definitions layout numbers 0 nodes)
     ++ (written (definition (length nodes) (Atom (codes "Bool")) (is_one root))
-    ++ 10 ∷ (commands_text (run_definitions (length nodes) runs) ++ (written (two (Atom (codes "assert")) (term (length nodes + bytes_of runs))) ++ 10 ∷ []))))
+    ++ 10 ∷ (commands_text (run_assertions runs) ++ (written (assertion (term (length nodes))) ++ 10 ∷ []))))
 middle_text layout numbers choices runs nodes root =
-    let last = two (Atom (codes "assert")) (term (length nodes + bytes_of runs)) ∷ [] in
-    let rest = definition (length nodes) (Atom (codes "Bool")) (is_one root) ∷ (run_definitions (length nodes) runs ++ last) in
+    let last = assertion (term (length nodes)) ∷ [] in
+    let rest = definition (length nodes) (Atom (codes "Bool")) (is_one root) ∷ (run_assertions runs ++ last) in
     text-append (all_declarations layout choices) (node_definitions layout numbers 0 nodes ++ rest)
     ∙ ap (λ t. commands_text (all_declarations layout choices) ++ t)
     (text-append (node_definitions layout numbers 0 nodes) rest
     ∙ ap (λ t. commands_text (node_definitions layout numbers 0 nodes) ++ (written (definition (length nodes) (Atom (codes "Bool")) (is_one root)) ++ 10 ∷ t))
-    (text-append (run_definitions (length nodes) runs) last))
+    (text-append (run_assertions runs) last))
 
 -- five parts, of which the first has the logic in front
 parts : (h d n r b a c : List ℕ) → (h ++ d) ++ (n ++ ((r ++ 10 ∷ []) ++ (b ++ (a ++ 10 ∷ c)))) ≡ h ++ ((d ++ (n ++ (r ++ 10 ∷ (b ++ (a ++ 10 ∷ []))))) ++ c)
@@ -114,26 +114,25 @@ parts h d n r b a c =
     ∙ ap (λ t. r ++ 10 ∷ t) (append_assoc b (a ++ 10 ∷ []) c ∙ ap (λ t. b ++ t) (append_assoc a (10 ∷ []) c))))))
 
 -- the text of a script in its parts
-pub script_parts : (layout : texts.Layout) (numbers : List ℕ) (choices : List (List ℕ)) (runs : List ByteRun) (nodes : List TermNode) (root at count : ℕ)
-    (none first second third fourth all : List ℕ) → none ≡ [] → count ≡ length nodes → at ≡ count + bytes_of runs →
+pub script_parts : (layout : texts.Layout) (numbers : List ℕ) (choices : List (List ℕ)) (runs : List ByteRun) (nodes : List TermNode) (root count : ℕ)
+    (none first second third fourth all : List ℕ) → none ≡ [] → count ≡ length nodes →
     first ≡ none ++ (codes "(set-logic QF_ABV)\n" ++ commands_text (all_declarations layout choices)) →
     second ≡ first ++ commands_text (node_definitions layout numbers 0 nodes) →
     third ≡ second ++ (written (definition count (Atom (codes "Bool")) (is_one root)) ++ codes "\n") →
-    fourth ≡ third ++ commands_text (run_definitions count runs) →
-    all ≡ fourth ++ (written (two (Atom (codes "assert")) (term at)) ++ codes "\n(check-sat)\n") →
+    fourth ≡ third ++ commands_text (run_assertions runs) →
+    all ≡ fourth ++ (written (assertion (term count)) ++ codes "\n(check-sat)\n") →
     all ≡ commands_text (all_commands (middle_commands layout numbers choices runs nodes root))
-script_parts layout numbers choices runs nodes root at count none first second third fourth all z k p e f g h i =
+script_parts layout numbers choices runs nodes root count none first second third fourth all z k e f g h i =
     five [] first second third fourth all (codes "(set-logic QF_ABV)\n" ++ commands_text (all_declarations layout choices))
     (commands_text (node_definitions layout numbers 0 nodes))
-    (written (definition (length nodes) (Atom (codes "Bool")) (is_one root)) ++ codes "\n") (commands_text (run_definitions (length nodes) runs))
-    (written (two (Atom (codes "assert")) (term (length nodes + bytes_of runs))) ++ codes "\n(check-sat)\n")
+    (written (definition (length nodes) (Atom (codes "Bool")) (is_one root)) ++ codes "\n") (commands_text (run_assertions runs))
+    (written (assertion (term (length nodes))) ++ codes "\n(check-sat)\n")
     (e ∙ ap (λ t. t ++ (codes "(set-logic QF_ABV)\n" ++ commands_text (all_declarations layout choices))) z) f
-    (g ∙ ap (λ c. second ++ (written (definition c (Atom (codes "Bool")) (is_one root)) ++ codes "\n")) k) (h
-    ∙ ap (λ c. third ++ commands_text (run_definitions c runs)) k)
-    (i ∙ ap (λ c. fourth ++ (written (two (Atom (codes "assert")) (term c)) ++ codes "\n(check-sat)\n")) (p ∙ ap (λ c. c + bytes_of runs) k))
+    (g ∙ ap (λ c. second ++ (written (definition c (Atom (codes "Bool")) (is_one root)) ++ codes "\n")) k) h
+    (i ∙ ap (λ c. fourth ++ (written (assertion (term c)) ++ codes "\n(check-sat)\n")) k)
     ∙ parts (codes "(set-logic QF_ABV)\n") (commands_text (all_declarations layout choices)) (commands_text (node_definitions layout numbers 0 nodes))
-    (written (definition (length nodes) (Atom (codes "Bool")) (is_one root))) (commands_text (run_definitions (length nodes) runs))
-    (written (two (Atom (codes "assert")) (term (length nodes + bytes_of runs)))) (codes "(check-sat)\n")
+    (written (definition (length nodes) (Atom (codes "Bool")) (is_one root))) (commands_text (run_assertions runs))
+    (written (assertion (term (length nodes)))) (codes "(check-sat)\n")
     ∙ ap (λ t. codes "(set-logic QF_ABV)\n" ++ (t ++ codes "(check-sat)\n")) (sym (middle_text layout numbers choices runs nodes root))
     ∙ ap (λ t. codes "(set-logic QF_ABV)\n" ++ t) (sym (text-append (middle_commands layout numbers choices runs nodes root) _))
 
@@ -146,6 +145,5 @@ pub form_tells : (u : UnrolledProgram) (form : Layout) (points : List Point) (nu
     TellsScript u (layout_of form) question text
 form_tells u form points numbers question nodes root runs text laid order are tells few same rising fit e =
     let behind = subst (λ (z : List ByteRun). AreBehind 0 z) (sym same) (behind_runs runs rising) in
-    let b = bytes_few 0 u.known (omega arith) fit behind in
     subst (λ (t : List ℕ). TellsScript u (layout_of form) question t) (sym e)
-    (script_tells u (layout_of form) (usable_of form) laid points numbers are nodes root question tells few fit behind (omega (arith, b)) order)
+    (script_tells u (layout_of form) (usable_of form) laid points numbers are nodes root question tells few fit behind order)

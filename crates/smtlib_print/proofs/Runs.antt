@@ -6,7 +6,7 @@ use Rattle.std.proofs.lemmas.Bool.{cases_lt}
 use Rattle.walk_spec.specs.Unrolled.{ByteRun}
 use Rattle.known_bytes.specs.declared.listing.Known.{Known}
 use Rattle.known_bytes.specs.Runs.{run_of, AreRuns}
-use Rattle.smtlib_print.specs.Commands.{byte_definitions, run_definitions, bytes_of}
+use Rattle.smtlib_print.specs.Commands.{byte_assertions, run_assertions}
 use Rattle.smtlib_print.specs.Scripted.{AreBehind, FitsMemory, FitMemory}
 use Rattle.smtlib_print.specs.Written.{commands_text}
 use Rattle.smtlib_print.proofs.Appended.{text-append}
@@ -28,14 +28,9 @@ fits_memory k n h l e b = record { within = omega (arith, h, l); bytes = λ i j.
 abbrev pub runs_from : List Known → ℕ → List ByteRun
 runs_from runs i = map run_of (drop i runs)
 
--- the runs before a place are written, behind the definition at one, and the last definition is at another
-pub record AreRunsWritten (runs : List Known) (place : ℕ) (old : List ℕ) (at i : ℕ) (out : List ℕ) : Type 0 where
-  pub text : out ++ commands_text (run_definitions at (runs_from runs i)) ≡ old ++ commands_text (run_definitions place (map run_of runs))
-  pub last : at + bytes_of (runs_from runs i) ≡ place + bytes_of (map run_of runs)
-  pub low : ℕ
-  pub few : at ≤ place + low
-  pub within : low ≤ 2 ^ 32
-  pub behind : AreBehind low (runs_from runs i)
+-- the runs before a place are written
+pub record AreRunsWritten (runs : List Known) (old : List ℕ) (i : ℕ) (out : List ℕ) : Type 0 where
+  pub text : out ++ commands_text (run_assertions (runs_from runs i)) ≡ old ++ commands_text (run_assertions (map run_of runs))
   pub fit : FitMemory (runs_from runs i) → FitMemory (map run_of runs)
 
 -- the runs behind one
@@ -57,46 +52,22 @@ behind_all low (r ∷ rs) are h = (
 pub behind_runs : (rs : List Known) → AreRuns rs → AreBehind 0 (map run_of rs)
 behind_runs rs are = behind_all 0 rs are (λ d l. omega arith)
 
-pub runs_begin : (runs : List Known) (place : ℕ) (old : List ℕ) → AreRuns runs → AreRunsWritten runs place old place 0 old
-runs_begin runs place old are = record {
-  text = refl;
-  last = refl;
-  low = 0;
-  few = omega arith;
-  within = omega arith;
-  behind = behind_runs runs are;
-  fit = λ f. f;
-}
+pub runs_begin : (runs : List Known) (old : List ℕ) → AreRunsWritten runs old 0 old
+runs_begin runs old = record { text = refl; fit = λ f. f }
 
 -- one run more
-pub run_more : (runs : List Known) (place at next i : ℕ) (r d : Known) (old out new : List ℕ) → i < length runs → r ≡ get_or runs i d → FitsMemory (run_of r) →
-    new ≡ out ++ commands_text (byte_definitions (run_of r) at 0 (run_of r).count) → next ≡ at + (run_of r).count →
-    AreRunsWritten runs place old at i out → AreRunsWritten runs place old next (i + 1) new
-run_more runs place at next i r default old out new l e fits step n inv =
+pub run_more : (runs : List Known) (i : ℕ) (r d : Known) (old out new : List ℕ) → i < length runs → r ≡ get_or runs i d → FitsMemory (run_of r) →
+    new ≡ out ++ commands_text (byte_assertions (run_of r) 0 (run_of r).count) → AreRunsWritten runs old i out → AreRunsWritten runs old (i + 1) new
+run_more runs i r default old out new l e fits step inv =
     let d : runs_from runs i ≡ run_of r ∷ runs_from runs (suc i) =
     ap (map run_of) (drop-cons runs i default l ∙ ap (λ (m : Known). m ∷ drop (suc i) runs) (sym e)) in
-    let b : AreBehind inv.low (run_of r ∷ runs_from runs (suc i)) = subst (λ (z : List ByteRun). AreBehind inv.low z) d inv.behind in
     let rest = runs_from runs (suc i) in
-    let text : new ++ commands_text (run_definitions next rest) ≡ old ++ commands_text (run_definitions place (map run_of runs)) =
-    ap (λ t. t ++ commands_text (run_definitions next rest)) step
-    ∙ append_assoc out (commands_text (byte_definitions (run_of r) at 0 (run_of r).count)) (commands_text (run_definitions next rest))
-    ∙ ap (λ z. out ++ (commands_text (byte_definitions (run_of r) at 0 (run_of r).count) ++ commands_text (run_definitions z rest))) n
-    ∙ ap (λ t. out ++ t) (sym (text-append (byte_definitions (run_of r) at 0 (run_of r).count) (run_definitions (at + (run_of r).count) rest)))
-    ∙ ap (λ z. out ++ commands_text (run_definitions at z)) (sym d) ∙ inv.text in
-    let last : next + bytes_of rest ≡ place + bytes_of (map run_of runs) =
-    (let s : at + bytes_of (run_of r ∷ rest) ≡ place + bytes_of (map run_of runs) = ap (λ z. at + bytes_of z) (sym d) ∙ inv.last in omega (arith, s, n)) in
-    rw add-one (record {
-      text = text;
-      last = last;
-      low = r.first + (run_of r).count;
-      few = omega (arith, n, inv.few, b.0);
-      within = fits.within;
-      behind = b.1;
-      fit = λ f. inv.fit (subst (λ (z : List ByteRun). FitMemory z) (sym d) (fits, f));
-    })
-
-pub runs_few : (runs : List Known) (place at i : ℕ) (old out : List ℕ) → place < 2 ^ 32 → AreRunsWritten runs place old at i out → at ≤ 4611686018427387904
-runs_few runs place at i old out l inv = omega (arith, l, inv.few, inv.within)
+    let text : new ++ commands_text (run_assertions rest) ≡ old ++ commands_text (run_assertions (map run_of runs)) =
+    ap (λ t. t ++ commands_text (run_assertions rest)) step
+    ∙ append_assoc out (commands_text (byte_assertions (run_of r) 0 (run_of r).count)) (commands_text (run_assertions rest))
+    ∙ ap (λ t. out ++ t) (sym (text-append (byte_assertions (run_of r) 0 (run_of r).count) (run_assertions rest)))
+    ∙ ap (λ z. out ++ commands_text (run_assertions z)) (sym d) ∙ inv.text in
+    rw add-one (record { text = text; fit = λ f. inv.fit (subst (λ (z : List ByteRun). FitMemory z) (sym d) (fits, f)) })
 
 no_runs : (rs : List Known) (i : ℕ) → i ≡ length rs → runs_from rs i ≡ []
 no_runs [] zero e = refl
@@ -104,18 +75,9 @@ no_runs [] (suc i) e = refl
 no_runs (r ∷ rs) zero e = absurd (omega (arith, e))
 no_runs (r ∷ rs) (suc i) e = no_runs rs i (omega (arith, e))
 
-pub runs_text : (runs : List Known) (place at i : ℕ) (old out : List ℕ) → i ≡ length runs → AreRunsWritten runs place old at i out →
-    out ≡ old ++ commands_text (run_definitions place (map run_of runs))
-runs_text runs place at i old out e inv = sym (append-nil out) ∙ ap (λ z. out ++ commands_text (run_definitions at z)) (sym (no_runs runs i e)) ∙ inv.text
+pub runs_text : (runs : List Known) (i : ℕ) (old out : List ℕ) → i ≡ length runs → AreRunsWritten runs old i out →
+    out ≡ old ++ commands_text (run_assertions (map run_of runs))
+runs_text runs i old out e inv = sym (append-nil out) ∙ ap (λ z. out ++ commands_text (run_assertions z)) (sym (no_runs runs i e)) ∙ inv.text
 
-pub runs_last : (runs : List Known) (place at i : ℕ) (old out : List ℕ) → i ≡ length runs → AreRunsWritten runs place old at i out →
-    at ≡ place + bytes_of (map run_of runs)
-runs_last runs place at i old out e inv = (let z : at + bytes_of [] ≡ at = omega arith in sym z) ∙ ap (λ z. at + bytes_of z) (sym (no_runs runs i e)) ∙ inv.last
-
-pub runs_fit : (runs : List Known) (place at i : ℕ) (old out : List ℕ) → i ≡ length runs → AreRunsWritten runs place old at i out → FitMemory (map run_of runs)
-runs_fit runs place at i old out e inv = inv.fit (subst (λ (z : List ByteRun). FitMemory z) (sym (no_runs runs i e)) tt)
-
--- there are no more bytes than addresses
-pub bytes_few : (low : ℕ) (rs : List ByteRun) → low ≤ 2 ^ 32 → FitMemory rs → AreBehind low rs → low + bytes_of rs ≤ 2 ^ 32
-bytes_few low [] l fit behind = omega (arith, l)
-bytes_few low (r ∷ rs) l fit behind = let k = bytes_few (r.at + r.count) rs fit.0.within fit.1 behind.1 in omega (arith, k, behind.0)
+pub runs_fit : (runs : List Known) (i : ℕ) (old out : List ℕ) → i ≡ length runs → AreRunsWritten runs old i out → FitMemory (map run_of runs)
+runs_fit runs i old out e inv = inv.fit (subst (λ (z : List ByteRun). FitMemory z) (sym (no_runs runs i e)) tt)

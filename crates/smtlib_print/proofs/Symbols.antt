@@ -6,7 +6,7 @@ use Rattle.bilv_spec.specs.SmtLib.{Sexp, Atom, Nil, declared_symbols, defined_sy
 use Rattle.machine_spec.specs.StateText.{Layout}
 use Rattle.walk_spec.specs.Terms.{TermNode}
 use Rattle.walk_spec.specs.Unrolled.{ByteRun}
-use Rattle.smtlib_print.specs.Commands.{term, definition, declaration, declarations, all_declarations, node_definitions, byte_definitions, run_definitions, bytes_of, middle_commands, all_commands, is_one, word_sort, array_sort}
+use Rattle.smtlib_print.specs.Commands.{term, definition, declaration, declarations, all_declarations, node_definitions, assertion, byte_assertions, run_assertions, middle_commands, all_commands, is_one, word_sort, array_sort}
 use Rattle.smtlib_print.specs.Written.{one, two, before}
 use Rattle.smtlib_print.proofs.Asserted.{before-append}
 
@@ -19,15 +19,15 @@ nodes_declare : (layout : Layout) (numbers : List ℕ) (at : ℕ) (ns : List Ter
 nodes_declare layout numbers at [] rest = refl
 nodes_declare layout numbers at (n ∷ ns) rest = nodes_declare layout numbers (suc at) ns rest
 
-bytes_declare : (r : ByteRun) (at i n : ℕ) (rest : Sexp) → declared_symbols (before (byte_definitions r at i n) rest) ≡ declared_symbols rest
-bytes_declare r at i zero rest = refl
-bytes_declare r at i (suc n) rest = bytes_declare r (suc at) (suc i) n rest
+bytes_declare : (r : ByteRun) (i n : ℕ) (rest : Sexp) → declared_symbols (before (byte_assertions r i n) rest) ≡ declared_symbols rest
+bytes_declare r i zero rest = refl
+bytes_declare r i (suc n) rest = bytes_declare r (suc i) n rest
 
-runs_declare : (at : ℕ) (rs : List ByteRun) (rest : Sexp) → declared_symbols (before (run_definitions at rs) rest) ≡ declared_symbols rest
-runs_declare at [] rest = refl
-runs_declare at (r ∷ rs) rest =
-    ap declared_symbols (before-append (byte_definitions r at 0 r.count) (run_definitions (at + r.count) rs) rest)
-    ∙ bytes_declare r at 0 r.count (before (run_definitions (at + r.count) rs) rest) ∙ runs_declare (at + r.count) rs rest
+runs_declare : (rs : List ByteRun) (rest : Sexp) → declared_symbols (before (run_assertions rs) rest) ≡ declared_symbols rest
+runs_declare [] rest = refl
+runs_declare (r ∷ rs) rest =
+    ap declared_symbols (before-append (byte_assertions r 0 r.count) (run_assertions rs) rest)
+    ∙ bytes_declare r 0 r.count (before (run_assertions rs) rest) ∙ runs_declare rs rest
 
 -- the declared symbols of a script: registers, flags, the memory, choices
 pub script_declares : (layout : Layout) (numbers : List ℕ) (choices : List (List ℕ)) (runs : List ByteRun) (nodes : List TermNode) (root : ℕ) →
@@ -36,8 +36,8 @@ pub script_declares : (layout : Layout) (numbers : List ℕ) (choices : List (Li
 script_declares layout numbers choices runs nodes root =
     let check = one (Atom (codes "check-sat")) in
     let n = length nodes in
-    let bytes = run_definitions n runs in
-    let last = two (Atom (codes "assert")) (term (n + bytes_of runs)) in
+    let bytes = run_assertions runs in
+    let last = assertion (term n) in
     let says = definition n (Atom (codes "Bool")) (is_one root) ∷ (bytes ++ (last ∷ [])) in
     let defined = node_definitions layout numbers 0 nodes in
     let declared = all_declarations layout choices in
@@ -51,7 +51,7 @@ script_declares layout numbers choices runs nodes root =
     let rest = before (defined ++ says) (one check) in
     let nothing : declared_symbols rest ≡ [] =
     ap declared_symbols (before-append defined says (one check)) ∙ nodes_declare layout numbers 0 nodes (before says (one check))
-    ∙ ap declared_symbols (before-append bytes (last ∷ []) (one check)) ∙ runs_declare n runs (two last check) in
+    ∙ ap declared_symbols (before-append bytes (last ∷ []) (one check)) ∙ runs_declare runs (two last check) in
     ap declared_symbols (before-append (declared ++ (defined ++ says)) (check ∷ []) Nil)
     ∙ ap declared_symbols (before-append declared (defined ++ says) (one check))
     ∙ ap declared_symbols (before-append rs (fs ++ ms) rest) ∙ declares_names s32 layout.registers (before (fs ++ ms) rest)
@@ -79,20 +79,18 @@ nodes_define : (layout : Layout) (numbers : List ℕ) (at : ℕ) (ns : List Term
 nodes_define layout numbers at [] rest h = h
 nodes_define layout numbers at (n ∷ ns) rest h = ((at, refl), nodes_define layout numbers (suc at) ns rest h)
 
-bytes_define : (r : ByteRun) (at i n : ℕ) (rest : Sexp) → AreTermNames (defined_symbols rest) →
-    AreTermNames (defined_symbols (before (byte_definitions r at i n) rest))
-bytes_define r at i zero rest h = h
-bytes_define r at i (suc n) rest h = ((suc at, refl), bytes_define r (suc at) (suc i) n rest h)
+bytes_define : (r : ByteRun) (i n : ℕ) (rest : Sexp) → AreTermNames (defined_symbols rest) → AreTermNames (defined_symbols (before (byte_assertions r i n) rest))
+bytes_define r i zero rest h = h
+bytes_define r i (suc n) rest h = bytes_define r (suc i) n rest h
 
 moved : (a b : Sexp) → a ≡ b → AreTermNames (defined_symbols b) → AreTermNames (defined_symbols a)
 moved a b e h = subst (λ (c : Sexp). AreTermNames (defined_symbols c)) (sym e) h
 
-runs_define : (at : ℕ) (rs : List ByteRun) (rest : Sexp) → AreTermNames (defined_symbols rest) →
-    AreTermNames (defined_symbols (before (run_definitions at rs) rest))
-runs_define at [] rest h = h
-runs_define at (r ∷ rs) rest h =
-    moved _ _ (before-append (byte_definitions r at 0 r.count) (run_definitions (at + r.count) rs) rest)
-    (bytes_define r at 0 r.count (before (run_definitions (at + r.count) rs) rest) (runs_define (at + r.count) rs rest h))
+runs_define : (rs : List ByteRun) (rest : Sexp) → AreTermNames (defined_symbols rest) → AreTermNames (defined_symbols (before (run_assertions rs) rest))
+runs_define [] rest h = h
+runs_define (r ∷ rs) rest h =
+    moved _ _ (before-append (byte_assertions r 0 r.count) (run_assertions rs) rest)
+    (bytes_define r 0 r.count (before (run_assertions rs) rest) (runs_define rs rest h))
 
 -- what a script defines
 pub script_defines : (layout : Layout) (numbers : List ℕ) (choices : List (List ℕ)) (runs : List ByteRun) (nodes : List TermNode) (root : ℕ) →
@@ -100,8 +98,8 @@ pub script_defines : (layout : Layout) (numbers : List ℕ) (choices : List (Lis
 script_defines layout numbers choices runs nodes root =
     let check = one (Atom (codes "check-sat")) in
     let n = length nodes in
-    let bytes = run_definitions n runs in
-    let last = two (Atom (codes "assert")) (term (n + bytes_of runs)) in
+    let bytes = run_assertions runs in
+    let last = assertion (term n) in
     let says = definition n (Atom (codes "Bool")) (is_one root) ∷ (bytes ++ (last ∷ [])) in
     let defined = node_definitions layout numbers 0 nodes in
     let declared = all_declarations layout choices in
@@ -124,5 +122,5 @@ script_defines layout numbers choices runs nodes root =
     (nodes_define layout numbers 0 nodes (before says (one check)) (
       (n, refl),
       moved (before (bytes ++ (last ∷ [])) (one check)) (before bytes (two last check)) (before-append bytes (last ∷ []) (one check))
-          (runs_define n runs (two last check) tt),
+          (runs_define runs (two last check) tt),
     ))))))))

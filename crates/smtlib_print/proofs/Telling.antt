@@ -17,7 +17,7 @@ use Rattle.walk_spec.specs.Terms.{TermNode, HasWidth}
 use Rattle.walk_spec.specs.Unrolled.{UnrolledProgram}
 use Rattle.walk_spec.specs.Unrolling.{IsLaidOut}
 use Rattle.walk_spec.specs.WalkQuestions.{TellsQuestion, term_reading}
-use Rattle.smtlib_print.specs.Commands.{drawn, word_sort, all_commands, all_declarations, middle_commands, bytes_of, held_runs, node_definitions, run_definitions}
+use Rattle.smtlib_print.specs.Commands.{drawn, word_sort, all_commands, all_declarations, middle_commands, held_runs, node_definitions, run_assertions}
 use Rattle.smtlib_print.specs.Written.{written, commands_text, before}
 use Rattle.smtlib_print.specs.Told.{AreInOrder, IsDrawn, IsSymbolOf, TellsScript}
 use Rattle.smtlib_print.specs.Scripted.{AreBehind, AreNumbers, FitMemory}
@@ -80,7 +80,7 @@ module _ (u : UnrolledProgram) (layout : Layout) (usable : IsUsable layout) (lai
     (are : AreNumbers u points numbers)
     (nodes : List TermNode) (root : ℕ) (question : Question) (tells : TellsQuestion u question (record { nodes = nodes; root = root }))
     (few : length nodes < 2 ^ 32)
-    (fit : FitMemory u.known) (behind : AreBehind 0 u.known) (small : bytes_of u.known < 2 ^ 62) where
+    (fit : FitMemory u.known) (behind : AreBehind 0 u.known) where
   abbrev choices : List (List ℕ)
   choices = drawn numbers (map (λ q. q.draws) u.points)
 
@@ -92,8 +92,8 @@ module _ (u : UnrolledProgram) (layout : Layout) (usable : IsUsable layout) (lai
   truth r is =
       truth_is (values_of layout points r) (before (all_commands middle) Nil)
       ∙ whole_truth u layout usable points numbers are r is nodes root tells.terms.typed few tells.root
-      (are_inputs u layout usable laid points numbers are r is nodes tells.terms.named) u.known fit small
-      ∙ ap Some (and_true (held_runs r.state.mem u.known (terms.term_word (term_reading u r) nodes root == 1)))
+      (are_inputs u layout usable laid points numbers are r is nodes tells.terms.named) u.known fit
+      ∙ ap (λ b. Some (held_runs r.state.mem u.known b)) (and_true (terms.term_word (term_reading u r) nodes root == 1))
 
   declared_writable : AreWritable (all_declarations layout choices)
   declared_writable =
@@ -116,8 +116,7 @@ module _ (u : UnrolledProgram) (layout : Layout) (usable : IsUsable layout) (lai
         (nodes_writable layout numbers [] nodes 0 refl (omega (arith, few)) tt tells.terms.typed
         (have_words u layout usable laid points numbers are nodes tells.terms.named)) (
           (refl, (term_word (length nodes) (omega (arith, few)), (tt, (refl, ((refl, (term_word root (omega (arith, few, tells.root.0)), (refl, tt))), tt))))),
-          AreWritable-append (run_definitions (length nodes) u.known) _ (runs_writable u.known (length nodes) (omega (arith, few, small)))
-              ((refl, (term_word (length nodes + bytes_of u.known) (omega (arith, few, small)), tt)), tt),
+          AreWritable-append (run_assertions u.known) _ (runs_writable u.known) ((refl, (term_word (length nodes) (omega (arith, few)), tt)), tt),
         )))
         ((refl, tt), tt),
   )

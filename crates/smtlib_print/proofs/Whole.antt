@@ -12,10 +12,10 @@ use Rattle.walk_spec.specs.Terms as terms
 use Rattle.walk_spec.specs.Terms.{TermReading, InRange, TermNode, HasWidth, AreTyped}
 use Rattle.walk_spec.specs.Unrolled.{ByteRun, UnrolledProgram, point_at}
 use Rattle.walk_spec.specs.WalkQuestions.{term_reading}
-use Rattle.smtlib_print.specs.Commands.{term_name, term, word_sort, array_sort, declaration, declarations, drawn, all_declarations, node_definitions, run_definitions, definition, is_one, bytes_of, held_runs, middle_commands, all_commands}
+use Rattle.smtlib_print.specs.Commands.{term_name, term, word_sort, array_sort, declaration, declarations, drawn, all_declarations, node_definitions, run_assertions, definition, assertion, is_one, held_runs, middle_commands, all_commands}
 use Rattle.smtlib_print.specs.Scripted.{AreNumbers, FitMemory}
 use Rattle.smtlib_print.specs.Written.{one, two, before}
-use Rattle.smtlib_print.proofs.Asserted.{before-append, judge_runs, assertion_truth, root_step}
+use Rattle.smtlib_print.proofs.Asserted.{before-append, assert_runs, assertion_truth, root_step}
 use Rattle.smtlib_print.proofs.Declared.{are_new, AreSorted, IsSorted, IsDeclaring, declare_all, onto, onto_none, onto_done}
 use Rattle.smtlib_print.proofs.Defined.{among, Apart, Stands, IsNamed, AreInputsOf, define_nodes, bound_here, stands_on}
 use Rattle.smtlib_print.proofs.Drawn.{drawn_sorted, drawn_new, drawn_apart}
@@ -135,7 +135,7 @@ module _ (u : UnrolledProgram) (layout : Layout) (usable : IsUsable layout) (poi
 
   module _ (nodes : List TermNode) (root : ℕ) (typed : AreTyped nodes) (few : length nodes < 2 ^ 32) (root_is : HasWidth nodes 1 root)
       (inputs : AreInputsOf (values_of layout points r) (declared_names layout choices) layout numbers (term_reading u r) nodes)
-      (runs : List ByteRun) (fit : FitMemory runs) (small : bytes_of runs < 2 ^ 62) where
+      (runs : List ByteRun) (fit : FitMemory runs) where
     -- the memory is a symbol
     memory_named : IsNamed (values_of layout points r) (declared_names layout choices) (codes "mem") (ArrayValue r.state.mem)
     memory_named = record {
@@ -146,7 +146,7 @@ module _ (u : UnrolledProgram) (layout : Layout) (usable : IsUsable layout) (poi
 
     -- what the script says: the bit is 1, and the bytes are those of the runs
     pub whole_truth : truth_of (values_of layout points r) (λ w. None) (before (all_commands (middle_commands layout numbers choices runs nodes root)) Nil)
-        ≡ Some (held_runs r.state.mem runs (terms.term_word (term_reading u r) nodes root == 1) && true)
+        ≡ Some (held_runs r.state.mem runs ((terms.term_word (term_reading u r) nodes root == 1) && true))
     whole_truth =
         let m = values_of layout points r in
         let names = declared_names layout choices in
@@ -162,11 +162,10 @@ module _ (u : UnrolledProgram) (layout : Layout) (usable : IsUsable layout) (poi
         ∙ subst (λ (k : ℕ). reached.after (term_name root) ≡ Some (WordValue k word)) root_is.1
         ((reached.knows.terms root root_is.0).word (omega (arith, root_is.1))) in
         let after_root = binds reached.after (term_name n) (TruthValue (word == 1)) in
-        let judged = judge_runs m names r.state.mem apart memory_named runs fit n (word == 1) after_root (omega (arith, few, small))
-        (stands_on m reached.after names n (TruthValue (word == 1)) apart (omega (arith, few)) there) (bound_here reached.after n (TruthValue (word == 1))) in
+        let stays = stands_on m reached.after names n (TruthValue (word == 1)) apart (omega (arith, few)) there in
         let check = one (Atom (codes "check-sat")) in
-        let last = two (Atom (codes "assert")) (term (n + bytes_of runs)) in
-        let bytes = run_definitions n runs in
+        let last = assertion (term n) in
+        let bytes = run_assertions runs in
         let truth = definition n (Atom (codes "Bool")) (is_one root) in
         let says = truth ∷ (bytes ++ (last ∷ [])) in
         let defined = node_definitions layout numbers 0 nodes in
@@ -179,5 +178,5 @@ module _ (u : UnrolledProgram) (layout : Layout) (usable : IsUsable layout) (poi
         ∙ reached.runs (before says (one check))
         ∙ root_step m reached.after n root word (before (bytes ++ (last ∷ [])) (one check)) (there.fresh n (omega arith) (omega (arith, few))) bit
         ∙ ap (truth_of m after_root) (before-append bytes (last ∷ []) (one check))
-        ∙ judged.runs (two last check)
-        ∙ assertion_truth m judged.after (n + bytes_of runs) (held_runs r.state.mem runs (word == 1)) (omega (arith, few, small)) judged.truth
+        ∙ assert_runs m after_root names r.state.mem memory_named (suc n) stays runs fit (two last check) ((word == 1) && true)
+        (assertion_truth m after_root n (word == 1) (omega (arith, few)) (bound_here reached.after n (TruthValue (word == 1))))

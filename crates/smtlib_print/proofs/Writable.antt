@@ -15,7 +15,7 @@ use Rattle.walk_spec.specs.Terms.{TermNode, HasWidth, IsTypedOver, AreTypedFrom,
 use Rattle.walk_spec.specs.Unrolled.{ByteRun}
 use Rattle.term_dag.proofs.ListLaws.{last, longer, typed_push}
 use Rattle.term_dag.proofs.Shapes.{few_bits}
-use Rattle.smtlib_print.specs.Commands.{binary_digits, constant_text, operation, behind, loading, storing, extract, extend, node_term, sort_of, node_definitions, has_byte, further, byte_definitions, run_definitions, bytes_of, declarations, selected, choose}
+use Rattle.smtlib_print.specs.Commands.{binary_digits, constant_text, operation, behind, loading, storing, extract, extend, node_term, sort_of, node_definitions, assertion, has_byte, byte_assertions, run_assertions, declarations, selected, choose}
 use Rattle.smtlib_print.proofs.Names.{number_word, term_word}
 use Rattle.smtlib_print.proofs.ReadBack.{is_inner, is_word, IsWritable, AreWritable, AreWritable-append}
 
@@ -166,42 +166,16 @@ nodes_writable layout numbers bs (n ∷ ns) at e s t f w =
       nodes_writable layout numbers (bs ++ n ∷ []) ns (suc at) (omega (arith, l, e)) (omega (arith, l, s)) whole f.1 w.1,
     )
 
-byte_writable : (at a v : ℕ) → at < 2 ^ 63 → IsWritable (further at (has_byte a v))
-byte_writable at a v h = (
-  refl,
-  (
-    term_word (suc at) (omega (arith, h)),
-    (
-      tt,
-      (
-        refl,
-        (
-          (
-            refl,
-            (
-              term_word at (omega (arith, h)),
-              ((refl, ((refl, (refl, (hex_inners 8 a, tt))), (hex_inners 2 v, tt))), tt),
-            ),
-          ),
-          tt,
-        ),
-      ),
-    ),
-  ),
-)
+byte_writable : (a v : ℕ) → IsWritable (assertion (has_byte a v))
+byte_writable a v = (refl, ((refl, ((refl, (refl, (hex_inners 8 a, tt))), (hex_inners 2 v, tt))), tt))
 
-bytes_writable : (r : ByteRun) (n i at : ℕ) → at + n < 2 ^ 63 → AreWritable (byte_definitions r at i n)
-bytes_writable r zero i at h = tt
-bytes_writable r (suc n) i at h = (
-  byte_writable at (r.at + i) (slice_index r.bytes i) (omega (arith, h)),
-  bytes_writable r n (suc i) (suc at) (omega (arith, h)),
-)
+bytes_writable : (r : ByteRun) (n i : ℕ) → AreWritable (byte_assertions r i n)
+bytes_writable r zero i = tt
+bytes_writable r (suc n) i = (byte_writable (r.at + i) (slice_index r.bytes i), bytes_writable r n (suc i))
 
-pub runs_writable : (rs : List ByteRun) (at : ℕ) → at + bytes_of rs < 2 ^ 63 → AreWritable (run_definitions at rs)
-runs_writable [] at h = tt
-runs_writable (r ∷ rs) at h =
-    AreWritable-append (byte_definitions r at 0 r.count) (run_definitions (at + r.count) rs) (bytes_writable r r.count 0 at (omega (arith, h)))
-    (runs_writable rs (at + r.count) (omega (arith, h)))
+pub runs_writable : (rs : List ByteRun) → AreWritable (run_assertions rs)
+runs_writable [] = tt
+runs_writable (r ∷ rs) = AreWritable-append (byte_assertions r 0 r.count) (run_assertions rs) (bytes_writable r r.count 0) (runs_writable rs)
 
 -- each name is a word
 abbrev pub AreWords : List (List ℕ) → Type 0

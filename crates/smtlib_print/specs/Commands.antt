@@ -158,24 +158,19 @@ node_definitions layout numbers at (n ∷ ns) = definition at (sort_of (width_of
 abbrev pub has_byte : (a v : ℕ) → Sexp
 has_byte a v = three (Atom (codes "=")) (three (Atom (codes "select")) (Atom (codes "mem")) (address a)) (byte v)
 
--- a term at a place: the one before it is true, and so is this
-abbrev pub further : (at : ℕ) → Sexp → Sexp
-further at says = definition (suc at) (Atom (codes "Bool")) (three (Atom (codes "and")) (term at) says)
+-- an assertion
+abbrev pub assertion : Sexp → Sexp
+assertion says = two (Atom (codes "assert")) says
 
--- the definitions for so many bytes of a run from a distance on, behind a place
-abbrev pub byte_definitions : ByteRun → (at distance count : ℕ) → List Sexp
-byte_definitions run at i zero = []
-byte_definitions run at i (suc n) = further at (has_byte (run.at + i) (slice_index run.bytes i)) ∷ byte_definitions run (suc at) (suc i) n
+-- the assertions of so many bytes of a run from a distance on
+abbrev pub byte_assertions : ByteRun → (distance count : ℕ) → List Sexp
+byte_assertions run i zero = []
+byte_assertions run i (suc n) = assertion (has_byte (run.at + i) (slice_index run.bytes i)) ∷ byte_assertions run (suc i) n
 
--- the definitions for runs, behind a place
-abbrev pub run_definitions : (at : ℕ) → List ByteRun → List Sexp
-run_definitions at [] = []
-run_definitions at (r ∷ rest) = byte_definitions r at 0 r.count ++ run_definitions (at + r.count) rest
-
--- how many bytes runs have
-abbrev pub bytes_of : List ByteRun → ℕ
-bytes_of [] = 0
-bytes_of (r ∷ rest) = r.count + bytes_of rest
+-- the assertions of the bytes of runs
+abbrev pub run_assertions : List ByteRun → List Sexp
+run_assertions [] = []
+run_assertions (r ∷ rest) = byte_assertions r 0 r.count ++ run_assertions rest
 
 -- a declaration
 abbrev pub declaration : List ℕ → (sort : Sexp) → Sexp
@@ -204,18 +199,18 @@ middle_commands layout numbers choices runs nodes root =
     all_declarations layout choices
     ++ (node_definitions layout numbers 0 nodes
     ++ (definition (length nodes) (Atom (codes "Bool")) (is_one root)
-    ∷ (run_definitions (length nodes) runs ++ (two (Atom (codes "assert")) (term (length nodes + bytes_of runs)) ∷ []))))
+    ∷ (run_assertions runs ++ (assertion (term (length nodes)) ∷ []))))
 
 -- the commands of a script
 abbrev pub all_commands : List Sexp → List Sexp
 all_commands middle = two (Atom (codes "set-logic")) (Atom (codes "QF_ABV")) ∷ (middle ++ (one (Atom (codes "check-sat")) ∷ []))
 
--- whether the bytes of a run from a distance on are in the memory, after a truth value
+-- whether the bytes of a run from a distance on are in the memory, and what comes after them is true
 abbrev pub held_bytes : (mem : ℕ → ℕ) → ByteRun → (distance count : ℕ) → Bool → Bool
 held_bytes mem run i zero b = b
-held_bytes mem run i (suc n) b = held_bytes mem run (suc i) n (b && (mem (run.at + i) == slice_index run.bytes i))
+held_bytes mem run i (suc n) b = (mem (run.at + i) == slice_index run.bytes i) && held_bytes mem run (suc i) n b
 
 -- whether the bytes of runs are
 abbrev pub held_runs : (mem : ℕ → ℕ) → List ByteRun → Bool → Bool
 held_runs mem [] b = b
-held_runs mem (r ∷ rest) b = held_runs mem rest (held_bytes mem r 0 r.count b)
+held_runs mem (r ∷ rest) b = held_bytes mem r 0 r.count (held_runs mem rest b)

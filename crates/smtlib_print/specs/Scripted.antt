@@ -9,7 +9,7 @@ use Rattle.walk_spec.specs.Unrolling.{IsLaidOut}
 use Rattle.walk_spec.specs.WalkQuestions.{TellsQuestion}
 use Rattle.state_text.specs.declared.layout.Layout.{Layout}
 use Rattle.state_text.specs.Starts.{layout_of}
-use Rattle.smtlib_print.specs.Commands.{all_commands, bytes_of, drawn, middle_commands}
+use Rattle.smtlib_print.specs.Commands.{all_commands, drawn, middle_commands}
 use Rattle.smtlib_print.specs.Told.{AreInOrder, TellsScript}
 use Rattle.smtlib_print.specs.Written.{commands_text}
 
@@ -47,5 +47,5 @@ abbrev pub ScriptsTell : Type 0
 ScriptsTell = (u : UnrolledProgram) (form : Layout) (points : List Point) (numbers : List ℕ) (question : Question) (nodes : List TermNode) (root : ℕ) →
     IsLaidOut (layout_of form) u → AreInOrder u points → AreNumbers u points numbers → TellsQuestion u question (record { nodes = nodes; root = root }) →
     length nodes < 2 ^ 32 →
-    FitMemory u.known → AreBehind 0 u.known → bytes_of u.known < 2 ^ 62 →
+    FitMemory u.known → AreBehind 0 u.known →
     TellsScript u (layout_of form) question (script_text (layout_of form) u numbers nodes root)

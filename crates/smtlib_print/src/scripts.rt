@@ -1,6 +1,5 @@
 //! The script of a question.
 ghost use Rattle.std.specs.Prelude.{◌≡◌, ◌<◌, ◌^◌, ◌++◌, codes, length, map, string_bytes, IfOk, OnOk};
-ghost use Rattle.bilv_spec.specs.SmtLib.{Atom};
 ghost use Rattle.walk_spec.specs.WalkQuestions.{TellsQuestion};
 ghost use Rattle.state_text.specs.Starts.{layout_of};
 ghost use Rattle.known_bytes.specs.Runs.{AreRuns};
@@ -10,7 +9,7 @@ ghost use Rattle.smtlib_print.specs.Commands as commands;
 ghost use Rattle.smtlib_print.specs.Numbered.{AreApart};
 ghost use Rattle.smtlib_print.specs.Scripted.{FitMemory, script_text};
 ghost use Rattle.smtlib_print.specs.Told.{TellsScript};
-ghost use Rattle.smtlib_print.specs.Written.{commands_text, two, written};
+ghost use Rattle.smtlib_print.specs.Written.{commands_text, written};
 
 use crate::declarations::{declare_choices, declare_flags, declare_registers};
 use crate::definitions::{push_definitions, push_root};
@@ -41,7 +40,7 @@ fn push_head(out: &mut String, unrolled: &Unrolled, numbers: &[u32]) -> Result<(
 /// Appends the assertion of the definition at a place, and the check.
 fn push_check(out: &mut String, place: usize) -> Result<(), AllocError>
     ensures { OnOk result (string_bytes out.new ≡ string_bytes out.old
-        ++ (written (two (Atom (codes "assert")) (commands.term place)) ++ codes "\n(check-sat)\n")) }
+        ++ (written (commands.assertion (commands.term place)) ++ codes "\n(check-sat)\n")) }
 {
     write!(out, "(assert t{place})\n(check-sat)\n")
 }
@@ -72,8 +71,8 @@ fn text_of(alloc: Global, question: &Question, numbers: &[u32]) -> Result<String
         count as u32,
     )?;
     push_root(&mut out, count, question.root)?;
-    let last = push_runs(&mut out, count, &unrolled.known)?;
-    push_check(&mut out, last)?;
+    push_runs(&mut out, &unrolled.known)?;
+    push_check(&mut out, count)?;
     Ok(out)
 }
 

@@ -104,7 +104,7 @@ pub fn push_register(out: &mut String, form: Layout, register: u8) -> Result<(),
     ensures { OnOk result (string_bytes out.new ≡ string_bytes out.old ++ slice_index_or (layout_of form).registers (register - (layout_of form).first) []) }
 {
     match form {
-        Layout::Rv32 => write!(out, "x{register}"),
+        Layout::Rv32 { .. } => write!(out, "x{register}"),
         Layout::Arm { .. } => write!(out, "r{register}"),
     }
 }
@@ -128,7 +128,7 @@ pub fn flag_name(form: Layout, flag: u8) -> &'static str
     ensures { result.now ≡ slice_index_or (layout_of form).flags (length (layout_of form).flags - 1 - flag) [] }
 {
     match form {
-        Layout::Rv32 => unreachable!(),
+        Layout::Rv32 { .. } => unreachable!(),
         Layout::Arm { .. } => arm_flag(flag),
     }
 }

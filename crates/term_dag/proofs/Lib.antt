@@ -13,3 +13,4 @@ pub mod Cubes
 pub mod Joins
 pub mod Bytes
 pub mod Prefixes
+pub mod LowBits

@@ -1,5 +1,5 @@
 -- Terms for a state as those of the definitions.
-use Rattle.std.specs.Prelude.{◌≡◌, [], length, map}
+use Rattle.std.specs.Prelude.{◌≡◌, false, [], length, map}
 use Rattle.word_spec.specs.Memory.{Little}
 use Rattle.word_spec.specs.RowFiles.{from_to}
 use Rattle.walk_spec.specs.Passive as walk
@@ -14,6 +14,7 @@ names_of n = record { registers = map (λ t. t.0) n.registers.items; flags = map
 abbrev pub form_of : Names → UnrolledProgram
 form_of n = record {
   endian = Little;
+  narrow = false;
   registers = from_to n.first (length n.registers.items);
   flags = length n.flags.items;
   link = 0;

@@ -85,8 +85,8 @@ frame_keeps frames rest (suc i) f e = keeps frames rest i f e
 called_keeps : (n : Node) (stack : ℕ) (frames rest grown : List Frame) (called : ℕ) → grown ≡ frames ++ rest → IsCalledBy n stack frames called →
     IsCalledBy n stack grown called
 called_keeps n stack frames rest grown called is by x c l =
-    subst (λ (z : List Frame). frame_at z called ≡ Some (frame (add 32 n.at 4) stack)) (sym is)
-    (frame_keeps frames rest called (frame (add 32 n.at 4) stack) (by x c l))
+    subst (λ (z : List Frame). frame_at z called ≡ Some (frame (add 32 n.at n.length) stack)) (sym is)
+    (frame_keeps frames rest called (frame (add 32 n.at n.length) stack) (by x c l))
 
 pub called_more : (g : Graph) (keys : List ℕ) (frames grown : List Frame) (i : ℕ) (found more : List ℕ) (n : Node) (number : ℕ) →
     AreCalled g keys frames i found
@@ -121,15 +121,15 @@ called_more g keys frames grown i found more n number are is among at called =
     grown_by = push_length found more number is
 
 -- the edges of a point, from those to its targets and the one out of the function
-pub led_all : (n : Node) (frames : List Frame) (keys : List ℕ) (own called : ℕ) (jumps : List End) (next : Option End) (both : Bool) (targets : List ℕ)
+pub led_all : (narrow : Bool) (n : Node) (frames : List Frame) (keys : List ℕ) (own called : ℕ) (jumps : List End) (next : Option End) (both : Bool) (targets : List ℕ)
     (old mid new : List Edge)
-    → jumps ≡ jumps_of n (frame_at frames (stack_of own)) (stack_of own) called → next ≡ next_of n (stack_of own) → both ≡ is_both jumps next →
+    → jumps ≡ jumps_of narrow n (frame_at frames (stack_of own)) (stack_of own) called → next ≡ next_of n (stack_of own) → both ≡ is_both jumps next →
     IsStrictlyIncreasing targets
     → ((x : ℕ) → Contains (map (target_key own) (jumps ++ listed next)) x ↔ Contains targets x) →
     ((e : End) → Contains jumps e → (e.at < 4294967296) × (e.stack < 18446744073709551616)) → mid ≡ old ++ exits_by n.returns (stack_of own) →
     AreAddedTo keys next both targets mid new
-    → HasLed n frames keys own called old new
-led_all n frames keys own called jumps next both targets old mid new e f g rise same small exit so = (
+    → HasLed narrow n frames keys own called old new
+led_all narrow n frames keys own called jumps next both targets old mid new e f g rise same small exit so = (
   exits_by n.returns (stack_of own) ++ so.0,
   so.1 ∙ ap (λ (l : List Edge). l ++ so.0) exit ∙ regroup old (exits_by n.returns (stack_of own)) so.0,
   record {

@@ -7,7 +7,7 @@ use Rattle.machine_spec.specs.Machine.{Row}
 use Rattle.machine_spec.specs.MachineLaws.{IsLawful, IsLifting}
 use Rattle.machine_spec.specs.Bil.{Bank, Statements}
 use Rattle.bilv_spec.specs.Run.{Program, fetchable}
-use Rattle.bilv_spec.specs.Points.{file_row, file_word, row_price, loads_at, stores_at}
+use Rattle.bilv_spec.specs.Points.{file_row, file_word, file_number, row_price, loads_at, stores_at}
 use Rattle.bil_ast.specs.declared.statements.Stmt.{Stmt}
 use Rattle.bil_ast.specs.Views.{statements}
 use Rattle.bil_trim.specs.Flags.{kept_in, with_flags}
@@ -34,13 +34,14 @@ row_of_word false o r h = absurd (cc)
 pub word_row : (p : Program) (n : Node) (v : ℕ) → IsNode p n → n.word ≡ Some v → (r : Row) × (file_row p n.at ≡ Some r) × (p.machine.row v ≡ Some r)
 word_row p n v is h =
     let q = some_word (file_row p n.at) (file_word p n.at) v (sym is.word ∙ h) in
-    (q.0, q.1, ap p.machine.row (sym q.2) ∙ row_of_word (fetchable p n.at) (p.machine.row (file_word p n.at)) q.0 q.1)
+    (q.0, q.1, ap p.machine.row (sym q.2) ∙ row_of_word (fetchable p (file_word p n.at) n.at) (p.machine.row (file_word p n.at)) q.0 q.1)
 
 pub bare_code : (p : Program) (bank : Bank) (n : Node) (asserts : ℕ × ℕ) (c : Code) → IsNode p n → file_row p n.at ≡ None →
-    c ≡ record { at = n.at; fetchable = n.fetchable; list = None; draws = false; row = 64; loads = 0; stores = 0; asserts = asserts } → IsRowCode p bank c
+    c ≡ record { at = n.at; length = n.length; fetchable = n.fetchable; list = None; draws = false; row = 64; loads = 0; stores = 0; asserts = asserts } → IsRowCode p bank c
 bare_code p bank n asserts c is none e =
     subst (λ (z : Code). IsRowCode p bank z) (sym e)
     (record {
+      length = is.length;
       fetchable = is.fetchable;
       list = subst (λ (o : Option Row). IsListedAt p bank o n.at None) (sym none) tt;
       draws = ap row_draws (sym none);
@@ -51,7 +52,7 @@ bare_code p bank n asserts c is none e =
     })
 
 pub no_word : (p : Program) (bank : Bank) (n : Node) (asserts : ℕ × ℕ) (c : Code) → IsNode p n → n.word ≡ None →
-    c ≡ record { at = n.at; fetchable = n.fetchable; list = None; draws = false; row = 64; loads = 0; stores = 0; asserts = asserts } → IsRowCode p bank c
+    c ≡ record { at = n.at; length = n.length; fetchable = n.fetchable; list = None; draws = false; row = 64; loads = 0; stores = 0; asserts = asserts } → IsRowCode p bank c
 no_word p bank n asserts c is h e = bare_code p bank n asserts c is (none_word (file_row p n.at) (file_word p n.at) (sym is.word ∙ h)) e
 
 pub lifted_code : (p : Program) (bank : Bank) (n : Node) (r : Row) (list : Vec Stmt) (draws : Bool) (row loads stores : ℕ) (asserts : ℕ × ℕ) → IsNode p n →
@@ -60,6 +61,7 @@ pub lifted_code : (p : Program) (bank : Bank) (n : Node) (r : Row) (list : Vec S
     stores ≡ r.cost.stores →
     IsRowCode p bank (record {
       at = n.at;
+      length = n.length;
       fetchable = n.fetchable;
       list = Some list;
       draws = draws;
@@ -70,6 +72,7 @@ pub lifted_code : (p : Program) (bank : Bank) (n : Node) (r : Row) (list : Vec S
     })
 lifted_code p bank n r list draws row loads stores asserts is some lawful listed d a b e =
     record {
+      length = is.length;
       fetchable = is.fetchable;
       list = subst (λ (o : Option Row). IsListedAt p bank o n.at (Some list)) (sym some) listed;
       draws = d ∙ ap row_draws (sym some);
@@ -103,7 +106,7 @@ plain_list p bank r n lifted list lifting kept is k = record {
 -- a list with the constant of a kept literal
 pub literal_list : (p : Program) (bank : Bank) (r : Row) (n : Node) (place a v : ℕ) (o : Endian) (lifted trimmed list : Statements) →
     IsLifting p.machine bank r n.at lifted → IsKeptLive p n → trimmed ≡ with_flags (kept_in n.keeps) lifted →
-    Some place ≡ kept_literal p (r.literal n.at) → list ≡ with_literal o a v trimmed → o ≡ p.machine.endian → a ≡ place → v ≡ file_word p place → v < 2 ^ 32 →
+    Some place ≡ kept_literal p (r.literal n.at) → list ≡ with_literal o a v trimmed → o ≡ p.machine.endian → a ≡ place → v ≡ file_number p place → v < 2 ^ 32 →
     IsListAt p bank r n.at list
 literal_list p bank r n place a v o lifted trimmed list lifting kept without k is order here value small = record {
   lifted = lifted;
@@ -116,7 +119,7 @@ literal_list p bank r n place a v o lifted trimmed list lifting kept without k i
       ∙ ap (λ (z : Statements). list_with p (kept_literal p (r.literal n.at)) z) without;
   word = λ x h.
       let same = one_place place x (k ∙ h) in
-      subst (λ (z : ℕ). file_word p z < 2 ^ 32) same (subst (λ (z : ℕ). z < 2 ^ 32) value small);
+      subst (λ (z : ℕ). file_number p z < 2 ^ 32) same (subst (λ (z : ℕ). z < 2 ^ 32) value small);
 }
   where
     one_place : (x y : ℕ) → Some x ≡ Some y → x ≡ y

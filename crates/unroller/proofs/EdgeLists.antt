@@ -43,7 +43,7 @@ apart_once (x ∷ xs) a (suc i) (suc j) l h e = apart_once xs a.1 i j (omega ari
 pub ends_make_edges : EndsMakeEdges
 ends_make_edges p point ends same once first =
     let own : List EdgeEnd = edges p point in
-    let own_once = apart_once own (apart_distinct (filter leads_on (edges_by p point (file_row p point.at)))) in
+    let own_once = apart_once own (apart_distinct (filter (leads_on p.machine.narrow) (edges_by p point (file_row p point.at)))) in
     let a = no_longer own ends (λ t h. (same t).1 h) once ToExit in
     let b = no_longer ends own (λ t h. (same t).0 h) own_once ToExit in
     record { same = same; count = omega arith; exit_first = first }
@@ -118,9 +118,9 @@ pub exits_are_returns : ExitsAreReturns
 exits_are_returns p turns at stack = (
   (λ h.
       let all = edges_by p (record { turns = turns; stack = stack; at = at }) (file_row p at) in
-      exit_by p turns at stack (file_row p at) (of_filter leads_on all ToExit (of_distinct (filter leads_on all) ToExit h)).0),
+      exit_by p turns at stack (file_row p at) (of_filter (leads_on p.machine.narrow) all ToExit (of_distinct (filter (leads_on p.machine.narrow) all) ToExit h)).0),
   (λ h.
       subst (λ (z : List ℕ). Contains (edges p (record { turns = turns; stack = z; at = at })) ToExit) (sym h.1)
       (let all = edges_by p (record { turns = turns; stack = []; at = at }) (file_row p at) in
-      in_distinct (filter leads_on all) ToExit (in_filter leads_on all ToExit (exit_into p turns at (file_row p at) h.0) refl))),
+      in_distinct (filter (leads_on p.machine.narrow) all) ToExit (in_filter (leads_on p.machine.narrow) all ToExit (exit_into p turns at (file_row p at) h.0) refl))),
 )

@@ -3,18 +3,17 @@ use Rattle.std.proofs.Common.{◌≡◌, inl, inr, refl, ap, sym, ◌∙◌, sub
 use Rattle.std.specs.Prelude.{Contains, ◌↔◌, ◌||◌, not, filter, if◌then◌else◌}
 use Rattle.std.specs.List.{filter_map, cons_option}
 use Rattle.std.specs.BTreeMap.{BTreeMap}
-use Rattle.std.proofs.lemmas.Bool.Decides.{nat_tests}
 use Rattle.word_spec.specs.Words.{add}
-use Rattle.machine_spec.specs.Machine.{Row}
+use Rattle.machine_spec.specs.Machine.{Row, unit, IsAtPlace}
 use Rattle.bilv_spec.specs.Run.{Program}
 use Rattle.bilv_spec.specs.Points.{Point, EdgeEnd, ToAddress, edges, edges_by, leads_on, fall_ends, jump_ends, file_row}
-use Rattle.bilv_spec.proofs.PointSteps.{there, in_left, in_right}
+use Rattle.bilv_spec.proofs.PointSteps.{same_number, there, in_left, in_right}
 use Rattle.bilv_spec.proofs.PointsInGraph.{split_in, of_filter, of_distinct}
 use Rattle.graph_nodes.specs.declared.nodes.Node.{Node}
 use Rattle.graph_nodes.specs.declared.nodes.Letter.{Letter}
 use Rattle.graph_nodes.specs.declared.nodes.Letter.TheVariants.{Next, Jump, Call, Return}
 use Rattle.graph_nodes.specs.declared.nodes.Successor.{Successor}
-use Rattle.graph_nodes.specs.Graphs.{IsNode}
+use Rattle.graph_nodes.specs.Graphs.{IsNode, row_length}
 use Rattle.program_points.specs.declared.values.Frame.{Frame}
 use Rattle.program_points.specs.declared.values.End.{End}
 use Rattle.program_points.specs.Listed.{HasOneWay}
@@ -100,8 +99,8 @@ one_fall true stack a c (zero, w, e) = (let q : ToAddress stack a ≡ ToAddress 
 one_fall true stack a c (suc i, w, e) = absurd (omega arith)
 one_fall false stack a c (i, w, e) = absurd (omega arith)
 
-multiple : (a : ℕ) → leads_on (ToAddress [] a) ≡ true → a % 4 ≡ 0
-multiple a h = grind (arith, nat_tests)
+multiple : (narrow : Bool) (a : ℕ) → leads_on narrow (ToAddress [] a) ≡ true → IsAtPlace narrow a
+multiple narrow a h = same_number (a % unit narrow) 0 h
 
 module _ (p : Program) (n : Node) (frames : List Frame) (numbers : BTreeMap (ℕ ×
     ℕ) ℕ) (turns stack called : ℕ) (row : Row) (is : IsNode p n) (way : HasOneWay p) (table : IsTable frames numbers)
@@ -110,7 +109,7 @@ module _ (p : Program) (n : Node) (frames : List Frame) (numbers : BTreeMap (ℕ
   f = frame_at frames stack
 
   abbrev jumps : List End
-  jumps = jumps_of n f stack called
+  jumps = jumps_of p.machine.narrow n f stack called
 
   abbrev all : List End
   all = jumps ++ listed (next_of n stack)
@@ -121,75 +120,75 @@ module _ (p : Program) (n : Node) (frames : List Frame) (numbers : BTreeMap (ℕ
   abbrev end_at : End → EdgeEnd
   end_at e = ToAddress (stack_at frames e.stack) e.at
 
-  jump_in : (e : End) → Contains jumps e → Contains (ends_of n f stack called) e
+  jump_in : (e : End) → Contains jumps e → Contains (ends_of p.machine.narrow n f stack called) e
   jump_in e h = elim (split_in (filter_map (successor_end n.returns f stack called) (filter (λ s. not (is_next s.letter)) n.successors.items))
-      (listed (back_end n.returns f)) e h) [
-        | inl q ↦ in_left (filter_map (successor_end n.returns f stack called) n.successors.items) (listed (back_end n.returns f)) e
+      (listed (back_end p.machine.narrow n.returns f)) e h) [
+        | inl q ↦ in_left (filter_map (successor_end n.returns f stack called) n.successors.items) (listed (back_end p.machine.narrow n.returns f)) e
             (more_ends (successor_end n.returns f stack called) (λ s. not (is_next s.letter)) n.successors.items e q)
-        | inr q ↦ in_right (filter_map (successor_end n.returns f stack called) n.successors.items) (listed (back_end n.returns f)) e q
+        | inr q ↦ in_right (filter_map (successor_end n.returns f stack called) n.successors.items) (listed (back_end p.machine.narrow n.returns f)) e q
       ]
 
-  edge_of_end : (e : End) → Contains (ends_of n f stack called) e → Contains (edges p point) (end_at e)
+  edge_of_end : (e : End) → Contains (ends_of p.machine.narrow n f stack called) e → Contains (edges p point) (end_at e)
   edge_of_end e h = (ends_are p n frames turns stack called is way table.below fits calls (stack_at frames e.stack) e.at).1 (e, h, refl, refl)
 
-  end_four : (e : End) → Contains (ends_of n f stack called) e → e.at % 4 ≡ 0
-  end_four e h = multiple e.at ((of_filter leads_on (edges_by p point (file_row p n.at)) (end_at e)
-      (of_distinct (filter leads_on (edges_by p point (file_row p n.at))) (end_at e) (edge_of_end e h))).1)
+  end_placed : (e : End) → Contains (ends_of p.machine.narrow n f stack called) e → IsAtPlace p.machine.narrow e.at
+  end_placed e h = multiple p.machine.narrow e.at ((of_filter (leads_on p.machine.narrow) (edges_by p point (file_row p n.at)) (end_at e)
+      (of_distinct (filter (leads_on p.machine.narrow) (edges_by p point (file_row p n.at))) (end_at e) (edge_of_end e h))).1)
 
   -- a successor that is the next address is the one behind the row
-  next_end : (x : Successor) → Contains n.successors.items x → is_next x.letter ≡ true → Contains (ends_of n f stack called) (end stack x.to) ×
-      (x.to ≡ add 32 n.at 4)
+  next_end : (x : Successor) → Contains n.successors.items x → is_next x.letter ≡ true → Contains (ends_of p.machine.narrow n f stack called) (end stack x.to) ×
+      (x.to ≡ add 32 n.at n.length)
   next_end x h l =
       let letter = is_the_next x.letter l in
       let same : x ≡ record { letter = Next; to = x.to } = ap (λ (z : Letter). let s : Successor = record { letter = z; to = x.to } in s) letter in
       let inside : Contains n.successors.items (record { letter = Next; to = x.to }) = subst (λ (z : Successor). Contains n.successors.items z) same h in
-      let has : Contains (ends_of n f stack called) (end stack x.to) =
-      in_left (filter_map (successor_end n.returns f stack called) n.successors.items) (listed (back_end n.returns f)) (end stack x.to)
+      let has : Contains (ends_of p.machine.narrow n f stack called) (end stack x.to) =
+      in_left (filter_map (successor_end n.returns f stack called) n.successors.items) (listed (back_end p.machine.narrow n.returns f)) (end stack x.to)
       (some_in (successor_end n.returns f stack called) n.successors.items (record { letter = Next; to = x.to }) (end stack x.to) inside refl) in
       let fall = (ways_are p n frames turns stack called row is way table.below fits calls some (stack_at frames stack) x.to
-      (end_four (end stack x.to) has)).0.1 (refl, inside) in (
+      (end_placed (end stack x.to) has)).0.1 (refl, inside) in (
         has,
         one_fall (row.successors n.at).next (stack_at frames stack) (add 32 n.at row.length) x.to fall ∙ ap
-            (λ (z : ℕ). add 32 n.at z) (way.four n.at row some),
+            (λ (z : ℕ). add 32 n.at z) (sym (is.length ∙ ap row_length some)),
       )
 
-  next_listed : (b : Bool) → goes_on n.successors.items ≡ b → (e : End) → Contains (listed (if b then Some (end stack (add 32 n.at 4)) else None)) e →
-      (e ≡ end stack (add 32 n.at 4)) × Contains (ends_of n f stack called) e
+  next_listed : (b : Bool) → goes_on n.successors.items ≡ b → (e : End) → Contains (listed (if b then Some (end stack (add 32 n.at n.length)) else None)) e →
+      (e ≡ end stack (add 32 n.at n.length)) × Contains (ends_of p.machine.narrow n f stack called) e
   next_listed true g e (zero, w, q) =
       let x = next_in n.successors.items g in
       let r = next_end x.0 x.1 x.2 in
-      (sym q, subst (λ (z : End). Contains (ends_of n f stack called) z) (ap (end stack) r.1 ∙ q) r.0)
+      (sym q, subst (λ (z : End). Contains (ends_of p.machine.narrow n f stack called) z) (ap (end stack) r.1 ∙ q) r.0)
   next_listed true g e (suc i, w, q) = absurd (omega arith)
   next_listed false g e (i, w, q) = absurd (omega arith)
 
-  pub of_next : (e : End) → Contains (listed (next_of n stack)) e → (e ≡ end stack (add 32 n.at 4)) × Contains (ends_of n f stack called) e
+  pub of_next : (e : End) → Contains (listed (next_of n stack)) e → (e ≡ end stack (add 32 n.at n.length)) × Contains (ends_of p.machine.narrow n f stack called) e
   of_next e h = next_listed (goes_on n.successors.items) refl e h
 
   -- each of the ends is an end of the node
-  pub all_in : (e : End) → Contains all e → Contains (ends_of n f stack called) e
+  pub all_in : (e : End) → Contains all e → Contains (ends_of p.machine.narrow n f stack called) e
   all_in e h = elim (split_in jumps (listed (next_of n stack)) e h) [ inl q ↦ jump_in e q | inr q ↦ (of_next e q).1 ]
 
   pub all_edge : (e : End) → Contains all e → Contains (edges p point) (end_at e)
   all_edge e h = edge_of_end e (all_in e h)
 
   pub all_low : (e : End) → Contains all e → e.stack ≤ length frames
-  all_low e h = end_low frames table.below n.returns n.successors.items n.at stack called fits calls e (all_in e h)
+  all_low e h = end_low frames table.below p.machine.narrow n.returns n.successors.items n.at (add 32 n.at n.length) stack called fits calls e (all_in e h)
 
-  pub all_four : (e : End) → Contains all e → e.at % 4 ≡ 0
-  all_four e h = end_four e (all_in e h)
+  pub all_placed : (e : End) → Contains all e → IsAtPlace p.machine.narrow e.at
+  all_placed e h = end_placed e (all_in e h)
 
   next_there : (b : Bool) → goes_on n.successors.items ≡ b → b ≡ true →
-      Contains (listed (if b then Some (end stack (add 32 n.at 4)) else None)) (end stack (add 32 n.at 4))
+      Contains (listed (if b then Some (end stack (add 32 n.at n.length)) else None)) (end stack (add 32 n.at n.length))
   next_there true g h = (0, omega arith, refl)
   next_there false g h = absurd (cc)
 
   -- each edge to an address is at one of the ends
   pub edge_all : (s : List ℕ) (a : ℕ) → Contains (edges p point) (ToAddress s a) → (e : End) × Contains all e × (stack_at frames e.stack ≡ s) × (e.at ≡ a)
   edge_all s a h =
-      let q = of_filter leads_on (edges_by p point (file_row p n.at)) (ToAddress s a)
-      (of_distinct (filter leads_on (edges_by p point (file_row p n.at))) (ToAddress s a) h) in
-      let four = multiple a q.1 in
-      let w = ways_are p n frames turns stack called row is way table.below fits calls some s a four in
+      let q = of_filter (leads_on p.machine.narrow) (edges_by p point (file_row p n.at)) (ToAddress s a)
+      (of_distinct (filter (leads_on p.machine.narrow) (edges_by p point (file_row p n.at))) (ToAddress s a) h) in
+      let placed = multiple p.machine.narrow a q.1 in
+      let w = ways_are p n frames turns stack called row is way table.below fits calls some s a placed in
       let inside : Contains (jump_ends p point row (row.successors n.at) ++ fall_ends point row (row.successors n.at)) (ToAddress s a) =
       subst (λ (o : Option Row). Contains (edges_by p point o) (ToAddress s a)) some q.0 in
       elim (split_in (jump_ends p point row (row.successors n.at)) (fall_ends point row (row.successors n.at)) (ToAddress s a) inside) [
@@ -197,8 +196,8 @@ module _ (p : Program) (n : Node) (frames : List Frame) (numbers : BTreeMap (ℕ
         | inr g ↦ (let r = w.0.0 g in
             let goes = goes_next n.successors.items a r.1 in
             let at = (next_end (record { letter = Next; to = a }) r.1 refl).1 in (
-              end stack (add 32 n.at 4),
-              in_right jumps (listed (next_of n stack)) (end stack (add 32 n.at 4))
+              end stack (add 32 n.at n.length),
+              in_right jumps (listed (next_of n stack)) (end stack (add 32 n.at n.length))
                   (next_there (goes_on n.successors.items) refl goes),
               sym r.0,
               sym at,
@@ -213,7 +212,7 @@ module _ (p : Program) (n : Node) (frames : List Frame) (numbers : BTreeMap (ℕ
   -- an end is by a jump exactly where the row's jump leads there
   pub by_jump : (e : End) → Contains all e → Contains (jump_ends p point row (row.successors n.at)) (end_at e) ↔ Contains jumps e
   by_jump e h =
-      let w = (ways_are p n frames turns stack called row is way table.below fits calls some (stack_at frames e.stack) e.at (all_four e h)).1 in (
+      let w = (ways_are p n frames turns stack called row is way table.below fits calls some (stack_at frames e.stack) e.at (all_placed e h)).1 in (
         (λ j. let r = w.0 j in subst (λ (z : End). Contains jumps z)
             (one_of r.0 e (all_low r.0 (in_left jumps (listed (next_of n stack)) r.0 r.1)) (all_low e h) r.2 r.3) r.1),
         (λ j. w.1 (e, j, refl, refl)),
@@ -222,15 +221,15 @@ module _ (p : Program) (n : Node) (frames : List Frame) (numbers : BTreeMap (ℕ
   -- and by going on exactly where it is the end of the next address
   pub by_fall : (e : End) → Contains all e → Contains (fall_ends point row (row.successors n.at)) (end_at e) ↔ Contains (listed (next_of n stack)) e
   by_fall e h =
-      let w = (ways_are p n frames turns stack called row is way table.below fits calls some (stack_at frames e.stack) e.at (all_four e h)).0 in (
+      let w = (ways_are p n frames turns stack called row is way table.below fits calls some (stack_at frames e.stack) e.at (all_placed e h)).0 in (
         (λ j. let r = w.0 j in
             let goes = goes_next n.successors.items e.at r.1 in
             let at = (next_end (record { letter = Next; to = e.at }) r.1 refl).1 in
-            subst (λ (z : End). Contains (listed (next_of n stack)) z) (sym (one_of e (end stack (add 32 n.at 4)) (all_low e h) fits r.0 at))
+            subst (λ (z : End). Contains (listed (next_of n stack)) z) (sym (one_of e (end stack (add 32 n.at n.length)) (all_low e h) fits r.0 at))
             (next_there (goes_on n.successors.items) refl goes)),
         (λ j. let r = of_next e j in
             let s : stack_at frames e.stack ≡ stack_at frames stack = ap (λ (z : End). stack_at frames z.stack) r.0 in
-            let to : e.at ≡ add 32 n.at 4 = ap (λ (z : End). z.at) r.0 in
+            let to : e.at ≡ add 32 n.at n.length = ap (λ (z : End). z.at) r.0 in
             let goes = next_goes e j in
             let x = next_in n.successors.items goes in
             let q = next_end x.0 x.1 x.2 in
@@ -240,7 +239,7 @@ module _ (p : Program) (n : Node) (frames : List Frame) (numbers : BTreeMap (ℕ
             w.1 (s, subst (λ (z : Successor). Contains n.successors.items z) same x.1)),
       )
     where
-      goes_listed : (b : Bool) (e : End) → Contains (listed (if b then Some (end stack (add 32 n.at 4)) else None)) e → b ≡ true
+      goes_listed : (b : Bool) (e : End) → Contains (listed (if b then Some (end stack (add 32 n.at n.length)) else None)) e → b ≡ true
       goes_listed true e h = refl
       goes_listed false e (i, w, q) = absurd (omega arith)
 

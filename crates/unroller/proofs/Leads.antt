@@ -141,12 +141,12 @@ module _ (p : Program) (k : ℕ) (n : Node) (frames : List Frame) (numbers : BTr
     ≡ Some row) (here : address_of own ≡ n.at)
     (are : AreKeys p k frames keys) (within : i < length keys) (place : get_or keys i 0 ≡ own) (u : UnrolledProgram) (size : length u.points ≡ length keys)
     (points : (j : ℕ) → j < length keys → (point_at u j).point
-    ≡ point_of frames (get_or keys j 0)) (led : List Edge) (leads : AreLed n frames keys own called led) where
+    ≡ point_of frames (get_or keys j 0)) (led : List Edge) (leads : AreLed p.machine.narrow n frames keys own called led) where
   abbrev stack : ℕ
   stack = stack_of own
 
   abbrev jumps : List End
-  jumps = jumps_of n (frame_at frames stack) stack called
+  jumps = jumps_of p.machine.narrow n (frame_at frames stack) stack called
 
   abbrev all : List End
   all = jumps ++ listed (next_of n stack)
@@ -166,7 +166,7 @@ module _ (p : Program) (k : ℕ) (n : Node) (frames : List Frame) (numbers : BTr
   low : (e : End) → Contains all e → e.stack ≤ length frames
   low e h = all_low p n frames numbers (turns_of own) stack called row is way table fits calls some e h
 
-  next_small : (e : End) → e ≡ end stack (add 32 n.at 4) → (e.at < 4294967296) × (e.stack < 18446744073709551616)
+  next_small : (e : End) → e ≡ end stack (add 32 n.at n.length) → (e.at < 4294967296) × (e.stack < 18446744073709551616)
   next_small e q = subst (λ (z : End). (z.at < 4294967296) × (z.stack < 18446744073709551616)) (sym q) ((omega arith), (omega arith))
 
   small : (e : End) → Contains all e → (e.at < 4294967296) × (e.stack < 18446744073709551616)
@@ -334,7 +334,7 @@ module _ (p : Program) (k : ℕ) (n : Node) (frames : List Frame) (numbers : BTr
 
   exit_jump : Contains (edges p point) ToExit → Contains (jump_ends p point row s) ToExit
   exit_jump h =
-      let q = (of_filter leads_on (edges_by p point (file_row p n.at)) ToExit (of_distinct (filter_of (file_row p n.at)) ToExit h)).0 in
+      let q = (of_filter (leads_on p.machine.narrow) (edges_by p point (file_row p n.at)) ToExit (of_distinct (filter_of (file_row p n.at)) ToExit h)).0 in
       let inside : Contains (jump_ends p point row s ++ fall_ends point row s) ToExit = subst
       (λ (o : Option Row). Contains (edges_by p point o) ToExit) some q in
       elim (split_in (jump_ends p point row s) (fall_ends point row s) ToExit inside) [
@@ -343,7 +343,7 @@ module _ (p : Program) (k : ℕ) (n : Node) (frames : List Frame) (numbers : BTr
       ]
     where
       filter_of : Option Row → List EdgeEnd
-      filter_of o = filter leads_on (edges_by p point o)
+      filter_of o = filter (leads_on p.machine.narrow) (edges_by p point o)
 
   exit_is : Contains (edges p point) ToExit → IsEdge p k u i point row ToExit (edge_of exit_edge)
   exit_is h = record {

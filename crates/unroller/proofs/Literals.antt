@@ -11,7 +11,7 @@ use Rattle.machine_spec.specs.BilCounts.{byte_loads, byte_stores, other_loads, m
 use Rattle.machine_spec.specs.BilMeaning.{Ending, execute}
 use Rattle.machine_spec.specs.BilStores.{list_stored}
 use Rattle.bilv_spec.specs.Run.{Program, all_kept, literal_target}
-use Rattle.bilv_spec.specs.Points.{file_word, is_empty}
+use Rattle.bilv_spec.specs.Points.{file_word, file_number, is_empty}
 use Rattle.bilv_spec.specs.LiveFlags.{IsReadAfter, IsLive}
 use Rattle.bil_ast.specs.declared.statements.Stmt.{Stmt}
 use Rattle.bil_ast.specs.Views.{statements}
@@ -78,7 +78,7 @@ module _ (p : Program) (u : UnrolledProgram) (bank : Bank) (q : UnrolledPoint) (
     is_register_of u r ≡ p.machine.has_register r) (flags : (f : ℕ) → is_flag_of u f ≡ p.machine.has_flag f)
     (lifting : IsLifting p.machine bank row q.point.at lifted) (less : HasNoMore list lifted)
     (others : (a : ℕ) → other_loads p.machine.endian a list ≤ other_loads p.machine.endian a lifted)
-    (word : (a : ℕ) → kept_literal p (row.literal q.point.at) ≡ Some a → file_word p a < 2 ^ 32) where
+    (word : (a : ℕ) → kept_literal p (row.literal q.point.at) ≡ Some a → file_number p a < 2 ^ 32) where
   abbrev Put : Option ℕ → Statements
   Put o = list_with p o list
 
@@ -94,7 +94,7 @@ module _ (p : Program) (u : UnrolledProgram) (bank : Bank) (q : UnrolledPoint) (
   same_end None k s c choice here mem holds = refl
   same_end (Some a) k s c choice here mem holds =
       let l = of_kept p (row.literal q.point.at) a k in
-      literals_keep_meaning p.machine.endian a (file_word p a) list choice (begins q c) (less.no_loop lifting.no_loop) (no_stores a l.0)
+      literals_keep_meaning p.machine.endian a (file_number p a) list choice (begins q c) (less.no_loop lifting.no_loop) (no_stores a l.0)
       (ap (λ (m : ℕ → ℕ). load p.machine.endian 4 m a) mem ∙ holds a (ap row.literal here ∙ l.0) l.1) (λ x n. tt)
 
   same_stored : (o : Option ℕ) → kept_literal p (row.literal q.point.at) ≡ o → (c : Carried) (choice : ℕ) →
@@ -102,8 +102,8 @@ module _ (p : Program) (u : UnrolledProgram) (bank : Bank) (q : UnrolledPoint) (
   same_stored None k c choice = refl
   same_stored (Some a) k c choice =
       let none = no_stores a (of_kept p (row.literal q.point.at) a k).0 in
-      let fewer = (literals_add_nothing p.machine.endian a (file_word p a) list (word a k)).0.stores in
-      nothing_stored (with_literal p.machine.endian a (file_word p a) list) choice (begins q c) (omega arith)
+      let fewer = (literals_add_nothing p.machine.endian a (file_number p a) list (word a k)).0.stores in
+      nothing_stored (with_literal p.machine.endian a (file_number p a) list) choice (begins q c) (omega arith)
       ∙ sym (nothing_stored list choice (begins q c) none)
 
   -- terms can be made of a list with no more than the lifted one
@@ -128,7 +128,7 @@ module _ (p : Program) (u : UnrolledProgram) (bank : Bank) (q : UnrolledPoint) (
       (subst (λ (z : ℕ). byte_loads list ≤ z) (sym (counted.loads ∙ loads_full p (row.literal q.point.at) row.cost.loads k))
       (let a = less.loads in let b = lifting.loads in omega arith)) counted
   runnable (Some a) k counted =
-      let law = literals_add_nothing p.machine.endian a (file_word p a) list (word a k) in
+      let law = literals_add_nothing p.machine.endian a (file_number p a) list (word a k) in
       runnable_by (Put (Some a)) (more_on (Put (Some a)) list lifted law.0 less)
       (subst (λ (z : ℕ). z ≤ q.loads) (sym (law.1 (no_others a (of_kept p (row.literal q.point.at) a k).0))) (omega arith)) counted
 
@@ -160,7 +160,7 @@ lists_do_rows p u form bank q row list fitted registers flags is lawful listed d
 
 assigns_with : (p : Program) (f : ℕ) (o : Option ℕ) (list : Statements) → may_assign f (list_with p o list) ≡ may_assign f list
 assigns_with p f None list = refl
-assigns_with p f (Some a) list = literals_assign_the_same p.machine.endian a (file_word p a) f list
+assigns_with p f (Some a) list = literals_assign_the_same p.machine.endian a (file_number p a) f list
 
 -- the list of a row assigns no flag whose assignment there is not live
 list_is_lean : (p : Program) (bank : Bank) (row : Row) (at f : ℕ) (list : Statements) → IsListAt p bank row at list → f < 4 → may_assign f list ≡ true →

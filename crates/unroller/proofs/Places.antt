@@ -78,7 +78,7 @@ module _ (g : Graph) (frames : List Frame) (keys addresses called : List ℕ) wh
           q_led.0,
           q_led.1,
           q_led.2,
-          subst (λ (l : List Edge). AreLed q_led.0 frames keys key number l)
+          subst (λ (l : List Edge). AreLed g.narrow q_led.0 frames keys key number l)
               (sym (ap (λ (l : List Edge). slice_range l q.edges bound) is ∙ slice_left edges led q.edges bound at.ordered at.within)) q_led.3,
         );
       })
@@ -90,7 +90,7 @@ module _ (g : Graph) (frames : List Frame) (keys addresses called : List ℕ) wh
       ArePlaced g frames keys addresses called i points edges → more ≡ points ++ q ∷ [] →
       q.turns ≡ turns_of (get_or keys i 0) → q.stack ≡ stack_of (get_or keys i 0) → q.code < length addresses →
       get_or addresses q.code 0 ≡ address_of (get_or keys i 0) → q.edges ≡ length edges →
-      Contains g.nodes.items n → n.at ≡ address_of (get_or keys i 0) → HasLed n frames keys (get_or keys i 0) (get_or called i 0) edges grown →
+      Contains g.nodes.items n → n.at ≡ address_of (get_or keys i 0) → HasLed g.narrow n frames keys (get_or keys i 0) (get_or called i 0) edges grown →
       ArePlaced g frames keys addresses called (i + 1) more grown
   placed_more i points more edges grown q n are is turns stack coded code begin among at led =
       let count = are.count in
@@ -130,7 +130,7 @@ module _ (g : Graph) (frames : List Frame) (keys addresses called : List ℕ) wh
                     code = code;
                     ordered = (let b = begin in omega arith);
                     within = omega arith;
-                    led = (n, among, at, subst (λ (l : List Edge). AreLed n frames keys (get_or keys i 0) (get_or called i 0) l) (sym slice) led.2);
+                    led = (n, among, at, subst (λ (l : List Edge). AreLed g.narrow n frames keys (get_or keys i 0) (get_or called i 0) l) (sym slice) led.2);
                   })))
             ];
       }

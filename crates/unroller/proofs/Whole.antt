@@ -1,6 +1,6 @@
 -- The value is the unrolled program of a program.
 use Rattle.std.proofs.Common.{◌≡◌, inl, inr, refl, ap, sym, ◌∙◌, subst, arith, ℕ, zero, suc, ◌+◌, ◌<◌, ◌≤◌, ◌^◌, Some, List, [], ◌∷◌, length, get_or, drop, map}
-use Rattle.std.specs.Prelude.{Contains, ◌↔◌, Option, None, true, ◌==◌, filter, slice_get, slice_range}
+use Rattle.std.specs.Prelude.{Bool, Contains, ◌↔◌, Option, None, true, ◌==◌, filter, slice_get, slice_range}
 use Rattle.std.specs.BTreeMap.{BTreeMap}
 use Rattle.std.proofs.lemmas.Bool.{cases_lt}
 use Rattle.std.proofs.lemmas.List.{get_or_default, get_or-map}
@@ -35,7 +35,7 @@ use Rattle.question_form.specs.Views.{point_by, code_of, edges_from, no_code, un
 use Rattle.question_form.specs.Forms.{IsFormed}
 use Rattle.unroller.specs.Keys.{turns_of, address_of, stack_of, point_of, AreKeys}
 use Rattle.unroller.specs.Led.{AreLed, IsCalledBy, AreCalled, IsPlacedAt, ArePlaced, begins_at}
-use Rattle.unroller.specs.Places.{IsGroup, IsCodeOf, AreCodes, HasFitRow, AreEdgesAt}
+use Rattle.unroller.specs.Places.{IsGroup, IsCodeOf, AreCodes, AreEdgesAt}
 use Rattle.unroller.proofs.Coding.{of_nodes}
 use Rattle.unroller.proofs.FirstPoints.{entry_comes_first}
 use Rattle.unroller.proofs.Grouped.{asserts_are}
@@ -139,12 +139,6 @@ module _ (p : Program) (k : ℕ) (bank : Bank) (g : Graph) (u : Unrolled) (numbe
       exits_of : notes.Notes → ℕ → List PointExit
       exits_of n a = map (λ (b : notes.Assert). FalseAssert b.line b.says) (filter (λ (b : notes.Assert). b.at == a) n.asserts)
 
-  fit : (i : ℕ) → i < length keys → HasFitRow p (code i).at
-  fit i w = record {
-    lawful = λ r e. (code_is i w).row.fit r e;
-    four = λ r e. way.four (code i).at r e;
-  }
-
   edges_are : (i : ℕ) → i < length keys → (row : Row) → file_row p (code i).at ≡ Some row →
       AreEdgesAt p k (unrolled_of u) i (point_by u (own i) (code i) (led i)).point row (led i)
   edges_are i w row some =
@@ -156,9 +150,10 @@ module _ (p : Program) (k : ℕ) (bank : Bank) (g : Graph) (u : Unrolled) (numbe
       let by : IsCalledBy n (stack_of (key i)) u.frames.items (get_or called i 0) = subst
       (λ (z : Node). IsCalledBy z (stack_of (key i)) u.frames.items (get_or called i 0)) same c.3 in
       let here : n.at ≡ (code i).at = l.2 ∙ sym (code_at i w) in
-      let leads : AreLed n u.frames.items keys (key i) (get_or called i 0) (led i) =
-      subst (λ (z : ℕ). AreLed n u.frames.items keys (key i) (get_or called i 0) (slice_range u.edges.items (own i).edges z))
-      (sym (begins_same u (rest i))) l.3 in
+      let leads : AreLed p.machine.narrow n u.frames.items keys (key i) (get_or called i 0) (led i) =
+      subst (λ (b : Bool). AreLed b n u.frames.items keys (key i) (get_or called i 0) (led i)) graph.narrow
+      (subst (λ (z : ℕ). AreLed g.narrow n u.frames.items keys (key i) (get_or called i 0) (slice_range u.edges.items (own i).edges z))
+      (sym (begins_same u (rest i))) l.3) in
       let row_here : file_row p n.at ≡ Some row = ap (file_row p) here ∙ some in
       subst (λ (z : spec.Point). AreEdgesAt p k (unrolled_of u) i z row (led i))
       (ap (λ (z : ℕ). let r : spec.Point = record { turns = turns_of (key i); stack = stack_at u.frames.items (stack_of (key i)); at = z }
@@ -170,7 +165,7 @@ module _ (p : Program) (k : ℕ) (bank : Bank) (g : Graph) (u : Unrolled) (numbe
   pub places : (i : ℕ) → i < length keys → IsPlace p k (unrolled_of u) i (point_at (unrolled_of u) i) (file_row p (point_at (unrolled_of u) i).point.at)
   places i w =
       subst (λ (z : UnrolledPoint). IsPlace p k (unrolled_of u) i z (file_row p z.point.at)) (sym (point_is i w))
-      (places_are_right p k u (layout_of u.form) bank i (own i) (code i) (led i) fitted registers flags (fit i w)
+      (places_are_right p k u (layout_of u.form) bank i (own i) (code i) (led i) fitted registers flags
       (record { own = (code_is i w).row; asserts = asserts i w }) (edges_are i w))
 
   pub lean : AssignsLiveOnly p (unrolled_of u)

@@ -21,7 +21,7 @@ goes_on successors = list_any (λ s. is_next s.letter) successors
 
 -- the end by going on to the next address, with the point's stack, if the row may
 abbrev pub next_of : Node → (stack : ℕ) → Option End
-next_of n stack = if goes_on n.successors.items then Some (end stack (add 32 n.at 4)) else None
+next_of n stack = if goes_on n.successors.items then Some (end stack (add 32 n.at n.length)) else None
 
 -- the end is that of a number's point
 abbrev pub is_key_of : ℕ → End → Bool
@@ -61,16 +61,16 @@ abbrev pub exits_by : (returns : Bool) → (stack : ℕ) → List Edge
 exits_by returns stack = if returns && (stack == 0) then exit_edge ∷ [] else []
 
 -- The edges of the point of a number at its node: the one out of the function first, then one for each point at an end, each once.
-pub record AreLed (n : Node) (frames : List Frame) (keys : List ℕ) (own called : ℕ) (led : List Edge) : Type 0 where
+pub record AreLed (narrow : Bool) (n : Node) (frames : List Frame) (keys : List ℕ) (own called : ℕ) (led : List Edge) : Type 0 where
   pub targets : List ℕ
   pub rise : IsStrictlyIncreasing targets
-  pub same : (x : ℕ) → Contains (map (target_key own) (jumps_of n (frame_at frames (stack_of own)) (stack_of own) called
+  pub same : (x : ℕ) → Contains (map (target_key own) (jumps_of narrow n (frame_at frames (stack_of own)) (stack_of own) called
       ++ listed (next_of n (stack_of own)))) x ↔ Contains targets x
-  pub small : (e : End) → Contains (jumps_of n (frame_at frames (stack_of own)) (stack_of own) called) e → (e.at < 4294967296) ×
+  pub small : (e : End) → Contains (jumps_of narrow n (frame_at frames (stack_of own)) (stack_of own) called) e → (e.at < 4294967296) ×
       (e.stack < 18446744073709551616)
   pub rest : List Edge
   pub is : led ≡ exits_by n.returns (stack_of own) ++ rest
-  pub each : AllZip (IsLedTo keys (next_of n (stack_of own)) (is_both (jumps_of n (frame_at frames (stack_of own)) (stack_of own) called)
+  pub each : AllZip (IsLedTo keys (next_of n (stack_of own)) (is_both (jumps_of narrow n (frame_at frames (stack_of own)) (stack_of own) called)
       (next_of n (stack_of own)))) targets rest
 
 -- edges are added that are those of targets
@@ -78,8 +78,8 @@ abbrev pub AreAddedTo : List ℕ → Option End → Bool → List ℕ → (old n
 AreAddedTo keys next both targets old new = (led : List Edge) × (new ≡ old ++ led) × AllZip (IsLedTo keys next both) targets led
 
 -- the edges of a point are added
-abbrev pub HasLed : Node → List Frame → List ℕ → (own called : ℕ) → (old new : List Edge) → Type 0
-HasLed n frames keys own called old new = (led : List Edge) × (new ≡ old ++ led) × AreLed n frames keys own called led
+abbrev pub HasLed : (narrow : Bool) → Node → List Frame → List ℕ → (own called : ℕ) → (old new : List Edge) → Type 0
+HasLed narrow n frames keys own called old new = (led : List Edge) × (new ≡ old ++ led) × AreLed narrow n frames keys own called led
 
 -- where the edges of the points behind one begin
 abbrev pub begins_at : List Edge → List Point → ℕ
@@ -89,7 +89,7 @@ begins_at edges (q ∷ rest) = q.edges
 -- the number of a stack behind a call of the node
 abbrev pub IsCalledBy : Node → (stack : ℕ) → List Frame → (called : ℕ) → Type 0
 IsCalledBy n stack frames called = (x : Successor) → Contains n.successors.items x → x.letter ≡ Call →
-    frame_at frames called ≡ Some (frame (add 32 n.at 4) stack)
+    frame_at frames called ≡ Some (frame (add 32 n.at n.length) stack)
 
 -- the first n numbers of stacks are those behind the calls at the points of numbers
 pub record AreCalled (g : Graph) (keys : List ℕ) (frames : List Frame) (n : ℕ) (called : List ℕ) : Type 0 where
@@ -105,7 +105,7 @@ pub record IsPlacedAt (g : Graph) (frames : List Frame) (keys addresses : List �
   pub code : slice_index addresses q.code ≡ address_of key
   pub ordered : q.edges ≤ bound
   pub within : bound ≤ length edges
-  pub led : (n : Node) × Contains g.nodes.items n × (n.at ≡ address_of key) × AreLed n frames keys key called (slice_range edges q.edges bound)
+  pub led : (n : Node) × Contains g.nodes.items n × (n.at ≡ address_of key) × AreLed g.narrow n frames keys key called (slice_range edges q.edges bound)
 
 -- the first n points
 pub record ArePlaced (g : Graph) (frames : List Frame) (keys addresses called : List ℕ) (n : ℕ) (points : List Point) (edges : List Edge) : Type 0 where

@@ -6,9 +6,10 @@ use Rattle.machine_spec.specs.MachineLaws.{IsLawful, IsFitted}
 use Rattle.machine_spec.specs.StateText.{Layout}
 use Rattle.machine_spec.specs.Bil.{Bank}
 use Rattle.bilv_spec.specs.Run.{Program, fetchable}
-use Rattle.bilv_spec.specs.Points.{Point, EdgeEnd, file_row, row_price, loads_at, stores_at}
+use Rattle.bilv_spec.specs.Points.{Point, EdgeEnd, file_row, file_word, row_price, loads_at, stores_at}
 use Rattle.walk_spec.specs.Unrolled.{UnrolledProgram, is_register_of, is_flag_of}
 use Rattle.walk_spec.specs.Unrolling.{AreEdgesOf, IsEdge, IsPlace, assert_exits, row_draws}
+use Rattle.graph_nodes.specs.Graphs.{row_length}
 use Rattle.notes_lang.specs.Drafting.{notes_of}
 use Rattle.question_form.specs.declared.unrolled.Code.{Code}
 use Rattle.question_form.specs.declared.unrolled.Edge.{Edge}
@@ -19,7 +20,8 @@ use Rattle.unroller.specs.Rows.{IsListedAt}
 
 -- The code is that of its address, whatever its assert lines are: what the file gives there, the list of the row, and the row's cost; and the row is lawful.
 pub record IsRowCode (p : Program) (bank : Bank) (c : Code) : Type 0 where
-  pub fetchable : c.fetchable ≡ fetchable p c.at
+  pub length : c.length ≡ row_length (file_row p c.at)
+  pub fetchable : c.fetchable ≡ fetchable p (file_word p c.at) c.at
   pub list : IsListedAt p bank (file_row p c.at) c.at c.list
   pub draws : c.draws ≡ row_draws (file_row p c.at)
   pub row : c.row ≡ row_price (file_row p c.at)
@@ -36,17 +38,12 @@ pub record IsCode (p : Program) (bank : Bank) (u : Unrolled) (q : declared.Point
 abbrev pub AreEdgesAt : Program → (k : ℕ) → UnrolledProgram → (i : ℕ) → Point → Row → List Edge → Type 0
 AreEdgesAt p k u i point row edges = (ends : List EdgeEnd) × AreEdgesOf p point ends × AllZip (IsEdge p k u i point row) ends (map edge_of edges)
 
--- the row at an address, if there is one, is lawful and has 4 bytes
-pub record HasFitRow (p : Program) (at : ℕ) : Type 0 where
-  pub lawful : (row : Row) → file_row p at ≡ Some row → IsLawful row
-  pub four : (row : Row) → file_row p at ≡ Some row → row.length ≡ 4
-
 -- a point of the code of its address, with its edges, is what the definitions want at its place
 abbrev pub PlacesAreRight : Type 0
 PlacesAreRight = (p : Program) (k : ℕ) (u : Unrolled) (form : Layout) (bank : Bank) (i : ℕ) (q : declared.Point) (c : Code) (edges : List Edge) →
     IsFitted p.machine form → ((r : ℕ) → is_register_of (unrolled_of u) r ≡ p.machine.has_register r) →
     ((f : ℕ) → is_flag_of (unrolled_of u) f ≡ p.machine.has_flag f) →
-    HasFitRow p c.at → IsCode p bank u q c edges →
+    IsCode p bank u q c edges →
     ((row : Row) → file_row p c.at ≡ Some row → AreEdgesAt p k (unrolled_of u) i (point_by u q c edges).point row edges) →
     IsPlace p k (unrolled_of u) i (point_by u q c edges) (file_row p c.at)
 

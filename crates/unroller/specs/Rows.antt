@@ -7,7 +7,7 @@ use Rattle.machine_spec.specs.StateText.{Layout}
 use Rattle.machine_spec.specs.Bil.{Bank, Statements}
 use Rattle.machine_spec.specs.BilCounts.{may_assign}
 use Rattle.bilv_spec.specs.Run.{Program, all_kept}
-use Rattle.bilv_spec.specs.Points.{file_row, file_word}
+use Rattle.bilv_spec.specs.Points.{file_row, file_number}
 use Rattle.bilv_spec.specs.LiveFlags.{IsLive}
 use Rattle.bil_ast.specs.declared.statements.Stmt.{Stmt}
 use Rattle.bil_ast.specs.Views.{statements}
@@ -36,10 +36,10 @@ abbrev pub AreLiterals : Program → (addresses : List ℕ) → (n : ℕ) → Li
 AreLiterals p addresses n found =
     (a : ℕ) → Contains found a ↔ ((i : ℕ) × (i < n) × (literal_at p (slice_index addresses i) ≡ Some a))
 
--- a list in which the word that the file has at the address stands for its loads
+-- a list in which the word of the file's four bytes at the address stands for its loads
 abbrev pub list_with : Program → Option ℕ → Statements → Statements
 list_with p None list = list
-list_with p (Some a) list = with_literal p.machine.endian a (file_word p a) list
+list_with p (Some a) list = with_literal p.machine.endian a (file_number p a) list
 
 -- The list of a row that stands at an address: as it is lifted, but without the assignments of flags that are not live there, and with the constant of a
 -- literal in place of its load where the literal is kept.
@@ -49,7 +49,7 @@ pub record IsListAt (p : Program) (bank : Bank) (row : Row) (at : ℕ) (list : S
   pub keeps : ℕ
   pub live : (f : ℕ) → f < 4 → (has_flag keeps f ≡ true) ↔ IsLive p f at
   pub is : list ≡ list_with p (kept_literal p (row.literal at)) (with_flags (kept_in keeps) lifted)
-  pub word : (a : ℕ) → kept_literal p (row.literal at) ≡ Some a → file_word p a < 2 ^ 32
+  pub word : (a : ℕ) → kept_literal p (row.literal at) ≡ Some a → file_number p a < 2 ^ 32
 
 -- the list of what stands at an address, and none where there is no row
 abbrev pub IsListedAt : Program → Bank → Option Row → (at : ℕ) → Option (Vec Stmt) → Type 0

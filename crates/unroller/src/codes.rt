@@ -30,6 +30,7 @@ use std::alloc::{AllocError, Global};
 fn bare(node: &Node, asserts: (usize, usize)) -> Code
     ensures { result ≡ record {
       at = node.now.at;
+      length = node.now.length;
       fetchable = node.now.fetchable;
       list = None;
       draws = false;
@@ -41,6 +42,7 @@ fn bare(node: &Node, asserts: (usize, usize)) -> Code
 {
     Code {
         at: node.at,
+        length: node.length,
         fetchable: node.fetchable,
         list: None,
         draws: false,
@@ -75,11 +77,11 @@ fn order(image: &Image) -> Endian
     Endian::Little
 }
 
-/// The word that a file has at an address.
+/// The word of the four bytes that a file has from an address on.
 fn word_at(image: &Image, at: u32) -> Literal
     ensures order { endian_of result.order ≡ order_of image.now }
     ensures at { result.at ≡ at }
-    ensures value { (m : Machine) (n : Notes) (e : ℕ) → order_of image.now ≡ m.endian → result.value ≡ points.file_word (program_of m image.now n e) at }
+    ensures value { (m : Machine) (n : Notes) (e : ℕ) → order_of image.now ≡ m.endian → result.value ≡ points.file_number (program_of m image.now n e) at }
 {
     Literal {
         order: order(image),
@@ -149,6 +151,7 @@ pub fn code_at<M: Machine>(
     let cost = M::cost(&insn);
     Ok(Code {
         at: node.at,
+        length: node.length,
         fetchable: node.fetchable,
         list: Some(listed.list),
         draws: M::draws(&insn),

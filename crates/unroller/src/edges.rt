@@ -27,7 +27,7 @@ fn next_end(node: &Node, stack: usize) -> Option<End>
     if !goes_on(&node.successors) {
         return None;
     }
-    let at = node.at.wrapping_add(4);
+    let at = node.at.wrapping_add(node.length as u32);
     Some(End { stack, at })
 }
 
@@ -142,10 +142,12 @@ fn add_targets(
     Ok(())
 }
 
-/// Adds the edges of the point of a number at its node, with the number of the stack behind a call. The error is want of memory.
+/// Adds the edges of the point of a number at its node, with the number of the stack behind a call; `narrow` says whether some rows have 2 bytes. The error is
+/// want of memory.
 pub fn add_edges(
     alloc: Global,
     edges: &mut Vec<Edge>,
+    narrow: bool,
     node: &Node,
     frames: &[Frame],
     keys: &[u128],
@@ -155,10 +157,10 @@ pub fn add_edges(
     requires low { numbers.turns_of own ≤ 4096 }
     requires rise { IsStrictlyIncreasing keys.now }
     requires few { length keys.now ≤ 16777216 }
-    ensures { OnOk result (HasLed node.now frames.now keys.now own called edges.old.items edges.new.items) }
+    ensures { OnOk result (HasLed narrow node.now frames.now keys.now own called edges.old.items edges.new.items) }
 {
     let stack = stack_of(own);
-    let jumps = jumps(alloc, node, frames, stack, called)?;
+    let jumps = jumps(alloc, narrow, node, frames, stack, called)?;
     let next = next_end(node, stack);
     let targets = targets(alloc, own, &jumps, next)?;
     let both = also_jumps(&jumps, next);

@@ -83,7 +83,16 @@ pub fn points_of(
             Some(code) => code,
         };
         let begin = edges.len();
-        add_edges(alloc, &mut edges, node, frames, keys, key, called[place])?;
+        add_edges(
+            alloc,
+            &mut edges,
+            graph.narrow,
+            node,
+            frames,
+            keys,
+            key,
+            called[place],
+        )?;
         points.push(Point {
             turns: turns_of(key),
             code: code as u32,

@@ -21,7 +21,7 @@ use elf32_reader::Image;
 use flag_live::trim;
 use graph_nodes::Graph;
 use known_bytes::known_bytes;
-use machine_law::Machine;
+use machine_law::{Machine, is_narrow};
 use notes_index::index_of;
 use notes_lang::Notes;
 use program_points::{PointsFault, points};
@@ -89,6 +89,7 @@ pub fn unroll<'a, M: Machine>(
     Ok(Unrolled {
         form: M::layout(),
         big: image.is_big_machine(),
+        narrow: is_narrow::<M>(),
         link: M::link(),
         entry,
         notes,

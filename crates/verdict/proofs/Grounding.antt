@@ -13,7 +13,7 @@ use Rattle.bilv_spec.specs.Notes.{Notes, NoteLine, Assert, Expr, Number, Registe
 use Rattle.machine_spec.specs.StateText.{Layout, last_step}
 use Rattle.bilv_spec.specs.Run.{Program}
 use Rattle.bilv_spec.specs.Points.{byte_of_cell, is_known_at, HasMore, IsPrice}
-use Rattle.bilv_spec.specs.PointLaws.{HasLawfulRows}
+use Rattle.bilv_spec.specs.PointLaws.{HasLawfulRows, ReadsMemory}
 use Rattle.call_spec.specs.Calls.{Budget}
 use Rattle.bilv_spec.specs.Answers.{IsWithin}
 use Rattle.bilv_spec.proofs.ProgramRows.{cell_small, rows_lawful}
@@ -35,16 +35,22 @@ use Rattle.question_form.specs.Forms.{IsFormed}
 use Rattle.state_text.specs.Starts.{layout_of}
 use Rattle.unroller.specs.Lookups.{HasForm}
 use Rattle.notes_value.specs.Reads.{IsOver, AreOver}
+use Rattle.verdict.specs.Functions.{program_of_function}
 use Rattle.verdict.specs.Grounds.{IsGround}
 use Rattle.verdict.specs.Measures.{IsMeasurable, IsMeasured, IsUnrolledOf}
 use Rattle.verdict.specs.Rounds.{HasBytes, IsAskable}
 use Rattle.verdict.specs.declared.measuring.Measured.{Measured}
+use Rattle.verdict.specs.declared.verifying.Function.{Function}
 use Rattle.verdict.specs.declared.measuring.Measured.TheVariants.{Above, Within}
 
 -- the rows that a lawful machine has in a file are lawful
 pub file_rows_lawful : (m : Machine) (file : List ℕ) (notes : Notes) (entry : ℕ) → IsLawfulMachine m → ((i : ℕ) → slice_index file i < 256) →
     HasLawfulRows (program_of m file notes entry)
 file_rows_lawful m file notes entry lawful small = rows_lawful (program_of m file notes entry) lawful (λ a. cell_small file small a _)
+
+-- and what they decode is what memory has
+pub function_is_read : (m : Machine) (f : Function) → IsLawfulMachine m → ReadsMemory (program_of_function m f)
+function_is_read m f lawful = record { word = λ s a. refl; little = lawful.little }
 
 -- lines over a machine can be read by a program that has its registers and flags
 truth : (b : Bool) → IsTrue b → b ≡ true
@@ -111,11 +117,18 @@ known_small : (t : Bool) (x b : ℕ) → x < 256 → (if t then Some x else None
 known_small true x b small h = let same : x ≡ b = cc in subst (λ (n : ℕ). n < 256) same small
 known_small false x b small h = absurd (cc)
 
+-- tests of addresses as facts
+below_by : (a n : ℕ) → nat_lt a n ≡ true → a < n
+below_by a n e = grind (arith, nat_tests)
+
+from_by : (a n : ℕ) → nat_lt a n ≡ false → n ≤ a
+from_by a n e = grind (arith, nat_tests)
+
 bytes_by : (p : Program) (k : ℕ) (u : UnrolledProgram) → IsUnrolling p k u → ((x : ℕ) → 2 ^ 32 ≤ x → byte_of_runs u.known x ≡ None) →
     ((a : ℕ) → byte_of_cell (p.loaded a) < 256) → (a b : ℕ) (t : Bool) → nat_lt a (2 ^ 32) ≡ t → byte_of_runs u.known a ≡ Some b → b < 256
 bytes_by p k u un beyond small a b true e h =
-    known_small (is_known_at p a) (byte_of_cell (p.loaded a)) b (small a) (sym (un.known a (grind (arith, nat_tests))) ∙ h)
-bytes_by p k u un beyond small a b false e h = let none = beyond a (grind (arith, nat_tests)) in absurd (let same : None ≡ Some b = sym none ∙ h in cc)
+    known_small (is_known_at p a) (byte_of_cell (p.loaded a)) b (small a) (sym (un.known a (below_by a (2 ^ 32) e)) ∙ h)
+bytes_by p k u un beyond small a b false e h = let none = beyond a (from_by a (2 ^ 32) e) in absurd (let same : None ≡ Some b = sym none ∙ h in cc)
 
 -- the known bytes of a file of bytes are bytes
 pub has_bytes : (m : Machine) (file : List ℕ) (notes : Notes) (entry k : ℕ) (u : UnrolledProgram) → IsUnrolling (program_of m file notes entry) k u →

@@ -80,7 +80,7 @@ log_refutes cnf conflicts a log h is = subst (λ (z : Answer). IsAnswer (cnf_of 
 
 pub log_spends : (cnf : Cnf) (conflicts : ℕ) (a : Answer) (log : Log) → IsAnswer (cnf_of cnf) conflicts a → a ≡ search.Spent log →
     IsSpent (cnf_of cnf).clauses conflicts (lines_of log)
-log_spends cnf conflicts a log h is = subst (λ (z : Answer). IsAnswer (cnf_of cnf) conflicts z) is h
+log_spends cnf conflicts a log h is = (subst (λ (z : Answer). IsAnswer (cnf_of cnf) conflicts z) is h).0
 
 module _ (added : List ℕ) (conflicts : ℕ) (c : Celled) (cnf : Cnf) (h : AreLayers added c)
     (clauses : TellsClauses (program_of_cells c) (cells_of c) (cnf_of cnf)) where

@@ -1,8 +1,6 @@
 //! One round of a question: its clauses over some bytes of the file, and what the search says of them.
 ghost use Rattle.std.specs.Prelude.{◌≡◌, ◌≤◌, ℕ, IfOk};
-ghost use Rattle.clause_spec.specs.Clauses.{AreOnVariables, valuation};
-ghost use Rattle.clause_spec.specs.Refutation.{IsRefutation};
-ghost use Rattle.cnf_form.specs.Views.{lines_of};
+ghost use Rattle.clause_spec.specs.Clauses.{valuation};
 ghost use Rattle.walk_spec.specs.Terms.{with_mem};
 ghost use Rattle.walk_spec.specs.Cells.{AreFormed, Gives};
 ghost use Rattle.walk_spec.specs.ClauseForm.{reading};
@@ -13,10 +11,9 @@ ghost use Rattle.verdict.specs.Rounds.{AreAdded, AreJudged, IsAskable, IsRound};
 
 use crate::Answered;
 use bit_blast::{blast, broken, start_of};
-use cnf_form::{Cnf, Log, Proof};
+use cnf_form::Proof;
 use mem_cells::{Celled, cells_some};
 use question_form::Question;
-use refutation_checker::{Checked, check};
 use sat_core::{Answer, solve};
 use std::alloc::{AllocError, Global};
 
@@ -45,18 +42,6 @@ fn judge_values(alloc: Global, celled: &Celled, values: &[bool]) -> Result<Round
     Ok(Round::Broken(broken))
 }
 
-/// A refutation, which is checked before it is answered.
-fn refuted(alloc: Global, clauses: Cnf, log: Log) -> Result<Round, AllocError>
-    requires over { AreOnVariables clauses.variables clauses.clauses.items }
-    requires refuted { IsRefutation clauses.variables clauses.clauses.items (lines_of log) }
-    ensures { IfOk result (λ r. r ≡ Round.Answered (Answered.Refuted (record { clauses = clauses; log = log }))) }
-{
-    match check(alloc, &clauses, &log)? {
-        Checked::Yes => Ok(Round::Answered(Answered::Refuted(Proof { clauses, log }))),
-        Checked::No { .. } => unreachable!(),
-    }
-}
-
 /// One round of a question over the bytes of the file at some addresses and those of its literals, which are all known. The error is want of memory.
 pub fn one_round(
     alloc: Global,
@@ -77,10 +62,7 @@ pub fn one_round(
             let judged = judge_values(alloc, &celled, &values)?;
             Ok(judged)
         }
-        Answer::Unsat(log) => {
-            let judged = refuted(alloc, clauses, log)?;
-            Ok(judged)
-        }
+        Answer::Unsat(log) => Ok(Round::Answered(Answered::Refuted(Proof { clauses, log }))),
         Answer::Spent(log) => Ok(Round::Answered(Answered::Spent(Proof { clauses, log }))),
     }
 }

@@ -1,13 +1,13 @@
 -- The entry condition as a term.
-use Rattle.std.proofs.Common.{◌≡◌, ℕ, ◌+◌, ◌-◌, ◌*◌, ◌%◌, ◌<◌, ◌≤◌, Bool, true, false, ◌&&◌, ◌||◌, nat_eq, nat_lt, ◌==◌, bit_and, List, [], ◌∷◌, ◌++◌, length, map, slice_index, get_or, take, Contains, sum_by, refl, ap, sym, subst, ◌∙◌, arith}
+use mir.Val.{bool_byte}
+use Rattle.std.proofs.Common.{◌≡◌, ℕ, ◌+◌, ◌-◌, ◌*◌, ◌%◌, ◌<◌, ◌≤◌, Bool, true, false, not, ◌&&◌, ◌||◌, nat_eq, nat_lt, ◌==◌, bit_and, List, [], ◌∷◌, ◌++◌, length, map, slice_index, get_or, take, Contains, sum_by, refl, ap, sym, subst, ◌∙◌, arith}
 use Rattle.std.specs.List.{list_any}
 use Rattle.std.proofs.lemmas.List.{map-append, length-map, get_or-map, take_more}
 use Rattle.std.proofs.lemmas.List.Sums.{sum_by-append}
 use Rattle.std.proofs.lemmas.List.Folds.{list_all-append}
-use Rattle.std.proofs.Math.Nat.{div-one}
 use Rattle.word_spec.specs.Words.{bit, bits}
 use Rattle.word_spec.specs.Memory.{Endian, endian}
-use Rattle.machine_spec.specs.Machine.{is_place}
+use Rattle.machine_spec.specs.Machine.{unit, is_place}
 use Rattle.machine_spec.specs.Bil as bil
 use Rattle.bilv_spec.specs.Notes as notes
 use Rattle.bilv_spec.specs.Notes.{Expr, value, is_true}
@@ -21,6 +21,7 @@ use Rattle.walk_spec.specs.WalkQuestions.{IsNamedBelow}
 use Rattle.walk_spec.specs.Passive.{AreNames}
 use Rattle.term_dag.specs.declared.nodes.Term.{Term}
 use Rattle.term_dag.specs.Made.{IsMade, IsInterned}
+use Rattle.term_dag.proofs.LowBits.{low_bits, few_low_bits}
 use Rattle.term_dag.proofs.Growth.{grew_none, grew_on, grew_more, grew_width, interned_grew, inputs_none, inputs_on, inputs_more}
 use Rattle.notes_value.specs.Views.{expr_of}
 use Rattle.notes_lang.specs.Drafting.{note_line_of}
@@ -36,24 +37,24 @@ use Rattle.note_terms.proofs.Steps.{step_made, step_kept, step_as, step_on, step
 use Rattle.note_terms.proofs.Valued.{denotes_stays, names_stay, is_state_stays, range_at, range_length, line_enough}
 use Rattle.weakest_pre.specs.Entry.{said, all_true, AreTrue, IsEntryBit}
 
--- the two low bits of a word are 0 where it is a multiple of 4
-low_bits : (v : ℕ) → bits 1 0 v ≡ v % 4
-low_bits v = ap (λ (w : ℕ). w % 4) (div-one v)
-
--- whether a word is a multiple of 4
-pub place_step : (a b c d : List TermNode) (v l z t : ℕ) → v < length a → IsMade a b (ExtractNode 1 0 v) l → IsInterned b c (ConstantNode 2 0) z →
-    IsMade c d (BinaryNode bil.Equal 2 l z) t → IsStep a d 2 0 5 (λ w. w ≡ 1) (λ x. bit (is_place (term_word x a v))) t
-place_step a b c d v l z t h low none made =
-    let first : IsStep a b 0 0 2 (λ w. w ≡ 2) (λ x. bits 1 0 (term_word x a v)) l =
-    step_made a b 0 0 _ _ (ExtractNode 1 0 v) l low (omega arith) (omega arith) refl refl (λ i. i) (λ w e. e) (λ x r. refl) in
-    let second : IsStep b c 0 0 1 (λ w. w ≡ 2) (λ x. 0) z = step_kept b c _ _ (ConstantNode 2 0) z none refl refl refl refl (λ i. i) (λ w e. e) (λ x r. refl) in
+-- whether a row can stand at the address that a word is
+pub place_step : (narrow : Bool) (hi : ℕ) → hi ≡ bool_byte (not narrow) → (a b c d : List TermNode) (v l z t : ℕ) → v < length a →
+    IsMade a b (ExtractNode hi 0 v) l → IsInterned b c (ConstantNode (hi + 1) 0) z → IsMade c d (BinaryNode bil.Equal (hi + 1) l z) t →
+    IsStep a d 2 0 5 (λ w. w ≡ 1) (λ x. bit (is_place narrow (term_word x a v))) t
+place_step narrow hi is a b c d v l z t h low none made =
+    let few = few_low_bits narrow hi is in
+    let first : IsStep a b 0 0 2 (λ w. w ≡ hi + 1) (λ x. bits hi 0 (term_word x a v)) l =
+    step_made a b 0 0 (λ w. w ≡ hi + 1) (λ x. bits hi 0 (term_word x a v)) (ExtractNode hi 0 v) l low (omega arith) (omega arith) refl refl (λ i. i)
+    (λ w e. (let all : hi + 1 - 0 ≡ hi + 1 = omega arith in e ∙ all)) (λ x r. refl) in
+    let second : IsStep b c 0 0 1 (λ w. w ≡ hi + 1) (λ x. 0) z =
+    step_kept b c _ _ (ConstantNode (hi + 1) 0) z none refl refl refl refl (λ i. i) (λ w e. e) (λ x r. refl) in
     let last : IsStep c d 2 0 2 (λ w. w ≡ 1) (λ x. bit (term_word x c l == term_word x c z)) t =
-    step_made c d 2 0 _ _ (BinaryNode bil.Equal 2 l z) t made (omega arith) (omega arith) refl refl (λ i. i) (λ w e. e) (λ x r. refl) in
+    step_made c d 2 0 _ _ (BinaryNode bil.Equal (hi + 1) l z) t made (omega (arith, few)) (omega arith) refl refl (λ i. i) (λ w e. e) (λ x r. refl) in
     step_as a d (0 + 0 + 2) 0 (2 + 1 + 2) 2 0 5 _ _ _ _ t
     (step_on a c d 0 0 (2 + 1) 2 0 2 _ _ _ _ z t (step_on a b c 0 0 2 0 0 1 _ _ _ _ l z first second) last) (omega arith) (omega arith) (omega arith) (λ w e. e)
     (λ x r.
-    let left = step_keeps b c 0 0 1 _ _ z second x l first.within ∙ first.value x r ∙ low_bits (term_word x a v) in
-    ap (λ (w : ℕ). bit (w == term_word x c z)) left ∙ ap (λ (w : ℕ). bit (term_word x a v % 4 == w)) (second.value x r))
+    let left = step_keeps b c 0 0 1 _ _ z second x l first.within ∙ first.value x r ∙ low_bits narrow hi (term_word x a v) is in
+    ap (λ (w : ℕ). bit (w == term_word x c z)) left ∙ ap (λ (w : ℕ). bit (term_word x a v % unit narrow == w)) (second.value x r))
 
 -- a test with nothing more
 and_nothing : (b : Bool) → b ≡ (b && true)
@@ -137,7 +138,7 @@ pub entry_made : (u : UnrolledProgram) (a b c d e : List TermNode) (low regs fla
     u.registers ≡ from_to low regs → u.flags ≡ flags → endian big ≡ u.endian → lines ≡ entry_lines u → low ≤ u.link → u.link < low + regs →
     AreEntryNames a b low regs flags now.names.now → IsInterned b c (ConstantNode 32 u.entry) now.pc.0 →
     l ≡ slice_index (names_of now.names.now).registers (u.link - low) →
-    IsStep c d 2 0 5 (λ w. w ≡ 1) (λ x. bit (is_place (term_word x c l))) s → AreTrue d e big now s lines t → IsEntryBit u a e t
+    IsStep c d 2 0 5 (λ w. w ≡ 1) (λ x. bit (is_place u.narrow (term_word x c l))) s → AreTrue d e big now s lines t → IsEntryBit u a e t
 entry_made u a b c d e low regs flags now l s t big lines pr pf pe pl above below names pc at aligned all =
     let n = now.names.now in
     let pc_step : IsStep b c 0 0 1 (λ w. w ≡ 32) (λ x. u.entry) now.pc.0 =
@@ -176,9 +177,9 @@ entry_made u a b c d e low regs flags now l s t big lines pr pf pe pl above belo
           let link : term_word x c l ≡ x.regs u.link =
           ap (λ v. v.word) (subst (λ (i : ℕ). term_value x c i ≡ term_value x b i) (sym at) (pc_step.grew.keeps x _ (names.names.words (u.link - low) k).0))
           ∙ ap (term_word x b) at ∙ (names.denotes x ok).registers (u.link - low) k ∙ ap x.regs here in
-          all.value x ok (at_entry x) u.entry state (is_place (x.regs u.link)) (aligned.value x ok ∙ ap (λ (v : ℕ). bit (is_place v)) link)
-          ∙ ap (λ (z : List Expr). bit (is_place (x.regs u.link) && all_true (endian big) z (state_at (at_entry x) u.entry))) pl
-          ∙ ap (λ (z : Endian). bit (is_place (x.regs u.link) && all_true z (entry_lines u) (state_at (at_entry x) u.entry))) pe;
+          all.value x ok (at_entry x) u.entry state (is_place u.narrow (x.regs u.link)) (aligned.value x ok ∙ ap (λ (v : ℕ). bit (is_place u.narrow v)) link)
+          ∙ ap (λ (z : List Expr). bit (is_place u.narrow (x.regs u.link) && all_true (endian big) z (state_at (at_entry x) u.entry))) pl
+          ∙ ap (λ (z : Endian). bit (is_place u.narrow (x.regs u.link) && all_true z (entry_lines u) (state_at (at_entry x) u.entry))) pe;
     }
 
 -- a term of the registers by its place

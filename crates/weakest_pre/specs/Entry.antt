@@ -37,7 +37,7 @@ pub record AreTrue (old new : List TermNode) (big : Bool) (now : Now) (first : �
 
 -- whether the entry condition is met, but for the bytes of the file
 abbrev pub meets : UnrolledProgram → State → Bool
-meets u s = is_place (s.regs u.link) && all_true u.endian (entry_lines u) s
+meets u s = is_place u.narrow (s.regs u.link) && all_true u.endian (entry_lines u) s
 
 -- A bit says whether the entry condition is met, but for the bytes of the file. It costs two gates and the required lines' prices.
 pub record IsEntryBit (u : UnrolledProgram) (old new : List TermNode) (t : ℕ) : Type 0 where

@@ -37,21 +37,25 @@ pub fn both(dag: &mut Dag, left: Term, right: Term) -> Result<Term, AllocError>
     Ok(bit)
 }
 
-/// Whether a word is a multiple of 4.
-fn is_at_place(dag: &mut Dag, word: Term) -> Result<Term, AllocError>
+/// Whether a row can stand at the address that a word is: it is even where some rows have 2 bytes, and else a multiple of 4.
+fn is_at_place(dag: &mut Dag, narrow: bool, word: Term) -> Result<Term, AllocError>
     requires typed { AreTyped dag.old }
     requires word { HasWidth dag.old 32 word.0 }
-    ensures { IfOk result (λ t. IsStep dag.old dag.new 2 0 5 (λ w. w ≡ 1) (λ x. bit (is_place (term_word x dag.old word.0))) t.0) }
+    ensures { IfOk result (λ t. IsStep dag.old dag.new 2 0 5 (λ w. w ≡ 1) (λ x. bit (is_place narrow (term_word x dag.old word.0))) t.0) }
 {
+    let hi = u8::from(!narrow);
     let low = dag.mk(Node::Extract {
-        hi: 1,
+        hi,
         lo: 0,
         term: word,
     })?;
-    let zero = dag.keep(Node::Constant { width: 2, value: 0 })?;
+    let zero = dag.keep(Node::Constant {
+        width: hi + 1,
+        value: 0,
+    })?;
     let bit = dag.mk(Node::Binary {
         op: Op::Equal,
-        width: 2,
+        width: hi + 1,
         left: low,
         right: zero,
     })?;
@@ -93,7 +97,7 @@ pub fn entry_bit(alloc: Global, dag: &mut Dag, unrolled: &Unrolled) -> Result<Te
         value: unrolled.entry as u64,
     })?;
     let link = names.registers[(unrolled.link - first) as usize];
-    let aligned = is_at_place(dag, link)?;
+    let aligned = is_at_place(dag, unrolled.narrow, link)?;
     let now = Now { names: &names, pc };
     let bit = all_true(dag, &unrolled.notes.required, &now, unrolled.big, aligned)?;
     Ok(bit)

@@ -1,12 +1,11 @@
-use Rattle.std.proofs.Common.{string_bytes, add-one, ◌+◌}
+use Rattle.std.proofs.Common.{string_bytes}
 use Rattle.smtlib_print.proofs.KnownTexts.{known_added}
 use Rattle.smtlib_print.proofs.Printed.{on_ok, pushed}
 use Rattle.smtlib_print.proofs.file_bytes.push_known.Goals as goal
 
 pub returns : goal.returns
 returns c =
-    on_ok c.push_str-2.result _ _ (known_added (string_bytes c.args.out.now) (string_bytes c.write.new.self) (string_bytes c.push_address.new.out)
-    (string_bytes c.push_str.new.self)
-    (string_bytes c.push_byte.new.out) (string_bytes c.push_str-2.new.self) c.args.place (c.args.place + 1) c.args.address c.args.value (add-one c.args.place)
-    c.in_ok-write.ensures.bytes c.in_ok-push_address.ensures
-    c.in_ok-push_str.ensures.bytes c.in_ok-push_byte.ensures) (pushed c.push_str-2.result (string_bytes c.push_str-2.new.self) _ _ c.push_str-2.ensures.bytes)
+    on_ok c.push_str-3.result _ _ (known_added (string_bytes c.args.out.now) (string_bytes c.push_str.new.self) (string_bytes c.push_address.new.out)
+    (string_bytes c.push_str-2.new.self) (string_bytes c.push_byte.new.out) (string_bytes c.push_str-3.new.self) c.args.address c.args.value
+    c.in_ok-push_str.ensures.bytes c.in_ok-push_address.ensures c.in_ok-push_str-2.ensures.bytes c.in_ok-push_byte.ensures)
+    (pushed c.push_str-3.result (string_bytes c.push_str-3.new.self) _ _ c.push_str-3.ensures.bytes)

@@ -6,6 +6,6 @@ use Rattle.smtlib_print.proofs.file_bytes.push_run.Given as goal
 
 abbrev pub invariant-loop-distance : goal.invariant-loop-distance
 invariant-loop-distance l = record {
-  text : string_bytes l.out ++ unlisted (run_of l.run) l.place l.distance ≡ string_bytes l.fn.out ++ unlisted (run_of l.run) l.place 0;
+  text : string_bytes l.out ++ unlisted (run_of l.run) l.distance ≡ string_bytes l.fn.out ++ unlisted (run_of l.run) 0;
   bytes : AreBytesTo (run_of l.run) l.distance;
 }

@@ -3,4 +3,4 @@ use Rattle.smtlib_print.proofs.Runs.{AreRunsWritten}
 use Rattle.smtlib_print.proofs.file_bytes.push_runs.Given as goal
 
 abbrev pub invariant-loop-i : goal.invariant-loop-i
-invariant-loop-i l = AreRunsWritten l.runs l.place (string_bytes l.fn.out) l.at l.i (string_bytes l.out)
+invariant-loop-i l = AreRunsWritten l.runs (string_bytes l.fn.out) l.i (string_bytes l.out)

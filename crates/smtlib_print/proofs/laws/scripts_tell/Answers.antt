@@ -4,5 +4,5 @@ use Rattle.smtlib_print.proofs.Telling.{script_tells}
 use Rattle.smtlib_print.proofs.laws.scripts_tell.Goals as goal
 
 pub returns : goal.returns
-returns c u form points numbers question nodes root laid order are tells few fit behind small =
-    script_tells u (layout_of form) (usable_of form) laid points numbers are nodes root question tells few fit behind small order
+returns c u form points numbers question nodes root laid order are tells few fit behind =
+    script_tells u (layout_of form) (usable_of form) laid points numbers are nodes root question tells few fit behind order

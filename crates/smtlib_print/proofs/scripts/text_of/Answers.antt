@@ -20,11 +20,11 @@ returns-clause-text c =
     let v = c.args.question.now.passive.now.unrolled.now in
     let choices = drawn c.args.numbers.now (map (λ q. q.draws) (program_of_question c.args.question.now).points) in
     script_parts (layout_of v.form) c.args.numbers.now choices (map run_of c.deref.result.now)
-    c.args.question.now.dag c.args.question.now.root.0 c.in_ok-last.last c.nodes-count.result (string_bytes c.new-out.result) (string_bytes c.push_head.new.out)
+    c.args.question.now.dag c.args.question.now.root.0 c.nodes-count.result (string_bytes c.new-out.result) (string_bytes c.push_head.new.out)
     (string_bytes c.push_definitions.new.out) (string_bytes c.push_root.new.out) (string_bytes c.push_runs.new.out) (string_bytes c.push_check.new.out)
     c.new-out.ensures.bytes
-    c.nodes-count.ensures.count c.in_ok-last.ensures.last c.in_ok-push_head.ensures c.in_ok-push_definitions.ensures c.in_ok-push_root.ensures
-    c.in_ok-last.ensures.text
+    c.nodes-count.ensures.count c.in_ok-push_head.ensures c.in_ok-push_definitions.ensures c.in_ok-push_root.ensures
+    c.in_ok-push_runs.ensures.text
     c.in_ok-push_check.ensures
     ∙ ap (λ (runs : List Known). commands_text
     (all_commands (middle_commands (layout_of v.form) c.args.numbers.now choices (map run_of runs) c.args.question.now.dag c.args.question.now.root.0)))

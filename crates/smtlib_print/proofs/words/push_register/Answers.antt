@@ -5,4 +5,4 @@ use Rattle.smtlib_print.proofs.words.push_register.Goals as goal
 pub returns-in-Rv32 : goal.returns-in-Rv32
 returns-in-Rv32 c =
     on_text c.write.result (string_bytes c.write.new.self) (string_bytes c.args.out.now) _ _
-    (rv_named c.args.form c.args.register c.in-Rv32.is c.requires.first c.requires.last) c.write.ensures.bytes
+    (rv_named c.args.form _ c.args.register c.in-Rv32.is c.requires.first c.requires.last) c.write.ensures.bytes

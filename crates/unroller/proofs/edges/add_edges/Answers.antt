@@ -14,9 +14,9 @@ returns c =
     let keys = c.args.keys.now in
     let jumps = c.in_ok-jumps.jumps.items in
     let next = c.next_end-next.result in
-    led_all n frames keys c.args.own c.args.called jumps next c.also_jumps-both.result c.in_ok-targets.targets.items c.args.edges.now.items
+    led_all c.args.narrow n frames keys c.args.own c.args.called jumps next c.also_jumps-both.result c.in_ok-targets.targets.items c.args.edges.now.items
     c.add_exit.new.edges.items c.add_targets.new.edges.items
-    (c.in_ok-jumps.ensures ∙ ap (λ (s : ℕ). jumps_of n (frame_at frames s) s c.args.called) c.stack_of-stack.ensures)
+    (c.in_ok-jumps.ensures ∙ ap (λ (s : ℕ). jumps_of c.args.narrow n (frame_at frames s) s c.args.called) c.stack_of-stack.ensures)
     (c.next_end-next.ensures ∙ ap (λ (s : ℕ). next_of n s) c.stack_of-stack.ensures)
     (c.also_jumps-both.ensures ∙ ap (λ (l : List End). is_both l next) c.deref-2.ensures.value)
     c.in_ok-targets.ensures.rise

@@ -144,6 +144,7 @@ module _ (g : given.Over) (c : goal.After-drop-listed-2 g) where
   made = record {
     form = c.layout.result;
     big = c.is_big_machine.result;
+    narrow = c.is_narrow.result;
     link = c.link.result;
     entry = c.args.entry;
     notes = c.args.notes;
@@ -206,6 +207,7 @@ returns-clause-unrolled g c =
     let runs = kept_runs_are_right c.args.image.now c.kept.result.now c.kept.ensures.runs (λ i w. (c.kept.ensures.words i w).1) in
     record {
       endian = c.is_big_machine.ensures ∙ c.requires.order;
+      narrow = c.is_narrow.ensures;
       registers = registers g c;
       registers_rise = (form g c).rise;
       flags = flags g c;

@@ -1,5 +1,3 @@
-use Rattle.std.proofs.Common.{sym, subst}
-use Rattle.verdict.specs.Rounds.{IsRound}
 use Rattle.verdict.specs.declared.rounds.Round.TheVariants.{Answered}
 use Rattle.verdict.specs.declared.verdicts.Answered.TheVariants as answer
 use Rattle.verdict.proofs.RoundAnswers.{askable_cells, layers, of_question, values_satisfy, log_refutes, log_spends, round_refuted, round_spent, some_memory, round_judged}
@@ -25,12 +23,14 @@ returns-in-Sat c =
     c.in_ok-judged-in-Sat.judged c.in_ok-judged-in-Sat.ensures)
 
 pub returns-in-Unsat : goal.returns-in-Unsat
-returns-in-Unsat c =
-    of_question c.args.question.now c.args.added.now c.args.conflicts c.in_ok-celled.celled c.in_ok-judged-in-Unsat.judged c.in_ok-celled.ensures
-    (subst (IsRound c.in_ok-celled.celled.question.now c.args.added.now c.args.conflicts) (sym c.in_ok-judged-in-Unsat.ensures)
+returns-in-Unsat c p k layout g =
+    of_question c.args.question.now c.args.added.now c.args.conflicts c.in_ok-celled.celled
+    (Answered (answer.Refuted (record { clauses = c.in_ok-clauses.clauses; log = c.in-Unsat.log })))
+    c.in_ok-celled.ensures
     (round_refuted c.args.added.now c.args.conflicts c.in_ok-celled.celled c.in_ok-clauses.clauses
     (layers c.args.question.now c.args.added.now c.in_ok-celled.celled c.in_ok-celled.ensures c.requires.added c.requires.tells) c.in_ok-clauses.ensures
-    c.in-Unsat.log (log_refutes c.in_ok-clauses.clauses c.args.conflicts c.in_ok-values.field-0 c.in-Unsat.log c.in_ok-values.ensures c.in-Unsat.is)))
+    c.in-Unsat.log (log_refutes c.in_ok-clauses.clauses c.args.conflicts c.in_ok-values.field-0 c.in-Unsat.log c.in_ok-values.ensures c.in-Unsat.is)) p k layout
+    g
 
 pub returns : goal.returns
 returns c p k layout g =
