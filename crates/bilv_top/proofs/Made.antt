@@ -10,8 +10,8 @@ use Rattle.bilv_spec.specs.Run.{Program}
 use Rattle.word_spec.specs.Texts.{line, line_feed, lines, joined, spaced, number_text, word_text}
 use Rattle.command_spec.specs.Work.{item_words, next_item, work_file, work_notes, work_text}
 use Rattle.word_spec.specs.RowFiles.{bytes_of, rv_file}
-use Rattle.call_spec.specs.Calls.{default_options, Answer, Budget, Evidence, NoEvidence, Refutations, EntryRefuted, RunOf, SpentOn, Count, plain_answer, default_budget}
-use Rattle.bilv_spec.specs.Files.{layout_of, machine_of, names_of, program_of}
+use Rattle.call_spec.specs.Calls.{Options, default_options, Answer, Budget, Evidence, NoEvidence, Refutations, EntryRefuted, RunOf, SpentOn, Count, plain_answer, default_budget}
+use Rattle.bilv_spec.specs.Files.{layout_of, machine_of, vocabulary_of, program_of}
 use Rattle.bilv_spec.specs.NotesGrammar.{IsNotesText}
 use Rattle.machine_spec.specs.Endings.{NamedEnding, FailsBy, UnknownBy}
 use Rattle.machine_spec.specs.StateText.{Layout, NamedLine, words_of_line, lines_behind, printed}
@@ -48,16 +48,16 @@ module _ (file text image : List ℕ) (b : Budget) (a : Answer) (same : image �
   pub large_verified : notes_limit < length text → a ≡ plain_answer 5 (line (codes "notes: TooLarge")) → IsVerified default_options file text b a
   large_verified long is = elf_accepted accepted (notes_refused (line (codes "notes: TooLarge")) (notes_large long) is)
 
-  pub answered_verified : AreNotesAnswered image text a → IsVerified default_options file text b a
+  pub answered_verified : AreNotesAnswered default_options image text a → IsVerified default_options file text b a
   answered_verified answered =
-      elf_accepted accepted (notes_refused answered.0 (subst (λ x. AreNotesRefused x text answered.0) same answered.1) answered.2)
+      elf_accepted accepted (notes_refused answered.0 (subst (λ x. AreNotesRefused default_options x text answered.0) same answered.1) answered.2)
 
-  pub found_verified : (f : Found) → length text ≤ notes_limit → (f.text.items ≡ text) × IsFoundBy image f →
+  pub found_verified : (f : Found) → length text ≤ notes_limit → (f.text.items ≡ text) × IsFoundBy default_options image f →
       IsReported (program_of (machine_of default_options image) image (notes_of f.notes) f.entry) (layout_of default_options image) b a →
       IsVerified default_options file text b a
   found_verified f short found said =
-      let by = subst (λ x. IsFoundBy x f) same found.1 in
-      let says = subst (λ t. IsNotesText (names_of file) t (notes_of f.notes)) found.0 by.says in
+      let by = subst (λ x. IsFoundBy default_options x f) same found.1 in
+      let says = subst (λ t. IsNotesText (vocabulary_of default_options file) t (notes_of f.notes)) found.0 by.says in
       elf_accepted accepted (program_found (program_of (machine_of default_options file) file (notes_of f.notes) f.entry)
       (accepted, short, (notes_of f.notes, f.entry, says, by.at, refl))
       (subst (λ x. IsReported (program_of (machine_of default_options x) x (notes_of f.notes) f.entry) (layout_of default_options x) b a) same said))
@@ -100,18 +100,18 @@ elf_has : (file written : List ℕ) → IsElfRefused file written → Contains w
 elf_has file written (elf_large long) = line_has (codes "elf: TooLarge")
 elf_has file written (elf_fault f short first) = line_has (codes "elf:" ++ spaced (elf_fault_words f ∷ []))
 
-notes_have : (file text written : List ℕ) → AreNotesRefused file text written → Contains written line_feed
-notes_have file text written (notes_large long) = line_has (codes "notes: TooLarge")
-notes_have file text written (notes_fault n f short first) = line_has (codes "notes: line" ++ spaced (number_text n ∷ note_fault_words f ∷ []))
-notes_have file text written (no_function notes name short is at none) = line_has (codes "notes: NoFunction")
-notes_have file text written (ambiguous notes name a c short is at two) = line_has (codes "notes: Ambiguous" ++ spaced (word_text a ∷ word_text c ∷ []))
+notes_have : (o : Options) (file text written : List ℕ) → AreNotesRefused o file text written → Contains written line_feed
+notes_have o file text written (notes_large long) = line_has (codes "notes: TooLarge")
+notes_have o file text written (notes_fault n f short first) = line_has (codes "notes: line" ++ spaced (number_text n ∷ note_fault_words f ∷ []))
+notes_have o file text written (no_function notes name short is at none) = line_has (codes "notes: NoFunction")
+notes_have o file text written (ambiguous notes name a c short is at two) = line_has (codes "notes: Ambiguous" ++ spaced (word_text a ∷ word_text c ∷ []))
 
 text_has : (a : Answer) (status : ℕ) (written : List ℕ) → a ≡ plain_answer status written → Contains written line_feed → Contains a.text line_feed
 text_has a status written is has = subst (λ t. Contains t line_feed) (sym (ap (λ x. x.text) is)) has
 
 found_has : (file text : List ℕ) (b : Budget) (a : Answer) → AfterNotes default_options file text (λ p. IsReported p (layout_of default_options file) b) a →
     Contains a.text line_feed
-found_has file text b a (notes_refused written refused is) = text_has a 5 written is (notes_have file text written refused)
+found_has file text b a (notes_refused written refused is) = text_has a 5 written is (notes_have default_options file text written refused)
 found_has file text b a (program_found p found is) =
     subst (λ t. Contains t line_feed) (sym (ap (λ x. x.text) is.3)) (report_has p (layout_of default_options file) b is.0 is.1 is.2)
 

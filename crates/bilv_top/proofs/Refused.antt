@@ -1,14 +1,17 @@
 -- What is answered where the inputs of a command are refused.
-use Rattle.std.proofs.Common.{◌≡◌, ℕ, ◌≤◌, List, length, true, false, refl, ap, sym, subst, arith}
+use Rattle.std.proofs.Common.{◌≡◌, ℕ, ◌≤◌, List, Option, Bool, length, true, false, ◌∙◌, refl, ap, sym, subst, arith}
 use Rattle.std.specs.Prelude.{codes, if◌then◌else◌}
 use mathlib.Core.Path.{fun_ext}
 use Rattle.call_spec.specs.Outside.{Held, Agrees, Rose}
 use Rattle.bilv_spec.specs.Run.{Program}
-use Rattle.bilv_spec.specs.Notes.{Notes, Function, At, Named}
+use Rattle.bilv_spec.specs.Notes.{Expr, Notes, Function, At, Named}
 use Rattle.bilv_spec.specs.NotesGrammar.{IsNotesText}
 use Rattle.bilv_spec.specs.NotesFaults.{NoteFault, IsFirstNoteFault}
 use Rattle.call_spec.specs.Calls.{Options, Answer, plain_answer, Surroundings, AfterRead, read_failed, was_read}
-use Rattle.bilv_spec.specs.Files.{machine_of, names_of, is_rv, program_of, IsFunctionAt}
+use Rattle.bilv_spec.specs.Files.{machine_of, names_of, vocabulary_of, is_rv, program_of, IsFunctionAt}
+use Rattle.machine_spec.specs.Machine as machines
+use Rattle.bilv_spec.specs.Scopes.{Vocabulary}
+use Rattle.bilv_spec.proofs.ProgramRows.{risc_v_has_one_option, arm_has_one_option}
 use Rattle.bilv_spec.specs.RvNames.{rv_names}
 use Rattle.bilv_spec.specs.ArmNames.{arm_names}
 use Rattle.word_spec.specs.Texts.{line}
@@ -28,12 +31,22 @@ use Rattle.bilv_top.specs.declared.inputs.Found.{Found}
 use Rattle.bilv_top.specs.Due.{IsUnread, failed, longer, AreNotesAnswered, IsNotesAnswer, unread, refused, IsFoundBy}
 use Rattle.bilv_top.specs.Names.{IsMissedFunction, missed_text}
 
--- the names of a file are those of its machine
-pub rv_named : (file : List ℕ) → is_rv file ≡ true → rv_names ≡ names_of file
-rv_named file is = fun_ext (λ w. sym (ap (λ b. if b then rv_names w else arm_names w) is))
+-- what notes call the machine of a file
+vocabulary_by : (o : Options) (file : List ℕ) (v : Vocabulary) → ((w : List ℕ) → v.names w ≡ names_of file w) → v.narrow ≡ (machine_of o file).narrow →
+    v ≡ vocabulary_of o file
+vocabulary_by o file v names narrow =
+    ap (λ (n : List ℕ → Option Expr). record { names = n; narrow = v.narrow }) (fun_ext names)
+    ∙ ap (λ (b : Bool). record { names = names_of file; narrow = b }) narrow
 
-pub arm_named : (file : List ℕ) → is_rv file ≡ false → arm_names ≡ names_of file
-arm_named file is = fun_ext (λ w. sym (ap (λ b. if b then rv_names w else arm_names w) is))
+pub rv_named : (o : Options) (file : List ℕ) → is_rv file ≡ true → record { names = rv_names; narrow = o.compressed } ≡ vocabulary_of o file
+rv_named o file is =
+    vocabulary_by o file (record { names = rv_names; narrow = o.compressed }) (λ w. sym (ap (λ b. if b then rv_names w else arm_names w) is))
+    (sym (ap (λ (m : machines.Machine). m.narrow) (risc_v_has_one_option o file is).0))
+
+pub arm_named : (o : Options) (file : List ℕ) → is_rv file ≡ false → record { names = arm_names; narrow = false } ≡ vocabulary_of o file
+arm_named o file is =
+    vocabulary_by o file (record { names = arm_names; narrow = false }) (λ w. sym (ap (λ b. if b then rv_names w else arm_names w) is))
+    (sym (ap (λ (m : machines.Machine). m.narrow) (arm_has_one_option o file is).0))
 
 -- the first fault of a file is its refusal
 refused_as : (file : List ℕ) (f : elf.FileFault) → length file ≤ elf_limit → elf.IsFirstFileFault file f → IsElfRefused file (elf_fault_text f)
@@ -56,21 +69,21 @@ elf_is_refused file SymbolTable some le is = refused_as file elf.BadSymbolTable 
 elf_is_refused file Memory some le is = absurd some
 
 -- a line of the notes is refused
-pub line_answered : (file text : List ℕ) (n : ℕ) (f : NoteFault) (a : Answer) → length text ≤ notes_limit → IsFirstNoteFault (names_of file) text n f →
-    a ≡ plain_answer 5 (note_fault_text n f) → AreNotesAnswered file text a
-line_answered file text n f a le is a_is = (note_fault_text n f, notes_fault n f le is, a_is)
+pub line_answered : (o : Options) (file text : List ℕ) (n : ℕ) (f : NoteFault) (a : Answer) → length text ≤ notes_limit → IsFirstNoteFault (vocabulary_of o file) text n f →
+    a ≡ plain_answer 5 (note_fault_text n f) → AreNotesAnswered o file text a
+line_answered o file text n f a le is a_is = (note_fault_text n f, notes_fault n f le is, a_is)
 
-missed_by : (file text : List ℕ) (notes : Notes) (f : Function) (fault : SymFault) → length text ≤ notes_limit → IsNotesText (names_of file) text notes →
+missed_by : (o : Options) (file text : List ℕ) (notes : Notes) (f : Function) (fault : SymFault) → length text ≤ notes_limit → IsNotesText (vocabulary_of o file) text notes →
     notes.entry ≡ f →
-    IsMissedFunction file f fault → AreNotesRefused file text (missed_text fault)
-missed_by file text notes (At a) fault le is e missed = absurd missed
-missed_by file text notes (Named name) NoFunction le is e missed = no_function notes name le is e missed
-missed_by file text notes (Named name) (Ambiguous a c) le is e missed = ambiguous notes name a c le is e missed
+    IsMissedFunction (machine_of o file).narrow file f fault → AreNotesRefused o file text (missed_text fault)
+missed_by o file text notes (At a) fault le is e missed = absurd missed
+missed_by o file text notes (Named name) NoFunction le is e missed = no_function notes name le is e missed
+missed_by o file text notes (Named name) (Ambiguous a c) le is e missed = ambiguous notes name a c le is e missed
 
 -- their function is not found
-pub name_answered : (file text : List ℕ) (notes : Notes) (fault : SymFault) (a : Answer) → length text ≤ notes_limit →
-    IsNotesText (names_of file) text notes → IsMissedFunction file notes.entry fault → a ≡ plain_answer 5 (missed_text fault) → AreNotesAnswered file text a
-name_answered file text notes fault a le is missed a_is = (missed_text fault, missed_by file text notes notes.entry fault le is refl missed, a_is)
+pub name_answered : (o : Options) (file text : List ℕ) (notes : Notes) (fault : SymFault) (a : Answer) → length text ≤ notes_limit →
+    IsNotesText (vocabulary_of o file) text notes → IsMissedFunction (machine_of o file).narrow file notes.entry fault → a ≡ plain_answer 5 (missed_text fault) → AreNotesAnswered o file text a
+name_answered o file text notes fault a le is missed a_is = (missed_text fault, missed_by o file text notes notes.entry fault le is refl missed, a_is)
 
 module _ (s : Surroundings) (elf : List ℕ) (Next : List ℕ → Answer → Type 0) (a : Answer) where
   -- the ELF file was not read
@@ -90,7 +103,7 @@ module _ (s : Surroundings) (elf : List ℕ) (Next : List ℕ → Answer → Typ
 
 module _ (s : Surroundings) (o : Options) (notes file : List ℕ) (Next : List ℕ → Program → Answer → Type 0) (a : Answer) where
   -- no program is found
-  pub notes_answered : IsNotesAnswer (s.held notes) (s.shelf_before notes) (s.shelf_after notes) file a →
+  pub notes_answered : IsNotesAnswer (s.held notes) (s.shelf_before notes) (s.shelf_after notes) o file a →
       AfterRead s notes (λ text. AfterNotes o file text (Next text)) a
   notes_answered (unread (failed rose is)) = read_failed rose is
   notes_answered (unread (longer long is)) = was_read long.0 long.1 (notes_refused (line (codes "notes: TooLarge")) (notes_large long.2) is)
@@ -98,7 +111,7 @@ module _ (s : Surroundings) (o : Options) (notes file : List ℕ) (Next : List �
 
   -- a program is found
   pub notes_found : (text : List ℕ) (found : Notes) (entry : ℕ) → Agrees (s.held notes) text → length text ≤ notes_limit → IsAccepted file →
-      IsNotesText (names_of file) text found → IsFunctionAt file found.entry entry →
+      IsNotesText (vocabulary_of o file) text found → IsFunctionAt (machine_of o file).narrow file found.entry entry →
       (IsFound o file text (program_of (machine_of o file) file found entry) → Next text (program_of (machine_of o file) file found entry) a) →
       AfterRead s notes (λ text. AfterNotes o file text (Next text)) a
   notes_found text found entry agrees le accepted says at next =
@@ -113,9 +126,10 @@ pub unread_since : (held : Held) (a b c limit : ℕ) (large answer : Answer) →
 unread_since held a b c limit large answer le (failed rose is) = failed (rose_since a b c le rose) is
 unread_since held a b c limit large answer le (longer long is) = longer long is
 
-pub answer_since : (held : Held) (a b c : ℕ) (file : List ℕ) (answer : Answer) → a ≤ b → IsNotesAnswer held b c file answer → IsNotesAnswer held a c file answer
-answer_since held a b c file answer le (unread is) = unread (unread_since held a b c notes_limit _ answer le is)
-answer_since held a b c file answer le (refused text agrees answered) = refused text agrees answered
+pub answer_since : (held : Held) (a b c : ℕ) (o : Options) (file : List ℕ) (answer : Answer) → a ≤ b → IsNotesAnswer held b c o file answer →
+    IsNotesAnswer held a c o file answer
+answer_since held a b c o file answer le (unread is) = unread (unread_since held a b c notes_limit _ answer le is)
+answer_since held a b c o file answer le (refused text agrees answered) = refused text agrees answered
 
 -- what is read of a file whose count never fell before
 pub read_since : (s t : Surroundings) (name : List ℕ) (Next : List ℕ → Answer → Type 0) (a : Answer) → s.held name ≡ t.held name →
@@ -125,27 +139,27 @@ read_since s t name Next a held le same (read_failed rose is) =
 read_since s t name Next a held le same (was_read bytes agrees next) = was_read bytes (subst (λ h. Agrees h bytes) held agrees) next
 
 -- a step that found a program in the text of notes, or answered
-pub step_found : (held : Held) (before after : ℕ) (file text : List ℕ) (step : Step Found) → Agrees held text → length text ≤ notes_limit →
-    IfStep step (AreNotesAnswered file text) (λ f. (f.text.items ≡ text) × IsFoundBy file f) →
-    IfStep step (IsNotesAnswer held before after file) (λ f. Agrees held f.text.items × (length f.text.items ≤ notes_limit) × IsFoundBy file f)
-step_found held before after file text (Answered a) agrees le is = refused text agrees is
-step_found held before after file text (Go f) agrees le is =
+pub step_found : (held : Held) (before after : ℕ) (o : Options) (file text : List ℕ) (step : Step Found) → Agrees held text → length text ≤ notes_limit →
+    IfStep step (AreNotesAnswered o file text) (λ f. (f.text.items ≡ text) × IsFoundBy o file f) →
+    IfStep step (IsNotesAnswer held before after o file) (λ f. Agrees held f.text.items × (length f.text.items ≤ notes_limit) × IsFoundBy o file f)
+step_found held before after o file text (Answered a) agrees le is = refused text agrees is
+step_found held before after o file text (Go f) agrees le is =
     (subst (Agrees held) (sym is.0) agrees, subst (λ t. length t ≤ notes_limit) (sym is.0) le, is.1)
 
 module _ (s : Surroundings) (o : Options) (elf notes file : List ℕ) (Next : List ℕ → List ℕ → Program → Answer → Type 0) (a : Answer) (held : Held) (before : ℕ)
     (agrees : Agrees (s.held elf) file) (same : held ≡ s.held notes) (le : s.shelf_before notes ≤ before) where
   -- no program is found over an ELF file that was read, by what is told of the notes behind that
-  pub both_answered : AfterImage file (IsNotesAnswer held before (s.shelf_after notes) file) a
+  pub both_answered : AfterImage file (IsNotesAnswer held before (s.shelf_after notes) o file) a
       → AfterElf s elf (λ file. AfterRead s notes (λ text. AfterNotes o file text (Next file text))) a
   both_answered (elf_refused written is a_is) = was_read file agrees (elf_refused written is a_is)
   both_answered (elf_accepted accepted is) =
       elf_accepts s elf (λ file. AfterRead s notes (λ text. AfterNotes o file text (Next file text))) a file agrees accepted
       (notes_answered s o notes file (Next file) a
-      (answer_since (s.held notes) (s.shelf_before notes) before (s.shelf_after notes) file a le (subst
-      (λ h. IsNotesAnswer h before (s.shelf_after notes) file a) same is)))
+      (answer_since (s.held notes) (s.shelf_before notes) before (s.shelf_after notes) o file a le (subst
+      (λ h. IsNotesAnswer h before (s.shelf_after notes) o file a) same is)))
 
   -- a program is found
-  pub both_found : (f : Found) → IsAccepted file → Agrees held f.text.items → length f.text.items ≤ notes_limit → IsFoundBy file f →
+  pub both_found : (f : Found) → IsAccepted file → Agrees held f.text.items → length f.text.items ≤ notes_limit → IsFoundBy o file f →
       (IsFound o file f.text.items (program_of (machine_of o file) file (notes_of f.notes) f.entry) →
       Next file f.text.items (program_of (machine_of o file) file (notes_of f.notes) f.entry) a)
       → AfterElf s elf (λ file. AfterRead s notes (λ text. AfterNotes o file text (Next file text))) a

@@ -5,7 +5,7 @@ use Rattle.machine_spec.specs.Machine.{Machine}
 use Rattle.machine_spec.specs.Bil.{Bank, XRegisters, RRegisters}
 use Rattle.call_spec.specs.Calls.{Options}
 use Rattle.bilv_spec.specs.Files.{machine_of}
-use Rattle.machine_spec.specs.Rv.{rv32}
+use Rattle.machine_spec.specs.RvMachine.{rv32}
 use Rattle.machine_spec.specs.Arm.{arm}
 use Rattle.state_text.specs.Starts.{profile_in}
 use Rattle.state_text.specs.declared.layout.Layout.{Layout}
@@ -13,12 +13,12 @@ use Rattle.state_text.specs.declared.layout.Layout.TheVariants.{Rv32, Arm}
 
 -- the machine
 abbrev pub machine_in : Layout → Machine
-machine_in Rv32 = rv32
+machine_in (Rv32 compressed) = rv32 compressed
 machine_in (Arm big profile) = arm (endian big) (profile_in profile)
 
 -- the letter of its registers
 abbrev pub bank_in : Layout → Bank
-bank_in Rv32 = XRegisters
+bank_in (Rv32 compressed) = XRegisters
 bank_in (Arm big profile) = RRegisters
 
 -- the machine is that of a file by some options

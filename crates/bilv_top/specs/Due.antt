@@ -2,7 +2,7 @@
 use Rattle.std.specs.Prelude.{ℕ, ◌≡◌, List, codes}
 use Rattle.call_spec.specs.Outside.{Held, Agrees, IsLonger, Rose}
 use Rattle.call_spec.specs.Calls.{Options, Answer, plain_answer, read_fault}
-use Rattle.bilv_spec.specs.Files.{machine_of, names_of, IsFunctionAt}
+use Rattle.bilv_spec.specs.Files.{machine_of, vocabulary_of, IsFunctionAt}
 use Rattle.bilv_spec.specs.NotesGrammar.{IsNotesText}
 use Rattle.bilv_spec.specs.Verified.{AreNotesRefused, notes_limit}
 use Rattle.word_spec.specs.Texts.{line}
@@ -16,18 +16,21 @@ pub data IsUnread (held : Held) (before after limit : ℕ) (large : Answer) (a :
   longer : IsLonger held limit → a ≡ large → IsUnread held before after limit large a
 
 -- notes are refused over an accepted file, with this answer
-abbrev pub AreNotesAnswered : (file text : List ℕ) → Answer → Type 0
-AreNotesAnswered file text a = (written : List ℕ) × AreNotesRefused file text written × (a ≡ plain_answer 5 written)
+abbrev pub AreNotesAnswered : Options → (file text : List ℕ) → Answer → Type 0
+AreNotesAnswered o file text a = (written : List ℕ) × AreNotesRefused o file text written × (a ≡ plain_answer 5 written)
 
 -- the answer where no program is found over an accepted file: the notes of a name were not read, or are refused
-pub data IsNotesAnswer (held : Held) (before after : ℕ) (file : List ℕ) (a : Answer) : Type 0 where
-  unread : IsUnread held before after notes_limit (plain_answer 5 (line (codes "notes: TooLarge"))) a → IsNotesAnswer held before after file a
-  refused : (text : List ℕ) → Agrees held text → AreNotesAnswered file text a → IsNotesAnswer held before after file a
+pub data IsNotesAnswer (held : Held) (before after : ℕ) (o : Options) (file : List ℕ) (a : Answer) : Type 0 where
+  unread : IsUnread held before after notes_limit (plain_answer 5 (line (codes "notes: TooLarge"))) a → IsNotesAnswer held before after o file a
+  refused : (text : List ℕ) → Agrees held text → AreNotesAnswered o file text a → IsNotesAnswer held before after o file a
 
--- what was found over a file: the notes that the text says, the address of their function, and that the machine has the registers and flags that they name,
--- whatever its options
-pub record IsFoundBy (file : List ℕ) (f : Found) : Type 0 where
-  pub says : IsNotesText (names_of file) f.text.items (notes_of f.notes)
-  pub at : IsFunctionAt file (notes_of f.notes).entry f.entry
+-- the file's machine has the registers and flags that the notes name, whatever its options
+pub record IsOverFile (file : List ℕ) (f : Found) : Type 0 where
   pub readable : (o : Options) → AreReadable (machine_of o file).has_register (notes_of f.notes)
   pub over : (o : Options) → AreOver (machine_of o file).has_register (machine_of o file).has_flag (notes_of f.notes)
+
+-- what was found over a file by some options: the notes that the text says, the address of their function, and that they are over its machine
+pub record IsFoundBy (o : Options) (file : List ℕ) (f : Found) : Type 0 where
+  pub says : IsNotesText (vocabulary_of o file) f.text.items (notes_of f.notes)
+  pub at : IsFunctionAt (machine_of o file).narrow file (notes_of f.notes).entry f.entry
+  pub over_file : IsOverFile file f

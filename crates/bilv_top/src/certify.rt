@@ -7,7 +7,7 @@ ghost use Rattle.bilv_spec.specs.Files.{program_of};
 ghost use Rattle.bilv_spec.specs.Run.{Program};
 ghost use Rattle.bilv_top.specs.Answers.{answer_of};
 ghost use Rattle.bilv_top.specs.Chosen.{IsMachineOf};
-ghost use Rattle.bilv_top.specs.Due.{IsFoundBy};
+ghost use Rattle.bilv_top.specs.Due.{IsOverFile};
 ghost use Rattle.cnf_form.specs.Views.{cnf_of, lines_of};
 ghost use Rattle.command_line.specs.Commands.{budget_of, question_of};
 ghost use Rattle.notes_lang.specs.Drafting.{notes_of};
@@ -96,7 +96,7 @@ pub fn certify_by<M: Machine>(
 ) -> Result<Answer, AllocError>
     requires machine { IsMachineOf image.now M.machine }
     requires same { image.now ≡ file.now }
-    requires found { IsFoundBy image.now found.now }
+    requires found { IsOverFile image.now found.now }
     requires budget { IsBudget (budget_of budget) }
     ensures { IfOk result (λ a. IsCertified (program_of M.machine image.now (notes_of found.now.notes) found.now.entry) (budget_of budget)
         (question_of question) (answer_of a).status (answer_of a).text (answer_of a).evidence) }

@@ -1,7 +1,8 @@
 //! The inputs of commands: an ELF file, and notes over it; and the answers where they are refused.
 ghost use Rattle.std.specs.Prelude.{◌≡◌, ◌≤◌, ℕ, List, IfOk, MatchResult, codes, length};
 ghost use Rattle.call_spec.specs.Calls.{plain_answer};
-ghost use Rattle.bilv_spec.specs.Files.{IsFunctionAt};
+ghost use Rattle.bilv_spec.specs.Files.{machine_of, IsFunctionAt};
+ghost use Rattle.command_line.specs.Commands.{options_of};
 ghost use Rattle.call_spec.specs.Outside.{Agrees};
 ghost use Rattle.word_spec.specs.Texts.{line};
 ghost use Rattle.bilv_spec.specs.Verified as verified;
@@ -13,7 +14,7 @@ ghost use Rattle.bilv_top.specs.Due.{AreNotesAnswered, IsFoundBy, IsNotesAnswer,
 ghost use Rattle.bilv_top.specs.Names.{missed_text, IsMissedFunction};
 
 use crate::answer::{Answer, Evidence, Step};
-use crate::machines::layout;
+use crate::machines::{is_narrow, layout};
 use crate::reading::{answer, read_or_answer};
 use crate::texts::{ambiguous_line, elf_fault_line, note_fault_words, refused_line};
 use command_line::Options;
@@ -65,13 +66,14 @@ pub fn refuse_elf(alloc: Global, fault: ElfFault) -> Result<Answer, AllocError>
     }
 }
 
-/// The address of the function of notes.
-fn entry_of(image: &Image, notes: &Notes) -> Result<u32, SymFault>
-    ensures { MatchResult result (IsFunctionAt image.now (function_of notes.now.entry)) (IsMissedFunction image.now (function_of notes.now.entry)) }
+/// The address of the function of notes, by some options of the image.
+fn entry_of(image: &Image, notes: &Notes, options: Options) -> Result<u32, SymFault>
+    ensures { MatchResult result (IsFunctionAt (machine_of (options_of options) image.now).narrow image.now (function_of notes.now.entry))
+        (IsMissedFunction (machine_of (options_of options) image.now).narrow image.now (function_of notes.now.entry)) }
 {
     match &notes.entry {
         Function::At(at) => Ok(*at),
-        Function::Named(name) => image.function_named(name),
+        Function::Named(name) => image.function_named(name, is_narrow(image, options)),
     }
 }
 
@@ -105,17 +107,23 @@ fn refuse_name(alloc: Global, fault: SymFault) -> Result<Answer, AllocError>
     }
 }
 
-/// The notes that a text says and the address of their function, or the answer that refuses them.
-pub fn find_program(alloc: Global, image: &Image, text: Vec<u8>) -> Result<Step<Found>, AllocError>
+/// The notes that a text says over an image, by some of its options, and the address of their function, or the answer that refuses them.
+pub fn find_program(
+    alloc: Global,
+    image: &Image,
+    text: Vec<u8>,
+    options: Options,
+) -> Result<Step<Found>, AllocError>
     requires short { length text.items ≤ verified.notes_limit }
-    ensures { IfOk result (λ step. IfStep step (AreNotesAnswered image.now text.items) (λ f. (f.text.items ≡ text.items) × IsFoundBy image.now f)) }
+    ensures { IfOk result (λ step. IfStep step (AreNotesAnswered (options_of options) image.now text.items)
+        (λ f. (f.text.items ≡ text.items) × IsFoundBy (options_of options) image.now f)) }
 {
-    let notes = match parse(alloc, &text, layout(image, Options::standard())) {
+    let notes = match parse(alloc, &text, layout(image, options)) {
         Ok(notes) => notes,
         Err(NotesError::Fault(fault)) => return Ok(Step::Answered(refuse_line(alloc, fault)?)),
         Err(NotesError::Memory) => return Err(AllocError),
     };
-    match entry_of(image, &notes) {
+    match entry_of(image, &notes, options) {
         Ok(entry) => Ok(Step::Go(Found { text, notes, entry })),
         Err(fault) => Ok(Step::Answered(refuse_name(alloc, fault)?)),
     }
@@ -127,16 +135,18 @@ pub fn read_notes<H: Shelf>(
     shelf: &mut H,
     image: &Image,
     name: &str,
+    options: Options,
 ) -> Result<Step<Found>, AllocError>
     ensures keeps { (n : List ℕ) → H.holds shelf.new n ≡ H.holds shelf.old n }
     ensures never_falls { (n : List ℕ) → H.faults shelf.old n ≤ H.faults shelf.new n }
     ensures read { IfOk result (λ step. IfStep step
-        (IsNotesAnswer (H.holds shelf.old name.now) (H.faults shelf.old name.now) (H.faults shelf.new name.now) image.now)
-        (λ f. Agrees (H.holds shelf.old name.now) f.text.items × (length f.text.items ≤ verified.notes_limit) × IsFoundBy image.now f)) }
+        (IsNotesAnswer (H.holds shelf.old name.now) (H.faults shelf.old name.now) (H.faults shelf.new name.now) (options_of options) image.now)
+        (λ f. Agrees (H.holds shelf.old name.now) f.text.items × (length f.text.items ≤ verified.notes_limit)
+        × IsFoundBy (options_of options) image.now f)) }
 {
     let large = b"notes: TooLarge\n";
     let step = match read_or_answer(alloc, shelf, name, NOTES_LIMIT, NOTES_REFUSED, large)? {
-        Step::Go(text) => find_program(alloc, image, text)?,
+        Step::Go(text) => find_program(alloc, image, text, options)?,
         Step::Answered(answer) => Step::Answered(answer),
     };
     Ok(step)
@@ -148,20 +158,22 @@ pub fn read_program<'a, H: Shelf>(
     shelf: &mut H,
     file: &'a [u8],
     notes: &str,
+    options: Options,
 ) -> Result<Step<(Image<'a>, Found)>, AllocError>
     requires short { length file.now ≤ verified.elf_limit }
     ensures keeps { (n : List ℕ) → H.holds shelf.new n ≡ H.holds shelf.old n }
     ensures never_falls { (n : List ℕ) → H.faults shelf.old n ≤ H.faults shelf.new n }
     ensures read { IfOk result (λ step. IfStep step
-        (AfterImage file.now (IsNotesAnswer (H.holds shelf.old notes.now) (H.faults shelf.old notes.now) (H.faults shelf.new notes.now) file.now))
+        (AfterImage file.now (IsNotesAnswer (H.holds shelf.old notes.now) (H.faults shelf.old notes.now) (H.faults shelf.new notes.now) (options_of options)
+        file.now))
         (λ x. (x.0 ≡ file.now) × IsAccepted file.now × Agrees (H.holds shelf.old notes.now) x.1.text.items × (length x.1.text.items ≤ verified.notes_limit)
-        × IsFoundBy file.now x.1)) }
+        × IsFoundBy (options_of options) file.now x.1)) }
 {
     let image = match read_image(alloc, file) {
         Ok(image) => image,
         Err(fault) => return Ok(Step::Answered(refuse_elf(alloc, fault)?)),
     };
-    match read_notes(alloc, shelf, &image, notes)? {
+    match read_notes(alloc, shelf, &image, notes, options)? {
         Step::Go(found) => Ok(Step::Go((image, found))),
         Step::Answered(answer) => Ok(Step::Answered(answer)),
     }

@@ -7,7 +7,7 @@ ghost use Rattle.notes_lang.specs.Drafting.{notes_of};
 ghost use Rattle.bilv_top.specs.Answers.{answer_of};
 ghost use Rattle.bilv_top.specs.Chosen.{IsMachineOf};
 ghost use Rattle.io_edges.specs.Met.{seen};
-ghost use Rattle.bilv_top.specs.Due.{IsFoundBy};
+ghost use Rattle.bilv_top.specs.Due.{IsOverFile};
 
 use crate::answer::{Answer, Evidence, Step};
 use crate::inputs::Found;
@@ -27,7 +27,7 @@ fn replay_text_by<M: Machine>(
     text: &[u8],
 ) -> Result<Answer, AllocError>
     requires machine { IsMachineOf image.now M.machine }
-    requires found { IsFoundBy image.now found.now }
+    requires found { IsOverFile image.now found.now }
     ensures { IfOk result (λ a. answer_of a
         ≡ replay_answer (program_of M.machine image.now (notes_of found.now.notes) found.now.entry) M.form text.now) }
 {
@@ -48,7 +48,7 @@ pub fn replay_by<M: Machine, H: Shelf>(
     name: &str,
 ) -> Result<Answer, AllocError>
     requires machine { IsMachineOf image.now M.machine }
-    requires found { IsFoundBy image.now found.now }
+    requires found { IsOverFile image.now found.now }
     ensures keeps { (n : List ℕ) → H.holds shelf.new n ≡ H.holds shelf.old n }
     ensures never_falls { (n : List ℕ) → H.faults shelf.old n ≤ H.faults shelf.new n }
     ensures read { IfOk result (λ a. AfterRead (seen (H.holds shelf.old) (H.faults shelf.old) (H.faults shelf.new)) name.now

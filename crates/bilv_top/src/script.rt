@@ -7,7 +7,7 @@ ghost use Rattle.bilv_spec.specs.Scripts.{IsScriptAnswer};
 ghost use Rattle.machine_spec.specs.StateText as texts;
 ghost use Rattle.bilv_top.specs.Answers.{answer_of};
 ghost use Rattle.bilv_top.specs.Chosen.{IsMachineOf};
-ghost use Rattle.bilv_top.specs.Due.{IsFoundBy};
+ghost use Rattle.bilv_top.specs.Due.{IsOverFile};
 ghost use Rattle.command_line.specs.Commands.{budget_of, question_of};
 ghost use Rattle.notes_lang.specs.Drafting.{notes_of};
 ghost use Rattle.verdict.specs.Verdicts.{IsScripted};
@@ -60,7 +60,7 @@ pub fn script_by<M: Machine>(
 ) -> Result<Answer, AllocError>
     requires machine { IsMachineOf image.now M.machine }
     requires same { image.now ≡ file.now }
-    requires found { IsFoundBy image.now found.now }
+    requires found { IsOverFile image.now found.now }
     requires budget { IsBudget (budget_of budget) }
     ensures { IfOk result (λ a. IsScriptAnswer (program_of M.machine image.now (notes_of found.now.notes) found.now.entry) M.form (budget_of budget)
         (question_of question) (answer_of a)) }

@@ -41,18 +41,11 @@ fn verify_bytes<H: Shelf>(
     if notes.len() as u64 > NOTES_LIMIT {
         return answer(alloc, NOTES_REFUSED, b"notes: TooLarge\n");
     }
-    match find_program(alloc, &image, notes)? {
+    let options = Options::standard();
+    match find_program(alloc, &image, notes, options)? {
         Step::Go(found) => {
             let task = Task::Report(budget);
-            answer_on(
-                alloc,
-                shelf,
-                file,
-                &image,
-                &found,
-                Options::standard(),
-                task,
-            )
+            answer_on(alloc, shelf, file, &image, &found, options, task)
         }
         Step::Answered(answer) => Ok(answer),
     }

@@ -7,7 +7,7 @@ ghost use Rattle.notes_lang.specs.Drafting.{notes_of};
 ghost use Rattle.io_edges.specs.Met.{seen};
 ghost use Rattle.bilv_top.specs.Answers.{answer_of};
 ghost use Rattle.bilv_top.specs.Chosen.{IsMachineOf};
-ghost use Rattle.bilv_top.specs.Due.{IsFoundBy};
+ghost use Rattle.bilv_top.specs.Due.{IsOverFile};
 ghost use Rattle.bilv_top.specs.Tasks.{IsDone, IsLawfulTask};
 
 use crate::answer::{Answer, Step};
@@ -53,7 +53,7 @@ fn answer_by<M: Machine, H: Shelf>(
 ) -> Result<Answer, AllocError>
     requires machine { IsMachineOf image.now M.machine }
     requires same { image.now ≡ file.now }
-    requires found { IsFoundBy image.now found.now }
+    requires found { IsOverFile image.now found.now }
     requires lawful { IsLawfulTask task }
     ensures keeps { (n : List ℕ) → H.holds shelf.new n ≡ H.holds shelf.old n }
     ensures never_falls { (n : List ℕ) → H.faults shelf.old n ≤ H.faults shelf.new n }
@@ -86,7 +86,7 @@ fn answer_of_machine<M: Machine, H: Shelf>(
     requires machine { machine_of (options_of options) image.now ≡ M.machine }
     requires form { layout_of (options_of options) image.now ≡ M.form }
     requires same { image.now ≡ file.now }
-    requires found { IsFoundBy image.now found.now }
+    requires found { IsOverFile image.now found.now }
     requires lawful { IsLawfulTask task }
     ensures keeps { (n : List ℕ) → H.holds shelf.new n ≡ H.holds shelf.old n }
     ensures never_falls { (n : List ℕ) → H.faults shelf.old n ≤ H.faults shelf.new n }
@@ -108,7 +108,7 @@ pub fn answer_on<H: Shelf>(
     task: Task,
 ) -> Result<Answer, AllocError>
     requires same { image.now ≡ file.now }
-    requires found { IsFoundBy image.now found.now }
+    requires found { IsOverFile image.now found.now }
     requires lawful { IsLawfulTask task }
     ensures keeps { (n : List ℕ) → H.holds shelf.new n ≡ H.holds shelf.old n }
     ensures never_falls { (n : List ℕ) → H.faults shelf.old n ≤ H.faults shelf.new n }
@@ -144,7 +144,7 @@ pub fn answer_about<H: Shelf>(
         Step::Go(file) => file,
         Step::Answered(answer) => return Ok(answer),
     };
-    match read_program(alloc, shelf, &file, notes)? {
+    match read_program(alloc, shelf, &file, notes, options)? {
         Step::Go((image, found)) => answer_on(alloc, shelf, &file, &image, &found, options, task),
         Step::Answered(answer) => Ok(answer),
     }

@@ -47,7 +47,7 @@ pub fn upgrade<H: Shelf>(
         Step::Go(file) => file,
         Step::Answered(answer) => return Ok(answer),
     };
-    match read_program(alloc, shelf, &file, notes)? {
+    match read_program(alloc, shelf, &file, notes, options)? {
         Step::Go((_, found)) => print_again(alloc, &found.text),
         Step::Answered(answer) => Ok(answer),
     }

@@ -5,7 +5,7 @@ ghost use Rattle.bilv_spec.specs.Answers.{IsReported};
 ghost use Rattle.bilv_spec.specs.Files.{program_of};
 ghost use Rattle.bilv_top.specs.Answers.{answer_of};
 ghost use Rattle.bilv_top.specs.Chosen.{IsMachineOf};
-ghost use Rattle.bilv_top.specs.Due.{IsFoundBy};
+ghost use Rattle.bilv_top.specs.Due.{IsOverFile};
 ghost use Rattle.command_line.specs.Commands.{budget_of};
 ghost use Rattle.notes_lang.specs.Drafting.{notes_of};
 
@@ -28,7 +28,7 @@ pub fn report_by<M: Machine>(
 ) -> Result<Answer, AllocError>
     requires machine { IsMachineOf image.now M.machine }
     requires same { image.now ≡ file.now }
-    requires found { IsFoundBy image.now found.now }
+    requires found { IsOverFile image.now found.now }
     requires budget { IsBudget (budget_of budget) }
     ensures { IfOk result (λ a. IsReported (program_of M.machine image.now (notes_of found.now.notes) found.now.entry) M.form (budget_of budget)
         (answer_of a)) }

@@ -1,7 +1,7 @@
 -- Command lines, and what they ask for.
-use Rattle.std.proofs.Common.{◌≡◌, refl, codes, [], ◌∷◌, Some, None}
+use Rattle.std.proofs.Common.{◌≡◌, true, false, refl, codes, [], ◌∷◌, Some, None}
 use Rattle.call_spec.specs.Calls.{default_budget, default_options, FailQuestion}
-use Rattle.word_spec.specs.Profiles.{V4T, V5}
+use Rattle.word_spec.specs.Profiles.{V4, V4T, V5}
 use Rattle.command_spec.specs.Commands.{Lift, Graph, Script, SelfRun, Upgrade, Verify}
 use Rattle.clap.proofs.OnLiterals.{clap_on_literals}
 use Rattle.command_line.specs.Lines.{bilv_app, command_named, lawful_command, takes_line}
@@ -95,14 +95,27 @@ no_words : lawful_command [] ≡ None
 unfolding clap_on_literals bilv_app takes_line command_named
 no_words = refl
 
-lift_fifth : lawful_command (codes "bilv" ∷ codes "lift" ∷ codes "e" ∷ codes "--arm=v5" ∷ []) ≡ Some (Lift (record { profile = V5 }) (codes "e"))
+lift_fifth : lawful_command (codes "bilv" ∷ codes "lift" ∷ codes "e" ∷ codes "--arm=v5" ∷ []) ≡ Some (Lift (record { profile = V5; compressed = false }) (codes "e"))
 unfolding clap_on_literals bilv_app takes_line command_named
 lift_fifth = refl
 
 upgrade_with_exchange : lawful_command (codes "bilv" ∷ codes "upgrade" ∷ codes "e" ∷ codes "n" ∷ codes "--arm" ∷ codes "v4t" ∷ [])
-    ≡ Some (Upgrade (record { profile = V4T }) (codes "e") (codes "n"))
+    ≡ Some (Upgrade (record { profile = V4T; compressed = false }) (codes "e") (codes "n"))
 unfolding clap_on_literals bilv_app takes_line command_named
 upgrade_with_exchange = refl
+
+graph_compressed : lawful_command (codes "bilv" ∷ codes "graph" ∷ codes "--rvc" ∷ codes "e" ∷ codes "n" ∷ [])
+    ≡ Some (Graph (record { profile = V4; compressed = true }) (codes "e") (codes "n"))
+unfolding clap_on_literals bilv_app takes_line command_named
+graph_compressed = refl
+
+compressed_with_value : lawful_command (codes "bilv" ∷ codes "lift" ∷ codes "e" ∷ codes "--rvc=1" ∷ []) ≡ None
+unfolding clap_on_literals bilv_app takes_line command_named
+compressed_with_value = refl
+
+compressed_twice : lawful_command (codes "bilv" ∷ codes "lift" ∷ codes "e" ∷ codes "--rvc" ∷ codes "--rvc" ∷ []) ≡ None
+unfolding clap_on_literals bilv_app takes_line command_named
+compressed_twice = refl
 
 other_profile : lawful_command (codes "bilv" ∷ codes "graph" ∷ codes "e" ∷ codes "n" ∷ codes "--arm" ∷ codes "v6" ∷ []) ≡ None
 unfolding clap_on_literals bilv_app takes_line command_named

@@ -18,7 +18,7 @@ abbrev pub budget_of : Budget → asked.Budget
 budget_of b = record { unroll = b.unroll; points = b.points; size = b.size; conflicts = b.conflicts }
 
 abbrev pub options_of : Options → asked.Options
-options_of o = record { profile = profile_in o.profile }
+options_of o = record { profile = profile_in o.profile; compressed = o.compressed }
 
 abbrev pub command_of : Command → outcomes.Command
 command_of (Verify elf notes options budget) = outcomes.Verify (options_of options) elf.now notes.now (budget_of budget)

@@ -12,6 +12,7 @@ use Rattle.clap.specs.ValueTests.{is_unsigned_in}
 use Rattle.clap.specs.declared.builder.command.Command.{Command}
 use Rattle.clap.specs.declared.builder.command.Command.TheViews.{out-Command}
 use Rattle.clap.specs.declared.builder.value_parser.ValueParser.TheVariants as vp
+use Rattle.clap.specs.declared.builder.action.ArgAction.TheVariants.{SetTrue}
 
 -- ---- the program's command, as `clap` sees it
 
@@ -35,6 +36,10 @@ question_option = record (new_rule (codes "question")) { long = Some (codes "que
 abbrev pub arm_option : Rule
 arm_option = record (new_rule (codes "arm")) { long = Some (codes "arm"); defaults = codes "v4" ∷ [] }
 
+-- the flag of compressed instructions
+abbrev pub rvc_option : Rule
+rvc_option = record (new_rule (codes "rvc")) { long = Some (codes "rvc"); action = Some SetTrue }
+
 -- the options for the four budgets
 abbrev pub budgets : List Rule
 budgets = number_option (codes "unroll") 0 4096 (codes "64")
@@ -56,10 +61,10 @@ notes = file_argument (codes "notes")
 
 -- a command over an ELF file, one over notes as well, and one that asks a question of both
 abbrev pub over_elf : (name : Text) → App
-over_elf name = command_with name (elf ∷ arm_option ∷ [])
+over_elf name = command_with name (elf ∷ arm_option ∷ rvc_option ∷ [])
 
 abbrev pub over_program : (name : Text) → App
-over_program name = command_with name (elf ∷ notes ∷ arm_option ∷ [])
+over_program name = command_with name (elf ∷ notes ∷ arm_option ∷ rvc_option ∷ [])
 
 abbrev pub asking : (name : Text) → App
 asking name = with_rules (over_program name) (question_option ∷ budgets)
@@ -147,10 +152,18 @@ profile_named name = if bytes_eq name (codes "v4") then Some V4
 abbrev pub profile_in : List Row → Option Profile
 profile_in rows = first_of (codes "arm") rows >>= profile_named
 
+-- a flag that is given is true, and one that is not is false
+abbrev pub flag_named : Text → Option Bool
+flag_named name = if bytes_eq name (codes "true") then Some true else if bytes_eq name (codes "false") then Some false else None
+
+abbrev pub compressed_in : List Row → Option Bool
+compressed_in rows = first_of (codes "rvc") rows >>= flag_named
+
 abbrev pub options_in : List Row → Option Options
 options_in rows = do
   profile ← profile_in rows
-  Some (record { profile = profile })
+  compressed ← compressed_in rows
+  Some (record { profile = profile; compressed = compressed })
 
 -- each command, from what was found for its arguments
 abbrev pub verify_in : List Row → Option of.Command

@@ -60,6 +60,8 @@ impl Budget {
 pub struct Options {
     /// The profile of an ARM file. It changes nothing of a RISC-V file.
     pub profile: Profile,
+    /// Whether a RISC-V file has compressed instructions. It changes nothing of an ARM file.
+    pub compressed: bool,
 }
 
 impl Options {
@@ -73,6 +75,7 @@ impl Options {
     {
         Options {
             profile: Profile::V4,
+            compressed: false,
         }
     }
 }

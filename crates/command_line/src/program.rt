@@ -1,10 +1,10 @@
 //! What the program's command line may hold, as `clap` is told.
 ghost use Rattle.std.specs.Prelude.{◌≡◌, IfOk, false};
 ghost use Rattle.clap.specs.Words.{App, rule_of};
-ghost use Rattle.command_line.specs.Lines.{IsMade, arm_option, asking, bilv_app, budgets, check, file_argument, number_argument, number_option, over_elf, over_program, question_option, replay, selfrun, verify, with_rules};
+ghost use Rattle.command_line.specs.Lines.{IsMade, arm_option, asking, bilv_app, budgets, check, file_argument, number_argument, number_option, over_elf, over_program, question_option, replay, rvc_option, selfrun, verify, with_rules};
 
 use crate::command::{MOST_CONFLICTS, MOST_POINTS, MOST_SIZE, MOST_UNROLL};
-use clap::builder::ValueParser;
+use clap::builder::{ArgAction, ValueParser};
 use clap::{Arg, Command};
 use std::alloc::{AllocError, Global};
 
@@ -53,6 +53,16 @@ fn arm<'a>(alloc: Global) -> Arg<'a>
     Arg::new(alloc, "arm").long("arm").default_value("v4")
 }
 
+// The flag of compressed instructions.
+fn rvc<'a>(alloc: Global) -> Arg<'a>
+    ensures rule { rule_of result ≡ rvc_option }
+    ensures local { result.global ≡ false }
+{
+    Arg::new(alloc, "rvc")
+        .long("rvc")
+        .action(ArgAction::SetTrue)
+}
+
 // The command with the four options for budgets.
 fn with_budgets<'a>(alloc: Global, command: Command<'a>) -> Result<Command<'a>, AllocError>
     ensures { IfOk result (λ c. (a : App) → IsMade a command.entry → IsMade (with_rules a budgets) c) }
@@ -71,7 +81,8 @@ fn over_elf<'a>(alloc: Global, name: &'a str) -> Result<Command<'a>, AllocError>
 {
     let command = Command::new(alloc, name)
         .arg(file(alloc, "elf"))?
-        .arg(arm(alloc))?;
+        .arg(arm(alloc))?
+        .arg(rvc(alloc))?;
     Ok(command)
 }
 
@@ -82,7 +93,8 @@ fn over_program<'a>(alloc: Global, name: &'a str) -> Result<Command<'a>, AllocEr
     let command = Command::new(alloc, name)
         .arg(file(alloc, "elf"))?
         .arg(file(alloc, "notes"))?
-        .arg(arm(alloc))?;
+        .arg(arm(alloc))?
+        .arg(rvc(alloc))?;
     Ok(command)
 }
 

@@ -87,11 +87,31 @@ fn profile(matches: &ArgMatches<'_>) -> Option<Profile>
     profile_named(text(matches, "arm")?)
 }
 
+fn flag_named(name: &str) -> Option<bool>
+    ensures { result ≡ lines.flag_named name.now }
+{
+    match name {
+        "true" => Some(true),
+        "false" => Some(false),
+        _ => None,
+    }
+}
+
+fn compressed(matches: &ArgMatches<'_>) -> Option<bool>
+    ensures { result ≡ lines.compressed_in (rows_of (found_of matches.now)) }
+{
+    flag_named(text(matches, "rvc")?)
+}
+
 fn options(matches: &ArgMatches<'_>) -> Option<Options>
     ensures { option_map options_of result ≡ lines.options_in (rows_of (found_of matches.now)) }
 {
     let profile = profile(matches)?;
-    Some(Options { profile })
+    let compressed = compressed(matches)?;
+    Some(Options {
+        profile,
+        compressed,
+    })
 }
 
 fn verify<'a>(matches: &ArgMatches<'a>) -> Option<Command<'a>>

@@ -14,11 +14,11 @@ all_one P x h (suc k) d within = absurd (omega (arith, within))
 
 pub written : (regs xs : List ℕ) (bytes choices : List (ℕ × ℕ)) (at byte : ℕ) → regs ≡ xs → length xs ≡ 31 → ((i : ℕ) → slice_index xs i < 2 ^ 32) →
     bytes ≡ (at, byte) ∷ [] → choices ≡ [] → (known : ℕ → Bool) → at < 2 ^ 32 → 1 ≤ byte → byte ≤ 255 → known at ≡ false →
-    IsWritten rv_layout known (record { regs = regs; flags = 0; bytes = bytes; choices = choices })
+    IsWritten (rv_layout false) known (record { regs = regs; flags = 0; bytes = bytes; choices = choices })
 written regs xs bytes choices at byte same count small one none known below some most unknown =
-    subst (λ (b : List (ℕ × ℕ)). IsWritten rv_layout known (record { regs = regs; flags = 0; bytes = b; choices = choices })) (sym one)
-    (subst (λ (b : List (ℕ × ℕ)). IsWritten rv_layout known (record { regs = regs; flags = 0; bytes = (at, byte) ∷ []; choices = b })) (sym none)
-    (subst (λ (r : List ℕ). IsWritten rv_layout known (record { regs = r; flags = 0; bytes = (at, byte) ∷ []; choices = [] })) (sym same)
+    subst (λ (b : List (ℕ × ℕ)). IsWritten (rv_layout false) known (record { regs = regs; flags = 0; bytes = b; choices = choices })) (sym one)
+    (subst (λ (b : List (ℕ × ℕ)). IsWritten (rv_layout false) known (record { regs = regs; flags = 0; bytes = (at, byte) ∷ []; choices = b })) (sym none)
+    (subst (λ (r : List ℕ). IsWritten (rv_layout false) known (record { regs = r; flags = 0; bytes = (at, byte) ∷ []; choices = [] })) (sym same)
     (record {
       count = count;
       words = all_words xs small;

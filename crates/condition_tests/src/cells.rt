@@ -1,7 +1,7 @@
 //! The cells and the clauses of questions, against runs of the instruction table.
-ghost use Rattle.std.specs.Prelude.{◌≡◌, true};
+ghost use Rattle.std.specs.Prelude.{◌≡◌, true, false};
 ghost use Rattle.bilv_spec.specs.Files.{is_rv};
-ghost use Rattle.machine_spec.specs.Rv.{rv32};
+ghost use Rattle.machine_spec.specs.RvMachine.{rv32};
 ghost use Rattle.mem_cells.specs.Views.{cells_of, program_of_cells};
 ghost use Rattle.notes_lang.specs.Drafting.{notes_of};
 ghost use Rattle.notes_value.specs.Reads.{AreReadable};
@@ -69,7 +69,7 @@ fn ask_clauses(
     case: &Case,
 ) -> Result<[usize; 2], AllocError>
     requires machine { is_rv case.now.image.now ≡ true }
-    requires readable { AreReadable rv32.has_register (notes_of case.now.notes.now) }
+    requires readable { AreReadable (rv32 false).has_register (notes_of case.now.notes.now) }
 {
     let mut seed = 0x2545_f491;
     let mut trues = 0usize;
@@ -88,7 +88,7 @@ fn ask_clauses(
 pub fn count_clauses(alloc: Global, celled: &Celled, case: &Case) -> Result<[usize; 2], AllocError>
     requires formed { AreFormed (program_of_cells celled.now) (cells_of celled.now) }
     requires machine { is_rv case.now.image.now ≡ true }
-    requires readable { AreReadable rv32.has_register (notes_of case.now.notes.now) }
+    requires readable { AreReadable (rv32 false).has_register (notes_of case.now.notes.now) }
 {
     let clauses = blast(alloc, celled)?;
     ask_clauses(alloc, celled, &clauses, case)

@@ -1,7 +1,7 @@
 //! The questions of small programs as terms, against runs of the instruction table.
-ghost use Rattle.std.specs.Prelude.{◌≡◌, true};
+ghost use Rattle.std.specs.Prelude.{◌≡◌, true, false};
 ghost use Rattle.bilv_spec.specs.Files.{is_rv};
-ghost use Rattle.machine_spec.specs.Rv.{rv32};
+ghost use Rattle.machine_spec.specs.RvMachine.{rv32};
 ghost use Rattle.notes_lang.specs.Drafting.{notes_of};
 ghost use Rattle.notes_value.specs.Reads.{AreReadable};
 ghost use Rattle.verdict.specs.Rounds.{IsAskable};
@@ -28,7 +28,7 @@ fn is_told(
 /// Of how many of 100 readings a question is true by their runs, and of how many its term says otherwise.
 fn ask(alloc: Global, question: &Question, case: &Case) -> Result<[usize; 2], AllocError>
     requires machine { is_rv case.now.image.now ≡ true }
-    requires readable { AreReadable rv32.has_register (notes_of case.now.notes.now) }
+    requires readable { AreReadable (rv32 false).has_register (notes_of case.now.notes.now) }
 {
     let mut seed = 0x2545_f491;
     let mut trues = 0usize;
@@ -52,7 +52,7 @@ fn ask_kind(
 ) -> Result<[usize; 2], AllocError>
     requires askable { IsAskable passive.now }
     requires machine { is_rv case.now.image.now ≡ true }
-    requires readable { AreReadable rv32.has_register (notes_of case.now.notes.now) }
+    requires readable { AreReadable (rv32 false).has_register (notes_of case.now.notes.now) }
 {
     let question = question(alloc, passive, kind)?;
     ask(alloc, &question, case)
@@ -66,7 +66,7 @@ pub fn count_questions(
 ) -> Result<[usize; 4], AllocError>
     requires askable { IsAskable passive.now }
     requires machine { is_rv case.now.image.now ≡ true }
-    requires readable { AreReadable rv32.has_register (notes_of case.now.notes.now) }
+    requires readable { AreReadable (rv32 false).has_register (notes_of case.now.notes.now) }
 {
     let [entries, first] = ask_kind(alloc, passive, Kind::Entry, case)?;
     let [fails, second] = ask_kind(alloc, passive, Kind::Fail, case)?;

@@ -1,7 +1,7 @@
 //! The logs in the evidence of verdicts.
-ghost use Rattle.std.specs.Prelude.{◌≡◌, true};
+ghost use Rattle.std.specs.Prelude.{◌≡◌, true, false};
 ghost use Rattle.bilv_spec.specs.Files.{is_rv};
-ghost use Rattle.machine_spec.specs.Rv.{rv32};
+ghost use Rattle.machine_spec.specs.RvMachine.{rv32};
 ghost use Rattle.notes_lang.specs.Drafting.{notes_of};
 ghost use Rattle.notes_value.specs.Reads.{AreOver, AreReadable};
 
@@ -35,8 +35,8 @@ fn is_given(alloc: Global, proof: &Proof) -> Result<bool, AllocError> {
 fn verdict_on(alloc: Global, file: &[u8], case: &Case) -> Result<Verdict, AllocError>
     requires same { case.now.image.now ≡ file.now }
     requires machine { is_rv case.now.image.now ≡ true }
-    requires readable { AreReadable rv32.has_register (notes_of case.now.notes.now) }
-    requires over { AreOver rv32.has_register rv32.has_flag (notes_of case.now.notes.now) }
+    requires readable { AreReadable (rv32 false).has_register (notes_of case.now.notes.now) }
+    requires over { AreOver (rv32 false).has_register (rv32 false).has_flag (notes_of case.now.notes.now) }
 {
     let _ = file;
     let budget = Budget {
@@ -45,7 +45,7 @@ fn verdict_on(alloc: Global, file: &[u8], case: &Case) -> Result<Verdict, AllocE
         size: 1_073_741_824,
         conflicts: 200_000,
     };
-    let verdict = verify::<Rv32>(alloc, case.image, case.notes, ENTRY, &budget)?;
+    let verdict = verify::<Rv32<0>>(alloc, case.image, case.notes, ENTRY, &budget)?;
     Ok(verdict)
 }
 
@@ -53,8 +53,8 @@ fn verdict_on(alloc: Global, file: &[u8], case: &Case) -> Result<Verdict, AllocE
 pub fn count_given(alloc: Global, file: &[u8], case: &Case) -> Result<usize, AllocError>
     requires same { case.now.image.now ≡ file.now }
     requires machine { is_rv case.now.image.now ≡ true }
-    requires readable { AreReadable rv32.has_register (notes_of case.now.notes.now) }
-    requires over { AreOver rv32.has_register rv32.has_flag (notes_of case.now.notes.now) }
+    requires readable { AreReadable (rv32 false).has_register (notes_of case.now.notes.now) }
+    requires over { AreOver (rv32 false).has_register (rv32 false).has_flag (notes_of case.now.notes.now) }
 {
     match verdict_on(alloc, file, case)? {
         Verdict::Holds { fail, turn, .. } => {

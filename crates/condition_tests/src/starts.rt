@@ -1,8 +1,8 @@
 //! Starts, once as what terms are read under and once as what a run begins with.
-ghost use Rattle.std.specs.Prelude.{◌≡◌, true, IfOk, length};
+ghost use Rattle.std.specs.Prelude.{◌≡◌, true, false, IfOk, length};
 ghost use Rattle.bilv_spec.specs.Files.{is_rv, program_of};
 ghost use Rattle.bilv_spec.specs.Points.{is_known_at};
-ghost use Rattle.machine_spec.specs.Rv.{rv32};
+ghost use Rattle.machine_spec.specs.RvMachine.{rv32};
 ghost use Rattle.machine_spec.specs.StateText.{IsWritten, rv_layout};
 ghost use Rattle.notes_lang.specs.Drafting.{notes_of};
 ghost use Rattle.notes_value.specs.Reads.{AreReadable};
@@ -80,7 +80,7 @@ fn start_with(
     registers: &[u32],
 ) -> Result<Start, AllocError>
     requires { length registers.now ≡ 31 }
-    ensures { IfOk result (λ s. IsWritten rv_layout (is_known_at (program_of rv32 image.now (notes_of notes.now) 65536)) (written_of s)) }
+    ensures { IfOk result (λ s. IsWritten (rv_layout false) (is_known_at (program_of (rv32 false) image.now (notes_of notes.now) 65536)) (written_of s)) }
 {
     let stretch = known_stretch(image, notes, DATA);
     if stretch.known {
@@ -105,16 +105,16 @@ pub fn is_true(
     kind: Kind,
 ) -> Result<bool, AllocError>
     requires machine { is_rv case.now.image.now ≡ true }
-    requires readable { AreReadable rv32.has_register (notes_of case.now.notes.now) }
+    requires readable { AreReadable (rv32 false).has_register (notes_of case.now.notes.now) }
     requires registers { length registers.now ≡ 31 }
 {
     let (image, notes, k) = (case.image, case.notes, u64::from(case.k));
     let start = start_with(alloc, image, notes, registers)?;
-    let state = start_state::<Rv32>(alloc, image, notes, ENTRY, &start)?;
-    if entry_ok::<Rv32>(image, notes, &state).is_err() {
+    let state = start_state::<Rv32<0>>(alloc, image, notes, ENTRY, &start)?;
+    if entry_ok::<Rv32<0>>(image, notes, &state).is_err() {
         return Ok(false);
     }
-    match run::<Rv32>(alloc, image, notes, ENTRY, &start, Some(k), 1000)? {
+    match run::<Rv32<0>>(alloc, image, notes, ENTRY, &start, Some(k), 1000)? {
         Ending::Exit { .. } => Ok(kind == Kind::Entry),
         Ending::Failed { .. } => Ok(kind != Kind::Turn),
         Ending::Turned { .. } => Ok(kind != Kind::Fail),

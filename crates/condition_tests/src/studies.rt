@@ -1,7 +1,7 @@
 //! What is counted of small programs, each made a passive program.
-ghost use Rattle.std.specs.Prelude.{◌≡◌, ◌≤◌, true, IfOk};
+ghost use Rattle.std.specs.Prelude.{◌≡◌, ◌≤◌, true, false, IfOk};
 ghost use Rattle.bilv_spec.specs.Files.{is_rv};
-ghost use Rattle.machine_spec.specs.Rv.{rv32};
+ghost use Rattle.machine_spec.specs.RvMachine.{rv32};
 ghost use Rattle.mem_cells.specs.Views.{cells_of, program_of_cells};
 ghost use Rattle.notes_lang.specs.Drafting.{notes_of};
 ghost use Rattle.notes_value.specs.Reads.{AreOver, AreReadable};
@@ -59,12 +59,12 @@ fn unrolled<'a>(
 ) -> Result<Unrolled<'a>, PointsFault>
     requires same { image.now ≡ file.now }
     requires machine { is_rv image.now ≡ true }
-    requires over { AreOver rv32.has_register rv32.has_flag (notes_of notes.now) }
+    requires over { AreOver (rv32 false).has_register (rv32 false).has_flag (notes_of notes.now) }
     requires k { k ≤ 4096 }
     ensures { IfOk result IsMeasurable }
 {
-    let graph = descend::<Rv32>(alloc, image, notes, ENTRY)?;
-    unroll::<Rv32>(alloc, &graph, image, notes, ENTRY, k, 65536)
+    let graph = descend::<Rv32<0>>(alloc, image, notes, ENTRY)?;
+    unroll::<Rv32<0>>(alloc, &graph, image, notes, ENTRY, k, 65536)
 }
 
 /// Its passive program.
@@ -85,7 +85,7 @@ fn study_cells(
 ) -> Result<[usize; 4], AllocError>
     requires formed { AreFormed (program_of_cells celled.now) (cells_of celled.now) }
     requires machine { is_rv case.now.image.now ≡ true }
-    requires readable { AreReadable rv32.has_register (notes_of case.now.notes.now) }
+    requires readable { AreReadable (rv32 false).has_register (notes_of case.now.notes.now) }
 {
     let (reads, pairs) = (celled.addresses.len(), celled.agrees.len());
     match study {
@@ -126,7 +126,7 @@ fn study_question(
     requires askable { IsAskable question.now.passive.now }
     requires tells { TellsQuestion (program_of_question question.now) (question_of question.now) (term_of question.now) }
     requires machine { is_rv case.now.image.now ≡ true }
-    requires readable { AreReadable rv32.has_register (notes_of case.now.notes.now) }
+    requires readable { AreReadable (rv32 false).has_register (notes_of case.now.notes.now) }
 {
     let asked = asked_of(alloc, study)?;
     let celled = cells_some(alloc, question, &asked)?;
@@ -142,7 +142,7 @@ fn study_fails(
 ) -> Result<[usize; 4], AllocError>
     requires askable { IsAskable passive.now }
     requires machine { is_rv case.now.image.now ≡ true }
-    requires readable { AreReadable rv32.has_register (notes_of case.now.notes.now) }
+    requires readable { AreReadable (rv32 false).has_register (notes_of case.now.notes.now) }
 {
     let question = question(alloc, passive, Kind::Fail)?;
     if study == Study::Selections {
@@ -162,7 +162,7 @@ fn study_passive(
 ) -> Result<[usize; 4], AllocError>
     requires askable { IsAskable passive.now }
     requires machine { is_rv case.now.image.now ≡ true }
-    requires readable { AreReadable rv32.has_register (notes_of case.now.notes.now) }
+    requires readable { AreReadable (rv32 false).has_register (notes_of case.now.notes.now) }
 {
     match study {
         Study::Questions => count_questions(alloc, passive, case),
@@ -179,7 +179,7 @@ fn study_unrolled(
 ) -> Result<[usize; 4], AllocError>
     requires measurable { IsMeasurable unrolled.now }
     requires machine { is_rv case.now.image.now ≡ true }
-    requires readable { AreReadable rv32.has_register (notes_of case.now.notes.now) }
+    requires readable { AreReadable (rv32 false).has_register (notes_of case.now.notes.now) }
 {
     let passive = passive_of(alloc, unrolled)?;
     study_passive(alloc, &passive, case, study)
@@ -189,8 +189,8 @@ fn study_unrolled(
 fn study_program(alloc: Global, bytes: &[u8], case: &Case, study: Study) -> Result<[usize; 4], Fail>
     requires same { case.now.image.now ≡ bytes.now }
     requires machine { is_rv case.now.image.now ≡ true }
-    requires readable { AreReadable rv32.has_register (notes_of case.now.notes.now) }
-    requires over { AreOver rv32.has_register rv32.has_flag (notes_of case.now.notes.now) }
+    requires readable { AreReadable (rv32 false).has_register (notes_of case.now.notes.now) }
+    requires over { AreOver (rv32 false).has_register (rv32 false).has_flag (notes_of case.now.notes.now) }
 {
     if study == Study::Logs {
         return Ok([count_given(alloc, bytes, case)?, 0, 0, 0]);
@@ -211,7 +211,7 @@ fn study_notes(
     requires same { image.now ≡ bytes.now }
     requires machine { is_rv image.now ≡ true }
 {
-    let notes = parse(alloc, program.notes, Layout::Rv32)?;
+    let notes = parse(alloc, program.notes, Layout::Rv32 { compressed: false })?;
     let case = Case {
         words: program.words,
         image,

@@ -1,4 +1,4 @@
-//! Tests of instructions of RV32IM that are words again, which no command makes of them, and of the texts of errors of files, notes, states, points and
+//! Tests of instructions of RV32IM and RV32C that are words again, which no command makes of them, and of the texts of errors of files, notes, states, points and
 //! entries.
 //!
 //! They stand apart so that each part is proved once, and not again with its tests.

@@ -1,11 +1,11 @@
 //! The lists of instructions as terms, against their runs.
-ghost use Rattle.std.specs.Prelude.{◌≡◌, true, IfOk};
+ghost use Rattle.std.specs.Prelude.{◌≡◌, true, false, IfOk};
 ghost use Rattle.machine_spec.specs.Bil.{XRegisters};
 ghost use Rattle.machine_spec.specs.BilCounts.{list_names_only};
 ghost use Rattle.machine_spec.specs.BilTyping.{IsWellTyped};
 ghost use Rattle.machine_spec.specs.Machine.{Row};
 ghost use Rattle.machine_spec.specs.MachineLaws.{IsLifting};
-ghost use Rattle.machine_spec.specs.Rv.{rv32};
+ghost use Rattle.machine_spec.specs.RvMachine.{rv32};
 ghost use Rattle.bil_ast.specs.Views.{statements};
 ghost use Rattle.bil_eval.specs.Views.{held, is_machine};
 
@@ -220,9 +220,9 @@ fn compare(
 
 /// The list of a word.
 fn lifted(alloc: Global, word: u32) -> Result<Vec<Stmt>, AllocError>
-    ensures { IfOk result (λ v. (row : Row) × IsLifting rv32 XRegisters row 65536 (statements v.items)) }
+    ensures { IfOk result (λ v. (row : Row) × IsLifting (rv32 false) XRegisters row 65536 (statements v.items)) }
 {
-    match lift_word::<Rv32>(alloc, word, 0x1_0000)? {
+    match lift_word::<Rv32<0>>(alloc, word, 0x1_0000)? {
         None => Err(AllocError),
         Some(list) => Ok(list),
     }
@@ -249,7 +249,7 @@ fn agrees_always(
 
 /// A list as terms over the state at entry.
 fn terms_of(alloc: Global, dag: &mut Dag, list: &[Stmt]) -> Result<Left, AllocError>
-    requires { (row : Row) × IsLifting rv32 XRegisters row 65536 (statements list.now) }
+    requires { (row : Row) × IsLifting (rv32 false) XRegisters row 65536 (statements list.now) }
 {
     let names = entry_names(alloc, dag, 1, 31, 0)?;
     let left = run_list(alloc, dag, list, &names, 0)?;
@@ -258,7 +258,7 @@ fn terms_of(alloc: Global, dag: &mut Dag, list: &[Stmt]) -> Result<Left, AllocEr
 
 /// Whether a list as terms agrees with its runs.
 fn try_list(alloc: Global, list: &[Stmt], seed: &mut u32) -> Result<bool, AllocError>
-    requires { (row : Row) × IsLifting rv32 XRegisters row 65536 (statements list.now) }
+    requires { (row : Row) × IsLifting (rv32 false) XRegisters row 65536 (statements list.now) }
 {
     let mut dag = Dag::new(alloc);
     let left = terms_of(alloc, &mut dag, list)?;

@@ -1,3 +1,4 @@
+use Rattle.command_line.specs.Commands.{options_of}
 use Rattle.bilv_top.specs.Due.{unread}
 use Rattle.bilv_top.proofs.Refused.{step_found}
 use Rattle.bilv_top.proofs.inputs.read_notes.Goals as goal
@@ -11,6 +12,6 @@ returns-clause-read g c =
     elim c.match-branch-2.branch [
       | in-Go+in_ok-step-in-Go w ↦
           let read = rw w.in-Go.is at c.in_ok-text.ensures.read in
-          rw w.step-is (step_found held before after c.args.image.now w.in-Go.text.items w.in_ok-step-in-Go.step read.0 read.1 w.in_ok-step-in-Go.ensures)
+          rw w.step-is (step_found held before after (options_of c.args.options) c.args.image.now w.in-Go.text.items w.in_ok-step-in-Go.step read.0 read.1 w.in_ok-step-in-Go.ensures)
       | in-Answered w ↦ rw w.step-is (unread (rw w.in-Answered.is at c.in_ok-text.ensures.read))
     ]

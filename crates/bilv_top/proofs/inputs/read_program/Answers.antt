@@ -1,6 +1,7 @@
 use Rattle.std.proofs.Common.{subst}
 use Rattle.bilv_spec.specs.Verified.{elf_refused, elf_accepted}
 use Rattle.bilv_top.specs.Answers.{answer_of, elf_text_of}
+use Rattle.command_line.specs.Commands.{options_of}
 use Rattle.bilv_top.specs.Due.{IsNotesAnswer}
 use Rattle.bilv_top.proofs.Refused.{elf_is_refused}
 use Rattle.bilv_top.proofs.inputs.read_program.Goals as goal
@@ -16,4 +17,4 @@ returns-clause-read g c =
     let before = g.H.Shelf.faults c.args.shelf.now c.args.notes.now in
     let after = g.H.Shelf.faults c.read_notes.new.shelf c.args.notes.now in
     elf_accepted (c.requires.short, c.in-Ok.ensures.accepted)
-    (subst (λ x. IsNotesAnswer held before after x (answer_of c.in-Answered.answer)) c.in-Ok.ensures.image (rw c.in-Answered.is at c.in_ok-found.ensures.read))
+    (subst (λ x. IsNotesAnswer held before after (options_of c.args.options) x (answer_of c.in-Answered.answer)) c.in-Ok.ensures.image (rw c.in-Answered.is at c.in_ok-found.ensures.read))

@@ -1,4 +1,4 @@
-use Rattle.std.proofs.Common.{arith, subst}
+use Rattle.std.proofs.Common.{◌≡◌, arith, subst}
 use Rattle.std.proofs.lemmas.Result.{IfOk-weaker}
 use Rattle.call_spec.specs.Calls.{Answer, Options}
 use Rattle.bilv_spec.specs.Answers.{IsReported}
@@ -7,6 +7,7 @@ use Rattle.bilv_spec.specs.Verified.{elf_refused}
 use Rattle.command_line.specs.Commands.{budget_of}
 use Rattle.notes_lang.specs.Drafting.{notes_of}
 use Rattle.bilv_top.specs.Answers.{answer_of, elf_text_of}
+use Rattle.bilv_top.specs.Due.{AreNotesAnswered, IsFoundBy}
 use Rattle.bilv_top.proofs.Made.{large_verified, answered_verified, found_verified}
 use Rattle.bilv_top.proofs.Refused.{elf_is_refused}
 use Rattle.bilv_top.proofs.selfrun.verify_bytes.Goals as goal
@@ -32,9 +33,10 @@ returns-in-Go-clause-verified g c =
     IfOk-weaker c.answer_on.result _ _
     (λ a is. found_verified c.args.file.now c.args.notes.items _ b (answer_of a) c.in-Ok.ensures.image
     (c.requires.short, c.in-Ok.ensures.accepted) f (omega (arith, c.if-len-gt-NOTES_LIMIT.false, c.len.ensures))
-    (rw c.in-Go.is at c.in_ok-found.ensures) (subst (λ o. said o (answer_of a)) c.standard.ensures is)) c.answer_on.ensures.done
+    (subst (λ o. (f.text.items ≡ c.args.notes.items) × IsFoundBy o c.in-Ok.image f) c.standard-options.ensures (rw c.in-Go.is at c.in_ok-found.ensures)) (subst (λ o. said o (answer_of a)) c.standard-options.ensures is)) c.answer_on.ensures.done
 
 pub returns-clause-verified : goal.returns-clause-verified
 returns-clause-verified g c =
     answered_verified c.args.file.now c.args.notes.items _ (budget_of c.args.budget) (answer_of c.in-Answered.answer) c.in-Ok.ensures.image
-    (c.requires.short, c.in-Ok.ensures.accepted) (rw c.in-Answered.is at c.in_ok-found.ensures)
+    (c.requires.short, c.in-Ok.ensures.accepted) (subst (λ o. AreNotesAnswered o c.in-Ok.image c.args.notes.items (answer_of c.in-Answered.answer)) c.standard-options.ensures
+    (rw c.in-Answered.is at c.in_ok-found.ensures))
