@@ -39,7 +39,8 @@ refused_or_accepted file _ (elf_large h) a = omega (arith, h, a.0)
 refused_or_accepted file _ (elf_fault f h e) a = a.1 f e.0
 
 -- notes without a fault have no first fault
-faultless : (o : Options) (file text : List ℕ) (m : Notes) (n : ℕ) (f : NoteFault) → IsNotesText (vocabulary_of o file) text m → IsFirstNoteFault (vocabulary_of o file) text n f → ⊥
+faultless : (o : Options) (file text : List ℕ) (m : Notes) (n : ℕ) (f : NoteFault) → IsNotesText (vocabulary_of o file) text m →
+    IsFirstNoteFault (vocabulary_of o file) text n f → ⊥
 faultless o file text m n f a b = notes.never_both (vocabulary_of o file) text m n f a b
 
 same_name : (o : Options) (file text : List ℕ) (m n : Notes) (x y : List ℕ) → IsNotesText (vocabulary_of o file) text m → IsNotesText (vocabulary_of o file) text n →
@@ -89,7 +90,8 @@ one_notes_refusal o file text _ _ (ambiguous m name a c h t e two) (notes_fault 
 one_notes_refusal o file text _ _ (ambiguous m name a c h t e two) (no_function n other k u d none) =
     absurd (none a (subst (λ (z : List ℕ). IsFunction (machine_of o file).narrow file z a) (same_name o file text m n name other t u e d) two.0))
 one_notes_refusal o file text _ _ (ambiguous m name a c h t e two) (ambiguous n other a' c' k u d few) =
-    let same = same_least (machine_of o file).narrow file other a c a' c' (subst (λ (z : List ℕ). IsAmbiguous (machine_of o file).narrow file z a c) (same_name o file text m n name other t u e d) two) few in
+    let second = subst (λ (z : List ℕ). IsAmbiguous (machine_of o file).narrow file z a c) (same_name o file text m n name other t u e d) two in
+    let same = same_least (machine_of o file).narrow file other a c a' c' second few in
     ap (λ z. ambiguous_text z c) same.0 ∙ ap (ambiguous_text a') same.1
 
 -- the function that notes name, where it is found

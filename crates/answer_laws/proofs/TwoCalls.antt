@@ -198,7 +198,8 @@ module _ (t : Surroundings) (o : Options) (content : List ℕ → List ℕ) (elf
       (named.0, (answered.2 ∙ ap (λ (x : Answer). x.status) same, written))
 
 pub report_is_replayed : (s t : Surroundings) (o : Options) (content : List ℕ → List ℕ) (elf notes report : List ℕ) (b : Budget)
-    (first status : ℕ) (e f : Evidence) → AreBytes (content elf) → IsReplayable b → AreToldTo s content (Verify o elf notes b) → IsOutcome s (Some (Verify o elf notes b)) first e → ShowsRun e →
+    (first status : ℕ) (e f : Evidence) → AreBytes (content elf) → IsReplayable b →
+    AreToldTo s content (Verify o elf notes b) → IsOutcome s (Some (Verify o elf notes b)) first e → ShowsRun e →
     IsPrinted s (content report) → length (content report) ≤ text_limit → AreToldTo t content (Replay o elf notes report) → Sufficed t status →
     IsOutcome t (Some (Replay o elf notes report)) status f → (n : NamedEnding) × Writes t status (line (codes "replayed " ++ named_line n))
 report_is_replayed s t o content elf notes report b first status e f bytes small told outcome shows printed short told_too sufficed outcome_too =

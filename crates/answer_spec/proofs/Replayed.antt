@@ -1,5 +1,5 @@
 -- The text of a right report is replayed.
-use Rattle.std.proofs.Common.{◌≡◌, ℕ, zero, suc, ◌+◌, ◌%◌, ◌<◌, ◌≤◌, refl, ap, sym, ◌∙◌, subst, arith, Bool, true, false, List, [], ◌++◌, Option, Some, None, length}
+use Rattle.std.proofs.Common.{◌≡◌, ℕ, zero, suc, ◌+◌, ◌%◌, ◌≤◌, refl, ap, sym, ◌∙◌, subst, arith, Bool, true, false, List, [], ◌++◌, Option, Some, None, length}
 use Rattle.std.specs.Prelude.{◌==◌, nat_lt, nat_le, codes}
 use Rattle.std.proofs.lemmas.Bool.Decides.{nat_tests}
 use Rattle.std.proofs.lemmas.Bool.{eq-eqb}
@@ -20,30 +20,8 @@ use Rattle.bilv_spec.specs.Replays.{same_event, is_found, found_of, ending_answe
 use Rattle.answer_spec.specs.AnswerLaws.{named_of}
 use Rattle.machine_spec.proofs.Spelling.{same_number}
 use Rattle.bilv_spec.proofs.StateTold.{printed_is_told}
-use Rattle.bilv_spec.specs.Run.{Program, Place, Step, Stops, Arrives, Exits, Run, Going, Exited, Failed, Turned, run, one_more, after_step, arrive, turn, step}
-
--- a step that goes on makes at most one more backward transfer, and none that is forbidden
-goes_on : (k turns n at : ℕ) (s : Step) (t m : ℕ) (c : Place) → after_step k turns n at s ≡ Going t m c →
-    (m ≡ n + 1) × (t ≤ turns + 1) × ((l : ℕ) → turns < l → after_step l turns n at s ≡ Going t m c)
-goes_on k turns n at (Stops e) t m c h = absurd (let x : Failed e at n ≡ Going t m c = h in cc)
-goes_on k turns n at (Exits s) t m c h = absurd (let x : Exited at n ≡ Going t m c = h in cc)
-goes_on k turns n at (Arrives d) t m c h = by_address (nat_le d.state.pc at) h
-  where
-    by_bound : (b : Bool) → turn b turns n at d ≡ Going t m c →
-        (m ≡ n + 1) × (t ≤ turns + 1) × ((l : ℕ) → turns < l → turn (turns == l) turns n at d ≡ Going t m c)
-    by_bound true h = absurd (let x : Turned at n ≡ Going t m c = h in cc)
-    by_bound false h =
-        let first : turns + 1 ≡ t = cc in
-        let second : n + 1 ≡ m = cc in
-        (sym second, omega (arith, first), λ l less. let f : (turns == l) ≡ false = grind (arith, nat_tests) in rw f h)
-
-    by_address : (b : Bool) → arrive b k turns n at d ≡ Going t m c →
-        (m ≡ n + 1) × (t ≤ turns + 1) × ((l : ℕ) → turns < l → arrive b l turns n at d ≡ Going t m c)
-    by_address false h =
-        let first : turns ≡ t = cc in
-        let second : n + 1 ≡ m = cc in
-        (sym second, omega (arith, first), λ l less. h)
-    by_address true h = by_bound (turns == k) h
+use Rattle.bilv_spec.proofs.SameRuns.{same_run}
+use Rattle.bilv_spec.specs.Run.{Program, Step, Stops, Arrives, Exits, Run, Going, Exited, Failed, Turned, run, one_more, after_step, arrive, turn, step}
 
 -- a step that ends in an event does so whatever the bound is
 fails_by : (k turns n at : ℕ) (s : Step) (e : Event) (a j : ℕ) → after_step k turns n at s ≡ Failed e a j →
@@ -75,34 +53,14 @@ turns_by k turns n at (Arrives d) a j h = by_address (nat_le d.state.pc at) h
     by_address true h = by_bound (turns == k) h
 
 module _ (p : Program) (start : Start) where
-  -- what is said of a run that goes on, under a bound that isn't below its number of steps
-  abbrev IsSame : (l n t m : ℕ) → Place → Type 0
-  IsSame l n t m c = (m ≡ n) × (t ≤ n) × (run p l start n ≡ Going t m c)
-
-  same_step : (k l n : ℕ) → suc n ≤ l → ((t m : ℕ) (c : Place) → run p k start n ≡ Going t m c → IsSame l n t m c) → (r : Run) → run p k start n ≡ r →
-      (t m : ℕ) (c : Place) → one_more p k start r ≡ Going t m c → IsSame l (suc n) t m c
-  unfolding run
-  same_step k l n room known (Going u i d) e t m c h =
-      let before = known u i d e in
-      let here = goes_on k u i d.state.pc (step p start.state d (start.choices i)) t m c h in
-      (omega (arith, here.0, before.0), omega (arith, here.1, before.1), ap (one_more p l start) before.2 ∙ here.2 l (omega (arith, before.1, room)))
-  same_step k l n room known (Exited at i) e t m c h = absurd (let x : Exited at i ≡ Going t m c = h in cc)
-  same_step k l n room known (Failed f at i) e t m c h = absurd (let x : Failed f at i ≡ Going t m c = h in cc)
-  same_step k l n room known (Turned at i) e t m c h = absurd (let x : Turned at i ≡ Going t m c = h in cc)
-
-  same_run : (k l n : ℕ) → n ≤ l → (t m : ℕ) (c : Place) → run p k start n ≡ Going t m c → IsSame l n t m c
-  unfolding run
-  same_run k l zero room t m c h = let first : 0 ≡ t = cc in let second : 0 ≡ m = cc in (sym second, omega (arith, first), h)
-  same_run k l (suc n) room t m c h = same_step k l n room (same_run k l n (omega (arith, room))) (run p k start n) refl t m c h
-
   fails_step : (k n : ℕ) (e : Event) (at j l : ℕ) → j ≤ l → (run p k start n ≡ Failed e at j → run p l start (suc j) ≡ Failed e at j) → (r : Run) →
       run p k start n ≡ r → one_more p k start r ≡ Failed e at j → run p l start (suc j) ≡ Failed e at j
   unfolding run
   fails_step k n e at j l room known (Going u i d) f h =
       let here = fails_by k u i d.state.pc (step p start.state d (start.choices i)) e at j h in
       let itself : n ≤ n = omega arith in
-      let same : n ≡ j = omega (arith, (same_run k n n itself u i d f).0, here.0) in
-      let before = (same_run k l n (omega (arith, room, same)) u i d f).2 in
+      let same : n ≡ j = omega (arith, (same_run p start k n n itself u i d f).0, here.0) in
+      let before = (same_run p start k l n (omega (arith, room, same)) u i d f).2 in
       ap (λ x. one_more p l start (run p l start x)) (sym same) ∙ ap (one_more p l start) before ∙ here.1 l
   fails_step k n e at j l room known (Exited a i) f h = absurd (let x : Exited a i ≡ Failed e at j = h in cc)
   fails_step k n e at j l room known (Failed g a i) f h = known (f ∙ h)
@@ -120,7 +78,7 @@ module _ (p : Program) (start : Start) where
   turns_step k n at j known (Going u i d) f h =
       let here = turns_by k u i d.state.pc (step p start.state d (start.choices i)) at j h in
       let itself : n ≤ n = omega arith in
-      let same : n ≡ j = omega (arith, (same_run k n n itself u i d f).0, here) in
+      let same : n ≡ j = omega (arith, (same_run p start k n n itself u i d f).0, here) in
       ap (λ x. one_more p k start (run p k start x)) (sym same) ∙ ap (one_more p k start) f ∙ h
   turns_step k n at j known (Exited a i) f h = absurd (let x : Exited a i ≡ Turned at j = h in cc)
   turns_step k n at j known (Failed g a i) f h = absurd (let x : Failed g a i ≡ Turned at j = h in cc)

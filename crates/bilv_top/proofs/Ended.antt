@@ -93,7 +93,8 @@ module _ (s : Surroundings) (before after : Option (List ℕ)) (sink_before sink
 
   -- a verification of files that are told is answered where its answer was written
   pub complete_of : (c : Option Command) (a : Answer) → IsDueAnswer s c a → Appends before a.text after →
-      (o : Options) (elf notes file text : List ℕ) (b : Budget) → c ≡ Some (Verify o elf notes b) → AreTold s elf notes file text → (a.status ≡ 7 → ¬ Rose sink_before sink_after) → a.status ≢ 8 →
+      (o : Options) (elf notes file text : List ℕ) (b : Budget) → c ≡ Some (Verify o elf notes b) → AreTold s elf notes file text →
+      (a.status ≡ 7 → ¬ Rose sink_before sink_after) → a.status ≢ 8 →
       (¬ IsSpentEvidence a.evidence) → AreAnswered o file text b before after a.status a.evidence
   complete_of c a due appends o elf notes file text b is told calm memory unspent =
       let here : AreTold there elf notes file text =

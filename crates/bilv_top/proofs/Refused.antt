@@ -82,7 +82,8 @@ missed_by o file text notes (Named name) (Ambiguous a c) le is e missed = ambigu
 
 -- their function is not found
 pub name_answered : (o : Options) (file text : List ℕ) (notes : Notes) (fault : SymFault) (a : Answer) → length text ≤ notes_limit →
-    IsNotesText (vocabulary_of o file) text notes → IsMissedFunction (machine_of o file).narrow file notes.entry fault → a ≡ plain_answer 5 (missed_text fault) → AreNotesAnswered o file text a
+    IsNotesText (vocabulary_of o file) text notes → IsMissedFunction (machine_of o file).narrow file notes.entry fault → a ≡ plain_answer 5 (missed_text fault) →
+    AreNotesAnswered o file text a
 name_answered o file text notes fault a le is missed a_is = (missed_text fault, missed_by o file text notes notes.entry fault le is refl missed, a_is)
 
 module _ (s : Surroundings) (elf : List ℕ) (Next : List ℕ → Answer → Type 0) (a : Answer) where

@@ -101,8 +101,8 @@ asserted_is p a set asserts lines e is flags =
     flags_as set _ _ (λ f. ap (λ xs. list_any (λ x. (x.at == a) && names_flag f x.says) xs) (ap (map assert_of) e ∙ sym is)) flags
 
 -- the node of an address without a row
-pub no_row : (p : run.Program) (n : Node) → None ≡ file_row p n.at → n.length ≡ 4 → n.fetchable ≡ run.fetchable p (file_word p n.at) n.at → n.word ≡ None → n.successors.items ≡ [] →
-    n.returns ≡ false
+pub no_row : (p : run.Program) (n : Node) → None ≡ file_row p n.at → n.length ≡ 4 → n.fetchable ≡ run.fetchable p (file_word p n.at) n.at →
+    n.word ≡ None → n.successors.items ≡ [] → n.returns ≡ false
     → n.flags ≡ record { reads = 0; assigns = 0; surely = 15 } → IsFlagSet n.asserted (λ f. asserts_flag p f n.at) → IsNode p n
 no_row p n none length fetchable word successors returns flags asserted = record {
   length = length ∙ ap row_length none;

@@ -18,7 +18,7 @@ use Rattle.frame_spec.specs.FrameRuns.{Start, Run, Going, Arriving, Calling, Exi
 use Rattle.frame_spec.specs.FrameVerdict.{IsOrigin}
 use Rattle.frame_spec.specs.FrameLaws.{SegmentsByFile}
 use Rattle.frame_spec.specs.FrameQuestions.{by_file}
-use Rattle.frame_spec.proofs.RowsOfFile.{row_same}
+use Rattle.bilv_spec.proofs.FileWords.{row_same}
 use Rattle.frame_spec.proofs.Steps.{came}
 use Rattle.frame_spec.proofs.Stacks.{AreWords, stacked_words, anchor_words}
 

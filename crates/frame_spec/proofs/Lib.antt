@@ -2,7 +2,6 @@ pub mod Headless
 pub mod HeadlessVerdict
 pub mod OneEnd
 pub mod Partial
-pub mod RowsOfFile
 pub mod Steps
 pub mod Deeper
 pub mod Prefix

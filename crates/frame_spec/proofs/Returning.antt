@@ -25,7 +25,7 @@ use Rattle.frame_spec.specs.Theorems.{IsContracted, ComesBack, Keeps, here, by_r
 use Rattle.frame_spec.proofs.HeadlessVerdict.{nothing}
 use Rattle.frame_spec.proofs.OneEnd.{one_end, exit_not_fail, exit_not_turn}
 use Rattle.frame_spec.proofs.Prefix.{same_to}
-use Rattle.frame_spec.proofs.RowsOfFile.{row_same}
+use Rattle.bilv_spec.proofs.FileWords.{row_same}
 use Rattle.frame_spec.proofs.Stacks.{pushed_place}
 use Rattle.frame_spec.proofs.Steps.{no_longer, Came, came, exit_pc}
 use Rattle.frame_spec.proofs.Deeper.{lift, deepen, program_at, deeper}

@@ -20,7 +20,7 @@ use Rattle.frame_spec.specs.FramePoints.{Anchor, AtEntry, AtHead, Point, IsPoint
 use Rattle.frame_spec.specs.FrameQuestions.{point_of}
 use Rattle.frame_spec.specs.FrameVerdict.{IsOrigin}
 use Rattle.frame_spec.specs.FrameLaws.{HasPlaces, anchor_of, StandsAt, SegmentsMeetPoints}
-use Rattle.frame_spec.proofs.RowsOfFile.{row_same}
+use Rattle.bilv_spec.proofs.FileWords.{row_same}
 use Rattle.frame_spec.proofs.Stacks.{AreAll, of_point, pushed_place, place_passes}
 use Rattle.frame_spec.proofs.ByFile.{Stands, Good, good}
 

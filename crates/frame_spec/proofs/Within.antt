@@ -19,7 +19,7 @@ use Rattle.bilv_spec.proofs.FileWords.{Sound, every}
 use Rattle.frame_spec.specs.Frames.{Contract, Frame, content_of, covers, written, is_outside, keeps_register, keeps_flag, keeps_byte, has_changed, stored_by_row}
 use Rattle.frame_spec.specs.FrameRuns.{row_of_place, state_after}
 use Rattle.frame_spec.specs.Theorems.{ComesBack}
-use Rattle.frame_spec.proofs.RowsOfFile.{row_same}
+use Rattle.bilv_spec.proofs.FileWords.{row_same}
 
 -- the bytes that the frame's contract may not write are as in the state at its entry
 abbrev pub Within : Frame → (o : Option Contract) → (entry s : State) → Type 0

@@ -8,6 +8,7 @@ use Rattle.word_spec.specs.Memory.{Endian, Little, number}
 use Rattle.machine_spec.specs.Machine.{Machine, IsAtPlace, is_place, unit, width, first_half, taken, offsets}
 use Rattle.machine_spec.specs.MachineLaws.{IsLawfulMachine}
 use Rattle.bilv_spec.specs.Elf.{Segment, Cell, loaded, cell_in, covers, segments, executable}
+use Rattle.bilv_spec.proofs.FileWords.{half_of_taken, low_half}
 use Rattle.bilv_spec.specs.LiftText.{is_given, is_given_by, is_word_at, word_in, byte_at, offsets_at}
 use Rattle.elf32_reader.specs.declared.parts.Part.{Part}
 use Rattle.elf32_reader.specs.Portions.{IsFirstPart}
@@ -49,17 +50,9 @@ not_loaded file a = given_by file a (find (covers a) (segments file))
 no_word : (m : Machine) (file : List ℕ) (a : ℕ) → is_given file a ≡ false → is_word_at m file a ≡ false
 no_word m file a h = let same : a ≡ a + 0 = omega arith in first_missing m file a (subst (λ n. is_given file n ≡ false) same h)
 
--- what is decoded of a word begins as the word does
-pub half_of_taken : (n : Bool) (w : ℕ) → first_half (taken n w) ≡ first_half w
-half_of_taken n w = by_width (width n (first_half w) == 2)
-  where
-    by_width : (b : Bool) → first_half (if b then first_half w else w) ≡ first_half w
-    by_width true = omega arith
-    by_width false = refl
-
--- the first two bytes are the low half of a word whose lowest byte stands first
-pub low_half : (f : ℕ → ℕ) (a b : ℕ) → a ≡ f 0 → b ≡ f 1 → a < 256 → b < 256 → first_half (number Little 4 f) ≡ a + b * 256
-low_half f a b p q l k = omega (arith, p, q, l, k)
+-- the low half of a word whose lowest byte stands first, by its first two bytes
+pub half_of_bytes : (f : ℕ → ℕ) (a b : ℕ) → a ≡ f 0 → b ≡ f 1 → a < 256 → b < 256 → first_half (number Little 4 f) ≡ a + b * 256
+half_of_bytes f a b p q l k = let half = low_half f in omega (arith, half, p, q, l, k)
 
 wide_or : (b : Bool) (w : ℕ) → w ≡ (if b then 2 else 4) → (w ≡ 2 → ⊥) → w ≡ 4
 wide_or true w is other = absurd (other is)
@@ -85,7 +78,7 @@ module _ (m : Machine) (laws : IsLawfulMachine m) (file : List ℕ) (at a b : �
       by_narrow true e =
           let low : first_half word ≡ a + b * 256 =
           subst (λ (e : Endian). first_half (number e 4 (λ i. byte_at (loaded file (at + i)))) ≡ a + b * 256) (sym (laws.little e))
-          (low_half (λ i. byte_at (loaded file (at + i))) a b first.value second.value first.small second.small) in
+          (half_of_bytes (λ i. byte_at (loaded file (at + i))) a b first.value second.value first.small second.small) in
           ap (width m.narrow) (sym (half_of_taken m.narrow word ∙ low))
 
   -- a row of 2 bytes

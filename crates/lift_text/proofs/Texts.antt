@@ -87,8 +87,8 @@ rises words at below rising i j l w =
     ]
 
 -- a word more
-pub more : (m : Machine) (bank : Bank) (file : List ℕ) (at next : ℕ) (old new : List ℕ) → IsNextPlace m.narrow (at + 1) next → is_word_at m file at ≡ true → IsAppended m bank file at old new
-    → IsTextTo m bank file at old → IsTextTo m bank file next new
+pub more : (m : Machine) (bank : Bank) (file : List ℕ) (at next : ℕ) (old new : List ℕ) → IsNextPlace m.narrow (at + 1) next → is_word_at m file at ≡ true →
+    IsAppended m bank file at old new → IsTextTo m bank file at old → IsTextTo m bank file next new
 more m bank file at next old new is word added t =
     let behind = is.behind in
     let texts = put_text t.texts at added.text in

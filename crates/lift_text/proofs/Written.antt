@@ -17,7 +17,8 @@ use Rattle.machine_law.specs.Facts.{IsLiftedWord}
 use Rattle.lift_text.specs.declared.candidates.RowBytes.{RowBytes}
 use Rattle.lift_text.specs.declared.candidates.RowBytes.TheVariants.{Two, Four}
 use Rattle.lift_text.specs.Found.{IsWordFound, bytes_of, row_number, bytes_text}
-use Rattle.lift_text.proofs.Givens.{half_of_taken, low_half}
+use Rattle.bilv_spec.proofs.FileWords.{half_of_taken}
+use Rattle.lift_text.proofs.Givens.{half_of_bytes}
 use Rattle.lift_text.specs.Progress.{IsAppended}
 use Rattle.lift_text.specs.Rest.{rest_text}
 
@@ -75,7 +76,7 @@ two_decoded m laws file at bytes found = by_narrow m.narrow refl
         let two : width m.narrow (first_half w) ≡ 2 = sym (ap (width m.narrow) (half_of_taken m.narrow w)) ∙ found.wide in
         let low : first_half w ≡ get_or bytes 0 0 + get_or bytes 1 0 * 256 =
         subst (λ (e : Endian). first_half (number e 4 f) ≡ get_or bytes 0 0 + get_or bytes 1 0 * 256) (sym (laws.little e))
-        (low_half f (get_or bytes 0 0) (get_or bytes 1 0) (found.each 0 (omega arith)) (found.each 1 (omega arith)) (found.small 0 (omega arith)) (found.small 1 (omega arith))) in
+        (half_of_bytes f (get_or bytes 0 0) (get_or bytes 1 0) (found.each 0 (omega arith)) (found.each 1 (omega arith)) (found.small 0 (omega arith)) (found.small 1 (omega arith))) in
         let halved : taken m.narrow w ≡ first_half w = ap (λ n. if n == 2 then first_half w else w) two in
         let sum : number Little 2 (λ i. get_or bytes i 0) ≡ get_or bytes 0 0 + get_or bytes 1 0 * 256 = omega arith in
         sum ∙ sym (halved ∙ low)

@@ -13,7 +13,7 @@ use Rattle.word_spec.specs.Memory.{Endian, Memory, load, store, span}
 use Rattle.word_spec.specs.State.{State, IsState, put, with_pc}
 use Rattle.machine_spec.specs.Machine.{Indirect, Outcome, Goes, Raises, SoftwareInterrupt, Successors, only_next, addresses, byte_count}
 use Rattle.machine_spec.specs.Arm.{on, reg, stored_reg, has_bit, is_always, when_stored, write_by, may_write_pc, none, flag_set, by_number, load_by, store_by, access_of, is_byte, is_load, bit_i, kind_of, amount_of, field_n, field_d, field_m, swapped, swap, base_written, transfer_offset, transfer_address, address, is_pre, moved, loaded_by, is_unaligned, transferred, single_transfer, literal_address, halfword_offset, halfword_address, halfword_value, halfword_size, is_even, halfword_by, halfword_done, halfword, listed, listed_from, block_start, block_base, store_all, block_loaded, block_done, block, bit_w, branch_target, branched, branch, is_linked, software_interrupt, exchange, counted, count}
-use Rattle.machine_spec.specs.MachineLaws.{IsLawful, IsPriced, IfGoes, IfRaises, with_flag, OutcomesAgreeBut, with_memory, SameButMemory}
+use Rattle.machine_spec.specs.MachineLaws.{IsLawful, IsPriced, IfGoes, IfRaises, with_flag, OutcomesAgreeBut, with_memory, SameButMemory, BeginsInMemory}
 
 -- one outcome that stores the bytes, goes to the successors, and loads none before an exception
 record Fine (s : State) (e : Outcome) (places loaded : Option (ℕ × ℕ)) (successors : Successors) : Type 0 where
@@ -73,7 +73,7 @@ software_interrupt_lawful w =
     conditional w (λ s c. Raises SoftwareInterrupt) (λ b s. None) (λ b s. None) (λ at. record { next = not (is_always w); direct = None; indirect = false; call = false })
     (λ at. None)
     (record { row = 4096; loads = 0; stores = 0 }) none none none false false
-    (record { least = omega arith; most = omega arith; loads = omega arith; stores = omega arith }) (λ b s. omega arith) (λ l at. cc)
+    (record { least = omega arith; most = omega arith; loads = omega arith; stores = omega arith }) (λ b s. omega arith) (λ b s is. tt) (λ l at. cc)
     (fine_done w _ _ _ _ none false (λ s c is. record { kept = tt; raised = refl; ways = tt; states = tt; unloaded = refl }) (λ at h. rw h refl) (λ at h. refl)
     (λ s c. tt) (λ s c f v h. refl) (λ h s c d. refl) (λ b s f v h. refl) (λ s. refl) (λ b s m. (refl, refl)) (λ s m c is h. refl))
 
@@ -82,7 +82,7 @@ pub exchange_lawful : (w : ℕ) → IsLawful (exchange w)
 exchange_lawful w =
     conditional w (λ s c. Goes Indirect (with_pc s (reg s (field_m w)))) (λ b s. None) (λ b s. None) (may_write_pc w true) (λ at. None)
     (record { row = 4096; loads = 0; stores = 0 }) none none none false false
-    (record { least = omega arith; most = omega arith; loads = omega arith; stores = omega arith }) (λ b s. omega arith) (λ l at. cc)
+    (record { least = omega arith; most = omega arith; loads = omega arith; stores = omega arith }) (λ b s. omega arith) (λ b s is. tt) (λ l at. cc)
     (fine_done w _ _ _ _ none false (λ s c is. record {
       kept = λ a lt out. refl;
       raised = tt;
@@ -99,7 +99,7 @@ zeros_small v = let p = leading_le 32 v in omega (arith, p)
 pub count_lawful : (w : ℕ) → IsLawful (count w)
 count_lawful w =
     conditional w (λ s c. counted w s) (λ b s. None) (λ b s. None) only_next (λ at. None) (record { row = 4096; loads = 0; stores = 0 }) none none none false
-    false (record { least = omega arith; most = omega arith; loads = omega arith; stores = omega arith }) (λ b s. omega arith) (λ l at. cc)
+    false (record { least = omega arith; most = omega arith; loads = omega arith; stores = omega arith }) (λ b s. omega arith) (λ b s is. tt) (λ l at. cc)
     (fine_done w _ _ _ _ none false (λ s c is. record {
       kept = λ a lt out. refl;
       raised = tt;
@@ -144,7 +144,7 @@ branch_lawful w =
     conditional w (λ s c. branched (is_linked w) w s) (λ b s. None) (λ b s. None)
     (λ at. record { next = not (is_always w); direct = Some (branch_target w at); indirect = false; call = is_linked w }) (λ at. None)
     (record { row = 4096; loads = 0; stores = 0 }) none none none false (is_linked w)
-    (record { least = omega arith; most = omega arith; loads = omega arith; stores = omega arith }) (λ b s. omega arith) (λ l at. l)
+    (record { least = omega arith; most = omega arith; loads = omega arith; stores = omega arith }) (λ b s. omega arith) (λ b s is. tt) (λ l at. l)
     (fine_done w _ _ _ _ none false (λ s c is. branched_fine (is_linked w) w s is) (λ at h. rw h refl) (λ at h. cc) (λ s c. branched_flags (is_linked w) w s)
     (λ s c f v h. branched_agree (is_linked w) w s f v) (λ h s c d. refl) (λ b s f v h. refl) (λ s. refl) (λ b s m. (refl, refl))
     (λ s m c is h. branched_over (is_linked w) w s m))
@@ -180,6 +180,15 @@ few_where false true p n h l = omega arith
 few_where false false p n h l = omega arith
 few_where true true p n h l = l
 few_where true false p n h l = let e = h refl in cc
+
+-- and from an address of 32 bits on
+begins_where : (b : Bool) (p : ℕ × ℕ) → p.0 < 2 ^ 32 → BeginsInMemory (when_stored b p)
+begins_where true p h = h
+begins_where false p h = tt
+
+access_begins : (byte : Bool) (a : ℕ) → a < 2 ^ 32 → (access_of byte a).0 < 2 ^ 32
+access_begins true a h = h
+access_begins false a h = omega arith
 
 middle_test : (b load ok : Bool) → (b && load && ok) ≡ true → load ≡ true
 middle_test true true ok h = refl
@@ -226,7 +235,8 @@ swap_lawful e w =
           then 1 else 4;
     })
     none none none false false (swap_priced (field_d w == field_m w) (is_byte w))
-    (λ b s. swap_few b (field_d w == field_m w) (is_byte w) (reg s (field_n w))) (λ l at. cc)
+    (λ b s. swap_few b (field_d w == field_m w) (is_byte w) (reg s (field_n w)))
+    (λ b s is. begins_where b _ (access_begins (is_byte w) _ (reg_small s (field_n w) is))) (λ l at. cc)
     (fine_done w _ (λ b s. when_stored b (access_of (is_byte w) (reg s (field_n w)))) (λ b s. when_stored b (access_of (is_byte w) (reg s (field_n w))))
     only_next none false
     (λ s c is. record {
@@ -413,12 +423,14 @@ transfer_lawful e w =
     let n = if is_byte w then 1 else 4 in
     let reads : ℕ → Bool = flag_set false (bit_i w && (kind_of w == 3) && (amount_of w == 0)) false in
     conditional w (transferred (is_load w) e w) (λ b s. when_stored (b && not (is_load w)) (access_of (is_byte w) (transfer_address w s)))
-    (λ b s. when_stored (b && is_load w && not (is_unaligned w s)) (access_of (is_byte w) (transfer_address w s))) (may_write_pc w (is_load w && (field_d w == 15))) (literal_address w)
+    (λ b s. when_stored (b && is_load w && not (is_unaligned w s)) (access_of (is_byte w) (transfer_address w s)))
+    (may_write_pc w (is_load w && (field_d w == 15))) (literal_address w)
     (record { row = 4096; loads = if is_load w then n else 0; stores = if is_load w then 0 else n }) reads none none (not (is_load w) && (field_d w == 15)) false
     (access_priced (is_load w) 4096 (if is_byte w then 1 else 4) (if is_byte w then 1
     else 4) (omega arith) (omega arith) (one_or_four (is_byte w)) (one_or_four (is_byte w)))
     (λ b s. few_where (b && is_load w && not (is_unaligned w s)) (is_load w) (access_of (is_byte w) (transfer_address w s)) (if is_byte w then 1 else 4)
-    (middle_test b (is_load w) (not (is_unaligned w s))) (access_few (is_byte w) (transfer_address w s))) (λ l at. cc)
+    (middle_test b (is_load w) (not (is_unaligned w s))) (access_few (is_byte w) (transfer_address w s)))
+    (λ b s is. begins_where _ _ (access_begins (is_byte w) _ (address_small w _ (transfer_offset w s) (reg_small s (field_n w) is)))) (λ l at. cc)
     (fine_done w (transferred (is_load w) e w) (λ b s. when_stored (b && not (is_load w)) (access_of (is_byte w) (transfer_address w s)))
     (λ b s. when_stored (b && is_load w && not (is_unaligned w s)) (access_of (is_byte w) (transfer_address w s)))
     (may_write_pc w (is_load w && (field_d w == 15))) reads (not (is_load w) && (field_d w == 15))
@@ -533,7 +545,7 @@ halfword_lawful e w two =
     (record { row = 4096; loads = if is_load w then halfword_size w else 0; stores = if is_load w then 0 else 2 }) none none none false false
     (access_priced (is_load w) 4096 (halfword_size w) 2 (omega arith) (omega arith) (one_or_two (kind_of w == 2)) (omega arith))
     (λ b s. few_where (b && is_load w && is_even w s) (is_load w) (halfword_address w s, halfword_size w) (halfword_size w)
-    (middle_test b (is_load w) (is_even w s)) (omega arith)) (λ l at. cc)
+    (middle_test b (is_load w) (is_even w s)) (omega arith)) (λ b s is. begins_where _ _ (halfword_small w s is)) (λ l at. cc)
     (fine_done w (λ s c. halfword_done e w s) (λ b s. when_stored (b && not (is_load w) && (halfword_address w s % 2 == 0)) (halfword_address w s, 2))
     (λ b s. when_stored (b && is_load w && is_even w s) (halfword_address w s, halfword_size w)) only_next none false
     (λ s c is. halfword_fine _ (is_load w) e w s is refl two) (λ at h. refl) (λ at h. refl) (λ s c. halfword_flags _ (is_load w) e w s)
@@ -708,7 +720,7 @@ block_lawful e w =
     has_bit 15 w) false
     (let few = few_listed w 0 16 in access_priced (is_load w) (4096 + 512 * n) (4 * n) (4 * n) (omega arith) (omega arith) (omega arith) (omega arith))
     (λ b s. few_where (b && is_load w) (is_load w) (block_start w s, 4 * length (listed w)) (4 * length (listed w)) (last_test b (is_load w)) (omega arith))
-    (λ l at. cc)
+    (λ b s is. begins_where _ _ (block_start_small w s)) (λ l at. cc)
     (fine_done w (block_done (is_load w) e w) (λ b s. when_stored (b && not (is_load w)) (block_start w s, 4 * length (listed w)))
     (λ b s. when_stored (b && is_load w) (block_start w s, 4 * length (listed w)))
     (may_write_pc w (is_load w && has_bit 15 w)) none (not (is_load w) && has_bit 15 w)

@@ -453,7 +453,7 @@ computing_lawful w =
     (flag_set false (adds_carry w || is_rrx w) false)
     (flag_set (sets_flags w) (sets_flags w && not (is_logical w && keeps_carry w)) (sets_flags w && not (is_logical w)))
     (flag_set (sets_flags w) (sets_flags w && not (is_logical w && (keeps_carry w || by_a_register w))) (sets_flags w && not (is_logical w))) false false
-    (record { least = omega arith; most = omega arith; loads = omega arith; stores = omega arith }) (λ b s. omega arith) (λ l at. cc) (record {
+    (record { least = omega arith; most = omega arith; loads = omega arith; stores = omega arith }) (λ b s. omega arith) (λ b s is. tt) (λ l at. cc) (record {
       kept = λ s c is. any_computed (is_test w) w s (result_in w s) (λ how new. (a : ℕ) → a < 2 ^ 32 → (Contains (addresses None) a → ⊥) → new.mem a ≡ s.mem a)
           (λ a lt out. refl) (λ a lt out. refl) (λ a lt out. refl);
       raised = λ s c is. computed_raises (is_test w) w s (result_in w s) _;

@@ -8,7 +8,7 @@ use Rattle.word_spec.specs.Memory.{Memory}
 use Rattle.word_spec.specs.State.{State, IsState, put, with_pc}
 use Rattle.machine_spec.specs.Machine.{Cost, On, Direct, DirectCall, Indirect, IndirectCall, How, Outcome, Successors, addresses, byte_count, Goes, Raises}
 use Rattle.machine_spec.specs.Arm.{row_of, when, holds, is_always, condition_code, conditions, nth, condition_reads, condition_flags, flag_use}
-use Rattle.machine_spec.specs.MachineLaws.{IsLawful, IsPriced, IsWay, IfGoes, IfRaises, with_flag, AgreeBut, OutcomesAgreeBut, HaveSameFlag, with_memory, SameButMemory}
+use Rattle.machine_spec.specs.MachineLaws.{IsLawful, IsPriced, IsWay, IfGoes, IfRaises, with_flag, AgreeBut, OutcomesAgreeBut, HaveSameFlag, with_memory, SameButMemory, BeginsInMemory}
 
 other_flag : (g : ℕ → ℕ) (f v k : ℕ) → (k ≡ f → ⊥) → g k ≡ put g f v k
 other_flag g f v k other = rw (ne_eqb k f other) refl
@@ -141,7 +141,8 @@ both false b h = cc
 
 pub conditional : (w : ℕ) (effect : State → ℕ → Outcome) (stored loaded : Bool → State → Option (ℕ × ℕ)) (successors : ℕ → Successors)
     (literal : ℕ → Option ℕ) (cost : Cost) (reads assigns surely : ℕ → Bool) (draws links : Bool) → IsPriced cost →
-    ((b : Bool) (s : State) → byte_count (loaded b s) ≤ cost.loads) → (links ≡ true → (at : ℕ) → (successors at).call ≡ true) →
+    ((b : Bool) (s : State) → byte_count (loaded b s) ≤ cost.loads) → ((b : Bool) (s : State) → IsState s → BeginsInMemory (loaded b s)) →
+    (links ≡ true → (at : ℕ) → (successors at).call ≡ true) →
     IsDone w effect stored loaded successors reads assigns surely draws →
     IsLawful (record (row_of w effect) {
       stored = λ s. stored (holds w s) s;
@@ -153,7 +154,7 @@ pub conditional : (w : ℕ) (effect : State → ℕ → Outcome) (stored loaded 
       links = links;
       loaded = λ s. loaded (holds w s) s;
     })
-conditional w effect stored loaded successors literal cost reads assigns surely draws links priced few calls h = record {
+conditional w effect stored loaded successors literal cost reads assigns surely draws links priced few begins calls h = record {
   stored = λ s c is. goes_when (holds w s) s (effect s c)
       (λ b how new. (a : ℕ) → a < 2 ^ 32 → (Contains (addresses (stored b s)) a → ⊥) → new.mem a ≡ s.mem a) (h.kept s c is) (λ e a lt out. refl);
   raised = λ s c is. raises_when (holds w s) s (effect s c) (λ b. stored b s ≡ None) (h.raised s c is);
@@ -186,6 +187,7 @@ conditional w effect stored loaded successors literal cost reads assigns surely 
       (e.0, e.1, loads_when (holds w s) s m stored loaded (effect s c) (effect (with_memory s m) c) (h.idle s) same (h.loads s m c is));
   unloaded = λ s c is. raises_when (holds w s) s (effect s c) (λ b. loaded b s ≡ None) (h.unloaded s c is);
   few_loads = λ s. few (holds w s) s;
+  loads_at = λ s is. begins (holds w s) s is;
   calls = calls;
 }
   where

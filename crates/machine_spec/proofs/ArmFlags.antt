@@ -112,7 +112,7 @@ pub multiply_lawful : (keeps : Bool) (w : ℕ) → IsLawful (multiply keeps w)
 multiply_lawful keeps w =
     conditional w (multiplied keeps w) (λ b s. None) (λ b s. None) only_next (λ at. None) (record { row = 20000; loads = 0; stores = 0 })
     none (flag_set (sets_flags w) (by_choice keeps w) false) (flag_set (sets_flags w) (by_choice keeps w) false) (by_choice keeps w) false
-    (record { least = omega arith; most = omega arith; loads = omega arith; stores = omega arith }) (λ b s. omega arith) (λ l at. cc) (record {
+    (record { least = omega arith; most = omega arith; loads = omega arith; stores = omega arith }) (λ b s. omega arith) (λ b s is. tt) (λ l at. cc) (record {
       kept = λ s c is a lt out. refl;
       raised = λ s c is. tt;
       ways = λ s c is. (refl, refl);
@@ -184,7 +184,7 @@ pub multiply_long_lawful : (keeps : Bool) (w : ℕ) → IsLawful (multiply_long 
 multiply_long_lawful keeps w =
     conditional w (multiplied_long keeps w) (λ b s. None) (λ b s. None) only_next (λ at. None) (record { row = 20000; loads = 0; stores = 0 })
     none (flag_set (sets_flags w) (by_choice keeps w) (by_choice keeps w)) (flag_set (sets_flags w) (by_choice keeps w) (by_choice keeps w)) (by_choice keeps w) false
-    (record { least = omega arith; most = omega arith; loads = omega arith; stores = omega arith }) (λ b s. omega arith) (λ l at. cc) (record {
+    (record { least = omega arith; most = omega arith; loads = omega arith; stores = omega arith }) (λ b s. omega arith) (λ b s is. tt) (λ l at. cc) (record {
       kept = λ s c is a lt out. refl;
       raised = λ s c is. tt;
       ways = λ s c is. (refl, refl);

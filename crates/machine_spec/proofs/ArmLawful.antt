@@ -134,7 +134,25 @@ LinkAsSaid (x ∷ rest) = LinksAsSaid x × LinkAsSaid rest
 
 table_links : (e : Endian) (profile : Profile) → LinkAsSaid (table e profile)
 unfolding table
-table_links e profile = (inl (λ w at. refl), (inl (λ w at. refl), (inl (λ w at. refl), (inl (λ w at. refl), (inl (λ w at. refl), (inl (λ w at. refl), (inl (λ w at. refl), (inr branch_linking, (inl (λ w at. refl), (inl (λ w at. refl), (inl (λ w at. refl), tt)))))))))))
+table_links e profile = (
+  inl (λ w at. refl),
+  (
+    inl (λ w at. refl),
+    (
+      inl (λ w at. refl),
+      (
+        inl (λ w at. refl),
+        (
+          inl (λ w at. refl),
+          (
+            inl (λ w at. refl),
+            (inl (λ w at. refl), (inr branch_linking, (inl (λ w at. refl), (inl (λ w at. refl), (inl (λ w at. refl), tt))))),
+          ),
+        ),
+      ),
+    ),
+  ),
+)
 
 links_in : (lines : List Instruction) → LinkAsSaid lines → (w : ℕ) (row : Row) → IsLawful row → row_in lines w ≡ Some row → Linking 14 row
 links_in [] h w row law e = cc

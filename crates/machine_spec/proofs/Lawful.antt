@@ -10,7 +10,7 @@ use Rattle.word_spec.specs.Memory.{Little, Memory, load, store, span}
 use Rattle.word_spec.specs.State.{State, IsState, put}
 use Rattle.machine_spec.specs.Machine.{On, Row, Cost, Exception, addresses, byte_count, even}
 use Rattle.machine_spec.specs.Rv.{Fields, sets, auipc, reg, put_reg, branches, branch_by, loads, stores, jal, jalr, links, direct_by, indirect_by, fence, raises, plain_cost}
-use Rattle.machine_spec.specs.MachineLaws.{IsLawful, IsPriced, IsWay, IsSuccessor, ComesNext, IfGoes, IfRaises, with_flag, AgreeBut, OutcomesAgreeBut, with_memory, SameButMemory}
+use Rattle.machine_spec.specs.MachineLaws.{IsLawful, IsPriced, IsWay, IsSuccessor, ComesNext, IfGoes, IfRaises, with_flag, AgreeBut, OutcomesAgreeBut, with_memory, SameButMemory, BeginsInMemory}
 
 -- ranges
 one_small : (b : Bool) (v w : ℕ) → v < 2 ^ 32 → w < 2 ^ 32 → (if b then v else w) < 2 ^ 32
@@ -50,10 +50,11 @@ reg_same s m (suc r) = refl
 -- a row that sets a register to what no flag changes, and that only the bytes that it loads change
 setting_lawful : (f : Fields → State → ℕ) (x : Fields) (loaded : State → Option (ℕ × ℕ)) (cost : Cost) → IsPriced cost →
     ((s : State) → IsState s → f x s < 2 ^ 32) → ((s : State) (g v : ℕ) → f x s ≡ f x (with_flag s g v)) →
-    ((s : State) → byte_count (loaded s) ≤ cost.loads) → ((s : State) (m : Memory) → loaded s ≡ loaded (with_memory s m)) →
+    ((s : State) → byte_count (loaded s) ≤ cost.loads) → ((s : State) → IsState s → BeginsInMemory (loaded s)) →
+    ((s : State) (m : Memory) → loaded s ≡ loaded (with_memory s m)) →
     ((s : State) (m : Memory) → ((a : ℕ) → Contains (addresses (loaded s)) a → s.mem a ≡ m a) → f x s ≡ f x (with_memory s m)) →
     IsLawful (record (sets f x) { cost = cost; loaded = loaded })
-setting_lawful f x loaded cost priced small same few steady by_loads = record {
+setting_lawful f x loaded cost priced small same few begins steady by_loads = record {
   stored = λ s c is a lt out. refl;
   raised = λ s c is. tt;
   successors = λ s c is. refl;
@@ -80,6 +81,7 @@ setting_lawful f x loaded cost priced small same few steady by_loads = record {
   );
   unloaded = λ s c is. tt;
   few_loads = few;
+  loads_at = begins;
   calls = λ l at. cc;
 }
 
@@ -88,7 +90,7 @@ pub sets_lawful : (f : Fields → State → ℕ) (x : Fields) → ((s : State) �
     ((s : State) (g v : ℕ) → f x s ≡ f x (with_flag s g v)) → ((s : State) (m : Memory) → f x s ≡ f x (with_memory s m)) → IsLawful (sets f x)
 sets_lawful f x small same steady =
     setting_lawful f x (λ s. None) plain_cost (record { least = omega arith; most = omega arith; loads = omega arith; stores = omega arith }) small same
-    (λ s. omega arith) (λ s m. refl) (λ s m h. steady s m)
+    (λ s. omega arith) (λ s is. tt) (λ s m. refl) (λ s m h. steady s m)
 
 -- the laws ask of the price only that it is within its bounds and pays for the loads, and do not speak of pairs
 pub with_price : (row : Row) (cost : Cost) → IsPriced cost → ((s : State) → byte_count (row.loaded s) ≤ cost.loads) → IsLawful row →
@@ -111,6 +113,7 @@ with_price row cost within few h = record {
   loads = h.loads;
   unloaded = h.unloaded;
   few_loads = few;
+  loads_at = h.loads_at;
   calls = h.calls;
 }
 
@@ -135,6 +138,7 @@ auipc_lawful x =
       loads = h.loads;
       unloaded = h.unloaded;
       few_loads = h.few_loads;
+      loads_at = h.loads_at;
       calls = h.calls;
     }
 
@@ -205,6 +209,7 @@ branches_lawful test x = record {
   );
   unloaded = λ s c is. branch_raises _ s x.imm _;
   few_loads = λ s. omega arith;
+  loads_at = λ s is. tt;
   calls = λ l at. cc;
 }
 
@@ -215,7 +220,7 @@ loads_lawful n extend x few small =
     (record { row = 1024; loads = n; stores = 0 }) (record { least = omega arith; most = omega arith; loads = omega arith; stores = omega arith })
     (λ s is. small _ (loaded_below n s.mem (add 32 (reg s x.rs1) x.imm) is.mem))
     (λ s g v. ap (λ z. extend (load Little n s.mem (add 32 z x.imm))) (reg_flag s x.rs1 g v))
-    (λ s. omega arith) (λ s m. ap (λ z. Some (add 32 z x.imm, n)) (reg_same s m x.rs1))
+    (λ s. omega arith) (λ s is. mod_small _) (λ s m. ap (λ z. Some (add 32 z x.imm, n)) (reg_same s m x.rs1))
     (λ s m h. ap extend
     (load_same Little n (add 32 (reg s x.rs1) x.imm) s.mem m (mod_small _) h ∙ ap (λ z. load Little n m (add 32 z x.imm)) (reg_same s m x.rs1)))
   where
@@ -284,6 +289,7 @@ stores_lawful n x few = record {
   );
   unloaded = λ s c is. tt;
   few_loads = λ s. omega arith;
+  loads_at = λ s is. tt;
   calls = λ l at. cc;
 }
 
@@ -318,6 +324,7 @@ jal_lawful x = record {
   loads = λ s m c is other h. (refl, refl, (refl, refl, refl, refl, λ a lt e. kept_same a s.mem m e));
   unloaded = λ s c is. tt;
   few_loads = λ s. omega arith;
+  loads_at = λ s is. tt;
   calls = λ l at. linking_calls x.rd l;
 }
 
@@ -344,6 +351,7 @@ jalr_lawful x = record {
   );
   unloaded = λ s c is. tt;
   few_loads = λ s. omega arith;
+  loads_at = λ s is. tt;
   calls = λ l at. linking_calls x.rd l;
 }
 
@@ -366,6 +374,7 @@ fence_lawful x = record {
   loads = λ s m c is other h. (refl, refl, (refl, refl, refl, refl, λ a lt e. kept_same a s.mem m e));
   unloaded = λ s c is. tt;
   few_loads = λ s. omega arith;
+  loads_at = λ s is. tt;
   calls = λ l at. cc;
 }
 
@@ -388,5 +397,6 @@ raises_lawful e x = record {
   loads = λ s m c is other h. (refl, refl, refl);
   unloaded = λ s c is. refl;
   few_loads = λ s. omega arith;
+  loads_at = λ s is. tt;
   calls = λ l at. cc;
 }

@@ -1,9 +1,11 @@
 -- What a load reads and a store writes, over two memories.
-use Rattle.std.proofs.Common.{◌≡◌, ℕ, zero, suc, ◌+◌, ◌*◌, ◌^◌, ◌<◌, ◌≤◌, refl, ap, subst, ◌∙◌, inl, inr, ◌⊎◌, true, false, Bool, arith, List, [], ◌∷◌}
+use Rattle.std.proofs.Common.{◌≡◌, ℕ, zero, suc, ◌+◌, ◌*◌, ◌^◌, ◌<◌, ◌≤◌, refl, ap, subst, ◌∙◌, inl, inr, ◌⊎◌, true, false, Bool, arith, Option, Some, None, List, [], ◌∷◌}
 use Rattle.std.specs.Prelude.{if◌then◌else◌, nat_lt, Contains}
 use Rattle.std.proofs.lemmas.Bool.Decides.{nat_tests}
 use Rattle.word_spec.specs.Words.{add, sub}
 use Rattle.word_spec.specs.Memory.{Endian, Little, Big, Memory, little, big, number, load, store, byte_of, span}
+use Rattle.machine_spec.specs.Machine.{addresses}
+use Rattle.machine_spec.specs.MachineLaws.{BeginsInMemory}
 
 contains_next : (a : ℕ) (rest : List ℕ) (x : ℕ) → Contains rest x → Contains (a ∷ rest) x
 contains_next a rest x (k, l, e) = (suc k, omega arith, e)
@@ -24,6 +26,11 @@ of_span zero a x w (k, l, e) = absurd (omega arith)
 of_span (suc n) a x w (zero, l, e) = (0, omega arith, (let same : a ≡ x = e in omega arith))
 of_span (suc n) a x w (suc k, l, e) =
     let (i, few, is) = of_span n (add 32 a 1) x (omega arith) (k, omega arith, e) in (suc i, omega arith, is ∙ add_next a i)
+
+-- bytes that begin at an address of 32 bits stand at such addresses
+pub loaded_small : (bytes : Option (ℕ × ℕ)) (x : ℕ) → BeginsInMemory bytes → Contains (addresses bytes) x → x < 2 ^ 32
+loaded_small None x begins (k, l, e) = absurd (omega arith)
+loaded_small (Some bytes) x begins inside = let (i, l, e) = of_span bytes.1 bytes.0 x begins inside in omega arith
 
 -- a byte of a span, by its distance from the first
 pub within : (n a x : ℕ) → a < 2 ^ 32 → n ≤ 2 ^ 32 → Contains (span a n) x → sub 32 x a < n

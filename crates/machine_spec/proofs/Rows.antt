@@ -7,7 +7,6 @@ use Rattle.word_spec.specs.State.{State}
 use Rattle.word_spec.specs.Memory.{Little, Big, memory_of, byte_in}
 use Rattle.machine_spec.specs.Machine.{Row, Outcome, Goes, Raises, OddHalfword}
 use Rattle.machine_spec.specs.Rv.{table, rv_row}
-use Rattle.machine_spec.specs.RvMachine.{rv32}
 use Rattle.word_spec.specs.Profiles.{Profile, V4, V4T, V5}
 use Rattle.machine_spec.specs.Arm.{arm, arm_row}
 use Rattle.machine_spec.specs.Arm as arm_rows

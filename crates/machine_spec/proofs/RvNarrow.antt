@@ -197,7 +197,8 @@ shorts_small = (
                                   (
                                     (λ h. small_b 0b1100011 1 (middle h) 0 (imm_b h) (omega arith) (omega arith) (middle_small h) (omega arith)),
                                     (
-                                      (λ h. small_r 0b0010011 1 0 (full h) (full h) (back h) (omega arith) (omega arith) (omega arith) (full_small h) (full_small h) (back_small h)),
+                                      (λ h. small_r 0b0010011 1 0 (full h) (full h) (back h)
+                                          (omega arith) (omega arith) (omega arith) (full_small h) (full_small h) (back_small h)),
                                       (
                                         (λ h. small_i 0b0000011 2 (full h) 2 (imm_lwsp h) (omega arith) (omega arith) (full_small h) (omega arith)),
                                         (
@@ -209,7 +210,8 @@ shorts_small = (
                                               (
                                                 (λ h. small_i 0b1100111 0 1 (full h) 0 (omega arith) (omega arith) (omega arith) (full_small h)),
                                                 (
-                                                  (λ h. small_r 0b0110011 0 0 (full h) (full h) (back h) (omega arith) (omega arith) (omega arith) (full_small h) (full_small h) (back_small h)),
+                                                  (λ h. small_r 0b0110011 0 0 (full h) (full h) (back h)
+                                                      (omega arith) (omega arith) (omega arith) (full_small h) (full_small h) (back_small h)),
                                                   (
                                                     (λ h. small_s 0b0100011 2 2 (back h) (imm_swsp h) (omega arith) (omega arith) (omega arith) (back_small h)),
                                                     tt,

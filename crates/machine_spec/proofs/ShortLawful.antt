@@ -158,6 +158,7 @@ short_is_lawful row law = record {
       (h.0, h.1, over m (addresses (row.stored s)) s (row.effect s c) (row.effect (with_memory s m) c) h.2);
   unloaded = λ s c is. raises s (row.effect s c) (row.loaded s ≡ None) (law.unloaded s c is);
   few_loads = law.few_loads;
+  loads_at = law.loads_at;
   calls = law.calls;
 }
 

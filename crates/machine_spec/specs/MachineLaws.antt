@@ -1,5 +1,5 @@
 -- The laws of a row, of a machine, and of a row's lifted list.
-use Rattle.std.specs.Prelude.{◌≡◌, ◌↔◌, ◌⊎◌, ℕ, ◌≤◌, ◌<◌, ◌+◌, ◌^◌, ◌&&◌, nat_le, nat_lt, length, true, false, not, Some, None, List, Contains}
+use Rattle.std.specs.Prelude.{◌≡◌, ◌↔◌, ◌⊎◌, ℕ, ◌≤◌, ◌<◌, ◌+◌, ◌^◌, ◌&&◌, nat_le, nat_lt, length, true, false, not, Option, Some, None, List, Contains}
 use Rattle.word_spec.specs.Words.{add}
 use Rattle.word_spec.specs.Memory.{Little, Memory}
 use Rattle.word_spec.specs.State.{State, IsState, put}
@@ -91,6 +91,11 @@ OnlyLoads row =
     (row.loaded s ≡ row.loaded (with_memory s m)) × (row.stored s ≡ row.stored (with_memory s m))
     × SameButMemory s m (addresses (row.stored s)) (row.effect s c) (row.effect (with_memory s m) c)
 
+-- what is loaded, if anything, begins at an address of 32 bits
+abbrev pub BeginsInMemory : Option (ℕ × ℕ) → Type 0
+BeginsInMemory None = Unit {0}
+BeginsInMemory (Some bytes) = bytes.0 < 2 ^ 32
+
 -- the way on is a call
 abbrev pub IsCall : How → Type 0
 IsCall On = ⊥
@@ -120,8 +125,8 @@ pub record IsPriced (cost : Cost) : Type 0 where
 -- leaves is a state. unassigned, unread, sure: a flag that it doesn't assign is unchanged; a flag that it doesn't read changes nothing but that flag itself,
 -- and not even that where it surely assigns it. sure_flags: it surely assigns none but the four lowest. draws: it reads the choice only where it says so.
 -- plain: one that may assign a flag stores no byte. stored_unread: a flag that it doesn't read does not change which bytes it stores. priced: its cost is
--- within the bounds. loads, unloaded, few_loads: of the memory it reads only the bytes that it says; where it raises an exception, it says none; and they are no
--- more than its cost has. calls: a row that links can call.
+-- within the bounds. loads, unloaded, few_loads, loads_at: of the memory it reads only the bytes that it says; where it raises an exception, it says none; they
+-- are no more than its cost has; and they begin at an address of 32 bits. calls: a row that links can call.
 pub record IsLawful (row : Row) : Type 0 where
   pub stored : (s : State) (c : ℕ) → IsState s → KeepsOthers (addresses (row.stored s)) s (row.effect s c)
   pub raised : (s : State) (c : ℕ) → IsState s → IfRaises (row.effect s c) (row.stored s ≡ None)
@@ -141,6 +146,7 @@ pub record IsLawful (row : Row) : Type 0 where
   pub loads : OnlyLoads row
   pub unloaded : (s : State) (c : ℕ) → IsState s → IfRaises (row.effect s c) (row.loaded s ≡ None)
   pub few_loads : (s : State) → byte_count (row.loaded s) ≤ row.cost.loads
+  pub loads_at : (s : State) → IsState s → BeginsInMemory (row.loaded s)
   pub calls : row.links ≡ true → (at : ℕ) → (row.successors at).call ≡ true
 
 -- Each word of 32 bits that has a row has a lawful one, as long as its first halfword says; and where some rows have 2 bytes, the lowest byte stands first, so
@@ -154,11 +160,12 @@ pub record IsLawfulMachine (m : Machine) : Type 0 where
   pub unlinked : (w : ℕ) (row : Row) → w < 2 ^ 32 → m.row w ≡ Some row → row.links ≡ false → KeepsLink m.link row
 
 -- The form of state texts is the machine's: the registers are those from the form's first on, at least 15 and at most 31, for which prices and bounds are
--- meant; the flags are those below the number of the form's, at most 4; the link register is one of the registers.
+-- meant, and all below 32; the flags are those below the number of the form's, at most 4; the link register is one of the registers.
 pub record IsFitted (m : Machine) (form : Layout) : Type 0 where
   pub registers : (r : ℕ) → m.has_register r ≡ (nat_le form.first r && nat_lt r (form.first + length form.registers))
   pub enough_registers : 15 ≤ length form.registers
   pub few_registers : length form.registers ≤ 31
+  pub low_registers : form.first + length form.registers ≤ 32
   pub flags : (f : ℕ) → m.has_flag f ≡ nat_lt f (length form.flags)
   pub few_flags : length form.flags ≤ 4
   pub link : m.has_register m.link ≡ true

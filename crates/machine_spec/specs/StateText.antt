@@ -129,6 +129,10 @@ lines_behind layout w =
     MachineLine ∷ register_lines 0 (w.regs ++ flag_bits (length layout.flags) w.flags)
     ++ (map (λ b. ByteLine b.0 b.1) w.bytes ++ (map (λ c. ChoiceLine c.0 c.1) w.choices ++ EndLine ∷ []))
 
+-- the text of a start without an ending
+abbrev pub block_text : Layout → Written → List ℕ
+block_text layout w = lines (map (λ l. joined (words_of_line layout l)) (lines_behind layout w))
+
 -- the lines of the text
 abbrev pub state_lines : Layout → StateText → List (List ℕ)
 state_lines layout t = map (λ l. joined (words_of_line layout l)) (NamedLine t.named ∷ lines_behind layout t.start)

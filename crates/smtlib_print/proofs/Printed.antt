@@ -70,8 +70,8 @@ rv_named (Rv32 compressed) c r e h k = sym (register_name 120 1 31 r h k)
 rv_named (Arm big profile) c r e h k = absurd (cc e)
 
 -- the names of ARM
-pub arm_named : (form : Layout) (r : ℕ) → ((compressed : Bool) → form ≡ Rv32 compressed → ⊥) → (layout_of form).first ≤ r → r < (layout_of form).first + length (layout_of form).registers →
-    114 ∷ number_text r ≡ slice_index_or (layout_of form).registers (r - (layout_of form).first) []
+pub arm_named : (form : Layout) (r : ℕ) → ((compressed : Bool) → form ≡ Rv32 compressed → ⊥) → (layout_of form).first ≤ r →
+    r < (layout_of form).first + length (layout_of form).registers → 114 ∷ number_text r ≡ slice_index_or (layout_of form).registers (r - (layout_of form).first) []
 arm_named (Rv32 compressed) r e h k = absurd (e compressed refl)
 arm_named (Arm big profile) r e h k = sym (register_name 114 0 15 r h k)
 

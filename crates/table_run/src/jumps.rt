@@ -18,8 +18,8 @@ use machine_law::{Machine, length};
 use notes_index::group;
 use notes_lang::Targets;
 
-/// What is known of a step before it is made: its address, how many bytes its row has, and the targets of its row's pair and of its literal, which are sought only where the row may jump
-/// to an address that the state gives.
+/// What is known of a step before it is made: its address, how many bytes its row has, and the targets of its row's pair and of its literal, which are sought
+/// only where the row may jump to an address that the state gives.
 #[derive(Clone, Copy)]
 pub(crate) struct Before {
     pub(crate) at: u32,

@@ -12,6 +12,7 @@ returns-clause-read g c =
     elim c.match-branch-2.branch [
       | in-Go+in_ok-step-in-Go w ↦
           let read = rw w.in-Go.is at c.in_ok-text.ensures.read in
-          rw w.step-is (step_found held before after (options_of c.args.options) c.args.image.now w.in-Go.text.items w.in_ok-step-in-Go.step read.0 read.1 w.in_ok-step-in-Go.ensures)
+          rw w.step-is (step_found held before after (options_of c.args.options) c.args.image.now w.in-Go.text.items
+          w.in_ok-step-in-Go.step read.0 read.1 w.in_ok-step-in-Go.ensures)
       | in-Answered w ↦ rw w.step-is (unread (rw w.in-Answered.is at c.in_ok-text.ensures.read))
     ]

@@ -17,4 +17,5 @@ returns-clause-read g c =
     let before = g.H.Shelf.faults c.args.shelf.now c.args.notes.now in
     let after = g.H.Shelf.faults c.read_notes.new.shelf c.args.notes.now in
     elf_accepted (c.requires.short, c.in-Ok.ensures.accepted)
-    (subst (λ x. IsNotesAnswer held before after (options_of c.args.options) x (answer_of c.in-Answered.answer)) c.in-Ok.ensures.image (rw c.in-Answered.is at c.in_ok-found.ensures.read))
+    (subst (λ x. IsNotesAnswer held before after (options_of c.args.options) x (answer_of c.in-Answered.answer)) c.in-Ok.ensures.image
+    (rw c.in-Answered.is at c.in_ok-found.ensures.read))

@@ -33,7 +33,8 @@ returns-in-Go-clause-verified g c =
     IfOk-weaker c.answer_on.result _ _
     (λ a is. found_verified c.args.file.now c.args.notes.items _ b (answer_of a) c.in-Ok.ensures.image
     (c.requires.short, c.in-Ok.ensures.accepted) f (omega (arith, c.if-len-gt-NOTES_LIMIT.false, c.len.ensures))
-    (subst (λ o. (f.text.items ≡ c.args.notes.items) × IsFoundBy o c.in-Ok.image f) c.standard-options.ensures (rw c.in-Go.is at c.in_ok-found.ensures)) (subst (λ o. said o (answer_of a)) c.standard-options.ensures is)) c.answer_on.ensures.done
+    (subst (λ o. (f.text.items ≡ c.args.notes.items) × IsFoundBy o c.in-Ok.image f) c.standard-options.ensures (rw c.in-Go.is at c.in_ok-found.ensures))
+    (subst (λ o. said o (answer_of a)) c.standard-options.ensures is)) c.answer_on.ensures.done
 
 pub returns-clause-verified : goal.returns-clause-verified
 returns-clause-verified g c =
