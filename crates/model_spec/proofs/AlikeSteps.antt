@@ -7,13 +7,13 @@ use Rattle.word_spec.specs.Memory.{Endian, Memory}
 use Rattle.word_spec.specs.State.{State, IsState}
 use Rattle.machine_spec.specs.Machine.{Row, How, On, Direct, DirectCall, Indirect, IndirectCall, Outcome, Goes, Raises, addresses, is_place}
 use Rattle.machine_spec.specs.MachineLaws.{IsLawful, LeavesState, with_memory, SameButMemory}
+use Rattle.machine_spec.proofs.LoadedBytes.{loaded_small}
 use Rattle.bilv_spec.specs.Elf.{is_kept}
 use Rattle.bilv_spec.specs.Run.{Program, Place, Step, Stops, Arrives, Exits, false_line, false_assert, fetchable, is_named, allowed, exit_by, exit_or, return_or, leave, transfer, aligned_transfer, going_on, after_row, writes_kept, by_row, by_fetch, after_asserts, step}
 use Rattle.bilv_spec.specs.Points.{file_row, file_word}
 use Rattle.bilv_spec.specs.Questions.{by_file}
 use Rattle.bilv_spec.specs.PointLaws.{HasLawfulRows}
 use Rattle.model_spec.specs.Reads.{assert_reads, is_exit_step, exit_reads, outcome_reads, row_reads, fetched_reads, reads_after, step_reads}
-use Rattle.model_spec.specs.ModelLaws.{LoadsWords}
 use Rattle.model_spec.proofs.Alike.{Among, Agree, left_among, right_among, lines_same, asserts_same}
 
 -- two places are the same but for memory
@@ -112,7 +112,7 @@ module _ (A : ℕ → Type 0) (p : Program) (s0 : State) (m0 : Memory) (before :
         subst (λ (k : How). StepBoth A (going_on (writes_kept q row s) q s0 row s l how x) (going_on (writes_kept q row s) q t0 row t l k z)) same.0
         (subst (λ (k : State). StepBoth A (going_on (writes_kept q row s) q s0 row s l how x) (going_on (writes_kept q row s) q t0 row t l how k)) is goes)
 
-  module _ (lawful : HasLawfulRows p) (words : LoadsWords p) (s : State) (m : Memory) (l : List ℕ) (agree : Agree A s.mem m) (first : IsState s)
+  module _ (lawful : HasLawfulRows p) (s : State) (m : Memory) (l : List ℕ) (agree : Agree A s.mem m) (first : IsState s)
       (second : IsState (with_memory s m)) (choice other : ℕ)
       (drawn : (row : Row) → file_row p s.pc ≡ Some row → row.draws ≡ true → choice ≡ other) where
     abbrev c : Place
@@ -126,7 +126,7 @@ module _ (A : ℕ → Type 0) (p : Program) (s0 : State) (m0 : Memory) (before :
     row_both (Some row) is h = (
         let law : IsLawful row = lawful s.pc row is in
         let loads = left_among A (addresses (row.loaded s)) (outcome_reads q s0 row c (row.effect s choice)) h in
-        let only = law.loads s m choice first second (λ a i. agree a (words s.pc row is s first a i) (loads a i)) in
+        let only = law.loads s m choice first second (λ a i. agree a (loaded_small (row.loaded s) a (law.loads_at s first) i) (loads a i)) in
         let chosen : row.effect (with_memory s m) choice ≡ row.effect (with_memory s m) other = by (row.draws) refl law in
         let came = outcome_both row s m (row.effect s choice) (row.effect (with_memory s m) choice) l only.2 (law.states s choice first)
         (law.states (with_memory s m) choice second) agree (right_among A (addresses (row.loaded s)) (outcome_reads q s0 row c (row.effect s choice)) h) in

@@ -22,7 +22,7 @@ use Rattle.bilv_spec.proofs.PointSteps.{in_left, in_right, same_number}
 use Rattle.bilv_spec.proofs.FileWords.{runs_by_file}
 use Rattle.model_spec.specs.Reads.{line_reads, step_reads, run_reads_at, run_reads}
 use Rattle.model_spec.specs.Models.{all_reads, IsPrinted}
-use Rattle.model_spec.specs.ModelLaws.{LoadsWords, StandAlike, PrintedRunsAlike}
+use Rattle.model_spec.specs.ModelLaws.{StandAlike, PrintedRunsAlike}
 use Rattle.model_spec.proofs.Alike.{Among, Agree, lines_same}
 use Rattle.model_spec.proofs.AlikeSteps.{Both, StepBoth, step_both}
 
@@ -109,7 +109,7 @@ reads_at p k r n (suc m) l a c = by (n == m) refl (λ z. reads_at p k r n m z a 
 
 -- ---- the printed start
 
-module _ (p : Program) (lawful : HasLawfulRows p) (memory : ReadsMemory p) (words : LoadsWords p) (layout : Layout) (k steps : ℕ) (r : Reading) (w : Written)
+module _ (p : Program) (lawful : HasLawfulRows p) (memory : ReadsMemory p) (layout : Layout) (k steps : ℕ) (r : Reading) (w : Written)
     (reading : IsReading r) (entry : IsEntryState p r.state) (printed : IsPrinted p layout k r steps w)
     (regs : r.state.regs ≡ (start_in p layout w).state.regs) (flags : r.state.flags ≡ (start_in p layout w).state.flags) where
   abbrev start : Start
@@ -241,7 +241,7 @@ module _ (p : Program) (lawful : HasLawfulRows p) (memory : ReadsMemory p) (word
         λ a e. in_right (line_reads p.machine.endian p.notes.requires r.state r.state) (run_reads p k r steps) a
         (reads_at p k r n steps l a (subst (λ z. Contains (run_reads_at p r z) a) (sym at) e)) in
         let place : record { state = with_memory c.state both.mem; stack = c.stack } ≡ d = λ z. record { state = sym both.state z; stack = both.stack z } in
-        let steps_both = step_both A p r.state m0 agree lawful words c.state both.mem c.stack both.agree both.first both.second
+        let steps_both = step_both A p r.state m0 agree lawful c.state both.mem c.stack both.agree both.first both.second
         (r.choice (point_of turns c)) (start.choices j)
         (λ row is drawn. sym (ap (byte_in w.choices) (sym h.2 ∙ number) ∙ chosen turns c here row is drawn)) reads in
         let there : StepBoth A (step q r.state c (r.choice (point_of turns c))) (step q start.state d (start.choices j)) =
@@ -318,7 +318,7 @@ module _ (p : Program) (lawful : HasLawfulRows p) (memory : ReadsMemory p) (word
       (alike_of n (read_run p k r n) (run q k start n) (runs_both n l))
 
 pub printed_runs_alike : PrintedRunsAlike
-printed_runs_alike p lawful memory words layout k steps r w reading entry printed regs flags = (
-  starts p lawful memory words layout k steps r w reading entry printed regs flags,
-  alike p lawful memory words layout k steps r w reading entry printed regs flags,
+printed_runs_alike p lawful memory layout k steps r w reading entry printed regs flags = (
+  starts p lawful memory layout k steps r w reading entry printed regs flags,
+  alike p lawful memory layout k steps r w reading entry printed regs flags,
 )

@@ -1,14 +1,13 @@
 -- Laws of the answers of outside solvers.
-use Rattle.std.specs.Prelude.{ℕ, ◌≡◌, ◌≤◌, ◌<◌, ◌^◌, ◌↔◌, true, Some, List, [], Contains, codes, length, slice_get, slice_index_or}
-use Rattle.word_spec.specs.State.{State, Written, IsState}
-use Rattle.machine_spec.specs.Machine.{Row, addresses}
+use Rattle.std.specs.Prelude.{ℕ, ◌≡◌, ◌≤◌, ◌<◌, ◌^◌, ◌↔◌, true, Some, List, [], codes, length, slice_get, slice_index_or}
+use Rattle.word_spec.specs.State.{Written}
 use Rattle.machine_spec.specs.StateText.{Layout}
 use Rattle.word_spec.specs.Memory.{Memory}
 use Rattle.call_spec.specs.Calls.{Options, Question}
 use Rattle.bilv_spec.specs.Files.{layout_of}
 use Rattle.bilv_spec.specs.Run.{Program, Run, Going, Exited, Failed, Turned, run}
 use Rattle.bilv_spec.specs.Verdict.{IsEntryState, IsStart}
-use Rattle.bilv_spec.specs.Points.{Point, file_row}
+use Rattle.bilv_spec.specs.Points.{Point}
 use Rattle.bilv_spec.specs.Questions.{Reading, IsReading, IsTrue, read_run}
 use Rattle.bilv_spec.specs.PointLaws.{HasLawfulRows, ReadsMemory}
 use Rattle.bilv_spec.specs.Answers.{start_in}
@@ -42,10 +41,6 @@ ValuesAreGiven =
     × ((n : ℕ) (point : Point) → slice_get points n ≡ Some point → values (choice_name n) ≡ Some (WordValue 2 (word_of (given ds (choice_name n)))))
     × ((m : Memory) × (values (codes "mem") ≡ Some (ArrayValue m)) × ((a : ℕ) → a < 2 ^ 32 → m a ≡ memory_of p (given ds (codes "mem")) a))
 
--- rows load at addresses of 32 bits
-abbrev pub LoadsWords : Program → Type 0
-LoadsWords p = (at : ℕ) (row : Row) → file_row p at ≡ Some row → (s : State) → IsState s → (a : ℕ) → Contains (addresses (row.loaded s)) a → a < 2 ^ 32
-
 -- two runs stand alike, but for memory, or have ended alike
 abbrev pub StandAlike : Run → Run → Type 0
 StandAlike (Going turns n c) (Going other m d) =
@@ -58,7 +53,7 @@ StandAlike r s = ⊥
 -- The start that is printed of a reading in so many steps is a start, and for these steps its run is the reading's but for memory. The bytes that no line and
 -- no row reads are 0 in it.
 abbrev pub PrintedRunsAlike : Type 0
-PrintedRunsAlike = (p : Program) → HasLawfulRows p → ReadsMemory p → LoadsWords p →
+PrintedRunsAlike = (p : Program) → HasLawfulRows p → ReadsMemory p →
     (layout : Layout) (k steps : ℕ) (r : Reading) (w : Written) → IsReading r → IsEntryState p r.state → IsPrinted p layout k r steps w →
     r.state.regs ≡ (start_in p layout w).state.regs → r.state.flags ≡ (start_in p layout w).state.flags →
     IsStart p (start_in p layout w)

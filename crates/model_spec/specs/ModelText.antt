@@ -1,6 +1,6 @@
 -- The answer of an outside solver: its tokens (SMT-LIB 2.6, section 3.1), the grammar of the values that are read, and why an answer is refused.
 use Rattle.std.specs.Prelude.{ℕ, ◌≡◌, ◌≢◌, All, ◌≤◌, ◌<◌, ◌+◌, ◌*◌, ◌^◌, Bool, true, false, ◌==◌, ◌&&◌, ◌||◌, not, nat_le, if◌then◌else◌, List, [], ◌∷◌, ◌++◌, Some, codes, length, map, Contains}
-use Rattle.std.specs.List.{list_all}
+use Rattle.std.specs.List.{list_all, list_any}
 use Rattle.std.specs.Str.Parse.{digits_value}
 use Rattle.word_spec.specs.Texts.{decimal_word, split_lines}
 use Rattle.bilv_spec.specs.SmtLib.{is_binary_digit}
@@ -36,9 +36,11 @@ pub data Mode : Type 0 where
 abbrev pub is_space : ℕ → Bool
 is_space b = (b == 32) || (b == 9) || (b == 13) || (b == 10)
 
--- a printable byte that is no bracket, no bar, no quotation mark and begins no comment
+-- a letter, a digit, or one of the other bytes of simple symbols (SMT-LIB 2.6, section 3.1); and # and :, with which constants and keywords begin
 abbrev pub is_of_word : ℕ → Bool
-is_of_word b = nat_le 33 b && nat_le b 126 && not ((b == 40) || (b == 41) || (b == 124) || (b == 34) || (b == 59))
+is_of_word b =
+    (nat_le 48 b && nat_le b 57) || (nat_le 65 b && nat_le b 90) || (nat_le 97 b && nat_le b 122)
+    || list_any (λ c. b == c) (codes "~!@$%^&*_-+=<>.?/#:")
 
 -- the line after a byte
 abbrev pub line_behind : ℕ → ℕ → ℕ

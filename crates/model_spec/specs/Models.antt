@@ -8,12 +8,12 @@ use Rattle.machine_spec.specs.Endings.{Start, Event}
 use Rattle.bilv_spec.specs.Points.{Point, HasMore, IsPrice, is_known_at, file_row}
 use Rattle.bilv_spec.specs.Questions.{Reading, IsReading, IsTrue, point_of, read_run}
 use Rattle.call_spec.specs.Calls.{Question, EntryQuestion, FailQuestion, TurnQuestion, Budget, Answer, plain_answer, RunOf, Count}
-use Rattle.machine_spec.specs.StateText.{Layout, IsWritten, lines_behind, words_of_line}
+use Rattle.machine_spec.specs.StateText.{Layout, IsWritten, block_text}
 use Rattle.word_spec.specs.State.{Written}
 use Rattle.bilv_spec.specs.Scripts.{AreNumbered, symbols_of, choice_name, draws}
 use Rattle.bilv_spec.specs.Answers.{IsWithin, budget_text, start_in, EndsAs, known_byte, FailsReport, UnrollReport, report_text}
 use Rattle.clause_spec.specs.Checks.{text_limit}
-use Rattle.word_spec.specs.Texts.{line, lines, joined, spaced, number_text}
+use Rattle.word_spec.specs.Texts.{line, spaced, number_text}
 use Rattle.model_spec.specs.ModelText.{Value, WordIs, ConstantIs, StoredIs, Definition, Gives, PassedOver, Words, Memories, Declared, ModelFault, AnswerFault, SyntaxFault, SortFault, TwiceFault, IsModelFault, IsAnswer}
 use Rattle.model_spec.specs.Reads.{line_reads, run_reads}
 
@@ -83,10 +83,6 @@ pub record IsPrinted (p : Program) (layout : Layout) (k : ℕ) (r : Reading) (st
   pub bytes : (a b : ℕ) → Contains w.bytes (a, b) ↔
       ((a < 2 ^ 32) × Contains (all_reads p k r steps) a × (is_known_at p a ≡ false) × (b ≡ r.state.mem a) × (b ≢ 0))
   pub choices : (i c : ℕ) → Contains w.choices (i, c) ↔ ((i < steps) × DrawsAt p k r i c × (c ≢ 0))
-
--- the text of a start without an ending
-abbrev pub block_text : Layout → Written → List ℕ
-block_text layout w = lines (map (λ l. joined (words_of_line layout l)) (lines_behind layout w))
 
 -- how the run of the printed start ends, and the report of it
 pub data Ending : Type 0 where
