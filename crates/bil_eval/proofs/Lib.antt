@@ -1,4 +1,3 @@
-pub mod Bits
 pub mod Locals
 pub mod Runs
 pub mod Typed

@@ -11,11 +11,11 @@ ghost use Rattle.bil_eval.specs.Checked.{IsMemory, IsWord, is_memory_variable};
 ghost use Rattle.bil_eval.specs.Views.{env_of, held};
 
 use crate::env::{LocalWord, Machine, read_word};
-use crate::operators;
 use bil_ast::{BilType, Exp, Var};
 use bv_word::Word;
 use byte_mem::Bytes32;
 use std::alloc::{AllocError, Global};
+use word_formula::operators;
 
 /// Whether the expression is the machine's memory itself.
 fn is_memory_variable(e: &Exp) -> bool

@@ -5,7 +5,6 @@ mod env;
 mod expressions;
 mod faults;
 mod lists;
-mod operators;
 mod statements;
 
 pub use env::{Env, LocalWord, Machine};

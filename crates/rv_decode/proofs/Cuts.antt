@@ -6,102 +6,32 @@ use Rattle.word_spec.specs.Words.{bits, sign_extend}
 use Rattle.machine_spec.specs.Rv.{imm_u}
 use Rattle.machine_spec.specs.RvWords.{word_r, word_i, word_s, word_b, word_u, word_j}
 use Rattle.rv_decode.specs.declared.plain.BranchOp.{BranchOp}
-use Rattle.rv_decode.specs.declared.plain.BranchOp.TheVariants.{Beq, Bne, Blt, Bge, Bltu, Bgeu}
+use Rattle.rv_decode.specs.declared.plain.BranchOp.TheVariants.{Beq}
 use Rattle.rv_decode.specs.declared.plain.LoadOp.{LoadOp}
-use Rattle.rv_decode.specs.declared.plain.LoadOp.TheVariants.{Lb, Lh, Lw, Lbu, Lhu}
+use Rattle.rv_decode.specs.declared.plain.LoadOp.TheVariants.{Lb}
 use Rattle.rv_decode.specs.declared.plain.StoreOp.{StoreOp}
-use Rattle.rv_decode.specs.declared.plain.StoreOp.TheVariants.{Sb, Sh, Sw}
-use Rattle.rv_decode.specs.declared.plain.ImmediateOp.{ImmediateOp}
-use Rattle.rv_decode.specs.declared.plain.ImmediateOp.TheVariants.{Addi, Slti, Sltiu, Xori, Ori, Andi}
-use Rattle.rv_decode.specs.declared.plain.ShiftOp.{ShiftOp}
-use Rattle.rv_decode.specs.declared.plain.ShiftOp.TheVariants.{Slli, Srli, Srai}
-use Rattle.rv_decode.specs.declared.plain.RegisterOp.{RegisterOp}
-use Rattle.rv_decode.specs.declared.plain.RegisterOp.TheVariants.{Add, Sub, Sll, Slt, Sltu, Xor, Srl, Sra, Or, And, Mul, Mulh, Mulhsu, Mulhu, Div, Divu, Rem, Remu}
+use Rattle.rv_decode.specs.declared.plain.StoreOp.TheVariants.{Sb}
 use Rattle.rv_decode.specs.declared.plain.Plain.{Plain}
 use Rattle.rv_decode.specs.declared.plain.Plain.TheVariants.{Lui, Auipc, Jal, Jalr, Branch, Load, Store, Immediate, Shift, Computation, Fence, Ecall, Ebreak}
-use Rattle.rv_decode.specs.Plains.{DecodesPlain, branch_code, load_code, store_code, immediate_code, shift_code, shift_upper_code, register_code, register_upper_code}
+use Rattle.rv_decode.specs.Operations.{immediate_line, shift_line, register_line}
+use Rattle.rv_decode.specs.Plains.{DecodesPlain, branch_code, load_code, store_code}
 use Rattle.rv_decode.specs.Encodings.{encoded}
 use Rattle.rv_decode.specs.Halves.{IsOfHalf}
 use Rattle.rv_decode.specs.Insns.{DecodesBy}
 use Rattle.rv_decode.specs.Formats.{FitsPlain, FitsBy, EachFitting}
+use Rattle.rv_decode.proofs.Small.{immediate_small, shift_small, shift_upper_small, register_small, register_upper_small}
 
 branch_small : (op : BranchOp) → branch_code op < 8
 branch_small Beq = lit< tt
-branch_small Bne = lit< tt
-branch_small Blt = lit< tt
-branch_small Bge = lit< tt
-branch_small Bltu = lit< tt
-branch_small Bgeu = lit< tt
+branch_small op = lit< tt
 
 load_small : (op : LoadOp) → load_code op < 8
 load_small Lb = lit< tt
-load_small Lh = lit< tt
-load_small Lw = lit< tt
-load_small Lbu = lit< tt
-load_small Lhu = lit< tt
+load_small op = lit< tt
 
 store_small : (op : StoreOp) → store_code op < 8
 store_small Sb = lit< tt
-store_small Sh = lit< tt
-store_small Sw = lit< tt
-
-immediate_small : (op : ImmediateOp) → immediate_code op < 8
-immediate_small Addi = lit< tt
-immediate_small Slti = lit< tt
-immediate_small Sltiu = lit< tt
-immediate_small Xori = lit< tt
-immediate_small Ori = lit< tt
-immediate_small Andi = lit< tt
-
-shift_small : (op : ShiftOp) → shift_code op < 8
-shift_small Slli = lit< tt
-shift_small Srli = lit< tt
-shift_small Srai = lit< tt
-
-register_small : (op : RegisterOp) → register_code op < 8
-register_small Add = lit< tt
-register_small Sub = lit< tt
-register_small Sll = lit< tt
-register_small Slt = lit< tt
-register_small Sltu = lit< tt
-register_small Xor = lit< tt
-register_small Srl = lit< tt
-register_small Sra = lit< tt
-register_small Or = lit< tt
-register_small And = lit< tt
-register_small Mul = lit< tt
-register_small Mulh = lit< tt
-register_small Mulhsu = lit< tt
-register_small Mulhu = lit< tt
-register_small Div = lit< tt
-register_small Divu = lit< tt
-register_small Rem = lit< tt
-register_small Remu = lit< tt
-
-shift_upper_small : (op : ShiftOp) → shift_upper_code op < 128
-shift_upper_small Slli = lit< tt
-shift_upper_small Srli = lit< tt
-shift_upper_small Srai = lit< tt
-
-register_upper_small : (op : RegisterOp) → register_upper_code op < 128
-register_upper_small Add = lit< tt
-register_upper_small Sub = lit< tt
-register_upper_small Sll = lit< tt
-register_upper_small Slt = lit< tt
-register_upper_small Sltu = lit< tt
-register_upper_small Xor = lit< tt
-register_upper_small Srl = lit< tt
-register_upper_small Sra = lit< tt
-register_upper_small Or = lit< tt
-register_upper_small And = lit< tt
-register_upper_small Mul = lit< tt
-register_upper_small Mulh = lit< tt
-register_upper_small Mulhsu = lit< tt
-register_upper_small Mulhu = lit< tt
-register_upper_small Div = lit< tt
-register_upper_small Divu = lit< tt
-register_upper_small Rem = lit< tt
-register_upper_small Remu = lit< tt
+store_small op = lit< tt
 
 -- a word of six fields, cut again
 cut : (o d f a b g : ℕ) → o < 128 → d < 32 → f < 8 → a < 32 → b < 32 → g < 128 → let w = word_r o f g d a b in
@@ -187,14 +117,14 @@ plain_fitting (Store op rs1 rs2 offset) h =
     let c = cut_s 0b0100011 (store_code op) rs1.number rs2.number offset (lit< tt) (store_small op) rs1.in_range rs2.in_range in
     (encoded (Store op rs1 rs2 offset), c.5, record { line = fits_3 _ _ _ c.0 c.1; fields = (sym c.2, sym c.3, h ∙ ap (sign_extend 12 32) (sym c.4)) })
 plain_fitting (Immediate op rd rs1 imm) h =
-    let c = cut_i 0b0010011 rd.number (immediate_code op) rs1.number imm (lit< tt) rd.in_range (immediate_small op) rs1.in_range in
+    let c = cut_i 0b0010011 rd.number (immediate_line op).funct3 rs1.number imm (lit< tt) rd.in_range (immediate_small op) rs1.in_range in
     (encoded (Immediate op rd rs1 imm), c.5, record { line = fits_3 _ _ _ c.0 c.2; fields = (sym c.1, sym c.3, h ∙ ap (sign_extend 12 32) (sym c.4)) })
 plain_fitting (Shift op rd rs1 amount) h =
-    let c = cut 0b0010011 rd.number (shift_code op) rs1.number amount.bits (shift_upper_code op)
+    let c = cut 0b0010011 rd.number (shift_line op).funct3 rs1.number amount.bits (shift_line op).funct7
     (lit< tt) rd.in_range (shift_small op) rs1.in_range amount.in_range (shift_upper_small op) in
     (encoded (Shift op rd rs1 amount), c.6, record { line = fits_7 _ _ _ _ c.0 c.2 c.5; fields = (sym c.1, sym c.3, sym c.4) })
 plain_fitting (Computation op rd rs1 rs2) h =
-    let c = cut 0b0110011 rd.number (register_code op) rs1.number rs2.number (register_upper_code op)
+    let c = cut 0b0110011 rd.number (register_line op).funct3 rs1.number rs2.number (register_line op).funct7
     (lit< tt) rd.in_range (register_small op) rs1.in_range rs2.in_range (register_upper_small op) in
     (encoded (Computation op rd rs1 rs2), c.6, record { line = fits_7 _ _ _ _ c.0 c.2 c.5; fields = (sym c.1, sym c.3, sym c.4) })
 plain_fitting (Fence fields) h =

@@ -1,3 +1,4 @@
+pub mod Small
 pub mod Shapes
 pub mod Lines
 pub mod NoRows

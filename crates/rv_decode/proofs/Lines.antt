@@ -1,22 +1,23 @@
 -- Each instruction stands at its place in the table, so a word is of one line at most.
-use Rattle.std.proofs.Common.{◌≡◌, ◌⊎◌, inl, inr, ℕ, zero, suc, refl, sym, ap, ◌∙◌, Bool, true, false, List, [], ◌∷◌, Some, map}
+use Rattle.std.proofs.Common.{◌≡◌, ◌⊎◌, inl, inr, ℕ, zero, suc, ◌+◌, refl, sym, ap, ◌∙◌, Bool, true, false, List, [], ◌∷◌, Some, map}
+use denote.Enum.Declared.{tag_of}
 use Rattle.std.specs.Prelude.{slice_get}
 use Rattle.std.specs.Option.{option_map}
 use Rattle.std.proofs.lemmas.Option.{slice_get-map}
 use Rattle.machine_spec.specs.Rv.{Instruction, table, fits, fields, row_in, rv_row}
 use Rattle.machine_spec.proofs.RvTable.{one_row}
-use Rattle.rv_decode.specs.declared.plain.BranchOp.{BranchOp}
 use Rattle.rv_decode.specs.declared.plain.BranchOp.TheVariants.{Beq, Bne, Blt, Bge, Bltu, Bgeu}
-use Rattle.rv_decode.specs.declared.plain.LoadOp.{LoadOp}
 use Rattle.rv_decode.specs.declared.plain.LoadOp.TheVariants.{Lb, Lh, Lw, Lbu, Lhu}
-use Rattle.rv_decode.specs.declared.plain.StoreOp.{StoreOp}
 use Rattle.rv_decode.specs.declared.plain.StoreOp.TheVariants.{Sb, Sh, Sw}
-use Rattle.rv_decode.specs.declared.plain.ImmediateOp.{ImmediateOp}
 use Rattle.rv_decode.specs.declared.plain.ImmediateOp.TheVariants.{Addi, Slti, Sltiu, Xori, Ori, Andi}
-use Rattle.rv_decode.specs.declared.plain.ShiftOp.{ShiftOp}
 use Rattle.rv_decode.specs.declared.plain.ShiftOp.TheVariants.{Slli, Srli, Srai}
-use Rattle.rv_decode.specs.declared.plain.RegisterOp.{RegisterOp}
 use Rattle.rv_decode.specs.declared.plain.RegisterOp.TheVariants.{Add, Sub, Sll, Slt, Sltu, Xor, Srl, Sra, Or, And, Mul, Mulh, Mulhsu, Mulhu, Div, Divu, Rem, Remu}
+use Rattle.rv_decode.specs.contracts.plain.BranchOp as branches
+use Rattle.rv_decode.specs.contracts.plain.LoadOp as loads
+use Rattle.rv_decode.specs.contracts.plain.StoreOp as stores
+use Rattle.rv_decode.specs.contracts.plain.ImmediateOp as immediates
+use Rattle.rv_decode.specs.contracts.plain.ShiftOp as shifts
+use Rattle.rv_decode.specs.contracts.plain.RegisterOp as registers
 use Rattle.rv_decode.specs.declared.plain.Plain.{Plain}
 use Rattle.rv_decode.specs.declared.plain.Plain.TheVariants.{Lui, Auipc, Jal, Jalr, Branch, Load, Store, Immediate, Shift, Computation, Fence, Ecall, Ebreak}
 use Rattle.rv_decode.specs.Plains.{line_of, plain_row, HasFields, DecodesPlain}
@@ -42,71 +43,18 @@ lines =
     Ecall ∷
     Ebreak ∷ []
 
-abbrev branch_index : BranchOp → ℕ
-branch_index Beq = 4
-branch_index Bne = 5
-branch_index Blt = 6
-branch_index Bge = 7
-branch_index Bltu = 8
-branch_index Bgeu = 9
-
-abbrev load_index : LoadOp → ℕ
-load_index Lb = 10
-load_index Lh = 11
-load_index Lw = 12
-load_index Lbu = 13
-load_index Lhu = 14
-
-abbrev store_index : StoreOp → ℕ
-store_index Sb = 15
-store_index Sh = 16
-store_index Sw = 17
-
-abbrev immediate_index : ImmediateOp → ℕ
-immediate_index Addi = 18
-immediate_index Slti = 19
-immediate_index Sltiu = 20
-immediate_index Xori = 21
-immediate_index Ori = 22
-immediate_index Andi = 23
-
-abbrev shift_index : ShiftOp → ℕ
-shift_index Slli = 24
-shift_index Srli = 25
-shift_index Srai = 26
-
-abbrev register_index : RegisterOp → ℕ
-register_index Add = 27
-register_index Sub = 28
-register_index Sll = 29
-register_index Slt = 30
-register_index Sltu = 31
-register_index Xor = 32
-register_index Srl = 33
-register_index Sra = 34
-register_index Or = 35
-register_index And = 36
-register_index Mul = 37
-register_index Mulh = 38
-register_index Mulhsu = 39
-register_index Mulhu = 40
-register_index Div = 41
-register_index Divu = 42
-register_index Rem = 43
-register_index Remu = 44
-
 -- the place of its line
 abbrev place : Plain → ℕ
 place (Lui rd imm) = 0
 place (Auipc rd imm) = 1
 place (Jal rd offset) = 2
 place (Jalr rd rs1 offset) = 3
-place (Branch op rs1 rs2 offset) = branch_index op
-place (Load op rd rs1 offset) = load_index op
-place (Store op rs1 rs2 offset) = store_index op
-place (Immediate op rd rs1 imm) = immediate_index op
-place (Shift op rd rs1 amount) = shift_index op
-place (Computation op rd rs1 rs2) = register_index op
+place (Branch op rs1 rs2 offset) = 4 + tag_of branches.the_type op
+place (Load op rd rs1 offset) = 10 + tag_of loads.the_type op
+place (Store op rs1 rs2 offset) = 15 + tag_of stores.the_type op
+place (Immediate op rd rs1 imm) = 18 + tag_of immediates.the_type op
+place (Shift op rd rs1 amount) = 24 + tag_of shifts.the_type op
+place (Computation op rd rs1 rs2) = 27 + tag_of registers.the_type op
 place (Fence fields) = 45
 place Ecall = 46
 place Ebreak = 47
@@ -114,53 +62,19 @@ place Ebreak = 47
 at_place : (i : Plain) → slice_get lines (place i) ≡ Some (blank i)
 unfolding lines
 at_place (Lui rd imm) = refl
-at_place (Auipc rd imm) = refl
-at_place (Jal rd offset) = refl
-at_place (Jalr rd rs1 offset) = refl
 at_place (Branch Beq rs1 rs2 offset) = refl
-at_place (Branch Bne rs1 rs2 offset) = refl
-at_place (Branch Blt rs1 rs2 offset) = refl
-at_place (Branch Bge rs1 rs2 offset) = refl
-at_place (Branch Bltu rs1 rs2 offset) = refl
-at_place (Branch Bgeu rs1 rs2 offset) = refl
+at_place (Branch op rs1 rs2 offset) = refl
 at_place (Load Lb rd rs1 offset) = refl
-at_place (Load Lh rd rs1 offset) = refl
-at_place (Load Lw rd rs1 offset) = refl
-at_place (Load Lbu rd rs1 offset) = refl
-at_place (Load Lhu rd rs1 offset) = refl
+at_place (Load op rd rs1 offset) = refl
 at_place (Store Sb rs1 rs2 offset) = refl
-at_place (Store Sh rs1 rs2 offset) = refl
-at_place (Store Sw rs1 rs2 offset) = refl
+at_place (Store op rs1 rs2 offset) = refl
 at_place (Immediate Addi rd rs1 imm) = refl
-at_place (Immediate Slti rd rs1 imm) = refl
-at_place (Immediate Sltiu rd rs1 imm) = refl
-at_place (Immediate Xori rd rs1 imm) = refl
-at_place (Immediate Ori rd rs1 imm) = refl
-at_place (Immediate Andi rd rs1 imm) = refl
+at_place (Immediate op rd rs1 imm) = refl
 at_place (Shift Slli rd rs1 amount) = refl
-at_place (Shift Srli rd rs1 amount) = refl
-at_place (Shift Srai rd rs1 amount) = refl
+at_place (Shift op rd rs1 amount) = refl
 at_place (Computation Add rd rs1 rs2) = refl
-at_place (Computation Sub rd rs1 rs2) = refl
-at_place (Computation Sll rd rs1 rs2) = refl
-at_place (Computation Slt rd rs1 rs2) = refl
-at_place (Computation Sltu rd rs1 rs2) = refl
-at_place (Computation Xor rd rs1 rs2) = refl
-at_place (Computation Srl rd rs1 rs2) = refl
-at_place (Computation Sra rd rs1 rs2) = refl
-at_place (Computation Or rd rs1 rs2) = refl
-at_place (Computation And rd rs1 rs2) = refl
-at_place (Computation Mul rd rs1 rs2) = refl
-at_place (Computation Mulh rd rs1 rs2) = refl
-at_place (Computation Mulhsu rd rs1 rs2) = refl
-at_place (Computation Mulhu rd rs1 rs2) = refl
-at_place (Computation Div rd rs1 rs2) = refl
-at_place (Computation Divu rd rs1 rs2) = refl
-at_place (Computation Rem rd rs1 rs2) = refl
-at_place (Computation Remu rd rs1 rs2) = refl
-at_place (Fence fields) = refl
-at_place Ecall = refl
-at_place Ebreak = refl
+at_place (Computation op rd rs1 rs2) = refl
+at_place i = refl
 
 table_of_lines : map line_of lines ≡ table
 unfolding lines table

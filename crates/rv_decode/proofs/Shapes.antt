@@ -81,33 +81,11 @@ blank i = with_fields i 0
 
 pub refilled : (i : Plain) (w : ℕ) → with_fields (blank i) w ≡ with_fields i w
 refilled (Lui rd imm) w = refl
-refilled (Auipc rd imm) w = refl
-refilled (Jal rd offset) w = refl
-refilled (Jalr rd rs1 offset) w = refl
-refilled (Branch op rs1 rs2 offset) w = refl
-refilled (Load op rd rs1 offset) w = refl
-refilled (Store op rs1 rs2 offset) w = refl
-refilled (Immediate op rd rs1 imm) w = refl
-refilled (Shift op rd rs1 amount) w = refl
-refilled (Computation op rd rs1 rs2) w = refl
-refilled (Fence fields) w = refl
-refilled Ecall w = refl
-refilled Ebreak w = refl
+refilled i w = refl
 
 pub line_of-blank : (i : Plain) → line_of (blank i) ≡ line_of i
 line_of-blank (Lui rd imm) = refl
-line_of-blank (Auipc rd imm) = refl
-line_of-blank (Jal rd offset) = refl
-line_of-blank (Jalr rd rs1 offset) = refl
-line_of-blank (Branch op rs1 rs2 offset) = refl
-line_of-blank (Load op rd rs1 offset) = refl
-line_of-blank (Store op rs1 rs2 offset) = refl
-line_of-blank (Immediate op rd rs1 imm) = refl
-line_of-blank (Shift op rd rs1 amount) = refl
-line_of-blank (Computation op rd rs1 rs2) = refl
-line_of-blank (Fence fields) = refl
-line_of-blank Ecall = refl
-line_of-blank Ebreak = refl
+line_of-blank i = refl
 
 -- two instructions of one line with the fields of one word
 pub same_insn : (i j : Plain) (w : ℕ) → blank i ≡ blank j → HasFields i w → HasFields j w → i ≡ j

@@ -1,3 +1,4 @@
+pub mod Operations
 pub mod Plains
 pub mod Halves
 pub mod Insns

@@ -7,7 +7,8 @@ ghost use Rattle.machine_spec.specs.RvShort.{row_of_expansion, rvc_row};
 ghost use Rattle.machine_spec.specs.RvShort as shorts;
 ghost use Rattle.rv_decode.specs.declared.insn.Insn.{Insn};
 ghost use Rattle.rv_decode.specs.Insns.{row_of, Decodes};
-ghost use Rattle.rv_decode.specs.Plains.{DecodesPlain, branch_code, load_code, store_code, immediate_code, shift_code, shift_upper_code, register_code, register_upper_code};
+ghost use Rattle.rv_decode.specs.Operations.{immediate_line, shift_line, register_line};
+ghost use Rattle.rv_decode.specs.Plains.{DecodesPlain, branch_code, load_code, store_code};
 
 use crate::expander::expansion;
 use crate::fields::{
@@ -188,7 +189,7 @@ fn decode_store(word: u32) -> Option<Plain>
 
 fn immediate_op(funct3: u32) -> Option<ImmediateOp>
     requires { funct3 < 8 }
-    ensures { MatchOption result ((funct3 ≡ 1) ⊎ (funct3 ≡ 5)) (λ op. funct3 ≡ immediate_code op) }
+    ensures { MatchOption result ((funct3 ≡ 1) ⊎ (funct3 ≡ 5)) (λ op. funct3 ≡ (immediate_line op).funct3) }
 {
     match funct3 {
         0 => Some(ImmediateOp::Addi),
@@ -218,7 +219,7 @@ fn decode_immediate(word: u32) -> Option<Plain>
 
 fn shift_op(funct3: u32, funct7: u32) -> Option<ShiftOp>
     requires { (funct3 ≡ 1) ⊎ (funct3 ≡ 5) }
-    ensures some { IfSome result (λ op. (funct3 ≡ shift_code op) × (funct7 ≡ shift_upper_code op)) }
+    ensures some { IfSome result (λ op. (funct3 ≡ (shift_line op).funct3) × (funct7 ≡ (shift_line op).funct7)) }
     ensures none { IfNone result ((funct7 ≢ 0) × ((funct3 ≡ 1) ⊎ (funct7 ≢ 32))) }
 {
     match (funct3, funct7) {
@@ -246,7 +247,7 @@ fn decode_shift(word: u32) -> Option<Plain>
 
 fn base_op(funct3: u32) -> RegisterOp
     requires { funct3 < 8 }
-    ensures { (funct3 ≡ register_code result) × (0 ≡ register_upper_code result) }
+    ensures { (funct3 ≡ (register_line result).funct3) × (0 ≡ (register_line result).funct7) }
 {
     match funct3 {
         0 => RegisterOp::Add,
@@ -262,7 +263,7 @@ fn base_op(funct3: u32) -> RegisterOp
 
 fn multiply_op(funct3: u32) -> RegisterOp
     requires { funct3 < 8 }
-    ensures { (funct3 ≡ register_code result) × (1 ≡ register_upper_code result) }
+    ensures { (funct3 ≡ (register_line result).funct3) × (1 ≡ (register_line result).funct7) }
 {
     match funct3 {
         0 => RegisterOp::Mul,
@@ -278,7 +279,7 @@ fn multiply_op(funct3: u32) -> RegisterOp
 
 fn register_op(funct3: u32, funct7: u32) -> Option<RegisterOp>
     requires { funct3 < 8 }
-    ensures some { IfSome result (λ op. (funct3 ≡ register_code op) × (funct7 ≡ register_upper_code op)) }
+    ensures some { IfSome result (λ op. (funct3 ≡ (register_line op).funct3) × (funct7 ≡ (register_line op).funct7)) }
     ensures none { IfNone result
         ((funct7 ≢ 0) × (funct7 ≢ 1) × ((funct7 ≢ 32) ⊎ ((funct3 ≢ 0) × (funct3 ≢ 5)))) }
 {

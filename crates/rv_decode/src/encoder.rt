@@ -1,7 +1,7 @@
 //! From an instruction to its word, by its format (section 2.2).
 ghost use Rattle.std.specs.Prelude.{◌≡◌, ◌<◌, ◌^◌, ℕ, Bool, true};
 ghost use Rattle.rv_decode.specs.Insns.{Decodes, IsDecodable};
-ghost use Rattle.rv_decode.specs.Plains.{branch_code, load_code, store_code, immediate_code, shift_code, shift_upper_code, register_code, register_upper_code};
+ghost use Rattle.rv_decode.specs.Plains.{branch_code, load_code, store_code};
 ghost use Rattle.rv_decode.specs.Encodings.{encoded, encoded_by};
 
 use crate::fields::field;
@@ -96,23 +96,17 @@ fn number(register: Register) -> u32
 fn immediate_word(op: ImmediateOp, rd: Register, rs1: Register, imm: u32) -> u32
     ensures { result ≡ encoded (Plain.Immediate op rd rs1 imm) }
 {
-    word_i(
-        0b0010011,
-        immediate_funct3(op),
-        number(rd),
-        number(rs1),
-        imm,
-    )
+    word_i(0b0010011, op.line().funct3, number(rd), number(rs1), imm)
 }
 
 fn shift_word(op: ShiftOp, rd: Register, rs1: Register, amount: ShiftAmount) -> u32
     ensures { result ≡ encoded (Plain.Shift op rd rs1 amount) }
 {
-    let funct3 = shift_funct3(op);
+    let line = op.line();
     word_r(
         0b0010011,
-        funct3,
-        shift_funct7(op),
+        line.funct3,
+        line.funct7,
         number(rd),
         number(rs1),
         u32::from(amount.bits()),
@@ -122,11 +116,11 @@ fn shift_word(op: ShiftOp, rd: Register, rs1: Register, amount: ShiftAmount) -> 
 fn computation_word(op: RegisterOp, rd: Register, rs1: Register, rs2: Register) -> u32
     ensures { result ≡ encoded (Plain.Computation op rd rs1 rs2) }
 {
-    let funct3 = register_funct3(op);
+    let line = op.line();
     word_r(
         0b0110011,
-        funct3,
-        register_funct7(op),
+        line.funct3,
+        line.funct7,
         number(rd),
         number(rs1),
         number(rs2),
@@ -171,63 +165,5 @@ fn store_funct3(op: StoreOp) -> u32
         StoreOp::Sb => 0,
         StoreOp::Sh => 1,
         StoreOp::Sw => 2,
-    }
-}
-
-fn immediate_funct3(op: ImmediateOp) -> u32
-    ensures { result ≡ immediate_code op }
-{
-    match op {
-        ImmediateOp::Addi => 0,
-        ImmediateOp::Slti => 2,
-        ImmediateOp::Sltiu => 3,
-        ImmediateOp::Xori => 4,
-        ImmediateOp::Ori => 6,
-        ImmediateOp::Andi => 7,
-    }
-}
-
-fn shift_funct3(op: ShiftOp) -> u32
-    ensures { result ≡ shift_code op }
-{
-    match op {
-        ShiftOp::Slli => 1,
-        ShiftOp::Srli | ShiftOp::Srai => 5,
-    }
-}
-
-fn shift_funct7(op: ShiftOp) -> u32
-    ensures { result ≡ shift_upper_code op }
-{
-    match op {
-        ShiftOp::Slli | ShiftOp::Srli => 0,
-        ShiftOp::Srai => 32,
-    }
-}
-
-fn register_funct3(op: RegisterOp) -> u32
-    ensures { result ≡ register_code op }
-{
-    match op {
-        RegisterOp::Add | RegisterOp::Sub | RegisterOp::Mul => 0,
-        RegisterOp::Sll | RegisterOp::Mulh => 1,
-        RegisterOp::Slt | RegisterOp::Mulhsu => 2,
-        RegisterOp::Sltu | RegisterOp::Mulhu => 3,
-        RegisterOp::Xor | RegisterOp::Div => 4,
-        RegisterOp::Srl | RegisterOp::Sra | RegisterOp::Divu => 5,
-        RegisterOp::Or | RegisterOp::Rem => 6,
-        RegisterOp::And | RegisterOp::Remu => 7,
-    }
-}
-
-fn register_funct7(op: RegisterOp) -> u32
-    ensures { result ≡ register_upper_code op }
-{
-    match op {
-        RegisterOp::Sub | RegisterOp::Sra => 32,
-        RegisterOp::Add | RegisterOp::Sll | RegisterOp::Slt | RegisterOp::Sltu => 0,
-        RegisterOp::Xor | RegisterOp::Srl | RegisterOp::Or | RegisterOp::And => 0,
-        RegisterOp::Mul | RegisterOp::Mulh | RegisterOp::Mulhsu | RegisterOp::Mulhu => 1,
-        RegisterOp::Div | RegisterOp::Divu | RegisterOp::Rem | RegisterOp::Remu => 1,
     }
 }

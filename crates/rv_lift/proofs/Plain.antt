@@ -1,11 +1,10 @@
 -- What is said of an expression without its value: its width, its weight, the bytes that it loads, that it stores none, and that it names only registers and
 -- the memory.
-use Rattle.std.proofs.Common.{◌≡◌, ℕ, zero, suc, ◌+◌, ◌-◌, ◌/◌, ◌^◌, ◌<◌, ◌≤◌, ◌==◌, nat_lt, nat_le, Bool, true, false, ◌&&◌, refl, ap, ◌∙◌, arith, [], add-zero}
+use Rattle.std.proofs.Common.{◌≡◌, ℕ, zero, suc, ◌+◌, ◌/◌, ◌^◌, ◌<◌, ◌≤◌, ◌==◌, nat_lt, nat_le, Bool, true, false, ◌&&◌, refl, ap, ◌∙◌, arith, [], add-zero}
 use Rattle.std.proofs.lemmas.Bool.Decides.{nat_tests}
 use Rattle.word_spec.specs.Memory.{Little}
-use Rattle.machine_spec.specs.Rv.{Fields}
 use Rattle.machine_spec.specs.RvMachine.{rv32}
-use Rattle.machine_spec.specs.Bil.{Bits, XRegisters, Mem, BinaryOp, UnaryOp, Not, CastKind, Expression, Var, Constant, Load, Binary, Unary, Cast, Extract, Statements, Empty, total, size}
+use Rattle.machine_spec.specs.Bil.{Bits, XRegisters, Mem, BinaryOp, Not, CastKind, Expression, Var, Load, Binary, Unary, Cast, Extract, total, size}
 use Rattle.machine_spec.specs.Bil as bil
 use Rattle.machine_spec.specs.BilMeaning.{Env}
 use Rattle.machine_spec.specs.BilTyping.{Has, type_or_fault, result_width, cast_fits, is_width, is_load_width}
@@ -16,12 +15,21 @@ use Rattle.rv_decode.specs.declared.plain.BranchOp.TheVariants.{Beq, Bne, Blt, B
 use Rattle.rv_decode.specs.declared.plain.LoadOp.{LoadOp}
 use Rattle.rv_decode.specs.declared.plain.LoadOp.TheVariants.{Lb, Lh, Lw, Lbu, Lhu}
 use Rattle.rv_decode.specs.declared.plain.ImmediateOp.{ImmediateOp}
-use Rattle.rv_decode.specs.declared.plain.ImmediateOp.TheVariants.{Addi, Slti, Sltiu, Xori, Ori, Andi}
+use Rattle.rv_decode.specs.declared.plain.ImmediateOp.TheVariants.{Addi}
 use Rattle.rv_decode.specs.declared.plain.ShiftOp.{ShiftOp}
-use Rattle.rv_decode.specs.declared.plain.ShiftOp.TheVariants.{Slli, Srli, Srai}
+use Rattle.rv_decode.specs.declared.plain.ShiftOp.TheVariants.{Slli}
 use Rattle.rv_decode.specs.declared.plain.RegisterOp.{RegisterOp}
-use Rattle.rv_decode.specs.declared.plain.RegisterOp.TheVariants.{Add, Sub, Sll, Slt, Sltu, Xor, Srl, Sra, Or, And, Mul, Mulh, Mulhsu, Mulhu, Div, Divu, Rem, Remu}
-use Rattle.rv_decode.specs.Plains.{computes, loaded_bytes}
+use Rattle.rv_decode.specs.declared.plain.RegisterOp.TheVariants.{Add}
+use Rattle.rv_decode.specs.declared.operations.Operation.{Operation}
+use Rattle.rv_decode.specs.Operations.{immediate_line, shift_line, register_line}
+use Rattle.rv_decode.specs.Plains.{loaded_bytes}
+use Rattle.bil_ast.specs.Views.{binary_of}
+use Rattle.word_formula.specs.declared.formula.Extension.{Extension}
+use Rattle.word_formula.specs.declared.formula.Extension.TheVariants.{Signed, Unsigned}
+use Rattle.word_formula.specs.declared.formula.Formula.{Formula}
+use Rattle.word_formula.specs.declared.formula.Formula.TheVariants.{Operator, Truth, Shift, Upper}
+use Rattle.word_formula.specs.Formulas.{cast_by, expression_of, width_of}
+use Rattle.word_formula.proofs.Values.{narrow}
 use Rattle.rv_lift.specs.Lifted as lifts
 
 abbrev pub own : bil.BilVariable → Bool
@@ -149,61 +157,47 @@ OfWords n u f = (a b : Expression) → IsPlain 32 0 0 a → IsPlain 32 0 0 b →
 op : (o : BinaryOp) (u : ℕ) → nat_le (op_weight o 32) u ≡ true → OfWords (result_width o 32) u (Binary o)
 op o u h a b p q = binary_plain o 32 0 0 u a b p q refl (simp add-zero h)
 
-amount_plain : (b : Expression) → IsPlain 32 0 0 b → IsPlain 32 32 0 (lifts.amount b)
-amount_plain b q = op bil.And 32 refl b (lifts.number 31) q (number_plain 31 (omega arith))
+-- the weight of a formula over words that have none
+abbrev pub weight_of : Formula → ℕ
+weight_of (Operator o) = op_weight (binary_of o) 32
+weight_of (Truth o) = op_weight (binary_of o) 32
+weight_of (Shift o) = op_weight (binary_of o) 32 + 32
+weight_of (Upper j k) = op_weight bil.Times 64
 
-product_plain : (j k : CastKind) → (cast_fits j 64 32 && true) ≡ true → (cast_fits k 64 32 && true) ≡ true →
-    OfWords 32 19872 (λ a b. lifts.upper (Cast j 64 a) (Cast k 64 b))
-product_plain j k i h a b p q =
-    upper_plain _ _ _ (binary_plain bil.Times 64 0 0 19872 _ _ (cast_plain j 64 32 0 0 a p i) (cast_plain k 64 32 0 0 b q h) refl refl)
+within : (n : ℕ) → nat_le n n ≡ true
+within n = grind (arith, nat_tests)
+
+beside : (n : ℕ) → nat_le (n + 0 + 32) (n + 32) ≡ true
+beside n = grind (arith, nat_tests)
+
+extended_plain : (j : Extension) (a : Expression) → IsPlain 32 0 0 a → IsPlain 64 0 0 (Cast (cast_by j) 64 a)
+extended_plain Signed a p = cast_plain bil.Signed 64 32 0 0 a p refl
+extended_plain Unsigned a p = cast_plain bil.Unsigned 64 32 0 0 a p refl
+
+pub formula_plain : (f : Formula) → OfWords (width_of f) (weight_of f) (expression_of f)
+formula_plain (Operator o) = op (binary_of o) _ (within _)
+formula_plain (Truth o) = λ a b p q. cast_plain bil.Unsigned 32 _ _ 0 _ (op (binary_of o) _ (within _) a b p q) (rw (narrow (binary_of o)) refl)
+formula_plain (Shift o) =
+    λ a b p q. binary_plain (binary_of o) 32 0 32 _ a _ p (op bil.And 32 refl b (lifts.number 31) q (number_plain 31 (omega arith))) refl (beside _)
+formula_plain (Upper j k) =
+    λ a b p q. upper_plain _ _ _ (binary_plain bil.Times 64 0 0 _ _ _ (extended_plain j a p) (extended_plain k b q) refl refl)
 
 -- what the row's price leaves beside an assignment to a register and what the row's exits take
-abbrev pub room : RegisterOp → ℕ
-room o = (computes o (record { rd = 0; rs1 = 0; rs2 = 0; imm = 0 })).cost.row - 128
+pub record IsPriced (line : Operation) : Type 0 where
+  pub width : width_of line.formula ≡ 32
+  pub room : weight_of line.formula + 128 ≤ line.price
 
-pub room_fits : (o : RegisterOp) (x : Fields) → room o + 128 ≤ (computes o x).cost.row
-room_fits Mul x = omega arith
-room_fits Mulh x = omega arith
-room_fits Mulhsu x = omega arith
-room_fits Mulhu x = omega arith
-room_fits Div x = omega arith
-room_fits Divu x = omega arith
-room_fits Rem x = omega arith
-room_fits Remu x = omega arith
-room_fits o x = omega arith
+pub immediate_priced : (o : ImmediateOp) → IsPriced (immediate_line o)
+immediate_priced Addi = record { width = refl; room = omega arith }
+immediate_priced o = record { width = refl; room = omega arith }
 
-pub computation_plain : (o : RegisterOp) → OfWords 32 (room o) (lifts.computation o)
-computation_plain Add = op bil.Plus _ refl
-computation_plain Sub = op bil.Minus _ refl
-computation_plain Sll = λ a b p q. binary_plain bil.ShiftLeft 32 0 32 _ a _ p (amount_plain b q) refl refl
-computation_plain Slt = λ a b p q. cast_plain bil.Unsigned 32 1 _ 0 _ (op bil.SignedLess _ refl a b p q) refl
-computation_plain Sltu = λ a b p q. cast_plain bil.Unsigned 32 1 _ 0 _ (op bil.Less _ refl a b p q) refl
-computation_plain Xor = op bil.Xor _ refl
-computation_plain Srl = λ a b p q. binary_plain bil.ShiftRight 32 0 32 _ a _ p (amount_plain b q) refl refl
-computation_plain Sra = λ a b p q. binary_plain bil.ShiftSigned 32 0 32 _ a _ p (amount_plain b q) refl refl
-computation_plain Or = op bil.Or _ refl
-computation_plain And = op bil.And _ refl
-computation_plain Mul = op bil.Times _ refl
-computation_plain Mulh = product_plain bil.Signed bil.Signed refl refl
-computation_plain Mulhsu = product_plain bil.Signed bil.Unsigned refl refl
-computation_plain Mulhu = product_plain bil.Unsigned bil.Unsigned refl refl
-computation_plain Div = op bil.SignedDivide _ refl
-computation_plain Divu = op bil.Divide _ refl
-computation_plain Rem = op bil.SignedModulo _ refl
-computation_plain Remu = op bil.Modulo _ refl
+pub shift_priced : (o : ShiftOp) → IsPriced (shift_line o)
+shift_priced Slli = record { width = refl; room = omega arith }
+shift_priced o = record { width = refl; room = omega arith }
 
-pub immediate_plain : (o : ImmediateOp) → OfWords 32 896 (lifts.immediate o)
-immediate_plain Addi = op bil.Plus _ refl
-immediate_plain Slti = λ a b p q. cast_plain bil.Unsigned 32 1 _ 0 _ (op bil.SignedLess _ refl a b p q) refl
-immediate_plain Sltiu = λ a b p q. cast_plain bil.Unsigned 32 1 _ 0 _ (op bil.Less _ refl a b p q) refl
-immediate_plain Xori = op bil.Xor _ refl
-immediate_plain Ori = op bil.Or _ refl
-immediate_plain Andi = op bil.And _ refl
-
-pub shift_plain : (o : ShiftOp) → OfWords 32 896 (lifts.shift o)
-shift_plain Slli = op bil.ShiftLeft _ refl
-shift_plain Srli = op bil.ShiftRight _ refl
-shift_plain Srai = op bil.ShiftSigned _ refl
+pub register_priced : (o : RegisterOp) → IsPriced (register_line o)
+register_priced Add = record { width = refl; room = omega arith }
+register_priced o = record { width = refl; room = omega arith }
 
 pub test_plain : (o : BranchOp) → OfWords 1 32 (lifts.test o)
 test_plain Beq = op bil.Equal _ refl

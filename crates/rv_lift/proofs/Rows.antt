@@ -24,13 +24,14 @@ use Rattle.rv_decode.specs.declared.insn.Insn.{Insn}
 use Rattle.rv_decode.specs.Halves.{IsOfHalf}
 use Rattle.rv_decode.specs.Insns.{length_by, outcome_by, row_by, row_of}
 use Rattle.rv_step.proofs.Shortened.{jal_outcome, jalr_outcome}
-use Rattle.rv_decode.specs.Plains.{plain_row, fields_of, computes, register_value, immediate_value, shift_value, test_of, loaded_bytes, extended, stored_bytes}
+use Rattle.rv_decode.specs.Operations.{immediate_line, shift_line, register_line}
+use Rattle.rv_decode.specs.Plains.{plain_row, fields_of, test_of, loaded_bytes, extended, stored_bytes}
 use Rattle.rv_lift.specs.Lifted as lifts
 use Rattle.rv_lift.specs.Lifted.{number, register, address, lifted}
 use Rattle.rv_lift.specs.Fits.{HasWords}
-use Rattle.rv_lift.proofs.Values.{register_value_is, address_is, computation_is, immediate_is, shift_is, test_is, load_is, store_is, even_is}
-use Rattle.rv_lift.proofs.Plain.{number_plain, register_plain, address_plain, binary_plain, cast_plain, room, room_fits, computation_plain, immediate_plain, shift_plain, test_plain, loaded_plain}
-use Rattle.rv_lift.proofs.Shapes.{same, assigned_lifting, branch_lifting, jump_lifting, store_lifting}
+use Rattle.rv_lift.proofs.Values.{register_value_is, address_is, test_is, load_is, store_is, even_is}
+use Rattle.rv_lift.proofs.Plain.{number_plain, register_plain, address_plain, binary_plain, cast_plain, immediate_priced, shift_priced, register_priced, test_plain, loaded_plain}
+use Rattle.rv_lift.proofs.Shapes.{same, assigned_lifting, computed_lifting, branch_lifting, jump_lifting, store_lifting}
 
 -- a jump ends at its target
 direct_jumps : (b : Bool) (s : State) → jump_of (direct_by b) s ≡ Some s.pc
@@ -147,26 +148,19 @@ lifted_is_lifting rvc (Store op rs1 rs2 offset) half n at e is h =
     (stores_lifting rvc op (fields_of (Store op rs1 rs2 offset)) at rs1.in_range rs2.in_range h)
 lifted_is_lifting rvc (Immediate op rd rs1 imm) half n at e is h =
     by_half rvc (Immediate op rd rs1 imm) half at _ (λ s c. tt)
-    (assigned_lifting rvc rd.number 896 0 (lifts.immediate op (register rs1.number) (number imm)) (λ s. immediate_value op (reg s rs1.number) imm) plain_cost None
-    (λ s. None) at rd.in_range (immediate_plain op _ _ (register_plain rs1.number rs1.in_range) (number_plain imm h))
-    (λ s here c l. immediate_is op (register rs1.number) (number imm) c (env_of l s) _ _ (register_value_is rs1.number c l s) refl) (omega arith)
-    (omega arith))
+    (computed_lifting rvc rd.number (immediate_line op) (register rs1.number) (number imm) (λ s. reg s rs1.number) (λ s. imm) at rd.in_range
+    (immediate_priced op) (register_plain rs1.number rs1.in_range) (number_plain imm h) (λ s here c l. register_value_is rs1.number c l s)
+    (λ s here c l. refl))
 lifted_is_lifting rvc (Shift op rd rs1 amount) half n at e is h =
     by_half rvc (Shift op rd rs1 amount) half at _ (λ s c. tt)
-    (assigned_lifting rvc rd.number 896 0 (lifts.shift op (register rs1.number) (number amount.bits))
-    (λ s. shift_value op (reg s rs1.number) amount.bits) plain_cost None (λ s. None)
-    at rd.in_range (shift_plain op _ _ (register_plain rs1.number rs1.in_range) (let k = amount.in_range in number_plain amount.bits (omega arith)))
-    (λ s here c l. shift_is op (register rs1.number) (number amount.bits) c (env_of l s) _ _ (register_value_is rs1.number c l s) refl) (omega arith)
-    (omega arith))
+    (computed_lifting rvc rd.number (shift_line op) (register rs1.number) (number amount.bits) (λ s. reg s rs1.number) (λ s. amount.bits) at rd.in_range
+    (shift_priced op) (register_plain rs1.number rs1.in_range) (let k = amount.in_range in number_plain amount.bits (omega arith))
+    (λ s here c l. register_value_is rs1.number c l s) (λ s here c l. refl))
 lifted_is_lifting rvc (Computation op rd rs1 rs2) half n at e is h =
-    let x = fields_of (Computation op rd rs1 rs2) in
     by_half rvc (Computation op rd rs1 rs2) half at _ (λ s c. tt)
-    (assigned_lifting rvc rd.number (room op) 0 (lifts.computation op (register rs1.number) (register rs2.number))
-    (λ s. register_value op (reg s rs1.number) (reg s rs2.number)) (computes op x).cost None (λ s. None) at rd.in_range
-    (computation_plain op _ _ (register_plain rs1.number rs1.in_range) (register_plain rs2.number rs2.in_range))
-    (λ s here c l. computation_is op (register rs1.number) (register rs2.number) c (env_of l s) _ _ (register_value_is rs1.number c l s)
-    (register_value_is rs2.number c l s))
-    (room_fits op x) (omega arith))
+    (computed_lifting rvc rd.number (register_line op) (register rs1.number) (register rs2.number) (λ s. reg s rs1.number) (λ s. reg s rs2.number) at rd.in_range
+    (register_priced op) (register_plain rs1.number rs1.in_range) (register_plain rs2.number rs2.in_range)
+    (λ s here c l. register_value_is rs1.number c l s) (λ s here c l. register_value_is rs2.number c l s))
 lifted_is_lifting rvc (Fence fields) half n at e is h =
     by_half rvc (Fence fields) half at _ (λ s c. tt)
     (assigned_lifting rvc 0 0 0 (number 0) (λ s. 0) plain_cost None (λ s. None) at (omega arith) (number_plain 0 (omega arith)) (λ s here c l. refl)

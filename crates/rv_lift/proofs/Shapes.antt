@@ -1,5 +1,5 @@
 -- The liftings of rows by shape: an assignment to a register, a branch, a jump with a link, a store, nothing, and an exception.
-use Rattle.std.proofs.Common.{◌≡◌, ◌↔◌, ℕ, zero, suc, ◌+◌, ◌/◌, ◌^◌, ◌<◌, ◌≤◌, ◌==◌, Bool, true, false, refl, sym, subst, ap, arith, List, [], ◌++◌, append-nil, Option, Some, None}
+use Rattle.std.proofs.Common.{◌≡◌, ◌↔◌, ℕ, zero, suc, ◌+◌, ◌/◌, ◌^◌, ◌<◌, ◌≤◌, ◌==◌, Bool, true, false, refl, sym, subst, ap, ◌∙◌, arith, List, [], ◌++◌, append-nil, Option, Some, None}
 use Rattle.std.specs.Prelude.{Contains}
 use Rattle.word_spec.specs.Words.{add, bit}
 use Rattle.word_spec.specs.Memory.{Little, store, span}
@@ -15,7 +15,10 @@ use Rattle.machine_spec.specs.BilStores.{list_stored, chosen, then_stored}
 use Rattle.machine_spec.specs.Simulation.{Locals, env_of, position, of_list, of_row, jump_of}
 use Rattle.machine_spec.specs.MachineLaws.{IsLifting}
 use Rattle.rv_lift.specs.Lifted as lifts
-use Rattle.rv_lift.proofs.Plain.{IsPlain, own_register, number_plain}
+use Rattle.rv_lift.proofs.Plain.{IsPlain, IsPriced, own_register, number_plain, weight_of, formula_plain}
+use Rattle.rv_decode.specs.declared.operations.Operation.{Operation}
+use Rattle.word_formula.specs.Formulas.{value, expression_of}
+use Rattle.word_formula.proofs.Values.{evaluates}
 
 -- an expression's value in a state at an address
 abbrev pub HasValue : ℕ → Expression → (State → ℕ) → ℕ → Type 0
@@ -69,6 +72,20 @@ assigned_lifting rvc (suc d) w l e f k p g at small plain value h i = record {
   loads = omega arith;
   stores = omega arith;
 }
+
+-- rd takes what an operation makes of two words
+pub computed_lifting : (rvc : Bool) (d : ℕ) (line : Operation) (a b : Expression) (f g : State → ℕ) (at : ℕ) → d < 32 → IsPriced line → IsPlain 32 0 0 a →
+    IsPlain 32 0 0 b → HasValue 32 a f at → HasValue 32 b g at →
+    IsLifting (rv32 rvc) XRegisters (record (row_of (λ s. on s (with_reg s d (value line.formula (f s) (g s))))) {
+      cost = record { row = line.price; loads = 0; stores = 0 };
+    }) at (lifts.assigned d (expression_of line.formula a b))
+computed_lifting rvc d line a b f g at small priced p q v w =
+    assigned_lifting rvc d (weight_of line.formula) 0 (expression_of line.formula a b) (λ s. value line.formula (f s) (g s))
+    (record { row = line.price; loads = 0; stores = 0 }) None (λ s. None) at small
+    (subst (λ n. IsPlain n (weight_of line.formula) 0 (expression_of line.formula a b)) priced.width (formula_plain line.formula a b p q))
+    (λ s here c l. evaluates line.formula a b c (env_of l s) (f s) (g s) (v s here c l) (w s here c l)
+    ∙ ap (λ n. Word n (value line.formula (f s) (g s))) priced.width)
+    priced.room (omega arith)
 
 branch_ends : (b : Bool) (to c turns : ℕ) (l : Locals) (s : State) →
     of_list (then_do (branch_on (Word 1 (bit b)) (execute (JumpTo (lifts.number (add 32 s.pc to)) Empty) c (position l turns None s))

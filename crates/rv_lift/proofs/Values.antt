@@ -1,6 +1,5 @@
 -- What the lifted expressions evaluate to.
-use Rattle.std.proofs.Common.{◌≡◌, ℕ, zero, suc, ◌+◌, ◌/◌, ◌%◌, ◌^◌, nat_lt, not, Bool, true, false, refl, ap, ◌∙◌, arith, bit_and}
-use Rattle.std.proofs.lemmas.Nat.{and_mask}
+use Rattle.std.proofs.Common.{◌≡◌, ℕ, zero, suc, ◌+◌, ◌%◌, ◌^◌, nat_lt, not, Bool, true, false, refl, ap, ◌∙◌, arith, bit_and}
 use Rattle.std.proofs.lemmas.Nat.Bits.{and_high}
 use Rattle.word_spec.specs.Words.{add, bit, signed_lt, complement}
 use Rattle.word_spec.specs.Memory.{Little, load, store}
@@ -17,18 +16,8 @@ use Rattle.rv_decode.specs.declared.plain.LoadOp.{LoadOp}
 use Rattle.rv_decode.specs.declared.plain.LoadOp.TheVariants.{Lb, Lh, Lw, Lbu, Lhu}
 use Rattle.rv_decode.specs.declared.plain.StoreOp.{StoreOp}
 use Rattle.rv_decode.specs.declared.plain.StoreOp.TheVariants.{Sb, Sh, Sw}
-use Rattle.rv_decode.specs.declared.plain.ImmediateOp.{ImmediateOp}
-use Rattle.rv_decode.specs.declared.plain.ImmediateOp.TheVariants.{Addi, Slti, Sltiu, Xori, Ori, Andi}
-use Rattle.rv_decode.specs.declared.plain.ShiftOp.{ShiftOp}
-use Rattle.rv_decode.specs.declared.plain.ShiftOp.TheVariants.{Slli, Srli, Srai}
-use Rattle.rv_decode.specs.declared.plain.RegisterOp.{RegisterOp}
-use Rattle.rv_decode.specs.declared.plain.RegisterOp.TheVariants.{Add, Sub, Sll, Slt, Sltu, Xor, Srl, Sra, Or, And, Mul, Mulh, Mulhsu, Mulhu, Div, Divu, Rem, Remu}
-use Rattle.rv_decode.specs.Plains.{register_value, immediate_value, shift_value, test_of, loaded_bytes, extended, stored_bytes}
+use Rattle.rv_decode.specs.Plains.{test_of, loaded_bytes, extended, stored_bytes}
 use Rattle.rv_lift.specs.Lifted as lifts
-
--- the upper half of a product of 64 bits
-upper_of : (p : ℕ) → p % 2 ^ 64 / 2 ^ 32 % 2 ^ 32 ≡ p / 2 ^ 32 % 2 ^ 32
-upper_of p = omega arith
 
 pub register_value_is : (r c : ℕ) (l : Locals) (s : State) → evaluate (lifts.register r) c (env_of l s) ≡ Word 32 (reg s r)
 register_value_is zero c l s = refl
@@ -36,42 +25,6 @@ register_value_is (suc r) c l s = refl
 
 pub address_is : (r v c : ℕ) (l : Locals) (s : State) → evaluate (lifts.address r v) c (env_of l s) ≡ Word 32 (add 32 (reg s r) v)
 address_is r v c l s = rw (register_value_is r c l s) refl
-
-pub computation_is : (o : RegisterOp) (a b : Expression) (c : ℕ) (e : Env) (x y : ℕ) → evaluate a c e ≡ Word 32 x → evaluate b c e ≡ Word 32 y →
-    evaluate (lifts.computation o a b) c e ≡ Word 32 (register_value o x y)
-computation_is Add a b c e x y p q = rw (p, q) refl
-computation_is Sub a b c e x y p q = rw (p, q) refl
-computation_is Sll a b c e x y p q = rw (p, q, and_mask y 5) refl
-computation_is Slt a b c e x y p q = rw (p, q) refl
-computation_is Sltu a b c e x y p q = rw (p, q) refl
-computation_is Xor a b c e x y p q = rw (p, q) refl
-computation_is Srl a b c e x y p q = rw (p, q, and_mask y 5) refl
-computation_is Sra a b c e x y p q = rw (p, q, and_mask y 5) refl
-computation_is Or a b c e x y p q = rw (p, q) refl
-computation_is And a b c e x y p q = rw (p, q) refl
-computation_is Mul a b c e x y p q = rw (p, q) refl
-computation_is Mulh a b c e x y p q = rw (p, q) (ap (λ z. Word 32 z) (upper_of _))
-computation_is Mulhsu a b c e x y p q = rw (p, q) (ap (λ z. Word 32 z) (upper_of _))
-computation_is Mulhu a b c e x y p q = rw (p, q) (ap (λ z. Word 32 z) (upper_of _))
-computation_is Div a b c e x y p q = rw (p, q) refl
-computation_is Divu a b c e x y p q = rw (p, q) refl
-computation_is Rem a b c e x y p q = rw (p, q) refl
-computation_is Remu a b c e x y p q = rw (p, q) refl
-
-pub immediate_is : (o : ImmediateOp) (a b : Expression) (c : ℕ) (e : Env) (x y : ℕ) → evaluate a c e ≡ Word 32 x → evaluate b c e ≡ Word 32 y →
-    evaluate (lifts.immediate o a b) c e ≡ Word 32 (immediate_value o x y)
-immediate_is Addi a b c e x y p q = rw (p, q) refl
-immediate_is Slti a b c e x y p q = rw (p, q) refl
-immediate_is Sltiu a b c e x y p q = rw (p, q) refl
-immediate_is Xori a b c e x y p q = rw (p, q) refl
-immediate_is Ori a b c e x y p q = rw (p, q) refl
-immediate_is Andi a b c e x y p q = rw (p, q) refl
-
-pub shift_is : (o : ShiftOp) (a b : Expression) (c : ℕ) (e : Env) (x y : ℕ) → evaluate a c e ≡ Word 32 x → evaluate b c e ≡ Word 32 y →
-    evaluate (lifts.shift o a b) c e ≡ Word 32 (shift_value o x y)
-shift_is Slli a b c e x y p q = rw (p, q) refl
-shift_is Srli a b c e x y p q = rw (p, q) refl
-shift_is Srai a b c e x y p q = rw (p, q) refl
 
 turned : (b : Bool) → Word 1 (complement 1 (bit b)) ≡ Word 1 (bit (not b))
 turned true = refl

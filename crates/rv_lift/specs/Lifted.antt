@@ -3,21 +3,17 @@ use Rattle.std.specs.Prelude.{ℕ, zero, suc}
 use Rattle.word_spec.specs.Words.{add}
 use Rattle.word_spec.specs.Memory.{Little}
 use Rattle.machine_spec.specs.Bil as bil
-use Rattle.machine_spec.specs.Bil.{XRegisters, Mem, Expression, Var, Constant, Load, Store, Binary, Unary, Cast, Extract, Statements, Empty, Assign, JumpTo, Raise, If}
+use Rattle.machine_spec.specs.Bil.{XRegisters, Mem, Expression, Var, Constant, Load, Store, Binary, Unary, Cast, Statements, Empty, Assign, JumpTo, Raise, If}
 use Rattle.rv_decode.specs.declared.plain.BranchOp.{BranchOp}
 use Rattle.rv_decode.specs.declared.plain.BranchOp.TheVariants.{Beq, Bne, Blt, Bge, Bltu, Bgeu}
 use Rattle.rv_decode.specs.declared.plain.LoadOp.{LoadOp}
 use Rattle.rv_decode.specs.declared.plain.LoadOp.TheVariants.{Lb, Lh, Lw, Lbu, Lhu}
 use Rattle.rv_decode.specs.declared.plain.StoreOp.{StoreOp}
 use Rattle.rv_decode.specs.declared.plain.StoreOp.TheVariants.{Sb, Sh, Sw}
-use Rattle.rv_decode.specs.declared.plain.ImmediateOp.{ImmediateOp}
-use Rattle.rv_decode.specs.declared.plain.ImmediateOp.TheVariants.{Addi, Slti, Sltiu, Xori, Ori, Andi}
-use Rattle.rv_decode.specs.declared.plain.ShiftOp.{ShiftOp}
-use Rattle.rv_decode.specs.declared.plain.ShiftOp.TheVariants.{Slli, Srli, Srai}
-use Rattle.rv_decode.specs.declared.plain.RegisterOp.{RegisterOp}
-use Rattle.rv_decode.specs.declared.plain.RegisterOp.TheVariants.{Add, Sub, Sll, Slt, Sltu, Xor, Srl, Sra, Or, And, Mul, Mulh, Mulhsu, Mulhu, Div, Divu, Rem, Remu}
 use Rattle.rv_decode.specs.declared.plain.Plain.{Plain}
 use Rattle.rv_decode.specs.declared.plain.Plain.TheVariants as plain
+use Rattle.rv_decode.specs.Operations.{immediate_line, shift_line, register_line}
+use Rattle.word_formula.specs.Formulas.{expression_of}
 
 -- a word
 abbrev pub number : ℕ → Expression
@@ -31,62 +27,6 @@ register (suc r) = Var (bil.Register XRegisters (suc r))
 -- a register's word and an offset
 abbrev pub address : ℕ → ℕ → Expression
 address r offset = Binary bil.Plus (register r) (number offset)
-
--- the low five bits
-abbrev pub amount : Expression → Expression
-amount b = Binary bil.And b (number 31)
-
--- a bit as a word
-abbrev pub truth : Expression → Expression
-truth e = Cast bil.Unsigned 32 e
-
--- a word in 64 bits, with its sign
-abbrev pub wide : Expression → Expression
-wide e = Cast bil.Signed 64 e
-
--- a word in 64 bits, without a sign
-abbrev pub long : Expression → Expression
-long e = Cast bil.Unsigned 64 e
-
--- the upper half of a product of 64 bits
-abbrev pub upper : Expression → Expression → Expression
-upper a b = Extract 63 32 (Binary bil.Times a b)
-
--- a computation with two registers
-abbrev pub computation : RegisterOp → Expression → Expression → Expression
-computation Add a b = Binary bil.Plus a b
-computation Sub a b = Binary bil.Minus a b
-computation Sll a b = Binary bil.ShiftLeft a (amount b)
-computation Slt a b = truth (Binary bil.SignedLess a b)
-computation Sltu a b = truth (Binary bil.Less a b)
-computation Xor a b = Binary bil.Xor a b
-computation Srl a b = Binary bil.ShiftRight a (amount b)
-computation Sra a b = Binary bil.ShiftSigned a (amount b)
-computation Or a b = Binary bil.Or a b
-computation And a b = Binary bil.And a b
-computation Mul a b = Binary bil.Times a b
-computation Mulh a b = upper (wide a) (wide b)
-computation Mulhsu a b = upper (wide a) (long b)
-computation Mulhu a b = upper (long a) (long b)
-computation Div a b = Binary bil.SignedDivide a b
-computation Divu a b = Binary bil.Divide a b
-computation Rem a b = Binary bil.SignedModulo a b
-computation Remu a b = Binary bil.Modulo a b
-
--- a computation with an immediate
-abbrev pub immediate : ImmediateOp → Expression → Expression → Expression
-immediate Addi a b = Binary bil.Plus a b
-immediate Slti a b = truth (Binary bil.SignedLess a b)
-immediate Sltiu a b = truth (Binary bil.Less a b)
-immediate Xori a b = Binary bil.Xor a b
-immediate Ori a b = Binary bil.Or a b
-immediate Andi a b = Binary bil.And a b
-
--- a shift by a number
-abbrev pub shift : ShiftOp → Expression → Expression → Expression
-shift Slli a b = Binary bil.ShiftLeft a b
-shift Srli a b = Binary bil.ShiftRight a b
-shift Srai a b = Binary bil.ShiftSigned a b
 
 -- what a branch tests
 abbrev pub test : BranchOp → Expression → Expression → Expression
@@ -127,9 +67,9 @@ lifted (plain.Branch op rs1 rs2 offset) n at =
     If (test op (register rs1.number) (register rs2.number)) (JumpTo (number (add 32 at offset)) Empty) Empty Empty
 lifted (plain.Load op rd rs1 offset) n at = assigned rd.number (loaded op (address rs1.number offset))
 lifted (plain.Store op rs1 rs2 offset) n at = Assign Mem (stored op (address rs1.number offset) (register rs2.number)) Empty
-lifted (plain.Immediate op rd rs1 imm) n at = assigned rd.number (immediate op (register rs1.number) (number imm))
-lifted (plain.Shift op rd rs1 amount) n at = assigned rd.number (shift op (register rs1.number) (number amount.bits))
-lifted (plain.Computation op rd rs1 rs2) n at = assigned rd.number (computation op (register rs1.number) (register rs2.number))
+lifted (plain.Immediate op rd rs1 imm) n at = assigned rd.number (expression_of (immediate_line op).formula (register rs1.number) (number imm))
+lifted (plain.Shift op rd rs1 amount) n at = assigned rd.number (expression_of (shift_line op).formula (register rs1.number) (number amount.bits))
+lifted (plain.Computation op rd rs1 rs2) n at = assigned rd.number (expression_of (register_line op).formula (register rs1.number) (register rs2.number))
 lifted (plain.Fence fields) n at = Empty
 lifted plain.Ecall n at = Raise 1 Empty
 lifted plain.Ebreak n at = Raise 2 Empty

@@ -8,7 +8,7 @@ ghost use Rattle.rv_lift.specs.Lifted as lifts;
 use bil_ast::{Bank, BinaryOp, CastKind, Exp, UnaryOp, Var, Width};
 use bv_word::Word;
 use byte_mem::Endian;
-use rv_decode::{BranchOp, ImmediateOp, LoadOp, Register, RegisterOp, ShiftOp, StoreOp};
+use rv_decode::{BranchOp, LoadOp, Register, StoreOp};
 use std::alloc::{AllocError, Global};
 
 /// A constant word.
@@ -43,83 +43,6 @@ fn cast(alloc: Global, kind: CastKind, bits: u8, word: Exp) -> Result<Exp, Alloc
     ensures { IfOk result (λ e. expression e ≡ bil.Cast (cast_of kind) bits (expression word)) }
 {
     Exp::cast(alloc, kind, Width::new(bits), word)
-}
-
-/// A comparison of two words, as a word.
-fn truth(alloc: Global, op: BinaryOp, a: Exp, b: Exp) -> Result<Exp, AllocError>
-    ensures { IfOk result (λ e. expression e ≡ lifts.truth (bil.Binary (binary_of op) (expression a) (expression b))) }
-{
-    let bit = Exp::binary(alloc, op, a, b)?;
-    cast(alloc, CastKind::Unsigned, 32, bit)
-}
-
-/// A shift by the low five bits of a word (section 2.4).
-fn shift_by_register(alloc: Global, op: BinaryOp, a: Exp, b: Exp) -> Result<Exp, AllocError>
-    ensures { IfOk result (λ e. expression e ≡ bil.Binary (binary_of op) (expression a) (lifts.amount (expression b))) }
-{
-    let amount = Exp::binary(alloc, BinaryOp::And, b, number(31))?;
-    Exp::binary(alloc, op, a, amount)
-}
-
-/// The upper half of the product of two words, each in 64 bits by a cast of its own (section 7.1).
-fn upper(alloc: Global, one: CastKind, a: Exp, other: CastKind, b: Exp) -> Result<Exp, AllocError>
-    ensures { IfOk result (λ e. expression e ≡ lifts.upper (bil.Cast (cast_of one) 64 (expression a)) (bil.Cast (cast_of other) 64 (expression b))) }
-{
-    let a = cast(alloc, one, 64, a)?;
-    let b = cast(alloc, other, 64, b)?;
-    let product = Exp::binary(alloc, BinaryOp::Times, a, b)?;
-    Exp::extract(alloc, 63, 32, product)
-}
-
-/// A computation with two registers.
-pub(crate) fn computation(alloc: Global, op: RegisterOp, a: Exp, b: Exp) -> Result<Exp, AllocError>
-    ensures { IfOk result (λ e. expression e ≡ lifts.computation op (expression a) (expression b)) }
-{
-    match op {
-        RegisterOp::Add => Exp::binary(alloc, BinaryOp::Plus, a, b),
-        RegisterOp::Sub => Exp::binary(alloc, BinaryOp::Minus, a, b),
-        RegisterOp::Sll => shift_by_register(alloc, BinaryOp::ShiftLeft, a, b),
-        RegisterOp::Slt => truth(alloc, BinaryOp::SignedLess, a, b),
-        RegisterOp::Sltu => truth(alloc, BinaryOp::Less, a, b),
-        RegisterOp::Xor => Exp::binary(alloc, BinaryOp::Xor, a, b),
-        RegisterOp::Srl => shift_by_register(alloc, BinaryOp::ShiftRight, a, b),
-        RegisterOp::Sra => shift_by_register(alloc, BinaryOp::ShiftSigned, a, b),
-        RegisterOp::Or => Exp::binary(alloc, BinaryOp::Or, a, b),
-        RegisterOp::And => Exp::binary(alloc, BinaryOp::And, a, b),
-        RegisterOp::Mul => Exp::binary(alloc, BinaryOp::Times, a, b),
-        RegisterOp::Mulh => upper(alloc, CastKind::Signed, a, CastKind::Signed, b),
-        RegisterOp::Mulhsu => upper(alloc, CastKind::Signed, a, CastKind::Unsigned, b),
-        RegisterOp::Mulhu => upper(alloc, CastKind::Unsigned, a, CastKind::Unsigned, b),
-        RegisterOp::Div => Exp::binary(alloc, BinaryOp::SignedDivide, a, b),
-        RegisterOp::Divu => Exp::binary(alloc, BinaryOp::Divide, a, b),
-        RegisterOp::Rem => Exp::binary(alloc, BinaryOp::SignedModulo, a, b),
-        RegisterOp::Remu => Exp::binary(alloc, BinaryOp::Modulo, a, b),
-    }
-}
-
-/// A computation with an immediate.
-pub(crate) fn immediate(alloc: Global, op: ImmediateOp, a: Exp, b: Exp) -> Result<Exp, AllocError>
-    ensures { IfOk result (λ e. expression e ≡ lifts.immediate op (expression a) (expression b)) }
-{
-    match op {
-        ImmediateOp::Addi => Exp::binary(alloc, BinaryOp::Plus, a, b),
-        ImmediateOp::Slti => truth(alloc, BinaryOp::SignedLess, a, b),
-        ImmediateOp::Sltiu => truth(alloc, BinaryOp::Less, a, b),
-        ImmediateOp::Xori => Exp::binary(alloc, BinaryOp::Xor, a, b),
-        ImmediateOp::Ori => Exp::binary(alloc, BinaryOp::Or, a, b),
-        ImmediateOp::Andi => Exp::binary(alloc, BinaryOp::And, a, b),
-    }
-}
-
-/// A shift by a number.
-pub(crate) fn shift(alloc: Global, op: ShiftOp, a: Exp, b: Exp) -> Result<Exp, AllocError>
-    ensures { IfOk result (λ e. expression e ≡ lifts.shift op (expression a) (expression b)) }
-{
-    match op {
-        ShiftOp::Slli => Exp::binary(alloc, BinaryOp::ShiftLeft, a, b),
-        ShiftOp::Srli => Exp::binary(alloc, BinaryOp::ShiftRight, a, b),
-        ShiftOp::Srai => Exp::binary(alloc, BinaryOp::ShiftSigned, a, b),
-    }
 }
 
 /// A comparison that does not hold.

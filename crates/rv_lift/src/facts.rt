@@ -1,13 +1,11 @@
 //! What is told of an instruction without a state.
 ghost use Rattle.std.specs.Prelude.{◌≡◌, Some, None, true, false};
 ghost use Rattle.machine_spec.specs.Machine as table;
-ghost use Rattle.machine_spec.specs.Rv.{Fields};
 ghost use Rattle.machine_law.specs.Facts.{cost_of, successors_of};
-ghost use Rattle.rv_decode.specs.Plains as insns;
 ghost use Rattle.rv_decode.specs.Insns.{row_of};
 
 use machine_law::{Cost, Succ};
-use rv_decode::{Insn, Plain, RegisterOp};
+use rv_decode::{Insn, Plain};
 use rv_step::{is_link, loaded_bytes, stored_bytes};
 
 /// Successors with a direct jump, which may not be made where `next`.
@@ -75,23 +73,6 @@ fn loading(row: u64, loads: u64) -> Cost
     }
 }
 
-/// The cost of a computation with two registers: multiplications and divisions are dear.
-fn computation_cost(op: RegisterOp) -> Cost
-    ensures { (x : Fields) → cost_of result ≡ (insns.computes op x).cost }
-{
-    match op {
-        RegisterOp::Mul
-        | RegisterOp::Mulh
-        | RegisterOp::Mulhsu
-        | RegisterOp::Mulhu
-        | RegisterOp::Div
-        | RegisterOp::Divu
-        | RegisterOp::Rem
-        | RegisterOp::Remu => loading(20000, 0),
-        _ => loading(1024, 0),
-    }
-}
-
 /// The price of an instruction's point, and its byte loads and stores.
 pub(crate) fn cost(insn: &Insn) -> Cost
     ensures { cost_of result ≡ (row_of insn.now).cost }
@@ -103,7 +84,9 @@ pub(crate) fn cost(insn: &Insn) -> Cost
             loads: 0,
             stores: stored_bytes(op) as u64,
         },
-        Plain::Computation { op, .. } => computation_cost(op),
+        Plain::Immediate { op, .. } => loading(op.line().price, 0),
+        Plain::Shift { op, .. } => loading(op.line().price, 0),
+        Plain::Computation { op, .. } => loading(op.line().price, 0),
         _ => loading(1024, 0),
     }
 }

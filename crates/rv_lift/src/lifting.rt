@@ -6,9 +6,7 @@ ghost use Rattle.rv_decode.specs.Insns.{length_by};
 ghost use Rattle.rv_lift.specs.Lifted.{lifted};
 ghost use Rattle.rv_lift.specs.Fits.{HasWords};
 
-use crate::expressions::{
-    address, computation, immediate, loaded, number, register, shift, stored, test,
-};
+use crate::expressions::{address, loaded, number, register, stored, test};
 use crate::statements::{assigned, jump_and_link, jump_if, one};
 use bil_ast::{BinaryOp, Exp, Stmt, Var};
 use rv_decode::{Insn, Plain};
@@ -73,7 +71,8 @@ fn list_of_plain(alloc: Global, plain: Plain, at: u32, behind: u32) -> Result<Ve
             one(alloc, Stmt::Assign(Var::Memory, memory))
         }
         Plain::Immediate { op, rd, rs1, imm } => {
-            let value = immediate(alloc, op, register(rs1), number(imm))?;
+            let formula = op.line().formula;
+            let value = formula.expression(alloc, register(rs1), number(imm))?;
             assigned(alloc, rd, value)
         }
         Plain::Shift {
@@ -83,11 +82,13 @@ fn list_of_plain(alloc: Global, plain: Plain, at: u32, behind: u32) -> Result<Ve
             amount,
         } => {
             let by = number(amount.bits() as u32);
-            let value = shift(alloc, op, register(rs1), by)?;
+            let formula = op.line().formula;
+            let value = formula.expression(alloc, register(rs1), by)?;
             assigned(alloc, rd, value)
         }
         Plain::Computation { op, rd, rs1, rs2 } => {
-            let value = computation(alloc, op, register(rs1), register(rs2))?;
+            let formula = op.line().formula;
+            let value = formula.expression(alloc, register(rs1), register(rs2))?;
             assigned(alloc, rd, value)
         }
         Plain::Fence { .. } => Ok(Vec::new(alloc)),

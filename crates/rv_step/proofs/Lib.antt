@@ -1,4 +1,3 @@
-pub mod Products
 pub mod Ranges
 pub mod X0
 pub mod Shortened

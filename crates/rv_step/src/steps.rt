@@ -9,7 +9,7 @@ ghost use Rattle.rv_decode.specs.Insns.{length_by, row_by, row_of};
 ghost use Rattle.rv_step.specs.States.{state_of, spare_of};
 
 use crate::state::State;
-use crate::values::{computation, immediate, load, loaded_bytes, shift, stored_bytes, test};
+use crate::values::{load, loaded_bytes, stored_bytes, test};
 use byte_mem::{How, StepOut, View};
 use rv_decode::{Insn, Plain, Register};
 
@@ -117,7 +117,7 @@ fn step_plain(plain: Plain, state: &mut State, length: u8) -> StepOut
             state.store_and_go_on(address, stored_bytes(op), value, length)
         }
         Plain::Immediate { op, rd, rs1, imm } => {
-            let value = immediate(op, state.read(rs1), imm);
+            let value = op.line().formula.value(state.read(rs1), imm);
             state.set_and_go_on(rd, value, length)
         }
         Plain::Shift {
@@ -126,11 +126,12 @@ fn step_plain(plain: Plain, state: &mut State, length: u8) -> StepOut
             rs1,
             amount,
         } => {
-            let value = shift(op, state.read(rs1), amount.bits());
+            let amount = u32::from(amount.bits());
+            let value = op.line().formula.value(state.read(rs1), amount);
             state.set_and_go_on(rd, value, length)
         }
         Plain::Computation { op, rd, rs1, rs2 } => {
-            let value = computation(op, state.read(rs1), state.read(rs2));
+            let value = op.line().formula.value(state.read(rs1), state.read(rs2));
             state.set_and_go_on(rd, value, length)
         }
         Plain::Fence { .. } => state.go_on(length),

@@ -1,13 +1,12 @@
 //! What rows make of words.
-ghost use Rattle.std.specs.Prelude.{◌≡◌, ◌*◌};
+ghost use Rattle.std.specs.Prelude.{◌≡◌};
 ghost use Rattle.word_spec.specs.Memory.{Little, load, memory_of};
-ghost use Rattle.machine_spec.specs.Rv as rows;
 ghost use Rattle.word_spec.specs.Words.{signed_lt};
 ghost use Rattle.rv_decode.specs.Plains as insns;
 
 use bv_word::Word;
 use byte_mem::{Bytes32, Endian};
-use rv_decode::{BranchOp, ImmediateOp, LoadOp, RegisterOp, ShiftOp, StoreOp};
+use rv_decode::{BranchOp, LoadOp, StoreOp};
 
 fn word(bits: u32) -> Word
     ensures width { result.width ≡ 32 }
@@ -40,69 +39,6 @@ pub(crate) fn test(op: BranchOp, a: u32, b: u32) -> bool
         BranchOp::Bge => !is_below(a, b),
         BranchOp::Bltu => a < b,
         BranchOp::Bgeu => a >= b,
-    }
-}
-
-/// What a computation with an immediate makes.
-pub(crate) fn immediate(op: ImmediateOp, a: u32, b: u32) -> u32
-    ensures { result ≡ insns.immediate_value op a b }
-{
-    match op {
-        ImmediateOp::Addi => a.wrapping_add(b),
-        ImmediateOp::Slti => is_below(a, b) as u32,
-        ImmediateOp::Sltiu => (a < b) as u32,
-        ImmediateOp::Xori => a ^ b,
-        ImmediateOp::Ori => a | b,
-        ImmediateOp::Andi => a & b,
-    }
-}
-
-/// What a shift by a number makes.
-pub(crate) fn shift(op: ShiftOp, a: u32, amount: u8) -> u32
-    ensures { result ≡ insns.shift_value op a amount }
-{
-    let amount = word(amount as u32);
-    match op {
-        ShiftOp::Slli => bits(word(a).shl(amount)),
-        ShiftOp::Srli => bits(word(a).shr(amount)),
-        ShiftOp::Srai => bits(word(a).sar(amount)),
-    }
-}
-
-/// The upper half of a product of 64 bits.
-#[tactic(auto, using(crate::proofs::Products::upper_of))]
-fn upper(a: Word, b: Word) -> u32
-    requires one { a.width ≡ 64 }
-    requires other { b.width ≡ 64 }
-    ensures { result ≡ rows.upper (a.bits * b.bits) }
-{
-    bits(a.mul(b).high(32))
-}
-
-/// What a computation with two registers makes.
-pub(crate) fn computation(op: RegisterOp, a: u32, b: u32) -> u32
-    ensures { result ≡ insns.register_value op a b }
-{
-    let (one, other) = (word(a), word(b));
-    match op {
-        RegisterOp::Add => a.wrapping_add(b),
-        RegisterOp::Sub => bits(one.sub(other)),
-        RegisterOp::Sll => bits(one.shl(word(b % 32))),
-        RegisterOp::Slt => is_below(a, b) as u32,
-        RegisterOp::Sltu => (a < b) as u32,
-        RegisterOp::Xor => a ^ b,
-        RegisterOp::Srl => bits(one.shr(word(b % 32))),
-        RegisterOp::Sra => bits(one.sar(word(b % 32))),
-        RegisterOp::Or => a | b,
-        RegisterOp::And => a & b,
-        RegisterOp::Mul => bits(one.mul(other)),
-        RegisterOp::Mulh => upper(one.signed(64), other.signed(64)),
-        RegisterOp::Mulhsu => upper(one.signed(64), other.unsigned(64)),
-        RegisterOp::Mulhu => upper(one.unsigned(64), other.unsigned(64)),
-        RegisterOp::Div => bits(one.sdiv(other)),
-        RegisterOp::Divu => bits(one.udiv(other)),
-        RegisterOp::Rem => bits(one.srem(other)),
-        RegisterOp::Remu => bits(one.urem(other)),
     }
 }
 
