@@ -49,6 +49,7 @@ fn cell_reading(alloc: Global, places: &InputPlaces, values: &[bool]) -> Result<
         registers,
         flags,
         memory: Bytes32::new(alloc),
+        fill: 0,
         choices,
         base,
     })

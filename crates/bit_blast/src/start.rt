@@ -52,6 +52,7 @@ fn start_reading(
         registers,
         flags,
         memory,
+        fill: 0,
         choices,
         base,
     })

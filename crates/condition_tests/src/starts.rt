@@ -147,6 +147,7 @@ pub fn reading_with(
         registers: numbers,
         flags: Vec::new(alloc),
         memory,
+        fill: 0,
         choices: Vec::new(alloc),
         base: Vec::new(alloc),
     })

@@ -110,6 +110,7 @@ fn reading_of(alloc: Global, registers: &[u32; 32], bits: u64) -> Result<Reading
         registers,
         flags: Vec::new(alloc),
         memory,
+        fill: 0,
         choices: Vec::new(alloc),
         base: Vec::new(alloc),
     })

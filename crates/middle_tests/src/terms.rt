@@ -35,6 +35,7 @@ fn value(alloc: Global, dag: &Dag, term: Term) -> Result<u64, AllocError> {
         registers: vec![in alloc; 0xffff_fffc]?,
         flags: Vec::new(alloc),
         memory: Bytes32::new(alloc),
+        fill: 0,
         choices: Vec::new(alloc),
         base: Vec::new(alloc),
     };

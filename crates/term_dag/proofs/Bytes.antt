@@ -2,7 +2,7 @@
 use Rattle.std.proofs.Common.{◌≡◌, ℕ, zero, suc, ◌^◌, ◌<◌, ◌≤◌, Bool, List, [], length, refl, ap, sym, ◌∙◌, arith}
 use Rattle.std.specs.Prelude.{nat_lt, if◌then◌else◌, slice_index}
 use Rattle.std.proofs.lemmas.Bool.Decides.{nat_tests}
-use Rattle.std.proofs.lemmas.Nat.{mod_below, pow_pos}
+use Rattle.std.proofs.lemmas.Nat.{mod_below, pow_pos, xor_of_8}
 use Rattle.word_spec.specs.Words as words
 use Rattle.word_spec.specs.Memory.{endian, byte_of}
 use Rattle.walk_spec.specs.Terms.{TermReading, InRange, TermNode, MemoryNode, StoreNode, JoinNode, TermValue, node_value, values_from, term_value, term_word, node_at, AreTyped, select}
@@ -104,7 +104,7 @@ pub in_range : (r : Reading) → InRange (reading_of r)
 in_range r = record {
   regs = λ n. mod_below _ (2 ^ 32) (pow_pos 32);
   flags = λ f. mod_below _ 2 (omega arith);
-  mem = λ a. mod_below _ 256 (omega arith);
+  mem = λ a. xor_of_8 _ _ (mod_below _ 256 (omega arith)) (mod_below _ 256 (omega arith));
   choice = λ i. mod_below _ 4 (omega arith);
   base = λ j. mod_below _ 256 (omega arith);
 }

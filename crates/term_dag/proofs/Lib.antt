@@ -14,3 +14,4 @@ pub mod Joins
 pub mod Bytes
 pub mod Prefixes
 pub mod LowBits
+pub mod Reciprocals

@@ -1,15 +1,16 @@
 -- The reading that stands for data, and the words of terms under it.
-use Rattle.std.specs.Prelude.{◌≡◌, ℕ, ◌%◌, ◌^◌, ◌<◌, List, length, slice_index}
+use Rattle.std.specs.Prelude.{◌≡◌, ℕ, ◌%◌, ◌^◌, ◌<◌, bit_xor, List, length, slice_index}
 use Rattle.word_spec.specs.Memory.{memory_of}
 use Rattle.walk_spec.specs.Terms.{TermReading, TermNode, term_word}
 use Rattle.term_dag.specs.declared.values.Reading.{Reading}
 
--- what the data stand for: what is not listed is 0, and of each number those bits count that a reading has
+-- What the data stand for: what is not listed is 0, and of each number those bits count that a reading has. A byte of the memory is the listed one with the
+-- bits of the fill turned, so where none is listed it is the fill.
 abbrev pub reading_of : Reading → TermReading
 reading_of r = record {
   regs = λ n. slice_index r.registers.items n % 2 ^ 32;
   flags = λ f. slice_index r.flags.items f % 2;
-  mem = λ a. memory_of r.memory.entries a % 256;
+  mem = λ a. bit_xor (r.fill % 256) (memory_of r.memory.entries a % 256);
   choice = λ i. slice_index r.choices.items i % 4;
   base = λ j. slice_index r.base.items j % 256;
 }

@@ -22,8 +22,10 @@ pub struct Reading {
     pub registers: Vec<u32>,
     /// The flags at entry, by number.
     pub flags: Vec<u8>,
-    /// The memory at entry.
+    /// The memory at entry: the byte at an address is the one here `^ fill`, so one that is `fill` is not kept.
     pub memory: Bytes32,
+    /// The byte at entry at each address of which `memory` keeps none.
+    pub fill: u8,
     /// The choices, by the place of their point.
     pub choices: Vec<u8>,
     /// The bytes of base reads, by the number of the read.
@@ -52,6 +54,13 @@ fn small(bytes: &[u8], place: u32) -> u64
     }
 }
 
+/// The byte at an address of the memory at entry.
+fn memory_byte(reading: &Reading, address: u32) -> u8
+    ensures { result ≡ (reading_of reading.now).mem address }
+{
+    reading.fill ^ reading.memory.load(address, 1, Endian::Little).bits as u8
+}
+
 /// The byte at a place of the bytes of a number.
 #[tactic(auto, using(crate::proofs::Joins::power))]
 fn stored_byte(number: u64, bytes: u8, big: bool, place: u8) -> u8
@@ -73,7 +82,7 @@ pub fn byte(nodes: &[Node], words: &[u64], reading: &Reading, term: Term, addres
     let mut at = term;
     loop {
         match look(nodes, at) {
-            Node::Memory => return reading.memory.load(address, 1, Endian::Little).bits as u8,
+            Node::Memory => return memory_byte(reading, address),
             Node::Store {
                 bytes,
                 big,

@@ -1,6 +1,5 @@
-use Rattle.std.proofs.Common.{◌≡◌, ℕ, ◌+◌, ◌%◌, ◌^◌, ◌<◌, refl, ap, subst, ◌∙◌, arith}
+use Rattle.std.proofs.Common.{refl, ◌∙◌, arith}
 use Rattle.std.proofs.Math.Facts.{Fits-of_lt}
-use Rattle.word_spec.specs.Memory.{byte_in}
 use Rattle.term_dag.specs.Readings.{reading_of}
 use Rattle.term_dag.proofs.Bytes.{entry_byte, address_within, in_store, past_store, store_before, first_before, second_before, join_first, join_second, no_bytes, in_range}
 use Rattle.term_dag.proofs.Ranges.{word_fits}
@@ -9,14 +8,10 @@ use Rattle.term_dag.proofs.values.byte.Goals as goal
 
 pub returns-in-Memory : goal.returns-in-Memory
 returns-in-Memory c =
-    let r = c.args.reading.now in
-    let a = c.args.address in
     let v = c.loop-bytes.invariant in
-    let e : byte_in r.memory.entries ((a + 0) % 2 ^ 32 % 2 ^ 32)
-    ≡ byte_in r.memory.entries (a % 2 ^ 32) = ap (byte_in r.memory.entries) (let e : (a + 0) % 2 ^ 32 % 2 ^ 32 ≡ a % 2 ^ 32 = omega arith in e) in
-    let l : c.load.result.bits < 2 ^ 8 = subst (λ (w : ℕ). c.load.result.bits < 2 ^ w) c.load.ensures.width c.load.result.below in
-    let f : c.load.result.bits ≡ byte_in r.memory.entries (a % 2 ^ 32) % 256 = omega (arith, c.load.ensures.bits, e, l) in
-    f ∙ entry_byte (reading_of r) _ _ _ a c.requires.typed c.requires.words v.within c.in-Memory.ensures ∙ v.same
+    c.memory_byte.ensures
+    ∙ entry_byte (reading_of c.args.reading.now) _ _ _ c.args.address c.requires.typed c.requires.words v.within c.in-Memory.ensures
+    ∙ v.same
 
 pub bounds-words-first : goal.bounds-words-first
 bounds-words-first c =
