@@ -32,7 +32,7 @@ one_count test n m (xs, lx, rx, cx) (ys, ly, ry, cy) =
     omega arith
 
 -- a sum over the lines of the points is a sum over the points
-sum_lines : (f : Expr → ℕ) (g : Point → List Expr) (xs : List Point) → sum_by f (flat_map g xs) ≡ sum_by (λ x. sum_by f (g x)) xs
+pub sum_lines : (f : Expr → ℕ) (g : Point → List Expr) (xs : List Point) → sum_by f (flat_map g xs) ≡ sum_by (λ x. sum_by f (g x)) xs
 sum_lines f g [] = refl
 sum_lines f g (x ∷ xs) =
     sum_by-append f (g x) (flat_map g xs) ∙ ap (λ z. sum_by f (g x) + z) (sum_lines f g xs) ∙ sym (sum_by-cons (λ x. sum_by f (g x)) x xs)

@@ -1,5 +1,5 @@
 -- From an entry state a run executes the words of the file.
-use Rattle.std.proofs.Common.{subst, ◌≡◌, ℕ, zero, suc, ◌%◌, ◌^◌, ◌<◌, refl, ap, sym, ◌∙◌, arith, List, [], ◌∷◌, ◌++◌, Option, Some, None, Bool, true, false}
+use Rattle.std.proofs.Common.{subst, ◌≡◌, ℕ, zero, suc, ◌+◌, ◌*◌, ◌^◌, ◌<◌, refl, ap, sym, ◌∙◌, arith, List, [], ◌∷◌, ◌++◌, Option, Some, None, Bool, true, false}
 use Rattle.std.specs.Prelude.{Contains, ◌==◌, ◌&&◌, ◌||◌, not, nat_le, nat_eq, if◌then◌else◌}
 use Rattle.std.specs.List.{list_any, list_all}
 use Rattle.word_spec.specs.Words.{add, sub}
@@ -85,7 +85,7 @@ four_kept p a h =
     rw (one 0 h0.0, one 1 h1.0, one 2 h2.0, one 3 h3.0) refl
 
 -- what is decoded of a word begins as the word does
-half_of_taken : (n : Bool) (w : ℕ) → first_half (taken n w) ≡ first_half w
+pub half_of_taken : (n : Bool) (w : ℕ) → first_half (taken n w) ≡ first_half w
 half_of_taken n w = by_width (width n (first_half w) == 2)
   where
     by_width : (b : Bool) → first_half (if b then first_half w else w) ≡ first_half w
@@ -93,8 +93,8 @@ half_of_taken n w = by_width (width n (first_half w) == 2)
     by_width false = refl
 
 -- the first two bytes are the low half of a word whose lowest byte stands first
-low_half : (f g : ℕ → ℕ) → f 0 ≡ g 0 → f 1 ≡ g 1 → first_half (number Little 4 f) ≡ first_half (number Little 4 g)
-low_half f g a b = omega (arith, a, b)
+pub low_half : (f : ℕ → ℕ) → first_half (number Little 4 f) ≡ first_half (f 0 + f 1 * 256)
+low_half f = omega arith
 
 module _ (p : Program) (memory : ReadsMemory p) (s : State) (agrees : Agrees p every s) where
   abbrev in_state : ℕ → ℕ
@@ -111,9 +111,11 @@ module _ (p : Program) (memory : ReadsMemory p) (s : State) (agrees : Agrees p e
   half_same a n e0 e1 =
       subst (λ (e : Endian). first_half (number e 4 (λ i. s.mem (add 32 a i))) ≡ first_half (number e 4 (λ i. byte_of_cell (p.loaded (add 32 a i)))))
       (sym (memory.little n))
-      (low_half (λ i. s.mem (add 32 a i)) (λ i. byte_of_cell (p.loaded (add 32 a i)))
-      (byte_same p every s agrees a 0 refl (executable_kept (p.loaded (add 32 a 0)) e0))
-      (byte_same p every s agrees a 1 refl (executable_kept (p.loaded (add 32 a 1)) e1)))
+      (low_half (λ i. s.mem (add 32 a i))
+      ∙ (ap (λ b. first_half (b + s.mem (add 32 a 1) * 256)) (byte_same p every s agrees a 0 refl (executable_kept (p.loaded (add 32 a 0)) e0))
+      ∙ (ap (λ b. first_half (byte_of_cell (p.loaded (add 32 a 0)) + b * 256))
+      (byte_same p every s agrees a 1 refl (executable_kept (p.loaded (add 32 a 1)) e1))
+      ∙ sym (low_half (λ i. byte_of_cell (p.loaded (add 32 a i)))))))
 
   abbrev fetched : Bool → ℕ → ℕ → Bool
   fetched n w a = list_all (executes a) (offsets (width n (first_half w)))
@@ -173,7 +175,8 @@ module _ (p : Program) (memory : ReadsMemory p) (s : State) (agrees : Agrees p e
   row_by a false e = refl
   row_by a true e = ap p.machine.row (fetched_word a e)
 
-  row_same : (a : ℕ) → row_at p (p.word s) a ≡ row_at p (file_word p) a
+  -- the row in memory is the file's
+  pub row_same : (a : ℕ) → row_at p (p.word s) a ≡ file_row p a
   row_same a =
       ap (λ (b : Bool). if b then p.machine.row (p.word s a) else None) (fetch_same_at a) ∙ row_by a (fetchable p (file_word p a) a) refl
 

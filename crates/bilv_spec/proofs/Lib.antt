@@ -1,4 +1,5 @@
 pub mod Over
+pub mod SameRuns
 pub mod One
 pub mod Faults
 pub mod Examples

@@ -163,7 +163,8 @@ allowed_along : (p : Program) (q : Point) (b : Bool) (c : Place) → (b ≡ true
 allowed_along p q true c h ok = (h refl, ok)
 allowed_along p q false c h ok = tt
 
-module _ (p : Program) (row : Row) (turns : ℕ) (entry old new : State) (at : file_row p old.pc ≡ Some row) (ok : IsState new) (aligned : is_place p.machine.narrow new.pc ≡ true) where
+module _ (p : Program) (row : Row) (turns : ℕ) (entry old new : State) (at : file_row p old.pc ≡ Some row) (ok : IsState new)
+    (aligned : is_place p.machine.narrow new.pc ≡ true) where
   abbrev from : List ℕ → Point
   from stack = point p row turns old.pc stack
 

@@ -20,8 +20,8 @@ pub record Vocabulary : Type 0 where
   pub names : List ℕ → Option Expr
   pub narrow : Bool
 
--- What words mean. names: those of the machine, with rows of 2 bytes where it is narrow; consts: the constants so far; bound: the names that the `all`s around the place bind, the outermost first.
--- is_second: the text is of version 2. is_first: no line before this one says something.
+-- What words mean. names: those of the machine, with rows of 2 bytes where it is narrow; consts: the constants so far; bound: the names that the `all`s around
+-- the place bind, the outermost first. is_second: the text is of version 2. is_first: no line before this one says something.
 pub record Scope : Type 0 where
   pub names : List ℕ → Option Expr
   pub narrow : Bool

@@ -72,7 +72,7 @@ module _ (p : Program) (out : ℕ → Bool) where
   asserts_same (Some line) entry c choice = refl
   asserts_same None entry c choice = fetch_same (fetchable p (p.word c.state c.state.pc) c.state.pc) entry c choice
 
-  step_same : (entry : State) (c : Place) (choice : ℕ) → step asked entry c choice ≡ step p entry c choice
+  pub step_same : (entry : State) (c : Place) (choice : ℕ) → step asked entry c choice ≡ step p entry c choice
   step_same entry c choice = asserts_same (false_assert p.machine.endian p.notes.asserts c.state entry) entry c choice
 
 module _ (p : Program) (out : ℕ → Bool) (k : ℕ) where
@@ -85,7 +85,7 @@ module _ (p : Program) (out : ℕ → Bool) (k : ℕ) where
   more_same start (Failed e at n) = refl
   more_same start (Turned at n) = refl
 
-  run_same : (start : Start) (n : ℕ) → run other k start n ≡ run p k start n
+  pub run_same : (start : Start) (n : ℕ) → run other k start n ≡ run p k start n
   unfolding run
   run_same start zero = refl
   run_same start (suc n) = more_same start (run other k start n) ∙ ap (one_more p k start) (run_same start n)
@@ -96,13 +96,13 @@ module _ (p : Program) (out : ℕ → Bool) (k : ℕ) where
   on_same r (Failed e at n) = refl
   on_same r (Turned at n) = refl
 
-  read_same : (r : Reading) (n : ℕ) → read_run other k r n ≡ read_run p k r n
+  pub read_same : (r : Reading) (n : ℕ) → read_run other k r n ≡ read_run p k r n
   unfolding read_run
   read_same r zero = refl
   read_same r (suc n) = on_same r (read_run other k r n) ∙ ap (read_on p k r) (read_same r n)
 
 -- what is asked may be changed in each direction
-entry_of : (p : Program) (some others : ℕ → Bool) (s : State) → IsEntryState (record p { out = some }) s → IsEntryState (record p { out = others }) s
+pub entry_of : (p : Program) (some others : ℕ → Bool) (s : State) → IsEntryState (record p { out = some }) s → IsEntryState (record p { out = others }) s
 entry_of p some others s e = record {
   state = e.state;
   pc = e.pc;
@@ -112,7 +112,7 @@ entry_of p some others s e = record {
   requires = e.requires;
 }
 
-points_of : (p : Program) (some others : ℕ → Bool) (k : ℕ) (point : Point) → IsPoint (record p { out = some }) k point →
+pub points_of : (p : Program) (some others : ℕ → Bool) (k : ℕ) (point : Point) → IsPoint (record p { out = some }) k point →
     IsPoint (record p { out = others }) k point
 points_of p some others k _ first = first
 points_of p some others k _ (next q edge few) = next (points_of p some others k _ q) edge few

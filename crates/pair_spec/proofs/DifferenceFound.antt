@@ -13,12 +13,12 @@ use Rattle.pair_spec.specs.Pairs.{ExitsIn}
 use Rattle.pair_spec.specs.Equals.{PairAnswer, refusal, differs_words}
 use Rattle.pair_spec.specs.Differs.{NamedDifference, exit_by_step, exit_of_run, exit_at, by_line, by_exits, by_links, by_require, by_state, by_starts}
 use Rattle.pair_spec.specs.PairLaws.{DifferenceIsFound}
-use Rattle.pair_spec.proofs.ExitStates.{same_run}
+use Rattle.bilv_spec.proofs.SameRuns.{same_run}
 
 -- the exit of a run is found, under a bound of its own
 exit_found : (p : Program) (k : ℕ) (start : Start) (at n : ℕ) (s : State) → ExitsIn p k start at n s → exit_at p start n ≡ Some s
 exit_found p k start at n s e =
-    ap (exit_of_run p start) (same_run p k start (n + 1) n (omega arith) e.turns n e.place e.before).2 ∙ ap exit_by_step e.leaves
+    ap (exit_of_run p start) (same_run p start k (n + 1) n (omega arith) e.turns n e.place e.before).2 ∙ ap exit_by_step e.leaves
 
 -- an entry state is passed on
 state_passes : (word : List ℕ) (p : Program) (s : State) (next : PairAnswer) → IsEntryState p s → by_state word p s next ≡ next

@@ -9,7 +9,7 @@ use Rattle.word_spec.specs.State.{Written}
 use Rattle.word_spec.specs.Texts.{line, lines, joined, spaced, number_text, word_text, byte_text, decimal_word, at_most, in_front, split_lines, words_in}
 use Rattle.clause_spec.specs.Checks.{text_limit}
 use Rattle.machine_spec.specs.Endings.{NamedEnding, FailsBy, FetchFails}
-use Rattle.machine_spec.specs.StateText.{Layout, IsWritten, StateText, StateLine, NamedLine, MachineLine, RegisterLine, ByteLine, ChoiceLine, EndLine, last_step, register_lines, flag_bits, value_names, value_text, words_of_line, lines_behind, printed, line_of, StateIs, told_of, state_of}
+use Rattle.machine_spec.specs.StateText.{Layout, IsWritten, StateText, StateLine, NamedLine, MachineLine, RegisterLine, ByteLine, ChoiceLine, EndLine, last_step, register_lines, flag_bits, value_names, value_text, words_of_line, lines_behind, printed, line_of, StateIs, told_of, state_of, block_text}
 use Rattle.machine_spec.proofs.Spelling.{Above, AllAbove, joined_above, words_in_joined, number_above, decimal_back}
 use Rattle.machine_spec.proofs.StateLines.{IsLayout, line_back, line_above}
 use Rattle.machine_spec.proofs.StateSaid.{line_said}
@@ -20,7 +20,6 @@ use Rattle.bilv_spec.specs.Files.{layout_of}
 use Rattle.bilv_spec.specs.Answers.{start_in}
 use Rattle.bilv_spec.specs.Points.{is_known_at}
 use Rattle.bilv_spec.proofs.StateTold.{file_layout}
-use Rattle.model_spec.specs.Models.{block_text}
 use Rattle.pair_spec.specs.Links.{Link}
 use Rattle.pair_spec.specs.Equals.{Side, DiffersReport, Two, IsRightPair, pair_text, refusal, differs_words}
 use Rattle.pair_spec.specs.Differs.{named_numbers, difference_of_words, is_end, block_length, some_ending, TwoTold, TwoStates, first_told, second_told, blocks_told, by_told, by_first, by_texts, differ_answer}

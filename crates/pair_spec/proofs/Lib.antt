@@ -6,4 +6,11 @@ pub mod DifferenceFound
 pub mod DifferenceTold
 pub mod Asking
 pub mod ExitPlace
+pub mod LeavingRuns
+pub mod LinkWords
+pub mod PairSides
+pub mod PairPrices
+pub mod PairReadings
+pub mod PairClauses
+pub mod PairStarts
 mod PairSamples

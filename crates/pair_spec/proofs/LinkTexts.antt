@@ -1,14 +1,14 @@
 -- A text says one list of links, or has one first fault.
 use Rattle.std.proofs.Common.{◌≡◌, ℕ, zero, suc, ◌+◌, ◌<◌, inl, inr, refl, ap, sym, ◌∙◌, subst, arith, List, [], ◌∷◌, ◌++◌, length, Option, Some, None, Bool, true, false}
-use Rattle.std.specs.Prelude.{codes, nat_lt, if◌then◌else◌}
+use Rattle.std.specs.Prelude.{codes, nat_lt, if◌then◌else◌, All}
 use Rattle.std.proofs.lemmas.Bool.Decides.{nat_tests}
 use Rattle.std.specs.Str.{bytes_eq}
 use Rattle.word_spec.specs.Tokens.{Token, NumberToken, NameToken, tokens_of}
 use Rattle.bilv_spec.specs.Notes.{Expr}
 use Rattle.bilv_spec.specs.NotesGrammar.{lines_of}
 use Rattle.bilv_spec.proofs.Cuts.{Cuts, same, earlier, later, cuts}
-use Rattle.pair_spec.specs.Links.{Link, EqualAtEntry, EqualAtExit, SharedBytes, SameBytes, Says, Nothing, LinkIs, HasForm, IsSaid, IsRange, IsLine, AreLines, links_in, LinkFault, LimitFault, SyntaxFault, NameFault, RangeFault, fault_rank, LinkFaultApplies, at_line}
-use Rattle.pair_spec.specs.LinkLaws.{OneLinks, LinksHaveNoFault, OneLinkFault}
+use Rattle.pair_spec.specs.Links.{Link, EqualAtEntry, EqualAtExit, SharedBytes, SameBytes, ComparesAlike, Says, Nothing, LinkIs, HasForm, IsSaid, IsRange, IsLine, AreLines, links_in, LinkFault, LimitFault, SyntaxFault, NameFault, RangeFault, fault_rank, LinkFaultApplies, at_line}
+use Rattle.pair_spec.specs.LinkLaws.{OneLinks, LinksHaveNoFault, OneLinkFault, LinksCompareAlike}
 
 -- the forms of a line, by what it says
 form_of : {first second : List ℕ → Option Expr} {n : ℕ} {ts : List Token} {s : Says} → IsSaid first second n ts s → HasForm ts
@@ -130,3 +130,32 @@ one_link_fault first second text _ _ f g (at_line good rest bad says is are appl
         let ranks : fault_rank f ≡ fault_rank g =
         not_above (fault_rank f) (fault_rank g) (λ l. none f l there) (λ l. least g l here) in
         (numbers, sym (ranked f) ∙ ap fault_of ranks ∙ ranked g)
+
+-- what lines say compares registers and flags alone
+abbrev SaysAlike : Says → Type 0
+SaysAlike Nothing = Unit {0}
+SaysAlike (LinkIs l) = ComparesAlike l
+
+said_alike : {first second : List ℕ → Option Expr} {n : ℕ} {ts : List Token} {s : Says} → IsSaid first second n ts s → SaysAlike s
+said_alike IsSaid.nothing = tt
+said_alike (IsSaid.enters h) = h.alike
+said_alike (IsSaid.leaves h) = h.alike
+said_alike (IsSaid.shares a b) = tt
+said_alike (IsSaid.is_same a b) = tt
+
+one_more_alike : (l : Link) (links : List Link) → ComparesAlike l → All ComparesAlike links → All ComparesAlike (l ∷ links)
+one_more_alike l links h f zero d m = h
+one_more_alike l links h f (suc i) d m = f i d (omega arith)
+
+lines_alike : (first second : List ℕ → Option Expr) (n : ℕ) (texts : List (List ℕ)) (says : List Says) → AreLines first second n texts says →
+    All ComparesAlike (links_in says)
+lines_alike first second n [] [] h = λ i d m. absurd (omega arith)
+lines_alike first second n [] (s ∷ says) h = absurd h
+lines_alike first second n (x ∷ texts) [] h = absurd h
+lines_alike first second n (x ∷ texts) (Nothing ∷ says) h = lines_alike first second (n + 1) texts says h.1
+lines_alike first second n (x ∷ texts) (LinkIs l ∷ says) h =
+    one_more_alike l (links_in says) (said_alike h.0.said) (lines_alike first second (n + 1) texts says h.1)
+
+pub links_compare_alike : LinksCompareAlike
+links_compare_alike first second text links h =
+    subst (λ (z : List Link). All ComparesAlike z) h.2 (lines_alike first second 1 (lines_of text) h.0 h.1)

@@ -16,13 +16,12 @@ use Rattle.machine_spec.specs.Machine.{Machine}
 use Rattle.bilv_spec.specs.Points.{Point}
 use Rattle.bilv_spec.specs.Run.{Program, in_memory, run}
 use Rattle.word_spec.specs.State.{Written}
-use Rattle.machine_spec.specs.StateText.{rv_layout, arm_layout}
+use Rattle.machine_spec.specs.StateText.{rv_layout, arm_layout, block_text}
 use Rattle.word_spec.specs.Texts.{line}
 use Rattle.word_spec.specs.Profiles.{V4}
 use Rattle.pair_spec.specs.Links.{Link, EqualAtEntry, EqualAtExit, SharedBytes, SameBytes}
 use Rattle.pair_spec.specs.Pairs.{side_price, links_price}
 use Rattle.pair_spec.specs.Equals.{Side, refusal}
-use Rattle.model_spec.specs.Models.{block_text}
 use Rattle.pair_spec.specs.Differs.{differ_answer}
 
 -- tokens of a line; a word of a line may be a name too

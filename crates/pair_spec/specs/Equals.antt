@@ -6,12 +6,11 @@ use Rattle.bilv_spec.specs.Verdict.{Holds, IsRight}
 use Rattle.bilv_spec.specs.Points.{is_known_at}
 use Rattle.clause_spec.specs.Refutation.{Proof}
 use Rattle.bilv_spec.specs.Files.{names_of, layout_of}
-use Rattle.machine_spec.specs.StateText.{Layout, IsWritten}
+use Rattle.machine_spec.specs.StateText.{Layout, IsWritten, block_text}
 use Rattle.word_spec.specs.Texts.{line, joined, spaced, number_text}
 use Rattle.call_spec.specs.Calls.{Options, Budget, Evidence}
 use Rattle.bilv_spec.specs.Answers.{Report, HoldsReport, PointsReport, SizeReport, IsRightReport, start_in, status_of, report_text, budget_text}
 use Rattle.bilv_spec.specs.Verified.{IsAccepted, IsElfRefused, AreNotesRefused, IsFound}
-use Rattle.model_spec.specs.Models.{block_text}
 use Rattle.pair_spec.specs.Links.{Link, IsLinksText, IsFirstLinkFault, LinkFault, LimitFault, SyntaxFault, NameFault, RangeFault}
 use Rattle.pair_spec.specs.Pairs.{PairQuestion, PairOfStates, DifferenceOfExits, IsLinkedPair, ArePairedStarts, ExitApart, AreEqual, HaveMore, IsPairPrice}
 use Rattle.pair_spec.specs.PairEvidence.{RefutesPair, SpendsPair, IsPairDue}

@@ -1,7 +1,7 @@
 -- Laws of the texts of links.
-use Rattle.std.specs.Prelude.{ℕ, ◌≡◌, List, Option}
+use Rattle.std.specs.Prelude.{ℕ, ◌≡◌, List, Option, All}
 use Rattle.bilv_spec.specs.Notes.{Expr}
-use Rattle.pair_spec.specs.Links.{Link, IsLinksText, LinkFault, IsFirstLinkFault}
+use Rattle.pair_spec.specs.Links.{Link, ComparesAlike, IsLinksText, LinkFault, IsFirstLinkFault}
 
 -- a text says one list of links
 abbrev pub OneLinks : Type 0
@@ -17,3 +17,7 @@ LinksHaveNoFault = (first second : List ℕ → Option Expr) (text : List ℕ) (
 abbrev pub OneLinkFault : Type 0
 OneLinkFault = (first second : List ℕ → Option Expr) (text : List ℕ) (n m : ℕ) (f g : LinkFault) → IsFirstLinkFault first second text n f →
     IsFirstLinkFault first second text m g → (n ≡ m) × (f ≡ g)
+
+-- the links of a text compare registers and flags alone
+abbrev pub LinksCompareAlike : Type 0
+LinksCompareAlike = (first second : List ℕ → Option Expr) (text : List ℕ) (links : List Link) → IsLinksText first second text links → All ComparesAlike links

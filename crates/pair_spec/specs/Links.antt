@@ -100,6 +100,13 @@ AreAlike IsRegister IsRegister = Unit {0}
 AreAlike IsFlag IsFlag = Unit {0}
 AreAlike x y = ⊥
 
+-- The link compares a register with a register or a flag with a flag, as each line of a text does.
+abbrev pub ComparesAlike : Link → Type 0
+ComparesAlike (EqualAtEntry n x y) = AreAlike (kind_of x) (kind_of y)
+ComparesAlike (EqualAtExit n x y) = AreAlike (kind_of x) (kind_of y)
+ComparesAlike (SharedBytes n low high) = Unit {0}
+ComparesAlike (SameBytes n low high) = Unit {0}
+
 -- what the names of a line stand for: a register or a flag of each machine
 pub record AreNamed (first second : List ℕ → Option Expr) (v w : List ℕ) (x y : Expr) : Type 0 where
   pub first_is : first v ≡ Some x

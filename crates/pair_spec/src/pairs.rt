@@ -1,6 +1,7 @@
 //! Laws of links, and of runs and walks of two functions.
-ghost use Rattle.pair_spec.specs.LinkLaws.{LinksHaveNoFault, OneLinkFault, OneLinks};
+ghost use Rattle.pair_spec.specs.LinkLaws.{LinksCompareAlike, LinksHaveNoFault, OneLinkFault, OneLinks};
 ghost use Rattle.pair_spec.specs.PairLaws.{AskingIsFree, DifferenceIsFound, DifferenceReplays, EqualNotDifferent, NotDifferentIsEqual, OneExit, RunHasExit};
+ghost use Rattle.pair_spec.specs.PairLayers.{BrokenIsNewInPair, ClausesOfPair, ValuesGivePair};
 ghost use Rattle.pair_spec.specs.PairTerms.{ExitIsPlace};
 
 /// A run that has exited did so by the step that it names, in a state.
@@ -56,4 +57,24 @@ pub fn links_have_no_fault()
 /// A text has at most one first fault.
 pub fn one_link_fault()
     ensures { OneLinkFault }
+{}
+
+/// The links of a text compare registers and flags alone.
+pub fn links_compare_alike()
+    ensures { LinksCompareAlike }
+{}
+
+/// The clauses of the cells of both sides are those of the question about both functions.
+pub fn clauses_of_pair()
+    ensures { ClausesOfPair }
+{}
+
+/// The starts of values that satisfy the clauses have runs by which the question about both functions is true.
+pub fn values_give_pair()
+    ensures { ValuesGivePair }
+{}
+
+/// A known byte that satisfying values have not on one of the sides was not asked there.
+pub fn broken_is_new_in_pair()
+    ensures { BrokenIsNewInPair }
 {}

@@ -6,7 +6,7 @@ use Rattle.word_spec.specs.Words.{bit}
 use Rattle.walk_spec.specs.Terms.{InRange}
 use Rattle.walk_spec.specs.Unrolled.{Action, Executes, UnrolledPoint, UnrolledProgram, no_point, point_at, is_register_of, is_flag_of}
 use Rattle.walk_spec.specs.Unrolling.{CanBeTerms}
-use Rattle.walk_spec.specs.Prices.{loads_of, unrolled_price}
+use Rattle.walk_spec.specs.Prices.{loads_of, term_price, unrolled_price}
 use Rattle.walk_spec.specs.Cells.{Cells}
 use Rattle.walk_spec.specs.ClauseForm.{bits_from, drawn_below, first_flag, first_choice, first_byte, place_in, inputs, reading}
 use Rattle.walk_laws.specs.Layers.{IsFitting}
@@ -29,12 +29,17 @@ rows_cost (q ∷ qs) each =
 row_least : (u : UnrolledProgram) (q : UnrolledPoint) (a : Action) → CanBeTerms u q a → 64 ≤ q.row
 row_least u q (Executes list) h = let w = h.weight in omega arith
 
--- what a machine has to be for it is enough
-pub inputs_within : (u : UnrolledProgram) (c : Cells) → IsFitting u → ((i : ℕ) → i < length u.points → CanBeTerms u (point_at u i) (point_at u i).does) →
-    length c.addresses ≤ loads_of u → inputs u c ≤ unrolled_price u
-inputs_within u c fit terms few =
+-- what a machine has to be for it is enough, but for the bytes of base reads
+pub first_within : (u : UnrolledProgram) → IsFitting u → ((i : ℕ) → i < length u.points → CanBeTerms u (point_at u i) (point_at u i).does) →
+    first_byte u ≤ term_price u
+first_within u fit terms =
     let a = rows_cost u.points (λ i l. row_least u (point_at u i) (point_at u i).does (terms i l)) in let b = drawn_few u (length u.points) in
     let r = fit.registers in let f = fit.flags in omega arith
+
+-- and with these
+pub inputs_within : (u : UnrolledProgram) (c : Cells) → IsFitting u → ((i : ℕ) → i < length u.points → CanBeTerms u (point_at u i) (point_at u i).does) →
+    length c.addresses ≤ loads_of u → inputs u c ≤ unrolled_price u
+inputs_within u c fit terms few = let a = first_within u fit terms in omega arith
 
 one_bit : (b : Bool) (n : ℕ) → bit b * 2 ^ n ≤ 2 ^ n
 one_bit true n = omega arith

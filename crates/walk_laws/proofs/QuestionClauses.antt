@@ -51,7 +51,7 @@ of_map_at (q ∷ qs) x zero e = (omega arith, (cc))
 of_map_at (q ∷ qs) x (suc i) e = let r = of_map_at qs x i e in ((let l = r.0 in omega arith), r.1)
 
 -- inputs of bytes are at most the last ones
-count_append : (xs ys : List Input) → length (filter is_of_byte (xs ++ ys)) ≡ length (filter is_of_byte xs) + length (filter is_of_byte ys)
+pub count_append : (xs ys : List Input) → length (filter is_of_byte (xs ++ ys)) ≡ length (filter is_of_byte xs) + length (filter is_of_byte ys)
 count_append [] ys = let e : length (filter is_of_byte ys) ≡ 0 + length (filter is_of_byte ys) = omega arith in e
 count_append (x ∷ xs) ys = by (is_of_byte x) (count_append xs ys)
   where
@@ -65,13 +65,72 @@ count_none : (xs : List Input) → ((i : ℕ) (x : Input) → slice_get xs i ≡
 count_none [] f = refl
 count_none (x ∷ xs) f = ap (λ z. length (if z then x ∷ filter is_of_byte xs else filter is_of_byte xs)) (f 0 x refl) ∙ count_none xs (λ i y e. f (suc i) y e)
 
-count_most : (xs : List Input) → length (filter is_of_byte xs) ≤ length xs
+pub count_most : (xs : List Input) → length (filter is_of_byte xs) ≤ length xs
 count_most [] = omega arith
 count_most (x ∷ xs) = by (is_of_byte x) (count_most xs)
   where
     by : (b : Bool) → length (filter is_of_byte xs) ≤ length xs → length (if b then x ∷ filter is_of_byte xs else filter is_of_byte xs) ≤ suc (length xs)
     by true e = omega arith
     by false e = omega arith
+
+module _ (p : Program) (k : ℕ) (u : UnrolledProgram) (un : IsUnrolling p k u) (c : Cells) (reads : length c.addresses ≤ loads_of u) where
+  -- the inputs are those of the program
+  pub loads_same : loads_of u ≡ loads_among p (map (λ q. q.point) u.points)
+  loads_same =
+      ap (λ z. z + sum_by bytes_loaded (lines_of u)) (load_sum p k u un)
+      ∙ ap (λ z. sum_by (λ (x : Point). loads_at p x.at (file_row p x.at)) (map (λ q. q.point) u.points) + sum_by bytes_loaded z) (line_list p k u un)
+
+  pub to_input : (x : Input) → IsInputOf p k u un c x → IsInput p k (loads_among p (map (λ q. q.point) u.points)) x
+  to_input (OfRegister n b) h = (sym (un.registers n) ∙ h.0, h.1)
+  to_input (OfFlag f) h = sym (un.flags f) ∙ h
+  to_input (OfChoice x b) (i, d, e, l) =
+      let place = un.places i d.0 in
+      let row : RowDraws (file_row p (point_at u i).point.at) = row_draws_is (file_row p (point_at u i).point.at) (sym place.counted.draws ∙ d.1) in
+      ((un.points.only x (in_map_at u.points x i d.0 e), subst (λ (z : Point). RowDraws (file_row p z.at)) e row), l)
+  to_input (OfByte j b) h = (let n = loads_same in let l = h.0 in (omega arith, h.1))
+
+  pub from_input : (x : Input) → IsInput p k (loads_among p (map (λ q. q.point) u.points)) x → is_of_byte x ≡ false → IsInputOf p k u un c x
+  from_input (OfRegister n b) h word = (un.registers n ∙ h.0, h.1)
+  from_input (OfFlag f) h word = un.flags f ∙ h
+  from_input (OfChoice x b) h word =
+      let q = get_of (map (λ q. q.point) u.points) x (un.points.all x h.0.0) in
+      let at = of_map_at u.points x q.0 q.1 in
+      let place = un.places q.0 at.0 in
+      let draws : row_draws (file_row p (point_at u q.0).point.at)
+      ≡ true = draws_row_is (file_row p (point_at u q.0).point.at) (subst (λ (z : Point). RowDraws (file_row p z.at)) (sym at.1) h.0.1) in
+      (q.0, (at.0, place.counted.draws ∙ draws), at.1, h.1)
+  from_input (OfByte j b) h word = absurd (let e : true ≡ false = word in cc)
+
+  pub inputs_are : AreInputs p k (loads_among p (map (λ q. q.point) u.points)) (input_list u c)
+  inputs_are = record {
+    only = λ x h. (let q = get_of (input_list u c) x h in to_input x (in_list p k u un c q.0 x q.1).0);
+    all = λ x h word. at_in (input_list u c) (place p k u un c x) x (stands_at p k u un c x (from_input x h word));
+    whole = λ read i j h l. (let q = get_of (input_list u c) (OfByte read i) h in
+        let at = (in_list p k u un c q.0 (OfByte read i) q.1).0 in
+        at_in (input_list u c) (place p k u un c (OfByte read j)) (OfByte read j) (stands_at p k u un c (OfByte read j) (at.0, l)));
+    once = λ i j l m e.
+        (let a = slice_get-get_or (input_list u c) i (OfFlag 0) (omega arith) in
+        let b = slice_get-get_or (input_list u c) j (OfFlag 0) m in
+        let f = (in_list p k u un c i (get_or (input_list u c) i (OfFlag 0)) a).1 in
+        let g = (in_list p k u un c j (get_or (input_list u c) i (OfFlag 0)) (sym e ∙ a)).1 in
+        absurd (omega arith));
+  }
+
+  -- and its bytes are at most the last ones
+  pub byte_inputs : length (filter is_of_byte (input_list u c)) ≤ 8 * length c.addresses
+  byte_inputs =
+      let a = count_append (blocks OfRegister 32 u.registers) (map OfFlag (from_to 0 u.flags)
+      ++ (blocks (λ i b. OfChoice (point_at u i).point b) 2 (drawn_places u) ++ blocks OfByte 8 (from_to 0 (length c.addresses)))) in
+      let b = count_append (map OfFlag (from_to 0 u.flags)) (blocks (λ i b. OfChoice (point_at u i).point b) 2 (drawn_places u)
+      ++ blocks OfByte 8 (from_to 0 (length c.addresses))) in
+      let d = count_append (blocks (λ i b. OfChoice (point_at u i).point b) 2 (drawn_places u)) (blocks OfByte 8 (from_to 0 (length c.addresses))) in
+      let e = count_none (blocks OfRegister 32 u.registers) (λ i x h. ap is_of_byte (block_is OfRegister 32 u.registers i x h).5) in
+      let f = count_none (map OfFlag (from_to 0 u.flags)) (λ i x h. ap is_of_byte (row_is OfFlag u.flags i x h).1) in
+      let g = count_none (blocks (λ i b. OfChoice (point_at u i).point b) 2 (drawn_places u))
+      (λ i x h. ap is_of_byte (block_is (λ i b. OfChoice (point_at u i).point b) 2 (drawn_places u) i x h).5) in
+      let m = count_most (blocks OfByte 8 (from_to 0 (length c.addresses))) in
+      let n = block_length OfByte 8 (from_to 0 (length c.addresses)) in
+      let o = range_length 0 (length c.addresses) in omega arith
 
 module _ (p : Program) (k : ℕ) (question : Question) (asked : ℕ →
     Bool) (u : UnrolledProgram) (t : QuestionTerm) (c : Cells) (layered : IsLayered p k question asked u t c) where
@@ -147,48 +206,6 @@ module _ (p : Program) (k : ℕ) (question : Question) (asked : ℕ →
   has_asked : (s : State) → AgreesOn p asked s → HasAsked u asked s.mem
   has_asked s f a b l e ask = asked_by s f a b (p.loaded a) (is_known_at p a) l ask refl refl (sym (un.known a l) ∙ e)
 
-  -- the inputs are those of the program
-  loads_same : loads_of u ≡ loads_among p (map (λ q. q.point) u.points)
-  loads_same =
-      ap (λ z. z + sum_by bytes_loaded (lines_of u)) (load_sum p k u un)
-      ∙ ap (λ z. sum_by (λ (x : Point). loads_at p x.at (file_row p x.at)) (map (λ q. q.point) u.points) + sum_by bytes_loaded z) (line_list p k u un)
-
-  to_input : (x : Input) → IsInputOf p k u un c x → IsInput p k (loads_among p (map (λ q. q.point) u.points)) x
-  to_input (OfRegister n b) h = (sym (un.registers n) ∙ h.0, h.1)
-  to_input (OfFlag f) h = sym (un.flags f) ∙ h
-  to_input (OfChoice x b) (i, d, e, l) =
-      let place = un.places i d.0 in
-      let row : RowDraws (file_row p (point_at u i).point.at) = row_draws_is (file_row p (point_at u i).point.at) (sym place.counted.draws ∙ d.1) in
-      ((un.points.only x (in_map_at u.points x i d.0 e), subst (λ (z : Point). RowDraws (file_row p z.at)) e row), l)
-  to_input (OfByte j b) h = (let n = loads_same in let r = layered.cells.reads in let l = h.0 in (omega arith, h.1))
-
-  from_input : (x : Input) → IsInput p k (loads_among p (map (λ q. q.point) u.points)) x → is_of_byte x ≡ false → IsInputOf p k u un c x
-  from_input (OfRegister n b) h word = (un.registers n ∙ h.0, h.1)
-  from_input (OfFlag f) h word = un.flags f ∙ h
-  from_input (OfChoice x b) h word =
-      let q = get_of (map (λ q. q.point) u.points) x (un.points.all x h.0.0) in
-      let at = of_map_at u.points x q.0 q.1 in
-      let place = un.places q.0 at.0 in
-      let draws : row_draws (file_row p (point_at u q.0).point.at)
-      ≡ true = draws_row_is (file_row p (point_at u q.0).point.at) (subst (λ (z : Point). RowDraws (file_row p z.at)) (sym at.1) h.0.1) in
-      (q.0, (at.0, place.counted.draws ∙ draws), at.1, h.1)
-  from_input (OfByte j b) h word = absurd (let e : true ≡ false = word in cc)
-
-  inputs_are : AreInputs p k (loads_among p (map (λ q. q.point) u.points)) (input_list u c)
-  inputs_are = record {
-    only = λ x h. (let q = get_of (input_list u c) x h in to_input x (in_list p k u un c q.0 x q.1).0);
-    all = λ x h word. at_in (input_list u c) (place p k u un c x) x (stands_at p k u un c x (from_input x h word));
-    whole = λ read i j h l. (let q = get_of (input_list u c) (OfByte read i) h in
-        let at = (in_list p k u un c q.0 (OfByte read i) q.1).0 in
-        at_in (input_list u c) (place p k u un c (OfByte read j)) (OfByte read j) (stands_at p k u un c (OfByte read j) (at.0, l)));
-    once = λ i j l m e.
-        (let a = slice_get-get_or (input_list u c) i (OfFlag 0) (omega arith) in
-        let b = slice_get-get_or (input_list u c) j (OfFlag 0) m in
-        let f = (in_list p k u un c i (get_or (input_list u c) i (OfFlag 0)) a).1 in
-        let g = (in_list p k u un c j (get_or (input_list u c) i (OfFlag 0)) (sym e ∙ a)).1 in
-        absurd (omega arith));
-  }
-
   decides : (r s : Reading) → IsTrueOver p asked k r question → IsReading s → s.state.pc ≡ r.state.pc → AgreesOn p asked s.state →
       AgreeOnFirst (length (input_list u c)) (input_list u c) (address p k u un c layered.cells.formed) r s → IsTrueOver p asked k s question
   decides r s h is pc agrees first =
@@ -241,21 +258,6 @@ module _ (p : Program) (k : ℕ) (question : Question) (asked : ℕ →
       where_true = λ v h. tells.extends.where_true v (makes_true v h);
     }
 
-    byte_inputs : length (filter is_of_byte (input_list u c)) ≤ 8 * length c.addresses
-    byte_inputs =
-        let a = count_append (blocks OfRegister 32 u.registers) (map OfFlag (from_to 0 u.flags)
-        ++ (blocks (λ i b. OfChoice (point_at u i).point b) 2 (drawn_places u) ++ blocks OfByte 8 (from_to 0 (length c.addresses)))) in
-        let b = count_append (map OfFlag (from_to 0 u.flags)) (blocks (λ i b. OfChoice (point_at u i).point b) 2 (drawn_places u)
-        ++ blocks OfByte 8 (from_to 0 (length c.addresses))) in
-        let d = count_append (blocks (λ i b. OfChoice (point_at u i).point b) 2 (drawn_places u)) (blocks OfByte 8 (from_to 0 (length c.addresses))) in
-        let e = count_none (blocks OfRegister 32 u.registers) (λ i x h. ap is_of_byte (block_is OfRegister 32 u.registers i x h).5) in
-        let f = count_none (map OfFlag (from_to 0 u.flags)) (λ i x h. ap is_of_byte (row_is OfFlag u.flags i x h).1) in
-        let g = count_none (blocks (λ i b. OfChoice (point_at u i).point b) 2 (drawn_places u))
-        (λ i x h. ap is_of_byte (block_is (λ i b. OfChoice (point_at u i).point b) 2 (drawn_places u) i x h).5) in
-        let m = count_most (blocks OfByte 8 (from_to 0 (length c.addresses))) in
-        let n = block_length OfByte 8 (from_to 0 (length c.addresses)) in
-        let o = range_length 0 (length c.addresses) in omega arith
-
     pub of_question : AreOfQuestion p k question cnf
     of_question =
         let long = all_long p k u un c in
@@ -263,14 +265,14 @@ module _ (p : Program) (k : ℕ) (question : Question) (asked : ℕ →
         let room = layered.term.terms.gates in
         let gates = clauses_within u (term_gates t.nodes) (length c.addresses) (omega arith) layered.cells.reads in
         let cells = layered.cells.gates in
-        let bits = byte_inputs in
+        let bits = byte_inputs p k u un c layered.cells.reads in
         let vars = tells.few in
         let all = tells.all in
         record {
           points = map (λ q. q.point) u.points;
           are_points = un.points;
           inputs = input_list u c;
-          are_inputs = inputs_are;
+          are_inputs = inputs_are p k u un c layered.cells.reads;
           asked = asked;
           asks_known = layered.asks_known;
           address = address p k u un c layered.cells.formed;
@@ -285,6 +287,12 @@ module _ (p : Program) (k : ℕ) (question : Question) (asked : ℕ →
           few_inputs = (omega arith, omega arith);
           few_gates = omega arith;
         }
+
+  module _ (cnf : Cnf) (tells : TellsClauses u c cnf) where
+    -- over the bytes that are asked
+    pub asks_same : (of_question cnf tells).asked ≡ asked
+    unfolding of_question
+    asks_same = refl
 
 pub clauses_of_question : ClausesOfQuestion
 clauses_of_question p k question asked u t c layered cnf tells = of_question p k question asked u t c layered cnf tells

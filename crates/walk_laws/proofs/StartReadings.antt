@@ -16,27 +16,31 @@ use Rattle.word_spec.specs.State.{Written}
 use Rattle.bilv_spec.specs.Run.{Program, Run, Going, Exited, Failed, Turned, Place, run, one_more}
 use Rattle.machine_spec.specs.Endings.{Start}
 use Rattle.bilv_spec.specs.Points.{is_known_at}
-use Rattle.bilv_spec.specs.Questions.{Reading, IsReading, IsTrue, IsTrueOver, by_file, point_of, read_run, read_on}
+use Rattle.bilv_spec.specs.Questions.{Reading, IsReading, IsTrue, IsTrueOver, IsEntryStateOver, by_file, point_of, read_run, read_on}
+use Rattle.bilv_spec.specs.Verdict.{IsEntryState}
+use Rattle.bilv_spec.specs.PointLaws.{HasLawfulRows}
 use Rattle.call_spec.specs.Calls.{Question}
 use Rattle.bilv_spec.specs.QuestionLaws.{Follows}
 use Rattle.bilv_spec.specs.Answers.{start_in, known_byte}
 use Rattle.bilv_spec.proofs.Pigeons.{truth}
 use Rattle.bilv_spec.proofs.ReadingRuns.{Numbered, numbered}
-use Rattle.walk_spec.specs.Terms.{TermReading, with_mem, term_word}
+use Rattle.walk_spec.specs.Terms.{TermReading, InRange, with_mem, term_word}
 use Rattle.walk_spec.specs.Unrolled.{Carried, UnrolledProgram, Walk, WalkIsAt, WalkExits, WalkFails, WalkTurns, byte_of_runs, point_at, walk}
 use Rattle.walk_spec.specs.Unrolling.{IsUnrolling, IsLaidOut}
-use Rattle.walk_spec.specs.WalkQuestions.{QuestionTerm, term_reading}
-use Rattle.walk_spec.specs.Cells.{Cells}
-use Rattle.walk_spec.specs.ClauseForm.{TellsClauses, IsStartOf, IsReadingOf, reading, start_memory, first_flag, bits_from, place_in}
-use Rattle.walk_spec.proofs.EntrySame.{entry_is_same}
-use Rattle.walk_laws.specs.Layers.{IsLayered, ValuesGiveStart, StartIsWritten, StartBreaksNone, BrokenIsNew}
+use Rattle.walk_spec.specs.WalkQuestions.{QuestionTerm, HasAsked, term_reading}
+use Rattle.walk_spec.specs.Cells.{Cells, AreFormed, Gives, IsAllowed}
+use Rattle.walk_spec.specs.WalkLaws.{AsksKnown, AsksLiterals}
+use Rattle.walk_spec.specs.ClauseForm.{TellsClauses, IsBroken, IsStartOf, IsReadingOf, reading, start_memory, first_flag, bits_from, place_in}
+use Rattle.walk_spec.proofs.EntrySame.{entry_is_same, entry_over}
+use Rattle.walk_laws.specs.Layers.{IsFitting, IsLayered, ValuesGiveStart, StartIsWritten, StartBreaksNone, BrokenIsNew}
 use Rattle.walk_laws.specs.RunOfWalk.{IsSame}
 use Rattle.walk_laws.proofs.CellValues.{Agree, word_same, word_fits}
 use Rattle.walk_laws.proofs.BaseBytes.{gives, agree_all}
 use Rattle.walk_laws.proofs.InputOrder.{row_get}
 use Rattle.walk_laws.proofs.InputPlaces.{spot, spot_is, range_length}
+use Rattle.walk_laws.proofs.InputReadings.{of}
 use Rattle.walk_laws.proofs.InputsWithin.{reading_in_range}
-use Rattle.walk_laws.proofs.QuestionClauses.{read_as, from_root, root_same, walk_true}
+use Rattle.walk_laws.proofs.QuestionClauses.{read_as, from_root, root_same}
 use Rattle.walk_laws.proofs.WalkRuns.{walk_is_run}
 
 past_end : (xs : List ℕ) (i : ℕ) → length xs ≤ i → slice_index xs i ≡ 0
@@ -105,75 +109,50 @@ known_small : (o : Option ℕ) (xs : List (ℕ × ℕ)) (a : ℕ) → ((b : ℕ)
 known_small None xs a h l = l
 known_small (Some b) xs a h l = h b refl
 
-module _ (p : Program) (k : ℕ) (question : Question) (asked : ℕ →
-    Bool) (u : UnrolledProgram) (t : QuestionTerm) (c : Cells) (layered : IsLayered p k question asked u t c)
-    (cnf : Cnf) (tells : TellsClauses u c cnf) (layout : Layout) (laid : IsLaidOut layout u) (v : ℕ →
-    Bool) (sat : Satisfies v cnf.clauses) (w : Written) (starts : IsStartOf u c v w) where
-  abbrev un : IsUnrolling p k u
-  un = layered.unrolling
-
+-- the reading of a start, and what it has whatever is asked
+module _ (p : Program) (k : ℕ) (u : UnrolledProgram) (un : IsUnrolling p k u) (fit : IsFitting u) (c : Cells) (formed : AreFormed u c) (layout : Layout)
+    (laid : IsLaidOut layout u) (v : ℕ → Bool) (w : Written) (starts : IsStartOf u c v w) where
   abbrev rd : TermReading
   rd = reading u c v
 
   -- the start's reading
-  abbrev r : Reading
-  r = record {
+  abbrev pub start_reading : Reading
+  start_reading = record {
     state = record { pc = u.entry; regs = (reading u c v).regs; flags = (reading u c v).flags; mem = start_memory u w };
     choice = λ x. (reading u c v).choice (spot p k u un c x);
   }
 
-  is_of : IsReadingOf u c v w r
+  pub is_of : IsReadingOf u c v w start_reading
   is_of = record { pc = refl; regs = refl; flags = refl; mem = refl; choice = λ i l. ap rd.choice (spot_is p k u un c i l) }
 
-  is : IsReading r
+  pub is : IsReading start_reading
   is =
       let range = reading_in_range u c v in
       record {
         state = record {
-          pc = layered.fitting.entry;
+          pc = fit.entry;
           regs = range.regs;
           flags = range.flags;
           mem = λ a. known_small (byte_of_runs u.known (word 32 a)) w.bytes a
-              (λ b e. layered.fitting.known (word 32 a) b e) (byte_small w.bytes (word 32 a) starts.bytes);
+              (λ b e. fit.known (word 32 a) b e) (byte_small w.bytes (word 32 a) starts.bytes);
         };
         choice = λ x. range.choice (spot p k u un c x);
       }
 
-  has : (a b : ℕ) → a < 2 ^ 32 → byte_of_runs u.known a ≡ Some b → start_memory u w a ≡ b
+  pub has : (a b : ℕ) → a < 2 ^ 32 → byte_of_runs u.known a ≡ Some b → start_memory u w a ≡ b
   has a b l e =
       let s : word 32 a ≡ a = omega arith in
       ap (λ z. known_or (byte_of_runs u.known z) w.bytes a) s ∙ ap (λ z. known_or z w.bytes a) e
 
-  agree : Agree u (length c.addresses) (reading u c v) (read_as p k question asked u t c layered r)
+  pub agree : Agree u (length c.addresses) (reading u c v) (of p k u un c formed start_reading)
   agree =
-      let a = agree_all u c layered.cells.formed (with_mem (reading u c v) (start_memory u w)) (read_as p k question asked u t c layered r) (record {
+      let a = agree_all u c formed (with_mem (reading u c v) (start_memory u w)) (of p k u un c formed start_reading) (record {
         regs = λ n h. refl;
         flags = λ f h. refl;
         choice = λ i d. ap (reading u c v).choice (sym (spot_is p k u un c i d.0));
         base = λ j h. absurd (omega arith);
-      }) starts.gives (gives u c layered.cells.formed (term_reading u r)) (λ j l. refl) in
+      }) starts.gives (gives u c formed (term_reading u start_reading)) (λ j l. refl) in
       record { regs = a.regs; flags = a.flags; choice = a.choice; base = a.base }
-
-  over : IsTrueOver p asked k r question
-  over =
-      let made = tells.extends.only v sat in
-      from_root p k question asked u t c layered r is refl (λ a b l e ask. has a b l e)
-      (sym (root_same p k question asked u t c layered (reading u c v) (read_as p k question asked u t c layered r) agree) ∙ made.1)
-
-  true_of : IsTrue p k r question
-  true_of =
-      let walked = walk_true p k question asked u t c layered r over in
-      record {
-        choice = over.choice;
-        entry = (entry_is_same p k u un r.state).0 (record {
-          state = walked.entry.state;
-          pc = walked.entry.pc;
-          lines = walked.entry.lines;
-          bytes =
-              λ a b l e ask. has a b l e;
-        });
-        ends = over.ends;
-      }
 
   -- its state is that of the start
   no_register : (n : ℕ) → list_any (nat_eq n) (from_to layout.first (length layout.registers)) ≡ false → rd.regs n ≡ 0
@@ -195,7 +174,7 @@ module _ (p : Program) (k : ℕ) (question : Question) (asked : ℕ →
   mem_same : (a : ℕ) → known_or (known_byte p (word 32 a)) w.bytes a ≡ start_memory u w a
   mem_same a = ap (λ z. known_or z w.bytes a) (sym (un.known (word 32 a) (mod_below a (2 ^ 32) (omega arith))))
 
-  state_same : (start_in p layout w).state ≡ r.state
+  state_same : (start_in p layout w).state ≡ start_reading.state
   state_same =
       ap (λ z. record { pc = z; regs = register_at layout w.regs; flags = λ f. bit_at f w.flags; mem = λ a. known_or (known_byte p (word 32 a)) w.bytes a })
       (sym un.entry)
@@ -203,41 +182,78 @@ module _ (p : Program) (k : ℕ) (question : Question) (asked : ℕ →
       ∙ ap (λ z. record { pc = u.entry; regs = rd.regs; flags = z; mem = λ a. known_or (known_byte p (word 32 a)) w.bytes a }) (fun_ext flags_same)
       ∙ ap (λ z. record { pc = u.entry; regs = rd.regs; flags = rd.flags; mem = z }) (fun_ext mem_same)
 
-  -- where the walk is, the start has the choice of the point
-  at_place : (x : Walk) (turns m : ℕ) (d : Place) → IsSame p u x (Going turns m d) → (i : ℕ) × (e : Carried) × (x ≡ WalkIsAt i e) × (i < length u.points) ×
-      ((point_at u i).point ≡ point_of turns d)
-  at_place (WalkIsAt i e) turns m d h = (i, e, refl, h.0, h.1)
-  at_place WalkExits turns m d h = absurd h
-  at_place (WalkFails e) turns m d h = absurd h
-  at_place WalkTurns turns m d h = absurd h
+  -- over the bytes that are asked it begins in an entry state, and so it does over all; and the start follows it
+  module _ (lawful : HasLawfulRows p) (asked : ℕ → Bool) (known : AsksKnown p asked) (literals : AsksLiterals p k asked)
+      (over : IsEntryStateOver p asked start_reading.state) where
+    pub entry_state : IsEntryState p start_reading.state
+    entry_state =
+        let met = (entry_over p k u un asked known start_reading.state).1 over in
+        (entry_is_same p k u un start_reading.state).0 (record { state = met.state; pc = met.pc; lines = met.lines; bytes = λ a b l e ask. has a b l e })
 
-  chosen : (n turns m : ℕ) (d : Place) → read_run p k r n ≡ Going turns m d → byte_in w.choices n ≡ r.choice (point_of turns d)
-  chosen n turns m d e =
-      let same = walk_is_run p layered.lawful k u un asked layered.asks_literals r over.choice over.entry n in
-      let at = at_place (walk u r n) turns m d (subst (λ (z : Run). IsSame p u (walk u r n) z) e same) in
-      starts.follows r is_of n at.0 at.1 at.2 ∙ sym (ap rd.choice (spot_is p k u un c at.0 at.3)) ∙ ap (λ z. rd.choice (spot p k u un c z)) at.4
+    -- where the walk is, the start has the choice of the point
+    at_place : (x : Walk) (turns m : ℕ) (d : Place) → IsSame p u x (Going turns m d) → (i : ℕ) × (e : Carried) × (x ≡ WalkIsAt i e) × (i < length u.points) ×
+        ((point_at u i).point ≡ point_of turns d)
+    at_place (WalkIsAt i e) turns m d h = (i, e, refl, h.0, h.1)
+    at_place WalkExits turns m d h = absurd h
+    at_place (WalkFails e) turns m d h = absurd h
+    at_place WalkTurns turns m d h = absurd h
 
-  same_step : (start : Start) → start.state ≡ r.state → (n : ℕ) (x : Run) → Numbered n x →
-      ((turns m : ℕ) (d : Place) → x ≡ Going turns m d → start.choices n ≡ r.choice (point_of turns d)) → one_more (by_file p) k start x ≡ read_on p k r x
-  same_step start e n (Going turns m d) h f = rw (e, h, f turns m d refl) refl
-  same_step start e n (Exited at m) h f = refl
-  same_step start e n (Failed x at m) h f = refl
-  same_step start e n (Turned at m) h f = refl
+    chosen : (n turns m : ℕ) (d : Place) → read_run p k start_reading n ≡ Going turns m d → byte_in w.choices n ≡ start_reading.choice (point_of turns d)
+    chosen n turns m d e =
+        let same = walk_is_run p lawful k u un asked literals start_reading is.choice over n in
+        let at = at_place (walk u start_reading n) turns m d (subst (λ (z : Run). IsSame p u (walk u start_reading n) z) e same) in
+        starts.follows start_reading is_of n at.0 at.1 at.2 ∙ sym (ap rd.choice (spot_is p k u un c at.0 at.3)) ∙ ap (λ z. rd.choice (spot p k u un c z)) at.4
 
-  run_same : (n : ℕ) → run (by_file p) k (start_in p layout w) n ≡ read_run p k r n
-  unfolding run read_run
-  run_same zero = ap (λ z. Going 0 0 (record { state = z; stack = [] })) state_same
-  run_same (suc n) =
-      let e = run_same n in
-      ap (one_more (by_file p) k (start_in p layout w)) e
-      ∙ same_step (start_in p layout w) state_same n (read_run p k r n) (subst (Numbered n) e (numbered (by_file p) k (start_in p layout w) n))
-      (λ turns m d q. chosen n turns m d q)
+    same_step : (start : Start) → start.state ≡ start_reading.state → (n : ℕ) (x : Run) → Numbered n x →
+        ((turns m : ℕ) (d : Place) → x ≡ Going turns m d → start.choices n ≡ start_reading.choice (point_of turns d)) →
+        one_more (by_file p) k start x ≡ read_on p k start_reading x
+    same_step start e n (Going turns m d) h f = rw (e, h, f turns m d refl) refl
+    same_step start e n (Exited at m) h f = refl
+    same_step start e n (Failed x at m) h f = refl
+    same_step start e n (Turned at m) h f = refl
 
-  follows : Follows p k r (start_in p layout w)
-  follows = record { state = state_same; choices = λ n turns d h. chosen n turns n d (sym (run_same n) ∙ h) }
+    run_same : (n : ℕ) → run (by_file p) k (start_in p layout w) n ≡ read_run p k start_reading n
+    unfolding run read_run
+    run_same zero = ap (λ z. Going 0 0 (record { state = z; stack = [] })) state_same
+    run_same (suc n) =
+        let e = run_same n in
+        ap (one_more (by_file p) k (start_in p layout w)) e
+        ∙ same_step (start_in p layout w) state_same n (read_run p k start_reading n) (subst (Numbered n) e (numbered (by_file p) k (start_in p layout w) n))
+        (λ turns m d q. chosen n turns m d q)
+
+    pub follows : Follows p k start_reading (start_in p layout w)
+    follows = record { state = state_same; choices = λ n turns d h. chosen n turns n d (sym (run_same n) ∙ h) }
+
+module _ (p : Program) (k : ℕ) (question : Question) (asked : ℕ →
+    Bool) (u : UnrolledProgram) (t : QuestionTerm) (c : Cells) (layered : IsLayered p k question asked u t c)
+    (cnf : Cnf) (tells : TellsClauses u c cnf) (layout : Layout) (laid : IsLaidOut layout u) (v : ℕ →
+    Bool) (sat : Satisfies v cnf.clauses) (w : Written) (starts : IsStartOf u c v w) where
+  abbrev un : IsUnrolling p k u
+  un = layered.unrolling
+
+  abbrev r : Reading
+  r = start_reading p k u layered.unrolling layered.fitting c layered.cells.formed layout laid v w starts
+
+  over : IsTrueOver p asked k r question
+  over =
+      let made = tells.extends.only v sat in
+      from_root p k question asked u t c layered r (is p k u un layered.fitting c layered.cells.formed layout laid v w starts) refl
+      (λ a b l e ask. has p k u un layered.fitting c layered.cells.formed layout laid v w starts a b l e)
+      (sym (root_same p k question asked u t c layered (reading u c v) (read_as p k question asked u t c layered r)
+      (agree p k u un layered.fitting c layered.cells.formed layout laid v w starts)) ∙ made.1)
 
   pub gives_start : (r : Reading) × IsReadingOf u c v w r × IsTrue p k r question × Follows p k r (start_in p layout w)
-  gives_start = (r, is_of, true_of, follows)
+  gives_start = (
+    r,
+    is_of p k u un layered.fitting c layered.cells.formed layout laid v w starts,
+    record {
+      choice = over.choice;
+      entry = entry_state p k u un layered.fitting c layered.cells.formed layout laid v w starts layered.lawful asked layered.asks_known layered.asks_literals
+          over.entry;
+      ends = over.ends;
+    },
+    follows p k u un layered.fitting c layered.cells.formed layout laid v w starts layered.lawful asked layered.asks_known layered.asks_literals over.entry,
+  )
 
 pub values_give_start : ValuesGiveStart
 values_give_start p k question asked u t c layered cnf tells layout laid v sat w starts =
@@ -282,21 +298,28 @@ start_breaks_none u c formed v w starts a (j, b, l, at, known, other) =
       base = λ i h. refl;
     }) t l
 
-pub broken_is_new : BrokenIsNew
-broken_is_new u t asked c cells cnf tells v sat a (j, b, l, at, known, other) =
+-- a known byte that allowed values have not was not asked, since some memory has their bytes and those that are asked
+pub broken_was_free : (u : UnrolledProgram) (asked : ℕ → Bool) (c : Cells) → AreFormed u c →
+    ((x : TermReading) → InRange x → IsAllowed c x → (m : Memory) × ((a : ℕ) → m a < 256) × HasAsked u asked m × Gives c (with_mem x m)) →
+    (v : ℕ → Bool) → IsAllowed c (reading u c v) → (a : ℕ) → IsBroken u c (reading u c v) a → asked a ≡ false
+broken_was_free u asked c formed complete v allowed a (j, b, l, at, known, other) =
     let range = reading_in_range u c v in
-    let m = cells.complete (reading u c v) range (tells.extends.only v sat).0 in
-    let small : a < 2 ^ 32 = subst (λ (z : ℕ). z < 2 ^ 32) at (word_fits u c cells.formed (reading u c v) range 32 _ (cells.formed.addresses j l)) in
+    let m = complete (reading u c v) range allowed in
+    let small : a < 2 ^ 32 = subst (λ (z : ℕ). z < 2 ^ 32) at (word_fits u c formed (reading u c v) range 32 _ (formed.addresses j l)) in
     elim (truth (asked a)) [
-      | inl ask ↦ absurd (other (m.3 j l ∙ ap m.0 (same_address m.0 (slice_index c.addresses j) (cells.formed.addresses j l).0 ∙ at) ∙ m.2 a b small known ask))
+      | inl ask ↦ absurd (other (m.3 j l ∙ ap m.0 (same_address m.0 (slice_index c.addresses j) (formed.addresses j l).0 ∙ at) ∙ m.2 a b small known ask))
       | inr free ↦ free
     ]
   where
     same_address : (m : Memory) (t : ℕ) → t < length c.nodes → term_word (with_mem (reading u c v) m) c.nodes t ≡ term_word (reading u c v) c.nodes t
-    same_address m t l = word_same u c cells.formed (with_mem (reading u c v) m) (reading u c v) (record {
+    same_address m t l = word_same u c formed (with_mem (reading u c v) m) (reading u c v) (record {
       regs = λ n h. refl;
       flags = λ f h. refl;
       choice =
           λ i h. refl;
       base = λ i h. refl;
     }) t l
+
+pub broken_is_new : BrokenIsNew
+broken_is_new u t asked c cells cnf tells v sat a broken =
+    broken_was_free u asked c cells.formed cells.complete v (tells.extends.only v sat).0 a broken

@@ -360,12 +360,12 @@ module _ (p : Program) (lawful : HasLawfulRows p) (k : ℕ) (u : UnrolledProgram
   sound_on (Turned at n) h = tt
 
   module _ (is : IsEntryStateOver p asked r.state) where
-    stands : (n : ℕ) → Stands p k (read_run p k r n)
+    pub stands : (n : ℕ) → Stands p k (read_run p k r n)
     unfolding read_run
     stands zero = (subst (λ (z : ℕ). IsPoint p k (record { turns = 0; stack = []; at = z })) (sym is.pc) first, is.state, omega arith)
     stands (suc n) = stands_on (read_run p k r n) (stands n)
 
-    sound : (n : ℕ) → Standing (Sound p asked) k (read_run p k r n)
+    pub sound : (n : ℕ) → Standing (Sound p asked) k (read_run p k r n)
     unfolding read_run
     sound zero = ((λ a c l e h q. is.bytes a c l e q), is.state)
     sound (suc n) = sound_on (read_run p k r n) (sound n)

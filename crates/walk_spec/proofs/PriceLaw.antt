@@ -87,6 +87,7 @@ module _ (p : Program) (k : ℕ) (u : UnrolledProgram) (i : ℕ) where
   record Counts (q : UnrolledPoint) : Type 0 where
     ends : sum_by is_edge q.exits ≡ length (edges p q.point)
     lines : lines_at u q ≡ evaluated p q.point
+    outs : list_any goes_out q.exits ≡ list_any is_exit (edges p q.point)
 
   module _ (same_ensures : u.ensures ≡ p.notes.ensures) (q : UnrolledPoint) where
     asserts : List Assert
@@ -106,20 +107,29 @@ module _ (p : Program) (k : ℕ) (u : UnrolledProgram) (i : ℕ) where
         let none : edges p q.point ≡ [] = ap (λ z. distinct (filter (leads_on p.machine.narrow) (edges_by p q.point z))) e in
         let stop = Always (stop_event (fetchable p (file_word p q.point.at) q.point.at)) ∷ [] in
         let xs0 = filter (λ a. a.at == q.point.at) p.notes.asserts in
+        let outs : list_any goes_out q.exits ≡ list_any is_exit (edges p q.point)
+        = ap (list_any goes_out) d.1
+        ∙ list_any-append goes_out (assert_exits p q.point) (Always (stop_event (fetchable p (file_word p q.point.at) q.point.at)) ∷ [])
+        ∙ ap (λ z. z || false) (out_in_asserts xs0) ∙ sym (ap (list_any is_exit) none) in
         record {
           ends =
               ap (sum_by is_edge) d.1 ∙ sum_by-append is_edge (assert_exits p q.point) (Always (stop_event (fetchable p (file_word p q.point.at) q.point.at)) ∷ [])
               ∙ (let a = edges_in_asserts xs0 in let b : length (edges p q.point) ≡ 0 = ap (λ (z : List EdgeEnd). length z) none in omega arith);
           lines = lines_by (list_any is_exit (edges p q.point)) refl
               (ap (flat_map line_of) d.1 ∙ flat_map-append line_of (assert_exits p q.point) (Always (stop_event (fetchable p (file_word p q.point.at) q.point.at)) ∷ [])
-              ∙ ap (λ z. z ++ []) (lines_in_asserts xs0) ∙ append-nil (map (λ a. a.says) xs0))
-              (ap (list_any goes_out) d.1 ∙ list_any-append goes_out (assert_exits p q.point) (Always (stop_event (fetchable p (file_word p q.point.at) q.point.at)) ∷ [])
-              ∙ ap (λ z. z || false) (out_in_asserts xs0) ∙ sym (ap (list_any is_exit) none));
+              ∙ ap (λ z. z ++ []) (lines_in_asserts xs0) ∙ append-nil (map (λ a. a.says) xs0)) outs;
+          outs = outs;
         }
     counts (Some row) e d =
         let xs0 = filter (λ a. a.at == q.point.at) p.notes.asserts in
         let tail = Raising ∷ WritingKept ∷ Unaligned ∷ d.0 in
         let c = d.2.1 in
+        let outs : list_any goes_out q.exits ≡ list_any is_exit (edges p q.point)
+        = ap (list_any goes_out) d.1 ∙ list_any-append goes_out (assert_exits p q.point) (Raising ∷ WritingKept ∷ Unaligned ∷ d.0)
+        ∙ ap (λ z. z || list_any goes_out d.0) (out_in_asserts xs0) ∙ edge_outs q.point row d.2.0 d.0 d.2.2
+        ∙ same_bool (list_any is_exit d.2.0) (list_any is_exit (edges p q.point))
+        (λ h. with_exit (edges p q.point) ((c.same ToExit).1 (has_exit d.2.0 h)))
+        (λ h. with_exit d.2.0 ((c.same ToExit).0 (has_exit (edges p q.point) h))) in
         record {
           ends =
               ap (sum_by is_edge) d.1 ∙ sum_by-append is_edge (assert_exits p q.point) (Raising ∷ WritingKept ∷ Unaligned ∷ d.0)
@@ -130,12 +140,8 @@ module _ (p : Program) (k : ℕ) (u : UnrolledProgram) (i : ℕ) where
           lines = lines_by (list_any is_exit (edges p q.point)) refl
               (ap (flat_map line_of) d.1 ∙ flat_map-append line_of (assert_exits p q.point) (Raising ∷ WritingKept ∷ Unaligned ∷ d.0)
               ∙ ap (λ z. z ++ flat_map line_of d.0) (lines_in_asserts xs0) ∙ ap (λ z. map (λ a. a.says) xs0 ++ z) (edge_lines q.point row d.2.0 d.0 d.2.2)
-              ∙ append-nil (map (λ a. a.says) xs0))
-              (ap (list_any goes_out) d.1 ∙ list_any-append goes_out (assert_exits p q.point) (Raising ∷ WritingKept ∷ Unaligned ∷ d.0)
-              ∙ ap (λ z. z || list_any goes_out d.0) (out_in_asserts xs0) ∙ edge_outs q.point row d.2.0 d.0 d.2.2
-              ∙ same_bool (list_any is_exit d.2.0) (list_any is_exit (edges p q.point))
-              (λ h. with_exit (edges p q.point) ((c.same ToExit).1 (has_exit d.2.0 h)))
-              (λ h. with_exit d.2.0 ((c.same ToExit).0 (has_exit (edges p q.point) h))));
+              ∙ append-nil (map (λ a. a.says) xs0)) outs;
+          outs = outs;
         }
 
 -- sums over points that agree at each
@@ -154,6 +160,21 @@ lines_points P f g same (q ∷ qs) each =
     ap (λ z. z ++ flat_map f qs) (same q (each 0 (omega arith)))
     ∙ ap (λ z. g q.point ++ z) (lines_points P f g same qs (λ i l. each (suc i) (omega arith)))
 
+-- and counts of points that agree at each
+count_points : (P : UnrolledPoint → Type 0) (f : UnrolledPoint → Bool) (g : Point → Bool) → ((q : UnrolledPoint) → P q → f q ≡ g q.point) →
+    (qs : List UnrolledPoint) → ((i : ℕ) → i < length qs → P (slice_index_or qs i no_point)) →
+    length (filter f qs) ≡ length (filter g (map (λ q. q.point) qs))
+count_points P f g same [] each = refl
+count_points P f g same (q ∷ qs) each =
+    let rest = count_points P f g same qs (λ i l. each (suc i) (omega arith)) in
+    ap (λ z. length (if z then q ∷ filter f qs else filter f qs)) (same q (each 0 (omega arith))) ∙ by (g q.point) rest
+  where
+    by : (b : Bool) → length (filter f qs) ≡ length (filter g (map (λ x. x.point) qs)) →
+        length (if b then q ∷ filter f qs else filter f qs)
+        ≡ length (if b then q.point ∷ filter g (map (λ x. x.point) qs) else filter g (map (λ x. x.point) qs))
+    by true e = omega arith
+    by false e = e
+
 module _ (p : Program) (k : ℕ) (u : UnrolledProgram) (un : IsUnrolling p k u) where
   abbrev Place : UnrolledPoint → Type 0
   Place q = (i : ℕ) × IsPlace p k u i q (file_row p q.point.at)
@@ -170,11 +191,17 @@ module _ (p : Program) (k : ℕ) (u : UnrolledProgram) (un : IsUnrolling p k u) 
   pub load_sum : sum_by (λ q. q.loads) u.points ≡ sum_by (λ point. loads_at p point.at (file_row p point.at)) (map (λ q. q.point) u.points)
   load_sum = sum_points Place (λ q. q.loads) (λ point. loads_at p point.at (file_row p point.at)) (λ q h. h.1.counted.loads) u.points each
 
-  store_sum : stores_of u ≡ sum_by (λ point. stores_at (file_row p point.at)) (map (λ q. q.point) u.points)
+  pub store_sum : stores_of u ≡ sum_by (λ point. stores_at (file_row p point.at)) (map (λ q. q.point) u.points)
   store_sum = sum_points Place (λ q. q.stores) (λ point. stores_at (file_row p point.at)) (λ q h. h.1.counted.stores) u.points each
 
-  end_sum : edges_of u ≡ sum_by (λ point. length (edges p point)) (map (λ q. q.point) u.points)
+  pub end_sum : edges_of u ≡ sum_by (λ point. length (edges p point)) (map (λ q. q.point) u.points)
   end_sum = sum_points Place (λ q. sum_by is_edge q.exits) (λ point. length (edges p point)) (λ q h. (count_of q h).ends) u.points each
+
+  -- the points that may exit
+  pub out_count : length (filter (λ q. list_any goes_out q.exits) u.points)
+      ≡ length (filter (λ point. list_any is_exit (edges p point)) (map (λ q. q.point) u.points))
+  out_count =
+      count_points Place (λ q. list_any goes_out q.exits) (λ point. list_any is_exit (edges p point)) (λ q h. (count_of q h).outs) u.points each
 
   pub line_list : lines_of u ≡ map (λ l. l.says) p.notes.requires ++ flat_map (evaluated p) (map (λ q. q.point) u.points)
   line_list =
@@ -189,7 +216,7 @@ module _ (p : Program) (k : ℕ) (u : UnrolledProgram) (un : IsUnrolling p k u) 
       (length u.kept)
   unrolled_total = omega arith
 
-  same_price : unrolled_price u ≡ price_of p (map (λ q. q.point) u.points) (known_of u) (length u.kept)
+  pub same_price : unrolled_price u ≡ price_of p (map (λ q. q.point) u.points) (known_of u) (length u.kept)
   same_price =
       unrolled_total
       ∙ ap (λ z. total z (edges_of u) (sum_by line_price (lines_of u)) (loads_of u) (stores_of u) (known_of u) (length u.kept)) row_sum

@@ -113,6 +113,7 @@ lawful = record {
   loads = λ s m c is also same. (refl, refl, (refl, refl, refl, refl, λ a l h. ⊎_elim (λ e. e) (λ q. absurd (none_in q)) h));
   unloaded = λ s c is. tt;
   few_loads = λ s. omega arith;
+  loads_at = λ s is. tt;
   calls = λ h. cc;
 }
 

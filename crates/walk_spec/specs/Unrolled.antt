@@ -89,10 +89,10 @@ pub record ByteRun : Type 0 where
   pub count : ℕ
   pub bytes : List ℕ
 
--- An unrolled program: its byte order; whether some of its machine's rows have 2 bytes; the registers of its machine in the order in which a state lists them, and how many flags it has; its entry condition
--- (the number of the link register, the address of the function, the lines that are required, the kept and the fixed bytes as runs); the lines that are
--- ensured at the exit; the runs of kept bytes; the addresses of the words whose constants stand for their loads; and its points, of which the first is the
--- entry's.
+-- An unrolled program: its byte order; whether some of its machine's rows have 2 bytes; the registers of its machine in the order in which a state lists them,
+-- and how many flags it has; its entry condition (the number of the link register, the address of the function, the lines that are required, the kept and the
+-- fixed bytes as runs); the lines that are ensured at the exit; the runs of kept bytes; the addresses of the words whose constants stand for their loads; and
+-- its points, of which the first is the entry's.
 pub record UnrolledProgram : Type 0 where
   pub endian : Endian
   pub narrow : Bool
