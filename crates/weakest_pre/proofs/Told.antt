@@ -10,7 +10,7 @@ use Rattle.bilv_spec.specs.Notes.{NoteLine, value, is_true}
 use Rattle.bilv_spec.specs.Run.{false_line}
 use Rattle.bilv_spec.specs.Questions.{Reading, IsReading}
 use Rattle.call_spec.specs.Calls.{Question, EntryQuestion}
-use Rattle.walk_spec.specs.Terms.{TermNode, BinaryNode, HasWidth, term_word, term_gates, term_loads, term_stores, term_joins}
+use Rattle.walk_spec.specs.Terms.{TermReading, InRange, TermNode, BinaryNode, HasWidth, term_word, term_gates, term_loads, term_stores, term_joins}
 use Rattle.walk_spec.specs.Unrolled.{UnrolledProgram, state_at}
 use Rattle.walk_spec.specs.Unrolling.{IsWalkable}
 use Rattle.walk_spec.specs.Sweep.{swept}
@@ -25,16 +25,37 @@ use Rattle.term_names.specs.Chosen.{at_entry}
 use Rattle.term_names.proofs.OfForm.{named_all, reading_in_range}
 use Rattle.note_terms.specs.Steps.{IsStep}
 use Rattle.note_terms.proofs.Steps.{step_made, bits_and}
-use Rattle.weakest_pre.specs.Copies.{IsCopyOf}
 use Rattle.weakest_pre.specs.Entry.{meets, IsEntryBit}
+use Rattle.weakest_pre.specs.declared.facts.Facts.{Facts}
+use Rattle.weakest_pre.specs.Known.{AreFactsOf}
+use Rattle.weakest_pre.specs.Folded.{IsMetBy, IsFoldedCopy}
 use Rattle.weakest_pre.specs.Roots.{IsTied}
-use Rattle.weakest_pre.proofs.Copying.{copied_inputs}
 
--- a bit tied to the copy of another
-pub tied_made : (source a b c : List TermNode) (p s q t : ℕ) → p < length a → HasWidth source 1 s → IsCopyOf source a b s q →
+-- two tests that are both true
+both_true : (p q : Bool) → (p && q) ≡ true → (p ≡ true) × (q ≡ true)
+both_true true q h = (refl, h)
+both_true false q h = absurd (false≢true h)
+
+true_both : (p q : Bool) → p ≡ true → q ≡ true → (p && q) ≡ true
+true_both true q h k = k
+true_both false q h k = h
+
+-- where the entry condition is met, registers are as its lines say
+met_by : (u : UnrolledProgram) (facts : Facts) (x : TermReading) → AreFactsOf u facts.registers.items → InRange x →
+    meets u (state_at (at_entry x) u.entry) ≡ true → IsMetBy facts x
+met_by u facts x said r h = record { range = r; known = said (state_at (at_entry x) u.entry) r.regs (both_true _ _ h).1 }
+
+-- a bit counts only where the other is 1
+counts_where : (b : Bool) (p q v : ℕ) → p ≡ bit b → (b ≡ true → q ≡ v) → bit_and p q ≡ bit_and p v
+counts_where true p q v e h = ap (bit_and p) (h refl)
+counts_where false p q v e h = ap (λ (n : ℕ). bit_and n q) e ∙ ap (λ (n : ℕ). bit_and n v) (sym e)
+
+-- the entry condition's bit tied to the folded copy of another
+pub tied_made : (u : UnrolledProgram) (facts : Facts) (source a b c : List TermNode) (p s q t : ℕ) → IsEntryBit u [] a p →
+    AreFactsOf u facts.registers.items → HasWidth source 1 s → IsFoldedCopy (IsMetBy facts) source a b s q →
     IsMade b c (BinaryNode bil.And 1 p q) t →
     IsTied source a c p s t
-tied_made source a b c p s q t h bit_s copy made =
+tied_made u facts source a b c p s q t entry said bit_s copy made =
     let last : IsStep b c 1 0 2 (λ w. w ≡ 1) (λ x. bit_and (term_word x b p) (term_word x b q)) t =
     step_made b c 1 0 _ _ (BinaryNode bil.And 1 p q) t made (omega arith) (omega arith) refl refl (λ i. i) (λ w e. e) (λ x r. refl) in
     record {
@@ -42,13 +63,13 @@ tied_made source a b c p s q t h bit_s copy made =
           (term_gates source + 1) (term_loads source) (term_stores source) (term_joins source) (length source + 2)
           (omega arith) (omega arith) (omega arith) (omega arith) (omega arith)
           (grew_on a b c (term_gates source) (term_loads source) (term_stores source) (term_joins source) (length source) 1 0 0 0 2 copy.grew last.grew);
-      inputs = inputs_on a b c (Contains source) (copied_inputs source a b s q copy) (inputs_more b c (λ m. ⊥) (Contains source)
-          (λ m i e. absurd e) last.inputs);
+      inputs = inputs_on a b c (Contains source) copy.inputs (inputs_more b c (λ m. ⊥) (Contains source) (λ m i e. absurd e) last.inputs);
       typed = last.typed;
       width = (last.within, last.fits);
       value = λ x r.
-          last.value x r ∙ ap (λ (v : ℕ). bit_and v (term_word x b q)) (ap (λ v. v.word) (copy.grew.keeps x p h))
-          ∙ ap (bit_and (term_word x a p)) (ap (λ v. v.word) (copy.value x));
+          last.value x r ∙ ap (λ (v : ℕ). bit_and v (term_word x b q)) (ap (λ v. v.word) (copy.grew.keeps x p entry.width.0))
+          ∙ counts_where (meets u (state_at (at_entry x) u.entry)) (term_word x a p) (term_word x b q) (term_word x source s) (entry.value x r)
+          (λ h. ap (λ v. v.word) (copy.value x (met_by u facts x said r h)));
     }
 
 -- the first false line, of one line and more
@@ -71,15 +92,6 @@ all_lines : (e : Endian) (lines : List NoteLine) (s : State) → false_line e li
     list_all (λ l. is_true (value e l s s)) (map (λ l. l.says) lines) ≡ true
 all_lines e [] s h = refl
 all_lines e (l ∷ lines) s h = all_lines_by (is_true (value e l.says s s)) _ (false_line e lines s s) l.line h (all_lines e lines s)
-
--- two tests that are both true
-both_true : (p q : Bool) → (p && q) ≡ true → (p ≡ true) × (q ≡ true)
-both_true true q h = (refl, h)
-both_true false q h = absurd (false≢true h)
-
-true_both : (p q : Bool) → p ≡ true → q ≡ true → (p && q) ≡ true
-true_both true q h k = k
-true_both false q h k = h
 
 -- the test of the entry condition
 lines_met : (u : UnrolledProgram) (s : State) → (meets u s ≡ true) ↔ MeetsLines u s

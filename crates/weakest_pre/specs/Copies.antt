@@ -43,10 +43,14 @@ pub record AreMarkedFrom (nodes : List TermNode) (root from : ℕ) (marks : List
 abbrev pub AreReached : List TermNode → (root : ℕ) → List Bool → Type 0
 AreReached nodes root marks = AreMarkedFrom nodes root 0 marks
 
--- of each marked place among the first there is a copy, with its width and its value
-pub record AreCopies (source new : List TermNode) (marks : List Bool) (copies : List Term) : Type 0 where
+-- every reading
+abbrev pub Always : TermReading → Type 0
+Always x = Unit {0}
+
+-- of each marked place among the first there is a copy, with its width, and with its value under some readings
+pub record AreCopies (P : TermReading → Type 0) (source new : List TermNode) (marks : List Bool) (copies : List Term) : Type 0 where
   pub widths : (i : ℕ) → i < length copies → is_marked marks i ≡ true → HasWidth new (width_of (node_at source i)) (copy_at copies i)
-  pub values : (x : TermReading) (i : ℕ) → i < length copies → is_marked marks i ≡ true → term_value x new (copy_at copies i) ≡ term_value x source i
+  pub values : (x : TermReading) → P x → (i : ℕ) → i < length copies → is_marked marks i ≡ true → term_value x new (copy_at copies i) ≡ term_value x source i
 
 -- a node is that of a marked place, over other places
 pub record IsOfMarked (source : List TermNode) (marks : List Bool) (m : TermNode) : Type 0 where

@@ -5,7 +5,7 @@ ghost use Rattle.std.specs.List.{AllByRecursion};
 ghost use Rattle.walk_spec.specs.Terms.{AreTyped};
 ghost use Rattle.term_dag.specs.Nodes.{node_of};
 ghost use Rattle.term_dag.specs.Made.{moved, operands};
-ghost use Rattle.weakest_pre.specs.Copies.{AreCopies, AreMarkedFrom, AreReached, IsCopy, IsCopyOf, copy_at, is_marked, marked, visited};
+ghost use Rattle.weakest_pre.specs.Copies.{Always, AreCopies, AreMarkedFrom, AreReached, IsCopy, IsCopyOf, copy_at, is_marked, marked, visited};
 
 use std::alloc::{AllocError, Global};
 use term_dag::{Dag, Node, Term};
@@ -105,7 +105,7 @@ fn mark_reached(marks: &mut [bool], source: &Dag, root: Term)
 }
 
 /// The places up to a root, each with whether the root reaches it. The error is want of memory.
-fn reached(alloc: Global, source: &Dag, root: Term) -> Result<Vec<bool>, AllocError>
+pub fn reached(alloc: Global, source: &Dag, root: Term) -> Result<Vec<bool>, AllocError>
     requires typed { AreTyped source.now }
     requires root { root.0 < length source.now }
     ensures { IfOk result (λ m. AreReached source.now root.0 m.items) }
@@ -124,7 +124,7 @@ fn copy_of(copies: &[Term], term: Term) -> Term
 }
 
 /// The node over the copies of the terms that it is over.
-fn moved(copies: &[Term], node: Node) -> Node
+pub fn moved(copies: &[Term], node: Node) -> Node
     requires { AllByRecursion (λ a. a < length copies.now) (operands (node_of node)) }
     ensures { node_of result ≡ moved (copy_at copies.now) (node_of node) }
 {
@@ -238,7 +238,7 @@ fn kept(
     requires place { place < length marks.now }
     requires within { place < length source.now }
     requires count { length copies.now ≡ place }
-    requires copies { AreCopies source.now dag.old marks.now copies.now }
+    requires copies { AreCopies Always source.now dag.old marks.now copies.now }
     ensures { IfOk result (λ t. IsCopy source.now dag.old dag.new marks.now place t.0) }
 {
     if marks[place as usize] {

@@ -3,6 +3,8 @@
 
 mod copies;
 mod entry;
+mod facts;
+mod folding;
 
 ghost use Rattle.std.specs.Prelude.{◌≡◌, [], IfOk};
 ghost use Rattle.walk_spec.specs.Terms.{AreTyped, HasWidth};
@@ -14,28 +16,30 @@ ghost use Rattle.question_form.specs.Questions.{passive_of, program_of_question,
 ghost use Rattle.weakest_pre.specs.Entry.{IsEntryBit};
 ghost use Rattle.weakest_pre.specs.Roots.{IsTied};
 
-use crate::copies::copied;
 use crate::entry::{both, entry_bit};
+use crate::facts::Facts;
+use crate::folding::folded_copy;
 use question_form::{Kind, Passive, Question};
 use std::alloc::{AllocError, Global};
 use term_dag::{Dag, Term};
 
-/// Whether a bit is 1, and one of other terms, which is copied. The error is want of memory.
+/// Whether the entry condition is met, and a bit of the passive program is 1, which is copied. What the entry condition says of registers is put into the copy:
+/// it counts only where the condition is met. The error is want of memory.
 fn tied(
     alloc: Global,
     dag: &mut Dag,
-    source: &Dag,
-    first: Term,
-    second: Term,
+    passive: &Passive,
+    entry: Term,
+    end: Term,
 ) -> Result<Term, AllocError>
-    requires typed { AreTyped source.now }
-    requires old { AreTyped dag.old }
-    requires first { HasWidth dag.old 1 first.0 }
-    requires second { HasWidth source.now 1 second.0 }
-    ensures { IfOk result (λ t. IsTied source.now dag.old dag.new first.0 second.0 t.0) }
+    requires typed { AreTyped passive.now.dag }
+    requires entry { IsEntryBit (unrolled_of passive.now.unrolled.now) [] dag.old entry.0 }
+    requires end { HasWidth passive.now.dag 1 end.0 }
+    ensures { IfOk result (λ t. IsTied passive.now.dag dag.old dag.new entry.0 end.0 t.0) }
 {
-    let second = copied(alloc, dag, source, second)?;
-    let bit = both(dag, first, second)?;
+    let facts = Facts::of_entry(alloc, passive.unrolled)?;
+    let end = folded_copy(alloc, dag, &passive.dag, &facts, end)?;
+    let bit = both(dag, entry, end)?;
     Ok(bit)
 }
 
@@ -55,18 +59,19 @@ fn root(
     match kind {
         Kind::Entry => Ok(entry),
         Kind::Fail => {
-            let bit = tied(alloc, dag, &passive.dag, entry, passive.fails)?;
+            let bit = tied(alloc, dag, passive, entry, passive.fails)?;
             Ok(bit)
         }
         Kind::Turn => {
-            let bit = tied(alloc, dag, &passive.dag, entry, passive.turns)?;
+            let bit = tied(alloc, dag, passive, entry, passive.turns)?;
             Ok(bit)
         }
     }
 }
 
 /// A question of a passive program as a term of one bit: whether the entry condition is met, but for the bytes of the file, and the run of the points ends as
-/// the question asks. Of the program's terms those are copied, as they are, that the question reaches. The error is want of memory.
+/// the question asks. Of the program's terms those are copied that the question reaches, folded by what the entry condition says of registers where that makes
+/// them no more. The error is want of memory.
 pub fn question<'a>(
     alloc: Global,
     passive: &'a Passive<'a>,

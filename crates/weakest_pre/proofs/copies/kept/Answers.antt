@@ -2,6 +2,7 @@ use Rattle.std.proofs.Common.{◌<◌, ℕ, sym, subst, length}
 use Rattle.std.specs.List.{AllByRecursion}
 use Rattle.walk_spec.specs.Terms.{TermNode, IsTypedOver, node_at}
 use Rattle.term_dag.specs.Made.{operands}
+use Rattle.weakest_pre.specs.Copies.{Always}
 use Rattle.weakest_pre.proofs.Marks.{operands_before}
 use Rattle.weakest_pre.proofs.Copying.{copy_typed, copy_made, copy_left}
 use Rattle.weakest_pre.proofs.copies.kept.Goals as goal
@@ -16,7 +17,7 @@ moved-requires c =
 pub keep-requires : goal.keep-requires
 keep-requires c =
     subst (IsTypedOver c.args.dag.now) (sym c.moved.ensures)
-    (copy_typed c.args.source.now c.args.dag.now c.args.marks.now c.requires.reached.0 c.args.place c.args.copies.now _ c.requires.typed c.requires.reached.1
+    (copy_typed Always c.args.source.now c.args.dag.now c.args.marks.now c.requires.reached.0 c.args.place c.args.copies.now _ c.requires.typed c.requires.reached.1
     c.requires.place
     c.requires.within c.requires.count c.requires.copies c.if-marks-place.true c.node.ensures)
 

@@ -1,0 +1,26 @@
+use Rattle.std.proofs.Common.{◌≡◌, ◌<◌, List, Bool, length, subst, arith}
+use Rattle.weakest_pre.specs.Folded.{IsMetBy, IsFolded}
+use Rattle.weakest_pre.proofs.FoldedCopies.{folding_more, folding_done}
+use Rattle.weakest_pre.proofs.folding.folded_root.Goals as goal
+
+pub loop-place-preserved : goal.loop-place-preserved
+loop-place-preserved c =
+    let known = IsMetBy c.args.facts.now in
+    let source = c.args.source.now in
+    let marks = c.in_ok-marks.marks in
+    let place = c.loop-place.place in
+    let count = c.in_ok-marks.ensures.count in
+    let within : place < length source = omega (arith, count, marks.ok.0, c.requires.root) in
+    folding_more known source c.args.dag.now c.loop-place.dag _ marks.items c.loop-place.copies.items _ place c.in_ok-term.term within c.loop-place.invariant
+    (subst (λ (l : List Bool). IsFolded known source c.loop-place.dag c.folded.new.dag l place c.in_ok-term.term.0) c.deref.ensures.value
+    c.in_ok-term.ensures)
+    c.in_ok-push.ensures.items
+
+pub returns : goal.returns
+returns c =
+    let marks = c.in_ok-marks.marks in
+    let all : c.loop-place.place ≡ length marks.items = omega (arith, marks.ok.0) in
+    folding_done (IsMetBy c.args.facts.now) c.args.source.now c.args.dag.now c.loop-place.dag marks.items c.loop-place.copies.items c.args.root.0
+    c.loop-place.place c.index.result.now c.requires.old
+    c.requires.root all
+    c.in_ok-marks.ensures c.loop-place.invariant c.index.ensures
