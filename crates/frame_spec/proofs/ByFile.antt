@@ -55,6 +55,35 @@ module _ (P : Place → Type 0) (k : ℕ) where
   stepped t n at (Leaves s) h = tt
   stepped t n at (Breaks l) h = tt
 
+-- behind a contract step that writes no kept byte
+module _ (f : Frame) (asked : ℕ → Bool) (x : Contract) (s : State) (to : ℕ) (G : Content) (h : Sound f.program asked s) (ok : IsContent G)
+    (small : to < 2 ^ 32) (clean : list_any (λ a. is_kept (f.program.loaded a)) (written f.program.machine.endian x.writes s) ≡ false) where
+  if_below : (n : ℕ) (b : Bool) (u v : ℕ) → u < n → v < n → (if b then u else v) < n
+  if_below n true u v a c = a
+  if_below n false u v a c = c
+
+  kept_there : (a : ℕ) (c : Cell) → a < 2 ^ 32 → f.program.loaded a ≡ Some c → kept c ≡ true → asked a ≡ true → (state_after f x s to G).mem a ≡ c.byte
+  kept_there a c l e k q = elim (truth (covers f.program.machine.endian x.writes s a)) [
+    | inl t ↦ (let i = any_is (nat_eq a) (written f.program.machine.endian x.writes s) t in
+        let at : i.0 ≡ a = sym (same_number a i.0 i.2) in
+        absurd (not_any (λ b. is_kept (f.program.loaded b)) (written f.program.machine.endian x.writes s) clean i.0 i.1
+        (ap (λ b. is_kept (f.program.loaded b)) at ∙ ap is_kept e ∙ k)))
+    | inr n ↦ (let low : nat_lt a 4294967296 ≡ true = grind (arith, nat_tests) in
+        ap (λ b. if b && not (covers f.program.machine.endian x.writes s a) then s.mem a else G.mem a) low
+        ∙ ap (λ b. if not b then s.mem a else G.mem a) n ∙ h.0 a c l e k q)
+  ]
+
+  pub sound_after : Sound f.program asked (state_after f x s to G)
+  sound_after = (
+    kept_there,
+    record {
+      pc = small;
+      regs = λ r. if_below (2 ^ 32) (keeps_register f x r) (s.regs r) (G.regs r) (h.1.regs r) (ok.regs r);
+      flags = λ n. if_below 2 (keeps_flag f x n) (s.flags n) (G.flags n) (h.1.flags n) (ok.flags n);
+      mem = λ a. if_below 256 (keeps_byte f x s a) (s.mem a) (G.mem a) (h.1.mem a) (ok.mem a);
+    },
+  )
+
 module _ (f : Frame) (lawful : HasLawfulRows f.program) (memory : ReadsMemory f.program) where
   abbrev p : Program
   p = f.program
@@ -160,35 +189,6 @@ module _ (f : Frame) (lawful : HasLawfulRows f.program) (memory : ReadsMemory f.
         unless_in (is_outside f.own p.machine.endian entry (stored_by_row (row_of_place f c) c.state)) (step p entry c choice) refl
         (subst (ArrivesIn (Sound p every)) (sym (step_same p memory c.state h.0.0 entry c.stack choice)) (step_in p every lawful entry c choice h.0))
 
-  -- behind a contract step that writes no kept byte
-  module _ (x : Contract) (s : State) (to : ℕ) (G : Content) (h : Sound p every s) (ok : IsContent G) (small : to < 2 ^ 32)
-      (clean : list_any (λ a. is_kept (p.loaded a)) (written p.machine.endian x.writes s) ≡ false) where
-    if_below : (n : ℕ) (b : Bool) (u v : ℕ) → u < n → v < n → (if b then u else v) < n
-    if_below n true u v a c = a
-    if_below n false u v a c = c
-
-    kept_there : (a : ℕ) (c : Cell) → a < 2 ^ 32 → p.loaded a ≡ Some c → kept c ≡ true → every a ≡ true → (state_after f x s to G).mem a ≡ c.byte
-    kept_there a c l e k q = elim (truth (covers p.machine.endian x.writes s a)) [
-      | inl t ↦ (let i = any_is (nat_eq a) (written p.machine.endian x.writes s) t in
-          let at : i.0 ≡ a = sym (same_number a i.0 i.2) in
-          absurd (not_any (λ b. is_kept (p.loaded b)) (written p.machine.endian x.writes s) clean i.0 i.1 (ap (λ b. is_kept (p.loaded b)) at ∙ ap is_kept e
-          ∙ k)))
-      | inr n ↦ (let low : nat_lt a 4294967296 ≡ true = grind (arith, nat_tests) in
-          ap (λ b. if b && not (covers p.machine.endian x.writes s a) then s.mem a else G.mem a) low
-          ∙ ap (λ b. if not b then s.mem a else G.mem a) n ∙ h.0 a c l e k q)
-    ]
-
-    sound_after : Sound p every (state_after f x s to G)
-    sound_after = (
-      kept_there,
-      record {
-        pc = small;
-        regs = λ r. if_below (2 ^ 32) (keeps_register f x r) (s.regs r) (G.regs r) (h.1.regs r) (ok.regs r);
-        flags = λ n. if_below 2 (keeps_flag f x n) (s.flags n) (G.flags n) (h.1.flags n) (ok.flags n);
-        mem = λ a. if_below 256 (keeps_byte f x s a) (s.mem a) (G.mem a) (h.1.mem a) (ok.mem a);
-      },
-    )
-
   module _ (G : Content) (ok : IsContent G) (entry : State) where
     module _ (x : Contract) (c : Place) (to : ℕ) (below : List ℕ) (h : Sound p every c.state) (words : AreWords (to ∷ below)) where
       abbrev back : Place
@@ -203,7 +203,7 @@ module _ (f : Frame) (lawful : HasLawfulRows f.program) (memory : ReadsMemory f.
       writes_in true b e = tt
       writes_in false true e = tt
       writes_in false false e =
-          returns_in (false_line p.machine.endian x.gives back.state c.state) (sound_after x c.state to G h ok words.0 e, words.1)
+          returns_in (false_line p.machine.endian x.gives back.state c.state) (sound_after f every x c.state to G h ok words.0 e, words.1)
 
       needs_in : (o : Option ℕ) → LandsIn Good (needs_by o f entry x c back)
       needs_in (Some l) = tt

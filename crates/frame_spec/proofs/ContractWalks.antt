@@ -313,7 +313,7 @@ module _ (f : Frame) (contracts : List Contract) (k : ℕ) (u : UnrolledProgram)
 
     back_aim : (aim : Aim) → IsAim f k u i q.point (ToAddress below to) aim → Behind (lands f from d) aim
     back_aim (OnTo j) h =
-        subst (λ z. Behind z (OnTo j)) (sym (lands_on h.0)) (inl (j, ap (WalkIsAt j) contents, h.3))
+        subst (λ z. Behind z (OnTo j)) (sym (lands_on h.0)) (inl (j, ap (WalkIsAt j) contents, h.2, h.3))
     back_aim (IntoHead b l) h =
         subst (λ z. Behind z (IntoHead b l)) (sym (lands_head h.0))
         (ap (λ z. WalkArrives z l (content_of gift_state)) h.1 ∙ ap (λ z. WalkArrives to z (content_of gift_state)) h.2

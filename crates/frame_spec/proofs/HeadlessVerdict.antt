@@ -22,13 +22,13 @@ exited (tables.Exited a m) at n e = let p : a ≡ at = cc in let q : m ≡ n = c
 exited (tables.Failed v a m) at n e = absurd (cc)
 exited (tables.Turned a m) at n e = absurd (cc)
 
-failed : (x : tables.Run) (v : FrameEvent) (at n : ℕ) → as_frame_run x ≡ Failed v at n → (w : Event) × (x ≡ tables.Failed w at n)
+pub failed : (x : tables.Run) (v : FrameEvent) (at n : ℕ) → as_frame_run x ≡ Failed v at n → (w : Event) × (x ≡ tables.Failed w at n)
 failed (tables.Going t m c) v at n e = absurd (cc)
 failed (tables.Exited a m) v at n e = absurd (cc)
 failed (tables.Failed w a m) v at n e = let p : a ≡ at = cc in let q : m ≡ n = cc in (w, ap (λ z. tables.Failed w z m) p ∙ ap (tables.Failed w at) q)
 failed (tables.Turned a m) v at n e = absurd (cc)
 
-turned : (x : tables.Run) (at n : ℕ) → as_frame_run x ≡ Turned at n → x ≡ tables.Turned at n
+pub turned : (x : tables.Run) (at n : ℕ) → as_frame_run x ≡ Turned at n → x ≡ tables.Turned at n
 turned (tables.Going t m c) at n e = absurd (cc)
 turned (tables.Exited a m) at n e = absurd (cc)
 turned (tables.Failed v a m) at n e = absurd (cc)
@@ -51,15 +51,15 @@ module _ (p : Program) (k : ℕ) where
   no_origin e None o = refl
   no_origin e (Some c) o = absurd (let t = o.1.head in let c : true ≡ false = sym t ∙ no_head p c.state.pc in cc)
 
-  none_at : (l : List Assert) → list_any (λ x. is_head f x.at) l ≡ false
+  pub none_at : (l : List Assert) → list_any (λ x. is_head f x.at) l ≡ false
   none_at [] = refl
   none_at (a ∷ l) = ap (λ z. z || list_any (λ x. is_head f x.at) l) (no_head p a.at) ∙ none_at l
 
   -- a start of the tables as one of the frame
-  abbrev lifted : endings.Start → Start
+  abbrev pub lifted : endings.Start → Start
   lifted s = record { state = s.state; head = None; choices = s.choices; given = λ i. nothing }
 
-  is_start : (s : endings.Start) → verdict.IsStart p s → IsStart f k (lifted s)
+  pub is_start : (s : endings.Start) → verdict.IsStart p s → IsStart f k (lifted s)
   is_start s is = record {
     entry = is.entry;
     origin = tt;
@@ -68,7 +68,7 @@ module _ (p : Program) (k : ℕ) where
     is_run = λ b. never_broken (tables.run p k s b.0) b.1 b.2 b.3 (sym (run_is p k (lifted s) refl b.0) ∙ b.4);
   }
 
-  was_start : (s : Start) → IsStart f k s → verdict.IsStart p (as_start s)
+  pub was_start : (s : Start) → IsStart f k s → verdict.IsStart p (as_start s)
   was_start s is = record { entry = is.entry; choices = is.choices }
 
   module _ (s : Start) (is : IsStart f k s) where
@@ -81,10 +81,10 @@ module _ (p : Program) (k : ℕ) where
     exits_from : verdict.RunExits p k (as_start s) → RunExits f k s
     exits_from r = (r.0, r.1, r.2, at r.0 ∙ ap as_frame_run r.3)
 
-    fails_to : RunFails f k s → verdict.RunFails p k (as_start s)
+    pub fails_to : RunFails f k s → verdict.RunFails p k (as_start s)
     fails_to r = let q = failed (tables.run p k (as_start s) r.0) r.3 r.1 r.2 (sym (at r.0) ∙ r.4) in (r.0, r.1, r.2, q.0, q.1)
 
-    fails_from : verdict.RunFails p k (as_start s) → RunFails f k s
+    pub fails_from : verdict.RunFails p k (as_start s) → RunFails f k s
     fails_from r = (r.0, r.1, r.2, OfStep r.3, at r.0 ∙ ap as_frame_run r.4)
 
     turns_to : RunTurns f k s → verdict.RunTurns p k (as_start s)

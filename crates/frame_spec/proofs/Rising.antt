@@ -81,7 +81,7 @@ later_on u a t b (Turned at n) h g = tt
 later_on u a t b (Cut at n) h g = tt
 later_on u a t b (Broken l at n) h g = tt
 
-join : (u a : ℕ) (x y : Run) → Later u a x → Between x y → Later u a y
+pub join : (u a : ℕ) (x y : Run) → Later u a x → Between x y → Later u a y
 join u a (Going t m c) y h g = later_on u a t c.state.pc y h g
 join u a (Calling t m c) y h g = later_on u a t c.state.pc y h g
 join u a (Arriving t m c) (Going v o d) h g = absurd g
@@ -140,7 +140,7 @@ module _ (f : Frame) (k : ℕ) (start : Start) where
   over_later None t n at c = tt
   over_later (Some l) t n at c = tt
 
-  one_later : (r : Run) → Between r (one_more f k start r)
+  pub one_later : (r : Run) → Between r (one_more f k start r)
   one_later (Going t m c) = stepped_later k t m c.state.pc (frame_step f start.state c (start.choices m))
   one_later (Calling t m c) = stepped_later k t m c.state.pc (contract_step f start.state c (start.given m))
   one_later (Arriving t m c) = over_later (false_assert f.program.machine.endian f.program.notes.asserts c.state start.state) t m c.state.pc c

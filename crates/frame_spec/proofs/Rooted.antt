@@ -118,7 +118,7 @@ module _ (f : Frame) (contracts : List Contract) (k : ℕ) (u : UnrolledProgram)
       un.points.once i j l (subst (λ z. j < z) (sym (map_length u.points)) m)
       (map_get u.points i (omega arith) ∙ ap Some e ∙ sym (map_get u.points j m))
 
-  same_place : (i j : ℕ) → i < length u.points → j < length u.points → (point_at u i).point ≡ (point_at u j).point → i ≡ j
+  pub same_place : (i j : ℕ) → i < length u.points → j < length u.points → (point_at u i).point ≡ (point_at u j).point → i ≡ j
   same_place i j l m e = elim (truth (nat_lt i j)) [
     | inl t ↦ absurd (not_twice i j (grind (arith, nat_tests)) m e)
     | inr t ↦ elim (truth (nat_lt j i)) [

@@ -87,7 +87,7 @@ module _ (f : Frame) (lawful : HasLawfulRows f.program) (memory : ReadsMemory f.
       ]
 
 -- where nothing differs that the contract may not change
-in_range : (n k r : ℕ) → n ≤ r → r < n + k → Contains (from_to n k) r
+pub in_range : (n k r : ℕ) → n ≤ r → r < n + k → Contains (from_to n k) r
 in_range n zero r l h = absurd (omega arith)
 in_range n (suc k) r l h = elim (truth (n == r)) [
   | inl t ↦ (0, omega arith, same_number n r t)

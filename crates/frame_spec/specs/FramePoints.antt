@@ -81,6 +81,12 @@ pub record ArePoints (f : Frame) (k : ℕ) (list : List Point) : Type 0 where
   pub only : (q : Point) → Contains list q → IsPoint f k q
   pub once : (i j : ℕ) → i < j → j < length list → slice_get list i ≢ slice_get list j
 
+-- there are more than max points
+abbrev pub HasMore : Frame → (k max : ℕ) → Type 0
+HasMore f k max =
+    (list : List Point) × (max < length list) × ((q : Point) → Contains list q → IsPoint f k q)
+    × ((i j : ℕ) → i < j → j < length list → slice_get list i ≢ slice_get list j)
+
 -- the assert lines at an address, invariants among them
 abbrev pub lines_at : Frame → ℕ → List Expr
 lines_at f a = map (λ x. x.says) (filter (λ x. x.at == a) f.program.notes.asserts)
@@ -107,10 +113,10 @@ exit_lines f = by f.own
     by None = says_of f.program.notes.ensures
     by (Some x) = says_of x.gives
 
--- the lines that are evaluated at a point: those of its contract; or those of its address, those at the heads that its edges lead to, and those at the exit
+-- the lines that are evaluated at a point: those of its contract or of its address, those at the heads that its edges lead to, and those at the exit
 abbrev pub evaluated : Frame → Point → List Expr
-evaluated f q = if q.contract then contract_lines (contract_at f.stepped q.at) else
-    lines_at f q.at ++ flat_map (lines_of_end f) (frame_edges f q)
+evaluated f q =
+    (if q.contract then contract_lines (contract_at f.stepped q.at) else lines_at f q.at) ++ flat_map (lines_of_end f) (frame_edges f q)
     ++ (if list_any is_exit (frame_edges f q) then exit_lines f else [])
 
 -- how many bytes a contract may write

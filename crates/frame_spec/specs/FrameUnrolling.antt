@@ -1,19 +1,22 @@
 -- What the unrolled frame of a frame is: as without heads and contracts, with several roots, arrivals and contract steps.
-use Rattle.std.specs.Prelude.{◌⊎◌, ℕ, suc, ◌≡◌, ◌<◌, ◌^◌, Bool, true, false, not, ◌==◌, ◌&&◌, ◌||◌, nat_eq, nat_lt, if◌then◌else◌, List, [], ◌∷◌, ◌++◌, ◌↔◌, Contains, Option, Some, None, length, map, filter, sum_by, slice_index}
+use Rattle.std.specs.Prelude.{◌⊎◌, ℕ, suc, ◌≡◌, ◌≢◌, ◌≤◌, ◌+◌, ◌<◌, ◌^◌, Bool, true, false, not, ◌==◌, ◌&&◌, ◌||◌, nat_eq, nat_lt, if◌then◌else◌, List, [], ◌∷◌, ◌++◌, ◌↔◌, Contains, Option, Some, None, length, map, filter, sum_by, slice_index}
 use Rattle.std.specs.List.{list_any, AllZip}
 use Rattle.word_spec.specs.State.{State, IsState}
 use Rattle.machine_spec.specs.Machine.{Outcome, Goes, Raises, Row, addresses, exception_number}
 use Rattle.bilv_spec.specs.Notes.{Expr, Number, Register, Flag, Pc, Bound, Memory, Old, Not, Binary, NoteLine, Assert}
-use Rattle.machine_spec.specs.Bil.{Statements, Empty}
+use Rattle.machine_spec.specs.Bil as bil
+use Rattle.machine_spec.specs.Bil.{BilVariable, Statements, Empty}
+use Rattle.machine_spec.specs.BilTyping.{IsWellTyped}
+use Rattle.machine_spec.specs.BilCounts.{list_weight, byte_loads, byte_stores, memory_choices, chosen_stores, unknowns, has_no_loop, has_no_special, nesting, list_names_only}
 use Rattle.bilv_spec.specs.Graph.{may_return, LeadsTo}
 use Rattle.bilv_spec.specs.LiveFlags.{names_flag, reads_by, surely_by, asserts_flag, ensures_flag}
-use Rattle.bilv_spec.specs.Run.{Program, fetchable}
+use Rattle.bilv_spec.specs.Run.{Program, fetchable, all_kept}
 use Rattle.bilv_spec.specs.Points.{EdgeEnd, ToAddress, ToExit, fall_ends, jump_ends, same_end, file_row, file_word, IsCount, is_kept_at, is_known_at, begins_run}
 use Rattle.walk_spec.specs.Unrolled.{is_in, byte_of_runs}
 use Rattle.walk_spec.specs.Unrolling.{HoldsLiteral, jumps, address_of, stop_event, row_draws, file_known, AreRuns}
 use Rattle.frame_spec.specs.Frames.{Content, Contract, Frame, OfStep, content_at, content_of, is_head, is_invariant, invariants_of, contract_at}
-use Rattle.frame_spec.specs.FramePoints.{Anchor, AtEntry, AtHead, Point, ArePoints, IsAnchor, triple, first_of, is_entry, is_cut, frame_edges, end_of, point_price, point_loads, point_stores}
-use Rattle.frame_spec.specs.FrameWalk.{Check, Aim, OnTo, IntoHead, Outward, OverLast, ToEvent, Cutting, PointExit, FalseCheck, FalseNeed, Always, Raising, WritingKept, WritingOutside, NotGiven, Unaligned, Along, Executes, Arrives, StepsOver, UnrolledPoint, Root, Own, UnrolledProgram, point_at, Leaving, GoesOn, RaisesOne, IsRooted, left_by, stored_by, Walk, WalkIsAt, WalkArrives, WalkFails, WalkTurns, WalkBreaks, walk_from}
+use Rattle.frame_spec.specs.FramePoints.{Anchor, AtEntry, AtHead, Point, IsPoint, ArePoints, IsAnchor, triple, first_of, is_entry, is_cut, frame_edges, end_of, point_price, point_loads, point_stores}
+use Rattle.frame_spec.specs.FrameWalk.{Check, Aim, OnTo, IntoHead, Outward, OverLast, ToEvent, Cutting, PointExit, FalseCheck, FalseNeed, Always, Raising, WritingKept, WritingOutside, NotGiven, Unaligned, Along, Action, Executes, Arrives, StepsOver, UnrolledPoint, Root, Own, UnrolledProgram, point_at, root_at, Leaving, GoesOn, RaisesOne, IsRooted, left_by, stored_by, Walk, WalkIsAt, WalkArrives, WalkFails, WalkTurns, WalkBreaks, walk_from}
 use Rattle.frame_spec.specs.FrameRuns.{FrameStep, Halts, GoesTo, Reaches, Breaks, contract_step}
 use Rattle.frame_spec.specs.FrameLaws.{HasPlaces}
 
@@ -62,6 +65,33 @@ pub record IsCarriedOf (reads : ℕ → Type 0) (s : State) (c : Content) : Type
   pub regs : c.regs ≡ s.regs
   pub mem : c.mem ≡ s.mem
   pub flags : (f : ℕ) → reads f → c.flags f ≡ s.flags f
+
+-- A list may name the registers and flags of the frame and the memory. Registers go by their numbers, whatever their bank.
+abbrev pub is_variable_of : UnrolledProgram → BilVariable → Bool
+is_variable_of u (bil.Register b r) = list_any (nat_eq r) u.registers
+is_variable_of u (bil.Flag g) = nat_lt g u.flags
+is_variable_of u bil.Mem = true
+is_variable_of u (bil.Local x n) = false
+
+-- A list that terms can be made of within the price of its point, as without heads and contracts.
+pub record IsRunnable (u : UnrolledProgram) (q : UnrolledPoint) (list : Statements) : Type 0 where
+  pub typed : IsWellTyped list
+  pub no_loop : has_no_loop list ≡ true
+  pub no_special : has_no_special list ≡ true
+  pub nests : nesting list ≤ 2
+  pub picks : memory_choices list ≡ 0
+  pub steady : chosen_stores list ≡ 0
+  pub names : list_names_only list (is_variable_of u) ≡ true
+  pub draws : q.draws ≡ false → unknowns list ≡ 0
+  pub weight : list_weight list + 64 ≤ q.row
+  pub loads : byte_loads list ≤ q.loads
+  pub byte_stores : byte_stores list ≤ q.stores
+
+-- an action that terms can be made of; an arrival has none, and what a contract step takes is of its own form
+abbrev pub CanBeTerms : UnrolledProgram → UnrolledPoint → Action → Type 0
+CanBeTerms u q (Executes list) = IsRunnable u q list
+CanBeTerms u q Arrives = Unit {0}
+CanBeTerms u q (StepsOver x) = Unit {0}
 
 -- the point is left as the row is
 abbrev pub LeavesAs : (reads : ℕ → Type 0) → Outcome → Leaving → Type 0
@@ -170,7 +200,18 @@ pub record IsCounted (f : Frame) (q : UnrolledPoint) : Type 0 where
 
 pub record IsPlace (f : Frame) (contracts : List Contract) (k : ℕ) (u : UnrolledProgram) (i : ℕ) (q : UnrolledPoint) : Type 0 where
   pub does : DoesPlace f contracts k u i q
+  pub terms : CanBeTerms u q q.does
   pub counted : IsCounted f q
+
+-- the literal of the row at a point, whose four bytes are kept
+pub record IsLiteralOf (f : Frame) (k a : ℕ) : Type 0 where
+  pub point : Point
+  pub is_point : IsPoint f k point
+  pub executes : point.contract ≡ false
+  pub row : Row
+  pub is_row : file_row f.program point.at ≡ Some row
+  pub loads : row.literal point.at ≡ Some a
+  pub is_kept : all_kept f.program a ≡ true
 
 -- the invariants at a head, as lines
 abbrev pub lines_of : List Assert → List NoteLine
@@ -210,10 +251,12 @@ pub record IsUnrolling (f : Frame) (contracts : List Contract) (k : ℕ) (u : Un
   pub kept_runs : IsCount (begins_run f.program) (length u.kept)
   pub known : (a : ℕ) → a < 2 ^ 32 → byte_of_runs u.known a ≡ file_known f.program a
   pub known_bytes : IsCount (is_known_at f.program) (sum_by (λ r. r.count) u.known)
+  pub literals : (a : ℕ) → Contains u.literals a ↔ IsLiteralOf f k a
   pub points : ArePoints f k (map (λ q. q.point) u.points)
   pub first : (point_at u 0).point ≡ first_of f.program.entry AtEntry
   pub roots : (x : Root) → Contains u.roots x → (anchor : Anchor) × IsAnchor f k anchor × IsRootOf f u x anchor
   pub rooted : (anchor : Anchor) → IsAnchor f k anchor → (x : Root) × Contains u.roots x × IsRootOf f u x anchor
+  pub roots_once : (i j : ℕ) → i < j → j < length u.roots → (root_at u i).place ≢ (root_at u j).place
   pub places : (i : ℕ) → i < length u.points → IsPlace f contracts k u i (point_at u i)
 
 -- its places rise within their anchors, and its roots are those of its anchors
@@ -226,7 +269,7 @@ abbrev pub IsStep : Frame → (k : ℕ) → UnrolledProgram → Point → FrameS
 IsStep f k u q (Halts e) w = w ≡ WalkFails e
 IsStep f k u q (Breaks line) w = w ≡ WalkBreaks
 IsStep f k u q (GoesTo d) w =
-    ((j : ℕ) × (w ≡ WalkIsAt j (content_of d.state)) × ((point_at u j).point ≡ end_of f q d.stack d.state.pc))
+    ((j : ℕ) × (w ≡ WalkIsAt j (content_of d.state)) × (j < length u.points) × ((point_at u j).point ≡ end_of f q d.stack d.state.pc))
     ⊎ ((w ≡ WalkTurns) × ((end_of f q d.stack d.state.pc).turns ≡ suc k))
 IsStep f k u q (Reaches d) w = w ≡ WalkArrives d.state.pc (checks_at f d.state.pc) (content_of d.state)
 IsStep f k u q s w = ⊥

@@ -260,15 +260,16 @@ abbrev pub arrival_by : Option Check → Walk
 arrival_by None = WalkIsCut
 arrival_by (Some x) = WalkFails (check_event x)
 
+-- the flags below a number
+abbrev pub flags_below : ℕ → List ℕ
+flags_below zero = []
+flags_below (suc n) = n ∷ flags_below n
+
 -- a register or a flag differs that the frame's contract may not change
 abbrev pub has_changed : UnrolledProgram → Own → State → State → Bool
 has_changed u x entry new =
     list_any (λ r. not (list_any (nat_eq r) x.registers) && not (new.regs r == entry.regs r)) u.registers
     || list_any (λ g. not (list_any (nat_eq g) x.flags) && not (new.flags g == entry.flags g)) (flags_below u.flags)
-  where
-    flags_below : ℕ → List ℕ
-    flags_below zero = []
-    flags_below (suc n) = n ∷ flags_below n
 
 -- the exit of the frame is judged
 abbrev pub out_by : Option ℕ → (ℕ → FrameEvent) → Bool → Walk

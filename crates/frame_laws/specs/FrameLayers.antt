@@ -1,0 +1,51 @@
+-- What joins the layers below the clauses of a question of a frame to what is claimed of the frame.
+use Rattle.std.specs.Prelude.{ℕ, ◌≡◌, ◌<◌, ◌^◌, Bool, true, ◌&&◌, List, Contains}
+use Rattle.clause_spec.specs.Clauses.{Cnf, Satisfies}
+use Rattle.bilv_spec.specs.PointLaws.{HasLawfulRows}
+use Rattle.frame_spec.specs.Frames.{Contract, Frame, is_head}
+use Rattle.frame_spec.specs.FramePoints.{has_heads}
+use Rattle.frame_spec.specs.FrameQuestions.{Reading, Question, asks_head, IsTrueOver}
+use Rattle.frame_spec.specs.FrameWalk.{UnrolledProgram}
+use Rattle.frame_spec.specs.FrameUnrolling.{IsUnrolling}
+use Rattle.frame_laws.specs.RunOfFrame.{IsAmong, AsksKnown, AsksLiterals}
+use Rattle.frame_laws.specs.PartTerms.{PartReading, ArePartsInRange}
+use Rattle.frame_laws.specs.PassiveFrames.{part_reading, QuestionTerm, TellsQuestion}
+use Rattle.frame_laws.specs.FrameCells.{base_of, memory_of, BaseRead, Cells, read_address, TellsCells}
+use Rattle.frame_laws.specs.FrameClauseForm.{HasBits, input_list, MakesTrue, TellsClauses}
+use Rattle.frame_laws.specs.FrameAgreement.{HaveSameInputs}
+
+-- What the layers below the clauses have said of a question of a frame, over known bytes that are asked. Heads and the entry are addresses that a state can be
+-- at.
+pub record IsLayered (f : Frame) (contracts : List Contract) (k : ℕ) (question : Question) (asked : ℕ → Bool) (u : UnrolledProgram) (t : QuestionTerm)
+    (c : Cells) : Type 0 where
+  pub lawful : HasLawfulRows f.program
+  pub low : (a : ℕ) → is_head f a ≡ true → a < 2 ^ 32
+  pub among : IsAmong f contracts
+  pub unrolling : IsUnrolling f contracts k u
+  pub entry : u.entry < 2 ^ 32
+  pub asks_known : AsksKnown f asked
+  pub asks_literals : AsksLiterals f k asked
+  pub term : TellsQuestion u (has_heads f) question t
+  pub cells : TellsCells u (has_heads f) (has_heads f && asks_head question) t asked c
+
+-- A reading of the frame that has the bits of a valuation: those of some reading of terms with its registers, flags and choices in each part, and with the bytes
+-- that its memories have where the base reads read.
+pub record IsReadingOf (u : UnrolledProgram) (heads : Bool) (c : Cells) (v : ℕ → Bool) (r : Reading) : Type 0 where
+  pub reading : PartReading
+  pub in_range : ArePartsInRange reading
+  pub bits : HasBits (input_list u heads c) v reading
+  pub same : HaveSameInputs u heads 0 reading (part_reading u r)
+  pub gives : (b : BaseRead) → Contains c.reads b →
+      base_of reading b.part b.address ≡ memory_of (part_reading u r) b.part (read_address c reading b.address)
+
+-- Values that satisfy the clauses are those of a reading of which the question is true.
+abbrev pub FrameValuesGiveReading : Type 0
+FrameValuesGiveReading = (f : Frame) (contracts : List Contract) (k : ℕ) (question : Question) (asked : ℕ → Bool) (u : UnrolledProgram) (t : QuestionTerm)
+    (c : Cells) → IsLayered f contracts k question asked u t c → (cnf : Cnf) → TellsClauses u (has_heads f) c cnf →
+    (v : ℕ → Bool) → Satisfies v cnf.clauses → (r : Reading) × IsReadingOf u (has_heads f) c v r × IsTrueOver f asked k r question
+
+-- And the values of a reading of which the question is true make the cells true.
+abbrev pub FrameReadingMakesTrue : Type 0
+FrameReadingMakesTrue = (f : Frame) (contracts : List Contract) (k : ℕ) (question : Question) (asked : ℕ → Bool) (u : UnrolledProgram) (t : QuestionTerm)
+    (c : Cells) → IsLayered f contracts k question asked u t c → (r : Reading) → IsTrueOver f asked k r question → (v : ℕ → Bool) →
+    IsReadingOf u (has_heads f) c v r → MakesTrue u (has_heads f) c v
