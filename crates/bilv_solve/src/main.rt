@@ -2,12 +2,12 @@
 #![tactic(auto)]
 
 use cnf_solver::answer_words;
-use io_edges::{FileShelf, OutSink};
+use io_edges::{FileShelf, OutSink, words};
 use std::io;
 use std::process::ExitCode;
 
 fn main(rt: HostRuntime) -> ExitCode {
     let mut shelf = FileShelf::new(&rt);
     let mut out = OutSink::new(io::writer(&rt));
-    answer_words(&rt, &mut shelf, &mut out)
+    answer_words(rt.alloc(), words(&rt), &mut shelf, &mut out)
 }

@@ -3,7 +3,7 @@ use Rattle.std.specs.Prelude.{ℕ, ◌≡◌, ◌<◌, List, Option, Some, None,
 use Rattle.call_spec.specs.Outside.{Appends, Rose}
 use Rattle.call_spec.specs.Calls.{Answer, plain_answer, Surroundings, AfterRead}
 use Rattle.word_spec.specs.Texts.{line}
-use Rattle.cnf_solver.specs.Requests.{Request, lawful_request}
+use Rattle.cnf_solver.specs.Requests.{Request}
 use Rattle.cnf_solver.specs.Solutions.{IsSolved}
 
 -- what is written where the line is not lawful
@@ -22,7 +22,3 @@ pub data IsOutcome (s : Surroundings) (r : Option Request) (status : ℕ) : Type
   cut : (a : Answer) (n : ℕ) → IsDue s r a → n < length a.text → Appends s.text_before (take n a.text) s.text_after → Rose s.sink_before s.sink_after →
       status ≡ 7 → IsOutcome s r status
   no_memory : s.text_after ≡ s.text_before → status ≡ 8 → IsOutcome s r status
-
--- the outcome for some words of a command line
-abbrev pub IsProgramEnd : Surroundings → (status : ℕ) → Type 0
-IsProgramEnd s status = (words : List (List ℕ)) × IsOutcome s (lawful_request words) status

@@ -1,15 +1,13 @@
 //! The words of the command line, as `clap` reads them.
-ghost use Rattle.std.specs.Prelude.{◌≡◌, ◌≢◌, ◌≤◌, Some, None, IfOk, IfSome, IsErrOf, map, option_map, string_bytes, true, false, codes};
-ghost use Rattle.clap.specs.Words.{first_of, found_of, kind_of, matches_of, rows_of, rule_of};
+ghost use Rattle.std.specs.Prelude.{◌≡◌, ◌≤◌, Some, None, IfOk, IfSome, IsErrOf, map, option_map, string_bytes, true, false, codes};
+ghost use Rattle.clap.specs.Words.{first_of, found_of, matches_of, rows_of, rule_of};
 ghost use Rattle.command_line.specs.Lines.{IsMade, file_argument, number_in, number_option, whole_in};
 ghost use Rattle.cnf_solver.specs.Requests.{certificate_flag, is_set, lawful_request, request_in, request_of, solve_app, takes_line};
-ghost use Rattle.clap.specs.declared.error.kind.ErrorKind.TheVariants as kind;
 
 use crate::request::Request;
 use clap::builder::ValueParser;
-use clap::error::ErrorKind;
 use clap::{Arg, ArgAction, ArgMatches, Command};
-use command_line::LineError;
+use command_line::{LineError, line_error};
 use std::alloc::{AllocError, Global};
 
 // The required name of the file.
@@ -50,17 +48,6 @@ fn command<'a>(alloc: Global) -> Result<Command<'a>, AllocError>
         .arg(conflicts(alloc))?
         .arg(certificate(alloc))?;
     Ok(command)
-}
-
-fn line_error(error: &clap::Error) -> LineError
-    ensures memory { kind_of error.now ≡ kind.OutOfMemory → result ≡ LineError.Memory }
-    ensures usage { kind_of error.now ≢ kind.OutOfMemory → result ≡ LineError.Usage }
-{
-    if error.kind() == ErrorKind::OutOfMemory {
-        LineError::Memory
-    } else {
-        LineError::Usage
-    }
 }
 
 // What `clap` finds on the line.

@@ -1,4 +1,5 @@
-//! Tests of the questions of small programs of RISC-V as terms, as cells and as clauses, against runs of the instruction table, and of the logs of verdicts.
+//! Tests of the questions of small programs of RISC-V as terms, as cells and as clauses, against runs of the instruction table, and of the logs
+//! of verdicts and of searches.
 //!
 //! They stand apart so that each part is proved once, and not again with its tests.
 #![tactic(auto)]
@@ -15,6 +16,8 @@ mod logs;
 mod programs;
 #[cfg(test)]
 mod propagation;
+#[cfg(test)]
+mod searches;
 #[cfg(test)]
 mod starts;
 #[cfg(test)]

@@ -1,13 +1,13 @@
-//! A list with a loop, which no machine lifts: its size, a copy, its text, its type and its runs.
+//! Lists with loops, which no machine lifts, and a sum: sizes, copies, texts, types and runs.
 ghost use Rattle.std.specs.Prelude.{◌≡◌, true, IfOk};
-ghost use Rattle.machine_spec.specs.BilCounts.{list_names_only};
-ghost use Rattle.bil_ast.specs.Views.{statements};
+ghost use Rattle.machine_spec.specs.BilCounts.{list_names_only, names_only};
+ghost use Rattle.bil_ast.specs.Views.{expression, statements};
 ghost use Rattle.bil_eval.specs.Views.{is_machine};
 
-use bil_ast::{Bank, BilType, CastKind, Exp, Local, Stmt, Var, Width};
+use bil_ast::{Bank, BilType, BinaryOp, CastKind, Exp, Local, Stmt, Var, Width};
 use bil_eval::{End, Env, EvalFault, Machine, eval};
 use bil_print::print_stmts;
-use bil_types::{Need, TypeFault, check};
+use bil_types::{Need, TypeFault, check, type_of};
 use bv_word::Word;
 use byte_mem::{Bytes32, Endian};
 use std::alloc::{AllocError, Global};
@@ -22,6 +22,32 @@ fn spins(alloc: Global) -> Result<Vec<Stmt>, AllocError>
     let seen = Stmt::Special(String::from_str(alloc, "seen")?);
     let bit = Exp::Unknown(BilType::Bits(Width::new(1)));
     let list = vec![in alloc; Stmt::repeat(bit, vec![in alloc; seen]?)]?;
+    Ok(list)
+}
+
+/// A loop that never ends.
+fn endless(alloc: Global) -> Result<Vec<Stmt>, AllocError>
+    ensures { IfOk result (λ list. list_names_only (statements list.items) is_machine ≡ true) }
+{
+    let always = Exp::Constant(Word::new(1, 1));
+    let list = vec![in alloc; Stmt::repeat(always, Vec::new(alloc))]?;
+    Ok(list)
+}
+
+/// The sum of `x10` and a word.
+fn sum(alloc: Global, word: Word) -> Result<Exp, AllocError>
+    ensures { IfOk result (λ e. names_only (expression e) is_machine ≡ true) }
+{
+    let sum = Exp::binary(alloc, BinaryOp::Plus, Exp::Var(X10), Exp::Constant(word))?;
+    Ok(sum)
+}
+
+/// Adds 1 to `x10`.
+fn one_more(alloc: Global) -> Result<Vec<Stmt>, AllocError>
+    ensures { IfOk result (λ list. list_names_only (statements list.items) is_machine ≡ true) }
+{
+    let sum = sum(alloc, Word::new(32, 1))?;
+    let list = vec![in alloc; Stmt::Assign(X10, sum)]?;
     Ok(list)
 }
 
@@ -63,8 +89,9 @@ x10 := let v3_8 = mem[x10, be]:8 in (high:1[v3_8] @ v3_8)
     Ok(())
 }
 
+/// A word of 8 bits stands where 32 are asked by the first node, in a list and in an expression.
 #[test]
-fn faults_of_type_are_found(rt: HostRuntime) {
+fn faults_of_type_are_found(rt: HostRuntime) -> Result<(), AllocError> {
     let fault = TypeFault {
         place: 0,
         need: Need::Bits(Width::new(32)),
@@ -72,30 +99,52 @@ fn faults_of_type_are_found(rt: HostRuntime) {
     };
     let list = [Stmt::Jump(Exp::Constant(Word::new(8, 1)))];
     assert_eq!(rt; check(&list), Err(fault));
+    let sum = sum(rt.alloc(), Word::new(8, 1))?;
+    assert_eq!(rt; type_of(&sum), Err(fault));
+    Ok(())
 }
 
-/// How a list ends with a choice, from registers and a memory of zeros, within five turns.
-fn outcome(alloc: Global, list: &[Stmt], choice: u8) -> Result<End, EvalFault>
+/// How a list ends with a choice, from registers that all hold a value and a memory of zeros, within five turns, and what `x10` holds then.
+fn outcome(alloc: Global, list: &[Stmt], value: u32, choice: u8) -> Result<(End, u32), EvalFault>
     requires { list_names_only (statements list.now) is_machine ≡ true }
 {
     if check(list).is_err() {
-        return Ok(End::Exn(0));
+        return Ok((End::Exn(0), value));
     }
     let machine = Machine {
-        registers: [0; 32],
+        registers: [value; 32],
         flags: [false; 4],
         memory: Bytes32::new(alloc),
         choice,
     };
     let locals = Vec::new(alloc);
     let mut env = Env { machine, locals };
-    eval(alloc, list, &mut env, 5)
+    let end = eval(alloc, list, &mut env, 5)?;
+    Ok((end, env.machine.registers[10]))
+}
+
+#[test]
+fn sums_wrap(rt: HostRuntime) -> Result<(), Fail> {
+    let list = one_more(rt.alloc())?;
+    assert_eq!(rt;
+        outcome(rt.alloc(), &list, 0xffff_ffff, 0),
+        Ok((End::Next, 0))
+    );
+    Ok(())
 }
 
 #[test]
 fn turns_are_counted(rt: HostRuntime) -> Result<(), Fail> {
+    let list = endless(rt.alloc())?;
+    assert_eq!(rt;
+        outcome(rt.alloc(), &list, 0, 0),
+        Err(EvalFault::OutOfTurns)
+    );
     let list = spins(rt.alloc())?;
-    assert_eq!(rt; outcome(rt.alloc(), &list, 1), Err(EvalFault::OutOfTurns));
-    assert_eq!(rt; outcome(rt.alloc(), &list, 2), Ok(End::Next));
+    assert_eq!(rt;
+        outcome(rt.alloc(), &list, 0, 1),
+        Err(EvalFault::OutOfTurns)
+    );
+    assert_eq!(rt; outcome(rt.alloc(), &list, 7, 2), Ok((End::Next, 7)));
     Ok(())
 }

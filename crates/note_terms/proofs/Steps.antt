@@ -76,17 +76,6 @@ pub step_keeps : (old new : List TermNode) (g l n : ℕ) (Fits : ℕ → Type 0)
     (x : TermReading) (i : ℕ) → i < length old → term_word x new i ≡ term_word x old i
 step_keeps old new g l n Fits f t s x i h = ap (λ v. v.word) (s.grew.keeps x i h)
 
--- a width of values by another name
-shown_as : (v w : ℕ) → v ≡ w → IsShown w → IsShown v
-shown_as v w e s = elim s [ inl k ↦ inl (e ∙ k) | inr k ↦ inr (e ∙ k) ]
-
--- a value stays one
-pub value_stays : (old new : List TermNode) (g l s j n t : ℕ) → Grew old new g l s j n → IsValueAt old t → IsValueAt new t
-value_stays old new g l s j n t p h = record {
-  within = still_within old new t p.extends h.within;
-  shown = shown_as _ _ (p.widths t h.within) h.shown;
-}
-
 -- two terms, and what is made of them
 pub step_both : (a b c d : List TermNode) (l r l' r' t g1 n1 g2 n2 g n : ℕ) (W Fits : ℕ → Type 0) (F : ℕ → ℕ) (H : ℕ → ℕ → ℕ) → l < length a → r < length a →
     IsStep a b g1 0 n1 W (λ x. F (term_word x a l)) l' → IsStep b c g2 0 n2 W (λ x. F (term_word x b r)) r' →

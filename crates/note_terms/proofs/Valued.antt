@@ -69,14 +69,6 @@ zero_stays old new g l s j n t p h = record {
   value = λ x r. ap (λ v. v.word) (p.keeps x t h.word.0) ∙ h.value x r;
 }
 
--- the constant 0 is
-pub zero_made : (old new : List TermNode) (t : ℕ) → IsInterned old new (ConstantNode 32 0) t → IsZero new t
-zero_made old new t k = record { word = (k.within, ap width_of k.stored); value = λ x r. ap (λ v. v.word) (k.value x) }
-
--- the term of a value is at the place of one
-pub value_at_place : (old new : List TermNode) (big : Bool) (e : Expr) (now entry : Now) (t : ℕ) → IsValue old new big e now entry t → IsValueAt new t
-value_at_place old new big e now entry t v = record { within = v.within; shown = v.shown }
-
 -- the form of names, by its parts
 abbrev form_by : (first registers flags : ℕ) → UnrolledProgram
 form_by first registers flags = record {
@@ -100,10 +92,6 @@ form_same a b h =
     ap (λ f. form_by f (length a.registers.items) (length a.flags.items)) h.first
     ∙ ap (λ r. form_by b.first r (length a.flags.items)) h.registers ∙ ap (form_by b.first (length b.registers.items)) h.flags
 
--- an expression that can be read with one state can be with the other
-pub reads_at_entry : (a b : Names) (e : Expr) → HaveSameForm a b → IsReadable (form_of a) e → IsReadable (form_of b) e
-reads_at_entry a b e h r = subst (λ (u : UnrolledProgram). IsReadable u e) (form_same a b h) r
-
 -- a number of a range, which is its first or one of the rest
 in_range_by : (r first count : ℕ) (b : Bool) → nat_eq r first ≡ b → (b || list_any (nat_eq r) (from_to (first + 1) count)) ≡ true →
     (list_any (nat_eq r) (from_to (first + 1) count) ≡ true → (first + 1 ≤ r) × (r < first + 1 + count)) → (first ≤ r) × (r < first + suc count)
@@ -125,16 +113,6 @@ range_at first (suc count) (suc i) h = range_at (first + 1) count i (omega arith
 pub range_length : (first count : ℕ) → length (from_to first count) ≡ count
 range_length first zero = refl
 range_length first (suc count) = ap suc (range_length (first + 1) count)
-
--- a load of 1, 2 or 4 bytes
-pub size_few : (s : Size) → (1 ≤ bytes_of s) × (bytes_of s ≤ 4)
-size_few size.Byte = (omega arith, omega arith)
-size_few size.Half = (omega arith, omega arith)
-size_few size.Word = (omega arith, omega arith)
-
--- what is loaded is a word of at most 32 bits
-pub loaded_narrow : (old new : List TermNode) (n : ℕ) (e : Endian) (m a t : ℕ) → 1 ≤ n → n ≤ 4 → IsMade old new (LoadNode n e m a) t → IsNarrow new t
-loaded_narrow old new n e m a t some few k = let w = k.width in record { within = k.within; some = omega arith; few = omega arith }
 
 -- a load at a value as an address, in 32 bits
 pub loaded_step : (a b c d : List TermNode) (n k : ℕ) (e : Endian) (m l p q t : ℕ) → k ≡ n → HasMemory a m → l < length a →
@@ -196,17 +174,6 @@ flag_value ns big f now entry t typed h k is =
       value = λ x ok c d at from g e. ap (term_word x ns) is ∙ g.carried.flags f k;
     }
 
--- the value of the address
-pub pc_value : (ns : List TermNode) (big : Bool) (now entry : Now) → AreTyped ns → AreStateTerms ns now → IsValue ns ns big Pc now entry now.pc.0
-pc_value ns big now entry typed h = record {
-  grew = there ns 0 0 1;
-  inputs = inputs_none ns _;
-  typed = typed;
-  within = h.pc.0;
-  shown = inr h.pc.1;
-  value = λ x ok c d at from g e. g.pc;
-}
-
 -- the value of a load
 pub memory_value : (a b c : List TermNode) (big : Bool) (n : ℕ) (e : Expr) (now entry : Now) (l t : ℕ) → AreStateTerms a now → IsValue a b big e now entry l →
     IsStep b c 0 n 4 (λ w. w ≡ 32) (λ x. load (endian big) n (term_value x b now.names.now.memory.0).bytes (term_word x b l)) t →
@@ -224,18 +191,6 @@ memory_value a b c big n e now entry l t h v s = record {
       ∙ ap (λ w. load (endian big) n w.bytes (term_word x b l)) (v.grew.keeps x now.names.now.memory.0 h.names.memory.0)
       ∙ ap (λ m. load (endian big) n m (term_word x b l)) g.carried.memory
       ∙ ap (load (endian big) n k.mem) (v.value x ok k d at from g f);
-}
-
--- the value at entry
-pub old_value : (a b : List TermNode) (big : Bool) (e : Expr) (now entry : Now) (t : ℕ) → IsValue a b big e entry entry t → IsValue a b big (Old e) now entry t
-old_value a b big e now entry t v = record {
-  grew = grew_more a b (gates_of e) (bytes_loaded e) 0 0 (nodes_of e) (gates_of e) (bytes_loaded e) 0 0 (4 + nodes_of e)
-      (omega arith) (omega arith) (omega arith) (omega arith) (omega arith) v.grew;
-  inputs = v.inputs;
-  typed = v.typed;
-  within = v.within;
-  shown = v.shown;
-  value = λ x ok k d at from g f. v.value x ok d d from from f f;
 }
 
 -- the value of a negation

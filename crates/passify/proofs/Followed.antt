@@ -18,27 +18,6 @@ use Rattle.passify.specs.Situations.{AreLines, LinesTried, goes_out_by}
 use Rattle.passify.specs.Edges.{Follows}
 use Rattle.passify.proofs.Tried.{bit_true}
 
-pub makes_more : (old new : List TermNode) (g n h m w t : ℕ) (claim : TermReading → Type 0) → g ≤ h → n ≤ m → Makes old new g n w t claim →
-    Makes old new h m w t claim
-makes_more old new g n h m w t claim lg ln k = record {
-  grew = grew_more old new g 0 0 0 n h 0 0 0 m lg (omega arith) (omega arith) (omega arith) ln k.grew;
-  inputs = k.inputs;
-  typed = k.typed;
-  width = k.width;
-  holds = k.holds;
-}
-
--- a term that stands
-pub makes_none : (ns : List TermNode) (h m w t : ℕ) (claim : TermReading → Type 0) → AreTyped ns → HasWidth ns w t → ((x : TermReading) → claim x) →
-    Makes ns ns h m w t claim
-makes_none ns h m w t claim typed width holds = record {
-  grew = grew_more ns ns 0 0 0 0 0 h 0 0 0 m (omega arith) (omega arith) (omega arith) (omega arith) (omega arith) (grew_none ns);
-  inputs = inputs_none ns (λ q. ⊥);
-  typed = typed;
-  width = width;
-  holds = λ x r. holds x;
-}
-
 -- all lines were tried
 pub lines_steps : {old new : List TermNode} {s z : Sweep} {all : _} → AreLines old new s z all [] →
     Steps old new s z (sum_by line_price all) (sum_by bytes_loaded all) 0 0 (4 * line_steps all) (λ m. ⊥)

@@ -1,4 +1,5 @@
-//! Passive programs: for each point of an unrolled program a term that says whether the walk of a reading meets it, and terms that say how the walk ends.
+//! Passive programs (passive form): for each point of an unrolled program a term that says whether the walk of a reading meets it, and terms that say how the
+//! walk ends.
 #![tactic(auto)]
 
 mod bits;

@@ -11,7 +11,7 @@ use crate::cause::{Cause, Checked};
 use crate::entries::{Entry, delete};
 use crate::judge::{is_lawful, judge_clause};
 use crate::names::names_and_size;
-use crate::slots::Slot;
+use crate::slots::{Slot, forget};
 use cnf_form::{Clause, Cnf, Log, LogLine};
 use std::alloc::{AllocError, Global};
 
@@ -106,7 +106,7 @@ impl<'a> Marks<'a> {
 
 /// The first cause for which a line of the log is refused, if there is one; else the marks take the line.
 ///
-/// Lines count from 1. The marks have taken every line before this one. It takes no memory. After a refusal the marks are of no more use.
+/// Lines count from 1. The marks have taken every line before this one, and after a refusal they still stand there. It takes no memory.
 pub fn check_line<'a>(
     marks: &mut Marks<'a>,
     cnf: &'a Cnf,
@@ -119,6 +119,7 @@ pub fn check_line<'a>(
     ensures judged { option_map cause_of result ≡ spec.judge cnf.now.variables
         (known_behind cnf.now.clauses.items (lines_of log.now) (line - 1)) (slice_index_or (lines_of log.now) (line - 1) spec.Bad) }
     ensures taken { result ≡ None → HaveTaken marks.new (cnf_of cnf.now) (lines_of log.now) line }
+    ensures refused { IfSome result (λ c. HaveTaken marks.new (cnf_of cnf.now) (lines_of log.now) (line - 1)) }
 {
     let given = &log.lines[line - 1];
     if !is_lawful(given) {
@@ -148,6 +149,8 @@ pub fn check_line<'a>(
             );
             if cause.is_none() {
                 add(marks, *id, clause);
+            } else {
+                forget(&mut marks.slots);
             }
             cause
         }

@@ -53,6 +53,16 @@ pub fn assign(names: &[u64], slots: &mut [Slot], line: usize, lit: Lit)
     };
 }
 
+/// Forgets every value.
+pub fn forget(slots: &mut [Slot])
+    ensures { AreUpTo 0 slots.new }
+{
+    slots.fill(Slot {
+        line: 0,
+        positive: false,
+    });
+}
+
 /// What the clause is at the line.
 pub fn look_at(names: &[u64], slots: &[Slot], line: usize, clause: &[Lit]) -> Look
     requires rising { IsRising names.now }

@@ -182,17 +182,6 @@ plain-front (x ∷ xs) l h =
       | inr e ↦ rw e (plain-front xs l p.1)
     ]
 
--- a clause whose literals are all false has no literal beside its opposite
-pub false-plain : (h : Literal → Bool) → ((l : Literal) → h l ≡ true → h (opposite l) ≡ true → ⊥) → (c : Clause) →
-    ((m : Literal) → has c m ≡ true → h (opposite m) ≡ true) →
-    is_tautology c ≡ false
-false-plain h one [] f = refl
-false-plain h one (x ∷ xs) f = elim (cases_Bool (has xs (opposite x))) [
-  | inl e ↦ absurd (one (opposite x) (f x (or_left (same x x) (has xs x) (same-self x)))
-      (f (opposite x) (or_right (same x (opposite x)) (has xs (opposite x)) e)))
-  | inr e ↦ rw e (false-plain h one xs (λ m p. f m (or_right (same x m) (has xs m) p)))
-]
-
 own-sign : (b : Bool) → b ≡ not b → ⊥
 own-sign true e = cc
 own-sign false e = cc

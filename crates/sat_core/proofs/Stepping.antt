@@ -13,23 +13,6 @@ use Rattle.sat_core.specs.Trails.{nothing, AreFresh, IsTrail, IsRun}
 use Rattle.sat_core.proofs.Backwards.{last-first}
 use Rattle.sat_core.proofs.Literals.{fun_ext}
 
--- one more step
-pub trail-more : (table after : List (Option Bool)) (steps more : List Step) (s : Step) (room : ℕ) → IsTrail table steps room → more ≡ steps ++ s ∷ [] →
-    s.lit.variable < length table → true_in table s.lit ≡ false → true_in table (opposite s.lit) ≡ false → length after ≡ length table →
-    ((m : Literal) → true_in after m ≡ added s.lit (true_in table) m) → open_count after + 1 ≡ open_count table → IsTrail after more room
-trail-more table after steps more s room t is lt free not_false size now fewer =
-    let e = last-first more steps s is in
-    record {
-      told_by = λ m. now m ∙ ap (λ b. same s.lit m || b) (t.told_by m) ∙ ap (λ (z : List Step). told nothing z m) (sym e);
-      fresh = subst (AreFresh (length after)) (sym e) (
-        (rw size lt, sym (t.told_by s.lit) ∙ free, sym (t.told_by (opposite s.lit)) ∙ not_false),
-        subst
-            (λ n. AreFresh n (reverse steps)) (sym size) t.fresh,
-      );
-      count = (let r = t.count in rw is (omega (arith, length-append steps (s ∷ []), fewer, size)));
-      room = (let r = t.room in omega (arith, size));
-    }
-
 open_count-cleared : (t : List (Option Bool)) (v : ℕ) → v < length t → get_or t v None ≢ None → open_count (slice_set t v None) ≡ open_count t + 1
 open_count-cleared [] v lt h = absurd (omega arith)
 open_count-cleared (None ∷ os) zero lt h = absurd (h refl)

@@ -66,18 +66,6 @@ target-moves cs owner watched other h size target over at free apart =
       cuts = λ d k i a p. absurd (both_ways (h (opposite target)) free (i (opposite target) p));
     }
 
-pub target-stays : (cs : List Clause) (owners : List ℕ) (watched : List Literal) (n : ℕ) (h : Literal → Bool) (size : ℕ) (target : Literal) →
-    IsPlaced cs owners watched →
-    n < length watched → target.variable < size → watched_at watched n ≡ target → h (watched_at watched (mate n)) ≡ true →
-    IsTarget cs (get_or owners (n / 2) 0) watched (watched_at watched (mate n)) h size target
-target-stays cs owners watched n h size target p lt v e t = record {
-  room = place-within target size v;
-  inside = λ c is. ap (has c) (sym e) ∙ p.inside n c lt is;
-  apart = ap (λ (z : Literal). same z (watched_at watched (mate n))) (sym e) ∙ p.apart n lt;
-  kept = λ d i q. t;
-  cuts = λ d k i a q. a n lt refl (ap (λ (z : Literal). d (opposite z)) e ∙ q);
-}
-
 pub includes-added : (l : Literal) (done h : Literal → Bool) → h l ≡ true → Includes done h → Includes (added l done) h
 includes-added l done h t i m p = elim (or_cases (same l m) (done m) p) [
   | inl e ↦ ap h (sym (same-true l m e)) ∙ t

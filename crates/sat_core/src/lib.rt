@@ -1,4 +1,4 @@
-//! Searches for values that satisfy clauses.
+//! Searches for values that satisfy clauses (conflict-driven clause learning, CDCL).
 //!
 //! The search decides variables and propagates by turns, and learns a clause from each conflict. It ends with satisfying values, with the log of a refutation,
 //! or with the log of as many learned clauses as it was given conflicts.

@@ -19,13 +19,13 @@ pub const GREATEST_NUMBER: u64 = 1 << 62;
 /// A search for values that satisfy clauses.
 #[derive(Drop)]
 pub struct Solver {
-    pub variables: u64,
+    variables: u64,
     /// How many clauses may be learned.
-    pub conflicts: u64,
+    conflicts: u64,
     /// The clauses, with a trail on which it is tried what follows.
-    pub main: Propagator,
+    pub(crate) main: Propagator,
     /// Of so many steps all watches were visited.
-    pub done: usize,
+    done: usize,
 }
 
 /// A propagator of clauses over so many variables.

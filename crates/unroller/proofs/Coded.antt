@@ -86,11 +86,6 @@ lifted_code p bank n r list draws row loads stores asserts is some lawful listed
 pub no_literal : (p : Program) (n : Node) → IsNode p n → n.word ≡ None → None ≡ literal_at p n.at
 no_literal p n is h = ap (λ (o : Option Row). literal_by p o n.at) (sym (none_word (file_row p n.at) (file_word p n.at) (sym is.word ∙ h)))
 
--- the literal of a node's row
-pub row_literal : (p : Program) (n : Node) (r : Row) (found : Option ℕ) → file_row p n.at ≡ Some r → found ≡ kept_literal p (r.literal n.at) →
-    found ≡ literal_at p n.at
-row_literal p n r found some e = e ∙ ap (λ (o : Option Row). literal_by p o n.at) (sym some)
-
 -- a list without a kept literal
 pub plain_list : (p : Program) (bank : Bank) (r : Row) (n : Node) (lifted list : Statements) → IsLifting p.machine bank r n.at lifted → IsKeptLive p n →
     list ≡ with_flags (kept_in n.keeps) lifted → None ≡ kept_literal p (r.literal n.at) → IsListAt p bank r n.at list

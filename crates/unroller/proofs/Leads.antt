@@ -86,9 +86,6 @@ jump_bool : (among falls both : Bool) → (falls ≡ true → both ≡ among) �
 jump_bool among true both h g = h refl
 jump_bool among false both h g = sym (g refl)
 
-key_is : (key : ℕ) → key ≡ key_of (turns_of key) (address_of key) (stack_of key)
-key_is key = omega arith
-
 -- the number of an end is above that of its point
 above : (own : ℕ) (e : End) → e.at < 4294967296 → own < target_key own e
 above own e h = by (nat_le e.at (address_of own)) refl

@@ -25,7 +25,7 @@ use Rattle.bil_trim.specs.Parts.{HasNoMore}
 use Rattle.bil_trim.proofs.Quiet.{literals_keep_meaning, nothing_stored}
 use Rattle.bil_trim.proofs.Fewer.{flags_add_nothing}
 use Rattle.bil_trim.proofs.NoMore.{literals_add_nothing, literals_assign_the_same}
-use Rattle.unroller.specs.Rows.{kept_literal, list_with, IsListAt, IsListedAt, ListsDoRows, may_assign_in}
+use Rattle.unroller.specs.Rows.{kept_literal, list_with, IsListAt, IsListOf, IsListedAt, ListsDoRows, may_assign_in}
 use Rattle.unroller.proofs.Dropped.{leaves_trimmed, stores_trimmed}
 use Rattle.unroller.proofs.Mixed.{both}
 use Rattle.unroller.proofs.Named.{list_wider}
@@ -177,3 +177,10 @@ pub code_is_lean : (p : Program) (bank : Bank) (o : Option Row) (at f : ℕ) (li
 code_is_lean p bank o at f None listed low h = absurd (cc)
 code_is_lean p bank None at f (Some v) listed low h = absurd listed
 code_is_lean p bank (Some row) at f (Some v) listed low h = list_is_lean p bank row at f (statements v.items) listed low h
+
+pub code_is_listed : (p : Program) (bank : Bank) (o : Option Row) (at : ℕ) (list : Option (Vec Stmt)) → IsListedAt p bank o at list →
+    IsListOf p bank o at (action_of list)
+code_is_listed p bank None at None listed = refl
+code_is_listed p bank None at (Some v) listed = absurd listed
+code_is_listed p bank (Some row) at None listed = absurd listed
+code_is_listed p bank (Some row) at (Some v) listed = listed

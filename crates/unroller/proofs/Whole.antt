@@ -13,7 +13,7 @@ use Rattle.bilv_spec.specs.Run.{Program, all_kept}
 use Rattle.bilv_spec.specs.Points as spec
 use Rattle.bilv_spec.specs.Points.{IsPoint, ArePoints, file_row}
 use Rattle.bilv_spec.specs.LiveFlags.{IsLive}
-use Rattle.bilv_spec.proofs.PointsInGraph.{points_are_in_graph, of_map}
+use Rattle.bilv_spec.proofs.PointsInGraph.{of_map}
 use Rattle.graph_nodes.specs.declared.nodes.Node.{Node}
 use Rattle.graph_nodes.specs.declared.nodes.Graph.{Graph}
 use Rattle.graph_nodes.specs.Graphs.{IsGraph, addresses_of}
@@ -40,14 +40,10 @@ use Rattle.unroller.proofs.Coding.{of_nodes}
 use Rattle.unroller.proofs.FirstPoints.{entry_comes_first}
 use Rattle.unroller.proofs.Grouped.{asserts_are}
 use Rattle.unroller.proofs.Leads.{edges_at}
-use Rattle.unroller.proofs.Literals.{of_kept, is_kept_one, code_is_lean}
-use Rattle.unroller.specs.Rows.{literal_by, literal_at, AreLiterals, AssignsLiveOnly, may_assign_in}
+use Rattle.unroller.proofs.Literals.{of_kept, is_kept_one, code_is_lean, code_is_listed}
+use Rattle.unroller.specs.Rows.{literal_by, literal_at, AreLiterals, AssignsLiveOnly, HasListsOf, IsListOf, may_assign_in}
 use Rattle.unroller.proofs.Looked.{points_are_at}
 use Rattle.unroller.proofs.Placed.{places_are_right}
-
--- the address of each number is one of the graph
-pub address_in : (p : Program) (k : ℕ) (g : Graph) → IsGraph p g → (point : spec.Point) → IsPoint p k point → Contains (addresses_of g) point.at
-address_in p k g graph point is = (graph.all point.at).1 (points_are_in_graph p k point is).at
 
 one_node : (g : Graph) → ((i j : ℕ) → i < j → j < length g.nodes.items → get_or (addresses_of g) i 0 < get_or (addresses_of g) j 0) → (m n : Node) →
     Contains g.nodes.items m → Contains g.nodes.items n → m.at ≡ n.at → m ≡ n
@@ -167,6 +163,12 @@ module _ (p : Program) (k : ℕ) (bank : Bank) (g : Graph) (u : Unrolled) (numbe
       subst (λ (z : UnrolledPoint). IsPlace p k (unrolled_of u) i z (file_row p z.point.at)) (sym (point_is i w))
       (places_are_right p k u (layout_of u.form) bank i (own i) (code i) (led i) fitted registers flags
       (record { own = (code_is i w).row; asserts = asserts i w }) (edges_are i w))
+
+  pub lists : HasListsOf p bank (unrolled_of u)
+  lists i low =
+      let inside : i < length keys = (let s = size in omega arith) in
+      subst (λ (z : UnrolledPoint). IsListOf p bank (file_row p z.point.at) z.point.at z.does) (sym (point_is i inside))
+      (code_is_listed p bank (file_row p (code i).at) (code i).at (code i).list (code_is i inside).row.list)
 
   pub lean : AssignsLiveOnly p (unrolled_of u)
   lean i f w low h =

@@ -4,7 +4,7 @@ use Rattle.std.specs.Global.{Vec}
 use Rattle.machine_spec.specs.Machine.{Row}
 use Rattle.machine_spec.specs.MachineLaws.{IsLawful, IsFitted, IsLifting}
 use Rattle.machine_spec.specs.StateText.{Layout}
-use Rattle.machine_spec.specs.Bil.{Bank, Statements}
+use Rattle.machine_spec.specs.Bil.{Bank, Statements, Empty}
 use Rattle.machine_spec.specs.BilCounts.{may_assign}
 use Rattle.bilv_spec.specs.Run.{Program, all_kept}
 use Rattle.bilv_spec.specs.Points.{file_row, file_number}
@@ -57,6 +57,16 @@ IsListedAt p bank None at None = Unit {0}
 IsListedAt p bank (Some row) at (Some v) = IsListAt p bank row at (statements v.items)
 IsListedAt p bank None at (Some v) = ⊥
 IsListedAt p bank (Some row) at None = ⊥
+
+-- what is done where a row stands at an address is the row's list, and nothing where none does
+abbrev pub IsListOf : Program → Bank → Option Row → (at : ℕ) → Action → Type 0
+IsListOf p bank None at (Executes list) = list ≡ Empty
+IsListOf p bank (Some row) at (Executes list) = IsListAt p bank row at list
+
+-- what is done at each point is the list of the row at its address
+abbrev pub HasListsOf : Program → Bank → UnrolledProgram → Type 0
+HasListsOf p bank u = (i : ℕ) → i < length u.points →
+    IsListOf p bank (file_row p (point_at u i).point.at) (point_at u i).point.at (point_at u i).does
 
 -- The list of a lawful row, at a point of the row's address, does what the row does as far as it is read later. Terms can be made of it.
 abbrev pub ListsDoRows : Type 0

@@ -8,7 +8,7 @@ ghost use Rattle.program_points.specs.Listed.{HasOneWay, IsTooMany};
 ghost use Rattle.question_form.specs.Forms.{IsFormed};
 ghost use Rattle.question_form.specs.Views.{unrolled_of};
 ghost use Rattle.unroller.specs.Lookups.{HasForm};
-ghost use Rattle.unroller.specs.Rows.{AssignsLiveOnly};
+ghost use Rattle.unroller.specs.Rows.{AssignsLiveOnly, HasListsOf};
 ghost use Rattle.known_bytes.specs.Runs.{AreRuns};
 ghost use Rattle.state_text.specs.Starts.{layout_of};
 ghost use Rattle.walk_spec.specs.Unrolled.{byte_of_runs, point_at};
@@ -65,6 +65,7 @@ pub fn unroll<'a, M: Machine>(
     requires graph { IsGraph (program_of M.machine image.now (notes_of notes.now) entry) graph.now }
     requires one_way { HasOneWay (program_of M.machine image.now (notes_of notes.now) entry) }
     ensures unrolled { IfOk result (λ u. IsUnrolling (program_of M.machine image.now (notes_of notes.now) entry) k (unrolled_of u)) }
+    ensures lists { IfOk result (λ u. HasListsOf (program_of M.machine image.now (notes_of notes.now) entry) M.bank (unrolled_of u)) }
     ensures lean { IfOk result (λ u. AssignsLiveOnly (program_of M.machine image.now (notes_of notes.now) entry) (unrolled_of u)) }
     ensures formed { IfOk result (λ u. IsFormed u) }
     ensures few { IfOk result (λ u. length u.points.items ≤ max) }

@@ -91,16 +91,6 @@ pub record IsCopying (source old new : List TermNode) (marks : List Bool) (ts : 
   pub only : (m : TermNode) → Contains new m → Contains old m ⊎ IsOfMarked source marks m
   pub typed : AreTyped new
 
--- none at first
-pub copying_none : (source old : List TermNode) (marks : List Bool) → AreTyped old → IsCopying source old old marks [] 0
-copying_none source old marks typed = record {
-  count = refl;
-  copies = record { widths = λ i h m. absurd (omega arith); values = λ x p i h m. absurd (omega arith) };
-  grew = grew_none old;
-  only = λ m c. inl c;
-  typed = typed;
-}
-
 -- the copy at the end of a list
 last_copy : (copies : List Term) (t : Term) (i : ℕ) → length copies ≡ i → copy_at (copies ++ t ∷ []) i ≡ t.0
 last_copy copies t i e = subst (λ (j : ℕ). copy_at (copies ++ t ∷ []) j ≡ t.0) e (ap (λ z. z.0) (get_or-append_seam copies t [] no_term))

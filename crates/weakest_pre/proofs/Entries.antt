@@ -56,27 +56,12 @@ place_step narrow hi is a b c d v l z t h low none made =
     let left = step_keeps b c 0 0 1 _ _ z second x l first.within ∙ first.value x r ∙ low_bits narrow hi (term_word x a v) is in
     ap (λ (w : ℕ). bit (w == term_word x c z)) left ∙ ap (λ (w : ℕ). bit (term_word x a v % unit narrow == w)) (second.value x r))
 
--- a test with nothing more
-and_nothing : (b : Bool) → b ≡ (b && true)
-and_nothing true = refl
-and_nothing false = refl
-
 -- and with one more
 and_more : (b p q : Bool) → ((b && p) && q) ≡ (b && (p && (q && true)))
 and_more true true true = refl
 and_more true true false = refl
 and_more true false q = refl
 and_more false p q = refl
-
--- no line
-pub true_none : (ns : List TermNode) (big : Bool) (now : Now) (first : ℕ) → AreTyped ns → HasWidth ns 1 first → AreTrue ns ns big now first [] first
-true_none ns big now first typed width = record {
-  grew = grew_none ns;
-  inputs = inputs_none ns _;
-  typed = typed;
-  width = width;
-  value = λ x r c at s b e. e ∙ ap bit (and_nothing b);
-}
 
 -- one more line
 pub true_more : (a b c d : List TermNode) (big : Bool) (now : Now) (first l r t : ℕ) (done : List Expr) (e : Expr) → AreStateTerms a now →

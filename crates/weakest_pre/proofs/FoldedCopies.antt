@@ -83,16 +83,6 @@ pub record IsFolding (P : TermReading → Type 0) (source old new : List TermNod
   pub inputs : InputsFrom old new (Contains source)
   pub typed : AreTyped new
 
--- none at first
-pub folding_none : (P : TermReading → Type 0) (source old : List TermNode) (marks : List Bool) → AreTyped old → IsFolding P source old old marks [] 0
-folding_none P source old marks typed = record {
-  count = refl;
-  copies = record { widths = λ i h m. absurd (omega arith); values = λ x p i h m. absurd (omega arith) };
-  grew = grew_none old;
-  inputs = inputs_none old _;
-  typed = typed;
-}
-
 -- one more
 pub folding_more : (P : TermReading → Type 0) (source old mid new : List TermNode) (marks : List Bool) (copies more : List Term) (i : ℕ) (t : Term) →
     i < length source →

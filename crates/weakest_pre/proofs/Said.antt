@@ -24,12 +24,6 @@ true_bit false h = h
 pub equal_true : (a b : ℕ) → is_true (apply Equal a b) ≡ true → a ≡ b
 equal_true a b h = eqb-true a b (true_bit _ h)
 
-pub below_true : (a b : ℕ) → is_true (apply Below a b) ≡ true → a < b
-below_true a b h = ltb-true a b (true_bit _ h)
-
-pub most_true : (a b : ℕ) → is_true (apply AtMost a b) ≡ true → a ≤ b
-most_true a b h = leb-true a b (true_bit _ h)
-
 pub above_true : (a b : ℕ) → is_true (apply Above a b) ≡ true → b < a
 above_true a b h = ltb-true b a (true_bit _ h)
 

@@ -1,4 +1,4 @@
-//! The weakest condition of a function: each of its questions as one term over the state at entry.
+//! The weakest precondition of a function: each of its questions as one term over the state at entry.
 #![tactic(auto)]
 
 mod copies;

@@ -1,5 +1,14 @@
-use Rattle.std.proofs.Common.{map, string_bytes}
+use Rattle.std.proofs.Common.{map, string_bytes, subst}
+use Rattle.io_edges.specs.Met.{met, seen}
+use Rattle.cnf_solver.specs.Ends.{IsOutcome}
+use Rattle.cnf_solver.specs.Requests.{lawful_request}
 use Rattle.cnf_solver.proofs.program.answer_words.Goals as goal
 
-pub returns : goal.returns
-returns g c = rw c.from-2.ensures (map (λ w. string_bytes w) c.deref.result.now, c.bilv_solve-status.ensures)
+pub returns-clause-answered : goal.returns-clause-answered
+returns-clause-answered g c =
+    let s = met (seen (g.H.Shelf.holds c.args.shelf.now) (g.H.Shelf.faults c.args.shelf.now) (g.H.Shelf.faults c.bilv_solve-status.new.shelf))
+    (g.K.Sink.written c.args.out.now) (g.K.Sink.written c.bilv_solve-status.new.out) (g.K.Sink.faults c.args.out.now) (g.K.Sink.faults
+    c.bilv_solve-status.new.out) in
+    let end = subst (λ x. IsOutcome s (lawful_request (map (λ w. string_bytes w) x)) c.bilv_solve-status.result) c.deref.ensures.value
+    c.bilv_solve-status.ensures in
+    rw c.from-2.ensures (rw c.in-Ok.is end)

@@ -22,7 +22,7 @@ use Rattle.unroller.specs.Rows.{AreLiterals}
 use Rattle.unroller.proofs.KeptRuns.{kept_runs_are_right}
 use Rattle.unroller.proofs.Looked.{forms_are_right}
 use Rattle.unroller.proofs.Listing.{low_turns, keys_of, among_graph, addresses_among, keys_coded, keys_fit, keys_low}
-use Rattle.unroller.proofs.Whole.{size, places, lean, words, are_points, first, formed, literals_are}
+use Rattle.unroller.proofs.Whole.{size, places, lean, lists, words, are_points, first, formed, literals_are}
 use Rattle.unroller.proofs.unrolling.unroll.Given as given
 use Rattle.unroller.proofs.unrolling.unroll.Goals as goal
 
@@ -261,6 +261,12 @@ returns-clause-form g c =
 pub returns-clause-lean : goal.returns-clause-lean
 returns-clause-lean g c =
     lean (program g c) c.args.k g.M.Machine.bank c.args.graph.now (made g c) c.calls.new.stacks.numbers (keys g c) (addresses g c)
+    c.in_ok-called.called.items c.requires.graph c.requires.one_way (fitted g c) (registers g c) (flags g c) c.in_ok-called.ensures.table (are g c)
+    (calls g c) (codes g c) (placed g c) c.in_ok-index.ensures.asserts.order refl
+
+pub returns-clause-lists : goal.returns-clause-lists
+returns-clause-lists g c =
+    lists (program g c) c.args.k g.M.Machine.bank c.args.graph.now (made g c) c.calls.new.stacks.numbers (keys g c) (addresses g c)
     c.in_ok-called.called.items c.requires.graph c.requires.one_way (fitted g c) (registers g c) (flags g c) c.in_ok-called.ensures.table (are g c)
     (calls g c) (codes g c) (placed g c) c.in_ok-index.ensures.asserts.order refl
 
