@@ -74,6 +74,11 @@ draws_none u n ds es k m h d e f =
     (next_place u n ds k None m h (sym (ap (λ z. if z then Some (drawn_below u n) else None) d))
     (let g : drawn_below u (suc n) ≡ drawn_below u n + 0 = ap (λ z. drawn_below u n + bit z) d in omega (arith, h.all)))
 
+-- how many draw, with the next place
+pub drawn_next : (u : UnrolledProgram) (n k m : ℕ) (b : Bool) → k ≡ drawn_below u n → (point_at u n).draws ≡ b → m ≡ k + bit b → m ≡ drawn_below u (n + 1)
+drawn_next u n k m b h d e =
+    e ∙ ap (λ z. z + bit b) h ∙ ap (λ z. drawn_below u n + bit z) (sym d) ∙ ap (drawn_below u) (let f : suc n ≡ n + 1 = omega arith in f)
+
 -- one more number of a range
 pub range_push : (f k : ℕ) → from_to f (suc k) ≡ from_to f k ++ (f + k) ∷ []
 range_push f zero = ap (λ z. z ∷ []) (let e : f ≡ f + 0 = omega arith in e)

@@ -15,3 +15,5 @@ pub mod ReadValues
 pub mod BrokenReads
 pub mod RisingPairs
 pub mod EntryBytes
+pub mod Divisors
+pub mod SignedWords

@@ -58,7 +58,7 @@ map_ranges f g a b (suc k) h =
     ∙ ap (λ z. g b ∷ z) (map_ranges f g (a + 1) (b + 1) k (λ q l.
     ap f (let e : a + 1 + q ≡ a + suc q = omega arith in e) ∙ h (suc q) (omega arith) ∙ ap g (let e : b + suc q ≡ b + 1 + q = omega arith in e)))
 
-mapped_get : (xs : List Term) (i : ℕ) → slice_index (map (λ (t : Term). t.0) xs) i ≡ (slice_index_or xs i (record { 0 = 0 })).0
+pub mapped_get : (xs : List Term) (i : ℕ) → slice_index (map (λ (t : Term). t.0) xs) i ≡ (slice_index_or xs i (record { 0 = 0 })).0
 mapped_get [] i = refl
 mapped_get (x ∷ xs) zero = refl
 mapped_get (x ∷ xs) (suc i) = mapped_get xs i
@@ -67,12 +67,16 @@ mapped_length : (xs : List Term) → length (map (λ (t : Term). t.0) xs) ≡ le
 mapped_length [] = refl
 mapped_length (x ∷ xs) = let e = mapped_length xs in omega arith
 
+-- there is a bit for each place
+pub met_count : (u : UnrolledProgram) (q : Passive) → IsPassive u q → (met : List Term) → map (λ (t : Term). t.0) met ≡ q.met → length met ≡ length u.points
+met_count u q passive met mets = sym (mapped_length met) ∙ ap length mets ∙ passive.count
+
 -- the bits of the places are among the words
 pub met_within : (u : UnrolledProgram) (q : Passive) → IsPassive u q → (met : List Term) → map (λ (t : Term). t.0) met ≡ q.met → (ws : List ℕ) →
     length ws ≡ length q.nodes →
     (i : ℕ) (d : Term) → i < length met → (slice_index_or met i d).0 < length ws
 met_within u q passive met mets ws count i d l =
-    let m : length met ≡ length u.points = sym (mapped_length met) ∙ ap length mets ∙ passive.count in
+    let m = met_count u q passive met mets in
     let b = (passive.bits i (omega arith)).0 in
     let e : slice_index q.met i ≡ (slice_index_or met i d).0 = (
     ap (λ (z : List ℕ). slice_index z i) (sym mets) ∙ mapped_get met i ∙ ap (λ (t : Term). t.0) (any_default met i (record { 0 = 0 }) d l)) in
@@ -86,7 +90,7 @@ counts_equal met same (suc n) f =
     ap (λ z. if z then count_met met n + 1 else count_met met n) (f n (omega arith))
     ∙ ap (λ z. if same n then z + 1 else z) (counts_equal met same n (λ i l. f i (omega arith)))
 
-count_few : (met : ℕ → Bool) (n : ℕ) → count_met met n ≤ n
+pub count_few : (met : ℕ → Bool) (n : ℕ) → count_met met n ≤ n
 count_few met zero = omega arith
 count_few met (suc n) = by (met n) (count_few met n)
   where
@@ -94,7 +98,7 @@ count_few met (suc n) = by (met n) (count_few met n)
     by true l = omega arith
     by false l = omega arith
 
-choices_as : (met same : ℕ → Bool) (choice other : ℕ → ℕ) (n m steps : ℕ) (xs : List (ℕ × ℕ)) → n ≡ m → ((i : ℕ) → i < m → met i ≡ same i) →
+pub choices_as : (met same : ℕ → Bool) (choice other : ℕ → ℕ) (n m steps : ℕ) (xs : List (ℕ × ℕ)) → n ≡ m → ((i : ℕ) → i < m → met i ≡ same i) →
     ((i : ℕ) → i < m → choice i ≡ other i) →
     AreChoices met choice n steps xs → AreChoices same other m steps xs
 choices_as met same choice other n m steps xs e f g h = record {
@@ -168,7 +172,7 @@ module _ (u : UnrolledProgram) (c : Cells) (v : ℕ → Bool) (p : InputPlaces) 
       (met : List Term) → map (λ (t : Term). t.0) met ≡ q.met → (steps : ℕ) → AreChoices (is_met_by met ws) (choice_at p v) (length met) steps xs →
       AreFollowed u c v bytes xs
   are_followed q walkable passive bytes xs y start ws words met mets steps h =
-      let count : length met ≡ length u.points = sym (mapped_length met) ∙ ap length mets ∙ passive.count in
+      let count = met_count u q passive met mets in
       let same : (i : ℕ) → i < length u.points → is_met_by met ws i ≡ (slice_index ws (slice_index q.met i) == 1) =
       (λ i l. ap (λ z. slice_index ws z == 1) (sym (mapped_get met i) ∙ ap (λ (z : List ℕ). slice_index z i) mets)) in
       let chosen = choices_as (is_met_by met ws) (λ i. slice_index ws (slice_index q.met i) == 1) (choice_at p v) (reading u c v).choice (length met)

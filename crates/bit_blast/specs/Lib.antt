@@ -7,3 +7,4 @@ pub mod ReadBytes
 pub mod Said
 pub mod Steps
 pub mod Stored
+pub mod Reciprocals

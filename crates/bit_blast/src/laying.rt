@@ -3,6 +3,7 @@ ghost use Rattle.std.specs.Prelude.{◌≡◌, ◌<◌, ◌≤◌, ◌^◌, leng
 ghost use Rattle.question_form.specs.Views.{no_code, unrolled_of};
 ghost use Rattle.state_text.specs.Starts.{layout_of};
 ghost use Rattle.mem_cells.specs.Views.{cells_of, program_of_cells};
+ghost use Rattle.walk_spec.specs.ClauseForm.{drawn_below, first_byte};
 ghost use Rattle.bit_blast.specs.Laid.{AreDrawn, ArePlaces};
 
 use crate::input_places::InputPlaces;
@@ -59,6 +60,32 @@ fn choices_of(alloc: Global, unrolled: &Unrolled) -> Result<Choices, AllocError>
         }
     }
     Ok(Choices { drawn, count })
+}
+
+/// How many points read the choice.
+fn drawing_points(unrolled: &Unrolled) -> u64
+    requires { length unrolled.now.points.items ≤ 2 ^ 28 }
+    ensures { result ≡ drawn_below (unrolled_of unrolled.now) (length (unrolled_of unrolled.now).points) }
+{
+    let mut count = 0;
+    for i in 0..unrolled.points.len() {
+        if draws(unrolled, unrolled.points[i].code) {
+            count += 1;
+        }
+    }
+    count
+}
+
+/// How many inputs the questions of an unrolled program have besides the bytes of base reads: 32 for each register, one for each flag, and two for each point
+/// whose row reads the choice.
+pub fn free_inputs(unrolled: &Unrolled) -> u64
+    requires { length unrolled.now.points.items ≤ 2 ^ 28 }
+    ensures { result ≡ first_byte (unrolled_of unrolled.now) }
+{
+    let registers = unrolled.form.register_count() as u64;
+    let flags = unrolled.form.flag_count() as u64;
+    let points = drawing_points(unrolled);
+    32 * registers + flags + 2 * points
 }
 
 /// Where the inputs of cells stand. The error is want of memory, which 2^28 points or base reads are.

@@ -7,10 +7,11 @@ ghost use Rattle.term_dag.specs.Nodes.{op_of};
 ghost use Rattle.gates.specs.Circuits.{next, Holds, Within};
 ghost use Rattle.word_gates.specs.Numbers.{number, IsWord};
 
+use crate::products::product_of;
 use gates::{Bit, Circuit};
 use std::alloc::{AllocError, Global};
 use term_dag::Op;
-use word_gates::arithmetic::{difference, product, sum};
+use word_gates::arithmetic::{difference, sum};
 use word_gates::bitwise::{and, or, xor};
 use word_gates::compare::{equal, less, less_or_equal, signed_less, signed_less_or_equal};
 use word_gates::division::{quotient, remainder, signed_quotient, signed_remainder};
@@ -45,7 +46,7 @@ pub fn operator(
     match op {
         Op::Plus => Ok(sum(alloc, circuit, a, b)?),
         Op::Minus => Ok(difference(alloc, circuit, a, b)?),
-        Op::Times => Ok(product(alloc, circuit, a, b)?),
+        Op::Times => Ok(product_of(alloc, circuit, a, b)?),
         Op::Divide => Ok(quotient(alloc, circuit, a, b)?),
         Op::SignedDivide => Ok(signed_quotient(alloc, circuit, a, b)?),
         Op::Modulo => Ok(remainder(alloc, circuit, a, b)?),

@@ -79,7 +79,8 @@ fn followed(
     let passive = c.question.passive;
     let reading = start_reading(alloc, c, places, bytes, values)?;
     let words = passive.dag.values(alloc, &reading)?;
-    let choices = choices_by_step(alloc, places, &passive.met, &words, values)?;
+    let chosen = choices_by_place(alloc, places, values)?;
+    let choices = choices_by_step(alloc, &passive.met, &words, &chosen)?;
     Ok(choices)
 }
 

@@ -35,29 +35,29 @@ fn choice_of(places: &InputPlaces, drawn: Option<u32>, values: &[bool]) -> u8
     }
 }
 
-/// The choices of the places that are met, each by the number of met places below it.
+/// The choices of the places that are met, each by the number of met places below it; those that are 0 are not listed. A place is met where its term has the
+/// word 1. The error is want of memory.
 pub fn choices_by_step(
     alloc: Global,
-    places: &InputPlaces,
     met: &[Term],
     words: &[u64],
-    values: &[bool],
+    choices: &[u8],
 ) -> Result<Vec<(u64, u8)>, AllocError>
-    requires count { length met.now ≡ length places.now.drawn.items }
+    requires count { length met.now ≡ length choices.now }
     requires within { (i : ℕ) (d : Term) → i < length met.now → (slice_index_or met.now i d).0 < length words.now }
-    ensures { IfOk result (λ xs. AreChoices (is_met_by met.now words.now) (choice_at places.now (valuation values.now)) (length met.now)
+    requires few { (i : ℕ) → slice_index choices.now i ≤ 3 }
+    ensures { IfOk result (λ xs. AreChoices (is_met_by met.now words.now) (slice_index choices.now) (length met.now)
         (count_met (is_met_by met.now words.now) (length met.now)) xs.items) }
 {
-    let mut choices = Vec::new(alloc);
+    let mut listed = Vec::new(alloc);
     let mut step = 0u64;
     for i in 0..met.len() {
         if words[met[i].0 as usize] == 1 {
-            let choice = choice_of(places, places.drawn[i], values);
-            list_choice(&mut choices, step, choice)?;
+            list_choice(&mut listed, step, choices[i])?;
             step += 1;
         }
     }
-    Ok(choices)
+    Ok(listed)
 }
 
 /// The choices by the places of their points.
@@ -66,7 +66,9 @@ pub fn choices_by_place(
     places: &InputPlaces,
     values: &[bool],
 ) -> Result<Vec<u8>, AllocError>
-    ensures { IfOk result (λ w. (i : ℕ) → i < length places.now.drawn.items → slice_index w.items i ≡ choice_at places.now (valuation values.now) i) }
+    ensures each { IfOk result (λ w. (i : ℕ) → i < length places.now.drawn.items → slice_index w.items i ≡ choice_at places.now (valuation values.now) i) }
+    ensures count { IfOk result (λ w. length w.items ≡ length places.now.drawn.items) }
+    ensures few { IfOk result (λ w. (i : ℕ) → slice_index w.items i ≤ 3) }
 {
     let mut choices = Vec::new(alloc);
     for i in 0..places.drawn.len() {

@@ -24,7 +24,7 @@ use Rattle.walk_laws.specs.Layers.{IsFitting}
 use Rattle.walk_laws.proofs.InputPlaces.{all_long}
 use Rattle.walk_laws.proofs.InputsWithin.{inputs_within}
 use Rattle.walk_laws.proofs.QuestionClauses.{inputs_are, byte_inputs}
-use Rattle.turn_laws.specs.Raised.{NoneTurns, RefutationsRise, over_variables}
+use Rattle.turn_laws.specs.Raised.{BothRise, NoneTurns, RefutationsRise, over_variables}
 use Rattle.turn_laws.proofs.Alike.{over}
 use Rattle.turn_laws.proofs.Prices.{points_rise, prices_rise}
 
@@ -167,3 +167,25 @@ module _ (p : Program) (k m : ℕ) (h : k ≤ m) where
 
 pub refutations_rise : RefutationsRise
 refutations_rise p k m h question proof is none u un fit = rises p k m h question proof is none u un fit
+
+-- what is true over some bytes is true over fewer
+fewer : (p : Program) (few many : ℕ → Bool) (k : ℕ) (r : Reading) (q : Question) → ((a : ℕ) → few a ≡ true → many a ≡ true) → IsTrueOver p many k r q →
+    IsTrueOver p few k r q
+fewer p few many k r q asks t = record {
+  choice = t.choice;
+  entry = record {
+    state = t.entry.state;
+    pc = t.entry.pc;
+    link = t.entry.link;
+    bytes = λ a c low is ask. t.entry.bytes a c low is (asks a ask);
+    requires = t.entry.requires;
+  };
+  ends = t.ends;
+}
+
+pub both_rise : BothRise
+both_rise p k m h turn fail t f asks u un fit = (
+  rises p k m h FailQuestion fail f
+      (λ r turns. refuted_over p k TurnQuestion turn t r (fewer p t.of_question.asked f.of_question.asked k r TurnQuestion asks turns)) u un fit,
+  rises p k m h TurnQuestion turn t tt u un fit,
+)

@@ -1,5 +1,5 @@
 -- Refutations of questions within one bound on backward transfers as refutations of those within a greater one.
-use Rattle.std.specs.Prelude.{ℕ, ◌≤◌, max, Bool}
+use Rattle.std.specs.Prelude.{ℕ, ◌≡◌, ◌≤◌, max, Bool, true}
 use Rattle.clause_spec.specs.Refutation.{Proof}
 use Rattle.bilv_spec.specs.Run.{Program}
 use Rattle.bilv_spec.specs.Points.{Point, IsPoint, IsPrice}
@@ -36,3 +36,10 @@ abbrev pub RefutationsRise : Type 0
 RefutationsRise = (p : Program) (k m : ℕ) → k ≤ m → (question : Question) (proof : Proof) (h : Refutes p k question proof) →
     NoneTurns p h.of_question.asked k question → (u : UnrolledProgram) → IsUnrolling p m u → IsFitting u →
     Refutes p m question (over_variables (first_byte u) proof)
+
+-- Refutations of the turn and of the fail question within a bound, of which the latter asks each byte that the former asks, are ones of the questions within a
+-- greater bound: a reading that the fail question is over has the bytes that the turn question asks, so it does not make one backward transfer too many.
+abbrev pub BothRise : Type 0
+BothRise = (p : Program) (k m : ℕ) → k ≤ m → (turn fail : Proof) (t : Refutes p k TurnQuestion turn) (f : Refutes p k FailQuestion fail) →
+    ((a : ℕ) → t.of_question.asked a ≡ true → f.of_question.asked a ≡ true) → (u : UnrolledProgram) → IsUnrolling p m u → IsFitting u →
+    Refutes p m FailQuestion (over_variables (first_byte u) fail) × Refutes p m TurnQuestion (over_variables (first_byte u) turn)

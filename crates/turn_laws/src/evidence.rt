@@ -1,5 +1,5 @@
 //! Laws of prices and refutations under two bounds on backward transfers.
-ghost use Rattle.turn_laws.specs.Raised.{PointsRise, PricesRise, RefutationsRise};
+ghost use Rattle.turn_laws.specs.Raised.{BothRise, PointsRise, PricesRise, RefutationsRise};
 
 /// The points within a bound are points within a greater one.
 #[tactic(auto, using(crate::proofs::Prices::points_rise))]
@@ -17,4 +17,10 @@ pub fn prices_rise()
 #[tactic(auto, using(crate::proofs::Raising::refutations_rise))]
 pub fn refutations_rise()
     ensures { RefutationsRise }
+{}
+
+/// Refutations of the turn and the fail question within a bound, of which the latter asks the bytes that the former asks, are ones within a greater bound.
+#[tactic(auto, using(crate::proofs::Raising::both_rise))]
+pub fn both_rise()
+    ensures { BothRise }
 {}

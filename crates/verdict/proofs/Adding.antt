@@ -1,9 +1,10 @@
 -- Known addresses that are asked become more from round to round, and there are no more than 2^32.
-use Rattle.std.proofs.Common.{◌≡◌, refl, sym, subst, ℕ, zero, suc, ◌-◌, ◌<◌, ◌≤◌, ◌^◌, inl, inr, List, [], arith}
+use Rattle.std.proofs.Common.{◌≡◌, refl, sym, subst, ℕ, zero, suc, ◌-◌, ◌<◌, ◌≤◌, ◌^◌, inl, inr, Bool, List, [], arith}
 use Rattle.std.specs.Prelude.{length, Contains, slice_index}
 use Rattle.std.proofs.lemmas.List.Elements.{Contains-get_or, at_from_Contains}
 use Rattle.call_spec.specs.Calls.{Question as Asked}
 use Rattle.walk_spec.specs.Unrolled.{UnrolledProgram}
+use Rattle.walk_spec.specs.WalkQuestions.{is_asked}
 use Rattle.question_form.specs.Views.{kind_of, unrolled_of}
 use Rattle.question_form.specs.Questions.{program_of_question, question_of}
 use Rattle.question_form.specs.declared.unrolled.Kind.{Kind}
@@ -11,9 +12,11 @@ use Rattle.question_form.specs.declared.questions.Passive.{Passive}
 use Rattle.question_form.specs.declared.questions.Question.{Question}
 use Rattle.bilv_spec.specs.Run.{Program}
 use Rattle.machine_spec.specs.StateText.{Layout}
-use Rattle.verdict.specs.Grounds.{Answers, IsAnswered, IsGround, IsQuestionOf}
-use Rattle.verdict.specs.Rounds.{AreAdded, AreFurther, AreRising, IsAskable, IsMerged, IsRound}
+use Rattle.verdict.specs.Grounds.{Answers, AnswersOver, IsAnswered, IsAnsweredOver, IsGround, IsQuestionOf}
+use Rattle.verdict.specs.Rounds.{AreAdded, AreFurther, AreMore, AreRising, IsAskable, IsDecided, IsMerged, IsRound}
+use Rattle.verdict.specs.declared.deciding.Decided.{Decided}
 use Rattle.verdict.specs.declared.verdicts.Answered.{Answered}
+use Rattle.verdict.specs.declared.verdicts.Answered.TheVariants as answer
 use Rattle.verdict.specs.declared.rounds.Round.{Round}
 use Rattle.verdict.specs.declared.rounds.Round.TheVariants as round
 
@@ -49,23 +52,61 @@ added_few : (u : UnrolledProgram) (added : List ℕ) → AreAdded u added → le
 added_few u added h = few_by added h.rise (λ a has. (h.known a has).0) (length added) refl
 
 -- so rounds end
-pub fewer_left : (u : UnrolledProgram) (added asked joined : List ℕ) → asked ≡ added → AreAdded u joined × (length asked < length joined) →
+pub fewer_left : (u : UnrolledProgram) (added asked joined : List ℕ) → asked ≡ added → AreMore u asked joined →
     2 ^ 32 - length joined < 2 ^ 32 - length added
 fewer_left u added asked joined e h =
-    let most = added_few u joined h.0 in
-    let more : length added < length joined = subst (λ (z : List ℕ). length z < length joined) e h.1 in
+    let most = added_few u joined h.are in
+    let more : length added < length joined = subst (λ (z : List ℕ). length z < length joined) e h.longer in
     omega (arith, most, more)
 
+-- known bytes that are asked, those from the beginning among them
+pub record AreFrom (u : UnrolledProgram) (first added : List ℕ) : Type 0 where
+  pub are : AreAdded u added
+  pub keep : (a : ℕ) → Contains first a → Contains added a
+
+pub from_first : (p : Passive) (kind : Kind) (q : Question) (first : List ℕ) → (q.passive.now ≡ p) × (q.kind ≡ kind) →
+    AreAdded (unrolled_of p.unrolled.now) first → AreFrom (program_of_question q) first first
+from_first p kind q first h are =
+    record { are = subst (λ (z : Passive). AreAdded (unrolled_of z.unrolled.now) first) (sym h.0) are; keep = λ a has. has }
+
+pub from_more : (u : UnrolledProgram) (first added asked more : List ℕ) → AreFrom u first added → asked ≡ added → AreMore u asked more → AreFrom u first more
+from_more u first added asked more h e m =
+    record { are = m.are; keep = λ a has. m.keep a (subst (λ (z : List ℕ). Contains z a) (sym e) (h.keep a has)) }
+
 -- the answer to a question of a passive program
-pub answers : (p : Passive) (kind : Kind) (q : Question) (conflicts : ℕ) (a : Answered) → IsQuestionOf p kind q →
-    Answers (program_of_question q) (question_of q) conflicts a →
-    Answers (unrolled_of p.unrolled.now) (kind_of kind) conflicts a
-answers p kind q conflicts a h is =
-    subst (λ (k : Kind). Answers (unrolled_of p.unrolled.now) (kind_of k) conflicts a) h.kind_is
-    (subst (λ (z : Passive). Answers (unrolled_of z.unrolled.now) (question_of q) conflicts a) h.of is)
+answers : (p : Passive) (kind : Kind) (q : Question) (added : List ℕ) (conflicts : ℕ) (a : Answered) → IsQuestionOf p kind q →
+    AnswersOver (program_of_question q) (question_of q) added conflicts a →
+    AnswersOver (unrolled_of p.unrolled.now) (kind_of kind) added conflicts a
+answers p kind q added conflicts a h is =
+    subst (λ (k : Kind). AnswersOver (unrolled_of p.unrolled.now) (kind_of k) added conflicts a) h.kind_is
+    (subst (λ (z : Passive). AnswersOver (unrolled_of z.unrolled.now) (question_of q) added conflicts a) h.of is)
+
+-- after the last round
+pub decided : (p : Passive) (kind : Kind) (q : Question) (first asked : List ℕ) (conflicts : ℕ) (d : Decided) → (q.passive.now ≡ p) × (q.kind ≡ kind) →
+    AreFrom (program_of_question q) first d.asked.items → asked ≡ d.asked.items →
+    AnswersOver (program_of_question q) (question_of q) asked conflicts d.answered →
+    IsDecided (unrolled_of p.unrolled.now) (kind_of kind) conflicts first d
+decided p kind q first asked conflicts d h from e is = record {
+  answers = answers p kind q d.asked.items conflicts d.answered (record { of = h.0; kind_is = h.1 })
+      (subst (λ (z : List ℕ). AnswersOver (program_of_question q) (question_of q) z conflicts d.answered) e is);
+  added = subst (λ (z : Passive). AreAdded (unrolled_of z.unrolled.now) d.asked.items) h.0 from.are;
+  keep = from.keep;
+}
+
+-- an answer over some bytes is an answer
+over_any : (p : Program) (k : ℕ) (layout : Layout) (question : Asked) (asked : ℕ → Bool) (conflicts : ℕ) (a : Answered) →
+    IsAnsweredOver p k layout question asked conflicts a → IsAnswered p k layout question conflicts a
+over_any p k layout question asked conflicts (answer.Sat s) is = is
+over_any p k layout question asked conflicts (answer.Refuted proof) is = is.refutes
+over_any p k layout question asked conflicts (answer.Spent proof) is = is
+
+pub of_decided : (u : UnrolledProgram) (question : Asked) (conflicts : ℕ) (first : List ℕ) (d : Decided) → IsDecided u question conflicts first d →
+    Answers u question conflicts d.answered
+of_decided u question conflicts first d h p k layout ground =
+    over_any p k layout question (is_asked d.asked.items u.literals) conflicts d.answered (h.answers p k layout ground)
 
 pub round_answers : (q : Question) (added : List ℕ) (conflicts : ℕ) (r : Round) (a : Answered) → IsRound q added conflicts r → r ≡ round.Answered a →
-    Answers (program_of_question q) (question_of q) conflicts a
+    AnswersOver (program_of_question q) (question_of q) added conflicts a
 round_answers q added conflicts r a h is = subst (λ (z : Round). IsRound q added conflicts z) is h
 
 pub round_breaks : (q : Question) (added : List ℕ) (conflicts : ℕ) (r : Round) (list : _) → IsRound q added conflicts r → r ≡ round.Broken list →
@@ -84,6 +125,3 @@ further_same u x y added further h e f = subst (λ (z : List ℕ). AreFurther u 
 pub answered : (u : UnrolledProgram) (question : Asked) (conflicts : ℕ) (a b : Answered) → Answers u question conflicts a → a ≡ b →
     (p : Program) (k : ℕ) (layout : Layout) → IsGround p k layout u → IsAnswered p k layout question conflicts b
 answered u question conflicts a b h is = subst (λ (z : Answered). Answers u question conflicts z) is h
-
-pub question_is : (p : Passive) (kind : Kind) (q : Question) → (q.passive.now ≡ p) × (q.kind ≡ kind) → IsQuestionOf p kind q
-question_is p kind q h = record { of = h.0; kind_is = h.1 }

@@ -14,7 +14,7 @@ use Rattle.bilv_spec.specs.Run.{Program}
 use Rattle.bilv_spec.specs.Points.{is_known_at, byte_of_cell}
 use Rattle.call_spec.specs.Calls.{Question}
 use Rattle.bilv_spec.specs.Answers.{start_in}
-use Rattle.bilv_spec.specs.Evidence.{Refutes, Spends}
+use Rattle.bilv_spec.specs.Evidence.{Spends}
 use Rattle.walk_spec.specs.Unrolled.{UnrolledProgram, byte_of_runs}
 use Rattle.walk_spec.specs.WalkQuestions.{QuestionTerm, TellsQuestion, is_asked}
 use Rattle.walk_spec.specs.Cells.{Cells, TellsCells}
@@ -23,9 +23,9 @@ use Rattle.walk_spec.proofs.Asked.{asked_is_right}
 use Rattle.walk_laws.specs.Layers.{IsLayered}
 use Rattle.walk_laws.proofs.CellValues.{word_fits}
 use Rattle.walk_laws.proofs.InputsWithin.{reading_in_range}
-use Rattle.walk_laws.proofs.QuestionClauses.{clauses_of_question}
+use Rattle.walk_laws.proofs.QuestionClauses.{asks_same, clauses_of_question, of_question}
 use Rattle.walk_laws.proofs.StartReadings.{values_give_start, start_is_written, broken_is_new}
-use Rattle.verdict.specs.Grounds.{IsGround, IsFollowedBy}
+use Rattle.verdict.specs.Grounds.{IsGround, IsFollowedBy, RefutesOver}
 use Rattle.verdict.specs.Rounds.{AreAdded, AreFurther, AreRising}
 
 -- a byte that is known by a test is one where the test says so
@@ -64,17 +64,20 @@ nat_equal = record {
 }
 
 -- what a list contains is found by a test of its elements
-any_contained : (xs : List ℕ) (a : ℕ) → Contains xs a → list_any (nat_eq a) xs ≡ true
+pub any_contained : (xs : List ℕ) (a : ℕ) → Contains xs a → list_any (nat_eq a) xs ≡ true
 any_contained xs a has = list_any-from_Contains nat_equal a xs has
 
 module _ (u : UnrolledProgram) (question : Question) (added : List ℕ) (t : QuestionTerm) (c : Cells) (cnf : Cnf) (h : AreAdded u added)
     (term : TellsQuestion u question t) (cells : TellsCells u t (is_asked added u.literals) c) (clauses : TellsClauses u c cnf) where
   -- a refutation of the clauses is one of the question
   pub refutes : (log : List LogLine) → IsRefutation cnf.variables cnf.clauses log → (p : Program) (k : ℕ) (layout : Layout) → IsGround p k layout u →
-      Refutes p k question (record { clauses = cnf; log = log })
+      RefutesOver p k question (is_asked added u.literals) (record { clauses = cnf; log = log })
   refutes log refuted p k layout g = record {
-    of_question = clauses_of_question p k question (is_asked added u.literals) u t c (layered p k layout u g added h question t c term cells) cnf clauses;
-    refutation = refuted;
+    refutes = record {
+      of_question = of_question p k question (is_asked added u.literals) u t c (layered p k layout u g added h question t c term cells) cnf clauses;
+      refutation = refuted;
+    };
+    over = asks_same p k question (is_asked added u.literals) u t c (layered p k layout u g added h question t c term cells) cnf clauses;
   }
 
   -- a spent log of the clauses is one of the question

@@ -8,7 +8,7 @@ use Rattle.known_bytes.specs.declared.listing.Known.{Known}
 use Rattle.known_bytes.specs.Runs.{run_of}
 use Rattle.question_form.specs.Questions.{program_of_question}
 use Rattle.question_form.specs.declared.questions.Question.{Question}
-use Rattle.verdict.specs.Rounds.{AreAdded, AreBeside, AreFurther, IsMerged}
+use Rattle.verdict.specs.Rounds.{AreAdded, AreBeside, AreFurther, AreMore, IsMerged}
 use Rattle.verdict.proofs.Adding.{added_merged}
 use Rattle.verdict.proofs.Merging.{snoc_rises}
 
@@ -88,8 +88,8 @@ beside_further q known added found further e (before, h) some f = subst (λ (z :
 
 -- the next round asks more
 pub asks_more : (q : Question) (added further joined : List ℕ) → AreAdded (program_of_question q) added → AreFurther (program_of_question q) added further →
-    IsMerged added further joined → AreAdded (program_of_question q) joined × (length added < length joined)
-asks_more q added further joined h f m = (added_merged (program_of_question q) added further joined h f m, longer)
+    IsMerged added further joined → AreMore (program_of_question q) added joined
+asks_more q added further joined h f m = record { are = added_merged (program_of_question q) added further joined h f m; longer = longer; keep = m.keep }
   where
     longer : length added < length joined
     longer = let count = m.count in let some = f.some in omega (arith, count, some)

@@ -37,10 +37,12 @@ use Rattle.unroller.specs.Lookups.{HasForm}
 use Rattle.notes_value.specs.Reads.{IsOver, AreOver}
 use Rattle.verdict.specs.Functions.{program_of_function}
 use Rattle.verdict.specs.Grounds.{IsGround}
-use Rattle.verdict.specs.Measures.{IsMeasurable, IsMeasured, IsUnrolledOf}
+use Rattle.verdict.specs.Measures.{IsMeasurable, IsMeasured, IsUnrolledOf, IsWeighed}
 use Rattle.verdict.specs.Rounds.{HasBytes, IsAskable}
 use Rattle.verdict.specs.declared.measuring.Measured.{Measured}
-use Rattle.verdict.specs.declared.verifying.Function.{Function}
+use Rattle.verdict.specs.declared.measuring.Weighed.{Weighed}
+use Rattle.verdict.specs.declared.measuring.Weighed.TheVariants as weighed
+use Rattle.verdict.specs.declared.shown.Function.{Function}
 use Rattle.verdict.specs.declared.measuring.Measured.TheVariants.{Above, Within}
 
 -- the rows that a lawful machine has in a file are lawful
@@ -207,13 +209,29 @@ askable u q measurable of = record {
 
 -- what an unrolled program comes to by its price
 module _ (b : Budget) (u : Unrolled) (price : ℕ) (is : price ≡ min (unrolled_price (unrolled_of u)) (2 ^ 128 - 1)) (other : price ≡ 2 ^ 128 - 1 → ⊥) where
-  pub is_above : b.size < price → IsMeasured b u (Above price)
+  pub is_above : b.size < price → IsWeighed b u (weighed.Above price)
   is_above above p form h = (no_more p form b u h, is_price p form b u h price is other, above)
 
-  pub is_within : price ≤ b.size → IsMeasurable u → (q : Passive) → IsPassiveOf u q → IsMeasured b u (Within q)
-  is_within cheap measurable q of = (
+  pub is_within : price ≤ b.size → IsWeighed b u (weighed.Within price)
+  is_within cheap p form h = fits_budget p form b u h price is other cheap
+
+-- the passive program of an unrolled program is that of the same programs
+pub passive_ground : (u : Unrolled) (q : Passive) → IsPassiveOf u q → (p : Program) (k : ℕ) (form : Layout) → IsGround p k form (unrolled_of u) →
+    IsGround p k form (unrolled_of q.unrolled.now)
+passive_ground u q of p k form h = subst (λ (z : Unrolled). IsGround p k form (unrolled_of z)) (sym of.of) h
+
+-- what an unrolled program that was weighed came to
+module _ (b : Budget) (u : Unrolled) (came : Weighed) (h : IsWeighed b u came) where
+  pub weighed_above : (price : ℕ) → came ≡ weighed.Above price → IsMeasured b u (Above price)
+  weighed_above price is = subst (IsWeighed b u) is h
+
+  pub weighed_within : (price : ℕ) → came ≡ weighed.Within price → (p : Program) (form : Layout) → IsUnrolledOf p form b u → IsWithin p b
+  weighed_within price is = subst (IsWeighed b u) is h
+
+  pub measured_within : (price : ℕ) → came ≡ weighed.Within price → IsMeasurable u → (q : Passive) → IsPassiveOf u q → IsMeasured b u (Within q)
+  measured_within price is measurable q of = (
     askable u q measurable of,
-    λ p form h. (fits_budget p form b u h price is other cheap, subst (λ (z : Unrolled). IsGround p b.unroll form (unrolled_of z)) (sym of.of) h.ground),
+    λ p form g. (weighed_within price is p form g, passive_ground u q of p b.unroll form g.ground),
     of.of,
   )
 

@@ -52,40 +52,40 @@ event_same d e a m at n h = cc
 turn_same : (a m at n : ℕ) → FoundTurn a m ≡ FoundTurn at n → Turned a m ≡ Turned at n
 turn_same a m at n h = cc
 
+-- a start that follows a reading of which some question is true is one from an entry state
+module _ (p : Program) (layout : Layout) (k : ℕ) (w : Written) where
+  -- its state
+  pub entry_state : (question : Question) → IsFollowedBy p k question (start_in p layout w) → IsEntryState p (start_in p layout w).state
+  entry_state question h = subst (λ (s : State). IsEntryState p s) (sym h.2.state) h.1.entry
+
+  pub starts : IsWritten layout (is_known_at p) w → (question : Question) → IsFollowedBy p k question (start_in p layout w) → IsStart p (start_in p layout w)
+  starts written question h = record { entry = entry_state question h; choices = written_choice layout (is_known_at p) w written }
+
+  -- its run ends as the question says
+  pub fails : HasLawfulRows p → ReadsMemory p → IsFollowedBy p k FailQuestion (start_in p layout w) → RunFails p k (start_in p layout w)
+  fails lawful reads h =
+      let f = ends_to p k h.0 (start_in p layout w) h.2 FailQuestion h.1.ends in
+      (f.0, f.1, f.2, f.3, runs_by_file p lawful reads k (start_in p layout w) (entry_state FailQuestion h) f.0 ∙ f.4)
+
 module _ (p : Program) (lawful : HasLawfulRows p) (reads : ReadsMemory p) (layout : Layout) (b : Budget) (within : IsWithin p b) (some : 1 ≤ b.points) where
   -- there is no entry state
   pub vacuous : (proof : Proof) → Refutes p b.unroll EntryQuestion proof → IsRightReport p layout b VacuousReport (EntryRefuted proof)
   vacuous proof h = (within, (questions_decide p lawful reads b.unroll Vacuous).0 (refuted_is_false p b.unroll EntryQuestion proof h), h)
 
-  -- a start that follows a reading of which some question is true is one from an entry state
   module _ (w : Written) (written : IsWritten layout (is_known_at p) w) where
-    -- its state
-    entered : (question : Question) → IsFollowedBy p b.unroll question (start_in p layout w) → IsEntryState p (start_in p layout w).state
-    entered question h = subst (λ (s : State). IsEntryState p s) (sym h.2.state) h.1.entry
-
-    starts : (question : Question) → IsFollowedBy p b.unroll question (start_in p layout w) → IsStart p (start_in p layout w)
-    starts question h = record { entry = entered question h; choices = written_choice layout (is_known_at p) w written }
-
-    -- its run ends as the question says
-    fails : IsFollowedBy p b.unroll FailQuestion (start_in p layout w) → RunFails p b.unroll (start_in p layout w)
-    fails h =
-        let f = ends_to p b.unroll h.0 (start_in p layout w) h.2 FailQuestion h.1.ends in
-        (f.0, f.1, f.2, f.3, runs_by_file p lawful reads b.unroll (start_in p layout w) (entered FailQuestion h) f.0 ∙ f.4)
-
     turns : IsFollowedBy p b.unroll TurnQuestion (start_in p layout w) → RunTurns p b.unroll (start_in p layout w)
     turns h =
         let f = ends_to p b.unroll h.0 (start_in p layout w) h.2 TurnQuestion h.1.ends in
-        (f.0, f.1, f.2, runs_by_file p lawful reads b.unroll (start_in p layout w) (entered TurnQuestion h) f.0 ∙ f.3)
+        (f.0, f.1, f.2, runs_by_file p lawful reads b.unroll (start_in p layout w) (entry_state p layout b.unroll w TurnQuestion h) f.0 ∙ f.3)
 
     -- what is found of its run within as many steps as there may be points
     abbrev here : Found
     here = found p (Some b.unroll) (start_in p layout w) (b.points - 1)
 
-    pub finds_event : IsFollowedBy p b.unroll FailQuestion (start_in p layout w) → (e : Event) × (at : ℕ) × (n : ℕ) × (here ≡ FoundEvent e at n)
-        × EndsAs p b.unroll (start_in p layout w) (Failed e at n)
-    finds_event h =
-        let f = fails h in
-        let r = few_points_are_found p lawful reads b.unroll (start_in p layout w) (entered FailQuestion h) b.points some within.points in
+    finds_event : IsStart p (start_in p layout w) → RunFails p b.unroll (start_in p layout w) →
+        (e : Event) × (at : ℕ) × (n : ℕ) × (here ≡ FoundEvent e at n) × EndsAs p b.unroll (start_in p layout w) (Failed e at n)
+    finds_event is f =
+        let r = few_points_are_found p lawful reads b.unroll (start_in p layout w) is.entry b.points some within.points in
         let same = one_end p b.unroll (start_in p layout w) r.2.0 f.0 r.0 (Failed f.3 f.1 f.2) r.1 tt r.2.1 f.4 in
         (f.3, f.1, f.2, r.3 ∙ found_fails r.0 f.3 f.1 f.2 same, (f.0, f.4))
 
@@ -93,26 +93,27 @@ module _ (p : Program) (lawful : HasLawfulRows p) (reads : ReadsMemory p) (layou
         × EndsAs p b.unroll (start_in p layout w) (Turned at n)
     finds_turn h =
         let f = turns h in
-        let r = few_points_are_found p lawful reads b.unroll (start_in p layout w) (entered TurnQuestion h) b.points some within.points in
+        let entry = entry_state p layout b.unroll w TurnQuestion h in
+        let r = few_points_are_found p lawful reads b.unroll (start_in p layout w) entry b.points some within.points in
         let same = one_end p b.unroll (start_in p layout w) r.2.0 f.0 r.0 (Turned f.1 f.2) r.1 tt r.2.1 f.3 in
         (f.1, f.2, r.3 ∙ found_turns r.0 f.1 f.2 same, (f.0, f.3))
 
     -- some run fails
-    pub fails_report : IsFollowedBy p b.unroll FailQuestion (start_in p layout w) → (e : Event) (at n : ℕ) → here ≡ FoundEvent e at n →
+    pub fails_report : IsStart p (start_in p layout w) → RunFails p b.unroll (start_in p layout w) → (e : Event) (at n : ℕ) → here ≡ FoundEvent e at n →
         IsRightReport p layout b (FailsReport e at n) (RunOf w)
-    fails_report h e at n is =
-        let f = finds_event h in
+    fails_report start failing e at n is =
+        let f = finds_event start failing in
         let same = event_same f.0 e f.1 f.2 at n (sym f.3 ∙ is) in (
           within,
-          (start_in p layout w, starts FailQuestion h, fails h),
+          (start_in p layout w, start, failing),
           written,
-          starts FailQuestion h,
+          start,
           subst (λ (r : Run). EndsAs p b.unroll (start_in p layout w) r) same f.4,
         )
 
-    pub no_other_event : IsFollowedBy p b.unroll FailQuestion (start_in p layout w) → (f : Found) → here ≡ f →
+    pub no_other_event : IsStart p (start_in p layout w) → RunFails p b.unroll (start_in p layout w) → (f : Found) → here ≡ f →
         ((e : Event) (at n : ℕ) → f ≡ FoundEvent e at n → ⊥) → ⊥
-    no_other_event h f is none = let g = finds_event h in none g.0 g.1 g.2 (sym is ∙ g.3)
+    no_other_event start failing f is none = let g = finds_event start failing in none g.0 g.1 g.2 (sym is ∙ g.3)
 
     -- no run fails, and some run makes one backward transfer too many
     pub turns_report : (IsSatisfiable p b.unroll FailQuestion → ⊥) → IsFollowedBy p b.unroll TurnQuestion (start_in p layout w) → (at n : ℕ) →
@@ -124,7 +125,7 @@ module _ (p : Program) (lawful : HasLawfulRows p) (reads : ReadsMemory p) (layou
           within,
           (questions_decide p lawful reads b.unroll Unroll).0 (never, (h.0, h.1)),
           written,
-          starts TurnQuestion h,
+          starts p layout b.unroll w written TurnQuestion h,
           subst (λ (r : Run). EndsAs p b.unroll (start_in p layout w) r) same f.3,
         )
 
@@ -132,14 +133,17 @@ module _ (p : Program) (lawful : HasLawfulRows p) (reads : ReadsMemory p) (layou
     no_other_turn h f is none = let g = finds_turn h in none g.0 g.1 (sym is ∙ g.2)
 
     -- all runs return without an event
-    pub holds : IsFollowedBy p b.unroll EntryQuestion (start_in p layout w) → (fail turn : Proof) → Refutes p b.unroll FailQuestion fail →
+    pub holds : IsEntryState p (start_in p layout w).state → (fail turn : Proof) → Refutes p b.unroll FailQuestion fail →
         Refutes p b.unroll TurnQuestion turn → IsRightReport p layout b HoldsReport (Refutations w fail turn)
-    holds h fail turn f t = (
+    holds entry fail turn f t = (
       within,
-      (questions_decide p lawful reads b.unroll Holds).0
-          ((h.0, h.1), refuted_is_false p b.unroll FailQuestion fail f, refuted_is_false p b.unroll TurnQuestion turn t),
+      (questions_decide p lawful reads b.unroll Holds).0 (
+        (questions_are_of_runs p lawful reads b.unroll EntryQuestion).1 ((start_in p layout w).state, entry),
+        refuted_is_false p b.unroll FailQuestion fail f,
+        refuted_is_false p b.unroll TurnQuestion turn t,
+      ),
       written,
-      entered EntryQuestion h,
+      entry,
       f,
       t,
     )
@@ -147,7 +151,7 @@ module _ (p : Program) (lawful : HasLawfulRows p) (reads : ReadsMemory p) (layou
     -- the conflicts are spent on the fail question
     pub spent_on_fail : IsFollowedBy p b.unroll EntryQuestion (start_in p layout w) → (proof : Proof) → Spends p b.unroll FailQuestion b.conflicts proof →
         IsRightReport p layout b ConflictsReport (SpentOn FailQuestion proof)
-    spent_on_fail h proof s = (within, ((start_in p layout w).state, entered EntryQuestion h), s)
+    spent_on_fail h proof s = (within, ((start_in p layout w).state, entry_state p layout b.unroll w EntryQuestion h), s)
 
     -- and on the turn question
     pub spent_on_turn : IsFollowedBy p b.unroll EntryQuestion (start_in p layout w) → (fail : Proof) → Refutes p b.unroll FailQuestion fail → (proof : Proof) →
@@ -155,7 +159,7 @@ module _ (p : Program) (lawful : HasLawfulRows p) (reads : ReadsMemory p) (layou
     spent_on_turn h fail f proof s = (
       within,
       (
-        ((start_in p layout w).state, entered EntryQuestion h),
+        ((start_in p layout w).state, entry_state p layout b.unroll w EntryQuestion h),
         λ start is fails. refuted_is_false p b.unroll FailQuestion fail f ((questions_are_of_runs p lawful reads b.unroll FailQuestion).1 (start, is, fails)),
       ),
       s,

@@ -10,3 +10,4 @@ pub mod ThreeQuestions
 pub mod Certifies
 pub mod OneWay
 pub mod ScriptLaws
+pub mod EarlyVerdicts

@@ -3,7 +3,7 @@ use Rattle.std.proofs.Common.{◌≡◌, refl, sym, subst, ◌∙◌, ℕ, zero,
 use Rattle.std.specs.Prelude.{length, Contains, slice_index, nat_lt}
 use Rattle.std.proofs.lemmas.Bool.Decides.{nat_tests}
 use Rattle.std.proofs.lemmas.List.{length-append}
-use Rattle.std.proofs.lemmas.List.Elements.{Contains-get_or, Contains-push_cases, at_from_Contains}
+use Rattle.std.proofs.lemmas.List.Elements.{Contains-append_left, Contains-get_or, Contains-push, Contains-push_cases, at_from_Contains}
 use Rattle.verdict.specs.Rounds.{AreRising, IsMerging, IsMerged}
 
 -- a number that is at most another is below it or equal
@@ -41,6 +41,7 @@ module _ (xs ys : List ℕ) (rise_x : AreRising xs) (rise_y : AreRising ys) (apa
   merging_none = record {
     rise = λ i j lt end. absurd (omega arith);
     only = λ a c. absurd (none a c);
+    kept = λ n l. absurd (omega arith);
     count = refl;
     below = λ a c. absurd (none a c);
     under =
@@ -62,6 +63,10 @@ module _ (xs ys : List ℕ) (rise_x : AreRising xs) (rise_y : AreRising ys) (apa
       | inl old ↦ h.only a old
       | inr e ↦ inl (subst
           (λ (n : ℕ). Contains xs n) e (Contains-get_or xs i 0 within))
+    ];
+    kept = λ n l. elim (split n i (omega (arith, l))) [
+      | inl old ↦ Contains-append_left joined (slice_index xs i ∷ []) (slice_index xs n) (h.kept n old)
+      | inr e ↦ subst (λ (z : ℕ). Contains (joined ++ slice_index xs i ∷ []) (slice_index xs z)) (sym e) (Contains-push joined (slice_index xs i))
     ];
     count = length-append joined (slice_index xs i ∷ []) ∙ (let e = h.count in omega arith);
     below = λ a c more. elim (Contains-push_cases joined (slice_index xs i) a c) [
@@ -87,6 +92,7 @@ module _ (xs ys : List ℕ) (rise_x : AreRising xs) (rise_y : AreRising ys) (apa
       | inr e ↦ inr (subst
           (λ (n : ℕ). Contains ys n) e (Contains-get_or ys j 0 within))
     ];
+    kept = λ n l. Contains-append_left joined (slice_index ys j ∷ []) (slice_index xs n) (h.kept n l);
     count = length-append joined (slice_index ys j ∷ []) ∙ (let e = h.count in omega arith);
     below = λ a c more. elim (Contains-push_cases joined (slice_index ys j) a c) [
       | inl old ↦ h.below a old more
@@ -102,7 +108,13 @@ module _ (xs ys : List ℕ) (rise_x : AreRising xs) (rise_y : AreRising ys) (apa
       strict m n le ne = elim (split m n le) [ inl lt ↦ lt | inr e ↦ absurd (ne e) ]
 
   pub merged : (i j : ℕ) (joined : List ℕ) → IsMerging xs ys i j joined → i ≡ length xs → j ≡ length ys → IsMerged xs ys joined
-  merged i j joined h p q = record { rise = h.rise; only = h.only; count = h.count ∙ (omega (arith, p, q)) }
+  merged i j joined h p q = record {
+    rise = h.rise;
+    only = h.only;
+    keep = λ a has. (let at = at_from_Contains xs a has in
+        subst (λ (z : ℕ). Contains joined z) (at.2 0) (h.kept at.0 (omega (arith, at.1, p))));
+    count = h.count ∙ (omega (arith, p, q));
+  }
 
 -- the loop that puts two lists together: both places are within their lists
 pub record IsMergingWithin (xs ys : List ℕ) (i j : ℕ) (joined : List ℕ) : Type 0 where

@@ -1,10 +1,12 @@
 -- What a question of a program comes to.
-use Rattle.std.specs.Prelude.{ℕ, ◌≡◌, ◌≤◌, ◌+◌, length}
+use Rattle.std.specs.Prelude.{ℕ, ◌≡◌, ◌≤◌, ◌+◌, Bool, List, length}
+use Rattle.clause_spec.specs.Refutation.{Proof}
 use Rattle.machine_spec.specs.StateText.{Layout, IsWritten, last_step}
 use Rattle.bilv_spec.specs.Run.{Program}
-use Rattle.machine_spec.specs.Endings.{Start}
+use Rattle.machine_spec.specs.Endings as endings
 use Rattle.bilv_spec.specs.Points.{is_known_at}
 use Rattle.bilv_spec.specs.PointLaws.{HasLawfulRows}
+use Rattle.bilv_spec.specs.Verdict.{IsStart, RunFails}
 use Rattle.bilv_spec.specs.Questions.{Reading, IsTrue}
 use Rattle.call_spec.specs.Calls.{Question}
 use Rattle.bilv_spec.specs.QuestionLaws.{Follows}
@@ -12,12 +14,14 @@ use Rattle.bilv_spec.specs.Answers.{start_in}
 use Rattle.bilv_spec.specs.Evidence.{Refutes, Spends}
 use Rattle.walk_spec.specs.Unrolled.{UnrolledProgram}
 use Rattle.walk_spec.specs.Unrolling.{IsUnrolling, IsLaidOut}
+use Rattle.walk_spec.specs.WalkQuestions.{is_asked}
 use Rattle.walk_laws.specs.Layers.{IsFitting}
 use Rattle.question_form.specs.declared.unrolled.Kind.{Kind}
 use Rattle.question_form.specs.declared.questions.Passive.{Passive}
 use Rattle.question_form.specs.declared.questions.Question as asked
 use Rattle.cnf_form.specs.Views.{proof_of}
 use Rattle.state_text.specs.Starts.{written_of}
+use Rattle.state_text.specs.declared.start.Start.{Start}
 use Rattle.verdict.specs.declared.verdicts.Answered.{Answered}
 use Rattle.verdict.specs.declared.verdicts.Answered.TheVariants.{Sat, Refuted, Spent}
 
@@ -30,7 +34,7 @@ pub record IsGround (p : Program) (k : ℕ) (layout : Layout) (u : UnrolledProgr
   pub steps : length u.points ≤ last_step + 1
 
 -- some reading that makes the question true is followed by a start
-abbrev pub IsFollowedBy : Program → (k : ℕ) → Question → Start → Type 0
+abbrev pub IsFollowedBy : Program → (k : ℕ) → Question → endings.Start → Type 0
 IsFollowedBy p k question start = (r : Reading) × IsTrue p k r question × Follows p k r start
 
 -- A question is answered: by a start that can be written, with a reading that makes the question true; by a refutation; or by a log that spends the conflicts.
@@ -39,6 +43,28 @@ IsAnswered p k layout question conflicts (Sat s) =
     IsWritten layout (is_known_at p) (written_of s) × IsFollowedBy p k question (start_in p layout (written_of s))
 IsAnswered p k layout question conflicts (Refuted proof) = Refutes p k question (proof_of proof)
 IsAnswered p k layout question conflicts (Spent proof) = Spends p k question conflicts (proof_of proof)
+
+-- a refutation of a question over these bytes of the file
+pub record RefutesOver (p : Program) (k : ℕ) (question : Question) (asked : ℕ → Bool) (proof : Proof) : Type 0 where
+  pub refutes : Refutes p k question proof
+  pub over : refutes.of_question.asked ≡ asked
+
+-- a question is answered, where a refutation is over these bytes of the file
+abbrev pub IsAnsweredOver : Program → (k : ℕ) → Layout → Question → (asked : ℕ → Bool) → (conflicts : ℕ) → Answered → Type 0
+IsAnsweredOver p k layout question asked conflicts (Sat s) = IsAnswered p k layout question conflicts (Sat s)
+IsAnsweredOver p k layout question asked conflicts (Refuted proof) = RefutesOver p k question asked (proof_of proof)
+IsAnsweredOver p k layout question asked conflicts (Spent proof) = IsAnswered p k layout question conflicts (Spent proof)
+
+-- it is the answer over the bytes that were added to those of literals, for every program of which the unrolled program is
+abbrev pub AnswersOver : UnrolledProgram → Question → (added : List ℕ) → (conflicts : ℕ) → Answered → Type 0
+AnswersOver u question added conflicts a =
+    (p : Program) (k : ℕ) (layout : Layout) → IsGround p k layout u → IsAnsweredOver p k layout question (is_asked added u.literals) conflicts a
+
+-- a start that can be written has a run with an event
+pub record IsFailing (p : Program) (k : ℕ) (layout : Layout) (s : Start) : Type 0 where
+  pub written : IsWritten layout (is_known_at p) (written_of s)
+  pub start : IsStart p (start_in p layout (written_of s))
+  pub fails : RunFails p k (start_in p layout (written_of s))
 
 -- it is the answer for every program of which the unrolled program is
 abbrev pub Answers : UnrolledProgram → Question → (conflicts : ℕ) → Answered → Type 0

@@ -3,3 +3,4 @@ pub mod Rounds
 pub mod Verdicts
 pub mod Functions
 pub mod Measures
+pub mod FewerTurns

@@ -13,6 +13,8 @@ use Rattle.walk_spec.specs.Unrolling.{IsWalkable}
 use Rattle.verdict.specs.Grounds.{IsGround}
 use Rattle.verdict.specs.Rounds.{HasBytes, IsAskable}
 use Rattle.verdict.specs.declared.measuring.Measured.{Measured}
+use Rattle.verdict.specs.declared.measuring.Weighed.{Weighed}
+use Rattle.verdict.specs.declared.measuring.Weighed.TheVariants as weighed
 use Rattle.verdict.specs.declared.measuring.Measured.TheVariants.{Above, Within}
 
 -- an unrolled program of which a passive one can be made, and then questions asked
@@ -27,6 +29,12 @@ pub record IsUnrolledOf (p : Program) (layout : Layout) (b : Budget) (u : Unroll
   pub measurable : IsMeasurable u
   pub ground : IsGround p b.unroll layout (unrolled_of u)
   pub few : length (unrolled_of u).points ≤ b.points
+
+-- The price of a program is above the budget, or the program is within the budgets.
+abbrev pub IsWeighed : Budget → Unrolled → Weighed → Type 0
+IsWeighed b u (weighed.Above price) =
+    (p : Program) (layout : Layout) → IsUnrolledOf p layout b u → (¬ HasMore p b.unroll b.points) × IsPrice p b.unroll price × (b.size < price)
+IsWeighed b u (weighed.Within price) = (p : Program) (layout : Layout) → IsUnrolledOf p layout b u → IsWithin p b
 
 -- The price of a program is above the budget; or the program is within the budgets, and this is the passive program of the unrolled one.
 abbrev pub IsMeasured : Budget → Unrolled → Measured → Type 0

@@ -15,7 +15,9 @@ use Rattle.question_form.specs.Questions.{passive_of, program_of_question, quest
 use Rattle.question_form.specs.Views.{unrolled_of}
 use Rattle.question_form.specs.declared.questions.Passive.{Passive}
 use Rattle.question_form.specs.declared.questions.Question.{Question}
-use Rattle.verdict.specs.Grounds.{Answers}
+use Rattle.call_spec.specs.Calls as asked
+use Rattle.verdict.specs.Grounds.{AnswersOver}
+use Rattle.verdict.specs.declared.deciding.Decided.{Decided}
 use Rattle.verdict.specs.declared.verdicts.Answered.TheVariants.{Sat, Refuted, Spent}
 use Rattle.verdict.specs.declared.rounds.Round.{Round}
 use Rattle.verdict.specs.declared.rounds.Round.TheVariants.{Answered, Broken}
@@ -46,6 +48,12 @@ pub record AreFurther (u : UnrolledProgram) (added further : List ℕ) : Type 0 
   pub some : 0 < length further
   pub new : (a : ℕ) → Contains further a → ¬ Contains added a
 
+-- more than before, those before among them
+pub record AreMore (u : UnrolledProgram) (added more : List ℕ) : Type 0 where
+  pub are : AreAdded u more
+  pub longer : length added < length more
+  pub keep : (a : ℕ) → Contains added a → Contains more a
+
 -- rising addresses of known bytes before one, of which none was among those that were added
 pub record AreBeside (known : List Known) (added : List ℕ) (before : ℕ) (found : List ℕ) : Type 0 where
   pub rise : AreRising found
@@ -57,6 +65,7 @@ pub record AreBeside (known : List Known) (added : List ℕ) (before : ℕ) (fou
 pub record IsMerging (xs ys : List ℕ) (i j : ℕ) (joined : List ℕ) : Type 0 where
   pub rise : AreRising joined
   pub only : (a : ℕ) → Contains joined a → Contains xs a ⊎ Contains ys a
+  pub kept : (n : ℕ) → n < i → Contains joined (slice_index xs n)
   pub count : length joined ≡ i + j
   pub below : (a : ℕ) → Contains joined a → i < length xs → a < slice_index xs i
   pub under : (a : ℕ) → Contains joined a → j < length ys → a < slice_index ys j
@@ -65,12 +74,19 @@ pub record IsMerging (xs ys : List ℕ) (i j : ℕ) (joined : List ℕ) : Type 0
 pub record IsMerged (xs ys joined : List ℕ) : Type 0 where
   pub rise : AreRising joined
   pub only : (a : ℕ) → Contains joined a → Contains xs a ⊎ Contains ys a
+  pub keep : (a : ℕ) → Contains xs a → Contains joined a
   pub count : length joined ≡ length xs + length ys
 
 -- the question's answer, or further known bytes to ask
 abbrev pub IsRound : Question → (added : List ℕ) → (conflicts : ℕ) → Round → Type 0
-IsRound q added conflicts (Answered a) = Answers (program_of_question q) (question_of q) conflicts a
+IsRound q added conflicts (Answered a) = AnswersOver (program_of_question q) (question_of q) added conflicts a
 IsRound q added conflicts (Broken list) = AreFurther (program_of_question q) added list.items
+
+-- A question came to an answer, over the bytes that were asked: those that were to be asked, and maybe others.
+pub record IsDecided (u : UnrolledProgram) (question : asked.Question) (conflicts : ℕ) (first : List ℕ) (d : Decided) : Type 0 where
+  pub answers : AnswersOver u question d.asked.items conflicts d.answered
+  pub added : AreAdded u d.asked.items
+  pub keep : (a : ℕ) → Contains first a → Contains d.asked.items a
 
 -- satisfying values come to a start that is theirs, or to the known bytes that they have not
 abbrev pub AreJudged : Celled → (values : List Bool) → Round → Type 0

@@ -2,7 +2,7 @@
 ghost use Rattle.std.specs.Prelude.{◌≡◌, ◌≤◌, ◌<◌, ◌⊎◌, ℕ, true, false, IfOk, Contains, length, slice_index};
 ghost use Rattle.question_form.specs.Questions.{program_of_question};
 ghost use Rattle.question_form.specs.Views.{kind_of, unrolled_of};
-ghost use Rattle.verdict.specs.Rounds.{AreAdded, AreFurther, AreRising, IsAskable, IsMerged};
+ghost use Rattle.verdict.specs.Rounds.{AreAdded, AreFurther, AreMore, AreRising, IsAskable, IsDecided, IsMerged};
 ghost use Rattle.verdict.specs.Grounds.{Answers};
 
 use crate::Answered;
@@ -58,7 +58,7 @@ fn asked_next(
 ) -> Result<Vec<u32>, AllocError>
     requires added { AreAdded (program_of_question question.now) added.now }
     requires broken { AreFurther (program_of_question question.now) added.now broken.now }
-    ensures { IfOk result (λ v. AreAdded (program_of_question question.now) v.items × (length added.now < length v.items)) }
+    ensures { IfOk result (λ v. AreMore (program_of_question question.now) added.now v.items) }
 {
     let beside = known_beside(alloc, &question.passive.unrolled.known, added, broken)?;
     if beside.is_empty() {
@@ -67,6 +67,37 @@ fn asked_next(
     }
     let joined = with_further(alloc, added, &beside)?;
     Ok(joined)
+}
+
+/// What a question comes to, and the addresses whose bytes were asked for it besides those of literals.
+#[derive(Drop)]
+pub struct Decided {
+    pub answered: Answered,
+    pub asked: Vec<u32>,
+}
+
+/// What a question of a passive program comes to, within so many conflicts of the search, where the bytes at some addresses are asked from the beginning. The
+/// error is want of memory.
+pub fn decide_from(
+    alloc: Global,
+    passive: &Passive,
+    kind: Kind,
+    conflicts: u64,
+    first: Vec<u32>,
+) -> Result<Decided, AllocError>
+    requires some { 1 ≤ conflicts }
+    requires askable { IsAskable passive.now }
+    requires first { AreAdded (unrolled_of passive.now.unrolled.now) first.items }
+    ensures { IfOk result (λ d. IsDecided (unrolled_of passive.now.unrolled.now) (kind_of kind) conflicts first.items d) }
+{
+    let question = question(alloc, passive, kind)?;
+    let mut asked = first;
+    loop {
+        match one_round(alloc, &question, &asked, conflicts)? {
+            Round::Answered(answered) => return Ok(Decided { answered, asked }),
+            Round::Broken(broken) => asked = asked_next(alloc, &question, &asked, &broken)?,
+        }
+    }
 }
 
 /// What a question of a passive program comes to, within so many conflicts of the search. The bytes of the file are asked on demand: at first those of literals
@@ -82,12 +113,7 @@ pub fn decide(
     requires askable { IsAskable passive.now }
     ensures { IfOk result (λ a. Answers (unrolled_of passive.now.unrolled.now) (kind_of kind) conflicts a) }
 {
-    let question = question(alloc, passive, kind)?;
-    let mut added = Vec::new(alloc);
-    loop {
-        match one_round(alloc, &question, &added, conflicts)? {
-            Round::Answered(answered) => return Ok(answered),
-            Round::Broken(broken) => added = asked_next(alloc, &question, &added, &broken)?,
-        }
-    }
+    let none = Vec::new(alloc);
+    let decided = decide_from(alloc, passive, kind, conflicts, none)?;
+    Ok(decided.answered)
 }

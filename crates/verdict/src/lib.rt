@@ -4,14 +4,18 @@
 mod blocks;
 mod certifying;
 mod deciding;
+mod early;
 mod measuring;
 mod rounds;
 mod scripting;
+mod shown;
 mod verdicts;
 mod verifying;
 
 pub use certifying::certify;
 pub use deciding::decide;
+pub use measuring::{Measured, measure, unroll_within};
 pub use scripting::script;
+pub use shown::Function;
 pub use verdicts::{Answered, Budget, Certified, Scripted, Verdict};
 pub use verifying::verify;

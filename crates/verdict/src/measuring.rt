@@ -6,7 +6,7 @@ ghost use Rattle.program_points.specs.Listed.{HasOneWay, IsTooMany};
 ghost use Rattle.state_text.specs.Starts.{layout_of};
 ghost use Rattle.notes_lang.specs.Drafting.{notes_of};
 ghost use Rattle.notes_value.specs.Reads.{AreOver};
-ghost use Rattle.verdict.specs.Measures.{IsMeasurable, IsMeasured, IsUnrolledOf};
+ghost use Rattle.verdict.specs.Measures.{IsMeasurable, IsMeasured, IsUnrolledOf, IsWeighed};
 ghost use Rattle.verdict.specs.Verdicts.{budget_of};
 
 use crate::Budget;
@@ -19,6 +19,13 @@ use program_points::PointsFault;
 use question_form::{Passive, Unrolled};
 use std::alloc::{AllocError, Global};
 use unroller::{price, unroll};
+
+/// The price of an unrolled program, by the budget.
+#[derive(Clone, Copy, PartialEq, Eq, Debug)]
+pub enum Weighed {
+    Above(u128),
+    Within(u128),
+}
 
 /// What an unrolled program comes to by its price.
 #[derive(Drop)]
@@ -62,6 +69,21 @@ pub fn unroll_within<'a, M: Machine>(
     )
 }
 
+/// The price of an unrolled program, above the budget or within it. A price of 2^128 - 1 or more counts as want of memory, which is the error.
+pub fn weigh(budget: &Budget, unrolled: &Unrolled) -> Result<Weighed, AllocError>
+    requires { IsMeasurable unrolled.now }
+    ensures { IfOk result (IsWeighed (budget_of budget.now) unrolled.now) }
+{
+    let price = price(unrolled);
+    if price == u128::MAX {
+        return Err(AllocError);
+    }
+    if price > budget.size as u128 {
+        return Ok(Weighed::Above(price));
+    }
+    Ok(Weighed::Within(price))
+}
+
 /// The price of an unrolled program that is above the budget, or its passive program. The error is want of memory; a price of 2^128 - 1 or more counts as that.
 pub fn measure<'a>(
     alloc: Global,
@@ -71,13 +93,11 @@ pub fn measure<'a>(
     requires { IsMeasurable unrolled.now }
     ensures { IfOk result (IsMeasured (budget_of budget.now) unrolled.now) }
 {
-    let price = price(unrolled);
-    if price == u128::MAX {
-        return Err(AllocError);
+    match weigh(budget, unrolled)? {
+        Weighed::Above(price) => Ok(Measured::Above(price)),
+        Weighed::Within(_) => {
+            let passive = passive(alloc, unrolled)?;
+            Ok(Measured::Within(passive))
+        }
     }
-    if price > budget.size as u128 {
-        return Ok(Measured::Above(price));
-    }
-    let passive = passive(alloc, unrolled)?;
-    Ok(Measured::Within(passive))
 }

@@ -15,7 +15,7 @@ ghost use Rattle.verdict.specs.Rounds.{IsAskable};
 ghost use Rattle.verdict.specs.Verdicts.{IsScripted, budget_of};
 
 use crate::measuring::{Measured, measure, unroll_within};
-use crate::verifying::Function;
+use crate::shown::Function;
 use crate::{Budget, Scripted};
 use elf32_reader::Image;
 use machine_law::Machine;

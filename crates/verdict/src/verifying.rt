@@ -1,118 +1,32 @@
 //! The verdict on the function of two files.
-ghost use Rattle.std.specs.Prelude.{◌≡◌, ◌<◌, ◌-◌, ℕ, Some, IfOk, slice_index};
+ghost use Rattle.std.specs.Prelude.{◌≡◌, ◌<◌, ℕ, IfOk, slice_index};
 ghost use Rattle.bilv_spec.specs.Files.{order_of, program_of};
-ghost use Rattle.call_spec.specs.Calls.{IsBudget, FailQuestion, TurnQuestion};
-ghost use Rattle.bilv_spec.specs.Answers.{IsWithin, start_in};
-ghost use Rattle.bilv_spec.specs.Points.{is_known_at};
-ghost use Rattle.bilv_spec.specs.PointLaws.{HasLawfulRows};
-ghost use Rattle.bilv_spec.specs.Questions.{IsSatisfiable};
-ghost use Rattle.bilv_spec.specs.Reports.{found};
-ghost use Rattle.machine_spec.specs.StateText.{IsWritten};
+ghost use Rattle.call_spec.specs.Calls.{IsBudget};
+ghost use Rattle.bilv_spec.specs.Answers.{IsWithin};
 ghost use Rattle.program_points.specs.Listed.{HasOneWay};
 ghost use Rattle.question_form.specs.Views.{unrolled_of};
 ghost use Rattle.notes_lang.specs.Drafting.{notes_of};
 ghost use Rattle.notes_value.specs.Reads.{AreOver, AreReadable};
-ghost use Rattle.state_text.specs.Starts.{written_of};
-ghost use Rattle.table_run.specs.Endings.{found_of};
 ghost use Rattle.verdict.specs.Functions.{program_of_function};
-ghost use Rattle.verdict.specs.Grounds.{IsAnswered, IsGround};
+ghost use Rattle.verdict.specs.Grounds.{IsGround};
 ghost use Rattle.verdict.specs.Measures.{IsUnrolledOf};
 ghost use Rattle.verdict.specs.Rounds.{IsAskable};
 ghost use Rattle.verdict.specs.Verdicts.{IsVerdict, budget_of};
 
-use crate::measuring::{Measured, measure, unroll_within};
+use crate::early::judge_early;
+use crate::measuring::{Weighed, unroll_within, weigh};
+use crate::shown::{Function, failing, turning};
 use crate::{Answered, Budget, Verdict, decide};
 use elf32_reader::Image;
 use machine_law::Machine;
 use notes_lang::Notes;
+use passify::passive;
 use program_points::PointsFault;
 use question_form::{Kind, Passive, Unrolled};
-use state_text::Start;
 use std::alloc::{AllocError, Global};
-use table_run::{Ending, run};
 
-/// A function of two files: the image, the notes, and the address of the function.
-#[derive(Clone, Copy)]
-pub struct Function<'a, 'b> {
-    pub image: &'a Image<'b>,
-    pub notes: &'a Notes,
-    pub entry: u32,
-}
-
-/// What the run from a start comes to within as many steps as there may be points.
-fn ending<M: Machine>(
-    alloc: Global,
-    function: &Function,
-    budget: &Budget,
-    start: &Start,
-) -> Result<Ending, AllocError>
-    requires order { order_of function.now.image.now ≡ M.machine.endian }
-    requires readable { AreReadable M.machine.has_register (notes_of function.now.notes.now) }
-    requires budget { IsBudget (budget_of budget.now) }
-    requires written { IsWritten M.form (is_known_at (program_of_function M.machine function.now)) (written_of start.now) }
-    ensures { IfOk result (λ e. found_of e ≡ found (program_of_function M.machine function.now) (Some budget.now.unroll)
-        (start_in (program_of_function M.machine function.now) M.form (written_of start.now))
-        (budget.now.points - 1)) }
-{
-    let ending = run::<M>(
-        alloc,
-        function.image,
-        function.notes,
-        function.entry,
-        start,
-        Some(budget.unroll),
-        budget.points,
-    )?;
-    Ok(ending)
-}
-
-/// The event of the run from a start that shows that some run fails.
-fn failing<M: Machine>(
-    alloc: Global,
-    function: &Function,
-    budget: &Budget,
-    start: Start,
-) -> Result<Verdict, AllocError>
-    requires order { order_of function.now.image.now ≡ M.machine.endian }
-    requires readable { AreReadable M.machine.has_register (notes_of function.now.notes.now) }
-    requires budget { IsBudget (budget_of budget.now) }
-    requires within { IsWithin (program_of_function M.machine function.now) (budget_of budget.now) }
-    requires lawful { HasLawfulRows (program_of_function M.machine function.now) }
-    requires fails { IsAnswered (program_of_function M.machine function.now) budget.now.unroll M.form FailQuestion budget.now.conflicts (Answered.Sat start) }
-    ensures { IfOk result (λ v. IsVerdict (program_of_function M.machine function.now) M.form budget.now v) }
-{
-    match ending::<M>(alloc, function, budget, &start)? {
-        Ending::Failed { event, at, step } => Ok(Verdict::Fails {
-            event,
-            at,
-            step,
-            start,
-        }),
-        _ => unreachable!(),
-    }
-}
-
-/// The last step of the run from a start that shows that some run makes one backward transfer too many, where none fails.
-fn turning<M: Machine>(
-    alloc: Global,
-    function: &Function,
-    budget: &Budget,
-    start: Start,
-) -> Result<Verdict, AllocError>
-    requires order { order_of function.now.image.now ≡ M.machine.endian }
-    requires readable { AreReadable M.machine.has_register (notes_of function.now.notes.now) }
-    requires budget { IsBudget (budget_of budget.now) }
-    requires within { IsWithin (program_of_function M.machine function.now) (budget_of budget.now) }
-    requires lawful { HasLawfulRows (program_of_function M.machine function.now) }
-    requires never { IsSatisfiable (program_of_function M.machine function.now) budget.now.unroll FailQuestion → ⊥ }
-    requires turns { IsAnswered (program_of_function M.machine function.now) budget.now.unroll M.form TurnQuestion budget.now.conflicts (Answered.Sat start) }
-    ensures { IfOk result (λ v. IsVerdict (program_of_function M.machine function.now) M.form budget.now v) }
-{
-    match ending::<M>(alloc, function, budget, &start)? {
-        Ending::Turned { at, step } => Ok(Verdict::Unroll { at, step, start }),
-        _ => unreachable!(),
-    }
-}
+/// The price from which on smaller bounds are tried first. Cheaper programs are unrolled once, for the whole bound.
+const DEAR: u128 = 2_000_000;
 
 /// The verdict by the three questions in their order.
 fn judge<M: Machine>(
@@ -163,7 +77,7 @@ fn judge<M: Machine>(
     }
 }
 
-/// The verdict by an unrolled program: that its price is above the budget, or what the three questions come to.
+/// The verdict by an unrolled program: that its price is above the budget, or what the three questions come to, within a smaller bound where that settles them.
 fn judge_unrolled<M: Machine>(
     alloc: Global,
     function: &Function,
@@ -171,15 +85,27 @@ fn judge_unrolled<M: Machine>(
     unrolled: &Unrolled,
 ) -> Result<Verdict, AllocError>
     requires order { order_of function.now.image.now ≡ M.machine.endian }
+    requires file { (i : ℕ) → slice_index function.now.image.now i < 256 }
+    requires one_way { HasOneWay (program_of_function M.machine function.now) }
     requires readable { AreReadable M.machine.has_register (notes_of function.now.notes.now) }
+    requires over { AreOver M.machine.has_register M.machine.has_flag (notes_of function.now.notes.now) }
     requires budget { IsBudget (budget_of budget.now) }
     requires unrolled { IsUnrolledOf (program_of_function M.machine function.now) M.form (budget_of budget.now) unrolled.now }
     ensures { IfOk result (λ v. IsVerdict (program_of_function M.machine function.now) M.form budget.now v) }
 {
-    match measure(alloc, budget, unrolled)? {
-        Measured::Above(price) => Ok(Verdict::Size { price }),
-        Measured::Within(passive) => judge::<M>(alloc, function, budget, &passive),
+    let price = match weigh(budget, unrolled)? {
+        Weighed::Above(price) => return Ok(Verdict::Size { price }),
+        Weighed::Within(price) => price,
+    };
+    if price >= DEAR {
+        let early = judge_early::<M>(alloc, function, budget, unrolled)?;
+        if let Some(verdict) = early {
+            return Ok(verdict);
+        }
     }
+    let passive = passive(alloc, unrolled)?;
+    let verdict = judge::<M>(alloc, function, budget, &passive)?;
+    Ok(verdict)
 }
 
 /// The verdict on the function at an address of an image, by its notes and within the budgets, with what shows it: first that there are more points than the

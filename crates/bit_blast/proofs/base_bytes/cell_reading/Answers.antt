@@ -11,7 +11,7 @@ returns c = λ u k placed.
     record {
       regs = λ n. register_is u k v p placed n _ (c.in_ok-registers.ensures n);
       flags = λ f. flag_of u k v p placed f _ (c.in_ok-flags.ensures f);
-      choice = λ i. drawn_is u k v p placed i _ (c.in_ok-choices.ensures i);
+      choice = λ i. drawn_is u k v p placed i _ (c.in_ok-choices.ensures.each i);
       count = c.in_ok-base.ensures.count ∙ placed.reads;
       base = λ j l. c.in_ok-base.ensures.each j (omega (arith, placed.reads, l)) ∙ byte_is u k v p placed j l;
     }

@@ -23,5 +23,5 @@ returns c =
           (c.in_ok-memory.ensures.value a ∙ ap (λ (z : List Known). known_or
           (byte_of_runs (map run_of z) (word 32 a)) c.args.bytes.now a) c.deref.ensures.value);
       small = λ a. byte_below _;
-      choice = λ i. drawn_is u k v p c.requires.placed i _ (c.in_ok-choices.ensures i);
+      choice = λ i. drawn_is u k v p c.requires.placed i _ (c.in_ok-choices.ensures.each i);
     }

@@ -1,13 +1,11 @@
-use Rattle.std.proofs.Common.{arith}
 use Rattle.verdict.specs.Verdicts.{budget_of}
-use Rattle.verdict.proofs.Grounding.{is_above, is_within}
+use Rattle.verdict.proofs.Grounding.{weighed_above, measured_within}
 use Rattle.verdict.proofs.measuring.measure.Goals as goal
 
-pub returns-then-price-budget : goal.returns-then-price-budget
-returns-then-price-budget c = is_above (budget_of c.args.budget.now) c.args.unrolled.now c.price-price.result c.price-price.ensures c.if-price.false
-    c.if-price-budget.true
+pub returns-in-Above : goal.returns-in-Above
+returns-in-Above c = weighed_above (budget_of c.args.budget.now) c.args.unrolled.now c.in_ok-price.field-0 c.in_ok-price.ensures c.in-Above.price c.in-Above.is
 
-pub returns : goal.returns
-returns c =
-    is_within (budget_of c.args.budget.now) c.args.unrolled.now c.price-price.result c.price-price.ensures c.if-price.false
-    (let cheap = c.if-price-budget.false in omega (arith, cheap)) c.requires c.in_ok-passive.passive c.in_ok-passive.ensures
+pub returns-in_ok-passive-in-Within : goal.returns-in_ok-passive-in-Within
+returns-in_ok-passive-in-Within c =
+    measured_within (budget_of c.args.budget.now) c.args.unrolled.now c.in_ok-price.field-0 c.in_ok-price.ensures c.in-Within.field-0 c.in-Within.is c.requires
+    c.in_ok-passive-in-Within.passive c.in_ok-passive-in-Within.ensures

@@ -1,0 +1,302 @@
+//! The verdict by the questions within a smaller bound on backward transfers than the budget's. Where no run makes more than that, they settle the verdict.
+ghost use Rattle.std.specs.Prelude.{◌≡◌, ◌≤◌, ◌<◌, ℕ, IfOk, IfSome, slice_index};
+ghost use Rattle.bilv_spec.specs.Files.{order_of};
+ghost use Rattle.call_spec.specs.Calls.{IsBudget, FailQuestion, TurnQuestion};
+ghost use Rattle.bilv_spec.specs.Evidence.{Refutes};
+ghost use Rattle.bilv_spec.specs.Answers.{IsWithin};
+ghost use Rattle.cnf_form.specs.Views.{proof_of};
+ghost use Rattle.notes_lang.specs.Drafting.{notes_of};
+ghost use Rattle.notes_value.specs.Reads.{AreOver, AreReadable};
+ghost use Rattle.program_points.specs.Listed.{HasOneWay};
+ghost use Rattle.question_form.specs.Views.{unrolled_of};
+ghost use Rattle.turn_laws.specs.Raised.{over_variables};
+ghost use Rattle.verdict.specs.Functions.{program_of_function};
+ghost use Rattle.verdict.specs.Grounds.{AnswersOver};
+ghost use Rattle.verdict.specs.FewerTurns.{AreNoTurns, IsEarly, IsSmaller};
+ghost use Rattle.verdict.specs.Measures.{IsMeasurable, IsUnrolledOf};
+ghost use Rattle.verdict.specs.Rounds.{AreAdded, IsAskable};
+ghost use Rattle.verdict.specs.Verdicts.{IsVerdict, budget_of};
+
+use crate::deciding::{Decided, decide_from};
+use crate::measuring::unroll_within;
+use crate::shown::{Function, failing};
+use crate::{Answered, Budget, Verdict, decide};
+use bit_blast::free_inputs;
+use cnf_form::{Cnf, Proof};
+use machine_law::Machine;
+use passify::passive;
+use program_points::PointsFault;
+use question_form::{Kind, Passive, Unrolled};
+use state_text::Start;
+use std::alloc::{AllocError, Global};
+
+/// What the turn question and the fail question within a smaller bound come to.
+#[derive(Drop)]
+enum NoTurns {
+    /// No run makes more backward transfers, and none fails.
+    Refuted { fail: Proof, turn: Proof },
+    /// No run makes more backward transfers, and the one from the start fails.
+    Fails(Start),
+    /// Some run makes more backward transfers.
+    Turns,
+    /// The conflicts are spent.
+    Spent,
+}
+
+/// What the questions within a smaller bound come to.
+#[derive(Drop)]
+enum Early {
+    /// The verdict, within the budget's bound too.
+    Settled(Verdict),
+    /// Some run makes more backward transfers than the smaller bound.
+    Turns,
+    /// The conflicts are spent, or there are too many points.
+    Open,
+}
+
+/// The proof over at least so many variables.
+fn over_variables(proof: Proof, least: u64) -> Proof
+    ensures { proof_of result ≡ over_variables least (proof_of proof) }
+{
+    let Proof { clauses, log } = proof;
+    let Cnf { variables, clauses } = clauses;
+    Proof {
+        clauses: Cnf {
+            variables: variables.max(least),
+            clauses,
+        },
+        log,
+    }
+}
+
+/// What the fail question within a smaller bound comes to for the budget's bound, where the turn question is refuted over the bytes of the file at some
+/// addresses. The fail question asks those from the beginning, so that no reading that it is over makes more backward transfers. The error is want of memory.
+fn ask_fails<M: Machine>(
+    alloc: Global,
+    function: &Function,
+    budget: &Budget,
+    whole: &Unrolled,
+    passive: &Passive,
+    turn: Proof,
+    asked: Vec<u32>,
+) -> Result<NoTurns, AllocError>
+    requires budget { IsBudget (budget_of budget.now) }
+    requires whole { IsUnrolledOf (program_of_function M.machine function.now) M.form (budget_of budget.now) whole.now }
+    requires smaller { IsSmaller (program_of_function M.machine function.now) budget.now.unroll M.form (unrolled_of passive.now.unrolled.now) }
+    requires askable { IsAskable passive.now }
+    requires added { AreAdded (unrolled_of passive.now.unrolled.now) asked.items }
+    requires turn { AnswersOver (unrolled_of passive.now.unrolled.now) TurnQuestion asked.items budget.now.conflicts (Answered.Refuted turn) }
+    ensures { IfOk result (AreNoTurns (program_of_function M.machine function.now) budget.now.unroll M.form) }
+{
+    let Decided { answered, .. } = decide_from(
+        alloc,
+        passive,
+        Kind::Fail,
+        budget.conflicts,
+        asked,
+    )?;
+    match answered {
+        Answered::Refuted(fail) => {
+            let inputs = free_inputs(whole);
+            let fail = over_variables(fail, inputs);
+            let turn = over_variables(turn, inputs);
+            Ok(NoTurns::Refuted { fail, turn })
+        }
+        Answered::Sat(start) => Ok(NoTurns::Fails(start)),
+        Answered::Spent(_) => Ok(NoTurns::Spent),
+    }
+}
+
+/// What the turn question, and after it the fail question, within a smaller bound come to for the budget's bound. The error is want of memory.
+fn ask_turns<M: Machine>(
+    alloc: Global,
+    function: &Function,
+    budget: &Budget,
+    whole: &Unrolled,
+    passive: &Passive,
+) -> Result<NoTurns, AllocError>
+    requires budget { IsBudget (budget_of budget.now) }
+    requires whole { IsUnrolledOf (program_of_function M.machine function.now) M.form (budget_of budget.now) whole.now }
+    requires smaller { IsSmaller (program_of_function M.machine function.now) budget.now.unroll M.form (unrolled_of passive.now.unrolled.now) }
+    requires askable { IsAskable passive.now }
+    ensures { IfOk result (AreNoTurns (program_of_function M.machine function.now) budget.now.unroll M.form) }
+{
+    let none = Vec::new(alloc);
+    let Decided { answered, asked } = decide_from(
+        alloc,
+        passive,
+        Kind::Turn,
+        budget.conflicts,
+        none,
+    )?;
+    match answered {
+        Answered::Refuted(turn) => {
+            let no_turns = ask_fails::<M>(alloc, function, budget, whole, passive, turn, asked)?;
+            Ok(no_turns)
+        }
+        Answered::Sat(_) => Ok(NoTurns::Turns),
+        Answered::Spent(_) => Ok(NoTurns::Spent),
+    }
+}
+
+/// The verdict where no run fails or makes more backward transfers than a smaller bound: it holds, or there is no entry state. The error is want of memory.
+fn ask_entry<M: Machine>(
+    alloc: Global,
+    function: &Function,
+    budget: &Budget,
+    whole: &Unrolled,
+    passive: &Passive,
+    fail: Proof,
+    turn: Proof,
+) -> Result<Early, AllocError>
+    requires budget { IsBudget (budget_of budget.now) }
+    requires within { IsWithin (program_of_function M.machine function.now) (budget_of budget.now) }
+    requires whole { IsUnrolledOf (program_of_function M.machine function.now) M.form (budget_of budget.now) whole.now }
+    requires smaller { IsSmaller (program_of_function M.machine function.now) budget.now.unroll M.form (unrolled_of passive.now.unrolled.now) }
+    requires askable { IsAskable passive.now }
+    requires fail { Refutes (program_of_function M.machine function.now) budget.now.unroll FailQuestion (proof_of fail) }
+    requires turn { Refutes (program_of_function M.machine function.now) budget.now.unroll TurnQuestion (proof_of turn) }
+    ensures { IfOk result (IsEarly (program_of_function M.machine function.now) M.form budget.now) }
+{
+    match decide(alloc, passive, Kind::Entry, budget.conflicts)? {
+        Answered::Sat(start) => Ok(Early::Settled(Verdict::Holds { start, fail, turn })),
+        Answered::Refuted(proof) => {
+            let inputs = free_inputs(whole);
+            let entry = over_variables(proof, inputs);
+            Ok(Early::Settled(Verdict::Vacuous(entry)))
+        }
+        Answered::Spent(_) => Ok(Early::Open),
+    }
+}
+
+/// What the questions within a smaller bound come to, by its passive program. The error is want of memory.
+fn judge_passive<M: Machine>(
+    alloc: Global,
+    function: &Function,
+    budget: &Budget,
+    whole: &Unrolled,
+    passive: &Passive,
+) -> Result<Early, AllocError>
+    requires order { order_of function.now.image.now ≡ M.machine.endian }
+    requires readable { AreReadable M.machine.has_register (notes_of function.now.notes.now) }
+    requires budget { IsBudget (budget_of budget.now) }
+    requires within { IsWithin (program_of_function M.machine function.now) (budget_of budget.now) }
+    requires whole { IsUnrolledOf (program_of_function M.machine function.now) M.form (budget_of budget.now) whole.now }
+    requires smaller { IsSmaller (program_of_function M.machine function.now) budget.now.unroll M.form (unrolled_of passive.now.unrolled.now) }
+    requires askable { IsAskable passive.now }
+    ensures { IfOk result (IsEarly (program_of_function M.machine function.now) M.form budget.now) }
+{
+    match ask_turns::<M>(alloc, function, budget, whole, passive)? {
+        NoTurns::Refuted { fail, turn } => {
+            let early = ask_entry::<M>(alloc, function, budget, whole, passive, fail, turn)?;
+            Ok(early)
+        }
+        NoTurns::Fails(start) => {
+            let verdict = failing::<M>(alloc, function, budget, start)?;
+            Ok(Early::Settled(verdict))
+        }
+        NoTurns::Turns => Ok(Early::Turns),
+        NoTurns::Spent => Ok(Early::Open),
+    }
+}
+
+/// What the questions within a smaller bound come to, by its unrolled program. The error is want of memory.
+fn judge_smaller<M: Machine>(
+    alloc: Global,
+    function: &Function,
+    budget: &Budget,
+    whole: &Unrolled,
+    unrolled: &Unrolled,
+) -> Result<Early, AllocError>
+    requires order { order_of function.now.image.now ≡ M.machine.endian }
+    requires readable { AreReadable M.machine.has_register (notes_of function.now.notes.now) }
+    requires budget { IsBudget (budget_of budget.now) }
+    requires within { IsWithin (program_of_function M.machine function.now) (budget_of budget.now) }
+    requires whole { IsUnrolledOf (program_of_function M.machine function.now) M.form (budget_of budget.now) whole.now }
+    requires measurable { IsMeasurable unrolled.now }
+    requires smaller { IsSmaller (program_of_function M.machine function.now) budget.now.unroll M.form (unrolled_of unrolled.now) }
+    ensures { IfOk result (IsEarly (program_of_function M.machine function.now) M.form budget.now) }
+{
+    let passive = passive(alloc, unrolled)?;
+    let early = judge_passive::<M>(alloc, function, budget, whole, &passive)?;
+    Ok(early)
+}
+
+/// What the questions for so many backward transfers come to. The error is want of memory.
+fn judge_within<M: Machine>(
+    alloc: Global,
+    function: &Function,
+    budget: &Budget,
+    whole: &Unrolled,
+    turns: u64,
+) -> Result<Early, AllocError>
+    requires order { order_of function.now.image.now ≡ M.machine.endian }
+    requires file { (i : ℕ) → slice_index function.now.image.now i < 256 }
+    requires one_way { HasOneWay (program_of_function M.machine function.now) }
+    requires readable { AreReadable M.machine.has_register (notes_of function.now.notes.now) }
+    requires over { AreOver M.machine.has_register M.machine.has_flag (notes_of function.now.notes.now) }
+    requires budget { IsBudget (budget_of budget.now) }
+    requires within { IsWithin (program_of_function M.machine function.now) (budget_of budget.now) }
+    requires whole { IsUnrolledOf (program_of_function M.machine function.now) M.form (budget_of budget.now) whole.now }
+    requires turns { turns ≤ budget.now.unroll }
+    ensures { IfOk result (IsEarly (program_of_function M.machine function.now) M.form budget.now) }
+{
+    let smaller = Budget {
+        unroll: turns,
+        ..*budget
+    };
+    match unroll_within::<M>(
+        alloc,
+        function.image,
+        function.notes,
+        function.entry,
+        &smaller,
+    ) {
+        Ok(unrolled) => {
+            let early = judge_smaller::<M>(alloc, function, budget, whole, &unrolled)?;
+            Ok(early)
+        }
+        Err(PointsFault::TooMany { .. }) => Ok(Early::Open),
+        Err(PointsFault::Memory) => Err(AllocError),
+    }
+}
+
+/// The most backward transfers that a point of an unrolled program is behind. For so many and more of them it has the same points.
+fn most_turns(unrolled: &Unrolled) -> u64 {
+    let mut most = 0;
+    for point in &unrolled.points {
+        most = most.max(point.turns as u64);
+    }
+    most
+}
+
+/// The verdict by the questions for 1, 2, 4 and more backward transfers, as far as those have other points than the whole unrolled program: at the first bound
+/// that no run exceeds, they settle it. There is none where some run exceeds each of those bounds, or a question spends its conflicts. The error is want of
+/// memory.
+pub fn judge_early<M: Machine>(
+    alloc: Global,
+    function: &Function,
+    budget: &Budget,
+    whole: &Unrolled,
+) -> Result<Option<Verdict>, AllocError>
+    requires order { order_of function.now.image.now ≡ M.machine.endian }
+    requires file { (i : ℕ) → slice_index function.now.image.now i < 256 }
+    requires one_way { HasOneWay (program_of_function M.machine function.now) }
+    requires readable { AreReadable M.machine.has_register (notes_of function.now.notes.now) }
+    requires over { AreOver M.machine.has_register M.machine.has_flag (notes_of function.now.notes.now) }
+    requires budget { IsBudget (budget_of budget.now) }
+    requires within { IsWithin (program_of_function M.machine function.now) (budget_of budget.now) }
+    requires whole { IsUnrolledOf (program_of_function M.machine function.now) M.form (budget_of budget.now) whole.now }
+    ensures { IfOk result (λ o. IfSome o (IsVerdict (program_of_function M.machine function.now) M.form budget.now)) }
+{
+    let most = most_turns(whole).min(budget.unroll);
+    let mut turns: u64 = 1;
+    while turns < most {
+        match judge_within::<M>(alloc, function, budget, whole, turns)? {
+            Early::Settled(verdict) => return Ok(Some(verdict)),
+            Early::Turns => turns *= 2,
+            Early::Open => return Ok(None),
+        }
+    }
+    Ok(None)
+}

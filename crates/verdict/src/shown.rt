@@ -1,0 +1,108 @@
+//! The runs that show a verdict.
+ghost use Rattle.std.specs.Prelude.{◌≡◌, ◌-◌, Some, IfOk};
+ghost use Rattle.bilv_spec.specs.Files.{order_of};
+ghost use Rattle.call_spec.specs.Calls.{IsBudget, FailQuestion, TurnQuestion};
+ghost use Rattle.bilv_spec.specs.Answers.{IsWithin, start_in};
+ghost use Rattle.bilv_spec.specs.Points.{is_known_at};
+ghost use Rattle.bilv_spec.specs.PointLaws.{HasLawfulRows};
+ghost use Rattle.bilv_spec.specs.Questions.{IsSatisfiable};
+ghost use Rattle.bilv_spec.specs.Reports.{found};
+ghost use Rattle.machine_spec.specs.StateText.{IsWritten};
+ghost use Rattle.notes_lang.specs.Drafting.{notes_of};
+ghost use Rattle.notes_value.specs.Reads.{AreReadable};
+ghost use Rattle.state_text.specs.Starts.{written_of};
+ghost use Rattle.table_run.specs.Endings.{found_of};
+ghost use Rattle.verdict.specs.Functions.{program_of_function};
+ghost use Rattle.verdict.specs.Grounds.{IsAnswered, IsFailing};
+ghost use Rattle.verdict.specs.Verdicts.{IsVerdict, budget_of};
+
+use crate::{Answered, Budget, Verdict};
+use elf32_reader::Image;
+use machine_law::Machine;
+use notes_lang::Notes;
+use state_text::Start;
+use std::alloc::{AllocError, Global};
+use table_run::{Ending, run};
+
+/// A function of two files: the image, the notes, and the address of the function.
+#[derive(Clone, Copy)]
+pub struct Function<'a, 'b> {
+    pub image: &'a Image<'b>,
+    pub notes: &'a Notes,
+    pub entry: u32,
+}
+
+/// What the run from a start comes to within as many steps as there may be points.
+fn ending<M: Machine>(
+    alloc: Global,
+    function: &Function,
+    budget: &Budget,
+    start: &Start,
+) -> Result<Ending, AllocError>
+    requires order { order_of function.now.image.now ≡ M.machine.endian }
+    requires readable { AreReadable M.machine.has_register (notes_of function.now.notes.now) }
+    requires budget { IsBudget (budget_of budget.now) }
+    requires written { IsWritten M.form (is_known_at (program_of_function M.machine function.now)) (written_of start.now) }
+    ensures { IfOk result (λ e. found_of e ≡ found (program_of_function M.machine function.now) (Some budget.now.unroll)
+        (start_in (program_of_function M.machine function.now) M.form (written_of start.now))
+        (budget.now.points - 1)) }
+{
+    let ending = run::<M>(
+        alloc,
+        function.image,
+        function.notes,
+        function.entry,
+        start,
+        Some(budget.unroll),
+        budget.points,
+    )?;
+    Ok(ending)
+}
+
+/// The event of the run from a start that shows that some run fails.
+pub fn failing<M: Machine>(
+    alloc: Global,
+    function: &Function,
+    budget: &Budget,
+    start: Start,
+) -> Result<Verdict, AllocError>
+    requires order { order_of function.now.image.now ≡ M.machine.endian }
+    requires readable { AreReadable M.machine.has_register (notes_of function.now.notes.now) }
+    requires budget { IsBudget (budget_of budget.now) }
+    requires within { IsWithin (program_of_function M.machine function.now) (budget_of budget.now) }
+    requires lawful { HasLawfulRows (program_of_function M.machine function.now) }
+    requires fails { IsFailing (program_of_function M.machine function.now) budget.now.unroll M.form start }
+    ensures { IfOk result (λ v. IsVerdict (program_of_function M.machine function.now) M.form budget.now v) }
+{
+    match ending::<M>(alloc, function, budget, &start)? {
+        Ending::Failed { event, at, step } => Ok(Verdict::Fails {
+            event,
+            at,
+            step,
+            start,
+        }),
+        _ => unreachable!(),
+    }
+}
+
+/// The last step of the run from a start that shows that some run makes one backward transfer too many, where none fails.
+pub fn turning<M: Machine>(
+    alloc: Global,
+    function: &Function,
+    budget: &Budget,
+    start: Start,
+) -> Result<Verdict, AllocError>
+    requires order { order_of function.now.image.now ≡ M.machine.endian }
+    requires readable { AreReadable M.machine.has_register (notes_of function.now.notes.now) }
+    requires budget { IsBudget (budget_of budget.now) }
+    requires within { IsWithin (program_of_function M.machine function.now) (budget_of budget.now) }
+    requires lawful { HasLawfulRows (program_of_function M.machine function.now) }
+    requires never { IsSatisfiable (program_of_function M.machine function.now) budget.now.unroll FailQuestion → ⊥ }
+    requires turns { IsAnswered (program_of_function M.machine function.now) budget.now.unroll M.form TurnQuestion budget.now.conflicts (Answered.Sat start) }
+    ensures { IfOk result (λ v. IsVerdict (program_of_function M.machine function.now) M.form budget.now v) }
+{
+    match ending::<M>(alloc, function, budget, &start)? {
+        Ending::Turned { at, step } => Ok(Verdict::Unroll { at, step, start }),
+        _ => unreachable!(),
+    }
+}
