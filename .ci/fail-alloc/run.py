@@ -80,7 +80,7 @@ CASES = {
                          ['--conflicts', '1'], 3, 'unknown conflicts 1'),
     'verify points': (['verify'], [ADD, notes()], ['--points', '1'], 3, 'unknown points 1'),
     'verify size': (['verify'], [ADD, notes('ensure a0 = old(a0) + 1')], ['--size', '6655'], 3, 'unknown size 6655'),
-    'usage': ([], [], [], 2, 'usage: bilv verify|lift|graph|smt|replay|cert|check|selfrun|upgrade'),
+    'usage': ([], [], [], 2, 'usage: bilv verify|lift|graph|smt|replay|cert|check|selfrun|upgrade|model'),
     'elf refused': (['verify'], [ADD[:51], notes()], [], 4, 'elf: E1 Short'),
     'notes refused': (['verify'], [ADD, notes('require a0 = 5 +')], [], 5, 'notes: line 2 N7 Syntax'),
     'no function': (['verify'], [ADD, b'function f\n'], [], 5, 'notes: NoFunction'),

@@ -2,7 +2,7 @@
 use Rattle.std.proofs.Common.{◌≡◌, ℕ, zero, suc, ◌<◌, ◌≤◌, ◌^◌, refl, sym, ◌∙◌, subst, arith, Bool, true, false, List, Option, Some, None, length}
 use Rattle.std.specs.Prelude.{◌==◌, ◌++◌, nat_le, codes}
 use Rattle.bilv_spec.specs.Run.{Program, Run, Going, Exited, Failed, Turned, Place, Step, Stops, Arrives, Exits, run, one_more, after_step, arrive, turn, step, IsOver}
-use Rattle.machine_spec.specs.Endings.{Start, NamedEnding, FailsBy, UnknownBy, named_line}
+use Rattle.machine_spec.specs.Endings.{Start, Event, NamedEnding, FailsBy, UnknownBy, named_line}
 use Rattle.bilv_spec.specs.Points.{HasMore}
 use Rattle.bilv_spec.specs.Verdict.{IsEntryState}
 use Rattle.bilv_spec.specs.Questions.{by_file}
@@ -12,7 +12,7 @@ use Rattle.bilv_spec.specs.Files.{is_rv, IsProgram, layout_of}
 use Rattle.bilv_spec.specs.Elf.{file_endian}
 use Rattle.machine_spec.specs.StateText.{Layout, IsEvent, IsNamed}
 use Rattle.word_spec.specs.Texts.{line}
-use Rattle.bilv_spec.specs.Answers.{Report, HoldsReport, VacuousReport, FailsReport, UnrollReport, PointsReport, SizeReport, ConflictsReport, IsRightReport, EndsAs, report_text}
+use Rattle.bilv_spec.specs.Answers.{Report, HoldsReport, VacuousReport, FailsReport, UnrollReport, PointsReport, SizeReport, ConflictsReport, IsRightReport, EndsAs, report_text, start_in}
 use Rattle.clause_spec.specs.Checks.{text_limit}
 use Rattle.bilv_spec.specs.Replays.{replay_answer}
 use Rattle.answer_spec.specs.AnswerLaws.{named_of}
@@ -80,6 +80,22 @@ no_name n e = cc
 below_last : (m max : ℕ) → m < max → max ≤ 16777216 → m ≤ 16777215
 below_last m max l h = omega arith
 
+module _ (o : Options) (file text : List ℕ) (p : Program) (bytes : AreBytes file) (is : IsProgram o file text p) (b : Budget) (small : IsReplayable b)
+    (enough : ¬ HasMore p b.unroll b.points) (start : Start) (entry : IsEntryState p start.state) where
+  fine_end : (r : Run) → IsOver r → EndsAs p b.unroll start r → IsFine b.points r
+  fine_end =
+      end_is_fine p b.unroll (program_rows_are_lawful o file text p bytes is) (few_note_lines o file text p is) start (reads_memory o file text p is) entry
+      b.points enough
+
+  -- the event of a run can be written
+  pub failing_is_named : (event : Event) (at j : ℕ) → EndsAs p b.unroll start (Failed event at j) → IsNamed (FailsBy event at j)
+  failing_is_named event at j ends =
+      let end = fine_end (Failed event at j) tt ends in (end.0, end.1, below_last j b.points end.2 small.1)
+
+  -- so can its last step, where it makes one backward transfer too many
+  pub turning_is_named : (at j : ℕ) → EndsAs p b.unroll start (Turned at j) → IsNamed (UnknownBy b.unroll at j)
+  turning_is_named at j ends = let end = fine_end (Turned at j) tt ends in (small.0, end.0, below_last j b.points end.1 small.1)
+
 pub names_can_be_written : (o : Options) (file text : List ℕ) (p : Program) → AreBytes file → IsProgram o file text p →
     (layout : Layout) (b : Budget) → IsReplayable b →
     (r : Report) (e : Evidence) (n : NamedEnding) → IsRightReport p layout b r e → named_of b r ≡ Some n → IsNamed n
@@ -90,15 +106,11 @@ names_can_be_written o file text p bytes is layout b small SizeReport e n a f = 
 names_can_be_written o file text p bytes is layout b small ConflictsReport e n a f = absurd (no_name n f)
 names_can_be_written o file text p bytes is layout b small (FailsReport event at j) (RunOf w) n a f =
     let same : FailsBy event at j ≡ n = cc in
-    let end = end_is_fine p b.unroll (program_rows_are_lawful o file text p bytes is) (few_note_lines o file text p is) _ (reads_memory o file text p is)
-    a.3.entry b.points a.0.points (Failed event at j) tt a.4 in
-    subst IsNamed same (end.0, end.1, below_last j b.points end.2 small.1)
+    subst IsNamed same (failing_is_named o file text p bytes is b small a.0.points (start_in p layout w) a.3.entry event at j a.4)
 names_can_be_written o file text p bytes is layout b small (FailsReport event at j) other n a f = absurd a
 names_can_be_written o file text p bytes is layout b small (UnrollReport at j) (RunOf w) n a f =
     let same : UnknownBy b.unroll at j ≡ n = cc in
-    let end = end_is_fine p b.unroll (program_rows_are_lawful o file text p bytes is) (few_note_lines o file text p is) _ (reads_memory o file text p is)
-    a.3.entry b.points a.0.points (Turned at j) tt a.4 in
-    subst IsNamed same (small.0, end.0, below_last j b.points end.1 small.1)
+    subst IsNamed same (turning_is_named o file text p bytes is b small a.0.points (start_in p layout w) a.3.entry at j a.4)
 names_can_be_written o file text p bytes is layout b small (UnrollReport at j) other n a f = absurd a
 
 pub right_report_replays : (o : Options) (file text : List ℕ) (p : Program) → AreBytes file → IsProgram o file text p → (b : Budget) → IsReplayable b →

@@ -12,3 +12,5 @@ pub mod WorkHolds
 pub mod Upgraded
 pub mod Told
 pub mod TwoCalls
+pub mod AcceptedStarts
+pub mod AcceptedRuns

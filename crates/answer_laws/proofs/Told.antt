@@ -4,15 +4,23 @@ use Rattle.call_spec.specs.Calls.{Answer, Evidence, NoEvidence, Options, Surroun
 use Rattle.bilv_spec.specs.Answers.{IsReported}
 use Rattle.bilv_spec.specs.Certified.{IsCertified}
 use Rattle.bilv_spec.specs.Files.{layout_of}
-use Rattle.command_spec.specs.Commands.{Command, Verify, Lift, Graph, Script, Replay, Certify, Check, SelfRun, Upgrade}
+use Rattle.command_spec.specs.Commands.{Command, Verify, Lift, Graph, Script, Replay, Certify, Check, SelfRun, Upgrade, Model}
 use Rattle.answer_spec.specs.Outcomes.{AfterElf, AfterBoth, IsLifted, IsGraphed, IsRightAnswer, upgrade_answer, IsOutcome, whole, cut, no_memory}
 use Rattle.call_spec.specs.Outside.{Agrees, Appends, Rose}
 use Rattle.bilv_spec.specs.Replays.{replay_answer}
+use Rattle.call_spec.specs.Calls.{Budget}
+use Rattle.model_spec.specs.Models.{AfterBudgets, points, size, within, IsModelAnswer}
 use Rattle.clause_spec.specs.Checks.{IsChecked}
 use Rattle.bilv_spec.specs.Run.{Program}
 use Rattle.bilv_spec.specs.Scripts.{IsScriptAnswer}
 use Rattle.bilv_spec.specs.Verified.{AfterImage, elf_refused, elf_accepted, AfterNotes, notes_refused, program_found}
 use Rattle.answer_laws.specs.Told.{IsTold, AreToldTo, AfterFiles, IsAnswerTo, IsAnswered}
+
+budgets_met : (p : Program) (b : Budget) (Next Other : Answer → Type 0) (a : Answer) → (Next a → Other a) → AfterBudgets p b Next a →
+    AfterBudgets p b Other a
+budgets_met p b Next Other a step (points more is) = points more is
+budgets_met p b Next Other a step (size price few is_price above is) = size price few is_price above is
+budgets_met p b Next Other a step (within is next) = within is (step next)
 
 module _ (s : Surroundings) (content : List ℕ → List ℕ) where
   -- what comes next behind the reading of a file that is told
@@ -62,6 +70,13 @@ module _ (s : Surroundings) (content : List ℕ → List ℕ) where
       image_told elf (AfterRead s notes (notes_next (content elf))) (notes_next (content elf) (content notes)) a
       (λ next. read_told notes (notes_next (content elf)) a told.1 next)
       (read_told elf (λ file. AfterImage file (AfterRead s notes (notes_next file))) a told.0 due)
+  answer_told (Model o elf notes answer kind b) a told due =
+      both_told o elf notes (λ file p. AfterBudgets p b (AfterRead s answer (IsModelAnswer p (layout_of o file) b kind)))
+      (λ p. AfterBudgets p b (IsModelAnswer p (layout_of o (content elf)) b kind (content answer))) a
+      (λ p. budgets_met p b (AfterRead s answer (IsModelAnswer p (layout_of o (content elf)) b kind))
+      (IsModelAnswer p (layout_of o (content elf)) b kind (content answer)) a
+      (λ next. read_told answer (IsModelAnswer p (layout_of o (content elf)) b kind) a told.2 next))
+      told.0 told.1 due
 
   -- so an outcome is that answer, where no write failed and memory did not run out
   pub outcome_told : (c : Command) (status : ℕ) (evidence : Evidence) → AreToldTo s content c → (status ≡ 7 → ¬ Rose s.sink_before s.sink_after) → status ≢ 8 →

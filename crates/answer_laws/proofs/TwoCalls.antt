@@ -31,7 +31,7 @@ use Rattle.answer_laws.specs.TwoCalls.{Writes, Sufficed, IsPrinted}
 use Rattle.answer_laws.proofs.Told.{answer_told, outcome_told}
 
 -- what was appended is what was printed
-printed_is : (s : Surroundings) (text written : List ℕ) → IsPrinted s text → Appends s.text_before written s.text_after → written ≡ text
+pub printed_is : (s : Surroundings) (text written : List ℕ) → IsPrinted s text → Appends s.text_before written s.text_after → written ≡ text
 printed_is s text written (before, is, after) appends =
     let grown : s.text_after ≡ Some (before ++ written) = subst (λ (x : Option (List ℕ)). Appends x written s.text_after) is appends in
     let both : Some (before ++ written) ≡ Some (before ++ text) = sym grown ∙ after in
@@ -139,7 +139,7 @@ record IsOfRun (o : Options) (file text : List ℕ) (b : Budget) (a : Answer) : 
   pub is : a ≡ report_answer (layout_of o file) b report evidence
   pub shows : ShowsRun evidence
 
-bare : (a : Answer) (status : ℕ) (written : List ℕ) → a ≡ plain_answer status written → ShowsRun a.evidence → ⊥
+pub bare : (a : Answer) (status : ℕ) (written : List ℕ) → a ≡ plain_answer status written → ShowsRun a.evidence → ⊥
 bare a status written is shows = subst ShowsRun (ap (λ (x : Answer). x.evidence) is) shows
 
 run_of_notes : (o : Options) (file text : List ℕ) (b : Budget) (a : Answer) → ShowsRun a.evidence →
@@ -177,25 +177,32 @@ replay_found o file text p a due found (elf_refused written x is) = absurd (refu
 replay_found o file text p a due found (elf_accepted accepted (notes_refused written x is)) = absurd (refused_or_found o file text written p x found)
 replay_found o file text p a due found (elf_accepted accepted (program_found q x is)) = is ∙ ap due (one_program o file text q p x found)
 
-module _ (t : Surroundings) (o : Options) (content : List ℕ → List ℕ) (elf notes report : List ℕ) (b : Budget) (a : Answer) (status : ℕ) (f : Evidence) where
-  replayed_by : AreBytes (content elf) → IsReplayable b → (of : IsOfRun o (content elf) (content notes) b a) → a.text ≡ content report →
-      length (content report) ≤ text_limit → AreToldTo t content (Replay o elf notes report) → Sufficed t status →
+module _ (t : Surroundings) (o : Options) (content : List ℕ → List ℕ) (elf notes report : List ℕ) (status : ℕ) (f : Evidence) where
+  -- the answer to a report that is replayed over a program is written
+  pub replay_written : (p : Program) (n : NamedEnding) → IsFound o (content elf) (content notes) p →
+      replay_answer p (layout_of o (content elf)) (content report) ≡ plain_answer 0 (line (codes "replayed " ++ named_line n)) →
+      AreToldTo t content (Replay o elf notes report) → Sufficed t status →
+      IsOutcome t (Some (Replay o elf notes report)) status f → Writes t status (line (codes "replayed " ++ named_line n))
+  replay_written p n found replays told sufficed outcome =
+      let answered = outcome_told t content (Replay o elf notes report) status f told sufficed.0 sufficed.1 outcome in
+      let same : answered.0 ≡ plain_answer 0 (line (codes "replayed " ++ named_line n)) =
+      replay_found o (content elf) (content notes) p answered.0 (λ q. replay_answer q (layout_of o (content elf)) (content report)) found answered.1
+      ∙ replays in
+      let written = subst (λ x. Appends t.text_before x t.text_after) (ap (λ (x : Answer). x.text) same) answered.4 in
+      (answered.2 ∙ ap (λ (x : Answer). x.status) same, written)
+
+  replayed_by : (b : Budget) (a : Answer) → AreBytes (content elf) → IsReplayable b → (of : IsOfRun o (content elf) (content notes) b a) →
+      a.text ≡ content report → length (content report) ≤ text_limit → AreToldTo t content (Replay o elf notes report) → Sufficed t status →
       IsOutcome t (Some (Replay o elf notes report)) status f → (n : NamedEnding) × Writes t status (line (codes "replayed " ++ named_line n))
-  replayed_by bytes small of printed short told sufficed outcome =
+  replayed_by b a bytes small of printed short told sufficed outcome =
       let file = content elf in
-      let layout = layout_of o file in
       let p = of.program in
-      let text = report_text layout b of.report of.evidence in
+      let text = report_text (layout_of o file) b of.report of.evidence in
       let named = names_ending p o file b of.report of.evidence of.right of.shows in
       let is : content report ≡ text = sym printed ∙ ap (λ (x : Answer). x.text) of.is in
       let replays = right_report_replays o file (content notes) p bytes of.found.2 b small of.report of.evidence named.0 of.right named.1
       (subst (λ x. length x ≤ text_limit) is short) in
-      let answered = outcome_told t content (Replay o elf notes report) status f told sufficed.0 sufficed.1 outcome in
-      let same : answered.0 ≡ plain_answer 0 (line (codes "replayed " ++ named_line named.0)) =
-      replay_found o file (content notes) p answered.0 (λ q. replay_answer q layout (content report)) of.found answered.1
-      ∙ ap (λ x. replay_answer p layout x) is ∙ replays in
-      let written = subst (λ x. Appends t.text_before x t.text_after) (ap (λ (x : Answer). x.text) same) answered.4 in
-      (named.0, (answered.2 ∙ ap (λ (x : Answer). x.status) same, written))
+      (named.0, replay_written p named.0 of.found (ap (λ x. replay_answer p (layout_of o file) x) is ∙ replays) told sufficed outcome)
 
 pub report_is_replayed : (s t : Surroundings) (o : Options) (content : List ℕ → List ℕ) (elf notes report : List ℕ) (b : Budget)
     (first status : ℕ) (e f : Evidence) → AreBytes (content elf) → IsReplayable b →
@@ -204,5 +211,5 @@ pub report_is_replayed : (s t : Surroundings) (o : Options) (content : List ℕ 
     IsOutcome t (Some (Replay o elf notes report)) status f → (n : NamedEnding) × Writes t status (line (codes "replayed " ++ named_line n))
 report_is_replayed s t o content elf notes report b first status e f bytes small told outcome shows printed short told_too sufficed outcome_too =
     let written = report_written s o content elf notes b first e told outcome shows in
-    replayed_by t o content elf notes report b written.0 status f bytes small written.1 (printed_is s (content report) written.0.text printed written.2) short
+    replayed_by t o content elf notes report status f b written.0 bytes small written.1 (printed_is s (content report) written.0.text printed written.2) short
     told_too sufficed outcome_too

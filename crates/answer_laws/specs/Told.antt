@@ -4,9 +4,10 @@ use Rattle.call_spec.specs.Outside.{Bytes, Rose, Appends}
 use Rattle.call_spec.specs.Calls.{Answer, Evidence, NoEvidence, Options, Surroundings}
 use Rattle.bilv_spec.specs.Certified.{IsCertified}
 use Rattle.bilv_spec.specs.Files.{layout_of}
-use Rattle.command_spec.specs.Commands.{Command, Verify, Lift, Graph, Script, Replay, Certify, Check, SelfRun, Upgrade}
+use Rattle.command_spec.specs.Commands.{Command, Verify, Lift, Graph, Script, Replay, Certify, Check, SelfRun, Upgrade, Model}
 use Rattle.answer_spec.specs.Outcomes.{IsLifted, IsGraphed, IsSelfRun, upgrade_answer}
 use Rattle.bilv_spec.specs.Replays.{replay_answer}
+use Rattle.model_spec.specs.Models.{AfterBudgets, IsModelAnswer}
 use Rattle.clause_spec.specs.Checks.{IsChecked}
 use Rattle.bilv_spec.specs.Run.{Program}
 use Rattle.bilv_spec.specs.Scripts.{IsScriptAnswer}
@@ -27,6 +28,7 @@ AreToldTo s content (Certify o elf notes kind b) = IsTold s content elf × IsTol
 AreToldTo s content (Check certificate) = IsTold s content certificate
 AreToldTo s content (SelfRun seed count) = Unit {0}
 AreToldTo s content (Upgrade o elf notes) = IsTold s content elf × IsTold s content notes
+AreToldTo s content (Model o elf notes answer kind b) = IsTold s content elf × IsTold s content notes × IsTold s content answer
 
 -- the answer to an ELF file and notes: the refusal of the first that is refused, or what is due to their program
 abbrev pub AfterFiles : Options → (file text : List ℕ) → (Program → Answer → Type 0) → Answer → Type 0
@@ -44,6 +46,8 @@ IsAnswerTo content (Certify o elf notes kind b) = AfterFiles o (content elf) (co
 IsAnswerTo content (Check certificate) = λ a. IsChecked (content certificate) a.status a.text × (a.evidence ≡ NoEvidence)
 IsAnswerTo content (SelfRun seed count) = IsSelfRun seed count
 IsAnswerTo content (Upgrade o elf notes) = AfterFiles o (content elf) (content notes) (λ p a. a ≡ upgrade_answer (content notes))
+IsAnswerTo content (Model o elf notes answer kind b) =
+    AfterFiles o (content elf) (content notes) (λ p. AfterBudgets p b (IsModelAnswer p (layout_of o (content elf)) b kind (content answer)))
 
 -- it was written whole, and its status and its evidence are those of the call
 abbrev pub IsAnswered : (content : List ℕ → List ℕ) → Command → (before after : Option (List ℕ)) → (status : ℕ) → Evidence → Type 0

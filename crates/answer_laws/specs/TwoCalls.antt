@@ -2,10 +2,10 @@
 use Rattle.std.specs.Prelude.{ℕ, ◌≡◌, ◌≢◌, ◌≤◌, ◌^◌, ◌++◌, List, Some, codes, length}
 use Rattle.answer_laws.specs.Completeness.{ShowsRun}
 use Rattle.answer_laws.specs.Replayed.{AreBytes, IsReplayable}
-use Rattle.call_spec.specs.Calls.{Budget, Evidence, Options, Surroundings, Question}
+use Rattle.call_spec.specs.Calls.{Budget, Evidence, Options, Surroundings, EntryQuestion, Question}
 use Rattle.clause_spec.specs.Certificates.{certificate_text}
 use Rattle.clause_spec.specs.Refutation.{Proof}
-use Rattle.command_spec.specs.Commands.{Command, Verify, Replay, Certify, Check}
+use Rattle.command_spec.specs.Commands.{Command, Verify, Replay, Certify, Check, Model}
 use Rattle.answer_spec.specs.Outcomes.{IsOutcome}
 use Rattle.call_spec.specs.Outside.{Rose, Appends}
 use Rattle.clause_spec.specs.Checks.{text_limit}
@@ -41,5 +41,16 @@ ReportIsReplayed =
     (s t : Surroundings) (o : Options) (content : List ℕ → List ℕ) (elf notes report : List ℕ) (b : Budget) (first status : ℕ) (e f : Evidence) →
     AreBytes (content elf) → IsReplayable b → AreToldTo s content (Verify o elf notes b) → IsOutcome s (Some (Verify o elf notes b)) first e → ShowsRun e →
     IsPrinted s (content report) → length (content report) ≤ text_limit → AreToldTo t content (Replay o elf notes report) → Sufficed t status →
+    IsOutcome t (Some (Replay o elf notes report)) status f →
+    (n : NamedEnding) × Writes t status (line (codes "replayed " ++ named_line n))
+
+-- What a call that judges an answer wrote behind its first line, where it shows a run, is a report, which is replayed by a call over the same files, within the
+-- limit of bytes. The question is not that of entry states, whose start has no run.
+abbrev pub AcceptedIsReplayed : Type 0
+AcceptedIsReplayed =
+    (s t : Surroundings) (o : Options) (content : List ℕ → List ℕ) (elf notes answer report : List ℕ) (kind : Question) (b : Budget) (first status : ℕ)
+    (e f : Evidence) → AreBytes (content elf) → IsReplayable b → kind ≢ EntryQuestion → AreToldTo s content (Model o elf notes answer kind b) →
+    IsOutcome s (Some (Model o elf notes answer kind b)) first e → ShowsRun e → IsPrinted s (line (codes "accepted") ++ content report) →
+    length (content report) ≤ text_limit → AreToldTo t content (Replay o elf notes report) → Sufficed t status →
     IsOutcome t (Some (Replay o elf notes report)) status f →
     (n : NamedEnding) × Writes t status (line (codes "replayed " ++ named_line n))

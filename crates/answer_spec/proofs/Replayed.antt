@@ -5,7 +5,7 @@ use Rattle.std.proofs.lemmas.Bool.Decides.{nat_tests}
 use Rattle.std.proofs.lemmas.Bool.{eq-eqb}
 use Rattle.machine_spec.specs.Machine.{is_place, unit}
 use Rattle.std.proofs.Math.Numerals.{add-one}
-use Rattle.bilv_spec.specs.Verdict.{IsEntryState}
+use Rattle.bilv_spec.specs.Verdict.{IsEntryState, IsStart}
 use Rattle.bilv_spec.specs.Points.{is_known_at}
 use Rattle.word_spec.specs.Texts.{line}
 use Rattle.machine_spec.specs.Endings.{NamedEnding, FailsBy, UnknownBy, named_line, Start, Event, AssertFails, FetchFails, NoRow, HalfwordFails, CodeWritten, Trapped, AlignFails, JumpFails, EnsureFails}
@@ -14,7 +14,7 @@ use Rattle.word_spec.specs.State.{Written}
 use Rattle.machine_spec.specs.StateText.{StateText, IsWritten, IsNamed, printed}
 use Rattle.call_spec.specs.Calls.{Options, Budget, Evidence, RunOf, plain_answer}
 use Rattle.bilv_spec.specs.Files.{layout_of}
-use Rattle.bilv_spec.specs.Answers.{Report, HoldsReport, VacuousReport, FailsReport, UnrollReport, PointsReport, SizeReport, ConflictsReport, IsRightReport, report_text, start_in}
+use Rattle.bilv_spec.specs.Answers.{Report, HoldsReport, VacuousReport, FailsReport, UnrollReport, PointsReport, SizeReport, ConflictsReport, IsRightReport, EndsAs, report_text, start_in}
 use Rattle.clause_spec.specs.Checks.{text_limit}
 use Rattle.bilv_spec.specs.Replays.{same_event, is_found, found_of, ending_answer, require_answer, start_answer, run_answer, told_answer, sized_answer, replay_answer}
 use Rattle.answer_spec.specs.AnswerLaws.{named_of}
@@ -132,6 +132,31 @@ found_turning : (p : Program) (start : Start) (k steps at j : ℕ) → run p k s
 found_turning p start k steps at j h =
     ap (λ r. found_by (run p k start j) r) (ap (λ n. run p k start n) (add-one j) ∙ turns_at p start k steps at j h)
 
+module _ (o : Options) (file : List ℕ) (p : Program) (k : ℕ) (w : Written) (written : IsWritten (layout_of o file) (is_known_at p) w)
+    (starts : IsStart p (start_in p (layout_of o file) w)) where
+  -- the text of a start whose run has an event is replayed
+  pub failing_replays : (e : Event) (at j : ℕ) → EndsAs p k (start_in p (layout_of o file) w) (Failed e at j) → IsNamed (FailsBy e at j) →
+      length (printed (layout_of o file) (record { named = FailsBy e at j; start = w })) ≤ text_limit →
+      replay_answer p (layout_of o file) (printed (layout_of o file) (record { named = FailsBy e at j; start = w }))
+      ≡ plain_answer 0 (line (codes "replayed " ++ named_line (FailsBy e at j)))
+  failing_replays e at j ends named room =
+      let start = start_in p (layout_of o file) w in
+      let found_is = found_failing p start k ends.0 e at j ends.1 in
+      let is_found : is_found (FailsBy e at j) (found_of p (FailsBy e at j) start)
+      ≡ true = rw (found_is, same_events e, same_number at, same_number j) refl in
+      text_replays o file p (FailsBy e at j) w written named starts.entry is_found room
+
+  -- so is that of one whose run makes one backward transfer too many
+  pub turning_replays : (at j : ℕ) → EndsAs p k (start_in p (layout_of o file) w) (Turned at j) → IsNamed (UnknownBy k at j) →
+      length (printed (layout_of o file) (record { named = UnknownBy k at j; start = w })) ≤ text_limit →
+      replay_answer p (layout_of o file) (printed (layout_of o file) (record { named = UnknownBy k at j; start = w }))
+      ≡ plain_answer 0 (line (codes "replayed " ++ named_line (UnknownBy k at j)))
+  turning_replays at j ends named room =
+      let start = start_in p (layout_of o file) w in
+      let found_is = found_turning p start k ends.0 at j ends.1 in
+      let is_found : is_found (UnknownBy k at j) (found_of p (UnknownBy k at j) start) ≡ true = rw (found_is, same_number at, same_number j) refl in
+      text_replays o file p (UnknownBy k at j) w written named starts.entry is_found room
+
 no_name : (n : NamedEnding) → ◌≡◌ {A = Option NamedEnding} None (Some n) → ⊥
 no_name n e = cc
 
@@ -147,18 +172,11 @@ report_replays o file p b SizeReport e n a f named room = absurd (no_name n f)
 report_replays o file p b ConflictsReport e n a f named room = absurd (no_name n f)
 report_replays o file p b (FailsReport event at j) (RunOf w) n a f named room =
     let same : FailsBy event at j ≡ n = cc in
-    let start = start_in p (layout_of o file) w in
-    let found_is = found_failing p start b.unroll a.4.0 event at j a.4.1 in
-    let is_found : is_found (FailsBy event at j) (found_of p (FailsBy event at j) start)
-    ≡ true = rw (found_is, same_events event, same_number at, same_number j) refl in
-    text_replays o file p (FailsBy event at j) w a.2 (subst IsNamed (sym same) named) a.3.entry is_found room ∙ ap
-    (λ x. plain_answer 0 (line (codes "replayed " ++ named_line x))) same
+    failing_replays o file p b.unroll w a.2 a.3 event at j a.4 (subst IsNamed (sym same) named) room
+    ∙ ap (λ x. plain_answer 0 (line (codes "replayed " ++ named_line x))) same
 report_replays o file p b (FailsReport event at j) other n a f named room = absurd a
 report_replays o file p b (UnrollReport at j) (RunOf w) n a f named room =
     let same : UnknownBy b.unroll at j ≡ n = cc in
-    let start = start_in p (layout_of o file) w in
-    let found_is = found_turning p start b.unroll a.4.0 at j a.4.1 in
-    let is_found : is_found (UnknownBy b.unroll at j) (found_of p (UnknownBy b.unroll at j) start) ≡ true = rw (found_is, same_number at, same_number j) refl in
-    text_replays o file p (UnknownBy b.unroll at j) w a.2 (subst IsNamed (sym same) named) a.3.entry is_found room
+    turning_replays o file p b.unroll w a.2 a.3 at j a.4 (subst IsNamed (sym same) named) room
     ∙ ap (λ x. plain_answer 0 (line (codes "replayed " ++ named_line x))) same
 report_replays o file p b (UnrollReport at j) other n a f named room = absurd a

@@ -9,7 +9,7 @@ use Rattle.machine_spec.specs.Endings.{NamedEnding, FailsBy, UnknownBy}
 use Rattle.machine_spec.specs.StateText.{Layout}
 use Rattle.call_spec.specs.Calls.{Budget, Evidence, Answer, plain_answer, Surroundings, read_fault}
 use Rattle.bilv_spec.specs.Answers.{Report, HoldsReport, VacuousReport, FailsReport, UnrollReport, PointsReport, IsRightReport}
-use Rattle.command_spec.specs.Commands.{Command, Verify, Lift, Graph, Script, Replay, Certify, Check, SelfRun, Upgrade}
+use Rattle.command_spec.specs.Commands.{Command, Verify, Lift, Graph, Script, Replay, Certify, Check, SelfRun, Upgrade, Model}
 use Rattle.answer_spec.specs.Outcomes.{IsRightAnswer}
 use Rattle.bilv_spec.specs.Verified.{IsElfRefused}
 
@@ -50,6 +50,7 @@ first_file (Certify o elf notes kind b) = Some elf
 first_file (Check certificate) = Some certificate
 first_file (SelfRun seed count) = None
 first_file (Upgrade o elf notes) = Some elf
+first_file (Model o elf notes answer kind b) = Some elf
 
 -- where no file has the name that a command reads first, its answer is a read fault, and the count of that name rose
 abbrev pub AbsentFails : Type 0

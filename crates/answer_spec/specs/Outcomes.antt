@@ -7,12 +7,13 @@ use Rattle.bilv_spec.specs.Files.{layout_of}
 use Rattle.bilv_spec.specs.Answers.{IsReported}
 use Rattle.bilv_spec.specs.Upgrades.{upgraded}
 use Rattle.bilv_spec.specs.Verified.{AfterImage, AfterNotes, IsVerified, notes_limit}
-use Rattle.command_spec.specs.Commands.{usage_text, Command, Verify, Lift, Graph, Script, Replay, Certify, Check, SelfRun, Upgrade}
+use Rattle.command_spec.specs.Commands.{usage_text, Command, Verify, Lift, Graph, Script, Replay, Certify, Check, SelfRun, Upgrade, Model}
 use Rattle.bilv_spec.specs.LiftText.{IsLiftText}
 use Rattle.bilv_spec.specs.GraphText.{IsGraphText}
 use Rattle.bilv_spec.specs.Scripts.{IsScriptAnswer}
 use Rattle.bilv_spec.specs.Certified.{IsCertified}
 use Rattle.bilv_spec.specs.Replays.{replay_answer}
+use Rattle.model_spec.specs.Models.{AfterBudgets, IsModelAnswer}
 use Rattle.clause_spec.specs.Checks.{IsChecked}
 use Rattle.command_spec.specs.Work.{work_file, work_notes, work_text}
 use Rattle.word_spec.specs.Texts.{line, line_feed}
@@ -60,6 +61,8 @@ IsRightAnswer s (Certify o elf notes kind b) = AfterBoth s o elf notes (λ file 
 IsRightAnswer s (Check certificate) = AfterRead s certificate (λ text a. IsChecked text a.status a.text × (a.evidence ≡ NoEvidence))
 IsRightAnswer s (SelfRun seed count) = IsSelfRun seed count
 IsRightAnswer s (Upgrade o elf notes) = AfterElf s elf (λ file. AfterRead s notes (λ text. AfterNotes o file text (λ p a. a ≡ upgrade_answer text)))
+IsRightAnswer s (Model o elf notes answer kind b) =
+    AfterBoth s o elf notes (λ file p. AfterBudgets p b (AfterRead s answer (IsModelAnswer p (layout_of o file) b kind)))
 
 -- the answer that is due: the usage where the words are no lawful command
 abbrev pub IsDueAnswer : Surroundings → Option Command → Answer → Type 0

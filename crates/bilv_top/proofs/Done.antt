@@ -1,12 +1,14 @@
 -- Answers to tasks, on the machine of a file, and by counts that did not fall before.
-use Rattle.std.proofs.Common.{◌≡◌, ℕ, ◌≤◌, List, refl, sym, subst}
-use Rattle.call_spec.specs.Calls.{Answer, Surroundings}
+use Rattle.std.proofs.Common.{◌≡◌, ℕ, ◌≤◌, List, sym, subst}
+use Rattle.call_spec.specs.Calls.{AfterRead, Answer, Budget, Surroundings}
 use Rattle.bilv_spec.specs.Files.{program_of}
 use Rattle.machine_spec.specs.Machine.{Machine}
 use Rattle.bilv_spec.specs.Notes.{Notes}
 use Rattle.bilv_spec.specs.Replays.{replay_answer}
 use Rattle.bilv_spec.specs.Run.{Program}
 use Rattle.machine_spec.specs.StateText.{Layout}
+use Rattle.model_spec.specs.Models.{AfterBudgets, IsModelAnswer, points, size, within}
+use Rattle.command_line.specs.Commands.{budget_of, question_of}
 use Rattle.bilv_top.specs.Tasks.{IsDone}
 use Rattle.bilv_top.specs.declared.tasks.Task.{Task}
 use Rattle.bilv_top.specs.declared.tasks.Task.TheVariants as task
@@ -26,6 +28,12 @@ pub done_of : (s : Surroundings) (t : Task) (machine : List ℕ → Machine) (la
 done_of s t machine layout image file notes entry a same done =
     subst (λ x. IsDone s t (layout x) (program_of (machine x) x notes entry) a) same done
 
+-- what comes next within budgets
+pub budgets_next : (p : Program) (b : Budget) (Next Other : Answer → Type 0) (a : Answer) → (Next a → Other a) → AfterBudgets p b Next a → AfterBudgets p b Other a
+budgets_next p b Next Other a step (points more is) = points more is
+budgets_next p b Next Other a step (size price few is_price above is) = size price few is_price above is
+budgets_next p b Next Other a step (within is next) = within is (step next)
+
 -- since before other files were read
 pub done_since : (s t : Surroundings) (asked : Task) (layout : Layout) (p : Program) (a : Answer) → ((n : List ℕ) → s.held n ≡ t.held n) →
     ((n : List ℕ) → t.shelf_before n ≤ s.shelf_before n) → ((n : List ℕ) → s.shelf_after n ≡ t.shelf_after n) → IsDone s asked layout p a →
@@ -36,3 +44,7 @@ done_since s t (task.Script question budget) layout p a held before after done =
 done_since s t (task.Certificate question budget) layout p a held before after done = done
 done_since s t (task.Replay name) layout p a held before after done =
     read_since s t name.now (λ text x. x ≡ replay_answer p layout text) a (held name.now) (before name.now) (after name.now) done
+done_since s t (task.Model question budget name) layout p a held before after done =
+    budgets_next p (budget_of budget) (AfterRead s name.now (IsModelAnswer p layout (budget_of budget) (question_of question)))
+    (AfterRead t name.now (IsModelAnswer p layout (budget_of budget) (question_of question))) a
+    (read_since s t name.now (IsModelAnswer p layout (budget_of budget) (question_of question)) a (held name.now) (before name.now) (after name.now)) done

@@ -89,6 +89,21 @@ fn obey<H: Shelf>(alloc: Global, command: Command, shelf: &mut H) -> Result<Answ
             options,
             Task::Certificate(question, budget),
         ),
+        Command::Model {
+            elf,
+            notes,
+            answer,
+            options,
+            question,
+            budget,
+        } => answer_about(
+            alloc,
+            shelf,
+            elf,
+            notes,
+            options,
+            Task::Model(question, budget, answer),
+        ),
         Command::Check { certificate } => check_certificate(alloc, shelf, certificate),
         Command::SelfRun { seed, count } => selfrun(alloc, shelf, seed, count),
         Command::Upgrade {
@@ -111,7 +126,7 @@ fn due<H: Shelf>(alloc: Global, words: &[String], shelf: &mut H) -> Result<Answe
         Err(LineError::Usage) => answer(
             alloc,
             USAGE,
-            b"usage: bilv verify|lift|graph|smt|replay|cert|check|selfrun|upgrade\n",
+            b"usage: bilv verify|lift|graph|smt|replay|cert|check|selfrun|upgrade|model\n",
         ),
         Err(LineError::Memory) => Err(AllocError),
     }

@@ -10,16 +10,13 @@ ghost use Rattle.bilv_top.specs.Answers.{answer_of, evidence_of};
 ghost use Rattle.io_edges.specs.Met.{seen};
 
 use crate::answer::{Answer, Evidence};
-use crate::reading::{FileRead, answer, read_within, unread};
+use crate::reading::{FileRead, TEXT_LIMIT, answer, read_within, unread};
 use crate::texts::{cause_text, cnf_fault_text, refused_line};
 use cnf_form::{CnfError, behind_lines, read_cnf};
 use exit_status::{DONE, TEXT_REFUSED};
 use io_edges::Shelf;
 use refutation_checker::{Checked, check, read_lrat};
 use std::alloc::{AllocError, Global};
-
-/// The most bytes of a certificate.
-const TEXT_LIMIT: u64 = 268_435_456;
 
 /// The answer to what a check says.
 fn say(alloc: Global, checked: Checked) -> Result<Answer, AllocError>

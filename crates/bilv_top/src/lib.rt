@@ -9,6 +9,7 @@ mod graph;
 mod inputs;
 mod lift;
 mod machines;
+mod model;
 mod program;
 mod reading;
 mod replay;

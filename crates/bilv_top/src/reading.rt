@@ -11,6 +11,9 @@ use exit_status::READ_FAULT;
 use io_edges::{ReadFault, Shelf, read_all};
 use std::alloc::{AllocError, Global};
 
+/// The most bytes of a certificate, and of the answer of an outside solver.
+pub const TEXT_LIMIT: u64 = 268_435_456;
+
 /// What was read of a file: its bytes, that there are more than the limit, or that a read failed.
 #[derive(Drop)]
 pub enum FileRead {

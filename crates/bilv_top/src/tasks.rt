@@ -15,6 +15,7 @@ use crate::certify::certify_by;
 use crate::graph::graph_by;
 use crate::inputs::{Found, read_elf, read_program};
 use crate::machines::{layout, on_machine};
+use crate::model::model_by;
 use crate::replay::replay_by;
 use crate::script::script_by;
 use crate::verify::report_by;
@@ -40,6 +41,8 @@ pub enum Task<'a> {
     Certificate(Question, Budget),
     /// Whether the run from the start of the report of this name ends as the report says.
     Replay(&'a str),
+    /// Whether a question is true of the values of this name, within budgets.
+    Model(Question, Budget, &'a str),
 }
 
 /// The answer to a task about a program of a machine, whose file has these bytes. The error is out of memory.
@@ -70,6 +73,9 @@ fn answer_by<M: Machine, H: Shelf>(
             certify_by::<M>(alloc, file, image, found, budget, question)
         }
         Task::Replay(name) => replay_by::<M, H>(alloc, shelf, image, found, name),
+        Task::Model(question, budget, name) => model_by::<M, H>(
+            alloc, shelf, file, image, found, budget, question, name,
+        ),
     }
 }
 

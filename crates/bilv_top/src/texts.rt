@@ -6,6 +6,8 @@ ghost use Rattle.clause_spec.specs.Certificates.{cause_words};
 ghost use Rattle.clause_spec.specs.Checks.{cnf_fault_words};
 ghost use Rattle.cnf_form.specs.Faults.{fault_of as cnf_fault_of};
 ghost use Rattle.bilv_spec.specs.Verified as verified;
+ghost use Rattle.model_spec.specs.Models.{model_fault_words};
+ghost use Rattle.model_text.specs.Faults.{fault_of as model_fault_of};
 ghost use Rattle.notes_lang.specs.Judging.{fault_of as note_fault_of};
 ghost use Rattle.bilv_top.specs.Answers.{IsOfFile, elf_text_of};
 ghost use Rattle.refutation_checker.specs.Answers.{cause_of};
@@ -13,6 +15,7 @@ ghost use Rattle.refutation_checker.specs.Answers.{cause_of};
 use cnf_form::CnfFault;
 use cnf_form::print::print_number;
 use elf32_reader::ElfFault;
+use model_text::ModelFaultKind;
 use notes_lang::FaultKind;
 use refutation_checker::Cause;
 use state_text::push_word;
@@ -96,6 +99,18 @@ pub fn cnf_fault_text(fault: CnfFault) -> &'static [u8]
         CnfFault::Variable => b"K3 Variable",
         CnfFault::Count => b"K4 Count",
         CnfFault::Proof => b"K5 Proof",
+    }
+}
+
+/// The words of a fault of an outside solver's answer.
+pub fn model_fault_text(kind: ModelFaultKind) -> &'static [u8]
+    ensures { result.now ≡ model_fault_words (model_fault_of kind) }
+{
+    match kind {
+        ModelFaultKind::Answer => b"A1 Answer",
+        ModelFaultKind::Syntax => b"A2 Syntax",
+        ModelFaultKind::Sort => b"A3 Sort",
+        ModelFaultKind::Twice => b"A4 Twice",
     }
 }
 

@@ -1,8 +1,8 @@
 -- Command lines, and what they ask for.
 use Rattle.std.proofs.Common.{◌≡◌, true, false, refl, codes, [], ◌∷◌, Some, None}
-use Rattle.call_spec.specs.Calls.{default_budget, default_options, FailQuestion}
+use Rattle.call_spec.specs.Calls.{default_budget, default_options, FailQuestion, TurnQuestion}
 use Rattle.word_spec.specs.Profiles.{V4, V4T, V5}
-use Rattle.command_spec.specs.Commands.{Lift, Graph, Script, SelfRun, Upgrade, Verify}
+use Rattle.command_spec.specs.Commands.{Lift, Graph, Script, SelfRun, Upgrade, Model, Verify}
 use Rattle.clap.proofs.OnLiterals.{clap_on_literals}
 use Rattle.command_line.specs.Lines.{bilv_app, command_named, lawful_command, takes_line}
 
@@ -103,6 +103,12 @@ upgrade_with_exchange : lawful_command (codes "bilv" ∷ codes "upgrade" ∷ cod
     ≡ Some (Upgrade (record { profile = V4T; compressed = false }) (codes "e") (codes "n"))
 unfolding clap_on_literals bilv_app takes_line command_named
 upgrade_with_exchange = refl
+
+model_of_three : lawful_command (codes "bilv" ∷ codes "model" ∷ codes "e" ∷ codes "n" ∷ codes "a" ∷ codes "--question" ∷ codes "turn" ∷ codes "--unroll" ∷ codes "3" ∷ [])
+    ≡ Some (Model (record { profile = V4; compressed = false }) (codes "e") (codes "n") (codes "a") TurnQuestion
+    (record { unroll = 3; points = 65536; size = 1073741824; conflicts = 200000 }))
+unfolding clap_on_literals bilv_app takes_line command_named
+model_of_three = refl
 
 graph_compressed : lawful_command (codes "bilv" ∷ codes "graph" ∷ codes "--rvc" ∷ codes "e" ∷ codes "n" ∷ [])
     ≡ Some (Graph (record { profile = V4; compressed = true }) (codes "e") (codes "n"))

@@ -7,7 +7,7 @@ use Rattle.command_line.specs.declared.command.Question.{Question}
 use Rattle.command_line.specs.declared.command.Question.TheVariants.{Entry, Fail, Turn}
 use Rattle.command_line.specs.declared.command.Budget.{Budget}
 use Rattle.command_line.specs.declared.command.Command.{Command}
-use Rattle.command_line.specs.declared.command.Command.TheVariants.{Verify, Lift, Graph, Script, Replay, Certify, Check, SelfRun, Upgrade}
+use Rattle.command_line.specs.declared.command.Command.TheVariants.{Verify, Lift, Graph, Script, Replay, Certify, Check, SelfRun, Upgrade, Model}
 
 abbrev pub question_of : Question → asked.Question
 question_of Entry = asked.EntryQuestion
@@ -30,3 +30,5 @@ command_of (Certify elf notes options question budget) = outcomes.Certify (optio
 command_of (Check certificate) = outcomes.Check certificate.now
 command_of (SelfRun seed count) = outcomes.SelfRun seed count
 command_of (Upgrade elf notes options) = outcomes.Upgrade (options_of options) elf.now notes.now
+command_of (Model elf notes answer options question budget) =
+    outcomes.Model (options_of options) elf.now notes.now answer.now (question_of question) (budget_of budget)

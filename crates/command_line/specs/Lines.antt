@@ -90,6 +90,9 @@ cert = asking (codes "cert")
 abbrev pub upgrade : App
 upgrade = over_program (codes "upgrade")
 
+abbrev pub model : App
+model = with_rule (asking (codes "model")) (file_argument (codes "answer"))
+
 abbrev pub check : App
 check = command_with (codes "check") (file_argument (codes "certificate") ∷ [])
 
@@ -100,7 +103,7 @@ selfrun = command_with (codes "selfrun") (number_argument (codes "seed") 0 21474
 unfoldable pub bilv_app : App
 bilv_app = record {
   top = record (new_shape (codes "bilv")) { is_leaf = false; subcommand_required = true };
-  subs = verify.top ∷ lift.top ∷ graph.top ∷ smt.top ∷ replay.top ∷ cert.top ∷ check.top ∷ selfrun.top ∷ upgrade.top ∷ [];
+  subs = verify.top ∷ lift.top ∷ graph.top ∷ smt.top ∷ replay.top ∷ cert.top ∷ check.top ∷ selfrun.top ∷ upgrade.top ∷ model.top ∷ [];
 }
 
 -- a command of the code is this one to `clap`, and shares no argument with its subcommands
@@ -231,6 +234,16 @@ upgrade_in rows = do
   options ← options_in rows
   Some (of.Upgrade options elf notes)
 
+abbrev pub model_in : List Row → Option of.Command
+model_in rows = do
+  elf ← first_of (codes "elf") rows
+  notes ← first_of (codes "notes") rows
+  answer ← first_of (codes "answer") rows
+  options ← options_in rows
+  question ← question_in rows
+  budget ← budget_in rows
+  Some (of.Model options elf notes answer question budget)
+
 -- the command of a subcommand, by its name and what was found for its arguments
 unfoldable pub command_named : Text → List Row → Option of.Command
 command_named name rows = if bytes_eq name (codes "verify") then verify_in rows
@@ -241,7 +254,8 @@ command_named name rows = if bytes_eq name (codes "verify") then verify_in rows
     else if bytes_eq name (codes "cert") then cert_in rows
     else if bytes_eq name (codes "check") then check_in rows
     else if bytes_eq name (codes "selfrun") then selfrun_in rows
-    else if bytes_eq name (codes "upgrade") then upgrade_in rows else None
+    else if bytes_eq name (codes "upgrade") then upgrade_in rows
+    else if bytes_eq name (codes "model") then model_in rows else None
 
 abbrev pub command_in : Option (Text × List Row) → Option of.Command
 command_in found = found >>= λ p. command_named p.0 p.1

@@ -139,4 +139,13 @@ pub enum Command<'a> {
         notes: &'a str,
         options: Options,
     },
+    /// Judges the answer of an outside solver to the script of a question.
+    Model {
+        elf: &'a str,
+        notes: &'a str,
+        answer: &'a str,
+        options: Options,
+        question: Question,
+        budget: Budget,
+    },
 }

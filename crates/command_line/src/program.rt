@@ -1,7 +1,7 @@
 //! What the program's command line may hold, as `clap` is told.
 ghost use Rattle.std.specs.Prelude.{◌≡◌, IfOk, false};
 ghost use Rattle.clap.specs.Words.{App, rule_of};
-ghost use Rattle.command_line.specs.Lines.{IsMade, arm_option, asking, bilv_app, budgets, check, file_argument, number_argument, number_option, over_elf, over_program, question_option, replay, rvc_option, selfrun, verify, with_rules};
+ghost use Rattle.command_line.specs.Lines.{IsMade, arm_option, asking, bilv_app, budgets, check, file_argument, model, number_argument, number_option, over_elf, over_program, question_option, replay, rvc_option, selfrun, verify, with_rules};
 
 use crate::command::{MOST_CONFLICTS, MOST_POINTS, MOST_SIZE, MOST_UNROLL};
 use clap::builder::{ArgAction, ValueParser};
@@ -115,6 +115,13 @@ fn verify<'a>(alloc: Global) -> Result<Command<'a>, AllocError>
     Ok(command)
 }
 
+fn model<'a>(alloc: Global) -> Result<Command<'a>, AllocError>
+    ensures { IfOk result (IsMade model) }
+{
+    let command = asking(alloc, "model")?.arg(file(alloc, "answer"))?;
+    Ok(command)
+}
+
 fn replay<'a>(alloc: Global) -> Result<Command<'a>, AllocError>
     ensures { IfOk result (IsMade replay) }
 {
@@ -152,6 +159,7 @@ pub(crate) fn bilv<'a>(alloc: Global) -> Result<Command<'a>, AllocError>
         .subcommand(asking(alloc, "cert")?)?
         .subcommand(check(alloc)?)?
         .subcommand(selfrun(alloc)?)?
-        .subcommand(over_program(alloc, "upgrade")?)?;
+        .subcommand(over_program(alloc, "upgrade")?)?
+        .subcommand(model(alloc)?)?;
     Ok(command)
 }

@@ -239,6 +239,26 @@ fn upgrade<'a>(matches: &ArgMatches<'a>) -> Option<Command<'a>>
     })
 }
 
+fn model<'a>(matches: &ArgMatches<'a>) -> Option<Command<'a>>
+    ensures value { option_map command_of result ≡ lines.model_in (rows_of (found_of matches.now)) }
+    ensures lawful { IfSome result (λ c. IsLawfulCommand (command_of c)) }
+{
+    let elf = text(matches, "elf")?;
+    let notes = text(matches, "notes")?;
+    let answer = text(matches, "answer")?;
+    let options = options(matches)?;
+    let question = question(matches)?;
+    let budget = budget(matches)?;
+    Some(Command::Model {
+        elf,
+        notes,
+        answer,
+        options,
+        question,
+        budget,
+    })
+}
+
 /// The command of a subcommand's name and what was found for it.
 #[tactic(auto, unfolding(crate::specs::Lines::command_named))]
 pub(crate) fn command_named<'a>(name: &str, matches: &ArgMatches<'a>) -> Option<Command<'a>>
@@ -255,6 +275,7 @@ pub(crate) fn command_named<'a>(name: &str, matches: &ArgMatches<'a>) -> Option<
         "check" => check(matches),
         "selfrun" => selfrun(matches),
         "upgrade" => upgrade(matches),
+        "model" => model(matches),
         _ => None,
     }
 }

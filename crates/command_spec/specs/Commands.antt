@@ -14,15 +14,17 @@ pub data Command : Type 0 where
   Check : (certificate : List ℕ) → Command
   SelfRun : (seed count : ℕ) → Command
   Upgrade : Options → (elf notes : List ℕ) → Command
+  Model : Options → (elf notes answer : List ℕ) → Question → Budget → Command
 
 -- the numbers that a command may have
 abbrev pub IsLawfulCommand : Command → Type 0
 IsLawfulCommand (Verify o elf notes b) = IsBudget b
 IsLawfulCommand (Script o elf notes kind b) = IsBudget b
 IsLawfulCommand (Certify o elf notes kind b) = IsBudget b
+IsLawfulCommand (Model o elf notes answer kind b) = IsBudget b
 IsLawfulCommand (SelfRun seed count) = (seed < 2 ^ 31) × (1 ≤ count) × (count ≤ 16000)
 IsLawfulCommand other = Unit {0}
 
 -- the usage
 abbrev pub usage_text : List ℕ
-usage_text = line (codes "usage: bilv verify|lift|graph|smt|replay|cert|check|selfrun|upgrade")
+usage_text = line (codes "usage: bilv verify|lift|graph|smt|replay|cert|check|selfrun|upgrade|model")

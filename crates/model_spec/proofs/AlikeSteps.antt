@@ -29,7 +29,7 @@ pub record Both (A : ℕ → Type 0) (c d : Place) : Type 0 where
 abbrev pub StepBoth : (ℕ → Type 0) → Step → Step → Type 0
 StepBoth A (Stops x) (Stops y) = x ≡ y
 StepBoth A (Arrives c) (Arrives d) = Both A c d
-StepBoth A (Exits x) (Exits y) = Unit {0}
+StepBoth A (Exits x) (Exits y) = Both A (record { state = x; stack = [] }) (record { state = y; stack = [] })
 StepBoth A x y = ⊥
 
 module _ (A : ℕ → Type 0) (p : Program) (s0 : State) (m0 : Memory) (before : Agree A s0.mem m0) where
@@ -61,7 +61,7 @@ module _ (A : ℕ → Type 0) (p : Program) (s0 : State) (m0 : Memory) (before :
       exit_both : (o : Option ℕ) → false_line E p.notes.ensures x s0 ≡ o → Among A (exit_reads (is_exit_step (exit_by o x)) q s0 x) →
           StepBoth A (exit_by o x) (exit_by (false_line E p.notes.ensures y t0) y)
       exit_both None g h =
-          subst (λ z. StepBoth A (Exits x) (exit_by z y)) (sym g ∙ lines_same A E x s0 n m0 agree before p.notes.ensures h) tt
+          subst (λ z. StepBoth A (Exits x) (exit_by z y)) (sym g ∙ lines_same A E x s0 n m0 agree before p.notes.ensures h) (both [])
       exit_both (Some line) g h =
           subst (λ z. StepBoth A (exit_by (Some line) x) (exit_by z y)) (sym g ∙ lines_same A E x s0 n m0 agree before p.notes.ensures h) refl
 

@@ -109,9 +109,8 @@ reads_at p k r n (suc m) l a c = by (n == m) refl (λ z. reads_at p k r n m z a 
 
 -- ---- the printed start
 
-module _ (p : Program) (lawful : HasLawfulRows p) (memory : ReadsMemory p) (layout : Layout) (k steps : ℕ) (r : Reading) (w : Written)
-    (reading : IsReading r) (entry : IsEntryState p r.state) (printed : IsPrinted p layout k r steps w)
-    (regs : r.state.regs ≡ (start_in p layout w).state.regs) (flags : r.state.flags ≡ (start_in p layout w).state.flags) where
+module _ (p : Program) (layout : Layout) (k steps : ℕ) (r : Reading) (w : Written) (reading : IsReading r) (entry : IsEntryState p r.state)
+    (printed : IsPrinted p layout k r steps w) where
   abbrev start : Start
   start = start_in p layout w
 
@@ -123,9 +122,6 @@ module _ (p : Program) (lawful : HasLawfulRows p) (memory : ReadsMemory p) (layo
 
   abbrev A : ℕ → Type 0
   A a = Contains (all_reads p k r steps) a
-
-  is_start : t0 ≡ start.state
-  is_start = λ i. record { pc = entry.pc i; regs = regs i; flags = flags i; mem = m0 }
 
   -- a known byte is the reading's
   known_by : (o : Option Cell) (a : ℕ) → a < 2 ^ 32 → p.loaded a ≡ o → (is_kept o || (is_some o && fixed p.notes.fixed a)) ≡ true →
@@ -177,14 +173,14 @@ module _ (p : Program) (lawful : HasLawfulRows p) (memory : ReadsMemory p) (layo
   state : IsState t0
   state = record { pc = reading.state.pc; regs = reading.state.regs; flags = reading.state.flags; mem = byte_small }
 
-  -- it is an entry state
+  -- it is an entry state, with the reading's registers and flags
   required : Among A (line_reads p.machine.endian p.notes.requires r.state r.state)
   required a c = in_left (line_reads p.machine.endian p.notes.requires r.state r.state) (run_reads p k r steps) a c
 
   cell_known : (a : ℕ) (c : Cell) → p.loaded a ≡ Some c → (kept c || (true && fixed p.notes.fixed a)) ≡ true → is_known_at p a ≡ true
   cell_known a c e h = ap (λ o. is_kept o || (is_some o && fixed p.notes.fixed a)) e ∙ h
 
-  enters : IsEntryState p t0
+  pub enters : IsEntryState p t0
   enters = record {
     state = state;
     pc = entry.pc;
@@ -195,130 +191,134 @@ module _ (p : Program) (lawful : HasLawfulRows p) (memory : ReadsMemory p) (layo
         sym (lines_same A p.machine.endian r.state r.state m0 m0 agree agree p.notes.requires required) ∙ entry.requires;
   }
 
-  pub starts : IsStart p start
-  starts = record {
-    entry = subst (IsEntryState p) is_start enters;
-    choices = λ i.
-        ⊎_elim (λ z. subst (λ (y : ℕ). y < 4) (sym z) (omega arith))
-        (λ c. let it = ((printed.choices i (byte_in w.choices i)).0 c).1 in subst (λ (y : ℕ). y < 4) (sym it.choice_is)
-        (reading.choice (point_of it.turns it.place)))
-        (found w.choices i);
-  }
+  pub choices_small : (i : ℕ) → start.choices i < 4
+  choices_small i =
+      ⊎_elim (λ z. subst (λ (y : ℕ). y < 4) (sym z) (omega arith))
+      (λ c. let it = ((printed.choices i (byte_in w.choices i)).0 c).1 in subst (λ (y : ℕ). y < 4) (sym it.choice_is)
+      (reading.choice (point_of it.turns it.place)))
+      (found w.choices i)
 
-  -- ---- its run
+  module _ (lawful : HasLawfulRows p) (memory : ReadsMemory p) (regs : r.state.regs ≡ start.state.regs) (flags : r.state.flags ≡ start.state.flags) where
+    is_start : t0 ≡ start.state
+    is_start = λ i. record { pc = entry.pc i; regs = regs i; flags = flags i; mem = m0 }
 
-  abbrev q : Program
-  q = by_file p
+    pub starts : IsStart p start
+    starts = record { entry = subst (IsEntryState p) is_start enters; choices = choices_small }
 
-  same_place : (n turns i other j : ℕ) (c d : Place) → Going turns i c ≡ Going other j d → (turns ≡ other) × (c ≡ d)
-  same_place n turns i other j c d h = (cc, cc)
+    -- ---- its run
 
-  module _ (n : ℕ) (l : n < steps) where
-    chosen : (turns : ℕ) (c : Place) → read_run p k r n ≡ Going turns n c → (row : Row) → file_row p c.state.pc ≡ Some row → row.draws ≡ true →
-        byte_in w.choices n ≡ r.choice (point_of turns c)
-    chosen turns c at row is drawn =
-        exact w.choices n (r.choice (point_of turns c))
-        (λ b i. (let it = ((printed.choices n b).0 i).1 in let same = same_place n it.turns n turns n it.place c (sym it.before ∙ at) in
-        it.choice_is ∙ ap (λ z. r.choice (point_of z it.place)) same.0 ∙ ap (λ (z : Place). r.choice (point_of turns z)) same.1))
-        (λ z. (printed.choices n (r.choice (point_of turns c))).1 (
-          l,
-          record {
-            turns = turns;
-            place = c;
-            before = at;
-            draws_there = ap draws is ∙ drawn;
-            choice_is = refl;
-          },
-          z,
-        ))
+    abbrev q : Program
+    q = by_file p
 
-    go_on : (x y : Run) → read_run p k r n ≡ x → RunBoth A n x y → RunBoth A (suc n) (read_on p k r x) (one_more q k start y)
-    go_on (Going turns i c) (Going other j d) at h =
-        let number : i ≡ n = h.0 in
-        let here : read_run p k r n ≡ Going turns n c = at ∙ ap (λ z. Going turns z c) number in
-        let both : Both A c d = h.3 in
-        let reads : Among A (step_reads q r.state c (r.choice (point_of turns c))) =
-        λ a e. in_right (line_reads p.machine.endian p.notes.requires r.state r.state) (run_reads p k r steps) a
-        (reads_at p k r n steps l a (subst (λ z. Contains (run_reads_at p r z) a) (sym at) e)) in
-        let place : record { state = with_memory c.state both.mem; stack = c.stack } ≡ d = λ z. record { state = sym both.state z; stack = both.stack z } in
-        let steps_both = step_both A p r.state m0 agree lawful c.state both.mem c.stack both.agree both.first both.second
-        (r.choice (point_of turns c)) (start.choices j)
-        (λ row is drawn. sym (ap (byte_in w.choices) (sym h.2 ∙ number) ∙ chosen turns c here row is drawn)) reads in
-        let there : StepBoth A (step q r.state c (r.choice (point_of turns c))) (step q start.state d (start.choices j)) =
-        subst (λ z. StepBoth A (step q r.state c (r.choice (point_of turns c))) (step q z d (start.choices j))) is_start
-        (subst (λ z. StepBoth A (step q r.state c (r.choice (point_of turns c))) (step q t0 z (start.choices j))) place steps_both) in
-        let after = after_both A k turns i c.state.pc (step q r.state c (r.choice (point_of turns c))) (step q start.state d (start.choices j)) there in
-        let pcs : c.state.pc ≡ d.state.pc = ap (λ (z : State). z.pc) (sym both.state) in
-        subst (λ z. RunBoth A (suc z) (read_on p k r (Going turns i c)) (one_more q k start (Going other j d))) number
-        (subst (λ z. RunBoth A (suc i) (read_on p k r (Going turns i c)) (after_step k z j d.state.pc (step q start.state d (start.choices j)))) h.1
-        (subst (λ z. RunBoth A (suc i) (read_on p k r (Going turns i c)) (after_step k turns z d.state.pc (step q start.state d (start.choices j)))) h.2
-        (subst (λ z. RunBoth A (suc i) (read_on p k r (Going turns i c)) (after_step k turns i z (step q start.state d (start.choices j)))) pcs after)))
-    go_on (Exited at i) (Exited b j) e h = h
-    go_on (Failed x at i) (Failed f b j) e h = h
-    go_on (Turned at i) (Turned b j) e h = h
-    go_on (Going turns i c) (Exited b j) e h = absurd h
-    go_on (Going turns i c) (Failed f b j) e h = absurd h
-    go_on (Going turns i c) (Turned b j) e h = absurd h
-    go_on (Exited at i) (Going other j d) e h = absurd h
-    go_on (Exited at i) (Failed f b j) e h = absurd h
-    go_on (Exited at i) (Turned b j) e h = absurd h
-    go_on (Failed x at i) (Going other j d) e h = absurd h
-    go_on (Failed x at i) (Exited b j) e h = absurd h
-    go_on (Failed x at i) (Turned b j) e h = absurd h
-    go_on (Turned at i) (Going other j d) e h = absurd h
-    go_on (Turned at i) (Exited b j) e h = absurd h
-    go_on (Turned at i) (Failed f b j) e h = absurd h
+    same_place : (n turns i other j : ℕ) (c d : Place) → Going turns i c ≡ Going other j d → (turns ≡ other) × (c ≡ d)
+    same_place n turns i other j c d h = (cc, cc)
 
-  runs_both : (n : ℕ) → n ≤ steps → RunBoth A n (read_run p k r n) (run q k start n)
-  unfolding run read_run
-  runs_both zero l = (
-    refl,
-    refl,
-    refl,
-    record {
-      stack = refl;
-      mem = m0;
-      state = sym is_start;
-      agree = agree;
-      first = reading.state;
-      second = state;
-    },
-  )
-  runs_both (suc n) l = go_on n (omega arith) (read_run p k r n) (run q k start n) refl (runs_both n (omega arith))
+    module _ (n : ℕ) (l : n < steps) where
+      chosen : (turns : ℕ) (c : Place) → read_run p k r n ≡ Going turns n c → (row : Row) → file_row p c.state.pc ≡ Some row → row.draws ≡ true →
+          byte_in w.choices n ≡ r.choice (point_of turns c)
+      chosen turns c at row is drawn =
+          exact w.choices n (r.choice (point_of turns c))
+          (λ b i. (let it = ((printed.choices n b).0 i).1 in let same = same_place n it.turns n turns n it.place c (sym it.before ∙ at) in
+          it.choice_is ∙ ap (λ z. r.choice (point_of z it.place)) same.0 ∙ ap (λ (z : Place). r.choice (point_of turns z)) same.1))
+          (λ z. (printed.choices n (r.choice (point_of turns c))).1 (
+            l,
+            record {
+              turns = turns;
+              place = c;
+              before = at;
+              draws_there = ap draws is ∙ drawn;
+              choice_is = refl;
+            },
+            z,
+          ))
 
-  alike_of : (n : ℕ) (x y : Run) → RunBoth A n x y → StandAlike x y
-  alike_of n (Going turns i c) (Going other j d) h =
-      let both : Both A c d = h.3 in (
-        h.1,
-        h.2,
-        both.stack,
-        ap (λ (z : State). z.pc) (sym both.state),
-        ap (λ (z : State). z.regs) (sym both.state),
-        ap (λ (z : State). z.flags) (sym both.state),
-      )
-  alike_of n (Exited at i) (Exited b j) h = h
-  alike_of n (Failed x at i) (Failed f b j) h = h
-  alike_of n (Turned at i) (Turned b j) h = h
-  alike_of n (Going turns i c) (Exited b j) h = absurd h
-  alike_of n (Going turns i c) (Failed f b j) h = absurd h
-  alike_of n (Going turns i c) (Turned b j) h = absurd h
-  alike_of n (Exited at i) (Going other j d) h = absurd h
-  alike_of n (Exited at i) (Failed f b j) h = absurd h
-  alike_of n (Exited at i) (Turned b j) h = absurd h
-  alike_of n (Failed x at i) (Going other j d) h = absurd h
-  alike_of n (Failed x at i) (Exited b j) h = absurd h
-  alike_of n (Failed x at i) (Turned b j) h = absurd h
-  alike_of n (Turned at i) (Going other j d) h = absurd h
-  alike_of n (Turned at i) (Exited b j) h = absurd h
-  alike_of n (Turned at i) (Failed f b j) h = absurd h
+      go_on : (x y : Run) → read_run p k r n ≡ x → RunBoth A n x y → RunBoth A (suc n) (read_on p k r x) (one_more q k start y)
+      go_on (Going turns i c) (Going other j d) at h =
+          let number : i ≡ n = h.0 in
+          let here : read_run p k r n ≡ Going turns n c = at ∙ ap (λ z. Going turns z c) number in
+          let both : Both A c d = h.3 in
+          let reads : Among A (step_reads q r.state c (r.choice (point_of turns c))) =
+          λ a e. in_right (line_reads p.machine.endian p.notes.requires r.state r.state) (run_reads p k r steps) a
+          (reads_at p k r n steps l a (subst (λ z. Contains (run_reads_at p r z) a) (sym at) e)) in
+          let place : record { state = with_memory c.state both.mem; stack = c.stack } ≡ d = λ z. record { state = sym both.state z; stack = both.stack z } in
+          let steps_both = step_both A p r.state m0 agree lawful c.state both.mem c.stack both.agree both.first both.second
+          (r.choice (point_of turns c)) (start.choices j)
+          (λ row is drawn. sym (ap (byte_in w.choices) (sym h.2 ∙ number) ∙ chosen turns c here row is drawn)) reads in
+          let there : StepBoth A (step q r.state c (r.choice (point_of turns c))) (step q start.state d (start.choices j)) =
+          subst (λ z. StepBoth A (step q r.state c (r.choice (point_of turns c))) (step q z d (start.choices j))) is_start
+          (subst (λ z. StepBoth A (step q r.state c (r.choice (point_of turns c))) (step q t0 z (start.choices j))) place steps_both) in
+          let after = after_both A k turns i c.state.pc (step q r.state c (r.choice (point_of turns c))) (step q start.state d (start.choices j)) there in
+          let pcs : c.state.pc ≡ d.state.pc = ap (λ (z : State). z.pc) (sym both.state) in
+          subst (λ z. RunBoth A (suc z) (read_on p k r (Going turns i c)) (one_more q k start (Going other j d))) number
+          (subst (λ z. RunBoth A (suc i) (read_on p k r (Going turns i c)) (after_step k z j d.state.pc (step q start.state d (start.choices j)))) h.1
+          (subst (λ z. RunBoth A (suc i) (read_on p k r (Going turns i c)) (after_step k turns z d.state.pc (step q start.state d (start.choices j)))) h.2
+          (subst (λ z. RunBoth A (suc i) (read_on p k r (Going turns i c)) (after_step k turns i z (step q start.state d (start.choices j)))) pcs after)))
+      go_on (Exited at i) (Exited b j) e h = h
+      go_on (Failed x at i) (Failed f b j) e h = h
+      go_on (Turned at i) (Turned b j) e h = h
+      go_on (Going turns i c) (Exited b j) e h = absurd h
+      go_on (Going turns i c) (Failed f b j) e h = absurd h
+      go_on (Going turns i c) (Turned b j) e h = absurd h
+      go_on (Exited at i) (Going other j d) e h = absurd h
+      go_on (Exited at i) (Failed f b j) e h = absurd h
+      go_on (Exited at i) (Turned b j) e h = absurd h
+      go_on (Failed x at i) (Going other j d) e h = absurd h
+      go_on (Failed x at i) (Exited b j) e h = absurd h
+      go_on (Failed x at i) (Turned b j) e h = absurd h
+      go_on (Turned at i) (Going other j d) e h = absurd h
+      go_on (Turned at i) (Exited b j) e h = absurd h
+      go_on (Turned at i) (Failed f b j) e h = absurd h
 
-  pub alike : (n : ℕ) → n ≤ steps → StandAlike (read_run p k r n) (run p k start n)
-  alike n l =
-      subst (λ z. StandAlike (read_run p k r n) z) (sym (runs_by_file p lawful memory k start starts.entry n))
-      (alike_of n (read_run p k r n) (run q k start n) (runs_both n l))
+    runs_both : (n : ℕ) → n ≤ steps → RunBoth A n (read_run p k r n) (run q k start n)
+    unfolding run read_run
+    runs_both zero l = (
+      refl,
+      refl,
+      refl,
+      record {
+        stack = refl;
+        mem = m0;
+        state = sym is_start;
+        agree = agree;
+        first = reading.state;
+        second = state;
+      },
+    )
+    runs_both (suc n) l = go_on n (omega arith) (read_run p k r n) (run q k start n) refl (runs_both n (omega arith))
+
+    alike_of : (n : ℕ) (x y : Run) → RunBoth A n x y → StandAlike x y
+    alike_of n (Going turns i c) (Going other j d) h =
+        let both : Both A c d = h.3 in (
+          h.1,
+          h.2,
+          both.stack,
+          ap (λ (z : State). z.pc) (sym both.state),
+          ap (λ (z : State). z.regs) (sym both.state),
+          ap (λ (z : State). z.flags) (sym both.state),
+        )
+    alike_of n (Exited at i) (Exited b j) h = h
+    alike_of n (Failed x at i) (Failed f b j) h = h
+    alike_of n (Turned at i) (Turned b j) h = h
+    alike_of n (Going turns i c) (Exited b j) h = absurd h
+    alike_of n (Going turns i c) (Failed f b j) h = absurd h
+    alike_of n (Going turns i c) (Turned b j) h = absurd h
+    alike_of n (Exited at i) (Going other j d) h = absurd h
+    alike_of n (Exited at i) (Failed f b j) h = absurd h
+    alike_of n (Exited at i) (Turned b j) h = absurd h
+    alike_of n (Failed x at i) (Going other j d) h = absurd h
+    alike_of n (Failed x at i) (Exited b j) h = absurd h
+    alike_of n (Failed x at i) (Turned b j) h = absurd h
+    alike_of n (Turned at i) (Going other j d) h = absurd h
+    alike_of n (Turned at i) (Exited b j) h = absurd h
+    alike_of n (Turned at i) (Failed f b j) h = absurd h
+
+    pub alike : (n : ℕ) → n ≤ steps → StandAlike (read_run p k r n) (run p k start n)
+    alike n l =
+        subst (λ z. StandAlike (read_run p k r n) z) (sym (runs_by_file p lawful memory k start starts.entry n))
+        (alike_of n (read_run p k r n) (run q k start n) (runs_both n l))
 
 pub printed_runs_alike : PrintedRunsAlike
 printed_runs_alike p lawful memory layout k steps r w reading entry printed regs flags = (
-  starts p lawful memory layout k steps r w reading entry printed regs flags,
-  alike p lawful memory layout k steps r w reading entry printed regs flags,
+  starts p layout k steps r w reading entry printed lawful memory regs flags,
+  alike p layout k steps r w reading entry printed lawful memory regs flags,
 )

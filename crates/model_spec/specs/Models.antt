@@ -122,20 +122,24 @@ pub record AreDeclared (p : Program) (layout : Layout) (points : List Point) (de
   pub memory : Contains declared (record { name = codes "mem"; sort = Memories })
   pub choices : (d : Declared) → Contains declared d → (n : ℕ) → d.name ≡ choice_name n → d.sort ≡ Words 2
 
--- What is answered to the text of an answer, over a program that is found.
-pub data IsModelAnswer (p : Program) (layout : Layout) (b : Budget) (kind : Question) (text : List ℕ) (x : Answer) : Type 0 where
+-- What is answered where the budgets for points and for the size are met, and else which of them is exceeded.
+pub data AfterBudgets (p : Program) (b : Budget) (Next : Answer → Type 0) (x : Answer) : Type 0 where
   points : HasMore p b.unroll b.points → x ≡ record { status = 3; text = budget_text (codes "points") b.points; evidence = Count (b.points + 1) } →
-      IsModelAnswer p layout b kind text x
+      AfterBudgets p b Next x
   size : (price : ℕ) → (¬ HasMore p b.unroll b.points) → IsPrice p b.unroll price → b.size < price →
-      x ≡ record { status = 3; text = budget_text (codes "size") b.size; evidence = Count price } → IsModelAnswer p layout b kind text x
-  large : IsWithin p b → text_limit < length text → x ≡ plain_answer 9 (line (codes "model: TooLarge")) → IsModelAnswer p layout b kind text x
-  refused : {points : List Point} {declared : List Declared} (n : ℕ) (f : ModelFault) → IsWithin p b → length text ≤ text_limit →
-      AreNumbered p b.unroll points → AreDeclared p layout points declared → IsModelFault declared text n f →
+      x ≡ record { status = 3; text = budget_text (codes "size") b.size; evidence = Count price } → AfterBudgets p b Next x
+  within : IsWithin p b → Next x → AfterBudgets p b Next x
+
+-- What is answered to the text of an answer, over a program that is found and within the budgets.
+pub data IsModelAnswer (p : Program) (layout : Layout) (b : Budget) (kind : Question) (text : List ℕ) (x : Answer) : Type 0 where
+  large : text_limit < length text → x ≡ plain_answer 9 (line (codes "model: TooLarge")) → IsModelAnswer p layout b kind text x
+  refused : {points : List Point} {declared : List Declared} (n : ℕ) (f : ModelFault) → length text ≤ text_limit → AreNumbered p b.unroll points →
+      AreDeclared p layout points declared → IsModelFault declared text n f →
       x ≡ plain_answer 9 (line (codes "model: line" ++ spaced (number_text n ∷ model_fault_words f ∷ []))) → IsModelAnswer p layout b kind text x
-  untrue : {points : List Point} {declared : List Declared} {ds : List Definition} (r : Reading) → IsWithin p b → length text ≤ text_limit →
+  untrue : {points : List Point} {declared : List Declared} {ds : List Definition} (r : Reading) → length text ≤ text_limit →
       AreNumbered p b.unroll points → AreDeclared p layout points declared → IsAnswer declared text ds → IsReadingOf p layout points ds r →
       ¬ IsTrue p b.unroll r kind → x ≡ plain_answer 9 (line (codes "model: false")) → IsModelAnswer p layout b kind text x
-  accepted : {points : List Point} {declared : List Declared} {ds : List Definition} (r : Reading) (w : Written) (ending : Ending) → IsWithin p b →
+  accepted : {points : List Point} {declared : List Declared} {ds : List Definition} (r : Reading) (w : Written) (ending : Ending) →
       length text ≤ text_limit → AreNumbered p b.unroll points → AreDeclared p layout points declared → IsAnswer declared text ds →
       IsReadingOf p layout points ds r → IsTrue p b.unroll r kind → IsEndOf p b.unroll (start_in p layout w) kind ending →
       IsPrinted p layout b.unroll r (steps_of kind (last_of ending)) w →

@@ -1,2 +1,3 @@
 pub mod WrittenOut
 pub mod Looped
+pub mod ReadPlaces

@@ -34,7 +34,7 @@ fn word(number: u32) -> Word
 }
 
 /// How many bytes a load has.
-fn bytes(size: Size) -> u8
+pub(crate) fn bytes(size: Size) -> u8
     ensures { result ≡ bytes_of size }
 {
     match size {
@@ -82,7 +82,7 @@ fn load<V: View>(state: &V, address: u32, size: Size, big: bool) -> u32
 
 /// The value of an expression with a number for its bound name.
 #[cycle(values)]
-fn value_with<V: View>(expr: &Expr, bound: u32, now: &V, old: &V, big: bool) -> u32
+pub(crate) fn value_with<V: View>(expr: &Expr, bound: u32, now: &V, old: &V, big: bool) -> u32
     requires readable { IsReadable V.has_register (expr_of expr.now) }
     ensures { result ≡ meaning.value (memory.endian big) (meaning.put_bound bound (expr_of expr.now)) (V.view now.now) (V.view old.now) }
 {

@@ -101,7 +101,7 @@ module _ (layout : Layout) where
   abbrev text_of : StateLine → List ℕ
   text_of l = joined (words_of_line layout l)
 
-  end_said : (text : List ℕ) (o : Option StateLine) → line_of layout text ≡ o → is_end o ≡ true → text ≡ codes "end"
+  pub end_said : (text : List ℕ) (o : Option StateLine) → line_of layout text ≡ o → is_end o ≡ true → text ≡ codes "end"
   end_said text None h e = absurd (let c : false ≡ true = e in cc)
   end_said text (Some EndLine) h e = (line_said layout text EndLine h tt).1
   end_said text (Some (NamedLine n)) h e = absurd (let c : false ≡ true = e in cc)
@@ -110,7 +110,7 @@ module _ (layout : Layout) where
   end_said text (Some (ByteLine a v)) h e = absurd (let c : false ≡ true = e in cc)
   end_said text (Some (ChoiceLine s c)) h e = absurd (let c : false ≡ true = e in cc)
 
-  not_said : (text : List ℕ) → (text ≡ codes "end" → ⊥) → is_end (line_of layout text) ≡ false
+  pub not_said : (text : List ℕ) → (text ≡ codes "end" → ⊥) → is_end (line_of layout text) ≡ false
   not_said text other = by (is_end (line_of layout text)) refl
     where
       by : (b : Bool) → is_end (line_of layout text) ≡ b → b ≡ false

@@ -11,7 +11,7 @@ use Rattle.pair_spec.specs.Links.{Link, EqualAtEntry, EqualAtExit, SharedBytes, 
 use Rattle.pair_spec.specs.LinkLaws.{OneLinks, LinksHaveNoFault, OneLinkFault, LinksCompareAlike}
 
 -- the forms of a line, by what it says
-form_of : {first second : List ℕ → Option Expr} {n : ℕ} {ts : List Token} {s : Says} → IsSaid first second n ts s → HasForm ts
+pub form_of : {first second : List ℕ → Option Expr} {n : ℕ} {ts : List Token} {s : Says} → IsSaid first second n ts s → HasForm ts
 form_of IsSaid.nothing = HasForm.blank
 form_of (IsSaid.enters {v} {w} h) = HasForm.enters v w
 form_of (IsSaid.leaves {v} {w} h) = HasForm.leaves v w

@@ -13,9 +13,9 @@ abbrev pub words_in : State → List (State → ℕ) → List ℕ
 words_in s words = map (λ f. f s) words
 
 -- the words of a link on both sides are as many, and are the same where the link passes
-record Tells (passes : Bool) (xs ys : List ℕ) : Type 0 where
-  long : length xs ≡ length ys
-  same : same_words xs ys ≡ passes
+pub record Tells (passes : Bool) (xs ys : List ℕ) : Type 0 where
+  pub long : length xs ≡ length ys
+  pub same : same_words xs ys ≡ passes
 
 no_words : Tells true [] []
 no_words = record { long = refl; same = refl }
@@ -47,13 +47,13 @@ range_tells places s t =
     subst (λ z. Tells (have_bytes places s.mem t.mem) z (words_in t (map (λ a (x : State). x.mem a) places))) (sym (applied s places))
     (subst (λ z. Tells (have_bytes places s.mem t.mem) (map s.mem places) z) (sym (applied t places)) (bytes_tell places s.mem t.mem))
 
-entry_tells : (s t : State) (l : Link) → Tells (agrees_at_entry s t l) (words_in s (entry_words false l)) (words_in t (entry_words true l))
+pub entry_tells : (s t : State) (l : Link) → Tells (agrees_at_entry s t l) (words_in s (entry_words false l)) (words_in t (entry_words true l))
 entry_tells s t (EqualAtEntry n x y) = one_word (value Little x s s) (value Little y t t)
 entry_tells s t (SharedBytes n low high) = range_tells (addresses low high) s t
 entry_tells s t (EqualAtExit n x y) = no_words
 entry_tells s t (SameBytes n low high) = no_words
 
-exit_tells : (s t : State) (l : Link) → Tells (agrees_at_exit s t l) (words_in s (exit_words false l)) (words_in t (exit_words true l))
+pub exit_tells : (s t : State) (l : Link) → Tells (agrees_at_exit s t l) (words_in s (exit_words false l)) (words_in t (exit_words true l))
 exit_tells s t (EqualAtExit n x y) = one_word (value Little x s s) (value Little y t t)
 exit_tells s t (SameBytes n low high) = range_tells (addresses low high) s t
 exit_tells s t (EqualAtEntry n x y) = no_words

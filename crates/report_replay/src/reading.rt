@@ -17,8 +17,10 @@ use std::alloc::{AllocError, Global};
 
 /// What a text says: a state, or nothing, refused at a line.
 #[derive(Drop)]
-pub(crate) enum Reading {
+pub enum Reading {
+    /// The state.
     State(StateText),
+    /// The first refused line, counted from 1, with its least fault.
     Refused { line: u64, kind: StateFault },
 }
 
@@ -82,8 +84,12 @@ fn unless_known(image: &Image, notes: &Notes, bytes: &[(u32, u8)], first: u64) -
     }
 }
 
-/// What a text says. The error is want of memory.
-pub(crate) fn read_text(
+/// What a text says in the layout of its machine, where the file and the notes of a program give some bytes, of which no line may speak.
+///
+/// # Errors
+///
+/// Want of memory.
+pub fn read_text(
     alloc: Global,
     image: &Image,
     notes: &Notes,

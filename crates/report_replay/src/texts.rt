@@ -41,7 +41,11 @@ fn refusal(alloc: Global, text: &[u8]) -> Result<Replay, AllocError>
 }
 
 /// The answer to a text that is too long.
-pub(crate) fn too_large(alloc: Global) -> Result<Replay, AllocError>
+///
+/// # Errors
+///
+/// Want of memory.
+pub fn too_large(alloc: Global) -> Result<Replay, AllocError>
     ensures { (p : Program) (layout : Layout) (text : List ℕ) → IfOk result (λ r. plain_answer r.status r.text.items ≡ sized_answer true p layout text) }
 {
     refusal(alloc, b"state: TooLarge\n")
@@ -68,8 +72,12 @@ fn fault_text(kind: StateFault) -> &'static [u8]
     }
 }
 
-/// The answer to a text that is refused at a line.
-pub(crate) fn refused(alloc: Global, line: u64, kind: StateFault) -> Result<Replay, AllocError>
+/// The answer to a text that is refused at a line, counted from 1.
+///
+/// # Errors
+///
+/// Want of memory.
+pub fn refused(alloc: Global, line: u64, kind: StateFault) -> Result<Replay, AllocError>
     ensures { (p : Program) (layout : Layout) → IfOk result (λ r. plain_answer r.status r.text.items
         ≡ told_answer p layout (StateRefused line (fault_of kind))) }
 {
@@ -123,8 +131,17 @@ fn turns_within(named: NamedEnding) -> u64
     }
 }
 
-/// Appends what a run came to that was allowed `k` backward transfers.
-fn push_found(alloc: Global, out: &mut Vec<u8>, k: u64, ending: Ending) -> Result<(), AllocError>
+/// Appends what a run came to that was allowed `k` backward transfers. What an `Err` leaves is open.
+///
+/// # Errors
+///
+/// Want of memory.
+pub fn push_found(
+    alloc: Global,
+    out: &mut Vec<u8>,
+    k: u64,
+    ending: Ending,
+) -> Result<(), AllocError>
     ensures { OnOk result (out.new.items ≡ out.old.items ++ joined (found_words k (found_of ending))) }
 {
     match ending {

@@ -36,12 +36,6 @@ drop_all : (ns : List TermNode) → drop (length ns) ns ≡ []
 drop_all [] = refl
 drop_all (n ∷ ns) = drop_all ns
 
-pub definitions_done : (layout : Layout) (numbers : List ℕ) (ns : List TermNode) (i : ℕ) (out all : List ℕ) → i ≡ length ns →
-    out ++ left layout numbers ns i ≡ all → out ≡ all
-definitions_done layout numbers ns i out all e inv =
-    sym (append-nil out) ∙ ap (λ t. out ++ commands_text (node_definitions layout numbers (length ns) t)) (sym (drop_all ns))
-    ∙ ap (λ k. out ++ left layout numbers ns k) (sym e) ∙ inv
-
 -- the declarations that are left from a place on
 abbrev pub undeclared : Sexp → List (List ℕ) → ℕ → List ℕ
 undeclared sort names i = commands_text (declarations sort (drop i names))
@@ -52,14 +46,6 @@ name_more sort names i w out new all l e step inv =
     let d : drop i names ≡ w ∷ drop (suc i) names = drop-cons names i [] l ∙ ap (λ m. m ∷ drop (suc i) names) (sym e) in
     rw add-one (one_command out new (undeclared sort names (suc i)) all (declaration w sort) step
     (ap (λ t. out ++ commands_text (declarations sort t)) (sym d) ∙ inv))
-
-no_names : (names : List (List ℕ)) → drop (length names) names ≡ []
-no_names [] = refl
-no_names (n ∷ ns) = no_names ns
-
-pub names_done : (sort : Sexp) (names : List (List ℕ)) (i : ℕ) (out all : List ℕ) → i ≡ length names → out ++ undeclared sort names i ≡ all → out ≡ all
-names_done sort names i out all e inv =
-    sym (append-nil out) ∙ ap (λ t. out ++ commands_text (declarations sort t)) (sym (no_names names)) ∙ ap (λ k. out ++ undeclared sort names k) (sym e) ∙ inv
 
 -- the bytes of a run that are left from a distance on
 abbrev pub unlisted : ByteRun → (i : ℕ) → List ℕ
@@ -72,8 +58,3 @@ byte_more r i out new all l step inv =
     let n : r.count - i ≡ suc (r.count - suc i) = omega (arith, l) in
     rw add-one (one_command out new (commands_text (byte_assertions r (suc i) (r.count - suc i))) all
     (assertion (has_byte (r.at + i) (slice_index r.bytes i))) step (ap (λ k. out ++ commands_text (byte_assertions r i k)) (sym n) ∙ inv))
-
-pub bytes_done : (r : ByteRun) (i : ℕ) (out all : List ℕ) → i ≡ r.count → out ++ unlisted r i ≡ all → out ≡ all
-bytes_done r i out all e inv =
-    let n : r.count - i ≡ 0 = omega (arith, e) in
-    sym (append-nil out) ∙ ap (λ k. out ++ commands_text (byte_assertions r i k)) (sym n) ∙ inv

@@ -117,11 +117,11 @@ draws_same (Some row) = refl
 
 module _ (p : Program) (k : ℕ) (u : UnrolledProgram) (un : IsUnrolling p k u) where
   -- the point at a place draws as the row at its address
-  place_draws : (i : ℕ) → i < length u.points → draws (file_row p (point_at u i).point.at) ≡ (point_at u i).draws
+  pub place_draws : (i : ℕ) → i < length u.points → draws (file_row p (point_at u i).point.at) ≡ (point_at u i).draws
   place_draws i l = draws_same (file_row p (point_at u i).point.at) ∙ sym (un.places i l).counted.draws
 
   module _ (points : List Point) (order : AreInOrder u points) where
-    numbered : AreNumbered p k points
+    pub numbered : AreNumbered p k points
     numbered = (
       record {
         all = λ q is. (order.same q).1 (un.points.all q is);
@@ -132,7 +132,7 @@ module _ (p : Program) (k : ℕ) (u : UnrolledProgram) (un : IsUnrolling p k u) 
     )
 
     -- the place of a point among the numbered ones
-    place_of : (at : ℕ) (point : Point) → slice_get points at ≡ Some point → (i : ℕ) × (i < length u.points) × ((point_at u i).point ≡ point)
+    pub place_of : (at : ℕ) (point : Point) → slice_get points at ≡ Some point → (i : ℕ) × (i < length u.points) × ((point_at u i).point ≡ point)
     place_of at point e =
         let l = slice_get_within points at point e in
         let c : Contains points point = (at, l, get_or_from_slice_get points at point point e) in
@@ -178,7 +178,7 @@ module _ (p : Program) (k : ℕ) (u : UnrolledProgram) (un : IsUnrolling p k u) 
     over = walk_answers_over p lawful k u un (is_known_at p) (λ a h. h)
         (λ a i is l. (let asked = asked_is_right p k u un [] (λ b c. absurd (omega (arith, c.1))) in asked.0 _ (asked.1 a i is l))) r question
 
-    walk_to : IsTrueOfWalk u r question → IsTrue p k r question
+    pub walk_to : IsTrueOfWalk u r question → IsTrue p k r question
     walk_to t =
         let some : IsTrueOfWalkOver u (is_known_at p) r question = record {
           choice = t.choice;
@@ -188,7 +188,7 @@ module _ (p : Program) (k : ℕ) (u : UnrolledProgram) (un : IsUnrolling p k u) 
         let there = over.0 some in
         record { choice = t.choice; entry = (entry_is_same p k u un r.state).0 t.entry; ends = there.ends }
 
-    walk_from : IsTrue p k r question → IsTrueOfWalk u r question
+    pub walk_from : IsTrue p k r question → IsTrueOfWalk u r question
     walk_from t =
         let here = over.1 (true_over p (is_known_at p) k r question (λ a h. h) t) in
         record { choice = t.choice; entry = (entry_is_same p k u un r.state).1 t.entry; ends = here.ends }

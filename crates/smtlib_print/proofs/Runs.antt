@@ -21,9 +21,6 @@ byte_below r n v h s e i l = elim (cases_lt i n) [
   | inr k ↦ (let same : i ≡ n = omega (arith, l, k) in subst (λ (z : ℕ). slice_index r.bytes z < 256) (sym same) (subst (λ (z : ℕ). z < 256) e s))
 ]
 
-pub fits_memory : (k : Known) (n : ℕ) → k.first ≤ k.last → k.last < 2 ^ 32 → n ≡ (run_of k).count → AreBytesTo (run_of k) n → FitsMemory (run_of k)
-fits_memory k n h l e b = record { within = omega (arith, h, l); bytes = λ i j. b i (omega (arith, j, e)) }
-
 -- the runs from a place on
 abbrev pub runs_from : List Known → ℕ → List ByteRun
 runs_from runs i = map run_of (drop i runs)
@@ -68,16 +65,3 @@ run_more runs i r default old out new l e fits step inv =
     ∙ ap (λ t. out ++ t) (sym (text-append (byte_assertions (run_of r) 0 (run_of r).count) (run_assertions rest)))
     ∙ ap (λ z. out ++ commands_text (run_assertions z)) (sym d) ∙ inv.text in
     rw add-one (record { text = text; fit = λ f. inv.fit (subst (λ (z : List ByteRun). FitMemory z) (sym d) (fits, f)) })
-
-no_runs : (rs : List Known) (i : ℕ) → i ≡ length rs → runs_from rs i ≡ []
-no_runs [] zero e = refl
-no_runs [] (suc i) e = refl
-no_runs (r ∷ rs) zero e = absurd (omega (arith, e))
-no_runs (r ∷ rs) (suc i) e = no_runs rs i (omega (arith, e))
-
-pub runs_text : (runs : List Known) (i : ℕ) (old out : List ℕ) → i ≡ length runs → AreRunsWritten runs old i out →
-    out ≡ old ++ commands_text (run_assertions (map run_of runs))
-runs_text runs i old out e inv = sym (append-nil out) ∙ ap (λ z. out ++ commands_text (run_assertions z)) (sym (no_runs runs i e)) ∙ inv.text
-
-pub runs_fit : (runs : List Known) (i : ℕ) (old out : List ℕ) → i ≡ length runs → AreRunsWritten runs old i out → FitMemory (map run_of runs)
-runs_fit runs i old out e inv = inv.fit (subst (λ (z : List ByteRun). FitMemory z) (sym (no_runs runs i e)) tt)

@@ -76,7 +76,7 @@ pub fn declare_flags(out: &mut String, form: Layout) -> Result<(), AllocError>
 }
 
 /// Whether the row of a code reads the choice; there is nothing behind the last code.
-fn draws(unrolled: &Unrolled, code: u32) -> bool
+pub fn draws(unrolled: &Unrolled, code: u32) -> bool
     ensures { result ≡ (slice_index_or unrolled.now.codes.items code no_code).draws }
 {
     let place = code as usize;

@@ -11,5 +11,7 @@ mod scripts;
 mod terms;
 mod words;
 
+pub use declarations::draws;
 pub use laws::{scripts_are_of_programs, scripts_tell};
+pub use numbering::numbers;
 pub use scripts::script;

@@ -44,8 +44,14 @@ fails_line AlignFails at step = refl
 fails_line JumpFails at step = refl
 fails_line (EnsureFails n) at step = ap (λ l. codes "fails ensure " ++ l) (unended (number_text n) (spaced (place_words at step)))
 
+-- six texts
+pub six : (start first second third fourth fifth all a b c d t u : List ℕ) → first ≡ start ++ a → second ≡ first ++ b → third ≡ second ++ c →
+    fourth ≡ third ++ d → fifth ≡ fourth ++ t → all ≡ fifth ++ u → all ≡ start ++ (a ++ (b ++ (c ++ (d ++ (t ++ u)))))
+six start first second third fourth fifth all a b c d t u e f g h i j =
+    two start first all a (b ++ (c ++ (d ++ (t ++ u)))) e (five first second third fourth fifth all b c d t u f g h i j)
+
 -- seven texts
 pub seven : (start first second third fourth fifth sixth all a b c d t u v : List ℕ) → first ≡ start ++ a → second ≡ first ++ b → third ≡ second ++ c →
     fourth ≡ third ++ d → fifth ≡ fourth ++ t → sixth ≡ fifth ++ u → all ≡ sixth ++ v → all ≡ start ++ (a ++ (b ++ (c ++ (d ++ (t ++ (u ++ v))))))
 seven start first second third fourth fifth sixth all a b c d t u v e f g h i j k =
-    three start first second all a b (c ++ (d ++ (t ++ (u ++ v)))) e f (five second third fourth fifth sixth all c d t u v g h i j k)
+    two start first all a (b ++ (c ++ (d ++ (t ++ (u ++ v))))) e (six first second third fourth fifth sixth all b c d t u v f g h i j k)

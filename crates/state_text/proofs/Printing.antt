@@ -1,9 +1,10 @@
 -- The lines of a text, printed one after another.
 use Rattle.std.proofs.Common.{◌≡◌, ℕ, zero, suc, ◌+◌, ◌-◌, ◌<◌, ◌≢◌, refl, ap, sym, ◌∙◌, arith, List, [], ◌∷◌, ◌++◌, length, get_or, drop, map, append_assoc, add-one, drop-cons, codes}
 use Rattle.word_spec.specs.Words.{bit_at}
+use Rattle.word_spec.specs.State.{Written}
 use Rattle.word_spec.specs.Texts.{line}
 use Rattle.machine_spec.specs.Endings.{named_line}
-use Rattle.machine_spec.specs.StateText.{Layout, StateText, StateLine, MachineLine, RegisterLine, ByteLine, ChoiceLine, EndLine, register_lines, flag_bits, printed}
+use Rattle.machine_spec.specs.StateText.{Layout, StateText, StateLine, MachineLine, RegisterLine, ByteLine, ChoiceLine, EndLine, block_text, register_lines, flag_bits, printed}
 use Rattle.state_text.specs.Starts.{line_text, lines_text}
 
 -- the next line of a list
@@ -40,51 +41,55 @@ registers_append i (x ∷ xs) ys =
     let same : (i + 1) + length xs ≡ i + suc (length xs) = omega arith in
     ap (λ l. RegisterLine i x ∷ l) (registers_append (i + 1) xs ys ∙ ap (λ k. register_lines (i + 1) xs ++ register_lines k ys) same)
 
--- the lines of a text behind each other
-pub whole : (layout : Layout) (t : StateText) →
-    line (named_line t.named) ++ (line (line_text layout MachineLine) ++ (lines_text layout (register_lines 0 t.start.regs)
-    ++ (lines_text layout (register_lines (length t.start.regs) (flag_bits (length layout.flags) t.start.flags))
-    ++ (lines_text layout (map (λ b. ByteLine b.0 b.1) t.start.bytes)
-    ++ (lines_text layout (map (λ c. ChoiceLine c.0 c.1) t.start.choices) ++ codes "end\n")))))
-    ≡ printed layout t
-unfolding printed
-whole layout t =
-    ap (λ l. line (named_line t.named) ++ (line (line_text layout MachineLine) ++ l))
+-- the lines of a start behind each other
+pub block : (layout : Layout) (w : Written) →
+    line (line_text layout MachineLine) ++ (lines_text layout (register_lines 0 w.regs)
+    ++ (lines_text layout (register_lines (length w.regs) (flag_bits (length layout.flags) w.flags))
+    ++ (lines_text layout (map (λ b. ByteLine b.0 b.1) w.bytes)
+    ++ (lines_text layout (map (λ c. ChoiceLine c.0 c.1) w.choices) ++ codes "end\n"))))
+    ≡ block_text layout w
+block layout w =
+    ap (λ l. line (line_text layout MachineLine) ++ l)
     (sym (append_assoc (lines_text layout regs) (lines_text layout flags) (lines_text layout bytes ++ (lines_text layout choices ++ codes "end\n")))
     ∙ ap (λ l. l ++ (lines_text layout bytes ++ (lines_text layout choices ++ codes "end\n")))
     (sym (lines_append layout regs flags) ∙ ap (λ l. lines_text layout l) (ap
-    (λ k. regs ++ register_lines k bits) zero_add ∙ sym (registers_append 0 t.start.regs bits)))
+    (λ k. regs ++ register_lines k bits) zero_add ∙ sym (registers_append 0 w.regs bits)))
     ∙ ap (λ l. lines_text layout values ++ (lines_text layout bytes ++ l)) (sym (lines_append layout choices (EndLine ∷ [])))
     ∙ ap (λ l. lines_text layout values ++ l) (sym (lines_append layout bytes (choices ++ EndLine ∷ [])))
     ∙ sym (lines_append layout values (bytes ++ (choices ++ EndLine ∷ []))))
   where
     bits : List ℕ
-    bits = flag_bits (length layout.flags) t.start.flags
+    bits = flag_bits (length layout.flags) w.flags
 
     regs : List StateLine
-    regs = register_lines 0 t.start.regs
+    regs = register_lines 0 w.regs
 
     flags : List StateLine
-    flags = register_lines (length t.start.regs) bits
+    flags = register_lines (length w.regs) bits
 
     values : List StateLine
-    values = register_lines 0 (t.start.regs ++ bits)
+    values = register_lines 0 (w.regs ++ bits)
 
     bytes : List StateLine
-    bytes = map (λ b. ByteLine b.0 b.1) t.start.bytes
+    bytes = map (λ b. ByteLine b.0 b.1) w.bytes
 
     choices : List StateLine
-    choices = map (λ c. ChoiceLine c.0 c.1) t.start.choices
+    choices = map (λ c. ChoiceLine c.0 c.1) w.choices
 
-    zero_add : length t.start.regs ≡ 0 + length t.start.regs
+    zero_add : length w.regs ≡ 0 + length w.regs
     zero_add = omega arith
 
 -- the same for equal parts
-pub whole_by : (layout : Layout) (t : StateText) (regs : List ℕ) (n count : ℕ) (bytes choices : List (ℕ × ℕ)) → regs ≡ t.start.regs → n ≡ length t.start.regs →
-    count ≡ length layout.flags → bytes ≡ t.start.bytes → choices ≡ t.start.choices →
-    line (named_line t.named) ++ (line (line_text layout MachineLine) ++ (lines_text layout (register_lines 0 regs)
-    ++ (lines_text layout (register_lines n (flag_bits count t.start.flags))
-    ++ (lines_text layout (map (λ b. ByteLine b.0 b.1) bytes) ++ (lines_text layout (map (λ c. ChoiceLine c.0 c.1) choices) ++ codes "end\n")))))
-    ≡ printed layout t
-whole_by layout t regs n count bytes choices same_regs same_n same_count same_bytes same_choices =
-    rw (same_regs, same_n, same_count, same_bytes, same_choices) (whole layout t)
+pub block_by : (layout : Layout) (w : Written) (regs : List ℕ) (n count : ℕ) (bytes choices : List (ℕ × ℕ)) → regs ≡ w.regs → n ≡ length w.regs →
+    count ≡ length layout.flags → bytes ≡ w.bytes → choices ≡ w.choices →
+    line (line_text layout MachineLine) ++ (lines_text layout (register_lines 0 regs)
+    ++ (lines_text layout (register_lines n (flag_bits count w.flags))
+    ++ (lines_text layout (map (λ b. ByteLine b.0 b.1) bytes) ++ (lines_text layout (map (λ c. ChoiceLine c.0 c.1) choices) ++ codes "end\n"))))
+    ≡ block_text layout w
+block_by layout w regs n count bytes choices same_regs same_n same_count same_bytes same_choices =
+    rw (same_regs, same_n, same_count, same_bytes, same_choices) (block layout w)
+
+-- a text is the line of its ending and the lines of its start
+pub whole : (layout : Layout) (t : StateText) → line (named_line t.named) ++ block_text layout t.start ≡ printed layout t
+unfolding printed
+whole layout t = refl

@@ -13,6 +13,8 @@ mod state_line;
 pub use layout::{Layout, Profile};
 pub use line_tokens::{Sign, Token, tokens};
 pub use parser::parse_state;
-pub use printer::{print_state, push_ending, push_number, push_step, push_text, push_word};
+pub use printer::{
+    print_state, push_block, push_ending, push_number, push_step, push_text, push_word,
+};
 pub use start::{Event, NamedEnding, Start, StateText};
 pub use state_fault::{ParseFault, StateFault};

@@ -2,9 +2,9 @@
 ghost use Rattle.std.specs.Prelude.{◌≡◌, ◌+◌, ◌++◌, ◌≤◌, ◌<◌, ◌*◌, ◌%◌, ◌^◌, List, [], ◌∷◌, OnOk, IfOk, slice_index_or, map, length, codes};
 ghost use Rattle.word_spec.specs.Texts.{hex_digit, hex_digits, word_text, byte_text, number_text, line, lines, joined};
 ghost use Rattle.machine_spec.specs.Endings.{event_words, named_line, place_words};
-ghost use Rattle.machine_spec.specs.StateText.{printed, value_names, value_text, words_of_line, StateLine, RegisterLine, ByteLine, ChoiceLine, EndLine, MachineLine, NamedLine, register_lines, flag_bits, lines_behind};
+ghost use Rattle.machine_spec.specs.StateText.{block_text, printed, value_names, value_text, words_of_line, StateLine, RegisterLine, ByteLine, ChoiceLine, EndLine, MachineLine, NamedLine, register_lines, flag_bits, lines_behind};
 ghost use Rattle.machine_spec.specs.StateText as texts;
-ghost use Rattle.state_text.specs.Starts.{layout_of, event_of, named_of, text_of, line_text, lines_text};
+ghost use Rattle.state_text.specs.Starts.{layout_of, event_of, named_of, text_of, written_of, line_text, lines_text};
 
 use crate::layout::Layout;
 use crate::start::{Event, NamedEnding, Start, StateText};
@@ -264,27 +264,39 @@ fn push_choices(alloc: Global, out: &mut Vec<u8>, choices: &[(u64, u8)]) -> Resu
     Ok(())
 }
 
+/// Appends the lines of a start that stand behind the line of its ending, in the layout of its machine. What an `Err` leaves is open.
+pub fn push_block(
+    alloc: Global,
+    out: &mut Vec<u8>,
+    start: &Start,
+    layout: Layout,
+) -> Result<(), AllocError>
+    ensures { OnOk result (out.new.items ≡ out.old.items ++ block_text (layout_of layout) (written_of start.now)) }
+{
+    push_machine(out, layout)?;
+    let regs = start.regs.as_slice();
+    push_registers(alloc, out, layout, regs)?;
+    push_flags(
+        alloc,
+        out,
+        layout,
+        regs.len(),
+        layout.flag_count(),
+        start.flags,
+    )?;
+    push_bytes(out, start.bytes.as_slice())?;
+    push_choices(alloc, out, start.choices.as_slice())?;
+    push_text(out, b"end\n")?;
+    Ok(())
+}
+
 /// The text of a start with its ending, in the layout of its machine. Whatever stands in it is printed; a text that is read again has the
 /// registers and flags of the layout, bytes and choices in rising order, and no bytes or choices of 0.
 pub fn print_state(alloc: Global, text: &StateText, layout: Layout) -> Result<Vec<u8>, AllocError>
     ensures { IfOk result (λ v. v.items ≡ printed (layout_of layout) (text_of text.now)) }
 {
     let mut out = Vec::new(alloc);
-    let start = &text.start;
     push_named(alloc, &mut out, text.named)?;
-    push_machine(&mut out, layout)?;
-    let regs = start.regs.as_slice();
-    push_registers(alloc, &mut out, layout, regs)?;
-    push_flags(
-        alloc,
-        &mut out,
-        layout,
-        regs.len(),
-        layout.flag_count(),
-        start.flags,
-    )?;
-    push_bytes(&mut out, start.bytes.as_slice())?;
-    push_choices(alloc, &mut out, start.choices.as_slice())?;
-    push_text(&mut out, b"end\n")?;
+    push_block(alloc, &mut out, &text.start, layout)?;
     Ok(out)
 }

@@ -23,7 +23,7 @@ first_run p k s state stack same none =
 module _ (p : Program) (k : ℕ) (s : Start) (turns n last choice at : ℕ) (c : Place) (drawn : choice ≡ s.choices n) (here : at ≡ c.state.pc)
     (going : run p k s n ≡ Going turns n c) where
   -- the run after this step, and what its end is behind any later one
-  next : (r : Run) → after_step k turns n c.state.pc (step p s.state c choice) ≡ r → run p k s (suc n) ≡ r
+  pub next : (r : Run) → after_step k turns n c.state.pc (step p s.state c choice) ≡ r → run p k s (suc n) ≡ r
   unfolding run
   next r is = ap (one_more p k s) going ∙ ap (λ h. after_step k turns n c.state.pc (step p s.state c h)) (sym drawn) ∙ is
 
@@ -41,7 +41,7 @@ module _ (p : Program) (k : ℕ) (s : Start) (turns n last choice at : ℕ) (c :
       ap (λ a. FoundExit a n) here ∙ sym (ap (found_by (run p k s last)) (ends (Exited c.state.pc n) tt (ap (after_step k turns n c.state.pc) is) le))
 
   module _ (d : Place) (to : ℕ) (there : to ≡ d.state.pc) (is : step p s.state c choice ≡ Arrives d) where
-    arrived : (r : Run) → arrive (nat_le to at) k turns n at d ≡ r → after_step k turns n c.state.pc (step p s.state c choice) ≡ r
+    pub arrived : (r : Run) → arrive (nat_le to at) k turns n at d ≡ r → after_step k turns n c.state.pc (step p s.state c choice) ≡ r
     arrived r h =
         ap (after_step k turns n c.state.pc) is
         ∙ sym (ap (λ a. arrive (nat_le a c.state.pc) k turns n c.state.pc d) there)

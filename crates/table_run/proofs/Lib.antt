@@ -3,3 +3,14 @@ pub mod Memories
 pub mod Hits
 pub mod Stepped
 pub mod Founds
+pub mod ReadsAlike
+pub mod Unjudged
+pub mod TracedSteps
+pub mod Fillings
+pub mod TracedRuns
+pub mod Listings
+pub mod AssertGroups
+pub mod BytesOver
+pub mod WholeSteps
+pub mod Reached
+pub mod Leaving

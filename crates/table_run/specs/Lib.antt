@@ -3,3 +3,5 @@ pub mod Endings
 pub mod Known
 pub mod Asserts
 pub mod Steps
+pub mod Traces
+pub mod Exits

@@ -30,13 +30,13 @@ use std::alloc::{AllocError, Global};
 
 /// How many backward transfers and how many steps a run may make.
 #[derive(Clone, Copy)]
-struct Limits {
-    turns: u64,
-    steps: u64,
+pub(crate) struct Limits {
+    pub(crate) turns: u64,
+    pub(crate) steps: u64,
 }
 
 /// How many backward transfers were made after a step from one address to another, or none where it is one more than `bound`.
-fn next_turns(from: u32, to: u32, turns: u64, bound: u64) -> Option<u64>
+pub(crate) fn next_turns(from: u32, to: u32, turns: u64, bound: u64) -> Option<u64>
     requires { turns + 1 < 2 ^ 64 }
     ensures few { IfSome result (λ t. t ≤ turns + 1) }
     ensures turned { (n : ℕ) (c : meaning.Place) → MatchOption result (meaning.arrive (nat_le to from) bound turns n from c ≡ meaning.Turned from n)

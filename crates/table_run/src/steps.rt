@@ -11,6 +11,7 @@ ghost use Rattle.notes_value.specs.Reads.{AreReadable};
 ghost use Rattle.table_run.specs.Programs.{program_of};
 ghost use Rattle.notes_index.specs.Indexed.{AreIndexed};
 ghost use Rattle.table_run.specs.Steps.{IsStepEnd, IsBefore, way_of};
+ghost use Rattle.table_run.specs.Traces.{unjudged};
 
 use crate::ending::StepEnd;
 use crate::jumps::{Before, is_named, look};
@@ -25,7 +26,7 @@ use state_text::Event;
 use std::alloc::AllocError;
 
 /// The exit in a state, judged by the ensure lines.
-fn exit<M: Machine>(p: &Program, entry: &M::State, state: &M::State) -> StepEnd
+pub(crate) fn exit<M: Machine>(p: &Program, entry: &M::State, state: &M::State) -> StepEnd
     requires order { memory.endian p.now.big ≡ M.machine.endian }
     requires readable { AreReadable M.State.has_register (notes_of p.now.notes.now) }
     ensures { (stack : List ℕ) → IsStepEnd result (M.State.view state.now) stack
@@ -37,7 +38,8 @@ fn exit<M: Machine>(p: &Program, entry: &M::State, state: &M::State) -> StepEnd
     }
 }
 
-/// The step of an indirect jump that is no call, to the state's address: a return to the stack's top, the exit where the stack is empty, or a named target.
+/// The step of an indirect jump that is no call, to the state's address: a return to the stack's top, the exit where the stack is empty, which is not judged, or
+/// a named target.
 fn leave<M: Machine>(
     p: &Program,
     index: &Index,
@@ -51,13 +53,13 @@ fn leave<M: Machine>(
     requires index { AreIndexed p.now.notes.now index.now }
     ensures { (row : Row) (old : State) → IsBefore (program_of M.machine p.now) row old before → (row.successors old.pc).indirect ≡ true →
         IsStepEnd result (M.State.view state.now) (reverse stack.new.items)
-        (meaning.leave (program_of M.machine p.now) (M.State.view entry.now) row old (reverse stack.old.items) (M.State.view state.now)) }
+        (meaning.leave (unjudged (program_of M.machine p.now)) (M.State.view entry.now) row old (reverse stack.old.items) (M.State.view state.now)) }
 {
     let to = state.pc();
     let count = stack.len();
     if count == 0 {
         if to == entry.link() {
-            return exit::<M>(p, entry, state);
+            return StepEnd::Exits;
         }
     } else if stack[count - 1] == to {
         stack.truncate(count - 1);
@@ -69,7 +71,7 @@ fn leave<M: Machine>(
     StepEnd::Stops(Event::JumpFails)
 }
 
-/// The step of a row that went on to a state. The error is want of memory.
+/// The step of a row that went on to a state; an exit is not judged. The error is want of memory.
 fn go_on<M: Machine>(
     p: &Program,
     index: &Index,
@@ -85,7 +87,7 @@ fn go_on<M: Machine>(
     ensures { IfOk result (λ end. (row : Row) (old : State) → IsBefore (program_of M.machine p.now) row old before →
         IsWay (row.successors old.pc) (way_of how) (M.State.view state.now).pc →
         IsStepEnd end (M.State.view state.now) (reverse stack.new.items)
-        (meaning.going_on false (program_of M.machine p.now) (M.State.view entry.now) row old (reverse stack.old.items) (way_of how)
+        (meaning.going_on false (unjudged (program_of M.machine p.now)) (M.State.view entry.now) row old (reverse stack.old.items) (way_of how)
         (M.State.view state.now))) }
 {
     let to = state.pc();
@@ -134,7 +136,7 @@ fn raised(writes_kept: bool, event: Event) -> StepEnd
     StepEnd::Stops(event)
 }
 
-/// The step of an instruction, of so many bytes, under a choice. The error is want of memory.
+/// The step of an instruction, of so many bytes, under a choice; an exit is not judged. The error is want of memory.
 fn row_step<M: Machine>(
     p: &Program,
     index: &Index,
@@ -151,8 +153,8 @@ fn row_step<M: Machine>(
     requires lawful { IsLawful (M.Machine.row insn.now) }
     requires length { length ≡ (M.Machine.row insn.now).length }
     ensures { IfOk result (λ end. IsStepEnd end (M.State.view state.new) (reverse stack.new.items)
-        (meaning.after_row (program_of M.machine p.now) (M.State.view entry.now) (M.Machine.row insn.now) (M.State.view state.old) (reverse stack.old.items)
-        (meaning.writes_kept (program_of M.machine p.now) (M.Machine.row insn.now) (M.State.view state.old))
+        (meaning.after_row (unjudged (program_of M.machine p.now)) (M.State.view entry.now) (M.Machine.row insn.now) (M.State.view state.old)
+        (reverse stack.old.items) (meaning.writes_kept (program_of M.machine p.now) (M.Machine.row insn.now) (M.State.view state.old))
         ((M.Machine.row insn.now).effect (M.State.view state.old) choice))) }
 {
     let before = look::<M>(p, insn, length, state);
@@ -172,9 +174,9 @@ fn row_step<M: Machine>(
     Ok(end)
 }
 
-/// One step under a choice, for a run that began in the state at entry. The state and the stack, whose last address is the top, are those that the step leaves.
-/// The error is want of memory.
-pub(crate) fn step<M: Machine>(
+/// One step under a choice, for a run that began in the state at entry; an exit is not judged. The state and the stack, whose last address is the top, are those
+/// that the step leaves. The error is want of memory.
+pub(crate) fn walk<M: Machine>(
     p: &Program,
     index: &Index,
     entry: &M::State,
@@ -186,7 +188,7 @@ pub(crate) fn step<M: Machine>(
     requires readable { AreReadable M.State.has_register (notes_of p.now.notes.now) }
     requires index { AreIndexed p.now.notes.now index.now }
     ensures end { IfOk result (λ end. IsStepEnd end (M.State.view state.new) (reverse stack.new.items)
-        (meaning.step (program_of M.machine p.now) (M.State.view entry.now)
+        (meaning.step (unjudged (program_of M.machine p.now)) (M.State.view entry.now)
         (record { state = M.State.view state.old; stack = reverse stack.old.items }) choice)) }
 {
     if let Some(line) = false_assert(&p.notes.asserts, &index.asserts, state, entry, p.big) {
@@ -204,5 +206,29 @@ pub(crate) fn step<M: Machine>(
             let end = row_step::<M>(p, index, &insn, length, entry, state, stack, choice)?;
             Ok(end)
         }
+    }
+}
+
+/// One step under a choice, for a run that began in the state at entry. The state and the stack, whose last address is the top, are those that the step leaves.
+/// The error is want of memory.
+pub(crate) fn step<M: Machine>(
+    p: &Program,
+    index: &Index,
+    entry: &M::State,
+    state: &mut M::State,
+    stack: &mut Vec<u32>,
+    choice: u8,
+) -> Result<StepEnd, AllocError>
+    requires order { memory.endian p.now.big ≡ M.machine.endian }
+    requires readable { AreReadable M.State.has_register (notes_of p.now.notes.now) }
+    requires index { AreIndexed p.now.notes.now index.now }
+    ensures end { IfOk result (λ end. IsStepEnd end (M.State.view state.new) (reverse stack.new.items)
+        (meaning.step (program_of M.machine p.now) (M.State.view entry.now)
+        (record { state = M.State.view state.old; stack = reverse stack.old.items }) choice)) }
+{
+    match walk::<M>(p, index, entry, state, stack, choice)? {
+        StepEnd::Stops(event) => Ok(StepEnd::Stops(event)),
+        StepEnd::Arrives => Ok(StepEnd::Arrives),
+        StepEnd::Exits => Ok(exit::<M>(p, entry, state)),
     }
 }

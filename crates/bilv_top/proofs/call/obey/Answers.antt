@@ -26,3 +26,6 @@ returns-in-SelfRun-clause-right g c = rw c.in-SelfRun.is c.selfrun.ensures.right
 
 pub returns-in-Upgrade-clause-right : goal.returns-in-Upgrade-clause-right
 returns-in-Upgrade-clause-right g c = rw c.in-Upgrade.is c.upgrade.ensures.right
+
+pub returns-in-Model-clause-right : goal.returns-in-Model-clause-right
+returns-in-Model-clause-right g c = rw c.in-Model.is c.answer_about-in-Model.ensures.answered

@@ -14,3 +14,6 @@ returns-in-Certificate-clause-done g c = rw c.in-Certificate.is c.certify_by.ens
 
 pub returns-in-Replay-clause-done : goal.returns-in-Replay-clause-done
 returns-in-Replay-clause-done g c = rw c.in-Replay.is c.replay_by.ensures.read
+
+pub returns-in-Model-clause-done : goal.returns-in-Model-clause-done
+returns-in-Model-clause-done g c = rw c.in-Model.is c.model_by.ensures.judged

@@ -23,4 +23,5 @@ returns c =
     let with_cert = made_sub with_replay c.in_ok-asking-2.ensures c.in_ok-subcommand-6.ensures in
     let with_check = made_sub with_cert c.in_ok-check.ensures c.in_ok-subcommand-7.ensures in
     let with_selfrun = made_sub with_check c.in_ok-selfrun.ensures c.in_ok-subcommand-8.ensures in
-    made_sub with_selfrun c.in_ok-over_program-2.ensures c.in_ok-command.ensures
+    let with_upgrade = made_sub with_selfrun c.in_ok-over_program-2.ensures c.in_ok-subcommand-9.ensures in
+    made_sub with_upgrade c.in_ok-model.ensures c.in_ok-command.ensures

@@ -1,26 +1,17 @@
-use Rattle.std.proofs.Common.{ap, ◌∙◌, ◌++◌, [], length, map, codes}
+use Rattle.std.proofs.Common.{ap, ◌∙◌, ◌++◌, []}
 use Rattle.word_spec.specs.Texts.{line}
 use Rattle.machine_spec.specs.Endings.{named_line}
 use Rattle.machine_spec.specs.StateText as texts
-use Rattle.machine_spec.specs.StateText.{MachineLine, ByteLine, ChoiceLine, register_lines, flag_bits}
-use Rattle.state_text.specs.Starts.{layout_of, line_text, lines_text, text_of}
-use Rattle.state_text.proofs.Appends.{seven}
-use Rattle.state_text.proofs.Printing.{whole_by}
+use Rattle.machine_spec.specs.StateText.{block_text}
+use Rattle.state_text.specs.Starts.{layout_of, text_of}
+use Rattle.state_text.proofs.Appends.{two}
+use Rattle.state_text.proofs.Printing.{whole}
 use Rattle.state_text.proofs.printer.print_state.Goals as goal
 
 pub returns : goal.returns
 returns c =
     let layout : texts.Layout = layout_of c.args.layout in
     let text : texts.StateText = text_of c.args.text.now in
-    seven [] c.push_named.new.out.items c.push_machine.new.out.items c.push_registers.new.out.items c.push_flags.new.out.items c.push_bytes.new.out.items
-    c.push_choices.new.out.items c.push_text.new.out.items (line (named_line text.named)) (line (line_text layout MachineLine))
-    (lines_text layout (register_lines 0 c.as_slice-regs.result.now))
-    (lines_text layout (register_lines (length c.as_slice-regs.result.now) (flag_bits c.flag_count.result text.start.flags)))
-    (lines_text layout (map (λ b. ByteLine b.0 b.1) c.as_slice.result.now)) (lines_text layout (map (λ b. ChoiceLine b.0 b.1) c.as_slice-2.result.now))
-    (codes "end\n")
-    (c.in_ok-push_named.ensures ∙ ap (λ l. l ++ line (named_line text.named)) c.new-out.ensures.items) c.in_ok-push_machine.ensures
-    c.in_ok-push_registers.ensures
-    c.in_ok-push_flags.ensures (c.in_ok-push_bytes.ensures layout) (c.in_ok-push_choices.ensures layout) c.in_ok-push_text.ensures
-    ∙ whole_by layout text c.as_slice-regs.result.now (length c.as_slice-regs.result.now) c.flag_count.result c.as_slice.result.now c.as_slice-2.result.now
-    c.as_slice-regs.ensures.value (ap length c.as_slice-regs.ensures.value)
-    c.flag_count.ensures c.as_slice.ensures.value c.as_slice-2.ensures.value
+    two [] c.push_named.new.out.items c.push_block.new.out.items (line (named_line text.named)) (block_text layout text.start)
+    (c.in_ok-push_named.ensures ∙ ap (λ l. l ++ line (named_line text.named)) c.new-out.ensures.items) c.in_ok-push_block.ensures
+    ∙ whole layout text

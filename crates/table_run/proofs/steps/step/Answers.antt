@@ -1,18 +1,43 @@
-use Rattle.std.proofs.Common.{arith, sym}
-use Rattle.notes_value.specs.Reads.{IsReadable}
-use Rattle.notes_lang.specs.Drafting.{assert_of}
-use Rattle.table_run.proofs.Stepped.{lawful_row}
-use Rattle.table_run.proofs.Lists.{unmapped}
+use Rattle.std.proofs.Common.{refl, sym, subst}
+use Rattle.std.specs.Prelude.{reverse}
+use Rattle.bilv_spec.specs.Run.{Place, Stops, Arrives, Exits, exit}
+use Rattle.state_text.specs.Starts.{event_of}
+use Rattle.table_run.specs.Programs.{program_of}
+use Rattle.table_run.specs.Steps.{IsStepEnd}
+use Rattle.table_run.proofs.Stepped.{end_is}
+use Rattle.table_run.proofs.Unjudged.{judged_same}
 use Rattle.table_run.proofs.steps.step.Goals as goal
 
-pub false_assert-requires-clause-readable : goal.false_assert-requires-clause-readable
-false_assert-requires-clause-readable g c =
-    unmapped (λ l. IsReadable g.M.State.View.has_register l.says) assert_of c.args.p.now.notes.now.asserts.items c.deref.result.now c.deref.ensures.value
-    c.requires.readable.asserts
+pub returns-in-Stops : goal.returns-in-Stops
+returns-in-Stops g c =
+    record {
+      end =
+          judged_same (program_of g.M.Machine.machine c.args.p.now) (g.M.State.View.view c.args.entry.now)
+          (record { state = g.M.State.View.view c.args.state.now; stack = reverse c.args.stack.now.items }) c.args.choice
+          (Stops (event_of c.in-Stops.event)) (Stops (event_of c.in-Stops.event))
+          (end_is c.in_ok-event.field-0 _ (g.M.State.View.view c.walk.new.state) (reverse c.walk.new.stack.items) _ c.in-Stops.is c.in_ok-event.ensures.end) refl;
+    }
 
-pub row_step-requires-clause-lawful : goal.row_step-requires-clause-lawful
-row_step-requires-clause-lawful g c =
-    lawful_row g.M.Machine.machine c.decoded_at-word.result (g.M.Machine.row c.in-Some-decode.insn) g.met.M.Machine.lawful (omega arith) c.in-Some-decode.ensures
+pub returns-in-Arrives : goal.returns-in-Arrives
+returns-in-Arrives g c =
+    let there : Place = record { state = g.M.State.View.view c.walk.new.state; stack = reverse c.walk.new.stack.items } in
+    record {
+      end =
+          judged_same (program_of g.M.Machine.machine c.args.p.now) (g.M.State.View.view c.args.entry.now)
+          (record { state = g.M.State.View.view c.args.state.now; stack = reverse c.args.stack.now.items }) c.args.choice (Arrives there) (Arrives there)
+          (end_is c.in_ok-event.field-0 _ (g.M.State.View.view c.walk.new.state) (reverse c.walk.new.stack.items) _ c.in-Arrives.is c.in_ok-event.ensures.end) refl;
+    }
 
-pub row_step-requires-clause-length : goal.row_step-requires-clause-length
-row_step-requires-clause-length g c = c.length-length.ensures.of_row (g.M.Machine.row c.in-Some-decode.insn) (sym c.in-Some-decode.ensures)
+pub returns-in-Exits : goal.returns-in-Exits
+returns-in-Exits g c =
+    let p = program_of g.M.Machine.machine c.args.p.now in
+    let entry = g.M.State.View.view c.args.entry.now in
+    let new = g.M.State.View.view c.walk.new.state in
+    record {
+      end =
+          subst (IsStepEnd c.exit.result new (reverse c.walk.new.stack.items))
+          (sym (judged_same p entry (record { state = g.M.State.View.view c.args.state.now; stack = reverse c.args.stack.now.items }) c.args.choice (Exits new)
+          (exit p entry new)
+          (end_is c.in_ok-event.field-0 _ new (reverse c.walk.new.stack.items) _ c.in-Exits.is c.in_ok-event.ensures.end) refl))
+          (c.exit.ensures (reverse c.walk.new.stack.items));
+    }

@@ -1,0 +1,51 @@
+//! What shows that an answer is right, by its kind: proofs and starts are not compared.
+use crate::draft::parted;
+use crate::fault::LineFault;
+use bilv_top::Evidence;
+use question_form::Kind;
+
+/// A kind of evidence, with the question or the count that it is about.
+#[derive(Clone, Copy, PartialEq)]
+pub enum EvidenceDue {
+    None,
+    Refutations,
+    EntryRefuted,
+    RunOf,
+    SpentOn(Kind),
+    Count(u128),
+}
+
+impl EvidenceDue {
+    /// The kind that words name.
+    pub fn named(words: &str) -> Result<EvidenceDue, LineFault> {
+        match words {
+            "none" => Ok(EvidenceDue::None),
+            "refutations" => Ok(EvidenceDue::Refutations),
+            "entry refuted" => Ok(EvidenceDue::EntryRefuted),
+            "run" => Ok(EvidenceDue::RunOf),
+            "spent entry" => Ok(EvidenceDue::SpentOn(Kind::Entry)),
+            "spent fail" => Ok(EvidenceDue::SpentOn(Kind::Fail)),
+            "spent turn" => Ok(EvidenceDue::SpentOn(Kind::Turn)),
+            _ => counted(words),
+        }
+    }
+
+    /// The kind of an answer's evidence.
+    pub fn of(evidence: &Evidence) -> EvidenceDue {
+        match evidence {
+            Evidence::None => EvidenceDue::None,
+            Evidence::Refutations { .. } => EvidenceDue::Refutations,
+            Evidence::EntryRefuted(_) => EvidenceDue::EntryRefuted,
+            Evidence::RunOf(_) => EvidenceDue::RunOf,
+            Evidence::SpentOn { question, .. } => EvidenceDue::SpentOn(*question),
+            Evidence::Count(count) => EvidenceDue::Count(*count),
+        }
+    }
+}
+
+fn counted(words: &str) -> Result<EvidenceDue, LineFault> {
+    match parted(words) {
+        ("count", number) => Ok(EvidenceDue::Count(u128::from(number.parse::<u64>()?))),
+        _ => Err(LineFault::Word),
+    }
+}

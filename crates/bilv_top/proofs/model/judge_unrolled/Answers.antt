@@ -1,0 +1,55 @@
+use Rattle.std.proofs.Common.{◌∙◌, ◌≤◌, ap, length, subst, sym}
+use Rattle.std.proofs.lemmas.Result.{IfOk-weaker}
+use Rattle.bilv_spec.specs.Files.{program_of}
+use Rattle.call_spec.specs.Calls.{AfterRead}
+use Rattle.io_edges.specs.Met.{seen}
+use Rattle.model_spec.specs.Models.{IsModelAnswer, within}
+use Rattle.notes_lang.specs.Drafting.{notes_of}
+use Rattle.question_form.specs.Views.{kind_of, unrolled_of}
+use Rattle.question_form.specs.declared.unrolled.Unrolled.{Unrolled}
+use Rattle.state_text.specs.Starts.{layout_of}
+use Rattle.verdict.specs.Verdicts.{budget_of}
+use Rattle.verdict.proofs.Grounding.{came_above, came_within}
+use Rattle.bilv_top.specs.Answers.{answer_of}
+use Rattle.bilv_top.proofs.Modelled.{size_exceeded}
+use Rattle.bilv_top.proofs.model.judge_unrolled.Goals as goal
+
+pub returns-in-Above-clause-priced : goal.returns-in-Above-clause-priced
+returns-in-Above-clause-priced g c =
+    let p = program_of g.M.Machine.machine c.args.image.now (notes_of c.args.found.now.notes) c.args.found.now.entry in
+    let b = budget_of c.args.budget.now in
+    let s = seen (g.H.Shelf.holds c.args.shelf.now) (g.H.Shelf.faults c.args.shelf.now) (g.H.Shelf.faults c.args.shelf.now) in
+    IfOk-weaker c.exceeded.result _ _
+    (λ a is. size_exceeded p b (AfterRead s c.args.name.now (IsModelAnswer p g.M.Machine.form b (kind_of c.args.kind))) (answer_of a) c.in-Above.price is
+    (came_above b c.args.unrolled.now c.in_ok-price.field-0 c.in_ok-price.ensures c.in-Above.price c.in-Above.is p g.M.Machine.form c.requires.unrolled))
+    c.exceeded.ensures
+
+pub judge_passive-requires-clause-ground : goal.judge_passive-requires-clause-ground
+judge_passive-requires-clause-ground g c =
+    let p = program_of g.M.Machine.machine c.args.image.now (notes_of c.args.found.now.notes) c.args.found.now.entry in
+    ((came_within (budget_of c.args.budget.now) c.args.unrolled.now c.in_ok-price.field-0 c.in_ok-price.ensures c.in-Within.passive c.in-Within.is).1
+    p g.M.Machine.form c.requires.unrolled).1
+
+pub judge_passive-requires-clause-points : goal.judge_passive-requires-clause-points
+judge_passive-requires-clause-points g c =
+    subst (λ (u : Unrolled). length (unrolled_of u).points ≤ c.args.budget.now.points)
+    (sym (came_within (budget_of c.args.budget.now) c.args.unrolled.now c.in_ok-price.field-0 c.in_ok-price.ensures c.in-Within.passive c.in-Within.is).2)
+    c.requires.unrolled.few
+
+pub judge_passive-requires-clause-askable : goal.judge_passive-requires-clause-askable
+judge_passive-requires-clause-askable g c =
+    (came_within (budget_of c.args.budget.now) c.args.unrolled.now c.in_ok-price.field-0 c.in_ok-price.ensures c.in-Within.passive c.in-Within.is).0
+
+pub judge_passive-requires-clause-form : goal.judge_passive-requires-clause-form
+judge_passive-requires-clause-form g c =
+    ap (λ (u : Unrolled). layout_of u.form)
+    (came_within (budget_of c.args.budget.now) c.args.unrolled.now c.in_ok-price.field-0 c.in_ok-price.ensures c.in-Within.passive c.in-Within.is).2
+    ∙ c.requires.form
+
+pub returns-in-Within-clause-priced : goal.returns-in-Within-clause-priced
+returns-in-Within-clause-priced g c =
+    let p = program_of g.M.Machine.machine c.args.image.now (notes_of c.args.found.now.notes) c.args.found.now.entry in
+    IfOk-weaker c.judge_passive.result _ _
+    (λ a read. within
+    ((came_within (budget_of c.args.budget.now) c.args.unrolled.now c.in_ok-price.field-0 c.in_ok-price.ensures c.in-Within.passive c.in-Within.is).1
+    p g.M.Machine.form c.requires.unrolled).0 read) c.judge_passive.ensures.read

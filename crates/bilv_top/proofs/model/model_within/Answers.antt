@@ -1,0 +1,35 @@
+use Rattle.std.proofs.Common.{arith}
+use Rattle.std.proofs.lemmas.Result.{IfOk-weaker}
+use Rattle.bilv_spec.specs.Files.{program_of}
+use Rattle.call_spec.specs.Calls.{AfterRead}
+use Rattle.io_edges.specs.Met.{seen}
+use Rattle.model_spec.specs.Models.{IsModelAnswer}
+use Rattle.notes_lang.specs.Drafting.{notes_of}
+use Rattle.question_form.specs.Views.{kind_of}
+use Rattle.verdict.specs.Verdicts.{budget_of}
+use Rattle.bilv_top.specs.Answers.{answer_of}
+use Rattle.bilv_top.proofs.Founds.{found_over, machine_one_way, machine_order, small_bytes}
+use Rattle.bilv_top.proofs.Modelled.{points_exceeded}
+use Rattle.bilv_top.proofs.model.model_within.Goals as goal
+
+pub unroll_within-requires-clause-order : goal.unroll_within-requires-clause-order
+unroll_within-requires-clause-order g c = machine_order c.args.image.now g.M.Machine.machine c.requires.machine
+
+pub unroll_within-requires-clause-file : goal.unroll_within-requires-clause-file
+unroll_within-requires-clause-file g c = small_bytes c.args.file.now c.args.image.now c.requires.same (λ i. omega (arith, c.type_inv.file i))
+
+pub unroll_within-requires-clause-one_way : goal.unroll_within-requires-clause-one_way
+unroll_within-requires-clause-one_way g c =
+    machine_one_way c.args.image.now g.M.Machine.machine (notes_of c.args.found.now.notes) c.args.found.now.entry c.requires.machine
+
+pub unroll_within-requires-clause-over : goal.unroll_within-requires-clause-over
+unroll_within-requires-clause-over g c = found_over c.args.image.now c.args.found.now g.M.Machine.machine c.requires.machine c.requires.found
+
+pub returns-in-Err-TooMany-clause-judged : goal.returns-in-Err-TooMany-clause-judged
+returns-in-Err-TooMany-clause-judged g c =
+    let p = program_of g.M.Machine.machine c.args.image.now (notes_of c.args.found.now.notes) c.args.found.now.entry in
+    let b = budget_of c.args.budget.now in
+    let s = seen (g.H.Shelf.holds c.args.shelf.now) (g.H.Shelf.faults c.args.shelf.now) (g.H.Shelf.faults c.args.shelf.now) in
+    IfOk-weaker c.exceeded.result _ _
+    (λ a is. points_exceeded p b (AfterRead s c.args.name.now (IsModelAnswer p g.M.Machine.form b (kind_of c.args.kind))) (answer_of a)
+    c.in-Err-TooMany.count is (rw c.in-Err-TooMany.field-0-is at c.in-Err-TooMany.ensures.more)) (rw c.in-Err-TooMany.field-0-is at c.exceeded.ensures)

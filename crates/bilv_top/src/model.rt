@@ -1,0 +1,292 @@
+//! The answer that judges what an outside solver says of a question.
+ghost use Rattle.std.specs.Prelude.{◌≡◌, ◌≤◌, ◌++◌, ◌∷◌, [], ℕ, List, codes, length, IfOk};
+ghost use Rattle.word_spec.specs.Texts.{line, number_text, spaced};
+ghost use Rattle.clause_spec.specs.Checks.{text_limit};
+ghost use Rattle.machine_spec.specs.StateText.{block_text, printed};
+ghost use Rattle.call_spec.specs.Calls as answers;
+ghost use Rattle.call_spec.specs.Calls.{AfterRead, IsBudget, plain_answer, Question as AskedQuestion};
+ghost use Rattle.bilv_spec.specs.Files.{program_of};
+ghost use Rattle.bilv_spec.specs.Run.{Program};
+ghost use Rattle.model_spec.specs.Models.{AfterBudgets, IsModelAnswer, ending_text};
+ghost use Rattle.command_line.specs.Commands as commands;
+ghost use Rattle.command_line.specs.Commands.{question_of};
+ghost use Rattle.io_edges.specs.Met.{seen};
+ghost use Rattle.model_verdict.specs.Judgements.{IsJudged};
+ghost use Rattle.model_verdict.specs.Runs.{ending_of};
+ghost use Rattle.notes_lang.specs.Drafting.{notes_of};
+ghost use Rattle.question_form.specs.Views.{kind_of, unrolled_of};
+ghost use Rattle.state_text.specs.Starts.{layout_of, named_of, written_of};
+ghost use Rattle.verdict.specs.Grounds.{IsGround};
+ghost use Rattle.verdict.specs.Measures.{IsUnrolledOf};
+ghost use Rattle.verdict.specs.Rounds.{IsAskable};
+ghost use Rattle.verdict.specs.Verdicts.{budget_of};
+ghost use Rattle.bilv_top.specs.Answers.{answer_of};
+ghost use Rattle.bilv_top.specs.Chosen.{IsMachineOf};
+ghost use Rattle.bilv_top.specs.Due.{IsOverFile};
+
+use crate::answer::{Answer, Evidence, Step};
+use crate::certify::asked;
+use crate::inputs::Found;
+use crate::reading::{TEXT_LIMIT, answer, read_or_answer};
+use crate::reports::{exceeded, limits};
+use crate::texts::{model_fault_text, refused_line};
+use elf32_reader::Image;
+use exit_status::{DONE, TEXT_REFUSED};
+use io_edges::Shelf;
+use machine_law::Machine;
+use model_verdict::{End, Judged, judge};
+use program_points::PointsFault;
+use question_form::{Kind, Passive, Unrolled};
+use state_text::{Layout, NamedEnding, Start, StateText, print_state, push_block};
+use std::alloc::{AllocError, Global};
+use verdict::{Budget, Function, Measured, measure, unroll_within};
+
+/// The answer that shows a start behind the line that accepts it. The error is want of memory.
+fn show_start(alloc: Global, form: Layout, start: Start) -> Result<Answer, AllocError>
+    ensures { IfOk result (λ a. answer_of a ≡ record {
+      status = 0;
+      text = line (codes "accepted") ++ block_text (layout_of form) (written_of start);
+      evidence = answers.RunOf (written_of start);
+    }) }
+{
+    let mut text = b"accepted\n".to_vec(alloc)?;
+    push_block(alloc, &mut text, &start, form)?;
+    Ok(Answer {
+        status: DONE,
+        text,
+        evidence: Evidence::RunOf(start),
+    })
+}
+
+/// The answer that shows a start and the end of its run, behind the line that accepts it. The error is want of memory.
+fn show_run(
+    alloc: Global,
+    form: Layout,
+    named: NamedEnding,
+    start: Start,
+) -> Result<Answer, AllocError>
+    ensures { IfOk result (λ a. answer_of a ≡ record {
+      status = 0;
+      text = line (codes "accepted") ++ printed (layout_of form) (record { named = named_of named; start = written_of start });
+      evidence = answers.RunOf (written_of start);
+    }) }
+{
+    let state = StateText { named, start };
+    let mut text = b"accepted\n".to_vec(alloc)?;
+    text.extend_from_slice(&print_state(alloc, &state, form)?)?;
+    Ok(Answer {
+        status: DONE,
+        text,
+        evidence: Evidence::RunOf(state.start),
+    })
+}
+
+/// The answer that accepts values, and shows their start with the end of its run. The error is want of memory.
+fn accepted(
+    alloc: Global,
+    form: Layout,
+    budget: &Budget,
+    end: End,
+    start: Start,
+) -> Result<Answer, AllocError>
+    ensures { IfOk result (λ a. answer_of a ≡ record {
+      status = 0;
+      text = line (codes "accepted") ++ ending_text (layout_of form) (budget_of budget.now) (ending_of end) (written_of start);
+      evidence = answers.RunOf (written_of start);
+    }) }
+{
+    match end {
+        End::AtEntry => show_start(alloc, form, start),
+        End::Failed { event, at, step } => {
+            show_run(alloc, form, NamedEnding::FailsBy { event, at, step }, start)
+        }
+        End::Turned { at, step } => {
+            let k = budget.unroll;
+            show_run(alloc, form, NamedEnding::UnknownBy { k, at, step }, start)
+        }
+    }
+}
+
+/// The answer that names the line at which values are refused. The error is want of memory.
+fn refused(alloc: Global, number: u64, words: &[u8]) -> Result<Answer, AllocError>
+    ensures { IfOk result (λ a. answer_of a ≡ plain_answer 9 (line (codes "model: line" ++ spaced (number_text number ∷ words.now ∷ [])))) }
+{
+    let text = refused_line(alloc, b"model: line", number, words)?;
+    Ok(Answer {
+        status: TEXT_REFUSED,
+        text,
+        evidence: Evidence::None,
+    })
+}
+
+/// The answer to what the text of values is judged to be. The error is want of memory.
+fn say(alloc: Global, form: Layout, budget: &Budget, judged: Judged) -> Result<Answer, AllocError>
+    ensures { IfOk result (λ a. (p : Program) (question : AskedQuestion) (text : List ℕ) → length text ≤ text_limit →
+        IsJudged p (layout_of form) budget.now.unroll question text judged →
+        IsModelAnswer p (layout_of form) (budget_of budget.now) question text (answer_of a)) }
+{
+    match judged {
+        Judged::Refused { line, kind } => refused(alloc, line, model_fault_text(kind)),
+        Judged::Untrue => answer(alloc, TEXT_REFUSED, b"model: false\n"),
+        Judged::Accepted { end, start } => accepted(alloc, form, budget, end, start),
+    }
+}
+
+/// The answer to the text of values for a question about a program of a machine. The error is want of memory, or of numbers for points.
+fn judge_text<M: Machine>(
+    alloc: Global,
+    image: &Image,
+    found: &Found,
+    budget: &Budget,
+    passive: &Passive,
+    kind: Kind,
+    text: &[u8],
+) -> Result<Answer, AllocError>
+    requires machine { IsMachineOf image.now M.machine }
+    requires found { IsOverFile image.now found.now }
+    requires budget { IsBudget (budget_of budget.now) }
+    requires ground { IsGround (program_of M.machine image.now (notes_of found.now.notes) found.now.entry) budget.now.unroll M.form
+        (unrolled_of passive.now.unrolled.now) }
+    requires points { length (unrolled_of passive.now.unrolled.now).points ≤ budget.now.points }
+    requires askable { IsAskable passive.now }
+    requires form { layout_of passive.now.unrolled.now.form ≡ M.form }
+    requires text { length text.now ≤ text_limit }
+    ensures { IfOk result (λ a. IsModelAnswer (program_of M.machine image.now (notes_of found.now.notes) found.now.entry) M.form (budget_of budget.now)
+        (kind_of kind) text.now (answer_of a)) }
+{
+    let function = Function {
+        image,
+        notes: &found.notes,
+        entry: found.entry,
+    };
+    let judged = judge::<M>(alloc, &function, budget, passive, kind, text)?;
+    let answer = say(alloc, M::layout(), budget, judged)?;
+    Ok(answer)
+}
+
+/// The answer to the values of a name for a question about a passive program. The error is want of memory, or of numbers for points.
+fn judge_passive<M: Machine, H: Shelf>(
+    alloc: Global,
+    shelf: &mut H,
+    image: &Image,
+    found: &Found,
+    budget: &Budget,
+    passive: &Passive,
+    kind: Kind,
+    name: &str,
+) -> Result<Answer, AllocError>
+    requires machine { IsMachineOf image.now M.machine }
+    requires found { IsOverFile image.now found.now }
+    requires budget { IsBudget (budget_of budget.now) }
+    requires ground { IsGround (program_of M.machine image.now (notes_of found.now.notes) found.now.entry) budget.now.unroll M.form
+        (unrolled_of passive.now.unrolled.now) }
+    requires points { length (unrolled_of passive.now.unrolled.now).points ≤ budget.now.points }
+    requires askable { IsAskable passive.now }
+    requires form { layout_of passive.now.unrolled.now.form ≡ M.form }
+    ensures keeps { (n : List ℕ) → H.holds shelf.new n ≡ H.holds shelf.old n }
+    ensures never_falls { (n : List ℕ) → H.faults shelf.old n ≤ H.faults shelf.new n }
+    ensures read { IfOk result (λ a. AfterRead (seen (H.holds shelf.old) (H.faults shelf.old) (H.faults shelf.new)) name.now
+        (IsModelAnswer (program_of M.machine image.now (notes_of found.now.notes) found.now.entry) M.form (budget_of budget.now) (kind_of kind))
+        (answer_of a)) }
+{
+    let large = b"model: TooLarge\n";
+    let text = match read_or_answer(alloc, shelf, name, TEXT_LIMIT, TEXT_REFUSED, large)? {
+        Step::Go(text) => text,
+        Step::Answered(answer) => return Ok(answer),
+    };
+    let answer = judge_text::<M>(alloc, image, found, budget, passive, kind, &text)?;
+    Ok(answer)
+}
+
+/// The answer to the values of a name for a question about an unrolled program, behind its price. The error is want of memory, or of numbers for points.
+fn judge_unrolled<M: Machine, H: Shelf>(
+    alloc: Global,
+    shelf: &mut H,
+    image: &Image,
+    found: &Found,
+    budget: &Budget,
+    unrolled: &Unrolled,
+    kind: Kind,
+    name: &str,
+) -> Result<Answer, AllocError>
+    requires machine { IsMachineOf image.now M.machine }
+    requires found { IsOverFile image.now found.now }
+    requires budget { IsBudget (budget_of budget.now) }
+    requires unrolled { IsUnrolledOf (program_of M.machine image.now (notes_of found.now.notes) found.now.entry) M.form (budget_of budget.now) unrolled.now }
+    requires form { layout_of unrolled.now.form ≡ M.form }
+    ensures keeps { (n : List ℕ) → H.holds shelf.new n ≡ H.holds shelf.old n }
+    ensures never_falls { (n : List ℕ) → H.faults shelf.old n ≤ H.faults shelf.new n }
+    ensures priced { IfOk result (λ a. AfterBudgets (program_of M.machine image.now (notes_of found.now.notes) found.now.entry) (budget_of budget.now)
+        (AfterRead (seen (H.holds shelf.old) (H.faults shelf.old) (H.faults shelf.new)) name.now
+        (IsModelAnswer (program_of M.machine image.now (notes_of found.now.notes) found.now.entry) M.form (budget_of budget.now) (kind_of kind)))
+        (answer_of a)) }
+{
+    match measure(alloc, budget, unrolled)? {
+        Measured::Above(price) => exceeded(alloc, b"size", budget.size, Evidence::Count(price)),
+        Measured::Within(passive) => judge_passive::<M, H>(
+            alloc, shelf, image, found, budget, &passive, kind, name,
+        ),
+    }
+}
+
+/// The same within these budgets, as the verdict takes them.
+fn model_within<M: Machine, H: Shelf>(
+    alloc: Global,
+    shelf: &mut H,
+    file: &[u8],
+    image: &Image,
+    found: &Found,
+    budget: &Budget,
+    kind: Kind,
+    name: &str,
+) -> Result<Answer, AllocError>
+    requires machine { IsMachineOf image.now M.machine }
+    requires same { image.now ≡ file.now }
+    requires found { IsOverFile image.now found.now }
+    requires budget { IsBudget (budget_of budget.now) }
+    ensures keeps { (n : List ℕ) → H.holds shelf.new n ≡ H.holds shelf.old n }
+    ensures never_falls { (n : List ℕ) → H.faults shelf.old n ≤ H.faults shelf.new n }
+    ensures judged { IfOk result (λ a. AfterBudgets (program_of M.machine image.now (notes_of found.now.notes) found.now.entry) (budget_of budget.now)
+        (AfterRead (seen (H.holds shelf.old) (H.faults shelf.old) (H.faults shelf.new)) name.now
+        (IsModelAnswer (program_of M.machine image.now (notes_of found.now.notes) found.now.entry) M.form (budget_of budget.now) (kind_of kind)))
+        (answer_of a)) }
+{
+    match unroll_within::<M>(alloc, image, &found.notes, found.entry, budget) {
+        Ok(unrolled) => judge_unrolled::<M, H>(
+            alloc, shelf, image, found, budget, &unrolled, kind, name,
+        ),
+        Err(PointsFault::TooMany { count }) => {
+            let more = Evidence::Count(count as u128);
+            exceeded(alloc, b"points", budget.points, more)
+        }
+        Err(PointsFault::Memory) => Err(AllocError),
+    }
+}
+
+/// The answer to the values of a name, an outside solver's, for a question about a program of a machine, whose file has these bytes. The name is read where
+/// the program is within the budgets. The error is want of memory, which a price of 2^128 - 1 or more counts as too, and want of numbers for terms and points.
+pub fn model_by<M: Machine, H: Shelf>(
+    alloc: Global,
+    shelf: &mut H,
+    file: &[u8],
+    image: &Image,
+    found: &Found,
+    budget: command_line::Budget,
+    question: command_line::Question,
+    name: &str,
+) -> Result<Answer, AllocError>
+    requires machine { IsMachineOf image.now M.machine }
+    requires same { image.now ≡ file.now }
+    requires found { IsOverFile image.now found.now }
+    requires budget { IsBudget (commands.budget_of budget) }
+    ensures keeps { (n : List ℕ) → H.holds shelf.new n ≡ H.holds shelf.old n }
+    ensures never_falls { (n : List ℕ) → H.faults shelf.old n ≤ H.faults shelf.new n }
+    ensures judged { IfOk result (λ a. AfterBudgets (program_of M.machine image.now (notes_of found.now.notes) found.now.entry) (commands.budget_of budget)
+        (AfterRead (seen (H.holds shelf.old) (H.faults shelf.old) (H.faults shelf.new)) name.now
+        (IsModelAnswer (program_of M.machine image.now (notes_of found.now.notes) found.now.entry) M.form (commands.budget_of budget)
+        (question_of question))) (answer_of a)) }
+{
+    let limits = limits(budget);
+    let kind = asked(question);
+    model_within::<M, H>(alloc, shelf, file, image, found, &limits, kind, name)
+}

@@ -1,0 +1,13 @@
+use Rattle.std.proofs.Common.{◌≡◌, ◌≤◌, ◌^◌, drop}
+use Rattle.std.specs.List.{list_all}
+use Rattle.std.specs.Str.Parse.{digits_value_after}
+use Rattle.model_spec.specs.ModelText.{is_hex}
+use Rattle.model_text.specs.Bits.{capped}
+use Rattle.model_text.proofs.digits.hex_digits.Given as goal
+
+abbrev pub invariant-loop-byte : goal.invariant-loop-byte
+invariant-loop-byte l = record {
+  digits : list_all is_hex l.digits ≡ list_all is_hex (drop l.byte-index l.digits);
+  value : capped (digits_value_after 16 0 l.digits) ≡ capped (digits_value_after 16 l.number (drop l.byte-index l.digits));
+  small : l.number ≤ 2 ^ 32;
+}

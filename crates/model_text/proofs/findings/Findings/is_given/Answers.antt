@@ -1,0 +1,21 @@
+use Rattle.std.proofs.Common.{◌∙◌, ℕ, List, ap, sym, subst}
+use Rattle.std.specs.Prelude.{is_some}
+use Rattle.model_spec.specs.Models.{given}
+use Rattle.model_text.specs.declared.symbol.Symbol.{Symbol}
+use Rattle.model_text.specs.Symbols.{IsNamed}
+use Rattle.model_text.proofs.findings.Findings.is_given.Goals as goal
+
+pub returns-in-Register : goal.returns-in-Register
+returns-in-Register c = λ layout count kept ds w named are.
+    let n = subst (λ (s : Symbol). IsNamed layout count s w) c.in-Register.is named in
+    c.has_word.ensures layout count kept ds n.0 are ∙ ap (λ (x : List ℕ). is_some (given ds x)) (sym n.1)
+
+pub returns-in-Flag : goal.returns-in-Flag
+returns-in-Flag c = λ layout count kept ds w named are.
+    let n = subst (λ (s : Symbol). IsNamed layout count s w) c.in-Flag.is named in
+    c.has_word-in-Flag.ensures layout count kept ds n.0 are ∙ ap (λ (x : List ℕ). is_some (given ds x)) (sym n.1)
+
+pub returns-in-Choice : goal.returns-in-Choice
+returns-in-Choice c = λ layout count kept ds w named are.
+    let n = subst (λ (s : Symbol). IsNamed layout count s w) c.in-Choice.is named in
+    c.has_word-in-Choice.ensures layout count kept ds n.0 are ∙ ap (λ (x : List ℕ). is_some (given ds x)) (sym n.1)

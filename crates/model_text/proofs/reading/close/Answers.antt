@@ -1,0 +1,30 @@
+use Rattle.std.proofs.Common.{false, refl, sym, subst}
+use Rattle.model_text.specs.declared.symbol.Symbol.TheVariants.{Register, Flag, Choice}
+use Rattle.model_text.specs.declared.stores.Stored.{Stored}
+use Rattle.model_text.specs.Drafts.{IsStored}
+use Rattle.model_text.proofs.DraftSteps.{closed_word, closed_memory}
+use Rattle.model_text.proofs.reading.close.Goals as goal
+
+pub returns-in-Register : goal.returns-in-Register
+returns-in-Register c = λ layout count kept tr token good h. closed_word layout count kept c.args.draft.now (record c.args.draft.now { good = false })
+    c.args.findings.now c.take_word.new.self tr c.in-Register.place
+    (Register c.in-Register.place) h c.in-Register.is (λ n. n) refl good refl refl (λ l n f. c.take_word.ensures layout count kept tr.definitions tr.sort
+    tr.value l n f)
+
+pub returns-in-Flag : goal.returns-in-Flag
+returns-in-Flag c = λ layout count kept tr token good h. closed_word layout count kept c.args.draft.now (record c.args.draft.now { good = false })
+    c.args.findings.now c.take_word-in-Flag.new.self tr c.in-Flag.place
+    (Flag c.in-Flag.place) h c.in-Flag.is (λ n. n) refl good refl refl (λ l n f. c.take_word-in-Flag.ensures layout count kept tr.definitions tr.sort
+    tr.value l n f)
+
+pub returns-in-Choice : goal.returns-in-Choice
+returns-in-Choice c = λ layout count kept tr token good h. closed_word layout count kept c.args.draft.now (record c.args.draft.now { good = false })
+    c.args.findings.now c.take_word-in-Choice.new.self tr c.in-Choice.place
+    (Choice c.in-Choice.place) h c.in-Choice.is (λ n. n) refl good refl refl (λ l n f. c.take_word-in-Choice.ensures layout count kept tr.definitions tr.sort
+    tr.value l n f)
+
+pub returns-in-Memory : goal.returns-in-Memory
+returns-in-Memory c = λ layout count kept tr token good h. closed_memory layout count kept c.args.draft.now c.take_stored.new.self c.args.findings.now
+    c.take_memory.new.self tr h
+    c.in-Memory.is good c.take_stored.ensures.rest c.take_stored.ensures.none (λ st f. c.take_memory.ensures layout count kept tr.definitions tr.sort tr.value
+    (λ k. subst (λ (x : Stored). IsStored x tr.value) (sym c.take_stored.ensures.value) (st k)) f)

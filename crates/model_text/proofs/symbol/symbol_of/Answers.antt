@@ -1,0 +1,18 @@
+use Rattle.std.proofs.Common.{ℕ, List, refl, sym, ap, ◌∙◌, arith}
+use Rattle.machine_spec.specs.StateText.{place_in}
+use Rattle.state_text.specs.Starts.{layout_of}
+use Rattle.model_text.specs.Symbols.{choice_number}
+use Rattle.model_text.proofs.SymbolNames.{choice_is_named, placed_named}
+use Rattle.model_text.proofs.symbol.symbol_of.Goals as goal
+
+pub returns-in_default-clause-named : goal.returns-in_default-clause-named
+returns-in_default-clause-named c = choice_is_named (layout_of c.args.layout) c.args.drawn.now c.args.name.now (choice_number c.args.name.now)
+    c.choice_of.result (omega arith) refl c.choice_of.ensures
+
+pub returns-then-place-register_count-clause-named : goal.returns-then-place-register_count-clause-named
+returns-then-place-register_count-clause-named c = placed_named (layout_of c.args.layout) c.args.drawn.now c.args.name.now c.in-Some.place (sym (ap (λ (v :
+    List (List ℕ)). place_in v c.args.name.now) c.names.ensures) ∙ sym c.in-Some.ensures)
+
+pub returns-else-place-register_count-clause-named : goal.returns-else-place-register_count-clause-named
+returns-else-place-register_count-clause-named c = placed_named (layout_of c.args.layout) c.args.drawn.now c.args.name.now c.in-Some.place (sym (ap (λ (v :
+    List (List ℕ)). place_in v c.args.name.now) c.names.ensures) ∙ sym c.in-Some.ensures)

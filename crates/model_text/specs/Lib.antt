@@ -1,0 +1,13 @@
+pub mod Tokens
+pub mod Scans
+pub mod Bits
+pub mod Sorts
+pub mod Places
+pub mod Faults
+pub mod Symbols
+pub mod Pieces
+pub mod Traces
+pub mod Stores
+pub mod Drafts
+pub mod Answers
+pub mod Judgements

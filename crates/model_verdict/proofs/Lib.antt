@@ -1,0 +1,13 @@
+pub mod Bytes
+pub mod KnownRuns
+pub mod Filled
+pub mod Agreeing
+pub mod Steps
+pub mod Chosen
+pub mod Printing
+pub mod Endings
+pub mod Numbers
+pub mod Declarations
+pub mod ModelReadings
+pub mod Made
+pub mod Findings

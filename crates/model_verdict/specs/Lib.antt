@@ -1,0 +1,5 @@
+pub mod Models
+pub mod Readings
+pub mod Runs
+pub mod Shown
+pub mod Judgements

@@ -1,0 +1,25 @@
+use Rattle.std.proofs.Common.{ap, ◌∙◌, ◌++◌, length, map, codes}
+use Rattle.word_spec.specs.State.{Written}
+use Rattle.word_spec.specs.Texts.{line}
+use Rattle.machine_spec.specs.StateText as texts
+use Rattle.machine_spec.specs.StateText.{MachineLine, ByteLine, ChoiceLine, register_lines, flag_bits}
+use Rattle.state_text.specs.Starts.{layout_of, line_text, lines_text, written_of}
+use Rattle.state_text.proofs.Appends.{six}
+use Rattle.state_text.proofs.Printing.{block_by}
+use Rattle.state_text.proofs.printer.push_block.Goals as goal
+
+pub returns : goal.returns
+returns c =
+    let layout : texts.Layout = layout_of c.args.layout in
+    let w : Written = written_of c.args.start.now in
+    six c.args.out.now.items c.push_machine.new.out.items c.push_registers.new.out.items c.push_flags.new.out.items c.push_bytes.new.out.items
+    c.push_choices.new.out.items c.push_text.new.out.items (line (line_text layout MachineLine))
+    (lines_text layout (register_lines 0 c.as_slice-regs.result.now))
+    (lines_text layout (register_lines (length c.as_slice-regs.result.now) (flag_bits c.flag_count.result w.flags)))
+    (lines_text layout (map (λ b. ByteLine b.0 b.1) c.as_slice.result.now)) (lines_text layout (map (λ b. ChoiceLine b.0 b.1) c.as_slice-2.result.now))
+    (codes "end\n")
+    c.in_ok-push_machine.ensures c.in_ok-push_registers.ensures
+    c.in_ok-push_flags.ensures (c.in_ok-push_bytes.ensures layout) (c.in_ok-push_choices.ensures layout) c.in_ok-push_text.ensures
+    ∙ ap (λ l. c.args.out.now.items ++ l) (block_by layout w c.as_slice-regs.result.now (length c.as_slice-regs.result.now) c.flag_count.result
+    c.as_slice.result.now c.as_slice-2.result.now c.as_slice-regs.ensures.value (ap length c.as_slice-regs.ensures.value)
+    c.flag_count.ensures c.as_slice.ensures.value c.as_slice-2.ensures.value)

@@ -1,0 +1,34 @@
+use Rattle.std.proofs.Common.{◌+◌, [], sym, subst}
+use Rattle.word_spec.specs.Memory.{byte_in}
+use Rattle.bilv_spec.specs.Files.{program_of}
+use Rattle.model_spec.specs.Models.{all_reads}
+use Rattle.notes_lang.specs.Drafting.{notes_of}
+use Rattle.table_run.specs.Traces.{TakesChoices, last_of}
+use Rattle.table_run.proofs.Listings.{listed_all}
+use Rattle.table_run.proofs.TracedRuns.{entry_read}
+use Rattle.table_run.proofs.tracing.trace.Goals as goal
+
+pub returns-clause-ending : goal.returns-clause-ending
+returns-clause-ending g c r is takes =
+    let p = program_of g.M.Machine.machine c.args.image.now (notes_of c.args.notes.now) c.args.entry in
+    let first = c.in_ok-t.t in
+    let new = c.read_stage.new.t in
+    let drawn = subst (λ z. TakesChoices p c.args.k r (byte_in z)) (sym c.deref.ensures.value) takes in
+    let it =
+    entry_read p c.args.k c.args.fill c.args.bytes.now r first.met new.met (g.M.State.View.view first.entry) (g.M.State.View.view new.entry)
+    (g.M.State.View.view first.state) (g.M.State.View.view new.state) new.read is.mem (c.in_ok-t.ensures.begun c.args.fill c.args.bytes.now r.state is)
+    c.in_ok-read_stage.ensures.fuller c.in_ok-read_stage.ensures.met (c.in_ok-read_stage.ensures.read [] c.in_ok-t.ensures.read) in
+    (c.in_ok-ending.ensures r is.mem drawn it.0 it.1).0
+
+pub returns-clause-bytes : goal.returns-clause-bytes
+returns-clause-bytes g c r is takes =
+    let p = program_of g.M.Machine.machine c.args.image.now (notes_of c.args.notes.now) c.args.entry in
+    let first = c.in_ok-t.t in
+    let new = c.read_stage.new.t in
+    let drawn = subst (λ z. TakesChoices p c.args.k r (byte_in z)) (sym c.deref.ensures.value) takes in
+    let it =
+    entry_read p c.args.k c.args.fill c.args.bytes.now r first.met new.met (g.M.State.View.view first.entry) (g.M.State.View.view new.entry)
+    (g.M.State.View.view first.state) (g.M.State.View.view new.state) new.read is.mem (c.in_ok-t.ensures.begun c.args.fill c.args.bytes.now r.state is)
+    c.in_ok-read_stage.ensures.fuller c.in_ok-read_stage.ensures.met (c.in_ok-read_stage.ensures.read [] c.in_ok-t.ensures.read) in
+    listed_all p c.args.fill c.args.bytes.now c.in_ok-bytes.bytes.items r.state.mem (all_reads p c.args.k r (last_of c.in_ok-ending.ending + 1))
+    c.follow_model.new.t.read is.mem (c.in_ok-ending.ensures r is.mem drawn it.0 it.1).1 c.in_ok-bytes.ensures.bytes
