@@ -44,6 +44,7 @@ ADD = rv(0x00150513, 0x00008067)
 DOWN = rv(0xFFF50513, 0xFE051EE3, 0x00008067)
 CERT = b'p cnf 2 4\n1 2 0\n1 -2 0\n-1 2 0\n-1 -2 0\nproof\n5 1 0 1 2 0\n6 0 5 3 4 0\n'
 REPORT = None
+MODEL = b'sat\n((define-fun x10 () (_ BitVec 32) #xffffffff))\n'
 
 CASES = {
     # name: (words before the files, files, words behind them, status, first line)
@@ -87,6 +88,9 @@ CASES = {
     'upgrade': (['upgrade'], [ADD, notes('ensure a0 = old(a0) + 1')], [], 0, 'notes 2'),
     'notes 2': (['verify'], [ADD, b'notes 2\nentry 0x10000\nconst N 3\nensure all i 0 N (mem8[i] = old(mem8[i]))\n'], [], 0, 'holds'),
     'bx': (['verify', '--arm', 'v5'], [arm(0xE16F0F10, 0xE12FFF1E), notes('ensure r0 <=u 32')], [], 0, 'holds'),
+    'model accepted': (['model'], [ADD, notes('ensure a0 >u old(a0)'), MODEL], ['--question', 'fail'], 0, 'accepted'),
+    'model refused': (['model'], [ADD, notes('ensure a0 >u old(a0)'), b'sat\n((define-fun x10 () (_ BitVec 32) #xff))\n'],
+                      ['--question', 'fail'], 9, 'model: line 2 A3 Sort'),
     'read fault': (['verify', '/absent/a', '/absent/b'], [], [], 6, 'read fault'),
 }
 
