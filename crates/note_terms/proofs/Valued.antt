@@ -9,23 +9,21 @@ use Rattle.bilv_spec.specs.Notes.{Expr, Op, Number, Register, Flag, Pc, Bound, M
 use Rattle.bilv_spec.specs.Points.{line_price, bytes_loaded, products, operations, value_count, is_product, is_written}
 use Rattle.bilv_spec.specs.Notes as notes
 use Rattle.word_spec.specs.RowFiles.{from_to}
-use Rattle.walk_spec.specs.Terms.{TermReading, TermNode, ConstantNode, LoadNode, AreTyped, HasMemory, HasWidth, term_value, term_word, width_of}
+use Rattle.walk_spec.specs.Terms.{TermReading, TermNode, ConstantNode, LoadNode, AreTyped, HasMemory, HasWidth, term_value, term_word}
 use Rattle.walk_spec.specs.Unrolled.{Carried, UnrolledProgram, state_at}
 use Rattle.walk_spec.specs.Unrolling.{IsReadable}
 use Rattle.walk_spec.specs.Passive.{AreNames, Denotes}
 use Rattle.walk_spec.specs.Prices.{line_size}
 use Rattle.term_dag.specs.Made.{Grew, IsMade, IsInterned}
 use Rattle.term_dag.proofs.Growth.{grew_none, grew_on, grew_more, grew_width, inputs_none, inputs_on}
-use Rattle.notes_value.specs.declared.expressions.Size.{Size}
 use Rattle.notes_value.specs.declared.expressions.Size.TheVariants as size
-use Rattle.notes_value.specs.Views.{bytes_of}
 use Rattle.notes_value.proofs.WrittenOut.{put_written, put_zero, loads_put}
 use Rattle.notes_value.proofs.Looped.{behind, behind_is, behind_none}
 use Rattle.term_names.specs.declared.names.Names.{Names}
 use Rattle.term_names.specs.Views.{form_of, names_of}
 use Rattle.term_names.specs.Chosen.{HaveSameForm}
 use Rattle.note_terms.specs.declared.Now.{Now}
-use Rattle.note_terms.specs.Steps.{IsNarrow, IsShown, IsValueAt, IsZero, IsStep, operator_gates, gates_of, nodes_of}
+use Rattle.note_terms.specs.Steps.{IsShown, IsZero, IsStep, operator_gates, gates_of, nodes_of}
 use Rattle.note_terms.specs.Lines.{IsStateOf, AreStateTerms, IsLine, IsValue}
 use Rattle.note_terms.proofs.Steps.{step_made, step_kept, step_as, step_on}
 

@@ -1,9 +1,9 @@
 -- Trails: a step more, and a step less.
-use Rattle.std.proofs.Common.{◌≡◌, ◌≢◌, ℕ, zero, suc, ◌+◌, ◌<◌, Bool, true, false, not, ◌||◌, List, [], ◌∷◌, ◌++◌, Option, Some, None, refl, arith, sym, ap, ◌∙◌, subst, length, get_or, slice_set, replicate, eq-eqb, inl, inr, get_or-set_other, get_or-set_same, length-append, append-nil, append_assoc}
+use Rattle.std.proofs.Common.{◌≡◌, ◌≢◌, ℕ, zero, suc, ◌+◌, ◌<◌, Bool, true, false, not, List, [], ◌∷◌, ◌++◌, Option, Some, None, refl, arith, sym, ap, ◌∙◌, subst, length, get_or, slice_set, replicate, eq-eqb, inl, inr, get_or-set_other, get_or-set_same, length-append, append-nil, append_assoc}
 use Rattle.std.specs.Prelude.{◌==◌, reverse}
 use Rattle.std.proofs.lemmas.Bool.{cases_Bool, eqb-true, both_ways, ne_eqb}
 use Rattle.std.proofs.lemmas.List.{length-set, reverse-append}
-use Rattle.clause_spec.specs.Clauses.{Literal, Clause, opposite, same}
+use Rattle.clause_spec.specs.Clauses.{Literal, Clause}
 use Rattle.clause_spec.specs.Refutation.{added}
 use Rattle.clause_spec.proofs.Looks.{same-self}
 use Rattle.sat_core.specs.declared.trail.Step.{Step}

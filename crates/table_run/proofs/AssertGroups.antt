@@ -26,7 +26,8 @@ module _ (at : ℕ) where
   filter_all (x ∷ xs) (suc high) le all none =
       ap (λ (b : Bool). if b then x ∷ filter (λ x. x.0 == at) xs else filter (λ x. x.0 == at) xs) (eq-eqb x.0 at (all 0 x (omega arith) (omega arith)))
       ∙ ap (λ z. x ∷ z)
-      (filter_all xs high (omega arith) (λ k d low less. all (suc k) d (omega arith) (omega arith)) (λ k d low less. none (suc k) d (omega arith) (omega arith)))
+      (filter_all xs high (omega arith) (λ k d low less. all (suc k) d (omega arith) (omega arith))
+      (λ k d low less. none (suc k) d (omega arith) (omega arith)))
 
   filter_group : (xs : List (ℕ × ℕ)) (low high : ℕ) → low ≤ high → high ≤ length xs → AllWithin (λ x. x.0 ≢ at) xs 0 low →
       AllWithin (λ x. x.0 ≡ at) xs low high → AllWithin (λ x. x.0 ≢ at) xs high (length xs) → filter (λ x. x.0 == at) xs ≡ take (high - low) (drop low xs)
@@ -82,7 +83,8 @@ module _ {X : Type 0} (view : X → Assert) (e : Endian) (now entry : State) whe
   hits_read (x ∷ xs) = by ((view x).at == now.pc) (hits_read xs)
     where
       by : (b : Bool) → assert_reads e (map view xs) now entry ≡ reads_of (filter (λ x. (view x).at == now.pc) xs) →
-          (if b then expression_reads e (view x).says now entry ++ (if is_true (value e (view x).says now entry) then assert_reads e (map view xs) now entry else [])
+          (if b
+          then expression_reads e (view x).says now entry ++ (if is_true (value e (view x).says now entry) then assert_reads e (map view xs) now entry else [])
           else assert_reads e (map view xs) now entry)
           ≡ reads_of (if b then x ∷ filter (λ x. (view x).at == now.pc) xs else filter (λ x. (view x).at == now.pc) xs)
       by true h =
@@ -141,7 +143,8 @@ module _ {X : Type 0} (view : X → Assert) (e : Endian) (now entry : State) whe
           picks.1,
           ap (λ z. z ++ (if is_true (value e (view a).says now entry) then reads_of later else [])) added
               ∙ append_assoc places (expression_reads e (view a).says now entry) (if is_true (value e (view a).says now entry) then reads_of later else [])
-              ∙ sym (ap (λ z. places ++ (expression_reads e (view z).says now entry ++ (if is_true (value e (view z).says now entry) then reads_of later else []))) same)
+              ∙ sym (ap (λ z. places
+              ++ (expression_reads e (view z).says now entry ++ (if is_true (value e (view z).says now entry) then reads_of later else []))) same)
               ∙ reads,
         )
 
@@ -163,7 +166,8 @@ module _ {X : Type 0} (view : X → Assert) (e : Endian) (now entry : State) whe
   none_left asserts [] places all picks reads = sym (append-nil places) ∙ reads
   none_left asserts (x ∷ rest) places all picks reads = absurd picks
 
-  pub left_ends : (asserts : List X) (index : List (ℕ × ℕ)) (high i : ℕ) (places all : List ℕ) → high ≤ i → IsLeft asserts index high i places all → places ≡ all
+  pub left_ends : (asserts : List X) (index : List (ℕ × ℕ)) (high i : ℕ) (places all : List ℕ) → high ≤ i → IsLeft asserts index high i places all →
+      places ≡ all
   left_ends asserts index high i places all le left =
       let n : high - i ≡ 0 = omega arith in
       none_left asserts left.rest places all (subst (λ z. Picks asserts (take z (drop i index)) left.rest) n left.picks) left.reads

@@ -209,7 +209,8 @@ module _ (p : Program) (lawful : HasLawfulRows p) (memory : ReadsMemory p) (begu
         let both = step_both M u begun entry.mem at.filled.entry_same lawful c.state now.mem c.stack at.filled.now_same at.is_state
         (subst IsState at.now_is now_state) drawn choice draws among in
         let first : StepBoth M x (step (by_file u) entry (record { state = with_memory c.state now.mem; stack = c.stack }) choice) =
-        subst (λ (z : State). StepBoth M x (step (by_file u) z (record { state = with_memory c.state now.mem; stack = c.stack }) choice)) (sym at.entry_is) both in
+        subst (λ (z : State). StepBoth M x (step (by_file u) z (record { state = with_memory c.state now.mem; stack = c.stack }) choice)) (sym at.entry_is)
+        both in
         let second : StepBoth M x (step (by_file u) entry (record { state = now; stack = c.stack }) choice) =
         subst (λ (z : State). StepBoth M x (step (by_file u) entry (record { state = z; stack = c.stack }) choice)) (sym at.now_is) first in
         let third : StepBoth M x (step (by_file u) entry (record { state = now; stack = stack }) choice) =
@@ -288,7 +289,8 @@ module _ (p : Program) (lawful : HasLawfulRows p) (memory : ReadsMemory p) (begu
     abbrev w : Step
     w = step q begun c drawn
 
-    pub on_end : (new : State) (after : List ℕ) → step u entry (record { state = now; stack = stack }) choice ≡ Arrives (record { state = new; stack = after }) →
+    pub on_end : (new : State) (after : List ℕ) →
+        step u entry (record { state = now; stack = stack }) choice ≡ Arrives (record { state = new; stack = after }) →
         ((d : Place) × (w ≡ Arrives d) × IsRunAt p begun met entry new after d) × (step_reads q begun c drawn ≡ early_reads q begun c.state)
     on_end new after h =
         let went = walked_on x came kept_there sound_there (record { state = new; stack = after }) h in (

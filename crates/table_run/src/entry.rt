@@ -58,8 +58,8 @@ fn first_wrong<M: Machine>(p: &Program, state: &M::State) -> Option<u32>
     }
 }
 
-/// A row can stand at the address in the link register of a state, and each require line is true: for a state whose memory is known to agree with the file. It takes no
-/// memory.
+/// A row can stand at the address in the link register of a state, and each require line is true: for a state whose memory is known to agree with the file. It
+/// takes no memory.
 ///
 /// # Errors
 ///

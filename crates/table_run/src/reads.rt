@@ -22,8 +22,8 @@ use notes_lang::{Assert, NoteLine, value};
 use notes_value::{add_reads, add_span};
 use std::alloc::{AllocError, Global};
 
-/// When a run reads: before it begins, the require lines; before a step is made, the assert lines of its address and the bytes that its row loads; and before an
-/// exit is judged, the ensure lines.
+/// When a run reads: before it begins, the require lines; before a step is made, the assert lines of its address and the bytes that its row loads; and before
+/// an exit is judged, the ensure lines.
 #[derive(Clone, Copy)]
 pub(crate) enum Stage<'a> {
     Entry,

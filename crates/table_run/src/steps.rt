@@ -38,8 +38,8 @@ pub(crate) fn exit<M: Machine>(p: &Program, entry: &M::State, state: &M::State) 
     }
 }
 
-/// The step of an indirect jump that is no call, to the state's address: a return to the stack's top, the exit where the stack is empty, which is not judged, or
-/// a named target.
+/// The step of an indirect jump that is no call, to the state's address: a return to the stack's top, the exit where the stack is empty, which is not judged,
+/// or a named target.
 fn leave<M: Machine>(
     p: &Program,
     index: &Index,
@@ -174,8 +174,8 @@ fn row_step<M: Machine>(
     Ok(end)
 }
 
-/// One step under a choice, for a run that began in the state at entry; an exit is not judged. The state and the stack, whose last address is the top, are those
-/// that the step leaves. The error is want of memory.
+/// One step under a choice, for a run that began in the state at entry; an exit is not judged. The state and the stack, whose last address is the top, are
+/// those that the step leaves. The error is want of memory.
 pub(crate) fn walk<M: Machine>(
     p: &Program,
     index: &Index,

@@ -105,7 +105,8 @@ fn traced_step<M: Machine>(
     requires index { AreIndexed p.now.notes.now index.now }
     requires lawful { HasLawfulRows (program_of M.machine p.now) }
     requires rising { AreRising model.now.bytes.now }
-    ensures { (begun : State) (c : meaning.Place) (drawn : ℕ) (before : List ℕ) → IsOver (program_of M.machine p.now) model.now.fill model.now.bytes.now begun.mem →
+    ensures { (begun : State) (c : meaning.Place) (drawn : ℕ) (before : List ℕ) →
+        IsOver (program_of M.machine p.now) model.now.fill model.now.bytes.now begun.mem →
         IsRunAt (program_of M.machine p.now) begun t.old.met (M.State.view t.old.entry) (M.State.view t.old.state) (reverse stack.old.items) c →
         ((row : Row) → file_row (program_of M.machine p.now) c.state.pc ≡ Some row → row.draws ≡ true → drawn ≡ choice) →
         IsReadSet (program_of M.machine p.now) before t.old.read →
@@ -144,7 +145,8 @@ fn follow_model<M: Machine>(
     requires some { 1 ≤ limits.steps }
     ensures { (r : Reading) → IsOver (program_of M.machine p.now) model.now.fill model.now.bytes.now r.state.mem →
         TakesChoices (program_of M.machine p.now) limits.turns r (byte_in choices.now) →
-        IsRunAt (program_of M.machine p.now) r.state t.old.met (M.State.view t.old.entry) (M.State.view t.old.state) [] (record { state = r.state; stack = [] }) →
+        IsRunAt (program_of M.machine p.now) r.state t.old.met (M.State.view t.old.entry) (M.State.view t.old.state) []
+        (record { state = r.state; stack = [] }) →
         IsReadSet (program_of M.machine p.now) (all_reads (program_of M.machine p.now) limits.turns r 0) t.old.read →
         IfOk result (λ e. ComesTo (read_run (program_of M.machine p.now) limits.turns r) limits.steps e
         × IsReadSet (program_of M.machine p.now) (all_reads (program_of M.machine p.now) limits.turns r (last_of e + 1)) t.new.read) }

@@ -1,10 +1,10 @@
 //! The list of nodes, each kept once.
 
-ghost use Rattle.std.specs.Prelude.{◌≡◌, ℕ, ◌<◌, ◌≤◌, ◌^◌, ◌⊎◌, List, [], length, IfNone, IfSome, IfOk};
+ghost use Rattle.std.specs.Prelude.{◌≡◌, ℕ, ◌<◌, ◌≤◌, ◌^◌, ◌⊎◌, List, [], length, IfNone, IfSome, IfOk, MatchResult};
 ghost use Rattle.walk_spec.specs.Terms.{ConstantNode, TermNode, TermReading, node_at, term_value, term_word, width_of, HasWidth, IsTypedOver, AreTyped};
 ghost use Rattle.term_dag.specs.Nodes.{node_of, nodes_of};
 ghost use Rattle.term_dag.specs.Readings.{AreWords, reading_of};
-ghost use Rattle.term_dag.specs.Made.{AreDistinct, IsInterned, IsMade, Separates};
+ghost use Rattle.term_dag.specs.Made.{AreDistinct, Grew, IsInterned, IsMade, Separates};
 
 use crate::folds::{Folded, fold, look, width_of_node};
 use crate::values::{byte, words_of};
@@ -124,11 +124,11 @@ impl Dag {
         byte(self.nodes.as_slice(), words, reading, term, address)
     }
 
-    /// The place of a node as it is, which is added where it is not there: nothing is folded. The error is want of memory, or of numbers for terms; then
-    /// nothing is said of the terms.
+    /// The place of a node as it is, which is added where it is not there: nothing is folded. The error is out of memory, or of numbers for terms; then the
+    /// terms are as they were.
     pub fn keep(&mut self, node: Node) -> Result<Term, AllocError>
         requires { IsTypedOver self.old (node_of node) }
-        ensures { IfOk result (λ t. IsInterned self.old self.new (node_of node) t.0) }
+        ensures { MatchResult result (λ t. IsInterned self.old self.new (node_of node) t.0) (λ e. self.new ≡ self.old) }
     {
         if self.nodes.len() >= MOST {
             return Err(AllocError);
@@ -137,11 +137,11 @@ impl Dag {
         Ok(Term(place as u32))
     }
 
-    /// The term of a node over terms. Equal nodes have one term, and a node of which more is known has that of a smaller one. The error is want of memory; then
-    /// nothing is said of the terms.
+    /// The term of a node over terms. Equal nodes have one term, and a node of which more is known has that of a smaller one. The error is out of memory; then
+    /// the terms are as they were, but for at most one more that has no gates.
     pub fn mk(&mut self, node: Node) -> Result<Term, AllocError>
         requires { IsTypedOver self.old (node_of node) }
-        ensures { IfOk result (λ t. IsMade self.old self.new (node_of node) t.0) }
+        ensures { MatchResult result (λ t. IsMade self.old self.new (node_of node) t.0) (λ e. Grew self.old self.new 0 0 0 0 1) }
     {
         match fold(self.nodes.as_slice(), node) {
             Folded::Old(term) => Ok(term),

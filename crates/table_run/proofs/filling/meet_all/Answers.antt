@@ -20,8 +20,8 @@ loop-a-preserved g c =
     let new = c.meet.new.t in
     record {
       fuller =
-          fuller_then p c.args.model.now.fill c.args.model.now.bytes.now old.met some.met new.met (g.M.State.View.view old.entry) (g.M.State.View.view some.entry)
-          (g.M.State.View.view new.entry) (g.M.State.View.view old.state) (g.M.State.View.view some.state) (g.M.State.View.view new.state)
+          fuller_then p c.args.model.now.fill c.args.model.now.bytes.now old.met some.met new.met (g.M.State.View.view old.entry)
+          (g.M.State.View.view some.entry) (g.M.State.View.view new.entry) (g.M.State.View.view old.state) (g.M.State.View.view some.state) (g.M.State.View.view new.state)
           c.loop-a.invariant.fuller c.in_ok-meet.ensures.fuller;
       met =
           met_next p c.args.model.now.fill c.args.model.now.bytes.now some.met new.met c.args.places.now c.loop-a.a-index _ refl c.in_ok-meet.ensures.met

@@ -8,7 +8,8 @@ pub returns-then-i-model : goal.returns-then-i-model
 returns-then-i-model c =
     let point =
     IsPartitionPoint-from_clause (λ (x : ℕ × ℕ). nat_lt x.0 c.args.a) _ _ c.partition_point-i.ensures.partitioned
-    (IsPartitionedBy-ltb (λ (x : ℕ × ℕ). x.0) c.args.model.now.bytes.now c.args.a (rising_by c.args.model.now.bytes.now c.requires)) (λ a r q k. search rules) in
+    (IsPartitionedBy-ltb (λ (x : ℕ × ℕ). x.0) c.args.model.now.bytes.now c.args.a (rising_by c.args.model.now.bytes.now c.requires))
+    (λ a r q k. search rules) in
     sym (over_behind c.args.model.now.fill c.args.model.now.bytes.now c.partition_point-i.result c.args.a c.requires point c.if-i-model.true)
 
 pub returns-then-model-i : goal.returns-then-model-i
@@ -16,7 +17,8 @@ returns-then-model-i c =
     let inside : c.partition_point-i.result < length c.args.model.now.bytes.now = omega arith in
     let point =
     IsPartitionPoint-from_clause (λ (x : ℕ × ℕ). nat_lt x.0 c.args.a) _ _ c.partition_point-i.ensures.partitioned
-    (IsPartitionedBy-ltb (λ (x : ℕ × ℕ). x.0) c.args.model.now.bytes.now c.args.a (rising_by c.args.model.now.bytes.now c.requires)) (λ a r q k. search rules) in
+    (IsPartitionedBy-ltb (λ (x : ℕ × ℕ). x.0) c.args.model.now.bytes.now c.args.a (rising_by c.args.model.now.bytes.now c.requires))
+    (λ a r q k. search rules) in
     sym (over_beside c.args.model.now.fill c.args.model.now.bytes.now c.partition_point-i.result c.args.a c.requires point (0, 0) inside c.if-model-i.true)
 
 pub returns : goal.returns
@@ -24,5 +26,6 @@ returns c =
     let inside : c.partition_point-i.result < length c.args.model.now.bytes.now = omega arith in
     let point =
     IsPartitionPoint-from_clause (λ (x : ℕ × ℕ). nat_lt x.0 c.args.a) _ _ c.partition_point-i.ensures.partitioned
-    (IsPartitionedBy-ltb (λ (x : ℕ × ℕ). x.0) c.args.model.now.bytes.now c.args.a (rising_by c.args.model.now.bytes.now c.requires)) (λ a r q k. search rules) in
+    (IsPartitionedBy-ltb (λ (x : ℕ × ℕ). x.0) c.args.model.now.bytes.now c.args.a (rising_by c.args.model.now.bytes.now c.requires))
+    (λ a r q k. search rules) in
     sym (over_here c.args.model.now.fill c.args.model.now.bytes.now c.partition_point-i.result c.args.a c.requires point (0, 0) inside c.if-model-i.false)

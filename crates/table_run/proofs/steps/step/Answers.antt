@@ -15,7 +15,8 @@ returns-in-Stops g c =
           judged_same (program_of g.M.Machine.machine c.args.p.now) (g.M.State.View.view c.args.entry.now)
           (record { state = g.M.State.View.view c.args.state.now; stack = reverse c.args.stack.now.items }) c.args.choice
           (Stops (event_of c.in-Stops.event)) (Stops (event_of c.in-Stops.event))
-          (end_is c.in_ok-event.field-0 _ (g.M.State.View.view c.walk.new.state) (reverse c.walk.new.stack.items) _ c.in-Stops.is c.in_ok-event.ensures.end) refl;
+          (end_is c.in_ok-event.field-0 _ (g.M.State.View.view c.walk.new.state) (reverse c.walk.new.stack.items) _
+          c.in-Stops.is c.in_ok-event.ensures.end) refl;
     }
 
 pub returns-in-Arrives : goal.returns-in-Arrives
@@ -25,7 +26,8 @@ returns-in-Arrives g c =
       end =
           judged_same (program_of g.M.Machine.machine c.args.p.now) (g.M.State.View.view c.args.entry.now)
           (record { state = g.M.State.View.view c.args.state.now; stack = reverse c.args.stack.now.items }) c.args.choice (Arrives there) (Arrives there)
-          (end_is c.in_ok-event.field-0 _ (g.M.State.View.view c.walk.new.state) (reverse c.walk.new.stack.items) _ c.in-Arrives.is c.in_ok-event.ensures.end) refl;
+          (end_is c.in_ok-event.field-0 _ (g.M.State.View.view c.walk.new.state) (reverse c.walk.new.stack.items) _
+          c.in-Arrives.is c.in_ok-event.ensures.end) refl;
     }
 
 pub returns-in-Exits : goal.returns-in-Exits

@@ -12,7 +12,8 @@ false_assert-requires-clause-readable g c =
 
 pub row_step-requires-clause-lawful : goal.row_step-requires-clause-lawful
 row_step-requires-clause-lawful g c =
-    lawful_row g.M.Machine.machine c.decoded_at-word.result (g.M.Machine.row c.in-Some-decode.insn) g.met.M.Machine.lawful (omega arith) c.in-Some-decode.ensures
+    lawful_row g.M.Machine.machine c.decoded_at-word.result (g.M.Machine.row c.in-Some-decode.insn) g.met.M.Machine.lawful (omega arith)
+    c.in-Some-decode.ensures
 
 pub row_step-requires-clause-length : goal.row_step-requires-clause-length
 row_step-requires-clause-length g c = c.length-length.ensures.of_row (g.M.Machine.row c.in-Some-decode.insn) (sym c.in-Some-decode.ensures)

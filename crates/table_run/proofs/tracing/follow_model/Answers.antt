@@ -100,7 +100,8 @@ loop-stack-preserved g c =
           c.pc-at.ensures new.met (g.M.State.View.view new.entry) (g.M.State.View.view new.state) (reverse c.traced_step.new.stack.items) new.read
           c.in_ok-event.field-0
           (c.in_ok-event.ensures r.state is.place (r.choice (point_of turns is.place)) (all_reads p c.args.limits.turns r n) over is.at
-          (drawn_there p c.args.limits.turns r (byte_in c.args.choices.now) n turns c.choice_at-choice.result is.place takes is.going c.choice_at-choice.ensures)
+          (drawn_there p c.args.limits.turns r (byte_in c.args.choices.now) n turns c.choice_at-choice.result is.place takes is.going
+          c.choice_at-choice.ensures)
           is.noted)
           c.in-Arrives.is c.pc.result c.pc.ensures c.in-Some.more (λ d. c.in-Some.ensures.turned n d);
     }
