@@ -7,7 +7,7 @@ use Rattle.bilv_spec.specs.Points.{HasMore}
 use Rattle.machine_spec.specs.StateText.{Layout}
 use Rattle.call_spec.specs.Calls.{Budget, Evidence, Refutations, EntryRefuted, RunOf, SpentOn, Count, Answer, plain_answer, Surroundings, AfterRead, read_failed, was_read, read_fault}
 use Rattle.bilv_spec.specs.Answers.{Report, HoldsReport, VacuousReport, FailsReport, UnrollReport, PointsReport, SizeReport, ConflictsReport, IsRightReport}
-use Rattle.command_spec.specs.Commands.{Command, Verify, Lift, Graph, Script, Replay, Certify, Check, SelfRun, Upgrade, Model}
+use Rattle.command_spec.specs.Commands.{Command, Verify, Lift, Graph, Script, Replay, Certify, Check, SelfRun, Upgrade, Model, Equal, Differ}
 use Rattle.answer_spec.specs.Outcomes.{IsRightAnswer}
 use Rattle.bilv_spec.specs.Verified.{IsAccepted, IsElfRefused, elf_large, elf_fault, elf_fault_text, AfterImage, elf_refused, elf_accepted}
 use Rattle.answer_spec.specs.AnswerLaws.{verdict_of, first_file, elf_of}
@@ -35,6 +35,8 @@ absent_fails s (Check certificate) name a f h r = absent_read s certificate name
 absent_fails s (SelfRun seed count) name a f h r = absurd (no_name name f)
 absent_fails s (Upgrade o elf notes) name a f h r = absent_read s elf name f h r
 absent_fails s (Model o elf notes answer kind b) name a f h r = absent_read s elf name f h r
+absent_fails s (Equal o names b) name a f h r = absent_read s names.elf name f h r
+absent_fails s (Differ o names report) name a f h r = absent_read s names.elf name f h r
 
 -- a right report's verdict is right
 no_verdict : (v : Verdict) → ◌≡◌ {A = Option Verdict} None (Some v) → ⊥
@@ -118,3 +120,5 @@ elf_refused_once s (Check certificate) name file written a f h calm r x = absurd
 elf_refused_once s (SelfRun seed count) name file written a f h calm r x = absurd (no_name name f)
 elf_refused_once s (Upgrade o elf notes) name file written a f h calm r x = elf_read s elf name file written f h calm r x
 elf_refused_once s (Model o elf notes answer kind b) name file written a f h calm r x = elf_read s elf name file written f h calm r x
+elf_refused_once s (Equal o names b) name file written a f h calm r x = absurd (no_name name f)
+elf_refused_once s (Differ o names report) name file written a f h calm r x = absurd (no_name name f)

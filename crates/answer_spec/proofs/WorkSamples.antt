@@ -16,7 +16,7 @@ use Rattle.word_spec.specs.Texts.{lines, line}
 use Rattle.command_spec.specs.Work.{result, work_file, work_notes, work_text}
 use Rattle.bilv_spec.proofs.StateSamples.{notes}
 
-usage : usage_text ≡ line (codes "usage: bilv verify|lift|graph|smt|replay|cert|check|selfrun|upgrade|model")
+usage : usage_text ≡ line (codes "usage: bilv verify|lift|graph|smt|replay|cert|check|selfrun|upgrade|equal|differ|model")
 usage = refl
 
 -- work of three items: a0 after it, its words, its notes and the text before the verdict's line

@@ -9,7 +9,7 @@ use Rattle.machine_spec.specs.Endings.{NamedEnding, FailsBy, UnknownBy}
 use Rattle.machine_spec.specs.StateText.{Layout}
 use Rattle.call_spec.specs.Calls.{Budget, Evidence, Answer, plain_answer, Surroundings, read_fault}
 use Rattle.bilv_spec.specs.Answers.{Report, HoldsReport, VacuousReport, FailsReport, UnrollReport, PointsReport, IsRightReport}
-use Rattle.command_spec.specs.Commands.{Command, Verify, Lift, Graph, Script, Replay, Certify, Check, SelfRun, Upgrade, Model}
+use Rattle.command_spec.specs.Commands.{Command, Verify, Lift, Graph, Script, Replay, Certify, Check, SelfRun, Upgrade, Model, Equal, Differ}
 use Rattle.answer_spec.specs.Outcomes.{IsRightAnswer}
 use Rattle.bilv_spec.specs.Verified.{IsElfRefused}
 
@@ -51,6 +51,8 @@ first_file (Check certificate) = Some certificate
 first_file (SelfRun seed count) = None
 first_file (Upgrade o elf notes) = Some elf
 first_file (Model o elf notes answer kind b) = Some elf
+first_file (Equal o names b) = Some names.elf
+first_file (Differ o names report) = Some names.elf
 
 -- where no file has the name that a command reads first, its answer is a read fault, and the count of that name rose
 abbrev pub AbsentFails : Type 0
@@ -58,9 +60,11 @@ AbsentFails =
     (s : Surroundings) (c : Command) (name : List ℕ) (a : Answer) → first_file c ≡ Some name → s.held name ≡ Absent → IsRightAnswer s c a →
     (a ≡ read_fault) × Rose (s.shelf_before name) (s.shelf_after name)
 
--- the ELF file that a command reads
+-- the one ELF file that a command reads
 abbrev pub elf_of : Command → Option (List ℕ)
 elf_of (Check certificate) = None
+elf_of (Equal o names b) = None
+elf_of (Differ o names report) = None
 elf_of other = first_file other
 
 -- where the ELF file is told, refused, and read without fault, its refusal is the one answer

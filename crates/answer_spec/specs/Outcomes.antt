@@ -7,13 +7,16 @@ use Rattle.bilv_spec.specs.Files.{layout_of}
 use Rattle.bilv_spec.specs.Answers.{IsReported}
 use Rattle.bilv_spec.specs.Upgrades.{upgraded}
 use Rattle.bilv_spec.specs.Verified.{AfterImage, AfterNotes, IsVerified, notes_limit}
-use Rattle.command_spec.specs.Commands.{usage_text, Command, Verify, Lift, Graph, Script, Replay, Certify, Check, SelfRun, Upgrade, Model}
+use Rattle.command_spec.specs.Commands.{usage_text, PairNames, Command, Verify, Lift, Graph, Script, Replay, Certify, Check, SelfRun, Upgrade, Model, Equal, Differ}
 use Rattle.bilv_spec.specs.LiftText.{IsLiftText}
 use Rattle.bilv_spec.specs.GraphText.{IsGraphText}
 use Rattle.bilv_spec.specs.Scripts.{IsScriptAnswer}
 use Rattle.bilv_spec.specs.Certified.{IsCertified}
 use Rattle.bilv_spec.specs.Replays.{replay_answer}
 use Rattle.model_spec.specs.Models.{AfterBudgets, IsModelAnswer}
+use Rattle.pair_spec.specs.Links.{Link}
+use Rattle.pair_spec.specs.Equals.{side_of, AfterElfOf, AfterNotesOf, AfterLinks, IsPairReported}
+use Rattle.pair_spec.specs.Differs.{differ_answer}
 use Rattle.clause_spec.specs.Checks.{IsChecked}
 use Rattle.command_spec.specs.Work.{work_file, work_notes, work_text}
 use Rattle.word_spec.specs.Texts.{line, line_feed}
@@ -25,6 +28,14 @@ AfterElf s elf Next = AfterRead s elf (λ file. AfterImage file (Next file))
 -- The answer behind the reading of an ELF file and of notes, in this order: the notes are read once the file is accepted.
 abbrev pub AfterBoth : Surroundings → Options → (elf notes : List ℕ) → (Next : List ℕ → Program → Answer → Type 0) → Answer → Type 0
 AfterBoth s o elf notes Next = AfterElf s elf (λ file. AfterRead s notes (λ text. AfterNotes o file text (Next file)))
+
+-- The answer behind the reading of what two functions and their links are, in this order: both ELF files, both notes with their symbols, the links.
+abbrev pub AfterPair : Surroundings → Options → PairNames → (Next : (first second : List ℕ) → (p q : Program) → List Link → Answer → Type 0) →
+    Answer → Type 0
+AfterPair s o names Next =
+    AfterRead s names.elf (λ f. AfterElfOf (codes "first") f (AfterRead s names.other_elf (λ g. AfterElfOf (codes "second") g
+    (AfterRead s names.notes (λ m. AfterNotesOf o (codes "first") f m (λ p. AfterRead s names.other_notes (λ n. AfterNotesOf o (codes "second") g n
+    (λ q. AfterRead s names.links (λ text. AfterLinks f g text (Next f g p q))))))))))
 
 -- the answer that prints the lifted words of an accepted file
 abbrev pub IsLifted : Options → List ℕ → Answer → Type 0
@@ -63,6 +74,9 @@ IsRightAnswer s (SelfRun seed count) = IsSelfRun seed count
 IsRightAnswer s (Upgrade o elf notes) = AfterElf s elf (λ file. AfterRead s notes (λ text. AfterNotes o file text (λ p a. a ≡ upgrade_answer text)))
 IsRightAnswer s (Model o elf notes answer kind b) =
     AfterBoth s o elf notes (λ file p. AfterBudgets p b (AfterRead s answer (IsModelAnswer p (layout_of o file) b kind)))
+IsRightAnswer s (Equal o names b) = AfterPair s o names (λ f g p q links. IsPairReported (side_of o f p) (side_of o g q) links b)
+IsRightAnswer s (Differ o names report) =
+    AfterPair s o names (λ f g p q links. AfterRead s report (λ text a. a ≡ differ_answer (side_of o f p) (side_of o g q) links text))
 
 -- the answer that is due: the usage where the words are no lawful command
 abbrev pub IsDueAnswer : Surroundings → Option Command → Answer → Type 0

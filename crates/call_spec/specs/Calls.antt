@@ -12,6 +12,11 @@ pub data Question : Type 0 where
   FailQuestion : Question
   TurnQuestion : Question
 
+-- the two questions about two functions: whether there is a linked pair of entry states, and whether the exits of one differ
+pub data PairQuestion : Type 0 where
+  PairOfStates : PairQuestion
+  DifferenceOfExits : PairQuestion
+
 -- the four budgets: backward transfers, points, price, conflicts
 pub record Budget : Type 0 where
   pub unroll : ℕ
@@ -30,7 +35,13 @@ pub record IsBudget (b : Budget) : Type 0 where
 abbrev pub default_budget : Budget
 default_budget = record { unroll = 64; points = 65536; size = 1073741824; conflicts = 200000 }
 
--- what shows it
+-- what shows that a function holds: an entry state, and the refutations of its events and of its runs of too many turns
+pub record Holding : Type 0 where
+  pub start : Written
+  pub fail : Proof
+  pub turn : Proof
+
+-- what shows it; of two functions a linked pair of entry states whose exits differ, or that both hold, a linked pair, and the refutation of a difference
 pub data Evidence : Type 0 where
   NoEvidence : Evidence
   Refutations : Written → (fail turn : Proof) → Evidence
@@ -38,6 +49,9 @@ pub data Evidence : Type 0 where
   RunOf : Written → Evidence
   SpentOn : Question → Proof → Evidence
   Count : ℕ → Evidence
+  Two : (first second : Written) → Evidence
+  Both : (first second : Holding) → (first_start second_start : Written) → (difference : Proof) → Evidence
+  SpentOnPair : PairQuestion → Proof → Evidence
 
 -- what a command answers: a status, a text, and evidence
 pub record Answer : Type 0 where

@@ -147,7 +147,7 @@ HeadlessClauses = (p : Program) (k : ℕ) (question : calls.Question) (cnf : Cnf
 abbrev pub headless_whole : Program → Whole
 headless_whole p = record { program = p; invariants = []; contracts = [] }
 
--- a report on a program, and what shows it; no evidence is none of any frame
+-- a report on a program, and what shows it; no evidence, and that on two functions, is none of any frame
 abbrev pub as_report : answers.Report → Report
 as_report answers.HoldsReport = HoldsReport
 as_report answers.VacuousReport = VacuousReport
@@ -158,12 +158,12 @@ as_report answers.SizeReport = SizeReport
 as_report answers.ConflictsReport = ConflictsReport
 
 abbrev pub as_evidence : calls.Evidence → Evidence
-as_evidence calls.NoEvidence = Frames []
 as_evidence (calls.Refutations w fail turn) = PassedBy (Refutations w (fail ∷ turn ∷ []))
 as_evidence (calls.EntryRefuted proof) = PassedBy (EntryRefuted proof)
 as_evidence (calls.RunOf w) = ShownBy (record { start = w; head = None; calls = [] })
 as_evidence (calls.SpentOn question proof) = SpentOn 0 (as_question question) proof
 as_evidence (calls.Count n) = Count n
+as_evidence other = Frames []
 
 -- So a report on notes without invariants and contracts is right, and is shown by its evidence, where it is so as one on their frames.
 abbrev pub HeadlessReports : Type 0

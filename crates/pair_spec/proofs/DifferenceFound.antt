@@ -10,7 +10,8 @@ use Rattle.bilv_spec.specs.Run.{Program}
 use Rattle.bilv_spec.specs.Verdict.{IsEntryState}
 use Rattle.pair_spec.specs.Links.{unlinked_line}
 use Rattle.pair_spec.specs.Pairs.{ExitsIn}
-use Rattle.pair_spec.specs.Equals.{PairAnswer, refusal, differs_words}
+use Rattle.call_spec.specs.Calls.{plain_answer, Answer}
+use Rattle.pair_spec.specs.Equals.{differs_words}
 use Rattle.pair_spec.specs.Differs.{NamedDifference, exit_by_step, exit_of_run, exit_at, by_line, by_exits, by_links, by_require, by_state, by_starts}
 use Rattle.pair_spec.specs.PairLaws.{DifferenceIsFound}
 use Rattle.bilv_spec.proofs.SameRuns.{same_run}
@@ -21,19 +22,19 @@ exit_found p k start at n s e =
     ap (exit_of_run p start) (same_run p start k (n + 1) n (omega arith) e.turns n e.place e.before).2 ∙ ap exit_by_step e.leaves
 
 -- an entry state is passed on
-state_passes : (word : List ℕ) (p : Program) (s : State) (next : PairAnswer) → IsEntryState p s → by_state word p s next ≡ next
+state_passes : (word : List ℕ) (p : Program) (s : State) (next : Answer) → IsEntryState p s → by_state word p s next ≡ next
 state_passes word p s next e =
     let link : is_place p.machine.narrow (s.regs p.machine.link) ≡ true = eq-eqb (s.regs p.machine.link % unit p.machine.narrow) 0 e.link in
     ap (λ (b : Bool). by_link b) link ∙ ap (λ o. by_require word o next) e.requires
   where
-    by_link : Bool → PairAnswer
+    by_link : Bool → Answer
     by_link b = if b then by_require word (Rattle.bilv_spec.specs.EntryFaults.false_require p s) next
-        else refusal 9 (line (codes "state: " ++ word ++ codes " link"))
+        else plain_answer 9 (line (codes "state: " ++ word ++ codes " link"))
 
 -- a line that is named as it is found
-same_line : (d : NamedDifference) → by_line d (Some d.line) ≡ refusal 0 (line (codes "replayed " ++ joined (differs_words d.line d.first d.second)))
-same_line d = ap (λ (b : Bool). if b then refusal 0 (line (codes "replayed " ++ joined (differs_words d.line d.first d.second)))
-    else refusal 9 (Rattle.pair_spec.specs.Differs.found_text d (joined (differs_words d.line d.first d.second)))) (eq-eqb d.line d.line refl)
+same_line : (d : NamedDifference) → by_line d (Some d.line) ≡ plain_answer 0 (line (codes "replayed " ++ joined (differs_words d.line d.first d.second)))
+same_line d = ap (λ (b : Bool). if b then plain_answer 0 (line (codes "replayed " ++ joined (differs_words d.line d.first d.second)))
+    else plain_answer 9 (Rattle.pair_spec.specs.Differs.found_text d (joined (differs_words d.line d.first d.second)))) (eq-eqb d.line d.line refl)
 
 pub difference_is_found : DifferenceIsFound
 difference_is_found a b k links n i j x y pair apart =

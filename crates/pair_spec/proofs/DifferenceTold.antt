@@ -21,7 +21,8 @@ use Rattle.bilv_spec.specs.Answers.{start_in}
 use Rattle.bilv_spec.specs.Points.{is_known_at}
 use Rattle.bilv_spec.proofs.StateTold.{file_layout}
 use Rattle.pair_spec.specs.Links.{Link}
-use Rattle.pair_spec.specs.Equals.{Side, DiffersReport, Two, IsRightPair, pair_text, refusal, differs_words}
+use Rattle.call_spec.specs.Calls.{plain_answer, Two}
+use Rattle.pair_spec.specs.Equals.{Side, DiffersReport, IsRightPair, pair_text, differs_words}
 use Rattle.pair_spec.specs.Differs.{named_numbers, difference_of_words, is_end, block_length, some_ending, TwoTold, TwoStates, first_told, second_told, blocks_told, by_told, by_first, by_texts, differ_answer}
 use Rattle.pair_spec.specs.PairLaws.{DifferenceReplays}
 use Rattle.pair_spec.proofs.DifferenceFound.{difference_is_found}
@@ -280,7 +281,7 @@ replays : (a b : Side) → IsLayout a.layout → IsLayout b.layout → (links : 
     IsRightPair a b links budget (DiffersReport n i j) (Two x y) → n < 2 ^ 64 → i ≤ last_step → j ≤ last_step →
     length (pair_text a b budget (DiffersReport n i j) (Two x y)) ≤ text_limit →
     differ_answer a b links (pair_text a b budget (DiffersReport n i j) (Two x y)) ≡
-    refusal 0 (line (codes "replayed " ++ joined (differs_words n i j)))
+    plain_answer 0 (line (codes "replayed " ++ joined (differs_words n i j)))
 replays a b good fine links budget n i j x y right h k l short =
     let d : List ℕ = joined (differs_words n i j) in
     let text : List ℕ = pair_text a b budget (DiffersReport n i j) (Two x y) in
@@ -289,7 +290,7 @@ replays a b good fine links budget n i j x y right h k l short =
     split_then d (block_text a.layout x ++ block_text b.layout y)
     (joined_above (codes "differs") (number_text n ∷ codes "steps" ∷ number_text i ∷ number_text j ∷ []) (words_above n i j h k l))
     ∙ ap (λ z. d ∷ z) (lines_split (map (λ z. joined (words_of_line a.layout z)) (lines_behind a.layout x)) (block_text b.layout y)) in
-    ap (λ (c : Bool). if c then refusal 9 (line (codes "state: TooLarge")) else by_texts a b links (split_lines text)) limit
+    ap (λ (c : Bool). if c then plain_answer 9 (line (codes "state: TooLarge")) else by_texts a b links (split_lines text)) limit
     ∙ ap (by_texts a b links) split
     ∙ ap (by_first a b links (split_lines (block_text a.layout x) ++ split_lines (block_text b.layout y))) (difference_said n i j h k l)
     ∙ ap (by_told a b links (record { line = n; first = i; second = j })) (both_told a b good fine x y right.3.first right.3.second)

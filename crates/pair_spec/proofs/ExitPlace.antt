@@ -31,6 +31,18 @@ if_aimed : (n : ℕ) (b : Bool) (x y : Aim) → (if b then aimed n x else aimed 
 if_aimed n true x y = refl
 if_aimed n false x y = refl
 
+-- the walk does not go on from the place of the exit
+chosen_not_at : (u : UnrolledProgram) (entry next : State) (b : Bool) (x y : Aim) → NotAt (walk_to u entry next x) → NotAt (walk_to u entry next y) →
+    NotAt (walk_to u entry next (if b then x else y))
+chosen_not_at u entry next true x y p q = p
+chosen_not_at u entry next false x y p q = q
+
+exit_not_at : (u : UnrolledProgram) (entry now next : State) (w : Bool) (l : Leaving) →
+    NotAt (walk_to u entry next (first_aim u entry now w l exit_place.exits))
+exit_not_at u entry now next w l =
+    chosen_not_at u entry next (is_taken u entry now w l Raising) _ _ tt
+    (chosen_not_at u entry next w _ _ tt (chosen_not_at u entry next (is_taken u entry now w l Unaligned) _ _ tt tt))
+
 module _ (u : UnrolledProgram) (some : 0 < length u.points) (later : ExitsLeadLater u) (r : Reading) where
   abbrev last : ℕ
   last = length u.points
@@ -134,7 +146,7 @@ module _ (u : UnrolledProgram) (some : 0 < length u.points) (later : ExitsLeadLa
   step_same (WalkFails x) w i c f e = absurd (subst NotAt e tt)
   step_same WalkTurns w i c f e = absurd (subst NotAt e tt)
 
-  walk_same : (n i : ℕ) (c : Carried) → walk u r n ≡ WalkIsAt i c → walk form r n ≡ WalkIsAt i c
+  pub walk_same : (n i : ℕ) (c : Carried) → walk u r n ≡ WalkIsAt i c → walk form r n ≡ WalkIsAt i c
   unfolding walk
   walk_same zero i c e = e
   walk_same (suc n) i c e = step_same (walk u r n) (walk form r n) i c (λ j d g. (walk_same n j d g, is_inside n j d g)) e
@@ -176,7 +188,9 @@ module _ (u : UnrolledProgram) (some : 0 < length u.points) (later : ExitsLeadLa
       walk_on form r w ≡ WalkIsAt i c → Stands (suc n) i c
   step_back n (WalkIsAt j d) i c f e =
       ⊎_elim (λ g. from_aim n j i d c g.0 (aim_at j d (left j d)) refl (sym (from_early j d g.1) ∙ e))
-      (λ g. absurd (subst NotAt (sym (ap (λ x. walk_from form r.state x (r.choice x.point) d) (ap (point_at form) g.0 ∙ at_last)) ∙ e) tt))
+      (λ g. absurd (subst NotAt (sym (ap (λ x. walk_from form r.state x (r.choice x.point) d) (ap (point_at form) g.0 ∙ at_last)) ∙ e)
+      (exit_not_at form r.state (state_at d exit_place.point.at) _ (list_any (is_in form.kept) (stored_at exit_place (r.choice exit_place.point) d))
+      (leaving exit_place (r.choice exit_place.point) d))))
       (f j d refl)
   step_back n WalkExits i c f e = absurd (subst NotAt e tt)
   step_back n (WalkFails x) i c f e = absurd (subst NotAt e tt)

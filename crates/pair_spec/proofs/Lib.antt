@@ -6,6 +6,8 @@ pub mod DifferenceFound
 pub mod DifferenceTold
 pub mod Asking
 pub mod ExitPlace
+pub mod ExitPlaces
+pub mod ExitInputs
 pub mod LeavingRuns
 pub mod LinkWords
 pub mod PairSides

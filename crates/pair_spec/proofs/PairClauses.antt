@@ -21,7 +21,8 @@ use Rattle.walk_laws.proofs.InputPlaces.{IsInputOf, place, stands_at, in_list, a
 use Rattle.walk_laws.proofs.InputReadings.{address, comes_to, comes_from, earlier, decided}
 use Rattle.walk_laws.proofs.QuestionClauses.{to_input, from_input, byte_inputs, count_append, count_most}
 use Rattle.pair_spec.specs.Links.{Link, ComparesAlike, asking}
-use Rattle.pair_spec.specs.Pairs.{PairQuestion, Readings, IsPairPrice, linked_loads, side_price, links_price}
+use Rattle.call_spec.specs.Calls.{PairQuestion}
+use Rattle.pair_spec.specs.Pairs.{Readings, IsPairPrice, linked_loads, side_price, links_price}
 use Rattle.pair_spec.specs.PairEvidence.{AreOfSide, ComeFrom, AreOfPair, behind}
 use Rattle.pair_spec.specs.PairTerms.{SideTerm, SideCells, MakesPairTrue, TellsPair, first_reading, second_reading}
 use Rattle.pair_spec.specs.PairLayers.{IsPairSide, ClausesOfPair}

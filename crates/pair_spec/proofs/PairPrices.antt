@@ -15,7 +15,8 @@ use Rattle.walk_spec.proofs.PriceSums.{cells_within}
 use Rattle.walk_laws.proofs.InputsWithin.{first_within}
 use Rattle.walk_laws.proofs.QuestionClauses.{loads_same}
 use Rattle.pair_spec.specs.Links.{Link, asking}
-use Rattle.pair_spec.specs.Pairs.{PairQuestion, added_price, linked_loads, same_bytes, shared_bytes, side_price}
+use Rattle.call_spec.specs.Calls.{PairQuestion}
+use Rattle.pair_spec.specs.Pairs.{added_price, linked_loads, same_bytes, shared_bytes, side_price}
 use Rattle.pair_spec.specs.PairTerms.{SideTerm, SideCells, added_loads}
 use Rattle.pair_spec.specs.PairLayers.{IsPairSide}
 

@@ -6,10 +6,11 @@ use Rattle.bilv_spec.specs.Run.{Program}
 use Rattle.bilv_spec.specs.Questions.{Reading, IsReading}
 use Rattle.walk_spec.specs.Terms.{TermReading}
 use Rattle.walk_spec.specs.Unrolled.{Carried, UnrolledProgram}
-use Rattle.walk_spec.specs.WalkQuestions.{HasAsked}
+use Rattle.walk_spec.specs.WalkQuestions.{MeetsLines, HasAsked}
 use Rattle.walk_laws.proofs.CellValues.{Agree}
 use Rattle.pair_spec.specs.Links.{Link, ComparesAlike, asking}
-use Rattle.pair_spec.specs.Pairs.{PairQuestion, PairOfStates, DifferenceOfExits, Readings, PairEndsBy, ReadingsDiffer, IsTrueOfPairOver}
+use Rattle.call_spec.specs.Calls.{PairQuestion, PairOfStates, DifferenceOfExits}
+use Rattle.pair_spec.specs.Pairs.{Readings, PairEndsBy, ReadingsDiffer, IsTrueOfPairOver}
 use Rattle.pair_spec.specs.PairTerms.{SideTerm, SideCells, SideEnds, WalkLeaves, ExitsAs, MakesPairTrue, same_words, words_at, all_entry_words, all_exit_words}
 use Rattle.pair_spec.specs.PairLayers.{IsPairSide}
 use Rattle.pair_spec.proofs.LeavingRuns.{IsCarriedOut}
@@ -62,13 +63,13 @@ module _ (a b : Program) (k : ℕ) (links : List Link) (question : PairQuestion)
         both_words _ _ _ _ (sides.entry_words_are a k false links question first_asked u t c one r.first is pc)
         (sides.entry_words_are b k true links question second_asked w x d two r.second si other)
 
-    exits_are : question ≡ DifferenceOfExits → (o n : Carried) (at to : ℕ) (s z : State) → WalkLeaves u r.first o at →
-        IsCarriedOut (asking false links a) s o at → WalkLeaves w r.second n to → IsCarriedOut (asking true links b) z n to →
+    exits_are : question ≡ DifferenceOfExits → (o n : Carried) (at to : ℕ) (s z : State) → MeetsLines u r.first.state → MeetsLines w r.second.state →
+        WalkLeaves u r.first o at → IsCarriedOut (asking false links a) s o at → WalkLeaves w r.second n to → IsCarriedOut (asking true links b) z n to →
         same_words (words_at (first r.first) c c.exits) (words_at (second r.second) d d.exits)
         ≡ same_words (words_in s (all_exit_words false links)) (words_in z (all_exit_words true links))
-    exits_are e o n at to s z lo co ln cn =
-        both_words _ _ _ _ (sides.exit_words_are a k false links question first_asked u t c one alike e r.first o at s is pc lo co)
-        (sides.exit_words_are b k true links question second_asked w x d two alike e r.second n to z si other ln cn)
+    exits_are e o n at to s z fl sl lo co ln cn =
+        both_words _ _ _ _ (sides.exit_words_are a k false links question first_asked u t c one alike e r.first o at s is pc fl lo co)
+        (sides.exit_words_are b k true links question second_asked w x d two alike e r.second n to z si other sl ln cn)
 
   -- readings of which the question is true have these words, and what was asked
   pub to_made : (r : Readings) → IsTruePair r →
@@ -99,7 +100,9 @@ module _ (a b : Program) (k : ℕ) (links : List Link) (question : PairQuestion)
           linked = entries_are r is si m.0 n.0 ∙ (linked_words links r.first.state r.second.state).1 h.linked;
           ends = exits_as question (words_at (first r.first) c c.exits) (words_at (second r.second) d d.exits)
               (λ e. let q = out e in let z = left e in let g = differ e in
-              exits_are r is si m.0 n.0 e q.0 z.0 q.1 z.1 g.first_state g.second_state q.2 q.3 z.2 z.3
+              exits_are r is si m.0 n.0 e q.0 z.0 q.1 z.1 g.first_state g.second_state
+              (sides.lines_are a k false links question first_asked u t c one r.first over)
+              (sides.lines_are b k true links question second_asked w x d two r.second other) q.2 q.3 z.2 z.3
               ∙ (differing_words links g.first_state g.second_state).1 (g.line, g.apart));
         },
       )
@@ -124,7 +127,9 @@ module _ (a b : Program) (k : ℕ) (links : List Link) (question : PairQuestion)
             let z = sides.exits_at b k true links question second_asked w x d two r.second si.choice n.0 q.0 q.1 q.2 in
             let apart : same_words (words_at (first r.first) c c.exits) (words_at (second r.second) d d.exits) ≡ false
             = subst (λ g. ExitsAs g (words_at (first r.first) c c.exits) (words_at (second r.second) d d.exits)) e made.ends in
-            let line = (differing_words links s.0 z.0).0 (sym (exits_are r is si pc other e o.0 q.0 o.1 q.1 s.0 z.0 o.2 s.2 q.2 z.2) ∙ apart) in
+            let line = (differing_words links s.0 z.0).0 (sym (exits_are r is si pc other e o.0 q.0 o.1 q.1 s.0 z.0
+            (sides.lines_are a k false links question first_asked u t c one r.first m.0)
+            (sides.lines_are b k true links question second_asked w x d two r.second n.0) o.2 s.2 q.2 z.2) ∙ apart) in
             record { line = line.0; first_state = s.0; second_state = z.0; first = s.1; second = z.1; apart = line.1 }));
       }
 

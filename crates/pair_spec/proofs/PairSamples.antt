@@ -21,7 +21,8 @@ use Rattle.word_spec.specs.Texts.{line}
 use Rattle.word_spec.specs.Profiles.{V4}
 use Rattle.pair_spec.specs.Links.{Link, EqualAtEntry, EqualAtExit, SharedBytes, SameBytes}
 use Rattle.pair_spec.specs.Pairs.{side_price, links_price}
-use Rattle.pair_spec.specs.Equals.{Side, refusal}
+use Rattle.call_spec.specs.Calls.{plain_answer}
+use Rattle.pair_spec.specs.Equals.{Side}
 use Rattle.pair_spec.specs.Differs.{differ_answer}
 
 -- tokens of a line; a word of a line may be a name too
@@ -97,48 +98,48 @@ arm_start r0 = record { regs = r0 ∷ replicate 14 0; flags = 0; bytes = []; cho
 abbrev report : (a0 r0 : ℕ) → List ℕ
 report a0 r0 = line (codes "differs 2 steps 1 1") ++ block_text (rv_layout false) (rv_start a0) ++ block_text (arm_layout Little V4) (arm_start r0)
 
-replayed : differ_answer first (second 0xe2800002) links (report 5 5) ≡ refusal 0 (line (codes "replayed differs 2 steps 1 1"))
+replayed : differ_answer first (second 0xe2800002) links (report 5 5) ≡ plain_answer 0 (line (codes "replayed differs 2 steps 1 1"))
 unfolding digits run table rv_row arm_row arm_rows.table
 replayed = refl
 
 -- the same report where the second function adds 1 too
 equal_found : differ_answer first (second 0xe2800001) links (report 5 5) ≡
-    refusal 9 (line (codes "replay: named differs 2 steps 1 1, found equal"))
+    plain_answer 9 (line (codes "replay: named differs 2 steps 1 1, found equal"))
 unfolding digits run table rv_row arm_row arm_rows.table
 equal_found = refl
 
 -- states that are not linked, and a register out of order in the second block: line 1, 33 lines of the first block and the second's machine come before it
-unlinked : differ_answer first (second 0xe2800002) links (report 5 6) ≡ refusal 9 (line (codes "state: links 1"))
+unlinked : differ_answer first (second 0xe2800002) links (report 5 6) ≡ plain_answer 9 (line (codes "state: links 1"))
 unfolding digits run table rv_row arm_row arm_rows.table
 unlinked = refl
 
 second_block_refused : differ_answer first (second 0xe2800002) links
     (line (codes "differs 2 steps 1 1") ++ block_text (rv_layout false) (rv_start 5) ++ line (codes "state armv4-le") ++ line (codes "r1 0x00000005"))
-    ≡ refusal 9 (line (codes "state: line 36 S2 Register"))
+    ≡ plain_answer 9 (line (codes "state: line 36 S2 Register"))
 unfolding digits run table rv_row arm_row arm_rows.table
 second_block_refused = refl
 
 -- a first block without its end is refused where the second begins
 first_block_open : differ_answer first (second 0xe2800002) links
     (line (codes "differs 2 steps 1 1") ++ line (codes "state rv32im") ++ line (codes "x1 0x00000000"))
-    ≡ refusal 9 (line (codes "state: line 4 S2 Register"))
+    ≡ plain_answer 9 (line (codes "state: line 4 S2 Register"))
 unfolding digits run table rv_row arm_row arm_rows.table
 first_block_open = refl
 
 -- an end at another step
 other_step : differ_answer first (second 0xe2800002) links
     (line (codes "differs 2 steps 0 1") ++ block_text (rv_layout false) (rv_start 5) ++ block_text (arm_layout Little V4) (arm_start 5))
-    ≡ refusal 9 (line (codes "replay: named differs 2 steps 0 1, found first running at 0x00010000 step 0"))
+    ≡ plain_answer 9 (line (codes "replay: named differs 2 steps 0 1, found first running at 0x00010000 step 0"))
 unfolding digits run table rv_row arm_row arm_rows.table
 other_step = refl
 
 -- a text without a line, and one that ends before the second block
-no_text : differ_answer first (second 0xe2800002) links [] ≡ refusal 9 (line (codes "state: line 1 S2 Register"))
+no_text : differ_answer first (second 0xe2800002) links [] ≡ plain_answer 9 (line (codes "state: line 1 S2 Register"))
 unfolding digits
 no_text = refl
 
 one_block : differ_answer first (second 0xe2800002) links (line (codes "differs 2 steps 1 1") ++ block_text (rv_layout false) (rv_start 5)) ≡
-    refusal 9 (line (codes "state: line 35 S2 Register"))
+    plain_answer 9 (line (codes "state: line 35 S2 Register"))
 unfolding digits run table rv_row arm_row arm_rows.table
 one_block = refl
 
@@ -151,12 +152,12 @@ narrow = record { program = program (rv32 true) (rv_file (0x00150513 ∷ 0x00008
 
 narrow_link : differ_answer narrow (second 0xe2800002) links
     (line (codes "differs 2 steps 1 1") ++ block_text (rv_layout true) odd_start ++ block_text (arm_layout Little V4) (arm_start 5))
-    ≡ refusal 0 (line (codes "replayed differs 2 steps 1 1"))
+    ≡ plain_answer 0 (line (codes "replayed differs 2 steps 1 1"))
 unfolding digits run table rv_row arm_row arm_rows.table
 narrow_link = refl
 
 wide_link : differ_answer first (second 0xe2800002) links
     (line (codes "differs 2 steps 1 1") ++ block_text (rv_layout false) odd_start ++ block_text (arm_layout Little V4) (arm_start 5))
-    ≡ refusal 9 (line (codes "state: first link"))
+    ≡ plain_answer 9 (line (codes "state: first link"))
 unfolding digits run table rv_row arm_row arm_rows.table
 wide_link = refl

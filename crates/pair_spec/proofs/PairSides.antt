@@ -18,7 +18,7 @@ use Rattle.bilv_spec.specs.PointLaws.{HasLawfulRows}
 use Rattle.walk_spec.specs.Terms.{TermReading, TermNode, with_mem, term_word}
 use Rattle.walk_spec.specs.Unrolled.{Carried, state_at, UnrolledProgram}
 use Rattle.walk_spec.specs.Unrolling.{IsUnrolling}
-use Rattle.walk_spec.specs.WalkQuestions.{HasAsked, term_reading}
+use Rattle.walk_spec.specs.WalkQuestions.{MeetsLines, HasAsked, term_reading}
 use Rattle.walk_spec.specs.WalkLaws.{AsksLiterals}
 use Rattle.walk_spec.specs.Cells.{AreFormed, IsAllowed, Agreement, AskedByte}
 use Rattle.walk_spec.proofs.EntrySame.{entry_over}
@@ -29,7 +29,8 @@ use Rattle.walk_laws.proofs.InputsWithin.{reading_in_range}
 use Rattle.walk_spec.specs.ClauseForm.{reading}
 use Rattle.walk_laws.proofs.InputReadings.{of, of_in_range}
 use Rattle.pair_spec.specs.Links.{Link, EqualAtEntry, EqualAtExit, SharedBytes, SameBytes, ComparesAlike, addresses, asking, compares_flag, named_by, Kind, IsRegister, IsFlag, IsNeither, kind_of, AreAlike}
-use Rattle.pair_spec.specs.Pairs.{PairQuestion, DifferenceOfExits, ReadingExitsIn}
+use Rattle.call_spec.specs.Calls.{PairQuestion, DifferenceOfExits}
+use Rattle.pair_spec.specs.Pairs.{ReadingExitsIn}
 use Rattle.pair_spec.specs.PairTerms.{SideTerm, SideCells, SideEnds, HaveWidths, WalkLeaves, all_entry_words, all_exit_words, entry_widths, exit_widths, exit_words, words_at}
 use Rattle.pair_spec.specs.PairLayers.{IsPairSide}
 use Rattle.pair_spec.proofs.Asking.{step_same, read_same, points_of}
@@ -193,13 +194,17 @@ module _ (p : Program) (k : ℕ) (side : Bool) (links : List Link) (question : P
 
   -- those at the exit are those of the state in which the run exits
   pub exit_words_are : All ComparesAlike links → question ≡ DifferenceOfExits → (r : Reading) (o : Carried) (pc : ℕ) (s : State) → IsReading r →
-      r.state.pc ≡ u.entry → WalkLeaves u r o pc → IsCarriedOut (asking side links p) s o pc → words_at (read_as r) c c.exits ≡ words_in s (all_exit_words side links)
-  exit_words_are alike e r o pc s is at leaves carried =
+      r.state.pc ≡ u.entry → MeetsLines u r.state → WalkLeaves u r o pc → IsCarriedOut (asking side links p) s o pc → words_at (read_as r) c c.exits ≡ words_in s (all_exit_words side links)
+  exit_words_are alike e r o pc s is at lines leaves carried =
       layered.cells.exits (read_as r) (of_in_range (asking side links p) k u un c.cells formed r is) (gives u c.cells formed (term_reading u r))
       ∙ same_words_of (read_as r) (term_reading u r) t.nodes t.exits (flat_map exit_widths links) (layered.term.exit_widths e) (no_base r)
-      ∙ layered.term.exit_values e r o pc is at leaves
+      ∙ layered.term.exit_values e r o pc is at lines leaves
       ∙ exit_words_same side (state_at o pc) s carried.regs carried.mem links alike
       (λ f h. carried.flags f (or_left (list_any (compares_flag side f) links) (list_any (λ l. names_flag f l.says) p.notes.ensures) h))
+
+  -- the required lines are true in an entry state over the asked bytes
+  pub lines_are : (r : Reading) → IsEntryStateOver (asking side links p) asked r.state → MeetsLines u r.state
+  lines_are r over = ((entry_over (asking side links p) k u un asked layered.asks_known r.state).1 over).lines
 
   -- a reading whose root is 1 and that has the asked bytes begins in an entry state and ends as is asked, and back
   pub from_root : (r : Reading) → IsReading r → r.state.pc ≡ u.entry → HasAsked u asked r.state.mem →

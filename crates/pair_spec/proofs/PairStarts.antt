@@ -14,7 +14,8 @@ use Rattle.walk_spec.specs.Unrolling.{IsLaidOut}
 use Rattle.walk_spec.specs.ClauseForm.{inputs, IsStartOf, IsReadingOf}
 use Rattle.walk_laws.proofs.StartReadings as starts
 use Rattle.pair_spec.specs.Links.{Link, ComparesAlike, asking}
-use Rattle.pair_spec.specs.Pairs.{PairQuestion, Readings, IsTrueOfPair}
+use Rattle.call_spec.specs.Calls.{PairQuestion}
+use Rattle.pair_spec.specs.Pairs.{Readings, IsTrueOfPair}
 use Rattle.pair_spec.specs.PairEvidence.{behind}
 use Rattle.pair_spec.specs.PairTerms.{SideTerm, SideCells, TellsPair}
 use Rattle.pair_spec.specs.PairLayers.{IsPairSide, ValuesGivePair, BrokenIsNewInPair}

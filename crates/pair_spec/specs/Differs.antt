@@ -14,7 +14,8 @@ use Rattle.bilv_spec.specs.Answers.{start_in}
 use Rattle.clause_spec.specs.Checks.{text_limit}
 use Rattle.bilv_spec.specs.Replays.{state_fault_words}
 use Rattle.pair_spec.specs.Links.{Link, unlinked_line, differing_line}
-use Rattle.pair_spec.specs.Equals.{Side, PairAnswer, refusal, differs_words}
+use Rattle.call_spec.specs.Calls.{plain_answer, Answer}
+use Rattle.pair_spec.specs.Equals.{Side, differs_words}
 
 -- the named difference: a line of the links, and the steps of the exits
 pub record NamedDifference : Type 0 where
@@ -100,34 +101,34 @@ abbrev pub found_text : NamedDifference → (ending : List ℕ) → List ℕ
 found_text d ending = line (codes "replay: named " ++ joined (differs_words d.line d.first d.second) ++ codes ", found " ++ ending)
 
 -- the answer by the first line on which the exits differ
-abbrev pub by_line : NamedDifference → Option ℕ → PairAnswer
-by_line d None = refusal 9 (found_text d (codes "equal"))
+abbrev pub by_line : NamedDifference → Option ℕ → Answer
+by_line d None = plain_answer 9 (found_text d (codes "equal"))
 by_line d (Some m) =
-    if m == d.line then refusal 0 (line (codes "replayed " ++ joined (differs_words d.line d.first d.second)))
-    else refusal 9 (found_text d (joined (differs_words m d.first d.second)))
+    if m == d.line then plain_answer 0 (line (codes "replayed " ++ joined (differs_words d.line d.first d.second)))
+    else plain_answer 9 (found_text d (joined (differs_words m d.first d.second)))
 
 -- the answer by the exits of both
-abbrev pub by_exits : (a b : Program) → List Link → NamedDifference → (x y : Start) → Option State → Option State → PairAnswer
-by_exits a b links d x y None other = refusal 9 (found_text d (side_end (codes "first") a x d.first))
-by_exits a b links d x y (Some s) None = refusal 9 (found_text d (side_end (codes "second") b y d.second))
+abbrev pub by_exits : (a b : Program) → List Link → NamedDifference → (x y : Start) → Option State → Option State → Answer
+by_exits a b links d x y None other = plain_answer 9 (found_text d (side_end (codes "first") a x d.first))
+by_exits a b links d x y (Some s) None = plain_answer 9 (found_text d (side_end (codes "second") b y d.second))
 by_exits a b links d x y (Some s) (Some t) = by_line d (differing_line links s t)
 
 -- ---- the entry states
 
-abbrev pub by_links : (a b : Program) → List Link → NamedDifference → (x y : Start) → Option ℕ → PairAnswer
-by_links a b links d x y (Some n) = refusal 9 (line (codes "state: links" ++ spaced (number_text n ∷ [])))
+abbrev pub by_links : (a b : Program) → List Link → NamedDifference → (x y : Start) → Option ℕ → Answer
+by_links a b links d x y (Some n) = plain_answer 9 (line (codes "state: links" ++ spaced (number_text n ∷ [])))
 by_links a b links d x y None = by_exits a b links d x y (exit_at a x d.first) (exit_at b y d.second)
 
-abbrev pub by_require : (word : List ℕ) → Option ℕ → PairAnswer → PairAnswer
-by_require word (Some n) next = refusal 9 (line (codes "state: " ++ word ++ codes " require" ++ spaced (number_text n ∷ [])))
+abbrev pub by_require : (word : List ℕ) → Option ℕ → Answer → Answer
+by_require word (Some n) next = plain_answer 9 (line (codes "state: " ++ word ++ codes " require" ++ spaced (number_text n ∷ [])))
 by_require word None next = next
 
-abbrev pub by_state : (word : List ℕ) → Program → State → PairAnswer → PairAnswer
+abbrev pub by_state : (word : List ℕ) → Program → State → Answer → Answer
 by_state word p s next =
     if is_place p.machine.narrow (s.regs p.machine.link) then by_require word (false_require p s) next
-    else refusal 9 (line (codes "state: " ++ word ++ codes " link"))
+    else plain_answer 9 (line (codes "state: " ++ word ++ codes " link"))
 
-abbrev pub by_starts : (a b : Side) → List Link → NamedDifference → (x y : Start) → PairAnswer
+abbrev pub by_starts : (a b : Side) → List Link → NamedDifference → (x y : Start) → Answer
 by_starts a b links d x y =
     by_state (codes "first") a.program x.state (by_state (codes "second") b.program y.state
     (by_links a.program b.program links d x y (unlinked_line links x.state y.state)))
@@ -135,24 +136,24 @@ by_starts a b links d x y =
 -- ---- the text
 
 -- the text is refused at a line
-abbrev pub refused_at : ℕ → StateFault → PairAnswer
-refused_at n f = refusal 9 (line (codes "state: line" ++ spaced (number_text n ∷ state_fault_words f ∷ [])))
+abbrev pub refused_at : ℕ → StateFault → Answer
+refused_at n f = plain_answer 9 (line (codes "state: line" ++ spaced (number_text n ∷ state_fault_words f ∷ [])))
 
 -- the answer to what the two blocks say, by what they are refused for
-abbrev pub by_told : (a b : Side) → List Link → NamedDifference → TwoTold → PairAnswer
+abbrev pub by_told : (a b : Side) → List Link → NamedDifference → TwoTold → Answer
 by_told a b links d (TwoRefused n f) = refused_at n f
 by_told a b links d (TwoStates x y) = by_starts a b links d (start_in a.program a.layout x) (start_in b.program b.layout y)
 
-abbrev pub by_first : (a b : Side) → List Link → List (List ℕ) → Option NamedDifference → PairAnswer
+abbrev pub by_first : (a b : Side) → List Link → List (List ℕ) → Option NamedDifference → Answer
 by_first a b links texts None = refused_at 1 StateLineFault
 by_first a b links texts (Some d) = by_told a b links d (blocks_told a b texts)
 
 -- a text without a line is refused as one that ends before its registers
-abbrev pub by_texts : (a b : Side) → List Link → List (List ℕ) → PairAnswer
+abbrev pub by_texts : (a b : Side) → List Link → List (List ℕ) → Answer
 by_texts a b links [] = refused_at 1 StateRegisterFault
 by_texts a b links (t ∷ texts) = by_first a b links texts (difference_of_words (words_in t))
 
 -- the answer to a report over two programs and their links
-abbrev pub differ_answer : (a b : Side) → List Link → List ℕ → PairAnswer
+abbrev pub differ_answer : (a b : Side) → List Link → List ℕ → Answer
 differ_answer a b links text =
-    if nat_lt text_limit (length text) then refusal 9 (line (codes "state: TooLarge")) else by_texts a b links (split_lines text)
+    if nat_lt text_limit (length text) then plain_answer 9 (line (codes "state: TooLarge")) else by_texts a b links (split_lines text)

@@ -7,3 +7,4 @@ pub mod Differs
 pub mod PairTerms
 pub mod PairLaws
 pub mod PairLayers
+pub mod ExitPlaces

@@ -8,7 +8,8 @@ use Rattle.bilv_spec.specs.Points.{Point, ArePoints, is_known_at}
 use Rattle.bilv_spec.specs.Questions.{Reading, IsReading}
 use Rattle.bilv_spec.specs.Evidence.{Input, OfByte, is_of_byte, AreInputs, Addresses, ComesFrom, AgreeOnFirst, AgreesOn, loads_among}
 use Rattle.pair_spec.specs.Links.{Link}
-use Rattle.pair_spec.specs.Pairs.{PairQuestion, PairOfStates, DifferenceOfExits, Readings, IsLinkedPair, IsTrueOfPairOver, IsPairPrice, linked_loads}
+use Rattle.call_spec.specs.Calls.{PairQuestion, PairOfStates, DifferenceOfExits}
+use Rattle.pair_spec.specs.Pairs.{Readings, IsLinkedPair, IsTrueOfPairOver, IsPairPrice, linked_loads}
 
 -- The inputs of one side, within its byte loads and those of the links; the bytes of its file that are asked; and the addresses of its base reads, each of
 -- which is decided by the inputs of this side that stand before it.

@@ -13,7 +13,8 @@ use Rattle.bilv_spec.specs.Points.{Point, IsPoint}
 use Rattle.bilv_spec.specs.Questions.{Reading, read_run}
 use Rattle.pair_spec.specs.Links.{Link}
 use Rattle.pair_spec.specs.Pairs.{ExitsIn, IsLinkedPair, ArePairedStarts, ExitApart, AreEqual, AreDifferent}
-use Rattle.pair_spec.specs.Equals.{Side, DiffersReport, Two, IsRightPair, pair_text, refusal, differs_words}
+use Rattle.call_spec.specs.Calls.{plain_answer, Two}
+use Rattle.pair_spec.specs.Equals.{Side, DiffersReport, IsRightPair, pair_text, differs_words}
 use Rattle.pair_spec.specs.Differs.{by_starts, differ_answer}
 
 -- A run that has exited did so by the step that it names, in a state; and one that exits in a state by a step has exited after it.
@@ -47,7 +48,7 @@ AskingIsFree = (p : Program) (out : ℕ → Bool) (k : ℕ) →
 abbrev pub DifferenceIsFound : Type 0
 DifferenceIsFound = (a b : Side) (k : ℕ) (links : List Link) (n i j : ℕ) (x y : Start) → ArePairedStarts a.program b.program links x y →
     ExitApart a.program b.program k links x y n i j →
-    by_starts a b links (record { line = n; first = i; second = j }) x y ≡ refusal 0 (line (codes "replayed " ++ joined (differs_words n i j)))
+    by_starts a b links (record { line = n; first = i; second = j }) x y ≡ plain_answer 0 (line (codes "replayed " ++ joined (differs_words n i j)))
 
 -- The text of a right difference, whose numbers can be written and which is no longer than texts may be, is replayed.
 abbrev pub DifferenceReplays : Type 0
@@ -57,4 +58,4 @@ DifferenceReplays = (o : Options) (file other : List ℕ) (p q : Program) (links
     IsRightPair a b links budget (DiffersReport n i j) (Two x y) → n < 2 ^ 64 → i ≤ last_step → j ≤ last_step →
     length (pair_text a b budget (DiffersReport n i j) (Two x y)) ≤ text_limit →
     differ_answer a b links (pair_text a b budget (DiffersReport n i j) (Two x y)) ≡
-    refusal 0 (line (codes "replayed " ++ joined (differs_words n i j)))
+    plain_answer 0 (line (codes "replayed " ++ joined (differs_words n i j)))

@@ -13,7 +13,8 @@ use Rattle.walk_spec.specs.ClauseForm.{inputs, IsBroken, IsStartOf, IsReadingOf}
 use Rattle.walk_spec.specs.WalkLaws.{AsksKnown, AsksLiterals}
 use Rattle.walk_laws.specs.Layers.{IsFitting}
 use Rattle.pair_spec.specs.Links.{Link, ComparesAlike, asking}
-use Rattle.pair_spec.specs.Pairs.{PairQuestion, Readings, IsTrueOfPair}
+use Rattle.call_spec.specs.Calls.{PairQuestion}
+use Rattle.pair_spec.specs.Pairs.{Readings, IsTrueOfPair}
 use Rattle.pair_spec.specs.PairEvidence.{behind, AreOfPair}
 use Rattle.pair_spec.specs.PairTerms.{SideTerm, SideCells, TellsSide, TellsSideCells, first_reading, second_reading, TellsPair}
 

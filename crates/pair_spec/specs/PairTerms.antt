@@ -13,11 +13,12 @@ use Rattle.walk_spec.specs.Unrolled.{Carried, UnrolledProgram, UnrolledPoint, Po
 use Rattle.walk_spec.specs.Sweep.{held}
 use Rattle.walk_spec.specs.Passive.{Names, AreNames, Denotes, Tells, UnderAll}
 use Rattle.walk_spec.specs.WalkQuestions.{MeetsLines, HasAsked, Room, AreTermsWithin, term_reading}
-use Rattle.walk_spec.specs.Prices.{term_price, loads_of, stores_of, edges_of, known_of, node_bound}
+use Rattle.walk_spec.specs.Prices.{term_price, loads_of, stores_of, edges_of, known_of, node_bound, variables_of}
 use Rattle.walk_spec.specs.Cells.{Cells, AreFormed, Gives, IsAllowed, cell_gates}
 use Rattle.walk_spec.specs.ClauseForm.{inputs, reading}
 use Rattle.pair_spec.specs.Links.{Link, EqualAtEntry, EqualAtExit, SharedBytes, SameBytes, addresses, named_by}
-use Rattle.pair_spec.specs.Pairs.{PairQuestion, PairOfStates, DifferenceOfExits, shared_bytes, same_bytes}
+use Rattle.call_spec.specs.Calls.{PairQuestion, PairOfStates, DifferenceOfExits}
+use Rattle.pair_spec.specs.Pairs.{shared_bytes, same_bytes}
 use Rattle.pair_spec.specs.PairEvidence.{behind}
 
 -- ---- the exit as a place
@@ -55,17 +56,18 @@ exit_aimed n Raising = Raising
 exit_aimed n WritingKept = WritingKept
 exit_aimed n Unaligned = Unaligned
 
--- the place of the exit, at which nothing is done
+-- The place of the exit, at which nothing is done: that of a row without statements and edges. Its point counts more backward transfers than a budget allows, so
+-- that it is none of a program's points.
 abbrev pub exit_place : UnrolledPoint
 exit_place = record {
-  point = record { turns = 0; stack = []; at = 0 };
+  point = record { turns = 4097; stack = []; at = 0 };
   length = 4;
   does = Executes Empty;
   draws = false;
   row = 64;
   loads = 0;
   stores = 0;
-  exits = [];
+  exits = Raising ∷ WritingKept ∷ Unaligned ∷ [];
 }
 
 -- a point whose exits are aimed so
@@ -151,13 +153,15 @@ exits_of u = length (filter (λ q. list_any goes_out q.exits) u.points)
 abbrev pub added_loads : List Link → UnrolledProgram → ℕ
 added_loads links u = shared_bytes links + same_bytes links * exits_of u
 
--- the room of a side: that of a question, with the loads of the links, and 4 nodes for each line, each byte of a range, and each byte that is to be the same
--- at each point that may exit
+-- The room of a side: that of a question, with the loads of the links, and nodes: 4 for each variable, which the exit and the links name once more, and 128 for
+-- the exit's place; 4 for each line, each byte of a range, and each byte that is to be the same at each point that may exit, four times.
 abbrev pub side_room : List Link → UnrolledProgram → Room
 side_room links u = record {
   gates = term_price u - 1;
   loads = loads_of u + added_loads links u;
-  nodes = node_bound u + 4 * (4 * (length links + shared_bytes links + same_bytes links) + 4 * (same_bytes links * exits_of u));
+  nodes =
+      node_bound u
+      + 4 * (variables_of u + 32 + 4 * (length links + shared_bytes links + same_bytes links) + 4 * (same_bytes links * exits_of u));
 }
 
 -- what the bit says, but for the bytes of the file
@@ -165,7 +169,7 @@ abbrev pub SideEnds : UnrolledProgram → Reading → PairQuestion → Type 0
 SideEnds u r PairOfStates = Unit {0}
 SideEnds u r DifferenceOfExits = (out : Carried) × (pc : ℕ) × WalkLeaves u r out pc
 
--- The terms of a side. The exit's words count only where the walk leaves.
+-- The terms of a side. The exit's words count only where the required lines are true and the walk leaves.
 pub record TellsSide (u : UnrolledProgram) (second : Bool) (links : List Link) (question : PairQuestion) (t : SideTerm) : Type 0 where
   pub terms : AreTermsWithin u (side_room links u) t.nodes
   pub root : HasWidth t.nodes 1 t.root
@@ -175,7 +179,7 @@ pub record TellsSide (u : UnrolledProgram) (second : Bool) (links : List Link) (
   pub exit_widths : question ≡ DifferenceOfExits → HaveWidths t.nodes t.exits (flat_map exit_widths links)
   pub entry_values : (r : Reading) → IsReading r → r.state.pc ≡ u.entry →
       HaveWords (term_reading u r) t.nodes t.entries (map (λ f. f r.state) (all_entry_words second links))
-  pub exit_values : question ≡ DifferenceOfExits → (r : Reading) (out : Carried) (pc : ℕ) → IsReading r → r.state.pc ≡ u.entry → WalkLeaves u r out pc →
+  pub exit_values : question ≡ DifferenceOfExits → (r : Reading) (out : Carried) (pc : ℕ) → IsReading r → r.state.pc ≡ u.entry → MeetsLines u r.state → WalkLeaves u r out pc →
       HaveWords (term_reading u r) t.nodes t.exits (map (λ f. f (state_at out pc)) (all_exit_words second links))
 
 -- ---- cells of a side: those of a question, whose words have places too

@@ -4,6 +4,7 @@ use Rattle.std.specs.List.{list_any}
 use Rattle.word_spec.specs.State.{State}
 use Rattle.bilv_spec.specs.Run.{Program, Place, Going, Exits, run, step}
 use Rattle.machine_spec.specs.Endings.{Start}
+use Rattle.call_spec.specs.Calls.{PairQuestion, PairOfStates, DifferenceOfExits}
 use Rattle.bilv_spec.specs.Verdict.{IsEntryState, IsStart}
 use Rattle.bilv_spec.specs.Points.{Point, ArePoints, HasMore, IsCount, edges, is_exit, file_row, stores_at, is_known_at, begins_run, price_of}
 use Rattle.bilv_spec.specs.Questions.{Reading, IsEntryStateOver, by_file, point_of, read_run}
@@ -63,10 +64,6 @@ abbrev pub AreDifferent : (a b : Program) → (k : ℕ) → List Link → Type 0
 AreDifferent a b k links = (x y : Start) × (line m n : ℕ) × ArePairedStarts a b links x y × ExitApart a b k links x y line m n
 
 -- ---- the two questions
-
-pub data PairQuestion : Type 0 where
-  PairOfStates : PairQuestion
-  DifferenceOfExits : PairQuestion
 
 -- a reading of each side
 pub record Readings : Type 0 where

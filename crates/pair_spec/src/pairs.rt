@@ -1,4 +1,5 @@
 //! Laws of links, and of runs and walks of two functions.
+ghost use Rattle.pair_spec.specs.ExitPlaces.{ExitIsOwn, ExitPlaceCosts, ExitPlacePairs, ExitPlaceReads, ExitPlaceRooms, ExitPlaceStarts, ExitPlaceTerms, ExitPlaceWalks};
 ghost use Rattle.pair_spec.specs.LinkLaws.{LinksCompareAlike, LinksHaveNoFault, OneLinkFault, OneLinks};
 ghost use Rattle.pair_spec.specs.PairLaws.{AskingIsFree, DifferenceIsFound, DifferenceReplays, EqualNotDifferent, NotDifferentIsEqual, OneExit, RunHasExit};
 ghost use Rattle.pair_spec.specs.PairLayers.{BrokenIsNewInPair, ClausesOfPair, ValuesGivePair};
@@ -77,4 +78,44 @@ pub fn values_give_pair()
 /// A known byte that satisfying values have not on one of the sides was not asked there.
 pub fn broken_is_new_in_pair()
     ensures { BrokenIsNewInPair }
+{}
+
+/// The form with the exit as a place can be made terms where the program can.
+pub fn exit_place_walks()
+    ensures { ExitPlaceWalks }
+{}
+
+/// The form costs no more stores, edges and known bytes than the program, and it evaluates no ensure lines.
+pub fn exit_place_costs()
+    ensures { ExitPlaceCosts }
+{}
+
+/// The points of the form have the ensure lines less than those of the program, and the last place more.
+pub fn exit_place_rooms()
+    ensures { ExitPlaceRooms }
+{}
+
+/// The form has the program's inputs, which nodes name and cells read alike.
+pub fn exit_place_reads()
+    ensures { ExitPlaceReads }
+{}
+
+/// Terms of the form have the values that they have as terms of the program.
+pub fn exit_place_terms()
+    ensures { ExitPlaceTerms }
+{}
+
+/// Clauses that tell the cells of both forms tell those of both programs.
+pub fn exit_place_pairs()
+    ensures { ExitPlacePairs }
+{}
+
+/// A program has its own exit where the exit's place counts more backward transfers than its points may have.
+pub fn exit_is_own()
+    ensures { ExitIsOwn }
+{}
+
+/// A start of values for the form is one for the program, but for choices at a step that only the form has.
+pub fn exit_place_starts()
+    ensures { ExitPlaceStarts }
 {}

@@ -1,0 +1,5 @@
+use Rattle.pair_spec.proofs.ExitInputs.{exit_place_pairs}
+use Rattle.pair_spec.proofs.pairs.exit_place_pairs.Goals as goal
+
+pub returns : goal.returns
+returns c = exit_place_pairs
