@@ -1,0 +1,6 @@
+//! A function that is compared with another.
+#![tactic(auto)]
+
+mod sides;
+
+pub use sides::Sided;
