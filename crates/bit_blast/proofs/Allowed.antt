@@ -37,29 +37,29 @@ implies_from w a b f = by (w == 1) refl
     by false i = refl
 
 -- what the words of cells and the bytes of reads are under a valuation
-pub record AreMeant (c : Cells) (p : InputPlaces) (ws : List (Vec Bit)) (v : ℕ → Bool) (x : TermReading) : Type 0 where
+pub record AreMeant (c : Cells) (p : InputPlaces) (bits : List Bit) (ws : List (Vec Bit)) (v : ℕ → Bool) (x : TermReading) : Type 0 where
   pub words : (t : ℕ) → t < length c.nodes → (value_at (values_of v ws) t).word ≡ term_word x c.nodes t
-  pub bytes : (j : ℕ) → j < p.reads → byte_at p v j ≡ x.base j
+  pub bytes : (j : ℕ) → j < p.reads → byte_at p bits v j ≡ x.base j
 
-module _ (c : Cells) (p : InputPlaces) (ws : List (Vec Bit)) (v : ℕ → Bool) (x : TermReading) (m : AreMeant c p ws v x) where
-  agrees_to : (a : Agreement) → a.condition.0 < length c.nodes → a.read < p.reads → a.other < p.reads → agrees_at p ws v a ≡ true → Agrees c x (agreement_of a)
+module _ (c : Cells) (p : InputPlaces) (bits : List Bit) (ws : List (Vec Bit)) (v : ℕ → Bool) (x : TermReading) (m : AreMeant c p bits ws v x) where
+  agrees_to : (a : Agreement) → a.condition.0 < length c.nodes → a.read < p.reads → a.other < p.reads → agrees_at p bits ws v a ≡ true → Agrees c x (agreement_of a)
   agrees_to a l r o h e =
-      sym (m.bytes a.read r) ∙ implies_to (value_at (values_of v ws) a.condition.0).word (byte_at p v a.read) (byte_at p v a.other) h
+      sym (m.bytes a.read r) ∙ implies_to (value_at (values_of v ws) a.condition.0).word (byte_at p bits v a.read) (byte_at p bits v a.other) h
       (m.words a.condition.0 l ∙ e) ∙ m.bytes a.other o
 
   agrees_from : (a : Agreement) → a.condition.0 < length c.nodes → a.read < p.reads → a.other < p.reads → Agrees c x (agreement_of a) →
-      agrees_at p ws v a ≡ true
+      agrees_at p bits ws v a ≡ true
   agrees_from a l r o f =
-      implies_from (value_at (values_of v ws) a.condition.0).word (byte_at p v a.read) (byte_at p v a.other)
+      implies_from (value_at (values_of v ws) a.condition.0).word (byte_at p bits v a.read) (byte_at p bits v a.other)
       (λ e. m.bytes a.read r ∙ f (sym (m.words a.condition.0 l) ∙ e) ∙ sym (m.bytes a.other o))
 
-  asked_to : (a : AskedByte) → a.condition.0 < length c.nodes → a.read < p.reads → asked_at p ws v a ≡ true → HasByte c x (asked_of a)
-  asked_to a l r h e = sym (m.bytes a.read r) ∙ implies_to (value_at (values_of v ws) a.condition.0).word (byte_at p v a.read) a.byte h
+  asked_to : (a : AskedByte) → a.condition.0 < length c.nodes → a.read < p.reads → asked_at p bits ws v a ≡ true → HasByte c x (asked_of a)
+  asked_to a l r h e = sym (m.bytes a.read r) ∙ implies_to (value_at (values_of v ws) a.condition.0).word (byte_at p bits v a.read) a.byte h
       (m.words a.condition.0 l ∙ e)
 
-  asked_from : (a : AskedByte) → a.condition.0 < length c.nodes → a.read < p.reads → HasByte c x (asked_of a) → asked_at p ws v a ≡ true
+  asked_from : (a : AskedByte) → a.condition.0 < length c.nodes → a.read < p.reads → HasByte c x (asked_of a) → asked_at p bits ws v a ≡ true
   asked_from a l r f =
-      implies_from (value_at (values_of v ws) a.condition.0).word (byte_at p v a.read) a.byte (λ e. m.bytes a.read r ∙ f (sym (m.words a.condition.0 l) ∙ e))
+      implies_from (value_at (values_of v ws) a.condition.0).word (byte_at p bits v a.read) a.byte (λ e. m.bytes a.read r ∙ f (sym (m.words a.condition.0 l) ∙ e))
 
   -- what is formed of an agreement, and of an asked byte
   abbrev FormedAgreement : walk.Agreement → Type 0
@@ -69,40 +69,40 @@ module _ (c : Cells) (p : InputPlaces) (ws : List (Vec Bit)) (v : ℕ → Bool) 
   FormedByte a = HasWidth c.nodes 1 a.condition × (a.read < length c.addresses) × (a.byte < 256)
 
   pub all_agree : (xs : List Agreement) → p.reads ≡ length c.addresses → ((a : walk.Agreement) → Contains (map agreement_of xs) a → FormedAgreement a) →
-      list_all (agrees_at p ws v) xs ≡ true → (a : walk.Agreement) → Contains (map agreement_of xs) a → Agrees c x a
+      list_all (agrees_at p bits ws v) xs ≡ true → (a : walk.Agreement) → Contains (map agreement_of xs) a → Agrees c x a
   all_agree [] r f h a k = absurd (omega (arith, k.1))
   all_agree (y ∷ ys) r f h a (zero, k, e) =
       let q = f (agreement_of y) (0, omega arith, refl) in
-      subst (Agrees c x) e (agrees_to y q.0.0 (omega (arith, q.1)) (omega (arith, q.2)) (and_parts (agrees_at p ws v y) (list_all (agrees_at p ws v) ys) h).0)
+      subst (Agrees c x) e (agrees_to y q.0.0 (omega (arith, q.1)) (omega (arith, q.2)) (and_parts (agrees_at p bits ws v y) (list_all (agrees_at p bits ws v) ys) h).0)
   all_agree (y ∷ ys) r f h a (suc i, k, e) =
-      all_agree ys r (λ b n. f b (suc n.0, (let l = n.1 in omega arith), n.2)) (and_parts (agrees_at p ws v y) (list_all (agrees_at p ws v) ys) h).1 a
+      all_agree ys r (λ b n. f b (suc n.0, (let l = n.1 in omega arith), n.2)) (and_parts (agrees_at p bits ws v y) (list_all (agrees_at p bits ws v) ys) h).1 a
       (i, omega arith, e)
 
   pub agree_all : (xs : List Agreement) → p.reads ≡ length c.addresses → ((a : walk.Agreement) → Contains (map agreement_of xs) a → FormedAgreement a) →
-      ((a : walk.Agreement) → Contains (map agreement_of xs) a → Agrees c x a) → list_all (agrees_at p ws v) xs ≡ true
+      ((a : walk.Agreement) → Contains (map agreement_of xs) a → Agrees c x a) → list_all (agrees_at p bits ws v) xs ≡ true
   agree_all [] r f h = refl
   agree_all (y ∷ ys) r f h =
       let q = f (agreement_of y) (0, omega arith, refl) in
-      and_from (agrees_at p ws v y) (list_all (agrees_at p ws v) ys)
+      and_from (agrees_at p bits ws v y) (list_all (agrees_at p bits ws v) ys)
       (agrees_from y q.0.0 (omega (arith, q.1)) (omega (arith, q.2)) (h (agreement_of y) (0, omega arith, refl)))
       (agree_all ys r (λ b n. f b (suc n.0, (let l = n.1 in omega arith), n.2)) (λ b n. h b (suc n.0, (let l = n.1 in omega arith), n.2)))
 
   pub all_asked : (xs : List AskedByte) → p.reads ≡ length c.addresses → ((a : walk.AskedByte) → Contains (map asked_of xs) a → FormedByte a) →
-      list_all (asked_at p ws v) xs ≡ true → (a : walk.AskedByte) → Contains (map asked_of xs) a → HasByte c x a
+      list_all (asked_at p bits ws v) xs ≡ true → (a : walk.AskedByte) → Contains (map asked_of xs) a → HasByte c x a
   all_asked [] r f h a k = absurd (omega (arith, k.1))
   all_asked (y ∷ ys) r f h a (zero, k, e) =
       let q = f (asked_of y) (0, omega arith, refl) in
-      subst (HasByte c x) e (asked_to y q.0.0 (omega (arith, q.1)) (and_parts (asked_at p ws v y) (list_all (asked_at p ws v) ys) h).0)
+      subst (HasByte c x) e (asked_to y q.0.0 (omega (arith, q.1)) (and_parts (asked_at p bits ws v y) (list_all (asked_at p bits ws v) ys) h).0)
   all_asked (y ∷ ys) r f h a (suc i, k, e) =
-      all_asked ys r (λ b n. f b (suc n.0, (let l = n.1 in omega arith), n.2)) (and_parts (asked_at p ws v y) (list_all (asked_at p ws v) ys) h).1 a
+      all_asked ys r (λ b n. f b (suc n.0, (let l = n.1 in omega arith), n.2)) (and_parts (asked_at p bits ws v y) (list_all (asked_at p bits ws v) ys) h).1 a
       (i, omega arith, e)
 
   pub asked_all : (xs : List AskedByte) → p.reads ≡ length c.addresses → ((a : walk.AskedByte) → Contains (map asked_of xs) a → FormedByte a) →
-      ((a : walk.AskedByte) → Contains (map asked_of xs) a → HasByte c x a) → list_all (asked_at p ws v) xs ≡ true
+      ((a : walk.AskedByte) → Contains (map asked_of xs) a → HasByte c x a) → list_all (asked_at p bits ws v) xs ≡ true
   asked_all [] r f h = refl
   asked_all (y ∷ ys) r f h =
       let q = f (asked_of y) (0, omega arith, refl) in
-      and_from (asked_at p ws v y) (list_all (asked_at p ws v) ys) (asked_from y q.0.0 (omega (arith, q.1)) (h (asked_of y) (0, omega arith, refl)))
+      and_from (asked_at p bits ws v y) (list_all (asked_at p bits ws v) ys) (asked_from y q.0.0 (omega (arith, q.1)) (h (asked_of y) (0, omega arith, refl)))
       (asked_all ys r (λ b n. f b (suc n.0, (let l = n.1 in omega arith), n.2)) (λ b n. h b (suc n.0, (let l = n.1 in omega arith), n.2)))
 
 -- ---- what is formed can be tied

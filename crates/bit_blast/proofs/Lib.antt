@@ -1,4 +1,5 @@
 pub mod Lists
+pub mod Seen
 pub mod NextNode
 pub mod TiedBits
 pub mod InputNumbers

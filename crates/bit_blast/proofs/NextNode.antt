@@ -17,7 +17,7 @@ use Rattle.word_gates.proofs.Words.{no_bit}
 use Rattle.term_dag.specs.Readings.{AreWords}
 use Rattle.term_dag.proofs.ListLaws.{keeps, values_append, length_values, longer, last, typed_before}
 use Rattle.bit_blast.specs.declared.input_places.InputPlaces.{InputPlaces}
-use Rattle.bit_blast.specs.Places.{IsReadingAt}
+use Rattle.bit_blast.specs.Places.{IsReadingAt, seen}
 use Rattle.bit_blast.specs.BitWords.{AreBlasted, numbers, values_of, shapes}
 use Rattle.bit_blast.proofs.Lists.{word_is, within_then}
 
@@ -107,21 +107,21 @@ widths_push (u ∷ ws) [] w n c h e t l = absurd (omega arith)
 widths_push (u ∷ ws) (m ∷ ns) w n c h e zero l = h 0 (omega arith)
 widths_push (u ∷ ws) (m ∷ ns) w n c h e (suc t) l = widths_push ws ns w n (omega arith) (λ i k. h (suc i) (omega arith)) e t (omega arith)
 
-alike : (p : InputPlaces) (a b : Netlist) (ns : List TermNode) (ws : List (Vec Bit)) → AreBlasted p a b ns ws → Alike (shapes ws) ns
-alike p a b ns ws h = record { count = length-map ws (λ (w : Vec Bit). ConstantNode (length w.items) 0) ∙ h.count; widths = h.widths }
+alike : (p : InputPlaces) (bits : List Bit) (a b : Netlist) (ns : List TermNode) (ws : List (Vec Bit)) → AreBlasted p bits a b ns ws → Alike (shapes ws) ns
+alike p bits a b ns ws h = record { count = length-map ws (λ (w : Vec Bit). ConstantNode (length w.items) 0) ∙ h.count; widths = h.widths }
 
 -- a node is typed over the words of those before it
-pub typed_next : (p : InputPlaces) (a b : Netlist) (ns : List TermNode) (i : ℕ) (n : TermNode) (ws : List (Vec Bit)) → AreTyped ns → i < length ns →
-    n ≡ node_at ns i → AreBlasted p a b (take i ns) ws →
+pub typed_next : (p : InputPlaces) (bits : List Bit) (a b : Netlist) (ns : List TermNode) (i : ℕ) (n : TermNode) (ws : List (Vec Bit)) → AreTyped ns → i < length ns →
+    n ≡ node_at ns i → AreBlasted p bits a b (take i ns) ws →
     IsTypedOver (shapes ws) n
-typed_next p a b ns i n ws t l e h = typed_alike (shapes ws) (take i ns) (alike p a b (take i ns) ws h) n (typed_before ns i n t l e)
+typed_next p bits a b ns i n ws t l e h = typed_alike (shapes ws) (take i ns) (alike p bits a b (take i ns) ws h) n (typed_before ns i n t l e)
 
-blasted_push : (p : InputPlaces) (a b c : Netlist) (ns : List TermNode) (n : TermNode) (ws : List (Vec Bit)) (w : Vec Bit) → IsTypedOver ns n → IsOfWords n →
-    AreBlasted p a b ns ws →
+blasted_push : (p : InputPlaces) (bits : List Bit) (a b c : Netlist) (ns : List TermNode) (n : TermNode) (ws : List (Vec Bit)) (w : Vec Bit) → IsTypedOver ns n → IsOfWords n →
+    AreBlasted p bits a b ns ws →
     IsWord b c (own_gates n) (width_of n) w.items →
-    ((v : ℕ → Bool) (x : TermReading) → Holds v c → IsReadingAt p v x → number v w.items ≡ (node_value x (values_of v ws) n).word) →
-    AreBlasted p a c (ns ++ n ∷ []) (ws ++ w ∷ [])
-blasted_push p a b c ns n ws w t o h m f = record {
+    ((v : ℕ → Bool) (x : TermReading) → Holds v c → IsReadingAt p (seen bits v) x → number v w.items ≡ (node_value x (values_of v ws) n).word) →
+    AreBlasted p bits a c (ns ++ n ∷ []) (ws ++ w ∷ [])
+blasted_push p bits a b c ns n ws w t o h m f = record {
   grows = grows_then _ h.grows m.grows (omega (arith, gates_push ns n));
   within = within_then (next b) (next c) ws w h.within m.grows.more m.within;
   count = omega (arith, length_push ws w, length_push ns n, h.count);
@@ -133,14 +133,14 @@ blasted_push p a b c ns n ws w t o h m f = record {
       (λ i l. word_is v ws i ∙ q.each i l)));
 }
 
-pub blasted_more : (p : InputPlaces) (a b c : Netlist) (ns : List TermNode) (i : ℕ) (n : TermNode) (ws : List (Vec Bit)) (w : Vec Bit) → AreTyped ns →
+pub blasted_more : (p : InputPlaces) (bits : List Bit) (a b c : Netlist) (ns : List TermNode) (i : ℕ) (n : TermNode) (ws : List (Vec Bit)) (w : Vec Bit) → AreTyped ns →
     i < length ns → n ≡ node_at ns i → IsOfWords n →
-    AreBlasted p a b (take i ns) ws → IsWord b c (own_gates n) (width_of n) w.items →
-    ((v : ℕ → Bool) (x : TermReading) → Holds v c → IsReadingAt p v x → number v w.items ≡ (node_value x (values_of v ws) n).word) →
-    AreBlasted p a c (take (i + 1) ns) (ws ++ w ∷ [])
-blasted_more p a b c ns i n ws w t l e o h m f =
-    subst (λ (z : List TermNode). AreBlasted p a c z (ws ++ w ∷ [])) (ap (λ z. take i ns ++ z ∷ []) e ∙ sym (take_more ns i MemoryNode l))
-    (blasted_push p a b c (take i ns) n ws w (typed_before ns i n t l e) o h m f)
+    AreBlasted p bits a b (take i ns) ws → IsWord b c (own_gates n) (width_of n) w.items →
+    ((v : ℕ → Bool) (x : TermReading) → Holds v c → IsReadingAt p (seen bits v) x → number v w.items ≡ (node_value x (values_of v ws) n).word) →
+    AreBlasted p bits a c (take (i + 1) ns) (ws ++ w ∷ [])
+blasted_more p bits a b c ns i n ws w t l e o h m f =
+    subst (λ (z : List TermNode). AreBlasted p bits a c z (ws ++ w ∷ [])) (ap (λ z. take i ns ++ z ∷ []) e ∙ sym (take_more ns i MemoryNode l))
+    (blasted_push p bits a b c (take i ns) n ws w (typed_before ns i n t l e) o h m f)
 
 -- the condition of one bit
 pub one_bit : (v : ℕ → Bool) (bs : List Bit) (x y : ℕ) → length bs ≡ 1 → cond (bit_value v (get_or bs 0 no_bit)) x y ≡ select (number v bs) x y
@@ -164,8 +164,8 @@ node_in [] t n l e = absurd (omega arith)
 node_in (m ∷ ns) zero n l e = (0, omega arith, sym e)
 node_in (m ∷ ns) (suc t) n l e = let q = node_in ns t n (omega arith) e in (suc q.0, let k = q.1 in omega arith, q.2)
 
-pub blasted_none : (p : InputPlaces) (a : Netlist) (ns : List TermNode) (ws : List (Vec Bit)) → ws ≡ [] → AreBlasted p a a (take 0 ns) ws
-blasted_none p a ns ws e = subst (AreBlasted p a a []) (sym e) (record {
+pub blasted_none : (p : InputPlaces) (bits : List Bit) (a : Netlist) (ns : List TermNode) (ws : List (Vec Bit)) → ws ≡ [] → AreBlasted p bits a a (take 0 ns) ws
+blasted_none p bits a ns ws e = subst (AreBlasted p bits a a []) (sym e) (record {
   grows = grows_none a 0;
   within = record { each = λ k d l. absurd (omega arith) };
   count = refl;
@@ -173,9 +173,9 @@ blasted_none p a ns ws e = subst (AreBlasted p a a []) (sym e) (record {
   values = λ v x g r. record { count = refl; each = λ t l. absurd (omega arith) };
 })
 
-pub blasted_all : (p : InputPlaces) (a b : Netlist) (ns : List TermNode) (i : ℕ) (ws : List (Vec Bit)) → length ns ≤ i → AreBlasted p a b (take i ns) ws →
-    AreBlasted p a b ns ws
-blasted_all p a b ns i ws l h = subst (λ (z : List TermNode). AreBlasted p a b z ws) (take_all i ns l) h
+pub blasted_all : (p : InputPlaces) (bits : List Bit) (a b : Netlist) (ns : List TermNode) (i : ℕ) (ws : List (Vec Bit)) → length ns ≤ i → AreBlasted p bits a b (take i ns) ws →
+    AreBlasted p bits a b ns ws
+blasted_all p bits a b ns i ws l h = subst (λ (z : List TermNode). AreBlasted p bits a b z ws) (take_all i ns l) h
 
 -- a word that took no gates
 pub no_gates : (a : Netlist) (w : ℕ) (bs : List Bit) → Within (next a) bs → length bs ≡ w → IsWord a a 0 w bs

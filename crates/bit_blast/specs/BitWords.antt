@@ -7,7 +7,7 @@ use Rattle.gates.specs.Circuits.{Netlist, next, Holds, Grows, Within}
 use Rattle.term_dag.specs.Readings.{AreWords}
 use Rattle.word_gates.specs.Numbers.{number}
 use Rattle.bit_blast.specs.declared.input_places.InputPlaces.{InputPlaces}
-use Rattle.bit_blast.specs.Places.{IsReadingAt}
+use Rattle.bit_blast.specs.Places.{IsReadingAt, seen}
 
 -- the numbers of words under a valuation
 abbrev pub numbers : (ℕ → Bool) → List (Vec Bit) → List ℕ
@@ -25,10 +25,11 @@ shapes ws = map (λ w. ConstantNode (length w.items) 0) ws
 pub record AreWithin (n : ℕ) (ws : List (Vec Bit)) : Type 0 where
   pub each : All (λ (w : Vec Bit). Within n w.items) ws
 
--- The words are those of the terms of a list, made from one circuit in another: under every valuation that this one allows they have the values of the terms.
-pub record AreBlasted (p : InputPlaces) (old new : Netlist) (nodes : List TermNode) (ws : List (Vec Bit)) : Type 0 where
+-- The words are those of the terms of a list, made from one circuit in another, where bits stand for the inputs: under every valuation that this one allows
+-- they have the values of the terms.
+pub record AreBlasted (p : InputPlaces) (bits : List Bit) (old new : Netlist) (nodes : List TermNode) (ws : List (Vec Bit)) : Type 0 where
   pub grows : Grows old new (term_gates nodes)
   pub within : AreWithin (next new) ws
   pub count : length ws ≡ length nodes
   pub widths : (t : ℕ) → t < length nodes → width_of (node_at (shapes ws) t) ≡ width_of (node_at nodes t)
-  pub values : (v : ℕ → Bool) (x : TermReading) → Holds v new → IsReadingAt p v x → AreWords x nodes (numbers v ws)
+  pub values : (v : ℕ → Bool) (x : TermReading) → Holds v new → IsReadingAt p (seen bits v) x → AreWords x nodes (numbers v ws)

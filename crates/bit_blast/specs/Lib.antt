@@ -1,10 +1,11 @@
 pub mod BitWords
 pub mod Broken
+pub mod CellWords
 pub mod Followed
 pub mod Laid
 pub mod Places
 pub mod ReadBytes
+pub mod Reciprocals
 pub mod Said
 pub mod Steps
 pub mod Stored
-pub mod Reciprocals

@@ -1,6 +1,9 @@
--- Where inputs stand, and the readings that give them the numbers of their variables.
-use Rattle.std.specs.Prelude.{ℕ, ◌≡◌, ◌≤◌, ◌<◌, ◌+◌, ◌-◌, ◌*◌, Bool, Some, None, length, slice_index_or}
+-- Where inputs stand, the bits that stand for them, and the readings that give them the numbers of their variables.
+use Rattle.std.specs.Prelude.{ℕ, ◌≡◌, ◌≤◌, ◌<◌, ◌+◌, ◌-◌, ◌*◌, Bool, Some, None, List, map, length, slice_index_or}
+use Rattle.clause_spec.specs.Clauses.{valuation}
 use Rattle.walk_spec.specs.Terms.{TermReading, TermNode, RegisterNode, FlagNode, ChoiceNode, BaseNode}
+use Rattle.gates.specs.declared.bit.Bit.{Bit}
+use Rattle.gates.specs.Circuits.{bit_value}
 use Rattle.word_gates.specs.Numbers.{input_number}
 use Rattle.bit_blast.specs.declared.input_places.InputPlaces.{InputPlaces}
 
@@ -22,6 +25,14 @@ IsNamed p (FlagNode f) = f < p.flags
 IsNamed p (ChoiceNode i) = (k : ℕ) × IsDrawn p i k
 IsNamed p (BaseNode j) = j < p.reads
 IsNamed p n = Unit {0}
+
+-- the truth of bits
+abbrev pub truths : (ℕ → Bool) → List Bit → List Bool
+truths v bits = map (bit_value v) bits
+
+-- the valuation of inputs, where a bit stands for each
+abbrev pub seen : List Bit → (ℕ → Bool) → ℕ → Bool
+seen bits v = valuation (truths v bits)
 
 -- the reading gives each input the number that its variables have under a valuation
 pub record IsReadingAt (p : InputPlaces) (v : ℕ → Bool) (x : TermReading) : Type 0 where

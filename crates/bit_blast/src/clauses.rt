@@ -5,14 +5,14 @@ ghost use Rattle.walk_spec.specs.ClauseForm.{TellsClauses};
 ghost use Rattle.cnf_form.specs.Views.{cnf_of};
 ghost use Rattle.mem_cells.specs.Views.{cells_of, program_of_cells};
 
+use crate::cells::{cell_words, tie_reads};
 use crate::laying::places_of;
 use crate::nodes::operand;
-use crate::reads::{tie_agreements, tie_asked};
-use crate::words::words_of;
 use cnf_form::Cnf;
 use gates::Circuit;
 use mem_cells::Celled;
 use std::alloc::{AllocError, Global};
+use word_gates::parts::inputs;
 
 /// The clauses of a question without memory. Their first variables are the inputs: the bits of the registers in the order of a state, the flags, the choices of
 /// the points that draw, and the bytes of the base reads, each with its lowest bit first. Values of the inputs extend to the other variables in at most one way
@@ -28,10 +28,10 @@ pub fn blast(alloc: Global, c: &Celled) -> Result<Cnf, AllocError>
 {
     let places = places_of(alloc, c)?;
     let mut circuit = Circuit::new(alloc, places.inputs)?;
-    let words = words_of(alloc, &mut circuit, &places, &c.dag)?;
+    let inputs = inputs(alloc, &circuit, 0, places.inputs)?;
+    let words = cell_words(alloc, &mut circuit, &places, &inputs, c)?;
     let mut ties = Vec::new(alloc);
-    tie_agreements(alloc, &mut ties, &circuit, &places, &words, &c.agrees)?;
-    tie_asked(alloc, &mut ties, &circuit, &places, &words, &c.asked)?;
+    tie_reads(&mut ties, &circuit, &places, &inputs, &words, c)?;
     let root = operand(&words, c.root);
     let cnf = circuit.cnf(ties, root[0])?;
     Ok(cnf)

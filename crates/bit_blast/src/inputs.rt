@@ -1,44 +1,68 @@
-//! Where the inputs stand among the variables.
-ghost use Rattle.std.specs.Prelude.{◌≡◌, ℕ, ◌<◌, ◌≤◌, Bool, [], IfOk};
-ghost use Rattle.walk_spec.specs.Terms.{TermReading, node_value, width_of};
+//! The words of inputs: which inputs a node is, and the bits that stand for them.
+ghost use Rattle.std.specs.Prelude.{◌≡◌, ℕ, ◌+◌, ◌<◌, ◌≤◌, Bool, length, [], IfOk};
+ghost use Rattle.walk_spec.specs.Terms.{TermReading, node_value, own_gates, width_of};
 ghost use Rattle.term_dag.specs.Nodes.{IsInput, node_of};
-ghost use Rattle.gates.specs.Circuits.{Holds};
-ghost use Rattle.word_gates.specs.Numbers.{number, IsWord};
-ghost use Rattle.bit_blast.specs.Places.{AreInOrder, IsNamed, IsReadingAt};
+ghost use Rattle.gates.specs.Circuits.{Netlist, next, Within};
+ghost use Rattle.word_gates.specs.Numbers.{input_number, number, IsWord};
+ghost use Rattle.bit_blast.specs.Places.{AreInOrder, IsNamed, IsReadingAt, seen};
 
 use crate::input_places::InputPlaces;
-use gates::{Bit, Circuit};
+use gates::Bit;
 use std::alloc::{AllocError, Global};
 use term_dag::Node;
-use word_gates::parts::inputs;
 
-/// The word of an input, which takes no gates.
+/// How many inputs a node is.
+fn input_width(node: Node) -> usize
+    requires { IsInput (node_of node) }
+    ensures { result ≡ width_of (node_of node) }
+{
+    match node {
+        Node::Register(_) => 32,
+        Node::Flag(_) => 1,
+        Node::Choice(_) => 2,
+        Node::Base(_) => 8,
+        _ => unreachable!(),
+    }
+}
+
+/// The first of the inputs that a node is.
+pub fn first_input(places: &InputPlaces, node: Node) -> u32
+    requires input { IsInput (node_of node) }
+    requires named { IsNamed places.now (node_of node) }
+    requires order { AreInOrder places.now }
+    ensures within { result + width_of (node_of node) ≤ places.now.inputs }
+    ensures value { (v : ℕ → Bool) (x : TermReading) → IsReadingAt places.now v x →
+        input_number v result (width_of (node_of node)) ≡ (node_value x [] (node_of node)).word }
+{
+    let _all = places.inputs;
+    match node {
+        Node::Register(register) => 32 * (register - places.first_register) as u32,
+        Node::Flag(flag) => places.first_flag + flag as u32,
+        Node::Choice(place) => match places.drawn[place as usize] {
+            Some(choice) => places.first_choice + 2 * choice,
+            None => unreachable!(),
+        },
+        Node::Base(read) => places.first_byte + 8 * read,
+        _ => unreachable!(),
+    }
+}
+
+/// The word of an input: the bits that stand for it.
 pub fn input(
     alloc: Global,
-    circuit: &Circuit,
     places: &InputPlaces,
+    inputs: &[Bit],
     node: Node,
 ) -> Result<Vec<Bit>, AllocError>
     requires input { IsInput (node_of node) }
     requires named { IsNamed places.now (node_of node) }
     requires order { AreInOrder places.now }
-    requires all { circuit.now.inputs ≡ places.now.inputs }
-    ensures made { IfOk result (λ w. IsWord circuit.now circuit.now 0 (width_of (node_of node)) w.items) }
-    ensures value { IfOk result (λ w. (v : ℕ → Bool) (x : TermReading) → IsReadingAt places.now v x →
+    requires all { length inputs.now ≡ places.now.inputs }
+    ensures made { IfOk result (λ w. (c : Netlist) → Within (next c) inputs.now → IsWord c c (own_gates (node_of node)) (width_of (node_of node)) w.items) }
+    ensures value { IfOk result (λ w. (v : ℕ → Bool) (x : TermReading) → IsReadingAt places.now (seen inputs.now v) x →
         number v w.items ≡ (node_value x [] (node_of node)).word) }
 {
-    let _fits_as_the_number_of_inputs = circuit.inputs();
-    match node {
-        Node::Register(register) => {
-            let first = 32 * (register - places.first_register) as u32;
-            Ok(inputs(alloc, circuit, first, 32)?)
-        }
-        Node::Flag(flag) => Ok(inputs(alloc, circuit, places.first_flag + flag as u32, 1)?),
-        Node::Choice(place) => match places.drawn[place as usize] {
-            Some(choice) => Ok(inputs(alloc, circuit, places.first_choice + 2 * choice, 2)?),
-            None => unreachable!(),
-        },
-        Node::Base(read) => Ok(inputs(alloc, circuit, places.first_byte + 8 * read, 8)?),
-        _ => unreachable!(),
-    }
+    let first = first_input(places, node) as usize;
+    let word = inputs[first..first + input_width(node)].to_vec(alloc)?;
+    Ok(word)
 }

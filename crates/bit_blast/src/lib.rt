@@ -3,10 +3,11 @@
 #![tactic(auto)]
 
 mod base_bytes;
+mod cells;
 mod clauses;
 mod differing;
 mod entry;
-mod input_places;
+pub mod input_places;
 mod inputs;
 mod laying;
 mod lookup;
@@ -23,10 +24,15 @@ mod ties;
 mod values;
 mod words;
 
+pub use cells::{cell_words, tie_reads};
 pub use clauses::blast;
 pub use differing::broken;
 pub use entry::memory_of;
-pub use laying::free_inputs;
+pub use input_places::InputPlaces;
+pub use inputs::first_input;
+pub use laying::{free_inputs, places_of};
 pub use memories::start_memory;
+pub use nodes::operand;
 pub use start::start_of;
 pub use steps::choices_by_step;
+pub use ties::push_tie;

@@ -5,7 +5,7 @@ ghost use Rattle.walk_spec.specs.Cells.{IsOfWords};
 ghost use Rattle.term_dag.specs.Nodes.{node_of, op_of};
 ghost use Rattle.gates.specs.Circuits.{next, Holds, Within};
 ghost use Rattle.word_gates.specs.Numbers.{number, IsWord};
-ghost use Rattle.bit_blast.specs.Places.{AreInOrder, IsNamed, IsReadingAt};
+ghost use Rattle.bit_blast.specs.Places.{AreInOrder, IsNamed, IsReadingAt, seen};
 ghost use Rattle.bit_blast.specs.BitWords.{AreWithin, shapes, values_of};
 
 use crate::input_places::InputPlaces;
@@ -138,11 +138,12 @@ fn extended(
     Ok(word)
 }
 
-/// The word of a node over terms whose words are given.
+/// The word of a node over terms whose words are given, where bits stand for the inputs.
 pub fn word_of(
     alloc: Global,
     circuit: &mut Circuit,
     places: &InputPlaces,
+    inputs: &[Bit],
     words: &[Vec<Bit>],
     node: Node,
 ) -> Result<Vec<Bit>, AllocError>
@@ -150,17 +151,18 @@ pub fn word_of(
     requires of_words { IsOfWords (node_of node) }
     requires named { IsNamed places.now (node_of node) }
     requires order { AreInOrder places.now }
-    requires all { circuit.old.inputs ≡ places.now.inputs }
+    requires all { length inputs.now ≡ places.now.inputs }
+    requires inputs_within { Within (next circuit.old) inputs.now }
     requires within { AreWithin (next circuit.old) words.now }
     ensures made { IfOk result (λ w. IsWord circuit.old circuit.new (own_gates (node_of node)) (width_of (node_of node)) w.items) }
-    ensures value { IfOk result (λ w. (v : ℕ → Bool) (x : TermReading) → Holds v circuit.new → IsReadingAt places.now v x →
+    ensures value { IfOk result (λ w. (v : ℕ → Bool) (x : TermReading) → Holds v circuit.new → IsReadingAt places.now (seen inputs.now v) x →
         number v w.items ≡ (node_value x (values_of v words.now) (node_of node)).word) }
 {
     match node {
-        Node::Register(_) => Ok(input(alloc, circuit, places, node)?),
-        Node::Flag(_) => Ok(input(alloc, circuit, places, node)?),
-        Node::Choice(_) => Ok(input(alloc, circuit, places, node)?),
-        Node::Base(_) => Ok(input(alloc, circuit, places, node)?),
+        Node::Register(_) => Ok(input(alloc, places, inputs, node)?),
+        Node::Flag(_) => Ok(input(alloc, places, inputs, node)?),
+        Node::Choice(_) => Ok(input(alloc, places, inputs, node)?),
+        Node::Base(_) => Ok(input(alloc, places, inputs, node)?),
         Node::Constant { width, value } => Ok(constant(alloc, circuit, width as usize, value)?),
         Node::Binary {
             op,

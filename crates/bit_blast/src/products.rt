@@ -1,5 +1,5 @@
-//! Products. One with a constant that stands for the reciprocal of a divisor has its upper bits from the circuit of the quotient, which a search sees through more
-//! easily; so it is where a compiler has written a division by a constant.
+//! Products. One with a constant that stands for the reciprocal of a divisor has its upper bits from the circuit of the quotient, which a search sees through
+//! more easily; so it is where a compiler has written a division by a constant.
 ghost use Rattle.std.specs.Prelude.{◌≡◌, ℕ, ◌+◌, ◌-◌, ◌*◌, ◌/◌, ◌%◌, ◌^◌, ◌<◌, ◌≤◌, Bool, length, IfOk, IfSome};
 ghost use Rattle.word_spec.specs.Words.{mul, magnitude, sign_extend};
 ghost use Rattle.gates.specs.Circuits.{next, Holds, Within, variable_of, bit_value};
@@ -115,7 +115,7 @@ fn turned_if(
 }
 
 /// The product with a constant that stands for the reciprocal of a divisor, of a word that is the signed extension of so many bits. Below 0 the upper bits are
-/// those of the absolute value's quotient, turned: the product is rounded down, and never whole there.
+/// those of the absolute value's quotient, turned, since the product is rounded down and is never whole.
 fn product_by_reciprocal(
     alloc: Global,
     circuit: &mut Circuit,
@@ -161,7 +161,7 @@ fn shifted(
     Ok(word)
 }
 
-/// The product with a constant that stands for the reciprocal of a divisor with 2^32 more, as where the reciprocal has one bit too many for a word of 32 bits.
+/// The product with a constant that with 2^32 more stands for the reciprocal of a divisor: so a reciprocal of 33 bits is written, and a signed one of 32.
 fn product_by_raised(
     alloc: Global,
     circuit: &mut Circuit,
@@ -185,6 +185,38 @@ fn product_by_raised(
     let more = product_by_reciprocal(alloc, circuit, a, bits, raised, reciprocal)?;
     let surplus = shifted(alloc, circuit, a, 32)?;
     let word = difference(alloc, circuit, &more, &surplus)?;
+    Ok(word)
+}
+
+/// Whether the second word is the one to be shifted: it is no constant, and its first bit comes first.
+fn is_turned(circuit: &Circuit, a: &[Bit], b: &[Bit]) -> bool
+    requires a_some { 1 ≤ length a.now }
+    requires b_some { 1 ≤ length b.now }
+    requires few { length b.now ≤ 64 }
+{
+    constant_number(circuit, b).is_none() && b[0].code() < a[0].code()
+}
+
+/// The product of two words, whose order makes no other gates.
+fn product_in_order(
+    alloc: Global,
+    circuit: &mut Circuit,
+    a: &[Bit],
+    b: &[Bit],
+) -> Result<Vec<Bit>, AllocError>
+    requires some { 1 ≤ length a.now }
+    requires few { length a.now ≤ 64 }
+    requires same { length a.now ≡ length b.now }
+    requires a_within { Within (next circuit.old) a.now }
+    requires b_within { Within (next circuit.old) b.now }
+    ensures made { IfOk result (λ w. IsWord circuit.old circuit.new (3 * length a.now * length a.now) (length a.now) w.items) }
+    ensures value { IfOk result (λ w. (v : ℕ → Bool) → Holds v circuit.new → number v w.items ≡ mul (length a.now) (number v a.now) (number v b.now)) }
+{
+    if is_turned(circuit, a, b) {
+        let word = product(alloc, circuit, b, a)?;
+        return Ok(word);
+    }
+    let word = product(alloc, circuit, a, b)?;
     Ok(word)
 }
 
@@ -216,6 +248,6 @@ pub fn product_of(
             }
         }
     }
-    let word = product(alloc, circuit, a, b)?;
+    let word = product_in_order(alloc, circuit, a, b)?;
     Ok(word)
 }

@@ -10,7 +10,7 @@ use gates::{Bit, clause_of};
 use std::alloc::AllocError;
 
 /// Adds the clause that one of the bits is true.
-fn push_tie(ties: &mut Vec<Clause>, bits: &[Bit]) -> Result<(), AllocError>
+pub fn push_tie(ties: &mut Vec<Clause>, bits: &[Bit]) -> Result<(), AllocError>
     ensures value { OnOk result ((v : ℕ → Bool) → satisfied v ties.new.items ≡ (satisfied v ties.old.items && any_of v bits.now)) }
     ensures over { OnOk result ((n : ℕ) → Within n bits.now → AreOver n ties.old.items → AreOver n ties.new.items) }
 {

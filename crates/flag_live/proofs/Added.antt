@@ -62,13 +62,6 @@ adds_both old mid new S P R Q one two up over down = record {
   all = λ sure x q. elim (down x q) as (λ _. Contains new x) [ inl h ↦ two.kept x (one.all sure x h) | inr h ↦ two.all sure x h ];
 }
 
-pub adds_none : (old : List (ℕ × ℕ)) (S : Type 0) (Q : ℕ × ℕ → Type 0) → ((e : ℕ × ℕ) → Q e → ⊥) → Adds old old S Q
-adds_none old S Q none = record { kept = λ x has. has; only = λ x has. inl has; all = λ sure x q. absurd (none x q) }
-
--- the edges by no successor
-pub among_none : (nodes : List Node) (u : ℕ) (assigned : Bool) (successors : List Successor) (e : ℕ × ℕ) → IsEdgeAmong nodes u assigned successors 0 e → ⊥
-among_none nodes u assigned successors e (at j low each) = omega arith
-
 among_more : (nodes : List Node) (u : ℕ) (assigned : Bool) (successors : List Successor) (k : ℕ) (e : ℕ × ℕ) → IsEdgeAmong nodes u assigned successors k e →
     IsEdgeAmong nodes u assigned successors (k + 1) e
 among_more nodes u assigned successors k e (at j low each) = at j (omega arith) each

@@ -1,16 +1,17 @@
--- A graph stays a program's graph whatever assignments of flags stay.
-use Rattle.std.proofs.Common.{◌≡◌, ◌<◌, List, [], ◌∷◌, length, get_or, map, refl, ap, sym, ◌∙◌, subst, arith}
-use Rattle.std.specs.Prelude.{All, Contains}
+-- A graph stays a program's graph whatever assignments of flags stay, and with flags that are asked for at the exit.
+use Rattle.std.proofs.Common.{◌≡◌, ◌<◌, ℕ, List, [], ◌∷◌, length, get_or, map, refl, ap, sym, ◌∙◌, subst, arith}
+use Rattle.std.specs.Prelude.{All, Contains, ◌||◌}
 use Rattle.std.specs.List.{AllZip}
 use Rattle.std.proofs.lemmas.List.Elements.{All-cons, All-head, All-tail, length_all_zip}
 use Rattle.bilv_spec.specs.Run.{Program, fetchable}
 use Rattle.bilv_spec.specs.Points.{file_row, file_word}
-use Rattle.bilv_spec.specs.Graph.{successors_at, may_return, IsAddress}
+use Rattle.bilv_spec.specs.Graph.{successors_at, may_return, IsAddress, entry, listed}
 use Rattle.bilv_spec.specs.LiveFlags.{asserts_flag, ensures_flag}
 use Rattle.machine_law.specs.declared.facts.FlagUse.{FlagUse}
 use Rattle.graph_nodes.specs.declared.nodes.Node.{Node}
 use Rattle.graph_nodes.specs.declared.nodes.Graph.{Graph}
-use Rattle.graph_nodes.specs.Graphs.{addresses_of, node_word, row_length, IsFlagSet, IsFlagUseAt, IsNode, IsGraph, IsSameNode, IsSameGraph}
+use Rattle.graph_nodes.specs.Graphs.{addresses_of, node_word, row_length, IsFlagSet, IsFlagUseAt, IsNode, IsGraph, IsSameNode, IsSameGraph, has_flag}
+use Rattle.flag_live.specs.Asked.{ensuring, unasked}
 
 -- a node stays the node of its address
 same_node : (p : Program) (old new : Node) → IsSameNode old new → IsNode p old → IsNode p new
@@ -52,3 +53,44 @@ same_graph p old new same is =
       nodes = same_nodes p old.nodes.items new.nodes.items same.nodes is.nodes;
       ensured = subst (λ s. IsFlagSet s (λ f. ensures_flag p f)) (sym same.ensured) is.ensured;
     }
+
+-- what is asked for at the exit changes no address
+asked_address : (p : Program) (a : ℕ) → IsAddress (unasked p) a → IsAddress p a
+asked_address p _ entry = entry
+asked_address p _ (listed at has) = listed (asked_address p _ at) has
+
+unasked_address : (p : Program) (a : ℕ) → IsAddress p a → IsAddress (unasked p) a
+unasked_address p _ entry = entry
+unasked_address p _ (listed at has) = listed (unasked_address p _ at) has
+
+-- nor what a node says
+asked_node : (p : Program) (n : Node) → IsNode (unasked p) n → IsNode p n
+asked_node p n is = record {
+  length = is.length;
+  fetchable = is.fetchable;
+  word = is.word;
+  successors = is.successors;
+  returns = is.returns;
+  flags = record { reads = is.flags.reads; assigns = is.flags.assigns; surely = is.flags.surely };
+  asserted = is.asserted;
+}
+
+-- the flags at the exit: those that are asked for, and those of the notes
+asked_flags : (p : Program) (out old new : ℕ) → IsFlagSet out p.out → IsFlagSet old (λ f. ensures_flag (unasked p) f) →
+    IsFlagSet new (λ f. has_flag out f || has_flag old f) → IsFlagSet new (λ f. ensures_flag p f)
+asked_flags p out old new asked noted joined = record {
+  small = joined.small;
+  exact = λ f few.
+      joined.exact f few ∙ ap (λ b. b || has_flag old f) (asked.exact f few) ∙ ap (λ b. p.out f || b) (noted.exact f few);
+}
+
+-- the graph of the program that asks for more
+pub asked_graph : (p : Program) (g : Graph) (out new : ℕ) → IsFlagSet out p.out → IsFlagSet new (λ f. has_flag out f || has_flag g.ensured f) →
+    IsGraph (unasked p) g → IsGraph p (ensuring g new)
+asked_graph p g out new asked joined is = record {
+  narrow = is.narrow;
+  all = λ a. ((λ has. asked_address p a ((is.all a).0 has)), (λ at. (is.all a).1 (unasked_address p a at)));
+  rising = is.rising;
+  nodes = λ i d w. asked_node p _ (is.nodes i d w);
+  ensured = asked_flags p out g.ensured new asked is.ensured joined;
+}

@@ -52,9 +52,6 @@ successor_has p n j d is w =
     let x = successor_of (get_or n.successors.items j d) in
     (j, omega (arith, counted), get_or-map successor_of n.successors.items j d x w))
 
-no_successor : Successor
-no_successor = record { letter = Next; to = 0 }
-
 pub successor_at : (p : Program) (n : Node) (x : graph.Successor) → IsNode p n → Contains (successors_at p n.at) x
     → (j : ℕ) × (j < length n.successors.items) × ((d : Successor) → successor_of (get_or n.successors.items j d) ≡ x)
 successor_at p n x is has =

@@ -1,5 +1,6 @@
 pub mod Added
 pub mod Begun
+pub mod FlagSets
 pub mod Graphed
 pub mod Graphs
 pub mod Lives

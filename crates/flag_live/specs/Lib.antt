@@ -1,3 +1,4 @@
+pub mod Asked
 pub mod Keeps
 pub mod Meanings
 pub mod Reachable

@@ -1,4 +1,4 @@
-//! The assignments of flags that a flow graph's static paths read.
+//! The assignments of flags that a flow graph's static paths read (live variable analysis).
 #![tactic(auto)]
 
 mod live;

@@ -4,6 +4,7 @@ ghost use Rattle.std.specs.List.Sorted.{IsNonDecreasingBy, IsPermutation};
 ghost use Rattle.bilv_spec.specs.Run.{Program};
 ghost use Rattle.graph_nodes.specs.Graphs.{IsGraph};
 ghost use Rattle.graph_nodes.specs.Places.{AreRising};
+ghost use Rattle.flag_live.specs.Asked.{ensuring};
 ghost use Rattle.flag_live.specs.Meanings.{AreReads, LeadsOn, IsOn, IsLiveNode, AreLive};
 
 use crate::paths::{edges_of, starts_of};
@@ -20,13 +21,13 @@ fn sorted(mut edges: Vec<(usize, usize)>) -> Result<Vec<(usize, usize)>, AllocEr
     Ok(edges)
 }
 
-/// The vertices of a graph that read a flag. The error is want of memory.
-fn readers(alloc: Global, graph: &Graph, flag: u8) -> Result<Vec<bool>, AllocError>
+/// The vertices of a graph that read a flag, where a set of flags is read at the exit. The error is want of memory.
+fn readers(alloc: Global, graph: &Graph, ensured: u8, flag: u8) -> Result<Vec<bool>, AllocError>
     requires { flag < 4 }
-    ensures { (p : Program) → IsGraph p graph.now → IfOk result (λ marked. AreReads p graph.now flag marked.items) }
+    ensures { (p : Program) → IsGraph p (ensuring graph.now ensured) → IfOk result (λ marked. AreReads p (ensuring graph.now ensured) flag marked.items) }
 {
     let edges = sorted(edges_of(alloc, &graph.nodes, flag)?)?;
-    let starts = starts_of(alloc, graph, flag)?;
+    let starts = starts_of(alloc, graph, ensured, flag)?;
     let marked = reach(alloc, graph.nodes.len() + 1, &edges, &starts)?;
     Ok(marked)
 }
@@ -83,12 +84,12 @@ fn is_live(nodes: &[Node], marked: &[bool], node: &Node, flag: u8) -> bool
     is_on(nodes, marked, node)
 }
 
-/// For each node of a graph whether its assignment of a flag is live. The error is want of memory.
-pub fn lives(alloc: Global, graph: &Graph, flag: u8) -> Result<Vec<bool>, AllocError>
+/// For each node of a graph whether its assignment of a flag is live, where a set of flags is read at the exit. The error is want of memory.
+pub fn lives(alloc: Global, graph: &Graph, ensured: u8, flag: u8) -> Result<Vec<bool>, AllocError>
     requires { flag < 4 }
-    ensures { (p : Program) → IsGraph p graph.now → IfOk result (λ live. AreLive p graph.now flag live.items) }
+    ensures { (p : Program) → IsGraph p (ensuring graph.now ensured) → IfOk result (λ live. AreLive p (ensuring graph.now ensured) flag live.items) }
 {
-    let marked = readers(alloc, graph, flag)?;
+    let marked = readers(alloc, graph, ensured, flag)?;
     let mut live = Vec::new(alloc);
     for i in 0..graph.nodes.len() {
         live.push(is_live(&graph.nodes, &marked, &graph.nodes[i], flag))?;

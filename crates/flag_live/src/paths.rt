@@ -5,6 +5,7 @@
 ghost use Rattle.std.specs.Prelude.{◌≡◌, ◌<◌, ◌↔◌, ◌++◌, ℕ, IfOk, IfSome, Contains, length};
 ghost use Rattle.std.specs.Option.{option_to_list};
 ghost use Rattle.graph_nodes.specs.Places.{AreRising};
+ghost use Rattle.flag_live.specs.Asked.{ensuring};
 ghost use Rattle.flag_live.specs.Vertices.{IsEdgeBy, IsEdgeOf, IsEdge, IsStartAt, IsStart, Adds};
 
 use graph_nodes::{Graph, Letter, Node, Successor, has_flag, place};
@@ -96,16 +97,21 @@ fn start_at(node: &Node, i: usize, flag: u8) -> Option<usize>
     None
 }
 
-/// The vertices that read a flag themselves. The error is want of memory.
-pub fn starts_of(alloc: Global, graph: &Graph, flag: u8) -> Result<Vec<usize>, AllocError>
+/// The vertices that read a flag themselves, where a set of flags is read at the exit. The error is want of memory.
+pub fn starts_of(
+    alloc: Global,
+    graph: &Graph,
+    ensured: u8,
+    flag: u8,
+) -> Result<Vec<usize>, AllocError>
     requires { flag < 4 }
-    ensures { IfOk result (λ starts. (v : ℕ) → Contains starts.items v ↔ IsStart graph.now flag v) }
+    ensures { IfOk result (λ starts. (v : ℕ) → Contains starts.items v ↔ IsStart (ensuring graph.now ensured) flag v) }
 {
     let mut starts = Vec::new(alloc);
     for i in 0..graph.nodes.len() {
         add(&mut starts, start_at(&graph.nodes[i], i, flag))?;
     }
-    if has_flag(graph.ensured, flag) {
+    if has_flag(ensured, flag) {
         starts.push(graph.nodes.len())?;
         return Ok(starts);
     }

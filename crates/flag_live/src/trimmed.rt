@@ -1,11 +1,13 @@
 //! A graph with the flag assignments that are live.
-ghost use Rattle.std.specs.Prelude.{◌≡◌, ◌<◌, ℕ, Bool, true, false, IfOk, slice_index_or, if◌then◌else◌};
+ghost use Rattle.std.specs.Prelude.{◌≡◌, ◌<◌, ◌||◌, ℕ, Bool, true, false, IfOk, slice_index_or, if◌then◌else◌};
 ghost use Rattle.bilv_spec.specs.Run.{Program};
-ghost use Rattle.graph_nodes.specs.Graphs.{IsGraph, IsSameNode, IsSameGraph, LiveStay};
+ghost use Rattle.graph_nodes.specs.Graphs as graphs;
+ghost use Rattle.graph_nodes.specs.Graphs.{IsFlagSet, IsGraph, IsSameNode, IsSameGraph, LiveStay};
+ghost use Rattle.flag_live.specs.Asked.{ensuring, unasked};
 ghost use Rattle.flag_live.specs.Keeps.{IsSetOf};
 
 use crate::live::{is_marked, lives};
-use graph_nodes::{Graph, Node, Successor};
+use graph_nodes::{Graph, Node, Successor, has_flag};
 use std::alloc::{AllocError, Global};
 
 /// For each of the flags and each node whether the node's assignment is live.
@@ -29,6 +31,28 @@ fn set_of(negative: bool, zero: bool, carry: bool, overflow: bool) -> u8
     ensures { IsSetOf result negative zero carry overflow }
 {
     weight(negative, 8) + weight(zero, 4) + weight(carry, 2) + weight(overflow, 1)
+}
+
+/// Whether one of two sets has a flag.
+fn is_in_one(a: u8, b: u8, flag: u8) -> bool
+    requires { flag < 4 }
+    ensures { result ≡ (graphs.has_flag a flag || graphs.has_flag b flag) }
+{
+    if has_flag(a, flag) {
+        return true;
+    }
+    has_flag(b, flag)
+}
+
+/// The flags of two sets.
+fn joined(a: u8, b: u8) -> u8
+    ensures { IsFlagSet result (λ f. graphs.has_flag a f || graphs.has_flag b f) }
+{
+    let negative = is_in_one(a, b, 3);
+    let zero = is_in_one(a, b, 2);
+    let carry = is_in_one(a, b, 1);
+    let overflow = is_in_one(a, b, 0);
+    set_of(negative, zero, carry, overflow)
 }
 
 /// The flags whose assignment at a place is live.
@@ -69,21 +93,23 @@ fn with_keeps(alloc: Global, node: &Node, keeps: u8) -> Result<Node, AllocError>
     })
 }
 
-/// Keeps of a graph's flag assignments exactly those that are live: some static path reads the flag before it is surely assigned again.
+/// Keeps of a graph's flag assignments exactly those that are live: some static path reads the flag before it is surely assigned again. The flags of the set
+/// `out`, N 8, Z 4, C 2 and V 1, are read at the exit, besides those that ensure lines name; the graph does not speak of them before, and does so after.
 ///
 /// # Errors
 ///
-/// Want of memory.
-pub fn trim(alloc: Global, graph: &Graph) -> Result<Graph, AllocError>
-    ensures same { IfOk result (λ t. IsSameGraph graph.now t) }
-    ensures graph { (p : Program) → IsGraph p graph.now → IfOk result (λ t. IsGraph p t) }
-    ensures live { (p : Program) → IsGraph p graph.now → IfOk result (λ t. LiveStay p t) }
+/// Out of memory.
+pub fn trim(alloc: Global, graph: &Graph, out: u8) -> Result<Graph, AllocError>
+    ensures same { IfOk result (λ t. IsSameGraph (ensuring graph.now t.ensured) t) }
+    ensures graph { (p : Program) → IsFlagSet out p.out → IsGraph (unasked p) graph.now → IfOk result (λ t. IsGraph p t) }
+    ensures live { (p : Program) → IsFlagSet out p.out → IsGraph (unasked p) graph.now → IfOk result (λ t. LiveStay p t) }
 {
+    let ensured = joined(out, graph.ensured);
     let lives = Lives {
-        negative: lives(alloc, graph, 3)?,
-        zero: lives(alloc, graph, 2)?,
-        carry: lives(alloc, graph, 1)?,
-        overflow: lives(alloc, graph, 0)?,
+        negative: lives(alloc, graph, ensured, 3)?,
+        zero: lives(alloc, graph, ensured, 2)?,
+        carry: lives(alloc, graph, ensured, 1)?,
+        overflow: lives(alloc, graph, ensured, 0)?,
     };
     let mut nodes = Vec::new(alloc);
     for i in 0..graph.nodes.len() {
@@ -93,6 +119,6 @@ pub fn trim(alloc: Global, graph: &Graph) -> Result<Graph, AllocError>
     Ok(Graph {
         narrow: graph.narrow,
         nodes,
-        ensured: graph.ensured,
+        ensured,
     })
 }

@@ -1,8 +1,8 @@
 -- What is said of reads and bytes of the file, one pair after another.
-use Rattle.std.proofs.Common.{◌≡◌, ◌⊎◌, inl, inr, ℕ, ◌+◌, ◌*◌, ◌<◌, ◌≤◌, ◌==◌, List, [], ◌∷◌, ◌++◌, length, take, ap, sym, ◌∙◌, subst, arith}
+use Rattle.std.proofs.Common.{◌≡◌, ◌⊎◌, inl, inr, ℕ, ◌+◌, ◌*◌, ◌<◌, ◌==◌, List, [], ◌∷◌, ◌++◌, length, take, ap, sym, ◌∙◌, subst, arith}
 use Rattle.std.specs.Prelude.{slice_index, Contains}
 use Rattle.std.proofs.lemmas.Bool.{cases_lt}
-use Rattle.std.proofs.lemmas.List.{take_more, take_all}
+use Rattle.std.proofs.lemmas.List.{take_more}
 use Rattle.std.proofs.lemmas.List.Elements.{Contains-push_cases, Contains-push, Contains-append_left, Contains-get_or}
 use Rattle.word_spec.specs.Words.{bit}
 use Rattle.walk_spec.specs.Terms.{TermReading, InRange, HasWidth, term_word}
@@ -179,17 +179,3 @@ word_kept a b g w t f p h = record { place = grown_width a b g 0 w t p h.place; 
 -- the gates of one byte more
 pub byte_more : (r k n : ℕ) → n ≡ r → 32 * (r * k) + 32 * n ≡ 32 * (r * (k + 1))
 byte_more r k n e = ap (λ z. 32 * (r * k) + 32 * z) e ∙ (let q : 32 * (r * k) + 32 * r ≡ 32 * (r * (k + 1)) = grind arith in q)
-
--- nothing is said yet
-pub asked_start : (b : Build) (file : List FileByte) (xs : List AskedByte) → xs ≡ [] → AreAsked b file xs (AskedOf (length (read_places b)) (take 0 file))
-asked_start b file xs e = record {
-  formed = λ t k. absurd (omega (arith, k.1, ap length e));
-  sound = λ x i t k o. absurd (omega (arith, k.1, ap length e));
-  complete = λ x i base q j f s z. absurd (omega (arith, s.1.1));
-}
-
--- everything is said
-pub asked_end : (b : Build) (file : List FileByte) (xs : List AskedByte) (k : ℕ) → length file ≤ k →
-    AreAsked b file xs (AskedOf (length (read_places b)) (take k file)) →
-    AreAsked b file xs (AskedOf (length (read_places b)) file)
-asked_end b file xs k l h = subst (λ (z : List FileByte). AreAsked b file xs (AskedOf (length (read_places b)) z)) (take_all k file l) h

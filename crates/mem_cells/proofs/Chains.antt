@@ -14,7 +14,7 @@ use Rattle.mem_cells.specs.declared.pieces.Split.{Split}
 use Rattle.mem_cells.specs.declared.pieces.StoredByte.{StoredByte}
 use Rattle.mem_cells.specs.declared.pieces.Piece.{Piece}
 use Rattle.mem_cells.specs.declared.pieces.Piece.TheVariants.{Entry, Store, Join}
-use Rattle.mem_cells.specs.Pieces.{puts, put_bytes, piece_byte, piece_at, piece_reads, stored_at, ends_in, bool_at, link, IsSplit, AreBytes, IsStored, IsPiece, ArePieces, AreRising, IsRising, HasLinks, Needs, AreClosed}
+use Rattle.mem_cells.specs.Pieces.{puts, put_bytes, piece_byte, piece_at, piece_reads, stored_at, ends_in, bool_at, link, IsSplit, AreBytes, IsStored, IsPiece, ArePieces, IsRising, Needs, AreClosed}
 use Rattle.mem_cells.specs.Building.{IsBuilt, Grown, IsByte, IsByteOf}
 use Rattle.mem_cells.proofs.Growing.{grown_word, grown_width, gives_before}
 use Rattle.mem_cells.proofs.Puts.{puts_same, put_within}
@@ -57,9 +57,6 @@ pub piece_rises : (nodes : List TermNode) (stored : List StoredByte) (q : ℕ) (
 piece_rises nodes stored q Entry h = tt
 piece_rises nodes stored q (Store m s f n) h = h.0
 piece_rises nodes stored q (Join c a b) h = (h.1, h.2)
-
-pub pieces_rise : (nodes : List TermNode) (stored : List StoredByte) (pieces : List Piece) → ArePieces nodes stored pieces → AreRising pieces
-pieces_rise nodes stored pieces h q l = piece_rises nodes stored q (piece_at pieces q) (h q l)
 
 -- stored bytes have their words as cells grow
 bytes_same : (a b : Build) (g r : ℕ) (x : TermReading) (stored : List StoredByte) (f n t y : ℕ) → Grown a b g r → AreBytes a.dag stored f n → t < length a.dag →
@@ -105,14 +102,6 @@ linked chain t q l = ap (λ z. z.0) (get_or_append_left chain (t ∷ []) (record
 
 pub linked_last : (chain : List Term) (t : Term) (q : ℕ) → q ≡ length chain → link (chain ++ t ∷ []) q ≡ t.0
 linked_last chain t q e = ap (link (chain ++ t ∷ [])) e ∙ ap (λ z. z.0) (last chain t (record { 0 = 0 }))
-
--- the links that a piece needs
-pub has_links : (nodes : List TermNode) (stored : List StoredByte) (chain : List Term) (q : ℕ) (z : Piece) (at : Split) (marks : List Bool) →
-    IsPiece nodes stored q z → Needs marks at z →
-    ((p : ℕ) → p < q → bool_at marks p ≡ true → HasWidth nodes 8 (link chain p)) → HasLinks nodes chain at z
-has_links nodes stored chain q Entry at marks h n e = tt
-has_links nodes stored chain q (Store m s f k) at marks h n e = λ y. e m h.0 (n y)
-has_links nodes stored chain q (Join c a b) at marks h n e = (e a h.1 n.0, e b h.2 n.1)
 
 -- sums over one more piece
 take_next : (zs : List Piece) (q : ℕ) → q < length zs → take (suc q) zs ≡ take q zs ++ piece_at zs q ∷ []

@@ -4,9 +4,9 @@ use Rattle.std.specs.Prelude.{if◌then◌else◌, ◌&&◌, ◌||◌, ◌↔◌
 use Rattle.std.specs.Ordering.{nat_cmp}
 use Rattle.std.specs.List.{list_any, dedup}
 use Rattle.std.specs.List.Sorted.{IsStrictlyIncreasing, IsPermutation, IsSorted}
-use Rattle.std.proofs.lemmas.List.{get_or_past, drop_more, drop_all, take_more, take_all}
+use Rattle.std.proofs.lemmas.List.{drop_more, drop_all, take_more, take_all}
 use Rattle.std.proofs.lemmas.List.Elements.{Contains-push_cases, Contains-push, Contains-append_left}
-use Rattle.std.proofs.lemmas.List.Folds.{list_any-append, Any-from_list_any, list_any-from_Any}
+use Rattle.std.proofs.lemmas.List.Folds.{Any-from_list_any, list_any-from_Any}
 use Rattle.std.proofs.lemmas.List.Sorted.{Contains-permutation, IsPermutation-sym}
 use Rattle.std.proofs.lemmas.List.Sums.{sum_by-cons}
 use Rattle.std.proofs.lemmas.List.Kept.{Contains-dedup_nat, Contains-from_dedup}
@@ -38,30 +38,9 @@ in_word a l = list_any (λ i. a == add 32 l i) (0 ∷ 1 ∷ 2 ∷ 3 ∷ [])
 abbrev pub is_found : (found literals : List ℕ) → (from : ℕ) → ℕ → Bool
 is_found found literals i a = list_any (nat_eq a) found || list_any (in_word a) (drop i literals)
 
-or_assoc : (p q r : Bool) → ((p || q) || r) ≡ (p || (q || r))
-or_assoc true q r = refl
-or_assoc false q r = refl
-
 or_none : (p : Bool) → (p || false) ≡ p
 or_none true = refl
 or_none false = refl
-
-pub found_start : (found added literals : List ℕ) (a : ℕ) → found ≡ added → is_found found literals 0 a ≡ is_asked added literals a
-found_start found added literals a e = ap (λ z. list_any (nat_eq a) z || list_any (in_word a) literals) e
-
-pub found_next : (found more literals : List ℕ) (i d : ℕ) (w x y z : ℕ) (a : ℕ) → i < length literals → more ≡ found ++ w ∷ x ∷ y ∷ z ∷ [] →
-    w ≡ add 32 (get_or literals i d) 0 → x ≡ add 32 (get_or literals i d) 1 → y ≡ add 32 (get_or literals i d) 2 → z ≡ add 32 (get_or literals i d) 3 →
-    is_found more literals (i + 1) a ≡ is_found found literals i a
-found_next found more literals i d w x y z a l e ew ex ey ez =
-    ap (λ k. list_any (nat_eq a) k || list_any (in_word a) (drop (i + 1) literals)) e
-    ∙ ap (λ k. k || list_any (in_word a) (drop (i + 1) literals)) (list_any-append (nat_eq a) found (w ∷ x ∷ y ∷ z ∷ []))
-    ∙ or_assoc (list_any (nat_eq a) found) (list_any (nat_eq a) (w ∷ x ∷ y ∷ z ∷ [])) (list_any (in_word a) (drop (i + 1) literals))
-    ∙ ap (λ k. list_any (nat_eq a) found || (k || list_any (in_word a) (drop (i + 1) literals))) (
-    ap (λ k. list_any (nat_eq a) (k ∷ x ∷ y ∷ z ∷ [])) ew
-    ∙ ap (λ k. list_any (nat_eq a) (add 32 (get_or literals i d) 0 ∷ k ∷ y ∷ z ∷ [])) ex
-    ∙ ap (λ k. list_any (nat_eq a) (add 32 (get_or literals i d) 0 ∷ add 32 (get_or literals i d) 1 ∷ k ∷ z ∷ [])) ey
-    ∙ ap (λ k. list_any (nat_eq a) (add 32 (get_or literals i d) 0 ∷ add 32 (get_or literals i d) 1 ∷ add 32 (get_or literals i d) 2 ∷ k ∷ [])) ez)
-    ∙ ap (λ k. list_any (nat_eq a) found || list_any (in_word a) k) (sym (drop_more literals i d l))
 
 found_all : (found literals : List ℕ) (i a : ℕ) → length literals ≤ i → is_found found literals i a ≡ list_any (nat_eq a) found
 found_all found literals i a l = ap (λ k. list_any (nat_eq a) found || list_any (in_word a) k) (drop_all i literals l) ∙ or_none (list_any (nat_eq a) found)
@@ -108,17 +87,6 @@ next_run : (known : List Known) (i a : ℕ) (d : Known) → i < length known →
 next_run known i a d l =
     ap (λ k. byte_of_runs (map run_of k) a) (drop_more known i d l) ∙ first_run (run_of (get_or known i d)) (map run_of (drop (i + 1) known)) a
 
-pub run_hit : (known : List Known) (i a b : ℕ) (d : Known) → i < length known → byte_of_run (run_of (get_or known i d)) a ≡ Some b →
-    byte_of_runs (map run_of (drop i known)) a ≡ Some b
-run_hit known i a b d l h = next_run known i a d l ∙ ap (λ k. or_else k (byte_of_runs (map run_of (drop (i + 1) known)) a)) h
-
-pub run_missed : (known : List Known) (i a : ℕ) (d : Known) → i < length known → byte_of_run (run_of (get_or known i d)) a ≡ None →
-    byte_of_runs (map run_of (drop (i + 1) known)) a ≡ byte_of_runs (map run_of (drop i known)) a
-run_missed known i a d l h = sym (next_run known i a d l ∙ ap (λ k. or_else k (byte_of_runs (map run_of (drop (i + 1) known)) a)) h)
-
-pub no_run : (known : List Known) (i a : ℕ) → length known ≤ i → byte_of_runs (map run_of (drop i known)) a ≡ None
-no_run known i a l = ap (λ k. byte_of_runs (map run_of k) a) (drop_all i known l)
-
 none_by : (r : ByteRun) (a : ℕ) → (nat_le r.at a && nat_lt a (r.at + r.count)) ≡ false → byte_of_run r a ≡ None
 none_by r a h = ap (λ t. if t then Some (slice_index r.bytes (a - r.at)) else None) h
 
@@ -126,20 +94,6 @@ none_by r a h = ap (λ t. if t then Some (slice_index r.bytes (a - r.at)) else N
 pub run_before : (k : Known) (at a : ℕ) → k.first < at → k.last < at → at ≤ a → byte_of_run (run_of k) a ≡ None
 run_before k at a h l g = none_by (run_of k) a (let e : (nat_le k.first a &&
     nat_lt a (k.first + (k.last - k.first + 1))) ≡ false = grind (arith, nat_tests) in e)
-
-pub run_above : (k : Known) (a : ℕ) → a < k.first → byte_of_run (run_of k) a ≡ None
-run_above k a l = none_by (run_of k) a (let e : (nat_le k.first a && nat_lt a (k.first + (k.last - k.first + 1))) ≡ false = grind (arith, nat_tests) in e)
-
-pub run_below : (k : Known) (a : ℕ) → k.first ≤ a → k.last - k.first < a - k.first → byte_of_run (run_of k) a ≡ None
-run_below k a l g = none_by (run_of k) a (let e : (nat_le k.first a && nat_lt a (k.first + (k.last - k.first + 1))) ≡ false = grind (arith, nat_tests) in e)
-
-pub run_has : (k : Known) (a : ℕ) → k.first ≤ a → a - k.first ≤ k.last - k.first → byte_of_run (run_of k) a ≡ Some (slice_index k.bytes.now (a - k.first))
-run_has k a l g =
-    let e : (nat_le k.first a && nat_lt a (k.first + (k.last - k.first + 1))) ≡ true = grind (arith, nat_tests) in
-    ap (λ t. if t then Some (slice_index k.bytes.now (a - k.first)) else None) e
-
-pub run_past : (k : Known) (a : ℕ) → k.first ≤ a → a - k.first ≤ k.last - k.first → length k.bytes.now ≤ a - k.first → byte_of_run (run_of k) a ≡ Some 0
-run_past k a l g h = run_has k a l g ∙ ap Some (get_or_past k.bytes.now (a - k.first) 0 h)
 
 -- how many numbers of a list pass a test
 abbrev pub hits : (ℕ → Bool) → List ℕ → ℕ
@@ -209,13 +163,6 @@ pub few_known : (known : List Known) (xs : List ℕ) (i n : ℕ) → IsStrictlyI
     n ≤ sum_of known
 few_known known xs i n h l e =
     omega (arith, e, ap (hits (is_known (map run_of known))) (take_all i xs l), hits_runs (map run_of known) xs (rises_by xs 0 (λ k. omega arith) h))
-
--- no byte of no address
-pub file_none : (runs : List ByteRun) (bytes : List FileByte) (xs : List ℕ) → bytes ≡ [] → AreFileBytes runs (Contains (take 0 xs)) bytes
-file_none runs bytes xs e = record {
-  sound = λ f k. absurd (omega (arith, k.1, ap length e));
-  complete = λ a b k h. absurd (omega (arith, k.1));
-}
 
 and_more : (runs : List ByteRun) (xs : List ℕ) (bytes : List FileByte) (a : ℕ) (o : Option ℕ) → o ≡ byte_of_runs runs a →
     AreFileBytes runs (Contains xs) bytes →

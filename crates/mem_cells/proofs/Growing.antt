@@ -155,9 +155,6 @@ grown_word a b g r x t p l = ap (λ z. z.word) (kept_values a.dag b.dag p.extend
 pub grown_width : (a b : Build) (g r w t : ℕ) → Grown a b g r → HasWidth a.dag w t → HasWidth b.dag w t
 grown_width a b g r w t p h = kept_width a.dag b.dag p.extends w t h
 
-pub grown_typed : (a b : Build) (g r : ℕ) → Grown a b g r → IsBuilt b
-grown_typed a b g r p = p.built
-
 -- a memory that gives the reads of more cells gives those of fewer
 pub gives_before : (a b : Build) (g r : ℕ) (x : TermReading) → IsBuilt a → Grown a b g r → GivesAll b x → GivesAll a x
 gives_before a b g r x i p h j l =

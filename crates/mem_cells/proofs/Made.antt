@@ -3,7 +3,7 @@ use Rattle.std.proofs.Common.{◌≡◌, inl, inr, ℕ, ◌+◌, ◌-◌, ◌*�
 use Rattle.walk_spec.specs.Terms.{TermNode, HasWidth}
 use Rattle.walk_spec.specs.Unrolled.{UnrolledProgram, byte_of_runs}
 use Rattle.walk_spec.specs.Prices.{known_of}
-use Rattle.walk_spec.specs.WalkQuestions.{QuestionTerm, AreTermsWithin, question_room}
+use Rattle.walk_spec.specs.WalkQuestions.{QuestionTerm, Room, AreTermsWithin}
 use Rattle.question_form.specs.Questions.{program_of_question}
 use Rattle.term_dag.specs.declared.nodes.Term.{Term}
 use Rattle.mem_cells.specs.declared.building.Build.{Build}
@@ -27,7 +27,7 @@ all_within n i j (k, inr h) = absurd (omega (arith, h.1))
 
 pub made_of : (u : UnrolledProgram) (t : QuestionTerm) (asks : ℕ →
     Bool) (mid tied b : Build) (words : List Term) (numbers : List ℕ) (stored : List StoredByte) (pieces : List Piece) (ts : List Agreement) (xs : List AskedByte)
-    (file : List FileByte) (root : Term) → AreTermsWithin u (question_room u) t.nodes → HasWidth t.nodes 1 t.root →
+    (file : List FileByte) (root : Term) → (room : Room) × AreTermsWithin u room t.nodes → HasWidth t.nodes 1 t.root →
     ((a c : ℕ) → byte_of_runs u.known a ≡ Some c → c < 256) →
     program_of_build mid ≡ u → source_of mid ≡ t.nodes → AreLowered (source_of mid) (length t.nodes) mid words numbers stored pieces →
     Grown mid tied (16 * (length (read_places mid) * (length (read_places mid) - 1))) 0 → AreTies tied ts (Before (length (read_places tied)) 0) →

@@ -55,9 +55,6 @@ both : (a b : Bool) → (if a then b else false) ≡ true → (a ≡ true) × (b
 both true b e = (refl, e)
 both false b e = cc
 
-same_base : (a b n m : ℕ) → (a == b) ≡ true → a ≡ b
-same_base a b n m h = grind (arith, nat_tests)
-
 -- the byte that a store surely puts at an address, whatever it stands over
 put_here : (b : Build) (stored : List StoredByte) (at to : Split) (first n address : ℕ) (x : TermReading) (y : ℕ) → IsBuilt b → InRange x →
     IsStored b.dag stored to first n →

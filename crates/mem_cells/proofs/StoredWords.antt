@@ -54,10 +54,6 @@ extracted old new v t n i lowest e p h =
           ∙ ap (λ z. term_word x old.dag v / 256 ^ z % 256) p;
     }
 
--- no byte is written yet
-pub written_none : (old : Build) (stored : List StoredByte) (first a v n : ℕ) (e : Endian) → IsWritten old old stored first 0 a v n e
-written_none old stored first a v n e = record { addresses = λ j l. absurd (omega (arith, l)); values = λ j l. absurd (omega (arith, l)) }
-
 kept_word : (old new : Build) (g r w t : ℕ) (f : TermReading → ℕ) → Grown old new g r → IsWord old.dag w t f → IsWord new.dag w t f
 kept_word old new g r w t f p h = record { place = grown_width old new g r w t p h.place; value = λ x i. grown_word old new g r x t p h.place.0 ∙ h.value x i }
 

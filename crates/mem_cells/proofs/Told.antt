@@ -1,4 +1,4 @@
--- Cells tell the term that they are made of.
+-- Cells tell the term that they are made of, and its words.
 use Rattle.std.proofs.Common.{◌≡◌, inl, ℕ, zero, suc, ◌+◌, ◌-◌, ◌*◌, ◌<◌, ◌≤◌, Bool, true, List, [], ◌∷◌, Some, length, map, refl, ap, sym, ◌∙◌, subst, arith}
 use Rattle.std.specs.Prelude.{slice_index, Contains}
 use Rattle.std.proofs.Math.Nat.{mul-le-mul_left, mul-le-mul_right}
@@ -7,7 +7,7 @@ use Rattle.std.proofs.lemmas.List.Sums.{get_or-le-sum_by}
 use Rattle.walk_spec.specs.Terms.{TermReading, InRange, TermNode, RegisterNode, FlagNode, ChoiceNode, BaseNode, MemoryNode, ConstantNode, BinaryNode, NotNode, SelectNode, ExtractNode, ConcatNode, ExtendNode, LoadNode, StoreNode, JoinNode, IsTypedOver, HasWidth, width_of, own_loads, term_word, term_gates, term_loads, term_stores, term_joins, node_at, with_mem}
 use Rattle.walk_spec.specs.Unrolled.{UnrolledProgram, byte_of_runs}
 use Rattle.walk_spec.specs.Prices.{loads_of, stores_of, edges_of, known_of}
-use Rattle.walk_spec.specs.WalkQuestions.{QuestionTerm, AreTermsWithin, question_room, HasAsked}
+use Rattle.walk_spec.specs.WalkQuestions.{QuestionTerm, Room, AreTermsWithin, question_room, HasAsked}
 use Rattle.walk_spec.specs.Cells as walk
 use Rattle.walk_spec.specs.Cells.{IsOfWords, Gives, IsAllowed, AreFormed, TellsCells, cell_gates}
 use Rattle.term_dag.specs.declared.nodes.Term.{Term}
@@ -25,6 +25,7 @@ use Rattle.mem_cells.specs.Ties.{AreTies, Before}
 use Rattle.mem_cells.specs.Asked.{file_byte, AreFileBytes, AreAsked, AskedOf}
 use Rattle.mem_cells.specs.Lowering.{AreLowered}
 use Rattle.mem_cells.specs.Views.{agreement_of, asked_of}
+use Rattle.mem_cells.specs.Words.{places_of, IsWordAt, StandsFor, StandForEach, TellsWithWords}
 use Rattle.mem_cells.proofs.Growing.{grown_word, grown_width, gives_before}
 use Rattle.mem_cells.proofs.Gathered.{memory_is}
 use Rattle.mem_cells.proofs.Lowerings.{root_stands, root_means}
@@ -109,7 +110,7 @@ told_cells b ts xs root = record { nodes = b.dag; addresses = read_places b; agr
 pub record IsMadeOf (u : UnrolledProgram) (t : QuestionTerm) (asks : ℕ →
     Bool) (mid b : Build) (words : List Term) (numbers : List ℕ) (stored : List StoredByte) (pieces : List Piece) (ts : List Agreement) (xs : List AskedByte)
     (file : List FileByte) (root : Term) : Type 0 where
-  pub terms : AreTermsWithin u (question_room u) t.nodes
+  pub terms : (room : Room) × AreTermsWithin u room t.nodes
   pub width : HasWidth t.nodes 1 t.root
   pub bytes : (a c : ℕ) → byte_of_runs u.known a ≡ Some c → c < 256
   pub program : program_of_build b ≡ u
@@ -179,22 +180,52 @@ module _ (u : UnrolledProgram) (t : QuestionTerm) (asks : ℕ →
       (file_byte (term_word x b.dag (slice_index (read_places b) j)) y)
       (l, h.given.complete (term_word x b.dag (slice_index (read_places b) j)) y q e) refl)
 
-  pub cells_told : TellsCells u t asks (told_cells b ts xs root)
-  cells_told =
-      let k = lowered_cost t mid words numbers stored pieces h.lowered in
-      let few : length (read_places mid) ≤ loads_of u = omega (arith, k.1, h.terms.loads) in
+  -- the word that stands for a word does so in the cells
+  stands : (w : ℕ) → IsWordAt t.nodes w → StandsFor t.nodes (told_cells b ts xs root) w (link words w)
+  stands w k =
+      let old = h.lowered.stands.widths w k.0 k.1 in
+      record {
+        width = grown_width mid b cost 0 (width_of (node_at t.nodes w)) (link words w) h.grown old;
+        value = λ x i v. grown_word mid b cost 0 x (link words w) h.grown old.0 ∙ root_means t.nodes mid words numbers stored pieces
+            (width_of (node_at t.nodes w)) w h.lowered k.1 (k.0, refl) x i (gives_before mid b cost 0 x h.lowered.stands.built h.grown v);
+      }
+
+  stand_each : (ws : List Term) → ((w : Term) → Contains ws w → IsWordAt t.nodes w.0) →
+      StandForEach t.nodes (told_cells b ts xs root) (places_of ws) (map (link words) (places_of ws))
+  stand_each [] k = tt
+  stand_each (w ∷ ws) k =
+      (stands w.0 (k w (0, omega arith, refl)), stand_each ws (λ v c. k v (suc c.0, omega (arith, c.1), c.2)))
+
+  pub told_with_words : (asked_words places : List Term) → ((w : Term) → Contains asked_words w → IsWordAt t.nodes w.0) →
+      places_of places ≡ map (link words) (places_of asked_words) →
+      TellsWithWords u t (places_of asked_words) asks (told_cells b ts xs root) (places_of places)
+  told_with_words ws ps k e =
+      let c = lowered_cost t mid words numbers stored pieces h.lowered in
       record {
         formed = formed;
         same = same;
+        each = subst (StandForEach t.nodes (told_cells b ts xs root) (places_of ws)) (sym e) (stand_each ws k);
         sound = sound;
         complete = complete;
-        gates = omega (
+        gates = λ loads l. omega (
           arith,
           h.grown.gates,
-          k.0,
-          within_price (term_gates t.nodes) (term_loads t.nodes) (term_stores t.nodes) (term_joins t.nodes) (loads_of u) (stores_of u) (edges_of u) (known_of u)
+          c.0,
+          within_price (term_gates t.nodes) (term_loads t.nodes) (term_stores t.nodes) (term_joins t.nodes) loads (stores_of u) (edges_of u) (known_of u)
               (length (read_places mid)) (length file)
-              h.terms.loads h.terms.stores h.terms.joins few h.few,
+              l h.terms.1.stores h.terms.1.joins (omega (arith, c.1, l)) h.few,
         );
-        reads = omega (arith, h.grown.reads, few);
+        reads = λ loads l. omega (arith, h.grown.reads, c.1, l);
       }
+
+-- so they tell a question's term
+pub told_within : (u : UnrolledProgram) (t : QuestionTerm) (words : List ℕ) (asks : ℕ → Bool) (c : walk.Cells) (places : List ℕ) →
+    AreTermsWithin u (question_room u) t.nodes → TellsWithWords u t words asks c places → TellsCells u t asks c
+told_within u t words asks c places w h = record {
+  formed = h.formed;
+  same = h.same;
+  sound = h.sound;
+  complete = h.complete;
+  gates = h.gates (loads_of u) w.loads;
+  reads = h.reads (loads_of u) w.loads;
+}

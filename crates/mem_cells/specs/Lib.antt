@@ -4,3 +4,4 @@ pub mod Lowering
 pub mod Pieces
 pub mod Ties
 pub mod Views
+pub mod Words

@@ -32,3 +32,11 @@ pub struct Celled<'a> {
     /// The bit that says whether the question is true.
     pub root: Term,
 }
+
+/// Cells, and places in them of some words of the question.
+#[derive(Drop)]
+pub struct CelledWords<'a> {
+    pub celled: Celled<'a>,
+    /// The place of each word, in the order in which they were asked for.
+    pub words: Vec<Term>,
+}

@@ -1,4 +1,5 @@
-//! The memory of a question as bytes that are read once: nodes over words, base reads, and what ties these to each other and to the bytes of the file.
+//! The memory of a question as bytes that are read once (read-over-write, Ackermann constraints): nodes over words, base reads, and what ties these to each
+//! other and to the bytes of the file.
 #![tactic(auto)]
 
 mod asking;
@@ -12,5 +13,5 @@ mod pieces;
 mod stores;
 mod ties;
 
-pub use cells::{Agreement, AskedByte, Celled};
-pub use making::cells_some;
+pub use cells::{Agreement, AskedByte, Celled, CelledWords};
+pub use making::{cells_some, cells_with_words};

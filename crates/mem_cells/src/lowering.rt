@@ -1,6 +1,6 @@
 //! The terms of a question as cells.
 
-ghost use Rattle.std.specs.Prelude.{◌≡◌, ◌+◌, ◌<◌, [], length, slice_index, IfOk, OnOk};
+ghost use Rattle.std.specs.Prelude.{◌≡◌, ◌+◌, ◌<◌, [], length, map, slice_index, Contains, IfOk, OnOk};
 ghost use Rattle.std.specs.List.{AllByRecursion};
 ghost use Rattle.walk_spec.specs.Cells.{IsOfWords};
 ghost use Rattle.walk_spec.specs.Terms.{LoadNode, StoreNode, JoinNode, MemoryNode, AreTyped};
@@ -11,6 +11,8 @@ ghost use Rattle.term_dag.specs.Made.{moved, operands};
 ghost use Rattle.mem_cells.specs.Pieces.{link};
 ghost use Rattle.mem_cells.specs.Building.{program_of_build, read_places, IsBuilt};
 ghost use Rattle.mem_cells.specs.Lowering.{source_of, Lowers, IsNextOf};
+ghost use Rattle.mem_cells.specs.Words.{places_of};
+ghost use Rattle.term_dag.specs.declared.nodes.Term.{Term};
 
 use crate::building::Build;
 use crate::loads::load;
@@ -34,6 +36,18 @@ impl Lowered {
         ensures { result.0 ≡ link self.now.words.items term.0 }
     {
         self.words[term.0 as usize]
+    }
+
+    /// The words that stand for some terms. The error is out of memory.
+    pub fn words_for(&self, alloc: Global, terms: &[Term]) -> Result<Vec<Term>, AllocError>
+        requires { (t : Term) → Contains terms.now t → t.0 < length self.now.words.items }
+        ensures { IfOk result (λ v. places_of v.items ≡ map (link self.now.words.items) (places_of terms.now)) }
+    {
+        let mut words = Vec::with_capacity(alloc, terms.len())?;
+        for term in terms {
+            words.push(self.word(*term))?;
+        }
+        Ok(words)
     }
 
     /// The number that stands for a term.

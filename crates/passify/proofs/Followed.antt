@@ -1,18 +1,17 @@
 -- Where the walk goes on.
-use Rattle.std.proofs.Common.{◌≡◌, ℕ, ◌*◌, ◌≤◌, Bool, true, false, List, [], refl, ap, sym, ◌∙◌, subst, arith}
+use Rattle.std.proofs.Common.{◌≡◌, ℕ, ◌*◌, Bool, true, false, List, [], refl, ap, sym, ◌∙◌, subst, arith}
 use Rattle.std.specs.Prelude.{map, sum_by}
 use Rattle.bilv_spec.specs.Notes.{NoteLine}
 use Rattle.bilv_spec.specs.Points.{line_price, bytes_loaded}
 use Rattle.bilv_spec.specs.Run.{false_line}
-use Rattle.walk_spec.specs.Terms.{TermReading, TermNode, AreTyped, HasWidth}
+use Rattle.walk_spec.specs.Terms.{TermReading, TermNode}
 use Rattle.walk_spec.specs.Unrolled.{Walk, WalkTurns, carried_of, out_by}
 use Rattle.walk_spec.specs.Sweep.{Held, held_if, hand}
 use Rattle.walk_spec.specs.Prices.{line_steps}
-use Rattle.term_dag.proofs.Growth.{grew_more, grew_none, inputs_none}
+use Rattle.term_dag.proofs.Growth.{grew_more}
 use Rattle.question_form.specs.declared.unrolled.Aim.TheVariants.{OnTo, Outward, OverLast}
 use Rattle.note_terms.specs.declared.Now.{Now}
 use Rattle.passify.specs.declared.sweep.Sweep.{Sweep}
-use Rattle.passify.specs.Bits.{Makes}
 use Rattle.passify.specs.Sweeps.{Steps, Hands, ShowsAt, ComesTo}
 use Rattle.passify.specs.Situations.{AreLines, LinesTried, goes_out_by}
 use Rattle.passify.specs.Edges.{Follows}

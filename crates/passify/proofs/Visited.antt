@@ -5,24 +5,27 @@ use Rattle.std.specs.Vec.{with_item}
 use Rattle.std.proofs.Math.ListN.{set}
 use Rattle.std.proofs.lemmas.List.{get_or-map, length-map, length-set}
 use Rattle.std.proofs.lemmas.Option.{slice_get_read}
+use Rattle.word_spec.specs.RowFiles.{from_to}
 use Rattle.bilv_spec.specs.Questions.{Reading}
 use Rattle.walk_spec.specs.Terms.{TermReading, TermNode, ChoiceNode, HasWidth, term_word}
-use Rattle.walk_spec.specs.Unrolled.{UnrolledProgram, WalkIsAt, walk_on, point_at, no_point}
+use Rattle.walk_spec.specs.Unrolled.{Carried, UnrolledProgram, WalkIsAt, walk_on, point_at, no_point}
 use Rattle.walk_spec.specs.Sweep.{Held, held, held_if, hand, sweep_on}
-use Rattle.walk_spec.specs.Passive.{UnderAll, Denotes, Tells}
+use Rattle.walk_spec.specs.Passive.{AreNames, UnderAll, Denotes, Tells}
 use Rattle.walk_spec.specs.WalkQuestions.{IsNamedBelow, AreNamedBelow, term_reading}
 use Rattle.term_dag.specs.declared.nodes.Term.{Term}
 use Rattle.term_dag.specs.Nodes.{IsInput}
-use Rattle.term_dag.specs.Made.{InputsFrom}
-use Rattle.term_dag.proofs.Growth.{grew_none}
+use Rattle.term_dag.specs.Made.{Grew, InputsFrom}
+use Rattle.term_dag.proofs.Growth.{grew_none, grew_width}
 use Rattle.term_names.specs.declared.names.Names.{Names}
 use Rattle.term_names.specs.Views.{AreFor, form_of, names_of}
+use Rattle.term_names.specs.Chosen.{HaveSameForm}
 use Rattle.term_names.proofs.OfForm.{named_all}
 use Rattle.question_form.specs.declared.unrolled.Unrolled.{Unrolled}
 use Rattle.question_form.specs.declared.unrolled.Point.{Point}
 use Rattle.question_form.specs.declared.questions.Passive.{Passive}
 use Rattle.question_form.specs.Views.{unrolled_of, points_of}
 use Rattle.passify.specs.declared.sweep.Sweep.{Sweep}
+use Rattle.passify.specs.Lasts.{CarriesTo}
 use Rattle.passify.specs.Sweeps.{AreWell, AreCarried, AreLike, ShowsAt, term_at}
 use Rattle.passify.specs.Handled.{IsHandled, IsSweepOf}
 use Rattle.passify.specs.Made.{IsPassiveOf}
@@ -30,7 +33,7 @@ use Rattle.passify.specs.Swept.{AreSwept, LeaveRoom}
 use Rattle.passify.proofs.Lines.{drop_here, drop_all}
 use Rattle.passify.proofs.Pushed.{met_bit, other_default}
 use Rattle.passify.proofs.Tried.{bit_false}
-use Rattle.passify.proofs.Kept.{truth}
+use Rattle.passify.proofs.Kept.{truth, word_keeps}
 use Rattle.passify.proofs.Rooms.{room_on, room_past, all_gates, all_loads, all_stores, all_joins, all_few}
 
 -- as many points as there are in the value
@@ -105,6 +108,56 @@ next t = omega arith
 like_sweep : (u : Unrolled) (s z : Sweep) → AreLike s z → IsSweepOf u s → IsSweepOf u z
 like_sweep u s z l k = record { form = subst (AreFor (unrolled_of u)) (sym l.entry) k.form; at = l.at ∙ k.at; places = l.places ∙ k.places }
 
+-- terms of the form of others are for the same registers and flags
+for_same : (u : UnrolledProgram) (a b : Names) → AreFor u a → HaveSameForm a b → AreFor u b
+for_same u a b f h = record {
+  registers = f.registers ∙ (λ k. from_to (h.first k) (h.registers k));
+  flags = f.flags ∙ h.flags;
+}
+
+-- terms for a form are terms for a program of it
+module _ (u : UnrolledProgram) (nodes : List TermNode) (n : Names) (f : AreFor u n) where
+  names_for : AreNames (form_of n) nodes (names_of n) → AreNames u nodes (names_of n)
+  names_for h = record {
+    registers = h.registers ∙ ap (λ (l : List ℕ). length l) (sym f.registers);
+    flags = h.flags ∙ sym f.flags;
+    words = λ i l. h.words i (subst (λ (xs : List ℕ). i < length xs) f.registers l);
+    bits = λ i l. h.bits i (subst (λ (m : ℕ). i < m) f.flags l);
+    memory = h.memory;
+  }
+
+  denotes_for : (x : TermReading) (c : Carried) → Denotes (form_of n) nodes x (names_of n) c → Denotes u nodes x (names_of n) c
+  denotes_for x c d = record {
+    registers = λ i l.
+        d.registers i (subst (λ (xs : List ℕ). i < length xs) f.registers l) ∙ ap (λ (xs : List ℕ). c.regs (slice_index xs i)) (sym f.registers);
+    flags = λ i l. d.flags i (subst (λ (m : ℕ). i < m) f.flags l);
+    memory = d.memory;
+  }
+
+-- what is carried to a place stays as the terms grow
+pub carries_on : (u : UnrolledProgram) (t : ℕ) (old new : List TermNode) (n : Names) {g l st j m : ℕ} → Grew old new g l st j m → CarriesTo u t old n →
+    CarriesTo u t new n
+carries_on u t old new n {g} {l} {st} {j} {m} grew k =
+    let h = k.names in
+    record {
+      form = k.form;
+      names = record {
+        registers = h.registers;
+        flags = h.flags;
+        words = λ i w. grew_width old new g l st j m 32 (slice_index (names_of n).registers i) grew (h.words i w);
+        bits = λ i w. grew_width old new g l st j m 1 (slice_index (names_of n).flags i) grew (h.bits i w);
+        memory = grew_width old new g l st j m 0 (names_of n).memory grew h.memory;
+      };
+      denotes = λ r i e met.
+          let x = term_reading u r in
+          let d = k.denotes r i e met in
+          record {
+            registers = λ i w. word_keeps grew x (slice_index (names_of n).registers i) (h.words i w).0 ∙ d.registers i w;
+            flags = λ i w. word_keeps grew x (slice_index (names_of n).flags i) (h.bits i w).0 ∙ d.flags i w;
+            memory = ap (λ v. v.bytes) (grew.keeps x (names_of n).memory h.memory.0) ∙ d.memory;
+          };
+    }
+
 module _ (u : Unrolled) (t : ℕ) (old : List TermNode) (s : Sweep) (a : AreSwept u t old s) (within : t < length u.points.items) where
   here : drop t (unrolled_of u).points ≡ point_at (unrolled_of u) t ∷ drop (t + 1) (unrolled_of u).points
   here =
@@ -159,6 +212,22 @@ module _ (u : Unrolled) (t : ℕ) (old : List TermNode) (s : Sweep) (a : AreSwep
       let x = term_reading (unrolled_of u) r in
       let is : met.0 ≡ term_at s.met.items t = ap (λ q. q.0) (at ∙ other_default s.met.items t met (record { 0 = 0 }) place) in
       bit_false ((held (unrolled_of u) r t).met t) (sym ((a.shows r k p).mets t place) ∙ ap (term_word x old) (sym is) ∙ none x)
+
+  -- the terms of a place are what is carried to it
+  pub carried_there : (n : Names) → slice_get s.states.items t ≡ Some (Some n) → CarriesTo (unrolled_of u) t old n
+  carried_there n has =
+      let terms = a.well.states t n has in
+      let f = for_same (unrolled_of u) s.entry n a.sweep.form terms.same in
+      record {
+        form = f;
+        names = names_for (unrolled_of u) old n f terms.names;
+        denotes = λ r i e met.
+            let x = term_reading (unrolled_of u) r in
+            let h = held (unrolled_of u) r t in
+            let c = (a.shows r i e).carries t (omega arith) place met in
+            denotes_for (unrolled_of u) old n f x (h.carried t)
+            (subst (λ (q : Names). Denotes (form_of q) old x (names_of q) (h.carried t)) (sym (same_names n c.names (sym has ∙ c.is))) c.denotes);
+      }
 
   -- where the point is handled
   pub handled_by : (new : List TermNode) (z : Sweep) (n : Names) → slice_get s.states.items t ≡ Some (Some n) → IsHandled u old new (forget s t) z t n →

@@ -2,6 +2,7 @@ pub mod Bits
 pub mod Edges
 pub mod Exits
 pub mod Handled
+pub mod Lasts
 pub mod Made
 pub mod Rows
 pub mod Situations

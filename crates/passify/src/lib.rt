@@ -11,4 +11,5 @@ mod sweep;
 mod sweeping;
 mod writing;
 
-pub use sweeping::passive;
+pub use point::edges_at;
+pub use sweeping::{ToLast, passive, passive_to_last};

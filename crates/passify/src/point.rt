@@ -28,7 +28,7 @@ use term_dag::{Dag, Node, Term};
 use term_names::Names;
 
 /// The edges of the point at a place.
-fn edges_at<'a>(unrolled: &'a Unrolled, place: usize) -> &'a [Edge]
+pub fn edges_at<'a>(unrolled: &'a Unrolled, place: usize) -> &'a [Edge]
     requires formed { IsFormed unrolled.now }
     requires place { place < length unrolled.now.points.items }
     ensures { result.now ≡ own_edges unrolled.now place }

@@ -4,6 +4,7 @@ ghost use Rattle.std.specs.Prelude.{◌≡◌, ◌<◌, ◌+◌, ◌-◌, [], So
 ghost use Rattle.walk_spec.specs.Unrolling.{IsWalkable};
 ghost use Rattle.question_form.specs.Views.{unrolled_of};
 ghost use Rattle.question_form.specs.Forms.{IsFormed};
+ghost use Rattle.passify.specs.Lasts.{AreCarriedTo};
 ghost use Rattle.passify.specs.Made.{IsPassiveOf};
 ghost use Rattle.passify.specs.Swept.{AreSwept, row};
 
@@ -83,32 +84,82 @@ fn begin(alloc: Global, dag: &mut Dag, unrolled: &Unrolled) -> Result<Sweep, All
     })
 }
 
-/// The point of a place is handled, if it can be met at all.
+/// The point of a place is handled, if it can be met at all. The result are the terms of what is carried to it, if a walk can come to it.
 fn visit(
     alloc: Global,
     unrolled: &Unrolled,
     dag: &mut Dag,
     sweep: &mut Sweep,
     place: u32,
-) -> Result<(), AllocError>
+) -> Result<Option<Names>, AllocError>
     requires walkable { IsWalkable (unrolled_of unrolled.now) }
     requires formed { IsFormed unrolled.now }
     requires place { place < length unrolled.now.points.items }
     requires swept { AreSwept unrolled.now place dag.old sweep.old }
-    ensures { IfOk result (λ _. AreSwept unrolled.now (place + 1) dag.new sweep.new) }
+    ensures swept { IfOk result (λ _. AreSwept unrolled.now (place + 1) dag.new sweep.new) }
+    ensures carried { IfOk result (λ names. AreCarriedTo (unrolled_of unrolled.now) place dag.new names) }
 {
     let met = sweep.met[place as usize];
     let state = replace(&mut sweep.states[place as usize], None);
     match state {
-        None => Ok(()),
+        None => Ok(None),
         Some(names) => {
             if let Some(0) = dag.constant(met) {
-                return Ok(());
+                return Ok(Some(names));
             }
             handle(alloc, unrolled, dag, sweep, place, &names)?;
-            Ok(())
+            Ok(Some(names))
         }
     }
+}
+
+/// A passive program, and the terms of what is carried to its last place.
+#[derive(Drop)]
+pub struct ToLast<'a> {
+    pub passive: Passive<'a>,
+    /// Over the nodes of the passive program; `None` only where no walk comes to the last place.
+    pub last: Option<Names>,
+}
+
+/// The passive program of an unrolled one, of which terms can be made, with the terms of what is carried to its last place.
+///
+/// # Errors
+///
+/// Out of memory, or of numbers for places.
+pub fn passive_to_last<'a>(
+    alloc: Global,
+    unrolled: &'a Unrolled<'a>,
+) -> Result<ToLast<'a>, AllocError>
+    requires walkable { IsWalkable (unrolled_of unrolled.now) }
+    requires formed { IsFormed unrolled.now }
+    ensures passive { IfOk result (λ t. IsPassiveOf unrolled.now t.passive) }
+    ensures last { IfOk result (λ t. AreCarriedTo (unrolled_of unrolled.now) (length (unrolled_of unrolled.now).points - 1) t.passive.dag t.last) }
+{
+    let mut dag = Dag::new(alloc);
+    let mut sweep = begin(alloc, &mut dag, unrolled)?;
+    let mut last = None;
+    for place in 0..unrolled.points.len() {
+        if place > LAST {
+            return Err(AllocError);
+        }
+        last = visit(alloc, unrolled, &mut dag, &mut sweep, place as u32)?;
+    }
+    let Sweep {
+        met,
+        fails,
+        turns,
+        ..
+    } = sweep;
+    Ok(ToLast {
+        passive: Passive {
+            unrolled,
+            dag,
+            met,
+            fails,
+            turns,
+        },
+        last,
+    })
 }
 
 /// The passive program of an unrolled one, of which terms can be made: for each point whether it is met, and whether an event or one backward transfer too many
@@ -118,25 +169,6 @@ pub fn passive<'a>(alloc: Global, unrolled: &'a Unrolled<'a>) -> Result<Passive<
     requires formed { IsFormed unrolled.now }
     ensures { IfOk result (λ p. IsPassiveOf unrolled.now p) }
 {
-    let mut dag = Dag::new(alloc);
-    let mut sweep = begin(alloc, &mut dag, unrolled)?;
-    for place in 0..unrolled.points.len() {
-        if place > LAST {
-            return Err(AllocError);
-        }
-        visit(alloc, unrolled, &mut dag, &mut sweep, place as u32)?;
-    }
-    let Sweep {
-        met,
-        fails,
-        turns,
-        ..
-    } = sweep;
-    Ok(Passive {
-        unrolled,
-        dag,
-        met,
-        fails,
-        turns,
-    })
+    let ToLast { passive, .. } = passive_to_last(alloc, unrolled)?;
+    Ok(passive)
 }

@@ -1,4 +1,4 @@
-mod Capped
+pub mod Capped
 mod Repeated
 mod Coded
 mod Dropped
@@ -15,6 +15,7 @@ pub mod Literals
 mod Found
 pub mod Ordered
 pub mod Adding
+pub mod Asked
 pub mod Places
 pub mod Coding
 pub mod Ends

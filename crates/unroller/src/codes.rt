@@ -1,5 +1,5 @@
 //! What stands at an address.
-ghost use Rattle.std.specs.Prelude.{◌≡◌, ◌++◌, ℕ, IfOk, OnOk, None, Some, false, Contains, length};
+ghost use Rattle.std.specs.Prelude.{◌≡◌, ◌++◌, ℕ, Bool, IfOk, OnOk, None, Some, false, Contains, length};
 ghost use Rattle.std.specs.List.Sorted.{IsNonDecreasingBy};
 ghost use Rattle.bilv_spec.specs.Files.{order_of, program_of};
 ghost use Rattle.machine_spec.specs.Machine.{Machine};
@@ -11,6 +11,7 @@ ghost use Rattle.bil_ast.specs.Views.{statements};
 ghost use Rattle.byte_mem.specs.Views.{endian_of};
 ghost use Rattle.graph_nodes.specs.Graphs.{IsGraph, IsKeptLive, IsNode, LiveStay, addresses_of};
 ghost use Rattle.graph_nodes.specs.Places.{AreRising};
+ghost use Rattle.unroller.specs.Asking.{program_asking};
 ghost use Rattle.unroller.specs.Places.{AreCodes, IsRowCode};
 ghost use Rattle.unroller.specs.Rows as rows;
 ghost use Rattle.unroller.specs.Rows.{AreLiterals, IsListAt};
@@ -55,7 +56,7 @@ fn bare(node: &Node, asserts: (usize, usize)) -> Code
 
 /// The address of the literal that an instruction loads where it stands at an address, if its four bytes are kept.
 fn kept_literal<M: Machine>(image: &Image, insn: &M::Insn, at: u32) -> Option<u32>
-    ensures { (n : Notes) (e : ℕ) → result ≡ rows.kept_literal (program_of M.machine image.now n e) ((M.Machine.row insn.now).literal at) }
+    ensures { (n : Notes) (e : ℕ) (o : ℕ → Bool) → result ≡ rows.kept_literal (program_asking M.machine image.now n e o) ((M.Machine.row insn.now).literal at) }
 {
     match M::literal(insn, at) {
         None => None,
@@ -106,10 +107,10 @@ fn listed<M: Machine>(
     node: &Node,
 ) -> Result<RowList, AllocError>
     requires { order_of image.now ≡ M.machine.endian }
-    ensures list { (n : Notes) (e : ℕ) → IsKeptLive (program_of M.machine image.now n e) node.now →
-        IfOk result (λ l. IsListAt (program_of M.machine image.now n e) M.bank (M.Machine.row insn.now) node.now.at (statements l.list.items)) }
-    ensures loads { (n : Notes) (e : ℕ) → IfOk result (λ l.
-        l.loads ≡ loads_at (program_of M.machine image.now n e) node.now.at (Some (M.Machine.row insn.now))) }
+    ensures list { (n : Notes) (e : ℕ) (o : ℕ → Bool) → IsKeptLive (program_asking M.machine image.now n e o) node.now →
+        IfOk result (λ l. IsListAt (program_asking M.machine image.now n e o) M.bank (M.Machine.row insn.now) node.now.at (statements l.list.items)) }
+    ensures loads { (n : Notes) (e : ℕ) (o : ℕ → Bool) → IfOk result (λ l.
+        l.loads ≡ loads_at (program_asking M.machine image.now n e o) node.now.at (Some (M.Machine.row insn.now))) }
 {
     let lifted = M::lift(alloc, insn, node.at)?;
     let trimmed = with_flags(lifted, alloc, node.keeps)?;
@@ -136,8 +137,8 @@ pub fn code_at<M: Machine>(
     requires { order_of image.now ≡ M.machine.endian }
     ensures at { IfOk result (λ c. c.at ≡ node.now.at) }
     ensures asserts { IfOk result (λ c. c.asserts ≡ asserts) }
-    ensures row { (n : Notes) (e : ℕ) → IsNode (program_of M.machine image.now n e) node.now → IsKeptLive (program_of M.machine image.now n e) node.now →
-        IfOk result (λ c. IsRowCode (program_of M.machine image.now n e) M.bank c) }
+    ensures row { (n : Notes) (e : ℕ) (o : ℕ → Bool) → IsNode (program_asking M.machine image.now n e o) node.now →
+        IsKeptLive (program_asking M.machine image.now n e o) node.now → IfOk result (λ c. IsRowCode (program_asking M.machine image.now n e o) M.bank c) }
 {
     let word = match node.word {
         None => return Ok(bare(node, asserts)),
@@ -175,8 +176,9 @@ pub fn codes_at<M: Machine>(
     requires nodes { AreRising graph.now.nodes.items }
     requires among { (a : ℕ) → Contains addresses.now a → Contains (addresses_of graph.now) a }
     requires sorted { IsNonDecreasingBy (λ x. x.0) asserts.now }
-    ensures { (n : Notes) (e : ℕ) → IsGraph (program_of M.machine image.now n e) graph.now → LiveStay (program_of M.machine image.now n e) graph.now →
-        IfOk result (λ v. AreCodes (program_of M.machine image.now n e) M.bank addresses.now asserts.now (length addresses.now) v.items) }
+    ensures { (n : Notes) (e : ℕ) (o : ℕ → Bool) → IsGraph (program_asking M.machine image.now n e o) graph.now →
+        LiveStay (program_asking M.machine image.now n e o) graph.now →
+        IfOk result (λ v. AreCodes (program_asking M.machine image.now n e o) M.bank addresses.now asserts.now (length addresses.now) v.items) }
 {
     let mut codes: Vec<Code> = Vec::with_capacity(alloc, addresses.len())?;
     for at in addresses {
@@ -192,8 +194,8 @@ pub fn codes_at<M: Machine>(
 
 /// The address of the literal that the row of a node loads, if its four bytes are kept.
 fn node_literal<M: Machine>(image: &Image, node: &Node) -> Option<u32>
-    ensures { (n : Notes) (e : ℕ) → IsNode (program_of M.machine image.now n e) node.now →
-        result ≡ rows.literal_at (program_of M.machine image.now n e) node.now.at }
+    ensures { (n : Notes) (e : ℕ) (o : ℕ → Bool) → IsNode (program_asking M.machine image.now n e o) node.now →
+        result ≡ rows.literal_at (program_asking M.machine image.now n e o) node.now.at }
 {
     match node.word {
         None => None,
@@ -223,8 +225,8 @@ pub fn literals_at<M: Machine>(
 ) -> Result<Vec<u32>, AllocError>
     requires nodes { AreRising graph.now.nodes.items }
     requires among { (a : ℕ) → Contains addresses.now a → Contains (addresses_of graph.now) a }
-    ensures { (n : Notes) (e : ℕ) → IsGraph (program_of M.machine image.now n e) graph.now →
-        IfOk result (λ v. AreLiterals (program_of M.machine image.now n e) addresses.now (length addresses.now) v.items) }
+    ensures { (n : Notes) (e : ℕ) (o : ℕ → Bool) → IsGraph (program_asking M.machine image.now n e o) graph.now →
+        IfOk result (λ v. AreLiterals (program_asking M.machine image.now n e o) addresses.now (length addresses.now) v.items) }
 {
     let mut found: Vec<u32> = Vec::new(alloc);
     for at in addresses {

@@ -17,5 +17,5 @@ pub use laws::{
     ends_make_edges, entry_comes_first, exits_are_returns, forms_are_right, kept_runs_are_right,
     lists_do_rows, places_are_right, points_are_at,
 };
-pub use prices::price;
-pub use unrolling::unroll;
+pub use prices::{price, price_with};
+pub use unrolling::{unroll, unroll_asking};

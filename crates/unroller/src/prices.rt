@@ -8,6 +8,7 @@ ghost use Rattle.question_form.specs.Views.{code_of, edge_of, point_by, unrolled
 ghost use Rattle.walk_spec.specs.Unrolled.{goes_out};
 ghost use Rattle.walk_spec.specs.Prices.{cell_price, unrolled_price};
 ghost use Rattle.unroller.specs.LineCosts.{capped, AreLineCosts};
+ghost use Rattle.unroller.specs.More.{price_with};
 ghost use Rattle.unroller.specs.Points.{AreOfCode};
 ghost use Rattle.unroller.specs.Totals.{AreSums, AreTotals};
 
@@ -179,17 +180,18 @@ fn gate_price(rows: u128, edges: u128, lines: u128, stores: u128, runs: u128) ->
     plus(evaluated, times(128, times(stores, runs)))
 }
 
-/// The price of an unrolled program; 2^128 - 1 stands for all that are greater, which no notes come to that fit a memory. Time goes with points, edges and the
-/// lines that are evaluated at points. It takes no memory.
-pub fn price(u: &Unrolled) -> u128
+/// The price of an unrolled program with so many more byte loads; 2^128 - 1 stands for all that are greater, also of the loads. Time goes with points, edges and
+/// the lines that are evaluated at points. It takes no memory.
+pub fn price_with(u: &Unrolled, more: u128) -> u128
     requires { IsFormed u.now }
-    ensures { result ≡ capped (unrolled_price (unrolled_of u.now)) }
+    ensures { (x : ℕ) → more ≡ capped x → result ≡ capped (price_with (unrolled_of u.now) x) }
 {
     let required = lines_cost(&u.notes.required);
     let ensured = lines_cost(&u.notes.ensured);
     let totals = all_totals(u, ensured);
     let lines = plus(required.price, totals.lines);
-    let loads = plus(totals.loads, required.loads);
+    let own_loads = plus(totals.loads, required.loads);
+    let loads = plus(own_loads, more);
     let gates = gate_price(
         totals.rows,
         totals.edges,
@@ -200,4 +202,13 @@ pub fn price(u: &Unrolled) -> u128
     let known = known_count(&u.known);
     let memory = memory_price(loads, totals.stores, totals.edges, known);
     plus(gates, memory)
+}
+
+/// The price of an unrolled program; 2^128 - 1 stands for all that are greater, which no notes come to that fit a memory. Time and memory are those of
+/// [`price_with`].
+pub fn price(u: &Unrolled) -> u128
+    requires { IsFormed u.now }
+    ensures { result ≡ capped (unrolled_price (unrolled_of u.now)) }
+{
+    price_with(u, 0)
 }

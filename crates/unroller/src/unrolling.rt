@@ -1,12 +1,13 @@
 //! The unrolled program of a program.
-ghost use Rattle.std.specs.Prelude.{◌≡◌, ◌≤◌, ◌<◌, ◌^◌, ℕ, None, IfOk, IfErr, length, slice_index_or};
+ghost use Rattle.std.specs.Prelude.{◌≡◌, ◌≤◌, ◌<◌, ◌^◌, ℕ, Bool, None, IfOk, IfErr, length, slice_index_or};
 ghost use Rattle.bilv_spec.specs.Elf.{IsKeptRuns};
 ghost use Rattle.bilv_spec.specs.Files.{order_of, program_of};
-ghost use Rattle.graph_nodes.specs.Graphs.{IsGraph};
+ghost use Rattle.graph_nodes.specs.Graphs.{IsFlagSet, IsGraph};
 ghost use Rattle.notes_lang.specs.Drafting.{notes_of};
 ghost use Rattle.program_points.specs.Listed.{HasOneWay, IsTooMany};
 ghost use Rattle.question_form.specs.Forms.{IsFormed};
 ghost use Rattle.question_form.specs.Views.{unrolled_of};
+ghost use Rattle.unroller.specs.Asking.{program_asking};
 ghost use Rattle.unroller.specs.Lookups.{HasForm};
 ghost use Rattle.unroller.specs.Rows.{AssignsLiveOnly, HasListsOf};
 ghost use Rattle.known_bytes.specs.Runs.{AreRuns};
@@ -39,6 +40,73 @@ fn kept<'a>(image: &'a Image<'a>) -> &'a [(u32, u32)]
         prove!(*last <= u32::MAX);
     }
     runs
+}
+
+/// The unrolled program, as `unroll` makes it, of a function that is asked for flags at the exit besides those of its notes: the set `out`, N 8, Z 4, C 2 and
+/// V 1. What is asked for is read at the exit, so that its assignments stay.
+///
+/// # Errors
+///
+/// `TooMany` with the count `max + 1` exactly where there are more than `max` points; out of memory.
+pub fn unroll_asking<'a, M: Machine>(
+    alloc: Global,
+    graph: &Graph,
+    image: &'a Image<'a>,
+    notes: &'a Notes,
+    entry: u32,
+    out: u8,
+    k: u64,
+    max: u64,
+) -> Result<Unrolled<'a>, PointsFault>
+    requires order { order_of image.now ≡ M.machine.endian }
+    requires max { max ≤ 16777216 }
+    requires k { k ≤ 4096 }
+    requires out { out < 16 }
+    requires graph { IsGraph (program_of M.machine image.now (notes_of notes.now) entry) graph.now }
+    requires one_way { HasOneWay (program_of M.machine image.now (notes_of notes.now) entry) }
+    ensures unrolled { (asked : ℕ → Bool) → IsFlagSet out asked →
+        IfOk result (λ u. IsUnrolling (program_asking M.machine image.now (notes_of notes.now) entry asked) k (unrolled_of u)) }
+    ensures lists { (asked : ℕ → Bool) → IsFlagSet out asked →
+        IfOk result (λ u. HasListsOf (program_asking M.machine image.now (notes_of notes.now) entry asked) M.bank (unrolled_of u)) }
+    ensures lean { (asked : ℕ → Bool) → IsFlagSet out asked →
+        IfOk result (λ u. AssignsLiveOnly (program_asking M.machine image.now (notes_of notes.now) entry asked) (unrolled_of u)) }
+    ensures formed { IfOk result (λ u. IsFormed u) }
+    ensures few { IfOk result (λ u. length u.points.items ≤ max) }
+    ensures form { IfOk result (λ u. HasForm M.machine u) }
+    ensures addresses { IfOk result (λ u. (i : ℕ) → i < length (unrolled_of u).points → (point_at (unrolled_of u) i).point.at < 2 ^ 32) }
+    ensures layout { IfOk result (λ u. layout_of u.form ≡ M.form) }
+    ensures runs { IfOk result (λ u. AreRuns u.known.items) }
+    ensures beyond { (x : ℕ) → 2 ^ 32 ≤ x → IfOk result (λ u. byte_of_runs (unrolled_of u).known x ≡ None) }
+    ensures more { (asked : ℕ → Bool) → IsFlagSet out asked →
+        IfErr result (IsTooMany (program_asking M.machine image.now (notes_of notes.now) entry asked) k max) }
+{
+    let live = trim(alloc, graph, out)?;
+    let listed = points(alloc, &live, entry, k, max)?;
+    let mut stacks = listed.stacks;
+    let keys = keys_in_order(point_keys(alloc, &listed.points)?)?;
+    let addresses = addresses(alloc, &keys)?;
+    let index = index_of(alloc, notes)?;
+    let called = calls(alloc, &live, &mut stacks, &keys)?;
+    let codes = codes_at::<M>(alloc, image, &live, &addresses, &index.asserts)?;
+    let literals = literals_at::<M>(alloc, image, &live, &addresses)?;
+    let placed = points_of(alloc, &live, &stacks.frames, &keys, &addresses, &called)?;
+    let known = known_bytes(alloc, image, notes)?;
+    Ok(Unrolled {
+        form: M::layout(),
+        big: image.is_big_machine(),
+        narrow: is_narrow::<M>(),
+        link: M::link(),
+        entry,
+        notes,
+        asserts: index.asserts,
+        kept: kept(image),
+        known: known.runs,
+        literals,
+        frames: stacks.frames,
+        codes,
+        points: placed.points,
+        edges: placed.edges,
+    })
 }
 
 /// The unrolled program of a program with at most `k` backward transfers, from its flow graph: every point once, by backward transfers, address and stack, with
@@ -76,31 +144,6 @@ pub fn unroll<'a, M: Machine>(
     ensures beyond { (x : ℕ) → 2 ^ 32 ≤ x → IfOk result (λ u. byte_of_runs (unrolled_of u).known x ≡ None) }
     ensures more { IfErr result (IsTooMany (program_of M.machine image.now (notes_of notes.now) entry) k max) }
 {
-    let listed = points(alloc, graph, entry, k, max)?;
-    let mut stacks = listed.stacks;
-    let keys = keys_in_order(point_keys(alloc, &listed.points)?)?;
-    let addresses = addresses(alloc, &keys)?;
-    let index = index_of(alloc, notes)?;
-    let called = calls(alloc, graph, &mut stacks, &keys)?;
-    let live = trim(alloc, graph)?;
-    let codes = codes_at::<M>(alloc, image, &live, &addresses, &index.asserts)?;
-    let literals = literals_at::<M>(alloc, image, graph, &addresses)?;
-    let placed = points_of(alloc, graph, &stacks.frames, &keys, &addresses, &called)?;
-    let known = known_bytes(alloc, image, notes)?;
-    Ok(Unrolled {
-        form: M::layout(),
-        big: image.is_big_machine(),
-        narrow: is_narrow::<M>(),
-        link: M::link(),
-        entry,
-        notes,
-        asserts: index.asserts,
-        kept: kept(image),
-        known: known.runs,
-        literals,
-        frames: stacks.frames,
-        codes,
-        points: placed.points,
-        edges: placed.edges,
-    })
+    let unrolled = unroll_asking::<M>(alloc, graph, image, notes, entry, 0, k, max)?;
+    Ok(unrolled)
 }

@@ -48,7 +48,7 @@ few_by xs rise small (suc n) e =
     let below = small (slice_index xs n) (Contains-get_or xs n 0 (omega (arith, e))) in
     omega (arith, last, below)
 
-added_few : (u : UnrolledProgram) (added : List ℕ) → AreAdded u added → length added ≤ 2 ^ 32
+pub added_few : (u : UnrolledProgram) (added : List ℕ) → AreAdded u added → length added ≤ 2 ^ 32
 added_few u added h = few_by added h.rise (λ a has. (h.known a has).0) (length added) refl
 
 -- so rounds end

@@ -85,7 +85,7 @@ range_length n zero = refl
 range_length n (suc count) = ap suc (range_length (n + 1) count)
 
 -- its questions are those of the program
-grounded : (p : Program) (k : ℕ) (form : Layout) (u : UnrolledProgram) → IsUnrolling p k u → IsFitted p.machine form → IsLaidOut form u → HasLawfulRows p →
+pub grounded : (p : Program) (k : ℕ) (form : Layout) (u : UnrolledProgram) → IsUnrolling p k u → IsFitted p.machine form → IsLaidOut form u → HasLawfulRows p →
     p.entry < 2 ^ 32 →
     HasBytes u → length u.points ≤ last_step + 1 → IsGround p k form u
 grounded p k form u un fitted laid lawful entry bytes few = record {
@@ -126,7 +126,7 @@ below_by a n e = grind (arith, nat_tests)
 from_by : (a n : ℕ) → nat_lt a n ≡ false → n ≤ a
 from_by a n e = grind (arith, nat_tests)
 
-bytes_by : (p : Program) (k : ℕ) (u : UnrolledProgram) → IsUnrolling p k u → ((x : ℕ) → 2 ^ 32 ≤ x → byte_of_runs u.known x ≡ None) →
+pub bytes_by : (p : Program) (k : ℕ) (u : UnrolledProgram) → IsUnrolling p k u → ((x : ℕ) → 2 ^ 32 ≤ x → byte_of_runs u.known x ≡ None) →
     ((a : ℕ) → byte_of_cell (p.loaded a) < 256) → (a b : ℕ) (t : Bool) → nat_lt a (2 ^ 32) ≡ t → byte_of_runs u.known a ≡ Some b → b < 256
 bytes_by p k u un beyond small a b true e h =
     known_small (is_known_at p a) (byte_of_cell (p.loaded a)) b (small a) (sym (un.known a (below_by a (2 ^ 32) e)) ∙ h)

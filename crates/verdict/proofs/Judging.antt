@@ -35,7 +35,7 @@ choices_small (c ∷ cs) i h =
     choice_if (i == c.0) c.1 (byte_in cs i) (h c (Contains-append_left (c ∷ []) cs c (Contains-push [] c)))
     (choices_small cs i (λ d has. h d (Contains-append_right (c ∷ []) cs d has)))
 
-written_choice : (layout : Layout) (known : ℕ → Bool) (w : Written) → IsWritten layout known w → (i : ℕ) → byte_in w.choices i < 4
+pub written_choice : (layout : Layout) (known : ℕ → Bool) (w : Written) → IsWritten layout known w → (i : ℕ) → byte_in w.choices i < 4
 written_choice layout known w h i = choices_small w.choices i (λ c has. let q = All-contains (λ (d : ℕ × ℕ). (d.0 ≤ last_step) × (1 ≤ d.1) ×
     (d.1 ≤ 3)) w.choices c h.choices has in omega (arith, q.2))
 

@@ -50,7 +50,7 @@ fn with_further(alloc: Global, added: &[u32], further: &[u32]) -> Result<Vec<u32
 }
 
 /// The addresses whose bytes the next round asks: those that were asked, and the known ones in the blocks of the broken ones. The error is want of memory.
-fn asked_next(
+pub fn asked_next(
     alloc: Global,
     question: &Question,
     added: &[u32],

@@ -13,9 +13,9 @@ mod verdicts;
 mod verifying;
 
 pub use certifying::certify;
-pub use deciding::decide;
+pub use deciding::{asked_next, decide};
 pub use measuring::{Measured, measure, unroll_within};
 pub use scripting::script;
 pub use shown::Function;
 pub use verdicts::{Answered, Budget, Certified, Scripted, Verdict};
-pub use verifying::verify;
+pub use verifying::{judge_unrolled, verify};

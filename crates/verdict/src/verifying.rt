@@ -26,7 +26,7 @@ use question_form::{Kind, Passive, Unrolled};
 use std::alloc::{AllocError, Global};
 
 /// The price from which on smaller bounds are tried first. Cheaper programs are unrolled once, for the whole bound.
-const DEAR: u128 = 2_000_000;
+const DEAR: u128 = 250_000;
 
 /// The verdict by the three questions in their order.
 fn judge<M: Machine>(
@@ -78,7 +78,7 @@ fn judge<M: Machine>(
 }
 
 /// The verdict by an unrolled program: that its price is above the budget, or what the three questions come to, within a smaller bound where that settles them.
-fn judge_unrolled<M: Machine>(
+pub fn judge_unrolled<M: Machine>(
     alloc: Global,
     function: &Function,
     budget: &Budget,

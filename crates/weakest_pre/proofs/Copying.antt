@@ -1,5 +1,5 @@
 -- Copies of terms, one after another.
-use Rattle.std.proofs.Common.{inl, inr, ◌≡◌, ◌⊎◌, ℕ, zero, suc, ◌+◌, ◌<◌, ◌≤◌, Bool, true, false, List, [], ◌∷◌, ◌++◌, length, take, get_or, refl, ap, sym, subst, ◌∙◌, arith, Contains}
+use Rattle.std.proofs.Common.{inl, inr, ◌≡◌, ◌⊎◌, ℕ, ◌+◌, ◌<◌, ◌≤◌, Bool, true, false, List, [], ◌∷◌, ◌++◌, length, take, refl, ap, sym, subst, ◌∙◌, arith, Contains}
 use Rattle.std.specs.List.{AllByRecursion}
 use Rattle.std.proofs.lemmas.Bool.{false≢true}
 use Rattle.std.proofs.lemmas.Bool.Decides.{eqb_tells}
@@ -14,44 +14,44 @@ use Rattle.term_dag.specs.Made.{Grew, InputsFrom, IsInterned, moved, operands}
 use Rattle.term_dag.proofs.ListLaws.{typed_here, unfolds}
 use Rattle.term_dag.proofs.Growth.{grew_none, grew_on, grew_more, grew_width, interned_grew, interned_width}
 use Rattle.term_dag.proofs.Copies.{moved_width, moved_gates, moved_loads, moved_stores, moved_joins, moved_input, moved_typed, copied}
-use Rattle.weakest_pre.specs.Copies.{no_term, copy_at, is_marked, Always, AreReached, AreCopies, IsOfMarked, IsCopy, IsCopyOf}
-use Rattle.weakest_pre.proofs.Marks.{all_by_both, operands_before}
+use Rattle.weakest_pre.specs.Copies.{no_term, copy_at, root_at, is_marked, Always, AreReached, AreWithin, AreCopies, ArePicked, IsOfMarked, IsCopy, AreCopiesOf}
+use Rattle.weakest_pre.proofs.Marks.{all_by_both, operands_before, marked_within}
 
 -- the operands of a marked place have copies
-pub operands_copied : (P : TermReading → Type 0) (source dag : List TermNode) (marks : List Bool) (root i : ℕ) (copies : List Term) → AreTyped source →
-    AreReached source root marks → i < length marks →
+pub operands_copied : (P : TermReading → Type 0) (source dag : List TermNode) (marks : List Bool) (roots : List Term) (i : ℕ) (copies : List Term) → AreTyped source →
+    AreReached source roots marks → i < length marks →
     i < length source → length copies ≡ i → AreCopies P source dag marks copies → is_marked marks i ≡ true →
     AllByRecursion (λ a. HasWidth dag (width_of (node_at source a)) (copy_at copies a)) (operands (node_at source i))
-operands_copied P source dag marks root i copies typed reached place within count are is =
+operands_copied P source dag marks roots i copies typed reached place within count are is =
     all_by_both (λ a. a < i) (λ a. is_marked marks a ≡ true) (λ a. HasWidth dag (width_of (node_at source a)) (copy_at copies a))
     (λ a l m. are.widths a (omega arith) m)
     (operands (node_at source i)) (operands_before source i typed within) (reached.closed i (omega arith) place is)
 
 -- so a node over them is typed
-pub copy_typed : (P : TermReading → Type 0) (source dag : List TermNode) (marks : List Bool) (root i : ℕ) (copies : List Term) (n : TermNode) →
-    AreTyped source → AreReached source root marks →
+pub copy_typed : (P : TermReading → Type 0) (source dag : List TermNode) (marks : List Bool) (roots : List Term) (i : ℕ) (copies : List Term) (n : TermNode) →
+    AreTyped source → AreReached source roots marks →
     i < length marks → i < length source → length copies ≡ i → AreCopies P source dag marks copies → is_marked marks i ≡ true → n ≡ node_at source i →
     IsTypedOver dag (moved (copy_at copies) n)
-copy_typed P source dag marks root i copies n typed reached place within count are is e =
+copy_typed P source dag marks roots i copies n typed reached place within count are is e =
     subst (λ (m : TermNode). IsTypedOver dag (moved (copy_at copies) m)) (sym e)
     (moved_typed source dag (copy_at copies) (node_at source i) (typed_here source i (node_at source i) typed within refl)
-    (operands_copied P source dag marks root i copies typed reached place within count are is))
+    (operands_copied P source dag marks roots i copies typed reached place within count are is))
 
 -- and the copies of its operands have their values
-pub operands_valued : (P : TermReading → Type 0) (source dag : List TermNode) (marks : List Bool) (root i : ℕ) (copies : List Term) → AreTyped source →
-    AreReached source root marks → i < length marks →
+pub operands_valued : (P : TermReading → Type 0) (source dag : List TermNode) (marks : List Bool) (roots : List Term) (i : ℕ) (copies : List Term) → AreTyped source →
+    AreReached source roots marks → i < length marks →
     i < length source → length copies ≡ i → AreCopies P source dag marks copies → is_marked marks i ≡ true → (x : TermReading) → P x →
     AllByRecursion (λ a. term_value x dag (copy_at copies a) ≡ term_value x source a) (operands (node_at source i))
-operands_valued P source dag marks root i copies typed reached place within count are is x p =
+operands_valued P source dag marks roots i copies typed reached place within count are is x p =
     all_by_both (λ a. a < i) (λ a. is_marked marks a ≡ true) (λ a. term_value x dag (copy_at copies a) ≡ term_value x source a)
     (λ a l m. are.values x p a (omega arith) m)
     (operands (node_at source i)) (operands_before source i typed within) (reached.closed i (omega arith) place is)
 
 -- a place that is marked has its copy
-pub copy_made : (source old new : List TermNode) (marks : List Bool) (root i : ℕ) (copies : List Term) (n m : TermNode) (t : ℕ) → AreTyped source →
-    AreReached source root marks → i < length marks → i < length source → length copies ≡ i → AreCopies Always source old marks copies → is_marked marks i ≡ true →
+pub copy_made : (source old new : List TermNode) (marks : List Bool) (roots : List Term) (i : ℕ) (copies : List Term) (n m : TermNode) (t : ℕ) → AreTyped source →
+    AreReached source roots marks → i < length marks → i < length source → length copies ≡ i → AreCopies Always source old marks copies → is_marked marks i ≡ true →
     n ≡ node_at source i → m ≡ moved (copy_at copies) n → IsInterned old new m t → IsCopy source old new marks i t
-copy_made source old new marks root i copies n m t typed reached place within count are is e same k =
+copy_made source old new marks roots i copies n m t typed reached place within count are is e same k =
     let f = copy_at copies in
     let node = node_at source i in
     let kept : IsInterned old new (moved f node) t = subst (λ (z : TermNode). IsInterned old new z t) (same ∙ ap (moved f) e) k in
@@ -69,7 +69,7 @@ copy_made source old new marks root i copies n m t typed reached place within co
       typed = kept.typed;
       width = λ h. interned_width old new (moved f node) t (width_of node) kept (moved_width f node);
       value = λ x h.
-          copied x source old new f node t (operands_valued Always source old marks root i copies typed reached place within count are is x tt) kept
+          copied x source old new f node t (operands_valued Always source old marks roots i copies typed reached place within count are is x tt) kept
           ∙ sym (unfolds x source i typed within);
     }
 
@@ -150,30 +150,42 @@ copying_more source old mid new marks copies more i t within h k e =
       typed = k.typed;
     })
 
--- an element, whatever stands for none
-pub get_or_inside : (xs : List Term) (i : ℕ) (d e : Term) → i < length xs → get_or xs i d ≡ get_or xs i e
-get_or_inside [] i d e h = absurd (omega arith)
-get_or_inside (x ∷ xs) zero d e h = refl
-get_or_inside (x ∷ xs) (suc i) d e h = get_or_inside xs i d e (omega arith)
-
--- the inputs of a copy are those of the list
-pub copied_inputs : (source old new : List TermNode) (root t : ℕ) → IsCopyOf source old new root t → InputsFrom old new (Contains source)
-copied_inputs source old new root t h m c i =
+-- the inputs of copies are those of the list
+pub copied_inputs : (source old new : List TermNode) (roots ts : List Term) → AreCopiesOf source old new roots ts → InputsFrom old new (Contains source)
+copied_inputs source old new roots ts h m c i =
     elim (h.only m c) [
       | inl o ↦ inl o
       | inr o ↦ let same : m ≡ node_at source o.at = o.is ∙ moved_input o.over (node_at source o.at) (subst IsInput o.is i) in
           inr (subst (Contains source) (sym same) (Contains-get_or source o.at MemoryNode o.within))
     ]
 
--- the root is among them
-pub copying_done : (source old new : List TermNode) (marks : List Bool) (copies : List Term) (root n : ℕ) (t : Term) → root < length source → n ≡ length marks →
-    AreReached source root marks → IsCopying source old new marks copies n → t ≡ get_or copies root t → IsCopyOf source old new root t.0
-copying_done source old new marks copies root n t within all reached h e =
-    let count = h.count in
-    let long = reached.count in
-    let inside : root < length copies = omega arith in
-    let few : n ≤ length source = omega arith in
-    let is : copy_at copies root ≡ t.0 = ap (λ (z : Term). z.0) (get_or_inside copies root no_term t inside ∙ sym e) in
+-- the roots have copies
+pub roots_copied : (source : List TermNode) (marks : List Bool) (copies roots : List Term) → AreReached source roots marks → length copies ≡ length marks →
+    AreWithin roots (length copies)
+roots_copied source marks copies roots reached count k l = let m = marked_within marks (root_at roots k) (reached.first k l) in omega arith
+
+-- those that are picked have the widths of the roots
+pub picked_widths : (P : TermReading → Type 0) (source new : List TermNode) (marks : List Bool) (copies roots ts : List Term) → AreReached source roots marks →
+    length copies ≡ length marks → AreCopies P source new marks copies → ArePicked copies roots (length roots) ts →
+    (k : ℕ) → k < length roots → HasWidth new (width_of (node_at source (root_at roots k))) (root_at ts k)
+picked_widths P source new marks copies roots ts reached count are picks k l =
+    subst (HasWidth new (width_of (node_at source (root_at roots k)))) (sym (picks.each k l))
+    (are.widths (root_at roots k) (roots_copied source marks copies roots reached count k l) (reached.first k l))
+
+-- and their values
+pub picked_values : (P : TermReading → Type 0) (source new : List TermNode) (marks : List Bool) (copies roots ts : List Term) → AreReached source roots marks →
+    length copies ≡ length marks → AreCopies P source new marks copies → ArePicked copies roots (length roots) ts →
+    (x : TermReading) → P x → (k : ℕ) → k < length roots → term_value x new (root_at ts k) ≡ term_value x source (root_at roots k)
+picked_values P source new marks copies roots ts reached count are picks x p k l =
+    ap (term_value x new) (picks.each k l)
+    ∙ are.values x p (root_at roots k) (roots_copied source marks copies roots reached count k l) (reached.first k l)
+
+-- the roots are among them
+pub copying_done : (source old new : List TermNode) (marks : List Bool) (copies roots ts : List Term) (n : ℕ) → n ≡ length marks →
+    AreReached source roots marks → IsCopying source old new marks copies n → ArePicked copies roots (length roots) ts → AreCopiesOf source old new roots ts
+copying_done source old new marks copies roots ts n all reached h picks =
+    let few : n ≤ length source = let w = reached.within in omega arith in
+    let count : length copies ≡ length marks = h.count ∙ all in
     record {
       grew = grew_more old new _ _ _ _ n _ _ _ _ (length source) (sum_by-take-le own_gates source n) (sum_by-take-le own_loads source n)
           (sum_by-take-le own_stores source n)
@@ -184,6 +196,7 @@ copying_done source old new marks copies root n t within all reached h e =
             | inr o ↦ inr (record { at = o.at; reached = reached.only o.at o.mark; within = o.within; over = o.over; is = o.is })
           ];
       typed = h.typed;
-      width = subst (HasWidth new (width_of (node_at source root))) is (h.copies.widths root inside reached.first);
-      value = λ x. ap (term_value x new) (sym is) ∙ h.copies.values x tt root inside reached.first;
+      count = picks.count;
+      widths = picked_widths Always source new marks copies roots ts reached count h.copies picks;
+      values = λ x. picked_values Always source new marks copies roots ts reached count h.copies picks x tt;
     }

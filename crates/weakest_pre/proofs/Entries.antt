@@ -1,6 +1,6 @@
 -- The entry condition as a term.
 use mir.Val.{bool_byte}
-use Rattle.std.proofs.Common.{◌≡◌, ℕ, ◌+◌, ◌-◌, ◌*◌, ◌%◌, ◌<◌, ◌≤◌, Bool, true, false, not, ◌&&◌, ◌||◌, nat_eq, nat_lt, ◌==◌, bit_and, List, [], ◌∷◌, ◌++◌, length, map, slice_index, get_or, take, Contains, sum_by, refl, ap, sym, subst, ◌∙◌, arith}
+use Rattle.std.proofs.Common.{◌≡◌, ℕ, ◌+◌, ◌-◌, ◌*◌, ◌%◌, ◌<◌, ◌≤◌, Bool, true, false, not, ◌&&◌, nat_eq, nat_lt, ◌==◌, bit_and, List, [], ◌∷◌, ◌++◌, length, map, slice_index, get_or, take, Contains, sum_by, refl, ap, sym, subst, ◌∙◌, arith}
 use Rattle.std.specs.List.{list_any}
 use Rattle.std.proofs.lemmas.List.{map-append, length-map, get_or-map, take_more}
 use Rattle.std.proofs.lemmas.List.Sums.{sum_by-append}
@@ -13,7 +13,7 @@ use Rattle.bilv_spec.specs.Notes as notes
 use Rattle.bilv_spec.specs.Notes.{Expr, value, is_true}
 use Rattle.word_spec.specs.RowFiles.{from_to}
 use Rattle.bilv_spec.specs.Points.{line_price, bytes_loaded}
-use Rattle.walk_spec.specs.Terms.{TermReading, TermNode, ConstantNode, BinaryNode, ExtractNode, AreTyped, HasWidth, term_value, term_word, width_of}
+use Rattle.walk_spec.specs.Terms.{TermReading, TermNode, ConstantNode, BinaryNode, ExtractNode, HasWidth, term_value, term_word, width_of}
 use Rattle.walk_spec.specs.Unrolled.{UnrolledProgram, state_at}
 use Rattle.walk_spec.specs.Unrolling.{IsReadable}
 use Rattle.walk_spec.specs.Prices.{entry_lines, line_size, line_steps, variables_of}
@@ -22,7 +22,7 @@ use Rattle.walk_spec.specs.Passive.{AreNames}
 use Rattle.term_dag.specs.declared.nodes.Term.{Term}
 use Rattle.term_dag.specs.Made.{IsMade, IsInterned}
 use Rattle.term_dag.proofs.LowBits.{low_bits, few_low_bits}
-use Rattle.term_dag.proofs.Growth.{grew_none, grew_on, grew_more, grew_width, interned_grew, inputs_none, inputs_on, inputs_more}
+use Rattle.term_dag.proofs.Growth.{grew_on, grew_more, grew_width, interned_grew, inputs_on, inputs_more}
 use Rattle.notes_value.specs.Views.{expr_of}
 use Rattle.notes_lang.specs.Drafting.{note_line_of}
 use Rattle.notes_lang.specs.declared.notes.NoteLine.{NoteLine}
@@ -35,7 +35,7 @@ use Rattle.note_terms.specs.Steps.{IsStep}
 use Rattle.note_terms.specs.Lines.{AreStateTerms, IsLine, IsStateOf}
 use Rattle.note_terms.proofs.Steps.{step_made, step_kept, step_as, step_on, step_keeps, bits_and}
 use Rattle.note_terms.proofs.Valued.{denotes_stays, names_stay, is_state_stays, range_at, range_length, line_enough}
-use Rattle.weakest_pre.specs.Entry.{said, all_true, AreTrue, IsEntryBit}
+use Rattle.weakest_pre.specs.Entry.{said, all_hold, all_true, AreTrue, IsEntryBit}
 
 -- whether a row can stand at the address that a word is
 pub place_step : (narrow : Bool) (hi : ℕ) → hi ≡ bool_byte (not narrow) → (a b c d : List TermNode) (v l z t : ℕ) → v < length a →
@@ -64,10 +64,10 @@ and_more true false q = refl
 and_more false p q = refl
 
 -- one more line
-pub true_more : (a b c d : List TermNode) (big : Bool) (now : Now) (first l r t : ℕ) (done : List Expr) (e : Expr) → AreStateTerms a now →
-    AreTrue a b big now first done l →
-    IsLine b c big e now now r → IsMade c d (BinaryNode bil.And 1 l r) t → AreTrue a d big now first (done ++ e ∷ []) t
-true_more a b c d big now first l r t done e h before line made =
+pub true_more : (a b c d : List TermNode) (big : Bool) (now entry : Now) (first l r t : ℕ) (done : List Expr) (e : Expr) → AreStateTerms a now →
+    AreStateTerms a entry → AreTrue a b big now entry first done l →
+    IsLine b c big e now entry r → IsMade c d (BinaryNode bil.And 1 l r) t → AreTrue a d big now entry first (done ++ e ∷ []) t
+true_more a b c d big now entry first l r t done e h k before line made =
     let last : IsStep c d 1 0 2 (λ w. w ≡ 1) (λ x. bit_and (term_word x c l) (term_word x c r)) t =
     step_made c d 1 0 _ _ (BinaryNode bil.And 1 l r) t made (omega arith) (omega arith) refl refl (λ i. i) (λ w f. f) (λ x f. refl) in
     let prices = sum_by-append line_price done (e ∷ []) in
@@ -87,15 +87,17 @@ true_more a b c d big now first l r t done e h before line made =
       inputs = inputs_on a c d _ (inputs_on a b c _ before.inputs line.inputs) last.inputs;
       typed = last.typed;
       width = (last.within, last.fits);
-      value = λ x ok k at s p f.
-          let state = state_at k at in
-          let rest = all_true (endian big) done state in
-          let one = is_true (value (endian big) e state state) in
-          let left : term_word x c l ≡ bit (p && rest) = ap (λ v. v.word) (line.grew.keeps x l before.width.0) ∙ before.value x ok k at s p f in
-          let now_b = is_state_stays a b _ _ _ _ _ now x k at before.grew h s in
-          let right : term_word x c r ≡ bit one = line.value x ok k k at at now_b now_b in
+      value = λ x ok m n at from s o p f.
+          let state = state_at m at in
+          let old = state_at n from in
+          let rest = all_hold (endian big) done state old in
+          let one = is_true (value (endian big) e state old) in
+          let left : term_word x c l ≡ bit (p && rest) = ap (λ v. v.word) (line.grew.keeps x l before.width.0) ∙ before.value x ok m n at from s o p f in
+          let now_b = is_state_stays a b _ _ _ _ _ now x m at before.grew h s in
+          let entry_b = is_state_stays a b _ _ _ _ _ entry x n from before.grew k o in
+          let right : term_word x c r ≡ bit one = line.value x ok m n at from now_b entry_b in
           last.value x ok ∙ ap (λ (v : ℕ). bit_and v (term_word x c r)) left ∙ ap (bit_and (bit (p && rest))) right ∙ bits_and (p && rest) one
-          ∙ ap bit (and_more p rest one ∙ ap (λ (q : Bool). p && q) (sym (list_all-append (λ z. is_true (value (endian big) z state state)) done (e ∷ []))));
+          ∙ ap bit (and_more p rest one ∙ ap (λ (q : Bool). p && q) (sym (list_all-append (λ z. is_true (value (endian big) z state old)) done (e ∷ []))));
     }
 
 -- what the lines of notes say
@@ -123,7 +125,7 @@ pub entry_made : (u : UnrolledProgram) (a b c d e : List TermNode) (low regs fla
     u.registers ≡ from_to low regs → u.flags ≡ flags → endian big ≡ u.endian → lines ≡ entry_lines u → low ≤ u.link → u.link < low + regs →
     AreEntryNames a b low regs flags now.names.now → IsInterned b c (ConstantNode 32 u.entry) now.pc.0 →
     l ≡ slice_index (names_of now.names.now).registers (u.link - low) →
-    IsStep c d 2 0 5 (λ w. w ≡ 1) (λ x. bit (is_place u.narrow (term_word x c l))) s → AreTrue d e big now s lines t → IsEntryBit u a e t
+    IsStep c d 2 0 5 (λ w. w ≡ 1) (λ x. bit (is_place u.narrow (term_word x c l))) s → AreTrue d e big now now s lines t → IsEntryBit u a e t
 entry_made u a b c d e low regs flags now l s t big lines pr pf pe pl above below names pc at aligned all =
     let n = now.names.now in
     let pc_step : IsStep b c 0 0 1 (λ w. w ≡ 32) (λ x. u.entry) now.pc.0 =
@@ -162,7 +164,7 @@ entry_made u a b c d e low regs flags now l s t big lines pr pf pe pl above belo
           let link : term_word x c l ≡ x.regs u.link =
           ap (λ v. v.word) (subst (λ (i : ℕ). term_value x c i ≡ term_value x b i) (sym at) (pc_step.grew.keeps x _ (names.names.words (u.link - low) k).0))
           ∙ ap (term_word x b) at ∙ (names.denotes x ok).registers (u.link - low) k ∙ ap x.regs here in
-          all.value x ok (at_entry x) u.entry state (is_place u.narrow (x.regs u.link)) (aligned.value x ok ∙ ap (λ (v : ℕ). bit (is_place u.narrow v)) link)
+          all.value x ok (at_entry x) (at_entry x) u.entry u.entry state state (is_place u.narrow (x.regs u.link)) (aligned.value x ok ∙ ap (λ (v : ℕ). bit (is_place u.narrow v)) link)
           ∙ ap (λ (z : List Expr). bit (is_place u.narrow (x.regs u.link) && all_true (endian big) z (state_at (at_entry x) u.entry))) pl
           ∙ ap (λ (z : Endian). bit (is_place u.narrow (x.regs u.link) && all_true z (entry_lines u) (state_at (at_entry x) u.entry))) pe;
     }

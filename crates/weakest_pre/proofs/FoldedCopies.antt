@@ -1,34 +1,33 @@
 -- Folded copies of terms, one after another.
-use Rattle.std.proofs.Common.{inl, inr, ◌≡◌, ◌⊎◌, ℕ, ◌+◌, ◌*◌, ◌<◌, ◌≤◌, Bool, true, false, List, [], ◌∷◌, ◌++◌, length, take, get_or, refl, ap, sym, subst, ◌∙◌, arith, Contains}
+use Rattle.std.proofs.Common.{inl, inr, ◌≡◌, ℕ, zero, suc, ◌+◌, ◌*◌, ◌<◌, ◌≤◌, Bool, true, false, List, [], ◌∷◌, ◌++◌, length, take, get_or, refl, ap, sym, subst, ◌∙◌, arith, Contains}
 use Rattle.std.proofs.lemmas.Bool.{false≢true}
 use Rattle.std.proofs.lemmas.List.{length_push}
 use Rattle.std.proofs.lemmas.List.Elements.{Contains-get_or}
 use Rattle.std.proofs.lemmas.List.Sums.{sum_by-take-le}
-use Rattle.walk_spec.specs.Terms.{TermReading, InRange, TermNode, RegisterNode, MemoryNode, AreTyped, HasWidth, word_value, node_value, term_value, values_from, width_of, node_at, own_gates, own_loads, own_stores, own_joins, term_gates, term_loads, term_stores, term_joins}
+use Rattle.walk_spec.specs.Terms.{TermReading, TermNode, RegisterNode, MemoryNode, AreTyped, HasWidth, word_value, node_value, term_value, values_from, width_of, node_at, own_gates, own_loads, own_stores, own_joins, term_gates, term_loads, term_stores, term_joins}
 use Rattle.term_dag.specs.declared.nodes.Term.{Term}
-use Rattle.term_dag.specs.Nodes.{IsInput}
 use Rattle.term_dag.specs.Made.{Grew, InputsFrom, IsMade, moved}
 use Rattle.term_dag.proofs.ListLaws.{unfolds}
 use Rattle.term_dag.proofs.Ranges.{word_only}
-use Rattle.term_dag.proofs.Growth.{grew_none, grew_on, grew_more, inputs_none, inputs_on, inputs_more, made_grew, made_width, made_inputs}
+use Rattle.term_dag.proofs.Growth.{grew_none, grew_more, inputs_none, inputs_on, inputs_more, made_grew, made_width, made_inputs}
 use Rattle.term_dag.proofs.Copies.{moved_width, moved_gates, moved_loads, moved_stores, moved_joins, moved_input, moved_value}
 use Rattle.weakest_pre.specs.declared.facts.Facts.{Facts}
 use Rattle.weakest_pre.specs.declared.facts.Runs.{Runs}
-use Rattle.weakest_pre.specs.Copies.{no_term, copy_at, is_marked, Always, AreReached, AreCopies, IsCopyOf}
+use Rattle.weakest_pre.specs.Copies.{no_term, copy_at, root_at, is_marked, AreReached, AreWithin, AreCopies, ArePicked, AreCopiesOf}
 use Rattle.weakest_pre.specs.Known.{IsRuns}
-use Rattle.weakest_pre.specs.Folded.{IsMetBy, IsKnownRegister, IsFolded, IsFoldedRoot, IsFoldedCopy}
-use Rattle.weakest_pre.proofs.Copying.{operands_valued, copies_more, grew_next, get_or_inside, copied_inputs}
+use Rattle.weakest_pre.specs.Folded.{IsMetBy, IsKnownRegister, IsFolded, AreFoldedRoots, AreFoldedCopies, IsFoldedCopy}
+use Rattle.weakest_pre.proofs.Copying.{operands_valued, copies_more, grew_next, picked_widths, picked_values, copied_inputs}
 
 -- a node of the list is one of it
 node_there : (source : List TermNode) (i : ℕ) (n : TermNode) → i < length source → n ≡ node_at source i → Contains source n
 node_there source i n within e = subst (Contains source) (sym e) (Contains-get_or source i MemoryNode within)
 
 -- a place that is marked, and no register
-pub folded_made : (f : Facts) (source old new : List TermNode) (marks : List Bool) (root i : ℕ) (copies : List Term) (n m : TermNode) (t : ℕ) →
-    AreTyped source → AreReached source root marks → i < length marks → i < length source → length copies ≡ i →
+pub folded_made : (f : Facts) (source old new : List TermNode) (marks : List Bool) (roots : List Term) (i : ℕ) (copies : List Term) (n m : TermNode) (t : ℕ) →
+    AreTyped source → AreReached source roots marks → i < length marks → i < length source → length copies ≡ i →
     AreCopies (IsMetBy f) source old marks copies → is_marked marks i ≡ true →
     n ≡ node_at source i → m ≡ moved (copy_at copies) n → IsMade old new m t → IsFolded (IsMetBy f) source old new marks i t
-folded_made f source old new marks root i copies n m t typed reached place within count are is e same made =
+folded_made f source old new marks roots i copies n m t typed reached place within count are is e same made =
     let g = copy_at copies in
     let node = node_at source i in
     let k : IsMade old new (moved g node) t = subst (λ (z : TermNode). IsMade old new z t) (same ∙ ap (moved g) e) made in
@@ -43,7 +42,7 @@ folded_made f source old new marks root i copies n m t typed reached place withi
       value = λ x p h.
           k.value x p.range
           ∙ moved_value x (values_from x [] source) (values_from x [] old) g node
-          (operands_valued (IsMetBy f) source old marks root i copies typed reached place within count are is x p)
+          (operands_valued (IsMetBy f) source old marks roots i copies typed reached place within count are is x p)
           ∙ sym (unfolds x source i typed within);
     }
 
@@ -99,15 +98,12 @@ folding_more P source old mid new marks copies more i t within h k e =
       typed = k.typed;
     })
 
--- the root is among them
-pub folding_done : (P : TermReading → Type 0) (source old new : List TermNode) (marks : List Bool) (copies : List Term) (root n : ℕ) (t : Term) →
-    old ≡ [] → root < length source → n ≡ length marks →
-    AreReached source root marks → IsFolding P source old new marks copies n → t ≡ get_or copies root t → IsFoldedRoot P source new root t.0
-folding_done P source old new marks copies root n t none within all reached h e =
-    let count = h.count in
-    let long = reached.count in
-    let inside : root < length copies = omega arith in
-    let is : copy_at copies root ≡ t.0 = ap (λ (z : Term). z.0) (get_or_inside copies root no_term t inside ∙ sym e) in
+-- the roots are among them
+pub folding_done : (P : TermReading → Type 0) (source old new : List TermNode) (marks : List Bool) (copies roots ts : List Term) (n : ℕ) →
+    old ≡ [] → n ≡ length marks → AreReached source roots marks → IsFolding P source old new marks copies n → ArePicked copies roots (length roots) ts →
+    AreFoldedRoots P source new roots ts
+folding_done P source old new marks copies roots ts n none all reached h picks =
+    let count : length copies ≡ length marks = h.count ∙ all in
     let g = h.grew in
     record {
       gates = omega (arith, g.gates, sum_by-take-le own_gates source n, ap term_gates none);
@@ -116,33 +112,63 @@ folding_done P source old new marks copies root n t none within all reached h e 
       joins = omega (arith, g.joins, sum_by-take-le own_joins source n, ap term_joins none);
       inputs = subst (λ (z : List TermNode). InputsFrom z new (Contains source)) none h.inputs;
       typed = h.typed;
-      width = subst (HasWidth new (width_of (node_at source root))) is (h.copies.widths root inside reached.first);
-      value = λ x p. ap (term_value x new) (sym is) ∙ h.copies.values x p root inside reached.first;
+      count = picks.count;
+      widths = picked_widths P source new marks copies roots ts reached count h.copies picks;
+      values = picked_values P source new marks copies roots ts reached count h.copies picks;
     }
 
--- a copy of the term as it is
-pub folded_as_is : (P : TermReading → Type 0) (source old new : List TermNode) (root t : ℕ) → IsCopyOf source old new root t →
-    IsFoldedCopy P source old new root t
-folded_as_is P source old new root t h = record {
+-- copies of the terms as they are
+pub folded_as_are : (P : TermReading → Type 0) (source old new : List TermNode) (roots ts : List Term) → AreCopiesOf source old new roots ts →
+    AreFoldedCopies P source old new roots ts
+folded_as_are P source old new roots ts h = record {
   grew = h.grew;
-  inputs = copied_inputs source old new root t h;
+  inputs = copied_inputs source old new roots ts h;
   typed = h.typed;
-  width = h.width;
-  value = λ x p. h.value x;
+  count = h.count;
+  widths = h.widths;
+  values = λ x p. h.values x;
 }
+
+-- the folded terms are of their list
+pub folded_within : (P : TermReading → Type 0) (source scratch : List TermNode) (roots ts : List Term) → AreFoldedRoots P source scratch roots ts →
+    AreWithin ts (length scratch)
+folded_within P source scratch roots ts h k l = (h.widths k (let c = h.count in omega arith)).0
 
 -- an empty list has no node
 nothing_there : (m : TermNode) (A : Type 0) → Contains [] m → A
 nothing_there m A c = let l = c.1 in absurd (omega arith)
 
--- a copy of the folded term, where that has no more nodes
-pub folded_onto : (P : TermReading → Type 0) (source scratch old new : List TermNode) (root s t : ℕ) → length scratch ≤ length source →
-    IsFoldedRoot P source scratch root s → IsCopyOf scratch old new s t → IsFoldedCopy P source old new root t
-folded_onto P source scratch old new root s t few h k = record {
-  grew = grew_more old new _ _ _ _ (length scratch) _ _ _ _ (length source) h.gates h.loads h.stores h.joins few k.grew;
-  inputs = inputs_more old new (Contains scratch) (Contains source)
-      (λ m i c. elim (h.inputs m c i) [ inl none ↦ nothing_there m (Contains source m) none | inr there ↦ there ]) (copied_inputs scratch old new s t k);
-  typed = k.typed;
-  width = (k.width.0, k.width.1 ∙ h.width.1);
-  value = λ x p. k.value x ∙ h.value x p;
-}
+-- copies of the folded terms, where those have no more nodes
+pub folded_onto : (P : TermReading → Type 0) (source scratch old new : List TermNode) (roots folded ts : List Term) → length scratch ≤ length source →
+    AreFoldedRoots P source scratch roots folded → AreCopiesOf scratch old new folded ts → AreFoldedCopies P source old new roots ts
+folded_onto P source scratch old new roots folded ts few h k =
+    let as_many = h.count in
+    record {
+      grew = grew_more old new _ _ _ _ (length scratch) _ _ _ _ (length source) h.gates h.loads h.stores h.joins few k.grew;
+      inputs = inputs_more old new (Contains scratch) (Contains source)
+          (λ m i c. elim (h.inputs m c i) [ inl none ↦ nothing_there m (Contains source m) none | inr there ↦ there ]) (copied_inputs scratch old new folded ts k);
+      typed = k.typed;
+      count = k.count ∙ as_many;
+      widths = λ n l. let w = k.widths n (omega arith) in (w.0, w.1 ∙ (h.widths n l).1);
+      values = λ x p n l. k.values x n (omega arith) ∙ h.values x p n l;
+    }
+
+-- an element, whatever stands for none
+get_or_inside : (xs : List Term) (i : ℕ) (d e : Term) → i < length xs → get_or xs i d ≡ get_or xs i e
+get_or_inside [] i d e h = absurd (omega arith)
+get_or_inside (x ∷ xs) zero d e h = refl
+get_or_inside (x ∷ xs) (suc i) d e h = get_or_inside xs i d e (omega arith)
+
+-- the copy of one term
+pub folded_one : (P : TermReading → Type 0) (source old new : List TermNode) (root t : Term) (ts : List Term) →
+    AreFoldedCopies P source old new (root ∷ []) ts → t ≡ get_or ts 0 t → IsFoldedCopy P source old new root.0 t.0
+folded_one P source old new root t ts h e =
+    let count = h.count in
+    let is : root_at ts 0 ≡ t.0 = ap (λ (z : Term). z.0) (get_or_inside ts 0 no_term t (omega arith) ∙ sym e) in
+    record {
+      grew = h.grew;
+      inputs = h.inputs;
+      typed = h.typed;
+      width = subst (HasWidth new (width_of (node_at source root.0))) is (h.widths 0 (omega arith));
+      value = λ x p. ap (term_value x new) (sym is) ∙ h.values x p 0 (omega arith);
+    }

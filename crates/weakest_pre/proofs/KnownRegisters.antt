@@ -1,13 +1,12 @@
 -- A register of which some bits are known, as a term.
-use Rattle.std.proofs.Common.{◌≡◌, ℕ, ◌+◌, ◌-◌, ◌*◌, ◌^◌, ◌<◌, ◌≤◌, List, length, refl, ap, sym, subst, ◌∙◌, arith}
+use Rattle.std.proofs.Common.{◌≡◌, ℕ, ◌+◌, ◌-◌, ◌<◌, ◌≤◌, List, length, refl, ap, ◌∙◌, arith}
 use Rattle.word_spec.specs.Words.{bits, complement, concat}
-use Rattle.walk_spec.specs.Terms.{TermReading, InRange, TermNode, RegisterNode, ConstantNode, NotNode, ExtractNode, ConcatNode, AreTyped, HasWidth, term_word, width_of, node_at}
-use Rattle.term_dag.specs.Made.{IsMade, Grew}
-use Rattle.term_dag.proofs.Growth.{grew_on, grew_more, grew_width, inputs_on, inputs_more, made_grew, made_width, made_inputs}
+use Rattle.walk_spec.specs.Terms.{TermNode, RegisterNode, ConstantNode, NotNode, ExtractNode, ConcatNode, HasWidth, term_word}
+use Rattle.term_dag.specs.Made.{IsMade}
+use Rattle.term_dag.proofs.Growth.{grew_on, inputs_on, inputs_more, made_grew, made_inputs}
 use Rattle.note_terms.specs.Steps.{IsStep}
-use Rattle.note_terms.proofs.Steps.{step_stays, step_made, step_as, step_on, step_keeps}
+use Rattle.note_terms.proofs.Steps.{step_made, step_as, step_on, step_keeps}
 use Rattle.weakest_pre.specs.declared.facts.Runs.{Runs}
-use Rattle.weakest_pre.specs.Known.{IsRuns}
 use Rattle.weakest_pre.specs.Folded.{pieces, IsKnownRegister}
 use Rattle.weakest_pre.proofs.KnownWords.{word_of_pieces}
 

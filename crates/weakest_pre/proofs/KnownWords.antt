@@ -1,5 +1,5 @@
 -- Words of which some bits are known.
-use Rattle.std.proofs.Common.{◌≡◌, ℕ, ◌+◌, ◌-◌, ◌*◌, ◌/◌, ◌%◌, ◌^◌, ◌<◌, ◌≤◌, bit_and, bit_or, min, max, refl, ap, sym, subst, ◌∙◌, arith, mul_comm}
+use Rattle.std.proofs.Common.{◌≡◌, ℕ, ◌+◌, ◌-◌, ◌*◌, ◌/◌, ◌%◌, ◌^◌, ◌<◌, ◌≤◌, bit_and, bit_or, min, max, ap, sym, subst, ◌∙◌, arith, mul_comm}
 use Rattle.std.specs.Int.{bit_at}
 use Rattle.std.specs.Int.Bits.{bit_xor}
 use Rattle.std.specs.Int.Count.{count_leading_zeros}

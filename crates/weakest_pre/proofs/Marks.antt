@@ -1,13 +1,14 @@
--- Marks of the places that a root reaches.
-use Rattle.std.proofs.Common.{inl, inr, ◌≡◌, ◌⊎◌, ℕ, zero, suc, ◌+◌, ◌<◌, Bool, true, false, if◌then◌else◌, List, [], ◌∷◌, length, take, set, replicate, get_or, refl, ap, sym, subst, ◌∙◌, arith, Contains}
+-- Marks of the places that roots reach.
+use Rattle.std.proofs.Common.{inl, inr, ◌≡◌, ◌⊎◌, ℕ, zero, suc, ◌+◌, ◌<◌, ◌≤◌, ◌^◌, Bool, true, false, if◌then◌else◌, List, [], ◌∷◌, length, take, set, replicate, get_or, refl, ap, sym, subst, ◌∙◌, arith, Contains}
 use Rattle.std.specs.List.{AllByRecursion}
 use Rattle.std.proofs.lemmas.Bool.{false≢true}
 use Rattle.std.proofs.lemmas.Bool.Decides.{eqb_tells}
-use Rattle.std.proofs.lemmas.List.{length-set, length-replicate, length-take-le}
+use Rattle.std.proofs.lemmas.List.{length-set, length-take-le}
 use Rattle.walk_spec.specs.Terms.{TermNode, RegisterNode, FlagNode, ChoiceNode, BaseNode, MemoryNode, ConstantNode, BinaryNode, NotNode, SelectNode, ExtractNode, ConcatNode, ExtendNode, LoadNode, StoreNode, JoinNode, AreTyped, IsTypedOver, node_at}
+use Rattle.term_dag.specs.declared.nodes.Term.{Term}
 use Rattle.term_dag.specs.Made.{operands}
 use Rattle.term_dag.proofs.ListLaws.{typed_before}
-use Rattle.weakest_pre.specs.Copies.{is_marked, marked, visited, IsReached, AreMarkedFrom}
+use Rattle.weakest_pre.specs.Copies.{root_at, is_marked, marked, visited, AreRootsMarked, IsReached, AreMarkedFrom}
 
 -- what holds of each element, by what else does
 pub all_by : {X : Type 0} (P Q : X → Type 0) → ((x : X) → P x → Q x) → (xs : List X) → AllByRecursion P xs → AllByRecursion Q xs
@@ -97,16 +98,18 @@ marked_only ms (x ∷ xs) j h =
     ]
 
 -- what is over a marked place is marked
-visited_by : (nodes : List TermNode) (root k : ℕ) (marks : List Bool) (b : Bool) → AreTyped nodes → k < length nodes → k < length marks →
+visited_by : (nodes : List TermNode) (roots : List Term) (k : ℕ) (marks : List Bool) (b : Bool) → AreTyped nodes → k < length nodes → k < length marks →
     is_marked marks k ≡ b →
-    AreMarkedFrom nodes root (k + 1) marks → AreMarkedFrom nodes root k (if b then marked marks (operands (node_at nodes k)) else marks)
-visited_by nodes root k marks true typed within place is h =
+    AreMarkedFrom nodes roots (k + 1) marks → AreMarkedFrom nodes roots k (if b then marked marks (operands (node_at nodes k)) else marks)
+visited_by nodes roots k marks true typed within place is h =
     let ops = operands (node_at nodes k) in
     let before = operands_before nodes k typed within in
+    let long = marked_count marks ops in
     record {
-      count = marked_count marks ops ∙ h.count;
+      within = let w = h.within in omega arith;
+      numbered = let w = h.numbered in omega arith;
       few = let f = h.few in omega arith;
-      first = marked_keeps marks ops root h.first;
+      first = λ n l. marked_keeps marks ops (root_at roots n) (h.first n l);
       only = λ i m. elim (marked_only marks ops i m) [ inl e ↦ h.only i e | inr c ↦ IsReached.under i (h.only k is) c ];
       closed = λ i from inside m.
           elim (marked_only marks ops i m) [
@@ -122,8 +125,9 @@ visited_by nodes root k marks true typed within place is h =
             | inr c ↦ let below : i < k = all_at (λ a. a < k) ops i c.0 before c.1 c.2 in absurd (omega arith)
           ];
     }
-visited_by nodes root k marks false typed within place is h = record {
-  count = h.count;
+visited_by nodes roots k marks false typed within place is h = record {
+  within = h.within;
+  numbered = h.numbered;
   few = let f = h.few in omega arith;
   first = h.first;
   only = h.only;
@@ -134,29 +138,48 @@ visited_by nodes root k marks false typed within place is h = record {
       ];
 }
 
-pub visited_step : (nodes : List TermNode) (root k : ℕ) (marks : List Bool) → AreTyped nodes → k < length nodes → k < length marks →
-    AreMarkedFrom nodes root (k + 1) marks → AreMarkedFrom nodes root k (visited nodes marks k)
-visited_step nodes root k marks typed within place h = visited_by nodes root k marks (is_marked marks k) typed within place refl h
+pub visited_step : (nodes : List TermNode) (roots : List Term) (k : ℕ) (marks : List Bool) → AreTyped nodes → k < length nodes → k < length marks →
+    AreMarkedFrom nodes roots (k + 1) marks → AreMarkedFrom nodes roots k (visited nodes marks k)
+visited_step nodes roots k marks typed within place h = visited_by nodes roots k marks (is_marked marks k) typed within place refl h
 
--- at first only the root is marked
-replicate_unmarked : (n i : ℕ) → is_marked (replicate n false) i ≡ false
+-- where nothing is marked
+pub replicate_unmarked : (n i : ℕ) → is_marked (replicate n false) i ≡ false
 replicate_unmarked zero i = refl
 replicate_unmarked (suc n) zero = refl
 replicate_unmarked (suc n) (suc i) = replicate_unmarked n i
 
-pub root_marked : (nodes : List TermNode) (root : ℕ) → AreMarkedFrom nodes root (root + 1) (set (replicate (root + 1) false) root true)
-root_marked nodes root =
-    let blank : List Bool = replicate (root + 1) false in
-    let long : length blank ≡ root + 1 = length-replicate (root + 1) false in
-    let count : length (set blank root true) ≡ root + 1 = length-set blank root true ∙ long in
-    record {
-      count = count;
-      few = omega arith;
-      first = set_marks blank root (omega (arith, long));
-      only = λ i m.
-          elim (set_only blank root i m) [
-            | inl e ↦ absurd (false≢true (sym (replicate_unmarked (root + 1) i) ∙ e))
-            | inr e ↦ subst (λ (j : ℕ). IsReached nodes root j) (sym e) IsReached.itself
-          ];
-      closed = λ i from inside m. absurd (omega (arith, count, from, inside));
-    }
+-- a marked place is there
+pub marked_within : (marks : List Bool) (i : ℕ) → is_marked marks i ≡ true → i < length marks
+marked_within [] i h = absurd (false≢true h)
+marked_within (m ∷ ms) zero h = omega arith
+marked_within (m ∷ ms) (suc i) h = let l = marked_within ms i h in omega arith
+
+-- at first no root is marked
+pub no_roots : (roots : List Term) (marks : List Bool) → ((i : ℕ) → is_marked marks i ≡ false) → AreRootsMarked roots 0 marks
+no_roots roots marks blank = record { all = λ k l. absurd (omega arith); only = λ i m. absurd (false≢true (sym (blank i) ∙ m)) }
+
+-- one more root
+pub roots_more : (roots : List Term) (n : ℕ) (marks : List Bool) → root_at roots n < length marks → AreRootsMarked roots n marks →
+    AreRootsMarked roots (n + 1) (set marks (root_at roots n) true)
+roots_more roots n marks within h = record {
+  all = λ k l. elim (eqb_tells k n) [
+    | inl same ↦ subst (λ (j : ℕ). is_marked (set marks (root_at roots n) true) (root_at roots j) ≡ true) (sym same.1) (set_marks marks (root_at roots n) within)
+    | inr other ↦ let differs = other.1 in set_keeps marks (root_at roots n) (root_at roots k) (h.all k (omega arith))
+  ];
+  only = λ i m. elim (set_only marks (root_at roots n) i m) [
+    | inl old ↦ let o = h.only i old in (o.0, omega (arith, o.1), o.2)
+    | inr e ↦ (n, omega arith, sym e)
+  ];
+}
+
+-- the roots are reached, and nothing is to be done
+pub roots_marked : (nodes : List TermNode) (roots : List Term) (marks : List Bool) → length marks ≤ length nodes → length marks ≤ 2 ^ 32 →
+    AreRootsMarked roots (length roots) marks → AreMarkedFrom nodes roots (length marks) marks
+roots_marked nodes roots marks few small h = record {
+  within = few;
+  numbered = small;
+  few = omega arith;
+  first = h.all;
+  only = λ i m. let o = h.only i m in subst (IsReached nodes roots) o.2 (IsReached.itself o.0 o.1);
+  closed = λ i from inside m. absurd (omega (arith, from, inside));
+}

@@ -5,9 +5,7 @@ use Rattle.std.proofs.lemmas.Bool.{eqb-true, ltb-true, leb-true}
 use Rattle.std.proofs.lemmas.Nat.{and_comm}
 use Rattle.std.proofs.lemmas.List.Folds.{list_all-append}
 use Rattle.word_spec.specs.Words.{bit}
-use Rattle.word_spec.specs.Memory.{Endian}
-use Rattle.word_spec.specs.State.{State}
-use Rattle.bilv_spec.specs.Notes.{Expr, And, Equal, Below, AtMost, Above, AtLeast, BitAnd, Number, Register, Binary, value, apply, is_true}
+use Rattle.bilv_spec.specs.Notes.{Expr, And, Equal, Above, AtLeast, BitAnd, Number, Register, Binary, value, apply, is_true}
 use Rattle.walk_spec.specs.Unrolled.{UnrolledProgram}
 use Rattle.walk_spec.specs.Prices.{entry_lines}
 use Rattle.weakest_pre.specs.declared.facts.Known.{Known}

@@ -1,5 +1,5 @@
 -- What the term of a question says, from that of the entry condition and a passive program.
-use Rattle.std.proofs.Common.{inl, inr, ◌≡◌, ◌↔◌, ℕ, ◌+◌, ◌<◌, Bool, true, false, ◌&&◌, if◌then◌else◌, bit_and, List, [], ◌∷◌, length, map, Contains, refl, ap, sym, ◌∙◌, arith, Option, None, Some}
+use Rattle.std.proofs.Common.{inl, inr, ◌≡◌, ◌↔◌, ℕ, ◌+◌, Bool, true, false, ◌&&◌, if◌then◌else◌, bit_and, List, [], ◌∷◌, length, map, Contains, refl, ap, sym, ◌∙◌, arith, Option, None, Some}
 use Rattle.std.specs.List.{list_all}
 use Rattle.std.proofs.lemmas.Bool.{false≢true, eqb-true, eq-eqb}
 use Rattle.word_spec.specs.Words.{bit}
@@ -32,21 +32,21 @@ use Rattle.weakest_pre.specs.Folded.{IsMetBy, IsFoldedCopy}
 use Rattle.weakest_pre.specs.Roots.{IsTied}
 
 -- two tests that are both true
-both_true : (p q : Bool) → (p && q) ≡ true → (p ≡ true) × (q ≡ true)
+pub both_true : (p q : Bool) → (p && q) ≡ true → (p ≡ true) × (q ≡ true)
 both_true true q h = (refl, h)
 both_true false q h = absurd (false≢true h)
 
-true_both : (p q : Bool) → p ≡ true → q ≡ true → (p && q) ≡ true
+pub true_both : (p q : Bool) → p ≡ true → q ≡ true → (p && q) ≡ true
 true_both true q h k = k
 true_both false q h k = h
 
 -- where the entry condition is met, registers are as its lines say
-met_by : (u : UnrolledProgram) (facts : Facts) (x : TermReading) → AreFactsOf u facts.registers.items → InRange x →
+pub met_by : (u : UnrolledProgram) (facts : Facts) (x : TermReading) → AreFactsOf u facts.registers.items → InRange x →
     meets u (state_at (at_entry x) u.entry) ≡ true → IsMetBy facts x
 met_by u facts x said r h = record { range = r; known = said (state_at (at_entry x) u.entry) r.regs (both_true _ _ h).1 }
 
 -- a bit counts only where the other is 1
-counts_where : (b : Bool) (p q v : ℕ) → p ≡ bit b → (b ≡ true → q ≡ v) → bit_and p q ≡ bit_and p v
+pub counts_where : (b : Bool) (p q v : ℕ) → p ≡ bit b → (b ≡ true → q ≡ v) → bit_and p q ≡ bit_and p v
 counts_where true p q v e h = ap (bit_and p) (h refl)
 counts_where false p q v e h = ap (λ (n : ℕ). bit_and n q) e ∙ ap (λ (n : ℕ). bit_and n v) (sym e)
 
@@ -94,14 +94,14 @@ all_lines e [] s h = refl
 all_lines e (l ∷ lines) s h = all_lines_by (is_true (value e l.says s s)) _ (false_line e lines s s) l.line h (all_lines e lines s)
 
 -- the test of the entry condition
-lines_met : (u : UnrolledProgram) (s : State) → (meets u s ≡ true) ↔ MeetsLines u s
+pub lines_met : (u : UnrolledProgram) (s : State) → (meets u s ≡ true) ↔ MeetsLines u s
 lines_met u s = (
   (λ h. let k = both_true _ _ h in record { link = eqb-true _ _ k.0; requires = no_line u.endian u.requires s k.1 }),
   (λ m. true_both _ _ (eq-eqb _ _ m.link) (all_lines u.endian u.requires s m.requires)),
 )
 
 -- what the entry condition's bit is under a reading
-entry_tells : (u : UnrolledProgram) (old new : List TermNode) (t : ℕ) → IsEntryBit u old new t → (r : Reading) → IsReading r → r.state.pc ≡ u.entry →
+pub entry_tells : (u : UnrolledProgram) (old new : List TermNode) (t : ℕ) → IsEntryBit u old new t → (r : Reading) → IsReading r → r.state.pc ≡ u.entry →
     term_word (term_reading u r) new t ≡ bit (meets u r.state)
 entry_tells u old new t h r k e =
     let x = term_reading u r in
@@ -109,7 +109,7 @@ entry_tells u old new t h r k e =
     h.value x (reading_in_range u r k) ∙ ap (λ (s : State). bit (meets u s)) (sym same)
 
 -- a bit that is 1
-bit_one : (b : Bool) → bit b ≡ 1 → b ≡ true
+pub bit_one : (b : Bool) → bit b ≡ 1 → b ≡ true
 bit_one true h = refl
 bit_one false h = absurd (omega arith)
 
@@ -129,7 +129,7 @@ nothing_there : (m : TermNode) (A : Type 0) → Contains [] m → A
 nothing_there m A c = let l = c.1 in absurd (omega arith)
 
 -- the inputs of the entry condition
-entry_named : (u : UnrolledProgram) (new : List TermNode) (t : ℕ) → IsEntryBit u [] new t → (m : TermNode) → Contains new m → IsInput m → IsNamedBelow u 0 m
+pub entry_named : (u : UnrolledProgram) (new : List TermNode) (t : ℕ) → IsEntryBit u [] new t → (m : TermNode) → Contains new m → IsInput m → IsNamedBelow u 0 m
 entry_named u new t h m c i = elim (h.inputs m c i) [ inl none ↦ nothing_there m (IsNamedBelow u 0 m) none | inr named ↦ named ]
 
 -- a test with nothing more

@@ -22,18 +22,22 @@ use Rattle.note_terms.specs.Lines.{IsStateOf}
 abbrev pub said : List NoteLine → List Expr
 said lines = map (λ l. expr_of l.says) lines
 
--- all lines are true in a state
-abbrev pub all_true : Endian → List Expr → State → Bool
-all_true e lines s = list_all (λ l. is_true (value e l s s)) lines
+-- all lines are true in a state, with a state at entry
+abbrev pub all_hold : Endian → List Expr → (now entry : State) → Bool
+all_hold e lines now entry = list_all (λ l. is_true (value e l now entry)) lines
 
--- A bit says whether a first one is 1 and all lines are true in the state. It costs the lines' prices.
-pub record AreTrue (old new : List TermNode) (big : Bool) (now : Now) (first : ℕ) (lines : List Expr) (t : ℕ) : Type 0 where
+-- all lines are true in a state at entry
+abbrev pub all_true : Endian → List Expr → State → Bool
+all_true e lines s = all_hold e lines s s
+
+-- A bit says whether a first one is 1 and all lines are true in the state now, with the state at entry. It costs the lines' prices.
+pub record AreTrue (old new : List TermNode) (big : Bool) (now entry : Now) (first : ℕ) (lines : List Expr) (t : ℕ) : Type 0 where
   pub grew : Grew old new (sum_by line_price lines) (sum_by bytes_loaded lines) 0 0 (4 * line_steps lines)
   pub inputs : InputsFrom old new (λ m. ⊥)
   pub typed : AreTyped new
   pub width : HasWidth new 1 t
-  pub value : (x : TermReading) → InRange x → (c : Carried) (at : ℕ) → IsStateOf old x now c at → (b : Bool) → term_word x old first ≡ bit b →
-      term_word x new t ≡ bit (b && all_true (endian big) lines (state_at c at))
+  pub value : (x : TermReading) → InRange x → (c d : Carried) (at from : ℕ) → IsStateOf old x now c at → IsStateOf old x entry d from → (b : Bool) →
+      term_word x old first ≡ bit b → term_word x new t ≡ bit (b && all_hold (endian big) lines (state_at c at) (state_at d from))
 
 -- whether the entry condition is met, but for the bytes of the file
 abbrev pub meets : UnrolledProgram → State → Bool

@@ -1,11 +1,12 @@
 -- Copies of a term with what is known of registers put in.
-use Rattle.std.specs.Prelude.{ℕ, ◌≡◌, ◌-◌, ◌≤◌, Bool, true, List, [], length, Contains}
+use Rattle.std.specs.Prelude.{ℕ, ◌≡◌, ◌-◌, ◌<◌, ◌≤◌, Bool, true, List, [], length, Contains}
 use Rattle.word_spec.specs.Words.{bits, complement, concat}
 use Rattle.walk_spec.specs.Terms.{TermReading, InRange, TermNode, RegisterNode, AreTyped, HasWidth, term_word, term_value, width_of, node_at, own_gates, own_loads, own_stores, own_joins, term_gates, term_loads, term_stores, term_joins}
+use Rattle.term_dag.specs.declared.nodes.Term.{Term}
 use Rattle.term_dag.specs.Made.{Grew, InputsFrom}
 use Rattle.weakest_pre.specs.declared.facts.Facts.{Facts}
 use Rattle.weakest_pre.specs.declared.facts.Runs.{Runs}
-use Rattle.weakest_pre.specs.Copies.{is_marked}
+use Rattle.weakest_pre.specs.Copies.{is_marked, root_at}
 use Rattle.weakest_pre.specs.Known.{AreMet, IsRuns}
 
 -- a reading is in range, and its registers are as is known
@@ -35,17 +36,28 @@ pub record IsFolded (P : TermReading → Type 0) (source old new : List TermNode
   pub width : is_marked marks i ≡ true → HasWidth new (width_of (node_at source i)) t
   pub value : (x : TermReading) → P x → is_marked marks i ≡ true → term_value x new t ≡ term_value x source i
 
--- A list of nodes of its own has a term of another list, with its width, and with its value under some readings. It costs no more than that list, and names
--- no other input.
-pub record IsFoldedRoot (P : TermReading → Type 0) (source new : List TermNode) (root t : ℕ) : Type 0 where
+-- A list of nodes of its own has terms of another list, with their widths, and with their values under some readings. It costs no more than that list, and
+-- names no other input.
+pub record AreFoldedRoots (P : TermReading → Type 0) (source new : List TermNode) (roots ts : List Term) : Type 0 where
   pub gates : term_gates new ≤ term_gates source
   pub loads : term_loads new ≤ term_loads source
   pub stores : term_stores new ≤ term_stores source
   pub joins : term_joins new ≤ term_joins source
   pub inputs : InputsFrom [] new (Contains source)
   pub typed : AreTyped new
-  pub width : HasWidth new (width_of (node_at source root)) t
-  pub value : (x : TermReading) → P x → term_value x new t ≡ term_value x source root
+  pub count : length ts ≡ length roots
+  pub widths : (k : ℕ) → k < length roots → HasWidth new (width_of (node_at source (root_at roots k))) (root_at ts k)
+  pub values : (x : TermReading) → P x → (k : ℕ) → k < length roots → term_value x new (root_at ts k) ≡ term_value x source (root_at roots k)
+
+-- Terms of a list have their copies in another, with the same widths, and with the same values under some readings. What is new costs no more than the list,
+-- has no more nodes, and names no other input.
+pub record AreFoldedCopies (P : TermReading → Type 0) (source old new : List TermNode) (roots ts : List Term) : Type 0 where
+  pub grew : Grew old new (term_gates source) (term_loads source) (term_stores source) (term_joins source) (length source)
+  pub inputs : InputsFrom old new (Contains source)
+  pub typed : AreTyped new
+  pub count : length ts ≡ length roots
+  pub widths : (k : ℕ) → k < length roots → HasWidth new (width_of (node_at source (root_at roots k))) (root_at ts k)
+  pub values : (x : TermReading) → P x → (k : ℕ) → k < length roots → term_value x new (root_at ts k) ≡ term_value x source (root_at roots k)
 
 -- A term of a list has its copy in another, with the same width, and with the same value under some readings. What is new costs no more than the list, has no
 -- more nodes, and names no other input.

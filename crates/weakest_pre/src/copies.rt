@@ -1,11 +1,11 @@
-//! Copies of a term with all that it is over.
+//! Copies of terms with all that they are over.
 
-ghost use Rattle.std.specs.Prelude.{◌≡◌, ◌<◌, ◌+◌, ℕ, true, false, IfOk, length, replicate, slice_set};
+ghost use Rattle.std.specs.Prelude.{◌≡◌, ◌<◌, ◌≤◌, ◌^◌, ℕ, List, true, false, IfOk, length, slice_set};
 ghost use Rattle.std.specs.List.{AllByRecursion};
 ghost use Rattle.walk_spec.specs.Terms.{AreTyped};
 ghost use Rattle.term_dag.specs.Nodes.{node_of};
 ghost use Rattle.term_dag.specs.Made.{moved, operands};
-ghost use Rattle.weakest_pre.specs.Copies.{Always, AreCopies, AreMarkedFrom, AreReached, IsCopy, IsCopyOf, copy_at, is_marked, marked, visited};
+ghost use Rattle.weakest_pre.specs.Copies.{Always, AreCopies, AreCopiesOf, ArePicked, AreReached, AreRootsMarked, AreWithin, IsCopy, copy_at, is_marked, marked, visited};
 
 use std::alloc::{AllocError, Global};
 use term_dag::{Dag, Node, Term};
@@ -89,14 +89,27 @@ fn visit(marks: &mut [bool], source: &Dag, place: u32)
     }
 }
 
-/// Marks a root and the places that it reaches, where no place is marked.
-fn mark_reached(marks: &mut [bool], source: &Dag, root: Term)
-    requires typed { AreTyped source.now }
-    requires root { root.0 < length source.now }
-    requires blank { marks.old ≡ replicate (root.0 + 1) false }
-    ensures { AreReached source.now root.0 marks.new }
+/// Marks roots, where no place is marked.
+fn mark_roots(marks: &mut [bool], roots: &[Term])
+    requires roots { AreWithin roots.now (length marks.old) }
+    requires blank { (i : ℕ) → is_marked marks.old i ≡ false }
+    ensures { AreRootsMarked roots.now (length roots.now) marks.new }
 {
-    mark(marks, root);
+    for k in 0..roots.len() {
+        mark(marks, roots[k]);
+    }
+}
+
+/// Marks roots and the places that they reach, where no place is marked.
+fn mark_reached(marks: &mut [bool], source: &Dag, roots: &[Term])
+    requires typed { AreTyped source.now }
+    requires within { length marks.old ≤ length source.now }
+    requires numbered { length marks.old ≤ 2 ^ 32 }
+    requires roots { AreWithin roots.now (length marks.old) }
+    requires blank { (i : ℕ) → is_marked marks.old i ≡ false }
+    ensures { AreReached source.now roots.now marks.new }
+{
+    mark_roots(marks, roots);
     let mut place = marks.len();
     while place > 0 {
         place -= 1;
@@ -104,15 +117,40 @@ fn mark_reached(marks: &mut [bool], source: &Dag, root: Term)
     }
 }
 
-/// The places up to a root, each with whether the root reaches it. The error is want of memory.
-pub fn reached(alloc: Global, source: &Dag, root: Term) -> Result<Vec<bool>, AllocError>
-    requires typed { AreTyped source.now }
-    requires root { root.0 < length source.now }
-    ensures { IfOk result (λ m. AreReached source.now root.0 m.items) }
+/// One more than the greatest place of roots, 0 where there are none.
+fn bound_of(roots: &[Term]) -> usize
+    ensures above { AreWithin roots.now result }
+    ensures numbered { result ≤ 2 ^ 32 }
+    ensures least { (n : ℕ) → AreWithin roots.now n → result ≤ n }
 {
-    let mut marks = vec![in alloc; false; root.0 as usize + 1]?;
-    mark_reached(&mut marks, source, root);
+    let mut bound = 0;
+    for k in 0..roots.len() {
+        bound = bound.max(roots[k].0 as usize + 1);
+    }
+    bound
+}
+
+/// The places up to the last of some roots, each with whether a root reaches it. The error is want of memory.
+pub fn reached(alloc: Global, source: &Dag, roots: &[Term]) -> Result<Vec<bool>, AllocError>
+    requires typed { AreTyped source.now }
+    requires roots { AreWithin roots.now (length source.now) }
+    ensures { IfOk result (λ m. AreReached source.now roots.now m.items) }
+{
+    let mut marks = vec![in alloc; false; bound_of(roots)]?;
+    mark_reached(&mut marks, source, roots);
     Ok(marks)
+}
+
+/// The copies of roots, in their order. The error is want of memory.
+pub fn picked(alloc: Global, copies: &[Term], roots: &[Term]) -> Result<Vec<Term>, AllocError>
+    requires { AreWithin roots.now (length copies.now) }
+    ensures { IfOk result (λ ts. ArePicked copies.now roots.now (length roots.now) ts.items) }
+{
+    let mut terms = Vec::with_capacity(alloc, roots.len())?;
+    for k in 0..roots.len() {
+        terms.push(copy_of(copies, roots[k]))?;
+    }
+    Ok(terms)
 }
 
 /// The copy of a term.
@@ -234,7 +272,7 @@ fn kept(
 ) -> Result<Term, AllocError>
     requires typed { AreTyped source.now }
     requires old { AreTyped dag.old }
-    requires reached { (root : ℕ) × AreReached source.now root marks.now }
+    requires reached { (roots : List Term) × AreReached source.now roots marks.now }
     requires place { place < length marks.now }
     requires within { place < length source.now }
     requires count { length copies.now ≡ place }
@@ -248,18 +286,24 @@ fn kept(
     Ok(Term(place))
 }
 
-/// The copy of a term, with all that it is over and no more. The error is want of memory.
-pub fn copied(alloc: Global, dag: &mut Dag, source: &Dag, root: Term) -> Result<Term, AllocError>
+/// The copies of terms, with all that they are over and no more. The error is want of memory.
+pub fn copied(
+    alloc: Global,
+    dag: &mut Dag,
+    source: &Dag,
+    roots: &[Term],
+) -> Result<Vec<Term>, AllocError>
     requires typed { AreTyped source.now }
     requires old { AreTyped dag.old }
-    requires root { root.0 < length source.now }
-    ensures { IfOk result (λ t. IsCopyOf source.now dag.old dag.new root.0 t.0) }
+    requires roots { AreWithin roots.now (length source.now) }
+    ensures { IfOk result (λ ts. AreCopiesOf source.now dag.old dag.new roots.now ts.items) }
 {
-    let marks = reached(alloc, source, root)?;
+    let marks = reached(alloc, source, roots)?;
     let mut copies = Vec::with_capacity(alloc, marks.len())?;
     for place in 0..marks.len() {
         let term = kept(dag, source, &marks, &copies, place as u32)?;
         copies.push(term)?;
     }
-    Ok(copies[root.0 as usize])
+    let terms = picked(alloc, &copies, roots)?;
+    Ok(terms)
 }

@@ -11,6 +11,7 @@ ghost use Rattle.notes_value.specs.Views.{expr_of};
 ghost use Rattle.notes_lang.specs.declared.notes.NoteLine as declared;
 ghost use Rattle.question_form.specs.Views.{unrolled_of};
 ghost use Rattle.term_names.specs.Views.{form_of};
+ghost use Rattle.term_names.specs.Chosen.{HaveSameForm};
 ghost use Rattle.note_terms.specs.Steps.{IsStep};
 ghost use Rattle.note_terms.specs.Lines.{AreStateTerms};
 ghost use Rattle.weakest_pre.specs.Entry.{AreTrue, IsEntryBit, said};
@@ -62,23 +63,26 @@ fn is_at_place(dag: &mut Dag, narrow: bool, word: Term) -> Result<Term, AllocErr
     Ok(bit)
 }
 
-/// Whether a bit is 1 and all lines are true in a state. The error is want of memory.
-fn all_true(
+/// Whether a bit is 1 and all lines are true in the state now, with the state at entry. The error is want of memory.
+pub fn all_true<'a>(
     dag: &mut Dag,
     lines: &[NoteLine],
-    now: &Now,
+    now: &Now<'a>,
+    entry: &Now<'a>,
     big: bool,
     first: Term,
 ) -> Result<Term, AllocError>
     requires reads { (l : declared.NoteLine) → Contains lines.now l → IsReadable (form_of now.now.names.now) (expr_of l.says) }
     requires typed { AreTyped dag.old }
+    requires same { HaveSameForm now.now.names.now entry.now.names.now }
     requires now { AreStateTerms dag.old now.now }
+    requires entry { AreStateTerms dag.old entry.now }
     requires first { HasWidth dag.old 1 first.0 }
-    ensures { IfOk result (λ t. AreTrue dag.old dag.new big now.now first.0 (said lines.now) t.0) }
+    ensures { IfOk result (λ t. AreTrue dag.old dag.new big now.now entry.now first.0 (said lines.now) t.0) }
 {
     let mut all = first;
     for each in lines {
-        let bit = line(dag, &each.says, now, now, big)?;
+        let bit = line(dag, &each.says, now, entry, big)?;
         all = both(dag, all, bit)?;
     }
     Ok(all)
@@ -99,6 +103,13 @@ pub fn entry_bit(alloc: Global, dag: &mut Dag, unrolled: &Unrolled) -> Result<Te
     let link = names.registers[(unrolled.link - first) as usize];
     let aligned = is_at_place(dag, unrolled.narrow, link)?;
     let now = Now { names: &names, pc };
-    let bit = all_true(dag, &unrolled.notes.required, &now, unrolled.big, aligned)?;
+    let bit = all_true(
+        dag,
+        &unrolled.notes.required,
+        &now,
+        &now,
+        unrolled.big,
+        aligned,
+    )?;
     Ok(bit)
 }

@@ -1,15 +1,15 @@
 //! Copies of a term that hold where what is known of registers does: what is known is put in, and what it is over is folded.
 
-ghost use Rattle.std.specs.Prelude.{◌≡◌, ℕ, ◌<◌, ◌≤◌, ◌-◌, ◌^◌, [], length, IfNone, IfOk, IfSome};
+ghost use Rattle.std.specs.Prelude.{◌≡◌, ℕ, ◌<◌, ◌≤◌, ◌-◌, ◌^◌, List, [], length, IfNone, IfOk, IfSome};
 ghost use Rattle.word_spec.specs.Words.{bits, complement, concat};
 ghost use Rattle.walk_spec.specs.Terms.{AreTyped, HasWidth, term_word};
 ghost use Rattle.term_dag.specs.Nodes.{node_of};
 ghost use Rattle.note_terms.specs.Steps.{IsStep};
-ghost use Rattle.weakest_pre.specs.Copies.{AreCopies, AreReached};
+ghost use Rattle.weakest_pre.specs.Copies.{AreCopies, AreReached, AreWithin};
 ghost use Rattle.weakest_pre.specs.Known.{IsRuns};
-ghost use Rattle.weakest_pre.specs.Folded.{pieces, IsMetBy, IsFolded, IsFoldedCopy, IsFoldedRoot, IsKnownRegister};
+ghost use Rattle.weakest_pre.specs.Folded.{pieces, AreFoldedCopies, AreFoldedRoots, IsMetBy, IsFolded, IsFoldedCopy, IsKnownRegister};
 
-use crate::copies::{copied, moved, reached};
+use crate::copies::{copied, moved, picked, reached};
 use crate::facts::{Facts, Runs, runs_of};
 use std::alloc::{AllocError, Global};
 use term_dag::{Dag, Node, Term};
@@ -160,7 +160,7 @@ fn folded(
 ) -> Result<Term, AllocError>
     requires typed { AreTyped source.now }
     requires old { AreTyped dag.old }
-    requires reached { (root : ℕ) × AreReached source.now root marks.now }
+    requires reached { (roots : List Term) × AreReached source.now roots marks.now }
     requires place { place < length marks.now }
     requires within { place < length source.now }
     requires count { length copies.now ≡ place }
@@ -180,30 +180,58 @@ fn folded(
     Ok(Term(place))
 }
 
-/// The folded copy of a term, in a list of nodes of its own. The error is want of memory.
-fn folded_root(
+/// The folded copies of terms, in a list of nodes of its own. The error is want of memory.
+fn folded_roots(
     alloc: Global,
     dag: &mut Dag,
     source: &Dag,
     facts: &Facts,
-    root: Term,
-) -> Result<Term, AllocError>
+    roots: &[Term],
+) -> Result<Vec<Term>, AllocError>
     requires typed { AreTyped source.now }
     requires old { dag.old ≡ [] }
-    requires root { root.0 < length source.now }
-    ensures { IfOk result (λ t. IsFoldedRoot (IsMetBy facts.now) source.now dag.new root.0 t.0) }
+    requires roots { AreWithin roots.now (length source.now) }
+    ensures { IfOk result (λ ts. AreFoldedRoots (IsMetBy facts.now) source.now dag.new roots.now ts.items) }
 {
-    let marks = reached(alloc, source, root)?;
+    let marks = reached(alloc, source, roots)?;
     let mut copies = Vec::with_capacity(alloc, marks.len())?;
     for place in 0..marks.len() {
         let term = folded(dag, source, facts, &marks, &copies, place as u32)?;
         copies.push(term)?;
     }
-    Ok(copies[root.0 as usize])
+    let terms = picked(alloc, &copies, roots)?;
+    Ok(terms)
 }
 
-/// A copy of a term, with all that it is over, that has its value where what is known of registers holds. It has no more nodes than there are terms: where what
-/// is known would add some, the copy is as the term is. The error is want of memory.
+/// Copies of terms, with all that they are over and each node once, that have their values where what is known of registers holds. They have no more nodes than
+/// there are terms: where what is known would add some, the copies are as the terms are. The error is want of memory.
+pub fn folded_copies(
+    alloc: Global,
+    dag: &mut Dag,
+    source: &Dag,
+    facts: &Facts,
+    roots: &[Term],
+) -> Result<Vec<Term>, AllocError>
+    requires typed { AreTyped source.now }
+    requires old { AreTyped dag.old }
+    requires roots { AreWithin roots.now (length source.now) }
+    ensures { IfOk result (λ ts. AreFoldedCopies (IsMetBy facts.now) source.now dag.old dag.new roots.now ts.items) }
+{
+    if facts.are_none() {
+        let terms = copied(alloc, dag, source, roots)?;
+        return Ok(terms);
+    }
+    let mut scratch = Dag::new(alloc);
+    let folded = folded_roots(alloc, &mut scratch, source, facts, roots)?;
+    if scratch.nodes() > source.nodes() {
+        let terms = copied(alloc, dag, source, roots)?;
+        return Ok(terms);
+    }
+    let terms = copied(alloc, dag, &scratch, &folded)?;
+    Ok(terms)
+}
+
+/// The copy of one term. The error is want of memory.
 pub fn folded_copy(
     alloc: Global,
     dag: &mut Dag,
@@ -216,16 +244,6 @@ pub fn folded_copy(
     requires root { root.0 < length source.now }
     ensures { IfOk result (λ t. IsFoldedCopy (IsMetBy facts.now) source.now dag.old dag.new root.0 t.0) }
 {
-    if facts.are_none() {
-        let term = copied(alloc, dag, source, root)?;
-        return Ok(term);
-    }
-    let mut scratch = Dag::new(alloc);
-    let folded = folded_root(alloc, &mut scratch, source, facts, root)?;
-    if scratch.nodes() > source.nodes() {
-        let term = copied(alloc, dag, source, root)?;
-        return Ok(term);
-    }
-    let term = copied(alloc, dag, &scratch, folded)?;
-    Ok(term)
+    let terms = folded_copies(alloc, dag, source, facts, &[root])?;
+    Ok(terms[0])
 }

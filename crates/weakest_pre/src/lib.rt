@@ -16,8 +16,9 @@ ghost use Rattle.question_form.specs.Questions.{passive_of, program_of_question,
 ghost use Rattle.weakest_pre.specs.Entry.{IsEntryBit};
 ghost use Rattle.weakest_pre.specs.Roots.{IsTied};
 
-use crate::entry::{both, entry_bit};
-use crate::facts::Facts;
+pub use crate::entry::{all_true, both, entry_bit};
+pub use crate::facts::Facts;
+pub use crate::folding::folded_copies;
 use crate::folding::folded_copy;
 use question_form::{Kind, Passive, Question};
 use std::alloc::{AllocError, Global};

@@ -1,4 +1,4 @@
-use Rattle.std.proofs.Common.{◌≡◌, ℕ, ◌+◌, ◌-◌, ◌*◌, ◌/◌, ◌%◌, ◌^◌, ◌≤◌, length, take, get_or, ◌∙◌, ap, arith}
+use Rattle.std.proofs.Common.{◌≡◌, ◌+◌, ◌-◌, ◌*◌, ◌/◌, ◌%◌, ◌^◌, length, take, get_or, ◌∙◌, ap, arith}
 use Rattle.word_spec.specs.Words.{mul, magnitude, is_negative}
 use Rattle.gates.specs.Circuits.{bit_value}
 use Rattle.gates.proofs.Netlists.{grows_then}

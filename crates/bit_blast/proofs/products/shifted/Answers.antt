@@ -1,4 +1,4 @@
-use Rattle.std.proofs.Common.{◌≡◌, ◌+◌, ◌-◌, ◌*◌, ◌%◌, ◌^◌, length, take, ◌∙◌, ap, arith}
+use Rattle.std.proofs.Common.{◌≡◌, ◌-◌, ◌%◌, ◌^◌, length, take, ◌∙◌, ap, arith}
 use Rattle.gates.proofs.Netlists.{grows_none}
 use Rattle.word_gates.specs.Numbers.{number}
 use Rattle.word_gates.proofs.Constants.{zero_word}

@@ -1,6 +1,4 @@
-use Rattle.std.proofs.Common.{◌<◌, ◌∙◌, ap, subst, sym, length, arith}
-use Rattle.gates.specs.Circuits.{next, Within}
-use Rattle.word_gates.specs.Numbers.{number}
+use Rattle.std.proofs.Common.{◌<◌, ◌∙◌, length, arith}
 use Rattle.word_gates.proofs.Words.{no_bit}
 use Rattle.bit_blast.specs.Said.{agrees_at}
 use Rattle.bit_blast.proofs.Allowed.{no_agreement, all_more, asks_is}
@@ -15,11 +13,10 @@ loop-i-preserved c =
     record {
       value = λ v.
           c.in_ok-tie_words.ensures.value v
-          ∙ all_more (agrees_at c.args.places.now c.args.words.now v) c.args.agrees.now i no_agreement _ _ _ l (c.loop-i.invariant.value v)
+          ∙ all_more (agrees_at c.args.places.now c.args.inputs.now c.args.words.now v) c.args.agrees.now i no_agreement _ _ _ l (c.loop-i.invariant.value v)
           (asks_is v c.operand-condition.result.now _ _ _ _ _ one (c.operand-condition.ensures.value v)
-          (ap (number v) c.deref.ensures.value ∙ c.in_ok-a.ensures.value v) (ap (number v) c.deref-in-loop-i.ensures.value ∙ c.in_ok-b.ensures.value v));
-      over = λ o.
-          c.in_ok-tie_words.ensures.over (next c.args.circuit.now) ((c.operand-condition.ensures.within _ c.requires.within).each 0 no_bit (omega (arith, one)))
-          (subst (Within (next c.args.circuit.now)) (sym c.deref.ensures.value) c.in_ok-a.ensures.made.within)
-          (subst (Within (next c.args.circuit.now)) (sym c.deref-in-loop-i.ensures.value) c.in_ok-b.ensures.made.within) (c.loop-i.invariant.over o);
+          (c.read_bits-a.ensures.value v) (c.read_bits-b.ensures.value v));
+      over = λ n w k o.
+          c.in_ok-tie_words.ensures.over n ((c.operand-condition.ensures.within n k).each 0 no_bit (omega (arith, one)))
+          (c.read_bits-a.ensures.within n w) (c.read_bits-b.ensures.within n w) (c.loop-i.invariant.over n w k o);
     }

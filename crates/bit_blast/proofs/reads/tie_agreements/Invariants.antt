@@ -1,12 +1,13 @@
 use Rattle.std.proofs.Common.{◌≡◌, ℕ, ◌&&◌, Bool, take}
 use Rattle.std.specs.List.{list_all}
-use Rattle.gates.specs.Circuits.{next}
+use Rattle.gates.specs.Circuits.{Within}
 use Rattle.gates.specs.Pushes.{satisfied, AreOver}
+use Rattle.bit_blast.specs.BitWords.{AreWithin}
 use Rattle.bit_blast.specs.Said.{agrees_at}
 use Rattle.bit_blast.proofs.reads.tie_agreements.Given as goal
 
 abbrev pub invariant-loop-i : goal.invariant-loop-i
 invariant-loop-i l = record {
-  value : (v : ℕ → Bool) → satisfied v l.ties.items ≡ (satisfied v l.fn.ties.items && list_all (agrees_at l.places l.words v) (take l.i l.agrees));
-  over : AreOver (next l.circuit) l.fn.ties.items → AreOver (next l.circuit) l.ties.items;
+  value : (v : ℕ → Bool) → satisfied v l.ties.items ≡ (satisfied v l.fn.ties.items && list_all (agrees_at l.places l.inputs l.words v) (take l.i l.agrees));
+  over : (n : ℕ) → Within n l.inputs → AreWithin n l.words → AreOver n l.fn.ties.items → AreOver n l.ties.items;
 }

@@ -1,6 +1,4 @@
-use Rattle.std.proofs.Common.{◌<◌, ◌∙◌, refl, ap, subst, sym, length, arith}
-use Rattle.gates.specs.Circuits.{next, Within}
-use Rattle.word_gates.specs.Numbers.{number}
+use Rattle.std.proofs.Common.{◌<◌, ◌∙◌, refl, length, arith}
 use Rattle.word_gates.proofs.Words.{no_bit}
 use Rattle.bit_blast.specs.Said.{asked_at}
 use Rattle.bit_blast.proofs.Allowed.{no_asked, all_more, asks_is}
@@ -15,10 +13,10 @@ loop-i-preserved c =
     record {
       value = λ v.
           c.in_ok-tie_byte.ensures.value v
-          ∙ all_more (asked_at c.args.places.now c.args.words.now v) c.args.asked.now i no_asked _ _ _ l (c.loop-i.invariant.value v)
+          ∙ all_more (asked_at c.args.places.now c.args.inputs.now c.args.words.now v) c.args.asked.now i no_asked _ _ _ l (c.loop-i.invariant.value v)
           (asks_is v c.operand-condition.result.now _ _ _ _ _ one (c.operand-condition.ensures.value v)
-          (ap (number v) c.deref.ensures.value ∙ c.in_ok-bits.ensures.value v) refl);
-      over = λ o.
-          c.in_ok-tie_byte.ensures.over (next c.args.circuit.now) ((c.operand-condition.ensures.within _ c.requires.within).each 0 no_bit (omega (arith, one)))
-          (subst (Within (next c.args.circuit.now)) (sym c.deref.ensures.value) c.in_ok-bits.ensures.made.within) (c.loop-i.invariant.over o);
+          (c.read_bits-bits.ensures.value v) refl);
+      over = λ n w k o.
+          c.in_ok-tie_byte.ensures.over n ((c.operand-condition.ensures.within n k).each 0 no_bit (omega (arith, one)))
+          (c.read_bits-bits.ensures.within n w) (c.loop-i.invariant.over n w k o);
     }

@@ -1,6 +1,7 @@
 use Rattle.std.proofs.Common.{◌≡◌, ◌<◌, List, Bool, true, length, arith, subst}
 use Rattle.graph_nodes.specs.declared.nodes.Node.{Node}
 use Rattle.graph_nodes.specs.Places.{AreRising}
+use Rattle.flag_live.specs.Asked.{ensuring}
 use Rattle.flag_live.specs.Meanings.{IsLiveNode}
 use Rattle.flag_live.proofs.Located.{node_from_read}
 use Rattle.flag_live.proofs.Lives.{live_more, lives_are}
@@ -26,5 +27,6 @@ pub returns : goal.returns
 returns c p is =
     let nodes = c.args.graph.now.nodes in
     let all : c.loop-i.i ≡ length nodes.items = omega (arith, nodes.ok.0) in
-    lives_are p c.args.graph.now c.args.flag c.loop-i.i c.in_ok-marked.marked.items c.loop-i.live.items c.requires all c.loop-i.invariant is
+    lives_are p (ensuring c.args.graph.now c.args.ensured) c.args.flag c.loop-i.i c.in_ok-marked.marked.items c.loop-i.live.items c.requires all
+    c.loop-i.invariant is
     (c.in_ok-marked.ensures p is)

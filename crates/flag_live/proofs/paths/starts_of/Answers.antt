@@ -1,4 +1,5 @@
 use Rattle.std.proofs.Common.{◌≡◌, ℕ, ◌<◌, ◌++◌, [], ◌∷◌, length, sym, ap, ◌∙◌, arith}
+use Rattle.flag_live.specs.Asked.{ensuring}
 use Rattle.flag_live.proofs.Begun.{starts_more, starts_ensured, starts_only}
 use Rattle.flag_live.proofs.Located.{node_from_read}
 use Rattle.flag_live.proofs.paths.starts_of.Goals as goal
@@ -16,11 +17,11 @@ returns-then-has_flag c =
     let nodes = c.args.graph.now.nodes in
     let all : c.loop-i.i ≡ length nodes.items = omega (arith, nodes.ok.0) in
     let count : c.len.result ≡ length nodes.items = omega (arith, nodes.ok.0) in
-    starts_ensured c.args.graph.now c.args.flag c.loop-i.i c.loop-i.starts.items c.push.new.self.items all (sym c.if-has_flag.ensures)
+    starts_ensured (ensuring c.args.graph.now c.args.ensured) c.args.flag c.loop-i.i c.loop-i.starts.items c.push.new.self.items all (sym c.if-has_flag.ensures)
     (c.in_ok-push.ensures.items ∙ ap (λ (n : ℕ). c.loop-i.starts.items ++ n ∷ []) count) c.loop-i.invariant
 
 pub returns : goal.returns
 returns c =
     let nodes = c.args.graph.now.nodes in
     let all : c.loop-i.i ≡ length nodes.items = omega (arith, nodes.ok.0) in
-    starts_only c.args.graph.now c.args.flag c.loop-i.i c.loop-i.starts.items all (sym c.if-has_flag.ensures) c.loop-i.invariant
+    starts_only (ensuring c.args.graph.now c.args.ensured) c.args.flag c.loop-i.i c.loop-i.starts.items all (sym c.if-has_flag.ensures) c.loop-i.invariant

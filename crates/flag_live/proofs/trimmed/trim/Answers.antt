@@ -4,7 +4,8 @@ use Rattle.std.proofs.lemmas.List.Elements.{all_zip_more}
 use Rattle.graph_nodes.specs.Graphs.{IsSameNode}
 use Rattle.graph_nodes.specs.declared.nodes.Node.{Node}
 use Rattle.flag_live.specs.Keeps.{IsSetOf}
-use Rattle.flag_live.proofs.Graphed.{same_graph}
+use Rattle.flag_live.specs.Asked.{ensuring}
+use Rattle.flag_live.proofs.Graphed.{asked_graph, same_graph}
 use Rattle.flag_live.proofs.Lives.{kept_more, same_count, same_all, stay_live}
 use Rattle.flag_live.proofs.trimmed.trim.Goals as goal
 
@@ -31,18 +32,21 @@ loop-i-preserved c =
     }
 
 pub returns-clause-graph : goal.returns-clause-graph
-returns-clause-graph c p is =
+returns-clause-graph c p asked is =
     let old = c.args.graph.now.nodes in
     let all : length old.items ≤ c.loop-i.i = omega (arith, old.ok.0) in
     let same = same_all old.items c.loop-i.nodes.items c.loop-i.i all c.loop-i.invariant.same in
-    same_graph p c.args.graph.now (record { narrow = c.args.graph.now.narrow; nodes = c.loop-i.nodes; ensured = c.args.graph.now.ensured })
-    (record { narrow = refl; nodes = same; ensured = refl }) is
+    same_graph p (ensuring c.args.graph.now c.joined-ensured.result)
+    (record { narrow = c.args.graph.now.narrow; nodes = c.loop-i.nodes; ensured = c.joined-ensured.result })
+    (record { narrow = refl; nodes = same; ensured = refl })
+    (asked_graph p c.args.graph.now c.args.out c.joined-ensured.result asked c.joined-ensured.ensures is)
 
 pub returns-clause-live : goal.returns-clause-live
-returns-clause-live c p is =
+returns-clause-live c p asked is =
+    let g = asked_graph p c.args.graph.now c.args.out c.joined-ensured.result asked c.joined-ensured.ensures is in
     let old = c.args.graph.now.nodes in
     let all : length old.items ≤ c.loop-i.i = omega (arith, old.ok.0) in
-    stay_live p c.args.graph.now c.loop-i.nodes.items c.in_ok-lives.field-0.items c.in_ok-lives-2.field-0.items c.in_ok-lives-3.field-0.items
-    c.in_ok-lives-4.field-0.items
+    stay_live p (ensuring c.args.graph.now c.joined-ensured.result) c.loop-i.nodes.items c.in_ok-lives.field-0.items c.in_ok-lives-2.field-0.items
+    c.in_ok-lives-3.field-0.items c.in_ok-lives-4.field-0.items
     (same_all old.items c.loop-i.nodes.items c.loop-i.i all c.loop-i.invariant.same) c.loop-i.invariant.kept
-    (c.in_ok-lives.ensures p is) (c.in_ok-lives-2.ensures p is) (c.in_ok-lives-3.ensures p is) (c.in_ok-lives-4.ensures p is)
+    (c.in_ok-lives.ensures p g) (c.in_ok-lives-2.ensures p g) (c.in_ok-lives-3.ensures p g) (c.in_ok-lives-4.ensures p g)

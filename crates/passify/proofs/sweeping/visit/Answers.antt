@@ -4,7 +4,8 @@ use Rattle.term_names.specs.declared.names.Names.{Names}
 use Rattle.passify.specs.Handled.{IsHandled}
 use Rattle.passify.specs.Sweeps.{AreWell}
 use Rattle.passify.specs.Swept.{AreSwept}
-use Rattle.passify.proofs.Visited.{forget_well, handled_by, met_within, none_met, passed_by, place, taken_was, zero_met}
+use Rattle.question_form.specs.Views.{unrolled_of}
+use Rattle.passify.proofs.Visited.{carried_there, carries_on, forget_well, handled_by, met_within, none_met, passed_by, place, taken_was, zero_met}
 use Rattle.passify.proofs.sweeping.visit.Goals as goal
 
 pub index-met-requires : goal.index-met-requires
@@ -27,8 +28,8 @@ pub constant-requires : goal.constant-requires
 constant-requires c = met_within c.args.unrolled.now c.args.place c.args.dag.now c.args.sweep.now c.requires.swept c.requires.place c.index-met.result.now
     c.index-met.ensures
 
-pub returns-in-Some-eq0 : goal.returns-in-Some-eq0
-returns-in-Some-eq0 c =
+pub returns-in-Some-eq0-clause-swept : goal.returns-in-Some-eq0-clause-swept
+returns-in-Some-eq0-clause-swept c =
     subst (λ (o : Option Names). AreSwept c.args.unrolled.now (c.args.place + 1) c.args.dag.now
     (record c.args.sweep.now { states = with_item c.args.sweep.now.states c.args.place o })) (sym c.replace-state.ensures.after)
     (passed_by c.args.unrolled.now c.args.place c.args.dag.now c.args.sweep.now c.requires.swept c.requires.place
@@ -48,8 +49,8 @@ handle-requires-clause-names c =
     (Some c.in-Some.names) c.index_mut.ensures.value
     c.replace-state.ensures.value c.in-Some.is)
 
-pub returns-in-None : goal.returns-in-None
-returns-in-None c =
+pub returns-in-None-clause-swept : goal.returns-in-None-clause-swept
+returns-in-None-clause-swept c =
     subst (λ (o : Option Names). AreSwept c.args.unrolled.now (c.args.place + 1) c.args.dag.now
     (record c.args.sweep.now { states = with_item c.args.sweep.now.states c.args.place o })) (sym c.replace-state.ensures.after)
     (passed_by c.args.unrolled.now c.args.place c.args.dag.now c.args.sweep.now c.requires.swept c.requires.place
@@ -59,8 +60,8 @@ returns-in-None c =
     c.index_mut.ensures.value c.replace-state.ensures.value
     c.in-None.is)))
 
-pub returns-in_ok-handle-in-Some : goal.returns-in_ok-handle-in-Some
-returns-in_ok-handle-in-Some c =
+pub returns-in_ok-handle-in-Some-clause-swept : goal.returns-in_ok-handle-in-Some-clause-swept
+returns-in_ok-handle-in-Some-clause-swept c =
     handled_by c.args.unrolled.now c.args.place c.args.dag.now c.args.sweep.now c.requires.swept c.requires.place c.handle.new.dag c.handle.new.sweep
     c.in-Some.names
     (taken_was c.args.unrolled.now c.args.place c.args.dag.now c.args.sweep.now c.requires.swept c.requires.place c.index_mut.result.now c.replace-state.result
@@ -69,3 +70,26 @@ returns-in_ok-handle-in-Some c =
     (subst (λ (o : Option Names). IsHandled c.args.unrolled.now c.args.dag.now c.handle.new.dag
     (record c.args.sweep.now { states = with_item c.args.sweep.now.states c.args.place o }) c.handle.new.sweep c.args.place c.in-Some.names)
     c.replace-state.ensures.after c.in_ok-handle-in-Some.ensures)
+
+pub returns-in-None-clause-carried : goal.returns-in-None-clause-carried
+returns-in-None-clause-carried c =
+    none_met c.args.unrolled.now c.args.place c.args.dag.now c.args.sweep.now c.requires.swept c.requires.place
+    (taken_was c.args.unrolled.now c.args.place c.args.dag.now c.args.sweep.now c.requires.swept c.requires.place c.index_mut.result.now c.replace-state.result
+    None
+    c.index_mut.ensures.value c.replace-state.ensures.value
+    c.in-None.is)
+
+pub returns-in-Some-eq0-clause-carried : goal.returns-in-Some-eq0-clause-carried
+returns-in-Some-eq0-clause-carried c =
+    carried_there c.args.unrolled.now c.args.place c.args.dag.now c.args.sweep.now c.requires.swept c.requires.place c.in-Some.names
+    (taken_was c.args.unrolled.now c.args.place c.args.dag.now c.args.sweep.now c.requires.swept c.requires.place c.index_mut.result.now c.replace-state.result
+    (Some c.in-Some.names) c.index_mut.ensures.value
+    c.replace-state.ensures.value c.in-Some.is)
+
+pub returns-in_ok-handle-in-Some-clause-carried : goal.returns-in_ok-handle-in-Some-clause-carried
+returns-in_ok-handle-in-Some-clause-carried c =
+    carries_on (unrolled_of c.args.unrolled.now) c.args.place c.args.dag.now c.handle.new.dag c.in-Some.names c.in_ok-handle-in-Some.ensures.steps.grew
+    (carried_there c.args.unrolled.now c.args.place c.args.dag.now c.args.sweep.now c.requires.swept c.requires.place c.in-Some.names
+    (taken_was c.args.unrolled.now c.args.place c.args.dag.now c.args.sweep.now c.requires.swept c.requires.place c.index_mut.result.now c.replace-state.result
+    (Some c.in-Some.names) c.index_mut.ensures.value
+    c.replace-state.ensures.value c.in-Some.is))

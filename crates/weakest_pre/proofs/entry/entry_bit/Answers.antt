@@ -34,6 +34,11 @@ all_true-requires-clause-now c =
     let h = names_ready _ _ _ _ _ _ _ _ _ _ _ _ c.in_ok-names.ensures c.in_ok-pc.ensures c.in_ok-aligned.ensures in
     record { names = h.0; pc = h.1 }
 
+pub all_true-requires-clause-entry : goal.all_true-requires-clause-entry
+all_true-requires-clause-entry c =
+    let h = names_ready _ _ _ _ _ _ _ _ _ _ _ _ c.in_ok-names.ensures c.in_ok-pc.ensures c.in_ok-aligned.ensures in
+    record { names = h.0; pc = h.1 }
+
 pub returns : goal.returns
 returns c =
     let layout = layout_of c.args.unrolled.now.form in

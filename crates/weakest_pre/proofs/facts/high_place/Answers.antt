@@ -1,4 +1,4 @@
-use Rattle.std.proofs.Common.{◌≡◌, ℕ, ◌/◌, ◌-◌, ◌^◌, ap, sym, subst}
+use Rattle.std.proofs.Common.{◌≡◌, ℕ, ◌/◌, ◌-◌, ◌^◌, sym, subst}
 use Rattle.weakest_pre.proofs.KnownWords.{leading_high}
 use Rattle.weakest_pre.proofs.facts.high_place.Goals as goal
 

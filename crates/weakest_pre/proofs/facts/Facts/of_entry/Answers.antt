@@ -1,9 +1,8 @@
-use Rattle.std.proofs.Common.{◌≡◌, ◌+◌, List, ◌++◌, length, replicate, take, drop, subst, sym, ap, ◌∙◌, arith}
+use Rattle.std.proofs.Common.{◌≡◌, ◌+◌, ◌++◌, length, replicate, take, drop, subst, sym, ap, ◌∙◌, arith}
 use Rattle.std.proofs.lemmas.List.{take_all, take-append-le}
 use Rattle.question_form.specs.Views.{unrolled_of}
 use Rattle.weakest_pre.specs.Entry.{said}
 use Rattle.weakest_pre.specs.Known.{AreFactsOf}
-use Rattle.weakest_pre.specs.declared.facts.Known.{Known}
 use Rattle.weakest_pre.proofs.Entries.{said_is}
 use Rattle.weakest_pre.proofs.Said.{facts_met}
 use Rattle.weakest_pre.proofs.facts.Facts.of_entry.Goals as goal

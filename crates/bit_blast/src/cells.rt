@@ -1,0 +1,66 @@
+//! The words of cells, and what is said of their base reads, where bits stand for the inputs.
+ghost use Rattle.std.specs.Prelude.{◌≡◌, ℕ, ◌↔◌, Bool, true, length, IfOk, OnOk};
+ghost use Rattle.walk_spec.specs.Terms.{term_gates};
+ghost use Rattle.walk_spec.specs.Cells.{AreFormed, IsAllowed};
+ghost use Rattle.walk_spec.specs.ClauseForm.{reading};
+ghost use Rattle.gates.specs.Circuits.{next, Grows, Holds, Within};
+ghost use Rattle.gates.specs.Pushes.{satisfied, AreOver};
+ghost use Rattle.mem_cells.specs.Views.{cells_of, program_of_cells};
+ghost use Rattle.bit_blast.specs.Laid.{ArePlaces};
+ghost use Rattle.bit_blast.specs.Places.{seen};
+ghost use Rattle.bit_blast.specs.CellWords.{AreCellWords};
+
+use crate::input_places::InputPlaces;
+use crate::reads::{tie_agreements, tie_asked};
+use crate::words::words_of;
+use cnf_form::Clause;
+use gates::{Bit, Circuit};
+use mem_cells::Celled;
+use std::alloc::{AllocError, Global};
+
+/// The words of cells, of which each takes at most its term's gates. A bit stands for each input.
+///
+/// # Errors
+///
+/// Out of memory, which 2^32 terms are.
+pub fn cell_words(
+    alloc: Global,
+    circuit: &mut Circuit,
+    places: &InputPlaces,
+    inputs: &[Bit],
+    c: &Celled,
+) -> Result<Vec<Vec<Bit>>, AllocError>
+    requires formed { AreFormed (program_of_cells c.now) (cells_of c.now) }
+    requires placed { ArePlaces (program_of_cells c.now) (cells_of c.now) places.now }
+    requires all { length inputs.now ≡ places.now.inputs }
+    requires within { Within (next circuit.old) inputs.now }
+    ensures grows { IfOk result (λ ws. Grows circuit.old circuit.new (term_gates (cells_of c.now).nodes)) }
+    ensures words { IfOk result (λ ws. AreCellWords (program_of_cells c.now) (cells_of c.now) inputs.now circuit.new ws.items) }
+{
+    let words = words_of(alloc, circuit, places, inputs, &c.dag)?;
+    Ok(words)
+}
+
+/// Adds the clauses of what is said of the base reads of cells.
+pub fn tie_reads(
+    ties: &mut Vec<Clause>,
+    circuit: &Circuit,
+    places: &InputPlaces,
+    inputs: &[Bit],
+    words: &[Vec<Bit>],
+    c: &Celled,
+) -> Result<(), AllocError>
+    requires formed { AreFormed (program_of_cells c.now) (cells_of c.now) }
+    requires placed { ArePlaces (program_of_cells c.now) (cells_of c.now) places.now }
+    requires all { length inputs.now ≡ places.now.inputs }
+    requires within { Within (next circuit.now) inputs.now }
+    requires words { AreCellWords (program_of_cells c.now) (cells_of c.now) inputs.now circuit.now words.now }
+    ensures value { OnOk result ((v : ℕ → Bool) → Holds v circuit.now → (satisfied v ties.new.items ≡ true) ↔
+        ((satisfied v ties.old.items ≡ true) × IsAllowed (cells_of c.now) (reading (program_of_cells c.now) (cells_of c.now) (seen inputs.now v)))) }
+    ensures over { OnOk result (AreOver (next circuit.now) ties.old.items → AreOver (next circuit.now) ties.new.items) }
+{
+    let _circuit = circuit;
+    tie_agreements(ties, places, inputs, words, &c.agrees)?;
+    tie_asked(ties, places, inputs, words, &c.asked)?;
+    Ok(())
+}

@@ -1,0 +1,31 @@
+use Rattle.std.proofs.Common.{◌≡◌, ◌-◌, ℕ, suc, refl, length, subst, arith}
+use Rattle.question_form.specs.Views.{unrolled_of}
+use Rattle.passify.specs.Lasts.{AreCarriedTo}
+use Rattle.passify.proofs.Visited.{points_count, swept_passive}
+use Rattle.passify.proofs.sweeping.passive_to_last.Goals as goal
+
+pub loop-place-init : goal.loop-place-init
+loop-place-init c = record { swept = c.in_ok-sweep.ensures; last = λ i e. absurd (omega arith) }
+
+pub loop-place-preserved : goal.loop-place-preserved
+loop-place-preserved c = record {
+  swept = c.in_ok-last.ensures.swept;
+  last = λ i e.
+      let same : c.loop-place.place ≡ i = omega arith in
+      subst (λ (n : ℕ). AreCarriedTo (unrolled_of c.args.unrolled.now) n c.visit.new.dag c.in_ok-last.last) same c.in_ok-last.ensures.carried;
+}
+
+pub returns-clause-passive : goal.returns-clause-passive
+returns-clause-passive c =
+    swept_passive c.args.unrolled.now c.loop-place.place _ c.loop-place.sweep refl refl refl refl
+    (omega (arith, c.loop-place-test.false, c.len-place-end.ensures, c.args.unrolled.now.points.ok.0))
+    (omega (arith, c.loop-place.auto.place-end, c.len-place-end.ensures, c.args.unrolled.now.points.ok.0)) c.loop-place.invariant.swept
+
+pub returns-clause-last : goal.returns-clause-last
+returns-clause-last c =
+    let u = c.args.unrolled.now in
+    let count = points_count u u.points.items in
+    let some = c.requires.walkable.some in
+    let last : suc (length (unrolled_of u).points - 1) ≡ c.loop-place.place =
+    omega (arith, c.loop-place-test.false, c.loop-place.auto.place-end, c.len-place-end.ensures, u.points.ok.0) in
+    c.loop-place.invariant.last (length (unrolled_of u).points - 1) last

@@ -1,0 +1,20 @@
+-- What is carried to a place, as terms.
+use Rattle.std.specs.Prelude.{ℕ, ◌≡◌, true, false, List, Option, Some, None}
+use Rattle.walk_spec.specs.Terms.{TermNode}
+use Rattle.walk_spec.specs.Unrolled.{UnrolledProgram}
+use Rattle.walk_spec.specs.Sweep.{held}
+use Rattle.walk_spec.specs.Passive.{AreNames, Denotes, UnderAll}
+use Rattle.walk_spec.specs.WalkQuestions.{term_reading}
+use Rattle.term_names.specs.declared.names.Names.{Names}
+use Rattle.term_names.specs.Views.{AreFor, names_of}
+
+-- The terms are for the program's registers and flags. Under every reading under which the walk comes to the place they denote what it carries there.
+pub record CarriesTo (u : UnrolledProgram) (place : ℕ) (nodes : List TermNode) (n : Names) : Type 0 where
+  pub form : AreFor u n
+  pub names : AreNames u nodes (names_of n)
+  pub denotes : UnderAll u (λ r. (held u r place).met place ≡ true → Denotes u nodes (term_reading u r) (names_of n) ((held u r place).carried place))
+
+-- terms of what is carried to the place; where there are none, no walk comes to it
+abbrev pub AreCarriedTo : UnrolledProgram → (place : ℕ) → List TermNode → Option Names → Type 0
+AreCarriedTo u place nodes None = UnderAll u (λ r. (held u r place).met place ≡ false)
+AreCarriedTo u place nodes (Some n) = CarriesTo u place nodes n
