@@ -1,0 +1,6 @@
+mod EqualWords
+mod StandIns
+mod BothSides
+mod Alike
+mod Parts
+mod Told

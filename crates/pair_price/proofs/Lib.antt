@@ -1,0 +1,3 @@
+pub mod ExitCounts
+pub mod SidePrices
+pub mod OnePairPrice

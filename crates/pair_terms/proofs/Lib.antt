@@ -1,0 +1,15 @@
+pub mod Placed
+pub mod WordTerms
+pub mod Leaving
+pub mod SidesTold
+pub mod ByLink
+pub mod CellsTold
+pub mod ExitMade
+pub mod TiedMade
+pub mod EntryMade
+pub mod NeverMet
+pub mod AtExit
+pub mod Blank
+pub mod ExitOf
+pub mod SideReady
+pub mod Led

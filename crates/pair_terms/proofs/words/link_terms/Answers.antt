@@ -1,0 +1,16 @@
+use Rattle.std.proofs.Common.{List, ◌++◌, ap, ◌∙◌}
+use Rattle.term_dag.specs.declared.nodes.Term.{Term}
+use Rattle.pair_terms.proofs.WordTerms.{links_more, part_in}
+use Rattle.pair_terms.proofs.words.link_terms.Goals as goal
+
+pub part_terms-requires-clause-part : goal.part_terms-requires-clause-part
+part_terms-requires-clause-part c =
+    part_in c.args.at_exit c.args.second c.requires.links.0 c.args.names.now c.args.links.now c.loop-i.i _ c.part_of-part.result c.requires.links.1
+    c.requires.links.2 c.loop-i-test.true c.part_of-part.ensures
+
+pub loop-i-preserved : goal.loop-i-preserved
+loop-i-preserved c =
+    links_more c.args.dag.now c.loop-i.dag _ c.args.names.now c.args.at_exit c.args.second c.requires.links.0 c.args.links.now c.loop-i.i _
+    c.part_of-part.result c.loop-i.terms.items c.in_ok-more.more.items _ c.requires.names c.requires.links.2 c.loop-i-test.true c.part_of-part.ensures
+    c.loop-i.invariant c.in_ok-more.ensures
+    (c.in_ok-extend_from_slice.ensures.items ∙ ap (λ (z : List Term). c.loop-i.terms.items ++ z) c.deref.ensures.value)

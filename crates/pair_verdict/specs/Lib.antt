@@ -1,0 +1,6 @@
+pub mod Verdicts
+pub mod ExitLines
+pub mod Sides
+pub mod StateWords
+pub mod PairRounds
+pub mod Settled
