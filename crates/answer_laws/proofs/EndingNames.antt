@@ -10,7 +10,7 @@ use Rattle.bilv_spec.specs.PointLaws.{HasLawfulRows, ReadsMemory}
 use Rattle.call_spec.specs.Calls.{Options, Budget, Evidence, RunOf, plain_answer}
 use Rattle.bilv_spec.specs.Files.{is_rv, IsProgram, layout_of}
 use Rattle.bilv_spec.specs.Elf.{file_endian}
-use Rattle.machine_spec.specs.StateText.{Layout, IsEvent, IsNamed}
+use Rattle.machine_spec.specs.StateText.{Layout, IsEvent, IsNamed, last_step}
 use Rattle.word_spec.specs.Texts.{line}
 use Rattle.bilv_spec.specs.Answers.{Report, HoldsReport, VacuousReport, FailsReport, UnrollReport, PointsReport, SizeReport, ConflictsReport, IsRightReport, EndsAs, report_text, start_in}
 use Rattle.clause_spec.specs.Checks.{text_limit}
@@ -29,7 +29,7 @@ use Rattle.answer_laws.proofs.NoteLines.{HasFewLines, few_note_lines, IsFineStep
 -- the end of a run after so many steps can be written, but for the size of its step's number, which is below theirs
 abbrev IsFine : ℕ → Run → Type 0
 IsFine n (Going turns m c) = Unit {0}
-IsFine n (Exited at m) = Unit {0}
+IsFine n (Exited at m) = m < n
 IsFine n (Failed e at m) = IsEvent e × (at < 2 ^ 32) × (m < n)
 IsFine n (Turned at m) = (at < 2 ^ 32) × (m < n)
 
@@ -43,7 +43,7 @@ arrived true n k turns m at c e l = turned (turns == k) n turns m at c e l
 
 stepped : (n k turns m at : ℕ) (s : Step) → IsFineStep s → m ≡ n → at < 2 ^ 32 → IsFine (suc n) (after_step k turns m at s)
 stepped n k turns m at (Stops e) f h l = (f, l, omega arith)
-stepped n k turns m at (Exits s) f h l = tt
+stepped n k turns m at (Exits s) f h l = omega arith
 stepped n k turns m at (Arrives c) f h l = arrived (nat_le c.state.pc at) n k turns m at c h l
 
 module _ (p : Program) (k : ℕ) (lawful : HasLawfulRows p) (few : HasFewLines p) (start : Start) where
@@ -54,7 +54,7 @@ module _ (p : Program) (k : ℕ) (lawful : HasLawfulRows p) (few : HasFewLines p
   more n (Going turns m c) h s e =
       stepped n k turns m c.state.pc (step (by_file p) start.state c (start.choices m))
       (steps_are_fine (by_file p) by_few start.state c (start.choices m)) e s.1.pc
-  more n (Exited at m) h s e = tt
+  more n (Exited at m) h s e = omega arith
   more n (Failed v at m) h s e = (h.0, h.1, let l = h.2 in omega arith)
   more n (Turned at m) h s e = (h.0, let l = h.1 in omega arith)
 
@@ -91,6 +91,10 @@ module _ (o : Options) (file text : List ℕ) (p : Program) (bytes : AreBytes fi
   pub failing_is_named : (event : Event) (at j : ℕ) → EndsAs p b.unroll start (Failed event at j) → IsNamed (FailsBy event at j)
   failing_is_named event at j ends =
       let end = fine_end (Failed event at j) tt ends in (end.0, end.1, below_last j b.points end.2 small.1)
+
+  -- so can the step by which it exits
+  pub exit_is_written : (at j : ℕ) → EndsAs p b.unroll start (Exited at j) → j ≤ last_step
+  exit_is_written at j ends = below_last j b.points (fine_end (Exited at j) tt ends) small.1
 
   -- so can its last step, where it makes one backward transfer too many
   pub turning_is_named : (at j : ℕ) → EndsAs p b.unroll start (Turned at j) → IsNamed (UnknownBy b.unroll at j)

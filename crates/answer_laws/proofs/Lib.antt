@@ -11,6 +11,8 @@ pub mod WorkNotes
 pub mod WorkHolds
 pub mod Upgraded
 pub mod Told
+pub mod LinkLines
 pub mod TwoCalls
 pub mod AcceptedStarts
 pub mod AcceptedRuns
+pub mod Compared

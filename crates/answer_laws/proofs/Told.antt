@@ -1,20 +1,25 @@
 -- What is answered over files that are told.
-use Rattle.std.proofs.Common.{◌≡◌, ◌≢◌, ℕ, List, Option, Some, sym, subst}
+use Rattle.std.proofs.Common.{◌≡◌, ◌≢◌, ℕ, List, Some, subst}
+use Rattle.std.specs.Prelude.{codes}
 use Rattle.call_spec.specs.Calls.{Answer, Evidence, NoEvidence, Options, Surroundings, AfterRead, read_failed, was_read}
 use Rattle.bilv_spec.specs.Answers.{IsReported}
 use Rattle.bilv_spec.specs.Certified.{IsCertified}
 use Rattle.bilv_spec.specs.Files.{layout_of}
-use Rattle.command_spec.specs.Commands.{Command, Verify, Lift, Graph, Script, Replay, Certify, Check, SelfRun, Upgrade, Model}
-use Rattle.answer_spec.specs.Outcomes.{AfterElf, AfterBoth, IsLifted, IsGraphed, IsRightAnswer, upgrade_answer, IsOutcome, whole, cut, no_memory}
-use Rattle.call_spec.specs.Outside.{Agrees, Appends, Rose}
+use Rattle.command_spec.specs.Commands.{Command, Verify, Lift, Graph, Script, Replay, Certify, Check, SelfRun, Upgrade, Model, Equal, Differ, PairNames}
+use Rattle.answer_spec.specs.Outcomes.{AfterBoth, AfterPair, IsLifted, IsGraphed, IsRightAnswer, upgrade_answer, IsOutcome, whole, cut, no_memory}
+use Rattle.call_spec.specs.Outside.{Agrees, Rose}
 use Rattle.bilv_spec.specs.Replays.{replay_answer}
 use Rattle.call_spec.specs.Calls.{Budget}
 use Rattle.model_spec.specs.Models.{AfterBudgets, points, size, within, IsModelAnswer}
+use Rattle.pair_spec.specs.Differs.{differ_answer}
+use Rattle.pair_spec.specs.Equals as pairs
+use Rattle.pair_spec.specs.Equals.{side_of, IsPairReported, AfterElfOf, AfterNotesOf, AfterLinks}
+use Rattle.pair_spec.specs.Links.{Link}
 use Rattle.clause_spec.specs.Checks.{IsChecked}
 use Rattle.bilv_spec.specs.Run.{Program}
 use Rattle.bilv_spec.specs.Scripts.{IsScriptAnswer}
 use Rattle.bilv_spec.specs.Verified.{AfterImage, elf_refused, elf_accepted, AfterNotes, notes_refused, program_found}
-use Rattle.answer_laws.specs.Told.{IsTold, AreToldTo, AfterFiles, IsAnswerTo, IsAnswered}
+use Rattle.answer_laws.specs.Told.{IsTold, IsPairTold, AreToldTo, AfterFiles, AfterPairFiles, IsAnswerTo, IsAnswered}
 
 budgets_met : (p : Program) (b : Budget) (Next Other : Answer → Type 0) (a : Answer) → (Next a → Other a) → AfterBudgets p b Next a →
     AfterBudgets p b Other a
@@ -48,6 +53,38 @@ module _ (s : Surroundings) (content : List ℕ → List ℕ) where
       (λ next. notes_told o elf notes (Next (content elf)) Other a step (read_told notes notes_next a notes_is next))
       (read_told elf (λ file. AfterImage file (AfterRead s notes (λ text. AfterNotes o file text (Next file)))) a elf_is due)
 
+  -- the same behind the files of a pair
+  elf_of_told : (word file : List ℕ) (Next Other : Answer → Type 0) (a : Answer) → (Next a → Other a) → AfterElfOf word file Next a →
+      AfterElfOf word file Other a
+  elf_of_told word file Next Other a step (pairs.elf_refused written x is) = pairs.elf_refused written x is
+  elf_of_told word file Next Other a step (pairs.elf_accepted x next) = pairs.elf_accepted x (step next)
+
+  notes_of_told : (o : Options) (word file text : List ℕ) (Next Other : Program → Answer → Type 0) (a : Answer) →
+      ((p : Program) → Next p a → Other p a) → AfterNotesOf o word file text Next a → AfterNotesOf o word file text Other a
+  notes_of_told o word file text Next Other a step (pairs.notes_refused written x is) = pairs.notes_refused written x is
+  notes_of_told o word file text Next Other a step (pairs.program_found p x next) = pairs.program_found p x (step p next)
+
+  links_told : (f g text : List ℕ) (Next Other : List Link → Answer → Type 0) (a : Answer) → ((links : List Link) → Next links a → Other links a) →
+      AfterLinks f g text Next a → AfterLinks f g text Other a
+  links_told f g text Next Other a step (pairs.too_large large is) = pairs.too_large large is
+  links_told f g text Next Other a step (pairs.refused n fault short first is) = pairs.refused n fault short first is
+  links_told f g text Next Other a step (pairs.linked links short says next) = pairs.linked links short says (step links next)
+
+  pair_told : (o : Options) (names : PairNames) (Next : (f g : List ℕ) → (p q : Program) → List Link → Answer → Type 0)
+      (Other : (p q : Program) → List Link → Answer → Type 0) (a : Answer) →
+      ((p q : Program) (links : List Link) → Next (content names.elf) (content names.other_elf) p q links a → Other p q links a) →
+      IsPairTold s content names → AfterPair s o names Next a → AfterPairFiles o content names Other a
+  pair_told o names Next Other a step told due =
+      let f = content names.elf in
+      let g = content names.other_elf in
+      elf_of_told (codes "first") f _ _ a
+      (λ x. elf_of_told (codes "second") g _ _ a
+      (λ y. notes_of_told o (codes "first") f (content names.notes) _ _ a
+      (λ p z. notes_of_told o (codes "second") g (content names.other_notes) _ _ a
+      (λ q v. links_told f g (content names.links) (Next f g p q) (Other p q) a (step p q) (read_told names.links _ a told.4 v))
+      (read_told names.other_notes _ a told.3 z)) (read_told names.notes _ a told.2 y)) (read_told names.other_elf _ a told.1 x))
+      (read_told names.elf _ a told.0 due)
+
   pub answer_told : (c : Command) (a : Answer) → AreToldTo s content c → IsRightAnswer s c a → IsAnswerTo content c a
   answer_told (Verify o elf notes b) a told due =
       both_told o elf notes (λ file p. IsReported p (layout_of o file) b) (λ p. IsReported p (layout_of o (content elf)) b) a (λ p is. is) told.0 told.1 due
@@ -77,6 +114,14 @@ module _ (s : Surroundings) (content : List ℕ → List ℕ) where
       (IsModelAnswer p (layout_of o (content elf)) b kind (content answer)) a
       (λ next. read_told answer (IsModelAnswer p (layout_of o (content elf)) b kind) a told.2 next))
       told.0 told.1 due
+  answer_told (Equal o names b) a told due =
+      pair_told o names (λ f g p q links. IsPairReported (side_of o f p) (side_of o g q) links b)
+      (λ p q links. IsPairReported (side_of o (content names.elf) p) (side_of o (content names.other_elf) q) links b) a (λ p q links is. is) told due
+  answer_told (Differ o names report) a told due =
+      pair_told o names (λ f g p q links. AfterRead s report (λ text x. x ≡ differ_answer (side_of o f p) (side_of o g q) links text))
+      (λ p q links x. x ≡ differ_answer (side_of o (content names.elf) p) (side_of o (content names.other_elf) q) links (content report)) a
+      (λ p q links is. read_told report
+      (λ text x. x ≡ differ_answer (side_of o (content names.elf) p) (side_of o (content names.other_elf) q) links text) a told.1 is) told.0 due
 
   -- so an outcome is that answer, where no write failed and memory did not run out
   pub outcome_told : (c : Command) (status : ℕ) (evidence : Evidence) → AreToldTo s content c → (status ≡ 7 → ¬ Rose s.sink_before s.sink_after) → status ≢ 8 →

@@ -1,5 +1,5 @@
 -- What two calls answer, of which the second reads what the first one wrote.
-use Rattle.std.proofs.Common.{◌≡◌, ◌≢◌, ◌≤◌, ◌^◌, ℕ, List, ◌++◌, length, Option, Some, None, refl, ap, sym, subst, ◌∙◌, arith}
+use Rattle.std.proofs.Common.{◌≡◌, ◌≤◌, ◌^◌, ℕ, List, ◌++◌, length, Option, Some, refl, ap, sym, subst, ◌∙◌, arith}
 use Rattle.std.specs.Prelude.{codes}
 use Rattle.std.proofs.lemmas.List.{append_cancel_left}
 use Rattle.answer_laws.specs.Completeness.{ShowsRun}
@@ -7,7 +7,7 @@ use Rattle.answer_laws.specs.Replayed.{AreBytes, IsReplayable}
 use Rattle.answer_laws.proofs.EndingNames.{right_report_replays}
 use Rattle.answer_laws.proofs.OneProgram.{one_program, refused_or_accepted, refused_or_found}
 use Rattle.answer_spec.specs.AnswerLaws.{named_of}
-use Rattle.call_spec.specs.Calls.{Answer, Budget, Evidence, NoEvidence, RunOf, Refutations, EntryRefuted, SpentOn, Count, plain_answer, Options, Surroundings, AfterRead, read_failed, was_read, Question}
+use Rattle.call_spec.specs.Calls.{Answer, Budget, Evidence, NoEvidence, RunOf, Refutations, EntryRefuted, SpentOn, Count, Two, Both, SpentOnPair, plain_answer, Options, Surroundings, AfterRead, read_failed, was_read, Question}
 use Rattle.bilv_spec.specs.Answers.{Report, HoldsReport, VacuousReport, FailsReport, UnrollReport, PointsReport, SizeReport, ConflictsReport, IsRightReport, IsReported, report_answer, report_text}
 use Rattle.clause_spec.specs.Certificates.{certificate_text}
 use Rattle.bilv_spec.specs.Certified as certified
@@ -16,8 +16,8 @@ use Rattle.clause_spec.specs.Refutation.{Proof}
 use Rattle.bilv_spec.specs.Evidence.{Refutes}
 use Rattle.bilv_spec.specs.Files.{layout_of}
 use Rattle.command_spec.specs.Commands.{Verify, Replay, Certify, Check}
-use Rattle.answer_spec.specs.Outcomes.{AfterBoth, IsRightAnswer, IsOutcome, whole, cut, no_memory}
-use Rattle.call_spec.specs.Outside.{Appends, Rose}
+use Rattle.answer_spec.specs.Outcomes.{IsRightAnswer, IsOutcome, whole, cut, no_memory}
+use Rattle.call_spec.specs.Outside.{Appends}
 use Rattle.bilv_spec.specs.Replays.{replay_answer}
 use Rattle.clause_spec.specs.Checks.{text_limit, IsChecked}
 use Rattle.machine_spec.specs.Endings.{NamedEnding, FailsBy, UnknownBy, named_line}
@@ -26,7 +26,7 @@ use Rattle.word_spec.specs.Texts.{line}
 use Rattle.bilv_spec.specs.Verified.{AfterImage, elf_refused, elf_accepted, AfterNotes, notes_refused, program_found, IsFound, IsVerified}
 use Rattle.bilv_spec.proofs.CertifiedQuestions.{certified_is_accepted}
 use Rattle.clause_spec.proofs.OneCheck.{one_check}
-use Rattle.answer_laws.specs.Told.{IsTold, AreToldTo, AfterFiles}
+use Rattle.answer_laws.specs.Told.{AreToldTo, AfterFiles}
 use Rattle.answer_laws.specs.TwoCalls.{Writes, Sufficed, IsPrinted}
 use Rattle.answer_laws.proofs.Told.{answer_told, outcome_told}
 
@@ -128,6 +128,9 @@ names_ending p o file b r (Refutations w fail turn) right shows = absurd shows
 names_ending p o file b r (EntryRefuted proof) right shows = absurd shows
 names_ending p o file b r (SpentOn kind proof) right shows = absurd shows
 names_ending p o file b r (Count n) right shows = absurd shows
+names_ending p o file b r (Two x y) right shows = absurd shows
+names_ending p o file b r (Both x y v w proof) right shows = absurd shows
+names_ending p o file b r (SpentOnPair kind proof) right shows = absurd shows
 
 -- what a report that shows a run is of
 record IsOfRun (o : Options) (file text : List ℕ) (b : Budget) (a : Answer) : Type 0 where

@@ -4,7 +4,7 @@ use Rattle.call_spec.specs.Outside.{Bytes, Rose, Appends}
 use Rattle.bilv_spec.specs.Run.{Program}
 use Rattle.bilv_spec.specs.Verdict.{Verdict, Holds, Vacuous, Fails, Unroll, IsRight}
 use Rattle.bilv_spec.specs.Points.{HasMore, IsPrice}
-use Rattle.call_spec.specs.Calls.{Options, Budget, Evidence, RunOf, SpentOn, Answer, plain_answer, Surroundings}
+use Rattle.call_spec.specs.Calls.{Options, Budget, Evidence, RunOf, SpentOn, SpentOnPair, Answer, plain_answer, Surroundings}
 use Rattle.bilv_spec.specs.Files.{layout_of}
 use Rattle.bilv_spec.specs.Answers.{IsWithin, Report, HoldsReport, VacuousReport, FailsReport, UnrollReport, PointsReport, SizeReport, IsRightReport, report_answer, report_text, status_of}
 use Rattle.bilv_spec.specs.Verified.{IsAccepted, IsElfRefused, AreNotesRefused, IsFound}
@@ -40,6 +40,7 @@ Says report finding = ⊥
 -- the evidence is that of a question that spent its conflicts
 abbrev pub IsSpentEvidence : Evidence → Type 0
 IsSpentEvidence (SpentOn kind proof) = Unit {0}
+IsSpentEvidence (SpentOnPair kind proof) = Unit {0}
 IsSpentEvidence other = ⊥
 
 -- the evidence is a run, whose start the text shows

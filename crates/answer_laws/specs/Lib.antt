@@ -5,3 +5,4 @@ pub mod Worked
 pub mod Upgrading
 pub mod Told
 pub mod TwoCalls
+pub mod Compared

@@ -5,13 +5,13 @@ use Rattle.answer_laws.specs.Replayed.{AreBytes, IsReplayable}
 use Rattle.call_spec.specs.Calls.{Budget, Evidence, Options, Surroundings, EntryQuestion, Question}
 use Rattle.clause_spec.specs.Certificates.{certificate_text}
 use Rattle.clause_spec.specs.Refutation.{Proof}
-use Rattle.command_spec.specs.Commands.{Command, Verify, Replay, Certify, Check, Model}
+use Rattle.command_spec.specs.Commands.{Verify, Replay, Certify, Check, Model}
 use Rattle.answer_spec.specs.Outcomes.{IsOutcome}
 use Rattle.call_spec.specs.Outside.{Rose, Appends}
 use Rattle.clause_spec.specs.Checks.{text_limit}
 use Rattle.machine_spec.specs.Endings.{NamedEnding, named_line}
 use Rattle.word_spec.specs.Texts.{line}
-use Rattle.answer_laws.specs.Told.{IsTold, AreToldTo}
+use Rattle.answer_laws.specs.Told.{AreToldTo}
 
 -- a call of a command wrote this text whole, with status 0
 abbrev pub Writes : Surroundings → (status : ℕ) → List ℕ → Type 0

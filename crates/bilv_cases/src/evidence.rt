@@ -2,6 +2,7 @@
 use crate::draft::parted;
 use crate::fault::LineFault;
 use bilv_top::Evidence;
+use pair_form::PairKind;
 use question_form::Kind;
 
 /// A kind of evidence, with the question or the count that it is about.
@@ -12,6 +13,9 @@ pub enum EvidenceDue {
     EntryRefuted,
     RunOf,
     SpentOn(Kind),
+    Two,
+    Both,
+    SpentOnPair(PairKind),
     Count(u128),
 }
 
@@ -26,6 +30,10 @@ impl EvidenceDue {
             "spent entry" => Ok(EvidenceDue::SpentOn(Kind::Entry)),
             "spent fail" => Ok(EvidenceDue::SpentOn(Kind::Fail)),
             "spent turn" => Ok(EvidenceDue::SpentOn(Kind::Turn)),
+            "two" => Ok(EvidenceDue::Two),
+            "both" => Ok(EvidenceDue::Both),
+            "spent pair" => Ok(EvidenceDue::SpentOnPair(PairKind::Pair)),
+            "spent difference" => Ok(EvidenceDue::SpentOnPair(PairKind::Difference)),
             _ => counted(words),
         }
     }
@@ -38,6 +46,9 @@ impl EvidenceDue {
             Evidence::EntryRefuted(_) => EvidenceDue::EntryRefuted,
             Evidence::RunOf(_) => EvidenceDue::RunOf,
             Evidence::SpentOn { question, .. } => EvidenceDue::SpentOn(*question),
+            Evidence::Two { .. } => EvidenceDue::Two,
+            Evidence::Both { .. } => EvidenceDue::Both,
+            Evidence::SpentOnPair { question, .. } => EvidenceDue::SpentOnPair(*question),
             Evidence::Count(count) => EvidenceDue::Count(*count),
         }
     }

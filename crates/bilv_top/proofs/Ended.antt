@@ -11,7 +11,7 @@ use Rattle.bilv_spec.specs.Certified.{IsCertified}
 use Rattle.clause_spec.specs.Checks.{IsChecked}
 use Rattle.bilv_spec.specs.Replays.{replay_answer}
 use Rattle.bilv_spec.specs.Scripts.{IsScriptAnswer}
-use Rattle.command_spec.specs.Commands.{Command, Verify, Lift, Graph, Script, Replay, Certify, Check, SelfRun, Upgrade, Model}
+use Rattle.command_spec.specs.Commands.{Command, Verify, Lift, Graph, Script, Replay, Certify, Check, SelfRun, Upgrade, Model, Equal, Differ}
 use Rattle.answer_spec.specs.Outcomes.{AfterBoth, IsLifted, IsGraphed, upgrade_answer, IsDueAnswer, IsOutcome, whole, cut, no_memory}
 use Rattle.answer_laws.specs.Completeness.{AreTold, IsSpentEvidence}
 use Rattle.answer_laws.specs.Told.{AreToldTo, IsAnswered}
@@ -24,8 +24,11 @@ use Rattle.io_edges.specs.WriteFaults.{Stopped}
 use Rattle.io_edges.specs.declared.WriteFault.{WriteFault}
 use Rattle.io_edges.proofs.Meeting.{read_met, front_of_stopped}
 use Rattle.model_spec.specs.Models.{AfterBudgets, IsModelAnswer}
+use Rattle.pair_spec.specs.Differs.{differ_answer}
+use Rattle.pair_spec.specs.Equals.{side_of, IsPairReported}
 use Rattle.bilv_top.specs.Ends.{AreAnswered}
 use Rattle.bilv_top.proofs.Done.{budgets_next}
+use Rattle.bilv_top.proofs.MetPairs.{pair_met}
 
 -- what comes next behind the image of a file, and behind notes
 image_next : (file : List ℕ) (Next Other : Answer → Type 0) (a : Answer) → (Next a → Other a) → AfterImage file Next a → AfterImage file Other a
@@ -88,6 +91,14 @@ module _ (s : Surroundings) (before after : Option (List ℕ)) (sink_before sink
       (λ file p. AfterBudgets p b (AfterRead there answer (IsModelAnswer p (layout_of o file) b q))) a
       (λ file p. budgets_next p b (AfterRead s answer (IsModelAnswer p (layout_of o file) b q)) (AfterRead there answer (IsModelAnswer p (layout_of o file) b q)) a
       (read_same answer (IsModelAnswer p (layout_of o file) b q) a)) due
+  due_met (Some (Equal o names b)) a due =
+      pair_met s before after sink_before sink_after o names a (λ f g p q links. IsPairReported (side_of o f p) (side_of o g q) links b)
+      (λ f g p q links. IsPairReported (side_of o f p) (side_of o g q) links b) (λ f g p q links x. x) due
+  due_met (Some (Differ o names report)) a due =
+      pair_met s before after sink_before sink_after o names a
+      (λ f g p q links. AfterRead s report (λ text x. x ≡ differ_answer (side_of o f p) (side_of o g q) links text))
+      (λ f g p q links. AfterRead there report (λ text x. x ≡ differ_answer (side_of o f p) (side_of o g q) links text))
+      (λ f g p q links. read_same report (λ text x. x ≡ differ_answer (side_of o f p) (side_of o g q) links text) a) due
 
   pub whole_of : (c : Option Command) (a : Answer) → IsDueAnswer s c a → Appends before a.text after → IsOutcome there c a.status a.evidence
   whole_of c a due appends = whole a (due_met c a due) appends refl refl
@@ -120,6 +131,8 @@ module _ (s : Surroundings) (before after : Option (List ℕ)) (sink_before sink
   here_told content (SelfRun seed count) told = told
   here_told content (Upgrade o elf notes) told = told
   here_told content (Model o elf notes answer q b) told = told
+  here_told content (Equal o names b) told = told
+  here_told content (Differ o names report) told = told
 
   -- any command over files that are told is answered where its answer was written
   pub answered_of : (c : Option Command) (a : Answer) → IsDueAnswer s c a → Appends before a.text after → (content : List ℕ → List ℕ) (x : Command) →

@@ -2,8 +2,11 @@ pub mod Checked
 pub mod Refused
 pub mod Reported
 pub mod Done
+pub mod MetPairs
 pub mod Ended
 pub mod Verdicts
 pub mod Founds
 pub mod Made
 pub mod Modelled
+pub mod Compared
+pub mod PairReported

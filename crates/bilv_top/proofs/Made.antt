@@ -10,7 +10,7 @@ use Rattle.bilv_spec.specs.Run.{Program}
 use Rattle.word_spec.specs.Texts.{line, line_feed, lines, joined, spaced, number_text, word_text}
 use Rattle.command_spec.specs.Work.{item_words, next_item, work_file, work_notes, work_text}
 use Rattle.word_spec.specs.RowFiles.{bytes_of, rv_file}
-use Rattle.call_spec.specs.Calls.{Options, default_options, Answer, Budget, Evidence, NoEvidence, Refutations, EntryRefuted, RunOf, SpentOn, Count, plain_answer, default_budget}
+use Rattle.call_spec.specs.Calls.{Options, default_options, Answer, Budget, Evidence, NoEvidence, Refutations, EntryRefuted, RunOf, SpentOn, Count, Two, Both, SpentOnPair, plain_answer, default_budget}
 use Rattle.bilv_spec.specs.Files.{layout_of, machine_of, vocabulary_of, program_of}
 use Rattle.bilv_spec.specs.NotesGrammar.{IsNotesText}
 use Rattle.machine_spec.specs.Endings.{NamedEnding, FailsBy, UnknownBy}
@@ -86,12 +86,18 @@ report_has p layout b (FailsReport event at step) (Refutations w fail turn) is =
 report_has p layout b (FailsReport event at step) (EntryRefuted proof) is = absurd is
 report_has p layout b (FailsReport event at step) (SpentOn q proof) is = absurd is
 report_has p layout b (FailsReport event at step) (Count n) is = absurd is
+report_has p layout b (FailsReport event at step) (Two x y) is = absurd is
+report_has p layout b (FailsReport event at step) (Both x y z t proof) is = absurd is
+report_has p layout b (FailsReport event at step) (SpentOnPair q proof) is = absurd is
 report_has p layout b (UnrollReport at step) (RunOf w) is = printed_has layout (UnknownBy b.unroll at step) w
 report_has p layout b (UnrollReport at step) NoEvidence is = absurd is
 report_has p layout b (UnrollReport at step) (Refutations w fail turn) is = absurd is
 report_has p layout b (UnrollReport at step) (EntryRefuted proof) is = absurd is
 report_has p layout b (UnrollReport at step) (SpentOn q proof) is = absurd is
 report_has p layout b (UnrollReport at step) (Count n) is = absurd is
+report_has p layout b (UnrollReport at step) (Two x y) is = absurd is
+report_has p layout b (UnrollReport at step) (Both x y z t proof) is = absurd is
+report_has p layout b (UnrollReport at step) (SpentOnPair q proof) is = absurd is
 report_has p layout b PointsReport e is = budget_has (codes "points") b.points
 report_has p layout b SizeReport e is = budget_has (codes "size") b.size
 report_has p layout b ConflictsReport e is = budget_has (codes "conflicts") b.conflicts

@@ -4,13 +4,15 @@ use Rattle.call_spec.specs.Calls as spec
 use Rattle.bilv_spec.specs.Verified.{elf_fault_text}
 use Rattle.bilv_spec.specs.ElfFaults.{ShortFile, BadMagic, BadClass, BadData, BadVersion, BadType, BadMachine, BadHeaderTable, BadSegmentRange, BadFileSize, SegmentsOverlap, BadSymbolTable}
 use Rattle.cnf_form.specs.Views.{proof_of}
+use Rattle.pair_form.specs.Views.{pair_question_of}
+use Rattle.pair_verdict.specs.Verdicts.{holding_of}
 use Rattle.question_form.specs.Views.{kind_of}
 use Rattle.state_text.specs.Starts.{written_of}
 use Rattle.elf32_reader.specs.declared.fault.ElfFault.{ElfFault}
 use Rattle.elf32_reader.specs.declared.fault.ElfFault.TheVariants.{Short, Magic, Class, Data, Version, «Type», Machine, HeaderTable, SegmentRange, FileSize, Overlap, SymbolTable, Memory}
 use Rattle.bilv_top.specs.declared.answer.Answer.{Answer}
 use Rattle.bilv_top.specs.declared.answer.Evidence.{Evidence}
-use Rattle.bilv_top.specs.declared.answer.Evidence.TheVariants.{None as Nothing, Refutations, EntryRefuted, RunOf, SpentOn, Count}
+use Rattle.bilv_top.specs.declared.answer.Evidence.TheVariants.{None as Nothing, Refutations, EntryRefuted, RunOf, SpentOn, Count, Two, Both, SpentOnPair}
 use Rattle.bilv_top.specs.declared.answer.Step.{Step}
 use Rattle.bilv_top.specs.declared.answer.Step.TheVariants.{Answered, Go}
 
@@ -22,6 +24,10 @@ evidence_of (EntryRefuted proof) = spec.EntryRefuted (proof_of proof)
 evidence_of (RunOf start) = spec.RunOf (written_of start)
 evidence_of (SpentOn question proof) = spec.SpentOn (kind_of question) (proof_of proof)
 evidence_of (Count n) = spec.Count n
+evidence_of (Two first second) = spec.Two (written_of first) (written_of second)
+evidence_of (Both first second first_start second_start difference) =
+    spec.Both (holding_of first) (holding_of second) (written_of first_start) (written_of second_start) (proof_of difference)
+evidence_of (SpentOnPair question proof) = spec.SpentOnPair (pair_question_of question) (proof_of proof)
 
 -- an answer
 abbrev pub answer_of : Answer → spec.Answer

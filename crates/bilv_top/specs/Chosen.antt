@@ -1,20 +1,11 @@
 -- The machines of forms of state texts.
 use Rattle.std.specs.Prelude.{List, ℕ, ◌≡◌}
-use Rattle.word_spec.specs.Memory.{endian}
 use Rattle.machine_spec.specs.Machine.{Machine}
 use Rattle.machine_spec.specs.Bil.{Bank, XRegisters, RRegisters}
 use Rattle.call_spec.specs.Calls.{Options}
 use Rattle.bilv_spec.specs.Files.{machine_of}
-use Rattle.machine_spec.specs.RvMachine.{rv32}
-use Rattle.machine_spec.specs.Arm.{arm}
-use Rattle.state_text.specs.Starts.{profile_in}
 use Rattle.state_text.specs.declared.layout.Layout.{Layout}
 use Rattle.state_text.specs.declared.layout.Layout.TheVariants.{Rv32, Arm}
-
--- the machine
-abbrev pub machine_in : Layout → Machine
-machine_in (Rv32 compressed) = rv32 compressed
-machine_in (Arm big profile) = arm (endian big) (profile_in profile)
 
 -- the letter of its registers
 abbrev pub bank_in : Layout → Bank

@@ -5,3 +5,4 @@ pub mod Read
 pub mod Ends
 pub mod Chosen
 pub mod Tasks
+pub mod Pairs

@@ -1,5 +1,7 @@
 //! Answers, and steps on the way to one.
 use cnf_form::Proof;
+use pair_form::PairKind;
+use pair_verdict::Holding;
 use question_form::Kind;
 use state_text::Start;
 
@@ -21,6 +23,24 @@ pub enum Evidence {
     /// A question, and the search that spent the conflicts on it.
     SpentOn {
         question: Kind,
+        proof: Proof,
+    },
+    /// Two starts, one of each function, whose runs exit apart.
+    Two {
+        first: Start,
+        second: Start,
+    },
+    /// That each of two functions holds, a linked pair of their entry states, and that no linked pair exits apart.
+    Both {
+        first: Holding,
+        second: Holding,
+        first_start: Start,
+        second_start: Start,
+        difference: Proof,
+    },
+    /// A question about two functions, and the search that spent the conflicts on it.
+    SpentOnPair {
+        question: PairKind,
         proof: Proof,
     },
     /// The points that were found, one more than the budget, or the price.

@@ -17,6 +17,7 @@ ghost use Rattle.io_edges.specs.Met.{met, seen};
 
 use crate::answer::{Answer, Evidence};
 use crate::certificate::check_certificate;
+use crate::comparing::{PairTask, compare_named};
 use crate::lift::lift;
 use crate::reading::answer;
 use crate::selfrun::selfrun;
@@ -104,6 +105,16 @@ fn obey<H: Shelf>(alloc: Global, command: Command, shelf: &mut H) -> Result<Answ
             options,
             Task::Model(question, budget, answer),
         ),
+        Command::Equal {
+            names,
+            options,
+            budget,
+        } => compare_named(alloc, shelf, names, options, PairTask::Equal(budget)),
+        Command::Differ {
+            names,
+            options,
+            report,
+        } => compare_named(alloc, shelf, names, options, PairTask::Differ(report)),
         Command::Check { certificate } => check_certificate(alloc, shelf, certificate),
         Command::SelfRun { seed, count } => selfrun(alloc, shelf, seed, count),
         Command::Upgrade {
@@ -126,7 +137,7 @@ fn due<H: Shelf>(alloc: Global, words: &[String], shelf: &mut H) -> Result<Answe
         Err(LineError::Usage) => answer(
             alloc,
             USAGE,
-            b"usage: bilv verify|lift|graph|smt|replay|cert|check|selfrun|upgrade|model\n",
+            b"usage: bilv verify|lift|graph|smt|replay|cert|check|selfrun|upgrade|equal|differ|model\n",
         ),
         Err(LineError::Memory) => Err(AllocError),
     }

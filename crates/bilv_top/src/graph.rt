@@ -23,7 +23,7 @@ fn live_text<M: Machine>(alloc: Global, image: &Image, found: &Found) -> Result<
     ensures { IfOk result (λ v. IsGraphText (program_of M.machine image.now (notes_of found.now.notes) found.now.entry) v.items) }
 {
     let whole = descend::<M>(alloc, image, &found.notes, found.entry)?;
-    let live = trim(alloc, &whole)?;
+    let live = trim(alloc, &whole, 0)?;
     let text = print_graph(alloc, &live)?;
     Ok(text)
 }

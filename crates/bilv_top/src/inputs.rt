@@ -25,7 +25,7 @@ use notes_lang::{Function, NoteFault, Notes, NotesError, parse};
 use std::alloc::{AllocError, Global};
 
 /// The most bytes of an ELF file.
-const ELF_LIMIT: u64 = 16_777_216;
+pub const ELF_LIMIT: u64 = 16_777_216;
 
 /// The most bytes of notes.
 pub const NOTES_LIMIT: u64 = 262_144;

@@ -6,7 +6,8 @@ ghost use Rattle.bilv_spec.specs.LiftText.{bank_by};
 ghost use Rattle.command_line.specs.Commands.{options_of};
 ghost use Rattle.notes_lang.specs.Parsing.{layout_flags, layout_registers, layout_vocabulary};
 ghost use Rattle.state_text.specs.Starts as starts;
-ghost use Rattle.bilv_top.specs.Chosen.{bank_in, machine_in};
+ghost use Rattle.pair_sides.specs.Sides.{machine_in};
+ghost use Rattle.bilv_top.specs.Chosen.{bank_in};
 
 use command_line::Options;
 use elf32_reader::Image;

@@ -47,7 +47,7 @@ pub fn exceeded(
 }
 
 /// The report of a verdict on all runs. The error is want of memory.
-fn judged(alloc: Global, text: &[u8], evidence: Evidence) -> Result<Answer, AllocError>
+pub fn judged(alloc: Global, text: &[u8], evidence: Evidence) -> Result<Answer, AllocError>
     ensures { IfOk result (λ a. answer_of a ≡ record { status = 0; text = text.now; evidence = evidence_of evidence }) }
 {
     let text = text.to_vec(alloc)?;

@@ -9,12 +9,15 @@ ghost use Rattle.bilv_spec.specs.Verified as verified;
 ghost use Rattle.model_spec.specs.Models.{model_fault_words};
 ghost use Rattle.model_text.specs.Faults.{fault_of as model_fault_of};
 ghost use Rattle.notes_lang.specs.Judging.{fault_of as note_fault_of};
+ghost use Rattle.links_lang.specs.Telling.{fault_of as link_fault_of};
+ghost use Rattle.pair_spec.specs.Equals.{link_fault_words};
 ghost use Rattle.bilv_top.specs.Answers.{IsOfFile, elf_text_of};
 ghost use Rattle.refutation_checker.specs.Answers.{cause_of};
 
 use cnf_form::CnfFault;
 use cnf_form::print::print_number;
 use elf32_reader::ElfFault;
+use links_lang::LinkFault;
 use model_text::ModelFaultKind;
 use notes_lang::FaultKind;
 use refutation_checker::Cause;
@@ -99,6 +102,18 @@ pub fn cnf_fault_text(fault: CnfFault) -> &'static [u8]
         CnfFault::Variable => b"K3 Variable",
         CnfFault::Count => b"K4 Count",
         CnfFault::Proof => b"K5 Proof",
+    }
+}
+
+/// The words of a fault of links.
+pub fn link_fault_text(fault: LinkFault) -> &'static [u8]
+    ensures { result.now ≡ link_fault_words (link_fault_of fault) }
+{
+    match fault {
+        LinkFault::Limit => b"M1 Limit",
+        LinkFault::Syntax => b"M2 Syntax",
+        LinkFault::Name => b"M3 Name",
+        LinkFault::Range => b"M4 Range",
     }
 }
 

@@ -2,7 +2,7 @@
 use Rattle.std.proofs.Common.{◌≡◌, true, false, refl, codes, [], ◌∷◌, Some, None}
 use Rattle.call_spec.specs.Calls.{default_budget, default_options, FailQuestion, TurnQuestion}
 use Rattle.word_spec.specs.Profiles.{V4, V4T, V5}
-use Rattle.command_spec.specs.Commands.{Lift, Graph, Script, SelfRun, Upgrade, Model, Verify}
+use Rattle.command_spec.specs.Commands.{Lift, Graph, Script, SelfRun, Upgrade, Equal, Model, Verify}
 use Rattle.clap.proofs.OnLiterals.{clap_on_literals}
 use Rattle.command_line.specs.Lines.{bilv_app, command_named, lawful_command, takes_line}
 
@@ -109,6 +109,17 @@ model_of_three : lawful_command (codes "bilv" ∷ codes "model" ∷ codes "e" �
     (record { unroll = 3; points = 65536; size = 1073741824; conflicts = 200000 }))
 unfolding clap_on_literals bilv_app takes_line command_named
 model_of_three = refl
+
+equal_of_five : lawful_command (codes "bilv" ∷ codes "equal" ∷ codes "e" ∷ codes "n" ∷ codes "f" ∷ codes "m" ∷ codes "--points=9" ∷ codes "l" ∷ [])
+    ≡ Some (Equal default_options (record { elf = codes "e"; notes = codes "n"; other_elf = codes "f"; other_notes = codes "m"; links = codes "l" })
+    (record default_budget { points = 9 }))
+unfolding clap_on_literals bilv_app takes_line command_named
+equal_of_five = refl
+
+differ_with_budget : lawful_command (codes "bilv" ∷ codes "differ" ∷ codes "e" ∷ codes "n" ∷ codes "f" ∷ codes "m" ∷ codes "l" ∷ codes "r" ∷ codes "--unroll=5" ∷ [])
+    ≡ None
+unfolding clap_on_literals bilv_app takes_line command_named
+differ_with_budget = refl
 
 graph_compressed : lawful_command (codes "bilv" ∷ codes "graph" ∷ codes "--rvc" ∷ codes "e" ∷ codes "n" ∷ [])
     ≡ Some (Graph (record { profile = V4; compressed = true }) (codes "e") (codes "n"))

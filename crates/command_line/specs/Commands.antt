@@ -6,8 +6,9 @@ use Rattle.command_line.specs.declared.command.Options.{Options}
 use Rattle.command_line.specs.declared.command.Question.{Question}
 use Rattle.command_line.specs.declared.command.Question.TheVariants.{Entry, Fail, Turn}
 use Rattle.command_line.specs.declared.command.Budget.{Budget}
+use Rattle.command_line.specs.declared.command.PairNames.{PairNames}
 use Rattle.command_line.specs.declared.command.Command.{Command}
-use Rattle.command_line.specs.declared.command.Command.TheVariants.{Verify, Lift, Graph, Script, Replay, Certify, Check, SelfRun, Upgrade, Model}
+use Rattle.command_line.specs.declared.command.Command.TheVariants.{Verify, Lift, Graph, Script, Replay, Certify, Check, SelfRun, Upgrade, Model, Equal, Differ}
 
 abbrev pub question_of : Question → asked.Question
 question_of Entry = asked.EntryQuestion
@@ -20,6 +21,15 @@ budget_of b = record { unroll = b.unroll; points = b.points; size = b.size; conf
 abbrev pub options_of : Options → asked.Options
 options_of o = record { profile = profile_in o.profile; compressed = o.compressed }
 
+abbrev pub names_of : PairNames → outcomes.PairNames
+names_of n = record {
+  elf = n.elf.now;
+  notes = n.notes.now;
+  other_elf = n.other_elf.now;
+  other_notes = n.other_notes.now;
+  links = n.links.now;
+}
+
 abbrev pub command_of : Command → outcomes.Command
 command_of (Verify elf notes options budget) = outcomes.Verify (options_of options) elf.now notes.now (budget_of budget)
 command_of (Lift elf options) = outcomes.Lift (options_of options) elf.now
@@ -30,5 +40,7 @@ command_of (Certify elf notes options question budget) = outcomes.Certify (optio
 command_of (Check certificate) = outcomes.Check certificate.now
 command_of (SelfRun seed count) = outcomes.SelfRun seed count
 command_of (Upgrade elf notes options) = outcomes.Upgrade (options_of options) elf.now notes.now
+command_of (Equal names options budget) = outcomes.Equal (options_of options) (names_of names) (budget_of budget)
+command_of (Differ names options report) = outcomes.Differ (options_of options) (names_of names) report.now
 command_of (Model elf notes answer options question budget) =
     outcomes.Model (options_of options) elf.now notes.now answer.now (question_of question) (budget_of budget)

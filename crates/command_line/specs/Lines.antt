@@ -5,7 +5,7 @@ use Rattle.std.specs.Str.Parse.{digits_value, without_leading_plus}
 use Rattle.call_spec.specs.Calls.{Question, EntryQuestion, FailQuestion, TurnQuestion, Budget, Options}
 use Rattle.word_spec.specs.Profiles.{Profile, V4, V4T, V5}
 use Rattle.command_spec.specs.Commands as of
-use Rattle.clap.specs.Words.{App, Row, Rule, Text, app_of, fault_of, first_of, new_app, new_rule, one_of, subcommand_of, with_rule}
+use Rattle.clap.specs.Words.{App, Row, Rule, Text, app_of, fault_of, first_of, new_app, new_rule, one_of, subcommand_of, with_rule, with_subcommand}
 use Rattle.clap.specs.Simple.{new_shape}
 use Rattle.clap.specs.Walk.{is_empty}
 use Rattle.clap.specs.ValueTests.{is_unsigned_in}
@@ -66,6 +66,11 @@ over_elf name = command_with name (elf ∷ arm_option ∷ rvc_option ∷ [])
 abbrev pub over_program : (name : Text) → App
 over_program name = command_with name (elf ∷ notes ∷ arm_option ∷ rvc_option ∷ [])
 
+-- a command over two ELF files, each with its notes, and links
+abbrev pub over_pair : (name : Text) → App
+over_pair name =
+    with_rules (over_program name) (file_argument (codes "other-elf") ∷ file_argument (codes "other-notes") ∷ file_argument (codes "links") ∷ [])
+
 abbrev pub asking : (name : Text) → App
 asking name = with_rules (over_program name) (question_option ∷ budgets)
 
@@ -90,6 +95,12 @@ cert = asking (codes "cert")
 abbrev pub upgrade : App
 upgrade = over_program (codes "upgrade")
 
+abbrev pub equal : App
+equal = with_rules (over_pair (codes "equal")) budgets
+
+abbrev pub differ : App
+differ = with_rule (over_pair (codes "differ")) (file_argument (codes "report"))
+
 abbrev pub model : App
 model = with_rule (asking (codes "model")) (file_argument (codes "answer"))
 
@@ -99,11 +110,24 @@ check = command_with (codes "check") (file_argument (codes "certificate") ∷ []
 abbrev pub selfrun : App
 selfrun = command_with (codes "selfrun") (number_argument (codes "seed") 0 2147483647 ∷ number_argument (codes "count") 1 16000 ∷ [])
 
+-- commands, by what they are over
+abbrev pub over_programs : List App
+over_programs = verify ∷ lift ∷ graph ∷ upgrade ∷ []
+
+abbrev pub over_questions : List App
+over_questions = smt ∷ cert ∷ check ∷ model ∷ []
+
+abbrev pub others : List App
+others = replay ∷ equal ∷ differ ∷ selfrun ∷ []
+
+abbrev pub with_subcommands : App → List App → App
+with_subcommands = fold (λ a b. with_subcommand a b.top)
+
 -- the program: it needs one of its subcommands
 unfoldable pub bilv_app : App
 bilv_app = record {
   top = record (new_shape (codes "bilv")) { is_leaf = false; subcommand_required = true };
-  subs = verify.top ∷ lift.top ∷ graph.top ∷ smt.top ∷ replay.top ∷ cert.top ∷ check.top ∷ selfrun.top ∷ upgrade.top ∷ model.top ∷ [];
+  subs = verify.top ∷ lift.top ∷ graph.top ∷ upgrade.top ∷ smt.top ∷ cert.top ∷ check.top ∷ model.top ∷ replay.top ∷ equal.top ∷ differ.top ∷ selfrun.top ∷ [];
 }
 
 -- a command of the code is this one to `clap`, and shares no argument with its subcommands
@@ -167,6 +191,15 @@ options_in rows = do
   profile ← profile_in rows
   compressed ← compressed_in rows
   Some (record { profile = profile; compressed = compressed })
+
+abbrev pub names_in : List Row → Option of.PairNames
+names_in rows = do
+  elf ← first_of (codes "elf") rows
+  notes ← first_of (codes "notes") rows
+  other_elf ← first_of (codes "other-elf") rows
+  other_notes ← first_of (codes "other-notes") rows
+  links ← first_of (codes "links") rows
+  Some (record { elf = elf; notes = notes; other_elf = other_elf; other_notes = other_notes; links = links })
 
 -- each command, from what was found for its arguments
 abbrev pub verify_in : List Row → Option of.Command
@@ -234,6 +267,20 @@ upgrade_in rows = do
   options ← options_in rows
   Some (of.Upgrade options elf notes)
 
+abbrev pub equal_in : List Row → Option of.Command
+equal_in rows = do
+  names ← names_in rows
+  options ← options_in rows
+  budget ← budget_in rows
+  Some (of.Equal options names budget)
+
+abbrev pub differ_in : List Row → Option of.Command
+differ_in rows = do
+  names ← names_in rows
+  options ← options_in rows
+  report ← first_of (codes "report") rows
+  Some (of.Differ options names report)
+
 abbrev pub model_in : List Row → Option of.Command
 model_in rows = do
   elf ← first_of (codes "elf") rows
@@ -255,6 +302,8 @@ command_named name rows = if bytes_eq name (codes "verify") then verify_in rows
     else if bytes_eq name (codes "check") then check_in rows
     else if bytes_eq name (codes "selfrun") then selfrun_in rows
     else if bytes_eq name (codes "upgrade") then upgrade_in rows
+    else if bytes_eq name (codes "equal") then equal_in rows
+    else if bytes_eq name (codes "differ") then differ_in rows
     else if bytes_eq name (codes "model") then model_in rows else None
 
 abbrev pub command_in : Option (Text × List Row) → Option of.Command

@@ -80,6 +80,21 @@ impl Options {
     }
 }
 
+/// The names of two executables, each with its notes, and of the links between them, as they were written.
+#[derive(Clone, Copy, PartialEq, Eq, Debug)]
+pub struct PairNames<'a> {
+    /// The first executable.
+    pub elf: &'a str,
+    /// Its notes.
+    pub notes: &'a str,
+    /// The second executable.
+    pub other_elf: &'a str,
+    /// Its notes.
+    pub other_notes: &'a str,
+    /// The links.
+    pub links: &'a str,
+}
+
 /// What the program is asked to do. File names stand as they were written.
 #[derive(Clone, Copy, PartialEq, Eq, Debug)]
 pub enum Command<'a> {
@@ -138,6 +153,18 @@ pub enum Command<'a> {
         elf: &'a str,
         notes: &'a str,
         options: Options,
+    },
+    /// Decides whether two functions do the same.
+    Equal {
+        names: PairNames<'a>,
+        options: Options,
+        budget: Budget,
+    },
+    /// Runs both functions from the starts that a report of `equal` holds.
+    Differ {
+        names: PairNames<'a>,
+        options: Options,
+        report: &'a str,
     },
     /// Judges the answer of an outside solver to the script of a question.
     Model {

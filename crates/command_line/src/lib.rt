@@ -6,5 +6,5 @@ mod program;
 mod reader;
 mod values;
 
-pub use command::{Budget, Command, Options, Question};
+pub use command::{Budget, Command, Options, PairNames, Question};
 pub use reader::{LineError, line_error, read_command};

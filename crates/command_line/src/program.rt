@@ -1,7 +1,7 @@
 //! What the program's command line may hold, as `clap` is told.
 ghost use Rattle.std.specs.Prelude.{◌≡◌, IfOk, false};
 ghost use Rattle.clap.specs.Words.{App, rule_of};
-ghost use Rattle.command_line.specs.Lines.{IsMade, arm_option, asking, bilv_app, budgets, check, file_argument, model, number_argument, number_option, over_elf, over_program, question_option, replay, rvc_option, selfrun, verify, with_rules};
+ghost use Rattle.command_line.specs.Lines.{IsMade, arm_option, asking, bilv_app, budgets, check, differ, equal, file_argument, model, number_argument, number_option, others, over_elf, over_pair, over_program, over_programs, over_questions, question_option, replay, rvc_option, selfrun, verify, with_rules, with_subcommands};
 
 use crate::command::{MOST_CONFLICTS, MOST_POINTS, MOST_SIZE, MOST_UNROLL};
 use clap::builder::{ArgAction, ValueParser};
@@ -98,6 +98,17 @@ fn over_program<'a>(alloc: Global, name: &'a str) -> Result<Command<'a>, AllocEr
     Ok(command)
 }
 
+// A command over two ELF files, each with its notes, and links.
+fn over_pair<'a>(alloc: Global, name: &'a str) -> Result<Command<'a>, AllocError>
+    ensures { IfOk result (IsMade (over_pair name.entry.now)) }
+{
+    let command = over_program(alloc, name)?
+        .arg(file(alloc, "other-elf"))?
+        .arg(file(alloc, "other-notes"))?
+        .arg(file(alloc, "links"))?;
+    Ok(command)
+}
+
 // A command that asks a question of an ELF file and notes.
 fn asking<'a>(alloc: Global, name: &'a str) -> Result<Command<'a>, AllocError>
     ensures { IfOk result (IsMade (asking name.entry.now)) }
@@ -112,6 +123,21 @@ fn verify<'a>(alloc: Global) -> Result<Command<'a>, AllocError>
 {
     let command = over_program(alloc, "verify")?;
     let command = with_budgets(alloc, command)?;
+    Ok(command)
+}
+
+fn equal<'a>(alloc: Global) -> Result<Command<'a>, AllocError>
+    ensures { IfOk result (IsMade equal) }
+{
+    let command = over_pair(alloc, "equal")?;
+    let command = with_budgets(alloc, command)?;
+    Ok(command)
+}
+
+fn differ<'a>(alloc: Global) -> Result<Command<'a>, AllocError>
+    ensures { IfOk result (IsMade differ) }
+{
+    let command = over_pair(alloc, "differ")?.arg(file(alloc, "report"))?;
     Ok(command)
 }
 
@@ -145,21 +171,49 @@ fn selfrun<'a>(alloc: Global) -> Result<Command<'a>, AllocError>
     Ok(command)
 }
 
+// A command with those over one program.
+fn with_programs<'a>(alloc: Global, command: Command<'a>) -> Result<Command<'a>, AllocError>
+    ensures { IfOk result (λ c. (a : App) → IsMade a command.entry → IsMade (with_subcommands a over_programs) c) }
+{
+    let command = command
+        .subcommand(verify(alloc)?)?
+        .subcommand(over_elf(alloc, "lift")?)?
+        .subcommand(over_program(alloc, "graph")?)?
+        .subcommand(over_program(alloc, "upgrade")?)?;
+    Ok(command)
+}
+
+// A command with those that ask a question or judge what answers one.
+fn with_questions<'a>(alloc: Global, command: Command<'a>) -> Result<Command<'a>, AllocError>
+    ensures { IfOk result (λ c. (a : App) → IsMade a command.entry → IsMade (with_subcommands a over_questions) c) }
+{
+    let command = command
+        .subcommand(asking(alloc, "smt")?)?
+        .subcommand(asking(alloc, "cert")?)?
+        .subcommand(check(alloc)?)?
+        .subcommand(model(alloc)?)?;
+    Ok(command)
+}
+
+// A command with those that replay, those that compare two functions, and the one that makes its own work.
+fn with_others<'a>(alloc: Global, command: Command<'a>) -> Result<Command<'a>, AllocError>
+    ensures { IfOk result (λ c. (a : App) → IsMade a command.entry → IsMade (with_subcommands a others) c) }
+{
+    let command = command
+        .subcommand(replay(alloc)?)?
+        .subcommand(equal(alloc)?)?
+        .subcommand(differ(alloc)?)?
+        .subcommand(selfrun(alloc)?)?;
+    Ok(command)
+}
+
 /// The program's command line.
 pub(crate) fn bilv<'a>(alloc: Global) -> Result<Command<'a>, AllocError>
     ensures { IfOk result (IsMade bilv_app) }
 {
-    let command = Command::new(alloc, "bilv")
-        .subcommand_required(true)
-        .subcommand(verify(alloc)?)?
-        .subcommand(over_elf(alloc, "lift")?)?
-        .subcommand(over_program(alloc, "graph")?)?
-        .subcommand(asking(alloc, "smt")?)?
-        .subcommand(replay(alloc)?)?
-        .subcommand(asking(alloc, "cert")?)?
-        .subcommand(check(alloc)?)?
-        .subcommand(selfrun(alloc)?)?
-        .subcommand(over_program(alloc, "upgrade")?)?
-        .subcommand(model(alloc)?)?;
+    let command = Command::new(alloc, "bilv").subcommand_required(true);
+    let command = with_programs(alloc, command)?;
+    let command = with_questions(alloc, command)?;
+    let command = with_others(alloc, command)?;
     Ok(command)
 }

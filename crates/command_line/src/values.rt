@@ -3,12 +3,13 @@ ghost use Rattle.std.specs.Prelude.{◌≡◌, ◌≤◌, IfSome, option_map};
 ghost use Rattle.call_spec.specs.Calls.{IsBudget};
 ghost use Rattle.command_spec.specs.Commands.{IsLawfulCommand};
 ghost use Rattle.clap.specs.Words.{first_of, found_of, rows_of};
-ghost use Rattle.command_line.specs.Commands.{budget_of, command_of, options_of, question_of};
+ghost use Rattle.command_line.specs.Commands.{budget_of, command_of, names_of, options_of, question_of};
 ghost use Rattle.command_line.specs.Lines as lines;
 ghost use Rattle.state_text.specs.Starts.{profile_in};
 
 use crate::command::{
-    Budget, Command, MOST_CONFLICTS, MOST_POINTS, MOST_SIZE, MOST_UNROLL, Options, Question,
+    Budget, Command, MOST_CONFLICTS, MOST_POINTS, MOST_SIZE, MOST_UNROLL, Options, PairNames,
+    Question,
 };
 use clap::ArgMatches;
 use state_text::Profile;
@@ -111,6 +112,23 @@ fn options(matches: &ArgMatches<'_>) -> Option<Options>
     Some(Options {
         profile,
         compressed,
+    })
+}
+
+fn names<'a>(matches: &ArgMatches<'a>) -> Option<PairNames<'a>>
+    ensures { option_map names_of result ≡ lines.names_in (rows_of (found_of matches.now)) }
+{
+    let elf = text(matches, "elf")?;
+    let notes = text(matches, "notes")?;
+    let other_elf = text(matches, "other-elf")?;
+    let other_notes = text(matches, "other-notes")?;
+    let links = text(matches, "links")?;
+    Some(PairNames {
+        elf,
+        notes,
+        other_elf,
+        other_notes,
+        links,
     })
 }
 
@@ -239,6 +257,34 @@ fn upgrade<'a>(matches: &ArgMatches<'a>) -> Option<Command<'a>>
     })
 }
 
+fn equal<'a>(matches: &ArgMatches<'a>) -> Option<Command<'a>>
+    ensures value { option_map command_of result ≡ lines.equal_in (rows_of (found_of matches.now)) }
+    ensures lawful { IfSome result (λ c. IsLawfulCommand (command_of c)) }
+{
+    let names = names(matches)?;
+    let options = options(matches)?;
+    let budget = budget(matches)?;
+    Some(Command::Equal {
+        names,
+        options,
+        budget,
+    })
+}
+
+fn differ<'a>(matches: &ArgMatches<'a>) -> Option<Command<'a>>
+    ensures value { option_map command_of result ≡ lines.differ_in (rows_of (found_of matches.now)) }
+    ensures lawful { IfSome result (λ c. IsLawfulCommand (command_of c)) }
+{
+    let names = names(matches)?;
+    let options = options(matches)?;
+    let report = text(matches, "report")?;
+    Some(Command::Differ {
+        names,
+        options,
+        report,
+    })
+}
+
 fn model<'a>(matches: &ArgMatches<'a>) -> Option<Command<'a>>
     ensures value { option_map command_of result ≡ lines.model_in (rows_of (found_of matches.now)) }
     ensures lawful { IfSome result (λ c. IsLawfulCommand (command_of c)) }
@@ -275,6 +321,8 @@ pub(crate) fn command_named<'a>(name: &str, matches: &ArgMatches<'a>) -> Option<
         "check" => check(matches),
         "selfrun" => selfrun(matches),
         "upgrade" => upgrade(matches),
+        "equal" => equal(matches),
+        "differ" => differ(matches),
         "model" => model(matches),
         _ => None,
     }

@@ -29,3 +29,9 @@ returns-in-Upgrade-clause-right g c = rw c.in-Upgrade.is c.upgrade.ensures.right
 
 pub returns-in-Model-clause-right : goal.returns-in-Model-clause-right
 returns-in-Model-clause-right g c = rw c.in-Model.is c.answer_about-in-Model.ensures.answered
+
+pub returns-in-Equal-clause-right : goal.returns-in-Equal-clause-right
+returns-in-Equal-clause-right g c = rw c.in-Equal.is c.compare_named.ensures.compared
+
+pub returns-in-Differ-clause-right : goal.returns-in-Differ-clause-right
+returns-in-Differ-clause-right g c = rw c.in-Differ.is c.compare_named-in-Differ.ensures.compared
