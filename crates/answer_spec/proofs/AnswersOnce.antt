@@ -9,7 +9,7 @@ use Rattle.call_spec.specs.Calls.{Budget, Evidence, Refutations, EntryRefuted, R
 use Rattle.bilv_spec.specs.Answers.{Report, HoldsReport, VacuousReport, FailsReport, UnrollReport, PointsReport, SizeReport, ConflictsReport, IsRightReport}
 use Rattle.command_spec.specs.Commands.{Command, Verify, Lift, Graph, Script, Replay, Certify, Check, SelfRun, Upgrade, Model, Equal, Differ}
 use Rattle.answer_spec.specs.Outcomes.{IsRightAnswer}
-use Rattle.bilv_spec.specs.Verified.{IsAccepted, IsElfRefused, elf_large, elf_fault, elf_fault_text, AfterImage, elf_refused, elf_accepted}
+use Rattle.notes_spec.specs.Verified.{IsAccepted, IsElfRefused, elf_large, elf_fault, elf_fault_text, AfterImage, elf_refused, elf_accepted}
 use Rattle.answer_spec.specs.AnswerLaws.{verdict_of, first_file, elf_of}
 use Rattle.bilv_spec.proofs.Faults.{one_fault}
 use Rattle.bilv_spec.proofs.One.{one_verdict}

@@ -14,7 +14,7 @@ use Rattle.bilv_spec.specs.Answers.{start_in}
 use Rattle.command_spec.specs.Commands.{usage_text}
 use Rattle.word_spec.specs.Texts.{lines, line}
 use Rattle.command_spec.specs.Work.{result, work_file, work_notes, work_text}
-use Rattle.bilv_spec.proofs.StateSamples.{notes}
+use Rattle.notes_spec.proofs.StateSamples.{notes}
 
 usage : usage_text ≡ line (codes "usage: bilv verify|lift|graph|smt|replay|cert|check|selfrun|upgrade|equal|differ|model")
 usage = refl

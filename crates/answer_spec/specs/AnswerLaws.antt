@@ -11,7 +11,7 @@ use Rattle.call_spec.specs.Calls.{Budget, Evidence, Answer, plain_answer, Surrou
 use Rattle.bilv_spec.specs.Answers.{Report, HoldsReport, VacuousReport, FailsReport, UnrollReport, PointsReport, IsRightReport}
 use Rattle.command_spec.specs.Commands.{Command, Verify, Lift, Graph, Script, Replay, Certify, Check, SelfRun, Upgrade, Model, Equal, Differ}
 use Rattle.answer_spec.specs.Outcomes.{IsRightAnswer}
-use Rattle.bilv_spec.specs.Verified.{IsElfRefused}
+use Rattle.notes_spec.specs.Verified.{IsElfRefused}
 
 -- the verdict that a report gives
 abbrev pub verdict_of : Report → Option Verdict

@@ -5,8 +5,8 @@ use Rattle.bilv_spec.specs.Run.{Program}
 use Rattle.call_spec.specs.Calls.{Options, default_options, Evidence, NoEvidence, Answer, plain_answer, default_budget, Surroundings, AfterRead}
 use Rattle.bilv_spec.specs.Files.{layout_of}
 use Rattle.bilv_spec.specs.Answers.{IsReported}
-use Rattle.bilv_spec.specs.Upgrades.{upgraded}
-use Rattle.bilv_spec.specs.Verified.{AfterImage, AfterNotes, IsVerified, notes_limit}
+use Rattle.notes_spec.specs.Upgrades.{upgraded}
+use Rattle.notes_spec.specs.Verified.{AfterImage, AfterNotes, IsVerified, notes_limit}
 use Rattle.command_spec.specs.Commands.{usage_text, PairNames, Command, Verify, Lift, Graph, Script, Replay, Certify, Check, SelfRun, Upgrade, Model, Equal, Differ}
 use Rattle.bilv_spec.specs.LiftText.{IsLiftText}
 use Rattle.bilv_spec.specs.GraphText.{IsGraphText}

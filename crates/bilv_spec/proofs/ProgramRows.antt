@@ -1,53 +1,23 @@
--- The program of two files: its entry is aligned, and its rows are lawful.
-use Rattle.std.proofs.Common.{◌≡◌, ℕ, ◌<◌, ◌%◌, ◌^◌, List, [], ◌∷◌, Option, Some, None, Bool, true, false, refl, sym, ap, ◌∙◌, subst, arith}
+-- The program of a file: its rows are lawful, and what the options of its machine change.
+use Rattle.std.proofs.Common.{◌≡◌, ℕ, ◌<◌, ◌%◌, ◌^◌, List, Option, Some, None, Bool, true, false, refl, ap, arith}
 use Rattle.std.specs.Prelude.{slice_index, if◌then◌else◌, ◌==◌, nat_lt, ◌-◌, ◌+◌}
 use Rattle.word_spec.specs.Words.{add}
 use Rattle.word_spec.specs.Memory.{Endian, Little, number}
 use Rattle.bilv_spec.specs.Elf.{file_endian, Segment, cell_in}
-use Rattle.machine_spec.specs.Machine.{Machine, Row, IsAtPlace, width, first_half, taken}
+use Rattle.machine_spec.specs.Machine.{Machine, Row, width, first_half, taken}
 use Rattle.machine_spec.specs.MachineLaws.{IsLawfulMachine}
 use Rattle.bilv_spec.specs.Run.{Program, fetchable}
 use Rattle.machine_spec.specs.RvMachine.{rv32}
 use Rattle.machine_spec.specs.Arm.{arm}
 use Rattle.bilv_spec.specs.Points.{byte_of_cell, file_word}
-use Rattle.bilv_spec.specs.Notes.{Function, At, Named}
-use Rattle.bilv_spec.specs.NotesGrammar.{Says, Nothing, EntryIs, RequireIs, EnsureIs, AssertIs, TargetsAre, FixedIs, VersionIs, ConstIs, LoadedIs, AreLines, entries, lines_of}
-use Rattle.bilv_spec.specs.Scopes.{Scope, declaring, begun}
 use Rattle.call_spec.specs.Calls.{Options}
-use Rattle.bilv_spec.specs.Files.{order_of, machine_of, layout_of, is_rv, IsProgram, IsFunctionAt, program_of}
+use Rattle.bilv_spec.specs.Files.{order_of, machine_of, is_rv}
 use Rattle.machine_spec.specs.StateText.{rv_layout, arm_layout}
 use Rattle.bilv_spec.specs.PointLaws.{HasLawfulRows}
 use Rattle.bilv_spec.specs.ProgramLaws.{RiscVHasOneOption, ArmHasOneOption}
 use Rattle.machine_spec.proofs.WordBounds.{load_below}
 use Rattle.machine_spec.proofs.RvNarrow.{rv_is_lawful}
 use Rattle.machine_spec.proofs.ArmLawful.{arm_is_lawful}
-
--- the function's address of lines that say one is aligned
-said_aligned : (s : Scope) (texts : List (List ℕ)) (says : List Says) (a : ℕ) → AreLines s texts says → entries says ≡ At a ∷ [] → IsAtPlace s.narrow a
-said_aligned s [] [] a lines e = absurd (cc)
-said_aligned s [] (x ∷ says) a lines e = absurd lines
-said_aligned s (t ∷ texts) [] a lines e = absurd lines
-said_aligned s (t ∷ texts) (EntryIs (At b) ∷ says) a lines e = let same : b ≡ a = cc in subst (IsAtPlace s.narrow) same lines.0.aligned
-said_aligned s (t ∷ texts) (EntryIs (Named n) ∷ says) a lines e = absurd (cc)
-said_aligned s (t ∷ texts) (Nothing ∷ says) a lines e = said_aligned s texts says a lines.1 e
-said_aligned s (t ∷ texts) (RequireIs x ∷ says) a lines e = said_aligned (begun s) texts says a lines.1 e
-said_aligned s (t ∷ texts) (EnsureIs x ∷ says) a lines e = said_aligned (begun s) texts says a lines.1 e
-said_aligned s (t ∷ texts) (AssertIs b x ∷ says) a lines e = said_aligned (begun s) texts says a lines.1 e
-said_aligned s (t ∷ texts) (TargetsAre b to ∷ says) a lines e = said_aligned (begun s) texts says a lines.1 e
-said_aligned s (t ∷ texts) (FixedIs low high ∷ says) a lines e = said_aligned (begun s) texts says a lines.1 e
-said_aligned s (t ∷ texts) (VersionIs b ∷ says) a lines e = said_aligned (begun s) texts says a lines.1 e
-said_aligned s (t ∷ texts) (ConstIs w v ∷ says) a lines e = said_aligned (declaring s w v) texts says a lines.1 e
-said_aligned s (t ∷ texts) (LoadedIs ∷ says) a lines e = said_aligned (begun s) texts says a lines.1 e
-
-at_aligned : (file text : List ℕ) (s : Scope) (says : List Says) (f : Function) (entry : ℕ) →
-    AreLines s (lines_of text) says → entries says ≡ f ∷ [] → IsFunctionAt s.narrow file f entry → IsAtPlace s.narrow entry
-at_aligned file text s says (At a) entry lines e is = subst (IsAtPlace s.narrow) is (said_aligned s (lines_of text) says a lines e)
-at_aligned file text s says (Named name) entry lines e is = is.0.4.4
-
-pub entry_is_aligned : (o : Options) (file text : List ℕ) (p : Program) → IsProgram o file text p → IsAtPlace p.machine.narrow p.entry
-entry_is_aligned o file text p is =
-    subst (λ (q : Program). IsAtPlace q.machine.narrow q.entry) (sym is.4)
-    (at_aligned file text _ is.2.says is.0.entry is.1 is.2.lines is.2.notes_are.0 is.3)
 
 -- bytes of a file of bytes
 chosen_small : (b : Bool) (n : ℕ) → n < 256 → (if b then n else 0) < 256
@@ -80,12 +50,6 @@ row_of_word m false w row e = absurd (cc)
 
 pub rows_lawful : (p : Program) → IsLawfulMachine p.machine → ((a : ℕ) → byte_of_cell (p.loaded a) < 256) → HasLawfulRows p
 rows_lawful p lawful small a row e = lawful.rows (file_word p a) row (word_small p small a) (row_of_word p.machine (fetchable p (file_word p a) a) (file_word p a) row e)
-
-pub program_rows_are_lawful : (o : Options) (file text : List ℕ) (p : Program) → ((i : ℕ) → slice_index file i < 256) → IsProgram o file text p →
-    HasLawfulRows p
-program_rows_are_lawful o file text p small is =
-    subst HasLawfulRows (sym is.4)
-    (rows_lawful (program_of (machine_of o file) file is.0 is.1) (machine_lawful (is_rv file) (file_endian file) o) (λ a. cell_small file small a _))
 
 order_by : (b : Bool) (e : Endian) (o : Options) → (if b then Little else e) ≡ (if b then rv32 o.compressed else arm e o.profile).endian
 order_by true e o = refl

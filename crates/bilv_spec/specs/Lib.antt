@@ -1,11 +1,6 @@
 pub mod Elf
 pub mod ElfFaults
 pub mod Notes
-pub mod RvNames
-pub mod ArmNames
-pub mod Scopes
-pub mod NotesGrammar
-pub mod NotesFaults
 pub mod Run
 pub mod Verdict
 pub mod Points
@@ -17,7 +12,6 @@ pub mod Reports
 pub mod Evidence
 pub mod Files
 pub mod Answers
-pub mod Verified
 pub mod LiftText
 pub mod Graph
 pub mod LiveFlags
@@ -29,7 +23,5 @@ pub mod StateLaws
 pub mod EntryFaults
 pub mod SmtLib
 pub mod Scripts
-pub mod NotesLaws
-pub mod Upgrades
-pub mod ProgramLaws
 pub mod EvidenceLaws
+pub mod ProgramLaws

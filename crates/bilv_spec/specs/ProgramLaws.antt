@@ -1,23 +1,12 @@
--- Laws of the program of two files.
-use Rattle.std.specs.Prelude.{ℕ, ◌≡◌, ◌<◌, true, false, List, slice_index}
+-- Laws of the machine of a file.
+use Rattle.std.specs.Prelude.{ℕ, ◌≡◌, true, false, List}
 use Rattle.bilv_spec.specs.Elf.{file_endian}
-use Rattle.machine_spec.specs.Machine.{IsAtPlace}
-use Rattle.bilv_spec.specs.Run.{Program}
 use Rattle.call_spec.specs.Calls.{Options, default_options}
-use Rattle.bilv_spec.specs.Files.{is_rv, order_of, machine_of, layout_of, IsProgram}
+use Rattle.bilv_spec.specs.Files.{is_rv, order_of, machine_of, layout_of}
 use Rattle.machine_spec.specs.RvMachine.{rv32}
 use Rattle.word_spec.specs.Profiles.{V4}
 use Rattle.machine_spec.specs.Arm.{arm}
 use Rattle.machine_spec.specs.StateText.{rv_layout, arm_layout}
-use Rattle.bilv_spec.specs.PointLaws.{HasLawfulRows}
-
--- a row can stand at the address of a program's function
-abbrev pub EntryIsAligned : Type 0
-EntryIsAligned = (o : Options) (file text : List ℕ) (p : Program) → IsProgram o file text p → IsAtPlace p.machine.narrow p.entry
-
--- the rows of a program of a file of bytes are lawful, so that the laws that ask this of rows speak of every program
-abbrev pub ProgramRowsAreLawful : Type 0
-ProgramRowsAreLawful = (o : Options) (file text : List ℕ) (p : Program) → ((i : ℕ) → slice_index file i < 256) → IsProgram o file text p → HasLawfulRows p
 
 -- no option changes the byte order of a file's machine
 abbrev pub OrderIsOfFile : Type 0

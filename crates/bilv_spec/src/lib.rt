@@ -5,7 +5,6 @@
 
 pub mod certificates;
 pub mod files;
-pub mod notes;
 pub mod points;
 pub mod programs;
 pub mod questions;

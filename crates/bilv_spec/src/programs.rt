@@ -1,15 +1,5 @@
-//! Laws of the program of two files.
-ghost use Rattle.bilv_spec.specs.ProgramLaws.{ArmHasOneOption, DefaultsAreFirst, EntryIsAligned, OrderIsOfFile, ProgramRowsAreLawful, RiscVHasOneOption};
-
-/// A row can stand at the address of a program's function.
-pub fn entry_is_aligned()
-    ensures { EntryIsAligned }
-{}
-
-/// The rows of a program are lawful.
-pub fn program_rows_are_lawful()
-    ensures { ProgramRowsAreLawful }
-{}
+//! Laws of the machine of a file.
+ghost use Rattle.bilv_spec.specs.ProgramLaws.{ArmHasOneOption, DefaultsAreFirst, OrderIsOfFile, RiscVHasOneOption};
 
 /// No option changes the byte order of a file's machine.
 pub fn order_is_of_file()

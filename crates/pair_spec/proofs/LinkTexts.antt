@@ -5,8 +5,8 @@ use Rattle.std.proofs.lemmas.Bool.Decides.{nat_tests}
 use Rattle.std.specs.Str.{bytes_eq}
 use Rattle.word_spec.specs.Tokens.{Token, NumberToken, NameToken, tokens_of}
 use Rattle.bilv_spec.specs.Notes.{Expr}
-use Rattle.bilv_spec.specs.NotesGrammar.{lines_of}
-use Rattle.bilv_spec.proofs.Cuts.{Cuts, same, earlier, later, cuts}
+use Rattle.notes_spec.specs.NotesGrammar.{lines_of}
+use Rattle.notes_spec.proofs.Cuts.{Cuts, same, earlier, later, cuts}
 use Rattle.pair_spec.specs.Links.{Link, EqualAtEntry, EqualAtExit, SharedBytes, SameBytes, ComparesAlike, Says, Nothing, LinkIs, HasForm, IsSaid, IsRange, IsLine, AreLines, links_in, LinkFault, LimitFault, SyntaxFault, NameFault, RangeFault, fault_rank, LinkFaultApplies, at_line}
 use Rattle.pair_spec.specs.LinkLaws.{OneLinks, LinksHaveNoFault, OneLinkFault, LinksCompareAlike}
 

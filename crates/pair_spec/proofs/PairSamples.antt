@@ -10,7 +10,7 @@ use Rattle.machine_spec.specs.RvMachine.{rv32}
 use Rattle.machine_spec.specs.Rv.{table, rv_row}
 use Rattle.machine_spec.specs.Arm.{arm, arm_row}
 use Rattle.machine_spec.specs.Arm as arm_rows
-use Rattle.bilv_spec.specs.RvNames.{rv_names, rv_table}
+use Rattle.notes_spec.specs.RvNames.{rv_names, rv_table}
 use Rattle.word_spec.specs.Tokens.{NameToken, NumberToken, tokens_of}
 use Rattle.machine_spec.specs.Machine.{Machine}
 use Rattle.bilv_spec.specs.Points.{Point}

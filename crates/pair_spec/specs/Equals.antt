@@ -5,12 +5,14 @@ use Rattle.word_spec.specs.State.{State, Written}
 use Rattle.bilv_spec.specs.Verdict.{Holds, IsRight}
 use Rattle.bilv_spec.specs.Points.{is_known_at}
 use Rattle.clause_spec.specs.Refutation.{Proof}
-use Rattle.bilv_spec.specs.Files.{names_of, layout_of}
+use Rattle.bilv_spec.specs.Files.{layout_of}
+use Rattle.notes_spec.specs.Programs.{names_of}
 use Rattle.machine_spec.specs.StateText.{Layout, IsWritten, block_text}
 use Rattle.word_spec.specs.Texts.{line, joined, spaced, number_text}
 use Rattle.call_spec.specs.Calls.{Options, Budget, PairQuestion, PairOfStates, DifferenceOfExits, Holding, Evidence, Refutations, EntryRefuted, Count, Two, Both, SpentOnPair, Answer, plain_answer}
 use Rattle.bilv_spec.specs.Answers.{Report, HoldsReport, PointsReport, SizeReport, IsRightReport, start_in, status_of, report_text, budget_text}
-use Rattle.bilv_spec.specs.Verified.{IsAccepted, IsElfRefused, AreNotesRefused, IsFound}
+use Rattle.notes_spec.specs.Scopes.{Paired}
+use Rattle.notes_spec.specs.Verified.{IsAccepted, IsElfRefused, AreNotesRefusedIn, IsFound}
 use Rattle.pair_spec.specs.Links.{Link, IsLinksText, IsFirstLinkFault, LinkFault, LimitFault, SyntaxFault, NameFault, RangeFault}
 use Rattle.pair_spec.specs.Pairs.{IsLinkedPair, ArePairedStarts, ExitApart, AreEqual, HaveMore, IsPairPrice}
 use Rattle.pair_spec.specs.PairEvidence.{RefutesPair, SpendsPair, IsPairDue}
@@ -143,7 +145,7 @@ pub data AfterElfOf (word file : List ℕ) (Next : Answer → Type 0) (a : Answe
   elf_accepted : IsAccepted file → Next a → AfterElfOf word file Next a
 
 pub data AfterNotesOf (o : Options) (word file text : List ℕ) (Next : Program → Answer → Type 0) (a : Answer) : Type 0 where
-  notes_refused : (written : List ℕ) → AreNotesRefused o file text written → a ≡ plain_answer 5 (word ++ codes " " ++ written) →
+  notes_refused : (written : List ℕ) → AreNotesRefusedIn Paired o file text written → a ≡ plain_answer 5 (word ++ codes " " ++ written) →
       AfterNotesOf o word file text Next a
   program_found : (p : Program) → IsFound o file text p → Next p a → AfterNotesOf o word file text Next a
 

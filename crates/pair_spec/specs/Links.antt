@@ -7,7 +7,7 @@ use Rattle.bilv_spec.specs.Notes.{Expr, Number, Register, Flag, value}
 use Rattle.word_spec.specs.Tokens.{Token, NumberToken, NameToken, tokens_of}
 use Rattle.bilv_spec.specs.Run.{Program}
 use Rattle.bilv_spec.specs.LiveFlags.{names_flag}
-use Rattle.bilv_spec.specs.NotesGrammar.{lines_of, IsGood}
+use Rattle.notes_spec.specs.NotesGrammar.{lines_of, IsGood}
 use Rattle.word_spec.specs.RowFiles.{from_to}
 
 -- What is linked, with the number of the line: a register or a flag of each side, at the entry or at the exit; or the bytes of addresses, both ends included.

@@ -1,5 +1,0 @@
-use Rattle.bilv_spec.proofs.NotesFirst.{never_both}
-use Rattle.bilv_spec.proofs.notes.never_both.Goals as goal
-
-pub returns : goal.returns
-returns c = never_both

@@ -1,0 +1,12 @@
+pub mod RvNames
+pub mod ArmNames
+pub mod Scopes
+pub mod NotesGrammar
+pub mod NotesFaults
+pub mod Verified
+pub mod NotesLaws
+pub mod Upgrades
+pub mod Programs
+pub mod TextLaws
+pub mod FrameNotes
+pub mod FrameLaws
