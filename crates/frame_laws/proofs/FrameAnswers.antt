@@ -83,7 +83,7 @@ module _ (f : Frame) (contracts : List Contract) (k : ℕ) (u : UnrolledProgram)
   cell_by a b (Some c) true e h g = (c, refl, (cc))
   cell_by a b None true e h g = absurd (let x : false ≡ true = ap (λ z. is_kept z || (is_some z && fixed p.notes.fixed a)) (sym e) ∙ h in cc)
 
-  cell_is : (a b : ℕ) → a < 2 ^ 32 → byte_of_runs u.known a ≡ Some b → (c : Cell) × (p.loaded a ≡ Some c) × (c.byte ≡ b)
+  pub cell_is : (a b : ℕ) → a < 2 ^ 32 → byte_of_runs u.known a ≡ Some b → (c : Cell) × (p.loaded a ≡ Some c) × (c.byte ≡ b)
   cell_is a b l e = cell_by a b (p.loaded a) (is_known_at p a) refl refl (sym (un.known a l) ∙ e)
 
   entry_from : (s : State) → MeetsEntryOver u asked s → IsEntryStateOver p asked s
@@ -111,7 +111,7 @@ module _ (f : Frame) (contracts : List Contract) (k : ℕ) (u : UnrolledProgram)
       HeadAgrees f asked r question
   head_from r question h = λ t s a c l e q w. h t s a c.byte l (byte_is a c l e (asks a w)) (kept_is a c e ∙ q) w
 
-  head_to : (r : Reading) (question : Question) → HeadAgrees f asked r question → has_heads f ≡ true → asks_head question ≡ true →
+  pub head_to : (r : Reading) (question : Question) → HeadAgrees f asked r question → has_heads f ≡ true → asks_head question ≡ true →
       HasAskedKept u asked r.head.mem
   head_to r question h t s = λ a b l e q w. (let c = cell_is a b l e in h t s a c.0 l c.1 (sym (kept_is a c.0 c.1) ∙ q) w ∙ c.2)
 

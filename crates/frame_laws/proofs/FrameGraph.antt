@@ -197,7 +197,8 @@ module _ (f : Frame) (k : ℕ) where
   ended true q stack a h = h
   ended false q stack a h = h
 
-  of_point : (q : Point) → IsPoint f k q → IsIn q.at q.stack
+  -- its address is one of the graph, and so is each one on its stack at which a row can stand
+  pub of_point : (q : Point) → IsPoint f k q → IsIn q.at q.stack
   of_point q first = (entry, λ b h e. none_in b h)
   of_point q (entry_head h) = (entry, λ b h e. none_in b h)
   of_point q (next {q = from} {stack} {a} is edge l) =

@@ -19,6 +19,7 @@ use Rattle.frame_spec.specs.FramePoints.{Anchor, AtEntry, AtHead, Point, IsPoint
 use Rattle.frame_spec.specs.FrameWalk.{ToEvent, Cutting, PointExit, FalseCheck, Always, Raising, WritingKept, NotGiven, Unaligned, Root, UnrolledPoint, UnrolledProgram, no_point, no_root, point_at, root_at}
 use Rattle.frame_spec.specs.FrameUnrolling.{checks_of, DoesContract, DoesAddress, DoesCut, DoesBy, IsPlace, outside_exit, own_of, lines_of, IsRootOf, IsUnrolling}
 use Rattle.frame_spec.proofs.Rooted.{same_place}
+use Rattle.frame_spec.specs.FrameReports.{loads_among}
 use Rattle.frame_laws.specs.FramePrices as FramePrices
 use Rattle.frame_laws.specs.FramePrices.{is_edge, goes_out, line_of, action_lines, exit_lines, edges_of, lines_at, entry_lines, root_lines, point_lines, loads_of, stores_of, known_of, own_writes, own_exit, own_exits, unrolled_price, FramePriceIsPrice}
 use Rattle.frame_laws.proofs.FrameAnswers.{head_anchor}
@@ -443,6 +444,11 @@ module _ (f : Frame) (contracts : List Contract) (k : ℕ) (u : UnrolledProgram)
       (sum_by (λ q. FramePoints.own_exit f.own (list_any is_exit (frame_edges f q))) flat) (FramePoints.own_writes f.own)
       (sum_by (FramePoints.point_loads f) flat + sum_by bytes_loaded (FramePoints.entry_lines f ++ flat_map (evaluated f) flat)) z (known_of u)
       (length u.kept)) stores_same
+
+-- so are its byte loads those of the frame
+pub loads_are : (f : Frame) (contracts : List Contract) (k : ℕ) (u : UnrolledProgram) → IsUnrolling f contracts k u →
+    loads_of u ≡ loads_among f (map (λ q. q.point) u.points)
+loads_are f contracts k u un = loads_same f contracts k u un
 
 pub frame_price_is_price : FramePriceIsPrice
 frame_price_is_price f contracts k u un =

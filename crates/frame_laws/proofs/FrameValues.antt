@@ -74,7 +74,7 @@ same_self : (x : Point) → same x x ≡ true
 same_self x = rw (same_point_self (triple x), same_point_self (coded_anchor x.anchor), same_point_self (coded_test x.contract)) refl
 
 -- where a point stands
-spot_in : List UnrolledPoint → Point → ℕ
+pub spot_in : List UnrolledPoint → Point → ℕ
 spot_in [] x = 0
 spot_in (q ∷ qs) x = if same q.point x then 0 else spot_in qs x + 1
 
@@ -101,7 +101,7 @@ map_get (q ∷ qs) zero l = refl
 map_get (q ∷ qs) (suc i) l = map_get qs i (omega arith)
 
 module _ (f : Frame) (contracts : List Contract) (k : ℕ) (u : UnrolledProgram) (un : IsUnrolling f contracts k u) where
-  abbrev spot : Point → ℕ
+  abbrev pub spot : Point → ℕ
   spot x = spot_in u.points x
 
   apart : (i j : ℕ) → i < j → j < length u.points → i < length u.points → (point_at u i).point ≡ (point_at u j).point → ⊥
@@ -119,7 +119,7 @@ module _ (f : Frame) (contracts : List Contract) (k : ℕ) (u : UnrolledProgram)
     ]
   ]
 
-  spot_is : (i : ℕ) → i < length u.points → spot (point_at u i).point ≡ i
+  pub spot_is : (i : ℕ) → i < length u.points → spot (point_at u i).point ≡ i
   spot_is i l = let q = spot_found u.points (point_at u i).point i l refl in one_place (spot (point_at u i).point) i q.0 l q.1
 
   -- the reading of the frame, with memories for those of a reading of terms

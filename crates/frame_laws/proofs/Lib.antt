@@ -26,3 +26,9 @@ pub mod HeadlessCells
 pub mod HeadlessInputLists
 pub mod PartValues
 pub mod FrameValues
+pub mod FrameWalkable
+pub mod PartFits
+pub mod FrameInputs
+pub mod FrameReadings
+pub mod FrameInputPrices
+pub mod FrameClauses

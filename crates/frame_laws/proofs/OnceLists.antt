@@ -23,10 +23,10 @@ module _ {X : Type 0} where
   once_more x xs once new (suc i) zero l h e = absurd (omega arith)
   once_more x xs once new (suc i) (suc j) l h e = once i j (omega arith) (omega arith) e
 
-  once_tail : (x : X) (xs : List X) → Once (x ∷ xs) → Once xs
+  pub once_tail : (x : X) (xs : List X) → Once (x ∷ xs) → Once xs
   once_tail x xs once i j l h e = once (suc i) (suc j) (omega arith) (omega arith) e
 
-  not_in_tail : (x : X) (xs : List X) → Once (x ∷ xs) → Contains xs x → ⊥
+  pub not_in_tail : (x : X) (xs : List X) → Once (x ∷ xs) → Contains xs x → ⊥
   not_in_tail x xs once h = let q = in_at xs x h in once 0 (suc q.0) (omega arith) (let l = q.1 in omega arith) (sym q.2)
 
   filter_once_by : (f : X → Bool) (x : X) (xs : List X) (b : Bool) → (Contains xs x → ⊥) → Once (filter f xs) →

@@ -35,7 +35,7 @@ same_up_to x y (n ∷ ns) vs (suc t) f l =
     ∙ same_up_to x y ns (vs ++ node_value y vs n ∷ []) t (λ i le ws. f (suc i) (omega arith) ws) (omega arith)
     ∙ sym (ap (value_at (values_from y (vs ++ node_value y vs n ∷ []) ns)) g)
 
-same_term : (x y : PartReading) (ns : List PartNode) (t : ℕ) →
+pub same_term : (x y : PartReading) (ns : List PartNode) (t : ℕ) →
     ((i : ℕ) → i ≤ t → (ws : List TermValue) → node_value x ws (node_at ns i) ≡ node_value y ws (node_at ns i)) →
     t < length ns → term_word x ns t ≡ term_word y ns t
 same_term x y ns t f l =
@@ -44,7 +44,7 @@ same_term x y ns t f l =
     ∙ ap (λ z. (value_at (values_from y [] ns) z).word) g
 
 -- the node at a place is one of the list
-node_in : (ns : List PartNode) (t : ℕ) → t < length ns → Contains ns (node_at ns t)
+pub node_in : (ns : List PartNode) (t : ℕ) → t < length ns → Contains ns (node_at ns t)
 node_in [] t l = absurd (omega arith)
 node_in (n ∷ ns) zero l = (0, omega arith, refl)
 node_in (n ∷ ns) (suc t) l = let q = node_in ns t (omega arith) in (suc q.0, let m = q.1 in omega arith, q.2)

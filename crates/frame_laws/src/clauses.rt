@@ -1,5 +1,5 @@
 //! Laws of the clauses of questions of frames.
-ghost use Rattle.frame_laws.specs.FrameLayers.{FrameReadingMakesTrue, FrameValuesGiveReading};
+ghost use Rattle.frame_laws.specs.FrameLayers.{FrameClausesOfQuestion, FrameReadingMakesTrue, FrameUnrollingIsWalkable, FrameValuesGiveReading};
 
 /// Values that satisfy the clauses are those of a reading of which the question is true.
 pub fn frame_values_give_reading()
@@ -9,4 +9,14 @@ pub fn frame_values_give_reading()
 /// The values of a reading of which the question is true make the cells true.
 pub fn frame_reading_makes_true()
     ensures { FrameReadingMakesTrue }
+{}
+
+/// The clauses of the cells are those of the question.
+pub fn frame_clauses_of_question()
+    ensures { FrameClausesOfQuestion }
+{}
+
+/// An unrolled frame is walkable.
+pub fn frame_unrolling_is_walkable()
+    ensures { FrameUnrollingIsWalkable }
 {}
