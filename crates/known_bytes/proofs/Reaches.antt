@@ -10,8 +10,8 @@ use Rattle.std.proofs.Math.ListN.{get_or-map}
 use Rattle.std.specs.List.{All}
 use Rattle.bilv_spec.specs.Notes as notes
 use Rattle.bilv_spec.specs.Verdict.{fixed}
-use Rattle.notes_lang.specs.Drafting.{fixed_of}
-use Rattle.notes_lang.specs.declared.notes.FixedRange.{FixedRange}
+use Rattle.notes_value.specs.NoteViews.{fixed_of}
+use Rattle.notes_value.specs.declared.notes.FixedRange.{FixedRange}
 use Rattle.known_bytes.specs.Known.{IsHeld}
 
 -- a fact of each element holds of a mapped list

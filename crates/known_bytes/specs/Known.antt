@@ -4,7 +4,7 @@ use Rattle.bilv_spec.specs.Elf.{loaded, is_kept}
 use Rattle.bilv_spec.specs.Notes.{FixedRange}
 use Rattle.bilv_spec.specs.Verdict.{fixed}
 use Rattle.bilv_spec.specs.Points.{byte_of_cell}
-use Rattle.notes_lang.specs.declared.notes.FixedRange as declared
+use Rattle.notes_value.specs.declared.notes.FixedRange as declared
 use Rattle.elf32_reader.specs.declared.parts.Part.{Part}
 
 -- the byte at an address is kept or fixed, by a file and fixed ranges

@@ -6,12 +6,12 @@ ghost use Rattle.bilv_spec.specs.Files.{program_of};
 ghost use Rattle.bilv_spec.specs.Points.{IsCount, is_known_at, begins_run};
 ghost use Rattle.walk_spec.specs.Unrolled.{byte_of_runs};
 ghost use Rattle.walk_spec.specs.Unrolling.{file_known};
-ghost use Rattle.notes_lang.specs.Drafting.{notes_of};
+ghost use Rattle.notes_value.specs.NoteViews.{notes_of};
 ghost use Rattle.known_bytes.specs.Runs.{AreRuns, run_of, sum_of};
 
 use crate::stretches::first_known;
 use elf32_reader::Image;
-use notes_lang::Notes;
+use notes_value::Notes;
 use std::alloc::{AllocError, Global};
 
 /// Known bytes that stand together. Those behind the ones that the file has are 0; a run that ends early has more of them than addresses, which do not belong

@@ -4,11 +4,11 @@ ghost use Rattle.bilv_spec.specs.Verdict.{fixed};
 ghost use Rattle.machine_spec.specs.Machine.{Machine};
 ghost use Rattle.bilv_spec.specs.Files.{program_of};
 ghost use Rattle.bilv_spec.specs.Points.{is_known_at};
-ghost use Rattle.notes_lang.specs.Drafting.{fixed_of, notes_of};
+ghost use Rattle.notes_value.specs.NoteViews.{fixed_of, notes_of};
 ghost use Rattle.known_bytes.specs.Known.{is_known, IsFirstKnown};
 
 use elf32_reader::{Image, Part};
-use notes_lang::{FixedRange, Notes};
+use notes_value::{FixedRange, Notes};
 
 /// What is told of an address and those behind it.
 #[derive(Clone, Copy)]

@@ -2,7 +2,7 @@
 use Rattle.std.proofs.Common.{◌≡◌, ℕ, ◌<◌, ◌≤◌, inl, inr, sym, subst, arith, List, [], ◌∷◌, Option, Result, Ok, Err, map, length, All}
 use Rattle.std.proofs.lemmas.List.Elements.{All-nil, All-cons, All-head, All-tail}
 use Rattle.word_spec.specs.Tokens.{Token, NumberToken, NameToken, SignToken, BadByte, BadText, tokens_of}
-use Rattle.bilv_spec.specs.NotesGrammar.{IsGood}
+use Rattle.notes_spec.specs.NotesGrammar.{IsGood}
 use Rattle.line_tokens.specs.declared.lexer.Token as code
 use Rattle.line_tokens.specs.Tokens.{capped, token_of}
 use Rattle.pair_spec.specs.Links.{LinkFaultApplies, LimitFault, SyntaxFault, NameFault, RangeFault, HasForm, IsSaid, Says, fault_rank}

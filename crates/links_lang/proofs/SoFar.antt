@@ -3,7 +3,7 @@ use Rattle.std.proofs.Common.{◌≡◌, ℕ, suc, ◌+◌, refl, ap, sym, ◌�
 use Rattle.std.specs.Prelude.{IfSome, option_to_list}
 use Rattle.std.proofs.lemmas.List.Elements.{All-nil, All-push}
 use Rattle.bilv_spec.specs.Notes.{Expr}
-use Rattle.bilv_spec.specs.NotesGrammar.{lines_of}
+use Rattle.notes_spec.specs.NotesGrammar.{lines_of}
 use Rattle.pair_spec.specs.Links.{AreLines, IsFirstLinkFault, IsLine, IsLinksText, LinkFaultApplies, Says, Nothing, LinkIs, at_line, fault_rank, links_in}
 use Rattle.pair_spec.specs.Links as spec
 use Rattle.state_text.specs.declared.layout.Layout.{Layout}

@@ -7,8 +7,8 @@ use Rattle.word_spec.specs.Profiles.{V4}
 use Rattle.machine_spec.specs.RvMachine.{rv32}
 use Rattle.machine_spec.specs.Arm.{arm}
 use Rattle.bilv_spec.specs.Notes.{Expr, Register, Flag}
-use Rattle.bilv_spec.specs.RvNames.{name_in, rv_table}
-use Rattle.bilv_spec.specs.ArmNames.{arm_table}
+use Rattle.notes_spec.specs.RvNames.{name_in, rv_table}
+use Rattle.notes_spec.specs.ArmNames.{arm_table}
 use Rattle.state_text.specs.declared.layout.Layout.{Layout}
 use Rattle.state_text.specs.declared.layout.Layout.TheVariants.{Rv32, Arm}
 use Rattle.notes_lang.specs.Parsing.{layout_names}

@@ -2,7 +2,7 @@
 use Rattle.std.specs.Global.{Vec}
 use Rattle.std.specs.Prelude.{ℕ, ◌≡◌, ◌+◌, ◌<◌, ◌++◌, codes, List, [], ◌∷◌, Option, Some, None, Result, Ok, Err, length}
 use Rattle.word_spec.specs.Tokens.{Token}
-use Rattle.bilv_spec.specs.NotesGrammar.{lines_of}
+use Rattle.notes_spec.specs.NotesGrammar.{lines_of}
 use Rattle.pair_spec.specs.Links.{Says, Nothing, LinkIs, HasForm, IsSaid, IsRange, IsLine, AreLines, links_in, LinkFaultApplies, IsFirstLinkFault, IsLinksText, fault_rank}
 use Rattle.pair_spec.specs.Links as spec
 use Rattle.line_tokens.specs.declared.lexer.Token as code

@@ -1,7 +1,7 @@
 //! What one line says.
 ghost use Rattle.std.specs.Prelude.{◌≡◌, ◌≤◌, ◌<◌, ◌+◌, ◌↔◌, ℕ, List, All, IfOk, IfSome, IfNone, IsTrue};
 ghost use Rattle.bilv_spec.specs.Notes.{Expr};
-ghost use Rattle.bilv_spec.specs.NotesGrammar.{IsGood};
+ghost use Rattle.notes_spec.specs.NotesGrammar.{IsGood};
 ghost use Rattle.pair_spec.specs.Links.{AreNamed, HasForm, two_names, two_numbers};
 ghost use Rattle.line_tokens.specs.Tokens.{token_of};
 ghost use Rattle.notes_lang.specs.Parsing.{layout_names};

@@ -1,7 +1,7 @@
 //! The names of registers and flags.
 ghost use Rattle.std.specs.Prelude.{◌≡◌, map, IfSome};
-ghost use Rattle.bilv_spec.specs.RvNames.{name_in, rv_names};
-ghost use Rattle.bilv_spec.specs.ArmNames.{arm_names};
+ghost use Rattle.notes_spec.specs.RvNames.{name_in, rv_names};
+ghost use Rattle.notes_spec.specs.ArmNames.{arm_names};
 ghost use Rattle.notes_lang.specs.Parsing.{layout_names};
 ghost use Rattle.links_lang.specs.Views.{IsOfForm};
 ghost use Rattle.links_lang.specs.Naming.{IsMeaning, row_of};
@@ -122,7 +122,7 @@ fn find(table: &[(&[u8], Option<Named>)], word: &[u8]) -> Option<Named>
 }
 
 /// The register of RV32IM that a word names.
-#[tactic(auto, unfolding(bilv_spec::specs::RvNames::rv_table))]
+#[tactic(auto, unfolding(notes_spec::specs::RvNames::rv_table))]
 fn find_rv(word: &[u8]) -> Option<Named>
     ensures { IsMeaning (rv_names word.now) result }
 {
@@ -130,7 +130,7 @@ fn find_rv(word: &[u8]) -> Option<Named>
 }
 
 /// The register or flag of ARM that a word names.
-#[tactic(auto, unfolding(bilv_spec::specs::ArmNames::arm_table))]
+#[tactic(auto, unfolding(notes_spec::specs::ArmNames::arm_table))]
 fn find_arm(word: &[u8]) -> Option<Named>
     ensures { IsMeaning (arm_names word.now) result }
 {

@@ -1,6 +1,6 @@
 //! The lines of a text.
 ghost use Rattle.std.specs.Prelude.{◌≡◌, ◌≢◌, ◌∷◌, ◌<◌, ◌≤◌, ℕ, ◌-◌, drop, length, get_or};
-ghost use Rattle.bilv_spec.specs.NotesGrammar.{lines_of};
+ghost use Rattle.notes_spec.specs.NotesGrammar.{lines_of};
 ghost use Rattle.notes_lang.specs.Lines.{stripped};
 
 /// A line without the CR before its LF.

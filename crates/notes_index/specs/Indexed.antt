@@ -1,9 +1,9 @@
 -- Places of lines of notes by their addresses.
 use Rattle.std.specs.Prelude.{ℕ, ◌≡◌, ◌≤◌, ◌<◌, ◌+◌, ◌==◌, List, [], ◌∷◌, length, map, filter, slice_index, slice_index_or, All, Contains}
 use Rattle.std.specs.List.Sorted.{IsNonDecreasingBy}
-use Rattle.notes_lang.specs.declared.notes.Assert.{Assert}
-use Rattle.notes_lang.specs.declared.notes.Targets.{Targets}
-use Rattle.notes_lang.specs.declared.notes.Notes.{Notes}
+use Rattle.notes_value.specs.declared.notes.Assert.{Assert}
+use Rattle.notes_value.specs.declared.notes.Targets.{Targets}
+use Rattle.notes_value.specs.declared.notes.Notes.{Notes}
 use Rattle.notes_index.specs.declared.index.Index.{Index}
 
 -- the addresses of assert lines, and of targets lines

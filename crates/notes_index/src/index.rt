@@ -5,7 +5,7 @@ ghost use Rattle.std.specs.List.Sorted.{IsNonDecreasingBy, IsPermutation, IsStab
 ghost use Rattle.std.specs.Ordering.{nat_cmp};
 ghost use Rattle.notes_index.specs.Indexed.{assert_places, targets_places, IsNumbered, IsIndex, ArePlacesOf, AreIndexed};
 
-use notes_lang::{Assert, Notes, Targets};
+use notes_value::{Assert, Notes, Targets};
 use std::alloc::{AllocError, Global};
 
 /// The places of assert lines and of targets lines, each with the line's address, by rising addresses.

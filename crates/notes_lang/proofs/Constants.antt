@@ -2,7 +2,7 @@
 use Rattle.std.proofs.Common.{◌≡◌, ℕ, zero, suc, ◌<◌, ◌≤◌, ◌+◌, refl, ap, sym, ◌∙◌, arith, List, [], ◌∷◌, ◌++◌, Some, None, Bool, true, false, ◌&&◌, ◌||◌, if◌then◌else◌, map, drop, length, get_or, bytes_eq, add-one, drop-cons, codes}
 use Rattle.std.specs.Borrow.{Bor}
 use Rattle.std.specs.List.{list_any}
-use Rattle.bilv_spec.specs.Scopes.{const_of, reserved, reserved_first}
+use Rattle.notes_spec.specs.Scopes.{const_of, reserved, reserved_first}
 use Rattle.notes_lang.specs.declared.scopes.Constant.{Constant}
 use Rattle.notes_lang.specs.Scoping.{constant_of, text_of}
 

@@ -1,13 +1,14 @@
 -- Notes whose lines are all good.
 use Rattle.std.proofs.Common.{◌≡◌, ◌≢◌, ℕ, ◌+◌, sym, ap, ◌∙◌, subst, List, [], Option, Some, None, length, map, AllPairs}
-use Rattle.bilv_spec.specs.Scopes.{Vocabulary}
-use Rattle.bilv_spec.specs.NotesGrammar.{IsNotesText, lines_of}
-use Rattle.bilv_spec.specs.NotesFaults.{EntryFault, IsFirstNoteFault, begin_of, no_entry}
-use Rattle.bilv_spec.proofs.NotesOutcome.{pairs}
+use Rattle.notes_spec.specs.Scopes.{Vocabulary}
+use Rattle.notes_spec.specs.NotesGrammar.{IsNotesText, lines_of}
+use Rattle.notes_spec.specs.NotesFaults.{EntryFault, IsFirstNoteFault, begin_of, no_entry}
+use Rattle.notes_spec.proofs.NotesOutcome.{pairs}
 use Rattle.notes_lang.specs.declared.drafts.Draft.{Draft}
-use Rattle.notes_lang.specs.declared.notes.Function.{Function}
-use Rattle.notes_lang.specs.Saying.{function_of}
-use Rattle.notes_lang.specs.Drafting.{place_list, note_line_of, assert_of, targets_of, fixed_of}
+use Rattle.notes_value.specs.declared.notes.Function.{Function}
+use Rattle.notes_value.specs.NoteViews.{function_of}
+use Rattle.notes_lang.specs.Drafting.{place_list}
+use Rattle.notes_value.specs.NoteViews.{note_line_of, assert_of, targets_of, fixed_of}
 use Rattle.notes_lang.specs.Parsing.{IsGoodDraft}
 
 pub finished : (v all : Vocabulary) (text : List ℕ) (d : Draft) (f : Function) → v ≡ all → IsGoodDraft (begin_of v text) (lines_of text) d →
@@ -25,6 +26,7 @@ finished v all text d f same p is =
       short = q.good.count;
       says = q.says;
       lines = q.good.lines;
+      unmixed = q.good.unmixed;
       notes_are = (
         q.is.entry ∙ ap place_list is,
         q.is.requires,

@@ -1,7 +1,7 @@
 -- The first line of a text, by the place of its LF.
 use Rattle.std.proofs.Common.{◌≡◌, ◌≢◌, ℕ, zero, suc, ◌<◌, ◌≤◌, ◌+◌, ◌-◌, refl, ap, sym, ◌∙◌, arith, List, [], ◌∷◌, Bool, true, false, ◌&&◌, if◌then◌else◌, ◌==◌, length, get_or, take, drop, add-one, length-drop, zero-add, suc-add}
-use Rattle.bilv_spec.specs.NotesGrammar.{lines_of, onto_first, begins_with}
-use Rattle.bilv_spec.proofs.NotesTables.{is_false}
+use Rattle.notes_spec.specs.NotesGrammar.{lines_of, onto_first, begins_with}
+use Rattle.notes_spec.proofs.NotesTables.{is_false}
 use Rattle.notes_lang.specs.Lines.{stripped}
 
 is_byte : (b c : ℕ) → b ≡ c → (b == c) ≡ true

@@ -1,19 +1,24 @@
 -- What one more line adds to what was said.
-use Rattle.std.proofs.Common.{◌≡◌, ℕ, ◌+◌, ◌-◌, ◌^◌, refl, ap, sym, ◌∙◌, subst, arith, List, [], ◌∷◌, ◌++◌, Option, Some, None, zero, suc, Bool, true, false, if◌then◌else◌, ◌||◌, ◌==◌, IsTrue, ◌↔◌, Contains, length, map, append-nil}
+use Rattle.std.proofs.Common.{◌≡◌, ℕ, ◌+◌, ◌-◌, ◌^◌, refl, ap, sym, ◌∙◌, subst, arith, List, [], ◌∷◌, ◌++◌, Option, Some, None, zero, suc, Bool, true, false, if◌then◌else◌, ◌||◌, ◌&&◌, ◌==◌, IsTrue, ◌↔◌, Contains, length, map, append-nil}
 use Rattle.std.specs.List.{list_any}
 use Rattle.std.specs.Ordering.{is_eq, nat_cmp}
 use Rattle.std.specs.BTreeSet.{BTreeSet, contains}
-use Rattle.bilv_spec.specs.NotesFaults.{Repeats}
-use Rattle.notes_lang.specs.declared.notes.Targets.{Targets}
+use Rattle.notes_spec.specs.NotesFaults.{Repeats}
+use Rattle.notes_value.specs.declared.notes.Targets.{Targets}
 use Rattle.std.proofs.lemmas.Bool.Decides.{nat_tests}
 use Rattle.std.proofs.lemmas.List.{map-append}
 use Rattle.std.proofs.lemmas.List.Folds.{list_any-append}
+use Rattle.word_spec.specs.RowFiles.{from_to}
 use Rattle.bilv_spec.specs.Notes as notes
-use Rattle.bilv_spec.specs.NotesGrammar.{Says, EntryIs, RequireIs, EnsureIs, AssertIs, FixedIs, LoadedIs, entries, requires_of, ensures_of, asserts_of, targets_of as targets_in, fixed_of as fixed_in}
-use Rattle.bilv_spec.proofs.NotesFirst.{entries_append, targets_append}
+use Rattle.notes_spec.specs.NotesGrammar.{Says, EntryIs, RequireIs, EnsureIs, AssertIs, FixedIs, LoadedIs, InvariantIs, has_old, is_mixed, is_of_contract, is_of_entry, entries, requires_of, ensures_of, asserts_of, targets_of as targets_in, fixed_of as fixed_in}
+use Rattle.notes_spec.proofs.NotesFirst.{entries_append, targets_append}
 use Rattle.notes_lang.specs.declared.drafts.Draft.{Draft}
-use Rattle.notes_lang.specs.declared.notes.Function.{Function}
-use Rattle.notes_lang.specs.Drafting.{HasAddresses, HasTargets, IsDraft, place_list, note_line_of, assert_of, targets_of, fixed_of}
+use Rattle.notes_value.specs.declared.notes.Function.{Function}
+use Rattle.notes_lang.specs.declared.sayings.ContractLine.{ContractLine}
+use Rattle.notes_lang.specs.declared.sayings.ContractLine.TheVariants as contract
+use Rattle.notes_lang.specs.Saying.{contract_says}
+use Rattle.notes_lang.specs.Drafting.{HasAddresses, HasTargets, IsDraft, place_list}
+use Rattle.notes_value.specs.NoteViews.{note_line_of, assert_of, targets_of, fixed_of}
 
 requires_and : (n : ℕ) (xs : List Says) (y : Says) → requires_of n (xs ++ y ∷ []) ≡ requires_of n xs ++ requires_of (n + length xs) (y ∷ [])
 requires_and n [] y = ap (λ m. requires_of m (y ∷ [])) (let e : n ≡ n + 0 = omega arith in e)
@@ -37,6 +42,9 @@ asserts_and n [] y = ap (λ m. asserts_of m (y ∷ [])) (let e : n ≡ n + 0 = o
 asserts_and n (AssertIs a e ∷ xs) y =
     ap (λ l. record { line = n; at = a; says = e } ∷ l) (asserts_and (n + 1) xs y ∙ ap
     (λ m. asserts_of (n + 1) xs ++ asserts_of m (y ∷ [])) (let i : (n + 1) + length xs ≡ n + length (AssertIs a e ∷ xs) = omega arith in i))
+asserts_and n (InvariantIs a e ∷ xs) y =
+    ap (λ l. record { line = n; at = a; says = e } ∷ l) (asserts_and (n + 1) xs y ∙ ap
+    (λ m. asserts_of (n + 1) xs ++ asserts_of m (y ∷ [])) (let i : (n + 1) + length xs ≡ n + length (InvariantIs a e ∷ xs) = omega arith in i))
 asserts_and n (s ∷ xs) y =
     asserts_and (n + 1) xs y ∙ ap (λ m. asserts_of (n + 1) xs ++ asserts_of m (y ∷ [])) (let i : (n + 1) + length xs ≡ n + length (s ∷ xs) = omega arith in i)
 
@@ -45,6 +53,12 @@ fixed_and [] y = refl
 fixed_and (FixedIs low high ∷ xs) y = ap (λ l. record { low = low; high = high } ∷ l) (fixed_and xs y)
 fixed_and (LoadedIs ∷ xs) y = ap (λ l. record { low = 0; high = 2 ^ 32 - 1 } ∷ l) (fixed_and xs y)
 fixed_and (s ∷ xs) y = fixed_and xs y
+
+any_and : (p : Says → Bool) (xs : List Says) (y : Says) → list_any p (xs ++ y ∷ []) ≡ (list_any p xs || p y)
+any_and p xs y = list_any-append p xs (y ∷ []) ∙ ap (λ b. list_any p xs || b) (or_false (p y)) where
+  or_false : (b : Bool) → (b || false) ≡ b
+  or_false true = refl
+  or_false false = refl
 
 -- a list to which the line adds nothing, or one element
 pub same : {X Y : Type 0} (view : X → Y) (xs : List X) → map view xs ≡ map view xs ++ []
@@ -66,8 +80,9 @@ pub grows : (says : List Says) (s : Says) (d e : Draft) (line : ℕ) → line �
     map note_line_of e.ensured.items ≡ map note_line_of d.ensured.items ++ ensures_of line (s ∷ []) →
     map assert_of e.asserts.items ≡ map assert_of d.asserts.items ++ asserts_of line (s ∷ []) →
     map targets_of e.targets.items ≡ map targets_of d.targets.items ++ targets_in (s ∷ []) →
-    map fixed_of e.fixed.items ≡ map fixed_of d.fixed.items ++ fixed_in (s ∷ []) → HasAddresses e.targets.items e.addresses → IsDraft (says ++ s ∷ []) e
-grows says s d e line number p entry required ensured asserts targets fixed addresses = record {
+    map fixed_of e.fixed.items ≡ map fixed_of d.fixed.items ++ fixed_in (s ∷ []) → HasAddresses e.targets.items e.addresses →
+    e.is_of_entry ≡ (d.is_of_entry || is_of_entry s) → e.has_contract ≡ (d.has_contract || is_of_contract s) → IsDraft (says ++ s ∷ []) e
+grows says s d e line number p entry required ensured asserts targets fixed addresses of_entry contract = record {
   entry = entries_append says (s ∷ []) ∙ (ap (λ l. l ++ entries (s ∷ [])) p.entry ∙ sym entry);
   requires = numbered requires_of s says line _ (map note_line_of d.required.items) _ number (requires_and 1 says s) p.requires required;
   ensures = numbered ensures_of s says line _ (map note_line_of d.ensured.items) _ number (ensures_and 1 says s) p.ensures ensured;
@@ -75,7 +90,71 @@ grows says s d e line number p entry required ensured asserts targets fixed addr
   targets = targets_append says (s ∷ []) ∙ (ap (λ l. l ++ targets_in (s ∷ [])) p.targets ∙ sym targets);
   fixed = fixed_and says s ∙ (ap (λ l. l ++ fixed_in (s ∷ [])) p.fixed ∙ sym fixed);
   addresses = addresses;
+  of_entry = any_and is_of_entry says s ∙ (ap (λ b. b || is_of_entry s) p.of_entry ∙ sym of_entry);
+  contract = any_and is_of_contract says s ∙ (ap (λ b. b || is_of_contract s) p.contract ∙ sym contract);
 }
+
+-- what is known of the kinds of lines
+pub unchanged : (b : Bool) → b ≡ (b || false)
+unchanged true = refl
+unchanged false = refl
+
+pub is_so : (b : Bool) → true ≡ (b || true)
+is_so true = refl
+is_so false = refl
+
+-- a line of a contract is of no other kind
+pub contract_grows : (says : List Says) (a : ℕ) (l : ContractLine) (d e : Draft) (line : ℕ) → line ≡ length says + 1 → IsDraft says d →
+    e ≡ record d { has_contract = true } → IsDraft (says ++ contract_says a l ∷ []) e
+contract_grows says a l d e line number p is = subst (IsDraft (says ++ contract_says a l ∷ [])) (sym is) (by l) where
+  plain : (s : Says) → [] ≡ entries (s ∷ []) → [] ≡ requires_of line (s ∷ []) → [] ≡ ensures_of line (s ∷ []) → [] ≡ asserts_of line (s ∷ []) →
+      [] ≡ targets_in (s ∷ []) → [] ≡ fixed_in (s ∷ []) → false ≡ is_of_entry s → true ≡ is_of_contract s → IsDraft (says ++ s ∷ []) (record d { has_contract = true })
+  plain s entry required ensured asserts targets fixed of_entry contract =
+      grows says s d (record d { has_contract = true }) line number p (sym (append-nil (place_list d.entry)) ∙ ap (λ l. place_list d.entry ++ l) entry)
+      (same note_line_of d.required.items ∙ ap (λ l. map note_line_of d.required.items ++ l) required)
+      (same note_line_of d.ensured.items ∙ ap (λ l. map note_line_of d.ensured.items ++ l) ensured)
+      (same assert_of d.asserts.items ∙ ap (λ l. map assert_of d.asserts.items ++ l) asserts)
+      (same targets_of d.targets.items ∙ ap (λ l. map targets_of d.targets.items ++ l) targets)
+      (same fixed_of d.fixed.items ∙ ap (λ l. map fixed_of d.fixed.items ++ l) fixed) p.addresses
+      (unchanged d.is_of_entry ∙ ap (λ b. d.is_of_entry || b) of_entry) (is_so d.has_contract ∙ ap (λ b. d.has_contract || b) contract)
+
+  by : (l : ContractLine) → IsDraft (says ++ contract_says a l ∷ []) (record d { has_contract = true })
+  by (contract.Needs x) = plain _ refl refl refl refl refl refl refl refl
+  by (contract.Gives x) = plain _ refl refl refl refl refl refl refl refl
+  by (contract.Modifies cs) = plain _ refl refl refl refl refl refl refl refl
+  by (contract.Writes x n) = plain _ refl refl refl refl refl refl refl refl
+
+-- whether lines are mixed, by what is known of those so far
+pub mixed_by : (says : List Says) (s : Says) (d : Draft) (a b r : Bool) → IsDraft says d → a ≡ (d.has_contract || is_of_contract s) →
+    b ≡ (d.is_of_entry || is_of_entry s) → r ≡ (a && b) → r ≡ is_mixed (says ++ s ∷ [])
+mixed_by says s d a b r p a_is b_is is =
+    is ∙ (ap (λ a. a && b) (a_is ∙ (ap (λ c. c || is_of_contract s) (sym p.contract) ∙ sym (any_and is_of_contract says s)))
+    ∙ ap (λ b. list_any is_of_contract (says ++ s ∷ []) && b)
+    (b_is ∙ (ap (λ c. c || is_of_entry s) (sym p.of_entry) ∙ sym (any_and is_of_entry says s))))
+
+-- a number in place of the bound name is no value at entry
+put_old : (v : ℕ) (e : notes.Expr) → has_old (notes.put_bound v e) ≡ has_old e
+put_old v (notes.Number n) = refl
+put_old v (notes.Register n) = refl
+put_old v (notes.Flag f) = refl
+put_old v notes.Pc = refl
+put_old v notes.Bound = refl
+put_old v (notes.Memory n a) = put_old v a
+put_old v (notes.Old a) = refl
+put_old v (notes.Not a) = put_old v a
+put_old v (notes.Binary op a b) = ap (λ c. c || has_old (notes.put_bound v b)) (put_old v a) ∙ ap (λ c. has_old a || c) (put_old v b)
+
+each_old : (vs : List ℕ) (e : notes.Expr) (b : Bool) → has_old e ≡ b → b || has_old (notes.each (map (λ v. notes.put_bound v e) vs)) ≡ b
+each_old vs e true is = refl
+each_old [] e false is = refl
+each_old (v ∷ vs) e false is =
+    ap (λ c. c || has_old (notes.each (map (λ v. notes.put_bound v e) vs))) (put_old v e ∙ is) ∙ each_old vs e false is
+
+-- an `all` has a value at entry where its expression has
+pub all_old : (low high : ℕ) (e : notes.Expr) → has_old (notes.written_out low high e) ≡ has_old e
+all_old low high e =
+    ap (λ c. c || has_old (notes.each (map (λ v. notes.put_bound v e) (from_to (low + 1) (high - low))))) (put_old low e)
+    ∙ each_old (from_to (low + 1) (high - low)) e (has_old e) refl
 
 -- one more address
 at_either : (b c : Bool) → (if b then true else c) ≡ (c || (b || false))

@@ -1,28 +1,24 @@
 -- The least fault of a line, by the tests of its tokens.
-use Rattle.std.proofs.Common.{◌≡◌, ℕ, zero, suc, ◌<◌, ◌≤◌, ◌+◌, ◌^◌, refl, ap, sym, ◌∙◌, subst, arith, List, [], ◌∷◌, Option, Some, None, Bool, true, false, ◌||◌, min, inl, inr, length, map, count_by, All, Contains, lit≤, cond, ◌↔◌, IsTrue}
+use Rattle.std.proofs.Common.{◌≡◌, ℕ, zero, suc, ◌<◌, ◌≤◌, ◌+◌, ◌^◌, refl, ap, sym, ◌∙◌, subst, arith, List, [], ◌∷◌, ◌++◌, Option, Some, None, Result, Ok, Bool, true, false, ◌||◌, min, inl, inr, length, map, count_by, All, Contains, lit≤, cond, ◌↔◌, IsTrue}
 use Rattle.std.specs.List.{list_any, fold}
 use Rattle.bilv_spec.specs.Notes.{At, Named}
-use Rattle.bilv_spec.specs.Scopes.{Scope, Strict, lenient, loose}
+use Rattle.notes_spec.specs.Scopes.{Scope, Strict, lenient, loose}
 use Rattle.word_spec.specs.Tokens.{Token, NumberToken, NameToken, SignToken, BadByte, BadText, tokens_of}
-use Rattle.bilv_spec.specs.NotesGrammar.{IsGood, is_depth, line_limit, Says, Nothing, EntryIs, RequireIs, EnsureIs, AssertIs, TargetsAre, FixedIs, VersionIs, ConstIs, LoadedIs, IsSaid, IsLine, AreAligned, IsRange, IsVersion, IsNew}
-use Rattle.bilv_spec.specs.NotesFaults.{NoteFault, LimitFault, ByteFault, TokenFault, NumberFault, DepthFault, WordFault, SyntaxFault, NameFault, AlignFault, RangeFault, EntryFault, VersionFault, ConstFault, AllFault, note_fault_rank, BeginsBadly, Repeats, NoteFaultApplies}
+use Rattle.notes_spec.specs.NotesGrammar.{IsGood, is_depth, line_limit, Says, Nothing, EntryIs, RequireIs, EnsureIs, AssertIs, TargetsAre, FixedIs, VersionIs, ConstIs, LoadedIs, IsSaid, IsLine, AreAligned, IsRange, IsVersion, IsNew, IsAlone, is_mixed}
+use Rattle.notes_spec.specs.NotesFaults.{NoteFault, LimitFault, ByteFault, TokenFault, NumberFault, DepthFault, WordFault, SyntaxFault, NameFault, AlignFault, RangeFault, EntryFault, VersionFault, ConstFault, AllFault, MixedFault, PairFault, note_fault_rank, BeginsBadly, Repeats, NoteFaultApplies}
 use Rattle.bilv_spec.proofs.Decided.{Decided, is_less, neither}
-use Rattle.bilv_spec.proofs.NotesFirst.{begins_well, of_rank, ranked}
-use Rattle.bilv_spec.proofs.Modes.{said_loosely, strict_is_lenient, strict_number, strict_numbers}
-use Rattle.bilv_spec.proofs.NotesSaid.{one_saying}
+use Rattle.notes_spec.proofs.NotesFirst.{begins_well, of_rank, ranked}
+use Rattle.notes_spec.proofs.Modes.{said_loosely, strict_is_lenient, strict_number, strict_numbers}
+use Rattle.notes_spec.proofs.NotesSaid.{one_saying}
 use Rattle.line_tokens.specs.declared.lexer.Token as code
 use Rattle.line_tokens.specs.declared.lexer.Token.TheVariants.{Number, TooLarge, Name, Sign, BadByte as ABadByte, BadText as ABadText}
 use Rattle.line_tokens.specs.Tokens.{capped, token_of}
-use Rattle.notes_lang.specs.Judging.{is_bad_byte, is_bad_text, is_large, fault_of, IsTokenFault, IsOfForm, IsOwnFault, IsRefusal, IsLeast}
+use Rattle.notes_lang.specs.Judging.{is_bad_byte, is_bad_text, is_large, fault_of, Free, IsTokenFault, IsOfForm, IsOwnFault, IsRefusal, IsLeast, IsSound, IsJudged, IsLateFault, IsNext}
 use Rattle.notes_lang.specs.declared.faults.FaultKind.{FaultKind}
 use Rattle.notes_lang.specs.declared.faults.FaultKind.TheVariants as kind
 use Rattle.notes_lang.specs.declared.sayings.Says as code_says
 use Rattle.notes_lang.specs.Saying.{Tells, says_of}
 use Rattle.notes_lang.specs.Reading.{AreGood, tokens_view}
-
--- no fault of a rank below this one applies
-abbrev pub Free : (NoteFault → Type 0) → ℕ → Type 0
-Free P k = (g : NoteFault) → note_fault_rank g < k → P g → ⊥
 
 positive : (f : NoteFault) → 1 ≤ note_fault_rank f
 positive LimitFault = lit≤ tt
@@ -39,6 +35,8 @@ positive EntryFault = lit≤ tt
 positive VersionFault = lit≤ tt
 positive ConstFault = lit≤ tt
 positive AllFault = lit≤ tt
+positive MixedFault = lit≤ tt
+positive PairFault = lit≤ tt
 
 pub free_first : (P : NoteFault → Type 0) → Free P 1
 free_first P g less p = let q = positive g in omega (arith, less, q)
@@ -193,45 +191,22 @@ repeats_strictly : (s : Scope) → s.mode ≡ Strict → (ts : List Token) (earl
 repeats_strictly s strict ts earlier (EntryIs (At a)) (t, is, n) r = (t, is, strict_number s strict t a n)
 repeats_strictly s strict ts earlier (EntryIs (Named w)) is r = is
 repeats_strictly s strict ts earlier (TargetsAre a to) (t, us, is, n, ns, some) r = (t, us, is, strict_number s strict t a n, strict_numbers s strict us to ns, some)
-repeats_strictly s strict ts earlier Nothing is r = absurd r
-repeats_strictly s strict ts earlier (RequireIs e) is r = absurd r
-repeats_strictly s strict ts earlier (EnsureIs e) is r = absurd r
-repeats_strictly s strict ts earlier (AssertIs a e) is r = absurd r
-repeats_strictly s strict ts earlier (FixedIs low high) is r = absurd r
-repeats_strictly s strict ts earlier (VersionIs b) is r = absurd r
-repeats_strictly s strict ts earlier (ConstIs w v) is r = absurd r
-repeats_strictly s strict ts earlier LoadedIs is r = absurd r
+repeats_strictly s strict ts earlier x is r = absurd r
 
 -- what is of the version, or declares, repeats nothing
 version_new : (s : Scope) (earlier : List Says) (x : Says) → (IsVersion s x → ⊥) → Repeats earlier x → ⊥
 version_new s earlier (VersionIs b) other r = r
-version_new s earlier Nothing other r = other tt
-version_new s earlier (EntryIs e) other r = other tt
-version_new s earlier (RequireIs e) other r = other tt
-version_new s earlier (EnsureIs e) other r = other tt
-version_new s earlier (AssertIs a e) other r = other tt
-version_new s earlier (TargetsAre a to) other r = other tt
-version_new s earlier (FixedIs low high) other r = other tt
-version_new s earlier (ConstIs w v) other r = other tt
-version_new s earlier LoadedIs other r = other tt
+version_new s earlier x other r = other tt
 
 const_new : (s : Scope) (earlier : List Says) (x : Says) → (IsNew s x → ⊥) → Repeats earlier x → ⊥
 const_new s earlier (ConstIs w v) other r = r
-const_new s earlier (VersionIs b) other r = other tt
-const_new s earlier Nothing other r = other tt
-const_new s earlier (EntryIs e) other r = other tt
-const_new s earlier (RequireIs e) other r = other tt
-const_new s earlier (EnsureIs e) other r = other tt
-const_new s earlier (AssertIs a e) other r = other tt
-const_new s earlier (TargetsAre a to) other r = other tt
-const_new s earlier (FixedIs low high) other r = other tt
-const_new s earlier LoadedIs other r = other tt
+const_new s earlier x other r = other tt
 
 -- tokens that begin well and are read as if every word had a meaning
-pub form_of : (s t : Scope) (ts : List Token) (b : Bool) (o : Option code_says.Says) (x : code_says.Says) → (IsTrue b ↔ BeginsBadly s.is_second ts) → b ≡ false →
+pub form_of : (s t : Scope) (ts : List Token) (b : Bool) (o : Option code_says.Says) (x : code_says.Says) → (IsTrue b ↔ BeginsBadly s ts) → b ≡ false →
     t ≡ loose s → Tells says_of (IsSaid t ts) o → o ≡ Some x → IsOfForm s ts
 form_of s t ts b o x badly well t_is tells some =
-    (not_true b (BeginsBadly s.is_second ts) badly well, (says_of x, subst (λ s. IsSaid s ts (says_of x)) t_is (told t ts o x tells some)))
+    (not_true b (BeginsBadly s ts) badly well, (says_of x, subst (λ s. IsSaid s ts (says_of x)) t_is (told t ts o x tells some)))
 
 pub name_unknown : (s t : Scope) (ts : List Token) (o : Option code_says.Says) → t ≡ lenient s → Tells says_of (IsSaid t ts) o → o ≡ None → (x : Says) →
     IsSaid (lenient s) ts x → ⊥
@@ -258,6 +233,8 @@ refusal_of s ts form x said kind.Syntax f = absurd f
 refusal_of s ts form x said kind.Name f = absurd f
 refusal_of s ts form x said kind.Entry f = absurd f
 refusal_of s ts form x said kind.All f = absurd f
+refusal_of s ts form x said kind.Mixed f = absurd f
+refusal_of s ts form x said kind.Pair f = absurd f
 
 module _ (s : Scope) (strict : s.mode ≡ Strict) (n : ℕ) (earlier : List Says) (text : List ℕ) (us : List code.Token) (small : n ≤ line_limit s.is_second)
     (short : length text ≤ 1024) (is : tokens_view us ≡ map capped (tokens_of text)) where
@@ -309,12 +286,14 @@ module _ (s : Scope) (strict : s.mode ≡ Strict) (n : ℕ) (earlier : List Says
   token_faulty kind.Version p = absurd p
   token_faulty kind.Const p = absurd p
   token_faulty kind.All p = absurd p
+  token_faulty kind.Mixed p = absurd p
+  token_faulty kind.Pair p = absurd p
 
   ts_are : IsTokenFault s.is_second us None → tokens_view us ≡ tokens_of text
   ts_are p = same_view us (tokens_of text) (all_good us (sym p.0) (sym p.1) (sym p.2)) is
 
-  free_7 : IsTokenFault s.is_second us None → (BeginsBadly s.is_second (tokens_view us) → ⊥) → Free Applies 7
-  free_7 p word = free_next Applies WordFault (free_6 p) (λ bad. word (subst (BeginsBadly s.is_second) (sym (ts_are p)) bad))
+  free_7 : IsTokenFault s.is_second us None → (BeginsBadly s (tokens_view us) → ⊥) → Free Applies 7
+  free_7 p word = free_next Applies WordFault (free_6 p) (λ bad. word (subst (BeginsBadly s) (sym (ts_are p)) bad))
 
   free_8 : IsTokenFault s.is_second us None → IsOfForm s (tokens_view us) → Free Applies 8
   free_8 p form =
@@ -361,6 +340,8 @@ module _ (s : Scope) (strict : s.mode ≡ Strict) (n : ℕ) (earlier : List Says
     own_least kind.Name f = absurd f
     own_least kind.Entry f = absurd f
     own_least kind.All f = absurd f
+    own_least kind.Mixed f = absurd f
+    own_least kind.Pair f = absurd f
 
   lenient_here : IsTokenFault s.is_second us None → (x : Says) → IsSaid (lenient s) (tokens_view us) x → IsSaid (lenient s) (tokens_of text) x
   lenient_here p x said = subst (λ ts. IsSaid (lenient s) ts x) (ts_are p) said
@@ -368,7 +349,7 @@ module _ (s : Scope) (strict : s.mode ≡ Strict) (n : ℕ) (earlier : List Says
   -- why nothing is said
   pub refused : IsTokenFault s.is_second us None → ((x : Says) → IsSaid s (tokens_view us) x → ⊥) → (k : FaultKind) → IsRefusal s (tokens_view us) k →
       IsLeast Applies (fault_of k)
-  refused p nothing kind.Word r = (subst (BeginsBadly s.is_second) (ts_are p) r, free_6 p)
+  refused p nothing kind.Word r = (subst (BeginsBadly s) (ts_are p) r, free_6 p)
   refused p nothing kind.Syntax r = (λ x said. r.1 x (subst (λ ts. IsSaid (loose s) ts x) (sym (ts_are p)) said), free_7 p r.0)
   refused p nothing kind.Name r = (λ x said. r.1 x (subst (λ ts. IsSaid (lenient s) ts x) (sym (ts_are p)) said), free_8 p r.0)
   refused p nothing kind.Align r = own_least p r.0 r.1.0 (lenient_here p r.1.0 r.1.1) kind.Align r.1.2
@@ -386,6 +367,8 @@ module _ (s : Scope) (strict : s.mode ≡ Strict) (n : ℕ) (earlier : List Says
   refused p nothing kind.Number r = absurd r
   refused p nothing kind.Depth r = absurd r
   refused p nothing kind.Entry r = absurd r
+  refused p nothing kind.Mixed r = absurd r
+  refused p nothing kind.Pair r = absurd r
 
   -- tokens that say something are of the form
   of_form : (x : Says) → IsSaid s (tokens_view us) x → IsOfForm s (tokens_view us)
@@ -397,15 +380,84 @@ module _ (s : Scope) (strict : s.mode ≡ Strict) (n : ℕ) (earlier : List Says
   own_faulty p x said k f =
       own_least p (of_form x said) x (lenient_here p x (strict_is_lenient s (tokens_view us) x strict said)) k f
 
-  -- a line without a fault of its own
-  pub a_line : IsTokenFault s.is_second us None → (x : Says) → IsSaid s (tokens_view us) x → IsOwnFault s x None → IsLine s text x
-  a_line p x said own = record {
+  -- a line that says something without a fault of its own
+  pub before_entry : IsTokenFault s.is_second us None → (x : Says) → IsSaid s (tokens_view us) x → IsOwnFault s x None → Free Applies 11
+  before_entry p x said own =
+      free_11 p (of_form x said) x (lenient_here p x (strict_is_lenient s (tokens_view us) x strict said)) own.0 own.1
+
+  pub before_mixed : IsTokenFault s.is_second us None → (x : Says) → IsSaid s (tokens_view us) x → IsOwnFault s x None → (Repeats earlier x → ⊥) →
+      Free Applies 15
+  before_mixed p x said own new =
+      let here = lenient_here p x (strict_is_lenient s (tokens_view us) x strict said) in
+      free_next Applies AllFault (free_14 p (of_form x said) x here own.0 own.1 new own.2 own.3)
+      (λ nothing. nothing x (subst (λ ts. IsSaid s ts x) (ts_are p) said))
+
+  -- what it says, and that it is a line where it may stand in its text
+  pub said_here : IsTokenFault s.is_second us None → (x : Says) → IsSaid s (tokens_view us) x → IsSaid s (tokens_of text) x
+  said_here p x said = subst (λ ts. IsSaid s ts x) (ts_are p) said
+
+  pub a_line : IsTokenFault s.is_second us None → (x : Says) → IsSaid s (tokens_view us) x → IsOwnFault s x None → IsAlone s x → IsLine s text x
+  a_line p x said own alone = record {
     short = short;
     good = subst (λ ts. All IsGood ts) (ts_are p) (all_are us (all_good us (sym p.0) (sym p.1) (sym p.2)));
     depth = let same = count_same s.is_second us (tokens_of text) is in let le = p.3 in omega (arith, same, le);
-    said = subst (λ ts. IsSaid s ts x) (ts_are p) said;
+    said = said_here p x said;
     aligned = own.0;
     range = own.1;
     version = own.2;
     new = own.3;
+    alone = alone;
   }
+
+-- a line whose least fault, if it has one, is told by the lines before it, or by the kind of its text
+pub sound : (s : Scope) (strict : s.mode ≡ Strict) (n : ℕ) (text : List ℕ) (us : List code.Token) (small : n ≤ line_limit s.is_second)
+    (short : length text ≤ 1024) (is : tokens_view us ≡ map capped (tokens_of text)) → IsTokenFault s.is_second us None → (x : Says) →
+    IsSaid s (tokens_view us) x → IsOwnFault s x None → IsSound s n text x
+sound s strict n text us small short is p x said own = record {
+  line = a_line s strict n [] text us small short is p x said own;
+  said = said_here s strict n [] text us small short is p x said;
+  within = small;
+  before_entry = λ earlier. before_entry s strict n earlier text us small short is p x said own;
+  before_mixed = λ earlier. before_mixed s strict n earlier text us small short is p x said own;
+}
+
+-- the least fault of a line after others
+pub late_least : (s : Scope) (strict : s.mode ≡ Strict) (n : ℕ) (text : List ℕ) (earlier : List Says) (x : Says) → IsSound s n text x → (k : FaultKind) →
+    IsLateFault s earlier x (Some k) → IsLeast (NoteFaultApplies s n earlier text) (fault_of k)
+late_least s strict n text earlier x p kind.Entry f = ((x, strict_is_lenient s (tokens_of text) x strict p.said, f), p.before_entry earlier)
+late_least s strict n text earlier x p kind.Mixed f = ((x, p.said, f.1), p.before_mixed earlier f.0)
+late_least s strict n text earlier x p kind.Pair f = (
+  (x, p.said, f.2),
+  free_next (NoteFaultApplies s n earlier text) MixedFault (p.before_mixed earlier f.0)
+      (λ m. let same = one_saying s (tokens_of text) m.0 x m.1 p.said in
+      let mixed : is_mixed (earlier ++ x ∷ []) ≡ true = subst (λ y. is_mixed (earlier ++ y ∷ []) ≡ true) same m.2 in
+      let none = f.1 in let b : ⊥ = cc in b),
+)
+late_least s strict n text earlier x p kind.Limit f = absurd f
+late_least s strict n text earlier x p kind.Byte f = absurd f
+late_least s strict n text earlier x p kind.Token f = absurd f
+late_least s strict n text earlier x p kind.Number f = absurd f
+late_least s strict n text earlier x p kind.Depth f = absurd f
+late_least s strict n text earlier x p kind.Word f = absurd f
+late_least s strict n text earlier x p kind.Syntax f = absurd f
+late_least s strict n text earlier x p kind.Name f = absurd f
+late_least s strict n text earlier x p kind.Align f = absurd f
+late_least s strict n text earlier x p kind.Range f = absurd f
+late_least s strict n text earlier x p kind.Version f = absurd f
+late_least s strict n text earlier x p kind.Const f = absurd f
+late_least s strict n text earlier x p kind.All f = absurd f
+
+-- what is judged of a line, and what is found of it after others
+pub late_fault : (s : Scope) (strict : s.mode ≡ Strict) (n : ℕ) (text : List ℕ) (earlier : List Says) (r : Result code_says.Says FaultKind)
+    (x : code_says.Says) (o : Option FaultKind) (k : FaultKind) → IsJudged s n text r → r ≡ Ok x → IsLateFault s earlier (says_of x) o → o ≡ Some k →
+    IsLeast (NoteFaultApplies s n earlier text) (fault_of k)
+late_fault s strict n text earlier r x o k p ok late some =
+    late_least s strict n text earlier (says_of x) (subst (IsJudged s n text) ok p) k (subst (IsLateFault s earlier (says_of x)) some late)
+
+pub a_next : (s : Scope) (n : ℕ) (text : List ℕ) (earlier : List Says) (r : Result code_says.Says FaultKind)
+    (x : code_says.Says) (o : Option FaultKind) → IsJudged s n text r → r ≡ Ok x → IsLateFault s earlier (says_of x) o → o ≡ None →
+    IsNext s n text earlier (Ok x)
+a_next s n text earlier r x o p ok late none =
+    let sound : IsSound s n text (says_of x) = subst (IsJudged s n text) ok p in
+    let apart : IsLateFault s earlier (says_of x) None = subst (IsLateFault s earlier (says_of x)) none late in
+    (sound.line apart.2, sound.within, apart.0, apart.1)

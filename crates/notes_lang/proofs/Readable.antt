@@ -2,25 +2,26 @@
 use Rattle.std.proofs.Common.{◌≡◌, ℕ, zero, suc, ◌+◌, ◌<◌, ◌≤◌, ◌^◌, refl, ap, sym, subst, arith, List, [], ◌∷◌, ◌++◌, map, Option, Some, None, Bool, true, false, if◌then◌else◌, ◌&&◌, nat_le, bytes_eq, All, Contains, IsTrue, codes}
 use Rattle.std.specs.List.{list_all, list_any}
 use Rattle.std.proofs.lemmas.Bool.Decides.{nat_tests}
-use Rattle.std.proofs.lemmas.List.Elements.{All-nil, All-cons, All-tail}
+use Rattle.std.proofs.lemmas.List.Elements.{All-nil, All-cons, All-head, All-tail}
 use Rattle.word_spec.specs.Memory.{Little}
 use Rattle.bilv_spec.specs.Notes.{Expr, Number, Register, Flag, Pc, Bound, Memory, Old, Not, Binary, Notes, put_bound, each, values}
-use Rattle.bilv_spec.specs.Scopes.{Vocabulary, Scope, Mode, Strict, Lenient, Loose, Constant, begin, const_of, const_or, meaning, name_by, named, is_reserved, binding}
+use Rattle.notes_spec.specs.Scopes.{Vocabulary, Scope, Mode, Strict, Lenient, Loose, Constant, begin, const_of, const_or, meaning, name_by, named, is_reserved, binding}
 use Rattle.word_spec.specs.Tokens.{Token, NameToken, NumberToken, tokens_of}
-use Rattle.bilv_spec.specs.NotesGrammar.{load_words, IsGood, left_of, Parses, tighter, binary_of, not_of, number_of, name_of, memory_of, old_of, all_of, in_brackets, after, is_second, lines_of, Says, Nothing, EntryIs, RequireIs, EnsureIs, AssertIs, TargetsAre, FixedIs, VersionIs, ConstIs, LoadedIs, requires_of, ensures_of, asserts_of, IsSaid, AreLines, IsNotesText}
+use Rattle.notes_spec.specs.NotesGrammar.{load_words, IsGood, left_of, Parses, tighter, binary_of, not_of, number_of, name_of, memory_of, old_of, all_of, in_brackets, after, is_second, lines_of, Says, Nothing, RequireIs, EnsureIs, AssertIs, ConstIs, InvariantIs, NeedIs, GiveIs, WritesAre, IsAtAddress, requires_of, ensures_of, asserts_of, IsSaid, AreLines, IsNotesText}
 use Rattle.machine_spec.specs.RvMachine.{rv32}
 use Rattle.machine_spec.specs.Arm.{arm}
 use Rattle.word_spec.specs.Profiles.{V4}
-use Rattle.bilv_spec.specs.RvNames.{name_in, rv_table}
-use Rattle.bilv_spec.specs.ArmNames.{arm_table}
-use Rattle.bilv_spec.specs.NotesLaws.{IsOfWords}
+use Rattle.notes_spec.specs.RvNames.{name_in, rv_table}
+use Rattle.notes_spec.specs.ArmNames.{arm_table}
+use Rattle.notes_spec.specs.NotesLaws.{IsOfWords}
 use Rattle.bilv_spec.proofs.Decided.{none_some}
-use Rattle.bilv_spec.proofs.NotesTables.{of_each}
-use Rattle.bilv_spec.proofs.NotesNames.{machine_names_of_words}
-use Rattle.bilv_spec.proofs.NotesWords.{words_said}
+use Rattle.notes_spec.proofs.NotesTables.{of_each}
+use Rattle.notes_spec.proofs.NotesNames.{machine_names_of_words}
+use Rattle.notes_spec.proofs.NotesWords.{words_said}
 use Rattle.state_text.specs.declared.layout.Layout.{Layout}
 use Rattle.state_text.specs.declared.layout.Layout.TheVariants.{Rv32, Arm}
 use Rattle.notes_value.specs.Reads.{IsReadable, AreReadable, IsOver, AreOver}
+use Rattle.notes_lang.specs.declared.notes.Dialect.{Dialect}
 use Rattle.notes_lang.specs.Parsing.{layout_names, layout_vocabulary, layout_registers, layout_flags}
 
 -- a register or a flag of the machine, or what is no operator
@@ -185,6 +186,11 @@ small_and (d ∷ cs) w v small less c (zero, below, is) = small c (0, omega arit
 small_and (d ∷ cs) w v small less c (suc k, below, is) =
     small_and cs w v (λ e in_rest. small e (suc in_rest.0, omega (arith, in_rest.1), in_rest.2)) less c (k, omega (arith, below), is)
 
+-- what holds of all of a list holds of what it begins with
+all_before : (P : Token → Type 0) (us vs : List Token) → All P (us ++ vs) → All P us
+all_before P [] vs all = All-nil P
+all_before P (u ∷ us) vs all = All-cons P u us (All-head P u (us ++ vs) all) (all_before P us vs (All-tail P u (us ++ vs) all))
+
 -- a number among good tokens
 good_number : (w : List ℕ) (v : ℕ) (ts : List Token) → ts ≡ NameToken (codes "const") ∷ NameToken w ∷ NumberToken v ∷ [] → All IsGood ts → v < 2 ^ 32
 good_number w v ts is good = let g : All IsGood (NameToken (codes "const") ∷ NameToken w ∷ NumberToken v ∷ []) = subst (All IsGood) is good in g 2 (NumberToken v) (omega arith)
@@ -196,42 +202,41 @@ module _ (Claim : Expr → Type 0) (words : Vocabulary) (each : (s : Scope) → 
   HoldsOfSaid (RequireIs e) = Claim e
   HoldsOfSaid (EnsureIs e) = Claim e
   HoldsOfSaid (AssertIs a e) = Claim e
+  HoldsOfSaid (InvariantIs a e) = Claim e
+  HoldsOfSaid (NeedIs a e) = Claim e
+  HoldsOfSaid (GiveIs a e) = Claim e
+  HoldsOfSaid (WritesAre a e n) = Claim e
   HoldsOfSaid _ = Unit {0}
 
   abbrev HoldsOfAll : List Says → Type 0
   HoldsOfAll [] = Unit {0}
   HoldsOfAll (s ∷ says) = HoldsOfSaid s × HoldsOfAll says
 
+  at_address : (s : Scope) → s.names ≡ words.names → SmallConsts s.consts → (ts : List Token) (w : List ℕ) (a : ℕ) (e : Expr) → All IsGood ts →
+      IsAtAddress s w ts a e → Claim e
+  at_address s same small ts w a e good (t, rest, is, n, p) =
+      each s same small 1 rest e (All-tail IsGood t rest (All-tail IsGood (NameToken w) (t ∷ rest) (subst (All IsGood) is good))) p
+
   said : (s : Scope) → s.names ≡ words.names → SmallConsts s.consts → (ts : List Token) (x : Says) → All IsGood ts → IsSaid s ts x → HoldsOfSaid x
   said s same small ts (RequireIs e) good p = each s same small 1 p.0 e (All-tail IsGood _ p.0 (subst (All IsGood) p.1 good)) p.2
   said s same small ts (EnsureIs e) good p = each s same small 1 p.0 e (All-tail IsGood _ p.0 (subst (All IsGood) p.1 good)) p.2
-  said s same small ts (AssertIs a e) good (t, rest, is, n, p) =
-      each s same small 1 rest e (All-tail IsGood t rest (All-tail IsGood (NameToken (codes "assert")) (t ∷ rest) (subst (All IsGood) is good))) p
+  said s same small ts (AssertIs a e) good p = at_address s same small ts (codes "assert") a e good p
+  said s same small ts (InvariantIs a e) good p = at_address s same small ts (codes "invariant") a e good p.0
+  said s same small ts (NeedIs a e) good p = at_address s same small ts (codes "needs") a e good p.0
+  said s same small ts (GiveIs a e) good p = at_address s same small ts (codes "gives") a e good p.0
+  said s same small ts (WritesAre a e n) good (t, u, us, is, m, p, k, may) =
+      each s same small 1 us e (all_before IsGood us (u ∷ []) (All-tail IsGood t (us ++ u ∷ [])
+      (All-tail IsGood (NameToken (codes "writes")) (t ∷ us ++ u ∷ []) (subst (All IsGood) is good)))) p
   said s same small ts x good p = tt
 
   still : (s : Scope) (x : Says) → s.names ≡ words.names → (after s x).names ≡ words.names
   still s Nothing same = same
-  still s (EntryIs e) same = same
-  still s (RequireIs e) same = same
-  still s (EnsureIs e) same = same
-  still s (AssertIs a e) same = same
-  still s (TargetsAre a to) same = same
-  still s (FixedIs low high) same = same
-  still s (VersionIs b) same = same
-  still s (ConstIs w v) same = same
-  still s LoadedIs same = same
+  still s x same = same
 
   still_small : (s : Scope) (ts : List Token) (x : Says) → All IsGood ts → IsSaid s ts x → SmallConsts s.consts → SmallConsts (after s x).consts
   still_small s ts (ConstIs w v) good p small = small_and s.consts w v small (good_number w v ts p.0 good)
   still_small s ts Nothing good p small = small
-  still_small s ts (EntryIs e) good p small = small
-  still_small s ts (RequireIs e) good p small = small
-  still_small s ts (EnsureIs e) good p small = small
-  still_small s ts (AssertIs a e) good p small = small
-  still_small s ts (TargetsAre a to) good p small = small
-  still_small s ts (FixedIs low high) good p small = small
-  still_small s ts (VersionIs b) good p small = small
-  still_small s ts LoadedIs good p small = small
+  still_small s ts x good p small = small
 
   lines : (s : Scope) → s.names ≡ words.names → SmallConsts s.consts → (texts : List (List ℕ)) (says : List Says) → AreLines s texts says → HoldsOfAll says
   lines s same small [] [] p = tt
@@ -256,6 +261,8 @@ module _ (Claim : Expr → Type 0) (words : Vocabulary) (each : (s : Scope) → 
   asserted n [] p = All-nil (λ l. Claim l.says)
   asserted n (AssertIs a e ∷ says) p = All-cons (λ l. Claim l.says) (record { line = n; at = a; says = e }) (asserts_of (n + 1) says) p.0
       (asserted (n + 1) says p.1)
+  asserted n (InvariantIs a e ∷ says) p = All-cons (λ l. Claim l.says) (record { line = n; at = a; says = e }) (asserts_of (n + 1) says) p.0
+      (asserted (n + 1) says p.1)
   asserted n (s ∷ says) p = asserted (n + 1) says p.1
 
   record Claimed (n : Notes) : Type 0 where
@@ -279,17 +286,18 @@ scope_words : (layout : Layout) (s : Scope) → s.names ≡ layout_names layout 
 scope_words layout s same = subst (λ names. (w : List ℕ) (e : Expr) → names w ≡ Some e → IsOfWords e) (sym same) (layout_words layout)
 
 -- notes for a layout
-pub notes_readable : (layout : Layout) (text : List ℕ) (n : Notes) → IsNotesText (layout_vocabulary layout) text n → AreReadable (layout_registers layout) n
-notes_readable layout text n p =
-    let c = claimed (IsReadable (layout_registers layout)) (layout_vocabulary layout)
+pub notes_readable : (layout : Layout) (dialect : Dialect) (text : List ℕ) (n : Notes) → IsNotesText (layout_vocabulary layout dialect) text n →
+    AreReadable (layout_registers layout) n
+notes_readable layout dialect text n p =
+    let c = claimed (IsReadable (layout_registers layout)) (layout_vocabulary layout dialect)
     (λ s same small l ts e good q. readable (layout_registers layout) (layout_flags layout) (layout_few layout) e
     (parts (layout_registers layout) (layout_flags layout) s (scope_reads layout s same) l ts e q)) text n p in
     record { requires = c.requires; ensures = c.ensures; asserts = c.asserts }
 
-pub notes_over : (layout : Layout) (text : List ℕ) (n : Notes) → IsNotesText (layout_vocabulary layout) text n →
+pub notes_over : (layout : Layout) (dialect : Dialect) (text : List ℕ) (n : Notes) → IsNotesText (layout_vocabulary layout dialect) text n →
     AreOver (layout_registers layout) (layout_flags layout) n
-notes_over layout text n p =
-    let c = claimed (IsOver (layout_registers layout) (layout_flags layout)) (layout_vocabulary layout)
+notes_over layout dialect text n p =
+    let c = claimed (IsOver (layout_registers layout) (layout_flags layout)) (layout_vocabulary layout dialect)
     (λ s same small l ts e good q. over (layout_registers layout) (layout_flags layout) e
     (parts (layout_registers layout) (layout_flags layout) s (scope_reads layout s same) l ts e q)
     (words_said s (scope_words layout s same) small l ts e good q)) text n p in

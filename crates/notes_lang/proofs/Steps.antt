@@ -2,10 +2,10 @@
 use Rattle.std.proofs.Common.{◌≡◌, ◌≢◌, ℕ, suc, ◌<◌, ◌≤◌, ◌+◌, max, refl, ap, sym, ◌∙◌, subst, arith, List, [], ◌∷◌, Option, Some, None, Bool, true, false, if◌then◌else◌, codes, bytes_eq, length, drop, nat_lt, ◌==◌, ◌++◌, map}
 use Rattle.bilv_spec.specs.Notes.{Op, Expr, Memory, Old, Binary, written_out}
 use Rattle.word_spec.specs.Tokens.{Token, NameToken, SignToken}
-use Rattle.bilv_spec.specs.NotesGrammar.{number_at}
-use Rattle.bilv_spec.specs.Scopes.{Scope, binding, may_bind}
-use Rattle.bilv_spec.proofs.NotesTables.{is_false, same_token, same_token_is, size_of}
-use Rattle.bilv_spec.proofs.NotesParser.{Task, Level, Behind, Read, Fails, Reads, then_read, opened_if, opened, all_at, all_with, all_if, word_at, atom_at, negated_at, Sort, Negation, Tightest, Chains, NoLevel, sort, level_at, again, behind_by, work, Ends, by_step}
+use Rattle.notes_spec.specs.NotesGrammar.{number_at}
+use Rattle.notes_spec.specs.Scopes.{Scope, binding, may_bind}
+use Rattle.notes_spec.proofs.NotesTables.{is_false, same_token, same_token_is, size_of}
+use Rattle.notes_spec.proofs.NotesParser.{Task, Level, Behind, Read, Fails, Reads, then_read, opened_if, opened, all_at, all_with, all_if, word_at, atom_at, negated_at, Sort, Negation, Tightest, Chains, NoLevel, sort, level_at, again, behind_by, work, Ends, by_step}
 use Rattle.line_tokens.specs.declared.lexer.Token as code
 use Rattle.line_tokens.specs.Tokens.{token_of}
 use Rattle.notes_lang.specs.declared.parser.Reading.{Reading}

@@ -1,7 +1,7 @@
 -- Tables of names, row by row.
 use Rattle.std.proofs.Common.{◌≡◌, ℕ, zero, suc, ◌<◌, ◌≤◌, ◌+◌, refl, arith, List, [], ◌∷◌, Some, None, if◌then◌else◌, map, drop, length, get_or, bytes_eq, add-one, drop-cons}
 use Rattle.std.specs.Borrow.{Bor}
-use Rattle.bilv_spec.specs.RvNames.{name_in}
+use Rattle.notes_spec.specs.RvNames.{name_in}
 use Rattle.notes_lang.specs.declared.names.Meaning.{Meaning}
 use Rattle.notes_lang.specs.Named.{meaning_of, named_of}
 

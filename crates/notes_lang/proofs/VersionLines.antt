@@ -1,8 +1,8 @@
 -- The version of a text, line by line.
 use Rattle.std.proofs.Common.{◌≡◌, ℕ, refl, ap, sym, ◌∙◌, subst, arith, List, [], ◌∷◌, Option, Some, None, Bool, ◌&&◌, ◌==◌, min, ◌^◌, map, bytes_eq, codes}
 use Rattle.word_spec.specs.Tokens.{Token, NumberToken, NameToken, SignToken, BadByte, BadText, tokens_of}
-use Rattle.bilv_spec.specs.NotesGrammar.{is_two, version_line, is_second, lines_of}
-use Rattle.bilv_spec.proofs.NotesTables.{same_token}
+use Rattle.notes_spec.specs.NotesGrammar.{is_two, version_line, is_second, lines_of}
+use Rattle.notes_spec.proofs.NotesTables.{same_token}
 use Rattle.line_tokens.specs.Tokens.{capped}
 use Rattle.notes_lang.specs.Version.{IsVersionOf}
 

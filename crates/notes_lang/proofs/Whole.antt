@@ -2,12 +2,12 @@
 use Rattle.std.proofs.Common.{◌≡◌, ℕ, ◌<◌, refl, ap, sym, ◌∙◌, subst, arith, List, [], ◌∷◌, Option, Some, None, Bool, true, false, length, ◌==◌}
 use Rattle.bilv_spec.specs.Notes.{Expr}
 use Rattle.word_spec.specs.Tokens.{Token}
-use Rattle.bilv_spec.specs.NotesGrammar.{Parses}
-use Rattle.bilv_spec.specs.Scopes.{Scope}
+use Rattle.notes_spec.specs.NotesGrammar.{Parses}
+use Rattle.notes_spec.specs.Scopes.{Scope}
 use Rattle.bilv_spec.proofs.Decided.{none_some}
-use Rattle.bilv_spec.proofs.NotesParser.{Level, Read, Fails, Reads, Ends, all_read, is_ready}
-use Rattle.bilv_spec.proofs.ParserFinds.{reads_all}
-use Rattle.bilv_spec.proofs.ParserEnds.{by_reading}
+use Rattle.notes_spec.proofs.NotesParser.{Level, Read, Fails, Reads, Ends, all_read, is_ready}
+use Rattle.notes_spec.proofs.ParserFinds.{reads_all}
+use Rattle.notes_spec.proofs.ParserEnds.{by_reading}
 use Rattle.line_tokens.specs.declared.lexer.Token as code
 use Rattle.notes_lang.specs.declared.parser.Reading.{Reading}
 use Rattle.notes_value.specs.Views.{expr_of}

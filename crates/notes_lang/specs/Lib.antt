@@ -1,6 +1,7 @@
 pub mod Named
 pub mod Scoping
 pub mod Reading
+pub mod Wording
 pub mod Saying
 pub mod Lines
 pub mod Judging

@@ -2,21 +2,23 @@
 use Rattle.std.specs.Prelude.{ℕ, Bool, ◌≡◌, ◌+◌, List, [], ◌++◌, Option, Result, Ok, Err, length}
 use Rattle.word_spec.specs.Memory.{endian}
 use Rattle.bilv_spec.specs.Notes.{Expr}
-use Rattle.bilv_spec.specs.NotesGrammar.{lines_of, Says, after_all}
-use Rattle.bilv_spec.specs.Scopes.{Vocabulary, Scope, Constant, Strict}
-use Rattle.bilv_spec.specs.NotesFaults.{AreGood, IsFirstNoteFault, begin_of}
+use Rattle.notes_spec.specs.NotesGrammar.{lines_of, Says, after_all}
+use Rattle.notes_spec.specs.Scopes.{Vocabulary, Scope, Constant, Strict}
+use Rattle.notes_spec.specs.NotesFaults.{AreGood, IsFirstNoteFault, begin_of}
 use Rattle.machine_spec.specs.RvMachine.{rv32}
 use Rattle.machine_spec.specs.Arm.{arm}
-use Rattle.bilv_spec.specs.RvNames.{rv_names}
-use Rattle.bilv_spec.specs.ArmNames.{arm_names}
+use Rattle.notes_spec.specs.RvNames.{rv_names}
+use Rattle.notes_spec.specs.ArmNames.{arm_names}
 use Rattle.state_text.specs.declared.layout.Layout.{Layout}
 use Rattle.state_text.specs.declared.layout.Layout.TheVariants.{Rv32, Arm}
 use Rattle.state_text.specs.Starts.{profile_in}
 use Rattle.notes_lang.specs.declared.drafts.Draft.{Draft}
+use Rattle.notes_lang.specs.declared.notes.Dialect.{Dialect}
 use Rattle.notes_lang.specs.declared.notes_text.NoteFault.{NoteFault}
 use Rattle.notes_lang.specs.declared.notes_text.NotesError.{NotesError}
 use Rattle.notes_lang.specs.declared.notes_text.NotesError.TheVariants.{Fault, Memory}
 use Rattle.notes_lang.specs.Judging.{fault_of}
+use Rattle.notes_lang.specs.Named.{dialect_of}
 use Rattle.notes_lang.specs.Drafting.{IsDraft}
 
 -- the names of a machine's registers and flags
@@ -29,9 +31,9 @@ abbrev pub layout_narrow : Layout → Bool
 layout_narrow (Rv32 compressed) = (rv32 compressed).narrow
 layout_narrow (Arm big profile) = (arm (endian big) (profile_in profile)).narrow
 
--- its vocabulary
-abbrev pub layout_vocabulary : Layout → Vocabulary
-layout_vocabulary layout = record { names = layout_names layout; narrow = layout_narrow layout }
+-- its vocabulary in a dialect
+abbrev pub layout_vocabulary : Layout → Dialect → Vocabulary
+layout_vocabulary layout dialect = record { names = layout_names layout; narrow = layout_narrow layout; dialect = dialect_of dialect }
 
 -- the registers that it has
 abbrev pub layout_registers : Layout → ℕ → Bool
@@ -65,7 +67,7 @@ pub record IsSoFar (v : Vocabulary) (text rest : List ℕ) (line : ℕ) (draft :
 -- what words mean at a line, by the constants so far
 abbrev pub scope_at : Vocabulary → List Constant → (is_second is_first : Bool) → Scope
 scope_at v consts is_second is_first =
-    record { names = v.names; narrow = v.narrow; consts = consts; bound = []; is_second = is_second; is_first = is_first; mode = Strict }
+    record { names = v.names; narrow = v.narrow; dialect = v.dialect; consts = consts; bound = []; is_second = is_second; is_first = is_first; mode = Strict }
 
 -- why notes were not read: the first fault of the text, or want of memory, of which nothing is said
 abbrev pub IsRefused : Vocabulary → List ℕ → NotesError → Type 0

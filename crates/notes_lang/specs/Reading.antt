@@ -2,12 +2,12 @@
 use Rattle.std.specs.Prelude.{ℕ, ◌<◌, ◌≤◌, ◌≡◌, Bool, true, false, List, [], ◌∷◌, map, length, Option, Some, None, ◌&&◌, codes}
 use Rattle.std.specs.Str.{bytes_eq}
 use Rattle.bilv_spec.specs.Notes as notes
-use Rattle.bilv_spec.specs.NotesGrammar as grammar
+use Rattle.notes_spec.specs.NotesGrammar as grammar
 use Rattle.word_spec.specs.Tokens as tokens
-use Rattle.bilv_spec.specs.NotesGrammar.{IsGood, operators}
-use Rattle.bilv_spec.proofs.NotesTables.{line_of, same_token}
-use Rattle.bilv_spec.specs.Scopes.{Scope, binding, may_bind}
-use Rattle.bilv_spec.proofs.NotesParser.{Task, Read, Fails, Reads, of_level, opened_if, all_at, work}
+use Rattle.notes_spec.specs.NotesGrammar.{IsGood, operators}
+use Rattle.notes_spec.proofs.NotesTables.{line_of, same_token}
+use Rattle.notes_spec.specs.Scopes.{Scope, binding, may_bind}
+use Rattle.notes_spec.proofs.NotesParser.{Task, Read, Fails, Reads, of_level, opened_if, all_at, work}
 use Rattle.line_tokens.specs.declared.lexer.Token.{Token}
 use Rattle.line_tokens.specs.Tokens.{token_of}
 use Rattle.notes_value.specs.Views.{bytes_of, expr_of}

@@ -1,26 +1,28 @@
 -- What is said, as definitions see it.
-use Rattle.std.specs.Prelude.{ℕ, ◌≡◌, Bool, true, false, List, [], ◌∷◌, ◌++◌, Option, Some, None, codes}
-use Rattle.bilv_spec.specs.Scopes.{Scope, Constant}
+use Rattle.std.specs.Prelude.{ℕ, ◌≡◌, Bool, true, false, List, [], ◌∷◌, ◌++◌, Option, Some, None, map}
+use Rattle.notes_spec.specs.Scopes.{Scope, Constant}
 use Rattle.bilv_spec.specs.Notes as notes
-use Rattle.bilv_spec.specs.NotesGrammar as grammar
+use Rattle.notes_spec.specs.NotesGrammar as grammar
 use Rattle.word_spec.specs.Tokens as tokens
 use Rattle.notes_value.specs.Views.{expr_of}
-use Rattle.notes_lang.specs.declared.notes.Function.{Function}
-use Rattle.notes_lang.specs.declared.notes.Function.TheVariants.{At, Named}
+use Rattle.notes_value.specs.NoteViews.{function_of}
 use Rattle.notes_lang.specs.declared.sayings.Says.{Says}
-use Rattle.notes_lang.specs.declared.sayings.Says.TheVariants.{Nothing, Entry, Require, Ensure, Assert, Targets, Fixed, Version, Const, Loaded}
-use Rattle.notes_lang.specs.declared.sayings.LineWord.{LineWord}
-use Rattle.notes_lang.specs.declared.sayings.LineWord.TheVariants as word
+use Rattle.notes_lang.specs.declared.sayings.Says.TheVariants.{Nothing, Entry, Require, Ensure, Assert, Targets, Fixed, Version, Const, Loaded, Invariant, Contract}
+use Rattle.notes_lang.specs.declared.sayings.ContractLine.{ContractLine}
+use Rattle.notes_lang.specs.declared.sayings.ContractLine.TheVariants as contract
+use Rattle.notes_lang.specs.Scoping.{changed_of}
 
 -- an answer that tells whether there is something of a kind, and which
 abbrev pub Tells : {X Y : Type 0} → (X → Y) → (Y → Type 0) → Option X → Type 0
 Tells {X} {Y} view P None = (y : Y) → P y → ⊥
 Tells view P (Some x) = P (view x)
 
--- where the function begins
-abbrev pub function_of : Function → notes.Function
-function_of (At a) = notes.At a
-function_of (Named w) = notes.Named w.items
+-- what a line says of the contract of an address
+abbrev pub contract_says : ℕ → ContractLine → grammar.Says
+contract_says a (contract.Needs e) = grammar.NeedIs a (expr_of e)
+contract_says a (contract.Gives e) = grammar.GiveIs a (expr_of e)
+contract_says a (contract.Modifies changes) = grammar.ModifiesAre a (map changed_of changes.items)
+contract_says a (contract.Writes e n) = grammar.WritesAre a (expr_of e) n
 
 -- what a line says
 abbrev pub says_of : Says → grammar.Says
@@ -34,19 +36,8 @@ says_of (Fixed low high) = grammar.FixedIs low high
 says_of (Version b) = grammar.VersionIs b
 says_of (Const w v) = grammar.ConstIs w.now v
 says_of Loaded = grammar.LoadedIs
-
--- the text of a word that begins lines
-abbrev pub word_text : LineWord → List ℕ
-word_text word.Entry = codes "entry"
-word_text word.Function = codes "function"
-word_text word.Require = codes "require"
-word_text word.Ensure = codes "ensure"
-word_text word.Assert = codes "assert"
-word_text word.Targets = codes "targets"
-word_text word.Fixed = codes "fixed"
-word_text word.Notes = codes "notes"
-word_text word.Const = codes "const"
-word_text word.Loaded = codes "loaded"
+says_of (Invariant a e) = grammar.InvariantIs a (expr_of e)
+says_of (Contract a line) = contract_says a line
 
 -- tokens begin with a number, and these are behind it
 abbrev pub BeginsWith : Scope → List tokens.Token → ℕ × List tokens.Token → Type 0
@@ -55,6 +46,14 @@ BeginsWith s ts p = (t : tokens.Token) × (ts ≡ t ∷ p.1) × grammar.IsNumber
 -- a number is all of the tokens
 abbrev pub IsOne : Scope → List tokens.Token → ℕ → Type 0
 IsOne s ts n = (t : tokens.Token) × (ts ≡ t ∷ []) × grammar.IsNumber s t n
+
+-- an address, and the expression that the tokens behind it are
+abbrev pub IsAddressed : Scope → List tokens.Token → ℕ × notes.Expr → Type 0
+IsAddressed s ts p = (t : tokens.Token) × (rest : List tokens.Token) × (ts ≡ t ∷ rest) × grammar.IsNumber s t p.0 × grammar.Parses s 1 rest p.1
+
+-- an expression, and the number behind it with which the tokens end
+abbrev pub IsCounted : Scope → List tokens.Token → notes.Expr × ℕ → Type 0
+IsCounted s ts p = (us : List tokens.Token) × (u : tokens.Token) × (ts ≡ us ++ u ∷ []) × grammar.Parses s 1 us p.0 × grammar.IsNumber s u p.1
 
 -- a line says something
 abbrev pub is_something : grammar.Says → Bool

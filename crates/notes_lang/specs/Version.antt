@@ -1,7 +1,7 @@
 -- The version that a line tells.
 use Rattle.std.specs.Prelude.{◌≡◌, Bool, List, [], Option, Some, None}
 use Rattle.word_spec.specs.Tokens.{Token}
-use Rattle.bilv_spec.specs.NotesGrammar.{version_line}
+use Rattle.notes_spec.specs.NotesGrammar.{version_line}
 
 -- what the first line with tokens tells of the version, whatever is behind it; or the line has none
 abbrev pub IsVersionOf : List Token → Option Bool → Type 0

@@ -1,12 +1,18 @@
 //! Notes as far as their lines were read.
 ghost use Rattle.std.specs.Prelude.{◌≡◌, ◌+◌, ◌++◌, ◌∷◌, ◌↔◌, [], List, length, OnOk, IsTrue};
-ghost use Rattle.bilv_spec.specs.NotesGrammar as grammar;
-ghost use Rattle.bilv_spec.specs.NotesFaults.{Repeats};
+ghost use Rattle.notes_spec.specs.NotesGrammar as grammar;
+ghost use Rattle.notes_spec.specs.NotesFaults.{Repeats};
 ghost use Rattle.notes_lang.specs.Saying.{says_of};
+ghost use Rattle.notes_value.specs.Views.{expr_of};
 ghost use Rattle.notes_lang.specs.Drafting.{HasTargets, IsDraft};
+ghost use Rattle.notes_lang.specs.Judging.{IsLateFault};
+ghost use Rattle.notes_lang.specs.Scoping.{scope_of};
 
+use crate::faults::{FaultKind, is_alone};
 use crate::notes::{Assert, FixedRange, Function, NoteLine, Targets};
 use crate::sayings::Says;
+use crate::scopes::Scope;
+use notes_value::Expr;
 use std::alloc::{AllocError, Global};
 use std::collections::BTreeSet;
 
@@ -21,6 +27,45 @@ pub(crate) struct Draft {
     pub(crate) fixed: Vec<FixedRange>,
     /// The addresses of the targets.
     pub(crate) addresses: BTreeSet<u32>,
+    /// Some line is an invariant, or an `assert` line with a value at entry.
+    pub(crate) is_of_entry: bool,
+    /// Some line is of a contract.
+    pub(crate) has_contract: bool,
+}
+
+/// Whether an expression has a value at entry.
+fn has_old(expr: &Expr) -> bool
+    ensures { result ≡ grammar.has_old (expr_of expr.now) }
+{
+    match expr {
+        Expr::Memory(_, a) => has_old(a),
+        Expr::Old(_) => true,
+        Expr::Not(a) => has_old(a),
+        Expr::Binary(_, a, b) => has_old(a) || has_old(b),
+        Expr::All(_, _, a) => has_old(a),
+        _ => false,
+    }
+}
+
+/// Whether a line is an invariant, or an `assert` line with a value at entry.
+fn is_of_entry(says: &Says) -> bool
+    ensures { result ≡ grammar.is_of_entry (says_of says.now) }
+{
+    match says {
+        Says::Invariant(_, _) => true,
+        Says::Assert(_, says) => has_old(says),
+        _ => false,
+    }
+}
+
+/// Whether a line is of a contract.
+fn is_of_contract(says: &Says) -> bool
+    ensures { result ≡ grammar.is_of_contract (says_of says.now) }
+{
+    match says {
+        Says::Contract(_, _) => true,
+        _ => false,
+    }
 }
 
 impl Draft {
@@ -36,6 +81,8 @@ impl Draft {
             targets: Vec::new(alloc),
             fixed: Vec::new(alloc),
             addresses: BTreeSet::new(alloc),
+            is_of_entry: false,
+            has_contract: false,
         }
     }
 
@@ -47,7 +94,7 @@ impl Draft {
     }
 
     /// Whether a line repeats what the lines so far said: the function's place, or the targets of an address.
-    pub(crate) fn repeats(&self, says: &Says) -> bool
+    fn repeats(&self, says: &Says) -> bool
         ensures { (earlier : List grammar.Says) → IsDraft earlier self.now → IsTrue result ↔ Repeats earlier (says_of says.now) }
     {
         match says {
@@ -55,6 +102,31 @@ impl Draft {
             Says::Targets(at, _) => self.has_targets(*at),
             _ => false,
         }
+    }
+
+    /// Whether a line and the lines so far are of contracts and speak of the entry.
+    fn mixes(&self, says: &Says) -> bool
+        ensures { (earlier : List grammar.Says) → IsDraft earlier self.now → result ≡ grammar.is_mixed (earlier ++ says_of says.now ∷ []) }
+    {
+        let has_contract = self.has_contract | is_of_contract(says);
+        let is_of_entry = self.is_of_entry | is_of_entry(says);
+        has_contract && is_of_entry
+    }
+
+    /// The least fault of a line that has none of its own, by the lines so far and the kind of its text.
+    pub(crate) fn fault(&self, scope: Scope, says: &Says) -> Option<FaultKind>
+        ensures { (earlier : List grammar.Says) → IsDraft earlier self.now → IsLateFault (scope_of scope.entry) earlier (says_of says.now) result }
+    {
+        if self.repeats(says) {
+            return Some(FaultKind::Entry);
+        }
+        if self.mixes(says) {
+            return Some(FaultKind::Mixed);
+        }
+        if !is_alone(scope, says) {
+            return Some(FaultKind::Pair);
+        }
+        None
     }
 
     /// Adds what one more line says, by its number. The error is want of memory.
@@ -67,7 +139,10 @@ impl Draft {
             Says::Entry(function) => self.entry = Some(function),
             Says::Require(says) => self.required.push(NoteLine { line, says })?,
             Says::Ensure(says) => self.ensured.push(NoteLine { line, says })?,
-            Says::Assert(at, says) => self.asserts.push(Assert { line, at, says })?,
+            Says::Assert(at, says) => {
+                self.is_of_entry |= has_old(&says);
+                self.asserts.push(Assert { line, at, says })?;
+            }
             Says::Targets(at, to) => {
                 self.targets.push(Targets { at, to })?;
                 self.addresses.insert(at)?;
@@ -79,6 +154,11 @@ impl Draft {
             })?,
             Says::Version(_) => {}
             Says::Const(_, _) => {}
+            Says::Invariant(at, says) => {
+                self.is_of_entry = true;
+                self.asserts.push(Assert { line, at, says })?;
+            }
+            Says::Contract(_, _line) => self.has_contract = true,
         }
         Ok(())
     }

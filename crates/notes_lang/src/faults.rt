@@ -1,21 +1,24 @@
 //! Faults of lines.
-ghost use Rattle.std.specs.Prelude.{◌≡◌, ◌≤◌, ◌↔◌, ℕ, List, map, count_by, length, All, IfOk, IsTrue};
+ghost use Rattle.std.specs.Prelude.{◌≡◌, ◌≤◌, ◌↔◌, ◌||◌, ℕ, List, map, count_by, length, All, IfOk, IsTrue};
 ghost use Rattle.std.specs.List.{list_any};
 ghost use Rattle.machine_spec.specs.Machine.{IsAtPlace};
-ghost use Rattle.bilv_spec.specs.Scopes as scopes;
-ghost use Rattle.bilv_spec.specs.NotesGrammar.{AreAligned, IsNew, IsRange, IsVersion, is_depth, line_limit};
+ghost use Rattle.notes_spec.specs.Scopes as scopes;
+ghost use Rattle.notes_spec.specs.NotesGrammar.{AreAligned, IsAlone, IsNew, IsRange, IsVersion, is_depth, is_invariant, is_of_contract, line_limit};
 ghost use Rattle.word_spec.specs.Tokens.{tokens_of};
 ghost use Rattle.line_tokens.specs.Tokens.{capped, token_of};
 ghost use Rattle.notes_lang.specs.Reading.{AreGood, tokens_view};
 ghost use Rattle.notes_lang.specs.Saying.{says_of};
-ghost use Rattle.notes_lang.specs.Judging.{IsJudged, IsOwnFault, IsRefusal, IsTokenFault, is_bad_byte, is_bad_text, is_large, is_later_word};
+ghost use Rattle.notes_lang.specs.Judging.{IsJudged, IsOwnFault, IsRefusal, IsTokenFault, is_bad_byte, is_bad_text, is_large};
+ghost use Rattle.notes_lang.specs.Named.{dialect_of};
 ghost use Rattle.notes_lang.specs.Scoping.{scope_of};
-ghost use Rattle.bilv_spec.specs.NotesFaults.{BeginsBadly};
+ghost use Rattle.notes_lang.specs.Wording.{begins_lines};
+ghost use Rattle.notes_spec.specs.NotesFaults.{BeginsBadly};
 
-use crate::notes::Function;
+use crate::line_words::{LineWord, line_word};
+use crate::notes::{Dialect, Function};
 use crate::parser::{is_sign, is_word};
-use crate::sayings::{LineWord, Says, line_word, said};
-use crate::scopes::{Scope, is_free, lenient, loose};
+use crate::sayings::{ContractLine, Says, said};
+use crate::scopes::{Scope, is_free, lenient, loose, may_frame};
 use line_tokens::{Sign, Token, tokens};
 use std::alloc::{AllocError, Global};
 use thiserror::Error;
@@ -50,7 +53,7 @@ pub enum FaultKind {
     /// An address at which no row can stand: no multiple of 4, or of 2 with the compressed instructions of RISC-V.
     #[error("N9 Align")]
     Align,
-    /// A range whose low end is above its high end.
+    /// A range whose low end is above its high end; or a count of bytes of 0, or above 256.
     #[error("N10 Range")]
     Range,
     /// A second line that names the function, a second `targets` line of one address, or no line that names the function.
@@ -66,6 +69,12 @@ pub enum FaultKind {
     /// a constant.
     #[error("N14 All")]
     All,
+    /// A line of a contract beside an invariant or an `assert` line with a value at entry.
+    #[error("N15 Mixed")]
+    Mixed,
+    /// An invariant or a line of a contract in the notes of a function that is compared.
+    #[error("N16 Pair")]
+    Pair,
 }
 
 /// Whether a token is a byte that may stand only in a comment.
@@ -170,16 +179,19 @@ fn is_aligned(narrow: bool, says: &Says) -> bool
         Says::Entry(Function::At(at)) => is_place(narrow, *at),
         Says::Assert(at, _) => is_place(narrow, *at),
         Says::Targets(at, to) => is_place(narrow, *at) && are_places(narrow, to),
+        Says::Invariant(at, _) => is_place(narrow, *at),
+        Says::Contract(at, _) => is_place(narrow, *at),
         _ => true,
     }
 }
 
-/// Whether the range of a line is not empty.
+/// Whether the range of a line is not empty, and a contract writes at most 256 bytes from an address on.
 fn is_range(says: &Says) -> bool
     ensures { IsTrue result ↔ IsRange (says_of says.now) }
 {
     match says {
         Says::Fixed(low, high) => low <= high,
+        Says::Contract(_, ContractLine::Writes(_, count)) => 1 <= *count && *count <= 256,
         _ => true,
     }
 }
@@ -191,6 +203,17 @@ fn is_version(scope: Scope, says: &Says) -> bool
     match says {
         Says::Version(is_two) => scope.is_first && *is_two,
         _ => true,
+    }
+}
+
+/// Whether a line is an invariant or of a contract.
+fn is_framed(says: &Says) -> bool
+    ensures { result ≡ (is_invariant (says_of says.now) || is_of_contract (says_of says.now)) }
+{
+    match says {
+        Says::Invariant(_, _) => true,
+        Says::Contract(_, _) => true,
+        _ => false,
     }
 }
 
@@ -242,26 +265,27 @@ fn token_fault(is_second: bool, tokens: &[Token]) -> Option<FaultKind>
     None
 }
 
-/// Whether a word begins lines of version 2 alone.
-fn is_later(word: LineWord) -> bool
-    ensures { result ≡ is_later_word word }
+/// Whether a word begins lines of this text.
+fn begins(scope: Scope, word: LineWord) -> bool
+    ensures { result ≡ begins_lines scope.entry.is_second (scopes.reads_frames (dialect_of scope.entry.words.dialect)) word }
 {
     match word {
-        LineWord::Const => true,
-        LineWord::Loaded => true,
-        _ => false,
+        LineWord::Const => scope.is_second,
+        LineWord::Loaded => scope.is_second,
+        LineWord::Frame(_) => may_frame(scope),
+        _ => true,
     }
 }
 
 /// Whether tokens begin with none of the words that begin lines.
-fn begins_badly(is_second: bool, tokens: &[Token]) -> bool
-    ensures { IsTrue result ↔ BeginsBadly is_second (tokens_view tokens.now) }
+fn begins_badly(scope: Scope, tokens: &[Token]) -> bool
+    ensures { IsTrue result ↔ BeginsBadly (scope_of scope.entry) (tokens_view tokens.now) }
 {
     let Some((first, _)) = tokens.split_first() else {
         return false;
     };
     match line_word(first) {
-        Some(word) => !is_second && is_later(word),
+        Some(word) => !begins(scope, word),
         None => true,
     }
 }
@@ -275,7 +299,7 @@ fn refusal<'a>(
     requires { AreGood tokens.now }
     ensures { IfOk result (λ k. IsRefusal (scope_of scope.entry) (tokens_view tokens.now) k) }
 {
-    if begins_badly(scope.is_second, tokens) {
+    if begins_badly(scope, tokens) {
         return Ok(FaultKind::Word);
     }
     let Some(_says) = said(alloc, loose(scope), tokens)? else {
@@ -320,7 +344,18 @@ fn limit(is_second: bool) -> u32
     if is_second { 4097 } else { 4096 }
 }
 
-/// What a line says, or its least fault but that it repeats what lines before it say; `number` counts lines from 1.
+/// Whether a line may stand in its text: no invariant and no line of a contract, where the function is compared.
+pub(crate) fn is_alone(scope: Scope, says: &Says) -> bool
+    ensures { IsTrue result ↔ IsAlone (scope_of scope.entry) (says_of says.now) }
+{
+    match scope.words.dialect {
+        Dialect::Paired => !is_framed(says),
+        Dialect::Plain => true,
+        Dialect::Framed => true,
+    }
+}
+
+/// What a line says, or its least fault but for those that are told by lines before it or that it has in the notes of a pair alone; `number` counts lines from 1.
 pub(crate) fn judge<'a>(
     alloc: Global,
     scope: Scope<'a, '_>,

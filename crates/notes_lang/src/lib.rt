@@ -3,6 +3,7 @@
 
 mod drafts;
 mod faults;
+mod line_words;
 mod names;
 mod notes;
 mod notes_text;
@@ -13,7 +14,7 @@ mod texts;
 mod versions;
 
 pub use faults::FaultKind;
-pub use notes::{Assert, FixedRange, Function, NoteLine, Notes, Targets};
+pub use notes::{Assert, Dialect, FixedRange, Function, NoteLine, Notes, Targets};
 pub use notes_text::{NoteFault, NotesError, parse};
 pub use notes_value::{Expr, Operator, Size, value};
 pub use versions::upgrade;

@@ -2,12 +2,13 @@
 ghost use Rattle.std.specs.Prelude.{◌≡◌, map, option_map};
 ghost use Rattle.std.specs.List.{list_any};
 ghost use Rattle.std.specs.Str.{bytes_eq};
-ghost use Rattle.bilv_spec.specs.Scopes.{reserved_first};
-ghost use Rattle.bilv_spec.specs.RvNames.{name_in, rv_names};
-ghost use Rattle.bilv_spec.specs.ArmNames.{arm_names};
+ghost use Rattle.notes_spec.specs.Scopes.{reserved_first};
+ghost use Rattle.notes_spec.specs.RvNames.{name_in, rv_names};
+ghost use Rattle.notes_spec.specs.ArmNames.{arm_names};
 ghost use Rattle.notes_value.specs.Views.{expr_of};
 ghost use Rattle.notes_lang.specs.Named.{meaning_of, named_of, names_of};
 
+use crate::notes::Dialect;
 use notes_value::Expr;
 
 /// What a name stands for.
@@ -27,11 +28,12 @@ pub(crate) enum Names {
     Arm,
 }
 
-/// Which words name something of the machine, and whether some of its rows have 2 bytes.
+/// Which words name something of the machine, whether some of its rows have 2 bytes, and which lines of invariants and contracts there may be.
 #[derive(Clone, Copy)]
 pub(crate) struct Vocabulary {
     pub(crate) names: Names,
     pub(crate) narrow: bool,
+    pub(crate) dialect: Dialect,
 }
 
 /// The registers x0 to x31 with the names of the ABI, and the program counter (RISC-V Unprivileged ISA 20191213, chapter 25).
@@ -150,7 +152,7 @@ fn find(table: &[(&[u8], Meaning)], word: &[u8]) -> Option<Meaning>
 }
 
 /// What a word stands for on RV32IM.
-#[tactic(auto, unfolding(bilv_spec::specs::RvNames::rv_table))]
+#[tactic(auto, unfolding(notes_spec::specs::RvNames::rv_table))]
 fn find_rv(word: &[u8]) -> Option<Meaning>
     ensures { option_map meaning_of result ≡ rv_names word.now }
 {
@@ -158,7 +160,7 @@ fn find_rv(word: &[u8]) -> Option<Meaning>
 }
 
 /// What a word stands for on ARM.
-#[tactic(auto, unfolding(bilv_spec::specs::ArmNames::arm_table))]
+#[tactic(auto, unfolding(notes_spec::specs::ArmNames::arm_table))]
 fn find_arm(word: &[u8]) -> Option<Meaning>
     ensures { option_map meaning_of result ≡ arm_names word.now }
 {

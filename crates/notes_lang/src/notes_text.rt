@@ -1,17 +1,21 @@
 //! The text of notes.
-ghost use Rattle.std.specs.Prelude.{◌≡◌, ◌&&◌, map, not, IfOk, IfErr, OnOk};
-ghost use Rattle.bilv_spec.specs.NotesGrammar.{IsNotesText};
+ghost use Rattle.std.specs.Prelude.{◌≡◌, ◌&&◌, List, map, not, IfOk, IfErr, OnOk};
+ghost use Rattle.notes_spec.specs.Scopes as scopes;
+ghost use Rattle.notes_spec.specs.NotesGrammar as grammar;
+ghost use Rattle.notes_spec.specs.NotesGrammar.{IsNotesText};
 ghost use Rattle.notes_value.specs.Reads.{AreOver, AreReadable};
 ghost use Rattle.notes_lang.specs.Named.{vocabulary_of};
-ghost use Rattle.notes_lang.specs.Drafting.{notes_of};
+ghost use Rattle.notes_lang.specs.Drafting.{IsDraft};
+ghost use Rattle.notes_value.specs.NoteViews.{notes_of};
+ghost use Rattle.notes_lang.specs.Judging.{IsNext};
 ghost use Rattle.notes_lang.specs.Saying.{consts_after, is_something, says_of};
-ghost use Rattle.notes_lang.specs.Scoping.{constant_of};
+ghost use Rattle.notes_lang.specs.Scoping.{constant_of, scope_of};
 ghost use Rattle.notes_lang.specs.Parsing.{IsLinesRead, IsRefused, layout_flags, layout_registers, layout_vocabulary};
 
 use crate::drafts::Draft;
 use crate::faults::{FaultKind, judge};
 use crate::names::{Names, Vocabulary};
-use crate::notes::Notes;
+use crate::notes::{Dialect, Notes};
 use crate::sayings::Says;
 use crate::scopes::{Constant, Mode, Scope};
 use crate::texts::first_line;
@@ -41,18 +45,20 @@ pub enum NotesError {
     Memory,
 }
 
-/// The vocabulary of a machine.
-fn vocabulary(layout: Layout) -> Vocabulary
-    ensures { vocabulary_of result ≡ layout_vocabulary layout }
+/// The vocabulary of a machine, in a dialect.
+fn vocabulary(layout: Layout, dialect: Dialect) -> Vocabulary
+    ensures { vocabulary_of result ≡ layout_vocabulary layout dialect }
 {
     match layout {
         Layout::Rv32 { compressed } => Vocabulary {
             names: Names::Rv32,
             narrow: compressed,
+            dialect,
         },
         Layout::Arm { .. } => Vocabulary {
             names: Names::Arm,
             narrow: false,
+            dialect,
         },
     }
 }
@@ -81,6 +87,27 @@ fn declare<'a>(consts: &mut Vec<Constant<'a>>, says: &Says<'a>) -> Result<(), Al
     Ok(())
 }
 
+/// What the next line says, or its least fault.
+fn next<'a>(
+    alloc: Global,
+    scope: Scope<'a, '_>,
+    draft: &Draft,
+    line: u32,
+    text: &'a [u8],
+) -> Result<Result<Says<'a>, FaultKind>, AllocError>
+    requires { (scope_of scope).mode ≡ scopes.Strict }
+    ensures { IfOk result (λ r. (earlier : List grammar.Says) → IsDraft earlier draft.now → IsNext (scope_of scope.entry) line text.now earlier r) }
+{
+    let says = match judge(alloc, scope, line, text)? {
+        Ok(says) => says,
+        Err(kind) => return Ok(Err(kind)),
+    };
+    match draft.fault(scope, &says) {
+        Some(kind) => Ok(Err(kind)),
+        None => Ok(Ok(says)),
+    }
+}
+
 /// What the lines of a text say, with the number of the line behind the last, or the first line that is refused.
 fn read_lines(
     alloc: Global,
@@ -107,16 +134,10 @@ fn read_lines(
             is_first,
             mode: Mode::Strict,
         };
-        let says = match judge(alloc, scope, line, first)? {
+        let says = match next(alloc, scope, &draft, line, first)? {
             Ok(says) => says,
             Err(kind) => return Ok(Err(NoteFault { line, kind })),
         };
-        if draft.repeats(&says) {
-            return Ok(Err(NoteFault {
-                line,
-                kind: FaultKind::Entry,
-            }));
-        }
         declare(&mut consts, &says)?;
         is_first = still_first(is_first, &says);
         draft.add(line, says)?;
@@ -126,15 +147,20 @@ fn read_lines(
     Ok(Ok((draft, line)))
 }
 
-/// The notes that a text says, for the machine of a layout. `Fault` tells the first line that is refused, with the first of its faults; where each line is good
+/// The notes that a text says, for the machine of a layout, in a dialect. `Fault` tells the first line that is refused, with the first of its faults; where each line is good
 /// but none names the function, it is the line behind the last. A text whose first line that says something is `notes 2` is of version 2. What the expressions of the notes read, the machine has; their numbers have 32 bits.
-pub fn parse(alloc: Global, bytes: &[u8], layout: Layout) -> Result<Notes, NotesError>
-    ensures ok { IfOk result (λ notes. IsNotesText (layout_vocabulary layout) bytes.now (notes_of notes)) }
+pub fn parse(
+    alloc: Global,
+    bytes: &[u8],
+    layout: Layout,
+    dialect: Dialect,
+) -> Result<Notes, NotesError>
+    ensures ok { IfOk result (λ notes. IsNotesText (layout_vocabulary layout dialect) bytes.now (notes_of notes)) }
     ensures readable { IfOk result (λ notes. AreReadable (layout_registers layout) (notes_of notes)) }
     ensures over { IfOk result (λ notes. AreOver (layout_registers layout) (layout_flags layout) (notes_of notes)) }
-    ensures err { IfErr result (λ error. IsRefused (layout_vocabulary layout) bytes.now error) }
+    ensures err { IfErr result (λ error. IsRefused (layout_vocabulary layout dialect) bytes.now error) }
 {
-    let Ok(read) = read_lines(alloc, vocabulary(layout), bytes) else {
+    let Ok(read) = read_lines(alloc, vocabulary(layout, dialect), bytes) else {
         return Err(NotesError::Memory);
     };
     let (draft, line) = match read {

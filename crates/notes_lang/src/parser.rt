@@ -1,10 +1,10 @@
 //! The expressions of notes, read from tokens from the left to the right.
 ghost use Rattle.std.specs.Prelude.{◌≡◌, ◌≢◌, ◌≤◌, ◌<◌, option_map, drop, length, IfOk, IfSome, is_some, codes};
 ghost use Rattle.std.specs.Str.{bytes_eq};
-ghost use Rattle.bilv_spec.specs.NotesGrammar.{operators};
+ghost use Rattle.notes_spec.specs.NotesGrammar.{operators};
 ghost use Rattle.word_spec.specs.Tokens.{SignToken, NameToken};
-ghost use Rattle.bilv_spec.proofs.NotesTables.{line_of, same_token, size_of};
-ghost use Rattle.bilv_spec.proofs.NotesParser.{Ends, Level, all_at, atom_at, negated_at, of_level, word_at, work};
+ghost use Rattle.notes_spec.proofs.NotesTables.{line_of, same_token, size_of};
+ghost use Rattle.notes_spec.proofs.NotesParser.{Ends, Level, all_at, atom_at, negated_at, of_level, word_at, work};
 ghost use Rattle.line_tokens.specs.Tokens.{token_of, sign_text};
 ghost use Rattle.notes_value.specs.Views.{op_of};
 ghost use Rattle.notes_lang.specs.Reading.{AreGood, IsEnclosed, IsHead, IsLeft, IsRest, Settles, begins, is_all_word, operator_at, read_of, size_or_zero, tokens_view, within};

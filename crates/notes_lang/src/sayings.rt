@@ -1,19 +1,19 @@
 //! What one line of notes says.
-ghost use Rattle.std.specs.Prelude.{◌≡◌, ◌∷◌, [], ℕ, List, codes, Contains, true, IfOk, IfSome, IfNone};
-ghost use Rattle.bilv_spec.specs.Scopes as scopes;
-ghost use Rattle.bilv_spec.specs.NotesGrammar as grammar;
-ghost use Rattle.bilv_spec.specs.NotesGrammar.{AreNumbers, IsSaid, Parses};
+ghost use Rattle.std.specs.Prelude.{◌≡◌, ◌∷◌, [], ℕ, List, codes, map, IfOk, IfSome};
+ghost use Rattle.notes_spec.specs.Scopes as scopes;
+ghost use Rattle.notes_spec.specs.NotesGrammar as grammar;
+ghost use Rattle.notes_spec.specs.NotesGrammar.{AreChanged, AreNumbers, IsSaid, MayFrame, Parses};
 ghost use Rattle.word_spec.specs.Tokens.{NameToken, NumberToken};
-ghost use Rattle.bilv_spec.specs.NotesFaults.{IsLineWord, line_words};
-ghost use Rattle.line_tokens.specs.Tokens.{token_of};
 ghost use Rattle.notes_value.specs.Views.{expr_of};
 ghost use Rattle.notes_lang.specs.Reading.{AreGood, tokens_view};
-ghost use Rattle.notes_lang.specs.Saying.{BeginsWith, IsOne, Tells, says_of, word_text};
-ghost use Rattle.notes_lang.specs.Scoping.{scope_of};
+ghost use Rattle.notes_lang.specs.Saying.{BeginsWith, IsAddressed, IsCounted, IsOne, Tells, says_of};
+ghost use Rattle.notes_lang.specs.Scoping.{changed_of, scope_of};
+ghost use Rattle.notes_lang.specs.Wording.{frame_word_text, word_text};
 
+use crate::line_words::{FrameWord, LineWord, line_word};
 use crate::notes::Function;
 use crate::parser::read;
-use crate::scopes::{Scope, number};
+use crate::scopes::{Changed, Scope, change, may_frame, number};
 use line_tokens::Token;
 use notes_value::Expr;
 use std::alloc::{AllocError, Global};
@@ -32,21 +32,19 @@ pub(crate) enum Says<'a> {
     Version(bool),
     Const(&'a [u8], u32),
     Loaded,
+    Invariant(u32, Expr),
+    /// A line of the contract of an address.
+    Contract(u32, ContractLine),
 }
 
-/// The words that begin lines.
-#[derive(Clone, Copy)]
-pub(crate) enum LineWord {
-    Entry,
-    Function,
-    Require,
-    Ensure,
-    Assert,
-    Targets,
-    Fixed,
-    Notes,
-    Const,
-    Loaded,
+/// What a line says of the contract of an address.
+#[derive(Drop)]
+pub(crate) enum ContractLine {
+    Needs(Expr),
+    Gives(Expr),
+    Modifies(Vec<Changed>),
+    /// So many bytes from the value on may be written.
+    Writes(Expr, u32),
 }
 
 /// The expression that all of the tokens are.
@@ -67,7 +65,7 @@ fn expression<'a>(
     Ok(Some(all.expr))
 }
 
-/// The number with which tokens begin, and the tokens behind it.
+/// The number with which tokens begin, and the tokens after it.
 fn number_first<'t, 'a>(scope: Scope, tokens: &'t [Token<'a>]) -> Option<(u32, &'t [Token<'a>])>
     requires { AreGood tokens.now }
     ensures tells { Tells (λ p. (p.0, tokens_view p.1.now)) (BeginsWith (scope_of scope.entry) (tokens_view tokens.now)) result }
@@ -99,55 +97,6 @@ fn one_name<'a>(tokens: &[Token<'a>]) -> Option<&'a [u8]>
     }
 }
 
-/// The word with which a line begins.
-pub(crate) fn line_word(token: &Token) -> Option<LineWord>
-    ensures word { IfSome result (λ word. token_of token.now ≡ NameToken (word_text word)) }
-    ensures none { IfNone result (IsLineWord true (token_of token.now) → ⊥) }
-{
-    match token {
-        Token::Name(word) => word_named(word),
-        _ => None,
-    }
-}
-
-/// The word of this text that begins lines.
-fn word_named(text: &[u8]) -> Option<LineWord>
-    ensures word { IfSome result (λ word. text.now ≡ word_text word) }
-    ensures none { IfNone result (Contains (line_words true) text.now → ⊥) }
-{
-    if text == b"entry".as_slice() {
-        return Some(LineWord::Entry);
-    }
-    if text == b"function".as_slice() {
-        return Some(LineWord::Function);
-    }
-    if text == b"require".as_slice() {
-        return Some(LineWord::Require);
-    }
-    if text == b"ensure".as_slice() {
-        return Some(LineWord::Ensure);
-    }
-    if text == b"assert".as_slice() {
-        return Some(LineWord::Assert);
-    }
-    if text == b"targets".as_slice() {
-        return Some(LineWord::Targets);
-    }
-    if text == b"fixed".as_slice() {
-        return Some(LineWord::Fixed);
-    }
-    if text == b"notes".as_slice() {
-        return Some(LineWord::Notes);
-    }
-    if text == b"const".as_slice() {
-        return Some(LineWord::Const);
-    }
-    if text == b"loaded".as_slice() {
-        return Some(LineWord::Loaded);
-    }
-    None
-}
-
 /// The numbers that all of the tokens are.
 fn numbers(alloc: Global, scope: Scope, tokens: &[Token]) -> Result<Option<Vec<u32>>, AllocError>
     requires { AreGood tokens.now }
@@ -163,7 +112,7 @@ fn numbers(alloc: Global, scope: Scope, tokens: &[Token]) -> Result<Option<Vec<u
     Ok(Some(numbers))
 }
 
-/// An `entry` line, by the tokens behind that word.
+/// An `entry` line, by the tokens after that word.
 fn entry<'a>(scope: Scope, rest: &[Token<'a>]) -> Option<Says<'a>>
     requires { AreGood rest.now }
     ensures { Tells says_of (IsSaid (scope_of scope.entry) (NameToken (codes "entry") ∷ tokens_view rest.now)) result }
@@ -174,7 +123,7 @@ fn entry<'a>(scope: Scope, rest: &[Token<'a>]) -> Option<Says<'a>>
     }
 }
 
-/// A `function` line, by the tokens behind that word.
+/// A `function` line, by the tokens after that word.
 fn function<'a>(alloc: Global, rest: &[Token<'a>]) -> Result<Option<Says<'a>>, AllocError>
     ensures { (s : scopes.Scope) → IfOk result (λ o. Tells says_of (IsSaid s (NameToken (codes "function") ∷ tokens_view rest.now)) o) }
 {
@@ -186,7 +135,7 @@ fn function<'a>(alloc: Global, rest: &[Token<'a>]) -> Result<Option<Says<'a>>, A
     Ok(Some(Says::Entry(Function::Named(owned))))
 }
 
-/// A `require` line, by the tokens behind that word.
+/// A `require` line, by the tokens after that word.
 fn require<'a>(
     alloc: Global,
     scope: Scope<'a, '_>,
@@ -201,7 +150,7 @@ fn require<'a>(
     Ok(Some(Says::Require(says)))
 }
 
-/// An `ensure` line, by the tokens behind that word.
+/// An `ensure` line, by the tokens after that word.
 fn ensure<'a>(
     alloc: Global,
     scope: Scope<'a, '_>,
@@ -216,7 +165,25 @@ fn ensure<'a>(
     Ok(Some(Says::Ensure(says)))
 }
 
-/// An `assert` line, by the tokens behind that word.
+/// An address, and the expression that the tokens after it are.
+fn address_and_expression<'a>(
+    alloc: Global,
+    scope: Scope<'a, '_>,
+    tokens: &[Token<'a>],
+) -> Result<Option<(u32, Expr)>, AllocError>
+    requires { AreGood tokens.now }
+    ensures { IfOk result (λ o. Tells (λ p. (p.0, expr_of p.1)) (IsAddressed (scope_of scope.entry) (tokens_view tokens.now)) o) }
+{
+    let Some((at, behind)) = number_first(scope, tokens) else {
+        return Ok(None);
+    };
+    let Some(says) = expression(alloc, scope, behind)? else {
+        return Ok(None);
+    };
+    Ok(Some((at, says)))
+}
+
+/// An `assert` line, by the tokens after that word.
 fn assert<'a>(
     alloc: Global,
     scope: Scope<'a, '_>,
@@ -225,16 +192,14 @@ fn assert<'a>(
     requires { AreGood rest.now }
     ensures { IfOk result (λ o. Tells says_of (IsSaid (scope_of scope.entry) (NameToken (codes "assert") ∷ tokens_view rest.now)) o) }
 {
-    let Some((at, behind)) = number_first(scope, rest) else {
+    let Some(told) = address_and_expression(alloc, scope, rest)? else {
         return Ok(None);
     };
-    let Some(says) = expression(alloc, scope, behind)? else {
-        return Ok(None);
-    };
+    let (at, says) = told;
     Ok(Some(Says::Assert(at, says)))
 }
 
-/// A `targets` line, by the tokens behind that word.
+/// A `targets` line, by the tokens after that word.
 fn targets<'a>(
     alloc: Global,
     scope: Scope,
@@ -255,7 +220,7 @@ fn targets<'a>(
     Ok(Some(Says::Targets(at, to)))
 }
 
-/// A `fixed` line, by the tokens behind that word.
+/// A `fixed` line, by the tokens after that word.
 fn fixed<'a>(scope: Scope, rest: &[Token<'a>]) -> Option<Says<'a>>
     requires { AreGood rest.now }
     ensures { Tells says_of (IsSaid (scope_of scope.entry) (NameToken (codes "fixed") ∷ tokens_view rest.now)) result }
@@ -302,7 +267,7 @@ fn name_and_number<'a>(tokens: &[Token<'a>]) -> Option<(&'a [u8], u32)>
     }
 }
 
-/// A `const` line, by the tokens behind that word.
+/// A `const` line, by the tokens after that word.
 fn constant<'a>(scope: Scope, rest: &[Token<'a>]) -> Option<Says<'a>>
     requires { AreGood rest.now }
     ensures { Tells says_of (IsSaid (scope_of scope.entry) (NameToken (codes "const") ∷ tokens_view rest.now)) result }
@@ -316,7 +281,7 @@ fn constant<'a>(scope: Scope, rest: &[Token<'a>]) -> Option<Says<'a>>
     }
 }
 
-/// A `loaded` line, by the tokens behind that word.
+/// A `loaded` line, by the tokens after that word.
 fn loaded<'a>(scope: Scope, rest: &[Token<'a>]) -> Option<Says<'a>>
     ensures { Tells says_of (IsSaid (scope_of scope.entry) (NameToken (codes "loaded") ∷ tokens_view rest.now)) result }
 {
@@ -327,7 +292,161 @@ fn loaded<'a>(scope: Scope, rest: &[Token<'a>]) -> Option<Says<'a>>
     }
 }
 
-/// What a line says, by its word and the tokens behind it.
+/// An `invariant` line, by the tokens after that word.
+fn invariant<'a>(
+    alloc: Global,
+    scope: Scope<'a, '_>,
+    rest: &[Token<'a>],
+) -> Result<Option<Says<'a>>, AllocError>
+    requires good { AreGood rest.now }
+    requires framed { MayFrame (scope_of scope) }
+    ensures { IfOk result (λ o. Tells says_of (IsSaid (scope_of scope.entry) (NameToken (codes "invariant") ∷ tokens_view rest.now)) o) }
+{
+    let Some(told) = address_and_expression(alloc, scope, rest)? else {
+        return Ok(None);
+    };
+    let (at, says) = told;
+    Ok(Some(Says::Invariant(at, says)))
+}
+
+/// A `needs` line, by the tokens after that word.
+fn needs<'a>(
+    alloc: Global,
+    scope: Scope<'a, '_>,
+    rest: &[Token<'a>],
+) -> Result<Option<Says<'a>>, AllocError>
+    requires good { AreGood rest.now }
+    requires framed { MayFrame (scope_of scope) }
+    ensures { IfOk result (λ o. Tells says_of (IsSaid (scope_of scope.entry) (NameToken (codes "needs") ∷ tokens_view rest.now)) o) }
+{
+    let Some(told) = address_and_expression(alloc, scope, rest)? else {
+        return Ok(None);
+    };
+    let (at, says) = told;
+    Ok(Some(Says::Contract(at, ContractLine::Needs(says))))
+}
+
+/// A `gives` line, by the tokens after that word.
+fn gives<'a>(
+    alloc: Global,
+    scope: Scope<'a, '_>,
+    rest: &[Token<'a>],
+) -> Result<Option<Says<'a>>, AllocError>
+    requires good { AreGood rest.now }
+    requires framed { MayFrame (scope_of scope) }
+    ensures { IfOk result (λ o. Tells says_of (IsSaid (scope_of scope.entry) (NameToken (codes "gives") ∷ tokens_view rest.now)) o) }
+{
+    let Some(told) = address_and_expression(alloc, scope, rest)? else {
+        return Ok(None);
+    };
+    let (at, says) = told;
+    Ok(Some(Says::Contract(at, ContractLine::Gives(says))))
+}
+
+/// The registers and flags that all of the tokens are.
+fn changes(
+    alloc: Global,
+    scope: Scope,
+    tokens: &[Token],
+) -> Result<Option<Vec<Changed>>, AllocError>
+    ensures { IfOk result (λ o. Tells (λ v. map changed_of v.items) (AreChanged (scope_of scope.entry) (tokens_view tokens.now)) o) }
+{
+    let mut changes = Vec::new(alloc);
+    for token in tokens {
+        let Some(changed) = change(scope, token) else {
+            return Ok(None);
+        };
+        changes.push(changed)?;
+    }
+    Ok(Some(changes))
+}
+
+/// A `modifies` line, by the tokens after that word.
+fn modifies<'a>(
+    alloc: Global,
+    scope: Scope,
+    rest: &[Token<'a>],
+) -> Result<Option<Says<'a>>, AllocError>
+    requires good { AreGood rest.now }
+    requires framed { MayFrame (scope_of scope) }
+    ensures { IfOk result (λ o. Tells says_of (IsSaid (scope_of scope.entry) (NameToken (codes "modifies") ∷ tokens_view rest.now)) o) }
+{
+    let Some((at, behind)) = number_first(scope, rest) else {
+        return Ok(None);
+    };
+    let Some(changes) = changes(alloc, scope, behind)? else {
+        return Ok(None);
+    };
+    if changes.is_empty() {
+        return Ok(None);
+    }
+    Ok(Some(Says::Contract(at, ContractLine::Modifies(changes))))
+}
+
+/// The number with which tokens end, and the expression that the tokens before it are.
+fn expression_and_number<'a>(
+    alloc: Global,
+    scope: Scope<'a, '_>,
+    tokens: &[Token<'a>],
+) -> Result<Option<(Expr, u32)>, AllocError>
+    requires { AreGood tokens.now }
+    ensures { IfOk result (λ o. Tells (λ p. (expr_of p.0, p.1)) (IsCounted (scope_of scope.entry) (tokens_view tokens.now)) o) }
+{
+    let Some((last, before)) = tokens.split_last() else {
+        return Ok(None);
+    };
+    let Some(count) = number(scope, last) else {
+        return Ok(None);
+    };
+    let Some(says) = expression(alloc, scope, before)? else {
+        return Ok(None);
+    };
+    Ok(Some((says, count)))
+}
+
+/// A `writes` line, by the tokens after that word.
+fn writes<'a>(
+    alloc: Global,
+    scope: Scope<'a, '_>,
+    rest: &[Token<'a>],
+) -> Result<Option<Says<'a>>, AllocError>
+    requires good { AreGood rest.now }
+    requires framed { MayFrame (scope_of scope) }
+    ensures { IfOk result (λ o. Tells says_of (IsSaid (scope_of scope.entry) (NameToken (codes "writes") ∷ tokens_view rest.now)) o) }
+{
+    let Some((at, behind)) = number_first(scope, rest) else {
+        return Ok(None);
+    };
+    let Some(told) = expression_and_number(alloc, scope, behind)? else {
+        return Ok(None);
+    };
+    let (says, count) = told;
+    Ok(Some(Says::Contract(at, ContractLine::Writes(says, count))))
+}
+
+/// What a line of an invariant or a contract says, by its word and the tokens after it.
+fn behind_frame_word<'a>(
+    alloc: Global,
+    scope: Scope<'a, '_>,
+    word: FrameWord,
+    rest: &[Token<'a>],
+) -> Result<Option<Says<'a>>, AllocError>
+    requires { AreGood rest.now }
+    ensures { IfOk result (λ o. Tells says_of (IsSaid (scope_of scope.entry) (NameToken (frame_word_text word) ∷ tokens_view rest.now)) o) }
+{
+    if !may_frame(scope) {
+        return Ok(None);
+    }
+    match word {
+        FrameWord::Invariant => invariant(alloc, scope, rest),
+        FrameWord::Needs => needs(alloc, scope, rest),
+        FrameWord::Gives => gives(alloc, scope, rest),
+        FrameWord::Modifies => modifies(alloc, scope, rest),
+        FrameWord::Writes => writes(alloc, scope, rest),
+    }
+}
+
+/// What a line says, by its word and the tokens after it.
 fn behind_word<'a>(
     alloc: Global,
     scope: Scope<'a, '_>,
@@ -348,6 +467,7 @@ fn behind_word<'a>(
         LineWord::Notes => Ok(Some(Says::Version(is_two(rest)))),
         LineWord::Const => Ok(constant(scope, rest)),
         LineWord::Loaded => Ok(loaded(scope, rest)),
+        LineWord::Frame(word) => behind_frame_word(alloc, scope, word, rest),
     }
 }
 

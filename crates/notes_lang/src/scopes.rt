@@ -1,15 +1,16 @@
 //! What words mean at a place of notes.
-ghost use Rattle.std.specs.Prelude.{◌≡◌, map, option_map};
+ghost use Rattle.std.specs.Prelude.{◌≡◌, ◌&&◌, map, option_map};
 ghost use Rattle.std.specs.List.{list_any};
 ghost use Rattle.std.specs.Str.{bytes_eq};
-ghost use Rattle.bilv_spec.specs.Scopes as scopes;
-ghost use Rattle.bilv_spec.specs.NotesGrammar.{IsGood, number_at};
+ghost use Rattle.notes_spec.specs.Scopes as scopes;
+ghost use Rattle.notes_spec.specs.NotesGrammar.{IsGood, number_at};
 ghost use Rattle.line_tokens.specs.Tokens.{token_of};
 ghost use Rattle.notes_value.specs.Views.{expr_of};
-ghost use Rattle.notes_lang.specs.Named.{meaning_of};
-ghost use Rattle.notes_lang.specs.Scoping.{constant_of, scope_of, text_of};
+ghost use Rattle.notes_lang.specs.Named.{dialect_of, meaning_of};
+ghost use Rattle.notes_lang.specs.Scoping.{changed_at, changed_of, constant_of, scope_of, text_of};
 
 use crate::names::{Meaning, Vocabulary, expression, find_meaning, is_among, is_reserved_first};
+use crate::notes::Dialect;
 use line_tokens::Token;
 use notes_value::Expr;
 
@@ -26,6 +27,13 @@ pub(crate) enum Mode {
 pub(crate) struct Constant<'a> {
     pub(crate) word: &'a [u8],
     pub(crate) number: u32,
+}
+
+/// What a function may change by a line of its contract: a register or a flag, by its number.
+#[derive(Clone, Copy)]
+pub(crate) enum Changed {
+    Register(u8),
+    Flag(u8),
 }
 
 /// What words mean: the vocabulary of the machine, the constants so far, and the names that the `all`s around the place bind, the outermost first. The text is of
@@ -126,6 +134,38 @@ pub(crate) fn named(scope: Scope, word: &[u8]) -> Option<Expr>
     }
 }
 
+/// The register or the flag that a word is, where words have meanings.
+fn changed_named(scope: Scope, word: &[u8]) -> Option<Changed>
+    ensures { option_map changed_of result ≡ scopes.changed_of (scopes.named (scope_of scope.entry) word.now) }
+{
+    match named(scope, word)? {
+        Expr::Register(r) => Some(Changed::Register(r)),
+        Expr::Flag(f) => Some(Changed::Flag(f)),
+        _ => None,
+    }
+}
+
+/// The register or the flag that a word is, by how the line is read.
+fn changed_by(scope: Scope, word: &[u8]) -> Option<Changed>
+    ensures { option_map changed_of result ≡ scopes.changed_by (scope_of scope.entry).mode (scope_of scope.entry) word.now }
+{
+    match scope.mode {
+        Mode::Loose => Some(Changed::Register(0)),
+        Mode::Strict => changed_named(scope, word),
+        Mode::Lenient => changed_named(scope, word),
+    }
+}
+
+/// The register or the flag that a token is.
+pub(crate) fn change(scope: Scope, token: &Token) -> Option<Changed>
+    ensures { option_map changed_of result ≡ changed_at (scope_of scope.entry) (token_of token.now) }
+{
+    match token {
+        Token::Name(word) => changed_by(scope, word),
+        _ => None,
+    }
+}
+
 /// The number of a constant, by how the line is read.
 fn number_by(scope: Scope, word: &[u8]) -> Option<u32>
     ensures { result ≡ scopes.number_by (scope_of scope.entry).mode (scope_of scope.entry) word.now }
@@ -151,6 +191,24 @@ pub(crate) fn number(scope: Scope, token: &Token) -> Option<u32>
         },
         _ => None,
     }
+}
+
+/// Whether lines of invariants and contracts are read in a dialect.
+fn are_read(dialect: Dialect) -> bool
+    ensures { result ≡ scopes.reads_frames (dialect_of dialect) }
+{
+    match dialect {
+        Dialect::Plain => false,
+        Dialect::Framed => true,
+        Dialect::Paired => true,
+    }
+}
+
+/// Whether a text may have lines of invariants and contracts.
+pub(crate) fn may_frame(scope: Scope) -> bool
+    ensures { result ≡ (scope.entry.is_second && scopes.reads_frames (dialect_of scope.entry.words.dialect)) }
+{
+    scope.is_second && are_read(scope.words.dialect)
 }
 
 /// Whether a word is neither a register nor a flag, a constant or reserved: it may be declared, or bound.

@@ -1,7 +1,7 @@
 //! The version of notes, and the upgrade to version 2.
 ghost use Rattle.std.specs.Prelude.{◌≡◌, IfOk, List, IfNone, IfSome};
-ghost use Rattle.bilv_spec.specs.NotesGrammar as grammar;
-ghost use Rattle.bilv_spec.specs.Upgrades.{upgraded};
+ghost use Rattle.notes_spec.specs.NotesGrammar as grammar;
+ghost use Rattle.notes_spec.specs.Upgrades.{upgraded};
 ghost use Rattle.notes_lang.specs.Reading.{tokens_view};
 ghost use Rattle.notes_lang.specs.Version.{IsVersionOf};
 

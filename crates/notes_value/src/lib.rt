@@ -1,10 +1,12 @@
-//! The expressions of notes, their values, and the addresses that they read.
+//! Notes, the values of their expressions, and the addresses that they read.
 #![tactic(auto)]
 
 mod expressions;
+mod notes;
 mod places;
 mod values;
 
 pub use expressions::{Expr, Operator, Size};
+pub use notes::{Assert, FixedRange, Function, NoteLine, Notes, Targets};
 pub use places::{add_reads, add_span};
 pub use values::{order, value};

@@ -1,5 +1,5 @@
 use Rattle.std.proofs.Common.{◌^◌, map, refl, arith, rules}
-use Rattle.notes_lang.specs.Drafting.{fixed_of}
+use Rattle.notes_value.specs.NoteViews.{fixed_of}
 use Rattle.known_bytes.proofs.Runs.{known_none, known_gap, known_all, known_beyond, part_more, part_last, part_beyond}
 use Rattle.known_bytes.proofs.listing.known_bytes.Goals as goal
 

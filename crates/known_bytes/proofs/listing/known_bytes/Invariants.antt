@@ -1,5 +1,5 @@
 use Rattle.std.proofs.Common.{◌<◌, ◌-◌, ◌^◌, map}
-use Rattle.notes_lang.specs.Drafting.{fixed_of}
+use Rattle.notes_value.specs.NoteViews.{fixed_of}
 use Rattle.known_bytes.specs.Runs.{HasKnownTo}
 use Rattle.known_bytes.proofs.listing.known_bytes.Given as goal
 

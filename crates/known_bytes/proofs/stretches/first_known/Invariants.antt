@@ -1,5 +1,5 @@
 use Rattle.std.proofs.Common.{◌≡◌, ℕ, ◌≤◌, ◌<◌, ◌-◌, ◌^◌, map, false}
-use Rattle.notes_lang.specs.Drafting.{fixed_of}
+use Rattle.notes_value.specs.NoteViews.{fixed_of}
 use Rattle.known_bytes.specs.Known.{is_known}
 use Rattle.known_bytes.proofs.stretches.first_known.Given as goal
 

@@ -1,5 +1,5 @@
 use Rattle.std.proofs.Common.{◌≡◌, ℕ, ◌≤◌, ◌<◌, get_or, true}
-use Rattle.notes_lang.specs.declared.notes.FixedRange.{FixedRange}
+use Rattle.notes_value.specs.declared.notes.FixedRange.{FixedRange}
 use Rattle.known_bytes.specs.Known.{IsHeld}
 use Rattle.known_bytes.proofs.stretches.fixed_stretch.Given as goal
 

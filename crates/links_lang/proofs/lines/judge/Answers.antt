@@ -1,5 +1,5 @@
 use Rattle.std.proofs.Common.{ap, arith, subst, sym, ◌∙◌, All}
-use Rattle.bilv_spec.specs.NotesGrammar.{IsGood}
+use Rattle.notes_spec.specs.NotesGrammar.{IsGood}
 use Rattle.line_tokens.specs.Tokens.{token_of}
 use Rattle.notes_lang.specs.Reading.{tokens_view}
 use Rattle.notes_lang.proofs.Judged.{not_true}

@@ -1,5 +1,5 @@
 use Rattle.std.proofs.Common.{◌≡◌, map, drop}
-use Rattle.bilv_spec.specs.RvNames.{name_in}
+use Rattle.notes_spec.specs.RvNames.{name_in}
 use Rattle.links_lang.specs.Naming.{row_of}
 use Rattle.links_lang.proofs.names.find.Given as goal
 

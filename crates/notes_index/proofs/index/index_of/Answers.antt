@@ -1,7 +1,7 @@
 use Rattle.std.proofs.Common.{List, length, sym, subst}
 use Rattle.std.proofs.lemmas.List.{length-map}
-use Rattle.notes_lang.specs.declared.notes.Assert.{Assert}
-use Rattle.notes_lang.specs.declared.notes.Targets.{Targets}
+use Rattle.notes_value.specs.declared.notes.Assert.{Assert}
+use Rattle.notes_value.specs.declared.notes.Targets.{Targets}
 use Rattle.notes_index.specs.Indexed.{assert_places, targets_places, IsNumbered}
 use Rattle.notes_index.proofs.Indexes.{index_is}
 use Rattle.notes_index.proofs.index.index_of.Goals as goal

@@ -1,7 +1,7 @@
-use Rattle.std.proofs.Common.{sym, []}
+use Rattle.std.proofs.Common.{sym}
 use Rattle.notes_lang.specs.Scoping.{scope_of}
 use Rattle.notes_lang.specs.Saying.{says_of}
-use Rattle.notes_lang.proofs.Judged.{all_good, token_faulty, refused, own_faulty, a_line, told, told_none}
+use Rattle.notes_lang.proofs.Judged.{all_good, token_faulty, refused, own_faulty, sound, told, told_none}
 use Rattle.notes_lang.specs.Reading.{tokens_view}
 use Rattle.notes_lang.proofs.faults.judge_tokens.Goals as goal
 
@@ -28,9 +28,7 @@ returns-in-Some-own_fault c number text small short is earlier =
     c.in-Some-own_fault.fault c.in-Some-own_fault.ensures
 
 pub returns : goal.returns
-returns c number text small short is = (
-  a_line (scope_of c.args.scope) c.requires number [] text c.args.tokens.now small short is c.in_default.ensures (says_of c.in-Some-2.says)
-      (told (scope_of c.args.scope) (tokens_view c.args.tokens.now) c.in_ok-says.field-0 c.in-Some-2.says c.in_ok-says.ensures c.in-Some-2.is)
-      c.in-None.ensures,
-  small,
-)
+returns c number text small short is =
+    sound (scope_of c.args.scope) c.requires number text c.args.tokens.now small short is c.in_default.ensures (says_of c.in-Some-2.says)
+    (told (scope_of c.args.scope) (tokens_view c.args.tokens.now) c.in_ok-says.field-0 c.in-Some-2.says c.in_ok-says.ensures c.in-Some-2.is)
+    c.in-None.ensures

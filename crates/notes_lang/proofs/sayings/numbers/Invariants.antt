@@ -1,5 +1,5 @@
 use Rattle.std.proofs.Common.{take}
-use Rattle.bilv_spec.specs.NotesGrammar.{AreNumbers}
+use Rattle.notes_spec.specs.NotesGrammar.{AreNumbers}
 use Rattle.notes_lang.specs.Reading.{tokens_view}
 use Rattle.notes_lang.specs.Scoping.{scope_of}
 use Rattle.notes_lang.proofs.sayings.numbers.Given as goal

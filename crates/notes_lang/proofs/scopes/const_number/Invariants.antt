@@ -1,5 +1,5 @@
 use Rattle.std.proofs.Common.{◌≡◌, map, drop}
-use Rattle.bilv_spec.specs.Scopes.{const_of}
+use Rattle.notes_spec.specs.Scopes.{const_of}
 use Rattle.notes_lang.specs.Scoping.{constant_of}
 use Rattle.notes_lang.proofs.scopes.const_number.Given as goal
 

@@ -1,5 +1,5 @@
 use Rattle.std.proofs.Common.{ap, ◌∙◌, ◌-◌, Some, refl, length, drop, take}
-use Rattle.bilv_spec.specs.NotesGrammar.{is_second, lines_of}
+use Rattle.notes_spec.specs.NotesGrammar.{is_second, lines_of}
 use Rattle.notes_lang.specs.Reading.{tokens_view}
 use Rattle.notes_lang.proofs.FirstLines.{rest_is}
 use Rattle.notes_lang.proofs.VersionLines.{told}

@@ -1,5 +1,5 @@
 use Rattle.std.proofs.Common.{◌≡◌, length, drop, ◌-◌, ◌≤◌}
-use Rattle.bilv_spec.specs.NotesGrammar.{is_second, lines_of}
+use Rattle.notes_spec.specs.NotesGrammar.{is_second, lines_of}
 use Rattle.notes_lang.proofs.versions.is_second_text.Given as goal
 
 -- no line so far says something
