@@ -44,3 +44,8 @@ takes_line words = is_empty (fault_of solve_app words)
 -- The request of a line, by its words, the first of which is the program's name. A line is lawful where `clap` takes it.
 abbrev pub lawful_request : List Text → Option Request
 lawful_request words = if takes_line words then request_in (matches_of solve_app words) else None
+
+-- the files that a line names
+abbrev pub files_of : Option Request → List Text
+files_of None = []
+files_of (Some r) = r.file ∷ []

@@ -2,7 +2,8 @@
 ghost use Rattle.std.specs.Prelude.{IfOk, map, string_bytes};
 ghost use Rattle.cnf_solver.specs.Answers.{answer_of};
 ghost use Rattle.cnf_solver.specs.Ends.{IsDue, IsOutcome};
-ghost use Rattle.cnf_solver.specs.Requests.{lawful_request};
+ghost use Rattle.cnf_solver.specs.Requests.{files_of, lawful_request};
+ghost use Rattle.io_edges.specs.Begun.{AreBegun};
 ghost use Rattle.io_edges.specs.Met.{met, seen};
 
 use crate::answer::Answer;
@@ -15,7 +16,8 @@ use std::alloc::{AllocError, Global};
 
 /// The answer that is due to words.
 fn due<H: Shelf>(alloc: Global, words: &[String], shelf: &mut H) -> Result<Answer, AllocError>
-    ensures { IfOk result (λ a. IsDue (seen (H.holds shelf.old) (H.faults shelf.old) (H.faults shelf.new))
+    ensures begun { AreBegun (H.begun shelf.old) (H.begun shelf.new) (files_of (lawful_request (map (λ w. string_bytes w) words.now))) }
+    ensures due { IfOk result (λ a. IsDue (seen (H.holds shelf.old) (H.faults shelf.old) (H.faults shelf.new))
         (lawful_request (map (λ w. string_bytes w) words.now)) (answer_of a)) }
 {
     match read_request(alloc, words) {
@@ -41,7 +43,9 @@ pub fn bilv_solve<H: Shelf, K: Sink>(
     shelf: &mut H,
     out: &mut K,
 ) -> u8
-    ensures { IsOutcome (met (seen (H.holds shelf.old) (H.faults shelf.old) (H.faults shelf.new)) (K.written out.old) (K.written out.new)
+    // From each place of the file of the line at most one read begins, and no other file is read.
+    ensures begun { AreBegun (H.begun shelf.old) (H.begun shelf.new) (files_of (lawful_request (map (λ w. string_bytes w) words.now))) }
+    ensures outcome { IsOutcome (met (seen (H.holds shelf.old) (H.faults shelf.old) (H.faults shelf.new)) (K.written out.old) (K.written out.new)
         (K.faults out.old) (K.faults out.new)) (lawful_request (map (λ w. string_bytes w) words.now)) result }
 {
     let Ok(answer) = due(alloc, words, shelf) else {

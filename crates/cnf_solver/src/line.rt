@@ -1,13 +1,15 @@
 //! The words of the command line, as `clap` reads them.
 ghost use Rattle.std.specs.Prelude.{◌≡◌, ◌≤◌, Some, None, IfOk, IfSome, IsErrOf, map, option_map, string_bytes, true, false, codes};
-ghost use Rattle.clap.specs.Words.{first_of, found_of, matches_of, rows_of, rule_of};
-ghost use Rattle.command_line.specs.Lines.{IsMade, file_argument, number_in, number_option, whole_in};
+ghost use Rattle.clap.specs.Words.{found_of, matches_of, rows_of, rule_of};
+ghost use Rattle.command_line.specs.Lines.{IsMade, file_argument, number_option};
 ghost use Rattle.cnf_solver.specs.Requests.{certificate_flag, is_set, lawful_request, request_in, request_of, solve_app, takes_line};
 
 use crate::request::Request;
+use call_form::CONFLICTS;
 use clap::builder::ValueParser;
 use clap::{Arg, ArgAction, ArgMatches, Command};
-use command_line::{LineError, line_error};
+use command_line::LineError;
+use command_line::found::{matches_in, number, text};
 use std::alloc::{AllocError, Global};
 
 // The required name of the file.
@@ -25,8 +27,8 @@ fn conflicts<'a>(alloc: Global) -> Arg<'a>
 {
     Arg::new(alloc, "conflicts")
         .long("conflicts")
-        .value_parser(ValueParser::unsigned(1, 4294967295))
-        .default_value("200000")
+        .value_parser(ValueParser::unsigned(CONFLICTS.low, CONFLICTS.high))
+        .default_value(CONFLICTS.written)
 }
 
 // The flag that asks for a certificate.
@@ -57,34 +59,7 @@ fn matches_of<'a>(alloc: Global, words: &'a [String]) -> Result<ArgMatches<'a>, 
     ensures usage { IsErrOf result LineError.Usage → takes_line (map string_bytes words.now) ≡ false }
 {
     let command = command(alloc)?;
-    match command.try_get_matches_from(words) {
-        Ok(matches) => Ok(matches),
-        Err(error) => Err(line_error(&error)),
-    }
-}
-
-fn whole(matches: &ArgMatches<'_>, id: &str) -> Option<u64>
-    ensures { result ≡ whole_in id.now (rows_of (found_of matches.now)) }
-{
-    matches.get_one::<u64>(id)
-}
-
-fn number(matches: &ArgMatches<'_>, id: &str, low: u64, high: u64) -> Option<u64>
-    ensures value { result ≡ number_in low high id.now (rows_of (found_of matches.now)) }
-    ensures range { IfSome result (λ n. (low ≤ n) × (n ≤ high)) }
-{
-    let number = whole(matches, id)?;
-    if low <= number && number <= high {
-        Some(number)
-    } else {
-        None
-    }
-}
-
-fn text<'a>(matches: &ArgMatches<'a>, id: &str) -> Option<&'a str>
-    ensures { option_map (λ s. s.now) result ≡ first_of id.now (rows_of (found_of matches.now)) }
-{
-    matches.get_str(id)
+    matches_in(command, words)
 }
 
 fn is_true(text: Option<&str>) -> bool
@@ -101,7 +76,7 @@ fn request_in<'a>(matches: &ArgMatches<'a>) -> Option<Request<'a>>
     ensures lawful { IfSome result (λ r. 1 ≤ r.conflicts) }
 {
     let file = text(matches, "file")?;
-    let conflicts = number(matches, "conflicts", 1, 4294967295)?;
+    let conflicts = number(matches, "conflicts", CONFLICTS.low, CONFLICTS.high)?;
     let certificate = is_true(text(matches, "certificate"));
     Some(Request {
         file,

@@ -2,7 +2,8 @@
 ghost use Rattle.std.specs.Prelude.{◌≡◌, IfOk, OnErr, map, string_bytes};
 ghost use Rattle.std.specs.Process.{exit_status};
 ghost use Rattle.cnf_solver.specs.Ends.{IsOutcome};
-ghost use Rattle.cnf_solver.specs.Requests.{lawful_request};
+ghost use Rattle.cnf_solver.specs.Requests.{files_of, lawful_request};
+ghost use Rattle.io_edges.specs.Begun.{AreBegun};
 ghost use Rattle.io_edges.specs.Met.{met, seen};
 
 use crate::call::bilv_solve;
@@ -21,6 +22,7 @@ pub fn answer_words<H: Shelf, K: Sink>(
 ) -> ExitCode
     ensures answered { IfOk words (λ w. IsOutcome (met (seen (H.holds shelf.old) (H.faults shelf.old) (H.faults shelf.new)) (K.written out.old)
         (K.written out.new) (K.faults out.old) (K.faults out.new)) (lawful_request (map (λ x. string_bytes x) w.items)) (exit_status result)) }
+    ensures begun { IfOk words (λ w. AreBegun (H.begun shelf.old) (H.begun shelf.new) (files_of (lawful_request (map (λ x. string_bytes x) w.items)))) }
     ensures no_words { OnErr words ((exit_status result ≡ 8) × (K.written out.new ≡ K.written out.old)) }
 {
     let Ok(words) = words else {

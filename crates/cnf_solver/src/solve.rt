@@ -1,5 +1,5 @@
 //! From the name of a file to the answer.
-ghost use Rattle.std.specs.Prelude.{◌≡◌, ℕ, ◌≤◌, ◌^◌, IfOk, IfErr, length};
+ghost use Rattle.std.specs.Prelude.{◌≡◌, ℕ, ◌≤◌, ◌^◌, [], ◌∷◌, IfOk, IfErr, length};
 ghost use Rattle.call_spec.specs.Calls.{plain_answer, AfterRead};
 ghost use Rattle.clause_spec.specs.CertificateGrammar.{Clauses, cnf_of as clauses_of};
 ghost use Rattle.clause_spec.specs.Clauses.{AreOnVariables};
@@ -9,6 +9,7 @@ ghost use Rattle.cnf_form.specs.Views.{cnf_of};
 ghost use Rattle.cnf_solver.specs.Answers.{answer_of};
 ghost use Rattle.cnf_solver.specs.Requests.{request_of};
 ghost use Rattle.cnf_solver.specs.Solutions.{IsSaid, IsSolved, as_certificate};
+ghost use Rattle.io_edges.specs.Begun.{AreBegun};
 ghost use Rattle.io_edges.specs.Met.{seen};
 
 use crate::answer::Answer;
@@ -100,7 +101,8 @@ pub fn obey<H: Shelf>(
     shelf: &mut H,
 ) -> Result<Answer, AllocError>
     requires { 1 ≤ request.conflicts }
-    ensures { IfOk result (λ a. AfterRead (seen (H.holds shelf.old) (H.faults shelf.old) (H.faults shelf.new)) request.entry.file.now
+    ensures begun { AreBegun (H.begun shelf.old) (H.begun shelf.new) (request.entry.file.now ∷ []) }
+    ensures read { IfOk result (λ a. AfterRead (seen (H.holds shelf.old) (H.faults shelf.old) (H.faults shelf.new)) request.entry.file.now
         (λ text. IsSolved text (request_of request.entry)) (answer_of a)) }
 {
     match read_all(alloc, shelf, request.file, TEXT_LIMIT) {

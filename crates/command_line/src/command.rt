@@ -1,59 +1,6 @@
 //! Commands.
+use call_form::{Budget, Kind};
 use state_text::Profile;
-
-/// The most backward transfers of a run that a budget allows.
-pub(crate) const MOST_UNROLL: u64 = 4096;
-
-/// The most points.
-pub(crate) const MOST_POINTS: u64 = 16_777_216;
-
-/// The highest price.
-pub(crate) const MOST_SIZE: u64 = 1 << 62;
-
-/// The most conflicts.
-pub(crate) const MOST_CONFLICTS: u64 = 4_294_967_295;
-
-/// What `smt` and `cert` ask.
-#[derive(Clone, Copy, PartialEq, Eq, Debug)]
-pub enum Question {
-    /// Whether there is a state at entry.
-    Entry,
-    /// Whether a run fails.
-    Fail,
-    /// Whether a run makes too many backward transfers.
-    Turn,
-}
-
-/// How much work a command may do.
-#[derive(Clone, Copy, PartialEq, Eq, Debug)]
-pub struct Budget {
-    /// Backward transfers of a run, 0 to 4096.
-    pub unroll: u64,
-    /// Points of the unrolled program, 1 to 16777216.
-    pub points: u64,
-    /// The price of the clauses, 1 to 2^62.
-    pub size: u64,
-    /// Conflicts of a search, 1 to 4294967295.
-    pub conflicts: u64,
-}
-
-impl Budget {
-    ghost use Rattle.std.specs.Prelude.{◌≡◌};
-    ghost use Rattle.call_spec.specs.Calls.{default_budget};
-    ghost use Rattle.command_line.specs.Commands.{budget_of};
-
-    /// The budget where none is given.
-    pub fn standard() -> Budget
-        ensures { budget_of result ≡ default_budget }
-    {
-        Budget {
-            unroll: 64,
-            points: 65_536,
-            size: 1_073_741_824,
-            conflicts: 200_000,
-        }
-    }
-}
 
 /// What an executable leaves open of its machine.
 #[derive(Clone, Copy, PartialEq, Eq, Debug)]
@@ -121,7 +68,7 @@ pub enum Command<'a> {
         elf: &'a str,
         notes: &'a str,
         options: Options,
-        question: Question,
+        question: Kind,
         budget: Budget,
     },
     /// Runs the start that a report holds.
@@ -136,7 +83,7 @@ pub enum Command<'a> {
         elf: &'a str,
         notes: &'a str,
         options: Options,
-        question: Question,
+        question: Kind,
         budget: Budget,
     },
     /// Checks a certificate.
@@ -172,7 +119,7 @@ pub enum Command<'a> {
         notes: &'a str,
         answer: &'a str,
         options: Options,
-        question: Question,
+        question: Kind,
         budget: Budget,
     },
 }

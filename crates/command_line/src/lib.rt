@@ -2,9 +2,11 @@
 #![tactic(auto)]
 
 mod command;
+pub mod found;
 mod program;
 mod reader;
 mod values;
 
-pub use command::{Budget, Command, Options, PairNames, Question};
-pub use reader::{LineError, line_error, read_command};
+pub use call_form::{Budget, Kind};
+pub use command::{Command, Options, PairNames};
+pub use reader::{LineError, read_command};

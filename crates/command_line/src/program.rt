@@ -3,7 +3,7 @@ ghost use Rattle.std.specs.Prelude.{◌≡◌, IfOk, false};
 ghost use Rattle.clap.specs.Words.{App, rule_of};
 ghost use Rattle.command_line.specs.Lines.{IsMade, arm_option, asking, bilv_app, budgets, check, differ, equal, file_argument, model, number_argument, number_option, others, over_elf, over_pair, over_program, over_programs, over_questions, question_option, replay, rvc_option, selfrun, verify, with_rules, with_subcommands};
 
-use crate::command::{MOST_CONFLICTS, MOST_POINTS, MOST_SIZE, MOST_UNROLL};
+use call_form::{CONFLICTS, POINTS, Range, SIZE, UNROLL};
 use clap::builder::{ArgAction, ValueParser};
 use clap::{Arg, Command};
 use std::alloc::{AllocError, Global};
@@ -27,14 +27,14 @@ fn number<'a>(alloc: Global, name: &'a str, low: u64, high: u64) -> Arg<'a>
 }
 
 // An option whose value is a whole number in a range.
-fn budget<'a>(alloc: Global, name: &'a str, low: u64, high: u64, default: &'a str) -> Arg<'a>
-    ensures rule { rule_of result ≡ number_option name.entry.now low high default.entry.now }
+fn budget<'a>(alloc: Global, name: &'a str, range: Range) -> Arg<'a>
+    ensures rule { rule_of result ≡ number_option name.entry.now range.low range.high range.written.now }
     ensures local { result.global ≡ false }
 {
     Arg::new(alloc, name)
         .long(name)
-        .value_parser(ValueParser::unsigned(low, high))
-        .default_value(default)
+        .value_parser(ValueParser::unsigned(range.low, range.high))
+        .default_value(range.written)
 }
 
 // The required option that names a question.
@@ -68,10 +68,10 @@ fn with_budgets<'a>(alloc: Global, command: Command<'a>) -> Result<Command<'a>, 
     ensures { IfOk result (λ c. (a : App) → IsMade a command.entry → IsMade (with_rules a budgets) c) }
 {
     let command = command
-        .arg(budget(alloc, "unroll", 0, MOST_UNROLL, "64"))?
-        .arg(budget(alloc, "points", 1, MOST_POINTS, "65536"))?
-        .arg(budget(alloc, "size", 1, MOST_SIZE, "1073741824"))?
-        .arg(budget(alloc, "conflicts", 1, MOST_CONFLICTS, "200000"))?;
+        .arg(budget(alloc, "unroll", UNROLL))?
+        .arg(budget(alloc, "points", POINTS))?
+        .arg(budget(alloc, "size", SIZE))?
+        .arg(budget(alloc, "conflicts", CONFLICTS))?;
     Ok(command)
 }
 

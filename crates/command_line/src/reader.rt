@@ -7,6 +7,7 @@ ghost use Rattle.command_line.specs.Lines.{bilv_app, command_in, lawful_command,
 ghost use Rattle.clap.specs.declared.error.kind.ErrorKind.TheVariants as kind;
 
 use crate::command::Command;
+use crate::found::matches_in;
 use crate::program::bilv;
 use crate::values::command_named;
 use clap::ArgMatches;
@@ -36,7 +37,7 @@ impl From<AllocError> for LineError {
 }
 
 /// What an error of `clap` says of the line.
-pub fn line_error(error: &clap::Error) -> LineError
+pub(crate) fn line_error(error: &clap::Error) -> LineError
     ensures memory { kind_of error.now ≡ kind.OutOfMemory → result ≡ LineError.Memory }
     ensures usage { kind_of error.now ≢ kind.OutOfMemory → result ≡ LineError.Usage }
 {
@@ -54,10 +55,7 @@ fn matches_of<'a>(alloc: Global, words: &'a [String]) -> Result<ArgMatches<'a>, 
     ensures usage { IsErrOf result LineError.Usage → takes_line (map string_bytes words.now) ≡ false }
 {
     let command = bilv(alloc)?;
-    match command.try_get_matches_from(words) {
-        Ok(matches) => Ok(matches),
-        Err(error) => Err(line_error(&error)),
-    }
+    matches_in(command, words)
 }
 
 fn command_in<'a>(matches: &ArgMatches<'a>) -> Option<Command<'a>>

@@ -1,51 +1,31 @@
 //! Commands, from what was found for a subcommand.
 ghost use Rattle.std.specs.Prelude.{◌≡◌, ◌≤◌, IfSome, option_map};
-ghost use Rattle.call_spec.specs.Calls.{IsBudget};
 ghost use Rattle.command_spec.specs.Commands.{IsLawfulCommand};
-ghost use Rattle.clap.specs.Words.{first_of, found_of, rows_of};
-ghost use Rattle.command_line.specs.Commands.{budget_of, command_of, names_of, options_of, question_of};
+ghost use Rattle.clap.specs.Words.{found_of, rows_of};
+ghost use Rattle.command_line.specs.Commands.{budget_of, command_of, kind_of, names_of, options_of};
 ghost use Rattle.command_line.specs.Lines as lines;
 ghost use Rattle.state_text.specs.Starts.{profile_in};
 
-use crate::command::{
-    Budget, Command, MOST_CONFLICTS, MOST_POINTS, MOST_SIZE, MOST_UNROLL, Options, PairNames,
-    Question,
-};
+use crate::command::{Command, Options, PairNames};
+use crate::found::{number, text};
+use call_form::{Budget, CONFLICTS, Kind, POINTS, Range, SIZE, UNROLL};
 use clap::ArgMatches;
 use state_text::Profile;
 
-fn text<'a>(matches: &ArgMatches<'a>, id: &str) -> Option<&'a str>
-    ensures { option_map (λ s. s.now) result ≡ first_of id.now (rows_of (found_of matches.now)) }
+fn within(matches: &ArgMatches<'_>, id: &str, range: Range) -> Option<u64>
+    ensures value { result ≡ lines.number_in range.low range.high id.now (rows_of (found_of matches.now)) }
+    ensures range { IfSome result (λ n. (range.low ≤ n) × (n ≤ range.high)) }
 {
-    matches.get_str(id)
-}
-
-fn whole(matches: &ArgMatches<'_>, id: &str) -> Option<u64>
-    ensures { result ≡ lines.whole_in id.now (rows_of (found_of matches.now)) }
-{
-    matches.get_one::<u64>(id)
-}
-
-fn number(matches: &ArgMatches<'_>, id: &str, low: u64, high: u64) -> Option<u64>
-    ensures value { result ≡ lines.number_in low high id.now (rows_of (found_of matches.now)) }
-    ensures range { IfSome result (λ n. (low ≤ n) × (n ≤ high)) }
-{
-    let number = whole(matches, id)?;
-    if low <= number && number <= high {
-        Some(number)
-    } else {
-        None
-    }
+    number(matches, id, range.low, range.high)
 }
 
 fn budget(matches: &ArgMatches<'_>) -> Option<Budget>
-    ensures value { option_map budget_of result ≡ lines.budget_in (rows_of (found_of matches.now)) }
-    ensures range { IfSome result (λ b. IsBudget (budget_of b)) }
+    ensures { option_map budget_of result ≡ lines.budget_in (rows_of (found_of matches.now)) }
 {
-    let unroll = number(matches, "unroll", 0, MOST_UNROLL)?;
-    let points = number(matches, "points", 1, MOST_POINTS)?;
-    let size = number(matches, "size", 1, MOST_SIZE)?;
-    let conflicts = number(matches, "conflicts", 1, MOST_CONFLICTS)?;
+    let unroll = within(matches, "unroll", UNROLL)?;
+    let points = within(matches, "points", POINTS)?;
+    let size = within(matches, "size", SIZE)?;
+    let conflicts = within(matches, "conflicts", CONFLICTS)?;
     Some(Budget {
         unroll,
         points,
@@ -54,19 +34,19 @@ fn budget(matches: &ArgMatches<'_>) -> Option<Budget>
     })
 }
 
-fn question_named(name: &str) -> Option<Question>
-    ensures { option_map question_of result ≡ lines.question_named name.now }
+fn question_named(name: &str) -> Option<Kind>
+    ensures { option_map kind_of result ≡ lines.question_named name.now }
 {
     match name {
-        "entry" => Some(Question::Entry),
-        "fail" => Some(Question::Fail),
-        "turn" => Some(Question::Turn),
+        "entry" => Some(Kind::Entry),
+        "fail" => Some(Kind::Fail),
+        "turn" => Some(Kind::Turn),
         _ => None,
     }
 }
 
-fn question(matches: &ArgMatches<'_>) -> Option<Question>
-    ensures { option_map question_of result ≡ lines.question_in (rows_of (found_of matches.now)) }
+fn question(matches: &ArgMatches<'_>) -> Option<Kind>
+    ensures { option_map kind_of result ≡ lines.question_in (rows_of (found_of matches.now)) }
 {
     question_named(text(matches, "question")?)
 }

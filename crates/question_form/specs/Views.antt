@@ -4,31 +4,23 @@ use Rattle.word_spec.specs.Memory.{endian}
 use Rattle.bilv_spec.specs.Notes as notes
 use Rattle.machine_spec.specs.Bil.{Empty}
 use Rattle.word_spec.specs.RowFiles.{from_to}
-use Rattle.call_spec.specs.Calls.{Question, EntryQuestion, FailQuestion, TurnQuestion}
 use Rattle.walk_spec.specs.Unrolled as walk
 use Rattle.walk_spec.specs.Unrolled.{Aim as WalkAim, PointExit, FalseAssert, Always, Raising, WritingKept, Unaligned, Along, Action, Executes, UnrolledPoint, UnrolledProgram, AddressRun}
 use Rattle.walk_spec.specs.Unrolling.{stop_event}
+pub use Rattle.call_form.specs.Views.{kind_of}
 use Rattle.bil_ast.specs.declared.statements.Stmt.{Stmt}
 use Rattle.bil_ast.specs.Views.{statements}
 use Rattle.state_text.specs.Starts.{layout_of}
-use Rattle.notes_lang.specs.Drafting.{notes_of}
+use Rattle.notes_value.specs.NoteViews.{notes_of}
 use Rattle.known_bytes.specs.Runs.{run_of}
 use Rattle.program_points.specs.Tables.{stack_at}
 use Rattle.std.specs.Global.{Vec}
-use Rattle.question_form.specs.declared.unrolled.Kind.{Kind}
-use Rattle.question_form.specs.declared.unrolled.Kind.TheVariants as kind
 use Rattle.question_form.specs.declared.unrolled.Aim.{Aim}
 use Rattle.question_form.specs.declared.unrolled.Aim.TheVariants.{OnTo, Outward, OverLast}
 use Rattle.question_form.specs.declared.unrolled.Edge.{Edge}
 use Rattle.question_form.specs.declared.unrolled.Code.{Code}
 use Rattle.question_form.specs.declared.unrolled.Point.{Point}
 use Rattle.question_form.specs.declared.unrolled.Unrolled.{Unrolled}
-
--- a question
-abbrev pub kind_of : Kind → Question
-kind_of kind.Entry = EntryQuestion
-kind_of kind.Fail = FailQuestion
-kind_of kind.Turn = TurnQuestion
 
 -- where an edge leads
 abbrev pub aim_of : Aim → WalkAim

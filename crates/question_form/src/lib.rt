@@ -4,7 +4,8 @@
 mod questions;
 mod unrolled;
 
+pub use call_form::Kind;
 pub use known_bytes::Known;
 pub use program_points::Frame;
 pub use questions::{Passive, Question};
-pub use unrolled::{Aim, Code, Edge, Kind, Point, Unrolled};
+pub use unrolled::{Aim, Code, Edge, Point, Unrolled};

@@ -1,17 +1,9 @@
-//! The unrolled program, and the kinds of questions.
+//! The unrolled program.
 use bil_ast::Stmt;
 use known_bytes::Known;
-use notes_lang::Notes;
+use notes_value::Notes;
 use program_points::Frame;
 use state_text::Layout;
-
-/// Which question is asked: whether there is an entry state, whether its run has an event, or whether its run makes too many backward transfers.
-#[derive(Clone, Copy, PartialEq, Eq, Debug)]
-pub enum Kind {
-    Entry,
-    Fail,
-    Turn,
-}
 
 /// Where an edge leads.
 #[derive(Clone, Copy, PartialEq, Eq, Debug)]

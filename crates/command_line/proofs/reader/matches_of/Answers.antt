@@ -1,27 +1,27 @@
-use Rattle.std.proofs.Common.{◌∙◌, List, ap, inl, inr, map, string_bytes, sym}
+use Rattle.std.proofs.Common.{◌∙◌, List, ap, map, string_bytes, sym}
+use Rattle.std.proofs.lemmas.Result.{IfOk-weaker}
 use Rattle.clap.specs.Words.{App, Text, fault_of, is_simple, is_simple_and_free, subcommand_of}
 use Rattle.clap.specs.Walk.{is_empty}
 use Rattle.command_line.specs.Lines.{takes_line}
-use Rattle.command_line.proofs.Faults.{is_simple_alone, is_simple_bilv, some_fault}
+use Rattle.command_line.proofs.Faults.{is_simple_alone, is_simple_bilv}
 use Rattle.command_line.proofs.reader.matches_of.Goals as goal
 
-pub returns-in-Ok-clause-ok : goal.returns-in-Ok-clause-ok
-unfolding takes_line
-returns-in-Ok-clause-ok c =
-    let is = c.in_ok-command.ensures.app in
-    let words : List Text = map string_bytes c.args.words.now in
-    let none = c.in-Ok.ensures.kinds (ap is_simple_and_free is ∙ is_simple_bilv) in
-    let found = c.in-Ok.ensures.matches (ap is_simple is ∙ is_simple_alone) in
-    (ap (λ (a : App). is_empty (fault_of a words)) (sym is) ∙ ap is_empty none, found.1 ∙ ap (λ (a : App). subcommand_of a words) is)
+pub matches_in-requires-clause-simple : goal.matches_in-requires-clause-simple
+matches_in-requires-clause-simple c = ap is_simple c.in_ok-command.ensures.app ∙ is_simple_alone
 
-pub returns-in-Err-clause-usage : goal.returns-in-Err-clause-usage
+pub matches_in-requires-clause-free : goal.matches_in-requires-clause-free
+matches_in-requires-clause-free c = ap is_simple_and_free c.in_ok-command.ensures.app ∙ is_simple_bilv
+
+pub returns-clause-ok : goal.returns-clause-ok
 unfolding takes_line
-returns-in-Err-clause-usage c usage =
+returns-clause-ok c =
     let is = c.in_ok-command.ensures.app in
     let words : List Text = map string_bytes c.args.words.now in
-    ap (λ (a : App). is_empty (fault_of a words)) (sym is) ∙ elim (c.in-Err.ensures.kinds (ap is_simple_and_free is ∙ is_simple_bilv)) [
-      | inl memory ↦
-          let other = c.line_error.ensures.memory memory in
-          cc
-      | inr among ↦ some_fault _ _ among
-    ]
+    IfOk-weaker c.matches_in.result _ _
+    (λ m h. (ap (λ (a : App). is_empty (fault_of a words)) (sym is) ∙ h.0, h.2 ∙ ap (λ (a : App). subcommand_of a words) is)) c.matches_in.ensures.ok
+
+pub returns-clause-usage : goal.returns-clause-usage
+unfolding takes_line
+returns-clause-usage c usage =
+    let words : List Text = map string_bytes c.args.words.now in
+    ap (λ (a : App). is_empty (fault_of a words)) (sym c.in_ok-command.ensures.app) ∙ c.matches_in.ensures.usage usage
