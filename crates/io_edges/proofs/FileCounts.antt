@@ -1,15 +1,17 @@
 -- The counts of files, and those that a failed read leaves.
-use Rattle.std.proofs.Common.{◌≡◌, ◌≢◌, ℕ, zero, suc, ◌≤◌, List, [], ◌∷◌, Bool, true, false, length, get_or, set, replicate, refl, ap, sym, ◌∙◌, arith, string_bytes}
-use Rattle.std.specs.Prelude.{if◌then◌else◌}
+use Rattle.std.proofs.Common.{◌≡◌, ◌≢◌, ℕ, zero, suc, ◌≤◌, List, [], ◌∷◌, Bool, true, false, length, get_or, set, replicate, refl, ap, sym, ◌∙◌, arith, string_bytes, ◌+◌, subst}
+use Rattle.std.specs.Prelude.{◌==◌, ◌&&◌, if◌then◌else◌}
 use Rattle.std.specs.Str.{bytes_eq}
 use Rattle.std.proofs.Math.Nat.{le_refl}
+use Rattle.std.proofs.lemmas.Bool.Decides.{nat_tests}
 use Rattle.std.proofs.lemmas.Slice.Eq.{bytes_eq-Decides}
 use Rattle.call_spec.specs.Outside.{Held, Absent, Bytes}
 use Rattle.io_edges.specs.declared.files.MemFile.{MemFile}
-use Rattle.io_edges.specs.Counts.{one_more, RaisesOnly}
+use Rattle.io_edges.specs.Begun.{one_if, BeginsAt}
+use Rattle.io_edges.specs.Counts.{count_begun, one_more, RaisesOnly}
 use Rattle.io_edges.specs.Files.{held_by}
 use Rattle.io_edges.specs.Places.{IsPlace}
-use Rattle.io_edges.specs.Shelves.{count_at}
+use Rattle.io_edges.specs.Shelves.{begun_at, count_at}
 
 -- a choice of two counts, by its test
 chosen : (t : Bool) (a b c : ℕ) → a ≡ c → b ≡ c → (if t then a else b) ≡ c
@@ -116,3 +118,47 @@ raises_absent files counts a b name none long more = record {
   others_held = λ n other held. count_held files counts b a n long held;
   others_absent = λ n held none'. absurd (held none);
 }
+
+-- ---- reads that began
+
+pub begun_zero : (files : List MemFile) (n : ℕ) (name : List ℕ) (place : ℕ) → begun_at files (replicate n 0) name place ≡ 0
+begun_zero files n name place = chosen (place == 0) (count_at files (replicate n 0) 0 name) 0 0 (count_zero files n name) refl
+
+-- a read of a name that is held raises its count, if it began at the first byte
+pub begun_here : (files : List MemFile) (counts : List ℕ) (name : List ℕ) (i d c at : ℕ) → IsPlace files name i → length counts ≡ length files →
+    c ≡ count_begun at (get_or counts i d) → count_at files (set counts i c) 0 name ≡ count_begun at (count_at files counts 0 name)
+begun_here files counts name i d c at p long more =
+    set_here files counts 0 name i c p long ∙ more ∙ ap (count_begun at) (sym (count_here files counts 0 name i d p long))
+
+raised_by : (place at v w : ℕ) → (place == 0) ≡ true → w ≡ count_begun at v → w ≤ v + one_if (place == at)
+raised_by place at v w first is = by (at == 0) refl
+  where
+    by : (t : Bool) → (at == 0) ≡ t → w ≤ v + one_if (place == at)
+    by true e =
+        let more : w ≡ one_more v = is ∙ ap (λ z. if z then one_more v else v) e in
+        let here : (place == at) ≡ true = grind (arith, nat_tests) in
+        let o : one_if (place == at) ≡ 1 = ap one_if here in
+        omega (arith, more, o)
+    by false e = let more : w ≡ v = is ∙ ap (λ z. if z then one_more v else v) e in omega (arith, more)
+
+pub begins_here : (files : List MemFile) (counts : List ℕ) (name : List ℕ) (i d c at : ℕ) → IsPlace files name i → length counts ≡ length files →
+    c ≡ count_begun at (get_or counts i d) → BeginsAt (begun_at files counts) (begun_at files (set counts i c)) name at
+begins_here files counts name i d c at p long more n place = by (place == 0) refl
+  where
+    same : (t : Bool) → bytes_eq n name ≡ t → (place == 0) ≡ true →
+        count_at files (set counts i c) 0 n ≤ count_at files counts 0 n + one_if (t && (place == at))
+    same true e first =
+        let is = (bytes_eq-Decides n name).0 e in
+        raised_by place at (count_at files counts 0 n) (count_at files (set counts i c) 0 n) first
+        (subst (λ x. count_at files (set counts i c) 0 x ≡ count_begun at (count_at files counts 0 x)) (sym is)
+        (begun_here files counts name i d c at p long more))
+    same false e first =
+        let other : n ≢ name = λ is. let t = (bytes_eq-Decides n name).1 is in cc in
+        let kept = set_other files counts 0 name n i c p other in
+        omega (arith, kept)
+
+    by : (t : Bool) → (place == 0) ≡ t →
+        (if t then count_at files (set counts i c) 0 n else 0)
+        ≤ (if t then count_at files counts 0 n else 0) + one_if (bytes_eq n name && (place == at))
+    by true e = same (bytes_eq n name) refl e
+    by false e = omega arith

@@ -1,4 +1,5 @@
 pub mod Fronts
+pub mod Beginning
 pub mod FilePlaces
 pub mod FileCounts
 pub mod Named

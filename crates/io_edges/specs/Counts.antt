@@ -6,6 +6,10 @@ use Rattle.call_spec.specs.Outside.{Held, Absent}
 abbrev pub one_more : ℕ → ℕ
 one_more count = min (count + 1) (2 ^ 64 - 1)
 
+-- a count of reads that began at the first byte, after a read from a place on
+abbrev pub count_begun : (at : ℕ) → ℕ → ℕ
+count_begun at count = if at == 0 then one_more count else count
+
 -- a count after a write took so many bytes of a piece: to take none of a nonempty piece is a fault
 abbrev pub count_after : ℕ → List ℕ → ℕ → ℕ
 count_after count piece taken = if taken == 0 && nat_lt 0 (length piece) then one_more count else count

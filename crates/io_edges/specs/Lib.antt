@@ -1,5 +1,6 @@
 pub mod Counts
 pub mod Files
+pub mod Begun
 pub mod Places
 pub mod WriteFaults
 pub mod Shelves

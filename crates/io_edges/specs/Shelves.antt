@@ -1,5 +1,5 @@
 -- What shelves tell, and their counts.
-use Rattle.std.specs.Prelude.{ℕ, ◌≡◌, ◌⊎◌, List, [], ◌∷◌, Option, Contains, string_bytes, if◌then◌else◌}
+use Rattle.std.specs.Prelude.{ℕ, ◌≡◌, ◌==◌, ◌⊎◌, List, [], ◌∷◌, Option, Contains, string_bytes, if◌then◌else◌}
 use Rattle.std.specs.Str.{bytes_eq}
 use Rattle.call_spec.specs.Outside.{Held, Absent}
 use Rattle.io_edges.specs.declared.files.MemFile.{MemFile}
@@ -22,6 +22,13 @@ held_in s name = held_by s.files.items name
 -- how many reads of a name failed
 abbrev pub faults_in : MemShelf → List ℕ → ℕ
 faults_in s name = count_at s.files.items s.counts.items s.absent name
+
+-- how many reads of a name began at a place, by the counts of the files: those that began at a first byte are counted
+abbrev pub begun_at : List MemFile → List ℕ → List ℕ → (place : ℕ) → ℕ
+begun_at files counts name place = if place == 0 then count_at files counts 0 name else 0
+
+abbrev pub begun_in : MemShelf → List ℕ → (place : ℕ) → ℕ
+begun_in s name place = begun_at s.files.items s.begun.items name place
 
 -- the numbers of the reads that fail
 abbrev pub failing_reads : MemShelf → List ℕ

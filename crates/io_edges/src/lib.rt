@@ -1,8 +1,9 @@
 //! What a program reads and writes: files by name, and a sink of text, each with a count of its faults.
 #![tactic(auto)]
 
-ghost use Rattle.std.specs.Prelude.{◌≡◌, ◌≢◌, ℕ, ◌≤◌, ◌<◌, List, Option, length, take, IfOk, IfErr, OnOk, OnErr, IsErrOf};
+ghost use Rattle.std.specs.Prelude.{◌≡◌, ◌≢◌, ℕ, ◌≤◌, ◌<◌, List, [], ◌∷◌, Option, length, take, IfOk, IfErr, OnOk, OnErr, IsErrOf};
 ghost use Rattle.call_spec.specs.Outside.{Held, Agrees, IsLonger, Rose, Reads, Appends};
+ghost use Rattle.io_edges.specs.Begun.{AreBegun, BeginsAt};
 ghost use Rattle.io_edges.specs.WriteFaults.{Stopped, CountsError};
 
 use std::alloc::Global;
@@ -38,12 +39,16 @@ pub trait Shelf {
     /// How many reads of a name failed. It never falls, and may stay at the last value of 64 bits.
     ghost faults: { Self → List ℕ → ℕ };
 
+    /// How many reads of a name began at a place. A shelf may leave reads uncounted: what is said of any shelf holds of one that counts them all.
+    ghost begun: { Self → List ℕ → ℕ → ℕ };
+
     /// Fills the front of a buffer with the bytes of a file from the byte `at` on, and says how many it filled.
     /// Of a nonempty buffer it fills none only at the file's end. A name that no file has is a fault.
     /// What the rest of the buffer has is left open, and after an `Err` what all of it has.
     fn read(&mut self, name: &str, at: u64, into: &mut [u8]) -> Result<usize, Failed>
         ensures keeps { (n : List ℕ) → holds self.new n ≡ holds self.old n }
         ensures never_falls { (n : List ℕ) → faults self.old n ≤ faults self.new n }
+        ensures begins { BeginsAt (begun self.old) (begun self.new) name.now at }
         ensures within { IfOk result (λ n. n ≤ length into.new) }
         ensures ok { IfOk result (λ n. Reads (holds self.old name.now) at into.new n) }
         ensures failed { OnErr result (Rose (faults self.old name.now) (faults self.new name.now)) }
@@ -116,6 +121,7 @@ pub fn read_all<H: Shelf>(
 ) -> Result<Vec<u8>, ReadFault>
     ensures keeps { (n : List ℕ) → H.holds shelf.new n ≡ H.holds shelf.old n }
     ensures never_falls { (n : List ℕ) → H.faults shelf.old n ≤ H.faults shelf.new n }
+    ensures begun { AreBegun (H.begun shelf.old) (H.begun shelf.new) (name.now ∷ []) }
     ensures whole { IfOk result (λ v. Agrees (H.holds shelf.old name.now) v.items) }
     ensures within { IfOk result (λ v. length v.items ≤ limit) }
     ensures too_large { IsErrOf result ReadFault.TooLarge →

@@ -24,6 +24,7 @@ impl NeverFailShelf {
 impl Shelf for NeverFailShelf {
     ghost use Rattle.std.specs.Prelude.{◌≡◌, ℕ, ◌≤◌, List, length, IfOk, IsOk};
     ghost use Rattle.call_spec.specs.Outside.{Reads};
+    ghost use Rattle.io_edges.specs.Begun.{BeginsAt};
     ghost use Rattle.io_edges.specs.Files.{Fills};
     ghost use Rattle.io_edges.specs.Shelves.{kept_in};
 
@@ -31,10 +32,13 @@ impl Shelf for NeverFailShelf {
 
     ghost faults = { λ _ _. 0 };
 
+    ghost begun = { λ _ _ _. 0 };
+
     #[tactic(auto, using(crate::proofs::FilePlaces::held_here))]
     fn read(&mut self, name: &str, at: u64, into: &mut [u8]) -> Result<usize, Failed>
         ensures keeps { (n : List ℕ) → kept_in self.new n ≡ kept_in self.old n }
         ensures never { IsOk result }
+        ensures begins { BeginsAt (λ _ _. 0) (λ _ _. 0) name.now at }
         ensures within { IfOk result (λ n. n ≤ length into.new) }
         ensures ok { IfOk result (λ n. Reads (kept_in self.old name.now) at into.new n) }
         ensures fills { IfOk result (Fills (kept_in self.old name.now) at into.new) }

@@ -2,6 +2,7 @@
 ghost use Rattle.std.specs.Prelude.{◌≡◌, ◌⊎◌, ℕ, ◌≤◌, ◌<◌, List, None, Some, length, IfOk, IfSome, OnOk, OnErr};
 ghost use Rattle.std.specs.Io.KnownBytes.{WriteAppends};
 ghost use Rattle.call_spec.specs.Outside.{Untold, Reads, Rose};
+ghost use Rattle.io_edges.specs.Begun.{BeginsAt};
 ghost use Rattle.io_edges.specs.Counts.{one_more, count_after};
 ghost use Rattle.io_edges.specs.Shelves.{file_faults, last_file};
 ghost use Rattle.io_edges.specs.Sinks.{writer_of, out_faults, out_errors};
@@ -110,8 +111,11 @@ impl<R: Files + AllocGlobal> Shelf for FileShelf<'_, R> {
 
     ghost faults = { λ s _. file_faults s };
 
+    ghost begun = { λ _ _ _. 0 };
+
     fn read(&mut self, name: &str, at: u64, into: &mut [u8]) -> Result<usize, Failed>
         ensures never_falls { (n : List ℕ) → file_faults self.old ≤ file_faults self.new }
+        ensures begins { BeginsAt (λ _ _. 0) (λ _ _. 0) name.now at }
         ensures within { IfOk result (λ n. n ≤ length into.new) }
         ensures ok { IfOk result (λ n. Reads Untold at into.new n) }
         ensures failed { OnErr result (Rose (file_faults self.old) (file_faults self.new)) }
