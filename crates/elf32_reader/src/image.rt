@@ -1,5 +1,5 @@
 //! The image of a file: what it loads, and where its functions are.
-ghost use Rattle.std.specs.Prelude.{ℕ, ◌≡◌, ◌≤◌, ◌<◌, ◌+◌, ◌^◌, ◌&&◌, length, IfOk, IfErr, OnOk, MatchOption, MatchResult, IsTrue, ◌↔◌, None};
+ghost use Rattle.std.specs.Prelude.{ℕ, ◌≡◌, ◌≤◌, ◌<◌, ◌+◌, ◌^◌, ◌&&◌, slice_index, IfOk, IfErr, OnOk, MatchOption, MatchResult, None};
 ghost use Rattle.bilv_spec.specs.Elf.{field, is_big, loaded, byte_at, flags_at, kept_at, IsKeptRuns};
 ghost use Rattle.bilv_spec.specs.ElfFaults.{IsImage, Finds, BadSymbolTable, FileFaultApplies};
 ghost use Rattle.bilv_spec.specs.Files.{is_rv, order_of};
@@ -146,7 +146,19 @@ fn ends_of(file: &[u8], found: &[ProgramHeader])
     ensures { (x : ℕ) → 2 ^ 32 ≤ x → loaded file.now x ≡ None }
 {}
 
+/// Bytes are below 256.
+fn bytes_of(file: &[u8])
+    ensures { (i : ℕ) → slice_index file.now i < 256 }
+{}
+
 impl<'a> Image<'a> {
+    /// The file's bytes are below 256.
+    pub fn bytes(&self)
+        ensures { (i : ℕ) → slice_index self.now i < 256 }
+    {
+        bytes_of(self.file);
+    }
+
     /// No byte is loaded from 2^32 on.
     pub fn ends(&self)
         ensures { (x : ℕ) → 2 ^ 32 ≤ x → loaded self.now x ≡ None }

@@ -15,7 +15,7 @@ pub mod Literals
 mod Found
 pub mod Ordered
 pub mod Adding
-pub mod Asked
+pub mod FileRows
 pub mod Places
 pub mod Coding
 pub mod Ends

@@ -12,7 +12,7 @@ use Rattle.bilv_spec.specs.Points.{line_price, bytes_loaded}
 use Rattle.bil_ast.specs.declared.statements.Stmt.{Stmt}
 use Rattle.walk_spec.specs.Unrolled.{PointExit, Raising, WritingKept, Unaligned, UnrolledPoint, UnrolledProgram, is_edge, goes_out}
 use Rattle.walk_spec.specs.Prices.{line_of, lines_at}
-use Rattle.notes_lang.specs.Drafting.{notes_of}
+use Rattle.notes_value.specs.NoteViews.{notes_of}
 use Rattle.question_form.specs.declared.unrolled.Code.{Code}
 use Rattle.question_form.specs.declared.unrolled.Edge.{Edge}
 use Rattle.question_form.specs.declared.unrolled.Point.{Point}

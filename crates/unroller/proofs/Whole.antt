@@ -18,8 +18,8 @@ use Rattle.graph_nodes.specs.declared.nodes.Node.{Node}
 use Rattle.graph_nodes.specs.declared.nodes.Graph.{Graph}
 use Rattle.graph_nodes.specs.Graphs.{IsGraph, addresses_of}
 use Rattle.graph_nodes.proofs.Places.{at_is}
-use Rattle.notes_lang.specs.declared.notes.Assert.{Assert}
-use Rattle.notes_lang.specs.Drafting.{notes_of, assert_of}
+use Rattle.notes_value.specs.declared.notes.Assert.{Assert}
+use Rattle.notes_value.specs.NoteViews.{notes_of, assert_of}
 use Rattle.notes_index.specs.Indexed.{assert_places, numbered_from}
 use Rattle.program_points.specs.Listed.{HasOneWay}
 use Rattle.program_points.specs.Tables.{stack_at, IsTable}

@@ -10,7 +10,7 @@ use Rattle.bilv_spec.specs.Points.{Point, EdgeEnd, file_row, file_word, row_pric
 use Rattle.walk_spec.specs.Unrolled.{UnrolledProgram, is_register_of, is_flag_of}
 use Rattle.walk_spec.specs.Unrolling.{AreEdgesOf, IsEdge, IsPlace, assert_exits, row_draws}
 use Rattle.graph_nodes.specs.Graphs.{row_length}
-use Rattle.notes_lang.specs.Drafting.{notes_of}
+use Rattle.notes_value.specs.NoteViews.{notes_of}
 use Rattle.question_form.specs.declared.unrolled.Code.{Code}
 use Rattle.question_form.specs.declared.unrolled.Edge.{Edge}
 use Rattle.question_form.specs.declared.unrolled.Point as declared

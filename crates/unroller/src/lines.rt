@@ -1,14 +1,14 @@
 //! What several lines of notes cost.
 ghost use Rattle.std.specs.Prelude.{◌≡◌, ◌<◌, ℕ, length, map, slice_index_or, []};
 ghost use Rattle.std.specs.List.{flat_map};
-ghost use Rattle.notes_lang.specs.Drafting.{note_line_of, assert_of};
+ghost use Rattle.notes_value.specs.NoteViews.{note_line_of, assert_of};
 ghost use Rattle.question_form.specs.Views.{assert_exit};
 ghost use Rattle.walk_spec.specs.Prices.{line_of};
 ghost use Rattle.unroller.specs.LineCosts.{AreLineCosts};
 ghost use Rattle.unroller.specs.Totals.{IsSum};
 
 use crate::costs::{LineCost, line_cost};
-use notes_lang::{Assert, NoteLine};
+use notes_value::{Assert, NoteLine};
 
 /// The cost of no line.
 fn nothing() -> LineCost

@@ -1,7 +1,7 @@
 //! The price of an unrolled program.
 ghost use Rattle.std.specs.Prelude.{◌≡◌, ◌≤◌, ◌<◌, ◌+◌, ◌*◌, ◌-◌, ◌∷◌, [], ℕ, length, map, slice_range, sum_by};
 ghost use Rattle.std.specs.List.{list_any};
-ghost use Rattle.notes_lang.specs.Drafting.{notes_of};
+ghost use Rattle.notes_value.specs.NoteViews.{notes_of};
 ghost use Rattle.known_bytes.specs.Runs.{run_of};
 ghost use Rattle.question_form.specs.Forms.{IsFormed};
 ghost use Rattle.question_form.specs.Views.{code_of, edge_of, point_by, unrolled_of};

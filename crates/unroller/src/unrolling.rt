@@ -3,8 +3,8 @@ ghost use Rattle.std.specs.Prelude.{◌≡◌, ◌≤◌, ◌<◌, ◌^◌, ℕ,
 ghost use Rattle.bilv_spec.specs.Elf.{IsKeptRuns};
 ghost use Rattle.bilv_spec.specs.Files.{order_of, program_of};
 ghost use Rattle.graph_nodes.specs.Graphs.{IsFlagSet, IsGraph};
-ghost use Rattle.notes_lang.specs.Drafting.{notes_of};
-ghost use Rattle.program_points.specs.Listed.{HasOneWay, IsTooMany};
+ghost use Rattle.notes_value.specs.NoteViews.{notes_of};
+ghost use Rattle.program_points.specs.Listed.{IsTooMany};
 ghost use Rattle.question_form.specs.Forms.{IsFormed};
 ghost use Rattle.question_form.specs.Views.{unrolled_of};
 ghost use Rattle.unroller.specs.Asking.{program_asking};
@@ -24,7 +24,7 @@ use graph_nodes::Graph;
 use known_bytes::known_bytes;
 use machine_law::{Machine, is_narrow};
 use notes_index::index_of;
-use notes_lang::Notes;
+use notes_value::Notes;
 use program_points::{PointsFault, points};
 use question_form::Unrolled;
 use std::alloc::Global;
@@ -63,7 +63,6 @@ pub fn unroll_asking<'a, M: Machine>(
     requires k { k ≤ 4096 }
     requires out { out < 16 }
     requires graph { IsGraph (program_of M.machine image.now (notes_of notes.now) entry) graph.now }
-    requires one_way { HasOneWay (program_of M.machine image.now (notes_of notes.now) entry) }
     ensures unrolled { (asked : ℕ → Bool) → IsFlagSet out asked →
         IfOk result (λ u. IsUnrolling (program_asking M.machine image.now (notes_of notes.now) entry asked) k (unrolled_of u)) }
     ensures lists { (asked : ℕ → Bool) → IsFlagSet out asked →
@@ -80,6 +79,7 @@ pub fn unroll_asking<'a, M: Machine>(
     ensures more { (asked : ℕ → Bool) → IsFlagSet out asked →
         IfErr result (IsTooMany (program_asking M.machine image.now (notes_of notes.now) entry asked) k max) }
 {
+    image.bytes();
     let live = trim(alloc, graph, out)?;
     let listed = points(alloc, &live, entry, k, max)?;
     let mut stacks = listed.stacks;
@@ -131,7 +131,6 @@ pub fn unroll<'a, M: Machine>(
     requires max { max ≤ 16777216 }
     requires k { k ≤ 4096 }
     requires graph { IsGraph (program_of M.machine image.now (notes_of notes.now) entry) graph.now }
-    requires one_way { HasOneWay (program_of M.machine image.now (notes_of notes.now) entry) }
     ensures unrolled { IfOk result (λ u. IsUnrolling (program_of M.machine image.now (notes_of notes.now) entry) k (unrolled_of u)) }
     ensures lists { IfOk result (λ u. HasListsOf (program_of M.machine image.now (notes_of notes.now) entry) M.bank (unrolled_of u)) }
     ensures lean { IfOk result (λ u. AssignsLiveOnly (program_of M.machine image.now (notes_of notes.now) entry) (unrolled_of u)) }

@@ -1,7 +1,7 @@
 use Rattle.std.proofs.Common.{take}
 use Rattle.std.specs.Prelude.{map}
 use Rattle.std.specs.List.{flat_map}
-use Rattle.notes_lang.specs.Drafting.{assert_of}
+use Rattle.notes_value.specs.NoteViews.{assert_of}
 use Rattle.question_form.specs.Views.{assert_exit}
 use Rattle.walk_spec.specs.Prices.{line_of}
 use Rattle.unroller.specs.LineCosts.{AreLineCosts}

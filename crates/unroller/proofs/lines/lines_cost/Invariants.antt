@@ -1,6 +1,6 @@
 use Rattle.std.proofs.Common.{take}
 use Rattle.std.specs.Prelude.{map}
-use Rattle.notes_lang.specs.Drafting.{note_line_of}
+use Rattle.notes_value.specs.NoteViews.{note_line_of}
 use Rattle.unroller.specs.LineCosts.{AreLineCosts}
 use Rattle.unroller.proofs.lines.lines_cost.Given as goal
 

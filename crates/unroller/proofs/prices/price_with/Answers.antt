@@ -5,8 +5,8 @@ use Rattle.std.proofs.lemmas.List.Sums.{sum_by-append}
 use Rattle.bilv_spec.specs.Points.{line_price, bytes_loaded}
 use Rattle.walk_spec.specs.Prices.{entry_lines, point_lines, lines_of, edges_of, stores_of, loads_of, known_of, term_price, cell_price}
 use Rattle.question_form.specs.Views.{kept_of, unrolled_of}
-use Rattle.notes_lang.specs.declared.notes.NoteLine.{NoteLine}
-use Rattle.notes_lang.specs.Drafting.{note_line_of}
+use Rattle.notes_value.specs.declared.notes.NoteLine.{NoteLine}
+use Rattle.notes_value.specs.NoteViews.{note_line_of}
 use Rattle.known_bytes.specs.declared.listing.Known.{Known}
 use Rattle.known_bytes.specs.Runs.{run_of}
 use Rattle.unroller.specs.LineCosts.{capped, AreLineCosts}

@@ -3,11 +3,10 @@ use Rattle.std.specs.Prelude.{Bool, Contains, ◌↔◌}
 use Rattle.std.proofs.lemmas.List.{length-map}
 use Rattle.machine_spec.specs.MachineLaws.{IsFitted}
 use Rattle.machine_spec.specs.StateText.{Layout}
-use Rattle.bilv_spec.specs.Files.{program_of}
 use Rattle.bilv_spec.specs.Run.{Program}
 use Rattle.bilv_spec.specs.Points.{IsCount, begins_run, file_row, is_known_at}
 use Rattle.known_bytes.proofs.Counts.{run_starts}
-use Rattle.notes_lang.specs.Drafting.{notes_of}
+use Rattle.notes_value.specs.NoteViews.{notes_of}
 use Rattle.program_points.specs.declared.values.Frame.{Frame}
 use Rattle.program_points.proofs.Lists.{nothing_more}
 use Rattle.state_text.specs.Starts.{layout_of}
@@ -25,7 +24,7 @@ use Rattle.unroller.specs.Keys.{AreKeys, address_of}
 use Rattle.unroller.specs.Places.{AreCodes}
 use Rattle.unroller.specs.Rows.{AreLiterals, AssignsLiveOnly, HasListsOf}
 use Rattle.flag_live.proofs.FlagSets.{own_flags}
-use Rattle.unroller.proofs.Asked.{way_of}
+use Rattle.unroller.proofs.FileRows.{asked_one_way}
 use Rattle.unroller.proofs.KeptRuns.{kept_runs_are_right}
 use Rattle.unroller.proofs.Looked.{forms_are_right}
 use Rattle.unroller.proofs.Listing.{low_turns, keys_of, among_graph, addresses_among, keys_coded, keys_fit, keys_low}
@@ -38,7 +37,7 @@ point_keys-requires g c =
     let notes = notes_of c.args.notes.now in
     let p : Program = program_asking g.M.Machine.machine c.args.image.now notes c.args.entry (λ f. has_flag c.args.out f) in
     let graph = c.in_ok-live.ensures.graph p (own_flags c.args.out c.requires.out) c.requires.graph in
-    let way = way_of (program_of g.M.Machine.machine c.args.image.now notes c.args.entry) (λ f. has_flag c.args.out f) c.requires.one_way in
+    let way = asked_one_way g.M.Machine.machine c.args.image.now notes c.args.entry (λ f. has_flag c.args.out f) g.met.M.Machine.lawful c.bytes.ensures in
     low_turns p c.args.k c.in_ok-listed.listed c.deref.result.now
     (c.in_ok-listed.ensures.points p graph refl way) c.deref.ensures.value c.requires.k
 
@@ -47,7 +46,7 @@ calls-requires-clause-among g c =
     let notes = notes_of c.args.notes.now in
     let p : Program = program_asking g.M.Machine.machine c.args.image.now notes c.args.entry (λ f. has_flag c.args.out f) in
     let graph = c.in_ok-live.ensures.graph p (own_flags c.args.out c.requires.out) c.requires.graph in
-    let way = way_of (program_of g.M.Machine.machine c.args.image.now notes c.args.entry) (λ f. has_flag c.args.out f) c.requires.one_way in
+    let way = asked_one_way g.M.Machine.machine c.args.image.now notes c.args.entry (λ f. has_flag c.args.out f) g.met.M.Machine.lawful c.bytes.ensures in
     let v = c.in_ok-listed.listed in
     let keys = c.in_ok-keys.keys.items in
     let listed = c.in_ok-listed.ensures.points p graph refl way in
@@ -62,7 +61,7 @@ calls-requires-clause-fits g c =
     let notes = notes_of c.args.notes.now in
     let p : Program = program_asking g.M.Machine.machine c.args.image.now notes c.args.entry (λ f. has_flag c.args.out f) in
     let graph = c.in_ok-live.ensures.graph p (own_flags c.args.out c.requires.out) c.requires.graph in
-    let way = way_of (program_of g.M.Machine.machine c.args.image.now notes c.args.entry) (λ f. has_flag c.args.out f) c.requires.one_way in
+    let way = asked_one_way g.M.Machine.machine c.args.image.now notes c.args.entry (λ f. has_flag c.args.out f) g.met.M.Machine.lawful c.bytes.ensures in
     let v = c.in_ok-listed.listed in
     let keys = c.in_ok-keys.keys.items in
     let listed = c.in_ok-listed.ensures.points p graph refl way in
@@ -82,7 +81,7 @@ codes_at-requires-clause-among g c =
     let notes = notes_of c.args.notes.now in
     let p : Program = program_asking g.M.Machine.machine c.args.image.now notes c.args.entry (λ f. has_flag c.args.out f) in
     let graph = c.in_ok-live.ensures.graph p (own_flags c.args.out c.requires.out) c.requires.graph in
-    let way = way_of (program_of g.M.Machine.machine c.args.image.now notes c.args.entry) (λ f. has_flag c.args.out f) c.requires.one_way in
+    let way = asked_one_way g.M.Machine.machine c.args.image.now notes c.args.entry (λ f. has_flag c.args.out f) g.met.M.Machine.lawful c.bytes.ensures in
     let v = c.in_ok-listed.listed in
     let keys = c.in_ok-keys.keys.items in
     let listed = c.in_ok-listed.ensures.points p graph refl way in
@@ -99,7 +98,7 @@ literals_at-requires-clause-among g c =
     let notes = notes_of c.args.notes.now in
     let p : Program = program_asking g.M.Machine.machine c.args.image.now notes c.args.entry (λ f. has_flag c.args.out f) in
     let graph = c.in_ok-live.ensures.graph p (own_flags c.args.out c.requires.out) c.requires.graph in
-    let way = way_of (program_of g.M.Machine.machine c.args.image.now notes c.args.entry) (λ f. has_flag c.args.out f) c.requires.one_way in
+    let way = asked_one_way g.M.Machine.machine c.args.image.now notes c.args.entry (λ f. has_flag c.args.out f) g.met.M.Machine.lawful c.bytes.ensures in
     let v = c.in_ok-listed.listed in
     let keys = c.in_ok-keys.keys.items in
     let listed = c.in_ok-listed.ensures.points p graph refl way in
@@ -116,7 +115,7 @@ points_of-requires-clause-low g c =
     let notes = notes_of c.args.notes.now in
     let p : Program = program_asking g.M.Machine.machine c.args.image.now notes c.args.entry (λ f. has_flag c.args.out f) in
     let graph = c.in_ok-live.ensures.graph p (own_flags c.args.out c.requires.out) c.requires.graph in
-    let way = way_of (program_of g.M.Machine.machine c.args.image.now notes c.args.entry) (λ f. has_flag c.args.out f) c.requires.one_way in
+    let way = asked_one_way g.M.Machine.machine c.args.image.now notes c.args.entry (λ f. has_flag c.args.out f) g.met.M.Machine.lawful c.bytes.ensures in
     let v = c.in_ok-listed.listed in
     let keys = c.in_ok-keys.keys.items in
     let listed = c.in_ok-listed.ensures.points p graph refl way in
@@ -131,7 +130,7 @@ points_of-requires-clause-among g c =
     let notes = notes_of c.args.notes.now in
     let p : Program = program_asking g.M.Machine.machine c.args.image.now notes c.args.entry (λ f. has_flag c.args.out f) in
     let graph = c.in_ok-live.ensures.graph p (own_flags c.args.out c.requires.out) c.requires.graph in
-    let way = way_of (program_of g.M.Machine.machine c.args.image.now notes c.args.entry) (λ f. has_flag c.args.out f) c.requires.one_way in
+    let way = asked_one_way g.M.Machine.machine c.args.image.now notes c.args.entry (λ f. has_flag c.args.out f) g.met.M.Machine.lawful c.bytes.ensures in
     let v = c.in_ok-listed.listed in
     let keys = c.in_ok-keys.keys.items in
     let listed = c.in_ok-listed.ensures.points p graph refl way in
@@ -205,7 +204,7 @@ module _ (g : given.Over) (c : goal.After-drop-live-2 g) (asked : ℕ → Bool) 
   graph = c.in_ok-live.ensures.graph program is c.requires.graph
 
   way : HasOneWay program
-  way = way_of (program_of g.M.Machine.machine c.args.image.now (notes_of c.args.notes.now) c.args.entry) asked c.requires.one_way
+  way = asked_one_way g.M.Machine.machine c.args.image.now (notes_of c.args.notes.now) c.args.entry asked g.met.M.Machine.lawful c.bytes.ensures
 
   are : AreKeys program c.args.k (frames g c) (keys g c)
   are =
@@ -331,7 +330,7 @@ returns-in_err-listed-clause-more g c asked is =
     let notes = notes_of c.args.notes.now in
     let p : Program = program_asking g.M.Machine.machine c.args.image.now notes c.args.entry asked in
     let graph = c.in_ok-live.ensures.graph p is c.requires.graph in
-    let way = way_of (program_of g.M.Machine.machine c.args.image.now notes c.args.entry) asked c.requires.one_way in
+    let way = asked_one_way g.M.Machine.machine c.args.image.now notes c.args.entry asked g.met.M.Machine.lawful c.bytes.ensures in
     let more = c.in_err-listed.ensures.more p graph refl way in
     search rules
 
