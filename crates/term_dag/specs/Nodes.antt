@@ -1,8 +1,9 @@
 -- The nodes of the code as those of the definitions, and which of them are inputs.
-use Rattle.std.specs.Prelude.{List, map}
+use Rattle.std.specs.Prelude.{ℕ, List, map, slice_index_or}
 use Rattle.machine_spec.specs.Bil as bil
 use Rattle.word_spec.specs.Memory.{endian}
 use Rattle.walk_spec.specs.Terms.{TermNode, RegisterNode, FlagNode, ChoiceNode, BaseNode, MemoryNode, ConstantNode, BinaryNode, NotNode, SelectNode, ExtractNode, ConcatNode, ExtendNode, LoadNode, StoreNode, JoinNode}
+use Rattle.term_dag.specs.declared.nodes.Term.{Term}
 use Rattle.term_dag.specs.declared.nodes.Op.{Op}
 use Rattle.term_dag.specs.declared.nodes.Op.TheVariants as op
 use Rattle.term_dag.specs.declared.nodes.Node.{Node}
@@ -51,6 +52,10 @@ node_of (node.Join c a b) = JoinNode c.0 a.0 b.0
 -- the nodes of a list
 abbrev pub nodes_of : List Node → List TermNode
 nodes_of ns = map node_of ns
+
+-- the place of the term at a place among some
+abbrev pub term_at : List Term → ℕ → ℕ
+term_at terms i = (slice_index_or terms i (record { 0 = 0 })).0
 
 -- the node is an input that is a word
 abbrev pub IsInput : TermNode → Type 0

@@ -1,5 +1,10 @@
 //! Terms, and the nodes that they are places of.
 
+ghost use Rattle.std.specs.Prelude.{◌≡◌, ◌<◌, ◌≤◌, length, map, take};
+ghost use Rattle.std.specs.List.{AllByRecursion};
+ghost use Rattle.term_dag.specs.Nodes.{node_of, term_at};
+ghost use Rattle.term_dag.specs.Made.{moved, operands};
+
 /// The place of a node in a `Dag`.
 #[derive(Clone, Copy, Debug, PartialEq, Eq, Hash)]
 pub struct Term(pub u32);
@@ -107,4 +112,125 @@ pub enum Node {
         when_true: Term,
         when_false: Term,
     },
+}
+
+/// The term at the place of another.
+fn at(terms: &[Term], term: Term) -> Term
+    requires { term.0 < length terms.now }
+    ensures { result.0 ≡ term_at terms.now term.0 }
+{
+    terms[term.0 as usize]
+}
+
+impl Node {
+    /// The terms that the node is over, in their order, and how many they are; those after them are none.
+    pub fn operands(self) -> ([Term; 3], usize)
+        ensures few { result.1 ≤ 3 }
+        ensures are { map (λ t. t.0) (take result.1 result.0) ≡ operands (node_of self) }
+    {
+        let none = Term(0);
+        match self {
+            Node::Not { term: a, .. }
+            | Node::Extract { term: a, .. }
+            | Node::Extend { term: a, .. } => ([a, none, none], 1),
+            Node::Binary {
+                left: a,
+                right: b,
+                ..
+            }
+            | Node::Concat {
+                upper: a,
+                lower: b,
+                ..
+            }
+            | Node::Load {
+                memory: a,
+                address: b,
+                ..
+            } => ([a, b, none], 2),
+            Node::Select {
+                condition: a,
+                when_true: b,
+                when_false: c,
+                ..
+            }
+            | Node::Store {
+                memory: a,
+                address: b,
+                value: c,
+                ..
+            }
+            | Node::Join {
+                condition: a,
+                when_true: b,
+                when_false: c,
+            } => ([a, b, c], 3),
+            Node::Register(_)
+            | Node::Flag(_)
+            | Node::Choice(_)
+            | Node::Base(_)
+            | Node::Memory
+            | Node::Constant { .. } => ([none, none, none], 0),
+        }
+    }
+
+    /// The node over the terms that stand at the places of those that it is over.
+    pub fn moved(self, terms: &[Term]) -> Node
+        requires { AllByRecursion (λ a. a < length terms.now) (operands (node_of self)) }
+        ensures { node_of result ≡ moved (term_at terms.now) (node_of self) }
+    {
+        let mut node = self;
+        match &mut node {
+            Node::Not { term, .. } => *term = at(terms, *term),
+            Node::Extract { term, .. } => *term = at(terms, *term),
+            Node::Extend { term, .. } => *term = at(terms, *term),
+            Node::Binary { left, right, .. } => {
+                *left = at(terms, *left);
+                *right = at(terms, *right);
+            }
+            Node::Concat { upper, lower, .. } => {
+                *upper = at(terms, *upper);
+                *lower = at(terms, *lower);
+            }
+            Node::Load {
+                memory,
+                address,
+                ..
+            } => {
+                *memory = at(terms, *memory);
+                *address = at(terms, *address);
+            }
+            Node::Select {
+                condition,
+                when_true,
+                when_false,
+                ..
+            } => {
+                *condition = at(terms, *condition);
+                *when_true = at(terms, *when_true);
+                *when_false = at(terms, *when_false);
+            }
+            Node::Store {
+                memory,
+                address,
+                value,
+                ..
+            } => {
+                *memory = at(terms, *memory);
+                *address = at(terms, *address);
+                *value = at(terms, *value);
+            }
+            Node::Join {
+                condition,
+                when_true,
+                when_false,
+            } => {
+                *condition = at(terms, *condition);
+                *when_true = at(terms, *when_true);
+                *when_false = at(terms, *when_false);
+            }
+            _ => {}
+        }
+        node
+    }
 }

@@ -24,8 +24,8 @@ use Rattle.term_dag.specs.Made.{IsMade, IsInterned}
 use Rattle.term_dag.proofs.LowBits.{low_bits, few_low_bits}
 use Rattle.term_dag.proofs.Growth.{grew_on, grew_more, grew_width, interned_grew, inputs_on, inputs_more}
 use Rattle.notes_value.specs.Views.{expr_of}
-use Rattle.notes_lang.specs.Drafting.{note_line_of}
-use Rattle.notes_lang.specs.declared.notes.NoteLine.{NoteLine}
+use Rattle.notes_value.specs.NoteViews.{note_line_of}
+use Rattle.notes_value.specs.declared.notes.NoteLine.{NoteLine}
 use Rattle.term_names.specs.declared.names.Names.{Names}
 use Rattle.term_names.specs.Views.{form_of, names_of}
 use Rattle.term_names.specs.Chosen.{AreEntryNames, IsOfForm, at_entry}

@@ -1,14 +1,14 @@
 -- Marks of the places that roots reach.
-use Rattle.std.proofs.Common.{inl, inr, ◌≡◌, ◌⊎◌, ℕ, zero, suc, ◌+◌, ◌<◌, ◌≤◌, ◌^◌, Bool, true, false, if◌then◌else◌, List, [], ◌∷◌, length, take, set, replicate, get_or, refl, ap, sym, subst, ◌∙◌, arith, Contains}
+use Rattle.std.proofs.Common.{inl, inr, ◌≡◌, ◌⊎◌, ℕ, zero, suc, ◌+◌, ◌<◌, ◌≤◌, ◌^◌, Bool, true, false, if◌then◌else◌, List, [], ◌∷◌, length, map, take, drop, set, replicate, get_or, refl, ap, sym, subst, ◌∙◌, arith, Contains}
 use Rattle.std.specs.List.{AllByRecursion}
 use Rattle.std.proofs.lemmas.Bool.{false≢true}
 use Rattle.std.proofs.lemmas.Bool.Decides.{eqb_tells}
-use Rattle.std.proofs.lemmas.List.{length-set, length-take-le}
+use Rattle.std.proofs.lemmas.List.{drop_more, length-set, length-take-le}
 use Rattle.walk_spec.specs.Terms.{TermNode, RegisterNode, FlagNode, ChoiceNode, BaseNode, MemoryNode, ConstantNode, BinaryNode, NotNode, SelectNode, ExtractNode, ConcatNode, ExtendNode, LoadNode, StoreNode, JoinNode, AreTyped, IsTypedOver, node_at}
 use Rattle.term_dag.specs.declared.nodes.Term.{Term}
 use Rattle.term_dag.specs.Made.{operands}
 use Rattle.term_dag.proofs.ListLaws.{typed_before}
-use Rattle.weakest_pre.specs.Copies.{root_at, is_marked, marked, visited, AreRootsMarked, IsReached, AreMarkedFrom}
+use Rattle.weakest_pre.specs.Copies.{no_term, root_at, is_marked, marked, visited, AreRootsMarked, IsReached, AreMarkedFrom}
 
 -- what holds of each element, by what else does
 pub all_by : {X : Type 0} (P Q : X → Type 0) → ((x : X) → P x → Q x) → (xs : List X) → AllByRecursion P xs → AllByRecursion Q xs
@@ -77,6 +77,16 @@ set_only (m ∷ ms) (suc i) (suc j) h = elim (set_only ms i j h) [ inl k ↦ inl
 marked_count : (ms : List Bool) (xs : List ℕ) → length (marked ms xs) ≡ length ms
 marked_count ms [] = refl
 marked_count ms (x ∷ xs) = marked_count (set ms x true) xs ∙ length-set ms x true
+
+-- the next of some terms to mark, which are all there
+pub next_within : (ts : List Term) (i n : ℕ) → i < length ts → AllByRecursion (λ a. a < n) (map (λ (t : Term). t.0) (drop i ts)) →
+    (root_at ts i < n) × AllByRecursion (λ a. a < n) (map (λ (t : Term). t.0) (drop (i + 1) ts))
+next_within ts i n l h = subst (λ (us : List Term). AllByRecursion (λ a. a < n) (map (λ (t : Term). t.0) us)) (drop_more ts i no_term l) h
+
+-- it is marked
+pub next_marked : (ts : List Term) (i : ℕ) (ms all : List Bool) → i < length ts → marked ms (map (λ (t : Term). t.0) (drop i ts)) ≡ all →
+    marked (set ms (root_at ts i) true) (map (λ (t : Term). t.0) (drop (i + 1) ts)) ≡ all
+next_marked ts i ms all l h = sym (ap (λ (us : List Term). marked ms (map (λ (t : Term). t.0) us)) (drop_more ts i no_term l)) ∙ h
 
 marked_keeps : (ms : List Bool) (xs : List ℕ) (j : ℕ) → is_marked ms j ≡ true → is_marked (marked ms xs) j ≡ true
 marked_keeps ms [] j h = h

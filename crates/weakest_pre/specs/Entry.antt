@@ -12,7 +12,7 @@ use Rattle.walk_spec.specs.Unrolled.{Carried, UnrolledProgram, state_at}
 use Rattle.walk_spec.specs.Prices.{entry_lines, line_steps, variables_of}
 use Rattle.walk_spec.specs.WalkQuestions.{IsNamedBelow}
 use Rattle.term_dag.specs.Made.{Grew, InputsFrom}
-use Rattle.notes_lang.specs.declared.notes.NoteLine.{NoteLine}
+use Rattle.notes_value.specs.declared.notes.NoteLine.{NoteLine}
 use Rattle.notes_value.specs.Views.{expr_of}
 use Rattle.term_names.specs.Chosen.{at_entry}
 use Rattle.note_terms.specs.declared.Now.{Now}

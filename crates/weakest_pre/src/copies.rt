@@ -1,10 +1,10 @@
 //! Copies of terms with all that they are over.
 
-ghost use Rattle.std.specs.Prelude.{◌≡◌, ◌<◌, ◌≤◌, ◌^◌, ℕ, List, true, false, IfOk, length, slice_set};
+ghost use Rattle.std.specs.Prelude.{◌≡◌, ◌<◌, ◌≤◌, ◌^◌, ℕ, List, true, false, IfOk, length, map, slice_set};
 ghost use Rattle.std.specs.List.{AllByRecursion};
 ghost use Rattle.walk_spec.specs.Terms.{AreTyped};
 ghost use Rattle.term_dag.specs.Nodes.{node_of};
-ghost use Rattle.term_dag.specs.Made.{moved, operands};
+ghost use Rattle.term_dag.specs.Made.{operands};
 ghost use Rattle.weakest_pre.specs.Copies.{Always, AreCopies, AreCopiesOf, ArePicked, AreReached, AreRootsMarked, AreWithin, IsCopy, copy_at, is_marked, marked, visited};
 
 use std::alloc::{AllocError, Global};
@@ -18,63 +18,23 @@ fn mark(marks: &mut [bool], term: Term)
     marks[term.0 as usize] = true;
 }
 
+/// Marks the places of terms.
+fn mark_all(marks: &mut [bool], terms: &[Term])
+    requires { AllByRecursion (λ a. a < length marks.old) (map (λ t. t.0) terms.now) }
+    ensures { marks.new ≡ marked marks.old (map (λ t. t.0) terms.now) }
+{
+    for term in terms {
+        mark(marks, *term);
+    }
+}
+
 /// Marks the places that a node is over.
 fn mark_operands(marks: &mut [bool], node: Node)
     requires { AllByRecursion (λ a. a < length marks.old) (operands (node_of node)) }
     ensures { marks.new ≡ marked marks.old (operands (node_of node)) }
 {
-    match node {
-        Node::Binary { left, right, .. } => {
-            mark(marks, left);
-            mark(marks, right);
-        }
-        Node::Not { term, .. } | Node::Extract { term, .. } | Node::Extend { term, .. } => mark(
-            marks, term,
-        ),
-        Node::Select {
-            condition,
-            when_true,
-            when_false,
-            ..
-        }
-        | Node::Join {
-            condition,
-            when_true,
-            when_false,
-        } => {
-            mark(marks, condition);
-            mark(marks, when_true);
-            mark(marks, when_false);
-        }
-        Node::Concat { upper, lower, .. } => {
-            mark(marks, upper);
-            mark(marks, lower);
-        }
-        Node::Load {
-            memory,
-            address,
-            ..
-        } => {
-            mark(marks, memory);
-            mark(marks, address);
-        }
-        Node::Store {
-            memory,
-            address,
-            value,
-            ..
-        } => {
-            mark(marks, memory);
-            mark(marks, address);
-            mark(marks, value);
-        }
-        Node::Register(_)
-        | Node::Flag(_)
-        | Node::Choice(_)
-        | Node::Base(_)
-        | Node::Memory
-        | Node::Constant { .. } => {}
-    }
+    let (terms, count) = node.operands();
+    mark_all(marks, &terms[..count]);
 }
 
 /// Marks the places that a place is over, if that is marked.
@@ -161,107 +121,6 @@ fn copy_of(copies: &[Term], term: Term) -> Term
     copies[term.0 as usize]
 }
 
-/// The node over the copies of the terms that it is over.
-pub fn moved(copies: &[Term], node: Node) -> Node
-    requires { AllByRecursion (λ a. a < length copies.now) (operands (node_of node)) }
-    ensures { node_of result ≡ moved (copy_at copies.now) (node_of node) }
-{
-    match node {
-        Node::Binary {
-            op,
-            width,
-            left,
-            right,
-        } => Node::Binary {
-            op,
-            width,
-            left: copy_of(copies, left),
-            right: copy_of(copies, right),
-        },
-        Node::Not { width, term } => Node::Not {
-            width,
-            term: copy_of(copies, term),
-        },
-        Node::Select {
-            width,
-            condition,
-            when_true,
-            when_false,
-        } => Node::Select {
-            width,
-            condition: copy_of(copies, condition),
-            when_true: copy_of(copies, when_true),
-            when_false: copy_of(copies, when_false),
-        },
-        Node::Extract { hi, lo, term } => Node::Extract {
-            hi,
-            lo,
-            term: copy_of(copies, term),
-        },
-        Node::Concat {
-            high,
-            low,
-            upper,
-            lower,
-        } => Node::Concat {
-            high,
-            low,
-            upper: copy_of(copies, upper),
-            lower: copy_of(copies, lower),
-        },
-        Node::Extend {
-            signed,
-            from,
-            to,
-            term,
-        } => Node::Extend {
-            signed,
-            from,
-            to,
-            term: copy_of(copies, term),
-        },
-        Node::Load {
-            bytes,
-            big,
-            memory,
-            address,
-        } => Node::Load {
-            bytes,
-            big,
-            memory: copy_of(copies, memory),
-            address: copy_of(copies, address),
-        },
-        Node::Store {
-            bytes,
-            big,
-            memory,
-            address,
-            value,
-        } => Node::Store {
-            bytes,
-            big,
-            memory: copy_of(copies, memory),
-            address: copy_of(copies, address),
-            value: copy_of(copies, value),
-        },
-        Node::Join {
-            condition,
-            when_true,
-            when_false,
-        } => Node::Join {
-            condition: copy_of(copies, condition),
-            when_true: copy_of(copies, when_true),
-            when_false: copy_of(copies, when_false),
-        },
-        Node::Register(_)
-        | Node::Flag(_)
-        | Node::Choice(_)
-        | Node::Base(_)
-        | Node::Memory
-        | Node::Constant { .. } => node,
-    }
-}
-
 /// The copy of the term at a place over the copies of those before it, or any term where the place is not marked. The error is want of memory.
 fn kept(
     dag: &mut Dag,
@@ -280,7 +139,7 @@ fn kept(
     ensures { IfOk result (λ t. IsCopy source.now dag.old dag.new marks.now place t.0) }
 {
     if marks[place as usize] {
-        let term = dag.keep(moved(copies, source.node(Term(place))))?;
+        let term = dag.keep(source.node(Term(place)).moved(copies))?;
         return Ok(term);
     }
     Ok(Term(place))

@@ -8,7 +8,7 @@ ghost use Rattle.walk_spec.specs.Terms.{BinaryNode, AreTyped, HasWidth, term_wor
 ghost use Rattle.term_dag.specs.Made.{IsMade};
 ghost use Rattle.walk_spec.specs.Unrolling.{IsReadable, IsWalkable};
 ghost use Rattle.notes_value.specs.Views.{expr_of};
-ghost use Rattle.notes_lang.specs.declared.notes.NoteLine as declared;
+ghost use Rattle.notes_value.specs.declared.notes.NoteLine as declared;
 ghost use Rattle.question_form.specs.Views.{unrolled_of};
 ghost use Rattle.term_names.specs.Views.{form_of};
 ghost use Rattle.term_names.specs.Chosen.{HaveSameForm};
@@ -17,7 +17,7 @@ ghost use Rattle.note_terms.specs.Lines.{AreStateTerms};
 ghost use Rattle.weakest_pre.specs.Entry.{AreTrue, IsEntryBit, said};
 
 use note_terms::{Now, line};
-use notes_lang::NoteLine;
+use notes_value::NoteLine;
 use question_form::Unrolled;
 use std::alloc::{AllocError, Global};
 use term_dag::{Dag, Node, Op, Term};

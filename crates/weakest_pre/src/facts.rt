@@ -8,8 +8,7 @@ ghost use Rattle.question_form.specs.Views.{unrolled_of};
 ghost use Rattle.weakest_pre.specs.Entry.{said};
 ghost use Rattle.weakest_pre.specs.Known.{AreFactsOf, AreNoted, IsLearnt, IsMet, IsNoted, IsRuns, IsSaid, has_load, known_of, nothing};
 
-use notes_lang::NoteLine;
-use notes_value::{Expr, Operator};
+use notes_value::{Expr, NoteLine, Operator};
 use question_form::Unrolled;
 use std::alloc::{AllocError, Global};
 

@@ -9,7 +9,7 @@ ghost use Rattle.weakest_pre.specs.Copies.{AreCopies, AreReached, AreWithin};
 ghost use Rattle.weakest_pre.specs.Known.{IsRuns};
 ghost use Rattle.weakest_pre.specs.Folded.{pieces, AreFoldedCopies, AreFoldedRoots, IsMetBy, IsFolded, IsFoldedCopy, IsKnownRegister};
 
-use crate::copies::{copied, moved, picked, reached};
+use crate::copies::{copied, picked, reached};
 use crate::facts::{Facts, Runs, runs_of};
 use std::alloc::{AllocError, Global};
 use term_dag::{Dag, Node, Term};
@@ -174,7 +174,7 @@ fn folded(
             let term = known_register(dag, register, runs, facts.has_loads())?;
             return Ok(term);
         }
-        let term = dag.mk(moved(copies, node))?;
+        let term = dag.mk(node.moved(copies))?;
         return Ok(term);
     }
     Ok(Term(place))

@@ -2,7 +2,7 @@ use Rattle.std.proofs.Common.{List, take, sym, subst, arith}
 use Rattle.std.proofs.lemmas.List.{take_all}
 use Rattle.bilv_spec.specs.Notes.{Expr}
 use Rattle.notes_value.specs.Views.{expr_of}
-use Rattle.notes_lang.specs.declared.notes.NoteLine.{NoteLine}
+use Rattle.notes_value.specs.declared.notes.NoteLine.{NoteLine}
 use Rattle.weakest_pre.specs.Entry.{said}
 use Rattle.weakest_pre.specs.Known.{AreNoted}
 use Rattle.weakest_pre.proofs.Entries.{said_next}
