@@ -10,7 +10,7 @@ use Rattle.bilv_spec.specs.LiveFlags.{asserts_flag, ensures_flag}
 use Rattle.machine_law.specs.declared.facts.FlagUse.{FlagUse}
 use Rattle.graph_nodes.specs.declared.nodes.Node.{Node}
 use Rattle.graph_nodes.specs.declared.nodes.Graph.{Graph}
-use Rattle.graph_nodes.specs.Graphs.{addresses_of, node_word, row_length, IsFlagSet, IsFlagUseAt, IsNode, IsGraph, IsSameNode, IsSameGraph, has_flag}
+use Rattle.graph_nodes.specs.Graphs.{addresses_of, node_word, row_length, row_links, IsFlagSet, IsFlagUseAt, IsNode, IsGraph, IsSameNode, IsSameGraph, has_flag}
 use Rattle.flag_live.specs.Asked.{ensuring, unasked}
 
 -- a node stays the node of its address
@@ -21,6 +21,7 @@ same_node p old new same is = record {
   word = same.word ∙ is.word ∙ ap (node_word p) (sym same.at);
   successors = same.successors ∙ is.successors ∙ ap (successors_at p) (sym same.at);
   returns = same.returns ∙ is.returns ∙ ap (may_return p) (sym same.at);
+  links = same.links ∙ is.links ∙ ap (λ a. row_links (file_row p a)) (sym same.at);
   flags = subst (λ a. IsFlagUseAt p a new.flags) (sym same.at) (subst (λ (u : FlagUse). IsFlagUseAt p old.at u) (sym same.flags) is.flags);
   asserted = subst (λ a. IsFlagSet new.asserted (λ f. asserts_flag p f a)) (sym same.at) (subst
       (λ s. IsFlagSet s (λ f. asserts_flag p f old.at)) (sym same.asserted) is.asserted);
@@ -71,6 +72,7 @@ asked_node p n is = record {
   word = is.word;
   successors = is.successors;
   returns = is.returns;
+  links = is.links;
   flags = record { reads = is.flags.reads; assigns = is.flags.assigns; surely = is.flags.surely };
   asserted = is.asserted;
 }

@@ -87,6 +87,7 @@ fn with_keeps(alloc: Global, node: &Node, keeps: u8) -> Result<Node, AllocError>
         word: node.word,
         successors,
         returns: node.returns,
+        links: node.links,
         flags: node.flags,
         asserted: node.asserted,
         keeps,

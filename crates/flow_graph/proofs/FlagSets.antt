@@ -10,9 +10,9 @@ use Rattle.std.proofs.lemmas.List.Folds.{list_any_more}
 use Rattle.bilv_spec.specs.LiveFlags.{names_flag}
 use Rattle.notes_value.specs.Views.{expr_of}
 use Rattle.notes_value.specs.declared.expressions.Expr.{Expr}
-use Rattle.notes_lang.specs.Drafting.{assert_of, note_line_of}
-use Rattle.notes_lang.specs.declared.notes.Assert.{Assert}
-use Rattle.notes_lang.specs.declared.notes.NoteLine.{NoteLine}
+use Rattle.notes_value.specs.NoteViews.{assert_of, note_line_of}
+use Rattle.notes_value.specs.declared.notes.Assert.{Assert}
+use Rattle.notes_value.specs.declared.notes.NoteLine.{NoteLine}
 use Rattle.notes_index.specs.Indexed.{ArePlacesOf, assert_places}
 use Rattle.graph_nodes.specs.Graphs.{IsFlagSet, has_flag}
 use Rattle.flow_graph.proofs.Members.{any_map}

@@ -7,8 +7,8 @@ use Rattle.std.proofs.lemmas.List.{length-map, get_or_default}
 use Rattle.std.proofs.Math.ListN.{get_or-map}
 use Rattle.std.proofs.lemmas.List.Folds.{list_any-append}
 use Rattle.bilv_spec.specs.Run.{targets_at}
-use Rattle.notes_lang.specs.Drafting.{targets_of}
-use Rattle.notes_lang.specs.declared.notes.Targets.{Targets}
+use Rattle.notes_value.specs.NoteViews.{targets_of}
+use Rattle.notes_value.specs.declared.notes.Targets.{Targets}
 use Rattle.notes_index.specs.Indexed.{ArePlacesOf, targets_places}
 use Rattle.flow_graph.specs.Programs.{IsSameSet}
 use Rattle.flow_graph.proofs.Members.{same_truth, or_cases, or_left, or_right}

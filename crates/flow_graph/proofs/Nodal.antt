@@ -11,13 +11,13 @@ use Rattle.bilv_spec.specs.Points.{file_row, file_word}
 use Rattle.bilv_spec.specs.Graph as graph
 use Rattle.bilv_spec.specs.LiveFlags.{reads_by, assigns_by, surely_by, asserts_flag, names_flag}
 use Rattle.machine_law.specs.Facts as facts
-use Rattle.notes_lang.specs.Drafting.{assert_of}
-use Rattle.notes_lang.specs.declared.notes.Assert.{Assert}
+use Rattle.notes_value.specs.NoteViews.{assert_of}
+use Rattle.notes_value.specs.declared.notes.Assert.{Assert}
 use Rattle.machine_law.specs.declared.facts.Succ.{Succ}
 use Rattle.graph_nodes.specs.declared.nodes.Letter.{Letter}
 use Rattle.graph_nodes.specs.declared.nodes.Letter.TheVariants as letter
 use Rattle.graph_nodes.specs.declared.nodes.Node.{Node}
-use Rattle.graph_nodes.specs.Graphs.{IsNode, IsFlagSet, IsFlagUseAt, successors_of, letter_of, row_length}
+use Rattle.graph_nodes.specs.Graphs.{IsNode, IsFlagSet, IsFlagUseAt, successors_of, letter_of, row_length, row_links}
 use Rattle.flow_graph.specs.Programs.{place, IsSameSet}
 use Rattle.flow_graph.proofs.Members.{any_map, any_filter}
 use Rattle.flow_graph.proofs.Orders.{unique, places_tell, any_sort, rises_sort}
@@ -102,14 +102,15 @@ asserted_is p a set asserts lines e is flags =
 
 -- the node of an address without a row
 pub no_row : (p : run.Program) (n : Node) → None ≡ file_row p n.at → n.length ≡ 4 → n.fetchable ≡ run.fetchable p (file_word p n.at) n.at →
-    n.word ≡ None → n.successors.items ≡ [] → n.returns ≡ false
+    n.word ≡ None → n.successors.items ≡ [] → n.returns ≡ false → n.links ≡ false
     → n.flags ≡ record { reads = 0; assigns = 0; surely = 15 } → IsFlagSet n.asserted (λ f. asserts_flag p f n.at) → IsNode p n
-no_row p n none length fetchable word successors returns flags asserted = record {
+no_row p n none length fetchable word successors returns links flags asserted = record {
   length = length ∙ ap row_length none;
   fetchable = fetchable;
   word = word ∙ ap (λ o. if is_some o then Some (file_word p n.at) else None) none;
   successors = ap (map _) successors ∙ ap (λ o. graph.sort (graph.successors_by p n.at o)) none;
   returns = returns ∙ ap (graph.returns_by n.at) none;
+  links = links ∙ ap row_links none;
   flags =
       subst (IsFlagUseAt p n.at) (sym flags) (record {
         reads = flags_as 0 (λ f. false) _ (λ f. ap (reads_by f) none) flags_none;
@@ -124,14 +125,15 @@ pub with_row : (p : run.Program) (n : Node) (row : table.Row) (ways : Succ) → 
     n.fetchable ≡ run.fetchable p (file_word p n.at) n.at →
     n.word ≡ Some (file_word p n.at)
     → successors_of n ≡ graph.sort (graph.successors_by p n.at (Some row)) → facts.successors_of ways ≡ row.successors n.at →
-    n.returns ≡ (ways.indirect && not ways.call)
+    n.returns ≡ (ways.indirect && not ways.call) → n.links ≡ row.links
     → facts.IsFlagUse n.flags row.flags → IsFlagSet n.asserted (λ f. asserts_flag p f n.at) → IsNode p n
-with_row p n row ways here length fetchable word successors ways_are returns flags asserted = record {
+with_row p n row ways here length fetchable word successors ways_are returns links flags asserted = record {
   length = length ∙ ap row_length here;
   fetchable = fetchable;
   word = word ∙ ap (λ o. if is_some o then Some (file_word p n.at) else None) here;
   successors = successors ∙ ap (λ o. graph.sort (graph.successors_by p n.at o)) here;
   returns = returns ∙ ap (λ (s : table.Successors). s.indirect && not s.call) ways_are ∙ ap (graph.returns_by n.at) here;
+  links = links ∙ ap row_links here;
   flags = record {
     reads = flags_as n.flags.reads row.flags.reads _ (λ f. ap (reads_by f) here) (record { small = flags.small.0; exact = flags.reads });
     assigns = flags_as n.flags.assigns row.flags.assigns _ (λ f. ap (assigns_by f) here) (record { small = flags.small.1; exact = flags.assigns });

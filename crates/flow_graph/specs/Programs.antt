@@ -5,7 +5,7 @@ use Rattle.bilv_spec.specs.Files.{program_of}
 use Rattle.bilv_spec.specs.Graph as graph
 use Rattle.machine_spec.specs.Machine.{Machine}
 use Rattle.bilv_spec.specs.Run as run
-use Rattle.notes_lang.specs.Drafting.{notes_of}
+use Rattle.notes_value.specs.NoteViews.{notes_of}
 use Rattle.flow_graph.specs.declared.program.Program.{Program}
 
 -- the program, over a machine

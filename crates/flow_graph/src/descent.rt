@@ -2,7 +2,7 @@
 ghost use Rattle.std.specs.Prelude.{◌≡◌, IfOk, OnOk, map};
 ghost use Rattle.std.specs.List.Sorted.{IsNonDecreasingBy, IsPermutation};
 ghost use Rattle.bilv_spec.specs.Files.{order_of, program_of};
-ghost use Rattle.notes_lang.specs.Drafting.{notes_of};
+ghost use Rattle.notes_value.specs.NoteViews.{notes_of};
 ghost use Rattle.notes_index.specs.Indexed.{AreIndexed};
 ghost use Rattle.graph_nodes.specs.Graphs.{IsGraph, AllStay};
 ghost use Rattle.flow_graph.specs.Programs.{program};
@@ -15,7 +15,7 @@ use elf32_reader::Image;
 use graph_nodes::{Graph, Node, Successor};
 use machine_law::{Machine, is_narrow};
 use notes_index::{Index, index_of};
-use notes_lang::Notes;
+use notes_value::Notes;
 use std::alloc::{AllocError, Global};
 use std::collections::BTreeSet;
 

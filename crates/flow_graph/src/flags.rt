@@ -3,13 +3,12 @@ ghost use Rattle.std.specs.Prelude.{◌≡◌, ◌==◌, ◌&&◌, ℕ, map};
 ghost use Rattle.std.specs.List.{list_any};
 ghost use Rattle.bilv_spec.specs.LiveFlags.{names_flag};
 ghost use Rattle.notes_value.specs.Views.{expr_of};
-ghost use Rattle.notes_lang.specs.Drafting.{assert_of, note_line_of};
+ghost use Rattle.notes_value.specs.NoteViews.{assert_of, note_line_of};
 ghost use Rattle.notes_index.specs.Indexed.{assert_places, IsIndex};
 ghost use Rattle.graph_nodes.specs.Graphs.{IsFlagSet};
 
 use notes_index::group;
-use notes_lang::{Assert, NoteLine};
-use notes_value::Expr;
+use notes_value::{Assert, Expr, NoteLine};
 
 /// The set of one flag, none where the number is above 3.
 fn only(flag: u8) -> u8

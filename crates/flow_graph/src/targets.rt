@@ -6,7 +6,7 @@ ghost use Rattle.bilv_spec.specs.Files.{order_of};
 ghost use Rattle.machine_spec.specs.Machine.{pair_of};
 ghost use Rattle.bilv_spec.specs.Points as points;
 ghost use Rattle.bilv_spec.specs.Run as run;
-ghost use Rattle.notes_lang.specs.Drafting.{targets_of};
+ghost use Rattle.notes_value.specs.NoteViews.{targets_of};
 ghost use Rattle.notes_index.specs.Indexed.{targets_places, IsIndex};
 ghost use Rattle.flow_graph.specs.Programs.{program, IsSameSet};
 
@@ -15,7 +15,7 @@ use crate::rows::{row, word};
 use file_words::all_kept;
 use machine_law::Machine;
 use notes_index::{Index, group};
-use notes_lang::Targets;
+use notes_value::Targets;
 use std::alloc::{AllocError, Global};
 
 /// The targets that the notes list for an address. The error is want of memory.

@@ -1,5 +1,5 @@
 -- What a value says of the flow graph of a program.
-use Rattle.std.specs.Prelude.{ℕ, ◌≡◌, ◌<◌, ◌==◌, ◌↔◌, Bool, true, List, Option, Some, None, is_some, map, length, slice_index, Contains, All, if◌then◌else◌}
+use Rattle.std.specs.Prelude.{ℕ, ◌≡◌, ◌<◌, ◌==◌, ◌↔◌, Bool, true, false, List, Option, Some, None, is_some, map, length, slice_index, Contains, All, if◌then◌else◌}
 use Rattle.std.specs.List.{AllZip}
 use Rattle.word_spec.specs.Words.{bit_at}
 use Rattle.machine_spec.specs.Machine.{Row}
@@ -48,6 +48,11 @@ abbrev pub row_length : Option Row → ℕ
 row_length None = 4
 row_length (Some row) = row.length
 
+-- the row keeps the address after it in the link register where it calls
+abbrev pub row_links : Option Row → Bool
+row_links None = false
+row_links (Some row) = row.links
+
 -- what a node says of the flags that the row at an address uses
 pub record IsFlagUseAt (p : Program) (a : ℕ) (u : FlagUse) : Type 0 where
   pub reads : IsFlagSet u.reads (λ f. reads_by f (file_row p a))
@@ -61,6 +66,7 @@ pub record IsNode (p : Program) (n : Node) : Type 0 where
   pub word : n.word ≡ node_word p n.at
   pub successors : successors_of n ≡ successors_at p n.at
   pub returns : n.returns ≡ may_return p n.at
+  pub links : n.links ≡ row_links (file_row p n.at)
   pub flags : IsFlagUseAt p n.at n.flags
   pub asserted : IsFlagSet n.asserted (λ f. asserts_flag p f n.at)
 
@@ -96,6 +102,7 @@ pub record IsSameNode (old new : Node) : Type 0 where
   pub word : new.word ≡ old.word
   pub successors : successors_of new ≡ successors_of old
   pub returns : new.returns ≡ old.returns
+  pub links : new.links ≡ old.links
   pub flags : new.flags ≡ old.flags
   pub asserted : new.asserted ≡ old.asserted
 

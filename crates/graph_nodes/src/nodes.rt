@@ -35,6 +35,8 @@ pub struct Node {
     pub successors: Vec<Successor>,
     /// The row may return or exit.
     pub returns: bool,
+    /// The row keeps the address after it in the link register where it calls.
+    pub links: bool,
     /// The flags that the row reads, may assign and surely assigns; where there is no row, none, none and all.
     pub flags: FlagUse,
     /// The flags that assert lines of the address name outside `old`.

@@ -71,7 +71,7 @@ module _ (frames : List Frame) (low : (i : ℕ) (f : Frame) → slice_get frames
   stack_frame zero f e = absurd (cc)
   stack_frame (suc i) f e = stack_next frames i f e (low i f e)
 
-  no_frame : (n : ℕ) → n ≤ length frames → frame_at frames n ≡ None → stack_at frames n ≡ []
+  pub no_frame : (n : ℕ) → n ≤ length frames → frame_at frames n ≡ None → stack_at frames n ≡ []
   no_frame zero le e = stack_none frames
   no_frame (suc i) le e = absurd (let q = there_is i (omega arith) in cc)
     where
@@ -199,36 +199,42 @@ module _ (frames : List Frame) (low : (i : ℕ) (f : Frame) → slice_get frames
     frame_low (suc i) f e = (let l = slice_get_within frames i f e in let b = low i f e
         in ((let q : suc i ≤ length frames = omega arith in q), (let q : f.below ≤ length frames = omega arith in q)))
 
-    low_as : (m a : ℕ) (e : End) → m ≤ length frames → end m a ≡ e → e.stack ≤ length frames
-    low_as m a e l r = subst (λ (z : End). z.stack ≤ length frames) r l
+    -- what the stack of each end has, which is the point's own, the one behind its call, or the one below its top
+    module _ (P : ℕ → Type 0) (own : P stack) (beyond : (x : Successor) → Contains items x → x.letter ≡ Call → P called)
+        (under : (f : Frame) → top ≡ Some f → P f.below) where
+      as_end : (m a : ℕ) (e : End) → P m → end m a ≡ e → P e.stack
+      as_end m a e h r = subst (λ (z : End). P z.stack) r h
 
-    low_jump : (a : ℕ) (b : Bool) (e : End) → jump_end b stack a ≡ Some e → e.stack ≤ length frames
-    low_jump a true e q = absurd (cc)
-    low_jump a false e q = low_as stack a e fits (let r : end stack a ≡ e = (cc) in r)
+      at_jump : (a : ℕ) (b : Bool) (e : End) → jump_end b stack a ≡ Some e → P e.stack
+      at_jump a true e q = absurd (cc)
+      at_jump a false e q = as_end stack a e own (let r : end stack a ≡ e = (cc) in r)
 
-    low_letter : (x : Successor) → Contains items x → (l : Letter) → x.letter ≡ l → (e : End) → letter_end returns top stack called l x.to ≡ Some e →
-        e.stack ≤ length frames
-    low_letter x h Next l e q = low_as stack x.to e fits (let r : end stack x.to ≡ e = (cc) in r)
-    low_letter x h Jump l e q = low_jump x.to (returns && has_top top x.to) e q
-    low_letter x h Call l e q = low_as called x.to e (frame_low called (frame behind stack) (pushes x h l)).0 (let r : end called x.to ≡ e = (cc) in r)
-    low_letter x h Return l e q = absurd (cc)
+      at_letter : (x : Successor) → Contains items x → (l : Letter) → x.letter ≡ l → (e : End) → letter_end returns top stack called l x.to ≡ Some e → P e.stack
+      at_letter x h Next l e q = as_end stack x.to e own (let r : end stack x.to ≡ e = (cc) in r)
+      at_letter x h Jump l e q = at_jump x.to (returns && has_top top x.to) e q
+      at_letter x h Call l e q = as_end called x.to e (beyond x h l) (let r : end called x.to ≡ e = (cc) in r)
+      at_letter x h Return l e q = absurd (cc)
 
-    low_return : (o : Option Frame) → top ≡ o → (e : End) → return_end narrow o ≡ Some e → e.stack ≤ length frames
-    low_return None is e q = absurd (cc)
-    low_return (Some f) is e q = low_as f.below f.top e (frame_low stack f is).1 (aligned_by (is_place narrow f.top) f e refl q).1
+      at_return : (o : Option Frame) → top ≡ o → (e : End) → return_end narrow o ≡ Some e → P e.stack
+      at_return None is e q = absurd (cc)
+      at_return (Some f) is e q = as_end f.below f.top e (under f is) (aligned_by (is_place narrow f.top) f e refl q).1
 
-    low_one : (o : Option End) → return_end narrow top ≡ o → (e : End) → Contains (listed o) e → e.stack ≤ length frames
-    low_one None is e (i, l, q) = absurd (omega arith)
-    low_one (Some w) is e (zero, l, q) = low_return top refl e (is ∙ ap Some q)
-    low_one (Some w) is e (suc i, l, q) = absurd (omega arith)
+      at_one : (o : Option End) → return_end narrow top ≡ o → (e : End) → Contains (listed o) e → P e.stack
+      at_one None is e (i, l, q) = absurd (omega arith)
+      at_one (Some w) is e (zero, l, q) = at_return top refl e (is ∙ ap Some q)
+      at_one (Some w) is e (suc i, l, q) = absurd (omega arith)
 
-    low_back : (b : Bool) (e : End) → Contains (listed (back_end narrow b top)) e → e.stack ≤ length frames
-    low_back false e (i, h, q) = absurd (omega arith)
-    low_back true e h = low_one (return_end narrow top) refl e h
+      at_back : (b : Bool) (e : End) → Contains (listed (back_end narrow b top)) e → P e.stack
+      at_back false e (i, h, q) = absurd (omega arith)
+      at_back true e h = at_one (return_end narrow top) refl e h
+
+      pub end_stack : (e : End) → Contains ends e → P e.stack
+      end_stack e h = elim (split_in (filter_map (successor_end returns top stack called) items) (listed (back_end narrow returns top)) e h) [
+        | inl s ↦ (let q = of_some (successor_end returns top stack called) items e s in at_letter q.0 q.1 q.0.letter refl e q.2)
+        | inr b ↦ at_back returns e b
+      ]
 
     -- the stack of each end has a number
     pub end_low : (e : End) → Contains ends e → e.stack ≤ length frames
-    end_low e h = elim (split_in (filter_map (successor_end returns top stack called) items) (listed (back_end narrow returns top)) e h) [
-      | inl s ↦ (let q = of_some (successor_end returns top stack called) items e s in low_letter q.0 q.1 q.0.letter refl e q.2)
-      | inr b ↦ low_back returns e b
-    ]
+    end_low e h =
+        end_stack (λ n. n ≤ length frames) fits (λ x c l. (frame_low called (frame behind stack) (pushes x c l)).0) (λ f is. (frame_low stack f is).1) e h

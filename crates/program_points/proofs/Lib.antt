@@ -8,5 +8,8 @@ pub mod Stacked
 pub mod Ended
 pub mod Walked
 pub mod Expanded
+pub mod Stepped
+pub mod Returned
 pub mod Pinned
 pub mod Ways
+pub mod Plain

@@ -1,6 +1,6 @@
 -- Tables of stacks, the ends of a point, and points that are added.
-use Rattle.std.specs.Prelude.{ℕ, zero, suc, nat_le, ◌↔◌, ◌≡◌, ◌≢◌, ◌+◌, ◌<◌, ◌≤◌, ◌==◌, ◌&&◌, ◌++◌, ◌⊎◌, not, filter, Bool, true, false, List, [], ◌∷◌, Option, Some, None, Contains, length, slice_get, slice_index_or, if◌then◌else◌}
-use Rattle.std.specs.List.{filter_map}
+use Rattle.std.specs.Prelude.{ℕ, zero, suc, nat_le, ◌↔◌, ◌≡◌, ◌≢◌, ◌+◌, ◌<◌, ◌≤◌, ◌==◌, ◌&&◌, ◌++◌, ◌⊎◌, not, filter, Bool, true, false, List, [], ◌∷◌, Option, Some, None, is_none, Contains, length, slice_get, slice_index_or, if◌then◌else◌}
+use Rattle.std.specs.List.{filter_map, list_any}
 use Rattle.std.specs.BTreeMap.{BTreeMap}
 use Rattle.std.specs.BTreeMap as tree
 use Rattle.std.specs.BTreeSet.{BTreeSet, contains}
@@ -10,10 +10,12 @@ use Rattle.graph_nodes.specs.declared.nodes.Letter.{Letter}
 use Rattle.graph_nodes.specs.declared.nodes.Letter.TheVariants.{Next, Jump, Call, Return}
 use Rattle.graph_nodes.specs.declared.nodes.Successor.{Successor}
 use Rattle.graph_nodes.specs.declared.nodes.Node.{Node}
-use Rattle.std.specs.Ordering.{nat_cmp, ordering_then}
+use Rattle.std.specs.Ordering.{nat_cmp, bool_cmp, ordering_then}
+use Rattle.std.specs.Option.{option_cmp}
 use Rattle.std.specs.declared.cmp.Ordering.{Ordering}
 use Rattle.program_points.specs.declared.values.Frame.{Frame}
-use Rattle.program_points.specs.declared.values.Point.{Point}
+use Rattle.program_points.specs.declared.values.FramePoint.{FramePoint}
+use Rattle.program_points.specs.declared.values.Root.{Root}
 pub use Rattle.program_points.specs.declared.values.End.{End}
 
 -- the order of the keys of stacks
@@ -131,30 +133,85 @@ pub record IsCalled (n : Node) (stack : ℕ) (old new : List Frame) (number : �
   pub only : (rest ≡ []) ⊎ (rest ≡ frame (add 32 n.at n.length) stack ∷ [])
   pub pushes : (x : Successor) → Contains n.successors.items x → x.letter ≡ Call → frame_at new number ≡ Some (frame (add 32 n.at n.length) stack)
 
--- the order of the keys of points
-abbrev pub triple_cmp : ℕ × ℕ × ℕ → ℕ × ℕ × ℕ → Ordering
-triple_cmp x y = ordering_then (ordering_then (nat_cmp x.0 y.0) (nat_cmp x.1 y.1)) (nat_cmp x.2 y.2)
+-- a root as a part of a key
+abbrev pub root_key : Option Root → Option (ℕ × ℕ)
+root_key None = None
+root_key (Some r) = Some (r.stack, r.at)
 
--- the points are each once, and the set has them; their stacks have numbers, and they have at most k backward transfers
-pub record IsListed (k stacks : ℕ) (points : List Point) (seen : BTreeSet (ℕ × ℕ × ℕ)) : Type 0 where
-  pub has : (q : Point) → (contains triple_cmp seen (q.turns, q.stack, q.at) ≡ true) ↔ Contains points q
+-- what tells a point from others
+abbrev pub Key : Type 0
+Key = ℕ × ℕ × ℕ × Bool × Option (ℕ × ℕ)
+
+abbrev pub key_of : FramePoint → Key
+key_of q = (q.turns, q.stack, q.at, q.contract, root_key q.root)
+
+-- the order of the keys of points
+abbrev pub key_cmp : Key → Key → Ordering
+key_cmp x y =
+    ordering_then (ordering_then (ordering_then (ordering_then (nat_cmp x.0 y.0) (nat_cmp x.1 y.1)) (nat_cmp x.2 y.2)) (bool_cmp x.3 y.3))
+    (option_cmp pair_cmp x.4 y.4)
+
+-- the stack of a root has a number of at most so many
+abbrev pub is_root_within : ℕ → Option Root → Type 0
+is_root_within stacks None = Unit {0}
+is_root_within stacks (Some r) = r.stack ≤ stacks
+
+-- a point has at most k backward transfers, and its stacks have numbers
+pub record IsWithin (k stacks : ℕ) (q : FramePoint) : Type 0 where
+  pub stack : q.stack ≤ stacks
+  pub turns : q.turns ≤ k
+  pub root : is_root_within stacks q.root
+
+-- the points are each once, and the set has their keys; their stacks have numbers, and they have at most k backward transfers
+pub record IsListed (k stacks : ℕ) (points : List FramePoint) (seen : BTreeSet Key) : Type 0 where
+  pub has : (q : FramePoint) → (contains key_cmp seen (key_of q) ≡ true) ↔ Contains points q
   pub once : (i j : ℕ) → i < j → j < length points → slice_get points i ≢ slice_get points j
-  pub within : (q : Point) → Contains points q → (q.stack ≤ stacks) × (q.turns ≤ k)
+  pub within : (q : FramePoint) → Contains points q → IsWithin k stacks q
+
+-- the list has the address
+abbrev pub is_among : List ℕ → ℕ → Bool
+is_among list a = list_any (λ x. x == a) list
+
+-- the first point of the root at a head
+abbrev pub head_point : End → FramePoint
+head_point e = record { root = Some (record { stack = e.stack; at = e.at }); turns = 0; contract = false; stack = e.stack; at = e.at }
+
+-- the first point of the entry's root
+abbrev pub entry_point : ℕ → FramePoint
+entry_point entry = record { root = None; turns = 0; contract = false; stack = 0; at = entry }
+
+-- the point of the same root at an end
+abbrev pub point_to : (contract : Bool) → FramePoint → End → FramePoint
+point_to contract q e =
+    record { root = q.root; turns = (if nat_le e.at q.at then q.turns + 1 else q.turns); contract = contract; stack = e.stack; at = e.at }
+
+-- the stack behind a call of a row, where the row links: there is no call where its number is 0
+abbrev pub linked : (links : Bool) → (called : ℕ) → Option ℕ
+linked links called = if links && not (called == 0) then Some called else None
+
+-- the call to an end is stepped over
+abbrev pub is_stepped : (stepped : List ℕ) → (linked : Option ℕ) → End → Bool
+is_stepped stepped None e = false
+is_stepped stepped (Some called) e = (e.stack == called) && is_among stepped e.at
 
 -- the point at an end
-abbrev pub target : Point → End → Point
-target q e = record { turns = (if nat_le e.at q.at then q.turns + 1 else q.turns); stack = e.stack; at = e.at }
+abbrev pub target : (heads stepped : List ℕ) → (linked : Option ℕ) → FramePoint → End → FramePoint
+target heads stepped linked q e = if is_among heads e.at then head_point e else point_to (is_stepped stepped linked e) q e
+
+-- the entry's root ends at the point
+abbrev pub is_cut : (heads : List ℕ) → FramePoint → Bool
+is_cut heads q = is_none q.root && is_among heads q.at
 
 -- the points begin with the old ones, and the only other one is the given one, which is among them
-pub record IsAdded (point : Point) (old new : List Point) : Type 0 where
-  pub rest : List Point
+pub record IsAdded (point : FramePoint) (old new : List FramePoint) : Type 0 where
+  pub rest : List FramePoint
   pub begins : new ≡ old ++ rest
   pub has : Contains new point
-  pub only : (q : Point) → Contains new q → Contains old q ⊎ (q ≡ point)
+  pub only : (q : FramePoint) → Contains new q → Contains old q ⊎ (q ≡ point)
 
 -- the points begin with the old ones, and the others are those at ends; where there are no more than may be, none is missing
-pub record AreAdded (k max : ℕ) (point : Point) (ends : List End) (old new : List Point) : Type 0 where
-  pub rest : List Point
+pub record AreAdded (target : End → FramePoint) (k max : ℕ) (ends : List End) (old new : List FramePoint) : Type 0 where
+  pub rest : List FramePoint
   pub begins : new ≡ old ++ rest
-  pub only : (q : Point) → Contains new q → Contains old q ⊎ ((e : End) × Contains ends e × (q ≡ target point e) × (q.turns ≤ k))
-  pub all : (e : End) → length new ≤ max → Contains ends e → (target point e).turns ≤ k → Contains new (target point e)
+  pub only : (q : FramePoint) → Contains new q → Contains old q ⊎ ((e : End) × Contains ends e × (q ≡ target e) × (q.turns ≤ k))
+  pub all : (e : End) → length new ≤ max → Contains ends e → (target e).turns ≤ k → Contains new (target e)

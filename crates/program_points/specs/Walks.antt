@@ -1,13 +1,17 @@
 -- How far the listing of points has come.
-use Rattle.std.specs.Prelude.{ℕ, ◌≡◌, ◌<◌, ◌≤◌, List, Some, Contains, length, slice_get, ◌↔◌}
+use Rattle.std.specs.Prelude.{ℕ, ◌≡◌, ◌<◌, ◌≤◌, true, false, List, Some, None, Contains, length, slice_get, ◌↔◌, ◌⊎◌}
+use Rattle.std.specs.List.{list_any}
 use Rattle.bilv_spec.specs.Run.{Program}
 use Rattle.machine_spec.specs.Machine.{Row, IsAtPlace}
-use Rattle.bilv_spec.specs.Points.{ToAddress, edges, end_of, file_row, fall_ends, jump_ends, IsPoint}
+use Rattle.bilv_spec.specs.Points.{ToAddress, edges, file_row, fall_ends, jump_ends}
 use Rattle.bilv_spec.specs.Points as points
 use Rattle.program_points.specs.declared.values.Frame.{Frame}
-use Rattle.program_points.specs.declared.values.Point.{Point}
-use Rattle.program_points.specs.Listed.{point_of, HasOneWay}
-use Rattle.program_points.specs.Tables.{frame, stack_at, stacks_of, frame_at, ends_of, jumps_of, IsCalled, AreAdded}
+use Rattle.frame_spec.specs.Frames as frames
+use Rattle.frame_spec.specs.Frames.{is_head}
+use Rattle.frame_spec.specs.FramePoints.{IsPoint, frame_edges, end_of}
+use Rattle.program_points.specs.declared.values.FramePoint.{FramePoint}
+use Rattle.program_points.specs.Listed.{frame_point_of, HasOneWay}
+use Rattle.program_points.specs.Tables.{frame, stack_at, stacks_of, frame_at, end, listed, return_end, ends_of, jumps_of, is_call, entry_point, head_point, target, linked, is_among, is_cut, IsCalled, AreAdded}
 use Rattle.graph_nodes.specs.declared.nodes.Node.{Node}
 use Rattle.graph_nodes.specs.declared.nodes.Graph.{Graph}
 use Rattle.graph_nodes.specs.Graphs.{addresses_of, IsNode}
@@ -17,20 +21,36 @@ use Rattle.graph_nodes.specs.declared.nodes.Successor.{Successor}
 use Rattle.word_spec.specs.Words.{add}
 use Rattle.program_points.specs.declared.values.End.{End}
 
--- the points are points of the program, with the entry's; where there are no more than may be, what the first n lead to is among them
-pub record Walk (p : Program) (k max : ℕ) (frames : List Frame) (points : List Point) (n : ℕ) : Type 0 where
-  pub reached : (q : Point) → Contains points q → IsPoint p k (point_of (stacks_of frames) q)
-  pub first_in : Contains points (record { turns = 0; stack = 0; at = p.entry })
-  pub closed : (i : ℕ) (q : Point) (s : List ℕ) (a : ℕ) → length points ≤ max → i < n → slice_get points i ≡ Some q →
-      Contains (edges p (point_of (stacks_of frames) q)) (ToAddress s a) → (end_of (point_of (stacks_of frames) q) s a).turns ≤ k →
-      (t : Point) × Contains points t × (point_of (stacks_of frames) t ≡ end_of (point_of (stacks_of frames) q) s a)
+-- the points are the first ones of a frame: the entry's, and where that is a head, the one of its root
+pub record AreFirst (heads : List ℕ) (entry : ℕ) (points : List FramePoint) : Type 0 where
+  pub entry_in : Contains points (entry_point entry)
+  pub head_in : is_among heads entry ≡ true → Contains points (head_point (end 0 entry))
+  pub only : (q : FramePoint) → Contains points q → (q ≡ entry_point entry) ⊎ ((is_among heads entry ≡ true) × (q ≡ head_point (end 0 entry)))
 
--- the frames and the points are as before, and the graph has no node of the point's address; or they are more by the ends of the point at the node
-pub data IsStep (g : Graph) (k max : ℕ) (point : Point) (old_frames frames : List Frame) (old points : List Point) : Type 0 where
-  nowhere : (AreRising g.nodes.items → ¬ Contains (addresses_of g) point.at) → frames ≡ old_frames → points ≡ old →
-      IsStep g k max point old_frames frames old points
-  somewhere : (n : Node) (called : ℕ) → n.at ≡ point.at → Contains g.nodes.items n → IsCalled n point.stack old_frames frames called
-      → AreAdded k max point (ends_of g.narrow n (frame_at frames point.stack) point.stack called) old points → IsStep g k max point old_frames frames old points
+-- The points are points of the frame, with the first ones; where there are no more than may be, what the first n lead to is among them.
+pub record Walk (f : frames.Frame) (k max : ℕ) (frames : List Frame) (points : List FramePoint) (n : ℕ) : Type 0 where
+  pub reached : (q : FramePoint) → Contains points q → IsPoint f k (frame_point_of (stacks_of frames) q)
+  pub first_in : Contains points (entry_point f.program.entry)
+  pub head_in : is_head f f.program.entry ≡ true → Contains points (head_point (end 0 f.program.entry))
+  pub closed : (i : ℕ) (q : FramePoint) (s : List ℕ) (a : ℕ) → length points ≤ max → i < n → slice_get points i ≡ Some q →
+      Contains (frame_edges f (frame_point_of (stacks_of frames) q)) (ToAddress s a) → (end_of f (frame_point_of (stacks_of frames) q) s a).turns ≤ k →
+      (t : FramePoint) × Contains points t × (frame_point_of (stacks_of frames) t ≡ end_of f (frame_point_of (stacks_of frames) q) s a)
+
+-- What expanding a point comes to: nothing, where the graph has no node of its address, or the entry's segment ends there; the return of a contract step; or
+-- the points at the ends of the point at its node.
+pub data IsStep (g : Graph) (heads stepped : List ℕ) (k max : ℕ) (point : FramePoint) (old_frames frames : List Frame) (old points : List FramePoint)
+    : Type 0 where
+  nowhere : (AreRising g.nodes.items → ¬ Contains (addresses_of g) point.at) → point.contract ≡ false → frames ≡ old_frames → points ≡ old →
+      IsStep g heads stepped k max point old_frames frames old points
+  stops : is_cut heads point ≡ true → point.contract ≡ false → frames ≡ old_frames → points ≡ old →
+      IsStep g heads stepped k max point old_frames frames old points
+  returns : point.contract ≡ true → frames ≡ old_frames →
+      AreAdded (target heads stepped None point) k max (listed (return_end g.narrow (frame_at frames point.stack))) old points →
+      IsStep g heads stepped k max point old_frames frames old points
+  somewhere : (n : Node) (called : ℕ) → is_cut heads point ≡ false → point.contract ≡ false → n.at ≡ point.at → Contains g.nodes.items n →
+      IsCalled n point.stack old_frames frames called → (list_any (λ s. is_call s.letter) n.successors.items ≡ false → called ≡ 0) →
+      AreAdded (target heads stepped (linked n.links called) point) k max (ends_of g.narrow n (frame_at frames point.stack) point.stack called) old points →
+      IsStep g heads stepped k max point old_frames frames old points
 
 -- each frame stands on a stack of a lower number
 abbrev pub IsLow : List Frame → Type 0

@@ -2,7 +2,7 @@
 ghost use Rattle.std.specs.Prelude.{◌≡◌, ◌≤◌, IfOk, false, length};
 ghost use Rattle.std.specs.List.{list_any};
 ghost use Rattle.program_points.specs.Tables as tables;
-ghost use Rattle.program_points.specs.Tables.{frame_at, ends_of, jumps_of, is_call, IsTable, IsCalled};
+ghost use Rattle.program_points.specs.Tables.{frame_at, ends_of, jumps_of, is_call, listed, return_end, IsTable, IsCalled};
 
 use crate::stacks::{Stacks, pushed};
 use crate::values::{End, Frame};
@@ -89,6 +89,22 @@ fn back_end(narrow: bool, returns: bool, frame: Option<Frame>) -> Option<End>
             }
         }
     }
+}
+
+/// The end of a return from a stack by number, if there is one: where a contract step leads. The error is out of memory.
+pub fn returned(
+    alloc: Global,
+    narrow: bool,
+    frames: &[Frame],
+    stack: usize,
+) -> Result<Vec<End>, AllocError>
+    ensures { IfOk result (λ v. v.items ≡ listed (return_end narrow (frame_at frames.now stack))) }
+{
+    let mut found: Vec<End> = Vec::new(alloc);
+    if let Some(end) = back_end(narrow, true, frame(frames, stack)) {
+        found.push(end)?;
+    }
+    Ok(found)
 }
 
 /// The number of the stack behind a call of a node, which is added where it was not among the stacks; without a call 0, and the stacks are as they were. The

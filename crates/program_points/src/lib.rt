@@ -1,4 +1,5 @@
-//! The points of a program, listed from its flow graph: how many backward transfers were made, the addresses that calls are to return to, and the address.
+//! The points of a program, listed from its flow graph: how many backward transfers were made, the addresses that calls are to return to, and the address. So
+//! the points of a frame, whose runs are cut at heads, and whose calls of some contracts are stepped over.
 #![tactic(auto)]
 
 mod adding;
@@ -10,6 +11,6 @@ mod values;
 
 pub use laws::{ends_are_edges, ends_are_ways};
 pub use leading::{called, ends, jumps};
-pub use listing::points;
+pub use listing::{frame_points, points};
 pub use stacks::{Stacks, no_frames, pushed};
-pub use values::{End, Frame, Point, Points, PointsFault};
+pub use values::{Cuts, End, Frame, FramePoint, FramePoints, Point, Points, PointsFault, Root};

@@ -13,6 +13,31 @@ pub struct Point {
     pub at: u32,
 }
 
+/// Where the runs of a frame of contracts are cut: at its heads. And the addresses of the contracts that its calls step over.
+#[derive(Clone, Copy, Debug)]
+pub struct Cuts<'a> {
+    pub heads: &'a [u32],
+    pub stepped: &'a [u32],
+}
+
+/// Where a segment begins that does not begin at the entry: at a head, with a stack by number.
+#[derive(Clone, Copy, PartialEq, Eq, Debug)]
+pub struct Root {
+    pub stack: usize,
+    pub at: u32,
+}
+
+/// A point of a frame of contracts: where its segment begins, none at the entry; how many backward transfers were made since; whether a contract step is made
+/// there, in place of the row; its stack by number, and its address.
+#[derive(Clone, Copy, PartialEq, Eq, Debug)]
+pub struct FramePoint {
+    pub root: Option<Root>,
+    pub turns: u64,
+    pub contract: bool,
+    pub stack: usize,
+    pub at: u32,
+}
+
 /// A stack that is not empty: its top, and the number of the stack below.
 #[derive(Clone, Copy, PartialEq, Eq, Debug)]
 pub struct Frame {
@@ -32,6 +57,13 @@ pub struct End {
 pub struct Points {
     pub stacks: Stacks,
     pub points: Vec<Point>,
+}
+
+/// The points of a frame of contracts. Stack 0 is empty; stack i + 1 is frame i. Equal stacks have equal numbers.
+#[derive(Drop, Debug)]
+pub struct FramePoints {
+    pub stacks: Stacks,
+    pub points: Vec<FramePoint>,
 }
 
 /// Why there is no list of points.

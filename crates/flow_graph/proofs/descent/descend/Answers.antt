@@ -1,7 +1,7 @@
 use Rattle.std.proofs.Common.{◌≡◌}
 use Rattle.std.proofs.lemmas.List.Sorted.{All-permutation}
 use Rattle.bilv_spec.specs.Files.{program_of}
-use Rattle.notes_lang.specs.Drafting.{notes_of}
+use Rattle.notes_value.specs.NoteViews.{notes_of}
 use Rattle.graph_nodes.specs.declared.nodes.Node.{Node}
 use Rattle.graph_nodes.specs.declared.nodes.Graph.{Graph}
 use Rattle.flow_graph.proofs.FlagSets.{lines_are}
