@@ -15,7 +15,7 @@ use Rattle.walk_spec.specs.Cells.{Cells, AreFormed, Gives, read_address}
 use Rattle.walk_spec.specs.ClauseForm.{IsBroken, reading}
 use Rattle.walk_laws.proofs.InputsWithin.{reading_in_range}
 use Rattle.mem_cells.proofs.Gathered.{term_free}
-use Rattle.bit_blast.specs.ReadBytes.{AreReads, is_free, is_unknown}
+use Rattle.bit_blast.specs.ReadBytes.{AreOne, AreReads, is_free, is_unknown}
 use Rattle.bit_blast.proofs.Kept.{stands_in, stays_in}
 use Rattle.bit_blast.proofs.ReadValues.{address_few}
 
@@ -66,19 +66,40 @@ byte_same (x ∷ xs) a h = elim (truth (nat_lt 0 x.1)) [
 
 -- ---- the memory
 
+-- a list of bytes has that of each address, where those of one address are one
+first_at : (xs : List (ℕ × ℕ)) (d : ℕ × ℕ) →
+    ((i j : ℕ) → i < length xs → j < length xs → (get_or xs i d).0 ≡ (get_or xs j d).0 → (get_or xs i d).1 ≡ (get_or xs j d).1) →
+    (k : ℕ) → k < length xs → byte_in xs (get_or xs k d).0 ≡ (get_or xs k d).1
+first_at [] d h k l = absurd (omega (arith, l))
+first_at (x ∷ xs) d h zero l = ap (λ z. if z then x.1 else byte_in xs x.0) (let e : (x.0 == x.0) ≡ true = grind (arith, nat_tests) in e)
+first_at (x ∷ xs) d h (suc k) l = elim (truth ((get_or xs k d).0 == x.0)) [
+  | inl t ↦ (let e : x.0 ≡ (get_or xs k d).0 = grind (arith, nat_tests) in
+      ap (λ z. if z then x.1 else byte_in xs (get_or xs k d).0) t ∙ h 0 (suc k) (omega arith) l e)
+  | inr f ↦ ap (λ z. if z then x.1 else byte_in xs (get_or xs k d).0) f
+      ∙ first_at xs d (λ i j m n e. h (suc i) (suc j) (omega (arith, m)) (omega (arith, n)) e) k (omega (arith, l))
+]
+
+-- reads that some memory gives are so
+pub one_by_memory : (u : UnrolledProgram) (c : Cells) → AreFormed u c → (x : TermReading) (m : Memory) → Gives c (with_mem x m) → AreOne c x
+one_by_memory u c formed x m gives i j l k e =
+    gives i l ∙ ap m (term_free x m c.nodes (slice_index c.addresses i) formed.words ∙ e ∙ sym (term_free x m c.nodes (slice_index c.addresses j) formed.words))
+    ∙ sym (gives j k)
+
 -- some memory has the byte of each read whose address is not known
-pub one_memory : (u : UnrolledProgram) (c : Cells) → AreFormed u c → (x : TermReading) (m : Memory) → Gives c (with_mem x m) → (xs us : List (ℕ × ℕ)) →
-    AreReads c x xs →
+pub one_memory : (u : UnrolledProgram) (c : Cells) (x : TermReading) → AreOne c x → (xs us : List (ℕ × ℕ)) → AreReads c x xs →
     us ≡ filter (is_unknown u.known) xs → (m : ℕ → ℕ) × ((y : ℕ × ℕ) → Contains us y → m y.0 ≡ y.1)
-one_memory u c formed x m gives xs us reads free = (
-  m,
+one_memory u c x one xs us reads free = (
+  byte_in xs,
   λ y h.
       let q = stands_in (is_unknown u.known) (0, 0) xs y (subst (λ (z : List (ℕ × ℕ)). Contains z y) free h) in
-      let l : q.0 < length c.addresses = omega (arith, q.1, reads.count) in
-      ap (λ (z : ℕ × ℕ). m z.0) (sym q.3) ∙ ap m (reads.address q.0 l) ∙ ap m (sym (term_free x m c.nodes (slice_index c.addresses q.0) formed.words)) ∙ sym
-      (gives q.0 l)
-      ∙ sym (reads.byte q.0 l) ∙ ap (λ (z : ℕ × ℕ). z.1) q.3,
+      ap (λ (z : ℕ × ℕ). byte_in xs z.0) (sym q.3) ∙ first_at xs (0, 0) same q.0 q.1 ∙ ap (λ (z : ℕ × ℕ). z.1) q.3,
 )
+  where
+    same : (i j : ℕ) → i < length xs → j < length xs → (get_or xs i (0, 0)).0 ≡ (get_or xs j (0, 0)).0 → (get_or xs i (0, 0)).1 ≡ (get_or xs j (0, 0)).1
+    same i j l m e =
+        let p : i < length c.addresses = omega (arith, l, reads.count) in
+        let q : j < length c.addresses = omega (arith, m, reads.count) in
+        reads.byte i p ∙ one i j p q (sym (reads.address i p) ∙ e ∙ reads.address j q) ∙ sym (reads.byte j q)
 
 free_none : (o : Option ℕ) → is_free o ≡ true → o ≡ None
 free_none None h = refl

@@ -33,6 +33,10 @@ pub record AreReads (c : Cells) (x : TermReading) (xs : List (ℕ × ℕ)) : Typ
   pub address : (j : ℕ) → j < length c.addresses → (slice_index_or xs j (0, 0)).0 ≡ read_address c x j
   pub byte : (j : ℕ) → j < length c.addresses → (slice_index_or xs j (0, 0)).1 ≡ x.base j
 
+-- reads of one address have one byte
+abbrev pub AreOne : Cells → TermReading → Type 0
+AreOne c x = (i j : ℕ) → i < length c.addresses → j < length c.addresses → read_address c x i ≡ read_address c x j → x.base i ≡ x.base j
+
 -- no byte is known
 abbrev pub is_free : Option ℕ → Bool
 is_free None = true

@@ -9,7 +9,7 @@ ghost use Rattle.walk_spec.specs.Cells.{AreFormed, Gives};
 ghost use Rattle.walk_spec.specs.ClauseForm.{IsBroken, reading};
 ghost use Rattle.known_bytes.specs.Runs.{run_of};
 ghost use Rattle.mem_cells.specs.Views.{cells_of, program_of_cells};
-ghost use Rattle.bit_blast.specs.ReadBytes.{is_unknown};
+ghost use Rattle.bit_blast.specs.ReadBytes.{AreOne, is_unknown};
 
 use crate::base_bytes::read_bytes;
 use crate::lookup::known_byte;
@@ -68,15 +68,15 @@ fn not_zero(mut found: Vec<(u32, u8)>) -> Vec<(u32, u8)>
     found
 }
 
-/// The bytes that values give to the memory at entry where no byte is known, by rising address; those that are not listed are 0. Some memory has to give each
-/// base read its byte, and no read may have another byte than the one that is known at its address.
+/// The bytes that values give to the memory at entry where no byte is known, by rising address; those that are not listed are 0. Base reads of one address
+/// have to have one byte, as they have where the clauses are satisfied, and no read may have another byte than the one that is known at its address.
 ///
 /// # Errors
 ///
 /// Want of memory, which more than 2^28 points or base reads are.
 pub fn memory_of(alloc: Global, c: &Celled, values: &[bool]) -> Result<Vec<(u32, u8)>, AllocError>
     requires formed { AreFormed (program_of_cells c.now) (cells_of c.now) }
-    requires some { (m : ℕ → ℕ) × Gives (cells_of c.now) (with_mem (reading (program_of_cells c.now) (cells_of c.now) (valuation values.now)) m) }
+    requires one { AreOne (cells_of c.now) (reading (program_of_cells c.now) (cells_of c.now) (valuation values.now)) }
     requires whole { (a : ℕ) → ¬ IsBroken (program_of_cells c.now) (cells_of c.now)
         (reading (program_of_cells c.now) (cells_of c.now) (valuation values.now)) a }
     ensures bytes { IfOk result (λ b. All (λ x. (x.0 < 2 ^ 32) × (1 ≤ x.1) × (x.1 ≤ 255)) b.items) }

@@ -16,6 +16,7 @@ ghost use Rattle.question_form.specs.Questions.{passive_of};
 ghost use Rattle.mem_cells.specs.Views.{cells_of, program_of_cells};
 ghost use Rattle.bit_blast.specs.Followed.{AreFollowed, IsStartReading};
 ghost use Rattle.bit_blast.specs.Laid.{ArePlaces};
+ghost use Rattle.bit_blast.specs.ReadBytes.{AreOne};
 
 use crate::entry::memory_of;
 use crate::input_places::InputPlaces;
@@ -114,15 +115,15 @@ fn start_with(
 }
 
 /// The start of values of the inputs: the registers and the flags that the values give, the bytes that are not 0 at addresses whose byte is not known, by
-/// rising address, and the choices that are not 0, by the steps at which a run from there draws them. Some memory has to give each base read its byte, and no
-/// read may have another byte than the one that is known at its address.
+/// rising address, and the choices that are not 0, by the steps at which a run from there draws them. Base reads of one address have to have one byte, as they
+/// have where the clauses are satisfied, and no read may have another byte than the one that is known at its address.
 ///
 /// # Errors
 ///
 /// Want of memory, which more than 2^28 points or base reads are.
 pub fn start_of(alloc: Global, c: &Celled, values: &[bool]) -> Result<Start, AllocError>
     requires formed { AreFormed (program_of_cells c.now) (cells_of c.now) }
-    requires some { (m : ℕ → ℕ) × Gives (cells_of c.now) (with_mem (reading (program_of_cells c.now) (cells_of c.now) (valuation values.now)) m) }
+    requires one { AreOne (cells_of c.now) (reading (program_of_cells c.now) (cells_of c.now) (valuation values.now)) }
     requires unbroken { (a : ℕ) → IsBroken (program_of_cells c.now) (cells_of c.now)
         (reading (program_of_cells c.now) (cells_of c.now) (valuation values.now)) a → ⊥ }
     requires walkable { IsWalkable (program_of_cells c.now) }

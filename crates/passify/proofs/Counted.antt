@@ -18,7 +18,7 @@ use Rattle.bil_ast.specs.Views.{statements}
 use Rattle.bil_terms.specs.declared.stored.Stored.{Stored}
 use Rattle.walk_spec.specs.Unrolled.{PointExit, Along, Raising, WritingKept, Unaligned, is_edge, goes_out}
 use Rattle.walk_spec.specs.Prices.{line_of, lines_at, line_size, line_steps, variables_of, action_size}
-use Rattle.notes_lang.specs.Drafting.{notes_of}
+use Rattle.notes_value.specs.NoteViews.{notes_of}
 use Rattle.question_form.specs.declared.unrolled.Aim.{Aim}
 use Rattle.question_form.specs.declared.unrolled.Aim.TheVariants.{OnTo, Outward, OverLast}
 use Rattle.question_form.specs.declared.unrolled.Edge.{Edge}

@@ -23,9 +23,9 @@ use Rattle.passify.specs.Sweeps.{AreWell, AreLike, AreTermsOf, Steps, HasEvent}
 use Rattle.passify.specs.Exits.{Tries, Narrows, LineFails}
 use Rattle.passify.specs.Situations.{Situation, IsThere, AreLines, LinesTried, goes_asserts, assert_lines, goes_out_by}
 use Rattle.notes_value.specs.Views.{expr_of}
-use Rattle.notes_lang.specs.declared.notes.NoteLine.{NoteLine as SourceLine}
-use Rattle.notes_lang.specs.declared.notes.Assert.{Assert as SourceAssert}
-use Rattle.notes_lang.specs.Drafting.{assert_of, note_line_of}
+use Rattle.notes_value.specs.declared.notes.NoteLine.{NoteLine as SourceLine}
+use Rattle.notes_value.specs.declared.notes.Assert.{Assert as SourceAssert}
+use Rattle.notes_value.specs.NoteViews.{assert_of, note_line_of}
 use Rattle.passify.proofs.Kept.{word_keeps, denotes_keep, terms_keep}
 
 pub like_on : (a b c : Sweep) → AreLike a b → AreLike b c → AreLike a c

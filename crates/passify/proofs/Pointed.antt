@@ -21,7 +21,7 @@ use Rattle.walk_spec.specs.Sweep.{Held, held_if, hand}
 use Rattle.walk_spec.specs.Passive.{Denotes, Tells}
 use Rattle.walk_spec.specs.Prices.{line_steps, variables_of}
 use Rattle.walk_spec.specs.WalkQuestions.{term_reading}
-use Rattle.notes_lang.specs.Drafting.{notes_of}
+use Rattle.notes_value.specs.NoteViews.{notes_of}
 use Rattle.term_dag.specs.declared.nodes.Term.{Term}
 use Rattle.term_dag.specs.Made.{Grew, IsInterned}
 use Rattle.term_dag.proofs.Growth.{grew_more, grew_none, inputs_none, inputs_more, interned_grew, interned_inputs}

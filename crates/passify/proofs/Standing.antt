@@ -19,7 +19,7 @@ use Rattle.walk_spec.specs.Terms.{TermReading, InRange, TermNode, HasWidth, term
 use Rattle.walk_spec.specs.Unrolled.{UnrolledProgram, UnrolledPoint, PointExit, Along, FalseAssert, Raising, WritingKept, Unaligned, Executes, LeadsLater, goes_out, point_at, is_register_of}
 use Rattle.walk_spec.specs.Unrolled as walk
 use Rattle.walk_spec.specs.Unrolling.{IsReadable, IsWalkable, IsRunnable, CanBeTerms, is_variable_of}
-use Rattle.notes_lang.specs.Drafting.{notes_of, note_line_of}
+use Rattle.notes_value.specs.NoteViews.{notes_of, note_line_of}
 use Rattle.question_form.specs.declared.unrolled.Aim.{Aim}
 use Rattle.question_form.specs.declared.unrolled.Aim.TheVariants.{OnTo, Outward, OverLast}
 use Rattle.question_form.specs.declared.unrolled.Code.{Code}

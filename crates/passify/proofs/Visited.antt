@@ -3,6 +3,7 @@ use Rattle.std.proofs.Common.{◌≡◌, inl, inr, ℕ, zero, suc, ◌+◌, ◌<
 use Rattle.std.specs.Prelude.{slice_get, map, slice_index}
 use Rattle.std.specs.Vec.{with_item}
 use Rattle.std.proofs.Math.ListN.{set}
+use Rattle.std.proofs.lemmas.Bool.{cases_lt}
 use Rattle.std.proofs.lemmas.List.{get_or-map, length-map, length-set}
 use Rattle.std.proofs.lemmas.Option.{slice_get_read}
 use Rattle.word_spec.specs.RowFiles.{from_to}
@@ -25,7 +26,7 @@ use Rattle.question_form.specs.declared.unrolled.Point.{Point}
 use Rattle.question_form.specs.declared.questions.Passive.{Passive}
 use Rattle.question_form.specs.Views.{unrolled_of, points_of}
 use Rattle.passify.specs.declared.sweep.Sweep.{Sweep}
-use Rattle.passify.specs.Lasts.{CarriesTo}
+use Rattle.passify.specs.Lasts.{AreCarriedTo, CarriesTo}
 use Rattle.passify.specs.Sweeps.{AreWell, AreCarried, AreLike, ShowsAt, term_at}
 use Rattle.passify.specs.Handled.{IsHandled, IsSweepOf}
 use Rattle.passify.specs.Made.{IsPassiveOf}
@@ -158,6 +159,21 @@ carries_on u t old new n {g} {l} {st} {j} {m} grew k =
           };
     }
 
+pub stays_carried : (u : UnrolledProgram) (t : ℕ) (old new : List TermNode) (o : Option Names) {g l st j m : ℕ} → Grew old new g l st j m →
+    AreCarriedTo u t old o → AreCarriedTo u t new o
+stays_carried u t old new None grew k = k
+stays_carried u t old new (Some n) grew k = carries_on u t old new n grew k
+
+-- what is carried to the places before one is kept, and that to the place is had
+pub states_on : (u : UnrolledProgram) (old new : List TermNode) (t : ℕ) (last : Option Names) →
+    ((i : ℕ) → i < t → (names : Option Names) × AreCarriedTo u i old names) →
+    ((i : ℕ) (names : Option Names) → AreCarriedTo u i old names → AreCarriedTo u i new names) → AreCarriedTo u t new last →
+    (i : ℕ) → i < t + 1 → (names : Option Names) × AreCarriedTo u i new names
+states_on u old new t last before kept here i l = elim (cases_lt i t) [
+  | inl m ↦ (let h = before i m in (h.0, kept i h.0 h.1))
+  | inr n ↦ (let e : t ≡ i = omega (arith, l, n) in (last, subst (λ (x : ℕ). AreCarriedTo u x new last) e here))
+]
+
 module _ (u : Unrolled) (t : ℕ) (old : List TermNode) (s : Sweep) (a : AreSwept u t old s) (within : t < length u.points.items) where
   here : drop t (unrolled_of u).points ≡ point_at (unrolled_of u) t ∷ drop (t + 1) (unrolled_of u).points
   here =
@@ -251,9 +267,10 @@ module _ (u : Unrolled) (t : ℕ) (old : List TermNode) (s : Sweep) (a : AreSwep
 -- when all places are handled
 pub swept_passive : (u : Unrolled) (t : ℕ) (p : Passive) (s : Sweep) → p.unrolled.now ≡ u → p.met.items ≡ s.met.items → p.fails ≡ s.fails → p.turns ≡ s.turns →
     length u.points.items ≤ t → t ≤ length u.points.items →
-    AreSwept u t p.dag s → IsPassiveOf u p
-swept_passive u t p s of met fails turns above below a = record {
+    AreSwept u t p.dag s → ((i : ℕ) → i < t → (names : Option Names) × AreCarriedTo (unrolled_of u) i p.dag names) → IsPassiveOf u p
+swept_passive u t p s of met fails turns above below a states = record {
   of = of;
+  states = λ i l. states i (omega (arith, l, last));
   tells = record {
     terms = record {
       typed = a.well.typed;

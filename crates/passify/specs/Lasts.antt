@@ -1,5 +1,5 @@
 -- What is carried to a place, as terms.
-use Rattle.std.specs.Prelude.{ℕ, ◌≡◌, true, false, List, Option, Some, None}
+use Rattle.std.specs.Prelude.{ℕ, ◌≡◌, ◌<◌, true, false, List, Option, Some, None, length}
 use Rattle.walk_spec.specs.Terms.{TermNode}
 use Rattle.walk_spec.specs.Unrolled.{UnrolledProgram}
 use Rattle.walk_spec.specs.Sweep.{held}
@@ -18,3 +18,7 @@ pub record CarriesTo (u : UnrolledProgram) (place : ℕ) (nodes : List TermNode)
 abbrev pub AreCarriedTo : UnrolledProgram → (place : ℕ) → List TermNode → Option Names → Type 0
 AreCarriedTo u place nodes None = UnderAll u (λ r. (held u r place).met place ≡ false)
 AreCarriedTo u place nodes (Some n) = CarriesTo u place nodes n
+
+-- and so there are for each place of the program
+abbrev pub HaveStates : UnrolledProgram → List TermNode → Type 0
+HaveStates u nodes = (i : ℕ) → i < length u.points → (names : Option Names) × AreCarriedTo u i nodes names

@@ -9,7 +9,7 @@ use Rattle.walk_spec.specs.Unrolled.{UnrolledProgram, UnrolledPoint, Raising, Wr
 use Rattle.walk_spec.specs.Sweep.{Held}
 use Rattle.walk_spec.specs.Passive.{Denotes, Tells}
 use Rattle.walk_spec.specs.Prices.{line_steps}
-use Rattle.notes_lang.specs.Drafting.{notes_of}
+use Rattle.notes_value.specs.NoteViews.{notes_of}
 use Rattle.question_form.specs.declared.unrolled.Code.{Code}
 use Rattle.question_form.specs.declared.unrolled.Edge.{Edge}
 use Rattle.question_form.specs.declared.unrolled.Point.{Point}

@@ -4,7 +4,7 @@ ghost use Rattle.std.specs.Prelude.{◌≡◌, ◌≤◌, ◌<◌, ◌+◌, ◌*
 ghost use Rattle.walk_spec.specs.Terms.{AreTyped, HasWidth, term_word};
 ghost use Rattle.walk_spec.specs.Passive.{Tells};
 ghost use Rattle.walk_spec.specs.Unrolling.{IsReadable};
-ghost use Rattle.notes_lang.specs.Drafting.{note_line_of};
+ghost use Rattle.notes_value.specs.NoteViews.{note_line_of};
 ghost use Rattle.term_names.specs.Views.{form_of};
 ghost use Rattle.passify.specs.Bits.{Makes, TellsByBoth};
 ghost use Rattle.passify.specs.Edges.{EdgesTried, Follows, IsPlaceOf, TakesEdge, TellsEdge, TellsWay, aim_gates, aim_joins, aim_loads, aim_nodes, edge_word};
@@ -16,7 +16,7 @@ use crate::bits::{both, constant, turned};
 use crate::exits::{judged, split};
 use crate::sweep::{Sweep, arrive, turn};
 use note_terms::Now;
-use notes_lang::NoteLine;
+use notes_value::NoteLine;
 use question_form::{Aim, Edge};
 use std::alloc::{AllocError, Global};
 use term_dag::{Dag, Node, Op, Term};

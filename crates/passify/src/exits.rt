@@ -7,7 +7,7 @@ ghost use Rattle.walk_spec.specs.Passive.{Tells};
 ghost use Rattle.walk_spec.specs.Prices.{line_size};
 ghost use Rattle.walk_spec.specs.Unrolling.{IsReadable};
 ghost use Rattle.notes_value.specs.Views.{expr_of};
-ghost use Rattle.notes_lang.specs.Drafting.{assert_of, note_line_of};
+ghost use Rattle.notes_value.specs.NoteViews.{assert_of, note_line_of};
 ghost use Rattle.question_form.specs.Views.{no_assert};
 ghost use Rattle.term_names.specs.Views.{form_of};
 ghost use Rattle.passify.specs.Situations.{LinesTried, no_line, assert_lines, goes_asserts, goes_out_by};
@@ -18,8 +18,7 @@ ghost use Rattle.passify.specs.Sweeps.{AreTermsOf, AreWell, ComesTo, Hands, HasE
 use crate::bits::{both, turned};
 use crate::sweep::{Sweep, arrive, fail, turn};
 use note_terms::{Now, line};
-use notes_lang::{Assert, NoteLine};
-use notes_value::Expr;
+use notes_value::{Assert, Expr, NoteLine};
 use std::alloc::{AllocError, Global};
 use term_dag::{Dag, Term};
 

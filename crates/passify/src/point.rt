@@ -4,7 +4,7 @@ ghost use Rattle.std.specs.Prelude.{ℕ, ◌≡◌, ◌<◌, ◌-◌, true, IfOk
 ghost use Rattle.walk_spec.specs.Terms.{HasWidth};
 ghost use Rattle.walk_spec.specs.Unrolled.{is_register_of};
 ghost use Rattle.walk_spec.specs.Unrolling.{IsReadable, IsWalkable};
-ghost use Rattle.notes_lang.specs.Drafting.{note_line_of};
+ghost use Rattle.notes_value.specs.NoteViews.{note_line_of};
 ghost use Rattle.question_form.specs.Views.{unrolled_of};
 ghost use Rattle.question_form.specs.Forms.{IsFormed};
 ghost use Rattle.term_names.specs.Views.{form_of, names_of};
@@ -21,7 +21,7 @@ use crate::sweep::{Sweep, fail};
 use crate::writing::writes_kept;
 use bil_terms::run_list;
 use note_terms::Now;
-use notes_lang::NoteLine;
+use notes_value::NoteLine;
 use question_form::{Edge, Unrolled};
 use std::alloc::{AllocError, Global};
 use term_dag::{Dag, Node, Term};

@@ -1,12 +1,13 @@
 //! The passive program of an unrolled one.
 
-ghost use Rattle.std.specs.Prelude.{◌≡◌, ◌<◌, ◌+◌, ◌-◌, [], Some, None, IfOk, length};
+ghost use Rattle.std.specs.Prelude.{◌≡◌, ◌<◌, ◌+◌, ◌-◌, ℕ, [], Option, Some, None, IfOk, length};
 ghost use Rattle.walk_spec.specs.Unrolling.{IsWalkable};
 ghost use Rattle.question_form.specs.Views.{unrolled_of};
 ghost use Rattle.question_form.specs.Forms.{IsFormed};
 ghost use Rattle.passify.specs.Lasts.{AreCarriedTo};
 ghost use Rattle.passify.specs.Made.{IsPassiveOf};
 ghost use Rattle.passify.specs.Swept.{AreSwept, row};
+ghost use Rattle.term_names.specs.declared.names.Names.{Names};
 
 use crate::bits::constant;
 use crate::point::handle;
@@ -98,6 +99,8 @@ fn visit(
     requires swept { AreSwept unrolled.now place dag.old sweep.old }
     ensures swept { IfOk result (λ _. AreSwept unrolled.now (place + 1) dag.new sweep.new) }
     ensures carried { IfOk result (λ names. AreCarriedTo (unrolled_of unrolled.now) place dag.new names) }
+    ensures kept { (i : ℕ) (names : Option Names) → AreCarriedTo (unrolled_of unrolled.now) i dag.old names →
+        IfOk result (λ _. AreCarriedTo (unrolled_of unrolled.now) i dag.new names) }
 {
     let met = sweep.met[place as usize];
     let state = replace(&mut sweep.states[place as usize], None);
@@ -163,7 +166,7 @@ pub fn passive_to_last<'a>(
 }
 
 /// The passive program of an unrolled one, of which terms can be made: for each point whether it is met, and whether an event or one backward transfer too many
-/// comes. The error is want of memory, or of numbers for places.
+/// comes. Among its nodes are the states at the points that are met. The error is out of memory, or of numbers for places.
 pub fn passive<'a>(alloc: Global, unrolled: &'a Unrolled<'a>) -> Result<Passive<'a>, AllocError>
     requires walkable { IsWalkable (unrolled_of unrolled.now) }
     requires formed { IsFormed unrolled.now }

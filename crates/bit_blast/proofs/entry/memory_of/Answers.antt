@@ -8,8 +8,8 @@ pub bytes_in_order-requires : goal.bytes_in_order-requires
 bytes_in_order-requires c =
     let e = rw (c.deref.ensures.value, c.deref-2.ensures.value) at c.in_ok-unknown.ensures in
     let x = reading (program_of_cells c.args.c.now) (cells_of c.args.c.now) (valuation c.args.values.now) in record {
-      one = one_memory (program_of_cells c.args.c.now) (cells_of c.args.c.now) c.requires.formed x c.requires.some.0 c.requires.some.1 c.in_ok-reads.reads.items
-          c.in_ok-unknown.unknown.items c.in_ok-reads.ensures e;
+      one = one_memory (program_of_cells c.args.c.now) (cells_of c.args.c.now) x c.requires.one c.in_ok-reads.reads.items c.in_ok-unknown.unknown.items
+          c.in_ok-reads.ensures e;
     }
 
 pub returns-clause-bytes : goal.returns-clause-bytes

@@ -1,5 +1,5 @@
 use Rattle.std.proofs.Common.{◌+◌, List, false, None, subst, map, drop, get_or}
-use Rattle.notes_lang.specs.Drafting.{note_line_of}
+use Rattle.notes_value.specs.NoteViews.{note_line_of}
 use Rattle.question_form.specs.declared.unrolled.Edge.{Edge}
 use Rattle.question_form.specs.declared.unrolled.Aim.TheVariants.{OnTo}
 use Rattle.passify.specs.Edges.{EdgesTried}

@@ -1,6 +1,6 @@
 use Rattle.std.proofs.Common.{drop}
 use Rattle.std.specs.Prelude.{map}
-use Rattle.notes_lang.specs.Drafting.{note_line_of}
+use Rattle.notes_value.specs.NoteViews.{note_line_of}
 use Rattle.passify.specs.Edges.{EdgesTried}
 use Rattle.passify.proofs.edges.edges.Given as goal
 

@@ -1,5 +1,5 @@
 use Rattle.std.proofs.Common.{subst, sym, map}
-use Rattle.notes_lang.specs.Drafting.{note_line_of}
+use Rattle.notes_value.specs.NoteViews.{note_line_of}
 use Rattle.question_form.specs.declared.unrolled.Aim.{Aim}
 use Rattle.passify.specs.Sweeps.{Hands}
 use Rattle.passify.specs.Edges.{Follows}

@@ -1,5 +1,5 @@
 use Rattle.std.proofs.Common.{map}
-use Rattle.notes_lang.specs.Drafting.{note_line_of}
+use Rattle.notes_value.specs.NoteViews.{note_line_of}
 use Rattle.passify.proofs.Kept.{well_keeps, terms_keep}
 use Rattle.passify.proofs.Along.{edge_steps, edge_rest, edge_tries, edge_narrows}
 use Rattle.passify.proofs.edges.taken.Goals as goal

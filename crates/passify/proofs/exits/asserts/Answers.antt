@@ -1,5 +1,5 @@
 use Rattle.std.proofs.Common.{ℕ, List, subst, map, get_or, ap}
-use Rattle.notes_lang.specs.Drafting.{assert_of}
+use Rattle.notes_value.specs.NoteViews.{assert_of}
 use Rattle.bilv_spec.specs.Notes as notes
 use Rattle.walk_spec.specs.Unrolling.{IsReadable}
 use Rattle.question_form.specs.Views.{no_assert}

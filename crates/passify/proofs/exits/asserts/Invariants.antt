@@ -1,6 +1,6 @@
 use Rattle.std.proofs.Common.{drop}
 use Rattle.std.specs.Prelude.{map}
-use Rattle.notes_lang.specs.Drafting.{assert_of}
+use Rattle.notes_value.specs.NoteViews.{assert_of}
 use Rattle.passify.specs.Situations.{LinesTried, assert_lines, goes_asserts}
 use Rattle.passify.proofs.exits.asserts.Given as goal
 

@@ -1,6 +1,6 @@
 use Rattle.std.proofs.Common.{List, subst, map, get_or, ap}
-use Rattle.notes_lang.specs.declared.notes.NoteLine.{NoteLine}
-use Rattle.notes_lang.specs.Drafting.{note_line_of}
+use Rattle.notes_value.specs.declared.notes.NoteLine.{NoteLine}
+use Rattle.notes_value.specs.NoteViews.{note_line_of}
 use Rattle.bilv_spec.specs.Notes as notes
 use Rattle.bilv_spec.specs.Notes.{Expr}
 use Rattle.walk_spec.specs.Unrolling.{IsReadable}

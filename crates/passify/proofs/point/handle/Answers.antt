@@ -2,8 +2,8 @@ use Rattle.std.proofs.Common.{ℕ, ◌<◌, List, refl, subst, sym, ap, ◌∙�
 use Rattle.std.specs.Prelude.{map, slice_index_or, slice_range}
 use Rattle.walk_spec.specs.Terms.{ConstantNode, HasWidth}
 use Rattle.walk_spec.specs.Unrolling.{IsReadable}
-use Rattle.notes_lang.specs.declared.notes.Assert.{Assert}
-use Rattle.notes_lang.specs.Drafting.{assert_of}
+use Rattle.notes_value.specs.declared.notes.Assert.{Assert}
+use Rattle.notes_value.specs.NoteViews.{assert_of}
 use Rattle.question_form.specs.declared.unrolled.Code.{Code}
 use Rattle.question_form.specs.Views.{no_assert}
 use Rattle.term_dag.proofs.Growth.{grew_width, interned_grew}

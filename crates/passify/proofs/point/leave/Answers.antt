@@ -1,5 +1,5 @@
 use Rattle.std.proofs.Common.{map}
-use Rattle.notes_lang.specs.Drafting.{note_line_of}
+use Rattle.notes_value.specs.NoteViews.{note_line_of}
 use Rattle.passify.proofs.Quit.{leave_tried, leave_names}
 use Rattle.passify.proofs.point.leave.Goals as goal
 

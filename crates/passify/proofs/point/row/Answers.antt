@@ -7,8 +7,8 @@ use Rattle.bil_terms.specs.Gathered.{IsStore}
 use Rattle.walk_spec.specs.Terms.{HasWidth}
 use Rattle.walk_spec.specs.Unrolled.{Executes}
 use Rattle.walk_spec.specs.Unrolling.{IsReadable}
-use Rattle.notes_lang.specs.declared.notes.NoteLine.{NoteLine}
-use Rattle.notes_lang.specs.Drafting.{note_line_of}
+use Rattle.notes_value.specs.declared.notes.NoteLine.{NoteLine}
+use Rattle.notes_value.specs.NoteViews.{note_line_of}
 use Rattle.question_form.specs.declared.unrolled.Code.{Code}
 use Rattle.question_form.specs.declared.unrolled.Edge.{Edge}
 use Rattle.question_form.specs.Views.{action_of, unrolled_of}

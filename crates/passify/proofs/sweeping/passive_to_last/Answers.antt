@@ -1,15 +1,19 @@
-use Rattle.std.proofs.Common.{◌≡◌, ◌-◌, ℕ, suc, refl, length, subst, arith}
+use Rattle.std.proofs.Common.{◌≡◌, ◌+◌, ◌-◌, ◌<◌, ℕ, suc, refl, length, subst, arith}
 use Rattle.question_form.specs.Views.{unrolled_of}
 use Rattle.passify.specs.Lasts.{AreCarriedTo}
-use Rattle.passify.proofs.Visited.{points_count, swept_passive}
+use Rattle.passify.proofs.Visited.{points_count, states_on, swept_passive}
 use Rattle.passify.proofs.sweeping.passive_to_last.Goals as goal
 
 pub loop-place-init : goal.loop-place-init
-loop-place-init c = record { swept = c.in_ok-sweep.ensures; last = λ i e. absurd (omega arith) }
+loop-place-init c = record { swept = c.in_ok-sweep.ensures; states = λ i l. absurd (omega (arith, l)); last = λ i e. absurd (omega arith) }
 
 pub loop-place-preserved : goal.loop-place-preserved
 loop-place-preserved c = record {
   swept = c.in_ok-last.ensures.swept;
+  states = λ i l.
+      let within : i < c.loop-place.place + 1 = omega (arith, l) in
+      states_on (unrolled_of c.args.unrolled.now) c.loop-place.dag c.visit.new.dag c.loop-place.place c.in_ok-last.last c.loop-place.invariant.states
+      c.in_ok-last.ensures.kept c.in_ok-last.ensures.carried i within;
   last = λ i e.
       let same : c.loop-place.place ≡ i = omega arith in
       subst (λ (n : ℕ). AreCarriedTo (unrolled_of c.args.unrolled.now) n c.visit.new.dag c.in_ok-last.last) same c.in_ok-last.ensures.carried;
@@ -20,6 +24,7 @@ returns-clause-passive c =
     swept_passive c.args.unrolled.now c.loop-place.place _ c.loop-place.sweep refl refl refl refl
     (omega (arith, c.loop-place-test.false, c.len-place-end.ensures, c.args.unrolled.now.points.ok.0))
     (omega (arith, c.loop-place.auto.place-end, c.len-place-end.ensures, c.args.unrolled.now.points.ok.0)) c.loop-place.invariant.swept
+    c.loop-place.invariant.states
 
 pub returns-clause-last : goal.returns-clause-last
 returns-clause-last c =

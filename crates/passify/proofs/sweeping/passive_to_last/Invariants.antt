@@ -1,5 +1,6 @@
-use Rattle.std.proofs.Common.{◌≡◌, ℕ, suc}
+use Rattle.std.proofs.Common.{◌≡◌, ◌<◌, ℕ, suc, Option}
 use Rattle.question_form.specs.Views.{unrolled_of}
+use Rattle.term_names.specs.declared.names.Names.{Names}
 use Rattle.passify.specs.Lasts.{AreCarriedTo}
 use Rattle.passify.specs.Swept.{AreSwept}
 use Rattle.passify.proofs.sweeping.passive_to_last.Given as goal
@@ -7,5 +8,6 @@ use Rattle.passify.proofs.sweeping.passive_to_last.Given as goal
 abbrev pub invariant-loop-place : goal.invariant-loop-place
 invariant-loop-place l = record {
   swept : AreSwept l.unrolled l.place l.dag l.sweep;
+  states : (i : ℕ) → i < l.place → (names : Option Names) × AreCarriedTo (unrolled_of l.unrolled) i l.dag names;
   last : (i : ℕ) → suc i ≡ l.place → AreCarriedTo (unrolled_of l.unrolled) i l.dag l.last;
 }

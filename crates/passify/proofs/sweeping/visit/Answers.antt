@@ -5,7 +5,7 @@ use Rattle.passify.specs.Handled.{IsHandled}
 use Rattle.passify.specs.Sweeps.{AreWell}
 use Rattle.passify.specs.Swept.{AreSwept}
 use Rattle.question_form.specs.Views.{unrolled_of}
-use Rattle.passify.proofs.Visited.{carried_there, carries_on, forget_well, handled_by, met_within, none_met, passed_by, place, taken_was, zero_met}
+use Rattle.passify.proofs.Visited.{carried_there, carries_on, forget_well, handled_by, met_within, none_met, passed_by, place, stays_carried, taken_was, zero_met}
 use Rattle.passify.proofs.sweeping.visit.Goals as goal
 
 pub index-met-requires : goal.index-met-requires
@@ -93,3 +93,7 @@ returns-in_ok-handle-in-Some-clause-carried c =
     (taken_was c.args.unrolled.now c.args.place c.args.dag.now c.args.sweep.now c.requires.swept c.requires.place c.index_mut.result.now c.replace-state.result
     (Some c.in-Some.names) c.index_mut.ensures.value
     c.replace-state.ensures.value c.in-Some.is))
+
+pub returns-in_ok-handle-in-Some-clause-kept : goal.returns-in_ok-handle-in-Some-clause-kept
+returns-in_ok-handle-in-Some-clause-kept c i names h =
+    stays_carried (unrolled_of c.args.unrolled.now) i c.args.dag.now c.handle.new.dag names c.in_ok-handle-in-Some.ensures.steps.grew h
