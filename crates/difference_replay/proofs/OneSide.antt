@@ -11,7 +11,7 @@ use Rattle.bilv_spec.specs.Answers.{start_in}
 use Rattle.pair_spec.specs.Differs.{exit_by_step, exit_of_run, exit_at}
 use Rattle.state_text.specs.Starts.{layout_of, written_of}
 use Rattle.state_text.specs.declared.start.Start.{Start}
-use Rattle.notes_lang.specs.Drafting.{notes_of}
+use Rattle.notes_value.specs.NoteViews.{notes_of}
 use Rattle.table_run.specs.Exits.{IsExit, IsNoExit}
 use Rattle.pair_sides.specs.Sides.{machine_in, program_of_side}
 use Rattle.pair_sides.specs.declared.sides.Sided.{Sided}

@@ -12,7 +12,7 @@ use Rattle.question_form.specs.Questions.{program_of_question, question_of, term
 use Rattle.question_form.specs.Views.{kind_of, unrolled_of}
 use Rattle.question_form.specs.declared.questions.Passive.{Passive}
 use Rattle.question_form.specs.declared.questions.Question as asked
-use Rattle.question_form.specs.declared.unrolled.Kind.{Kind}
+use Rattle.call_form.specs.declared.kind.Kind.{Kind}
 use Rattle.model_verdict.specs.Readings.{HasKnown, StandsFor}
 
 drawn_choice : (b : Bool) (n : ℕ) → b ≡ true → (if b then n else 0) ≡ n

@@ -5,9 +5,9 @@ ghost use Rattle.machine_spec.specs.StateText.{AreRising};
 ghost use Rattle.bilv_spec.specs.Files.{order_of};
 ghost use Rattle.bilv_spec.specs.PointLaws.{HasLawfulRows};
 ghost use Rattle.bilv_spec.specs.Questions as questions;
-ghost use Rattle.call_spec.specs.Calls.{IsBudget, EntryQuestion, FailQuestion, TurnQuestion};
+ghost use Rattle.call_spec.specs.Calls.{EntryQuestion, FailQuestion, TurnQuestion};
 ghost use Rattle.machine_law.specs.Facts.{IsFit};
-ghost use Rattle.notes_lang.specs.Drafting.{notes_of};
+ghost use Rattle.notes_value.specs.NoteViews.{notes_of};
 ghost use Rattle.notes_value.specs.Reads.{AreReadable};
 ghost use Rattle.state_text.specs.Starts.{written_of};
 ghost use Rattle.table_run.specs.Traces.{IsModelState, TakesChoices};
@@ -16,7 +16,6 @@ ghost use Rattle.question_form.specs.Views.{kind_of, unrolled_of};
 ghost use Rattle.verdict.specs.Functions.{program_of_function};
 ghost use Rattle.verdict.specs.Grounds.{IsGround};
 ghost use Rattle.verdict.specs.Rounds.{IsAskable};
-ghost use Rattle.verdict.specs.Verdicts.{budget_of};
 ghost use Rattle.model_verdict.specs.Models.{filler, listed, HasModel, IsSound, IsSoundMemory};
 ghost use Rattle.model_verdict.specs.Runs.{IsRunBy, IsShownAs, IsStartBy, IsTracedBy};
 ghost use Rattle.model_verdict.specs.Shown.{AreChoicesOf, IsTrulyOf};
@@ -71,7 +70,6 @@ fn traced<M: Machine>(
 ) -> Result<Traced, AllocError>
     requires order { order_of function.now.image.now ≡ M.machine.endian }
     requires readable { AreReadable M.machine.has_register (notes_of function.now.notes.now) }
-    requires budget { IsBudget (budget_of budget.now) }
     requires fit { IsFit M.form (written_of start.now) }
     requires choices { AreRising (written_of start.now).choices }
     requires sound { IsSoundMemory memory.now }
@@ -137,7 +135,6 @@ fn failed<M: Machine>(
 ) -> Result<Judged, AllocError>
     requires order { order_of function.now.image.now ≡ M.machine.endian }
     requires readable { AreReadable M.machine.has_register (notes_of function.now.notes.now) }
-    requires budget { IsBudget (budget_of budget.now) }
     requires lawful { HasLawfulRows (program_of_function M.machine function.now) }
     requires fit { IsFit M.form (written_of start) }
     requires choices { AreRising (written_of start).choices }
@@ -168,7 +165,6 @@ fn turned<M: Machine>(
 ) -> Result<Judged, AllocError>
     requires order { order_of function.now.image.now ≡ M.machine.endian }
     requires readable { AreReadable M.machine.has_register (notes_of function.now.notes.now) }
-    requires budget { IsBudget (budget_of budget.now) }
     requires lawful { HasLawfulRows (program_of_function M.machine function.now) }
     requires fit { IsFit M.form (written_of start) }
     requires choices { AreRising (written_of start).choices }
@@ -219,7 +215,6 @@ pub fn accept<M: Machine>(
 ) -> Result<Judged, AllocError>
     requires order { order_of function.now.image.now ≡ M.machine.endian }
     requires readable { AreReadable M.machine.has_register (notes_of function.now.notes.now) }
-    requires budget { IsBudget (budget_of budget.now) }
     requires ground { IsGround (program_of_function M.machine function.now) budget.now.unroll M.form (unrolled_of passive.now.unrolled.now) }
     requires points { length (unrolled_of passive.now.unrolled.now).points ≤ budget.now.points }
     requires askable { IsAskable passive.now }

@@ -3,15 +3,13 @@ ghost use Rattle.std.specs.Prelude.{◌≡◌, ℕ, ◌≤◌, ◌<◌, ◌^◌,
 ghost use Rattle.clause_spec.specs.Checks.{text_limit};
 ghost use Rattle.bilv_spec.specs.Files.{order_of};
 ghost use Rattle.bilv_spec.specs.Questions.{Reading};
-ghost use Rattle.call_spec.specs.Calls.{IsBudget};
-ghost use Rattle.notes_lang.specs.Drafting.{notes_of};
+ghost use Rattle.notes_value.specs.NoteViews.{notes_of};
 ghost use Rattle.notes_value.specs.Reads.{AreReadable};
 ghost use Rattle.state_text.specs.Starts.{layout_of};
 ghost use Rattle.question_form.specs.Views.{kind_of, unrolled_of};
 ghost use Rattle.verdict.specs.Functions.{program_of_function};
 ghost use Rattle.verdict.specs.Grounds.{IsGround};
 ghost use Rattle.verdict.specs.Rounds.{IsAskable};
-ghost use Rattle.verdict.specs.Verdicts.{budget_of};
 ghost use Rattle.model_verdict.specs.Judgements.{IsJudged};
 ghost use Rattle.model_verdict.specs.Models.{IsSound};
 ghost use Rattle.model_verdict.specs.Readings.{AreDrawn, IsModelled, TakesNumbers};
@@ -49,7 +47,6 @@ fn judge_model<M: Machine>(
 ) -> Result<Judged, AllocError>
     requires order { order_of function.now.image.now ≡ M.machine.endian }
     requires readable { AreReadable M.machine.has_register (notes_of function.now.notes.now) }
-    requires budget { IsBudget (budget_of budget.now) }
     requires ground { IsGround (program_of_function M.machine function.now) budget.now.unroll M.form (unrolled_of passive.now.unrolled.now) }
     requires points { length (unrolled_of passive.now.unrolled.now).points ≤ budget.now.points }
     requires askable { IsAskable passive.now }
@@ -89,7 +86,6 @@ pub fn judge<M: Machine>(
 ) -> Result<Judged, AllocError>
     requires order { order_of function.now.image.now ≡ M.machine.endian }
     requires readable { AreReadable M.machine.has_register (notes_of function.now.notes.now) }
-    requires budget { IsBudget (budget_of budget.now) }
     requires ground { IsGround (program_of_function M.machine function.now) budget.now.unroll M.form (unrolled_of passive.now.unrolled.now) }
     requires points { length (unrolled_of passive.now.unrolled.now).points ≤ budget.now.points }
     requires askable { IsAskable passive.now }

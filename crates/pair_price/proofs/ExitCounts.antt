@@ -9,7 +9,7 @@ use Rattle.std.proofs.Math.Seq.{drop-cons}
 use Rattle.bilv_spec.specs.Notes as notes
 use Rattle.bil_ast.specs.declared.statements.Stmt.{Stmt}
 use Rattle.walk_spec.specs.Unrolled.{UnrolledPoint, goes_out}
-use Rattle.notes_lang.specs.Drafting.{notes_of}
+use Rattle.notes_value.specs.NoteViews.{notes_of}
 use Rattle.question_form.specs.declared.unrolled.Code.{Code}
 use Rattle.question_form.specs.declared.unrolled.Edge.{Edge}
 use Rattle.question_form.specs.declared.unrolled.Point.{Point}

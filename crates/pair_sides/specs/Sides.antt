@@ -7,7 +7,7 @@ use Rattle.machine_spec.specs.Arm.{arm}
 use Rattle.call_spec.specs.Calls.{Options}
 use Rattle.bilv_spec.specs.Files.{machine_of, order_of, program_of}
 use Rattle.bilv_spec.specs.Run.{Program}
-use Rattle.notes_lang.specs.Drafting.{notes_of}
+use Rattle.notes_value.specs.NoteViews.{notes_of}
 use Rattle.notes_value.specs.Reads.{AreOver, AreReadable}
 use Rattle.pair_spec.specs.Equals.{Side}
 use Rattle.state_text.specs.Starts.{layout_of, profile_in}

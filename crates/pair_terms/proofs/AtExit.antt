@@ -2,8 +2,8 @@
 use Rattle.std.proofs.Common.{◌≡◌, ℕ, ◌+◌, ◌<◌, List, length, refl, ap, sym, ◌∙◌, arith, Contains}
 use Rattle.std.specs.Prelude.{map, slice_index}
 use Rattle.bilv_spec.specs.Notes as notes
-use Rattle.notes_lang.specs.declared.notes.NoteLine.{NoteLine}
-use Rattle.notes_lang.specs.Drafting.{note_line_of}
+use Rattle.notes_value.specs.declared.notes.NoteLine.{NoteLine}
+use Rattle.notes_value.specs.NoteViews.{note_line_of}
 use Rattle.notes_value.specs.Views.{expr_of}
 use Rattle.walk_spec.specs.Unrolling.{IsReadable}
 use Rattle.weakest_pre.proofs.Entries.{lines_read, reads_by}

@@ -10,7 +10,7 @@ use Rattle.bilv_spec.specs.Notes as notes
 use Rattle.bil_ast.specs.declared.statements.Stmt.{Stmt}
 use Rattle.bil_ast.specs.Views.{statements}
 use Rattle.walk_spec.specs.Unrolled.{PointExit, Raising, WritingKept, Unaligned, Executes, UnrolledPoint}
-use Rattle.notes_lang.specs.Drafting.{notes_of}
+use Rattle.notes_value.specs.NoteViews.{notes_of}
 use Rattle.program_points.proofs.Stacked.{stack_none}
 use Rattle.question_form.specs.declared.unrolled.Aim.{Aim}
 use Rattle.question_form.specs.declared.unrolled.Aim.TheVariants.{OnTo, Outward, OverLast}

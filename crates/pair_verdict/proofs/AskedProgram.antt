@@ -23,7 +23,8 @@ use Rattle.unroller.specs.Asking.{program_asking}
 use Rattle.unroller.specs.Lookups.{HasForm}
 use Rattle.verdict.specs.Measures.{IsUnrolledOf}
 use Rattle.verdict.specs.Rounds.{HasBytes}
-use Rattle.verdict.proofs.Grounding.{all_readable, bytes_by, count_points, file_rows_lawful, grounded}
+use Rattle.unroller.proofs.FileRows.{file_rows_lawful}
+use Rattle.verdict.proofs.Grounding.{all_readable, bytes_by, count_points, grounded}
 use Rattle.walk_spec.specs.Unrolled.{byte_of_runs, point_at}
 use Rattle.walk_spec.specs.Unrolling.{IsLaidOut, IsUnrolling}
 use Rattle.walk_spec.proofs.Walkable.{unrolling_is_walkable}

@@ -4,7 +4,7 @@ use Rattle.std.specs.Prelude.{length, map, IfErr, IsErrAnd}
 use Rattle.std.proofs.lemmas.List.{length-map}
 use Rattle.bilv_spec.specs.Points.{HasMore}
 use Rattle.bilv_spec.specs.Run.{Program}
-use Rattle.call_spec.specs.Calls.{Budget, IsBudget}
+use Rattle.call_spec.specs.Calls.{Budget}
 use Rattle.machine_spec.specs.StateText.{Layout}
 use Rattle.links_lang.specs.Views.{links_of}
 use Rattle.pair_price.specs.Priced.{PricesPair}
@@ -21,20 +21,13 @@ use Rattle.verdict.proofs.Grounding.{count_points}
 use Rattle.pair_verdict.specs.Sides.{AreTooMany, AreUnrolled, IsVerdictOf, first_program, second_program}
 use Rattle.pair_verdict.specs.declared.pairs.Both.{Both}
 use Rattle.pair_verdict.specs.declared.pairs.Pair.{Pair}
-use Rattle.pair_verdict.specs.declared.verdicts.PairVerdict.TheVariants.{Size}
+use Rattle.pair_verdict.specs.declared.verdicts.PairVerdict.TheVariants.{Exceeded}
+use Rattle.verdict.specs.declared.verdicts.Exceeded.TheVariants.{Size}
 use Rattle.pair_verdict.proofs.PairPoints.{both_more, first_more, has_one, not_both_more}
 
 -- the budget with other points
 abbrev pub with_points : Budget → ℕ → Budget
-with_points b n = record { unroll = b.unroll; points = n; size = b.size; conflicts = b.conflicts }
-
-pub left_budget : (b : Budget) → IsBudget b → (n left : ℕ) → left ≡ b.points - n → (left ≡ 0 → ⊥) → IsBudget (with_points b left)
-left_budget b h n left is some = record {
-  unroll = h.unroll;
-  points = (omega arith, let most = h.points.1 in omega (arith, most));
-  size = h.size;
-  conflicts = h.conflicts;
-}
+with_points b n = record b { points = n }
 
 module _ (a b : Program) (form other : Layout) (budget : Budget) (first : Unrolled) (is : IsUnrolledOf a form budget first) (n : ℕ)
     (count : n ≡ length first.points.items) where
@@ -90,7 +83,7 @@ module _ (p : Pair) (v : Both) (h : AreUnrolled p v) where
     is_price =
         is (omega (arith, small, other)) (first_program p) (second_program p) p.budget.now.unroll h.first.ground.unrolling h.second.ground.unrolling
 
-    pub is_size : p.budget.now.size < price → IsVerdictOf p (Size price)
+    pub is_size : p.budget.now.size < price → IsVerdictOf p (Exceeded (Size price))
     is_size above = (not_more, is_price, above)
 
     pub are_within : price ≤ p.budget.now.size →

@@ -8,12 +8,11 @@ use Rattle.bilv_spec.specs.Reports.{found}
 use Rattle.bilv_spec.specs.Run.{Program}
 use Rattle.bilv_spec.specs.Verdict as verdicts
 use Rattle.bilv_spec.specs.Verdict.{IsRight, IsStart}
-use Rattle.call_spec.specs.Calls.{IsBudget}
 use Rattle.machine_spec.specs.Endings as runs
 use Rattle.machine_spec.specs.Machine.{Machine}
 use Rattle.machine_spec.specs.MachineLaws.{IsLawfulMachine}
 use Rattle.machine_spec.specs.StateText as texts
-use Rattle.notes_lang.specs.Drafting.{notes_of}
+use Rattle.notes_value.specs.NoteViews.{notes_of}
 use Rattle.pair_sides.specs.Sides.{IsSided, machine_in, program_of_side}
 use Rattle.pair_sides.specs.declared.sides.Sided.{Sided}
 use Rattle.pair_spec.specs.Pairs.{ExitsIn}
@@ -24,7 +23,7 @@ use Rattle.table_run.specs.Exits.{IsExit, IsNoExit}
 use Rattle.table_run.specs.declared.ending.Ending.{Ending}
 use Rattle.table_run.specs.declared.ending.Ending.TheVariants as ending
 use Rattle.verdict.specs.Verdicts.{budget_of}
-use Rattle.verdict.specs.declared.verdicts.Budget.{Budget}
+use Rattle.call_form.specs.declared.budget.Budget.{Budget}
 use Rattle.pair_verdict.proofs.ExitSteps as steps
 use Rattle.pair_verdict.proofs.MachineOfSide.{to_side, rows_lawful, reads_memory}
 
@@ -39,7 +38,7 @@ module _ (s : Sided) (m : Machine) (form : texts.Layout) (machine : machine_in s
   abbrev side_start : runs.Start
   side_start = begins (program_of_side s) (layout_of s.layout)
 
-  module _ (lawful : IsLawfulMachine m) (b : Budget) (budget : IsBudget (budget_of b)) (within : IsWithin (program_of_side s) (budget_of b))
+  module _ (lawful : IsLawfulMachine m) (b : Budget) (within : IsWithin (program_of_side s) (budget_of b))
       (holds : IsRight (program_of_side s) b.unroll verdicts.Holds) (is : IsStart (program_of_side s) side_start) (e : Ending)
       (ends : found_of e ≡ found here (Some b.unroll) (begins here form) (b.points - 1)) where
     lawful_rows : HasLawfulRows (program_of_side s)
@@ -55,16 +54,16 @@ module _ (s : Sided) (m : Machine) (form : texts.Layout) (machine : machine_in s
 
     pub ends_by_exit : ((at n : ℕ) → e ≡ ending.Exit at n → ⊥) → ⊥
     ends_by_exit none =
-        steps.never_other (program_of_side s) lawful_rows memory (budget_of b) within budget.points.0 holds side_start is e finds none
+        steps.never_other (program_of_side s) lawful_rows memory (budget_of b) within b.in_range.points.0 holds side_start is e finds none
 
     pub exit_exits : (at n : ℕ) → e ≡ ending.Exit at n → (a : ℕ) × (t : State) × ExitsIn (program_of_side s) b.unroll side_start a n t
     exit_exits at n same =
-        steps.exits_so (program_of_side s) lawful_rows memory (budget_of b) within budget.points.0 holds side_start is e finds at n same
+        steps.exits_so (program_of_side s) lawful_rows memory (budget_of b) within b.in_range.points.0 holds side_start is e finds at n same
 
     pub exit_early : (at n : ℕ) → e ≡ ending.Exit at n → n + 1 < 2 ^ 64
     exit_early at n same =
-        let few = steps.few_steps (program_of_side s) lawful_rows memory (budget_of b) within budget.points.0 holds side_start is e finds at n same in
-        let most = budget.points.1 in
+        let few = steps.few_steps (program_of_side s) lawful_rows memory (budget_of b) within b.in_range.points.0 holds side_start is e finds at n same in
+        let most = b.in_range.points.1 in
         omega (arith, few, most)
 
   -- and the state in which it exits

@@ -1,19 +1,17 @@
 -- What is had of a side on its machine, and what is said there of the side.
-use Rattle.std.proofs.Common.{◌≡◌, refl, sym, ap, subst, ◌∙◌}
+use Rattle.std.proofs.Common.{◌≡◌, refl, sym, ap, subst}
 use Rattle.bilv_spec.specs.Files.{order_of, program_of}
 use Rattle.bilv_spec.specs.PointLaws.{HasLawfulRows, ReadsMemory}
 use Rattle.bilv_spec.specs.Run.{Program}
 use Rattle.machine_spec.specs.Machine.{Machine}
 use Rattle.machine_spec.specs.MachineLaws.{IsLawfulMachine}
 use Rattle.machine_spec.specs.StateText as texts
-use Rattle.notes_lang.specs.Drafting.{notes_of}
+use Rattle.notes_value.specs.NoteViews.{notes_of}
 use Rattle.notes_value.specs.Reads.{AreOver, AreReadable}
 use Rattle.pair_sides.specs.Sides.{IsSided, machine_in, program_of_side}
 use Rattle.pair_sides.specs.declared.sides.Sided.{Sided}
-use Rattle.program_points.specs.Listed.{HasOneWay}
 use Rattle.state_text.specs.Starts.{layout_of}
-use Rattle.verdict.proofs.Grounding.{file_rows_lawful}
-use Rattle.verdict.proofs.OneWay.{has_one_way}
+use Rattle.unroller.proofs.FileRows.{file_rows_lawful}
 
 module _ (s : Sided) (m : Machine) (form : texts.Layout) (machine : machine_in s.layout ≡ m) (is_form : layout_of s.layout ≡ form) (sided : IsSided s) where
   -- the program on the machine
@@ -22,9 +20,6 @@ module _ (s : Sided) (m : Machine) (form : texts.Layout) (machine : machine_in s
 
   pub order : order_of s.image.now ≡ m.endian
   order = subst (λ (z : Machine). order_of s.image.now ≡ z.endian) machine sided.order
-
-  pub one_way : HasOneWay here
-  one_way = has_one_way sided.options m s.image.now (notes_of s.notes.now) s.entry (sided.machine ∙ machine)
 
   pub readable : AreReadable m.has_register (notes_of s.notes.now)
   readable = subst (λ (z : Machine). AreReadable z.has_register (notes_of s.notes.now)) machine sided.readable

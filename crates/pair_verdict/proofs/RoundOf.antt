@@ -36,6 +36,7 @@ use Rattle.question_form.specs.declared.questions.Passive.{Passive}
 use Rattle.question_form.specs.declared.unrolled.Unrolled.{Unrolled}
 use Rattle.question_form.specs.declared.unrolled.Point.{Point}
 use Rattle.bit_blast.specs.Broken.{AreBroken}
+use Rattle.bit_blast.specs.ReadBytes.{AreOne}
 use Rattle.walk_spec.specs.ClauseForm.{IsBroken, IsStartOf, inputs, reading}
 use Rattle.walk_spec.specs.Unrolled.{UnrolledProgram}
 use Rattle.pair_verdict.specs.PairRounds.{AreAskableSides, AreAsked, AreJudged, AreSound, AreValues, IsPairRound, IsShown, first_placed, second_placed}
@@ -74,6 +75,12 @@ pub unbroken_as : (c : Celled) (values : List Bool) (q : Passive) → AreSound c
     IsBroken (unrolled_of q.unrolled.now) (cells_of c) (reading (unrolled_of q.unrolled.now) (cells_of c) (valuation values)) a → ⊥
 unbroken_as c values q h =
     subst (λ (u : UnrolledProgram). (a : ℕ) → IsBroken u (cells_of c) (reading u (cells_of c) (valuation values)) a → ⊥) h.values_are.same h.unbroken
+
+-- reads of one address have one byte by the same program
+pub one_as : (c : Celled) (values : List Bool) (q : Passive) → AreSound c values q →
+    AreOne (cells_of c) (reading (unrolled_of q.unrolled.now) (cells_of c) (valuation values))
+one_as c values q h =
+    subst (λ (u : UnrolledProgram). AreOne (cells_of c) (reading u (cells_of c) (valuation values))) h.values_are.same h.values_are.one
 
 -- a start by a passive program of the cells' program
 pub shown_by : (c : Celled) (values : List Bool) (q : Passive) → AreSound c values q → (x : Written) (s : Start) (n : ℕ) →

@@ -27,6 +27,8 @@ use Rattle.question_form.specs.Questions.{program_of_question}
 use Rattle.question_form.specs.Views.{unrolled_of}
 use Rattle.question_form.specs.declared.questions.Passive.{Passive}
 use Rattle.bit_blast.specs.Broken.{AreBroken}
+use Rattle.bit_blast.specs.ReadBytes.{AreOne}
+use Rattle.bit_blast.proofs.EntryBytes.{one_by_memory}
 use Rattle.walk_laws.proofs.CellValues.{word_fits}
 use Rattle.walk_laws.proofs.InputsWithin.{reading_in_range}
 use Rattle.walk_laws.proofs.StartReadings.{start_is_written}
@@ -77,7 +79,7 @@ module _ (second : Bool) (links : List Link) (question : PairQuestion) (s : Side
   pub passive_is : program_of_side_cells c ≡ unrolled_of q.unrolled.now
   passive_is = placed_is ∙ side.same
 
-  -- values that the cells allow are given by some memory
+  -- in values that the cells allow reads of one address have one byte, since some memory gives them
   pub allowed_values : (values : List Bool) (v : ℕ → Bool) → AreSame (valuation values) v →
       IsAllowed (side_cells_of c).cells (reading (program_of_side_cells c) (side_cells_of c).cells v) → AreValues c.celled values q
   allowed_values values v same allowed =
@@ -85,11 +87,8 @@ module _ (second : Bool) (links : List Link) (question : PairQuestion) (s : Side
       let found = (told side.some.0 side.some.1).complete x (reading_in_range (program_of_side_cells c) (side_cells_of c).cells v) allowed in
       record {
         formed = cells_formed;
-        some = (
-          found.0,
-          subst (λ y. Gives (side_cells_of c).cells (with_mem y found.0))
-              (sym (reading_same (program_of_side_cells c) (side_cells_of c).cells (valuation values) v same)) found.3,
-        );
+        one = subst (AreOne (side_cells_of c).cells) (sym (reading_same (program_of_side_cells c) (side_cells_of c).cells (valuation values) v same))
+            (one_by_memory (program_of_side_cells c) (side_cells_of c).cells cells_formed x found.0 found.3);
         same = passive_is;
         askable = side.askable;
       }

@@ -11,7 +11,9 @@ use Rattle.state_text.specs.Starts.{layout_of}
 use Rattle.state_text.specs.declared.start.Start.{Start}
 use Rattle.verdict.specs.Verdicts as sides
 use Rattle.verdict.specs.Verdicts.{IsVerdict, budget_of}
-use Rattle.verdict.specs.declared.verdicts.Budget.{Budget}
+use Rattle.call_form.specs.declared.budget.Budget.{Budget}
+use Rattle.verdict.specs.declared.verdicts.Exceeded as past
+use Rattle.verdict.specs.declared.verdicts.Exceeded.TheVariants.{Points, Size}
 use Rattle.verdict.specs.declared.verdicts.Verdict.{Verdict}
 use Rattle.verdict.specs.declared.verdicts.Verdict.TheVariants as verdict
 use Rattle.pair_verdict.specs.Settled.{IsSettled}
@@ -27,9 +29,13 @@ use Rattle.pair_verdict.proofs.PairPoints.{not_size}
 
 module _ (s : Sided) (b : Budget) (within : IsWithin (program_of_side s) (budget_of b)) (v : Verdict)
     (is : IsVerdict (program_of_side s) (layout_of s.layout) b v) where
-  pub never_size : (price : ℕ) → v ≡ verdict.Size price → ⊥
-  never_size price e =
-      not_size (program_of_side s) (layout_of s.layout) (budget_of b) within price (subst (IsVerdict (program_of_side s) (layout_of s.layout) b) e is)
+  -- no budget is exceeded within the budgets
+  never : (e : past.Exceeded) → IsVerdict (program_of_side s) (layout_of s.layout) b (verdict.Exceeded e) → ⊥
+  never (Points count) h = within.points h.0
+  never (Size price) h = not_size (program_of_side s) (layout_of s.layout) (budget_of b) within price h
+
+  pub never_exceeded : (e : past.Exceeded) → v ≡ verdict.Exceeded e → ⊥
+  never_exceeded e same = never e (subst (IsVerdict (program_of_side s) (layout_of s.layout) b) same is)
 
 -- what a side came to
 module _ (s : Sided) (b : Budgets) (v : SideVerdict) (is : IsSideVerdict s b v) where

@@ -13,11 +13,11 @@ use Rattle.pair_spec.specs.ExitPlaces.{HasOwnExit, before_step}
 use Rattle.state_text.specs.Starts.{written_of}
 use Rattle.state_text.specs.declared.start.Start.{Start}
 use Rattle.word_spec.specs.State.{Written}
-use Rattle.walk_spec.specs.Cells.{AreFormed, Gives}
+use Rattle.walk_spec.specs.Cells.{AreFormed}
 use Rattle.walk_spec.specs.ClauseForm.{IsBroken, IsStartOf, reading}
-use Rattle.walk_spec.specs.Terms.{with_mem}
 use Rattle.walk_spec.specs.Unrolled.{UnrolledProgram}
 use Rattle.bit_blast.specs.Broken.{AreBroken}
+use Rattle.bit_blast.specs.ReadBytes.{AreOne}
 use Rattle.mem_cells.specs.Views.{cells_of, program_of_cells}
 use Rattle.question_form.specs.Views.{unrolled_of}
 use Rattle.pair_form.specs.Views.{program_of_side_question}
@@ -116,10 +116,10 @@ abbrev pub IsPairRound : List Link → Sides → PairQuestion → Asked → (con
 IsPairRound links s question asked conflicts (Answered a) = PairAnswers links (first_placed s) (second_placed s) question conflicts a
 IsPairRound links s question asked conflicts (Broken more) = AreFurtherOfBoth (first_placed s) (second_placed s) asked more
 
--- Values of cells that some memory gives, with a passive program of the cells' unrolled program.
+-- Values of cells in which base reads of one address have one byte, with a passive program of the cells' unrolled program.
 pub record AreValues (c : Celled) (values : List Bool) (q : Passive) : Type 0 where
   pub formed : AreFormed (program_of_cells c) (cells_of c)
-  pub some : (m : ℕ → ℕ) × Gives (cells_of c) (with_mem (reading (program_of_cells c) (cells_of c) (valuation values)) m)
+  pub one : AreOne (cells_of c) (reading (program_of_cells c) (cells_of c) (valuation values))
   pub same : program_of_cells c ≡ unrolled_of q.unrolled.now
   pub askable : IsAskable q
 

@@ -32,7 +32,6 @@ pub record IsPair (p : Pair) : Type 0 where
   pub first : IsSided p.first.now
   pub second : IsSided p.second.now
   pub links : AreLinksOf p.first.now.layout p.second.now.layout p.links.now
-  pub budget : calls.IsBudget (budget_of p.budget.now)
 
 -- their programs
 abbrev pub first_program : Pair → Program

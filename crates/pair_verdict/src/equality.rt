@@ -1,7 +1,6 @@
 //! The verdict on two functions.
 ghost use Rattle.std.specs.Prelude.{◌≡◌, ◌<◌, IfErr, IfOk};
 ghost use Rattle.bilv_spec.specs.Answers.{HoldsReport, IsRightReport};
-ghost use Rattle.call_spec.specs.Calls.{IsBudget};
 ghost use Rattle.links_lang.specs.Views.{AreLinksOf, links_of};
 ghost use Rattle.pair_sides.specs.Sides.{IsSided, side_of};
 ghost use Rattle.pair_spec.specs.Equals.{AreWithin, HoldsBy, IsRightPair};
@@ -19,7 +18,7 @@ use pair_price::pair_price;
 use pair_sides::Sided;
 use program_points::PointsFault;
 use std::alloc::{AllocError, Global};
-use verdict::Budget;
+use verdict::{Budget, Exceeded};
 
 /// Both functions unrolled.
 ///
@@ -37,10 +36,7 @@ fn unroll_both<'a>(alloc: Global, pair: &Pair<'a>) -> Result<Both<'a>, PointsFau
     if points == 0 {
         return Err(PointsFault::TooMany { count: most + 1 });
     }
-    let left = Budget {
-        points,
-        ..*pair.budget
-    };
+    let left = pair.budget.with_points(points);
     match unroll_side(alloc, pair.second, &left) {
         Ok(second) => Ok(Both { first, second }),
         Err(PointsFault::TooMany { .. }) => Err(PointsFault::TooMany { count: most + 1 }),
@@ -134,7 +130,7 @@ fn judge_priced(alloc: Global, pair: &Pair, both: &Both) -> Result<PairVerdict, 
         return Err(AllocError);
     }
     if price > pair.budget.size as u128 {
-        return Ok(PairVerdict::Size { price });
+        return Ok(PairVerdict::Exceeded(Exceeded::Size { price }));
     }
     let verdict = judge_first(alloc, pair, both)?;
     Ok(verdict)
@@ -153,7 +149,6 @@ pub fn equal(
     requires first { IsSided first.now }
     requires second { IsSided second.now }
     requires links { AreLinksOf first.now.layout second.now.layout links.now }
-    requires budget { IsBudget (budget_of budget.now) }
     ensures { IfOk result (λ v. IsRightPair (side_of first.now) (side_of second.now) (links_of links.now) (budget_of budget.now) (report_of v) (evidence_of v)) }
 {
     let pair = Pair {
@@ -167,7 +162,9 @@ pub fn equal(
             let verdict = judge_priced(alloc, &pair, &both)?;
             Ok(verdict)
         }
-        Err(PointsFault::TooMany { count }) => Ok(PairVerdict::Points { count }),
+        Err(PointsFault::TooMany { count }) => Ok(PairVerdict::Exceeded(Exceeded::Points {
+            count,
+        })),
         Err(PointsFault::Memory) => Err(AllocError),
     }
 }

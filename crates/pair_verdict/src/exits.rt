@@ -7,7 +7,6 @@ ghost use Rattle.bilv_spec.specs.Answers.{IsWithin, start_in};
 ghost use Rattle.bilv_spec.specs.Points.{is_known_at};
 ghost use Rattle.bilv_spec.specs.Verdict as verdicts;
 ghost use Rattle.bilv_spec.specs.Verdict.{IsRight, IsStart};
-ghost use Rattle.call_spec.specs.Calls.{IsBudget};
 ghost use Rattle.links_lang.specs.Views.{link_of, links_of, named_of};
 ghost use Rattle.machine_spec.specs.StateText.{IsWritten};
 ghost use Rattle.pair_sides.specs.Sides.{IsSided, machine_in, program_of_side};
@@ -132,7 +131,6 @@ fn exit_step<M: Machine>(
     requires machine { machine_in side.now.layout ≡ M.machine }
     requires form { layout_of side.now.layout ≡ M.form }
     requires sided { IsSided side.now }
-    requires budget { IsBudget (budget_of budget.now) }
     requires within { IsWithin (program_of_side side.now) (budget_of budget.now) }
     requires holds { IsRight (program_of_side side.now) budget.now.unroll verdicts.Holds }
     requires written { IsWritten (layout_of side.now.layout) (is_known_at (program_of_side side.now)) (written_of start.now) }
@@ -168,7 +166,6 @@ fn exit_by<M: Machine>(
     requires form { layout_of side.now.layout ≡ M.form }
     requires sided { IsSided side.now }
     requires links { AreExitLinks second side.now.layout links.now }
-    requires budget { IsBudget (budget_of budget.now) }
     requires within { IsWithin (program_of_side side.now) (budget_of budget.now) }
     requires holds { IsRight (program_of_side side.now) budget.now.unroll verdicts.Holds }
     requires written { IsWritten (layout_of side.now.layout) (is_known_at (program_of_side side.now)) (written_of start.now) }
@@ -197,7 +194,6 @@ pub fn exit_of(
 ) -> Result<Reached, AllocError>
     requires sided { IsSided side.now }
     requires links { AreExitLinks second side.now.layout links.now }
-    requires budget { IsBudget (budget_of budget.now) }
     requires within { IsWithin (program_of_side side.now) (budget_of budget.now) }
     requires holds { IsRight (program_of_side side.now) budget.now.unroll verdicts.Holds }
     requires written { IsWritten (layout_of side.now.layout) (is_known_at (program_of_side side.now)) (written_of start.now) }

@@ -2,7 +2,6 @@
 ghost use Rattle.std.specs.Prelude.{◌≡◌, ◌<◌, ℕ, IfErr, IfOk};
 ghost use Rattle.bilv_spec.specs.Answers.{IsWithin};
 ghost use Rattle.bilv_spec.specs.Points.{HasMore};
-ghost use Rattle.call_spec.specs.Calls.{IsBudget};
 ghost use Rattle.links_lang.specs.Views.{links_of};
 ghost use Rattle.pair_sides.specs.Sides.{IsSided, machine_in, program_of_side};
 ghost use Rattle.pair_spec.specs.Links.{asking};
@@ -43,7 +42,6 @@ fn unroll_by<'a, M: Machine>(
     requires machine { machine_in side.now.layout ≡ M.machine }
     requires form { layout_of side.now.layout ≡ M.form }
     requires sided { IsSided side.now }
-    requires budget { IsBudget (budget_of budget.now) }
     ensures unrolled { IfOk result (IsUnrolledOf (program_of_side side.now) (layout_of side.now.layout) (budget_of budget.now)) }
     ensures more { IfErr result (IsTooMany (program_of_side side.now) budget.now.unroll budget.now.points) }
 {
@@ -62,7 +60,6 @@ pub fn unroll_side<'a>(
     budget: &Budget,
 ) -> Result<Unrolled<'a>, PointsFault>
     requires sided { IsSided side.now }
-    requires budget { IsBudget (budget_of budget.now) }
     ensures unrolled { IfOk result (IsUnrolledOf (program_of_side side.now) (layout_of side.now.layout) (budget_of budget.now)) }
     ensures more { IfErr result (IsTooMany (program_of_side side.now) budget.now.unroll budget.now.points) }
 {
@@ -79,7 +76,6 @@ fn verdict_by<M: Machine>(
     requires machine { machine_in side.now.layout ≡ M.machine }
     requires form { layout_of side.now.layout ≡ M.form }
     requires sided { IsSided side.now }
-    requires budget { IsBudget (budget_of budget.now) }
     requires unrolled { IsUnrolledOf (program_of_side side.now) (layout_of side.now.layout) (budget_of budget.now) unrolled.now }
     ensures { IfOk result (λ v. IsVerdict (program_of_side side.now) (layout_of side.now.layout) budget.now v) }
 {
@@ -100,7 +96,6 @@ fn verdict_of(
     unrolled: &Unrolled,
 ) -> Result<Verdict, AllocError>
     requires sided { IsSided side.now }
-    requires budget { IsBudget (budget_of budget.now) }
     requires unrolled { IsUnrolledOf (program_of_side side.now) (layout_of side.now.layout) (budget_of budget.now) unrolled.now }
     ensures { IfOk result (λ v. IsVerdict (program_of_side side.now) (layout_of side.now.layout) budget.now v) }
 {
@@ -115,7 +110,6 @@ pub fn judge_side(
     unrolled: &Unrolled,
 ) -> Result<SideVerdict, AllocError>
     requires sided { IsSided side.now }
-    requires budget { IsBudget (budget_of budget.now) }
     requires unrolled { IsUnrolledOf (program_of_side side.now) (layout_of side.now.layout) (budget_of budget.now) unrolled.now }
     requires within { IsWithin (program_of_side side.now) (budget_of budget.now) }
     ensures { IfOk result (IsSideVerdict side.now (budget_of budget.now)) }
@@ -126,8 +120,7 @@ pub fn judge_side(
             fail,
             turn,
         })),
-        Verdict::Points { .. } => unreachable!(),
-        Verdict::Size { .. } => unreachable!(),
+        Verdict::Exceeded(_) => unreachable!(),
         other => Ok(SideVerdict::Other(other)),
     }
 }
@@ -143,7 +136,6 @@ fn unroll_asked_by<'a, M: Machine>(
     requires machine { machine_in side.now.layout ≡ M.machine }
     requires form { layout_of side.now.layout ≡ M.form }
     requires sided { IsSided side.now }
-    requires budget { IsBudget (budget_of budget.now) }
     requires few { HasMore (program_of_side side.now) budget.now.unroll budget.now.points → ⊥ }
     ensures unrolled { IfOk result (IsUnrolledOf (asking second (links_of links.now) (program_of_side side.now)) (layout_of side.now.layout) (budget_of budget.now)) }
     ensures form { IfOk result (λ u. layout_of u.form ≡ layout_of side.now.layout) }
@@ -176,7 +168,6 @@ pub fn unroll_asked<'a>(
     budget: &Budget,
 ) -> Result<Unrolled<'a>, AllocError>
     requires sided { IsSided side.now }
-    requires budget { IsBudget (budget_of budget.now) }
     requires few { HasMore (program_of_side side.now) budget.now.unroll budget.now.points → ⊥ }
     ensures unrolled { IfOk result (IsUnrolledOf (asking second (links_of links.now) (program_of_side side.now)) (layout_of side.now.layout) (budget_of budget.now)) }
     ensures form { IfOk result (λ u. layout_of u.form ≡ layout_of side.now.layout) }

@@ -2,7 +2,7 @@
 use cnf_form::Proof;
 use pair_form::PairKind;
 use state_text::Start;
-use verdict::Verdict;
+use verdict::{Exceeded, Verdict};
 
 /// What shows that a function holds: a start from an entry state, and refutations of the fail and the turn question.
 #[derive(Drop)]
@@ -37,14 +37,8 @@ pub enum PairVerdict {
         second_start: Start,
         difference: Proof,
     },
-    /// There are more points together than the budget, of which so many were found.
-    Points {
-        count: u64,
-    },
-    /// The price of both is above the budget.
-    Size {
-        price: u128,
-    },
+    /// There are too many points together, or the price of both is too high.
+    Exceeded(Exceeded),
     /// Both hold, and the conflicts did not suffice for a question about both.
     Conflicts {
         question: PairKind,

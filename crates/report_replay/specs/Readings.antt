@@ -6,8 +6,8 @@ use Rattle.bilv_spec.specs.Points.{is_known_at}
 use Rattle.machine_spec.specs.StateText as texts
 use Rattle.state_text.specs.Starts.{text_of}
 use Rattle.state_text.specs.Readings.{fault_of}
-use Rattle.notes_lang.specs.Drafting.{notes_of}
-use Rattle.notes_lang.specs.declared.notes.Notes.{Notes}
+use Rattle.notes_value.specs.NoteViews.{notes_of}
+use Rattle.notes_value.specs.declared.notes.Notes.{Notes}
 use Rattle.report_replay.specs.declared.reading.Alike.{Alike}
 use Rattle.report_replay.specs.declared.reading.Reading.{Reading}
 use Rattle.report_replay.specs.declared.reading.Reading.TheVariants.{State, Refused}

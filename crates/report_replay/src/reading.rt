@@ -6,12 +6,12 @@ ghost use Rattle.bilv_spec.specs.Points.{is_known_at};
 ghost use Rattle.machine_spec.specs.StateText.{Told, StateRefused, StateByteFault, state_of};
 ghost use Rattle.state_text.specs.Starts.{layout_of};
 ghost use Rattle.state_text.specs.Readings.{told_but};
-ghost use Rattle.notes_lang.specs.Drafting.{notes_of};
+ghost use Rattle.notes_value.specs.NoteViews.{notes_of};
 ghost use Rattle.report_replay.specs.Readings.{told_of, AreAlike};
 
 use elf32_reader::Image;
 use known_bytes::{Stretch, known_stretch};
-use notes_lang::Notes;
+use notes_value::Notes;
 use state_text::{Layout, ParseFault, StateFault, StateText, parse_state};
 use std::alloc::{AllocError, Global};
 

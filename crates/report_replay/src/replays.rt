@@ -4,7 +4,7 @@ ghost use Rattle.bilv_spec.specs.Files.{order_of, program_of};
 ghost use Rattle.call_spec.specs.Calls.{plain_answer};
 ghost use Rattle.bilv_spec.specs.Replays.{replay_answer};
 ghost use Rattle.clause_spec.specs.Checks.{text_limit};
-ghost use Rattle.notes_lang.specs.Drafting.{notes_of};
+ghost use Rattle.notes_value.specs.NoteViews.{notes_of};
 ghost use Rattle.notes_value.specs.Reads.{AreReadable};
 
 use crate::reading::{Reading, read_text};
@@ -12,7 +12,7 @@ use crate::running::run_named;
 use crate::texts::{Replay, refused, too_large};
 use elf32_reader::Image;
 use machine_law::Machine;
-use notes_lang::Notes;
+use notes_value::Notes;
 use std::alloc::{AllocError, Global};
 
 /// The greatest length of a report's text, in bytes.

@@ -11,14 +11,14 @@ ghost use Rattle.call_spec.specs.Calls.{plain_answer};
 ghost use Rattle.bilv_spec.specs.Answers.{start_in};
 ghost use Rattle.bilv_spec.specs.Replays.{run_answer, bound_of};
 ghost use Rattle.state_text.specs.Starts.{named_of, written_of};
-ghost use Rattle.notes_lang.specs.Drafting.{notes_of};
+ghost use Rattle.notes_value.specs.NoteViews.{notes_of};
 ghost use Rattle.notes_value.specs.Reads.{AreReadable};
 ghost use Rattle.table_run.specs.Endings.{fault_of, IsLinesFault};
 
 use crate::texts::{Replay, compared, false_require, unaligned};
 use elf32_reader::Image;
 use machine_law::Machine;
-use notes_lang::Notes;
+use notes_value::Notes;
 use state_text::{NamedEnding, StateText};
 use std::alloc::{AllocError, Global};
 use table_run::{EntryFault, lines_ok, run, start_state};

@@ -11,9 +11,9 @@ use Rattle.word_spec.specs.State.{State}
 use Rattle.bilv_spec.specs.Notes as notes
 use Rattle.bilv_spec.specs.Run.{false_assert, targets_at}
 use Rattle.notes_value.specs.Views.{expr_of}
-use Rattle.notes_lang.specs.Drafting.{assert_of, targets_of}
-use Rattle.notes_lang.specs.declared.notes.Assert.{Assert}
-use Rattle.notes_lang.specs.declared.notes.Targets.{Targets}
+use Rattle.notes_value.specs.NoteViews.{assert_of, targets_of}
+use Rattle.notes_value.specs.declared.notes.Assert.{Assert}
+use Rattle.notes_value.specs.declared.notes.Targets.{Targets}
 use Rattle.notes_index.specs.Indexed.{ArePlacesOf, assert_places, targets_places}
 use Rattle.table_run.specs.Asserts.{is_hit}
 

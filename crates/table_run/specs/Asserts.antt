@@ -4,7 +4,7 @@ use Rattle.word_spec.specs.Memory.{Endian}
 use Rattle.word_spec.specs.State.{State}
 use Rattle.bilv_spec.specs.Notes as notes
 use Rattle.notes_value.specs.Views.{expr_of}
-use Rattle.notes_lang.specs.declared.notes.Assert.{Assert}
+use Rattle.notes_value.specs.declared.notes.Assert.{Assert}
 
 -- an assert line is one of the state's address, and is false
 abbrev pub is_hit : Endian → State → State → Assert → Bool

@@ -2,7 +2,7 @@
 use Rattle.bilv_spec.specs.Files as files
 use Rattle.machine_spec.specs.Machine.{Machine}
 use Rattle.bilv_spec.specs.Run as run
-use Rattle.notes_lang.specs.Drafting.{notes_of}
+use Rattle.notes_value.specs.NoteViews.{notes_of}
 use Rattle.table_run.specs.declared.program.Program.{Program}
 
 -- the program, over a machine

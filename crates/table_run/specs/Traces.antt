@@ -16,7 +16,7 @@ use Rattle.bilv_spec.specs.Scripts.{draws}
 use Rattle.bilv_spec.specs.Verdict.{IsEntryState}
 use Rattle.bilv_spec.specs.Answers.{start_in}
 use Rattle.model_spec.specs.Reads.{line_reads, assert_reads}
-use Rattle.notes_lang.specs.declared.notes.Notes.{Notes}
+use Rattle.notes_value.specs.declared.notes.Notes.{Notes}
 use Rattle.notes_index.specs.Indexed.{AreIndexed}
 use Rattle.state_text.specs.Starts.{event_of}
 use Rattle.table_run.specs.declared.ending.Ending.{Ending}

@@ -4,7 +4,7 @@ ghost use Rattle.machine_spec.specs.Machine.{IsAtPlace};
 ghost use Rattle.bilv_spec.specs.Files.{order_of, program_of as program_of_files};
 ghost use Rattle.bilv_spec.specs.Verdict.{IsEntryState};
 ghost use Rattle.bilv_spec.specs.EntryFaults.{IsEntryStateFault, false_require};
-ghost use Rattle.notes_lang.specs.Drafting.{notes_of};
+ghost use Rattle.notes_value.specs.NoteViews.{notes_of};
 ghost use Rattle.notes_value.specs.Reads.{AreReadable};
 ghost use Rattle.table_run.specs.Programs.{program_of};
 ghost use Rattle.table_run.specs.Endings.{fault_of, IsLinesFault};
@@ -18,7 +18,7 @@ use byte_mem::View;
 use elf32_reader::{Image, Part};
 use known_bytes::{byte_in, first_known};
 use machine_law::Machine;
-use notes_lang::Notes;
+use notes_value::Notes;
 
 /// The first address of a part at which a state has another byte.
 fn first_other<V: View>(part: &Part, state: &V) -> Option<u32>

@@ -5,7 +5,7 @@ ghost use Rattle.machine_spec.specs.Machine as table;
 ghost use Rattle.machine_spec.specs.StateText.{AreRising};
 ghost use Rattle.bilv_spec.specs.Points.{is_known_at};
 ghost use Rattle.bilv_spec.specs.Verdict.{fixed};
-ghost use Rattle.notes_lang.specs.Drafting.{fixed_of, notes_of};
+ghost use Rattle.notes_value.specs.NoteViews.{fixed_of, notes_of};
 ghost use Rattle.notes_value.specs.Reads.{AreReadable};
 ghost use Rattle.notes_index.specs.Indexed.{AreIndexed};
 ghost use Rattle.table_run.specs.Programs.{program_of};
@@ -16,7 +16,7 @@ use crate::program::Program;
 use crate::reads::{Stage, add_bytes, places_read, reached};
 use machine_law::Machine;
 use notes_index::Index;
-use notes_lang::FixedRange;
+use notes_value::FixedRange;
 use std::alloc::{AllocError, Global};
 use std::collections::BTreeSet;
 

@@ -5,7 +5,7 @@ ghost use Rattle.word_spec.specs.Memory as memory;
 ghost use Rattle.word_spec.specs.Words.{sub};
 ghost use Rattle.machine_spec.specs.Machine.{pair_of};
 ghost use Rattle.bilv_spec.specs.Run.{some_of, row_at, targets_at, literal_target};
-ghost use Rattle.notes_lang.specs.Drafting.{targets_of};
+ghost use Rattle.notes_value.specs.NoteViews.{targets_of};
 ghost use Rattle.table_run.specs.Programs.{program_of};
 ghost use Rattle.table_run.specs.Steps.{IsBefore};
 ghost use Rattle.notes_index.specs.Indexed.{targets_places, IsIndex};
@@ -16,7 +16,7 @@ use byte_mem::View;
 use file_words::{all_kept, fetchable};
 use machine_law::{Machine, length};
 use notes_index::group;
-use notes_lang::Targets;
+use notes_value::Targets;
 
 /// What is known of a step before it is made: its address, how many bytes its row has, and the targets of its row's pair and of its literal, which are sought
 /// only where the row may jump to an address that the state gives.

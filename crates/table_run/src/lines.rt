@@ -4,12 +4,12 @@ ghost use Rattle.word_spec.specs.Memory as memory;
 ghost use Rattle.bilv_spec.specs.Run as meaning;
 ghost use Rattle.notes_value.specs.Views.{expr_of};
 ghost use Rattle.notes_value.specs.Reads.{IsReadable};
-ghost use Rattle.notes_lang.specs.Drafting.{note_line_of, assert_of};
+ghost use Rattle.notes_value.specs.NoteViews.{note_line_of, assert_of};
 ghost use Rattle.notes_index.specs.Indexed.{assert_places, IsIndex};
 
 use byte_mem::View;
 use notes_index::group;
-use notes_lang::{Assert, NoteLine, value};
+use notes_value::{Assert, NoteLine, value};
 
 /// The number of the first line that is false in the state now, for a run that began in the state at entry.
 pub(crate) fn false_line<V: View>(lines: &[NoteLine], now: &V, entry: &V, big: bool) -> Option<u32>

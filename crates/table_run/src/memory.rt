@@ -3,7 +3,7 @@ ghost use Rattle.std.specs.Prelude.{◌≡◌, ℕ, ◌≤◌, ◌<◌, ◌^◌,
 ghost use Rattle.word_spec.specs.Words.{word};
 ghost use Rattle.word_spec.specs.Memory.{memory_of};
 ghost use Rattle.machine_spec.specs.StateText.{AreRising, known_or};
-ghost use Rattle.notes_lang.specs.Drafting.{fixed_of};
+ghost use Rattle.notes_value.specs.NoteViews.{fixed_of};
 ghost use Rattle.known_bytes.specs.Known.{is_known, given};
 ghost use Rattle.table_run.specs.Known.{IsPut, HasFirst, Fills};
 

@@ -1,6 +1,6 @@
 //! A program.
 use elf32_reader::Image;
-use notes_lang::Notes;
+use notes_value::Notes;
 
 /// A program: the image of its file, its notes, whether the byte order of its machine is big, and the address of its function.
 #[derive(Clone, Copy)]

@@ -6,7 +6,7 @@ ghost use Rattle.machine_spec.specs.Machine.{addresses};
 ghost use Rattle.model_spec.specs.Reads.{assert_reads, line_reads};
 ghost use Rattle.notes_value.specs.Views.{expr_of};
 ghost use Rattle.notes_value.specs.Reads.{AreReadable, IsReadable};
-ghost use Rattle.notes_lang.specs.Drafting.{assert_of, note_line_of, notes_of};
+ghost use Rattle.notes_value.specs.NoteViews.{assert_of, note_line_of, notes_of};
 ghost use Rattle.notes_index.specs.Indexed.{AreIndexed, IsIndex, assert_places};
 ghost use Rattle.table_run.specs.Programs.{program_of};
 ghost use Rattle.table_run.specs.Traces.{IsStage, early_reads, reached_row, stage_reads};
@@ -18,8 +18,7 @@ use byte_mem::View;
 use file_words::fetchable;
 use machine_law::{Machine, length};
 use notes_index::{Index, group};
-use notes_lang::{Assert, NoteLine, value};
-use notes_value::{add_reads, add_span};
+use notes_value::{Assert, NoteLine, add_reads, add_span, value};
 use std::alloc::{AllocError, Global};
 
 /// When a run reads: before it begins, the require lines; before a step is made, the assert lines of its address and the bytes that its row loads; and before

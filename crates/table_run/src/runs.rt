@@ -9,7 +9,7 @@ ghost use Rattle.machine_spec.specs.StateText.{AreRising, IsWritten};
 ghost use Rattle.bilv_spec.specs.Reports.{found, found_by};
 ghost use Rattle.bilv_spec.specs.Answers.{start_in};
 ghost use Rattle.state_text.specs.Starts.{written_of};
-ghost use Rattle.notes_lang.specs.Drafting.{notes_of};
+ghost use Rattle.notes_value.specs.NoteViews.{notes_of};
 ghost use Rattle.notes_value.specs.Reads.{AreReadable};
 ghost use Rattle.table_run.specs.Programs.{program_of};
 ghost use Rattle.table_run.specs.Endings.{found_of};
@@ -24,7 +24,7 @@ use byte_mem::View;
 use elf32_reader::Image;
 use machine_law::Machine;
 use notes_index::{Index, index_of};
-use notes_lang::Notes;
+use notes_value::Notes;
 use state_text::Start;
 use std::alloc::{AllocError, Global};
 

@@ -6,7 +6,7 @@ ghost use Rattle.machine_spec.specs.Machine.{Row};
 ghost use Rattle.machine_spec.specs.MachineLaws.{IsLawful, IsWay};
 ghost use Rattle.bilv_spec.specs.Run as meaning;
 ghost use Rattle.byte_mem.specs.Views.{IsStep};
-ghost use Rattle.notes_lang.specs.Drafting.{notes_of};
+ghost use Rattle.notes_value.specs.NoteViews.{notes_of};
 ghost use Rattle.notes_value.specs.Reads.{AreReadable};
 ghost use Rattle.table_run.specs.Programs.{program_of};
 ghost use Rattle.notes_index.specs.Indexed.{AreIndexed};

@@ -7,7 +7,7 @@ use Rattle.walk_spec.specs.Unrolled.{UnrolledProgram}
 use Rattle.walk_spec.specs.WalkQuestions.{is_asked}
 use Rattle.question_form.specs.Views.{kind_of, unrolled_of}
 use Rattle.question_form.specs.Questions.{program_of_question, question_of}
-use Rattle.question_form.specs.declared.unrolled.Kind.{Kind}
+use Rattle.call_form.specs.declared.kind.Kind.{Kind}
 use Rattle.question_form.specs.declared.questions.Passive.{Passive}
 use Rattle.question_form.specs.declared.questions.Question.{Question}
 use Rattle.bilv_spec.specs.Run.{Program}

@@ -31,7 +31,7 @@ use Rattle.verdict.specs.Verdicts.{IsVerdict, budget_of}
 use Rattle.verdict.specs.declared.deciding.Decided.{Decided}
 use Rattle.verdict.specs.declared.verdicts.Answered.{Answered}
 use Rattle.verdict.specs.declared.verdicts.Answered.TheVariants.{Sat, Refuted}
-use Rattle.verdict.specs.declared.verdicts.Budget.{Budget}
+use Rattle.call_form.specs.declared.budget.Budget.{Budget}
 use Rattle.verdict.specs.declared.verdicts.Verdict.TheVariants.{Holds, Vacuous}
 use Rattle.verdict.proofs.Adding.{answered, of_decided}
 use Rattle.verdict.proofs.Answering.{any_contained}

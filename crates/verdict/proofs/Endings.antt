@@ -16,7 +16,7 @@ use Rattle.table_run.specs.declared.ending.Ending.{Ending}
 use Rattle.table_run.specs.declared.ending.Ending.TheVariants as ending
 use Rattle.verdict.specs.Grounds.{IsAnswered, IsFailing}
 use Rattle.verdict.specs.Verdicts.{IsVerdict, budget_of}
-use Rattle.verdict.specs.declared.verdicts.Budget.{Budget}
+use Rattle.call_form.specs.declared.budget.Budget.{Budget}
 use Rattle.verdict.specs.declared.verdicts.Answered.TheVariants.{Sat}
 use Rattle.verdict.specs.declared.verdicts.Verdict.TheVariants.{Fails, Unroll}
 use Rattle.verdict.proofs.Judging.{starts, fails, no_other_event, no_other_turn, fails_report, turns_report}

@@ -16,7 +16,6 @@ use Rattle.bilv_spec.specs.Points.{byte_of_cell, is_known_at, HasMore, IsPrice}
 use Rattle.bilv_spec.specs.PointLaws.{HasLawfulRows, ReadsMemory}
 use Rattle.call_spec.specs.Calls.{Budget}
 use Rattle.bilv_spec.specs.Answers.{IsWithin}
-use Rattle.bilv_spec.proofs.ProgramRows.{cell_small, rows_lawful}
 use Rattle.bilv_spec.proofs.AllPoints.{no_more_points}
 use Rattle.walk_spec.specs.Unrolled.{UnrolledProgram, byte_of_runs, is_register_of, is_flag_of, point_at}
 use Rattle.walk_spec.specs.Unrolling.{IsUnrolling, IsReadable, AreReadableBy, IsLaidOut, IsWalkable}
@@ -34,6 +33,8 @@ use Rattle.passify.specs.Made.{IsPassiveOf}
 use Rattle.question_form.specs.Forms.{IsFormed}
 use Rattle.state_text.specs.Starts.{layout_of}
 use Rattle.unroller.specs.Lookups.{HasForm}
+use Rattle.bilv_spec.proofs.ProgramRows.{cell_small}
+use Rattle.unroller.proofs.FileRows.{file_rows_lawful}
 use Rattle.notes_value.specs.Reads.{IsOver, AreOver}
 use Rattle.verdict.specs.Functions.{program_of_function}
 use Rattle.verdict.specs.Grounds.{IsGround}
@@ -45,12 +46,7 @@ use Rattle.verdict.specs.declared.measuring.Weighed.TheVariants as weighed
 use Rattle.verdict.specs.declared.shown.Function.{Function}
 use Rattle.verdict.specs.declared.measuring.Measured.TheVariants.{Above, Within}
 
--- the rows that a lawful machine has in a file are lawful
-pub file_rows_lawful : (m : Machine) (file : List ℕ) (notes : Notes) (entry : ℕ) → IsLawfulMachine m → ((i : ℕ) → slice_index file i < 256) →
-    HasLawfulRows (program_of m file notes entry)
-file_rows_lawful m file notes entry lawful small = rows_lawful (program_of m file notes entry) lawful (λ a. cell_small file small a _)
-
--- and what they decode is what memory has
+-- what the rows of a function decode is what memory has
 pub function_is_read : (m : Machine) (f : Function) → IsLawfulMachine m → ReadsMemory (program_of_function m f)
 function_is_read m f lawful = record { word = λ s a. refl; little = lawful.little }
 

@@ -8,6 +8,5 @@ pub mod Beside
 pub mod Grounding
 pub mod ThreeQuestions
 pub mod Certifies
-pub mod OneWay
 pub mod ScriptLaws
 pub mod EarlyVerdicts

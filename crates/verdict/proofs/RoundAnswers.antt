@@ -3,7 +3,6 @@ use Rattle.std.proofs.Common.{◌≡◌, sym, subst, ℕ, ◌<◌, Bool, true, f
 use Rattle.std.specs.Prelude.{◌==◌, length}
 use Rattle.std.proofs.lemmas.Bool.Decides.{nat_tests}
 use Rattle.std.proofs.lemmas.List.Elements.{at_from_Contains}
-use Rattle.word_spec.specs.Memory.{Memory}
 use Rattle.clause_spec.specs.Clauses.{Satisfies, valuation}
 use Rattle.clause_spec.specs.Refutation.{IsRefutation}
 use Rattle.clause_spec.specs.Empowering.{IsSpent}
@@ -14,14 +13,15 @@ use Rattle.sat_core.specs.Answers.{IsAnswer}
 use Rattle.sat_core.specs.declared.answer.Answer.{Answer}
 use Rattle.sat_core.specs.declared.answer.Answer.TheVariants as search
 use Rattle.state_text.specs.Starts.{written_of}
-use Rattle.walk_spec.specs.Terms.{with_mem}
 use Rattle.walk_spec.specs.WalkQuestions.{TellsQuestion, is_asked}
-use Rattle.walk_spec.specs.Cells.{TellsCells, Gives}
+use Rattle.walk_spec.specs.Cells.{TellsCells}
 use Rattle.walk_spec.specs.ClauseForm.{TellsClauses, IsBroken, reading}
 use Rattle.walk_laws.proofs.InputsWithin.{reading_in_range}
 use Rattle.question_form.specs.Questions.{program_of_question, question_of, term_of}
 use Rattle.question_form.specs.declared.questions.Question.{Question}
 use Rattle.bit_blast.specs.Broken.{AreBroken}
+use Rattle.bit_blast.specs.ReadBytes.{AreOne}
+use Rattle.bit_blast.proofs.EntryBytes.{one_by_memory}
 use Rattle.mem_cells.specs.Views.{AreCellsOf, cells_of, program_of_cells}
 use Rattle.mem_cells.specs.declared.cells.Celled.{Celled}
 use Rattle.verdict.specs.Rounds.{AreAdded, AreJudged, IsAskable, IsRound}
@@ -96,13 +96,13 @@ module _ (added : List ℕ) (conflicts : ℕ) (c : Celled) (cnf : Cnf) (h : AreL
       spends (program_of_cells c) (question_of c.question.now) added (term_of c.question.now) (cells_of c)
       (cnf_of cnf) h.added_are h.term h.cells clauses conflicts (lines_of log) spent p k layout g
 
-  -- some memory gives the base reads the bytes of satisfying values
-  pub some_memory : (bits : List Bool) → Satisfies (valuation bits) (cnf_of cnf).clauses →
-      (m : Memory) × Gives (cells_of c) (with_mem (reading (program_of_cells c) (cells_of c) (valuation bits)) m)
-  some_memory bits sat =
+  -- base reads of one address have one byte in satisfying values
+  pub one_byte : (bits : List Bool) → Satisfies (valuation bits) (cnf_of cnf).clauses →
+      AreOne (cells_of c) (reading (program_of_cells c) (cells_of c) (valuation bits))
+  one_byte bits sat =
       let x = reading (program_of_cells c) (cells_of c) (valuation bits) in
       let found = h.cells.complete x (reading_in_range (program_of_cells c) (cells_of c) (valuation bits)) (clauses.extends.only (valuation bits) sat).0 in
-      (found.0, found.3)
+      one_by_memory (program_of_cells c) (cells_of c) h.cells.formed x found.0 found.3
 
   pub round_judged : (bits : List Bool) → Satisfies (valuation bits) (cnf_of cnf).clauses → (r : Round) → AreJudged c bits r →
       IsRound c.question.now added conflicts r

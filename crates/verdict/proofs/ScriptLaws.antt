@@ -8,7 +8,7 @@ use Rattle.question_form.specs.Questions.{program_of_question, question_of}
 use Rattle.question_form.specs.Views.{kind_of, unrolled_of}
 use Rattle.question_form.specs.declared.questions.Passive.{Passive}
 use Rattle.question_form.specs.declared.questions.Question.{Question}
-use Rattle.question_form.specs.declared.unrolled.Kind.{Kind}
+use Rattle.call_form.specs.declared.kind.Kind.{Kind}
 use Rattle.smtlib_print.specs.Numbered.{AreApart}
 use Rattle.smtlib_print.specs.Told.{TellsScript}
 use Rattle.smtlib_print.proofs.Programs.{script_of_program}

@@ -9,7 +9,7 @@ use Rattle.machine_spec.specs.StateText.{Layout}
 use Rattle.bilv_spec.proofs.RefutedQuestions.{refuted_is_false}
 use Rattle.cnf_form.specs.Views.{proof_of}
 use Rattle.cnf_form.specs.declared.form.Proof.{Proof}
-use Rattle.question_form.specs.declared.unrolled.Kind.TheVariants as kind
+use Rattle.call_form.specs.declared.kind.Kind.TheVariants as kind
 use Rattle.state_text.specs.Starts.{written_of}
 use Rattle.state_text.specs.declared.start.Start.{Start}
 use Rattle.walk_spec.specs.Unrolled.{UnrolledProgram}
@@ -17,7 +17,7 @@ use Rattle.verdict.specs.Grounds.{Answers, IsAnswered, IsGround}
 use Rattle.verdict.specs.Verdicts.{IsVerdict, budget_of}
 use Rattle.verdict.specs.declared.verdicts.Answered.{Answered}
 use Rattle.verdict.specs.declared.verdicts.Answered.TheVariants.{Sat, Refuted, Spent}
-use Rattle.verdict.specs.declared.verdicts.Budget.{Budget}
+use Rattle.call_form.specs.declared.budget.Budget.{Budget}
 use Rattle.verdict.specs.declared.verdicts.Verdict.TheVariants.{Holds, Vacuous, Conflicts}
 use Rattle.verdict.proofs.Adding.{answered}
 use Rattle.verdict.proofs.Judging.{entry_state, vacuous, holds, spent_on_entry, spent_on_fail, spent_on_turn}

@@ -12,7 +12,7 @@ use Rattle.verdict.specs.declared.early.Early.{Early}
 use Rattle.verdict.specs.declared.early.Early.TheVariants.{Settled, Turns, Open}
 use Rattle.verdict.specs.declared.early.NoTurns.{NoTurns}
 use Rattle.verdict.specs.declared.early.NoTurns.TheVariants as none
-use Rattle.verdict.specs.declared.verdicts.Budget.{Budget}
+use Rattle.call_form.specs.declared.budget.Budget.{Budget}
 
 -- the unrolled program is that of a program for at most so many backward transfers
 pub record IsSmaller (p : Program) (most : ℕ) (layout : Layout) (u : UnrolledProgram) : Type 0 where

@@ -2,7 +2,7 @@
 use Rattle.machine_spec.specs.Machine.{Machine}
 use Rattle.bilv_spec.specs.Run.{Program}
 use Rattle.bilv_spec.specs.Files.{program_of}
-use Rattle.notes_lang.specs.Drafting.{notes_of}
+use Rattle.notes_value.specs.NoteViews.{notes_of}
 use Rattle.verdict.specs.declared.shown.Function.{Function}
 
 -- the program, over a machine

@@ -16,7 +16,7 @@ use Rattle.walk_spec.specs.Unrolled.{UnrolledProgram}
 use Rattle.walk_spec.specs.Unrolling.{IsUnrolling, IsLaidOut}
 use Rattle.walk_spec.specs.WalkQuestions.{is_asked}
 use Rattle.walk_laws.specs.Layers.{IsFitting}
-use Rattle.question_form.specs.declared.unrolled.Kind.{Kind}
+use Rattle.call_form.specs.declared.kind.Kind.{Kind}
 use Rattle.question_form.specs.declared.questions.Passive.{Passive}
 use Rattle.question_form.specs.declared.questions.Question as asked
 use Rattle.cnf_form.specs.Views.{proof_of}

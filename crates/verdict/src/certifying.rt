@@ -1,24 +1,23 @@
 //! The questions of a function of two files, certified one by one.
-ghost use Rattle.std.specs.Prelude.{◌≡◌, ◌<◌, ℕ, IfOk, slice_index};
+ghost use Rattle.std.specs.Prelude.{◌≡◌, IfOk};
 ghost use Rattle.bilv_spec.specs.Files.{order_of, program_of};
 ghost use Rattle.call_spec.specs.Calls as answers;
-ghost use Rattle.call_spec.specs.Calls.{IsBudget, Question};
+ghost use Rattle.call_spec.specs.Calls.{Question};
 ghost use Rattle.bilv_spec.specs.Answers.{IsWithin};
 ghost use Rattle.bilv_spec.specs.Run.{Program};
 ghost use Rattle.machine_spec.specs.StateText.{Layout};
-ghost use Rattle.program_points.specs.Listed.{HasOneWay};
 ghost use Rattle.question_form.specs.Views.{kind_of};
-ghost use Rattle.notes_lang.specs.Drafting.{notes_of};
+ghost use Rattle.notes_value.specs.NoteViews.{notes_of};
 ghost use Rattle.notes_value.specs.Reads.{AreOver};
 ghost use Rattle.verdict.specs.Grounds.{IsAnswered};
 ghost use Rattle.verdict.specs.Measures.{IsMeasurable, IsUnrolledOf};
 ghost use Rattle.verdict.specs.Verdicts.{IsCertificate, budget_of};
 
 use crate::measuring::{Measured, measure, unroll_within};
-use crate::{Answered, Budget, Certified, decide};
+use crate::{Answered, Budget, Certified, Exceeded, decide};
 use elf32_reader::Image;
 use machine_law::Machine;
-use notes_lang::Notes;
+use notes_value::Notes;
 use program_points::PointsFault;
 use question_form::{Kind, Unrolled};
 use std::alloc::{AllocError, Global};
@@ -43,13 +42,12 @@ fn certify_unrolled(
     kind: Kind,
     unrolled: &Unrolled,
 ) -> Result<Certified, AllocError>
-    requires budget { IsBudget (budget_of budget.now) }
     requires measurable { IsMeasurable unrolled.now }
     ensures { IfOk result (λ c. (p : Program) (layout : Layout) → IsUnrolledOf p layout (budget_of budget.now) unrolled.now →
         IsCertificate p (budget_of budget.now) (kind_of kind) c) }
 {
     match measure(alloc, budget, unrolled)? {
-        Measured::Above(price) => Ok(Certified::Size { price }),
+        Measured::Above(price) => Ok(Certified::Exceeded(Exceeded::Size { price })),
         Measured::Within(passive) => {
             let answered = decide(alloc, &passive, kind, budget.conflicts)?;
             Ok(certified(answered))
@@ -68,10 +66,7 @@ pub fn certify<'a, M: Machine>(
     kind: Kind,
 ) -> Result<Certified, AllocError>
     requires order { order_of image.now ≡ M.machine.endian }
-    requires file { (i : ℕ) → slice_index image.now i < 256 }
-    requires one_way { HasOneWay (program_of M.machine image.now (notes_of notes.now) entry) }
     requires over { AreOver M.machine.has_register M.machine.has_flag (notes_of notes.now) }
-    requires budget { IsBudget (budget_of budget.now) }
     ensures { IfOk result (λ c. IsCertificate (program_of M.machine image.now (notes_of notes.now) entry) (budget_of budget.now) (kind_of kind) c) }
 {
     match unroll_within::<M>(alloc, image, notes, entry, budget) {
@@ -79,7 +74,7 @@ pub fn certify<'a, M: Machine>(
             let certified = certify_unrolled(alloc, budget, kind, &unrolled)?;
             Ok(certified)
         }
-        Err(PointsFault::TooMany { count }) => Ok(Certified::Points { count }),
+        Err(PointsFault::TooMany { count }) => Ok(Certified::Exceeded(Exceeded::Points { count })),
         Err(PointsFault::Memory) => Err(AllocError),
     }
 }

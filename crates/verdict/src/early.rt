@@ -1,13 +1,12 @@
 //! The verdict by the questions within a smaller bound on backward transfers than the budget's. Where no run makes more than that, they settle the verdict.
-ghost use Rattle.std.specs.Prelude.{◌≡◌, ◌≤◌, ◌<◌, ℕ, IfOk, IfSome, slice_index};
+ghost use Rattle.std.specs.Prelude.{◌≡◌, ◌≤◌, IfOk, IfSome};
 ghost use Rattle.bilv_spec.specs.Files.{order_of};
-ghost use Rattle.call_spec.specs.Calls.{IsBudget, FailQuestion, TurnQuestion};
+ghost use Rattle.call_spec.specs.Calls.{FailQuestion, TurnQuestion};
 ghost use Rattle.bilv_spec.specs.Evidence.{Refutes};
 ghost use Rattle.bilv_spec.specs.Answers.{IsWithin};
 ghost use Rattle.cnf_form.specs.Views.{proof_of};
-ghost use Rattle.notes_lang.specs.Drafting.{notes_of};
+ghost use Rattle.notes_value.specs.NoteViews.{notes_of};
 ghost use Rattle.notes_value.specs.Reads.{AreOver, AreReadable};
-ghost use Rattle.program_points.specs.Listed.{HasOneWay};
 ghost use Rattle.question_form.specs.Views.{unrolled_of};
 ghost use Rattle.turn_laws.specs.Raised.{over_variables};
 ghost use Rattle.verdict.specs.Functions.{program_of_function};
@@ -80,7 +79,6 @@ fn ask_fails<M: Machine>(
     turn: Proof,
     asked: Vec<u32>,
 ) -> Result<NoTurns, AllocError>
-    requires budget { IsBudget (budget_of budget.now) }
     requires whole { IsUnrolledOf (program_of_function M.machine function.now) M.form (budget_of budget.now) whole.now }
     requires smaller { IsSmaller (program_of_function M.machine function.now) budget.now.unroll M.form (unrolled_of passive.now.unrolled.now) }
     requires askable { IsAskable passive.now }
@@ -115,7 +113,6 @@ fn ask_turns<M: Machine>(
     whole: &Unrolled,
     passive: &Passive,
 ) -> Result<NoTurns, AllocError>
-    requires budget { IsBudget (budget_of budget.now) }
     requires whole { IsUnrolledOf (program_of_function M.machine function.now) M.form (budget_of budget.now) whole.now }
     requires smaller { IsSmaller (program_of_function M.machine function.now) budget.now.unroll M.form (unrolled_of passive.now.unrolled.now) }
     requires askable { IsAskable passive.now }
@@ -149,7 +146,6 @@ fn ask_entry<M: Machine>(
     fail: Proof,
     turn: Proof,
 ) -> Result<Early, AllocError>
-    requires budget { IsBudget (budget_of budget.now) }
     requires within { IsWithin (program_of_function M.machine function.now) (budget_of budget.now) }
     requires whole { IsUnrolledOf (program_of_function M.machine function.now) M.form (budget_of budget.now) whole.now }
     requires smaller { IsSmaller (program_of_function M.machine function.now) budget.now.unroll M.form (unrolled_of passive.now.unrolled.now) }
@@ -179,7 +175,6 @@ fn judge_passive<M: Machine>(
 ) -> Result<Early, AllocError>
     requires order { order_of function.now.image.now ≡ M.machine.endian }
     requires readable { AreReadable M.machine.has_register (notes_of function.now.notes.now) }
-    requires budget { IsBudget (budget_of budget.now) }
     requires within { IsWithin (program_of_function M.machine function.now) (budget_of budget.now) }
     requires whole { IsUnrolledOf (program_of_function M.machine function.now) M.form (budget_of budget.now) whole.now }
     requires smaller { IsSmaller (program_of_function M.machine function.now) budget.now.unroll M.form (unrolled_of passive.now.unrolled.now) }
@@ -210,7 +205,6 @@ fn judge_smaller<M: Machine>(
 ) -> Result<Early, AllocError>
     requires order { order_of function.now.image.now ≡ M.machine.endian }
     requires readable { AreReadable M.machine.has_register (notes_of function.now.notes.now) }
-    requires budget { IsBudget (budget_of budget.now) }
     requires within { IsWithin (program_of_function M.machine function.now) (budget_of budget.now) }
     requires whole { IsUnrolledOf (program_of_function M.machine function.now) M.form (budget_of budget.now) whole.now }
     requires measurable { IsMeasurable unrolled.now }
@@ -231,20 +225,14 @@ fn judge_within<M: Machine>(
     turns: u64,
 ) -> Result<Early, AllocError>
     requires order { order_of function.now.image.now ≡ M.machine.endian }
-    requires file { (i : ℕ) → slice_index function.now.image.now i < 256 }
-    requires one_way { HasOneWay (program_of_function M.machine function.now) }
     requires readable { AreReadable M.machine.has_register (notes_of function.now.notes.now) }
     requires over { AreOver M.machine.has_register M.machine.has_flag (notes_of function.now.notes.now) }
-    requires budget { IsBudget (budget_of budget.now) }
     requires within { IsWithin (program_of_function M.machine function.now) (budget_of budget.now) }
     requires whole { IsUnrolledOf (program_of_function M.machine function.now) M.form (budget_of budget.now) whole.now }
     requires turns { turns ≤ budget.now.unroll }
     ensures { IfOk result (IsEarly (program_of_function M.machine function.now) M.form budget.now) }
 {
-    let smaller = Budget {
-        unroll: turns,
-        ..*budget
-    };
+    let smaller = budget.with_unroll(turns);
     match unroll_within::<M>(
         alloc,
         function.image,
@@ -280,11 +268,8 @@ pub fn judge_early<M: Machine>(
     whole: &Unrolled,
 ) -> Result<Option<Verdict>, AllocError>
     requires order { order_of function.now.image.now ≡ M.machine.endian }
-    requires file { (i : ℕ) → slice_index function.now.image.now i < 256 }
-    requires one_way { HasOneWay (program_of_function M.machine function.now) }
     requires readable { AreReadable M.machine.has_register (notes_of function.now.notes.now) }
     requires over { AreOver M.machine.has_register M.machine.has_flag (notes_of function.now.notes.now) }
-    requires budget { IsBudget (budget_of budget.now) }
     requires within { IsWithin (program_of_function M.machine function.now) (budget_of budget.now) }
     requires whole { IsUnrolledOf (program_of_function M.machine function.now) M.form (budget_of budget.now) whole.now }
     ensures { IfOk result (λ o. IfSome o (IsVerdict (program_of_function M.machine function.now) M.form budget.now)) }

@@ -12,10 +12,11 @@ mod shown;
 mod verdicts;
 mod verifying;
 
+pub use call_form::Budget;
 pub use certifying::certify;
 pub use deciding::{asked_next, decide};
 pub use measuring::{Measured, measure, unroll_within};
 pub use scripting::script;
 pub use shown::Function;
-pub use verdicts::{Answered, Budget, Certified, Scripted, Verdict};
+pub use verdicts::{Answered, Certified, Exceeded, Scripted, Verdict};
 pub use verifying::{judge_unrolled, verify};

@@ -1,10 +1,9 @@
 //! Functions of two files, unrolled, and measured by the budgets.
-ghost use Rattle.std.specs.Prelude.{◌≡◌, ◌<◌, ℕ, IfErr, IfOk, slice_index};
+ghost use Rattle.std.specs.Prelude.{◌≡◌, IfErr, IfOk};
 ghost use Rattle.bilv_spec.specs.Files.{order_of, program_of};
-ghost use Rattle.call_spec.specs.Calls.{IsBudget};
-ghost use Rattle.program_points.specs.Listed.{HasOneWay, IsTooMany};
+ghost use Rattle.program_points.specs.Listed.{IsTooMany};
 ghost use Rattle.state_text.specs.Starts.{layout_of};
-ghost use Rattle.notes_lang.specs.Drafting.{notes_of};
+ghost use Rattle.notes_value.specs.NoteViews.{notes_of};
 ghost use Rattle.notes_value.specs.Reads.{AreOver};
 ghost use Rattle.verdict.specs.Measures.{IsMeasurable, IsMeasured, IsUnrolledOf, IsWeighed};
 ghost use Rattle.verdict.specs.Verdicts.{budget_of};
@@ -13,7 +12,7 @@ use crate::Budget;
 use elf32_reader::Image;
 use flow_graph::descend;
 use machine_law::Machine;
-use notes_lang::Notes;
+use notes_value::Notes;
 use passify::passive;
 use program_points::PointsFault;
 use question_form::{Passive, Unrolled};
@@ -49,14 +48,12 @@ pub fn unroll_within<'a, M: Machine>(
     budget: &Budget,
 ) -> Result<Unrolled<'a>, PointsFault>
     requires order { order_of image.now ≡ M.machine.endian }
-    requires file { (i : ℕ) → slice_index image.now i < 256 }
-    requires one_way { HasOneWay (program_of M.machine image.now (notes_of notes.now) entry) }
     requires over { AreOver M.machine.has_register M.machine.has_flag (notes_of notes.now) }
-    requires budget { IsBudget (budget_of budget.now) }
     ensures unrolled { IfOk result (IsUnrolledOf (program_of M.machine image.now (notes_of notes.now) entry) M.form (budget_of budget.now)) }
     ensures form { IfOk result (λ u. layout_of u.form ≡ M.form) }
     ensures more { IfErr result (IsTooMany (program_of M.machine image.now (notes_of notes.now) entry) budget.now.unroll budget.now.points) }
 {
+    image.bytes();
     let graph = descend::<M>(alloc, image, notes, entry)?;
     unroll::<M>(
         alloc,

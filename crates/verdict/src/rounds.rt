@@ -1,9 +1,9 @@
 //! One round of a question: its clauses over some bytes of the file, and what the search says of them.
-ghost use Rattle.std.specs.Prelude.{◌≡◌, ◌≤◌, ℕ, IfOk};
+ghost use Rattle.std.specs.Prelude.{◌≤◌, IfOk};
 ghost use Rattle.clause_spec.specs.Clauses.{valuation};
-ghost use Rattle.walk_spec.specs.Terms.{with_mem};
-ghost use Rattle.walk_spec.specs.Cells.{AreFormed, Gives};
+ghost use Rattle.walk_spec.specs.Cells.{AreFormed};
 ghost use Rattle.walk_spec.specs.ClauseForm.{reading};
+ghost use Rattle.bit_blast.specs.ReadBytes.{AreOne};
 ghost use Rattle.mem_cells.specs.Views.{cells_of, program_of_cells};
 ghost use Rattle.walk_spec.specs.WalkQuestions.{TellsQuestion};
 ghost use Rattle.question_form.specs.Questions.{program_of_question, question_of, term_of};
@@ -29,8 +29,7 @@ pub enum Round {
 /// What satisfying values come to: the start that they give, or the known bytes that they have not.
 fn judge_values(alloc: Global, celled: &Celled, values: &[bool]) -> Result<Round, AllocError>
     requires formed { AreFormed (program_of_cells celled.now) (cells_of celled.now) }
-    requires some { (m : ℕ → ℕ) × Gives (cells_of celled.now)
-        (with_mem (reading (program_of_cells celled.now) (cells_of celled.now) (valuation values.now)) m) }
+    requires one { AreOne (cells_of celled.now) (reading (program_of_cells celled.now) (cells_of celled.now) (valuation values.now)) }
     requires askable { IsAskable celled.now.question.now.passive.now }
     ensures { IfOk result (λ r. AreJudged celled.now values.now r) }
 {

@@ -1,11 +1,9 @@
 //! The scripts of the questions of a function of two files, for another solver.
-ghost use Rattle.std.specs.Prelude.{◌≡◌, ◌<◌, ℕ, IfOk, slice_index, string_bytes};
-ghost use Rattle.call_spec.specs.Calls.{IsBudget};
+ghost use Rattle.std.specs.Prelude.{◌≡◌, IfOk, string_bytes};
 ghost use Rattle.bilv_spec.specs.Files.{order_of, program_of};
 ghost use Rattle.bilv_spec.specs.Scripts.{IsScript};
-ghost use Rattle.notes_lang.specs.Drafting.{notes_of};
+ghost use Rattle.notes_value.specs.NoteViews.{notes_of};
 ghost use Rattle.notes_value.specs.Reads.{AreOver};
-ghost use Rattle.program_points.specs.Listed.{HasOneWay};
 ghost use Rattle.question_form.specs.Views.{kind_of, unrolled_of};
 ghost use Rattle.state_text.specs.Starts.{layout_of};
 ghost use Rattle.verdict.specs.Functions.{program_of_function};
@@ -16,10 +14,10 @@ ghost use Rattle.verdict.specs.Verdicts.{IsScripted, budget_of};
 
 use crate::measuring::{Measured, measure, unroll_within};
 use crate::shown::Function;
-use crate::{Budget, Scripted};
+use crate::{Budget, Exceeded, Scripted};
 use elf32_reader::Image;
 use machine_law::Machine;
-use notes_lang::Notes;
+use notes_value::Notes;
 use program_points::PointsFault;
 use question_form::{Kind, Passive, Unrolled};
 use smtlib_print::script as script_of;
@@ -52,13 +50,12 @@ fn script_unrolled<M: Machine>(
     kind: Kind,
     unrolled: &Unrolled,
 ) -> Result<Scripted, AllocError>
-    requires budget { IsBudget (budget_of budget.now) }
     requires unrolled { IsUnrolledOf (program_of_function M.machine function.now) M.form (budget_of budget.now) unrolled.now }
     requires form { layout_of unrolled.now.form ≡ M.form }
     ensures { IfOk result (λ s. IsScripted (program_of_function M.machine function.now) M.form (budget_of budget.now) (kind_of kind) s) }
 {
     match measure(alloc, budget, unrolled)? {
-        Measured::Above(price) => Ok(Scripted::Size { price }),
+        Measured::Above(price) => Ok(Scripted::Exceeded(Exceeded::Size { price })),
         Measured::Within(passive) => {
             let text = script_passive::<M>(alloc, function, budget, kind, &passive)?;
             Ok(Scripted::Script(text))
@@ -77,10 +74,7 @@ pub fn script<'a, M: Machine>(
     kind: Kind,
 ) -> Result<Scripted, AllocError>
     requires order { order_of image.now ≡ M.machine.endian }
-    requires file { (i : ℕ) → slice_index image.now i < 256 }
-    requires one_way { HasOneWay (program_of M.machine image.now (notes_of notes.now) entry) }
     requires over { AreOver M.machine.has_register M.machine.has_flag (notes_of notes.now) }
-    requires budget { IsBudget (budget_of budget.now) }
     ensures { IfOk result (λ s. IsScripted (program_of M.machine image.now (notes_of notes.now) entry) M.form (budget_of budget.now) (kind_of kind) s) }
 {
     match unroll_within::<M>(alloc, image, notes, entry, budget) {
@@ -93,7 +87,7 @@ pub fn script<'a, M: Machine>(
             let scripted = script_unrolled::<M>(alloc, &function, budget, kind, &unrolled)?;
             Ok(scripted)
         }
-        Err(PointsFault::TooMany { count }) => Ok(Scripted::Points { count }),
+        Err(PointsFault::TooMany { count }) => Ok(Scripted::Exceeded(Exceeded::Points { count })),
         Err(PointsFault::Memory) => Err(AllocError),
     }
 }

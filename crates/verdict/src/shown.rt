@@ -1,14 +1,14 @@
 //! The runs that show a verdict.
 ghost use Rattle.std.specs.Prelude.{◌≡◌, ◌-◌, Some, IfOk};
 ghost use Rattle.bilv_spec.specs.Files.{order_of};
-ghost use Rattle.call_spec.specs.Calls.{IsBudget, FailQuestion, TurnQuestion};
+ghost use Rattle.call_spec.specs.Calls.{FailQuestion, TurnQuestion};
 ghost use Rattle.bilv_spec.specs.Answers.{IsWithin, start_in};
 ghost use Rattle.bilv_spec.specs.Points.{is_known_at};
 ghost use Rattle.bilv_spec.specs.PointLaws.{HasLawfulRows};
 ghost use Rattle.bilv_spec.specs.Questions.{IsSatisfiable};
 ghost use Rattle.bilv_spec.specs.Reports.{found};
 ghost use Rattle.machine_spec.specs.StateText.{IsWritten};
-ghost use Rattle.notes_lang.specs.Drafting.{notes_of};
+ghost use Rattle.notes_value.specs.NoteViews.{notes_of};
 ghost use Rattle.notes_value.specs.Reads.{AreReadable};
 ghost use Rattle.state_text.specs.Starts.{written_of};
 ghost use Rattle.table_run.specs.Endings.{found_of};
@@ -19,7 +19,7 @@ ghost use Rattle.verdict.specs.Verdicts.{IsVerdict, budget_of};
 use crate::{Answered, Budget, Verdict};
 use elf32_reader::Image;
 use machine_law::Machine;
-use notes_lang::Notes;
+use notes_value::Notes;
 use state_text::Start;
 use std::alloc::{AllocError, Global};
 use table_run::{Ending, run};
@@ -41,7 +41,6 @@ fn ending<M: Machine>(
 ) -> Result<Ending, AllocError>
     requires order { order_of function.now.image.now ≡ M.machine.endian }
     requires readable { AreReadable M.machine.has_register (notes_of function.now.notes.now) }
-    requires budget { IsBudget (budget_of budget.now) }
     requires written { IsWritten M.form (is_known_at (program_of_function M.machine function.now)) (written_of start.now) }
     ensures { IfOk result (λ e. found_of e ≡ found (program_of_function M.machine function.now) (Some budget.now.unroll)
         (start_in (program_of_function M.machine function.now) M.form (written_of start.now))
@@ -68,7 +67,6 @@ pub fn failing<M: Machine>(
 ) -> Result<Verdict, AllocError>
     requires order { order_of function.now.image.now ≡ M.machine.endian }
     requires readable { AreReadable M.machine.has_register (notes_of function.now.notes.now) }
-    requires budget { IsBudget (budget_of budget.now) }
     requires within { IsWithin (program_of_function M.machine function.now) (budget_of budget.now) }
     requires lawful { HasLawfulRows (program_of_function M.machine function.now) }
     requires fails { IsFailing (program_of_function M.machine function.now) budget.now.unroll M.form start }
@@ -94,7 +92,6 @@ pub fn turning<M: Machine>(
 ) -> Result<Verdict, AllocError>
     requires order { order_of function.now.image.now ≡ M.machine.endian }
     requires readable { AreReadable M.machine.has_register (notes_of function.now.notes.now) }
-    requires budget { IsBudget (budget_of budget.now) }
     requires within { IsWithin (program_of_function M.machine function.now) (budget_of budget.now) }
     requires lawful { HasLawfulRows (program_of_function M.machine function.now) }
     requires never { IsSatisfiable (program_of_function M.machine function.now) budget.now.unroll FailQuestion → ⊥ }

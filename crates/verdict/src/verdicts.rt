@@ -1,20 +1,7 @@
-//! Verdicts, budgets, and what questions come to.
+//! Verdicts, and what questions come to.
 use cnf_form::Proof;
 use question_form::Kind;
 use state_text::{Event, Start};
-
-/// How much may be spent.
-#[derive(Clone, Copy, Debug, PartialEq, Eq)]
-pub struct Budget {
-    /// Backward transfers of a run, at most 4096.
-    pub unroll: u64,
-    /// Points of the unrolled program, 1 to 16777216.
-    pub points: u64,
-    /// The price of the unrolled program, 1 to 2^62.
-    pub size: u64,
-    /// Conflicts of the search for each question, 1 to 2^32 - 1.
-    pub conflicts: u64,
-}
 
 /// What a question comes to.
 #[derive(Drop)]
@@ -25,6 +12,15 @@ pub enum Answered {
     Refuted(Proof),
     /// The conflicts are spent.
     Spent(Proof),
+}
+
+/// The budget that does not suffice for any question, with what shows it.
+#[derive(Clone, Copy, PartialEq, Eq, Debug)]
+pub enum Exceeded {
+    /// There are more points than the budget, of which so many were found.
+    Points { count: u64 },
+    /// The price is above the budget.
+    Size { price: u128 },
 }
 
 /// A verdict, or the budget that does not suffice for one, with what shows it.
@@ -51,14 +47,8 @@ pub enum Verdict {
         step: u64,
         start: Start,
     },
-    /// There are more points than the budget, of which so many were found.
-    Points {
-        count: u64,
-    },
-    /// The price is above the budget.
-    Size {
-        price: u128,
-    },
+    /// There are too many points, or the price is too high.
+    Exceeded(Exceeded),
     /// The conflicts did not suffice for a question.
     Conflicts {
         question: Kind,
@@ -69,10 +59,8 @@ pub enum Verdict {
 /// What the command that certifies a question comes to.
 #[derive(Drop)]
 pub enum Certified {
-    /// There are more points than the budget, of which so many were found.
-    Points { count: u64 },
-    /// The price is above the budget.
-    Size { price: u128 },
+    /// There are too many points, or the price is too high.
+    Exceeded(Exceeded),
     /// The conflicts did not suffice.
     Conflicts(Proof),
     /// The question is true of some reading.
@@ -84,10 +72,8 @@ pub enum Certified {
 /// What the command that prints the script of a question comes to.
 #[derive(Drop)]
 pub enum Scripted {
-    /// There are more points than the budget, of which so many were found.
-    Points { count: u64 },
-    /// The price is above the budget.
-    Size { price: u128 },
+    /// There are too many points, or the price is too high.
+    Exceeded(Exceeded),
     /// The script, in SMT-LIB 2.6.
     Script(String),
 }

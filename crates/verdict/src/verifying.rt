@@ -1,11 +1,9 @@
 //! The verdict on the function of two files.
-ghost use Rattle.std.specs.Prelude.{◌≡◌, ◌<◌, ℕ, IfOk, slice_index};
+ghost use Rattle.std.specs.Prelude.{◌≡◌, IfOk};
 ghost use Rattle.bilv_spec.specs.Files.{order_of, program_of};
-ghost use Rattle.call_spec.specs.Calls.{IsBudget};
 ghost use Rattle.bilv_spec.specs.Answers.{IsWithin};
-ghost use Rattle.program_points.specs.Listed.{HasOneWay};
 ghost use Rattle.question_form.specs.Views.{unrolled_of};
-ghost use Rattle.notes_lang.specs.Drafting.{notes_of};
+ghost use Rattle.notes_value.specs.NoteViews.{notes_of};
 ghost use Rattle.notes_value.specs.Reads.{AreOver, AreReadable};
 ghost use Rattle.verdict.specs.Functions.{program_of_function};
 ghost use Rattle.verdict.specs.Grounds.{IsGround};
@@ -16,10 +14,10 @@ ghost use Rattle.verdict.specs.Verdicts.{IsVerdict, budget_of};
 use crate::early::judge_early;
 use crate::measuring::{Weighed, unroll_within, weigh};
 use crate::shown::{Function, failing, turning};
-use crate::{Answered, Budget, Verdict, decide};
+use crate::{Answered, Budget, Exceeded, Verdict, decide};
 use elf32_reader::Image;
 use machine_law::Machine;
-use notes_lang::Notes;
+use notes_value::Notes;
 use passify::passive;
 use program_points::PointsFault;
 use question_form::{Kind, Passive, Unrolled};
@@ -37,7 +35,6 @@ fn judge<M: Machine>(
 ) -> Result<Verdict, AllocError>
     requires order { order_of function.now.image.now ≡ M.machine.endian }
     requires readable { AreReadable M.machine.has_register (notes_of function.now.notes.now) }
-    requires budget { IsBudget (budget_of budget.now) }
     requires within { IsWithin (program_of_function M.machine function.now) (budget_of budget.now) }
     requires ground { IsGround (program_of_function M.machine function.now) budget.now.unroll M.form (unrolled_of passive.now.unrolled.now) }
     requires askable { IsAskable passive.now }
@@ -85,16 +82,13 @@ pub fn judge_unrolled<M: Machine>(
     unrolled: &Unrolled,
 ) -> Result<Verdict, AllocError>
     requires order { order_of function.now.image.now ≡ M.machine.endian }
-    requires file { (i : ℕ) → slice_index function.now.image.now i < 256 }
-    requires one_way { HasOneWay (program_of_function M.machine function.now) }
     requires readable { AreReadable M.machine.has_register (notes_of function.now.notes.now) }
     requires over { AreOver M.machine.has_register M.machine.has_flag (notes_of function.now.notes.now) }
-    requires budget { IsBudget (budget_of budget.now) }
     requires unrolled { IsUnrolledOf (program_of_function M.machine function.now) M.form (budget_of budget.now) unrolled.now }
     ensures { IfOk result (λ v. IsVerdict (program_of_function M.machine function.now) M.form budget.now v) }
 {
     let price = match weigh(budget, unrolled)? {
-        Weighed::Above(price) => return Ok(Verdict::Size { price }),
+        Weighed::Above(price) => return Ok(Verdict::Exceeded(Exceeded::Size { price })),
         Weighed::Within(price) => price,
     };
     if price >= DEAR {
@@ -119,11 +113,8 @@ pub fn verify<'a, M: Machine>(
     budget: &Budget,
 ) -> Result<Verdict, AllocError>
     requires order { order_of image.now ≡ M.machine.endian }
-    requires file { (i : ℕ) → slice_index image.now i < 256 }
-    requires one_way { HasOneWay (program_of M.machine image.now (notes_of notes.now) entry) }
     requires readable { AreReadable M.machine.has_register (notes_of notes.now) }
     requires over { AreOver M.machine.has_register M.machine.has_flag (notes_of notes.now) }
-    requires budget { IsBudget (budget_of budget.now) }
     ensures { IfOk result (λ v. IsVerdict (program_of M.machine image.now (notes_of notes.now) entry) M.form budget.now v) }
 {
     match unroll_within::<M>(alloc, image, notes, entry, budget) {
@@ -136,7 +127,7 @@ pub fn verify<'a, M: Machine>(
             let verdict = judge_unrolled::<M>(alloc, &function, budget, &unrolled)?;
             Ok(verdict)
         }
-        Err(PointsFault::TooMany { count }) => Ok(Verdict::Points { count }),
+        Err(PointsFault::TooMany { count }) => Ok(Verdict::Exceeded(Exceeded::Points { count })),
         Err(PointsFault::Memory) => Err(AllocError),
     }
 }

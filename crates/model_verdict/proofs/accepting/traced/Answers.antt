@@ -1,7 +1,7 @@
 use Rattle.model_verdict.proofs.accepting.traced.Goals as goal
 
 pub trace-requires-clause-some : goal.trace-requires-clause-some
-trace-requires-clause-some g c = c.requires.budget.points.0
+trace-requires-clause-some g c = c.args.budget.now.in_range.points.0
 
 pub trace-requires-clause-rising : goal.trace-requires-clause-rising
 trace-requires-clause-rising g c = rw c.listed_of.ensures c.requires.sound.1

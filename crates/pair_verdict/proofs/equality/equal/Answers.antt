@@ -2,11 +2,11 @@ use Rattle.pair_verdict.proofs.equality.equal.Goals as goal
 
 pub unroll_both-requires : goal.unroll_both-requires
 unroll_both-requires c =
-    record { first = c.requires.first; second = c.requires.second; links = c.requires.links; budget = c.requires.budget }
+    record { first = c.requires.first; second = c.requires.second; links = c.requires.links }
 
 pub judge_priced-requires-clause-pair : goal.judge_priced-requires-clause-pair
 judge_priced-requires-clause-pair c =
-    record { first = c.requires.first; second = c.requires.second; links = c.requires.links; budget = c.requires.budget }
+    record { first = c.requires.first; second = c.requires.second; links = c.requires.links }
 
 pub judge_priced-requires-clause-unrolled : goal.judge_priced-requires-clause-unrolled
 judge_priced-requires-clause-unrolled c = c.in-Ok.ensures.unrolled

@@ -8,7 +8,7 @@ use Rattle.pair_verdict.proofs.equality.judge_first.Goals as goal
 pub judge_side-requires-clause-within : goal.judge_side-requires-clause-within
 judge_side-requires-clause-within c =
     let p = c.args.pair.now in
-    first_within (first_program p) (second_program p) (links_of p.links.now) (budget_of p.budget.now) c.requires.pair.budget.points.0 c.requires.within
+    first_within (first_program p) (second_program p) (links_of p.links.now) (budget_of p.budget.now) p.budget.now.in_range.points.0 c.requires.within
 
 pub judge_second-requires-clause-first : goal.judge_second-requires-clause-first
 judge_second-requires-clause-first c =

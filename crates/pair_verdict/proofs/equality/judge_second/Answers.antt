@@ -8,7 +8,7 @@ use Rattle.pair_verdict.proofs.equality.judge_second.Goals as goal
 pub judge_side-requires-clause-within : goal.judge_side-requires-clause-within
 judge_side-requires-clause-within c =
     let p = c.args.pair.now in
-    second_within (first_program p) (second_program p) (links_of p.links.now) (budget_of p.budget.now) c.requires.pair.budget.points.0 c.requires.within
+    second_within (first_program p) (second_program p) (links_of p.links.now) (budget_of p.budget.now) p.budget.now.in_range.points.0 c.requires.within
 
 pub settle-requires-clause-first_holds : goal.settle-requires-clause-first_holds
 settle-requires-clause-first_holds c = c.requires.first.1

@@ -1,7 +1,10 @@
 use Rattle.std.proofs.Common.{◌∙◌}
 use Rattle.state_text.specs.Starts.{written_of}
-use Rattle.pair_verdict.proofs.RoundOf.{shown_by, unbroken_as}
+use Rattle.pair_verdict.proofs.RoundOf.{one_as, shown_by, unbroken_as}
 use Rattle.pair_verdict.proofs.rounds.start_by.Goals as goal
+
+pub start_of-requires-clause-one : goal.start_of-requires-clause-one
+start_of-requires-clause-one c = one_as c.args.celled c.args.values.now c.args.passive.now c.requires
 
 pub start_of-requires-clause-unbroken : goal.start_of-requires-clause-unbroken
 start_of-requires-clause-unbroken c = unbroken_as c.args.celled c.args.values.now c.args.passive.now c.requires

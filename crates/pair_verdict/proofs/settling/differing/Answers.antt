@@ -14,7 +14,7 @@ exit_of-requires-clause-links c =
 pub exit_of-requires-clause-within : goal.exit_of-requires-clause-within
 exit_of-requires-clause-within c =
     let p = c.args.pair.now in
-    first_within (first_program p) (second_program p) (links_of p.links.now) (budget_of p.budget.now) c.requires.pair.budget.points.0 c.requires.within
+    first_within (first_program p) (second_program p) (links_of p.links.now) (budget_of p.budget.now) p.budget.now.in_range.points.0 c.requires.within
 
 pub exit_of-requires-clause-start : goal.exit_of-requires-clause-start
 exit_of-requires-clause-start c =
@@ -27,7 +27,7 @@ exit_of-requires-2-clause-links c =
 pub exit_of-requires-2-clause-within : goal.exit_of-requires-2-clause-within
 exit_of-requires-2-clause-within c =
     let p = c.args.pair.now in
-    second_within (first_program p) (second_program p) (links_of p.links.now) (budget_of p.budget.now) c.requires.pair.budget.points.0 c.requires.within
+    second_within (first_program p) (second_program p) (links_of p.links.now) (budget_of p.budget.now) p.budget.now.in_range.points.0 c.requires.within
 
 pub exit_of-requires-2-clause-start : goal.exit_of-requires-2-clause-start
 exit_of-requires-2-clause-start c =

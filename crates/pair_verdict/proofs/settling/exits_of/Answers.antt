@@ -22,11 +22,11 @@ returns c =
         first = is_ready p.first.now false p.links.now k v.first c.requires.placed.first c.in_ok-first.first c.in_ok-first_passive.first_passive
             c.in_ok-first.ensures.of c.in_ok-first.ensures.terms c.in_ok-first_passive.ensures
             (first_links p.first.now.layout v.first.form p.second.now.layout c.requires.placed.first.form p.links.now c.requires.pair.links)
-            c.requires.pair.budget.unroll;
+            p.budget.now.in_range.unroll;
         second = is_ready p.second.now true p.links.now k v.second c.requires.placed.second c.in_ok-second.second c.in_ok-second_passive.second_passive
             c.in_ok-second.ensures.of c.in_ok-second.ensures.terms c.in_ok-second_passive.ensures
             (second_links p.second.now.layout v.second.form p.first.now.layout c.requires.placed.second.form p.links.now c.requires.pair.links)
-            c.requires.pair.budget.unroll;
+            p.budget.now.in_range.unroll;
       };
       first = still_placed p.first.now false p.links.now k v.first c.requires.placed.first c.in_ok-first.first c.in_ok-first_passive.first_passive
           c.in_ok-first.ensures.of c.in_ok-first.ensures.terms c.in_ok-first_passive.ensures

@@ -9,21 +9,21 @@ use Rattle.pair_verdict.proofs.settling.place_both.Goals as goal
 pub unroll_asked-requires-clause-few : goal.unroll_asked-requires-clause-few
 unroll_asked-requires-clause-few c more =
     let p = c.args.pair.now in
-    c.requires.within.points (first_more (first_program p) (second_program p) p.budget.now.unroll p.budget.now.points c.requires.pair.budget.points.0 more)
+    c.requires.within.points (first_more (first_program p) (second_program p) p.budget.now.unroll p.budget.now.points p.budget.now.in_range.points.0 more)
 
 pub unroll_asked-requires-2-clause-few : goal.unroll_asked-requires-2-clause-few
 unroll_asked-requires-2-clause-few c more =
     let p = c.args.pair.now in
-    c.requires.within.points (second_more (first_program p) (second_program p) p.budget.now.unroll p.budget.now.points c.requires.pair.budget.points.0 more)
+    c.requires.within.points (second_more (first_program p) (second_program p) p.budget.now.unroll p.budget.now.points p.budget.now.in_range.points.0 more)
 
 pub returns : goal.returns
 returns c =
     let p = c.args.pair.now in
     record {
-      first = is_placed p.first.now false (links_of p.links.now) (budget_of p.budget.now) c.requires.pair.budget.points.1 c.in_ok-one.one c.in_ok-first.first
+      first = is_placed p.first.now false (links_of p.links.now) (budget_of p.budget.now) p.budget.now.in_range.points.1 c.in_ok-one.one c.in_ok-first.first
           c.in_ok-one.ensures.unrolled c.in_ok-one.ensures.form c.in_ok-first.ensures.program c.in_ok-first.ensures.formed c.in_ok-first.ensures.form
           c.in_ok-first.ensures.known;
-      second = is_placed p.second.now true (links_of p.links.now) (budget_of p.budget.now) c.requires.pair.budget.points.1 c.in_ok-two.two
+      second = is_placed p.second.now true (links_of p.links.now) (budget_of p.budget.now) p.budget.now.in_range.points.1 c.in_ok-two.two
           c.in_ok-second.second c.in_ok-two.ensures.unrolled c.in_ok-two.ensures.form c.in_ok-second.ensures.program c.in_ok-second.ensures.formed
           c.in_ok-second.ensures.form c.in_ok-second.ensures.known;
     }

@@ -5,17 +5,13 @@ use Rattle.bilv_spec.specs.Points.{HasMore}
 use Rattle.bilv_spec.specs.Run.{Program}
 use Rattle.links_lang.specs.Views.{links_of}
 use Rattle.machine_spec.specs.StateText.{Layout}
-use Rattle.notes_lang.specs.Drafting.{notes_of}
+use Rattle.notes_value.specs.NoteViews.{notes_of}
 use Rattle.pair_spec.specs.Links.{asking, compares_flag}
 use Rattle.verdict.specs.Measures.{IsUnrolledOf}
 use Rattle.verdict.specs.Verdicts.{budget_of}
 use Rattle.pair_verdict.proofs.AskedProgram.{asked_unrolled, never_many}
-use Rattle.pair_verdict.proofs.MachineOfSide.{from_side, one_way, over, to_side}
+use Rattle.pair_verdict.proofs.MachineOfSide.{from_side, over, to_side}
 use Rattle.pair_verdict.proofs.sides.unroll_asked_by.Goals as goal
-
-pub unroll_asking-requires-clause-one_way : goal.unroll_asking-requires-clause-one_way
-unroll_asking-requires-clause-one_way g c =
-    one_way c.args.side.now g.M.Machine.machine g.M.Machine.form c.requires.machine c.requires.form c.requires.sided
 
 pub returns-in-Ok-clause-unrolled : goal.returns-in-Ok-clause-unrolled
 returns-in-Ok-clause-unrolled g c =
@@ -29,7 +25,7 @@ returns-in-Ok-clause-unrolled g c =
     to_side s m form c.requires.machine c.requires.form c.requires.sided
     (λ (p : Program) (f : Layout). IsUnrolledOf (asking c.args.second links p) f (budget_of c.args.budget.now) u)
     (asked_unrolled s.image.now (notes_of s.notes.now) s.entry m form (budget_of c.args.budget.now) g.met.M.Machine.lawful g.met.M.Machine.fitted
-    c.requires.sided.bytes (over s m form c.requires.machine c.requires.form c.requires.sided) (omega (arith)) c.requires.budget.points.1 asked u
+    c.requires.sided.bytes (over s m form c.requires.machine c.requires.form c.requires.sided) (omega (arith)) c.args.budget.now.in_range.points.1 asked u
     (e.unrolled asked c.flags_asked-out.ensures.set) e.formed e.few e.form e.addresses e.layout e.runs e.beyond)
 
 pub unreachable-requires : goal.unreachable-requires

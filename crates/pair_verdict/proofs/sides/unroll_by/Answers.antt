@@ -2,23 +2,16 @@ use Rattle.bilv_spec.specs.Run.{Program}
 use Rattle.machine_spec.specs.StateText.{Layout}
 use Rattle.verdict.specs.Measures.{IsUnrolledOf}
 use Rattle.verdict.specs.Verdicts.{budget_of}
-use Rattle.pair_verdict.proofs.MachineOfSide.{order, one_way, over, to_side}
+use Rattle.pair_verdict.proofs.MachineOfSide.{order, over, to_side}
 use Rattle.pair_verdict.proofs.sides.unroll_by.Goals as goal
 
 pub unroll_within-requires-clause-order : goal.unroll_within-requires-clause-order
 unroll_within-requires-clause-order g c =
     order c.args.side.now g.M.Machine.machine g.M.Machine.form c.requires.machine c.requires.form c.requires.sided
 
-pub unroll_within-requires-clause-one_way : goal.unroll_within-requires-clause-one_way
-unroll_within-requires-clause-one_way g c =
-    one_way c.args.side.now g.M.Machine.machine g.M.Machine.form c.requires.machine c.requires.form c.requires.sided
-
 pub unroll_within-requires-clause-over : goal.unroll_within-requires-clause-over
 unroll_within-requires-clause-over g c =
     over c.args.side.now g.M.Machine.machine g.M.Machine.form c.requires.machine c.requires.form c.requires.sided
-
-pub unroll_within-requires-clause-file : goal.unroll_within-requires-clause-file
-unroll_within-requires-clause-file g c = c.requires.sided.bytes
 
 pub returns-clause-unrolled : goal.returns-clause-unrolled
 returns-clause-unrolled g c =

@@ -2,19 +2,12 @@ use Rattle.bilv_spec.specs.Run.{Program}
 use Rattle.machine_spec.specs.StateText.{Layout}
 use Rattle.verdict.specs.Measures.{IsUnrolledOf}
 use Rattle.verdict.specs.Verdicts.{IsVerdict, budget_of}
-use Rattle.pair_verdict.proofs.MachineOfSide.{order, one_way, over, readable, from_side, to_side}
+use Rattle.pair_verdict.proofs.MachineOfSide.{order, over, readable, from_side, to_side}
 use Rattle.pair_verdict.proofs.sides.verdict_by.Goals as goal
 
 pub judge_unrolled-requires-clause-order : goal.judge_unrolled-requires-clause-order
 judge_unrolled-requires-clause-order g c =
     order c.args.side.now g.M.Machine.machine g.M.Machine.form c.requires.machine c.requires.form c.requires.sided
-
-pub judge_unrolled-requires-clause-file : goal.judge_unrolled-requires-clause-file
-judge_unrolled-requires-clause-file g c = c.requires.sided.bytes
-
-pub judge_unrolled-requires-clause-one_way : goal.judge_unrolled-requires-clause-one_way
-judge_unrolled-requires-clause-one_way g c =
-    one_way c.args.side.now g.M.Machine.machine g.M.Machine.form c.requires.machine c.requires.form c.requires.sided
 
 pub judge_unrolled-requires-clause-readable : goal.judge_unrolled-requires-clause-readable
 judge_unrolled-requires-clause-readable g c =

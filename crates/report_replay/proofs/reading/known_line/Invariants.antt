@@ -4,7 +4,7 @@ use Rattle.machine_spec.specs.Machine.{Machine}
 use Rattle.bilv_spec.specs.Points.{is_known_at}
 use Rattle.machine_spec.specs.StateText.{Told}
 use Rattle.state_text.specs.Readings.{told_but}
-use Rattle.notes_lang.specs.Drafting.{notes_of}
+use Rattle.notes_value.specs.NoteViews.{notes_of}
 use Rattle.report_replay.specs.Readings.{AreAlike}
 use Rattle.report_replay.proofs.reading.known_line.Given as goal
 

@@ -5,7 +5,7 @@ use Rattle.machine_spec.specs.StateText.{StateRefused, lines_of_head, state_of}
 use Rattle.state_text.specs.Starts.{layout_of}
 use Rattle.state_text.specs.Readings.{fault_of, IsRefusedBy}
 use Rattle.state_text.specs.declared.state_fault.ParseFault.{ParseFault}
-use Rattle.notes_lang.specs.Drafting.{notes_of}
+use Rattle.notes_value.specs.NoteViews.{notes_of}
 use Rattle.report_replay.specs.Readings.{told_of}
 use Rattle.report_replay.proofs.Lines.{told_left}
 use Rattle.report_replay.proofs.reading.read_text.Goals as goal

@@ -6,7 +6,7 @@ use Rattle.call_spec.specs.Calls.{Answer, plain_answer}
 use Rattle.clause_spec.specs.Checks.{text_limit}
 use Rattle.state_text.specs.Starts as states
 use Rattle.state_text.specs.Readings.{fault_of}
-use Rattle.notes_lang.specs.Drafting.{notes_of}
+use Rattle.notes_value.specs.NoteViews.{notes_of}
 use Rattle.report_replay.specs.Readings.{told_of}
 use Rattle.report_replay.proofs.Answers.{large_is, told_is, told_written, told_step}
 use Rattle.report_replay.proofs.replays.replay.Goals as goal

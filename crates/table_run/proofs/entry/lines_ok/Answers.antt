@@ -1,6 +1,6 @@
 use Rattle.std.proofs.Common.{ℕ, Bool, sym, subst}
 use Rattle.notes_value.specs.Reads.{IsReadable, AreReadable}
-use Rattle.notes_lang.specs.Drafting.{notes_of, note_line_of}
+use Rattle.notes_value.specs.NoteViews.{notes_of, note_line_of}
 use Rattle.table_run.proofs.Lists.{unmapped}
 use Rattle.table_run.proofs.entry.lines_ok.Goals as goal
 

@@ -1,6 +1,6 @@
 use Rattle.std.proofs.Common.{◌≡◌, drop, map}
 use Rattle.bilv_spec.specs.Verdict.{fixed}
-use Rattle.notes_lang.specs.Drafting.{fixed_of}
+use Rattle.notes_value.specs.NoteViews.{fixed_of}
 use Rattle.table_run.proofs.filling.is_fixed.Given as goal
 
 abbrev pub invariant-loop-range : goal.invariant-loop-range

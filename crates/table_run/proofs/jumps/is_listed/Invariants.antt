@@ -1,7 +1,7 @@
 use Rattle.std.proofs.Common.{◌≡◌, ℕ, ◌≤◌, ◌<◌, get_or, false}
 use Rattle.std.specs.Prelude.{nat_eq}
 use Rattle.std.specs.List.{list_any}
-use Rattle.notes_lang.specs.declared.notes.Targets.{Targets}
+use Rattle.notes_value.specs.declared.notes.Targets.{Targets}
 use Rattle.table_run.proofs.jumps.is_listed.Given as goal
 
 abbrev pub invariant-loop-i : goal.invariant-loop-i

@@ -1,6 +1,6 @@
 use Rattle.std.proofs.Common.{◌≡◌, ℕ, ◌≤◌, ◌<◌, length, get_or, true, false}
 use Rattle.word_spec.specs.Memory.{endian}
-use Rattle.notes_lang.specs.declared.notes.Assert.{Assert}
+use Rattle.notes_value.specs.declared.notes.Assert.{Assert}
 use Rattle.table_run.specs.Asserts.{is_hit}
 use Rattle.table_run.proofs.lines.false_assert.Given as goal
 

@@ -1,7 +1,7 @@
 use Rattle.std.proofs.Common.{◌≡◌, drop, map}
 use Rattle.word_spec.specs.Memory.{endian}
 use Rattle.bilv_spec.specs.Run as meaning
-use Rattle.notes_lang.specs.Drafting.{note_line_of}
+use Rattle.notes_value.specs.NoteViews.{note_line_of}
 use Rattle.table_run.proofs.lines.false_line.Given as goal
 
 abbrev pub invariant-loop-line : goal.invariant-loop-line

@@ -1,5 +1,5 @@
 use Rattle.std.proofs.Common.{map, arith}
-use Rattle.notes_lang.specs.Drafting.{fixed_of}
+use Rattle.notes_value.specs.NoteViews.{fixed_of}
 use Rattle.table_run.proofs.Memories.{has_all, given_more, given_all}
 use Rattle.table_run.proofs.memory.memory_at.Goals as goal
 

@@ -1,5 +1,5 @@
 use Rattle.std.proofs.Common.{◌-◌, ◌^◌, map}
-use Rattle.notes_lang.specs.Drafting.{fixed_of}
+use Rattle.notes_value.specs.NoteViews.{fixed_of}
 use Rattle.table_run.specs.Known.{HasGiven}
 use Rattle.table_run.proofs.memory.memory_at.Given as goal
 

@@ -5,8 +5,8 @@ use Rattle.word_spec.specs.State.{State}
 use Rattle.bilv_spec.specs.Notes.{value}
 use Rattle.model_spec.specs.Reads.{expression_reads}
 use Rattle.notes_value.specs.Views.{expr_of}
-use Rattle.notes_lang.specs.declared.notes.Assert.{Assert}
-use Rattle.notes_lang.specs.Drafting.{assert_of}
+use Rattle.notes_value.specs.declared.notes.Assert.{Assert}
+use Rattle.notes_value.specs.NoteViews.{assert_of}
 use Rattle.table_run.proofs.AssertGroups.{left_begins, left_more, left_stops, left_ends, not_zero, is_zero}
 use Rattle.table_run.proofs.reads.add_assert_reads.Goals as goal
 

@@ -1,7 +1,7 @@
 use Rattle.std.proofs.Common.{◌++◌, map}
 use Rattle.word_spec.specs.Memory.{endian}
 use Rattle.model_spec.specs.Reads.{assert_reads}
-use Rattle.notes_lang.specs.Drafting.{assert_of}
+use Rattle.notes_value.specs.NoteViews.{assert_of}
 use Rattle.table_run.proofs.AssertGroups.{IsLeft}
 use Rattle.table_run.proofs.reads.add_assert_reads.Given as goal
 

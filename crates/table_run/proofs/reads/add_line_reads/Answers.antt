@@ -4,8 +4,8 @@ use Rattle.word_spec.specs.State.{State}
 use Rattle.bilv_spec.specs.Notes.{value, is_true}
 use Rattle.model_spec.specs.Reads.{expression_reads, line_reads}
 use Rattle.notes_value.specs.Views.{expr_of}
-use Rattle.notes_lang.specs.Drafting.{note_line_of}
-use Rattle.notes_lang.specs.declared.notes.NoteLine.{NoteLine}
+use Rattle.notes_value.specs.NoteViews.{note_line_of}
+use Rattle.notes_value.specs.declared.notes.NoteLine.{NoteLine}
 use Rattle.table_run.proofs.AssertGroups.{line_true, line_false, goes_on, stops_there}
 use Rattle.table_run.proofs.reads.add_line_reads.Goals as goal
 

@@ -1,7 +1,7 @@
 use Rattle.std.proofs.Common.{◌≡◌, ◌++◌, drop, map}
 use Rattle.word_spec.specs.Memory.{endian}
 use Rattle.model_spec.specs.Reads.{line_reads}
-use Rattle.notes_lang.specs.Drafting.{note_line_of}
+use Rattle.notes_value.specs.NoteViews.{note_line_of}
 use Rattle.table_run.proofs.reads.add_line_reads.Given as goal
 
 abbrev pub invariant-loop-line : goal.invariant-loop-line

@@ -6,8 +6,8 @@ use Rattle.machine_spec.specs.Machine.{Row, addresses}
 use Rattle.model_spec.specs.Reads.{assert_reads}
 use Rattle.table_run.specs.Programs.{program_of}
 use Rattle.table_run.proofs.Reached.{early_none, early_some}
-use Rattle.notes_lang.specs.declared.notes.Assert.{Assert}
-use Rattle.notes_lang.specs.Drafting.{assert_of}
+use Rattle.notes_value.specs.declared.notes.Assert.{Assert}
+use Rattle.notes_value.specs.NoteViews.{assert_of}
 use Rattle.table_run.proofs.Lists.{unmapped}
 use Rattle.table_run.proofs.reads.add_step_reads.Goals as goal
 

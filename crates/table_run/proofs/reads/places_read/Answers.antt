@@ -3,8 +3,8 @@ use Rattle.word_spec.specs.Memory.{endian}
 use Rattle.word_spec.specs.State.{State}
 use Rattle.model_spec.specs.Reads.{line_reads}
 use Rattle.notes_value.specs.Reads.{IsReadable}
-use Rattle.notes_lang.specs.Drafting.{note_line_of}
-use Rattle.notes_lang.specs.declared.notes.NoteLine.{NoteLine}
+use Rattle.notes_value.specs.NoteViews.{note_line_of}
+use Rattle.notes_value.specs.declared.notes.NoteLine.{NoteLine}
 use Rattle.table_run.specs.Programs.{program_of}
 use Rattle.table_run.specs.Traces.{early_reads}
 use Rattle.table_run.specs.declared.reads.Stage.TheVariants as stage

@@ -2,8 +2,8 @@ use Rattle.std.proofs.Common.{ap, ◌∙◌, map, List}
 use Rattle.word_spec.specs.State.{State}
 use Rattle.bilv_spec.specs.Run.{false_assert}
 use Rattle.notes_value.specs.Reads.{IsReadable}
-use Rattle.notes_lang.specs.Drafting.{assert_of}
-use Rattle.notes_lang.specs.declared.notes.Assert.{Assert}
+use Rattle.notes_value.specs.NoteViews.{assert_of}
+use Rattle.notes_value.specs.declared.notes.Assert.{Assert}
 use Rattle.table_run.specs.Programs.{program_of}
 use Rattle.table_run.proofs.Lists.{unmapped}
 use Rattle.table_run.proofs.Reached.{reached_none}

@@ -4,7 +4,7 @@ use Rattle.bilv_spec.specs.Files.{program_of}
 use Rattle.bilv_spec.specs.Reports.{turns_within}
 use Rattle.bilv_spec.specs.Answers.{start_in}
 use Rattle.state_text.specs.Starts.{written_of}
-use Rattle.notes_lang.specs.Drafting.{notes_of}
+use Rattle.notes_value.specs.NoteViews.{notes_of}
 use Rattle.table_run.specs.Endings.{found_of}
 use Rattle.table_run.proofs.Founds.{found_same, start_is, no_bound, some_bound}
 use Rattle.table_run.proofs.runs.run.Goals as goal

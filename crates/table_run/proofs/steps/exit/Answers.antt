@@ -1,5 +1,5 @@
 use Rattle.notes_value.specs.Reads.{IsReadable}
-use Rattle.notes_lang.specs.Drafting.{note_line_of}
+use Rattle.notes_value.specs.NoteViews.{note_line_of}
 use Rattle.table_run.proofs.Lists.{unmapped}
 use Rattle.table_run.proofs.steps.exit.Goals as goal
 

@@ -1,6 +1,6 @@
 use Rattle.std.proofs.Common.{arith, sym}
 use Rattle.notes_value.specs.Reads.{IsReadable}
-use Rattle.notes_lang.specs.Drafting.{assert_of}
+use Rattle.notes_value.specs.NoteViews.{assert_of}
 use Rattle.table_run.proofs.Stepped.{lawful_row}
 use Rattle.table_run.proofs.Lists.{unmapped}
 use Rattle.table_run.proofs.steps.walk.Goals as goal

@@ -2,7 +2,7 @@ use Rattle.std.proofs.Common.{◌+◌, [], sym, subst}
 use Rattle.word_spec.specs.Memory.{byte_in}
 use Rattle.bilv_spec.specs.Files.{program_of}
 use Rattle.model_spec.specs.Models.{all_reads}
-use Rattle.notes_lang.specs.Drafting.{notes_of}
+use Rattle.notes_value.specs.NoteViews.{notes_of}
 use Rattle.table_run.specs.Traces.{TakesChoices, last_of}
 use Rattle.table_run.proofs.Listings.{listed_all}
 use Rattle.table_run.proofs.TracedRuns.{entry_read}

@@ -7,7 +7,7 @@ use Rattle.verdict.proofs.early.ask_fails.Goals as goal
 pub free_inputs-inputs-requires : goal.free_inputs-inputs-requires
 free_inputs-inputs-requires g c =
     few_points (program_of_function g.M.Machine.machine c.args.function.now) g.M.Machine.form c.args.budget.now c.args.whole.now c.requires.whole
-    c.requires.budget.points.1
+    c.args.budget.now.in_range.points.1
 
 pub returns-in-Refuted : goal.returns-in-Refuted
 returns-in-Refuted g c =

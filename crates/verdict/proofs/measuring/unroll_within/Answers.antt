@@ -1,4 +1,4 @@
-use Rattle.notes_lang.specs.Drafting.{notes_of}
+use Rattle.notes_value.specs.NoteViews.{notes_of}
 use Rattle.verdict.specs.Verdicts.{budget_of}
 use Rattle.verdict.proofs.Grounding.{unrolled_within}
 use Rattle.verdict.proofs.measuring.unroll_within.Goals as goal
@@ -6,8 +6,8 @@ use Rattle.verdict.proofs.measuring.unroll_within.Goals as goal
 pub returns-clause-unrolled : goal.returns-clause-unrolled
 returns-clause-unrolled g c =
     unrolled_within c.args.image.now (notes_of c.args.notes.now) c.args.entry g.M.Machine.machine g.M.Machine.form
-    (budget_of c.args.budget.now) g.met.M.Machine.lawful g.met.M.Machine.fitted c.requires.file c.requires.over
-    c.ranges.entry.fits c.requires.budget.points.1 c.unroll.result
+    (budget_of c.args.budget.now) g.met.M.Machine.lawful g.met.M.Machine.fitted c.bytes.ensures c.requires.over
+    c.ranges.entry.fits c.args.budget.now.in_range.points.1 c.unroll.result
     c.unroll.ensures.unrolled c.unroll.ensures.formed c.unroll.ensures.few c.unroll.ensures.form c.unroll.ensures.addresses c.unroll.ensures.layout
     c.unroll.ensures.runs
     c.unroll.ensures.beyond

@@ -1,14 +1,14 @@
 use Rattle.verdict.specs.declared.rounds.Round.TheVariants.{Answered}
 use Rattle.verdict.specs.declared.verdicts.Answered.TheVariants as answer
-use Rattle.verdict.proofs.RoundAnswers.{askable_cells, layers, of_question, values_satisfy, log_refutes, log_spends, round_refuted, round_spent, some_memory, round_judged}
+use Rattle.verdict.proofs.RoundAnswers.{askable_cells, layers, of_question, values_satisfy, log_refutes, log_spends, round_refuted, round_spent, one_byte, round_judged}
 use Rattle.verdict.proofs.rounds.one_round.Goals as goal
 
 pub judge_values-requires-clause-askable : goal.judge_values-requires-clause-askable
 judge_values-requires-clause-askable c = askable_cells c.args.question.now c.args.added.now c.in_ok-celled.celled c.in_ok-celled.ensures c.requires.askable
 
-pub judge_values-requires-clause-some : goal.judge_values-requires-clause-some
-judge_values-requires-clause-some c =
-    some_memory c.args.added.now c.args.conflicts c.in_ok-celled.celled c.in_ok-clauses.clauses
+pub judge_values-requires-clause-one : goal.judge_values-requires-clause-one
+judge_values-requires-clause-one c =
+    one_byte c.args.added.now c.args.conflicts c.in_ok-celled.celled c.in_ok-clauses.clauses
     (layers c.args.question.now c.args.added.now c.in_ok-celled.celled c.in_ok-celled.ensures c.requires.added c.requires.tells) c.in_ok-clauses.ensures
     c.deref.result.now (values_satisfy c.in_ok-clauses.clauses c.args.conflicts c.in_ok-values.field-0 c.in-Sat.values c.deref.result.now c.in_ok-values.ensures
     c.in-Sat.is c.deref.ensures.value)

@@ -7,12 +7,12 @@ pub unreachable-requires : goal.unreachable-requires
 unreachable-requires g c =
     fails_somehow (program_of_function g.M.Machine.machine c.args.function.now) c.requires.lawful
     (function_is_read g.M.Machine.machine c.args.function.now g.met.M.Machine.lawful) g.M.Machine.form c.args.budget.now
-    c.requires.within c.requires.budget.points.0 c.args.start
+    c.requires.within c.args.budget.now.in_range.points.0 c.args.start
     c.in_ok-event.field-0 c.in_ok-event.ensures c.requires.fails c.in_default.not-Failed
 
 pub returns : goal.returns
 returns g c =
     failing (program_of_function g.M.Machine.machine c.args.function.now) c.requires.lawful
     (function_is_read g.M.Machine.machine c.args.function.now g.met.M.Machine.lawful) g.M.Machine.form c.args.budget.now
-    c.requires.within c.requires.budget.points.0 c.args.start
+    c.requires.within c.args.budget.now.in_range.points.0 c.args.start
     c.in_ok-event.field-0 c.in_ok-event.ensures c.requires.fails c.in-Failed.event c.in-Failed.at c.in-Failed.step c.in-Failed.is

@@ -7,12 +7,12 @@ pub unreachable-requires : goal.unreachable-requires
 unreachable-requires g c =
     turns_somehow (program_of_function g.M.Machine.machine c.args.function.now) c.requires.lawful
     (function_is_read g.M.Machine.machine c.args.function.now g.met.M.Machine.lawful) g.M.Machine.form c.args.budget.now
-    c.requires.within c.requires.budget.points.0 c.args.start
+    c.requires.within c.args.budget.now.in_range.points.0 c.args.start
     c.in_ok-at.field-0 c.in_ok-at.ensures c.requires.turns c.in_default.not-Turned
 
 pub returns : goal.returns
 returns g c =
     turning (program_of_function g.M.Machine.machine c.args.function.now) c.requires.lawful
     (function_is_read g.M.Machine.machine c.args.function.now g.met.M.Machine.lawful) g.M.Machine.form c.args.budget.now
-    c.requires.within c.requires.budget.points.0 c.args.start
+    c.requires.within c.args.budget.now.in_range.points.0 c.args.start
     c.in_ok-at.field-0 c.in_ok-at.ensures c.requires.never c.requires.turns c.in-Turned.at c.in-Turned.step c.in-Turned.is

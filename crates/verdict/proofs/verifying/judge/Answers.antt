@@ -11,14 +11,14 @@ pub returns-in-Refuted : goal.returns-in-Refuted
 returns-in-Refuted g c =
     vacuous_verdict (program_of_function g.M.Machine.machine c.args.function.now)
     (function_is_read g.M.Machine.machine c.args.function.now g.met.M.Machine.lawful) g.M.Machine.form c.args.budget.now
-    c.requires.within c.requires.budget.points.0
+    c.requires.within c.args.budget.now.in_range.points.0
     (unrolled_of c.args.passive.now.unrolled.now) c.requires.ground c.in_ok-start.field-0 c.in-Refuted.proof c.in_ok-start.ensures c.in-Refuted.is
 
 pub returns-in-Spent : goal.returns-in-Spent
 returns-in-Spent g c =
     spent_on_entry_verdict (program_of_function g.M.Machine.machine c.args.function.now)
     (function_is_read g.M.Machine.machine c.args.function.now g.met.M.Machine.lawful) g.M.Machine.form c.args.budget.now
-    c.requires.within c.requires.budget.points.0
+    c.requires.within c.args.budget.now.in_range.points.0
     (unrolled_of c.args.passive.now.unrolled.now) c.requires.ground c.in_ok-start.field-0 c.in-Spent.proof c.in_ok-start.ensures c.in-Spent.is
 
 pub failing-requires-clause-fails : goal.failing-requires-clause-fails
@@ -28,7 +28,7 @@ failing-requires-clause-fails g c =
     c.in-Sat-2.start
     (is_answered (program_of_function g.M.Machine.machine c.args.function.now)
     (function_is_read g.M.Machine.machine c.args.function.now g.met.M.Machine.lawful) g.M.Machine.form c.args.budget.now
-    c.requires.within c.requires.budget.points.0
+    c.requires.within c.args.budget.now.in_range.points.0
     (unrolled_of c.args.passive.now.unrolled.now) c.requires.ground FailQuestion c.in_ok-start-2.field-0
     (Sat c.in-Sat-2.start) c.in_ok-start-2.ensures c.in-Sat-2.is)
 
@@ -36,7 +36,7 @@ pub returns-in-Spent-2 : goal.returns-in-Spent-2
 returns-in-Spent-2 g c =
     spent_on_fail_verdict (program_of_function g.M.Machine.machine c.args.function.now)
     (function_is_read g.M.Machine.machine c.args.function.now g.met.M.Machine.lawful) g.M.Machine.form c.args.budget.now
-    c.requires.within c.requires.budget.points.0
+    c.requires.within c.args.budget.now.in_range.points.0
     (unrolled_of c.args.passive.now.unrolled.now) c.requires.ground c.in_ok-start.field-0 c.in-Sat.start c.in_ok-start.ensures c.in-Sat.is
     c.in_ok-start-2.field-0 c.in-Spent-2.proof c.in_ok-start-2.ensures c.in-Spent-2.is
 
@@ -44,7 +44,7 @@ pub turning-requires-clause-never : goal.turning-requires-clause-never
 turning-requires-clause-never g c =
     none_fails (program_of_function g.M.Machine.machine c.args.function.now)
     (function_is_read g.M.Machine.machine c.args.function.now g.met.M.Machine.lawful) g.M.Machine.form c.args.budget.now
-    c.requires.within c.requires.budget.points.0
+    c.requires.within c.args.budget.now.in_range.points.0
     (unrolled_of c.args.passive.now.unrolled.now) c.requires.ground c.in_ok-start.field-0 c.in-Sat.start c.in_ok-start.ensures c.in-Sat.is
     c.in_ok-start-2.field-0 c.in-Refuted-2.proof c.in_ok-start-2.ensures c.in-Refuted-2.is
 
@@ -52,7 +52,7 @@ pub turning-requires-clause-turns : goal.turning-requires-clause-turns
 turning-requires-clause-turns g c =
     is_answered (program_of_function g.M.Machine.machine c.args.function.now)
     (function_is_read g.M.Machine.machine c.args.function.now g.met.M.Machine.lawful) g.M.Machine.form c.args.budget.now
-    c.requires.within c.requires.budget.points.0
+    c.requires.within c.args.budget.now.in_range.points.0
     (unrolled_of c.args.passive.now.unrolled.now) c.requires.ground TurnQuestion c.in_ok-start-3.field-0
     (Sat c.in-Sat-3.start) c.in_ok-start-3.ensures c.in-Sat-3.is
 
@@ -60,7 +60,7 @@ pub returns-in-Refuted-3 : goal.returns-in-Refuted-3
 returns-in-Refuted-3 g c =
     holds_verdict (program_of_function g.M.Machine.machine c.args.function.now)
     (function_is_read g.M.Machine.machine c.args.function.now g.met.M.Machine.lawful) g.M.Machine.form c.args.budget.now
-    c.requires.within c.requires.budget.points.0
+    c.requires.within c.args.budget.now.in_range.points.0
     (unrolled_of c.args.passive.now.unrolled.now) c.requires.ground c.in_ok-start.field-0 c.in-Sat.start c.in_ok-start.ensures c.in-Sat.is
     c.in_ok-start-2.field-0 c.in-Refuted-2.proof c.in_ok-start-2.ensures c.in-Refuted-2.is c.in_ok-start-3.field-0 c.in-Refuted-3.turn c.in_ok-start-3.ensures
     c.in-Refuted-3.is
@@ -69,7 +69,7 @@ pub returns-in-Spent-3 : goal.returns-in-Spent-3
 returns-in-Spent-3 g c =
     spent_on_turn_verdict (program_of_function g.M.Machine.machine c.args.function.now)
     (function_is_read g.M.Machine.machine c.args.function.now g.met.M.Machine.lawful) g.M.Machine.form c.args.budget.now
-    c.requires.within c.requires.budget.points.0
+    c.requires.within c.args.budget.now.in_range.points.0
     (unrolled_of c.args.passive.now.unrolled.now) c.requires.ground c.in_ok-start.field-0 c.in-Sat.start c.in_ok-start.ensures c.in-Sat.is
     c.in_ok-start-2.field-0 c.in-Refuted-2.proof c.in_ok-start-2.ensures c.in-Refuted-2.is c.in_ok-start-3.field-0 c.in-Spent-3.proof c.in_ok-start-3.ensures
     c.in-Spent-3.is
