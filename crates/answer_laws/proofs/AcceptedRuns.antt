@@ -16,7 +16,7 @@ use Rattle.bilv_spec.specs.Questions.{IsTrue, Reading}
 use Rattle.bilv_spec.specs.Replays.{replay_answer}
 use Rattle.bilv_spec.specs.Run.{Program}
 use Rattle.bilv_spec.specs.Verdict.{IsStart}
-use Rattle.bilv_spec.specs.Verified.{AfterNotes, IsFound, elf_accepted, elf_refused, notes_refused, program_found}
+use Rattle.notes_spec.specs.Verified.{AfterNotes, IsFound, elf_accepted, elf_refused, notes_refused, program_found}
 use Rattle.answer_spec.specs.Outcomes.{IsOutcome, cut, no_memory, whole}
 use Rattle.answer_spec.proofs.Replayed.{failing_replays, turning_replays}
 use Rattle.model_spec.specs.Models as models

@@ -15,16 +15,17 @@ use Rattle.machine_spec.specs.RvMachine.{rv32}
 use Rattle.machine_spec.specs.StateText.{Layout, arm_layout, register_at, rv_layout}
 use Rattle.machine_spec.proofs.ArmFlags.{bit_at_small}
 use Rattle.bilv_spec.specs.Answers.{start_in}
-use Rattle.bilv_spec.specs.ArmNames.{arm_names}
+use Rattle.notes_spec.specs.ArmNames.{arm_names}
 use Rattle.bilv_spec.specs.Elf.{file_endian}
-use Rattle.bilv_spec.specs.Files.{IsProgram, is_rv, layout_of, machine_of, program_of}
+use Rattle.bilv_spec.specs.Files.{is_rv, layout_of, machine_of, program_of}
+use Rattle.notes_spec.specs.Programs.{IsProgram}
 use Rattle.bilv_spec.specs.Notes as notes
 use Rattle.bilv_spec.specs.Notes.{Binary, Bound, Expr, Flag, Not, NoteLine, Notes, Number, Old, Pc, Register, is_true, value}
-use Rattle.bilv_spec.specs.NotesGrammar.{IsNotesText}
+use Rattle.notes_spec.specs.NotesGrammar.{IsNotesText}
 use Rattle.bilv_spec.specs.Questions.{IsReading, Reading}
 use Rattle.bilv_spec.specs.Run.{Program, false_line}
-use Rattle.bilv_spec.specs.RvNames.{rv_names}
-use Rattle.bilv_spec.specs.Scopes.{Vocabulary}
+use Rattle.notes_spec.specs.RvNames.{rv_names}
+use Rattle.notes_spec.specs.Scopes.{Vocabulary, Plain}
 use Rattle.bilv_spec.specs.Verdict.{IsEntryState, IsStart}
 use Rattle.call_spec.specs.Calls.{Options}
 use Rattle.model_spec.specs.Models.{IsPrinted}
@@ -32,6 +33,7 @@ use Rattle.model_spec.proofs.Printed.{choices_small, enters}
 use Rattle.state_text.specs.declared.layout.Layout.TheVariants as forms
 use Rattle.state_text.specs.declared.layout.Profile.TheVariants as profiles
 use Rattle.notes_value.specs.Reads.{AreOver, IsOver}
+use Rattle.notes_lang.specs.declared.notes.Dialect.TheVariants as dialects
 use Rattle.notes_lang.proofs.Readable.{notes_over}
 
 -- ---- states that are the same but for the registers and flags that a machine does not have
@@ -111,12 +113,12 @@ shown_by false e o = record {
 -- ---- notes are over the registers and flags of the machine of their file
 
 abbrev words_by : (b : Bool) → Endian → Options → Vocabulary
-words_by b e o = record { names = λ w. if b then rv_names w else arm_names w; narrow = (if b then rv32 o.compressed else arm e o.profile).narrow }
+words_by b e o = record { names = λ w. if b then rv_names w else arm_names w; narrow = (if b then rv32 o.compressed else arm e o.profile).narrow; dialect = Plain }
 
 over_by : (b : Bool) (e : Endian) (o : Options) (text : List ℕ) (n : Notes) → IsNotesText (words_by b e o) text n →
     AreOver (if b then rv32 o.compressed else arm e o.profile).has_register (if b then rv32 o.compressed else arm e o.profile).has_flag n
-over_by true e o text n is = notes_over (forms.Rv32 o.compressed) text n is
-over_by false e o text n is = notes_over (forms.Arm false profiles.V4) text n is
+over_by true e o text n is = notes_over (forms.Rv32 o.compressed) dialects.Plain text n is
+over_by false e o text n is = notes_over (forms.Arm false profiles.V4) dialects.Plain text n is
 
 -- ---- the printed start
 

@@ -6,15 +6,16 @@ use Rattle.answer_laws.specs.Replayed.{AreBytes}
 use Rattle.answer_laws.specs.Told.{AreToldTo, AfterPairFiles}
 use Rattle.answer_laws.proofs.EndingNames.{exit_is_written}
 use Rattle.answer_laws.proofs.LinkLines.{differing_few}
-use Rattle.answer_laws.proofs.OneProgram.{one_program, refused_or_accepted, refused_or_found}
+use Rattle.answer_laws.proofs.OneProgram.{one_program, refused_or_accepted, paired_refused_or_found}
 use Rattle.answer_laws.proofs.Told.{answer_told, outcome_told}
 use Rattle.answer_laws.proofs.TwoCalls.{printed_is}
 use Rattle.answer_spec.specs.Outcomes.{IsOutcome, whole, cut, no_memory}
 use Rattle.bilv_spec.specs.Answers.{Report, HoldsReport, VacuousReport, FailsReport, UnrollReport, PointsReport, SizeReport, ConflictsReport, IsRightReport, start_in}
-use Rattle.bilv_spec.specs.Files.{names_of, layout_of}
+use Rattle.bilv_spec.specs.Files.{layout_of}
+use Rattle.notes_spec.specs.Programs.{names_of}
 use Rattle.bilv_spec.specs.Points.{Point, IsPoint, HasMore}
 use Rattle.bilv_spec.specs.Run.{Program}
-use Rattle.bilv_spec.specs.Verified.{IsFound}
+use Rattle.notes_spec.specs.Verified.{IsFound}
 use Rattle.call_spec.specs.Calls.{Answer, Budget, IsBudget, Evidence, NoEvidence, Refutations, EntryRefuted, RunOf, SpentOn, Count, Two, Both, SpentOnPair, Options, Surroundings, plain_answer}
 use Rattle.call_spec.specs.Outside.{Appends}
 use Rattle.clause_spec.specs.Checks.{text_limit}
@@ -62,9 +63,9 @@ module _ (o : Options) (content : List ℕ → List ℕ) (names : PairNames) whe
   determined due a x (elf_refused w y is) = absurd (refused_or_accepted (content names.elf) w y x.first_found.0)
   determined due a x (elf_accepted f (elf_refused w y is)) = absurd (refused_or_accepted (content names.other_elf) w y x.second_found.0)
   determined due a x (elf_accepted f (elf_accepted g (notes_refused w y is))) =
-      absurd (refused_or_found o (content names.elf) (content names.notes) w x.first y x.first_found)
+      absurd (paired_refused_or_found o (content names.elf) (content names.notes) w x.first y x.first_found)
   determined due a x (elf_accepted f (elf_accepted g (program_found p m (notes_refused w y is)))) =
-      absurd (refused_or_found o (content names.other_elf) (content names.other_notes) w x.second y x.second_found)
+      absurd (paired_refused_or_found o (content names.other_elf) (content names.other_notes) w x.second y x.second_found)
   determined due a x (elf_accepted f (elf_accepted g (program_found p m (program_found q n (too_large large is))))) =
       absurd (let short = x.short in omega (arith, short, large))
   determined due a x (elf_accepted f (elf_accepted g (program_found p m (program_found q n (refused i fault short first is))))) =

@@ -10,7 +10,7 @@ use Rattle.word_spec.specs.State.{Written}
 use Rattle.call_spec.specs.Calls.{Options, Budget, Evidence, Refutations, EntryRefuted, RunOf, SpentOn, Count, Answer, plain_answer, Surroundings, AfterRead, read_failed, was_read}
 use Rattle.bilv_spec.specs.Files.{layout_of}
 use Rattle.bilv_spec.specs.Answers.{Report, HoldsReport, VacuousReport, FailsReport, UnrollReport, PointsReport, SizeReport, ConflictsReport, IsRightReport, EndsAs, start_in, report_answer, report_text, status_of, IsReported}
-use Rattle.bilv_spec.specs.Verified.{IsAccepted, IsFound, AfterImage, elf_refused, elf_accepted, AfterNotes, notes_refused, program_found}
+use Rattle.notes_spec.specs.Verified.{IsAccepted, IsFound, AfterImage, elf_refused, elf_accepted, AfterNotes, notes_refused, program_found}
 use Rattle.command_spec.specs.Commands.{Verify}
 use Rattle.answer_spec.specs.Outcomes.{IsOutcome, whole, cut, no_memory}
 use Rattle.bilv_spec.proofs.AllPoints.{one_price}

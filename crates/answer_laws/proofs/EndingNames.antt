@@ -8,7 +8,8 @@ use Rattle.bilv_spec.specs.Verdict.{IsEntryState}
 use Rattle.bilv_spec.specs.Questions.{by_file}
 use Rattle.bilv_spec.specs.PointLaws.{HasLawfulRows, ReadsMemory}
 use Rattle.call_spec.specs.Calls.{Options, Budget, Evidence, RunOf, plain_answer}
-use Rattle.bilv_spec.specs.Files.{is_rv, IsProgram, layout_of}
+use Rattle.bilv_spec.specs.Files.{is_rv, layout_of}
+use Rattle.notes_spec.specs.Programs.{IsProgram}
 use Rattle.bilv_spec.specs.Elf.{file_endian}
 use Rattle.machine_spec.specs.StateText.{Layout, IsEvent, IsNamed, last_step}
 use Rattle.word_spec.specs.Texts.{line}
@@ -20,7 +21,8 @@ use Rattle.bilv_spec.proofs.Over.{one_end}
 use Rattle.bilv_spec.proofs.PointRuns.{Stands, stands}
 use Rattle.bilv_spec.proofs.ReadingRuns.{Numbered, numbered}
 use Rattle.bilv_spec.proofs.FileWords.{runs_by_file}
-use Rattle.bilv_spec.proofs.ProgramRows.{machine_lawful, program_rows_are_lawful}
+use Rattle.bilv_spec.proofs.ProgramRows.{machine_lawful}
+use Rattle.notes_spec.proofs.ProgramTexts.{program_rows_are_lawful}
 use Rattle.answer_spec.proofs.Replayed.{report_replays}
 use Rattle.answer_laws.specs.Replayed.{AreBytes, IsReplayable}
 use Rattle.walk_laws.proofs.RunEnds.{few_points_end_runs}

@@ -10,7 +10,7 @@ use Rattle.bilv_spec.specs.Notes.{BitXor}
 use Rattle.machine_spec.specs.Rv.{reg, with_reg, on, rv_row, table, sets, fields, imm_i, jalr}
 use Rattle.command_spec.specs.Work.{next_item, item_kind, item_number, item_word, result_of, item_words, result_from}
 use Rattle.machine_spec.proofs.RvRows.{addi_row}
-use Rattle.bilv_spec.proofs.NotesWords.{apply_word}
+use Rattle.notes_spec.proofs.NotesWords.{apply_word}
 use Rattle.machine_spec.proofs.WordBounds.{shl_below}
 
 other : (w n m : ℕ) → bits 6 0 w ≡ m → bits 6 0 n ≢ m → (w == n) ≡ false

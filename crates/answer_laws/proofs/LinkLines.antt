@@ -4,7 +4,7 @@ use Rattle.std.specs.Prelude.{if◌then◌else◌}
 use Rattle.word_spec.specs.Tokens.{Token}
 use Rattle.word_spec.specs.State.{State}
 use Rattle.bilv_spec.specs.Notes.{Expr}
-use Rattle.bilv_spec.specs.NotesGrammar.{lines_of}
+use Rattle.notes_spec.specs.NotesGrammar.{lines_of}
 use Rattle.pair_spec.specs.Links.{Link, line_of, first_line, differing_line, agrees_at_exit, Says, Nothing, LinkIs, IsSaid, AreLines, IsLinksText, links_in}
 
 -- the lines of some links are within those

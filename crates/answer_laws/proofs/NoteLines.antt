@@ -5,10 +5,10 @@ use Rattle.word_spec.specs.Memory.{Endian}
 use Rattle.word_spec.specs.State.{State}
 use Rattle.machine_spec.specs.Machine.{Row, How, On, Direct, DirectCall, Indirect, IndirectCall, Exception, EnvironmentCall, Breakpoint, SoftwareInterrupt, OddHalfword, UnalignedLoad, Outcome, Goes, Raises}
 use Rattle.bilv_spec.specs.Notes.{NoteLine, Assert, value, is_true}
-use Rattle.bilv_spec.specs.NotesGrammar.{Says, Nothing, EntryIs, RequireIs, EnsureIs, AssertIs, TargetsAre, FixedIs, VersionIs, ConstIs, LoadedIs, AreLines, after, is_second, line_limit, lines_of, ensures_of, asserts_of}
-use Rattle.bilv_spec.specs.Scopes.{Scope, begin}
+use Rattle.notes_spec.specs.NotesGrammar.{Says, Nothing, EntryIs, RequireIs, EnsureIs, AssertIs, TargetsAre, FixedIs, VersionIs, ConstIs, LoadedIs, InvariantIs, NeedIs, GiveIs, ModifiesAre, WritesAre, AreLines, after, is_second, line_limit, lines_of, ensures_of, asserts_of}
+use Rattle.notes_spec.specs.Scopes.{Scope, begin}
 use Rattle.call_spec.specs.Calls.{Options}
-use Rattle.bilv_spec.specs.Files.{IsProgram, vocabulary_of}
+use Rattle.notes_spec.specs.Programs.{IsProgram, vocabulary_of}
 use Rattle.machine_spec.specs.StateText.{IsEvent}
 use Rattle.bilv_spec.specs.Run.{Program, Place, Step, Stops, Arrives, Exits, false_assert, false_line, step, after_asserts, by_fetch, by_row, after_row, exception_event, going_on, aligned_transfer, transfer, leave, exit_or, exit_by, return_or, allowed, exit}
 
@@ -37,6 +37,11 @@ few_asserts n (FixedIs low high ∷ says) h = few_asserts (n + 1) says (omega ar
 few_asserts n (VersionIs b ∷ says) h = few_asserts (n + 1) says (omega arith)
 few_asserts n (ConstIs w v ∷ says) h = few_asserts (n + 1) says (omega arith)
 few_asserts n (LoadedIs ∷ says) h = few_asserts (n + 1) says (omega arith)
+few_asserts n (InvariantIs a e ∷ says) h = (omega arith, few_asserts (n + 1) says (omega arith))
+few_asserts n (NeedIs a e ∷ says) h = few_asserts (n + 1) says (omega arith)
+few_asserts n (GiveIs a e ∷ says) h = few_asserts (n + 1) says (omega arith)
+few_asserts n (ModifiesAre a cs ∷ says) h = few_asserts (n + 1) says (omega arith)
+few_asserts n (WritesAre a e count ∷ says) h = few_asserts (n + 1) says (omega arith)
 
 few_lines : (n : ℕ) (says : List Says) → n + length says ≤ 8192 → AreFewLines (ensures_of n says)
 few_lines n [] h = tt
@@ -50,6 +55,11 @@ few_lines n (FixedIs low high ∷ says) h = few_lines (n + 1) says (omega arith)
 few_lines n (VersionIs b ∷ says) h = few_lines (n + 1) says (omega arith)
 few_lines n (ConstIs w v ∷ says) h = few_lines (n + 1) says (omega arith)
 few_lines n (LoadedIs ∷ says) h = few_lines (n + 1) says (omega arith)
+few_lines n (InvariantIs a e ∷ says) h = few_lines (n + 1) says (omega arith)
+few_lines n (NeedIs a e ∷ says) h = few_lines (n + 1) says (omega arith)
+few_lines n (GiveIs a e ∷ says) h = few_lines (n + 1) says (omega arith)
+few_lines n (ModifiesAre a cs ∷ says) h = few_lines (n + 1) says (omega arith)
+few_lines n (WritesAre a e count ∷ says) h = few_lines (n + 1) says (omega arith)
 
 as_many : (s : Scope) (texts : List (List ℕ)) (says : List Says) → AreLines s texts says → length says ≡ length texts
 as_many s [] [] lines = refl

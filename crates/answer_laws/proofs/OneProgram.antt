@@ -1,16 +1,19 @@
 -- Two files have one program or one refusal.
-use Rattle.std.proofs.Common.{Bool, ◌≡◌, ◌⊎◌, inl, inr, ℕ, ◌<◌, ◌≤◌, refl, ap, sym, ◌∙◌, subst, arith, List}
+use Rattle.std.proofs.Common.{Bool, ◌≡◌, ◌⊎◌, inl, inr, ℕ, ◌<◌, ◌≤◌, refl, ap, sym, ◌∙◌, subst, arith, List, length}
 use Rattle.bilv_spec.specs.Notes.{Notes, Function, At, Named}
-use Rattle.bilv_spec.specs.NotesGrammar.{IsNotesText}
-use Rattle.bilv_spec.specs.NotesFaults.{NoteFault, IsFirstNoteFault}
+use Rattle.notes_spec.specs.NotesGrammar.{IsNotesText}
+use Rattle.notes_spec.specs.NotesFaults.{NoteFault, IsFirstNoteFault}
 use Rattle.bilv_spec.specs.ElfFaults.{IsFunction, Finds, IsAmbiguous}
 use Rattle.bilv_spec.specs.Run.{Program}
 use Rattle.call_spec.specs.Calls.{Options}
-use Rattle.bilv_spec.specs.Files.{vocabulary_of, machine_of, program_of, IsFunctionAt, IsProgram}
-use Rattle.bilv_spec.specs.Verified.{IsAccepted, IsElfRefused, elf_large, elf_fault, elf_fault_text, AreNotesRefused, notes_large, notes_fault, no_function, ambiguous, note_fault_text, ambiguous_text, IsFound}
+use Rattle.bilv_spec.specs.Files.{machine_of, program_of, IsFunctionAt}
+use Rattle.notes_spec.specs.Programs.{vocabulary_of, IsProgram}
+use Rattle.notes_spec.specs.Verified.{IsAccepted, IsElfRefused, elf_large, elf_fault, elf_fault_text, AreNotesRefused, AreNotesRefusedIn, notes_limit, notes_large, notes_fault, no_function, ambiguous, note_fault_text, ambiguous_text, IsFound}
 use Rattle.bilv_spec.proofs.Faults as elf
-use Rattle.bilv_spec.proofs.NotesFirst as notes
-use Rattle.bilv_spec.proofs.NotesSaid.{one_reading}
+use Rattle.notes_spec.proofs.NotesFirst as notes
+use Rattle.notes_spec.specs.Scopes.{Dialect, Plain, Paired, in_dialect}
+use Rattle.notes_spec.proofs.NotesSaid.{one_reading}
+use Rattle.notes_spec.proofs.Dialects.{paired_is_plain}
 
 same_notes : (o : Options) (file text : List ℕ) (m n : Notes) → IsNotesText (vocabulary_of o file) text m → IsNotesText (vocabulary_of o file) text n → m ≡ n
 same_notes o file text m n a b = one_reading (vocabulary_of o file) text m n a b
@@ -99,13 +102,24 @@ found_named : (narrow : Bool) (file : List ℕ) (f : Function) (name : List ℕ)
     Finds narrow file name entry
 found_named narrow file f name entry e is = subst (λ (z : Function). IsFunctionAt narrow file z entry) e is
 
-pub refused_or_found : (o : Options) (file text w : List ℕ) (p : Program) → AreNotesRefused o file text w → IsFound o file text p → ⊥
-refused_or_found o file text _ p (notes_large h) is = omega (arith, h, is.1)
-refused_or_found o file text _ p (notes_fault n f h x) is = faultless o file text is.2.0 n f is.2.2 x
-refused_or_found o file text _ p (no_function m name h t e none) is =
-    let same : is.2.0.entry ≡ Named name = ap (λ z. z.entry) (same_notes o file text is.2.0 m is.2.2 t) ∙ e in
-    none is.2.1 (found_named (machine_of o file).narrow file is.2.0.entry name is.2.1 same is.2.3).0
-refused_or_found o file text _ p (ambiguous m name a c h t e two) is =
-    let same : is.2.0.entry ≡ Named name = ap (λ z. z.entry) (same_notes o file text is.2.0 m is.2.2 t) ∙ e in
-    let finds = found_named (machine_of o file).narrow file is.2.0.entry name is.2.1 same is.2.3 in
+-- Notes that are refused in a dialect where they are notes in it too name no other program.
+refused_by : (d : Dialect) (o : Options) (file text w : List ℕ) (m : Notes) (entry : ℕ) → AreNotesRefusedIn d o file text w → length text ≤ notes_limit →
+    IsNotesText (in_dialect d (vocabulary_of o file)) text m →
+    IsFunctionAt (machine_of o file).narrow file m.entry entry → ⊥
+refused_by d o file text _ m entry (notes_large h) short is at = omega (arith, h, short)
+refused_by d o file text _ m entry (notes_fault n f h x) short is at = notes.never_both (in_dialect d (vocabulary_of o file)) text m n f is x
+refused_by d o file text _ m entry (no_function k name h t e none) short is at =
+    let same : m.entry ≡ Named name = ap (λ z. z.entry) (one_reading (in_dialect d (vocabulary_of o file)) text m k is t) ∙ e in
+    none entry (found_named (machine_of o file).narrow file m.entry name entry same at).0
+refused_by d o file text _ m entry (ambiguous k name a c h t e two) short is at =
+    let same : m.entry ≡ Named name = ap (λ z. z.entry) (one_reading (in_dialect d (vocabulary_of o file)) text m k is t) ∙ e in
+    let finds = found_named (machine_of o file).narrow file m.entry name entry same at in
     let x = finds.1 a two.0 in let y = finds.1 c two.1 in let l = two.2 in omega arith
+
+pub refused_or_found : (o : Options) (file text w : List ℕ) (p : Program) → AreNotesRefused o file text w → IsFound o file text p → ⊥
+refused_or_found o file text w p refused is = refused_by Plain o file text w is.2.0 is.2.1 refused is.1 is.2.2 is.2.3
+
+-- so where two functions are compared
+pub paired_refused_or_found : (o : Options) (file text w : List ℕ) (p : Program) → AreNotesRefusedIn Paired o file text w → IsFound o file text p → ⊥
+paired_refused_or_found o file text w p refused is =
+    refused_by Paired o file text w is.2.0 is.2.1 refused is.1 ((paired_is_plain (vocabulary_of o file) text is.2.0).1 is.2.2) is.2.3

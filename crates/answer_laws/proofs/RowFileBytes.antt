@@ -9,7 +9,7 @@ use Rattle.bilv_spec.specs.Elf.{Segment, segments, loaded, covers, cell_in}
 use Rattle.bilv_spec.specs.ElfFaults.{IsImage, IsLoad, ShortFile, BadMagic, BadClass, BadData, BadVersion, BadType, BadMachine, BadHeaderTable, BadSegmentRange, BadFileSize, SegmentsOverlap, BadSymbolTable}
 use Rattle.bilv_spec.specs.Points.{byte_of_cell}
 use Rattle.word_spec.specs.RowFiles.{bytes_of, headers, rv_file}
-use Rattle.bilv_spec.specs.Verified.{IsAccepted}
+use Rattle.notes_spec.specs.Verified.{IsAccepted}
 
 -- the bytes of the words
 abbrev pub code : List ℕ → List ℕ

@@ -18,7 +18,7 @@ use Rattle.pair_spec.specs.Links.{Link}
 use Rattle.clause_spec.specs.Checks.{IsChecked}
 use Rattle.bilv_spec.specs.Run.{Program}
 use Rattle.bilv_spec.specs.Scripts.{IsScriptAnswer}
-use Rattle.bilv_spec.specs.Verified.{AfterImage, elf_refused, elf_accepted, AfterNotes, notes_refused, program_found}
+use Rattle.notes_spec.specs.Verified.{AfterImage, elf_refused, elf_accepted, AfterNotes, notes_refused, program_found}
 use Rattle.answer_laws.specs.Told.{IsTold, IsPairTold, AreToldTo, AfterFiles, AfterPairFiles, IsAnswerTo, IsAnswered}
 
 budgets_met : (p : Program) (b : Budget) (Next Other : Answer → Type 0) (a : Answer) → (Next a → Other a) → AfterBudgets p b Next a →

@@ -23,7 +23,7 @@ use Rattle.clause_spec.specs.Checks.{text_limit, IsChecked}
 use Rattle.machine_spec.specs.Endings.{NamedEnding, FailsBy, UnknownBy, named_line}
 use Rattle.bilv_spec.specs.Run.{Program}
 use Rattle.word_spec.specs.Texts.{line}
-use Rattle.bilv_spec.specs.Verified.{AfterImage, elf_refused, elf_accepted, AfterNotes, notes_refused, program_found, IsFound, IsVerified}
+use Rattle.notes_spec.specs.Verified.{AfterImage, elf_refused, elf_accepted, AfterNotes, notes_refused, program_found, IsFound, IsVerified}
 use Rattle.bilv_spec.proofs.CertifiedQuestions.{certified_is_accepted}
 use Rattle.clause_spec.proofs.OneCheck.{one_check}
 use Rattle.answer_laws.specs.Told.{AreToldTo, AfterFiles}

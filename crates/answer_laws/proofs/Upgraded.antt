@@ -5,18 +5,19 @@ use Rattle.std.proofs.lemmas.Bool.Decides.{nat_tests}
 use Rattle.call_spec.specs.Outside.{Appends}
 use Rattle.bilv_spec.specs.Run.{Program}
 use Rattle.bilv_spec.specs.Verdict.{Verdict, IsRight}
-use Rattle.bilv_spec.specs.NotesGrammar.{lines_of, is_second, IsNotesText}
-use Rattle.bilv_spec.specs.RvNames.{rv_names}
-use Rattle.bilv_spec.specs.ArmNames.{arm_names}
+use Rattle.notes_spec.specs.NotesGrammar.{lines_of, is_second, IsNotesText}
+use Rattle.notes_spec.specs.RvNames.{rv_names}
+use Rattle.notes_spec.specs.ArmNames.{arm_names}
 use Rattle.call_spec.specs.Calls.{Options, Evidence, Answer, plain_answer, Surroundings, AfterRead}
-use Rattle.bilv_spec.specs.Files.{is_rv, vocabulary_of}
+use Rattle.bilv_spec.specs.Files.{is_rv}
+use Rattle.notes_spec.specs.Programs.{vocabulary_of}
 use Rattle.word_spec.specs.Texts.{line}
-use Rattle.bilv_spec.specs.Upgrades.{upgraded, later_notes, later_program}
-use Rattle.bilv_spec.specs.Verified.{notes_limit, IsFound, AfterImage, elf_refused, elf_accepted, AfterNotes, notes_refused, program_found}
+use Rattle.notes_spec.specs.Upgrades.{upgraded, later_notes, later_program}
+use Rattle.notes_spec.specs.Verified.{notes_limit, IsFound, AfterImage, elf_refused, elf_accepted, AfterNotes, notes_refused, program_found}
 use Rattle.command_spec.specs.Commands.{Upgrade}
 use Rattle.answer_spec.specs.Outcomes.{upgrade_answer, IsOutcome, whole, cut, no_memory}
-use Rattle.bilv_spec.proofs.LaterRuns.{verdict_is_same}
-use Rattle.bilv_spec.proofs.Upgrading.{upgrade_says_same, none_is_all}
+use Rattle.notes_spec.proofs.LaterRuns.{verdict_is_same}
+use Rattle.notes_spec.proofs.Upgrading.{upgrade_says_same, none_is_all}
 use Rattle.answer_laws.specs.Completeness.{AreTold}
 use Rattle.answer_laws.specs.Upgrading.{KeepsVerdict}
 use Rattle.answer_laws.proofs.Completeness.{read_calm}

@@ -17,10 +17,10 @@ use Rattle.std.proofs.lemmas.List.Sums.{take_while-cons}
 use Rattle.std.proofs.lemmas.Str.Parse.{digit_from_value}
 use Rattle.bilv_spec.specs.Notes.{Expr, Register, Number, Binary, Equal, At}
 use Rattle.word_spec.specs.Tokens.{Token, NumberToken, NameToken, SignToken, is_digit, is_hexadecimal, number_length, number_value, begins_with_letter, BadText, run_of, tokens_after, tokens_of}
-use Rattle.bilv_spec.specs.NotesGrammar.{Parses, tighter, binary_of, number_of, name_of, Says, EntryIs, RequireIs, EnsureIs, IsLine, IsGood, AreLines, IsNotesText, is_second, line_limit, lines_of, onto_first}
+use Rattle.notes_spec.specs.NotesGrammar.{Parses, tighter, binary_of, number_of, name_of, Says, EntryIs, RequireIs, EnsureIs, IsLine, IsGood, AreLines, IsNotesText, is_second, line_limit, lines_of, onto_first}
 use Rattle.word_spec.specs.Texts.{are_digits, is_blank, is_digit_of, hex_digit, hex_digits, word_text, number_text, line, lines}
-use Rattle.bilv_spec.specs.Scopes.{Vocabulary, Scope, begin, named}
-use Rattle.bilv_spec.specs.RvNames.{rv_names, rv_table}
+use Rattle.notes_spec.specs.Scopes.{Vocabulary, Scope, Plain, begin, named}
+use Rattle.notes_spec.specs.RvNames.{rv_names, rv_table}
 use Rattle.command_spec.specs.Work.{work_notes, result}
 use Rattle.clause_spec.proofs.PrintedWords.{printed_digits}
 use Rattle.machine_spec.proofs.Spelling.{Above, number_above, hex_word_above, hex_length}
@@ -183,7 +183,7 @@ said_by k n = NameToken (97 ∷ (48 + k) ∷ []) ∷ SignToken (codes "=") ∷ N
 
 -- what notes call RISC-V without compressed instructions
 abbrev pub rv_words : Vocabulary
-rv_words = record { names = rv_names; narrow = false }
+rv_words = record { names = rv_names; narrow = false; dialect = Plain }
 
 -- words mean what the machine has, on the first line and on later ones
 abbrev scope : (is_first : Bool) → Scope
@@ -224,6 +224,7 @@ entry_line = record {
   range = tt;
   version = tt;
   new = tt;
+  alone = λ e. refl;
 }
 
 -- a line of the first words and a number
@@ -270,6 +271,7 @@ require_line k n h l =
       range = tt;
       version = tt;
       new = tt;
+      alone = λ e. refl;
     }
 
 ensure_line : (v : ℕ) → v < 2 ^ 32 → IsLine (scope false) (ensure_text v) (EnsureIs (Binary Equal (Register 10) (Number v)))
@@ -285,6 +287,7 @@ ensure_line v l =
       range = tt;
       version = tt;
       new = tt;
+      alone = λ e. refl;
     }
 
 -- the texts are plain
@@ -327,6 +330,7 @@ module _ (seed count : ℕ) (seed_small : seed < 2 ^ 31) (few : count ≤ 16000)
         (require_line 1 count (lit< tt) (omega arith), (ensure_line (result seed count) small, tt)),
       ),
     );
+    unmixed = refl;
     notes_are = (refl, refl, refl, refl, refl, refl, λ i q d h l e. absurd (omega arith));
   }
 

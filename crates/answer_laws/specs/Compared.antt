@@ -4,10 +4,10 @@ use Rattle.answer_laws.specs.Replayed.{AreBytes}
 use Rattle.answer_laws.specs.Told.{AreToldTo}
 use Rattle.answer_laws.specs.TwoCalls.{IsPrinted, Sufficed, Writes}
 use Rattle.answer_spec.specs.Outcomes.{IsOutcome}
-use Rattle.bilv_spec.specs.Files.{names_of}
+use Rattle.notes_spec.specs.Programs.{names_of}
 use Rattle.bilv_spec.specs.Run.{Program}
 use Rattle.bilv_spec.specs.Verdict.{Holds, IsRight}
-use Rattle.bilv_spec.specs.Verified.{IsFound}
+use Rattle.notes_spec.specs.Verified.{IsFound}
 use Rattle.call_spec.specs.Calls.{Budget, IsBudget, Evidence, Two, Options, Surroundings}
 use Rattle.clause_spec.specs.Checks.{text_limit}
 use Rattle.command_spec.specs.Commands.{PairNames, Equal, Differ}

@@ -7,7 +7,7 @@ use Rattle.bilv_spec.specs.Points.{HasMore, IsPrice}
 use Rattle.call_spec.specs.Calls.{Options, Budget, Evidence, RunOf, SpentOn, SpentOnPair, Answer, plain_answer, Surroundings}
 use Rattle.bilv_spec.specs.Files.{layout_of}
 use Rattle.bilv_spec.specs.Answers.{IsWithin, Report, HoldsReport, VacuousReport, FailsReport, UnrollReport, PointsReport, SizeReport, IsRightReport, report_answer, report_text, status_of}
-use Rattle.bilv_spec.specs.Verified.{IsAccepted, IsElfRefused, AreNotesRefused, IsFound}
+use Rattle.notes_spec.specs.Verified.{IsAccepted, IsElfRefused, AreNotesRefused, IsFound}
 use Rattle.command_spec.specs.Commands.{Verify}
 use Rattle.answer_spec.specs.Outcomes.{IsOutcome}
 

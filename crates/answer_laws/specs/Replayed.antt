@@ -2,7 +2,8 @@
 use Rattle.std.specs.Prelude.{ℕ, ◌≡◌, ◌≤◌, ◌<◌, ◌++◌, List, Some, codes, length, slice_index}
 use Rattle.bilv_spec.specs.Run.{Program}
 use Rattle.call_spec.specs.Calls.{Options, Budget, Evidence, plain_answer}
-use Rattle.bilv_spec.specs.Files.{layout_of, IsProgram}
+use Rattle.bilv_spec.specs.Files.{layout_of}
+use Rattle.notes_spec.specs.Programs.{IsProgram}
 use Rattle.machine_spec.specs.StateText.{Layout, IsNamed}
 use Rattle.machine_spec.specs.Endings.{NamedEnding, named_line}
 use Rattle.bilv_spec.specs.Answers.{Report, IsRightReport, report_text}

@@ -14,7 +14,7 @@ use Rattle.pair_spec.specs.Equals.{side_of, ByContents, IsCompared}
 use Rattle.clause_spec.specs.Checks.{IsChecked}
 use Rattle.bilv_spec.specs.Run.{Program}
 use Rattle.bilv_spec.specs.Scripts.{IsScriptAnswer}
-use Rattle.bilv_spec.specs.Verified.{AfterImage, AfterNotes, IsVerified}
+use Rattle.notes_spec.specs.Verified.{AfterImage, AfterNotes, IsVerified}
 
 -- the file of a name is told, by what the names' files are, and the count of its faults did not rise
 abbrev pub IsTold : Surroundings → (content : List ℕ → List ℕ) → (name : List ℕ) → Type 0

@@ -4,9 +4,9 @@ use Rattle.call_spec.specs.Outside.{Appends}
 use Rattle.bilv_spec.specs.Run.{Program}
 use Rattle.bilv_spec.specs.Verdict.{Verdict, IsRight}
 use Rattle.call_spec.specs.Calls.{Options, Evidence, Surroundings}
-use Rattle.bilv_spec.specs.Files.{IsProgram}
-use Rattle.bilv_spec.specs.Upgrades.{upgraded}
-use Rattle.bilv_spec.specs.Verified.{notes_limit, IsFound}
+use Rattle.notes_spec.specs.Programs.{IsProgram}
+use Rattle.notes_spec.specs.Upgrades.{upgraded}
+use Rattle.notes_spec.specs.Verified.{notes_limit, IsFound}
 use Rattle.command_spec.specs.Commands.{Upgrade}
 use Rattle.answer_spec.specs.Outcomes.{IsOutcome}
 use Rattle.answer_laws.specs.Completeness.{AreTold}

@@ -3,7 +3,7 @@ use Rattle.std.specs.Prelude.{ℕ}
 use Rattle.bilv_spec.specs.Run.{Program}
 use Rattle.bilv_spec.specs.Verdict.{IsRight, Holds}
 use Rattle.call_spec.specs.Calls.{default_options}
-use Rattle.bilv_spec.specs.Verified.{IsFound}
+use Rattle.notes_spec.specs.Verified.{IsFound}
 use Rattle.command_spec.specs.Work.{work_file, work_notes}
 use Rattle.command_spec.specs.Commands.{SelfRun, IsLawfulCommand}
 

@@ -3,17 +3,18 @@ use Rattle.std.proofs.Common.{◌≡◌, ℕ, ◌<◌, ◌≤◌, Bool, true, Li
 use Rattle.std.proofs.lemmas.Bool.Decides.{nat_tests}
 use Rattle.std.proofs.Math.Nat.{le_trans}
 use Rattle.std.specs.Prelude.{codes, nat_lt, if◌then◌else◌}
-use Rattle.bilv_spec.specs.Files.{names_of}
+use Rattle.notes_spec.specs.Programs.{names_of}
 use Rattle.bilv_spec.specs.Notes.{Expr}
 use Rattle.bilv_spec.specs.Run.{Program}
-use Rattle.bilv_spec.specs.Verified.{AreNotesRefused, IsAccepted, elf_large, elf_limit, notes_large, notes_limit}
+use Rattle.notes_spec.specs.Scopes.{Paired}
+use Rattle.notes_spec.specs.Verified.{AreNotesRefusedIn, IsAccepted, elf_large, elf_limit, notes_large, notes_limit}
 use Rattle.call_spec.specs.Calls.{Answer, AfterRead, read_failed, was_read, Options, Surroundings, plain_answer}
 use Rattle.call_spec.specs.Outside.{Held, Agrees, Rose}
 use Rattle.clause_spec.specs.Checks.{text_limit}
 use Rattle.io_edges.specs.Met.{seen}
 use Rattle.links_lang.specs.Views.{links_of}
 use Rattle.links_lang.specs.declared.links.Link as of
-use Rattle.notes_lang.specs.Drafting.{notes_of}
+use Rattle.notes_value.specs.NoteViews.{notes_of}
 use Rattle.notes_lang.specs.Parsing.{layout_names}
 use Rattle.pair_spec.specs.Differs.{differ_answer, by_texts}
 use Rattle.pair_spec.specs.Equals.{Side, AfterElfOf, elf_refused, elf_accepted, AfterNotesOf, notes_refused, program_found, AfterLinks, too_large, linked, links_limit}
@@ -104,7 +105,7 @@ module _ (s : Surroundings) (held : List ℕ → Held) (before after : List ℕ 
 -- a step that found the program of a side in the text of notes, or answered
 pub step_found_of : (which : Which) (held : Held) (before after : ℕ) (o : Options) (file text : List ℕ) (step : Step Found) → Agrees held text →
     length text ≤ notes_limit →
-    IfStep step (λ a. (written : List ℕ) × AreNotesRefused o file text written × (a ≡ plain_answer 5 (with_word which written)))
+    IfStep step (λ a. (written : List ℕ) × AreNotesRefusedIn Paired o file text written × (a ≡ plain_answer 5 (with_word which written)))
     (λ f. (f.text.items ≡ text) × IsFoundBy o file f) →
     IfStep step (IsNotesAnswerOf which held before after o file)
     (λ f. Agrees held f.text.items × (length f.text.items ≤ notes_limit) × IsFoundBy o file f)

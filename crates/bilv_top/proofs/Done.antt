@@ -8,7 +8,7 @@ use Rattle.bilv_spec.specs.Replays.{replay_answer}
 use Rattle.bilv_spec.specs.Run.{Program}
 use Rattle.machine_spec.specs.StateText.{Layout}
 use Rattle.model_spec.specs.Models.{AfterBudgets, IsModelAnswer, points, size, within}
-use Rattle.command_line.specs.Commands.{budget_of, question_of}
+use Rattle.command_line.specs.Commands.{budget_of, kind_of}
 use Rattle.bilv_top.specs.Tasks.{IsDone}
 use Rattle.bilv_top.specs.declared.tasks.Task.{Task}
 use Rattle.bilv_top.specs.declared.tasks.Task.TheVariants as task
@@ -45,6 +45,6 @@ done_since s t (task.Certificate question budget) layout p a held before after d
 done_since s t (task.Replay name) layout p a held before after done =
     read_since s t name.now (λ text x. x ≡ replay_answer p layout text) a (held name.now) (before name.now) (after name.now) done
 done_since s t (task.Model question budget name) layout p a held before after done =
-    budgets_next p (budget_of budget) (AfterRead s name.now (IsModelAnswer p layout (budget_of budget) (question_of question)))
-    (AfterRead t name.now (IsModelAnswer p layout (budget_of budget) (question_of question))) a
-    (read_since s t name.now (IsModelAnswer p layout (budget_of budget) (question_of question)) a (held name.now) (before name.now) (after name.now)) done
+    budgets_next p (budget_of budget) (AfterRead s name.now (IsModelAnswer p layout (budget_of budget) (kind_of question)))
+    (AfterRead t name.now (IsModelAnswer p layout (budget_of budget) (kind_of question))) a
+    (read_since s t name.now (IsModelAnswer p layout (budget_of budget) (kind_of question)) a (held name.now) (before name.now) (after name.now)) done

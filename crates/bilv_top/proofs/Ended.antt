@@ -6,7 +6,7 @@ use Rattle.call_spec.specs.Calls.{Options, Answer, Budget, NoEvidence, Surroundi
 use Rattle.bilv_spec.specs.Files.{layout_of}
 use Rattle.call_spec.specs.Outside.{Appends, Rose}
 use Rattle.bilv_spec.specs.Answers.{IsReported}
-use Rattle.bilv_spec.specs.Verified.{AfterImage, elf_refused, elf_accepted, AfterNotes, notes_refused, program_found}
+use Rattle.notes_spec.specs.Verified.{AfterImage, elf_refused, elf_accepted, AfterNotes, notes_refused, program_found}
 use Rattle.bilv_spec.specs.Certified.{IsCertified}
 use Rattle.clause_spec.specs.Checks.{IsChecked}
 use Rattle.bilv_spec.specs.Replays.{replay_answer}

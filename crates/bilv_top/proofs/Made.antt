@@ -11,15 +11,16 @@ use Rattle.word_spec.specs.Texts.{line, line_feed, lines, joined, spaced, number
 use Rattle.command_spec.specs.Work.{item_words, next_item, work_file, work_notes, work_text}
 use Rattle.word_spec.specs.RowFiles.{bytes_of, rv_file}
 use Rattle.call_spec.specs.Calls.{Options, default_options, Answer, Budget, Evidence, NoEvidence, Refutations, EntryRefuted, RunOf, SpentOn, Count, Two, Both, SpentOnPair, plain_answer, default_budget}
-use Rattle.bilv_spec.specs.Files.{layout_of, machine_of, vocabulary_of, program_of}
-use Rattle.bilv_spec.specs.NotesGrammar.{IsNotesText}
+use Rattle.bilv_spec.specs.Files.{layout_of, machine_of, program_of}
+use Rattle.notes_spec.specs.Programs.{vocabulary_of}
+use Rattle.notes_spec.specs.NotesGrammar.{IsNotesText}
 use Rattle.machine_spec.specs.Endings.{NamedEnding, FailsBy, UnknownBy}
 use Rattle.machine_spec.specs.StateText.{Layout, NamedLine, words_of_line, lines_behind, printed}
 use Rattle.word_spec.specs.State.{Written}
 use Rattle.bilv_spec.specs.Answers.{Report, HoldsReport, VacuousReport, FailsReport, UnrollReport, PointsReport, SizeReport, ConflictsReport, IsRightReport, IsReported, budget_text, report_text}
-use Rattle.bilv_spec.specs.Verified.{elf_fault_words, note_fault_words, elf_refused, elf_accepted, AfterNotes, notes_refused, program_found, IsElfRefused, elf_large, elf_fault, AreNotesRefused, notes_large, notes_fault, no_function, ambiguous, IsVerified, IsAccepted, elf_limit, notes_limit}
+use Rattle.notes_spec.specs.Verified.{elf_fault_words, note_fault_words, elf_refused, elf_accepted, AfterNotes, notes_refused, program_found, IsElfRefused, elf_large, elf_fault, AreNotesRefused, notes_large, notes_fault, no_function, ambiguous, IsVerified, IsAccepted, elf_limit, notes_limit}
 use Rattle.answer_spec.specs.Outcomes.{IsFirstLine, IsSelfRun}
-use Rattle.notes_lang.specs.Drafting.{notes_of}
+use Rattle.notes_value.specs.NoteViews.{notes_of}
 use Rattle.bilv_top.specs.declared.inputs.Found.{Found}
 use Rattle.bilv_top.specs.Due.{AreNotesAnswered, IsFoundBy}
 

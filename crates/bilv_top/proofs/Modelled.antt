@@ -68,10 +68,3 @@ module _ (p : Program) (b : Budget) (Next : Answer → Type 0) (a : Answer) wher
   pub size_exceeded : (price : ℕ) → a ≡ record { status = 3; text = budget_text (codes "size") b.size; evidence = Count price } →
       (¬ HasMore p b.unroll b.points) × IsPrice p b.unroll price × (b.size < price) → AfterBudgets p b Next a
   size_exceeded price is came = models.size price came.0 came.1 came.2 is
-
--- a question of the command line, within its budgets
-pub question_judged : (s : Surroundings) (name : List ℕ) (p : Program) (form : Layout) (b l : Budget) (q r : Question) (a : Answer) → l ≡ b → q ≡ r →
-    AfterBudgets p l (AfterRead s name (IsModelAnswer p form l q)) a → AfterBudgets p b (AfterRead s name (IsModelAnswer p form b r)) a
-question_judged s name p form b l q r a same asked came =
-    subst (λ z. AfterBudgets p b (AfterRead s name (IsModelAnswer p form b z)) a) asked
-    (subst (λ z. AfterBudgets p z (AfterRead s name (IsModelAnswer p form z q)) a) same came)

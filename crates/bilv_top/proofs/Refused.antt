@@ -5,21 +5,22 @@ use mathlib.Core.Path.{fun_ext}
 use Rattle.call_spec.specs.Outside.{Held, Agrees, Rose}
 use Rattle.bilv_spec.specs.Run.{Program}
 use Rattle.bilv_spec.specs.Notes.{Expr, Notes, Function, At, Named}
-use Rattle.bilv_spec.specs.NotesGrammar.{IsNotesText}
-use Rattle.bilv_spec.specs.NotesFaults.{NoteFault, IsFirstNoteFault}
+use Rattle.notes_spec.specs.NotesGrammar.{IsNotesText}
+use Rattle.notes_spec.specs.NotesFaults.{NoteFault, IsFirstNoteFault}
 use Rattle.call_spec.specs.Calls.{Options, Answer, plain_answer, Surroundings, AfterRead, read_failed, was_read}
-use Rattle.bilv_spec.specs.Files.{machine_of, names_of, vocabulary_of, is_rv, program_of, IsFunctionAt}
+use Rattle.bilv_spec.specs.Files.{machine_of, is_rv, program_of, IsFunctionAt}
+use Rattle.notes_spec.specs.Programs.{names_of, vocabulary_of}
 use Rattle.machine_spec.specs.Machine as machines
-use Rattle.bilv_spec.specs.Scopes.{Vocabulary}
+use Rattle.notes_spec.specs.Scopes.{Dialect, Paired, in_dialect}
 use Rattle.bilv_spec.proofs.ProgramRows.{risc_v_has_one_option, arm_has_one_option}
-use Rattle.bilv_spec.specs.RvNames.{rv_names}
-use Rattle.bilv_spec.specs.ArmNames.{arm_names}
+use Rattle.notes_spec.specs.RvNames.{rv_names}
+use Rattle.notes_spec.specs.ArmNames.{arm_names}
 use Rattle.word_spec.specs.Texts.{line}
 use Rattle.answer_spec.specs.Outcomes.{AfterElf}
-use Rattle.bilv_spec.specs.Verified.{AfterImage, elf_refused, elf_accepted, AfterNotes, notes_refused, program_found, IsElfRefused, elf_large, elf_fault, AreNotesRefused, notes_large, notes_fault, no_function, ambiguous, note_fault_text, elf_fault_text, IsFound, IsAccepted, elf_limit, notes_limit}
+use Rattle.notes_spec.specs.Verified.{AfterImage, elf_refused, elf_accepted, AfterNotes, notes_refused, program_found, IsElfRefused, elf_large, elf_fault, AreNotesRefusedIn, notes_large, notes_fault, no_function, ambiguous, note_fault_text, elf_fault_text, IsFound, IsAccepted, elf_limit, notes_limit}
 use Rattle.bilv_spec.specs.ElfFaults as elf
 use Rattle.elf32_reader.specs.declared.fault.ElfFault.{ElfFault}
-use Rattle.notes_lang.specs.Drafting.{notes_of}
+use Rattle.notes_value.specs.NoteViews.{notes_of}
 use Rattle.elf32_reader.specs.declared.fault.ElfFault.TheVariants.{Short, Magic, Class, Data, Version, «Type», Machine, HeaderTable, SegmentRange, FileSize, Overlap, SymbolTable, Memory}
 use Rattle.elf32_reader.specs.Refusals.{IsRefused}
 use Rattle.elf32_reader.specs.declared.symbols.SymFault.{SymFault}
@@ -28,25 +29,17 @@ use Rattle.bilv_top.specs.Answers.{IsOfFile, IfStep, elf_text_of}
 use Rattle.bilv_top.specs.declared.answer.Step.{Step}
 use Rattle.bilv_top.specs.declared.answer.Step.TheVariants.{Answered, Go}
 use Rattle.bilv_top.specs.declared.inputs.Found.{Found}
-use Rattle.bilv_top.specs.Due.{IsUnread, failed, longer, AreNotesAnswered, IsNotesAnswer, unread, refused, IsFoundBy}
+use Rattle.notes_spec.proofs.Dialects.{paired_is_plain}
+use Rattle.bilv_top.specs.Due.{IsUnread, failed, longer, AreNotesAnswered, AreNotesAnsweredIn, IsNotesAnswer, unread, refused, IsFoundIn, IsFoundBy}
 use Rattle.bilv_top.specs.Names.{IsMissedFunction, missed_text}
 
--- what notes call the machine of a file
-vocabulary_by : (o : Options) (file : List ℕ) (v : Vocabulary) → ((w : List ℕ) → v.names w ≡ names_of file w) → v.narrow ≡ (machine_of o file).narrow →
-    v ≡ vocabulary_of o file
-vocabulary_by o file v names narrow =
-    ap (λ (n : List ℕ → Option Expr). record { names = n; narrow = v.narrow }) (fun_ext names)
-    ∙ ap (λ (b : Bool). record { names = names_of file; narrow = b }) narrow
-
-pub rv_named : (o : Options) (file : List ℕ) → is_rv file ≡ true → record { names = rv_names; narrow = o.compressed } ≡ vocabulary_of o file
-rv_named o file is =
-    vocabulary_by o file (record { names = rv_names; narrow = o.compressed }) (λ w. sym (ap (λ b. if b then rv_names w else arm_names w) is))
-    (sym (ap (λ (m : machines.Machine). m.narrow) (risc_v_has_one_option o file is).0))
-
-pub arm_named : (o : Options) (file : List ℕ) → is_rv file ≡ false → record { names = arm_names; narrow = false } ≡ vocabulary_of o file
-arm_named o file is =
-    vocabulary_by o file (record { names = arm_names; narrow = false }) (λ w. sym (ap (λ b. if b then rv_names w else arm_names w) is))
-    (sym (ap (λ (m : machines.Machine). m.narrow) (arm_has_one_option o file is).0))
+-- notes that were found where two functions are compared are notes of one function
+pub found_alone : (o : Options) (file : List ℕ) (f : Found) → IsFoundIn Paired o file f → IsFoundBy o file f
+found_alone o file f is = record {
+  says = (paired_is_plain (vocabulary_of o file) f.text.items (notes_of f.notes)).0 is.says;
+  at = is.at;
+  over_file = is.over_file;
+}
 
 -- the first fault of a file is its refusal
 refused_as : (file : List ℕ) (f : elf.FileFault) → length file ≤ elf_limit → elf.IsFirstFileFault file f → IsElfRefused file (elf_fault_text f)
@@ -69,22 +62,22 @@ elf_is_refused file SymbolTable some le is = refused_as file elf.BadSymbolTable 
 elf_is_refused file Memory some le is = absurd some
 
 -- a line of the notes is refused
-pub line_answered : (o : Options) (file text : List ℕ) (n : ℕ) (f : NoteFault) (a : Answer) → length text ≤ notes_limit → IsFirstNoteFault (vocabulary_of o file) text n f →
-    a ≡ plain_answer 5 (note_fault_text n f) → AreNotesAnswered o file text a
-line_answered o file text n f a le is a_is = (note_fault_text n f, notes_fault n f le is, a_is)
+pub line_answered : (d : Dialect) (o : Options) (file text : List ℕ) (n : ℕ) (f : NoteFault) (a : Answer) → length text ≤ notes_limit →
+    IsFirstNoteFault (in_dialect d (vocabulary_of o file)) text n f → a ≡ plain_answer 5 (note_fault_text n f) → AreNotesAnsweredIn d o file text a
+line_answered d o file text n f a le is a_is = (note_fault_text n f, notes_fault n f le is, a_is)
 
-missed_by : (o : Options) (file text : List ℕ) (notes : Notes) (f : Function) (fault : SymFault) → length text ≤ notes_limit → IsNotesText (vocabulary_of o file) text notes →
-    notes.entry ≡ f →
-    IsMissedFunction (machine_of o file).narrow file f fault → AreNotesRefused o file text (missed_text fault)
-missed_by o file text notes (At a) fault le is e missed = absurd missed
-missed_by o file text notes (Named name) NoFunction le is e missed = no_function notes name le is e missed
-missed_by o file text notes (Named name) (Ambiguous a c) le is e missed = ambiguous notes name a c le is e missed
+missed_by : (d : Dialect) (o : Options) (file text : List ℕ) (notes : Notes) (f : Function) (fault : SymFault) → length text ≤ notes_limit →
+    IsNotesText (in_dialect d (vocabulary_of o file)) text notes → notes.entry ≡ f →
+    IsMissedFunction (machine_of o file).narrow file f fault → AreNotesRefusedIn d o file text (missed_text fault)
+missed_by d o file text notes (At a) fault le is e missed = absurd missed
+missed_by d o file text notes (Named name) NoFunction le is e missed = no_function notes name le is e missed
+missed_by d o file text notes (Named name) (Ambiguous a c) le is e missed = ambiguous notes name a c le is e missed
 
 -- their function is not found
-pub name_answered : (o : Options) (file text : List ℕ) (notes : Notes) (fault : SymFault) (a : Answer) → length text ≤ notes_limit →
-    IsNotesText (vocabulary_of o file) text notes → IsMissedFunction (machine_of o file).narrow file notes.entry fault → a ≡ plain_answer 5 (missed_text fault) →
-    AreNotesAnswered o file text a
-name_answered o file text notes fault a le is missed a_is = (missed_text fault, missed_by o file text notes notes.entry fault le is refl missed, a_is)
+pub name_answered : (d : Dialect) (o : Options) (file text : List ℕ) (notes : Notes) (fault : SymFault) (a : Answer) → length text ≤ notes_limit →
+    IsNotesText (in_dialect d (vocabulary_of o file)) text notes → IsMissedFunction (machine_of o file).narrow file notes.entry fault →
+    a ≡ plain_answer 5 (missed_text fault) → AreNotesAnsweredIn d o file text a
+name_answered d o file text notes fault a le is missed a_is = (missed_text fault, missed_by d o file text notes notes.entry fault le is refl missed, a_is)
 
 module _ (s : Surroundings) (elf : List ℕ) (Next : List ℕ → Answer → Type 0) (a : Answer) where
   -- the ELF file was not read

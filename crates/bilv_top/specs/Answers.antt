@@ -1,13 +1,16 @@
 -- Answers, as the definitions have them, and what is met on the way to one.
-use Rattle.std.specs.Prelude.{ℕ, List, []}
+use Rattle.std.specs.Prelude.{ℕ, List, [], codes}
 use Rattle.call_spec.specs.Calls as spec
-use Rattle.bilv_spec.specs.Verified.{elf_fault_text}
+use Rattle.notes_spec.specs.Verified.{elf_fault_text}
+use Rattle.bilv_spec.specs.Answers.{budget_text}
 use Rattle.bilv_spec.specs.ElfFaults.{ShortFile, BadMagic, BadClass, BadData, BadVersion, BadType, BadMachine, BadHeaderTable, BadSegmentRange, BadFileSize, SegmentsOverlap, BadSymbolTable}
 use Rattle.cnf_form.specs.Views.{proof_of}
 use Rattle.pair_form.specs.Views.{pair_question_of}
 use Rattle.pair_verdict.specs.Verdicts.{holding_of}
 use Rattle.question_form.specs.Views.{kind_of}
 use Rattle.state_text.specs.Starts.{written_of}
+use Rattle.verdict.specs.declared.verdicts.Exceeded.{Exceeded}
+use Rattle.verdict.specs.declared.verdicts.Exceeded.TheVariants.{Points, Size}
 use Rattle.elf32_reader.specs.declared.fault.ElfFault.{ElfFault}
 use Rattle.elf32_reader.specs.declared.fault.ElfFault.TheVariants.{Short, Magic, Class, Data, Version, «Type», Machine, HeaderTable, SegmentRange, FileSize, Overlap, SymbolTable, Memory}
 use Rattle.bilv_top.specs.declared.answer.Answer.{Answer}
@@ -32,6 +35,11 @@ evidence_of (SpentOnPair question proof) = spec.SpentOnPair (pair_question_of qu
 -- an answer
 abbrev pub answer_of : Answer → spec.Answer
 answer_of a = record { status = a.status; text = a.text.items; evidence = evidence_of a.evidence }
+
+-- the answer where a budget is exceeded
+abbrev pub exceeded_answer : spec.Budget → Exceeded → spec.Answer
+exceeded_answer b (Points count) = record { status = 3; text = budget_text (codes "points") b.points; evidence = spec.Count count }
+exceeded_answer b (Size price) = record { status = 3; text = budget_text (codes "size") b.size; evidence = spec.Count price }
 
 -- a step that answered at once, or what it goes on with
 abbrev pub IfStep : {T : Type 0} → Step T → (spec.Answer → Type 0) → (T → Type 0) → Type 0

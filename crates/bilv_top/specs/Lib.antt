@@ -6,3 +6,4 @@ pub mod Ends
 pub mod Chosen
 pub mod Tasks
 pub mod Pairs
+pub mod Reads

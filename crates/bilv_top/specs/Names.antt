@@ -2,7 +2,7 @@
 use Rattle.std.specs.Prelude.{ℕ, Bool, List, codes}
 use Rattle.bilv_spec.specs.Notes.{Function, At, Named}
 use Rattle.word_spec.specs.Texts.{line}
-use Rattle.bilv_spec.specs.Verified.{ambiguous_text}
+use Rattle.notes_spec.specs.Verified.{ambiguous_text}
 use Rattle.elf32_reader.specs.declared.symbols.SymFault.{SymFault}
 use Rattle.elf32_reader.specs.declared.symbols.SymFault.TheVariants.{NoFunction, Ambiguous}
 use Rattle.elf32_reader.specs.Symbols.{IsMissed}

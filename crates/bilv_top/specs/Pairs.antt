@@ -3,8 +3,9 @@ use Rattle.std.specs.Prelude.{ℕ, ◌≡◌, ◌≤◌, ◌++◌, List, [], ◌
 use Rattle.bilv_spec.specs.Files.{machine_of, program_of}
 use Rattle.bilv_spec.specs.Notes.{Expr}
 use Rattle.bilv_spec.specs.Run.{Program}
-use Rattle.bilv_spec.specs.Verified.{AreNotesRefused, IsElfRefused, notes_limit}
-use Rattle.call_spec.specs.Calls.{Answer, AfterRead, IsBudget, Options, Surroundings, plain_answer}
+use Rattle.notes_spec.specs.Scopes.{Paired}
+use Rattle.notes_spec.specs.Verified.{AreNotesRefusedIn, IsElfRefused, notes_limit}
+use Rattle.call_spec.specs.Calls.{Answer, AfterRead, Options, Surroundings, plain_answer}
 use Rattle.call_spec.specs.Outside.{Held, Agrees}
 use Rattle.command_spec.specs.Commands.{PairNames}
 use Rattle.pair_spec.specs.Differs.{differ_answer}
@@ -14,7 +15,7 @@ use Rattle.word_spec.specs.Texts.{line, number_text, spaced}
 use Rattle.command_line.specs.Commands.{budget_of}
 use Rattle.links_lang.specs.Views.{AreLinksOf, links_of}
 use Rattle.links_lang.specs.declared.links.Link as of
-use Rattle.notes_lang.specs.Drafting.{notes_of}
+use Rattle.notes_value.specs.NoteViews.{notes_of}
 use Rattle.notes_lang.specs.Parsing.{layout_names}
 use Rattle.state_text.specs.Starts.{layout_of}
 use Rattle.state_text.specs.declared.layout.Layout.{Layout}
@@ -48,7 +49,7 @@ IsElfAnswered which file a = (written : List ℕ) × IsElfRefused file written �
 pub data IsNotesAnswerOf (which : Which) (held : Held) (before after : ℕ) (o : Options) (file : List ℕ) (a : Answer) : Type 0 where
   unread : IsUnread held before after notes_limit (plain_answer 5 (with_word which (line (codes "notes: TooLarge")))) a →
       IsNotesAnswerOf which held before after o file a
-  refused : (text written : List ℕ) → Agrees held text → AreNotesRefused o file text written → a ≡ plain_answer 5 (with_word which written) →
+  refused : (text written : List ℕ) → Agrees held text → AreNotesRefusedIn Paired o file text written → a ≡ plain_answer 5 (with_word which written) →
       IsNotesAnswerOf which held before after o file a
 
 -- the text that refuses a line of links
@@ -96,11 +97,6 @@ AfterSecondElf s o names f Next =
     AfterRead s names.other_elf (λ g. AfterElfOf (codes "second") g (AfterFirstNotes s o names f g (Next g)))
 
 -- ---- what is asked
-
--- its budgets are lawful
-abbrev pub IsLawfulPairTask : PairTask → Type 0
-IsLawfulPairTask (task.Equal budget) = IsBudget (budget_of budget)
-IsLawfulPairTask (task.Differ name) = Unit {0}
 
 -- the right answer to it about two functions and their links
 abbrev pub IsCompared : Surroundings → PairTask → (a b : Side) → List Link → Answer → Type 0

@@ -14,6 +14,8 @@ ghost use Rattle.bilv_top.specs.Ends.{AreAnswered};
 ghost use Rattle.command_line.specs.Commands.{command_of};
 ghost use Rattle.command_line.specs.Lines.{lawful_command};
 ghost use Rattle.io_edges.specs.Met.{met, seen};
+ghost use Rattle.io_edges.specs.Begun.{AreBegun};
+ghost use Rattle.bilv_top.specs.Reads.{files_of, files_of_line};
 
 use crate::answer::{Answer, Evidence};
 use crate::certificate::check_certificate;
@@ -40,6 +42,7 @@ fn obey<H: Shelf>(alloc: Global, command: Command, shelf: &mut H) -> Result<Answ
     requires { IsLawfulCommand (command_of command) }
     ensures keeps { (n : List ℕ) → H.holds shelf.new n ≡ H.holds shelf.old n }
     ensures never_falls { (n : List ℕ) → H.faults shelf.old n ≤ H.faults shelf.new n }
+    ensures begun { AreBegun (H.begun shelf.old) (H.begun shelf.new) (files_of (command_of command.entry)) }
     ensures right { IfOk result (λ a. IsRightAnswer (seen (H.holds shelf.old) (H.faults shelf.old) (H.faults shelf.new))
         (command_of command.entry) (answer_of a)) }
 {
@@ -126,9 +129,11 @@ fn obey<H: Shelf>(alloc: Global, command: Command, shelf: &mut H) -> Result<Answ
 }
 
 /// The answer that is due to words.
+#[tactic(auto, using(io_edges::proofs::Beginning::begun_none))]
 fn due<H: Shelf>(alloc: Global, words: &[String], shelf: &mut H) -> Result<Answer, AllocError>
     ensures keeps { (n : List ℕ) → H.holds shelf.new n ≡ H.holds shelf.old n }
     ensures never_falls { (n : List ℕ) → H.faults shelf.old n ≤ H.faults shelf.new n }
+    ensures begun { AreBegun (H.begun shelf.old) (H.begun shelf.new) (files_of_line (lawful_command (map (λ w. string_bytes w) words.now))) }
     ensures due { IfOk result (λ a. IsDueAnswer (seen (H.holds shelf.old) (H.faults shelf.old) (H.faults shelf.new))
         (lawful_command (map (λ w. string_bytes w) words.now)) (answer_of a)) }
 {
@@ -153,6 +158,8 @@ pub fn bilv<H: Shelf, K: Sink>(
     // The shelf holds what it held, and no count of faults falls.
     ensures keeps { (n : List ℕ) → H.holds shelf.new n ≡ H.holds shelf.old n }
     ensures never_falls { (n : List ℕ) → H.faults shelf.old n ≤ H.faults shelf.new n }
+    // From each place of a file that the words name reads begin no more often than they name it, and no other file is read.
+    ensures begun { AreBegun (H.begun shelf.old) (H.begun shelf.new) (files_of_line (lawful_command (map (λ w. string_bytes w) words.now))) }
     ensures sink_never_falls { K.faults out.old ≤ K.faults out.new }
     // A due answer was written whole; or a write failed (7) behind a proper front of its text; or memory ran out (8), and nothing was written.
     ensures outcome { IsOutcome (met (seen (H.holds shelf.old) (H.faults shelf.old) (H.faults shelf.new)) (K.written out.old) (K.written out.new)

@@ -1,5 +1,5 @@
 //! The command that checks a certificate.
-ghost use Rattle.std.specs.Prelude.{◌≡◌, ◌≤◌, ℕ, List, length, IfOk};
+ghost use Rattle.std.specs.Prelude.{◌≡◌, ◌≤◌, ℕ, List, [], ◌∷◌, length, IfOk};
 ghost use Rattle.call_spec.specs.Calls.{NoEvidence};
 ghost use Rattle.clause_spec.specs.Certificates.{check_text};
 ghost use Rattle.command_spec.specs.Commands.{Check};
@@ -8,6 +8,7 @@ ghost use Rattle.clause_spec.specs.Checks.{IsChecked, check_status, text_limit};
 ghost use Rattle.refutation_checker.specs.Answers.{refusal_of};
 ghost use Rattle.bilv_top.specs.Answers.{answer_of, evidence_of};
 ghost use Rattle.io_edges.specs.Met.{seen};
+ghost use Rattle.io_edges.specs.Begun.{AreBegun};
 
 use crate::answer::{Answer, Evidence};
 use crate::reading::{FileRead, TEXT_LIMIT, answer, read_within, unread};
@@ -68,6 +69,7 @@ pub fn check_certificate<H: Shelf>(
 ) -> Result<Answer, AllocError>
     ensures keeps { (n : List ℕ) → H.holds shelf.new n ≡ H.holds shelf.old n }
     ensures never_falls { (n : List ℕ) → H.faults shelf.old n ≤ H.faults shelf.new n }
+    ensures begun { AreBegun (H.begun shelf.old) (H.begun shelf.new) (name.now ∷ []) }
     ensures right { IfOk result (λ a. IsRightAnswer (seen (H.holds shelf.old) (H.faults shelf.old) (H.faults shelf.new)) (Check name.now) (answer_of a)) }
 {
     match read_within(alloc, shelf, name, TEXT_LIMIT)? {

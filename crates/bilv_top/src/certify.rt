@@ -1,6 +1,6 @@
 //! The answer that certifies a question.
 ghost use Rattle.std.specs.Prelude.{◌≡◌, IfOk};
-ghost use Rattle.call_spec.specs.Calls.{IsBudget, plain_answer};
+ghost use Rattle.call_spec.specs.Calls.{plain_answer};
 ghost use Rattle.clause_spec.specs.Certificates.{certificate_text};
 ghost use Rattle.bilv_spec.specs.Certified.{IsCertified};
 ghost use Rattle.bilv_spec.specs.Files.{program_of};
@@ -9,35 +9,22 @@ ghost use Rattle.bilv_top.specs.Answers.{answer_of};
 ghost use Rattle.bilv_top.specs.Chosen.{IsMachineOf};
 ghost use Rattle.bilv_top.specs.Due.{IsOverFile};
 ghost use Rattle.cnf_form.specs.Views.{cnf_of, lines_of};
-ghost use Rattle.command_line.specs.Commands.{budget_of, question_of};
-ghost use Rattle.notes_lang.specs.Drafting.{notes_of};
-ghost use Rattle.question_form.specs.Views.{kind_of};
+ghost use Rattle.command_line.specs.Commands.{budget_of, kind_of};
+ghost use Rattle.notes_value.specs.NoteViews.{notes_of};
 ghost use Rattle.verdict.specs.Verdicts.{IsCertificate};
 
 use crate::answer::{Answer, Evidence};
 use crate::inputs::Found;
 use crate::reading::answer;
-use crate::reports::{exceeded, limits};
+use crate::reports::{beyond, exceeded};
 use cnf_form::{Proof, print_cnf};
-use command_line::{Budget, Question};
+use command_line::{Budget, Kind};
 use elf32_reader::Image;
 use exit_status::{DONE, FAILS};
 use machine_law::Machine;
-use question_form::Kind;
 use refutation_checker::print_lrat;
 use std::alloc::{AllocError, Global};
 use verdict::{Certified, certify as certificate_of};
-
-/// The question of the command line.
-pub fn asked(question: Question) -> Kind
-    ensures { kind_of result ≡ question_of question }
-{
-    match question {
-        Question::Entry => Kind::Entry,
-        Question::Fail => Kind::Fail,
-        Question::Turn => Kind::Turn,
-    }
-}
 
 /// The text of a certificate. The error is want of memory.
 fn proof_text(alloc: Global, proof: &Proof) -> Result<Vec<u8>, AllocError>
@@ -71,11 +58,7 @@ fn say(
         IsCertified p (budget_of budget) (kind_of question) (answer_of a).status (answer_of a).text (answer_of a).evidence) }
 {
     match certified {
-        Certified::Points { count } => {
-            let found = Evidence::Count(count as u128);
-            exceeded(alloc, b"points", budget.points, found)
-        }
-        Certified::Size { price } => exceeded(alloc, b"size", budget.size, Evidence::Count(price)),
+        Certified::Exceeded(past) => beyond(alloc, budget, past),
         Certified::Conflicts(proof) => {
             let spent = Evidence::SpentOn { question, proof };
             exceeded(alloc, b"conflicts", budget.conflicts, spent)
@@ -85,24 +68,26 @@ fn say(
     }
 }
 
-/// The answer to a question about a program of a machine, whose file has these bytes. The error is want of memory.
+/// The answer to a question about a program of a machine. The error is want of memory.
 pub fn certify_by<M: Machine>(
     alloc: Global,
-    file: &[u8],
     image: &Image,
     found: &Found,
     budget: Budget,
-    question: Question,
+    question: Kind,
 ) -> Result<Answer, AllocError>
     requires machine { IsMachineOf image.now M.machine }
-    requires same { image.now ≡ file.now }
     requires found { IsOverFile image.now found.now }
-    requires budget { IsBudget (budget_of budget) }
     ensures { IfOk result (λ a. IsCertified (program_of M.machine image.now (notes_of found.now.notes) found.now.entry) (budget_of budget)
-        (question_of question) (answer_of a).status (answer_of a).text (answer_of a).evidence) }
+        (kind_of question) (answer_of a).status (answer_of a).text (answer_of a).evidence) }
 {
-    let limits = limits(budget);
-    let kind = asked(question);
-    let certified = certificate_of::<M>(alloc, image, &found.notes, found.entry, &limits, kind)?;
-    say(alloc, budget, kind, certified)
+    let certified = certificate_of::<M>(
+        alloc,
+        image,
+        &found.notes,
+        found.entry,
+        &budget,
+        question,
+    )?;
+    say(alloc, budget, question, certified)
 }

@@ -1,10 +1,9 @@
 //! What is asked about two functions, and its answer.
-ghost use Rattle.std.specs.Prelude.{◌≡◌, ◌≤◌, ℕ, List, IfOk, codes, length};
-ghost use Rattle.answer_laws.specs.Replayed.{AreBytes};
+ghost use Rattle.std.specs.Prelude.{◌≡◌, ◌≤◌, ℕ, List, ◌∷◌, IfOk, codes, length};
 ghost use Rattle.answer_spec.specs.Outcomes.{AfterPair};
-ghost use Rattle.bilv_spec.specs.Files.{names_of};
-ghost use Rattle.bilv_spec.specs.Verified as verified;
-ghost use Rattle.bilv_spec.specs.Verified.{IsAccepted};
+ghost use Rattle.notes_spec.specs.Programs.{names_of};
+ghost use Rattle.notes_spec.specs.Verified as verified;
+ghost use Rattle.notes_spec.specs.Verified.{IsAccepted};
 ghost use Rattle.call_spec.specs.Calls.{Surroundings};
 ghost use Rattle.pair_spec.specs.Equals as equals;
 ghost use Rattle.pair_spec.specs.Equals.{AfterElfOf};
@@ -15,7 +14,9 @@ ghost use Rattle.links_lang.specs.Views.{AreLinksOf, links_of};
 ghost use Rattle.notes_lang.specs.Parsing.{layout_names};
 ghost use Rattle.pair_sides.specs.Sides.{IsSided, side_of};
 ghost use Rattle.bilv_top.specs.Answers.{answer_of};
-ghost use Rattle.bilv_top.specs.Pairs.{AfterFirstNotes, AfterLinksRead, AfterSecondElf, AfterSecondNotes, AreCompared, IsCompared, IsLawfulPairTask, IsMetSince};
+ghost use Rattle.bilv_top.specs.Pairs.{AfterFirstNotes, AfterLinksRead, AfterSecondElf, AfterSecondNotes, AreCompared, IsCompared, IsMetSince};
+ghost use Rattle.io_edges.specs.Begun.{AreBegun};
+ghost use Rattle.bilv_top.specs.Reads.{names_after_elfs, names_after_notes, names_of_pair, names_of_pair_task};
 
 use crate::answer::{Answer, Step};
 use crate::differ::differ;
@@ -38,6 +39,7 @@ pub enum PairTask<'a> {
 }
 
 /// The answer to what is asked about two functions and links between them. The error is out of memory.
+#[tactic(auto, using(io_edges::proofs::Beginning::begun_none))]
 fn compare<H: Shelf>(
     alloc: Global,
     shelf: &mut H,
@@ -49,9 +51,9 @@ fn compare<H: Shelf>(
     requires first { IsSided first.now }
     requires second { IsSided second.now }
     requires links { AreLinksOf first.now.layout second.now.layout links.now }
-    requires lawful { IsLawfulPairTask task }
     ensures keeps { (n : List ℕ) → H.holds shelf.new n ≡ H.holds shelf.old n }
     ensures never_falls { (n : List ℕ) → H.faults shelf.old n ≤ H.faults shelf.new n }
+    ensures begun { AreBegun (H.begun shelf.old) (H.begun shelf.new) (names_of_pair_task task.entry) }
     ensures compared { IfOk result (λ a. (s : Surroundings) → IsMetSince s (H.holds shelf.old) (H.faults shelf.old) (H.faults shelf.new) →
         IsCompared s task.entry (side_of first.now) (side_of second.now) (links_of links.now) (answer_of a)) }
 {
@@ -74,9 +76,9 @@ fn compare_by_links<H: Shelf>(
     requires second { IsSided second.now }
     requires first_names { layout_names first.now.layout ≡ names_of first.now.image.now }
     requires second_names { layout_names second.now.layout ≡ names_of second.now.image.now }
-    requires lawful { IsLawfulPairTask task }
     ensures keeps { (n : List ℕ) → H.holds shelf.new n ≡ H.holds shelf.old n }
     ensures never_falls { (n : List ℕ) → H.faults shelf.old n ≤ H.faults shelf.new n }
+    ensures begun { AreBegun (H.begun shelf.old) (H.begun shelf.new) (links.now ∷ names_of_pair_task task.entry) }
     ensures compared { IfOk result (λ a. (s : Surroundings) → IsMetSince s (H.holds shelf.old) (H.faults shelf.old) (H.faults shelf.new) →
         AfterLinksRead s links.now first.now.image.now second.now.image.now (IsCompared s task.entry (side_of first.now) (side_of second.now))
         (answer_of a)) }
@@ -99,11 +101,10 @@ fn compare_to_second<H: Shelf>(
 ) -> Result<Answer, AllocError>
     requires first { IsSided first.now }
     requires first_names { layout_names first.now.layout ≡ names_of first.now.image.now }
-    requires bytes { AreBytes second.now }
     requires accepted { IsAccepted second.now }
-    requires lawful { IsLawfulPairTask task }
     ensures keeps { (n : List ℕ) → H.holds shelf.new n ≡ H.holds shelf.old n }
     ensures never_falls { (n : List ℕ) → H.faults shelf.old n ≤ H.faults shelf.new n }
+    ensures begun { AreBegun (H.begun shelf.old) (H.begun shelf.new) (names_after_notes (commands.names_of names.entry) task.entry) }
     ensures compared { IfOk result (λ a. (s : Surroundings) → IsMetSince s (H.holds shelf.old) (H.faults shelf.old) (H.faults shelf.new) →
         AfterSecondNotes s (options_of options) (commands.names_of names.entry) first.now.image.now second.now
         (λ q. IsCompared s task.entry (side_of first.now) (equals.side_of (options_of options) second.now q)) (answer_of a)) }
@@ -128,13 +129,11 @@ fn compare_opened<H: Shelf>(
     options: Options,
     task: PairTask,
 ) -> Result<Answer, AllocError>
-    requires first_bytes { AreBytes first.now }
     requires first_accepted { IsAccepted first.now }
-    requires second_bytes { AreBytes second.now }
     requires second_accepted { IsAccepted second.now }
-    requires lawful { IsLawfulPairTask task }
     ensures keeps { (n : List ℕ) → H.holds shelf.new n ≡ H.holds shelf.old n }
     ensures never_falls { (n : List ℕ) → H.faults shelf.old n ≤ H.faults shelf.new n }
+    ensures begun { AreBegun (H.begun shelf.old) (H.begun shelf.new) (names_after_elfs (commands.names_of names.entry) task.entry) }
     ensures compared { IfOk result (λ a. (s : Surroundings) → IsMetSince s (H.holds shelf.old) (H.faults shelf.old) (H.faults shelf.new) →
         AfterFirstNotes s (options_of options) (commands.names_of names.entry) first.now second.now
         (AreCompared s (options_of options) task.entry first.now second.now) (answer_of a)) }
@@ -149,6 +148,7 @@ fn compare_opened<H: Shelf>(
 }
 
 /// The same, of an accepted file and the bytes of another.
+#[tactic(auto, using(io_edges::proofs::Beginning::begun_none))]
 fn compare_to_file<H: Shelf>(
     alloc: Global,
     shelf: &mut H,
@@ -158,12 +158,11 @@ fn compare_to_file<H: Shelf>(
     options: Options,
     task: PairTask,
 ) -> Result<Answer, AllocError>
-    requires bytes { AreBytes first.now }
     requires accepted { IsAccepted first.now }
     requires short { length second.now ≤ verified.elf_limit }
-    requires lawful { IsLawfulPairTask task }
     ensures keeps { (n : List ℕ) → H.holds shelf.new n ≡ H.holds shelf.old n }
     ensures never_falls { (n : List ℕ) → H.faults shelf.old n ≤ H.faults shelf.new n }
+    ensures begun { AreBegun (H.begun shelf.old) (H.begun shelf.new) (names_after_elfs (commands.names_of names.entry) task.entry) }
     ensures compared { IfOk result (λ a. (s : Surroundings) → IsMetSince s (H.holds shelf.old) (H.faults shelf.old) (H.faults shelf.new) →
         AfterElfOf (codes "second") second.now (AfterFirstNotes s (options_of options) (commands.names_of names.entry) first.now second.now
         (AreCompared s (options_of options) task.entry first.now second.now)) (answer_of a)) }
@@ -175,6 +174,7 @@ fn compare_to_file<H: Shelf>(
 }
 
 /// The same, of the bytes of the first file.
+#[tactic(auto, using(io_edges::proofs::Beginning::begun_none))]
 fn compare_files<H: Shelf>(
     alloc: Global,
     shelf: &mut H,
@@ -184,9 +184,10 @@ fn compare_files<H: Shelf>(
     task: PairTask,
 ) -> Result<Answer, AllocError>
     requires short { length first.now ≤ verified.elf_limit }
-    requires lawful { IsLawfulPairTask task }
     ensures keeps { (n : List ℕ) → H.holds shelf.new n ≡ H.holds shelf.old n }
     ensures never_falls { (n : List ℕ) → H.faults shelf.old n ≤ H.faults shelf.new n }
+    ensures begun { AreBegun (H.begun shelf.old) (H.begun shelf.new)
+        ((commands.names_of names.entry).other_elf ∷ names_after_elfs (commands.names_of names.entry) task.entry) }
     ensures compared { IfOk result (λ a. (s : Surroundings) → IsMetSince s (H.holds shelf.old) (H.faults shelf.old) (H.faults shelf.new) →
         AfterElfOf (codes "first") first.now (AfterSecondElf s (options_of options) (commands.names_of names.entry) first.now
         (AreCompared s (options_of options) task.entry first.now)) (answer_of a)) }
@@ -210,9 +211,9 @@ pub fn compare_named<H: Shelf>(
     options: Options,
     task: PairTask,
 ) -> Result<Answer, AllocError>
-    requires lawful { IsLawfulPairTask task }
     ensures keeps { (n : List ℕ) → H.holds shelf.new n ≡ H.holds shelf.old n }
     ensures never_falls { (n : List ℕ) → H.faults shelf.old n ≤ H.faults shelf.new n }
+    ensures begun { AreBegun (H.begun shelf.old) (H.begun shelf.new) (names_of_pair (commands.names_of names.entry) task.entry) }
     ensures compared { IfOk result (λ a. AfterPair (seen (H.holds shelf.old) (H.faults shelf.old) (H.faults shelf.new)) (options_of options)
         (commands.names_of names.entry)
         (AreCompared (seen (H.holds shelf.old) (H.faults shelf.old) (H.faults shelf.new)) (options_of options) task.entry) (answer_of a)) }

@@ -1,11 +1,12 @@
 //! The answer that replays a difference.
-ghost use Rattle.std.specs.Prelude.{◌≡◌, ◌≤◌, ℕ, List, IfOk};
+ghost use Rattle.std.specs.Prelude.{◌≡◌, ◌≤◌, ℕ, List, [], ◌∷◌, IfOk};
 ghost use Rattle.call_spec.specs.Calls.{AfterRead, Surroundings};
 ghost use Rattle.pair_spec.specs.Differs.{differ_answer};
 ghost use Rattle.links_lang.specs.Views.{AreLinksOf, links_of};
 ghost use Rattle.pair_sides.specs.Sides.{IsSided, side_of};
 ghost use Rattle.bilv_top.specs.Answers.{answer_of};
 ghost use Rattle.bilv_top.specs.Pairs.{IsMetSince};
+ghost use Rattle.io_edges.specs.Begun.{AreBegun};
 
 use crate::answer::{Answer, Evidence, Step};
 use crate::reading::read_or_answer;
@@ -52,6 +53,7 @@ pub fn differ<H: Shelf>(
     requires links { AreLinksOf first.now.layout second.now.layout links.now }
     ensures keeps { (n : List ℕ) → H.holds shelf.new n ≡ H.holds shelf.old n }
     ensures never_falls { (n : List ℕ) → H.faults shelf.old n ≤ H.faults shelf.new n }
+    ensures begun { AreBegun (H.begun shelf.old) (H.begun shelf.new) (name.now ∷ []) }
     ensures read { IfOk result (λ a. (s : Surroundings) → IsMetSince s (H.holds shelf.old) (H.faults shelf.old) (H.faults shelf.new) →
         AfterRead s name.now (λ text b. b ≡ differ_answer (side_of first.now) (side_of second.now) (links_of links.now) text) (answer_of a)) }
 {

@@ -3,7 +3,6 @@ ghost use Rattle.std.specs.Prelude.{◌≡◌, ◌++◌, IfOk};
 ghost use Rattle.bilv_spec.specs.Answers.{report_text, status_of};
 ghost use Rattle.bilv_spec.specs.Run.{Program};
 ghost use Rattle.call_spec.specs.Calls as answers;
-ghost use Rattle.call_spec.specs.Calls.{IsBudget};
 ghost use Rattle.machine_spec.specs.StateText.{block_text};
 ghost use Rattle.pair_spec.specs.Equals.{IsPairReported, differs_words, pair_status, pair_text};
 ghost use Rattle.word_spec.specs.Texts.{joined, line};
@@ -18,7 +17,7 @@ ghost use Rattle.bilv_top.specs.Pairs.{side_in, with_word};
 
 use crate::answer::{Answer, Evidence};
 use crate::pair::{Which, of_side};
-use crate::reports::{exceeded, judged, limits, report};
+use crate::reports::{beyond, exceeded, judged, report};
 use cnf_form::print::print_number;
 use command_line::Budget;
 use exit_status::FAILS;
@@ -136,13 +135,7 @@ fn pair_report(
             };
             judged(alloc, b"equal\n", shown)
         }
-        PairVerdict::Points { count } => {
-            let found = Evidence::Count(count as u128);
-            exceeded(alloc, b"points", budget.points, found)
-        }
-        PairVerdict::Size { price } => {
-            exceeded(alloc, b"size", budget.size, Evidence::Count(price))
-        }
+        PairVerdict::Exceeded(past) => beyond(alloc, budget, past),
         PairVerdict::Conflicts { question, proof } => {
             let spent = Evidence::SpentOnPair { question, proof };
             exceeded(alloc, b"conflicts", budget.conflicts, spent)
@@ -161,11 +154,9 @@ pub fn equal(
     requires first { IsSided first.now }
     requires second { IsSided second.now }
     requires links { AreLinksOf first.now.layout second.now.layout links.now }
-    requires budget { IsBudget (budget_of budget) }
     ensures { IfOk result (λ a. IsPairReported (side_of first.now) (side_of second.now) (links_of links.now) (budget_of budget) (answer_of a)) }
 {
-    let limits = limits(budget);
-    let verdict = verdict_on(alloc, first, second, links, &limits)?;
+    let verdict = verdict_on(alloc, first, second, links, &budget)?;
     let answer = pair_report(alloc, first.layout, second.layout, budget, verdict)?;
     Ok(answer)
 }

@@ -1,17 +1,19 @@
 //! The inputs of commands: an ELF file, and notes over it; and the answers where they are refused.
-ghost use Rattle.std.specs.Prelude.{◌≡◌, ◌≤◌, ℕ, List, IfOk, MatchResult, codes, length};
+ghost use Rattle.std.specs.Prelude.{◌≡◌, ◌≤◌, ℕ, List, [], ◌∷◌, IfOk, MatchResult, codes, length};
 ghost use Rattle.call_spec.specs.Calls.{plain_answer};
 ghost use Rattle.bilv_spec.specs.Files.{machine_of, IsFunctionAt};
 ghost use Rattle.command_line.specs.Commands.{options_of};
 ghost use Rattle.call_spec.specs.Outside.{Agrees};
 ghost use Rattle.word_spec.specs.Texts.{line};
-ghost use Rattle.bilv_spec.specs.Verified as verified;
-ghost use Rattle.bilv_spec.specs.Verified.{AfterImage, IsAccepted};
+ghost use Rattle.notes_spec.specs.Verified as verified;
+ghost use Rattle.notes_spec.specs.Verified.{AfterImage, IsAccepted};
+ghost use Rattle.notes_lang.specs.Named.{dialect_of};
 ghost use Rattle.notes_lang.specs.Judging.{fault_of};
-ghost use Rattle.notes_lang.specs.Saying.{function_of};
+ghost use Rattle.notes_value.specs.NoteViews.{function_of};
 ghost use Rattle.bilv_top.specs.Answers.{IsOfFile, IfStep, answer_of, elf_text_of};
-ghost use Rattle.bilv_top.specs.Due.{AreNotesAnswered, IsFoundBy, IsNotesAnswer, IsUnread};
+ghost use Rattle.bilv_top.specs.Due.{AreNotesAnswered, AreNotesAnsweredIn, IsFoundBy, IsFoundIn, IsNotesAnswer, IsUnread};
 ghost use Rattle.bilv_top.specs.Names.{missed_text, IsMissedFunction};
+ghost use Rattle.io_edges.specs.Begun.{AreBegun};
 
 use crate::answer::{Answer, Evidence, Step};
 use crate::machines::{is_narrow, layout};
@@ -21,7 +23,8 @@ use command_line::Options;
 use elf32_reader::{ElfFault, Image, SymFault, read_image};
 use exit_status::{ELF_REFUSED, NOTES_REFUSED};
 use io_edges::Shelf;
-use notes_lang::{Function, NoteFault, Notes, NotesError, parse};
+use notes_lang::{Dialect, NoteFault, NotesError, parse};
+use notes_value::{Function, Notes};
 use std::alloc::{AllocError, Global};
 
 /// The most bytes of an ELF file.
@@ -46,6 +49,7 @@ pub fn read_elf<H: Shelf>(
 ) -> Result<Step<Vec<u8>>, AllocError>
     ensures keeps { (n : List ℕ) → H.holds shelf.new n ≡ H.holds shelf.old n }
     ensures never_falls { (n : List ℕ) → H.faults shelf.old n ≤ H.faults shelf.new n }
+    ensures begun { AreBegun (H.begun shelf.old) (H.begun shelf.new) (elf.now ∷ []) }
     ensures read { IfOk result (λ step. IfStep step
         (IsUnread (H.holds shelf.old elf.now) (H.faults shelf.old elf.now) (H.faults shelf.new elf.now) verified.elf_limit
         (plain_answer 4 (line (codes "elf: TooLarge"))))
@@ -107,7 +111,32 @@ fn refuse_name(alloc: Global, fault: SymFault) -> Result<Answer, AllocError>
     }
 }
 
-/// The notes that a text says over an image, by some of its options, and the address of their function, or the answer that refuses them.
+/// The notes that a text says in a dialect over an image, by some of its options, and the address of their function, or the answer that refuses them. The error
+/// is out of memory.
+pub fn find_program_in(
+    alloc: Global,
+    image: &Image,
+    text: Vec<u8>,
+    options: Options,
+    dialect: Dialect,
+) -> Result<Step<Found>, AllocError>
+    requires short { length text.items ≤ verified.notes_limit }
+    ensures { IfOk result (λ step. IfStep step (AreNotesAnsweredIn (dialect_of dialect) (options_of options) image.now text.items)
+        (λ f. (f.text.items ≡ text.items) × IsFoundIn (dialect_of dialect) (options_of options) image.now f)) }
+{
+    let notes = match parse(alloc, &text, layout(image, options), dialect) {
+        Ok(notes) => notes,
+        Err(NotesError::Fault(fault)) => return Ok(Step::Answered(refuse_line(alloc, fault)?)),
+        Err(NotesError::Memory) => return Err(AllocError),
+    };
+    match entry_of(image, &notes, options) {
+        Ok(entry) => Ok(Step::Go(Found { text, notes, entry })),
+        Err(fault) => Ok(Step::Answered(refuse_name(alloc, fault)?)),
+    }
+}
+
+/// The notes of one function that a text says over an image, by some of its options, and the address of their function, or the answer that refuses them. The
+/// error is out of memory.
 pub fn find_program(
     alloc: Global,
     image: &Image,
@@ -118,15 +147,8 @@ pub fn find_program(
     ensures { IfOk result (λ step. IfStep step (AreNotesAnswered (options_of options) image.now text.items)
         (λ f. (f.text.items ≡ text.items) × IsFoundBy (options_of options) image.now f)) }
 {
-    let notes = match parse(alloc, &text, layout(image, options)) {
-        Ok(notes) => notes,
-        Err(NotesError::Fault(fault)) => return Ok(Step::Answered(refuse_line(alloc, fault)?)),
-        Err(NotesError::Memory) => return Err(AllocError),
-    };
-    match entry_of(image, &notes, options) {
-        Ok(entry) => Ok(Step::Go(Found { text, notes, entry })),
-        Err(fault) => Ok(Step::Answered(refuse_name(alloc, fault)?)),
-    }
+    let found = find_program_in(alloc, image, text, options, Dialect::Plain)?;
+    Ok(found)
 }
 
 /// Reads notes over an image and finds their function, or answers. The error is want of memory.
@@ -139,6 +161,7 @@ pub fn read_notes<H: Shelf>(
 ) -> Result<Step<Found>, AllocError>
     ensures keeps { (n : List ℕ) → H.holds shelf.new n ≡ H.holds shelf.old n }
     ensures never_falls { (n : List ℕ) → H.faults shelf.old n ≤ H.faults shelf.new n }
+    ensures begun { AreBegun (H.begun shelf.old) (H.begun shelf.new) (name.now ∷ []) }
     ensures read { IfOk result (λ step. IfStep step
         (IsNotesAnswer (H.holds shelf.old name.now) (H.faults shelf.old name.now) (H.faults shelf.new name.now) (options_of options) image.now)
         (λ f. Agrees (H.holds shelf.old name.now) f.text.items × (length f.text.items ≤ verified.notes_limit)
@@ -153,6 +176,7 @@ pub fn read_notes<H: Shelf>(
 }
 
 /// Reads the image of an ELF file that was read and notes over it, and finds their function, or answers. The error is want of memory.
+#[tactic(auto, using(io_edges::proofs::Beginning::begun_none))]
 pub fn read_program<'a, H: Shelf>(
     alloc: Global,
     shelf: &mut H,
@@ -163,6 +187,7 @@ pub fn read_program<'a, H: Shelf>(
     requires short { length file.now ≤ verified.elf_limit }
     ensures keeps { (n : List ℕ) → H.holds shelf.new n ≡ H.holds shelf.old n }
     ensures never_falls { (n : List ℕ) → H.faults shelf.old n ≤ H.faults shelf.new n }
+    ensures begun { AreBegun (H.begun shelf.old) (H.begun shelf.new) (notes.now ∷ []) }
     ensures read { IfOk result (λ step. IfStep step
         (AfterImage file.now (IsNotesAnswer (H.holds shelf.old notes.now) (H.faults shelf.old notes.now) (H.faults shelf.new notes.now) (options_of options)
         file.now))

@@ -1,5 +1,5 @@
 //! The command that lifts.
-ghost use Rattle.std.specs.Prelude.{◌≡◌, ◌≤◌, ℕ, List, IfOk};
+ghost use Rattle.std.specs.Prelude.{◌≡◌, ◌≤◌, ℕ, List, [], ◌∷◌, IfOk};
 ghost use Rattle.bilv_spec.specs.Files.{is_rv, machine_of};
 ghost use Rattle.bilv_spec.specs.LiftText.{bank_by};
 ghost use Rattle.answer_spec.specs.Outcomes.{IsLifted, IsRightAnswer};
@@ -7,6 +7,7 @@ ghost use Rattle.command_spec.specs.Commands.{Lift};
 ghost use Rattle.command_line.specs.Commands.{options_of};
 ghost use Rattle.bilv_top.specs.Answers.{answer_of};
 ghost use Rattle.io_edges.specs.Met.{seen};
+ghost use Rattle.io_edges.specs.Begun.{AreBegun};
 
 use crate::answer::{Answer, Evidence, Step};
 use crate::inputs::{read_elf, refuse_elf};
@@ -52,6 +53,7 @@ pub fn lift<H: Shelf>(
 ) -> Result<Answer, AllocError>
     ensures keeps { (n : List ℕ) → H.holds shelf.new n ≡ H.holds shelf.old n }
     ensures never_falls { (n : List ℕ) → H.faults shelf.old n ≤ H.faults shelf.new n }
+    ensures begun { AreBegun (H.begun shelf.old) (H.begun shelf.new) (elf.now ∷ []) }
     ensures right { IfOk result (λ a. IsRightAnswer (seen (H.holds shelf.old) (H.faults shelf.old) (H.faults shelf.new))
         (Lift (options_of options) elf.now) (answer_of a)) }
 {

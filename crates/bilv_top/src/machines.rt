@@ -1,9 +1,13 @@
 //! The machine of a file.
 ghost use Rattle.std.specs.Prelude.{◌≡◌};
 ghost use Rattle.call_spec.specs.Calls as files;
-ghost use Rattle.bilv_spec.specs.Files.{is_rv, layout_of, machine_of, vocabulary_of};
+ghost use Rattle.bilv_spec.specs.Files.{is_rv, layout_of, machine_of};
+ghost use Rattle.notes_spec.specs.Scopes.{in_dialect};
+ghost use Rattle.notes_spec.specs.Programs.{vocabulary_of};
 ghost use Rattle.bilv_spec.specs.LiftText.{bank_by};
 ghost use Rattle.command_line.specs.Commands.{options_of};
+ghost use Rattle.notes_lang.specs.declared.notes.Dialect as dialects;
+ghost use Rattle.notes_lang.specs.Named.{dialect_of};
 ghost use Rattle.notes_lang.specs.Parsing.{layout_flags, layout_registers, layout_vocabulary};
 ghost use Rattle.state_text.specs.Starts as starts;
 ghost use Rattle.pair_sides.specs.Sides.{machine_in};
@@ -15,7 +19,7 @@ use state_text::Layout;
 
 /// The form of a file's machine by some options, which says what machine it is. Its registers and flags are the same whatever the options.
 pub fn layout(image: &Image, options: Options) -> Layout
-    ensures vocabulary { layout_vocabulary result ≡ vocabulary_of (options_of options) image.now }
+    ensures vocabulary { (d : dialects.Dialect) → layout_vocabulary result d ≡ in_dialect (dialect_of d) (vocabulary_of (options_of options) image.now) }
     ensures registers { (o : files.Options) → layout_registers result ≡ (machine_of o image.now).has_register }
     ensures flags { (o : files.Options) → layout_flags result ≡ (machine_of o image.now).has_flag }
     ensures machine { machine_of (options_of options) image.now ≡ machine_in result }

@@ -4,16 +4,14 @@ ghost use Rattle.word_spec.specs.Texts.{line, number_text, spaced};
 ghost use Rattle.clause_spec.specs.Checks.{text_limit};
 ghost use Rattle.machine_spec.specs.StateText.{block_text, printed};
 ghost use Rattle.call_spec.specs.Calls as answers;
-ghost use Rattle.call_spec.specs.Calls.{AfterRead, IsBudget, plain_answer, Question as AskedQuestion};
+ghost use Rattle.call_spec.specs.Calls.{AfterRead, plain_answer, Question as AskedQuestion};
 ghost use Rattle.bilv_spec.specs.Files.{program_of};
 ghost use Rattle.bilv_spec.specs.Run.{Program};
 ghost use Rattle.model_spec.specs.Models.{AfterBudgets, IsModelAnswer, ending_text};
-ghost use Rattle.command_line.specs.Commands as commands;
-ghost use Rattle.command_line.specs.Commands.{question_of};
 ghost use Rattle.io_edges.specs.Met.{seen};
 ghost use Rattle.model_verdict.specs.Judgements.{IsJudged};
 ghost use Rattle.model_verdict.specs.Runs.{ending_of};
-ghost use Rattle.notes_lang.specs.Drafting.{notes_of};
+ghost use Rattle.notes_value.specs.NoteViews.{notes_of};
 ghost use Rattle.question_form.specs.Views.{kind_of, unrolled_of};
 ghost use Rattle.state_text.specs.Starts.{layout_of, named_of, written_of};
 ghost use Rattle.verdict.specs.Grounds.{IsGround};
@@ -23,12 +21,12 @@ ghost use Rattle.verdict.specs.Verdicts.{budget_of};
 ghost use Rattle.bilv_top.specs.Answers.{answer_of};
 ghost use Rattle.bilv_top.specs.Chosen.{IsMachineOf};
 ghost use Rattle.bilv_top.specs.Due.{IsOverFile};
+ghost use Rattle.io_edges.specs.Begun.{AreBegun};
 
 use crate::answer::{Answer, Evidence, Step};
-use crate::certify::asked;
 use crate::inputs::Found;
 use crate::reading::{TEXT_LIMIT, answer, read_or_answer};
-use crate::reports::{exceeded, limits};
+use crate::reports::beyond;
 use crate::texts::{model_fault_text, refused_line};
 use elf32_reader::Image;
 use exit_status::{DONE, TEXT_REFUSED};
@@ -39,7 +37,7 @@ use program_points::PointsFault;
 use question_form::{Kind, Passive, Unrolled};
 use state_text::{Layout, NamedEnding, Start, StateText, print_state, push_block};
 use std::alloc::{AllocError, Global};
-use verdict::{Budget, Function, Measured, measure, unroll_within};
+use verdict::{Budget, Exceeded, Function, Measured, measure, unroll_within};
 
 /// The answer that shows a start behind the line that accepts it. The error is want of memory.
 fn show_start(alloc: Global, form: Layout, start: Start) -> Result<Answer, AllocError>
@@ -144,7 +142,6 @@ fn judge_text<M: Machine>(
 ) -> Result<Answer, AllocError>
     requires machine { IsMachineOf image.now M.machine }
     requires found { IsOverFile image.now found.now }
-    requires budget { IsBudget (budget_of budget.now) }
     requires ground { IsGround (program_of M.machine image.now (notes_of found.now.notes) found.now.entry) budget.now.unroll M.form
         (unrolled_of passive.now.unrolled.now) }
     requires points { length (unrolled_of passive.now.unrolled.now).points ≤ budget.now.points }
@@ -177,7 +174,6 @@ fn judge_passive<M: Machine, H: Shelf>(
 ) -> Result<Answer, AllocError>
     requires machine { IsMachineOf image.now M.machine }
     requires found { IsOverFile image.now found.now }
-    requires budget { IsBudget (budget_of budget.now) }
     requires ground { IsGround (program_of M.machine image.now (notes_of found.now.notes) found.now.entry) budget.now.unroll M.form
         (unrolled_of passive.now.unrolled.now) }
     requires points { length (unrolled_of passive.now.unrolled.now).points ≤ budget.now.points }
@@ -185,6 +181,7 @@ fn judge_passive<M: Machine, H: Shelf>(
     requires form { layout_of passive.now.unrolled.now.form ≡ M.form }
     ensures keeps { (n : List ℕ) → H.holds shelf.new n ≡ H.holds shelf.old n }
     ensures never_falls { (n : List ℕ) → H.faults shelf.old n ≤ H.faults shelf.new n }
+    ensures begun { AreBegun (H.begun shelf.old) (H.begun shelf.new) (name.now ∷ []) }
     ensures read { IfOk result (λ a. AfterRead (seen (H.holds shelf.old) (H.faults shelf.old) (H.faults shelf.new)) name.now
         (IsModelAnswer (program_of M.machine image.now (notes_of found.now.notes) found.now.entry) M.form (budget_of budget.now) (kind_of kind))
         (answer_of a)) }
@@ -199,6 +196,7 @@ fn judge_passive<M: Machine, H: Shelf>(
 }
 
 /// The answer to the values of a name for a question about an unrolled program, behind its price. The error is want of memory, or of numbers for points.
+#[tactic(auto, using(io_edges::proofs::Beginning::begun_none))]
 fn judge_unrolled<M: Machine, H: Shelf>(
     alloc: Global,
     shelf: &mut H,
@@ -211,82 +209,51 @@ fn judge_unrolled<M: Machine, H: Shelf>(
 ) -> Result<Answer, AllocError>
     requires machine { IsMachineOf image.now M.machine }
     requires found { IsOverFile image.now found.now }
-    requires budget { IsBudget (budget_of budget.now) }
     requires unrolled { IsUnrolledOf (program_of M.machine image.now (notes_of found.now.notes) found.now.entry) M.form (budget_of budget.now) unrolled.now }
     requires form { layout_of unrolled.now.form ≡ M.form }
     ensures keeps { (n : List ℕ) → H.holds shelf.new n ≡ H.holds shelf.old n }
     ensures never_falls { (n : List ℕ) → H.faults shelf.old n ≤ H.faults shelf.new n }
+    ensures begun { AreBegun (H.begun shelf.old) (H.begun shelf.new) (name.now ∷ []) }
     ensures priced { IfOk result (λ a. AfterBudgets (program_of M.machine image.now (notes_of found.now.notes) found.now.entry) (budget_of budget.now)
         (AfterRead (seen (H.holds shelf.old) (H.faults shelf.old) (H.faults shelf.new)) name.now
         (IsModelAnswer (program_of M.machine image.now (notes_of found.now.notes) found.now.entry) M.form (budget_of budget.now) (kind_of kind)))
         (answer_of a)) }
 {
     match measure(alloc, budget, unrolled)? {
-        Measured::Above(price) => exceeded(alloc, b"size", budget.size, Evidence::Count(price)),
+        Measured::Above(price) => beyond(alloc, *budget, Exceeded::Size { price }),
         Measured::Within(passive) => judge_passive::<M, H>(
             alloc, shelf, image, found, budget, &passive, kind, name,
         ),
     }
 }
 
-/// The same within these budgets, as the verdict takes them.
-fn model_within<M: Machine, H: Shelf>(
-    alloc: Global,
-    shelf: &mut H,
-    file: &[u8],
-    image: &Image,
-    found: &Found,
-    budget: &Budget,
-    kind: Kind,
-    name: &str,
-) -> Result<Answer, AllocError>
-    requires machine { IsMachineOf image.now M.machine }
-    requires same { image.now ≡ file.now }
-    requires found { IsOverFile image.now found.now }
-    requires budget { IsBudget (budget_of budget.now) }
-    ensures keeps { (n : List ℕ) → H.holds shelf.new n ≡ H.holds shelf.old n }
-    ensures never_falls { (n : List ℕ) → H.faults shelf.old n ≤ H.faults shelf.new n }
-    ensures judged { IfOk result (λ a. AfterBudgets (program_of M.machine image.now (notes_of found.now.notes) found.now.entry) (budget_of budget.now)
-        (AfterRead (seen (H.holds shelf.old) (H.faults shelf.old) (H.faults shelf.new)) name.now
-        (IsModelAnswer (program_of M.machine image.now (notes_of found.now.notes) found.now.entry) M.form (budget_of budget.now) (kind_of kind)))
-        (answer_of a)) }
-{
-    match unroll_within::<M>(alloc, image, &found.notes, found.entry, budget) {
-        Ok(unrolled) => judge_unrolled::<M, H>(
-            alloc, shelf, image, found, budget, &unrolled, kind, name,
-        ),
-        Err(PointsFault::TooMany { count }) => {
-            let more = Evidence::Count(count as u128);
-            exceeded(alloc, b"points", budget.points, more)
-        }
-        Err(PointsFault::Memory) => Err(AllocError),
-    }
-}
-
-/// The answer to the values of a name, an outside solver's, for a question about a program of a machine, whose file has these bytes. The name is read where
+/// The answer to the values of a name, an outside solver's, for a question about a program of a machine. The name is read where
 /// the program is within the budgets. The error is want of memory, which a price of 2^128 - 1 or more counts as too, and want of numbers for terms and points.
+#[tactic(auto, using(io_edges::proofs::Beginning::begun_none))]
 pub fn model_by<M: Machine, H: Shelf>(
     alloc: Global,
     shelf: &mut H,
-    file: &[u8],
     image: &Image,
     found: &Found,
-    budget: command_line::Budget,
-    question: command_line::Question,
+    budget: Budget,
+    question: Kind,
     name: &str,
 ) -> Result<Answer, AllocError>
     requires machine { IsMachineOf image.now M.machine }
-    requires same { image.now ≡ file.now }
     requires found { IsOverFile image.now found.now }
-    requires budget { IsBudget (commands.budget_of budget) }
     ensures keeps { (n : List ℕ) → H.holds shelf.new n ≡ H.holds shelf.old n }
     ensures never_falls { (n : List ℕ) → H.faults shelf.old n ≤ H.faults shelf.new n }
-    ensures judged { IfOk result (λ a. AfterBudgets (program_of M.machine image.now (notes_of found.now.notes) found.now.entry) (commands.budget_of budget)
+    ensures begun { AreBegun (H.begun shelf.old) (H.begun shelf.new) (name.now ∷ []) }
+    ensures judged { IfOk result (λ a. AfterBudgets (program_of M.machine image.now (notes_of found.now.notes) found.now.entry) (budget_of budget)
         (AfterRead (seen (H.holds shelf.old) (H.faults shelf.old) (H.faults shelf.new)) name.now
-        (IsModelAnswer (program_of M.machine image.now (notes_of found.now.notes) found.now.entry) M.form (commands.budget_of budget)
-        (question_of question))) (answer_of a)) }
+        (IsModelAnswer (program_of M.machine image.now (notes_of found.now.notes) found.now.entry) M.form (budget_of budget) (kind_of question)))
+        (answer_of a)) }
 {
-    let limits = limits(budget);
-    let kind = asked(question);
-    model_within::<M, H>(alloc, shelf, file, image, found, &limits, kind, name)
+    match unroll_within::<M>(alloc, image, &found.notes, found.entry, &budget) {
+        Ok(unrolled) => judge_unrolled::<M, H>(
+            alloc, shelf, image, found, &budget, &unrolled, question, name,
+        ),
+        Err(PointsFault::TooMany { count }) => beyond(alloc, budget, Exceeded::Points { count }),
+        Err(PointsFault::Memory) => Err(AllocError),
+    }
 }

@@ -1,11 +1,11 @@
 //! Two functions of a command: their ELF files, their notes and the links between them, and the answers where one of these is refused.
-ghost use Rattle.std.specs.Prelude.{◌≡◌, ◌≤◌, ℕ, List, [], IfOk, codes, length};
-ghost use Rattle.answer_laws.specs.Replayed.{AreBytes};
+ghost use Rattle.std.specs.Prelude.{◌≡◌, ◌≤◌, ℕ, List, [], ◌∷◌, IfOk, codes, length};
 ghost use Rattle.call_spec.specs.Calls.{plain_answer};
 ghost use Rattle.call_spec.specs.Outside.{Agrees};
-ghost use Rattle.bilv_spec.specs.Files.{names_of};
-ghost use Rattle.bilv_spec.specs.Verified as verified;
-ghost use Rattle.bilv_spec.specs.Verified.{IsAccepted};
+ghost use Rattle.notes_spec.specs.Scopes.{Paired};
+ghost use Rattle.notes_spec.specs.Programs.{names_of};
+ghost use Rattle.notes_spec.specs.Verified as verified;
+ghost use Rattle.notes_spec.specs.Verified.{IsAccepted};
 ghost use Rattle.pair_spec.specs.Equals as equals;
 ghost use Rattle.word_spec.specs.Texts.{line};
 ghost use Rattle.command_line.specs.Commands.{options_of};
@@ -15,9 +15,10 @@ ghost use Rattle.pair_sides.specs.Sides.{IsSided, side_of};
 ghost use Rattle.bilv_top.specs.Answers.{IfStep, answer_of};
 ghost use Rattle.bilv_top.specs.Due.{IsFoundBy, IsOverFile, IsUnread};
 ghost use Rattle.bilv_top.specs.Pairs.{AreLinksFound, IsElfAnswered, IsLinksAnswer, IsNotesAnswerOf, link_fault_text, program_found_by, with_word};
+ghost use Rattle.io_edges.specs.Begun.{AreBegun};
 
 use crate::answer::{Answer, Evidence, Step};
-use crate::inputs::{ELF_LIMIT, Found, NOTES_LIMIT, find_program, refuse_elf};
+use crate::inputs::{ELF_LIMIT, Found, NOTES_LIMIT, find_program_in, refuse_elf};
 use crate::machines::layout;
 use crate::reading::read_or_answer;
 use crate::texts::{link_fault_text, refused_line};
@@ -26,6 +27,7 @@ use elf32_reader::{Image, read_image};
 use exit_status::{ELF_REFUSED, NOTES_REFUSED};
 use io_edges::Shelf;
 use links_lang::{Link, LinkFault, LinksError, parse_links};
+use notes_lang::Dialect;
 use pair_sides::Sided;
 use state_text::Layout;
 use std::alloc::{AllocError, Global};
@@ -92,6 +94,7 @@ pub fn read_elf_of<H: Shelf>(
 ) -> Result<Step<Vec<u8>>, AllocError>
     ensures keeps { (n : List ℕ) → H.holds shelf.new n ≡ H.holds shelf.old n }
     ensures never_falls { (n : List ℕ) → H.faults shelf.old n ≤ H.faults shelf.new n }
+    ensures begun { AreBegun (H.begun shelf.old) (H.begun shelf.new) (name.now ∷ []) }
     ensures read { IfOk result (λ step. IfStep step
         (IsUnread (H.holds shelf.old name.now) (H.faults shelf.old name.now) (H.faults shelf.new name.now) verified.elf_limit
         (plain_answer 4 (with_word which (line (codes "elf: TooLarge")))))
@@ -121,7 +124,7 @@ pub fn open_elf<'a>(
     }
 }
 
-/// The notes of a side that a text says, or the answer that refuses them. The error is out of memory.
+/// The notes of a side that a text says, which have neither invariants nor contracts, or the answer that refuses them. The error is out of memory.
 fn find_program_of(
     alloc: Global,
     which: Which,
@@ -131,10 +134,10 @@ fn find_program_of(
 ) -> Result<Step<Found>, AllocError>
     requires short { length text.items ≤ verified.notes_limit }
     ensures { IfOk result (λ step. IfStep step
-        (λ a. (written : List ℕ) × verified.AreNotesRefused (options_of options) image.now text.items written × (a ≡ plain_answer 5 (with_word which written)))
+        (λ a. (written : List ℕ) × verified.AreNotesRefusedIn Paired (options_of options) image.now text.items written × (a ≡ plain_answer 5 (with_word which written)))
         (λ f. (f.text.items ≡ text.items) × IsFoundBy (options_of options) image.now f)) }
 {
-    match find_program(alloc, image, text, options)? {
+    match find_program_in(alloc, image, text, options, Dialect::Paired)? {
         Step::Go(found) => Ok(Step::Go(found)),
         Step::Answered(refusal) => Ok(Step::Answered(of_side(alloc, which, refusal)?)),
     }
@@ -151,6 +154,7 @@ pub fn read_notes_of<H: Shelf>(
 ) -> Result<Step<Found>, AllocError>
     ensures keeps { (n : List ℕ) → H.holds shelf.new n ≡ H.holds shelf.old n }
     ensures never_falls { (n : List ℕ) → H.faults shelf.old n ≤ H.faults shelf.new n }
+    ensures begun { AreBegun (H.begun shelf.old) (H.begun shelf.new) (name.now ∷ []) }
     ensures read { IfOk result (λ step. IfStep step
         (IsNotesAnswerOf which (H.holds shelf.old name.now) (H.faults shelf.old name.now) (H.faults shelf.new name.now) (options_of options) image.now)
         (λ f. Agrees (H.holds shelf.old name.now) f.text.items × (length f.text.items ≤ verified.notes_limit)
@@ -166,13 +170,13 @@ pub fn read_notes_of<H: Shelf>(
 
 /// The function of a side, whose notes were found over its file.
 pub fn sided<'a, 'b>(image: &'a Image<'b>, found: &'a Found, options: Options) -> Sided<'a, 'b>
-    requires bytes { AreBytes image.now }
     requires found { IsOverFile image.now found.now }
     ensures sided { IsSided result }
     ensures side { side_of result ≡ equals.side_of (options_of options) image.now (program_found_by (options_of options) image.now found.now) }
     ensures names { layout_names result.layout ≡ names_of result.image.now }
     ensures file { result.image.now ≡ image.now }
 {
+    image.bytes();
     Sided {
         image,
         notes: &found.notes,
@@ -204,6 +208,7 @@ pub fn read_links<H: Shelf>(
 ) -> Result<Step<Vec<Link>>, AllocError>
     ensures keeps { (n : List ℕ) → H.holds shelf.new n ≡ H.holds shelf.old n }
     ensures never_falls { (n : List ℕ) → H.faults shelf.old n ≤ H.faults shelf.new n }
+    ensures begun { AreBegun (H.begun shelf.old) (H.begun shelf.new) (name.now ∷ []) }
     ensures read { IfOk result (λ step. IfStep step
         (IsLinksAnswer (H.holds shelf.old name.now) (H.faults shelf.old name.now) (H.faults shelf.new name.now) (layout_names first) (layout_names second))
         (λ v. AreLinksFound (H.holds shelf.old name.now) first second v.items)) }

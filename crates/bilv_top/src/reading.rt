@@ -1,10 +1,11 @@
 //! Reading whole files, and the answers where that fails.
-ghost use Rattle.std.specs.Prelude.{◌≡◌, ℕ, ◌≤◌, List, IfOk, length};
+ghost use Rattle.std.specs.Prelude.{◌≡◌, ℕ, ◌≤◌, List, [], ◌∷◌, IfOk, length};
 ghost use Rattle.call_spec.specs.Calls.{plain_answer, read_fault};
 ghost use Rattle.call_spec.specs.Outside.{Agrees};
 ghost use Rattle.bilv_top.specs.Answers.{IfStep, answer_of};
 ghost use Rattle.bilv_top.specs.Due.{IsUnread};
 ghost use Rattle.bilv_top.specs.Read.{IsFileRead};
+ghost use Rattle.io_edges.specs.Begun.{AreBegun};
 
 use crate::answer::{Answer, Evidence, Step};
 use exit_status::READ_FAULT;
@@ -31,6 +32,7 @@ pub fn read_within<H: Shelf>(
 ) -> Result<FileRead, AllocError>
     ensures keeps { (n : List ℕ) → H.holds shelf.new n ≡ H.holds shelf.old n }
     ensures never_falls { (n : List ℕ) → H.faults shelf.old n ≤ H.faults shelf.new n }
+    ensures begun { AreBegun (H.begun shelf.old) (H.begun shelf.new) (name.now ∷ []) }
     ensures read { IfOk result (IsFileRead (H.holds shelf.old name.now) limit (H.faults shelf.old name.now) (H.faults shelf.new name.now)) }
 {
     match read_all(alloc, shelf, name, limit) {
@@ -73,6 +75,7 @@ pub fn read_or_answer<H: Shelf>(
 ) -> Result<Step<Vec<u8>>, AllocError>
     ensures keeps { (n : List ℕ) → H.holds shelf.new n ≡ H.holds shelf.old n }
     ensures never_falls { (n : List ℕ) → H.faults shelf.old n ≤ H.faults shelf.new n }
+    ensures begun { AreBegun (H.begun shelf.old) (H.begun shelf.new) (name.now ∷ []) }
     ensures read { IfOk result (λ step. IfStep step
         (IsUnread (H.holds shelf.old name.now) (H.faults shelf.old name.now) (H.faults shelf.new name.now) limit (plain_answer status large.now))
         (λ v. Agrees (H.holds shelf.old name.now) v.items × (length v.items ≤ limit))) }

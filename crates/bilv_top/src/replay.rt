@@ -1,13 +1,14 @@
 //! The answer that replays a report.
-ghost use Rattle.std.specs.Prelude.{◌≡◌, ◌≤◌, ℕ, List, IfOk};
+ghost use Rattle.std.specs.Prelude.{◌≡◌, ◌≤◌, ℕ, List, [], ◌∷◌, IfOk};
 ghost use Rattle.call_spec.specs.Calls.{plain_answer, AfterRead};
 ghost use Rattle.bilv_spec.specs.Files.{program_of};
 ghost use Rattle.bilv_spec.specs.Replays.{replay_answer};
-ghost use Rattle.notes_lang.specs.Drafting.{notes_of};
+ghost use Rattle.notes_value.specs.NoteViews.{notes_of};
 ghost use Rattle.bilv_top.specs.Answers.{answer_of};
 ghost use Rattle.bilv_top.specs.Chosen.{IsMachineOf};
 ghost use Rattle.io_edges.specs.Met.{seen};
 ghost use Rattle.bilv_top.specs.Due.{IsOverFile};
+ghost use Rattle.io_edges.specs.Begun.{AreBegun};
 
 use crate::answer::{Answer, Evidence, Step};
 use crate::inputs::Found;
@@ -51,6 +52,7 @@ pub fn replay_by<M: Machine, H: Shelf>(
     requires found { IsOverFile image.now found.now }
     ensures keeps { (n : List ℕ) → H.holds shelf.new n ≡ H.holds shelf.old n }
     ensures never_falls { (n : List ℕ) → H.faults shelf.old n ≤ H.faults shelf.new n }
+    ensures begun { AreBegun (H.begun shelf.old) (H.begun shelf.new) (name.now ∷ []) }
     ensures read { IfOk result (λ a. AfterRead (seen (H.holds shelf.old) (H.faults shelf.old) (H.faults shelf.new)) name.now
         (λ text b. b ≡ replay_answer (program_of M.machine image.now (notes_of found.now.notes) found.now.entry) M.form text) (answer_of a)) }
 {

@@ -7,7 +7,7 @@ ghost use Rattle.command_line.specs.Commands.{budget_of};
 ghost use Rattle.state_text.specs.Starts.{layout_of, named_of, written_of};
 ghost use Rattle.verdict.specs.Verdicts as verdicts;
 ghost use Rattle.verdict.specs.Verdicts.{report_of};
-ghost use Rattle.bilv_top.specs.Answers.{answer_of, evidence_of};
+ghost use Rattle.bilv_top.specs.Answers.{answer_of, evidence_of, exceeded_answer};
 
 use crate::answer::{Answer, Evidence};
 use crate::texts::budget_line;
@@ -15,19 +15,7 @@ use command_line::Budget;
 use exit_status::{DONE, FAILS, UNKNOWN};
 use state_text::{Layout, NamedEnding, Start, StateText, print_state};
 use std::alloc::{AllocError, Global};
-use verdict::Verdict;
-
-/// The budgets of the command line, as the verdict takes them.
-pub fn limits(budget: Budget) -> verdict::Budget
-    ensures { verdicts.budget_of result ≡ budget_of budget }
-{
-    verdict::Budget {
-        unroll: budget.unroll,
-        points: budget.points,
-        size: budget.size,
-        conflicts: budget.conflicts,
-    }
-}
+use verdict::{Exceeded, Verdict};
 
 /// The report that a budget of so much does not suffice, with what shows it. The error is want of memory.
 pub fn exceeded(
@@ -44,6 +32,19 @@ pub fn exceeded(
         text,
         evidence,
     })
+}
+
+/// The report that there are more points than the budget, or that the price is above it. The error is out of memory.
+pub fn beyond(alloc: Global, budget: Budget, past: Exceeded) -> Result<Answer, AllocError>
+    ensures { IfOk result (λ a. answer_of a ≡ exceeded_answer (budget_of budget) past) }
+{
+    match past {
+        Exceeded::Points { count } => {
+            let found = Evidence::Count(count as u128);
+            exceeded(alloc, b"points", budget.points, found)
+        }
+        Exceeded::Size { price } => exceeded(alloc, b"size", budget.size, Evidence::Count(price)),
+    }
 }
 
 /// The report of a verdict on all runs. The error is want of memory.
@@ -121,11 +122,7 @@ pub fn report(
                 start,
             )
         }
-        Verdict::Points { count } => {
-            let found = Evidence::Count(count as u128);
-            exceeded(alloc, b"points", budget.points, found)
-        }
-        Verdict::Size { price } => exceeded(alloc, b"size", budget.size, Evidence::Count(price)),
+        Verdict::Exceeded(past) => beyond(alloc, budget, past),
         Verdict::Conflicts { question, proof } => {
             let spent = Evidence::SpentOn { question, proof };
             exceeded(alloc, b"conflicts", budget.conflicts, spent)

@@ -1,13 +1,14 @@
 //! The command that verifies work which is made from a number.
-ghost use Rattle.std.specs.Prelude.{◌≡◌, ◌≤◌, ◌==◌, ℕ, List, not, Contains, IfOk, length};
+ghost use Rattle.std.specs.Prelude.{◌≡◌, ◌≤◌, ◌==◌, ℕ, List, [], not, Contains, IfOk, length};
 ghost use Rattle.std.specs.List.{prefix_len};
-ghost use Rattle.call_spec.specs.Calls.{IsBudget, default_options};
+ghost use Rattle.call_spec.specs.Calls.{default_options};
 ghost use Rattle.answer_spec.specs.Outcomes.{IsFirstLine, IsSelfRun};
 ghost use Rattle.command_spec.specs.Commands.{IsLawfulCommand, SelfRun};
 ghost use Rattle.word_spec.specs.Texts.{line_feed};
-ghost use Rattle.bilv_spec.specs.Verified.{IsVerified, elf_limit};
+ghost use Rattle.notes_spec.specs.Verified.{IsVerified, elf_limit};
 ghost use Rattle.bilv_top.specs.Answers.{answer_of};
 ghost use Rattle.command_line.specs.Commands.{budget_of};
+ghost use Rattle.io_edges.specs.Begun.{AreBegun};
 
 use crate::answer::{Answer, Step};
 use crate::inputs::{NOTES_LIMIT, find_program, refuse_elf};
@@ -21,6 +22,7 @@ use std::alloc::{AllocError, Global};
 use work_gen::{front, work};
 
 /// The answer to an ELF file and to notes, by their bytes. The error is want of memory.
+#[tactic(auto, using(io_edges::proofs::Beginning::begun_none))]
 fn verify_bytes<H: Shelf>(
     alloc: Global,
     shelf: &mut H,
@@ -29,9 +31,9 @@ fn verify_bytes<H: Shelf>(
     budget: Budget,
 ) -> Result<Answer, AllocError>
     requires short { length file.now ≤ elf_limit }
-    requires budget { IsBudget (budget_of budget) }
     ensures keeps { (n : List ℕ) → H.holds shelf.new n ≡ H.holds shelf.old n }
     ensures never_falls { (n : List ℕ) → H.faults shelf.old n ≤ H.faults shelf.new n }
+    ensures begun { AreBegun (H.begun shelf.old) (H.begun shelf.new) [] }
     ensures verified { IfOk result (λ a. IsVerified default_options file.now notes.items (budget_of budget) (answer_of a)) }
 {
     let image = match read_image(alloc, file) {
@@ -45,7 +47,7 @@ fn verify_bytes<H: Shelf>(
     match find_program(alloc, &image, notes, options)? {
         Step::Go(found) => {
             let task = Task::Report(budget);
-            answer_on(alloc, shelf, file, &image, &found, options, task)
+            answer_on(alloc, shelf, &image, &found, options, task)
         }
         Step::Answered(answer) => Ok(answer),
     }
@@ -70,6 +72,7 @@ fn first_line<'a>(text: &'a [u8]) -> &'a [u8]
 
 /// Verifies the work of a seed, below 2^31, and a number of items, 1 to 16000, with the default budgets. The answer's text is one line: what was made, and the
 /// first line of the report on it; the status and what shows that it is right are the report's. The shelf is not read. The error is out of memory.
+#[tactic(auto, using(io_edges::proofs::Beginning::begun_none))]
 pub fn selfrun<H: Shelf>(
     alloc: Global,
     shelf: &mut H,
@@ -79,6 +82,7 @@ pub fn selfrun<H: Shelf>(
     requires lawful { IsLawfulCommand (SelfRun seed count) }
     ensures keeps { (n : List ℕ) → H.holds shelf.new n ≡ H.holds shelf.old n }
     ensures never_falls { (n : List ℕ) → H.faults shelf.old n ≤ H.faults shelf.new n }
+    ensures begun { AreBegun (H.begun shelf.old) (H.begun shelf.new) [] }
     ensures right { IfOk result (λ a. IsSelfRun seed count (answer_of a)) }
 {
     let made = work(alloc, seed, count)?;

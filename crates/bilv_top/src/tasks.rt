@@ -1,14 +1,16 @@
 //! What is asked about the program that an ELF file and notes are, and its answer on the machine of the file.
-ghost use Rattle.std.specs.Prelude.{◌≡◌, ◌≤◌, ℕ, List, IfOk};
+ghost use Rattle.std.specs.Prelude.{◌≡◌, ◌≤◌, ℕ, List, ◌∷◌, IfOk};
 ghost use Rattle.bilv_spec.specs.Files.{layout_of, machine_of, program_of};
 ghost use Rattle.answer_spec.specs.Outcomes.{AfterBoth};
 ghost use Rattle.command_line.specs.Commands.{options_of};
-ghost use Rattle.notes_lang.specs.Drafting.{notes_of};
+ghost use Rattle.notes_value.specs.NoteViews.{notes_of};
 ghost use Rattle.io_edges.specs.Met.{seen};
 ghost use Rattle.bilv_top.specs.Answers.{answer_of};
 ghost use Rattle.bilv_top.specs.Chosen.{IsMachineOf};
 ghost use Rattle.bilv_top.specs.Due.{IsOverFile};
-ghost use Rattle.bilv_top.specs.Tasks.{IsDone, IsLawfulTask};
+ghost use Rattle.bilv_top.specs.Tasks.{IsDone};
+ghost use Rattle.io_edges.specs.Begun.{AreBegun};
+ghost use Rattle.bilv_top.specs.Reads.{names_of_task};
 
 use crate::answer::{Answer, Step};
 use crate::certify::certify_by;
@@ -20,7 +22,7 @@ use crate::replay::replay_by;
 use crate::script::script_by;
 use crate::verify::report_by;
 use arm_lift::Arm;
-use command_line::{Budget, Options, Question};
+use command_line::{Budget, Kind, Options};
 use elf32_reader::Image;
 use io_edges::Shelf;
 use machine_law::Machine;
@@ -36,45 +38,42 @@ pub enum Task<'a> {
     /// Its flow graph.
     Graph,
     /// The script of a question, within budgets.
-    Script(Question, Budget),
+    Script(Kind, Budget),
     /// The certificate of a question, within budgets.
-    Certificate(Question, Budget),
+    Certificate(Kind, Budget),
     /// Whether the run from the start of the report of this name ends as the report says.
     Replay(&'a str),
     /// Whether a question is true of the values of this name, within budgets.
-    Model(Question, Budget, &'a str),
+    Model(Kind, Budget, &'a str),
 }
 
-/// The answer to a task about a program of a machine, whose file has these bytes. The error is out of memory.
+/// The answer to a task about a program of a machine. The error is out of memory.
+#[tactic(auto, using(io_edges::proofs::Beginning::begun_none))]
 fn answer_by<M: Machine, H: Shelf>(
     alloc: Global,
     shelf: &mut H,
-    file: &[u8],
     image: &Image,
     found: &Found,
     task: Task,
 ) -> Result<Answer, AllocError>
     requires machine { IsMachineOf image.now M.machine }
-    requires same { image.now ≡ file.now }
     requires found { IsOverFile image.now found.now }
-    requires lawful { IsLawfulTask task }
     ensures keeps { (n : List ℕ) → H.holds shelf.new n ≡ H.holds shelf.old n }
     ensures never_falls { (n : List ℕ) → H.faults shelf.old n ≤ H.faults shelf.new n }
+    ensures begun { AreBegun (H.begun shelf.old) (H.begun shelf.new) (names_of_task task.entry) }
     ensures done { IfOk result (λ a. IsDone (seen (H.holds shelf.old) (H.faults shelf.old) (H.faults shelf.new)) task.entry M.form
         (program_of M.machine image.now (notes_of found.now.notes) found.now.entry) (answer_of a)) }
 {
     match task {
-        Task::Report(budget) => report_by::<M>(alloc, file, image, found, budget),
+        Task::Report(budget) => report_by::<M>(alloc, image, found, budget),
         Task::Graph => graph_by::<M>(alloc, image, found),
-        Task::Script(question, budget) => {
-            script_by::<M>(alloc, file, image, found, budget, question)
-        }
+        Task::Script(question, budget) => script_by::<M>(alloc, image, found, budget, question),
         Task::Certificate(question, budget) => {
-            certify_by::<M>(alloc, file, image, found, budget, question)
+            certify_by::<M>(alloc, image, found, budget, question)
         }
         Task::Replay(name) => replay_by::<M, H>(alloc, shelf, image, found, name),
         Task::Model(question, budget, name) => model_by::<M, H>(
-            alloc, shelf, file, image, found, budget, question, name,
+            alloc, shelf, image, found, budget, question, name,
         ),
     }
 }
@@ -83,7 +82,6 @@ fn answer_by<M: Machine, H: Shelf>(
 fn answer_of_machine<M: Machine, H: Shelf>(
     alloc: Global,
     shelf: &mut H,
-    file: &[u8],
     image: &Image,
     found: &Found,
     options: Options,
@@ -91,33 +89,30 @@ fn answer_of_machine<M: Machine, H: Shelf>(
 ) -> Result<Answer, AllocError>
     requires machine { machine_of (options_of options) image.now ≡ M.machine }
     requires form { layout_of (options_of options) image.now ≡ M.form }
-    requires same { image.now ≡ file.now }
     requires found { IsOverFile image.now found.now }
-    requires lawful { IsLawfulTask task }
     ensures keeps { (n : List ℕ) → H.holds shelf.new n ≡ H.holds shelf.old n }
     ensures never_falls { (n : List ℕ) → H.faults shelf.old n ≤ H.faults shelf.new n }
+    ensures begun { AreBegun (H.begun shelf.old) (H.begun shelf.new) (names_of_task task.entry) }
     ensures done { IfOk result (λ a. IsDone (seen (H.holds shelf.old) (H.faults shelf.old) (H.faults shelf.new)) task.entry
         (layout_of (options_of options) image.now)
         (program_of (machine_of (options_of options) image.now) image.now (notes_of found.now.notes) found.now.entry) (answer_of a)) }
 {
-    answer_by::<M, H>(alloc, shelf, file, image, found, task)
+    answer_by::<M, H>(alloc, shelf, image, found, task)
 }
 
-/// The answer to a task about a program, whose file has these bytes. The error is out of memory.
+/// The answer to a task about a program. The error is out of memory.
 pub fn answer_on<H: Shelf>(
     alloc: Global,
     shelf: &mut H,
-    file: &[u8],
     image: &Image,
     found: &Found,
     options: Options,
     task: Task,
 ) -> Result<Answer, AllocError>
-    requires same { image.now ≡ file.now }
     requires found { IsOverFile image.now found.now }
-    requires lawful { IsLawfulTask task }
     ensures keeps { (n : List ℕ) → H.holds shelf.new n ≡ H.holds shelf.old n }
     ensures never_falls { (n : List ℕ) → H.faults shelf.old n ≤ H.faults shelf.new n }
+    ensures begun { AreBegun (H.begun shelf.old) (H.begun shelf.new) (names_of_task task.entry) }
     ensures done { IfOk result (λ a. IsDone (seen (H.holds shelf.old) (H.faults shelf.old) (H.faults shelf.new)) task.entry
         (layout_of (options_of options) image.now)
         (program_of (machine_of (options_of options) image.now) image.now (notes_of found.now.notes) found.now.entry) (answer_of a)) }
@@ -125,7 +120,7 @@ pub fn answer_on<H: Shelf>(
     on_machine!(
         image,
         options,
-        answer_of_machine[H](alloc, shelf, file, image, found, options, task)
+        answer_of_machine[H](alloc, shelf, image, found, options, task)
     )
 }
 
@@ -139,9 +134,9 @@ pub fn answer_about<H: Shelf>(
     options: Options,
     task: Task,
 ) -> Result<Answer, AllocError>
-    requires lawful { IsLawfulTask task }
     ensures keeps { (n : List ℕ) → H.holds shelf.new n ≡ H.holds shelf.old n }
     ensures never_falls { (n : List ℕ) → H.faults shelf.old n ≤ H.faults shelf.new n }
+    ensures begun { AreBegun (H.begun shelf.old) (H.begun shelf.new) (elf.now ∷ notes.now ∷ names_of_task task.entry) }
     ensures answered { IfOk result (λ a. AfterBoth (seen (H.holds shelf.old) (H.faults shelf.old) (H.faults shelf.new)) (options_of options) elf.now notes.now
         (λ file. IsDone (seen (H.holds shelf.old) (H.faults shelf.old) (H.faults shelf.new)) task.entry (layout_of (options_of options) file))
         (answer_of a)) }
@@ -151,7 +146,7 @@ pub fn answer_about<H: Shelf>(
         Step::Answered(answer) => return Ok(answer),
     };
     match read_program(alloc, shelf, &file, notes, options)? {
-        Step::Go((image, found)) => answer_on(alloc, shelf, &file, &image, &found, options, task),
+        Step::Go((image, found)) => answer_on(alloc, shelf, &image, &found, options, task),
         Step::Answered(answer) => Ok(answer),
     }
 }

@@ -5,7 +5,7 @@ ghost use Rattle.word_spec.specs.Texts.{line, spaced, number_text};
 ghost use Rattle.clause_spec.specs.Certificates.{cause_words};
 ghost use Rattle.clause_spec.specs.Checks.{cnf_fault_words};
 ghost use Rattle.cnf_form.specs.Faults.{fault_of as cnf_fault_of};
-ghost use Rattle.bilv_spec.specs.Verified as verified;
+ghost use Rattle.notes_spec.specs.Verified as verified;
 ghost use Rattle.model_spec.specs.Models.{model_fault_words};
 ghost use Rattle.model_text.specs.Faults.{fault_of as model_fault_of};
 ghost use Rattle.notes_lang.specs.Judging.{fault_of as note_fault_of};
@@ -148,6 +148,8 @@ pub fn note_fault_words(kind: FaultKind) -> &'static [u8]
         FaultKind::Version => b"N12 Version",
         FaultKind::Const => b"N13 Const",
         FaultKind::All => b"N14 All",
+        FaultKind::Mixed => b"N15 Mixed",
+        FaultKind::Pair => b"N16 Pair",
     }
 }
 

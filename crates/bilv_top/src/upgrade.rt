@@ -1,10 +1,11 @@
 //! The answer that prints notes again as version 2.
-ghost use Rattle.std.specs.Prelude.{◌≡◌, ◌≤◌, ℕ, List, IfOk};
+ghost use Rattle.std.specs.Prelude.{◌≡◌, ◌≤◌, ℕ, List, [], ◌∷◌, IfOk};
 ghost use Rattle.answer_spec.specs.Outcomes.{IsRightAnswer, upgrade_answer};
 ghost use Rattle.command_spec.specs.Commands.{Upgrade};
 ghost use Rattle.command_line.specs.Commands.{options_of};
 ghost use Rattle.io_edges.specs.Met.{seen};
 ghost use Rattle.bilv_top.specs.Answers.{answer_of};
+ghost use Rattle.io_edges.specs.Begun.{AreBegun};
 
 use crate::answer::{Answer, Evidence, Step};
 use crate::inputs::{NOTES_LIMIT, read_elf, read_program};
@@ -40,6 +41,7 @@ pub fn upgrade<H: Shelf>(
 ) -> Result<Answer, AllocError>
     ensures keeps { (n : List ℕ) → H.holds shelf.new n ≡ H.holds shelf.old n }
     ensures never_falls { (n : List ℕ) → H.faults shelf.old n ≤ H.faults shelf.new n }
+    ensures begun { AreBegun (H.begun shelf.old) (H.begun shelf.new) (elf.now ∷ notes.now ∷ []) }
     ensures right { IfOk result (λ a. IsRightAnswer (seen (H.holds shelf.old) (H.faults shelf.old) (H.faults shelf.new))
         (Upgrade (options_of options) elf.now notes.now) (answer_of a)) }
 {

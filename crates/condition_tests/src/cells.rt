@@ -1,9 +1,9 @@
 //! The cells and the clauses of questions, against runs of the instruction table.
-ghost use Rattle.std.specs.Prelude.{◌≡◌, true, false};
+ghost use Rattle.std.specs.Prelude.{◌≡◌, ◌<◌, true, false};
 ghost use Rattle.bilv_spec.specs.Files.{is_rv};
 ghost use Rattle.machine_spec.specs.RvMachine.{rv32};
 ghost use Rattle.mem_cells.specs.Views.{cells_of, program_of_cells};
-ghost use Rattle.notes_lang.specs.Drafting.{notes_of};
+ghost use Rattle.notes_value.specs.NoteViews.{notes_of};
 ghost use Rattle.notes_value.specs.Reads.{AreReadable};
 ghost use Rattle.walk_spec.specs.Cells.{AreFormed};
 
@@ -94,12 +94,18 @@ pub fn count_clauses(alloc: Global, celled: &Celled, case: &Case) -> Result<[usi
     ask_clauses(alloc, celled, &clauses, case)
 }
 
-/// The first and the last address of the known bytes that are broken by zeros where `a3` is an address, and how many they are.
-pub fn broken_zeros(alloc: Global, celled: &Celled, at: u32) -> Result<[usize; 3], AllocError>
-    requires { AreFormed (program_of_cells celled.now) (cells_of celled.now) }
+/// The first and the last address of the known bytes that are broken by zeros where the register at a place is an address, and how many they are.
+pub fn broken_zeros(
+    alloc: Global,
+    celled: &Celled,
+    place: usize,
+    at: u32,
+) -> Result<[usize; 3], AllocError>
+    requires formed { AreFormed (program_of_cells celled.now) (cells_of celled.now) }
+    requires place { place < 31 }
 {
     let mut registers = [0u32; 31];
-    registers[12] = at;
+    registers[place] = at;
     let values = inputs(alloc, &registers, &[])?;
     let found = broken(alloc, celled, &values)?;
     match (found.first(), found.last()) {

@@ -1,9 +1,11 @@
-//! Tests of the questions of small programs of RISC-V as terms, as cells and as clauses, against runs of the instruction table, and of the logs
+//! Tests of the questions of small programs, but for one of RISC-V, as terms, as cells and as clauses, against runs of the instruction table, and of the logs
 //! of verdicts and of searches.
 //!
 //! They stand apart so that each part is proved once, and not again with its tests.
 #![tactic(auto)]
 
+#[cfg(test)]
+mod arm;
 #[cfg(test)]
 mod cells;
 #[cfg(test)]

@@ -2,7 +2,7 @@
 ghost use Rattle.std.specs.Prelude.{◌≡◌, true, false};
 ghost use Rattle.bilv_spec.specs.Files.{is_rv};
 ghost use Rattle.machine_spec.specs.RvMachine.{rv32};
-ghost use Rattle.notes_lang.specs.Drafting.{notes_of};
+ghost use Rattle.notes_value.specs.NoteViews.{notes_of};
 ghost use Rattle.notes_value.specs.Reads.{AreOver, AreReadable};
 
 use crate::programs::{Case, ENTRY};
@@ -31,32 +31,24 @@ fn is_given(alloc: Global, proof: &Proof) -> Result<bool, AllocError> {
     }
 }
 
-/// The verdict on a program, whose file has these bytes, within the budgets where none is given.
-fn verdict_on(alloc: Global, file: &[u8], case: &Case) -> Result<Verdict, AllocError>
-    requires same { case.now.image.now ≡ file.now }
+/// The verdict on a program within the budgets where none is given.
+fn verdict_on(alloc: Global, case: &Case) -> Result<Verdict, AllocError>
     requires machine { is_rv case.now.image.now ≡ true }
     requires readable { AreReadable (rv32 false).has_register (notes_of case.now.notes.now) }
     requires over { AreOver (rv32 false).has_register (rv32 false).has_flag (notes_of case.now.notes.now) }
 {
-    let _ = file;
-    let budget = Budget {
-        unroll: 64,
-        points: 65536,
-        size: 1_073_741_824,
-        conflicts: 200_000,
-    };
+    let budget = Budget::standard();
     let verdict = verify::<Rv32<0>>(alloc, case.image, case.notes, ENTRY, &budget)?;
     Ok(verdict)
 }
 
 /// How many logs of a program that holds are those that the search gives: 2 at most.
-pub fn count_given(alloc: Global, file: &[u8], case: &Case) -> Result<usize, AllocError>
-    requires same { case.now.image.now ≡ file.now }
+pub fn count_given(alloc: Global, case: &Case) -> Result<usize, AllocError>
     requires machine { is_rv case.now.image.now ≡ true }
     requires readable { AreReadable (rv32 false).has_register (notes_of case.now.notes.now) }
     requires over { AreOver (rv32 false).has_register (rv32 false).has_flag (notes_of case.now.notes.now) }
 {
-    match verdict_on(alloc, file, case)? {
+    match verdict_on(alloc, case)? {
         Verdict::Holds { fail, turn, .. } => {
             let first = is_given(alloc, &fail)?;
             let second = is_given(alloc, &turn)?;

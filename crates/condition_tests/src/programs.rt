@@ -1,10 +1,16 @@
-//! Small programs of RISC-V.
+//! Small programs.
 ghost use Rattle.std.specs.Prelude.{IfOk};
 ghost use Rattle.verdict.specs.Rounds.{AreRising};
 
 use elf32_reader::Image;
-use notes_lang::Notes;
+use notes_value::Notes;
 use std::alloc::{AllocError, Global};
+
+/// The number of RISC-V in a file's header.
+pub const RISC_V: u8 = 0xf3;
+
+/// The number of ARM.
+pub const ARM: u8 = 0x28;
 
 /// The header of a file for RISC-V with one program header behind it.
 const HEADER: [u8; 52] = [
@@ -34,13 +40,20 @@ pub struct Case<'a, 'b> {
     pub k: u8,
 }
 
-/// A file of at most 100,000 words of code. The error is more of them, or want of memory.
-pub fn file(alloc: Global, words: &[u32]) -> Result<Vec<u8>, AllocError> {
+/// The header of a file for a machine of this number.
+fn header(machine: u8) -> [u8; 52] {
+    let mut header = HEADER;
+    header[18] = machine;
+    header
+}
+
+/// A file of at most 100,000 words of code, for a machine of this number. The error is more of them, or out of memory.
+pub fn file(alloc: Global, machine: u8, words: &[u32]) -> Result<Vec<u8>, AllocError> {
     if words.len() > 100_000 {
         return Err(AllocError);
     }
     let size = words.len() as u32 * 4;
-    let mut file = Vec::from_slice(alloc, &HEADER)?;
+    let mut file = Vec::from_slice(alloc, &header(machine))?;
     for number in [1, 84, ENTRY, ENTRY, size, size, 5, 4] {
         file.extend_from_slice(&number.to_le_bytes())?;
     }

@@ -4,7 +4,7 @@ ghost use Rattle.bilv_spec.specs.Files.{is_rv, program_of};
 ghost use Rattle.bilv_spec.specs.Points.{is_known_at};
 ghost use Rattle.machine_spec.specs.RvMachine.{rv32};
 ghost use Rattle.machine_spec.specs.StateText.{IsWritten, rv_layout};
-ghost use Rattle.notes_lang.specs.Drafting.{notes_of};
+ghost use Rattle.notes_value.specs.NoteViews.{notes_of};
 ghost use Rattle.notes_value.specs.Reads.{AreReadable};
 ghost use Rattle.state_text.specs.Starts.{written_of};
 
@@ -13,7 +13,7 @@ use bv_word::Word;
 use byte_mem::{Bytes32, Endian};
 use elf32_reader::Image;
 use known_bytes::known_stretch;
-use notes_lang::Notes;
+use notes_value::Notes;
 use question_form::Kind;
 use rv_lift::Rv32;
 use state_text::Start;

@@ -1,9 +1,9 @@
 //! What is counted of small programs, each made a passive program.
-ghost use Rattle.std.specs.Prelude.{◌≡◌, ◌≤◌, true, false, IfOk};
-ghost use Rattle.bilv_spec.specs.Files.{is_rv};
+ghost use Rattle.std.specs.Prelude.{◌≡◌, ◌<◌, ◌≤◌, true, false, IfOk};
+ghost use Rattle.bilv_spec.specs.Files.{is_rv, order_of, program_of};
 ghost use Rattle.machine_spec.specs.RvMachine.{rv32};
 ghost use Rattle.mem_cells.specs.Views.{cells_of, program_of_cells};
-ghost use Rattle.notes_lang.specs.Drafting.{notes_of};
+ghost use Rattle.notes_value.specs.NoteViews.{notes_of};
 ghost use Rattle.notes_value.specs.Reads.{AreOver, AreReadable};
 ghost use Rattle.verdict.specs.Measures.{IsMeasurable};
 ghost use Rattle.verdict.specs.Rounds.{AreRising, IsAskable};
@@ -14,11 +14,13 @@ ghost use Rattle.walk_spec.specs.WalkQuestions.{TellsQuestion};
 use crate::cells::{broken_zeros, count_clauses};
 use crate::conditions::{count_questions, equalities, selections};
 use crate::logs::count_given;
-use crate::programs::{Case, DATA, ENTRY, Program, addresses, file};
+use crate::programs::{Case, DATA, ENTRY, Program, RISC_V, addresses, file};
 use elf32_reader::{ElfFault, Image, read_image};
 use flow_graph::descend;
+use machine_law::Machine;
 use mem_cells::{Celled, cells_some};
-use notes_lang::{Notes, parse};
+use notes_lang::{Dialect, parse};
+use notes_value::Notes;
 use passify::passive;
 use program_points::PointsFault;
 use question_form::{Kind, Passive, Question, Unrolled};
@@ -28,6 +30,9 @@ use std::alloc::{AllocError, Global};
 use std::test::Fail;
 use unroller::unroll;
 use weakest_pre::question;
+
+/// The place of `a3` among the registers.
+const A3: usize = 12;
 
 /// What is counted.
 #[derive(Clone, Copy, PartialEq)]
@@ -49,26 +54,25 @@ pub enum Study {
     Logs,
 }
 
-/// A program unrolled.
-fn unrolled<'a>(
+/// A program of a machine unrolled.
+pub fn unrolled<'a, M: Machine>(
     alloc: Global,
-    file: &[u8],
     image: &'a Image<'a>,
     notes: &'a Notes,
     k: u64,
 ) -> Result<Unrolled<'a>, PointsFault>
-    requires same { image.now ≡ file.now }
-    requires machine { is_rv image.now ≡ true }
-    requires over { AreOver (rv32 false).has_register (rv32 false).has_flag (notes_of notes.now) }
+    requires order { order_of image.now ≡ M.machine.endian }
+    requires over { AreOver M.machine.has_register M.machine.has_flag (notes_of notes.now) }
     requires k { k ≤ 4096 }
     ensures { IfOk result IsMeasurable }
 {
-    let graph = descend::<Rv32<0>>(alloc, image, notes, ENTRY)?;
-    unroll::<Rv32<0>>(alloc, &graph, image, notes, ENTRY, k, 65536)
+    image.bytes();
+    let graph = descend::<M>(alloc, image, notes, ENTRY)?;
+    unroll::<M>(alloc, &graph, image, notes, ENTRY, k, 65536)
 }
 
 /// Its passive program.
-fn passive_of<'a>(alloc: Global, unrolled: &'a Unrolled<'a>) -> Result<Passive<'a>, AllocError>
+pub fn passive_of<'a>(alloc: Global, unrolled: &'a Unrolled<'a>) -> Result<Passive<'a>, AllocError>
     requires { IsMeasurable unrolled.now }
     ensures { IfOk result IsAskable }
 {
@@ -93,16 +97,28 @@ fn study_cells(
             let [trues, wrong] = count_clauses(alloc, celled, case)?;
             Ok([trues, wrong, 0, 0])
         }
-        Study::Broken { at } => {
-            let [first, last, count] = broken_zeros(alloc, celled, at)?;
-            Ok([first, last, count, 0])
-        }
         Study::Pairs => {
             let before = equalities(&celled.question.dag);
             Ok([reads, pairs, equalities(&celled.dag), before])
         }
         _ => Ok([reads, pairs, celled.asked.len(), 0]),
     }
+}
+
+/// The first, the last and the number of the known bytes that are broken by zeros, where no byte is asked and the register at a place is an address, of whether
+/// a passive program fails.
+pub fn broken_of(
+    alloc: Global,
+    passive: &Passive,
+    place: usize,
+    at: u32,
+) -> Result<[usize; 3], AllocError>
+    requires askable { IsAskable passive.now }
+    requires place { place < 31 }
+{
+    let question = question(alloc, passive, Kind::Fail)?;
+    let celled = cells_some(alloc, &question, &[])?;
+    broken_zeros(alloc, &celled, place, at)
 }
 
 /// The bytes that a study asks.
@@ -166,6 +182,10 @@ fn study_passive(
 {
     match study {
         Study::Questions => count_questions(alloc, passive, case),
+        Study::Broken { at } => {
+            let [first, last, count] = broken_of(alloc, passive, A3, at)?;
+            Ok([first, last, count, 0])
+        }
         _ => study_fails(alloc, passive, case, study),
     }
 }
@@ -185,40 +205,39 @@ fn study_unrolled(
     study_passive(alloc, &passive, case, study)
 }
 
-/// The counts of a program, whose file has these bytes.
-fn study_program(alloc: Global, bytes: &[u8], case: &Case, study: Study) -> Result<[usize; 4], Fail>
-    requires same { case.now.image.now ≡ bytes.now }
+/// The counts of a program of an image.
+fn study_program(alloc: Global, case: &Case, study: Study) -> Result<[usize; 4], Fail>
     requires machine { is_rv case.now.image.now ≡ true }
     requires readable { AreReadable (rv32 false).has_register (notes_of case.now.notes.now) }
     requires over { AreOver (rv32 false).has_register (rv32 false).has_flag (notes_of case.now.notes.now) }
 {
     if study == Study::Logs {
-        return Ok([count_given(alloc, bytes, case)?, 0, 0, 0]);
+        return Ok([count_given(alloc, case)?, 0, 0, 0]);
     }
-    let unrolled = unrolled(alloc, bytes, case.image, case.notes, u64::from(case.k))?;
+    let k = u64::from(case.k);
+    let unrolled = unrolled::<Rv32<0>>(alloc, case.image, case.notes, k)?;
     let counts = study_unrolled(alloc, &unrolled, case, study)?;
     Ok(counts)
 }
 
-/// The counts of words and notes, where the words' file has these bytes.
+/// The counts of words and notes over the words' file.
 fn study_notes(
     alloc: Global,
-    bytes: &[u8],
     image: &Image,
     program: &Program,
     study: Study,
 ) -> Result<[usize; 4], Fail>
-    requires same { image.now ≡ bytes.now }
     requires machine { is_rv image.now ≡ true }
 {
-    let notes = parse(alloc, program.notes, Layout::Rv32 { compressed: false })?;
+    let layout = Layout::Rv32 { compressed: false };
+    let notes = parse(alloc, program.notes, layout, Dialect::Plain)?;
     let case = Case {
         words: program.words,
         image,
         notes: &notes,
         k: program.k,
     };
-    study_program(alloc, bytes, &case, study)
+    study_program(alloc, &case, study)
 }
 
 /// The counts of a program, whose file has these bytes.
@@ -232,11 +251,11 @@ fn study_file(
     if !image.is_risc_v() {
         return Err(Fail::from(ElfFault::Machine));
     }
-    study_notes(alloc, bytes, &image, program, study)
+    study_notes(alloc, &image, program, study)
 }
 
 /// The counts of a program.
 pub fn counts_of(alloc: Global, program: &Program, study: Study) -> Result<[usize; 4], Fail> {
-    let file = file(alloc, program.words)?;
+    let file = file(alloc, RISC_V, program.words)?;
     study_file(alloc, file.as_slice(), program, study)
 }

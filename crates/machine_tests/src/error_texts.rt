@@ -33,7 +33,7 @@ const FILES: [ElfFault; 13] = [
 
 const SYMBOLS: [SymFault; 2] = [SymFault::NoFunction, SymFault::Ambiguous(4, 8)];
 
-const KINDS: [FaultKind; 11] = [
+const KINDS: [FaultKind; 16] = [
     FaultKind::Limit,
     FaultKind::Byte,
     FaultKind::Token,
@@ -45,6 +45,11 @@ const KINDS: [FaultKind; 11] = [
     FaultKind::Align,
     FaultKind::Range,
     FaultKind::Entry,
+    FaultKind::Version,
+    FaultKind::Const,
+    FaultKind::All,
+    FaultKind::Mixed,
+    FaultKind::Pair,
 ];
 
 const LINE: NoteFault = NoteFault {
@@ -94,6 +99,11 @@ N8 Name
 N9 Align
 N10 Range
 N11 Entry
+N12 Version
+N13 Const
+N14 All
+N15 Mixed
+N16 Pair
 S1 Line
 S2 Register
 S3 Byte

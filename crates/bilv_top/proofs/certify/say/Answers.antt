@@ -2,26 +2,20 @@ use Rattle.std.proofs.lemmas.Result.{IfOk-weaker}
 use Rattle.bilv_top.specs.Answers.{answer_of}
 use Rattle.command_line.specs.Commands.{budget_of}
 use Rattle.question_form.specs.Views.{kind_of}
-use Rattle.bilv_top.proofs.Verdicts.{points_said, size_said, conflicts_said, satisfiable_said, refuted_said}
+use Rattle.bilv_top.proofs.Verdicts.{exceeded_said, conflicts_said, satisfiable_said, refuted_said}
 use Rattle.bilv_top.proofs.certify.say.Goals as goal
 
-pub returns-in-Points : goal.returns-in-Points
-returns-in-Points c =
-    IfOk-weaker c.exceeded.result _ _
-    (λ a is p came. points_said p (budget_of c.args.budget) (kind_of c.args.question) (answer_of a) c.in-Points.count is (rw c.in-Points.is at came))
-    c.exceeded.ensures
-
-pub returns-in-Size : goal.returns-in-Size
-returns-in-Size c =
-    IfOk-weaker c.exceeded-in-Size.result _ _
-    (λ a is p came. size_said p (budget_of c.args.budget) (kind_of c.args.question) (answer_of a) c.in-Size.price is (rw c.in-Size.is at came))
-    c.exceeded-in-Size.ensures
+pub returns-in-Exceeded : goal.returns-in-Exceeded
+returns-in-Exceeded c =
+    IfOk-weaker c.beyond.result _ _
+    (λ a is p came. exceeded_said p (budget_of c.args.budget) (kind_of c.args.question) (answer_of a) c.in-Exceeded.past is (rw c.in-Exceeded.is at came))
+    c.beyond.ensures
 
 pub returns-in-Conflicts : goal.returns-in-Conflicts
 returns-in-Conflicts c =
-    IfOk-weaker c.exceeded-in-Conflicts.result _ _
+    IfOk-weaker c.exceeded.result _ _
     (λ a is p came. conflicts_said p (budget_of c.args.budget) (kind_of c.args.question) (answer_of a) c.in-Conflicts.proof is (rw c.in-Conflicts.is at came))
-    c.exceeded-in-Conflicts.ensures
+    c.exceeded.ensures
 
 pub returns-in-Satisfiable : goal.returns-in-Satisfiable
 returns-in-Satisfiable c =

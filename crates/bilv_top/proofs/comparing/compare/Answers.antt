@@ -6,3 +6,6 @@ returns-in-Equal-clause-compared g c = IfOk-weaker c.equal.result _ _ (λ a is s
 
 pub returns-in-Differ-clause-compared : goal.returns-in-Differ-clause-compared
 returns-in-Differ-clause-compared g c = IfOk-weaker c.differ.result _ _ (λ a is s met. rw c.in-Differ.is (is s met)) c.differ.ensures.read
+
+pub returns-in-Differ-clause-begun : goal.returns-in-Differ-clause-begun
+returns-in-Differ-clause-begun g c = rw c.in-Differ.is c.differ.ensures.begun

@@ -1,4 +1,4 @@
-use Rattle.std.proofs.Common.{subst}
+use Rattle.std.proofs.Common.{subst, [], ◌∷◌}
 use Rattle.std.proofs.lemmas.Result.{IfOk-weaker}
 use Rattle.links_lang.specs.Views.{links_of}
 use Rattle.notes_lang.specs.Parsing.{layout_names}
@@ -6,6 +6,8 @@ use Rattle.pair_sides.specs.Sides.{side_of}
 use Rattle.bilv_top.specs.Answers.{answer_of}
 use Rattle.bilv_top.specs.Pairs.{IsCompared}
 use Rattle.bilv_top.proofs.Compared.{links_answered, links_found, met_later}
+use Rattle.io_edges.proofs.Beginning.{begun_more, begun_then}
+use Rattle.bilv_top.specs.Reads.{names_of_pair_task}
 use Rattle.bilv_top.proofs.comparing.compare_by_links.Goals as goal
 
 pub returns-in-Go-clause-compared : goal.returns-in-Go-clause-compared
@@ -31,3 +33,12 @@ returns-in-Answered-clause-compared g c s met =
     (answer_of c.in-Answered.answer) first.image.now second.image.now (layout_names first.layout) (layout_names second.layout)
     (IsCompared s c.args.task (side_of first) (side_of second)) c.requires.first_names c.requires.second_names
     (rw c.in-Answered.is at c.in_ok-links.ensures.read)
+
+pub returns-in_err-links-clause-begun : goal.returns-in_err-links-clause-begun
+returns-in_err-links-clause-begun g c = begun_more _ _ (c.args.links.now ∷ []) (names_of_pair_task c.args.task) c.read_links.ensures.begun
+
+pub returns-in-Go-clause-begun : goal.returns-in-Go-clause-begun
+returns-in-Go-clause-begun g c = begun_then _ _ _ (c.args.links.now ∷ []) (names_of_pair_task c.args.task) c.read_links.ensures.begun c.compare.ensures.begun
+
+pub returns-in-Answered-clause-begun : goal.returns-in-Answered-clause-begun
+returns-in-Answered-clause-begun g c = begun_more _ _ (c.args.links.now ∷ []) (names_of_pair_task c.args.task) c.read_links.ensures.begun

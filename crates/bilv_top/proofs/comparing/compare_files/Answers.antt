@@ -1,7 +1,6 @@
-use Rattle.std.proofs.Common.{sym, subst}
+use Rattle.std.proofs.Common.{sym, subst, [], ◌∷◌}
 use Rattle.std.proofs.lemmas.Result.{IfOk-weaker}
-use Rattle.std.proofs.Common.{arith}
-use Rattle.bilv_spec.specs.Verified.{IsAccepted}
+use Rattle.notes_spec.specs.Verified.{IsAccepted}
 use Rattle.command_line.specs.Commands.{names_of, options_of}
 use Rattle.pair_spec.specs.Equals.{AfterElfOf, elf_accepted}
 use Rattle.std.specs.Prelude.{codes}
@@ -9,7 +8,8 @@ use Rattle.bilv_top.specs.declared.pair.Which.TheVariants.{First, Second}
 use Rattle.bilv_top.specs.Answers.{answer_of}
 use Rattle.bilv_top.specs.Pairs.{AfterFirstNotes, AfterSecondElf, AreCompared}
 use Rattle.bilv_top.proofs.Compared.{elf_answered, elf_unread_of, file_read, met_later}
-use Rattle.bilv_top.proofs.Founds.{small_bytes}
+use Rattle.io_edges.proofs.Beginning.{begun_more, begun_then}
+use Rattle.bilv_top.specs.Reads.{names_after_elfs}
 use Rattle.bilv_top.proofs.comparing.compare_files.Goals as goal
 
 pub returns-in-Answered-clause-compared : goal.returns-in-Answered-clause-compared
@@ -18,11 +18,6 @@ returns-in-Answered-clause-compared g c s met =
     let f = c.args.first.now in
     elf_answered First f (AfterSecondElf s o (names_of c.args.names) f (AreCompared s o c.args.task f)) (answer_of c.in-Answered.answer)
     (rw c.in-Answered.is at c.in_ok-first.ensures)
-
-pub compare_to_file-requires-clause-bytes : goal.compare_to_file-requires-clause-bytes
-compare_to_file-requires-clause-bytes g c =
-    let is = rw c.in-Go.is at c.in_ok-first.ensures in
-    small_bytes c.args.first.now c.in-Go.first is.0 (λ i. omega (arith, c.type_inv.first i))
 
 pub compare_to_file-requires-clause-accepted : goal.compare_to_file-requires-clause-accepted
 compare_to_file-requires-clause-accepted g c = let is = rw c.in-Go.is at c.in_ok-first.ensures in subst IsAccepted (sym is.0) is.1
@@ -57,3 +52,15 @@ returns-clause-compared g c s met =
     (elf_unread_of s (g.H.Shelf.holds c.args.shelf.now) (g.H.Shelf.faults c.args.shelf.now) (g.H.Shelf.faults c.read_elf_of.new.shelf) met
     names.other_elf (answer_of c.in-Answered-2.answer) Second (λ e. AfterFirstNotes s o names f e (AreCompared s o c.args.task f e))
     (rw c.in-Answered-2.is at c.in_ok-second.ensures.read))
+
+pub returns-in_err-second-clause-begun : goal.returns-in_err-second-clause-begun
+returns-in_err-second-clause-begun g c =
+    begun_more _ _ ((names_of c.args.names).other_elf ∷ []) (names_after_elfs (names_of c.args.names) c.args.task) c.read_elf_of.ensures.begun
+
+pub returns-in-Go-2-clause-begun : goal.returns-in-Go-2-clause-begun
+returns-in-Go-2-clause-begun g c =
+    begun_then _ _ _ ((names_of c.args.names).other_elf ∷ []) (names_after_elfs (names_of c.args.names) c.args.task) c.read_elf_of.ensures.begun c.compare_to_file.ensures.begun
+
+pub returns-clause-begun : goal.returns-clause-begun
+returns-clause-begun g c =
+    begun_more _ _ ((names_of c.args.names).other_elf ∷ []) (names_after_elfs (names_of c.args.names) c.args.task) c.read_elf_of.ensures.begun

@@ -1,4 +1,4 @@
-use Rattle.std.proofs.Common.{subst}
+use Rattle.std.proofs.Common.{subst, [], ◌∷◌}
 use Rattle.std.proofs.lemmas.Result.{IfOk-weaker}
 use Rattle.command_line.specs.Commands.{names_of, options_of}
 use Rattle.pair_spec.specs.Equals as equals
@@ -6,6 +6,8 @@ use Rattle.bilv_top.specs.declared.pair.Which.TheVariants.{First}
 use Rattle.bilv_top.specs.Answers.{answer_of}
 use Rattle.bilv_top.specs.Pairs.{AfterSecondNotes, AreCompared, IsCompared, program_found_by}
 use Rattle.bilv_top.proofs.Compared.{met_later, notes_answered_of, notes_found_of}
+use Rattle.io_edges.proofs.Beginning.{begun_more, begun_then}
+use Rattle.bilv_top.specs.Reads.{names_after_notes}
 use Rattle.bilv_top.proofs.comparing.compare_opened.Goals as goal
 
 pub returns-in-Go-clause-compared : goal.returns-in-Go-clause-compared
@@ -38,3 +40,15 @@ returns-in-Answered-clause-compared g c s met =
     notes_answered_of s (g.H.Shelf.holds c.args.shelf.now) (g.H.Shelf.faults c.args.shelf.now) (g.H.Shelf.faults c.read_notes_of.new.shelf) met
     names.notes (answer_of c.in-Answered.answer) First o f (λ p. AfterSecondNotes s o names f e (AreCompared s o c.args.task f e p))
     (rw c.in-Answered.is at c.in_ok-found.ensures.read)
+
+pub returns-in_err-found-clause-begun : goal.returns-in_err-found-clause-begun
+returns-in_err-found-clause-begun g c =
+    begun_more _ _ ((names_of c.args.names).notes ∷ []) (names_after_notes (names_of c.args.names) c.args.task) c.read_notes_of.ensures.begun
+
+pub returns-in-Go-clause-begun : goal.returns-in-Go-clause-begun
+returns-in-Go-clause-begun g c =
+    begun_then _ _ _ ((names_of c.args.names).notes ∷ []) (names_after_notes (names_of c.args.names) c.args.task) c.read_notes_of.ensures.begun c.compare_to_second.ensures.begun
+
+pub returns-in-Answered-clause-begun : goal.returns-in-Answered-clause-begun
+returns-in-Answered-clause-begun g c =
+    begun_more _ _ ((names_of c.args.names).notes ∷ []) (names_after_notes (names_of c.args.names) c.args.task) c.read_notes_of.ensures.begun

@@ -1,20 +1,13 @@
 use Rattle.std.proofs.Common.{sym, subst}
 use Rattle.std.proofs.lemmas.Result.{IfOk-weaker}
-use Rattle.std.proofs.Common.{arith}
-use Rattle.bilv_spec.specs.Verified.{IsAccepted}
+use Rattle.notes_spec.specs.Verified.{IsAccepted}
 use Rattle.command_line.specs.Commands.{names_of, options_of}
 use Rattle.pair_spec.specs.Equals.{elf_accepted}
 use Rattle.bilv_top.specs.declared.pair.Which.TheVariants.{Second}
 use Rattle.bilv_top.specs.Answers.{answer_of}
 use Rattle.bilv_top.specs.Pairs.{AfterFirstNotes, AreCompared}
 use Rattle.bilv_top.proofs.Compared.{elf_answered}
-use Rattle.bilv_top.proofs.Founds.{small_bytes}
 use Rattle.bilv_top.proofs.comparing.compare_to_file.Goals as goal
-
-pub compare_opened-requires-clause-second_bytes : goal.compare_opened-requires-clause-second_bytes
-compare_opened-requires-clause-second_bytes g c =
-    let is = rw c.in-Go.is at c.in_ok-second.ensures in
-    small_bytes c.args.second.now c.in-Go.second is.0 (λ i. omega (arith, c.type_inv.second i))
 
 pub compare_opened-requires-clause-second_accepted : goal.compare_opened-requires-clause-second_accepted
 compare_opened-requires-clause-second_accepted g c =

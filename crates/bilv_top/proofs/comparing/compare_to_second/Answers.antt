@@ -1,12 +1,14 @@
-use Rattle.std.proofs.Common.{subst}
+use Rattle.std.proofs.Common.{subst, [], ◌∷◌}
 use Rattle.std.proofs.lemmas.Result.{IfOk-weaker}
-use Rattle.command_line.specs.Commands.{options_of}
+use Rattle.command_line.specs.Commands.{options_of, names_of}
 use Rattle.pair_sides.specs.Sides.{side_of}
 use Rattle.pair_spec.specs.Equals as equals
 use Rattle.bilv_top.specs.declared.pair.Which.TheVariants.{Second}
 use Rattle.bilv_top.specs.Answers.{answer_of}
 use Rattle.bilv_top.specs.Pairs.{AfterLinksRead, IsCompared, program_found_by}
 use Rattle.bilv_top.proofs.Compared.{met_later, notes_answered_of, notes_found_of}
+use Rattle.io_edges.proofs.Beginning.{begun_more, begun_then}
+use Rattle.bilv_top.specs.Reads.{names_of_pair_task}
 use Rattle.bilv_top.proofs.comparing.compare_to_second.Goals as goal
 
 pub returns-in-Go-clause-compared : goal.returns-in-Go-clause-compared
@@ -38,3 +40,15 @@ returns-in-Answered-clause-compared g c s met =
     c.args.names.other_notes.now (answer_of c.in-Answered.answer) Second o file
     (λ q. AfterLinksRead s c.args.names.links.now first.image.now file (IsCompared s c.args.task (side_of first) (equals.side_of o file q)))
     (rw c.in-Answered.is at c.in_ok-found.ensures.read)
+
+pub returns-in_err-found-clause-begun : goal.returns-in_err-found-clause-begun
+returns-in_err-found-clause-begun g c =
+    begun_more _ _ ((names_of c.args.names).other_notes ∷ []) ((names_of c.args.names).links ∷ names_of_pair_task c.args.task) c.read_notes_of.ensures.begun
+
+pub returns-in-Go-clause-begun : goal.returns-in-Go-clause-begun
+returns-in-Go-clause-begun g c =
+    begun_then _ _ _ ((names_of c.args.names).other_notes ∷ []) ((names_of c.args.names).links ∷ names_of_pair_task c.args.task) c.read_notes_of.ensures.begun c.compare_by_links.ensures.begun
+
+pub returns-in-Answered-clause-begun : goal.returns-in-Answered-clause-begun
+returns-in-Answered-clause-begun g c =
+    begun_more _ _ ((names_of c.args.names).other_notes ∷ []) ((names_of c.args.names).links ∷ names_of_pair_task c.args.task) c.read_notes_of.ensures.begun

@@ -1,7 +1,6 @@
 use Rattle.command_line.specs.Commands.{budget_of}
 use Rattle.links_lang.specs.Views.{links_of}
 use Rattle.pair_sides.specs.Sides.{program_of_side, side_of}
-use Rattle.verdict.specs.Verdicts as sides
 use Rattle.bilv_top.specs.Answers.{answer_of}
 use Rattle.bilv_top.proofs.PairReported.{pair_reported}
 use Rattle.bilv_top.proofs.equal.equal.Goals as goal
@@ -10,6 +9,6 @@ pub returns : goal.returns
 returns c =
     let first = c.args.first.now in
     let second = c.args.second.now in
-    pair_reported (side_of first) (side_of second) (links_of c.args.links.now) (sides.budget_of c.limits-limits.result) (budget_of c.args.budget)
-    c.in_ok-verdict.verdict (answer_of c.in_ok-answer.answer) c.limits-limits.ensures c.in_ok-verdict.ensures
+    pair_reported (side_of first) (side_of second) (links_of c.args.links.now) (budget_of c.args.budget)
+    c.in_ok-verdict.verdict (answer_of c.in_ok-answer.answer) c.in_ok-verdict.ensures
     (c.in_ok-answer.ensures (program_of_side first) (program_of_side second))

@@ -1,7 +1,7 @@
 use Rattle.bilv_spec.specs.Files.{program_of}
 use Rattle.bilv_spec.specs.Run.{Program}
 use Rattle.flag_live.proofs.FlagSets.{no_flags}
-use Rattle.notes_lang.specs.Drafting.{notes_of}
+use Rattle.notes_value.specs.NoteViews.{notes_of}
 use Rattle.bilv_top.proofs.Founds.{machine_order}
 use Rattle.bilv_top.proofs.graph.live_text.Goals as goal
 

@@ -4,7 +4,7 @@ use Rattle.bilv_spec.specs.ElfFaults.{Finds}
 use Rattle.bilv_spec.specs.Files.{machine_of, IsFunctionAt}
 use Rattle.command_line.specs.Commands.{options_of}
 use Rattle.elf32_reader.specs.Symbols.{IsMissed}
-use Rattle.notes_lang.specs.Saying.{function_of}
+use Rattle.notes_value.specs.NoteViews.{function_of}
 use Rattle.bilv_top.specs.Names.{IsMissedFunction}
 use Rattle.bilv_top.proofs.inputs.entry_of.Goals as goal
 

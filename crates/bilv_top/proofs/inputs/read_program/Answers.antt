@@ -1,5 +1,5 @@
 use Rattle.std.proofs.Common.{subst}
-use Rattle.bilv_spec.specs.Verified.{elf_refused, elf_accepted}
+use Rattle.notes_spec.specs.Verified.{elf_refused, elf_accepted}
 use Rattle.bilv_top.specs.Answers.{answer_of, elf_text_of}
 use Rattle.command_line.specs.Commands.{options_of}
 use Rattle.bilv_top.specs.Due.{IsNotesAnswer}

@@ -3,7 +3,7 @@ use Rattle.clause_spec.specs.Checks.{text_limit}
 use Rattle.bilv_spec.specs.Files.{program_of}
 use Rattle.call_spec.specs.Calls.{was_read}
 use Rattle.call_spec.specs.Outside.{Agrees}
-use Rattle.notes_lang.specs.Drafting.{notes_of}
+use Rattle.notes_value.specs.NoteViews.{notes_of}
 use Rattle.io_edges.specs.Met.{seen}
 use Rattle.question_form.specs.Views.{kind_of}
 use Rattle.verdict.specs.Verdicts.{budget_of}

@@ -1,5 +1,5 @@
 use Rattle.bilv_spec.specs.Files.{program_of}
-use Rattle.notes_lang.specs.Drafting.{notes_of}
+use Rattle.notes_value.specs.NoteViews.{notes_of}
 use Rattle.question_form.specs.Views.{kind_of}
 use Rattle.state_text.specs.Starts.{layout_of}
 use Rattle.verdict.specs.Verdicts.{budget_of}

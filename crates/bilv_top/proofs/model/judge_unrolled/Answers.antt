@@ -4,7 +4,7 @@ use Rattle.bilv_spec.specs.Files.{program_of}
 use Rattle.call_spec.specs.Calls.{AfterRead}
 use Rattle.io_edges.specs.Met.{seen}
 use Rattle.model_spec.specs.Models.{IsModelAnswer, within}
-use Rattle.notes_lang.specs.Drafting.{notes_of}
+use Rattle.notes_value.specs.NoteViews.{notes_of}
 use Rattle.question_form.specs.Views.{kind_of, unrolled_of}
 use Rattle.question_form.specs.declared.unrolled.Unrolled.{Unrolled}
 use Rattle.state_text.specs.Starts.{layout_of}
@@ -19,10 +19,10 @@ returns-in-Above-clause-priced g c =
     let p = program_of g.M.Machine.machine c.args.image.now (notes_of c.args.found.now.notes) c.args.found.now.entry in
     let b = budget_of c.args.budget.now in
     let s = seen (g.H.Shelf.holds c.args.shelf.now) (g.H.Shelf.faults c.args.shelf.now) (g.H.Shelf.faults c.args.shelf.now) in
-    IfOk-weaker c.exceeded.result _ _
+    IfOk-weaker c.beyond.result _ _
     (λ a is. size_exceeded p b (AfterRead s c.args.name.now (IsModelAnswer p g.M.Machine.form b (kind_of c.args.kind))) (answer_of a) c.in-Above.price is
     (came_above b c.args.unrolled.now c.in_ok-price.field-0 c.in_ok-price.ensures c.in-Above.price c.in-Above.is p g.M.Machine.form c.requires.unrolled))
-    c.exceeded.ensures
+    c.beyond.ensures
 
 pub judge_passive-requires-clause-ground : goal.judge_passive-requires-clause-ground
 judge_passive-requires-clause-ground g c =

@@ -1,20 +1,27 @@
 use Rattle.std.proofs.lemmas.Result.{IfOk-weaker}
 use Rattle.bilv_spec.specs.Files.{program_of}
-use Rattle.command_line.specs.Commands as commands
-use Rattle.command_line.specs.Commands.{question_of}
+use Rattle.call_spec.specs.Calls.{AfterRead}
 use Rattle.io_edges.specs.Met.{seen}
-use Rattle.notes_lang.specs.Drafting.{notes_of}
+use Rattle.model_spec.specs.Models.{IsModelAnswer}
+use Rattle.notes_value.specs.NoteViews.{notes_of}
 use Rattle.question_form.specs.Views.{kind_of}
 use Rattle.verdict.specs.Verdicts.{budget_of}
 use Rattle.bilv_top.specs.Answers.{answer_of}
-use Rattle.bilv_top.proofs.Modelled.{question_judged}
+use Rattle.bilv_top.proofs.Founds.{found_over, machine_order}
+use Rattle.bilv_top.proofs.Modelled.{points_exceeded}
 use Rattle.bilv_top.proofs.model.model_by.Goals as goal
 
-pub returns-clause-judged : goal.returns-clause-judged
-returns-clause-judged g c =
-    IfOk-weaker c.model_within.result _ _
-    (λ a came. question_judged
-    (seen (g.H.Shelf.holds c.args.shelf.now) (g.H.Shelf.faults c.args.shelf.now) (g.H.Shelf.faults c.model_within.new.shelf)) c.args.name.now
-    (program_of g.M.Machine.machine c.args.image.now (notes_of c.args.found.now.notes) c.args.found.now.entry) g.M.Machine.form
-    (commands.budget_of c.args.budget) (budget_of c.limits-limits.result) (kind_of c.asked-kind.result) (question_of c.args.question) (answer_of a)
-    c.limits-limits.ensures c.asked-kind.ensures came) c.model_within.ensures.judged
+pub unroll_within-requires-clause-order : goal.unroll_within-requires-clause-order
+unroll_within-requires-clause-order g c = machine_order c.args.image.now g.M.Machine.machine c.requires.machine
+
+pub unroll_within-requires-clause-over : goal.unroll_within-requires-clause-over
+unroll_within-requires-clause-over g c = found_over c.args.image.now c.args.found.now g.M.Machine.machine c.requires.machine c.requires.found
+
+pub returns-in-Err-TooMany-clause-judged : goal.returns-in-Err-TooMany-clause-judged
+returns-in-Err-TooMany-clause-judged g c =
+    let p = program_of g.M.Machine.machine c.args.image.now (notes_of c.args.found.now.notes) c.args.found.now.entry in
+    let b = budget_of c.args.budget in
+    let s = seen (g.H.Shelf.holds c.args.shelf.now) (g.H.Shelf.faults c.args.shelf.now) (g.H.Shelf.faults c.args.shelf.now) in
+    IfOk-weaker c.beyond.result _ _
+    (λ a is. points_exceeded p b (AfterRead s c.args.name.now (IsModelAnswer p g.M.Machine.form b (kind_of c.args.question))) (answer_of a)
+    c.in-Err-TooMany.count is (rw c.in-Err-TooMany.field-0-is at c.in-Err-TooMany.ensures.more)) (rw c.in-Err-TooMany.field-0-is at c.beyond.ensures)

@@ -1,5 +1,5 @@
 use Rattle.std.proofs.Common.{subst}
-use Rattle.bilv_spec.specs.Verified.{notes_limit}
+use Rattle.notes_spec.specs.Verified.{notes_limit}
 use Rattle.call_spec.specs.Calls.{plain_answer}
 use Rattle.command_line.specs.Commands.{options_of}
 use Rattle.bilv_top.specs.Answers.{answer_of}

@@ -13,7 +13,7 @@ returns-clause-sided c =
       options = options_of c.args.options;
       machine = c.layout.ensures.machine;
       order = machine_order file m of;
-      bytes = c.requires.bytes;
+      bytes = c.bytes.ensures;
       readable = found_readable file c.args.found.now m of c.requires.found;
       over = found_over file c.args.found.now m of c.requires.found;
     }

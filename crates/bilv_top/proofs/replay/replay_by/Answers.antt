@@ -2,7 +2,7 @@ use Rattle.std.proofs.Common.{subst, sym}
 use Rattle.bilv_spec.specs.Files.{program_of}
 use Rattle.call_spec.specs.Calls.{was_read}
 use Rattle.call_spec.specs.Outside.{Agrees}
-use Rattle.notes_lang.specs.Drafting.{notes_of}
+use Rattle.notes_value.specs.NoteViews.{notes_of}
 use Rattle.io_edges.specs.Met.{seen}
 use Rattle.bilv_top.specs.Answers.{answer_of}
 use Rattle.bilv_top.proofs.Reported.{report_unread}

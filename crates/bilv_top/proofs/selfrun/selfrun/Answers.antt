@@ -6,9 +6,10 @@ use Rattle.bilv_top.specs.Answers.{answer_of}
 use Rattle.bilv_top.proofs.Made.{file_short, verified_has, selfrun_is}
 use Rattle.bilv_top.proofs.selfrun.selfrun.Goals as goal
 
-pub verify_bytes-requires-clause-short : goal.verify_bytes-requires-clause-short
-verify_bytes-requires-clause-short g c =
-    file_short c.deref.result.now c.args.seed c.args.count (c.deref.ensures.value ∙ c.in_ok-made.ensures.file) c.requires.lawful.2
+pub verify_bytes-requires : goal.verify_bytes-requires
+verify_bytes-requires g c = record {
+  short = file_short c.deref.result.now c.args.seed c.args.count (c.deref.ensures.value ∙ c.in_ok-made.ensures.file) c.requires.lawful.2;
+}
 
 pub first_line-requires : goal.first_line-requires
 first_line-requires g c =

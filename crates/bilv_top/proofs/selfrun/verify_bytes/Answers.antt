@@ -3,9 +3,9 @@ use Rattle.std.proofs.lemmas.Result.{IfOk-weaker}
 use Rattle.call_spec.specs.Calls.{Answer, Options}
 use Rattle.bilv_spec.specs.Answers.{IsReported}
 use Rattle.bilv_spec.specs.Files.{layout_of, machine_of, program_of}
-use Rattle.bilv_spec.specs.Verified.{elf_refused}
+use Rattle.notes_spec.specs.Verified.{elf_refused}
 use Rattle.command_line.specs.Commands.{budget_of}
-use Rattle.notes_lang.specs.Drafting.{notes_of}
+use Rattle.notes_value.specs.NoteViews.{notes_of}
 use Rattle.bilv_top.specs.Answers.{answer_of, elf_text_of}
 use Rattle.bilv_top.specs.Due.{AreNotesAnswered, IsFoundBy}
 use Rattle.bilv_top.proofs.Made.{large_verified, answered_verified, found_verified}

@@ -1,15 +1,17 @@
-use Rattle.std.proofs.Common.{◌∙◌, refl, sym, subst}
+use Rattle.std.proofs.Common.{◌∙◌, refl, sym, subst, [], ◌∷◌}
 use Rattle.std.proofs.Math.Nat.{le_trans}
 use Rattle.std.proofs.lemmas.Result.{IfOk-weaker}
 use Rattle.call_spec.specs.Outside.{Agrees}
 use Rattle.bilv_spec.specs.Files.{layout_of, machine_of, program_of}
 use Rattle.command_line.specs.Commands.{options_of}
-use Rattle.notes_lang.specs.Drafting.{notes_of}
+use Rattle.notes_value.specs.NoteViews.{notes_of}
 use Rattle.io_edges.specs.Met.{seen}
 use Rattle.bilv_top.specs.Answers.{answer_of}
 use Rattle.bilv_top.specs.Tasks.{IsDone}
 use Rattle.bilv_top.proofs.Done.{done_of, done_since}
 use Rattle.bilv_top.proofs.Refused.{elf_unread, both_answered, both_found}
+use Rattle.io_edges.proofs.Beginning.{begun_more, begun_then}
+use Rattle.bilv_top.specs.Reads.{names_of_task}
 use Rattle.bilv_top.proofs.tasks.answer_about.Goals as goal
 
 pub returns-in-Answered-clause-answered : goal.returns-in-Answered-clause-answered
@@ -56,3 +58,23 @@ returns-clause-answered g c =
     (g.H.Shelf.holds c.read_elf.new.shelf notes)
     (g.H.Shelf.faults c.read_elf.new.shelf notes) agrees (c.read_elf.ensures.keeps notes) (c.read_elf.ensures.never_falls notes)
     (rw c.in-Answered-2.is at c.in_ok-image.ensures.read)
+
+pub returns-in_err-file-clause-begun : goal.returns-in_err-file-clause-begun
+returns-in_err-file-clause-begun g c = begun_more _ _ (c.args.elf.now ∷ []) (c.args.notes.now ∷ names_of_task c.args.task) c.read_elf.ensures.begun
+
+pub returns-in-Answered-clause-begun : goal.returns-in-Answered-clause-begun
+returns-in-Answered-clause-begun g c = begun_more _ _ (c.args.elf.now ∷ []) (c.args.notes.now ∷ names_of_task c.args.task) c.read_elf.ensures.begun
+
+pub returns-in_err-image-clause-begun : goal.returns-in_err-image-clause-begun
+returns-in_err-image-clause-begun g c =
+    begun_then _ _ _ (c.args.elf.now ∷ []) (c.args.notes.now ∷ names_of_task c.args.task) c.read_elf.ensures.begun (begun_more _ _ (c.args.notes.now ∷ []) (names_of_task c.args.task) c.read_program.ensures.begun)
+
+pub returns-in-Go-2-clause-begun : goal.returns-in-Go-2-clause-begun
+returns-in-Go-2-clause-begun g c =
+    begun_then _ _ _ (c.args.elf.now ∷ []) (c.args.notes.now ∷ names_of_task c.args.task) c.read_elf.ensures.begun
+    (begun_then _ _ _ (c.args.notes.now ∷ []) (names_of_task c.args.task) c.read_program.ensures.begun c.answer_on.ensures.begun)
+
+pub returns-clause-begun : goal.returns-clause-begun
+returns-clause-begun g c =
+    begun_then _ _ _ (c.args.elf.now ∷ []) (c.args.notes.now ∷ names_of_task c.args.task) c.read_elf.ensures.begun
+    (begun_more _ _ (c.args.notes.now ∷ []) (names_of_task c.args.task) c.read_program.ensures.begun)

@@ -17,3 +17,9 @@ returns-in-Replay-clause-done g c = rw c.in-Replay.is c.replay_by.ensures.read
 
 pub returns-in-Model-clause-done : goal.returns-in-Model-clause-done
 returns-in-Model-clause-done g c = rw c.in-Model.is c.model_by.ensures.judged
+
+pub returns-in-Replay-clause-begun : goal.returns-in-Replay-clause-begun
+returns-in-Replay-clause-begun g c = rw c.in-Replay.is c.replay_by.ensures.begun
+
+pub returns-in-Model-clause-begun : goal.returns-in-Model-clause-begun
+returns-in-Model-clause-begun g c = rw c.in-Model.is c.model_by.ensures.begun

@@ -2,7 +2,7 @@ use Rattle.std.proofs.lemmas.Result.{IfOk-weaker}
 use Rattle.bilv_spec.specs.Files.{layout_of, machine_of}
 use Rattle.command_line.specs.Commands.{options_of}
 use Rattle.io_edges.specs.Met.{seen}
-use Rattle.notes_lang.specs.Drafting.{notes_of}
+use Rattle.notes_value.specs.NoteViews.{notes_of}
 use Rattle.bilv_top.specs.Answers.{answer_of}
 use Rattle.bilv_top.proofs.Done.{done_on}
 use Rattle.bilv_top.proofs.tasks.answer_of_machine.Goals as goal

@@ -1,4 +1,4 @@
-use Rattle.std.proofs.Common.{◌≡◌, sym, subst}
+use Rattle.std.proofs.Common.{◌≡◌, sym, subst, [], ◌∷◌}
 use Rattle.std.proofs.lemmas.Result.{IfOk-weaker}
 use Rattle.call_spec.specs.Outside.{Agrees}
 use Rattle.answer_spec.specs.Outcomes.{upgrade_answer}
@@ -6,6 +6,7 @@ use Rattle.command_line.specs.Commands.{options_of}
 use Rattle.io_edges.specs.Met.{seen}
 use Rattle.bilv_top.specs.Answers.{answer_of}
 use Rattle.bilv_top.proofs.Refused.{elf_unread, both_answered, both_found}
+use Rattle.io_edges.proofs.Beginning.{begun_more, begun_then}
 use Rattle.bilv_top.proofs.upgrade.upgrade.Goals as goal
 
 pub returns-in-Answered-clause-right : goal.returns-in-Answered-clause-right
@@ -38,3 +39,18 @@ returns-clause-right g c =
     (answer_of c.in-Answered-2.answer) (g.H.Shelf.holds c.read_elf.new.shelf notes)
     (g.H.Shelf.faults c.read_elf.new.shelf notes) agrees (c.read_elf.ensures.keeps notes) (c.read_elf.ensures.never_falls notes)
     (rw c.in-Answered-2.is at c.in_ok-found.ensures.read)
+
+pub returns-in_err-file-clause-begun : goal.returns-in_err-file-clause-begun
+returns-in_err-file-clause-begun g c = begun_more _ _ (c.args.elf.now ∷ []) (c.args.notes.now ∷ []) c.read_elf.ensures.begun
+
+pub returns-in-Answered-clause-begun : goal.returns-in-Answered-clause-begun
+returns-in-Answered-clause-begun g c = begun_more _ _ (c.args.elf.now ∷ []) (c.args.notes.now ∷ []) c.read_elf.ensures.begun
+
+pub returns-in_err-found-clause-begun : goal.returns-in_err-found-clause-begun
+returns-in_err-found-clause-begun g c = begun_then _ _ _ (c.args.elf.now ∷ []) (c.args.notes.now ∷ []) c.read_elf.ensures.begun c.read_program.ensures.begun
+
+pub returns-in-Go-2-clause-begun : goal.returns-in-Go-2-clause-begun
+returns-in-Go-2-clause-begun g c = begun_then _ _ _ (c.args.elf.now ∷ []) (c.args.notes.now ∷ []) c.read_elf.ensures.begun c.read_program.ensures.begun
+
+pub returns-clause-begun : goal.returns-clause-begun
+returns-clause-begun g c = begun_then _ _ _ (c.args.elf.now ∷ []) (c.args.notes.now ∷ []) c.read_elf.ensures.begun c.read_program.ensures.begun

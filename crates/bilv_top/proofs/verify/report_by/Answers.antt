@@ -1,22 +1,13 @@
-use Rattle.std.proofs.Common.{arith}
 use Rattle.bilv_spec.specs.Files.{program_of}
 use Rattle.bilv_top.specs.Answers.{answer_of}
-use Rattle.bilv_top.proofs.Founds.{found_over, found_readable, machine_one_way, machine_order, small_bytes}
+use Rattle.bilv_top.proofs.Founds.{found_over, found_readable, machine_order}
 use Rattle.bilv_top.proofs.Verdicts.{verdict_reported}
 use Rattle.bilv_top.proofs.verify.report_by.Goals as goal
-use Rattle.command_line.specs.Commands.{budget_of}
-use Rattle.notes_lang.specs.Drafting.{notes_of}
+use Rattle.notes_value.specs.NoteViews.{notes_of}
 use Rattle.state_text.specs.Starts.{layout_of}
 
 pub verify-requires-clause-order : goal.verify-requires-clause-order
 verify-requires-clause-order g c = machine_order c.args.image.now g.M.Machine.machine c.requires.machine
-
-pub verify-requires-clause-file : goal.verify-requires-clause-file
-verify-requires-clause-file g c = small_bytes c.args.file.now c.args.image.now c.requires.same (λ i. omega (arith, c.type_inv.file i))
-
-pub verify-requires-clause-one_way : goal.verify-requires-clause-one_way
-verify-requires-clause-one_way g c =
-    machine_one_way c.args.image.now g.M.Machine.machine (notes_of c.args.found.now.notes) c.args.found.now.entry c.requires.machine
 
 pub verify-requires-clause-readable : goal.verify-requires-clause-readable
 verify-requires-clause-readable g c = found_readable c.args.image.now c.args.found.now g.M.Machine.machine c.requires.machine c.requires.found
@@ -27,5 +18,5 @@ verify-requires-clause-over g c = found_over c.args.image.now c.args.found.now g
 pub returns : goal.returns
 returns g c =
     verdict_reported (program_of g.M.Machine.machine c.args.image.now (notes_of c.args.found.now.notes) c.args.found.now.entry) g.M.Machine.form
-    (layout_of c.layout.result) (budget_of c.args.budget) c.limits-limits.result c.in_ok-verdict.verdict (answer_of c.in_ok-answer.answer)
-    c.layout.ensures c.limits-limits.ensures c.in_ok-verdict.ensures c.in_ok-answer.ensures
+    (layout_of c.layout.result) c.args.budget c.in_ok-verdict.verdict (answer_of c.in_ok-answer.answer)
+    c.layout.ensures c.in_ok-verdict.ensures c.in_ok-answer.ensures

@@ -1,4 +1,4 @@
-use Rattle.question_form.specs.declared.unrolled.Kind.TheVariants.{Fail}
+use Rattle.call_form.specs.declared.kind.Kind.TheVariants.{Fail}
 use Rattle.verdict.proofs.Adding.{askable_question}
 use Rattle.condition_tests.proofs.studies.study_fails.Goals as goal
 
