@@ -6,7 +6,7 @@ use Rattle.std.proofs.lemmas.Bool.Decides.{nat_tests}
 use Rattle.machine_spec.specs.Bil.{BilVariable, Register, Flag, Mem, Local, CastKind, Low, High, Signed, Unsigned, Expression, Var, Constant, Load, Store, Binary, Unary, Cast, Let, Unknown, Choose, Extract, Concat, total}
 use Rattle.machine_spec.specs.BilTyping.{cast_fits}
 use Rattle.machine_spec.specs.BilCounts.{is_local, own_memory_choices, width}
-use Rattle.walk_spec.specs.Terms.{TermNode, HasWidth, IsWidth, IsTypedOver}
+use Rattle.term_spec.specs.Terms.{TermNode, HasWidth, IsWidth, IsTypedOver}
 use Rattle.term_dag.specs.Made.{Grew}
 use Rattle.bil_ast.specs.declared.expressions.Exp.{Exp}
 use Rattle.bil_ast.specs.Views.{expression}

@@ -3,7 +3,7 @@ use Rattle.std.proofs.Common.{◌≡◌, ℕ, zero, suc, ◌<◌, List, length, 
 use Rattle.std.specs.Prelude.{bit_and, bit_or}
 use Rattle.std.proofs.lemmas.Bool.{cases_lt}
 use Rattle.machine_spec.specs.Bil.{And}
-use Rattle.walk_spec.specs.Terms.{TermReading, InRange, TermNode, TermValue, BinaryNode, SelectNode, HasWidth, term_word, select}
+use Rattle.term_spec.specs.Terms.{TermReading, InRange, TermNode, TermValue, BinaryNode, SelectNode, HasWidth, term_word, select}
 use Rattle.term_dag.specs.Made.{IsMade}
 use Rattle.term_dag.proofs.Growth.{grew_on, grew_more, grew_width, made_grew, made_width, made_inputs, inputs_on}
 use Rattle.term_dag.proofs.Ranges.{word_fits}

@@ -7,8 +7,8 @@ use Rattle.machine_spec.specs.Bil.{Flag, Mem, Expression, Empty, Assign, JumpTo,
 use Rattle.machine_spec.specs.BilCounts.{width, own_stores}
 use Rattle.machine_spec.specs.BilMeaning.{Value, Word, Bytes, Env, Position, Ending, Ends, assign, assigned, jumped, evaluate, execute, then_do}
 use Rattle.machine_spec.specs.BilStores.{stored_by}
-use Rattle.walk_spec.specs.Terms.{TermReading, TermNode, HasWidth, term_word, term_value}
-use Rattle.walk_spec.specs.Passive.{Denotes}
+use Rattle.term_spec.specs.Terms.{TermReading, TermNode, HasWidth, term_word, term_value}
+use Rattle.term_spec.specs.Passive.{Denotes}
 use Rattle.term_dag.specs.declared.nodes.Term.{Term}
 use Rattle.term_dag.proofs.Growth.{grew_none, grew_width, inputs_none}
 use Rattle.term_names.specs.Views.{form_of, names_of}

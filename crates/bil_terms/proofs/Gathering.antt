@@ -5,7 +5,7 @@ use Rattle.std.proofs.lemmas.List.Elements.{Contains-append_left, Contains-appen
 use Rattle.std.proofs.lemmas.List.Sums.{sum_by-append}
 use Rattle.word_spec.specs.Memory.{span}
 use Rattle.machine_spec.specs.BilMeaning.{Env}
-use Rattle.walk_spec.specs.Terms.{TermReading, InRange, TermNode, ChoiceNode, HasWidth, term_word, own_gates, own_loads, own_stores, own_joins}
+use Rattle.term_spec.specs.Terms.{TermReading, InRange, TermNode, ChoiceNode, HasWidth, term_word, own_gates, own_loads, own_stores, own_joins}
 use Rattle.term_dag.specs.Nodes.{IsInput}
 use Rattle.term_dag.specs.Made.{Grew, InputsFrom, IsMade}
 use Rattle.term_dag.proofs.Growth.{grew_none, grew_on, grew_more, grew_width, made_grew, inputs_none, inputs_on, inputs_more, made_inputs}

@@ -9,10 +9,10 @@ use Rattle.machine_spec.specs.Bil.{Expression, Statements, Empty, If, total}
 use Rattle.machine_spec.specs.BilCounts.{width, own_unknowns, unknowns}
 use Rattle.machine_spec.specs.BilMeaning.{Value, Word, Position, Ending, Ends, RaisesException, OutOfTurns, Wrong, evaluate, execute, then_do, branch_on}
 use Rattle.machine_spec.specs.BilStores.{stored_by, list_stored, chosen}
-use Rattle.walk_spec.specs.Terms.{TermReading, InRange, TermNode, HasWidth, term_word}
-use Rattle.walk_spec.specs.Passive.{AreNames, Denotes}
+use Rattle.term_spec.specs.Terms.{TermReading, InRange, TermNode, HasWidth, term_word}
+use Rattle.term_spec.specs.Passive.{AreNames, Denotes}
 use Rattle.walk_spec.specs.Unrolled.{Carried, UnrolledProgram}
-use Rattle.walk_spec.specs.Passive as walk
+use Rattle.term_spec.specs.Passive as walk
 use Rattle.term_dag.specs.Made.{Grew}
 use Rattle.term_dag.specs.declared.nodes.Term.{Term}
 use Rattle.term_dag.proofs.Growth.{grew_on, grew_more, grew_width, inputs_on, inputs_more}

@@ -2,8 +2,8 @@
 use Rattle.std.proofs.Common.{◌≡◌, ℕ, ◌<◌, List, length, Some, None, sym, ap, ◌∙◌, arith}
 use Rattle.std.specs.Prelude.{Option, bit_or}
 use Rattle.std.proofs.lemmas.List.{length-map}
-use Rattle.walk_spec.specs.Terms.{TermReading, TermNode, term_word}
-use Rattle.walk_spec.specs.Passive.{AreNames}
+use Rattle.term_spec.specs.Terms.{TermReading, TermNode, term_word}
+use Rattle.term_spec.specs.Passive.{AreNames}
 use Rattle.term_dag.specs.Made.{Grew}
 use Rattle.term_dag.specs.declared.nodes.Term.{Term}
 use Rattle.term_dag.proofs.Growth.{grew_on, grew_more, grew_width, inputs_on}

@@ -9,7 +9,7 @@ use Rattle.machine_spec.specs.Bil.{Expression, Statements, Empty, Assign, JumpTo
 use Rattle.machine_spec.specs.BilCounts.{has_no_loop, unknowns, own_loads, own_stores, own_unknowns}
 use Rattle.machine_spec.specs.BilMeaning.{Position, Ending, Ends, RaisesException, OutOfTurns, Wrong, assign, assigned, jumped, branch_on, loop, evaluate, execute, then_do}
 use Rattle.machine_spec.specs.BilStores.{stored_by, list_stored, then_stored, chosen}
-use Rattle.walk_spec.specs.Terms.{TermReading, TermNode, term_word}
+use Rattle.term_spec.specs.Terms.{TermReading, TermNode, term_word}
 use Rattle.term_dag.proofs.Growth.{grew_on, grew_more, inputs_on, inputs_more}
 use Rattle.term_names.specs.Choices.{places}
 use Rattle.term_names.specs.Chosen.{HaveSameForm, differing_memory}

@@ -14,7 +14,7 @@ use Rattle.bil_ast.specs.declared.expressions.Exp.{Exp}
 use Rattle.bil_ast.specs.declared.statements.Stmt.{Stmt}
 use Rattle.bil_ast.specs.declared.statements.Stmt.TheVariants as stmt
 use Rattle.bil_ast.specs.Views.{bank_of, expression, variable_of, statement, statements, block}
-use Rattle.walk_spec.specs.Terms.{TermNode}
+use Rattle.term_spec.specs.Terms.{TermNode}
 use Rattle.walk_spec.specs.Unrolled.{UnrolledProgram}
 use Rattle.walk_spec.specs.Unrolling.{is_variable_of}
 use Rattle.term_dag.specs.Made.{Grew}

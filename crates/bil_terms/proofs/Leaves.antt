@@ -4,7 +4,7 @@ use Rattle.std.proofs.Math.Nat.{mod-eq_of_lt, pow-le-pow_right}
 use Rattle.word_spec.specs.Words as words
 use Rattle.machine_spec.specs.Bil.{Minus, Negate, Bits}
 use Rattle.machine_spec.specs.BilMeaning.{Word}
-use Rattle.walk_spec.specs.Terms.{TermNode, TermValue, ConstantNode, ChoiceNode, BinaryNode, ExtractNode, ExtendNode, HasWidth, IsWidth, term_word}
+use Rattle.term_spec.specs.Terms.{TermNode, TermValue, ConstantNode, ChoiceNode, BinaryNode, ExtractNode, ExtendNode, HasWidth, IsWidth, term_word}
 use Rattle.term_dag.specs.Nodes.{IsInput}
 use Rattle.term_dag.specs.Made.{InputsFrom, IsInterned, IsMade}
 use Rattle.term_dag.proofs.Growth.{grew_on, grew_more, made_grew, made_width, made_inputs, interned_grew, interned_width, interned_inputs, inputs_on}

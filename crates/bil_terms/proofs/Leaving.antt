@@ -7,10 +7,10 @@ use Rattle.machine_spec.specs.BilCounts.{byte_stores, unknowns}
 use Rattle.machine_spec.specs.BilMeaning.{Stuck, Ending, Ends, RaisesException, OutOfTurns, Wrong, execute}
 use Rattle.machine_spec.specs.BilStores.{list_stored}
 use Rattle.machine_spec.specs.Simulation.{position}
-use Rattle.walk_spec.specs.Terms.{TermReading, InRange, TermNode, TermValue, ConstantNode, NotNode, HasWidth, term_word}
+use Rattle.term_spec.specs.Terms.{TermReading, InRange, TermNode, TermValue, ConstantNode, NotNode, HasWidth, term_word}
 use Rattle.walk_spec.specs.Unrolled.{state_at}
 use Rattle.walk_spec.specs.Unrolling.{is_variable_of}
-use Rattle.walk_spec.specs.Passive.{AreNames}
+use Rattle.term_spec.specs.Passive.{AreNames}
 use Rattle.term_dag.specs.Made.{IsMade, IsInterned}
 use Rattle.term_dag.specs.declared.nodes.Term.{Term}
 use Rattle.term_dag.proofs.Growth.{grew_on, grew_more, grew_width, interned_grew, interned_inputs, interned_width, made_grew, made_inputs, made_width, inputs_on, inputs_more}

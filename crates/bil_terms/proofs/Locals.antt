@@ -8,7 +8,7 @@ use Rattle.machine_spec.proofs.BilSound.{both}
 use Rattle.machine_spec.specs.Bil.{BilVariable, Local}
 use Rattle.machine_spec.specs.BilCounts.{is_local}
 use Rattle.machine_spec.specs.BilMeaning.{Value, Word, Stuck, put_local}
-use Rattle.walk_spec.specs.Terms.{TermReading, TermNode, HasWidth, IsWidth, term_word}
+use Rattle.term_spec.specs.Terms.{TermReading, TermNode, HasWidth, IsWidth, term_word}
 use Rattle.walk_spec.specs.Unrolling.{is_variable_of}
 use Rattle.term_names.specs.Views.{form_of}
 use Rattle.term_names.specs.declared.names.Names.{Names}

@@ -11,8 +11,8 @@ use Rattle.machine_spec.specs.BilTyping.{cast_fits, is_width, is_load_width}
 use Rattle.machine_spec.specs.BilCounts.{width, own_stores, own_chosen_stores}
 use Rattle.machine_spec.specs.BilMeaning.{Value, Word, Bytes, Stuck, Env, assign, evaluate, put_local, load_from, store_to, extract_from, choose, cast_to, in_env}
 use Rattle.machine_spec.specs.BilStores.{bytes_at, chosen, stored_in, stored_by}
-use Rattle.walk_spec.specs.Terms.{TermReading, InRange, TermNode, TermValue, SelectNode, ExtractNode, ExtendNode, LoadNode, StoreNode, HasWidth, HasMemory, IsWidth, term_value, term_word, width_of, node_at, select, own_gates, own_loads, own_joins}
-use Rattle.walk_spec.specs.Terms as terms
+use Rattle.term_spec.specs.Terms.{TermReading, InRange, TermNode, TermValue, SelectNode, ExtractNode, ExtendNode, LoadNode, StoreNode, HasWidth, HasMemory, IsWidth, term_value, term_word, width_of, node_at, select, own_gates, own_loads, own_joins}
+use Rattle.term_spec.specs.Terms as terms
 use Rattle.term_dag.specs.Nodes.{IsInput}
 use Rattle.term_dag.specs.Made.{Grew, IsMade}
 use Rattle.term_dag.proofs.Growth.{grew_width, grew_on, made_grew, made_width}

@@ -10,7 +10,7 @@ use Rattle.word_spec.specs.Memory.{Endian, Memory, load, store}
 use Rattle.machine_spec.specs.Bil.{BinaryOp, Plus, Minus, Times, Divide, SignedDivide, Modulo, SignedModulo, And, Or, Xor, ShiftLeft, ShiftRight, ShiftSigned, Equal, NotEqual, Less, LessEqual, SignedLess, SignedLessEqual, CastKind, Low, High, Signed, Unsigned}
 use Rattle.machine_spec.specs.BilTyping.{result_width, cast_fits}
 use Rattle.machine_spec.specs.BilMeaning.{Word, Bytes, Stuck, binary, on_words, cast_to, choose, extract_from, load_from, store_to, store_value}
-use Rattle.walk_spec.specs.Terms.{operate, select, extend}
+use Rattle.term_spec.specs.Terms.{operate, select, extend}
 
 pub on_words_is : (o : BinaryOp) (n a b : ℕ) → on_words o n a b ≡ Word (result_width o n) (operate o n a b)
 on_words_is Plus n a b = refl

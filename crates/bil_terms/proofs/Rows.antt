@@ -4,7 +4,7 @@ use Rattle.std.specs.Prelude.{◌==◌, if◌then◌else◌, slice_index}
 use Rattle.std.proofs.lemmas.Bool.{eq-eqb, ne_eqb, eqb-true, eqb-false}
 use Rattle.std.proofs.lemmas.List.{get_or-set_same, get_or-set_other, get_or-map, length-set, length-map}
 use Rattle.word_spec.specs.State.{put}
-use Rattle.walk_spec.specs.Terms.{TermReading, TermNode, HasWidth, term_word}
+use Rattle.term_spec.specs.Terms.{TermReading, TermNode, HasWidth, term_word}
 use Rattle.term_dag.specs.declared.nodes.Term.{Term}
 use Rattle.term_names.specs.Choices.{places, AreWide, differs, differing}
 use Rattle.term_names.proofs.Choices.{differs_same, no_term}

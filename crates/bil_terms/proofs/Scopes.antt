@@ -10,10 +10,10 @@ use Rattle.word_spec.specs.RowFiles.{from_to}
 use Rattle.machine_spec.specs.Bil.{Bank, BilVariable, Register, Flag, Local}
 use Rattle.machine_spec.specs.BilCounts.{is_local}
 use Rattle.machine_spec.specs.BilMeaning.{Value, Word, Stuck, Env, put_local}
-use Rattle.walk_spec.specs.Terms.{TermReading, TermNode, TermValue, HasWidth, IsWidth, term_word}
+use Rattle.term_spec.specs.Terms.{TermReading, TermNode, TermValue, HasWidth, IsWidth, term_word}
 use Rattle.walk_spec.specs.Unrolled.{Carried}
 use Rattle.walk_spec.specs.Unrolling.{is_variable_of}
-use Rattle.walk_spec.specs.Passive.{AreNames, Denotes}
+use Rattle.term_spec.specs.Passive.{AreNames, Denotes}
 use Rattle.term_dag.specs.Made.{Grew}
 use Rattle.term_dag.specs.declared.nodes.Term.{Term}
 use Rattle.term_dag.proofs.Growth.{grew_width}

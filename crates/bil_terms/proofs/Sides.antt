@@ -8,7 +8,7 @@ use Rattle.bil_ast.specs.declared.statements.Stmt.{Stmt, size-Stmt}
 use Rattle.bil_ast.specs.declared.statements.Stmt.TheViews.{the_lemmas}
 use Rattle.bil_ast.specs.declared.statements.Stmt.TheVariants as stmt
 use Rattle.bil_ast.specs.Views.{expression, statement, statements}
-use Rattle.walk_spec.specs.Terms.{TermNode}
+use Rattle.term_spec.specs.Terms.{TermNode}
 use Rattle.walk_spec.specs.Unrolling.{is_variable_of}
 use Rattle.term_names.specs.Views.{form_of}
 use Rattle.bil_terms.specs.declared.lists.Sides.{Sides}

@@ -8,9 +8,9 @@ use Rattle.machine_spec.specs.Bil.{Bank, Register, Expression, Statements, Empty
 use Rattle.machine_spec.specs.BilCounts.{width, weight, own_loads, own_stores, own_unknowns, byte_loads, byte_stores, unknowns}
 use Rattle.machine_spec.specs.BilMeaning.{Value, Word, Env, Position, Ending, Ends, RaisesException, OutOfTurns, Wrong, assign, assigned, jumped, evaluate, execute, then_do}
 use Rattle.machine_spec.specs.BilStores.{stored_by, list_stored, then_stored}
-use Rattle.walk_spec.specs.Terms.{TermReading, InRange, TermNode, HasWidth, term_word}
+use Rattle.term_spec.specs.Terms.{TermReading, InRange, TermNode, HasWidth, term_word}
 use Rattle.walk_spec.specs.Unrolling.{is_variable_of}
-use Rattle.walk_spec.specs.Passive.{AreNames, Denotes}
+use Rattle.term_spec.specs.Passive.{AreNames, Denotes}
 use Rattle.term_dag.specs.Made.{Grew}
 use Rattle.term_dag.specs.declared.nodes.Term.{Term}
 use Rattle.term_dag.proofs.Growth.{grew_more, grew_width, inputs_more}

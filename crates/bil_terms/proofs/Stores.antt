@@ -3,7 +3,7 @@ use Rattle.std.proofs.Common.{◌≡◌, ℕ, List, ◌++◌, sym, ◌∙◌, su
 use Rattle.std.specs.Prelude.{◌↔◌, Contains}
 use Rattle.std.proofs.lemmas.List.Elements.{Contains-append_left, Contains-append_right, Contains-append_cases}
 use Rattle.word_spec.specs.Memory.{span}
-use Rattle.walk_spec.specs.Terms.{TermReading, TermNode, term_word}
+use Rattle.term_spec.specs.Terms.{TermReading, TermNode, term_word}
 use Rattle.term_dag.specs.Made.{Grew}
 use Rattle.term_names.specs.declared.names.Names.{Names}
 use Rattle.term_names.specs.Chosen.{HaveSameForm}

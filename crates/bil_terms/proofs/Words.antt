@@ -5,7 +5,7 @@ use Rattle.machine_spec.specs.BilTyping.{result_width}
 use Rattle.machine_spec.specs.BilCounts.{width, own_weight, op_weight}
 use Rattle.machine_spec.specs.BilMeaning.{Word, Bytes, Env, evaluate, binary, unary, concat_of}
 use Rattle.machine_spec.specs.BilStores.{stored_by}
-use Rattle.walk_spec.specs.Terms.{TermReading, InRange, TermNode, TermValue, ConstantNode, BinaryNode, ConcatNode, HasWidth, HasMemory, IsWidth, term_value, term_word, width_of, node_at}
+use Rattle.term_spec.specs.Terms.{TermReading, InRange, TermNode, TermValue, ConstantNode, BinaryNode, ConcatNode, HasWidth, HasMemory, IsWidth, term_value, term_word, width_of, node_at}
 use Rattle.term_dag.specs.Made.{Grew, IsMade}
 use Rattle.term_dag.proofs.Growth.{grew_width, made_width}
 use Rattle.term_dag.proofs.Ranges.{result_is_width}

@@ -2,9 +2,9 @@
 use Rattle.std.specs.Prelude.{ℕ, List, None}
 use Rattle.machine_spec.specs.BilMeaning.{Stuck}
 use Rattle.machine_spec.specs.Simulation.{position}
-use Rattle.walk_spec.specs.Terms.{TermReading, TermNode}
+use Rattle.term_spec.specs.Terms.{TermReading, TermNode}
 use Rattle.walk_spec.specs.Unrolled.{Carried, state_at}
-use Rattle.walk_spec.specs.Passive.{Denotes}
+use Rattle.term_spec.specs.Passive.{Denotes}
 use Rattle.term_dag.specs.Made.{Grew, InputsFrom}
 use Rattle.term_names.specs.Views.{form_of, names_of}
 use Rattle.term_names.specs.Chosen.{HaveSameTerms}

@@ -1,7 +1,7 @@
 -- The sides of an if before they are run.
 use Rattle.std.specs.Prelude.{ℕ, List, []}
 use Rattle.machine_spec.specs.Bil.{Expression}
-use Rattle.walk_spec.specs.Terms.{TermNode}
+use Rattle.term_spec.specs.Terms.{TermNode}
 use Rattle.bil_terms.specs.declared.lists.Sides.{Sides}
 use Rattle.bil_terms.specs.declared.run.Run.{Run}
 use Rattle.bil_terms.specs.declared.stored.Stored.{Stored}

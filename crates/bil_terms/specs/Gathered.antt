@@ -4,7 +4,7 @@ use Rattle.word_spec.specs.Memory.{span}
 use Rattle.machine_spec.specs.Bil.{Expression, Var, Unary, Let, total}
 use Rattle.machine_spec.specs.BilCounts.{weight, own_loads, own_stores, own_unknowns}
 use Rattle.machine_spec.specs.BilMeaning.{Env}
-use Rattle.walk_spec.specs.Terms.{TermReading, InRange, TermNode, ChoiceNode, HasWidth, term_word}
+use Rattle.term_spec.specs.Terms.{TermReading, InRange, TermNode, ChoiceNode, HasWidth, term_word}
 use Rattle.term_dag.specs.Made.{Grew, InputsFrom}
 use Rattle.term_names.specs.declared.names.Names.{Names}
 use Rattle.bil_terms.specs.declared.stored.Stored.{Stored}

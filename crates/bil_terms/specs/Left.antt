@@ -6,10 +6,10 @@ use Rattle.machine_spec.specs.BilCounts.{list_weight, byte_loads, byte_stores, m
 use Rattle.machine_spec.specs.BilMeaning.{Stuck, Ending, Ends, RaisesException, OutOfTurns, Wrong, execute}
 use Rattle.machine_spec.specs.BilStores.{list_stored}
 use Rattle.machine_spec.specs.Simulation.{position}
-use Rattle.walk_spec.specs.Terms.{TermReading, InRange, TermNode, ChoiceNode, AreTyped, HasWidth, term_word}
+use Rattle.term_spec.specs.Terms.{TermReading, InRange, TermNode, ChoiceNode, AreTyped, HasWidth, term_word}
 use Rattle.walk_spec.specs.Unrolled.{UnrolledProgram, Carried, state_at}
 use Rattle.walk_spec.specs.Unrolling.{is_variable_of}
-use Rattle.walk_spec.specs.Passive.{AreNames, Denotes}
+use Rattle.term_spec.specs.Passive.{AreNames, Denotes}
 use Rattle.term_dag.specs.Made.{Grew, InputsFrom}
 use Rattle.term_names.specs.declared.names.Names.{Names}
 use Rattle.term_names.specs.Views.{form_of, names_of}

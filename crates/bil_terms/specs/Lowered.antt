@@ -5,7 +5,7 @@ use Rattle.machine_spec.specs.BilTyping.{type_width}
 use Rattle.machine_spec.specs.BilCounts.{width, own_stores, own_memory_choices, own_chosen_stores}
 use Rattle.machine_spec.specs.BilMeaning.{Word, Bytes, Env, evaluate, unary, unknown}
 use Rattle.machine_spec.specs.BilStores.{stored_by}
-use Rattle.walk_spec.specs.Terms.{TermReading, InRange, TermNode, ChoiceNode, ExtractNode, ExtendNode, HasWidth, HasMemory, IsWidth, term_value, term_word}
+use Rattle.term_spec.specs.Terms.{TermReading, InRange, TermNode, ChoiceNode, ExtractNode, ExtendNode, HasWidth, HasMemory, IsWidth, term_value, term_word}
 use Rattle.term_dag.specs.Made.{Grew, InputsFrom}
 use Rattle.term_names.specs.declared.names.Names.{Names}
 use Rattle.bil_terms.specs.declared.stored.Stored.{Stored}

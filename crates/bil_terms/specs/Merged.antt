@@ -1,7 +1,7 @@
 -- Two runs made one, by a condition.
 use Rattle.std.specs.Prelude.{ℕ, ◌≡◌, ◌≤◌, ◌<◌, ◌+◌, ◌*◌, List, bit_or}
 use Rattle.machine_spec.specs.BilMeaning.{Position}
-use Rattle.walk_spec.specs.Terms.{TermReading, InRange, TermNode, HasWidth, term_word}
+use Rattle.term_spec.specs.Terms.{TermReading, InRange, TermNode, HasWidth, term_word}
 use Rattle.term_dag.specs.Made.{Grew, InputsFrom}
 use Rattle.term_names.specs.Choices.{differs}
 use Rattle.term_names.specs.Chosen.{HaveSameForm, HaveSameTerms, differing_bits, differing_memory, differing_terms}

@@ -4,9 +4,9 @@ use Rattle.machine_spec.specs.Bil.{BilVariable, type_of}
 use Rattle.machine_spec.specs.BilTyping.{type_width}
 use Rattle.machine_spec.specs.BilCounts.{is_local}
 use Rattle.machine_spec.specs.BilMeaning.{Value, Word, Stuck, Env, get, put_local}
-use Rattle.walk_spec.specs.Terms.{TermReading, TermNode, HasWidth, IsWidth, term_word}
+use Rattle.term_spec.specs.Terms.{TermReading, TermNode, HasWidth, IsWidth, term_word}
 use Rattle.walk_spec.specs.Unrolling.{is_variable_of}
-use Rattle.walk_spec.specs.Passive.{AreNames, Denotes}
+use Rattle.term_spec.specs.Passive.{AreNames, Denotes}
 use Rattle.term_names.specs.Views.{form_of, names_of}
 use Rattle.term_names.specs.declared.names.Names.{Names}
 use Rattle.bil_terms.specs.declared.variables.LocalTerm.{LocalTerm}

@@ -5,8 +5,8 @@ use Rattle.machine_spec.specs.Bil.{Statements}
 use Rattle.machine_spec.specs.BilCounts.{byte_loads, byte_stores, unknowns}
 use Rattle.machine_spec.specs.BilMeaning.{Position, Ending, Ends, RaisesException, OutOfTurns, Wrong, execute}
 use Rattle.machine_spec.specs.BilStores.{list_stored}
-use Rattle.walk_spec.specs.Terms.{TermReading, InRange, TermNode, ChoiceNode, HasWidth, term_word}
-use Rattle.walk_spec.specs.Passive.{AreNames}
+use Rattle.term_spec.specs.Terms.{TermReading, InRange, TermNode, ChoiceNode, HasWidth, term_word}
+use Rattle.term_spec.specs.Passive.{AreNames}
 use Rattle.term_dag.specs.Made.{Grew, InputsFrom}
 use Rattle.term_names.specs.Views.{form_of, names_of}
 use Rattle.term_names.specs.Choices.{differs}

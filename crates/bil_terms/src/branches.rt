@@ -1,7 +1,7 @@
 //! Ifs as terms.
 
 ghost use Rattle.std.specs.Prelude.{IfOk};
-ghost use Rattle.walk_spec.specs.Terms.{HasWidth};
+ghost use Rattle.term_spec.specs.Terms.{HasWidth};
 ghost use Rattle.bil_terms.specs.Merged.{AreSides, IsEitherOf, IsLiveAfter, IsMerged, IsSide, IsSplit, IsTargetAfter};
 ghost use Rattle.bil_terms.specs.Runs.{AreBits, IsRun};
 

@@ -6,7 +6,7 @@ ghost use Rattle.word_spec.specs.Memory.{endian};
 ghost use Rattle.byte_mem.specs.Views.{endian_of};
 ghost use Rattle.bil_ast.specs.Views.{bil_type_of, cast_of, expression, unary_of, variable_of};
 ghost use Rattle.machine_spec.specs.BilTyping.{cast_fits};
-ghost use Rattle.walk_spec.specs.Terms.{HasWidth, IsWidth};
+ghost use Rattle.term_spec.specs.Terms.{HasWidth, IsWidth};
 ghost use Rattle.term_dag.specs.Nodes.{node_of};
 ghost use Rattle.bil_eval.specs.Checked.{IsMemory, IsWord};
 ghost use Rattle.bil_terms.specs.Naming.{IsScope, known};

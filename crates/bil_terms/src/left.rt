@@ -1,7 +1,7 @@
 //! Lists of statements as terms.
 
 ghost use Rattle.std.specs.Prelude.{IfOk};
-ghost use Rattle.walk_spec.specs.Passive.{AreNames};
+ghost use Rattle.term_spec.specs.Passive.{AreNames};
 ghost use Rattle.term_names.specs.Views.{form_of, names_of};
 ghost use Rattle.bil_ast.specs.Views.{statements};
 ghost use Rattle.bil_terms.specs.Begun.{HasBegun};

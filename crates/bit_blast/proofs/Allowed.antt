@@ -10,9 +10,9 @@ use Rattle.gates.specs.Circuits.{bit_value}
 use Rattle.word_gates.specs.Numbers.{number}
 use Rattle.word_gates.proofs.Words.{no_bit}
 use Rattle.std.proofs.lemmas.Bool.Decides.{nat_tests}
-use Rattle.walk_spec.specs.Terms.{TermReading, TermNode, HasWidth, node_at, width_of, term_word, value_at}
-use Rattle.walk_spec.specs.Cells as walk
-use Rattle.walk_spec.specs.Cells.{Cells, Agrees, HasByte, IsAllowed, AreFormed}
+use Rattle.term_spec.specs.Terms.{TermReading, TermNode, HasWidth, node_at, width_of, term_word, value_at}
+use Rattle.term_spec.specs.Cells as walk
+use Rattle.term_spec.specs.Cells.{Cells, Agrees, HasByte, IsAllowed, AreFormed}
 use Rattle.gates.specs.declared.bit.Bit.{Bit}
 use Rattle.mem_cells.specs.declared.cells.Agreement.{Agreement}
 use Rattle.mem_cells.specs.declared.cells.AskedByte.{AskedByte}

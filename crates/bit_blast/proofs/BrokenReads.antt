@@ -4,10 +4,10 @@ use Rattle.std.specs.Prelude.{◌↔◌, ◌==◌, not, Option, Some, None, Cont
 use Rattle.std.specs.List.Sorted.{IsStrictlyIncreasing}
 use Rattle.std.proofs.lemmas.Bool.Decides.{nat_tests}
 use Rattle.clause_spec.specs.Clauses.{valuation}
-use Rattle.walk_spec.specs.Terms.{TermReading}
+use Rattle.term_spec.specs.Terms.{TermReading}
 use Rattle.walk_spec.specs.Unrolled.{UnrolledProgram, byte_of_runs}
-use Rattle.walk_spec.specs.Cells.{Cells}
-use Rattle.walk_spec.specs.ClauseForm.{IsBroken, reading}
+use Rattle.term_spec.specs.Cells.{Cells}
+use Rattle.term_spec.specs.ClauseForm.{IsBroken, reading}
 use Rattle.known_bytes.proofs.Ordered.{rises}
 use Rattle.mem_cells.specs.declared.cells.Celled.{Celled}
 use Rattle.mem_cells.specs.Views.{cells_of, program_of_cells}

@@ -6,7 +6,7 @@ use Rattle.std.proofs.lemmas.List.{get_or_append_left, length_push, map-append}
 use Rattle.word_spec.specs.RowFiles.{from_to}
 use Rattle.word_spec.specs.Words.{bit}
 use Rattle.walk_spec.specs.Unrolled.{UnrolledProgram, no_point, point_at}
-use Rattle.walk_spec.specs.ClauseForm.{drawn_below}
+use Rattle.term_spec.specs.ClauseForm.{drawn_below}
 use Rattle.term_dag.proofs.ListLaws.{last}
 use Rattle.state_text.specs.declared.layout.Layout.{Layout}
 use Rattle.state_text.specs.declared.layout.Layout.TheVariants.{Rv32, Arm}

@@ -9,10 +9,10 @@ use Rattle.word_spec.specs.Words.{word}
 use Rattle.word_spec.specs.Memory.{Memory, byte_in}
 use Rattle.machine_spec.specs.StateText.{AreRising, known_or}
 use Rattle.bilv_spec.proofs.Pigeons.{truth}
-use Rattle.walk_spec.specs.Terms.{TermReading, with_mem}
+use Rattle.term_spec.specs.Terms.{TermReading, with_mem}
 use Rattle.walk_spec.specs.Unrolled.{UnrolledProgram, byte_of_runs}
-use Rattle.walk_spec.specs.Cells.{Cells, AreFormed, Gives, read_address}
-use Rattle.walk_spec.specs.ClauseForm.{IsBroken, reading}
+use Rattle.term_spec.specs.Cells.{Cells, AreFormed, Gives, read_address}
+use Rattle.term_spec.specs.ClauseForm.{IsBroken, reading}
 use Rattle.walk_laws.proofs.InputsWithin.{reading_in_range}
 use Rattle.mem_cells.proofs.Gathered.{term_free}
 use Rattle.bit_blast.specs.ReadBytes.{AreOne, AreReads, is_free, is_unknown}

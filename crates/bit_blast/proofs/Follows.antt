@@ -5,13 +5,13 @@ use Rattle.word_spec.specs.Words.{bit}
 use Rattle.word_spec.specs.Memory.{Memory, byte_in}
 use Rattle.bilv_spec.specs.Questions.{Reading, IsReading}
 use Rattle.word_spec.specs.State.{Written}
-use Rattle.walk_spec.specs.Terms.{TermReading, term_word, node_at}
+use Rattle.term_spec.specs.Terms.{TermReading, term_word, node_at}
 use Rattle.walk_spec.specs.Unrolled.{Carried, UnrolledProgram, point_at, WalkIsAt, walk, ExitsLeadLater, is_flag_of, is_register_of}
-use Rattle.walk_spec.specs.Passive.{Passive, IsPassive}
+use Rattle.term_spec.specs.Passive.{Passive, IsPassive}
 use Rattle.walk_spec.specs.Sweep.{swept}
-use Rattle.walk_spec.specs.WalkQuestions.{term_reading, DrawsAt}
-use Rattle.walk_spec.specs.Cells.{Cells}
-use Rattle.walk_spec.specs.ClauseForm.{IsReadingOf, reading, start_memory}
+use Rattle.term_spec.specs.WalkQuestions.{term_reading, DrawsAt}
+use Rattle.term_spec.specs.Cells.{Cells}
+use Rattle.term_spec.specs.ClauseForm.{IsReadingOf, reading, start_memory}
 use Rattle.walk_spec.proofs.SweepWalk.{sweep_is_walk}
 use Rattle.walk_laws.proofs.CellValues.{Agree, node_same, node_in, same_term}
 use Rattle.walk_laws.proofs.InputsWithin.{reading_in_range}

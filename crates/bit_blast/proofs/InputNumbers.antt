@@ -10,8 +10,8 @@ use Rattle.word_spec.specs.RowFiles.{from_to}
 use Rattle.clause_spec.specs.Clauses.{AgreeUpTo}
 use Rattle.bilv_spec.proofs.Pigeons.{truth}
 use Rattle.walk_spec.specs.Unrolled.{UnrolledPoint, UnrolledProgram, no_point, point_at, is_register_of, is_flag_of}
-use Rattle.walk_spec.specs.Cells.{Cells}
-use Rattle.walk_spec.specs.ClauseForm.{bits_from, drawn_below, first_flag, first_choice, first_byte, inputs, place_in, reading}
+use Rattle.term_spec.specs.Cells.{Cells}
+use Rattle.term_spec.specs.ClauseForm.{bits_from, drawn_below, first_flag, first_choice, first_byte, inputs, place_in, reading}
 use Rattle.walk_laws.proofs.InputPlaces.{place_found}
 use Rattle.word_gates.specs.Numbers.{input_number}
 use Rattle.word_gates.proofs.Constants.{input_more}

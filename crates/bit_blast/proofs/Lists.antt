@@ -4,7 +4,7 @@ use Rattle.std.specs.Prelude.{slice_index}
 use Rattle.std.specs.Global.{Vec}
 use Rattle.std.proofs.lemmas.List.{get_or-map, length-map}
 use Rattle.std.proofs.lemmas.List.Elements.{All-push}
-use Rattle.walk_spec.specs.Terms.{ConstantNode, MemoryNode, word_value, value_at, node_at, width_of}
+use Rattle.term_spec.specs.Terms.{ConstantNode, MemoryNode, word_value, value_at, node_at, width_of}
 use Rattle.gates.specs.declared.bit.Bit.{Bit}
 use Rattle.gates.specs.Circuits.{Within, variable_of}
 use Rattle.word_gates.specs.Numbers.{number}

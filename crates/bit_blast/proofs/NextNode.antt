@@ -5,8 +5,8 @@ use Rattle.std.specs.Global.{Vec}
 use Rattle.std.proofs.lemmas.Bool.{cases_lt}
 use Rattle.std.proofs.lemmas.List.{get_or_append_left, length-map, map-append, take_more, take_all, length_push}
 use Rattle.std.proofs.lemmas.List.Sums.{sum_by-append, sum_by-cons}
-use Rattle.walk_spec.specs.Terms.{TermReading, TermValue, TermNode, RegisterNode, FlagNode, ChoiceNode, BaseNode, MemoryNode, ConstantNode, BinaryNode, NotNode, SelectNode, ExtractNode, ConcatNode, ExtendNode, LoadNode, StoreNode, JoinNode, word_value, value_at, node_at, node_value, values_from, term_value, width_of, own_gates, term_gates, select, extend, operate, HasWidth, IsTypedOver, AreTyped}
-use Rattle.walk_spec.specs.Cells.{IsOfWords}
+use Rattle.term_spec.specs.Terms.{TermReading, TermValue, TermNode, RegisterNode, FlagNode, ChoiceNode, BaseNode, MemoryNode, ConstantNode, BinaryNode, NotNode, SelectNode, ExtractNode, ConcatNode, ExtendNode, LoadNode, StoreNode, JoinNode, word_value, value_at, node_at, node_value, values_from, term_value, width_of, own_gates, term_gates, select, extend, operate, HasWidth, IsTypedOver, AreTyped}
+use Rattle.term_spec.specs.Cells.{IsOfWords}
 use Rattle.word_spec.specs.Words as words
 use Rattle.word_spec.specs.Words.{bit}
 use Rattle.gates.specs.declared.bit.Bit.{Bit}

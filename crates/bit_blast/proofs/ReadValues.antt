@@ -3,8 +3,8 @@ use Rattle.std.proofs.Common.{◌≡◌, ℕ, ◌+◌, ◌*◌, ◌^◌, ◌<◌
 use Rattle.std.specs.Prelude.{slice_index, slice_index_or}
 use Rattle.std.proofs.lemmas.List.{get_or-map, length-map}
 use Rattle.walk_spec.specs.Unrolled.{UnrolledProgram}
-use Rattle.walk_spec.specs.Cells.{Cells, AreFormed, read_address}
-use Rattle.walk_spec.specs.ClauseForm.{bits_from, reading}
+use Rattle.term_spec.specs.Cells.{Cells, AreFormed, read_address}
+use Rattle.term_spec.specs.ClauseForm.{bits_from, reading}
 use Rattle.walk_laws.proofs.CellValues.{Agree, word_fits, word_same}
 use Rattle.walk_laws.proofs.InputsWithin.{reading_in_range}
 use Rattle.term_dag.specs.declared.nodes.Term.{Term}

@@ -10,13 +10,13 @@ use Rattle.word_spec.specs.Memory.{byte_in}
 use Rattle.word_spec.specs.RowFiles.{from_to}
 use Rattle.machine_spec.specs.StateText.{AreRising}
 use Rattle.word_spec.specs.State.{Written}
-use Rattle.walk_spec.specs.Terms.{TermReading, with_mem}
+use Rattle.term_spec.specs.Terms.{TermReading, with_mem}
 use Rattle.walk_spec.specs.Unrolled.{UnrolledPoint, UnrolledProgram, byte_of_runs, no_point, point_at, is_flag_of, is_register_of}
 use Rattle.walk_spec.specs.Unrolling.{IsWalkable}
-use Rattle.walk_spec.specs.Passive.{Passive, IsPassive}
-use Rattle.walk_spec.specs.WalkQuestions.{DrawsAt}
-use Rattle.walk_spec.specs.Cells.{Cells, Gives}
-use Rattle.walk_spec.specs.ClauseForm.{IsStartOf, bits_from, drawn_below, first_choice, reading, start_memory}
+use Rattle.term_spec.specs.Passive.{Passive, IsPassive}
+use Rattle.term_spec.specs.WalkQuestions.{DrawsAt}
+use Rattle.term_spec.specs.Cells.{Cells, Gives}
+use Rattle.term_spec.specs.ClauseForm.{IsStartOf, bits_from, drawn_below, first_choice, reading, start_memory}
 use Rattle.walk_laws.proofs.InputBits.{bit_is, flag_is, one_bit_same}
 use Rattle.walk_laws.proofs.InputsWithin.{reading_in_range}
 use Rattle.term_dag.specs.declared.nodes.Term.{Term}

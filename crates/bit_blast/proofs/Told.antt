@@ -6,10 +6,10 @@ use Rattle.std.specs.Global.{Vec}
 use Rattle.std.proofs.lemmas.Bool.{and_parts, and_from}
 use Rattle.std.proofs.lemmas.Bool.Decides.{nat_tests}
 use Rattle.clause_spec.specs.Clauses.{Clause, Cnf, Satisfies, AgreeUpTo, ExtendsOnceWhere}
-use Rattle.walk_spec.specs.Terms.{term_gates, term_word, value_at}
+use Rattle.term_spec.specs.Terms.{term_gates, term_word, value_at}
 use Rattle.walk_spec.specs.Unrolled.{UnrolledProgram}
-use Rattle.walk_spec.specs.Cells.{Cells, IsAllowed, AreFormed}
-use Rattle.walk_spec.specs.ClauseForm.{MakesTrue, TellsClauses, inputs, reading}
+use Rattle.term_spec.specs.Cells.{Cells, IsAllowed, AreFormed}
+use Rattle.term_spec.specs.ClauseForm.{MakesTrue, TellsClauses, inputs, reading}
 use Rattle.gates.specs.declared.bit.Bit.{Bit}
 use Rattle.gates.specs.Circuits.{Netlist, next, Grows, Holds, bit_value}
 use Rattle.gates.specs.Defined.{IsDefined}

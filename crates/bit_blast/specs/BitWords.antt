@@ -1,7 +1,7 @@
 -- Words of bits for the terms of a list.
 use Rattle.std.specs.Prelude.{ℕ, ◌≡◌, ◌<◌, Bool, List, length, map, All}
 use Rattle.std.specs.Global.{Vec}
-use Rattle.walk_spec.specs.Terms.{TermReading, TermValue, TermNode, ConstantNode, word_value, node_at, width_of, term_gates}
+use Rattle.term_spec.specs.Terms.{TermReading, TermValue, TermNode, ConstantNode, word_value, node_at, width_of, term_gates}
 use Rattle.gates.specs.declared.bit.Bit.{Bit}
 use Rattle.gates.specs.Circuits.{Netlist, next, Holds, Grows, Within}
 use Rattle.term_dag.specs.Readings.{AreWords}

@@ -2,7 +2,7 @@
 use Rattle.std.specs.Prelude.{ℕ, ◌<◌, ◌↔◌, Bool, false, not, ◌==◌, List, Option, Some, None, Contains, length, slice_index}
 use Rattle.clause_spec.specs.Clauses.{valuation}
 use Rattle.walk_spec.specs.Unrolled.{ByteRun, byte_of_runs}
-use Rattle.walk_spec.specs.ClauseForm.{IsBroken, reading}
+use Rattle.term_spec.specs.ClauseForm.{IsBroken, reading}
 use Rattle.mem_cells.specs.declared.cells.Celled.{Celled}
 use Rattle.mem_cells.specs.Views.{cells_of, program_of_cells}
 

@@ -1,10 +1,10 @@
 -- The words of cells.
 use Rattle.std.specs.Prelude.{ℕ, ◌≡◌, ◌<◌, Bool, List, length}
 use Rattle.std.specs.Global.{Vec}
-use Rattle.walk_spec.specs.Terms.{node_at, term_word, value_at, width_of}
+use Rattle.term_spec.specs.Terms.{node_at, term_word, value_at, width_of}
 use Rattle.walk_spec.specs.Unrolled.{UnrolledProgram}
-use Rattle.walk_spec.specs.Cells.{Cells}
-use Rattle.walk_spec.specs.ClauseForm.{reading}
+use Rattle.term_spec.specs.Cells.{Cells}
+use Rattle.term_spec.specs.ClauseForm.{reading}
 use Rattle.gates.specs.declared.bit.Bit.{Bit}
 use Rattle.gates.specs.Circuits.{Netlist, next, Holds}
 use Rattle.bit_blast.specs.Places.{seen}

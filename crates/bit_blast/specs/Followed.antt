@@ -4,11 +4,11 @@ use Rattle.word_spec.specs.Words.{word}
 use Rattle.word_spec.specs.Memory.{byte_in}
 use Rattle.bilv_spec.specs.Questions.{Reading}
 use Rattle.machine_spec.specs.StateText.{AreRising, known_or}
-use Rattle.walk_spec.specs.Terms.{TermReading}
+use Rattle.term_spec.specs.Terms.{TermReading}
 use Rattle.walk_spec.specs.Unrolled.{Carried, UnrolledProgram, WalkIsAt, walk, is_flag_of, is_register_of, byte_of_runs}
-use Rattle.walk_spec.specs.WalkQuestions.{DrawsAt}
-use Rattle.walk_spec.specs.Cells.{Cells}
-use Rattle.walk_spec.specs.ClauseForm.{IsReadingOf, reading}
+use Rattle.term_spec.specs.WalkQuestions.{DrawsAt}
+use Rattle.term_spec.specs.Cells.{Cells}
+use Rattle.term_spec.specs.ClauseForm.{IsReadingOf, reading}
 
 -- the reading has the registers, flags and choices of a valuation, and over the known bytes these bytes
 pub record IsStartReading (u : UnrolledProgram) (c : Cells) (v : ℕ → Bool) (bytes : List (ℕ × ℕ)) (y : TermReading) : Type 0 where

@@ -2,8 +2,8 @@
 use Rattle.std.specs.Prelude.{ℕ, ◌≡◌, ◌<◌, List, Option, Some, None, length, slice_index_or, if◌then◌else◌}
 use Rattle.word_spec.specs.RowFiles.{from_to}
 use Rattle.walk_spec.specs.Unrolled.{UnrolledProgram, point_at}
-use Rattle.walk_spec.specs.Cells.{Cells}
-use Rattle.walk_spec.specs.ClauseForm.{drawn_below}
+use Rattle.term_spec.specs.Cells.{Cells}
+use Rattle.term_spec.specs.ClauseForm.{drawn_below}
 use Rattle.bit_blast.specs.declared.input_places.InputPlaces.{InputPlaces}
 use Rattle.bit_blast.specs.Places.{AreInOrder}
 

@@ -1,7 +1,7 @@
 -- Where inputs stand, the bits that stand for them, and the readings that give them the numbers of their variables.
 use Rattle.std.specs.Prelude.{ℕ, ◌≡◌, ◌≤◌, ◌<◌, ◌+◌, ◌-◌, ◌*◌, Bool, Some, None, List, map, length, slice_index_or}
 use Rattle.clause_spec.specs.Clauses.{valuation}
-use Rattle.walk_spec.specs.Terms.{TermReading, TermNode, RegisterNode, FlagNode, ChoiceNode, BaseNode}
+use Rattle.term_spec.specs.Terms.{TermReading, TermNode, RegisterNode, FlagNode, ChoiceNode, BaseNode}
 use Rattle.gates.specs.declared.bit.Bit.{Bit}
 use Rattle.gates.specs.Circuits.{bit_value}
 use Rattle.word_gates.specs.Numbers.{input_number}

@@ -1,10 +1,10 @@
 -- The bytes that values give to base reads, and the addresses at which these read.
 use Rattle.std.specs.Prelude.{ℕ, ◌≡◌, ◌<◌, Bool, true, false, List, Option, Some, None, length, slice_index, slice_index_or}
-use Rattle.walk_spec.specs.Terms.{TermReading}
+use Rattle.term_spec.specs.Terms.{TermReading}
 use Rattle.walk_spec.specs.Unrolled.{UnrolledProgram, ByteRun, byte_of_runs, is_flag_of, is_register_of}
-use Rattle.walk_spec.specs.WalkQuestions.{DrawsAt}
-use Rattle.walk_spec.specs.Cells.{Cells, read_address}
-use Rattle.walk_spec.specs.ClauseForm.{reading}
+use Rattle.term_spec.specs.WalkQuestions.{DrawsAt}
+use Rattle.term_spec.specs.Cells.{Cells, read_address}
+use Rattle.term_spec.specs.ClauseForm.{reading}
 use Rattle.term_dag.specs.declared.nodes.Term.{Term}
 use Rattle.term_dag.specs.declared.values.Reading.{Reading}
 use Rattle.term_dag.specs.Readings.{reading_of}

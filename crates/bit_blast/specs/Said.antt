@@ -1,7 +1,7 @@
 -- What is said of base reads, under a valuation, where bits stand for the inputs.
 use Rattle.std.specs.Prelude.{ℕ, ◌==◌, ◌<◌, ◌+◌, ◌*◌, Bool, not, ◌||◌, List}
 use Rattle.std.specs.Global.{Vec}
-use Rattle.walk_spec.specs.Terms.{HasWidth, value_at}
+use Rattle.term_spec.specs.Terms.{HasWidth, value_at}
 use Rattle.gates.specs.declared.bit.Bit.{Bit}
 use Rattle.word_gates.specs.Numbers.{input_number}
 use Rattle.mem_cells.specs.declared.cells.Agreement.{Agreement}

@@ -2,7 +2,7 @@
 use Rattle.std.specs.Prelude.{ℕ, zero, suc, ◌≡◌, ◌≤◌, ◌<◌, ◌+◌, ◌*◌, ◌==◌, Bool, true, if◌then◌else◌, List, [], ◌∷◌, ◌++◌, Option, Some, None, All, slice_index, slice_index_or}
 use Rattle.word_spec.specs.Memory.{byte_in}
 use Rattle.machine_spec.specs.StateText.{AreRising}
-use Rattle.walk_spec.specs.ClauseForm.{bits_from}
+use Rattle.term_spec.specs.ClauseForm.{bits_from}
 use Rattle.term_dag.specs.declared.nodes.Term.{Term}
 use Rattle.bit_blast.specs.declared.input_places.InputPlaces.{InputPlaces}
 

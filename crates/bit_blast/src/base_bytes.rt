@@ -2,8 +2,8 @@
 ghost use Rattle.std.specs.Prelude.{◌≡◌, ℕ, ◌<◌, ◌+◌, ◌*◌, ◌^◌, length, slice_index, slice_index_or, IfOk};
 ghost use Rattle.clause_spec.specs.Clauses.{valuation};
 ghost use Rattle.walk_spec.specs.Unrolled.{UnrolledProgram};
-ghost use Rattle.walk_spec.specs.Cells.{Cells, AreFormed};
-ghost use Rattle.walk_spec.specs.ClauseForm.{bits_from, reading};
+ghost use Rattle.term_spec.specs.Cells.{Cells, AreFormed};
+ghost use Rattle.term_spec.specs.ClauseForm.{bits_from, reading};
 ghost use Rattle.term_dag.specs.declared.nodes.Term.{Term};
 ghost use Rattle.mem_cells.specs.Views.{cells_of, program_of_cells};
 ghost use Rattle.bit_blast.specs.Laid.{ArePlaces};

@@ -1,8 +1,8 @@
 //! The words of cells, and what is said of their base reads, where bits stand for the inputs.
 ghost use Rattle.std.specs.Prelude.{◌≡◌, ℕ, ◌↔◌, Bool, true, length, IfOk, OnOk};
-ghost use Rattle.walk_spec.specs.Terms.{term_gates};
-ghost use Rattle.walk_spec.specs.Cells.{AreFormed, IsAllowed};
-ghost use Rattle.walk_spec.specs.ClauseForm.{reading};
+ghost use Rattle.term_spec.specs.Terms.{term_gates};
+ghost use Rattle.term_spec.specs.Cells.{AreFormed, IsAllowed};
+ghost use Rattle.term_spec.specs.ClauseForm.{reading};
 ghost use Rattle.gates.specs.Circuits.{next, Grows, Holds, Within};
 ghost use Rattle.gates.specs.Pushes.{satisfied, AreOver};
 ghost use Rattle.mem_cells.specs.Views.{cells_of, program_of_cells};

@@ -1,7 +1,7 @@
 //! The clauses of cells.
 ghost use Rattle.std.specs.Prelude.{IfOk};
-ghost use Rattle.walk_spec.specs.Cells.{AreFormed};
-ghost use Rattle.walk_spec.specs.ClauseForm.{TellsClauses};
+ghost use Rattle.term_spec.specs.Cells.{AreFormed};
+ghost use Rattle.term_spec.specs.ClauseForm.{TellsClauses};
 ghost use Rattle.cnf_form.specs.Views.{cnf_of};
 ghost use Rattle.mem_cells.specs.Views.{cells_of, program_of_cells};
 

@@ -1,7 +1,7 @@
 //! The addresses at which values go against the known bytes.
 ghost use Rattle.std.specs.Prelude.{◌≡◌, ◌↔◌, ◌++◌, ℕ, [], ◌∷◌, Contains, filter, map, IfOk, OnOk};
 ghost use Rattle.std.specs.List.Sorted.{IsStrictlyIncreasing};
-ghost use Rattle.walk_spec.specs.Cells.{AreFormed};
+ghost use Rattle.term_spec.specs.Cells.{AreFormed};
 ghost use Rattle.known_bytes.specs.Runs.{run_of};
 ghost use Rattle.mem_cells.specs.Views.{cells_of, program_of_cells};
 ghost use Rattle.bit_blast.specs.Broken.{AreBroken, differs};

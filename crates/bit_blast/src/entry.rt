@@ -3,10 +3,10 @@ ghost use Rattle.std.specs.Prelude.{◌≡◌, ◌↔◌, ◌++◌, ℕ, [], ◌
 ghost use Rattle.word_spec.specs.Words.{word};
 ghost use Rattle.clause_spec.specs.Clauses.{valuation};
 ghost use Rattle.machine_spec.specs.StateText.{AreRising, known_or};
-ghost use Rattle.walk_spec.specs.Terms.{with_mem};
+ghost use Rattle.term_spec.specs.Terms.{with_mem};
 ghost use Rattle.walk_spec.specs.Unrolled.{byte_of_runs};
-ghost use Rattle.walk_spec.specs.Cells.{AreFormed, Gives};
-ghost use Rattle.walk_spec.specs.ClauseForm.{IsBroken, reading};
+ghost use Rattle.term_spec.specs.Cells.{AreFormed, Gives};
+ghost use Rattle.term_spec.specs.ClauseForm.{IsBroken, reading};
 ghost use Rattle.known_bytes.specs.Runs.{run_of};
 ghost use Rattle.mem_cells.specs.Views.{cells_of, program_of_cells};
 ghost use Rattle.bit_blast.specs.ReadBytes.{AreOne, is_unknown};

@@ -1,6 +1,6 @@
 //! The words of inputs: which inputs a node is, and the bits that stand for them.
 ghost use Rattle.std.specs.Prelude.{◌≡◌, ℕ, ◌+◌, ◌<◌, ◌≤◌, Bool, length, [], IfOk};
-ghost use Rattle.walk_spec.specs.Terms.{TermReading, node_value, own_gates, width_of};
+ghost use Rattle.term_spec.specs.Terms.{TermReading, node_value, own_gates, width_of};
 ghost use Rattle.term_dag.specs.Nodes.{IsInput, node_of};
 ghost use Rattle.gates.specs.Circuits.{Netlist, next, Within};
 ghost use Rattle.word_gates.specs.Numbers.{input_number, number, IsWord};

@@ -3,7 +3,7 @@ ghost use Rattle.std.specs.Prelude.{◌≡◌, ◌<◌, ◌≤◌, ◌^◌, leng
 ghost use Rattle.question_form.specs.Views.{no_code, unrolled_of};
 ghost use Rattle.state_text.specs.Starts.{layout_of};
 ghost use Rattle.mem_cells.specs.Views.{cells_of, program_of_cells};
-ghost use Rattle.walk_spec.specs.ClauseForm.{drawn_below, first_byte};
+ghost use Rattle.term_spec.specs.ClauseForm.{drawn_below, first_byte};
 ghost use Rattle.bit_blast.specs.Laid.{AreDrawn, ArePlaces};
 
 use crate::input_places::InputPlaces;

@@ -1,7 +1,7 @@
 //! The circuits of nodes, over the words of the nodes before them.
 ghost use Rattle.std.specs.Prelude.{◌≡◌, ℕ, ◌<◌, ◌≤◌, ◌+◌, Bool, length, IfOk};
-ghost use Rattle.walk_spec.specs.Terms.{TermReading, ConstantNode, BinaryNode, NotNode, SelectNode, ExtractNode, ConcatNode, ExtendNode, value_at, node_value, node_at, width_of, own_gates, IsTypedOver};
-ghost use Rattle.walk_spec.specs.Cells.{IsOfWords};
+ghost use Rattle.term_spec.specs.Terms.{TermReading, ConstantNode, BinaryNode, NotNode, SelectNode, ExtractNode, ConcatNode, ExtendNode, value_at, node_value, node_at, width_of, own_gates, IsTypedOver};
+ghost use Rattle.term_spec.specs.Cells.{IsOfWords};
 ghost use Rattle.term_dag.specs.Nodes.{node_of, op_of};
 ghost use Rattle.gates.specs.Circuits.{next, Holds, Within};
 ghost use Rattle.word_gates.specs.Numbers.{number, IsWord};

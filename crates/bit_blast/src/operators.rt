@@ -2,7 +2,7 @@
 ghost use Rattle.std.specs.Prelude.{◌≡◌, ℕ, ◌<◌, ◌≤◌, ◌∷◌, [], Bool, length, IfOk};
 ghost use Rattle.machine_spec.specs.BilCounts.{op_weight};
 ghost use Rattle.machine_spec.specs.BilTyping.{result_width};
-ghost use Rattle.walk_spec.specs.Terms.{operate};
+ghost use Rattle.term_spec.specs.Terms.{operate};
 ghost use Rattle.term_dag.specs.Nodes.{op_of};
 ghost use Rattle.gates.specs.Circuits.{next, Holds, Within};
 ghost use Rattle.word_gates.specs.Numbers.{number, IsWord};

@@ -3,12 +3,12 @@ ghost use Rattle.std.specs.Prelude.{◌≡◌, ℕ, ◌≤◌, ◌<◌, ◌^◌,
 ghost use Rattle.word_spec.specs.Words.{word};
 ghost use Rattle.clause_spec.specs.Clauses.{valuation};
 ghost use Rattle.machine_spec.specs.StateText.{AreRising, known_or};
-ghost use Rattle.walk_spec.specs.Terms.{with_mem};
+ghost use Rattle.term_spec.specs.Terms.{with_mem};
 ghost use Rattle.walk_spec.specs.Unrolled.{byte_of_runs};
 ghost use Rattle.walk_spec.specs.Unrolling.{IsWalkable};
-ghost use Rattle.walk_spec.specs.Passive.{IsPassive};
-ghost use Rattle.walk_spec.specs.Cells.{AreFormed, Gives};
-ghost use Rattle.walk_spec.specs.ClauseForm.{IsBroken, IsStartOf, reading};
+ghost use Rattle.term_spec.specs.Passive.{IsPassive};
+ghost use Rattle.term_spec.specs.Cells.{AreFormed, Gives};
+ghost use Rattle.term_spec.specs.ClauseForm.{IsBroken, IsStartOf, reading};
 ghost use Rattle.known_bytes.specs.Runs.{AreRuns};
 ghost use Rattle.term_dag.specs.Readings.{reading_of};
 ghost use Rattle.state_text.specs.Starts.{written_of};

@@ -2,7 +2,7 @@
 ghost use Rattle.std.specs.Prelude.{◌≡◌, ℕ, ◌<◌, ◌≤◌, ◌+◌, ◌-◌, ◌*◌, map, slice_index, IfOk};
 ghost use Rattle.clause_spec.specs.Clauses.{valuation};
 ghost use Rattle.word_spec.specs.RowFiles.{from_to};
-ghost use Rattle.walk_spec.specs.ClauseForm.{bits_from};
+ghost use Rattle.term_spec.specs.ClauseForm.{bits_from};
 
 use crate::values::number_at;
 use std::alloc::{AllocError, Global};

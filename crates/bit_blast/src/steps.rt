@@ -1,7 +1,7 @@
 //! The choices of a start, by their steps.
 ghost use Rattle.std.specs.Prelude.{◌≡◌, ℕ, ◌<◌, ◌≤◌, ◌+◌, ◌*◌, ◌^◌, length, slice_index, slice_index_or, IfOk, OnOk};
 ghost use Rattle.clause_spec.specs.Clauses.{valuation};
-ghost use Rattle.walk_spec.specs.ClauseForm.{bits_from};
+ghost use Rattle.term_spec.specs.ClauseForm.{bits_from};
 ghost use Rattle.term_dag.specs.declared.nodes.Term.{Term};
 ghost use Rattle.bit_blast.specs.Steps.{AreChoices, choice_at, choice_by, count_met, is_met_by, with_choice};
 

@@ -1,7 +1,7 @@
 //! Numbers that values have.
 ghost use Rattle.std.specs.Prelude.{◌≡◌, ◌≤◌, ◌<◌, ◌+◌, ◌*◌, ◌^◌, length, map, IfOk};
 ghost use Rattle.clause_spec.specs.Clauses.{valuation};
-ghost use Rattle.walk_spec.specs.ClauseForm.{bits_from};
+ghost use Rattle.term_spec.specs.ClauseForm.{bits_from};
 
 use std::alloc::{AllocError, Global};
 

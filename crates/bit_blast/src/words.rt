@@ -1,7 +1,7 @@
 //! The circuits of lists of nodes.
 ghost use Rattle.std.specs.Prelude.{◌≡◌, length, Contains, IfOk, OnOk};
-ghost use Rattle.walk_spec.specs.Terms.{TermNode};
-ghost use Rattle.walk_spec.specs.Cells.{IsOfWords};
+ghost use Rattle.term_spec.specs.Terms.{TermNode};
+ghost use Rattle.term_spec.specs.Cells.{IsOfWords};
 ghost use Rattle.gates.specs.Circuits.{next, Within};
 ghost use Rattle.bit_blast.specs.Places.{AreInOrder, IsNamed};
 ghost use Rattle.bit_blast.specs.BitWords.{AreBlasted};

@@ -5,7 +5,7 @@ ghost use Rattle.machine_spec.specs.RvMachine.{rv32};
 ghost use Rattle.mem_cells.specs.Views.{cells_of, program_of_cells};
 ghost use Rattle.notes_value.specs.NoteViews.{notes_of};
 ghost use Rattle.notes_value.specs.Reads.{AreReadable};
-ghost use Rattle.walk_spec.specs.Cells.{AreFormed};
+ghost use Rattle.term_spec.specs.Cells.{AreFormed};
 
 use crate::programs::Case;
 use crate::propagation::satisfy;

@@ -8,8 +8,8 @@ ghost use Rattle.notes_value.specs.Reads.{AreOver, AreReadable};
 ghost use Rattle.verdict.specs.Measures.{IsMeasurable};
 ghost use Rattle.verdict.specs.Rounds.{AreRising, IsAskable};
 ghost use Rattle.question_form.specs.Questions.{program_of_question, question_of, term_of};
-ghost use Rattle.walk_spec.specs.Cells.{AreFormed};
-ghost use Rattle.walk_spec.specs.WalkQuestions.{TellsQuestion};
+ghost use Rattle.term_spec.specs.Cells.{AreFormed};
+ghost use Rattle.term_spec.specs.WalkQuestions.{TellsQuestion};
 
 use crate::cells::{broken_zeros, count_clauses};
 use crate::conditions::{count_questions, equalities, selections};

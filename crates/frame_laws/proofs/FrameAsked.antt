@@ -10,7 +10,7 @@ use Rattle.bilv_spec.specs.Points.{is_known_at}
 use Rattle.bilv_spec.proofs.PointSteps.{same_number}
 use Rattle.bilv_spec.proofs.PointTests.{any_is}
 use Rattle.bilv_spec.proofs.FileWords.{all_kept_at}
-use Rattle.walk_spec.specs.WalkQuestions.{is_asked}
+use Rattle.term_spec.specs.WalkQuestions.{is_asked}
 use Rattle.frame_spec.specs.Frames.{Contract, Frame}
 use Rattle.frame_spec.specs.FrameWalk.{UnrolledProgram}
 use Rattle.frame_spec.specs.FrameUnrolling.{IsUnrolling}

@@ -9,7 +9,7 @@ use Rattle.machine_spec.specs.Machine.{Row}
 use Rattle.bilv_spec.specs.Points.{file_row, row_price}
 use Rattle.bilv_spec.specs.PointLaws.{HasLawfulRows}
 use Rattle.bilv_spec.proofs.PointSteps.{here, there}
-use Rattle.walk_spec.specs.Cells.{cell_gates}
+use Rattle.term_spec.specs.Cells.{cell_gates}
 use Rattle.walk_spec.specs.Prices.{cell_price}
 use Rattle.walk_spec.specs.Unrolling.{row_draws}
 use Rattle.walk_laws.proofs.InputOrder.{length_append, block_length}

@@ -3,9 +3,9 @@ use Rattle.std.proofs.Common.{◌≡◌, refl, ap, sym, ◌∙◌, subst, arith,
 use Rattle.std.specs.Prelude.{Contains, ◌==◌, slice_index, if◌then◌else◌}
 use Rattle.std.proofs.lemmas.Bool.Decides.{nat_tests}
 use Rattle.word_spec.specs.Words.{bit_at}
-use Rattle.walk_spec.specs.Terms as terms
-use Rattle.walk_spec.specs.Terms.{TermNode, RegisterNode, FlagNode, ChoiceNode, BaseNode, MemoryNode, ConstantNode, BinaryNode, NotNode, SelectNode, ExtractNode, ConcatNode, ExtendNode, LoadNode, StoreNode, JoinNode, TermValue, word_value}
-use Rattle.walk_spec.specs.Cells as tables
+use Rattle.term_spec.specs.Terms as terms
+use Rattle.term_spec.specs.Terms.{TermNode, RegisterNode, FlagNode, ChoiceNode, BaseNode, MemoryNode, ConstantNode, BinaryNode, NotNode, SelectNode, ExtractNode, ConcatNode, ExtendNode, LoadNode, StoreNode, JoinNode, TermValue, word_value}
+use Rattle.term_spec.specs.Cells as tables
 use Rattle.walk_laws.proofs.BaseBytes.{with_base}
 use Rattle.walk_laws.proofs.InputBits.{same_bits}
 use Rattle.frame_spec.specs.FrameQuestions as questions

@@ -5,13 +5,13 @@ use Rattle.word_spec.specs.RowFiles.{from_to}
 use Rattle.bilv_spec.proofs.Pigeons.{at_in}
 use Rattle.bilv_spec.proofs.PointSteps.{in_map}
 use Rattle.bilv_spec.proofs.PointsInGraph.{of_map}
-use Rattle.walk_spec.specs.Terms as terms
-use Rattle.walk_spec.specs.Terms.{TermReading, InRange, TermNode, BaseNode, MemoryNode, with_mem}
+use Rattle.term_spec.specs.Terms as terms
+use Rattle.term_spec.specs.Terms.{TermReading, InRange, TermNode, BaseNode, MemoryNode, with_mem}
 use Rattle.walk_spec.specs.Unrolled as tables
-use Rattle.walk_spec.specs.WalkQuestions as walks
+use Rattle.term_spec.specs.WalkQuestions as walks
 use Rattle.walk_spec.specs.Prices as prices
-use Rattle.walk_spec.specs.Cells as cells
-use Rattle.walk_spec.specs.Cells.{cell_gates}
+use Rattle.term_spec.specs.Cells as cells
+use Rattle.term_spec.specs.Cells.{cell_gates}
 use Rattle.walk_laws.proofs.InputOrder.{get_of, row_get, row_is, row_length}
 use Rattle.frame_laws.specs.HeadlessLaws.{as_unrolled}
 use Rattle.frame_laws.specs.FramePrices.{loads_of, stores_of, edges_of, known_of}

@@ -5,8 +5,8 @@ use Rattle.std.specs.List.{flat_map}
 use Rattle.word_spec.specs.RowFiles.{from_to}
 use Rattle.bilv_spec.specs.Evidence as evidence
 use Rattle.walk_spec.specs.Unrolled as tables
-use Rattle.walk_spec.specs.Cells as cells
-use Rattle.walk_spec.specs.ClauseForm as clauses
+use Rattle.term_spec.specs.Cells as cells
+use Rattle.term_spec.specs.ClauseForm as clauses
 use Rattle.frame_spec.specs.FrameQuestions.{Input, OfChoice}
 use Rattle.frame_spec.specs.FrameWalk.{UnrolledProgram, point_at}
 use Rattle.frame_laws.specs.HeadlessLaws.{as_action, as_unrolled}

@@ -7,15 +7,15 @@ use Rattle.bilv_spec.specs.Questions as questions
 use Rattle.bilv_spec.proofs.PointSteps.{in_map}
 use Rattle.bilv_spec.proofs.PointsInGraph.{of_map}
 use Rattle.call_spec.specs.Calls as calls
-use Rattle.walk_spec.specs.Terms as terms
-use Rattle.walk_spec.specs.Terms.{TermReading, TermNode, RegisterNode, FlagNode, ChoiceNode, BaseNode, MemoryNode, ConstantNode, BinaryNode, NotNode, SelectNode, ExtractNode, ConcatNode, ExtendNode, LoadNode, StoreNode, JoinNode, TermValue, value_at}
+use Rattle.term_spec.specs.Terms as terms
+use Rattle.term_spec.specs.Terms.{TermReading, TermNode, RegisterNode, FlagNode, ChoiceNode, BaseNode, MemoryNode, ConstantNode, BinaryNode, NotNode, SelectNode, ExtractNode, ConcatNode, ExtendNode, LoadNode, StoreNode, JoinNode, TermValue, value_at}
 use Rattle.walk_spec.specs.Unrolled as tables
 use Rattle.walk_spec.specs.Unrolled.{ExitsLeadLater}
 use Rattle.walk_spec.specs.Sweep as sweeps
-use Rattle.walk_spec.specs.WalkQuestions as walks
-use Rattle.walk_spec.specs.WalkQuestions.{Room, term_reading}
-use Rattle.walk_spec.specs.Passive as passive
-use Rattle.walk_spec.proofs.SweepWalk.{held_answers}
+use Rattle.term_spec.specs.WalkQuestions as walks
+use Rattle.term_spec.specs.WalkQuestions.{Room, term_reading}
+use Rattle.term_spec.specs.Passive as passive
+use Rattle.term_spec.proofs.HeldAnswers.{held_answers}
 use Rattle.frame_spec.specs.Frames.{Content}
 use Rattle.frame_spec.specs.FramePoints.{triple}
 use Rattle.frame_spec.specs.FrameQuestions.{Reading, IsReading}

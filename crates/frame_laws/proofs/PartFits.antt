@@ -9,9 +9,9 @@ use Rattle.machine_spec.specs.BilTyping.{result_width}
 use Rattle.machine_spec.specs.BilMeaning.{on_words}
 use Rattle.machine_spec.proofs.BilSound.{word_of}
 use Rattle.machine_spec.proofs.WordBounds.{op_below, complement_below, sign_extend_below}
-use Rattle.walk_spec.specs.Terms as terms
-use Rattle.walk_spec.specs.Terms.{InRange, TermValue, TermNode, RegisterNode, FlagNode, ChoiceNode, BaseNode, MemoryNode, ConstantNode, BinaryNode, NotNode, SelectNode, ExtractNode, ConcatNode, ExtendNode, LoadNode, StoreNode, JoinNode, word_part, operate, select, value_at, node_at, width_of}
-use Rattle.walk_spec.specs.Cells as tables
+use Rattle.term_spec.specs.Terms as terms
+use Rattle.term_spec.specs.Terms.{InRange, TermValue, TermNode, RegisterNode, FlagNode, ChoiceNode, BaseNode, MemoryNode, ConstantNode, BinaryNode, NotNode, SelectNode, ExtractNode, ConcatNode, ExtendNode, LoadNode, StoreNode, JoinNode, word_part, operate, select, value_at, node_at, width_of}
+use Rattle.term_spec.specs.Cells as tables
 use Rattle.frame_spec.specs.FrameWalk.{UnrolledProgram}
 use Rattle.frame_laws.specs.PartTerms.{PartReading, ArePartsInRange, PartNode, Plain, RegisterOf, FlagOf, MemoryOf, BaseOf, TakeNode, node_value, values_from, term_word, shape, shapes, HasWidth, IsTypedOver, AreTypedFrom}
 use Rattle.frame_laws.specs.FrameCells.{Cells, IsOfWords, AreFormed}

@@ -1,8 +1,8 @@
 -- Terms and cells of frames under readings that agree on what they name.
 use Rattle.std.proofs.Common.{◌≡◌, refl, ap, sym, ◌∙◌, subst, arith, ℕ, zero, suc, ◌+◌, ◌<◌, ◌≤◌, List, [], ◌∷◌, ◌++◌, length, Bool}
 use Rattle.std.specs.Prelude.{Contains, slice_index}
-use Rattle.walk_spec.specs.Terms as terms
-use Rattle.walk_spec.specs.Terms.{TermReading, TermNode, RegisterNode, FlagNode, ChoiceNode, BaseNode, MemoryNode, ConstantNode, BinaryNode, NotNode, SelectNode, ExtractNode, ConcatNode, ExtendNode, LoadNode, StoreNode, JoinNode, TermValue, value_at, word_value, bytes_value}
+use Rattle.term_spec.specs.Terms as terms
+use Rattle.term_spec.specs.Terms.{TermReading, TermNode, RegisterNode, FlagNode, ChoiceNode, BaseNode, MemoryNode, ConstantNode, BinaryNode, NotNode, SelectNode, ExtractNode, ConcatNode, ExtendNode, LoadNode, StoreNode, JoinNode, TermValue, value_at, word_value, bytes_value}
 use Rattle.walk_laws.proofs.CellValues.{at_front, longer}
 use Rattle.frame_spec.specs.FrameWalk.{UnrolledProgram}
 use Rattle.frame_laws.specs.PartTerms.{PartReading, PartNode, Plain, RegisterOf, FlagOf, MemoryOf, BaseOf, TakeNode, take_bytes, node_value, values_from, term_word, shapes}

@@ -2,9 +2,9 @@
 -- and of selections.
 use Rattle.std.specs.Prelude.{ℕ, ◌≡◌, ◌≤◌, ◌<◌, ◌+◌, ◌*◌, Bool, true, List, Option, Some, None, length, slice_get, slice_index, slice_index_or, Contains}
 use Rattle.word_spec.specs.Memory.{Memory}
-use Rattle.walk_spec.specs.Terms.{BaseNode, MemoryNode, with_mem}
-use Rattle.walk_spec.specs.Cells as tables
-use Rattle.walk_spec.specs.Cells.{cell_gates}
+use Rattle.term_spec.specs.Terms.{BaseNode, MemoryNode, with_mem}
+use Rattle.term_spec.specs.Cells as tables
+use Rattle.term_spec.specs.Cells.{cell_gates}
 use Rattle.frame_spec.specs.FrameWalk.{UnrolledProgram}
 use Rattle.frame_laws.specs.FramePrices.{loads_of, stores_of, edges_of, known_of}
 use Rattle.frame_laws.specs.RunOfFrame.{HasAsked, HasAskedKept}

@@ -3,16 +3,16 @@ use Rattle.std.specs.Prelude.{ℕ, ◌≡◌, ◌<◌, ◌↔◌, Bool, false, L
 use Rattle.word_spec.specs.RowFiles.{from_to}
 use Rattle.call_spec.specs.Calls as calls
 use Rattle.bilv_spec.specs.Evidence as evidence
-use Rattle.walk_spec.specs.Terms as terms
-use Rattle.walk_spec.specs.Terms.{TermNode, TermValue}
+use Rattle.term_spec.specs.Terms as terms
+use Rattle.term_spec.specs.Terms.{TermNode, TermValue}
 use Rattle.walk_spec.specs.Unrolled as tables
 use Rattle.walk_spec.specs.Unrolled.{ExitsLeadLater}
 use Rattle.walk_spec.specs.Unrolling as unrolling
-use Rattle.walk_spec.specs.WalkQuestions as walks
-use Rattle.walk_spec.specs.WalkQuestions.{term_reading}
-use Rattle.walk_spec.specs.Passive as passive
-use Rattle.walk_spec.specs.Cells as cells
-use Rattle.walk_spec.specs.ClauseForm as clauses
+use Rattle.term_spec.specs.WalkQuestions as walks
+use Rattle.term_spec.specs.WalkQuestions.{term_reading}
+use Rattle.term_spec.specs.Passive as passive
+use Rattle.term_spec.specs.Cells as cells
+use Rattle.term_spec.specs.ClauseForm as clauses
 use Rattle.frame_spec.specs.FrameQuestions.{Input, OfRegister, OfFlag, OfChoice, OfByte, EntryPart}
 use Rattle.frame_laws.specs.HeadlessLaws.{as_point, as_question, as_unrolled}
 use Rattle.frame_laws.specs.PartTerms.{PartReading, PartNode, Plain, AreTyped, term_value, term_gates, term_loads, term_stores, term_joins}

@@ -5,8 +5,8 @@ use Rattle.std.specs.List.{list_any}
 use Rattle.word_spec.specs.Words.{add}
 use Rattle.word_spec.specs.Memory.{Memory}
 use Rattle.word_spec.specs.RowFiles.{from_to}
-use Rattle.walk_spec.specs.Terms as terms
-use Rattle.walk_spec.specs.Terms.{TermReading, InRange, TermValue, TermNode, RegisterNode, FlagNode, BaseNode, MemoryNode, word_value, bytes_value, value_at}
+use Rattle.term_spec.specs.Terms as terms
+use Rattle.term_spec.specs.Terms.{TermReading, InRange, TermValue, TermNode, RegisterNode, FlagNode, BaseNode, MemoryNode, word_value, bytes_value, value_at}
 
 -- a part of a reading besides the entry's: the head's, or what is given at the contract point of a place
 pub data Part : Type 0 where

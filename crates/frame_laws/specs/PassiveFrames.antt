@@ -8,11 +8,11 @@ use Rattle.machine_spec.specs.Machine.{IsAtPlace}
 use Rattle.bilv_spec.specs.Notes.{Expr, NoteLine}
 use Rattle.bilv_spec.specs.Points.{line_price, bytes_loaded}
 use Rattle.bilv_spec.specs.Run.{false_line}
-use Rattle.walk_spec.specs.Terms.{TermNode, RegisterNode, FlagNode, ChoiceNode, BaseNode}
+use Rattle.term_spec.specs.Terms.{TermNode, RegisterNode, FlagNode, ChoiceNode, BaseNode}
 use Rattle.walk_spec.specs.Unrolled as tables
 use Rattle.walk_spec.specs.Unrolling.{AreRuns, IsReadable, IsSized}
-use Rattle.walk_spec.specs.WalkQuestions.{Room}
-use Rattle.walk_spec.specs.Passive.{Names}
+use Rattle.term_spec.specs.WalkQuestions.{Room}
+use Rattle.term_spec.specs.Passive.{Names}
 use Rattle.frame_spec.specs.Frames.{Content, Writes}
 use Rattle.frame_spec.specs.FrameQuestions.{Reading, IsReading, Question}
 use Rattle.frame_spec.specs.FrameWalk.{PointExit, Action, Executes, Arrives, StepsOver, Gift, Root, Own, UnrolledProgram, point_at, IsRooted, Held, held, swept}

@@ -9,7 +9,7 @@ use Rattle.bilv_spec.specs.Questions.{IsEntryStateOver}
 use Rattle.bilv_spec.specs.Verdict.{IsEntryState}
 use Rattle.bilv_spec.specs.PointLaws.{HasLawfulRows}
 use Rattle.walk_spec.specs.Unrolled.{is_in, byte_of_runs}
-use Rattle.walk_spec.specs.WalkQuestions.{is_asked}
+use Rattle.term_spec.specs.WalkQuestions.{is_asked}
 use Rattle.frame_spec.specs.Frames.{Content, Contract, Frame, is_head, contract_at}
 use Rattle.frame_spec.specs.FrameRuns.{Run, Going, Arriving, Calling, Exited, Failed, Turned, Cut, Broken}
 use Rattle.frame_spec.specs.FramePoints.{Anchor, AtEntry, AtHead, Point, IsAnchor, is_cut, has_heads}

@@ -8,7 +8,7 @@ use Rattle.std.proofs.lemmas.List.{get_or_append_left}
 use Rattle.term_dag.proofs.ListLaws.{last}
 use Rattle.std.proofs.lemmas.List.Elements.{Contains-push_cases, Contains-push, Contains-append_left}
 use Rattle.word_spec.specs.Words.{add, sub, bit}
-use Rattle.walk_spec.specs.Terms.{TermReading, HasWidth, term_word}
+use Rattle.term_spec.specs.Terms.{TermReading, HasWidth, term_word}
 use Rattle.term_dag.proofs.Ranges.{word_fits}
 use Rattle.mem_cells.specs.declared.building.Build.{Build}
 use Rattle.mem_cells.specs.declared.cells.Agreement.{Agreement}

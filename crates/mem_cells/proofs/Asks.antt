@@ -5,7 +5,7 @@ use Rattle.std.proofs.lemmas.Bool.{cases_lt}
 use Rattle.std.proofs.lemmas.List.{take_more}
 use Rattle.std.proofs.lemmas.List.Elements.{Contains-push_cases, Contains-push, Contains-append_left, Contains-get_or}
 use Rattle.word_spec.specs.Words.{bit}
-use Rattle.walk_spec.specs.Terms.{TermReading, InRange, HasWidth, term_word}
+use Rattle.term_spec.specs.Terms.{TermReading, InRange, HasWidth, term_word}
 use Rattle.mem_cells.specs.declared.building.Build.{Build}
 use Rattle.mem_cells.specs.declared.cells.AskedByte.{AskedByte}
 use Rattle.mem_cells.specs.declared.file_bytes.FileByte.{FileByte}

@@ -6,7 +6,7 @@ use Rattle.std.proofs.lemmas.List.{get_or_append_left}
 use Rattle.std.proofs.lemmas.List.Sums.{sum_by-append}
 use Rattle.word_spec.specs.Words.{add}
 use Rattle.word_spec.specs.Memory.{Memory}
-use Rattle.walk_spec.specs.Terms.{TermReading, InRange, TermNode, HasWidth, term_word, select}
+use Rattle.term_spec.specs.Terms.{TermReading, InRange, TermNode, HasWidth, term_word, select}
 use Rattle.term_dag.specs.declared.nodes.Term.{Term}
 use Rattle.term_dag.proofs.ListLaws.{last}
 use Rattle.mem_cells.specs.declared.building.Build.{Build}

@@ -14,7 +14,7 @@ use Rattle.std.proofs.lemmas.Map.Keys.{IsStrictlyIncreasing-dedup}
 use Rattle.std.proofs.lemmas.Bool.Decides.{nat_tests}
 use Rattle.word_spec.specs.Words.{add}
 use Rattle.walk_spec.specs.Unrolled.{ByteRun, byte_in_run, byte_of_runs}
-use Rattle.walk_spec.specs.WalkQuestions.{is_asked}
+use Rattle.term_spec.specs.WalkQuestions.{is_asked}
 use Rattle.known_bytes.specs.declared.listing.Known.{Known}
 use Rattle.known_bytes.specs.Runs.{run_of, sum_of}
 use Rattle.mem_cells.specs.declared.file_bytes.FileByte.{FileByte}

@@ -4,10 +4,10 @@ use Rattle.std.specs.Prelude.{if◌then◌else◌, Contains, slice_index}
 use Rattle.std.proofs.lemmas.Bool.{cases_eq, cases_lt}
 use Rattle.std.proofs.lemmas.Bool.Decides.{nat_tests}
 use Rattle.word_spec.specs.Memory.{Memory}
-use Rattle.walk_spec.specs.Terms.{TermReading, InRange, with_mem, TermValue, TermNode, RegisterNode, FlagNode, ChoiceNode, BaseNode, MemoryNode, ConstantNode, BinaryNode, NotNode, SelectNode, ExtractNode, ConcatNode, ExtendNode, LoadNode, StoreNode, JoinNode, term_word, values_from, value_at, node_value}
+use Rattle.term_spec.specs.Terms.{TermReading, InRange, with_mem, TermValue, TermNode, RegisterNode, FlagNode, ChoiceNode, BaseNode, MemoryNode, ConstantNode, BinaryNode, NotNode, SelectNode, ExtractNode, ConcatNode, ExtendNode, LoadNode, StoreNode, JoinNode, term_word, values_from, value_at, node_value}
 use Rattle.walk_spec.specs.Unrolled.{UnrolledProgram, byte_of_runs}
-use Rattle.walk_spec.specs.WalkQuestions.{HasAsked}
-use Rattle.walk_spec.specs.Cells.{Cells, IsOfWords, Gives, read_address}
+use Rattle.term_spec.specs.WalkQuestions.{HasAsked}
+use Rattle.term_spec.specs.Cells.{Cells, IsOfWords, Gives, read_address}
 
 test : (a b : ℕ) → ((a == b) ≡ true) × (a ≡ b) ⊎ ((a == b) ≡ false) × (a ≡ b → ⊥)
 test a b = elim (cases_eq a b) [ inl e ↦ inl (grind (arith, nat_tests), e) | inr n ↦ inr (grind (arith, nat_tests), n) ]

@@ -3,7 +3,7 @@ use Rattle.std.proofs.Common.{◌≡◌, ◌⊎◌, inl, inr, [], ℕ, suc, ◌+
 use Rattle.word_spec.specs.Words.{add}
 use Rattle.word_spec.specs.Memory.{Memory, Endian, Little, Big, endian, load, number}
 use Rattle.machine_spec.specs.Bil.{Plus}
-use Rattle.walk_spec.specs.Terms.{TermReading, TermNode, BinaryNode, ConstantNode, ConcatNode, HasWidth, term_word, values_from, node_value, width_of}
+use Rattle.term_spec.specs.Terms.{TermReading, TermNode, BinaryNode, ConstantNode, ConcatNode, HasWidth, term_word, values_from, node_value, width_of}
 use Rattle.term_dag.proofs.Joins.{power}
 use Rattle.mem_cells.specs.declared.building.Build.{Build}
 use Rattle.mem_cells.specs.declared.pieces.StoredByte.{StoredByte}

@@ -8,10 +8,10 @@ use Rattle.std.proofs.lemmas.List.Sums.{sum_by-append}
 use mathlib.Core.Path.{fun_ext}
 use Rattle.word_spec.specs.Words.{add, sub}
 use Rattle.word_spec.specs.Memory.{Memory, Endian, number, load, store, byte_of}
-use Rattle.walk_spec.specs.Terms.{TermReading, InRange, TermNode, RegisterNode, FlagNode, ChoiceNode, BaseNode, MemoryNode, ConstantNode, BinaryNode, NotNode, SelectNode, ExtractNode, ConcatNode, ExtendNode, LoadNode, StoreNode, JoinNode, AreTyped, IsTypedOver, HasWidth, node_at, node_value, values_from, value_at, width_of, word_value, select, term_word, term_value, term_gates, term_loads, own_gates, own_loads}
-use Rattle.walk_spec.specs.Cells.{IsOfWords}
+use Rattle.term_spec.specs.Terms.{TermReading, InRange, TermNode, RegisterNode, FlagNode, ChoiceNode, BaseNode, MemoryNode, ConstantNode, BinaryNode, NotNode, SelectNode, ExtractNode, ConcatNode, ExtendNode, LoadNode, StoreNode, JoinNode, AreTyped, IsTypedOver, HasWidth, node_at, node_value, values_from, value_at, width_of, word_value, select, term_word, term_value, term_gates, term_loads, own_gates, own_loads}
+use Rattle.term_spec.specs.Cells.{IsOfWords}
 use Rattle.walk_spec.specs.Unrolled.{UnrolledProgram}
-use Rattle.walk_spec.specs.WalkQuestions.{IsNamedBelow, AreNamedBelow}
+use Rattle.term_spec.specs.WalkQuestions.{IsNamedBelow, AreNamedBelow}
 use Rattle.question_form.specs.Questions.{program_of_question}
 use Rattle.term_dag.specs.declared.nodes.Term.{Term}
 use Rattle.term_dag.specs.Made.{operands, moved}

@@ -1,9 +1,9 @@
 -- The cells of a question, step by step.
 use Rattle.std.proofs.Common.{◌≡◌, inl, inr, ℕ, ◌+◌, ◌-◌, ◌*◌, ◌<◌, ◌≤◌, Bool, true, List, Some, length, ap, sym, ◌∙◌, subst, arith}
-use Rattle.walk_spec.specs.Terms.{TermNode, HasWidth}
+use Rattle.term_spec.specs.Terms.{TermNode, HasWidth}
 use Rattle.walk_spec.specs.Unrolled.{UnrolledProgram, byte_of_runs}
 use Rattle.walk_spec.specs.Prices.{known_of}
-use Rattle.walk_spec.specs.WalkQuestions.{QuestionTerm, Room, AreTermsWithin}
+use Rattle.term_spec.specs.WalkQuestions.{QuestionTerm, Room, AreTermsWithin}
 use Rattle.question_form.specs.Questions.{program_of_question}
 use Rattle.term_dag.specs.declared.nodes.Term.{Term}
 use Rattle.mem_cells.specs.declared.building.Build.{Build}

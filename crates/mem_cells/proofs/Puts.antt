@@ -5,7 +5,7 @@ use Rattle.std.proofs.lemmas.Bool.{cases_eq}
 use Rattle.std.proofs.lemmas.Bool.Decides.{nat_tests}
 use Rattle.word_spec.specs.Words.{add, sub, bit}
 use Rattle.machine_spec.specs.Bil.{Equal}
-use Rattle.walk_spec.specs.Terms.{TermReading, InRange, BinaryNode, SelectNode, HasWidth, term_word, values_from, node_value, select}
+use Rattle.term_spec.specs.Terms.{TermReading, InRange, BinaryNode, SelectNode, HasWidth, term_word, values_from, node_value, select}
 use Rattle.term_dag.proofs.Ranges.{word_fits}
 use Rattle.mem_cells.specs.declared.building.Build.{Build}
 use Rattle.mem_cells.specs.declared.pieces.Split.{Split}

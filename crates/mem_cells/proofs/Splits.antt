@@ -2,7 +2,7 @@
 use Rattle.std.proofs.Common.{◌≡◌, ℕ, ◌+◌, ◌%◌, ◌^◌, ◌<◌, List, ap, sym, ◌∙◌, subst, arith}
 use Rattle.word_spec.specs.Words.{add}
 use Rattle.machine_spec.specs.Bil.{Plus}
-use Rattle.walk_spec.specs.Terms.{TermReading, InRange, TermNode, BinaryNode, HasWidth, AreTyped, node_at, width_of, term_word}
+use Rattle.term_spec.specs.Terms.{TermReading, InRange, TermNode, BinaryNode, HasWidth, AreTyped, node_at, width_of, term_word}
 use Rattle.term_dag.proofs.ListLaws.{by_node, typed_here}
 use Rattle.term_dag.proofs.Ranges.{word_fits}
 use Rattle.mem_cells.specs.Pieces.{IsSplit, IsZero}

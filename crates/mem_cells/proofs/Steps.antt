@@ -5,7 +5,7 @@ use Rattle.std.proofs.Math.Nat.{mul-le-mul_left}
 use Rattle.std.proofs.lemmas.Bool.{cases_lt}
 use Rattle.std.proofs.lemmas.List.Sums.{sum_by_more, sum_by-take-le}
 use Rattle.word_spec.specs.Memory.{Memory}
-use Rattle.walk_spec.specs.Terms.{TermReading, InRange, TermNode, MemoryNode, HasWidth, node_at, width_of, term_word, term_value, term_gates, term_loads, term_stores, term_joins, own_gates, own_loads, own_stores, own_joins}
+use Rattle.term_spec.specs.Terms.{TermReading, InRange, TermNode, MemoryNode, HasWidth, node_at, width_of, term_word, term_value, term_gates, term_loads, term_stores, term_joins, own_gates, own_loads, own_stores, own_joins}
 use Rattle.term_dag.specs.declared.nodes.Term.{Term}
 use Rattle.term_dag.proofs.ListLaws.{longer}
 use Rattle.mem_cells.specs.declared.building.Build.{Build}

@@ -6,7 +6,7 @@ use Rattle.std.proofs.lemmas.Bool.Decides.{nat_tests}
 use Rattle.std.proofs.lemmas.List.{get_or_append_left}
 use Rattle.word_spec.specs.Words.{add, sub}
 use Rattle.word_spec.specs.Memory.{Memory, Endian, place, byte_of, store}
-use Rattle.walk_spec.specs.Terms.{TermReading, InRange, ExtractNode, HasWidth, term_word, values_from, node_value}
+use Rattle.term_spec.specs.Terms.{TermReading, InRange, ExtractNode, HasWidth, term_word, values_from, node_value}
 use Rattle.term_dag.proofs.Joins.{power}
 use Rattle.term_dag.proofs.ListLaws.{last}
 use Rattle.term_dag.proofs.Ranges.{word_fits}

@@ -4,12 +4,12 @@ use Rattle.std.specs.Prelude.{slice_index, Contains}
 use Rattle.std.proofs.Math.Nat.{mul-le-mul_left, mul-le-mul_right}
 use Rattle.std.proofs.lemmas.List.{take_all, get_or_default}
 use Rattle.std.proofs.lemmas.List.Sums.{get_or-le-sum_by}
-use Rattle.walk_spec.specs.Terms.{TermReading, InRange, TermNode, RegisterNode, FlagNode, ChoiceNode, BaseNode, MemoryNode, ConstantNode, BinaryNode, NotNode, SelectNode, ExtractNode, ConcatNode, ExtendNode, LoadNode, StoreNode, JoinNode, IsTypedOver, HasWidth, width_of, own_loads, term_word, term_gates, term_loads, term_stores, term_joins, node_at, with_mem}
+use Rattle.term_spec.specs.Terms.{TermReading, InRange, TermNode, RegisterNode, FlagNode, ChoiceNode, BaseNode, MemoryNode, ConstantNode, BinaryNode, NotNode, SelectNode, ExtractNode, ConcatNode, ExtendNode, LoadNode, StoreNode, JoinNode, IsTypedOver, HasWidth, width_of, own_loads, term_word, term_gates, term_loads, term_stores, term_joins, node_at, with_mem}
 use Rattle.walk_spec.specs.Unrolled.{UnrolledProgram, byte_of_runs}
 use Rattle.walk_spec.specs.Prices.{loads_of, stores_of, edges_of, known_of}
-use Rattle.walk_spec.specs.WalkQuestions.{QuestionTerm, Room, AreTermsWithin, question_room, HasAsked}
-use Rattle.walk_spec.specs.Cells as walk
-use Rattle.walk_spec.specs.Cells.{IsOfWords, Gives, IsAllowed, AreFormed, TellsCells, cell_gates}
+use Rattle.term_spec.specs.WalkQuestions.{QuestionTerm, Room, AreTermsWithin, question_room, HasAsked}
+use Rattle.term_spec.specs.Cells as walk
+use Rattle.term_spec.specs.Cells.{IsOfWords, Gives, IsAllowed, AreFormed, TellsCells, cell_gates}
 use Rattle.term_dag.specs.declared.nodes.Term.{Term}
 use Rattle.term_dag.proofs.ListLaws.{typed_here}
 use Rattle.term_dag.proofs.Ranges.{word_fits}

@@ -1,6 +1,6 @@
 -- Which bytes of the file the base reads have, as far as it is said.
 use Rattle.std.specs.Prelude.{ℕ, ◌≡◌, ◌<◌, ◌+◌, ◌-◌, ◌⊎◌, ◌&&◌, nat_le, nat_lt, if◌then◌else◌, List, [], ◌∷◌, ◌++◌, Option, Some, None, length, slice_index, slice_index_or, Contains}
-use Rattle.walk_spec.specs.Terms.{TermReading, InRange, HasWidth, term_word}
+use Rattle.term_spec.specs.Terms.{TermReading, InRange, HasWidth, term_word}
 use Rattle.walk_spec.specs.Unrolled.{ByteRun, byte_of_runs}
 use Rattle.mem_cells.specs.declared.building.Build.{Build}
 use Rattle.mem_cells.specs.declared.cells.AskedByte.{AskedByte}

@@ -1,8 +1,8 @@
 -- Cells as they are built: nodes over words with base reads, which grow.
 use Rattle.std.specs.Prelude.{ℕ, ◌≡◌, ◌≤◌, ◌<◌, ◌+◌, ◌*◌, ◌^◌, List, ◌++◌, length, map, slice_index, Contains}
-use Rattle.walk_spec.specs.Terms.{TermReading, InRange, TermNode, AreTyped, HasWidth, IsTypedOver, width_of, node_at, term_word, term_gates, term_loads, own_loads}
+use Rattle.term_spec.specs.Terms.{TermReading, InRange, TermNode, AreTyped, HasWidth, IsTypedOver, width_of, node_at, term_word, term_gates, term_loads, own_loads}
 use Rattle.walk_spec.specs.Unrolled.{UnrolledProgram}
-use Rattle.walk_spec.specs.WalkQuestions.{IsNamedBelow, AreNamedBelow}
+use Rattle.term_spec.specs.WalkQuestions.{IsNamedBelow, AreNamedBelow}
 use Rattle.term_dag.specs.Made.{Extends}
 use Rattle.question_form.specs.Questions.{program_of_question}
 use Rattle.mem_cells.specs.declared.building.Build.{Build}

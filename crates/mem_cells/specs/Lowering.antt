@@ -1,9 +1,9 @@
 -- The terms of a question as cells: the word or the memory that stands for each.
 use Rattle.std.specs.Prelude.{ℕ, ◌≡◌, ◌≤◌, ◌<◌, ◌+◌, ◌*◌, ◌^◌, List, length, take, slice_index, sum_by}
 use Rattle.word_spec.specs.Memory.{Memory}
-use Rattle.walk_spec.specs.Terms.{TermReading, InRange, TermNode, AreTyped, HasWidth, width_of, node_at, term_value, term_word, term_gates, term_loads, term_stores, term_joins}
+use Rattle.term_spec.specs.Terms.{TermReading, InRange, TermNode, AreTyped, HasWidth, width_of, node_at, term_value, term_word, term_gates, term_loads, term_stores, term_joins}
 use Rattle.walk_spec.specs.Unrolled.{UnrolledProgram}
-use Rattle.walk_spec.specs.WalkQuestions.{IsNamedBelow}
+use Rattle.term_spec.specs.WalkQuestions.{IsNamedBelow}
 use Rattle.term_dag.specs.declared.nodes.Term.{Term}
 use Rattle.mem_cells.specs.declared.building.Build.{Build}
 use Rattle.mem_cells.specs.declared.lowering.Lowered.{Lowered}

@@ -2,7 +2,7 @@
 use Rattle.std.specs.Prelude.{ℕ, zero, suc, ◌≡◌, ◌≤◌, ◌<◌, ◌+◌, ◌*◌, ◌^◌, Bool, true, false, ◌==◌, ◌&&◌, nat_lt, nat_le, if◌then◌else◌, List, length, slice_index_or}
 use Rattle.word_spec.specs.Words.{add, sub}
 use Rattle.word_spec.specs.Memory.{Memory}
-use Rattle.walk_spec.specs.Terms.{TermReading, InRange, TermNode, term_word, select, HasWidth}
+use Rattle.term_spec.specs.Terms.{TermReading, InRange, TermNode, term_word, select, HasWidth}
 use Rattle.term_dag.specs.declared.nodes.Term.{Term}
 use Rattle.mem_cells.specs.declared.pieces.Split.{Split}
 use Rattle.mem_cells.specs.declared.pieces.StoredByte.{StoredByte}

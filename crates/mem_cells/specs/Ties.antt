@@ -1,6 +1,6 @@
 -- What base reads have to agree in, as far as it is said.
 use Rattle.std.specs.Prelude.{ℕ, ◌≡◌, ◌<◌, ◌⊎◌, List, length, slice_index, slice_index_or, Contains}
-use Rattle.walk_spec.specs.Terms.{TermReading, InRange, HasWidth, term_word}
+use Rattle.term_spec.specs.Terms.{TermReading, InRange, HasWidth, term_word}
 use Rattle.mem_cells.specs.declared.building.Build.{Build}
 use Rattle.mem_cells.specs.declared.cells.Agreement.{Agreement}
 use Rattle.mem_cells.specs.declared.pieces.Split.{Split}

@@ -1,9 +1,9 @@
 -- Cells as those of the definitions.
 use Rattle.std.specs.Prelude.{ℕ, ◌≡◌, List, map}
-use Rattle.walk_spec.specs.Cells as walk
-use Rattle.walk_spec.specs.Cells.{TellsCells}
+use Rattle.term_spec.specs.Cells as walk
+use Rattle.term_spec.specs.Cells.{TellsCells}
 use Rattle.walk_spec.specs.Unrolled.{UnrolledProgram}
-use Rattle.walk_spec.specs.WalkQuestions.{is_asked}
+use Rattle.term_spec.specs.WalkQuestions.{is_asked}
 use Rattle.question_form.specs.declared.questions.Question.{Question}
 use Rattle.question_form.specs.Questions.{program_of_question, term_of}
 use Rattle.mem_cells.specs.declared.cells.Agreement.{Agreement}

@@ -1,11 +1,11 @@
 -- Cells of a question in which some of its words have places.
 use Rattle.std.specs.Prelude.{ℕ, ◌≡◌, ◌≤◌, ◌<◌, ◌+◌, Bool, List, [], ◌∷◌, length, map}
 use Rattle.word_spec.specs.Memory.{Memory}
-use Rattle.walk_spec.specs.Terms.{TermReading, InRange, with_mem, TermNode, HasWidth, width_of, node_at, term_word, term_gates, term_loads}
+use Rattle.term_spec.specs.Terms.{TermReading, InRange, with_mem, TermNode, HasWidth, width_of, node_at, term_word, term_gates, term_loads}
 use Rattle.walk_spec.specs.Unrolled.{UnrolledProgram}
 use Rattle.walk_spec.specs.Prices.{stores_of, edges_of, known_of}
-use Rattle.walk_spec.specs.WalkQuestions.{QuestionTerm, HasAsked, is_asked}
-use Rattle.walk_spec.specs.Cells.{Cells, Gives, IsAllowed, AreFormed, cell_gates}
+use Rattle.term_spec.specs.WalkQuestions.{QuestionTerm, HasAsked, is_asked}
+use Rattle.term_spec.specs.Cells.{Cells, Gives, IsAllowed, AreFormed, cell_gates}
 use Rattle.term_dag.specs.declared.nodes.Term.{Term}
 use Rattle.question_form.specs.declared.questions.Question.{Question}
 use Rattle.question_form.specs.Questions.{program_of_question, term_of}

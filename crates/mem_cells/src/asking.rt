@@ -1,7 +1,7 @@
 //! Which bytes of the file the base reads have.
 
 ghost use Rattle.std.specs.Prelude.{◌≡◌, ℕ, ◌+◌, ◌*◌, ◌<◌, true, length, take, IfOk, OnOk};
-ghost use Rattle.walk_spec.specs.Terms.{TermReading, term_word};
+ghost use Rattle.term_spec.specs.Terms.{TermReading, term_word};
 ghost use Rattle.mem_cells.specs.Building.{read_places, IsBuilt, Grown, IsWord};
 ghost use Rattle.mem_cells.specs.Asked.{file_byte_at, AreAsked, AskedOf, AskedTo};
 

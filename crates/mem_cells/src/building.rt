@@ -1,7 +1,7 @@
 //! Cells as they are built.
 
 ghost use Rattle.std.specs.Prelude.{◌≡◌, ℕ, ◌+◌, ◌*◌, ◌-◌, ◌<◌, ◌≤◌, ◌==◌, if◌then◌else◌, true, [], length, slice_index, slice_index_or, sum_by, IfOk, IfSome, OnOk};
-ghost use Rattle.walk_spec.specs.Terms.{TermReading, InRange, TermNode, HasWidth, node_value, own_gates, term_word, values_from, width_of};
+ghost use Rattle.term_spec.specs.Terms.{TermReading, InRange, TermNode, HasWidth, node_value, own_gates, term_word, values_from, width_of};
 ghost use Rattle.term_dag.specs.Nodes.{node_of};
 ghost use Rattle.mem_cells.specs.Pieces.{AreBytes, AreClosed, ArePieces, bool_at, IsPiece, HasLinks, IsSplit, link, piece_at, piece_byte, piece_gates, piece_reads, put_bytes, stored_at};
 ghost use Rattle.mem_cells.specs.Building.{program_of_build, read_places, IsBuilt, GivesAll, Grown, IsOwnNode, IsWord, IsByte, IsByteOf};

@@ -3,7 +3,7 @@
 ghost use Rattle.std.specs.Prelude.{◌≡◌, ℕ, ◌+◌, ◌<◌, ◌≤◌, ◌↔◌, true, List, ◌++◌, length, map, drop, Contains, IfOk, OnOk};
 ghost use Rattle.std.specs.List.Sorted.{IsStrictlyIncreasing};
 ghost use Rattle.walk_spec.specs.Unrolled.{byte_of_runs};
-ghost use Rattle.walk_spec.specs.WalkQuestions.{is_asked};
+ghost use Rattle.term_spec.specs.WalkQuestions.{is_asked};
 ghost use Rattle.known_bytes.specs.Runs.{run_of, sum_of};
 ghost use Rattle.mem_cells.specs.Asked.{and_byte, byte_of_run, AreFileBytes};
 

@@ -3,7 +3,7 @@
 ghost use Rattle.std.specs.Prelude.{◌≡◌, ℕ, ◌+◌, ◌*◌, ◌<◌, ◌≤◌, length, sum_by, IfOk, OnOk};
 ghost use Rattle.word_spec.specs.Words.{add};
 ghost use Rattle.word_spec.specs.Memory.{endian, load};
-ghost use Rattle.walk_spec.specs.Terms.{HasWidth, IsBytes, term_word};
+ghost use Rattle.term_spec.specs.Terms.{HasWidth, IsBytes, term_word};
 ghost use Rattle.mem_cells.specs.Pieces.{ArePieces, piece_gates};
 ghost use Rattle.mem_cells.specs.Building.{with_byte, IsBuilt, Grown, IsWord, IsOfMemory};
 

@@ -2,9 +2,9 @@
 
 ghost use Rattle.std.specs.Prelude.{◌≡◌, ◌+◌, ◌<◌, [], length, map, slice_index, Contains, IfOk, OnOk};
 ghost use Rattle.std.specs.List.{AllByRecursion};
-ghost use Rattle.walk_spec.specs.Cells.{IsOfWords};
-ghost use Rattle.walk_spec.specs.Terms.{LoadNode, StoreNode, JoinNode, MemoryNode, AreTyped};
-ghost use Rattle.walk_spec.specs.WalkQuestions.{AreNamedBelow};
+ghost use Rattle.term_spec.specs.Cells.{IsOfWords};
+ghost use Rattle.term_spec.specs.Terms.{LoadNode, StoreNode, JoinNode, MemoryNode, AreTyped};
+ghost use Rattle.term_spec.specs.WalkQuestions.{AreNamedBelow};
 ghost use Rattle.word_spec.specs.Memory.{endian};
 ghost use Rattle.term_dag.specs.Nodes.{node_of};
 ghost use Rattle.term_dag.specs.Made.{moved, operands};

@@ -1,9 +1,9 @@
 //! The cells of a question.
 
 ghost use Rattle.std.specs.Prelude.{◌≡◌, ℕ, ◌<◌, Some, length, slice_index, Contains, IfOk};
-ghost use Rattle.walk_spec.specs.Terms.{HasWidth};
+ghost use Rattle.term_spec.specs.Terms.{HasWidth};
 ghost use Rattle.walk_spec.specs.Unrolled.{byte_of_runs};
-ghost use Rattle.walk_spec.specs.WalkQuestions.{Room, AreTermsWithin, question_room};
+ghost use Rattle.term_spec.specs.WalkQuestions.{Room, AreTermsWithin, question_room};
 ghost use Rattle.term_dag.specs.declared.nodes.Term.{Term};
 ghost use Rattle.question_form.specs.Questions.{program_of_question, term_of};
 ghost use Rattle.mem_cells.specs.Views.{AreCellsOf};

@@ -1,7 +1,7 @@
 //! Memories as pieces, and which of them the byte at an address needs.
 
 ghost use Rattle.std.specs.Prelude.{◌≡◌, ℕ, ◌+◌, ◌<◌, ◌≤◌, ◌⊎◌, Bool, true, false, List, length, slice_get, slice_index_or, IfOk};
-ghost use Rattle.walk_spec.specs.Terms.{AreTyped, HasWidth};
+ghost use Rattle.term_spec.specs.Terms.{AreTyped, HasWidth};
 ghost use Rattle.mem_cells.specs.Pieces.{ends_in, lies_apart, bool_at, AreRising, IsRising, Needs, AreClosed, IsSplit, IsZero, piece_at};
 
 use std::alloc::{AllocError, Global};

@@ -3,7 +3,7 @@
 ghost use Rattle.std.specs.Prelude.{◌≡◌, ℕ, ◌+◌, ◌*◌, ◌<◌, ◌≤◌, List, ◌++◌, length, IfOk, OnOk};
 ghost use Rattle.word_spec.specs.Words.{add};
 ghost use Rattle.word_spec.specs.Memory.{byte_of, endian};
-ghost use Rattle.walk_spec.specs.Terms.{TermReading, InRange, HasWidth, IsBytes, term_word};
+ghost use Rattle.term_spec.specs.Terms.{TermReading, InRange, HasWidth, IsBytes, term_word};
 ghost use Rattle.mem_cells.specs.Pieces.{IsZero};
 ghost use Rattle.mem_cells.specs.Building.{IsBuilt, Grown, IsWord, IsStore};
 

@@ -4,9 +4,9 @@ use Rattle.std.specs.Prelude.{◌↔◌, ◌==◌, if◌then◌else◌}
 use Rattle.std.proofs.lemmas.Bool.Decides.{nat_tests}
 use Rattle.bilv_spec.specs.Questions.{Reading}
 use Rattle.call_spec.specs.Calls.{Question}
-use Rattle.walk_spec.specs.Terms.{TermReading, term_word, node_at}
+use Rattle.term_spec.specs.Terms.{TermReading, term_word, node_at}
 use Rattle.walk_spec.specs.Unrolled.{UnrolledProgram, point_at}
-use Rattle.walk_spec.specs.WalkQuestions.{AreNamedBelow, QuestionTerm, TellsQuestion, IsTrueOfWalk, term_reading}
+use Rattle.term_spec.specs.WalkQuestions.{AreNamedBelow, QuestionTerm, TellsQuestion, IsTrueOfWalk, term_reading}
 use Rattle.walk_laws.proofs.CellValues.{Agree, node_same, node_in, same_term}
 use Rattle.question_form.specs.Questions.{program_of_question, question_of, term_of}
 use Rattle.question_form.specs.Views.{kind_of, unrolled_of}

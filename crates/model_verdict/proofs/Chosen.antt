@@ -11,10 +11,10 @@ use Rattle.bilv_spec.specs.Points.{Point, file_row}
 use Rattle.bilv_spec.specs.Questions.{Reading, IsTrue, point_of, read_run}
 use Rattle.bilv_spec.specs.Scripts.{draws}
 use Rattle.model_spec.specs.Models.{DrawsAt}
-use Rattle.walk_spec.specs.Terms.{TermReading}
+use Rattle.term_spec.specs.Terms.{TermReading}
 use Rattle.walk_spec.specs.Unrolled.{UnrolledProgram, point_at}
-use Rattle.walk_spec.specs.Passive as walk
-use Rattle.walk_spec.specs.Passive.{IsPassive}
+use Rattle.term_spec.specs.Passive as walk
+use Rattle.term_spec.specs.Passive.{IsPassive}
 use Rattle.walk_spec.specs.Sweep.{met_below, swept}
 use Rattle.term_dag.specs.declared.nodes.Term.{Term}
 use Rattle.term_dag.specs.declared.values.Reading as terms

@@ -10,9 +10,9 @@ use Rattle.bilv_spec.specs.Run.{Program}
 use Rattle.bilv_spec.specs.Points.{byte_of_cell, is_known_at}
 use Rattle.bilv_spec.specs.Questions.{Reading, IsTrue}
 use Rattle.machine_law.specs.Facts.{IsFit}
-use Rattle.walk_spec.specs.Terms.{TermReading}
+use Rattle.term_spec.specs.Terms.{TermReading}
 use Rattle.walk_spec.specs.Unrolled.{UnrolledProgram, byte_of_runs}
-use Rattle.walk_spec.specs.WalkQuestions.{IsTrueOfWalk}
+use Rattle.term_spec.specs.WalkQuestions.{IsTrueOfWalk}
 use Rattle.model_spec.specs.ModelText.{Declared, Definition, IsAnswer}
 use Rattle.model_spec.specs.Models.{AreDeclared}
 use Rattle.smtlib_print.specs.Numbered.{AreNumbersOf}

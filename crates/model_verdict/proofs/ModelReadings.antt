@@ -14,8 +14,8 @@ use Rattle.bilv_spec.specs.Answers.{known_byte}
 use Rattle.bilv_spec.specs.Scripts.{choice_name}
 use Rattle.model_spec.specs.ModelText.{Definition, Value}
 use Rattle.model_spec.specs.Models.{IsReadingOf, given, known_or_zero, memory_of, word_of}
-use Rattle.walk_spec.specs.Cells.{Cells}
-use Rattle.walk_spec.specs.Terms.{TermReading}
+use Rattle.term_spec.specs.Cells.{Cells}
+use Rattle.term_spec.specs.Terms.{TermReading}
 use Rattle.walk_spec.specs.Unrolled.{UnrolledProgram, byte_of_runs, is_flag_of, is_register_of, point_at}
 use Rattle.walk_spec.specs.Unrolling.{IsLaidOut, IsUnrolling}
 use Rattle.walk_laws.proofs.InputPlaces.{spot, spot_is}

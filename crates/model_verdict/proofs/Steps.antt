@@ -12,7 +12,7 @@ use Rattle.bilv_spec.proofs.Over.{over_stays, one_end}
 use Rattle.bilv_spec.proofs.ReadingRuns.{Numbered, followed, follows, numbered, start_of}
 use Rattle.walk_spec.specs.Unrolled.{Carried, UnrolledProgram, Walk, WalkIsAt, WalkExits, WalkFails, WalkTurns, point_at, walk, ExitsLeadLater}
 use Rattle.walk_spec.specs.Sweep.{Held, met_below, swept}
-use Rattle.walk_spec.proofs.Asked.{asked_is_right}
+use Rattle.term_spec.proofs.Asked.{asked_is_right}
 use Rattle.walk_spec.proofs.SweepWalk.{sweep_is_walk}
 use Rattle.walk_spec.proofs.WalkOrder.{places_rise}
 use Rattle.walk_laws.specs.RunOfWalk.{IsSame}

@@ -4,7 +4,7 @@ use Rattle.word_spec.specs.Words.{bit_at}
 use Rattle.word_spec.specs.Memory.{Memory}
 use Rattle.machine_spec.specs.StateText.{Layout, register_at}
 use Rattle.bilv_spec.specs.Questions.{Reading, IsReading}
-use Rattle.walk_spec.specs.Terms.{TermReading}
+use Rattle.term_spec.specs.Terms.{TermReading}
 use Rattle.walk_spec.specs.Unrolled.{ByteRun, UnrolledProgram, byte_of_runs, is_flag_of, is_register_of, point_at}
 use Rattle.known_bytes.specs.declared.listing.Known.{Known}
 use Rattle.table_run.specs.Traces.{byte_over}

@@ -4,7 +4,7 @@ use Rattle.machine_spec.specs.StateText.{Layout}
 use Rattle.bilv_spec.specs.Run.{Program}
 use Rattle.bilv_spec.specs.Questions.{Reading, IsTrue}
 use Rattle.call_spec.specs.Calls.{Question}
-use Rattle.walk_spec.specs.Terms.{TermReading}
+use Rattle.term_spec.specs.Terms.{TermReading}
 use Rattle.walk_spec.specs.Unrolled.{UnrolledProgram}
 use Rattle.question_form.specs.Views.{unrolled_of}
 use Rattle.question_form.specs.declared.questions.Passive.{Passive}

@@ -1,7 +1,7 @@
 //! Whether a question is true of a reading.
 ghost use Rattle.std.specs.Prelude.{◌≡◌, ◌↔◌, true, map, IfOk};
 ghost use Rattle.bilv_spec.specs.Questions as questions;
-ghost use Rattle.walk_spec.specs.WalkQuestions.{IsTrueOfWalk};
+ghost use Rattle.term_spec.specs.WalkQuestions.{IsTrueOfWalk};
 ghost use Rattle.known_bytes.specs.Runs.{AreRuns, run_of};
 ghost use Rattle.term_dag.specs.Readings.{reading_of};
 ghost use Rattle.question_form.specs.Views.{kind_of, unrolled_of};

@@ -5,7 +5,7 @@ use Rattle.machine_spec.specs.Bil as bil
 use Rattle.word_spec.specs.Words.{bit}
 use Rattle.bilv_spec.specs.Notes as notes
 use Rattle.bilv_spec.specs.Notes.{Op, apply, is_true}
-use Rattle.walk_spec.specs.Terms.{TermReading, InRange, TermNode, ConstantNode, BinaryNode, ExtendNode, AreTyped, IsTypedOver, HasWidth, term_word, width_of, node_at}
+use Rattle.term_spec.specs.Terms.{TermReading, InRange, TermNode, ConstantNode, BinaryNode, ExtendNode, AreTyped, IsTypedOver, HasWidth, term_word, width_of, node_at}
 use Rattle.term_dag.specs.Made.{IsMade, IsInterned}
 use Rattle.term_dag.proofs.Ranges.{word_fits}
 use Rattle.term_dag.proofs.Growth.{grew_width}

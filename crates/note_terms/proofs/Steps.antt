@@ -1,7 +1,7 @@
 -- Steps by which a line becomes a term, one after another.
 use Rattle.std.proofs.Common.{◌≡◌, ℕ, ◌+◌, ◌<◌, ◌≤◌, Bool, true, false, List, [], length, refl, ap, ◌∙◌, arith, bit_and, bit_or, ◌&&◌, ◌||◌}
 use Rattle.word_spec.specs.Words.{bit}
-use Rattle.walk_spec.specs.Terms.{TermReading, InRange, TermNode, AreTyped, node_value, values_from, term_word, width_of, node_at, own_gates, own_loads, own_stores, own_joins}
+use Rattle.term_spec.specs.Terms.{TermReading, InRange, TermNode, AreTyped, node_value, values_from, term_word, width_of, node_at, own_gates, own_loads, own_stores, own_joins}
 use Rattle.term_dag.specs.Nodes.{IsInput}
 use Rattle.term_dag.specs.Made.{IsMade, IsInterned}
 use Rattle.term_dag.proofs.Growth.{grew_none, grew_on, grew_more, made_grew, made_inputs, interned_grew, interned_inputs, inputs_none, inputs_on}

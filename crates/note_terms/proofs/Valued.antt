@@ -9,10 +9,10 @@ use Rattle.bilv_spec.specs.Notes.{Expr, Op, Number, Register, Flag, Pc, Bound, M
 use Rattle.bilv_spec.specs.Points.{line_price, bytes_loaded, products, operations, value_count, is_product, is_written}
 use Rattle.bilv_spec.specs.Notes as notes
 use Rattle.word_spec.specs.RowFiles.{from_to}
-use Rattle.walk_spec.specs.Terms.{TermReading, TermNode, ConstantNode, LoadNode, AreTyped, HasMemory, HasWidth, term_value, term_word}
+use Rattle.term_spec.specs.Terms.{TermReading, TermNode, ConstantNode, LoadNode, AreTyped, HasMemory, HasWidth, term_value, term_word}
 use Rattle.walk_spec.specs.Unrolled.{Carried, UnrolledProgram, state_at}
 use Rattle.walk_spec.specs.Unrolling.{IsReadable}
-use Rattle.walk_spec.specs.Passive.{AreNames, Denotes}
+use Rattle.term_spec.specs.Passive.{AreNames, Denotes}
 use Rattle.walk_spec.specs.Prices.{line_size}
 use Rattle.term_dag.specs.Made.{Grew, IsMade, IsInterned}
 use Rattle.term_dag.proofs.Growth.{grew_none, grew_on, grew_more, grew_width, inputs_none, inputs_on}

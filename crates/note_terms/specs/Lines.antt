@@ -4,9 +4,9 @@ use Rattle.word_spec.specs.Words.{bit}
 use Rattle.word_spec.specs.Memory.{endian}
 use Rattle.bilv_spec.specs.Notes.{Expr, value, is_true}
 use Rattle.bilv_spec.specs.Points.{line_price, bytes_loaded}
-use Rattle.walk_spec.specs.Terms.{TermReading, InRange, TermNode, AreTyped, HasWidth, node_at, term_word, width_of}
+use Rattle.term_spec.specs.Terms.{TermReading, InRange, TermNode, AreTyped, HasWidth, node_at, term_word, width_of}
 use Rattle.walk_spec.specs.Unrolled.{Carried, state_at}
-use Rattle.walk_spec.specs.Passive.{AreNames, Denotes}
+use Rattle.term_spec.specs.Passive.{AreNames, Denotes}
 use Rattle.walk_spec.specs.Prices.{line_size}
 use Rattle.term_dag.specs.Made.{Grew, InputsFrom}
 use Rattle.term_names.specs.Views.{form_of, names_of}

@@ -6,7 +6,7 @@ use Rattle.machine_spec.specs.BilTyping.{result_width}
 use Rattle.machine_spec.specs.BilCounts.{op_weight}
 use Rattle.bilv_spec.specs.Notes as notes
 use Rattle.bilv_spec.specs.Notes.{Expr, Op, Number, Register, Flag, Pc, Memory, Old, Not, Binary, apply}
-use Rattle.walk_spec.specs.Terms.{TermReading, InRange, TermNode, AreTyped, HasWidth, term_value, term_word, width_of, node_at, operate}
+use Rattle.term_spec.specs.Terms.{TermReading, InRange, TermNode, AreTyped, HasWidth, term_value, term_word, width_of, node_at, operate}
 use Rattle.term_dag.specs.Made.{Grew, InputsFrom}
 
 -- A value is a bit, where an expression has no other values, or a word of 32 bits.

@@ -5,8 +5,8 @@ mod operators;
 mod values;
 
 ghost use Rattle.std.specs.Prelude.{◌≡◌, IfOk};
-ghost use Rattle.walk_spec.specs.Terms.{HasWidth};
-ghost use Rattle.walk_spec.specs.Passive.{AreNames};
+ghost use Rattle.term_spec.specs.Terms.{HasWidth};
+ghost use Rattle.term_spec.specs.Passive.{AreNames};
 ghost use Rattle.walk_spec.specs.Unrolling.{IsReadable};
 ghost use Rattle.notes_value.specs.Views.{expr_of};
 ghost use Rattle.term_names.specs.Views.{form_of, names_of};

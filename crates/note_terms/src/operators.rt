@@ -5,7 +5,7 @@ ghost use Rattle.machine_spec.specs.Bil as bil;
 ghost use Rattle.word_spec.specs.Words.{bit};
 ghost use Rattle.bilv_spec.specs.Notes as notes;
 ghost use Rattle.bilv_spec.specs.Notes.{apply, is_true};
-ghost use Rattle.walk_spec.specs.Terms.{TermReading, BinaryNode, AreTyped, HasWidth, term_word};
+ghost use Rattle.term_spec.specs.Terms.{TermReading, BinaryNode, AreTyped, HasWidth, term_word};
 ghost use Rattle.term_dag.specs.Nodes.{node_of, op_of};
 ghost use Rattle.notes_value.specs.Views as views;
 ghost use Rattle.note_terms.specs.Steps.{IsApplied, IsConnected, IsNarrow, IsOnWords, IsOperation, IsShown, IsStep, IsValueAt, IsZero, operator_gates};

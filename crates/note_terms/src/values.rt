@@ -3,7 +3,7 @@
 ghost use Rattle.std.specs.Prelude.{◌≡◌, ◌<◌, ◌≤◌, ◌-◌, ◌+◌, true, length, slice_index, IfOk};
 ghost use Rattle.word_spec.specs.Memory.{endian, load};
 ghost use Rattle.bilv_spec.specs.Notes.{put_bound, written_out};
-ghost use Rattle.walk_spec.specs.Terms.{TermReading, ConstantNode, AreTyped, HasMemory, HasWidth, term_value, term_word};
+ghost use Rattle.term_spec.specs.Terms.{TermReading, ConstantNode, AreTyped, HasMemory, HasWidth, term_value, term_word};
 ghost use Rattle.walk_spec.specs.Unrolled.{is_flag_of, is_register_of};
 ghost use Rattle.walk_spec.specs.Unrolling.{IsReadable};
 ghost use Rattle.term_dag.specs.Made.{IsInterned};

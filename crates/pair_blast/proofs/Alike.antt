@@ -4,7 +4,7 @@ use Rattle.std.specs.Prelude.{sum_by}
 use Rattle.std.specs.List.{flat_map}
 use Rattle.std.proofs.lemmas.List.Sums.{sum_by-append, sum_by-cons}
 use Rattle.bilv_spec.specs.Notes.{Expr, Number, Register, Flag, Pc, Bound, Memory, Old, Not, Binary}
-use Rattle.walk_spec.specs.Terms.{TermNode, HasWidth, node_at, width_of}
+use Rattle.term_spec.specs.Terms.{TermNode, HasWidth, node_at, width_of}
 use Rattle.walk_laws.proofs.InputPlaces.{range_length}
 use Rattle.term_dag.specs.declared.nodes.Term.{Term}
 use Rattle.pair_spec.specs.Links.{Link, EqualAtEntry, EqualAtExit, SharedBytes, SameBytes, addresses}

@@ -3,10 +3,10 @@ use Rattle.std.proofs.Common.{◌≡◌, ◌==◌, ◌↔◌, ℕ, ◌+◌, ◌<
 use Rattle.std.specs.Global.{Vec}
 use Rattle.std.proofs.lemmas.Bool.{and_parts, and_from}
 use Rattle.clause_spec.specs.Clauses.{AgreeUpTo, valuation}
-use Rattle.walk_spec.specs.Terms.{TermReading, TermNode, term_word, value_at}
+use Rattle.term_spec.specs.Terms.{TermReading, TermNode, term_word, value_at}
 use Rattle.walk_spec.specs.Unrolled.{UnrolledProgram}
-use Rattle.walk_spec.specs.Cells.{Cells, IsAllowed}
-use Rattle.walk_spec.specs.ClauseForm.{MakesTrue, reading}
+use Rattle.term_spec.specs.Cells.{Cells, IsAllowed}
+use Rattle.term_spec.specs.ClauseForm.{MakesTrue, reading}
 use Rattle.gates.specs.declared.bit.Bit.{Bit}
 use Rattle.term_dag.specs.declared.nodes.Term.{Term}
 use Rattle.word_gates.specs.Numbers.{input_number, number}

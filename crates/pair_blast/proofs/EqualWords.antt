@@ -6,7 +6,7 @@ use Rattle.std.specs.Prelude.{if◌then◌else◌, sum_by}
 use Rattle.std.proofs.lemmas.List.{drop_more, drop_all, take_more}
 use Rattle.std.proofs.lemmas.List.Sums.{sum_by-append, sum_by-cons}
 use Rattle.word_spec.specs.Words.{differ}
-use Rattle.walk_spec.specs.Terms.{TermNode, node_at, value_at, width_of}
+use Rattle.term_spec.specs.Terms.{TermNode, node_at, value_at, width_of}
 use Rattle.gates.specs.declared.bit.Bit.{Bit}
 use Rattle.gates.specs.Circuits.{any_of, bit_value}
 use Rattle.word_gates.specs.Numbers.{number}

@@ -4,8 +4,8 @@ use Rattle.std.specs.List.{flat_map}
 use Rattle.std.specs.Global.{Vec}
 use Rattle.std.proofs.lemmas.Bool.{and_parts, and_from}
 use Rattle.call_spec.specs.Calls.{PairQuestion, PairOfStates, DifferenceOfExits}
-use Rattle.walk_spec.specs.Terms.{TermReading, TermNode, term_word}
-use Rattle.walk_spec.specs.Cells.{Cells}
+use Rattle.term_spec.specs.Terms.{TermReading, TermNode, term_word}
+use Rattle.term_spec.specs.Cells.{Cells}
 use Rattle.gates.specs.declared.bit.Bit.{Bit}
 use Rattle.clause_spec.specs.Clauses.{Clause}
 use Rattle.cnf_form.proofs.OnVariables.{on-complete, on-sound}

@@ -5,7 +5,7 @@ use Rattle.std.specs.Global.{Vec}
 use Rattle.std.proofs.lemmas.Bool.Decides.{nat_tests}
 use Rattle.std.proofs.lemmas.List.{append-nil, drop_all, get_or-map, map-set, set-get_or, take_all}
 use Rattle.word_spec.specs.Words.{bit}
-use Rattle.walk_spec.specs.Terms.{TermReading, TermNode, TermValue, RegisterNode, FlagNode, ChoiceNode, BaseNode, MemoryNode, ConstantNode, BinaryNode, NotNode, SelectNode, ExtractNode, ConcatNode, ExtendNode, LoadNode, StoreNode, JoinNode, node_at, node_value, term_word, value_at, values_from, AreTyped}
+use Rattle.term_spec.specs.Terms.{TermReading, TermNode, TermValue, RegisterNode, FlagNode, ChoiceNode, BaseNode, MemoryNode, ConstantNode, BinaryNode, NotNode, SelectNode, ExtractNode, ConcatNode, ExtendNode, LoadNode, StoreNode, JoinNode, node_at, node_value, term_word, value_at, values_from, AreTyped}
 use Rattle.term_dag.specs.Nodes.{IsInput}
 use Rattle.term_dag.proofs.ListLaws.{by_node}
 use Rattle.term_dag.specs.declared.nodes.Term.{Term}

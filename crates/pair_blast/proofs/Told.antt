@@ -2,9 +2,9 @@
 use Rattle.std.proofs.Common.{◌≡◌, ◌↔◌, ℕ, ◌+◌, ◌*◌, ◌≤◌, Bool, true, List, [], length, ap, ◌∙◌, subst, arith}
 use Rattle.clause_spec.specs.Clauses.{Clause, Cnf, Satisfies, AgreeUpTo, ExtendsOnceWhere}
 use Rattle.call_spec.specs.Calls.{PairQuestion}
-use Rattle.walk_spec.specs.Terms.{TermReading, term_gates}
+use Rattle.term_spec.specs.Terms.{TermReading, term_gates}
 use Rattle.walk_spec.specs.Unrolled.{UnrolledProgram}
-use Rattle.walk_spec.specs.ClauseForm.{inputs}
+use Rattle.term_spec.specs.ClauseForm.{inputs}
 use Rattle.gates.specs.declared.bit.Bit.{Bit}
 use Rattle.gates.specs.Circuits.{Netlist, next, Grows, Holds, bit_value}
 use Rattle.gates.specs.Defined.{IsDefined}

@@ -2,7 +2,7 @@
 use Rattle.std.specs.Prelude.{ℕ, ◌≡◌, ◌<◌, Bool, List, length, map, get_or, sum_by}
 use Rattle.std.specs.Global.{Vec}
 use Rattle.call_spec.specs.Calls.{PairQuestion, PairOfStates, DifferenceOfExits}
-use Rattle.walk_spec.specs.Terms.{TermReading, TermNode, node_at, term_word, value_at, width_of}
+use Rattle.term_spec.specs.Terms.{TermReading, TermNode, node_at, term_word, value_at, width_of}
 use Rattle.pair_spec.specs.PairTerms.{HaveWidths}
 use Rattle.term_dag.specs.declared.nodes.Term.{Term}
 use Rattle.gates.specs.declared.bit.Bit.{Bit}

@@ -1,8 +1,8 @@
 //! The clauses of a question about two functions.
 ghost use Rattle.std.specs.Prelude.{◌≡◌, ℕ, ◌+◌, ◌↔◌, Bool, true, List, [], IfOk, OnOk};
 ghost use Rattle.call_spec.specs.Calls.{DifferenceOfExits};
-ghost use Rattle.walk_spec.specs.Terms.{term_gates};
-ghost use Rattle.walk_spec.specs.Cells.{AreFormed};
+ghost use Rattle.term_spec.specs.Terms.{term_gates};
+ghost use Rattle.term_spec.specs.Cells.{AreFormed};
 ghost use Rattle.pair_spec.specs.Links.{Link};
 ghost use Rattle.pair_spec.specs.PairTerms.{HaveWidths, MakesPairTrue, TellsPair, exit_widths, first_reading, second_reading};
 ghost use Rattle.std.specs.List.{flat_map};

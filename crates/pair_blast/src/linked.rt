@@ -1,7 +1,7 @@
 //! The bits that stand for the inputs of the second side.
 ghost use Rattle.std.specs.Prelude.{◌≡◌, ℕ, ◌+◌, ◌≤◌, Bool, true, List, length, Contains, [], IfOk};
 ghost use Rattle.clause_spec.specs.Clauses.{valuation};
-ghost use Rattle.walk_spec.specs.Terms.{TermReading, TermNode, node_value, width_of, AreTyped};
+ghost use Rattle.term_spec.specs.Terms.{TermReading, TermNode, node_value, width_of, AreTyped};
 ghost use Rattle.term_dag.specs.Nodes.{IsInput, node_of};
 ghost use Rattle.gates.specs.Circuits.{Within};
 ghost use Rattle.word_gates.specs.Numbers.{input_number, number};

@@ -1,8 +1,8 @@
 //! The words of both sides.
 ghost use Rattle.std.specs.Prelude.{◌≡◌, ℕ, ◌+◌, ◌≤◌, ◌↔◌, Bool, true, length, IfOk};
-ghost use Rattle.walk_spec.specs.Terms.{term_gates};
-ghost use Rattle.walk_spec.specs.Cells.{AreFormed};
-ghost use Rattle.walk_spec.specs.ClauseForm.{MakesTrue, reading};
+ghost use Rattle.term_spec.specs.Terms.{term_gates};
+ghost use Rattle.term_spec.specs.Cells.{AreFormed};
+ghost use Rattle.term_spec.specs.ClauseForm.{MakesTrue, reading};
 ghost use Rattle.pair_spec.specs.PairEvidence.{behind};
 ghost use Rattle.pair_spec.specs.PairTerms.{same_words};
 ghost use Rattle.gates.specs.Circuits.{next, Grows, Holds, Within};

@@ -16,11 +16,11 @@ use Rattle.bilv_spec.specs.Run.{Program}
 use Rattle.bilv_spec.specs.Points.{Point, IsPoint, first, next}
 use Rattle.bilv_spec.specs.Questions.{Reading}
 use Rattle.bilv_spec.proofs.PointSteps.{in_map}
-use Rattle.walk_spec.specs.Terms.{TermReading, TermNode, TermValue, RegisterNode, FlagNode, ChoiceNode, BaseNode, MemoryNode, ConstantNode, BinaryNode, NotNode, SelectNode, ExtractNode, ConcatNode, ExtendNode, LoadNode, StoreNode, JoinNode, with_mem, node_at, node_value, term_gates, term_value, word_value}
+use Rattle.term_spec.specs.Terms.{TermReading, TermNode, TermValue, RegisterNode, FlagNode, ChoiceNode, BaseNode, MemoryNode, ConstantNode, BinaryNode, NotNode, SelectNode, ExtractNode, ConcatNode, ExtendNode, LoadNode, StoreNode, JoinNode, with_mem, node_at, node_value, term_gates, term_value, word_value}
 use Rattle.walk_spec.specs.Unrolled.{Carried, UnrolledPoint, UnrolledProgram, ExitsLeadLater, Walk, WalkIsAt, WalkExits, WalkFails, WalkTurns, is_register_of, is_flag_of, no_point, point_at, walk, walk_from, walk_on}
-use Rattle.walk_spec.specs.WalkQuestions.{DrawsAt, IsNamedBelow, term_reading}
-use Rattle.walk_spec.specs.Cells.{Cells, AreFormed, Gives}
-use Rattle.walk_spec.specs.ClauseForm.{IsReadingOf, IsStartOf, bits_from, drawn_below, first_byte, first_choice, first_flag, inputs, place_in, reading, start_memory}
+use Rattle.term_spec.specs.WalkQuestions.{DrawsAt, IsNamedBelow, term_reading}
+use Rattle.term_spec.specs.Cells.{Cells, AreFormed, Gives}
+use Rattle.term_spec.specs.ClauseForm.{IsReadingOf, IsStartOf, bits_from, drawn_below, first_byte, first_choice, first_flag, inputs, place_in, reading, start_memory}
 use Rattle.walk_spec.proofs.WalkOrder.{Inside, Later, inside, next_later}
 use Rattle.walk_laws.proofs.CellValues.{same_up_to}
 use Rattle.call_spec.specs.Calls.{PairQuestion}

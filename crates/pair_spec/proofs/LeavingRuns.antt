@@ -16,7 +16,7 @@ use Rattle.bilv_spec.proofs.FileWords.{Sound, Standing, kept_number}
 use Rattle.bilv_spec.proofs.ReadingRuns.{Numbered, numbered, start_of, followed, follows}
 use Rattle.walk_spec.specs.Unrolled.{Carried, state_at, Aim, OnTo, Outward, OverLast, ToEvent, UnrolledProgram, is_in, point_at, Leaving, GoesOn, RaisesOne, IsStuck, leaving, stored_at, first_aim, carried_on, next_address, Walk, WalkIsAt, WalkExits, WalkFails, WalkTurns, out_by, walk_to, walk_on, walk}
 use Rattle.walk_spec.specs.Unrolling.{IsCarriedOf, LeavesAs, HoldsLiteral, DoesPlace, IsUnrolling}
-use Rattle.walk_spec.specs.WalkLaws.{AsksLiterals}
+use Rattle.term_spec.specs.TermLaws.{AsksLiterals}
 use Rattle.walk_laws.specs.RunOfWalk.{IsSame}
 use Rattle.walk_laws.proofs.WalkRuns.{walk_is_run, stands, sound}
 use Rattle.pair_spec.specs.Pairs.{ReadingExitsIn}

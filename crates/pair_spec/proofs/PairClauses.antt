@@ -12,8 +12,8 @@ use Rattle.bilv_spec.specs.Questions.{IsReading}
 use Rattle.bilv_spec.proofs.Pigeons.{at_in}
 use Rattle.walk_spec.specs.Unrolled.{UnrolledProgram, point_at}
 use Rattle.walk_spec.specs.Unrolling.{IsUnrolling}
-use Rattle.walk_spec.specs.Cells.{Cells}
-use Rattle.walk_spec.specs.ClauseForm.{inputs, input_list, drawn_places}
+use Rattle.term_spec.specs.Cells.{Cells}
+use Rattle.term_spec.specs.ClauseForm.{inputs, input_list, drawn_places}
 use Rattle.walk_spec.specs.Prices.{known_of}
 use Rattle.walk_laws.proofs.CellValues.{agree_back}
 use Rattle.walk_laws.proofs.InputOrder.{get_of, blocks, block_length}

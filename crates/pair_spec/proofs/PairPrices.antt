@@ -7,11 +7,11 @@ use Rattle.bilv_spec.specs.Evidence.{loads_among}
 use Rattle.walk_spec.specs.Unrolled.{UnrolledProgram}
 use Rattle.walk_spec.specs.Unrolling.{IsUnrolling}
 use Rattle.walk_spec.specs.Prices.{term_price, cell_price, unrolled_price, loads_of, stores_of, edges_of, known_of}
-use Rattle.walk_spec.specs.Cells.{Cells}
-use Rattle.walk_spec.specs.ClauseForm.{inputs}
-use Rattle.walk_spec.specs.Terms.{term_gates}
+use Rattle.term_spec.specs.Cells.{Cells}
+use Rattle.term_spec.specs.ClauseForm.{inputs}
+use Rattle.term_spec.specs.Terms.{term_gates}
 use Rattle.walk_spec.proofs.PriceLaw.{same_price, store_sum, end_sum, out_count}
-use Rattle.walk_spec.proofs.PriceSums.{cells_within}
+use Rattle.term_spec.proofs.PriceSums.{cells_within}
 use Rattle.walk_laws.proofs.InputsWithin.{first_within}
 use Rattle.walk_laws.proofs.QuestionClauses.{loads_same}
 use Rattle.pair_spec.specs.Links.{Link, asking}

@@ -4,9 +4,9 @@ use Rattle.std.specs.Prelude.{All}
 use Rattle.word_spec.specs.State.{State}
 use Rattle.bilv_spec.specs.Run.{Program}
 use Rattle.bilv_spec.specs.Questions.{Reading, IsReading}
-use Rattle.walk_spec.specs.Terms.{TermReading}
+use Rattle.term_spec.specs.Terms.{TermReading}
 use Rattle.walk_spec.specs.Unrolled.{Carried, UnrolledProgram}
-use Rattle.walk_spec.specs.WalkQuestions.{MeetsLines, HasAsked}
+use Rattle.term_spec.specs.WalkQuestions.{MeetsLines, HasAsked}
 use Rattle.walk_laws.proofs.CellValues.{Agree}
 use Rattle.pair_spec.specs.Links.{Link, ComparesAlike, asking}
 use Rattle.call_spec.specs.Calls.{PairQuestion, PairOfStates, DifferenceOfExits}

@@ -15,18 +15,18 @@ use Rattle.bilv_spec.specs.LiveFlags.{names_flag}
 use Rattle.bilv_spec.specs.Questions.{Reading, IsReading, IsEntryStateOver, by_file, point_of}
 use Rattle.bilv_spec.specs.Evidence.{AgreesOn}
 use Rattle.bilv_spec.specs.PointLaws.{HasLawfulRows}
-use Rattle.walk_spec.specs.Terms.{TermReading, TermNode, with_mem, term_word}
+use Rattle.term_spec.specs.Terms.{TermReading, TermNode, with_mem, term_word}
 use Rattle.walk_spec.specs.Unrolled.{Carried, state_at, UnrolledProgram}
 use Rattle.walk_spec.specs.Unrolling.{IsUnrolling}
-use Rattle.walk_spec.specs.WalkQuestions.{MeetsLines, HasAsked, term_reading}
-use Rattle.walk_spec.specs.WalkLaws.{AsksLiterals}
-use Rattle.walk_spec.specs.Cells.{AreFormed, IsAllowed, Agreement, AskedByte}
-use Rattle.walk_spec.proofs.EntrySame.{entry_over}
+use Rattle.term_spec.specs.WalkQuestions.{MeetsLines, HasAsked, term_reading}
+use Rattle.term_spec.specs.TermLaws.{AsksLiterals}
+use Rattle.term_spec.specs.Cells.{AreFormed, IsAllowed, Agreement, AskedByte}
+use Rattle.term_spec.proofs.EntrySame.{entry_over}
 use Rattle.walk_laws.proofs.CellValues.{Agree, node_same, node_in, same_term, word_same}
 use Rattle.walk_laws.proofs.BaseBytes.{gives, agree_all}
 use Rattle.walk_laws.proofs.InputPlaces.{spot, spot_is}
 use Rattle.walk_laws.proofs.InputsWithin.{reading_in_range}
-use Rattle.walk_spec.specs.ClauseForm.{reading}
+use Rattle.term_spec.specs.ClauseForm.{reading}
 use Rattle.walk_laws.proofs.InputReadings.{of, of_in_range}
 use Rattle.pair_spec.specs.Links.{Link, EqualAtEntry, EqualAtExit, SharedBytes, SameBytes, ComparesAlike, addresses, asking, compares_flag, named_by, Kind, IsRegister, IsFlag, IsNeither, kind_of, AreAlike}
 use Rattle.call_spec.specs.Calls.{PairQuestion, DifferenceOfExits}

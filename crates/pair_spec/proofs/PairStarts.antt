@@ -11,7 +11,7 @@ use Rattle.bilv_spec.specs.QuestionLaws.{Follows}
 use Rattle.bilv_spec.specs.Answers.{start_in}
 use Rattle.walk_spec.specs.Unrolled.{UnrolledProgram}
 use Rattle.walk_spec.specs.Unrolling.{IsLaidOut}
-use Rattle.walk_spec.specs.ClauseForm.{inputs, IsStartOf, IsReadingOf}
+use Rattle.term_spec.specs.ClauseForm.{inputs, IsStartOf, IsReadingOf}
 use Rattle.walk_laws.proofs.StartReadings as starts
 use Rattle.pair_spec.specs.Links.{Link, ComparesAlike, asking}
 use Rattle.call_spec.specs.Calls.{PairQuestion}

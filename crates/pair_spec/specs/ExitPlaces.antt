@@ -7,13 +7,13 @@ use Rattle.bilv_spec.specs.Notes.{Expr}
 use Rattle.bilv_spec.specs.Run.{Program}
 use Rattle.bilv_spec.specs.Points.{Point, bytes_loaded, line_price}
 use Rattle.bilv_spec.specs.Questions.{Reading}
-use Rattle.walk_spec.specs.Terms.{TermNode, TermReading, term_value}
+use Rattle.term_spec.specs.Terms.{TermNode, TermReading, term_value}
 use Rattle.walk_spec.specs.Unrolled.{UnrolledProgram, ExitsLeadLater, point_at}
 use Rattle.walk_spec.specs.Unrolling.{IsUnrolling, IsWalkable}
-use Rattle.walk_spec.specs.WalkQuestions.{AreNamedBelow, term_reading}
+use Rattle.term_spec.specs.WalkQuestions.{AreNamedBelow, term_reading}
 use Rattle.walk_spec.specs.Prices.{edges_of, known_of, line_steps, loads_of, point_bound, point_lines, point_loads, point_price, stores_of}
-use Rattle.walk_spec.specs.Cells.{Cells, AreFormed}
-use Rattle.walk_spec.specs.ClauseForm.{IsBroken, IsStartOf, drawn_below, first_byte, inputs, reading}
+use Rattle.term_spec.specs.Cells.{Cells, AreFormed}
+use Rattle.term_spec.specs.ClauseForm.{IsBroken, IsStartOf, drawn_below, first_byte, inputs, reading}
 use Rattle.call_spec.specs.Calls.{PairQuestion}
 use Rattle.pair_spec.specs.Links.{Link}
 use Rattle.pair_spec.specs.PairTerms.{SideCells, TellsPair, exit_place, exits_of, with_exit_place}

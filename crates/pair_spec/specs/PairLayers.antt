@@ -9,8 +9,8 @@ use Rattle.bilv_spec.specs.PointLaws.{HasLawfulRows}
 use Rattle.bilv_spec.specs.Answers.{start_in}
 use Rattle.walk_spec.specs.Unrolled.{UnrolledProgram}
 use Rattle.walk_spec.specs.Unrolling.{IsUnrolling, IsLaidOut}
-use Rattle.walk_spec.specs.ClauseForm.{inputs, IsBroken, IsStartOf, IsReadingOf}
-use Rattle.walk_spec.specs.WalkLaws.{AsksKnown, AsksLiterals}
+use Rattle.term_spec.specs.ClauseForm.{inputs, IsBroken, IsStartOf, IsReadingOf}
+use Rattle.term_spec.specs.TermLaws.{AsksKnown, AsksLiterals}
 use Rattle.walk_laws.specs.Layers.{IsFitting}
 use Rattle.pair_spec.specs.Links.{Link, ComparesAlike, asking}
 use Rattle.call_spec.specs.Calls.{PairQuestion}

@@ -6,16 +6,16 @@ use Rattle.word_spec.specs.State.{State}
 use Rattle.bilv_spec.specs.Notes.{Expr, Flag, value}
 use Rattle.clause_spec.specs.Clauses.{Cnf, ExtendsOnceWhere}
 use Rattle.bilv_spec.specs.Questions.{Reading, IsReading}
-use Rattle.walk_spec.specs.Terms.{TermReading, with_mem, InRange, TermNode, HasWidth, term_word, term_gates}
+use Rattle.term_spec.specs.Terms.{TermReading, with_mem, InRange, TermNode, HasWidth, term_word, term_gates}
 use Rattle.machine_spec.specs.Bil.{Empty}
 use Rattle.bilv_spec.specs.Run.{false_line}
 use Rattle.walk_spec.specs.Unrolled.{Carried, UnrolledProgram, UnrolledPoint, PointExit, FalseAssert, Always, Raising, WritingKept, Unaligned, Along, Aim, OnTo, Outward, OverLast, ToEvent, Executes, WalkIsAt, walk, point_at, Leaving, leaving, stored_at, is_in, first_aim, carried_on, next_address, state_at, goes_out, ExitsLeadLater}
 use Rattle.walk_spec.specs.Sweep.{held}
-use Rattle.walk_spec.specs.Passive.{Names, AreNames, Denotes, Tells, UnderAll}
-use Rattle.walk_spec.specs.WalkQuestions.{MeetsLines, HasAsked, Room, AreTermsWithin, term_reading}
+use Rattle.term_spec.specs.Passive.{Names, AreNames, Denotes, Tells, UnderAll}
+use Rattle.term_spec.specs.WalkQuestions.{MeetsLines, HasAsked, Room, AreTermsWithin, term_reading}
 use Rattle.walk_spec.specs.Prices.{term_price, loads_of, stores_of, edges_of, known_of, node_bound, variables_of}
-use Rattle.walk_spec.specs.Cells.{Cells, AreFormed, Gives, IsAllowed, cell_gates}
-use Rattle.walk_spec.specs.ClauseForm.{inputs, reading}
+use Rattle.term_spec.specs.Cells.{Cells, AreFormed, Gives, IsAllowed, cell_gates}
+use Rattle.term_spec.specs.ClauseForm.{inputs, reading}
 use Rattle.pair_spec.specs.Links.{Link, EqualAtEntry, EqualAtExit, SharedBytes, SameBytes, addresses, named_by}
 use Rattle.call_spec.specs.Calls.{PairQuestion, PairOfStates, DifferenceOfExits}
 use Rattle.pair_spec.specs.Pairs.{shared_bytes, same_bytes}

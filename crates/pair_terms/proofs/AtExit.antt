@@ -8,9 +8,9 @@ use Rattle.notes_value.specs.Views.{expr_of}
 use Rattle.walk_spec.specs.Unrolling.{IsReadable}
 use Rattle.weakest_pre.proofs.Entries.{lines_read, reads_by}
 use Rattle.word_spec.specs.RowFiles.{from_to}
-use Rattle.walk_spec.specs.Terms.{TermNode, ConstantNode, HasWidth}
+use Rattle.term_spec.specs.Terms.{TermNode, ConstantNode, HasWidth}
 use Rattle.walk_spec.specs.Unrolled.{UnrolledProgram}
-use Rattle.walk_spec.specs.Passive.{AreNames}
+use Rattle.term_spec.specs.Passive.{AreNames}
 use Rattle.term_dag.specs.Made.{IsInterned}
 use Rattle.term_dag.proofs.Growth.{grew_on, grew_width, interned_grew}
 use Rattle.term_names.specs.declared.names.Names.{Names}

@@ -4,7 +4,7 @@ use Rattle.std.specs.Prelude.{map}
 use Rattle.std.specs.List.{flat_map}
 use Rattle.std.proofs.lemmas.List.{map-append}
 use Rattle.word_spec.specs.RowFiles.{from_to}
-use Rattle.walk_spec.specs.Terms.{TermNode, ConstantNode, AreTyped, HasWidth}
+use Rattle.term_spec.specs.Terms.{TermNode, ConstantNode, AreTyped, HasWidth}
 use Rattle.term_dag.specs.declared.nodes.Term.{Term}
 use Rattle.term_dag.specs.Made.{IsInterned}
 use Rattle.term_dag.proofs.Growth.{grew_none, grew_on, grew_more, grew_width, inputs_none, inputs_on, interned_grew, interned_inputs, interned_width}

@@ -6,9 +6,9 @@ use Rattle.std.proofs.lemmas.List.{map-append, length-append, length-map, take-m
 use Rattle.bilv_spec.specs.Notes as notes
 use Rattle.bilv_spec.specs.Notes.{Expr}
 use Rattle.call_spec.specs.Calls.{PairQuestion}
-use Rattle.walk_spec.specs.Terms.{TermReading, InRange, TermNode, term_word, term_gates}
+use Rattle.term_spec.specs.Terms.{TermReading, InRange, TermNode, term_word, term_gates}
 use Rattle.walk_spec.specs.Unrolled.{UnrolledProgram}
-use Rattle.walk_spec.specs.Cells.{Cells, Gives, cell_gates}
+use Rattle.term_spec.specs.Cells.{Cells, Gives, cell_gates}
 use Rattle.walk_spec.specs.Prices.{loads_of, stores_of, edges_of, known_of}
 use Rattle.term_dag.specs.declared.nodes.Term.{Term}
 use Rattle.mem_cells.specs.Words.{places_of}

@@ -9,11 +9,11 @@ use Rattle.word_spec.specs.RowFiles.{from_to}
 use Rattle.bilv_spec.specs.Notes.{Expr}
 use Rattle.bilv_spec.specs.Points.{line_price, bytes_loaded}
 use Rattle.bilv_spec.specs.Questions.{Reading, IsReading}
-use Rattle.walk_spec.specs.Terms.{TermReading, InRange, TermNode, ConstantNode, term_value, term_word}
+use Rattle.term_spec.specs.Terms.{TermReading, InRange, TermNode, ConstantNode, term_value, term_word}
 use Rattle.walk_spec.specs.Unrolled.{Carried, UnrolledProgram, state_at}
-use Rattle.walk_spec.specs.Passive.{AreNames, Denotes}
+use Rattle.term_spec.specs.Passive.{AreNames, Denotes}
 use Rattle.walk_spec.specs.Prices.{line_steps, variables_of}
-use Rattle.walk_spec.specs.WalkQuestions.{IsNamedBelow, term_reading}
+use Rattle.term_spec.specs.WalkQuestions.{IsNamedBelow, term_reading}
 use Rattle.term_dag.specs.Made.{Grew, IsInterned}
 use Rattle.term_dag.proofs.Growth.{grew_on, grew_more, grew_width, interned_grew, interned_inputs, inputs_on, inputs_more}
 use Rattle.term_names.specs.declared.names.Names.{Names}

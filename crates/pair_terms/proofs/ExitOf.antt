@@ -7,12 +7,12 @@ use Rattle.std.proofs.lemmas.List.{length-map, get_or-map}
 use Rattle.word_spec.specs.Words.{bit}
 use Rattle.bilv_spec.specs.Points.{line_price, bytes_loaded}
 use Rattle.bilv_spec.specs.Questions.{Reading}
-use Rattle.walk_spec.specs.Terms.{TermNode}
+use Rattle.term_spec.specs.Terms.{TermNode}
 use Rattle.walk_spec.specs.Unrolled.{UnrolledProgram, Walk, WalkIsAt, WalkExits, WalkFails, WalkTurns, walk_on}
 use Rattle.walk_spec.specs.Sweep.{Held, held_if, hand, held, swept}
-use Rattle.walk_spec.specs.Passive.{Passive, IsPassive, UnderAll}
+use Rattle.term_spec.specs.Passive.{Passive, IsPassive, UnderAll}
 use Rattle.walk_spec.specs.Prices.{line_steps, variables_of}
-use Rattle.walk_spec.specs.WalkQuestions.{IsNamedBelow, term_reading}
+use Rattle.term_spec.specs.WalkQuestions.{IsNamedBelow, term_reading}
 use Rattle.term_dag.specs.declared.nodes.Term.{Term}
 use Rattle.term_dag.proofs.Growth.{grew_more, inputs_more}
 use Rattle.question_form.specs.declared.unrolled.Unrolled.{Unrolled}

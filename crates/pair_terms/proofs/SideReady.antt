@@ -2,9 +2,9 @@
 use Rattle.std.proofs.Common.{inl, inr, ℕ, Bool, List, [], length, sym, subst, arith, Contains}
 use Rattle.std.specs.List.{AllByRecursion}
 use Rattle.call_spec.specs.Calls.{PairQuestion, PairOfStates, DifferenceOfExits}
-use Rattle.walk_spec.specs.Terms.{TermNode, HasWidth, term_gates, term_loads}
+use Rattle.term_spec.specs.Terms.{TermNode, HasWidth, term_gates, term_loads}
 use Rattle.walk_spec.specs.Unrolled.{UnrolledProgram}
-use Rattle.walk_spec.specs.WalkQuestions.{Room, AreTermsWithin, IsNamedBelow}
+use Rattle.term_spec.specs.WalkQuestions.{Room, AreTermsWithin, IsNamedBelow}
 use Rattle.term_dag.specs.Nodes.{IsInput}
 use Rattle.term_dag.proofs.Growth.{grew_width}
 use Rattle.term_names.proofs.OfForm.{named_all}

@@ -9,13 +9,13 @@ use Rattle.word_spec.specs.State.{State}
 use Rattle.bilv_spec.specs.Points.{line_price, bytes_loaded}
 use Rattle.bilv_spec.specs.Questions.{Reading, IsReading}
 use Rattle.call_spec.specs.Calls.{PairQuestion, PairOfStates, DifferenceOfExits}
-use Rattle.walk_spec.specs.Terms.{TermNode, term_word, term_gates, term_loads}
+use Rattle.term_spec.specs.Terms.{TermNode, term_word, term_gates, term_loads}
 use Rattle.walk_spec.specs.Unrolled.{Carried, state_at, PointExit, FalseAssert, Always, Raising, WritingKept, Unaligned, Along, OnTo, Outward, OverLast, ToEvent, UnrolledPoint, UnrolledProgram, no_point, goes_out, ExitsLeadLater, LeadsLater, walk, WalkIsAt}
 use Rattle.walk_spec.specs.Unrolling.{IsWalkable}
 use Rattle.walk_spec.proofs.WalkOrder.{Inside, inside}
-use Rattle.walk_spec.specs.WalkQuestions.{MeetsLines, IsNamedBelow, AreNamedBelow, term_reading}
+use Rattle.term_spec.specs.WalkQuestions.{MeetsLines, IsNamedBelow, AreNamedBelow, term_reading}
 use Rattle.walk_spec.specs.Prices.{action_size, point_price, point_loads, point_bound, line_size, line_steps, list_nodes, variables_of}
-use Rattle.walk_spec.proofs.PriceSums.{parts_add_up}
+use Rattle.term_spec.proofs.PriceSums.{parts_add_up}
 use Rattle.term_dag.specs.Nodes.{IsInput}
 use Rattle.term_dag.proofs.Growth.{grew_width}
 use Rattle.term_names.specs.Chosen.{at_entry}

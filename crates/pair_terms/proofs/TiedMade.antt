@@ -3,7 +3,7 @@ use Rattle.std.proofs.Common.{◌≡◌, ℕ, zero, suc, ◌+◌, ◌-◌, ◌<�
 use Rattle.std.specs.Prelude.{map}
 use Rattle.std.proofs.lemmas.List.{take_all, length-drop}
 use Rattle.machine_spec.specs.Bil as bil
-use Rattle.walk_spec.specs.Terms.{TermReading, TermNode, BinaryNode, HasWidth, width_of, node_at, term_value, term_word, term_gates, term_loads, term_stores, term_joins}
+use Rattle.term_spec.specs.Terms.{TermReading, TermNode, BinaryNode, HasWidth, width_of, node_at, term_value, term_word, term_gates, term_loads, term_stores, term_joins}
 use Rattle.walk_spec.specs.Unrolled.{UnrolledProgram, state_at}
 use Rattle.term_dag.specs.declared.nodes.Term.{Term}
 use Rattle.term_dag.specs.Made.{IsMade}

@@ -10,9 +10,9 @@ use Rattle.word_spec.specs.State.{State}
 use Rattle.word_spec.specs.Memory.{Memory, Little, load}
 use Rattle.word_spec.specs.RowFiles.{from_to}
 use Rattle.bilv_spec.specs.Notes.{value}
-use Rattle.walk_spec.specs.Terms.{TermReading, InRange, TermNode, ConstantNode, LoadNode, AreTyped, HasMemory, HasWidth, term_value, term_word}
+use Rattle.term_spec.specs.Terms.{TermReading, InRange, TermNode, ConstantNode, LoadNode, AreTyped, HasMemory, HasWidth, term_value, term_word}
 use Rattle.walk_spec.specs.Unrolled.{Carried, UnrolledProgram, state_at}
-use Rattle.walk_spec.specs.Passive.{Names, AreNames, Denotes}
+use Rattle.term_spec.specs.Passive.{Names, AreNames, Denotes}
 use Rattle.term_dag.specs.Made.{Grew, IsMade, IsInterned}
 use Rattle.term_dag.proofs.Growth.{grew_none, grew_on, grew_more, grew_width, inputs_none, inputs_on}
 use Rattle.note_terms.specs.Steps.{IsStep}

@@ -5,12 +5,12 @@ use Rattle.word_spec.specs.State.{State}
 use Rattle.bilv_spec.specs.Notes.{Expr}
 use Rattle.bilv_spec.specs.Points.{line_price, bytes_loaded}
 use Rattle.bilv_spec.specs.Questions.{Reading}
-use Rattle.walk_spec.specs.Terms.{TermReading, InRange, TermNode, AreTyped, HasWidth, term_word, term_gates, term_loads, term_stores, term_joins}
+use Rattle.term_spec.specs.Terms.{TermReading, InRange, TermNode, AreTyped, HasWidth, term_word, term_gates, term_loads, term_stores, term_joins}
 use Rattle.walk_spec.specs.Unrolled.{Aim, OnTo, Outward, OverLast, ToEvent, PointExit, FalseAssert, Always, Raising, WritingKept, Unaligned, Along, UnrolledProgram, state_at}
 use Rattle.walk_spec.specs.Sweep.{Held, held}
-use Rattle.walk_spec.specs.Passive.{UnderAll, Tells}
+use Rattle.term_spec.specs.Passive.{UnderAll, Tells}
 use Rattle.walk_spec.specs.Prices.{variables_of, point_price, point_loads, point_bound, stores_of, edges_of, line_steps}
-use Rattle.walk_spec.specs.WalkQuestions.{IsNamedBelow, AreNamedBelow, term_reading}
+use Rattle.term_spec.specs.WalkQuestions.{IsNamedBelow, AreNamedBelow, term_reading}
 use Rattle.term_dag.specs.Made.{Grew, InputsFrom}
 use Rattle.pair_spec.specs.Links.{Link}
 use Rattle.pair_spec.specs.Pairs.{same_bytes}

@@ -4,10 +4,10 @@ use Rattle.std.specs.List.{flat_map, AllByRecursion}
 use Rattle.word_spec.specs.Words.{bit}
 use Rattle.bilv_spec.specs.Questions.{Reading, IsReading}
 use Rattle.call_spec.specs.Calls.{PairQuestion, PairOfStates, DifferenceOfExits}
-use Rattle.walk_spec.specs.Terms.{TermReading, InRange, TermNode, AreTyped, HasWidth, term_word, term_gates, term_loads, term_stores, term_joins}
+use Rattle.term_spec.specs.Terms.{TermReading, InRange, TermNode, AreTyped, HasWidth, term_word, term_gates, term_loads, term_stores, term_joins}
 use Rattle.walk_spec.specs.Unrolled.{UnrolledProgram, ExitsLeadLater, state_at}
 use Rattle.walk_spec.specs.Prices.{variables_of}
-use Rattle.walk_spec.specs.WalkQuestions.{Room, AreTermsWithin, IsNamedBelow, is_asked, term_reading}
+use Rattle.term_spec.specs.WalkQuestions.{Room, AreTermsWithin, IsNamedBelow, is_asked, term_reading}
 use Rattle.term_dag.specs.Made.{Grew, InputsFrom}
 use Rattle.term_names.specs.Chosen.{at_entry}
 use Rattle.pair_spec.specs.Links.{Link}

@@ -3,9 +3,9 @@ use Rattle.std.specs.Prelude.{ℕ, ◌≡◌, ◌<◌, ◌≤◌, ◌+◌, ◌-�
 use Rattle.word_spec.specs.State.{State}
 use Rattle.word_spec.specs.Memory.{Little}
 use Rattle.bilv_spec.specs.Notes.{value}
-use Rattle.walk_spec.specs.Terms.{TermReading, InRange, TermNode, AreTyped}
+use Rattle.term_spec.specs.Terms.{TermReading, InRange, TermNode, AreTyped}
 use Rattle.walk_spec.specs.Unrolled.{Carried, UnrolledProgram, state_at}
-use Rattle.walk_spec.specs.Passive.{Names, Denotes}
+use Rattle.term_spec.specs.Passive.{Names, Denotes}
 use Rattle.term_dag.specs.Made.{Grew, InputsFrom}
 use Rattle.pair_spec.specs.Links.{addresses}
 use Rattle.pair_spec.specs.Links as spec

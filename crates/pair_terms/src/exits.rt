@@ -3,7 +3,7 @@
 ghost use Rattle.std.specs.Prelude.{◌≡◌, ◌<◌, ◌≤◌, ◌+◌, ◌*◌, ◌^◌, IfOk, length, map, sum_by};
 ghost use Rattle.std.specs.List.{flat_map, list_any};
 ghost use Rattle.bilv_spec.specs.Points.{line_price, bytes_loaded};
-ghost use Rattle.walk_spec.specs.Terms.{AreTyped};
+ghost use Rattle.term_spec.specs.Terms.{AreTyped};
 ghost use Rattle.walk_spec.specs.Unrolled.{point_at};
 ghost use Rattle.walk_spec.specs.Unrolling.{IsWalkable};
 ghost use Rattle.walk_spec.specs.Prices.{line_steps, variables_of};

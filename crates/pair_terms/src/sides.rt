@@ -1,7 +1,7 @@
 //! A side of a question about two functions, as terms.
 
 ghost use Rattle.std.specs.Prelude.{◌≡◌, ℕ, List, ◌∷◌, IfOk};
-ghost use Rattle.walk_spec.specs.Terms.{AreTyped, HasWidth};
+ghost use Rattle.term_spec.specs.Terms.{AreTyped, HasWidth};
 ghost use Rattle.walk_spec.specs.Unrolling.{IsWalkable};
 ghost use Rattle.question_form.specs.Views.{unrolled_of};
 ghost use Rattle.links_lang.specs.Views.{links_of};

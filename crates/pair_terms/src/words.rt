@@ -3,8 +3,8 @@
 ghost use Rattle.std.specs.Prelude.{◌≡◌, ◌≤◌, ◌<◌, ◌+◌, ◌*◌, ◌^◌, IfOk, true, [], ◌∷◌, map, length, replicate};
 ghost use Rattle.std.specs.List.{flat_map};
 ghost use Rattle.word_spec.specs.RowFiles.{from_to};
-ghost use Rattle.walk_spec.specs.Terms.{AreTyped, HasMemory, IsWidth, term_value};
-ghost use Rattle.walk_spec.specs.Passive.{AreNames};
+ghost use Rattle.term_spec.specs.Terms.{AreTyped, HasMemory, IsWidth, term_value};
+ghost use Rattle.term_spec.specs.Passive.{AreNames};
 ghost use Rattle.state_text.specs.declared.layout.Layout.{Layout};
 ghost use Rattle.term_names.specs.Views.{form_of, names_of};
 ghost use Rattle.note_terms.specs.Steps.{IsStep};

@@ -11,7 +11,7 @@ use Rattle.bilv_spec.specs.QuestionLaws.{Follows}
 use Rattle.bilv_spec.specs.Answers.{start_in}
 use Rattle.walk_spec.specs.Unrolled.{UnrolledProgram}
 use Rattle.walk_spec.specs.Unrolling.{IsLaidOut}
-use Rattle.walk_spec.specs.ClauseForm.{inputs, IsStartOf}
+use Rattle.term_spec.specs.ClauseForm.{inputs, IsStartOf}
 use Rattle.call_spec.specs.Calls.{PairQuestion}
 use Rattle.pair_spec.specs.Links.{Link, ComparesAlike}
 use Rattle.pair_spec.specs.Pairs.{Readings, IsTrueOfPair}

@@ -5,10 +5,10 @@ use Rattle.std.specs.Prelude.{◌∷◌, if◌then◌else◌, slice_index_or, na
 use Rattle.std.proofs.lemmas.List.{get_or-drop}
 use Rattle.word_spec.specs.Words.{bit}
 use Rattle.clause_spec.specs.Clauses.{valuation}
-use Rattle.walk_spec.specs.Terms.{TermReading}
+use Rattle.term_spec.specs.Terms.{TermReading}
 use Rattle.walk_spec.specs.Unrolled.{UnrolledProgram, is_register_of, is_flag_of, point_at}
-use Rattle.walk_spec.specs.Cells.{Cells}
-use Rattle.walk_spec.specs.ClauseForm.{bits_from, drawn_below, first_flag, first_choice, first_byte, place_in, reading}
+use Rattle.term_spec.specs.Cells.{Cells}
+use Rattle.term_spec.specs.ClauseForm.{bits_from, drawn_below, first_flag, first_choice, first_byte, place_in, reading}
 use Rattle.pair_spec.specs.PairEvidence.{behind}
 
 -- the same variables, which count from 1

@@ -37,7 +37,7 @@ use Rattle.question_form.specs.declared.unrolled.Unrolled.{Unrolled}
 use Rattle.question_form.specs.declared.unrolled.Point.{Point}
 use Rattle.bit_blast.specs.Broken.{AreBroken}
 use Rattle.bit_blast.specs.ReadBytes.{AreOne}
-use Rattle.walk_spec.specs.ClauseForm.{IsBroken, IsStartOf, inputs, reading}
+use Rattle.term_spec.specs.ClauseForm.{IsBroken, IsStartOf, inputs, reading}
 use Rattle.walk_spec.specs.Unrolled.{UnrolledProgram}
 use Rattle.pair_verdict.specs.PairRounds.{AreAskableSides, AreAsked, AreJudged, AreSound, AreValues, IsPairRound, IsShown, first_placed, second_placed}
 use Rattle.pair_verdict.specs.declared.rounds.Asked.{Asked}

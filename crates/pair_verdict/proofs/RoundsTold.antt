@@ -32,11 +32,11 @@ use Rattle.bit_blast.proofs.EntryBytes.{one_by_memory}
 use Rattle.walk_laws.proofs.CellValues.{word_fits}
 use Rattle.walk_laws.proofs.InputsWithin.{reading_in_range}
 use Rattle.walk_laws.proofs.StartReadings.{start_is_written}
-use Rattle.walk_spec.specs.Cells.{AreFormed, Cells, Gives, IsAllowed}
-use Rattle.walk_spec.specs.ClauseForm.{IsBroken, IsStartOf, inputs, reading, start_memory}
-use Rattle.walk_spec.specs.Terms.{TermReading, with_mem}
+use Rattle.term_spec.specs.Cells.{AreFormed, Cells, Gives, IsAllowed}
+use Rattle.term_spec.specs.ClauseForm.{IsBroken, IsStartOf, inputs, reading, start_memory}
+use Rattle.term_spec.specs.Terms.{TermReading, with_mem}
 use Rattle.walk_spec.specs.Unrolled.{UnrolledProgram, byte_of_runs}
-use Rattle.walk_spec.specs.WalkQuestions.{is_asked}
+use Rattle.term_spec.specs.WalkQuestions.{is_asked}
 use Rattle.verdict.specs.Grounds.{IsGround}
 use Rattle.verdict.specs.Rounds.{AreAdded, HasBytes}
 use Rattle.verdict.proofs.Answering.{any_contained}

@@ -14,9 +14,9 @@ use Rattle.std.proofs.lemmas.List.Elements.{All-map}
 use Rattle.pair_spec.specs.PairLayers.{IsPairSide}
 use Rattle.pair_spec.specs.PairTerms.{SideCells, SideTerm, TellsSide, TellsSideCells}
 use Rattle.pair_spec.proofs.Asking.{points_of}
-use Rattle.walk_spec.proofs.Asked.{asked_is_right}
+use Rattle.term_spec.proofs.Asked.{asked_is_right}
 use Rattle.walk_spec.specs.Unrolled.{UnrolledProgram}
-use Rattle.walk_spec.specs.WalkQuestions.{is_asked}
+use Rattle.term_spec.specs.WalkQuestions.{is_asked}
 use Rattle.verdict.specs.Grounds.{IsGround}
 use Rattle.verdict.specs.Rounds.{AreAdded}
 use Rattle.verdict.proofs.Answering.{asks}

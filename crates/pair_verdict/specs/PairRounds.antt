@@ -13,8 +13,8 @@ use Rattle.pair_spec.specs.ExitPlaces.{HasOwnExit, before_step}
 use Rattle.state_text.specs.Starts.{written_of}
 use Rattle.state_text.specs.declared.start.Start.{Start}
 use Rattle.word_spec.specs.State.{Written}
-use Rattle.walk_spec.specs.Cells.{AreFormed}
-use Rattle.walk_spec.specs.ClauseForm.{IsBroken, IsStartOf, reading}
+use Rattle.term_spec.specs.Cells.{AreFormed}
+use Rattle.term_spec.specs.ClauseForm.{IsBroken, IsStartOf, reading}
 use Rattle.walk_spec.specs.Unrolled.{UnrolledProgram}
 use Rattle.bit_blast.specs.Broken.{AreBroken}
 use Rattle.bit_blast.specs.ReadBytes.{AreOne}

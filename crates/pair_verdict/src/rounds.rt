@@ -4,7 +4,7 @@ ghost use Rattle.links_lang.specs.Views.{AreLinksOf, links_of};
 ghost use Rattle.mem_cells.specs.Views.{cells_of, program_of_cells};
 ghost use Rattle.pair_form.specs.Views.{pair_question_of};
 ghost use Rattle.state_text.specs.Starts.{written_of};
-ghost use Rattle.walk_spec.specs.ClauseForm.{inputs};
+ghost use Rattle.term_spec.specs.ClauseForm.{inputs};
 ghost use Rattle.pair_spec.specs.ExitPlaces.{before_step};
 ghost use Rattle.pair_verdict.specs.PairRounds.{AreAskableSides, AreAsked, AreJudged, AreShown, AreSound, AreValuesOf, IsPairRound, IsShown, first_placed, second_placed};
 

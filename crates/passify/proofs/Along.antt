@@ -4,9 +4,9 @@ use Rattle.std.specs.Prelude.{◌==◌}
 use Rattle.word_spec.specs.Words.{bit}
 use Rattle.bilv_spec.specs.Notes.{NoteLine}
 use Rattle.machine_spec.specs.Bil.{Equal}
-use Rattle.walk_spec.specs.Terms.{TermReading, TermNode, BinaryNode, HasWidth, term_word}
+use Rattle.term_spec.specs.Terms.{TermReading, TermNode, BinaryNode, HasWidth, term_word}
 use Rattle.walk_spec.specs.Unrolled.{Walk, carried_of}
-use Rattle.walk_spec.specs.Passive.{Tells}
+use Rattle.term_spec.specs.Passive.{Tells}
 use Rattle.term_dag.specs.Made.{Grew, IsMade}
 use Rattle.term_dag.proofs.Growth.{grew_on, grew_more, grew_width, inputs_on, made_grew, made_inputs}
 use Rattle.question_form.specs.declared.unrolled.Edge.{Edge}

@@ -7,11 +7,11 @@ use Rattle.std.proofs.lemmas.Bool.{true≢false}
 use Rattle.std.proofs.lemmas.Bool.Decides.{nat_tests}
 use Rattle.bilv_spec.specs.Questions.{Reading, IsReading}
 use Rattle.word_spec.specs.RowFiles.{from_to}
-use Rattle.walk_spec.specs.Terms.{InRange, TermReading, TermNode, ConstantNode, HasWidth}
+use Rattle.term_spec.specs.Terms.{InRange, TermReading, TermNode, ConstantNode, HasWidth}
 use Rattle.walk_spec.specs.Unrolled.{UnrolledProgram, carried_of}
 use Rattle.walk_spec.specs.Sweep.{Held, held}
-use Rattle.walk_spec.specs.Passive.{Tells}
-use Rattle.walk_spec.specs.WalkQuestions.{AreNamedBelow, term_reading}
+use Rattle.term_spec.specs.Passive.{Tells}
+use Rattle.term_spec.specs.WalkQuestions.{AreNamedBelow, term_reading}
 use Rattle.term_dag.specs.declared.nodes.Term.{Term}
 use Rattle.term_dag.specs.Made.{Grew, IsInterned}
 use Rattle.term_dag.proofs.Growth.{grew_on, grew_width, interned_grew, interned_inputs, interned_width}

@@ -4,7 +4,7 @@ use Rattle.std.specs.Prelude.{map, sum_by}
 use Rattle.bilv_spec.specs.Notes.{NoteLine}
 use Rattle.bilv_spec.specs.Points.{line_price, bytes_loaded}
 use Rattle.bilv_spec.specs.Run.{false_line}
-use Rattle.walk_spec.specs.Terms.{TermReading, TermNode}
+use Rattle.term_spec.specs.Terms.{TermReading, TermNode}
 use Rattle.walk_spec.specs.Unrolled.{Walk, WalkTurns, carried_of, out_by}
 use Rattle.walk_spec.specs.Sweep.{Held, held_if, hand}
 use Rattle.walk_spec.specs.Prices.{line_steps}

@@ -5,8 +5,8 @@ use Rattle.std.specs.Prelude.{◌==◌, not, if◌then◌else◌}
 use Rattle.word_spec.specs.Words.{bit, add}
 use Rattle.machine_spec.specs.Bil.{NotEqual}
 use Rattle.machine_spec.specs.Machine.{unit, is_place}
-use Rattle.walk_spec.specs.Terms.{TermNode, BinaryNode, ConstantNode, ExtractNode, SelectNode, HasWidth, term_word, select}
-use Rattle.walk_spec.specs.Passive.{Tells}
+use Rattle.term_spec.specs.Terms.{TermNode, BinaryNode, ConstantNode, ExtractNode, SelectNode, HasWidth, term_word, select}
+use Rattle.term_spec.specs.Passive.{Tells}
 use Rattle.term_dag.specs.Made.{IsMade, IsInterned}
 use Rattle.term_dag.proofs.Growth.{grew_on, grew_more, inputs_on, made_grew, made_inputs, made_width, interned_grew, interned_inputs}
 use Rattle.term_dag.proofs.LowBits.{low_bits, few_low_bits}

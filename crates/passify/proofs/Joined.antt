@@ -1,12 +1,12 @@
 -- The terms of one of two states.
 use Rattle.std.proofs.Common.{◌≡◌, ℕ, ◌*◌, ◌≤◌, Bool, true, false, List, [], ◌∷◌, Some, None, length, ap, sym, ◌∙◌, subst, arith}
 use Rattle.std.specs.Prelude.{◌==◌, if◌then◌else◌, map}
-use Rattle.walk_spec.specs.Terms.{TermReading, TermNode}
+use Rattle.term_spec.specs.Terms.{TermReading, TermNode}
 use Rattle.term_dag.specs.Made.{Separates}
 use Rattle.term_dag.proofs.Growth.{grew_none, grew_more, inputs_none}
 use Rattle.term_dag.specs.declared.nodes.Term.{Term}
-use Rattle.walk_spec.specs.Passive.{AreNames, Denotes}
-use Rattle.walk_spec.specs.Passive as walk
+use Rattle.term_spec.specs.Passive.{AreNames, Denotes}
+use Rattle.term_spec.specs.Passive as walk
 use Rattle.walk_spec.specs.Unrolled.{UnrolledProgram, Carried}
 use Rattle.term_names.specs.declared.names.Names.{Names}
 use Rattle.term_names.specs.Views.{form_of, names_of}

@@ -2,10 +2,10 @@
 use Rattle.std.proofs.Common.{◌≡◌, inl, inr, ◌⊎◌, ℕ, zero, suc, ◌<◌, Bool, true, false, List, length, refl, ap, ◌∙◌, arith}
 use Rattle.std.specs.Prelude.{slice_index, slice_get}
 use Rattle.word_spec.specs.Words.{bit}
-use Rattle.walk_spec.specs.Terms.{TermReading, InRange, TermNode, AreTyped, HasWidth, term_word}
+use Rattle.term_spec.specs.Terms.{TermReading, InRange, TermNode, AreTyped, HasWidth, term_word}
 use Rattle.walk_spec.specs.Unrolled.{Carried}
 use Rattle.walk_spec.specs.Sweep.{Held}
-use Rattle.walk_spec.specs.Passive.{AreNames, Denotes, Tells}
+use Rattle.term_spec.specs.Passive.{AreNames, Denotes, Tells}
 use Rattle.term_dag.specs.Made.{Grew}
 use Rattle.term_dag.specs.declared.nodes.Term.{Term}
 use Rattle.term_dag.proofs.Ranges.{word_fits}

@@ -9,7 +9,7 @@ use Rattle.bilv_spec.specs.Notes.{Expr, value, is_true, NoteLine, Assert}
 use Rattle.machine_spec.specs.Endings.{Event, AssertFails, EnsureFails}
 use Rattle.bilv_spec.specs.Run.{false_line}
 use Rattle.bilv_spec.specs.Points.{line_price, bytes_loaded}
-use Rattle.walk_spec.specs.Terms.{TermReading, TermNode, HasWidth}
+use Rattle.term_spec.specs.Terms.{TermReading, TermNode, HasWidth}
 use Rattle.walk_spec.specs.Unrolled.{UnrolledProgram, WalkFails, Aim, ToEvent, PointExit, state_at, walk_to, out_by, carried_of}
 use Rattle.walk_spec.specs.Sweep.{Held, held_if, hand}
 use Rattle.walk_spec.specs.Prices.{line_size}

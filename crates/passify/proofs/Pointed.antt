@@ -14,13 +14,13 @@ use Rattle.bil_ast.specs.Views.{statements}
 use Rattle.bil_terms.specs.declared.left.Left.{Left}
 use Rattle.bil_terms.specs.declared.stored.Stored.{Stored}
 use Rattle.bil_terms.specs.Left.{IsLeft}
-use Rattle.walk_spec.specs.Terms.{TermReading, InRange, TermNode, ChoiceNode, ConstantNode, HasWidth, term_word}
+use Rattle.term_spec.specs.Terms.{TermReading, InRange, TermNode, ChoiceNode, ConstantNode, HasWidth, term_word}
 use Rattle.walk_spec.specs.Unrolled.{UnrolledProgram, UnrolledPoint, Action, state_at, point_at, walk_from}
 use Rattle.walk_spec.specs.Unrolling.{CanBeTerms, IsRunnable, IsSized, IsWalkable}
 use Rattle.walk_spec.specs.Sweep.{Held, held_if, hand}
-use Rattle.walk_spec.specs.Passive.{Denotes, Tells}
+use Rattle.term_spec.specs.Passive.{Denotes, Tells}
 use Rattle.walk_spec.specs.Prices.{line_steps, variables_of}
-use Rattle.walk_spec.specs.WalkQuestions.{term_reading}
+use Rattle.term_spec.specs.WalkQuestions.{term_reading}
 use Rattle.notes_value.specs.NoteViews.{notes_of}
 use Rattle.term_dag.specs.declared.nodes.Term.{Term}
 use Rattle.term_dag.specs.Made.{Grew, IsInterned}

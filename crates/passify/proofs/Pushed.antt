@@ -4,10 +4,10 @@ use Rattle.std.specs.Prelude.{◌==◌, slice_get, ◌||◌, if◌then◌else◌
 use Rattle.std.proofs.Math.ListN.{set}
 use Rattle.std.proofs.lemmas.Option.{slice_get_read}
 use Rattle.std.proofs.lemmas.Bool.Decides.{nat_tests}
-use Rattle.walk_spec.specs.Terms.{TermReading, TermNode, HasWidth, term_word}
+use Rattle.term_spec.specs.Terms.{TermReading, TermNode, HasWidth, term_word}
 use Rattle.walk_spec.specs.Unrolled.{Carried, Walk, WalkIsAt, WalkFails, WalkTurns}
 use Rattle.walk_spec.specs.Sweep.{Held, held_if, hand, carried_if}
-use Rattle.walk_spec.specs.Passive.{AreNames, Denotes, Tells}
+use Rattle.term_spec.specs.Passive.{AreNames, Denotes, Tells}
 use Rattle.term_dag.specs.Made.{Grew}
 use Rattle.term_dag.specs.declared.nodes.Term.{Term}
 use Rattle.term_dag.proofs.Growth.{grew_on, grew_width, grew_none, inputs_on}

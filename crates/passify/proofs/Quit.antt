@@ -3,10 +3,10 @@ use Rattle.std.proofs.Common.{◌≡◌, ℕ, ◌+◌, Bool, true, false, List, 
 use Rattle.std.specs.Prelude.{sum_by}
 use Rattle.bilv_spec.specs.Notes.{NoteLine}
 use Rattle.machine_spec.specs.Endings.{CodeWritten, AlignFails}
-use Rattle.walk_spec.specs.Terms.{TermReading, InRange, TermNode, HasWidth, term_word}
+use Rattle.term_spec.specs.Terms.{TermReading, InRange, TermNode, HasWidth, term_word}
 use Rattle.walk_spec.specs.Unrolled.{PointExit, Raising, WritingKept, Unaligned, WalkFails, carried_of, state_at, first_aim, is_raised, is_unaligned, raised_event}
 use Rattle.walk_spec.specs.Sweep.{Held, held_if}
-use Rattle.walk_spec.specs.Passive.{Tells}
+use Rattle.term_spec.specs.Passive.{Tells}
 use Rattle.term_dag.specs.Made.{Grew}
 use Rattle.term_dag.proofs.Growth.{grew_more}
 use Rattle.question_form.specs.declared.unrolled.Edge.{Edge}

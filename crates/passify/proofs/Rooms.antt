@@ -4,7 +4,7 @@ use Rattle.std.specs.List.{flat_map}
 use Rattle.std.proofs.lemmas.List.Sums.{sum_by-cons, sum_by-append}
 use Rattle.bilv_spec.specs.Notes.{Expr}
 use Rattle.bilv_spec.specs.Points.{line_price, bytes_loaded}
-use Rattle.walk_spec.specs.Terms.{TermNode, term_gates, term_loads, term_stores, term_joins}
+use Rattle.term_spec.specs.Terms.{TermNode, term_gates, term_loads, term_stores, term_joins}
 use Rattle.walk_spec.specs.Unrolled.{UnrolledPoint, UnrolledProgram, is_edge}
 use Rattle.walk_spec.specs.Prices.{lines_at, line_size, line_steps, action_size, variables_of, edges_of, stores_of, point_price, point_loads, point_bound}
 use Rattle.term_dag.specs.Made.{Grew}

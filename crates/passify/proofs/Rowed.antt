@@ -13,10 +13,10 @@ use Rattle.bil_ast.specs.Views.{statements}
 use Rattle.bil_terms.specs.declared.left.Left.{Left}
 use Rattle.bil_terms.specs.Runs.{Jumps, IsStoredBy}
 use Rattle.bil_terms.specs.Left.{AreLeft, IsLeft}
-use Rattle.walk_spec.specs.Terms.{TermReading, InRange, TermNode, ChoiceNode, HasWidth, term_word}
+use Rattle.term_spec.specs.Terms.{TermReading, InRange, TermNode, ChoiceNode, HasWidth, term_word}
 use Rattle.walk_spec.specs.Unrolled.{UnrolledPoint, Raising, WritingKept, Unaligned, Executes, Carried, carried_of, state_at, carried_on, next_address, Leaving, GoesOn, leaving_by, left_by, stored_by, stored_at, goes_on, begins, is_raised, is_unaligned}
 use Rattle.walk_spec.specs.Sweep.{Held}
-use Rattle.walk_spec.specs.Passive.{Denotes, Tells}
+use Rattle.term_spec.specs.Passive.{Denotes, Tells}
 use Rattle.term_dag.specs.Made.{Grew, InputsFrom}
 use Rattle.term_dag.proofs.Growth.{grew_on, inputs_on, inputs_more}
 use Rattle.question_form.specs.declared.unrolled.Edge.{Edge}

@@ -15,7 +15,7 @@ use Rattle.machine_spec.specs.BilCounts.{list_names_only}
 use Rattle.word_spec.specs.RowFiles.{from_to}
 use Rattle.bil_ast.specs.declared.statements.Stmt.{Stmt}
 use Rattle.bil_terms.specs.Left.{CanBeLed}
-use Rattle.walk_spec.specs.Terms.{TermReading, InRange, TermNode, HasWidth, term_word}
+use Rattle.term_spec.specs.Terms.{TermReading, InRange, TermNode, HasWidth, term_word}
 use Rattle.walk_spec.specs.Unrolled.{UnrolledProgram, UnrolledPoint, PointExit, Along, FalseAssert, Raising, WritingKept, Unaligned, Executes, LeadsLater, goes_out, point_at, is_register_of}
 use Rattle.walk_spec.specs.Unrolled as walk
 use Rattle.walk_spec.specs.Unrolling.{IsReadable, IsWalkable, IsRunnable, CanBeTerms, is_variable_of}

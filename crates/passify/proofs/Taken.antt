@@ -4,7 +4,7 @@ use Rattle.std.specs.Prelude.{◌&&◌, ◌==◌, if◌then◌else◌, map, Opti
 use Rattle.std.proofs.lemmas.List.Sums.{sum_by-cons}
 use Rattle.bilv_spec.specs.Notes.{NoteLine}
 use Rattle.word_spec.specs.State.{State}
-use Rattle.walk_spec.specs.Terms.{TermReading, TermNode, HasWidth, term_word}
+use Rattle.term_spec.specs.Terms.{TermReading, TermNode, HasWidth, term_word}
 use Rattle.walk_spec.specs.Unrolled.{UnrolledProgram, PointExit, Aim, goes_along, edge_address, walk_to, carried_of, state_at}
 use Rattle.term_names.specs.Chosen.{at_entry}
 use Rattle.walk_spec.specs.Sweep.{Held, held_if, hand}

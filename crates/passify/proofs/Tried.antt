@@ -8,10 +8,10 @@ use Rattle.word_spec.specs.Memory.{endian}
 use Rattle.bilv_spec.specs.Notes.{Expr, value, is_true}
 use Rattle.bilv_spec.specs.Points.{line_price, bytes_loaded, products, operations, value_count}
 use Rattle.walk_spec.specs.Prices.{line_size}
-use Rattle.walk_spec.specs.Terms.{TermReading, InRange, TermNode, AreTyped, AreTypedFrom, HasWidth, term_word}
+use Rattle.term_spec.specs.Terms.{TermReading, InRange, TermNode, AreTyped, AreTypedFrom, HasWidth, term_word}
 use Rattle.walk_spec.specs.Unrolled.{Walk, state_at}
 use Rattle.walk_spec.specs.Sweep.{Held, held_if, hand}
-use Rattle.walk_spec.specs.Passive.{Tells, Denotes}
+use Rattle.term_spec.specs.Passive.{Tells, Denotes}
 use Rattle.term_dag.specs.Made.{Grew, InputsFrom, Extends}
 use Rattle.term_dag.specs.declared.nodes.Term.{Term}
 use Rattle.term_names.specs.declared.names.Names.{Names}

@@ -8,11 +8,11 @@ use Rattle.std.proofs.lemmas.List.{get_or-map, length-map, length-set}
 use Rattle.std.proofs.lemmas.Option.{slice_get_read}
 use Rattle.word_spec.specs.RowFiles.{from_to}
 use Rattle.bilv_spec.specs.Questions.{Reading}
-use Rattle.walk_spec.specs.Terms.{TermReading, TermNode, ChoiceNode, HasWidth, term_word}
+use Rattle.term_spec.specs.Terms.{TermReading, TermNode, ChoiceNode, HasWidth, term_word}
 use Rattle.walk_spec.specs.Unrolled.{Carried, UnrolledProgram, WalkIsAt, walk_on, point_at, no_point}
 use Rattle.walk_spec.specs.Sweep.{Held, held, held_if, hand, sweep_on}
-use Rattle.walk_spec.specs.Passive.{AreNames, UnderAll, Denotes, Tells}
-use Rattle.walk_spec.specs.WalkQuestions.{IsNamedBelow, AreNamedBelow, term_reading}
+use Rattle.term_spec.specs.Passive.{AreNames, UnderAll, Denotes, Tells}
+use Rattle.term_spec.specs.WalkQuestions.{IsNamedBelow, AreNamedBelow, term_reading}
 use Rattle.term_dag.specs.declared.nodes.Term.{Term}
 use Rattle.term_dag.specs.Nodes.{IsInput}
 use Rattle.term_dag.specs.Made.{Grew, InputsFrom}

@@ -9,10 +9,10 @@ use Rattle.word_spec.specs.Words.{add, sub, bit}
 use Rattle.word_spec.specs.Memory.{span}
 use Rattle.machine_spec.specs.Bil.{Minus, LessEqual}
 use Rattle.bilv_spec.proofs.PointTests.{any_is, not_any}
-use Rattle.walk_spec.specs.Terms.{TermReading, TermNode, BinaryNode, ConstantNode, AreTyped, HasWidth, term_word}
+use Rattle.term_spec.specs.Terms.{TermReading, TermNode, BinaryNode, ConstantNode, AreTyped, HasWidth, term_word}
 use Rattle.walk_spec.specs.Unrolled.{AddressRun, is_in}
 use Rattle.walk_spec.specs.Unrolling.{AreRuns}
-use Rattle.walk_spec.specs.Passive.{Tells}
+use Rattle.term_spec.specs.Passive.{Tells}
 use Rattle.term_dag.specs.Made.{Grew, IsMade, IsInterned}
 use Rattle.term_dag.proofs.Ranges.{word_fits}
 use Rattle.term_dag.proofs.Growth.{grew_on, grew_more, grew_none, grew_width, inputs_on, inputs_none, made_grew, made_inputs, interned_grew, interned_inputs}

@@ -1,7 +1,7 @@
 -- What it means that a step makes a term.
 use Rattle.std.specs.Prelude.{ℕ, Bool, ◌&&◌, not, List}
-use Rattle.walk_spec.specs.Terms.{TermReading, InRange, TermNode, AreTyped, HasWidth}
-use Rattle.walk_spec.specs.Passive.{Tells}
+use Rattle.term_spec.specs.Terms.{TermReading, InRange, TermNode, AreTyped, HasWidth}
+use Rattle.term_spec.specs.Passive.{Tells}
 use Rattle.term_dag.specs.Made.{Grew, InputsFrom}
 
 -- The list of nodes has grown by at most so many gates and nodes, without an input, and has a term of a width; what is claimed of it holds under every reading

@@ -2,10 +2,10 @@
 use Rattle.std.specs.Prelude.{ℕ, ◌≡◌, Bool, true, false, not, List}
 use Rattle.word_spec.specs.Memory.{endian}
 use Rattle.bilv_spec.specs.Notes.{Expr, value, is_true}
-use Rattle.walk_spec.specs.Terms.{TermReading, InRange, TermNode, term_word}
+use Rattle.term_spec.specs.Terms.{TermReading, InRange, TermNode, term_word}
 use Rattle.walk_spec.specs.Unrolled.{Walk, Carried, state_at}
 use Rattle.walk_spec.specs.Sweep.{Held, held_if, hand}
-use Rattle.walk_spec.specs.Passive.{Tells}
+use Rattle.term_spec.specs.Passive.{Tells}
 use Rattle.term_names.specs.Chosen.{at_entry}
 use Rattle.note_terms.specs.declared.Now.{Now}
 use Rattle.note_terms.specs.Lines.{IsStateOf}

@@ -1,12 +1,12 @@
 -- What it means that a point is handled.
 use Rattle.std.specs.Prelude.{ℕ, suc, ◌≡◌, ◌+◌, ◌*◌, ◌↔◌, true, List, length, sum_by, Contains}
 use Rattle.bilv_spec.specs.Points.{line_price, bytes_loaded}
-use Rattle.walk_spec.specs.Terms.{TermReading, InRange, TermNode, ChoiceNode, AreTyped, HasWidth}
+use Rattle.term_spec.specs.Terms.{TermReading, InRange, TermNode, ChoiceNode, AreTyped, HasWidth}
 use Rattle.walk_spec.specs.Unrolled.{UnrolledPoint, UnrolledProgram, AddressRun, is_in, is_edge, point_at}
 use Rattle.walk_spec.specs.Sweep.{Held, sweep_on}
-use Rattle.walk_spec.specs.Passive.{UnderAll, Denotes, Tells}
+use Rattle.term_spec.specs.Passive.{UnderAll, Denotes, Tells}
 use Rattle.walk_spec.specs.Prices.{lines_at, line_steps, action_size, variables_of}
-use Rattle.walk_spec.specs.WalkQuestions.{term_reading}
+use Rattle.term_spec.specs.WalkQuestions.{term_reading}
 use Rattle.std.specs.List.{list_any}
 use Rattle.term_dag.specs.Made.{Grew, InputsFrom}
 use Rattle.bil_terms.specs.declared.stored.Stored.{Stored}

@@ -1,10 +1,10 @@
 -- What is carried to a place, as terms.
 use Rattle.std.specs.Prelude.{ℕ, ◌≡◌, ◌<◌, true, false, List, Option, Some, None, length}
-use Rattle.walk_spec.specs.Terms.{TermNode}
+use Rattle.term_spec.specs.Terms.{TermNode}
 use Rattle.walk_spec.specs.Unrolled.{UnrolledProgram}
 use Rattle.walk_spec.specs.Sweep.{held}
-use Rattle.walk_spec.specs.Passive.{AreNames, Denotes, UnderAll}
-use Rattle.walk_spec.specs.WalkQuestions.{term_reading}
+use Rattle.term_spec.specs.Passive.{AreNames, Denotes, UnderAll}
+use Rattle.term_spec.specs.WalkQuestions.{term_reading}
 use Rattle.term_names.specs.declared.names.Names.{Names}
 use Rattle.term_names.specs.Views.{AreFor, names_of}
 

@@ -1,6 +1,6 @@
 -- What a passive program is of.
 use Rattle.std.specs.Prelude.{◌≡◌}
-use Rattle.walk_spec.specs.Passive.{IsPassive}
+use Rattle.term_spec.specs.Passive.{IsPassive}
 use Rattle.question_form.specs.Views.{unrolled_of}
 use Rattle.question_form.specs.Questions.{passive_of}
 use Rattle.question_form.specs.declared.unrolled.Unrolled.{Unrolled}

@@ -4,10 +4,10 @@ use Rattle.std.specs.List.{list_any}
 use Rattle.bilv_spec.specs.Notes.{Expr, NoteLine}
 use Rattle.bilv_spec.specs.Points.{line_price, bytes_loaded}
 use Rattle.word_spec.specs.State.{State}
-use Rattle.walk_spec.specs.Terms.{TermReading, InRange, TermNode, ChoiceNode, HasWidth, term_word}
+use Rattle.term_spec.specs.Terms.{TermReading, InRange, TermNode, ChoiceNode, HasWidth, term_word}
 use Rattle.walk_spec.specs.Unrolled.{UnrolledProgram, UnrolledPoint, Raising, WritingKept, Unaligned, Carried, state_at, carried_on, next_address, leaving, stored_at, is_in, is_raised, is_unaligned}
 use Rattle.walk_spec.specs.Sweep.{Held}
-use Rattle.walk_spec.specs.Passive.{Denotes, Tells}
+use Rattle.term_spec.specs.Passive.{Denotes, Tells}
 use Rattle.walk_spec.specs.Prices.{line_steps}
 use Rattle.notes_value.specs.NoteViews.{notes_of}
 use Rattle.question_form.specs.declared.unrolled.Code.{Code}

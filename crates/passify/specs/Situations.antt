@@ -5,7 +5,7 @@ use Rattle.word_spec.specs.State.{State}
 use Rattle.bilv_spec.specs.Notes.{Expr, Number, Assert, NoteLine}
 use Rattle.bilv_spec.specs.Run.{false_line}
 use Rattle.bilv_spec.specs.Points.{line_price, bytes_loaded}
-use Rattle.walk_spec.specs.Terms.{TermReading, InRange, TermNode, HasWidth, term_word}
+use Rattle.term_spec.specs.Terms.{TermReading, InRange, TermNode, HasWidth, term_word}
 use Rattle.walk_spec.specs.Unrolled.{UnrolledProgram, Leaving, PointExit, carried_of, state_at, first_aim, walk_to, out_by}
 use Rattle.walk_spec.specs.Sweep.{Held, hand}
 use Rattle.walk_spec.specs.Prices.{line_steps}

@@ -1,10 +1,10 @@
 -- What is kept of the points while they are handled in their order.
 use Rattle.std.specs.Prelude.{ℕ, ◌≡◌, ◌≤◌, ◌<◌, ◌+◌, ◌*◌, Bool, true, false, List, Option, Some, length, slice_get, slice_index_or}
 use Rattle.machine_spec.specs.Endings.{Event}
-use Rattle.walk_spec.specs.Terms.{TermReading, InRange, TermNode, AreTyped, HasWidth, term_word}
+use Rattle.term_spec.specs.Terms.{TermReading, InRange, TermNode, AreTyped, HasWidth, term_word}
 use Rattle.walk_spec.specs.Unrolled.{Carried, Walk, WalkIsAt, WalkFails}
 use Rattle.walk_spec.specs.Sweep.{Held, held_if, hand}
-use Rattle.walk_spec.specs.Passive.{AreNames, Denotes, Tells}
+use Rattle.term_spec.specs.Passive.{AreNames, Denotes, Tells}
 use Rattle.term_dag.specs.declared.nodes.Term.{Term}
 use Rattle.term_dag.specs.Made.{Grew, InputsFrom}
 use Rattle.term_names.specs.declared.names.Names.{Names}

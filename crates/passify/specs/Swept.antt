@@ -1,11 +1,11 @@
 -- What is kept after some points were handled.
 use Rattle.std.specs.Prelude.{ℕ, ◌≤◌, ◌+◌, ◌*◌, List, ◌∷◌, length, drop, sum_by, replicate}
-use Rattle.walk_spec.specs.Terms.{TermNode, term_gates, term_loads, term_stores, term_joins}
+use Rattle.term_spec.specs.Terms.{TermNode, term_gates, term_loads, term_stores, term_joins}
 use Rattle.walk_spec.specs.Unrolled.{UnrolledPoint, UnrolledProgram}
 use Rattle.walk_spec.specs.Sweep.{held}
-use Rattle.walk_spec.specs.Passive.{UnderAll}
+use Rattle.term_spec.specs.Passive.{UnderAll}
 use Rattle.walk_spec.specs.Prices.{variables_of}
-use Rattle.walk_spec.specs.WalkQuestions.{AreNamedBelow, term_reading}
+use Rattle.term_spec.specs.WalkQuestions.{AreNamedBelow, term_reading}
 use Rattle.question_form.specs.declared.unrolled.Unrolled.{Unrolled}
 use Rattle.question_form.specs.Views.{unrolled_of}
 use Rattle.passify.specs.declared.sweep.Sweep.{Sweep}

@@ -1,8 +1,8 @@
 //! Bits as terms.
 
 ghost use Rattle.std.specs.Prelude.{◌&&◌, ◌||◌, not, IfOk};
-ghost use Rattle.walk_spec.specs.Terms.{HasWidth};
-ghost use Rattle.walk_spec.specs.Passive.{Tells};
+ghost use Rattle.term_spec.specs.Terms.{HasWidth};
+ghost use Rattle.term_spec.specs.Passive.{Tells};
 ghost use Rattle.passify.specs.Bits.{Makes, TellsBy, TellsByBoth};
 
 use std::alloc::AllocError;

@@ -1,8 +1,8 @@
 //! Edges as exits that are tried.
 
 ghost use Rattle.std.specs.Prelude.{◌≡◌, ◌≤◌, ◌<◌, ◌+◌, ◌*◌, ◌==◌, IfOk, [], length, map, slice_index_or};
-ghost use Rattle.walk_spec.specs.Terms.{AreTyped, HasWidth, term_word};
-ghost use Rattle.walk_spec.specs.Passive.{Tells};
+ghost use Rattle.term_spec.specs.Terms.{AreTyped, HasWidth, term_word};
+ghost use Rattle.term_spec.specs.Passive.{Tells};
 ghost use Rattle.walk_spec.specs.Unrolling.{IsReadable};
 ghost use Rattle.notes_value.specs.NoteViews.{note_line_of};
 ghost use Rattle.term_names.specs.Views.{form_of};

@@ -1,9 +1,9 @@
 //! The exits of a point, tried one by one.
 
 ghost use Rattle.std.specs.Prelude.{◌≡◌, ◌≤◌, ◌<◌, ◌+◌, ◌*◌, not, IfOk, [], length, map, slice_index_or};
-ghost use Rattle.walk_spec.specs.Terms.{HasWidth};
+ghost use Rattle.term_spec.specs.Terms.{HasWidth};
 ghost use Rattle.bilv_spec.specs.Points.{line_price, bytes_loaded};
-ghost use Rattle.walk_spec.specs.Passive.{Tells};
+ghost use Rattle.term_spec.specs.Passive.{Tells};
 ghost use Rattle.walk_spec.specs.Prices.{line_size};
 ghost use Rattle.walk_spec.specs.Unrolling.{IsReadable};
 ghost use Rattle.notes_value.specs.Views.{expr_of};

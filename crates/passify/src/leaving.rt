@@ -3,8 +3,8 @@
 ghost use Rattle.std.specs.Prelude.{◌≡◌, ℕ, ◌+◌, ◌%◌, ◌^◌, ◌<◌, ◌==◌, not, Bool, if◌then◌else◌, IfOk};
 ghost use Rattle.word_spec.specs.Words.{add};
 ghost use Rattle.machine_spec.specs.Machine.{is_place};
-ghost use Rattle.walk_spec.specs.Terms.{HasWidth, term_word};
-ghost use Rattle.walk_spec.specs.Passive.{Tells};
+ghost use Rattle.term_spec.specs.Terms.{HasWidth, term_word};
+ghost use Rattle.term_spec.specs.Passive.{Tells};
 ghost use Rattle.passify.specs.Bits.{Makes};
 
 use std::alloc::AllocError;

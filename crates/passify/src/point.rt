@@ -1,7 +1,7 @@
 //! Points, handled in their order.
 
 ghost use Rattle.std.specs.Prelude.{ℕ, ◌≡◌, ◌<◌, ◌-◌, true, IfOk, length, map, slice_index, slice_index_or};
-ghost use Rattle.walk_spec.specs.Terms.{HasWidth};
+ghost use Rattle.term_spec.specs.Terms.{HasWidth};
 ghost use Rattle.walk_spec.specs.Unrolled.{is_register_of};
 ghost use Rattle.walk_spec.specs.Unrolling.{IsReadable, IsWalkable};
 ghost use Rattle.notes_value.specs.NoteViews.{note_line_of};

@@ -1,7 +1,7 @@
 //! What is kept of the points while they are handled in their order.
 
 ghost use Rattle.std.specs.Prelude.{◌≡◌, ◌≤◌, ◌<◌, ◌+◌, ◌*◌, IfOk, IfSome, length};
-ghost use Rattle.walk_spec.specs.Terms.{HasWidth};
+ghost use Rattle.term_spec.specs.Terms.{HasWidth};
 ghost use Rattle.walk_spec.specs.Unrolled.{WalkTurns};
 ghost use Rattle.passify.specs.Sweeps.{AreTermsOf, AreWell, ComesTo, Hands, HasEvent, IsJoined, Steps, term_at, bits_of, terms_of};
 

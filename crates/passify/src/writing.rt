@@ -3,10 +3,10 @@
 ghost use Rattle.std.specs.Prelude.{◌≤◌, ◌<◌, ◌+◌, ◌*◌, ◌^◌, ◌&&◌, ◌||◌, Bool, nat_le, IfOk, Contains, length, map};
 ghost use Rattle.std.specs.List.{list_any};
 ghost use Rattle.word_spec.specs.Memory.{span};
-ghost use Rattle.walk_spec.specs.Terms.{AreTyped, HasWidth, term_word};
+ghost use Rattle.term_spec.specs.Terms.{AreTyped, HasWidth, term_word};
 ghost use Rattle.walk_spec.specs.Unrolled.{is_in};
 ghost use Rattle.walk_spec.specs.Unrolling.{AreRuns};
-ghost use Rattle.walk_spec.specs.Passive.{Tells};
+ghost use Rattle.term_spec.specs.Passive.{Tells};
 ghost use Rattle.question_form.specs.Views.{kept_of};
 ghost use Rattle.bil_terms.specs.Gathered.{IsStore};
 ghost use Rattle.passify.specs.Bits.{Makes};

@@ -1,9 +1,9 @@
 -- Passive programs and questions as those of the definitions.
 use Rattle.std.specs.Prelude.{map}
 use Rattle.call_spec.specs.Calls as questions
-use Rattle.walk_spec.specs.Passive as walk
+use Rattle.term_spec.specs.Passive as walk
 use Rattle.walk_spec.specs.Unrolled.{UnrolledProgram}
-use Rattle.walk_spec.specs.WalkQuestions.{QuestionTerm}
+use Rattle.term_spec.specs.WalkQuestions.{QuestionTerm}
 use Rattle.question_form.specs.declared.questions.Passive.{Passive}
 use Rattle.question_form.specs.declared.questions.Question.{Question}
 use Rattle.question_form.specs.Views.{kind_of, unrolled_of}

@@ -4,7 +4,7 @@ use Rattle.std.specs.Prelude.{codes, slice_index}
 use Rattle.std.proofs.Math.Seq.{drop-cons}
 use Rattle.bilv_spec.specs.SmtLib.{Sexp}
 use Rattle.machine_spec.specs.StateText.{Layout}
-use Rattle.walk_spec.specs.Terms.{TermNode, node_at, width_of, MemoryNode}
+use Rattle.term_spec.specs.Terms.{TermNode, node_at, width_of, MemoryNode}
 use Rattle.walk_spec.specs.Unrolled.{ByteRun}
 use Rattle.smtlib_print.specs.Commands.{definition, sort_of, node_term, node_definitions, declaration, declarations, assertion, byte_assertions, has_byte}
 use Rattle.smtlib_print.specs.Written.{written, commands_text}

@@ -9,8 +9,8 @@ use Rattle.machine_spec.specs.StateText.{Layout}
 use Rattle.bilv_spec.specs.Scripts.{choice_name}
 use Rattle.bilv_spec.specs.SmtLib.{Sexp, Cons, SmtValue, WordValue, ArrayValue, atom_value, term_value, binds, is_of_sort, truth_of}
 use Rattle.machine_spec.proofs.Spelling.{same_number, same_text, decimal_back}
-use Rattle.walk_spec.specs.Terms as terms
-use Rattle.walk_spec.specs.Terms.{TermReading, InRange, TermValue, TermNode, word_value, value_at, node_value, values_from, width_of, node_at, HasWidth, AreTypedFrom, AreTyped}
+use Rattle.term_spec.specs.Terms as terms
+use Rattle.term_spec.specs.Terms.{TermReading, InRange, TermValue, TermNode, word_value, value_at, node_value, values_from, width_of, node_at, HasWidth, AreTypedFrom, AreTyped}
 use Rattle.term_dag.proofs.ListLaws.{keeps, keeps_node, last, longer, length_values, values_append, typed_push}
 use Rattle.term_dag.proofs.Ranges.{term_fits}
 use Rattle.term_dag.proofs.Shapes.{few_bits}

@@ -9,11 +9,11 @@ use Rattle.word_spec.specs.RowFiles.{from_to}
 use Rattle.bilv_spec.specs.Scripts.{choice_name, values_of}
 use Rattle.bilv_spec.specs.SmtLib.{WordValue}
 use Rattle.machine_spec.specs.StateText.{Layout}
-use Rattle.walk_spec.specs.Terms as terms
-use Rattle.walk_spec.specs.Terms.{TermNode}
+use Rattle.term_spec.specs.Terms as terms
+use Rattle.term_spec.specs.Terms.{TermNode}
 use Rattle.walk_spec.specs.Unrolled.{UnrolledProgram, UnrolledPoint, is_register_of, is_flag_of, point_at, no_point}
 use Rattle.walk_spec.specs.Unrolling.{IsLaidOut}
-use Rattle.walk_spec.specs.WalkQuestions.{term_reading, IsNamedBelow}
+use Rattle.term_spec.specs.WalkQuestions.{term_reading, IsNamedBelow}
 use Rattle.smtlib_print.specs.Commands.{drawn}
 use Rattle.smtlib_print.specs.Scripted.{AreNumbers}
 use Rattle.smtlib_print.proofs.Declared.{onto, onto_done, onto_new}

@@ -9,8 +9,8 @@ use Rattle.bilv_spec.specs.Scripts.{choice_name}
 use Rattle.machine_spec.specs.StateText.{Layout}
 use Rattle.bilv_spec.specs.SmtLib.{SmtValue, WordValue, ArrayValue, atom_value, term_value}
 use Rattle.machine_spec.proofs.Spelling.{same_number, decimal_back}
-use Rattle.walk_spec.specs.Terms as terms
-use Rattle.walk_spec.specs.Terms.{TermReading, InRange, TermValue, TermNode, RegisterNode, FlagNode, ChoiceNode, BaseNode, MemoryNode, ConstantNode, BinaryNode, NotNode, SelectNode, ExtractNode, ConcatNode, ExtendNode, LoadNode, StoreNode, JoinNode, word_value, bytes_value, value_at, node_value, values_from, width_of, node_at, HasWidth, IsTypedOver, AreTyped, select, extend}
+use Rattle.term_spec.specs.Terms as terms
+use Rattle.term_spec.specs.Terms.{TermReading, InRange, TermValue, TermNode, RegisterNode, FlagNode, ChoiceNode, BaseNode, MemoryNode, ConstantNode, BinaryNode, NotNode, SelectNode, ExtractNode, ConcatNode, ExtendNode, LoadNode, StoreNode, JoinNode, word_value, bytes_value, value_at, node_value, values_from, width_of, node_at, HasWidth, IsTypedOver, AreTyped, select, extend}
 use Rattle.term_dag.proofs.Ranges.{word_fits, result_is_width}
 use Rattle.term_dag.proofs.Shapes.{few_bits}
 use Rattle.smtlib_print.specs.Commands as commands

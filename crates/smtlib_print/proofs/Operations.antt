@@ -9,7 +9,7 @@ use Rattle.machine_spec.specs.Bil.{BinaryOp, Plus, Minus, Times, Divide, SignedD
 use Rattle.machine_spec.specs.BilTyping.{result_width}
 use Rattle.bilv_spec.specs.SmtLib.{SmtValue, WordValue, atom_value, term_value, smt_sdiv}
 use Rattle.machine_spec.proofs.Spelling.{same_number}
-use Rattle.walk_spec.specs.Terms.{operate}
+use Rattle.term_spec.specs.Terms.{operate}
 use Rattle.smtlib_print.specs.Commands.{term_name, operation, constant_text}
 
 bit_value : (c : Bool) → (if c then 1 else 0) ≡ words.bit c

@@ -7,11 +7,11 @@ use Rattle.bilv_spec.specs.Points.{Point}
 use Rattle.call_spec.specs.Calls.{Question}
 use Rattle.bilv_spec.specs.SmtLib.{Atom}
 use Rattle.machine_spec.specs.StateText as texts
-use Rattle.walk_spec.specs.Terms as terms
-use Rattle.walk_spec.specs.Terms.{TermNode, IsTypedOver, AreTypedFrom, AreTyped, node_at}
+use Rattle.term_spec.specs.Terms as terms
+use Rattle.term_spec.specs.Terms.{TermNode, IsTypedOver, AreTypedFrom, AreTyped, node_at}
 use Rattle.walk_spec.specs.Unrolled.{UnrolledProgram, ByteRun}
 use Rattle.walk_spec.specs.Unrolling.{IsLaidOut}
-use Rattle.walk_spec.specs.WalkQuestions.{IsNamedBelow, TellsQuestion}
+use Rattle.term_spec.specs.WalkQuestions.{IsNamedBelow, TellsQuestion}
 use Rattle.state_text.specs.declared.layout.Layout.{Layout}
 use Rattle.state_text.specs.Starts.{layout_of}
 use Rattle.state_text.proofs.Appends.{five}

@@ -17,9 +17,9 @@ use Rattle.machine_spec.specs.StateText.{Layout, value_names}
 use Rattle.bilv_spec.proofs.AskedBytes.{true_over}
 use Rattle.walk_spec.specs.Unrolled.{UnrolledPoint, UnrolledProgram, no_point, point_at}
 use Rattle.walk_spec.specs.Unrolling.{IsUnrolling, row_draws}
-use Rattle.walk_spec.specs.WalkQuestions.{IsTrueOfWalk, IsTrueOfWalkOver}
-use Rattle.walk_spec.proofs.Asked.{asked_is_right}
-use Rattle.walk_spec.proofs.EntrySame.{entry_is_same}
+use Rattle.term_spec.specs.WalkQuestions.{IsTrueOfWalk, IsTrueOfWalkOver}
+use Rattle.term_spec.proofs.Asked.{asked_is_right}
+use Rattle.term_spec.proofs.EntrySame.{entry_is_same}
 use Rattle.walk_laws.proofs.WalkQuestions.{walk_answers_over}
 use Rattle.smtlib_print.specs.Told.{AreInOrder, IsDrawn, IsSymbolOf, TellsScript}
 

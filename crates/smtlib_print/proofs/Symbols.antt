@@ -4,7 +4,7 @@ use Rattle.std.specs.Prelude.{codes}
 use Rattle.bilv_spec.specs.Scripts.{IsTermName}
 use Rattle.bilv_spec.specs.SmtLib.{Sexp, Atom, Nil, declared_symbols, defined_symbols}
 use Rattle.machine_spec.specs.StateText.{Layout}
-use Rattle.walk_spec.specs.Terms.{TermNode}
+use Rattle.term_spec.specs.Terms.{TermNode}
 use Rattle.walk_spec.specs.Unrolled.{ByteRun}
 use Rattle.smtlib_print.specs.Commands.{term, definition, declaration, declarations, all_declarations, node_definitions, assertion, byte_assertions, run_assertions, middle_commands, all_commands, is_one, word_sort, array_sort}
 use Rattle.smtlib_print.specs.Written.{one, two, before}

@@ -12,11 +12,11 @@ use Rattle.call_spec.specs.Calls.{Question}
 use Rattle.bilv_spec.specs.Scripts.{AreWholeLines, choice_name, is_plain_byte, values_of}
 use Rattle.bilv_spec.specs.SmtLib.{Sexp, Atom, Nil, commands_truth, truth_of, SmtValue}
 use Rattle.machine_spec.specs.StateText.{Layout}
-use Rattle.walk_spec.specs.Terms as terms
-use Rattle.walk_spec.specs.Terms.{TermNode, HasWidth}
+use Rattle.term_spec.specs.Terms as terms
+use Rattle.term_spec.specs.Terms.{TermNode, HasWidth}
 use Rattle.walk_spec.specs.Unrolled.{UnrolledProgram}
 use Rattle.walk_spec.specs.Unrolling.{IsLaidOut}
-use Rattle.walk_spec.specs.WalkQuestions.{TellsQuestion, term_reading}
+use Rattle.term_spec.specs.WalkQuestions.{TellsQuestion, term_reading}
 use Rattle.smtlib_print.specs.Commands.{drawn, word_sort, all_commands, all_declarations, middle_commands, held_runs, node_definitions, run_assertions}
 use Rattle.smtlib_print.specs.Written.{written, commands_text, before}
 use Rattle.smtlib_print.specs.Told.{AreInOrder, IsDrawn, IsSymbolOf, TellsScript}

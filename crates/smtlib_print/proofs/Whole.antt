@@ -8,10 +8,10 @@ use Rattle.bilv_spec.specs.Scripts.{values_of}
 use Rattle.machine_spec.specs.StateText.{Layout}
 use Rattle.bilv_spec.specs.SmtLib.{Sexp, Atom, Nil, SmtValue, TruthValue, WordValue, ArrayValue, atom_value, binds, truth_of}
 use Rattle.word_spec.specs.Texts.{number_text}
-use Rattle.walk_spec.specs.Terms as terms
-use Rattle.walk_spec.specs.Terms.{TermReading, InRange, TermNode, HasWidth, AreTyped}
+use Rattle.term_spec.specs.Terms as terms
+use Rattle.term_spec.specs.Terms.{TermReading, InRange, TermNode, HasWidth, AreTyped}
 use Rattle.walk_spec.specs.Unrolled.{ByteRun, UnrolledProgram, point_at}
-use Rattle.walk_spec.specs.WalkQuestions.{term_reading}
+use Rattle.term_spec.specs.WalkQuestions.{term_reading}
 use Rattle.smtlib_print.specs.Commands.{term_name, term, word_sort, array_sort, declaration, declarations, drawn, all_declarations, node_definitions, run_assertions, definition, assertion, is_one, held_runs, middle_commands, all_commands}
 use Rattle.smtlib_print.specs.Scripted.{AreNumbers, FitMemory}
 use Rattle.smtlib_print.specs.Written.{one, two, before}

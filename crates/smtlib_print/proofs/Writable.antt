@@ -10,8 +10,8 @@ use Rattle.bilv_spec.specs.Scripts.{choice_name}
 use Rattle.bilv_spec.specs.SmtLib.{Sexp}
 use Rattle.machine_spec.specs.StateText.{Layout}
 use Rattle.word_spec.specs.Texts.{hex_digit, hex_digits}
-use Rattle.walk_spec.specs.Terms as terms
-use Rattle.walk_spec.specs.Terms.{TermNode, HasWidth, IsTypedOver, AreTypedFrom, width_of}
+use Rattle.term_spec.specs.Terms as terms
+use Rattle.term_spec.specs.Terms.{TermNode, HasWidth, IsTypedOver, AreTypedFrom, width_of}
 use Rattle.walk_spec.specs.Unrolled.{ByteRun}
 use Rattle.term_dag.proofs.ListLaws.{last, longer, typed_push}
 use Rattle.term_dag.proofs.Shapes.{few_bits}

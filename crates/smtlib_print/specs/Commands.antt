@@ -6,7 +6,7 @@ use Rattle.word_spec.specs.Texts.{number_text, hex_digits}
 use Rattle.machine_spec.specs.StateText.{Layout}
 use Rattle.bilv_spec.specs.Scripts.{choice_name}
 use Rattle.bilv_spec.specs.SmtLib.{Sexp, Atom, Nil}
-use Rattle.walk_spec.specs.Terms.{TermNode, RegisterNode, FlagNode, ChoiceNode, BaseNode, MemoryNode, ConstantNode, BinaryNode, NotNode, SelectNode, ExtractNode, ConcatNode, ExtendNode, LoadNode, StoreNode, JoinNode, width_of}
+use Rattle.term_spec.specs.Terms.{TermNode, RegisterNode, FlagNode, ChoiceNode, BaseNode, MemoryNode, ConstantNode, BinaryNode, NotNode, SelectNode, ExtractNode, ConcatNode, ExtendNode, LoadNode, StoreNode, JoinNode, width_of}
 use Rattle.walk_spec.specs.Unrolled.{ByteRun}
 use Rattle.smtlib_print.specs.Written.{one, two, three, four, five}
 

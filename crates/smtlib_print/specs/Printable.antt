@@ -1,7 +1,7 @@
 -- What the printer of a node can rely on.
 use Rattle.std.specs.Prelude.{ℕ, ◌≤◌, ◌<◌, ◌+◌, length}
 use Rattle.machine_spec.specs.StateText.{Layout}
-use Rattle.walk_spec.specs.Terms.{TermNode, RegisterNode, FlagNode, ChoiceNode, BinaryNode, SelectNode, ExtendNode, LoadNode, StoreNode, JoinNode, IsWidth, IsBytes}
+use Rattle.term_spec.specs.Terms.{TermNode, RegisterNode, FlagNode, ChoiceNode, BinaryNode, SelectNode, ExtendNode, LoadNode, StoreNode, JoinNode, IsWidth, IsBytes}
 
 -- inputs have names among those of the layout and among so many numbers; widths and counts of bytes are in range
 abbrev pub IsPrintable : Layout → (count : ℕ) → TermNode → Type 0

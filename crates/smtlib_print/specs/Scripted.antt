@@ -3,10 +3,10 @@ use Rattle.std.specs.Prelude.{ℕ, ◌≡◌, ◌≢◌, ◌≤◌, ◌<◌, ◌
 use Rattle.bilv_spec.specs.Points.{Point}
 use Rattle.call_spec.specs.Calls.{Question}
 use Rattle.machine_spec.specs.StateText as texts
-use Rattle.walk_spec.specs.Terms.{TermNode}
+use Rattle.term_spec.specs.Terms.{TermNode}
 use Rattle.walk_spec.specs.Unrolled.{ByteRun, UnrolledProgram, point_at}
 use Rattle.walk_spec.specs.Unrolling.{IsLaidOut}
-use Rattle.walk_spec.specs.WalkQuestions.{TellsQuestion}
+use Rattle.term_spec.specs.WalkQuestions.{TellsQuestion}
 use Rattle.state_text.specs.declared.layout.Layout.{Layout}
 use Rattle.state_text.specs.Starts.{layout_of}
 use Rattle.smtlib_print.specs.Commands.{all_commands, drawn, middle_commands}

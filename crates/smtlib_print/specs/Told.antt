@@ -8,7 +8,7 @@ use Rattle.bilv_spec.specs.SmtLib.{Sexp, commands_truth, declared_symbols, defin
 use Rattle.machine_spec.specs.StateText.{Layout, value_names}
 use Rattle.word_spec.specs.Texts.{line}
 use Rattle.walk_spec.specs.Unrolled.{UnrolledProgram, point_at}
-use Rattle.walk_spec.specs.WalkQuestions.{DrawsAt, IsTrueOfWalk}
+use Rattle.term_spec.specs.WalkQuestions.{DrawsAt, IsTrueOfWalk}
 
 -- the points of the unrolled program in the order of scripts, in which a point's number is its place
 pub record AreInOrder (u : UnrolledProgram) (points : List Point) : Type 0 where

@@ -1,7 +1,7 @@
 //! The definitions of terms.
 ghost use Rattle.std.specs.Prelude.{◌≡◌, ◌<◌, ◌++◌, ℕ, codes, length, string_bytes, OnOk};
 ghost use Rattle.bilv_spec.specs.SmtLib.{Atom};
-ghost use Rattle.walk_spec.specs.Terms.{node_at, width_of};
+ghost use Rattle.term_spec.specs.Terms.{node_at, width_of};
 ghost use Rattle.state_text.specs.Starts.{layout_of};
 ghost use Rattle.term_dag.specs.Nodes.{node_of};
 ghost use Rattle.smtlib_print.specs.Commands as commands;

@@ -4,7 +4,7 @@ ghost use Rattle.machine_spec.specs.Bil.{SignedDivide};
 ghost use Rattle.bilv_spec.specs.Scripts.{choice_name};
 ghost use Rattle.bilv_spec.specs.SmtLib.{Atom};
 ghost use Rattle.word_spec.specs.Memory.{endian, place};
-ghost use Rattle.walk_spec.specs.Terms.{IsBytes, IsWidth};
+ghost use Rattle.term_spec.specs.Terms.{IsBytes, IsWidth};
 ghost use Rattle.state_text.specs.Starts.{layout_of};
 ghost use Rattle.term_dag.specs.Nodes.{node_of, op_of};
 ghost use Rattle.smtlib_print.specs.Commands as commands;

@@ -5,7 +5,7 @@ use Rattle.std.proofs.lemmas.Bool.Decides.{nat_tests}
 use Rattle.std.proofs.lemmas.Nat.{mod_below, pow_pos, xor_of_8}
 use Rattle.word_spec.specs.Words as words
 use Rattle.word_spec.specs.Memory.{endian, byte_of}
-use Rattle.walk_spec.specs.Terms.{TermReading, InRange, TermNode, MemoryNode, StoreNode, JoinNode, TermValue, node_value, values_from, term_value, term_word, node_at, AreTyped, select}
+use Rattle.term_spec.specs.Terms.{TermReading, InRange, TermNode, MemoryNode, StoreNode, JoinNode, TermValue, node_value, values_from, term_value, term_word, node_at, AreTyped, select}
 use Rattle.term_dag.specs.declared.nodes.Term.{Term}
 use Rattle.term_dag.specs.declared.nodes.Node.{Node}
 use Rattle.term_dag.specs.declared.nodes.Node.TheVariants as node

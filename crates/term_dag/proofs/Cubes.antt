@@ -4,7 +4,7 @@ use Rattle.std.specs.Int.Bits.{and_self}
 use Rattle.std.proofs.lemmas.Nat.{and_comm, or_comm}
 use Rattle.word_spec.specs.Words as words
 use Rattle.machine_spec.specs.Bil.{And, Or}
-use Rattle.walk_spec.specs.Terms.{TermReading, InRange, TermNode, BinaryNode, NotNode, term_word, node_at, HasWidth, AreTyped}
+use Rattle.term_spec.specs.Terms.{TermReading, InRange, TermNode, BinaryNode, NotNode, term_word, node_at, HasWidth, AreTyped}
 use Rattle.term_dag.specs.declared.conditions.Literal.{Literal}
 use Rattle.term_dag.specs.declared.conditions.Cube.{Cube}
 use Rattle.term_dag.specs.Made.{Separates}

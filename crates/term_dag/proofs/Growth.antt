@@ -1,6 +1,6 @@
 -- Lists of nodes that grow step by step.
 use Rattle.std.proofs.Common.{inl, inr, ◌≡◌, ℕ, ◌+◌, ◌<◌, ◌≤◌, List, [], length, refl, ap, sym, ◌∙◌, subst, arith, append-nil, append_assoc, ◌++◌, length-append}
-use Rattle.walk_spec.specs.Terms.{TermNode, width_of, HasWidth, own_gates, own_loads, own_stores, own_joins}
+use Rattle.term_spec.specs.Terms.{TermNode, width_of, HasWidth, own_gates, own_loads, own_stores, own_joins}
 use Rattle.term_dag.specs.Nodes.{IsInput}
 use Rattle.term_dag.specs.Made.{Extends, InputsFrom, IsMade, IsInterned, Grew}
 

@@ -7,7 +7,7 @@ use Rattle.std.proofs.Math.Nat.{mod-eq_of_lt, mod-one, div-one, div-eq_of_lt, di
 use mathlib.Core.Path.{fun_ext}
 use Rattle.word_spec.specs.Words as words
 use Rattle.word_spec.specs.Memory.{Memory, Endian, Little, Big, endian, little, big, number, load, store, byte_of}
-use Rattle.walk_spec.specs.Terms.{TermReading, InRange, TermNode, LoadNode, StoreNode, JoinNode, word_value, bytes_value, term_value, term_word, node_at, HasWidth, AreTyped}
+use Rattle.term_spec.specs.Terms.{TermReading, InRange, TermNode, LoadNode, StoreNode, JoinNode, word_value, bytes_value, term_value, term_word, node_at, HasWidth, AreTyped}
 use Rattle.term_dag.specs.declared.folds.Folded.{Folded}
 use Rattle.term_dag.specs.declared.folds.Folded.TheVariants.{Old, New, Onto, Unless}
 use Rattle.term_dag.specs.Nodes.{IsInput}

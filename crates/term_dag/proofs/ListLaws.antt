@@ -1,7 +1,7 @@
 -- Laws on lists of nodes, and on the values that their nodes have.
 use Rattle.std.proofs.Common.{◌≡◌, ℕ, zero, suc, ◌+◌, ◌*◌, ◌<◌, ◌≤◌, List, [], ◌∷◌, ◌++◌, length, get_or, refl, ap, sym, ◌∙◌, subst, arith, append_assoc, append-nil, length-append, take}
 use Rattle.std.proofs.lemmas.List.{get_or_append_left}
-use Rattle.walk_spec.specs.Terms.{TermReading, TermValue, TermNode, RegisterNode, FlagNode, ChoiceNode, BaseNode, MemoryNode, ConstantNode, BinaryNode, NotNode, SelectNode, ExtractNode, ConcatNode, ExtendNode, LoadNode, StoreNode, JoinNode, word_value, value_at, node_value, values_from, term_value, width_of, node_at, HasWidth, IsTypedOver, AreTypedFrom, AreTyped, operate}
+use Rattle.term_spec.specs.Terms.{TermReading, TermValue, TermNode, RegisterNode, FlagNode, ChoiceNode, BaseNode, MemoryNode, ConstantNode, BinaryNode, NotNode, SelectNode, ExtractNode, ConcatNode, ExtendNode, LoadNode, StoreNode, JoinNode, word_value, value_at, node_value, values_from, term_value, width_of, node_at, HasWidth, IsTypedOver, AreTypedFrom, AreTyped, operate}
 
 -- the values of a longer list begin with those of the shorter one
 pub values_append : (x : TermReading) (vs : List TermValue) (ns ms : List TermNode) → values_from x vs (ns ++ ms) ≡ values_from x (values_from x vs ns) ms

@@ -3,7 +3,7 @@ use Rattle.std.proofs.Common.{◌≡◌, ℕ, zero, suc, ◌+◌, ◌<◌, List,
 use Rattle.std.specs.Prelude.{slice_index}
 use Rattle.std.proofs.lemmas.Bool.{cases_lt}
 use Rattle.std.proofs.lemmas.List.{get_or_append_left}
-use Rattle.walk_spec.specs.Terms.{TermReading, TermNode, word_value, value_at, node_value, values_from, term_value, node_at, IsTypedOver, AreTypedFrom, AreTyped}
+use Rattle.term_spec.specs.Terms.{TermReading, TermNode, word_value, value_at, node_value, values_from, term_value, node_at, IsTypedOver, AreTypedFrom, AreTyped}
 use Rattle.term_dag.specs.declared.nodes.Node.{Node}
 use Rattle.term_dag.specs.Nodes.{node_of, nodes_of}
 use Rattle.term_dag.specs.Readings.{AreWords}

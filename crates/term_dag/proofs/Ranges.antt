@@ -10,7 +10,7 @@ use Rattle.machine_spec.specs.Bil.{Bits, BinaryOp, Plus, Minus, Times, Divide, S
 use Rattle.machine_spec.specs.BilTyping.{result_width}
 use Rattle.machine_spec.specs.BilMeaning.{Value, Word, Bytes, Stuck, IsOfType, on_words}
 use Rattle.machine_spec.proofs.WordBounds.{op_below, complement_below, sign_extend_below, load_below, stored_below}
-use Rattle.walk_spec.specs.Terms.{TermReading, InRange, TermValue, TermNode, RegisterNode, FlagNode, ChoiceNode, BaseNode, MemoryNode, ConstantNode, BinaryNode, NotNode, SelectNode, ExtractNode, ConcatNode, ExtendNode, LoadNode, StoreNode, JoinNode, word_value, bytes_value, value_at, node_value, values_from, term_value, term_word, width_of, node_at, HasWidth, IsTypedOver, AreTypedFrom, AreTyped, operate, select, extend, word_part}
+use Rattle.term_spec.specs.Terms.{TermReading, InRange, TermValue, TermNode, RegisterNode, FlagNode, ChoiceNode, BaseNode, MemoryNode, ConstantNode, BinaryNode, NotNode, SelectNode, ExtractNode, ConcatNode, ExtendNode, LoadNode, StoreNode, JoinNode, word_value, bytes_value, value_at, node_value, values_from, term_value, term_word, width_of, node_at, HasWidth, IsTypedOver, AreTypedFrom, AreTyped, operate, select, extend, word_part}
 use Rattle.term_dag.proofs.ListLaws.{longer, last, unfolds, typed_here}
 
 -- a value fits a width

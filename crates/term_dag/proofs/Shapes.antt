@@ -7,7 +7,7 @@ use Rattle.word_spec.specs.Words as words
 use Rattle.word_spec.specs.Words.{bit}
 use Rattle.machine_spec.specs.Bil.{BinaryOp, Plus}
 use Rattle.machine_spec.specs.BilTyping.{result_width}
-use Rattle.walk_spec.specs.Terms.{TermReading, TermNode, RegisterNode, FlagNode, ChoiceNode, BaseNode, MemoryNode, ConstantNode, BinaryNode, NotNode, SelectNode, ExtractNode, ConcatNode, ExtendNode, LoadNode, StoreNode, JoinNode, word_value, bytes_value, term_value, term_word, width_of, node_at, HasWidth, IsTypedOver, AreTypedFrom, AreTyped, operate, select, extend}
+use Rattle.term_spec.specs.Terms.{TermReading, TermNode, RegisterNode, FlagNode, ChoiceNode, BaseNode, MemoryNode, ConstantNode, BinaryNode, NotNode, SelectNode, ExtractNode, ConcatNode, ExtendNode, LoadNode, StoreNode, JoinNode, word_value, bytes_value, term_value, term_word, width_of, node_at, HasWidth, IsTypedOver, AreTypedFrom, AreTyped, operate, select, extend}
 use Rattle.term_dag.specs.declared.nodes.Term.{Term}
 use Rattle.term_dag.specs.Folds.{IsConstant, IsNodeWord, IsSum, IsSlice, IsSide, IsLiteral, AreNeighbours}
 use Rattle.term_dag.proofs.ListLaws.{by_node, typed_here, width_by_node, longer, last}

@@ -6,7 +6,7 @@ use Rattle.std.proofs.lemmas.List.Elements.{Contains-push_cases}
 use Rattle.std.proofs.lemmas.List.Sums.{sum_by-append}
 use Rattle.std.proofs.lemmas.Nat.{and_comm}
 use Rattle.machine_spec.specs.Bil.{And}
-use Rattle.walk_spec.specs.Terms.{TermReading, TermNode, ConstantNode, BinaryNode, NotNode, word_value, term_word, node_value, values_from, term_value, width_of, node_at, HasWidth, IsTypedOver, AreTyped, value_at, own_gates, own_loads, own_stores, own_joins}
+use Rattle.term_spec.specs.Terms.{TermReading, TermNode, ConstantNode, BinaryNode, NotNode, word_value, term_word, node_value, values_from, term_value, width_of, node_at, HasWidth, IsTypedOver, AreTyped, value_at, own_gates, own_loads, own_stores, own_joins}
 use Rattle.term_dag.specs.declared.nodes.Node.{Node}
 use Rattle.term_dag.specs.declared.nodes.Term.{Term}
 use Rattle.term_dag.specs.declared.nodes.Op.{Op}

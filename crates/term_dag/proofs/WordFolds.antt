@@ -7,7 +7,7 @@ use Rattle.word_spec.specs.Words as words
 use Rattle.machine_spec.specs.Bil.{BinaryOp, NotEqual, Equal}
 use Rattle.machine_spec.specs.BilTyping.{result_width}
 use Rattle.machine_spec.specs.BilCounts.{op_weight}
-use Rattle.walk_spec.specs.Terms.{TermReading, InRange, TermNode, ConstantNode, BinaryNode, word_value, term_word, width_of, node_at, HasWidth, IsWidth, IsTypedOver, AreTyped, operate, own_gates}
+use Rattle.term_spec.specs.Terms.{TermReading, InRange, TermNode, ConstantNode, BinaryNode, word_value, term_word, width_of, node_at, HasWidth, IsWidth, IsTypedOver, AreTyped, operate, own_gates}
 use Rattle.term_dag.specs.declared.nodes.Node.TheVariants as node
 use Rattle.term_dag.specs.declared.folds.Folded.{Folded}
 use Rattle.term_dag.specs.declared.folds.Folded.TheVariants.{Old, New, Onto, Unless}

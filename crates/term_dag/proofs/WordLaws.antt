@@ -9,7 +9,7 @@ use Rattle.std.proofs.lemmas.Nat.{pow_pos, and_mask, pow-add, field_of, shr-shr,
 use Rattle.std.proofs.Math.Pow.{mod-mod-pow}
 use Rattle.std.proofs.Math.Nat.{mod-eq_of_lt, add-mod_right, add-mul-mod_self_left, add-mod-mod, div-one, div-eq_of_lt, pow-le-pow_right}
 use Rattle.word_spec.specs.Words as words
-use Rattle.walk_spec.specs.Terms.{select, extend}
+use Rattle.term_spec.specs.Terms.{select, extend}
 use Rattle.term_dag.specs.Folds.{signed_bit}
 
 -- a number below twice the modulus, cut

@@ -5,7 +5,7 @@ use Rattle.word_spec.specs.Words.{bit}
 use Rattle.machine_spec.specs.Bil.{BinaryOp}
 use Rattle.machine_spec.specs.BilTyping.{result_width}
 use Rattle.machine_spec.specs.BilCounts.{op_weight}
-use Rattle.walk_spec.specs.Terms.{TermReading, InRange, TermValue, TermNode, word_value, operate, node_value, values_from, term_value, term_word, width_of, node_at, HasWidth, IsWidth, IsTypedOver, own_gates, own_loads, own_stores, own_joins}
+use Rattle.term_spec.specs.Terms.{TermReading, InRange, TermValue, TermNode, word_value, operate, node_value, values_from, term_value, term_word, width_of, node_at, HasWidth, IsWidth, IsTypedOver, own_gates, own_loads, own_stores, own_joins}
 use Rattle.term_dag.specs.declared.folds.Folded.{Folded}
 use Rattle.term_dag.specs.declared.folds.Folded.TheVariants.{Old, New, Onto, Unless}
 use Rattle.term_dag.specs.declared.conditions.Literal.{Literal}

@@ -1,6 +1,6 @@
 -- What it means that a list of nodes has got a node, that a term stands for one, and that a list has grown.
 use Rattle.std.specs.Prelude.{◌≡◌, ℕ, ◌+◌, ◌<◌, ◌≤◌, ◌⊎◌, List, [], ◌∷◌, ◌++◌, length, slice_get, Contains}
-use Rattle.walk_spec.specs.Terms.{TermReading, InRange, TermNode, BinaryNode, NotNode, SelectNode, ExtractNode, ConcatNode, ExtendNode, LoadNode, StoreNode, JoinNode, node_value, values_from, term_value, term_word, width_of, node_at, AreTyped, term_gates, term_loads, term_stores, term_joins, own_gates, own_loads, own_stores, own_joins}
+use Rattle.term_spec.specs.Terms.{TermReading, InRange, TermNode, BinaryNode, NotNode, SelectNode, ExtractNode, ConcatNode, ExtendNode, LoadNode, StoreNode, JoinNode, node_value, values_from, term_value, term_word, width_of, node_at, AreTyped, term_gates, term_loads, term_stores, term_joins, own_gates, own_loads, own_stores, own_joins}
 use Rattle.term_dag.specs.Nodes.{IsInput}
 
 -- the new list is the old one with more nodes behind

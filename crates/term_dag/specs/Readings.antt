@@ -1,7 +1,7 @@
 -- The reading that stands for data, and the words of terms under it.
 use Rattle.std.specs.Prelude.{◌≡◌, ℕ, ◌%◌, ◌^◌, ◌<◌, bit_xor, List, length, slice_index}
 use Rattle.word_spec.specs.Memory.{memory_of}
-use Rattle.walk_spec.specs.Terms.{TermReading, TermNode, term_word}
+use Rattle.term_spec.specs.Terms.{TermReading, TermNode, term_word}
 use Rattle.term_dag.specs.declared.values.Reading.{Reading}
 
 -- What the data stand for: what is not listed is 0, and of each number those bits count that a reading has. A byte of the memory is the listed one with the

@@ -4,7 +4,7 @@ ghost use Rattle.std.specs.Prelude.{◌≡◌, ℕ, ◌+◌, ◌<◌, ◌≤◌,
 ghost use Rattle.word_spec.specs.Words as words;
 ghost use Rattle.machine_spec.specs.BilTyping.{result_width};
 ghost use Rattle.machine_spec.specs.BilCounts.{op_weight};
-ghost use Rattle.walk_spec.specs.Terms.{TermReading, InRange, operate, term_word, HasWidth, AreTyped};
+ghost use Rattle.term_spec.specs.Terms.{TermReading, InRange, operate, term_word, HasWidth, AreTyped};
 ghost use Rattle.term_dag.specs.Nodes.{nodes_of, op_of};
 ghost use Rattle.term_dag.specs.Made.{Separates};
 ghost use Rattle.term_dag.specs.Folds.{AreBits, IsCube, IsLiteral, IsPair, IsWordFold, cube_value, literal_value};

@@ -1,7 +1,7 @@
 //! The list of nodes, each kept once.
 
 ghost use Rattle.std.specs.Prelude.{◌≡◌, ℕ, ◌<◌, ◌≤◌, ◌^◌, ◌⊎◌, List, [], length, IfNone, IfSome, IfOk, MatchResult};
-ghost use Rattle.walk_spec.specs.Terms.{ConstantNode, TermNode, TermReading, node_at, term_value, term_word, width_of, HasWidth, IsTypedOver, AreTyped};
+ghost use Rattle.term_spec.specs.Terms.{ConstantNode, TermNode, TermReading, node_at, term_value, term_word, width_of, HasWidth, IsTypedOver, AreTyped};
 ghost use Rattle.term_dag.specs.Nodes.{node_of, nodes_of};
 ghost use Rattle.term_dag.specs.Readings.{AreWords, reading_of};
 ghost use Rattle.term_dag.specs.Made.{AreDistinct, Grew, IsInterned, IsMade, Separates};

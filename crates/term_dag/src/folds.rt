@@ -2,7 +2,7 @@
 
 ghost use Rattle.std.specs.Prelude.{◌≡◌, ◌<◌, ◌≤◌, ◌^◌, ◌-◌, length, IfSome};
 ghost use Rattle.machine_spec.specs.BilTyping.{result_width};
-ghost use Rattle.walk_spec.specs.Terms.{operate, width_of, node_at, AreTyped, IsTypedOver};
+ghost use Rattle.term_spec.specs.Terms.{operate, width_of, node_at, AreTyped, IsTypedOver};
 ghost use Rattle.term_dag.specs.Nodes.{node_of, nodes_of, op_of};
 ghost use Rattle.term_dag.specs.Folds.{IsConstant, IsFold};
 

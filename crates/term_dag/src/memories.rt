@@ -2,7 +2,7 @@
 
 ghost use Rattle.std.specs.Prelude.{◌≡◌};
 ghost use Rattle.word_spec.specs.Memory.{endian};
-ghost use Rattle.walk_spec.specs.Terms.{LoadNode, HasWidth, IsBytes, AreTyped};
+ghost use Rattle.term_spec.specs.Terms.{LoadNode, HasWidth, IsBytes, AreTyped};
 ghost use Rattle.term_dag.specs.Nodes.{nodes_of};
 ghost use Rattle.term_dag.specs.Folds.{IsFold};
 

@@ -5,7 +5,7 @@ ghost use Rattle.word_spec.specs.Words as words;
 ghost use Rattle.machine_spec.specs.Bil as bil;
 ghost use Rattle.machine_spec.specs.BilTyping.{result_width};
 ghost use Rattle.machine_spec.specs.BilCounts.{op_weight};
-ghost use Rattle.walk_spec.specs.Terms.{TermNode, TermReading, operate, term_word, HasWidth, IsWidth, AreTyped};
+ghost use Rattle.term_spec.specs.Terms.{TermNode, TermReading, operate, term_word, HasWidth, IsWidth, AreTyped};
 ghost use Rattle.term_dag.specs.Nodes.{nodes_of, op_of};
 ghost use Rattle.term_dag.specs.Folds.{IsConstant, IsSum, IsSymmetric, IsWordFold};
 

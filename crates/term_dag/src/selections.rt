@@ -1,7 +1,7 @@
 //! Folds of selections.
 
 ghost use Rattle.std.specs.Prelude.{◌≡◌, ℕ, ◌<◌, length, if◌then◌else◌};
-ghost use Rattle.walk_spec.specs.Terms.{TermReading, InRange, term_value, term_word, JoinNode, select, HasWidth, IsWidth, AreTyped};
+ghost use Rattle.term_spec.specs.Terms.{TermReading, InRange, term_value, term_word, JoinNode, select, HasWidth, IsWidth, AreTyped};
 ghost use Rattle.term_dag.specs.Nodes.{nodes_of};
 ghost use Rattle.term_dag.specs.Folds.{IsFold, IsSide, IsWordFold};
 

@@ -2,7 +2,7 @@
 
 ghost use Rattle.std.specs.Prelude.{◌≡◌, ◌+◌, ◌-◌, ◌<◌, ◌≤◌, length, IfSome};
 ghost use Rattle.word_spec.specs.Words as words;
-ghost use Rattle.walk_spec.specs.Terms.{term_word, extend, node_at, width_of, HasWidth, IsWidth, AreTyped};
+ghost use Rattle.term_spec.specs.Terms.{term_word, extend, node_at, width_of, HasWidth, IsWidth, AreTyped};
 ghost use Rattle.term_dag.specs.Nodes.{node_of, nodes_of};
 ghost use Rattle.term_dag.specs.Folds.{AreNeighbours, IsNodeWord, IsSlice, IsWordFold};
 

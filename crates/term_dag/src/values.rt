@@ -4,7 +4,7 @@ ghost use Rattle.std.specs.Prelude.{◌≡◌, ◌%◌, ◌*◌, ◌+◌, ◌^�
 ghost use Rattle.word_spec.specs.Words.{add};
 ghost use Rattle.word_spec.specs.Memory as memory;
 ghost use Rattle.word_spec.specs.Memory.{endian};
-ghost use Rattle.walk_spec.specs.Terms.{TermNode, term_value, term_word, HasWidth, IsBytes, IsTypedOver, AreTyped};
+ghost use Rattle.term_spec.specs.Terms.{TermNode, term_value, term_word, HasWidth, IsBytes, IsTypedOver, AreTyped};
 ghost use Rattle.term_dag.specs.Nodes.{IsInput, node_of, nodes_of};
 ghost use Rattle.term_dag.specs.Folds.{value_over};
 ghost use Rattle.term_dag.specs.Readings.{AreWords, reading_of};

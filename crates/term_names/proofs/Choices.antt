@@ -3,7 +3,7 @@ use Rattle.std.proofs.Common.{◌≡◌, ℕ, ◌+◌, ◌*◌, ◌<◌, Bool, L
 use Rattle.std.specs.Prelude.{if◌then◌else◌, slice_index}
 use Rattle.std.proofs.lemmas.List.{get_or_append_left, length-map, length-take, map-append, map_more, get_or-map}
 use Rattle.std.proofs.lemmas.Bool.{cases_lt, eq-eqb, ne_eqb}
-use Rattle.walk_spec.specs.Terms.{TermReading, InRange, TermNode, SelectNode, HasWidth, term_word, select}
+use Rattle.term_spec.specs.Terms.{TermReading, InRange, TermNode, SelectNode, HasWidth, term_word, select}
 use Rattle.term_dag.specs.Made.{IsMade}
 use Rattle.term_dag.specs.declared.nodes.Term.{Term}
 use Rattle.term_dag.proofs.ListLaws.{last}

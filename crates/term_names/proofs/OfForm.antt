@@ -5,9 +5,9 @@ use Rattle.std.proofs.lemmas.Bool.{true≢false, lt-ltb}
 use Rattle.std.proofs.lemmas.Bool.Decides.{eqb_tells}
 use Rattle.bilv_spec.specs.Questions.{Reading, IsReading}
 use Rattle.word_spec.specs.RowFiles.{from_to}
-use Rattle.walk_spec.specs.Terms.{InRange, TermNode, RegisterNode, FlagNode, ChoiceNode, BaseNode, MemoryNode, ConstantNode, BinaryNode, NotNode, SelectNode, ExtractNode, ConcatNode, ExtendNode, LoadNode, StoreNode, JoinNode}
+use Rattle.term_spec.specs.Terms.{InRange, TermNode, RegisterNode, FlagNode, ChoiceNode, BaseNode, MemoryNode, ConstantNode, BinaryNode, NotNode, SelectNode, ExtractNode, ConcatNode, ExtendNode, LoadNode, StoreNode, JoinNode}
 use Rattle.walk_spec.specs.Unrolled.{UnrolledProgram}
-use Rattle.walk_spec.specs.WalkQuestions.{IsNamedBelow, term_reading}
+use Rattle.term_spec.specs.WalkQuestions.{IsNamedBelow, term_reading}
 use Rattle.term_dag.specs.Nodes.{IsInput}
 use Rattle.term_names.specs.Chosen.{IsOfForm}
 

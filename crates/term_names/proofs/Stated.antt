@@ -3,8 +3,8 @@ use Rattle.std.proofs.Common.{◌≡◌, ℕ, zero, suc, ◌+◌, ◌*◌, ◌<�
 use Rattle.std.specs.Prelude.{slice_index}
 use Rattle.std.proofs.lemmas.List.{length-map}
 use Rattle.word_spec.specs.RowFiles.{from_to}
-use Rattle.walk_spec.specs.Terms.{TermReading, TermNode, MemoryNode, RegisterNode, FlagNode, ChoiceNode, BaseNode, TermValue, HasWidth, HasMemory, term_word}
-use Rattle.walk_spec.specs.Passive.{AreNames}
+use Rattle.term_spec.specs.Terms.{TermReading, TermNode, MemoryNode, RegisterNode, FlagNode, ChoiceNode, BaseNode, TermValue, HasWidth, HasMemory, term_word}
+use Rattle.term_spec.specs.Passive.{AreNames}
 use Rattle.term_dag.specs.Nodes.{IsInput}
 use Rattle.term_dag.specs.Made.{IsInterned}
 use Rattle.term_dag.specs.declared.nodes.Term.{Term}

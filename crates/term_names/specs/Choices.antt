@@ -1,6 +1,6 @@
 -- Rows of terms of one width, and the choice between two of them.
 use Rattle.std.specs.Prelude.{ℕ, ◌≡◌, ◌<◌, ◌+◌, ◌*◌, ◌==◌, if◌then◌else◌, List, [], ◌∷◌, length, map, slice_index}
-use Rattle.walk_spec.specs.Terms.{TermReading, InRange, TermNode, HasWidth, term_word}
+use Rattle.term_spec.specs.Terms.{TermReading, InRange, TermNode, HasWidth, term_word}
 use Rattle.term_dag.specs.Made.{Grew, InputsFrom}
 use Rattle.term_dag.specs.declared.nodes.Term.{Term}
 

@@ -1,8 +1,8 @@
 -- The terms of the entry state, and of one of two states.
 use Rattle.std.specs.Prelude.{ℕ, ◌≡◌, ◌≤◌, ◌<◌, ◌+◌, ◌*◌, List, length, slice_index}
-use Rattle.walk_spec.specs.Terms.{TermReading, InRange, TermNode, RegisterNode, FlagNode, HasMemory, term_value, term_word}
+use Rattle.term_spec.specs.Terms.{TermReading, InRange, TermNode, RegisterNode, FlagNode, HasMemory, term_value, term_word}
 use Rattle.walk_spec.specs.Unrolled.{Carried}
-use Rattle.walk_spec.specs.Passive.{AreNames, Denotes}
+use Rattle.term_spec.specs.Passive.{AreNames, Denotes}
 use Rattle.term_dag.specs.Made.{Grew, InputsFrom}
 use Rattle.term_names.specs.Views.{form_of, names_of}
 use Rattle.term_names.specs.Choices.{AreWide, differs, differing}

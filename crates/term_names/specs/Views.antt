@@ -2,7 +2,7 @@
 use Rattle.std.specs.Prelude.{◌≡◌, false, [], length, map}
 use Rattle.word_spec.specs.Memory.{Little}
 use Rattle.word_spec.specs.RowFiles.{from_to}
-use Rattle.walk_spec.specs.Passive as walk
+use Rattle.term_spec.specs.Passive as walk
 use Rattle.walk_spec.specs.Unrolled.{UnrolledProgram}
 use Rattle.term_names.specs.declared.names.Names.{Names}
 

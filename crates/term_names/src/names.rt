@@ -1,8 +1,8 @@
 //! Terms for registers, flags and the memory.
 
 ghost use Rattle.std.specs.Prelude.{◌≡◌, ◌≤◌, ◌+◌, IfOk, length};
-ghost use Rattle.walk_spec.specs.Terms.{HasMemory, HasWidth};
-ghost use Rattle.walk_spec.specs.Passive.{AreNames};
+ghost use Rattle.term_spec.specs.Terms.{HasMemory, HasWidth};
+ghost use Rattle.term_spec.specs.Passive.{AreNames};
 ghost use Rattle.term_names.specs.Views.{form_of, names_of};
 ghost use Rattle.term_names.specs.Choices.{places};
 ghost use Rattle.term_names.specs.Chosen.{AreEntryFlags, AreEntryNames, AreEntryRegisters, AreSelected, HaveSameForm, HaveSameTerms, IsSelectedMemory};

@@ -1,7 +1,7 @@
 //! Choices between words.
 
 ghost use Rattle.std.specs.Prelude.{◌≡◌, IfOk, length};
-ghost use Rattle.walk_spec.specs.Terms.{HasWidth, IsWidth};
+ghost use Rattle.term_spec.specs.Terms.{HasWidth, IsWidth};
 ghost use Rattle.term_names.specs.Choices.{AreChosen, AreWide, IsChosen, places};
 
 use std::alloc::{AllocError, Global};

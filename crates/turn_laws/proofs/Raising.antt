@@ -17,8 +17,8 @@ use Rattle.call_spec.specs.Calls.{Question, EntryQuestion, FailQuestion, TurnQue
 use Rattle.walk_spec.specs.Unrolled.{UnrolledProgram}
 use Rattle.walk_spec.specs.Unrolling.{IsUnrolling}
 use Rattle.walk_spec.specs.Prices.{unrolled_price}
-use Rattle.walk_spec.specs.Cells.{Cells}
-use Rattle.walk_spec.specs.ClauseForm.{first_byte, input_list}
+use Rattle.term_spec.specs.Cells.{Cells}
+use Rattle.term_spec.specs.ClauseForm.{first_byte, input_list}
 use Rattle.walk_spec.proofs.PriceLaw.{price_is_price}
 use Rattle.walk_laws.specs.Layers.{IsFitting}
 use Rattle.walk_laws.proofs.InputPlaces.{all_long}

@@ -8,7 +8,7 @@ use Rattle.bilv_spec.specs.Evidence.{Refutes}
 use Rattle.call_spec.specs.Calls.{Question, EntryQuestion, FailQuestion, TurnQuestion}
 use Rattle.walk_spec.specs.Unrolled.{UnrolledProgram}
 use Rattle.walk_spec.specs.Unrolling.{IsUnrolling}
-use Rattle.walk_spec.specs.ClauseForm.{first_byte}
+use Rattle.term_spec.specs.ClauseForm.{first_byte}
 use Rattle.walk_laws.specs.Layers.{IsFitting}
 
 -- the points within a bound are points within a greater one

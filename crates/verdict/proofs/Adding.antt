@@ -4,7 +4,7 @@ use Rattle.std.specs.Prelude.{length, Contains, slice_index}
 use Rattle.std.proofs.lemmas.List.Elements.{Contains-get_or, at_from_Contains}
 use Rattle.call_spec.specs.Calls.{Question as Asked}
 use Rattle.walk_spec.specs.Unrolled.{UnrolledProgram}
-use Rattle.walk_spec.specs.WalkQuestions.{is_asked}
+use Rattle.term_spec.specs.WalkQuestions.{is_asked}
 use Rattle.question_form.specs.Views.{kind_of, unrolled_of}
 use Rattle.question_form.specs.Questions.{program_of_question, question_of}
 use Rattle.call_form.specs.declared.kind.Kind.{Kind}

@@ -16,10 +16,10 @@ use Rattle.call_spec.specs.Calls.{Question}
 use Rattle.bilv_spec.specs.Answers.{start_in}
 use Rattle.bilv_spec.specs.Evidence.{Spends}
 use Rattle.walk_spec.specs.Unrolled.{UnrolledProgram, byte_of_runs}
-use Rattle.walk_spec.specs.WalkQuestions.{QuestionTerm, TellsQuestion, is_asked}
-use Rattle.walk_spec.specs.Cells.{Cells, TellsCells}
-use Rattle.walk_spec.specs.ClauseForm.{TellsClauses, IsBroken, IsStartOf, reading}
-use Rattle.walk_spec.proofs.Asked.{asked_is_right}
+use Rattle.term_spec.specs.WalkQuestions.{QuestionTerm, TellsQuestion, is_asked}
+use Rattle.term_spec.specs.Cells.{Cells, TellsCells}
+use Rattle.term_spec.specs.ClauseForm.{TellsClauses, IsBroken, IsStartOf, reading}
+use Rattle.term_spec.proofs.Asked.{asked_is_right}
 use Rattle.walk_laws.specs.Layers.{IsLayered}
 use Rattle.walk_laws.proofs.CellValues.{word_fits}
 use Rattle.walk_laws.proofs.InputsWithin.{reading_in_range}

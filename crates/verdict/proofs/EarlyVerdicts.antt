@@ -12,8 +12,8 @@ use Rattle.bilv_spec.specs.Evidence.{Refutes}
 use Rattle.call_spec.specs.Calls.{EntryQuestion, FailQuestion, TurnQuestion, Question}
 use Rattle.machine_spec.specs.StateText.{Layout}
 use Rattle.walk_spec.specs.Unrolled.{UnrolledProgram}
-use Rattle.walk_spec.specs.WalkQuestions.{is_asked}
-use Rattle.walk_spec.specs.ClauseForm.{first_byte}
+use Rattle.term_spec.specs.WalkQuestions.{is_asked}
+use Rattle.term_spec.specs.ClauseForm.{first_byte}
 use Rattle.turn_laws.specs.Raised.{over_variables}
 use Rattle.turn_laws.proofs.Alike.{fails_rise}
 use Rattle.turn_laws.proofs.Raising.{both_rise, rises}

@@ -22,7 +22,7 @@ use Rattle.walk_spec.specs.Unrolling.{IsUnrolling, IsReadable, AreReadableBy, Is
 use Rattle.walk_spec.specs.Prices.{unrolled_price}
 use Rattle.walk_spec.proofs.PriceLaw.{price_is_price}
 use Rattle.walk_spec.proofs.Walkable.{unrolling_is_walkable}
-use Rattle.walk_spec.specs.Passive.{IsPassive}
+use Rattle.term_spec.specs.Passive.{IsPassive}
 use Rattle.question_form.specs.Views.{points_of, unrolled_of}
 use Rattle.known_bytes.specs.Runs.{AreRuns}
 use Rattle.question_form.specs.Questions.{passive_of}

@@ -13,9 +13,9 @@ use Rattle.sat_core.specs.Answers.{IsAnswer}
 use Rattle.sat_core.specs.declared.answer.Answer.{Answer}
 use Rattle.sat_core.specs.declared.answer.Answer.TheVariants as search
 use Rattle.state_text.specs.Starts.{written_of}
-use Rattle.walk_spec.specs.WalkQuestions.{TellsQuestion, is_asked}
-use Rattle.walk_spec.specs.Cells.{TellsCells}
-use Rattle.walk_spec.specs.ClauseForm.{TellsClauses, IsBroken, reading}
+use Rattle.term_spec.specs.WalkQuestions.{TellsQuestion, is_asked}
+use Rattle.term_spec.specs.Cells.{TellsCells}
+use Rattle.term_spec.specs.ClauseForm.{TellsClauses, IsBroken, reading}
 use Rattle.walk_laws.proofs.InputsWithin.{reading_in_range}
 use Rattle.question_form.specs.Questions.{program_of_question, question_of, term_of}
 use Rattle.question_form.specs.declared.questions.Question.{Question}

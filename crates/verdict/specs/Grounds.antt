@@ -14,7 +14,7 @@ use Rattle.bilv_spec.specs.Answers.{start_in}
 use Rattle.bilv_spec.specs.Evidence.{Refutes, Spends}
 use Rattle.walk_spec.specs.Unrolled.{UnrolledProgram}
 use Rattle.walk_spec.specs.Unrolling.{IsUnrolling, IsLaidOut}
-use Rattle.walk_spec.specs.WalkQuestions.{is_asked}
+use Rattle.term_spec.specs.WalkQuestions.{is_asked}
 use Rattle.walk_laws.specs.Layers.{IsFitting}
 use Rattle.call_form.specs.declared.kind.Kind.{Kind}
 use Rattle.question_form.specs.declared.questions.Passive.{Passive}

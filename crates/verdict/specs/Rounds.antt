@@ -1,10 +1,10 @@
 -- What a round of a question comes to.
 use Rattle.std.specs.Prelude.{ℕ, ◌≡◌, ◌<◌, ◌+◌, ◌^◌, ◌⊎◌, Bool, List, Some, length, map, slice_index, Contains}
-use Rattle.walk_spec.specs.Passive.{IsPassive}
+use Rattle.term_spec.specs.Passive.{IsPassive}
 use Rattle.walk_spec.specs.Unrolled.{UnrolledProgram, byte_of_runs}
 use Rattle.walk_spec.specs.Unrolling.{IsWalkable}
 use Rattle.clause_spec.specs.Clauses.{valuation}
-use Rattle.walk_spec.specs.ClauseForm.{IsStartOf}
+use Rattle.term_spec.specs.ClauseForm.{IsStartOf}
 use Rattle.state_text.specs.Starts.{written_of}
 use Rattle.bit_blast.specs.Broken.{AreBroken}
 use Rattle.mem_cells.specs.Views.{cells_of, program_of_cells}

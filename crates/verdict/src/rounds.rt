@@ -1,11 +1,11 @@
 //! One round of a question: its clauses over some bytes of the file, and what the search says of them.
 ghost use Rattle.std.specs.Prelude.{◌≤◌, IfOk};
 ghost use Rattle.clause_spec.specs.Clauses.{valuation};
-ghost use Rattle.walk_spec.specs.Cells.{AreFormed};
-ghost use Rattle.walk_spec.specs.ClauseForm.{reading};
+ghost use Rattle.term_spec.specs.Cells.{AreFormed};
+ghost use Rattle.term_spec.specs.ClauseForm.{reading};
 ghost use Rattle.bit_blast.specs.ReadBytes.{AreOne};
 ghost use Rattle.mem_cells.specs.Views.{cells_of, program_of_cells};
-ghost use Rattle.walk_spec.specs.WalkQuestions.{TellsQuestion};
+ghost use Rattle.term_spec.specs.WalkQuestions.{TellsQuestion};
 ghost use Rattle.question_form.specs.Questions.{program_of_question, question_of, term_of};
 ghost use Rattle.verdict.specs.Rounds.{AreAdded, AreJudged, IsAskable, IsRound};
 

@@ -8,10 +8,10 @@ use Rattle.machine_spec.specs.BilTyping.{result_width}
 use Rattle.machine_spec.specs.BilMeaning.{on_words}
 use Rattle.machine_spec.proofs.BilSound.{word_of}
 use Rattle.machine_spec.proofs.WordBounds.{op_below, complement_below, sign_extend_below}
-use Rattle.walk_spec.specs.Terms.{TermReading, InRange, TermValue, TermNode, RegisterNode, FlagNode, ChoiceNode, BaseNode, MemoryNode, ConstantNode, BinaryNode, NotNode, SelectNode, ExtractNode, ConcatNode, ExtendNode, LoadNode, StoreNode, JoinNode, word_part, operate, select, word_value, value_at, node_at, node_value, values_from, term_word, width_of, HasWidth, IsTypedOver, AreTypedFrom}
+use Rattle.term_spec.specs.Terms.{TermReading, InRange, TermValue, TermNode, RegisterNode, FlagNode, ChoiceNode, BaseNode, MemoryNode, ConstantNode, BinaryNode, NotNode, SelectNode, ExtractNode, ConcatNode, ExtendNode, LoadNode, StoreNode, JoinNode, word_part, operate, select, word_value, value_at, node_at, node_value, values_from, term_word, width_of, HasWidth, IsTypedOver, AreTypedFrom}
 use Rattle.walk_spec.specs.Unrolled.{UnrolledProgram, is_register_of, is_flag_of}
-use Rattle.walk_spec.specs.WalkQuestions.{IsNamedBelow, DrawsAt}
-use Rattle.walk_spec.specs.Cells.{Cells, IsOfWords, AreFormed, read_address}
+use Rattle.term_spec.specs.WalkQuestions.{IsNamedBelow, DrawsAt}
+use Rattle.term_spec.specs.Cells.{Cells, IsOfWords, AreFormed, read_address}
 
 pub at_front : (vs ws : List TermValue) (t : ℕ) → t < length vs → value_at (vs ++ ws) t ≡ value_at vs t
 at_front [] ws t l = absurd (omega arith)

@@ -3,7 +3,7 @@ use Rattle.std.proofs.Common.{◌≡◌, refl, ap, sym, ◌∙◌, arith, ℕ, z
 use Rattle.std.specs.Prelude.{◌==◌}
 use Rattle.std.proofs.Math.Nat.{div-div-eq-div-mul, pow-succ'}
 use Rattle.word_spec.specs.Words.{bit, bit_at}
-use Rattle.walk_spec.specs.ClauseForm.{bits_from}
+use Rattle.term_spec.specs.ClauseForm.{bits_from}
 
 -- a higher bit is one of the half
 higher : (i a : ℕ) → bit_at (suc i) a ≡ bit_at i (a / 2)

@@ -14,9 +14,9 @@ use Rattle.bilv_spec.proofs.Pigeons.{truth, at_in}
 use Rattle.bilv_spec.proofs.PointTests.{same_point, same_point_is, same_point_self, not_any}
 use Rattle.walk_spec.specs.Unrolled.{UnrolledPoint, UnrolledProgram, no_point, point_at, is_register_of, is_flag_of}
 use Rattle.walk_spec.specs.Unrolling.{IsUnrolling}
-use Rattle.walk_spec.specs.WalkQuestions.{DrawsAt}
-use Rattle.walk_spec.specs.Cells.{Cells}
-use Rattle.walk_spec.specs.ClauseForm.{drawn_below, drawn_places, first_flag, first_choice, first_byte, inputs, input_list, place_in}
+use Rattle.term_spec.specs.WalkQuestions.{DrawsAt}
+use Rattle.term_spec.specs.Cells.{Cells}
+use Rattle.term_spec.specs.ClauseForm.{drawn_below, drawn_places, first_flag, first_choice, first_byte, inputs, input_list, place_in}
 use Rattle.walk_laws.proofs.InputOrder.{get_left, get_right, get_split, length_append, row_get, row_length, row_is, blocks, block_length, block_get, block_is, passed_below, passed_length, passed_get, passed_is}
 
 -- the numbers from one on

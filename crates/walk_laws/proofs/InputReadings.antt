@@ -8,12 +8,12 @@ use Rattle.word_spec.specs.Words.{bit_at}
 use Rattle.bilv_spec.specs.Run.{Program}
 use Rattle.bilv_spec.specs.Questions.{Reading, IsReading}
 use Rattle.bilv_spec.specs.Evidence.{Input, OfRegister, OfFlag, OfChoice, OfByte, Addresses, input_value, ComesFrom, AgreeOnFirst}
-use Rattle.walk_spec.specs.Terms.{TermReading, InRange}
+use Rattle.term_spec.specs.Terms.{TermReading, InRange}
 use Rattle.walk_spec.specs.Unrolled.{UnrolledProgram, point_at}
 use Rattle.walk_spec.specs.Unrolling.{IsUnrolling}
-use Rattle.walk_spec.specs.WalkQuestions.{term_reading}
-use Rattle.walk_spec.specs.Cells.{Cells, AreFormed, read_address}
-use Rattle.walk_spec.specs.ClauseForm.{drawn_below, first_flag, first_choice, first_byte, input_list, place_in, bits_from, reading}
+use Rattle.term_spec.specs.WalkQuestions.{term_reading}
+use Rattle.term_spec.specs.Cells.{Cells, AreFormed, read_address}
+use Rattle.term_spec.specs.ClauseForm.{drawn_below, first_flag, first_choice, first_byte, input_list, place_in, bits_from, reading}
 use Rattle.walk_laws.proofs.CellValues.{Agree, address_same, word_fits}
 use Rattle.walk_laws.proofs.BaseBytes.{filled, filled_in_range, gives}
 use Rattle.walk_laws.proofs.InputBits.{same_bits, one_bit_same, bit_is, flag_is}

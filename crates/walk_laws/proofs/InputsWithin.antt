@@ -3,12 +3,12 @@ use Rattle.std.proofs.Common.{◌≡◌, arith, ℕ, zero, suc, ◌+◌, ◌*◌
 use Rattle.std.specs.Prelude.{sum_by, slice_index_or, if◌then◌else◌, nat_lt}
 use Rattle.std.proofs.lemmas.List.Sums.{sum_by-cons}
 use Rattle.word_spec.specs.Words.{bit}
-use Rattle.walk_spec.specs.Terms.{InRange}
+use Rattle.term_spec.specs.Terms.{InRange}
 use Rattle.walk_spec.specs.Unrolled.{Action, Executes, UnrolledPoint, UnrolledProgram, no_point, point_at, is_register_of, is_flag_of}
 use Rattle.walk_spec.specs.Unrolling.{CanBeTerms}
 use Rattle.walk_spec.specs.Prices.{loads_of, term_price, unrolled_price}
-use Rattle.walk_spec.specs.Cells.{Cells}
-use Rattle.walk_spec.specs.ClauseForm.{bits_from, drawn_below, first_flag, first_choice, first_byte, place_in, inputs, reading}
+use Rattle.term_spec.specs.Cells.{Cells}
+use Rattle.term_spec.specs.ClauseForm.{bits_from, drawn_below, first_flag, first_choice, first_byte, place_in, inputs, reading}
 use Rattle.walk_laws.specs.Layers.{IsFitting}
 
 bit_small : (b : Bool) → bit b ≤ 1

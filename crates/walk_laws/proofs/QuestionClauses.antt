@@ -15,15 +15,15 @@ use Rattle.bilv_spec.specs.Questions.{Reading, IsReading, IsTrueOver}
 use Rattle.call_spec.specs.Calls.{Question}
 use Rattle.bilv_spec.specs.Evidence.{Input, OfRegister, OfFlag, OfChoice, OfByte, RowDraws, IsInput, is_of_byte, AreInputs, ComesFrom, AgreesOn, AgreeOnFirst, AreOfQuestion, loads_among}
 use Rattle.bilv_spec.proofs.Pigeons.{at_in}
-use Rattle.walk_spec.specs.Terms.{TermReading, with_mem, term_word, term_gates}
+use Rattle.term_spec.specs.Terms.{TermReading, with_mem, term_word, term_gates}
 use Rattle.walk_spec.specs.Unrolled.{UnrolledPoint, UnrolledProgram, no_point, point_at}
 use Rattle.walk_spec.specs.Unrolling.{IsUnrolling, row_draws}
 use Rattle.walk_spec.specs.Prices.{unrolled_price, loads_of, lines_of}
-use Rattle.walk_spec.specs.WalkQuestions.{QuestionTerm, HasAsked, IsTrueOfWalkOver, term_reading}
-use Rattle.walk_spec.specs.Cells.{Cells, IsAllowed, Agreement, AskedByte}
-use Rattle.walk_spec.specs.ClauseForm.{inputs, input_list, reading, MakesTrue, TellsClauses, drawn_places}
+use Rattle.term_spec.specs.WalkQuestions.{QuestionTerm, HasAsked, IsTrueOfWalkOver, term_reading}
+use Rattle.term_spec.specs.Cells.{Cells, IsAllowed, Agreement, AskedByte}
+use Rattle.term_spec.specs.ClauseForm.{inputs, input_list, reading, MakesTrue, TellsClauses, drawn_places}
 use Rattle.walk_spec.proofs.PriceLaw.{price_is_price, load_sum, line_list}
-use Rattle.walk_spec.proofs.PriceSums.{clauses_within}
+use Rattle.term_spec.proofs.PriceSums.{clauses_within}
 use Rattle.walk_laws.specs.Layers.{IsLayered, ClausesOfQuestion}
 use Rattle.walk_laws.proofs.CellValues.{Agree, agree_back, node_same, node_in, same_term, word_same}
 use Rattle.walk_laws.proofs.BaseBytes.{gives, agree_all}

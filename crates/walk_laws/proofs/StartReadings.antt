@@ -24,14 +24,14 @@ use Rattle.bilv_spec.specs.QuestionLaws.{Follows}
 use Rattle.bilv_spec.specs.Answers.{start_in, known_byte}
 use Rattle.bilv_spec.proofs.Pigeons.{truth}
 use Rattle.bilv_spec.proofs.ReadingRuns.{Numbered, numbered}
-use Rattle.walk_spec.specs.Terms.{TermReading, InRange, with_mem, term_word}
+use Rattle.term_spec.specs.Terms.{TermReading, InRange, with_mem, term_word}
 use Rattle.walk_spec.specs.Unrolled.{Carried, UnrolledProgram, Walk, WalkIsAt, WalkExits, WalkFails, WalkTurns, byte_of_runs, point_at, walk}
 use Rattle.walk_spec.specs.Unrolling.{IsUnrolling, IsLaidOut}
-use Rattle.walk_spec.specs.WalkQuestions.{QuestionTerm, HasAsked, term_reading}
-use Rattle.walk_spec.specs.Cells.{Cells, AreFormed, Gives, IsAllowed}
-use Rattle.walk_spec.specs.WalkLaws.{AsksKnown, AsksLiterals}
-use Rattle.walk_spec.specs.ClauseForm.{TellsClauses, IsBroken, IsStartOf, IsReadingOf, reading, start_memory, first_flag, bits_from, place_in}
-use Rattle.walk_spec.proofs.EntrySame.{entry_is_same, entry_over}
+use Rattle.term_spec.specs.WalkQuestions.{QuestionTerm, HasAsked, term_reading}
+use Rattle.term_spec.specs.Cells.{Cells, AreFormed, Gives, IsAllowed}
+use Rattle.term_spec.specs.TermLaws.{AsksKnown, AsksLiterals}
+use Rattle.term_spec.specs.ClauseForm.{TellsClauses, IsBroken, IsStartOf, IsReadingOf, reading, start_memory, first_flag, bits_from, place_in}
+use Rattle.term_spec.proofs.EntrySame.{entry_is_same, entry_over}
 use Rattle.walk_laws.specs.Layers.{IsFitting, IsLayered, ValuesGiveStart, StartIsWritten, StartBreaksNone, BrokenIsNew}
 use Rattle.walk_laws.specs.RunOfWalk.{IsSame}
 use Rattle.walk_laws.proofs.CellValues.{Agree, word_same, word_fits}

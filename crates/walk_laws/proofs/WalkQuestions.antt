@@ -8,9 +8,9 @@ use Rattle.call_spec.specs.Calls.{Question, EntryQuestion, FailQuestion, TurnQue
 use Rattle.bilv_spec.specs.PointLaws.{HasLawfulRows}
 use Rattle.walk_spec.specs.Unrolled.{UnrolledProgram, Walk, WalkIsAt, WalkExits, WalkFails, WalkTurns, walk}
 use Rattle.walk_spec.specs.Unrolling.{IsUnrolling}
-use Rattle.walk_spec.specs.WalkQuestions.{WalkEndsBy}
-use Rattle.walk_spec.specs.WalkLaws.{AsksLiterals}
-use Rattle.walk_spec.proofs.EntrySame.{entry_over}
+use Rattle.term_spec.specs.WalkQuestions.{WalkEndsBy}
+use Rattle.term_spec.specs.TermLaws.{AsksLiterals}
+use Rattle.term_spec.proofs.EntrySame.{entry_over}
 use Rattle.walk_laws.specs.RunOfWalk.{IsSame, WalkAnswersOver}
 use Rattle.walk_laws.proofs.WalkRuns.{walk_is_run}
 

@@ -18,7 +18,7 @@ use Rattle.bilv_spec.specs.Questions.{Reading, by_file, point_of, read_run, read
 use Rattle.bilv_spec.specs.PointLaws.{HasLawfulRows, IsInGraph}
 use Rattle.walk_spec.specs.Unrolled.{Carried, state_at, Aim, OnTo, Outward, OverLast, ToEvent, PointExit, Always, Raising, WritingKept, Unaligned, UnrolledPoint, UnrolledProgram, no_point, is_in, point_at, Leaving, GoesOn, RaisesOne, IsStuck, leaving, stored_at, first_aim, number_event, carried_on, next_address, Walk, WalkIsAt, WalkExits, WalkFails, WalkTurns, out_by, walk_to, walk_from, walk_on, walk}
 use Rattle.walk_spec.specs.Unrolling.{IsCarriedOf, jumps, LeavesAs, HoldsLiteral, DoesRow, IsEdge, AreEdgesOf, DoesPlace, assert_exits, stop_event, IsPlace, IsUnrolling}
-use Rattle.walk_spec.specs.WalkLaws.{AsksLiterals}
+use Rattle.term_spec.specs.TermLaws.{AsksLiterals}
 use Rattle.walk_laws.specs.RunOfWalk.{IsSame, WalkIsRun}
 use Rattle.bilv_spec.proofs.Pigeons.{truth, at_in}
 use Rattle.bilv_spec.proofs.PointSteps.{same_number, and_both, in_map, steps_along}

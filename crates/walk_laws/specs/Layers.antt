@@ -13,10 +13,10 @@ use Rattle.bilv_spec.specs.Answers.{start_in}
 use Rattle.bilv_spec.specs.Evidence.{AreOfQuestion}
 use Rattle.walk_spec.specs.Unrolled.{UnrolledProgram, byte_of_runs}
 use Rattle.walk_spec.specs.Unrolling.{IsUnrolling, IsLaidOut}
-use Rattle.walk_spec.specs.WalkQuestions.{QuestionTerm, TellsQuestion}
-use Rattle.walk_spec.specs.Cells.{Cells, AreFormed, TellsCells}
-use Rattle.walk_spec.specs.ClauseForm.{TellsClauses, IsBroken, IsStartOf, IsReadingOf, reading}
-use Rattle.walk_spec.specs.WalkLaws.{AsksKnown, AsksLiterals}
+use Rattle.term_spec.specs.WalkQuestions.{QuestionTerm, TellsQuestion}
+use Rattle.term_spec.specs.Cells.{Cells, AreFormed, TellsCells}
+use Rattle.term_spec.specs.ClauseForm.{TellsClauses, IsBroken, IsStartOf, IsReadingOf, reading}
+use Rattle.term_spec.specs.TermLaws.{AsksKnown, AsksLiterals}
 
 -- What is had of a machine and of a file: at most 31 registers and 4 flags, so that the inputs are within the price; an entry that a state can be at, without
 -- which every term would tell a question; and known bytes that a memory can hold, without which no start would have those that are not asked.

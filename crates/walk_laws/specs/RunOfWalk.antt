@@ -8,8 +8,8 @@ use Rattle.call_spec.specs.Calls.{Question}
 use Rattle.bilv_spec.specs.PointLaws.{HasLawfulRows}
 use Rattle.walk_spec.specs.Unrolled.{UnrolledProgram, Walk, WalkIsAt, WalkExits, WalkFails, WalkTurns, point_at, walk}
 use Rattle.walk_spec.specs.Unrolling.{IsCarriedOf, IsUnrolling}
-use Rattle.walk_spec.specs.WalkQuestions.{IsTrueOfWalkOver}
-use Rattle.walk_spec.specs.WalkLaws.{AsksKnown, AsksLiterals}
+use Rattle.term_spec.specs.WalkQuestions.{IsTrueOfWalkOver}
+use Rattle.term_spec.specs.TermLaws.{AsksKnown, AsksLiterals}
 
 -- the walk is where the run is, with the same registers and memory and the flags that are read later, or it has ended as the run has
 abbrev pub IsSame : Program → UnrolledProgram → Walk → Run → Type 0

@@ -1,16 +1,6 @@
-pub mod Examples
-pub mod TermSamples
 pub mod WalkExample
 pub mod WalkOrder
-pub mod CellSample
-pub mod Refused
 pub mod RefusedPoints
-pub mod ClauseSamples
 pub mod SweepWalk
-pub mod PriceSums
 pub mod PriceLaw
-pub mod PassiveSample
-pub mod StartSample
-pub mod EntrySame
 pub mod Walkable
-pub mod Asked

@@ -1,10 +1,5 @@
-pub mod Terms
 pub mod Unrolled
 pub mod Sweep
 pub mod Unrolling
 pub mod Prices
-pub mod WalkQuestions
-pub mod Cells
-pub mod ClauseForm
-pub mod Passive
 pub mod WalkLaws

@@ -13,12 +13,12 @@ use Rattle.bilv_spec.specs.Notes as notes
 use Rattle.bilv_spec.specs.Notes.{Expr, value, is_true}
 use Rattle.word_spec.specs.RowFiles.{from_to}
 use Rattle.bilv_spec.specs.Points.{line_price, bytes_loaded}
-use Rattle.walk_spec.specs.Terms.{TermReading, TermNode, ConstantNode, BinaryNode, ExtractNode, HasWidth, term_value, term_word, width_of}
+use Rattle.term_spec.specs.Terms.{TermReading, TermNode, ConstantNode, BinaryNode, ExtractNode, HasWidth, term_value, term_word, width_of}
 use Rattle.walk_spec.specs.Unrolled.{UnrolledProgram, state_at}
 use Rattle.walk_spec.specs.Unrolling.{IsReadable}
 use Rattle.walk_spec.specs.Prices.{entry_lines, line_size, line_steps, variables_of}
-use Rattle.walk_spec.specs.WalkQuestions.{IsNamedBelow}
-use Rattle.walk_spec.specs.Passive.{AreNames}
+use Rattle.term_spec.specs.WalkQuestions.{IsNamedBelow}
+use Rattle.term_spec.specs.Passive.{AreNames}
 use Rattle.term_dag.specs.declared.nodes.Term.{Term}
 use Rattle.term_dag.specs.Made.{IsMade, IsInterned}
 use Rattle.term_dag.proofs.LowBits.{low_bits, few_low_bits}

@@ -4,7 +4,7 @@ use Rattle.std.proofs.lemmas.Bool.{false≢true}
 use Rattle.std.proofs.lemmas.List.{length_push}
 use Rattle.std.proofs.lemmas.List.Elements.{Contains-get_or}
 use Rattle.std.proofs.lemmas.List.Sums.{sum_by-take-le}
-use Rattle.walk_spec.specs.Terms.{TermReading, TermNode, RegisterNode, MemoryNode, AreTyped, HasWidth, word_value, node_value, term_value, values_from, width_of, node_at, own_gates, own_loads, own_stores, own_joins, term_gates, term_loads, term_stores, term_joins}
+use Rattle.term_spec.specs.Terms.{TermReading, TermNode, RegisterNode, MemoryNode, AreTyped, HasWidth, word_value, node_value, term_value, values_from, width_of, node_at, own_gates, own_loads, own_stores, own_joins, term_gates, term_loads, term_stores, term_joins}
 use Rattle.term_dag.specs.declared.nodes.Term.{Term}
 use Rattle.term_dag.specs.Made.{Grew, InputsFrom, IsMade, moved}
 use Rattle.term_dag.proofs.ListLaws.{unfolds}

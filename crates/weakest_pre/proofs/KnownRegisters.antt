@@ -1,7 +1,7 @@
 -- A register of which some bits are known, as a term.
 use Rattle.std.proofs.Common.{◌≡◌, ℕ, ◌+◌, ◌-◌, ◌<◌, ◌≤◌, List, length, refl, ap, ◌∙◌, arith}
 use Rattle.word_spec.specs.Words.{bits, complement, concat}
-use Rattle.walk_spec.specs.Terms.{TermNode, RegisterNode, ConstantNode, NotNode, ExtractNode, ConcatNode, HasWidth, term_word}
+use Rattle.term_spec.specs.Terms.{TermNode, RegisterNode, ConstantNode, NotNode, ExtractNode, ConcatNode, HasWidth, term_word}
 use Rattle.term_dag.specs.Made.{IsMade}
 use Rattle.term_dag.proofs.Growth.{grew_on, inputs_on, inputs_more, made_grew, made_inputs}
 use Rattle.note_terms.specs.Steps.{IsStep}

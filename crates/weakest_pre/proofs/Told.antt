@@ -10,14 +10,14 @@ use Rattle.bilv_spec.specs.Notes.{NoteLine, value, is_true}
 use Rattle.bilv_spec.specs.Run.{false_line}
 use Rattle.bilv_spec.specs.Questions.{Reading, IsReading}
 use Rattle.call_spec.specs.Calls.{Question, EntryQuestion}
-use Rattle.walk_spec.specs.Terms.{TermReading, InRange, TermNode, BinaryNode, HasWidth, term_word, term_gates, term_loads, term_stores, term_joins}
+use Rattle.term_spec.specs.Terms.{TermReading, InRange, TermNode, BinaryNode, HasWidth, term_word, term_gates, term_loads, term_stores, term_joins}
 use Rattle.walk_spec.specs.Unrolled.{UnrolledProgram, state_at}
 use Rattle.walk_spec.specs.Unrolling.{IsWalkable}
 use Rattle.walk_spec.specs.Sweep.{swept}
-use Rattle.walk_spec.specs.Passive.{Passive, UnderAll, Tells, IsPassive, ends_held}
-use Rattle.walk_spec.specs.WalkQuestions.{MeetsLines, IsTrueButBytes, IsNamedBelow, term_reading, TellsQuestion}
-use Rattle.walk_spec.proofs.SweepWalk.{held_answers}
-use Rattle.walk_spec.proofs.PriceSums.{parts_add_up}
+use Rattle.term_spec.specs.Passive.{Passive, UnderAll, Tells, IsPassive, ends_held}
+use Rattle.term_spec.specs.WalkQuestions.{MeetsLines, IsTrueButBytes, IsNamedBelow, term_reading, TellsQuestion}
+use Rattle.term_spec.proofs.HeldAnswers.{held_answers}
+use Rattle.term_spec.proofs.PriceSums.{parts_add_up}
 use Rattle.term_dag.specs.Nodes.{IsInput}
 use Rattle.term_dag.specs.Made.{IsMade}
 use Rattle.term_dag.proofs.Growth.{grew_on, grew_more, inputs_on, inputs_more}

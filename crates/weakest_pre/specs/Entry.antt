@@ -7,10 +7,10 @@ use Rattle.machine_spec.specs.Machine.{is_place}
 use Rattle.word_spec.specs.State.{State}
 use Rattle.bilv_spec.specs.Notes.{Expr, value, is_true}
 use Rattle.bilv_spec.specs.Points.{line_price, bytes_loaded}
-use Rattle.walk_spec.specs.Terms.{TermReading, InRange, TermNode, AreTyped, HasWidth, term_word}
+use Rattle.term_spec.specs.Terms.{TermReading, InRange, TermNode, AreTyped, HasWidth, term_word}
 use Rattle.walk_spec.specs.Unrolled.{Carried, UnrolledProgram, state_at}
 use Rattle.walk_spec.specs.Prices.{entry_lines, line_steps, variables_of}
-use Rattle.walk_spec.specs.WalkQuestions.{IsNamedBelow}
+use Rattle.term_spec.specs.WalkQuestions.{IsNamedBelow}
 use Rattle.term_dag.specs.Made.{Grew, InputsFrom}
 use Rattle.notes_value.specs.declared.notes.NoteLine.{NoteLine}
 use Rattle.notes_value.specs.Views.{expr_of}

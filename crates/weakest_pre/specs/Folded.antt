@@ -1,7 +1,7 @@
 -- Copies of a term with what is known of registers put in.
 use Rattle.std.specs.Prelude.{ℕ, ◌≡◌, ◌-◌, ◌<◌, ◌≤◌, Bool, true, List, [], length, Contains}
 use Rattle.word_spec.specs.Words.{bits, complement, concat}
-use Rattle.walk_spec.specs.Terms.{TermReading, InRange, TermNode, RegisterNode, AreTyped, HasWidth, term_word, term_value, width_of, node_at, own_gates, own_loads, own_stores, own_joins, term_gates, term_loads, term_stores, term_joins}
+use Rattle.term_spec.specs.Terms.{TermReading, InRange, TermNode, RegisterNode, AreTyped, HasWidth, term_word, term_value, width_of, node_at, own_gates, own_loads, own_stores, own_joins, term_gates, term_loads, term_stores, term_joins}
 use Rattle.term_dag.specs.declared.nodes.Term.{Term}
 use Rattle.term_dag.specs.Made.{Grew, InputsFrom}
 use Rattle.weakest_pre.specs.declared.facts.Facts.{Facts}

@@ -1,6 +1,6 @@
 -- A term tied to a copy of another.
 use Rattle.std.specs.Prelude.{ℕ, ◌≡◌, ◌+◌, bit_and, List, length, Contains}
-use Rattle.walk_spec.specs.Terms.{TermReading, InRange, TermNode, AreTyped, HasWidth, term_word, term_gates, term_loads, term_stores, term_joins}
+use Rattle.term_spec.specs.Terms.{TermReading, InRange, TermNode, AreTyped, HasWidth, term_word, term_gates, term_loads, term_stores, term_joins}
 use Rattle.term_dag.specs.Made.{Grew, InputsFrom}
 
 -- A bit is 1 where a bit of a list is, and a bit of another list. It costs a gate besides what that list does, and names no other input.

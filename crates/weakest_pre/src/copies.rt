@@ -2,7 +2,7 @@
 
 ghost use Rattle.std.specs.Prelude.{◌≡◌, ◌<◌, ◌≤◌, ◌^◌, ℕ, List, true, false, IfOk, length, map, slice_set};
 ghost use Rattle.std.specs.List.{AllByRecursion};
-ghost use Rattle.walk_spec.specs.Terms.{AreTyped};
+ghost use Rattle.term_spec.specs.Terms.{AreTyped};
 ghost use Rattle.term_dag.specs.Nodes.{node_of};
 ghost use Rattle.term_dag.specs.Made.{operands};
 ghost use Rattle.weakest_pre.specs.Copies.{Always, AreCopies, AreCopiesOf, ArePicked, AreReached, AreRootsMarked, AreWithin, IsCopy, copy_at, is_marked, marked, visited};

@@ -4,7 +4,7 @@ ghost use Rattle.std.specs.Prelude.{◌≡◌, ◌<◌, IfOk, Contains};
 ghost use Rattle.word_spec.specs.Words.{bit};
 ghost use Rattle.machine_spec.specs.Machine.{is_place};
 ghost use Rattle.machine_spec.specs.Bil.{And};
-ghost use Rattle.walk_spec.specs.Terms.{BinaryNode, AreTyped, HasWidth, term_word};
+ghost use Rattle.term_spec.specs.Terms.{BinaryNode, AreTyped, HasWidth, term_word};
 ghost use Rattle.term_dag.specs.Made.{IsMade};
 ghost use Rattle.walk_spec.specs.Unrolling.{IsReadable, IsWalkable};
 ghost use Rattle.notes_value.specs.Views.{expr_of};

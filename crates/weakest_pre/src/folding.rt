@@ -2,7 +2,7 @@
 
 ghost use Rattle.std.specs.Prelude.{◌≡◌, ℕ, ◌<◌, ◌≤◌, ◌-◌, ◌^◌, List, [], length, IfNone, IfOk, IfSome};
 ghost use Rattle.word_spec.specs.Words.{bits, complement, concat};
-ghost use Rattle.walk_spec.specs.Terms.{AreTyped, HasWidth, term_word};
+ghost use Rattle.term_spec.specs.Terms.{AreTyped, HasWidth, term_word};
 ghost use Rattle.term_dag.specs.Nodes.{node_of};
 ghost use Rattle.note_terms.specs.Steps.{IsStep};
 ghost use Rattle.weakest_pre.specs.Copies.{AreCopies, AreReached, AreWithin};

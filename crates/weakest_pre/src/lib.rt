@@ -7,10 +7,10 @@ mod facts;
 mod folding;
 
 ghost use Rattle.std.specs.Prelude.{◌≡◌, [], IfOk};
-ghost use Rattle.walk_spec.specs.Terms.{AreTyped, HasWidth};
-ghost use Rattle.walk_spec.specs.Passive.{IsPassive};
+ghost use Rattle.term_spec.specs.Terms.{AreTyped, HasWidth};
+ghost use Rattle.term_spec.specs.Passive.{IsPassive};
 ghost use Rattle.walk_spec.specs.Unrolling.{IsWalkable};
-ghost use Rattle.walk_spec.specs.WalkQuestions.{TellsQuestion};
+ghost use Rattle.term_spec.specs.WalkQuestions.{TellsQuestion};
 ghost use Rattle.question_form.specs.Views.{kind_of, unrolled_of};
 ghost use Rattle.question_form.specs.Questions.{passive_of, program_of_question, question_of, term_of};
 ghost use Rattle.weakest_pre.specs.Entry.{IsEntryBit};

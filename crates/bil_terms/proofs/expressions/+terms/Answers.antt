@@ -1,6 +1,6 @@
 use Rattle.std.proofs.Common.{◌++◌, ◌∷◌, [], List, rules, refl, sym, ap, ◌∙◌, subst, arith}
 use Rattle.machine_spec.specs.Bil as bil
-use Rattle.walk_spec.specs.Terms.{TermNode, BinaryNode, IsTypedOver, HasWidth}
+use Rattle.term_spec.specs.Terms.{TermNode, BinaryNode, IsTypedOver, HasWidth}
 use Rattle.term_dag.specs.Made.{IsMade}
 use Rattle.term_dag.proofs.Growth.{grew_width, grew_on}
 use Rattle.bil_ast.specs.declared.expressions.Exp.{Exp}

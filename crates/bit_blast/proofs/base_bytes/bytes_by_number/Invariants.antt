@@ -1,6 +1,6 @@
 use Rattle.std.proofs.Common.{◌≡◌, ℕ, ◌+◌, ◌*◌, ◌<◌, length, get_or}
 use Rattle.clause_spec.specs.Clauses.{valuation}
-use Rattle.walk_spec.specs.ClauseForm.{bits_from}
+use Rattle.term_spec.specs.ClauseForm.{bits_from}
 use Rattle.bit_blast.proofs.base_bytes.bytes_by_number.Given as goal
 
 abbrev pub invariant-loop-i : goal.invariant-loop-i

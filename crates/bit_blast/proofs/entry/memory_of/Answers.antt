@@ -1,5 +1,5 @@
 use Rattle.clause_spec.specs.Clauses.{valuation}
-use Rattle.walk_spec.specs.ClauseForm.{reading}
+use Rattle.term_spec.specs.ClauseForm.{reading}
 use Rattle.mem_cells.specs.Views.{cells_of, program_of_cells}
 use Rattle.bit_blast.proofs.EntryBytes.{are_bytes, are_unknown, it_gives, one_memory, they_rise}
 use Rattle.bit_blast.proofs.entry.memory_of.Goals as goal

@@ -1,6 +1,6 @@
 use Rattle.std.proofs.Common.{◌≡◌, ◌∙◌, ap, take, drop, arith}
 use Rattle.std.proofs.lemmas.Grind.{common_steps}
-use Rattle.walk_spec.specs.Terms.{width_of}
+use Rattle.term_spec.specs.Terms.{width_of}
 use Rattle.term_dag.specs.Nodes.{node_of}
 use Rattle.word_gates.specs.Numbers.{number}
 use Rattle.bit_blast.proofs.Seen.{seen_number}

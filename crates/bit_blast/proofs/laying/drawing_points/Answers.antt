@@ -1,7 +1,7 @@
 use Rattle.std.proofs.Common.{◌≡◌, ◌<◌, ◌∙◌, sym, subst, length, true, false, arith}
 use Rattle.std.proofs.Math.Facts.{Fits-of_lt}
 use Rattle.question_form.specs.Views.{unrolled_of}
-use Rattle.walk_spec.specs.ClauseForm.{drawn_below}
+use Rattle.term_spec.specs.ClauseForm.{drawn_below}
 use Rattle.bit_blast.proofs.Drawn.{drawn_few, drawn_next, points_length, point_draws}
 use Rattle.bit_blast.proofs.laying.drawing_points.Goals as goal
 use Rattle.bit_blast.proofs.laying.drawing_points.Goals.{then-draws, else-draws}

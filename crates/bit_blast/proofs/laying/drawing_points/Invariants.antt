@@ -1,5 +1,5 @@
 use Rattle.std.specs.Prelude.{◌≡◌}
-use Rattle.walk_spec.specs.ClauseForm.{drawn_below}
+use Rattle.term_spec.specs.ClauseForm.{drawn_below}
 use Rattle.question_form.specs.Views.{unrolled_of}
 use Rattle.bit_blast.proofs.laying.drawing_points.Given as goal
 

@@ -1,5 +1,5 @@
 use Rattle.std.proofs.Common.{◌∙◌, ap, sym, subst}
-use Rattle.walk_spec.specs.Terms.{node_value, own_gates, width_of, IsTypedOver}
+use Rattle.term_spec.specs.Terms.{node_value, own_gates, width_of, IsTypedOver}
 use Rattle.term_dag.specs.Nodes.{node_of}
 use Rattle.word_gates.specs.Numbers.{IsWord}
 use Rattle.bit_blast.specs.BitWords.{shapes, values_of}

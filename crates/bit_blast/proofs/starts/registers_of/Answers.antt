@@ -1,6 +1,6 @@
 use Rattle.std.proofs.Common.{◌*◌, sym}
 use Rattle.clause_spec.specs.Clauses.{valuation}
-use Rattle.walk_spec.specs.ClauseForm.{bits_from}
+use Rattle.term_spec.specs.ClauseForm.{bits_from}
 use Rattle.bit_blast.proofs.Drawn.{mapped_push}
 use Rattle.bit_blast.proofs.starts.registers_of.Goals as goal
 

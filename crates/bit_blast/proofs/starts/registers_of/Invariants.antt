@@ -1,7 +1,7 @@
 use Rattle.std.proofs.Common.{◌≡◌, ◌*◌, map}
 use Rattle.clause_spec.specs.Clauses.{valuation}
 use Rattle.word_spec.specs.RowFiles.{from_to}
-use Rattle.walk_spec.specs.ClauseForm.{bits_from}
+use Rattle.term_spec.specs.ClauseForm.{bits_from}
 use Rattle.bit_blast.proofs.starts.registers_of.Given as goal
 
 abbrev pub invariant-loop-i : goal.invariant-loop-i

@@ -1,5 +1,5 @@
 use Rattle.std.proofs.Common.{◌≡◌, ℕ}
-use Rattle.walk_spec.specs.WalkQuestions.{is_asked}
+use Rattle.term_spec.specs.WalkQuestions.{is_asked}
 use Rattle.mem_cells.proofs.FileBytes.{is_found}
 use Rattle.mem_cells.proofs.file_bytes.asked_addresses.Given as goal
 

@@ -1,6 +1,6 @@
 use Rattle.std.proofs.Common.{◌≡◌, ℕ, true, List, map, sym, subst}
 use Rattle.std.specs.Prelude.{◌↔◌, Contains}
-use Rattle.walk_spec.specs.WalkQuestions.{is_asked}
+use Rattle.term_spec.specs.WalkQuestions.{is_asked}
 use Rattle.known_bytes.specs.Runs.{run_of}
 use Rattle.mem_cells.proofs.FileBytes.{file_same}
 use Rattle.mem_cells.proofs.file_bytes.asked_bytes.Goals as goal

@@ -1,7 +1,7 @@
 use Rattle.std.proofs.Common.{◌*◌, ◌+◌}
 use Rattle.std.specs.Prelude.{sum_by}
 use Rattle.word_spec.specs.Memory.{endian, load}
-use Rattle.walk_spec.specs.Terms.{term_word}
+use Rattle.term_spec.specs.Terms.{term_word}
 use Rattle.mem_cells.specs.Pieces.{piece_gates}
 use Rattle.mem_cells.specs.Building.{Grown, IsOfMemory}
 use Rattle.mem_cells.proofs.loads.load.Given as goal

@@ -1,5 +1,5 @@
 use Rattle.std.proofs.Common.{sym, subst}
-use Rattle.walk_spec.specs.WalkQuestions.{AreTermsWithin, question_room}
+use Rattle.term_spec.specs.WalkQuestions.{AreTermsWithin, question_room}
 use Rattle.question_form.specs.declared.questions.Question.{Question}
 use Rattle.question_form.specs.Questions.{program_of_question, term_of}
 use Rattle.mem_cells.proofs.Told.{told_within}

@@ -1,6 +1,6 @@
 use Rattle.std.proofs.Common.{◌≡◌, ◌≤◌, ℕ, true, List, length, map, refl, ap, sym, subst}
 use Rattle.walk_spec.specs.Prices.{known_of}
-use Rattle.walk_spec.specs.WalkQuestions.{is_asked}
+use Rattle.term_spec.specs.WalkQuestions.{is_asked}
 use Rattle.question_form.specs.Questions.{program_of_question, term_of}
 use Rattle.known_bytes.specs.declared.listing.Known.{Known}
 use Rattle.known_bytes.specs.Runs.{run_of, sum_of}

@@ -1,5 +1,5 @@
 use Rattle.std.proofs.Common.{ap, sym, ◌∙◌, arith}
-use Rattle.walk_spec.specs.Terms.{BinaryNode}
+use Rattle.term_spec.specs.Terms.{BinaryNode}
 use Rattle.term_dag.specs.Nodes.{op_of}
 use Rattle.mem_cells.proofs.Splits.{constant_below, split_constant, split_own, split_sum, sum_sides}
 use Rattle.mem_cells.proofs.pieces.sum_of.Goals as goal

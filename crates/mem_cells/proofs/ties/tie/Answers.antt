@@ -1,5 +1,5 @@
 use Rattle.std.proofs.Common.{◌<◌, length, refl, ap, sym, ◌∙◌, subst, arith}
-use Rattle.walk_spec.specs.Terms.{HasWidth}
+use Rattle.term_spec.specs.Terms.{HasWidth}
 use Rattle.mem_cells.specs.Building.{read_places}
 use Rattle.mem_cells.proofs.Growing.{grown_none, grown_more, mapped_length}
 use Rattle.mem_cells.proofs.Agreements.{mapped_at, tied, untied}

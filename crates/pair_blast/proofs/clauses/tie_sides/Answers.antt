@@ -1,8 +1,8 @@
 use Rattle.std.proofs.Common.{◌≡◌, ◌↔◌, ◌+◌, ℕ, true, subst, arith}
 use Rattle.gates.specs.Pushes.{satisfied}
 use Rattle.gates.proofs.Netlists.{grows_then}
-use Rattle.walk_spec.specs.Terms.{term_gates}
-use Rattle.walk_spec.specs.ClauseForm.{reading}
+use Rattle.term_spec.specs.Terms.{term_gates}
+use Rattle.term_spec.specs.ClauseForm.{reading}
 use Rattle.mem_cells.specs.Views.{cells_of, program_of_cells}
 use Rattle.pair_spec.specs.PairEvidence.{behind}
 use Rattle.pair_spec.specs.PairTerms.{MakesPairTrue}

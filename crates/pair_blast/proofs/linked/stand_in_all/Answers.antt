@@ -1,5 +1,5 @@
 use Rattle.std.proofs.Common.{◌<◌, ◌∙◌, length, get_or, ap, sym, arith}
-use Rattle.walk_spec.specs.Terms.{width_of}
+use Rattle.term_spec.specs.Terms.{width_of}
 use Rattle.term_dag.specs.Nodes.{node_of}
 use Rattle.bit_blast.proofs.NextNode.{node_in}
 use Rattle.pair_blast.proofs.EqualWords.{no_term}

@@ -1,5 +1,5 @@
 use Rattle.std.proofs.Common.{◌≡◌, ℕ, Bool, true, length}
-use Rattle.walk_spec.specs.Terms.{TermReading}
+use Rattle.term_spec.specs.Terms.{TermReading}
 use Rattle.gates.specs.Circuits.{Within}
 use Rattle.pair_spec.specs.PairTerms.{same_words}
 use Rattle.bit_blast.specs.BitWords.{AreWithin}

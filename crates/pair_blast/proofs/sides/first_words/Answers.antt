@@ -1,5 +1,5 @@
 use Rattle.std.proofs.Common.{◌∙◌, ◌≡◌, ◌↔◌, ap, subst, true}
-use Rattle.walk_spec.specs.Terms.{TermReading, term_word}
+use Rattle.term_spec.specs.Terms.{TermReading, term_word}
 use Rattle.mem_cells.specs.Views.{cells_of, program_of_cells}
 use Rattle.gates.specs.Pushes.{satisfied}
 use Rattle.pair_blast.proofs.BothSides.{HoldsBy, first_read}

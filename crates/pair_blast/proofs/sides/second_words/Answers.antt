@@ -1,6 +1,6 @@
 use Rattle.std.proofs.Common.{◌∙◌, ap}
-use Rattle.walk_spec.specs.Terms.{TermReading, term_word}
-use Rattle.walk_spec.specs.ClauseForm.{reading}
+use Rattle.term_spec.specs.Terms.{TermReading, term_word}
+use Rattle.term_spec.specs.ClauseForm.{reading}
 use Rattle.mem_cells.specs.Views.{cells_of, program_of_cells}
 use Rattle.bit_blast.proofs.Lists.{within_up}
 use Rattle.bit_blast.proofs.Placed.{named}

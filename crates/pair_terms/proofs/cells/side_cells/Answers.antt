@@ -5,7 +5,7 @@ use Rattle.mem_cells.specs.Words.{IsWordAt, TellsWithWords}
 use Rattle.mem_cells.specs.Views.{cells_of}
 use Rattle.question_form.specs.declared.questions.Question.{Question}
 use Rattle.question_form.specs.Questions.{program_of_question, term_of}
-use Rattle.walk_spec.specs.WalkQuestions.{is_asked}
+use Rattle.term_spec.specs.WalkQuestions.{is_asked}
 use Rattle.pair_form.specs.Views.{program_of_side_question}
 use Rattle.mem_cells.specs.Words.{places_of}
 use Rattle.pair_terms.proofs.CellsTold.{each_word, all_words, cells_count, cells_from}

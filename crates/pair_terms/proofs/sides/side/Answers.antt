@@ -1,5 +1,5 @@
 use Rattle.std.proofs.Common.{List, subst}
-use Rattle.walk_spec.specs.Terms.{TermNode}
+use Rattle.term_spec.specs.Terms.{TermNode}
 use Rattle.links_lang.specs.Views.{links_of}
 use Rattle.weakest_pre.specs.Entry.{IsEntryBit}
 use Rattle.pair_form.specs.Views.{pair_question_of}

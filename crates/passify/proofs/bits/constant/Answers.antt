@@ -1,9 +1,9 @@
 use mir.Val.{bool_byte}
 use Rattle.std.proofs.Common.{Bool, true, false, refl, ◌≡◌, ℕ, List, ap, ◌∙◌}
-use Rattle.walk_spec.specs.Terms.{TermNode, ConstantNode}
+use Rattle.term_spec.specs.Terms.{TermNode, ConstantNode}
 use Rattle.word_spec.specs.Words.{bit}
 use Rattle.passify.specs.Bits.{Makes}
-use Rattle.walk_spec.specs.Passive.{Tells}
+use Rattle.term_spec.specs.Passive.{Tells}
 use Rattle.term_dag.specs.Made.{IsInterned}
 use Rattle.term_dag.proofs.Growth.{interned_grew, interned_inputs, interned_width}
 use Rattle.passify.proofs.bits.constant.Goals as goal

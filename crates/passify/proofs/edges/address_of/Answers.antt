@@ -1,5 +1,5 @@
 use Rattle.std.proofs.Common.{◌≡◌, ℕ, List, Option, Some, refl, ap, sym, ◌∙◌}
-use Rattle.walk_spec.specs.Terms.{TermNode, ConstantNode, term_word}
+use Rattle.term_spec.specs.Terms.{TermNode, ConstantNode, term_word}
 use Rattle.term_dag.specs.Made.{IsInterned}
 use Rattle.term_dag.proofs.Growth.{interned_grew, interned_inputs, interned_width}
 use Rattle.passify.specs.Bits.{Makes}

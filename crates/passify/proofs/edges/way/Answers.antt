@@ -1,7 +1,7 @@
 use Rattle.std.proofs.Common.{◌≡◌, ℕ, List, Bool, true, false, refl, ap, sym, ◌∙◌, subst, not}
 use Rattle.std.specs.Prelude.{◌&&◌, if◌then◌else◌}
-use Rattle.walk_spec.specs.Terms.{TermNode, HasWidth}
-use Rattle.walk_spec.specs.Passive.{Tells}
+use Rattle.term_spec.specs.Terms.{TermNode, HasWidth}
+use Rattle.term_spec.specs.Passive.{Tells}
 use Rattle.term_dag.proofs.Growth.{grew_on, inputs_on}
 use Rattle.passify.specs.Bits.{Makes, TellsBy, TellsByBoth}
 use Rattle.passify.specs.Edges.{TellsWay}

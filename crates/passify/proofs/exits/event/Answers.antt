@@ -1,4 +1,4 @@
-use Rattle.walk_spec.specs.Passive.{Tells}
+use Rattle.term_spec.specs.Passive.{Tells}
 use Rattle.passify.specs.Sweeps.{HasEvent}
 use Rattle.passify.proofs.Kept.{well_keeps}
 use Rattle.passify.proofs.Tried.{IsCut, cut_on, cut_steps, cut_bit, exit_on, narrows_on}

@@ -1,6 +1,6 @@
 use Rattle.std.proofs.Common.{ℕ, ◌<◌, List, refl, subst, sym, ap, ◌∙◌, length, arith}
 use Rattle.std.specs.Prelude.{map, slice_index_or, slice_range}
-use Rattle.walk_spec.specs.Terms.{ConstantNode, HasWidth}
+use Rattle.term_spec.specs.Terms.{ConstantNode, HasWidth}
 use Rattle.walk_spec.specs.Unrolling.{IsReadable}
 use Rattle.notes_value.specs.declared.notes.Assert.{Assert}
 use Rattle.notes_value.specs.NoteViews.{assert_of}

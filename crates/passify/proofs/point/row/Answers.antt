@@ -4,7 +4,7 @@ use Rattle.bil_ast.specs.declared.statements.Stmt.{Stmt}
 use Rattle.bil_ast.specs.Views.{statements}
 use Rattle.bil_terms.specs.declared.stored.Stored.{Stored}
 use Rattle.bil_terms.specs.Gathered.{IsStore}
-use Rattle.walk_spec.specs.Terms.{HasWidth}
+use Rattle.term_spec.specs.Terms.{HasWidth}
 use Rattle.walk_spec.specs.Unrolled.{Executes}
 use Rattle.walk_spec.specs.Unrolling.{IsReadable}
 use Rattle.notes_value.specs.declared.notes.NoteLine.{NoteLine}

@@ -1,5 +1,5 @@
 use Rattle.std.proofs.Common.{ℕ, List, ◌-◌, sym, subst, arith}
-use Rattle.walk_spec.specs.Terms.{TermNode, ConstantNode}
+use Rattle.term_spec.specs.Terms.{TermNode, ConstantNode}
 use Rattle.term_dag.specs.Made.{IsInterned}
 use Rattle.term_names.specs.Chosen.{AreEntryNames}
 use Rattle.passify.proofs.Begun.{begun, same_range}

@@ -1,6 +1,6 @@
 use Rattle.std.proofs.Common.{◌+◌, ◌*◌, length, map, take}
 use Rattle.std.specs.List.{list_any}
-use Rattle.walk_spec.specs.Passive.{Tells}
+use Rattle.term_spec.specs.Passive.{Tells}
 use Rattle.question_form.specs.Views.{kept_of}
 use Rattle.passify.specs.Bits.{Makes}
 use Rattle.passify.proofs.Writes.{keeps_hit}

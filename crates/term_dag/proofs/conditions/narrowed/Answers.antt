@@ -1,7 +1,7 @@
 use Rattle.std.proofs.Common.{ap, sym, ◌∙◌, arith, bit_and}
 use Rattle.std.specs.Int.Bits.{and_self}
 use Rattle.std.proofs.lemmas.Nat.{and_comm}
-use Rattle.walk_spec.specs.Terms.{term_word}
+use Rattle.term_spec.specs.Terms.{term_word}
 use Rattle.term_dag.specs.Nodes.{nodes_of}
 use Rattle.term_dag.proofs.WordFolds.{same_fold}
 use Rattle.term_dag.proofs.conditions.narrowed.Goals as goal

@@ -1,6 +1,6 @@
 use Rattle.std.proofs.Common.{refl, ap, sym, ◌∙◌}
 use Rattle.machine_spec.specs.Bil.{And}
-use Rattle.walk_spec.specs.Terms.{BinaryNode}
+use Rattle.term_spec.specs.Terms.{BinaryNode}
 use Rattle.term_dag.specs.Nodes.{op_of}
 use Rattle.term_dag.proofs.Cubes.{cube_of_and, cube_of_one}
 use Rattle.term_dag.proofs.Shapes.{binary_sides}

@@ -1,6 +1,6 @@
 use Rattle.std.proofs.Common.{◌∙◌, arith}
 use Rattle.std.proofs.lemmas.Nat.{or_comm}
-use Rattle.walk_spec.specs.Terms.{term_word}
+use Rattle.term_spec.specs.Terms.{term_word}
 use Rattle.term_dag.specs.Nodes.{nodes_of}
 use Rattle.term_dag.proofs.WordFolds.{same_fold}
 use Rattle.term_dag.proofs.conditions.widened.Goals as goal

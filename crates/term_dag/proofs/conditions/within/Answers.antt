@@ -1,6 +1,6 @@
 use Rattle.std.proofs.Common.{refl, ap, sym, ◌∙◌}
 use Rattle.machine_spec.specs.Bil.{Or}
-use Rattle.walk_spec.specs.Terms.{BinaryNode}
+use Rattle.term_spec.specs.Terms.{BinaryNode}
 use Rattle.term_dag.specs.Nodes.{op_of}
 use Rattle.term_dag.proofs.Cubes.{within_both, within_first, within_second}
 use Rattle.term_dag.proofs.Shapes.{binary_sides}

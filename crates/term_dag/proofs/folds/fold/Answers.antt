@@ -1,7 +1,7 @@
 use Rattle.std.proofs.Common.{◌+◌, ◌-◌, refl, subst, arith}
 use Rattle.machine_spec.specs.BilTyping.{result_width}
 use Rattle.machine_spec.specs.BilCounts.{op_weight}
-use Rattle.walk_spec.specs.Terms.{IsTypedOver}
+use Rattle.term_spec.specs.Terms.{IsTypedOver}
 use Rattle.term_dag.specs.declared.nodes.Node.TheVariants as node
 use Rattle.term_dag.specs.Nodes.{node_of, nodes_of, op_of}
 use Rattle.term_dag.proofs.Ranges.{result_is_width}

@@ -1,6 +1,6 @@
 use Rattle.std.proofs.Common.{arith, subst}
 use Rattle.std.proofs.Math.Facts.{Fits-of_lt}
-use Rattle.walk_spec.specs.Terms.{IsTypedOver}
+use Rattle.term_spec.specs.Terms.{IsTypedOver}
 use Rattle.term_dag.specs.Nodes.{node_of, nodes_of}
 use Rattle.term_dag.proofs.Shapes.{few_bits}
 use Rattle.term_dag.proofs.folds.width_of_node.Goals as goal

@@ -1,5 +1,5 @@
 use Rattle.std.proofs.Common.{ℕ, ap, subst, ◌∙◌}
-use Rattle.walk_spec.specs.Terms.{HasWidth, extend, term_word}
+use Rattle.term_spec.specs.Terms.{HasWidth, extend, term_word}
 use Rattle.term_dag.specs.Nodes.{nodes_of}
 use Rattle.term_dag.proofs.Shapes.{extend_side}
 use Rattle.term_dag.proofs.operators.bit_below.Goals as goal

@@ -1,5 +1,5 @@
 use Rattle.std.proofs.Common.{refl, ap, sym, ◌∙◌, subst, ℕ}
-use Rattle.walk_spec.specs.Terms.{operate, term_word, HasWidth}
+use Rattle.term_spec.specs.Terms.{operate, term_word, HasWidth}
 use Rattle.term_dag.specs.Nodes.{nodes_of, op_of}
 use Rattle.term_dag.proofs.Ranges.{word_fits}
 use Rattle.term_dag.proofs.WordFolds.{found_or, kept_binary}

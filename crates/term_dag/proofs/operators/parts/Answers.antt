@@ -1,6 +1,6 @@
 use Rattle.std.proofs.Common.{refl, ap, sym, ◌∙◌}
 use Rattle.machine_spec.specs.Bil.{Plus}
-use Rattle.walk_spec.specs.Terms.{BinaryNode}
+use Rattle.term_spec.specs.Terms.{BinaryNode}
 use Rattle.term_dag.specs.Nodes.{op_of}
 use Rattle.term_dag.proofs.Shapes.{binary_sides, own_sum, sum_of}
 use Rattle.term_dag.proofs.operators.parts.Goals as goal

@@ -1,5 +1,5 @@
 use Rattle.std.proofs.Common.{refl, sym, ◌∙◌, ap, subst, arith, ℕ}
-use Rattle.walk_spec.specs.Terms.{HasWidth, word_value}
+use Rattle.term_spec.specs.Terms.{HasWidth, word_value}
 use Rattle.term_dag.specs.Nodes.{nodes_of}
 use Rattle.term_dag.proofs.Ranges.{word_fits}
 use Rattle.term_dag.proofs.WordLaws.{select_bits}

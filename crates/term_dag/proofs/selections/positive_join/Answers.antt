@@ -1,5 +1,5 @@
 use Rattle.std.proofs.Common.{ap, ◌∙◌}
-use Rattle.walk_spec.specs.Terms.{term_value}
+use Rattle.term_spec.specs.Terms.{term_value}
 use Rattle.term_dag.specs.Nodes.{nodes_of}
 use Rattle.term_dag.proofs.Joins.{join_true, join_false, join_same, join_sides}
 use Rattle.term_dag.proofs.selections.positive_join.Goals as goal

@@ -1,6 +1,6 @@
 use Rattle.std.proofs.Common.{ℕ, ◌+◌, ◌-◌, sym, subst, arith}
 use Rattle.word_spec.specs.Words as words
-use Rattle.walk_spec.specs.Terms.{term_word}
+use Rattle.term_spec.specs.Terms.{term_word}
 use Rattle.term_dag.specs.Nodes.{nodes_of}
 use Rattle.term_dag.specs.Folds.{IsWordFold}
 use Rattle.term_dag.proofs.WordFolds.{same_fold}

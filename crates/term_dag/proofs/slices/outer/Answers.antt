@@ -1,7 +1,7 @@
 use Rattle.std.proofs.Common.{◌+◌, ◌-◌, ◌/◌, ◌^◌, ap, sym, ◌∙◌, arith}
 use Rattle.std.proofs.lemmas.Nat.{mod_below, pow_pos}
 use Rattle.word_spec.specs.Words as words
-use Rattle.walk_spec.specs.Terms.{HasWidth, extend, term_word, width_of}
+use Rattle.term_spec.specs.Terms.{HasWidth, extend, term_word, width_of}
 use Rattle.term_dag.specs.Nodes.{nodes_of}
 use Rattle.term_dag.proofs.ListLaws.{typed_here}
 use Rattle.term_dag.proofs.Ranges.{word_fits}

@@ -1,7 +1,7 @@
 use Rattle.std.proofs.Common.{◌≡◌, ℕ, ◌+◌, ◌-◌, ◌<◌, ◌≤◌, List, length, Option, Some, None, ap, sym, subst, ◌∙◌, arith}
 use Rattle.std.specs.Prelude.{IfSome}
 use Rattle.machine_spec.specs.Bil as bil
-use Rattle.walk_spec.specs.Terms.{TermNode, BinaryNode, node_at, width_of, AreTyped}
+use Rattle.term_spec.specs.Terms.{TermNode, BinaryNode, node_at, width_of, AreTyped}
 use Rattle.term_dag.specs.declared.nodes.Term.{Term}
 use Rattle.term_dag.specs.declared.slices.Slice.{Slice}
 use Rattle.term_dag.specs.Nodes.{op_of}

@@ -1,5 +1,5 @@
 use Rattle.std.proofs.Common.{◌≡◌, ◌<◌, length}
-use Rattle.walk_spec.specs.Terms.{term_value}
+use Rattle.term_spec.specs.Terms.{term_value}
 use Rattle.term_dag.specs.Nodes.{nodes_of}
 use Rattle.term_dag.specs.Readings.{reading_of}
 use Rattle.term_dag.proofs.values.byte.Given as goal

@@ -1,7 +1,7 @@
 use Rattle.std.proofs.Common.{◌≡◌, ◌+◌, ◌-◌, ◌<◌, ◌*◌, ◌^◌}
 use Rattle.word_spec.specs.Words.{add}
 use Rattle.word_spec.specs.Memory.{little}
-use Rattle.walk_spec.specs.Terms.{term_value}
+use Rattle.term_spec.specs.Terms.{term_value}
 use Rattle.term_dag.specs.Nodes.{nodes_of}
 use Rattle.term_dag.specs.Readings.{reading_of}
 use Rattle.term_dag.proofs.values.lowest_first.Given as goal

@@ -1,5 +1,5 @@
 use Rattle.std.proofs.Common.{ap, subst, arith}
-use Rattle.walk_spec.specs.Terms.{IsTypedOver, width_of}
+use Rattle.term_spec.specs.Terms.{IsTypedOver, width_of}
 use Rattle.term_dag.specs.Nodes.{node_of, nodes_of}
 use Rattle.term_dag.proofs.ListLaws.{typed_here}
 use Rattle.term_dag.proofs.Shapes.{few_bits}

@@ -1,6 +1,6 @@
 use Rattle.std.proofs.Common.{◌<◌, ℕ, sym, subst, length}
 use Rattle.std.specs.List.{AllByRecursion}
-use Rattle.walk_spec.specs.Terms.{TermNode, IsTypedOver, node_at}
+use Rattle.term_spec.specs.Terms.{TermNode, IsTypedOver, node_at}
 use Rattle.term_dag.specs.Made.{operands}
 use Rattle.weakest_pre.specs.Copies.{Always}
 use Rattle.weakest_pre.proofs.Marks.{operands_before}

@@ -1,6 +1,6 @@
 use Rattle.std.proofs.Common.{◌<◌, sym, subst, length, arith}
 use Rattle.std.specs.List.{AllByRecursion}
-use Rattle.walk_spec.specs.Terms.{TermNode}
+use Rattle.term_spec.specs.Terms.{TermNode}
 use Rattle.term_dag.specs.Made.{operands}
 use Rattle.weakest_pre.proofs.Marks.{all_by, operands_before}
 use Rattle.weakest_pre.proofs.copies.visit.Goals as goal

@@ -1,6 +1,6 @@
 use Rattle.std.proofs.Common.{◌<◌, ℕ, ap, sym, subst, length}
 use Rattle.std.specs.List.{AllByRecursion}
-use Rattle.walk_spec.specs.Terms.{TermNode, IsTypedOver, node_at}
+use Rattle.term_spec.specs.Terms.{TermNode, IsTypedOver, node_at}
 use Rattle.term_dag.specs.Nodes.{node_of}
 use Rattle.term_dag.specs.Made.{operands}
 use Rattle.weakest_pre.specs.declared.facts.Known.{Known}

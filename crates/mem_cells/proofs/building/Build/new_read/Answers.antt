@@ -1,6 +1,6 @@
 use Rattle.std.proofs.Common.{◌≡◌, ℕ, [], ◌∷◌, ◌++◌, refl, ap, sym, ◌∙◌, subst, arith, length, length-append}
 use Rattle.std.specs.Prelude.{map}
-use Rattle.walk_spec.specs.Terms.{BaseNode, width_of}
+use Rattle.term_spec.specs.Terms.{BaseNode, width_of}
 use Rattle.term_dag.specs.Made.{IsInterned}
 use Rattle.mem_cells.specs.Building.{read_places, Cellular}
 use Rattle.mem_cells.proofs.Growing.{read_cellular, mapped, mapped_length, new_gives}

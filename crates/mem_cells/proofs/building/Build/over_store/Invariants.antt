@@ -1,5 +1,5 @@
 use Rattle.std.proofs.Common.{◌*◌}
-use Rattle.walk_spec.specs.Terms.{term_word}
+use Rattle.term_spec.specs.Terms.{term_word}
 use Rattle.mem_cells.specs.Pieces.{put_bytes}
 use Rattle.mem_cells.specs.Building.{Grown, IsWord}
 use Rattle.mem_cells.proofs.building.Build.over_store.Given as goal

@@ -1,5 +1,5 @@
 use Rattle.std.proofs.Common.{subst}
-use Rattle.walk_spec.specs.Terms.{AreTyped}
+use Rattle.term_spec.specs.Terms.{AreTyped}
 use Rattle.term_dag.proofs.WordFolds.{constant_term}
 use Rattle.term_dag.proofs.dag.Dag.constant.Goals as goal
 

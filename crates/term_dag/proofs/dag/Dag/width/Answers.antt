@@ -1,5 +1,5 @@
 use Rattle.std.proofs.Common.{ap, sym, subst, ◌∙◌, ◌<◌, length}
-use Rattle.walk_spec.specs.Terms.{AreTyped}
+use Rattle.term_spec.specs.Terms.{AreTyped}
 use Rattle.term_dag.specs.Nodes.{nodes_of}
 use Rattle.term_dag.proofs.ListLaws.{typed_here}
 use Rattle.term_dag.proofs.dag.Dag.width.Goals as goal

@@ -1,0 +1,11 @@
+pub mod Examples
+pub mod TermSamples
+pub mod CellSample
+pub mod Refused
+pub mod ClauseSamples
+pub mod PriceSums
+pub mod PassiveSample
+pub mod StartSample
+pub mod EntrySame
+pub mod Asked
+pub mod HeldAnswers
