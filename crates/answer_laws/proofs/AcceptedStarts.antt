@@ -30,8 +30,8 @@ use Rattle.bilv_spec.specs.Verdict.{IsEntryState, IsStart}
 use Rattle.call_spec.specs.Calls.{Options}
 use Rattle.model_spec.specs.Models.{IsPrinted}
 use Rattle.model_spec.proofs.Printed.{choices_small, enters}
-use Rattle.state_text.specs.declared.layout.Layout.TheVariants as forms
-use Rattle.state_text.specs.declared.layout.Profile.TheVariants as profiles
+use Rattle.start_value.specs.declared.layout.Layout.TheVariants as forms
+use Rattle.start_value.specs.declared.layout.Profile.TheVariants as profiles
 use Rattle.notes_value.specs.Reads.{AreOver, IsOver}
 use Rattle.notes_lang.specs.declared.notes.Dialect.TheVariants as dialects
 use Rattle.notes_lang.proofs.Readable.{notes_over}

@@ -3,11 +3,11 @@ ghost use Rattle.std.specs.Prelude.{◌≡◌};
 ghost use Rattle.machine_spec.specs.Arm.{profile_of};
 ghost use Rattle.machine_spec.specs.StateText.{arm_layout};
 ghost use Rattle.byte_mem.specs.Views.{endian_of};
-ghost use Rattle.state_text.specs.Starts.{layout_of};
+ghost use Rattle.start_value.specs.Starts.{layout_of};
 ghost use Rattle.arm_lift.specs.Orders.{order_of};
 
 use byte_mem::Endian;
-use state_text::{Layout, Profile};
+use start_value::{Layout, Profile};
 
 /// The byte order of a number: 0 is little, any other big.
 pub(crate) fn order(big: u8) -> Endian

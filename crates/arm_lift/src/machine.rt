@@ -6,7 +6,7 @@ use arm_step::State;
 use bil_ast::Stmt;
 use byte_mem::{Bytes32, StepOut};
 use machine_law::{Cost, FlagUse, Machine, Succ};
-use state_text::{Layout, Start};
+use start_value::{Layout, Start};
 use std::alloc::{AllocError, Global};
 
 /// ARM state in a byte order and a profile: little where `BIG` is 0, and else big; version 4 where `PROFILE` is 0, version 4T where it is 1, and else

@@ -20,7 +20,7 @@ use Rattle.pair_spec.specs.Differs.{differ_answer, by_texts}
 use Rattle.pair_spec.specs.Equals.{Side, AfterElfOf, elf_refused, elf_accepted, AfterNotesOf, notes_refused, program_found, AfterLinks, too_large, linked, links_limit}
 use Rattle.pair_spec.specs.Equals as pairs
 use Rattle.pair_spec.specs.Links.{Link, IsFirstLinkFault, IsLinksText}
-use Rattle.state_text.specs.declared.layout.Layout.{Layout}
+use Rattle.start_value.specs.declared.layout.Layout.{Layout}
 use Rattle.word_spec.specs.Texts.{line, split_lines}
 use Rattle.bilv_top.specs.declared.inputs.Found.{Found}
 use Rattle.bilv_top.specs.declared.pair.Which.{Which}

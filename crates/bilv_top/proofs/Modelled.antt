@@ -13,8 +13,8 @@ use Rattle.model_spec.specs.Models as models
 use Rattle.model_spec.specs.Models.{AfterBudgets, IsModelAnswer, ending_text, model_fault_words}
 use Rattle.program_points.specs.Listed.{IsTooMany}
 use Rattle.program_points.specs.declared.values.PointsFault.TheVariants.{TooMany}
-use Rattle.state_text.specs.Starts.{written_of}
-use Rattle.state_text.specs.declared.start.Start.{Start}
+use Rattle.start_value.specs.Starts.{written_of}
+use Rattle.start_value.specs.declared.start.Start.{Start}
 use Rattle.model_verdict.specs.Judgements.{IsAccepted, IsJudged, IsRefused, IsUntrue}
 use Rattle.model_verdict.specs.Runs.{ending_of}
 use Rattle.model_verdict.specs.declared.judged.End.{End}

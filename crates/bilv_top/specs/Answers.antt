@@ -8,7 +8,7 @@ use Rattle.cnf_form.specs.Views.{proof_of}
 use Rattle.pair_form.specs.Views.{pair_question_of}
 use Rattle.pair_verdict.specs.Verdicts.{holding_of}
 use Rattle.question_form.specs.Views.{kind_of}
-use Rattle.state_text.specs.Starts.{written_of}
+use Rattle.start_value.specs.Starts.{written_of}
 use Rattle.verdict.specs.declared.verdicts.Exceeded.{Exceeded}
 use Rattle.verdict.specs.declared.verdicts.Exceeded.TheVariants.{Points, Size}
 use Rattle.elf32_reader.specs.declared.fault.ElfFault.{ElfFault}

@@ -4,8 +4,8 @@ use Rattle.machine_spec.specs.Machine.{Machine}
 use Rattle.machine_spec.specs.Bil.{Bank, XRegisters, RRegisters}
 use Rattle.call_spec.specs.Calls.{Options}
 use Rattle.bilv_spec.specs.Files.{machine_of}
-use Rattle.state_text.specs.declared.layout.Layout.{Layout}
-use Rattle.state_text.specs.declared.layout.Layout.TheVariants.{Rv32, Arm}
+use Rattle.start_value.specs.declared.layout.Layout.{Layout}
+use Rattle.start_value.specs.declared.layout.Layout.TheVariants.{Rv32, Arm}
 
 -- the letter of its registers
 abbrev pub bank_in : Layout → Bank

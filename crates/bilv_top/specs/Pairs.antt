@@ -17,8 +17,8 @@ use Rattle.links_lang.specs.Views.{AreLinksOf, links_of}
 use Rattle.links_lang.specs.declared.links.Link as of
 use Rattle.notes_value.specs.NoteViews.{notes_of}
 use Rattle.notes_lang.specs.Parsing.{layout_names}
-use Rattle.state_text.specs.Starts.{layout_of}
-use Rattle.state_text.specs.declared.layout.Layout.{Layout}
+use Rattle.start_value.specs.Starts.{layout_of}
+use Rattle.start_value.specs.declared.layout.Layout.{Layout}
 use Rattle.bilv_top.specs.declared.inputs.Found.{Found}
 use Rattle.bilv_top.specs.declared.comparing.PairTask.{PairTask}
 use Rattle.bilv_top.specs.declared.comparing.PairTask.TheVariants as task

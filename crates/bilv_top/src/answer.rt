@@ -3,7 +3,7 @@ use cnf_form::Proof;
 use pair_form::PairKind;
 use pair_verdict::Holding;
 use question_form::Kind;
-use state_text::Start;
+use start_value::Start;
 
 /// What shows that an answer is right.
 #[derive(Drop)]

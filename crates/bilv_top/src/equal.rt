@@ -10,7 +10,7 @@ ghost use Rattle.command_line.specs.Commands.{budget_of};
 ghost use Rattle.links_lang.specs.Views.{AreLinksOf, links_of};
 ghost use Rattle.pair_sides.specs.Sides.{IsSided, side_of};
 ghost use Rattle.pair_verdict.specs.Verdicts.{evidence_of, report_of};
-ghost use Rattle.state_text.specs.Starts.{layout_of, written_of};
+ghost use Rattle.start_value.specs.Starts.{layout_of, written_of};
 ghost use Rattle.verdict.specs.Verdicts as sides;
 ghost use Rattle.bilv_top.specs.Answers.{answer_of};
 ghost use Rattle.bilv_top.specs.Pairs.{side_in, with_word};
@@ -24,7 +24,8 @@ use exit_status::FAILS;
 use links_lang::Link;
 use pair_sides::Sided;
 use pair_verdict::{PairVerdict, equal as verdict_on};
-use state_text::{Layout, Start, push_block};
+use start_value::{Layout, Start};
+use state_text::push_block;
 use std::alloc::{AllocError, Global};
 use verdict::Verdict;
 

@@ -20,7 +20,7 @@ use io_edges::Shelf;
 use lift_text::lift_text;
 use machine_law::Machine;
 use rv_lift::Rv32;
-use state_text::{Layout, Profile};
+use start_value::{Layout, Profile};
 use std::alloc::{AllocError, Global};
 
 /// The answer that prints the lifted words of an image that is of a machine by some options. The error is want of memory.

@@ -9,13 +9,13 @@ ghost use Rattle.command_line.specs.Commands.{options_of};
 ghost use Rattle.notes_lang.specs.declared.notes.Dialect as dialects;
 ghost use Rattle.notes_lang.specs.Named.{dialect_of};
 ghost use Rattle.notes_lang.specs.Parsing.{layout_flags, layout_registers, layout_vocabulary};
-ghost use Rattle.state_text.specs.Starts as starts;
+ghost use Rattle.start_value.specs.Starts as starts;
 ghost use Rattle.pair_sides.specs.Sides.{machine_in};
 ghost use Rattle.bilv_top.specs.Chosen.{bank_in};
 
 use command_line::Options;
 use elf32_reader::Image;
-use state_text::Layout;
+use start_value::Layout;
 
 /// The form of a file's machine by some options, which says what machine it is. Its registers and flags are the same whatever the options.
 pub fn layout(image: &Image, options: Options) -> Layout

@@ -29,7 +29,7 @@ use io_edges::Shelf;
 use links_lang::{Link, LinkFault, LinksError, parse_links};
 use notes_lang::Dialect;
 use pair_sides::Sided;
-use state_text::Layout;
+use start_value::Layout;
 use std::alloc::{AllocError, Global};
 
 /// The most bytes of the text of links.

@@ -27,7 +27,7 @@ use elf32_reader::Image;
 use io_edges::Shelf;
 use machine_law::Machine;
 use rv_lift::Rv32;
-use state_text::{Layout, Profile};
+use start_value::{Layout, Profile};
 use std::alloc::{AllocError, Global};
 
 /// What is asked about a program.

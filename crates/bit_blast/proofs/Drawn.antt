@@ -8,9 +8,9 @@ use Rattle.word_spec.specs.Words.{bit}
 use Rattle.walk_spec.specs.Unrolled.{UnrolledProgram, no_point, point_at}
 use Rattle.term_spec.specs.ClauseForm.{drawn_below}
 use Rattle.term_dag.proofs.ListLaws.{last}
-use Rattle.state_text.specs.declared.layout.Layout.{Layout}
-use Rattle.state_text.specs.declared.layout.Layout.TheVariants.{Rv32, Arm}
-use Rattle.state_text.specs.Starts.{layout_of}
+use Rattle.start_value.specs.declared.layout.Layout.{Layout}
+use Rattle.start_value.specs.declared.layout.Layout.TheVariants.{Rv32, Arm}
+use Rattle.start_value.specs.Starts.{layout_of}
 use Rattle.question_form.specs.declared.unrolled.Point.{Point}
 use Rattle.question_form.specs.declared.unrolled.Unrolled.{Unrolled}
 use Rattle.question_form.specs.Views.{no_code, points_of}

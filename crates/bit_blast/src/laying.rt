@@ -1,7 +1,7 @@
 //! Where the inputs of cells stand.
 ghost use Rattle.std.specs.Prelude.{◌≡◌, ◌<◌, ◌≤◌, ◌^◌, length, slice_index_or, IfOk};
 ghost use Rattle.question_form.specs.Views.{no_code, unrolled_of};
-ghost use Rattle.state_text.specs.Starts.{layout_of};
+ghost use Rattle.start_value.specs.Starts.{layout_of};
 ghost use Rattle.mem_cells.specs.Views.{cells_of, program_of_cells};
 ghost use Rattle.term_spec.specs.ClauseForm.{drawn_below, first_byte};
 ghost use Rattle.bit_blast.specs.Laid.{AreDrawn, ArePlaces};
@@ -9,7 +9,7 @@ ghost use Rattle.bit_blast.specs.Laid.{AreDrawn, ArePlaces};
 use crate::input_places::InputPlaces;
 use mem_cells::Celled;
 use question_form::Unrolled;
-use state_text::Layout;
+use start_value::Layout;
 use std::alloc::{AllocError, Global};
 
 /// How many points or base reads there are at most, so that 32 bits name each input.

@@ -11,7 +11,7 @@ ghost use Rattle.term_spec.specs.Cells.{AreFormed, Gives};
 ghost use Rattle.term_spec.specs.ClauseForm.{IsBroken, IsStartOf, reading};
 ghost use Rattle.known_bytes.specs.Runs.{AreRuns};
 ghost use Rattle.term_dag.specs.Readings.{reading_of};
-ghost use Rattle.state_text.specs.Starts.{written_of};
+ghost use Rattle.start_value.specs.Starts.{written_of};
 ghost use Rattle.question_form.specs.Questions.{passive_of};
 ghost use Rattle.mem_cells.specs.Views.{cells_of, program_of_cells};
 ghost use Rattle.bit_blast.specs.Followed.{AreFollowed, IsStartReading};
@@ -26,7 +26,7 @@ use crate::starts::{flags_by_number, registers_by_number, registers_of};
 use crate::steps::{choices_by_place, choices_by_step};
 use crate::values::number_at;
 use mem_cells::Celled;
-use state_text::Start;
+use start_value::Start;
 use std::alloc::{AllocError, Global};
 use term_dag::Reading;
 

@@ -1,7 +1,7 @@
 -- The commands of the code as the definitions have them.
 use Rattle.call_spec.specs.Calls as asked
 use Rattle.command_spec.specs.Commands as outcomes
-use Rattle.state_text.specs.Starts.{profile_in}
+use Rattle.start_value.specs.Starts.{profile_in}
 pub use Rattle.call_form.specs.Views.{budget_of, kind_of}
 use Rattle.command_line.specs.declared.command.Options.{Options}
 use Rattle.command_line.specs.declared.command.PairNames.{PairNames}

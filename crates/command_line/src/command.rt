@@ -1,6 +1,6 @@
 //! Commands.
 use call_form::{Budget, Kind};
-use state_text::Profile;
+use start_value::Profile;
 
 /// What an executable leaves open of its machine.
 #[derive(Clone, Copy, PartialEq, Eq, Debug)]

@@ -4,13 +4,13 @@ ghost use Rattle.command_spec.specs.Commands.{IsLawfulCommand};
 ghost use Rattle.clap.specs.Words.{found_of, rows_of};
 ghost use Rattle.command_line.specs.Commands.{budget_of, command_of, kind_of, names_of, options_of};
 ghost use Rattle.command_line.specs.Lines as lines;
-ghost use Rattle.state_text.specs.Starts.{profile_in};
+ghost use Rattle.start_value.specs.Starts.{profile_in};
 
 use crate::command::{Command, Options, PairNames};
 use crate::found::{number, text};
 use call_form::{Budget, CONFLICTS, Kind, POINTS, Range, SIZE, UNROLL};
 use clap::ArgMatches;
-use state_text::Profile;
+use start_value::Profile;
 
 fn within(matches: &ArgMatches<'_>, id: &str, range: Range) -> Option<u64>
     ensures value { result ≡ lines.number_in range.low range.high id.now (rows_of (found_of matches.now)) }

@@ -14,7 +14,7 @@ use arm_lift::Arm;
 use elf32_reader::{ElfFault, Image, read_image};
 use notes_lang::{Dialect, parse};
 use question_form::Unrolled;
-use state_text::{Layout, Profile};
+use start_value::{Layout, Profile};
 use std::alloc::{AllocError, Global};
 use std::test::Fail;
 

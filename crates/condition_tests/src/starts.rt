@@ -6,7 +6,7 @@ ghost use Rattle.machine_spec.specs.RvMachine.{rv32};
 ghost use Rattle.machine_spec.specs.StateText.{IsWritten, rv_layout};
 ghost use Rattle.notes_value.specs.NoteViews.{notes_of};
 ghost use Rattle.notes_value.specs.Reads.{AreReadable};
-ghost use Rattle.state_text.specs.Starts.{written_of};
+ghost use Rattle.start_value.specs.Starts.{written_of};
 
 use crate::programs::{Case, ENTRY};
 use bv_word::Word;
@@ -16,7 +16,7 @@ use known_bytes::known_stretch;
 use notes_value::Notes;
 use question_form::Kind;
 use rv_lift::Rv32;
-use state_text::Start;
+use start_value::Start;
 use std::alloc::{AllocError, Global};
 use table_run::{Ending, entry_ok, run, start_state};
 use term_dag::{Dag, Reading, Term};

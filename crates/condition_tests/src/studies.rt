@@ -25,7 +25,7 @@ use passify::passive;
 use program_points::PointsFault;
 use question_form::{Kind, Passive, Question, Unrolled};
 use rv_lift::Rv32;
-use state_text::Layout;
+use start_value::Layout;
 use std::alloc::{AllocError, Global};
 use std::test::Fail;
 use unroller::unroll;

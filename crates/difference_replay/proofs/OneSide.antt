@@ -9,8 +9,8 @@ use Rattle.bilv_spec.specs.Run.{Program, Run, Going, Exited, Failed, Turned, Ste
 use Rattle.bilv_spec.specs.Files.{program_of}
 use Rattle.bilv_spec.specs.Answers.{start_in}
 use Rattle.pair_spec.specs.Differs.{exit_by_step, exit_of_run, exit_at}
-use Rattle.state_text.specs.Starts.{layout_of, written_of}
-use Rattle.state_text.specs.declared.start.Start.{Start}
+use Rattle.start_value.specs.Starts.{layout_of, written_of}
+use Rattle.start_value.specs.declared.start.Start.{Start}
 use Rattle.notes_value.specs.NoteViews.{notes_of}
 use Rattle.table_run.specs.Exits.{IsExit, IsNoExit}
 use Rattle.pair_sides.specs.Sides.{machine_in, program_of_side}

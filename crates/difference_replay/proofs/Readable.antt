@@ -10,8 +10,8 @@ use Rattle.links_lang.specs.declared.links.Link.TheVariants as link
 use Rattle.links_lang.specs.declared.links.Named.{Named}
 use Rattle.links_lang.specs.declared.links.Named.TheVariants as named
 use Rattle.pair_sides.specs.Sides.{machine_in}
-use Rattle.state_text.specs.declared.layout.Layout.{Layout}
-use Rattle.state_text.specs.declared.layout.Layout.TheVariants.{Rv32, Arm}
+use Rattle.start_value.specs.declared.layout.Layout.{Layout}
+use Rattle.start_value.specs.declared.layout.Layout.TheVariants.{Rv32, Arm}
 use Rattle.difference_replay.specs.declared.probes.Half.{Half}
 use Rattle.difference_replay.specs.declared.probes.Half.TheVariants.{First, Second}
 use Rattle.difference_replay.specs.declared.probes.RunEnd.{RunEnd}

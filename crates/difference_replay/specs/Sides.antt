@@ -10,8 +10,8 @@ use Rattle.bilv_spec.specs.Points.{is_known_at}
 use Rattle.bilv_spec.specs.EntryFaults.{IsEntryStateFault, false_require}
 use Rattle.bilv_spec.specs.Answers.{start_in}
 use Rattle.pair_spec.specs.Differs.{exit_at}
-use Rattle.state_text.specs.Starts.{layout_of, written_of}
-use Rattle.state_text.specs.declared.start.Start.{Start}
+use Rattle.start_value.specs.Starts.{layout_of, written_of}
+use Rattle.start_value.specs.declared.start.Start.{Start}
 use Rattle.table_run.specs.Endings.{fault_of, IsLinesFault}
 use Rattle.pair_sides.specs.Sides.{IsSided, program_of_side}
 use Rattle.pair_sides.specs.declared.sides.Sided.{Sided}

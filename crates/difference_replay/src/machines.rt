@@ -12,7 +12,7 @@ use crate::sides::{Entered, end_by, enter_by, leave_by};
 use arm_lift::Arm;
 use pair_sides::Sided;
 use rv_lift::Rv32;
-use state_text::{Layout, Profile, Start};
+use start_value::{Layout, Profile, Start};
 use std::alloc::{AllocError, Global};
 use table_run::Ending;
 

@@ -5,7 +5,7 @@ ghost use Rattle.machine_spec.specs.StateText.{last_step, line_of, told_of};
 ghost use Rattle.call_spec.specs.Calls.{plain_answer};
 ghost use Rattle.bilv_spec.specs.Points.{is_known_at};
 ghost use Rattle.pair_spec.specs.Differs.{some_ending, second_told, blocks_told, side_end, found_text, exit_at, by_exits, by_starts, by_told, differ_answer};
-ghost use Rattle.state_text.specs.Starts.{written_of};
+ghost use Rattle.start_value.specs.Starts.{written_of};
 ghost use Rattle.links_lang.specs.Views.{links_of, AreLinksOf};
 ghost use Rattle.pair_sides.specs.Sides.{side_of, IsSided, program_of_side};
 ghost use Rattle.difference_replay.specs.Named.{named_of, AreSteps};
@@ -23,7 +23,8 @@ use line_tokens::first_line;
 use links_lang::Link;
 use pair_sides::Sided;
 use report_replay::{REPORT_LIMIT, Reading, Replay, read_text, refused, too_large};
-use state_text::{Start, StateFault};
+use start_value::Start;
+use state_text::StateFault;
 use std::alloc::{AllocError, Global};
 
 /// Two functions with their links.

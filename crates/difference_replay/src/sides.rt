@@ -1,7 +1,7 @@
 //! What a start of one of two functions comes to, on a machine: the values of its states at places, and the end of its run.
 ghost use Rattle.std.specs.Prelude.{◌≡◌, ◌≤◌, IfOk};
 ghost use Rattle.machine_spec.specs.StateText.{last_step};
-ghost use Rattle.state_text.specs.Starts.{layout_of};
+ghost use Rattle.start_value.specs.Starts.{layout_of};
 ghost use Rattle.table_run.specs.Endings.{found_of};
 ghost use Rattle.pair_sides.specs.Sides.{machine_in, program_of_side};
 ghost use Rattle.pair_spec.specs.Differs.{found_in};
@@ -11,7 +11,7 @@ ghost use Rattle.difference_replay.specs.Sides.{start_of_side, IsBegun, IsEntere
 use crate::probes::{Half, Probe, values_on};
 use machine_law::Machine;
 use pair_sides::Sided;
-use state_text::Start;
+use start_value::Start;
 use std::alloc::{AllocError, Global};
 use table_run::{Ending, EntryFault, exit_state, lines_ok, run, start_state};
 

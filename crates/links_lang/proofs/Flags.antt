@@ -8,8 +8,8 @@ use Rattle.bilv_spec.proofs.Decided.{Decided, is_less}
 use Rattle.bilv_spec.specs.LiveFlags.{names_flag}
 use Rattle.pair_spec.specs.Links.{compares_flag}
 use Rattle.graph_nodes.specs.Graphs.{IsFlagSet, has_flag}
-use Rattle.state_text.specs.declared.layout.Layout.{Layout}
-use Rattle.state_text.specs.declared.layout.Layout.TheVariants.{Rv32, Arm}
+use Rattle.start_value.specs.declared.layout.Layout.{Layout}
+use Rattle.start_value.specs.declared.layout.Layout.TheVariants.{Rv32, Arm}
 use Rattle.notes_lang.specs.Parsing.{layout_flags}
 use Rattle.links_lang.specs.declared.links.Named.{Named}
 use Rattle.links_lang.specs.declared.links.Named.TheVariants.{Zero, Register, Flag}

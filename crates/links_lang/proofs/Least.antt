@@ -8,7 +8,7 @@ use Rattle.line_tokens.specs.Tokens.{capped, token_of}
 use Rattle.pair_spec.specs.Links.{LinkFaultApplies, LimitFault, SyntaxFault, NameFault, RangeFault, HasForm, IsSaid, Says, fault_rank}
 use Rattle.pair_spec.specs.Links as spec
 use Rattle.pair_spec.proofs.LinkTexts.{form_of}
-use Rattle.state_text.specs.declared.layout.Layout.{Layout}
+use Rattle.start_value.specs.declared.layout.Layout.{Layout}
 use Rattle.notes_lang.specs.Parsing.{layout_names}
 use Rattle.notes_lang.specs.Reading.{AreGood, tokens_view}
 use Rattle.notes_lang.proofs.Judged.{same_view}

@@ -6,7 +6,7 @@ use Rattle.bilv_spec.specs.Notes.{Expr}
 use Rattle.notes_spec.specs.NotesGrammar.{lines_of}
 use Rattle.pair_spec.specs.Links.{AreLines, IsFirstLinkFault, IsLine, IsLinksText, LinkFaultApplies, Says, Nothing, LinkIs, at_line, fault_rank, links_in}
 use Rattle.pair_spec.specs.Links as spec
-use Rattle.state_text.specs.declared.layout.Layout.{Layout}
+use Rattle.start_value.specs.declared.layout.Layout.{Layout}
 use Rattle.notes_lang.specs.Parsing.{layout_names}
 use Rattle.links_lang.specs.declared.links.Link.{Link}
 use Rattle.links_lang.specs.Views.{AreLinksOf, IsLinkOf, link_of, links_of}

@@ -9,8 +9,8 @@ use Rattle.machine_spec.specs.Arm.{arm}
 use Rattle.bilv_spec.specs.Notes.{Expr, Register, Flag}
 use Rattle.notes_spec.specs.RvNames.{name_in, rv_table}
 use Rattle.notes_spec.specs.ArmNames.{arm_table}
-use Rattle.state_text.specs.declared.layout.Layout.{Layout}
-use Rattle.state_text.specs.declared.layout.Layout.TheVariants.{Rv32, Arm}
+use Rattle.start_value.specs.declared.layout.Layout.{Layout}
+use Rattle.start_value.specs.declared.layout.Layout.TheVariants.{Rv32, Arm}
 use Rattle.notes_lang.specs.Parsing.{layout_names}
 use Rattle.links_lang.specs.declared.links.Named.{Named}
 use Rattle.links_lang.specs.declared.links.Named.TheVariants as named

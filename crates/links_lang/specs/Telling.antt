@@ -7,7 +7,7 @@ use Rattle.pair_spec.specs.Links.{Says, Nothing, LinkIs, HasForm, IsSaid, IsRang
 use Rattle.pair_spec.specs.Links as spec
 use Rattle.line_tokens.specs.declared.lexer.Token as code
 use Rattle.line_tokens.specs.Tokens.{token_of}
-use Rattle.state_text.specs.declared.layout.Layout.{Layout}
+use Rattle.start_value.specs.declared.layout.Layout.{Layout}
 use Rattle.notes_lang.specs.Parsing.{layout_names}
 use Rattle.links_lang.specs.declared.faults.LinkFault.{LinkFault}
 use Rattle.links_lang.specs.declared.faults.LinkFault.TheVariants.{Limit, Syntax, Name, Range}

@@ -4,7 +4,7 @@ use Rattle.bilv_spec.specs.Notes.{Expr, Number}
 use Rattle.bilv_spec.specs.Notes as notes
 use Rattle.pair_spec.specs.Links.{AreAlike, kind_of}
 use Rattle.pair_spec.specs.Links as spec
-use Rattle.state_text.specs.declared.layout.Layout.{Layout}
+use Rattle.start_value.specs.declared.layout.Layout.{Layout}
 use Rattle.notes_lang.specs.Parsing.{layout_registers, layout_flags}
 use Rattle.links_lang.specs.declared.links.Named.{Named}
 use Rattle.links_lang.specs.declared.links.Named.TheVariants.{Zero, Register, Flag}

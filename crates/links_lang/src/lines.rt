@@ -14,7 +14,7 @@ use crate::faults::LinkFault;
 use crate::links::{Link, Named};
 use crate::names::named;
 use line_tokens::{Token, tokens};
-use state_text::Layout;
+use start_value::Layout;
 use std::alloc::{AllocError, Global};
 
 /// Whether it is a flag.

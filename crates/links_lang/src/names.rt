@@ -7,7 +7,7 @@ ghost use Rattle.links_lang.specs.Views.{IsOfForm};
 ghost use Rattle.links_lang.specs.Naming.{IsMeaning, row_of};
 
 use crate::links::Named;
-use state_text::Layout;
+use start_value::Layout;
 
 /// The names of RV32IM (RISC-V Unprivileged ISA 20191213, chapter 25). The program counter has one, and is no register.
 const RV_NAMES: [(&[u8], Option<Named>); 66] = [

@@ -9,7 +9,7 @@ use crate::faults::LinksError;
 use crate::lines::judge;
 use crate::links::Link;
 use crate::texts::first_line;
-use state_text::Layout;
+use start_value::Layout;
 use std::alloc::{AllocError, Global};
 
 /// Adds the link of a line, if it says one. The error is out of memory.

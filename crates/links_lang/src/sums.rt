@@ -3,7 +3,7 @@ ghost use Rattle.std.specs.Prelude.{◌≡◌, ◌≤◌, ◌<◌, ◌+◌, ◌-
 ghost use Rattle.std.specs.List.{list_any};
 ghost use Rattle.bilv_spec.specs.LiveFlags.{names_flag};
 ghost use Rattle.pair_spec.specs.Links.{compares_flag};
-ghost use Rattle.state_text.specs.declared.layout.Layout.{Layout};
+ghost use Rattle.start_value.specs.declared.layout.Layout.{Layout};
 ghost use Rattle.pair_spec.specs.Pairs as pairs;
 ghost use Rattle.graph_nodes.specs.Graphs.{IsFlagSet, has_flag};
 ghost use Rattle.links_lang.specs.Views.{AreLinksOf, link_of, links_of, named_of};

@@ -12,7 +12,7 @@ ghost use Rattle.machine_spec.specs.Bil as bil;
 ghost use Rattle.machine_spec.specs.StateText as texts;
 ghost use Rattle.bil_ast.specs.Views.{statements};
 ghost use Rattle.byte_mem.specs.Views.{IsStep};
-ghost use Rattle.state_text.specs.Starts.{layout_of, written_of};
+ghost use Rattle.start_value.specs.Starts.{layout_of, written_of};
 ghost use Rattle.machine_law.specs.Facts.{cost_of, successors_of, IsFlagUse, IsFit, made};
 
 mod facts;
@@ -23,7 +23,7 @@ use bil_ast::Stmt;
 use byte_mem::{Bytes32, StepOut, View};
 pub use facts::{Cost, FlagUse, Succ};
 pub use lengths::{is_narrow, length, taken, unit};
-use state_text::{Layout, Start};
+use start_value::{Layout, Start};
 use std::alloc::{AllocError, Global};
 pub use words::lift_word;
 

@@ -2,8 +2,8 @@
 use Rattle.std.proofs.Common.{◌≡◌, ◌≢◌, ℕ, ◌<◌, ◌^◌, Bool, true, false, List, [], ◌∷◌, Option, Some, None, Result, Ok, Err, refl, sym, ap, ◌∙◌, subst, length}
 use Rattle.std.specs.Prelude.{IfErr, IsErrAnd, IsSomeAnd, MatchBool}
 use Rattle.machine_spec.specs.StateText.{Layout}
-use Rattle.state_text.specs.declared.layout.Layout as forms
-use Rattle.state_text.specs.Starts.{layout_of}
+use Rattle.start_value.specs.declared.layout.Layout as forms
+use Rattle.start_value.specs.Starts.{layout_of}
 use Rattle.model_spec.specs.ModelText.{Between, Placed, Declared, Definition, IsAnswer, line_after, placed_tokens, tokens_from}
 use Rattle.model_text.specs.declared.fault.ModelFault.{ModelFault}
 use Rattle.model_text.specs.declared.fault.ModelFault.TheVariants.{Text, Memory}

@@ -15,9 +15,9 @@ use Rattle.machine_spec.specs.StateText.{Layout, rv_layout, arm_layout, value_na
 use Rattle.machine_spec.proofs.StateLines.{IsLayout, rv_is_layout, arm_is_layout, and_true, is_place, is_plain, is_free, fits, all_below}
 use Rattle.machine_spec.proofs.Spelling.{decimal_back}
 use Rattle.bilv_spec.specs.Scripts.{choice_name}
-use Rattle.state_text.specs.declared.layout.Layout as forms
-use Rattle.state_text.specs.declared.layout.Layout.TheVariants.{Rv32, Arm}
-use Rattle.state_text.specs.Starts.{layout_of, profile_in}
+use Rattle.start_value.specs.declared.layout.Layout as forms
+use Rattle.start_value.specs.declared.layout.Layout.TheVariants.{Rv32, Arm}
+use Rattle.start_value.specs.Starts.{layout_of, profile_in}
 use Rattle.model_spec.specs.ModelText.{Declared}
 use Rattle.model_text.specs.declared.symbol.Symbol.{Symbol}
 use Rattle.model_text.specs.declared.symbol.Symbol.TheVariants.{Register, Flag, Choice, Memory}

@@ -2,7 +2,7 @@
 ghost use Rattle.std.specs.Prelude.{◌≡◌, ◌≤◌, ◌%◌, ℕ, List, Option, None, length, map, take, drop, IfOk, IfErr, IfSome};
 ghost use Rattle.machine_spec.specs.StateText.{value_names};
 ghost use Rattle.model_spec.specs.ModelText.{Declared, Definition, IsAnswer, Value, line_after};
-ghost use Rattle.state_text.specs.Starts.{layout_of};
+ghost use Rattle.start_value.specs.Starts.{layout_of};
 ghost use Rattle.model_text.specs.Answers.{IsModelOf, IsMemoryIf};
 ghost use Rattle.model_text.specs.Drafts.{AreFindings, AreFlags, IsMemoryOf, or_zero};
 ghost use Rattle.model_text.specs.Faults.{IsRefusal, kept_of};
@@ -19,7 +19,7 @@ use crate::place::Place;
 use crate::reading::Reading;
 use crate::scanner::next_token;
 use crate::stores::Stored;
-use state_text::Layout;
+use start_value::Layout;
 use std::alloc::{AllocError, Global};
 
 /// The number of the line behind the last line of a text.

@@ -2,7 +2,7 @@
 ghost use Rattle.std.specs.Prelude.{◌≡◌, ◌<◌, ◌≤◌, ◌+◌, ◌^◌, ℕ, List, Option, Some, None, true, false, is_some, IfOk, IsSomeAnd, OnOk, MatchBool};
 ghost use Rattle.std.specs.Option.{option_map};
 ghost use Rattle.machine_spec.specs.StateText as texts;
-ghost use Rattle.state_text.specs.Starts.{layout_of};
+ghost use Rattle.start_value.specs.Starts.{layout_of};
 ghost use Rattle.model_spec.specs.ModelText.{ModelToken};
 ghost use Rattle.model_text.specs.declared.place.Place.TheVariants.{Closing};
 ghost use Rattle.model_text.specs.Drafts.{IsLearnt, Keeps};
@@ -20,7 +20,7 @@ use crate::piece::is_done;
 use crate::place::Place;
 use crate::symbol::{Symbol, symbol_of};
 use crate::token::{Placed, Token};
-use state_text::Layout;
+use start_value::Layout;
 use std::alloc::{AllocError, Global};
 
 /// What the tokens so far say.

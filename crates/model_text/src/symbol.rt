@@ -2,11 +2,11 @@
 ghost use Rattle.std.specs.Prelude.{◌≡◌, ◌≤◌, map, IfSome};
 ghost use Rattle.word_spec.specs.Texts.{at_most};
 ghost use Rattle.machine_spec.specs.StateText.{place_in};
-ghost use Rattle.state_text.specs.Starts.{layout_of};
+ghost use Rattle.start_value.specs.Starts.{layout_of};
 ghost use Rattle.model_text.specs.Symbols.{choice_number, choice_symbol, drawn_choice, symbol_in, is_memory, count_of, IsNamed};
 
 use line_tokens::decimal_at_most;
-use state_text::Layout;
+use start_value::Layout;
 
 /// A symbol that a script declares. The registers, the flags and the choices have places: the registers and the flags as in a state text, and behind them the
 /// choices of all points by their numbers.

@@ -11,8 +11,8 @@ use Rattle.bilv_spec.specs.Scripts.{choice_name, draws, drawn_names}
 use Rattle.model_spec.specs.ModelText.{Declared, Words, Memories}
 use Rattle.model_spec.specs.Models.{AreDeclared}
 use Rattle.model_text.specs.Symbols.{AreSymbols, IsSymbol, register, flag, memory, choice}
-use Rattle.state_text.specs.declared.layout.Layout as forms
-use Rattle.state_text.specs.Starts.{layout_of}
+use Rattle.start_value.specs.declared.layout.Layout as forms
+use Rattle.start_value.specs.Starts.{layout_of}
 use Rattle.smtlib_print.proofs.Layouts.{each_own, is_lettered, is_own, name_at, usable_of}
 use Rattle.smtlib_print.proofs.Names.{is_symbol}
 use Rattle.smtlib_print.proofs.ReadBack.{is_word}

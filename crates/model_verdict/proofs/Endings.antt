@@ -8,9 +8,10 @@ use Rattle.bilv_spec.specs.PointLaws.{HasLawfulRows, ReadsMemory}
 use Rattle.bilv_spec.specs.Questions.{Reading, read_run}
 use Rattle.bilv_spec.specs.Reports.{FoundLeft, found_by}
 use Rattle.model_spec.specs.Models.{all_reads}
-use Rattle.state_text.specs.Starts.{event_of, written_of}
+use Rattle.start_value.specs.Starts.{written_of}
+use Rattle.state_text.specs.Starts.{event_of}
 use Rattle.state_text.specs.declared.start.Event.{Event}
-use Rattle.state_text.specs.declared.start.Start.{Start}
+use Rattle.start_value.specs.declared.start.Start.{Start}
 use Rattle.table_run.specs.Traces.{AreListed, ComesTo, last_of}
 use Rattle.table_run.specs.declared.ending.Ending.{Ending}
 use Rattle.table_run.specs.declared.ending.Ending.TheVariants as ending

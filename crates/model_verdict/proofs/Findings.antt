@@ -17,8 +17,8 @@ use Rattle.model_spec.specs.ModelText.{Declared, Definition, IsAnswer}
 use Rattle.model_spec.specs.Models.{AreDeclared}
 use Rattle.smtlib_print.specs.Numbered.{AreNumbersOf}
 use Rattle.smtlib_print.proofs.Programs.{numbered, walk_from, walk_to}
-use Rattle.state_text.specs.Starts.{layout_of}
-use Rattle.state_text.specs.declared.layout.Layout as forms
+use Rattle.start_value.specs.Starts.{layout_of}
+use Rattle.start_value.specs.declared.layout.Layout as forms
 use Rattle.table_run.specs.Traces as traces
 use Rattle.table_run.specs.Traces.{IsModelState, TakesChoices, byte_over}
 use Rattle.verdict.specs.Grounds.{IsGround}

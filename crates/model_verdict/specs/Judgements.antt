@@ -9,8 +9,8 @@ use Rattle.call_spec.specs.Calls.{Question}
 use Rattle.model_spec.specs.ModelText.{Declared, Definition, ModelFault, IsAnswer, IsModelFault}
 use Rattle.model_spec.specs.Models.{AreDeclared, IsReadingOf}
 use Rattle.model_text.specs.Faults.{fault_of}
-use Rattle.state_text.specs.Starts.{written_of}
-use Rattle.state_text.specs.declared.start.Start.{Start}
+use Rattle.start_value.specs.Starts.{written_of}
+use Rattle.start_value.specs.declared.start.Start.{Start}
 use Rattle.model_verdict.specs.Runs.{IsShown}
 use Rattle.model_verdict.specs.declared.judged.End.{End}
 use Rattle.model_verdict.specs.declared.judged.Judged.{Judged}

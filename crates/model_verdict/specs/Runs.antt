@@ -11,7 +11,8 @@ use Rattle.bilv_spec.specs.Scripts.{draws}
 use Rattle.call_spec.specs.Calls.{Question}
 use Rattle.machine_law.specs.Facts.{IsFit}
 use Rattle.model_spec.specs.Models.{DrawsAt, Ending, EndsAtEntry, EndsFailed, EndsTurned, IsEndOf, IsPrinted, all_reads, last_of, steps_of}
-use Rattle.state_text.specs.Starts.{written_of, event_of}
+use Rattle.start_value.specs.Starts.{written_of}
+use Rattle.state_text.specs.Starts.{event_of}
 use Rattle.table_run.specs.Traces as traces
 use Rattle.table_run.specs.Traces.{AreListed, ComesTo}
 use Rattle.table_run.specs.declared.tracing.Traced.{Traced}

@@ -9,7 +9,7 @@ ghost use Rattle.call_spec.specs.Calls.{EntryQuestion, FailQuestion, TurnQuestio
 ghost use Rattle.machine_law.specs.Facts.{IsFit};
 ghost use Rattle.notes_value.specs.NoteViews.{notes_of};
 ghost use Rattle.notes_value.specs.Reads.{AreReadable};
-ghost use Rattle.state_text.specs.Starts.{written_of};
+ghost use Rattle.start_value.specs.Starts.{written_of};
 ghost use Rattle.table_run.specs.Traces.{IsModelState, TakesChoices};
 ghost use Rattle.term_dag.specs.Readings.{reading_of};
 ghost use Rattle.question_form.specs.Views.{kind_of, unrolled_of};
@@ -26,7 +26,7 @@ use crate::{End, Judged};
 use machine_law::Machine;
 use model_text::{Model, ModelMemory};
 use question_form::{Kind, Passive};
-use state_text::Start;
+use start_value::Start;
 use std::alloc::{AllocError, Global};
 use table_run::{Ending, Traced, required_bytes, trace};
 use term_dag::Reading;

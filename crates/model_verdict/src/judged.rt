@@ -1,6 +1,7 @@
 //! What an answer is judged to be.
 use model_text::ModelFaultKind;
-use state_text::{Event, Start};
+use start_value::Start;
+use state_text::Event;
 
 /// How the run of an accepted start ends.
 #[derive(Clone, Copy, PartialEq, Eq, Debug)]

@@ -2,7 +2,7 @@
 ghost use Rattle.std.specs.Prelude.{◌≡◌, ℕ, ◌≤◌, ◌<◌, ◌+◌, ◌^◌, false, if◌then◌else◌, length, slice_index, slice_index_or, IfOk};
 ghost use Rattle.word_spec.specs.Words.{bit_at};
 ghost use Rattle.known_bytes.specs.Runs.{AreRuns};
-ghost use Rattle.state_text.specs.Starts.{layout_of};
+ghost use Rattle.start_value.specs.Starts.{layout_of};
 ghost use Rattle.term_dag.specs.Readings.{reading_of};
 ghost use Rattle.question_form.specs.Views.{unrolled_of};
 ghost use Rattle.model_verdict.specs.Models.{IsSound};

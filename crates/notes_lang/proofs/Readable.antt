@@ -18,8 +18,8 @@ use Rattle.bilv_spec.proofs.Decided.{none_some}
 use Rattle.notes_spec.proofs.NotesTables.{of_each}
 use Rattle.notes_spec.proofs.NotesNames.{machine_names_of_words}
 use Rattle.notes_spec.proofs.NotesWords.{words_said}
-use Rattle.state_text.specs.declared.layout.Layout.{Layout}
-use Rattle.state_text.specs.declared.layout.Layout.TheVariants.{Rv32, Arm}
+use Rattle.start_value.specs.declared.layout.Layout.{Layout}
+use Rattle.start_value.specs.declared.layout.Layout.TheVariants.{Rv32, Arm}
 use Rattle.notes_value.specs.Reads.{IsReadable, AreReadable, IsOver, AreOver}
 use Rattle.notes_lang.specs.declared.notes.Dialect.{Dialect}
 use Rattle.notes_lang.specs.Parsing.{layout_names, layout_vocabulary, layout_registers, layout_flags}

@@ -9,9 +9,9 @@ use Rattle.machine_spec.specs.RvMachine.{rv32}
 use Rattle.machine_spec.specs.Arm.{arm}
 use Rattle.notes_spec.specs.RvNames.{rv_names}
 use Rattle.notes_spec.specs.ArmNames.{arm_names}
-use Rattle.state_text.specs.declared.layout.Layout.{Layout}
-use Rattle.state_text.specs.declared.layout.Layout.TheVariants.{Rv32, Arm}
-use Rattle.state_text.specs.Starts.{profile_in}
+use Rattle.start_value.specs.declared.layout.Layout.{Layout}
+use Rattle.start_value.specs.declared.layout.Layout.TheVariants.{Rv32, Arm}
+use Rattle.start_value.specs.Starts.{profile_in}
 use Rattle.notes_lang.specs.declared.drafts.Draft.{Draft}
 use Rattle.notes_lang.specs.declared.notes.Dialect.{Dialect}
 use Rattle.notes_lang.specs.declared.notes_text.NoteFault.{NoteFault}

@@ -20,7 +20,7 @@ use crate::sayings::Says;
 use crate::scopes::{Constant, Mode, Scope};
 use crate::texts::first_line;
 use crate::versions::is_second_text;
-use state_text::Layout;
+use start_value::Layout;
 use std::alloc::{AllocError, Global};
 use thiserror::Error;
 

@@ -10,9 +10,9 @@ use Rattle.bilv_spec.specs.Run.{Program}
 use Rattle.notes_value.specs.NoteViews.{notes_of}
 use Rattle.notes_value.specs.Reads.{AreOver, AreReadable}
 use Rattle.pair_spec.specs.Equals.{Side}
-use Rattle.state_text.specs.Starts.{layout_of, profile_in}
-use Rattle.state_text.specs.declared.layout.Layout.{Layout}
-use Rattle.state_text.specs.declared.layout.Layout.TheVariants.{Rv32, Arm}
+use Rattle.start_value.specs.Starts.{layout_of, profile_in}
+use Rattle.start_value.specs.declared.layout.Layout.{Layout}
+use Rattle.start_value.specs.declared.layout.Layout.TheVariants.{Rv32, Arm}
 use Rattle.pair_sides.specs.declared.sides.Sided.{Sided}
 
 -- the machine of a form of states

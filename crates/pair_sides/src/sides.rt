@@ -1,7 +1,7 @@
 //! A function of two files, with the form of the states of its machine.
 use elf32_reader::Image;
 use notes_value::Notes;
-use state_text::Layout;
+use start_value::Layout;
 
 /// The function at an address of an image, by its notes, and the form of the states of its machine, which says which machine that is.
 #[derive(Clone, Copy)]

@@ -17,8 +17,8 @@ use Rattle.term_names.specs.declared.names.Names.{Names}
 use Rattle.term_names.specs.Views.{AreFor, form_of, names_of}
 use Rattle.term_names.specs.Chosen.{AreEntryNames, HaveSameForm}
 use Rattle.note_terms.proofs.Valued.{names_stay, range_at, range_length}
-use Rattle.state_text.specs.declared.layout.Layout.{Layout}
-use Rattle.state_text.specs.Starts.{layout_of}
+use Rattle.start_value.specs.declared.layout.Layout.{Layout}
+use Rattle.start_value.specs.Starts.{layout_of}
 use Rattle.passify.specs.Lasts.{CarriesTo}
 use Rattle.pair_terms.specs.Words.{AreOfForm}
 use Rattle.pair_terms.specs.Exits.{last_of}

@@ -10,7 +10,7 @@ use Rattle.term_dag.specs.Made.{IsInterned}
 use Rattle.term_dag.proofs.Growth.{grew_none, grew_on, grew_more, grew_width, inputs_none, inputs_on, interned_grew, interned_inputs, interned_width}
 use Rattle.pair_spec.specs.PairTerms.{HaveWidths}
 use Rattle.mem_cells.specs.Words.{places_of}
-use Rattle.state_text.specs.declared.layout.Layout.{Layout}
+use Rattle.start_value.specs.declared.layout.Layout.{Layout}
 use Rattle.links_lang.specs.declared.links.Link.{Link}
 use Rattle.links_lang.specs.declared.links.Link.TheVariants.{Entry, Exit, Share, Same}
 use Rattle.links_lang.specs.Views.{link_of, links_of}

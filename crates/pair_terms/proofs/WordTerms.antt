@@ -27,8 +27,8 @@ use Rattle.term_names.specs.declared.names.Names as declared
 use Rattle.term_names.specs.Views.{form_of, names_of}
 use Rattle.weakest_pre.proofs.Entries.{link_is}
 use Rattle.weakest_pre.proofs.Told.{both_true}
-use Rattle.state_text.specs.declared.layout.Layout.{Layout}
-use Rattle.state_text.specs.declared.layout.Layout.TheVariants.{Rv32, Arm}
+use Rattle.start_value.specs.declared.layout.Layout.{Layout}
+use Rattle.start_value.specs.declared.layout.Layout.TheVariants.{Rv32, Arm}
 use Rattle.links_lang.specs.declared.links.Named.{Named}
 use Rattle.links_lang.specs.declared.links.Named.TheVariants.{Zero, Register, Flag}
 use Rattle.links_lang.specs.declared.links.Link.{Link}

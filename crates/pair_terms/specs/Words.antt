@@ -11,8 +11,8 @@ use Rattle.pair_spec.specs.Links.{addresses}
 use Rattle.pair_spec.specs.Links as spec
 use Rattle.pair_spec.specs.Pairs.{shared_bytes, same_bytes}
 use Rattle.pair_spec.specs.PairTerms.{HaveWords, HaveWidths, bits_of, entry_words, exit_words, entry_widths, exit_widths}
-use Rattle.state_text.specs.declared.layout.Layout.{Layout}
-use Rattle.state_text.specs.Starts.{layout_of}
+use Rattle.start_value.specs.declared.layout.Layout.{Layout}
+use Rattle.start_value.specs.Starts.{layout_of}
 use Rattle.links_lang.specs.declared.links.Named.{Named}
 use Rattle.links_lang.specs.declared.links.Named.TheVariants.{Zero, Register, Flag}
 use Rattle.links_lang.specs.declared.links.Link.{Link}

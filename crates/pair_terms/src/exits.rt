@@ -7,7 +7,7 @@ ghost use Rattle.term_spec.specs.Terms.{AreTyped};
 ghost use Rattle.walk_spec.specs.Unrolled.{point_at};
 ghost use Rattle.walk_spec.specs.Unrolling.{IsWalkable};
 ghost use Rattle.walk_spec.specs.Prices.{line_steps, variables_of};
-ghost use Rattle.state_text.specs.declared.layout.Layout.{Layout};
+ghost use Rattle.start_value.specs.declared.layout.Layout.{Layout};
 ghost use Rattle.question_form.specs.Views.{aim_of, edge_of, unrolled_of};
 ghost use Rattle.question_form.specs.Forms.{IsFormed};
 ghost use Rattle.passify.specs.Lasts.{AreCarriedTo, CarriesTo};

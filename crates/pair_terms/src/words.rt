@@ -5,7 +5,7 @@ ghost use Rattle.std.specs.List.{flat_map};
 ghost use Rattle.word_spec.specs.RowFiles.{from_to};
 ghost use Rattle.term_spec.specs.Terms.{AreTyped, HasMemory, IsWidth, term_value};
 ghost use Rattle.term_spec.specs.Passive.{AreNames};
-ghost use Rattle.state_text.specs.declared.layout.Layout.{Layout};
+ghost use Rattle.start_value.specs.declared.layout.Layout.{Layout};
 ghost use Rattle.term_names.specs.Views.{form_of, names_of};
 ghost use Rattle.note_terms.specs.Steps.{IsStep};
 ghost use Rattle.links_lang.specs.Views.{links_of, named_of};

@@ -18,7 +18,7 @@ use Rattle.program_points.specs.declared.values.PointsFault.TheVariants.{TooMany
 use Rattle.question_form.specs.Forms.{IsFormed}
 use Rattle.question_form.specs.Views.{unrolled_of}
 use Rattle.question_form.specs.declared.unrolled.Unrolled.{Unrolled}
-use Rattle.state_text.specs.Starts.{layout_of}
+use Rattle.start_value.specs.Starts.{layout_of}
 use Rattle.unroller.specs.Asking.{program_asking}
 use Rattle.unroller.specs.Lookups.{HasForm}
 use Rattle.verdict.specs.Measures.{IsUnrolledOf}

@@ -14,8 +14,8 @@ use Rattle.pair_spec.specs.Links.{Link, differing_line}
 use Rattle.pair_spec.specs.Pairs.{AreEqual, ArePairedStarts, ExitApart, IsLinkedPair}
 use Rattle.pair_spec.specs.PairEvidence.{RefutesPair}
 use Rattle.pair_spec.proofs.OnePair.{not_different_is_equal}
-use Rattle.state_text.specs.Starts.{written_of}
-use Rattle.state_text.specs.declared.start.Start.{Start}
+use Rattle.start_value.specs.Starts.{written_of}
+use Rattle.start_value.specs.declared.start.Start.{Start}
 use Rattle.verdict.proofs.Judging.{written_choice}
 use Rattle.pair_verdict.specs.ExitLines.{all_lined_words, first_apart}
 use Rattle.pair_verdict.specs.PairRounds.{IsPairAnswered}

@@ -16,8 +16,8 @@ use Rattle.notes_value.specs.NoteViews.{notes_of}
 use Rattle.pair_sides.specs.Sides.{IsSided, machine_in, program_of_side}
 use Rattle.pair_sides.specs.declared.sides.Sided.{Sided}
 use Rattle.pair_spec.specs.Pairs.{ExitsIn}
-use Rattle.state_text.specs.Starts.{layout_of, written_of}
-use Rattle.state_text.specs.declared.start.Start.{Start}
+use Rattle.start_value.specs.Starts.{layout_of, written_of}
+use Rattle.start_value.specs.declared.start.Start.{Start}
 use Rattle.table_run.specs.Endings.{found_of}
 use Rattle.table_run.specs.Exits.{IsExit, IsNoExit}
 use Rattle.table_run.specs.declared.ending.Ending.{Ending}

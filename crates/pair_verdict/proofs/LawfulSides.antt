@@ -7,9 +7,9 @@ use Rattle.machine_spec.proofs.ArmLawful.{arm_is_lawful}
 use Rattle.machine_spec.proofs.RvNarrow.{rv_is_lawful}
 use Rattle.pair_sides.specs.Sides.{IsSided, machine_in, program_of_side}
 use Rattle.pair_sides.specs.declared.sides.Sided.{Sided}
-use Rattle.state_text.specs.Starts.{profile_in}
-use Rattle.state_text.specs.declared.layout.Layout.{Layout}
-use Rattle.state_text.specs.declared.layout.Layout.TheVariants.{Rv32, Arm}
+use Rattle.start_value.specs.Starts.{profile_in}
+use Rattle.start_value.specs.declared.layout.Layout.{Layout}
+use Rattle.start_value.specs.declared.layout.Layout.TheVariants.{Rv32, Arm}
 use Rattle.word_spec.specs.Memory.{endian}
 
 lawful_in : (l : Layout) → IsLawfulMachine (machine_in l)

@@ -10,7 +10,7 @@ use Rattle.notes_value.specs.NoteViews.{notes_of}
 use Rattle.notes_value.specs.Reads.{AreOver, AreReadable}
 use Rattle.pair_sides.specs.Sides.{IsSided, machine_in, program_of_side}
 use Rattle.pair_sides.specs.declared.sides.Sided.{Sided}
-use Rattle.state_text.specs.Starts.{layout_of}
+use Rattle.start_value.specs.Starts.{layout_of}
 use Rattle.unroller.proofs.FileRows.{file_rows_lawful}
 
 module _ (s : Sided) (m : Machine) (form : texts.Layout) (machine : machine_in s.layout ≡ m) (is_form : layout_of s.layout ≡ form) (sided : IsSided s) where

@@ -16,9 +16,9 @@ use Rattle.cnf_form.specs.declared.form.Log.{Log}
 use Rattle.sat_core.specs.Answers.{IsAnswer}
 use Rattle.sat_core.specs.declared.answer.Answer.{Answer}
 use Rattle.sat_core.specs.declared.answer.Answer.TheVariants as search
-use Rattle.state_text.specs.Starts.{written_of}
-use Rattle.state_text.specs.declared.start.Start.{Start}
-use Rattle.state_text.specs.declared.layout.Layout as forms
+use Rattle.start_value.specs.Starts.{written_of}
+use Rattle.start_value.specs.declared.start.Start.{Start}
+use Rattle.start_value.specs.declared.layout.Layout as forms
 use Rattle.links_lang.specs.Views.{AreLinksOf, links_of}
 use Rattle.links_lang.specs.declared.links.Link as declared
 use Rattle.mem_cells.specs.Views.{cells_of, program_of_cells}

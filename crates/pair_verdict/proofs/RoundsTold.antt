@@ -10,8 +10,8 @@ use Rattle.clause_spec.specs.Empowering.{IsSpent}
 use Rattle.bilv_spec.specs.Run.{Program}
 use Rattle.call_spec.specs.Calls.{PairQuestion, DifferenceOfExits}
 use Rattle.machine_spec.specs.StateText.{Layout}
-use Rattle.state_text.specs.Starts.{written_of}
-use Rattle.state_text.specs.declared.start.Start.{Start}
+use Rattle.start_value.specs.Starts.{written_of}
+use Rattle.start_value.specs.declared.start.Start.{Start}
 use Rattle.pair_form.specs.Views.{program_of_side_cells, program_of_side_question, side_cells_of, side_term_of}
 use Rattle.pair_form.specs.declared.sides.SideCells.{SideCells}
 use Rattle.pair_form.specs.declared.sides.SideQuestion.{SideQuestion}

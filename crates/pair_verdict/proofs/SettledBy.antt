@@ -11,8 +11,8 @@ use Rattle.pair_sides.specs.Sides.{side_of}
 use Rattle.pair_spec.specs.Equals.{AreWritten}
 use Rattle.pair_spec.specs.Pairs.{ArePairedStarts, IsLinkedPair}
 use Rattle.pair_terms.specs.Sides.{program_of_exit}
-use Rattle.state_text.specs.Starts.{layout_of, written_of}
-use Rattle.state_text.specs.declared.start.Start.{Start}
+use Rattle.start_value.specs.Starts.{layout_of, written_of}
+use Rattle.start_value.specs.declared.start.Start.{Start}
 use Rattle.pair_verdict.specs.ExitLines.{first_apart}
 use Rattle.pair_verdict.specs.PairRounds.{IsPairAnswered, PairAnswers}
 use Rattle.pair_verdict.specs.Settled.{AreExits, IsSettled, first_start, second_start}

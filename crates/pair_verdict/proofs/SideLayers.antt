@@ -7,7 +7,7 @@ use Rattle.machine_spec.specs.StateText.{Layout}
 use Rattle.links_lang.specs.Views.{AreLinksOf, IsLinkOf, link_of, links_of}
 use Rattle.links_lang.specs.declared.links.Link as declared
 use Rattle.links_lang.specs.declared.links.Link.TheVariants.{Entry, Exit, Share, Same}
-use Rattle.state_text.specs.declared.layout.Layout as forms
+use Rattle.start_value.specs.declared.layout.Layout as forms
 use Rattle.pair_spec.specs.Links.{ComparesAlike, Link, asking, compares_flag}
 use Rattle.std.specs.List.{list_any}
 use Rattle.std.proofs.lemmas.List.Elements.{All-map}

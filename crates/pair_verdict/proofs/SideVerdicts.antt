@@ -7,8 +7,8 @@ use Rattle.links_lang.specs.Views.{links_of}
 use Rattle.pair_sides.specs.Sides.{program_of_side, side_of}
 use Rattle.pair_sides.specs.declared.sides.Sided.{Sided}
 use Rattle.pair_spec.specs.Equals.{AreWithin, HoldsBy, IsOther}
-use Rattle.state_text.specs.Starts.{layout_of}
-use Rattle.state_text.specs.declared.start.Start.{Start}
+use Rattle.start_value.specs.Starts.{layout_of}
+use Rattle.start_value.specs.declared.start.Start.{Start}
 use Rattle.verdict.specs.Verdicts as sides
 use Rattle.verdict.specs.Verdicts.{IsVerdict, budget_of}
 use Rattle.call_form.specs.declared.budget.Budget.{Budget}

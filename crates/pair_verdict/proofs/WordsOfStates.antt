@@ -14,8 +14,8 @@ use Rattle.notes_lang.specs.Parsing.{layout_flags, layout_registers}
 use Rattle.pair_sides.specs.Sides.{machine_in}
 use Rattle.pair_spec.specs.Links as spec
 use Rattle.pair_spec.specs.Links.{addresses}
-use Rattle.state_text.specs.declared.layout.Layout.{Layout}
-use Rattle.state_text.specs.declared.layout.Layout.TheVariants.{Rv32, Arm}
+use Rattle.start_value.specs.declared.layout.Layout.{Layout}
+use Rattle.start_value.specs.declared.layout.Layout.TheVariants.{Rv32, Arm}
 use Rattle.pair_verdict.specs.ExitLines.{lined_words}
 use Rattle.pair_verdict.specs.StateWords.{AreExitLinks, IsExitLink, named_in, AreWordsOf, IsNamedOf, IsWordOf, lined_bytes}
 

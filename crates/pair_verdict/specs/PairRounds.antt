@@ -10,8 +10,8 @@ use Rattle.cnf_form.specs.Views.{proof_of}
 use Rattle.machine_spec.specs.Endings as endings
 use Rattle.machine_spec.specs.StateText.{Layout, IsWritten}
 use Rattle.pair_spec.specs.ExitPlaces.{HasOwnExit, before_step}
-use Rattle.state_text.specs.Starts.{written_of}
-use Rattle.state_text.specs.declared.start.Start.{Start}
+use Rattle.start_value.specs.Starts.{written_of}
+use Rattle.start_value.specs.declared.start.Start.{Start}
 use Rattle.word_spec.specs.State.{Written}
 use Rattle.term_spec.specs.Cells.{AreFormed}
 use Rattle.term_spec.specs.ClauseForm.{IsBroken, IsStartOf, reading}

@@ -22,9 +22,9 @@ use Rattle.pair_verdict.specs.declared.deciding.Exits.{Exits}
 use Rattle.pair_verdict.specs.declared.pairs.Both.{Both}
 use Rattle.pair_spec.specs.Pairs.{AreEqual, ArePairedStarts, ExitApart, IsLinkedPair}
 use Rattle.pair_spec.specs.PairEvidence.{IsPairDue, RefutesPair, SpendsPair}
-use Rattle.state_text.specs.Starts.{layout_of, written_of}
+use Rattle.start_value.specs.Starts.{layout_of, written_of}
 use Rattle.machine_spec.specs.Endings as endings
-use Rattle.state_text.specs.declared.start.Start.{Start}
+use Rattle.start_value.specs.declared.start.Start.{Start}
 use Rattle.pair_verdict.specs.Sides.{first_program, second_program}
 use Rattle.pair_verdict.specs.declared.pairs.Pair.{Pair}
 use Rattle.pair_verdict.specs.declared.settling.Settled.{Settled}

@@ -14,7 +14,7 @@ use Rattle.pair_spec.specs.Pairs.{HaveMore, ExitsIn}
 use Rattle.program_points.specs.declared.values.PointsFault.{PointsFault}
 use Rattle.program_points.specs.declared.values.PointsFault.TheVariants.{TooMany, Memory}
 use Rattle.question_form.specs.Views.{unrolled_of}
-use Rattle.state_text.specs.Starts.{layout_of}
+use Rattle.start_value.specs.Starts.{layout_of}
 use Rattle.verdict.specs.Measures.{IsUnrolledOf}
 use Rattle.verdict.specs.Verdicts as sides
 use Rattle.verdict.specs.Verdicts.{budget_of}

@@ -5,7 +5,7 @@ use Rattle.links_lang.specs.declared.links.Link.{Link}
 use Rattle.links_lang.specs.declared.links.Link.TheVariants.{Exit}
 use Rattle.links_lang.specs.declared.links.Named.{Named}
 use Rattle.links_lang.specs.declared.links.Named.TheVariants.{Zero, Register, Flag}
-use Rattle.state_text.specs.declared.layout.Layout.{Layout}
+use Rattle.start_value.specs.declared.layout.Layout.{Layout}
 use Rattle.links_lang.specs.Views.{IsOfForm}
 
 -- what a line names on a side

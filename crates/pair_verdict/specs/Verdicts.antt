@@ -4,7 +4,7 @@ use Rattle.call_spec.specs.Calls.{Evidence, EntryRefuted, Count, Two, Both, Spen
 use Rattle.cnf_form.specs.Views.{proof_of}
 use Rattle.pair_form.specs.Views.{pair_question_of}
 use Rattle.pair_spec.specs.Equals.{PairReport, OfFirst, OfSecond, NoPairReport, DiffersReport, EqualReport, PairPointsReport, PairSizeReport, PairConflictsReport}
-use Rattle.state_text.specs.Starts.{written_of}
+use Rattle.start_value.specs.Starts.{written_of}
 use Rattle.verdict.specs.Verdicts as sides
 use Rattle.verdict.specs.declared.verdicts.Exceeded as past
 use Rattle.verdict.specs.declared.verdicts.Exceeded.TheVariants.{Points, Size}

@@ -13,7 +13,7 @@ use links_lang::Link;
 use pair_form::PairKind;
 use pair_terms::{ExitTerms, side};
 use question_form::{Passive, Question};
-use state_text::Layout;
+use start_value::Layout;
 use std::alloc::{AllocError, Global};
 use verdict::asked_next;
 

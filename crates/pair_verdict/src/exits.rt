@@ -16,7 +16,7 @@ ghost use Rattle.pair_verdict.specs.ExitLines as lines;
 ghost use Rattle.pair_verdict.specs.ExitLines.{all_lined_words, lined_words};
 ghost use Rattle.pair_verdict.specs.Sides.{IsReached};
 ghost use Rattle.pair_verdict.specs.StateWords.{AreExitLinks, AreWordsOf, IsWordOf, IsNamedOf, lined_bytes};
-ghost use Rattle.state_text.specs.Starts.{layout_of, written_of};
+ghost use Rattle.start_value.specs.Starts.{layout_of, written_of};
 ghost use Rattle.verdict.specs.Verdicts.{budget_of};
 
 use crate::machines::on_machine;
@@ -26,7 +26,7 @@ use links_lang::{Link, Named};
 use machine_law::Machine;
 use pair_sides::Sided;
 use rv_lift::Rv32;
-use state_text::{Layout, Profile, Start};
+use start_value::{Layout, Profile, Start};
 use std::alloc::{AllocError, Global};
 use table_run::{Ending, exit_state, run};
 use verdict::Budget;

@@ -3,7 +3,7 @@ ghost use Rattle.std.specs.Prelude.{◌≡◌, ◌≤◌, ◌<◌, ◌-◌, ◌^
 ghost use Rattle.links_lang.specs.Views.{AreLinksOf, links_of};
 ghost use Rattle.mem_cells.specs.Views.{cells_of, program_of_cells};
 ghost use Rattle.pair_form.specs.Views.{pair_question_of};
-ghost use Rattle.state_text.specs.Starts.{written_of};
+ghost use Rattle.start_value.specs.Starts.{written_of};
 ghost use Rattle.term_spec.specs.ClauseForm.{inputs};
 ghost use Rattle.pair_spec.specs.ExitPlaces.{before_step};
 ghost use Rattle.pair_verdict.specs.PairRounds.{AreAskableSides, AreAsked, AreJudged, AreShown, AreSound, AreValuesOf, IsPairRound, IsShown, first_placed, second_placed};
@@ -18,7 +18,7 @@ use pair_form::{PairKind, SideCells, SideQuestion};
 use pair_terms::side_cells;
 use question_form::{Passive, Question};
 use sat_core::{Answer, solve};
-use state_text::{Layout, Start};
+use start_value::{Layout, Start};
 use std::alloc::{AllocError, Global};
 use term_dag::Dag;
 

@@ -5,7 +5,7 @@ ghost use Rattle.bilv_spec.specs.Verdict.{IsRight};
 ghost use Rattle.call_spec.specs.Calls.{PairOfStates, DifferenceOfExits};
 ghost use Rattle.links_lang.specs.Views.{links_of};
 ghost use Rattle.pair_spec.specs.Equals.{AreWithin};
-ghost use Rattle.state_text.specs.Starts.{layout_of};
+ghost use Rattle.start_value.specs.Starts.{layout_of};
 ghost use Rattle.verdict.specs.Verdicts.{budget_of};
 ghost use Rattle.pair_verdict.specs.PairRounds.{IsPairAnswered};
 ghost use Rattle.pair_verdict.specs.Settled.{AreExits, ArePlaced, IsSettled};
@@ -20,7 +20,7 @@ use cnf_form::Proof;
 use pair_form::PairKind;
 use pair_terms::{exit_terms, with_exit_place};
 use passify::passive;
-use state_text::Start;
+use start_value::Start;
 use std::alloc::{AllocError, Global};
 
 /// What the two questions about two functions come to where both hold.

@@ -1,7 +1,7 @@
 //! Verdicts on two functions, with what shows them.
 use cnf_form::Proof;
 use pair_form::PairKind;
-use state_text::Start;
+use start_value::Start;
 use verdict::{Exceeded, Verdict};
 
 /// What shows that a function holds: a start from an entry state, and refutations of the fail and the turn question.

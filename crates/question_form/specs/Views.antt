@@ -10,7 +10,7 @@ use Rattle.walk_spec.specs.Unrolling.{stop_event}
 pub use Rattle.call_form.specs.Views.{kind_of}
 use Rattle.bil_ast.specs.declared.statements.Stmt.{Stmt}
 use Rattle.bil_ast.specs.Views.{statements}
-use Rattle.state_text.specs.Starts.{layout_of}
+use Rattle.start_value.specs.Starts.{layout_of}
 use Rattle.notes_value.specs.NoteViews.{notes_of}
 use Rattle.known_bytes.specs.Runs.{run_of}
 use Rattle.program_points.specs.Tables.{stack_at}

@@ -3,7 +3,7 @@ use bil_ast::Stmt;
 use known_bytes::Known;
 use notes_value::Notes;
 use program_points::Frame;
-use state_text::Layout;
+use start_value::Layout;
 
 /// Where an edge leads.
 #[derive(Clone, Copy, PartialEq, Eq, Debug)]

@@ -4,7 +4,7 @@ ghost use Rattle.bilv_spec.specs.Files.{program_of};
 ghost use Rattle.machine_spec.specs.Machine.{Machine};
 ghost use Rattle.bilv_spec.specs.Points.{is_known_at};
 ghost use Rattle.machine_spec.specs.StateText.{Told, StateRefused, StateByteFault, state_of};
-ghost use Rattle.state_text.specs.Starts.{layout_of};
+ghost use Rattle.start_value.specs.Starts.{layout_of};
 ghost use Rattle.state_text.specs.Readings.{told_but};
 ghost use Rattle.notes_value.specs.NoteViews.{notes_of};
 ghost use Rattle.report_replay.specs.Readings.{told_of, AreAlike};
@@ -12,7 +12,8 @@ ghost use Rattle.report_replay.specs.Readings.{told_of, AreAlike};
 use elf32_reader::Image;
 use known_bytes::{Stretch, known_stretch};
 use notes_value::Notes;
-use state_text::{Layout, ParseFault, StateFault, StateText, parse_state};
+use start_value::Layout;
+use state_text::{ParseFault, StateFault, StateText, parse_state};
 use std::alloc::{AllocError, Global};
 
 /// What a text says: a state, or nothing, refused at a line.

@@ -9,7 +9,7 @@ use byte_mem::{Bytes32, StepOut};
 use machine_law::{Cost, FlagUse, Machine, Succ};
 use rv_decode::Insn;
 use rv_step::State;
-use state_text::{Layout, Start};
+use start_value::{Layout, Start};
 use std::alloc::{AllocError, Global};
 
 /// RV32IM, with the compressed instructions where `RVC` is not 0 (RV32IMC).

@@ -9,9 +9,9 @@ use Rattle.word_spec.specs.Profiles.{Profile}
 use Rattle.machine_spec.specs.StateText.{Layout, value_names, place_in, rv_layout, arm_layout}
 use Rattle.machine_spec.proofs.Spelling.{same_text}
 use Rattle.std.specs.Fmt.{digits}
-use Rattle.state_text.specs.declared.layout.Layout as forms
-use Rattle.state_text.specs.declared.layout.Layout.TheVariants.{Rv32, Arm}
-use Rattle.state_text.specs.Starts.{layout_of, profile_in}
+use Rattle.start_value.specs.declared.layout.Layout as forms
+use Rattle.start_value.specs.declared.layout.Layout.TheVariants.{Rv32, Arm}
+use Rattle.start_value.specs.Starts.{layout_of, profile_in}
 use Rattle.smtlib_print.proofs.Declared.{onto, are_new, both_true, is_false}
 use Rattle.smtlib_print.proofs.Defined.{among}
 use Rattle.smtlib_print.proofs.Names.{is_symbol, other_text}

@@ -5,9 +5,9 @@ use Rattle.std.specs.Result.{is_ok}
 use Rattle.std.proofs.lemmas.Bool.{cases_eq}
 use Rattle.std.proofs.lemmas.Fmt.{decimal_digit}
 use Rattle.machine_spec.specs.StateText.{register_names}
-use Rattle.state_text.specs.declared.layout.Layout.{Layout}
-use Rattle.state_text.specs.declared.layout.Layout.TheVariants.{Rv32, Arm}
-use Rattle.state_text.specs.Starts.{layout_of}
+use Rattle.start_value.specs.declared.layout.Layout.{Layout}
+use Rattle.start_value.specs.declared.layout.Layout.TheVariants.{Rv32, Arm}
+use Rattle.start_value.specs.Starts.{layout_of}
 use Rattle.state_text.proofs.Appends.{three, five, seven}
 use Rattle.word_spec.specs.Memory.{Endian, Little, Big, endian, place}
 use Rattle.bilv_spec.specs.SmtLib.{Sexp, Atom}

@@ -12,8 +12,8 @@ use Rattle.term_spec.specs.Terms.{TermNode, IsTypedOver, AreTypedFrom, AreTyped,
 use Rattle.walk_spec.specs.Unrolled.{UnrolledProgram, ByteRun}
 use Rattle.walk_spec.specs.Unrolling.{IsLaidOut}
 use Rattle.term_spec.specs.WalkQuestions.{IsNamedBelow, TellsQuestion}
-use Rattle.state_text.specs.declared.layout.Layout.{Layout}
-use Rattle.state_text.specs.Starts.{layout_of}
+use Rattle.start_value.specs.declared.layout.Layout.{Layout}
+use Rattle.start_value.specs.Starts.{layout_of}
 use Rattle.state_text.proofs.Appends.{five}
 use Rattle.known_bytes.specs.declared.listing.Known.{Known}
 use Rattle.known_bytes.specs.Runs.{run_of, AreRuns}

@@ -7,8 +7,8 @@ use Rattle.term_spec.specs.Terms.{TermNode}
 use Rattle.walk_spec.specs.Unrolled.{ByteRun, UnrolledProgram, point_at}
 use Rattle.walk_spec.specs.Unrolling.{IsLaidOut}
 use Rattle.term_spec.specs.WalkQuestions.{TellsQuestion}
-use Rattle.state_text.specs.declared.layout.Layout.{Layout}
-use Rattle.state_text.specs.Starts.{layout_of}
+use Rattle.start_value.specs.declared.layout.Layout.{Layout}
+use Rattle.start_value.specs.Starts.{layout_of}
 use Rattle.smtlib_print.specs.Commands.{all_commands, drawn, middle_commands}
 use Rattle.smtlib_print.specs.Told.{AreInOrder, TellsScript}
 use Rattle.smtlib_print.specs.Written.{commands_text}

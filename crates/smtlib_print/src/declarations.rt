@@ -1,14 +1,14 @@
 //! The declarations of registers and flags.
 ghost use Rattle.std.specs.Prelude.{◌≡◌, ◌≤◌, ◌<◌, ◌+◌, ◌-◌, ◌++◌, ◌∷◌, [], codes, length, map, slice_index_or, string_bytes, OnOk};
 ghost use Rattle.bilv_spec.specs.SmtLib.{Atom};
-ghost use Rattle.state_text.specs.Starts.{layout_of};
+ghost use Rattle.start_value.specs.Starts.{layout_of};
 ghost use Rattle.question_form.specs.Views.{no_code, unrolled_of};
 ghost use Rattle.smtlib_print.specs.Commands as commands;
 ghost use Rattle.smtlib_print.specs.Written.{commands_text, written};
 
 use crate::words::{flag_name, push_register};
 use question_form::Unrolled;
-use state_text::Layout;
+use start_value::Layout;
 use std::alloc::AllocError;
 
 /// The number of the first register of a form.

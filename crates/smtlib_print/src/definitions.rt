@@ -2,7 +2,7 @@
 ghost use Rattle.std.specs.Prelude.{◌≡◌, ◌<◌, ◌++◌, ℕ, codes, length, string_bytes, OnOk};
 ghost use Rattle.bilv_spec.specs.SmtLib.{Atom};
 ghost use Rattle.term_spec.specs.Terms.{node_at, width_of};
-ghost use Rattle.state_text.specs.Starts.{layout_of};
+ghost use Rattle.start_value.specs.Starts.{layout_of};
 ghost use Rattle.term_dag.specs.Nodes.{node_of};
 ghost use Rattle.smtlib_print.specs.Commands as commands;
 ghost use Rattle.smtlib_print.specs.Commands.{node_definitions};
@@ -10,7 +10,7 @@ ghost use Rattle.smtlib_print.specs.Printable.{IsPrintable};
 ghost use Rattle.smtlib_print.specs.Written.{commands_text, written};
 
 use crate::terms::push_node;
-use state_text::Layout;
+use start_value::Layout;
 use std::alloc::AllocError;
 use term_dag::{Dag, Node, Term};
 

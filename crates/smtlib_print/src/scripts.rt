@@ -1,7 +1,7 @@
 //! The script of a question.
 ghost use Rattle.std.specs.Prelude.{◌≡◌, ◌<◌, ◌^◌, ◌++◌, codes, length, map, string_bytes, IfOk, OnOk};
 ghost use Rattle.term_spec.specs.WalkQuestions.{TellsQuestion};
-ghost use Rattle.state_text.specs.Starts.{layout_of};
+ghost use Rattle.start_value.specs.Starts.{layout_of};
 ghost use Rattle.known_bytes.specs.Runs.{AreRuns};
 ghost use Rattle.question_form.specs.Views.{unrolled_of};
 ghost use Rattle.question_form.specs.Questions.{program_of_question, question_of, term_of};

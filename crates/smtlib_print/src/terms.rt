@@ -5,14 +5,14 @@ ghost use Rattle.bilv_spec.specs.Scripts.{choice_name};
 ghost use Rattle.bilv_spec.specs.SmtLib.{Atom};
 ghost use Rattle.word_spec.specs.Memory.{endian, place};
 ghost use Rattle.term_spec.specs.Terms.{IsBytes, IsWidth};
-ghost use Rattle.state_text.specs.Starts.{layout_of};
+ghost use Rattle.start_value.specs.Starts.{layout_of};
 ghost use Rattle.term_dag.specs.Nodes.{node_of, op_of};
 ghost use Rattle.smtlib_print.specs.Commands as commands;
 ghost use Rattle.smtlib_print.specs.Printable.{IsCompound, IsPrintable};
 ghost use Rattle.smtlib_print.specs.Written.{three, two, written};
 
 use crate::words::{flag_name, ones, push_address, push_byte, push_constant, push_register};
-use state_text::Layout;
+use start_value::Layout;
 use std::alloc::AllocError;
 use term_dag::{Node, Op, Term};
 

@@ -4,12 +4,12 @@ ghost use Rattle.word_spec.specs.Texts.{hex_digit, hex_digits};
 ghost use Rattle.word_spec.specs.Profiles.{V4};
 ghost use Rattle.word_spec.specs.Memory.{Little};
 ghost use Rattle.machine_spec.specs.StateText.{arm_layout};
-ghost use Rattle.state_text.specs.Starts.{layout_of};
+ghost use Rattle.start_value.specs.Starts.{layout_of};
 ghost use Rattle.smtlib_print.specs.Commands as commands;
 ghost use Rattle.smtlib_print.specs.Commands.{binary_digits, constant_text};
 ghost use Rattle.smtlib_print.specs.Written.{written};
 
-use state_text::Layout;
+use start_value::Layout;
 use std::alloc::AllocError;
 
 /// A hexadecimal digit in lower case.

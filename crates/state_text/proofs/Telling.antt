@@ -7,12 +7,12 @@ use Rattle.machine_spec.specs.Endings.{NamedEnding}
 use Rattle.word_spec.specs.Texts.{split_lines}
 use Rattle.machine_spec.specs.StateText.{Layout, StateText, StateLine, NamedLine, StateRegisterFault, StateEndFault, lines_of_head, unless, or_else, refused_or, number_of_bits, bytes_in, Told, StateIs, StateRefused, told_by, told_of, line_of, state_of}
 use Rattle.machine_spec.proofs.StateRead.{told_is_printed}
-use Rattle.state_text.specs.Starts.{layout_of}
+use Rattle.start_value.specs.Starts.{layout_of}
 use Rattle.state_text.specs.Readings.{fault_of, told_but, IsRefused, HasBytes, IsRefusedBy, written_by}
 use Rattle.state_text.specs.declared.state_fault.ParseFault.{ParseFault}
 use Rattle.state_text.specs.declared.state_fault.ParseFault.TheVariants.{Refused, Memory}
-use Rattle.state_text.specs.declared.layout.Layout.{Layout as Machine}
-use Rattle.state_text.specs.declared.layout.Layout.TheVariants.{Rv32, Arm}
+use Rattle.start_value.specs.declared.layout.Layout.{Layout as Machine}
+use Rattle.start_value.specs.declared.layout.Layout.TheVariants.{Rv32, Arm}
 use Rattle.state_text.specs.declared.draft.Draft.{Draft}
 use Rattle.state_text.proofs.Judging.{none}
 use Rattle.state_text.proofs.Keeping.{none_known, no_text}

@@ -2,12 +2,14 @@
 ghost use Rattle.std.specs.Prelude.{◌≡◌, ℕ, ◌+◌, ◌-◌, ◌++◌, ◌%◌, Bool, List, [], ◌∷◌, Option, Some, OnOk, length, take, drop};
 ghost use Rattle.machine_spec.specs.StateText.{values_in, bytes_in, choices_in, number_of_bits, lines_of_head, StateRefused};
 ghost use Rattle.machine_spec.specs.StateText as texts;
-ghost use Rattle.state_text.specs.Starts.{layout_of, named_of, text_of};
+ghost use Rattle.start_value.specs.Starts.{layout_of};
+ghost use Rattle.state_text.specs.Starts.{named_of, text_of};
 ghost use Rattle.state_text.specs.Lines.{line_said};
 ghost use Rattle.state_text.specs.Readings.{fault_of, told_but, HasBytes, IsRefusedBy};
 
-use crate::layout::Layout;
-use crate::start::{NamedEnding, Start, StateText};
+use start_value::Layout;
+use crate::start::{NamedEnding, StateText};
+use start_value::Start;
 use crate::state_fault::{ParseFault, StateFault};
 use crate::state_line::StateLine;
 use std::alloc::{AllocError, Global};

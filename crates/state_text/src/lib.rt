@@ -1,8 +1,7 @@
-//! The text of a start with its ending, and the form of a machine's state; the tokens of a line come with it.
+//! The text of a start with its ending; the tokens of a line come with it.
 #![tactic(auto)]
 
 mod draft;
-mod layout;
 mod parser;
 mod printer;
 mod progress;
@@ -10,11 +9,10 @@ mod start;
 mod state_fault;
 mod state_line;
 
-pub use layout::{Layout, Profile};
 pub use line_tokens::{Sign, Token, tokens};
 pub use parser::parse_state;
 pub use printer::{
     print_state, push_block, push_ending, push_number, push_step, push_text, push_word,
 };
-pub use start::{Event, NamedEnding, Start, StateText};
+pub use start::{Event, NamedEnding, StateText};
 pub use state_fault::{ParseFault, StateFault};

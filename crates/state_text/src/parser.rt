@@ -3,12 +3,13 @@ ghost use Rattle.std.specs.Prelude.{◌≡◌, ℕ, ◌+◌, ◌<◌, ◌^◌, L
 ghost use Rattle.machine_spec.specs.StateText as texts;
 ghost use Rattle.machine_spec.specs.StateText.{NamedLine, StateIs, StateRefused, StateLineFault, line_of, lines_of_head, told_of, state_of};
 ghost use Rattle.word_spec.specs.Texts.{split_lines};
-ghost use Rattle.state_text.specs.Starts.{layout_of, named_of, text_of};
+ghost use Rattle.start_value.specs.Starts.{layout_of};
+ghost use Rattle.state_text.specs.Starts.{named_of, text_of};
 ghost use Rattle.state_text.specs.Lines.{line_said};
 ghost use Rattle.state_text.specs.Readings.{fault_of, told_but, IsRefused, HasBytes, IsRefusedBy, IsBehind, refusal_of, written_by};
 
 use crate::draft::Draft;
-use crate::layout::Layout;
+use start_value::Layout;
 use crate::progress::Progress;
 use crate::start::{NamedEnding, StateText};
 use crate::state_fault::{ParseFault, StateFault};

@@ -4,10 +4,12 @@ ghost use Rattle.word_spec.specs.Texts.{hex_digit, hex_digits, word_text, byte_t
 ghost use Rattle.machine_spec.specs.Endings.{event_words, named_line, place_words};
 ghost use Rattle.machine_spec.specs.StateText.{block_text, printed, value_names, value_text, words_of_line, StateLine, RegisterLine, ByteLine, ChoiceLine, EndLine, MachineLine, NamedLine, register_lines, flag_bits, lines_behind};
 ghost use Rattle.machine_spec.specs.StateText as texts;
-ghost use Rattle.state_text.specs.Starts.{layout_of, event_of, named_of, text_of, written_of, line_text, lines_text};
+ghost use Rattle.start_value.specs.Starts.{layout_of, written_of};
+ghost use Rattle.state_text.specs.Starts.{event_of, named_of, text_of, line_text, lines_text};
 
-use crate::layout::Layout;
-use crate::start::{Event, NamedEnding, Start, StateText};
+use start_value::Layout;
+use crate::start::{Event, NamedEnding, StateText};
+use start_value::Start;
 use std::alloc::{AllocError, Global};
 
 /// A hexadecimal digit in lower case.

@@ -4,11 +4,11 @@ ghost use Rattle.std.specs.Option.{option_map};
 ghost use Rattle.machine_spec.specs.StateText as texts;
 ghost use Rattle.machine_spec.specs.StateText.{NamedLine, RegisterLine, ByteLine, ChoiceLine, missed, line_refusal, end_refusal};
 ghost use Rattle.machine_spec.specs.Endings as reports;
-ghost use Rattle.state_text.specs.Starts.{layout_of};
+ghost use Rattle.start_value.specs.Starts.{layout_of};
 ghost use Rattle.state_text.specs.Lines.{line_said};
 ghost use Rattle.state_text.specs.Readings.{fault_of, IsBehind};
 
-use crate::layout::Layout;
+use start_value::Layout;
 use crate::state_fault::StateFault;
 use crate::state_line::StateLine;
 

@@ -1,4 +1,5 @@
-//! Starts and the endings that reports name.
+//! Endings that reports name.
+use start_value::Start;
 
 /// How a run fails.
 #[derive(Clone, Copy, PartialEq, Eq, Debug)]
@@ -30,19 +31,6 @@ pub enum NamedEnding {
     FailsBy { event: Event, at: u32, step: u64 },
     /// One backward transfer more than `k`.
     UnknownBy { k: u64, at: u32, step: u64 },
-}
-
-/// The state from which a run begins, and its choices.
-#[derive(Drop, Debug)]
-pub struct Start {
-    /// The registers in order: x1 to x31, or r0 to r14.
-    pub regs: Vec<u32>,
-    /// The flags, as N 8, Z 4, C 2 and V 1.
-    pub flags: u8,
-    /// Bytes by their addresses.
-    pub bytes: Vec<(u32, u8)>,
-    /// Choices by the numbers of their steps.
-    pub choices: Vec<(u64, u8)>,
 }
 
 /// A start with the ending that its report names.

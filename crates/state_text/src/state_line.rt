@@ -5,10 +5,11 @@ ghost use Rattle.std.specs.Str.{bytes_eq};
 ghost use Rattle.word_spec.specs.Texts.{decimal_word, at_most};
 ghost use Rattle.machine_spec.specs.StateText as texts;
 ghost use Rattle.machine_spec.specs.StateText.{place_of, event_of_word, event_of_line, after_fails, after_unknown, after_state, after_byte, after_choice, after_end, register_line, line_of, line_of_words, value_of, place_in, ChoiceLine};
-ghost use Rattle.state_text.specs.Starts.{layout_of, event_of, named_of};
+ghost use Rattle.start_value.specs.Starts.{layout_of};
+ghost use Rattle.state_text.specs.Starts.{event_of, named_of};
 ghost use Rattle.state_text.specs.Lines.{line_said, capped_line};
 
-use crate::layout::Layout;
+use start_value::Layout;
 use crate::start::{Event, NamedEnding};
 use line_tokens::{decimal_at_most, first_words, hex_word, is_decimal};
 use std::alloc::{AllocError, Global};

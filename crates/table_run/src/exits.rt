@@ -8,7 +8,7 @@ ghost use Rattle.bilv_spec.specs.Run as meaning;
 ghost use Rattle.bilv_spec.specs.Points.{is_known_at};
 ghost use Rattle.machine_spec.specs.StateText.{AreRising, IsWritten};
 ghost use Rattle.bilv_spec.specs.Answers.{start_in};
-ghost use Rattle.state_text.specs.Starts.{written_of};
+ghost use Rattle.start_value.specs.Starts.{written_of};
 ghost use Rattle.notes_value.specs.NoteViews.{notes_of};
 ghost use Rattle.notes_value.specs.Reads.{AreReadable};
 ghost use Rattle.table_run.specs.Programs.{program_of};
@@ -25,7 +25,7 @@ use elf32_reader::Image;
 use machine_law::Machine;
 use notes_index::{Index, index_of};
 use notes_value::Notes;
-use state_text::Start;
+use start_value::Start;
 use std::alloc::{AllocError, Global};
 
 /// The state in which the run from a state exits by the step of a number, if it does. The error is want of memory.

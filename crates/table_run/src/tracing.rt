@@ -13,7 +13,7 @@ ghost use Rattle.bilv_spec.specs.Run as meaning;
 ghost use Rattle.model_spec.specs.Models.{all_reads};
 ghost use Rattle.model_spec.specs.Reads.{step_reads};
 ghost use Rattle.machine_law.specs.Facts.{IsFit};
-ghost use Rattle.state_text.specs.Starts.{written_of};
+ghost use Rattle.start_value.specs.Starts.{written_of};
 ghost use Rattle.notes_value.specs.NoteViews.{notes_of};
 ghost use Rattle.notes_value.specs.Reads.{AreReadable};
 ghost use Rattle.notes_index.specs.Indexed.{AreIndexed};
@@ -34,7 +34,7 @@ use elf32_reader::Image;
 use machine_law::Machine;
 use notes_index::{Index, index_of};
 use notes_value::Notes;
-use state_text::Start;
+use start_value::Start;
 use std::alloc::{AllocError, Global};
 use std::collections::BTreeSet;
 

@@ -4,7 +4,7 @@ use Rattle.std.specs.Prelude.{◌||◌, ◌&&◌, nat_eq, nat_le, nat_lt, slice_
 use Rattle.std.specs.List.{list_any}
 use Rattle.std.proofs.lemmas.Bool.Decides.{nat_tests}
 use Rattle.word_spec.specs.RowFiles.{from_to}
-use Rattle.state_text.specs.Starts.{layout_of}
+use Rattle.start_value.specs.Starts.{layout_of}
 use Rattle.walk_spec.specs.Unrolled.{no_point}
 use Rattle.question_form.specs.declared.unrolled.Point.{Point}
 use Rattle.question_form.specs.declared.unrolled.Unrolled.{Unrolled}

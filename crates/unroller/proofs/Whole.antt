@@ -24,7 +24,7 @@ use Rattle.notes_index.specs.Indexed.{assert_places, numbered_from}
 use Rattle.program_points.specs.Listed.{HasOneWay}
 use Rattle.program_points.specs.Tables.{stack_at, IsTable}
 use Rattle.program_points.proofs.Stacked.{one_number}
-use Rattle.state_text.specs.Starts.{layout_of}
+use Rattle.start_value.specs.Starts.{layout_of}
 use Rattle.walk_spec.specs.Unrolled.{PointExit, FalseAssert, no_point, UnrolledPoint, point_at, is_register_of, is_flag_of}
 use Rattle.walk_spec.specs.Unrolling.{IsPlace, IsLiteralOf, assert_exits}
 use Rattle.question_form.specs.declared.unrolled.Code.{Code}

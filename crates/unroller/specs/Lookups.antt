@@ -2,7 +2,7 @@
 use Rattle.std.specs.Prelude.{ℕ, ◌≡◌, ◌+◌, ◌<◌, Some, length, drop, slice_get, slice_index}
 use Rattle.machine_spec.specs.Machine.{Machine}
 use Rattle.machine_spec.specs.MachineLaws.{IsFitted}
-use Rattle.state_text.specs.Starts.{layout_of}
+use Rattle.start_value.specs.Starts.{layout_of}
 use Rattle.walk_spec.specs.Unrolled.{is_register_of, is_flag_of, point_at}
 use Rattle.walk_spec.specs.Unrolling.{IsLaidOut}
 use Rattle.question_form.specs.declared.unrolled.Point.{Point}

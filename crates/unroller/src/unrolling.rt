@@ -11,7 +11,7 @@ ghost use Rattle.unroller.specs.Asking.{program_asking};
 ghost use Rattle.unroller.specs.Lookups.{HasForm};
 ghost use Rattle.unroller.specs.Rows.{AssignsLiveOnly, HasListsOf};
 ghost use Rattle.known_bytes.specs.Runs.{AreRuns};
-ghost use Rattle.state_text.specs.Starts.{layout_of};
+ghost use Rattle.start_value.specs.Starts.{layout_of};
 ghost use Rattle.walk_spec.specs.Unrolled.{byte_of_runs, point_at};
 ghost use Rattle.walk_spec.specs.Unrolling.{IsUnrolling};
 

@@ -7,7 +7,7 @@ use Rattle.machine_spec.specs.StateText.{Layout}
 use Rattle.bilv_spec.proofs.RefutedQuestions.{refuted_is_false}
 use Rattle.cnf_form.specs.Views.{proof_of}
 use Rattle.cnf_form.specs.declared.form.Proof.{Proof}
-use Rattle.state_text.specs.declared.start.Start.{Start}
+use Rattle.start_value.specs.declared.start.Start.{Start}
 use Rattle.verdict.specs.Grounds.{IsAnswered}
 use Rattle.verdict.specs.Verdicts.{IsCertificate}
 use Rattle.verdict.specs.declared.verdicts.Answered.{Answered}

@@ -21,8 +21,8 @@ use Rattle.cnf_form.specs.Views.{proof_of}
 use Rattle.cnf_form.specs.declared.form.Proof.{Proof}
 use Rattle.question_form.specs.Views.{unrolled_of}
 use Rattle.question_form.specs.declared.unrolled.Unrolled.{Unrolled}
-use Rattle.state_text.specs.Starts.{written_of}
-use Rattle.state_text.specs.declared.start.Start.{Start}
+use Rattle.start_value.specs.Starts.{written_of}
+use Rattle.start_value.specs.declared.start.Start.{Start}
 use Rattle.verdict.specs.FewerTurns.{IsSmaller}
 use Rattle.verdict.specs.Grounds.{Answers, AnswersOver, IsAnsweredOver, IsFailing, IsGround}
 use Rattle.verdict.specs.Measures.{IsUnrolledOf}

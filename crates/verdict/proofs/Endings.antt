@@ -8,8 +8,9 @@ use Rattle.bilv_spec.specs.PointLaws.{HasLawfulRows, ReadsMemory}
 use Rattle.call_spec.specs.Calls.{FailQuestion, TurnQuestion}
 use Rattle.bilv_spec.specs.Questions.{IsSatisfiable}
 use Rattle.bilv_spec.specs.Answers.{IsWithin, start_in}
-use Rattle.state_text.specs.Starts.{event_of, written_of}
-use Rattle.state_text.specs.declared.start.Start.{Start}
+use Rattle.start_value.specs.Starts.{written_of}
+use Rattle.state_text.specs.Starts.{event_of}
+use Rattle.start_value.specs.declared.start.Start.{Start}
 use Rattle.state_text.specs.declared.start.Event.{Event}
 use Rattle.table_run.specs.Endings.{found_of}
 use Rattle.table_run.specs.declared.ending.Ending.{Ending}

@@ -31,7 +31,7 @@ use Rattle.question_form.specs.declared.unrolled.Point.{Point}
 use Rattle.question_form.specs.declared.questions.Passive.{Passive}
 use Rattle.passify.specs.Made.{IsPassiveOf}
 use Rattle.question_form.specs.Forms.{IsFormed}
-use Rattle.state_text.specs.Starts.{layout_of}
+use Rattle.start_value.specs.Starts.{layout_of}
 use Rattle.unroller.specs.Lookups.{HasForm}
 use Rattle.bilv_spec.proofs.ProgramRows.{cell_small}
 use Rattle.unroller.proofs.FileRows.{file_rows_lawful}

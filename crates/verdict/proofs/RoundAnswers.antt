@@ -12,7 +12,7 @@ use Rattle.cnf_form.specs.declared.form.Log.{Log}
 use Rattle.sat_core.specs.Answers.{IsAnswer}
 use Rattle.sat_core.specs.declared.answer.Answer.{Answer}
 use Rattle.sat_core.specs.declared.answer.Answer.TheVariants as search
-use Rattle.state_text.specs.Starts.{written_of}
+use Rattle.start_value.specs.Starts.{written_of}
 use Rattle.term_spec.specs.WalkQuestions.{TellsQuestion, is_asked}
 use Rattle.term_spec.specs.Cells.{TellsCells}
 use Rattle.term_spec.specs.ClauseForm.{TellsClauses, IsBroken, reading}

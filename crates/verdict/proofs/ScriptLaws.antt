@@ -12,7 +12,7 @@ use Rattle.call_form.specs.declared.kind.Kind.{Kind}
 use Rattle.smtlib_print.specs.Numbered.{AreApart}
 use Rattle.smtlib_print.specs.Told.{TellsScript}
 use Rattle.smtlib_print.proofs.Programs.{script_of_program}
-use Rattle.state_text.specs.Starts.{layout_of}
+use Rattle.start_value.specs.Starts.{layout_of}
 use Rattle.verdict.specs.Grounds.{IsGround}
 use Rattle.verdict.specs.Rounds.{IsAskable}
 

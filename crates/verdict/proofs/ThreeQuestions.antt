@@ -10,8 +10,8 @@ use Rattle.bilv_spec.proofs.RefutedQuestions.{refuted_is_false}
 use Rattle.cnf_form.specs.Views.{proof_of}
 use Rattle.cnf_form.specs.declared.form.Proof.{Proof}
 use Rattle.call_form.specs.declared.kind.Kind.TheVariants as kind
-use Rattle.state_text.specs.Starts.{written_of}
-use Rattle.state_text.specs.declared.start.Start.{Start}
+use Rattle.start_value.specs.Starts.{written_of}
+use Rattle.start_value.specs.declared.start.Start.{Start}
 use Rattle.walk_spec.specs.Unrolled.{UnrolledProgram}
 use Rattle.verdict.specs.Grounds.{Answers, IsAnswered, IsGround}
 use Rattle.verdict.specs.Verdicts.{IsVerdict, budget_of}

@@ -20,8 +20,8 @@ use Rattle.call_form.specs.declared.kind.Kind.{Kind}
 use Rattle.question_form.specs.declared.questions.Passive.{Passive}
 use Rattle.question_form.specs.declared.questions.Question as asked
 use Rattle.cnf_form.specs.Views.{proof_of}
-use Rattle.state_text.specs.Starts.{written_of}
-use Rattle.state_text.specs.declared.start.Start.{Start}
+use Rattle.start_value.specs.Starts.{written_of}
+use Rattle.start_value.specs.declared.start.Start.{Start}
 use Rattle.verdict.specs.declared.verdicts.Answered.{Answered}
 use Rattle.verdict.specs.declared.verdicts.Answered.TheVariants.{Sat, Refuted, Spent}
 

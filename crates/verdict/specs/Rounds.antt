@@ -5,7 +5,7 @@ use Rattle.walk_spec.specs.Unrolled.{UnrolledProgram, byte_of_runs}
 use Rattle.walk_spec.specs.Unrolling.{IsWalkable}
 use Rattle.clause_spec.specs.Clauses.{valuation}
 use Rattle.term_spec.specs.ClauseForm.{IsStartOf}
-use Rattle.state_text.specs.Starts.{written_of}
+use Rattle.start_value.specs.Starts.{written_of}
 use Rattle.bit_blast.specs.Broken.{AreBroken}
 use Rattle.mem_cells.specs.Views.{cells_of, program_of_cells}
 use Rattle.mem_cells.specs.declared.cells.Celled.{Celled}

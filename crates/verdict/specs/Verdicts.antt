@@ -10,7 +10,8 @@ use Rattle.bilv_spec.specs.Run.{Program}
 use Rattle.bilv_spec.specs.Scripts.{IsScript}
 use Rattle.machine_spec.specs.StateText.{Layout}
 use Rattle.cnf_form.specs.Views.{proof_of}
-use Rattle.state_text.specs.Starts.{event_of, written_of}
+use Rattle.start_value.specs.Starts.{written_of}
+use Rattle.state_text.specs.Starts.{event_of}
 use Rattle.question_form.specs.Views.{kind_of}
 use Rattle.call_form.specs.declared.budget.Budget.{Budget}
 pub use Rattle.call_form.specs.Views.{budget_of}

@@ -26,7 +26,7 @@ use machine_law::Machine;
 use passify::passive;
 use program_points::PointsFault;
 use question_form::{Kind, Passive, Unrolled};
-use state_text::Start;
+use start_value::Start;
 use std::alloc::{AllocError, Global};
 
 /// What the turn question and the fail question within a smaller bound come to.

@@ -5,7 +5,7 @@ ghost use Rattle.bilv_spec.specs.Scripts.{IsScript};
 ghost use Rattle.notes_value.specs.NoteViews.{notes_of};
 ghost use Rattle.notes_value.specs.Reads.{AreOver};
 ghost use Rattle.question_form.specs.Views.{kind_of, unrolled_of};
-ghost use Rattle.state_text.specs.Starts.{layout_of};
+ghost use Rattle.start_value.specs.Starts.{layout_of};
 ghost use Rattle.verdict.specs.Functions.{program_of_function};
 ghost use Rattle.verdict.specs.Grounds.{IsGround};
 ghost use Rattle.verdict.specs.Measures.{IsUnrolledOf};

@@ -10,7 +10,7 @@ ghost use Rattle.bilv_spec.specs.Reports.{found};
 ghost use Rattle.machine_spec.specs.StateText.{IsWritten};
 ghost use Rattle.notes_value.specs.NoteViews.{notes_of};
 ghost use Rattle.notes_value.specs.Reads.{AreReadable};
-ghost use Rattle.state_text.specs.Starts.{written_of};
+ghost use Rattle.start_value.specs.Starts.{written_of};
 ghost use Rattle.table_run.specs.Endings.{found_of};
 ghost use Rattle.verdict.specs.Functions.{program_of_function};
 ghost use Rattle.verdict.specs.Grounds.{IsAnswered, IsFailing};
@@ -20,7 +20,7 @@ use crate::{Answered, Budget, Verdict};
 use elf32_reader::Image;
 use machine_law::Machine;
 use notes_value::Notes;
-use state_text::Start;
+use start_value::Start;
 use std::alloc::{AllocError, Global};
 use table_run::{Ending, run};
 

@@ -1,7 +1,8 @@
 //! Verdicts, and what questions come to.
 use cnf_form::Proof;
 use question_form::Kind;
-use state_text::{Event, Start};
+use start_value::Start;
+use state_text::Event;
 
 /// What a question comes to.
 #[derive(Drop)]

@@ -1,7 +1,7 @@
 use Rattle.bilv_spec.specs.Files.{program_of}
 use Rattle.notes_value.specs.NoteViews.{notes_of}
 use Rattle.question_form.specs.Views.{kind_of}
-use Rattle.state_text.specs.Starts.{layout_of}
+use Rattle.start_value.specs.Starts.{layout_of}
 use Rattle.verdict.specs.Verdicts.{budget_of}
 use Rattle.bilv_top.specs.Answers.{answer_of}
 use Rattle.bilv_top.proofs.Founds.{found_readable, machine_order}

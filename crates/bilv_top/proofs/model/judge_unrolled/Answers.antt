@@ -7,7 +7,7 @@ use Rattle.model_spec.specs.Models.{IsModelAnswer, within}
 use Rattle.notes_value.specs.NoteViews.{notes_of}
 use Rattle.question_form.specs.Views.{kind_of, unrolled_of}
 use Rattle.question_form.specs.declared.unrolled.Unrolled.{Unrolled}
-use Rattle.state_text.specs.Starts.{layout_of}
+use Rattle.start_value.specs.Starts.{layout_of}
 use Rattle.verdict.specs.Verdicts.{budget_of}
 use Rattle.verdict.proofs.Grounding.{came_above, came_within}
 use Rattle.bilv_top.specs.Answers.{answer_of}

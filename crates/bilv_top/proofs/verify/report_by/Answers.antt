@@ -4,7 +4,7 @@ use Rattle.bilv_top.proofs.Founds.{found_over, found_readable, machine_order}
 use Rattle.bilv_top.proofs.Verdicts.{verdict_reported}
 use Rattle.bilv_top.proofs.verify.report_by.Goals as goal
 use Rattle.notes_value.specs.NoteViews.{notes_of}
-use Rattle.state_text.specs.Starts.{layout_of}
+use Rattle.start_value.specs.Starts.{layout_of}
 
 pub verify-requires-clause-order : goal.verify-requires-clause-order
 verify-requires-clause-order g c = machine_order c.args.image.now g.M.Machine.machine c.requires.machine

@@ -6,7 +6,8 @@ use Rattle.call_spec.specs.Calls.{Answer, plain_answer}
 use Rattle.bilv_spec.specs.Points.{is_known_at}
 use Rattle.pair_spec.specs.Differs.{some_ending}
 use Rattle.state_text.specs.Readings.{fault_of}
-use Rattle.state_text.specs.Starts.{layout_of, written_of, text_of}
+use Rattle.start_value.specs.Starts.{layout_of, written_of}
+use Rattle.state_text.specs.Starts.{text_of}
 use Rattle.report_replay.specs.Readings as readings
 use Rattle.pair_sides.specs.Sides.{machine_in, program_of_side}
 use Rattle.difference_replay.specs.Named.{named_of}

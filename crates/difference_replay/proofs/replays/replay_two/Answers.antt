@@ -3,7 +3,7 @@ use Rattle.std.specs.Option.{option_map}
 use Rattle.word_spec.specs.Texts.{split_lines}
 use Rattle.clause_spec.specs.Checks.{text_limit}
 use Rattle.call_spec.specs.Calls.{Answer, plain_answer}
-use Rattle.state_text.specs.Starts.{layout_of}
+use Rattle.start_value.specs.Starts.{layout_of}
 use Rattle.state_text.proofs.Keeping.{is_nothing}
 use Rattle.links_lang.specs.Views.{links_of}
 use Rattle.pair_sides.specs.Sides.{side_of, program_of_side}

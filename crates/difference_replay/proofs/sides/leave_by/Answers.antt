@@ -1,7 +1,7 @@
 use Rattle.std.proofs.Common.{Some, None}
 use Rattle.bilv_spec.specs.Answers.{start_in}
 use Rattle.bilv_spec.specs.Files.{program_of}
-use Rattle.state_text.specs.Starts.{written_of}
+use Rattle.start_value.specs.Starts.{written_of}
 use Rattle.notes_value.specs.NoteViews.{notes_of}
 use Rattle.difference_replay.proofs.OneSide.{exit_is, no_exit_is, left_by}
 use Rattle.difference_replay.proofs.sides.leave_by.Goals as goal

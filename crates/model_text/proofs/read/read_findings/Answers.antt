@@ -1,6 +1,6 @@
 use Rattle.std.proofs.Common.{◌≡◌, ℕ, Option, Some, None, arith, sym, ap, ◌∙◌, subst}
 use Rattle.std.specs.Option.{option_map}
-use Rattle.state_text.specs.Starts.{layout_of}
+use Rattle.start_value.specs.Starts.{layout_of}
 use Rattle.model_spec.specs.ModelText.{Between, line_after, tokens_from}
 use Rattle.model_text.specs.declared.place.Place.TheVariants.{Done}
 use Rattle.model_text.specs.Drafts.{AreFindings, Keeps}

@@ -1,5 +1,5 @@
 use Rattle.std.proofs.Common.{◌≡◌, ◌≤◌, ◌+◌, length}
-use Rattle.state_text.specs.Starts.{layout_of}
+use Rattle.start_value.specs.Starts.{layout_of}
 use Rattle.model_spec.specs.ModelText.{Between, line_after, tokens_from}
 use Rattle.model_text.specs.Drafts.{Keeps}
 use Rattle.model_text.specs.Judgements.{answer_to}

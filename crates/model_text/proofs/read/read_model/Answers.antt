@@ -1,7 +1,7 @@
 use Rattle.std.proofs.Common.{◌≡◌, ◌<◌, ◌^◌, ℕ, List, Option, length, map, take, drop, sym, ap, subst, ◌∙◌, arith}
 use Rattle.std.specs.Prelude.{codes, ◌%◌}
 use Rattle.machine_spec.specs.StateText.{value_names}
-use Rattle.state_text.specs.Starts.{layout_of}
+use Rattle.start_value.specs.Starts.{layout_of}
 use Rattle.model_spec.specs.Models.{given}
 use Rattle.model_text.specs.declared.model.ModelMemory.{ModelMemory}
 use Rattle.model_text.specs.Answers.{IsMemoryIf}

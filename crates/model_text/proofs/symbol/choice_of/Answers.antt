@@ -1,5 +1,5 @@
 use Rattle.std.proofs.Common.{◌∙◌, sym}
-use Rattle.state_text.specs.Starts.{layout_of}
+use Rattle.start_value.specs.Starts.{layout_of}
 use Rattle.model_text.specs.Symbols.{choice_number}
 use Rattle.model_text.proofs.SymbolNames.{no_choice_at}
 use Rattle.model_text.proofs.symbol.choice_of.Goals as goal

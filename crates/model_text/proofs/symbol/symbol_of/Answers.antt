@@ -1,6 +1,6 @@
 use Rattle.std.proofs.Common.{ℕ, List, refl, sym, ap, ◌∙◌, arith}
 use Rattle.machine_spec.specs.StateText.{place_in}
-use Rattle.state_text.specs.Starts.{layout_of}
+use Rattle.start_value.specs.Starts.{layout_of}
 use Rattle.model_text.specs.Symbols.{choice_number}
 use Rattle.model_text.proofs.SymbolNames.{choice_is_named, placed_named}
 use Rattle.model_text.proofs.symbol.symbol_of.Goals as goal

@@ -1,7 +1,7 @@
 use Rattle.std.proofs.Common.{◌∙◌, length}
 use Rattle.call_spec.specs.Calls.{EntryQuestion, FailQuestion, TurnQuestion}
 use Rattle.question_form.specs.Views.{unrolled_of}
-use Rattle.state_text.specs.Starts.{written_of}
+use Rattle.start_value.specs.Starts.{written_of}
 use Rattle.term_dag.specs.Readings.{reading_of}
 use Rattle.verdict.specs.Functions.{program_of_function}
 use Rattle.model_verdict.proofs.Findings.{fits, run_by, start_by}

@@ -1,5 +1,5 @@
 use Rattle.call_spec.specs.Calls.{EntryQuestion}
-use Rattle.state_text.specs.Starts.{written_of}
+use Rattle.start_value.specs.Starts.{written_of}
 use Rattle.verdict.specs.Functions.{program_of_function}
 use Rattle.model_verdict.specs.Models.{filler, listed}
 use Rattle.model_verdict.proofs.Endings.{entry_shown}

@@ -1,6 +1,6 @@
 use Rattle.verdict.specs.Functions.{program_of_function}
 use Rattle.verdict.proofs.Grounding.{function_is_read}
-use Rattle.state_text.specs.Starts.{written_of}
+use Rattle.start_value.specs.Starts.{written_of}
 use Rattle.model_verdict.specs.Models.{filler, listed}
 use Rattle.model_verdict.proofs.Endings.{turns_somehow, turned_shown}
 use Rattle.model_verdict.proofs.Findings.{model_state, takes_choices}

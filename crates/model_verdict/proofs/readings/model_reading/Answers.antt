@@ -1,7 +1,7 @@
 use Rattle.std.proofs.Common.{◌∙◌, ◌%◌, ap}
 use Rattle.std.specs.Prelude.{bit_xor}
 use Rattle.question_form.specs.Views.{unrolled_of}
-use Rattle.state_text.specs.Starts.{layout_of}
+use Rattle.start_value.specs.Starts.{layout_of}
 use Rattle.term_dag.specs.declared.values.Reading.{Reading}
 use Rattle.word_spec.specs.Memory.{memory_of}
 use Rattle.model_verdict.proofs.Made.{is_of_model, placed_few}

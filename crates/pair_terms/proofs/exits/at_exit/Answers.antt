@@ -1,6 +1,6 @@
 use Rattle.std.proofs.Common.{length, ap, sym, refl, ◌∙◌, arith}
 use Rattle.term_spec.specs.Terms.{width_of}
-use Rattle.state_text.specs.Starts.{layout_of}
+use Rattle.start_value.specs.Starts.{layout_of}
 use Rattle.question_form.specs.Views.{unrolled_of}
 use Rattle.term_names.specs.Views.{form_of, names_of}
 use Rattle.note_terms.proofs.Valued.{in_range, names_stay}

@@ -1,7 +1,7 @@
 use Rattle.std.proofs.Common.{refl, subst, ◌∙◌, ◌-◌}
 use Rattle.bilv_spec.specs.Points.{HasMore}
 use Rattle.call_spec.specs.Calls.{Budget}
-use Rattle.state_text.specs.Starts.{layout_of}
+use Rattle.start_value.specs.Starts.{layout_of}
 use Rattle.verdict.specs.Measures.{IsUnrolledOf}
 use Rattle.verdict.specs.Verdicts.{budget_of}
 use Rattle.pair_verdict.specs.Sides.{AreTooMany, first_program, second_program}

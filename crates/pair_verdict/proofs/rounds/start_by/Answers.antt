@@ -1,5 +1,5 @@
 use Rattle.std.proofs.Common.{◌∙◌}
-use Rattle.state_text.specs.Starts.{written_of}
+use Rattle.start_value.specs.Starts.{written_of}
 use Rattle.pair_verdict.proofs.RoundOf.{one_as, shown_by, unbroken_as}
 use Rattle.pair_verdict.proofs.rounds.start_by.Goals as goal
 

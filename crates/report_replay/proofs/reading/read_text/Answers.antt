@@ -2,7 +2,7 @@ use Rattle.std.proofs.Common.{◌+◌, ap, subst}
 use Rattle.bilv_spec.specs.Files.{program_of}
 use Rattle.bilv_spec.specs.Points.{is_known_at}
 use Rattle.machine_spec.specs.StateText.{StateRefused, lines_of_head, state_of}
-use Rattle.state_text.specs.Starts.{layout_of}
+use Rattle.start_value.specs.Starts.{layout_of}
 use Rattle.state_text.specs.Readings.{fault_of, IsRefusedBy}
 use Rattle.state_text.specs.declared.state_fault.ParseFault.{ParseFault}
 use Rattle.notes_value.specs.NoteViews.{notes_of}

@@ -1,7 +1,7 @@
 use Rattle.std.proofs.Common.{◌≡◌, ◌++◌, string_bytes}
 use Rattle.std.specs.Prelude.{codes}
 use Rattle.bilv_spec.specs.SmtLib.{Atom}
-use Rattle.state_text.specs.Starts.{layout_of}
+use Rattle.start_value.specs.Starts.{layout_of}
 use Rattle.smtlib_print.specs.Commands.{word_sort}
 use Rattle.smtlib_print.proofs.Appended.{undeclared}
 use Rattle.smtlib_print.proofs.declarations.declare_registers.Given as goal

@@ -1,6 +1,6 @@
 use Rattle.std.proofs.Common.{string_bytes, ap, ◌∙◌, ◌++◌}
 use Rattle.term_spec.specs.Terms.{width_of}
-use Rattle.state_text.specs.Starts.{layout_of}
+use Rattle.start_value.specs.Starts.{layout_of}
 use Rattle.term_dag.specs.Nodes.{node_of}
 use Rattle.smtlib_print.specs.Commands.{sort_of, node_term}
 use Rattle.smtlib_print.specs.Written.{written}

@@ -1,5 +1,5 @@
 use Rattle.std.proofs.Common.{string_bytes, arith}
-use Rattle.state_text.specs.Starts.{layout_of}
+use Rattle.start_value.specs.Starts.{layout_of}
 use Rattle.term_dag.specs.Nodes.{node_of}
 use Rattle.smtlib_print.proofs.Appended.{definition_more}
 use Rattle.smtlib_print.proofs.definitions.push_definitions.Goals as goal

@@ -1,5 +1,5 @@
 use Rattle.std.proofs.Common.{◌≡◌, ◌++◌, string_bytes}
-use Rattle.state_text.specs.Starts.{layout_of}
+use Rattle.start_value.specs.Starts.{layout_of}
 use Rattle.smtlib_print.proofs.Appended.{left}
 use Rattle.smtlib_print.proofs.definitions.push_definitions.Given as goal
 

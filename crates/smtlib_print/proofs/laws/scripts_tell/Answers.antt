@@ -1,4 +1,4 @@
-use Rattle.state_text.specs.Starts.{layout_of}
+use Rattle.start_value.specs.Starts.{layout_of}
 use Rattle.smtlib_print.proofs.Layouts.{usable_of}
 use Rattle.smtlib_print.proofs.Telling.{script_tells}
 use Rattle.smtlib_print.proofs.laws.scripts_tell.Goals as goal

@@ -1,5 +1,5 @@
 use Rattle.std.proofs.Common.{string_bytes, map}
-use Rattle.state_text.specs.Starts.{layout_of}
+use Rattle.start_value.specs.Starts.{layout_of}
 use Rattle.question_form.specs.Views.{unrolled_of}
 use Rattle.smtlib_print.specs.Commands.{drawn}
 use Rattle.smtlib_print.proofs.Printing.{head_text}

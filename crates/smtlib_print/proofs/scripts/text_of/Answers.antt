@@ -1,5 +1,5 @@
 use Rattle.std.proofs.Common.{◌∙◌, List, string_bytes, length, map, refl, ap, sym}
-use Rattle.state_text.specs.Starts.{layout_of}
+use Rattle.start_value.specs.Starts.{layout_of}
 use Rattle.known_bytes.specs.declared.listing.Known.{Known}
 use Rattle.known_bytes.specs.Runs.{run_of}
 use Rattle.question_form.specs.Questions.{program_of_question}

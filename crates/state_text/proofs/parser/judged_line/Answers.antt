@@ -1,7 +1,7 @@
 use Rattle.std.proofs.Common.{sym, ap, ◌∙◌}
 use Rattle.std.specs.Option.{option_map}
 use Rattle.machine_spec.specs.StateText.{line_of}
-use Rattle.state_text.specs.Starts.{layout_of}
+use Rattle.start_value.specs.Starts.{layout_of}
 use Rattle.state_text.specs.Lines.{line_said}
 use Rattle.state_text.specs.Readings.{fault_of}
 use Rattle.state_text.proofs.Judging.{judged_refused, judged_said}

@@ -1,7 +1,8 @@
 use Rattle.std.proofs.Common.{◌≡◌, ℕ, ◌+◌, ◌∷◌, Bool, Some, ap, ◌∙◌, map, length}
 use Rattle.word_spec.specs.Texts.{split_lines}
 use Rattle.machine_spec.specs.StateText.{StateRegisterFault, StateLineFault, StateRefused, StateIs, NamedLine, line_of, lines_of_head, told_of, state_of}
-use Rattle.state_text.specs.Starts.{layout_of, named_of, text_of}
+use Rattle.start_value.specs.Starts.{layout_of}
+use Rattle.state_text.specs.Starts.{named_of, text_of}
 use Rattle.state_text.specs.declared.start.NamedEnding.{NamedEnding}
 use Rattle.state_text.proofs.Judging.{none}
 use Rattle.state_text.proofs.Keeping.{none_known, is_nothing, of_none, of_some}

@@ -3,7 +3,8 @@ use Rattle.std.specs.Option.{option_map}
 use Rattle.word_spec.specs.Texts.{split_lines}
 use Rattle.machine_spec.specs.StateText as texts
 use Rattle.machine_spec.specs.StateText.{NamedLine, line_of, line_refusal, told_of, lines_of_head, StateRefused}
-use Rattle.state_text.specs.Starts.{layout_of, named_of}
+use Rattle.start_value.specs.Starts.{layout_of}
+use Rattle.state_text.specs.Starts.{named_of}
 use Rattle.state_text.specs.Lines.{line_said}
 use Rattle.state_text.specs.Readings.{fault_of, refusal_of, told_but}
 use Rattle.state_text.specs.declared.state_line.StateLine.{StateLine}

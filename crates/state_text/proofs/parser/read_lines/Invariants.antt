@@ -1,7 +1,8 @@
 use Rattle.std.proofs.Common.{◌+◌, ◌<◌, ◌^◌, ◌∷◌, List, Some, map, length}
 use Rattle.word_spec.specs.Texts.{split_lines}
 use Rattle.machine_spec.specs.StateText.{StateLine, NamedLine, line_of}
-use Rattle.state_text.specs.Starts.{layout_of, named_of}
+use Rattle.start_value.specs.Starts.{layout_of}
+use Rattle.state_text.specs.Starts.{named_of}
 use Rattle.state_text.proofs.Keeping.{Stands}
 use Rattle.state_text.proofs.parser.read_lines.Given as goal
 

@@ -2,7 +2,8 @@ use Rattle.std.proofs.Common.{ℕ, refl, ap, ◌∙◌, ◌++◌, ◌+◌, ◌-�
 use Rattle.word_spec.specs.Words.{bit_at}
 use Rattle.word_spec.specs.Texts.{line}
 use Rattle.machine_spec.specs.StateText.{RegisterLine, register_lines, flag_bits}
-use Rattle.state_text.specs.Starts.{layout_of, line_text, lines_text}
+use Rattle.start_value.specs.Starts.{layout_of}
+use Rattle.state_text.specs.Starts.{line_text, lines_text}
 use Rattle.state_text.proofs.Appends.{two}
 use Rattle.state_text.proofs.Printing.{flags_more}
 use Rattle.state_text.proofs.printer.+push_flags.Goals as goal

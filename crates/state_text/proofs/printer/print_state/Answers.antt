@@ -3,7 +3,8 @@ use Rattle.word_spec.specs.Texts.{line}
 use Rattle.machine_spec.specs.Endings.{named_line}
 use Rattle.machine_spec.specs.StateText as texts
 use Rattle.machine_spec.specs.StateText.{block_text}
-use Rattle.state_text.specs.Starts.{layout_of, text_of}
+use Rattle.start_value.specs.Starts.{layout_of}
+use Rattle.state_text.specs.Starts.{text_of}
 use Rattle.state_text.proofs.Appends.{two}
 use Rattle.state_text.proofs.Printing.{whole}
 use Rattle.state_text.proofs.printer.print_state.Goals as goal

@@ -3,7 +3,8 @@ use Rattle.word_spec.specs.State.{Written}
 use Rattle.word_spec.specs.Texts.{line}
 use Rattle.machine_spec.specs.StateText as texts
 use Rattle.machine_spec.specs.StateText.{MachineLine, ByteLine, ChoiceLine, register_lines, flag_bits}
-use Rattle.state_text.specs.Starts.{layout_of, line_text, lines_text, written_of}
+use Rattle.start_value.specs.Starts.{layout_of, written_of}
+use Rattle.state_text.specs.Starts.{line_text, lines_text}
 use Rattle.state_text.proofs.Appends.{six}
 use Rattle.state_text.proofs.Printing.{block_by}
 use Rattle.state_text.proofs.printer.push_block.Goals as goal

@@ -1,6 +1,7 @@
 use Rattle.std.proofs.Common.{◌≡◌, ◌++◌, drop}
 use Rattle.machine_spec.specs.StateText.{register_lines}
-use Rattle.state_text.specs.Starts.{layout_of, lines_text}
+use Rattle.start_value.specs.Starts.{layout_of}
+use Rattle.state_text.specs.Starts.{lines_text}
 use Rattle.state_text.proofs.printer.push_registers.Given as goal
 
 abbrev pub invariant-loop-place : goal.invariant-loop-place

@@ -2,7 +2,7 @@ use Rattle.std.proofs.Common.{ap, ◌∙◌, map}
 use Rattle.std.specs.Option.{option_map}
 use Rattle.word_spec.specs.Texts.{words_in}
 use Rattle.machine_spec.specs.StateText.{line_of_words}
-use Rattle.state_text.specs.Starts.{layout_of}
+use Rattle.start_value.specs.Starts.{layout_of}
 use Rattle.state_text.specs.Lines.{capped_line}
 use Rattle.state_text.proofs.SaidLines.{first_eight}
 use Rattle.state_text.proofs.state_line.state_line.Goals as goal

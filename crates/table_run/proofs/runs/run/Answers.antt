@@ -3,7 +3,7 @@ use Rattle.word_spec.specs.Memory.{byte_in}
 use Rattle.bilv_spec.specs.Files.{program_of}
 use Rattle.bilv_spec.specs.Reports.{turns_within}
 use Rattle.bilv_spec.specs.Answers.{start_in}
-use Rattle.state_text.specs.Starts.{written_of}
+use Rattle.start_value.specs.Starts.{written_of}
 use Rattle.notes_value.specs.NoteViews.{notes_of}
 use Rattle.table_run.specs.Endings.{found_of}
 use Rattle.table_run.proofs.Founds.{found_same, start_is, no_bound, some_bound}

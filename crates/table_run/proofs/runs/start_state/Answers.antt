@@ -3,7 +3,7 @@ use Rattle.word_spec.specs.Words.{word}
 use Rattle.word_spec.specs.Memory.{memory_of}
 use Rattle.bilv_spec.specs.Files.{program_of}
 use Rattle.machine_spec.specs.StateText.{known_or}
-use Rattle.state_text.specs.Starts.{written_of}
+use Rattle.start_value.specs.Starts.{written_of}
 use Rattle.notes_value.specs.NoteViews.{notes_of, fixed_of}
 use Rattle.known_bytes.specs.Known.{given}
 use Rattle.table_run.proofs.Founds.{state_is}

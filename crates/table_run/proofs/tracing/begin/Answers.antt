@@ -1,4 +1,4 @@
-use Rattle.state_text.specs.Starts.{written_of}
+use Rattle.start_value.specs.Starts.{written_of}
 use Rattle.table_run.specs.Programs.{program_of}
 use Rattle.table_run.proofs.Fillings.{none_met}
 use Rattle.table_run.proofs.TracedRuns.{begun_at}

@@ -9,7 +9,7 @@ use Rattle.known_bytes.proofs.Counts.{run_starts}
 use Rattle.notes_value.specs.NoteViews.{notes_of}
 use Rattle.program_points.specs.declared.values.Frame.{Frame}
 use Rattle.program_points.proofs.Lists.{nothing_more}
-use Rattle.state_text.specs.Starts.{layout_of}
+use Rattle.start_value.specs.Starts.{layout_of}
 use Rattle.question_form.specs.declared.unrolled.Unrolled.{Unrolled}
 use Rattle.question_form.specs.Forms.{IsFormed}
 use Rattle.question_form.specs.Views.{kept_of, unrolled_of}

@@ -1,6 +1,6 @@
 use Rattle.std.proofs.Common.{◌∙◌, ap}
 use Rattle.question_form.specs.declared.unrolled.Unrolled.{Unrolled}
-use Rattle.state_text.specs.Starts.{layout_of}
+use Rattle.start_value.specs.Starts.{layout_of}
 use Rattle.verdict.specs.Functions.{program_of_function}
 use Rattle.verdict.specs.Verdicts.{budget_of}
 use Rattle.verdict.proofs.Grounding.{came_above, came_within}

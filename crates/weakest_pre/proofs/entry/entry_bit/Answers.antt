@@ -1,5 +1,5 @@
 use Rattle.std.proofs.Common.{◌∙◌, ap, sym, refl, arith, length}
-use Rattle.state_text.specs.Starts.{layout_of}
+use Rattle.start_value.specs.Starts.{layout_of}
 use Rattle.question_form.specs.Views.{unrolled_of}
 use Rattle.note_terms.proofs.Valued.{in_range}
 use Rattle.weakest_pre.specs.Entry.{said}

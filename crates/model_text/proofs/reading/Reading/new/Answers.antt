@@ -1,7 +1,7 @@
 use Rattle.std.proofs.Common.{ℕ, ◌+◌, List, [], None, length, sym, ap, ◌∙◌, subst, arith}
 use denote.Ref.{Bor}
 use Rattle.std.proofs.lemmas.List.{length-map}
-use Rattle.state_text.specs.Starts.{layout_of}
+use Rattle.start_value.specs.Starts.{layout_of}
 use Rattle.model_text.specs.Symbols.{count_of}
 use Rattle.model_text.specs.Drafts.{AreApart, AreFindings}
 use Rattle.model_text.proofs.SymbolNames.{own_names, names_apart}

@@ -1,7 +1,7 @@
 use Rattle.std.proofs.Common.{◌≡◌, Bool, refl, ap, ◌∙◌}
 use Rattle.std.specs.Prelude.{is_some}
 use Rattle.std.specs.Option.{option_map}
-use Rattle.state_text.specs.Starts.{layout_of}
+use Rattle.start_value.specs.Starts.{layout_of}
 use Rattle.model_text.specs.Faults.{fault_of}
 use Rattle.model_text.specs.Symbols.{symbol_in, count_of}
 use Rattle.model_text.specs.Tokens.{placed_of, token_of}

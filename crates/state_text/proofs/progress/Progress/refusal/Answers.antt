@@ -1,6 +1,6 @@
 use Rattle.std.proofs.Common.{ap, sym, ◌∙◌, false}
 use Rattle.machine_spec.specs.StateText.{line_refusal}
-use Rattle.state_text.specs.Starts.{layout_of}
+use Rattle.start_value.specs.Starts.{layout_of}
 use Rattle.state_text.specs.Lines.{line_said}
 use Rattle.state_text.specs.declared.state_line.StateLine.{StateLine}
 use Rattle.state_text.proofs.progress.Progress.refusal.Goals as goal
