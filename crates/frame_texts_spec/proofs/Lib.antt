@@ -1,0 +1,5 @@
+pub mod Headless
+pub mod Once
+pub mod EndingsBack
+pub mod PartsBack
+pub mod Samples
