@@ -10,7 +10,7 @@ use Rattle.bilv_spec.specs.Run.{Program, false_assert}
 use Rattle.bilv_spec.proofs.Pigeons.{truth}
 use Rattle.bilv_spec.proofs.PointSteps.{here, there, and_both}
 use Rattle.bilv_spec.proofs.PointTests.{not_any}
-use Rattle.walk_laws.proofs.WalkSteps.{IsAlike, false_line_same}
+use Rattle.walk_spec.proofs.WalkSteps.{IsAlike, false_line_same}
 use Rattle.frame_spec.specs.Frames.{Frame, OfStep, InvariantFails, Content, Contract, content_at, event_of, line_event, is_head, is_invariant, invariants_of}
 use Rattle.frame_spec.specs.FramePoints.{Point, is_entry}
 use Rattle.frame_spec.specs.FrameWalk.{Check, check_event, false_check}

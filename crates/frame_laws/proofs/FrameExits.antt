@@ -17,8 +17,8 @@ use Rattle.bilv_spec.proofs.PointSteps.{same_number, and_both, in_any}
 use Rattle.bilv_spec.proofs.PointTests.{any_is, not_any}
 use Rattle.walk_spec.specs.Unrolled as tables
 use Rattle.walk_spec.specs.Unrolling.{address_of}
-use Rattle.walk_laws.proofs.WalkEdges.{first_hit, takes}
-use Rattle.walk_laws.proofs.WalkSteps.{false_line_same}
+use Rattle.walk_spec.proofs.WalkEdges.{first_hit, takes}
+use Rattle.walk_spec.proofs.WalkSteps.{false_line_same}
 use Rattle.frame_spec.specs.Frames as Frames
 use Rattle.frame_spec.specs.Frames.{Content, Contract, Frame, OfStep, content_at, keeps_register, keeps_flag}
 use Rattle.frame_spec.specs.FramePoints.{Anchor, Point}

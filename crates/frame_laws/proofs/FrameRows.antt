@@ -21,9 +21,9 @@ use Rattle.bilv_spec.proofs.FileWords.{Sound, kept_number}
 use Rattle.walk_spec.specs.Unrolled.{is_in, number_event}
 use Rattle.walk_spec.specs.Unrolling as tables
 use Rattle.walk_spec.specs.Unrolling.{jumps, HoldsLiteral, stop_event}
-use Rattle.walk_laws.proofs.WalkEdges.{first_hit, takes, found, of_row, step_is, step_of}
-use Rattle.walk_laws.proofs.HitOrder.{any_order}
-use Rattle.walk_laws.proofs.WalkSteps.{false_line_same}
+use Rattle.walk_spec.proofs.WalkEdges.{first_hit, takes, found, of_row, step_is, step_of}
+use Rattle.walk_spec.proofs.HitOrder.{any_order}
+use Rattle.walk_spec.proofs.WalkSteps.{false_line_same}
 use Rattle.frame_spec.specs.Frames as Frames
 use Rattle.frame_spec.specs.Frames.{Content, Contract, Frame, FrameEvent, OfStep, WritesFails, GivesFails, content_at, is_head, event_of, is_early, contract_at, stored_by_row, covers, invariants_of}
 use Rattle.frame_spec.specs.FrameRuns.{FrameStep, Halts, GoesTo, Reaches, Calls, lands, settles, unless_outside, leaves_by, given_by, frame_step, is_contract_call}

@@ -21,8 +21,7 @@ use Rattle.frame_spec.specs.FramePoints.{Point, ArePoints, triple, has_heads, po
 use Rattle.frame_spec.specs.FrameQuestions.{Reading, IsReading, IsTrueOver, Part, EntryPart, HeadPart, GivenPart, IsContractPoint, Input, OfRegister, OfFlag, OfChoice, OfByte, IsInput, Addresses, input_value}
 use Rattle.frame_spec.specs.FrameReports.{loads_among, is_of_byte, AreInputs, ComesFrom, AgreeOnFirst, InputsDecide, AreOfQuestion}
 use Rattle.frame_spec.specs.Theorems.{headless}
-use Rattle.frame_laws.specs.HeadlessLaws.{as_point, flat_reading, as_question, HeadlessClauses}
-use Rattle.frame_laws.specs.HeadlessTerms.{as_input}
+use Rattle.frame_laws.specs.HeadlessLaws.{as_point, flat_reading, as_question, as_input, HeadlessClauses}
 use Rattle.frame_laws.proofs.OnceLists.{mapped_sum}
 use Rattle.frame_laws.proofs.HeadlessPoints.{from, to, are_points, are_flat, flat_list, its_lines, headless_heads, headless_price}
 use Rattle.frame_laws.proofs.HeadlessReads.{true_from, true_to, full_reading, is_full}

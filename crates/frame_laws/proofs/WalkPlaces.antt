@@ -11,7 +11,8 @@ use Rattle.frame_spec.specs.FrameRuns.{Run, Going, Arriving, Calling, Exited, Fa
 use Rattle.frame_spec.specs.FramePoints.{AtHead, Point, IsPoint, first, entry_head, next, first_of, end_of, point_to, turns_to, is_contract_end}
 use Rattle.frame_spec.specs.FrameWalk.{UnrolledProgram, no_point, point_at, Walk, WalkIsAt, WalkArrives, WalkExits, WalkFails, WalkTurns, WalkBreaks}
 use Rattle.frame_spec.specs.FrameUnrolling.{IsRead, IsCarriedOf, checks_at, IsUnrolling}
-use Rattle.frame_laws.specs.RunOfFrame.{IsAt, IsSame}
+use Rattle.frame_spec.proofs.SweepWalks.{sweep_is_walks}
+use Rattle.frame_laws.specs.RunOfFrame.{IsAt, IsSame, FrameMeetsOnce}
 
 pub within : (f : Frame) (k : ℕ) (q : Point) → IsPoint f k q → q.turns ≤ k
 within f k q first = omega arith
@@ -98,3 +99,11 @@ module _ (f : Frame) (contracts : List Contract) (k : ℕ) (u : UnrolledProgram)
         subst (λ (z : Walk). Same z (Arriving q.turns (n + 1) d)) (sym e) (refl, refl, h)
     stepped (Leaves s) w h = subst (λ (z : Walk). Same z (Exited q.at n)) (sym h) tt
     stepped (Breaks line) w h = subst (λ (z : Walk). Same z (Broken line q.at n)) (sym h) tt
+
+-- a walk meets a place once
+pub frame_meets_once : FrameMeetsOnce
+frame_meets_once u rooted r x c t i m n a b e h =
+    let at = (sweep_is_walks u rooted r).3 x c t in
+    let first = (at m i a).0 e in
+    let second = (at n i b).0 h in
+    (sym first.4 ∙ second.4, sym first.3 ∙ second.3)

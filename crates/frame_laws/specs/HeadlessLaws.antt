@@ -14,7 +14,7 @@ use Rattle.walk_spec.specs.Unrolling as unrolling
 use Rattle.walk_spec.specs.Sweep as sweeps
 use Rattle.frame_spec.specs.Frames.{Content, OfStep}
 use Rattle.frame_spec.specs.FramePoints.{Point, AtEntry, IsPoint, IsPrice}
-use Rattle.frame_spec.specs.FrameQuestions.{Reading, IsReading, Question, EntryQuestion, FailQuestion, StepQuestion, TurnQuestion, IsTrueOver, IsSatisfiable, read_run}
+use Rattle.frame_spec.specs.FrameQuestions.{Reading, IsReading, Question, EntryQuestion, FailQuestion, StepQuestion, TurnQuestion, IsTrueOver, IsSatisfiable, Input, OfRegister, OfFlag, OfChoice, OfByte, EntryPart, read_run}
 use Rattle.frame_spec.specs.FrameWalk.{Aim, OnTo, Outward, OverLast, ToEvent, PointExit, FalseCheck, Always, Raising, WritingKept, Unaligned, Along, Action, Executes, UnrolledPoint, Root, UnrolledProgram, Walk, WalkIsAt, WalkExits, WalkFails, WalkTurns, walk_of, Held, swept}
 use Rattle.frame_spec.specs.FrameUnrolling.{IsUnrolling}
 use Rattle.frame_spec.specs.FrameVerdict.{Whole}
@@ -137,6 +137,13 @@ HeadlessWalks = (u : tables.UnrolledProgram) (r : Reading) (n : ℕ) → walk_of
 
 abbrev pub HeadlessSweeps : Type 0
 HeadlessSweeps = (u : tables.UnrolledProgram) (r : Reading) → swept (as_unrolled u) r ≡ as_held (sweeps.swept u (flat_reading r))
+
+-- an input of a program as one of its frame
+abbrev pub as_input : evidence.Input → Input
+as_input (evidence.OfRegister n i) = OfRegister EntryPart n i
+as_input (evidence.OfFlag f) = OfFlag EntryPart f
+as_input (evidence.OfChoice q i) = OfChoice (as_point q) i
+as_input (evidence.OfByte read i) = OfByte EntryPart read i
 
 -- And the clauses of a question of the frame are those of the question of the program, so that the same refutations show it.
 abbrev pub HeadlessClauses : Type 0

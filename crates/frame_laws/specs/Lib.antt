@@ -2,10 +2,3 @@ pub mod SegmentEnds
 pub mod RunOfFrame
 pub mod HeadlessLaws
 pub mod FramePrices
-pub mod PartTerms
-pub mod PassiveFrames
-pub mod FrameCells
-pub mod FrameClauseForm
-pub mod HeadlessTerms
-pub mod FrameAgreement
-pub mod FrameLayers

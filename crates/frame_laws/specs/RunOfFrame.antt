@@ -9,7 +9,6 @@ use Rattle.bilv_spec.specs.Questions.{IsEntryStateOver}
 use Rattle.bilv_spec.specs.Verdict.{IsEntryState}
 use Rattle.bilv_spec.specs.PointLaws.{HasLawfulRows}
 use Rattle.walk_spec.specs.Unrolled.{is_in, byte_of_runs}
-use Rattle.term_spec.specs.WalkQuestions.{is_asked}
 use Rattle.frame_spec.specs.Frames.{Content, Contract, Frame, is_head, contract_at}
 use Rattle.frame_spec.specs.FrameRuns.{Run, Going, Arriving, Calling, Exited, Failed, Turned, Cut, Broken}
 use Rattle.frame_spec.specs.FramePoints.{Anchor, AtEntry, AtHead, Point, IsAnchor, is_cut, has_heads}
@@ -126,11 +125,6 @@ FrameAnswersOver = (f : Frame) → HasLawfulRows f.program → ((a : ℕ) → is
     (contracts : List Contract) → IsAmong f contracts → (k : ℕ) (u : UnrolledProgram) → IsUnrolling f contracts k u →
     (asked : ℕ → Bool) → AsksKnown f asked → AsksLiterals f k asked → (r : Reading) (question : Question) →
     IsTrueOfSweepOver u (has_heads f) asked r question ↔ IsTrueOver f asked k r question
-
--- what is asked on demand is known, and has the literals
-abbrev pub FrameAskedIsRight : Type 0
-FrameAskedIsRight = (f : Frame) (contracts : List Contract) (k : ℕ) (u : UnrolledProgram) → IsUnrolling f contracts k u → (added : List ℕ) →
-    ((a : ℕ) → Contains added a → is_known_at f.program a ≡ true) → AsksKnown f (is_asked added u.literals) × AsksLiterals f k (is_asked added u.literals)
 
 -- the walk from a root meets the point at a place at most once
 abbrev pub FrameMeetsOnce : Type 0

@@ -3,10 +3,7 @@
 //! A law about definitions alone is a public function without a body to speak of: its contract is the law.
 #![tactic(auto)]
 
-pub mod agreement;
-pub mod clauses;
 pub mod headless;
 pub mod prices;
 pub mod segments;
-pub mod terms;
 pub mod walks;

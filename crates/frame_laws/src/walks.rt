@@ -1,5 +1,5 @@
 //! The walks of an unrolled frame and the segments of its frame.
-ghost use Rattle.frame_laws.specs.RunOfFrame.{FrameAnswersOver, FrameAskedIsRight, FrameEntryIsSame, FrameMeetsOnce, FrameWalkIsRun, FramesAreAmong};
+ghost use Rattle.frame_laws.specs.RunOfFrame.{FrameAnswersOver, FrameEntryIsSame, FrameMeetsOnce, FrameWalkIsRun, FramesAreAmong};
 
 /// The frames of notes with contracts are frames among those contracts.
 pub fn frames_are_among()
@@ -14,11 +14,6 @@ pub fn frame_walk_is_run()
 /// The questions of an unrolled frame, by its sweep, are those of its frame, over each set of known bytes that has its literals.
 pub fn frame_answers_over()
     ensures { FrameAnswersOver }
-{}
-
-/// What is asked on demand is known, and has the literals.
-pub fn frame_asked_is_right()
-    ensures { FrameAskedIsRight }
 {}
 
 /// The walk from a root meets the point at a place at most once.

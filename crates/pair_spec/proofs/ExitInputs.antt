@@ -16,7 +16,7 @@ use Rattle.bilv_spec.specs.Run.{Program}
 use Rattle.bilv_spec.specs.Points.{Point, IsPoint, first, next}
 use Rattle.bilv_spec.specs.Questions.{Reading}
 use Rattle.bilv_spec.proofs.PointSteps.{in_map}
-use Rattle.term_spec.specs.Terms.{TermReading, TermNode, TermValue, RegisterNode, FlagNode, ChoiceNode, BaseNode, MemoryNode, ConstantNode, BinaryNode, NotNode, SelectNode, ExtractNode, ConcatNode, ExtendNode, LoadNode, StoreNode, JoinNode, with_mem, node_at, node_value, term_gates, term_value, word_value}
+use Rattle.term_spec.specs.Terms.{TermReading, TermNode, TermValue, RegisterNode, FlagNode, ChoiceNode, BaseNode, MemoryNode, ConstantNode, BinaryNode, NotNode, SelectNode, ExtractNode, ConcatNode, ExtendNode, LoadNode, StoreNode, JoinNode, TakeNode, with_mem, node_at, node_value, term_gates, term_value, word_value}
 use Rattle.walk_spec.specs.Unrolled.{Carried, UnrolledPoint, UnrolledProgram, ExitsLeadLater, Walk, WalkIsAt, WalkExits, WalkFails, WalkTurns, is_register_of, is_flag_of, no_point, point_at, walk, walk_from, walk_on}
 use Rattle.term_spec.specs.WalkQuestions.{DrawsAt, IsNamedBelow, term_reading}
 use Rattle.term_spec.specs.Cells.{Cells, AreFormed, Gives}
@@ -68,23 +68,23 @@ module _ (u : UnrolledProgram) where
 
   abbrev read : (c : Cells) (v : ℕ → Bool) (choice base : ℕ → ℕ) → TermReading
   read c v choice base = record {
-    regs = λ n. if is_register_of u n then bits_from v (32 * place_in u.registers n) 32 else 0;
-    flags = λ f. if is_flag_of u f then bits_from v (first_flag u + f) 1 else 0;
-    mem = λ a. 0;
+    regs = λ p n. if is_register_of u n then bits_from v (32 * place_in u.registers n) 32 else 0;
+    flags = λ p f. if is_flag_of u f then bits_from v (first_flag u + f) 1 else 0;
+    mem = λ p a. 0;
     choice = choice;
-    base = base;
+    base = λ p. base;
   }
 
   choice_same : (c : Cells) (v : ℕ → Bool) (i : ℕ) → (reading (with_exit_place u) c v).choice i ≡ (reading u c v).choice i
   choice_same c v i =
       (λ k. if drawn i k then bits_from v (first_choice u + 2 * below_same i k) 2 else 0)
 
-  base_same : (c : Cells) (v : ℕ → Bool) (j : ℕ) → (reading (with_exit_place u) c v).base j ≡ (reading u c v).base j
+  base_same : (c : Cells) (v : ℕ → Bool) (j : ℕ) → (reading (with_exit_place u) c v).base 0 j ≡ (reading u c v).base 0 j
   base_same c v j = (λ k. if nat_lt j (length c.addresses) then bits_from v (byte_same k + 8 * j) 8 else 0)
 
   pub reading_same : (c : Cells) (v : ℕ → Bool) → reading (with_exit_place u) c v ≡ reading u c v
   reading_same c v =
-      ap (λ f. read c v f (reading (with_exit_place u) c v).base) (fun_ext (choice_same c v))
+      ap (λ f. read c v f ((reading (with_exit_place u) c v).base 0)) (fun_ext (choice_same c v))
       ∙ ap (read c v (reading u c v).choice) (fun_ext (base_same c v))
 
   -- ---- the nodes
@@ -102,11 +102,11 @@ module _ (u : UnrolledProgram) where
   draws_to i h = ((let a = h.0 in let s = size u in omega arith), drawn i ∙ h.1)
 
   from_form : (reads : ℕ) (n : TermNode) → IsNamedBelow (with_exit_place u) reads n → IsNamedBelow u reads n
-  from_form reads (RegisterNode r) h = h
-  from_form reads (FlagNode f) h = h
+  from_form reads (RegisterNode p r) h = h
+  from_form reads (FlagNode p f) h = h
   from_form reads (ChoiceNode i) h = draws_from i h
-  from_form reads (BaseNode j) h = h
-  from_form reads MemoryNode h = h
+  from_form reads (BaseNode p j) h = h
+  from_form reads (MemoryNode p) h = h
   from_form reads (ConstantNode w x) h = h
   from_form reads (BinaryNode o w a b) h = h
   from_form reads (NotNode w a) h = h
@@ -117,13 +117,14 @@ module _ (u : UnrolledProgram) where
   from_form reads (LoadNode n e m a) h = h
   from_form reads (StoreNode n e m a x) h = h
   from_form reads (JoinNode c a b) h = h
+  from_form reads (TakeNode n m a p) h = h
 
   to_form : (reads : ℕ) (n : TermNode) → IsNamedBelow u reads n → IsNamedBelow (with_exit_place u) reads n
-  to_form reads (RegisterNode r) h = h
-  to_form reads (FlagNode f) h = h
+  to_form reads (RegisterNode p r) h = h
+  to_form reads (FlagNode p f) h = h
   to_form reads (ChoiceNode i) h = draws_to i h
-  to_form reads (BaseNode j) h = h
-  to_form reads MemoryNode h = h
+  to_form reads (BaseNode p j) h = h
+  to_form reads (MemoryNode p) h = h
   to_form reads (ConstantNode w x) h = h
   to_form reads (BinaryNode o w a b) h = h
   to_form reads (NotNode w a) h = h
@@ -134,6 +135,7 @@ module _ (u : UnrolledProgram) where
   to_form reads (LoadNode n e m a) h = h
   to_form reads (StoreNode n e m a x) h = h
   to_form reads (JoinNode c a b) h = h
+  to_form reads (TakeNode n m a p) h = h
 
   formed_from : (c : Cells) → AreFormed (with_exit_place u) c → AreFormed u c
   formed_from c is = record {
@@ -175,11 +177,11 @@ exit_place_reads u = (
 module _ (u : UnrolledProgram) (r : Reading) where
   value_same : (vs : List TermValue) (n : TermNode) → IsNamedBelow u 0 n →
       node_value (term_reading (with_exit_place u) r) vs n ≡ node_value (term_reading u r) vs n
-  value_same vs (RegisterNode m) h = refl
-  value_same vs (FlagNode f) h = refl
+  value_same vs (RegisterNode p m) h = refl
+  value_same vs (FlagNode p f) h = refl
   value_same vs (ChoiceNode i) h = ap (λ (q : UnrolledPoint). word_value (r.choice q.point)) (early u i h.0)
-  value_same vs (BaseNode j) h = refl
-  value_same vs MemoryNode h = refl
+  value_same vs (BaseNode p j) h = refl
+  value_same vs (MemoryNode p) h = refl
   value_same vs (ConstantNode w x) h = refl
   value_same vs (BinaryNode o w a b) h = refl
   value_same vs (NotNode w a) h = refl
@@ -190,6 +192,7 @@ module _ (u : UnrolledProgram) (r : Reading) where
   value_same vs (LoadNode n e m a) h = refl
   value_same vs (StoreNode n e m a x) h = refl
   value_same vs (JoinNode c a b) h = refl
+  value_same vs (TakeNode n m a p) h = refl
 
 pub exit_place_terms : ExitPlaceTerms
 exit_place_terms u r nodes named i l =

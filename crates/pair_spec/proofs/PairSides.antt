@@ -227,12 +227,12 @@ module _ (p : Program) (k : ℕ) (side : Bool) (links : List Link) (question : P
   pub allowed_same : (y z : TermReading) → Agree u (length c.cells.addresses) y z → IsAllowed c.cells y → IsAllowed c.cells z
   allowed_same y z a h = record { agrees = agrees; asked = bytes }
     where
-      agrees : (x : Agreement) → Contains c.cells.agrees x → term_word z c.cells.nodes x.condition ≡ 1 → z.base x.read ≡ z.base x.other
+      agrees : (x : Agreement) → Contains c.cells.agrees x → term_word z c.cells.nodes x.condition ≡ 1 → z.base 0 x.read ≡ z.base 0 x.other
       agrees x m e =
           let f = formed.agrees x m in
           sym (a.base x.read f.1) ∙ h.agrees x m (word_same u c.cells formed y z a x.condition f.0.0 ∙ e) ∙ a.base x.other f.2
 
-      bytes : (x : AskedByte) → Contains c.cells.asked x → term_word z c.cells.nodes x.condition ≡ 1 → z.base x.read ≡ x.byte
+      bytes : (x : AskedByte) → Contains c.cells.asked x → term_word z c.cells.nodes x.condition ≡ 1 → z.base 0 x.read ≡ x.byte
       bytes x m e =
           let f = formed.asked x m in
           sym (a.base x.read f.1) ∙ h.asked x m (word_same u c.cells formed y z a x.condition f.0.0 ∙ e)
@@ -275,11 +275,11 @@ module _ (p : Program) (k : ℕ) (side : Bool) (links : List Link) (question : P
       let range = reading_in_range u c.cells v in
       let m = layered.cells.complete (reading u c.cells v) range allows in
       let r : Reading = record {
-        state = record { pc = u.entry; regs = (reading u c.cells v).regs; flags = (reading u c.cells v).flags; mem = m.0 };
+        state = record { pc = u.entry; regs = (reading u c.cells v).regs 0; flags = (reading u c.cells v).flags 0; mem = m.0 };
         choice = λ x. (reading u c.cells v).choice (spot (asking side links p) k u un c.cells x);
       } in
       let is : IsReading r = record {
-        state = record { pc = layered.fitting.entry; regs = range.regs; flags = range.flags; mem = m.1 };
+        state = record { pc = layered.fitting.entry; regs = range.regs 0; flags = range.flags 0; mem = m.1 };
         choice = λ x. range.choice (spot (asking side links p) k u un c.cells x);
       } in
       let a = agree_all u c.cells formed (with_mem (reading u c.cells v) m.0) (read_as r) (record {

@@ -197,7 +197,7 @@ pub record TellsSideCells (u : UnrolledProgram) (links : List Link) (question : 
   pub exit_widths : question ≡ DifferenceOfExits → HaveWidths c.cells.nodes c.exits (flat_map exit_widths links)
   pub entries : (x : TermReading) → InRange x → Gives c.cells x → HaveWords x c.cells.nodes c.entries (map (term_word x t.nodes) t.entries)
   pub exits : (x : TermReading) → InRange x → Gives c.cells x → HaveWords x c.cells.nodes c.exits (map (term_word x t.nodes) t.exits)
-  pub sound : (x : TermReading) → InRange x → Gives c.cells x → HasAsked u asked x.mem → IsAllowed c.cells x
+  pub sound : (x : TermReading) → InRange x → Gives c.cells x → HasAsked u asked (x.mem 0) → IsAllowed c.cells x
   pub complete : (x : TermReading) → InRange x → IsAllowed c.cells x →
       (m : Memory) × ((a : ℕ) → m a < 256) × HasAsked u asked m × Gives c.cells (with_mem x m)
   pub gates : term_gates c.cells.nodes ≤

@@ -65,7 +65,7 @@ w = record {
 abbrev pub t : QuestionTerm
 t = record {
   nodes =
-      MemoryNode ∷ RegisterNode 10 ∷ RegisterNode 11 ∷ RegisterNode 12 ∷ ExtractNode 7 0 3 ∷ StoreNode 1 Little 0 1 4 ∷ LoadNode 1 Little 5 2
+      MemoryNode 0 ∷ RegisterNode 0 10 ∷ RegisterNode 0 11 ∷ RegisterNode 0 12 ∷ ExtractNode 7 0 3 ∷ StoreNode 1 Little 0 1 4 ∷ LoadNode 1 Little 5 2
       ∷ ConstantNode 8 5 ∷ BinaryNode Equal 8 6 7 ∷ [];
   root = 8;
 }
@@ -73,7 +73,7 @@ t = record {
 -- its cells, with the known byte asked
 abbrev pub c : Cells
 c = record {
-  nodes = RegisterNode 10 ∷ RegisterNode 11 ∷ RegisterNode 12 ∷ ExtractNode 7 0 2 ∷ BaseNode 0 ∷ BinaryNode Equal 32 0 1 ∷ SelectNode 8 5 3 4 ∷ ConstantNode 8 5
+  nodes = RegisterNode 0 10 ∷ RegisterNode 0 11 ∷ RegisterNode 0 12 ∷ ExtractNode 7 0 2 ∷ BaseNode 0 0 ∷ BinaryNode Equal 32 0 1 ∷ SelectNode 8 5 3 4 ∷ ConstantNode 8 5
       ∷ BinaryNode Equal 8 6 7 ∷ ConstantNode 32 0 ∷ BinaryNode Equal 32 1 9 ∷ [];
   addresses = 1 ∷ [];
   agrees = [];
@@ -86,7 +86,7 @@ asked a = a == 0
 
 -- the byte that is stored
 abbrev v : TermReading → ℕ
-v x = bits 7 0 (x.regs 12)
+v x = bits 7 0 (x.regs 0 12)
 
 eight : (1 ≤ 8) × (8 ≤ 64)
 eight = (omega arith, omega arith)
@@ -151,11 +151,11 @@ formed = record {
     words n ((suc (suc (suc (suc (suc (suc (suc (suc (suc (suc (suc i))))))))))), l, e) = absurd (omega arith)
 
     named : (n : TermNode) → Contains c.nodes n → IsNamedBelow w 1 n
-    named n (zero, l, e) = subst (IsNamedBelow w 1) e refl
-    named n ((suc zero), l, e) = subst (IsNamedBelow w 1) e refl
-    named n ((suc (suc zero)), l, e) = subst (IsNamedBelow w 1) e refl
+    named n (zero, l, e) = subst (IsNamedBelow w 1) e (refl, refl)
+    named n ((suc zero), l, e) = subst (IsNamedBelow w 1) e (refl, refl)
+    named n ((suc (suc zero)), l, e) = subst (IsNamedBelow w 1) e (refl, refl)
     named n ((suc (suc (suc zero))), l, e) = subst (IsNamedBelow w 1) e tt
-    named n ((suc (suc (suc (suc zero)))), l, e) = subst (IsNamedBelow w 1) e (let h : 0 < 1 = omega arith in h)
+    named n ((suc (suc (suc (suc zero)))), l, e) = subst (IsNamedBelow w 1) e (refl, (let h : 0 < 1 = omega arith in h))
     named n ((suc (suc (suc (suc (suc zero))))), l, e) = subst (IsNamedBelow w 1) e tt
     named n ((suc (suc (suc (suc (suc (suc zero)))))), l, e) = subst (IsNamedBelow w 1) e tt
     named n ((suc (suc (suc (suc (suc (suc (suc zero))))))), l, e) = subst (IsNamedBelow w 1) e tt
@@ -169,8 +169,8 @@ formed = record {
     addresses (suc j) l = absurd (omega arith)
 
     early : (j i : ℕ) → j < 1 → i ≤ slice_index c.addresses j → IsNamedBelow w j (node_at c.nodes i)
-    early zero zero l h = refl
-    early zero (suc zero) l h = refl
+    early zero zero l h = (refl, refl)
+    early zero (suc zero) l h = (refl, refl)
     early zero (suc (suc i)) l h = absurd (omega arith)
     early (suc j) i l h = absurd (omega arith)
 
@@ -186,21 +186,21 @@ same : (x : TermReading) → InRange x → Gives c x → term_word x c.nodes c.r
 unfolding values_from
 same x is gives =
     ap (λ z. bit (z == 5))
-    (ap (λ z. select (bit (x.regs 10 == x.regs 11)) (v x) z) (gives 0 (omega arith)) ∙ sym
-    (loaded x.mem (x.regs 10) (x.regs 11) (v x) (is.regs 10) (is.regs 11) (small x)))
+    (ap (λ z. select (bit (x.regs 0 10 == x.regs 0 11)) (v x) z) (gives 0 (omega arith)) ∙ sym
+    (loaded (x.mem 0) (x.regs 0 10) (x.regs 0 11) (v x) (is.regs 0 10) (is.regs 0 11) (small x)))
 
 -- where the bit says that the address is 0, it is
 at_zero : (a : ℕ) → bit (a == 0) ≡ 1 → a ≡ 0
 at_zero zero h = refl
 at_zero (suc a) h = absurd (let e : (suc a == 0) ≡ false = grind (arith, nat_tests) in let f : 0 ≡ 1 = sym (ap bit e) ∙ h in cc)
 
-sound : (x : TermReading) → InRange x → Gives c x → HasAsked w asked x.mem → IsAllowed c x
+sound : (x : TermReading) → InRange x → Gives c x → HasAsked w asked (x.mem 0) → IsAllowed c x
 unfolding values_from
 sound x is gives has = record { agrees = λ a h. absurd (no_agreement a h); asked = read_is }
   where
-    read_is : (a : AskedByte) → Contains c.asked a → term_word x c.nodes a.condition ≡ 1 → x.base a.read ≡ a.byte
-    read_is a (zero, l, e) = subst (λ (z : AskedByte). term_word x c.nodes z.condition ≡ 1 → x.base z.read ≡ z.byte) e
-        (λ h. gives 0 (omega arith) ∙ ap x.mem (at_zero (x.regs 11) h) ∙ has 0 7 (omega arith) refl refl)
+    read_is : (a : AskedByte) → Contains c.asked a → term_word x c.nodes a.condition ≡ 1 → x.base 0 a.read ≡ a.byte
+    read_is a (zero, l, e) = subst (λ (z : AskedByte). term_word x c.nodes z.condition ≡ 1 → x.base 0 z.read ≡ z.byte) e
+        (λ h. gives 0 (omega arith) ∙ ap (x.mem 0) (at_zero (x.regs 0 11) h) ∙ has 0 7 (omega arith) refl refl)
     read_is a (suc n, l, e) = absurd (omega arith)
 
 -- the memory that has the read's byte at its address, and 7 at 0
@@ -229,24 +229,24 @@ has_seven (suc at) byte h = let e : (0 == suc at) ≡ false = grind (arith, nat_
 complete : (x : TermReading) → InRange x → IsAllowed c x → (m : Memory) × ((a : ℕ) → m a < 256) × HasAsked w asked m × Gives c (with_mem x m)
 unfolding values_from
 complete x is allowed = (
-  filled (x.regs 11) (x.base 0),
-  (λ a. below (x.regs 11) (x.base 0) a (is.base 0)),
+  filled (x.regs 0 11) (x.base 0 0),
+  (λ a. below (x.regs 0 11) (x.base 0 0) a (is.base 0 0)),
   has,
   gives,
 )
   where
-    seven : bit (x.regs 11 == 0) ≡ 1 → x.base 0 ≡ 7
+    seven : bit (x.regs 0 11 == 0) ≡ 1 → x.base 0 0 ≡ 7
     seven h = allowed.asked (record { condition = 10; read = 0; byte = 7 }) (0, omega arith, refl) h
 
-    has : HasAsked w asked (filled (x.regs 11) (x.base 0))
-    has zero b l e f = has_seven (x.regs 11) (x.base 0) seven ∙ byte_is b e
+    has : HasAsked w asked (filled (x.regs 0 11) (x.base 0 0))
+    has zero b l e f = has_seven (x.regs 0 11) (x.base 0 0) seven ∙ byte_is b e
       where
         byte_is : (b : ℕ) → Some 7 ≡ Some b → 7 ≡ b
         byte_is b e = (cc)
     has (suc a) b l e f = absurd (let g : (suc a == 0) ≡ false = grind (arith, nat_tests) in let h : false ≡ true = sym g ∙ f in cc)
 
-    gives : Gives c (with_mem x (filled (x.regs 11) (x.base 0)))
-    gives zero l = sym (at_itself (x.regs 11) (x.base 0))
+    gives : Gives c (with_mem x (filled (x.regs 0 11) (x.base 0 0)))
+    gives zero l = sym (at_itself (x.regs 0 11) (x.base 0 0))
     gives (suc j) l = absurd (omega arith)
 
 -- so cells tell the term

@@ -58,7 +58,7 @@ abbrev v : ℕ → Bool
 v i = (i == 34) || (i == 66) || (i == 69) || (i == 79) || (i == 86) || nat_le 87 i
 
 pub values :
-    ((reading u c v).regs 5 ≡ 2) × ((reading u c v).regs 3 ≡ 0) × ((reading u c v).regs 4 ≡ 0) × ((reading u c v).flags 1 ≡ 1) × ((reading u c v).flags 2 ≡ 0)
-    × ((reading u c v).choice 2 ≡ 1) × ((reading u c v).choice 1 ≡ 0) × ((reading u c v).choice 7 ≡ 0) × ((reading u c v).base 1 ≡ 129) ×
-    ((reading u c v).base 2 ≡ 0)
+    ((reading u c v).regs 0 5 ≡ 2) × ((reading u c v).regs 0 3 ≡ 0) × ((reading u c v).regs 0 4 ≡ 0) × ((reading u c v).flags 0 1 ≡ 1) × ((reading u c v).flags 0 2 ≡ 0)
+    × ((reading u c v).choice 2 ≡ 1) × ((reading u c v).choice 1 ≡ 0) × ((reading u c v).choice 7 ≡ 0) × ((reading u c v).base 0 1 ≡ 129) ×
+    ((reading u c v).base 0 2 ≡ 0)
 values = (refl, refl, refl, refl, refl, refl, refl, refl, refl, refl)

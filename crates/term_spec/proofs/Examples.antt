@@ -168,7 +168,7 @@ either_way = If (Binary NotEqual (Var (reg 10)) (Constant 32 0)) (JumpTo (Consta
 -- its terms: the bit of the condition, and the target that it selects
 abbrev either_terms : List TermNode
 either_terms =
-    RegisterNode 10 ∷ ConstantNode 32 0 ∷ BinaryNode NotEqual 32 0 1 ∷ ConstantNode 32 0x10000 ∷ ConstantNode 32 0x10008 ∷ SelectNode 32 2 3 4 ∷ []
+    RegisterNode 0 10 ∷ ConstantNode 32 0 ∷ BinaryNode NotEqual 32 0 1 ∷ ConstantNode 32 0x10000 ∷ ConstantNode 32 0x10008 ∷ SelectNode 32 2 3 4 ∷ []
 
 -- its point, which may jump to either place
 abbrev either_point : UnrolledPoint

@@ -20,7 +20,7 @@ use Rattle.term_spec.proofs.HeldAnswers.{held_answers}
 
 abbrev q : Passive
 q = record {
-  nodes = RegisterNode 1 ∷ ExtractNode 1 0 0 ∷ ConstantNode 2 0 ∷ BinaryNode NotEqual 2 1 2 ∷ ConstantNode 1 1 ∷ ConstantNode 1 0 ∷ [];
+  nodes = RegisterNode 0 1 ∷ ExtractNode 1 0 0 ∷ ConstantNode 2 0 ∷ BinaryNode NotEqual 2 1 2 ∷ ConstantNode 1 1 ∷ ConstantNode 1 0 ∷ [];
   met = 4 ∷ [];
   fails = 3;
   turns = 5;
@@ -73,7 +73,7 @@ one : (1 ≤ 1) × (1 ≤ 64)
 one = (omega arith, omega arith)
 
 named_one : (n : TermNode) → Contains q.nodes n → IsNamedBelow u 0 n
-named_one n (zero, l, e) = subst (IsNamedBelow u 0) e refl
+named_one n (zero, l, e) = subst (IsNamedBelow u 0) e (refl, refl)
 named_one n (suc zero, l, e) = subst (IsNamedBelow u 0) e tt
 named_one n (suc (suc zero), l, e) = subst (IsNamedBelow u 0) e tt
 named_one n (suc (suc (suc zero)), l, e) = subst (IsNamedBelow u 0) e tt
@@ -135,10 +135,10 @@ passive = record {
 
 -- the term of the entry question: the link value is a multiple of 4
 abbrev entry : QuestionTerm
-entry = record { nodes = RegisterNode 1 ∷ ExtractNode 1 0 0 ∷ ConstantNode 2 0 ∷ BinaryNode Equal 2 1 2 ∷ []; root = 3 }
+entry = record { nodes = RegisterNode 0 1 ∷ ExtractNode 1 0 0 ∷ ConstantNode 2 0 ∷ BinaryNode Equal 2 1 2 ∷ []; root = 3 }
 
 named_entry : (n : TermNode) → Contains entry.nodes n → IsNamedBelow u 0 n
-named_entry n (zero, l, e) = subst (IsNamedBelow u 0) e refl
+named_entry n (zero, l, e) = subst (IsNamedBelow u 0) e (refl, refl)
 named_entry n (suc zero, l, e) = subst (IsNamedBelow u 0) e tt
 named_entry n (suc (suc zero), l, e) = subst (IsNamedBelow u 0) e tt
 named_entry n (suc (suc (suc zero)), l, e) = subst (IsNamedBelow u 0) e tt

@@ -16,10 +16,10 @@ apart a b n e = absurd (grind (arith, nat_tests))
 
 -- every input is 0, but for x12 and the base reads
 abbrev x : (x12 base : ℕ) → TermReading
-x v b = record { regs = λ n. if n == 12 then v else 0; flags = λ f. 0; mem = λ a. 0; choice = λ i. 0; base = λ j. b }
+x v b = record { regs = λ p n. if n == 12 then v else 0; flags = λ p f. 0; mem = λ p a. 0; choice = λ i. 0; base = λ p j. b }
 
 in_range : (v b : ℕ) → v < 2 ^ 32 → b < 256 → InRange (x v b)
-in_range v b l h = record { regs = regs; flags = λ f. omega arith; mem = λ a. omega arith; choice = λ i. omega arith; base = λ j. h }
+in_range v b l h = record { regs = λ p. regs; flags = λ p f. omega arith; mem = λ p a. omega arith; choice = λ i. omega arith; base = λ p j. h }
   where
     regs : (n : ℕ) → (if n == 12 then v else 0) < 2 ^ 32
     regs n = elim (truth (n == 12)) [
@@ -55,7 +55,7 @@ other_byte_refused h =
     let gives : 8 ≡ m.0 0 = m.3 0 (omega arith) in
     apart 8 7 refl (gives ∙ has)
   where
-    read_is : (a : AskedByte) → Contains other_byte.asked a → term_word (x 0 8) other_byte.nodes a.condition ≡ 1 → (x 0 8).base a.read ≡ a.byte
+    read_is : (a : AskedByte) → Contains other_byte.asked a → term_word (x 0 8) other_byte.nodes a.condition ≡ 1 → (x 0 8).base 0 a.read ≡ a.byte
     read_is a (zero, l, e) = subst (λ (z : AskedByte). term_word (x 0 8) other_byte.nodes z.condition ≡ 1 → 8 ≡ z.byte) e (λ q. refl)
     read_is a (suc n, l, e) = absurd (omega arith)
 
@@ -63,7 +63,7 @@ other_byte_refused h =
 abbrev missed : Cells
 missed = record c {
   nodes =
-      RegisterNode 10 ∷ RegisterNode 11 ∷ RegisterNode 12 ∷ ExtractNode 7 0 2 ∷ BaseNode 0 ∷ BinaryNode Equal 32 0 1 ∷ SelectNode 8 5 3 4
+      RegisterNode 0 10 ∷ RegisterNode 0 11 ∷ RegisterNode 0 12 ∷ ExtractNode 7 0 2 ∷ BaseNode 0 0 ∷ BinaryNode Equal 32 0 1 ∷ SelectNode 8 5 3 4
       ∷ ConstantNode 8 5 ∷ BinaryNode Equal 8 4 7 ∷ ConstantNode 32 0 ∷ BinaryNode Equal 32 1 9 ∷ [];
 }
 
@@ -77,14 +77,14 @@ abbrev circular : Cells
 circular = record c { addresses = 6 ∷ [] }
 
 pub circular_refused : TellsCells w t asked circular → ⊥
-circular_refused h = let l : 0 < 0 = h.formed.early 0 4 (omega arith) (omega arith) in absurd (omega arith)
+circular_refused h = let l : 0 < 0 = (h.formed.early 0 4 (omega arith) (omega arith)).1 in absurd (omega arith)
 
 -- a question's term that names a base read, which would be free
 abbrev with_base : QuestionTerm
-with_base = record { nodes = BaseNode 0 ∷ ConstantNode 8 1 ∷ BinaryNode Equal 8 0 1 ∷ []; root = 2 }
+with_base = record { nodes = BaseNode 0 0 ∷ ConstantNode 8 1 ∷ BinaryNode Equal 8 0 1 ∷ []; root = 2 }
 
 pub with_base_refused : (u : UnrolledProgram) (question : Question) → TellsQuestion u question with_base → ⊥
-with_base_refused u question h = let l : 0 < 0 = h.terms.named (BaseNode 0) (0, omega arith, refl) in absurd (omega arith)
+with_base_refused u question h = let l : 0 < 0 = (h.terms.named (BaseNode 0 0) (0, omega arith, refl)).1 in absurd (omega arith)
 
 -- a term without nodes, whose root has no value
 abbrev nothing : QuestionTerm

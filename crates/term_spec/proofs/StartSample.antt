@@ -30,7 +30,7 @@ u = record {
 
 -- the flag is 1
 abbrev c : Cells
-c = record { nodes = FlagNode 0 ∷ []; addresses = []; agrees = []; asked = []; root = 0 }
+c = record { nodes = FlagNode 0 0 ∷ []; addresses = []; agrees = []; asked = []; root = 0 }
 
 abbrev first : Literal
 first = record { variable = 1; positive = true }
@@ -101,6 +101,6 @@ starts = record {
   follows = λ r is step i d h. refl;
 }
   where
-    flag : (f : ℕ) → f < 1 → bit_at f 1 ≡ (reading u c (λ i. true)).flags f
+    flag : (f : ℕ) → f < 1 → bit_at f 1 ≡ (reading u c (λ i. true)).flags 0 f
     flag zero l = refl
     flag (suc f) l = absurd (omega arith)

@@ -8,20 +8,20 @@ use Rattle.term_spec.specs.Terms.{TermReading, TermNode, RegisterNode, BaseNode,
 -- the low byte of x12 is stored at x10, and the byte at x11 is loaded
 abbrev pub byte_after_byte : List TermNode
 byte_after_byte =
-    MemoryNode ∷ RegisterNode 10 ∷ RegisterNode 11 ∷ RegisterNode 12 ∷ ExtractNode 7 0 3 ∷ StoreNode 1 Little 0 1 4 ∷ LoadNode 1 Little 5 2 ∷ []
+    MemoryNode 0 ∷ RegisterNode 0 10 ∷ RegisterNode 0 11 ∷ RegisterNode 0 12 ∷ ExtractNode 7 0 3 ∷ StoreNode 1 Little 0 1 4 ∷ LoadNode 1 Little 5 2 ∷ []
 
 -- the four bytes of x12 are stored at x10, the highest first, and the two at x11 are loaded
 abbrev word_then_half : List TermNode
-word_then_half = MemoryNode ∷ RegisterNode 10 ∷ RegisterNode 11 ∷ RegisterNode 12 ∷ StoreNode 4 Big 0 1 3 ∷ LoadNode 2 Big 4 2 ∷ []
+word_then_half = MemoryNode 0 ∷ RegisterNode 0 10 ∷ RegisterNode 0 11 ∷ RegisterNode 0 12 ∷ StoreNode 4 Big 0 1 3 ∷ LoadNode 2 Big 4 2 ∷ []
 
 -- a reading with x10 = 0x100, another x11, x12 = 0x12345678; the byte of the entry memory at an address is the address's lowest
 abbrev read_at : ℕ → TermReading
 read_at a = record {
-  regs = λ n. if n == 10 then 0x100 else if n == 11 then a else if n == 12 then 0x12345678 else 0;
-  flags = λ f. 0;
-  mem = λ i. if i == 0x101 then 7 else if i == 0x104 then 9 else 0;
+  regs = λ p n. if n == 10 then 0x100 else if n == 11 then a else if n == 12 then 0x12345678 else 0;
+  flags = λ p f. 0;
+  mem = λ p i. if i == 0x101 then 7 else if i == 0x104 then 9 else 0;
   choice = λ i. 0;
-  base = λ j. if j == 0 then 7 else 0;
+  base = λ p j. if j == 0 then 7 else 0;
 }
 
 -- at the same address the stored byte is loaded
@@ -46,7 +46,7 @@ across_end = refl
 
 -- an address wraps
 abbrev at_end : TermReading
-at_end = record (read_at 0) { regs = λ n. if n == 10 then 0xFFFFFFFF else if n == 12 then 0x12345678 else 0 }
+at_end = record (read_at 0) { regs = λ p n. if n == 10 then 0xFFFFFFFF else if n == 12 then 0x12345678 else 0 }
 
 pub wraps : term_word at_end word_then_half 5 ≡ 0x3456
 unfolding values_from
@@ -80,7 +80,7 @@ byte_costs = (refl, refl, refl, refl)
 
 -- the cells of the load: an equality, a base read, a selection
 abbrev pub byte_cells : List TermNode
-byte_cells = RegisterNode 10 ∷ RegisterNode 11 ∷ RegisterNode 12 ∷ ExtractNode 7 0 2 ∷ BaseNode 0 ∷ BinaryNode Equal 32 0 1 ∷ SelectNode 8 5 3 4 ∷ []
+byte_cells = RegisterNode 0 10 ∷ RegisterNode 0 11 ∷ RegisterNode 0 12 ∷ ExtractNode 7 0 2 ∷ BaseNode 0 0 ∷ BinaryNode Equal 32 0 1 ∷ SelectNode 8 5 3 4 ∷ []
 
 -- they have its values, and 40 gates
 pub cells_same : (term_word (read_at 0x100) byte_cells 6 ≡ 0x78) × (term_word (read_at 0x101) byte_cells 6 ≡ 7) × (term_gates byte_cells ≡ 40)
@@ -90,8 +90,8 @@ cells_same = (refl, refl, refl)
 -- operators are those of lifted code: a signed comparison has one bit, a division by zero gives all ones, an extension has the sign
 pub operators :
     (term_word (read_at 5) (ConstantNode 8 0x80 ∷ ConstantNode 8 1 ∷ BinaryNode SignedLess 8 0 1 ∷ []) 2 ≡ 1)
-    × (term_word (read_at 5) (RegisterNode 11 ∷ ConstantNode 32 0 ∷ BinaryNode Divide 32 0 1 ∷ []) 2 ≡ 0xFFFFFFFF)
+    × (term_word (read_at 5) (RegisterNode 0 11 ∷ ConstantNode 32 0 ∷ BinaryNode Divide 32 0 1 ∷ []) 2 ≡ 0xFFFFFFFF)
     × (term_word (read_at 5) (ConstantNode 8 0x80 ∷ ExtendNode true 8 32 0 ∷ []) 1 ≡ 0xFFFFFF80)
-    × (term_word (read_at 5) (ConstantNode 1 0 ∷ RegisterNode 10 ∷ RegisterNode 11 ∷ SelectNode 32 0 1 2 ∷ []) 3 ≡ 5)
+    × (term_word (read_at 5) (ConstantNode 1 0 ∷ RegisterNode 0 10 ∷ RegisterNode 0 11 ∷ SelectNode 32 0 1 2 ∷ []) 3 ≡ 5)
 unfolding values_from
 operators = (refl, refl, refl, refl)

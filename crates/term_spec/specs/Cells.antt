@@ -2,7 +2,7 @@
 -- selections.
 use Rattle.std.specs.Prelude.{ℕ, ◌≡◌, ◌≤◌, ◌<◌, ◌+◌, ◌-◌, ◌*◌, Bool, List, length, slice_index, Contains}
 use Rattle.word_spec.specs.Memory.{Memory}
-use Rattle.term_spec.specs.Terms.{TermReading, InRange, with_mem, TermNode, MemoryNode, LoadNode, StoreNode, JoinNode, AreTyped, HasWidth, node_at, term_word, term_gates}
+use Rattle.term_spec.specs.Terms.{TermReading, InRange, with_mem, TermNode, MemoryNode, LoadNode, StoreNode, JoinNode, TakeNode, AreTyped, HasWidth, node_at, term_word, term_gates}
 use Rattle.walk_spec.specs.Unrolled.{UnrolledProgram}
 use Rattle.walk_spec.specs.Prices.{loads_of, stores_of, edges_of, known_of}
 use Rattle.term_spec.specs.WalkQuestions.{QuestionTerm, HasAsked, IsNamedBelow, AreNamedBelow}
@@ -34,15 +34,15 @@ read_address c x j = term_word x c.nodes (slice_index c.addresses j)
 
 -- the memory has the byte of each base read
 abbrev pub Gives : Cells → TermReading → Type 0
-Gives c x = (j : ℕ) → j < length c.addresses → x.base j ≡ x.mem (read_address c x j)
+Gives c x = (j : ℕ) → j < length c.addresses → x.base 0 j ≡ x.mem 0 (read_address c x j)
 
 -- the reads agree where the condition says that their addresses are equal
 abbrev pub Agrees : Cells → TermReading → Agreement → Type 0
-Agrees c x a = term_word x c.nodes a.condition ≡ 1 → x.base a.read ≡ x.base a.other
+Agrees c x a = term_word x c.nodes a.condition ≡ 1 → x.base 0 a.read ≡ x.base 0 a.other
 
 -- the read has the byte where the condition says that it is at the byte's address
 abbrev pub HasByte : Cells → TermReading → AskedByte → Type 0
-HasByte c x a = term_word x c.nodes a.condition ≡ 1 → x.base a.read ≡ a.byte
+HasByte c x a = term_word x c.nodes a.condition ≡ 1 → x.base 0 a.read ≡ a.byte
 
 -- what is said of the base reads is true
 pub record IsAllowed (c : Cells) (x : TermReading) : Type 0 where
@@ -51,10 +51,11 @@ pub record IsAllowed (c : Cells) (x : TermReading) : Type 0 where
 
 -- a node over words
 abbrev pub IsOfWords : TermNode → Type 0
-IsOfWords MemoryNode = ⊥
+IsOfWords (MemoryNode p) = ⊥
 IsOfWords (LoadNode n e m a) = ⊥
 IsOfWords (StoreNode n e m a v) = ⊥
 IsOfWords (JoinNode c a b) = ⊥
+IsOfWords (TakeNode n m a p) = ⊥
 IsOfWords n = Unit {0}
 
 -- The form of cells: typed nodes over words, that name the program's inputs and the base reads; each address is a word of 32 bits over base reads before its
@@ -80,7 +81,7 @@ cell_gates l s e k = 64 * l + 64 * s + 40 * (l * s) + 8 * (l * (e + 2 * s)) + 16
 pub record TellsCells (u : UnrolledProgram) (t : QuestionTerm) (asked : ℕ → Bool) (c : Cells) : Type 0 where
   pub formed : AreFormed u c
   pub same : (x : TermReading) → InRange x → Gives c x → term_word x c.nodes c.root ≡ term_word x t.nodes t.root
-  pub sound : (x : TermReading) → InRange x → Gives c x → HasAsked u asked x.mem → IsAllowed c x
+  pub sound : (x : TermReading) → InRange x → Gives c x → HasAsked u asked (x.mem 0) → IsAllowed c x
   pub complete : (x : TermReading) → InRange x → IsAllowed c x →
       (m : Memory) × ((a : ℕ) → m a < 256) × HasAsked u asked m × Gives c (with_mem x m)
   pub gates : term_gates c.nodes ≤ term_gates t.nodes + cell_gates (loads_of u) (stores_of u) (edges_of u) (known_of u)

@@ -62,11 +62,11 @@ place_in (r ∷ rs) n = if r == n then 0 else place_in rs n + 1
 -- The reading of a valuation. What is no input is 0; the memory is that of no reading, since cells do not read it.
 abbrev pub reading : UnrolledProgram → Cells → (ℕ → Bool) → TermReading
 reading u c v = record {
-  regs = λ n. if is_register_of u n then bits_from v (32 * place_in u.registers n) 32 else 0;
-  flags = λ f. if is_flag_of u f then bits_from v (first_flag u + f) 1 else 0;
-  mem = λ a. 0;
+  regs = λ p n. if is_register_of u n then bits_from v (32 * place_in u.registers n) 32 else 0;
+  flags = λ p f. if is_flag_of u f then bits_from v (first_flag u + f) 1 else 0;
+  mem = λ p a. 0;
   choice = λ i. if (point_at u i).draws then bits_from v (first_choice u + 2 * drawn_below u i) 2 else 0;
-  base = λ j. if nat_lt j (length c.addresses) then bits_from v (first_byte u + 8 * j) 8 else 0;
+  base = λ p j. if nat_lt j (length c.addresses) then bits_from v (first_byte u + 8 * j) 8 else 0;
 }
 
 -- under the valuation what is said of the base reads is true, and so is the question
@@ -82,7 +82,7 @@ pub record TellsClauses (u : UnrolledProgram) (c : Cells) (cnf : Cnf) : Type 0 w
 
 -- a base read has another byte than the one that is known at its address
 abbrev pub IsBroken : UnrolledProgram → Cells → TermReading → (at : ℕ) → Type 0
-IsBroken u c x a = (j b : ℕ) × (j < length c.addresses) × (read_address c x j ≡ a) × (byte_of_runs u.known a ≡ Some b) × ¬ (x.base j ≡ b)
+IsBroken u c x a = (j b : ℕ) × (j < length c.addresses) × (read_address c x j ≡ a) × (byte_of_runs u.known a ≡ Some b) × ¬ (x.base 0 j ≡ b)
 
 -- the memory of a written start: the known bytes, those that are written, and 0. It wraps its addresses.
 abbrev pub start_memory : UnrolledProgram → Written → Memory
@@ -91,8 +91,8 @@ start_memory u w a = known_or (byte_of_runs u.known (word 32 a)) w.bytes a
 -- the reading of a start that is written from a valuation
 pub record IsReadingOf (u : UnrolledProgram) (c : Cells) (v : ℕ → Bool) (w : Written) (r : Reading) : Type 0 where
   pub pc : r.state.pc ≡ u.entry
-  pub regs : r.state.regs ≡ (reading u c v).regs
-  pub flags : r.state.flags ≡ (reading u c v).flags
+  pub regs : r.state.regs ≡ (reading u c v).regs 0
+  pub flags : r.state.flags ≡ (reading u c v).flags 0
   pub mem : r.state.mem ≡ start_memory u w
   pub choice : (i : ℕ) → i < length u.points → r.choice (point_at u i).point ≡ (reading u c v).choice i
 
@@ -100,8 +100,8 @@ pub record IsReadingOf (u : UnrolledProgram) (c : Cells) (v : ℕ → Bool) (w :
 -- place after some points, it has at that step the choice of the place. It can be written: bytes that are not 0 at unknown addresses, and choices that are
 -- not 0, at steps below the number of points, both in rising order.
 pub record IsStartOf (u : UnrolledProgram) (c : Cells) (v : ℕ → Bool) (w : Written) : Type 0 where
-  pub regs : w.regs ≡ map (reading u c v).regs u.registers
-  pub flags : (f : ℕ) → f < u.flags → bit_at f w.flags ≡ (reading u c v).flags f
+  pub regs : w.regs ≡ map ((reading u c v).regs 0) u.registers
+  pub flags : (f : ℕ) → f < u.flags → bit_at f w.flags ≡ (reading u c v).flags 0 f
   pub flags_fit : w.flags < 2 ^ u.flags
   pub bytes : All (λ b. (b.0 < 2 ^ 32) × (1 ≤ b.1) × (b.1 ≤ 255)) w.bytes
   pub bytes_rise : AreRising w.bytes

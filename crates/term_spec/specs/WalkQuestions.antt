@@ -9,7 +9,7 @@ use Rattle.bilv_spec.specs.Run.{false_line}
 use Rattle.bilv_spec.specs.Points.{Point}
 use Rattle.bilv_spec.specs.Questions.{Reading, IsReading}
 use Rattle.call_spec.specs.Calls.{Question, EntryQuestion, FailQuestion, TurnQuestion}
-use Rattle.term_spec.specs.Terms.{TermReading, TermNode, RegisterNode, FlagNode, ChoiceNode, BaseNode, AreTyped, HasWidth, term_word, term_gates, term_loads, term_stores, term_joins}
+use Rattle.term_spec.specs.Terms.{TermReading, TermNode, RegisterNode, FlagNode, ChoiceNode, BaseNode, MemoryNode, TakeNode, AreTyped, HasWidth, term_word, term_gates, term_loads, term_stores, term_joins}
 use Rattle.walk_spec.specs.Unrolled.{UnrolledProgram, is_register_of, is_flag_of, byte_of_runs, point_at, WalkFails, WalkTurns, walk}
 use Rattle.walk_spec.specs.Prices.{point_price, term_price, point_loads, loads_of, stores_of, edges_of, point_bound, node_bound}
 
@@ -58,21 +58,37 @@ pub record IsTrueButBytes (u : UnrolledProgram) (r : Reading) (question : Questi
   pub lines : MeetsLines u r.state
   pub ends : WalkEndsBy u r question
 
--- a reading as terms are read under it: a choice for each place is that of its point, and no base read is made
+-- A reading as terms are read under it: each part is the state at entry, a choice for each place is that of its point, and no base read is made.
 abbrev pub term_reading : UnrolledProgram → Reading → TermReading
-term_reading u r = record { regs = r.state.regs; flags = r.state.flags; mem = r.state.mem; choice = λ i. r.choice (point_at u i).point; base = λ j. 0 }
+term_reading u r = record {
+  regs = λ p. r.state.regs;
+  flags = λ p. r.state.flags;
+  mem = λ p. r.state.mem;
+  choice = λ i. r.choice (point_at u i).point;
+  base = λ p j. 0;
+}
 
 -- the place is that of a point whose row reads the choice
 abbrev pub DrawsAt : UnrolledProgram → ℕ → Type 0
 DrawsAt u i = (i < length u.points) × ((point_at u i).draws ≡ true)
 
--- A node names the program's registers and flags, choices that are drawn, and base reads below a number: those are the inputs.
+-- A node names the program's registers and flags, its memory, and choices that are drawn, all of the one part that a program has.
+abbrev pub IsInputOf : UnrolledProgram → TermNode → Type 0
+IsInputOf u (RegisterNode p n) = (p ≡ 0) × (is_register_of u n ≡ true)
+IsInputOf u (FlagNode p f) = (p ≡ 0) × (is_flag_of u f ≡ true)
+IsInputOf u (ChoiceNode i) = DrawsAt u i
+IsInputOf u (MemoryNode p) = p ≡ 0
+IsInputOf u (TakeNode n m a p) = ⊥
+IsInputOf u n = Unit {0}
+
+-- a node names what may be named, and base reads below a number, of memories that may be named
+abbrev pub IsNamedBy : (names : TermNode → Type 0) → (reads : ℕ) → TermNode → Type 0
+IsNamedBy names reads (BaseNode p j) = names (MemoryNode p) × (j < reads)
+IsNamedBy names reads n = names n
+
+-- a node names the program's inputs, and base reads below a number
 abbrev pub IsNamedBelow : UnrolledProgram → (reads : ℕ) → TermNode → Type 0
-IsNamedBelow u reads (RegisterNode n) = is_register_of u n ≡ true
-IsNamedBelow u reads (FlagNode f) = is_flag_of u f ≡ true
-IsNamedBelow u reads (ChoiceNode i) = DrawsAt u i
-IsNamedBelow u reads (BaseNode j) = j < reads
-IsNamedBelow u reads n = Unit {0}
+IsNamedBelow u reads n = IsNamedBy (IsInputOf u) reads n
 
 -- all nodes do
 abbrev pub AreNamedBelow : UnrolledProgram → (reads : ℕ) → List TermNode → Type 0

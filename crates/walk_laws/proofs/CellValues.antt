@@ -8,7 +8,7 @@ use Rattle.machine_spec.specs.BilTyping.{result_width}
 use Rattle.machine_spec.specs.BilMeaning.{on_words}
 use Rattle.machine_spec.proofs.BilSound.{word_of}
 use Rattle.machine_spec.proofs.WordBounds.{op_below, complement_below, sign_extend_below}
-use Rattle.term_spec.specs.Terms.{TermReading, InRange, TermValue, TermNode, RegisterNode, FlagNode, ChoiceNode, BaseNode, MemoryNode, ConstantNode, BinaryNode, NotNode, SelectNode, ExtractNode, ConcatNode, ExtendNode, LoadNode, StoreNode, JoinNode, word_part, operate, select, word_value, value_at, node_at, node_value, values_from, term_word, width_of, HasWidth, IsTypedOver, AreTypedFrom}
+use Rattle.term_spec.specs.Terms.{TermReading, InRange, TermValue, TermNode, RegisterNode, FlagNode, ChoiceNode, BaseNode, MemoryNode, ConstantNode, BinaryNode, NotNode, SelectNode, ExtractNode, ConcatNode, ExtendNode, LoadNode, StoreNode, JoinNode, TakeNode, word_part, operate, select, word_value, bytes_value, value_at, node_at, node_value, values_from, term_word, width_of, HasWidth, IsTypedOver, AreTypedFrom, AreTyped}
 use Rattle.walk_spec.specs.Unrolled.{UnrolledProgram, is_register_of, is_flag_of}
 use Rattle.term_spec.specs.WalkQuestions.{IsNamedBelow, DrawsAt}
 use Rattle.term_spec.specs.Cells.{Cells, IsOfWords, AreFormed, read_address}
@@ -57,10 +57,10 @@ same_term x y ns t f l =
 
 -- two readings have the same inputs, with base reads below a number
 pub record Agree (u : UnrolledProgram) (k : ℕ) (x y : TermReading) : Type 0 where
-  pub regs : (n : ℕ) → is_register_of u n ≡ true → x.regs n ≡ y.regs n
-  pub flags : (f : ℕ) → is_flag_of u f ≡ true → x.flags f ≡ y.flags f
+  pub regs : (n : ℕ) → is_register_of u n ≡ true → x.regs 0 n ≡ y.regs 0 n
+  pub flags : (f : ℕ) → is_flag_of u f ≡ true → x.flags 0 f ≡ y.flags 0 f
   pub choice : (i : ℕ) → DrawsAt u i → x.choice i ≡ y.choice i
-  pub base : (j : ℕ) → j < k → x.base j ≡ y.base j
+  pub base : (j : ℕ) → j < k → x.base 0 j ≡ y.base 0 j
 
 pub agree_back : (u : UnrolledProgram) (k : ℕ) (x y : TermReading) → Agree u k x y → Agree u k y x
 agree_back u k x y a = record {
@@ -72,13 +72,13 @@ agree_back u k x y a = record {
 
 -- so a node that names them has the same value
 pub node_same : (u : UnrolledProgram) (k : ℕ) (x y : TermReading) → Agree u k x y → (vs : List TermValue) (n : TermNode) → IsNamedBelow u k n →
-    (n ≡ MemoryNode → x.mem ≡ y.mem) →
+    (n ≡ MemoryNode 0 → x.mem 0 ≡ y.mem 0) →
     node_value x vs n ≡ node_value y vs n
-node_same u k x y a vs (RegisterNode r) h m = ap word_value (a.regs r h)
-node_same u k x y a vs (FlagNode r) h m = ap word_value (a.flags r h)
+node_same u k x y a vs (RegisterNode p r) h m = ap word_value (subst (λ (z : ℕ). x.regs z r ≡ y.regs z r) (sym h.0) (a.regs r h.1))
+node_same u k x y a vs (FlagNode p f) h m = ap word_value (subst (λ (z : ℕ). x.flags z f ≡ y.flags z f) (sym h.0) (a.flags f h.1))
 node_same u k x y a vs (ChoiceNode i) h m = ap word_value (a.choice i h)
-node_same u k x y a vs (BaseNode j) h m = ap word_value (a.base j h)
-node_same u k x y a vs MemoryNode h m = ap (λ z. record { word = 0; bytes = z }) (m refl)
+node_same u k x y a vs (BaseNode p j) h m = ap word_value (subst (λ (z : ℕ). x.base z j ≡ y.base z j) (sym h.0) (a.base j h.1))
+node_same u k x y a vs (MemoryNode p) h m = ap bytes_value (subst (λ (z : ℕ). x.mem z ≡ y.mem z) (sym h) (m (ap MemoryNode h)))
 node_same u k x y a vs (ConstantNode w v) h m = refl
 node_same u k x y a vs (BinaryNode o w b c) h m = refl
 node_same u k x y a vs (NotNode w b) h m = refl
@@ -89,6 +89,7 @@ node_same u k x y a vs (ExtendNode s n e b) h m = refl
 node_same u k x y a vs (LoadNode n e b c) h m = refl
 node_same u k x y a vs (StoreNode n e b c v) h m = refl
 node_same u k x y a vs (JoinNode c b e) h m = refl
+node_same u k x y a vs (TakeNode n b e p) h m = absurd h
 
 -- the node at a place is one of the list
 pub node_in : (ns : List TermNode) (t : ℕ) → t < length ns → Contains ns (node_at ns t)
@@ -97,7 +98,7 @@ node_in (n ∷ ns) zero l = (0, omega arith, refl)
 node_in (n ∷ ns) (suc t) l = let q = node_in ns t (omega arith) in (suc q.0, let m = q.1 in omega arith, q.2)
 
 module _ (u : UnrolledProgram) (c : Cells) (formed : AreFormed u c) where
-  no_memory : (i : ℕ) → i < length c.nodes → (x y : TermReading) → node_at c.nodes i ≡ MemoryNode → x.mem ≡ y.mem
+  no_memory : (i : ℕ) → i < length c.nodes → (x y : TermReading) → node_at c.nodes i ≡ MemoryNode 0 → x.mem 0 ≡ y.mem 0
   no_memory i l x y e = absurd (subst IsOfWords e (formed.words (node_at c.nodes i) (node_in c.nodes i l)))
 
   -- so has every word of the cells
@@ -137,11 +138,11 @@ module _ (x : TermReading) (is : InRange x) (vs : List TermValue) (ns : List Ter
   at_width w t h = subst (λ (z : ℕ). (value_at vs t).word < 2 ^ z) h.1 (fit.words t)
 
   one_fits : (n : TermNode) → IsTypedOver ns n → IsOfWords n → (node_value x vs n).word < 2 ^ width_of n
-  one_fits (RegisterNode r) h w = is.regs r
-  one_fits (FlagNode f) h w = is.flags f
+  one_fits (RegisterNode p r) h w = is.regs p r
+  one_fits (FlagNode p f) h w = is.flags p f
   one_fits (ChoiceNode i) h w = is.choice i
-  one_fits (BaseNode j) h w = is.base j
-  one_fits MemoryNode h w = absurd w
+  one_fits (BaseNode p j) h w = is.base p j
+  one_fits (MemoryNode p) h w = absurd w
   one_fits (ConstantNode k v) h w = h.1
   one_fits (BinaryNode o k a b) h w = operate_below o k (value_at vs a).word (value_at vs b).word (at_width k a h.1) (at_width k b h.2)
   one_fits (NotNode k a) h w = complement_below k (value_at vs a).word
@@ -153,6 +154,7 @@ module _ (x : TermReading) (is : InRange x) (vs : List TermValue) (ns : List Ter
   one_fits (LoadNode n e m a) h w = absurd w
   one_fits (StoreNode n e m a v) h w = absurd w
   one_fits (JoinNode c a b) h w = absurd w
+  one_fits (TakeNode n m a p) h w = absurd w
 
   next_value : (us : List TermValue) (ms : List TermNode) (v : TermValue) (n : TermNode) → length us ≡ length ms →
       ((t : ℕ) → (value_at us t).word < 2 ^ width_of (node_at ms t)) →
@@ -195,9 +197,14 @@ all_fit x is (n ∷ ms) vs ns fit h w =
     (all_fit x is ms (vs ++ node_value x vs n ∷ []) (ns ++ n ∷ []) (next_fits x is vs ns fit n h.0 (w n (0, omega arith, refl))) h.1
     (λ m (i, l, e). w m (suc i, omega arith, e)))
 
--- the word of a place of the cells has its width
+-- the word of a place of nodes over words has its width
+pub words_fit : (nodes : List TermNode) → AreTyped nodes → ((n : TermNode) → Contains nodes n → IsOfWords n) → (x : TermReading) → InRange x → (w t : ℕ) →
+    HasWidth nodes w t → term_word x nodes t < 2 ^ w
+words_fit nodes typed words x is w t h =
+    let fit = all_fit x is nodes [] [] (record { count = refl; words = λ i. let one : 0 < 1 = omega arith in one }) typed words in
+    subst (λ (z : ℕ). term_word x nodes t < 2 ^ z) h.1 (fit.words t)
+
+-- so has that of cells
 pub word_fits : (u : UnrolledProgram) (c : Cells) → AreFormed u c → (x : TermReading) → InRange x → (w t : ℕ) → HasWidth c.nodes w t →
     term_word x c.nodes t < 2 ^ w
-word_fits u c formed x is w t h =
-    let fit = all_fit x is c.nodes [] [] (record { count = refl; words = λ i. let one : 0 < 1 = omega arith in one }) formed.typed formed.words in
-    subst (λ (z : ℕ). term_word x c.nodes t < 2 ^ z) h.1 (fit.words t)
+word_fits u c formed = words_fit c.nodes formed.typed formed.words

@@ -27,21 +27,20 @@ IsBelow k x = Unit {0}
 
 pub term_reading_in_range : (u : UnrolledProgram) (r : Reading) → IsReading r → InRange (term_reading u r)
 term_reading_in_range u r is = record {
-  regs = is.state.regs;
-  flags = is.state.flags;
-  mem = is.state.mem;
+  regs = λ p. is.state.regs;
+  flags = λ p. is.state.flags;
+  mem = λ p. is.state.mem;
   choice = λ i. is.choice (point_at u i).point;
-  base =
-      λ j. omega arith;
+  base = λ p j. omega arith;
 }
 
 module _ (p : Program) (k : ℕ) (u : UnrolledProgram) (un : IsUnrolling p k u) (c : Cells) (formed : AreFormed u c) where
   -- the bit that a reading of terms has of an input
   abbrev pub bit_of : TermReading → Input → Bool
-  bit_of y (OfRegister n b) = bit_at b (y.regs n) == 1
-  bit_of y (OfFlag f) = y.flags f == 1
+  bit_of y (OfRegister n b) = bit_at b (y.regs 0 n) == 1
+  bit_of y (OfFlag f) = y.flags 0 f == 1
   bit_of y (OfChoice x b) = bit_at b (y.choice (spot p k u un c x)) == 1
-  bit_of y (OfByte j b) = bit_at b (y.base j) == 1
+  bit_of y (OfByte j b) = bit_at b (y.base 0 j) == 1
 
   -- of a valuation's reading it is the variable's
   pub valuation_bit : (v : ℕ → Bool) (x : Input) → IsInputOf p k u un c x → bit_of (reading u c v) x ≡ v (place p k u un c x + 1)
@@ -61,12 +60,13 @@ module _ (p : Program) (k : ℕ) (u : UnrolledProgram) (un : IsUnrolling p k u) 
   pub from_bits : (m : ℕ) → m ≤ length c.addresses → (y z : TermReading) → InRange y → InRange z →
       ((x : Input) → IsInputOf p k u un c x → IsBelow m x → bit_of y x ≡ bit_of z x) → Agree u m y z
   from_bits m few y z iy iz f = record {
-    regs = λ n h. same_bits 32 (y.regs n) (z.regs n) (iy.regs n) (iz.regs n) (λ i l. f (OfRegister n i) (h, l) tt);
-    flags = λ n h. one_bit_same (y.flags n) (z.flags n) (iy.flags n) (iz.flags n) (f (OfFlag n) h tt);
+    regs = λ n h. same_bits 32 (y.regs 0 n) (z.regs 0 n) (iy.regs 0 n) (iz.regs 0 n) (λ i l. f (OfRegister n i) (h, l) tt);
+    flags = λ n h. one_bit_same (y.flags 0 n) (z.flags 0 n) (iy.flags 0 n) (iz.flags 0 n) (f (OfFlag n) h tt);
     choice = λ i d. same_bits 2 (y.choice i) (z.choice i) (iy.choice i) (iz.choice i) (λ b l.
         (let s = spot_is p k u un c i d.0 in
         ap (λ q. bit_at b (y.choice q) == 1) (sym s) ∙ f (OfChoice (point_at u i).point b) (i, d, refl, l) tt ∙ ap (λ q. bit_at b (z.choice q) == 1) s));
-    base = λ j h. same_bits 8 (y.base j) (z.base j) (iy.base j) (iz.base j) (λ b l. f (OfByte j b) ((let a : j < length c.addresses = omega arith in a), l) h);
+    base = λ j h. same_bits 8 (y.base 0 j) (z.base 0 j) (iy.base 0 j) (iz.base 0 j)
+        (λ b l. f (OfByte j b) ((let a : j < length c.addresses = omega arith in a), l) h);
   }
 
   -- and back

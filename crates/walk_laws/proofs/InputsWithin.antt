@@ -59,9 +59,9 @@ or_zero false x n l = omega arith
 
 pub reading_in_range : (u : UnrolledProgram) (c : Cells) (v : ℕ → Bool) → InRange (reading u c v)
 reading_in_range u c v = record {
-  regs = λ n. or_zero (is_register_of u n) _ (2 ^ 32) (bits_small v (32 * place_in u.registers n) 32);
-  flags = λ f. or_zero (is_flag_of u f) _ 2 (bits_small v (first_flag u + f) 1);
-  mem = λ a. omega arith;
+  regs = λ p n. or_zero (is_register_of u n) _ (2 ^ 32) (bits_small v (32 * place_in u.registers n) 32);
+  flags = λ p f. or_zero (is_flag_of u f) _ 2 (bits_small v (first_flag u + f) 1);
+  mem = λ p a. omega arith;
   choice = λ i. or_zero ((point_at u i).draws) _ 4 (bits_small v (first_choice u + 2 * drawn_below u i) 2);
-  base = λ j. or_zero (nat_lt j (length c.addresses)) _ 256 (bits_small v (first_byte u + 8 * j) 8);
+  base = λ p j. or_zero (nat_lt j (length c.addresses)) _ 256 (bits_small v (first_byte u + 8 * j) 8);
 }

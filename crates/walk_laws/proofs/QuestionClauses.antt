@@ -183,12 +183,12 @@ module _ (p : Program) (k : ℕ) (question : Question) (asked : ℕ →
   pub allowed_same : (y z : TermReading) → Agree u (length c.addresses) y z → IsAllowed c y → IsAllowed c z
   allowed_same y z a h = record { agrees = agrees; asked = bytes }
     where
-      agrees : (x : Agreement) → Contains c.agrees x → term_word z c.nodes x.condition ≡ 1 → z.base x.read ≡ z.base x.other
+      agrees : (x : Agreement) → Contains c.agrees x → term_word z c.nodes x.condition ≡ 1 → z.base 0 x.read ≡ z.base 0 x.other
       agrees x m e =
           let f = layered.cells.formed.agrees x m in
           sym (a.base x.read f.1) ∙ h.agrees x m (word_same u c layered.cells.formed y z a x.condition f.0.0 ∙ e) ∙ a.base x.other f.2
 
-      bytes : (x : AskedByte) → Contains c.asked x → term_word z c.nodes x.condition ≡ 1 → z.base x.read ≡ x.byte
+      bytes : (x : AskedByte) → Contains c.asked x → term_word z c.nodes x.condition ≡ 1 → z.base 0 x.read ≡ x.byte
       bytes x m e =
           let f = layered.cells.formed.asked x m in
           sym (a.base x.read f.1) ∙ h.asked x m (word_same u c layered.cells.formed y z a x.condition f.0.0 ∙ e)
@@ -224,11 +224,11 @@ module _ (p : Program) (k : ℕ) (question : Question) (asked : ℕ →
         let range = reading_in_range u c v in
         let m = layered.cells.complete (reading u c v) range made.0 in
         let r : Reading = record {
-          state = record { pc = u.entry; regs = (reading u c v).regs; flags = (reading u c v).flags; mem = m.0 };
+          state = record { pc = u.entry; regs = (reading u c v).regs 0; flags = (reading u c v).flags 0; mem = m.0 };
           choice = λ x. (reading u c v).choice (spot p k u un c x);
         } in
         let is : IsReading r = record {
-          state = record { pc = layered.fitting.entry; regs = range.regs; flags = range.flags; mem = m.1 };
+          state = record { pc = layered.fitting.entry; regs = range.regs 0; flags = range.flags 0; mem = m.1 };
           choice = λ x. range.choice (spot p k u un c x);
         } in
         let a = agree_all u c layered.cells.formed (with_mem (reading u c v) m.0) (read_as r) (record {

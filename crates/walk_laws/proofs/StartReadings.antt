@@ -118,7 +118,7 @@ module _ (p : Program) (k : ℕ) (u : UnrolledProgram) (un : IsUnrolling p k u) 
   -- the start's reading
   abbrev pub start_reading : Reading
   start_reading = record {
-    state = record { pc = u.entry; regs = (reading u c v).regs; flags = (reading u c v).flags; mem = start_memory u w };
+    state = record { pc = u.entry; regs = (reading u c v).regs 0; flags = (reading u c v).flags 0; mem = start_memory u w };
     choice = λ x. (reading u c v).choice (spot p k u un c x);
   }
 
@@ -131,8 +131,8 @@ module _ (p : Program) (k : ℕ) (u : UnrolledProgram) (un : IsUnrolling p k u) 
       record {
         state = record {
           pc = fit.entry;
-          regs = range.regs;
-          flags = range.flags;
+          regs = range.regs 0;
+          flags = range.flags 0;
           mem = λ a. known_small (byte_of_runs u.known (word 32 a)) w.bytes a
               (λ b e. fit.known (word 32 a) b e) (byte_small w.bytes (word 32 a) starts.bytes);
         };
@@ -155,17 +155,17 @@ module _ (p : Program) (k : ℕ) (u : UnrolledProgram) (un : IsUnrolling p k u) 
       record { regs = a.regs; flags = a.flags; choice = a.choice; base = a.base }
 
   -- its state is that of the start
-  no_register : (n : ℕ) → list_any (nat_eq n) (from_to layout.first (length layout.registers)) ≡ false → rd.regs n ≡ 0
+  no_register : (n : ℕ) → list_any (nat_eq n) (from_to layout.first (length layout.registers)) ≡ false → rd.regs 0 n ≡ 0
   no_register n h =
       ap (λ z. if list_any (nat_eq n) z then bits_from v (32 * place_in u.registers n) 32 else 0) laid.registers
       ∙ ap (λ z. if z then bits_from v (32 * place_in u.registers n) 32 else 0) h
 
-  regs_same : (n : ℕ) → register_at layout w.regs n ≡ rd.regs n
+  regs_same : (n : ℕ) → register_at layout w.regs n ≡ rd.regs 0 n
   regs_same n =
-      ap (λ z. register_at layout z n) (starts.regs ∙ ap (map rd.regs) laid.registers)
-      ∙ register_is rd.regs layout.first (length layout.registers) n (no_register n)
+      ap (λ z. register_at layout z n) (starts.regs ∙ ap (map (rd.regs 0)) laid.registers)
+      ∙ register_is (rd.regs 0) layout.first (length layout.registers) n (no_register n)
 
-  flags_same : (f : ℕ) → bit_at f w.flags ≡ rd.flags f
+  flags_same : (f : ℕ) → bit_at f w.flags ≡ rd.flags 0 f
   flags_same f = elim (truth (nat_lt f u.flags)) [
     | inl h ↦ starts.flags f (grind (arith, nat_tests))
     | inr h ↦ high_bit u.flags f w.flags starts.flags_fit (grind (arith, nat_tests)) ∙ sym (ap (λ z. if z then bits_from v (first_flag u + f) 1 else 0) h)
@@ -179,8 +179,8 @@ module _ (p : Program) (k : ℕ) (u : UnrolledProgram) (un : IsUnrolling p k u) 
       ap (λ z. record { pc = z; regs = register_at layout w.regs; flags = λ f. bit_at f w.flags; mem = λ a. known_or (known_byte p (word 32 a)) w.bytes a })
       (sym un.entry)
       ∙ ap (λ z. record { pc = u.entry; regs = z; flags = λ f. bit_at f w.flags; mem = λ a. known_or (known_byte p (word 32 a)) w.bytes a }) (fun_ext regs_same)
-      ∙ ap (λ z. record { pc = u.entry; regs = rd.regs; flags = z; mem = λ a. known_or (known_byte p (word 32 a)) w.bytes a }) (fun_ext flags_same)
-      ∙ ap (λ z. record { pc = u.entry; regs = rd.regs; flags = rd.flags; mem = z }) (fun_ext mem_same)
+      ∙ ap (λ z. record { pc = u.entry; regs = rd.regs 0; flags = z; mem = λ a. known_or (known_byte p (word 32 a)) w.bytes a }) (fun_ext flags_same)
+      ∙ ap (λ z. record { pc = u.entry; regs = rd.regs 0; flags = rd.flags 0; mem = z }) (fun_ext mem_same)
 
   -- over the bytes that are asked it begins in an entry state, and so it does over all; and the start follows it
   module _ (lawful : HasLawfulRows p) (asked : ℕ → Bool) (known : AsksKnown p asked) (literals : AsksLiterals p k asked)
@@ -267,11 +267,12 @@ pub start_is_written : StartIsWritten
 start_is_written p k u un layout laid few c v w starts =
     let range = reading_in_range u c v in
     let long : length w.regs ≡ length layout.registers
-    = ap (λ (z : List ℕ). length z) starts.regs ∙ map_long (reading u c v).regs u.registers ∙ ap
+    = ap (λ (z : List ℕ). length z) starts.regs ∙ map_long ((reading u c v).regs 0) u.registers ∙ ap
     (λ (z : List ℕ). length z) laid.registers ∙ range_length layout.first (length layout.registers) in
     record {
       count = long;
-      words = subst (λ (z : List ℕ). All (λ n. n < 2 ^ 32) z) (sym starts.regs) (λ i d l. map_below (reading u c v).regs (2 ^ 32) range.regs u.registers i d l);
+      words = subst (λ (z : List ℕ). All (λ n. n < 2 ^ 32) z) (sym starts.regs)
+          (λ i d l. map_below ((reading u c v).regs 0) (2 ^ 32) (range.regs 0) u.registers i d l);
       flags = subst (λ (z : ℕ). w.flags < 2 ^ z) laid.flags starts.flags_fit;
       bytes = starts.bytes;
       bytes_rise = starts.bytes_rise;

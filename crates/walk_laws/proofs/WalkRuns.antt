@@ -26,9 +26,9 @@ use Rattle.bilv_spec.proofs.PointTests.{any_is, not_any}
 use Rattle.bilv_spec.proofs.PointRuns.{Stands, stepped}
 use Rattle.bilv_spec.proofs.PointsInGraph.{points_are_in_graph, of_map}
 use Rattle.bilv_spec.proofs.FileWords.{Sound, Standing, stepped_in, step_in, kept_number}
-use Rattle.walk_laws.proofs.WalkEdges.{first_hit, takes, found, of_row, step_is, step_of}
-use Rattle.walk_laws.proofs.HitOrder.{any_order}
-use Rattle.walk_laws.proofs.WalkSteps.{false_line_same, assert_or, asserts_aim, Chosen, chosen}
+use Rattle.walk_spec.proofs.WalkEdges.{first_hit, takes, found, of_row, step_is, step_of}
+use Rattle.walk_spec.proofs.HitOrder.{any_order}
+use Rattle.walk_spec.proofs.WalkSteps.{false_line_same, assert_or, asserts_aim, Chosen, chosen}
 
 -- some element passes, by the same elements and the same test
 any_elements : (f : ℕ → Bool) (xs ys : List ℕ) → ((a : ℕ) → Contains xs a ↔ Contains ys a) → list_any f xs ≡ list_any f ys

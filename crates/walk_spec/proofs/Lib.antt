@@ -4,3 +4,6 @@ pub mod RefusedPoints
 pub mod SweepWalk
 pub mod PriceLaw
 pub mod Walkable
+pub mod WalkEdges
+pub mod WalkSteps
+pub mod HitOrder

@@ -1,4 +1,4 @@
-use Rattle.frame_laws.proofs.FrameAsked.{frame_meets_once}
+use Rattle.frame_laws.proofs.WalkPlaces.{frame_meets_once}
 use Rattle.frame_laws.proofs.walks.frame_meets_once.Goals as goal
 
 pub returns : goal.returns

@@ -1,5 +1,0 @@
-use Rattle.frame_laws.proofs.PartValues.{frame_addresses_agree}
-use Rattle.frame_laws.proofs.agreement.frame_addresses_agree.Goals as goal
-
-pub returns : goal.returns
-returns c = frame_addresses_agree

@@ -1,5 +1,0 @@
-use Rattle.frame_laws.proofs.PartValues.{frame_terms_agree}
-use Rattle.frame_laws.proofs.agreement.frame_terms_agree.Goals as goal
-
-pub returns : goal.returns
-returns c = frame_terms_agree

@@ -1,5 +1,0 @@
-use Rattle.frame_laws.proofs.FrameClauses.{frame_clauses_of_question}
-use Rattle.frame_laws.proofs.clauses.frame_clauses_of_question.Goals as goal
-
-pub returns : goal.returns
-returns c = frame_clauses_of_question

@@ -1,5 +1,0 @@
-use Rattle.frame_laws.proofs.FrameValues.{frame_values_give_reading}
-use Rattle.frame_laws.proofs.clauses.frame_values_give_reading.Goals as goal
-
-pub returns : goal.returns
-returns c = frame_values_give_reading

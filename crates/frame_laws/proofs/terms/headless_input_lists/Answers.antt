@@ -1,5 +1,0 @@
-use Rattle.frame_laws.proofs.HeadlessInputLists.{headless_input_lists}
-use Rattle.frame_laws.proofs.terms.headless_input_lists.Goals as goal
-
-pub returns : goal.returns
-returns c = headless_input_lists

@@ -1,5 +1,0 @@
-use Rattle.frame_laws.proofs.HeadlessWalkable.{headless_is_walkable}
-use Rattle.frame_laws.proofs.terms.headless_is_walkable.Goals as goal
-
-pub returns : goal.returns
-returns c = headless_is_walkable

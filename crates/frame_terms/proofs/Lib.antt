@@ -1,0 +1,12 @@
+pub mod FrameAsked
+pub mod FrameClauses
+pub mod FrameInputPrices
+pub mod FrameInputs
+pub mod FrameReadings
+pub mod FrameValues
+pub mod FrameWalkable
+pub mod HeadlessCells
+pub mod HeadlessInputLists
+pub mod HeadlessNodes
+pub mod HeadlessWalkable
+pub mod PartValues

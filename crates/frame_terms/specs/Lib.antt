@@ -1,0 +1,6 @@
+pub mod PassiveFrames
+pub mod FrameCells
+pub mod FrameClauseForm
+pub mod HeadlessTerms
+pub mod FrameAgreement
+pub mod FrameLayers

@@ -1,5 +1,0 @@
-use Rattle.walk_spec.proofs.EntrySame.{entry_is_same_over}
-use Rattle.walk_spec.proofs.walks.entry_is_same_over.Goals as goal
-
-pub returns : goal.returns
-returns c = entry_is_same_over
