@@ -1,5 +1,5 @@
 -- Reports over the frames of notes, and what shows them.
-use Rattle.std.specs.Prelude.{ℕ, ◌≡◌, ◌≢◌, ◌≤◌, ◌<◌, ◌+◌, ◌^◌, ◌⊎◌, ◌==◌, Bool, true, false, List, [], ◌∷◌, ◌++◌, Option, Some, None, Contains, length, slice_get, filter, sum_by, nat_eq, if◌then◌else◌, All, AllPairs}
+use Rattle.std.specs.Prelude.{ℕ, ◌≡◌, ◌≢◌, ◌≤◌, ◌<◌, ◌+◌, ◌^◌, ◌⊎◌, ◌==◌, Bool, true, false, List, [], ◌∷◌, ◌++◌, Option, Some, None, Contains, length, reverse, slice_get, filter, sum_by, nat_eq, if◌then◌else◌, All, AllPairs}
 use Rattle.std.specs.List.{list_any, flat_map, AllZip}
 use Rattle.word_spec.specs.Words.{word, bit_at}
 use Rattle.word_spec.specs.RowFiles.{from_to}
@@ -78,7 +78,8 @@ pub record Spends (f : Frame) (k : ℕ) (question : Question) (conflicts : ℕ) 
   pub of_question : AreOfQuestion f k question proof.clauses
   pub spent : IsSpent proof.clauses.clauses conflicts proof.log
 
--- a head state as it is written, and a contract step: its step, its contract's address, and the registers, flags and bytes that it is given
+-- a head state as it is written, its stack from the bottom, and a contract step: its step, its contract's address, and the registers, flags and bytes that it
+-- is given
 pub record WrittenHead : Type 0 where
   pub at : ℕ
   pub stack : List ℕ
@@ -99,16 +100,12 @@ pub record Shown : Type 0 where
 
 -- the byte that is kept, which is known of a head state
 abbrev pub kept_byte : Program → ℕ → Option ℕ
-kept_byte p a = by (is_kept_at p a)
-  where
-    by : Bool → Option ℕ
-    by true = Some (byte_of_cell (p.loaded a))
-    by false = None
+kept_byte p a = if is_kept_at p a then Some (byte_of_cell (p.loaded a)) else None
 
 -- the place of a written head state
 abbrev pub head_place : Program → Layout → WrittenHead → Place
 head_place p layout h =
-    record { state = (start_of layout h.at (λ a. kept_byte p (word 32 a)) h.start).state; stack = h.stack }
+    record { state = (start_of layout h.at (λ a. kept_byte p (word 32 a)) h.start).state; stack = reverse h.stack }
 
 -- the flag's bit in a set of flags
 abbrev pub flag_in : ℕ → ℕ → ℕ

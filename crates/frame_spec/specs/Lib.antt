@@ -6,6 +6,7 @@ pub mod FrameQuestions
 pub mod FrameWalk
 pub mod FrameUnrolling
 pub mod FrameReports
+pub mod FrameFound
 pub mod FrameLaws
 pub mod Theorems
 pub mod ReportLaws

@@ -5,4 +5,4 @@ mod listing;
 mod stretches;
 
 pub use listing::{Known, KnownBytes, kept_run_count, known_bytes};
-pub use stretches::{Stretch, byte_in, first_known, known_stretch};
+pub use stretches::{Stretch, byte_in, first_given, first_known, known_stretch};

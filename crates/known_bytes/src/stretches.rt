@@ -82,10 +82,10 @@ fn fixed_stretch(ranges: &[FixedRange], a: u32) -> (bool, u32)
     }
 }
 
-/// The first known addresses from one on that stand together, with their bytes.
-pub fn first_known<'a>(image: &Image<'a>, notes: &Notes, a: u32) -> Option<Part<'a>>
+/// The first addresses from one on that stand together and are kept, or loaded and within one of the ranges, with their bytes.
+pub fn first_given<'a>(image: &Image<'a>, ranges: &[FixedRange], a: u32) -> Option<Part<'a>>
     ensures { MatchOption result ((x : ℕ) → a ≤ x → x < 2 ^ 32 →
-        is_known image.now (map fixed_of notes.now.fixed.items) x ≡ false) (IsFirstKnown image.now (map fixed_of notes.now.fixed.items) a) }
+        is_known image.now (map fixed_of ranges.now) x ≡ false) (IsFirstKnown image.now (map fixed_of ranges.now) a) }
 {
     let mut at = a;
     loop {
@@ -96,7 +96,7 @@ pub fn first_known<'a>(image: &Image<'a>, notes: &Notes, a: u32) -> Option<Part<
         if part.kept {
             return Some(part);
         }
-        let (inside, end) = fixed_stretch(&notes.fixed, part.first);
+        let (inside, end) = fixed_stretch(ranges, part.first);
         let last = u32::min(end, part.last);
         if inside {
             return Some(Part { last, ..part });
@@ -106,6 +106,14 @@ pub fn first_known<'a>(image: &Image<'a>, notes: &Notes, a: u32) -> Option<Part<
         }
         at = last + 1;
     }
+}
+
+/// The first known addresses from one on that stand together, with their bytes.
+pub fn first_known<'a>(image: &Image<'a>, notes: &Notes, a: u32) -> Option<Part<'a>>
+    ensures { MatchOption result ((x : ℕ) → a ≤ x → x < 2 ^ 32 →
+        is_known image.now (map fixed_of notes.now.fixed.items) x ≡ false) (IsFirstKnown image.now (map fixed_of notes.now.fixed.items) a) }
+{
+    first_given(image, &notes.fixed, a)
 }
 
 /// Whether the byte at an address is one that the file gives (kept, or loaded and fixed), and a last address up to which the bytes behind it are as it is, as

@@ -3,9 +3,12 @@ use Rattle.std.specs.Prelude.{ℕ, List, map}
 use Rattle.word_spec.specs.Texts.{joined, lines}
 use Rattle.machine_spec.specs.Endings as run
 use Rattle.machine_spec.specs.StateText as texts
+use Rattle.frame_spec.specs.Frames as frames
 use Rattle.start_value.specs.Starts.{written_of}
 use Rattle.state_text.specs.declared.start.Event.{Event}
 use Rattle.state_text.specs.declared.start.Event.TheVariants.{AssertFails, FetchFails, NoRow, HalfwordFails, CodeWritten, Trapped, AlignFails, JumpFails, EnsureFails}
+use Rattle.state_text.specs.declared.start.FrameEvent.{FrameEvent}
+use Rattle.state_text.specs.declared.start.FrameEvent.TheVariants.{OfStep, InvariantFails}
 use Rattle.state_text.specs.declared.start.NamedEnding.{NamedEnding}
 use Rattle.state_text.specs.declared.start.NamedEnding.TheVariants.{FailsBy, UnknownBy}
 use Rattle.state_text.specs.declared.start.StateText.{StateText}
@@ -21,6 +24,11 @@ event_of Trapped = run.Trapped
 event_of AlignFails = run.AlignFails
 event_of JumpFails = run.JumpFails
 event_of (EnsureFails line) = run.EnsureFails line
+
+-- the event of a frame
+abbrev pub frame_event_of : FrameEvent → frames.FrameEvent
+frame_event_of (OfStep e) = frames.OfStep (event_of e)
+frame_event_of (InvariantFails line) = frames.InvariantFails line
 
 -- the ending
 abbrev pub named_of : NamedEnding → run.NamedEnding

@@ -7,11 +7,10 @@ ghost use Rattle.state_text.specs.Starts.{named_of, text_of};
 ghost use Rattle.state_text.specs.Lines.{line_said};
 ghost use Rattle.state_text.specs.Readings.{fault_of, told_but, HasBytes, IsRefusedBy};
 
-use start_value::Layout;
 use crate::start::{NamedEnding, StateText};
-use start_value::Start;
 use crate::state_fault::{ParseFault, StateFault};
 use crate::state_line::StateLine;
+use start_value::{Layout, Start};
 use std::alloc::{AllocError, Global};
 
 /// What is kept of lines: the values of registers and then of flags, bytes by their addresses and choices by their steps.

@@ -14,5 +14,5 @@ pub use parser::parse_state;
 pub use printer::{
     print_state, push_block, push_ending, push_number, push_step, push_text, push_word,
 };
-pub use start::{Event, NamedEnding, StateText};
+pub use start::{Event, FrameEvent, HeadStart, NamedEnding, StateText};
 pub use state_fault::{ParseFault, StateFault};

@@ -9,12 +9,12 @@ ghost use Rattle.state_text.specs.Lines.{line_said};
 ghost use Rattle.state_text.specs.Readings.{fault_of, told_but, IsRefused, HasBytes, IsRefusedBy, IsBehind, refusal_of, written_by};
 
 use crate::draft::Draft;
-use start_value::Layout;
 use crate::progress::Progress;
 use crate::start::{NamedEnding, StateText};
 use crate::state_fault::{ParseFault, StateFault};
 use crate::state_line::{StateLine, state_line};
 use line_tokens::first_line;
+use start_value::Layout;
 use std::alloc::{AllocError, Global};
 
 /// The ending that a first line says; any other line is a line fault there.

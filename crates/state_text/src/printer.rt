@@ -7,9 +7,8 @@ ghost use Rattle.machine_spec.specs.StateText as texts;
 ghost use Rattle.start_value.specs.Starts.{layout_of, written_of};
 ghost use Rattle.state_text.specs.Starts.{event_of, named_of, text_of, line_text, lines_text};
 
-use start_value::Layout;
 use crate::start::{Event, NamedEnding, StateText};
-use start_value::Start;
+use start_value::{Layout, Start};
 use std::alloc::{AllocError, Global};
 
 /// A hexadecimal digit in lower case.

@@ -8,9 +8,9 @@ ghost use Rattle.start_value.specs.Starts.{layout_of};
 ghost use Rattle.state_text.specs.Lines.{line_said};
 ghost use Rattle.state_text.specs.Readings.{fault_of, IsBehind};
 
-use start_value::Layout;
 use crate::state_fault::StateFault;
 use crate::state_line::StateLine;
+use start_value::Layout;
 
 /// Where the reading stands behind some lines of a text.
 #[derive(Clone, Copy)]

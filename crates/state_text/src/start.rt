@@ -24,6 +24,15 @@ pub enum Event {
     EnsureFails { line: u64 },
 }
 
+/// How a segment of a frame fails, whose runs are cut at heads and step over contracts.
+#[derive(Clone, Copy, PartialEq, Eq, Debug)]
+pub enum FrameEvent {
+    /// As a run of the tables may; an assert line that is no invariant.
+    OfStep(Event),
+    /// An invariant line of the notes, by its number, is false.
+    InvariantFails { line: u64 },
+}
+
 /// The ending that a report names, with the address and the number of its step.
 #[derive(Clone, Copy, PartialEq, Eq, Debug)]
 pub enum NamedEnding {
@@ -31,6 +40,17 @@ pub enum NamedEnding {
     FailsBy { event: Event, at: u32, step: u64 },
     /// One backward transfer more than `k`.
     UnknownBy { k: u64, at: u32, step: u64 },
+}
+
+/// A head state from which a run begins, and its choices.
+#[derive(Drop, Debug)]
+pub struct HeadStart {
+    /// The address of the head.
+    pub at: u32,
+    /// The head state: its bytes are those of addresses whose byte the file does not keep. The choices are counted from the head's first step.
+    pub start: Start,
+    /// The addresses to which the calls at hand return, the outermost first.
+    pub stack: Vec<u32>,
 }
 
 /// A start with the ending that its report names.

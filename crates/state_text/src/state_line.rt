@@ -9,9 +9,9 @@ ghost use Rattle.start_value.specs.Starts.{layout_of};
 ghost use Rattle.state_text.specs.Starts.{event_of, named_of};
 ghost use Rattle.state_text.specs.Lines.{line_said, capped_line};
 
-use start_value::Layout;
 use crate::start::{Event, NamedEnding};
 use line_tokens::{decimal_at_most, first_words, hex_word, is_decimal};
+use start_value::Layout;
 use std::alloc::{AllocError, Global};
 
 /// What a line of the grammar says. A choice above 3 is taken for 4, which no line may have.

@@ -19,7 +19,7 @@ use Rattle.table_run.specs.Asserts.{is_hit}
 
 module _ {X : Type 0} (f : X → ℕ) (xs : List X) (index : List (ℕ × ℕ)) (at low high : ℕ) (group : ArePlacesOf (map f xs) index at low high) where
   -- what stands in the group of an address is the place of an element with the address
-  place_at : (j : ℕ) (d : ℕ × ℕ) (e : X) → low ≤ j → j < high
+  pub place_at : (j : ℕ) (d : ℕ × ℕ) (e : X) → low ≤ j → j < high
       → ((get_or index j d).1 < length xs) × (f (get_or xs (get_or index j d).1 e) ≡ at)
   place_at j d e from upto =
       let only = group.only j d from upto in
@@ -28,7 +28,7 @@ module _ {X : Type 0} (f : X → ℕ) (xs : List X) (index : List (ℕ × ℕ)) 
       (rw (length-map xs f) at fits, sym (get_or_default (map f xs) k 0 (f e) fits ∙ get_or-map f xs k e) ∙ only.1)
 
   -- and an element with the address stands in the group
-  in_group : (k : ℕ) (e : X) → k < length xs → f (get_or xs k e) ≡ at → (j : ℕ) × (low ≤ j) × (j < high) × ((d : ℕ × ℕ) → (get_or index j d).1 ≡ k)
+  pub in_group : (k : ℕ) (e : X) → k < length xs → f (get_or xs k e) ≡ at → (j : ℕ) × (low ≤ j) × (j < high) × ((d : ℕ × ℕ) → (get_or index j d).1 ≡ k)
   in_group k e w here =
       let fits : k < length (map f xs) = rw (length-map xs f) w in
       group.all k fits (get_or_default (map f xs) k 0 (f e) fits ∙ get_or-map f xs k e ∙ here)

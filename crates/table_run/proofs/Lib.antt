@@ -3,6 +3,10 @@ pub mod Memories
 pub mod Hits
 pub mod Stepped
 pub mod Founds
+pub mod FrameFounds
+pub mod FrameSteps
+pub mod RisingLines
+pub mod FrameStarts
 pub mod ReadsAlike
 pub mod Unjudged
 pub mod TracedSteps

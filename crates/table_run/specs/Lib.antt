@@ -5,3 +5,4 @@ pub mod Asserts
 pub mod Steps
 pub mod Traces
 pub mod Exits
+pub mod FrameEnds

@@ -3,10 +3,12 @@
 #![tactic(auto)]
 
 mod choices;
+mod cuts;
 mod ending;
 mod entry;
 mod exits;
 mod filling;
+mod heads;
 mod jumps;
 mod lines;
 mod memory;
@@ -18,8 +20,9 @@ mod steps;
 mod tracing;
 mod words;
 
-pub use ending::{Ending, EntryFault};
+pub use ending::{Ending, EntryFault, FrameEnding};
 pub use entry::{entry_ok, lines_ok};
 pub use exits::exit_state;
-pub use runs::{run, start_state};
+pub use heads::{head_ok, head_state};
+pub use runs::{run, run_frame, start_state};
 pub use tracing::{Traced, required_bytes, trace};

@@ -5,8 +5,12 @@ ghost use Rattle.bilv_spec.specs.Run as meaning;
 ghost use Rattle.notes_value.specs.Views.{expr_of};
 ghost use Rattle.notes_value.specs.Reads.{IsReadable};
 ghost use Rattle.notes_value.specs.NoteViews.{note_line_of, assert_of};
+ghost use Rattle.std.specs.List.Sorted.{IsStrictlyIncreasing};
+ghost use Rattle.frame_spec.specs.Frames.{invariants_of};
+ghost use Rattle.table_run.specs.FrameEnds.{frame_of};
 ghost use Rattle.notes_index.specs.Indexed.{assert_places, IsIndex};
 
+use crate::cuts::is_line;
 use byte_mem::View;
 use notes_index::group;
 use notes_value::{Assert, NoteLine, value};
@@ -51,4 +55,32 @@ pub(crate) fn false_assert<V: View>(
         return None;
     }
     Some(asserts[least].line)
+}
+
+/// The number of the first invariant of the state's address that is false.
+pub(crate) fn false_invariant<V: View>(
+    asserts: &[Assert],
+    invariants: &[u32],
+    now: &V,
+    entry: &V,
+    big: bool,
+) -> Option<u32>
+    requires rising { IsStrictlyIncreasing invariants.now }
+    requires readable { All (λ l. IsReadable V.has_register (expr_of l.says)) asserts.now }
+    ensures { (p : meaning.Program) → result ≡ meaning.false_assert (memory.endian big)
+        (invariants_of (frame_of p invariants.now) (map assert_of asserts.now)) (V.view now.now) (V.view entry.now) }
+{
+    let at = now.pc();
+    for line in asserts {
+        if line.at != at {
+            continue;
+        }
+        if !is_line(line.line as u64, invariants) {
+            continue;
+        }
+        if value(&line.says, now, entry, big) == 0 {
+            return Some(line.line);
+        }
+    }
+    None
 }

@@ -10,8 +10,9 @@ ghost use Rattle.table_run.specs.Known.{IsPut, HasFirst, Fills};
 use crate::program::Program;
 use bv_word::Word;
 use byte_mem::{Bytes32, Endian};
-use elf32_reader::Part;
-use known_bytes::first_known;
+use elf32_reader::{Image, Part};
+use known_bytes::first_given;
+use notes_value::FixedRange;
 use std::alloc::{AllocError, Global};
 
 /// Stores a byte. The error is want of memory.
@@ -48,6 +49,34 @@ fn fill(memory: &mut Bytes32, part: &Part) -> Result<(), AllocError>
     Ok(())
 }
 
+/// The memory of a start: the file's byte where it is kept, or loaded and within one of the ranges, else the start's, else 0; addresses wrap. The error is want
+/// of memory.
+pub(crate) fn memory_given(
+    alloc: Global,
+    image: &Image,
+    ranges: &[FixedRange],
+    bytes: &[(u32, u8)],
+) -> Result<Bytes32, AllocError>
+    requires rising { AreRising bytes.now }
+    requires unknown { All (λ b. is_known image.now (map fixed_of ranges.now) b.0 ≡ false) bytes.now }
+    ensures bytes { IfOk result (λ memory. (x : ℕ) → memory_of memory.entries x
+        ≡ known_or (given image.now (map fixed_of ranges.now) (word 32 x)) bytes.now x) }
+{
+    let mut memory = of_bytes(alloc, bytes)?;
+    let mut at = 0u32;
+    loop {
+        let part = match first_given(image, ranges, at) {
+            None => return Ok(memory),
+            Some(part) => part,
+        };
+        fill(&mut memory, &part)?;
+        if part.last == u32::MAX {
+            return Ok(memory);
+        }
+        at = part.last + 1;
+    }
+}
+
 /// The memory of a start: the file's byte where it is kept or fixed, else the start's, else 0; addresses wrap. The error is want of memory.
 pub(crate) fn memory_at(
     alloc: Global,
@@ -59,17 +88,6 @@ pub(crate) fn memory_at(
     ensures bytes { IfOk result (λ memory. (x : ℕ) → memory_of memory.entries x
         ≡ known_or (given p.now.image.now (map fixed_of p.now.notes.now.fixed.items) (word 32 x)) bytes.now x) }
 {
-    let mut memory = of_bytes(alloc, bytes)?;
-    let mut at = 0u32;
-    loop {
-        let part = match first_known(p.image, p.notes, at) {
-            None => return Ok(memory),
-            Some(part) => part,
-        };
-        fill(&mut memory, &part)?;
-        if part.last == u32::MAX {
-            return Ok(memory);
-        }
-        at = part.last + 1;
-    }
+    let memory = memory_given(alloc, p.image, &p.notes.fixed, bytes)?;
+    Ok(memory)
 }

@@ -1,31 +1,39 @@
 //! A run from a start.
-ghost use Rattle.std.specs.Prelude.{◌≡◌, ℕ, ◌≤◌, ◌<◌, ◌+◌, ◌-◌, ◌^◌, IfOk, IfSome, MatchOption, nat_le};
+ghost use Rattle.std.specs.Prelude.{◌≡◌, ℕ, ◌≤◌, ◌<◌, ◌+◌, ◌-◌, ◌^◌, IfOk, IfSome, MatchOption, None, Option, Some, nat_le, option_map, reverse};
+ghost use Rattle.std.specs.List.Sorted.{IsStrictlyIncreasing};
 ghost use Rattle.word_spec.specs.Memory as memory;
-ghost use Rattle.word_spec.specs.Memory.{byte_in};
+ghost use Rattle.bilv_spec.specs.Elf.{loaded, is_kept};
 ghost use Rattle.bilv_spec.specs.Files.{order_of, program_of as program_of_files};
 ghost use Rattle.bilv_spec.specs.Run as meaning;
 ghost use Rattle.bilv_spec.specs.Points.{is_known_at};
 ghost use Rattle.machine_spec.specs.StateText.{AreRising, IsWritten};
-ghost use Rattle.bilv_spec.specs.Reports.{found, found_by};
+ghost use Rattle.bilv_spec.specs.Reports as reports;
+ghost use Rattle.frame_spec.specs.Frames.{Content};
+ghost use Rattle.frame_spec.specs.FrameFound.{found, found_within};
+ghost use Rattle.frame_spec.specs.FrameReports.{head_place};
 ghost use Rattle.bilv_spec.specs.Answers.{start_in};
 ghost use Rattle.start_value.specs.Starts.{written_of};
 ghost use Rattle.notes_value.specs.NoteViews.{notes_of};
 ghost use Rattle.notes_value.specs.Reads.{AreReadable};
 ghost use Rattle.table_run.specs.Programs.{program_of};
 ghost use Rattle.table_run.specs.Endings.{found_of};
+ghost use Rattle.table_run.specs.FrameEnds as ends;
+ghost use Rattle.table_run.specs.FrameEnds.{Begins, IsOfTables, frame_found_of, frame_of, start_by, start_shown, written_head_of};
 ghost use Rattle.notes_index.specs.Indexed.{AreIndexed};
 
 use crate::choices::choice_at;
-use crate::ending::{Ending, StepEnd};
+use crate::cuts::{arrival, frame_step, is_head};
+use crate::ending::{Ending, FrameEnding, FrameStepEnd};
+use crate::heads::head_state;
 use crate::memory::memory_at;
 use crate::program::Program;
-use crate::steps::step;
 use byte_mem::View;
 use elf32_reader::Image;
 use machine_law::Machine;
 use notes_index::{Index, index_of};
 use notes_value::Notes;
 use start_value::Start;
+use state_text::{FrameEvent, HeadStart};
 use std::alloc::{AllocError, Global};
 
 /// How many backward transfers and how many steps a run may make.
@@ -51,47 +59,90 @@ pub(crate) fn next_turns(from: u32, to: u32, turns: u64, bound: u64) -> Option<u
     Some(turns + 1)
 }
 
-/// What the run from a state comes to within its limits. The error is want of memory.
+/// What the run of a frame from a state comes to within its limits; the last address of the stack is the top. The error is want of memory.
 fn follow<M: Machine>(
-    alloc: Global,
     p: &Program,
     index: &Index,
+    invariants: &[u32],
     entry: &M::State,
     mut state: M::State,
+    mut stack: Vec<u32>,
     choices: &[(u64, u8)],
     limits: Limits,
-) -> Result<Ending, AllocError>
+) -> Result<FrameEnding, AllocError>
     requires order { memory.endian p.now.big ≡ M.machine.endian }
     requires readable { AreReadable M.State.has_register (notes_of p.now.notes.now) }
     requires index { AreIndexed p.now.notes.now index.now }
+    requires lines { IsStrictlyIncreasing invariants.now }
     requires rising { AreRising choices.now }
     requires some { 1 ≤ limits.steps }
-    requires same { M.State.view state ≡ M.State.view entry.now }
-    ensures { IfOk result (λ e. found_of e ≡ found_by (meaning.run (program_of M.machine p.now) limits.turns
-        (record { state = M.State.view entry.now; choices = byte_in choices.now }) (limits.steps - 1))
-        (meaning.run (program_of M.machine p.now) limits.turns (record { state = M.State.view entry.now; choices = byte_in choices.now })
-        (limits.steps - 1 + 1))) }
+    ensures { (head : Option meaning.Place) (given : ℕ → Content) → IfOk result (λ e.
+        Begins (frame_of (program_of M.machine p.now) invariants.now) (M.State.view entry.now) head
+        (record { state = M.State.view state; stack = reverse stack.items }) →
+        frame_found_of e ≡ found_within (frame_of (program_of M.machine p.now) invariants.now) limits.turns
+        (start_by (M.State.view entry.now) choices.now head given) (limits.steps - 1)) }
 {
-    let mut stack = Vec::new(alloc);
     let mut turns = 0u64;
     let mut n = 0u64;
     loop {
         let at = state.pc();
         let choice = choice_at(choices, n);
-        match step::<M>(p, index, entry, &mut state, &mut stack, choice)? {
-            StepEnd::Stops(event) => return Ok(Ending::Failed { event, at, step: n }),
-            StepEnd::Exits => return Ok(Ending::Exit { at, step: n }),
-            StepEnd::Arrives => {}
+        match frame_step::<M>(p, index, invariants, entry, &mut state, &mut stack, choice)? {
+            FrameStepEnd::Halts(event) => return Ok(FrameEnding::Failed { event, at, step: n }),
+            FrameStepEnd::Leaves => return Ok(FrameEnding::Exit { at, step: n }),
+            FrameStepEnd::Reaches => {
+                if n + 1 == limits.steps {
+                    return Ok(FrameEnding::Left { at, step: n });
+                }
+                return Ok(arrival::<M>(p, index, invariants, entry, &state, n + 1));
+            }
+            FrameStepEnd::GoesTo => {}
         }
         turns = match next_turns(at, state.pc(), turns, limits.turns) {
-            None => return Ok(Ending::Turned { at, step: n }),
+            None => return Ok(FrameEnding::Turned { at, step: n }),
             Some(more) => more,
         };
         if n + 1 == limits.steps {
-            return Ok(Ending::Left { at, step: n });
+            return Ok(FrameEnding::Left { at, step: n });
         }
         n += 1;
     }
+}
+
+/// What the run of a frame from an entry state comes to within its limits: an entry that is a head is arrived at. The error is want of memory.
+fn follow_entry<M: Machine>(
+    alloc: Global,
+    p: &Program,
+    index: &Index,
+    invariants: &[u32],
+    state: M::State,
+    choices: &[(u64, u8)],
+    limits: Limits,
+) -> Result<FrameEnding, AllocError>
+    requires order { memory.endian p.now.big ≡ M.machine.endian }
+    requires readable { AreReadable M.State.has_register (notes_of p.now.notes.now) }
+    requires index { AreIndexed p.now.notes.now index.now }
+    requires lines { IsStrictlyIncreasing invariants.now }
+    requires rising { AreRising choices.now }
+    requires some { 1 ≤ limits.steps }
+    ensures { (given : ℕ → Content) → IfOk result (λ e. frame_found_of e ≡ found_within (frame_of (program_of M.machine p.now) invariants.now)
+        limits.turns (start_by (M.State.view state) choices.now None given) (limits.steps - 1)) }
+{
+    if is_head(p, index, invariants, state.pc()) {
+        return Ok(arrival::<M>(p, index, invariants, &state, &state, 0));
+    }
+    let first = M::copy(alloc, &state)?;
+    let ending = follow::<M>(
+        p,
+        index,
+        invariants,
+        &first,
+        state,
+        Vec::new(alloc),
+        choices,
+        limits,
+    )?;
+    Ok(ending)
 }
 
 /// The state of a start at an address: its registers and flags, and in memory the file's byte where it is kept or fixed, else the start's, else 0. The start is
@@ -121,6 +172,138 @@ pub fn start_state<M: Machine>(
     Ok(M::make(start, entry, memory))
 }
 
+/// How many backward transfers are within a bound, or, without one, within so many steps.
+fn turns_within(k: Option<u64>, limit: u64) -> u64
+    requires { 1 ≤ limit }
+    ensures { result ≡ reports.turns_within (limit - 1) k }
+{
+    match k {
+        None => limit,
+        Some(k) => k,
+    }
+}
+
+/// What the run of a frame from a head state comes to within its limits. The error is want of memory.
+fn follow_head<M: Machine>(
+    alloc: Global,
+    p: &Program,
+    index: &Index,
+    invariants: &[u32],
+    entry: &M::State,
+    head: &HeadStart,
+    limits: Limits,
+) -> Result<FrameEnding, AllocError>
+    requires order { memory.endian p.now.big ≡ M.machine.endian }
+    requires readable { AreReadable M.State.has_register (notes_of p.now.notes.now) }
+    requires index { AreIndexed p.now.notes.now index.now }
+    requires lines { IsStrictlyIncreasing invariants.now }
+    requires head { IsWritten M.form (λ a. is_kept (loaded p.now.image.now a)) (written_of head.now.start) }
+    requires some { 1 ≤ limits.steps }
+    ensures { (given : ℕ → Content) → IfOk result (λ e. frame_found_of e ≡ found_within (frame_of (program_of M.machine p.now) invariants.now)
+        limits.turns (start_by (M.State.view entry.now) (written_of head.now.start).choices
+        (Some (head_place (program_of M.machine p.now) M.form (written_head_of head.now))) given) (limits.steps - 1)) }
+{
+    let state = head_state::<M>(alloc, p.image, head)?;
+    let mut stack = Vec::new(alloc);
+    stack.extend_from_slice(&head.stack)?;
+    let ending = follow::<M>(
+        p,
+        index,
+        invariants,
+        entry,
+        state,
+        stack,
+        &head.start.choices,
+        limits,
+    )?;
+    Ok(ending)
+}
+
+/// What the run of a frame comes to: from a start at an address or, where a head state is given, from that, within `limit` steps, and within `k` backward
+/// transfers or, for none, any number of them. `invariants` are the numbers of the assert lines that are invariants, rising. The arrival at a head is a step,
+/// and is judged by the lines there. Each start has the registers and flags of the machine's form, bytes that are not 0 at rising addresses (the entry's of
+/// addresses whose byte the file does not give, the head's of those that are not kept), and choices for rising steps; those of the run are the head's where
+/// there is one. It takes memory for two states, for an index of the notes, and for the calls that have not returned; its time beside that is for each step
+/// what its row costs.
+///
+/// # Errors
+///
+/// Want of memory.
+pub fn run_frame<M: Machine>(
+    alloc: Global,
+    image: &Image,
+    notes: &Notes,
+    invariants: &[u32],
+    entry: u32,
+    start: &Start,
+    head: Option<&HeadStart>,
+    k: Option<u64>,
+    limit: u64,
+) -> Result<FrameEnding, AllocError>
+    requires order { order_of image.now ≡ M.machine.endian }
+    requires readable { AreReadable M.machine.has_register (notes_of notes.now) }
+    requires lines { IsStrictlyIncreasing invariants.now }
+    requires some { 1 ≤ limit }
+    requires start { IsWritten M.form (is_known_at (program_of_files M.machine image.now (notes_of notes.now) entry)) (written_of start.now) }
+    requires head { IfSome head (λ h. IsWritten M.form (λ a. is_kept (loaded image.now a)) (written_of h.now.start)) }
+    ensures { IfOk result (λ e. frame_found_of e ≡ found (frame_of (program_of_files M.machine image.now (notes_of notes.now) entry) invariants.now) k
+        (start_shown (program_of_files M.machine image.now (notes_of notes.now) entry) invariants.now M.form (written_of start.now)
+        (option_map (λ h. written_head_of h.now) head.entry)) (limit - 1)) }
+{
+    let p = Program {
+        image,
+        notes,
+        big: image.is_big_machine(),
+        function: entry,
+    };
+    let index = index_of(alloc, notes)?;
+    let state = start_state::<M>(alloc, image, notes, entry, start)?;
+    let limits = Limits {
+        turns: turns_within(k, limit),
+        steps: limit,
+    };
+    match head {
+        None => {
+            let ending = follow_entry::<M>(
+                alloc,
+                &p,
+                &index,
+                invariants,
+                state,
+                &start.choices,
+                limits,
+            )?;
+            Ok(ending)
+        }
+        Some(head) => {
+            let ending = follow_head::<M>(alloc, &p, &index, invariants, &state, head, limits)?;
+            Ok(ending)
+        }
+    }
+}
+
+/// What a run of a frame without invariants comes to, as one of the tables.
+fn of_tables(ending: FrameEnding) -> Ending
+    requires { IsOfTables (frame_found_of ending) }
+    ensures { found_of result ≡ ends.of_tables (frame_found_of ending) }
+{
+    match ending {
+        FrameEnding::Exit { at, step } => Ending::Exit { at, step },
+        FrameEnding::Failed {
+            event: FrameEvent::OfStep(event),
+            at,
+            step,
+        } => Ending::Failed { event, at, step },
+        FrameEnding::Turned { at, step } => Ending::Turned { at, step },
+        FrameEnding::Left { at, step } => Ending::Left { at, step },
+        FrameEnding::Failed {
+            event: FrameEvent::InvariantFails { .. },
+            ..
+        } => unreachable!(),
+        FrameEnding::Cut { .. } => unreachable!(),
+    }
+}
+
 /// What the run from a start at an address comes to, within `limit` steps, and within `k` backward transfers or, for none, any number of them. The start has
 /// the registers and flags of the machine's form, bytes that are not 0 at rising addresses whose byte the file does not give, and choices for rising steps. It
 /// takes memory for two states, for an index of the notes, and for the calls that have not returned; its time beside that is for each step what its row costs.
@@ -141,26 +324,9 @@ pub fn run<M: Machine>(
     requires readable { AreReadable M.machine.has_register (notes_of notes.now) }
     requires some { 1 ≤ limit }
     requires start { IsWritten M.form (is_known_at (program_of_files M.machine image.now (notes_of notes.now) entry)) (written_of start.now) }
-    ensures { IfOk result (λ e. found_of e ≡ found (program_of_files M.machine image.now (notes_of notes.now) entry) k
+    ensures { IfOk result (λ e. found_of e ≡ reports.found (program_of_files M.machine image.now (notes_of notes.now) entry) k
         (start_in (program_of_files M.machine image.now (notes_of notes.now) entry) M.form (written_of start.now)) (limit - 1)) }
 {
-    let p = Program {
-        image,
-        notes,
-        big: image.is_big_machine(),
-        function: entry,
-    };
-    let index = index_of(alloc, notes)?;
-    let state = start_state::<M>(alloc, image, notes, entry, start)?;
-    let first = M::copy(alloc, &state)?;
-    let bound = match k {
-        None => limit,
-        Some(k) => k,
-    };
-    let limits = Limits {
-        turns: bound,
-        steps: limit,
-    };
-    let ending = follow::<M>(alloc, &p, &index, &first, state, &start.choices, limits)?;
-    Ok(ending)
+    let ending = run_frame::<M>(alloc, image, notes, &[], entry, start, None, k, limit)?;
+    Ok(of_tables(ending))
 }

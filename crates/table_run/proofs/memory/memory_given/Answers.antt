@@ -1,7 +1,7 @@
 use Rattle.std.proofs.Common.{map, arith}
 use Rattle.notes_value.specs.NoteViews.{fixed_of}
 use Rattle.table_run.proofs.Memories.{has_all, given_more, given_all}
-use Rattle.table_run.proofs.memory.memory_at.Goals as goal
+use Rattle.table_run.proofs.memory.memory_given.Goals as goal
 
 pub loop-memory-init : goal.loop-memory-init
 loop-memory-init c = record {
@@ -12,9 +12,9 @@ loop-memory-init c = record {
 pub returns-then-part : goal.returns-then-part
 returns-then-part c = record {
   bytes =
-      given_all c.args.p.now.image.now (map fixed_of c.args.p.now.notes.now.fixed.items) c.args.bytes.now c.fill.new.memory.entries
+      given_all c.args.image.now (map fixed_of c.args.ranges.now) c.args.bytes.now c.fill.new.memory.entries
       (λ x below.
-      let has = given_more c.args.p.now.image.now (map fixed_of c.args.p.now.notes.now.fixed.items) c.args.bytes.now c.loop-memory.at c.in-Some.part
+      let has = given_more c.args.image.now (map fixed_of c.args.ranges.now) c.args.bytes.now c.loop-memory.at c.in-Some.part
       c.loop-memory.memory.entries c.fill.new.memory.entries
       c.requires.unknown c.in-Some.ensures c.loop-memory.invariant c.in_ok-fill.ensures in
       has.before x below (omega arith));
@@ -22,6 +22,6 @@ returns-then-part c = record {
 
 pub loop-memory-preserved : goal.loop-memory-preserved
 loop-memory-preserved c =
-    given_more c.args.p.now.image.now (map fixed_of c.args.p.now.notes.now.fixed.items) c.args.bytes.now c.loop-memory.at c.in-Some.part
+    given_more c.args.image.now (map fixed_of c.args.ranges.now) c.args.bytes.now c.loop-memory.at c.in-Some.part
     c.loop-memory.memory.entries
     c.fill.new.memory.entries c.requires.unknown c.in-Some.ensures c.loop-memory.invariant c.in_ok-fill.ensures
