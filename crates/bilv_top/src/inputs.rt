@@ -23,7 +23,7 @@ use command_line::Options;
 use elf32_reader::{ElfFault, Image, SymFault, read_image};
 use exit_status::{ELF_REFUSED, NOTES_REFUSED};
 use io_edges::Shelf;
-use notes_lang::{Dialect, NoteFault, NotesError, parse};
+use notes_lang::{Dialect, NoteFault, NotesError, parse_notes};
 use notes_value::{Function, Notes};
 use std::alloc::{AllocError, Global};
 
@@ -124,7 +124,7 @@ pub fn find_program_in(
     ensures { IfOk result (λ step. IfStep step (AreNotesAnsweredIn (dialect_of dialect) (options_of options) image.now text.items)
         (λ f. (f.text.items ≡ text.items) × IsFoundIn (dialect_of dialect) (options_of options) image.now f)) }
 {
-    let notes = match parse(alloc, &text, layout(image, options), dialect) {
+    let notes = match parse_notes(alloc, &text, layout(image, options), dialect) {
         Ok(notes) => notes,
         Err(NotesError::Fault(fault)) => return Ok(Step::Answered(refuse_line(alloc, fault)?)),
         Err(NotesError::Memory) => return Err(AllocError),

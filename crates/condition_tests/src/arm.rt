@@ -12,7 +12,7 @@ use crate::programs::{ARM, Case, Program, file};
 use crate::studies::{broken_of, passive_of, unrolled};
 use arm_lift::Arm;
 use elf32_reader::{ElfFault, Image, read_image};
-use notes_lang::{Dialect, parse};
+use notes_lang::{Dialect, parse_notes};
 use question_form::Unrolled;
 use start_value::{Layout, Profile};
 use std::alloc::{AllocError, Global};
@@ -63,7 +63,7 @@ fn broken_by_notes(
         big: false,
         profile: Profile::V4,
     };
-    let notes = parse(alloc, program.notes, layout, Dialect::Plain)?;
+    let notes = parse_notes(alloc, program.notes, layout, Dialect::Plain)?;
     let case = Case {
         words: program.words,
         image,

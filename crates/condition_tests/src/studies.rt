@@ -19,7 +19,7 @@ use elf32_reader::{ElfFault, Image, read_image};
 use flow_graph::descend;
 use machine_law::Machine;
 use mem_cells::{Celled, cells_some};
-use notes_lang::{Dialect, parse};
+use notes_lang::{Dialect, parse_notes};
 use notes_value::Notes;
 use passify::passive;
 use program_points::PointsFault;
@@ -230,7 +230,7 @@ fn study_notes(
     requires machine { is_rv image.now ≡ true }
 {
     let layout = Layout::Rv32 { compressed: false };
-    let notes = parse(alloc, program.notes, layout, Dialect::Plain)?;
+    let notes = parse_notes(alloc, program.notes, layout, Dialect::Plain)?;
     let case = Case {
         words: program.words,
         image,

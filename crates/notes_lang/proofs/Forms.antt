@@ -1,5 +1,5 @@
 -- What lines cannot say, by their word.
-use Rattle.std.proofs.Common.{◌≡◌, ℕ, zero, suc, ◌<◌, refl, sym, ap, ◌∙◌, subst, arith, List, [], ◌∷◌, ◌++◌, length, codes, Bool, true, false, ◌&&◌, ◌||◌, bytes_eq, Contains, IsTrue, ◌↔◌}
+use Rattle.std.proofs.Common.{◌≡◌, ℕ, zero, suc, ◌<◌, refl, sym, ap, subst, arith, List, [], ◌∷◌, ◌++◌, length, codes, Bool, true, false, ◌&&◌, ◌||◌, bytes_eq, Contains, IsTrue, ◌↔◌}
 use Rattle.std.specs.Prelude.{not}
 use Rattle.std.specs.List.{list_any}
 use Rattle.std.proofs.lemmas.List.Elements.{Contains-append_left, Contains-append_cases}
@@ -8,7 +8,7 @@ use Rattle.notes_spec.specs.Scopes.{Scope, Changed, reads_frames}
 use Rattle.bilv_spec.specs.Notes.{Expr, At, Named}
 use Rattle.bilv_spec.proofs.Decided.{neither}
 use Rattle.word_spec.specs.Tokens.{Token, NumberToken, NameToken, SignToken, BadByte, BadText}
-use Rattle.notes_spec.specs.NotesGrammar.{Parses, AreNumbers, AreChanged, MayFrame, Says, Nothing, EntryIs, RequireIs, EnsureIs, AssertIs, TargetsAre, FixedIs, VersionIs, ConstIs, LoadedIs, InvariantIs, NeedIs, GiveIs, ModifiesAre, WritesAre, IsSaid, IsAtAddress}
+use Rattle.notes_spec.specs.NotesGrammar.{Parses, AreNumbers, AreChanged, MayFrame, Says, EntryIs, RequireIs, EnsureIs, AssertIs, TargetsAre, FixedIs, ConstIs, LoadedIs, InvariantIs, NeedIs, GiveIs, ModifiesAre, WritesAre, IsSaid, IsAtAddress}
 use Rattle.notes_spec.specs.NotesFaults.{IsLineWord, BeginsBadly, line_words, line_words_first, frame_words}
 use Rattle.notes_lang.specs.declared.line_words.FrameWord.{FrameWord}
 use Rattle.notes_lang.specs.declared.line_words.FrameWord.TheVariants as frame

@@ -17,6 +17,9 @@ use Rattle.notes_value.specs.declared.notes.Function.{Function}
 use Rattle.notes_lang.specs.declared.sayings.ContractLine.{ContractLine}
 use Rattle.notes_lang.specs.declared.sayings.ContractLine.TheVariants as contract
 use Rattle.notes_lang.specs.Saying.{contract_says}
+use Rattle.notes_spec.specs.FrameNotes.{invariants_of}
+use Rattle.notes_lang.specs.Contracting.{AreContracts}
+use Rattle.notes_lang.proofs.Contracted.{numbered}
 use Rattle.notes_lang.specs.Drafting.{HasAddresses, HasTargets, IsDraft, place_list}
 use Rattle.notes_value.specs.NoteViews.{note_line_of, assert_of, targets_of, fixed_of}
 
@@ -48,6 +51,15 @@ asserts_and n (InvariantIs a e ∷ xs) y =
 asserts_and n (s ∷ xs) y =
     asserts_and (n + 1) xs y ∙ ap (λ m. asserts_of (n + 1) xs ++ asserts_of m (y ∷ [])) (let i : (n + 1) + length xs ≡ n + length (s ∷ xs) = omega arith in i)
 
+invariants_and : (n : ℕ) (xs : List Says) (y : Says) → invariants_of n (xs ++ y ∷ []) ≡ invariants_of n xs ++ invariants_of (n + length xs) (y ∷ [])
+invariants_and n [] y = ap (λ m. invariants_of m (y ∷ [])) (let e : n ≡ n + 0 = omega arith in e)
+invariants_and n (InvariantIs a e ∷ xs) y =
+    ap (λ l. n ∷ l) (invariants_and (n + 1) xs y ∙ ap
+    (λ m. invariants_of (n + 1) xs ++ invariants_of m (y ∷ [])) (let i : (n + 1) + length xs ≡ n + length (InvariantIs a e ∷ xs) = omega arith in i))
+invariants_and n (s ∷ xs) y =
+    invariants_and (n + 1) xs y ∙ ap (λ m. invariants_of (n + 1) xs ++ invariants_of m (y ∷ [])) (let i : (n + 1) + length xs
+    ≡ n + length (s ∷ xs) = omega arith in i)
+
 fixed_and : (xs : List Says) (y : Says) → fixed_in (xs ++ y ∷ []) ≡ fixed_in xs ++ fixed_in (y ∷ [])
 fixed_and [] y = refl
 fixed_and (FixedIs low high ∷ xs) y = ap (λ l. record { low = low; high = high } ∷ l) (fixed_and xs y)
@@ -67,13 +79,6 @@ same view xs = sym (append-nil (map view xs))
 pub more : {X Y : Type 0} (view : X → Y) (xs ys : List X) (x : X) (y : Y) → ys ≡ xs ++ x ∷ [] → view x ≡ y → map view ys ≡ map view xs ++ y ∷ []
 more view xs ys x y is x_is = ap (map view) is ∙ (map-append view xs (x ∷ []) ∙ ap (λ v. map view xs ++ v ∷ []) x_is)
 
-numbered : {Y : Type 0} (f : ℕ → List Says → List Y) (s : Says) (says : List Says) (line : ℕ) (whole before after : List Y) → line ≡ length says + 1 →
-    whole ≡ f 1 says ++ f (1 + length says) (s ∷ []) →
-    f 1 says ≡ before → after ≡ before ++ f line (s ∷ []) → whole ≡ after
-numbered f s says line whole before after number is so_far then_is =
-    is ∙ (ap (λ l. l ++ f (1 + length says) (s ∷ [])) so_far ∙ (ap
-    (λ m. before ++ f m (s ∷ [])) (let e : 1 + length says ≡ line = omega (arith, number) in e) ∙ sym then_is))
-
 pub grows : (says : List Says) (s : Says) (d e : Draft) (line : ℕ) → line ≡ length says + 1 → IsDraft says d →
     place_list e.entry ≡ place_list d.entry ++ entries (s ∷ []) →
     map note_line_of e.required.items ≡ map note_line_of d.required.items ++ requires_of line (s ∷ []) →
@@ -81,14 +86,17 @@ pub grows : (says : List Says) (s : Says) (d e : Draft) (line : ℕ) → line �
     map assert_of e.asserts.items ≡ map assert_of d.asserts.items ++ asserts_of line (s ∷ []) →
     map targets_of e.targets.items ≡ map targets_of d.targets.items ++ targets_in (s ∷ []) →
     map fixed_of e.fixed.items ≡ map fixed_of d.fixed.items ++ fixed_in (s ∷ []) → HasAddresses e.targets.items e.addresses →
-    e.is_of_entry ≡ (d.is_of_entry || is_of_entry s) → e.has_contract ≡ (d.has_contract || is_of_contract s) → IsDraft (says ++ s ∷ []) e
-grows says s d e line number p entry required ensured asserts targets fixed addresses of_entry contract = record {
+    e.is_of_entry ≡ (d.is_of_entry || is_of_entry s) → e.has_contract ≡ (d.has_contract || is_of_contract s) →
+    e.invariants.items ≡ d.invariants.items ++ invariants_of line (s ∷ []) → AreContracts (says ++ s ∷ []) e.contracts.items → IsDraft (says ++ s ∷ []) e
+grows says s d e line number p entry required ensured asserts targets fixed addresses of_entry contract invariants contracts = record {
   entry = entries_append says (s ∷ []) ∙ (ap (λ l. l ++ entries (s ∷ [])) p.entry ∙ sym entry);
   requires = numbered requires_of s says line _ (map note_line_of d.required.items) _ number (requires_and 1 says s) p.requires required;
   ensures = numbered ensures_of s says line _ (map note_line_of d.ensured.items) _ number (ensures_and 1 says s) p.ensures ensured;
   asserts = numbered asserts_of s says line _ (map assert_of d.asserts.items) _ number (asserts_and 1 says s) p.asserts asserts;
   targets = targets_append says (s ∷ []) ∙ (ap (λ l. l ++ targets_in (s ∷ [])) p.targets ∙ sym targets);
   fixed = fixed_and says s ∙ (ap (λ l. l ++ fixed_in (s ∷ [])) p.fixed ∙ sym fixed);
+  invariants = numbered invariants_of s says line _ d.invariants.items _ number (invariants_and 1 says s) p.invariants invariants;
+  contracts = contracts;
   addresses = addresses;
   of_entry = any_and is_of_entry says s ∙ (ap (λ b. b || is_of_entry s) p.of_entry ∙ sym of_entry);
   contract = any_and is_of_contract says s ∙ (ap (λ b. b || is_of_contract s) p.contract ∙ sym contract);
@@ -105,24 +113,29 @@ is_so false = refl
 
 -- a line of a contract is of no other kind
 pub contract_grows : (says : List Says) (a : ℕ) (l : ContractLine) (d e : Draft) (line : ℕ) → line ≡ length says + 1 → IsDraft says d →
-    e ≡ record d { has_contract = true } → IsDraft (says ++ contract_says a l ∷ []) e
-contract_grows says a l d e line number p is = subst (IsDraft (says ++ contract_says a l ∷ [])) (sym is) (by l) where
+    e ≡ record d { contracts = e.contracts; has_contract = true } → AreContracts (says ++ contract_says a l ∷ []) e.contracts.items →
+    IsDraft (says ++ contract_says a l ∷ []) e
+contract_grows says a l d e line number p is contracts = subst (IsDraft (says ++ contract_says a l ∷ [])) (sym is) (by l contracts) where
   plain : (s : Says) → [] ≡ entries (s ∷ []) → [] ≡ requires_of line (s ∷ []) → [] ≡ ensures_of line (s ∷ []) → [] ≡ asserts_of line (s ∷ []) →
-      [] ≡ targets_in (s ∷ []) → [] ≡ fixed_in (s ∷ []) → false ≡ is_of_entry s → true ≡ is_of_contract s → IsDraft (says ++ s ∷ []) (record d { has_contract = true })
-  plain s entry required ensured asserts targets fixed of_entry contract =
-      grows says s d (record d { has_contract = true }) line number p (sym (append-nil (place_list d.entry)) ∙ ap (λ l. place_list d.entry ++ l) entry)
+      [] ≡ targets_in (s ∷ []) → [] ≡ fixed_in (s ∷ []) → false ≡ is_of_entry s → true ≡ is_of_contract s → [] ≡ invariants_of line (s ∷ []) →
+      AreContracts (says ++ s ∷ []) e.contracts.items → IsDraft (says ++ s ∷ []) (record d { contracts = e.contracts; has_contract = true })
+  plain s entry required ensured asserts targets fixed of_entry contract invariants contracts =
+      grows says s d (record d { contracts = e.contracts; has_contract = true }) line number p
+      (sym (append-nil (place_list d.entry)) ∙ ap (λ l. place_list d.entry ++ l) entry)
       (same note_line_of d.required.items ∙ ap (λ l. map note_line_of d.required.items ++ l) required)
       (same note_line_of d.ensured.items ∙ ap (λ l. map note_line_of d.ensured.items ++ l) ensured)
       (same assert_of d.asserts.items ∙ ap (λ l. map assert_of d.asserts.items ++ l) asserts)
       (same targets_of d.targets.items ∙ ap (λ l. map targets_of d.targets.items ++ l) targets)
       (same fixed_of d.fixed.items ∙ ap (λ l. map fixed_of d.fixed.items ++ l) fixed) p.addresses
       (unchanged d.is_of_entry ∙ ap (λ b. d.is_of_entry || b) of_entry) (is_so d.has_contract ∙ ap (λ b. d.has_contract || b) contract)
+      (sym (append-nil d.invariants.items) ∙ ap (λ l. d.invariants.items ++ l) invariants) contracts
 
-  by : (l : ContractLine) → IsDraft (says ++ contract_says a l ∷ []) (record d { has_contract = true })
-  by (contract.Needs x) = plain _ refl refl refl refl refl refl refl refl
-  by (contract.Gives x) = plain _ refl refl refl refl refl refl refl refl
-  by (contract.Modifies cs) = plain _ refl refl refl refl refl refl refl refl
-  by (contract.Writes x n) = plain _ refl refl refl refl refl refl refl refl
+  by : (l : ContractLine) → AreContracts (says ++ contract_says a l ∷ []) e.contracts.items →
+      IsDraft (says ++ contract_says a l ∷ []) (record d { contracts = e.contracts; has_contract = true })
+  by (contract.Needs x) cs = plain _ refl refl refl refl refl refl refl refl refl cs
+  by (contract.Gives x) cs = plain _ refl refl refl refl refl refl refl refl refl cs
+  by (contract.Modifies changes) cs = plain _ refl refl refl refl refl refl refl refl refl cs
+  by (contract.Writes x n) cs = plain _ refl refl refl refl refl refl refl refl refl cs
 
 -- whether lines are mixed, by what is known of those so far
 pub mixed_by : (says : List Says) (s : Says) (d : Draft) (a b r : Bool) → IsDraft says d → a ≡ (d.has_contract || is_of_contract s) →

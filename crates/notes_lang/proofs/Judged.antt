@@ -4,7 +4,7 @@ use Rattle.std.specs.List.{list_any, fold}
 use Rattle.bilv_spec.specs.Notes.{At, Named}
 use Rattle.notes_spec.specs.Scopes.{Scope, Strict, lenient, loose}
 use Rattle.word_spec.specs.Tokens.{Token, NumberToken, NameToken, SignToken, BadByte, BadText, tokens_of}
-use Rattle.notes_spec.specs.NotesGrammar.{IsGood, is_depth, line_limit, Says, Nothing, EntryIs, RequireIs, EnsureIs, AssertIs, TargetsAre, FixedIs, VersionIs, ConstIs, LoadedIs, IsSaid, IsLine, AreAligned, IsRange, IsVersion, IsNew, IsAlone, is_mixed}
+use Rattle.notes_spec.specs.NotesGrammar.{IsGood, is_depth, line_limit, Says, EntryIs, TargetsAre, VersionIs, ConstIs, IsSaid, IsLine, AreAligned, IsRange, IsVersion, IsNew, IsAlone, is_mixed}
 use Rattle.notes_spec.specs.NotesFaults.{NoteFault, LimitFault, ByteFault, TokenFault, NumberFault, DepthFault, WordFault, SyntaxFault, NameFault, AlignFault, RangeFault, EntryFault, VersionFault, ConstFault, AllFault, MixedFault, PairFault, note_fault_rank, BeginsBadly, Repeats, NoteFaultApplies}
 use Rattle.bilv_spec.proofs.Decided.{Decided, is_less, neither}
 use Rattle.notes_spec.proofs.NotesFirst.{begins_well, of_rank, ranked}
@@ -190,7 +190,8 @@ repeats_strictly : (s : Scope) → s.mode ≡ Strict → (ts : List Token) (earl
     IsSaid s ts x
 repeats_strictly s strict ts earlier (EntryIs (At a)) (t, is, n) r = (t, is, strict_number s strict t a n)
 repeats_strictly s strict ts earlier (EntryIs (Named w)) is r = is
-repeats_strictly s strict ts earlier (TargetsAre a to) (t, us, is, n, ns, some) r = (t, us, is, strict_number s strict t a n, strict_numbers s strict us to ns, some)
+repeats_strictly s strict ts earlier (TargetsAre a to) (t, us, is, n, ns, some) r =
+    (t, us, is, strict_number s strict t a n, strict_numbers s strict us to ns, some)
 repeats_strictly s strict ts earlier x is r = absurd r
 
 -- what is of the version, or declares, repeats nothing

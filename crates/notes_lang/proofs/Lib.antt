@@ -6,6 +6,7 @@ pub mod Forms
 pub mod Lists
 pub mod FirstLines
 pub mod Judged
+pub mod Contracted
 pub mod Growing
 pub mod SoFar
 pub mod Finished

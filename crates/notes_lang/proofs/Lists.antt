@@ -1,5 +1,5 @@
 -- Tokens that are numbers, registers and flags, or an expression and a number.
-use Rattle.std.proofs.Common.{◌≡◌, ◌==◌, Bool, true, false, ℕ, zero, suc, ◌<◌, refl, ap, arith, sym, ◌∙◌, List, [], ◌∷◌, ◌++◌, Option, Some, None, length, get_or, take, ◌+◌, add-one, codes, subst, map, Vec, Global}
+use Rattle.std.proofs.Common.{◌≡◌, ◌==◌, true, false, ℕ, zero, suc, ◌<◌, refl, ap, arith, sym, ◌∙◌, List, [], ◌∷◌, ◌++◌, Option, Some, None, length, get_or, take, ◌+◌, add-one, codes, subst, map, Vec, Global}
 use Rattle.std.proofs.lemmas.List.{map_push, same_from_push}
 use Rattle.notes_spec.specs.Scopes.{Scope, Changed}
 use Rattle.word_spec.specs.Tokens.{Token, NumberToken, NameToken, SignToken, BadByte, BadText}

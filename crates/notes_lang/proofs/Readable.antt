@@ -193,7 +193,8 @@ all_before P (u ∷ us) vs all = All-cons P u us (All-head P u (us ++ vs) all) (
 
 -- a number among good tokens
 good_number : (w : List ℕ) (v : ℕ) (ts : List Token) → ts ≡ NameToken (codes "const") ∷ NameToken w ∷ NumberToken v ∷ [] → All IsGood ts → v < 2 ^ 32
-good_number w v ts is good = let g : All IsGood (NameToken (codes "const") ∷ NameToken w ∷ NumberToken v ∷ []) = subst (All IsGood) is good in g 2 (NumberToken v) (omega arith)
+good_number w v ts is good =
+    let g : All IsGood (NameToken (codes "const") ∷ NameToken w ∷ NumberToken v ∷ []) = subst (All IsGood) is good in g 2 (NumberToken v) (omega arith)
 
 -- what holds of each expression that good tokens say holds of each line
 module _ (Claim : Expr → Type 0) (words : Vocabulary) (each : (s : Scope) → s.names ≡ words.names → SmallConsts s.consts → (l : ℕ) (ts : List Token)

@@ -1,5 +1,5 @@
 -- Lines, one by one.
-use Rattle.std.proofs.Common.{◌≡◌, ℕ, ◌<◌, ◌≤◌, ◌+◌, refl, ap, sym, ◌∙◌, subst, arith, List, [], ◌∷◌, ◌++◌, length, append_assoc, length-append, Result, Ok, Err, Bool, true, false, map, drop, take, ◌-◌}
+use Rattle.std.proofs.Common.{◌≡◌, ℕ, ◌≤◌, ◌+◌, refl, ap, sym, ◌∙◌, subst, arith, List, [], ◌∷◌, ◌++◌, length, append_assoc, length-append, Ok, Err, Bool, true, false, map, drop, take, ◌-◌}
 use Rattle.notes_spec.specs.NotesGrammar.{Says, Nothing, ConstIs, IsLine, AreLines, after, after_all, is_second, line_limit, lines_of}
 use Rattle.notes_spec.specs.Scopes.{Vocabulary, Scope, Constant, Strict}
 use Rattle.std.specs.Prelude.{not, ◌&&◌}
@@ -40,7 +40,16 @@ scope_after v consts b f x = ap (scope_at v consts b) (never f)
 
 -- what words mean at a line, by the constants that the code has
 abbrev pub scope_now : Vocabulary → List CodeConstant → List (Bor (List ℕ)) → (is_second is_first : Bool) → Scope
-scope_now v cs ws b f = record { names = v.names; narrow = v.narrow; dialect = v.dialect; consts = map constant_of cs; bound = map text_of ws; is_second = b; is_first = f; mode = Strict }
+scope_now v cs ws b f = record {
+  names = v.names;
+  narrow = v.narrow;
+  dialect = v.dialect;
+  consts = map constant_of cs;
+  bound = map text_of ws;
+  is_second = b;
+  is_first = f;
+  mode = Strict;
+}
 
 scope_same : (v : Vocabulary) (cs ds : List CodeConstant) (ws : List (Bor (List ℕ))) (b f : Bool) → cs ≡ ds → ws ≡ [] →
     scope_at v (map constant_of ds) b f ≡ scope_now v cs ws b f

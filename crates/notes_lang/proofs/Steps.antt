@@ -37,7 +37,8 @@ module _ (names : Scope) where
   is_chains l three below =
       chains_by (l == 3) (l == 11) (nat_lt l 11) (is_false _ (λ e. three (grind arith))) (is_false _ (λ e. grind arith)) (grind arith)
 
-  by_level : (s : Sort) (l : ℕ) (ts : List Token) (r : Read) → sort l ≡ s → Settles (λ m. level_at names (work names m) (within names m) s l ts) r → Ends names (Level l) ts r
+  by_level : (s : Sort) (l : ℕ) (ts : List Token) (r : Read) → sort l ≡ s → Settles (λ m. level_at names (work names m) (within names m) s l ts) r →
+      Ends names (Level l) ts r
   by_level s l ts r is p = by_step names p.0 (Level l) ts r (λ m le. ap (λ s. level_at names (work names m) (within names m) s l ts) is ∙ p.1 m le)
 
   pub negation_level : (ts : List Token) (r : Read) → Settles (λ m. negated_at (work names m) ts) r → Ends names (Level 3) ts r
@@ -124,47 +125,58 @@ module _ (names : Scope) where
       IsEnclosed names (SignToken (codes "]")) (tokens_view behind) r → r ≡ None →
       Settles (λ m. word_at names (work names m) (within names m) (size_of w) b c w (tokens_view ts)) Fails
   load_none size b c w ts behind r is opens behind_is p none =
-      subst (λ r. Settles (λ m. word_at names (work names m) (within names m) (size_of w) b c w (tokens_view ts)) (read_as (λ e. Memory (bytes_of size) e) r)) none
+      subst (λ r. Settles (λ m. word_at names (work names m) (within names m) (size_of w) b c w (tokens_view ts)) (read_as (λ e. Memory (bytes_of size) e) r))
+      none
       (load_of size b c w ts r is opens (subst (λ us. IsEnclosed names (SignToken (codes "]")) (tokens_view us) r) behind_is p))
 
   pub load_some : (size : Size) (b c : Bool) (w : List ℕ) (ts behind : List code.Token) (r : Option Reading) (s : Reading) (x : Expr) →
       bytes_of size ≡ size_of w → true ≡ begins (SignToken (codes "[")) (tokens_view ts) →
       behind ≡ drop 1 ts → IsEnclosed names (SignToken (codes "]")) (tokens_view behind) r → r ≡ Some s → x ≡ expr_of s.expr →
-      Settles (λ m. word_at names (work names m) (within names m) (size_of w) b c w (tokens_view ts)) (Reads (Memory (bytes_of size) x) (tokens_view s.rest.now))
+      Settles (λ m. word_at names (work names m) (within names m) (size_of w) b c w (tokens_view ts))
+      (Reads (Memory (bytes_of size) x) (tokens_view s.rest.now))
   load_some size b c w ts behind r s x is opens behind_is p some x_is =
-      subst (λ x. Settles (λ m. word_at names (work names m) (within names m) (size_of w) b c w (tokens_view ts)) (Reads (Memory (bytes_of size) x) (tokens_view s.rest.now)))
+      subst (λ x. Settles (λ m. word_at names (work names m) (within names m) (size_of w) b c w (tokens_view ts))
+      (Reads (Memory (bytes_of size) x) (tokens_view s.rest.now)))
       (sym x_is)
-      (subst (λ r. Settles (λ m. word_at names (work names m) (within names m) (size_of w) b c w (tokens_view ts)) (read_as (λ e. Memory (bytes_of size) e) r)) some
+      (subst (λ r. Settles (λ m. word_at names (work names m) (within names m) (size_of w) b c w (tokens_view ts)) (read_as (λ e. Memory (bytes_of size) e) r))
+      some
       (load_of size b c w ts r is opens (subst (λ us. IsEnclosed names (SignToken (codes "]")) (tokens_view us) r) behind_is p)))
 
   old_of : (w : List ℕ) (ts behind : List code.Token) (r : Option Reading) → 0 ≡ size_of w → true ≡ bytes_eq w (codes "old") →
       true ≡ begins (SignToken (codes "(")) (tokens_view ts) → behind ≡ drop 1 ts →
       IsEnclosed names (SignToken (codes ")")) (tokens_view behind) r →
-      Settles (λ m. word_at names (work names m) (within names m) (size_of w) (bytes_eq w (codes "old")) (is_all_word names.is_second w) w (tokens_view ts)) (read_as (λ e. Old e) r)
+      Settles (λ m. word_at names (work names m) (within names m) (size_of w) (bytes_eq w (codes "old")) (is_all_word names.is_second w) w (tokens_view ts))
+      (read_as (λ e. Old e) r)
   old_of w ts behind r size old opens behind_is p =
       let q = bracket_reads (SignToken (codes "(")) (SignToken (codes ")"))
       (λ e. Old e) ts r opens (subst (λ us. IsEnclosed names (SignToken (codes ")")) (tokens_view us) r) behind_is p) in (
         q.0,
-        λ m le. ap (λ n. word_at names (work names m) (within names m) n (bytes_eq w (codes "old")) (is_all_word names.is_second w) w (tokens_view ts)) (sym size) ∙ (ap
+        λ m le. ap (λ n. word_at names (work names m) (within names m) n (bytes_eq w (codes "old")) (is_all_word names.is_second w) w (tokens_view ts))
+            (sym size) ∙ (ap
             (λ b. word_at names (work names m) (within names m) 0 b (is_all_word names.is_second w) w (tokens_view ts)) (sym old) ∙ q.1 m le),
       )
 
   pub old_none : (w : List ℕ) (ts behind : List code.Token) (r : Option Reading) → 0 ≡ size_of w → true ≡ bytes_eq w (codes "old") →
       true ≡ begins (SignToken (codes "(")) (tokens_view ts) → behind ≡ drop 1 ts →
       IsEnclosed names (SignToken (codes ")")) (tokens_view behind) r → r ≡ None →
-      Settles (λ m. word_at names (work names m) (within names m) (size_of w) (bytes_eq w (codes "old")) (is_all_word names.is_second w) w (tokens_view ts)) Fails
+      Settles (λ m. word_at names (work names m) (within names m) (size_of w) (bytes_eq w (codes "old")) (is_all_word names.is_second w) w (tokens_view ts))
+      Fails
   old_none w ts behind r size old opens behind_is p none =
-      subst (λ r. Settles (λ m. word_at names (work names m) (within names m) (size_of w) (bytes_eq w (codes "old")) (is_all_word names.is_second w) w (tokens_view ts)) (read_as (λ e. Old e) r)) none
+      subst (λ r. Settles (λ m. word_at names (work names m) (within names m) (size_of w) (bytes_eq w (codes "old")) (is_all_word names.is_second w) w
+      (tokens_view ts)) (read_as (λ e. Old e) r)) none
       (old_of w ts behind r size old opens behind_is p)
 
   pub old_some : (w : List ℕ) (ts behind : List code.Token) (r : Option Reading) (s : Reading) (x : Expr) → 0 ≡ size_of w → true ≡ bytes_eq w (codes "old") →
       true ≡ begins (SignToken (codes "(")) (tokens_view ts) →
       behind ≡ drop 1 ts → IsEnclosed names (SignToken (codes ")")) (tokens_view behind) r → r ≡ Some s → x ≡ expr_of s.expr →
-      Settles (λ m. word_at names (work names m) (within names m) (size_of w) (bytes_eq w (codes "old")) (is_all_word names.is_second w) w (tokens_view ts)) (Reads (Old x) (tokens_view s.rest.now))
+      Settles (λ m. word_at names (work names m) (within names m) (size_of w) (bytes_eq w (codes "old")) (is_all_word names.is_second w) w (tokens_view ts))
+      (Reads (Old x) (tokens_view s.rest.now))
   old_some w ts behind r s x size old opens behind_is p some x_is =
-      subst (λ x. Settles (λ m. word_at names (work names m) (within names m) (size_of w) (bytes_eq w (codes "old")) (is_all_word names.is_second w) w (tokens_view ts))
+      subst (λ x. Settles (λ m. word_at names (work names m) (within names m) (size_of w) (bytes_eq w (codes "old")) (is_all_word names.is_second w) w
+      (tokens_view ts))
       (Reads (Old x) (tokens_view s.rest.now))) (sym x_is)
-      (subst (λ r. Settles (λ m. word_at names (work names m) (within names m) (size_of w) (bytes_eq w (codes "old")) (is_all_word names.is_second w) w (tokens_view ts)) (read_as (λ e. Old e) r)) some
+      (subst (λ r. Settles (λ m. word_at names (work names m) (within names m) (size_of w) (bytes_eq w (codes "old")) (is_all_word names.is_second w) w
+      (tokens_view ts)) (read_as (λ e. Old e) r)) some
       (old_of w ts behind r size old opens behind_is p))
 
   -- a word that begins an `all`
@@ -215,7 +227,8 @@ module _ (names : Scope) where
 
   -- what stands alone or in brackets
   pub name_atom : (first : code.Token) (ts rest : List code.Token) (w : List ℕ) (r : Read) → ts ≡ first ∷ rest → token_of first ≡ NameToken w →
-      Settles (λ m. word_at names (work names m) (within names m) (size_of w) (bytes_eq w (codes "old")) (is_all_word names.is_second w) w (tokens_view rest)) r →
+      Settles (λ m. word_at names (work names m) (within names m) (size_of w) (bytes_eq w (codes "old")) (is_all_word names.is_second w) w (tokens_view rest))
+      r →
       Settles (λ m. atom_at names (work names m) (within names m) (tokens_view ts)) r
   name_atom first ts rest w r is name p =
       let t_is : tokens_view ts ≡ NameToken w ∷ tokens_view rest = ap tokens_view is ∙ ap (λ t. t ∷ tokens_view rest) name in
@@ -274,26 +287,25 @@ module _ (names : Scope) where
       c.follows Fails (operand_fails l a op (tokens_view rest) (sym op_is) (subst
       (λ o. Ends names (Level (l + 1)) (drop 1 (tokens_view rest)) (read_of o)) none (operand l rest behind o is p)))
 
-  pub right_last : (l : ℕ) (ts rest behind : List code.Token) (a x y : Expr) (op : Op) (o : Option Reading) (r : Reading) → Chained names l ts a rest →
+  pub right_last : (l : ℕ) (ts rest behind : List code.Token) (a z : Expr) (op : Op) (o : Option Reading) (r : Reading) → Chained names l ts a rest →
       Some op ≡ operator_at l (tokens_view rest) → behind ≡ drop 1 rest →
-      o ≡ Some r → Ends names (Level (l + 1)) (tokens_view behind) (read_of o) → x ≡ a → y ≡ expr_of r.expr → l ≡ 4 →
-      Ends names (Level l) (tokens_view ts) (Reads (Binary op x y) (tokens_view r.rest.now))
-  right_last l ts rest behind a x y op o r c op_is is some p x_is y_is four =
+      o ≡ Some r → Ends names (Level (l + 1)) (tokens_view behind) (read_of o) → z ≡ Binary op a (expr_of r.expr) → l ≡ 4 →
+      Ends names (Level l) (tokens_view ts) (Reads z (tokens_view r.rest.now))
+  right_last l ts rest behind a z op o r c op_is is some p z_is four =
       let q = subst (λ o. Ends names (Level (l + 1)) (drop 1 (tokens_view rest)) (read_of o)) some (operand l rest behind o is p) in
       let whole = c.follows (Reads (Binary op a (expr_of r.expr)) (tokens_view r.rest.now))
       (operand_last l a (expr_of r.expr) op (tokens_view rest) (tokens_view r.rest.now) four (sym op_is) q) in
-      subst (λ x. Ends names (Level l) (tokens_view ts) (Reads (Binary op x y) (tokens_view r.rest.now))) (sym x_is)
-      (subst (λ y. Ends names (Level l) (tokens_view ts) (Reads (Binary op a y) (tokens_view r.rest.now))) (sym y_is) whole)
+      subst (λ z. Ends names (Level l) (tokens_view ts) (Reads z (tokens_view r.rest.now))) (sym z_is) whole
 
   drop_shorter : (ts : List code.Token) → length (drop 1 ts) ≤ length ts
   drop_shorter [] = omega arith
   drop_shorter (t ∷ ts) = omega arith
 
-  pub right_some : (l : ℕ) (ts rest behind : List code.Token) (a x y : Expr) (op : Op) (o : Option Reading) (r : Reading) → Chained names l ts a rest →
+  pub right_some : (l : ℕ) (ts rest behind : List code.Token) (a z : Expr) (op : Op) (o : Option Reading) (r : Reading) → Chained names l ts a rest →
       Some op ≡ operator_at l (tokens_view rest) → behind ≡ drop 1 rest →
-      o ≡ Some r → Ends names (Level (l + 1)) (tokens_view behind) (read_of o) → IsLeft behind o → x ≡ a → y ≡ expr_of r.expr → l ≢ 4 →
-      Chained names l ts (Binary op x y) r.rest.now
-  right_some l ts rest behind a x y op o r c op_is is some p left x_is y_is other =
+      o ≡ Some r → Ends names (Level (l + 1)) (tokens_view behind) (read_of o) → IsLeft behind o → z ≡ Binary op a (expr_of r.expr) → l ≢ 4 →
+      Chained names l ts z r.rest.now
+  right_some l ts rest behind a z op o r c op_is is some p left z_is other =
       let q = subst (λ o. Ends names (Level (l + 1)) (drop 1 (tokens_view rest)) (read_of o)) some (operand l rest behind o is p) in
       let s : IsLeft behind (Some r) = subst (IsLeft behind) some left in
       let n : length behind ≡ length (drop 1 rest) = ap length is in
@@ -303,7 +315,7 @@ module _ (names : Scope) where
         shorter = omega (arith, s.0, n, m, c.shorter);
         good = s.1;
       } in
-      subst (λ x. Chained names l ts (Binary op x y) r.rest.now) (sym x_is) (subst (λ y. Chained names l ts (Binary op a y) r.rest.now) (sym y_is) whole)
+      subst (λ z. Chained names l ts z r.rest.now) (sym z_is) whole
 
   pub chain_ends : (l : ℕ) (ts rest : List code.Token) (a : Expr) → Chained names l ts a rest → None ≡ operator_at l (tokens_view rest) →
       Ends names (Level l) (tokens_view ts) (Reads a (tokens_view rest))

@@ -138,7 +138,8 @@ IsLeast P f = P f × ((g : faults.NoteFault) → faults.note_fault_rank g < faul
 abbrev pub Free : (faults.NoteFault → Type 0) → ℕ → Type 0
 Free P k = (g : faults.NoteFault) → faults.note_fault_rank g < k → P g → ⊥
 
--- A line that says this has no fault of its own, but for that of a line in the notes of a pair; and none that counts before those that the lines before it tell.
+-- A line that says this has no fault of its own, but for that of a line in the notes of a pair; and none that counts before those that the lines before it
+-- tell.
 pub record IsSound (s : Scope) (n : ℕ) (text : List ℕ) (x : Says) : Type 0 where
   pub line : IsAlone s x → IsLine s text x
   pub said : IsSaid s (tokens_of text) x

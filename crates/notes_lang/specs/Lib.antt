@@ -5,6 +5,8 @@ pub mod Wording
 pub mod Saying
 pub mod Lines
 pub mod Judging
+pub mod Contracting
 pub mod Drafting
 pub mod Parsing
 pub mod Version
+pub mod Framed

@@ -1,15 +1,16 @@
 //! Notes as far as their lines were read.
-ghost use Rattle.std.specs.Prelude.{◌≡◌, ◌+◌, ◌++◌, ◌∷◌, ◌↔◌, [], List, length, OnOk, IsTrue};
+ghost use Rattle.std.specs.Prelude.{◌≡◌, ◌+◌, ◌++◌, ◌∷◌, ◌↔◌, [], List, None, length, OnOk, IsTrue, IfNone, IfSome};
 ghost use Rattle.notes_spec.specs.NotesGrammar as grammar;
 ghost use Rattle.notes_spec.specs.NotesFaults.{Repeats};
 ghost use Rattle.notes_lang.specs.Saying.{says_of};
 ghost use Rattle.notes_value.specs.Views.{expr_of};
-ghost use Rattle.notes_lang.specs.Drafting.{HasTargets, IsDraft};
+ghost use Rattle.notes_lang.specs.Drafting.{HasTargets, IsDraft, IsFinished};
 ghost use Rattle.notes_lang.specs.Judging.{IsLateFault};
 ghost use Rattle.notes_lang.specs.Scoping.{scope_of};
 
+use crate::contracts::join;
 use crate::faults::{FaultKind, is_alone};
-use crate::notes::{Assert, FixedRange, Function, NoteLine, Targets};
+use crate::notes::{Assert, Contract, FixedRange, FrameNotes, Function, NoteLine, Notes, Targets};
 use crate::sayings::Says;
 use crate::scopes::Scope;
 use notes_value::Expr;
@@ -25,6 +26,9 @@ pub(crate) struct Draft {
     pub(crate) asserts: Vec<Assert>,
     pub(crate) targets: Vec<Targets>,
     pub(crate) fixed: Vec<FixedRange>,
+    /// The numbers of the invariants.
+    pub(crate) invariants: Vec<u32>,
+    pub(crate) contracts: Vec<Contract>,
     /// The addresses of the targets.
     pub(crate) addresses: BTreeSet<u32>,
     /// Some line is an invariant, or an `assert` line with a value at entry.
@@ -80,6 +84,8 @@ impl Draft {
             asserts: Vec::new(alloc),
             targets: Vec::new(alloc),
             fixed: Vec::new(alloc),
+            invariants: Vec::new(alloc),
+            contracts: Vec::new(alloc),
             addresses: BTreeSet::new(alloc),
             is_of_entry: false,
             has_contract: false,
@@ -130,9 +136,9 @@ impl Draft {
     }
 
     /// Adds what one more line says, by its number. The error is want of memory.
-    pub(crate) fn add(&mut self, line: u32, says: Says) -> Result<(), AllocError>
-        ensures { OnOk result ((earlier : List grammar.Says) → line ≡ length earlier + 1 → (Repeats earlier (says_of says.entry) → ⊥) → IsDraft earlier self.old →
-            IsDraft (earlier ++ says_of says.entry ∷ []) self.new) }
+    pub(crate) fn add(&mut self, alloc: Global, line: u32, says: Says) -> Result<(), AllocError>
+        ensures { OnOk result ((earlier : List grammar.Says) → line ≡ length earlier + 1 → (Repeats earlier (says_of says.entry) → ⊥) →
+            IsDraft earlier self.old → IsDraft (earlier ++ says_of says.entry ∷ []) self.new) }
     {
         match says {
             Says::Nothing => {}
@@ -156,10 +162,47 @@ impl Draft {
             Says::Const(_, _) => {}
             Says::Invariant(at, says) => {
                 self.is_of_entry = true;
+                self.invariants.push(line)?;
                 self.asserts.push(Assert { line, at, says })?;
             }
-            Says::Contract(_, _line) => self.has_contract = true,
+            Says::Contract(at, told) => {
+                self.has_contract = true;
+                join(alloc, &mut self.contracts, line, at, told)?;
+            }
         }
         Ok(())
+    }
+
+    /// The notes of the lines that were read, or `None` where no line names the function.
+    pub(crate) fn finish(self) -> Option<FrameNotes>
+        ensures none { IfNone result (self.entry ≡ None) }
+        ensures some { IfSome result (λ notes. IsFinished self notes) }
+    {
+        let Draft {
+            entry,
+            required,
+            ensured,
+            asserts,
+            targets,
+            fixed,
+            invariants,
+            contracts,
+            ..
+        } = self;
+        let Some(entry) = entry else {
+            return None;
+        };
+        Some(FrameNotes {
+            notes: Notes {
+                entry,
+                required,
+                ensured,
+                asserts,
+                targets,
+                fixed,
+            },
+            invariants,
+            contracts,
+        })
     }
 }

@@ -65,8 +65,8 @@ pub enum FaultKind {
     /// A constant whose name is a register, a flag or reserved, or is declared already.
     #[error("N13 Const")]
     Const,
-    /// An `all` whose first number is above its last, that binds more than 64 numbers, that stands within another, or whose name is a register, a flag, reserved or
-    /// a constant.
+    /// An `all` whose first number is above its last, that binds more than 64 numbers, that stands within another, or whose name is a register, a flag,
+    /// reserved or a constant.
     #[error("N14 All")]
     All,
     /// A line of a contract beside an invariant or an `assert` line with a value at entry.
@@ -355,7 +355,8 @@ pub(crate) fn is_alone(scope: Scope, says: &Says) -> bool
     }
 }
 
-/// What a line says, or its least fault but for those that are told by lines before it or that it has in the notes of a pair alone; `number` counts lines from 1.
+/// What a line says, or its least fault but for those that are told by lines before it or that it has in the notes of a pair alone; `number` counts lines from
+/// 1.
 pub(crate) fn judge<'a>(
     alloc: Global,
     scope: Scope<'a, '_>,

@@ -1,6 +1,7 @@
 //! Notes: what a user promises of a function and asks of it, as text.
 #![tactic(auto)]
 
+mod contracts;
 mod drafts;
 mod faults;
 mod line_words;
@@ -14,7 +15,9 @@ mod texts;
 mod versions;
 
 pub use faults::FaultKind;
-pub use notes::{Assert, Dialect, FixedRange, Function, NoteLine, Notes, Targets};
-pub use notes_text::{NoteFault, NotesError, parse};
+pub use notes::{
+    Assert, Contract, Dialect, FixedRange, FrameNotes, Function, NoteLine, Notes, Targets, Writes,
+};
+pub use notes_text::{NoteFault, NotesError, parse, parse_notes};
 pub use notes_value::{Expr, Operator, Size, value};
 pub use versions::upgrade;

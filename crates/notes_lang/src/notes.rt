@@ -1,5 +1,7 @@
 //! Notes, and the dialects of their text.
-pub use notes_value::{Assert, FixedRange, Function, NoteLine, Notes, Targets};
+pub use notes_value::{
+    Assert, Contract, FixedRange, FrameNotes, Function, NoteLine, Notes, Targets, Writes,
+};
 
 /// Which lines of invariants and contracts a text may have.
 #[derive(Clone, Copy, PartialEq, Eq, Debug)]

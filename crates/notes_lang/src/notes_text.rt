@@ -3,10 +3,12 @@ ghost use Rattle.std.specs.Prelude.{◌≡◌, ◌&&◌, List, map, not, IfOk, I
 ghost use Rattle.notes_spec.specs.Scopes as scopes;
 ghost use Rattle.notes_spec.specs.NotesGrammar as grammar;
 ghost use Rattle.notes_spec.specs.NotesGrammar.{IsNotesText};
+ghost use Rattle.notes_spec.specs.FrameNotes.{IsFrameText};
 ghost use Rattle.notes_value.specs.Reads.{AreOver, AreReadable};
 ghost use Rattle.notes_lang.specs.Named.{vocabulary_of};
 ghost use Rattle.notes_lang.specs.Drafting.{IsDraft};
 ghost use Rattle.notes_value.specs.NoteViews.{notes_of};
+ghost use Rattle.notes_lang.specs.Framed.{frame_notes_of};
 ghost use Rattle.notes_lang.specs.Judging.{IsNext};
 ghost use Rattle.notes_lang.specs.Saying.{consts_after, is_something, says_of};
 ghost use Rattle.notes_lang.specs.Scoping.{constant_of, scope_of};
@@ -15,7 +17,7 @@ ghost use Rattle.notes_lang.specs.Parsing.{IsLinesRead, IsRefused, layout_flags,
 use crate::drafts::Draft;
 use crate::faults::{FaultKind, judge};
 use crate::names::{Names, Vocabulary};
-use crate::notes::{Dialect, Notes};
+use crate::notes::{Dialect, FrameNotes, Notes};
 use crate::sayings::Says;
 use crate::scopes::{Constant, Mode, Scope};
 use crate::texts::first_line;
@@ -140,16 +142,46 @@ fn read_lines(
         };
         declare(&mut consts, &says)?;
         is_first = still_first(is_first, &says);
-        draft.add(line, says)?;
+        draft.add(alloc, line, says)?;
         at = text.len() - behind.len();
         line += 1;
     }
     Ok(Ok((draft, line)))
 }
 
-/// The notes that a text says, for the machine of a layout, in a dialect. `Fault` tells the first line that is refused, with the first of its faults; where each line is good
-/// but none names the function, it is the line behind the last. A text whose first line that says something is `notes 2` is of version 2. What the expressions of the notes read, the machine has; their numbers have 32 bits.
+/// The notes that a text says, with its invariants and contracts, for the machine of a layout, in a dialect. `Fault` tells the first line that is refused, with
+/// the first of its faults; where each line is good but none names the function, it is the line behind the last. A text whose first line that says something is
+/// `notes 2` is of version 2. What the expressions of the notes read, the machine has; their numbers have 32 bits.
 pub fn parse(
+    alloc: Global,
+    bytes: &[u8],
+    layout: Layout,
+    dialect: Dialect,
+) -> Result<FrameNotes, NotesError>
+    ensures ok { IfOk result (λ n. IsNotesText (layout_vocabulary layout dialect) bytes.now (notes_of n.notes)) }
+    ensures framed { IfOk result (λ n. IsFrameText (layout_vocabulary layout dialect) bytes.now (frame_notes_of n)) }
+    ensures readable { IfOk result (λ n. AreReadable (layout_registers layout) (notes_of n.notes)) }
+    ensures over { IfOk result (λ n. AreOver (layout_registers layout) (layout_flags layout) (notes_of n.notes)) }
+    ensures err { IfErr result (λ error. IsRefused (layout_vocabulary layout dialect) bytes.now error) }
+{
+    let Ok(read) = read_lines(alloc, vocabulary(layout, dialect), bytes) else {
+        return Err(NotesError::Memory);
+    };
+    let (draft, line) = match read {
+        Ok(read) => read,
+        Err(fault) => return Err(NotesError::Fault(fault)),
+    };
+    match draft.finish() {
+        Some(notes) => Ok(notes),
+        None => Err(NotesError::Fault(NoteFault {
+            line,
+            kind: FaultKind::Entry,
+        })),
+    }
+}
+
+/// The notes that a text says, without invariants and contracts, of which a text in the dialects `Plain` and `Paired` has none; in all else as `parse`.
+pub fn parse_notes(
     alloc: Global,
     bytes: &[u8],
     layout: Layout,
@@ -160,34 +192,8 @@ pub fn parse(
     ensures over { IfOk result (λ notes. AreOver (layout_registers layout) (layout_flags layout) (notes_of notes)) }
     ensures err { IfErr result (λ error. IsRefused (layout_vocabulary layout dialect) bytes.now error) }
 {
-    let Ok(read) = read_lines(alloc, vocabulary(layout, dialect), bytes) else {
-        return Err(NotesError::Memory);
-    };
-    let (draft, line) = match read {
-        Ok(read) => read,
-        Err(fault) => return Err(NotesError::Fault(fault)),
-    };
-    let Draft {
-        entry,
-        required,
-        ensured,
-        asserts,
-        targets,
-        fixed,
-        ..
-    } = draft;
-    let Some(entry) = entry else {
-        return Err(NotesError::Fault(NoteFault {
-            line,
-            kind: FaultKind::Entry,
-        }));
-    };
-    Ok(Notes {
-        entry,
-        required,
-        ensured,
-        asserts,
-        targets,
-        fixed,
-    })
+    match parse(alloc, bytes, layout, dialect) {
+        Ok(read) => Ok(read.notes),
+        Err(error) => Err(error),
+    }
 }

@@ -6,7 +6,8 @@ ghost use Rattle.word_spec.specs.Tokens.{SignToken, NameToken};
 ghost use Rattle.notes_spec.proofs.NotesTables.{line_of, same_token, size_of};
 ghost use Rattle.notes_spec.proofs.NotesParser.{Ends, Level, all_at, atom_at, negated_at, of_level, word_at, work};
 ghost use Rattle.line_tokens.specs.Tokens.{token_of, sign_text};
-ghost use Rattle.notes_value.specs.Views.{op_of};
+ghost use Rattle.bilv_spec.specs.Notes as meaning;
+ghost use Rattle.notes_value.specs.Views.{expr_of, op_of};
 ghost use Rattle.notes_lang.specs.Reading.{AreGood, IsEnclosed, IsHead, IsLeft, IsRest, Settles, begins, is_all_word, operator_at, read_of, size_or_zero, tokens_view, within};
 ghost use Rattle.notes_lang.specs.Scoping.{scope_of};
 
@@ -197,6 +198,13 @@ fn all_head<'t, 'a>(scope: Scope<'a, '_>, tokens: &'t [Token<'a>]) -> Option<All
     }
 }
 
+/// Two expressions under an operator. The error is want of memory.
+fn binary(alloc: Global, op: Operator, left: Expr, right: Expr) -> Result<Expr, AllocError>
+    ensures { IfOk result (λ e. expr_of e ≡ meaning.Binary (op_of op) (expr_of left) (expr_of right)) }
+{
+    Ok(Expr::Binary(op, Box::new(alloc, left)?, Box::new(alloc, right)?))
+}
+
 /// An expression of a level, from the front of tokens.
 #[cycle(parser)]
 pub(crate) fn read<'t, 'a>(
@@ -273,7 +281,8 @@ fn chain<'t, 'a>(
         let Some(right) = read(alloc, scope, level + 1, behind)? else {
             return Ok(None);
         };
-        expr = Expr::Binary(op, Box::new(alloc, expr)?, Box::new(alloc, right.expr)?);
+        let joined = binary(alloc, op, expr, right.expr)?;
+        expr = joined;
         rest = right.rest;
         if level == 4 {
             return Ok(Some(Reading { expr, rest }));
@@ -290,7 +299,8 @@ fn atom<'t, 'a>(
     tokens: &'t [Token<'a>],
 ) -> Result<Option<Reading<'t, 'a>>, AllocError>
     requires { AreGood tokens.now }
-    ensures read { IfOk result (λ o. Settles (λ m. atom_at (scope_of scope.entry) (work (scope_of scope.entry) m) (within (scope_of scope.entry) m) (tokens_view tokens.now)) (read_of o)) }
+    ensures read { IfOk result (λ o. Settles (λ m. atom_at (scope_of scope.entry) (work (scope_of scope.entry) m) (within (scope_of scope.entry) m)
+        (tokens_view tokens.now)) (read_of o)) }
     ensures left { IfOk result (λ o. IsLeft tokens.now o) }
 {
     let Some((first, rest)) = tokens.split_first() else {
@@ -325,8 +335,8 @@ fn word_atom<'t, 'a>(
     tokens: &'t [Token<'a>],
 ) -> Result<Option<Reading<'t, 'a>>, AllocError>
     requires { AreGood tokens.now }
-    ensures read { IfOk result (λ o. Settles (λ m. word_at (scope_of scope.entry) (work (scope_of scope.entry) m) (within (scope_of scope.entry) m) (size_of word.now)
-        (bytes_eq word.now (codes "old")) (is_all_word scope.entry.is_second word.now) word.now (tokens_view tokens.now)) (read_of o)) }
+    ensures read { IfOk result (λ o. Settles (λ m. word_at (scope_of scope.entry) (work (scope_of scope.entry) m) (within (scope_of scope.entry) m)
+        (size_of word.now) (bytes_eq word.now (codes "old")) (is_all_word scope.entry.is_second word.now) word.now (tokens_view tokens.now)) (read_of o)) }
     ensures left { IfOk result (λ o. IsRest tokens.now o) }
 {
     if let Some(size) = load_size(word) {

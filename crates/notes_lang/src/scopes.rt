@@ -36,8 +36,8 @@ pub(crate) enum Changed {
     Flag(u8),
 }
 
-/// What words mean: the vocabulary of the machine, the constants so far, and the names that the `all`s around the place bind, the outermost first. The text is of
-/// version 2 or of version 1, and no line before this one says something, or one does.
+/// What words mean: the vocabulary of the machine, the constants so far, and the names that the `all`s around the place bind, the outermost first. The text is
+/// of version 2 or of version 1, and no line before this one says something, or one does.
 #[derive(Clone, Copy)]
 pub(crate) struct Scope<'a, 's> {
     pub(crate) words: Vocabulary,

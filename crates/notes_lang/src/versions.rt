@@ -1,5 +1,5 @@
 //! The version of notes, and the upgrade to version 2.
-ghost use Rattle.std.specs.Prelude.{◌≡◌, IfOk, List, IfNone, IfSome};
+ghost use Rattle.std.specs.Prelude.{◌≡◌, IfOk};
 ghost use Rattle.notes_spec.specs.NotesGrammar as grammar;
 ghost use Rattle.notes_spec.specs.Upgrades.{upgraded};
 ghost use Rattle.notes_lang.specs.Reading.{tokens_view};

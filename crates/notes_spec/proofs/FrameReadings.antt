@@ -130,7 +130,7 @@ passes test (x ∷ xs) = by (test x) refl (passes test xs) where
   by false is rest = rest
 
 -- numbers that differ
-abbrev Differ : List ℕ → Type 0
+abbrev pub Differ : List ℕ → Type 0
 Differ [] = Unit {0}
 Differ (x ∷ xs) = Each (λ y. not (y == x) ≡ true) xs × Differ xs
 
@@ -141,7 +141,7 @@ differ_filter test (x ∷ xs) h = by (test x) (differ_filter test xs h.1) where
   by true rest = (each_filter (λ y. not (y == x) ≡ true) test xs h.0, rest)
   by false rest = rest
 
-once_differ : (xs : List ℕ) → Differ (each_once xs)
+pub once_differ : (xs : List ℕ) → Differ (each_once xs)
 once_differ [] = tt
 once_differ (x ∷ xs) =
     let test : ℕ → Bool = λ b. not (b == x) in (passes test (each_once xs), differ_filter test (each_once xs) (once_differ xs))

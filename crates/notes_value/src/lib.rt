@@ -7,6 +7,8 @@ mod places;
 mod values;
 
 pub use expressions::{Expr, Operator, Size};
-pub use notes::{Assert, FixedRange, Function, NoteLine, Notes, Targets};
+pub use notes::{
+    Assert, Contract, FixedRange, FrameNotes, Function, NoteLine, Notes, Targets, Writes,
+};
 pub use places::{add_reads, add_span};
 pub use values::{order, value};

@@ -49,3 +49,32 @@ pub struct Notes {
     pub targets: Vec<Targets>,
     pub fixed: Vec<FixedRange>,
 }
+
+/// Bytes that a function may write: so many, 1 to 256, from the value of an expression on, with the number of the line, from 1 on.
+#[derive(Drop, Debug)]
+pub struct Writes {
+    pub line: u32,
+    pub says: Expr,
+    pub count: u32,
+}
+
+/// A contract of the function at an address: what it needs where it is called, what it gives where it comes back, the bytes that it may write, and the
+/// registers and flags that it may change. Lines are in their order. A register or a flag is in its set where the bit of its number is 1.
+#[derive(Drop, Debug)]
+pub struct Contract {
+    pub at: u32,
+    pub needs: Vec<NoteLine>,
+    pub gives: Vec<NoteLine>,
+    pub writes: Vec<Writes>,
+    pub registers: u32,
+    pub flags: u8,
+}
+
+/// Notes whose `assert` lines have the invariants among them, the numbers of the lines that are invariants, which rise, and the contracts in the order of their
+/// first lines, of which no two are of one address.
+#[derive(Drop, Debug)]
+pub struct FrameNotes {
+    pub notes: Notes,
+    pub invariants: Vec<u32>,
+    pub contracts: Vec<Contract>,
+}

@@ -22,7 +22,8 @@ next-requires c = refl
 pub returns-in-Err : goal.returns-in-Err
 returns-in-Err c =
     let s = scope_now (vocabulary_of c.args.words) c.deref.result.now c.deref-in-loop-at.result.now c.in_ok-is_second.is_second c.loop-at.is_first in
-    faulty (vocabulary_of c.args.words) c.args.text.now (take (length c.args.text.now - c.loop-at.at) (drop c.loop-at.at c.args.text.now)) c.first_line.result.0.now
+    faulty (vocabulary_of c.args.words) c.args.text.now (take (length c.args.text.now - c.loop-at.at) (drop c.loop-at.at c.args.text.now))
+    c.first_line.result.0.now
     c.first_line.result.1.now c.loop-at.line c.loop-at.draft s
     (so_far_at (vocabulary_of c.args.words) c.args.text.now c.loop-at.at c.loop-at.line c.loop-at.draft c.deref.result.now c.loop-at.consts.items
     c.deref-in-loop-at.result.now c.in_ok-is_second.is_second c.loop-at.is_first c.deref.ensures.value

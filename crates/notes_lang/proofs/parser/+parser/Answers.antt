@@ -35,18 +35,17 @@ chain-returns-in_default-2-clause-read t c =
 
 pub chain-returns-then-level-eq4-clause-read : goal.chain-returns-then-level-eq4-clause-read
 chain-returns-then-level-eq4-clause-read t c =
-    steps.right_last (scope_of c.args.scope) c.args.level c.args.tokens.now c.loop-op.rest.now c.in-Some-operator.behind.now (expr_of c.loop-op.expr) _ _
+    steps.right_last (scope_of c.args.scope) c.args.level c.args.tokens.now c.loop-op.rest.now c.in-Some-operator.behind.now (expr_of c.loop-op.expr) _
     (op_of c.in-Some-operator.op) c.in_ok-right.field-0 c.in-Some-2.right
     c.loop-op.invariant c.in-Some-operator.ensures.operator c.in-Some-operator.ensures.rest c.in-Some-2.is c.in_ok-right.ensures.read
-    (ap expr_of c.in_ok-new.ensures.ok) (ap expr_of c.in_ok-new-2.ensures.ok) c.if-level-eq4.true
+    c.in_ok-joined.ensures c.if-level-eq4.true
 
 pub chain-loop-op-preserved : goal.chain-loop-op-preserved
 chain-loop-op-preserved t c =
-    steps.right_some (scope_of c.args.scope) c.args.level c.args.tokens.now c.loop-op.rest.now c.in-Some-operator.behind.now (expr_of c.loop-op.expr) _ _
+    steps.right_some (scope_of c.args.scope) c.args.level c.args.tokens.now c.loop-op.rest.now c.in-Some-operator.behind.now (expr_of c.loop-op.expr) _
     (op_of c.in-Some-operator.op) c.in_ok-right.field-0 c.in-Some-2.right
     c.loop-op.invariant c.in-Some-operator.ensures.operator c.in-Some-operator.ensures.rest c.in-Some-2.is c.in_ok-right.ensures.read c.in_ok-right.ensures.left
-    (ap expr_of c.in_ok-new.ensures.ok) (ap expr_of c.in_ok-new-2.ensures.ok)
-    c.if-level-eq4.false
+    c.in_ok-joined.ensures c.if-level-eq4.false
 
 pub chain-returns-clause-read : goal.chain-returns-clause-read
 chain-returns-clause-read t c =

@@ -13,4 +13,5 @@ pub returns-in-None : goal.returns-in-None
 returns-in-None c =
     no_fixed (scope_of c.args.scope) (tokens_view c.args.rest.now) (λ low high us begins one.
     c.in-None.ensures high (subst (λ us. IsOne (scope_of c.args.scope) us high)
-    (same_rest (scope_of c.args.scope) (tokens_view c.args.rest.now) us (tokens_view c.in-Some.behind.now) low c.in-Some.low begins c.in-Some.ensures.tells) one))
+    (same_rest (scope_of c.args.scope) (tokens_view c.args.rest.now) us (tokens_view c.in-Some.behind.now) low c.in-Some.low begins c.in-Some.ensures.tells)
+    one))

@@ -14,7 +14,8 @@ returns-in_default-2 c =
     no_writes (scope_of c.args.scope) (tokens_view c.args.rest.now) (λ n us p begins counts.
     no_count_told (scope_of c.args.scope) (tokens_view c.in-Some.behind.now) c.in_ok-told.field-0 c.in_ok-told.ensures c.in_default-2.is p
     (subst (λ us. IsCounted (scope_of c.args.scope) us p)
-    (same_rest (scope_of c.args.scope) (tokens_view c.args.rest.now) us (tokens_view c.in-Some.behind.now) n c.in-Some.at begins c.in-Some.ensures.tells) counts))
+    (same_rest (scope_of c.args.scope) (tokens_view c.args.rest.now) us (tokens_view c.in-Some.behind.now) n c.in-Some.at begins c.in-Some.ensures.tells)
+    counts))
 
 pub returns : goal.returns
 returns c =
