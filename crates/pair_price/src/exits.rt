@@ -15,7 +15,7 @@ fn is_outward(edge: Edge) -> bool
 {
     match edge.aim {
         Aim::Outward => true,
-        Aim::OnTo(_) | Aim::OverLast => false,
+        Aim::OnTo(_) | Aim::IntoHead { .. } | Aim::OverLast => false,
     }
 }
 

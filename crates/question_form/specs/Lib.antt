@@ -1,3 +1,4 @@
 pub mod Forms
+pub mod FrameViews
 pub mod Questions
 pub mod Views

@@ -16,15 +16,16 @@ use Rattle.known_bytes.specs.Runs.{run_of}
 use Rattle.program_points.specs.Tables.{stack_at}
 use Rattle.std.specs.Global.{Vec}
 use Rattle.question_form.specs.declared.unrolled.Aim.{Aim}
-use Rattle.question_form.specs.declared.unrolled.Aim.TheVariants.{OnTo, Outward, OverLast}
+use Rattle.question_form.specs.declared.unrolled.Aim.TheVariants.{OnTo, IntoHead, Outward, OverLast}
 use Rattle.question_form.specs.declared.unrolled.Edge.{Edge}
 use Rattle.question_form.specs.declared.unrolled.Code.{Code}
 use Rattle.question_form.specs.declared.unrolled.Point.{Point}
 use Rattle.question_form.specs.declared.unrolled.Unrolled.{Unrolled}
 
--- where an edge leads
+-- where an edge leads; a program has no heads
 abbrev pub aim_of : Aim → WalkAim
 aim_of (OnTo i) = walk.OnTo i
+aim_of (IntoHead at asserts) = walk.OverLast
 aim_of Outward = walk.Outward
 aim_of OverLast = walk.OverLast
 

@@ -10,6 +10,8 @@ use start_value::Layout;
 pub enum Aim {
     /// On to the point of a place.
     OnTo(u32),
+    /// To a head, where the segment ends, and the head's part of the assert lines by address: from the first number up to the second, which is not in it.
+    IntoHead { at: u32, asserts: (usize, usize) },
     /// Out of the function.
     Outward,
     /// Over the last backward transfer that is counted.
@@ -50,17 +52,38 @@ pub struct Code {
     pub asserts: (usize, usize),
 }
 
-/// A point: how many backward transfers were made, its stack by number, and the place of its code. Its edges begin at a place and end where the next point's
-/// begin.
+/// What is done at a point.
+#[derive(Clone, Copy, PartialEq, Eq, Debug)]
+pub enum Deed {
+    /// What the row of its address does.
+    Row,
+    /// The entry's segment ends, since the entry is a head: the assert lines of the address are judged, and nothing is done.
+    Arrival,
+}
+
+/// A point: the number of the root of its segment, how many backward transfers were made, its stack by number, and the place of its code. Its edges begin at a
+/// place and end where the next point's begin.
 #[derive(Clone, Copy, PartialEq, Eq, Debug)]
 pub struct Point {
+    pub root: u32,
     pub turns: u32,
     pub code: u32,
     pub stack: usize,
+    pub deed: Deed,
     pub edges: usize,
 }
 
-/// An unrolled program: its points in an order in which every edge leads to a later one, the entry's first, with what is done at each and how it is left.
+/// Where a segment begins: the place of its first point, and the head with its stack, none at the entry.
+#[derive(Clone, Copy, PartialEq, Eq, Debug)]
+pub struct Root {
+    pub place: u32,
+    pub head: Option<program_points::Root>,
+    /// The part of the assert lines by address whose invariants are assumed there: the head's, and of no line at the entry.
+    pub asserts: (usize, usize),
+}
+
+/// An unrolled program, or an unrolled frame, which is cut at its heads: its points in an order in which every edge to a point leads to a later one of the same
+/// root, the entry's first, with what is done at each and how it is left.
 #[derive(Drop)]
 pub struct Unrolled<'a> {
     /// The form of states.
@@ -74,6 +97,8 @@ pub struct Unrolled<'a> {
     /// The address of the function.
     pub entry: u32,
     pub notes: &'a Notes,
+    /// The numbers of the lines that are invariants, rising.
+    pub invariants: &'a [u32],
     /// The address and the place of each assert line, by rising addresses, and of one address in their order.
     pub asserts: Vec<(u32, usize)>,
     /// The runs of kept addresses, rising, both ends included.
@@ -84,6 +109,8 @@ pub struct Unrolled<'a> {
     pub literals: Vec<u32>,
     /// Stack 0 is empty; stack i + 1 is frame i.
     pub frames: Vec<Frame>,
+    /// The entry's root is the first.
+    pub roots: Vec<Root>,
     pub codes: Vec<Code>,
     pub points: Vec<Point>,
     pub edges: Vec<Edge>,

@@ -23,7 +23,7 @@ use Rattle.walk_spec.specs.Unrolled as walk
 use Rattle.walk_spec.specs.Unrolled.{Along, UnrolledProgram, point_at}
 use Rattle.walk_spec.specs.Unrolling.{IsAim, IsEdge}
 use Rattle.question_form.specs.declared.unrolled.Aim.{Aim}
-use Rattle.question_form.specs.declared.unrolled.Aim.TheVariants.{OnTo, Outward, OverLast}
+use Rattle.question_form.specs.declared.unrolled.Aim.TheVariants.{OnTo, IntoHead, Outward, OverLast}
 use Rattle.question_form.specs.declared.unrolled.Edge.{Edge}
 use Rattle.question_form.specs.Views.{aim_of, edge_of}
 use Rattle.unroller.specs.Keys.{key_of, turns_of, address_of, stack_of, target_key, point_of, IsAimAt, AreKeys}
@@ -252,6 +252,7 @@ module _ (p : Program) (k : ℕ) (n : Node) (frames : List Frame) (numbers : BTr
         | inl l ↦ (let z = are.rise j i l within in let w = place in omega arith)
         | inr l ↦ (let same : j ≡ i = omega arith in let z : get_or keys j 0 ≡ own = ap (λ (m : ℕ). get_or keys m 0) same ∙ place in omega arith)
       ]
+  lead_aim e h (IntoHead at asserts) q = absurd q
   lead_aim e h Outward q = absurd q
   lead_aim e h OverLast q =
       elim (cases_lt k (if nat_le e.at n.at then turns_of own + 1 else turns_of own)) as

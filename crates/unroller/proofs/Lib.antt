@@ -23,3 +23,4 @@ pub mod Leads
 pub mod Listing
 pub mod Grouped
 pub mod Whole
+pub mod FrameFirst

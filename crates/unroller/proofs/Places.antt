@@ -1,16 +1,24 @@
 -- Points that are placed one by one.
-use Rattle.std.proofs.Common.{◌≡◌, inl, inr, refl, ap, sym, ◌∙◌, subst, arith, ℕ, zero, suc, ◌+◌, ◌-◌, ◌<◌, ◌≤◌, List, [], ◌∷◌, ◌++◌, length, get_or, take, drop}
-use Rattle.std.specs.Prelude.{Contains, slice_range}
+use Rattle.std.proofs.Common.{◌≡◌, inl, inr, refl, ap, sym, ◌∙◌, subst, arith, ℕ, zero, suc, ◌+◌, ◌-◌, ◌<◌, ◌≤◌, Bool, true, false, Option, List, [], ◌∷◌, ◌++◌, length, get_or, take, drop}
+use Rattle.std.specs.Prelude.{Contains, slice_range, ◌==◌, ◌&&◌, if◌then◌else◌}
+use Rattle.std.specs.List.{AllZip}
 use Rattle.std.proofs.Math.ListN.{length-append}
 use Rattle.std.proofs.lemmas.Bool.{cases_lt}
 use Rattle.graph_nodes.specs.declared.nodes.Node.{Node}
 use Rattle.graph_nodes.specs.declared.nodes.Graph.{Graph}
 use Rattle.program_points.specs.declared.values.Frame.{Frame}
 use Rattle.program_points.proofs.Lists.{take_whole, or_left, or_last, grown as push_length, longer}
+use Rattle.program_points.specs.declared.values.End.{End}
+use Rattle.program_points.specs.Tables.{frame_at, jumps_of}
+use Rattle.bilv_spec.proofs.PointsInGraph.{split_in}
+use Rattle.question_form.specs.declared.unrolled.Aim.{Aim}
+use Rattle.question_form.specs.declared.unrolled.Aim.TheVariants.{OnTo, IntoHead, Outward, OverLast}
+use Rattle.question_form.specs.declared.unrolled.Deed.TheVariants.{Row}
 use Rattle.question_form.specs.declared.unrolled.Edge.{Edge}
 use Rattle.question_form.specs.declared.unrolled.Point.{Point}
-use Rattle.unroller.specs.Keys.{address_of, stack_of, turns_of}
-use Rattle.unroller.specs.Led.{AreLed, HasLed, begins_at, IsPlacedAt, ArePlaced}
+use Rattle.question_form.specs.FrameViews.{is_headless}
+use Rattle.unroller.specs.Keys.{address_of, stack_of, turns_of, IsAimAt}
+use Rattle.unroller.specs.Led.{next_of, is_both, exit_edge, exits_by, IsLedTo, AreLed, HasLed, begins_at, IsPlacedAt, ArePlaced}
 
 take_left : {X : Type 0} (xs ys : List X) (n : ℕ) → n ≤ length xs → take n (xs ++ ys) ≡ take n xs
 take_left [] ys zero le = refl
@@ -59,6 +67,39 @@ drop_past [] (suc n) le = refl
 drop_past (x ∷ xs) zero le = absurd (omega arith)
 drop_past (x ∷ xs) (suc n) le = drop_past xs n (omega arith)
 
+aim_headless : (keys : List ℕ) (key : ℕ) (a : Aim) → IsAimAt keys key a → is_headless a
+aim_headless keys key (OnTo j) h = tt
+aim_headless keys key (IntoHead at asserts) h = absurd h
+aim_headless keys key Outward h = tt
+aim_headless keys key OverLast h = tt
+
+rest_headless : (keys : List ℕ) (next : Option End) (both : Bool) (xs : List ℕ) (ds : List Edge) → AllZip (IsLedTo keys next both) xs ds → (e : Edge) →
+    Contains ds e → is_headless e.aim
+rest_headless keys next both xs [] z e (i, l, q) = absurd (omega (arith, l))
+rest_headless keys next both [] (d ∷ ds) z e h = absurd z
+rest_headless keys next both (x ∷ xs) (d ∷ ds) z e (zero, l, q) =
+    subst (λ (b : Edge). is_headless b.aim) q (aim_headless keys x d.aim z.0.aim)
+rest_headless keys next both (x ∷ xs) (d ∷ ds) z e (suc i, l, q) = rest_headless keys next both xs ds z.1 e (i, omega (arith, l), q)
+
+exit_headless : (b : Bool) (e : Edge) → Contains (if b then exit_edge ∷ [] else []) e → is_headless e.aim
+exit_headless true e (zero, l, q) = subst (λ (b : Edge). is_headless b.aim) q tt
+exit_headless true e (suc i, l, q) = absurd (omega (arith, l))
+exit_headless false e (i, l, q) = absurd (omega (arith, l))
+
+led_headless : (narrow : Bool) (n : Node) (frames : List Frame) (keys : List ℕ) (own number : ℕ) (led : List Edge) →
+    AreLed narrow n frames keys own number led →
+    (e : Edge) → Contains led e → is_headless e.aim
+led_headless narrow n frames keys own number led are e h =
+    elim (split_in (exits_by n.returns (stack_of own)) are.rest e (subst (λ (l : List Edge). Contains l e) are.is h)) as (λ _. is_headless e.aim) [
+      | inl q ↦ exit_headless (n.returns && (stack_of own == 0)) e q
+      | inr q ↦ rest_headless keys (next_of n (stack_of own)) (is_both (jumps_of narrow n (frame_at frames (stack_of own)) (stack_of own) number)
+          (next_of n (stack_of own))) are.targets are.rest are.each e q
+    ]
+
+last_deed : (q x : Point) → q.deed ≡ Row → Contains (q ∷ []) x → x.deed ≡ Row
+last_deed q x h (zero, l, e) = subst (λ (z : Point). z.deed ≡ Row) e h
+last_deed q x h (suc i, l, e) = absurd (omega (arith, l))
+
 module _ (g : Graph) (frames : List Frame) (keys addresses called : List ℕ) where
   kept : (key number : ℕ) (q : Point) (bound new_bound : ℕ) (edges led grown : List Edge) → grown ≡ edges ++ led → new_bound ≡ bound →
       IsPlacedAt g frames keys addresses key number q bound edges
@@ -83,16 +124,24 @@ module _ (g : Graph) (frames : List Frame) (keys addresses called : List ℕ) wh
         );
       })
 
-  pub placed_none : (points : List Point) (edges : List Edge) → points ≡ [] → ArePlaced g frames keys addresses called 0 points edges
-  placed_none points edges e = record { count = ap length e; each = λ i d w. absurd (omega arith) }
+  pub placed_none : (points : List Point) (edges : List Edge) → points ≡ [] → edges ≡ [] → ArePlaced g frames keys addresses called 0 points edges
+  placed_none points edges e f = record {
+    count = ap length e;
+    each = λ i d w. absurd (omega arith);
+    deeds = λ q h. nothing q (subst (λ (l : List Point). Contains l q) e h);
+    headless = λ d h. nothing d (subst (λ (l : List Edge). Contains l d) f h);
+  }
+    where
+      nothing : {A P : Type 0} (x : A) → Contains [] x → P
+      nothing x (i, l, q) = absurd (omega (arith, l))
 
   pub placed_more : (i : ℕ) (points more : List Point) (edges grown : List Edge) (q : Point) (n : Node) →
       ArePlaced g frames keys addresses called i points edges → more ≡ points ++ q ∷ [] →
-      q.turns ≡ turns_of (get_or keys i 0) → q.stack ≡ stack_of (get_or keys i 0) → q.code < length addresses →
+      q.deed ≡ Row → q.turns ≡ turns_of (get_or keys i 0) → q.stack ≡ stack_of (get_or keys i 0) → q.code < length addresses →
       get_or addresses q.code 0 ≡ address_of (get_or keys i 0) → q.edges ≡ length edges →
       Contains g.nodes.items n → n.at ≡ address_of (get_or keys i 0) → HasLed g.narrow n frames keys (get_or keys i 0) (get_or called i 0) edges grown →
       ArePlaced g frames keys addresses called (i + 1) more grown
-  placed_more i points more edges grown q n are is turns stack coded code begin among at led =
+  placed_more i points more edges grown q n are is row turns stack coded code begin among at led =
       let count = are.count in
       let long = longer edges led.0 grown led.1 in
       record {
@@ -133,4 +182,12 @@ module _ (g : Graph) (frames : List Frame) (keys addresses called : List ℕ) wh
                     led = (n, among, at, subst (λ (l : List Edge). AreLed g.narrow n frames keys (get_or keys i 0) (get_or called i 0) l) (sym slice) led.2);
                   })))
             ];
+        deeds = λ x h. elim (split_in points (q ∷ []) x (subst (λ (l : List Point). Contains l x) is h)) as (λ _. x.deed ≡ Row) [
+          | inl z ↦ are.deeds x z
+          | inr z ↦ last_deed q x row z
+        ];
+        headless = λ e h. elim (split_in edges led.0 e (subst (λ (l : List Edge). Contains l e) led.1 h)) as (λ _. is_headless e.aim) [
+          | inl z ↦ are.headless e z
+          | inr z ↦ led_headless g.narrow n frames keys (get_or keys i 0) (get_or called i 0) led.0 led.2 e z
+        ];
       }

@@ -28,6 +28,7 @@ use Rattle.start_value.specs.Starts.{layout_of}
 use Rattle.walk_spec.specs.Unrolled.{PointExit, FalseAssert, no_point, UnrolledPoint, point_at, is_register_of, is_flag_of}
 use Rattle.walk_spec.specs.Unrolling.{IsPlace, IsLiteralOf, assert_exits}
 use Rattle.question_form.specs.declared.unrolled.Code.{Code}
+use Rattle.question_form.specs.declared.unrolled.Deed.TheVariants as deeds
 use Rattle.question_form.specs.declared.unrolled.Edge.{Edge}
 use Rattle.question_form.specs.declared.unrolled.Point.{Point}
 use Rattle.question_form.specs.declared.unrolled.Unrolled.{Unrolled}
@@ -76,7 +77,7 @@ module _ (p : Program) (k : ℕ) (bank : Bank) (g : Graph) (u : Unrolled) (numbe
     (index : (at : ℕ) → filter (λ x. x.0 == at) u.asserts.items
     ≡ filter (λ x. x.0 == at) (numbered_from 0 (assert_places u.notes.now.asserts.items))) (noted : p.notes ≡ notes_of u.notes.now) where
   abbrev none : Point
-  none = record { turns = 0; code = 0; stack = 0; edges = 0 }
+  none = record { root = 0; turns = 0; code = 0; stack = 0; deed = deeds.Row; edges = 0 }
 
   abbrev own : ℕ → Point
   own i = get_or u.points.items i none

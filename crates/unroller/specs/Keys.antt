@@ -8,7 +8,7 @@ use Rattle.program_points.specs.declared.values.Point.{Point}
 use Rattle.program_points.specs.declared.values.End.{End}
 use Rattle.program_points.specs.Tables.{stack_at}
 use Rattle.question_form.specs.declared.unrolled.Aim.{Aim}
-use Rattle.question_form.specs.declared.unrolled.Aim.TheVariants.{OnTo, Outward, OverLast}
+use Rattle.question_form.specs.declared.unrolled.Aim.TheVariants.{OnTo, IntoHead, Outward, OverLast}
 
 -- the number of a point: by its backward transfers, then by its address, then by the number of its stack
 abbrev pub key_of : (turns at stack : ℕ) → ℕ
@@ -39,6 +39,7 @@ point_of frames key = record { turns = turns_of key; stack = stack_at frames (st
 -- where an edge to the point of a number leads, by the numbers of all points: on to its place, or over the last backward transfer where it is none of them
 abbrev pub IsAimAt : List ℕ → ℕ → Aim → Type 0
 IsAimAt keys key (OnTo j) = (j < length keys) × (slice_index keys j ≡ key)
+IsAimAt keys key (IntoHead at asserts) = ⊥
 IsAimAt keys key Outward = ⊥
 IsAimAt keys key OverLast = ¬ Contains keys key
 

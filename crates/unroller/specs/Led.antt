@@ -10,9 +10,11 @@ use Rattle.graph_nodes.specs.declared.nodes.Letter.TheVariants.{Call}
 use Rattle.program_points.specs.declared.values.Frame.{Frame}
 use Rattle.program_points.specs.declared.values.End.{End}
 use Rattle.program_points.specs.Tables.{end, frame, frame_at, is_next, jumps_of, listed}
+use Rattle.question_form.specs.declared.unrolled.Deed.TheVariants.{Row}
 use Rattle.question_form.specs.declared.unrolled.Edge.{Edge}
 use Rattle.question_form.specs.declared.unrolled.Point.{Point}
 use Rattle.question_form.specs.declared.unrolled.Aim.TheVariants.{Outward}
+use Rattle.question_form.specs.FrameViews.{is_headless}
 use Rattle.unroller.specs.Keys.{address_of, stack_of, turns_of, target_key, IsAimAt}
 
 -- one of the successors is the next address
@@ -112,3 +114,5 @@ pub record ArePlaced (g : Graph) (frames : List Frame) (keys addresses called : 
   pub count : length points ≡ n
   pub each : (i : ℕ) (d : Point) → i < n →
       IsPlacedAt g frames keys addresses (slice_index keys i) (slice_index called i) (slice_index_or points i d) (begins_at edges (drop (i + 1) points)) edges
+  pub deeds : (q : Point) → Contains points q → q.deed ≡ Row
+  pub headless : (e : Edge) → Contains edges e → is_headless e.aim

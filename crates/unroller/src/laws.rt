@@ -1,6 +1,7 @@
 //! Laws of lifted lists, of places and of edges.
 ghost use Rattle.unroller.specs.Edges.{EndsMakeEdges, ExitsAreReturns};
 ghost use Rattle.unroller.specs.FirstPoint.{EntryComesFirst};
+ghost use Rattle.unroller.specs.FrameFirst.{PointsAreOfSegments};
 ghost use Rattle.unroller.specs.Kept.{KeptRunsAreRight};
 ghost use Rattle.unroller.specs.Lookups.{FormsAreRight, PointsAreAt};
 ghost use Rattle.unroller.specs.Places.{PlacesAreRight};
@@ -44,4 +45,9 @@ pub fn kept_runs_are_right()
 /// By backward transfers and address the entry's point is the first.
 pub fn entry_comes_first()
     ensures { EntryComesFirst }
+{}
+
+/// The points of a frame that steps over no contract, within their segments.
+pub fn points_are_of_segments()
+    ensures { PointsAreOfSegments }
 {}

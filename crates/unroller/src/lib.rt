@@ -15,7 +15,7 @@ mod unrolling;
 pub use codes::{code_at, codes_at, literals_at};
 pub use laws::{
     ends_make_edges, entry_comes_first, exits_are_returns, forms_are_right, kept_runs_are_right,
-    lists_do_rows, places_are_right, points_are_at,
+    lists_do_rows, places_are_right, points_are_at, points_are_of_segments,
 };
 pub use prices::{price, price_with};
 pub use unrolling::{unroll, unroll_asking};

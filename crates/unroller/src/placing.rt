@@ -1,10 +1,11 @@
 //! The points in the order of places, with their edges.
-ghost use Rattle.std.specs.Prelude.{◌≡◌, ◌≤◌, ◌<◌, ◌++◌, ℕ, List, IfOk, Contains, length, slice_index};
+ghost use Rattle.std.specs.Prelude.{[], ◌∷◌, ◌≡◌, ◌≤◌, ◌<◌, ◌++◌, ℕ, List, IfOk, Contains, length, slice_index};
 ghost use Rattle.std.specs.List.Sorted.{IsStrictlyIncreasing};
 ghost use Rattle.graph_nodes.specs.Graphs.{addresses_of};
 ghost use Rattle.graph_nodes.specs.Places.{AreRising};
 ghost use Rattle.program_points.specs.declared.values.Frame.{Frame as StackFrame};
 ghost use Rattle.program_points.specs.Tables.{IsTable};
+ghost use Rattle.question_form.specs.FrameViews.{no_root};
 ghost use Rattle.unroller.specs.Keys as numbers;
 ghost use Rattle.unroller.specs.Led.{AreCalled, ArePlaced};
 
@@ -12,12 +13,13 @@ use crate::edges::add_edges;
 use crate::keys::{address_of, address_place, stack_of, turns_of};
 use graph_nodes::{Graph, node_at};
 use program_points::{Frame, Stacks, called};
-use question_form::{Edge, Point};
+use question_form::{Deed, Edge, Point, Root};
 use std::alloc::{AllocError, Global};
 
-/// Points, and their edges.
+/// Roots, points, and their edges.
 #[derive(Drop)]
 pub struct Placed {
+    pub roots: Vec<Root>,
     pub points: Vec<Point>,
     pub edges: Vec<Edge>,
 }
@@ -49,6 +51,19 @@ pub fn calls(
     Ok(found)
 }
 
+/// The root of the entry alone. The error is want of memory.
+fn entry_root(alloc: Global) -> Result<Vec<Root>, AllocError>
+    ensures { IfOk result (λ v. v.items ≡ no_root ∷ []) }
+{
+    let mut roots = Vec::with_capacity(alloc, 1)?;
+    roots.push(Root {
+        place: 0,
+        head: None,
+        asserts: (0, 0),
+    })?;
+    Ok(roots)
+}
+
 /// The points of numbers, each with the place of its address and its edges. The error is want of memory.
 pub fn points_of(
     alloc: Global,
@@ -67,7 +82,8 @@ pub fn points_of(
     requires addresses { IsStrictlyIncreasing addresses.now }
     requires short { length addresses.now ≤ 16777216 }
     requires called { length called.now ≡ length keys.now }
-    ensures { IfOk result (λ v. ArePlaced graph.now frames.now keys.now addresses.now called.now (length keys.now) v.points.items v.edges.items) }
+    ensures roots { IfOk result (λ v. v.roots.items ≡ no_root ∷ []) }
+    ensures placed { IfOk result (λ v. ArePlaced graph.now frames.now keys.now addresses.now called.now (length keys.now) v.points.items v.edges.items) }
 {
     let mut points: Vec<Point> = Vec::with_capacity(alloc, keys.len())?;
     let mut edges: Vec<Edge> = Vec::new(alloc);
@@ -94,11 +110,18 @@ pub fn points_of(
             called[place],
         )?;
         points.push(Point {
+            root: 0,
             turns: turns_of(key),
             code: code as u32,
             stack: stack_of(key),
+            deed: Deed::Row,
             edges: begin,
         })?;
     }
-    Ok(Placed { points, edges })
+    let roots = entry_root(alloc)?;
+    Ok(Placed {
+        roots,
+        points,
+        edges,
+    })
 }

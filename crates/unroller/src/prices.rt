@@ -54,7 +54,7 @@ fn leads_out(edge: Edge) -> bool
 {
     match edge.aim {
         Aim::Outward => true,
-        Aim::OnTo(_) | Aim::OverLast => false,
+        Aim::OnTo(_) | Aim::IntoHead { .. } | Aim::OverLast => false,
     }
 }
 

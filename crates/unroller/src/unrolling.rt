@@ -1,11 +1,12 @@
 //! The unrolled program of a program.
-ghost use Rattle.std.specs.Prelude.{◌≡◌, ◌≤◌, ◌<◌, ◌^◌, ℕ, Bool, None, IfOk, IfErr, length, slice_index_or};
+ghost use Rattle.std.specs.Prelude.{◌≡◌, ◌≤◌, ◌<◌, ◌^◌, ℕ, Bool, [], None, IfOk, IfErr, length, slice_index_or};
 ghost use Rattle.bilv_spec.specs.Elf.{IsKeptRuns};
 ghost use Rattle.bilv_spec.specs.Files.{order_of, program_of};
 ghost use Rattle.graph_nodes.specs.Graphs.{IsFlagSet, IsGraph};
 ghost use Rattle.notes_value.specs.NoteViews.{notes_of};
 ghost use Rattle.program_points.specs.Listed.{IsTooMany};
 ghost use Rattle.question_form.specs.Forms.{IsFormed};
+ghost use Rattle.question_form.specs.FrameViews.{IsHeadless};
 ghost use Rattle.question_form.specs.Views.{unrolled_of};
 ghost use Rattle.unroller.specs.Asking.{program_asking};
 ghost use Rattle.unroller.specs.Lookups.{HasForm};
@@ -42,6 +43,13 @@ fn kept<'a>(image: &'a Image<'a>) -> &'a [(u32, u32)]
     runs
 }
 
+/// The numbers of the invariants of notes that have none.
+fn no_invariants<'a>() -> &'a [u32]
+    ensures { result.now ≡ [] }
+{
+    &[]
+}
+
 /// The unrolled program, as `unroll` makes it, of a function that is asked for flags at the exit besides those of its notes: the set `out`, N 8, Z 4, C 2 and
 /// V 1. What is asked for is read at the exit, so that its assignments stay.
 ///
@@ -76,6 +84,7 @@ pub fn unroll_asking<'a, M: Machine>(
     ensures layout { IfOk result (λ u. layout_of u.form ≡ M.form) }
     ensures runs { IfOk result (λ u. AreRuns u.known.items) }
     ensures beyond { (x : ℕ) → 2 ^ 32 ≤ x → IfOk result (λ u. byte_of_runs (unrolled_of u).known x ≡ None) }
+    ensures headless { IfOk result (λ u. IsHeadless u) }
     ensures more { (asked : ℕ → Bool) → IsFlagSet out asked →
         IfErr result (IsTooMany (program_asking M.machine image.now (notes_of notes.now) entry asked) k max) }
 {
@@ -98,11 +107,13 @@ pub fn unroll_asking<'a, M: Machine>(
         link: M::link(),
         entry,
         notes,
+        invariants: no_invariants(),
         asserts: index.asserts,
         kept: kept(image),
         known: known.runs,
         literals,
         frames: stacks.frames,
+        roots: placed.roots,
         codes,
         points: placed.points,
         edges: placed.edges,
@@ -141,6 +152,7 @@ pub fn unroll<'a, M: Machine>(
     ensures layout { IfOk result (λ u. layout_of u.form ≡ M.form) }
     ensures runs { IfOk result (λ u. AreRuns u.known.items) }
     ensures beyond { (x : ℕ) → 2 ^ 32 ≤ x → IfOk result (λ u. byte_of_runs (unrolled_of u).known x ≡ None) }
+    ensures headless { IfOk result (λ u. IsHeadless u) }
     ensures more { IfErr result (IsTooMany (program_of M.machine image.now (notes_of notes.now) entry) k max) }
 {
     let unrolled = unroll_asking::<M>(alloc, graph, image, notes, entry, 0, k, max)?;

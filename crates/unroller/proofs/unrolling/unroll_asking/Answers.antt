@@ -180,11 +180,13 @@ module _ (g : given.Over) (c : goal.After-drop-live-2 g) where
     link = c.link.result;
     entry = c.args.entry;
     notes = c.args.notes;
+    invariants = c.no_invariants.result;
     asserts = c.in_ok-index.index.asserts;
     kept = c.kept.result;
     known = c.in_ok-known.known.runs;
     literals = c.in_ok-literals.literals;
     frames = c.calls.new.stacks.frames;
+    roots = c.in_ok-placed.placed.roots;
     codes = c.in_ok-codes.codes;
     points = c.in_ok-placed.placed.points;
     edges = c.in_ok-placed.placed.edges;
@@ -244,7 +246,7 @@ module _ (g : given.Over) (c : goal.After-drop-live-2 g) (asked : ℕ → Bool) 
       (length c.deref-8.result.now) (made g c).points.items (made g c).edges.items) c.deref-10.ensures.value
       (subst (λ (l : List Frame). ArePlaced c.in_ok-live.live l c.deref-8.result.now c.deref-9.result.now c.deref-10.result.now
       (length c.deref-8.result.now) (made g c).points.items (made g c).edges.items) c.deref-7.ensures.value
-      c.in_ok-placed.ensures)))
+      c.in_ok-placed.ensures.placed)))
 
   lists_are : HasListsOf program g.M.Machine.bank (unrolled_of (made g c))
   lists_are =
@@ -354,6 +356,11 @@ returns-clause-addresses g c = words_are g c (λ f. has_flag c.args.out f) (own_
 
 pub returns-clause-layout : goal.returns-clause-layout
 returns-clause-layout g c = c.layout.ensures
+
+pub returns-clause-headless : goal.returns-clause-headless
+returns-clause-headless g c =
+    let are = placed g c (λ f. has_flag c.args.out f) (own_flags c.args.out c.requires.out) in
+    record { invariants = c.no_invariants.ensures; roots = c.in_ok-placed.ensures.roots; deeds = are.deeds; edges = are.headless }
 
 pub returns-clause-runs : goal.returns-clause-runs
 returns-clause-runs g c = c.in_ok-known.ensures.rising

@@ -1,0 +1,44 @@
+-- The points of a frame that steps over no contract, within their segments.
+use Rattle.std.proofs.Common.{◌≡◌, ⊎_elim, inl, inr, refl, ap, sym, ◌∙◌, subst, arith, ℕ, ◌+◌, ◌<◌, ◌≤◌, Bool, true, false, List, []}
+use Rattle.std.specs.Prelude.{◌⊎◌, ◌&&◌, nat_le, nat_lt, is_some, length, Contains, if◌then◌else◌}
+use Rattle.std.proofs.lemmas.Bool.Decides.{nat_tests}
+use Rattle.bilv_spec.specs.Points.{ToAddress, file_row}
+use Rattle.frame_spec.specs.Frames.{Frame, is_head, contract_at}
+use Rattle.frame_spec.specs.FrameRuns.{links_by}
+use Rattle.frame_spec.specs.FramePoints.{AtHead, Point, IsPoint, first, entry_head, next, first_of, point_to, is_contract_end, end_of, frame_edges}
+use Rattle.unroller.specs.FrameFirst.{IsOfSegment, PointsAreOfSegments}
+
+rises : (b : Bool) (turns at a : ℕ) → nat_le a at ≡ b → (if b then turns + 1 else turns) ≡ 0 → (turns ≡ 0) × (at < a)
+rises true turns at a e h = absurd (omega arith)
+rises false turns at a e h = (h, grind (arith, nat_tests))
+
+on_from : (entry : ℕ) (q : Point) (a : ℕ) → q.at < a → ((first_of entry q.anchor).at < q.at) ⊎ (q ≡ first_of entry q.anchor) → (first_of entry q.anchor).at < a
+on_from entry q a up h =
+    ⊎_elim (λ l. omega (arith, l, up)) (λ e. let s : q.at ≡ (first_of entry q.anchor).at = ap (λ (z : Point). z.at) e in omega (arith, s, up)) h
+
+module _ (f : Frame) (k : ℕ) (none : f.stepped ≡ []) where
+  no_step : (q : Point) (stack : List ℕ) (a : ℕ) → is_contract_end f q stack a ≡ false
+  no_step q stack a =
+      ap (λ l. is_some (contract_at l a) && nat_lt (length q.stack) (length stack) && links_by (file_row f.program q.at)) none
+
+  after : (q : Point) (stack : List ℕ) (a : ℕ) → IsOfSegment f k q → (b : Bool) → is_head f a ≡ b →
+      IsPoint f k (if b then first_of f.program.entry (AtHead stack a) else point_to (is_contract_end f q stack a) q stack a) →
+      (if b then first_of f.program.entry (AtHead stack a) else point_to (is_contract_end f q stack a) q stack a).turns ≤ k →
+      IsOfSegment f k (if b then first_of f.program.entry (AtHead stack a) else point_to (is_contract_end f q stack a) q stack a)
+  after q stack a of true e is low = record { contract = refl; few = low; anchor = is; up = λ h. inr refl; head = λ h. refl }
+  after q stack a of false e is low = record {
+    contract = no_step q stack a;
+    few = low;
+    anchor = of.anchor;
+    up = λ h. (let r = rises (nat_le a q.at) q.turns q.at a refl h in inl (on_from f.program.entry q a r.1 (of.up r.0)));
+    head = λ h. absurd (let c : false ≡ true = sym e ∙ h in cc);
+  }
+
+  pub of_segment : (q : Point) → IsPoint f k q → IsOfSegment f k q
+  of_segment q first = record { contract = refl; few = omega arith; anchor = first; up = λ h. inr refl; head = λ h. refl }
+  of_segment q (entry_head h) = record { contract = refl; few = omega arith; anchor = entry_head h; up = λ t. inr refl; head = λ t. refl }
+  of_segment q (next {q = from} {stack = stack} {a = a} is edge low) =
+      after from stack a (of_segment from is) (is_head f a) refl (next {q = from} {stack = stack} {a = a} is edge low) low
+
+pub points_are_of_segments : PointsAreOfSegments
+points_are_of_segments f k q none is = of_segment f k none q is
