@@ -39,7 +39,7 @@ implies_from w a b f = by (w == 1) refl
 -- what the words of cells and the bytes of reads are under a valuation
 pub record AreMeant (c : Cells) (p : InputPlaces) (bits : List Bit) (ws : List (Vec Bit)) (v : ℕ → Bool) (x : TermReading) : Type 0 where
   pub words : (t : ℕ) → t < length c.nodes → (value_at (values_of v ws) t).word ≡ term_word x c.nodes t
-  pub bytes : (j : ℕ) → j < p.reads → byte_at p bits v j ≡ x.base j
+  pub bytes : (j : ℕ) → j < p.reads → byte_at p bits v j ≡ x.base 0 j
 
 module _ (c : Cells) (p : InputPlaces) (bits : List Bit) (ws : List (Vec Bit)) (v : ℕ → Bool) (x : TermReading) (m : AreMeant c p bits ws v x) where
   agrees_to : (a : Agreement) → a.condition.0 < length c.nodes → a.read < p.reads → a.other < p.reads → agrees_at p bits ws v a ≡ true → Agrees c x (agreement_of a)

@@ -114,9 +114,9 @@ module _ (u : UnrolledProgram) (c : Cells) (formed : AreFormed u c) (v : ℕ →
       let q = stands_in (is_unknown u.known) (0, 0) xs x (subst (λ (z : List (ℕ × ℕ)). Contains z x) free ((same x).1 h)) in
       let l : q.0 < length c.addresses = omega (arith, q.1, reads.count) in
       let a : x.0 ≡ read_address c (reading u c v) q.0 = sym (ap (λ (z : ℕ × ℕ). z.0) q.3) ∙ reads.address q.0 l in
-      let b : x.1 ≡ (reading u c v).base q.0 = sym (ap (λ (z : ℕ × ℕ). z.1) q.3) ∙ reads.byte q.0 l in (
+      let b : x.1 ≡ (reading u c v).base 0 q.0 = sym (ap (λ (z : ℕ × ℕ). z.1) q.3) ∙ reads.byte q.0 l in (
         omega (arith, a, address_few u c formed v q.0 l),
-        omega (arith, b, (reading_in_range u c v).base q.0),
+        omega (arith, b, (reading_in_range u c v).base 0 q.0),
         ap (λ (z : ℕ × ℕ). byte_of_runs u.known z.0) (sym q.3) ∙ free_none (byte_of_runs u.known (get_or xs q.0 (0, 0)).0) q.2,
       )
 
@@ -138,7 +138,7 @@ module _ (u : UnrolledProgram) (c : Cells) (formed : AreFormed u c) (v : ℕ →
       (λ i e m. (of_read (get_or ys i e) (Contains-get_or ys i e m)).2))
 
   byte_of : (j : ℕ) → j < length c.addresses → byte_of_runs u.known (read_address c (reading u c v) j) ≡ None →
-      byte_in listed (read_address c (reading u c v) j) ≡ (reading u c v).base j
+      byte_in listed (read_address c (reading u c v) j) ≡ (reading u c v).base 0 j
   byte_of j l e =
       let m : j < length xs = omega (arith, l, reads.count) in
       let t : is_unknown u.known (get_or xs j (0, 0)) ≡ true = ap (λ z. is_free (byte_of_runs u.known z)) (reads.address j l) ∙ ap is_free e in
@@ -160,6 +160,6 @@ module _ (u : UnrolledProgram) (c : Cells) (formed : AreFormed u c) (v : ℕ →
       here : word 32 at ≡ at
       here = let few = address_few u c formed v j l in omega arith
 
-      by : (o : Option ℕ) → byte_of_runs u.known at ≡ o → known_or o listed at ≡ (reading u c v).base j
+      by : (o : Option ℕ) → byte_of_runs u.known at ≡ o → known_or o listed at ≡ (reading u c v).base 0 j
       by None e = ap (byte_in listed) here ∙ byte_of j l e
-      by (Some b) e = elim (cases_eq ((reading u c v).base j) b) [ inl q ↦ sym q | inr n ↦ absurd (whole at (j, b, l, refl, e, n)) ]
+      by (Some b) e = elim (cases_eq ((reading u c v).base 0 j) b) [ inl q ↦ sym q | inr n ↦ absurd (whole at (j, b, l, refl, e, n)) ]

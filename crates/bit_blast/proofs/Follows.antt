@@ -29,8 +29,8 @@ small n l = omega arith
 module _ (u : UnrolledProgram) (c : Cells) (v : ℕ → Bool) (w : Written) (entry : u.entry < 2 ^ 32) (some : 0
     < length u.points) (later : ExitsLeadLater u) (q : Passive) (passive : IsPassive u q)
     (bytes : (a : ℕ) → start_memory u w a < 256) (y : TermReading) (ws : List ℕ) (words : AreWords y q.nodes ws)
-    (regs : (n : ℕ) → is_register_of u n ≡ true → y.regs n ≡ (reading u c v).regs n) (flags : (f : ℕ) → is_flag_of u f ≡ true →
-    y.flags f ≡ (reading u c v).flags f) (mem : y.mem ≡ start_memory u w)
+    (regs : (n : ℕ) → is_register_of u n ≡ true → y.regs 0 n ≡ (reading u c v).regs 0 n) (flags : (f : ℕ) → is_flag_of u f ≡ true →
+    y.flags 0 f ≡ (reading u c v).flags 0 f) (mem : y.mem 0 ≡ start_memory u w)
     (choice : (i : ℕ) → DrawsAt u i → y.choice i ≡ (reading u c v).choice i) (steps : ℕ)
     (chosen : AreChoices (λ i. slice_index ws (slice_index q.met i) == 1) (reading u c v).choice (length u.points) steps w.choices) where
   module _ (r : Reading) (is : IsReadingOf u c v w r) where
@@ -45,8 +45,8 @@ module _ (u : UnrolledProgram) (c : Cells) (v : ℕ → Bool) (w : Written) (ent
     is_reading = record {
       state = record {
         pc = subst (λ (n : ℕ). n < 2 ^ 32) (sym is.pc) entry;
-        regs = λ n. subst (λ (f : ℕ → ℕ). f n < 2 ^ 32) (sym is.regs) ((reading_in_range u c v).regs n);
-        flags = λ f. subst (λ (g : ℕ → ℕ). g f < 2) (sym is.flags) ((reading_in_range u c v).flags f);
+        regs = λ n. subst (λ (f : ℕ → ℕ). f n < 2 ^ 32) (sym is.regs) ((reading_in_range u c v).regs 0 n);
+        flags = λ f. subst (λ (g : ℕ → ℕ). g f < 2) (sym is.flags) ((reading_in_range u c v).flags 0 f);
         mem = λ a. subst (λ (m : Memory). m a < 256) (sym is.mem) (bytes a);
       };
       choice = λ p. omega arith;
@@ -61,7 +61,7 @@ module _ (u : UnrolledProgram) (c : Cells) (v : ℕ → Bool) (w : Written) (ent
       base = λ j l. absurd (omega arith);
     }
 
-    same_mem : y.mem ≡ (term_reading u s).mem
+    same_mem : y.mem 0 ≡ (term_reading u s).mem 0
     unfolding s
     same_mem = mem ∙ sym is.mem
 

@@ -115,8 +115,10 @@ module _ (u : UnrolledProgram) (c : Cells) (v w : ℕ → Bool) (a : AgreeUpTo (
   pub reading_same : reading u c v ≡ reading u c w
   reading_same =
       let rv = reading u c v in let rw' = reading u c w in
-      ap (λ z. record { regs = z; flags = rv.flags; mem = rv.mem; choice = rv.choice; base = rv.base }) (fun_ext (λ n. regs n (is_register_of u n) refl))
-      ∙ ap (λ z. record { regs = rw'.regs; flags = z; mem = rv.mem; choice = rv.choice; base = rv.base }) (fun_ext (λ f. flags f (is_flag_of u f) refl))
+      ap (λ z. record { regs = z; flags = rv.flags; mem = rv.mem; choice = rv.choice; base = rv.base }) (fun_ext (λ p.
+      fun_ext (λ n. regs n (is_register_of u n) refl)))
+      ∙ ap (λ z. record { regs = rw'.regs; flags = z; mem = rv.mem; choice = rv.choice; base = rv.base }) (fun_ext (λ p.
+      fun_ext (λ f. flags f (is_flag_of u f) refl)))
       ∙ ap (λ z. record { regs = rw'.regs; flags = rw'.flags; mem = rv.mem; choice = z; base = rv.base }) (fun_ext (λ i. choice i (point_at u i).draws refl))
-      ∙ ap (λ z. record { regs = rw'.regs; flags = rw'.flags; mem = rv.mem; choice = rw'.choice; base = z }) (fun_ext
-      (λ j. base j (nat_lt j (length c.addresses)) refl))
+      ∙ ap (λ z. record { regs = rw'.regs; flags = rw'.flags; mem = rv.mem; choice = rw'.choice; base = z }) (fun_ext (λ p.
+      fun_ext (λ j. base j (nat_lt j (length c.addresses)) refl)))

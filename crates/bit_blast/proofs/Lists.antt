@@ -25,7 +25,7 @@ is_operand ws t w bs l e f =
     let m = there ws t l in
     let g : bs ≡ (get_or ws t w).items = f ∙ ap (λ (x : Vec Bit). x.items) e in
     record {
-      len = ap length g ∙ sym (ap width_of (get_or-map (λ (x : Vec Bit). ConstantNode (length x.items) 0) ws t w MemoryNode m));
+      len = ap length g ∙ sym (ap width_of (get_or-map (λ (x : Vec Bit). ConstantNode (length x.items) 0) ws t w (MemoryNode 0) m));
       value = λ v. ap (number v) g ∙ sym (ap (λ z. z.word) (get_or-map (λ (x : Vec Bit). word_value (number v x.items)) ws t w (word_value 0) m));
       within = λ n h. subst (Within n) (sym g) (h.each t w m);
     }

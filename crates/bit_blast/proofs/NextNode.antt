@@ -5,7 +5,7 @@ use Rattle.std.specs.Global.{Vec}
 use Rattle.std.proofs.lemmas.Bool.{cases_lt}
 use Rattle.std.proofs.lemmas.List.{get_or_append_left, length-map, map-append, take_more, take_all, length_push}
 use Rattle.std.proofs.lemmas.List.Sums.{sum_by-append, sum_by-cons}
-use Rattle.term_spec.specs.Terms.{TermReading, TermValue, TermNode, RegisterNode, FlagNode, ChoiceNode, BaseNode, MemoryNode, ConstantNode, BinaryNode, NotNode, SelectNode, ExtractNode, ConcatNode, ExtendNode, LoadNode, StoreNode, JoinNode, word_value, value_at, node_at, node_value, values_from, term_value, width_of, own_gates, term_gates, select, extend, operate, HasWidth, IsTypedOver, AreTyped}
+use Rattle.term_spec.specs.Terms.{TermReading, TermValue, TermNode, RegisterNode, FlagNode, ChoiceNode, BaseNode, MemoryNode, ConstantNode, BinaryNode, NotNode, SelectNode, ExtractNode, ConcatNode, ExtendNode, LoadNode, StoreNode, JoinNode, TakeNode, word_value, value_at, node_at, node_value, values_from, term_value, width_of, own_gates, term_gates, select, extend, operate, HasWidth, IsTypedOver, AreTyped}
 use Rattle.term_spec.specs.Cells.{IsOfWords}
 use Rattle.word_spec.specs.Words as words
 use Rattle.word_spec.specs.Words.{bit}
@@ -32,11 +32,11 @@ has_width : (ms ns : List TermNode) → Alike ms ns → (w t : ℕ) → HasWidth
 has_width ms ns a w t h = (omega (arith, a.count, h.0), a.widths t h.0 ∙ h.1)
 
 typed_alike : (ms ns : List TermNode) → Alike ms ns → (n : TermNode) → IsTypedOver ns n → IsTypedOver ms n
-typed_alike ms ns a (RegisterNode r) h = tt
-typed_alike ms ns a (FlagNode f) h = tt
+typed_alike ms ns a (RegisterNode p r) h = tt
+typed_alike ms ns a (FlagNode p f) h = tt
 typed_alike ms ns a (ChoiceNode i) h = tt
-typed_alike ms ns a (BaseNode j) h = tt
-typed_alike ms ns a MemoryNode h = tt
+typed_alike ms ns a (BaseNode p j) h = tt
+typed_alike ms ns a (MemoryNode p) h = tt
 typed_alike ms ns a (ConstantNode w v) h = h
 typed_alike ms ns a (BinaryNode o w x y) h = (h.0, has_width ms ns a w x h.1, has_width ms ns a w y h.2)
 typed_alike ms ns a (NotNode w x) h = (h.0, has_width ms ns a w x h.1)
@@ -47,15 +47,16 @@ typed_alike ms ns a (ExtendNode s n m x) h = (h.0, h.1, h.2, has_width ms ns a n
 typed_alike ms ns a (LoadNode n e m x) h = (h.0, has_width ms ns a 0 m h.1, has_width ms ns a 32 x h.2)
 typed_alike ms ns a (StoreNode n e m x v) h = (h.0, has_width ms ns a 0 m h.1, has_width ms ns a 32 x h.2, has_width ms ns a (8 * n) v h.3)
 typed_alike ms ns a (JoinNode c x y) h = (has_width ms ns a 1 c h.0, has_width ms ns a 0 x h.1, has_width ms ns a 0 y h.2)
+typed_alike ms ns a (TakeNode n m x p) h = (h.0, has_width ms ns a 0 m h.1, has_width ms ns a 32 x h.2)
 
 -- the word of a node over words hangs on the words of its operands alone
 same_word : (x : TermReading) (us vs : List TermValue) (ns : List TermNode) (n : TermNode) → IsTypedOver ns n → IsOfWords n →
     ((t : ℕ) → t < length ns → (value_at us t).word ≡ (value_at vs t).word) → (node_value x us n).word ≡ (node_value x vs n).word
-same_word x us vs ns (RegisterNode r) h k f = refl
-same_word x us vs ns (FlagNode r) h k f = refl
+same_word x us vs ns (RegisterNode p r) h k f = refl
+same_word x us vs ns (FlagNode p r) h k f = refl
 same_word x us vs ns (ChoiceNode i) h k f = refl
-same_word x us vs ns (BaseNode j) h k f = refl
-same_word x us vs ns MemoryNode h k f = absurd k
+same_word x us vs ns (BaseNode p j) h k f = refl
+same_word x us vs ns (MemoryNode p) h k f = absurd k
 same_word x us vs ns (ConstantNode w v) h k f = refl
 same_word x us vs ns (BinaryNode o w a b) h k f =
     ap (λ z. operate o w z (value_at us b).word) (f a h.1.0) ∙ ap (λ z. operate o w (value_at vs a).word z) (f b h.2.0)
@@ -71,6 +72,7 @@ same_word x us vs ns (ExtendNode s n m a) h k f = ap (λ z. extend s n m z) (f a
 same_word x us vs ns (LoadNode n e m a) h k f = absurd k
 same_word x us vs ns (StoreNode n e m a v) h k f = absurd k
 same_word x us vs ns (JoinNode c a b) h k f = absurd k
+same_word x us vs ns (TakeNode n m a p) h k f = absurd k
 
 -- ---- one more node
 
@@ -139,7 +141,7 @@ pub blasted_more : (p : InputPlaces) (bits : List Bit) (a b c : Netlist) (ns : L
     ((v : ℕ → Bool) (x : TermReading) → Holds v c → IsReadingAt p (seen bits v) x → number v w.items ≡ (node_value x (values_of v ws) n).word) →
     AreBlasted p bits a c (take (i + 1) ns) (ws ++ w ∷ [])
 blasted_more p bits a b c ns i n ws w t l e o h m f =
-    subst (λ (z : List TermNode). AreBlasted p bits a c z (ws ++ w ∷ [])) (ap (λ z. take i ns ++ z ∷ []) e ∙ sym (take_more ns i MemoryNode l))
+    subst (λ (z : List TermNode). AreBlasted p bits a c z (ws ++ w ∷ [])) (ap (λ z. take i ns ++ z ∷ []) e ∙ sym (take_more ns i (MemoryNode 0) l))
     (blasted_push p bits a b c (take i ns) n ws w (typed_before ns i n t l e) o h m f)
 
 -- the condition of one bit

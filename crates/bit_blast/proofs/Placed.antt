@@ -3,7 +3,7 @@ use Rattle.std.proofs.Common.{◌≡◌, ℕ, ◌+◌, ◌-◌, ◌*◌, ◌<◌
 use Rattle.std.specs.Prelude.{nat_lt, nat_eq, slice_index_or, if◌then◌else◌, Option, Some, None, unwrap_or}
 use Rattle.std.specs.List.{list_any}
 use Rattle.std.proofs.lemmas.Bool.Decides.{nat_tests}
-use Rattle.term_spec.specs.Terms.{TermNode, RegisterNode, FlagNode, ChoiceNode, BaseNode, MemoryNode, ConstantNode, BinaryNode, NotNode, SelectNode, ExtractNode, ConcatNode, ExtendNode, LoadNode, StoreNode, JoinNode}
+use Rattle.term_spec.specs.Terms.{TermNode, RegisterNode, FlagNode, ChoiceNode, BaseNode, MemoryNode, ConstantNode, BinaryNode, NotNode, SelectNode, ExtractNode, ConcatNode, ExtendNode, LoadNode, StoreNode, JoinNode, TakeNode}
 use Rattle.walk_spec.specs.Unrolled.{UnrolledProgram, point_at, is_register_of, is_flag_of}
 use Rattle.term_spec.specs.WalkQuestions.{IsNamedBelow}
 use Rattle.term_spec.specs.Cells.{Cells}
@@ -33,13 +33,14 @@ module _ (u : UnrolledProgram) (c : Cells) (p : InputPlaces) (is : ArePlaces u c
 
   -- a node of the cells names an input that has a place
   pub named : (n : TermNode) → IsNamedBelow u (length c.addresses) n → IsNamed p n
-  named (RegisterNode n) h = in_range p.first_register p.registers n (subst (λ (z : List ℕ). list_any (nat_eq n) z ≡ true) is.registers h)
-  named (FlagNode f) h = let l : f < u.flags = grind (arith, nat_tests) in omega (arith, is.flags)
+  named (RegisterNode part n) h =
+      let q = in_range p.first_register p.registers n (subst (λ (z : List ℕ). list_any (nat_eq n) z ≡ true) is.registers h.1) in (h.0, q.0, q.1)
+  named (FlagNode part f) h = let k = h.1 in let l : f < u.flags = grind (arith, nat_tests) in (h.0, omega (arith, is.flags))
   named (ChoiceNode i) h =
       let e = is.drawn.each i h.0 ∙ ap (λ z. if z then Some (drawn_below u i) else None) h.1 in
       (drawn_below u i, (omega (arith, h.0, is.drawn.places), e, omega (arith, is.drawn.all, drawn_less u i (length u.points) h.1 h.0)))
-  named (BaseNode j) h = omega (arith, is.reads, h)
-  named MemoryNode h = tt
+  named (BaseNode part j) h = (h.0, omega (arith, is.reads, h.1))
+  named (MemoryNode part) h = tt
   named (ConstantNode w v) h = tt
   named (BinaryNode o w a b) h = tt
   named (NotNode w a) h = tt
@@ -50,6 +51,7 @@ module _ (u : UnrolledProgram) (c : Cells) (p : InputPlaces) (is : ArePlaces u c
   named (LoadNode n e m a) h = tt
   named (StoreNode n e m a v) h = tt
   named (JoinNode d a b) h = tt
+  named (TakeNode n m a part) h = absurd h
 
   chosen : (v : ℕ → Bool) (i k : ℕ) (b : Bool) (o : Option ℕ) → o ≡ (if b then Some (drawn_below u i) else None) → o ≡ Some k →
       (if b then bits_from v (first_choice u + 2 * drawn_below u i) 2 else 0) ≡ input_number v (p.first_choice + 2 * k) 2

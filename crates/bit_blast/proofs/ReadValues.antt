@@ -18,7 +18,7 @@ use Rattle.bit_blast.proofs.Placed.{reading_at}
 use Rattle.bit_blast.proofs.StartInputs.{small_byte}
 
 pub byte_is : (u : UnrolledProgram) (c : Cells) (v : ℕ → Bool) (p : InputPlaces) → ArePlaces u c p → (j : ℕ) → j < length c.addresses →
-    bits_from v (p.first_byte + 8 * j) 8 ≡ (reading u c v).base j
+    bits_from v (p.first_byte + 8 * j) 8 ≡ (reading u c v).base 0 j
 byte_is u c v p placed j l = bits_are v (p.first_byte + 8 * j) 8 ∙ sym ((reading_at u c p placed v).bytes j (omega (arith, placed.reads, l)))
 
 agrees : (u : UnrolledProgram) (c : Cells) (v : ℕ → Bool) (r : Reading) → HasInputs u c v r → Agree u (length c.addresses) (reading_of r) (reading u c v)
@@ -26,7 +26,7 @@ agrees u c v r h = record {
   regs = h.regs;
   flags = h.flags;
   choice = h.choice;
-  base = λ j l. small_byte (slice_index r.base.items j) _ (subst (λ (z : ℕ). z < 256) (sym (h.base j l)) ((reading_in_range u c v).base j)) (h.base j l);
+  base = λ j l. small_byte (slice_index r.base.items j) _ (subst (λ (z : ℕ). z < 256) (sym (h.base j l)) ((reading_in_range u c v).base 0 j)) (h.base j l);
 }
 
 pub address_few : (u : UnrolledProgram) (c : Cells) → AreFormed u c → (v : ℕ → Bool) (j : ℕ) → j < length c.addresses →

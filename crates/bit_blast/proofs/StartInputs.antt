@@ -113,17 +113,17 @@ choices_as met same choice other n m steps xs e f g h = record {
 
 module _ (u : UnrolledProgram) (c : Cells) (v : ℕ → Bool) (p : InputPlaces) (placed : ArePlaces u c p) where
   pub register_is : (n a : ℕ) → ((l : p.first_register ≤ n) → n < p.first_register + p.registers → a ≡ bits_from v (32 * (n - p.first_register)) 32) →
-      is_register_of u n ≡ true → a % 2 ^ 32 ≡ (reading u c v).regs n
+      is_register_of u n ≡ true → a % 2 ^ 32 ≡ (reading u c v).regs 0 n
   register_is n a e h =
       let q = in_range p.first_register p.registers n (subst (λ (z : List ℕ). list_any (nat_eq n) z ≡ true) placed.registers h) in
-      small_word a _ ((reading_in_range u c v).regs n)
+      small_word a _ ((reading_in_range u c v).regs 0 n)
       (e q.0 q.1 ∙ bits_are v (32 * (n - p.first_register)) 32 ∙ sym ((reading_at u c p placed v).registers n q.0 q.1))
 
-  pub flag_of : (f a : ℕ) → (f < p.flags → a ≡ bits_from v (p.first_flag + f) 1) → is_flag_of u f ≡ true → a % 2 ≡ (reading u c v).flags f
+  pub flag_of : (f a : ℕ) → (f < p.flags → a ≡ bits_from v (p.first_flag + f) 1) → is_flag_of u f ≡ true → a % 2 ≡ (reading u c v).flags 0 f
   flag_of f a e h =
       let k : f < u.flags = grind (arith, nat_tests) in
       let l : f < p.flags = omega (arith, placed.flags) in
-      small_flag a _ ((reading_in_range u c v).flags f) (e l ∙ bits_are v (p.first_flag + f) 1 ∙ sym ((reading_at u c p placed v).flags f l))
+      small_flag a _ ((reading_in_range u c v).flags 0 f) (e l ∙ bits_are v (p.first_flag + f) 1 ∙ sym ((reading_at u c p placed v).flags f l))
 
   pub choice_is : (i : ℕ) → i < length u.points → choice_at p v i ≡ (reading u c v).choice i
   choice_is i l = ap (choice_by p v) (placed.drawn.each i l) ∙ by ((point_at u i).draws)
@@ -135,18 +135,18 @@ module _ (u : UnrolledProgram) (c : Cells) (v : ℕ → Bool) (p : InputPlaces) 
   pub drawn_is : (i a : ℕ) → (i < length p.drawn.items → a ≡ choice_at p v i) → DrawsAt u i → a % 4 ≡ (reading u c v).choice i
   drawn_is i a e d = small_choice a _ ((reading_in_range u c v).choice i) (e (omega (arith, placed.drawn.places, d.0)) ∙ choice_is i d.0)
 
-  registers_are : map (λ q. bits_from v (32 * q) 32) (from_to 0 p.registers) ≡ map (reading u c v).regs u.registers
+  registers_are : map (λ q. bits_from v (32 * q) 32) (from_to 0 p.registers) ≡ map ((reading u c v).regs 0) u.registers
   registers_are =
-      sym (ap (map (reading u c v).regs) placed.registers
-      ∙ map_ranges (reading u c v).regs (λ q. bits_from v (32 * q) 32) p.first_register 0 p.registers (λ q l.
+      sym (ap (map ((reading u c v).regs 0)) placed.registers
+      ∙ map_ranges ((reading u c v).regs 0) (λ q. bits_from v (32 * q) 32) p.first_register 0 p.registers (λ q l.
       (reading_at u c p placed v).registers (p.first_register + q) (omega arith) (omega arith)
       ∙ ap (λ z. input_number v (32 * z) 32) (let e : p.first_register + q - p.first_register ≡ 0 + q = omega arith in e) ∙ sym (bits_are v (32 * (0 + q)) 32)))
 
-  flag_bit : (f : ℕ) → f < u.flags → bit_at f (bits_from v p.first_flag p.flags) ≡ (reading u c v).flags f
+  flag_bit : (f : ℕ) → f < u.flags → bit_at f (bits_from v p.first_flag p.flags) ≡ (reading u c v).flags 0 f
   flag_bit f l =
       let k : f < p.flags = omega (arith, placed.flags) in
       let e = (reading_at u c p placed v).flags f k ∙ sym (bits_are v (p.first_flag + f) 1) in
-      one_bit_same _ _ (let z : bit_at f (bits_from v p.first_flag p.flags) < 2 = omega arith in z) ((reading_in_range u c v).flags f)
+      one_bit_same _ _ (let z : bit_at f (bits_from v p.first_flag p.flags) < 2 = omega arith in z) ((reading_in_range u c v).flags 0 f)
       (bit_is v p.first_flag p.flags f k ∙ sym (flag_is v (p.first_flag + f)) ∙ sym (ap (λ z. z == 1) e))
 
   pub is_start : (w : Written) → w.regs ≡ map (λ q. bits_from v (32 * q) 32) (from_to 0 p.registers) → w.flags ≡ bits_from v p.first_flag p.flags →

@@ -12,10 +12,10 @@ use Rattle.term_spec.specs.ClauseForm.{IsReadingOf, reading}
 
 -- the reading has the registers, flags and choices of a valuation, and over the known bytes these bytes
 pub record IsStartReading (u : UnrolledProgram) (c : Cells) (v : ℕ → Bool) (bytes : List (ℕ × ℕ)) (y : TermReading) : Type 0 where
-  pub regs : (n : ℕ) → is_register_of u n ≡ true → y.regs n ≡ (reading u c v).regs n
-  pub flags : (f : ℕ) → is_flag_of u f ≡ true → y.flags f ≡ (reading u c v).flags f
-  pub mem : (a : ℕ) → y.mem a ≡ known_or (byte_of_runs u.known (word 32 a)) bytes a
-  pub small : (a : ℕ) → y.mem a < 256
+  pub regs : (n : ℕ) → is_register_of u n ≡ true → y.regs 0 n ≡ (reading u c v).regs 0 n
+  pub flags : (f : ℕ) → is_flag_of u f ≡ true → y.flags 0 f ≡ (reading u c v).flags 0 f
+  pub mem : (a : ℕ) → y.mem 0 a ≡ known_or (byte_of_runs u.known (word 32 a)) bytes a
+  pub small : (a : ℕ) → y.mem 0 a < 256
   pub choice : (i : ℕ) → DrawsAt u i → y.choice i ≡ (reading u c v).choice i
 
 -- the choices can be written, and the walk of the start with these bytes has at each step the choice of the place that it meets then

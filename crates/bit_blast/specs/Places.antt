@@ -20,10 +20,10 @@ IsDrawn p i k = (i < length p.drawn.items) × (slice_index_or p.drawn.items i No
 
 -- the node names no input but those that have places
 abbrev pub IsNamed : InputPlaces → TermNode → Type 0
-IsNamed p (RegisterNode n) = (p.first_register ≤ n) × (n < p.first_register + p.registers)
-IsNamed p (FlagNode f) = f < p.flags
+IsNamed p (RegisterNode part n) = (part ≡ 0) × (p.first_register ≤ n) × (n < p.first_register + p.registers)
+IsNamed p (FlagNode part f) = (part ≡ 0) × (f < p.flags)
 IsNamed p (ChoiceNode i) = (k : ℕ) × IsDrawn p i k
-IsNamed p (BaseNode j) = j < p.reads
+IsNamed p (BaseNode part j) = (part ≡ 0) × (j < p.reads)
 IsNamed p n = Unit {0}
 
 -- the truth of bits
@@ -36,7 +36,7 @@ seen bits v = valuation (truths v bits)
 
 -- the reading gives each input the number that its variables have under a valuation
 pub record IsReadingAt (p : InputPlaces) (v : ℕ → Bool) (x : TermReading) : Type 0 where
-  pub registers : (n : ℕ) → p.first_register ≤ n → n < p.first_register + p.registers → x.regs n ≡ input_number v (32 * (n - p.first_register)) 32
-  pub flags : (f : ℕ) → f < p.flags → x.flags f ≡ input_number v (p.first_flag + f) 1
+  pub registers : (n : ℕ) → p.first_register ≤ n → n < p.first_register + p.registers → x.regs 0 n ≡ input_number v (32 * (n - p.first_register)) 32
+  pub flags : (f : ℕ) → f < p.flags → x.flags 0 f ≡ input_number v (p.first_flag + f) 1
   pub choices : (i k : ℕ) → IsDrawn p i k → x.choice i ≡ input_number v (p.first_choice + 2 * k) 2
-  pub bytes : (j : ℕ) → j < p.reads → x.base j ≡ input_number v (p.first_byte + 8 * j) 8
+  pub bytes : (j : ℕ) → j < p.reads → x.base 0 j ≡ input_number v (p.first_byte + 8 * j) 8

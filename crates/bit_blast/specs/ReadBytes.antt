@@ -11,11 +11,11 @@ use Rattle.term_dag.specs.Readings.{reading_of}
 
 -- the data have the registers, flags, choices and bytes of the reading of a valuation
 pub record HasInputs (u : UnrolledProgram) (c : Cells) (v : ℕ → Bool) (r : Reading) : Type 0 where
-  pub regs : (n : ℕ) → is_register_of u n ≡ true → (reading_of r).regs n ≡ (reading u c v).regs n
-  pub flags : (f : ℕ) → is_flag_of u f ≡ true → (reading_of r).flags f ≡ (reading u c v).flags f
+  pub regs : (n : ℕ) → is_register_of u n ≡ true → (reading_of r).regs 0 n ≡ (reading u c v).regs 0 n
+  pub flags : (f : ℕ) → is_flag_of u f ≡ true → (reading_of r).flags 0 f ≡ (reading u c v).flags 0 f
   pub choice : (i : ℕ) → DrawsAt u i → (reading_of r).choice i ≡ (reading u c v).choice i
   pub count : length r.base.items ≡ length c.addresses
-  pub base : (j : ℕ) → j < length c.addresses → slice_index r.base.items j ≡ (reading u c v).base j
+  pub base : (j : ℕ) → j < length c.addresses → slice_index r.base.items j ≡ (reading u c v).base 0 j
 
 -- the word of the address of a read
 abbrev pub address_word : List Term → List ℕ → (read : ℕ) → ℕ
@@ -31,11 +31,11 @@ pub record AreBeside (addresses : List Term) (words bytes : List ℕ) (n : ℕ) 
 pub record AreReads (c : Cells) (x : TermReading) (xs : List (ℕ × ℕ)) : Type 0 where
   pub count : length xs ≡ length c.addresses
   pub address : (j : ℕ) → j < length c.addresses → (slice_index_or xs j (0, 0)).0 ≡ read_address c x j
-  pub byte : (j : ℕ) → j < length c.addresses → (slice_index_or xs j (0, 0)).1 ≡ x.base j
+  pub byte : (j : ℕ) → j < length c.addresses → (slice_index_or xs j (0, 0)).1 ≡ x.base 0 j
 
 -- reads of one address have one byte
 abbrev pub AreOne : Cells → TermReading → Type 0
-AreOne c x = (i j : ℕ) → i < length c.addresses → j < length c.addresses → read_address c x i ≡ read_address c x j → x.base i ≡ x.base j
+AreOne c x = (i j : ℕ) → i < length c.addresses → j < length c.addresses → read_address c x i ≡ read_address c x j → x.base 0 i ≡ x.base 0 j
 
 -- no byte is known
 abbrev pub is_free : Option ℕ → Bool

@@ -1,7 +1,7 @@
 //! The words of inputs: which inputs a node is, and the bits that stand for them.
 ghost use Rattle.std.specs.Prelude.{◌≡◌, ℕ, ◌+◌, ◌<◌, ◌≤◌, Bool, length, [], IfOk};
 ghost use Rattle.term_spec.specs.Terms.{TermReading, node_value, own_gates, width_of};
-ghost use Rattle.term_dag.specs.Nodes.{IsInput, node_of};
+ghost use Rattle.term_dag.specs.Nodes.{IsWordInput, node_of};
 ghost use Rattle.gates.specs.Circuits.{Netlist, next, Within};
 ghost use Rattle.word_gates.specs.Numbers.{input_number, number, IsWord};
 ghost use Rattle.bit_blast.specs.Places.{AreInOrder, IsNamed, IsReadingAt, seen};
@@ -13,21 +13,21 @@ use term_dag::Node;
 
 /// How many inputs a node is.
 fn input_width(node: Node) -> usize
-    requires { IsInput (node_of node) }
+    requires { IsWordInput (node_of node) }
     ensures { result ≡ width_of (node_of node) }
 {
     match node {
-        Node::Register(_) => 32,
-        Node::Flag(_) => 1,
+        Node::Register { .. } => 32,
+        Node::Flag { .. } => 1,
         Node::Choice(_) => 2,
-        Node::Base(_) => 8,
+        Node::Base { .. } => 8,
         _ => unreachable!(),
     }
 }
 
 /// The first of the inputs that a node is.
 pub fn first_input(places: &InputPlaces, node: Node) -> u32
-    requires input { IsInput (node_of node) }
+    requires input { IsWordInput (node_of node) }
     requires named { IsNamed places.now (node_of node) }
     requires order { AreInOrder places.now }
     ensures within { result + width_of (node_of node) ≤ places.now.inputs }
@@ -36,13 +36,13 @@ pub fn first_input(places: &InputPlaces, node: Node) -> u32
 {
     let _all = places.inputs;
     match node {
-        Node::Register(register) => 32 * (register - places.first_register) as u32,
-        Node::Flag(flag) => places.first_flag + flag as u32,
+        Node::Register { number, .. } => 32 * (number - places.first_register) as u32,
+        Node::Flag { number, .. } => places.first_flag + number as u32,
         Node::Choice(place) => match places.drawn[place as usize] {
             Some(choice) => places.first_choice + 2 * choice,
             None => unreachable!(),
         },
-        Node::Base(read) => places.first_byte + 8 * read,
+        Node::Base { read, .. } => places.first_byte + 8 * read,
         _ => unreachable!(),
     }
 }
@@ -54,7 +54,7 @@ pub fn input(
     inputs: &[Bit],
     node: Node,
 ) -> Result<Vec<Bit>, AllocError>
-    requires input { IsInput (node_of node) }
+    requires input { IsWordInput (node_of node) }
     requires named { IsNamed places.now (node_of node) }
     requires order { AreInOrder places.now }
     requires all { length inputs.now ≡ places.now.inputs }

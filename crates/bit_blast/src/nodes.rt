@@ -159,10 +159,10 @@ pub fn word_of(
         number v w.items ≡ (node_value x (values_of v words.now) (node_of node)).word) }
 {
     match node {
-        Node::Register(_) => Ok(input(alloc, places, inputs, node)?),
-        Node::Flag(_) => Ok(input(alloc, places, inputs, node)?),
+        Node::Register { .. } => Ok(input(alloc, places, inputs, node)?),
+        Node::Flag { .. } => Ok(input(alloc, places, inputs, node)?),
         Node::Choice(_) => Ok(input(alloc, places, inputs, node)?),
-        Node::Base(_) => Ok(input(alloc, places, inputs, node)?),
+        Node::Base { .. } => Ok(input(alloc, places, inputs, node)?),
         Node::Constant { width, value } => Ok(constant(alloc, circuit, width as usize, value)?),
         Node::Binary {
             op,
@@ -192,7 +192,7 @@ pub fn word_of(
             to,
             term,
         } => Ok(extended(alloc, circuit, words, signed, from, to, term)?),
-        Node::Memory => unreachable!(),
+        Node::Memory(_) => unreachable!(),
         Node::Load { .. } => unreachable!(),
         Node::Store { .. } => unreachable!(),
         Node::Join { .. } => unreachable!(),

@@ -73,9 +73,9 @@ pub piece_agrees : (a b : Build) (g r : ℕ) (x : TermReading) (stored : List St
     (bytes : ℕ → ℕ) (marks : List Bool) →
     IsBuilt a → Grown a b g r → InRange x → IsPiece a.dag stored q z → HasWidth a.dag 32 t → IsSplit a.dag t at.base.0 at.offset → Needs marks at z →
     ((p : ℕ) → p < q → bool_at marks p ≡ true → term_word x b.dag (link chain p) ≡ bytes p) →
-    piece_byte (term_word x b.dag) x.mem (λ p. term_word x b.dag (link chain p)) stored z (term_word x b.dag t)
-    ≡ piece_byte (term_word x a.dag) x.mem bytes stored z (term_word x a.dag t)
-piece_agrees a b g r x stored q Entry at t chain bytes marks c p i h w s n e = ap x.mem (grown_word a b g r x t p w.0)
+    piece_byte (term_word x b.dag) (x.mem 0) (λ p. term_word x b.dag (link chain p)) stored z (term_word x b.dag t)
+    ≡ piece_byte (term_word x a.dag) (x.mem 0) bytes stored z (term_word x a.dag t)
+piece_agrees a b g r x stored q Entry at t chain bytes marks c p i h w s n e = ap (x.mem 0) (grown_word a b g r x t p w.0)
 piece_agrees a b g r x stored q (Store m to f k) at t chain bytes marks c p i h w s n e =
     bytes_same a b g r x stored f k t (term_word x b.dag (link chain m)) p h.1.are w.0 ∙ below (ends_in at to k) refl
   where
@@ -169,20 +169,20 @@ pub marked_next : (old mid new : Build) (g r h s : ℕ) (stored other : List Sto
     IsSplit old.dag t at.base.0 at.offset →
     HasWidth old.dag 32 t → other ≡ stored → same ≡ chain → z ≡ piece_at pieces q → length chain ≡ q → Grown old mid g r →
     AreLinks old mid stored pieces marks t q chain → Grown mid new h s →
-    IsByte new y.0 (λ x. piece_byte (term_word x mid.dag) x.mem (λ p. term_word x mid.dag (link same p)) other z (term_word x mid.dag t)) →
+    IsByte new y.0 (λ x. piece_byte (term_word x mid.dag) (x.mem 0) (λ p. term_word x mid.dag (link same p)) other z (term_word x mid.dag t)) →
     AreLinks old new stored pieces marks t (q + 1) (chain ++ y ∷ [])
 marked_next old mid new g r h s stored other pieces marks at t q chain same z y c d l e m k i w eo es ez n p f v b p' lp mp = elim (cases_lt p' q) [
   | inl j ↦ subst (IsByteOf old new stored pieces p' t) (sym (linked chain y p' (omega (arith, n, j))))
       (byte_later old mid new g r h s stored pieces p' t (link chain p') p.built v (f p' j mp))
   | inr j ↦ (
       let a : p' ≡ q = omega (arith, lp, j) in
-      let one : IsByte new y.0 (λ x. piece_byte (term_word x mid.dag) x.mem
+      let one : IsByte new y.0 (λ x. piece_byte (term_word x mid.dag) (x.mem 0)
       (λ p. term_word x mid.dag (link chain p)) stored (piece_at pieces q) (term_word x mid.dag t)) =
-      subst (λ (u : List StoredByte). IsByte new y.0 (λ x. piece_byte (term_word x mid.dag) x.mem
+      subst (λ (u : List StoredByte). IsByte new y.0 (λ x. piece_byte (term_word x mid.dag) (x.mem 0)
       (λ p. term_word x mid.dag (link chain p)) u (piece_at pieces q) (term_word x mid.dag t))) eo
-      (subst (λ (u : List Term). IsByte new y.0 (λ x. piece_byte (term_word x mid.dag) x.mem
+      (subst (λ (u : List Term). IsByte new y.0 (λ x. piece_byte (term_word x mid.dag) (x.mem 0)
       (λ p. term_word x mid.dag (link u p)) other (piece_at pieces q) (term_word x mid.dag t))) es
-      (subst (λ (u : Piece). IsByte new y.0 (λ x. piece_byte (term_word x mid.dag) x.mem
+      (subst (λ (u : Piece). IsByte new y.0 (λ x. piece_byte (term_word x mid.dag) (x.mem 0)
       (λ p. term_word x mid.dag (link same p)) other u (term_word x mid.dag t))) ez b)) in
       subst (IsByteOf old new stored pieces p' t) (sym (linked_last chain y p' (a ∙ sym n)))
       (subst (λ (u : ℕ). IsByteOf old new stored pieces u t y.0) (sym a) (record {
@@ -223,6 +223,6 @@ byte_before a b d g r stored pieces q n t y p h l e k = subst (λ (z : ℕ). IsB
   place = k.place;
   value = λ x i v bytes f. k.value x i v bytes (λ j m.
       f j m
-      ∙ ap (piece_byte (term_word x a.dag) x.mem bytes stored (piece_at pieces j)) (sym (grown_word a b g r x t p l))
-      ∙ sym (piece_words a b g r x x.mem stored j (piece_at pieces j) bytes (term_word x b.dag t) p (h j m)));
+      ∙ ap (piece_byte (term_word x a.dag) (x.mem 0) bytes stored (piece_at pieces j)) (sym (grown_word a b g r x t p l))
+      ∙ sym (piece_words a b g r x (x.mem 0) stored j (piece_at pieces j) bytes (term_word x b.dag t) p (h j m)));
 })

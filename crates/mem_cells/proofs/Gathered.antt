@@ -4,7 +4,7 @@ use Rattle.std.specs.Prelude.{if◌then◌else◌, Contains, slice_index}
 use Rattle.std.proofs.lemmas.Bool.{cases_eq, cases_lt}
 use Rattle.std.proofs.lemmas.Bool.Decides.{nat_tests}
 use Rattle.word_spec.specs.Memory.{Memory}
-use Rattle.term_spec.specs.Terms.{TermReading, InRange, with_mem, TermValue, TermNode, RegisterNode, FlagNode, ChoiceNode, BaseNode, MemoryNode, ConstantNode, BinaryNode, NotNode, SelectNode, ExtractNode, ConcatNode, ExtendNode, LoadNode, StoreNode, JoinNode, term_word, values_from, value_at, node_value}
+use Rattle.term_spec.specs.Terms.{TermReading, InRange, with_mem, TermValue, TermNode, RegisterNode, FlagNode, ChoiceNode, BaseNode, MemoryNode, ConstantNode, BinaryNode, NotNode, SelectNode, ExtractNode, ConcatNode, ExtendNode, LoadNode, StoreNode, JoinNode, TakeNode, term_word, values_from, value_at, node_value}
 use Rattle.walk_spec.specs.Unrolled.{UnrolledProgram, byte_of_runs}
 use Rattle.term_spec.specs.WalkQuestions.{HasAsked}
 use Rattle.term_spec.specs.Cells.{Cells, IsOfWords, Gives, read_address}
@@ -14,11 +14,11 @@ test a b = elim (cases_eq a b) [ inl e ↦ inl (grind (arith, nat_tests), e) | i
 
 -- words do not hang on the memory at entry
 word_free : (x : TermReading) (m : Memory) (vs : List TermValue) (n : TermNode) → IsOfWords n → node_value (with_mem x m) vs n ≡ node_value x vs n
-word_free x m vs (RegisterNode a) h = refl
-word_free x m vs (FlagNode a) h = refl
+word_free x m vs (RegisterNode part a) h = refl
+word_free x m vs (FlagNode part a) h = refl
 word_free x m vs (ChoiceNode a) h = refl
-word_free x m vs (BaseNode a) h = refl
-word_free x m vs MemoryNode h = absurd h
+word_free x m vs (BaseNode part a) h = refl
+word_free x m vs (MemoryNode part) h = absurd h
 word_free x m vs (ConstantNode a b) h = refl
 word_free x m vs (BinaryNode a b c d) h = refl
 word_free x m vs (NotNode a b) h = refl
@@ -29,6 +29,7 @@ word_free x m vs (ExtendNode a b c d) h = refl
 word_free x m vs (LoadNode a b c d) h = absurd h
 word_free x m vs (StoreNode a b c d e) h = absurd h
 word_free x m vs (JoinNode a b c) h = absurd h
+word_free x m vs (TakeNode a b c p) h = absurd h
 
 all_free : (x : TermReading) (m : Memory) (vs : List TermValue) (ns : List TermNode) → ((n : TermNode) → Contains ns n → IsOfWords n) →
     values_from (with_mem x m) vs ns ≡ values_from x vs ns
@@ -88,17 +89,17 @@ byte_few false o h = omega arith
 -- a memory that has the bytes of the reads and those that are asked
 pub memory_is : (u : UnrolledProgram) (asked : ℕ → Bool) (c : Cells) (x : TermReading) → InRange x → ((n : TermNode) → Contains c.nodes n → IsOfWords n) →
     ((a b : ℕ) → byte_of_runs u.known a ≡ Some b → b < 256) →
-    ((i j : ℕ) → i < j → j < length c.addresses → read_address c x i ≡ read_address c x j → x.base i ≡ x.base j) →
-    ((j b : ℕ) → j < length c.addresses → asked (read_address c x j) ≡ true → byte_of_runs u.known (read_address c x j) ≡ Some b → x.base j ≡ b) →
+    ((i j : ℕ) → i < j → j < length c.addresses → read_address c x i ≡ read_address c x j → x.base 0 i ≡ x.base 0 j) →
+    ((j b : ℕ) → j < length c.addresses → asked (read_address c x j) ≡ true → byte_of_runs u.known (read_address c x j) ≡ Some b → x.base 0 j ≡ b) →
     (m : Memory) × ((a : ℕ) → m a < 256) × HasAsked u asked m × Gives c (with_mem x m)
 memory_is u asked c x h w k f g = (
   m,
-  λ a. gathered_by (λ y. y < 256) at x.base rest n a (λ j l e. h.base j) (byte_few (asked a) (byte_of_runs u.known a) (k a)),
+  λ a. gathered_by (λ y. y < 256) at (x.base 0) rest n a (λ j l e. h.base 0 j) (byte_few (asked a) (byte_of_runs u.known a) (k a)),
   λ a b l e t.
-      gathered_by (λ y. y ≡ b) at x.base rest n a
+      gathered_by (λ y. y ≡ b) at (x.base 0) rest n a
       (λ j q z. g j b q (ap asked z ∙ t) (ap (byte_of_runs u.known) z ∙ e))
       (ap (λ y. asked_byte y (byte_of_runs u.known a)) t ∙ ap (asked_byte true) e),
-  λ j l. gathered_gives at x.base rest n j f l ∙ ap m (sym (term_free x m c.nodes (slice_index c.addresses j) w)),
+  λ j l. gathered_gives at (x.base 0) rest n j f l ∙ ap m (sym (term_free x m c.nodes (slice_index c.addresses j) w)),
 )
   where
     n : ℕ
@@ -111,4 +112,4 @@ memory_is u asked c x h w k f g = (
     rest a = asked_byte (asked a) (byte_of_runs u.known a)
 
     m : Memory
-    m = gathered at x.base rest n
+    m = gathered at (x.base 0) rest n

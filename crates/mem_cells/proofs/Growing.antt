@@ -5,7 +5,7 @@ use Rattle.term_dag.specs.declared.nodes.Term.{Term}
 use Rattle.std.proofs.lemmas.Bool.{cases_lt}
 use Rattle.std.proofs.lemmas.List.{get_or_append_left}
 use Rattle.std.proofs.lemmas.List.Elements.{Contains-get_or}
-use Rattle.term_spec.specs.Terms.{TermReading, TermNode, RegisterNode, FlagNode, ChoiceNode, BaseNode, MemoryNode, ConstantNode, BinaryNode, NotNode, SelectNode, ExtractNode, ConcatNode, ExtendNode, LoadNode, StoreNode, JoinNode, HasWidth, node_at, term_word, width_of}
+use Rattle.term_spec.specs.Terms.{TermReading, TermNode, RegisterNode, FlagNode, ChoiceNode, BaseNode, MemoryNode, ConstantNode, BinaryNode, NotNode, SelectNode, ExtractNode, ConcatNode, ExtendNode, LoadNode, StoreNode, JoinNode, TakeNode, HasWidth, node_at, term_word, width_of}
 use Rattle.walk_spec.specs.Unrolled.{UnrolledProgram}
 use Rattle.term_spec.specs.WalkQuestions.{IsNamedBelow}
 use Rattle.term_dag.specs.Nodes.{IsInput}
@@ -16,13 +16,13 @@ use Rattle.term_dag.proofs.Sharing.{kept_values, kept_nodes, kept_width}
 use Rattle.mem_cells.specs.declared.building.Build.{Build}
 use Rattle.mem_cells.specs.Building.{Cellular, read_places, IsBuilt, GivesAll, Grown, IsOwnNode}
 
--- only inputs have to be named
+-- only what names something of a reading has to be named
 pub named_by : (u : UnrolledProgram) (r : ℕ) (n : TermNode) → (IsInput n → IsNamedBelow u r n) → IsNamedBelow u r n
-named_by u r (RegisterNode a) f = f tt
-named_by u r (FlagNode a) f = f tt
+named_by u r (RegisterNode p a) f = f tt
+named_by u r (FlagNode p a) f = f tt
 named_by u r (ChoiceNode a) f = f tt
-named_by u r (BaseNode a) f = f tt
-named_by u r MemoryNode f = tt
+named_by u r (BaseNode p a) f = f tt
+named_by u r (MemoryNode p) f = f tt
 named_by u r (ConstantNode a b) f = tt
 named_by u r (BinaryNode a b c d) f = tt
 named_by u r (NotNode a b) f = tt
@@ -33,14 +33,15 @@ named_by u r (ExtendNode a b c d) f = tt
 named_by u r (LoadNode a b c d) f = tt
 named_by u r (StoreNode a b c d e) f = tt
 named_by u r (JoinNode a b c) f = tt
+named_by u r (TakeNode a b c p) f = f tt
 
 -- what is named below a number is named below a greater one
 pub named_more : (u : UnrolledProgram) (r s : ℕ) (n : TermNode) → r ≤ s → IsNamedBelow u r n → IsNamedBelow u s n
-named_more u r s (RegisterNode a) l h = h
-named_more u r s (FlagNode a) l h = h
+named_more u r s (RegisterNode part a) l h = h
+named_more u r s (FlagNode part a) l h = h
 named_more u r s (ChoiceNode a) l h = h
-named_more u r s (BaseNode a) l h = omega (arith, l, h)
-named_more u r s MemoryNode l h = tt
+named_more u r s (BaseNode part a) l h = (h.0, omega (arith, l, h.1))
+named_more u r s (MemoryNode part) l h = h
 named_more u r s (ConstantNode a b) l h = tt
 named_more u r s (BinaryNode a b c d) l h = tt
 named_more u r s (NotNode a b) l h = tt
@@ -51,6 +52,7 @@ named_more u r s (ExtendNode a b c d) l h = tt
 named_more u r s (LoadNode a b c d) l h = tt
 named_more u r s (StoreNode a b c d e) l h = tt
 named_more u r s (JoinNode a b c) l h = tt
+named_more u r s (TakeNode a b c p) l h = h
 
 early_kept : (u : UnrolledProgram) (old new : List TermNode) (ps : List ℕ) (j i : ℕ) → Cellular u old ps → Extends old new → j < length ps →
     i ≤ slice_index ps j → IsNamedBelow u j (node_at new i)
@@ -88,7 +90,7 @@ pub pushed_last : (ps : List ℕ) (a j : ℕ) → j ≡ length ps → slice_inde
 pushed_last ps a j e = ap (slice_index (ps ++ a ∷ [])) e ∙ last ps a 0
 
 -- cells with a read of an address
-pub read_cellular : (u : UnrolledProgram) (old new : List TermNode) (ps : List ℕ) (a t : ℕ) → Cellular u old ps → IsInterned old new (BaseNode (length ps)) t →
+pub read_cellular : (u : UnrolledProgram) (old new : List TermNode) (ps : List ℕ) (a t : ℕ) → Cellular u old ps → IsInterned old new (BaseNode 0 (length ps)) t →
     HasWidth old 32 a →
     Cellular u new (ps ++ a ∷ [])
 read_cellular u old new ps a t c m w =
@@ -97,7 +99,7 @@ read_cellular u old new ps a t c m w =
       typed = m.typed;
       named = λ p h. elim (m.only p h) [
         | inl k ↦ named_more u (length ps) (length (ps ++ a ∷ [])) p (omega (arith, l)) (c.named p k)
-        | inr e ↦ subst (IsNamedBelow u (length (ps ++ a ∷ []))) (sym e) (omega (arith, l))
+        | inr e ↦ subst (IsNamedBelow u (length (ps ++ a ∷ []))) (sym e) (refl, omega (arith, l))
       ];
       words = λ p h. elim (m.only p h) [ inl k ↦ c.words p k | inr e ↦ omega (arith, ap width_of e) ];
       loads = omega (arith, m.cost.loads, c.loads);
@@ -111,7 +113,7 @@ read_cellular u old new ps a t c m w =
             let e : j ≡ length ps = omega (arith, l) in
             let b : i < length old = omega (arith, w.0, subst (λ (z : ℕ). i ≤ z) (pushed_last ps a j e) h) in
             subst (λ (z : ℕ). IsNamedBelow u z (node_at new i)) (sym e)
-            (subst (IsNamedBelow u (length ps)) (sym (kept_nodes old new m.extends i b)) (c.named (node_at old i) (Contains-get_or old i MemoryNode b))))
+            (subst (IsNamedBelow u (length ps)) (sym (kept_nodes old new m.extends i b)) (c.named (node_at old i) (Contains-get_or old i (MemoryNode 0) b))))
       ];
     }
 
@@ -161,7 +163,7 @@ gives_before a b g r x i p h j l =
     let e : slice_index (read_places b) j ≡ slice_index (read_places a) j = ap
     (λ z. slice_index z j) p.more.1 ∙ get_or_append_left (read_places a) p.more.0 0 j l in
     h j (omega (arith, l, ap length p.more.1, length-append (read_places a) p.more.0))
-    ∙ ap (λ z. x.mem (term_word x b.dag z)) e ∙ ap x.mem (grown_word a b g r x (slice_index (read_places a) j) p (i.addresses j l).0)
+    ∙ ap (λ z. x.mem 0 (term_word x b.dag z)) e ∙ ap (x.mem 0) (grown_word a b g r x (slice_index (read_places a) j) p (i.addresses j l).0)
 
 -- the places of a list of terms with one more
 pub mapped : (ts : List Term) (t : Term) → map (λ (z : Term). z.0) (ts ++ t ∷ []) ≡ map (λ (z : Term). z.0) ts ++ t.0 ∷ []
@@ -174,8 +176,8 @@ mapped_length (x ∷ ts) = omega (arith, mapped_length ts)
 
 -- what the memory gives of a new read
 pub new_gives : (x : TermReading) (old new : List TermNode) (ps : List ℕ) (a : ℕ) (bs : List ℕ) → bs ≡ ps ++ a ∷ [] → Extends old new → a < length old →
-    ((j : ℕ) → j < length bs → x.base j ≡ x.mem (term_word x new (slice_index bs j))) → x.base (length ps) ≡ x.mem (term_word x old a)
+    ((j : ℕ) → j < length bs → x.base 0 j ≡ x.mem 0 (term_word x new (slice_index bs j))) → x.base 0 (length ps) ≡ x.mem 0 (term_word x old a)
 new_gives x old new ps a bs e k l g =
     g (length ps) (omega (arith, ap length e, length-append ps (a ∷ [])))
-    ∙ ap (λ z. x.mem (term_word x new z)) (ap (λ z. slice_index z (length ps)) e ∙ last ps a 0)
-    ∙ ap (λ z. x.mem z.word) (kept_values old new k x a l)
+    ∙ ap (λ z. x.mem 0 (term_word x new z)) (ap (λ z. slice_index z (length ps)) e ∙ last ps a 0)
+    ∙ ap (λ z. x.mem 0 z.word) (kept_values old new k x a l)

@@ -27,8 +27,8 @@ raised_word old mid new g r a c k t p w e f = record {
 -- memories of pieces stay so as cells grow
 pub memories_later : (a b : Build) (g r : ℕ) (x : TermReading) (stored : List StoredByte) (pieces : List Piece) (m : ℕ → Memory) → Grown a b g r →
     ArePieces a.dag stored pieces →
-    AreMemories (term_word x a.dag) x.mem stored pieces m → AreMemories (term_word x b.dag) x.mem stored pieces m
-memories_later a b g r x stored pieces m p h f i l q k = f i l q k ∙ sym (piece_words a b g r x x.mem stored q (piece_at pieces q) (λ n. m n i) i p (h q k))
+    AreMemories (term_word x a.dag) (x.mem 0) stored pieces m → AreMemories (term_word x b.dag) (x.mem 0) stored pieces m
+memories_later a b g r x stored pieces m p h f i l q k = f i l q k ∙ sym (piece_words a b g r x (x.mem 0) stored q (piece_at pieces q) (λ n. m n i) i p (h q k))
 
 -- the byte of a memory some bytes behind an address
 pub behind : (old mid new : Build) (g r : ℕ) (stored : List StoredByte) (pieces : List Piece) (q a c at t : ℕ) → Grown old mid g r →

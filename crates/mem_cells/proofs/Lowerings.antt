@@ -8,7 +8,7 @@ use Rattle.std.proofs.lemmas.List.Sums.{sum_by-append}
 use mathlib.Core.Path.{fun_ext}
 use Rattle.word_spec.specs.Words.{add, sub}
 use Rattle.word_spec.specs.Memory.{Memory, Endian, number, load, store, byte_of}
-use Rattle.term_spec.specs.Terms.{TermReading, InRange, TermNode, RegisterNode, FlagNode, ChoiceNode, BaseNode, MemoryNode, ConstantNode, BinaryNode, NotNode, SelectNode, ExtractNode, ConcatNode, ExtendNode, LoadNode, StoreNode, JoinNode, AreTyped, IsTypedOver, HasWidth, node_at, node_value, values_from, value_at, width_of, word_value, select, term_word, term_value, term_gates, term_loads, own_gates, own_loads}
+use Rattle.term_spec.specs.Terms.{TermReading, InRange, TermNode, RegisterNode, FlagNode, ChoiceNode, BaseNode, MemoryNode, ConstantNode, BinaryNode, NotNode, SelectNode, ExtractNode, ConcatNode, ExtendNode, LoadNode, StoreNode, JoinNode, TakeNode, AreTyped, IsTypedOver, HasWidth, node_at, node_value, values_from, value_at, width_of, word_value, select, term_word, term_value, term_gates, term_loads, own_gates, own_loads}
 use Rattle.term_spec.specs.Cells.{IsOfWords}
 use Rattle.walk_spec.specs.Unrolled.{UnrolledProgram}
 use Rattle.term_spec.specs.WalkQuestions.{IsNamedBelow, AreNamedBelow}
@@ -17,7 +17,7 @@ use Rattle.term_dag.specs.declared.nodes.Term.{Term}
 use Rattle.term_dag.specs.Made.{operands, moved}
 use Rattle.term_dag.proofs.ListLaws.{longer, unfolds, typed_before, typed_here, place_before}
 use Rattle.term_dag.proofs.Ranges.{word_only, result_is_width}
-use Rattle.term_dag.proofs.Copies.{moved_typed, moved_value, moved_width, moved_gates, moved_loads, moved_input}
+use Rattle.term_dag.proofs.Copies.{moved_typed, moved_value, moved_width, moved_gates, moved_loads, moved_named}
 use Rattle.mem_cells.specs.declared.building.Build.{Build}
 use Rattle.mem_cells.specs.declared.pieces.StoredByte.{StoredByte}
 use Rattle.mem_cells.specs.declared.pieces.Piece.{Piece}
@@ -25,7 +25,7 @@ use Rattle.mem_cells.specs.declared.pieces.Piece.TheVariants.{Entry, Store, Join
 use Rattle.mem_cells.specs.Pieces.{puts, link, stored_at, piece_gates, piece_at, IsStored, IsPiece}
 use Rattle.mem_cells.specs.Building.{program_of_build, read_places, IsBuilt, Grown, GivesAll, IsWord, IsOfMemory, IsStore, IsOwnNode}
 use Rattle.mem_cells.specs.Lowering.{source_of, Mean, Stands, AreLowered, IsNext, IsNextOf}
-use Rattle.mem_cells.proofs.Growing.{grown_none, named_by, named_more}
+use Rattle.mem_cells.proofs.Growing.{grown_none, named_more}
 use Rattle.mem_cells.proofs.Chains.{pieces_kept}
 use Rattle.mem_cells.proofs.LoadedBytes.{memories_later}
 use Rattle.mem_cells.proofs.PushedPieces.{longer_same, longer_by, pieces_pushed, and_memory, other_memory, that_memory, memory_of, memories_pushed, first_piece}
@@ -35,11 +35,11 @@ use Rattle.mem_cells.proofs.Steps.{word_stands, memory_stands, costs_next}
 operand_words : (ns : List TermNode) (P : ℕ → Type 0) (n : TermNode) → IsTypedOver ns n → 1 ≤ width_of n → own_loads n ≡ 0 →
     ((a : ℕ) → a < length ns → 1 ≤ width_of (node_at ns a) → P a) →
     AllByRecursion P (operands n)
-operand_words ns P (RegisterNode r) h s l f = tt
-operand_words ns P (FlagNode r) h s l f = tt
+operand_words ns P (RegisterNode part r) h s l f = tt
+operand_words ns P (FlagNode part r) h s l f = tt
 operand_words ns P (ChoiceNode i) h s l f = tt
-operand_words ns P (BaseNode j) h s l f = tt
-operand_words ns P MemoryNode h s l f = tt
+operand_words ns P (BaseNode part j) h s l f = tt
+operand_words ns P (MemoryNode part) h s l f = tt
 operand_words ns P (ConstantNode w v) h s l f = tt
 operand_words ns P (BinaryNode o w a b) h s l f = (f a h.1.0 (omega (arith, h.0.0, h.1.1)), (f b h.2.0 (omega (arith, h.0.0, h.2.1)), tt))
 operand_words ns P (NotNode w a) h s l f = (f a h.1.0 (omega (arith, h.0.0, h.1.1)), tt)
@@ -53,14 +53,15 @@ operand_words ns P (ExtendNode g n m a) h s l f = (f a h.3.0 (omega (arith, h.0.
 operand_words ns P (LoadNode n e m a) h s l f = absurd (omega (arith, h.0.0, l))
 operand_words ns P (StoreNode n e m a v) h s l f = absurd (omega (arith, s))
 operand_words ns P (JoinNode c a b) h s l f = absurd (omega (arith, s))
+operand_words ns P (TakeNode n m a p) h s l f = absurd (omega (arith, s))
 
 -- a node over words is a word and no load
 word_facts : (ns : List TermNode) (n : TermNode) → IsTypedOver ns n → IsOfWords n → (1 ≤ width_of n) × (own_loads n ≡ 0)
-word_facts ns (RegisterNode r) h w = (omega arith, refl)
-word_facts ns (FlagNode f) h w = (omega arith, refl)
+word_facts ns (RegisterNode part r) h w = (omega arith, refl)
+word_facts ns (FlagNode part f) h w = (omega arith, refl)
 word_facts ns (ChoiceNode i) h w = (omega arith, refl)
-word_facts ns (BaseNode j) h w = (omega arith, refl)
-word_facts ns MemoryNode h w = absurd w
+word_facts ns (BaseNode part j) h w = (omega arith, refl)
+word_facts ns (MemoryNode part) h w = absurd w
 word_facts ns (ConstantNode a v) h w = (h.0.0, refl)
 word_facts ns (BinaryNode o a b c) h w = ((result_is_width o a h.0.0 h.0.1).0, refl)
 word_facts ns (NotNode a b) h w = (h.0.0, refl)
@@ -71,6 +72,7 @@ word_facts ns (ExtendNode g n m a) h w = (omega (arith, h.0.0, h.1), refl)
 word_facts ns (LoadNode n e m a) h w = absurd w
 word_facts ns (StoreNode n e m a v) h w = absurd w
 word_facts ns (JoinNode c a b) h w = absurd w
+word_facts ns (TakeNode n m a p) h w = absurd w
 
 pub next_word : (ns : List TermNode) (d : ℕ) (u : UnrolledProgram) (n : TermNode) → AreTyped ns → IsNext u ns d n → IsOfWords n → (1 ≤ width_of n) ×
     (own_loads n ≡ 0)
@@ -84,7 +86,7 @@ words_before ns d P n h l e s o f =
     operand_words (take d ns) P n (typed_before ns d n h l e) s o
     (λ a k w.
     let b = place_before ns d (width_of (node_at (take d ns) a)) a l (k, refl) in
-    let same : width_of (node_at (take d ns) a) ≡ width_of (node_at ns a) = ap width_of (get_or-take d ns a MemoryNode b) in
+    let same : width_of (node_at (take d ns) a) ≡ width_of (node_at ns a) = ap width_of (get_or-take d ns a (MemoryNode 0) b) in
     f a b (omega (arith, w, same)))
 
 -- words stand for them
@@ -103,9 +105,7 @@ moved_own ns d b words numbers stored pieces u n h x w o = record {
       (words_before ns d (λ a. HasWidth b.dag (width_of (node_at ns a)) (link words a)) n h.typed x.within x.is w o (λ a l k. h.stands.widths a l k));
   word = omega (arith, moved_width (link words) n, w);
   loads = moved_loads (link words) n ∙ o;
-  named = named_by u (length (read_places b)) (moved (link words) n)
-      (λ i. subst (IsNamedBelow u (length (read_places b))) (sym (moved_input (link words) n i))
-      (named_more u 0 (length (read_places b)) n (omega arith) x.named));
+  named = moved_named u (length (read_places b)) (link words) n (named_more u 0 (length (read_places b)) n (omega arith) x.named);
 }
 
 -- so the node over these words may be made
@@ -166,7 +166,7 @@ pub record IsLoadOf (ns : List TermNode) (d : ℕ) (n m a : ℕ) : Type 0 where
   pub address : (a < d) × (width_of (node_at ns a) ≡ 32)
 
 at_before : (ns : List TermNode) (d w t : ℕ) → d < length ns → HasWidth (take d ns) w t → (t < d) × (width_of (node_at ns t) ≡ w)
-at_before ns d w t l h = let b = place_before ns d w t l h in (b, sym (ap width_of (get_or-take d ns t MemoryNode b)) ∙ h.1)
+at_before ns d w t l h = let b = place_before ns d w t l h in (b, sym (ap width_of (get_or-take d ns t (MemoryNode 0) b)) ∙ h.1)
 
 pub load_of : (ns : List TermNode) (d : ℕ) (u : UnrolledProgram) (n m a : ℕ) (e : Endian) → AreTyped ns → IsNext u ns d (LoadNode n e m a) → IsLoadOf ns d n m a
 load_of ns d u n m a e h x =
@@ -235,7 +235,7 @@ store_gates a b stored m at v n e (Join c q r) h = absurd h
 
 store_memory : (a b : Build) (stored : List StoredByte) (m at v n : ℕ) (e : Endian) (p : Piece) (x : TermReading) (f : ℕ → Memory) (i : ℕ) → InRange x →
     i < 2 ^ 32 → IsStore a b stored m at v n e p →
-    memory_of (term_word x b.dag) x.mem f stored p i ≡ store e n (f m) (term_word x a.dag at) (term_word x a.dag v) i
+    memory_of (term_word x b.dag) (x.mem 0) f stored p i ≡ store e n (f m) (term_word x a.dag at) (term_word x a.dag v) i
 store_memory a b stored m at v n e Entry x f i r l h = absurd h
 store_memory a b stored m at v n e (Store q s g k) x f i r l h =
     ap (λ z. puts i (λ j. term_word x b.dag (stored_at stored (g + j)).address.0) (λ j. term_word x b.dag (stored_at stored (g + j)).value.0) z (f q i)) h.1
@@ -271,9 +271,9 @@ store_lowered ns d a b words more numbers others stored after rest pieces longes
           (memory_stands ns d a b (n * 64) 0 words numbers stored after pieces (pieces ++ piece ∷ []) t k g h.stands (sym (ap width_of x.is))
           (pieces_pushed b.dag stored after pieces piece y old is) (omega (arith, count)) (omega (arith, count, ek))
           (λ z i w f c.
-          let new = memory_of (term_word z b.dag) z.mem f after piece in (
+          let new = memory_of (term_word z b.dag) (z.mem 0) f after piece in (
             and_memory f (length pieces) new,
-            memories_pushed b.dag (term_word z b.dag) z.mem stored after pieces piece f y old is
+            memories_pushed b.dag (term_word z b.dag) (z.mem 0) stored after pieces piece f y old is
                 (memories_later a b (n * 64) 0 z stored pieces f g h.stands.pieces c.are),
             λ q j l. other_memory f (length pieces) new q j l,
             λ j l.
@@ -332,9 +332,9 @@ join_lowered ns d a words more numbers others stored pieces longest u c m n cond
           (memory_stands ns d a a 0 0 words numbers stored stored pieces (pieces ++ piece ∷ []) t k g h.stands (sym (ap width_of x.is))
           (pieces_pushed a.dag stored stored pieces piece y h.stands.pieces is) (omega (arith, count)) (omega (arith, count, ek))
           (λ z i v f e.
-          let new = memory_of (term_word z a.dag) z.mem f stored piece in (
+          let new = memory_of (term_word z a.dag) (z.mem 0) f stored piece in (
             and_memory f (length pieces) new,
-            memories_pushed a.dag (term_word z a.dag) z.mem stored stored pieces piece f y h.stands.pieces is e.are,
+            memories_pushed a.dag (term_word z a.dag) (z.mem 0) stored stored pieces piece f y h.stands.pieces is e.are,
             λ q j l. other_memory f (length pieces) new q j l,
             λ j l.
                 that_memory f (length pieces) new k j ek
@@ -352,10 +352,10 @@ join_lowered ns d a words more numbers others stored pieces longest u c m n cond
 
 -- the memory at entry
 pub entry_lowered : (ns : List TermNode) (d : ℕ) (a : Build) (words more : List Term) (numbers others : List ℕ) (stored : List StoredByte) (pieces : List Piece)
-    (u : UnrolledProgram) (t : Term) →
-    AreLowered ns d a words numbers stored pieces → IsNext u ns d MemoryNode → more ≡ words ++ t ∷ [] → others ≡ numbers ++ 0 ∷ [] →
+    (u : UnrolledProgram) (part : ℕ) (t : Term) →
+    AreLowered ns d a words numbers stored pieces → IsNext u ns d (MemoryNode part) → more ≡ words ++ t ∷ [] → others ≡ numbers ++ 0 ∷ [] →
     AreLowered ns (d + 1) a more others stored pieces
-entry_lowered ns d a words more numbers others stored pieces u t h x ew en =
+entry_lowered ns d a words more numbers others stored pieces u part t h x ew en =
     let first = first_piece a.dag stored (piece_at pieces 0) (h.stands.pieces 0 (omega (arith, h.stands.some))) in
     record {
       typed = h.typed;
@@ -370,10 +370,11 @@ entry_lowered ns d a words more numbers others stored pieces u t h x ew en =
             λ q j l. refl,
             λ j l.
                 e.are j l 0 (omega (arith, h.stands.some))
-                ∙ ap (λ q. memory_of (term_word z a.dag) z.mem f stored q j) first
-                ∙ ap (λ q. q.bytes j) (sym (of_node z ns d MemoryNode h.typed x.within x.is)),
+                ∙ ap (λ q. memory_of (term_word z a.dag) (z.mem 0) f stored q j) first
+                ∙ ap (λ k. z.mem k j) (sym x.named)
+                ∙ ap (λ q. q.bytes j) (sym (of_node z ns d (MemoryNode part) h.typed x.within x.is)),
           ))));
-      costs = costs_next ns d MemoryNode (term_gates a.dag) (length (read_places a)) (sum_by piece_gates pieces) (term_gates a.dag) (length (read_places a))
+      costs = costs_next ns d (MemoryNode part) (term_gates a.dag) (length (read_places a)) (sum_by piece_gates pieces) (term_gates a.dag) (length (read_places a))
           (sum_by piece_gates pieces) x.within x.is h.costs (omega arith) (omega arith) (omega arith);
     }
 
@@ -410,9 +411,9 @@ none_lowered ns a h e f = record {
     widths = λ t l k. absurd (omega (arith, l));
     within = λ t l k. absurd (omega (arith, l));
     means = λ x i v. (
-      λ q. x.mem,
+      λ q. x.mem 0,
       record {
-        are = λ i l q b. entry_has (term_word x a.dag) x.mem i q b;
+        are = λ i l q b. entry_has (term_word x a.dag) (x.mem 0) i q b;
         words = λ t l k. absurd (omega (arith, l));
         bytes = λ t l k i b. absurd (omega (arith, l));
       },
@@ -440,7 +441,7 @@ next_of a b d n e l is h =
       within = omega (arith, l, ap length es);
       is = is ∙ ap (λ z. node_at z d) (sym es);
       named = subst (λ (u : UnrolledProgram). IsNamedBelow u 0 n) (sym eu)
-          (h n (subst (Contains (source_of a)) (sym is) (Contains-get_or (source_of a) d MemoryNode l)));
+          (h n (subst (Contains (source_of a)) (sym is) (Contains-get_or (source_of a) d (MemoryNode 0) l)));
     }
 
 -- a lowered term of another build of the question

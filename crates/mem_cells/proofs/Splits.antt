@@ -9,11 +9,17 @@ use Rattle.mem_cells.specs.Pieces.{IsSplit, IsZero}
 
 -- a reading under which all is 0
 nothing : TermReading
-nothing = record { regs = λ n. 0; flags = λ n. 0; mem = λ n. 0; choice = λ n. 0; base = λ n. 0 }
+nothing = record { regs = λ p n. 0; flags = λ p n. 0; mem = λ p n. 0; choice = λ n. 0; base = λ p n. 0 }
 
 nothing_fits : InRange nothing
 unfolding nothing
-nothing_fits = record { regs = λ n. omega arith; flags = λ n. omega arith; mem = λ n. omega arith; choice = λ n. omega arith; base = λ n. omega arith }
+nothing_fits = record {
+  regs = λ p n. omega arith;
+  flags = λ p n. omega arith;
+  mem = λ p n. omega arith;
+  choice = λ n. omega arith;
+  base = λ p n. omega arith;
+}
 
 -- a constant of 32 bits is below 2 ^ 32
 pub constant_below : (ns : List TermNode) (t c : ℕ) → AreTyped ns → HasWidth ns 32 t → ((x : TermReading) → term_word x ns t ≡ c) → c < 2 ^ 32

@@ -91,7 +91,7 @@ pub memory_stands : (ns : List TermNode) (d : ℕ) (a b : Build) (g r : ℕ) (wo
     (pieces more : List Piece) (w : Term) (k : ℕ) → Grown a b g r →
     Stands ns d a words numbers stored pieces → width_of (node_at ns d) ≡ 0 → ArePieces b.dag others more → length pieces ≤ length more → k < length more →
     ((x : TermReading) → InRange x → GivesAll b x → (m : ℕ → Memory) → Mean x ns d (term_word x a.dag) words numbers stored pieces m →
-    (n : ℕ → Memory) × AreMemories (term_word x b.dag) x.mem others more n × ((q i : ℕ) → q < length pieces → n q i ≡ m q i) ×
+    (n : ℕ → Memory) × AreMemories (term_word x b.dag) (x.mem 0) others more n × ((q i : ℕ) → q < length pieces → n q i ≡ m q i) ×
     ((i : ℕ) → i < 2 ^ 32 → n k i ≡ (term_value x ns d).bytes i)) →
     Stands ns (d + 1) b (words ++ w ∷ []) (numbers ++ k ∷ []) others more
 memory_stands ns d a b g r words numbers stored others pieces more w k p s none are few within f = record {
@@ -128,7 +128,7 @@ memory_stands ns d a b g r words numbers stored others pieces more w k p s none 
 
 node_sum : (f : TermNode → ℕ) (ns : List TermNode) (d : ℕ) (n : TermNode) → d < length ns → n ≡ node_at ns d →
     sum_by f (take (d + 1) ns) ≡ sum_by f (take d ns) + f n
-node_sum f ns d n l e = sum_by_more f ns d MemoryNode l ∙ ap (λ z. sum_by f (take d ns) + f z) (sym e)
+node_sum f ns d n l e = sum_by_more f ns d (MemoryNode 0) l ∙ ap (λ z. sum_by f (take d ns) + f z) (sym e)
 
 times_sum : (l k q : ℕ) → (l + k) * q ≡ l * q + k * q
 times_sum l k q = grind arith

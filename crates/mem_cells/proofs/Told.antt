@@ -4,7 +4,7 @@ use Rattle.std.specs.Prelude.{slice_index, Contains}
 use Rattle.std.proofs.Math.Nat.{mul-le-mul_left, mul-le-mul_right}
 use Rattle.std.proofs.lemmas.List.{take_all, get_or_default}
 use Rattle.std.proofs.lemmas.List.Sums.{get_or-le-sum_by}
-use Rattle.term_spec.specs.Terms.{TermReading, InRange, TermNode, RegisterNode, FlagNode, ChoiceNode, BaseNode, MemoryNode, ConstantNode, BinaryNode, NotNode, SelectNode, ExtractNode, ConcatNode, ExtendNode, LoadNode, StoreNode, JoinNode, IsTypedOver, HasWidth, width_of, own_loads, term_word, term_gates, term_loads, term_stores, term_joins, node_at, with_mem}
+use Rattle.term_spec.specs.Terms.{TermReading, InRange, TermNode, RegisterNode, FlagNode, ChoiceNode, BaseNode, MemoryNode, ConstantNode, BinaryNode, NotNode, SelectNode, ExtractNode, ConcatNode, ExtendNode, LoadNode, StoreNode, JoinNode, TakeNode, IsTypedOver, HasWidth, width_of, own_loads, term_word, term_gates, term_loads, term_stores, term_joins, node_at, with_mem}
 use Rattle.walk_spec.specs.Unrolled.{UnrolledProgram, byte_of_runs}
 use Rattle.walk_spec.specs.Prices.{loads_of, stores_of, edges_of, known_of}
 use Rattle.term_spec.specs.WalkQuestions.{QuestionTerm, Room, AreTermsWithin, question_room, HasAsked}
@@ -32,11 +32,11 @@ use Rattle.mem_cells.proofs.Lowerings.{root_stands, root_means}
 
 -- a word that is no load is a node over words
 of_words : (ns : List TermNode) (n : TermNode) → IsTypedOver ns n → 1 ≤ width_of n → own_loads n ≡ 0 → IsOfWords n
-of_words ns (RegisterNode r) h w l = tt
-of_words ns (FlagNode f) h w l = tt
+of_words ns (RegisterNode part r) h w l = tt
+of_words ns (FlagNode part f) h w l = tt
 of_words ns (ChoiceNode i) h w l = tt
-of_words ns (BaseNode j) h w l = tt
-of_words ns MemoryNode h w l = absurd (omega (arith, w))
+of_words ns (BaseNode part j) h w l = tt
+of_words ns (MemoryNode part) h w l = absurd (omega (arith, w))
 of_words ns (ConstantNode a v) h w l = tt
 of_words ns (BinaryNode o a b c) h w l = tt
 of_words ns (NotNode a b) h w l = tt
@@ -47,10 +47,11 @@ of_words ns (ExtendNode a b c d) h w l = tt
 of_words ns (LoadNode n e m a) h w l = absurd (omega (arith, h.0.0, l))
 of_words ns (StoreNode n e m a v) h w l = absurd (omega (arith, w))
 of_words ns (JoinNode c a b) h w l = absurd (omega (arith, w))
+of_words ns (TakeNode n m a p) h w l = absurd (omega (arith, w))
 
 all_words : (u : UnrolledProgram) (ns : List TermNode) (ps : List ℕ) → Cellular u ns ps → (n : TermNode) → Contains ns n → IsOfWords n
 all_words u ns ps c n k =
-    let e : n ≡ node_at ns k.0 = sym k.2 ∙ get_or_default ns k.0 n MemoryNode k.1 in
+    let e : n ≡ node_at ns k.0 = sym k.2 ∙ get_or_default ns k.0 n (MemoryNode 0) k.1 in
     let s = get_or-le-sum_by own_loads ns k.0 n k.1 in
     of_words ns n (typed_here ns k.0 n c.typed k.1 e) (c.words n k) (omega (arith, s, c.loads, ap own_loads k.2))
 
@@ -158,11 +159,11 @@ module _ (u : UnrolledProgram) (t : QuestionTerm) (asks : ℕ →
       ∙ root_means t.nodes mid words numbers stored pieces 1 t.root h.lowered (omega arith) h.width x i
       (gives_before mid b cost 0 x h.lowered.stands.built h.grown v)
 
-  sound : (x : TermReading) → InRange x → Gives (told_cells b ts xs root) x → HasAsked u asks x.mem → IsAllowed (told_cells b ts xs root) x
+  sound : (x : TermReading) → InRange x → Gives (told_cells b ts xs root) x → HasAsked u asks (x.mem 0) → IsAllowed (told_cells b ts xs root) x
   sound x i v m = record {
-    agrees = each_map agreement_of ts (λ a. term_word x b.dag a.condition ≡ 1 → x.base a.read ≡ x.base a.other)
-        (λ a k o. let f = h.agree.formed a k in v a.read f.1 ∙ ap x.mem (h.agree.sound x i a k o) ∙ sym (v a.other f.2));
-    asked = each_map asked_of xs (λ a. term_word x b.dag a.condition ≡ 1 → x.base a.read ≡ a.byte)
+    agrees = each_map agreement_of ts (λ a. term_word x b.dag a.condition ≡ 1 → x.base 0 a.read ≡ x.base 0 a.other)
+        (λ a k o. let f = h.agree.formed a k in v a.read f.1 ∙ ap (x.mem 0) (h.agree.sound x i a k o) ∙ sym (v a.other f.2));
+    asked = each_map asked_of xs (λ a. term_word x b.dag a.condition ≡ 1 → x.base 0 a.read ≡ a.byte)
         (λ a k o.
         let f = h.says.formed a k in
         let at = term_word x b.dag (slice_index (read_places b) a.read) in
@@ -174,9 +175,9 @@ module _ (u : UnrolledProgram) (t : QuestionTerm) (asks : ℕ →
       Gives (told_cells b ts xs root) (with_mem x m)
   complete x i a =
       memory_is u asks (told_cells b ts xs root) x i (all_words u b.dag (read_places b) cells) h.bytes
-      (λ j k l n e. h.agree.complete x i x.base (λ y c. a.agrees (agreement_of y) (contains_map agreement_of ts y c)) j k (l, inl n) e)
+      (λ j k l n e. h.agree.complete x i (x.base 0) (λ y c. a.agrees (agreement_of y) (contains_map agreement_of ts y c)) j k (l, inl n) e)
       (λ j y l q e.
-      h.says.complete x i x.base (λ z c. a.asked (asked_of z) (contains_map asked_of xs z c)) j
+      h.says.complete x i (x.base 0) (λ z c. a.asked (asked_of z) (contains_map asked_of xs z c)) j
       (file_byte (term_word x b.dag (slice_index (read_places b) j)) y)
       (l, h.given.complete (term_word x b.dag (slice_index (read_places b) j)) y q e) refl)
 

@@ -37,7 +37,7 @@ IsBuilt b = Cellular (program_of_build b) b.dag (read_places b)
 
 -- the memory at entry has the bytes of the reads
 abbrev pub GivesAll : Build → TermReading → Type 0
-GivesAll b x = (j : ℕ) → j < length (read_places b) → x.base j ≡ x.mem (term_word x b.dag (slice_index (read_places b) j))
+GivesAll b x = (j : ℕ) → j < length (read_places b) → x.base 0 j ≡ x.mem 0 (term_word x b.dag (slice_index (read_places b) j))
 
 -- more was built, with at most so many gates and reads
 pub record Grown (old new : Build) (g r : ℕ) : Type 0 where
@@ -73,7 +73,7 @@ FollowPieces w m stored pieces i bytes = (q : ℕ) → q < length pieces → byt
 pub record IsByteOf (old new : Build) (stored : List StoredByte) (pieces : List Piece) (q address t : ℕ) : Type 0 where
   pub place : HasWidth new.dag 8 t
   pub value : (x : TermReading) → InRange x → GivesAll new x → (bytes : ℕ → ℕ) →
-      FollowPieces (term_word x old.dag) x.mem stored pieces (term_word x old.dag address) bytes →
+      FollowPieces (term_word x old.dag) (x.mem 0) stored pieces (term_word x old.dag address) bytes →
       term_word x new.dag t ≡ bytes q
 
 -- memories, one for each piece, are those of the pieces
@@ -83,7 +83,7 @@ AreMemories w m stored pieces memories = (i : ℕ) → i < 2 ^ 32 → FollowPiec
 -- a term has the word of a width that hangs on the memory of a piece
 pub record IsOfMemory (old new : Build) (stored : List StoredByte) (pieces : List Piece) (q w t : ℕ) (f : TermReading → Memory → ℕ) : Type 0 where
   pub place : HasWidth new.dag w t
-  pub value : (x : TermReading) → InRange x → GivesAll new x → (memories : ℕ → Memory) → AreMemories (term_word x old.dag) x.mem stored pieces memories →
+  pub value : (x : TermReading) → InRange x → GivesAll new x → (memories : ℕ → Memory) → AreMemories (term_word x old.dag) (x.mem 0) stored pieces memories →
       term_word x new.dag t ≡ f x (memories q)
 
 -- the number of some bytes with one more

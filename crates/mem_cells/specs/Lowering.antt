@@ -19,7 +19,7 @@ source_of b = b.question.now.dag
 -- Words, and memories by the numbers of pieces, are those of the first terms of some nodes.
 pub record Mean (x : TermReading) (ns : List TermNode) (d : ℕ) (w : ℕ →
     ℕ) (ts : List Term) (numbers : List ℕ) (stored : List StoredByte) (pieces : List Piece) (memories : ℕ → Memory) : Type 0 where
-  pub are : AreMemories w x.mem stored pieces memories
+  pub are : AreMemories w (x.mem 0) stored pieces memories
   pub words : (t : ℕ) → t < d → 1 ≤ width_of (node_at ns t) → w (link ts t) ≡ term_word x ns t
   pub bytes : (t : ℕ) → t < d → width_of (node_at ns t) ≡ 0 → (i : ℕ) → i < 2 ^ 32 → memories (slice_index numbers t) i ≡ (term_value x ns t).bytes i
 

@@ -37,7 +37,7 @@ pub record TellsWithWords (u : UnrolledProgram) (t : QuestionTerm) (words : List
   pub formed : AreFormed u c
   pub same : (x : TermReading) → InRange x → Gives c x → term_word x c.nodes c.root ≡ term_word x t.nodes t.root
   pub each : StandForEach t.nodes c words places
-  pub sound : (x : TermReading) → InRange x → Gives c x → HasAsked u asked x.mem → IsAllowed c x
+  pub sound : (x : TermReading) → InRange x → Gives c x → HasAsked u asked (x.mem 0) → IsAllowed c x
   pub complete : (x : TermReading) → InRange x → IsAllowed c x →
       (m : Memory) × ((a : ℕ) → m a < 256) × HasAsked u asked m × Gives c (with_mem x m)
   pub gates : (loads : ℕ) → term_loads t.nodes ≤ loads →

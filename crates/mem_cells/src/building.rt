@@ -52,13 +52,16 @@ impl<'a> Build<'a> {
         requires built { IsBuilt self.old }
         requires address { HasWidth self.old.dag 32 address.0 }
         ensures grown { OnOk result (Grown self.old self.new 0 1) }
-        ensures byte { IfOk result (λ t. IsByte self.new t.0 (λ x. x.mem (term_word x self.old.dag address.0))) }
+        ensures byte { IfOk result (λ t. IsByte self.new t.0 (λ x. x.mem 0 (term_word x self.old.dag address.0))) }
     {
         let read = self.addresses.len();
         if read >= u32::MAX as usize {
             return Err(AllocError);
         }
-        let byte = self.dag.keep(Node::Base(read as u32))?;
+        let byte = self.dag.keep(Node::Base {
+            part: 0,
+            read: read as u32,
+        })?;
         self.addresses.push(address)?;
         self.seen.insert(address.0, read as u32)?;
         Ok(byte)
@@ -69,10 +72,10 @@ impl<'a> Build<'a> {
         requires built { IsBuilt self.old }
         requires address { HasWidth self.old.dag 32 address.0 }
         ensures grown { OnOk result (Grown self.old self.new 0 1) }
-        ensures byte { IfOk result (λ t. IsByte self.new t.0 (λ x. x.mem (term_word x self.old.dag address.0))) }
+        ensures byte { IfOk result (λ t. IsByte self.new t.0 (λ x. x.mem 0 (term_word x self.old.dag address.0))) }
     {
         if let Some(read) = self.seen_read(address) {
-            let byte = self.dag.keep(Node::Base(read))?;
+            let byte = self.dag.keep(Node::Base { part: 0, read })?;
             return Ok(byte);
         }
         let byte = self.new_read(address)?;
@@ -145,7 +148,7 @@ impl<'a> Build<'a> {
         requires split { IsSplit self.old.dag address.0 at.base.0 at.offset }
         requires address { HasWidth self.old.dag 32 address.0 }
         ensures grown { OnOk result (Grown self.old self.new (piece_gates piece) (piece_reads piece)) }
-        ensures byte { IfOk result (λ t. IsByte self.new t.0 (λ x. piece_byte (term_word x self.old.dag) x.mem
+        ensures byte { IfOk result (λ t. IsByte self.new t.0 (λ x. piece_byte (term_word x self.old.dag) (x.mem 0)
             (λ q. term_word x self.old.dag (link chain.now q)) stored.now piece (term_word x self.old.dag address.0))) }
     {
         match piece {

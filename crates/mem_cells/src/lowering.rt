@@ -158,12 +158,13 @@ fn lower_join(
 }
 
 /// The next term, the memory at entry.
-fn lower_entry(build: &Build, lowered: &mut Lowered) -> Result<(), AllocError>
+fn lower_entry(build: &Build, lowered: &mut Lowered, part: u32) -> Result<(), AllocError>
     requires lowered { Lowers (length lowered.old.words.items) build.now lowered.old }
-    requires next { IsNextOf (length lowered.old.words.items) build.now MemoryNode }
+    requires next { IsNextOf (length lowered.old.words.items) build.now (MemoryNode part) }
     ensures { OnOk result (Lowers (length lowered.old.words.items + 1) build.now lowered.new) }
 {
     let _ = build;
+    let _ = part;
     lowered.words.push(Term(0))?;
     lowered.numbers.push(0)?;
     Ok(())
@@ -182,7 +183,7 @@ fn lower(
     ensures lowered { OnOk result (Lowers (length lowered.old.words.items + 1) build.new lowered.new) }
 {
     match node {
-        Node::Memory => lower_entry(build, lowered)?,
+        Node::Memory(part) => lower_entry(build, lowered, part)?,
         Node::Load {
             bytes,
             big,

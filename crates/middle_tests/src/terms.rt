@@ -21,7 +21,7 @@ fn plus(dag: &mut Dag, left: Term, value: u32) -> Result<Term, AllocError> {
 
 /// `x + 3 + 4` and `x + 7`.
 fn sums(dag: &mut Dag) -> Result<[Term; 2], AllocError> {
-    let x = dag.mk(Node::Register(0))?;
+    let x = dag.mk(Node::Register { part: 0, number: 0 })?;
     let inner = plus(dag, x, 3)?;
     Ok([plus(dag, inner, 4)?, plus(dag, x, 7)?])
 }

@@ -58,7 +58,7 @@ known_by_true u r question t a b l e = t.entry.bytes a b l e refl
 -- ---- the test of both
 
 -- a memory without the known bytes
-pub not_had : (u : UnrolledProgram) (y : TermReading) (r : Reading) (question : Question) (b : Bool) → b ≡ false → (b ≡ true) ↔ HasKnown u.known y.mem →
+pub not_had : (u : UnrolledProgram) (y : TermReading) (r : Reading) (question : Question) (b : Bool) → b ≡ false → (b ≡ true) ↔ HasKnown u.known (y.mem 0) →
     StandsFor u y r → (false ≡ true) ↔ IsTrueOfWalk u r question
 not_had u y r question b e has stands =
     (λ h. absurd (cc), λ t. (let h : b ≡ true = has.1 (subst (HasKnown u.known) (sym stands.mem) (known_by_true u r question t)) in sym e ∙ h))
@@ -71,7 +71,7 @@ by_one n h = grind (arith, nat_tests)
 
 -- and one with them, by the word of the question's term
 pub had : (u : UnrolledProgram) (y : TermReading) (r : Reading) (question : Question) (q : QuestionTerm) → TellsQuestion u question q → (b : Bool) → b ≡ true →
-    (b ≡ true) ↔ HasKnown u.known y.mem → (n : ℕ) → n ≡ term_word y q.nodes q.root → StandsFor u y r → ((n == 1) ≡ true) ↔ IsTrueOfWalk u r question
+    (b ≡ true) ↔ HasKnown u.known (y.mem 0) → (n : ℕ) → n ≡ term_word y q.nodes q.root → StandsFor u y r → ((n == 1) ≡ true) ↔ IsTrueOfWalk u r question
 had u y r question q tells b e has n is stands = (
   λ h. true_by_word u y r stands question q tells (subst (HasKnown u.known) stands.mem (has.0 e)) (sym is ∙ one_by n h),
   λ t. by_one n (is ∙ word_by_true u y r stands question q tells t),

@@ -115,15 +115,15 @@ module _ (p : Program) (k : ℕ) (layout : Layout) (u : UnrolledProgram) (un : I
 module _ (u : UnrolledProgram) (layout : Layout) (laid : IsLaidOut layout u) (fitting : IsFitting u) (numbers : List ℕ) (m : Model)
     (sound : IsSound layout (length numbers) m) (y : TermReading) (of : IsOfModel u layout numbers m y) (r : Reading) (modelled : IsModelled u layout m r)
     (takes : TakesNumbers u numbers m r) where
-  regs_same : (n : ℕ) → is_register_of u n ≡ true → y.regs n ≡ r.state.regs n
+  regs_same : (n : ℕ) → is_register_of u n ≡ true → y.regs 0 n ≡ r.state.regs n
   regs_same n h =
       let q = in_range layout.first (length layout.registers) n (subst (λ (z : List ℕ). list_any (nat_eq n) z ≡ true) laid.registers h) in
       let at : layout.first + (n - layout.first) ≡ n = omega (arith, q.0) in
       let l : n - layout.first < length m.registers.items = omega (arith, q.0, q.1, sound.registers) in
-      ap y.regs (sym at) ∙ of.regs (n - layout.first) l ∙ sym (register_is layout m.registers.items (n - layout.first))
+      ap (y.regs 0) (sym at) ∙ of.regs (n - layout.first) l ∙ sym (register_is layout m.registers.items (n - layout.first))
       ∙ ap (register_at layout m.registers.items) at ∙ sym (ap (λ (f : ℕ → ℕ). f n) modelled.regs)
 
-  flags_same : (f : ℕ) → is_flag_of u f ≡ true → y.flags f ≡ r.state.flags f
+  flags_same : (f : ℕ) → is_flag_of u f ≡ true → y.flags 0 f ≡ r.state.flags f
   flags_same f h =
       let l : f < u.flags = grind (arith, nat_tests) in
       of.flags f (omega (arith, l, fitting.flags)) ∙ sym (ap (λ (g : ℕ → ℕ). g f) modelled.flags)

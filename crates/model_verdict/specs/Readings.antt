@@ -18,9 +18,9 @@ pub record AreDrawn (u : UnrolledProgram) (numbers : List ℕ) (drawn : List Boo
 
 -- The data are those of a model; a choice is drawn, or 0.
 pub record IsOfModel (u : UnrolledProgram) (layout : Layout) (numbers : List ℕ) (m : Model) (y : TermReading) : Type 0 where
-  pub regs : (i : ℕ) → i < length m.registers.items → y.regs (layout.first + i) ≡ slice_index m.registers.items i
-  pub flags : (f : ℕ) → f < 8 → y.flags f ≡ bit_at f m.flags
-  pub mem : y.mem ≡ memory_over u.known m.memory
+  pub regs : (i : ℕ) → i < length m.registers.items → y.regs 0 (layout.first + i) ≡ slice_index m.registers.items i
+  pub flags : (f : ℕ) → f < 8 → y.flags 0 f ≡ bit_at f m.flags
+  pub mem : y.mem 0 ≡ memory_over u.known m.memory
   pub choice : (i : ℕ) → i < length u.points →
       y.choice i ≡ (if (point_at u i).draws then slice_index m.choices.items (slice_index numbers i) else 0)
 
@@ -28,9 +28,9 @@ pub record IsOfModel (u : UnrolledProgram) (layout : Layout) (numbers : List ℕ
 pub record StandsFor (u : UnrolledProgram) (y : TermReading) (r : Reading) : Type 0 where
   pub reading : IsReading r
   pub pc : r.state.pc ≡ u.entry
-  pub regs : (n : ℕ) → is_register_of u n ≡ true → y.regs n ≡ r.state.regs n
-  pub flags : (f : ℕ) → is_flag_of u f ≡ true → y.flags f ≡ r.state.flags f
-  pub mem : y.mem ≡ r.state.mem
+  pub regs : (n : ℕ) → is_register_of u n ≡ true → y.regs 0 n ≡ r.state.regs n
+  pub flags : (f : ℕ) → is_flag_of u f ≡ true → y.flags 0 f ≡ r.state.flags f
+  pub mem : y.mem 0 ≡ r.state.mem
   pub choice : (i : ℕ) → i < length u.points → y.choice i ≡ (if (point_at u i).draws then r.choice (point_at u i).point else 0)
 
 -- the state of a reading is that of a model

@@ -39,7 +39,7 @@ pub fn is_true(
 ) -> Result<bool, AllocError>
     requires askable { IsAskable passive.now }
     requires sound { IsSoundMemory memory.now }
-    requires memory { (reading_of reading.now).mem ≡ memory_over (unrolled_of passive.now.unrolled.now).known memory.now }
+    requires memory { (reading_of reading.now).mem 0 ≡ memory_over (unrolled_of passive.now.unrolled.now).known memory.now }
     ensures { IfOk result (λ b. (r : questions.Reading) → StandsFor (unrolled_of passive.now.unrolled.now) (reading_of reading.now) r →
         (b ≡ true) ↔ IsTrueOfWalk (unrolled_of passive.now.unrolled.now) r (kind_of kind)) }
 {

@@ -26,11 +26,11 @@ bit_stays ns t typed within width = step_stays ns 32 2 (λ w. w ≡ 1) _ t typed
 
 -- a reading of zeros
 abbrev nothing : TermReading
-nothing = record { regs = λ n. 0; flags = λ f. 0; mem = λ a. 0; choice = λ i. 0; base = λ j. 0 }
+nothing = record { regs = λ p n. 0; flags = λ p f. 0; mem = λ p a. 0; choice = λ i. 0; base = λ p j. 0 }
 
 -- it is in range
 nothing_in_range : InRange nothing
-nothing_in_range = record { regs = λ n. omega arith; flags = λ f. omega arith; mem = λ a. omega arith; choice = λ i. omega arith; base = λ j. omega arith }
+nothing_in_range = record { regs = λ p n. omega arith; flags = λ p f. omega arith; mem = λ p a. omega arith; choice = λ i. omega arith; base = λ p j. omega arith }
 
 -- the constant that a term of at most 32 bits is
 pub constant_fits : (ns : List TermNode) (t v : ℕ) → AreTyped ns → IsNarrow ns t → ((x : TermReading) → term_word x ns t ≡ v) → v < 4294967296

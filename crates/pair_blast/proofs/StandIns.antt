@@ -5,8 +5,8 @@ use Rattle.std.specs.Global.{Vec}
 use Rattle.std.proofs.lemmas.Bool.Decides.{nat_tests}
 use Rattle.std.proofs.lemmas.List.{append-nil, drop_all, get_or-map, map-set, set-get_or, take_all}
 use Rattle.word_spec.specs.Words.{bit}
-use Rattle.term_spec.specs.Terms.{TermReading, TermNode, TermValue, RegisterNode, FlagNode, ChoiceNode, BaseNode, MemoryNode, ConstantNode, BinaryNode, NotNode, SelectNode, ExtractNode, ConcatNode, ExtendNode, LoadNode, StoreNode, JoinNode, node_at, node_value, term_word, value_at, values_from, AreTyped}
-use Rattle.term_dag.specs.Nodes.{IsInput}
+use Rattle.term_spec.specs.Terms.{TermReading, TermNode, TermValue, RegisterNode, FlagNode, ChoiceNode, BaseNode, MemoryNode, ConstantNode, BinaryNode, NotNode, SelectNode, ExtractNode, ConcatNode, ExtendNode, LoadNode, StoreNode, JoinNode, TakeNode, node_at, node_value, term_word, value_at, values_from, AreTyped}
+use Rattle.term_dag.specs.Nodes.{IsWordInput}
 use Rattle.term_dag.proofs.ListLaws.{by_node}
 use Rattle.term_dag.specs.declared.nodes.Term.{Term}
 use Rattle.gates.specs.declared.bit.Bit.{Bit}
@@ -49,12 +49,12 @@ number_same v (x ∷ xs) (y ∷ ys) e =
 
 -- ---- the words of inputs
 
-free : (x : TermReading) (vs : List TermValue) (n : TermNode) → IsInput n → (node_value x vs n).word ≡ (node_value x [] n).word
-free x vs (RegisterNode r) h = refl
-free x vs (FlagNode f) h = refl
+free : (x : TermReading) (vs : List TermValue) (n : TermNode) → IsWordInput n → (node_value x vs n).word ≡ (node_value x [] n).word
+free x vs (RegisterNode p r) h = refl
+free x vs (FlagNode p f) h = refl
 free x vs (ChoiceNode i) h = refl
-free x vs (BaseNode j) h = refl
-free x vs MemoryNode h = absurd h
+free x vs (BaseNode p j) h = refl
+free x vs (MemoryNode p) h = absurd h
 free x vs (ConstantNode w c) h = absurd h
 free x vs (BinaryNode o w a b) h = absurd h
 free x vs (NotNode w a) h = absurd h
@@ -65,8 +65,9 @@ free x vs (ExtendNode s n m a) h = absurd h
 free x vs (LoadNode n e m a) h = absurd h
 free x vs (StoreNode n e m a c) h = absurd h
 free x vs (JoinNode c a b) h = absurd h
+free x vs (TakeNode n m a p) h = absurd h
 
-pub input_word : (x : TermReading) (ns : List TermNode) (t : ℕ) (n : TermNode) → AreTyped ns → t < length ns → n ≡ node_at ns t → IsInput n →
+pub input_word : (x : TermReading) (ns : List TermNode) (t : ℕ) (n : TermNode) → AreTyped ns → t < length ns → n ≡ node_at ns t → IsWordInput n →
     term_word x ns t ≡ (node_value x [] n).word
 input_word x ns t n h l e i = ap (λ z. z.word) (by_node x ns t n h l e) ∙ free x (values_from x [] ns) n i
 

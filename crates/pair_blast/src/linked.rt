@@ -2,7 +2,7 @@
 ghost use Rattle.std.specs.Prelude.{◌≡◌, ℕ, ◌+◌, ◌≤◌, Bool, true, List, length, Contains, [], IfOk};
 ghost use Rattle.clause_spec.specs.Clauses.{valuation};
 ghost use Rattle.term_spec.specs.Terms.{TermReading, TermNode, node_value, width_of, AreTyped};
-ghost use Rattle.term_dag.specs.Nodes.{IsInput, node_of};
+ghost use Rattle.term_dag.specs.Nodes.{IsWordInput, node_of};
 ghost use Rattle.gates.specs.Circuits.{Within};
 ghost use Rattle.word_gates.specs.Numbers.{input_number, number};
 ghost use Rattle.pair_spec.specs.PairTerms.{same_words};
@@ -17,13 +17,13 @@ use term_dag::{Dag, Node, Term};
 
 /// Whether a node is an input.
 fn is_input(node: Node) -> bool
-    ensures { result ≡ true → IsInput (node_of node) }
+    ensures { result ≡ true → IsWordInput (node_of node) }
 {
     match node {
-        Node::Register(_) => true,
-        Node::Flag(_) => true,
+        Node::Register { .. } => true,
+        Node::Flag { .. } => true,
         Node::Choice(_) => true,
-        Node::Base(_) => true,
+        Node::Base { .. } => true,
         _ => false,
     }
 }
@@ -50,7 +50,7 @@ fn stand_in(bits: &mut [Bit], places: &InputPlaces, node: Node, word: &[Bit])
     ensures len { length bits.new ≡ length bits.old }
     ensures within { (n : ℕ) → Within n bits.old → Within n word.now → Within n bits.new }
     ensures value { (v : ℕ → Bool) (ts : List Bool) (x : TermReading) → truths v bits.old ≡ ts → IsReadingAt places.now (valuation ts) x →
-        (IsInput (node_of node) → number v word.now ≡ (node_value x [] (node_of node)).word) → truths v bits.new ≡ ts }
+        (IsWordInput (node_of node) → number v word.now ≡ (node_value x [] (node_of node)).word) → truths v bits.new ≡ ts }
 {
     if !is_input(node) {
         return;

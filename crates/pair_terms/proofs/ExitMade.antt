@@ -103,7 +103,7 @@ module _ (w : UnrolledProgram) (second : Bool) (links : List Link) (count : ℕ)
     pc = ap (λ v. v.word) (pc.value x);
   }
 
-  link_word : (x : TermReading) → InRange x → term_word x c now.pc.0 ≡ x.regs w.link
+  link_word : (x : TermReading) → InRange x → term_word x c now.pc.0 ≡ x.regs 0 w.link
   link_word x r =
       let long = range_length m.first (length m.registers.items) in
       let many = entry.registers in
@@ -112,9 +112,9 @@ module _ (w : UnrolledProgram) (second : Bool) (links : List Link) (count : ℕ)
       let at : slice_index (from_to m.first (length m.registers.items)) (w.link - low) ≡ w.link =
       range_at m.first (length m.registers.items) (w.link - low) (omega (arith, many, above, below)) ∙ omega (arith, first, above) in
       ap (term_word x c) now_pc ∙ ap (λ v. v.word) (pc_grew.keeps x _ (entry.names.words (w.link - low) k).0)
-      ∙ (entry.denotes x r).registers (w.link - low) k ∙ ap x.regs at
+      ∙ (entry.denotes x r).registers (w.link - low) k ∙ ap (x.regs 0) at
 
-  now_state : (x : TermReading) → InRange x → (s : Carried) → Denotes (form_of n) a x (names_of n) s → IsStateOf c x now s (x.regs w.link)
+  now_state : (x : TermReading) → InRange x → (s : Carried) → Denotes (form_of n) a x (names_of n) s → IsStateOf c x now s (x.regs 0 w.link)
   now_state x r s q = record {
     carried = subst (λ (z : Names). Denotes (form_of z) c x (names_of z) s) (sym now_names)
         (denotes_stays (form_of n) a c _ _ _ _ _ (names_of n) x s to_c own_names q);
@@ -137,14 +137,14 @@ module _ (w : UnrolledProgram) (second : Bool) (links : List Link) (count : ℕ)
     met_word : (q : Bool) → (held_last w r).met (last_of w) ≡ q →
         term_word x d met ≡ bit (q && all_hold w.endian (ensured_lines w) (last_state w r) r.state)
     met_word true is =
-        hold.value x ok at_last (at_entry x) (x.regs w.link) w.entry (now_state x ok at_last (denotes_for w n a x at_last last.form (last.denotes r k at is)))
+        hold.value x ok at_last (at_entry x) (x.regs 0 w.link) w.entry (now_state x ok at_last (denotes_for w n a x at_last last.form (last.denotes r k at is)))
         (entry_state x ok) true (ap (λ v. v.word) (to_c.keeps x reached tells.0.0) ∙ tells.1 r k at ∙ ap bit is)
         ∙ ap (λ (s : State). bit (true && all_hold (endian big) lines (last_state w r) s)) entry_is
         ∙ ap (λ z. bit (true && all_hold z lines (last_state w r) r.state)) endian_is
         ∙ ap (λ (z : List Expr). bit (true && all_hold w.endian z (last_state w r) r.state)) lines_are
     met_word false is =
         let s = denoted n a x in
-        hold.value x ok s (at_entry x) (x.regs w.link) w.entry (now_state x ok s (denote_some n a x)) (entry_state x ok) false
+        hold.value x ok s (at_entry x) (x.regs 0 w.link) w.entry (now_state x ok s (denote_some n a x)) (entry_state x ok) false
         (ap (λ v. v.word) (to_c.keeps x reached tells.0.0) ∙ tells.1 r k at ∙ ap bit is)
 
     met_tells : term_word x e met ≡ bit (leaves_last w r)

@@ -13,7 +13,8 @@ use Rattle.walk_spec.specs.Unrolled.{PointExit, Raising, WritingKept, Unaligned,
 use Rattle.notes_value.specs.NoteViews.{notes_of}
 use Rattle.program_points.proofs.Stacked.{stack_none}
 use Rattle.question_form.specs.declared.unrolled.Aim.{Aim}
-use Rattle.question_form.specs.declared.unrolled.Aim.TheVariants.{OnTo, Outward, OverLast}
+use Rattle.question_form.specs.declared.unrolled.Deed.TheVariants.{Row}
+use Rattle.question_form.specs.declared.unrolled.Aim.TheVariants.{OnTo, IntoHead, Outward, OverLast}
 use Rattle.question_form.specs.declared.unrolled.Edge.{Edge}
 use Rattle.question_form.specs.declared.unrolled.Code.{Code}
 use Rattle.question_form.specs.declared.unrolled.Point.{Point}
@@ -29,6 +30,7 @@ edge_same : (n : ℕ) (falls jumps : _) (to : _) (a : Aim) →
     edge_of (record { falls = falls; jumps = jumps; to = to; aim = led_to n a }) ≡ exit_aimed n (edge_of (record { falls = falls; jumps = jumps; to = to; aim = a }))
 edge_same n falls jumps to Outward = refl
 edge_same n falls jumps to (OnTo i) = refl
+edge_same n falls jumps to (IntoHead at asserts) = refl
 edge_same n falls jumps to OverLast = refl
 
 edges_same : (n : ℕ) (es : List Edge) → map edge_of (map (edge_led n) es) ≡ map (exit_aimed n) (map edge_of es)
@@ -60,7 +62,7 @@ take_none [] = refl
 take_none (x ∷ xs) = refl
 
 no_point : Point
-no_point = record { turns = 4097; code = 0; stack = 0; edges = 0 }
+no_point = record { root = 0; turns = 4097; code = 0; stack = 0; deed = Row; edges = 0 }
 
 -- an empty range of a list
 no_range : {X : Type 0} → (xs : List X) (a : ℕ) → slice_range xs a a ≡ []
@@ -71,7 +73,7 @@ abbrev pub exit_code : Vec Stmt → Code
 exit_code list = record { at = 0; length = 4; fetchable = true; list = Some list; draws = false; row = 64; loads = 0; stores = 0; asserts = (0, 0) }
 
 abbrev pub exit_point : Unrolled → Point
-exit_point u = record { turns = 4097; code = length u.codes.items; stack = 0; edges = length u.edges.items }
+exit_point u = record { root = 0; turns = 4097; code = length u.codes.items; stack = 0; deed = Row; edges = length u.edges.items }
 
 -- a program with a code more, a point more, and its edges led to a place
 module _ (u : Unrolled) (codes : Vec Code) (points : Vec Point) (edges : Vec Edge) (list : Vec Stmt)
@@ -204,13 +206,13 @@ module _ (u : Unrolled) (codes : Vec Code) (points : Vec Point) (edges : Vec Edg
 -- by the numbers of points, codes and edges
 pub placed_by : (u : Unrolled) (codes : Vec Code) (points : Vec Point) (edges : Vec Edge) (list : Vec Stmt) (n k m : ℕ) → n ≡ length u.points.items →
     k ≡ length u.codes.items → m ≡ length u.edges.items → codes.items ≡ u.codes.items ++ exit_code list ∷ [] →
-    points.items ≡ u.points.items ++ record { turns = 4097; code = k; stack = 0; edges = m } ∷ [] → edges.items ≡ map (edge_led n) u.edges.items →
-    list.items ≡ [] → IsFormed u →
+    points.items ≡ u.points.items ++ record { root = 0; turns = 4097; code = k; stack = 0; deed = Row; edges = m } ∷ [] →
+    edges.items ≡ map (edge_led n) u.edges.items → list.items ≡ [] → IsFormed u →
     (unrolled_of (record u { codes = codes; points = points; edges = edges }) ≡ with_exit_place (unrolled_of u))
     × IsFormed (record u { codes = codes; points = points; edges = edges })
 placed_by u codes points edges list n k m at code from codes_are points_are edges_are empty formed =
     let points_so : points.items ≡ u.points.items ++ exit_point u ∷ [] =
-    points_are ∙ (λ i. u.points.items ++ record { turns = 4097; code = code i; stack = 0; edges = from i } ∷ []) in
+    points_are ∙ (λ i. u.points.items ++ record { root = 0; turns = 4097; code = code i; stack = 0; deed = Row; edges = from i } ∷ []) in
     let edges_so = edges_are ∙ ap (λ (z : ℕ). map (edge_led z) u.edges.items) at in (
       placed_program u codes points edges list codes_are points_so edges_so empty formed,
       placed_formed u codes points edges list codes_are points_so edges_so empty formed,

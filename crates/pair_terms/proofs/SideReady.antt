@@ -11,6 +11,7 @@ use Rattle.term_names.proofs.OfForm.{named_all}
 use Rattle.mem_cells.specs.Words.{IsWordAt}
 use Rattle.weakest_pre.specs.Entry.{IsEntryBit}
 use Rattle.weakest_pre.proofs.Told.{entry_named}
+use Rattle.weakest_pre.proofs.Moved.{copied_named}
 use Rattle.pair_spec.specs.Links.{Link}
 use Rattle.pair_terms.specs.Exits.{AreWithinExit, TellsLeaving}
 use Rattle.pair_terms.specs.Sides.{AreEntryTerms, AreTied, AreTiedBy}
@@ -65,7 +66,7 @@ module _ (w : UnrolledProgram) (second : Bool) (links : List Link) (a b : List T
           own_room c,
           record {
             typed = tied.typed;
-            named = λ m k. named_all w m (λ i. elim (tied.inputs m k i) [ inl old ↦ entries_input m old i | inr copied ↦ x.named m copied ]);
+            named = λ m k. named_all w m (λ i. elim (tied.inputs m k i) [ inl old ↦ entries_input m old i | inr copied ↦ copied_named w 0 source m copied x.named ]);
             gates = omega arith;
             loads = omega arith;
             stores = omega (arith, grew.stores, more.stores, last.stores, x.stores);

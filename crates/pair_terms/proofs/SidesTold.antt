@@ -22,6 +22,7 @@ use Rattle.term_names.specs.Chosen.{at_entry}
 use Rattle.term_names.proofs.OfForm.{named_all, reading_in_range}
 use Rattle.note_terms.proofs.Steps.{bits_and}
 use Rattle.weakest_pre.specs.Entry.{meets, IsEntryBit}
+use Rattle.weakest_pre.proofs.Moved.{copied_named}
 use Rattle.weakest_pre.proofs.Told.{both_true, true_both, bit_one, lines_met, entry_tells, entry_named}
 use Rattle.pair_spec.specs.Links.{Link}
 use Rattle.pair_spec.specs.Pairs.{same_bytes}
@@ -226,7 +227,7 @@ module _ (u : UnrolledProgram) (later : ExitsLeadLater u) (links : List Link) wh
     module _ (source c : List TermNode) (met : ℕ) (words : List ℕ) (t : ℕ) (exits : List ℕ) (x : AreWithinExit w links source)
         (v : TellsLeaving w second links source met words) (tied : AreTied w source b c entry met words t exits) where
       all_named : AreNamedBelow w 0 c
-      all_named m k = named_all w m (λ i. elim (tied.inputs m k i) [ inl old ↦ entries_input m old i | inr copied ↦ x.named m copied ])
+      all_named m k = named_all w m (λ i. elim (tied.inputs m k i) [ inl old ↦ entries_input m old i | inr copied ↦ copied_named w 0 source m copied x.named ])
 
       stands : (r : Reading) (k i : ℕ) (out : Carried) → walk u r k ≡ WalkIsAt i out → i < length u.points
       stands r k i out at = subst (Inside u some later r) at (inside u some later r k)

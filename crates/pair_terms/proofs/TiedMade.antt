@@ -1,5 +1,5 @@
 -- The exit's bit tied to the entry's, with copies of the exit's words.
-use Rattle.std.proofs.Common.{◌≡◌, ℕ, zero, suc, ◌+◌, ◌-◌, ◌<◌, bit_and, List, [], ◌∷◌, length, take, drop, get_or, refl, ap, sym, subst, ◌∙◌, arith, Contains}
+use Rattle.std.proofs.Common.{◌≡◌, ℕ, zero, suc, ◌+◌, ◌-◌, ◌<◌, bit_and, List, [], ◌∷◌, length, take, drop, get_or, refl, ap, sym, subst, ◌∙◌, arith}
 use Rattle.std.specs.Prelude.{map}
 use Rattle.std.proofs.lemmas.List.{take_all, length-drop}
 use Rattle.machine_spec.specs.Bil as bil
@@ -12,7 +12,7 @@ use Rattle.term_names.specs.Chosen.{at_entry}
 use Rattle.note_terms.specs.Steps.{IsStep}
 use Rattle.note_terms.proofs.Steps.{step_made}
 use Rattle.weakest_pre.specs.Entry.{meets}
-use Rattle.weakest_pre.specs.Copies.{root_at, AreWithin}
+use Rattle.weakest_pre.specs.Copies.{root_at, AreWithin, IsMoved}
 use Rattle.weakest_pre.specs.Known.{AreFactsOf}
 use Rattle.weakest_pre.specs.Folded.{IsMetBy, AreFoldedCopies}
 use Rattle.weakest_pre.specs.declared.facts.Facts.{Facts}
@@ -58,7 +58,7 @@ tied_words u facts source a b c entry met one words rest t widths said bit_entry
           (term_gates source + 1) (term_loads source) (term_stores source) (term_joins source) (length source + 2)
           (omega arith) (omega arith) (omega arith) (omega arith) (omega arith)
           (grew_on a b c (term_gates source) (term_loads source) (term_stores source) (term_joins source) (length source) 1 0 0 0 2 copy.grew last.grew);
-      inputs = inputs_on a b c (Contains source) copy.inputs (inputs_more b c (λ m. ⊥) (Contains source) (λ m i e. absurd e) last.inputs);
+      inputs = inputs_on a b c (IsMoved source) copy.inputs (inputs_more b c (λ m. ⊥) (IsMoved source) (λ m i e. absurd e) last.inputs);
       typed = last.typed;
       width = (last.within, last.fits);
       value = λ x r e.

@@ -4,13 +4,14 @@ use Rattle.bilv_spec.specs.Run.{Program}
 use Rattle.walk_spec.specs.Unrolled.{PointExit, FalseAssert, Always, Raising, WritingKept, Unaligned, Along, UnrolledProgram, is_outward, point_at}
 use Rattle.walk_spec.specs.Unrolling.{IsUnrolling}
 use Rattle.question_form.specs.declared.unrolled.Aim.{Aim}
-use Rattle.question_form.specs.declared.unrolled.Aim.TheVariants.{OnTo, Outward, OverLast}
+use Rattle.question_form.specs.declared.unrolled.Aim.TheVariants.{OnTo, IntoHead, Outward, OverLast}
 use Rattle.question_form.specs.declared.unrolled.Edge.{Edge}
 
 -- what leads out leads to a place
 abbrev pub led_to : ℕ → Aim → Aim
 led_to n Outward = OnTo n
 led_to n (OnTo i) = OnTo i
+led_to n (IntoHead at asserts) = IntoHead at asserts
 led_to n OverLast = OverLast
 
 -- an edge that is led so

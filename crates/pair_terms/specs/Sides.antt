@@ -1,5 +1,5 @@
 -- The exit's terms as a value, and the sides that are made of them.
-use Rattle.std.specs.Prelude.{ℕ, ◌≡◌, ◌<◌, ◌+◌, ◌*◌, bit_and, Bool, true, List, [], length, map, Contains}
+use Rattle.std.specs.Prelude.{ℕ, ◌≡◌, ◌<◌, ◌+◌, ◌*◌, bit_and, Bool, true, List, [], length, map}
 use Rattle.std.specs.List.{flat_map, AllByRecursion}
 use Rattle.word_spec.specs.Words.{bit}
 use Rattle.bilv_spec.specs.Questions.{Reading, IsReading}
@@ -15,6 +15,7 @@ use Rattle.pair_spec.specs.Pairs.{shared_bytes}
 use Rattle.pair_spec.specs.PairTerms.{HaveWords, HaveWidths, all_entry_words, entry_widths, with_exit_place, TellsSide, TellsSideCells}
 use Rattle.question_form.specs.Views.{unrolled_of}
 use Rattle.weakest_pre.specs.Entry.{meets}
+use Rattle.weakest_pre.specs.Copies.{IsMoved}
 use Rattle.mem_cells.specs.Words.{IsWordAt}
 use Rattle.pair_form.specs.declared.sides.SideQuestion.{SideQuestion}
 use Rattle.pair_form.specs.declared.sides.SideCells.{SideCells}
@@ -75,7 +76,7 @@ HaveSameWords u source new words terms = (x : TermReading) → InRange x → mee
 -- list of both does, and name no other input.
 pub record AreTied (u : UnrolledProgram) (source old new : List TermNode) (entry met : ℕ) (asked : List ℕ) (t : ℕ) (terms : List ℕ) : Type 0 where
   pub grew : Grew old new (term_gates source + 1) (term_loads source) (term_stores source) (term_joins source) (length source + 2)
-  pub inputs : InputsFrom old new (Contains source)
+  pub inputs : InputsFrom old new (IsMoved source)
   pub typed : AreTyped new
   pub width : HasWidth new 1 t
   pub value : (x : TermReading) → InRange x → term_word x old entry ≡ bit (meets u (state_at (at_entry x) u.entry)) →

@@ -52,7 +52,7 @@ fn is_onto(aim: Aim, place: u32) -> bool
 {
     match aim {
         Aim::OnTo(other) => other == place,
-        Aim::Outward | Aim::OverLast => false,
+        Aim::IntoHead { .. } | Aim::Outward | Aim::OverLast => false,
     }
 }
 
@@ -211,6 +211,7 @@ pub fn exit_terms<'a>(
         mut dag,
         met,
         fails,
+        steps,
         turns,
     } = passive;
     let place = met.len() - 1;
@@ -221,6 +222,7 @@ pub fn exit_terms<'a>(
             dag,
             met,
             fails,
+            steps,
             turns,
         },
         met: exit.met,

@@ -6,7 +6,7 @@ ghost use Rattle.question_form.specs.Forms.{IsFormed};
 ghost use Rattle.pair_spec.specs.PairTerms.{with_exit_place};
 ghost use Rattle.pair_terms.specs.Places.{UnrollingLeavesByLink, edge_led};
 
-use question_form::{Aim, Code, Edge, Point, Unrolled};
+use question_form::{Aim, Code, Deed, Edge, Point, Unrolled};
 use std::alloc::{AllocError, Global};
 
 /// The greatest number of a place, and of a code.
@@ -23,7 +23,7 @@ fn led(edge: Edge, place: u32) -> Edge
             to: edge.to,
             aim: Aim::OnTo(place),
         },
-        Aim::OnTo(_) | Aim::OverLast => edge,
+        Aim::OnTo(_) | Aim::IntoHead { .. } | Aim::OverLast => edge,
     }
 }
 
@@ -70,9 +70,11 @@ pub fn with_exit_place<'a>(
     })?;
     let edges = placed.edges.len();
     placed.points.push(Point {
+        root: 0,
         turns: 4097,
         code: codes as u32,
         stack: 0,
+        deed: Deed::Row,
         edges,
     })?;
     Ok(placed)

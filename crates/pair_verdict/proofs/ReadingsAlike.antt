@@ -25,12 +25,13 @@ reading_same u c v w h =
     let r : TermReading = reading u c v in
     let s : TermReading = reading u c w in
     let regs : r.regs ≡ s.regs =
-    fun_ext (λ n. ap (λ x. if is_register_of u n then x else 0) (bits_same v w h (32 * place_in u.registers n) 32)) in
-    let flags : r.flags ≡ s.flags = fun_ext (λ f. ap (λ x. if is_flag_of u f then x else 0) (bits_same v w h (first_flag u + f) 1)) in
+    fun_ext (λ p. fun_ext (λ n. ap (λ x. if is_register_of u n then x else 0) (bits_same v w h (32 * place_in u.registers n) 32))) in
+    let flags : r.flags ≡ s.flags =
+    fun_ext (λ p. fun_ext (λ f. ap (λ x. if is_flag_of u f then x else 0) (bits_same v w h (first_flag u + f) 1))) in
     let choice : r.choice ≡ s.choice =
     fun_ext (λ i. ap (λ x. if (point_at u i).draws then x else 0) (bits_same v w h (first_choice u + 2 * drawn_below u i) 2)) in
     let base : r.base ≡ s.base =
-    fun_ext (λ j. ap (λ x. if nat_lt j (length c.addresses) then x else 0) (bits_same v w h (first_byte u + 8 * j) 8)) in
+    fun_ext (λ p. fun_ext (λ j. ap (λ x. if nat_lt j (length c.addresses) then x else 0) (bits_same v w h (first_byte u + 8 * j) 8))) in
     ap (λ f. record { regs = f; flags = r.flags; mem = r.mem; choice = r.choice; base = r.base }) regs
     ∙ ap (λ f. record { regs = s.regs; flags = f; mem = r.mem; choice = r.choice; base = r.base }) flags
     ∙ ap (λ f. record { regs = s.regs; flags = s.flags; mem = r.mem; choice = f; base = r.base }) choice

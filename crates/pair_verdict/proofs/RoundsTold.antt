@@ -131,8 +131,8 @@ start_same : (u : UnrolledProgram) (c : Cells) (v v' : ℕ → Bool) → AreSame
 start_same u c v v' same s h =
     let e : reading u c v ≡ reading u c v' = reading_same u c v v' same in
     record {
-      regs = h.regs ∙ ap (λ (x : TermReading). map x.regs u.registers) e;
-      flags = λ f l. h.flags f l ∙ ap (λ (x : TermReading). x.flags f) e;
+      regs = h.regs ∙ ap (λ (x : TermReading). map (x.regs 0) u.registers) e;
+      flags = λ f l. h.flags f l ∙ ap (λ (x : TermReading). x.flags 0 f) e;
       flags_fit = h.flags_fit;
       bytes = h.bytes;
       bytes_rise = h.bytes_rise;
@@ -142,8 +142,8 @@ start_same u c v v' same s h =
       choices_rise = h.choices_rise;
       follows = λ r is step i d at. h.follows r (record {
         pc = is.pc;
-        regs = is.regs ∙ ap (λ (x : TermReading). x.regs) (sym e);
-        flags = is.flags ∙ ap (λ (x : TermReading). x.flags) (sym e);
+        regs = is.regs ∙ ap (λ (x : TermReading). x.regs 0) (sym e);
+        flags = is.flags ∙ ap (λ (x : TermReading). x.flags 0) (sym e);
         mem = is.mem;
         choice = λ j l. is.choice j l ∙ ap (λ (x : TermReading). x.choice j) (sym e);
       }) step i d at ∙ ap (λ (x : TermReading). x.choice i) e;

@@ -67,7 +67,7 @@ module _ (u : Unrolled) (a b c new : List TermNode) (low regs flags others : ℕ
     (mets : met.items ≡ row yes never others)
     (carried : states.items ≡ row (Some names) None others) where
   abbrev kept : Sweep
-  kept = record { entry = entry; at = u.entry; pc = pc; met = met; states = states; fails = never; turns = never }
+  kept = record { entry = entry; at = u.entry; pc = pc; met = met; states = states; fails = never; steps = never; turns = never }
 
   pc_grew : Grew a b 0 0 0 0 1
   pc_grew = interned_grew a b (ConstantNode 32 u.entry) pc.0 at
@@ -125,6 +125,7 @@ module _ (u : Unrolled) (a b c new : List TermNode) (low regs flags others : ℕ
     bits = bit_wide;
     states = λ i m e. subst (AreTermsOf entry new) (first_state i m e) joined.terms;
     fails = zero_bit.width;
+    steps = zero_bit.width;
     turns = zero_bit.width;
   }
 
@@ -181,5 +182,6 @@ module _ (u : Unrolled) (a b c new : List TermNode) (low regs flags others : ℕ
     room =
         room_first (unrolled_of u) new (regs + flags + 1 + 3)
         (let e : length (unrolled_of u).registers ≡ regs = ap (λ (z : List ℕ). length z) pr ∙ range_length low regs in omega (arith, e, pf)) all_grew;
+    never = λ r k e. zero_bit.holds (term_reading (unrolled_of u) r) (reading_in_range (unrolled_of u) r k);
     shows = λ r k e. kept_shows r k;
   }

@@ -20,7 +20,7 @@ use Rattle.walk_spec.specs.Unrolled.{PointExit, Along, Raising, WritingKept, Una
 use Rattle.walk_spec.specs.Prices.{line_of, lines_at, line_size, line_steps, variables_of, action_size}
 use Rattle.notes_value.specs.NoteViews.{notes_of}
 use Rattle.question_form.specs.declared.unrolled.Aim.{Aim}
-use Rattle.question_form.specs.declared.unrolled.Aim.TheVariants.{OnTo, Outward, OverLast}
+use Rattle.question_form.specs.declared.unrolled.Aim.TheVariants.{OnTo, IntoHead, Outward, OverLast}
 use Rattle.question_form.specs.declared.unrolled.Edge.{Edge}
 use Rattle.question_form.specs.declared.unrolled.Unrolled.{Unrolled}
 use Rattle.question_form.specs.Views.{action_of, aim_of, assert_exit, edge_of, row_exits, unrolled_of}
@@ -145,21 +145,25 @@ module _ (v : ℕ) (n : Names) (sized : AreSized v n) (lines : List NoteLine) wh
   gates_by : (f j : Bool) (t : Option ℕ) (a : Aim) → 35 + aim_gates n lines a ≤ 1280 + (if goes_out (Along f j t (aim_of a)) then sum_by line_price said else 0)
   gates_by f j t (OnTo k) = let b = sized.bits in omega (arith, b)
   gates_by f j t Outward = omega arith
+  gates_by f j t (IntoHead at asserts) = omega arith
   gates_by f j t OverLast = omega arith
 
   loads_by : (f j : Bool) (t : Option ℕ) (a : Aim) → aim_loads lines a ≤ 0 + (if goes_out (Along f j t (aim_of a)) then sum_by bytes_loaded said else 0)
   loads_by f j t (OnTo k) = omega arith
   loads_by f j t Outward = omega arith
+  loads_by f j t (IntoHead at asserts) = omega arith
   loads_by f j t OverLast = omega arith
 
   joins_by : (f j : Bool) (t : Option ℕ) (a : Aim) → aim_joins a ≤ 1 + (if goes_out (Along f j t (aim_of a)) then 0 else 0)
   joins_by f j t (OnTo k) = omega arith
   joins_by f j t Outward = omega arith
+  joins_by f j t (IntoHead at asserts) = omega arith
   joins_by f j t OverLast = omega arith
 
   nodes_by : (f j : Bool) (t : Option ℕ) (a : Aim) → 14 + aim_nodes n lines a ≤ 4 * v + (if goes_out (Along f j t (aim_of a)) then 4 * line_steps said else 0)
   nodes_by f j t (OnTo k) = let b = sized.terms in let e = sized.enough in omega (arith, b, e)
   nodes_by f j t Outward = let e = sized.enough in omega (arith, e)
+  nodes_by f j t (IntoHead at asserts) = let e = sized.enough in omega (arith, e)
   nodes_by f j t OverLast = let e = sized.enough in omega (arith, e)
 
   module _ (es : List Edge) (one : outs (map edge_of es) ≤ 1) where

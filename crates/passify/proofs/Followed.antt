@@ -9,7 +9,7 @@ use Rattle.walk_spec.specs.Unrolled.{Walk, WalkTurns, carried_of, out_by}
 use Rattle.walk_spec.specs.Sweep.{Held, held_if, hand}
 use Rattle.walk_spec.specs.Prices.{line_steps}
 use Rattle.term_dag.proofs.Growth.{grew_more}
-use Rattle.question_form.specs.declared.unrolled.Aim.TheVariants.{OnTo, Outward, OverLast}
+use Rattle.question_form.specs.declared.unrolled.Aim.TheVariants.{OnTo, IntoHead, Outward, OverLast}
 use Rattle.note_terms.specs.declared.Now.{Now}
 use Rattle.passify.specs.declared.sweep.Sweep.{Sweep}
 use Rattle.passify.specs.Sweeps.{Steps, Hands, ShowsAt, ComesTo}
@@ -34,6 +34,10 @@ module _ (old new : List TermNode) (s z : Sweep) (hit : ℕ) (big : Bool) (lines
 
   pub follow_over : Hands old new s z hit (λ from x w b. w ≡ WalkTurns) → Hands old new s z hit (Follows old s big lines next OverLast)
   follow_over hands x r from w b f = hands x r from w b f.is
+
+  pub follow_head : (at : ℕ) (asserts : ℕ × ℕ) → Hands old new s z hit (λ from x w b. w ≡ WalkTurns) →
+      Hands old new s z hit (Follows old s big lines next (IntoHead at asserts))
+  follow_head at asserts hands x r from w b f = hands x r from w b f.is
 
   module _ (left : ℕ) (k : LinesTried old new s z hit left big next (λ S. S.next) (map (λ l. l.says) lines) [] (goes_out_by lines) (goes_out_by [])) where
     ended : (from : ℕ) (x : TermReading) (p : Bool) (h after : Held) → (p ≡ true → after ≡ h) → ShowsAt new z from x (held_if p h after) →

@@ -62,6 +62,7 @@ module _ {old new : List TermNode} {g l st j n : ℕ} (grew : Grew old new g l s
     bits = λ i k. grew_width old new g l st j n 1 (term_at s.met.items i) grew (w.bits i k);
     states = λ i m e. terms_keep s.entry m (w.states i m e);
     fails = grew_width old new g l st j n 1 s.fails.0 grew w.fails;
+    steps = grew_width old new g l st j n 1 s.steps.0 grew w.steps;
     turns = grew_width old new g l st j n 1 s.turns.0 grew w.turns;
   }
 
@@ -94,6 +95,7 @@ well_ends nodes s f t w hf ht = record {
   bits = w.bits;
   states = w.states;
   fails = hf;
+  steps = w.steps;
   turns = ht;
 }
 

@@ -29,7 +29,7 @@ use Rattle.notes_value.specs.NoteViews.{assert_of, note_line_of}
 use Rattle.passify.proofs.Kept.{word_keeps, denotes_keep, terms_keep}
 
 pub like_on : (a b c : Sweep) → AreLike a b → AreLike b c → AreLike a c
-like_on a b c p q = record { entry = q.entry ∙ p.entry; pc = q.pc ∙ p.pc; at = q.at ∙ p.at; places = q.places ∙ p.places }
+like_on a b c p q = record { entry = q.entry ∙ p.entry; pc = q.pc ∙ p.pc; at = q.at ∙ p.at; places = q.places ∙ p.places; steps = q.steps ∙ p.steps }
 
 pub steps_on : (a b c : List TermNode) (s t u : Sweep) (more : TermNode → Type 0) (g l st j n g' l' st' j' n' : ℕ) → Steps a b s t g l st j n more →
     Steps b c t u g' l' st' j' n' more →
@@ -46,7 +46,12 @@ lines_none ns s all w = record {
   gates = 0;
   loads = 0;
   nodes = 0;
-  steps = record { grew = grew_none ns; inputs = inputs_none ns (λ m. ⊥); well = w; like = record { entry = refl; pc = refl; at = refl; places = refl } };
+  steps = record {
+    grew = grew_none ns;
+    inputs = inputs_none ns (λ m. ⊥);
+    well = w;
+    like = record { entry = refl; pc = refl; at = refl; places = refl; steps = refl };
+  };
   few_gates = omega arith;
   few_loads = omega arith;
   few_nodes = omega arith;

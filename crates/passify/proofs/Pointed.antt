@@ -55,12 +55,11 @@ use Rattle.passify.proofs.Standing.{placed_is, points_length, point_terms, one_o
 -- a reading is in range
 reading_range : (u : UnrolledProgram) (r : Reading) → IsReading r → InRange (term_reading u r)
 reading_range u r i = record {
-  regs = i.state.regs;
-  flags = i.state.flags;
-  mem = i.state.mem;
+  regs = λ p. i.state.regs;
+  flags = λ p. i.state.flags;
+  mem = λ p. i.state.mem;
   choice = λ j. i.choice (point_at u j).point;
-  base =
-      λ j. omega arith;
+  base = λ p j. omega arith;
 }
 
 -- the size of a state's terms
@@ -86,7 +85,7 @@ row_none u place n ns s rest w wr none paid = record {
     grew = grew_none ns;
     inputs = inputs_none ns (λ m. (m ≡ ChoiceNode place) × ((placed u place).draws ≡ true));
     well = w;
-    like = record { entry = refl; pc = refl; at = refl; places = refl };
+    like = record { entry = refl; pc = refl; at = refl; places = refl; steps = refl };
   };
   few_gates = paid.few_gates;
   few_loads = paid.few_loads;
@@ -258,7 +257,7 @@ module _ (u : Unrolled) (place : ℕ) (n : Names) (a b c d e : List TermNode) (s
     grew = g1;
     inputs = interned_inputs a b (ConstantNode 32 v) pc (λ m. ⊥) m1 (λ i. i);
     well = well_keeps g1 s m1.typed w;
-    like = record { entry = refl; pc = refl; at = refl; places = refl };
+    like = record { entry = refl; pc = refl; at = refl; places = refl; steps = refl };
   }
 
   abbrev Drawn : TermNode → Type 0

@@ -35,7 +35,7 @@ module _ (old new : List TermNode) (s : Sweep) (hit : ℕ) (t : Term) (w : AreWe
         inputs = k.inputs;
         well = well_ends new s t s.turns v k.width v.turns;
         like = record
-            { entry = refl; pc = refl; at = refl; places = refl };
+            { entry = refl; pc = refl; at = refl; places = refl; steps = refl };
       }
 
   pub fail_hands : Makes old new 1 2 1 t.0 (TellsByBoth (λ p q. p || q) old new s.fails.0 hit t.0) →
@@ -62,7 +62,7 @@ module _ (old new : List TermNode) (s : Sweep) (hit : ℕ) (t : Term) (w : AreWe
         inputs = k.inputs;
         well = well_ends new s s.fails t v v.fails k.width;
         like = record
-            { entry = refl; pc = refl; at = refl; places = refl };
+            { entry = refl; pc = refl; at = refl; places = refl; steps = refl };
       }
 
   pub turn_hands : Makes old new 1 2 1 t.0 (TellsByBoth (λ p q. p || q) old new s.turns.0 hit t.0) →
@@ -142,6 +142,7 @@ pub record Placed (s z : Sweep) (j : ℕ) (t : Term) (n : Names) : Type 0 where
   pub met : z.met.items ≡ set s.met.items j t
   pub states : z.states.items ≡ set s.states.items j (Some n)
   pub fails : z.fails ≡ s.fails
+  pub steps : z.steps ≡ s.steps
   pub turns : z.turns ≡ s.turns
 
 module _ (nodes : List TermNode) (s z : Sweep) (j : ℕ) (t : Term) (n : Names) (p : Placed s z j t n) (w : AreWell nodes s) where
@@ -184,6 +185,7 @@ module _ (nodes : List TermNode) (s z : Sweep) (j : ℕ) (t : Term) (n : Names) 
       | inr q ↦ subst (λ (k : Names). AreTermsOf k nodes m) (sym p.entry) (w.states i m (sym (state_there i q) ∙ e))
     ];
     fails = subst (λ (e : Term). HasWidth nodes 1 e.0) (sym p.fails) w.fails;
+    steps = subst (λ (e : Term). HasWidth nodes 1 e.0) (sym p.steps) w.steps;
     turns = subst (λ (e : Term). HasWidth nodes 1 e.0) (sym p.turns) w.turns;
   }
 
@@ -221,7 +223,7 @@ module _ (old mid new : List TermNode) (s z : Sweep) (j hit : ℕ) (t : Term) (m
     inputs = inputs_on old mid new (λ q. ⊥) joined.inputs k.inputs;
     well = placed_well new s z j t n p (well_keeps both_grew s k.typed w) k.width
         (terms_keep k.grew s.entry n (record { same = form_on s.entry m n hm.same joined.terms.same; names = joined.terms.names }));
-    like = record { entry = p.entry; pc = p.pc; at = p.at; places = met_length old s z j t n p w };
+    like = record { entry = p.entry; pc = p.pc; at = p.at; places = met_length old s z j t n p w; steps = p.steps };
   }
 
   pub arrive_hands : Hands old new s z hit (ComesTo old m j)

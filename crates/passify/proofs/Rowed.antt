@@ -97,7 +97,7 @@ module _ (u : Unrolled) (place : ℕ) (n : Names) (a b c d e f : List TermNode) 
     (v : IsLeaving e f s z rest last u.big (unrolled_of u).ensures l.raised.0 wrote odd next l.jumped.0 link (own_edges u place)) (names : next.names.now
     ≡ l.names)
     (pc_is : next.pc.0 ≡ to)
-    (link_is : (x : TermReading) → InRange x → term_word x e link ≡ x.regs u.link) where
+    (link_is : (x : TermReading) → InRange x → term_word x e link ≡ x.regs 0 u.link) where
   -- the list
   abbrev code_list : Statements
   code_list = statements list.items

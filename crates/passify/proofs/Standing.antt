@@ -21,7 +21,7 @@ use Rattle.walk_spec.specs.Unrolled as walk
 use Rattle.walk_spec.specs.Unrolling.{IsReadable, IsWalkable, IsRunnable, CanBeTerms, is_variable_of}
 use Rattle.notes_value.specs.NoteViews.{notes_of, note_line_of}
 use Rattle.question_form.specs.declared.unrolled.Aim.{Aim}
-use Rattle.question_form.specs.declared.unrolled.Aim.TheVariants.{OnTo, Outward, OverLast}
+use Rattle.question_form.specs.declared.unrolled.Aim.TheVariants.{OnTo, IntoHead, Outward, OverLast}
 use Rattle.question_form.specs.declared.unrolled.Code.{Code}
 use Rattle.question_form.specs.declared.unrolled.Edge.{Edge}
 use Rattle.question_form.specs.declared.unrolled.Point.{Point}
@@ -102,11 +102,13 @@ leads_place : (u : UnrolledProgram) (i n : ℕ) (f j : Bool) (t : Option ℕ) (a
     IsPlaceOf n a
 leads_place u i n f j t (OnTo k) e h = subst (λ (m : ℕ). k < m) e h.1
 leads_place u i n f j t Outward e h = tt
+leads_place u i n f j t (IntoHead at asserts) e h = tt
 leads_place u i n f j t OverLast e h = tt
 
 leads_later : (u : UnrolledProgram) (i : ℕ) (f j : Bool) (t : Option ℕ) (a : Aim) → LeadsLater u i (Along f j t (aim_of a)) → IsLater (suc i) a
 leads_later u i f j t (OnTo k) h = let l : i < k = h.0 in omega (arith, l)
 leads_later u i f j t Outward h = tt
+leads_later u i f j t (IntoHead at asserts) h = tt
 leads_later u i f j t OverLast h = tt
 
 later_by : (u : UnrolledProgram) (i : ℕ) (es : List Edge) → ((x : PointExit) → Contains (map edge_of es) x → LeadsLater u i x) → AreLater (suc i) es
@@ -214,12 +216,12 @@ module _ (nodes : List TermNode) (s : Sweep) (w : AreWell nodes s) (link : ℕ) 
   pub link_width : HasWidth nodes 32 (slice_index (names_of s.entry).registers (link - s.entry.first))
   link_width = w.entry.words (link - s.entry.first) link_place
 
-  pub link_word : (x : TermReading) → InRange x → term_word x nodes (slice_index (names_of s.entry).registers (link - s.entry.first)) ≡ x.regs link
+  pub link_word : (x : TermReading) → InRange x → term_word x nodes (slice_index (names_of s.entry).registers (link - s.entry.first)) ≡ x.regs 0 link
   link_word x r =
       let l = in_range link s.entry.first (length s.entry.registers.items) h in
       let at : slice_index (from_to s.entry.first (length s.entry.registers.items)) (link - s.entry.first) ≡ link =
       range_at s.entry.first (length s.entry.registers.items) (link - s.entry.first) (omega (arith, l.0, l.1)) ∙ omega (arith, l.0) in
-      (w.denotes x r).registers (link - s.entry.first) link_place ∙ ap x.regs at
+      (w.denotes x r).registers (link - s.entry.first) link_place ∙ ap (x.regs 0) at
 
 -- what is read at a place is its own code
 pub own_is : (u : Unrolled) (i : ℕ) (q : Point) (k : Code) → IsFormed u → i < length u.points.items → q ≡ get_or u.points.items i q →

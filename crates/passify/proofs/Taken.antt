@@ -109,7 +109,12 @@ edges_none ns s rest big lines next jumped link all w b = record {
     loads = 0;
     joins = 0;
     nodes = 0;
-    steps = record { grew = grew_none ns; inputs = inputs_none ns (λ m. ⊥); well = w; like = record { entry = refl; pc = refl; at = refl; places = refl } };
+    steps = record {
+      grew = grew_none ns;
+      inputs = inputs_none ns (λ m. ⊥);
+      well = w;
+      like = record { entry = refl; pc = refl; at = refl; places = refl; steps = refl };
+    };
     few_gates = omega arith;
     few_loads = omega arith;
     few_joins = omega arith;

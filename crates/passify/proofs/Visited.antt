@@ -34,7 +34,7 @@ use Rattle.passify.specs.Swept.{AreSwept, LeaveRoom}
 use Rattle.passify.proofs.Lines.{drop_here, drop_all}
 use Rattle.passify.proofs.Pushed.{met_bit, other_default}
 use Rattle.passify.proofs.Tried.{bit_false}
-use Rattle.passify.proofs.Kept.{truth, word_keeps}
+use Rattle.passify.proofs.Kept.{truth, tells_keep, word_keeps}
 use Rattle.passify.proofs.Rooms.{room_on, room_past, all_gates, all_loads, all_stores, all_joins, all_few}
 
 -- as many points as there are in the value
@@ -83,6 +83,7 @@ forget_well nodes s t w = record {
   bits = w.bits;
   states = λ i m e. w.states i m (none_kept s.states.items t i m e);
   fails = w.fails;
+  steps = w.steps;
   turns = w.turns;
 }
 
@@ -203,6 +204,7 @@ module _ (u : Unrolled) (t : ℕ) (old : List TermNode) (s : Sweep) (a : AreSwep
     sweep = sweep_forgets;
     named = a.named;
     room = room_past (unrolled_of u) old (point_at (unrolled_of u) t) (drop (t + 1) (unrolled_of u).points) room;
+    never = a.never;
     shows = λ r k e.
         let x = term_reading (unrolled_of u) r in
         subst (λ (n : ℕ). ShowsAt old (forget s t) n x (held (unrolled_of u) r n)) (next t)
@@ -254,6 +256,10 @@ module _ (u : Unrolled) (t : ℕ) (old : List TermNode) (s : Sweep) (a : AreSwep
     named = named_on (unrolled_of u) old new (λ m. (m ≡ ChoiceNode t) × ((point_at (unrolled_of u) t).draws ≡ true))
         (λ m i c. subst (IsNamedBelow (unrolled_of u) 0) (sym c.0) (omega (arith, within, points_count u u.points.items), c.1)) k.steps.inputs a.named;
     room = room_on (unrolled_of u) old new (point_at (unrolled_of u) t) (drop (t + 1) (unrolled_of u).points) room k.steps.grew;
+    never = λ r i e.
+        let x = term_reading (unrolled_of u) r in
+        subst (λ (q : Term). Tells new x q.0 false) (sym k.steps.like.steps)
+        (tells_keep k.steps.grew x s.steps.0 false a.well.steps.0 (a.never r i e));
     shows = λ r i e.
         let x = term_reading (unrolled_of u) r in
         let h = held (unrolled_of u) r t in
@@ -265,11 +271,14 @@ module _ (u : Unrolled) (t : ℕ) (old : List TermNode) (s : Sweep) (a : AreSwep
   }
 
 -- when all places are handled
-pub swept_passive : (u : Unrolled) (t : ℕ) (p : Passive) (s : Sweep) → p.unrolled.now ≡ u → p.met.items ≡ s.met.items → p.fails ≡ s.fails → p.turns ≡ s.turns →
+pub swept_passive : (u : Unrolled) (t : ℕ) (p : Passive) (s : Sweep) → p.unrolled.now ≡ u → p.met.items ≡ s.met.items → p.fails ≡ s.fails → p.steps ≡ s.steps →
+    p.turns ≡ s.turns →
     length u.points.items ≤ t → t ≤ length u.points.items →
     AreSwept u t p.dag s → ((i : ℕ) → i < t → (names : Option Names) × AreCarriedTo (unrolled_of u) i p.dag names) → IsPassiveOf u p
-swept_passive u t p s of met fails turns above below a states = record {
+swept_passive u t p s of met fails steps turns above below a states = record {
   of = of;
+  steps_bit = subst (λ (q : Term). HasWidth p.dag 1 q.0) (sym steps) a.well.steps;
+  never = λ r k e. subst (λ (q : Term). Tells p.dag (term_reading (unrolled_of u) r) q.0 false) (sym steps) (a.never r k e);
   states = λ i l. states i (omega (arith, l, last));
   tells = record {
     terms = record {

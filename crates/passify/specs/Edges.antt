@@ -8,7 +8,7 @@ use Rattle.walk_spec.specs.Sweep.{Held}
 use Rattle.term_spec.specs.Passive.{Tells}
 use Rattle.walk_spec.specs.Prices.{line_steps}
 use Rattle.question_form.specs.declared.unrolled.Aim.{Aim}
-use Rattle.question_form.specs.declared.unrolled.Aim.TheVariants.{OnTo, Outward, OverLast}
+use Rattle.question_form.specs.declared.unrolled.Aim.TheVariants.{OnTo, IntoHead, Outward, OverLast}
 use Rattle.question_form.specs.declared.unrolled.Edge.{Edge}
 use Rattle.question_form.specs.Views.{aim_of, edge_of}
 use Rattle.term_names.specs.declared.names.Names.{Names}
@@ -31,12 +31,14 @@ TellsWay old new falls jumps jumped same t x = (j e : Bool) → Tells old x jump
 abbrev pub IsLater : (from : ℕ) → Aim → Type 0
 IsLater from (OnTo j) = from ≤ j
 IsLater from Outward = Unit {0}
+IsLater from (IntoHead at asserts) = Unit {0}
 IsLater from OverLast = Unit {0}
 
 -- an aim is a place of a program, if it is one
 abbrev pub IsPlaceOf : (places : ℕ) → Aim → Type 0
 IsPlaceOf places (OnTo j) = j < places
 IsPlaceOf places Outward = Unit {0}
+IsPlaceOf places (IntoHead at asserts) = Unit {0}
 IsPlaceOf places OverLast = Unit {0}
 
 -- the walk goes on by an aim to the next state, which terms are where a bit is 1
@@ -52,24 +54,28 @@ pub record Follows (nodes : List TermNode) (s : Sweep) (big : Bool) (lines : Lis
 abbrev pub aim_gates : Names → List NoteLine → Aim → ℕ
 aim_gates n lines (OnTo j) = bits_of n + 1
 aim_gates n lines Outward = sum_by line_price (map (λ l. l.says) lines)
+aim_gates n lines (IntoHead at asserts) = 1
 aim_gates n lines OverLast = 1
 
 -- in byte loads
 abbrev pub aim_loads : List NoteLine → Aim → ℕ
 aim_loads lines (OnTo j) = 0
 aim_loads lines Outward = sum_by bytes_loaded (map (λ l. l.says) lines)
+aim_loads lines (IntoHead at asserts) = 0
 aim_loads lines OverLast = 0
 
 -- in joins
 abbrev pub aim_joins : Aim → ℕ
 aim_joins (OnTo j) = 1
 aim_joins Outward = 0
+aim_joins (IntoHead at asserts) = 0
 aim_joins OverLast = 0
 
 -- in nodes
 abbrev pub aim_nodes : Names → List NoteLine → Aim → ℕ
 aim_nodes n lines (OnTo j) = 2 * terms_of n + 2
 aim_nodes n lines Outward = 4 * line_steps (map (λ l. l.says) lines)
+aim_nodes n lines (IntoHead at asserts) = 2
 aim_nodes n lines OverLast = 2
 
 -- the point goes on, to a state that terms are, by a jump or without one, as a bit tells

@@ -11,6 +11,7 @@ use Rattle.term_spec.specs.Passive.{Denotes, Tells}
 use Rattle.walk_spec.specs.Prices.{line_steps}
 use Rattle.notes_value.specs.NoteViews.{notes_of}
 use Rattle.question_form.specs.declared.unrolled.Code.{Code}
+use Rattle.question_form.specs.declared.unrolled.Deed.TheVariants.{Row}
 use Rattle.question_form.specs.declared.unrolled.Edge.{Edge}
 use Rattle.question_form.specs.declared.unrolled.Point.{Point}
 use Rattle.question_form.specs.declared.unrolled.Unrolled.{Unrolled}
@@ -39,7 +40,7 @@ situation_at u q entry choice c = record {
 
 -- no point
 abbrev pub no_point : Point
-no_point = record { turns = 0; code = 0; stack = 0; edges = 0 }
+no_point = record { root = 0; turns = 0; code = 0; stack = 0; deed = Row; edges = 0 }
 
 -- the point of a place
 abbrev pub own_point : Unrolled → ℕ → Point

@@ -32,6 +32,7 @@ pub record AreWell (nodes : List TermNode) (s : Sweep) : Type 0 where
   pub bits : (i : ℕ) → i < length s.met.items → HasWidth nodes 1 (term_at s.met.items i)
   pub states : (i : ℕ) (n : Names) → slice_get s.states.items i ≡ Some (Some n) → AreTermsOf s.entry nodes n
   pub fails : HasWidth nodes 1 s.fails.0
+  pub steps : HasWidth nodes 1 s.steps.0
   pub turns : HasWidth nodes 1 s.turns.0
 
 -- there are terms, and under the reading they are what is carried
@@ -55,12 +56,13 @@ terms_of n = length n.registers.items + length n.flags.items + 1
 abbrev pub bits_of : Names → ℕ
 bits_of n = 32 * length n.registers.items + length n.flags.items
 
--- the same entry state and as many places
+-- the same entry state, as many places, and no event of a segment from a head
 pub record AreLike (s z : Sweep) : Type 0 where
   pub entry : z.entry ≡ s.entry
   pub pc : z.pc ≡ s.pc
   pub at : z.at ≡ s.at
   pub places : length z.met.items ≡ length s.met.items
+  pub steps : z.steps ≡ s.steps
 
 -- A step keeps what is kept as terms of the same places, by new terms within so many gates, byte loads, byte stores, joins and nodes, and no other inputs than
 -- some.

@@ -1,9 +1,9 @@
 -- What is kept after some points were handled.
-use Rattle.std.specs.Prelude.{ℕ, ◌≤◌, ◌+◌, ◌*◌, List, ◌∷◌, length, drop, sum_by, replicate}
+use Rattle.std.specs.Prelude.{false, ℕ, ◌≤◌, ◌+◌, ◌*◌, List, ◌∷◌, length, drop, sum_by, replicate}
 use Rattle.term_spec.specs.Terms.{TermNode, term_gates, term_loads, term_stores, term_joins}
 use Rattle.walk_spec.specs.Unrolled.{UnrolledPoint, UnrolledProgram}
 use Rattle.walk_spec.specs.Sweep.{held}
-use Rattle.term_spec.specs.Passive.{UnderAll}
+use Rattle.term_spec.specs.Passive.{UnderAll, Tells}
 use Rattle.walk_spec.specs.Prices.{variables_of}
 use Rattle.term_spec.specs.WalkQuestions.{AreNamedBelow, term_reading}
 use Rattle.question_form.specs.declared.unrolled.Unrolled.{Unrolled}
@@ -25,10 +25,11 @@ pub record LeaveRoom (u : UnrolledProgram) (nodes : List TermNode) (others : Lis
   pub few : length nodes + sum_by (point_nodes u) others ≤ 2 * variables_of u + 48 + sum_by (point_nodes u) u.points
 
 -- The first points are handled: what is kept are terms of the program, with room for the points that are left, and under every reading they are what is held
--- after those points.
+-- after those points; no segment begins at a head.
 pub record AreSwept (u : Unrolled) (handled : ℕ) (nodes : List TermNode) (s : Sweep) : Type 0 where
   pub well : AreWell nodes s
   pub sweep : IsSweepOf u s
   pub named : AreNamedBelow (unrolled_of u) 0 nodes
   pub room : LeaveRoom (unrolled_of u) nodes (drop handled (unrolled_of u).points)
+  pub never : UnderAll (unrolled_of u) (λ r. Tells nodes (term_reading (unrolled_of u) r) s.steps.0 false)
   pub shows : UnderAll (unrolled_of u) (λ r. ShowsAt nodes s handled (term_reading (unrolled_of u) r) (held (unrolled_of u) r handled))

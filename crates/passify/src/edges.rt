@@ -100,6 +100,10 @@ pub fn follow(
             judged(dag, sweep, lines, next, hit, big)?;
             Ok(())
         }
+        Aim::IntoHead { .. } => {
+            turn(dag, sweep, hit)?;
+            Ok(())
+        }
         Aim::OverLast => {
             turn(dag, sweep, hit)?;
             Ok(())

@@ -11,7 +11,8 @@ use term_dag::{Dag, Term};
 use term_names::{Names, copied, selected};
 
 /// The terms of the state at entry and of its address; for each point whether it is met, and for those that are still to be handled, and were come to, the
-/// terms of what is carried there; whether an event came, and whether one backward transfer too many did.
+/// terms of what is carried there; whether an event came in the entry's segment, whether one came in a segment from a head, and whether one backward transfer
+/// too many did.
 #[derive(Drop)]
 pub struct Sweep {
     pub entry: Names,
@@ -20,6 +21,7 @@ pub struct Sweep {
     pub met: Vec<Term>,
     pub states: Vec<Option<Names>>,
     pub fails: Term,
+    pub steps: Term,
     pub turns: Term,
 }
 

@@ -81,6 +81,7 @@ fn begin(alloc: Global, dag: &mut Dag, unrolled: &Unrolled) -> Result<Sweep, All
         met,
         states,
         fails: never,
+        steps: never,
         turns: never,
     })
 }
@@ -150,6 +151,7 @@ pub fn passive_to_last<'a>(
     let Sweep {
         met,
         fails,
+        steps,
         turns,
         ..
     } = sweep;
@@ -159,6 +161,7 @@ pub fn passive_to_last<'a>(
             dag,
             met,
             fails,
+            steps,
             turns,
         },
         last,

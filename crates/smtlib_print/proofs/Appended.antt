@@ -28,7 +28,7 @@ pub definition_more : (layout : Layout) (numbers : List ℕ) (ns : List TermNode
     new ≡ out ++ (written (definition i (sort_of (width_of n)) (node_term layout numbers n)) ++ codes "\n") → out ++ left layout numbers ns i ≡ all →
     new ++ left layout numbers ns (i + 1) ≡ all
 definition_more layout numbers ns i n out new all l e step inv =
-    let d : drop i ns ≡ n ∷ drop (suc i) ns = drop-cons ns i MemoryNode l ∙ ap (λ m. m ∷ drop (suc i) ns) (sym e) in
+    let d : drop i ns ≡ n ∷ drop (suc i) ns = drop-cons ns i (MemoryNode 0) l ∙ ap (λ m. m ∷ drop (suc i) ns) (sym e) in
     rw add-one (one_command out new (left layout numbers ns (suc i)) all (definition i (sort_of (width_of n)) (node_term layout numbers n)) step
     (ap (λ t. out ++ commands_text (node_definitions layout numbers i t)) (sym d) ∙ inv))
 

@@ -96,7 +96,7 @@ knows_on symbols x bs n at v e s k i = record {
     | inr b ↦ (
         let h : t ≡ length bs = omega (arith, l, longer bs n, b) in
         value_is _ _ _ _ _ _
-        (ap (λ u. width_of (node_at (bs ++ n ∷ []) u)) h ∙ ap width_of (last bs n terms.MemoryNode))
+        (ap (λ u. width_of (node_at (bs ++ n ∷ []) u)) h ∙ ap width_of (last bs n (terms.MemoryNode 0)))
         (ap (terms.term_value x (bs ++ n ∷ [])) h ∙ value_last x bs n)
         (ap (λ u. binds symbols (term_name at) v (term_name u)) (h ∙ sym e) ∙ bound_here symbols at v) i)
   ];
@@ -108,14 +108,16 @@ pub record IsNamed (model : List ℕ → Option SmtValue) (names : List (List �
   pub symbol : is_symbol w ≡ true
   pub value : model w ≡ Some v
 
--- an input has a name with its value
+-- an input has a name with its value; the memory is that of part 0
 abbrev pub IsInputOf : (model : List ℕ → Option SmtValue) → (names : List (List ℕ)) → Layout → (numbers : List ℕ) → TermReading → TermNode → Type 0
-IsInputOf model names layout numbers x (terms.RegisterNode r) =
-    IsNamed model names (slice_index_or layout.registers (r - layout.first) []) (WordValue 32 (x.regs r))
-IsInputOf model names layout numbers x (terms.FlagNode f) =
-    IsNamed model names (slice_index_or layout.flags (length layout.flags - 1 - f) []) (WordValue 1 (x.flags f))
+IsInputOf model names layout numbers x (terms.RegisterNode p r) =
+    IsNamed model names (slice_index_or layout.registers (r - layout.first) []) (WordValue 32 (x.regs p r))
+IsInputOf model names layout numbers x (terms.FlagNode p f) =
+    IsNamed model names (slice_index_or layout.flags (length layout.flags - 1 - f) []) (WordValue 1 (x.flags p f))
 IsInputOf model names layout numbers x (terms.ChoiceNode i) = IsNamed model names (choice_name (slice_index numbers i)) (WordValue 2 (x.choice i))
-IsInputOf model names layout numbers x (terms.BaseNode j) = x.base j ≡ 0
+IsInputOf model names layout numbers x (terms.BaseNode p j) = x.base p j ≡ 0
+IsInputOf model names layout numbers x (terms.MemoryNode p) = p ≡ 0
+IsInputOf model names layout numbers x (terms.TakeNode n m a p) = ⊥
 IsInputOf model names layout numbers x n = Unit {0}
 
 -- so have the inputs of a list
@@ -138,14 +140,15 @@ pub record Reached (model symbols : List ℕ → Option SmtValue) (names : List 
 
 module _ (model : List ℕ → Option SmtValue) (names : List (List ℕ)) (layout : Layout) (numbers : List ℕ) (x : TermReading) (range : InRange x)
     (apart : Apart names)
-    (memory : IsNamed model names (codes "mem") (ArrayValue x.mem)) where
+    (memory : IsNamed model names (codes "mem") (ArrayValue (x.mem 0))) where
   has_input : (symbols : List ℕ → Option SmtValue) (upto : ℕ) (n : TermNode) → Stands model symbols names upto → IsInputOf model names layout numbers x n →
       HasInput symbols layout numbers x n
-  has_input symbols upto (terms.RegisterNode r) s i = named_value model symbols names upto _ _ s i
-  has_input symbols upto (terms.FlagNode f) s i = named_value model symbols names upto _ _ s i
+  has_input symbols upto (terms.RegisterNode p r) s i = named_value model symbols names upto _ _ s i
+  has_input symbols upto (terms.FlagNode p f) s i = named_value model symbols names upto _ _ s i
   has_input symbols upto (terms.ChoiceNode j) s i = named_value model symbols names upto _ _ s i
-  has_input symbols upto (terms.BaseNode j) s i = i
-  has_input symbols upto terms.MemoryNode s i = named_value model symbols names upto _ _ s memory
+  has_input symbols upto (terms.BaseNode p j) s i = i
+  has_input symbols upto (terms.MemoryNode p) s i =
+      named_value model symbols names upto _ _ s memory ∙ ap (λ q. Some (ArrayValue (x.mem q))) (sym i)
   has_input symbols upto (terms.ConstantNode w v) s i = tt
   has_input symbols upto (terms.BinaryNode o w a b) s i = tt
   has_input symbols upto (terms.NotNode w a) s i = tt
@@ -156,6 +159,7 @@ module _ (model : List ℕ → Option SmtValue) (names : List (List ℕ)) (layou
   has_input symbols upto (terms.LoadNode n e m a) s i = tt
   has_input symbols upto (terms.StoreNode n e m a v) s i = tt
   has_input symbols upto (terms.JoinNode c a b) s i = tt
+  has_input symbols upto (terms.TakeNode n m a p) s i = absurd i
 
   node_sorted : (symbols : List ℕ → Option SmtValue) (bs : List TermNode) (n : TermNode) (upto : ℕ) → length bs < 2 ^ 64 → AreTyped bs →
       terms.IsTypedOver bs n → Knows symbols x bs →
@@ -164,7 +168,7 @@ module _ (model : List ℕ → Option SmtValue) (names : List (List ℕ)) (layou
   node_sorted symbols bs n upto few typed here knows stands input =
       let whole = typed_push bs n typed here in
       let l = longer bs n in
-      let w : HasWidth (bs ++ n ∷ []) (width_of n) (length bs) = (omega (arith, l), ap width_of (last bs n terms.MemoryNode)) in
+      let w : HasWidth (bs ++ n ∷ []) (width_of n) (length bs) = (omega (arith, l), ap width_of (last bs n (terms.MemoryNode 0))) in
       let f = term_fits x (bs ++ n ∷ []) (width_of n) (length bs) range whole w in
       let k = few_bits (bs ++ n ∷ []) (length bs) whole w.0 in
       sorted (width_of n) (node_value x (values_from x [] bs) n) _ (omega (arith, k, w.1))

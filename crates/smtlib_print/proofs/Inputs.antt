@@ -64,12 +64,12 @@ module _ (u : UnrolledProgram) (layout : Layout) (usable : IsUsable layout) (lai
   flag_own i l = own_of (name_at layout.flags i) (each_own is_own layout.flags i (all_right layout.registers layout.flags usable.own) l)
 
   pub has_word : (n : TermNode) → IsNamedBelow u 0 n → HasWord layout numbers n
-  has_word (terms.RegisterNode r) h = (register_own (r - layout.first) (register_at r h).1).word
-  has_word (terms.FlagNode f) h = (flag_own (length layout.flags - 1 - f) (omega (arith, flag_at f h))).word
+  has_word (terms.RegisterNode p r) h = (register_own (r - layout.first) (register_at r h.1).1).word
+  has_word (terms.FlagNode p f) h = (flag_own (length layout.flags - 1 - f) (omega (arith, flag_at f h.1))).word
   has_word (terms.ChoiceNode i) h =
       choice_word (slice_index numbers i) (omega (arith, are.within i (omega (arith, h.0, are.count)), are.few))
-  has_word (terms.BaseNode j) h = tt
-  has_word terms.MemoryNode h = tt
+  has_word (terms.BaseNode p j) h = tt
+  has_word (terms.MemoryNode p) h = tt
   has_word (terms.ConstantNode w v) h = tt
   has_word (terms.BinaryNode o w a b) h = tt
   has_word (terms.NotNode w a) h = tt
@@ -80,6 +80,7 @@ module _ (u : UnrolledProgram) (layout : Layout) (usable : IsUsable layout) (lai
   has_word (terms.LoadNode n e m a) h = tt
   has_word (terms.StoreNode n e m a v) h = tt
   has_word (terms.JoinNode c a b) h = tt
+  has_word (terms.TakeNode n m a p) h = tt
 
   pub have_words : (ns : List TermNode) → ((n : TermNode) → Contains ns n → IsNamedBelow u 0 n) → HaveWords layout numbers ns
   have_words [] h = tt
@@ -88,8 +89,8 @@ module _ (u : UnrolledProgram) (layout : Layout) (usable : IsUsable layout) (lai
   module _ (r : Reading) (is : IsReading r) where
     pub is_input : (n : TermNode) → IsNamedBelow u 0 n →
         IsInputOf (values_of layout points r) (declared_names layout choices) layout numbers (term_reading u r) n
-    is_input (terms.RegisterNode n) h =
-        let k = register_at n h in
+    is_input (terms.RegisterNode p n) h =
+        let k = register_at n h.1 in
         let i = n - layout.first in
         let e : layout.first + i ≡ n = omega (arith, k.0) in
         record {
@@ -99,8 +100,8 @@ module _ (u : UnrolledProgram) (layout : Layout) (usable : IsUsable layout) (lai
           symbol = (register_own i k.1).symbol;
           value = register_is layout usable points are.few r i k.1 ∙ ap (λ z. Some (WordValue 32 (r.state.regs z))) e;
         }
-    is_input (terms.FlagNode f) h =
-        let k = flag_at f h in
+    is_input (terms.FlagNode p f) h =
+        let k = flag_at f h.1 in
         let i = length layout.flags - 1 - f in
         let l : i < length layout.flags = omega (arith, k) in
         record {
@@ -117,8 +118,8 @@ module _ (u : UnrolledProgram) (layout : Layout) (usable : IsUsable layout) (lai
           symbol = choice_symbol (slice_index numbers i);
           value = choice_is layout usable points are.few r (slice_index numbers i) (point_at u i).point (are.within i l) (are.at i l);
         }
-    is_input (terms.BaseNode j) h = refl
-    is_input terms.MemoryNode h = tt
+    is_input (terms.BaseNode p j) h = refl
+    is_input (terms.MemoryNode p) h = h
     is_input (terms.ConstantNode w v) h = tt
     is_input (terms.BinaryNode o w a b) h = tt
     is_input (terms.NotNode w a) h = tt
@@ -129,6 +130,7 @@ module _ (u : UnrolledProgram) (layout : Layout) (usable : IsUsable layout) (lai
     is_input (terms.LoadNode n e m a) h = tt
     is_input (terms.StoreNode n e m a v) h = tt
     is_input (terms.JoinNode c a b) h = tt
+    is_input (terms.TakeNode n m a p) h = absurd h
 
     pub are_inputs : (ns : List TermNode) → ((n : TermNode) → Contains ns n → IsNamedBelow u 0 n) →
         AreInputsOf (values_of layout points r) (declared_names layout choices) layout numbers (term_reading u r) ns

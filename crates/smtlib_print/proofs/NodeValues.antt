@@ -10,7 +10,7 @@ use Rattle.machine_spec.specs.StateText.{Layout}
 use Rattle.bilv_spec.specs.SmtLib.{SmtValue, WordValue, ArrayValue, atom_value, term_value}
 use Rattle.machine_spec.proofs.Spelling.{same_number, decimal_back}
 use Rattle.term_spec.specs.Terms as terms
-use Rattle.term_spec.specs.Terms.{TermReading, InRange, TermValue, TermNode, RegisterNode, FlagNode, ChoiceNode, BaseNode, MemoryNode, ConstantNode, BinaryNode, NotNode, SelectNode, ExtractNode, ConcatNode, ExtendNode, LoadNode, StoreNode, JoinNode, word_value, bytes_value, value_at, node_value, values_from, width_of, node_at, HasWidth, IsTypedOver, AreTyped, select, extend}
+use Rattle.term_spec.specs.Terms.{TermReading, InRange, TermValue, TermNode, RegisterNode, FlagNode, ChoiceNode, BaseNode, MemoryNode, ConstantNode, BinaryNode, NotNode, SelectNode, ExtractNode, ConcatNode, ExtendNode, LoadNode, StoreNode, JoinNode, TakeNode, word_value, bytes_value, value_at, node_value, values_from, width_of, node_at, HasWidth, IsTypedOver, AreTyped, select, extend}
 use Rattle.term_dag.proofs.Ranges.{word_fits, result_is_width}
 use Rattle.term_dag.proofs.Shapes.{few_bits}
 use Rattle.smtlib_print.specs.Commands as commands
@@ -37,12 +37,13 @@ pub record Knows (symbols : List ℕ → Option SmtValue) (x : TermReading) (ns 
 
 -- an input has its value
 abbrev pub HasInput : (symbols : List ℕ → Option SmtValue) → Layout → (numbers : List ℕ) → TermReading → TermNode → Type 0
-HasInput symbols layout numbers x (RegisterNode r) = atom_value symbols (slice_index_or layout.registers (r - layout.first) []) ≡ Some (WordValue 32 (x.regs r))
-HasInput symbols layout numbers x (FlagNode f) = atom_value symbols (slice_index_or layout.flags (length layout.flags - 1 - f) [])
-    ≡ Some (WordValue 1 (x.flags f))
+HasInput symbols layout numbers x (RegisterNode p r) = atom_value symbols (slice_index_or layout.registers (r - layout.first) []) ≡ Some (WordValue 32 (x.regs p r))
+HasInput symbols layout numbers x (FlagNode p f) = atom_value symbols (slice_index_or layout.flags (length layout.flags - 1 - f) [])
+    ≡ Some (WordValue 1 (x.flags p f))
 HasInput symbols layout numbers x (ChoiceNode i) = atom_value symbols (choice_name (slice_index numbers i)) ≡ Some (WordValue 2 (x.choice i))
-HasInput symbols layout numbers x (BaseNode j) = x.base j ≡ 0
-HasInput symbols layout numbers x MemoryNode = atom_value symbols (codes "mem") ≡ Some (ArrayValue x.mem)
+HasInput symbols layout numbers x (BaseNode p j) = x.base p j ≡ 0
+HasInput symbols layout numbers x (MemoryNode p) = atom_value symbols (codes "mem") ≡ Some (ArrayValue (x.mem p))
+HasInput symbols layout numbers x (TakeNode n m a p) = ⊥
 HasInput symbols layout numbers x n = Unit {0}
 
 select_is : (c a b : ℕ) → c < 2 → (if c == 1 then a else b) ≡ select c a b
@@ -82,11 +83,11 @@ module _ (symbols : List ℕ → Option SmtValue) (layout : Layout) (numbers : L
 
   pub says : (n : TermNode) → IsTypedOver ns n → HasInput symbols layout numbers x n →
       IsValue (width_of n) (node_value x (values_from x [] ns) n) (term_value symbols (node_term layout numbers n))
-  says (RegisterNode r) h i = word_is 32 _ _ (omega arith) i
-  says (FlagNode f) h i = word_is 1 _ _ (omega arith) i
+  says (RegisterNode p r) h i = word_is 32 _ _ (omega arith) i
+  says (FlagNode p f) h i = word_is 1 _ _ (omega arith) i
   says (ChoiceNode j) h i = word_is 2 _ _ (omega arith) i
-  says (BaseNode j) h i = word_is 8 _ _ (omega arith) (hex_constant symbols 2 0 (omega arith) (omega arith) ∙ same_word 8 0 (x.base j) (sym i))
-  says MemoryNode h i = memory_is _ _ x.mem i (λ a l. refl)
+  says (BaseNode p j) h i = word_is 8 _ _ (omega arith) (hex_constant symbols 2 0 (omega arith) (omega arith) ∙ same_word 8 0 (x.base p j) (sym i))
+  says (MemoryNode p) h i = memory_is _ _ (x.mem p) i (λ a l. refl)
   says (ConstantNode w v) h i = word_is w _ _ h.0.0 (constant_value symbols w v (omega (arith, h.0.0)) h.1)
   says (BinaryNode o w a b) h i =
       word_is (result_width o w) _ _ (result_is_width o w h.0.0 h.0.1).0
@@ -133,3 +134,4 @@ module _ (symbols : List ℕ → Option SmtValue) (layout : Layout) (numbers : L
       (rw (word_known 1 c (omega arith) h.0, f.1, g.1) refl)
       (λ z l. select_is (terms.term_word x ns c) (f.0 z) (g.0 z) (below 1 c h.0)
       ∙ ap (λ u. select (terms.term_word x ns c) u (g.0 z)) (f.2 z l) ∙ ap (select (terms.term_word x ns c) ((terms.term_value x ns a).bytes z)) (g.2 z l))
+  says (TakeNode n m a p) h i = absurd i

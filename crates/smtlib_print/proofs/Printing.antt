@@ -30,12 +30,13 @@ use Rattle.smtlib_print.proofs.Telling.{script_tells}
 
 module _ (u : UnrolledProgram) (layout : texts.Layout) (laid : IsLaidOut layout u) (count : ℕ) (same : count ≡ length u.points) where
   printable_node : (before : List TermNode) (n : TermNode) → IsTypedOver before n → IsNamedBelow u 0 n → IsPrintable layout count n
-  printable_node before (terms.RegisterNode r) t h = in_range r layout.first (length layout.registers) (ap (λ rs. list_any (nat_eq r) rs) (sym laid.registers)
-      ∙ h)
-  printable_node before (terms.FlagNode f) t h = let k : f < u.flags = grind (arith, nat_tests) in omega (arith, k, laid.flags)
+  printable_node before (terms.RegisterNode p r) t h =
+      let q = in_range r layout.first (length layout.registers) (ap (λ rs. list_any (nat_eq r) rs) (sym laid.registers) ∙ h.1) in
+      (h.0, q.0, q.1)
+  printable_node before (terms.FlagNode p f) t h = let k : f < u.flags = grind (arith, nat_tests, h.1) in (h.0, omega (arith, k, laid.flags))
   printable_node before (terms.ChoiceNode i) t h = omega (arith, h.0, same)
-  printable_node before (terms.BaseNode j) t h = tt
-  printable_node before terms.MemoryNode t h = tt
+  printable_node before (terms.BaseNode p j) t h = tt
+  printable_node before (terms.MemoryNode p) t h = h
   printable_node before (terms.ConstantNode w v) t h = tt
   printable_node before (terms.BinaryNode o w a b) t h = t.0
   printable_node before (terms.NotNode w a) t h = tt
@@ -46,6 +47,7 @@ module _ (u : UnrolledProgram) (layout : texts.Layout) (laid : IsLaidOut layout 
   printable_node before (terms.LoadNode n e m a) t h = t.0
   printable_node before (terms.StoreNode n e m a v) t h = t.0
   printable_node before (terms.JoinNode c a b) t h = tt
+  printable_node before (terms.TakeNode n m a p) t h = absurd h
 
   printable_from : (before ns : List TermNode) → AreTypedFrom before ns → ((n : TermNode) → Contains ns n → IsNamedBelow u 0 n) → (t : ℕ) → t < length ns →
       IsPrintable layout count (node_at ns t)

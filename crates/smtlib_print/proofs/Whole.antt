@@ -41,11 +41,11 @@ choice_sorted model w v h e = let l : nat_lt v (2 ^ 2) ≡ true = grind (arith, 
 
 term_range : (u : UnrolledProgram) (r : Reading) → IsReading r → InRange (term_reading u r)
 term_range u r is = record {
-  regs = is.state.regs;
-  flags = is.state.flags;
-  mem = is.state.mem;
+  regs = λ p. is.state.regs;
+  flags = λ p. is.state.flags;
+  mem = λ p. is.state.mem;
   choice = λ i. is.choice (point_at u i).point;
-  base = λ j. omega arith;
+  base = λ p j. omega arith;
 }
 
 -- the declared names, the last first

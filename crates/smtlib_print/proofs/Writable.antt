@@ -109,8 +109,8 @@ choose_writable c a b h k l = (refl, ((refl, (term_word c h, (refl, tt))), (term
 
 -- the name of an input is a word
 abbrev pub HasWord : Layout → (numbers : List ℕ) → TermNode → Type 0
-HasWord layout numbers (terms.RegisterNode r) = is_word (slice_index_or layout.registers (r - layout.first) []) ≡ true
-HasWord layout numbers (terms.FlagNode f) = is_word (slice_index_or layout.flags (length layout.flags - 1 - f) []) ≡ true
+HasWord layout numbers (terms.RegisterNode p r) = is_word (slice_index_or layout.registers (r - layout.first) []) ≡ true
+HasWord layout numbers (terms.FlagNode p f) = is_word (slice_index_or layout.flags (length layout.flags - 1 - f) []) ≡ true
 HasWord layout numbers (terms.ChoiceNode i) = is_word (choice_name (slice_index numbers i)) ≡ true
 HasWord layout numbers n = Unit {0}
 
@@ -121,11 +121,11 @@ HaveWords layout numbers (n ∷ ns) = HasWord layout numbers n × HaveWords layo
 node_writable : (layout : Layout) (numbers : List ℕ) (bs : List TermNode) (n : TermNode) → terms.AreTyped bs → length bs < 2 ^ 32 → IsTypedOver bs n →
     HasWord layout numbers n →
     IsWritable (node_term layout numbers n)
-node_writable layout numbers bs (terms.RegisterNode r) t s h w = w
-node_writable layout numbers bs (terms.FlagNode f) t s h w = w
+node_writable layout numbers bs (terms.RegisterNode p r) t s h w = w
+node_writable layout numbers bs (terms.FlagNode p f) t s h w = w
 node_writable layout numbers bs (terms.ChoiceNode i) t s h w = w
-node_writable layout numbers bs (terms.BaseNode j) t s h w = hex_inners 2 0
-node_writable layout numbers bs terms.MemoryNode t s h w = refl
+node_writable layout numbers bs (terms.BaseNode p j) t s h w = hex_inners 2 0
+node_writable layout numbers bs (terms.MemoryNode p) t s h w = refl
 node_writable layout numbers bs (terms.ConstantNode n v) t s h w = constant_word n v
 node_writable layout numbers bs (terms.BinaryNode o n a b) t s h w = operation_writable o n a b (omega (arith, s, h.1.0)) (omega (arith, s, h.2.0))
 node_writable layout numbers bs (terms.NotNode n a) t s h w = (refl, (term_word a (omega (arith, s, h.1.0)), tt))
@@ -142,6 +142,7 @@ node_writable layout numbers bs (terms.StoreNode n e m a v) t s h w =
     storing_writable e n m a v n h.0.1 (omega arith) (omega (arith, s, h.1.0)) (omega (arith, s, h.2.0)) (omega (arith, s, h.3.0))
 node_writable layout numbers bs (terms.JoinNode c a b) t s h w =
     choose_writable c a b (omega (arith, s, h.0.0)) (omega (arith, s, h.1.0)) (omega (arith, s, h.2.0))
+node_writable layout numbers bs (terms.TakeNode n m a p) t s h w = term_word m (omega (arith, s, h.1.0))
 
 sort_writable : (w : ℕ) → w < 2 ^ 64 → IsWritable (sort_of w)
 sort_writable zero h = (refl, ((refl, (refl, (refl, tt))), ((refl, (refl, (refl, tt))), tt)))
@@ -155,7 +156,7 @@ nodes_writable layout numbers bs (n ∷ ns) at e s t f w =
     let l = longer bs n in
     let whole = typed_push bs n t f.0 in
     let k = few_bits (bs ++ n ∷ []) (length bs) whole (omega (arith, l)) in
-    let q = ap width_of (last bs n terms.MemoryNode) in (
+    let q = ap width_of (last bs n (terms.MemoryNode 0)) in (
       (
         refl,
         (

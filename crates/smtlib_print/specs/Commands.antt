@@ -6,7 +6,7 @@ use Rattle.word_spec.specs.Texts.{number_text, hex_digits}
 use Rattle.machine_spec.specs.StateText.{Layout}
 use Rattle.bilv_spec.specs.Scripts.{choice_name}
 use Rattle.bilv_spec.specs.SmtLib.{Sexp, Atom, Nil}
-use Rattle.term_spec.specs.Terms.{TermNode, RegisterNode, FlagNode, ChoiceNode, BaseNode, MemoryNode, ConstantNode, BinaryNode, NotNode, SelectNode, ExtractNode, ConcatNode, ExtendNode, LoadNode, StoreNode, JoinNode, width_of}
+use Rattle.term_spec.specs.Terms.{TermNode, RegisterNode, FlagNode, ChoiceNode, BaseNode, MemoryNode, ConstantNode, BinaryNode, NotNode, SelectNode, ExtractNode, ConcatNode, ExtendNode, LoadNode, StoreNode, JoinNode, TakeNode, width_of}
 use Rattle.walk_spec.specs.Unrolled.{ByteRun}
 use Rattle.smtlib_print.specs.Written.{one, two, three, four, five}
 
@@ -127,13 +127,14 @@ abbrev pub storing : Endian → (n m a v count : ℕ) → Sexp
 storing e n m a v zero = term m
 storing e n m a v (suc i) = four (Atom (codes "store")) (storing e n m a v i) (behind a i) (extract (8 * place e n i + 7) (8 * place e n i) v)
 
--- the term of a node: names of registers, flags and choices come from the layout and the numbers of points; no byte is read of a base
+-- the term of a node: names of registers, flags and choices come from the layout and the numbers of points, all of one part; no byte is
+-- read of a base, and none is taken
 abbrev pub node_term : Layout → (numbers : List ℕ) → TermNode → Sexp
-node_term layout numbers (RegisterNode r) = Atom (slice_index_or layout.registers (r - layout.first) [])
-node_term layout numbers (FlagNode f) = Atom (slice_index_or layout.flags (length layout.flags - 1 - f) [])
+node_term layout numbers (RegisterNode p r) = Atom (slice_index_or layout.registers (r - layout.first) [])
+node_term layout numbers (FlagNode p f) = Atom (slice_index_or layout.flags (length layout.flags - 1 - f) [])
 node_term layout numbers (ChoiceNode i) = Atom (choice_name (slice_index numbers i))
-node_term layout numbers (BaseNode j) = byte 0
-node_term layout numbers MemoryNode = Atom (codes "mem")
+node_term layout numbers (BaseNode p j) = byte 0
+node_term layout numbers (MemoryNode p) = Atom (codes "mem")
 node_term layout numbers (ConstantNode w v) = constant w v
 node_term layout numbers (BinaryNode o w a b) = operation o w a b
 node_term layout numbers (NotNode w a) = two (Atom (codes "bvnot")) (term a)
@@ -144,6 +145,7 @@ node_term layout numbers (ExtendNode signed n m a) = extend signed (m - n) a
 node_term layout numbers (LoadNode n e m a) = loading e m a (n - 1)
 node_term layout numbers (StoreNode n e m a v) = storing e n m a v n
 node_term layout numbers (JoinNode c a b) = choose c a b
+node_term layout numbers (TakeNode n m a p) = term m
 
 -- the definition of a term by its place
 abbrev pub definition : (at : ℕ) → (sort says : Sexp) → Sexp

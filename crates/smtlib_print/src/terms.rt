@@ -318,11 +318,11 @@ pub fn push_node(
     ensures { OnOk result (string_bytes out.new ≡ string_bytes out.old ++ written (commands.node_term (layout_of form) numbers.now (node_of node))) }
 {
     match node {
-        Node::Register(register) => push_register(out, form, register),
-        Node::Flag(flag) => out.push_str(flag_name(form, flag)),
+        Node::Register { number, .. } => push_register(out, form, number),
+        Node::Flag { number, .. } => out.push_str(flag_name(form, number)),
         Node::Choice(place) => push_symbol(out, numbers, place),
-        Node::Base(_) => push_byte(out, 0),
-        Node::Memory => out.push_str("mem"),
+        Node::Base { .. } => push_byte(out, 0),
+        Node::Memory(_) => out.push_str("mem"),
         Node::Constant { width, value } => push_constant(out, width, value),
         Node::Binary {
             op,

@@ -29,8 +29,8 @@ chosen_second zero a b h = refl
 chosen_second (suc c) a b h = absurd (omega arith)
 
 module _ (x : TermReading) (ns : List TermNode) (ws : List ℕ) (t i : ℕ) (h : AreTyped ns) (w : AreWords x ns ws) (l : t < length ns) where
-  pub entry_byte : MemoryNode ≡ node_at ns t → x.mem i ≡ (term_value x ns t).bytes i
-  entry_byte e = sym (ap (λ z. z.bytes i) (by_node x ns t MemoryNode h l e))
+  pub entry_byte : (p : ℕ) → MemoryNode p ≡ node_at ns t → x.mem p i ≡ (term_value x ns t).bytes i
+  entry_byte p e = sym (ap (λ z. z.bytes i) (by_node x ns t (MemoryNode p) h l e))
 
   module _ (n : ℕ) (big : Bool) (m a v k : ℕ) (e : StoreNode n (endian big) m a v ≡ node_at ns t) (f : words.sub 32 i (slice_index ws a) ≡ k) where
     pub address_within : a < length ns
@@ -74,14 +74,14 @@ module _ (x : TermReading) (ns : List TermNode) (ws : List ℕ) (t i : ℕ) (h :
     join_second q = sym (ap (λ z. z.bytes i) (by_node x ns t (JoinNode c a b) h l e) ∙ chosen_second (term_word x ns c) _ _
         (omega (arith, w.each c join_within.0, q)))
 
-word_bytes : (x : TermReading) (vs : List TermValue) (n : Node) (i : ℕ) → (n ≡ node.Memory → ⊥) →
+word_bytes : (x : TermReading) (vs : List TermValue) (n : Node) (i : ℕ) → ((k : ℕ) → n ≡ node.Memory k → ⊥) →
     ((k : ℕ) (g : Bool) (m a v : Term) → n ≡ node.Store k g m a v → ⊥) →
     ((c a b : Term) → n ≡ node.Join c a b → ⊥) → 0 ≡ (node_value x vs (node_of n)).bytes i
-word_bytes x vs (node.Register r) i p q s = refl
-word_bytes x vs (node.Flag f) i p q s = refl
+word_bytes x vs (node.Register k r) i p q s = refl
+word_bytes x vs (node.Flag k f) i p q s = refl
 word_bytes x vs (node.Choice j) i p q s = refl
-word_bytes x vs (node.Base j) i p q s = refl
-word_bytes x vs node.Memory i p q s = absurd (p refl)
+word_bytes x vs (node.Base k j) i p q s = refl
+word_bytes x vs (node.Memory k) i p q s = absurd (p k refl)
 word_bytes x vs (node.Constant w v) i p q s = refl
 word_bytes x vs (node.Binary o w a b) i p q s = refl
 word_bytes x vs (node.Not w a) i p q s = refl
@@ -95,16 +95,16 @@ word_bytes x vs (node.Join c a b) i p q s = absurd (s c a b refl)
 
 -- a word has no bytes
 pub no_bytes : (x : TermReading) (ns : List TermNode) (t : ℕ) (n : Node) (i : ℕ) → AreTyped ns → t < length ns → node_of n ≡ node_at ns t →
-    (n ≡ node.Memory → ⊥) →
+    ((k : ℕ) → n ≡ node.Memory k → ⊥) →
     ((k : ℕ) (g : Bool) (m a v : Term) → n ≡ node.Store k g m a v → ⊥) → ((c a b : Term) → n ≡ node.Join c a b → ⊥) → 0 ≡ (term_value x ns t).bytes i
 no_bytes x ns t n i h l e p q s = word_bytes x (values_from x [] ns) n i p q s ∙ sym (ap (λ z. z.bytes i) (by_node x ns t (node_of n) h l e))
 
 -- what data stand for is in range
 pub in_range : (r : Reading) → InRange (reading_of r)
 in_range r = record {
-  regs = λ n. mod_below _ (2 ^ 32) (pow_pos 32);
-  flags = λ f. mod_below _ 2 (omega arith);
-  mem = λ a. xor_of_8 _ _ (mod_below _ 256 (omega arith)) (mod_below _ 256 (omega arith));
+  regs = λ p n. mod_below _ (2 ^ 32) (pow_pos 32);
+  flags = λ p f. mod_below _ 2 (omega arith);
+  mem = λ p a. xor_of_8 _ _ (mod_below _ 256 (omega arith)) (mod_below _ 256 (omega arith));
   choice = λ i. mod_below _ 4 (omega arith);
-  base = λ j. mod_below _ 256 (omega arith);
+  base = λ p j. mod_below _ 256 (omega arith);
 }

@@ -1,17 +1,18 @@
 -- A node over other places, of which the operands are copies, is a copy of the node.
 use Rattle.std.proofs.Common.{◌≡◌, ℕ, ◌*◌, ◌<◌, List, [], ◌∷◌, refl, ap, sym, ◌∙◌, subst}
 use Rattle.std.specs.List.{AllByRecursion}
-use Rattle.term_spec.specs.Terms.{TermReading, TermValue, TermNode, RegisterNode, FlagNode, ChoiceNode, BaseNode, MemoryNode, ConstantNode, BinaryNode, NotNode, SelectNode, ExtractNode, ConcatNode, ExtendNode, LoadNode, StoreNode, JoinNode, value_at, node_value, values_from, term_value, width_of, node_at, HasWidth, IsTypedOver, own_gates, own_loads, own_stores, own_joins}
-use Rattle.term_dag.specs.Nodes.{IsInput}
+use Rattle.term_spec.specs.Terms.{TermReading, TermValue, TermNode, RegisterNode, FlagNode, ChoiceNode, BaseNode, MemoryNode, ConstantNode, BinaryNode, NotNode, SelectNode, ExtractNode, ConcatNode, ExtendNode, LoadNode, StoreNode, JoinNode, TakeNode, value_at, node_value, values_from, term_value, width_of, node_at, HasWidth, IsTypedOver, own_gates, own_loads, own_stores, own_joins}
+use Rattle.walk_spec.specs.Unrolled.{UnrolledProgram}
+use Rattle.term_spec.specs.WalkQuestions.{IsNamedBelow}
 use Rattle.term_dag.specs.Made.{operands, moved, IsInterned}
 
 -- it has the node's width
 pub moved_width : (f : ℕ → ℕ) (n : TermNode) → width_of (moved f n) ≡ width_of n
-moved_width f (RegisterNode r) = refl
-moved_width f (FlagNode r) = refl
+moved_width f (RegisterNode p r) = refl
+moved_width f (FlagNode p r) = refl
 moved_width f (ChoiceNode i) = refl
-moved_width f (BaseNode j) = refl
-moved_width f MemoryNode = refl
+moved_width f (BaseNode p j) = refl
+moved_width f (MemoryNode p) = refl
 moved_width f (ConstantNode w v) = refl
 moved_width f (BinaryNode o w a b) = refl
 moved_width f (NotNode w a) = refl
@@ -22,13 +23,14 @@ moved_width f (ExtendNode s n m a) = refl
 moved_width f (LoadNode n e m a) = refl
 moved_width f (StoreNode n e m a v) = refl
 moved_width f (JoinNode c a b) = refl
+moved_width f (TakeNode n m a p) = refl
 
 pub moved_gates : (f : ℕ → ℕ) (n : TermNode) → own_gates (moved f n) ≡ own_gates n
-moved_gates f (RegisterNode r) = refl
-moved_gates f (FlagNode r) = refl
+moved_gates f (RegisterNode p r) = refl
+moved_gates f (FlagNode p r) = refl
 moved_gates f (ChoiceNode i) = refl
-moved_gates f (BaseNode j) = refl
-moved_gates f MemoryNode = refl
+moved_gates f (BaseNode p j) = refl
+moved_gates f (MemoryNode p) = refl
 moved_gates f (ConstantNode w v) = refl
 moved_gates f (BinaryNode o w a b) = refl
 moved_gates f (NotNode w a) = refl
@@ -39,13 +41,14 @@ moved_gates f (ExtendNode s n m a) = refl
 moved_gates f (LoadNode n e m a) = refl
 moved_gates f (StoreNode n e m a v) = refl
 moved_gates f (JoinNode c a b) = refl
+moved_gates f (TakeNode n m a p) = refl
 
 pub moved_loads : (f : ℕ → ℕ) (n : TermNode) → own_loads (moved f n) ≡ own_loads n
-moved_loads f (RegisterNode r) = refl
-moved_loads f (FlagNode r) = refl
+moved_loads f (RegisterNode p r) = refl
+moved_loads f (FlagNode p r) = refl
 moved_loads f (ChoiceNode i) = refl
-moved_loads f (BaseNode j) = refl
-moved_loads f MemoryNode = refl
+moved_loads f (BaseNode p j) = refl
+moved_loads f (MemoryNode p) = refl
 moved_loads f (ConstantNode w v) = refl
 moved_loads f (BinaryNode o w a b) = refl
 moved_loads f (NotNode w a) = refl
@@ -56,13 +59,14 @@ moved_loads f (ExtendNode s n m a) = refl
 moved_loads f (LoadNode n e m a) = refl
 moved_loads f (StoreNode n e m a v) = refl
 moved_loads f (JoinNode c a b) = refl
+moved_loads f (TakeNode n m a p) = refl
 
 pub moved_stores : (f : ℕ → ℕ) (n : TermNode) → own_stores (moved f n) ≡ own_stores n
-moved_stores f (RegisterNode r) = refl
-moved_stores f (FlagNode r) = refl
+moved_stores f (RegisterNode p r) = refl
+moved_stores f (FlagNode p r) = refl
 moved_stores f (ChoiceNode i) = refl
-moved_stores f (BaseNode j) = refl
-moved_stores f MemoryNode = refl
+moved_stores f (BaseNode p j) = refl
+moved_stores f (MemoryNode p) = refl
 moved_stores f (ConstantNode w v) = refl
 moved_stores f (BinaryNode o w a b) = refl
 moved_stores f (NotNode w a) = refl
@@ -73,13 +77,14 @@ moved_stores f (ExtendNode s n m a) = refl
 moved_stores f (LoadNode n e m a) = refl
 moved_stores f (StoreNode n e m a v) = refl
 moved_stores f (JoinNode c a b) = refl
+moved_stores f (TakeNode n m a p) = refl
 
 pub moved_joins : (f : ℕ → ℕ) (n : TermNode) → own_joins (moved f n) ≡ own_joins n
-moved_joins f (RegisterNode r) = refl
-moved_joins f (FlagNode r) = refl
+moved_joins f (RegisterNode p r) = refl
+moved_joins f (FlagNode p r) = refl
 moved_joins f (ChoiceNode i) = refl
-moved_joins f (BaseNode j) = refl
-moved_joins f MemoryNode = refl
+moved_joins f (BaseNode p j) = refl
+moved_joins f (MemoryNode p) = refl
 moved_joins f (ConstantNode w v) = refl
 moved_joins f (BinaryNode o w a b) = refl
 moved_joins f (NotNode w a) = refl
@@ -90,24 +95,26 @@ moved_joins f (ExtendNode s n m a) = refl
 moved_joins f (LoadNode n e m a) = refl
 moved_joins f (StoreNode n e m a v) = refl
 moved_joins f (JoinNode c a b) = refl
+moved_joins f (TakeNode n m a p) = refl
 
--- and it is the same input, if it is one
-pub moved_input : (f : ℕ → ℕ) (n : TermNode) → IsInput (moved f n) → moved f n ≡ n
-moved_input f (RegisterNode r) h = refl
-moved_input f (FlagNode r) h = refl
-moved_input f (ChoiceNode i) h = refl
-moved_input f (BaseNode j) h = refl
-moved_input f MemoryNode h = refl
-moved_input f (ConstantNode w v) h = refl
-moved_input f (BinaryNode o w a b) h = absurd h
-moved_input f (NotNode w a) h = absurd h
-moved_input f (SelectNode w c a b) h = absurd h
-moved_input f (ExtractNode hi lo a) h = absurd h
-moved_input f (ConcatNode high low a b) h = absurd h
-moved_input f (ExtendNode s n m a) h = absurd h
-moved_input f (LoadNode n e m a) h = absurd h
-moved_input f (StoreNode n e m a v) h = absurd h
-moved_input f (JoinNode c a b) h = absurd h
+-- and it names what the node does
+pub moved_named : (u : UnrolledProgram) (reads : ℕ) (f : ℕ → ℕ) (n : TermNode) → IsNamedBelow u reads n → IsNamedBelow u reads (moved f n)
+moved_named u reads f (RegisterNode p r) h = h
+moved_named u reads f (FlagNode p r) h = h
+moved_named u reads f (ChoiceNode i) h = h
+moved_named u reads f (BaseNode p j) h = h
+moved_named u reads f (MemoryNode p) h = h
+moved_named u reads f (ConstantNode w v) h = h
+moved_named u reads f (BinaryNode o w a b) h = h
+moved_named u reads f (NotNode w a) h = h
+moved_named u reads f (SelectNode w c a b) h = h
+moved_named u reads f (ExtractNode hi lo a) h = h
+moved_named u reads f (ConcatNode high low a b) h = h
+moved_named u reads f (ExtendNode s n m a) h = h
+moved_named u reads f (LoadNode n e m a) h = h
+moved_named u reads f (StoreNode n e m a v) h = h
+moved_named u reads f (JoinNode c a b) h = h
+moved_named u reads f (TakeNode n m a p) h = h
 
 at_width : (src dst : List TermNode) (w a b : ℕ) → HasWidth src w a → HasWidth dst (width_of (node_at src a)) b → HasWidth dst w b
 at_width src dst w a b p q = (q.0, q.1 ∙ p.1)
@@ -116,11 +123,11 @@ at_width src dst w a b p q = (q.0, q.1 ∙ p.1)
 pub moved_typed : (src dst : List TermNode) (f : ℕ → ℕ) (n : TermNode) → IsTypedOver src n →
     AllByRecursion (λ a. HasWidth dst (width_of (node_at src a)) (f a)) (operands n) →
     IsTypedOver dst (moved f n)
-moved_typed src dst f (RegisterNode r) h m = tt
-moved_typed src dst f (FlagNode r) h m = tt
+moved_typed src dst f (RegisterNode p r) h m = tt
+moved_typed src dst f (FlagNode p r) h m = tt
 moved_typed src dst f (ChoiceNode i) h m = tt
-moved_typed src dst f (BaseNode j) h m = tt
-moved_typed src dst f MemoryNode h m = tt
+moved_typed src dst f (BaseNode p j) h m = tt
+moved_typed src dst f (MemoryNode p) h m = tt
 moved_typed src dst f (ConstantNode w v) h m = h
 moved_typed src dst f (BinaryNode o w a b) h m = (h.0, at_width src dst w a (f a) h.1 m.0, at_width src dst w b (f b) h.2 m.1.0)
 moved_typed src dst f (NotNode w a) h m = (h.0, at_width src dst w a (f a) h.1 m.0)
@@ -143,15 +150,16 @@ moved_typed src dst f (StoreNode n e i a v) h m = (
       (f v) h.3 m.1.1.0,
 )
 moved_typed src dst f (JoinNode c a b) h m = (at_width src dst 1 c (f c) h.0 m.0, at_width src dst 0 a (f a) h.1 m.1.0, at_width src dst 0 b (f b) h.2 m.1.1.0)
+moved_typed src dst f (TakeNode n i a p) h m = (h.0, at_width src dst 0 i (f i) h.1 m.0, at_width src dst 32 a (f a) h.2 m.1.0)
 
 -- where its operands have the values of the node's, it has the node's value
 pub moved_value : (x : TermReading) (vs ws : List TermValue) (f : ℕ → ℕ) (n : TermNode) → AllByRecursion (λ a. value_at ws (f a) ≡ value_at vs a) (operands n) →
     node_value x ws (moved f n) ≡ node_value x vs n
-moved_value x vs ws f (RegisterNode r) h = refl
-moved_value x vs ws f (FlagNode r) h = refl
+moved_value x vs ws f (RegisterNode p r) h = refl
+moved_value x vs ws f (FlagNode p r) h = refl
 moved_value x vs ws f (ChoiceNode i) h = refl
-moved_value x vs ws f (BaseNode j) h = refl
-moved_value x vs ws f MemoryNode h = refl
+moved_value x vs ws f (BaseNode p j) h = refl
+moved_value x vs ws f (MemoryNode p) h = refl
 moved_value x vs ws f (ConstantNode w v) h = refl
 moved_value x vs ws f (BinaryNode o w a b) h =
     ap (λ (z : TermValue). node_value x (z ∷ value_at ws (f b) ∷ []) (BinaryNode o w 0 1)) h.0
@@ -177,6 +185,9 @@ moved_value x vs ws f (JoinNode c a b) h =
     ap (λ (z : TermValue). node_value x (z ∷ value_at ws (f a) ∷ value_at ws (f b) ∷ []) (JoinNode 0 1 2)) h.0
     ∙ ap (λ (z : TermValue). node_value x (value_at vs c ∷ z ∷ value_at ws (f b) ∷ []) (JoinNode 0 1 2)) h.1.0
     ∙ ap (λ (z : TermValue). node_value x (value_at vs c ∷ value_at vs a ∷ z ∷ []) (JoinNode 0 1 2)) h.1.1.0
+moved_value x vs ws f (TakeNode n m a p) h =
+    ap (λ (z : TermValue). node_value x (z ∷ value_at ws (f a) ∷ []) (TakeNode n 0 1 p)) h.0
+    ∙ ap (λ (z : TermValue). node_value x (value_at vs m ∷ z ∷ []) (TakeNode n 0 1 p)) h.1.0
 
 -- the copy that is kept has the node's value
 pub copied : (x : TermReading) (src dst new : List TermNode) (f : ℕ → ℕ) (n : TermNode) (t : ℕ) →

@@ -2,7 +2,7 @@
 use Rattle.std.proofs.Common.{◌≡◌, Bool, true, false, rules, refl, sym, ap, ◌∙◌, subst}
 use Rattle.machine_spec.specs.Bil as bil
 use Rattle.word_spec.specs.Memory as memory
-use Rattle.term_spec.specs.Terms.{TermNode, RegisterNode, FlagNode, ChoiceNode, BaseNode, MemoryNode, ConstantNode, BinaryNode, NotNode, SelectNode, ExtractNode, ConcatNode, ExtendNode, LoadNode, StoreNode, JoinNode}
+use Rattle.term_spec.specs.Terms.{TermNode, RegisterNode, FlagNode, ChoiceNode, BaseNode, MemoryNode, ConstantNode, BinaryNode, NotNode, SelectNode, ExtractNode, ConcatNode, ExtendNode, LoadNode, StoreNode, JoinNode, TakeNode}
 use Rattle.term_dag.specs.declared.nodes.Op.{Op}
 use Rattle.term_dag.specs.declared.nodes.Op.TheVariants as op
 use Rattle.term_dag.specs.declared.nodes.Node.{Node}
@@ -14,11 +14,11 @@ pub same : (x y : Node) → (eq-value).it x y ≡ true → x ≡ y
 same x y h = search rules
 
 itself : (x : Node) → (eq-value).it x x ≡ true
-itself (node.Register r) = search rules
-itself (node.Flag f) = search rules
+itself (node.Register k r) = search rules
+itself (node.Flag k f) = search rules
 itself (node.Choice i) = search rules
-itself (node.Base j) = search rules
-itself node.Memory = search rules
+itself (node.Base k j) = search rules
+itself (node.Memory k) = search rules
 itself (node.Constant w v) = search rules
 itself (node.Binary o w a b) = search rules
 itself (node.Not w a) = search rules
@@ -83,11 +83,11 @@ is_big_of false = refl
 
 -- the node that is seen so
 abbrev back : TermNode → Node
-back (RegisterNode r) = node.Register r
-back (FlagNode f) = node.Flag f
+back (RegisterNode p r) = node.Register p r
+back (FlagNode p f) = node.Flag p f
 back (ChoiceNode i) = node.Choice i
-back (BaseNode j) = node.Base j
-back MemoryNode = node.Memory
+back (BaseNode p j) = node.Base p j
+back (MemoryNode p) = node.Memory p
 back (ConstantNode w v) = node.Constant w v
 back (BinaryNode o w a b) = node.Binary (back_op o) w (record { 0 = a }) (record { 0 = b })
 back (NotNode w a) = node.Not w (record { 0 = a })
@@ -98,13 +98,14 @@ back (ExtendNode s n m a) = node.Extend s n m (record { 0 = a })
 back (LoadNode n e m a) = node.Load n (is_big e) (record { 0 = m }) (record { 0 = a })
 back (StoreNode n e m a v) = node.Store n (is_big e) (record { 0 = m }) (record { 0 = a }) (record { 0 = v })
 back (JoinNode c a b) = node.Join (record { 0 = c }) (record { 0 = a }) (record { 0 = b })
+back (TakeNode n m a p) = node.Memory p
 
 back_of : (x : Node) → back (node_of x) ≡ x
-back_of (node.Register r) = refl
-back_of (node.Flag f) = refl
+back_of (node.Register k r) = refl
+back_of (node.Flag k f) = refl
 back_of (node.Choice i) = refl
-back_of (node.Base j) = refl
-back_of node.Memory = refl
+back_of (node.Base k j) = refl
+back_of (node.Memory k) = refl
 back_of (node.Constant w v) = refl
 back_of (node.Binary o w a b) = ap (λ z. node.Binary z w a b) (back_op_of o)
 back_of (node.Not w a) = refl

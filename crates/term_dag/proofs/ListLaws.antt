@@ -1,7 +1,7 @@
 -- Laws on lists of nodes, and on the values that their nodes have.
 use Rattle.std.proofs.Common.{◌≡◌, ℕ, zero, suc, ◌+◌, ◌*◌, ◌<◌, ◌≤◌, List, [], ◌∷◌, ◌++◌, length, get_or, refl, ap, sym, ◌∙◌, subst, arith, append_assoc, append-nil, length-append, take}
 use Rattle.std.proofs.lemmas.List.{get_or_append_left}
-use Rattle.term_spec.specs.Terms.{TermReading, TermValue, TermNode, RegisterNode, FlagNode, ChoiceNode, BaseNode, MemoryNode, ConstantNode, BinaryNode, NotNode, SelectNode, ExtractNode, ConcatNode, ExtendNode, LoadNode, StoreNode, JoinNode, word_value, value_at, node_value, values_from, term_value, width_of, node_at, HasWidth, IsTypedOver, AreTypedFrom, AreTyped, operate}
+use Rattle.term_spec.specs.Terms.{TermReading, TermValue, TermNode, RegisterNode, FlagNode, ChoiceNode, BaseNode, MemoryNode, ConstantNode, BinaryNode, NotNode, SelectNode, ExtractNode, ConcatNode, ExtendNode, LoadNode, StoreNode, JoinNode, TakeNode, word_value, value_at, node_value, values_from, term_value, width_of, node_at, HasWidth, IsTypedOver, AreTypedFrom, AreTyped, operate}
 
 -- the values of a longer list begin with those of the shorter one
 pub values_append : (x : TermReading) (vs : List TermValue) (ns ms : List TermNode) → values_from x vs (ns ++ ms) ≡ values_from x (values_from x vs ns) ms
@@ -31,18 +31,18 @@ keeps x old more t h =
 
 -- and their nodes
 pub keeps_node : (old more : List TermNode) (t : ℕ) → t < length old → node_at (old ++ more) t ≡ node_at old t
-keeps_node old more t h = get_or_append_left old more MemoryNode t h
+keeps_node old more t h = get_or_append_left old more (MemoryNode 0) t h
 
 pub has_width_more : (ns ms : List TermNode) (w t : ℕ) → HasWidth ns w t → HasWidth (ns ++ ms) w t
 has_width_more ns ms w t h = (omega (arith, h.0, length-append ns ms), ap width_of (keeps_node ns ms t h.0) ∙ h.1)
 
 -- a node stays typed as nodes are added
 pub typed_more : (ns ms : List TermNode) (n : TermNode) → IsTypedOver ns n → IsTypedOver (ns ++ ms) n
-typed_more ns ms (RegisterNode r) h = tt
-typed_more ns ms (FlagNode f) h = tt
+typed_more ns ms (RegisterNode p r) h = tt
+typed_more ns ms (FlagNode p f) h = tt
 typed_more ns ms (ChoiceNode i) h = tt
-typed_more ns ms (BaseNode j) h = tt
-typed_more ns ms MemoryNode h = tt
+typed_more ns ms (BaseNode p j) h = tt
+typed_more ns ms (MemoryNode p) h = tt
 typed_more ns ms (ConstantNode w v) h = h
 typed_more ns ms (BinaryNode o w a b) h = (h.0, has_width_more ns ms w a h.1, has_width_more ns ms w b h.2)
 typed_more ns ms (NotNode w a) h = (h.0, has_width_more ns ms w a h.1)
@@ -55,6 +55,7 @@ typed_more ns ms (ExtendNode s n m a) h = (h.0, h.1, h.2, has_width_more ns ms n
 typed_more ns ms (LoadNode n e m a) h = (h.0, has_width_more ns ms 0 m h.1, has_width_more ns ms 32 a h.2)
 typed_more ns ms (StoreNode n e m a v) h = (h.0, has_width_more ns ms 0 m h.1, has_width_more ns ms 32 a h.2, has_width_more ns ms (8 * n) v h.3)
 typed_more ns ms (JoinNode c a b) h = (has_width_more ns ms 1 c h.0, has_width_more ns ms 0 a h.1, has_width_more ns ms 0 b h.2)
+typed_more ns ms (TakeNode n m a p) h = (h.0, has_width_more ns ms 0 m h.1, has_width_more ns ms 32 a h.2)
 
 -- a list with one more node that is typed over it
 typed_push_from : (before ns : List TermNode) (n : TermNode) → AreTypedFrom before ns → IsTypedOver (before ++ ns) n → AreTypedFrom before (ns ++ n ∷ [])
@@ -69,11 +70,11 @@ typed_push ns n h t = typed_push_from [] ns n h t
 pub same : (x : TermReading) (vs ws : List TermValue) (ns : List TermNode) (n : TermNode) → IsTypedOver ns n →
     ((t : ℕ) → t < length ns → value_at vs t ≡ value_at ws t) →
     node_value x vs n ≡ node_value x ws n
-same x vs ws ns (RegisterNode r) h f = refl
-same x vs ws ns (FlagNode r) h f = refl
+same x vs ws ns (RegisterNode p r) h f = refl
+same x vs ws ns (FlagNode p r) h f = refl
 same x vs ws ns (ChoiceNode i) h f = refl
-same x vs ws ns (BaseNode j) h f = refl
-same x vs ws ns MemoryNode h f = refl
+same x vs ws ns (BaseNode p j) h f = refl
+same x vs ws ns (MemoryNode p) h f = refl
 same x vs ws ns (ConstantNode w v) h f = refl
 same x vs ws ns (BinaryNode o w a b) h f =
     ap (λ z. word_value (operate o w z.word (value_at vs b).word)) (f a h.1.0) ∙ ap (λ z. word_value (operate o w (value_at ws a).word z.word)) (f b h.2.0)
@@ -98,6 +99,9 @@ same x vs ws ns (JoinNode c a b) h f =
     ap (λ (z : TermValue). node_value x (z ∷ value_at vs a ∷ value_at vs b ∷ []) (JoinNode 0 1 2)) (f c h.0.0)
     ∙ ap (λ (z : TermValue). node_value x (value_at ws c ∷ z ∷ value_at vs b ∷ []) (JoinNode 0 1 2)) (f a h.1.0)
     ∙ ap (λ (z : TermValue). node_value x (value_at ws c ∷ value_at ws a ∷ z ∷ []) (JoinNode 0 1 2)) (f b h.2.0)
+same x vs ws ns (TakeNode n m a p) h f =
+    ap (λ (z : TermValue). node_value x (z ∷ value_at vs a ∷ []) (TakeNode n 0 1 p)) (f m h.1.0)
+    ∙ ap (λ (z : TermValue). node_value x (value_at ws m ∷ z ∷ []) (TakeNode n 0 1 p)) (f a h.2.0)
 
 -- the last of a list
 pub last : {A : Type 0} → (vs : List A) (v d : A) → get_or (vs ++ v ∷ []) (length vs) d ≡ v

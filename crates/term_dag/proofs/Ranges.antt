@@ -1,5 +1,6 @@
 -- Each value fits its width.
 use Rattle.std.proofs.Common.{◌≡◌, ℕ, zero, suc, ◌+◌, ◌-◌, ◌*◌, ◌/◌, ◌%◌, ◌^◌, ◌<◌, ◌≤◌, List, [], ◌∷◌, ◌++◌, length, refl, ap, sym, ◌∙◌, subst, arith, append_assoc, append-nil, inl, inr, true, false}
+use Rattle.std.specs.Prelude.{Bool, if◌then◌else◌}
 use Rattle.std.proofs.lemmas.Bool.{cases_lt}
 use Rattle.std.proofs.lemmas.List.{get_or_append_left}
 use Rattle.std.proofs.lemmas.Nat.{mod_below, pow_pos, pow-add, mul-add-lt}
@@ -10,7 +11,7 @@ use Rattle.machine_spec.specs.Bil.{Bits, BinaryOp, Plus, Minus, Times, Divide, S
 use Rattle.machine_spec.specs.BilTyping.{result_width}
 use Rattle.machine_spec.specs.BilMeaning.{Value, Word, Bytes, Stuck, IsOfType, on_words}
 use Rattle.machine_spec.proofs.WordBounds.{op_below, complement_below, sign_extend_below, load_below, stored_below}
-use Rattle.term_spec.specs.Terms.{TermReading, InRange, TermValue, TermNode, RegisterNode, FlagNode, ChoiceNode, BaseNode, MemoryNode, ConstantNode, BinaryNode, NotNode, SelectNode, ExtractNode, ConcatNode, ExtendNode, LoadNode, StoreNode, JoinNode, word_value, bytes_value, value_at, node_value, values_from, term_value, term_word, width_of, node_at, HasWidth, IsTypedOver, AreTypedFrom, AreTyped, operate, select, extend, word_part}
+use Rattle.term_spec.specs.Terms.{TermReading, InRange, TermValue, TermNode, RegisterNode, FlagNode, ChoiceNode, BaseNode, MemoryNode, ConstantNode, BinaryNode, NotNode, SelectNode, ExtractNode, ConcatNode, ExtendNode, LoadNode, StoreNode, JoinNode, TakeNode, word_value, bytes_value, value_at, node_value, values_from, term_value, term_word, width_of, node_at, HasWidth, IsTypedOver, AreTypedFrom, AreTyped, operate, select, extend, is_taken_at, word_part}
 use Rattle.term_dag.proofs.ListLaws.{longer, last, unfolds, typed_here}
 
 -- a value fits a width
@@ -24,6 +25,10 @@ one w n h = record { word = h; bytes = λ a. omega arith }
 selected : (c a b n : ℕ) → a < n → b < n → select c a b < n
 selected zero a b n h k = k
 selected (suc c) a b n h k = h
+
+either : (c : Bool) (a b n : ℕ) → a < n → b < n → (if c then a else b) < n
+either true a b n h k = h
+either false a b n h k = k
 
 word_below : (n : ℕ) (v : Value) → IsOfType (Bits n) v → word_part v < 2 ^ n
 word_below n (Word m a) (e, h) = h
@@ -56,11 +61,11 @@ fit_at ns vs w t f h = subst (λ (k : ℕ). IsFit k (value_at vs t)) h.1 (f t h.
 
 fits : (x : TermReading) (vs : List TermValue) (ns : List TermNode) (n : TermNode) → InRange x → AreFit ns vs → IsTypedOver ns n →
     IsFit (width_of n) (node_value x vs n)
-fits x vs ns (RegisterNode r) g f h = one 32 _ (g.regs r)
-fits x vs ns (FlagNode r) g f h = one 1 _ (g.flags r)
+fits x vs ns (RegisterNode p r) g f h = one 32 _ (g.regs p r)
+fits x vs ns (FlagNode p r) g f h = one 1 _ (g.flags p r)
 fits x vs ns (ChoiceNode i) g f h = one 2 _ (g.choice i)
-fits x vs ns (BaseNode j) g f h = one 8 _ (g.base j)
-fits x vs ns MemoryNode g f h = record { word = omega arith; bytes = g.mem }
+fits x vs ns (BaseNode p j) g f h = one 8 _ (g.base p j)
+fits x vs ns (MemoryNode p) g f h = record { word = omega arith; bytes = g.mem p }
 fits x vs ns (ConstantNode w v) g f h = one w v h.1
 fits x vs ns (BinaryNode o w a b) g f h = one _ _ (operate_below o w _ _ (fit_at ns vs w a f h.1).word (fit_at ns vs w b f h.2).word)
 fits x vs ns (NotNode w a) g f h = one w _ (complement_below w _)
@@ -77,6 +82,10 @@ fits x vs ns (JoinNode c a b) g f h = record {
   word = omega arith;
   bytes = λ i. selected _ _ _ _ ((fit_at ns vs 0 a f h.1).bytes i) ((fit_at ns vs 0 b f h.2).bytes i);
 }
+fits x vs ns (TakeNode n m a p) g f h = record {
+  word = omega arith;
+  bytes = λ i. either (is_taken_at n (value_at vs a).word i) _ _ _ (g.mem p i) ((fit_at ns vs 0 m f h.1).bytes i);
+}
 
 fit_push : (ns : List TermNode) (vs : List TermValue) (n : TermNode) (v : TermValue) → length vs ≡ length ns → AreFit ns vs → IsFit (width_of n) v →
     AreFit (ns ++ n ∷ []) (vs ++ v ∷ [])
@@ -84,12 +93,12 @@ fit_push ns vs n v e f h t l =
     let g = longer ns n in
     elim (cases_lt t (length ns)) [
       | inl k ↦
-          subst (λ (m : TermNode). IsFit (width_of m) (value_at (vs ++ v ∷ []) t)) (sym (get_or_append_left ns (n ∷ []) MemoryNode t k))
+          subst (λ (m : TermNode). IsFit (width_of m) (value_at (vs ++ v ∷ []) t)) (sym (get_or_append_left ns (n ∷ []) (MemoryNode 0) t k))
           (subst (IsFit (width_of (node_at ns t))) (sym (get_or_append_left vs (v ∷ []) (word_value 0) t (omega arith))) (f t k))
       | inr k ↦ (
           let i : t ≡ length ns = omega arith in
           let j : t ≡ length vs = omega arith in
-          subst (λ (m : TermNode). IsFit (width_of m) (value_at (vs ++ v ∷ []) t)) (sym (ap (node_at (ns ++ n ∷ [])) i ∙ last ns n MemoryNode))
+          subst (λ (m : TermNode). IsFit (width_of m) (value_at (vs ++ v ∷ []) t)) (sym (ap (node_at (ns ++ n ∷ [])) i ∙ last ns n (MemoryNode 0)))
           (subst (IsFit (width_of n)) (sym (ap (value_at (vs ++ v ∷ [])) j ∙ last vs v (word_value 0))) h))
     ]
 
@@ -158,11 +167,11 @@ pub result_is_width : (o : BinaryOp) (w : ℕ) → 1 ≤ w → w ≤ 64 → (1 �
 result_is_width o w h k = (result_some o w h, result_few o w h k)
 
 word_node : (x : TermReading) (vs : List TermValue) (n : TermNode) → 1 ≤ width_of n → node_value x vs n ≡ word_value (node_value x vs n).word
-word_node x vs (RegisterNode r) h = refl
-word_node x vs (FlagNode f) h = refl
+word_node x vs (RegisterNode p r) h = refl
+word_node x vs (FlagNode p f) h = refl
 word_node x vs (ChoiceNode i) h = refl
-word_node x vs (BaseNode j) h = refl
-word_node x vs MemoryNode h = absurd (omega arith)
+word_node x vs (BaseNode p j) h = refl
+word_node x vs (MemoryNode p) h = absurd (omega arith)
 word_node x vs (ConstantNode w v) h = refl
 word_node x vs (BinaryNode o w a b) h = refl
 word_node x vs (NotNode w a) h = refl
@@ -173,6 +182,7 @@ word_node x vs (ExtendNode s n m a) h = refl
 word_node x vs (LoadNode n e m a) h = refl
 word_node x vs (StoreNode n e m a v) h = absurd (omega arith)
 word_node x vs (JoinNode c a b) h = absurd (omega arith)
+word_node x vs (TakeNode n m a p) h = absurd (omega arith)
 
 -- a term with a width is a word
 pub word_only : (x : TermReading) (ns : List TermNode) (w t : ℕ) → AreTyped ns → 1 ≤ w → HasWidth ns w t → term_value x ns t ≡ word_value (term_word x ns t)
@@ -182,11 +192,11 @@ word_only x ns w t h s p =
 
 memory_node : (x : TermReading) (vs : List TermValue) (ns : List TermNode) (n : TermNode) → IsTypedOver ns n → width_of n ≡ 0 →
     node_value x vs n ≡ bytes_value (node_value x vs n).bytes
-memory_node x vs ns (RegisterNode r) h e = absurd (omega arith)
-memory_node x vs ns (FlagNode f) h e = absurd (omega arith)
+memory_node x vs ns (RegisterNode p r) h e = absurd (omega arith)
+memory_node x vs ns (FlagNode p f) h e = absurd (omega arith)
 memory_node x vs ns (ChoiceNode i) h e = absurd (omega arith)
-memory_node x vs ns (BaseNode j) h e = absurd (omega arith)
-memory_node x vs ns MemoryNode h e = refl
+memory_node x vs ns (BaseNode p j) h e = absurd (omega arith)
+memory_node x vs ns (MemoryNode p) h e = refl
 memory_node x vs ns (ConstantNode w v) h e = absurd (omega (arith, h.0.0))
 memory_node x vs ns (BinaryNode o w a b) h e = absurd (omega (arith, result_some o w h.0.0))
 memory_node x vs ns (NotNode w a) h e = absurd (omega (arith, h.0.0))
@@ -197,6 +207,7 @@ memory_node x vs ns (ExtendNode s n m a) h e = absurd (omega (arith, h.0.0, h.1)
 memory_node x vs ns (LoadNode n k m a) h e = absurd (omega (arith, h.0.0))
 memory_node x vs ns (StoreNode n k m a v) h e = refl
 memory_node x vs ns (JoinNode c a b) h e = refl
+memory_node x vs ns (TakeNode n m a p) h e = refl
 
 -- a term without a width is a memory
 pub memory_only : (x : TermReading) (ns : List TermNode) (t : ℕ) → AreTyped ns → HasWidth ns 0 t → term_value x ns t ≡ bytes_value (term_value x ns t).bytes

@@ -7,7 +7,7 @@ use Rattle.word_spec.specs.Words as words
 use Rattle.word_spec.specs.Words.{bit}
 use Rattle.machine_spec.specs.Bil.{BinaryOp, Plus}
 use Rattle.machine_spec.specs.BilTyping.{result_width}
-use Rattle.term_spec.specs.Terms.{TermReading, TermNode, RegisterNode, FlagNode, ChoiceNode, BaseNode, MemoryNode, ConstantNode, BinaryNode, NotNode, SelectNode, ExtractNode, ConcatNode, ExtendNode, LoadNode, StoreNode, JoinNode, word_value, bytes_value, term_value, term_word, width_of, node_at, HasWidth, IsTypedOver, AreTypedFrom, AreTyped, operate, select, extend}
+use Rattle.term_spec.specs.Terms.{TermReading, TermNode, RegisterNode, FlagNode, ChoiceNode, BaseNode, MemoryNode, ConstantNode, BinaryNode, NotNode, SelectNode, ExtractNode, ConcatNode, ExtendNode, LoadNode, StoreNode, JoinNode, TakeNode, word_value, bytes_value, term_value, term_word, width_of, node_at, HasWidth, IsTypedOver, AreTypedFrom, AreTyped, operate, select, extend}
 use Rattle.term_dag.specs.declared.nodes.Term.{Term}
 use Rattle.term_dag.specs.Folds.{IsConstant, IsNodeWord, IsSum, IsSlice, IsSide, IsLiteral, AreNeighbours}
 use Rattle.term_dag.proofs.ListLaws.{by_node, typed_here, width_by_node, longer, last}
@@ -21,11 +21,11 @@ abbrev AreSmall : List TermNode → Type 0
 AreSmall ns = (t : ℕ) → t < length ns → width_of (node_at ns t) ≤ 64
 
 small : (ns : List TermNode) (n : TermNode) → AreSmall ns → IsTypedOver ns n → width_of n ≤ 64
-small ns (RegisterNode r) f h = omega arith
-small ns (FlagNode r) f h = omega arith
+small ns (RegisterNode p r) f h = omega arith
+small ns (FlagNode p r) f h = omega arith
 small ns (ChoiceNode i) f h = omega arith
-small ns (BaseNode j) f h = omega arith
-small ns MemoryNode f h = omega arith
+small ns (BaseNode p j) f h = omega arith
+small ns (MemoryNode p) f h = omega arith
 small ns (ConstantNode w v) f h = h.0.1
 small ns (BinaryNode o w a b) f h = result_few o w h.0.0 h.0.1
 small ns (NotNode w a) f h = h.0.1
@@ -36,14 +36,15 @@ small ns (ExtendNode s n m a) f h = h.2
 small ns (LoadNode n e m a) f h = omega (arith, h.0.1)
 small ns (StoreNode n e m a v) f h = omega arith
 small ns (JoinNode c a b) f h = omega arith
+small ns (TakeNode n m a p) f h = omega arith
 
 small_push : (ns : List TermNode) (n : TermNode) → AreSmall ns → width_of n ≤ 64 → AreSmall (ns ++ n ∷ [])
 small_push ns n f h t l =
     elim (cases_lt t (length ns)) [
-      | inl k ↦ subst (λ (m : TermNode). width_of m ≤ 64) (sym (get_or_append_left ns (n ∷ []) MemoryNode t k)) (f t k)
+      | inl k ↦ subst (λ (m : TermNode). width_of m ≤ 64) (sym (get_or_append_left ns (n ∷ []) (MemoryNode 0) t k)) (f t k)
       | inr k ↦ (
           let i : t ≡ length ns = omega (arith, longer ns n) in
-          subst (λ (m : TermNode). width_of m ≤ 64) (sym (ap (node_at (ns ++ n ∷ [])) i ∙ last ns n MemoryNode)) h)
+          subst (λ (m : TermNode). width_of m ≤ 64) (sym (ap (node_at (ns ++ n ∷ [])) i ∙ last ns n (MemoryNode 0))) h)
     ]
 
 all_small : (before ns : List TermNode) → AreSmall before → AreTypedFrom before ns → AreSmall (before ++ ns)

@@ -1,6 +1,6 @@
 -- What it means that a list of nodes has got a node, that a term stands for one, and that a list has grown.
 use Rattle.std.specs.Prelude.{◌≡◌, ℕ, ◌+◌, ◌<◌, ◌≤◌, ◌⊎◌, List, [], ◌∷◌, ◌++◌, length, slice_get, Contains}
-use Rattle.term_spec.specs.Terms.{TermReading, InRange, TermNode, BinaryNode, NotNode, SelectNode, ExtractNode, ConcatNode, ExtendNode, LoadNode, StoreNode, JoinNode, node_value, values_from, term_value, term_word, width_of, node_at, AreTyped, term_gates, term_loads, term_stores, term_joins, own_gates, own_loads, own_stores, own_joins}
+use Rattle.term_spec.specs.Terms.{TermReading, InRange, TermNode, BinaryNode, NotNode, SelectNode, ExtractNode, ConcatNode, ExtendNode, LoadNode, StoreNode, JoinNode, TakeNode, node_value, values_from, term_value, term_word, width_of, node_at, AreTyped, term_gates, term_loads, term_stores, term_joins, own_gates, own_loads, own_stores, own_joins}
 use Rattle.term_dag.specs.Nodes.{IsInput}
 
 -- the new list is the old one with more nodes behind
@@ -81,6 +81,7 @@ operands (ExtendNode signed n m a) = a ∷ []
 operands (LoadNode n e m a) = m ∷ a ∷ []
 operands (StoreNode n e m a v) = m ∷ a ∷ v ∷ []
 operands (JoinNode c a b) = c ∷ a ∷ b ∷ []
+operands (TakeNode n m a p) = m ∷ a ∷ []
 operands n = []
 
 -- the node over other places
@@ -94,4 +95,5 @@ moved f (ExtendNode signed n m a) = ExtendNode signed n m (f a)
 moved f (LoadNode n e m a) = LoadNode n e (f m) (f a)
 moved f (StoreNode n e m a v) = StoreNode n e (f m) (f a) (f v)
 moved f (JoinNode c a b) = JoinNode (f c) (f a) (f b)
+moved f (TakeNode n m a p) = TakeNode n (f m) (f a) p
 moved f n = n

@@ -2,7 +2,7 @@
 use Rattle.std.specs.Prelude.{ℕ, List, map, slice_index_or}
 use Rattle.machine_spec.specs.Bil as bil
 use Rattle.word_spec.specs.Memory.{endian}
-use Rattle.term_spec.specs.Terms.{TermNode, RegisterNode, FlagNode, ChoiceNode, BaseNode, MemoryNode, ConstantNode, BinaryNode, NotNode, SelectNode, ExtractNode, ConcatNode, ExtendNode, LoadNode, StoreNode, JoinNode}
+use Rattle.term_spec.specs.Terms.{TermNode, RegisterNode, FlagNode, ChoiceNode, BaseNode, MemoryNode, ConstantNode, BinaryNode, NotNode, SelectNode, ExtractNode, ConcatNode, ExtendNode, LoadNode, StoreNode, JoinNode, TakeNode}
 use Rattle.term_dag.specs.declared.nodes.Term.{Term}
 use Rattle.term_dag.specs.declared.nodes.Op.{Op}
 use Rattle.term_dag.specs.declared.nodes.Op.TheVariants as op
@@ -33,11 +33,11 @@ op_of op.SignedLessEqual = bil.SignedLessEqual
 
 -- a node
 abbrev pub node_of : Node → TermNode
-node_of (node.Register r) = RegisterNode r
-node_of (node.Flag f) = FlagNode f
+node_of (node.Register p r) = RegisterNode p r
+node_of (node.Flag p f) = FlagNode p f
 node_of (node.Choice i) = ChoiceNode i
-node_of (node.Base j) = BaseNode j
-node_of node.Memory = MemoryNode
+node_of (node.Base p j) = BaseNode p j
+node_of (node.Memory p) = MemoryNode p
 node_of (node.Constant w v) = ConstantNode w v
 node_of (node.Binary o w a b) = BinaryNode (op_of o) w a.0 b.0
 node_of (node.Not w a) = NotNode w a.0
@@ -58,9 +58,15 @@ abbrev pub term_at : List Term → ℕ → ℕ
 term_at terms i = (slice_index_or terms i (record { 0 = 0 })).0
 
 -- the node is an input that is a word
+abbrev pub IsWordInput : TermNode → Type 0
+IsWordInput (RegisterNode p n) = Unit {0}
+IsWordInput (FlagNode p f) = Unit {0}
+IsWordInput (ChoiceNode i) = Unit {0}
+IsWordInput (BaseNode p j) = Unit {0}
+IsWordInput n = ⊥
+
+-- the node names what a reading gives: it is an input, or takes bytes of one
 abbrev pub IsInput : TermNode → Type 0
-IsInput (RegisterNode n) = Unit {0}
-IsInput (FlagNode f) = Unit {0}
-IsInput (ChoiceNode i) = Unit {0}
-IsInput (BaseNode j) = Unit {0}
-IsInput n = ⊥
+IsInput (MemoryNode p) = Unit {0}
+IsInput (TakeNode n m a p) = Unit {0}
+IsInput n = IsWordInput n

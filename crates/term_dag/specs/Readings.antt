@@ -4,15 +4,15 @@ use Rattle.word_spec.specs.Memory.{memory_of}
 use Rattle.term_spec.specs.Terms.{TermReading, TermNode, term_word}
 use Rattle.term_dag.specs.declared.values.Reading.{Reading}
 
--- What the data stand for: what is not listed is 0, and of each number those bits count that a reading has. A byte of the memory is the listed one with the
+-- What the data stand for, in each part the same: what is not listed is 0, and of each number those bits count that a reading has. A byte of the memory is the listed one with the
 -- bits of the fill turned, so where none is listed it is the fill.
 abbrev pub reading_of : Reading → TermReading
 reading_of r = record {
-  regs = λ n. slice_index r.registers.items n % 2 ^ 32;
-  flags = λ f. slice_index r.flags.items f % 2;
-  mem = λ a. bit_xor (r.fill % 256) (memory_of r.memory.entries a % 256);
+  regs = λ p n. slice_index r.registers.items n % 2 ^ 32;
+  flags = λ p f. slice_index r.flags.items f % 2;
+  mem = λ p a. bit_xor (r.fill % 256) (memory_of r.memory.entries a % 256);
   choice = λ i. slice_index r.choices.items i % 4;
-  base = λ j. slice_index r.base.items j % 256;
+  base = λ p j. slice_index r.base.items j % 256;
 }
 
 -- the words are those of the terms of a list

@@ -104,11 +104,11 @@ pub fn width_of_node(nodes: &[Node], node: Node) -> u8
     ensures { result ≡ width_of (node_of node) }
 {
     match node {
-        Node::Register(_) => 32,
-        Node::Flag(_) => 1,
+        Node::Register { .. } => 32,
+        Node::Flag { .. } => 1,
         Node::Choice(_) => 2,
-        Node::Base(_) => 8,
-        Node::Memory | Node::Store { .. } | Node::Join { .. } => 0,
+        Node::Base { .. } => 8,
+        Node::Memory(_) | Node::Store { .. } | Node::Join { .. } => 0,
         Node::Constant { width, .. } | Node::Not { width, .. } | Node::Select { width, .. } =>
             width,
         Node::Binary { op, width, .. } => result_width(op, width),

@@ -34,19 +34,29 @@ pub enum Op {
     SignedLessEqual,
 }
 
-/// A node: an input, a constant, or an operator on terms. Widths are in bits, 1 to 64; loads and stores are of 1 to 8 bytes.
+/// A node: an input, a constant, or an operator on terms. Widths are in bits, 1 to 64; loads and stores are of 1 to 8 bytes. Inputs are named by parts: a part
+/// is a state that is given, with registers, flags and a memory of its own. Part 0 is what a program has at entry.
 #[derive(Clone, Copy, Debug, PartialEq, Eq, Hash)]
 pub enum Node {
-    /// A register at entry, of 32 bits.
-    Register(u8),
-    /// A flag at entry, of 1 bit.
-    Flag(u8),
+    /// A register of a part, of 32 bits.
+    Register {
+        part: u32,
+        number: u8,
+    },
+    /// A flag of a part, of 1 bit.
+    Flag {
+        part: u32,
+        number: u8,
+    },
     /// The choice of the point at a place, of 2 bits.
     Choice(u32),
-    /// A byte of the memory at entry, by the number of its read.
-    Base(u32),
-    /// The memory at entry.
-    Memory,
+    /// A byte of the memory of a part, by the number of its read.
+    Base {
+        part: u32,
+        read: u32,
+    },
+    /// The memory of a part.
+    Memory(u32),
     /// A constant.
     Constant {
         width: u8,
@@ -165,11 +175,11 @@ impl Node {
                 when_true: b,
                 when_false: c,
             } => ([a, b, c], 3),
-            Node::Register(_)
-            | Node::Flag(_)
+            Node::Register { .. }
+            | Node::Flag { .. }
             | Node::Choice(_)
-            | Node::Base(_)
-            | Node::Memory
+            | Node::Base { .. }
+            | Node::Memory(_)
             | Node::Constant { .. } => ([none, none, none], 0),
         }
     }

@@ -1,11 +1,11 @@
 //! Values of terms.
 
-ghost use Rattle.std.specs.Prelude.{◌≡◌, ◌%◌, ◌*◌, ◌+◌, ◌^◌, ◌<◌, ◌≤◌, List, length, slice_index, IfOk};
+ghost use Rattle.std.specs.Prelude.{ℕ, ◌≡◌, ◌%◌, ◌*◌, ◌+◌, ◌^◌, ◌<◌, ◌≤◌, List, length, slice_index, IfOk};
 ghost use Rattle.word_spec.specs.Words.{add};
 ghost use Rattle.word_spec.specs.Memory as memory;
 ghost use Rattle.word_spec.specs.Memory.{endian};
 ghost use Rattle.term_spec.specs.Terms.{TermNode, term_value, term_word, HasWidth, IsBytes, IsTypedOver, AreTyped};
-ghost use Rattle.term_dag.specs.Nodes.{IsInput, node_of, nodes_of};
+ghost use Rattle.term_dag.specs.Nodes.{IsWordInput, node_of, nodes_of};
 ghost use Rattle.term_dag.specs.Folds.{value_over};
 ghost use Rattle.term_dag.specs.Readings.{AreWords, reading_of};
 
@@ -15,16 +15,16 @@ use bv_word::Word;
 use byte_mem::{Bytes32, Endian};
 use std::alloc::{AllocError, Global};
 
-/// What terms are read under. A register, a flag, a choice or a base byte that is not listed is 0; of a flag the lowest bit counts, of a choice the lowest two.
+/// What terms are read under, each part the same. A register, a flag, a choice or a base byte that is not listed is 0; of a flag the lowest bit counts, of a choice the lowest two.
 #[derive(Drop)]
 pub struct Reading {
-    /// The registers at entry, by number.
+    /// The registers, by number.
     pub registers: Vec<u32>,
-    /// The flags at entry, by number.
+    /// The flags, by number.
     pub flags: Vec<u8>,
-    /// The memory at entry: the byte at an address is the one here `^ fill`, so one that is `fill` is not kept.
+    /// The memory: the byte at an address is the one here `^ fill`, so one that is `fill` is not kept.
     pub memory: Bytes32,
-    /// The byte at entry at each address of which `memory` keeps none.
+    /// The byte at each address of which `memory` keeps none.
     pub fill: u8,
     /// The choices, by the place of their point.
     pub choices: Vec<u8>,
@@ -54,9 +54,9 @@ fn small(bytes: &[u8], place: u32) -> u64
     }
 }
 
-/// The byte at an address of the memory at entry.
+/// The byte at an address of the memory of each part.
 fn memory_byte(reading: &Reading, address: u32) -> u8
-    ensures { result ≡ (reading_of reading.now).mem address }
+    ensures { (part : ℕ) → result ≡ (reading_of reading.now).mem part address }
 {
     reading.fill ^ reading.memory.load(address, 1, Endian::Little).bits as u8
 }
@@ -82,7 +82,7 @@ pub fn byte(nodes: &[Node], words: &[u64], reading: &Reading, term: Term, addres
     let mut at = term;
     loop {
         match look(nodes, at) {
-            Node::Memory => return memory_byte(reading, address),
+            Node::Memory(_) => return memory_byte(reading, address),
             Node::Store {
                 bytes,
                 big,
@@ -175,14 +175,14 @@ fn operand(nodes: &[Node], words: &[u64], reading: &Reading, width: u8, term: Te
 
 /// The word of an input.
 fn input(reading: &Reading, node: Node) -> u64
-    requires { IsInput (node_of node) }
+    requires { IsWordInput (node_of node) }
     ensures { (nodes : List TermNode) → result ≡ (value_over nodes (node_of node) (reading_of reading.now)).word }
 {
     match node {
-        Node::Register(number) => register(&reading.registers, number) % 4294967296,
-        Node::Flag(number) => small(&reading.flags, number as u32) % 2,
+        Node::Register { number, .. } => register(&reading.registers, number) % 4294967296,
+        Node::Flag { number, .. } => small(&reading.flags, number as u32) % 2,
         Node::Choice(place) => small(&reading.choices, place) % 4,
-        Node::Base(read) => small(&reading.base, read) % 256,
+        Node::Base { read, .. } => small(&reading.base, read) % 256,
         _ => unreachable!(),
     }
 }
@@ -221,11 +221,11 @@ fn word_of(nodes: &[Node], words: &[u64], reading: &Reading, node: Node) -> u64
     ensures { result ≡ (value_over (nodes_of nodes.now) (node_of node) (reading_of reading.now)).word }
 {
     match node {
-        Node::Register(_) => input(reading, node),
-        Node::Flag(_) => input(reading, node),
+        Node::Register { .. } => input(reading, node),
+        Node::Flag { .. } => input(reading, node),
         Node::Choice(_) => input(reading, node),
-        Node::Base(_) => input(reading, node),
-        Node::Memory => 0,
+        Node::Base { .. } => input(reading, node),
+        Node::Memory(_) => 0,
         Node::Store { .. } => 0,
         Node::Join { .. } => 0,
         Node::Constant { value, .. } => value,

@@ -5,7 +5,7 @@ use Rattle.std.proofs.lemmas.Bool.{true≢false, lt-ltb}
 use Rattle.std.proofs.lemmas.Bool.Decides.{eqb_tells}
 use Rattle.bilv_spec.specs.Questions.{Reading, IsReading}
 use Rattle.word_spec.specs.RowFiles.{from_to}
-use Rattle.term_spec.specs.Terms.{InRange, TermNode, RegisterNode, FlagNode, ChoiceNode, BaseNode, MemoryNode, ConstantNode, BinaryNode, NotNode, SelectNode, ExtractNode, ConcatNode, ExtendNode, LoadNode, StoreNode, JoinNode}
+use Rattle.term_spec.specs.Terms.{InRange, TermNode, RegisterNode, FlagNode, ChoiceNode, BaseNode, MemoryNode, ConstantNode, BinaryNode, NotNode, SelectNode, ExtractNode, ConcatNode, ExtendNode, LoadNode, StoreNode, JoinNode, TakeNode}
 use Rattle.walk_spec.specs.Unrolled.{UnrolledProgram}
 use Rattle.term_spec.specs.WalkQuestions.{IsNamedBelow, term_reading}
 use Rattle.term_dag.specs.Nodes.{IsInput}
@@ -31,11 +31,11 @@ of_range r first (suc count) h k =
 pub named_of : (u : UnrolledProgram) (low regs flags : ℕ) (m : TermNode) → u.registers ≡ from_to low regs → u.flags ≡ flags → IsInput m →
     IsOfForm low regs flags m →
     IsNamedBelow u 0 m
-named_of u low regs flags (RegisterNode r) p q i h = subst (λ (l : List ℕ). list_any (nat_eq r) l ≡ true) (sym p) (of_range r low regs h.0 h.1)
-named_of u low regs flags (FlagNode f) p q i h = lt-ltb f u.flags (subst (λ (n : ℕ). f < n) (sym q) h)
+named_of u low regs flags (RegisterNode n r) p q i h = (h.0, subst (λ (l : List ℕ). list_any (nat_eq r) l ≡ true) (sym p) (of_range r low regs h.1 h.2))
+named_of u low regs flags (FlagNode n f) p q i h = (h.0, lt-ltb f u.flags (subst (λ (k : ℕ). f < k) (sym q) h.1))
 named_of u low regs flags (ChoiceNode c) p q i h = absurd h
-named_of u low regs flags (BaseNode j) p q i h = absurd h
-named_of u low regs flags MemoryNode p q i h = absurd h
+named_of u low regs flags (BaseNode n j) p q i h = absurd h
+named_of u low regs flags (MemoryNode n) p q i h = h
 named_of u low regs flags (ConstantNode w v) p q i h = absurd h
 named_of u low regs flags (BinaryNode o w a b) p q i h = absurd h
 named_of u low regs flags (NotNode w a) p q i h = absurd h
@@ -46,18 +46,19 @@ named_of u low regs flags (ExtendNode s n k a) p q i h = absurd h
 named_of u low regs flags (LoadNode n e k a) p q i h = absurd h
 named_of u low regs flags (StoreNode n e k a v) p q i h = absurd h
 named_of u low regs flags (JoinNode c a b) p q i h = absurd h
+named_of u low regs flags (TakeNode n k a m) p q i h = absurd h
 
 -- a reading is in range
 pub reading_in_range : (u : UnrolledProgram) (r : Reading) → IsReading r → InRange (term_reading u r)
-reading_in_range u r h = record { regs = h.state.regs; flags = h.state.flags; mem = h.state.mem; choice = λ i. h.choice _; base = λ j. omega arith }
+reading_in_range u r h = record { regs = λ p. h.state.regs; flags = λ p. h.state.flags; mem = λ p. h.state.mem; choice = λ i. h.choice _; base = λ p j. omega arith }
 
 -- nodes that name inputs name nothing else
 pub named_all : (u : UnrolledProgram) (m : TermNode) → (IsInput m → IsNamedBelow u 0 m) → IsNamedBelow u 0 m
-named_all u (RegisterNode r) h = h tt
-named_all u (FlagNode f) h = h tt
+named_all u (RegisterNode p r) h = h tt
+named_all u (FlagNode p f) h = h tt
 named_all u (ChoiceNode i) h = h tt
-named_all u (BaseNode j) h = h tt
-named_all u MemoryNode h = tt
+named_all u (BaseNode p j) h = h tt
+named_all u (MemoryNode p) h = h tt
 named_all u (ConstantNode w v) h = tt
 named_all u (BinaryNode o w a b) h = tt
 named_all u (NotNode w a) h = tt
@@ -68,3 +69,4 @@ named_all u (ExtendNode s n k a) h = tt
 named_all u (LoadNode n e k a) h = tt
 named_all u (StoreNode n e k a v) h = tt
 named_all u (JoinNode c a b) h = tt
+named_all u (TakeNode n k a p) h = h tt

@@ -3,7 +3,7 @@ use Rattle.std.proofs.Common.{◌≡◌, ℕ, zero, suc, ◌+◌, ◌*◌, ◌<�
 use Rattle.std.specs.Prelude.{slice_index}
 use Rattle.std.proofs.lemmas.List.{length-map}
 use Rattle.word_spec.specs.RowFiles.{from_to}
-use Rattle.term_spec.specs.Terms.{TermReading, TermNode, MemoryNode, RegisterNode, FlagNode, ChoiceNode, BaseNode, TermValue, HasWidth, HasMemory, term_word}
+use Rattle.term_spec.specs.Terms.{TermReading, TermNode, MemoryNode, RegisterNode, FlagNode, ChoiceNode, BaseNode, TakeNode, TermValue, HasWidth, HasMemory, term_word}
 use Rattle.term_spec.specs.Passive.{AreNames}
 use Rattle.term_dag.specs.Nodes.{IsInput}
 use Rattle.term_dag.specs.Made.{IsInterned}
@@ -12,8 +12,8 @@ use Rattle.term_dag.proofs.Growth.{grew_on, grew_more, grew_width, interned_grew
 use Rattle.term_names.specs.declared.names.Names.{Names}
 use Rattle.term_names.specs.Views.{form_of, names_of}
 use Rattle.term_names.specs.Choices.{places, AreWide, AreChosen}
-use Rattle.term_names.specs.Chosen.{HaveSameForm, IsOfForm, AreEntryRegisters, AreEntryFlags, AreEntryNames, IsSelectedMemory, AreSelected, differing_bits, differing_memory, differing_terms}
-use Rattle.term_names.proofs.Entry.{more_of_form}
+use Rattle.term_names.specs.Chosen.{HaveSameForm, IsOfPart, ArePartRegisters, ArePartFlags, ArePartNames, IsSelectedMemory, AreSelected, differing_bits, differing_memory, differing_terms}
+use Rattle.term_names.proofs.Entry.{more_of_part}
 
 -- the numbers of registers
 pub count_of : (n count : ℕ) → length (from_to n count) ≡ count
@@ -110,44 +110,46 @@ slices_selected old one two new c a b n ra rb fa fb hc form na nb era erb efa ef
     (subst (λ (z : List Term). AreChosen one two 1 c (places a.flags.items) (places z) (places n.flags.items)) efb
     (subst (λ (z : List Term). AreChosen one two 1 c (places z) (places fb) (places n.flags.items)) efa q)) r
 
--- the terms at entry, row by row
-pub states_at_entry : (old one two new : List TermNode) (low words bits : ℕ) (n : Names) → n.first ≡ low →
-    AreEntryRegisters old one low words (places n.registers.items) →
-    AreEntryFlags one two bits (places n.flags.items) → IsInterned two new MemoryNode n.memory.0 → AreEntryNames old new low words bits n
-states_at_entry old one two new low words bits n first p q r =
+-- the terms of a part, row by row
+pub states_of_part : (old one two new : List TermNode) (part low words bits : ℕ) (n : Names) → n.first ≡ low →
+    ArePartRegisters old one part low words (places n.registers.items) →
+    ArePartFlags one two part bits (places n.flags.items) → IsInterned two new (MemoryNode part) n.memory.0 → ArePartNames old new part low words bits n
+states_of_part old one two new part low words bits n first p q r =
     let dot = λ (t : Term). t.0 in
     let kn = length-map n.registers.items dot in let ln = length-map n.flags.items dot in
     let registers : length n.registers.items ≡ words = omega (arith, p.count) in
     let flags : length n.flags.items ≡ bits = omega (arith, q.count) in
     let cn = count_of n.first (length n.registers.items) in
-    let memory = interned_grew two new MemoryNode n.memory.0 r in
+    let memory = interned_grew two new (MemoryNode part) n.memory.0 r in
     let last = grew_on one two new _ _ _ _ _ _ _ _ _ _ q.grew memory in record {
       first = first;
       registers = registers;
       flags = flags;
       grew = grew_more old new _ _ _ _ _ 0 0 0 0 (words + bits + 1) (omega arith) (omega arith) (omega arith) (omega arith) (omega arith)
           (grew_on old one new _ _ _ _ _ _ _ _ _ _ p.grew last);
-      inputs = inputs_on old two new (IsOfForm low words bits)
-          (inputs_on old one two (IsOfForm low words bits)
-          (inputs_more old one (IsOfForm low words 0) (IsOfForm low words bits) (more_of_form low words words 0 bits (omega arith) (omega arith)) p.inputs)
-          (inputs_more one two (IsOfForm 0 0 bits) (IsOfForm low words bits) (flags_of_form low words bits) q.inputs))
-          (interned_inputs two new MemoryNode n.memory.0 (IsOfForm low words bits) r (λ i. absurd i));
+      inputs = inputs_on old two new (IsOfPart part low words bits)
+          (inputs_on old one two (IsOfPart part low words bits)
+          (inputs_more old one (IsOfPart part low words 0) (IsOfPart part low words bits) (more_of_part part low words words 0 bits (omega arith) (omega arith)) p.inputs)
+          (inputs_more one two (IsOfPart part 0 0 bits) (IsOfPart part low words bits) (flags_of_part low words bits) q.inputs))
+          (interned_inputs two new (MemoryNode part) n.memory.0 (IsOfPart part low words bits) r (λ i. refl));
       names = rows_are_names new n (λ i h. grew_width one new _ _ _ _ _ 32 (slice_index (places n.registers.items) i) last (p.wide i h))
           (λ i h. grew_width two new _ _ _ _ _ 1 (slice_index (places n.flags.items) i) memory (q.wide i h))
-          (interned_width two new MemoryNode n.memory.0 0 r refl);
+          (interned_width two new (MemoryNode part) n.memory.0 0 r refl);
       denotes = λ x g. record {
         registers = λ i h. ap (λ (z : TermValue). z.word) (last.keeps x (slice_index (places n.registers.items) i) (p.wide i (omega arith)).0) ∙ p.value x i
             (omega arith)
-            ∙ ap x.regs (sym (number_at n.first (length n.registers.items) i (omega arith) ∙ ap (λ z. z + i) first));
+            ∙ ap (x.regs part) (sym (number_at n.first (length n.registers.items) i (omega arith) ∙ ap (λ z. z + i) first));
         flags = λ f h. ap (λ (z : TermValue). z.word) (memory.keeps x (slice_index (places n.flags.items) f) (q.wide f (omega arith)).0) ∙ q.value x f
             (omega arith);
         memory = ap (λ (z : TermValue). z.bytes) (r.value x);
       };
     }
   where
-    flags_of_form : (low words bits : ℕ) (m : TermNode) → IsInput m → IsOfForm 0 0 bits m → IsOfForm low words bits m
-    flags_of_form low words bits (RegisterNode r) i c = absurd (omega (arith, c.0, c.1))
-    flags_of_form low words bits (FlagNode f) i c = c
-    flags_of_form low words bits (ChoiceNode b) i c = c
-    flags_of_form low words bits (BaseNode b) i c = c
-    flags_of_form low words bits m i c = absurd i
+    flags_of_part : (low words bits : ℕ) (m : TermNode) → IsInput m → IsOfPart part 0 0 bits m → IsOfPart part low words bits m
+    flags_of_part low words bits (RegisterNode p r) i c = absurd (omega (arith, c.1, c.2))
+    flags_of_part low words bits (FlagNode p f) i c = c
+    flags_of_part low words bits (ChoiceNode b) i c = c
+    flags_of_part low words bits (BaseNode p b) i c = c
+    flags_of_part low words bits (MemoryNode p) i c = c
+    flags_of_part low words bits (TakeNode m a b p) i c = c
+    flags_of_part low words bits m i c = absurd i

@@ -1,6 +1,6 @@
--- The terms of the entry state, and of one of two states.
+-- The terms of the state of a part, and of one of two states.
 use Rattle.std.specs.Prelude.{ℕ, ◌≡◌, ◌≤◌, ◌<◌, ◌+◌, ◌*◌, List, length, slice_index}
-use Rattle.term_spec.specs.Terms.{TermReading, InRange, TermNode, RegisterNode, FlagNode, HasMemory, term_value, term_word}
+use Rattle.term_spec.specs.Terms.{TermReading, InRange, TermNode, RegisterNode, FlagNode, MemoryNode, HasMemory, term_value, term_word}
 use Rattle.walk_spec.specs.Unrolled.{Carried}
 use Rattle.term_spec.specs.Passive.{AreNames, Denotes}
 use Rattle.term_dag.specs.Made.{Grew, InputsFrom}
@@ -21,41 +21,54 @@ pub record HaveSameForm (a b : Names) : Type 0 where
   pub registers : length a.registers.items ≡ length b.registers.items
   pub flags : length a.flags.items ≡ length b.flags.items
 
--- a register or a flag of the form
+-- a register or a flag of the form, or the memory, of a part
+abbrev pub IsOfPart : (part first registers flags : ℕ) → TermNode → Type 0
+IsOfPart part first registers flags (RegisterNode p r) = (p ≡ part) × (first ≤ r) × (r < first + registers)
+IsOfPart part first registers flags (FlagNode p f) = (p ≡ part) × (f < flags)
+IsOfPart part first registers flags (MemoryNode p) = p ≡ part
+IsOfPart part first registers flags m = ⊥
+
+-- and of the part that a program has at entry
 abbrev pub IsOfForm : (first registers flags : ℕ) → TermNode → Type 0
-IsOfForm first registers flags (RegisterNode r) = (first ≤ r) × (r < first + registers)
-IsOfForm first registers flags (FlagNode f) = f < flags
-IsOfForm first registers flags m = ⊥
+IsOfForm first registers flags m = IsOfPart 0 first registers flags m
 
--- what a reading gives at entry
+-- what a reading gives in a part
+abbrev pub at_part : TermReading → (part : ℕ) → Carried
+at_part x p = record { regs = x.regs p; flags = x.flags p; mem = x.mem p }
+
+-- and at entry
 abbrev pub at_entry : TermReading → Carried
-at_entry x = record { regs = x.regs; flags = x.flags; mem = x.mem }
+at_entry x = at_part x 0
 
--- The terms are those of the registers at entry, from a first one on.
-pub record AreEntryRegisters (old new : List TermNode) (low number : ℕ) (ts : List ℕ) : Type 0 where
+-- The terms are those of the registers of a part, from a first one on.
+pub record ArePartRegisters (old new : List TermNode) (part low number : ℕ) (ts : List ℕ) : Type 0 where
   pub grew : Grew old new 0 0 0 0 number
-  pub inputs : InputsFrom old new (IsOfForm low number 0)
+  pub inputs : InputsFrom old new (IsOfPart part low number 0)
   pub count : length ts ≡ number
   pub wide : AreWide new 32 ts
-  pub value : (x : TermReading) (i : ℕ) → i < number → term_word x new (slice_index ts i) ≡ x.regs (low + i)
+  pub value : (x : TermReading) (i : ℕ) → i < number → term_word x new (slice_index ts i) ≡ x.regs part (low + i)
 
--- The terms are those of the flags at entry.
-pub record AreEntryFlags (old new : List TermNode) (number : ℕ) (ts : List ℕ) : Type 0 where
+-- The terms are those of the flags of a part.
+pub record ArePartFlags (old new : List TermNode) (part number : ℕ) (ts : List ℕ) : Type 0 where
   pub grew : Grew old new 0 0 0 0 number
-  pub inputs : InputsFrom old new (IsOfForm 0 0 number)
+  pub inputs : InputsFrom old new (IsOfPart part 0 0 number)
   pub count : length ts ≡ number
   pub wide : AreWide new 1 ts
-  pub value : (x : TermReading) (i : ℕ) → i < number → term_word x new (slice_index ts i) ≡ x.flags i
+  pub value : (x : TermReading) (i : ℕ) → i < number → term_word x new (slice_index ts i) ≡ x.flags part i
 
--- The terms are those of the state at entry, for so many registers from a first one on and so many flags. They cost nothing.
-pub record AreEntryNames (old new : List TermNode) (low words bits : ℕ) (n : Names) : Type 0 where
+-- The terms are those of the state of a part, for so many registers from a first one on and so many flags. They cost nothing.
+pub record ArePartNames (old new : List TermNode) (part low words bits : ℕ) (n : Names) : Type 0 where
   pub first : n.first ≡ low
   pub registers : length n.registers.items ≡ words
   pub flags : length n.flags.items ≡ bits
   pub grew : Grew old new 0 0 0 0 (words + bits + 1)
-  pub inputs : InputsFrom old new (IsOfForm low words bits)
+  pub inputs : InputsFrom old new (IsOfPart part low words bits)
   pub names : AreNames (form_of n) new (names_of n)
-  pub denotes : (x : TermReading) → InRange x → Denotes (form_of n) new x (names_of n) (at_entry x)
+  pub denotes : (x : TermReading) → InRange x → Denotes (form_of n) new x (names_of n) (at_part x part)
+
+-- and of the state at entry
+abbrev pub AreEntryNames : (old new : List TermNode) → (low words bits : ℕ) → Names → Type 0
+AreEntryNames old new low words bits n = ArePartNames old new 0 low words bits n
 
 -- the bits of registers and flags that differ
 abbrev pub differing_bits : Names → Names → ℕ

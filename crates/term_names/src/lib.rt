@@ -4,5 +4,5 @@
 mod names;
 mod rows;
 
-pub use names::{Names, copied, entry_names, selected};
+pub use names::{Names, copied, entry_names, part_names, selected};
 pub use rows::selected_word;

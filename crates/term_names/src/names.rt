@@ -5,7 +5,7 @@ ghost use Rattle.term_spec.specs.Terms.{HasMemory, HasWidth};
 ghost use Rattle.term_spec.specs.Passive.{AreNames};
 ghost use Rattle.term_names.specs.Views.{form_of, names_of};
 ghost use Rattle.term_names.specs.Choices.{places};
-ghost use Rattle.term_names.specs.Chosen.{AreEntryFlags, AreEntryNames, AreEntryRegisters, AreSelected, HaveSameForm, HaveSameTerms, IsSelectedMemory};
+ghost use Rattle.term_names.specs.Chosen.{AreEntryNames, ArePartFlags, ArePartNames, ArePartRegisters, AreSelected, HaveSameForm, HaveSameTerms, IsSelectedMemory};
 
 use crate::rows::selected_words;
 use std::alloc::{AllocError, Global};
@@ -24,37 +24,64 @@ pub struct Names {
     pub memory: Term,
 }
 
-/// The terms of the registers at entry.
-fn entry_registers(
+/// The terms of the registers of a part.
+fn part_registers(
     alloc: Global,
     dag: &mut Dag,
+    part: u32,
     first: u8,
     registers: u8,
 ) -> Result<Vec<Term>, AllocError>
     requires { first + registers ≤ 256 }
-    ensures { IfOk result (λ ts. AreEntryRegisters dag.old dag.new first registers (places ts.items)) }
+    ensures { IfOk result (λ ts. ArePartRegisters dag.old dag.new part first registers (places ts.items)) }
 {
     let mut terms = Vec::with_capacity(alloc, registers as usize)?;
     for i in 0..registers {
-        let term = dag.keep(Node::Register(first + i))?;
+        let term = dag.keep(Node::Register {
+            part,
+            number: first + i,
+        })?;
         terms.push(term)?;
     }
     Ok(terms)
 }
 
-/// The terms of the flags at entry.
-fn entry_flags(alloc: Global, dag: &mut Dag, flags: u8) -> Result<Vec<Term>, AllocError>
-    ensures { IfOk result (λ ts. AreEntryFlags dag.old dag.new flags (places ts.items)) }
+/// The terms of the flags of a part.
+fn part_flags(alloc: Global, dag: &mut Dag, part: u32, flags: u8) -> Result<Vec<Term>, AllocError>
+    ensures { IfOk result (λ ts. ArePartFlags dag.old dag.new part flags (places ts.items)) }
 {
     let mut terms = Vec::with_capacity(alloc, flags as usize)?;
     for i in 0..flags {
-        let term = dag.keep(Node::Flag(i))?;
+        let term = dag.keep(Node::Flag { part, number: i })?;
         terms.push(term)?;
     }
     Ok(terms)
 }
 
-/// The terms of the state at entry. The error is want of memory.
+/// The terms of the state of a part. The error is want of memory.
+pub fn part_names(
+    alloc: Global,
+    dag: &mut Dag,
+    part: u32,
+    first: u8,
+    registers: u8,
+    flags: u8,
+) -> Result<Names, AllocError>
+    requires { first + registers ≤ 256 }
+    ensures { IfOk result (λ n. ArePartNames dag.old dag.new part first registers flags n) }
+{
+    let registers = part_registers(alloc, dag, part, first, registers)?;
+    let flags = part_flags(alloc, dag, part, flags)?;
+    let memory = dag.keep(Node::Memory(part))?;
+    Ok(Names {
+        first,
+        registers,
+        flags,
+        memory,
+    })
+}
+
+/// The terms of the state at entry, part 0. The error is want of memory.
 pub fn entry_names(
     alloc: Global,
     dag: &mut Dag,
@@ -65,15 +92,8 @@ pub fn entry_names(
     requires { first + registers ≤ 256 }
     ensures { IfOk result (λ n. AreEntryNames dag.old dag.new first registers flags n) }
 {
-    let registers = entry_registers(alloc, dag, first, registers)?;
-    let flags = entry_flags(alloc, dag, flags)?;
-    let memory = dag.keep(Node::Memory)?;
-    Ok(Names {
-        first,
-        registers,
-        flags,
-        memory,
-    })
+    let names = part_names(alloc, dag, 0, first, registers, flags)?;
+    Ok(names)
 }
 
 /// The same terms. The error is want of memory.

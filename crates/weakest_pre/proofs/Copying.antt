@@ -9,12 +9,11 @@ use Rattle.std.proofs.lemmas.List.Elements.{Contains-get_or}
 use Rattle.std.proofs.lemmas.List.Sums.{sum_by_more, sum_by-take-le}
 use Rattle.term_spec.specs.Terms.{TermReading, TermNode, MemoryNode, AreTyped, IsTypedOver, HasWidth, term_value, width_of, node_at, own_gates, own_loads, own_stores, own_joins, term_gates, term_loads, term_stores, term_joins}
 use Rattle.term_dag.specs.declared.nodes.Term.{Term}
-use Rattle.term_dag.specs.Nodes.{IsInput}
 use Rattle.term_dag.specs.Made.{Grew, InputsFrom, IsInterned, moved, operands}
 use Rattle.term_dag.proofs.ListLaws.{typed_here, unfolds}
 use Rattle.term_dag.proofs.Growth.{grew_none, grew_on, grew_more, grew_width, interned_grew, interned_width}
-use Rattle.term_dag.proofs.Copies.{moved_width, moved_gates, moved_loads, moved_stores, moved_joins, moved_input, moved_typed, copied}
-use Rattle.weakest_pre.specs.Copies.{no_term, copy_at, root_at, is_marked, Always, AreReached, AreWithin, AreCopies, ArePicked, IsOfMarked, IsCopy, AreCopiesOf}
+use Rattle.term_dag.proofs.Copies.{moved_width, moved_gates, moved_loads, moved_stores, moved_joins, moved_typed, copied}
+use Rattle.weakest_pre.specs.Copies.{no_term, copy_at, root_at, is_marked, IsMoved, Always, AreReached, AreWithin, AreCopies, ArePicked, IsOfMarked, IsCopy, AreCopiesOf}
 use Rattle.weakest_pre.proofs.Marks.{all_by_both, operands_before, marked_within}
 
 -- the operands of a marked place have copies
@@ -133,8 +132,8 @@ pub grew_next : (source old mid new : List TermNode) (i n m : ℕ) → i < lengt
 grew_next source old mid new i n m within h k =
     grew_more old new (term_gates (take i source) + own_gates (node_at source i)) (term_loads (take i source) + own_loads (node_at source i))
     (term_stores (take i source) + own_stores (node_at source i)) (term_joins (take i source) + own_joins (node_at source i)) (n + m) _ _ _ _ _
-    (omega (arith, sum_by_more own_gates source i MemoryNode within)) (omega (arith, sum_by_more own_loads source i MemoryNode within))
-    (omega (arith, sum_by_more own_stores source i MemoryNode within)) (omega (arith, sum_by_more own_joins source i MemoryNode within)) (omega arith)
+    (omega (arith, sum_by_more own_gates source i (MemoryNode 0) within)) (omega (arith, sum_by_more own_loads source i (MemoryNode 0) within))
+    (omega (arith, sum_by_more own_stores source i (MemoryNode 0) within)) (omega (arith, sum_by_more own_joins source i (MemoryNode 0) within)) (omega arith)
     (grew_on old mid new _ _ _ _ _ _ _ _ _ _ h k)
 
 -- one more
@@ -151,12 +150,16 @@ copying_more source old mid new marks copies more i t within h k e =
     })
 
 -- the inputs of copies are those of the list
-pub copied_inputs : (source old new : List TermNode) (roots ts : List Term) → AreCopiesOf source old new roots ts → InputsFrom old new (Contains source)
+pub copied_inputs : (source old new : List TermNode) (roots ts : List Term) → AreCopiesOf source old new roots ts → InputsFrom old new (IsMoved source)
 copied_inputs source old new roots ts h m c i =
     elim (h.only m c) [
       | inl o ↦ inl o
-      | inr o ↦ let same : m ≡ node_at source o.at = o.is ∙ moved_input o.over (node_at source o.at) (subst IsInput o.is i) in
-          inr (subst (Contains source) (sym same) (Contains-get_or source o.at MemoryNode o.within))
+      | inr o ↦ inr (record {
+        node = node_at source o.at;
+        there = Contains-get_or source o.at (MemoryNode 0) o.within;
+        over = o.over;
+        is = o.is;
+      })
     ]
 
 -- the roots have copies

@@ -161,12 +161,12 @@ entry_made u a b c d e low regs flags now l s t big lines pr pf pe pl above belo
           (arith, range_length n.first (length n.registers.items), names.registers) in
           let here : slice_index (from_to n.first (length n.registers.items)) (u.link - low) ≡ u.link =
           range_at n.first (length n.registers.items) (u.link - low) (omega (arith, names.registers)) ∙ omega (arith, names.first) in
-          let link : term_word x c l ≡ x.regs u.link =
+          let link : term_word x c l ≡ x.regs 0 u.link =
           ap (λ v. v.word) (subst (λ (i : ℕ). term_value x c i ≡ term_value x b i) (sym at) (pc_step.grew.keeps x _ (names.names.words (u.link - low) k).0))
-          ∙ ap (term_word x b) at ∙ (names.denotes x ok).registers (u.link - low) k ∙ ap x.regs here in
-          all.value x ok (at_entry x) (at_entry x) u.entry u.entry state state (is_place u.narrow (x.regs u.link)) (aligned.value x ok ∙ ap (λ (v : ℕ). bit (is_place u.narrow v)) link)
-          ∙ ap (λ (z : List Expr). bit (is_place u.narrow (x.regs u.link) && all_true (endian big) z (state_at (at_entry x) u.entry))) pl
-          ∙ ap (λ (z : Endian). bit (is_place u.narrow (x.regs u.link) && all_true z (entry_lines u) (state_at (at_entry x) u.entry))) pe;
+          ∙ ap (term_word x b) at ∙ (names.denotes x ok).registers (u.link - low) k ∙ ap (x.regs 0) here in
+          all.value x ok (at_entry x) (at_entry x) u.entry u.entry state state (is_place u.narrow (x.regs 0 u.link)) (aligned.value x ok ∙ ap (λ (v : ℕ). bit (is_place u.narrow v)) link)
+          ∙ ap (λ (z : List Expr). bit (is_place u.narrow (x.regs 0 u.link) && all_true (endian big) z (state_at (at_entry x) u.entry))) pl
+          ∙ ap (λ (z : Endian). bit (is_place u.narrow (x.regs 0 u.link) && all_true z (entry_lines u) (state_at (at_entry x) u.entry))) pe;
     }
 
 -- a term of the registers by its place

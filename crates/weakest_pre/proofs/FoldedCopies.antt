@@ -6,21 +6,23 @@ use Rattle.std.proofs.lemmas.List.Elements.{Contains-get_or}
 use Rattle.std.proofs.lemmas.List.Sums.{sum_by-take-le}
 use Rattle.term_spec.specs.Terms.{TermReading, TermNode, RegisterNode, MemoryNode, AreTyped, HasWidth, word_value, node_value, term_value, values_from, width_of, node_at, own_gates, own_loads, own_stores, own_joins, term_gates, term_loads, term_stores, term_joins}
 use Rattle.term_dag.specs.declared.nodes.Term.{Term}
+use Rattle.term_dag.specs.Nodes.{IsInput}
 use Rattle.term_dag.specs.Made.{Grew, InputsFrom, IsMade, moved}
 use Rattle.term_dag.proofs.ListLaws.{unfolds}
 use Rattle.term_dag.proofs.Ranges.{word_only}
 use Rattle.term_dag.proofs.Growth.{grew_none, grew_more, inputs_none, inputs_on, inputs_more, made_grew, made_width, made_inputs}
-use Rattle.term_dag.proofs.Copies.{moved_width, moved_gates, moved_loads, moved_stores, moved_joins, moved_input, moved_value}
+use Rattle.term_dag.proofs.Copies.{moved_width, moved_gates, moved_loads, moved_stores, moved_joins, moved_value}
 use Rattle.weakest_pre.specs.declared.facts.Facts.{Facts}
 use Rattle.weakest_pre.specs.declared.facts.Runs.{Runs}
-use Rattle.weakest_pre.specs.Copies.{no_term, copy_at, root_at, is_marked, AreReached, AreWithin, AreCopies, ArePicked, AreCopiesOf}
+use Rattle.weakest_pre.specs.Copies.{no_term, copy_at, root_at, is_marked, AreReached, AreWithin, AreCopies, ArePicked, AreCopiesOf, IsMoved}
 use Rattle.weakest_pre.specs.Known.{IsRuns}
 use Rattle.weakest_pre.specs.Folded.{IsMetBy, IsKnownRegister, IsFolded, AreFoldedRoots, AreFoldedCopies, IsFoldedCopy}
+use Rattle.weakest_pre.proofs.Moved.{input_moved, moved_twice}
 use Rattle.weakest_pre.proofs.Copying.{operands_valued, copies_more, grew_next, picked_widths, picked_values, copied_inputs}
 
 -- a node of the list is one of it
 node_there : (source : List TermNode) (i : ℕ) (n : TermNode) → i < length source → n ≡ node_at source i → Contains source n
-node_there source i n within e = subst (Contains source) (sym e) (Contains-get_or source i MemoryNode within)
+node_there source i n within e = subst (Contains source) (sym e) (Contains-get_or source i (MemoryNode 0) within)
 
 -- a place that is marked, and no register
 pub folded_made : (f : Facts) (source old new : List TermNode) (marks : List Bool) (roots : List Term) (i : ℕ) (copies : List Term) (n m : TermNode) (t : ℕ) →
@@ -36,7 +38,8 @@ folded_made f source old new marks roots i copies n m t typed reached place with
           (own_gates node) (own_loads node) (own_stores node) (own_joins node) 16
           (omega (arith, moved_gates g node)) (omega (arith, moved_loads g node)) (omega (arith, moved_stores g node)) (omega (arith, moved_joins g node))
           (omega arith) (made_grew old new (moved g node) t k);
-      inputs = made_inputs old new (moved g node) t (Contains source) k (λ h. node_there source i (moved g node) within (moved_input g node h));
+      inputs = made_inputs old new (moved g node) t (IsMoved source) k
+          (λ h. record { node = node; there = node_there source i node within refl; over = g; is = refl });
       typed = k.typed;
       width = λ h. made_width old new (moved g node) t (width_of node) k (moved_width g node);
       value = λ x p h.
@@ -48,14 +51,19 @@ folded_made f source old new marks roots i copies n m t typed reached place with
 
 -- a register
 pub folded_register : (f : Facts) (source old new : List TermNode) (marks : List Bool) (i register t : ℕ) (n : TermNode) (r : Runs) → AreTyped source →
-    i < length source → n ≡ node_at source i → n ≡ RegisterNode register →
-    ((x : TermReading) → IsMetBy f x → IsRuns r (x.regs register)) → IsKnownRegister old new register r t → IsFolded (IsMetBy f) source old new marks i t
+    i < length source → n ≡ node_at source i → n ≡ RegisterNode 0 register →
+    ((x : TermReading) → IsMetBy f x → IsRuns r (x.regs 0 register)) → IsKnownRegister old new register r t → IsFolded (IsMetBy f) source old new marks i t
 folded_register f source old new marks i register t n r typed within e is known k =
-    let node : node_at source i ≡ RegisterNode register = sym e ∙ is in
+    let node : node_at source i ≡ RegisterNode 0 register = sym e ∙ is in
     record {
       grew = grew_more old new 0 0 0 0 16 _ _ _ _ 16 (omega arith) (omega arith) (omega arith) (omega arith) (omega arith) k.grew;
-      inputs = inputs_more old new (λ m. m ≡ RegisterNode register) (Contains source)
-          (λ m h q. node_there source i m within (q ∙ sym node)) k.inputs;
+      inputs = inputs_more old new (λ m. m ≡ RegisterNode 0 register) (IsMoved source)
+          (λ m h q. record {
+            node = m;
+            there = node_there source i m within (q ∙ sym node);
+            over = λ a. a;
+            is = q ∙ ap (moved (λ a. a)) (sym q);
+          }) k.inputs;
       typed = k.typed;
       width = λ h. (k.width.0, k.width.1 ∙ ap width_of (sym node));
       value = λ x p h.
@@ -79,7 +87,7 @@ pub record IsFolding (P : TermReading → Type 0) (source old new : List TermNod
   pub count : length ts ≡ i
   pub copies : AreCopies P source new marks ts
   pub grew : Grew old new (term_gates (take i source)) (term_loads (take i source)) (term_stores (take i source)) (term_joins (take i source)) (16 * i)
-  pub inputs : InputsFrom old new (Contains source)
+  pub inputs : InputsFrom old new (IsMoved source)
   pub typed : AreTyped new
 
 -- one more
@@ -94,7 +102,7 @@ folding_more P source old mid new marks copies more i t within h k e =
       copies = copies_more P source mid new marks copies i t _ _ _ _ _ h.count h.copies k.grew k.width k.value;
       grew = let next = grew_next source old mid new i (16 * i) 16 within h.grew k.grew in
           grew_more old new _ _ _ _ (16 * i + 16) _ _ _ _ (16 * (i + 1)) (omega arith) (omega arith) (omega arith) (omega arith) (omega arith) next;
-      inputs = inputs_on old mid new (Contains source) h.inputs k.inputs;
+      inputs = inputs_on old mid new (IsMoved source) h.inputs k.inputs;
       typed = k.typed;
     })
 
@@ -110,7 +118,7 @@ folding_done P source old new marks copies roots ts n none all reached h picks =
       loads = omega (arith, g.loads, sum_by-take-le own_loads source n, ap term_loads none);
       stores = omega (arith, g.stores, sum_by-take-le own_stores source n, ap term_stores none);
       joins = omega (arith, g.joins, sum_by-take-le own_joins source n, ap term_joins none);
-      inputs = subst (λ (z : List TermNode). InputsFrom z new (Contains source)) none h.inputs;
+      inputs = subst (λ (z : List TermNode). InputsFrom z new (IsMoved source)) none h.inputs;
       typed = h.typed;
       count = picks.count;
       widths = picked_widths P source new marks copies roots ts reached count h.copies picks;
@@ -145,8 +153,16 @@ folded_onto P source scratch old new roots folded ts few h k =
     let as_many = h.count in
     record {
       grew = grew_more old new _ _ _ _ (length scratch) _ _ _ _ (length source) h.gates h.loads h.stores h.joins few k.grew;
-      inputs = inputs_more old new (Contains scratch) (Contains source)
-          (λ m i c. elim (h.inputs m c i) [ inl none ↦ nothing_there m (Contains source m) none | inr there ↦ there ]) (copied_inputs scratch old new folded ts k);
+      inputs = inputs_more old new (IsMoved scratch) (IsMoved source)
+          (λ m i c. elim (h.inputs c.node c.there (input_moved c.over c.node (subst IsInput c.is i))) [
+            | inl none ↦ nothing_there c.node (IsMoved source m) none
+            | inr k ↦ record {
+              node = k.node;
+              there = k.there;
+              over = λ a. c.over (k.over a);
+              is = c.is ∙ ap (moved c.over) k.is ∙ moved_twice c.over k.over k.node;
+            }
+          ]) (copied_inputs scratch old new folded ts k);
       typed = k.typed;
       count = k.count ∙ as_many;
       widths = λ n l. let w = k.widths n (omega arith) in (w.0, w.1 ∙ (h.widths n l).1);

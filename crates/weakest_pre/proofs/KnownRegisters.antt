@@ -72,18 +72,18 @@ pieces_step a b c d e word u l w t r below above p q turned lower raised made =
     ∙ ap (λ (v : ℕ). concat r.place v (concat r.count (bits (r.place - 1) r.count (complement 32 (term_word x a word))) (complement r.count r.below))) q))
 
 -- a register of which they are
-pub register_pieces : (a b c : List TermNode) (register w t : ℕ) (r : Runs) → r.count < r.place → r.place ≤ 32 → IsMade a b (RegisterNode register) w →
+pub register_pieces : (a b c : List TermNode) (register w t : ℕ) (r : Runs) → r.count < r.place → r.place ≤ 32 → IsMade a b (RegisterNode 0 register) w →
     IsStep b c 0 0 14 (λ k. k ≡ 32) (λ x. pieces r (term_word x b w)) t →
     IsKnownRegister a c register r t
 register_pieces a b c register w t r some few made whole =
-    let more = λ (m : TermNode). m ≡ RegisterNode register in
+    let more = λ (m : TermNode). m ≡ RegisterNode 0 register in
     record {
-      grew = grew_on a b c 0 0 0 0 2 0 0 0 0 14 (made_grew a b (RegisterNode register) w made) whole.grew;
-      inputs = inputs_on a b c more (made_inputs a b (RegisterNode register) w more made (λ i. refl))
+      grew = grew_on a b c 0 0 0 0 2 0 0 0 0 14 (made_grew a b (RegisterNode 0 register) w made) whole.grew;
+      inputs = inputs_on a b c more (made_inputs a b (RegisterNode 0 register) w more made (λ i. refl))
           (inputs_more b c (λ m. ⊥) more (λ m i e. absurd e) whole.inputs);
       typed = whole.typed;
       width = (whole.within, whole.fits);
       value = λ x k h.
-          let word : term_word x b w ≡ x.regs register = ap (λ z. z.word) (made.value x k) in
-          whole.value x k ∙ ap (pieces r) word ∙ word_of_pieces r (x.regs register) some few (k.regs register) h;
+          let word : term_word x b w ≡ x.regs 0 register = ap (λ z. z.word) (made.value x k) in
+          whole.value x k ∙ ap (pieces r) word ∙ word_of_pieces r (x.regs 0 register) some few (k.regs 0 register) h;
     }

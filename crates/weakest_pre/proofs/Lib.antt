@@ -4,5 +4,6 @@ pub mod FoldedCopies
 pub mod KnownRegisters
 pub mod KnownWords
 pub mod Marks
+pub mod Moved
 pub mod Said
 pub mod Told

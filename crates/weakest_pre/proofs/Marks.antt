@@ -4,7 +4,7 @@ use Rattle.std.specs.List.{AllByRecursion}
 use Rattle.std.proofs.lemmas.Bool.{false≢true}
 use Rattle.std.proofs.lemmas.Bool.Decides.{eqb_tells}
 use Rattle.std.proofs.lemmas.List.{drop_more, length-set, length-take-le}
-use Rattle.term_spec.specs.Terms.{TermNode, RegisterNode, FlagNode, ChoiceNode, BaseNode, MemoryNode, ConstantNode, BinaryNode, NotNode, SelectNode, ExtractNode, ConcatNode, ExtendNode, LoadNode, StoreNode, JoinNode, AreTyped, IsTypedOver, node_at}
+use Rattle.term_spec.specs.Terms.{TermNode, RegisterNode, FlagNode, ChoiceNode, BaseNode, MemoryNode, ConstantNode, BinaryNode, NotNode, SelectNode, ExtractNode, ConcatNode, ExtendNode, LoadNode, StoreNode, JoinNode, TakeNode, AreTyped, IsTypedOver, node_at}
 use Rattle.term_dag.specs.declared.nodes.Term.{Term}
 use Rattle.term_dag.specs.Made.{operands}
 use Rattle.term_dag.proofs.ListLaws.{typed_before}
@@ -29,11 +29,11 @@ all_at P (x ∷ xs) i (suc k) h l e = all_at P xs i k h.1 (omega arith) e
 
 -- the places that a typed node is over are there
 operands_within : (ns : List TermNode) (n : TermNode) → IsTypedOver ns n → AllByRecursion (λ a. a < length ns) (operands n)
-operands_within ns (RegisterNode r) h = tt
-operands_within ns (FlagNode f) h = tt
+operands_within ns (RegisterNode p r) h = tt
+operands_within ns (FlagNode p f) h = tt
 operands_within ns (ChoiceNode i) h = tt
-operands_within ns (BaseNode j) h = tt
-operands_within ns MemoryNode h = tt
+operands_within ns (BaseNode p j) h = tt
+operands_within ns (MemoryNode p) h = tt
 operands_within ns (ConstantNode w v) h = tt
 operands_within ns (BinaryNode o w a b) h = (h.1.0, (h.2.0, tt))
 operands_within ns (NotNode w a) h = (h.1.0, tt)
@@ -44,6 +44,7 @@ operands_within ns (ExtendNode s n m a) h = (h.3.0, tt)
 operands_within ns (LoadNode n e m a) h = (h.1.0, (h.2.0, tt))
 operands_within ns (StoreNode n e m a v) h = (h.1.0, (h.2.0, (h.3.0, tt)))
 operands_within ns (JoinNode c a b) h = (h.0.0, (h.1.0, (h.2.0, tt)))
+operands_within ns (TakeNode n m a p) h = (h.1.0, (h.2.0, tt))
 
 -- a node is over places before its own
 pub operands_before : (ns : List TermNode) (k : ℕ) → AreTyped ns → k < length ns → AllByRecursion (λ a. a < k) (operands (node_at ns k))

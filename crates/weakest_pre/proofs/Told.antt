@@ -28,8 +28,10 @@ use Rattle.note_terms.proofs.Steps.{step_made, bits_and}
 use Rattle.weakest_pre.specs.Entry.{meets, IsEntryBit}
 use Rattle.weakest_pre.specs.declared.facts.Facts.{Facts}
 use Rattle.weakest_pre.specs.Known.{AreFactsOf}
+use Rattle.weakest_pre.specs.Copies.{IsMoved}
 use Rattle.weakest_pre.specs.Folded.{IsMetBy, IsFoldedCopy}
 use Rattle.weakest_pre.specs.Roots.{IsTied}
+use Rattle.weakest_pre.proofs.Moved.{copied_named}
 
 -- two tests that are both true
 pub both_true : (p q : Bool) → (p && q) ≡ true → (p ≡ true) × (q ≡ true)
@@ -43,7 +45,7 @@ true_both false q h k = h
 -- where the entry condition is met, registers are as its lines say
 pub met_by : (u : UnrolledProgram) (facts : Facts) (x : TermReading) → AreFactsOf u facts.registers.items → InRange x →
     meets u (state_at (at_entry x) u.entry) ≡ true → IsMetBy facts x
-met_by u facts x said r h = record { range = r; known = said (state_at (at_entry x) u.entry) r.regs (both_true _ _ h).1 }
+met_by u facts x said r h = record { range = r; known = said (state_at (at_entry x) u.entry) (r.regs 0) (both_true _ _ h).1 }
 
 -- a bit counts only where the other is 1
 pub counts_where : (b : Bool) (p q v : ℕ) → p ≡ bit b → (b ≡ true → q ≡ v) → bit_and p q ≡ bit_and p v
@@ -63,7 +65,7 @@ tied_made u facts source a b c p s q t entry said bit_s copy made =
           (term_gates source + 1) (term_loads source) (term_stores source) (term_joins source) (length source + 2)
           (omega arith) (omega arith) (omega arith) (omega arith) (omega arith)
           (grew_on a b c (term_gates source) (term_loads source) (term_stores source) (term_joins source) (length source) 1 0 0 0 2 copy.grew last.grew);
-      inputs = inputs_on a b c (Contains source) copy.inputs (inputs_more b c (λ m. ⊥) (Contains source) (λ m i e. absurd e) last.inputs);
+      inputs = inputs_on a b c (IsMoved source) copy.inputs (inputs_more b c (λ m. ⊥) (IsMoved source) (λ m i e. absurd e) last.inputs);
       typed = last.typed;
       width = (last.within, last.fits);
       value = λ x r.
@@ -170,7 +172,10 @@ end_told u q mid new question entry end t walkable passive h tells tied =
     record {
       terms = record {
         typed = tied.typed;
-        named = λ m c. named_all u m (λ i. elim (tied.inputs m c i) [ inl old ↦ entry_named u mid entry h m old i | inr copied ↦ room.named m copied ]);
+        named = λ m c. named_all u m (λ i. elim (tied.inputs m c i) [
+          | inl old ↦ entry_named u mid entry h m old i
+          | inr copied ↦ copied_named u 0 q.nodes m copied room.named
+        ]);
         gates = omega (arith, grew.gates, more.gates, room.gates, parts.0);
         loads = omega (arith, grew.loads, more.loads, room.loads, parts.1);
         stores = omega (arith, grew.stores, more.stores, room.stores);

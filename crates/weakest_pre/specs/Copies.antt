@@ -87,6 +87,13 @@ pub record IsOfReached (source : List TermNode) (roots : List Term) (m : TermNod
   pub over : ℕ → ℕ
   pub is : m ≡ moved over (node_at source at)
 
+-- a node is one of a list, over other places
+pub record IsMoved (source : List TermNode) (m : TermNode) : Type 0 where
+  pub node : TermNode
+  pub there : Contains source node
+  pub over : ℕ → ℕ
+  pub is : m ≡ moved over node
+
 -- The copy of a place, if it is marked: its node, and no other is new.
 pub record IsCopy (source old new : List TermNode) (marks : List Bool) (i t : ℕ) : Type 0 where
   pub grew : Grew old new (own_gates (node_at source i)) (own_loads (node_at source i)) (own_stores (node_at source i)) (own_joins (node_at source i)) 1

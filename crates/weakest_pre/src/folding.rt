@@ -141,7 +141,10 @@ fn known_register(
         })?;
         return Ok(term);
     }
-    let word = dag.mk(Node::Register(register))?;
+    let word = dag.mk(Node::Register {
+        part: 0,
+        number: register,
+    })?;
     if constants || (runs.place == 32 && runs.count == 0) {
         return Ok(word);
     }
@@ -169,7 +172,11 @@ fn folded(
 {
     if marks[place as usize] {
         let node = source.node(Term(place));
-        if let Node::Register(register) = node {
+        if let Node::Register {
+            part: 0,
+            number: register,
+        } = node
+        {
             let runs = runs_of(facts.of(register));
             let term = known_register(dag, register, runs, facts.has_loads())?;
             return Ok(term);

@@ -1,6 +1,7 @@
-use Rattle.std.proofs.Common.{refl}
-use Rattle.mem_cells.specs.Lowering.{source_of}
-use Rattle.mem_cells.proofs.Lowerings.{start_lowered}
+use Rattle.std.proofs.Common.{refl, sym, subst, ℕ, arith}
+use Rattle.term_dag.specs.Nodes.{node_of}
+use Rattle.mem_cells.specs.Lowering.{source_of, IsNextOf}
+use Rattle.mem_cells.proofs.Lowerings.{start_lowered, next_of}
 use Rattle.mem_cells.proofs.lowering.lower_all.Goals as goal
 
 pub loop-place-init : goal.loop-place-init
@@ -11,3 +12,10 @@ loop-place-init c =
       lowered = start_lowered (source_of a) a _ _ _ _ c.requires.typed c.requires.nodes c.requires.reads c.in_ok-with_capacity.ensures.items
           c.in_ok-with_capacity-2.ensures.items c.new.ensures.items c.in_ok-vec.ensures.items;
     }
+
+pub lower-requires-clause-next : goal.lower-requires-clause-next
+lower-requires-clause-next c =
+    let there = c.loop-place in
+    subst (λ (d : ℕ). IsNextOf d there.build (node_of c.node-node.result)) (sym there.invariant.lowered.stands.word_count)
+    (next_of c.args.build.now there.build there.place (node_of c.node-node.result) there.invariant.question
+    (omega (arith, c.loop-place-test.true, c.nodes-count.ensures.count)) c.node-node.ensures c.requires.named)

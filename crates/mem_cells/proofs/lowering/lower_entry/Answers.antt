@@ -6,4 +6,4 @@ use Rattle.mem_cells.proofs.lowering.lower_entry.Goals as goal
 pub returns : goal.returns
 returns c =
     entry_lowered (source_of c.args.build.now) _ c.args.build.now _ _ _ _ _ _
-    (program_of_build c.args.build.now) _ c.requires.lowered c.requires.next c.in_ok-push.ensures.items c.in_ok-push-2.ensures.items
+    (program_of_build c.args.build.now) c.args.part _ c.requires.lowered c.requires.next c.in_ok-push.ensures.items c.in_ok-push-2.ensures.items

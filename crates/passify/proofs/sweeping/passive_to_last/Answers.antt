@@ -21,7 +21,7 @@ loop-place-preserved c = record {
 
 pub returns-clause-passive : goal.returns-clause-passive
 returns-clause-passive c =
-    swept_passive c.args.unrolled.now c.loop-place.place _ c.loop-place.sweep refl refl refl refl
+    swept_passive c.args.unrolled.now c.loop-place.place _ c.loop-place.sweep refl refl refl refl refl
     (omega (arith, c.loop-place-test.false, c.len-place-end.ensures, c.args.unrolled.now.points.ok.0))
     (omega (arith, c.loop-place.auto.place-end, c.len-place-end.ensures, c.args.unrolled.now.points.ok.0)) c.loop-place.invariant.swept
     c.loop-place.invariant.states

@@ -9,8 +9,8 @@ use Rattle.term_dag.proofs.values.byte.Goals as goal
 pub returns-in-Memory : goal.returns-in-Memory
 returns-in-Memory c =
     let v = c.loop-bytes.invariant in
-    c.memory_byte.ensures
-    ∙ entry_byte (reading_of c.args.reading.now) _ _ _ c.args.address c.requires.typed c.requires.words v.within c.in-Memory.ensures
+    c.memory_byte.ensures 0
+    ∙ entry_byte (reading_of c.args.reading.now) _ _ _ c.args.address c.requires.typed c.requires.words v.within _ c.in-Memory.ensures
     ∙ v.same
 
 pub bounds-words-first : goal.bounds-words-first

@@ -1,6 +1,6 @@
-use Rattle.std.proofs.Common.{◌<◌, ℕ, ap, sym, subst, length}
+use Rattle.std.proofs.Common.{◌≡◌, ◌∙◌, ◌<◌, ℕ, ap, sym, subst, length}
 use Rattle.std.specs.List.{AllByRecursion}
-use Rattle.term_spec.specs.Terms.{TermNode, IsTypedOver, node_at}
+use Rattle.term_spec.specs.Terms.{TermNode, RegisterNode, IsTypedOver, node_at}
 use Rattle.term_dag.specs.Nodes.{node_of}
 use Rattle.term_dag.specs.Made.{operands}
 use Rattle.weakest_pre.specs.declared.facts.Known.{Known}
@@ -11,13 +11,14 @@ use Rattle.weakest_pre.proofs.Copying.{copy_typed}
 use Rattle.weakest_pre.proofs.FoldedCopies.{folded_made, folded_register, folded_left}
 use Rattle.weakest_pre.proofs.folding.folded.Goals as goal
 
-pub returns-in-Register : goal.returns-in-Register
-returns-in-Register c =
-    let register = c.in-Register.register in
+pub returns-in-Register-eq0-default : goal.returns-in-Register-eq0-default
+returns-in-Register-eq0-default c =
+    let register = c.in-Register-eq0-default.register in
+    let h : c.in-Register-eq0-default.part ≡ 0 = sym c.in-Register-eq0-default.part-is ∙ c.in-Register-eq0-default.part-test in
     folded_register c.args.facts.now c.args.source.now c.args.dag.now _ c.args.marks.now c.args.place register _ _ c.runs_of-runs.result c.requires.typed
-    c.requires.within c.node-node.ensures (ap node_of c.in-Register.is)
-    (λ x p. c.runs_of-runs.ensures.met (x.regs register) (p.range.regs register)
-    (subst (λ (k : Known). IsMet k (x.regs register)) (sym c.of.ensures) (p.known register))) c.in_ok-term.ensures
+    c.requires.within c.node-node.ensures (ap node_of c.in-Register-eq0-default.is ∙ ap (λ q. RegisterNode q register) h)
+    (λ x p. c.runs_of-runs.ensures.met (x.regs 0 register) (p.range.regs 0 register)
+    (subst (λ (k : Known). IsMet k (x.regs 0 register)) (sym c.of.ensures) (p.known register))) c.in_ok-term.ensures
 
 pub moved-requires : goal.moved-requires
 moved-requires c =

@@ -17,7 +17,7 @@ returns-clause-grown c =
       question = refl;
       built = subst (Cellular _ c.keep.new.self) (sym e)
           (read_cellular _ _ _ ps c.args.address.0 _ c.requires.built (subst
-          (λ (k : ℕ). IsInterned c.args.self.now.dag c.keep.new.self (BaseNode k) c.in_ok-byte.byte.0) l m) c.requires.address);
+          (λ (k : ℕ). IsInterned c.args.self.now.dag c.keep.new.self (BaseNode 0 k) c.in_ok-byte.byte.0) l m) c.requires.address);
       extends = m.extends;
       more = (c.args.address.0 ∷ [], e);
       gates = m.cost.gates;
@@ -33,6 +33,6 @@ returns-clause-byte c =
     let l : c.len-read.result ≡ length ps = omega (arith, mapped_length c.args.self.now.addresses.items) in
     record {
       place = (m.within, ap width_of m.stored);
-      value = λ x i g. ap (λ z. z.word) (m.value x) ∙ ap x.base l ∙ new_gives x c.args.self.now.dag c.keep.new.self ps c.args.address.0 _ e m.extends
+      value = λ x i g. ap (λ z. z.word) (m.value x) ∙ ap (x.base 0) l ∙ new_gives x c.args.self.now.dag c.keep.new.self ps c.args.address.0 _ e m.extends
           c.requires.address.0 g;
     }

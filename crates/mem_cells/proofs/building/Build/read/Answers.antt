@@ -8,7 +8,7 @@ returns-in-Some-clause-grown c =
     let m = c.in_ok-byte.ensures in
     record {
       question = refl;
-      built = kept_cellular _ _ _ _ _ _ c.requires.built m (record { typed = tt; word = omega arith; loads = refl; named = c.in-Some.ensures.0 });
+      built = kept_cellular _ _ _ _ _ _ c.requires.built m (record { typed = tt; word = omega arith; loads = refl; named = (refl, c.in-Some.ensures.0) });
       extends = m.extends;
       more = ([], sym (append-nil (read_places c.args.self.now)));
       gates = m.cost.gates;

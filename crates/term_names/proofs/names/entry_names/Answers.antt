@@ -1,6 +1,0 @@
-use Rattle.std.proofs.Common.{refl}
-use Rattle.term_names.proofs.Stated.{states_at_entry}
-use Rattle.term_names.proofs.names.entry_names.Goals as goal
-
-pub returns : goal.returns
-returns c = states_at_entry c.args.dag.now _ _ _ _ _ _ _ refl c.in_ok-registers.ensures c.in_ok-flags.ensures c.in_ok-memory.ensures
