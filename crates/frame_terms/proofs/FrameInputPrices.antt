@@ -177,21 +177,21 @@ module _ (f : Frame) (lawful : HasLawfulRows f.program) (contracts : List Contra
         ap (λ (z : List PartInput). length z) (list_is u heads c) ∙ length_append (front u heads c) bits
         ∙ ap (λ z. length (front u heads c) + z) (bytes_long c.reads)
 
-    one_more : (l s : ℕ) → l * (1 + s) ≡ l + l * s
-    one_more l s = grind arith
+    two_more : (l s : ℕ) → l * (2 + s) ≡ 2 * l + l * s
+    two_more l s = grind arith
 
     times_sum : (l e s : ℕ) → l * (e + 2 * s) ≡ l * e + 2 * (l * s)
     times_sum l e s = grind arith
 
-    module _ (few : length c.reads ≤ loads_of u * (1 + stores_of u)) where
+    module _ (few : length c.reads ≤ loads_of u * (2 + stores_of u)) where
       -- the inputs are within the price
       pub inputs_within : length (input_list u heads c) ≤ unrolled_price u heads
       inputs_within =
-          let a = list_long in let b = front_small in let d = one_more (loads_of u) (stores_of u) in
+          let a = list_long in let b = front_small in let d = two_more (loads_of u) (stores_of u) in
           omega arith
 
-      cells_within : (l s e n : ℕ) → cell_gates l s e n + 8 * (l * (1 + s)) ≤ cell_price l s e n
-      cells_within l s e n = let a = times_sum l e s in let b = one_more l s in omega arith
+      cells_within : (l s e n : ℕ) → cell_gates l s e n + 8 * (l * (2 + s)) ≤ cell_price l s e n
+      cells_within l s e n = let a = times_sum l e s in let b = two_more l s in omega arith
 
       -- and so are the gates of the cells with the bits of base reads
       pub gates_within : (gates : ℕ) → gates < term_price u heads →

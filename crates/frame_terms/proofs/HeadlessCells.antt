@@ -38,16 +38,16 @@ module _ (c : cells.Cells) where
   read_below part j h = let r = read_of (record { part = part; address = j }) h in subst (λ z. z < length c.addresses) (sym (ap (λ z. z.address) r.2)) r.1
 
   -- what the reads give, and what is said of them
-  gives_as : (x : TermReading) → cells.Gives c x → Gives (as_cells c) x
+  pub gives_as : (x : TermReading) → cells.Gives c x → Gives (as_cells c) x
   gives_as x h b inside = let r = read_of b inside in subst (λ z. given z) (sym r.2) (h r.0 r.1)
     where
       given : BaseRead → Type 0
       given z = x.base z.part z.address ≡ x.mem z.part (read_address (as_cells c) x z.address)
 
-  gives_back : (x : TermReading) → Gives (as_cells c) x → cells.Gives c x
+  pub gives_back : (x : TermReading) → Gives (as_cells c) x → cells.Gives c x
   gives_back x h j l = h (as_read j) (read_in j l)
 
-  allowed_as : (x : TermReading) → cells.IsAllowed c x → IsAllowed (as_cells c) x
+  pub allowed_as : (x : TermReading) → cells.IsAllowed c x → IsAllowed (as_cells c) x
   allowed_as x h = record {
     agrees = λ a inside.
         (let it = of_map as_agreement c.agrees a inside in subst (λ z. Agrees (as_cells c) x z) it.2 (λ e. h.agrees it.0 it.1 e));
@@ -55,7 +55,7 @@ module _ (c : cells.Cells) where
         (let it = of_map as_asked c.asked a inside in subst (λ z. HasByte (as_cells c) x z) it.2 (λ e. h.asked it.0 it.1 e));
   }
 
-  allowed_back : (x : TermReading) → IsAllowed (as_cells c) x → cells.IsAllowed c x
+  pub allowed_back : (x : TermReading) → IsAllowed (as_cells c) x → cells.IsAllowed c x
   allowed_back x h = record {
     agrees = λ a inside e. h.agrees (as_agreement a) (in_map as_agreement c.agrees a inside) e;
     asked = λ a inside e. h.asked (as_asked a) (in_map as_asked c.asked a inside) e;
@@ -92,7 +92,7 @@ module _ (c : cells.Cells) where
       root = h.root;
     }
 
-    formed_back : AreFormed (as_unrolled u) false (as_cells c) → cells.AreFormed u c
+    pub formed_back : AreFormed (as_unrolled u) false (as_cells c) → cells.AreFormed u c
     formed_back h = record {
       typed = h.typed;
       words = h.words;
@@ -106,7 +106,7 @@ module _ (c : cells.Cells) where
     }
 
     -- the memories of other parts are read nowhere
-    one_memory : cells.AreFormed u c → (x : TermReading) (memories : ℕ → Memory) → cells.Gives c (with_memories x memories) →
+    pub one_memory : cells.AreFormed u c → (x : TermReading) (memories : ℕ → Memory) → cells.Gives c (with_memories x memories) →
         cells.Gives c (with_mem x (memories 0))
     one_memory formed x memories h j l =
         h j l ∙ ap (memories 0) (word_same u c formed (with_memories x memories) (with_mem x (memories 0))
@@ -114,8 +114,8 @@ module _ (c : cells.Cells) where
 
     -- what the cells tell
     module _ (t : walks.QuestionTerm) (asked : ℕ → Bool) where
-      least : (n l s m : ℕ) → m ≡ n → n ≤ l → m ≤ l * (1 + s)
-      least n l s m e h = let d : l * (1 + s) ≡ l + l * s = omega arith in omega arith
+      least : (n l s m : ℕ) → m ≡ n → n ≤ l → m ≤ l * (2 + s)
+      least n l s m e h = let d : l * (2 + s) ≡ 2 * l + l * s = grind arith in omega arith
 
       cost_same : cell_gates (loads_of (as_unrolled u)) (stores_of (as_unrolled u)) (edges_of (as_unrolled u)) (known_of (as_unrolled u))
           ≡ cell_gates (prices.loads_of u) (prices.stores_of u) (prices.edges_of u) (prices.known_of u)

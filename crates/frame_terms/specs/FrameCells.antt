@@ -104,4 +104,4 @@ pub record TellsCells (u : UnrolledProgram) (heads of_head : Bool) (t : Question
   pub complete : (x : TermReading) → InRange x → IsAllowed c x → Completes u of_head asked c x
   pub gates : term_gates c.nodes ≤ term_gates t.nodes + cell_gates (loads_of u) (stores_of u) (edges_of u) (known_of u)
   pub few : length c.addresses ≤ loads_of u
-  pub few_reads : length c.reads ≤ loads_of u * (1 + stores_of u)
+  pub few_reads : length c.reads ≤ loads_of u * (2 + stores_of u)
