@@ -216,7 +216,7 @@ module _ (f : Frame) (lawful : HasLawfulRows f.program) (low : (a : ℕ) → is_
   root_anchor x AtEntry root = ap (λ z. z.anchor) root.point
   root_anchor x (AtHead stack a) root = ap (λ z. z.anchor) root.point
 
-  entry_assumed : (x : Root) → IsRootOf f u x AtEntry → is_assumed u r x ≡ true
+  pub entry_assumed : (x : Root) → IsRootOf f u x AtEntry → is_assumed u r x ≡ true
   entry_assumed x root =
       ap (λ z. not (is_line_false (false_line u.endian z
       (content_at (root_content r (point_at u x.place).point.anchor) (point_at u x.place).point.at) r.state))) root.assumes
@@ -241,7 +241,7 @@ module _ (f : Frame) (lawful : HasLawfulRows f.program) (low : (a : ℕ) → is_
             (sym (head_assumed x stack a root) ∙ t);
       }
 
-  assumes_part : (x : Root) (stack : List ℕ) (a : ℕ) → IsRootOf f u x (AtHead stack a) → IsHeadPart f r a → is_assumed u r x ≡ true
+  pub assumes_part : (x : Root) (stack : List ℕ) (a : ℕ) → IsRootOf f u x (AtHead stack a) → IsHeadPart f r a → is_assumed u r x ≡ true
   assumes_part x stack a root part = head_assumed x stack a root ∙ ap (λ z. not (is_line_false z)) part.invariants
 
   which_entry : (anchor : Anchor) → is_entry anchor ≡ true → anchor ≡ AtEntry

@@ -147,7 +147,7 @@ module _ (p : Program) (u : tables.UnrolledProgram) (q : tables.UnrolledPoint) (
   abbrev carried : Content → tables.Carried
   carried c = record { regs = c.regs; flags = c.flags; mem = c.mem }
 
-  row_as : unrolling.DoesRow p q row → DoesRow p [] v (as_place q) row
+  pub row_as : unrolling.DoesRow p q row → DoesRow p [] v (as_place q) row
   row_as d = record {
     length = d.length;
     lists = its_list q.does;

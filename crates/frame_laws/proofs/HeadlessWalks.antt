@@ -233,7 +233,8 @@ module _ (u : tables.UnrolledProgram) where
     begin_content : begin_at ≡ entry_at
     begin_content = fun_ext (λ i. ap (root_content r) (anchor_same i))
 
-    held_same : (n : ℕ) → held v r n ≡ as_held (sweeps.held u flat n)
+    -- what is held after some places
+    pub held_same : (n : ℕ) → held v r n ≡ as_held (sweeps.held u flat n)
     unfolding held sweeps.held
     held_same zero =
         ap (λ z. record { met = z; carried = begin_at; fails = false; steps = false; turns = false }) begun_same

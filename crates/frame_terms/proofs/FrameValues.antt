@@ -130,7 +130,7 @@ module _ (f : Frame) (contracts : List Contract) (k : ℕ) (u : UnrolledProgram)
     abbrev content : ℕ → Content
     content p = record { regs = x.regs p; flags = x.flags p; mem = memories p }
 
-    abbrev reading : Reading
+    abbrev pub reading : Reading
     reading = record {
       state = record { pc = u.entry; regs = x.regs 0; flags = x.flags 0; mem = memories 0 };
       head = content 1;
@@ -149,7 +149,7 @@ module _ (f : Frame) (contracts : List Contract) (k : ℕ) (u : UnrolledProgram)
     flag_same (suc (suc i)) n (named, (g, at, inside)) = ap (λ z. x.flags (suc (suc z)) n) (sym (spot_is i at.place))
 
     -- it has the same inputs, and these memories
-    memories_same : (p : ℕ) → NamesMemory u heads p → memories p ≡ (part_reading u reading).mem p
+    pub memories_same : (p : ℕ) → NamesMemory u heads p → memories p ≡ (part_reading u reading).mem p
     memories_same zero h = refl
     memories_same (suc zero) h = refl
     memories_same (suc (suc i)) (g, w, at, inside) = ap (λ z. memories (suc (suc z))) (sym (spot_is i at.place))
@@ -162,19 +162,19 @@ module _ (f : Frame) (contracts : List Contract) (k : ℕ) (u : UnrolledProgram)
       base = λ p j h l. absurd (omega arith);
     }
 
-    changed_same : HaveSameInputs u heads 0 (with_memories x memories) (part_reading u reading)
+    pub changed_same : HaveSameInputs u heads 0 (with_memories x memories) (part_reading u reading)
     changed_same = record { regs = inputs_same.regs; flags = inputs_same.flags; choice = inputs_same.choice; base = λ p j h l. absurd (omega arith) }
 
 -- other memories change no inputs
-only_memories : (u : UnrolledProgram) (heads : Bool) (x : TermReading) (memories : ℕ → ℕ → ℕ) (reads : ℕ) →
+pub only_memories : (u : UnrolledProgram) (heads : Bool) (x : TermReading) (memories : ℕ → ℕ → ℕ) (reads : ℕ) →
     HaveSameInputs u heads reads x (with_memories x memories)
 only_memories u heads x memories reads = record { regs = λ p n h. refl; flags = λ p n h. refl; choice = λ i d. refl; base = λ p j h l. refl }
 
-memories_only : (u : UnrolledProgram) (heads : Bool) (x : TermReading) (memories : ℕ → ℕ → ℕ) (reads : ℕ) →
+pub memories_only : (u : UnrolledProgram) (heads : Bool) (x : TermReading) (memories : ℕ → ℕ → ℕ) (reads : ℕ) →
     HaveSameInputs u heads reads (with_memories x memories) x
 memories_only u heads x memories reads = record { regs = λ p n h. refl; flags = λ p n h. refl; choice = λ i d. refl; base = λ p j h l. refl }
 
-in_range : (x : TermReading) (memories : ℕ → ℕ → ℕ) → InRange x → ((p a : ℕ) → memories p a < 256) → InRange (with_memories x memories)
+pub in_range : (x : TermReading) (memories : ℕ → ℕ → ℕ) → InRange x → ((p a : ℕ) → memories p a < 256) → InRange (with_memories x memories)
 in_range x memories is bytes = record { regs = is.regs; flags = is.flags; mem = bytes; choice = is.choice; base = is.base }
 
 module _ (f : Frame) (contracts : List Contract) (k : ℕ) (question : Question) (asked : ℕ → Bool) (u : UnrolledProgram) (t : QuestionTerm) (c : Cells)

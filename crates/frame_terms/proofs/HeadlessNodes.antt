@@ -158,13 +158,17 @@ module _ (u : tables.UnrolledProgram) where
   passive_nodes : (passive_room v false).nodes ≡ (walks.point_room u).nodes
   passive_nodes = let b = (headless_bounds u).8 in omega arith
 
+  -- so the terms of the points
+  pub point_terms_as : (nodes : List TermNode) → walks.AreTermsWithin u (walks.point_room u) nodes → AreTermsWithin v false (passive_room v false) nodes
+  point_terms_as nodes h = within_as nodes (walks.point_room u) (passive_room v false) passive_gates passive_loads passive_nodes h
+
   question_gates : (question_room v false).gates ≡ (walks.question_room u).gates
   question_gates = ap (λ z. z - 1) (headless_bounds u).1
 
   -- a bit
   module _ (nodes : List TermNode) (named : walks.AreNamedBelow u 0 nodes) (t : ℕ) (l : t < length nodes) (f : Held → Bool) (g : sweeps.Held → Bool)
       (same : (h : sweeps.Held) → f (as_held h) ≡ g h) where
-    tells_as : passive.UnderAll u (λ r. passive.Tells nodes (term_reading u r) t (g (sweeps.swept u r))) →
+    pub tells_as : passive.UnderAll u (λ r. passive.Tells nodes (term_reading u r) t (g (sweeps.swept u r))) →
         UnderAll v (λ r. Tells nodes (part_reading v r) t (f (swept v r)))
     tells_as h r is pc =
         word_same nodes named r t l ∙ h (flat_reading r) (flat_is r is) pc
@@ -180,7 +184,7 @@ module _ (u : tables.UnrolledProgram) where
     passive_as : passive.IsPassive u q → IsPassive v false (as_passive never q)
     passive_as h =
         let named = h.terms.named in record {
-          terms = within_as q.nodes (walks.point_room u) (passive_room v false) passive_gates passive_loads passive_nodes h.terms;
+          terms = point_terms_as q.nodes h.terms;
           count = h.count ∙ sym (count_same u);
           bits = λ i l. (let c = count_same u in h.bits i (omega arith));
           fails_bit = h.fails_bit;

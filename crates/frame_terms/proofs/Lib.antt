@@ -10,3 +10,4 @@ pub mod HeadlessInputLists
 pub mod HeadlessNodes
 pub mod HeadlessWalkable
 pub mod PartValues
+pub mod PartStarts

@@ -4,3 +4,4 @@ pub mod FrameClauseForm
 pub mod HeadlessTerms
 pub mod FrameAgreement
 pub mod FrameLayers
+pub mod FrameStarts

@@ -5,4 +5,5 @@
 
 pub mod agreement;
 pub mod clauses;
+pub mod starts;
 pub mod terms;

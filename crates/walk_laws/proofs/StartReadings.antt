@@ -48,11 +48,11 @@ past_end [] i l = refl
 past_end (x ∷ xs) zero l = absurd (omega arith)
 past_end (x ∷ xs) (suc i) l = past_end xs i (omega arith)
 
-map_long : (f : ℕ → ℕ) (xs : List ℕ) → length (map f xs) ≡ length xs
+pub map_long : (f : ℕ → ℕ) (xs : List ℕ) → length (map f xs) ≡ length xs
 map_long f [] = refl
 map_long f (x ∷ xs) = let e = map_long f xs in omega arith
 
-map_below : (f : ℕ → ℕ) (m : ℕ) → ((n : ℕ) → f n < m) → (xs : List ℕ) (i d : ℕ) → i < length (map f xs) → get_or (map f xs) i d < m
+pub map_below : (f : ℕ → ℕ) (m : ℕ) → ((n : ℕ) → f n < m) → (xs : List ℕ) (i d : ℕ) → i < length (map f xs) → get_or (map f xs) i d < m
 map_below f m h [] i d l = absurd (omega arith)
 map_below f m h (x ∷ xs) zero d l = h x
 map_below f m h (x ∷ xs) (suc i) d l = map_below f m h xs i d (omega arith)
@@ -73,7 +73,7 @@ some_index : (xs : List ℕ) (i n : ℕ) → i < length xs → get_or xs i 0 ≡
 some_index xs i n l e = e
 
 -- a register that is written, by its number
-register_is : (f : ℕ → ℕ) (first count n : ℕ) → (list_any (nat_eq n) (from_to first count) ≡ false → f n ≡ 0) →
+pub register_is : (f : ℕ → ℕ) (first count n : ℕ) → (list_any (nat_eq n) (from_to first count) ≡ false → f n ≡ 0) →
     (if nat_lt n first then 0 else slice_index (map f (from_to first count)) (n - first)) ≡ f n
 register_is f first count n zero_else = elim (truth (nat_lt n first)) [
   | inl t ↦ ap (λ z. if z then 0 else slice_index (map f (from_to first count)) (n - first)) t ∙ sym
@@ -89,7 +89,7 @@ register_is f first count n zero_else = elim (truth (nat_lt n first)) [
   ]
 ]
 
-high_bit : (n f a : ℕ) → a < 2 ^ n → n ≤ f → bit_at f a ≡ 0
+pub high_bit : (n f a : ℕ) → a < 2 ^ n → n ≤ f → bit_at f a ≡ 0
 high_bit n f a l h =
     let p = pow-le-pow_right (let two : 1 ≤ 2 = omega arith in two) h in
     let s : a < 2 ^ f = omega arith in ap (λ z. z % 2) (small_div a (2 ^ f) s)
@@ -97,7 +97,7 @@ high_bit n f a l h =
     small_div : (a m : ℕ) → a < m → a / m ≡ 0
     small_div a m l = div-eq_of_lt l
 
-byte_small : (xs : List (ℕ × ℕ)) (a : ℕ) → All (λ b. (b.0 < 2 ^ 32) × (1 ≤ b.1) × (b.1 ≤ 255)) xs → byte_in xs a < 256
+pub byte_small : (xs : List (ℕ × ℕ)) (a : ℕ) → All (λ b. (b.0 < 2 ^ 32) × (1 ≤ b.1) × (b.1 ≤ 255)) xs → byte_in xs a < 256
 byte_small [] a h = omega arith
 byte_small (e ∷ rest) a h = by (a == e.0) (h 0 e (omega arith)).2 (byte_small rest a (λ n d l. h (suc n) d (omega arith)))
   where
@@ -105,7 +105,7 @@ byte_small (e ∷ rest) a h = by (a == e.0) (h 0 e (omega arith)).2 (byte_small 
     by true l g = omega arith
     by false l g = g
 
-known_small : (o : Option ℕ) (xs : List (ℕ × ℕ)) (a : ℕ) → ((b : ℕ) → o ≡ Some b → b < 256) → byte_in xs (word 32 a) < 256 → known_or o xs a < 256
+pub known_small : (o : Option ℕ) (xs : List (ℕ × ℕ)) (a : ℕ) → ((b : ℕ) → o ≡ Some b → b < 256) → byte_in xs (word 32 a) < 256 → known_or o xs a < 256
 known_small None xs a h l = l
 known_small (Some b) xs a h l = h b refl
 
@@ -259,7 +259,7 @@ pub values_give_start : ValuesGiveStart
 values_give_start p k question asked u t c layered cnf tells layout laid v sat w starts =
     gives_start p k question asked u t c layered cnf tells layout laid v sat w starts
 
-not_known : (b : Bool) (x : ℕ) → (if b then Some x else None) ≡ None → b ≡ false
+pub not_known : (b : Bool) (x : ℕ) → (if b then Some x else None) ≡ None → b ≡ false
 not_known true x e = absurd (cc)
 not_known false x e = refl
 
