@@ -10,8 +10,9 @@ use Rattle.term_dag.specs.declared.nodes.Term.{Term}
 use Rattle.term_dag.specs.declared.nodes.Node.{Node}
 use Rattle.term_dag.specs.declared.nodes.Node.TheVariants as node
 use Rattle.term_dag.specs.Nodes.{node_of}
+use Rattle.term_dag.specs.declared.values.Parts.{Parts}
 use Rattle.term_dag.specs.declared.values.Reading.{Reading}
-use Rattle.term_dag.specs.Readings.{AreWords, reading_of}
+use Rattle.term_dag.specs.Readings.{AreWords, reading_of, reading_of_parts}
 use Rattle.term_dag.proofs.ListLaws.{by_node, typed_here, typed_before, place_before}
 
 stored_here : (k n b m : ℕ) → k < n → (if nat_lt k n then b else m) ≡ b
@@ -102,6 +103,15 @@ no_bytes x ns t n i h l e p q s = word_bytes x (values_from x [] ns) n i p q s �
 -- what data stand for is in range
 pub in_range : (r : Reading) → InRange (reading_of r)
 in_range r = record {
+  regs = λ p n. mod_below _ (2 ^ 32) (pow_pos 32);
+  flags = λ p f. mod_below _ 2 (omega arith);
+  mem = λ p a. xor_of_8 _ _ (mod_below _ 256 (omega arith)) (mod_below _ 256 (omega arith));
+  choice = λ i. mod_below _ 4 (omega arith);
+  base = λ p j. mod_below _ 256 (omega arith);
+}
+
+pub parts_in_range : (x : Parts) → InRange (reading_of_parts x)
+parts_in_range x = record {
   regs = λ p n. mod_below _ (2 ^ 32) (pow_pos 32);
   flags = λ p f. mod_below _ 2 (omega arith);
   mem = λ p a. xor_of_8 _ _ (mod_below _ 256 (omega arith)) (mod_below _ 256 (omega arith));

@@ -3,12 +3,12 @@
 ghost use Rattle.std.specs.Prelude.{◌≡◌, ℕ, ◌<◌, ◌≤◌, ◌^◌, ◌⊎◌, List, [], length, IfNone, IfSome, IfOk, MatchResult};
 ghost use Rattle.term_spec.specs.Terms.{ConstantNode, TermNode, TermReading, node_at, term_value, term_word, width_of, HasWidth, IsTypedOver, AreTyped};
 ghost use Rattle.term_dag.specs.Nodes.{node_of, nodes_of};
-ghost use Rattle.term_dag.specs.Readings.{AreWords, reading_of};
+ghost use Rattle.term_dag.specs.Readings.{AreWords, reading_of, reading_of_parts};
 ghost use Rattle.term_dag.specs.Made.{AreDistinct, Grew, IsInterned, IsMade, Separates};
 
 use crate::folds::{Folded, fold, look, width_of_node};
-use crate::values::{byte, words_of};
-use crate::{Node, Op, Reading, Term, conditions};
+use crate::values::{byte, one_part, words_of};
+use crate::{Node, Op, Parts, Reading, Term, conditions};
 use indexmap::IndexSet;
 use std::alloc::{AllocError, Global};
 use std::marker::Model;
@@ -102,7 +102,15 @@ impl Dag {
     pub fn values(&self, alloc: Global, reading: &Reading) -> Result<Vec<u64>, AllocError>
         ensures { IfOk result (λ ws. AreWords (reading_of reading.now) self.now ws.items) }
     {
-        let words = words_of(alloc, self.nodes.as_slice(), reading)?;
+        let words = words_of(alloc, self.nodes.as_slice(), &one_part(reading))?;
+        Ok(words)
+    }
+
+    /// The words of all terms under readings of parts, by their places; those of memories are 0. The error is want of memory.
+    pub fn values_of_parts(&self, alloc: Global, parts: &Parts) -> Result<Vec<u64>, AllocError>
+        ensures { IfOk result (λ ws. AreWords (reading_of_parts parts.now) self.now ws.items) }
+    {
+        let words = words_of(alloc, self.nodes.as_slice(), parts)?;
         Ok(words)
     }
 
@@ -111,7 +119,7 @@ impl Dag {
         requires { term.0 < length self.now }
         ensures { IfOk result (λ n. n ≡ term_word (reading_of reading.now) self.now term.0) }
     {
-        let words = words_of(alloc, self.nodes.as_slice(), reading)?;
+        let words = words_of(alloc, self.nodes.as_slice(), &one_part(reading))?;
         Ok(words[term.0 as usize])
     }
 
@@ -121,7 +129,13 @@ impl Dag {
         requires within { term.0 < length self.now }
         ensures { result ≡ (term_value (reading_of reading.now) self.now term.0).bytes address }
     {
-        byte(self.nodes.as_slice(), words, reading, term, address)
+        byte(
+            self.nodes.as_slice(),
+            words,
+            &one_part(reading),
+            term,
+            address,
+        )
     }
 
     /// The place of a node as it is, which is added where it is not there: nothing is folded. The error is out of memory, or of numbers for terms; then the

@@ -13,4 +13,4 @@ mod values;
 
 pub use dag::Dag;
 pub use nodes::{Node, Op, Term};
-pub use values::Reading;
+pub use values::{Parts, Reading};

@@ -7,7 +7,7 @@ ghost use Rattle.word_spec.specs.Memory.{endian};
 ghost use Rattle.term_spec.specs.Terms.{TermNode, term_value, term_word, HasWidth, IsBytes, IsTypedOver, AreTyped};
 ghost use Rattle.term_dag.specs.Nodes.{IsWordInput, node_of, nodes_of};
 ghost use Rattle.term_dag.specs.Folds.{value_over};
-ghost use Rattle.term_dag.specs.Readings.{AreWords, reading_of};
+ghost use Rattle.term_dag.specs.Readings.{AreWords, part_in, reading_of, reading_of_parts};
 
 use crate::folds::{apply, look, width_of_node};
 use crate::{Node, Term};
@@ -32,6 +32,39 @@ pub struct Reading {
     pub base: Vec<u8>,
 }
 
+/// What terms are read under where their parts differ: the first part, and those from 1 on, in their order. A part that is not listed is as the first; the choices
+/// are the first's.
+#[derive(Clone, Copy)]
+pub struct Parts<'a> {
+    pub first: &'a Reading,
+    pub others: &'a [Reading],
+}
+
+/// A reading whose parts are all the same.
+pub fn one_part(reading: &Reading) -> Parts<'_>
+    ensures { reading_of_parts result ≡ reading_of reading.now }
+{
+    Parts {
+        first: reading,
+        others: &[],
+    }
+}
+
+/// What a part is read as.
+fn part<'a>(parts: &Parts<'a>, number: u32) -> &'a Reading
+    ensures { result.now ≡ part_in parts.now.first.now parts.now.others.now number }
+{
+    if number == 0 {
+        return parts.first;
+    }
+    let place = number as usize - 1;
+    if place < parts.others.len() {
+        &parts.others[place]
+    } else {
+        parts.first
+    }
+}
+
 /// A register of a list, 0 behind it.
 fn register(registers: &[u32], number: u8) -> u64
     ensures { result ≡ slice_index registers.now number }
@@ -54,9 +87,9 @@ fn small(bytes: &[u8], place: u32) -> u64
     }
 }
 
-/// The byte at an address of the memory of each part.
+/// The byte at an address of a memory.
 fn memory_byte(reading: &Reading, address: u32) -> u8
-    ensures { (part : ℕ) → result ≡ (reading_of reading.now).mem part address }
+    ensures { result ≡ (reading_of reading.now).mem 0 address }
 {
     reading.fill ^ reading.memory.load(address, 1, Endian::Little).bits as u8
 }
@@ -73,16 +106,16 @@ fn stored_byte(number: u64, bytes: u8, big: bool, place: u8) -> u8
 }
 
 /// The byte at an address of a memory; 0 of a word.
-pub fn byte(nodes: &[Node], words: &[u64], reading: &Reading, term: Term, address: u32) -> u8
+pub fn byte(nodes: &[Node], words: &[u64], parts: &Parts, term: Term, address: u32) -> u8
     requires typed { AreTyped (nodes_of nodes.now) }
-    requires words { AreWords (reading_of reading.now) (nodes_of nodes.now) words.now }
+    requires words { AreWords (reading_of_parts parts.now) (nodes_of nodes.now) words.now }
     requires within { term.0 < length (nodes_of nodes.now) }
-    ensures { result ≡ (term_value (reading_of reading.now) (nodes_of nodes.now) term.0).bytes address }
+    ensures { result ≡ (term_value (reading_of_parts parts.now) (nodes_of nodes.now) term.0).bytes address }
 {
     let mut at = term;
     loop {
         match look(nodes, at) {
-            Node::Memory(_) => return memory_byte(reading, address),
+            Node::Memory(of) => return memory_byte(part(parts, of), address),
             Node::Store {
                 bytes,
                 big,
@@ -117,22 +150,22 @@ pub fn byte(nodes: &[Node], words: &[u64], reading: &Reading, term: Term, addres
 fn lowest_first(
     nodes: &[Node],
     words: &[u64],
-    reading: &Reading,
+    parts: &Parts,
     term: Term,
     first: u32,
     count: u8,
 ) -> u64
     requires typed { AreTyped (nodes_of nodes.now) }
-    requires words { AreWords (reading_of reading.now) (nodes_of nodes.now) words.now }
+    requires words { AreWords (reading_of_parts parts.now) (nodes_of nodes.now) words.now }
     requires within { term.0 < length (nodes_of nodes.now) }
     requires few { count ≤ 8 }
-    ensures number { result ≡ memory.little count (λ i. (term_value (reading_of reading.now) (nodes_of nodes.now) term.0).bytes (add 32 first i)) }
+    ensures number { result ≡ memory.little count (λ i. (term_value (reading_of_parts parts.now) (nodes_of nodes.now) term.0).bytes (add 32 first i)) }
     ensures below { result < 256 ^ count }
 {
     let mut number = 0u64;
     for i in (0..count).rev() {
         number = number * 256
-            + byte(nodes, words, reading, term, first.wrapping_add(i as u32)) as u64;
+            + byte(nodes, words, parts, term, first.wrapping_add(i as u32)) as u64;
     }
     number
 }
@@ -142,47 +175,48 @@ fn lowest_first(
 fn highest_first(
     nodes: &[Node],
     words: &[u64],
-    reading: &Reading,
+    parts: &Parts,
     term: Term,
     first: u32,
     count: u8,
 ) -> u64
     requires typed { AreTyped (nodes_of nodes.now) }
-    requires words { AreWords (reading_of reading.now) (nodes_of nodes.now) words.now }
+    requires words { AreWords (reading_of_parts parts.now) (nodes_of nodes.now) words.now }
     requires within { term.0 < length (nodes_of nodes.now) }
     requires few { count ≤ 8 }
-    ensures number { result ≡ memory.big count (λ i. (term_value (reading_of reading.now) (nodes_of nodes.now) term.0).bytes (add 32 first i)) }
+    ensures number { result ≡ memory.big count (λ i. (term_value (reading_of_parts parts.now) (nodes_of nodes.now) term.0).bytes (add 32 first i)) }
     ensures below { result < 256 ^ count }
 {
     let mut number = 0u64;
     for i in 0..count {
         number = number * 256
-            + byte(nodes, words, reading, term, first.wrapping_add(i as u32)) as u64;
+            + byte(nodes, words, parts, term, first.wrapping_add(i as u32)) as u64;
     }
     number
 }
 
 /// The word of a term.
-fn operand(nodes: &[Node], words: &[u64], reading: &Reading, width: u8, term: Term) -> u64
+fn operand(nodes: &[Node], words: &[u64], parts: &Parts, width: u8, term: Term) -> u64
     requires typed { AreTyped (nodes_of nodes.now) }
-    requires words { AreWords (reading_of reading.now) (nodes_of nodes.now) words.now }
+    requires words { AreWords (reading_of_parts parts.now) (nodes_of nodes.now) words.now }
     requires place { HasWidth (nodes_of nodes.now) width term.0 }
-    ensures value { result ≡ term_word (reading_of reading.now) (nodes_of nodes.now) term.0 }
+    ensures value { result ≡ term_word (reading_of_parts parts.now) (nodes_of nodes.now) term.0 }
     ensures below { result < 2 ^ width }
 {
     words[term.0 as usize]
 }
 
 /// The word of an input.
-fn input(reading: &Reading, node: Node) -> u64
+fn input(parts: &Parts, node: Node) -> u64
     requires { IsWordInput (node_of node) }
-    ensures { (nodes : List TermNode) → result ≡ (value_over nodes (node_of node) (reading_of reading.now)).word }
+    ensures { (nodes : List TermNode) → result ≡ (value_over nodes (node_of node) (reading_of_parts parts.now)).word }
 {
     match node {
-        Node::Register { number, .. } => register(&reading.registers, number) % 4294967296,
-        Node::Flag { number, .. } => small(&reading.flags, number as u32) % 2,
-        Node::Choice(place) => small(&reading.choices, place) % 4,
-        Node::Base { read, .. } => small(&reading.base, read) % 256,
+        Node::Register { part: of, number } => register(&part(parts, of).registers, number)
+            % 4294967296,
+        Node::Flag { part: of, number } => small(&part(parts, of).flags, number as u32) % 2,
+        Node::Choice(place) => small(&parts.first.choices, place) % 4,
+        Node::Base { part: of, read } => small(&part(parts, of).base, read) % 256,
         _ => unreachable!(),
     }
 }
@@ -191,40 +225,40 @@ fn input(reading: &Reading, node: Node) -> u64
 fn loaded(
     nodes: &[Node],
     words: &[u64],
-    reading: &Reading,
+    parts: &Parts,
     bytes: u8,
     big: bool,
     from: Term,
     address: Term,
 ) -> u64
     requires typed { AreTyped (nodes_of nodes.now) }
-    requires words { AreWords (reading_of reading.now) (nodes_of nodes.now) words.now }
+    requires words { AreWords (reading_of_parts parts.now) (nodes_of nodes.now) words.now }
     requires some { IsBytes bytes }
     requires from { HasWidth (nodes_of nodes.now) 0 from.0 }
     requires address { HasWidth (nodes_of nodes.now) 32 address.0 }
-    ensures { result ≡ memory.load (endian big) bytes (term_value (reading_of reading.now) (nodes_of nodes.now) from.0).bytes
-        (term_word (reading_of reading.now) (nodes_of nodes.now) address.0) }
+    ensures { result ≡ memory.load (endian big) bytes (term_value (reading_of_parts parts.now) (nodes_of nodes.now) from.0).bytes
+        (term_word (reading_of_parts parts.now) (nodes_of nodes.now) address.0) }
 {
-    let first = operand(nodes, words, reading, 32, address) as u32;
+    let first = operand(nodes, words, parts, 32, address) as u32;
     if big {
-        highest_first(nodes, words, reading, from, first, bytes)
+        highest_first(nodes, words, parts, from, first, bytes)
     } else {
-        lowest_first(nodes, words, reading, from, first, bytes)
+        lowest_first(nodes, words, parts, from, first, bytes)
     }
 }
 
 /// The word of a node over terms whose words are given; 0 of a memory.
-fn word_of(nodes: &[Node], words: &[u64], reading: &Reading, node: Node) -> u64
+fn word_of(nodes: &[Node], words: &[u64], parts: &Parts, node: Node) -> u64
     requires typed { AreTyped (nodes_of nodes.now) }
-    requires words { AreWords (reading_of reading.now) (nodes_of nodes.now) words.now }
+    requires words { AreWords (reading_of_parts parts.now) (nodes_of nodes.now) words.now }
     requires over { IsTypedOver (nodes_of nodes.now) (node_of node) }
-    ensures { result ≡ (value_over (nodes_of nodes.now) (node_of node) (reading_of reading.now)).word }
+    ensures { result ≡ (value_over (nodes_of nodes.now) (node_of node) (reading_of_parts parts.now)).word }
 {
     match node {
-        Node::Register { .. } => input(reading, node),
-        Node::Flag { .. } => input(reading, node),
-        Node::Choice(_) => input(reading, node),
-        Node::Base { .. } => input(reading, node),
+        Node::Register { .. } => input(parts, node),
+        Node::Flag { .. } => input(parts, node),
+        Node::Choice(_) => input(parts, node),
+        Node::Base { .. } => input(parts, node),
         Node::Memory(_) => 0,
         Node::Store { .. } => 0,
         Node::Join { .. } => 0,
@@ -235,12 +269,12 @@ fn word_of(nodes: &[Node], words: &[u64], reading: &Reading, node: Node) -> u64
             left,
             right,
         } => {
-            let left = operand(nodes, words, reading, width, left);
-            let right = operand(nodes, words, reading, width, right);
+            let left = operand(nodes, words, parts, width, left);
+            let right = operand(nodes, words, parts, width, right);
             apply(op, width, left, right)
         }
         Node::Not { width, term } => {
-            let word = operand(nodes, words, reading, width, term);
+            let word = operand(nodes, words, parts, width, term);
             Word::new(width, word).not().bits
         }
         Node::Select {
@@ -249,15 +283,15 @@ fn word_of(nodes: &[Node], words: &[u64], reading: &Reading, node: Node) -> u64
             when_true,
             when_false,
         } => {
-            if operand(nodes, words, reading, 1, condition) > 0 {
-                operand(nodes, words, reading, width, when_true)
+            if operand(nodes, words, parts, 1, condition) > 0 {
+                operand(nodes, words, parts, width, when_true)
             } else {
-                operand(nodes, words, reading, width, when_false)
+                operand(nodes, words, parts, width, when_false)
             }
         }
         Node::Extract { hi, lo, term } => {
             let width = width_of_node(nodes, look(nodes, term));
-            let word = operand(nodes, words, reading, width, term);
+            let word = operand(nodes, words, parts, width, term);
             Word::new(width, word).extract(hi, lo).bits
         }
         Node::Concat {
@@ -266,8 +300,8 @@ fn word_of(nodes: &[Node], words: &[u64], reading: &Reading, node: Node) -> u64
             upper,
             lower,
         } => {
-            let upper = operand(nodes, words, reading, high, upper);
-            let lower = operand(nodes, words, reading, low, lower);
+            let upper = operand(nodes, words, parts, high, upper);
+            let lower = operand(nodes, words, parts, low, lower);
             Word::new(high, upper).concat(Word::new(low, lower)).bits
         }
         Node::Extend {
@@ -276,7 +310,7 @@ fn word_of(nodes: &[Node], words: &[u64], reading: &Reading, node: Node) -> u64
             to,
             term,
         } => {
-            let word = operand(nodes, words, reading, from, term);
+            let word = operand(nodes, words, parts, from, term);
             if signed {
                 Word::new(from, word).signed(to).bits
             } else {
@@ -288,18 +322,18 @@ fn word_of(nodes: &[Node], words: &[u64], reading: &Reading, node: Node) -> u64
             big,
             memory,
             address,
-        } => loaded(nodes, words, reading, bytes, big, memory, address),
+        } => loaded(nodes, words, parts, bytes, big, memory, address),
     }
 }
 
 /// The words of nodes, each over those before it. The error is want of memory.
-pub fn words_of(alloc: Global, nodes: &[Node], reading: &Reading) -> Result<Vec<u64>, AllocError>
+pub fn words_of(alloc: Global, nodes: &[Node], parts: &Parts) -> Result<Vec<u64>, AllocError>
     requires { AreTyped (nodes_of nodes.now) }
-    ensures { IfOk result (λ ws. AreWords (reading_of reading.now) (nodes_of nodes.now) ws.items) }
+    ensures { IfOk result (λ ws. AreWords (reading_of_parts parts.now) (nodes_of nodes.now) ws.items) }
 {
     let mut words = Vec::with_capacity(alloc, nodes.len())?;
     for i in 0..nodes.len() {
-        let word = word_of(&nodes[..i], &words, reading, nodes[i]);
+        let word = word_of(&nodes[..i], &words, parts, nodes[i]);
         words.push(word)?;
     }
     Ok(words)

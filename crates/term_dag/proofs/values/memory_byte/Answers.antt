@@ -3,7 +3,7 @@ use Rattle.word_spec.specs.Memory.{byte_in}
 use Rattle.term_dag.proofs.values.memory_byte.Goals as goal
 
 pub returns : goal.returns
-returns c part =
+returns c =
     let r = c.args.reading.now in
     let a = c.args.address in
     let same : (a + 0) % 2 ^ 32 % 2 ^ 32 ≡ a % 2 ^ 32 = omega arith in

@@ -1,6 +1,6 @@
 use Rattle.std.proofs.Common.{arith}
-use Rattle.term_dag.specs.Readings.{reading_of}
-use Rattle.term_dag.proofs.Bytes.{in_range}
+use Rattle.term_dag.specs.Readings.{reading_of_parts}
+use Rattle.term_dag.proofs.Bytes.{parts_in_range}
 use Rattle.term_dag.proofs.Ranges.{word_fits}
 use Rattle.term_dag.proofs.values.operand.Goals as goal
 
@@ -12,5 +12,5 @@ returns-clause-value c = c.requires.words.each c.args.term.0 c.requires.place.0
 
 pub returns-clause-below : goal.returns-clause-below
 returns-clause-below c =
-    let f = word_fits (reading_of c.args.reading.now) _ c.args.width c.args.term.0 (in_range c.args.reading.now) c.requires.typed c.requires.place in
+    let f = word_fits (reading_of_parts c.args.parts.now) _ c.args.width c.args.term.0 (parts_in_range c.args.parts.now) c.requires.typed c.requires.place in
     omega (arith, f, c.requires.words.each c.args.term.0 c.requires.place.0)
