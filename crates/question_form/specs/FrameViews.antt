@@ -143,6 +143,7 @@ is_headless aim = Unit {0}
 -- The value is that of a program: it has no invariants, and no root but the entry's.
 pub record IsHeadless (u : Unrolled) : Type 0 where
   pub invariants : u.invariants.now ≡ []
+  pub heads : u.heads ≡ false
   pub roots : u.roots.items ≡ no_root ∷ []
   pub deeds : (q : Point) → Contains u.points.items q → q.deed ≡ deeds.Row
   pub edges : (e : Edge) → Contains u.edges.items e → is_headless e.aim

@@ -6,7 +6,8 @@ use Rattle.walk_spec.specs.Unrolled.{UnrolledProgram}
 use Rattle.term_spec.specs.WalkQuestions.{QuestionTerm}
 use Rattle.question_form.specs.declared.questions.Passive.{Passive}
 use Rattle.question_form.specs.declared.questions.Question.{Question}
-use Rattle.question_form.specs.Views.{kind_of, unrolled_of}
+use Rattle.question_form.specs.Asked.{program_question}
+use Rattle.question_form.specs.Views.{unrolled_of}
 
 -- a passive program
 abbrev pub passive_of : Passive → walk.Passive
@@ -22,4 +23,4 @@ term_of q = record { nodes = q.dag; root = q.root.0 }
 
 -- which question it is
 abbrev pub question_of : Question → questions.Question
-question_of q = kind_of q.kind
+question_of q = program_question q.asked

@@ -99,6 +99,8 @@ pub struct Unrolled<'a> {
     pub notes: &'a Notes,
     /// The numbers of the lines that are invariants, rising.
     pub invariants: &'a [u32],
+    /// There is a head: an invariant is at some address.
+    pub heads: bool,
     /// The address and the place of each assert line, by rising addresses, and of one address in their order.
     pub asserts: Vec<(u32, usize)>,
     /// The runs of kept addresses, rising, both ends included.
