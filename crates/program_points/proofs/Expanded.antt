@@ -1,7 +1,8 @@
 -- The points at the ends of a point are added.
-use Rattle.std.proofs.Common.{◌≡◌, ℕ, Bool, ◌≤◌, ap, sym, ◌∙◌, subst, arith, List, length, Option, Some, None, Result, Ok, Err}
+use Rattle.std.proofs.Common.{◌≡◌, inl, inr, ℕ, Bool, ◌+◌, ◌≤◌, ap, sym, ◌∙◌, subst, arith, List, [], ◌∷◌, ◌++◌, length, Option, Some, None, Result, Ok, Err}
 use Rattle.std.specs.declared.alloc.AllocError.{AllocError}
-use Rattle.std.specs.Prelude.{Contains}
+use Rattle.std.specs.Prelude.{◌⊎◌, Contains}
+use Rattle.std.proofs.Math.ListN.{length-append}
 use Rattle.std.specs.BTreeMap.{BTreeMap}
 use Rattle.std.specs.BTreeSet.{BTreeSet}
 use Rattle.word_spec.specs.Words.{add}
@@ -11,7 +12,7 @@ use Rattle.program_points.specs.declared.values.Frame.{Frame}
 use Rattle.program_points.specs.declared.values.FramePoint.{FramePoint}
 use Rattle.program_points.specs.declared.values.Root.{Root}
 use Rattle.program_points.specs.declared.values.End.{End}
-use Rattle.program_points.specs.Tables.{frame_at, end, ends_of, entry_point, head_point, listed, return_end, is_root_within, Key, IsTable, IsListed, IsWithin, IsCalled, AreAdded}
+use Rattle.program_points.specs.Tables.{frame, frame_at, end, ends_of, entry_point, head_point, listed, return_end, is_root_within, Key, IsTable, IsListed, IsWithin, IsCalled, AreAdded}
 use Rattle.program_points.specs.Walks.{IsStep, nowhere, stops, returns, somewhere}
 use Rattle.program_points.proofs.Lists.{longer}
 use Rattle.program_points.proofs.Ended.{end_low}
@@ -62,6 +63,24 @@ module _ (target : End → FramePoint) (k max : ℕ) (point : FramePoint) (old f
       (r.0, subst (λ (y : List End). AreAdded target k max y old found) e r.1)
 
 -- no point is lost
+called_few : (old rest frames : List Frame) (top below : ℕ) → frames ≡ old ++ rest → (rest ≡ []) ⊎ (rest ≡ frame top below ∷ []) →
+    length frames ≤ length old + 1
+called_few old rest frames top below begins only =
+    let a = ap length begins in
+    let b = length-append old rest in
+    elim only as (λ _. length frames ≤ length old + 1) [
+      | inl e ↦ (let c = ap length e in omega arith)
+      | inr e ↦ (let c = ap length e in omega arith)
+    ]
+
+pub step_few : (g : Graph) (heads stepped : List ℕ) (k max : ℕ) (point : FramePoint) (old_frames frames : List Frame) (old found : List FramePoint) →
+    IsStep g heads stepped k max point old_frames frames old found → length frames ≤ length old_frames + 1
+step_few g heads stepped k max point old_frames frames old found (nowhere none row f e) = (let l = ap length f in omega arith)
+step_few g heads stepped k max point old_frames frames old found (stops cut row f e) = (let l = ap length f in omega arith)
+step_few g heads stepped k max point old_frames frames old found (returns step f added) = (let l = ap length f in omega arith)
+step_few g heads stepped k max point old_frames frames old found (somewhere node called uncut row here there more none added) =
+    called_few old_frames more.rest frames (add 32 node.at node.length) point.stack more.begins more.only
+
 pub step_longer : (g : Graph) (heads stepped : List ℕ) (k max : ℕ) (point : FramePoint) (old_frames frames : List Frame) (old found : List FramePoint) →
     IsStep g heads stepped k max point old_frames frames old found → length old ≤ length found
 step_longer g heads stepped k max point old_frames frames old found (nowhere none row f e) = (let l = ap length e in omega arith)

@@ -7,7 +7,7 @@ ghost use Rattle.program_points.specs.declared.values.Point.{Point};
 ghost use Rattle.program_points.specs.declared.values.FramePoint.{FramePoint};
 ghost use Rattle.program_points.specs.Listed.{AreCuts, AreFramePointsOf, ArePointsOf, HasOneWay, HasTooMany, IsTooMany, plain_of};
 ghost use Rattle.program_points.specs.Tables as tables;
-ghost use Rattle.program_points.specs.Tables.{IsTable, IsListed, AreAdded, frame_at, listed, return_end};
+ghost use Rattle.program_points.specs.Tables.{IsTable, IsListed, AreAdded, frame_at, is_root_within, listed, return_end};
 ghost use Rattle.program_points.specs.Walks.{AreFirst, IsStep};
 
 use crate::adding::{Found, Limits, add, add_ends, head_point};
@@ -148,6 +148,9 @@ pub fn frame_points(
     ensures few { IfOk result (λ v. length v.points.items ≤ max) }
     ensures table { IfOk result (λ v. IsTable v.stacks.frames.items v.stacks.numbers) }
     ensures numbered { IfOk result (λ v. (q : FramePoint) → Contains v.points.items q → q.stack ≤ length v.stacks.frames.items) }
+    ensures low { IfOk result (λ v. (q : FramePoint) → Contains v.points.items q → q.turns ≤ k) }
+    ensures rooted { IfOk result (λ v. (q : FramePoint) → Contains v.points.items q → is_root_within (length v.stacks.frames.items) q.root) }
+    ensures few_stacks { IfOk result (λ v. length v.stacks.frames.items ≤ max) }
     ensures more { (f : frames.Frame) → IsGraph f.program graph.now → f.program.entry ≡ entry → HasOneWay f.program →
         AreCuts f cuts.now.heads.now cuts.now.stepped.now → IfErr result (HasTooMany f k max) }
 {

@@ -1,6 +1,7 @@
 -- Edges that are added one by one, and calls.
-use Rattle.std.proofs.Common.{◌≡◌, inl, inr, refl, ap, sym, ◌∙◌, subst, arith, ℕ, zero, suc, ◌+◌, ◌/◌, ◌%◌, ◌<◌, ◌≤◌, Bool, true, false, Option, Some, List, [], ◌∷◌, ◌++◌, length, get_or, take, drop, map}
-use Rattle.std.specs.Prelude.{Contains, ◌↔◌, ◌||◌}
+use Rattle.std.proofs.Common.{◌≡◌, inl, inr, refl, ap, sym, ◌∙◌, subst, arith, ℕ, zero, suc, ◌+◌, ◌<◌, ◌≤◌, Bool, true, false, Option, Some, List, [], ◌∷◌, ◌++◌, length, get_or, take, drop, map}
+use Rattle.std.specs.Prelude.{Contains, ◌↔◌, ◌⊎◌, ◌||◌}
+use Rattle.std.proofs.Math.ListN.{length-append}
 use Rattle.std.specs.List.{AllZip}
 use Rattle.std.specs.List.Sorted.{IsStrictlyIncreasing}
 use Rattle.std.proofs.lemmas.List.{take_more}
@@ -11,12 +12,12 @@ use Rattle.graph_nodes.specs.declared.nodes.Node.{Node}
 use Rattle.graph_nodes.specs.declared.nodes.Graph.{Graph}
 use Rattle.program_points.specs.declared.values.Frame.{Frame}
 use Rattle.program_points.specs.declared.values.End.{End}
-use Rattle.program_points.specs.declared.values.Point.{Point}
+use Rattle.program_points.specs.declared.values.FramePoint.{FramePoint}
 use Rattle.program_points.specs.Tables.{frame, frame_at, jumps_of, listed, IsCalled}
 use Rattle.program_points.proofs.Lists.{regroup, take_whole, keeps, or_left, or_last, grown as push_length, nothing_more}
 use Rattle.question_form.specs.declared.unrolled.Edge.{Edge}
 use Rattle.unroller.specs.Keys.{address_of, stack_of, target_key}
-use Rattle.unroller.specs.Led.{is_same, is_among, is_both, next_of, exits_by, IsLedTo, AreAddedTo, HasLed, IsCalledBy, AreCalled}
+use Rattle.unroller.specs.Led.{is_same, is_among, is_both, next_of, exits_by, IsLedTo, AreAddedTo, HasLed, IsCalledBy, AreCalled, AreLeft}
 
 map_append : {X Y : Type 0} (f : X → Y) (us vs : List X) → map f (us ++ vs) ≡ map f us ++ map f vs
 map_append f [] vs = refl
@@ -59,24 +60,44 @@ zip_more R [] (b ∷ ys) x y h r = absurd h
 zip_more R (a ∷ xs) [] x y h r = absurd h
 zip_more R (a ∷ xs) (b ∷ ys) x y h r = (h.0, zip_more R xs ys x y h.1 r)
 
-pub added_none : (keys : List ℕ) (next : Option End) (both : Bool) (targets : List ℕ) (old : List Edge) → AreAddedTo keys next both (take 0 targets) old old
-added_none keys next both [] old = ([], nothing_more old, tt)
-added_none keys next both (t ∷ targets) old = ([], nothing_more old, tt)
+pub added_none : (heads : List ℕ) (asserts : List (ℕ × ℕ)) (keys : List ℕ) (next : Option End) (both : Bool) (targets : List ℕ) (old : List Edge) →
+    AreAddedTo heads asserts keys next both (take 0 targets) old old
+added_none heads asserts keys next both [] old = ([], nothing_more old, tt)
+added_none heads asserts keys next both (t ∷ targets) old = ([], nothing_more old, tt)
 
-pub added_more : (keys : List ℕ) (next : Option End) (both : Bool) (targets : List ℕ) (i : ℕ) (old new newer : List Edge) (e : Edge) → i < length targets
-    → IsLedTo keys next both (get_or targets i 0) e → AreAddedTo keys next both (take i targets) old new → newer ≡ new ++ e ∷ [] →
-    AreAddedTo keys next both (take (i + 1) targets) old newer
-added_more keys next both targets i old new newer e w led so more = (
+pub added_more : (heads : List ℕ) (asserts : List (ℕ × ℕ)) (keys : List ℕ) (next : Option End) (both : Bool) (targets : List ℕ) (i : ℕ) (old new newer :
+    List Edge) (e : Edge) → i < length targets
+    → IsLedTo heads asserts keys next both (get_or targets i 0) e → AreAddedTo heads asserts keys next both (take i targets) old new → newer ≡ new ++ e ∷ [] →
+    AreAddedTo heads asserts keys next both (take (i + 1) targets) old newer
+added_more heads asserts keys next both targets i old new newer e w led so more = (
   so.0 ++ e ∷ [],
   more ∙ ap (λ (l : List Edge). l ++ e ∷ []) so.1 ∙ regroup old so.0 (e ∷ []),
-  subst (λ (l : List ℕ). AllZip (IsLedTo keys next both) l (so.0 ++ e
-      ∷ [])) (sym (take_more targets i 0 w)) (zip_more (IsLedTo keys next both) (take i targets) so.0 (get_or targets i 0) e so.2 led),
+  subst (λ (l : List ℕ). AllZip (IsLedTo heads asserts keys next both) l (so.0 ++ e
+      ∷ [])) (sym (take_more targets i 0 w)) (zip_more (IsLedTo heads asserts keys next both) (take i targets) so.0 (get_or targets i 0) e so.2 led),
 )
 
-pub added_all : (keys : List ℕ) (next : Option End) (both : Bool) (targets : List ℕ) (i : ℕ) (old new : List Edge) → length targets ≤ i →
-    AreAddedTo keys next both (take i targets) old new
-    → AreAddedTo keys next both targets old new
-added_all keys next both targets i old new le so = subst (λ (l : List ℕ). AreAddedTo keys next both l old new) (take_whole targets i le) so
+pub added_all : (heads : List ℕ) (asserts : List (ℕ × ℕ)) (keys : List ℕ) (next : Option End) (both : Bool) (targets : List ℕ) (i : ℕ) (old new : List
+    Edge) → length targets ≤ i →
+    AreAddedTo heads asserts keys next both (take i targets) old new
+    → AreAddedTo heads asserts keys next both targets old new
+added_all heads asserts keys next both targets i old new le so = subst (λ (l : List ℕ). AreAddedTo heads asserts keys next both l old new) (take_whole
+    targets i le) so
+
+-- one frame more at most
+pub pushed_few : (old rest : List Frame) (f : Frame) (n : ℕ) → length old ≤ n → (rest ≡ []) ⊎ (rest ≡ f ∷ []) → length (old ++ rest) ≤ n + 1
+pushed_few old rest f n le only =
+    let b = length-append old rest in
+    elim only as (λ _. length (old ++ rest) ≤ n + 1) [
+      | inl e ↦ (let c = ap length e in omega arith)
+      | inr e ↦ (let c = ap length e in omega arith)
+    ]
+
+-- the edges that are added at a node, where the segment does not end
+pub left_on : (arrival : Bool) (g : Graph) (heads : List ℕ) (asserts : List (ℕ × ℕ)) (frames : List Frame) (keys : List ℕ) (key called : ℕ) (n : Node)
+    (old new : List Edge) → arrival ≡ false → Contains g.nodes.items n → n.at ≡ address_of key →
+    HasLed heads asserts g.narrow n frames keys key called old new → AreLeft arrival g heads asserts frames keys key called old new
+left_on true g heads asserts frames keys key called n old new e among at led = absurd (cc)
+left_on false g heads asserts frames keys key called n old new e among at led = (led.0, led.1, (n, among, at, led.2))
 
 frame_keeps : (frames rest : List Frame) (n : ℕ) (f : Frame) → frame_at frames n ≡ Some f → frame_at (frames ++ rest) n ≡ Some f
 frame_keeps frames rest zero f e = absurd (cc)
@@ -121,15 +142,16 @@ called_more g keys frames grown i found more n number are is among at called =
     grown_by = push_length found more number is
 
 -- the edges of a point, from those to its targets and the one out of the function
-pub led_all : (narrow : Bool) (n : Node) (frames : List Frame) (keys : List ℕ) (own called : ℕ) (jumps : List End) (next : Option End) (both : Bool) (targets : List ℕ)
+pub led_all : (heads : List ℕ) (asserts : List (ℕ × ℕ)) (narrow : Bool) (n : Node) (frames : List Frame) (keys : List ℕ) (own called : ℕ) (jumps : List
+    End) (next : Option End) (both : Bool) (targets : List ℕ)
     (old mid new : List Edge)
     → jumps ≡ jumps_of narrow n (frame_at frames (stack_of own)) (stack_of own) called → next ≡ next_of n (stack_of own) → both ≡ is_both jumps next →
     IsStrictlyIncreasing targets
     → ((x : ℕ) → Contains (map (target_key own) (jumps ++ listed next)) x ↔ Contains targets x) →
-    ((e : End) → Contains jumps e → (e.at < 4294967296) × (e.stack < 18446744073709551616)) → mid ≡ old ++ exits_by n.returns (stack_of own) →
-    AreAddedTo keys next both targets mid new
-    → HasLed narrow n frames keys own called old new
-led_all narrow n frames keys own called jumps next both targets old mid new e f g rise same small exit so = (
+    ((e : End) → Contains jumps e → e.at < 4294967296) → mid ≡ old ++ exits_by n.returns (stack_of own) →
+    AreAddedTo heads asserts keys next both targets mid new
+    → HasLed heads asserts narrow n frames keys own called old new
+led_all heads asserts narrow n frames keys own called jumps next both targets old mid new e f g rise same small exit so = (
   exits_by n.returns (stack_of own) ++ so.0,
   so.1 ∙ ap (λ (l : List Edge). l ++ so.0) exit ∙ regroup old (exits_by n.returns (stack_of own)) so.0,
   record {
@@ -138,13 +160,13 @@ led_all narrow n frames keys own called jumps next both targets old mid new e f 
     same =
         subst (λ (l : List End). (x : ℕ) → Contains (map (target_key own) (l ++ listed (next_of n (stack_of own)))) x ↔ Contains targets x) e
         (subst (λ (o : Option End). (x : ℕ) → Contains (map (target_key own) (jumps ++ listed o)) x ↔ Contains targets x) f same);
-    small = subst (λ (l : List End). (z : End) → Contains l z → (z.at < 4294967296) × (z.stack < 18446744073709551616)) e small;
+    small = subst (λ (l : List End). (z : End) → Contains l z → z.at < 4294967296) e small;
     rest = so.0;
     is = refl;
     each =
-        subst (λ (l : List End). AllZip (IsLedTo keys (next_of n (stack_of own)) (is_both l (next_of n (stack_of own)))) targets so.0) e
-        (subst (λ (o : Option End). AllZip (IsLedTo keys o (is_both jumps o)) targets so.0) f (subst
-        (λ (b : Bool). AllZip (IsLedTo keys next b) targets so.0) g so.2));
+        subst (λ (l : List End). AllZip (IsLedTo heads asserts keys (next_of n (stack_of own)) (is_both l (next_of n (stack_of own)))) targets so.0) e
+        (subst (λ (o : Option End). AllZip (IsLedTo heads asserts keys o (is_both jumps o)) targets so.0) f (subst
+        (λ (b : Bool). AllZip (IsLedTo heads asserts keys next b) targets so.0) g so.2));
   },
 )
 
@@ -152,38 +174,28 @@ pub take_none : {X : Type 0} (xs : List X) → take 0 xs ≡ []
 take_none [] = refl
 take_none (x ∷ xs) = refl
 
--- one more end has an address and a stack in range, since its number says them
-pub small_more : (own : ℕ) (jumps : List End) (i : ℕ) → i < length jumps → (none : End) (key : ℕ) →
-    key / 18446744073709551616 % 4294967296 ≡ (get_or jumps i none).at → key % 18446744073709551616 ≡ (get_or jumps i none).stack
-    → ((e : End) → Contains (take i jumps) e → (e.at < 4294967296) × (e.stack < 18446744073709551616))
-    → (e : End) → Contains (take (i + 1) jumps) e → (e.at < 4294967296) × (e.stack < 18446744073709551616)
-small_more own jumps i w none key at stack before e h =
+-- one more end has an address in range
+pub small_more : (jumps : List End) (i : ℕ) → i < length jumps → (none : End) → (get_or jumps i none).at < 4294967296
+    → ((e : End) → Contains (take i jumps) e → e.at < 4294967296) → (e : End) → Contains (take (i + 1) jumps) e → e.at < 4294967296
+small_more jumps i w none small before e h =
     elim (split_in (take i jumps) (get_or jumps i none ∷ []) e (subst (λ (l : List End). Contains l e) (take_more jumps i none w) h)) [
       | inl q ↦ before e q
       | inr q ↦ last q
     ]
   where
-    last : Contains (get_or jumps i none ∷ []) e → (e.at < 4294967296) × (e.stack < 18446744073709551616)
-    last (zero, l, q) =
-        subst (λ (z : End). (z.at < 4294967296) × (z.stack < 18446744073709551616)) q (
-          (let a = (get_or jumps i none).at in let x : (get_or jumps i none).at < 4294967296 = omega arith in x),
-          (let y : (get_or jumps i none).stack
-              < 18446744073709551616 = omega arith in y),
-        )
+    last : Contains (get_or jumps i none ∷ []) e → e.at < 4294967296
+    last (zero, l, q) = subst (λ (z : End). z.at < 4294967296) q small
     last (suc i, l, q) = absurd (omega arith)
 
-pub point_small : (points : List Point) (i : ℕ) → i < length points → (none : Point) (key : ℕ) →
-    key / 18446744073709551616 % 4294967296 ≡ (get_or points i none).at → key % 18446744073709551616 ≡ (get_or points i none).stack
-    → ((q : Point) → Contains (take i points) q → (q.at < 4294967296) × (q.stack < 18446744073709551616))
-    → (q : Point) → Contains (take (i + 1) points) q → (q.at < 4294967296) × (q.stack < 18446744073709551616)
-point_small points i w none key at stack before q h =
-    elim (split_in (take i points) (get_or points i none ∷ []) q (subst (λ (l : List Point). Contains l q) (take_more points i none w) h)) [
+-- so one more point
+pub point_small : (points : List FramePoint) (i : ℕ) → i < length points → (none : FramePoint) → (get_or points i none).at < 4294967296
+    → ((q : FramePoint) → Contains (take i points) q → q.at < 4294967296) → (q : FramePoint) → Contains (take (i + 1) points) q → q.at < 4294967296
+point_small points i w none small before q h =
+    elim (split_in (take i points) (get_or points i none ∷ []) q (subst (λ (l : List FramePoint). Contains l q) (take_more points i none w) h)) [
       | inl c ↦ before q c
       | inr c ↦ last c
     ]
   where
-    last : Contains (get_or points i none ∷ []) q → (q.at < 4294967296) × (q.stack < 18446744073709551616)
-    last (zero, l, e) =
-        subst (λ (z : Point). (z.at < 4294967296) × (z.stack < 18446744073709551616)) e
-        ((let x : (get_or points i none).at < 4294967296 = omega arith in x), (let y : (get_or points i none).stack < 18446744073709551616 = omega arith in y))
+    last : Contains (get_or points i none ∷ []) q → q.at < 4294967296
+    last (zero, l, e) = subst (λ (z : FramePoint). z.at < 4294967296) e small
     last (suc j, l, e) = absurd (omega arith)

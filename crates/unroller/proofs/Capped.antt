@@ -1,5 +1,5 @@
 -- Sums and products that stay within 128 bits.
-use Rattle.std.proofs.Common.{◌≡◌, ⊎_elim, refl, ap, sym, ◌∙◌, arith, ℕ, zero, suc, ◌+◌, ◌*◌, ◌-◌, ◌^◌, ◌≤◌, Bool}
+use Rattle.std.proofs.Common.{◌≡◌, ⊎_elim, refl, ap, sym, ◌∙◌, arith, ℕ, zero, suc, ◌+◌, ◌*◌, ◌-◌, ◌^◌, ◌<◌, ◌≤◌, Bool}
 use Rattle.std.specs.Prelude.{min, ◌⊎◌, ◌==◌, ◌&&◌, if◌then◌else◌}
 use Rattle.std.proofs.Math.Nat.{mul-le-mul_left}
 use Rattle.std.proofs.lemmas.Bool.Decides.{nat_tests}
@@ -10,6 +10,10 @@ use Rattle.unroller.specs.LineCosts.{capped, others, parts_price}
 
 pub capped_sum : (x y : ℕ) → capped (capped x + capped y) ≡ capped (x + y)
 capped_sum x y = omega arith
+
+-- the length of a list in memory
+pub capped_length : (n m : ℕ) → n < 2 ^ 64 → m ≡ n → n ≡ capped m
+capped_length n m h e = omega arith
 
 least_left : (m a b : ℕ) → m ≤ a → 1 ≤ b → m ≤ a * b
 least_left m a b h i = let e : a * 1 ≤ a * b = mul-le-mul_left a i in omega arith

@@ -1,5 +1,5 @@
 -- The ends of a point at its node are its edges, by number.
-use Rattle.std.proofs.Common.{◌≡◌, inl, inr, refl, ap, sym, ◌∙◌, subst, arith, ℕ, zero, suc, ◌%◌, ◌<◌, ◌≤◌, Bool, true, false, Option, Some, None, List, [], ◌∷◌, ◌++◌, length}
+use Rattle.std.proofs.Common.{◌≡◌, inl, inr, refl, ap, sym, ◌∙◌, subst, arith, ℕ, zero, suc, ◌%◌, ◌≤◌, Bool, true, false, Option, Some, None, List, [], ◌∷◌, ◌++◌, length}
 use Rattle.std.specs.Prelude.{Contains, ◌↔◌, ◌||◌, not, filter, if◌then◌else◌}
 use Rattle.std.specs.List.{filter_map, cons_option}
 use Rattle.std.specs.BTreeMap.{BTreeMap}
@@ -22,17 +22,7 @@ use Rattle.program_points.proofs.Pinned.{are as ends_are}
 use Rattle.program_points.proofs.Ways.{ways as ways_are}
 use Rattle.program_points.proofs.Ended.{end_low}
 use Rattle.program_points.proofs.Stacked.{one_number}
-use Rattle.unroller.specs.Keys.{key_of, turns_of, address_of, stack_of}
 use Rattle.unroller.specs.Led.{goes_on, next_of, IsCalledBy}
-
-pub address_is : (t a s : ℕ) → a < 4294967296 → s < 18446744073709551616 → address_of (key_of t a s) ≡ a
-address_is t a s h i = omega arith
-
-pub stack_is : (t a s : ℕ) → a < 4294967296 → s < 18446744073709551616 → stack_of (key_of t a s) ≡ s
-stack_is t a s h i = omega arith
-
-pub turns_is : (t a s : ℕ) → a < 4294967296 → s < 18446744073709551616 → turns_of (key_of t a s) ≡ t
-turns_is t a s h i = omega arith
 
 -- filtered elements give no other ends
 more_by : (o : Option End) (b : Bool) (few all : List End) (y : End) → (Contains few y → Contains all y) → Contains (if b then cons_option o few else few) y →

@@ -1,11 +1,11 @@
 -- The points of a frame that steps over no contract, within their segments.
-use Rattle.std.proofs.Common.{◌≡◌, ⊎_elim, inl, inr, refl, ap, sym, ◌∙◌, subst, arith, ℕ, ◌+◌, ◌<◌, ◌≤◌, Bool, true, false, List, []}
-use Rattle.std.specs.Prelude.{◌⊎◌, ◌&&◌, nat_le, nat_lt, is_some, length, Contains, if◌then◌else◌}
+use Rattle.std.proofs.Common.{◌≡◌, ⊎_elim, inl, inr, refl, ap, sym, ◌∙◌, arith, ℕ, ◌+◌, ◌<◌, ◌≤◌, Bool, true, false, List, []}
+use Rattle.std.specs.Prelude.{◌⊎◌, ◌&&◌, nat_le, nat_lt, is_some, length, if◌then◌else◌}
 use Rattle.std.proofs.lemmas.Bool.Decides.{nat_tests}
-use Rattle.bilv_spec.specs.Points.{ToAddress, file_row}
+use Rattle.bilv_spec.specs.Points.{file_row}
 use Rattle.frame_spec.specs.Frames.{Frame, is_head, contract_at}
 use Rattle.frame_spec.specs.FrameRuns.{links_by}
-use Rattle.frame_spec.specs.FramePoints.{AtHead, Point, IsPoint, first, entry_head, next, first_of, point_to, is_contract_end, end_of, frame_edges}
+use Rattle.frame_spec.specs.FramePoints.{AtHead, Point, IsPoint, first, entry_head, next, first_of, point_to, is_contract_end}
 use Rattle.unroller.specs.FrameFirst.{IsOfSegment, PointsAreOfSegments}
 
 rises : (b : Bool) (turns at a : ℕ) → nat_le a at ≡ b → (if b then turns + 1 else turns) ≡ 0 → (turns ≡ 0) × (at < a)
@@ -17,7 +17,7 @@ on_from entry q a up h =
     ⊎_elim (λ l. omega (arith, l, up)) (λ e. let s : q.at ≡ (first_of entry q.anchor).at = ap (λ (z : Point). z.at) e in omega (arith, s, up)) h
 
 module _ (f : Frame) (k : ℕ) (none : f.stepped ≡ []) where
-  no_step : (q : Point) (stack : List ℕ) (a : ℕ) → is_contract_end f q stack a ≡ false
+  pub no_step : (q : Point) (stack : List ℕ) (a : ℕ) → is_contract_end f q stack a ≡ false
   no_step q stack a =
       ap (λ l. is_some (contract_at l a) && nat_lt (length q.stack) (length stack) && links_by (file_row f.program q.at)) none
 

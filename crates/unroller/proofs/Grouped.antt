@@ -1,11 +1,10 @@
 -- The assert lines of an address, by their group among the lines by address.
 use Rattle.std.proofs.Common.{◌≡◌, refl, ap, sym, ◌∙◌, arith, ℕ, zero, suc, ◌+◌, ◌-◌, ◌<◌, ◌≤◌, Bool, true, false, List, [], ◌∷◌, length, get_or, take, drop, map}
-use Rattle.std.specs.Prelude.{◌==◌, filter, if◌then◌else◌}
+use Rattle.std.specs.Prelude.{◌==◌, filter, slice_range, if◌then◌else◌}
 use Rattle.std.proofs.lemmas.Bool.Decides.{nat_tests}
 use Rattle.bilv_spec.specs.Notes.{Assert}
 use Rattle.notes_index.specs.Indexed.{numbered_from}
-use Rattle.walk_spec.specs.Unrolled.{PointExit, FalseAssert}
-use Rattle.question_form.specs.Views.{no_assert, assert_exit, asserts_between}
+use Rattle.question_form.specs.Views.{no_assert}
 use Rattle.unroller.specs.Places.{IsGroup}
 
 not_same : (a at : ℕ) → (a ≡ at → ⊥) → (a == at) ≡ false
@@ -49,32 +48,30 @@ group_filter at (x ∷ xs) (suc low) (suc high) le w here before behind =
     let z : suc high - suc low ≡ high - low = omega arith in
     ap (λ (n : ℕ). take n (drop low xs)) z ∙ rest ∙ sym (passed at x xs (not_same x.0 at (λ e. absurd (omega arith))))
 
-numbered_exits : (at : ℕ) (all rest : List Assert) (k : ℕ) → ((j : ℕ) (d : Assert) → j < length rest → get_or all (k + j) d ≡ get_or rest j d)
-    → map (assert_exit all) (filter (λ x. x.0 == at) (numbered_from k (map (λ a. a.at) rest)))
-    ≡ map (λ a. FalseAssert a.line a.says) (filter (λ a. a.at == at) rest)
-numbered_exits at all [] k h = refl
-numbered_exits at all (a ∷ rest) k h =
-    let z : k + 0 ≡ k = omega arith in
-    let first : assert_exit all (a.at, k) ≡ FalseAssert a.line a.says =
-    ap (λ (b : Assert). FalseAssert b.line b.says) (ap (λ (m : ℕ). get_or all m no_assert) (sym z) ∙ h 0 no_assert (omega arith)) in
-    let more = numbered_exits at all rest (k + 1) (λ j d w. let e : k + 1 + j
-    ≡ k + suc j = omega arith in ap (λ (m : ℕ). get_or all m d) e ∙ h (suc j) d (omega arith)) in
-    by (a.at == at) first more
-  where
-    by : (b : Bool) → assert_exit all (a.at, k) ≡ FalseAssert a.line a.says
-        → map (assert_exit all) (filter (λ x. x.0 == at) (numbered_from (k + 1) (map (λ a. a.at) rest)))
-        ≡ map (λ a. FalseAssert a.line a.says) (filter (λ a. a.at == at) rest)
-        → map (assert_exit all) (if b then (a.at, k) ∷ filter (λ x. x.0 == at) (numbered_from (k + 1) (map (λ a. a.at) rest)) else filter
-        (λ x. x.0 == at) (numbered_from (k + 1) (map (λ a. a.at) rest)))
-        ≡ map (λ a. FalseAssert a.line a.says) (if b then a ∷ filter (λ a. a.at == at) rest else filter (λ a. a.at == at) rest)
-    by true first more = ap (λ (e : PointExit). e ∷ map (assert_exit all) (filter (λ x. x.0 == at) (numbered_from (k + 1) (map (λ a. a.at) rest)))) first ∙ ap
-        (λ (l : List PointExit). FalseAssert a.line a.says ∷ l) more
-    by false first more = more
+numbered_by : {X : Type 0} (b : Bool) (from : ℕ × ℕ → X) (made : Assert → X) (x : ℕ × ℕ) (a : Assert) (xs : List (ℕ × ℕ)) (rest : List Assert) →
+    from x ≡ made a → map from xs ≡ map made rest → map from (if b then x ∷ xs else xs) ≡ map made (if b then a ∷ rest else rest)
+numbered_by true from made x a xs rest e h = ap (λ z. z ∷ map from xs) e ∙ ap (λ l. made a ∷ l) h
+numbered_by false from made x a xs rest e h = h
 
-pub asserts_are : (at : ℕ) (all : List Assert) (index : List (ℕ × ℕ)) (bounds : ℕ × ℕ) → IsGroup index at bounds →
+numbered_are : {X : Type 0} (made : Assert → X) (at : ℕ) (all rest : List Assert) (k : ℕ) →
+    ((j : ℕ) (d : Assert) → j < length rest → get_or all (k + j) d ≡ get_or rest j d)
+    → map (λ x. made (get_or all x.1 no_assert)) (filter (λ x. x.0 == at) (numbered_from k (map (λ a. a.at) rest))) ≡ map made (filter (λ a. a.at == at) rest)
+numbered_are made at all [] k h = refl
+numbered_are made at all (a ∷ rest) k h =
+    let z : k + 0 ≡ k = omega arith in
+    let first : made (get_or all k no_assert) ≡ made a =
+    ap made (ap (λ (m : ℕ). get_or all m no_assert) (sym z) ∙ h 0 no_assert (omega arith)) in
+    let more = numbered_are made at all rest (k + 1) (λ j d w. let e : k + 1 + j
+    ≡ k + suc j = omega arith in ap (λ (m : ℕ). get_or all m d) e ∙ h (suc j) d (omega arith)) in
+    numbered_by (a.at == at) (λ (x : ℕ × ℕ). made (get_or all x.1 no_assert)) made (a.at, k) a
+    (filter (λ x. x.0 == at) (numbered_from (k + 1) (map (λ a. a.at) rest))) (filter (λ a. a.at == at) rest) first more
+
+-- what is made of the lines of an address, by their group
+pub group_are : {X : Type 0} (made : Assert → X) (at : ℕ) (all : List Assert) (index : List (ℕ × ℕ)) (bounds : ℕ × ℕ) → IsGroup index at bounds →
     filter (λ x. x.0 == at) index ≡ filter (λ x. x.0 == at) (numbered_from 0 (map (λ a. a.at) all))
-    → asserts_between all index bounds ≡ map (λ a. FalseAssert a.line a.says) (filter (λ a. a.at == at) all)
-asserts_are at all index bounds group order =
-    ap (map (assert_exit all)) (group_filter at index bounds.0 bounds.1 group.ordered group.within (λ j d l m. group.here j d l m)
+    → map (λ x. made (get_or all x.1 no_assert)) (slice_range index bounds.0 bounds.1) ≡ map made (filter (λ a. a.at == at) all)
+group_are made at all index bounds group order =
+    ap (map (λ (x : ℕ × ℕ). made (get_or all x.1 no_assert))) (group_filter at index bounds.0 bounds.1 group.ordered group.within (λ j d l m. group.here j
+    d l m)
     (λ j d l. group.before j d (omega arith) l) (λ j d l m. group.behind j d l m) ∙ order)
-    ∙ numbered_exits at all all 0 (λ j d w. let z : 0 + j ≡ j = omega arith in ap (λ (m : ℕ). get_or all m d) z)
+    ∙ numbered_are made at all all 0 (λ j d w. let z : 0 + j ≡ j = omega arith in ap (λ (m : ℕ). get_or all m d) z)

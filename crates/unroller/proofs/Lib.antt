@@ -3,13 +3,20 @@ mod Repeated
 mod Coded
 mod Dropped
 pub mod EdgeLists
-pub mod FirstPoints
 pub mod KeptRuns
 pub mod Looked
 mod Mixed
 mod Named
 pub mod Placed
+pub mod Numbered
+pub mod SameKeys
+pub mod RootPlaces
+pub mod CutHeads
+pub mod Framed
+pub mod Heading
+pub mod FrameLines
 mod Priced
+pub mod Totalled
 mod Rows
 pub mod Literals
 mod Found

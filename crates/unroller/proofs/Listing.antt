@@ -1,28 +1,25 @@
 -- The numbers of all points, from their list.
-use Rattle.std.proofs.Common.{◌≡◌, ap, sym, ◌∙◌, subst, arith, ℕ, zero, suc, ◌+◌, ◌<◌, ◌≤◌, Some, List, [], ◌∷◌, ◌++◌, length, get_or, map}
+use Rattle.std.proofs.Common.{◌≡◌, refl, ap, sym, ◌∙◌, subst, arith, ℕ, zero, suc, ◌+◌, ◌<◌, ◌≤◌, Option, Some, None, Bool, false, List, [], ◌∷◌, length, get_or, map}
 use Rattle.std.specs.Prelude.{Contains, ◌↔◌, slice_get}
 use Rattle.std.specs.List.Sorted.{IsStrictlyIncreasing}
-use Rattle.std.specs.BTreeMap.{BTreeMap}
 use Rattle.std.proofs.lemmas.List.{get_or_default}
 use Rattle.std.proofs.lemmas.Option.{slice_get-get_or, get_or_from_slice_get}
-use Rattle.bilv_spec.specs.Run.{Program}
-use Rattle.bilv_spec.specs.Points as spec
-use Rattle.bilv_spec.specs.Points.{IsPoint}
 use Rattle.bilv_spec.proofs.PointSteps.{in_map}
-use Rattle.bilv_spec.proofs.PointsInGraph.{of_map, points_are_in_graph}
-use Rattle.graph_nodes.specs.declared.nodes.Graph.{Graph}
-use Rattle.graph_nodes.specs.Graphs.{IsGraph, addresses_of}
+use Rattle.bilv_spec.proofs.PointsInGraph.{of_map}
+use Rattle.frame_spec.specs.Frames as specs
+use Rattle.frame_spec.specs.FramePoints as spec
+use Rattle.frame_spec.specs.FramePoints.{Anchor, AtEntry, AtHead, IsAnchor, IsPoint, first_of}
 use Rattle.program_points.specs.declared.values.Frame.{Frame}
-use Rattle.program_points.specs.declared.values.Point.{Point}
-use Rattle.program_points.specs.declared.values.Points.{Points}
-use Rattle.program_points.specs.Listed as listing
-use Rattle.program_points.specs.Listed.{AreStacks, ArePointsOf}
-use Rattle.program_points.specs.Tables.{frame, stack_at}
-use Rattle.program_points.proofs.Stacked.{stack_none, stack_next, stack_keeps}
-use Rattle.unroller.specs.Keys.{point_key, point_of, turns_of, address_of, stack_of, AreKeys}
-use Rattle.unroller.proofs.Ends.{address_is, stack_is, turns_is}
+use Rattle.program_points.specs.declared.values.FramePoint.{FramePoint}
+use Rattle.program_points.specs.declared.values.FramePoints.{FramePoints}
+use Rattle.program_points.specs.declared.values.Root.{Root}
+use Rattle.program_points.specs.Listed.{AreStacks, AreFramePointsOf, anchor_of, frame_point_of}
+use Rattle.program_points.specs.Tables.{frame, is_root_within, stack_at, stacks_of}
+use Rattle.program_points.proofs.Stacked.{stack_none, stack_next}
 use Rattle.known_bytes.proofs.Ordered.{rises}
-use Rattle.unroller.proofs.FirstPoints.{entry_comes_first}
+use Rattle.unroller.specs.Keys.{segment_of, place_in, point_key, point_of, turns_of, address_of, stack_of, root_of, head_number, head_of, anchor_by, AreKeys, AreSegments}
+use Rattle.unroller.proofs.FrameFirst.{points_are_of_segments}
+use Rattle.unroller.proofs.Numbered.{root_is, turns_is, address_is, stack_is, place_at, IsSmall, head_same}
 
 -- the stacks of frames are the only ones
 stacks_are : (frames : List Frame) (stacks : List (List ℕ)) → AreStacks frames stacks → (fuel n : ℕ) → n ≤ fuel → n ≤ length frames →
@@ -38,111 +35,189 @@ stacks_are frames stacks are (suc fuel) (suc n) le w =
     ap (λ (m : ℕ). get_or stacks m []) (sym z) ∙ get_or_from_slice_get stacks (n + 1) (f.top ∷ get_or stacks f.below []) [] q.1
     ∙ ap (λ (l : List ℕ). f.top ∷ l) (stacks_are frames stacks are fuel f.below (omega arith) (omega arith)) ∙ sym (stack_next frames n f e below)
 
-module _ (p : Program) (k : ℕ) (v : Points) (frames : List Frame) (numbers : BTreeMap (ℕ ×
-    ℕ) ℕ) (rest : List Frame) (keys listed : List ℕ) (frames_are : frames ≡ v.stacks.frames.items ++ rest)
-    (are : ArePointsOf p k v) (numbered : (q : Point) → Contains v.points.items q → q.stack ≤ length v.stacks.frames.items)
-    (small : (q : Point) → Contains v.points.items q → (q.at < 4294967296) × (q.stack < 18446744073709551616)) (list : listed ≡ map point_key v.points.items)
-    (same : (x : ℕ) → Contains listed x ↔ Contains keys x) (rise : IsStrictlyIncreasing keys) where
-  abbrev old : List Frame
-  old = v.stacks.frames.items
+anchor_same : (frames : List Frame) (stacks : List (List ℕ)) → AreStacks frames stacks → (o : Option Root) → is_root_within (length frames) o →
+    anchor_of (stacks_of frames) o ≡ anchor_of stacks o
+anchor_same frames stacks are None w = refl
+anchor_same frames stacks are (Some r) w = ap (λ (l : List ℕ). AtHead l r.at) (sym (stacks_are frames stacks are r.stack r.stack (omega arith) w))
 
-  longer : length old ≤ length frames
-  longer = let a = ap length frames_are in let b = long old rest in omega arith
-    where
-      long : (xs ys : List Frame) → length xs ≤ length (xs ++ ys)
-      long [] ys = omega arith
-      long (x ∷ xs) ys = let a = long xs ys in omega arith
+its_anchor : (entry : ℕ) (anchor : Anchor) → (first_of entry anchor).anchor ≡ anchor
+its_anchor entry AtEntry = refl
+its_anchor entry (AtHead stack a) = refl
 
-  point_same : (q : Point) → Contains v.points.items q → point_of frames (point_key q) ≡ listing.point_of are.0 q
+root_small : (stacks : List (List ℕ)) (entry : ℕ) (o : Option Root) (q : FramePoint) (most : ℕ) →
+    frame_point_of stacks q ≡ first_of entry (anchor_of stacks o) →
+    q.at < 4294967296 → is_root_within most o → most ≤ 16777216 → IsSmall o
+root_small stacks entry None q most e small w le = tt
+root_small stacks entry (Some r) q most e small w le =
+    let at : q.at ≡ r.at = ap (λ (z : spec.Point). z.at) e in ((omega arith), (omega arith))
+
+module _ (f : specs.Frame) (k : ℕ) (v : FramePoints) (segments keys listed : List ℕ) (plain : f.stepped ≡ []) (are : AreFramePointsOf f k v)
+    (numbered : (q : FramePoint) → Contains v.points.items q → q.stack ≤ length v.stacks.frames.items)
+    (rooted : (q : FramePoint) → Contains v.points.items q → is_root_within (length v.stacks.frames.items) q.root)
+    (low : (q : FramePoint) → Contains v.points.items q → q.turns ≤ k) (few : k ≤ 4096) (few_stacks : length v.stacks.frames.items ≤ 16777216)
+    (small : (q : FramePoint) → Contains v.points.items q → q.at < 4294967296)
+    (begun : (x : ℕ) → Contains (map segment_of v.points.items) x ↔ Contains segments x) (rising : IsStrictlyIncreasing segments)
+    (list : listed ≡ map (point_key segments) v.points.items) (same : (x : ℕ) → Contains listed x ↔ Contains keys x) (rise : IsStrictlyIncreasing keys) where
+  abbrev frames : List Frame
+  frames = v.stacks.frames.items
+
+  abbrev stacks : List (List ℕ)
+  stacks = are.0
+
+  abbrev point : FramePoint → spec.Point
+  point q = frame_point_of stacks q
+
+  its_point : (q : FramePoint) → Contains v.points.items q → IsPoint f k (point q)
+  its_point q h = are.2.only (point q) (in_map point v.points.items q h)
+
+  listed_as : (x : spec.Point) → IsPoint f k x → (q : FramePoint) × Contains v.points.items q × (point q ≡ x)
+  listed_as x is = of_map point v.points.items x (are.2.all x is)
+
+  its_segment : (q : FramePoint) → Contains v.points.items q → IsAnchor f k (anchor_of stacks q.root)
+  its_segment q h = (points_are_of_segments f k (point q) plain (its_point q h)).anchor
+
+  its_small : (q : FramePoint) → Contains v.points.items q → IsSmall q.root
+  its_small q h =
+      let first = listed_as (first_of f.program.entry (anchor_of stacks q.root)) (its_segment q h) in
+      root_small stacks f.program.entry q.root first.0 (length frames) first.2 (small first.0 first.1) (rooted q h) few_stacks
+
+  its_head : (q : FramePoint) → Contains v.points.items q → head_of (segment_of q) ≡ q.root
+  its_head q h = head_same q.root (its_small q h)
+
+  its_place : (q : FramePoint) → Contains v.points.items q → (place_in segments (segment_of q) < length segments) ×
+      (get_or segments (place_in segments (segment_of q)) 0 ≡ segment_of q)
+  its_place q h = place_at segments (segment_of q) rising ((begun (segment_of q)).0 (in_map segment_of v.points.items q h))
+
+  anchor_is : (q : FramePoint) → Contains v.points.items q → (n : ℕ) → get_or segments n 0 ≡ segment_of q →
+      anchor_by frames segments n ≡ anchor_of stacks q.root
+  anchor_is q h n e =
+      ap (λ (z : ℕ). anchor_of (stacks_of frames) (head_of z)) e ∙ ap (anchor_of (stacks_of frames)) (its_head q h)
+      ∙ anchor_same frames stacks are.1 q.root (rooted q h)
+
+  point_same : (q : FramePoint) → Contains v.points.items q → point_of frames segments (point_key segments q) ≡ point q
   point_same q h =
-      let s = small q h in
+      let a = small q h in
       let n = numbered q h in
-      let stack : stack_at frames q.stack ≡ get_or are.0 q.stack [] =
-      ap (λ (l : List Frame). stack_at l q.stack) frames_are ∙ stack_keeps old rest q.stack n ∙ sym
-      (stacks_are old are.0 are.1 q.stack q.stack (omega arith) n) in
-      ap (λ (z : ℕ). let r : spec.Point = record { turns = z; stack = stack_at frames (stack_of (point_key q)); at = address_of (point_key q) }
-      in r) (turns_is q.turns q.at q.stack s.0 s.1)
-      ∙ ap (λ (z : ℕ). let r : spec.Point = record { turns = q.turns; stack = stack_at frames z; at = address_of (point_key q) }
-      in r) (stack_is q.turns q.at q.stack s.0 s.1)
-      ∙ ap (λ (z : ℕ). let r : spec.Point = record { turns = q.turns; stack = stack_at frames q.stack; at = z } in r) (address_is q.turns q.at q.stack s.0 s.1)
-      ∙ ap (λ (z : List ℕ). let r : spec.Point = record { turns = q.turns; stack = z; at = q.at } in r) stack
+      let t = low q h in
+      let root = place_in segments (segment_of q) in
+      let key = point_key segments q in
+      let r : root_of key ≡ root = root_is root q.turns q.at q.stack (omega arith) a (omega arith) in
+      let s : stack_of key ≡ q.stack = stack_is root q.turns q.at q.stack (omega arith) a (omega arith) in
+      ap (λ (z : ℕ). let x : spec.Point = record {
+        anchor = anchor_by frames segments z;
+        turns = turns_of key;
+        contract = false;
+        stack = stack_at frames (stack_of key);
+        at = address_of key;
+      } in x) r
+      ∙ ap (λ (z : Anchor). let x : spec.Point = record {
+        anchor = z;
+        turns = turns_of key;
+        contract = false;
+        stack = stack_at frames (stack_of key);
+        at =
+            address_of key;
+      }
+      in x) (anchor_is q h root (its_place q h).1)
+      ∙ ap (λ (z : ℕ). let x : spec.Point = record {
+        anchor = anchor_of stacks q.root;
+        turns = z;
+        contract = false;
+        stack = stack_at frames (stack_of key);
+        at = address_of key;
+      } in x) (turns_is root q.turns q.at q.stack (omega arith) a (omega arith))
+      ∙ ap (λ (z : List ℕ). let x : spec.Point = record {
+        anchor = anchor_of stacks q.root;
+        turns = q.turns;
+        contract = false;
+        stack = z;
+        at = address_of
+            key;
+      } in x)
+      (ap (stack_at frames) s ∙ sym (stacks_are frames stacks are.1 q.stack q.stack (omega arith) n))
+      ∙ ap (λ (z : ℕ). let x : spec.Point = record {
+        anchor = anchor_of stacks q.root;
+        turns = q.turns;
+        contract = false;
+        stack = get_or stacks q.stack [];
+        at = z;
+      } in x)
+      (address_is root q.turns q.at q.stack (omega arith) a (omega arith))
+      ∙ ap (λ (b : Bool). let x : spec.Point = record {
+        anchor = anchor_of stacks q.root;
+        turns = q.turns;
+        contract = b;
+        stack = get_or stacks q.stack [];
+        at = q.at;
+      } in x)
+      (sym (points_are_of_segments f k (point q) plain (its_point q h)).contract)
 
-  key_point : (i : ℕ) → i < length keys → (q : Point) × Contains v.points.items q × (point_key q ≡ get_or keys i 0)
+  segment_point : (n : ℕ) → n < length segments → (q : FramePoint) × Contains v.points.items q × (segment_of q ≡ get_or segments n 0)
+  segment_point n w =
+      let x = get_or segments n 0 in of_map segment_of v.points.items x ((begun x).1 (n, w, get_or_default segments n x 0 w))
+
+  pub are_segments : AreSegments f k frames segments
+  are_segments = record {
+    all = λ anchor is.
+        let q = listed_as (first_of f.program.entry anchor) is in
+        let p = its_place q.0 q.1 in (
+          place_in segments (segment_of q.0),
+          p.0,
+          anchor_is q.0 q.1 (place_in segments (segment_of q.0)) p.1 ∙ ap (λ (z : spec.Point). z.anchor) q.2 ∙ its_anchor f.program.entry anchor,
+        );
+    only = λ n w.
+        let q = segment_point n w in
+        subst (λ (z : Anchor). IsAnchor f k z) (sym (anchor_is q.0 q.1 n (sym q.2))) (its_segment q.0 q.1);
+    rise = rises segments rising;
+    fits = λ n w.
+        let q = segment_point n w in
+        subst (λ (z : Option Root). is_root_within (length frames) z) (sym (its_head q.0 q.1) ∙ ap head_of q.2) (rooted q.0 q.1);
+    exact = λ n w.
+        let q = segment_point n w in
+        ap (λ (z : ℕ). head_number (head_of z)) (sym q.2) ∙ ap head_number (its_head q.0 q.1) ∙ q.2;
+  }
+
+  key_point : (i : ℕ) → i < length keys → (q : FramePoint) × Contains v.points.items q × (point_key segments q ≡ get_or keys i 0)
   key_point i w =
       let x = get_or keys i 0 in
-      of_map point_key v.points.items x (subst (λ (l : List ℕ). Contains l x) list ((same x).1 (i, w, get_or_default keys i x 0 w)))
+      of_map (point_key segments) v.points.items x (subst (λ (l : List ℕ). Contains l x) list ((same x).1 (i, w, get_or_default keys i x 0 w)))
 
-  pub only : (i : ℕ) → i < length keys → IsPoint p k (point_of frames (get_or keys i 0))
-  only i w =
-      let q = key_point i w in
-      subst (λ (z : ℕ). IsPoint p k (point_of frames z)) q.2
-      (subst (λ (z : spec.Point). IsPoint p k z) (sym (point_same q.0 q.1))
-      (are.2.only (listing.point_of are.0 q.0) (in_map (listing.point_of are.0) v.points.items q.0 q.1)))
-
-  pub are_keys : AreKeys p k frames keys
+  pub are_keys : AreKeys f k frames segments keys
   are_keys = record {
-    all = λ point is.
-        let q = of_map (listing.point_of are.0) v.points.items point (are.2.all point is) in
-        let x = point_key q.0 in
-        let r = (same x).0 (subst (λ (l : List ℕ). Contains l x) (sym list) (in_map point_key v.points.items q.0 q.1)) in
-        let at : get_or keys r.0 0 ≡ x = get_or_default keys r.0 0 x r.1 ∙ r.2 in
-        (r.0, r.1, ap (point_of frames) at ∙ point_same q.0 q.1 ∙ q.2);
-    only = only;
+    all = λ x is.
+        let q = listed_as x is in
+        let key = point_key segments q.0 in
+        let r = (same key).0 (subst (λ (l : List ℕ). Contains l key) (sym list) (in_map (point_key segments) v.points.items q.0 q.1)) in
+        let at : get_or keys r.0 0 ≡ key = get_or_default keys r.0 0 key r.1 ∙ r.2 in
+        (r.0, r.1, ap (point_of frames segments) at ∙ point_same q.0 q.1 ∙ q.2);
+    only = λ i w.
+        let q = key_point i w in
+        subst (λ (z : spec.Point). IsPoint f k z) (sym (point_same q.0 q.1) ∙ ap (point_of frames segments) q.2) (its_point q.0 q.1);
     rise = rises keys rise;
     fits = λ i w.
         let q = key_point i w in
-        let s = small q.0 q.1 in
         let n = numbered q.0 q.1 in
-        let z : stack_of (get_or keys i 0) ≡ q.0.stack = ap stack_of (sym q.2) ∙ stack_is q.0.turns q.0.at q.0.stack s.0 s.1 in
-        let l = longer in omega arith;
-    few = λ i w. (entry_comes_first p k (point_of frames (get_or keys i 0)) (only i w)).0;
+        let a = small q.0 q.1 in
+        let t = low q.0 q.1 in
+        let z : stack_of (get_or keys i 0) ≡ q.0.stack = ap stack_of (sym q.2) ∙
+        stack_is (place_in segments (segment_of q.0)) q.0.turns q.0.at q.0.stack (omega arith) a (omega arith) in
+        omega arith;
+    few = λ i w.
+        let q = key_point i w in
+        let n = numbered q.0 q.1 in
+        let a = small q.0 q.1 in
+        let t = low q.0 q.1 in
+        let z : turns_of (get_or keys i 0) ≡ q.0.turns = ap turns_of (sym q.2) ∙
+        turns_is (place_in segments (segment_of q.0)) q.0.turns q.0.at q.0.stack (omega arith) a (omega arith) in
+        omega arith;
+    rooted = λ i w.
+        let q = key_point i w in
+        let n = numbered q.0 q.1 in
+        let a = small q.0 q.1 in
+        let t = low q.0 q.1 in
+        let p = its_place q.0 q.1 in
+        let z : root_of (get_or keys i 0) ≡ place_in segments (segment_of q.0) = ap root_of (sym q.2) ∙
+        root_is (place_in segments (segment_of q.0)) q.0.turns q.0.at q.0.stack (omega arith) a (omega arith) in
+        let l = p.0 in
+        omega arith;
   }
-
-pub low_turns : (p : Program) (k : ℕ) (v : Points) (items : List Point) → ArePointsOf p k v → items ≡ v.points.items → k ≤ 4096 → (q : Point) →
-    Contains items q → q.turns ≤ 4096
-low_turns p k v items are e le q h =
-    let is = are.2.only (listing.point_of are.0 q) (in_map (listing.point_of are.0) v.points.items q (subst (λ (l : List Point). Contains l q) e h)) in
-    let few = (entry_comes_first p k (listing.point_of are.0 q) is).0 in
-    omega arith
-
-pub keys_of : (p : Program) (k : ℕ) (v : Points) (frames : List Frame) (numbers : BTreeMap (ℕ ×
-    ℕ) ℕ) (rest : List Frame) (keys listed : List ℕ) (items : List Point) → frames ≡ v.stacks.frames.items ++ rest
-    → items ≡ v.points.items → ArePointsOf p k v → ((q : Point) → Contains v.points.items q → q.stack ≤ length v.stacks.frames.items)
-    → ((q : Point) → Contains items q → (q.at < 4294967296) × (q.stack < 18446744073709551616)) → listed ≡ map point_key items
-    → ((x : ℕ) → Contains listed x ↔ Contains keys x) → IsStrictlyIncreasing keys → AreKeys p k frames keys
-keys_of p k v frames numbers rest keys listed items grown e are numbered small list same rise =
-    are_keys p k v frames numbers rest keys listed grown are numbered
-    (subst (λ (l : List Point). (q : Point) → Contains l q → (q.at < 4294967296) ×
-    (q.stack < 18446744073709551616)) e small) (list ∙ ap (map point_key) e) same rise
-
-pub among_graph : (p : Program) (k : ℕ) (g : Graph) (frames : List Frame) (keys xs : List ℕ) → IsGraph p g → AreKeys p k frames keys → xs ≡ keys → (i : ℕ) →
-    i < length xs
-    → Contains (addresses_of g) (address_of (get_or xs i 0))
-among_graph p k g frames keys xs graph are e i w =
-    let ys = subst (λ (l : List ℕ). AreKeys p k frames l) (sym e) are in
-    (graph.all (address_of (get_or xs i 0))).1 (points_are_in_graph p k (point_of frames (get_or xs i 0)) (ys.only i w)).at
-
-pub addresses_among : (p : Program) (k : ℕ) (g : Graph) (frames : List Frame) (keys xs addresses os : List ℕ) → IsGraph p g → AreKeys p k frames keys →
-    xs ≡ keys → os ≡ addresses
-    → ((x : ℕ) → Contains (map address_of xs) x ↔ Contains addresses x) → (a : ℕ) → Contains os a → Contains (addresses_of g) a
-addresses_among p k g frames keys xs addresses os graph are e f same a h =
-    let q = of_map address_of xs a ((same a).1 (subst (λ (l : List ℕ). Contains l a) f h)) in
-    let i = q.1.0 in
-    let at : get_or xs i 0 ≡ q.0 = get_or_default xs i 0 q.0 q.1.1 ∙ q.1.2 in
-    subst (λ (z : ℕ). Contains (addresses_of g) z) (ap address_of at ∙ q.2) (among_graph p k g frames keys xs graph are e i q.1.1)
-
-pub keys_coded : (keys xs ys addresses os : List ℕ) → xs ≡ keys → ys ≡ keys → os ≡ addresses →
-    ((x : ℕ) → Contains (map address_of xs) x ↔ Contains addresses x) → (i : ℕ) → i < length ys
-    → Contains os (address_of (get_or ys i 0))
-keys_coded keys xs ys addresses os e f d same i w =
-    let inside : Contains ys (get_or ys i 0) = (i, w, get_or_default ys i (get_or ys i 0) 0 w) in
-    let moved : Contains xs (get_or ys i 0) = subst (λ (l : List ℕ). Contains l (get_or ys i 0)) (f ∙ sym e) inside in
-    subst (λ (l : List ℕ). Contains l (address_of (get_or ys i 0))) (sym d) ((same (address_of (get_or ys i 0))).0 (in_map address_of xs (get_or ys i 0) moved))
-
-pub keys_fit : (p : Program) (k : ℕ) (frames : List Frame) (keys xs : List ℕ) → AreKeys p k frames keys → xs ≡ keys → (i : ℕ) → i < length xs →
-    stack_of (get_or xs i 0) ≤ length frames
-keys_fit p k frames keys xs are e i w = (subst (λ (l : List ℕ). AreKeys p k frames l) (sym e) are).fits i w
-
-pub keys_low : (p : Program) (k : ℕ) (frames : List Frame) (keys xs : List ℕ) → AreKeys p k frames keys → xs ≡ keys → k ≤ 4096 → (i : ℕ) → i < length xs →
-    turns_of (get_or xs i 0) ≤ 4096
-keys_low p k frames keys xs are e le i w = let few = (subst (λ (l : List ℕ). AreKeys p k frames l) (sym e) are).few i w in omega arith

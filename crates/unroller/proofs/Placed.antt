@@ -1,45 +1,106 @@
 -- What stands at a place is what the definitions want there.
-use Rattle.std.proofs.Common.{◌≡◌, refl, ap, sym, ◌∙◌, subst, arith, ℕ, ◌+◌, ◌≤◌, Option, Some, None, Bool, List, [], ◌∷◌, ◌++◌}
-use Rattle.std.specs.Prelude.{map}
+use Rattle.std.proofs.Common.{◌≡◌, refl, ap, sym, ◌∙◌, subst, arith, ℕ, ◌+◌, ◌≤◌, Option, Some, None, Bool, true, false, List, [], ◌∷◌, ◌++◌}
+use Rattle.std.proofs.Math.Path.{fun_ext}
+use Rattle.std.specs.Prelude.{filter, map}
 use Rattle.std.specs.Global.{Vec}
 use Rattle.machine_spec.specs.Machine.{Row}
 use Rattle.machine_spec.specs.MachineLaws.{IsFitted}
 use Rattle.machine_spec.specs.StateText.{Layout}
-use Rattle.machine_spec.specs.Bil.{Bank}
+use Rattle.machine_spec.specs.Bil as bil
+use Rattle.machine_spec.specs.Bil.{Bank, BilVariable}
+use Rattle.machine_spec.specs.BilCounts.{list_names_only}
 use Rattle.bilv_spec.specs.Run.{Program}
 use Rattle.bilv_spec.specs.Points.{file_row, row_price, loads_at, stores_at}
 use Rattle.bil_ast.specs.declared.statements.Stmt.{Stmt}
 use Rattle.bil_ast.specs.Views.{statements}
-use Rattle.walk_spec.specs.Unrolled.{PointExit, Always, Raising, WritingKept, Unaligned, is_register_of, is_flag_of}
-use Rattle.walk_spec.specs.Unrolling.{IsPlace, IsCounted, assert_exits, stop_event, row_draws}
+use Rattle.walk_spec.specs.Unrolled as tables
+use Rattle.walk_spec.specs.Unrolled.{is_register_of, is_flag_of}
+use Rattle.walk_spec.specs.Unrolling as unrolling
+use Rattle.walk_spec.specs.Unrolling.{stop_event, row_draws}
+use Rattle.frame_spec.specs.Frames.{Contract, Frame, OfStep}
+use Rattle.frame_spec.specs.FramePoints.{is_cut}
+use Rattle.frame_spec.specs.FrameUnrolling.{AreAlong, CanBeTerms, DoesAddress, DoesBy, is_variable_of, IsCounted, IsPlace, checks_of, outside_exit}
+use Rattle.frame_spec.specs.FrameWalk.{Check, PointExit, FalseCheck, Always, ToEvent, Cutting, Raising, WritingKept, Unaligned, UnrolledPoint, UnrolledProgram}
+use Rattle.frame_laws.proofs.HeadlessPlaces.{row_as}
 use Rattle.graph_nodes.specs.Graphs.{row_length}
 use Rattle.question_form.specs.declared.unrolled.Code.{Code}
+use Rattle.question_form.specs.declared.unrolled.Deed.{Deed}
+use Rattle.question_form.specs.declared.unrolled.Deed.TheVariants as deeds
 use Rattle.question_form.specs.declared.unrolled.Edge.{Edge}
 use Rattle.question_form.specs.declared.unrolled.Point as declared
 use Rattle.question_form.specs.declared.unrolled.Unrolled.{Unrolled}
-use Rattle.question_form.specs.Views.{edge_of, point_by, unrolled_of}
-use Rattle.unroller.specs.Places.{IsCode, AreEdgesAt, PlacesAreRight}
+use Rattle.question_form.specs.FrameViews.{anchor_at, checks_between, edge_of, frame_unrolled_of, is_judged, list_of, point_by}
+use Rattle.question_form.specs.Views as views
+use Rattle.question_form.specs.Views.{unrolled_of}
+use Rattle.unroller.specs.Places.{IsCode, deed_by, PlacesAreRight}
 use Rattle.unroller.specs.Rows.{IsListAt, IsListedAt}
 use Rattle.unroller.proofs.Literals.{lists_do_rows}
 
-module _ (p : Program) (k : ℕ) (u : Unrolled) (form : Layout) (bank : Bank) (i : ℕ) (q : declared.Point) (edges : List Edge) (fitted : IsFitted p.machine form)
-    (registers : (r : ℕ) → is_register_of (unrolled_of u) r ≡ p.machine.has_register r) (flags : (f : ℕ) →
-    is_flag_of (unrolled_of u) f ≡ p.machine.has_flag f) where
-  place_by : (at size : ℕ) (f : Bool) (list : Option (Vec Stmt)) (draws : Bool) (row loads stores : ℕ) (asserts : ℕ × ℕ) →
-      let c : Code = record { at = at; length = size; fetchable = f; list = list; draws = draws; row = row; loads = loads; stores = stores; asserts = asserts } in
-      IsCode p bank u q c edges → ((r : Row) → file_row p at ≡ Some r →
-      AreEdgesAt p k (unrolled_of u) i (point_by u q c edges).point r edges) →
-      (o : Option Row) → file_row p at ≡ o → IsPlace p k (unrolled_of u) i (point_by u q c edges) o
-  place_by at size f None draws row loads stores asserts code led None is =
-      let x = (point_by u q (record { at = at; length = size; fetchable = f; list = None; draws = draws; row = row; loads = loads; stores = stores; asserts = asserts }) edges)
-      in
-      record {
-        does = (
+module _ (f : Frame) (k : ℕ) (u : Unrolled) (form : Layout) (bank : Bank) (i root turns coded stack begin : ℕ) (edges : List Edge) (own : f.own ≡ None)
+    (fitted : IsFitted f.program.machine form) (registers : (r : ℕ) → is_register_of (unrolled_of u) r ≡ f.program.machine.has_register r)
+    (flags : (g : ℕ) → is_flag_of (unrolled_of u) g ≡ f.program.machine.has_flag g) where
+  abbrev p : Program
+  p = f.program
+
+  abbrev w : UnrolledProgram
+  w = frame_unrolled_of u
+
+  abbrev point : Deed → declared.Point
+  point deed = record { root = root; turns = turns; code = coded; stack = stack; deed = deed; edges = begin }
+
+  abbrev made : Deed → Code → UnrolledPoint
+  made deed c = point_by u (point deed) c edges
+
+  abbrev exits : Code → List PointExit → List PointExit
+  exits c rest = map FalseCheck (filter (is_judged (anchor_at u root)) (checks_between u c.asserts)) ++ rest
+
+  abbrev judged : Code → List PointExit → List PointExit
+  judged c rest = map FalseCheck (checks_of f (made deeds.Row c).point) ++ rest
+
+  exits_are : (c : Code) → IsCode f bank u (point deeds.Row) c edges → (rest : List PointExit) → exits c rest ≡ judged c rest
+  exits_are c code rest = ap (λ (l : List Check). map FalseCheck l ++ rest) code.checks
+
+  variable_same : (x : BilVariable) → is_variable_of w x ≡ unrolling.is_variable_of (unrolled_of u) x
+  variable_same (bil.Register b r) = refl
+  variable_same (bil.Flag g) = refl
+  variable_same bil.Mem = refl
+  variable_same (bil.Local x n) = refl
+
+  row_by : (at size : ℕ) (fetch : Bool) (list : Option (Vec Stmt)) (draws : Bool) (row loads stores : ℕ) (asserts : ℕ × ℕ) →
+      let c : Code = record {
+        at = at;
+        length = size;
+        fetchable = fetch;
+        list = list;
+        draws = draws;
+        row = row;
+        loads = loads;
+        stores = stores;
+        asserts =
+            asserts;
+      } in
+      IsCode f bank u (point deeds.Row) c edges →
+      ((r : Row) → file_row p at ≡ Some r → AreAlong f k w i (made deeds.Row c).point (Some r) (map (edge_of u) edges)) →
+      (o : Option Row) → file_row p at ≡ o → DoesAddress f [] k w i (made deeds.Row c) o × CanBeTerms w (made deeds.Row c) (list_of list)
+  row_by at size fetch None draws row loads stores asserts code led None is =
+      let c : Code = record {
+        at = at;
+        length = size;
+        fetchable = fetch;
+        list = None;
+        draws = draws;
+        row = row;
+        loads = loads;
+        stores = stores;
+        asserts =
+            asserts;
+      } in (
+        (
           refl,
-          ap (λ (z : List PointExit). z ++ Always (stop_event f) ∷ []) code.asserts ∙ ap
-              (λ (b : Bool). assert_exits p x.point ++ Always (stop_event b) ∷ []) code.own.fetchable,
-        );
-        terms = record {
+          exits_are c code (Always (ToEvent (OfStep (stop_event fetch))) ∷ [])
+              ∙ ap (λ (b : Bool). judged c (Always (ToEvent (OfStep (stop_event b))) ∷ [])) code.own.fetchable,
+        ),
+        record {
           typed = refl;
           no_loop = refl;
           no_special = refl;
@@ -51,23 +112,27 @@ module _ (p : Program) (k : ℕ) (u : Unrolled) (form : Layout) (bank : Bank) (i
           weight = subst (λ (z : ℕ). 0 + 64 ≤ z) (sym (code.own.row ∙ ap row_price is)) (omega arith);
           loads = omega arith;
           byte_stores = omega arith;
-        };
-        counted = record {
-          draws = code.own.draws ∙ ap row_draws is;
-          row_cost = code.own.row ∙ ap row_price is;
-          loads = code.own.loads ∙ ap
-              (λ (z : Option Row). loads_at p at z) is;
-          stores = code.own.stores ∙ ap stores_at is;
-        };
-      }
-  place_by at size f None draws row loads stores asserts code led (Some r) is = absurd (subst
+        },
+      )
+  row_by at size fetch None draws row loads stores asserts code led (Some r) is = absurd (subst
       (λ (z : Option Row). IsListedAt p bank z at None) is code.own.list)
-  place_by at size f (Some v) draws row loads stores asserts code led None is = absurd (subst
+  row_by at size fetch (Some v) draws row loads stores asserts code led None is = absurd (subst
       (λ (z : Option Row). IsListedAt p bank z at (Some v)) is code.own.list)
-  place_by at size f (Some v) draws row loads stores asserts code led (Some r) is =
-      let x = (point_by u q (record { at = at; length = size; fetchable = f; list = Some v; draws = draws; row = row; loads = loads; stores = stores; asserts = asserts })
-      edges) in
-      let counted : IsCounted p x (Some r) =
+  row_by at size fetch (Some v) draws row loads stores asserts code led (Some r) is =
+      let c : Code = record {
+        at = at;
+        length = size;
+        fetchable = fetch;
+        list = Some v;
+        draws = draws;
+        row = row;
+        loads = loads;
+        stores = stores;
+        asserts =
+            asserts;
+      } in
+      let x : tables.UnrolledPoint = views.point_by u (point deeds.Row) c edges in
+      let counted : unrolling.IsCounted p x (Some r) =
       record {
         draws = code.own.draws ∙ ap row_draws is;
         row_cost = code.own.row ∙ ap row_price is;
@@ -78,13 +143,52 @@ module _ (p : Program) (k : ℕ) (u : Unrolled) (form : Layout) (bank : Bank) (i
       let listed : IsListAt p bank r at (statements v.items) = subst (λ (z : Option Row). IsListedAt p bank z at (Some v)) is code.own.list in
       let law = lists_do_rows p (unrolled_of u) form bank x r (statements v.items) fitted registers flags is (code.own.fit r is) listed refl
       (code.own.length ∙ ap row_length is) counted in
+      let does = row_as p (unrolled_of u) x r law.0 in
+      let runs = law.1 in (
+        (
+          map (edge_of u) edges,
+          exits_are c code (Raising ∷ WritingKept ∷ Unaligned ∷ map (edge_of u) edges)
+              ∙ ap (λ (o : Option Contract). judged c (Raising ∷ WritingKept ∷ (outside_exit o ++ Unaligned ∷ map (edge_of u) edges))) (sym own),
+          led r is,
+          record { length = does.length; lists = (statements v.items, refl); leaves = does.leaves; stores = does.stores },
+        ),
+        record {
+          typed = runs.typed;
+          no_loop = runs.no_loop;
+          no_special = runs.no_special;
+          nests = runs.nests;
+          picks = runs.picks;
+          steady = runs.steady;
+          names = ap (list_names_only (statements v.items)) (fun_ext variable_same) ∙ runs.names;
+          draws = runs.draws;
+          weight = runs.weight;
+          loads = runs.loads;
+          byte_stores = runs.byte_stores;
+        },
+      )
+
+  counted : (deed : Deed) (c : Code) → IsCode f bank u (point deeds.Row) c edges → IsCounted f (made deed c)
+  counted deed c code = record { draws = code.own.draws; row = code.own.row; loads = code.own.loads; stores = code.own.stores }
+
+  place_by : (c : Code) → IsCode f bank u (point deeds.Row) c edges → (cut : Bool) → is_cut f (made deeds.Row c).point ≡ cut →
+      (cut ≡ false → (r : Row) → file_row p c.at ≡ Some r → AreAlong f k w i (made deeds.Row c).point (Some r) (map (edge_of u) edges)) →
+      IsPlace f [] k w i (made (deed_by cut) c)
+  place_by c code true is led = record {
+    does = subst (λ (b : Bool). DoesBy false b f [] k w i (made deeds.Arrival c)) (sym is) (refl, exits_are c code (Always Cutting ∷ []));
+    terms = tt;
+    counted = counted deeds.Arrival c code;
+  }
+  place_by c code false is led =
+      let row = row_by c.at c.length c.fetchable c.list c.draws c.row c.loads c.stores c.asserts code (led refl) (file_row p c.at) refl in
       record {
-        does = (map edge_of edges, ap (λ (z : List PointExit). z ++ Raising ∷ WritingKept ∷ Unaligned ∷ map edge_of edges) code.asserts, led r is, law.0);
-        terms = law.1;
-        counted = counted;
+        does = subst (λ (b : Bool). DoesBy false b f [] k w i (made deeds.Row c)) (sym is) row.0;
+        terms = row.1;
+        counted = counted deeds.Row c code;
       }
 
 pub places_are_right : PlacesAreRight
-places_are_right p k u form bank i q c edges fitted registers flags code led =
-    place_by p k u form bank i q edges fitted registers flags c.at c.length c.fetchable c.list c.draws c.row c.loads c.stores c.asserts code led
-    (file_row p c.at) refl
+places_are_right f k u form bank i q c edges own fitted registers flags code deed led =
+    subst (λ (d : Deed). IsPlace f [] k (frame_unrolled_of u) i
+    (point_by u (record { root = q.root; turns = q.turns; code = q.code; stack = q.stack; deed = d; edges = q.edges }) c edges)) (sym deed)
+    (place_by f k u form bank i q.root q.turns q.code q.stack q.edges edges own fitted registers flags c (record { own = code.own; checks = code.checks })
+    (is_cut f (point_by u q c edges).point) refl led)

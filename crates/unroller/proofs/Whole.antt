@@ -1,50 +1,68 @@
--- The value is the unrolled program of a program.
-use Rattle.std.proofs.Common.{◌≡◌, inl, inr, refl, ap, sym, ◌∙◌, subst, arith, ℕ, zero, suc, ◌+◌, ◌<◌, ◌≤◌, ◌^◌, Some, List, [], ◌∷◌, length, get_or, drop, map}
-use Rattle.std.specs.Prelude.{Bool, Contains, ◌↔◌, Option, None, true, ◌==◌, filter, slice_get, slice_range}
+-- The value is the unrolled frame of a frame.
+use Rattle.std.proofs.Common.{◌≡◌, inl, inr, refl, ap, sym, ◌∙◌, subst, arith, ℕ, zero, suc, ◌+◌, ◌<◌, ◌≤◌, ◌^◌, Some, Bool, true, false, List, [], ◌∷◌, length, get_or, drop, map}
+use Rattle.std.specs.Prelude.{Contains, ◌↔◌, ◌≢◌, ◌&&◌, Option, None, ◌==◌, filter, slice_get, slice_range}
 use Rattle.std.specs.BTreeMap.{BTreeMap}
 use Rattle.std.proofs.lemmas.Bool.{cases_lt}
-use Rattle.std.proofs.lemmas.List.{get_or_default, get_or-map}
+use Rattle.std.proofs.lemmas.List.{get_or_default, get_or-map, length-map}
 use Rattle.std.proofs.lemmas.Option.{slice_get-get_or}
 use Rattle.machine_spec.specs.Machine.{Row}
 use Rattle.machine_spec.specs.MachineLaws.{IsFitted}
 use Rattle.machine_spec.specs.Bil.{Bank}
-use Rattle.bilv_spec.specs.Notes as notes
 use Rattle.bilv_spec.specs.Run.{Program, all_kept}
-use Rattle.bilv_spec.specs.Points as spec
-use Rattle.bilv_spec.specs.Points.{IsPoint, ArePoints, file_row}
+use Rattle.bilv_spec.specs.Points.{file_row}
 use Rattle.bilv_spec.specs.LiveFlags.{IsLive}
+use Rattle.bilv_spec.proofs.PointSteps.{in_map}
 use Rattle.bilv_spec.proofs.PointsInGraph.{of_map}
+use Rattle.frame_spec.specs.Frames.{Frame}
+use Rattle.frame_spec.specs.FramePoints as spec
+use Rattle.frame_spec.specs.FramePoints.{Anchor, AtEntry, AtHead, IsAnchor, IsPoint, ArePoints, first_of, has_heads, is_cut, is_entry}
+use Rattle.frame_spec.specs.FrameUnrolling.{AreAlong, IsLiteralOf, IsPlace, IsRootOf, assumed_at, checks_of}
+use Rattle.frame_spec.specs.FrameWalk as walk
+use Rattle.frame_spec.specs.FrameWalk.{UnrolledPoint, UnrolledProgram, no_point, point_at, root_at}
+use Rattle.frame_spec.proofs.OfSegments.{heads as some_heads}
+use Rattle.frame_laws.proofs.FrameAnswers.{head_anchor}
 use Rattle.graph_nodes.specs.declared.nodes.Node.{Node}
 use Rattle.graph_nodes.specs.declared.nodes.Graph.{Graph}
-use Rattle.graph_nodes.specs.Graphs.{IsGraph, addresses_of}
+use Rattle.graph_nodes.specs.Graphs.{addresses_of}
 use Rattle.graph_nodes.proofs.Places.{at_is}
-use Rattle.notes_value.specs.declared.notes.Assert.{Assert}
-use Rattle.notes_value.specs.NoteViews.{notes_of, assert_of}
+use Rattle.notes_value.specs.NoteViews.{notes_of}
 use Rattle.notes_index.specs.Indexed.{assert_places, numbered_from}
-use Rattle.program_points.specs.Listed.{HasOneWay}
-use Rattle.program_points.specs.Tables.{stack_at, IsTable}
-use Rattle.program_points.proofs.Stacked.{one_number}
+use Rattle.program_points.specs.Listed.{anchor_of}
+use Rattle.program_points.specs.declared.values.Frame as stack
+use Rattle.program_points.specs.declared.values.Root as listed
+use Rattle.program_points.specs.Tables.{is_among, stack_at, stacks_of, IsTable}
 use Rattle.start_value.specs.Starts.{layout_of}
-use Rattle.walk_spec.specs.Unrolled.{PointExit, FalseAssert, no_point, UnrolledPoint, point_at, is_register_of, is_flag_of}
-use Rattle.walk_spec.specs.Unrolling.{IsPlace, IsLiteralOf, assert_exits}
+use Rattle.walk_spec.specs.Unrolled as tables
+use Rattle.walk_spec.specs.Unrolled.{is_register_of, is_flag_of}
+use Rattle.question_form.specs.declared.unrolled.Aim.{Aim}
+use Rattle.question_form.specs.declared.unrolled.Aim.TheVariants.{OnTo, IntoHead, Outward, OverLast}
 use Rattle.question_form.specs.declared.unrolled.Code.{Code}
 use Rattle.question_form.specs.declared.unrolled.Deed.TheVariants as deeds
 use Rattle.question_form.specs.declared.unrolled.Edge.{Edge}
 use Rattle.question_form.specs.declared.unrolled.Point.{Point}
+use Rattle.question_form.specs.declared.unrolled.Root.{Root}
 use Rattle.question_form.specs.declared.unrolled.Unrolled.{Unrolled}
-use Rattle.question_form.specs.Views.{point_by, code_of, edges_from, no_code, unrolled_of, asserts_between}
-use Rattle.question_form.specs.Forms.{IsFormed}
-use Rattle.unroller.specs.Keys.{turns_of, address_of, stack_of, point_of, AreKeys}
-use Rattle.unroller.specs.Led.{AreLed, IsCalledBy, AreCalled, IsPlacedAt, ArePlaced, begins_at}
-use Rattle.unroller.specs.Places.{IsGroup, IsCodeOf, AreCodes, AreEdgesAt}
+use Rattle.question_form.specs.Views as views
+use Rattle.question_form.specs.Views.{code_of, edges_from, no_code, unrolled_of}
+use Rattle.question_form.specs.FrameViews as shown
+use Rattle.question_form.specs.FrameViews.{anchor_at, checks_between, edge_of, frame_unrolled_of, is_headless, is_judged, no_root, point_by}
+use Rattle.question_form.specs.Forms.{AreBounds, AreRootsFormed, IsAimFormed, IsFormed}
+use Rattle.unroller.specs.Keys.{root_of, turns_of, address_of, stack_of, head_of, anchor_by, point_of, AreKeys, AreSegments, IsFrameOf}
+use Rattle.unroller.specs.Led.{AreLed, IsAimFor, IsCalledBy, AreCalled, IsLeft, IsPlacedAt, ArePlaced, begins_at, is_arrival}
+use Rattle.unroller.specs.Places.{IsGroup, IsCodeOf, AreCodes, deed_by}
+use Rattle.unroller.specs.RootPoints as points
+use Rattle.unroller.specs.RootPoints.{BeginAtOwn, IsEntryFirst}
+use Rattle.unroller.specs.Roots.{AreRoots, IsGroupOf, IsRootAt}
+use Rattle.unroller.specs.Rows.{literal_by, literal_at, AreLiterals, AssignsLiveOnly, HasListsOf, IsListOf, may_assign_in}
 use Rattle.unroller.proofs.Coding.{of_nodes}
-use Rattle.unroller.proofs.FirstPoints.{entry_comes_first}
-use Rattle.unroller.proofs.Grouped.{asserts_are}
+use Rattle.unroller.proofs.FrameFirst.{points_are_of_segments}
+use Rattle.unroller.proofs.FrameLines.{assumed_are, assumed_none, judged_are, lines_are}
 use Rattle.unroller.proofs.Leads.{edges_at}
 use Rattle.unroller.proofs.Literals.{of_kept, is_kept_one, code_is_lean, code_is_listed}
-use Rattle.unroller.specs.Rows.{literal_by, literal_at, AreLiterals, AssignsLiveOnly, HasListsOf, IsListOf, may_assign_in}
-use Rattle.unroller.proofs.Looked.{points_are_at}
+use Rattle.unroller.proofs.Looked.{frame_points_are_at, points_are_at}
 use Rattle.unroller.proofs.Placed.{places_are_right}
+use Rattle.unroller.proofs.RootPlaces.{first_point, first_root}
+use Rattle.unroller.proofs.SameKeys.{entry_is, entry_root, same_key, test_zero, zero_test}
 
 one_node : (g : Graph) → ((i j : ℕ) → i < j → j < length g.nodes.items → get_or (addresses_of g) i 0 < get_or (addresses_of g) j 0) → (m n : Node) →
     Contains g.nodes.items m → Contains g.nodes.items n → m.at ≡ n.at → m ≡ n
@@ -63,19 +81,52 @@ begins_same : (u : Unrolled) (ps : List Point) → edges_from u ps ≡ begins_at
 begins_same u [] = refl
 begins_same u (q ∷ ps) = refl
 
-map_at : (xs : List Assert) → map (λ (a : notes.Assert). a.at) (map assert_of xs) ≡ map (λ (a : Assert). a.at) xs
-map_at [] = refl
-map_at (x ∷ xs) = ap (λ (l : List ℕ). x.at ∷ l) (map_at xs)
+-- what the value is made of, and what is known of it
+pub record IsMade (f : Frame) (k : ℕ) (bank : Bank) (g : Graph) (u : Unrolled) (numbers : BTreeMap (ℕ × ℕ) ℕ) (heads segments keys addresses called : List ℕ)
+    : Type 0 where
+  pub of : IsFrameOf f g heads u.entry
+  pub low : k ≤ 4096
+  pub own : f.own ≡ None
+  pub cuts : f.cuts ≡ true
+  pub invariants : u.invariants.now ≡ f.invariants
+  pub fitted : IsFitted f.program.machine (layout_of u.form)
+  pub registers : (r : ℕ) → is_register_of (unrolled_of u) r ≡ f.program.machine.has_register r
+  pub flags : (g : ℕ) → is_flag_of (unrolled_of u) g ≡ f.program.machine.has_flag g
+  pub table : IsTable u.frames.items numbers
+  pub few : length u.frames.items < 4294967296
+  pub segs : AreSegments f k u.frames.items segments
+  pub are : AreKeys f k u.frames.items segments keys
+  pub calls : AreCalled g keys u.frames.items (length keys) called
+  pub codes : AreCodes f.program bank addresses u.asserts.items (length addresses) u.codes.items
+  pub placed : ArePlaced g heads u.asserts.items u.frames.items keys addresses called (length keys) u.points.items u.edges.items
+  pub roots : AreRoots segments keys u.asserts.items u.entry (length segments) u.roots.items
+  pub index : (at : ℕ) → filter (λ x. x.0 == at) u.asserts.items
+      ≡ filter (λ x. x.0 == at) (numbered_from 0 (assert_places u.notes.now.asserts.items))
+  pub noted : f.program.notes ≡ notes_of u.notes.now
 
-module _ (p : Program) (k : ℕ) (bank : Bank) (g : Graph) (u : Unrolled) (numbers : BTreeMap (ℕ ×
-    ℕ) ℕ) (keys addresses called : List ℕ) (graph : IsGraph p g) (way : HasOneWay p)
-    (fitted : IsFitted p.machine (layout_of u.form)) (registers : (r : ℕ) → is_register_of (unrolled_of u) r ≡ p.machine.has_register r) (flags : (f : ℕ) →
-    is_flag_of (unrolled_of u) f ≡ p.machine.has_flag f)
-    (table : IsTable u.frames.items numbers) (are : AreKeys p k u.frames.items keys) (calls : AreCalled g keys u.frames.items (length keys) called)
-    (codes : AreCodes p bank addresses u.asserts.items (length addresses) u.codes.items)
-    (placed : ArePlaced g u.frames.items keys addresses called (length keys) u.points.items u.edges.items)
-    (index : (at : ℕ) → filter (λ x. x.0 == at) u.asserts.items
-    ≡ filter (λ x. x.0 == at) (numbered_from 0 (assert_places u.notes.now.asserts.items))) (noted : p.notes ≡ notes_of u.notes.now) where
+not_behind : (x y : ℕ) → x ≤ y → root_of y ≡ 0 → turns_of y ≡ 0 → (root_of x ≡ 0) × (turns_of x ≡ 0) × (address_of x ≤ address_of y)
+not_behind x y le r t = ((omega arith), (omega arith), (omega arith))
+
+least_key : (keys : List ℕ) → ((i j : ℕ) → i < j → j < length keys → get_or keys i 0 < get_or keys j 0) → (i : ℕ) → i < length keys →
+    get_or keys 0 0 ≤ get_or keys i 0
+least_key keys rise zero w = omega arith
+least_key keys rise (suc i) w = let l = rise 0 (suc i) (omega arith) w in omega arith
+
+its_anchor : (entry : ℕ) (anchor : Anchor) → is_entry anchor ≡ true → anchor ≡ AtEntry
+its_anchor entry AtEntry h = refl
+its_anchor entry (AtHead stack a) h = absurd (cc)
+
+module _ (f : Frame) (k : ℕ) (bank : Bank) (g : Graph) (u : Unrolled) (numbers : BTreeMap (ℕ × ℕ) ℕ) (heads segments keys addresses called : List ℕ)
+    (made : IsMade f k bank g u numbers heads segments keys addresses called) where
+  abbrev p : Program
+  p = f.program
+
+  abbrev w : UnrolledProgram
+  w = frame_unrolled_of u
+
+  abbrev frames : List stack.Frame
+  frames = u.frames.items
+
   abbrev none : Point
   none = record { root = 0; turns = 0; code = 0; stack = 0; deed = deeds.Row; edges = 0 }
 
@@ -94,190 +145,432 @@ module _ (p : Program) (k : ℕ) (bank : Bank) (g : Graph) (u : Unrolled) (numbe
   abbrev key : ℕ → ℕ
   key i = get_or keys i 0
 
-  pub size : length (unrolled_of u).points ≡ length keys
-  size = (points_are_at u).0 ∙ placed.count
+  abbrev here : ℕ → UnrolledPoint
+  here i = point_by u (own i) (code i) (led i)
 
-  at : (i : ℕ) → i < length keys → IsPlacedAt g u.frames.items keys addresses (key i) (get_or called i 0) (own i)
+  pub size : length w.points ≡ length keys
+  size = (frame_points_are_at u).0 ∙ made.placed.count
+
+  at : (i : ℕ) → i < length keys → IsPlacedAt g heads u.asserts.items frames keys addresses (key i) (get_or called i 0) (own i)
       (begins_at u.edges.items (rest i)) u.edges.items
-  at i w = placed.each i none w
+  at i l = made.placed.each i none l
 
-  point_is : (i : ℕ) → i < length keys → point_at (unrolled_of u) i ≡ point_by u (own i) (code i) (led i)
-  point_is i w = (points_are_at u).1 i (own i) (slice_get-get_or u.points.items i none (let c = placed.count in omega arith))
+  own_at : (i : ℕ) → i < length keys → slice_get u.points.items i ≡ Some (own i)
+  own_at i l = slice_get-get_or u.points.items i none (let c = made.placed.count in omega arith)
+
+  point_is : (i : ℕ) → i < length keys → point_at w i ≡ here i
+  point_is i l = (frame_points_are_at u).1 i (own i) (own_at i l)
 
   code_is : (i : ℕ) → i < length keys → IsCodeOf p bank (get_or addresses (own i).code 0) u.asserts.items (code i)
-  code_is i w = codes.each (own i).code no_code (at i w).coded
+  code_is i l = made.codes.each (own i).code no_code (at i l).coded
 
   code_at : (i : ℕ) → i < length keys → (code i).at ≡ address_of (key i)
-  code_at i w = (code_is i w).here ∙ (at i w).code
+  code_at i l = (code_is i l).here ∙ (at i l).code
 
-  own_is : (i : ℕ) → i < length keys → (point_by u (own i) (code i) (led i)).point ≡ point_of u.frames.items (key i)
-  own_is i w =
-      let q = at i w in
-      ap (λ (z : ℕ). let r : spec.Point = record { turns = z; stack = stack_at u.frames.items (own i).stack; at = (code i).at } in r) q.turns
-      ∙ ap (λ (z : ℕ). let r : spec.Point = record { turns = turns_of (key i); stack = stack_at u.frames.items z; at = (code i).at } in r) q.stack
-      ∙ ap (λ (z : ℕ). let r : spec.Point = record { turns = turns_of (key i); stack = stack_at u.frames.items (stack_of (key i)); at = z } in r) (code_at i w)
+  rooted_at : (i : ℕ) → i < length keys → root_of (key i) < length segments
+  rooted_at i l = made.are.rooted i l
 
-  pub points_are : (i : ℕ) → i < length keys → (point_at (unrolled_of u) i).point ≡ point_of u.frames.items (key i)
-  points_are i w = ap (λ (z : UnrolledPoint). z.point) (point_is i w) ∙ own_is i w
+  anchor_is : (n : ℕ) → n < length segments → anchor_at u n ≡ anchor_by frames segments n
+  anchor_is n l = ap (anchor_of (stacks_of frames)) (made.roots.each n no_root l).head
 
-  asserts : (i : ℕ) → i < length keys → asserts_between (notes_of u.notes.now).asserts u.asserts.items (code i).asserts
-      ≡ assert_exits p (point_by u (own i) (code i) (led i)).point
-  asserts i w =
-      let c = code_is i w in
-      let all = (notes_of u.notes.now).asserts in
-      let group = subst (λ (z : ℕ). Group z (code i).asserts) (sym c.here) c.group in
-      asserts_are (code i).at all u.asserts.items (code i).asserts group
-      (index (code i).at ∙ ap (λ (l : List ℕ). filter (λ (x : ℕ × ℕ). x.0 == (code i).at) (numbered_from 0 l)) (sym (map_at u.notes.now.asserts.items)))
-      ∙ ap (λ (n : notes.Notes). exits_of n (code i).at) (sym noted)
-    where
-      Group : ℕ → ℕ × ℕ → Type 0
-      Group z b = IsGroup u.asserts.items z b
+  own_is : (i : ℕ) → i < length keys → (here i).point ≡ point_of frames segments (key i)
+  own_is i l =
+      let q = at i l in
+      ap (λ (z : ℕ). let r : spec.Point = record {
+        anchor = anchor_at u z;
+        turns = (own i).turns;
+        contract = false;
+        stack = stack_at frames (own i).stack;
+        at = (code i).at;
+      } in r) q.root
+      ∙ ap (λ (z : Anchor). let r : spec.Point = record {
+        anchor = z;
+        turns = (own i).turns;
+        contract = false;
+        stack = stack_at frames (own i).stack;
+        at = (code i).at;
+      } in r) (anchor_is (root_of (key i)) (rooted_at i l))
+      ∙ ap (λ (z : ℕ). let r : spec.Point = record {
+        anchor = anchor_by frames segments (root_of (key i));
+        turns = z;
+        contract = false;
+        stack = stack_at frames (own i).stack;
+        at = (code i).at;
+      } in r) q.turns
+      ∙ ap (λ (z : ℕ). let r : spec.Point = record {
+        anchor = anchor_by frames segments (root_of (key i));
+        turns = turns_of (key i);
+        contract = false;
+        stack = stack_at frames z;
+        at = (code i).at;
+      } in r) q.stack
+      ∙ ap (λ (z : ℕ). let r : spec.Point = record {
+        anchor = anchor_by frames segments (root_of (key i));
+        turns = turns_of (key i);
+        contract = false;
+        stack = stack_at frames (stack_of (key i));
+        at = z;
+      } in r) (code_at i l)
 
-      exits_of : notes.Notes → ℕ → List PointExit
-      exits_of n a = map (λ (b : notes.Assert). FalseAssert b.line b.says) (filter (λ (b : notes.Assert). b.at == a) n.asserts)
+  pub points_are : (i : ℕ) → i < length keys → (point_at w i).point ≡ point_of frames segments (key i)
+  points_are i l = ap (λ (z : UnrolledPoint). z.point) (point_is i l) ∙ own_is i l
 
-  edges_are : (i : ℕ) → i < length keys → (row : Row) → file_row p (code i).at ≡ Some row →
-      AreEdgesAt p k (unrolled_of u) i (point_by u (own i) (code i) (led i)).point row (led i)
-  edges_are i w row some =
-      let q = at i w in
-      let l = q.led in
-      let n = l.0 in
-      let c = calls.each i w in
-      let same : c.0 ≡ n = one_node g graph.rising c.0 n c.1 l.1 (c.2 ∙ sym l.2) in
-      let by : IsCalledBy n (stack_of (key i)) u.frames.items (get_or called i 0) = subst
-      (λ (z : Node). IsCalledBy z (stack_of (key i)) u.frames.items (get_or called i 0)) same c.3 in
-      let here : n.at ≡ (code i).at = l.2 ∙ sym (code_at i w) in
-      let leads : AreLed p.machine.narrow n u.frames.items keys (key i) (get_or called i 0) (led i) =
-      subst (λ (b : Bool). AreLed b n u.frames.items keys (key i) (get_or called i 0) (led i)) graph.narrow
-      (subst (λ (z : ℕ). AreLed g.narrow n u.frames.items keys (key i) (get_or called i 0) (slice_range u.edges.items (own i).edges z))
-      (sym (begins_same u (rest i))) l.3) in
-      let row_here : file_row p n.at ≡ Some row = ap (file_row p) here ∙ some in
-      subst (λ (z : spec.Point). AreEdgesAt p k (unrolled_of u) i z row (led i))
-      (ap (λ (z : ℕ). let r : spec.Point = record { turns = turns_of (key i); stack = stack_at u.frames.items (stack_of (key i)); at = z }
-      in r) l.2 ∙ sym (own_is i w))
-      (edges_at p k n u.frames.items numbers keys (key i) (get_or called i 0) i row (of_nodes p g n graph l.1) way table (are.fits i w) by row_here
-      (sym l.2) are w refl (unrolled_of u) size points_are
-      (led i) leads)
+  group_at : (i : ℕ) → i < length keys → IsGroup u.asserts.items (code i).at (code i).asserts
+  group_at i l = let c = code_is i l in subst (λ (z : ℕ). IsGroup u.asserts.items z (code i).asserts) (sym c.here) c.group
 
-  pub places : (i : ℕ) → i < length keys → IsPlace p k (unrolled_of u) i (point_at (unrolled_of u) i) (file_row p (point_at (unrolled_of u) i).point.at)
-  places i w =
-      subst (λ (z : UnrolledPoint). IsPlace p k (unrolled_of u) i z (file_row p z.point.at)) (sym (point_is i w))
-      (places_are_right p k u (layout_of u.form) bank i (own i) (code i) (led i) fitted registers flags
-      (record { own = (code_is i w).row; asserts = asserts i w }) (edges_are i w))
+  checks_are : (i : ℕ) → i < length keys → filter (is_judged (anchor_at u (own i).root)) (checks_between u (code i).asserts) ≡ checks_of f (here i).point
+  checks_are i l = judged_are u f made.cuts made.invariants made.noted made.index (here i).point (code i).asserts (group_at i l)
+
+  cut_is : (i : ℕ) → i < length keys → is_arrival heads (key i) ≡ is_cut f (here i).point
+  cut_is i l =
+      ap (λ (b : Bool). b && is_among heads (address_of (key i)))
+      (sym (entry_is f k frames numbers segments made.table made.segs (root_of (key i)) (rooted_at i l)))
+      ∙ ap (λ (b : Bool). is_entry (anchor_by frames segments (root_of (key i))) && b) (sym (made.of.cuts.heads (address_of (key i))))
+      ∙ ap (is_cut f) (sym (own_is i l))
+
+  edges_are : (i : ℕ) → i < length keys → is_cut f (here i).point ≡ false → (row : Row) → file_row p (code i).at ≡ Some row →
+      AreAlong f k w i (here i).point (Some row) (map (edge_of u) (led i))
+  edges_are i l uncut row some =
+      let q = at i l in
+      let bound : IsLeft (is_arrival heads (key i)) g heads u.asserts.items frames keys (key i) (get_or called i 0) (led i) =
+      subst (λ (z : ℕ). IsLeft (is_arrival heads (key i)) g heads u.asserts.items frames keys (key i) (get_or called i 0)
+      (slice_range u.edges.items (own i).edges z)) (sym (begins_same u (rest i))) q.led in
+      let x : IsLeft false g heads u.asserts.items frames keys (key i) (get_or called i 0) (led i) =
+      subst (λ (b : Bool). IsLeft b g heads u.asserts.items frames keys (key i) (get_or called i 0) (led i)) (cut_is i l ∙ uncut) bound in
+      let n = x.0 in
+      let c = made.calls.each i l in
+      let same : c.0 ≡ n = one_node g made.of.graph.rising c.0 n c.1 x.1 (c.2 ∙ sym x.2) in
+      let by : IsCalledBy n (stack_of (key i)) frames (get_or called i 0) = subst
+      (λ (z : Node). IsCalledBy z (stack_of (key i)) frames (get_or called i 0)) same c.3 in
+      let node_at : n.at ≡ (code i).at = x.2 ∙ sym (code_at i l) in
+      let leads : AreLed heads u.asserts.items p.machine.narrow n frames keys (key i) (get_or called i 0) (led i) =
+      subst (λ (b : Bool). AreLed heads u.asserts.items b n frames keys (key i) (get_or called i 0) (led i)) made.of.graph.narrow x.3 in
+      let point_same : record {
+        anchor = anchor_by frames segments (root_of (key i));
+        turns = turns_of (key i);
+        contract = false;
+        stack = stack_at frames (stack_of (key i));
+        at = n.at;
+      } ≡ (here i).point =
+      ap (λ (z : ℕ). let r : spec.Point = record {
+        anchor = anchor_by frames segments (root_of (key i));
+        turns = turns_of (key i);
+        contract = false;
+        stack = stack_at frames (stack_of (key i));
+        at = z;
+      } in r) x.2 ∙ sym (own_is i l) in
+      subst (λ (z : spec.Point). AreAlong f k w i z (Some row) (map (edge_of u) (led i))) point_same
+      (edges_at f k n frames numbers heads u.asserts.items segments keys (key i) (get_or called i 0) i row (of_nodes p g n made.of.graph x.1) made.of.way
+      made.of.plain made.of.cuts.heads made.table (made.are.fits i l) made.few made.low by (ap (file_row p) node_at ∙ some) (sym x.2) made.segs made.are l
+      refl u size
+      points_are (lines_are u f made.cuts made.invariants made.noted made.index) (ap (is_cut f) point_same ∙ uncut) (led i) leads)
+
+  pub places : (i : ℕ) → i < length keys → IsPlace f [] k w i (point_at w i)
+  places i l =
+      subst (λ (z : UnrolledPoint). IsPlace f [] k w i z) (sym (point_is i l))
+      (places_are_right f k u (layout_of u.form) bank i (own i) (code i) (led i) made.own made.fitted made.registers made.flags
+      (record { own = (code_is i l).row; checks = checks_are i l }) ((at i l).deed ∙ ap deed_by (cut_is i l)) (edges_are i l))
+
+  -- the lists, as points of a program
+  tables_size : length (unrolled_of u).points ≡ length keys
+  tables_size = (points_are_at u).0 ∙ made.placed.count
+
+  table_is : (i : ℕ) → i < length keys → tables.point_at (unrolled_of u) i ≡ views.point_by u (own i) (code i) (led i)
+  table_is i l = (points_are_at u).1 i (own i) (own_at i l)
 
   pub lists : HasListsOf p bank (unrolled_of u)
   lists i low =
-      let inside : i < length keys = (let s = size in omega arith) in
-      subst (λ (z : UnrolledPoint). IsListOf p bank (file_row p z.point.at) z.point.at z.does) (sym (point_is i inside))
+      let inside : i < length keys = (let s = tables_size in omega arith) in
+      subst (λ (z : tables.UnrolledPoint). IsListOf p bank (file_row p z.point.at) z.point.at z.does) (sym (table_is i inside))
       (code_is_listed p bank (file_row p (code i).at) (code i).at (code i).list (code_is i inside).row.list)
 
   pub lean : AssignsLiveOnly p (unrolled_of u)
-  lean i f w low h =
-      let inside : i < length keys = (let s = size in omega arith) in
-      let e = point_is i inside in
-      subst (λ (z : UnrolledPoint). IsLive p f z.point.at) (sym e)
-      (code_is_lean p bank (file_row p (code i).at) (code i).at f (code i).list (code_is i inside).row.list low
-      (ap (λ (z : UnrolledPoint). may_assign_in f z.does) (sym e) ∙ h))
+  lean i n l low h =
+      let inside : i < length keys = (let s = tables_size in omega arith) in
+      let e = table_is i inside in
+      subst (λ (z : tables.UnrolledPoint). IsLive p n z.point.at) (sym e)
+      (code_is_lean p bank (file_row p (code i).at) (code i).at n (code i).list (code_is i inside).row.list low
+      (ap (λ (z : tables.UnrolledPoint). may_assign_in n z.does) (sym e) ∙ h))
 
-  pub words : (i : ℕ) → i < length (unrolled_of u).points → (point_at (unrolled_of u) i).point.at < 2 ^ 32
-  words i w =
-      let inside : i < length keys = (let s = size in omega arith) in
-      let e : (point_at (unrolled_of u) i).point.at ≡ address_of (key i) = ap (λ (z : spec.Point). z.at) (points_are i inside) in
+  pub words : (i : ℕ) → i < length (unrolled_of u).points → (tables.point_at (unrolled_of u) i).point.at < 2 ^ 32
+  words i l =
+      let inside : i < length keys = (let s = tables_size in omega arith) in
+      let e : (tables.point_at (unrolled_of u) i).point.at ≡ address_of (key i) =
+      ap (λ (z : tables.UnrolledPoint). z.point.at) (table_is i inside) ∙ code_at i inside in
       omega arith
 
-  same_key : (x y : ℕ) → stack_of x ≤ length u.frames.items → stack_of y ≤ length u.frames.items → point_of u.frames.items x ≡ point_of u.frames.items y → x ≡ y
-  same_key x y a b e =
-      let t : turns_of x ≡ turns_of y = ap (λ (z : spec.Point). z.turns) e in
-      let l : address_of x ≡ address_of y = ap (λ (z : spec.Point). z.at) e in
-      let q : stack_at u.frames.items (stack_of x) ≡ stack_at u.frames.items (stack_of y) = ap (λ (z : spec.Point). z.stack) e in
-      let s = one_number u.frames.items numbers table (stack_of x) (stack_of x) (stack_of y) (omega arith) a b q in
-      omega arith
+  all_same : (i j : ℕ) → i < length keys → j < length keys → point_of frames segments (key i) ≡ point_of frames segments (key j) → key i ≡ key j
+  all_same i j a b e =
+      same_key f k frames numbers segments made.table made.segs (key i) (key j) (rooted_at i a) (rooted_at j b) (made.are.fits i a) (made.are.fits j b) e
 
   abbrev all : List spec.Point
-  all = map (λ (q : UnrolledPoint). q.point) (unrolled_of u).points
+  all = map (λ (q : UnrolledPoint). q.point) w.points
 
   map_size : (xs : List UnrolledPoint) → length (map (λ (q : UnrolledPoint). q.point) xs) ≡ length xs
   map_size [] = refl
   map_size (x ∷ xs) = ap suc (map_size xs)
 
-  all_at : (i : ℕ) (d : spec.Point) → i < length keys → get_or all i d ≡ point_of u.frames.items (key i)
-  all_at i d w = get_or-map (λ (q : UnrolledPoint). q.point) (unrolled_of u).points i no_point d (let s = size in omega arith) ∙ points_are i w
+  all_at : (i : ℕ) (d : spec.Point) → i < length keys → get_or all i d ≡ point_of frames segments (key i)
+  all_at i d l = get_or-map (λ (q : UnrolledPoint). q.point) w.points i no_point d (let s = size in omega arith) ∙ points_are i l
 
-  pub are_points : ArePoints p k all
+  pub are_points : ArePoints f k all
   are_points = record {
     all = λ point is.
-        let q = are.all point is in
-        (q.0, (let s = size in let m = map_size (unrolled_of u).points in let l = q.1 in omega arith), all_at q.0 point q.1 ∙ q.2);
-    only = λ point (i, w, e).
-        let inside : i < length keys = (let s = size in let m = map_size (unrolled_of u).points in omega arith) in
-        subst (λ (z : spec.Point). IsPoint p k z) (sym (all_at i point inside) ∙ e) (are.only i inside);
-    once = λ i j l w e.
+        let q = made.are.all point is in
+        (q.0, (let s = size in let m = map_size w.points in let l = q.1 in omega arith), all_at q.0 point q.1 ∙ q.2);
+    only = λ point (i, l, e).
+        let inside : i < length keys = (let s = size in let m = map_size w.points in omega arith) in
+        subst (λ (z : spec.Point). IsPoint f k z) (sym (all_at i point inside) ∙ e) (made.are.only i inside);
+    once = λ i j l h e.
         let s = size in
-        let m = map_size (unrolled_of u).points in
+        let m = map_size w.points in
         let a : i < length keys = omega arith in
         let b : j < length keys = omega arith in
-        let first = point_of u.frames.items (key i) in
+        let first = point_of frames segments (key i) in
         let x : slice_get all i ≡ Some (get_or all i first) = slice_get-get_or all i first (omega arith) in
-        let y : slice_get all j ≡ Some (get_or all j first) = slice_get-get_or all j first w in
+        let y : slice_get all j ≡ Some (get_or all j first) = slice_get-get_or all j first h in
         let z : get_or all i first ≡ get_or all j first = some_same (get_or all i first) (get_or all j first) (sym x ∙ e ∙ y) in
-        let same = same_key (key i) (key j) (are.fits i a) (are.fits j b) (sym (all_at i first a) ∙ z ∙ all_at j first b) in
-        let up = are.rise i j l b in absurd (omega arith);
+        let same = all_same i j a b (sym (all_at i first a) ∙ z ∙ all_at j first b) in
+        let up = made.are.rise i j l b in absurd (omega arith);
   }
     where
       some_same : (a b : spec.Point) → Some a ≡ Some b → a ≡ b
       some_same a b e = cc
 
-  pub first : (point_at (unrolled_of u) 0).point ≡ record { turns = 0; stack = []; at = p.entry }
+  -- the entry's point is the first
+  entry_key : (i : ℕ) × (i < length keys) × (point_of frames segments (key i) ≡ first_of p.entry AtEntry)
+  entry_key = made.are.all (first_of p.entry AtEntry) spec.first
+
+  pub first : (point_at w 0).point ≡ first_of p.entry AtEntry
   first =
-      let q = are.all (record { turns = 0; stack = []; at = p.entry }) spec.first in
+      let q = entry_key in
       let some : 0 < length keys = (let l = q.1 in omega arith) in
-      points_are 0 some ∙ elim ((entry_comes_first p k (point_of u.frames.items (key 0)) (are.only 0 some)).1 (no_turns q.0 q.1 q.2)) as
-      (λ _. point_of u.frames.items (key 0) ≡ record { turns = 0; stack = []; at = p.entry }) [
-        | inl far ↦ absurd (let z = not_far q.0 q.1 q.2 in omega arith)
-        | inr e ↦ e
+      let x = key 0 in
+      let y = key q.0 in
+      let anchor : anchor_by frames segments (root_of y) ≡ AtEntry = ap (λ (z : spec.Point). z.anchor) q.2 in
+      let root : root_of y ≡ 0 =
+      test_zero (root_of y) (sym (entry_is f k frames numbers segments made.table made.segs (root_of y) (rooted_at q.0 q.1)) ∙ ap is_entry anchor) in
+      let back = not_behind x y (least_key keys made.are.rise q.0 q.1) root (ap (λ (z : spec.Point). z.turns) q.2) in
+      let own_anchor : anchor_by frames segments (root_of x) ≡ AtEntry =
+      its_anchor p.entry (anchor_by frames segments (root_of x))
+      (entry_is f k frames numbers segments made.table made.segs (root_of x) (rooted_at 0 some) ∙ zero_test (root_of x) back.0) in
+      let is = points_are_of_segments f k (point_of frames segments x) made.of.plain (made.are.only 0 some) in
+      points_are 0 some ∙ elim (is.up back.1) as (λ _. point_of frames segments x ≡ first_of p.entry AtEntry) [
+        | inl far ↦ absurd (let l = back.2 in let at : address_of y ≡ p.entry = ap (λ (z : spec.Point). z.at) q.2 in
+            let begin : (first_of p.entry (anchor_by frames segments (root_of x))).at ≡ p.entry = ap (λ (z : Anchor). (first_of p.entry z).at) own_anchor in
+            omega arith)
+        | inr e ↦ e ∙ ap (first_of p.entry) own_anchor
       ]
-    where
-      least : (i : ℕ) → i < length keys → key 0 ≤ key i
-      least zero w = omega arith
-      least (suc i) w = let z = are.rise 0 (suc i) (omega arith) w in omega arith
 
-      no_turns : (i : ℕ) → i < length keys → point_of u.frames.items (key i) ≡ record { turns = 0; stack = []; at = p.entry } → turns_of (key 0) ≡ 0
-      no_turns i w e =
-          let t : turns_of (key i) ≡ 0 = ap (λ (z : spec.Point). z.turns) e in
-          let l = least i w in
-          omega arith
+  -- the roots
+  abbrev root : ℕ → Root
+  root n = get_or u.roots.items n no_root
 
-      not_far : (i : ℕ) → i < length keys → point_of u.frames.items (key i) ≡ record { turns = 0; stack = []; at = p.entry } → address_of (key 0) ≤ p.entry
-      not_far i w e =
-          let t : turns_of (key i) ≡ 0 = ap (λ (z : spec.Point). z.turns) e in
-          let a : address_of (key i) ≡ p.entry = ap (λ (z : spec.Point). z.at) e in
-          let l = least i w in
-          omega arith
+  root_is : (n : ℕ) → n < length segments → IsRootAt segments keys u.asserts.items u.entry n (root n)
+  root_is n l = made.roots.each n no_root l
 
+  assumes_by : (o : Option listed.Root) (bounds : ℕ × ℕ) → IsGroupOf u.asserts.items o bounds →
+      (shown.root_of u (record { place = 0; head = o; asserts = bounds })).assumes ≡ assumed_at f (anchor_of (stacks_of frames) o)
+  assumes_by None bounds h = assumed_none u f made.cuts made.invariants made.noted made.index bounds h
+  assumes_by (Some r) bounds h =
+      assumed_are u f made.cuts made.invariants made.noted made.index (stack_at frames r.stack) r.at bounds h
+
+  of_root : (n : ℕ) → n < length segments → IsRootOf f w (shown.root_of u (root n)) (anchor_by frames segments n)
+  of_root n l =
+      let x = root_is n l in
+      record {
+        place = (let s = size in let i = x.within in omega arith);
+        point =
+            points_are (root n).place x.within ∙ ap (point_of frames segments) x.place
+            ∙ first_point f k frames numbers segments keys u.entry made.table made.few made.segs made.are made.of.begins n l
+            ∙ ap (λ (z : ℕ). first_of z (anchor_by frames segments n)) (sym made.of.begins);
+        assumes = assumes_by (head_of (get_or segments n 0)) (root n).asserts x.group;
+      }
+
+  root_count : length w.roots ≡ length segments
+  root_count = length-map u.roots.items (shown.root_of u) ∙ made.roots.count
+
+  pub roots_are : (x : walk.Root) → Contains w.roots x → (anchor : Anchor) × IsAnchor f k anchor × IsRootOf f w x anchor
+  roots_are x h =
+      let q = of_map (shown.root_of u) u.roots.items x h in
+      let n = q.1.0 in
+      let l : n < length segments = (let c = made.roots.count in let i = q.1.1 in omega arith) in
+      let e : root n ≡ q.0 = get_or_default u.roots.items n no_root q.0 q.1.1 ∙ q.1.2 in (
+        anchor_by frames segments n,
+        made.segs.only n l,
+        subst (λ (z : walk.Root). IsRootOf f w z (anchor_by frames segments n)) (ap (shown.root_of u) e ∙
+            q.2) (of_root n l),
+      )
+
+  pub rooted : (anchor : Anchor) → IsAnchor f k anchor → (x : walk.Root) × Contains w.roots x × IsRootOf f w x anchor
+  rooted anchor is =
+      let q = made.segs.all anchor is in
+      let inside : q.0 < length u.roots.items = (let c = made.roots.count in let l = q.1 in omega arith) in (
+        shown.root_of u (root q.0),
+        in_map (shown.root_of u) u.roots.items (root q.0) (q.0, inside, get_or_default u.roots.items q.0 (root q.0) no_root inside),
+        subst (λ (z : Anchor). IsRootOf f w (shown.root_of u (root q.0)) z) q.2 (of_root q.0 q.1),
+      )
+
+  place_root : (n : ℕ) → n < length segments → root_of (key (root n).place) ≡ n
+  place_root n l =
+      ap root_of (root_is n l).place
+      ∙ first_root f k frames numbers segments keys u.entry made.table made.few made.segs made.are made.of.begins n l
+
+  pub roots_once : (i j : ℕ) → i < j → j < length w.roots → (root_at w i).place ≢ (root_at w j).place
+  roots_once i j l h e =
+      let c = root_count in
+      let d = made.roots.count in
+      let a : i < length segments = omega arith in
+      let b : j < length segments = omega arith in
+      let x : (root_at w i).place ≡ (root i).place =
+      ap (λ (z : walk.Root). z.place) (get_or-map (shown.root_of u) u.roots.items i no_root walk.no_root (omega arith)) in
+      let y : (root_at w j).place ≡ (root j).place =
+      ap (λ (z : walk.Root). z.place) (get_or-map (shown.root_of u) u.roots.items j no_root walk.no_root (omega arith)) in
+      let same : i ≡ j = sym (place_root i a) ∙ ap (λ (z : ℕ). root_of (key z)) (sym x ∙ e ∙ y) ∙ place_root j b in
+      absurd (omega arith)
+
+  -- each root begins at a point of its own, the entry's first, and no other where there is no head
+  pub own_roots : BeginAtOwn u
+  own_roots n l =
+      let inside : n < length segments = (let c = made.roots.count in omega arith) in
+      let x = root_is n inside in
+      (made.placed.each (root n).place points.no_point x.within).root ∙ place_root n inside
+
+  pub entry_first : IsEntryFirst u
+  entry_first =
+      let some = entry_root f k frames numbers segments made.table made.segs in
+      ((let c = made.roots.count in let l = some.0 in omega arith), (root_is 0 some.0).head ∙ ap head_of some.1)
+
+  none_by : has_heads f ≡ false → (o : Option listed.Root) → IsAnchor f k (anchor_of (stacks_of frames) o) → o ≡ None
+  none_by none None is = refl
+  none_by none (Some r) is =
+      absurd (let z : true ≡ false =
+      sym (some_heads f r.at (head_anchor f k (first_of p.entry (anchor_of (stacks_of frames) (Some r))) is)) ∙ none in cc)
+
+  pub no_head_roots : has_heads f ≡ false → (x : Root) → Contains u.roots.items x → x.head ≡ None
+  no_head_roots none x (n, l, e) =
+      let inside : n < length segments = (let c = made.roots.count in omega arith) in
+      let same : root n ≡ x = get_or_default u.roots.items n no_root x l ∙ e in
+      ap (λ (z : Root). z.head) (sym same) ∙ (root_is n inside).head ∙ none_by none (head_of (get_or segments n 0)) (made.segs.only n inside)
+
+  -- the form of the value
   pub formed : ((i : ℕ) (d : ℕ × ℕ) → i < length u.asserts.items → (get_or u.asserts.items i d).1 < length u.notes.now.asserts.items) → IsFormed u
   formed lines = record {
-    codes = λ i d w.
-        let q = placed.each i d (let c = placed.count in omega arith) in
-        let c = codes.count in let l = q.coded in omega arith;
-    edges = λ i d w.
-        let q = placed.each i d (let c = placed.count in omega arith) in
+    codes = λ i d l.
+        let q = made.placed.each i d (let c = made.placed.count in omega arith) in
+        let c = made.codes.count in let l = q.coded in omega arith;
+    edges = λ i d l.
+        let q = made.placed.each i d (let c = made.placed.count in omega arith) in
         let l = q.ordered in let s = begins_same u (drop (i + 1) u.points.items) in omega arith;
-    within = λ i d w. (let q = placed.each i d (let c = placed.count in omega arith) in let l = q.ordered in let m = q.within in omega arith);
-    asserts = λ i d w. (let c = codes.each i d (let n = codes.count in omega arith) in (c.group.ordered, c.group.within));
+    within = λ i d l. (let q = made.placed.each i d (let c = made.placed.count in omega arith) in let l = q.ordered in let m = q.within in omega arith);
+    asserts = λ i d l. (let c = made.codes.each i d (let n = made.codes.count in omega arith) in (c.group.ordered, c.group.within));
     lines = lines;
   }
+
+  bounds_of : (o : Option listed.Root) (bounds : ℕ × ℕ) → IsGroupOf u.asserts.items o bounds → AreBounds u bounds
+  bounds_of None bounds e = subst (λ (z : ℕ × ℕ). AreBounds u z) (sym e) ((omega arith), (omega arith))
+  bounds_of (Some r) bounds h = (h.ordered, h.within)
+
+  aim_formed : (a : Aim) → IsAimFor heads u.asserts.items a → IsAimFormed u a
+  aim_formed (OnTo j) h = tt
+  aim_formed (IntoHead at bounds) h = (h.1.ordered, h.1.within)
+  aim_formed Outward h = tt
+  aim_formed OverLast h = tt
+
+  pub roots_formed : AreRootsFormed u
+  roots_formed = record {
+    points = λ q (i, l, e).
+        let inside : i < length keys = (let c = made.placed.count in omega arith) in
+        let x = made.placed.each i q inside in
+        let r = rooted_at i inside in
+        let c = made.roots.count in
+        subst (λ (z : Point). z.root < length u.roots.items) e (let z = x.root in omega arith);
+    places = λ x (n, l, e).
+        let inside : n < length segments = (let c = made.roots.count in omega arith) in
+        let r = made.roots.each n x inside in
+        subst (λ (z : Root). (z.place < length u.points.items) × AreBounds u z.asserts) e
+        ((let c = made.placed.count in let i = r.within in omega arith), bounds_of (head_of (get_or segments n 0)) (get_or u.roots.items n x).asserts r.group);
+    edges = λ e h. aim_formed e.aim (made.placed.aims e h);
+  }
+
+  -- without heads it is that of a program
+  no_aim : heads ≡ [] → (a : Aim) → IsAimFor heads u.asserts.items a → is_headless a
+  no_aim e (OnTo j) h = tt
+  no_aim e (IntoHead at bounds) h = absurd (let z : is_among [] at ≡ true = ap (λ (l : List ℕ). is_among l at) (sym e) ∙ h.0 in cc)
+  no_aim e Outward h = tt
+  no_aim e OverLast h = tt
+
+  pub no_aims : heads ≡ [] → (e : Edge) → Contains u.edges.items e → is_headless e.aim
+  no_aims none e h = no_aim none e.aim (made.placed.aims e h)
+
+  no_arrival : heads ≡ [] → (x : ℕ) → is_arrival heads x ≡ false
+  no_arrival e x = ap (λ (l : List ℕ). (root_of x == 0) && is_among l (address_of x)) e ∙ and_false (root_of x == 0)
+    where
+      and_false : (b : Bool) → (b && false) ≡ false
+      and_false true = refl
+      and_false false = refl
+
+  pub no_arrivals : heads ≡ [] → (q : Point) → Contains u.points.items q → q.deed ≡ deeds.Row
+  no_arrivals e q (i, l, same) =
+      let inside : i < length keys = (let c = made.placed.count in omega arith) in
+      let x = made.placed.each i q inside in
+      subst (λ (z : Point). z.deed ≡ deeds.Row) same (x.deed ∙ ap deed_by (no_arrival e (key i)))
+
+  -- the entry's root is the only one then
+  only_entry : heads ≡ [] → (n : ℕ) → n < length segments → is_entry (anchor_by frames segments n) ≡ true
+  only_entry none n l = by (anchor_by frames segments n) (made.segs.only n l)
+    where
+      by : (anchor : Anchor) → IsAnchor f k anchor → is_entry anchor ≡ true
+      by AtEntry is = refl
+      by (AtHead stack a) is =
+          absurd (let z : false ≡ true = sym (made.of.cuts.heads a ∙ ap (λ (l : List ℕ). is_among l a) none)
+          ∙ head_anchor f k (first_of p.entry (AtHead stack a)) is in cc)
+
+  one_segment : heads ≡ [] → length segments ≡ 1
+  one_segment none = elim (cases_lt 1 (length segments)) as (λ _. length segments ≡ 1) [
+    | inl l ↦ absurd (let e : (1 == 0) ≡ true = sym (entry_is f k frames numbers segments made.table made.segs 1 l) ∙ only_entry none 1 l in cc)
+    | inr le ↦ (let s = (entry_root f k frames numbers segments made.table made.segs).0 in omega arith)
+  ]
+
+  one_of : (xs : List Root) → length xs ≡ 1 → xs ≡ get_or xs 0 no_root ∷ []
+  one_of [] e = absurd (omega arith)
+  one_of (x ∷ []) e = refl
+  one_of (x ∷ y ∷ xs) e = absurd (omega arith)
+
+  first_place : (n : ℕ) → n < length keys → key n ≡ key 0 → n ≡ 0
+  first_place zero l e = refl
+  first_place (suc n) l e = absurd (let up = made.are.rise 0 (suc n) (omega arith) l in omega arith)
+
+  pub one_root : heads ≡ [] → u.roots.items ≡ no_root ∷ []
+  one_root none =
+      let some = entry_root f k frames numbers segments made.table made.segs in
+      let x = root_is 0 some.0 in
+      let o : head_of (get_or segments 0 0) ≡ None = ap head_of some.1 in
+      let rooted = of_root 0 some.0 in
+      let entry : anchor_by frames segments 0 ≡ AtEntry = ap (anchor_of (stacks_of frames)) o in
+      let start : 0 < length keys = (let l = x.within in omega arith) in
+      let same : key (root 0).place ≡ key 0 =
+      all_same (root 0).place 0 x.within start
+      (sym (points_are (root 0).place x.within) ∙ rooted.point ∙ ap (first_of p.entry) entry ∙ sym first ∙ points_are 0 start) in
+      one_of u.roots.items (made.roots.count ∙ one_segment none)
+      ∙ ap (λ (z : ℕ). let r : Root = record { place = z; head = (root 0).head; asserts = (root 0).asserts } in r ∷ []) (first_place (root 0).place
+      x.within same)
+      ∙ ap (λ (z : Option listed.Root). let r : Root = record { place = 0; head = z; asserts = (root 0).asserts } in r ∷ []) (x.head ∙ o)
+      ∙ ap (λ (z : ℕ × ℕ). let r : Root = record { place = 0; head = None; asserts = z } in r ∷ [])
+      (subst (λ (z : Option listed.Root). IsGroupOf u.asserts.items z (root 0).asserts) o x.group)
 
   literal_row : (o : Option Row) (at a : ℕ) → literal_by p o at ≡ Some a →
       (row : Row) × (o ≡ Some row) × (row.literal at ≡ Some a) × (all_kept p a ≡ true)
   literal_row None at a h = absurd (cc)
   literal_row (Some row) at a h = let l = of_kept p (row.literal at) a h in (row, refl, l.0, l.1)
 
-  literal_here : (at a i : ℕ) → i < length keys → address_of (key i) ≡ at → literal_at p at ≡ Some a → IsLiteralOf p k a
+  literal_here : (at a i : ℕ) → i < length keys → address_of (key i) ≡ at → literal_at p at ≡ Some a → IsLiteralOf f k a
   literal_here at a i w e h =
       let l = literal_row (file_row p at) at a h in
       record {
-        point = point_of u.frames.items (key i);
-        is_point = are.only i w;
+        point = point_of frames segments (key i);
+        is_point = made.are.only i w;
+        executes = refl;
         row = l.0;
         is_row = ap (file_row p) e ∙ l.1;
         loads = ap l.0.literal e ∙ l.2;
@@ -286,7 +579,7 @@ module _ (p : Program) (k : ℕ) (bank : Bank) (g : Graph) (u : Unrolled) (numbe
 
   -- the literals at the addresses of points are those of the points
   pub literals_are : (found : List ℕ) → ((x : ℕ) → Contains (map address_of keys) x ↔ Contains addresses x) →
-      AreLiterals p addresses (length addresses) found → (a : ℕ) → Contains found a ↔ IsLiteralOf p k a
+      AreLiterals p addresses (length addresses) found → (a : ℕ) → Contains found a ↔ IsLiteralOf f k a
   literals_are found same literals a = (
     (λ h.
         let f = (literals a).0 h in
@@ -294,7 +587,7 @@ module _ (p : Program) (k : ℕ) (bank : Bank) (g : Graph) (u : Unrolled) (numbe
         let q = of_map address_of keys spot ((same spot).1 (f.0, f.1, get_or_default addresses f.0 spot 0 f.1)) in
         literal_here spot a q.1.0 q.1.1 (ap address_of (get_or_default keys q.1.0 0 q.0 q.1.1 ∙ q.1.2) ∙ q.2) f.2),
     (λ l.
-        let q = are.all l.point l.is_point in
+        let q = made.are.all l.point l.is_point in
         let x = at q.0 q.1 in
         let e : get_or addresses (own q.0).code 0 ≡ l.point.at = x.code ∙ ap (λ (z : spec.Point). z.at) q.2 in
         (literals a).1 (

@@ -9,13 +9,14 @@ use Rattle.graph_nodes.specs.declared.nodes.Successor.{Successor}
 use Rattle.graph_nodes.specs.declared.nodes.Letter.TheVariants.{Call}
 use Rattle.program_points.specs.declared.values.Frame.{Frame}
 use Rattle.program_points.specs.declared.values.End.{End}
+use Rattle.program_points.specs.Tables as tables
 use Rattle.program_points.specs.Tables.{end, frame, frame_at, is_next, jumps_of, listed}
-use Rattle.question_form.specs.declared.unrolled.Deed.TheVariants.{Row}
 use Rattle.question_form.specs.declared.unrolled.Edge.{Edge}
 use Rattle.question_form.specs.declared.unrolled.Point.{Point}
-use Rattle.question_form.specs.declared.unrolled.Aim.TheVariants.{Outward}
-use Rattle.question_form.specs.FrameViews.{is_headless}
-use Rattle.unroller.specs.Keys.{address_of, stack_of, turns_of, target_key, IsAimAt}
+use Rattle.question_form.specs.declared.unrolled.Aim.{Aim}
+use Rattle.question_form.specs.declared.unrolled.Aim.TheVariants.{IntoHead, Outward}
+use Rattle.unroller.specs.Places.{IsGroup, deed_by}
+use Rattle.unroller.specs.Keys.{address_of, root_of, stack_of, turns_of, target_key, IsAimAt}
 
 -- one of the successors is the next address
 abbrev pub goes_on : List Successor → Bool
@@ -48,11 +49,11 @@ is_both jumps None = false
 is_both jumps (Some next) = is_among jumps next
 
 -- the edge is that to the point of a number: by going on, by a jump, or by both
-pub record IsLedTo (keys : List ℕ) (next : Option End) (both : Bool) (key : ℕ) (e : Edge) : Type 0 where
+pub record IsLedTo (heads : List ℕ) (asserts : List (ℕ × ℕ)) (keys : List ℕ) (next : Option End) (both : Bool) (key : ℕ) (e : Edge) : Type 0 where
   pub falls : e.falls ≡ is_next_key next key
   pub jumps : e.jumps ≡ (not (is_next_key next key) || both)
   pub to : e.to ≡ Some (address_of key)
-  pub aim : IsAimAt keys key e.aim
+  pub aim : IsAimAt heads asserts keys key e.aim
 
 -- the edge out of the function
 abbrev pub exit_edge : Edge
@@ -63,25 +64,33 @@ abbrev pub exits_by : (returns : Bool) → (stack : ℕ) → List Edge
 exits_by returns stack = if returns && (stack == 0) then exit_edge ∷ [] else []
 
 -- The edges of the point of a number at its node: the one out of the function first, then one for each point at an end, each once.
-pub record AreLed (narrow : Bool) (n : Node) (frames : List Frame) (keys : List ℕ) (own called : ℕ) (led : List Edge) : Type 0 where
+pub record AreLed (heads : List ℕ) (asserts : List (ℕ × ℕ)) (narrow : Bool) (n : Node) (frames : List Frame) (keys : List ℕ) (own called : ℕ) (led : List Edge)
+    : Type 0 where
   pub targets : List ℕ
   pub rise : IsStrictlyIncreasing targets
   pub same : (x : ℕ) → Contains (map (target_key own) (jumps_of narrow n (frame_at frames (stack_of own)) (stack_of own) called
       ++ listed (next_of n (stack_of own)))) x ↔ Contains targets x
-  pub small : (e : End) → Contains (jumps_of narrow n (frame_at frames (stack_of own)) (stack_of own) called) e → (e.at < 4294967296) ×
-      (e.stack < 18446744073709551616)
+  pub small : (e : End) → Contains (jumps_of narrow n (frame_at frames (stack_of own)) (stack_of own) called) e → e.at < 4294967296
   pub rest : List Edge
   pub is : led ≡ exits_by n.returns (stack_of own) ++ rest
-  pub each : AllZip (IsLedTo keys (next_of n (stack_of own)) (is_both (jumps_of narrow n (frame_at frames (stack_of own)) (stack_of own) called)
+  pub each : AllZip (IsLedTo heads asserts keys (next_of n (stack_of own)) (is_both (jumps_of narrow n (frame_at frames (stack_of own)) (stack_of own) called)
       (next_of n (stack_of own)))) targets rest
 
+-- an edge leads to a head only where there is one, with its part of the assert lines by address
+abbrev pub IsAimFor : (heads : List ℕ) → (asserts : List (ℕ × ℕ)) → Aim → Type 0
+IsAimFor heads asserts (IntoHead at bounds) = (tables.is_among heads at ≡ true) × IsGroup asserts at bounds
+IsAimFor heads asserts aim = Unit {0}
+
 -- edges are added that are those of targets
-abbrev pub AreAddedTo : List ℕ → Option End → Bool → List ℕ → (old new : List Edge) → Type 0
-AreAddedTo keys next both targets old new = (led : List Edge) × (new ≡ old ++ led) × AllZip (IsLedTo keys next both) targets led
+abbrev pub AreAddedTo : (heads : List ℕ) → (asserts : List (ℕ × ℕ)) → List ℕ → Option End → Bool → List ℕ → (old new : List Edge) → Type 0
+AreAddedTo heads asserts keys next both targets old new =
+    (led : List Edge) × (new ≡ old ++ led) × AllZip (IsLedTo heads asserts keys next both) targets led
 
 -- the edges of a point are added
-abbrev pub HasLed : (narrow : Bool) → Node → List Frame → List ℕ → (own called : ℕ) → (old new : List Edge) → Type 0
-HasLed narrow n frames keys own called old new = (led : List Edge) × (new ≡ old ++ led) × AreLed narrow n frames keys own called led
+abbrev pub HasLed : (heads : List ℕ) → (asserts : List (ℕ × ℕ)) → (narrow : Bool) → Node → List Frame → List ℕ → (own called : ℕ) → (old new : List Edge) →
+    Type 0
+HasLed heads asserts narrow n frames keys own called old new =
+    (led : List Edge) × (new ≡ old ++ led) × AreLed heads asserts narrow n frames keys own called led
 
 -- where the edges of the points behind one begin
 abbrev pub begins_at : List Edge → List Point → ℕ
@@ -99,20 +108,42 @@ pub record AreCalled (g : Graph) (keys : List ℕ) (frames : List Frame) (n : �
   pub each : (i : ℕ) → i < n → (m : Node) × Contains g.nodes.items m × (m.at ≡ address_of (slice_index keys i)) ×
       IsCalledBy m (stack_of (slice_index keys i)) frames (slice_index called i)
 
+-- the point of a number is the entry's own, and the entry is a head
+abbrev pub is_arrival : (heads : List ℕ) → (key : ℕ) → Bool
+is_arrival heads key = (root_of key == 0) && tables.is_among heads (address_of key)
+
+-- the edges are those of the point of a number at its node; where the segment ends at the point there are none
+abbrev pub IsLeft : (arrival : Bool) → Graph → (heads : List ℕ) → (asserts : List (ℕ × ℕ)) → List Frame → (keys : List ℕ) → (key called : ℕ) →
+    List Edge → Type 0
+IsLeft true g heads asserts frames keys key called led = led ≡ []
+IsLeft false g heads asserts frames keys key called led =
+    (n : Node) × Contains g.nodes.items n × (n.at ≡ address_of key) × AreLed heads asserts g.narrow n frames keys key called led
+
+-- edges are added that are those of the point of a number
+abbrev pub AreLeft : (arrival : Bool) → Graph → (heads : List ℕ) → (asserts : List (ℕ × ℕ)) → List Frame → (keys : List ℕ) → (key called : ℕ) →
+    (old new : List Edge) → Type 0
+AreLeft arrival g heads asserts frames keys key called old new =
+    (led : List Edge) × (new ≡ old ++ led) × IsLeft arrival g heads asserts frames keys key called led
+
 -- the point is that of a number, of the code of its address, with its edges, which end where those of the next one begin
-pub record IsPlacedAt (g : Graph) (frames : List Frame) (keys addresses : List ℕ) (key called : ℕ) (q : Point) (bound : ℕ) (edges : List Edge) : Type 0 where
+pub record IsPlacedAt (g : Graph) (heads : List ℕ) (asserts : List (ℕ × ℕ)) (frames : List Frame) (keys addresses : List ℕ) (key called : ℕ) (q : Point)
+    (bound : ℕ)
+    (edges : List Edge) : Type 0 where
+  pub root : q.root ≡ root_of key
   pub turns : q.turns ≡ turns_of key
   pub stack : q.stack ≡ stack_of key
   pub coded : q.code < length addresses
   pub code : slice_index addresses q.code ≡ address_of key
+  pub deed : q.deed ≡ deed_by (is_arrival heads key)
   pub ordered : q.edges ≤ bound
   pub within : bound ≤ length edges
-  pub led : (n : Node) × Contains g.nodes.items n × (n.at ≡ address_of key) × AreLed g.narrow n frames keys key called (slice_range edges q.edges bound)
+  pub led : IsLeft (is_arrival heads key) g heads asserts frames keys key called (slice_range edges q.edges bound)
 
 -- the first n points
-pub record ArePlaced (g : Graph) (frames : List Frame) (keys addresses called : List ℕ) (n : ℕ) (points : List Point) (edges : List Edge) : Type 0 where
+pub record ArePlaced (g : Graph) (heads : List ℕ) (asserts : List (ℕ × ℕ)) (frames : List Frame) (keys addresses called : List ℕ) (n : ℕ) (points : List Point)
+    (edges : List Edge) : Type 0 where
   pub count : length points ≡ n
   pub each : (i : ℕ) (d : Point) → i < n →
-      IsPlacedAt g frames keys addresses (slice_index keys i) (slice_index called i) (slice_index_or points i d) (begins_at edges (drop (i + 1) points)) edges
-  pub deeds : (q : Point) → Contains points q → q.deed ≡ Row
-  pub headless : (e : Edge) → Contains edges e → is_headless e.aim
+      IsPlacedAt g heads asserts frames keys addresses (slice_index keys i) (slice_index called i) (slice_index_or points i d)
+      (begins_at edges (drop (i + 1) points)) edges
+  pub aims : (e : Edge) → Contains edges e → IsAimFor heads asserts e.aim

@@ -1,21 +1,26 @@
--- What stands at the places of an unrolled program.
-use Rattle.std.specs.Prelude.{ℕ, ◌≡◌, ◌≤◌, ◌<◌, List, Some, map, length, slice_index, slice_index_or}
-use Rattle.std.specs.List.{AllZip, AllWithin}
+-- What stands at the places of an unrolled frame.
+use Rattle.std.specs.Prelude.{ℕ, ◌≡◌, ◌≤◌, ◌<◌, Bool, true, false, List, [], Some, None, filter, map, length, slice_index, slice_index_or}
+use Rattle.std.specs.List.{AllWithin}
 use Rattle.machine_spec.specs.Machine.{Row}
 use Rattle.machine_spec.specs.MachineLaws.{IsLawful, IsFitted}
 use Rattle.machine_spec.specs.StateText.{Layout}
 use Rattle.machine_spec.specs.Bil.{Bank}
 use Rattle.bilv_spec.specs.Run.{Program, fetchable}
-use Rattle.bilv_spec.specs.Points.{Point, EdgeEnd, file_row, file_word, row_price, loads_at, stores_at}
-use Rattle.walk_spec.specs.Unrolled.{UnrolledProgram, is_register_of, is_flag_of}
-use Rattle.walk_spec.specs.Unrolling.{AreEdgesOf, IsEdge, IsPlace, assert_exits, row_draws}
+use Rattle.bilv_spec.specs.Points.{file_row, file_word, row_price, loads_at, stores_at}
+use Rattle.walk_spec.specs.Unrolled.{is_register_of, is_flag_of}
+use Rattle.walk_spec.specs.Unrolling.{row_draws}
+use Rattle.frame_spec.specs.Frames.{Frame}
+use Rattle.frame_spec.specs.FramePoints.{is_cut}
+use Rattle.frame_spec.specs.FrameUnrolling.{AreAlong, IsPlace, checks_of}
 use Rattle.graph_nodes.specs.Graphs.{row_length}
-use Rattle.notes_value.specs.NoteViews.{notes_of}
 use Rattle.question_form.specs.declared.unrolled.Code.{Code}
+use Rattle.question_form.specs.declared.unrolled.Deed.{Deed}
+use Rattle.question_form.specs.declared.unrolled.Deed.TheVariants.{Row as RowDeed, Arrival}
 use Rattle.question_form.specs.declared.unrolled.Edge.{Edge}
 use Rattle.question_form.specs.declared.unrolled.Point as declared
 use Rattle.question_form.specs.declared.unrolled.Unrolled.{Unrolled}
-use Rattle.question_form.specs.Views.{asserts_between, edge_of, point_by, unrolled_of}
+use Rattle.question_form.specs.FrameViews.{anchor_at, checks_between, edge_of, frame_unrolled_of, is_judged, point_by}
+use Rattle.question_form.specs.Views.{unrolled_of}
 use Rattle.unroller.specs.Rows.{IsListedAt}
 
 -- The code is that of its address, whatever its assert lines are: what the file gives there, the list of the row, and the row's cost; and the row is lawful.
@@ -29,23 +34,25 @@ pub record IsRowCode (p : Program) (bank : Bank) (c : Code) : Type 0 where
   pub stores : c.stores ≡ stores_at (file_row p c.at)
   pub fit : (row : Row) → file_row p c.at ≡ Some row → IsLawful row
 
--- the code is that of its address, with the exits by the assert lines there
-pub record IsCode (p : Program) (bank : Bank) (u : Unrolled) (q : declared.Point) (c : Code) (edges : List Edge) : Type 0 where
-  pub own : IsRowCode p bank c
-  pub asserts : asserts_between (notes_of u.notes.now).asserts u.asserts.items c.asserts ≡ assert_exits p (point_by u q c edges).point
+-- the code is that of its address, with the checks by the assert lines there that are judged at the point
+pub record IsCode (f : Frame) (bank : Bank) (u : Unrolled) (q : declared.Point) (c : Code) (edges : List Edge) : Type 0 where
+  pub own : IsRowCode f.program bank c
+  pub checks : filter (is_judged (anchor_at u q.root)) (checks_between u c.asserts) ≡ checks_of f (point_by u q c edges).point
 
--- the edges are those of a point at a place, in some order with the exit first
-abbrev pub AreEdgesAt : Program → (k : ℕ) → UnrolledProgram → (i : ℕ) → Point → Row → List Edge → Type 0
-AreEdgesAt p k u i point row edges = (ends : List EdgeEnd) × AreEdgesOf p point ends × AllZip (IsEdge p k u i point row) ends (map edge_of edges)
+-- what is done at a point: nothing, where the segment of the entry ends there
+abbrev pub deed_by : (arrival : Bool) → Deed
+deed_by true = Arrival
+deed_by false = RowDeed
 
--- a point of the code of its address, with its edges, is what the definitions want at its place
+-- A point of the code of its address, with its edges, is what the frame has at its place.
 abbrev pub PlacesAreRight : Type 0
-PlacesAreRight = (p : Program) (k : ℕ) (u : Unrolled) (form : Layout) (bank : Bank) (i : ℕ) (q : declared.Point) (c : Code) (edges : List Edge) →
-    IsFitted p.machine form → ((r : ℕ) → is_register_of (unrolled_of u) r ≡ p.machine.has_register r) →
-    ((f : ℕ) → is_flag_of (unrolled_of u) f ≡ p.machine.has_flag f) →
-    IsCode p bank u q c edges →
-    ((row : Row) → file_row p c.at ≡ Some row → AreEdgesAt p k (unrolled_of u) i (point_by u q c edges).point row edges) →
-    IsPlace p k (unrolled_of u) i (point_by u q c edges) (file_row p c.at)
+PlacesAreRight = (f : Frame) (k : ℕ) (u : Unrolled) (form : Layout) (bank : Bank) (i : ℕ) (q : declared.Point) (c : Code) (edges : List Edge) →
+    f.own ≡ None → IsFitted f.program.machine form → ((r : ℕ) → is_register_of (unrolled_of u) r ≡ f.program.machine.has_register r) →
+    ((g : ℕ) → is_flag_of (unrolled_of u) g ≡ f.program.machine.has_flag g) → IsCode f bank u q c edges →
+    q.deed ≡ deed_by (is_cut f (point_by u q c edges).point) →
+    (is_cut f (point_by u q c edges).point ≡ false → (row : Row) → file_row f.program c.at ≡ Some row →
+    AreAlong f k (frame_unrolled_of u) i (point_by u q c edges).point (Some row) (map (edge_of u) edges)) →
+    IsPlace f [] k (frame_unrolled_of u) i (point_by u q c edges)
 
 -- the bounds are those of the places of an address among places by rising addresses
 pub record IsGroup (index : List (ℕ × ℕ)) (at : ℕ) (bounds : ℕ × ℕ) : Type 0 where

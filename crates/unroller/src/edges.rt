@@ -1,13 +1,13 @@
 //! The edges of a point.
 ghost use Rattle.std.specs.Prelude.{◌≡◌, ◌↔◌, ◌≤◌, ◌<◌, ◌++◌, ℕ, IfOk, OnOk, Contains, length, map};
-ghost use Rattle.std.specs.List.Sorted.{IsStrictlyIncreasing};
+ghost use Rattle.std.specs.List.Sorted.{IsNonDecreasingBy, IsStrictlyIncreasing};
 ghost use Rattle.program_points.specs.declared.values.End.{End as JumpEnd};
 ghost use Rattle.program_points.specs.Tables.{listed};
 ghost use Rattle.unroller.specs.Keys as numbers;
 ghost use Rattle.unroller.specs.Led as leads;
 ghost use Rattle.unroller.specs.Led.{AreAddedTo, HasLed, IsLedTo, exit_edge, exits_by, is_both, is_next_key, next_of};
 
-use crate::keys::{address_of, aim, keys_in_order, stack_of, target_key};
+use crate::keys::{Aims, address_of, aim, keys_in_order, stack_of, target_key};
 use graph_nodes::{Letter, Node, Successor};
 use program_points::{End, Frame, jumps};
 use question_form::{Aim, Edge};
@@ -71,17 +71,18 @@ fn is_next(next: Option<End>, key: u128) -> bool
 }
 
 /// The edge to the point of a number.
-fn edge(keys: &[u128], next: Option<End>, both: bool, key: u128) -> Edge
-    requires rise { IsStrictlyIncreasing keys.now }
-    requires few { length keys.now ≤ 16777216 }
-    ensures { IsLedTo keys.now next both key result }
+fn edge(aims: &Aims, next: Option<End>, both: bool, key: u128) -> Edge
+    requires rise { IsStrictlyIncreasing aims.now.keys.now }
+    requires few { length aims.now.keys.now ≤ 16777216 }
+    requires sorted { IsNonDecreasingBy (λ x. x.0) aims.now.asserts.now }
+    ensures { IsLedTo aims.now.heads.now aims.now.asserts.now aims.now.keys.now next both key result }
 {
     let falls = is_next(next, key);
     Edge {
         falls,
         jumps: !falls || both,
         to: Some(address_of(key)),
-        aim: aim(keys, key),
+        aim: aim(aims, key),
     }
 }
 
@@ -92,10 +93,11 @@ fn targets(
     jumps: &[End],
     next: Option<End>,
 ) -> Result<Vec<u128>, AllocError>
-    requires { numbers.turns_of own ≤ 4096 }
+    requires root { numbers.root_of own ≤ 16777216 }
+    requires low { numbers.turns_of own ≤ 4096 }
     ensures rise { IfOk result (λ v. IsStrictlyIncreasing v.items) }
     ensures same { IfOk result (λ v. (x : ℕ) → Contains (map (numbers.target_key own) (jumps.now ++ listed next)) x ↔ Contains v.items x) }
-    ensures small { IfOk result (λ v. (e : JumpEnd) → Contains jumps.now e → (e.at < 4294967296) × (e.stack < 18446744073709551616)) }
+    ensures small { IfOk result (λ v. (e : JumpEnd) → Contains jumps.now e → e.at < 4294967296) }
 {
     let mut found: Vec<u128> = Vec::new(alloc);
     for end in jumps {
@@ -127,17 +129,18 @@ fn add_exit(edges: &mut Vec<Edge>, returns: bool, stack: usize) -> Result<(), Al
 /// Adds the edges to the points of numbers. The error is want of memory.
 fn add_targets(
     edges: &mut Vec<Edge>,
-    keys: &[u128],
+    aims: &Aims,
     next: Option<End>,
     both: bool,
     targets: &[u128],
 ) -> Result<(), AllocError>
-    requires rise { IsStrictlyIncreasing keys.now }
-    requires few { length keys.now ≤ 16777216 }
-    ensures { OnOk result (AreAddedTo keys.now next both targets.now edges.old.items edges.new.items) }
+    requires rise { IsStrictlyIncreasing aims.now.keys.now }
+    requires few { length aims.now.keys.now ≤ 16777216 }
+    requires sorted { IsNonDecreasingBy (λ x. x.0) aims.now.asserts.now }
+    ensures { OnOk result (AreAddedTo aims.now.heads.now aims.now.asserts.now aims.now.keys.now next both targets.now edges.old.items edges.new.items) }
 {
     for key in targets {
-        edges.push(edge(keys, next, both, *key))?;
+        edges.push(edge(aims, next, both, *key))?;
     }
     Ok(())
 }
@@ -150,14 +153,17 @@ pub fn add_edges(
     narrow: bool,
     node: &Node,
     frames: &[Frame],
-    keys: &[u128],
+    aims: &Aims,
     own: u128,
     called: usize,
 ) -> Result<(), AllocError>
+    requires root { numbers.root_of own ≤ 16777216 }
     requires low { numbers.turns_of own ≤ 4096 }
-    requires rise { IsStrictlyIncreasing keys.now }
-    requires few { length keys.now ≤ 16777216 }
-    ensures { OnOk result (HasLed narrow node.now frames.now keys.now own called edges.old.items edges.new.items) }
+    requires rise { IsStrictlyIncreasing aims.now.keys.now }
+    requires few { length aims.now.keys.now ≤ 16777216 }
+    requires sorted { IsNonDecreasingBy (λ x. x.0) aims.now.asserts.now }
+    ensures { OnOk result (HasLed aims.now.heads.now aims.now.asserts.now narrow node.now frames.now aims.now.keys.now own called edges.old.items
+        edges.new.items) }
 {
     let stack = stack_of(own);
     let jumps = jumps(alloc, narrow, node, frames, stack, called)?;
@@ -165,6 +171,6 @@ pub fn add_edges(
     let targets = targets(alloc, own, &jumps, next)?;
     let both = also_jumps(&jumps, next);
     add_exit(edges, node.returns, stack)?;
-    add_targets(edges, keys, next, both, &targets)?;
+    add_targets(edges, aims, next, both, &targets)?;
     Ok(())
 }

@@ -1,34 +1,45 @@
 //! Points as numbers, in the order of places.
 ghost use Rattle.std.specs.Prelude.{◌≡◌, ◌↔◌, ◌≤◌, ◌<◌, ℕ, IfOk, MatchOption, Contains, length, map, slice_index, slice_index_or};
-ghost use Rattle.std.specs.List.Sorted.{IsStrictlyIncreasing};
-ghost use Rattle.program_points.specs.declared.values.Point.{Point as ListedPoint};
+ghost use Rattle.std.specs.List.Sorted.{IsNonDecreasingBy, IsStrictlyIncreasing};
+ghost use Rattle.program_points.specs.declared.values.FramePoint.{FramePoint as ListedPoint};
+ghost use Rattle.program_points.specs.Tables.{is_among};
 ghost use Rattle.unroller.specs.Keys as numbers;
 ghost use Rattle.unroller.specs.Keys.{IsAimAt};
 
-use program_points::{End, Point};
+use notes_index::group;
+use program_points::{End, FramePoint, Root};
 use question_form::Aim;
 use std::alloc::{AllocError, Global};
 
-/// What a backward transfer counts in the number of a point: 2^96.
-const TURN: u128 = 79_228_162_514_264_337_593_543_950_336;
+/// What a root counts in the number of a point: 2^96.
+const ROOT: u128 = 79_228_162_514_264_337_593_543_950_336;
 
-/// What an address counts in the number of a point: 2^64.
-const ADDRESS: u128 = 18_446_744_073_709_551_616;
+/// What a backward transfer counts in the number of a point: 2^64.
+const TURN: u128 = 18_446_744_073_709_551_616;
 
-/// The number of a point: by its backward transfers, then by its address, then by the number of its stack.
-fn key_of(turns: u32, at: u32, stack: usize) -> u128
-    ensures value { result ≡ numbers.key_of turns at stack }
-    ensures address { numbers.address_of result ≡ at }
-    ensures stack { numbers.stack_of result ≡ stack }
+/// What an address counts in the number of a point: 2^32.
+const ADDRESS: u128 = 4_294_967_296;
+
+/// The number of a point: by the number of its root, then by its backward transfers, then by its address, then by the number of its stack.
+pub fn key_of(root: u32, turns: u32, at: u32, stack: usize) -> u128
+    requires { root ≤ 16777216 }
+    ensures { result ≡ numbers.key_of root turns at stack }
 {
-    turns as u128 * TURN + at as u128 * ADDRESS + stack as u128
+    root as u128 * ROOT + turns as u128 * TURN + at as u128 * ADDRESS + stack as u128
+}
+
+/// The number of the root of the point of a number.
+pub fn root_of(key: u128) -> u32
+    ensures { result ≡ numbers.root_of key }
+{
+    (key / ROOT) as u32
 }
 
 /// The backward transfers of the point of a number.
 pub fn turns_of(key: u128) -> u32
     ensures { result ≡ numbers.turns_of key }
 {
-    (key / TURN) as u32
+    (key / TURN % 4_294_967_296) as u32
 }
 
 /// The address of the point of a number.
@@ -45,30 +56,99 @@ pub fn stack_of(key: u128) -> usize
     (key % ADDRESS) as usize
 }
 
-/// The number of the point at an end of a point.
+/// The number of where a segment begins: 0 for the entry, and for a head by its address and the number of its stack.
+fn head_number(head: Option<Root>) -> u128
+    ensures { result ≡ numbers.head_number head }
+{
+    match head {
+        None => 0,
+        Some(head) => head.at as u128 * 18_446_744_073_709_551_616 + head.stack as u128 + 1,
+    }
+}
+
+/// Where the segment of a number begins: at a head, or at the entry.
+pub fn head_of(number: u128) -> Option<Root>
+    ensures { result ≡ numbers.head_of number }
+{
+    if number == 0 {
+        return None;
+    }
+    let stack = ((number - 1) % 18_446_744_073_709_551_616) as usize;
+    let at = ((number - 1) / 18_446_744_073_709_551_616 % 4_294_967_296) as u32;
+    Some(Root { stack, at })
+}
+
+/// The number of the point at an end of a point, which is of the same segment.
 pub fn target_key(own: u128, end: End) -> u128
-    requires { numbers.turns_of own ≤ 4096 }
+    requires root { numbers.root_of own ≤ 16777216 }
+    requires low { numbers.turns_of own ≤ 4096 }
     ensures value { result ≡ numbers.target_key own end }
-    ensures address { numbers.address_of result ≡ end.at }
-    ensures stack { numbers.stack_of result ≡ end.stack }
+    ensures small { end.at < 4294967296 }
 {
     let turns = turns_of(own);
     if end.at <= address_of(own) {
-        return key_of(turns + 1, end.at, end.stack);
+        return key_of(root_of(own), turns + 1, end.at, end.stack);
     }
-    key_of(turns, end.at, end.stack)
+    key_of(root_of(own), turns, end.at, end.stack)
 }
 
-/// The numbers of points. The error is want of memory.
-pub fn point_keys(alloc: Global, points: &[Point]) -> Result<Vec<u128>, AllocError>
-    requires { (q : ListedPoint) → Contains points.now q → q.turns ≤ 4096 }
-    ensures listed { IfOk result (λ v. v.items ≡ map numbers.point_key points.now) }
-    ensures small { IfOk result (λ v. (q : ListedPoint) → Contains points.now q → (q.at < 4294967296) × (q.stack < 18446744073709551616)) }
+/// The numbers of where the segments of points begin, each once and rising. The error is want of memory.
+pub fn segments(alloc: Global, points: &[FramePoint]) -> Result<Vec<u128>, AllocError>
+    ensures rise { IfOk result (λ v. IsStrictlyIncreasing v.items) }
+    ensures same { IfOk result (λ v. (x : ℕ) → Contains (map numbers.segment_of points.now) x ↔ Contains v.items x) }
+    ensures few { IfOk result (λ v. length v.items ≤ length points.now) }
+{
+    let mut found: Vec<u128> = Vec::with_capacity(alloc, points.len())?;
+    for point in points {
+        found.push(head_number(point.root))?;
+    }
+    let ordered = keys_in_order(found)?;
+    Ok(ordered)
+}
+
+/// The place of a number that is among rising ones, by binary search.
+pub fn place_in(list: &[u128], number: u128) -> usize
+    requires rise { IsStrictlyIncreasing list.now }
+    requires among { Contains list.now number }
+    ensures within { result < length list.now }
+    ensures at { slice_index list.now result ≡ number }
+    ensures value { result ≡ numbers.place_in list.now number }
+{
+    match list.binary_search(&number) {
+        Ok(place) => place,
+        Err(_) => unreachable!(),
+    }
+}
+
+/// The number of a listed point, by the numbers of where segments begin.
+fn point_key(point: FramePoint, segments: &[u128]) -> u128
+    requires rise { IsStrictlyIncreasing segments.now }
+    requires few { length segments.now ≤ 16777216 }
+    requires low { point.turns ≤ 4096 }
+    requires rooted { Contains segments.now (numbers.segment_of point) }
+    ensures value { result ≡ numbers.point_key segments.now point }
+    ensures small { point.at < 4294967296 }
+{
+    let root = place_in(segments, head_number(point.root));
+    key_of(root as u32, point.turns as u32, point.at, point.stack)
+}
+
+/// The numbers of points, by the numbers of where their segments begin. The error is want of memory.
+pub fn point_keys(
+    alloc: Global,
+    points: &[FramePoint],
+    segments: &[u128],
+) -> Result<Vec<u128>, AllocError>
+    requires rise { IsStrictlyIncreasing segments.now }
+    requires few { length segments.now ≤ 16777216 }
+    requires low { (q : ListedPoint) → Contains points.now q → q.turns ≤ 4096 }
+    requires rooted { (q : ListedPoint) → Contains points.now q → Contains segments.now (numbers.segment_of q) }
+    ensures listed { IfOk result (λ v. v.items ≡ map (numbers.point_key segments.now) points.now) }
+    ensures small { IfOk result (λ v. (q : ListedPoint) → Contains points.now q → q.at < 4294967296) }
 {
     let mut found: Vec<u128> = Vec::new(alloc);
     for point in points {
-        prove!(point.turns <= 4096);
-        found.push(key_of(point.turns as u32, point.at, point.stack))?;
+        found.push(point_key(*point, segments))?;
     }
     Ok(found)
 }
@@ -120,13 +200,36 @@ pub fn address_place(addresses: &[u32], at: u32) -> Option<usize>
     }
 }
 
-/// Where an edge to the point of a number leads, by binary search among the numbers of all points.
-pub fn aim(keys: &[u128], key: u128) -> Aim
-    requires rise { IsStrictlyIncreasing keys.now }
-    requires few { length keys.now ≤ 16777216 }
-    ensures { IsAimAt keys.now key result }
+/// What says where edges lead: the heads, the assert lines by address, and the numbers of all points.
+#[derive(Clone, Copy)]
+pub struct Aims<'a> {
+    pub heads: &'a [u32],
+    pub asserts: &'a [(u32, usize)],
+    pub keys: &'a [u128],
+}
+
+/// Whether an address is a head.
+pub fn is_head(heads: &[u32], at: u32) -> bool
+    ensures { result ≡ is_among heads.now at }
 {
-    match keys.binary_search(&key) {
+    heads.contains(&at)
+}
+
+/// Where an edge to the point of a number leads: to a head, or else by binary search among the numbers of all points.
+pub fn aim(aims: &Aims, key: u128) -> Aim
+    requires rise { IsStrictlyIncreasing aims.now.keys.now }
+    requires few { length aims.now.keys.now ≤ 16777216 }
+    requires sorted { IsNonDecreasingBy (λ x. x.0) aims.now.asserts.now }
+    ensures { IsAimAt aims.now.heads.now aims.now.asserts.now aims.now.keys.now key result }
+{
+    let at = address_of(key);
+    if is_head(aims.heads, at) {
+        return Aim::IntoHead {
+            at,
+            asserts: group(aims.asserts, at),
+        };
+    }
+    match aims.keys.binary_search(&key) {
         Ok(place) => Aim::OnTo(place as u32),
         Err(_) => Aim::OverLast,
     }

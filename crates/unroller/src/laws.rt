@@ -1,6 +1,5 @@
 //! Laws of lifted lists, of places and of edges.
 ghost use Rattle.unroller.specs.Edges.{EndsMakeEdges, ExitsAreReturns};
-ghost use Rattle.unroller.specs.FirstPoint.{EntryComesFirst};
 ghost use Rattle.unroller.specs.FrameFirst.{PointsAreOfSegments};
 ghost use Rattle.unroller.specs.Kept.{KeptRunsAreRight};
 ghost use Rattle.unroller.specs.Lookups.{FormsAreRight, PointsAreAt};
@@ -12,7 +11,7 @@ pub fn lists_do_rows()
     ensures { ListsDoRows }
 {}
 
-/// A point of the code of its address, with its edges, is what the definitions want at its place.
+/// A point of the code of its address, with its edges, is what a frame has at its place.
 pub fn places_are_right()
     ensures { PlacesAreRight }
 {}
@@ -40,11 +39,6 @@ pub fn forms_are_right()
 /// The maximal runs of kept addresses of a file are runs of the definitions.
 pub fn kept_runs_are_right()
     ensures { KeptRunsAreRight }
-{}
-
-/// By backward transfers and address the entry's point is the first.
-pub fn entry_comes_first()
-    ensures { EntryComesFirst }
 {}
 
 /// The points of a frame that steps over no contract, within their segments.

@@ -1,21 +1,23 @@
 //! The unrolled program of a program: its points in an order in which every edge leads to a later one, with what is done at each and how it is left; and its
-//! price.
+//! price. So the unrolled frame of a program with invariants, whose runs are cut at their addresses.
 #![tactic(auto)]
 
 mod codes;
-mod costs;
+pub mod costs;
 mod edges;
 mod keys;
 mod laws;
-mod lines;
+pub mod lines;
+mod numbering;
 mod placing;
-mod prices;
+pub mod prices;
+mod roots;
 mod unrolling;
 
 pub use codes::{code_at, codes_at, literals_at};
 pub use laws::{
-    ends_make_edges, entry_comes_first, exits_are_returns, forms_are_right, kept_runs_are_right,
-    lists_do_rows, places_are_right, points_are_at, points_are_of_segments,
+    ends_make_edges, exits_are_returns, forms_are_right, kept_runs_are_right, lists_do_rows,
+    places_are_right, points_are_at, points_are_of_segments,
 };
 pub use prices::{price, price_with};
-pub use unrolling::{unroll, unroll_asking};
+pub use unrolling::{unroll, unroll_asking, unroll_frame};

@@ -11,7 +11,7 @@ use crate::costs::{LineCost, line_cost};
 use notes_value::{Assert, NoteLine};
 
 /// The cost of no line.
-fn nothing() -> LineCost
+pub fn nothing() -> LineCost
     ensures { AreLineCosts result [] }
 {
     LineCost { price: 0, loads: 0 }

@@ -28,7 +28,7 @@ pub struct Totals {
 }
 
 /// The sum of two numbers, at most 2^128 - 1.
-fn plus(a: u128, b: u128) -> u128
+pub fn plus(a: u128, b: u128) -> u128
     ensures { (x y : ℕ) → a ≡ capped x → b ≡ capped y → result ≡ capped (x + y) }
 {
     a.saturating_add(b)
@@ -66,7 +66,7 @@ fn any_out(edges: &[Edge]) -> bool
 }
 
 /// What a point of a code comes to, where its assert lines and the ensure lines have their costs.
-fn code_totals(code: &Code, edges: &[Edge], asserted: LineCost, ensured: LineCost) -> Totals
+pub fn code_totals(code: &Code, edges: &[Edge], asserted: LineCost, ensured: LineCost) -> Totals
     ensures { AreOfCode code.now edges.now asserted ensured result }
 {
     let (count, lines) = match &code.list {
@@ -104,7 +104,7 @@ fn point_totals(u: &Unrolled, ensured: LineCost, point: Point, end: usize) -> To
 }
 
 /// The sums of two.
-fn add(a: Totals, b: Totals) -> Totals
+pub fn add(a: Totals, b: Totals) -> Totals
     ensures { AreSums a b result }
 {
     Totals {
@@ -141,7 +141,7 @@ fn all_totals(u: &Unrolled, ensured: LineCost) -> Totals
 }
 
 /// The number of known bytes, at most 2^128 - 1.
-fn known_count(known: &[Known]) -> u128
+pub fn known_count(known: &[Known]) -> u128
     ensures { result ≡ capped (sum_by (λ r. r.count) (map run_of known.now)) }
 {
     let mut count = 0u128;
@@ -152,7 +152,7 @@ fn known_count(known: &[Known]) -> u128
 }
 
 /// The part of the price that pays for the cells of memory, by byte loads, byte stores, edges and known bytes.
-fn memory_price(l: u128, s: u128, e: u128, k: u128) -> u128
+pub fn memory_price(l: u128, s: u128, e: u128, k: u128) -> u128
     ensures { (loads stores edges known : ℕ) → l ≡ capped loads → s ≡ capped stores → e ≡ capped edges → k ≡ capped known →
         result ≡ capped (cell_price loads stores edges known) }
 {
@@ -170,7 +170,7 @@ fn memory_price(l: u128, s: u128, e: u128, k: u128) -> u128
 }
 
 /// The part of the price that pays for terms, by the price of rows, edges, the price of lines, byte stores and runs of kept bytes.
-fn gate_price(rows: u128, edges: u128, lines: u128, stores: u128, runs: u128) -> u128
+pub fn gate_price(rows: u128, edges: u128, lines: u128, stores: u128, runs: u128) -> u128
     ensures { (r e l s k : ℕ) → rows ≡ capped r → edges ≡ capped e → lines ≡ capped l → stores ≡ capped s → runs ≡ capped k →
         result ≡ capped (1024 + r + 1280 * e + l + 128 * (s * k)) }
 {

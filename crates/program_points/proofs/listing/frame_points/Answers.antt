@@ -1,6 +1,6 @@
-use Rattle.std.proofs.Common.{arith, refl, length}
+use Rattle.std.proofs.Common.{ap, arith, refl, length}
 use Rattle.std.proofs.lemmas.Option.{slice_get_read}
-use Rattle.program_points.proofs.Expanded.{wider, step_longer}
+use Rattle.program_points.proofs.Expanded.{wider, step_few, step_longer}
 use Rattle.program_points.proofs.Walked.{walk_first, walk_more, has_more, are_points}
 use Rattle.program_points.proofs.listing.frame_points.Goals as goal
 
@@ -11,6 +11,7 @@ listing-init c = record {
       (omega arith) c.in_ok-found.ensures.listed;
   place = omega arith;
   low = omega arith;
+  few = (let e = ap length c.no_frames-stacks.ensures.empty in omega arith);
   walk = λ f is e way cuts.
       walk_first f c.args.graph.now c.args.cuts.now.heads.now c.args.cuts.now.stepped.now c.args.k c.args.max is way cuts c.args.entry
       c.no_frames-stacks.result.frames.items c.in_ok-found.found.points.items e c.in_ok-found.ensures.first;
@@ -40,6 +41,10 @@ listing-preserved c = record {
       c.listing.stacks.frames.items c.expand.new.stacks.frames.items c.listing.found.points.items
       c.expand.new.found.points.items c.in_ok-expand.ensures.step in omega arith);
   low = omega arith;
+  few =
+      (let l = step_few c.args.graph.now c.args.cuts.now.heads.now c.args.cuts.now.stepped.now c.args.k c.args.max c.index-point.result.now
+      c.listing.stacks.frames.items c.expand.new.stacks.frames.items c.listing.found.points.items
+      c.expand.new.found.points.items c.in_ok-expand.ensures.step in let b = c.listing.invariant.few in omega arith);
   walk = λ f is e way cuts.
       walk_more f c.args.graph.now c.args.cuts.now.heads.now c.args.cuts.now.stepped.now c.args.k c.args.max is way cuts c.listing.stacks.frames.items
       c.expand.new.stacks.frames.items c.expand.new.stacks.numbers c.listing.found.points.items
@@ -51,3 +56,12 @@ listing-preserved c = record {
 
 pub returns-then-next-len-clause-numbered : goal.returns-then-next-len-clause-numbered
 returns-then-next-len-clause-numbered c = λ q h. (c.listing.invariant.listed.within q h).stack
+
+pub returns-then-next-len-clause-rooted : goal.returns-then-next-len-clause-rooted
+returns-then-next-len-clause-rooted c = λ q h. (c.listing.invariant.listed.within q h).root
+
+pub returns-then-next-len-clause-few_stacks : goal.returns-then-next-len-clause-few_stacks
+returns-then-next-len-clause-few_stacks c = let b = c.listing.invariant.few in omega arith
+
+pub returns-then-next-len-clause-low : goal.returns-then-next-len-clause-low
+returns-then-next-len-clause-low c = λ q h. (c.listing.invariant.listed.within q h).turns

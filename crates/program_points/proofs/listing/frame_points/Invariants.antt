@@ -12,6 +12,7 @@ invariant-listing l = record {
   listed : IsListed l.k (length l.stacks.frames.items) l.found.points.items l.found.seen;
   place : l.next ≤ length l.found.points.items;
   low : l.next ≤ l.max + 1;
+  few : length l.stacks.frames.items ≤ l.next;
   walk : (f : frames.Frame) → IsGraph f.program l.graph → f.program.entry ≡ l.entry → HasOneWay f.program → AreCuts f l.cuts.heads.now l.cuts.stepped.now →
       Walk f l.k l.max l.stacks.frames.items l.found.points.items l.next;
 }

@@ -41,8 +41,7 @@ loop-end-preserved c =
           c.loop-end.invariant.found
           (c.in_ok-push.ensures.items ∙ ap (λ k. c.loop-end.found.items ++ k ∷ []) c.target_key.ensures.value);
       small = λ e h.
-          small_more c.args.own c.args.jumps.now c.loop-end.end-index c.loop-end-test.true none c.target_key.result c.target_key.ensures.address
-          c.target_key.ensures.stack c.loop-end.invariant.small e h;
+          small_more c.args.jumps.now c.loop-end.end-index c.loop-end-test.true none c.target_key.ensures.small c.loop-end.invariant.small e h;
     }
 
 pub returns-clause-small : goal.returns-clause-small

@@ -7,5 +7,5 @@ use Rattle.unroller.proofs.edges.targets.Given as goal
 abbrev pub invariant-loop-end : goal.invariant-loop-end
 invariant-loop-end l = record {
   found : l.found.items ≡ map (target_key l.own) (take l.end-index l.jumps);
-  small : (e : End) → Contains (take l.end-index l.jumps) e → (e.at < 4294967296) × (e.stack < 18446744073709551616);
+  small : (e : End) → Contains (take l.end-index l.jumps) e → e.at < 4294967296;
 }

@@ -1,10 +1,11 @@
-use Rattle.std.proofs.Common.{ℕ, List, ap, sym, ◌∙◌, subst, ◌++◌}
+use Rattle.std.proofs.Common.{ℕ, List, ap, sym, ◌∙◌, subst, arith, ◌++◌}
 use Rattle.std.specs.Prelude.{Contains}
 use Rattle.graph_nodes.specs.Graphs.{addresses_of}
 use Rattle.program_points.specs.declared.values.Frame.{Frame}
-use Rattle.program_points.specs.Tables.{IsCalled}
+use Rattle.word_spec.specs.Words.{add}
+use Rattle.program_points.specs.Tables.{frame, IsCalled}
 use Rattle.program_points.proofs.Lists.{regroup}
-use Rattle.unroller.proofs.Adding.{called_more}
+use Rattle.unroller.proofs.Adding.{called_more, pushed_few}
 use Rattle.unroller.proofs.placing.calls.Goals as goal
 
 pub unreachable-requires : goal.unreachable-requires
@@ -18,7 +19,11 @@ loop-key-preserved c =
     let more = c.in_ok-number.ensures.called in
     record {
       table = c.in_ok-number.ensures.table;
-      begins = (old.0 ++ more.rest, more.begins ∙ ap (λ (l : List Frame). l ++ more.rest) old.1 ∙ regroup c.args.stacks.now.frames.items old.0 more.rest);
+      begins = (
+        old.0 ++ more.rest,
+        more.begins ∙ ap (λ (l : List Frame). l ++ more.rest) old.1 ∙ regroup c.args.stacks.now.frames.items old.0 more.rest,
+        pushed_few old.0 more.rest (frame (add 32 c.in-Some.node.now.at c.in-Some.node.now.length) c.stack_of.result) c.loop-key.key-index old.2 more.only,
+      );
       called =
           called_more c.args.graph.now c.args.keys.now c.loop-key.stacks.frames.items c.called.new.stacks.frames.items c.loop-key.key-index
           c.loop-key.found.items c.push.new.self.items
@@ -27,3 +32,10 @@ loop-key-preserved c =
           (subst (λ (s : ℕ). IsCalled c.in-Some.node.now s c.loop-key.stacks.frames.items c.called.new.stacks.frames.items c.in_ok-number.number)
           c.stack_of.ensures more);
     }
+
+pub returns-clause-begins : goal.returns-clause-begins
+returns-clause-begins c =
+    let b = c.loop-key.invariant.begins in
+    let few = b.2 in
+    let inside = c.loop-key.auto.key-index-end in
+    (b.0, b.1, (omega arith))

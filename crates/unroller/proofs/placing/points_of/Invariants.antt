@@ -3,4 +3,5 @@ use Rattle.unroller.specs.Led.{ArePlaced}
 use Rattle.unroller.proofs.placing.points_of.Given as goal
 
 abbrev pub invariant-loop-place : goal.invariant-loop-place
-invariant-loop-place l = ArePlaced l.graph l.frames l.keys l.addresses l.called l.place l.points.items l.edges.items
+invariant-loop-place l =
+    ArePlaced l.graph l.aims.heads.now l.aims.asserts.now l.frames l.aims.keys.now l.addresses l.called l.place l.points.items l.edges.items

@@ -1,4 +1,4 @@
-use Rattle.std.proofs.Common.{◌≡◌, ap, sym, subst, ◌∙◌, ℕ, ◌+◌, ◌^◌, ◌<◌, arith, length, List}
+use Rattle.std.proofs.Common.{◌≡◌, ap, sym, subst, ◌∙◌, ℕ, ◌+◌, arith, length, List}
 use Rattle.std.specs.Prelude.{map, sum_by}
 use Rattle.std.proofs.lemmas.List.{length-map}
 use Rattle.std.proofs.lemmas.List.Sums.{sum_by-append}
@@ -10,13 +10,11 @@ use Rattle.notes_value.specs.NoteViews.{note_line_of}
 use Rattle.known_bytes.specs.declared.listing.Known.{Known}
 use Rattle.known_bytes.specs.Runs.{run_of}
 use Rattle.unroller.specs.LineCosts.{capped, AreLineCosts}
+use Rattle.unroller.proofs.Capped.{capped_length}
 use Rattle.unroller.proofs.prices.price_with.Goals as goal
 
 regroup : (a b c d : ℕ) → d ≡ b + c → (a + c) + b ≡ a + d
 regroup a b c d e = omega arith
-
-within : (n m : ℕ) → n < 2 ^ 64 → m ≡ n → n ≡ capped m
-within n m h e = omega arith
 
 pub returns : goal.returns
 returns c = λ x more_is.
@@ -37,7 +35,7 @@ returns c = λ x more_is.
     (sum_by bytes_loaded (lines_of u))
     (sum_by-append bytes_loaded (entry_lines u) (point_lines u))) in
     let d = c.plus-loads.ensures (loads_of u) x b more_is in
-    let runs = within (length c.args.u.now.kept.now) (length u.kept) (omega arith) (length-map c.args.u.now.kept.now kept_of) in
+    let runs = capped_length (length c.args.u.now.kept.now) (length u.kept) (omega arith) (length-map c.args.u.now.kept.now kept_of) in
     let gates = c.gate_price-gates.ensures r (edges_of u) (sum_by line_price (lines_of u)) (stores_of u) (length u.kept) t.rows t.edges l t.stores runs in
     let memory = c.memory_price-memory.ensures (loads_of u + x) (stores_of u) (edges_of u) (known_of u) d t.stores t.edges known in
     c.plus.ensures (term_price u) (cell_price (loads_of u + x) (stores_of u) (edges_of u) (known_of u)) gates memory
