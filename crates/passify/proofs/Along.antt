@@ -2,7 +2,6 @@
 use Rattle.std.proofs.Common.{◌≡◌, ℕ, ◌+◌, Bool, List, ap, sym, ◌∙◌, subst, arith}
 use Rattle.std.specs.Prelude.{◌==◌}
 use Rattle.word_spec.specs.Words.{bit}
-use Rattle.bilv_spec.specs.Notes.{NoteLine}
 use Rattle.machine_spec.specs.Bil.{Equal}
 use Rattle.term_spec.specs.Terms.{TermReading, TermNode, BinaryNode, HasWidth, term_word}
 use Rattle.walk_spec.specs.Unrolled.{Walk, carried_of}
@@ -10,6 +9,7 @@ use Rattle.term_spec.specs.Passive.{Tells}
 use Rattle.term_dag.specs.Made.{Grew, IsMade}
 use Rattle.term_dag.proofs.Growth.{grew_on, grew_more, grew_width, inputs_on, made_grew, made_inputs}
 use Rattle.question_form.specs.declared.unrolled.Edge.{Edge}
+use Rattle.question_form.specs.declared.unrolled.Unrolled.{Unrolled}
 use Rattle.note_terms.specs.declared.Now.{Now}
 use Rattle.passify.specs.declared.sweep.Sweep.{Sweep}
 use Rattle.passify.specs.Bits.{Makes, IsSplit}
@@ -40,11 +40,11 @@ edge_bit old a b new e jumped next link address same t wj wn wl m1 m2 m3 =
           m3.holds x r j (term_word x old next == edge_word e.to (term_word x old link)) (tells_keep g12 x jumped j wj.0 hj) s);
     }
 
-module _ (old mid last new : List TermNode) (s z : Sweep) (big : Bool) (lines : List NoteLine) (e : Edge) (next : Now) (jumped link t rest on off g l j n : ℕ)
+module _ (u : Unrolled) (old mid last new : List TermNode) (s z : Sweep) (e : Edge) (next : Now) (jumped link t rest on off g l j n : ℕ)
     (w : AreWell old s) (names : AreTermsOf s.entry old next.names.now)
     (pc : HasWidth old 32 next.pc.0) (wr : HasWidth old 1 rest) (made : Makes old mid 33 8 1 t (TellsEdge old mid e jumped next.pc.0 link t))
     (split : IsSplit mid last rest t on off)
-    (steps : Steps last new s z g l 0 j n (λ m. ⊥)) (hands : Hands last new s z on (Follows last s big lines next e.aim)) where
+    (steps : Steps last new s z g l 0 j n (λ m. ⊥)) (hands : Hands last new s z on (Follows u last s next e.aim)) where
   mid_well : AreWell mid s
   mid_well = well_keeps made.grew s made.typed w
 
@@ -54,13 +54,13 @@ module _ (old mid last new : List TermNode) (s z : Sweep) (big : Bool) (lines : 
   last_grew : Grew old last (33 + 2) (0 + 0) (0 + 0) (0 + 0) (8 + 6)
   last_grew = grew_on old mid last 33 0 0 0 8 2 0 0 0 6 made.grew split.grew
 
-  follows_later : (from : ℕ) (x : TermReading) (v : Walk) (b : Bool) → Follows old s big lines next e.aim from x v b →
-      Follows last s big lines next e.aim from x v b
+  follows_later : (from : ℕ) (x : TermReading) (v : Walk) (b : Bool) → Follows u old s next e.aim from x v b →
+      Follows u last s next e.aim from x v b
   follows_later from x v b f = record {
     situation = f.situation;
     is = f.is;
     later = f.later;
-    ensures = f.ensures;
+    leaves = f.leaves;
     there = λ q. (let th = f.there q in record {
       endian = th.endian;
       entry = th.entry;
@@ -71,18 +71,18 @@ module _ (old mid last new : List TermNode) (s z : Sweep) (big : Bool) (lines : 
     });
   }
 
-  pub edge_tries : Tries old new s z rest off (TakesEdge old e jumped next.pc.0 link) (Follows old s big lines next e.aim)
+  pub edge_tries : Tries old new s z rest off (TakesEdge old e jumped next.pc.0 link) (Follows u old s next e.aim)
   edge_tries =
-      tries_later old mid new s z rest off (λ x q. Tells mid x t q) (TakesEdge old e jumped next.pc.0 link) (Follows last s big lines next e.aim)
-      (Follows old s big lines next e.aim) 33 0 0 0 8 made.grew w wr
+      tries_later old mid new s z rest off (λ x q. Tells mid x t q) (TakesEdge old e jumped next.pc.0 link) (Follows u last s next e.aim)
+      (Follows u old s next e.aim) 33 0 0 0 8 made.grew w wr
       (λ x r q f. subst (λ (b : Bool). Tells mid x t b) (sym f.is) (made.holds x r f.by_jump f.tells)) follows_later
-      (exit_on mid last new s z rest on off (λ x q. Tells mid x t q) (Follows last s big lines next e.aim) edge_cut mid_well g l 0 j n steps.grew hands)
+      (exit_on mid last new s z rest on off (λ x q. Tells mid x t q) (Follows u last s next e.aim) edge_cut mid_well g l 0 j n steps.grew hands)
 
   pub edge_narrows : Narrows old new rest off (λ x q. Unit {0})
   edge_narrows x r h = (
     sym (word_keeps made.grew x rest wr.0)
         ∙ (narrows_on mid last new s z rest on off (λ x q. Tells mid x t q)
-        (Follows last s big lines next e.aim) edge_cut mid_well g l 0 j n steps.grew hands x r h).0,
+        (Follows u last s next e.aim) edge_cut mid_well g l 0 j n steps.grew hands x r h).0,
     tt,
   )
 

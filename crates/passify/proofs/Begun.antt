@@ -1,187 +1,251 @@
--- Before any point is handled.
-use Rattle.std.proofs.Common.{◌≡◌, ℕ, zero, suc, ◌+◌, ◌<◌, ◌≤◌, Bool, true, false, ◌==◌, List, [], ◌∷◌, Option, Some, None, ◌-◌, ◌++◌, length, refl, ap, sym, ◌∙◌, subst, arith}
-use Rattle.std.specs.Prelude.{slice_get, replicate}
-use Rattle.std.specs.Global.{Vec}
-use Rattle.std.proofs.lemmas.List.{get_or-replicate, length-replicate, replicate_more}
-use Rattle.std.proofs.lemmas.Bool.{true≢false}
+-- A segment begins at a root.
+use Rattle.std.proofs.Common.{◌≡◌, ◌≢◌, ℕ, zero, suc, ◌+◌, ◌*◌, ◌<◌, Bool, true, false, ◌==◌, ◌&&◌, ◌||◌, List, [], ◌∷◌, ◌++◌, length, map, drop, take, get_or, refl, ap, sym, ◌∙◌, subst, arith, Contains}
+use Rattle.std.specs.Prelude.{if◌then◌else◌, slice_range, sum_by}
+use Rattle.std.specs.List.{list_any}
 use Rattle.std.proofs.lemmas.Bool.Decides.{nat_tests}
-use Rattle.bilv_spec.specs.Questions.{Reading, IsReading}
-use Rattle.word_spec.specs.RowFiles.{from_to}
-use Rattle.term_spec.specs.Terms.{InRange, TermReading, TermNode, ConstantNode, HasWidth}
-use Rattle.walk_spec.specs.Unrolled.{UnrolledProgram, carried_of}
-use Rattle.walk_spec.specs.Sweep.{Held, held}
-use Rattle.term_spec.specs.Passive.{Tells}
-use Rattle.term_spec.specs.WalkQuestions.{AreNamedBelow, term_reading}
+use Rattle.std.proofs.lemmas.List.{length-map, length-set}
+use Rattle.std.proofs.lemmas.List.Folds.{list_any-append}
+use Rattle.std.proofs.lemmas.List.Sums.{sum_by-append}
+use Rattle.word_spec.specs.State.{State}
+use Rattle.bilv_spec.specs.Notes.{Expr}
+use Rattle.bilv_spec.specs.Points.{line_price, bytes_loaded}
+use Rattle.term_spec.specs.Terms.{TermNode, ConstantNode, term_word}
+use Rattle.term_spec.specs.Passive.{Denotes, Tells}
+use Rattle.walk_spec.specs.Unrolled.{state_at}
+use Rattle.walk_spec.specs.Prices.{line_size, line_steps}
+use Rattle.frame_spec.specs.Frames.{content_at}
+use Rattle.frame_spec.specs.FramePoints.{Anchor, AtEntry}
+use Rattle.frame_spec.specs.FrameQuestions.{Reading, IsReading}
+use Rattle.frame_spec.specs.FrameWalk.{Root, UnrolledPoint, UnrolledProgram, IsRooted, is_assumed, point_at, root_content}
+use Rattle.frame_terms.specs.PassiveFrames.{inputs_of, part_reading}
+use Rattle.frame_terms.proofs.FrameReadings.{part_range}
 use Rattle.term_dag.specs.declared.nodes.Term.{Term}
 use Rattle.term_dag.specs.Made.{Grew, IsInterned}
-use Rattle.term_dag.proofs.Growth.{grew_on, grew_width, interned_grew, interned_inputs, interned_width}
+use Rattle.term_dag.proofs.Growth.{grew_on, grew_width, inputs_on, interned_grew, interned_inputs}
 use Rattle.term_names.specs.declared.names.Names.{Names}
-use Rattle.term_names.specs.Chosen.{AreEntryNames, HaveSameTerms, IsOfForm, at_entry}
-use Rattle.term_names.proofs.OfForm.{named_of, reading_in_range}
-use Rattle.note_terms.proofs.Valued.{range_length}
+use Rattle.term_names.specs.Views.{AreFor, form_of, names_of}
+use Rattle.term_names.specs.Chosen.{HaveSameTerms, at_entry, at_part}
+use Rattle.note_terms.specs.declared.Now.{Now}
+use Rattle.question_form.specs.declared.unrolled.Root as declared
 use Rattle.question_form.specs.declared.unrolled.Unrolled.{Unrolled}
-use Rattle.question_form.specs.Views.{unrolled_of}
+use Rattle.question_form.specs.FrameViews.{anchor_at, frame_unrolled_of, root_of}
+use Rattle.question_form.specs.Forms.{AreRootsFormed}
 use Rattle.passify.specs.declared.sweep.Sweep.{Sweep}
-use Rattle.passify.specs.Bits.{Makes}
-use Rattle.passify.specs.Sweeps.{AreWell, AreCarried, AreTermsOf, IsJoined, ShowsAt, term_at}
-use Rattle.passify.specs.Swept.{AreSwept, row}
-use Rattle.passify.proofs.Joined.{copied_joined}
-use Rattle.passify.proofs.Kept.{names_keep, denotes_keep, tells_keep, word_keeps}
-use Rattle.passify.proofs.Rooms.{room_first}
-use Rattle.passify.proofs.Visited.{named_on, points_count, same_names}
+use Rattle.passify.specs.Plain.{carried, held_for}
+use Rattle.passify.specs.Planted.{AreAssumed, AreHeaded, ArePlanted, LeaveRootRoom, are_true, assumed_lines, assumed_of, begins_with, begun, lines_of}
+use Rattle.passify.specs.Rows.{is_of_head, own_code, own_point}
+use Rattle.passify.specs.Sweeps.{AreTermsOf, AreWell}
+use Rattle.passify.proofs.Heads.{some_head}
+use Rattle.passify.proofs.Inputs.{named_on}
+use Rattle.passify.proofs.Joined.{denotes_same, terms_alike}
+use Rattle.passify.proofs.Kept.{denotes_keep, shows_keep, tells_keep, terms_keep, well_keeps, word_keeps}
+use Rattle.passify.proofs.Lines.{at_map, drop_here}
+use Rattle.passify.proofs.Passed.{entry_anchor, head_anchor}
+use Rattle.passify.proofs.Planted.{none_false, said_assumed, take_more}
+use Rattle.passify.proofs.Pushed.{Placed, not_eq, placed_shows, placed_well, same_eq}
+use Rattle.passify.proofs.Standing.{framed_is}
 
-none_there : {X : Type 0} → (n i : ℕ) (m : X) → slice_get (replicate n None) i ≡ Some (Some m) → ⊥
-none_there zero i m e = cc
-none_there (suc n) zero m e = cc
-none_there (suc n) (suc i) m e = none_there n i m e
+no_true : true ≡ false → ⊥
+no_true e = cc
 
-later_not : (i : ℕ) → (suc i == 0) ≡ false
-later_not i = grind (arith, nat_tests)
+neither : (b c : Bool) → (b || (false && c || false)) ≡ b
+neither true c = refl
+neither false c = refl
 
--- one more of the others
-pub row_more : {X : Type 0} → (first other : X) (xs ys : List X) (k : ℕ) → 1 ≤ k → ys ≡ xs ++ other ∷ [] → xs ≡ row first other (k - 1) →
-    ys ≡ row first other (k + 1 - 1)
-row_more first other xs ys k l e h =
-    e ∙ ap (λ z. z ++ other ∷ []) h ∙ ap (λ z. first ∷ z) (replicate_more (k - 1) other) ∙ ap (row first other) (let n : k - 1 + 1
-    ≡ k + 1 - 1 = omega (arith, l) in n)
+-- a root at the place whose invariants are true
+some_begun : (f : UnrolledProgram) (r : Reading) (j : ℕ) (roots : List Root) → list_any (λ y. (y.place == j) && is_assumed f r y) roots ≡ true →
+    (y : Root) × Contains roots y × (y.place ≡ j) × (is_assumed f r y ≡ true)
+some_begun f r j [] e = absurd (no_true (sym e))
+some_begun f r j (y ∷ roots) e = by (y.place == j) (is_assumed f r y) refl refl e (λ h. some_begun f r j roots h)
+  where
+    more : (z : Root) × Contains roots z × (z.place ≡ j) × (is_assumed f r z ≡ true) →
+        (z : Root) × Contains (y ∷ roots) z × (z.place ≡ j) × (is_assumed f r z ≡ true)
+    more (z, (i, l, at), p, a) = (z, (suc i, omega (arith, l), at), p, a)
 
--- ranges of one beginning and one length
-pub same_range : (first count low regs : ℕ) → low ≡ first → regs ≡ count → from_to first count ≡ from_to low regs
-same_range first count low regs p q = ap (λ (n : ℕ). from_to n count) (sym p) ∙ ap (from_to low) (sym q)
+    by : (b c : Bool) → (y.place == j) ≡ b → is_assumed f r y ≡ c → (b && c || list_any (λ z. (z.place == j) && is_assumed f r z) roots) ≡ true →
+        (list_any (λ z. (z.place == j) && is_assumed f r z) roots ≡ true →
+        (z : Root) × Contains roots z × (z.place ≡ j) × (is_assumed f r z ≡ true)) →
+        (z : Root) × Contains (y ∷ roots) z × (z.place ≡ j) × (is_assumed f r z ≡ true)
+    by true true p q e rest = (y, (0, omega arith, refl), grind (arith, nat_tests), q)
+    by true false p q e rest = more (rest e)
+    by false c p q e rest = more (rest e)
 
--- what is held before any point
-first_held : (u : UnrolledProgram) (r : Reading) → held u r 0 ≡ record { met = λ i. i == 0; carried = λ i. carried_of r.state; fails = false; turns = false }
-unfolding held
-first_held u r = refl
+-- the terms of the state with which a segment begins
+pub terms_begin : (h : Bool) (nodes : List TermNode) (s : Sweep) (head names : Names) → AreWell nodes s → AreTermsOf s.entry nodes head →
+    HaveSameTerms (if h then head else s.entry) names → AreTermsOf s.entry nodes names
+terms_begin true nodes s head names w k e = terms_alike nodes s.entry head names k e
+terms_begin false nodes s head names w k e =
+    terms_alike nodes s.entry s.entry names (record { same = record { first = refl; registers = refl; flags = refl }; names = w.entry }) e
 
--- an empty list has no node
-nothing_named : (u : UnrolledProgram) → AreNamedBelow u 0 []
-nothing_named u m c = let l = c.1 in absurd (omega arith)
+-- a root of the value is one of the frame
+pub root_among : (u : Unrolled) (i : ℕ) (x : declared.Root) → i < length u.roots.items → x ≡ get_or u.roots.items i x →
+    Contains (frame_unrolled_of u).roots (root_of u x)
+root_among u i x l at = (i, (let m = length-map u.roots.items (root_of u) in omega (arith, m, l)), at_map (root_of u) u.roots.items i x (root_of u x) l at)
 
-module _ (u : Unrolled) (a b c new : List TermNode) (low regs flags others : ℕ) (entry names : Names) (pc yes never : Term) (met : Vec Term)
-    (states : Vec (Option Names))
-    (pr : (unrolled_of u).registers ≡ from_to low regs)
-    (pf : (unrolled_of u).flags ≡ flags) (start : AreEntryNames [] a low regs flags entry) (at : IsInterned a b (ConstantNode 32 u.entry) pc.0)
-    (one : Makes b c 0 1 1 yes.0 (λ x. Tells c x yes.0 true))
-    (zero_bit : Makes c new 0 1 1 never.0 (λ x. Tells new x never.0 false)) (same : HaveSameTerms entry names) (places : others + 1 ≡ length u.points.items)
-    (mets : met.items ≡ row yes never others)
-    (carried : states.items ≡ row (Some names) None others) where
-  abbrev kept : Sweep
-  kept = record { entry = entry; at = u.entry; pc = pc; met = met; states = states; fails = never; steps = never; turns = never }
+take_within : {X : Type 0} (n : ℕ) (xs : List X) (x : X) → Contains (take n xs) x → Contains xs x
+take_within zero xs x (i, l, e) = absurd (omega (arith, l))
+take_within (suc n) [] x (i, l, e) = absurd (omega (arith, l))
+take_within (suc n) (y ∷ xs) x (zero, l, e) = (zero, omega arith, e)
+take_within (suc n) (y ∷ xs) x (suc i, l, e) = let t = take_within n xs x (i, omega (arith, l), e) in (suc t.0, omega (arith, t.1), t.2)
 
-  pc_grew : Grew a b 0 0 0 0 1
-  pc_grew = interned_grew a b (ConstantNode 32 u.entry) pc.0 at
+module _ (u : Unrolled) (done : ℕ) (a b new : List TermNode) (s z : Sweep) (head names : Names) (one v pc : ℕ) (t : Term) (x : declared.Root)
+    (now entry : Now) (roots : AreRootsFormed u) (headed : AreHeaded u) (rooted : IsRooted (frame_unrolled_of u)) (there : done < length u.roots.items)
+    (at : x ≡ get_or u.roots.items done x) (k : ArePlanted u done a s head one) (value : v ≡ (own_code u x.place).at)
+    (m1 : IsInterned a b (ConstantNode 32 v) pc) (same : HaveSameTerms (begins_with u x.place head s.entry) names)
+    (now_names : now.names.now ≡ names) (now_pc : now.pc.0 ≡ pc) (entry_names : entry.names.now ≡ s.entry) (entry_pc : entry.pc ≡ s.pc)
+    (lines : List Expr) (lines_are : lines ≡ assumed_lines u (slice_range u.asserts.items x.asserts.0 x.asserts.1))
+    (m2 : AreAssumed b new u.big lines now entry one t.0) (p : Placed s z x.place t names) where
+  abbrev f : UnrolledProgram
+  f = frame_unrolled_of u
 
-  bits_grew : Grew b new 0 0 0 0 2
-  bits_grew = grew_on b c new 0 0 0 0 1 0 0 0 0 1 one.grew zero_bit.grew
+  abbrev R : Root
+  R = root_of u x
 
-  more_grew : Grew a new 0 0 0 0 3
-  more_grew = grew_on a b new 0 0 0 0 1 0 0 0 0 2 pc_grew bits_grew
+  abbrev anchor : Anchor
+  anchor = (point_at f x.place).point.anchor
 
-  all_grew : Grew [] new 0 0 0 0 (regs + flags + 1 + 3)
-  all_grew = grew_on [] a new 0 0 0 0 (regs + flags + 1) 0 0 0 0 3 start.grew more_grew
+  among : Contains u.roots.items x
+  among = (done, there, sym at)
 
-  yes_bit : HasWidth new 1 yes.0
-  yes_bit = grew_width c new 0 0 0 0 1 1 yes.0 zero_bit.grew one.width
+  within : x.place < length u.points.items
+  within = (roots.places x among).0
 
-  entry_terms : AreTermsOf entry new entry
-  entry_terms = record { same = record { first = refl; registers = refl; flags = refl }; names = names_keep more_grew entry start.names }
+  count : length f.roots ≡ length u.roots.items
+  count = length-map u.roots.items (root_of u)
 
-  joined : IsJoined entry new new yes.0 yes.0 entry None names
-  joined = copied_joined new yes.0 yes.0 entry names entry_terms same
+  is_next : get_or f.roots done R ≡ R
+  is_next = at_map (root_of u) u.roots.items done x R there at
 
-  count : length met.items ≡ others + 1
-  count = ap (λ (z : List Term). length z) mets ∙ ap suc (length-replicate others never) ∙ (let e : suc others ≡ others + 1 = omega arith in e)
+  taken : take (done + 1) f.roots ≡ take done f.roots ++ R ∷ []
+  taken = take_more f.roots done R (omega (arith, count, there)) (sym is_next)
 
-  states_count : length states.items ≡ others + 1
-  states_count = ap (λ (z : List (Option Names)). length z) carried ∙ ap suc (length-replicate others None) ∙ (let e : suc others
-      ≡ others + 1 = omega arith in e)
+  dropped : drop done f.roots ≡ R ∷ drop (done + 1) f.roots
+  dropped = drop_here f.roots done R (omega (arith, count, there)) (sym is_next)
 
-  first_bit : term_at met.items 0 ≡ yes.0
-  first_bit = ap (λ (z : List Term). term_at z 0) mets
+  g1 : Grew a b 0 0 0 0 1
+  g1 = interned_grew a b (ConstantNode 32 v) pc m1
 
-  later_bit : (i : ℕ) → suc i < others + 1 → term_at met.items (suc i) ≡ never.0
-  later_bit i l = ap (λ (z : List Term). term_at z (suc i)) mets ∙ ap (λ (z : Term). z.0) (get_or-replicate others i never (record { 0 = 0 }) (omega arith))
+  g12 : Grew a new (0 + sum_by line_price lines) (0 + sum_by bytes_loaded lines) (0 + 0) (0 + 0) (1 + 4 * line_steps lines)
+  g12 = grew_on a b new 0 0 0 0 1 (sum_by line_price lines) (sum_by bytes_loaded lines) 0 0 (4 * line_steps lines) g1 m2.grew
 
-  bit_wide : (i : ℕ) → i < length met.items → HasWidth new 1 (term_at met.items i)
-  bit_wide zero l = subst (HasWidth new 1) (sym first_bit) yes_bit
-  bit_wide (suc i) l = subst (HasWidth new 1) (sym (later_bit i (omega (arith, l, count)))) zero_bit.width
+  kept : AreWell new s
+  kept = well_keeps g12 s m2.typed k.well
 
-  first_state : (i : ℕ) (m : Names) → slice_get states.items i ≡ Some (Some m) → names ≡ m
-  first_state i m e = by i (sym (ap (λ (z : List (Option Names)). slice_get z i) carried) ∙ e)
+  anchor_is : anchor ≡ anchor_at u (own_point u x.place).root
+  anchor_is = ap (λ (q : UnrolledPoint). q.point.anchor) (framed_is u x.place within)
+
+  -- the terms of the state with which the segment begins
+  part_terms : AreTermsOf s.entry a names
+  part_terms = terms_begin (is_of_head u x.place) a s head names k.well k.head_terms same
+
+  part_denotes : (r : Reading) → IsReading r → Denotes (form_of names) a (part_reading f r) (names_of names) (carried (root_content r anchor))
+  part_denotes r reads = by (is_of_head u x.place) refl same
     where
-      by : (i : ℕ) → slice_get (row (Some names) None others) i ≡ Some (Some m) → names ≡ m
-      by zero e = same_names names m e
-      by (suc i) e = absurd (none_there others i m e)
+      by : (h : Bool) → is_of_head u x.place ≡ h → HaveSameTerms (if h then head else s.entry) names →
+          Denotes (form_of names) a (part_reading f r) (names_of names) (carried (root_content r anchor))
+      by true e h =
+          let q = head_anchor (anchor_at u (own_point u x.place).root) e in
+          subst (λ (c : Anchor). Denotes (form_of names) a (part_reading f r) (names_of names) (carried (root_content r c))) (sym (anchor_is ∙ q.2))
+          (denotes_same a (part_reading f r) head names (at_part (part_reading f r) 1) h
+          (k.head_denotes (some_head u x.place roots headed within e) (part_reading f r) (part_range f r reads)))
+      by false e h =
+          subst (λ (c : Anchor). Denotes (form_of names) a (part_reading f r) (names_of names) (carried (root_content r c)))
+          (sym (anchor_is ∙ entry_anchor (anchor_at u (own_point u x.place).root) e))
+          (denotes_same a (part_reading f r) s.entry names (at_entry (part_reading f r)) h (k.well.denotes (part_reading f r) (part_range f r reads)))
 
-  kept_well : AreWell new kept
-  kept_well = record {
-    typed = zero_bit.typed;
-    entry = entry_terms.names;
-    denotes = λ x r. denotes_keep more_grew x entry (at_entry x) start.names (start.denotes x r);
-    pc = grew_width b new 0 0 0 0 2 32 pc.0 bits_grew (interned_width a b (ConstantNode 32 u.entry) pc.0 32 at refl);
-    pc_is = λ x. word_keeps bits_grew x pc.0 at.within ∙ ap (λ v. v.word) (at.value x);
-    count = states_count ∙ sym count;
-    bits = bit_wide;
-    states = λ i m e. subst (AreTermsOf entry new) (first_state i m e) joined.terms;
-    fails = zero_bit.width;
-    steps = zero_bit.width;
-    turns = zero_bit.width;
-  }
+  -- where its invariants are true the root's segment begins
+  bit_tells : (r : Reading) → IsReading r → r.state.pc ≡ u.entry → Tells new (part_reading f r) t.0 (is_assumed f r R)
+  bit_tells r reads begins =
+      let y = part_reading f r in
+      let range = part_range f r reads in
+      let content = root_content r anchor in
+      let place_at : (own_code u x.place).at ≡ (point_at f x.place).point.at = sym (ap (λ (q : UnrolledPoint). q.point.at) (framed_is u x.place within)) in
+      let told = m2.tells y range (tells_keep g1 y one true k.bit.0 (k.is_yes y range)) (carried content) (at_entry y) (own_code u x.place).at s.at
+      (record {
+        carried = subst (λ (m : Names). Denotes (form_of m) b y (names_of m) (carried content)) (sym now_names)
+            (denotes_keep g1 y names (carried content) part_terms.names (part_denotes r reads));
+        pc = ap (λ (i : ℕ). term_word y b i) now_pc ∙ ap (λ q. q.word) (m1.value y) ∙ value;
+      })
+      (record {
+        carried = subst (λ (m : Names). Denotes (form_of m) b y (names_of m) (at_entry y)) (sym entry_names)
+            (denotes_keep g1 y s.entry (at_entry y) k.well.entry (k.well.denotes y range));
+        pc = ap (λ (q : Term). term_word y b q.0) entry_pc ∙ word_keeps g1 y s.pc.0 k.well.pc.0 ∙ k.well.pc_is y;
+      }) in
+      let is_state : state_at (at_entry y) s.at ≡ r.state = sym (ap (state_at (at_entry y)) (begins ∙ sym k.sweep.at)) in
+      subst (λ (q : Bool). Tells new y t.0 q)
+      (ap (λ (es : List Expr). are_true u.big es (state_at (carried content) (own_code u x.place).at) (state_at (at_entry y) s.at))
+      (lines_are ∙ sym (said_assumed (assumed_of u (slice_range u.asserts.items x.asserts.0 x.asserts.1))))
+      ∙ ap (λ (i : ℕ). are_true u.big (map (λ l. l.says) R.assumes) (state_at (carried content) i) (state_at (at_entry y) s.at)) place_at
+      ∙ ap (λ (q : State). are_true u.big (map (λ l. l.says) R.assumes) (content_at content (point_at f x.place).point.at) q) is_state
+      ∙ sym (none_false f.endian R.assumes (content_at content (point_at f x.place).point.at) r.state)) told
 
-  module _ (r : Reading) (k : IsReading r) where
-    abbrev x : TermReading
-    x = term_reading (unrolled_of u) r
+  -- an earlier root at the place is the same
+  met_is : (r : Reading) → (begun f r (take (done + 1) f.roots)).met x.place ≡ is_assumed f r R
+  met_is r =
+      ap (λ (l : List Root). list_any (λ y. (y.place == x.place) && is_assumed f r y) l) taken
+      ∙ list_any-append (λ y. (y.place == x.place) && is_assumed f r y) (take done f.roots) (R ∷ [])
+      ∙ ap (λ (q : Bool). list_any (λ y. (y.place == x.place) && is_assumed f r y) (take done f.roots) || (q && is_assumed f r R || false)) (same_eq x.place)
+      ∙ last (list_any (λ y. (y.place == x.place) && is_assumed f r y) (take done f.roots)) (is_assumed f r R) earlier
+    where
+      last : (q c : Bool) → (q ≡ true → c ≡ true) → (q || (true && c || false)) ≡ c
+      last true c h = sym (h refl)
+      last false true h = refl
+      last false false h = refl
 
-    range : InRange x
-    range = reading_in_range (unrolled_of u) r k
+      earlier : list_any (λ y. (y.place == x.place) && is_assumed f r y) (take done f.roots) ≡ true → is_assumed f r R ≡ true
+      earlier e =
+          let y = some_begun f r x.place (take done f.roots) e in
+          let same : y.0 ≡ R = rooted.one y.0 R (take_within done f.roots y.0 y.1) (done, omega (arith, count, there), is_next)
+          (ap (λ (i : ℕ). (point_at f i).point.anchor) y.2) in
+          ap (is_assumed f r) (sym same) ∙ y.3
 
-    yes_tells : Tells new x yes.0 true
-    yes_tells = tells_keep zero_bit.grew x yes.0 true one.width.0 (one.holds x range)
+  met_other : (r : Reading) (i : ℕ) → i ≢ x.place → (begun f r (take (done + 1) f.roots)).met i ≡ (begun f r (take done f.roots)).met i
+  met_other r i ne =
+      ap (λ (l : List Root). list_any (λ y. (y.place == i) && is_assumed f r y) l) taken
+      ∙ list_any-append (λ y. (y.place == i) && is_assumed f r y) (take done f.roots) (R ∷ [])
+      ∙ ap (λ (q : Bool). list_any (λ y. (y.place == i) && is_assumed f r y) (take done f.roots) || (q && is_assumed f r R || false))
+      (not_eq x.place i (λ e. ne (sym e))) ∙ neither (list_any (λ y. (y.place == i) && is_assumed f r y) (take done f.roots)) (is_assumed f r R)
 
-    bit_tells : (i : ℕ) → i < length met.items → Tells new x (term_at met.items i) (i == 0)
-    bit_tells zero l = subst (λ (q : ℕ). Tells new x q true) (sym first_bit) yes_tells
-    bit_tells (suc i) l =
-        subst (λ (q : Bool). Tells new x (term_at met.items (suc i)) q) (sym (later_not i))
-        (subst (λ (q : ℕ). Tells new x q false) (sym (later_bit i (omega (arith, l, count)))) (zero_bit.holds x range))
-
-    state_is : (i : ℕ) → (i == 0) ≡ true → AreCarried new x (slice_get states.items i) (carried_of r.state)
-    state_is zero e = record {
-      names = names;
-      is = ap (λ (z : List (Option Names)). slice_get z 0) carried;
-      denotes = joined.first x range yes_tells (at_entry x) (kept_well.denotes x range);
-    }
-    state_is (suc i) e = absurd (true≢false (sym e ∙ later_not i))
-
-    kept_shows : ShowsAt new kept 0 x (held (unrolled_of u) r 0)
-    kept_shows = subst (λ (h : Held). ShowsAt new kept 0 x h) (sym (first_held (unrolled_of u) r)) (record {
-      mets = bit_tells;
-      carries = λ i f l m. state_is i m;
-      failing = zero_bit.holds x range;
-      turning = zero_bit.holds x range;
-    })
-
-  pub begun : AreSwept u 0 new kept
-  begun = record {
-    well = kept_well;
+  pub planted : ArePlanted u (done + 1) new z head one
+  planted = record {
+    well = placed_well new s z x.place t names p kept m2.width (terms_keep g12 s.entry names part_terms);
     sweep = record {
-      form = record {
-        registers = pr ∙ ap (λ (z : ℕ). from_to z regs) (sym start.first) ∙ ap (from_to entry.first)
-            (sym start.registers);
-        flags = pf ∙ sym start.flags;
-      };
-      at = refl;
-      places = count ∙ places ∙ sym (points_count u u.points.items);
+      form = subst (λ (e : Names). AreFor (inputs_of f) e) (sym p.entry) k.sweep.form;
+      at = p.at ∙ k.sweep.at;
+      places = ap (λ (l : List Term). length l) p.met ∙ length-set s.met.items x.place t ∙ k.sweep.places;
     };
-    named =
-        named_on (unrolled_of u) c new (λ m. ⊥) (λ m i h. absurd h) zero_bit.inputs
-        (named_on (unrolled_of u) b c (λ m. ⊥) (λ m i h. absurd h) one.inputs
-        (named_on (unrolled_of u) a b (λ m. ⊥) (λ m i h. absurd h) (interned_inputs a b (ConstantNode 32 u.entry) pc.0 (λ m. ⊥) at (λ i. i))
-        (named_on (unrolled_of u) [] a (IsOfForm low regs flags)
-        (λ m i h. named_of (unrolled_of u) low regs flags m pr pf i h) start.inputs (nothing_named (unrolled_of u)))));
-    room =
-        room_first (unrolled_of u) new (regs + flags + 1 + 3)
-        (let e : length (unrolled_of u).registers ≡ regs = ap (λ (z : List ℕ). length z) pr ∙ range_length low regs in omega (arith, e, pf)) all_grew;
-    never = λ r k e. zero_bit.holds (term_reading (unrolled_of u) r) (reading_in_range (unrolled_of u) r k);
-    shows = λ r k e. kept_shows r k;
+    named = named_on f u.heads a new (λ m. ⊥) (λ m i c. absurd c)
+        (inputs_on a b new (λ m. ⊥) (interned_inputs a b (ConstantNode 32 v) pc (λ m. ⊥) m1 (λ i. i)) m2.inputs) k.named;
+    room = (
+        let r = subst (LeaveRootRoom f a) dropped k.room in
+        let own = said_assumed (assumed_of u (slice_range u.asserts.items x.asserts.0 x.asserts.1)) ∙ sym lines_are in
+        let rest = lines_of (drop (done + 1) f.roots) in
+        let g = sum_by-append line_price (map (λ l. l.says) R.assumes) rest ∙ ap (λ (l : List Expr). sum_by line_price l + sum_by line_price rest) own in
+        let b = sum_by-append bytes_loaded (map (λ l. l.says) R.assumes) rest ∙ ap (λ (l : List Expr). sum_by bytes_loaded l + sum_by bytes_loaded rest) own in
+        let n = sum_by-append (λ e. line_size e + 4) (map (λ l. l.says) R.assumes) rest ∙ ap (λ (l : List Expr). line_steps l + line_steps rest) own in
+        let rg = r.gates in let rl = r.loads in let rs = r.stores in let rj = r.joins in let rf = r.few in
+        let gg = g12.gates in let gl = g12.loads in let gs = g12.stores in let gj = g12.joins in let gf = g12.few in
+        record {
+          gates = omega (arith, rg, gg, g);
+          loads = omega (arith, rl, gl, b);
+          stores = omega (arith, rs, gs);
+          joins = omega (arith, rj, gj);
+          few = omega (arith, rf, gf, n);
+        });
+    head_terms = subst (λ (e : Names). AreTermsOf e new head) (sym p.entry) (terms_keep g12 s.entry head k.head_terms);
+    head_denotes = λ h y r. denotes_keep g12 y head (at_part y 1) k.head_terms.names (k.head_denotes h y r);
+    bit = grew_width a new _ _ _ _ _ 1 one g12 k.bit;
+    is_yes = λ y r. tells_keep g12 y one true k.bit.0 (k.is_yes y r);
+    shows = λ r reads begins.
+        let y = part_reading f r in
+        let was = k.shows r reads begins in
+        let before = begun f r (take done f.roots) in
+        let after = begun f r (take (done + 1) f.roots) in
+        record {
+          shows = placed_shows new s z x.place t names p kept 0 y (held_for AtEntry before) (held_for AtEntry after)
+              (shows_keep g12 s 0 y (held_for AtEntry before) k.well was.shows) (λ i ne. (met_other r i ne, refl)) refl refl
+              (subst (λ (q : Bool). Tells new y t.0 q) (sym (met_is r)) (bit_tells r reads begins))
+              (λ e. denotes_keep g12 y names (carried (root_content r anchor)) part_terms.names (part_denotes r reads));
+          stepping = subst (λ (q : Term). Tells new y q.0 false) (sym p.steps) (tells_keep g12 y s.steps.0 false k.well.steps.0 was.stepping);
+        };
   }

@@ -56,7 +56,7 @@ terms_same a b h = ap (λ (z : List Term). put z a.flags.items a.memory) h.regis
     put : List Term → List Term → Term → walk.Names
     put r f m = record { registers = map (λ t. t.0) r; flags = map (λ t. t.0) f; memory = m.0 }
 
-denotes_same : (nodes : List TermNode) (x : TermReading) (a b : Names) (c : Carried) → HaveSameTerms a b → Denotes (form_of a) nodes x (names_of a) c →
+pub denotes_same : (nodes : List TermNode) (x : TermReading) (a b : Names) (c : Carried) → HaveSameTerms a b → Denotes (form_of a) nodes x (names_of a) c →
     Denotes (form_of b) nodes x (names_of b) c
 denotes_same nodes x a b c h d =
     subst (λ (z : walk.Names). Denotes (form_of b) nodes x z c) (terms_same a b h) (subst
@@ -80,3 +80,11 @@ copied_joined ns hit met a n w h = record {
 
 pub form_back : (a b : Names) → HaveSameForm a b → HaveSameForm b a
 form_back a b h = record { first = sym h.first; registers = sym h.registers; flags = sym h.flags }
+
+-- the same terms are for the same registers and flags
+pub terms_alike : (nodes : List TermNode) (form a b : Names) → AreTermsOf form nodes a → HaveSameTerms a b → AreTermsOf form nodes b
+terms_alike nodes form a b w h = record {
+  same = form_on form a b w.same (same_form a b h);
+  names = subst (λ (z : walk.Names). AreNames (form_of b) nodes z) (terms_same a b h) (subst
+      (λ (z : UnrolledProgram). AreNames z nodes (names_of a)) (form_same a b (same_form a b h)) w.names);
+}

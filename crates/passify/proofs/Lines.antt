@@ -1,18 +1,19 @@
 -- Lines that are tried one by one.
 use Rattle.std.proofs.Common.{◌≡◌, ℕ, zero, suc, ◌+◌, ◌*◌, ◌<◌, ◌≤◌, Bool, true, false, List, [], ◌∷◌, length, refl, ap, sym, ◌∙◌, subst, arith, drop, get_or}
-use Rattle.std.specs.Prelude.{not, if◌then◌else◌, map, slice_index_or, Option, Some}
-use Rattle.question_form.specs.Views.{no_assert}
+use Rattle.std.specs.Prelude.{not, if◌then◌else◌, map, Option, Some}
 use Rattle.std.proofs.lemmas.List.Sums.{sum_by-cons}
 use Rattle.word_spec.specs.Memory.{endian, Endian}
 use Rattle.word_spec.specs.State.{State}
-use Rattle.bilv_spec.specs.Notes.{Expr, value, is_true, NoteLine, Assert}
-use Rattle.machine_spec.specs.Endings.{Event, AssertFails, EnsureFails}
+use Rattle.bilv_spec.specs.Notes.{Expr, value, is_true, NoteLine}
+use Rattle.machine_spec.specs.Endings.{EnsureFails, JumpFails}
 use Rattle.bilv_spec.specs.Run.{false_line}
 use Rattle.bilv_spec.specs.Points.{line_price, bytes_loaded}
 use Rattle.term_spec.specs.Terms.{TermReading, TermNode, HasWidth}
-use Rattle.walk_spec.specs.Unrolled.{UnrolledProgram, WalkFails, Aim, ToEvent, PointExit, state_at, walk_to, out_by, carried_of}
+use Rattle.walk_spec.specs.Unrolled.{WalkFails, state_at, carried_of}
 use Rattle.walk_spec.specs.Sweep.{Held, held_if, hand}
 use Rattle.walk_spec.specs.Prices.{line_size}
+use Rattle.frame_spec.specs.Frames.{FrameEvent, OfStep, content_at, content_of}
+use Rattle.frame_spec.specs.FrameWalk.{Check, UnrolledProgram, Aim, ToEvent, PointExit, check_event, false_check, walk_to, out_by}
 use Rattle.term_dag.proofs.Growth.{grew_on, grew_none, grew_width, inputs_on, inputs_none}
 use Rattle.term_names.specs.declared.names.Names.{Names}
 use Rattle.term_names.specs.Chosen.{at_entry}
@@ -21,11 +22,11 @@ use Rattle.note_terms.specs.Lines.{IsStateOf}
 use Rattle.passify.specs.declared.sweep.Sweep.{Sweep}
 use Rattle.passify.specs.Sweeps.{AreWell, AreLike, AreTermsOf, Steps, HasEvent}
 use Rattle.passify.specs.Exits.{Tries, Narrows, LineFails}
-use Rattle.passify.specs.Situations.{Situation, IsThere, AreLines, LinesTried, goes_asserts, assert_lines, goes_out_by}
+use Rattle.passify.specs.Plain.{arrived, plain}
+use Rattle.passify.specs.Situations.{Situation, IsThere, AreLines, LinesTried, Judging, ChecksTried, goes_checks, goes_out_by, said}
 use Rattle.notes_value.specs.Views.{expr_of}
 use Rattle.notes_value.specs.declared.notes.NoteLine.{NoteLine as SourceLine}
-use Rattle.notes_value.specs.declared.notes.Assert.{Assert as SourceAssert}
-use Rattle.notes_value.specs.NoteViews.{assert_of, note_line_of}
+use Rattle.notes_value.specs.NoteViews.{note_line_of}
 use Rattle.passify.proofs.Kept.{word_keeps, denotes_keep, terms_keep}
 
 pub like_on : (a b c : Sweep) → AreLike a b → AreLike b c → AreLike a c
@@ -71,9 +72,9 @@ lines_more a b c s t u all others e p q = record {
 
 module _ (old cur new : List TermNode) (s z y : Sweep) (rest left last : ℕ) (big : Bool) (n : Now) (state : Situation →
     State) (all others : List Expr) (e : Expr)
-    (goes_all goes_here goes_on : Situation → List PointExit → Held → Held) (event : Situation → Event)
+    (goes_all goes_here goes_on : Situation → List PointExit → Held → Held)
     (by : (S : Situation) (tail : List PointExit) (h : Held) →
-    goes_here S tail h ≡ held_if (not (is_true (value S.program.endian e (state S) S.entry))) (hand (WalkFails (event S)) h) (goes_on S tail h))
+    goes_here S tail h ≡ held_if (not (is_true (value S.program.endian e (state S) S.entry))) (hand (WalkFails JumpFails) h) (goes_on S tail h))
     (w : AreWell old s) (names : AreTermsOf s.entry old n.names.now) (pc : HasWidth old 32 n.pc.0)
     (k : LinesTried old cur s z rest left big n state all (e ∷ others) goes_all goes_here)
     (steps : Steps cur new z y (line_price e) (bytes_loaded e) 0 0 (4 * (line_size e + 4)) (λ m. ⊥)) (bit : HasWidth new 1 last)
@@ -100,8 +101,8 @@ module _ (old cur new : List TermNode) (s z y : Sweep) (rest left last : ℕ) (b
     lines = lines_more old cur new s z y all others e k.lines steps;
     bit = bit;
     tries = λ x r from S fits before after tail pending.
-        tries x r from (WalkFails (event S)) (not (is_true (value S.program.endian e (state S) S.entry))) (λ h. fails_by x S (fits (k.narrows x r h).0))
-        (λ b h. (event S, refl)) before after
+        tries x r from (WalkFails JumpFails) (not (is_true (value S.program.endian e (state S) S.entry))) (λ h. fails_by x S (fits (k.narrows x r h).0))
+        (λ b h. (JumpFails, refl)) before after
         (goes_here S tail before) (goes_on S tail before) (by S tail before) (k.tries x r from S fits before after tail pending);
     narrows = λ x r h. k.narrows x r (narrows x r h).0;
   }
@@ -116,30 +117,48 @@ tried_none ns s rest big n state all go w b = record {
   narrows = λ x r h. (h, tt);
 }
 
-pub event_by : (q : Bool) (u : UnrolledProgram) (entry next : State) (ev : Event) (a : Aim) (h : Held) →
-    hand (walk_to u entry next (if q then ToEvent ev else a)) h ≡ held_if q (hand (WalkFails ev) h) (hand (walk_to u entry next a) h)
+pub event_by : (q : Bool) (u : UnrolledProgram) (entry next : State) (ev : FrameEvent) (a : Aim) (h : Held) →
+    hand (plain u entry (walk_to u entry next (if q then ToEvent ev else a))) h
+    ≡ held_if q (hand (WalkFails JumpFails) h) (hand (plain u entry (walk_to u entry next a)) h)
 event_by true u entry next ev a h = refl
 event_by false u entry next ev a h = refl
 
--- an assert line before others
-pub assert_by : (asserts : List Assert) (i : ℕ × ℕ) (index : List (ℕ × ℕ)) (S : Situation) (tail : List PointExit) (h : Held) →
-    goes_asserts asserts (i ∷ index) S tail h
-    ≡ held_if (not (is_true (value S.program.endian (slice_index_or asserts i.1 no_assert).says S.now S.entry)))
-    (hand (WalkFails (AssertFails (slice_index_or asserts i.1 no_assert).line)) h) (goes_asserts asserts index S tail h)
-assert_by asserts i index S tail h =
-    event_by (not (is_true (value S.program.endian (slice_index_or asserts i.1 no_assert).says S.now S.entry))) S.program S.entry S.next
-    (AssertFails (slice_index_or asserts i.1 no_assert).line) _ h
+-- lines are judged at a point by its exits
+abbrev pub at_point : Judging
+at_point = record {
+  state = λ S. S.now;
+  goes = goes_checks;
+  by = λ x rest S tail h.
+      event_by (not (is_true (value S.program.endian x.says S.now S.entry))) S.program S.entry S.next (check_event x) _ h;
+}
 
-out_event : (q : Bool) (line : ℕ) (o : Option ℕ) (h : Held) →
-    hand (out_by (if q then o else Some line)) h ≡ held_if (not q) (hand (WalkFails (EnsureFails line)) h) (hand (out_by o) h)
-out_event true line o h = refl
-out_event false line o h = refl
+pub arrival_event : (q : Bool) (x : Check) (o : Option Check) (h : Held) →
+    hand (arrived (if q then o else Some x)) h ≡ held_if (not q) (hand (WalkFails JumpFails) h) (hand (arrived o) h)
+arrival_event true x o h = refl
+arrival_event false x o h = refl
+
+-- and at a head in the state that comes to it
+abbrev pub at_head : ℕ → Judging
+at_head at = record {
+  state = λ S. content_at (content_of S.next) at;
+  goes = λ checks S tail h. hand (arrived (false_check S.program.endian checks (content_at (content_of S.next) at) S.entry)) h;
+  by = λ x rest S tail h.
+      arrival_event (is_true (value S.program.endian x.says (content_at (content_of S.next) at) S.entry)) x
+      (false_check S.program.endian rest (content_at (content_of S.next) at) S.entry) h;
+}
+
+out_event : (u : UnrolledProgram) (entry : State) (q : Bool) (line : ℕ) (o : Option ℕ) (h : Held) →
+    hand (plain u entry (out_by (if q then o else Some line) (λ n. OfStep (EnsureFails n)) false)) h
+    ≡ held_if (not q) (hand (WalkFails JumpFails) h) (hand (plain u entry (out_by o (λ n. OfStep (EnsureFails n)) false)) h)
+out_event u entry true line o h = refl
+out_event u entry false line o h = refl
 
 -- an ensure line before others
 pub ensure_by : (l : NoteLine) (lines : List NoteLine) (S : Situation) (tail : List PointExit) (h : Held) →
-    goes_out_by (l ∷ lines) S tail h ≡ held_if (not (is_true (value S.program.endian l.says S.next S.entry))) (hand (WalkFails (EnsureFails l.line)) h)
+    goes_out_by (l ∷ lines) S tail h ≡ held_if (not (is_true (value S.program.endian l.says S.next S.entry))) (hand (WalkFails JumpFails) h)
     (goes_out_by lines S tail h)
-ensure_by l lines S tail h = out_event (is_true (value S.program.endian l.says S.next S.entry)) l.line (false_line S.program.endian lines S.next S.entry) h
+ensure_by l lines S tail h =
+    out_event S.program S.entry (is_true (value S.program.endian l.says S.next S.entry)) l.line (false_line S.program.endian lines S.next S.entry) h
 
 pub at_map : {X Y : Type 0} → (f : X → Y) (xs : List X) (i : ℕ) (x : X) (d : Y) → i < length xs → x ≡ get_or xs i x → get_or (map f xs) i d ≡ f x
 at_map f [] i x d l e = absurd (omega arith)
@@ -183,7 +202,7 @@ judged_on old cur new s z y rest left last big n lines i l within at w names pc 
     line_tried old cur new s z y rest left last big n (λ S. S.next) (map (λ k. k.says) (map note_line_of lines)) (map
     (λ k. k.says) (map note_line_of (drop (i + 1) lines))) (expr_of l.says)
     (goes_out_by (map note_line_of lines)) (goes_out_by (note_line_of l
-    ∷ map note_line_of (drop (i + 1) lines))) (goes_out_by (map note_line_of (drop (i + 1) lines))) (λ S. EnsureFails l.line)
+    ∷ map note_line_of (drop (i + 1) lines))) (goes_out_by (map note_line_of (drop (i + 1) lines)))
     (ensure_by (note_line_of l) (map note_line_of (drop (i + 1) lines))) w names pc
     (subst (λ (q : List SourceLine). LinesTried old cur s z rest left big n
     (λ S. S.next) (map (λ k. k.says) (map note_line_of lines)) (map
@@ -191,28 +210,20 @@ judged_on old cur new s z y rest left last big n lines i l within at w names pc 
     (drop_here lines i l within at) k)
     steps bit tries narrows
 
--- one assert line more
-pub asserts_on : (old cur new : List TermNode) (s z y : Sweep) (rest left last : ℕ) (big : Bool) (n : Now) (lines : List SourceAssert) (index : List (ℕ ×
-    ℕ)) (i : ℕ) (x : ℕ × ℕ) (l : SourceAssert) → i < length index → x ≡ get_or index i x →
-    x.1 < length lines → l ≡ get_or lines x.1 l → AreWell old s → AreTermsOf s.entry old n.names.now → HasWidth old 32 n.pc.0 →
-    LinesTried old cur s z rest left big n (λ S. S.now) (assert_lines (map assert_of lines) index) (assert_lines (map assert_of lines) (drop i index))
-    (goes_asserts (map assert_of lines) index) (goes_asserts (map assert_of lines) (drop i index)) →
-    Steps cur new z y (line_price (expr_of l.says)) (bytes_loaded (expr_of l.says)) 0 0 (4 * (line_size (expr_of l.says) + 4)) (λ m. ⊥) → HasWidth new 1 last →
-    Tries cur new z y left last (LineFails cur z big (expr_of l.says) n) (λ from x v b. HasEvent v) → Narrows cur new left last (λ x q. Unit {0}) →
-    LinesTried old new s y rest last big n (λ S. S.now) (assert_lines (map assert_of lines) index) (assert_lines (map assert_of lines) (drop (i + 1) index))
-    (goes_asserts (map assert_of lines) index)
-    (goes_asserts (map assert_of lines) (drop (i + 1) index))
-asserts_on old cur new s z y rest left last big n lines index i x l within at there is w names pc k steps bit tries narrows =
-    let same : get_or (map assert_of lines) x.1 no_assert ≡ assert_of l = at_map assert_of lines x.1 l no_assert there is in
-    let a : Assert = get_or (map assert_of lines) x.1 no_assert in
-    line_tried old cur new s z y rest left last big n (λ S. S.now) (assert_lines (map assert_of lines) index)
-    (assert_lines (map assert_of lines) (drop (i + 1) index)) a.says
-    (goes_asserts (map assert_of lines) index) (goes_asserts (map assert_of lines) (x
-    ∷ drop (i + 1) index)) (goes_asserts (map assert_of lines) (drop (i + 1) index)) (λ S. AssertFails a.line)
-    (assert_by (map assert_of lines) x (drop (i + 1) index)) w names pc
-    (subst (λ (q : List (ℕ × ℕ)). LinesTried old cur s z rest left big n
-    (λ S. S.now) (assert_lines (map assert_of lines) index) (assert_lines (map assert_of lines) q) (goes_asserts (map assert_of lines) index)
-    (goes_asserts (map assert_of lines) q))
-    (drop_here index i x within at) k)
-    (subst (λ (q : Assert). Steps cur new z y (line_price q.says) (bytes_loaded q.says) 0 0 (4 * (line_size q.says + 4)) (λ m. ⊥)) (sym same) steps) bit
-    (subst (λ (q : Assert). Tries cur new z y left last (LineFails cur z big q.says n) (λ from x v b. HasEvent v)) (sym same) tries) narrows
+-- no line was tried
+pub checks_none : (ns : List TermNode) (s : Sweep) (rest : ℕ) (big : Bool) (n : Now) (all : List Check) → AreWell ns s → HasWidth ns 1 rest →
+    ChecksTried ns ns s s rest rest big n all all
+checks_none ns s rest big n all w b J = tried_none ns s rest big n J.state (said all) (J.goes all) w b
+
+-- one line more
+pub checks_on : (old cur new : List TermNode) (s z y : Sweep) (rest left last : ℕ) (big : Bool) (n : Now) (all others : List Check) (x : Check) (says : Expr) →
+    says ≡ x.says → AreWell old s → AreTermsOf s.entry old n.names.now → HasWidth old 32 n.pc.0 →
+    ChecksTried old cur s z rest left big n all (x ∷ others) →
+    Steps cur new z y (line_price says) (bytes_loaded says) 0 0 (4 * (line_size says + 4)) (λ m. ⊥) → HasWidth new 1 last →
+    Tries cur new z y left last (LineFails cur z big says n) (λ from x v b. HasEvent v) → Narrows cur new left last (λ x q. Unit {0}) →
+    ChecksTried old new s y rest last big n all others
+checks_on old cur new s z y rest left last big n all others x says same w names pc k steps bit tries narrows J =
+    line_tried old cur new s z y rest left last big n J.state (said all) (said others) x.says (J.goes all) (J.goes (x ∷ others)) (J.goes others) (J.by x others)
+    w names pc (k J)
+    (subst (λ (q : Expr). Steps cur new z y (line_price q) (bytes_loaded q) 0 0 (4 * (line_size q + 4)) (λ m. ⊥)) same steps) bit
+    (subst (λ (q : Expr). Tries cur new z y left last (LineFails cur z big q n) (λ from x v b. HasEvent v)) same tries) narrows

@@ -5,31 +5,37 @@ use Rattle.std.specs.Global.{Vec}
 use Rattle.word_spec.specs.Words.{add}
 use Rattle.machine_spec.specs.Machine.{is_place}
 use Rattle.machine_spec.specs.Bil.{Empty}
-use Rattle.bilv_spec.specs.Notes as notes
-use Rattle.bilv_spec.specs.Notes.{Expr, NoteLine}
 use Rattle.bilv_spec.specs.Points.{line_price, bytes_loaded}
-use Rattle.bilv_spec.specs.Questions.{Reading, IsReading}
 use Rattle.bil_ast.specs.declared.statements.Stmt.{Stmt}
 use Rattle.bil_ast.specs.Views.{statements}
 use Rattle.bil_terms.specs.declared.left.Left.{Left}
 use Rattle.bil_terms.specs.declared.stored.Stored.{Stored}
 use Rattle.bil_terms.specs.Left.{IsLeft}
 use Rattle.term_spec.specs.Terms.{TermReading, InRange, TermNode, ChoiceNode, ConstantNode, HasWidth, term_word}
-use Rattle.walk_spec.specs.Unrolled.{UnrolledProgram, UnrolledPoint, Action, state_at, point_at, walk_from}
-use Rattle.walk_spec.specs.Unrolling.{CanBeTerms, IsRunnable, IsSized, IsWalkable}
-use Rattle.walk_spec.specs.Sweep.{Held, held_if, hand}
+use Rattle.walk_spec.specs.Unrolled.{state_at}
+use Rattle.walk_spec.specs.Unrolling.{IsSized}
+use Rattle.walk_spec.specs.Sweep.{Held, held_if}
 use Rattle.term_spec.specs.Passive.{Denotes, Tells}
-use Rattle.walk_spec.specs.Prices.{line_steps, variables_of}
-use Rattle.term_spec.specs.WalkQuestions.{term_reading}
-use Rattle.notes_value.specs.NoteViews.{notes_of}
+use Rattle.walk_spec.specs.Prices.{line_steps}
+use Rattle.frame_spec.specs.Frames.{Content}
+use Rattle.frame_spec.specs.FramePoints.{Anchor}
+use Rattle.frame_spec.specs.FrameQuestions.{Reading, IsReading}
+use Rattle.frame_spec.specs.FrameWalk as frames
+use Rattle.frame_spec.specs.FrameWalk.{Check, UnrolledProgram, UnrolledPoint, Action, Executes, point_at, sweep_on, walk_from}
+use Rattle.frame_spec.specs.FrameUnrolling.{CanBeTerms, IsRunnable}
+use Rattle.frame_laws.specs.FramePrices.{variables_of}
+use Rattle.frame_terms.specs.PassiveFrames.{IsWalkable, inputs_of, part_reading}
+use Rattle.frame_terms.proofs.FrameReadings.{part_range}
 use Rattle.term_dag.specs.declared.nodes.Term.{Term}
 use Rattle.term_dag.specs.Made.{Grew, IsInterned}
 use Rattle.term_dag.proofs.Growth.{grew_more, grew_none, inputs_none, inputs_more, interned_grew, interned_inputs}
 use Rattle.question_form.specs.declared.unrolled.Code.{Code}
 use Rattle.question_form.specs.declared.unrolled.Edge.{Edge}
 use Rattle.question_form.specs.declared.unrolled.Unrolled.{Unrolled}
-use Rattle.question_form.specs.Forms.{IsFormed}
-use Rattle.question_form.specs.Views.{action_of, row_exits, unrolled_of}
+use Rattle.question_form.specs.declared.unrolled.Deed.{Deed}
+use Rattle.question_form.specs.declared.unrolled.Deed.TheVariants.{Arrival, Row}
+use Rattle.question_form.specs.Forms.{AreRootsFormed, IsFormed}
+use Rattle.question_form.specs.FrameViews.{action_of, exits_of, list_of, row_exits, frame_unrolled_of}
 use Rattle.term_names.specs.declared.names.Names.{Names}
 use Rattle.term_names.specs.Views.{AreFor, form_of, names_of}
 use Rattle.term_names.specs.Chosen.{HaveSameForm, at_entry}
@@ -37,33 +43,35 @@ use Rattle.note_terms.specs.declared.Now.{Now}
 use Rattle.note_terms.proofs.Valued.{range_length}
 use Rattle.passify.specs.declared.sweep.Sweep.{Sweep}
 use Rattle.passify.specs.Bits.{Makes}
-use Rattle.passify.specs.Sweeps.{AreWell, AreTermsOf, Steps, Hands, HasEvent, ShowsAt, term_at}
+use Rattle.passify.specs.Sweeps.{AreLike, AreWell, AreTermsOf, Steps, Hands, HasEvent, ShowsAt, term_at}
 use Rattle.passify.specs.Exits.{IsPending}
-use Rattle.passify.specs.Situations.{Situation, LinesTried, IsThere, assert_lines, goes, goes_asserts}
+use Rattle.passify.specs.Plain.{carried, held_for}
+use Rattle.passify.specs.Situations.{ChecksTried, Situation, LinesTried, IsThere, goes, goes_checks}
 use Rattle.passify.specs.Handled.{IsHandled, IsSweepOf, TellsKept, point_gates, point_loaded, point_joins, point_nodes}
-use Rattle.passify.specs.Rows.{IsLeaving, IsRowTried, own_code, own_edges, own_index, own_lines, placed, situation_at}
+use Rattle.passify.specs.Rows.{IsLeaving, IsRowTried, own_code, own_checks, own_edges, own_lines, own_point, framed, situation_at}
 use Rattle.passify.proofs.Kept.{word_keeps, denotes_keep, names_keep, well_keeps}
 use Rattle.passify.proofs.Tried.{bit_true}
-use Rattle.passify.proofs.Followed.{lines_steps}
-use Rattle.passify.proofs.Lines.{steps_on}
-use Rattle.passify.proofs.Counted.{AreSized, ArePaid, row_paid, stored_few}
+use Rattle.passify.proofs.Followed.{ended, lines_steps}
+use Rattle.passify.proofs.Lines.{at_point, steps_on}
+use Rattle.passify.proofs.Plained.{hand_plain, if_plain}
+use Rattle.passify.proofs.Counted.{AreSized, ArePaid, arrival_loaded, arrival_nodes, arrival_paid, row_paid, stored_few}
 use Rattle.passify.proofs.Rowed.{row_led}
 use Rattle.passify.proofs.Quit.{pending_keep, pending_start, pending_end}
 use Rattle.passify.proofs.Pushed.{other_default}
-use Rattle.passify.proofs.Standing.{placed_is, points_length, point_terms, one_out, edges_later, link_for, link_word}
+use Rattle.passify.proofs.Standing.{framed_is, point_terms, one_out, edges_later, link_for, link_word}
 
--- a reading is in range
-reading_range : (u : UnrolledProgram) (r : Reading) → IsReading r → InRange (term_reading u r)
-reading_range u r i = record {
-  regs = λ p. i.state.regs;
-  flags = λ p. i.state.flags;
-  mem = λ p. i.state.mem;
-  choice = λ j. i.choice (point_at u j).point;
-  base = λ p j. omega arith;
-}
+-- what a row does
+pub row_does : (u : Unrolled) (place : ℕ) (list : Vec Stmt) → (own_point u place).deed ≡ Row → (own_code u place).list ≡ Some list →
+    (framed u place).does ≡ Executes (statements list.items)
+row_does u place list row code = ap (λ (d : Deed). action_of d (own_code u place).list) row ∙ ap list_of code
+
+-- nothing, where there is none
+none_does : (u : Unrolled) (place : ℕ) → (own_point u place).deed ≡ Row → (own_code u place).list ≡ None → (framed u place).does ≡ Executes Empty
+none_does u place row none = ap (λ (d : Deed). action_of d (own_code u place).list) row ∙ ap list_of none
 
 -- the size of a state's terms
-pub sized_for : (u : UnrolledProgram) (a b c : Names) → IsSized u → AreFor u a → HaveSameForm a b → HaveSameForm b c → AreSized (variables_of u) c
+pub sized_for : (u : UnrolledProgram) (a b c : Names) → IsSized (inputs_of u) → AreFor (inputs_of u) a → HaveSameForm a b → HaveSameForm b c →
+    AreSized (variables_of u) c
 sized_for u a b c s f h k =
     let e : length u.registers ≡ length a.registers.items = ap (λ (l : List ℕ). length l) f.registers ∙ range_length a.first (length a.registers.items) in
     let r : length u.registers ≡ length c.registers.items = e ∙ h.registers ∙ k.registers in
@@ -83,7 +91,7 @@ row_none u place n ns s rest w wr none paid = record {
   nodes = 0;
   steps = record {
     grew = grew_none ns;
-    inputs = inputs_none ns (λ m. (m ≡ ChoiceNode place) × ((placed u place).draws ≡ true));
+    inputs = inputs_none ns (λ m. (m ≡ ChoiceNode place) × ((framed u place).draws ≡ true));
     well = w;
     like = record { entry = refl; pc = refl; at = refl; places = refl; steps = refl };
   };
@@ -93,15 +101,18 @@ row_none u place n ns s rest w wr none paid = record {
   few_joins = paid.few_joins;
   few_nodes = paid.few_nodes;
   bit = wr;
-  tries = λ x r entry en c den before after p.
+  tries = λ x r entry en given c den before after p.
       subst (λ (o : Option (Vec Stmt)). IsPending ns s (suc place) x rest before after
-      (goes (situation_at (unrolled_of u) (placed u place) entry (x.choice place) c)
-      (row_exits (own_code u place).fetchable o (own_edges u place)) before)) none p;
+      (goes (situation_at (frame_unrolled_of u) (framed u place) entry (x.choice place) given c)
+      (row_exits u (own_code u place).fetchable o (own_edges u place)) before)) none p;
 }
 
 -- a place of the program has a bit
 pub place_met : (u : Unrolled) (s : Sweep) (i : ℕ) → IsSweepOf u s → i < length u.points.items → i < length s.met.items
-place_met u s i of h = let e = of.places in let l = points_length u u.points.items in omega (arith, e, l, h)
+place_met u s i of h = let e = of.places in omega (arith, e, h)
+
+pub like_sweep : (u : Unrolled) (s z : Sweep) → AreLike s z → IsSweepOf u s → IsSweepOf u z
+like_sweep u s z l k = record { form = subst (AreFor (inputs_of (frame_unrolled_of u))) (sym l.entry) k.form; at = l.at ∙ k.at; places = l.places ∙ k.places }
 
 -- the bit that is read there is its own
 pub met_at : (s : Sweep) (i : ℕ) (t : Term) → i < length s.met.items → t ≡ get_or s.met.items i t → t.0 ≡ term_at s.met.items i
@@ -110,7 +121,8 @@ met_at s i t h e = ap (λ (z : Term). z.0) (e ∙ other_default s.met.items i t 
 -- where the point goes on, by its own code
 pub gone_at : (u : Unrolled) (place : ℕ) (c d : List TermNode) (to jumped target : ℕ) (k : Code) → k ≡ own_code u place →
     Makes c d 32 3 32 to (λ x. (j : Bool) → Tells c x jumped j → term_word x d to ≡ (if j then term_word x c target else add 32 k.at k.length)) →
-    Makes c d 32 3 32 to (λ x. (j : Bool) → Tells c x jumped j → term_word x d to ≡ (if j then term_word x c target else add 32 (own_code u place).at (own_code u place).length))
+    Makes c d 32 3 32 to (λ x. (j : Bool) → Tells c x jumped j → term_word x d to ≡ (if j then term_word x c target else add 32 (own_code u place).at
+    (own_code u place).length))
 gone_at u place c d to jumped target k e m =
     subst (λ (q : Code). Makes c d 32 3 32 to (λ x. (j : Bool) → Tells c x jumped j →
     term_word x d to ≡ (if j then term_word x c target else add 32 q.at q.length))) e m
@@ -118,25 +130,26 @@ gone_at u place c d to jumped target k e m =
 -- What is made of a row: its list, its bits and its exits.
 pub record RowMade (u : Unrolled) (place : ℕ) (n : Names) (a b c d e f : List TermNode) (s z : Sweep) (rest last : ℕ) (list : Vec Stmt) (items : List Stmt)
     (l : Left)
-    (stored : List Stored) (wrote odd : ℕ) (next : Now) (to link : ℕ) (lines : List NoteLine) (edges : List Edge) : Type 0 where
-  pub walkable : IsWalkable (unrolled_of u)
+    (stored : List Stored) (wrote odd : ℕ) (next : Now) (to link : ℕ) (edges : List Edge) : Type 0 where
+  pub walkable : IsWalkable (frame_unrolled_of u)
   pub formed : IsFormed u
   pub within : place < length u.points.items
   pub of : IsSweepOf u s
   pub well : AreWell a s
   pub names : AreTermsOf s.entry a n
   pub rest_bit : HasWidth a 1 rest
+  pub roots : AreRootsFormed u
+  pub row : (own_point u place).deed ≡ Row
   pub code : (own_code u place).list ≡ Some list
   pub items_are : items ≡ list.items
   pub stored_are : stored ≡ l.stored.items
-  pub lines_are : lines ≡ (unrolled_of u).ensures
   pub edges_are : edges ≡ own_edges u place
   pub left : IsLeft a b place n (statements items) l
-  pub kept : TellsKept b c stored (unrolled_of u).kept wrote
+  pub kept : TellsKept b c stored (frame_unrolled_of u).kept wrote
   pub gone : Makes c d 32 3 32 to (λ x. (j : Bool) → Tells c x l.jumped.0 j →
       term_word x d to ≡ (if j then term_word x c l.target.0 else add 32 (own_code u place).at (own_code u place).length))
   pub off : Makes d e 2 5 1 odd (λ x. Tells e x odd (not (is_place u.narrow (term_word x d to))))
-  pub leaving : IsLeaving e f s z rest last u.big lines l.raised.0 wrote odd next l.jumped.0 link edges
+  pub leaving : IsLeaving u e f s z rest last l.raised.0 wrote odd next l.jumped.0 link edges
   pub next_names : next.names.now ≡ l.names
   pub next_pc : next.pc.0 ≡ to
   pub link_is : link ≡ slice_index (names_of s.entry).registers (u.link - s.entry.first)
@@ -144,58 +157,56 @@ pub record RowMade (u : Unrolled) (place : ℕ) (n : Names) (a b c d e f : List 
 -- so the row is tried
 pub row_from : (u : Unrolled) (place : ℕ) (n : Names) (a b c d e f : List TermNode) (s z : Sweep) (rest last : ℕ) (list : Vec Stmt) (items : List Stmt)
     (l : Left)
-    (stored : List Stored) (wrote odd : ℕ) (next : Now) (to link : ℕ) (lines : List NoteLine) (edges : List Edge) →
-    RowMade u place n a b c d e f s z rest last list items l stored wrote odd next to link lines edges → IsRowTried u place n a f s z rest last
-row_from u place n a b c d e f s z rest last list items l stored wrote odd next to link lines edges k =
+    (stored : List Stored) (wrote odd : ℕ) (next : Now) (to link : ℕ) (edges : List Edge) →
+    RowMade u place n a b c d e f s z rest last list items l stored wrote odd next to link edges → IsRowTried u place n a f s z rest last
+row_from u place n a b c d e f s z rest last list items l stored wrote odd next to link edges k =
     let m1 : IsLeft a b place n (statements list.items) l = subst (λ (q : List Stmt). IsLeft a b place n (statements q) l) k.items_are k.left in
-    let m2 : TellsKept b c l.stored.items (unrolled_of u).kept wrote = subst
-    (λ (q : List Stored). TellsKept b c q (unrolled_of u).kept wrote) k.stored_are k.kept in
-    let v : IsLeaving e f s z rest last u.big (unrolled_of u).ensures l.raised.0 wrote odd next l.jumped.0 link (own_edges u place) =
-    subst (λ (q : List Edge). IsLeaving e f s z rest last u.big (unrolled_of u).ensures l.raised.0 wrote odd next l.jumped.0 link q) k.edges_are
-    (subst (λ (q : List NoteLine). IsLeaving e f s z rest last u.big q l.raised.0 wrote odd next l.jumped.0 link edges) k.lines_are k.leaving) in
-    let runs : IsRunnable (unrolled_of u) (placed u place) (statements list.items) =
-    subst (λ (q : Action). CanBeTerms (unrolled_of u) (placed u place) q) (ap action_of k.code) (point_terms u place k.walkable k.formed k.within) in
-    let sized : AreSized (variables_of (unrolled_of u)) next.names.now =
-    subst (λ (m : Names). AreSized (variables_of (unrolled_of u)) m) (sym k.next_names)
-    (sized_for (unrolled_of u) s.entry n l.names k.walkable.sized k.of.form k.names.same m1.form) in
+    let m2 : TellsKept b c l.stored.items (frame_unrolled_of u).kept wrote = subst
+    (λ (q : List Stored). TellsKept b c q (frame_unrolled_of u).kept wrote) k.stored_are k.kept in
+    let v : IsLeaving u e f s z rest last l.raised.0 wrote odd next l.jumped.0 link (own_edges u place) =
+    subst (λ (q : List Edge). IsLeaving u e f s z rest last l.raised.0 wrote odd next l.jumped.0 link q) k.edges_are k.leaving in
+    let runs : IsRunnable (frame_unrolled_of u) (framed u place) (statements list.items) =
+    subst (λ (q : Action). CanBeTerms (frame_unrolled_of u) (framed u place) q) (row_does u place list k.row k.code)
+    (point_terms u place k.walkable k.formed k.within) in
+    let sized : AreSized (variables_of (frame_unrolled_of u)) next.names.now =
+    subst (λ (m : Names). AreSized (variables_of (frame_unrolled_of u)) m) (sym k.next_names)
+    (sized_for (frame_unrolled_of u) s.entry n l.names k.walkable.sized k.of.form k.names.same m1.form) in
     let few = stored_few l.stored.items (λ t h. (m1.stores t h).some) in
     let bytes = m1.bytes in
     let well : AreWell e s = well_keeps k.off.grew s k.off.typed
     (well_keeps k.gone.grew s k.gone.typed (well_keeps m2.grew s m2.typed (well_keeps m1.grew s m1.typed k.well))) in
-    row_led u place n a b c d e f s z rest last list l wrote odd next to link k.well k.rest_bit k.code
-    (edges_later u place k.walkable k.formed k.within list k.code) m1 m2 k.gone
+    row_led u place n a b c d e f s z rest last list l wrote odd next to link k.well k.rest_bit k.row k.code
+    (edges_later u place k.walkable k.formed k.within k.row list k.code) m1 m2 k.gone
     k.off v k.next_names k.next_pc
     (λ x r. ap (λ (i : ℕ). term_word x e i) k.link_is ∙ link_word e s well u.link (link_for u s k.walkable k.of) x r) runs.draws
-    (row_paid u place list k.code next.names.now (length l.stored.items) (length l.stored.items * length (unrolled_of u).kept) sized
+    (row_paid u place k.row list k.code next.names.now (length l.stored.items) (length l.stored.items * length (frame_unrolled_of u).kept) sized
     (one_out u place k.walkable k.formed k.within)
     (omega (arith, few, bytes)) refl
     runs.weight runs.loads runs.byte_stores)
 
 -- where there is no row, the price of the point pays for it
-pub none_priced : (u : Unrolled) (place : ℕ) → (own_code u place).list ≡ None → CanBeTerms (unrolled_of u) (placed u place) (placed u place).does →
-    64 ≤ (placed u place).row
-none_priced u place none t =
-    let runs : IsRunnable (unrolled_of u) (placed u place) Empty = subst
-    (λ (q : Action). CanBeTerms (unrolled_of u) (placed u place) q) (ap action_of none) t in
+pub none_priced : (u : Unrolled) (place : ℕ) → (own_point u place).deed ≡ Row → (own_code u place).list ≡ None →
+    CanBeTerms (frame_unrolled_of u) (framed u place) (framed u place).does →
+    64 ≤ (framed u place).row
+none_priced u place row none t =
+    let runs : IsRunnable (frame_unrolled_of u) (framed u place) Empty = subst
+    (λ (q : Action). CanBeTerms (frame_unrolled_of u) (framed u place) q) (none_does u place row none) t in
     let h = runs.weight in omega (arith, h)
 
-module _ (u : Unrolled) (place : ℕ) (n : Names) (a b c d e : List TermNode) (s s1 s2 z : Sweep) (met rest left v pc : ℕ) (asserts : List notes.Assert)
-    (index : List (ℕ × ℕ))
-    (now : Now) (within : place < length u.points.items)
+-- the assert lines of a place were tried, from what is carried to it
+module _ (u : Unrolled) (place : ℕ) (n : Names) (a b c : List TermNode) (s s1 : Sweep) (met rest v pc : ℕ) (now : Now) (within : place < length u.points.items)
     (of : IsSweepOf u s) (w : AreWell a s) (names : AreTermsOf s.entry a n) (met_is : met ≡ term_at s.met.items place) (here : place < length s.met.items)
     (value : v ≡ (own_code u place).at)
-    (m1 : IsInterned a b (ConstantNode 32 v) pc) (lines_are : asserts ≡ (notes_of u.notes.now).asserts) (index_are : index ≡ own_index u place)
-    (tried : LinesTried b c s s1 met rest u.big now (λ S. S.now) (assert_lines asserts index) [] (goes_asserts asserts index) (goes_asserts asserts []))
-    (same : now.names.now ≡ n) (pc_is : now.pc.0 ≡ pc)
-    (m3 : IsRowTried u place n c d s1 s2 rest left) (m4 : Steps d e s2 z 1 0 0 0 2 (λ m. ⊥)) (hands : Hands d e s2 z left (λ from x y t. HasEvent y)) where
-  m2 : LinesTried b c s s1 met rest u.big now (λ S. S.now) (own_lines u place) [] (goes_asserts (notes_of u.notes.now).asserts (own_index u place))
-      (goes_asserts (notes_of u.notes.now).asserts [])
-  m2 =
-      subst (λ (q : List (ℕ × ℕ)). LinesTried b c s s1 met rest u.big now (λ S. S.now) (assert_lines (notes_of u.notes.now).asserts q) []
-      (goes_asserts (notes_of u.notes.now).asserts q) (goes_asserts (notes_of u.notes.now).asserts []))
-      index_are (subst (λ (q : List notes.Assert). LinesTried b c s s1 met rest u.big now
-      (λ S. S.now) (assert_lines q index) [] (goes_asserts q index) (goes_asserts q []))
-      lines_are tried)
+    (m1 : IsInterned a b (ConstantNode 32 v) pc) (same : now.names.now ≡ n) (pc_is : now.pc.0 ≡ pc) (checks : List Check) (are : checks ≡ own_checks u place)
+    (tried : ChecksTried b c s s1 met rest u.big now checks []) where
+  abbrev f : UnrolledProgram
+  f = frame_unrolled_of u
+
+  abbrev anchor : Anchor
+  anchor = (point_at f place).point.anchor
+
+  m2 : LinesTried b c s s1 met rest u.big now (λ S. S.now) (own_lines u place) [] (goes_checks (own_checks u place)) (goes_checks [])
+  m2 = subst (λ (cs : List Check). ChecksTried b c s s1 met rest u.big now cs []) are tried at_point
 
   g1 : Grew a b 0 0 0 0 1
   g1 = interned_grew a b (ConstantNode 32 v) pc m1
@@ -203,19 +214,26 @@ module _ (u : Unrolled) (place : ℕ) (n : Names) (a b c d e : List TermNode) (s
   met_width : HasWidth a 1 met
   met_width = subst (λ (t : ℕ). HasWidth a 1 t) (sym met_is) (w.bits place here)
 
-  module _ (r : Reading) (reads : IsReading r) (begins : r.state.pc ≡ u.entry) (h : Held) (shows : ShowsAt a s (suc place) (term_reading (unrolled_of u) r) h)
-      (den : h.met place ≡ true → Denotes (form_of n) a (term_reading (unrolled_of u) r) (names_of n) (h.carried place)) where
+  module _ (r : Reading) (reads : IsReading r) (begins : r.state.pc ≡ u.entry) (h : frames.Held)
+      (shows : ShowsAt a s (suc place) (part_reading f r) (held_for anchor h))
+      (den : h.met place ≡ true → Denotes (form_of n) a (part_reading f r) (names_of n) (carried (h.carried place))) where
     abbrev x : TermReading
-    x = term_reading (unrolled_of u) r
+    x = part_reading f r
 
     range : InRange x
-    range = reading_range (unrolled_of u) r reads
+    range = part_range f r reads
+
+    abbrev H : Held
+    H = held_for anchor h
+
+    abbrev given : Content
+    given = r.given (point_at f place).point
 
     abbrev S : Situation
-    S = situation_at (unrolled_of u) (placed u place) r.state (x.choice place) (h.carried place)
+    S = situation_at f (framed u place) r.state (x.choice place) given (h.carried place)
 
     abbrev go : Held
-    go = goes S (placed u place).exits h
+    go = goes S (framed u place).exits H
 
     tells_met : Tells a x met (h.met place)
     tells_met = subst (λ (t : ℕ). Tells a x t (h.met place)) (sym met_is) (shows.mets place here)
@@ -226,31 +244,42 @@ module _ (u : Unrolled) (place : ℕ) (n : Names) (a b c d e : List TermNode) (s
     entry_is : r.state ≡ state_at (at_entry x) s.at
     entry_is = ap (state_at (at_entry x)) (begins ∙ sym of.at)
 
-    den_b : h.met place ≡ true → Denotes (form_of n) b x (names_of n) (h.carried place)
-    den_b k = denotes_keep g1 x n (h.carried place) names.names (den k)
+    den_b : h.met place ≡ true → Denotes (form_of n) b x (names_of n) (carried (h.carried place))
+    den_b k = denotes_keep g1 x n (carried (h.carried place)) names.names (den k)
 
     there : term_word x b met ≡ 1 → IsThere b s u.big now (λ T. T.now) x S
     there k = record {
       endian = refl;
       entry = entry_is;
       is = record {
-        carried = subst (λ (m : Names). Denotes (form_of m) b x (names_of m) (h.carried place)) (sym same) (den_b (is_met k));
+        carried = subst (λ (m : Names). Denotes (form_of m) b x (names_of m) (carried (h.carried place))) (sym same) (den_b (is_met k));
         pc = ap (λ (i : ℕ). term_word x b i) pc_is ∙ ap (λ t. t.word) (m1.value x) ∙ value;
       };
     }
 
-    den_c : term_word x c rest ≡ 1 → Denotes (form_of n) c x (names_of n) (h.carried place)
-    den_c k = denotes_keep m2.lines.steps.grew x n (h.carried place) (names_keep g1 n names.names) (den_b (is_met (m2.narrows x range k).0))
+    den_c : term_word x c rest ≡ 1 → Denotes (form_of n) c x (names_of n) (carried (h.carried place))
+    den_c k = denotes_keep m2.lines.steps.grew x n (carried (h.carried place)) (names_keep g1 n names.names) (den_b (is_met (m2.narrows x range k).0))
 
-    shown : ShowsAt e z (suc place) x (held_if (h.met place) go h)
-    shown =
-        let p0 = pending_start a s (suc place) x met (h.met place) h go tells_met shows in
-        let p1 = pending_keep a b 0 0 0 0 1 s (suc place) x met h (held_if (h.met place) go h) go g1 w met_width p0 in
-        let p2 = m2.tries x range (suc place) S there h (held_if (h.met place) go h)
-        (row_exits (own_code u place).fetchable (own_code u place).list (own_edges u place)) p1 in
-        let p3 = m3.tries x range r.state (entry_is ∙ ap (state_at (at_entry x)) (sym m2.lines.steps.like.at)) (h.carried place) den_c h
-        (held_if (h.met place) go h) p2 in
-        pending_end d e s2 z (suc place) x left h (held_if (h.met place) go h) S range hands p3
+    lines_pend : IsPending c s1 (suc place) x rest H (held_if (h.met place) go H)
+        (goes S (exits_of u (own_point u place).deed (own_code u place) (own_edges u place)) H)
+    lines_pend =
+        let p0 = pending_start a s (suc place) x met (h.met place) H go tells_met shows in
+        let p1 = pending_keep a b 0 0 0 0 1 s (suc place) x met H (held_if (h.met place) go H) go g1 w met_width p0 in
+        m2.tries x range (suc place) S there H (held_if (h.met place) go H) (exits_of u (own_point u place).deed (own_code u place) (own_edges u place)) p1
+
+  -- what is shown of the point's own exits is shown of the sweep
+  on_sweep : (nodes : List TermNode) (z : Sweep) (r : Reading) (h : frames.Held) →
+      ShowsAt nodes z (suc place) (part_reading f r) (held_if (h.met place) (goes (situation_at f (framed u place) r.state (r.choice (point_at f place).point)
+      (r.given (point_at f place).point) (h.carried place)) (framed u place).exits (held_for anchor h)) (held_for anchor h)) →
+      ShowsAt nodes z (suc place) (part_reading f r) (held_for anchor (sweep_on f r place h))
+  on_sweep nodes z r h k =
+      let Q = point_at f place in
+      let walk = walk_from f r.state Q (r.choice Q.point) (r.given Q.point) (h.carried place) in
+      subst (λ (y : Held). ShowsAt nodes z (suc place) (part_reading f r) y)
+      (ap (λ (y : Held). held_if (h.met place) y (held_for anchor h)) (hand_plain f r anchor walk h)
+      ∙ if_plain anchor (h.met place) (frames.hand f r anchor walk h) h)
+      (subst (λ (q : UnrolledPoint). ShowsAt nodes z (suc place) (part_reading f r) (held_if (h.met place) (goes (situation_at f q r.state (r.choice Q.point)
+      (r.given Q.point) (h.carried place)) q.exits (held_for anchor h)) (held_for anchor h))) (sym (framed_is u place within)) k)
 
   steps1 : Steps a b s s 0 0 0 0 1 (λ m. ⊥)
   steps1 = record {
@@ -261,7 +290,7 @@ module _ (u : Unrolled) (place : ℕ) (n : Names) (a b c d e : List TermNode) (s
   }
 
   abbrev Drawn : TermNode → Type 0
-  Drawn m = (m ≡ ChoiceNode place) × ((placed u place).draws ≡ true)
+  Drawn m = (m ≡ ChoiceNode place) × ((framed u place).draws ≡ true)
 
   more : (old new : List TermNode) (t y : Sweep) (g l st j k : ℕ) → Steps old new t y g l st j k (λ m. ⊥) → Steps old new t y g l st j k Drawn
   more old new t y g l st j k q = record {
@@ -278,34 +307,68 @@ module _ (u : Unrolled) (place : ℕ) (n : Names) (a b c d e : List TermNode) (s
       (4 * line_steps (own_lines u place))
       steps1 (lines_steps m2.lines)
 
-  steps34 : Steps c e s1 z (m3.gates + 1) (m3.loads + 0) (m3.stores + 0) (m3.joins + 0) (m3.nodes + 2) Drawn
-  steps34 = steps_on c d e s1 s2 z Drawn m3.gates m3.loads m3.stores m3.joins m3.nodes 1 0 0 0 2 m3.steps (more d e s2 z 1 0 0 0 2 m4)
+  -- the steps within what the point may cost
+  abbrev InPoint : (new : List TermNode) → Sweep → UnrolledPoint → Type 0
+  InPoint new z q =
+      Steps a new s z (point_gates f q) (point_loaded f q) q.stores (point_joins q) (point_nodes f q) (λ m. (m ≡ ChoiceNode place) × (q.draws ≡ true))
 
-  steps_all : Steps a e s z (point_gates (unrolled_of u) (placed u place)) (point_loaded (unrolled_of u) (placed u place)) (placed u place).stores
-      (point_joins (placed u place))
-      (point_nodes (unrolled_of u) (placed u place)) Drawn
-  steps_all =
-      let t = steps_on a c e s s1 z Drawn (0 + sum_by line_price (own_lines u place)) (0 + sum_by bytes_loaded (own_lines u place)) (0 + 0) (0 + 0)
-      (1 + 4 * line_steps (own_lines u place)) (m3.gates + 1) (m3.loads + 0)
-      (m3.stores + 0) (m3.joins + 0) (m3.nodes + 2) (more a c s s1 _ _ _ _ _ steps2) steps34 in
-      let fg = m3.few_gates in let fl = m3.few_loads in let fs = m3.few_stores in let fj = m3.few_joins in let fn = m3.few_nodes in
-      record {
-        grew = grew_more a e _ _ _ _ _ (point_gates (unrolled_of u) (placed u place)) (point_loaded (unrolled_of u) (placed u place)) (placed u place).stores
-            (point_joins (placed u place)) (point_nodes (unrolled_of u) (placed u place))
-            (omega (arith, fg)) (omega (arith, fl)) (omega (arith, fs)) (omega (arith, fj)) (omega (arith, fn)) t.grew;
-        inputs = t.inputs;
-        well = t.well;
-        like = t.like;
-      }
-
-  pub handled : IsHandled u a e s z place n
-  handled = record {
-    steps = subst (λ (q : UnrolledPoint). Steps a e s z (point_gates (unrolled_of u) q) (point_loaded (unrolled_of u) q) q.stores (point_joins q)
-        (point_nodes (unrolled_of u) q)
-        (λ m. (m ≡ ChoiceNode place) × (q.draws ≡ true)))
-        (sym (placed_is u place within)) steps_all;
+  -- where the segment arrives at a head that is all
+  pub arrives : (own_point u place).deed ≡ Arrival → IsHandled u a c s s1 place n
+  arrives arrival = record {
+    steps = subst (InPoint c s1) (sym (framed_is u place within)) (
+        let t = more a c s s1 _ _ _ _ _ steps2 in
+        let fg = arrival_paid u place in let fl = arrival_loaded u place in let fn = arrival_nodes u place in
+        record {
+          grew = grew_more a c _ _ _ _ _ (point_gates f (framed u place)) (point_loaded f (framed u place)) (framed u place).stores
+              (point_joins (framed u place)) (point_nodes f (framed u place)) (omega (arith, fg)) (omega (arith, fl)) (omega arith) (omega arith)
+              (omega (arith, fn)) t.grew;
+          inputs = t.inputs;
+          well = t.well;
+          like = t.like;
+        });
     shows = λ r reads begins h shows den.
-        subst (λ (q : UnrolledPoint). ShowsAt e z (suc place) (term_reading (unrolled_of u) r)
-        (held_if (h.met place) (hand (walk_from (unrolled_of u) r.state q (r.choice (point_at (unrolled_of u) place).point) (h.carried place)) h) h))
-        (sym (placed_is u place within)) (shown r reads begins h shows den);
+        let p = subst (λ (d : Deed). IsPending c s1 (suc place) (part_reading f r) rest (H r reads begins h shows den)
+        (held_if (h.met place) (go r reads begins h shows den) (H r reads begins h shows den))
+        (goes (S r reads begins h shows den) (exits_of u d (own_code u place) (own_edges u place)) (H r reads begins h shows den))) arrival
+        (lines_pend r reads begins h shows den) in
+        on_sweep c s1 r h
+        (ended c s1 (suc place) (part_reading f r) p.some (H r reads begins h shows den)
+        (held_if (h.met place) (go r reads begins h shows den) (H r reads begins h shows den)) p.goes p.shows);
   }
+
+  -- and else the row follows
+  module _ (d e : List TermNode) (s2 z : Sweep) (left : ℕ) (row : (own_point u place).deed ≡ Row) (m3 : IsRowTried u place n c d s1 s2 rest left)
+      (m4 : Steps d e s2 z 1 0 0 0 2 (λ m. ⊥)) (hands : Hands d e s2 z left (λ from x y t. HasEvent y)) where
+    steps34 : Steps c e s1 z (m3.gates + 1) (m3.loads + 0) (m3.stores + 0) (m3.joins + 0) (m3.nodes + 2) Drawn
+    steps34 = steps_on c d e s1 s2 z Drawn m3.gates m3.loads m3.stores m3.joins m3.nodes 1 0 0 0 2 m3.steps (more d e s2 z 1 0 0 0 2 m4)
+
+    steps_all : InPoint e z (framed u place)
+    steps_all =
+        let t = steps_on a c e s s1 z Drawn (0 + sum_by line_price (own_lines u place)) (0 + sum_by bytes_loaded (own_lines u place)) (0 + 0) (0 + 0)
+        (1 + 4 * line_steps (own_lines u place)) (m3.gates + 1) (m3.loads + 0)
+        (m3.stores + 0) (m3.joins + 0) (m3.nodes + 2) (more a c s s1 _ _ _ _ _ steps2) steps34 in
+        let fg = m3.few_gates in let fl = m3.few_loads in let fs = m3.few_stores in let fj = m3.few_joins in let fn = m3.few_nodes in
+        record {
+          grew = grew_more a e _ _ _ _ _ (point_gates f (framed u place)) (point_loaded f (framed u place)) (framed u place).stores
+              (point_joins (framed u place)) (point_nodes f (framed u place))
+              (omega (arith, fg)) (omega (arith, fl)) (omega (arith, fs)) (omega (arith, fj)) (omega (arith, fn)) t.grew;
+          inputs = t.inputs;
+          well = t.well;
+          like = t.like;
+        }
+
+    pub handled : IsHandled u a e s z place n
+    handled = record {
+      steps = subst (InPoint e z) (sym (framed_is u place within)) steps_all;
+      shows = λ r reads begins h shows den.
+          let y = part_reading f r in
+          let after = held_if (h.met place) (go r reads begins h shows den) (H r reads begins h shows den) in
+          let p2 = subst (λ (t : Deed). IsPending c s1 (suc place) y rest (H r reads begins h shows den) after
+          (goes (S r reads begins h shows den) (exits_of u t (own_code u place) (own_edges u place)) (H r reads begins h shows den))) row
+          (lines_pend r reads begins h shows den) in
+          let p3 = m3.tries y (range r reads begins h shows den) r.state
+          (entry_is r reads begins h shows den ∙ ap (state_at (at_entry y)) (sym m2.lines.steps.like.at)) (given r reads begins h shows den) (h.carried place)
+          (den_c r reads begins h shows den) (H r reads begins h shows den) after p2 in
+          on_sweep e z r h (pending_end d e s2 z (suc place) y left (H r reads begins h shows den) after (S r reads begins h shows den)
+          (range r reads begins h shows den) hands p3);
+    }

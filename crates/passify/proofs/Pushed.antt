@@ -124,10 +124,10 @@ or_true : (b : Bool) → (b || true) ≡ true
 or_true true = refl
 or_true false = refl
 
-same_eq : (j : ℕ) → (j == j) ≡ true
+pub same_eq : (j : ℕ) → (j == j) ≡ true
 same_eq j = grind (arith, nat_tests)
 
-not_eq : (i j : ℕ) → i ≢ j → (i == j) ≡ false
+pub not_eq : (i j : ℕ) → i ≢ j → (i == j) ≡ false
 not_eq i j n = grind (arith, nat_tests)
 
 some_is : {X : Type 0} → (a b : X) → Some a ≡ Some b → a ≡ b

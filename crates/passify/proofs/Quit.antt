@@ -1,24 +1,27 @@
 -- The exits of a row, tried one by one.
 use Rattle.std.proofs.Common.{◌≡◌, ℕ, ◌+◌, Bool, true, false, List, [], ◌∷◌, ◌++◌, map, refl, ap, sym, ◌∙◌, subst, arith}
 use Rattle.std.specs.Prelude.{sum_by}
-use Rattle.bilv_spec.specs.Notes.{NoteLine}
-use Rattle.machine_spec.specs.Endings.{CodeWritten, AlignFails}
+use Rattle.std.specs.List.{list_any}
+use Rattle.machine_spec.specs.Endings.{CodeWritten, AlignFails, JumpFails}
 use Rattle.term_spec.specs.Terms.{TermReading, InRange, TermNode, HasWidth, term_word}
-use Rattle.walk_spec.specs.Unrolled.{PointExit, Raising, WritingKept, Unaligned, WalkFails, carried_of, state_at, first_aim, is_raised, is_unaligned, raised_event}
+use Rattle.walk_spec.specs.Unrolled.{WalkFails, carried_of, is_in, state_at}
+use Rattle.frame_spec.specs.Frames.{OfStep}
+use Rattle.frame_spec.specs.FrameWalk.{PointExit, Raising, WritingKept, Unaligned, first_aim, is_raised, is_unaligned, raised_event}
 use Rattle.walk_spec.specs.Sweep.{Held, held_if}
 use Rattle.term_spec.specs.Passive.{Tells}
 use Rattle.term_dag.specs.Made.{Grew}
 use Rattle.term_dag.proofs.Growth.{grew_more}
 use Rattle.question_form.specs.declared.unrolled.Edge.{Edge}
-use Rattle.question_form.specs.Views.{edge_of}
+use Rattle.question_form.specs.declared.unrolled.Unrolled.{Unrolled}
+use Rattle.question_form.specs.FrameViews.{edge_of}
 use Rattle.term_names.specs.declared.names.Names.{Names}
 use Rattle.term_names.specs.Chosen.{at_entry}
 use Rattle.note_terms.specs.declared.Now.{Now}
 use Rattle.passify.specs.declared.sweep.Sweep.{Sweep}
 use Rattle.passify.specs.Sweeps.{AreWell, AreLike, AreTermsOf, Steps, HasEvent, Hands, ShowsAt}
 use Rattle.passify.specs.Exits.{IsPending, Narrows, Tries}
-use Rattle.passify.specs.Situations.{Situation, goes}
-use Rattle.passify.specs.Edges.{AreEdges, AreLater, EdgesTried, GoesHere, aim_gates, aim_loads, aim_joins, aim_nodes}
+use Rattle.passify.specs.Situations.{Situation, deciding, goes}
+use Rattle.passify.specs.Edges.{AreEdges, AreLater, EdgesTried, GoesHere, IsLeftBy, aim_gates, aim_loads, aim_joins, aim_nodes}
 use Rattle.passify.specs.Rows.{IsLeaving, LeavesHere}
 use Rattle.passify.proofs.Kept.{tells_keep, word_keeps, denotes_keep, shows_keep, terms_keep}
 use Rattle.passify.proofs.Lines.{event_by, steps_on}
@@ -54,17 +57,17 @@ pub pending_end : (old new : List TermNode) (s z : Sweep) (from : ℕ) (x : Term
 pending_end old new s z from x left before after S r hands k = by k.some k.tells k.goes k.shows
   where
     by : (b : Bool) → Tells old x left b → (b ≡ true → after ≡ goes S [] before) → ShowsAt old s from x (held_if b before after) → ShowsAt new z from x after
-    by true t g sh = subst (λ (q : Held). ShowsAt new z from x q) (sym (g refl)) (hands x r from (WalkFails AlignFails) true (AlignFails, refl) t before sh)
-    by false t g sh = hands x r from (WalkFails AlignFails) false (AlignFails, refl) t after sh
+    by true t g sh = subst (λ (q : Held). ShowsAt new z from x q) (sym (g refl)) (hands x r from (WalkFails JumpFails) true (JumpFails, refl) t before sh)
+    by false t g sh = hands x r from (WalkFails JumpFails) false (JumpFails, refl) t after sh
 
 -- all edges were tried
-edges_steps : (old new : List TermNode) (s z : Sweep) (n : Names) (lines : List NoteLine) (all : List Edge) → AreEdges old new s z n lines all [] →
-    Steps old new s z (sum_by (λ e. 35 + aim_gates n lines e.aim) all) (sum_by (λ e. aim_loads lines e.aim) all) 0 (sum_by (λ e. aim_joins e.aim) all)
-    (sum_by (λ e. 14 + aim_nodes n lines e.aim) all) (λ m. ⊥)
-edges_steps old new s z n lines all k = record {
-  grew = grew_more old new k.gates k.loads 0 k.joins k.nodes (sum_by (λ e. 35 + aim_gates n lines e.aim) all) (sum_by (λ e. aim_loads lines e.aim) all) 0
+edges_steps : (u : Unrolled) (old new : List TermNode) (s z : Sweep) (n : Names) (all : List Edge) → AreEdges u old new s z n all [] →
+    Steps old new s z (sum_by (λ e. 35 + aim_gates u n e.aim) all) (sum_by (λ e. aim_loads u e.aim) all) 0 (sum_by (λ e. aim_joins e.aim) all)
+    (sum_by (λ e. 14 + aim_nodes u n e.aim) all) (λ m. ⊥)
+edges_steps u old new s z n all k = record {
+  grew = grew_more old new k.gates k.loads 0 k.joins k.nodes (sum_by (λ e. 35 + aim_gates u n e.aim) all) (sum_by (λ e. aim_loads u e.aim) all) 0
       (sum_by (λ e. aim_joins e.aim) all)
-      (sum_by (λ e. 14 + aim_nodes n lines e.aim) all) (omega (arith, k.few_gates)) (omega (arith, k.few_loads)) (omega arith) (omega (arith, k.few_joins))
+      (sum_by (λ e. 14 + aim_nodes u n e.aim) all) (omega (arith, k.few_gates)) (omega (arith, k.few_loads)) (omega arith) (omega (arith, k.few_joins))
       (omega (arith, k.few_nodes)) k.steps.grew;
   inputs = k.steps.inputs;
   well = k.steps.well;
@@ -113,7 +116,7 @@ pub leave_names : (d0 d1 d2 d3 : List TermNode) (s0 s1 s2 s3 : Sweep) (n : Names
 leave_names d0 d1 d2 d3 s0 s1 s2 s3 n h p q r =
     names_step d2 d3 s2 s3 3 0 0 0 8 (λ m. ⊥) n r (names_step d1 d2 s1 s2 3 0 0 0 8 (λ m. ⊥) n q (names_step d0 d1 s0 s1 3 0 0 0 8 (λ m. ⊥) n p h))
 
-module _ (d0 d1 d2 d3 d4 : List TermNode) (s0 s1 s2 s3 s4 : Sweep) (rest quiet kept aligned left : ℕ) (big : Bool) (lines : List NoteLine) (raise write off : ℕ)
+module _ (u : Unrolled) (d0 d1 d2 d3 d4 : List TermNode) (s0 s1 s2 s3 s4 : Sweep) (rest quiet kept aligned left : ℕ) (raise write off : ℕ)
     (next : Now)
     (jumped link : ℕ) (edges : List Edge)
     (ww : HasWidth d0 1 write) (wo : HasWidth d0 1 off) (names : AreTermsOf s0.entry d0 next.names.now) (pc : HasWidth d0 32 next.pc.0)
@@ -125,16 +128,17 @@ module _ (d0 d1 d2 d3 d4 : List TermNode) (s0 s1 s2 s3 s4 : Sweep) (rest quiet k
     (narrows2 : Narrows d1 d2 quiet kept (λ x q. Tells d1 x write q))
     (st3 : Steps d2 d3 s2 s3 3 0 0 0 8 (λ m. ⊥)) (tries3 : Tries d2 d3 s2 s3 kept aligned (λ x q. Tells d2 x off q) (λ from x w b. HasEvent w))
     (narrows3 : Narrows d2 d3 kept aligned (λ x q. Tells d2 x off q))
-    (tried : EdgesTried d3 d4 s3 s4 aligned left big lines next jumped link edges []) where
+    (tried : EdgesTried u d3 d4 s3 s4 aligned left next jumped link edges []) where
   st12 : Steps d0 d2 s0 s2 (3 + 3) (0 + 0) (0 + 0) (0 + 0) (8 + 8) (λ m. ⊥)
   st12 = steps_on d0 d1 d2 s0 s1 s2 (λ m. ⊥) 3 0 0 0 8 3 0 0 0 8 st1 st2
 
   leave_steps3 : Steps d0 d3 s0 s3 (3 + 3 + 3) (0 + 0 + 0) (0 + 0 + 0) (0 + 0 + 0) (8 + 8 + 8) (λ m. ⊥)
   leave_steps3 = steps_on d0 d2 d3 s0 s2 s3 (λ m. ⊥) (3 + 3) (0 + 0) (0 + 0) (0 + 0) (8 + 8) 3 0 0 0 8 st12 st3
 
-  module _ (x : TermReading) (r : InRange x) (S : Situation) (fits : term_word x d0 rest ≡ 1 → LeavesHere d0 s0 big raise write off next jumped link x S) where
-    takes2 : term_word x d1 quiet ≡ 1 → Tells d1 x write S.writes_kept
-    takes2 h = tells_keep st1.grew x write S.writes_kept ww.0 (fits (narrows1 x r h).0).wrote
+  module _ (x : TermReading) (r : InRange x) (S : Situation) (fits : term_word x d0 rest ≡ 1 →
+      LeavesHere d0 s0 u.big raise write off next jumped link x S) where
+    takes2 : term_word x d1 quiet ≡ 1 → Tells d1 x write (list_any (is_in S.program.kept) S.stored)
+    takes2 h = tells_keep st1.grew x write (list_any (is_in S.program.kept) S.stored) ww.0 (fits (narrows1 x r h).0).wrote
 
     not_raised : term_word x d2 kept ≡ 1 → (term_word x d0 rest ≡ 1) × (is_raised S.leaving ≡ false)
     not_raised h = let k = narrows1 x r (narrows2 x r h).0 in (k.0, bit_false (is_raised S.leaving) (sym (fits k.0).raised ∙ k.1))
@@ -142,46 +146,48 @@ module _ (d0 d1 d2 d3 d4 : List TermNode) (s0 s1 s2 s3 s4 : Sweep) (rest quiet k
     takes3 : term_word x d2 kept ≡ 1 → Tells d2 x off (is_unaligned S.program.narrow S.leaving)
     takes3 h = let k = not_raised h in tells_keep st12.grew x off (is_unaligned S.program.narrow S.leaving) wo.0 ((fits k.0).odd k.1)
 
-    takes4 : term_word x d3 aligned ≡ 1 → GoesHere d3 s3 big next jumped link x S
+    takes4 : term_word x d3 aligned ≡ 1 → GoesHere d3 s3 u.big next jumped link x S
     takes4 h =
         let k = not_raised (narrows3 x r h).0 in
-        goes_keep d0 d3 _ _ _ _ _ s0 s3 big next jumped link x S leave_steps3.grew leave_steps3.like names pc wj wl ((fits k.0).goes_on k.1)
+        goes_keep d0 d3 _ _ _ _ _ s0 s3 u.big next jumped link x S leave_steps3.grew leave_steps3.like names pc wj wl ((fits k.0).goes_on k.1)
 
     abbrev behind1 : List PointExit
-    behind1 = WritingKept ∷ Unaligned ∷ map edge_of edges
+    behind1 = WritingKept ∷ Unaligned ∷ map (edge_of u) edges
 
     abbrev behind2 : List PointExit
-    behind2 = Unaligned ∷ map edge_of edges
+    behind2 = Unaligned ∷ map (edge_of u) edges
 
     abbrev behind3 : List PointExit
-    behind3 = map edge_of edges
+    behind3 = map (edge_of u) edges
 
-    leave_tries : (from : ℕ) → AreLater from edges → S.program.ensures ≡ lines → (before after : Held) →
+    leave_tries : (from : ℕ) → AreLater from edges → IsLeftBy u S.program → (before after : Held) →
         IsPending d0 s0 from x rest before after (goes S (Raising ∷ behind1) before) →
         IsPending d4 s4 from x left before after (goes S [] before)
-    leave_tries from later ensures before after p0 =
-        let p1 = tries1 x r from (WalkFails (raised_event S.leaving)) (is_raised S.leaving) (λ h. (fits h).raised)
-        (λ b h. (raised_event S.leaving, refl)) before after
+    leave_tries from later leaves before after p0 =
+        let p1 = tries1 x r from (WalkFails JumpFails) (is_raised S.leaving) (λ h. (fits h).raised)
+        (λ b h. (JumpFails, refl)) before after
         (goes S (Raising ∷ behind1) before) (goes S behind1 before)
         (event_by (is_raised S.leaving) S.program S.entry S.next (raised_event S.leaving)
-        (first_aim S.program S.entry S.now S.writes_kept S.leaving behind1) before) p0 in
-        let p2 = tries2 x r from (WalkFails CodeWritten) S.writes_kept takes2
-        (λ b h. (CodeWritten, refl)) before after (goes S behind1 before) (goes S behind2 before)
-        (event_by S.writes_kept S.program S.entry S.next CodeWritten (first_aim S.program S.entry S.now S.writes_kept S.leaving behind2) before) p1 in
-        let p3 = tries3 x r from (WalkFails AlignFails) (is_unaligned S.program.narrow S.leaving) takes3
-        (λ b h. (AlignFails, refl)) before after (goes S behind2 before) (goes S behind3 before)
-        (event_by (is_unaligned S.program.narrow S.leaving) S.program S.entry S.next AlignFails (first_aim S.program S.entry S.now S.writes_kept S.leaving behind3) before) p2 in
-        tried.tries x r from later S ensures takes4 before after []
+        (first_aim S.program (deciding S) behind1) before) p0 in
+        let p2 = tries2 x r from (WalkFails JumpFails) (list_any (is_in S.program.kept) S.stored) takes2
+        (λ b h. (JumpFails, refl)) before after (goes S behind1 before) (goes S behind2 before)
+        (event_by (list_any (is_in S.program.kept) S.stored) S.program S.entry S.next (OfStep CodeWritten) (first_aim S.program
+        (deciding S) behind2) before) p1 in
+        let p3 = tries3 x r from (WalkFails JumpFails) (is_unaligned S.program.narrow S.leaving) takes3
+        (λ b h. (JumpFails, refl)) before after (goes S behind2 before) (goes S behind3 before)
+        (event_by (is_unaligned S.program.narrow S.leaving) S.program S.entry S.next (OfStep AlignFails) (first_aim S.program
+        (deciding S) behind3) before) p2 in
+        tried.tries x r from later S leaves takes4 before after []
         (subst (λ (xs : List PointExit). IsPending d3 s3 from x aligned before after (goes S xs before)) (sym (exits_end behind3)) p3)
 
-  pub leave_tried : IsLeaving d0 d4 s0 s4 rest left big lines raise write off next jumped link edges
+  pub leave_tried : IsLeaving u d0 d4 s0 s4 rest left raise write off next jumped link edges
   leave_tried = record {
     steps = (
-        let k = edges_steps d3 d4 s3 s4 next.names.now lines edges tried.edges in
-        let G = sum_by (λ (e : Edge). 35 + aim_gates next.names.now lines e.aim) edges in
-        let L = sum_by (λ (e : Edge). aim_loads lines e.aim) edges in
+        let k = edges_steps u d3 d4 s3 s4 next.names.now edges tried.edges in
+        let G = sum_by (λ (e : Edge). 35 + aim_gates u next.names.now e.aim) edges in
+        let L = sum_by (λ (e : Edge). aim_loads u e.aim) edges in
         let J = sum_by (λ (e : Edge). aim_joins e.aim) edges in
-        let N = sum_by (λ (e : Edge). 14 + aim_nodes next.names.now lines e.aim) edges in
+        let N = sum_by (λ (e : Edge). 14 + aim_nodes u next.names.now e.aim) edges in
         let t = steps_on d0 d3 d4 s0 s3 s4 (λ m. ⊥) (3 + 3 + 3) (0 + 0 + 0) (0 + 0 + 0) (0 + 0 + 0) (8 + 8 + 8) G L 0 J N leave_steps3 k in
         record {
           grew = grew_more d0 d4 _ _ _ _ _ (9 + G) L 0 J (24 + N) (omega arith) (omega arith) (omega arith) (omega arith) (omega arith) t.grew;
@@ -191,5 +197,5 @@ module _ (d0 d1 d2 d3 d4 : List TermNode) (s0 s1 s2 s3 s4 : Sweep) (rest quiet k
         }
         );
     bit = tried.bit;
-    tries = λ x r from later S ensures fits before after p. leave_tries x r S fits from later ensures before after p;
+    tries = λ x r from later S leaves fits before after p. leave_tries x r S fits from later leaves before after p;
   }

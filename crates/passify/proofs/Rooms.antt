@@ -1,14 +1,17 @@
 -- What all points may cost is what the price counts.
-use Rattle.std.proofs.Common.{◌≡◌, ℕ, ◌+◌, ◌*◌, ◌≤◌, List, [], ◌∷◌, length, sum_by, refl, ap, ◌∙◌, arith}
+use Rattle.std.proofs.Common.{◌≡◌, ℕ, ◌+◌, ◌-◌, ◌*◌, ◌≤◌, List, [], ◌∷◌, length, sum_by, refl, ap, ◌∙◌, arith}
 use Rattle.std.specs.List.{flat_map}
+use Rattle.std.proofs.lemmas.Nat.{mul-le}
 use Rattle.std.proofs.lemmas.List.Sums.{sum_by-cons, sum_by-append}
 use Rattle.bilv_spec.specs.Notes.{Expr}
 use Rattle.bilv_spec.specs.Points.{line_price, bytes_loaded}
 use Rattle.term_spec.specs.Terms.{TermNode, term_gates, term_loads, term_stores, term_joins}
-use Rattle.walk_spec.specs.Unrolled.{UnrolledPoint, UnrolledProgram, is_edge}
-use Rattle.walk_spec.specs.Prices.{lines_at, line_size, line_steps, action_size, variables_of, edges_of, stores_of, point_price, point_loads, point_bound}
+use Rattle.walk_spec.specs.Prices.{line_size, line_steps}
+use Rattle.frame_spec.specs.FrameWalk.{UnrolledPoint, UnrolledProgram}
+use Rattle.frame_laws.specs.FramePrices.{is_edge, lines_at, action_size, variables_of, edges_of, stores_of, point_price, point_loads, point_bound, root_bound, root_lines}
 use Rattle.term_dag.specs.Made.{Grew}
 use Rattle.passify.specs.Handled.{point_gates, point_loaded, point_joins, point_nodes}
+use Rattle.passify.specs.Planted.{LeaveRootRoom}
 use Rattle.passify.specs.Swept.{LeaveRoom}
 
 product_on : (a b k : ℕ) → (a + b) * k ≡ a * k + b * k
@@ -89,22 +92,23 @@ module _ (u : UnrolledProgram) where
     few = (let a = sum_by-cons (point_nodes u) q rest in omega (arith, r.few, a));
   }
 
-  -- nothing is yet
-  pub room_first : (new : List TermNode) (n : ℕ) → n ≤ 2 * variables_of u + 48 → Grew [] new 0 0 0 0 n → LeaveRoom u new u.points
-  room_first new n few g = record {
-    gates = omega (arith, g.gates);
-    loads = omega (arith, g.loads);
-    stores = omega (arith, g.stores);
-    joins = omega (arith, g.joins);
-    few = omega (arith, few, g.few);
-  }
+  -- nothing is yet, where all segments have begun
+  pub room_first : (new : List TermNode) → 1 ≤ length u.roots → LeaveRootRoom u new [] → LeaveRoom u new u.points
+  room_first new some r =
+      let m = mul-le (length u.roots - 1) 1 (length u.roots - 1) (variables_of u + 16) (omega arith) (omega arith) in record {
+        gates = (let a = r.gates in omega (arith, a));
+        loads = (let a = r.loads in omega (arith, a));
+        stores = (let a = r.stores in omega (arith, a));
+        joins = (let a = r.joins in omega (arith, a));
+        few = (let a = r.few in omega (arith, a, m, some));
+      }
 
   -- all is
   module _ (nodes : List TermNode) (r : LeaveRoom u nodes []) where
-    pub all_gates : term_gates nodes ≤ point_price u
+    pub all_gates : term_gates nodes ≤ point_price u + sum_by line_price (root_lines u)
     all_gates = let a = gates_sum u.points in omega (arith, r.gates, a)
 
-    pub all_loads : term_loads nodes ≤ point_loads u
+    pub all_loads : term_loads nodes ≤ point_loads u + sum_by bytes_loaded (root_lines u)
     all_loads = let a = loads_sum u.points in omega (arith, r.loads, a)
 
     pub all_stores : term_stores nodes ≤ stores_of u
@@ -113,5 +117,5 @@ module _ (u : UnrolledProgram) where
     pub all_joins : term_joins nodes ≤ edges_of u + 2 * stores_of u
     all_joins = let a = joins_sum u.points in omega (arith, r.joins, a)
 
-    pub all_few : length nodes ≤ point_bound u
+    pub all_few : length nodes ≤ point_bound u + root_bound u
     all_few = let a = nodes_sum u.points in omega (arith, r.few, a)

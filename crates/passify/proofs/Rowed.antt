@@ -14,14 +14,21 @@ use Rattle.bil_terms.specs.declared.left.Left.{Left}
 use Rattle.bil_terms.specs.Runs.{Jumps, IsStoredBy}
 use Rattle.bil_terms.specs.Left.{AreLeft, IsLeft}
 use Rattle.term_spec.specs.Terms.{TermReading, InRange, TermNode, ChoiceNode, HasWidth, term_word}
-use Rattle.walk_spec.specs.Unrolled.{UnrolledPoint, Raising, WritingKept, Unaligned, Executes, Carried, carried_of, state_at, carried_on, next_address, Leaving, GoesOn, leaving_by, left_by, stored_by, stored_at, goes_on, begins, is_raised, is_unaligned}
+use Rattle.walk_spec.specs.Unrolled.{carried_of, is_in, state_at}
+use Rattle.frame_spec.specs.Frames.{Content, content_at}
+use Rattle.frame_spec.specs.FrameWalk.{UnrolledPoint, Raising, WritingKept, Unaligned, Executes, Leaving, GoesOn, leaving_by, left_by, stored_by, goes_on, is_raised, is_unaligned, next_state}
+use Rattle.machine_spec.specs.Simulation.{position}
+use Rattle.machine_spec.specs.BilMeaning.{Stuck}
+use Rattle.std.specs.List.{list_any}
 use Rattle.walk_spec.specs.Sweep.{Held}
 use Rattle.term_spec.specs.Passive.{Denotes, Tells}
 use Rattle.term_dag.specs.Made.{Grew, InputsFrom}
 use Rattle.term_dag.proofs.Growth.{grew_on, inputs_on, inputs_more}
 use Rattle.question_form.specs.declared.unrolled.Edge.{Edge}
 use Rattle.question_form.specs.declared.unrolled.Unrolled.{Unrolled}
-use Rattle.question_form.specs.Views.{action_of, edge_of, row_exits, unrolled_of}
+use Rattle.question_form.specs.declared.unrolled.Deed.{Deed}
+use Rattle.question_form.specs.declared.unrolled.Deed.TheVariants.{Row}
+use Rattle.question_form.specs.FrameViews.{action_of, edge_of, list_of, row_exits, frame_unrolled_of}
 use Rattle.term_names.specs.declared.names.Names.{Names}
 use Rattle.term_names.specs.Views.{form_of, names_of}
 use Rattle.term_names.specs.Chosen.{at_entry}
@@ -29,12 +36,13 @@ use Rattle.note_terms.specs.declared.Now.{Now}
 use Rattle.note_terms.specs.Lines.{IsStateOf}
 use Rattle.passify.specs.declared.sweep.Sweep.{Sweep}
 use Rattle.passify.specs.Bits.{Makes}
+use Rattle.passify.specs.Plain.{carried}
 use Rattle.passify.specs.Sweeps.{AreWell, Steps}
 use Rattle.passify.specs.Exits.{IsPending}
 use Rattle.passify.specs.Situations.{Situation, goes}
 use Rattle.passify.specs.Edges.{AreLater, GoesHere, aim_gates, aim_loads, aim_joins, aim_nodes}
 use Rattle.passify.specs.Handled.{TellsKept}
-use Rattle.passify.specs.Rows.{IsLeaving, IsRowTried, LeavesHere, own_code, own_edges, placed, situation_at}
+use Rattle.passify.specs.Rows.{IsLeaving, IsRowTried, LeavesHere, own_code, own_edges, own_point, framed, situation_at}
 use Rattle.passify.proofs.Kept.{tells_keep, word_keeps, denotes_keep, truth}
 use Rattle.passify.proofs.Counted.{ArePaid}
 use Rattle.passify.proofs.Quit.{pending_keep}
@@ -46,11 +54,11 @@ no_true e = cc
 record GoneAs (nodes : List TermNode) (x : TermReading) (l : Left) (behind : ℕ) (L : Leaving) : Type 0 where
   by_jump : Bool
   goes_to : ℕ
-  carried : Carried
-  is : L ≡ GoesOn by_jump goes_to carried
+  content : Content
+  is : L ≡ GoesOn by_jump goes_to content
   tells : Tells nodes x l.jumped.0 by_jump
   address : goes_to ≡ (if by_jump then term_word x nodes l.target.0 else behind)
-  denotes : Denotes (form_of l.names) nodes x (names_of l.names) carried
+  denotes : Denotes (form_of l.names) nodes x (names_of l.names) (carried content)
 
 -- terms are how a point is left
 record LeftAs (nodes : List TermNode) (x : TermReading) (l : Left) (behind : ℕ) (L : Leaving) : Type 0 where
@@ -58,26 +66,24 @@ record LeftAs (nodes : List TermNode) (x : TermReading) (l : Left) (behind : ℕ
   gone : is_raised L ≡ false → GoneAs nodes x l behind L
 
 module _ (nodes : List TermNode) (x : TermReading) (l : Left) (q : UnrolledPoint) where
-  left_on : (j : Option ℕ) (c : Carried) → term_word x nodes l.raised.0 ≡ 0 → Jumps nodes x l.jumped.0 l.target.0 j →
-      Denotes (form_of l.names) nodes x (names_of l.names) c →
+  left_on : (j : Option ℕ) (c : Content) → term_word x nodes l.raised.0 ≡ 0 → Jumps nodes x l.jumped.0 l.target.0 j →
+      Denotes (form_of l.names) nodes x (names_of l.names) (carried c) →
       LeftAs nodes x l (add 32 q.point.at q.length) (goes_on q j c)
   left_on None c r h d = record {
     raises = r;
     gone = λ e. record {
       by_jump = false;
       goes_to = add 32 q.point.at q.length;
-      carried = c;
+      content = c;
       is = refl;
       tells = h;
       address = refl;
-      denotes
-          = d;
+      denotes = d;
     };
   }
   left_on (Some a) c r h d = record {
     raises = r;
-    gone = λ e. record
-        { by_jump = true; goes_to = a; carried = c; is = refl; tells = h.0; address = sym h.1; denotes = d };
+    gone = λ e. record { by_jump = true; goes_to = a; content = c; is = refl; tells = h.0; address = sym h.1; denotes = d };
   }
 
   left_as : (e : Ending) → AreLeft nodes x l e → LeftAs nodes x l (add 32 q.point.at q.length) (leaving_by q e)
@@ -88,13 +94,14 @@ module _ (nodes : List TermNode) (x : TermReading) (l : Left) (q : UnrolledPoint
 
 module _ (u : Unrolled) (place : ℕ) (n : Names) (a b c d e f : List TermNode) (s z : Sweep) (rest last : ℕ) (list : Vec Stmt) (l : Left) (wrote odd : ℕ)
     (next : Now) (to link : ℕ)
-    (w : AreWell a s) (wr : HasWidth a 1 rest) (code : (own_code u place).list ≡ Some list) (later : AreLater (suc place) (own_edges u place))
+    (w : AreWell a s) (wr : HasWidth a 1 rest) (row : (own_point u place).deed ≡ Row) (code : (own_code u place).list ≡ Some list) (later : AreLater
+    (suc place) (own_edges u place))
     (m1 : IsLeft a b place n (statements list.items) l)
-    (m2 : TellsKept b c l.stored.items (unrolled_of u).kept wrote)
+    (m2 : TellsKept b c l.stored.items (frame_unrolled_of u).kept wrote)
     (m3 : Makes c d 32 3 32 to (λ x. (j : Bool) → Tells c x l.jumped.0 j →
     term_word x d to ≡ (if j then term_word x c l.target.0 else add 32 (own_code u place).at (own_code u place).length)))
     (m4 : Makes d e 2 5 1 odd (λ x. Tells e x odd (not (is_place u.narrow (term_word x d to)))))
-    (v : IsLeaving e f s z rest last u.big (unrolled_of u).ensures l.raised.0 wrote odd next l.jumped.0 link (own_edges u place)) (names : next.names.now
+    (v : IsLeaving u e f s z rest last l.raised.0 wrote odd next l.jumped.0 link (own_edges u place)) (names : next.names.now
     ≡ l.names)
     (pc_is : next.pc.0 ≡ to)
     (link_is : (x : TermReading) → InRange x → term_word x e link ≡ x.regs 0 u.link) where
@@ -104,7 +111,7 @@ module _ (u : Unrolled) (place : ℕ) (n : Names) (a b c d e f : List TermNode) 
 
   -- how many stores there are with each run of kept bytes
   abbrev tests : ℕ
-  tests = length l.stored.items * length (unrolled_of u).kept
+  tests = length l.stored.items * length (frame_unrolled_of u).kept
 
   g12 : Grew a c (list_weight code_list + 98 * tests) (byte_loads code_list + 0) (byte_stores code_list + 0) (2 * byte_stores code_list + 0)
       (4 * list_size code_list + 8 + (1 + 10 * tests))
@@ -127,40 +134,42 @@ module _ (u : Unrolled) (place : ℕ) (n : Names) (a b c d e f : List TermNode) 
       (0 + 0) (3 + 5) g12 g34
 
   module _ (x : TermReading) (r : InRange x) (entry : State) (en : entry
-      ≡ state_at (at_entry x) s.at) (t : Carried) (den : Denotes (form_of n) a x (names_of n) t) where
+      ≡ state_at (at_entry x) s.at) (given t : Content) (den : Denotes (form_of n) a x (names_of n) (carried t)) where
     abbrev S : Situation
-    S = situation_at (unrolled_of u) (placed u place) entry (x.choice place) t
+    S = situation_at (frame_unrolled_of u) (framed u place) entry (x.choice place) given t
 
     abbrev ending : Ending
-    ending = execute (statements list.items) (x.choice place) (begins (placed u place) t)
+    ending = execute (statements list.items) (x.choice place) (position (λ y k. Stuck) 0 None (content_at t (own_code u place).at))
 
-    does : (placed u place).does ≡ Executes (statements list.items)
-    does = ap action_of code
+    does : (framed u place).does ≡ Executes (statements list.items)
+    does = ap (λ (d : Deed). action_of d (own_code u place).list) row ∙ ap list_of code
 
-    leaves : S.leaving ≡ leaving_by (placed u place) ending
-    leaves = ap (left_by (placed u place) (x.choice place) t) does
+    leaves : S.leaving ≡ leaving_by (framed u place) ending
+    leaves = ap (left_by (frame_unrolled_of u) (framed u place) (x.choice place) given t) does
 
     left : LeftAs b x l (add 32 (own_code u place).at (own_code u place).length) S.leaving
     left = subst (λ (z : Leaving). LeftAs b x l (add 32 (own_code u place).at (own_code u place).length) z) (sym leaves)
-        (left_as b x l (placed u place) ending (m1.leaves x r t den (own_code u place).at))
+        (left_as b x l (framed u place) ending (m1.leaves x r (carried t) den (own_code u place).at))
 
-    stores_are : (y : ℕ) → Contains (stored_at (placed u place) (x.choice place) t) y ↔ IsStoredBy b x l.stored.items y
+    stores_are : (y : ℕ) → Contains S.stored y ↔ IsStoredBy b x l.stored.items y
     stores_are y =
-        subst (λ (z : List ℕ). Contains z y ↔ IsStoredBy b x l.stored.items y) (sym (ap (stored_by (placed u place) (x.choice place) t) does))
-        (m1.stored_bytes x r t den (own_code u place).at y)
+        subst (λ (z : List ℕ). Contains z y ↔ IsStoredBy b x l.stored.items y) (sym (ap (stored_by (frame_unrolled_of u) (framed u place)
+        (x.choice place) t) does))
+        (m1.stored_bytes x r (carried t) den (own_code u place).at y)
 
     address : (g : GoneAs b x l (add 32 (own_code u place).at (own_code u place).length) S.leaving) → term_word x d to ≡ g.goes_to
     address g =
         m3.holds x r g.by_jump (tells_keep m2.grew x l.jumped.0 g.by_jump m1.jumped.0 g.tells)
-        ∙ ap (λ (z : ℕ). if g.by_jump then z else add 32 (own_code u place).at (own_code u place).length) (word_keeps m2.grew x l.target.0 m1.target.0) ∙ sym g.address
+        ∙ ap (λ (z : ℕ). if g.by_jump then z else add 32 (own_code u place).at (own_code u place).length)
+        (word_keeps m2.grew x l.target.0 m1.target.0) ∙ sym g.address
 
     here : (g : GoneAs b x l (add 32 (own_code u place).at (own_code u place).length) S.leaving) → GoesHere e s u.big next l.jumped.0 link x S
     here g =
-        let is_next : S.next ≡ state_at g.carried g.goes_to = ap (λ (z : Leaving). state_at (carried_on z t) (next_address z)) g.is in
+        let is_next : S.next ≡ content_at g.content g.goes_to = ap (λ (z : Leaving). next_state z t) g.is in
         record {
           jumps = g.by_jump;
           to = g.goes_to;
-          carried = g.carried;
+          carried = g.content;
           leaving = g.is;
           next_state = is_next;
           tells = tells_keep g234 x l.jumped.0 g.by_jump m1.jumped.0 g.tells;
@@ -169,8 +178,8 @@ module _ (u : Unrolled) (place : ℕ) (n : Names) (a b c d e f : List TermNode) 
             endian = refl;
             entry = en;
             is = subst (λ (z : State). IsStateOf e x next (carried_of z) z.pc) (sym is_next) (record {
-              carried = subst (λ (m : Names). Denotes (form_of m) e x (names_of m) g.carried) (sym names)
-                  (denotes_keep g234 x l.names g.carried m1.names g.denotes);
+              carried = subst (λ (m : Names). Denotes (form_of m) e x (names_of m) (carried g.content)) (sym names)
+                  (denotes_keep g234 x l.names (carried g.content) m1.names g.denotes);
               pc = ap (λ (i : ℕ). term_word x e i) pc_is ∙ word_keeps m4.grew x to m3.width.0 ∙ address g;
             });
           };
@@ -179,73 +188,75 @@ module _ (u : Unrolled) (place : ℕ) (n : Names) (a b c d e f : List TermNode) 
     row_fits : LeavesHere e s u.big l.raised.0 wrote odd next l.jumped.0 link x S
     row_fits = record {
       raised = tells_keep g234 x l.raised.0 (is_raised S.leaving) m1.raised.0 left.raises;
-      wrote = tells_keep g34 x wrote S.writes_kept m2.width.0 (m2.tells x r (stored_at (placed u place) (x.choice place) t) stores_are);
+      wrote = tells_keep g34 x wrote (list_any (is_in (frame_unrolled_of u).kept) S.stored) m2.width.0 (m2.tells x r S.stored stores_are);
       odd = λ h. (let g = left.gone h in
           m4.holds x r ∙ ap (λ (z : ℕ). bit (not (is_place u.narrow z))) (address g) ∙ sym (ap (λ (z : Leaving). bit (is_unaligned u.narrow z)) g.is));
       goes_on = λ h. here (left.gone h);
     }
 
   pub row_tries : (x : TermReading) → InRange x → (entry : State) →
-      entry ≡ state_at (at_entry x) s.at → (t : Carried) → (term_word x a rest ≡ 1 → Denotes (form_of n) a x (names_of n) t) → (before after : Held) →
+      entry ≡ state_at (at_entry x) s.at → (given t : Content) → (term_word x a rest ≡ 1 → Denotes (form_of n) a x (names_of n) (carried t)) →
+      (before after : Held) →
       IsPending a s (suc place) x
       rest before after
-      (goes (situation_at (unrolled_of u) (placed u place) entry (x.choice place) t)
-      (row_exits (own_code u place).fetchable (own_code u place).list (own_edges u place)) before) →
-      IsPending f z (suc place) x last before after (goes (situation_at (unrolled_of u) (placed u place) entry (x.choice place) t) [] before)
-  row_tries x r entry en t den before after p =
-      let S = situation_at (unrolled_of u) (placed u place) entry (x.choice place) t in
+      (goes (situation_at (frame_unrolled_of u) (framed u place) entry (x.choice place) given t)
+      (row_exits u (own_code u place).fetchable (own_code u place).list (own_edges u place)) before) →
+      IsPending f z (suc place) x last before after (goes (situation_at (frame_unrolled_of u) (framed u place) entry (x.choice place) given t) [] before)
+  row_tries x r entry en given t den before after p =
+      let S = situation_at (frame_unrolled_of u) (framed u place) entry (x.choice place) given t in
       let p' = pending_keep a e _ _ _ _ _ s (suc place) x rest before after (goes S (Raising ∷ WritingKept ∷ Unaligned
-      ∷ map edge_of (own_edges u place)) before) row_grew w wr
+      ∷ map (edge_of u) (own_edges u place)) before) row_grew w wr
       (subst (λ (o : Option (Vec Stmt)). IsPending a s (suc place) x rest before after
-      (goes S (row_exits (own_code u place).fetchable o (own_edges u place)) before)) code p) in
-      v.tries x r (suc place) later S refl (λ h. row_fits x r entry en t (den (sym (word_keeps row_grew x rest wr.0) ∙ h))) before after p'
+      (goes S (row_exits u (own_code u place).fetchable o (own_edges u place)) before)) code p) in
+      v.tries x r (suc place) later S (record { own = refl; ensures = refl }) (λ h. row_fits x r entry en given t (den (sym
+      (word_keeps row_grew x rest wr.0) ∙ h))) before after p'
 
   -- the choice is read where the row draws
-  inputs_by : ((placed u place).draws ≡ false → unknowns code_list ≡ 0) → InputsFrom a e (λ m. (m ≡ ChoiceNode place) × ((placed u place).draws ≡ true))
+  inputs_by : ((framed u place).draws ≡ false → unknowns code_list ≡ 0) → InputsFrom a e (λ m. (m ≡ ChoiceNode place) × ((framed u place).draws ≡ true))
   inputs_by dr =
-      inputs_on a b e (λ m. (m ≡ ChoiceNode place) × ((placed u place).draws ≡ true))
-      (inputs_more a b (λ m. (m ≡ ChoiceNode place) × (1 ≤ unknowns code_list)) (λ m. (m ≡ ChoiceNode place) × ((placed u place).draws ≡ true))
-      (λ m i k. (k.0, drawn (truth (placed u place).draws) k.1)) m1.inputs)
-      (inputs_more b e (λ m. ⊥) (λ m. (m ≡ ChoiceNode place) × ((placed u place).draws ≡ true)) (λ m i k. absurd k)
+      inputs_on a b e (λ m. (m ≡ ChoiceNode place) × ((framed u place).draws ≡ true))
+      (inputs_more a b (λ m. (m ≡ ChoiceNode place) × (1 ≤ unknowns code_list)) (λ m. (m ≡ ChoiceNode place) × ((framed u place).draws ≡ true))
+      (λ m i k. (k.0, drawn (truth (framed u place).draws) k.1)) m1.inputs)
+      (inputs_more b e (λ m. ⊥) (λ m. (m ≡ ChoiceNode place) × ((framed u place).draws ≡ true)) (λ m i k. absurd k)
       (inputs_on b c e (λ m. ⊥) m2.inputs (inputs_on c d e (λ m. ⊥) m3.inputs m4.inputs)))
     where
-      drawn : ((placed u place).draws ≡ true) ⊎ ((placed u place).draws ≡ false) → 1 ≤ unknowns code_list → (placed u place).draws ≡ true
+      drawn : ((framed u place).draws ≡ true) ⊎ ((framed u place).draws ≡ false) → 1 ≤ unknowns code_list → (framed u place).draws ≡ true
       drawn (inl t) k = t
       drawn (inr t) k = absurd (let z = dr t in omega (arith, z, k))
 
-  pub row_steps : ((placed u place).draws ≡ false → unknowns code_list ≡ 0) →
+  pub row_steps : ((framed u place).draws ≡ false → unknowns code_list ≡ 0) →
       Steps a f s z (list_weight code_list + 98 * tests + (32 + 2) + (9 + sum_by
-      (λ e. 35 + aim_gates next.names.now (unrolled_of u).ensures e.aim) (own_edges u place)))
-      (byte_loads code_list + 0 + (0 + 0) + sum_by (λ e. aim_loads (unrolled_of u).ensures e.aim) (own_edges u place)) (byte_stores code_list + 0 + (0 + 0) + 0)
+      (λ e. 35 + aim_gates u next.names.now e.aim) (own_edges u place)))
+      (byte_loads code_list + 0 + (0 + 0) + sum_by (λ e. aim_loads u e.aim) (own_edges u place)) (byte_stores code_list + 0 + (0 + 0) + 0)
       (2 * byte_stores code_list + 0 + (0 + 0) + sum_by (λ e. aim_joins e.aim) (own_edges u place))
       (4 * list_size code_list + 8 + (1 + 10 * tests) + (3 + 5) + (24 + sum_by
-      (λ e. 14 + aim_nodes next.names.now (unrolled_of u).ensures e.aim) (own_edges u place)))
-      (λ m. (m ≡ ChoiceNode place) × ((placed u place).draws ≡ true))
+      (λ e. 14 + aim_nodes u next.names.now e.aim) (own_edges u place)))
+      (λ m. (m ≡ ChoiceNode place) × ((framed u place).draws ≡ true))
   row_steps dr = record {
     grew = grew_on a e f _ _ _ _ _ _ _ _ _ _ row_grew v.steps.grew;
-    inputs = inputs_on a e f (λ m. (m ≡ ChoiceNode place) × ((placed u place).draws ≡ true)) (inputs_by dr) (inputs_more e f (λ m. ⊥)
-        (λ m. (m ≡ ChoiceNode place) × ((placed u place).draws ≡ true)) (λ m i k. absurd k) v.steps.inputs);
+    inputs = inputs_on a e f (λ m. (m ≡ ChoiceNode place) × ((framed u place).draws ≡ true)) (inputs_by dr) (inputs_more e f (λ m. ⊥)
+        (λ m. (m ≡ ChoiceNode place) × ((framed u place).draws ≡ true)) (λ m i k. absurd k) v.steps.inputs);
     well = v.steps.well;
     like = v.steps.like;
   }
 
   -- the row, within what is paid
-  pub row_led : ((placed u place).draws ≡ false → unknowns code_list ≡ 0) →
+  pub row_led : ((framed u place).draws ≡ false → unknowns code_list ≡ 0) →
       ArePaid u place (list_weight code_list + 98 * tests + (32 + 2) + (9 + sum_by
-      (λ e. 35 + aim_gates next.names.now (unrolled_of u).ensures e.aim) (own_edges u place)))
-      (byte_loads code_list + 0 + (0 + 0) + sum_by (λ e. aim_loads (unrolled_of u).ensures e.aim) (own_edges u place)) (byte_stores code_list + 0 + (0 + 0) + 0)
+      (λ e. 35 + aim_gates u next.names.now e.aim) (own_edges u place)))
+      (byte_loads code_list + 0 + (0 + 0) + sum_by (λ e. aim_loads u e.aim) (own_edges u place)) (byte_stores code_list + 0 + (0 + 0) + 0)
       (2 * byte_stores code_list + 0 + (0 + 0) + sum_by (λ e. aim_joins e.aim) (own_edges u place))
       (4 * list_size code_list + 8 + (1 + 10 * tests) + (3 + 5) + (24 + sum_by
-      (λ e. 14 + aim_nodes next.names.now (unrolled_of u).ensures e.aim) (own_edges u place))) →
+      (λ e. 14 + aim_nodes u next.names.now e.aim) (own_edges u place))) →
       IsRowTried u place n a f s z rest last
   row_led dr paid = record {
     gates = list_weight code_list + 98 * tests + (32 + 2) + (9 + sum_by
-        (λ (e : Edge). 35 + aim_gates next.names.now (unrolled_of u).ensures e.aim) (own_edges u place));
-    loads = byte_loads code_list + 0 + (0 + 0) + sum_by (λ (e : Edge). aim_loads (unrolled_of u).ensures e.aim) (own_edges u place);
+        (λ (e : Edge). 35 + aim_gates u next.names.now e.aim) (own_edges u place));
+    loads = byte_loads code_list + 0 + (0 + 0) + sum_by (λ (e : Edge). aim_loads u e.aim) (own_edges u place);
     stores = byte_stores code_list + 0 + (0 + 0) + 0;
     joins = 2 * byte_stores code_list + 0 + (0 + 0) + sum_by (λ (e : Edge). aim_joins e.aim) (own_edges u place);
     nodes = 4 * list_size code_list + 8 + (1 + 10 * tests) + (3 + 5) + (24 + sum_by
-        (λ (e : Edge). 14 + aim_nodes next.names.now (unrolled_of u).ensures e.aim) (own_edges u place));
+        (λ (e : Edge). 14 + aim_nodes u next.names.now e.aim) (own_edges u place));
     steps = row_steps dr;
     few_gates = paid.few_gates;
     few_loads = paid.few_loads;

@@ -1,5 +1,5 @@
 -- What stands at a place.
-use Rattle.std.proofs.Common.{◌≡◌, ℕ, zero, suc, ◌+◌, ◌-◌, ◌<◌, ◌≤◌, Bool, true, List, [], ◌∷◌, Option, Some, length, map, drop, get_or, refl, ap, sym, ◌∙◌, subst, arith, nat_eq, nat_lt, Contains}
+use Rattle.std.proofs.Common.{◌≡◌, ℕ, zero, suc, ◌+◌, ◌-◌, ◌<◌, ◌≤◌, Bool, true, false, List, [], ◌∷◌, Option, Some, length, map, drop, take, get_or, refl, ap, sym, ◌∙◌, subst, arith, nat_eq, nat_lt, Contains}
 use Rattle.std.proofs.Math.Path.{fun_ext}
 use Rattle.std.specs.Prelude.{slice_index, slice_index_or, slice_range, sum_by}
 use Rattle.std.specs.List.{list_any}
@@ -8,7 +8,7 @@ use Rattle.std.proofs.lemmas.List.{get_or-map, get_or-take, get_or-drop, length-
 use Rattle.std.proofs.lemmas.List.Elements.{Contains-get_or, Contains-append_left, Contains-append_right}
 use Rattle.word_spec.specs.Words.{bit}
 use Rattle.bilv_spec.specs.Notes as notes
-use Rattle.bilv_spec.specs.Notes.{Expr}
+use Rattle.bilv_spec.specs.Notes.{Expr, NoteLine, Number}
 use Rattle.machine_spec.specs.Bil as bil
 use Rattle.machine_spec.specs.Bil.{BilVariable, Statements}
 use Rattle.machine_spec.specs.BilCounts.{list_names_only}
@@ -16,18 +16,26 @@ use Rattle.word_spec.specs.RowFiles.{from_to}
 use Rattle.bil_ast.specs.declared.statements.Stmt.{Stmt}
 use Rattle.bil_terms.specs.Left.{CanBeLed}
 use Rattle.term_spec.specs.Terms.{TermReading, InRange, TermNode, HasWidth, term_word}
-use Rattle.walk_spec.specs.Unrolled.{UnrolledProgram, UnrolledPoint, PointExit, Along, FalseAssert, Raising, WritingKept, Unaligned, Executes, LeadsLater, goes_out, point_at, is_register_of}
+use Rattle.walk_spec.specs.Unrolled.{UnrolledProgram, point_at, is_register_of}
 use Rattle.walk_spec.specs.Unrolled as walk
-use Rattle.walk_spec.specs.Unrolling.{IsReadable, IsWalkable, IsRunnable, CanBeTerms, is_variable_of}
-use Rattle.notes_value.specs.NoteViews.{notes_of, note_line_of}
+use Rattle.walk_spec.specs.Unrolling.{IsReadable, is_variable_of}
+use Rattle.frame_spec.specs.FrameWalk as frames
+use Rattle.frame_spec.specs.FrameWalk.{Check, UnrolledProgram as FrameProgram, UnrolledPoint, PointExit, FalseCheck, Raising, WritingKept, Unaligned, Executes, LeadsLater}
+use Rattle.frame_spec.specs.FrameUnrolling.{IsRunnable, CanBeTerms, is_variable_of as frame_is_variable}
+use Rattle.frame_laws.specs.FramePrices.{goes_out, line_of}
+use Rattle.frame_terms.specs.PassiveFrames.{CanRead, CanReadLines, IsWalkable, inputs_of}
+use Rattle.notes_value.specs.NoteViews.{notes_of}
 use Rattle.question_form.specs.declared.unrolled.Aim.{Aim}
 use Rattle.question_form.specs.declared.unrolled.Aim.TheVariants.{OnTo, IntoHead, Outward, OverLast}
 use Rattle.question_form.specs.declared.unrolled.Code.{Code}
+use Rattle.question_form.specs.declared.unrolled.Deed.{Deed}
+use Rattle.question_form.specs.declared.unrolled.Deed.TheVariants.{Row}
 use Rattle.question_form.specs.declared.unrolled.Edge.{Edge}
 use Rattle.question_form.specs.declared.unrolled.Point.{Point}
 use Rattle.question_form.specs.declared.unrolled.Unrolled.{Unrolled}
-use Rattle.question_form.specs.Views.{aim_of, edge_of, assert_exit, no_assert, no_code, point_of, points_of, row_exits, unrolled_of}
-use Rattle.question_form.specs.Forms.{IsFormed}
+use Rattle.question_form.specs.Views.{edges_from, no_code, point_of, points_of, unrolled_of}
+use Rattle.question_form.specs.FrameViews.{exits_of, edge_of as frame_edge_of, point_of as frame_point_of, points_of as frame_points_of, row_exits as frame_row_exits, frame_unrolled_of}
+use Rattle.question_form.specs.Forms.{AreBounds, AreRootsFormed, IsFormed}
 use Rattle.term_names.specs.declared.names.Names.{Names}
 use Rattle.term_names.specs.Views.{AreFor, form_of, names_of}
 use Rattle.term_names.specs.Chosen.{HaveSameForm}
@@ -35,10 +43,13 @@ use Rattle.note_terms.proofs.Valued.{form_same, in_range, range_at, range_length
 use Rattle.passify.specs.declared.sweep.Sweep.{Sweep}
 use Rattle.passify.specs.Sweeps.{AreWell}
 use Rattle.passify.specs.Situations.{no_line}
-use Rattle.passify.specs.Edges.{AreLater, IsLater, IsPlaceOf}
+use Rattle.passify.specs.Edges.{AreLater, AreRead, CanGo, IsLater, IsPlaceOf, lines_to}
 use Rattle.passify.specs.Handled.{IsSweepOf}
-use Rattle.passify.specs.Rows.{no_point, own_point, own_code, own_edges, own_index, placed}
+use Rattle.passify.specs.Rows.{no_point, own_point, own_code, own_checks, own_edges, own_index, own_lines, framed, placed}
 use Rattle.passify.proofs.Pushed.{other_default}
+
+abbrev no_check : Check
+no_check = record { line = 0; invariant = false; says = Number 0 }
 
 pub points_length : (u : Unrolled) (ps : List Point) → length (points_of u ps) ≡ length ps
 points_length u [] = refl
@@ -84,48 +95,51 @@ module _ (u : UnrolledProgram) (a b : Names) (f : AreFor u a) (h : HaveSameForm 
   pub reads_for : (e : Expr) → IsReadable u e → IsReadable (form_of b) e
   reads_for e r = reads_by u (form_of b) e registers_for flags_for r
 
-  -- a list of a point can be made terms of
-  pub led_for : (p : UnrolledPoint) (list : Statements) → p.does ≡ Executes list → CanBeTerms u p p.does → CanBeLed (form_of b) list
-  led_for p list e t =
-      let r : IsRunnable u p list = subst (λ (x : walk.Action). CanBeTerms u p x) e t in
-      record {
-        typed = r.typed;
-        no_loop = r.no_loop;
-        no_special = r.no_special;
-        nests = r.nests;
-        picks = r.picks;
-        steady = r.steady;
-        names = subst (λ (g : BilVariable → Bool). list_names_only list g ≡ true) (fun_ext (λ x. variable_by u (form_of b) registers_for flags_for x)) r.names;
-      }
+-- so is a variable of a list
+frame_variable : (u : FrameProgram) (x : BilVariable) → frame_is_variable u x ≡ is_variable_of (inputs_of u) x
+frame_variable u (bil.Register b r) = refl
+frame_variable u (bil.Flag f) = refl
+frame_variable u bil.Mem = refl
+frame_variable u (bil.Local x n) = refl
 
-leads_place : (u : UnrolledProgram) (i n : ℕ) (f j : Bool) (t : Option ℕ) (a : Aim) → length u.points ≡ n → LeadsLater u i (Along f j t (aim_of a)) →
-    IsPlaceOf n a
-leads_place u i n f j t (OnTo k) e h = subst (λ (m : ℕ). k < m) e h.1
-leads_place u i n f j t Outward e h = tt
-leads_place u i n f j t (IntoHead at asserts) e h = tt
-leads_place u i n f j t OverLast e h = tt
+-- a list of a point can be made terms of
+pub led_for : (u : FrameProgram) (a b : Names) → AreFor (inputs_of u) a → HaveSameForm a b → (p : UnrolledPoint) (list : Statements) → p.does ≡ Executes list →
+    CanBeTerms u p p.does → CanBeLed (form_of b) list
+led_for u a b f h p list e t =
+    let r : IsRunnable u p list = subst (λ (x : frames.Action). CanBeTerms u p x) e t in
+    record {
+      typed = r.typed;
+      no_loop = r.no_loop;
+      no_special = r.no_special;
+      nests = r.nests;
+      picks = r.picks;
+      steady = r.steady;
+      names = subst (λ (g : BilVariable → Bool). list_names_only list g ≡ true)
+          (fun_ext (λ x. frame_variable u x ∙ variable_by (inputs_of u) (form_of b) (registers_for (inputs_of u) a b f h) (flags_for (inputs_of u) a b f h) x))
+          r.names;
+    }
 
-leads_later : (u : UnrolledProgram) (i : ℕ) (f j : Bool) (t : Option ℕ) (a : Aim) → LeadsLater u i (Along f j t (aim_of a)) → IsLater (suc i) a
-leads_later u i f j t (OnTo k) h = let l : i < k = h.0 in omega (arith, l)
-leads_later u i f j t Outward h = tt
-leads_later u i f j t (IntoHead at asserts) h = tt
-leads_later u i f j t OverLast h = tt
+leads_place : (f : FrameProgram) (u : Unrolled) (i n : ℕ) (falls jumps : Bool) (t : Option ℕ) (a : Aim) → length f.points ≡ n →
+    LeadsLater f i (frame_edge_of u (record { falls = falls; jumps = jumps; to = t; aim = a })) → IsPlaceOf n a
+leads_place f u i n falls jumps t (OnTo k) e h = subst (λ (m : ℕ). k < m) e h.1
+leads_place f u i n falls jumps t Outward e h = tt
+leads_place f u i n falls jumps t (IntoHead at asserts) e h = tt
+leads_place f u i n falls jumps t OverLast e h = tt
 
-later_by : (u : UnrolledProgram) (i : ℕ) (es : List Edge) → ((x : PointExit) → Contains (map edge_of es) x → LeadsLater u i x) → AreLater (suc i) es
-later_by u i [] h = tt
-later_by u i (e ∷ es) h = (
-  leads_later u i e.falls e.jumps e.to e.aim (h (edge_of e) (0, omega arith, refl)),
-  later_by u i es
-      (λ x c. h x (suc c.0, (let l = c.1 in omega (arith, l)), c.2)),
+leads_later : (f : FrameProgram) (u : Unrolled) (i : ℕ) (falls jumps : Bool) (t : Option ℕ) (a : Aim) →
+    LeadsLater f i (frame_edge_of u (record { falls = falls; jumps = jumps; to = t; aim = a })) → IsLater (suc i) a
+leads_later f u i falls jumps t (OnTo k) h = let l : i < k = h.0 in omega (arith, l)
+leads_later f u i falls jumps t Outward h = tt
+leads_later f u i falls jumps t (IntoHead at asserts) h = tt
+leads_later f u i falls jumps t OverLast h = tt
+
+later_by : (f : FrameProgram) (u : Unrolled) (i : ℕ) (es : List Edge) → ((x : PointExit) → Contains (map (frame_edge_of u) es) x → LeadsLater f i x) →
+    AreLater (suc i) es
+later_by f u i [] h = tt
+later_by f u i (e ∷ es) h = (
+  leads_later f u i e.falls e.jumps e.to e.aim (h (frame_edge_of u e) (0, omega arith, refl)),
+  later_by f u i es (λ x c. h x (suc c.0, (let l = c.1 in omega (arith, l)), c.2)),
 )
-
-places_by : (u : UnrolledProgram) (i n : ℕ) (es : List Edge) → length u.points ≡ n → ((x : PointExit) → Contains (map edge_of es) x → LeadsLater u i x) →
-    (j : ℕ) (d : Edge) → j <
-    length es → IsPlaceOf n (get_or es j d).aim
-places_by u i n es e h j d l =
-    let a = get_or es j d in
-    leads_place u i n a.falls a.jumps a.to a.aim e
-    (h (edge_of a) (j, (let m = length-map es edge_of in omega (arith, m, l)), get_or-map edge_of es j d (edge_of a) l))
 
 range_within : {X : Type 0} → (xs : List X) (a b i : ℕ) → b ≤ length xs → i < length (slice_range xs a b) → a + i < b
 range_within xs a b i l h = let t = length-take (b - a) (drop a xs) in let d = length-drop a xs in omega (arith, t, d, h)
@@ -133,77 +147,147 @@ range_within xs a b i l h = let t = length-take (b - a) (drop a xs) in let d = l
 range_element : {X : Type 0} → (xs : List X) (a b i : ℕ) (d : X) → a + i < b → get_or (slice_range xs a b) i d ≡ get_or xs (a + i) d
 range_element xs a b i d h = get_or-take (b - a) (drop a xs) i d (omega arith) ∙ get_or-drop a xs i d
 
-module _ (u : Unrolled) (i : ℕ) (walkable : IsWalkable (unrolled_of u)) (formed : IsFormed u) (within : i < length u.points.items) where
-  there : i < length (unrolled_of u).points
-  there = let e = points_length u u.points.items in omega (arith, e, within)
+-- the assert lines of some entries of the lines by address
+pub places_in : (u : Unrolled) → IsFormed u → (bounds : ℕ × ℕ) → AreBounds u bounds → (j : ℕ) → j < length (slice_range u.asserts.items bounds.0 bounds.1) →
+    (slice_index_or (slice_range u.asserts.items bounds.0 bounds.1) j (0, 0)).1 < length u.notes.now.asserts.items
+places_in u formed (a, b) h j l =
+    let up = range_within u.asserts.items a b j h.1 l in
+    subst (λ (x : ℕ × ℕ). x.1 < length u.notes.now.asserts.items) (sym (range_element u.asserts.items a b j (0, 0) up))
+    (formed.lines (a + j) (0, 0) (let e = h.1 in omega (arith, up, e)))
+
+pub framed_length : (u : Unrolled) (ps : List Point) → length (frame_points_of u ps) ≡ length ps
+framed_length u [] = refl
+framed_length u (q ∷ ps) = ap suc (framed_length u ps)
+
+framed_up : (u : Unrolled) (ps : List Point) (i : ℕ) (d : Point) → i < length ps →
+    get_or (frame_points_of u ps) i frames.no_point ≡ frame_point_of u (get_or ps i d) (drop (suc i) ps)
+framed_up u [] i d h = absurd (omega arith)
+framed_up u (x ∷ ps) zero d h = refl
+framed_up u (x ∷ ps) (suc i) d h = framed_up u ps i d (omega arith)
+
+-- the point at a place of the frame
+pub framed_is : (u : Unrolled) (i : ℕ) → i < length u.points.items → frames.point_at (frame_unrolled_of u) i ≡ framed u i
+framed_is u i h = framed_up u u.points.items i no_point h ∙ ap
+    (λ (z : ℕ). frame_point_of u (own_point u i) (drop z u.points.items)) (let e : suc i ≡ i + 1 = omega arith in e)
+
+-- an element of a part of a list is one of the list
+range_contains : {X : Type 0} → (xs : List X) (a b : ℕ) (x : X) → Contains (slice_range xs a b) x → Contains xs x
+range_contains xs a b x h = drop_contains a xs x (take_contains (b - a) (drop a xs) x h)
+  where
+    take_contains : {X : Type 0} → (n : ℕ) (xs : List X) (x : X) → Contains (take n xs) x → Contains xs x
+    take_contains zero xs x (i, l, e) = absurd (omega (arith, l))
+    take_contains (suc n) [] x (i, l, e) = absurd (omega (arith, l))
+    take_contains (suc n) (y ∷ xs) x (zero, l, e) = (zero, omega arith, e)
+    take_contains (suc n) (y ∷ xs) x (suc i, l, e) = let t = take_contains n xs x (i, omega (arith, l), e) in (suc t.0, omega (arith, t.1), t.2)
+
+    drop_contains : {X : Type 0} → (n : ℕ) (xs : List X) (x : X) → Contains (drop n xs) x → Contains xs x
+    drop_contains zero xs x h = h
+    drop_contains (suc n) [] x h = h
+    drop_contains (suc n) (y ∷ xs) x h = let t = drop_contains n xs x h in (suc t.0, omega (arith, t.1), t.2)
+
+-- a line of the frame is read by the terms of a state
+reads_of : (u : Unrolled) (s : Sweep) (n : Names) (e : Expr) → IsSweepOf u s → HaveSameForm s.entry n → CanRead (frame_unrolled_of u) e →
+    IsReadable (form_of n) e
+reads_of u s n e k h r = reads_for (inputs_of (frame_unrolled_of u)) s.entry n k.form h e r
+
+nothing_read : (n : Names) → AreRead n []
+nothing_read n e (m, l, at) = absurd (omega (arith, l))
+
+-- what is read of lines is read of what they say
+pub says_read : (u : Unrolled) (s : Sweep) (n : Names) (lines : List NoteLine) → IsSweepOf u s → HaveSameForm s.entry n →
+    CanReadLines (frame_unrolled_of u) lines →
+    AreRead n (map (λ l. l.says) lines)
+says_read u s n lines k h r e (i, l, at) =
+    let there : i < length lines = (let m = length-map lines (λ (z : NoteLine). z.says) in omega (arith, m, l)) in
+    let line = slice_index_or lines i no_line in
+    let same : line.says ≡ e = sym (get_or-map (λ (z : NoteLine). z.says) lines i no_line e there) ∙ at in
+    subst (λ (z : Expr). IsReadable (form_of n) z) same (reads_of u s n line.says k h (r line (Contains-get_or lines i no_line there)))
+
+module _ (u : Unrolled) (i : ℕ) (walkable : IsWalkable (frame_unrolled_of u)) (formed : IsFormed u) (within : i < length u.points.items) where
+  there : i < length (frame_unrolled_of u).points
+  there = let e = framed_length u u.points.items in omega (arith, e, within)
 
   pub code_within : (own_point u i).code < length u.codes.items
   code_within = formed.codes i no_point within
 
-  exits_later : (x : PointExit) → Contains (placed u i).exits x → LeadsLater (unrolled_of u) i x
-  exits_later x c = walkable.later i x there (subst (λ (q : UnrolledPoint). Contains q.exits x) (sym (placed_is u i within)) c)
+  exits_later : (x : PointExit) → Contains (framed u i).exits x → LeadsLater (frame_unrolled_of u) i x
+  exits_later x c = walkable.rooted.later i x there (subst (λ (q : UnrolledPoint). Contains q.exits x) (sym (framed_is u i within)) c)
 
-  -- the edges of a row lead to later places
-  edges_lead : (list : Vec Stmt) → (own_code u i).list ≡ Some list → (x : PointExit) → Contains (map edge_of (own_edges u i)) x → LeadsLater (unrolled_of u) i x
-  edges_lead list e x c =
-      exits_later x (Contains-append_right (map (assert_exit (notes_of u.notes.now).asserts) (own_index u i))
-      (row_exits (own_code u i).fetchable (own_code u i).list (own_edges u i)) x
-      (subst (λ (o : Option (Vec Stmt)). Contains (row_exits (own_code u i).fetchable o (own_edges u i)) x) (sym e)
-      (Contains-append_right (Raising ∷ WritingKept ∷ Unaligned ∷ []) (map edge_of (own_edges u i)) x c)))
+  pub point_terms : CanBeTerms (frame_unrolled_of u) (framed u i) (framed u i).does
+  point_terms = subst (λ (q : UnrolledPoint). CanBeTerms (frame_unrolled_of u) q q.does) (framed_is u i within) (walkable.terms i there)
 
-  pub edges_later : (list : Vec Stmt) → (own_code u i).list ≡ Some list → AreLater (suc i) (own_edges u i)
-  edges_later list e = later_by (unrolled_of u) i (own_edges u i) (edges_lead list e)
+  pub one_out : sum_by (λ x. bit (goes_out x)) (framed u i).exits ≤ 1
+  one_out = subst (λ (q : UnrolledPoint). sum_by (λ x. bit (goes_out x)) q.exits ≤ 1) (framed_is u i within) (walkable.one_out i there)
 
-  pub edges_placed : (list : Vec Stmt) (s : Sweep) → (own_code u i).list ≡ Some list → IsSweepOf u s → (j : ℕ) (d : Edge) → j < length (own_edges u i) →
-      IsPlaceOf (length s.met.items) (get_or (own_edges u i) j d).aim
-  edges_placed list s e k j d l = places_by (unrolled_of u) i (length s.met.items) (own_edges u i) (sym k.places) (edges_lead list e) j d l
-
-  pub point_terms : CanBeTerms (unrolled_of u) (placed u i) (placed u i).does
-  point_terms = subst (λ (q : UnrolledPoint). CanBeTerms (unrolled_of u) q q.does) (placed_is u i within) (walkable.terms i there)
-
-  pub one_out : sum_by (λ x. bit (goes_out x)) (placed u i).exits ≤ 1
-  one_out = subst (λ (q : UnrolledPoint). sum_by (λ x. bit (goes_out x)) q.exits ≤ 1) (placed_is u i within) (walkable.one_out i there)
+  pub code_bounds : AreBounds u (own_code u i).asserts
+  code_bounds = formed.asserts (own_point u i).code no_code code_within
 
   pub places_asserted : (j : ℕ) → j < length (own_index u i) → (slice_index_or (own_index u i) j (0, 0)).1 < length u.notes.now.asserts.items
-  places_asserted j l =
-      let a = (own_code u i).asserts.0 in
-      let b = (own_code u i).asserts.1 in
-      let up = range_within u.asserts.items a b j (index_ends formed) l in
-      subst (λ (x : ℕ × ℕ). x.1 < length u.notes.now.asserts.items) (sym (range_element u.asserts.items a b j (0, 0) up))
-      (formed.lines (a + j) (0, 0) (let e = index_ends formed in omega (arith, up, e)))
-    where
-      index_ends : IsFormed u → (own_code u i).asserts.1 ≤ length u.asserts.items
-      index_ends f = (f.asserts (own_point u i).code no_code code_within).1
+  places_asserted = places_in u formed (own_code u i).asserts code_bounds
 
-  pub asserts_read : (s : Sweep) (n : Names) → IsSweepOf u s → HaveSameForm s.entry n → (j : ℕ) → j < length (own_index u i) →
-      IsReadable (form_of n) (slice_index_or (notes_of u.notes.now).asserts (slice_index_or (own_index u i) j (0, 0)).1 no_assert).says
-  asserts_read s n k h j l =
-      let asserts = (notes_of u.notes.now).asserts in
-      let exit = assert_exit asserts (get_or (own_index u i) j (0, 0)) in
-      let among : Contains (map (assert_exit asserts) (own_index u i)) exit = (
+  -- the line of an exit is read
+  exit_read : (s : Sweep) (n : Names) → IsSweepOf u s → HaveSameForm s.entry n → (x : PointExit) → Contains (framed u i).exits x → AreRead n (line_of x)
+  exit_read s n k h x c e m =
+      reads_of u s n e k h (walkable.exits i x there (subst (λ (q : UnrolledPoint). Contains q.exits x) (sym (framed_is u i within)) c) e m)
+
+  pub asserts_read : (s : Sweep) (n : Names) → IsSweepOf u s → HaveSameForm s.entry n → AreRead n (own_lines u i)
+  asserts_read s n k h e (j, l, at) =
+      let checks = own_checks u i in
+      let there : j < length checks = (let m = length-map checks (λ (c : Check). c.says) in omega (arith, m, l)) in
+      let c = slice_index_or checks j no_check in
+      let same : c.says ≡ e = sym (get_or-map (λ (z : Check). z.says) checks j no_check e there) ∙ at in
+      let exit = FalseCheck c in
+      let among : Contains (map FalseCheck checks) exit = (
         j,
-        (let m = length-map (own_index u i) (assert_exit asserts)
-            in omega (arith, m, l)),
-        get_or-map (assert_exit asserts) (own_index u i) j (0, 0) exit l,
+        (let m = length-map checks FalseCheck in omega (arith, m, there)),
+        get_or-map FalseCheck checks j no_check exit there,
       ) in
-      let c : Contains (point_at (unrolled_of u) i).exits exit =
-      subst (λ (q : UnrolledPoint). Contains q.exits exit) (sym (placed_is u i within))
-      (Contains-append_left (map (assert_exit asserts) (own_index u i)) (row_exits (own_code u i).fetchable (own_code u i).list (own_edges u i)) exit among) in
-      reads_for (unrolled_of u) s.entry n k.form h (slice_index_or asserts (slice_index_or (own_index u i) j (0, 0)).1 no_assert).says
-      (walkable.asserts i exit there c)
+      subst (λ (z : Expr). IsReadable (form_of n) z) same
+      (exit_read s n k h exit (Contains-append_left (map FalseCheck checks) (exits_of u (own_point u i).deed (own_code u i) (own_edges u i)) exit among) c.says
+      (0, omega arith, refl))
 
--- the ensure lines can be read
-pub ensures_read : (u : Unrolled) (s : Sweep) (n : Names) → IsWalkable (unrolled_of u) → IsSweepOf u s → HaveSameForm s.entry n → (j : ℕ) →
-    j < length u.notes.now.ensured.items →
-    IsReadable (form_of n) (slice_index_or (map note_line_of u.notes.now.ensured.items) j no_line).says
-ensures_read u s n walkable k h j l =
-    let lines = map note_line_of u.notes.now.ensured.items in
-    let e = length-map u.notes.now.ensured.items note_line_of in
-    reads_for (unrolled_of u) s.entry n k.form h (slice_index_or lines j no_line).says
-    (walkable.ensures (slice_index_or lines j no_line) (Contains-get_or lines j no_line (omega (arith, e, l))))
+  module _ (row : (own_point u i).deed ≡ Row) (list : Vec Stmt) (code : (own_code u i).list ≡ Some list) where
+    -- an edge is an exit
+    edge_among : (x : PointExit) → Contains (map (frame_edge_of u) (own_edges u i)) x → Contains (framed u i).exits x
+    edge_among x c =
+        Contains-append_right (map FalseCheck (own_checks u i)) (exits_of u (own_point u i).deed (own_code u i) (own_edges u i)) x
+        (subst (λ (d : Deed). Contains (exits_of u d (own_code u i) (own_edges u i)) x) (sym row)
+        (subst (λ (o : Option (Vec Stmt)). Contains (frame_row_exits u (own_code u i).fetchable o (own_edges u i)) x) (sym code)
+        (Contains-append_right (Raising ∷ WritingKept ∷ Unaligned ∷ []) (map (frame_edge_of u) (own_edges u i)) x c)))
+
+    pub edges_later : AreLater (suc i) (own_edges u i)
+    edges_later = later_by (frame_unrolled_of u) u i (own_edges u i) (λ x c. exits_later x (edge_among x c))
+
+    lines_read : (s : Sweep) (n : Names) → IsSweepOf u s → HaveSameForm s.entry n → (falls jumps : Bool) (to : Option ℕ) (a : Aim) →
+        Contains (framed u i).exits (frame_edge_of u (record { falls = falls; jumps = jumps; to = to; aim = a })) → AreRead n (lines_to u a)
+    lines_read s n k h falls jumps to (OnTo j) c = nothing_read n
+    lines_read s n k h falls jumps to Outward c = says_read u s n (notes_of u.notes.now).ensures k h walkable.ensures
+    lines_read s n k h falls jumps to (IntoHead at asserts) c =
+        exit_read s n k h (frame_edge_of u (record { falls = falls; jumps = jumps; to = to; aim = IntoHead at asserts })) c
+    lines_read s n k h falls jumps to OverLast c = nothing_read n
+
+    -- the walk can be handed on by each edge of a row
+    pub edges_go : (s : Sweep) (n : Names) → AreRootsFormed u → IsSweepOf u s → HaveSameForm s.entry n → (e : Edge) → Contains (own_edges u i) e →
+        CanGo u (length s.met.items) n e.aim
+    edges_go s n roots k h e c =
+        let exit = frame_edge_of u e in
+        let among : Contains (framed u i).exits exit = edge_among exit (map_contains (own_edges u i) e c) in
+        record {
+          place = leads_place (frame_unrolled_of u) u i (length s.met.items) e.falls e.jumps e.to e.aim (framed_length u u.points.items ∙ sym k.places)
+              (exits_later exit among);
+          formed = roots.edges e (range_contains u.edges.items (own_point u i).edges (edges_from u (drop (i + 1) u.points.items)) e c);
+          reads = lines_read s n k h e.falls e.jumps e.to e.aim among;
+        }
+      where
+        map_contains : (es : List Edge) (e : Edge) → Contains es e → Contains (map (frame_edge_of u) es) (frame_edge_of u e)
+        map_contains es e (j, l, at) = (
+          j,
+          (let m = length-map es (frame_edge_of u) in omega (arith, m, l)),
+          get_or-map (frame_edge_of u) es j e (frame_edge_of u e) l ∙ ap (frame_edge_of u) at,
+        )
 
 -- the link register is one of the names
-pub link_for : (u : Unrolled) (s : Sweep) → IsWalkable (unrolled_of u) → IsSweepOf u s → is_register_of (form_of s.entry) u.link ≡ true
+pub link_for : (u : Unrolled) (s : Sweep) → IsWalkable (frame_unrolled_of u) → IsSweepOf u s → is_register_of (form_of s.entry) u.link ≡ true
 link_for u s walkable k = subst (λ (l : List ℕ). list_any (nat_eq u.link) l ≡ true) k.form.registers walkable.link
 
 module _ (nodes : List TermNode) (s : Sweep) (w : AreWell nodes s) (link : ℕ) (h : is_register_of (form_of s.entry) link ≡ true) where

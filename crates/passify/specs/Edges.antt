@@ -1,22 +1,30 @@
 -- Edges as exits that are tried.
-use Rattle.std.specs.Prelude.{ℕ, ◌≡◌, ◌≤◌, ◌<◌, ◌+◌, ◌*◌, Bool, true, ◌==◌, ◌&&◌, if◌then◌else◌, List, [], ◌∷◌, ◌++◌, Option, Some, None, map, sum_by}
-use Rattle.bilv_spec.specs.Notes.{NoteLine}
+use Rattle.std.specs.Prelude.{ℕ, ◌≡◌, ◌≤◌, ◌<◌, ◌+◌, ◌*◌, Bool, true, ◌==◌, ◌&&◌, if◌then◌else◌, List, [], ◌∷◌, ◌++◌, Option, Some, None, Contains, map, sum_by}
+use Rattle.bilv_spec.specs.Notes.{Expr}
 use Rattle.bilv_spec.specs.Points.{line_price, bytes_loaded}
 use Rattle.term_spec.specs.Terms.{TermReading, InRange, TermNode, HasWidth, term_word}
-use Rattle.walk_spec.specs.Unrolled.{Carried, GoesOn, PointExit, Walk, state_at, walk_to}
+use Rattle.walk_spec.specs.Unrolled.{Walk}
+use Rattle.walk_spec.specs.Unrolling.{IsReadable}
 use Rattle.walk_spec.specs.Sweep.{Held}
 use Rattle.term_spec.specs.Passive.{Tells}
 use Rattle.walk_spec.specs.Prices.{line_steps}
+use Rattle.frame_spec.specs.Frames.{Content, content_at}
+use Rattle.frame_spec.specs.FrameWalk.{GoesOn, PointExit, UnrolledProgram, walk_to}
+use Rattle.notes_value.specs.NoteViews.{notes_of}
 use Rattle.question_form.specs.declared.unrolled.Aim.{Aim}
 use Rattle.question_form.specs.declared.unrolled.Aim.TheVariants.{OnTo, IntoHead, Outward, OverLast}
 use Rattle.question_form.specs.declared.unrolled.Edge.{Edge}
-use Rattle.question_form.specs.Views.{aim_of, edge_of}
+use Rattle.question_form.specs.declared.unrolled.Unrolled.{Unrolled}
+use Rattle.question_form.specs.FrameViews.{aim_of, checks_between, edge_of}
+use Rattle.question_form.specs.Forms.{IsAimFormed}
 use Rattle.term_names.specs.declared.names.Names.{Names}
+use Rattle.term_names.specs.Views.{form_of}
 use Rattle.note_terms.specs.declared.Now.{Now}
 use Rattle.passify.specs.declared.sweep.Sweep.{Sweep}
+use Rattle.passify.specs.Plain.{plain}
 use Rattle.passify.specs.Sweeps.{Steps, bits_of, terms_of}
 use Rattle.passify.specs.Exits.{IsPending, Narrows}
-use Rattle.passify.specs.Situations.{Situation, IsThere, goes}
+use Rattle.passify.specs.Situations.{Situation, IsThere, goes, said}
 
 -- the address of an edge, by the value of the link register at entry
 abbrev pub edge_word : Option ℕ → (link : ℕ) → ℕ
@@ -34,35 +42,57 @@ IsLater from Outward = Unit {0}
 IsLater from (IntoHead at asserts) = Unit {0}
 IsLater from OverLast = Unit {0}
 
--- an aim is a place of a program, if it is one
+-- what the ensure lines say
+abbrev pub ensured : Unrolled → List Expr
+ensured u = map (λ l. l.says) (notes_of u.notes.now).ensures
+
+-- the lines that are judged where an aim leads
+abbrev pub lines_to : Unrolled → Aim → List Expr
+lines_to u (OnTo j) = []
+lines_to u Outward = ensured u
+lines_to u (IntoHead at asserts) = said (checks_between u asserts)
+lines_to u OverLast = []
+
+-- lines can be read by the terms of a state
+abbrev pub AreRead : Names → List Expr → Type 0
+AreRead n lines = (e : Expr) → Contains lines e → IsReadable (form_of n) e
+
+-- an aim is a place, if it is one
 abbrev pub IsPlaceOf : (places : ℕ) → Aim → Type 0
 IsPlaceOf places (OnTo j) = j < places
 IsPlaceOf places Outward = Unit {0}
 IsPlaceOf places (IntoHead at asserts) = Unit {0}
 IsPlaceOf places OverLast = Unit {0}
 
+-- a walk can be handed on by an aim: it is a place, or its lines can be read
+pub record CanGo (u : Unrolled) (places : ℕ) (n : Names) (aim : Aim) : Type 0 where
+  pub place : IsPlaceOf places aim
+  pub formed : IsAimFormed u aim
+  pub reads : AreRead n (lines_to u aim)
+
+-- a frame without a contract of its own is left by the ensure lines of the notes
+pub record IsLeftBy (u : Unrolled) (p : UnrolledProgram) : Type 0 where
+  pub own : p.own ≡ None
+  pub ensures : p.ensures ≡ (notes_of u.notes.now).ensures
+
 -- the walk goes on by an aim to the next state, which terms are where a bit is 1
-pub record Follows (nodes : List TermNode) (s : Sweep) (big : Bool) (lines : List NoteLine) (next : Now) (aim : Aim) (from : ℕ) (x : TermReading) (w : Walk)
-    (b : Bool) : Type 0 where
+pub record Follows (u : Unrolled) (nodes : List TermNode) (s : Sweep) (next : Now) (aim : Aim) (from : ℕ) (x : TermReading) (w : Walk) (b : Bool) : Type 0 where
   pub situation : Situation
-  pub is : w ≡ walk_to situation.program situation.entry situation.next (aim_of aim)
+  pub is : w ≡ plain situation.program situation.entry (walk_to situation.program situation.entry situation.next (aim_of u aim))
   pub later : IsLater from aim
-  pub ensures : situation.program.ensures ≡ lines
-  pub there : b ≡ true → IsThere nodes s big next (λ S. S.next) x situation
+  pub leaves : IsLeftBy u situation.program
+  pub there : b ≡ true → IsThere nodes s u.big next (λ S. S.next) x situation
 
 -- what it costs in gates to go on by an aim
-abbrev pub aim_gates : Names → List NoteLine → Aim → ℕ
-aim_gates n lines (OnTo j) = bits_of n + 1
-aim_gates n lines Outward = sum_by line_price (map (λ l. l.says) lines)
-aim_gates n lines (IntoHead at asserts) = 1
-aim_gates n lines OverLast = 1
+abbrev pub aim_gates : Unrolled → Names → Aim → ℕ
+aim_gates u n (OnTo j) = bits_of n + 1
+aim_gates u n Outward = sum_by line_price (ensured u)
+aim_gates u n (IntoHead at asserts) = sum_by line_price (said (checks_between u asserts))
+aim_gates u n OverLast = 1
 
 -- in byte loads
-abbrev pub aim_loads : List NoteLine → Aim → ℕ
-aim_loads lines (OnTo j) = 0
-aim_loads lines Outward = sum_by bytes_loaded (map (λ l. l.says) lines)
-aim_loads lines (IntoHead at asserts) = 0
-aim_loads lines OverLast = 0
+abbrev pub aim_loads : Unrolled → Aim → ℕ
+aim_loads u aim = sum_by bytes_loaded (lines_to u aim)
 
 -- in joins
 abbrev pub aim_joins : Aim → ℕ
@@ -72,19 +102,19 @@ aim_joins (IntoHead at asserts) = 0
 aim_joins OverLast = 0
 
 -- in nodes
-abbrev pub aim_nodes : Names → List NoteLine → Aim → ℕ
-aim_nodes n lines (OnTo j) = 2 * terms_of n + 2
-aim_nodes n lines Outward = 4 * line_steps (map (λ l. l.says) lines)
-aim_nodes n lines (IntoHead at asserts) = 2
-aim_nodes n lines OverLast = 2
+abbrev pub aim_nodes : Unrolled → Names → Aim → ℕ
+aim_nodes u n (OnTo j) = 2 * terms_of n + 2
+aim_nodes u n Outward = 4 * line_steps (ensured u)
+aim_nodes u n (IntoHead at asserts) = 1 + 4 * line_steps (said (checks_between u asserts))
+aim_nodes u n OverLast = 2
 
 -- the point goes on, to a state that terms are, by a jump or without one, as a bit tells
 pub record GoesHere (nodes : List TermNode) (s : Sweep) (big : Bool) (next : Now) (jumped link : ℕ) (x : TermReading) (S : Situation) : Type 0 where
   pub jumps : Bool
   pub to : ℕ
-  pub carried : Carried
+  pub carried : Content
   pub leaving : S.leaving ≡ GoesOn jumps to carried
-  pub next_state : S.next ≡ state_at carried to
+  pub next_state : S.next ≡ content_at carried to
   pub tells : Tells nodes x jumped jumps
   pub link_word : term_word x nodes link ≡ S.entry.regs S.program.link
   pub there : IsThere nodes s big next (λ S. S.next) x S
@@ -104,16 +134,16 @@ pub record TakesEdge (nodes : List TermNode) (e : Edge) (jumped next link : ℕ)
   pub is : q ≡ edge_test e by_jump (term_word x nodes next) (term_word x nodes link)
 
 -- terms within what some edges may cost, but for others
-pub record AreEdges (old new : List TermNode) (s z : Sweep) (n : Names) (lines : List NoteLine) (all others : List Edge) : Type 0 where
+pub record AreEdges (u : Unrolled) (old new : List TermNode) (s z : Sweep) (n : Names) (all others : List Edge) : Type 0 where
   pub gates : ℕ
   pub loads : ℕ
   pub joins : ℕ
   pub nodes : ℕ
   pub steps : Steps old new s z gates loads 0 joins nodes (λ m. ⊥)
-  pub few_gates : gates + sum_by (λ e. 35 + aim_gates n lines e.aim) others ≤ sum_by (λ e. 35 + aim_gates n lines e.aim) all
-  pub few_loads : loads + sum_by (λ e. aim_loads lines e.aim) others ≤ sum_by (λ e. aim_loads lines e.aim) all
+  pub few_gates : gates + sum_by (λ e. 35 + aim_gates u n e.aim) others ≤ sum_by (λ e. 35 + aim_gates u n e.aim) all
+  pub few_loads : loads + sum_by (λ e. aim_loads u e.aim) others ≤ sum_by (λ e. aim_loads u e.aim) all
   pub few_joins : joins + sum_by (λ e. aim_joins e.aim) others ≤ sum_by (λ e. aim_joins e.aim) all
-  pub few_nodes : nodes + sum_by (λ e. 14 + aim_nodes n lines e.aim) others ≤ sum_by (λ e. 14 + aim_nodes n lines e.aim) all
+  pub few_nodes : nodes + sum_by (λ e. 14 + aim_nodes u n e.aim) others ≤ sum_by (λ e. 14 + aim_nodes u n e.aim) all
 
 -- the edges lead to no place before one
 abbrev pub AreLater : (from : ℕ) → List Edge → Type 0
@@ -121,13 +151,13 @@ AreLater from [] = Unit {0}
 AreLater from (e ∷ rest) = IsLater from e.aim × AreLater from rest
 
 -- Edges are tried one by one: some are left.
-pub record EdgesTried (old new : List TermNode) (s z : Sweep) (rest left : ℕ) (big : Bool) (lines : List NoteLine) (next : Now) (jumped link : ℕ)
-    (all others : List Edge) : Type 0 where
-  pub edges : AreEdges old new s z next.names.now lines all others
-  pub bit : HasWidth new 1 left
-  pub narrows : Narrows old new rest left (λ x q. Unit {0})
-  pub later : (from : ℕ) → AreLater from all → AreLater from others
-  pub tries : (x : TermReading) → InRange x → (from : ℕ) → AreLater from all → (S : Situation) → S.program.ensures ≡ lines →
-      (term_word x old rest ≡ 1 → GoesHere old s big next jumped link x S) → (before after : Held)
-      (tail : List PointExit) → IsPending old s from x rest before after (goes S (map edge_of all ++ tail) before) →
-      IsPending new z from x left before after (goes S (map edge_of others ++ tail) before)
+pub record EdgesTried (u : Unrolled) (old new : List TermNode) (s z : Sweep) (rest left : ℕ) (next : Now) (jumped link : ℕ) (all others : List Edge) : Type 0
+  where
+    pub edges : AreEdges u old new s z next.names.now all others
+    pub bit : HasWidth new 1 left
+    pub narrows : Narrows old new rest left (λ x q. Unit {0})
+    pub later : (from : ℕ) → AreLater from all → AreLater from others
+    pub tries : (x : TermReading) → InRange x → (from : ℕ) → AreLater from all → (S : Situation) → IsLeftBy u S.program →
+        (term_word x old rest ≡ 1 → GoesHere old s u.big next jumped link x S) → (before after : Held)
+        (tail : List PointExit) → IsPending old s from x rest before after (goes S (map (edge_of u) all ++ tail) before) →
+        IsPending new z from x left before after (goes S (map (edge_of u) others ++ tail) before)

@@ -2,11 +2,12 @@
 use Rattle.std.specs.Prelude.{ℕ, suc, ◌≡◌, ◌+◌, ◌*◌, ◌↔◌, true, List, length, sum_by, Contains}
 use Rattle.bilv_spec.specs.Points.{line_price, bytes_loaded}
 use Rattle.term_spec.specs.Terms.{TermReading, InRange, TermNode, ChoiceNode, AreTyped, HasWidth}
-use Rattle.walk_spec.specs.Unrolled.{UnrolledPoint, UnrolledProgram, AddressRun, is_in, is_edge, point_at}
-use Rattle.walk_spec.specs.Sweep.{Held, sweep_on}
-use Rattle.term_spec.specs.Passive.{UnderAll, Denotes, Tells}
-use Rattle.walk_spec.specs.Prices.{lines_at, line_steps, action_size, variables_of}
-use Rattle.term_spec.specs.WalkQuestions.{term_reading}
+use Rattle.walk_spec.specs.Unrolled.{AddressRun, is_in}
+use Rattle.term_spec.specs.Passive.{Denotes, Tells}
+use Rattle.walk_spec.specs.Prices.{line_steps}
+use Rattle.frame_spec.specs.FrameWalk.{UnrolledPoint, UnrolledProgram, Held, point_at, sweep_on}
+use Rattle.frame_laws.specs.FramePrices.{is_edge, lines_at, action_size, variables_of}
+use Rattle.frame_terms.specs.PassiveFrames.{UnderAll, inputs_of, part_reading}
 use Rattle.std.specs.List.{list_any}
 use Rattle.term_dag.specs.Made.{Grew, InputsFrom}
 use Rattle.bil_terms.specs.declared.stored.Stored.{Stored}
@@ -14,8 +15,9 @@ use Rattle.bil_terms.specs.Runs.{IsStoredBy}
 use Rattle.term_names.specs.declared.names.Names.{Names}
 use Rattle.term_names.specs.Views.{AreFor, form_of, names_of}
 use Rattle.question_form.specs.declared.unrolled.Unrolled.{Unrolled}
-use Rattle.question_form.specs.Views.{unrolled_of}
+use Rattle.question_form.specs.FrameViews.{frame_unrolled_of}
 use Rattle.passify.specs.declared.sweep.Sweep.{Sweep}
+use Rattle.passify.specs.Plain.{carried, held_for}
 use Rattle.passify.specs.Sweeps.{Steps, ShowsAt}
 
 -- the gates of a point: its row, its edges, its lines, and the tests of each byte store against each run of kept bytes
@@ -35,21 +37,21 @@ abbrev pub point_nodes : UnrolledProgram → UnrolledPoint → ℕ
 point_nodes u q =
     4 * (action_size q.does + variables_of u * sum_by is_edge q.exits + (16 + line_steps (lines_at u q) + 4 * (q.stores * length u.kept)))
 
--- what is kept is of an unrolled program: terms for its registers and flags, from its entry, and as many places as it has points
+-- what is kept is of an unrolled frame: terms for its registers and flags, from its entry, and as many places as it has points
 pub record IsSweepOf (u : Unrolled) (s : Sweep) : Type 0 where
-  pub form : AreFor (unrolled_of u) s.entry
+  pub form : AreFor (inputs_of (frame_unrolled_of u)) s.entry
   pub at : s.at ≡ u.entry
-  pub places : length s.met.items ≡ length (unrolled_of u).points
+  pub places : length s.met.items ≡ length u.points.items
 
--- A point is handled: under every reading of which the terms are what is held before it, and its names what is carried to it where it is met, they are what is
--- held behind it.
+-- A point is handled: under every reading of which the terms are what is held before it for the segments of its anchor's kind, and its names what is carried to
+-- it where it is met, they are what is held for those behind it.
 pub record IsHandled (u : Unrolled) (old new : List TermNode) (s z : Sweep) (place : ℕ) (n : Names) : Type 0 where
-  pub steps : Steps old new s z (point_gates (unrolled_of u) (point_at (unrolled_of u) place)) (point_loaded (unrolled_of u) (point_at (unrolled_of u) place))
-      (point_at (unrolled_of u) place).stores (point_joins (point_at (unrolled_of u) place)) (point_nodes (unrolled_of u) (point_at (unrolled_of u) place))
-      (λ m. (m ≡ ChoiceNode place) × ((point_at (unrolled_of u) place).draws ≡ true))
-  pub shows : UnderAll (unrolled_of u) (λ r. (h : Held) → ShowsAt old s (suc place) (term_reading (unrolled_of u) r) h →
-      (h.met place ≡ true → Denotes (form_of n) old (term_reading (unrolled_of u) r) (names_of n) (h.carried place)) →
-      ShowsAt new z (suc place) (term_reading (unrolled_of u) r) (sweep_on (unrolled_of u) r place h))
+  pub steps : let f = frame_unrolled_of u in let q = point_at f place in
+      Steps old new s z (point_gates f q) (point_loaded f q) q.stores (point_joins q) (point_nodes f q) (λ m. (m ≡ ChoiceNode place) × (q.draws ≡ true))
+  pub shows : let f = frame_unrolled_of u in let anchor = (point_at f place).point.anchor in
+      UnderAll f (λ r. (h : Held) → ShowsAt old s (suc place) (part_reading f r) (held_for anchor h) →
+      (h.met place ≡ true → Denotes (form_of n) old (part_reading f r) (names_of n) (carried (h.carried place))) →
+      ShowsAt new z (suc place) (part_reading f r) (held_for anchor (sweep_on f r place h)))
 
 -- A bit tells whether some byte that is stored, by what is stored under a guard that is 1, is kept: for any list of just those bytes.
 pub record TellsKept (old new : List TermNode) (stored : List Stored) (kept : List AddressRun) (t : ℕ) : Type 0 where

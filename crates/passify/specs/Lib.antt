@@ -4,6 +4,8 @@ pub mod Exits
 pub mod Handled
 pub mod Lasts
 pub mod Made
+pub mod Plain
+pub mod Planted
 pub mod Rows
 pub mod Situations
 pub mod Sweeps

@@ -1,35 +1,46 @@
 -- The exits of a point under a reading.
-use Rattle.std.specs.Prelude.{ℕ, ◌≡◌, ◌≤◌, ◌+◌, ◌*◌, Bool, List, ◌++◌, map, slice_index_or, sum_by}
+use Rattle.std.specs.Prelude.{ℕ, ◌≡◌, ◌≤◌, ◌+◌, ◌*◌, ◌&&◌, Bool, not, false, List, ◌∷◌, ◌++◌, map, filter, sum_by}
 use Rattle.word_spec.specs.Memory.{endian}
 use Rattle.word_spec.specs.State.{State}
-use Rattle.bilv_spec.specs.Notes.{Expr, Number, Assert, NoteLine}
+use Rattle.machine_spec.specs.Endings.{EnsureFails, JumpFails}
+use Rattle.bilv_spec.specs.Notes.{Expr, Number, NoteLine, value, is_true}
 use Rattle.bilv_spec.specs.Run.{false_line}
 use Rattle.bilv_spec.specs.Points.{line_price, bytes_loaded}
 use Rattle.term_spec.specs.Terms.{TermReading, InRange, TermNode, HasWidth, term_word}
-use Rattle.walk_spec.specs.Unrolled.{UnrolledProgram, Leaving, PointExit, carried_of, state_at, first_aim, walk_to, out_by}
-use Rattle.walk_spec.specs.Sweep.{Held, hand}
+use Rattle.walk_spec.specs.Unrolled.{WalkFails, carried_of, state_at}
+use Rattle.walk_spec.specs.Sweep.{Held, held_if, hand}
 use Rattle.walk_spec.specs.Prices.{line_steps}
-use Rattle.question_form.specs.Views.{assert_exit, no_assert}
+use Rattle.frame_spec.specs.Frames.{OfStep}
+use Rattle.frame_spec.specs.FrameWalk as frames
+use Rattle.frame_spec.specs.FrameWalk.{Check, UnrolledProgram, Leaving, PointExit, first_aim, walk_to, out_by}
+use Rattle.question_form.specs.declared.unrolled.Unrolled.{Unrolled}
+use Rattle.question_form.specs.FrameViews.{check_at}
 use Rattle.term_names.specs.Chosen.{at_entry}
 use Rattle.note_terms.specs.declared.Now.{Now}
 use Rattle.note_terms.specs.Lines.{IsStateOf}
 use Rattle.passify.specs.declared.sweep.Sweep.{Sweep}
+use Rattle.passify.specs.Plain.{plain}
 use Rattle.passify.specs.Sweeps.{Steps}
 use Rattle.passify.specs.Exits.{IsPending, Narrows}
 
--- What decides which exit of a point is taken: the program, the states at entry, at the point and after it, whether a kept byte is stored, and how the point is
--- left.
+-- What decides which exit of a point is taken, and where that leads: the frame, the states at entry, at the point and after it, the stored bytes, how the point
+-- is left, and what a contract step has to meet.
 pub record Situation : Type 0 where
   pub program : UnrolledProgram
   pub entry : State
   pub now : State
   pub next : State
-  pub writes_kept : Bool
+  pub stored : List ℕ
   pub leaving : Leaving
+  pub gives : List NoteLine
+
+-- without the frame
+abbrev pub deciding : Situation → frames.Situation
+deciding S = record { entry = S.entry; now = S.now; next = S.next; stored = S.stored; leaving = S.leaving; gives = S.gives }
 
 -- what is held after the first of the exits that is taken
 abbrev pub goes : Situation → List PointExit → Held → Held
-goes S xs h = hand (walk_to S.program S.entry S.next (first_aim S.program S.entry S.now S.writes_kept S.leaving xs)) h
+goes S xs h = hand (plain S.program S.entry (walk_to S.program S.entry S.next (first_aim S.program (deciding S) xs))) h
 
 -- the terms are a state of the situation, and its entry state is that of the reading
 pub record IsThere (nodes : List TermNode) (s : Sweep) (big : Bool) (n : Now) (state : Situation → State) (x : TermReading) (S : Situation) : Type 0 where
@@ -63,17 +74,35 @@ pub record LinesTried (old new : List TermNode) (s z : Sweep) (rest left : ℕ) 
   pub tries : TriesAll old new s z rest left (IsThere old s big n state) goes_all goes_others
   pub narrows : Narrows old new rest left (λ x q. Unit {0})
 
--- what is held in the end by the exits of assert lines, and others behind
-abbrev pub goes_asserts : List Assert → List (ℕ × ℕ) → Situation → List PointExit → Held → Held
-goes_asserts asserts index S tail h = goes S (map (assert_exit asserts) index ++ tail) h
+-- Lines are judged in a state, one after the other: the first that is false is an event.
+pub record Judging : Type 0 where
+  pub state : Situation → State
+  pub goes : List Check → Situation → List PointExit → Held → Held
+  pub by : (x : Check) (rest : List Check) (S : Situation) (tail : List PointExit) (h : Held) →
+      goes (x ∷ rest) S tail h
+      ≡ held_if (not (is_true (value S.program.endian x.says (state S) S.entry))) (hand (WalkFails JumpFails) h) (goes rest S tail h)
 
--- the expressions of assert lines
-abbrev pub assert_lines : List Assert → List (ℕ × ℕ) → List Expr
-assert_lines asserts index = map (λ x. (slice_index_or asserts x.1 no_assert).says) index
+-- what lines say
+abbrev pub said : List Check → List Expr
+said checks = map (λ x. x.says) checks
+
+-- Some of them are tried, wherever they are judged.
+abbrev pub ChecksTried : (old new : List TermNode) → (s z : Sweep) → (rest left : ℕ) → (big : Bool) → Now → (all others : List Check) → Type 0
+ChecksTried old new s z rest left big n all others =
+    (J : Judging) → LinesTried old new s z rest left big n J.state (said all) (said others) (J.goes all) (J.goes others)
+
+-- the assert lines of some entries of the lines by address, maybe without invariants
+abbrev pub checks_of : Unrolled → (skips : Bool) → List (ℕ × ℕ) → List Check
+checks_of u skips index = filter (λ x. not (skips && x.invariant)) (map (check_at u) index)
+
+-- what is held in the end by the exits of lines, and others behind
+abbrev pub goes_checks : List Check → Situation → List PointExit → Held → Held
+goes_checks checks S tail h = goes S (map frames.FalseCheck checks ++ tail) h
 
 -- what is held in the end where the function is left, by the ensure lines
 abbrev pub goes_out_by : List NoteLine → Situation → List PointExit → Held → Held
-goes_out_by lines S tail h = hand (out_by (false_line S.program.endian lines S.next S.entry)) h
+goes_out_by lines S tail h =
+    hand (plain S.program S.entry (out_by (false_line S.program.endian lines S.next S.entry) (λ n. OfStep (EnsureFails n)) false)) h
 
 -- no line
 abbrev pub no_line : NoteLine

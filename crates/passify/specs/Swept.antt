@@ -1,35 +1,52 @@
 -- What is kept after some points were handled.
-use Rattle.std.specs.Prelude.{false, ℕ, ◌≤◌, ◌+◌, ◌*◌, List, ◌∷◌, length, drop, sum_by, replicate}
-use Rattle.term_spec.specs.Terms.{TermNode, term_gates, term_loads, term_stores, term_joins}
-use Rattle.walk_spec.specs.Unrolled.{UnrolledPoint, UnrolledProgram}
-use Rattle.walk_spec.specs.Sweep.{held}
-use Rattle.term_spec.specs.Passive.{UnderAll, Tells}
-use Rattle.walk_spec.specs.Prices.{variables_of}
-use Rattle.term_spec.specs.WalkQuestions.{AreNamedBelow, term_reading}
+use Rattle.std.specs.Prelude.{ℕ, suc, true, ◌≡◌, ◌≤◌, ◌+◌, ◌*◌, List, length, drop, sum_by}
+use Rattle.bilv_spec.specs.Points.{line_price, bytes_loaded}
+use Rattle.term_spec.specs.Terms.{TermReading, TermNode, ChoiceNode, term_gates, term_loads, term_stores, term_joins}
+use Rattle.term_spec.specs.Passive.{Denotes, Tells}
+use Rattle.frame_spec.specs.FramePoints.{AtEntry}
+use Rattle.frame_spec.specs.FrameWalk.{UnrolledPoint, UnrolledProgram, Held, held, point_at, sweep_on}
+use Rattle.frame_laws.specs.FramePrices.{root_bound, root_lines, variables_of}
+use Rattle.frame_terms.specs.PassiveFrames.{AreNamedBelow, UnderAll, part_reading}
+use Rattle.term_dag.specs.Made.{Grew, InputsFrom}
+use Rattle.term_names.specs.declared.names.Names.{Names}
+use Rattle.term_names.specs.Views.{form_of, names_of}
 use Rattle.question_form.specs.declared.unrolled.Unrolled.{Unrolled}
-use Rattle.question_form.specs.Views.{unrolled_of}
+use Rattle.question_form.specs.FrameViews.{frame_unrolled_of}
 use Rattle.passify.specs.declared.sweep.Sweep.{Sweep}
+use Rattle.passify.specs.Plain.{carried, held_for}
 use Rattle.passify.specs.Sweeps.{AreWell, ShowsAt}
 use Rattle.passify.specs.Handled.{IsSweepOf, point_gates, point_loaded, point_joins, point_nodes}
 
--- one thing, and others that are all the same behind it
-abbrev pub row : {X : Type 0} → (first other : X) → (others : ℕ) → List X
-row first other n = first ∷ replicate n other
-
--- The terms are within what all points may cost and what there is before them, but for what some points may.
+-- The terms are within what all points and roots may cost and what there is before them, but for what some points may.
 pub record LeaveRoom (u : UnrolledProgram) (nodes : List TermNode) (others : List UnrolledPoint) : Type 0 where
-  pub gates : term_gates nodes + sum_by (point_gates u) others ≤ sum_by (point_gates u) u.points
-  pub loads : term_loads nodes + sum_by (point_loaded u) others ≤ sum_by (point_loaded u) u.points
+  pub gates : term_gates nodes + sum_by (point_gates u) others ≤ sum_by line_price (root_lines u) + sum_by (point_gates u) u.points
+  pub loads : term_loads nodes + sum_by (point_loaded u) others ≤ sum_by bytes_loaded (root_lines u) + sum_by (point_loaded u) u.points
   pub stores : term_stores nodes + sum_by (λ q. q.stores) others ≤ sum_by (λ q. q.stores) u.points
   pub joins : term_joins nodes + sum_by point_joins others ≤ sum_by point_joins u.points
-  pub few : length nodes + sum_by (point_nodes u) others ≤ 2 * variables_of u + 48 + sum_by (point_nodes u) u.points
+  pub few : length nodes + sum_by (point_nodes u) others ≤ 2 * variables_of u + 48 + root_bound u + sum_by (point_nodes u) u.points
 
--- The first points are handled: what is kept are terms of the program, with room for the points that are left, and under every reading they are what is held
--- after those points; no segment begins at a head.
+-- Under the reading the terms are what is held, for segments from the entry and from heads.
+pub record ShowsAll (nodes : List TermNode) (s : Sweep) (from : ℕ) (x : TermReading) (h : Held) : Type 0 where
+  pub shows : ShowsAt nodes s from x (held_for AtEntry h)
+  pub stepping : Tells nodes x s.steps.0 h.steps
+
+-- The first points are handled: what is kept are terms of the frame, with room for the points that are left, and under every reading they are what is held
+-- after those points.
 pub record AreSwept (u : Unrolled) (handled : ℕ) (nodes : List TermNode) (s : Sweep) : Type 0 where
   pub well : AreWell nodes s
   pub sweep : IsSweepOf u s
-  pub named : AreNamedBelow (unrolled_of u) 0 nodes
-  pub room : LeaveRoom (unrolled_of u) nodes (drop handled (unrolled_of u).points)
-  pub never : UnderAll (unrolled_of u) (λ r. Tells nodes (term_reading (unrolled_of u) r) s.steps.0 false)
-  pub shows : UnderAll (unrolled_of u) (λ r. ShowsAt nodes s handled (term_reading (unrolled_of u) r) (held (unrolled_of u) r handled))
+  pub named : AreNamedBelow (frame_unrolled_of u) u.heads 0 nodes
+  pub room : LeaveRoom (frame_unrolled_of u) nodes (drop handled (frame_unrolled_of u).points)
+  pub shows : UnderAll (frame_unrolled_of u) (λ r. ShowsAll nodes s handled (part_reading (frame_unrolled_of u) r) (held (frame_unrolled_of u) r handled))
+
+-- A point is handled, and its events are told apart by where its segment begins.
+pub record IsPassed (u : Unrolled) (old new : List TermNode) (s z : Sweep) (place : ℕ) (n : Names) : Type 0 where
+  pub grew : let f = frame_unrolled_of u in let q = point_at f place in
+      Grew old new (point_gates f q) (point_loaded f q) q.stores (point_joins q) (point_nodes f q)
+  pub inputs : InputsFrom old new (λ m. (m ≡ ChoiceNode place) × ((point_at (frame_unrolled_of u) place).draws ≡ true))
+  pub well : AreWell new z
+  pub sweep : IsSweepOf u z
+  pub shows : let f = frame_unrolled_of u in
+      UnderAll f (λ r. (h : Held) → ShowsAll old s (suc place) (part_reading f r) h →
+      (h.met place ≡ true → Denotes (form_of n) old (part_reading f r) (names_of n) (carried (h.carried place))) →
+      ShowsAll new z (suc place) (part_reading f r) (sweep_on f r place h))

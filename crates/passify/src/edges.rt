@@ -1,23 +1,21 @@
 //! Edges as exits that are tried.
 
-ghost use Rattle.std.specs.Prelude.{◌≡◌, ◌≤◌, ◌<◌, ◌+◌, ◌*◌, ◌==◌, IfOk, [], length, map, slice_index_or};
+ghost use Rattle.std.specs.Prelude.{◌≡◌, ◌≤◌, ◌<◌, ◌+◌, ◌*◌, ◌==◌, IfOk, Contains, [], length};
 ghost use Rattle.term_spec.specs.Terms.{AreTyped, HasWidth, term_word};
 ghost use Rattle.term_spec.specs.Passive.{Tells};
-ghost use Rattle.walk_spec.specs.Unrolling.{IsReadable};
-ghost use Rattle.notes_value.specs.NoteViews.{note_line_of};
-ghost use Rattle.term_names.specs.Views.{form_of};
+ghost use Rattle.question_form.specs.declared.unrolled.Aim.TheVariants.{IntoHead};
+ghost use Rattle.question_form.specs.declared.unrolled.Edge.{Edge};
+ghost use Rattle.question_form.specs.Forms.{IsFormed};
 ghost use Rattle.passify.specs.Bits.{Makes, TellsByBoth};
-ghost use Rattle.passify.specs.Edges.{EdgesTried, Follows, IsPlaceOf, TakesEdge, TellsEdge, TellsWay, aim_gates, aim_joins, aim_loads, aim_nodes, edge_word};
+ghost use Rattle.passify.specs.Edges.{CanGo, EdgesTried, Follows, TakesEdge, TellsEdge, TellsWay, aim_gates, aim_joins, aim_loads, aim_nodes, edge_word};
 ghost use Rattle.passify.specs.Exits.{Narrows, Tries};
-ghost use Rattle.passify.specs.Situations.{no_line};
 ghost use Rattle.passify.specs.Sweeps.{AreTermsOf, AreWell, Hands, Steps};
 
 use crate::bits::{both, constant, turned};
-use crate::exits::{judged, split};
+use crate::exits::{asserts, judged, split};
 use crate::sweep::{Sweep, arrive, turn};
 use note_terms::Now;
-use notes_value::NoteLine;
-use question_form::{Aim, Edge};
+use question_form::{Aim, Edge, Unrolled};
 use std::alloc::{AllocError, Global};
 use term_dag::{Dag, Node, Op, Term};
 
@@ -68,28 +66,57 @@ fn way(
     Ok(never)
 }
 
+/// The walk comes to a head where a bit is 1: the head's lines are judged there, and the segment ends.
+fn into_head(
+    unrolled: &Unrolled,
+    dag: &mut Dag,
+    sweep: &mut Sweep,
+    at: u32,
+    bounds: (usize, usize),
+    next: &Now,
+    hit: Term,
+) -> Result<(), AllocError>
+    requires formed { IsFormed unrolled.now }
+    requires well { AreWell dag.old sweep.old }
+    requires goes { CanGo unrolled.now (length sweep.old.met.items) next.now.names.now (IntoHead at bounds) }
+    requires next { AreTermsOf sweep.old.entry dag.old next.now.names.now }
+    requires hit { HasWidth dag.old 1 hit.0 }
+    ensures steps { IfOk result (λ _. Steps dag.old dag.new sweep.old sweep.new (aim_gates unrolled.now next.now.names.now (IntoHead at bounds))
+        (aim_loads unrolled.now (IntoHead at bounds)) 0 0 (aim_nodes unrolled.now next.now.names.now (IntoHead at bounds)) (λ m. ⊥)) }
+    ensures hands { IfOk result (λ _. Hands dag.old dag.new sweep.old sweep.new hit.0 (Follows unrolled.now dag.old sweep.old next.now (IntoHead at bounds))) }
+{
+    let pc = dag.keep(Node::Constant {
+        width: 32,
+        value: u64::from(at),
+    })?;
+    let here = Now {
+        names: next.names,
+        pc,
+    };
+    let index = &unrolled.asserts[bounds.0..bounds.1];
+    asserts(index, false, unrolled, dag, sweep, &here, hit)?;
+    Ok(())
+}
+
 /// The walk goes on by an aim, where a bit is 1.
 pub fn follow(
     alloc: Global,
+    unrolled: &Unrolled,
     dag: &mut Dag,
     sweep: &mut Sweep,
     aim: Aim,
-    lines: &[NoteLine],
     next: &Now,
     hit: Term,
-    big: bool,
 ) -> Result<(), AllocError>
+    requires formed { IsFormed unrolled.now }
     requires well { AreWell dag.old sweep.old }
-    requires place { IsPlaceOf (length sweep.old.met.items) aim }
-    requires reads { (i : _) → i < length lines.now → IsReadable (form_of next.now.names.now) (slice_index_or (map note_line_of lines.now) i no_line).says }
+    requires goes { CanGo unrolled.now (length sweep.old.met.items) next.now.names.now aim }
     requires next { AreTermsOf sweep.old.entry dag.old next.now.names.now }
     requires pc { HasWidth dag.old 32 next.now.pc.0 }
     requires hit { HasWidth dag.old 1 hit.0 }
-    ensures steps { IfOk result (λ _. Steps dag.old dag.new sweep.old sweep.new (aim_gates next.now.names.now (map note_line_of lines.now) aim)
-        (aim_loads (map note_line_of lines.now) aim) 0
-        (aim_joins aim) (aim_nodes next.now.names.now (map note_line_of lines.now) aim) (λ m. ⊥)) }
-    ensures hands { IfOk result (λ _. Hands dag.old dag.new sweep.old sweep.new hit.0
-        (Follows dag.old sweep.old big (map note_line_of lines.now) next.now aim)) }
+    ensures steps { IfOk result (λ _. Steps dag.old dag.new sweep.old sweep.new (aim_gates unrolled.now next.now.names.now aim)
+        (aim_loads unrolled.now aim) 0 (aim_joins aim) (aim_nodes unrolled.now next.now.names.now aim) (λ m. ⊥)) }
+    ensures hands { IfOk result (λ _. Hands dag.old dag.new sweep.old sweep.new hit.0 (Follows unrolled.now dag.old sweep.old next.now aim)) }
 {
     match aim {
         Aim::OnTo(place) => {
@@ -97,11 +124,14 @@ pub fn follow(
             Ok(())
         }
         Aim::Outward => {
-            judged(dag, sweep, lines, next, hit, big)?;
+            judged(dag, sweep, &unrolled.notes.ensured, next, hit, unrolled.big)?;
             Ok(())
         }
-        Aim::IntoHead { .. } => {
-            turn(dag, sweep, hit)?;
+        Aim::IntoHead {
+            at,
+            asserts: bounds,
+        } => {
+            into_head(unrolled, dag, sweep, at, bounds, next, hit)?;
             Ok(())
         }
         Aim::OverLast => {
@@ -146,67 +176,59 @@ fn along(
 /// An edge is tried; what is left.
 pub fn taken(
     alloc: Global,
+    unrolled: &Unrolled,
     dag: &mut Dag,
     sweep: &mut Sweep,
     edge: Edge,
-    lines: &[NoteLine],
     gone: &Gone,
     link: Term,
     rest: Term,
-    big: bool,
 ) -> Result<Term, AllocError>
+    requires formed { IsFormed unrolled.now }
     requires well { AreWell dag.old sweep.old }
-    requires place { IsPlaceOf (length sweep.old.met.items) edge.aim }
-    requires reads { (i : _) → i < length lines.now → IsReadable (form_of gone.now.next.names.now)
-        (slice_index_or (map note_line_of lines.now) i no_line).says }
+    requires goes { CanGo unrolled.now (length sweep.old.met.items) gone.now.next.names.now edge.aim }
     requires next { AreTermsOf sweep.old.entry dag.old gone.now.next.names.now }
     requires pc { HasWidth dag.old 32 gone.now.next.pc.0 }
     requires jumped { HasWidth dag.old 1 gone.now.jumped.0 }
     requires link { HasWidth dag.old 32 link.0 }
     requires rest { HasWidth dag.old 1 rest.0 }
-    ensures steps { IfOk result (λ t. Steps dag.old dag.new sweep.old sweep.new (35 + aim_gates gone.now.next.names.now (map note_line_of lines.now) edge.aim)
-        (aim_loads (map note_line_of lines.now) edge.aim) 0
-        (aim_joins edge.aim) (14 + aim_nodes gone.now.next.names.now (map note_line_of lines.now) edge.aim) (λ m. ⊥)) }
+    ensures steps { IfOk result (λ t. Steps dag.old dag.new sweep.old sweep.new (35 + aim_gates unrolled.now gone.now.next.names.now edge.aim)
+        (aim_loads unrolled.now edge.aim) 0 (aim_joins edge.aim) (14 + aim_nodes unrolled.now gone.now.next.names.now edge.aim) (λ m. ⊥)) }
     ensures bit { IfOk result (λ t. HasWidth dag.new 1 t.0) }
     ensures tries { IfOk result (λ t. Tries dag.old dag.new sweep.old sweep.new rest.0 t.0 (TakesEdge dag.old edge gone.now.jumped.0 gone.now.next.pc.0 link.0)
-        (Follows dag.old sweep.old big (map note_line_of lines.now) gone.now.next edge.aim)) }
+        (Follows unrolled.now dag.old sweep.old gone.now.next edge.aim)) }
     ensures narrows { IfOk result (λ t. Narrows dag.old dag.new rest.0 t.0 (λ x q. Unit)) }
 {
     let bit = along(dag, edge, gone.jumped, gone.next.pc, link)?;
     let parts = split(dag, rest, bit)?;
-    follow(
-        alloc, dag, sweep, edge.aim, lines, &gone.next, parts.on, big,
-    )?;
+    follow(alloc, unrolled, dag, sweep, edge.aim, &gone.next, parts.on)?;
     Ok(parts.off)
 }
 
 /// The edges of a point are tried; what is left.
 pub fn edges(
     alloc: Global,
+    unrolled: &Unrolled,
     dag: &mut Dag,
     sweep: &mut Sweep,
     list: &[Edge],
-    lines: &[NoteLine],
     gone: &Gone,
     link: Term,
     rest: Term,
-    big: bool,
 ) -> Result<Term, AllocError>
+    requires formed { IsFormed unrolled.now }
     requires well { AreWell dag.old sweep.old }
-    requires places { (i : _) (d : _) → i < length list.now → IsPlaceOf (length sweep.old.met.items) (slice_index_or list.now i d).aim }
-    requires reads { (i : _) → i < length lines.now → IsReadable (form_of gone.now.next.names.now)
-        (slice_index_or (map note_line_of lines.now) i no_line).says }
+    requires goes { (e : Edge) → Contains list.now e → CanGo unrolled.now (length sweep.old.met.items) gone.now.next.names.now e.aim }
     requires next { AreTermsOf sweep.old.entry dag.old gone.now.next.names.now }
     requires pc { HasWidth dag.old 32 gone.now.next.pc.0 }
     requires jumped { HasWidth dag.old 1 gone.now.jumped.0 }
     requires link { HasWidth dag.old 32 link.0 }
     requires rest { HasWidth dag.old 1 rest.0 }
-    ensures { IfOk result (λ t. EdgesTried dag.old dag.new sweep.old sweep.new rest.0 t.0 big
-        (map note_line_of lines.now) gone.now.next gone.now.jumped.0 link.0 list.now []) }
+    ensures { IfOk result (λ t. EdgesTried unrolled.now dag.old dag.new sweep.old sweep.new rest.0 t.0 gone.now.next gone.now.jumped.0 link.0 list.now []) }
 {
     let mut left = rest;
     for i in 0..list.len() {
-        left = taken(alloc, dag, sweep, list[i], lines, gone, link, left, big)?;
+        left = taken(alloc, unrolled, dag, sweep, list[i], gone, link, left)?;
     }
     Ok(left)
 }

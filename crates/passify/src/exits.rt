@@ -1,24 +1,26 @@
 //! The exits of a point, tried one by one.
 
-ghost use Rattle.std.specs.Prelude.{◌≡◌, ◌≤◌, ◌<◌, ◌+◌, ◌*◌, not, IfOk, [], length, map, slice_index_or};
+ghost use Rattle.std.specs.Prelude.{◌≡◌, ◌≤◌, ◌<◌, ◌+◌, ◌*◌, ◌&&◌, not, IfOk, [], length, map, slice_index_or};
 ghost use Rattle.term_spec.specs.Terms.{HasWidth};
 ghost use Rattle.bilv_spec.specs.Points.{line_price, bytes_loaded};
 ghost use Rattle.term_spec.specs.Passive.{Tells};
 ghost use Rattle.walk_spec.specs.Prices.{line_size};
 ghost use Rattle.walk_spec.specs.Unrolling.{IsReadable};
 ghost use Rattle.notes_value.specs.Views.{expr_of};
-ghost use Rattle.notes_value.specs.NoteViews.{assert_of, note_line_of};
-ghost use Rattle.question_form.specs.Views.{no_assert};
+ghost use Rattle.notes_value.specs.NoteViews.{note_line_of};
+ghost use Rattle.question_form.specs.FrameViews.{is_invariant as is_invariant_of};
 ghost use Rattle.term_names.specs.Views.{form_of};
-ghost use Rattle.passify.specs.Situations.{LinesTried, no_line, assert_lines, goes_asserts, goes_out_by};
+ghost use Rattle.passify.specs.Situations.{ChecksTried, LinesTried, no_line, checks_of, goes_out_by, said};
 ghost use Rattle.passify.specs.Bits.{IsSplit};
+ghost use Rattle.passify.specs.Edges.{AreRead};
 ghost use Rattle.passify.specs.Exits.{LineFails, Narrows, Tries};
 ghost use Rattle.passify.specs.Sweeps.{AreTermsOf, AreWell, ComesTo, Hands, HasEvent, Steps, bits_of, terms_of};
 
 use crate::bits::{both, turned};
 use crate::sweep::{Sweep, arrive, fail, turn};
 use note_terms::{Now, line};
-use notes_value::{Assert, Expr, NoteLine};
+use notes_value::{Expr, NoteLine};
+use question_form::Unrolled;
 use std::alloc::{AllocError, Global};
 use term_dag::{Dag, Term};
 
@@ -91,31 +93,49 @@ pub fn denied(
     Ok(parts.on)
 }
 
-/// The exits by assert lines are tried, those of some entries of the lines by address; what is left.
+/// Whether a line is an invariant.
+pub fn is_invariant(unrolled: &Unrolled, line: u32) -> bool
+    ensures { result ≡ is_invariant_of unrolled.now line }
+{
+    unrolled.invariants.contains(&line)
+}
+
+/// Whether a line is judged where invariants are maybe not.
+fn is_judged(unrolled: &Unrolled, skips: bool, line: u32) -> bool
+    ensures { result ≡ not (skips && is_invariant_of unrolled.now line) }
+{
+    if skips {
+        return !is_invariant(unrolled, line);
+    }
+    true
+}
+
+/// The assert lines of some entries of the lines by address are tried, maybe without the invariants; what is left.
 pub fn asserts(
+    index: &[(u32, usize)],
+    skips: bool,
+    unrolled: &Unrolled,
     dag: &mut Dag,
     sweep: &mut Sweep,
-    lines: &[Assert],
-    index: &[(u32, usize)],
     now: &Now,
     rest: Term,
-    big: bool,
 ) -> Result<Term, AllocError>
     requires well { AreWell dag.old sweep.old }
-    requires places { (i : _) → i < length index.now → (slice_index_or index.now i (0, 0)).1 < length lines.now }
-    requires reads { (i : _) → i < length index.now → IsReadable (form_of now.now.names.now)
-        (slice_index_or (map assert_of lines.now) (slice_index_or index.now i (0, 0)).1 no_assert).says }
+    requires places { (i : _) → i < length index.now → (slice_index_or index.now i (0, 0)).1 < length unrolled.now.notes.now.asserts.items }
+    requires reads { AreRead now.now.names.now (said (checks_of unrolled.now skips index.now)) }
     requires now { AreTermsOf sweep.old.entry dag.old now.now.names.now }
     requires pc { HasWidth dag.old 32 now.now.pc.0 }
     requires rest { HasWidth dag.old 1 rest.0 }
-    ensures { IfOk result (λ t. LinesTried dag.old dag.new sweep.old sweep.new rest.0 t.0 big now.now
-        (λ S. S.now) (assert_lines (map assert_of lines.now) index.now) []
-        (goes_asserts (map assert_of lines.now) index.now) (goes_asserts (map assert_of lines.now) [])) }
+    ensures { IfOk result (λ t. ChecksTried dag.old dag.new sweep.old sweep.new rest.0 t.0 unrolled.now.big now.now
+        (checks_of unrolled.now skips index.now) []) }
 {
     let mut left = rest;
     for i in 0..index.len() {
-        let place = index[i].1;
-        left = denied(dag, sweep, &lines[place].says, now, left, big)?;
+        let assert = &unrolled.notes.asserts[index[i].1];
+        if !is_judged(unrolled, skips, assert.line) {
+            continue;
+        }
+        left = denied(dag, sweep, &assert.says, now, left, unrolled.big)?;
     }
     Ok(left)
 }

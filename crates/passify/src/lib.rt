@@ -1,5 +1,5 @@
-//! Passive programs (passive form): for each point of an unrolled program a term that says whether the walk of a reading meets it, and terms that say how the
-//! walk ends.
+//! Passive programs (passive form): for each point of an unrolled program or frame a term that says whether the walk of a reading meets it, and terms that say
+//! how walks end.
 #![tactic(auto)]
 
 mod bits;
@@ -7,9 +7,10 @@ mod edges;
 mod exits;
 mod leaving;
 mod point;
+mod roots;
 mod sweep;
 mod sweeping;
 mod writing;
 
 pub use point::edges_at;
-pub use sweeping::{ToLast, passive, passive_to_last};
+pub use sweeping::{ToLast, passive, passive_of_frame, passive_to_last};

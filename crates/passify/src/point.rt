@@ -1,17 +1,17 @@
 //! Points, handled in their order.
 
-ghost use Rattle.std.specs.Prelude.{ℕ, ◌≡◌, ◌<◌, ◌-◌, true, IfOk, length, map, slice_index, slice_index_or};
+ghost use Rattle.std.specs.Prelude.{ℕ, ◌≡◌, ◌<◌, ◌-◌, true, IfOk, Contains, length, slice_index};
 ghost use Rattle.term_spec.specs.Terms.{HasWidth};
 ghost use Rattle.walk_spec.specs.Unrolled.{is_register_of};
-ghost use Rattle.walk_spec.specs.Unrolling.{IsReadable, IsWalkable};
-ghost use Rattle.notes_value.specs.NoteViews.{note_line_of};
-ghost use Rattle.question_form.specs.Views.{unrolled_of};
-ghost use Rattle.question_form.specs.Forms.{IsFormed};
+ghost use Rattle.frame_terms.specs.PassiveFrames.{IsWalkable};
+ghost use Rattle.question_form.specs.FrameViews.{frame_unrolled_of};
+ghost use Rattle.question_form.specs.Forms.{AreRootsFormed, IsFormed};
+ghost use Rattle.question_form.specs.declared.unrolled.Deed.TheVariants.{Row};
+ghost use Rattle.question_form.specs.declared.unrolled.Edge.{Edge};
 ghost use Rattle.term_names.specs.Views.{form_of, names_of};
-ghost use Rattle.passify.specs.Edges.{IsPlaceOf};
-ghost use Rattle.passify.specs.Situations.{no_line};
+ghost use Rattle.passify.specs.Edges.{CanGo};
 ghost use Rattle.passify.specs.Sweeps.{AreTermsOf, AreWell};
-ghost use Rattle.passify.specs.Rows.{IsLeaving, IsRowTried, own_edges};
+ghost use Rattle.passify.specs.Rows.{IsLeaving, IsRowTried, is_of_head, own_edges, own_point};
 ghost use Rattle.passify.specs.Handled.{IsHandled, IsSweepOf};
 
 use crate::edges::{Gone, edges};
@@ -21,8 +21,7 @@ use crate::sweep::{Sweep, fail};
 use crate::writing::writes_kept;
 use bil_terms::run_list;
 use note_terms::Now;
-use notes_value::NoteLine;
-use question_form::{Edge, Unrolled};
+use question_form::{Deed, Edge, Unrolled};
 use std::alloc::{AllocError, Global};
 use term_dag::{Dag, Node, Term};
 use term_names::Names;
@@ -39,6 +38,16 @@ pub fn edges_at<'a>(unrolled: &'a Unrolled, place: usize) -> &'a [Edge]
         return &unrolled.edges[from..unrolled.points[next].edges];
     }
     &unrolled.edges[from..]
+}
+
+/// Whether the segment of the point at a place begins at a head.
+pub fn begins_at_head(unrolled: &Unrolled, place: u32) -> bool
+    requires roots { AreRootsFormed unrolled.now }
+    requires place { place < length unrolled.now.points.items }
+    ensures { result ≡ is_of_head unrolled.now place }
+{
+    let root = unrolled.points[place as usize].root as usize;
+    unrolled.roots[root].head.is_some()
 }
 
 /// The term of the link register at entry.
@@ -60,40 +69,37 @@ struct Leaves {
 /// The exits of a row are tried; what is left.
 fn leave(
     alloc: Global,
+    unrolled: &Unrolled,
     dag: &mut Dag,
     sweep: &mut Sweep,
     list: &[Edge],
-    lines: &[NoteLine],
     leaves: &Leaves,
     gone: &Gone,
     link: Term,
     rest: Term,
-    big: bool,
 ) -> Result<Term, AllocError>
+    requires formed { IsFormed unrolled.now }
     requires well { AreWell dag.old sweep.old }
     requires raised { HasWidth dag.old 1 leaves.now.raised.0 }
     requires wrote { HasWidth dag.old 1 leaves.now.wrote.0 }
     requires odd { HasWidth dag.old 1 leaves.now.odd.0 }
-    requires places { (i : _) (d : _) → i < length list.now → IsPlaceOf (length sweep.old.met.items) (slice_index_or list.now i d).aim }
-    requires reads { (i : _) → i < length lines.now → IsReadable (form_of gone.now.next.names.now)
-        (slice_index_or (map note_line_of lines.now) i no_line).says }
+    requires goes { (e : Edge) → Contains list.now e → CanGo unrolled.now (length sweep.old.met.items) gone.now.next.names.now e.aim }
     requires next { AreTermsOf sweep.old.entry dag.old gone.now.next.names.now }
     requires pc { HasWidth dag.old 32 gone.now.next.pc.0 }
     requires jumped { HasWidth dag.old 1 gone.now.jumped.0 }
     requires link { HasWidth dag.old 32 link.0 }
     requires rest { HasWidth dag.old 1 rest.0 }
-    ensures { IfOk result (λ t. IsLeaving dag.old dag.new sweep.old sweep.new rest.0 t.0 big
-        (map note_line_of lines.now) leaves.now.raised.0 leaves.now.wrote.0 leaves.now.odd.0 gone.now.next gone.now.jumped.0
-        link.0 list.now) }
+    ensures { IfOk result (λ t. IsLeaving unrolled.now dag.old dag.new sweep.old sweep.new rest.0 t.0 leaves.now.raised.0 leaves.now.wrote.0 leaves.now.odd.0
+        gone.now.next gone.now.jumped.0 link.0 list.now) }
 {
     let quiet = event(dag, sweep, rest, leaves.raised)?;
     let kept = event(dag, sweep, quiet, leaves.wrote)?;
     let aligned = event(dag, sweep, kept, leaves.odd)?;
-    let left = edges(alloc, dag, sweep, list, lines, gone, link, aligned, big)?;
+    let left = edges(alloc, unrolled, dag, sweep, list, gone, link, aligned)?;
     Ok(left)
 }
 
-/// What stands at a place behind its assert lines is tried; what is left.
+/// What a row does is tried; what is left.
 fn row(
     alloc: Global,
     unrolled: &Unrolled,
@@ -103,9 +109,11 @@ fn row(
     names: &Names,
     rest: Term,
 ) -> Result<Term, AllocError>
-    requires walkable { IsWalkable (unrolled_of unrolled.now) }
+    requires walkable { IsWalkable (frame_unrolled_of unrolled.now) }
     requires formed { IsFormed unrolled.now }
+    requires roots { AreRootsFormed unrolled.now }
     requires place { place < length unrolled.now.points.items }
+    requires deed { (own_point unrolled.now place).deed ≡ Row }
     requires well { AreWell dag.old sweep.old }
     requires sweep { IsSweepOf unrolled.now sweep.old }
     requires names { AreTermsOf sweep.old.entry dag.old names.now }
@@ -134,23 +142,14 @@ fn row(
     };
     let link = entry_link(&sweep.entry, unrolled.link);
     let list = edges_at(unrolled, place as usize);
-    let lines = &unrolled.notes.ensured;
     let last = leave(
-        alloc,
-        dag,
-        sweep,
-        list,
-        lines,
-        &leaves,
-        &gone,
-        link,
-        rest,
-        unrolled.big,
+        alloc, unrolled, dag, sweep, list, &leaves, &gone, link, rest,
     )?;
     Ok(last)
 }
 
-/// The point of a place is handled, to which terms carry a state where it is met: its list, the exits that it may take, and where those lead.
+/// The point of a place is handled, to which terms carry a state where it is met: its list, the exits that it may take, and where those lead. An event counts as
+/// one of the entry's segment. An arrival has no exits but those by the lines of its head.
 pub fn handle(
     alloc: Global,
     unrolled: &Unrolled,
@@ -159,25 +158,32 @@ pub fn handle(
     place: u32,
     names: &Names,
 ) -> Result<(), AllocError>
-    requires walkable { IsWalkable (unrolled_of unrolled.now) }
+    requires walkable { IsWalkable (frame_unrolled_of unrolled.now) }
     requires formed { IsFormed unrolled.now }
+    requires roots { AreRootsFormed unrolled.now }
     requires place { place < length unrolled.now.points.items }
     requires well { AreWell dag.old sweep.old }
     requires sweep { IsSweepOf unrolled.now sweep.old }
     requires names { AreTermsOf sweep.old.entry dag.old names.now }
     ensures { IfOk result (λ _. IsHandled unrolled.now dag.old dag.new sweep.old sweep.new place names.now) }
 {
-    let code = &unrolled.codes[unrolled.points[place as usize].code as usize];
+    let point = unrolled.points[place as usize];
+    let skips = begins_at_head(unrolled, place);
+    let code = &unrolled.codes[point.code as usize];
     let index = &unrolled.asserts[code.asserts.0..code.asserts.1];
-    let lines = &unrolled.notes.asserts;
     let pc = dag.keep(Node::Constant {
         width: 32,
         value: u64::from(code.at),
     })?;
     let now = Now { names, pc };
     let met = sweep.met[place as usize];
-    let rest = asserts(dag, sweep, lines, index, &now, met, unrolled.big)?;
-    let left = row(alloc, unrolled, dag, sweep, place, names, rest)?;
-    fail(dag, sweep, left)?;
-    Ok(())
+    let rest = asserts(index, skips, unrolled, dag, sweep, &now, met)?;
+    match point.deed {
+        Deed::Arrival => Ok(()),
+        Deed::Row => {
+            let left = row(alloc, unrolled, dag, sweep, place, names, rest)?;
+            fail(dag, sweep, left)?;
+            Ok(())
+        }
+    }
 }

@@ -1,26 +1,20 @@
-use Rattle.std.proofs.Common.{◌≡◌, ℕ, ◌<◌, List, Some, None, refl, subst, sym, ap, ◌∙◌, length, Contains}
-use Rattle.std.specs.Prelude.{map, slice_index_or}
+use Rattle.std.proofs.Common.{◌≡◌, ℕ, List, Some, None, refl, subst, sym, ap, ◌∙◌, length, Contains}
 use Rattle.bil_ast.specs.declared.statements.Stmt.{Stmt}
 use Rattle.bil_ast.specs.Views.{statements}
 use Rattle.bil_terms.specs.declared.stored.Stored.{Stored}
 use Rattle.bil_terms.specs.Gathered.{IsStore}
 use Rattle.term_spec.specs.Terms.{HasWidth}
-use Rattle.walk_spec.specs.Unrolled.{Executes}
-use Rattle.walk_spec.specs.Unrolling.{IsReadable}
-use Rattle.notes_value.specs.declared.notes.NoteLine.{NoteLine}
-use Rattle.notes_value.specs.NoteViews.{note_line_of}
+use Rattle.frame_spec.specs.FrameWalk.{Executes}
 use Rattle.question_form.specs.declared.unrolled.Code.{Code}
 use Rattle.question_form.specs.declared.unrolled.Edge.{Edge}
-use Rattle.question_form.specs.Views.{action_of, unrolled_of}
-use Rattle.term_names.specs.Views.{form_of}
-use Rattle.passify.specs.Edges.{IsPlaceOf}
-use Rattle.passify.specs.Situations.{no_line}
-use Rattle.passify.specs.Rows.{own_code, placed}
+use Rattle.question_form.specs.FrameViews.{frame_unrolled_of}
+use Rattle.passify.specs.Edges.{CanGo}
+use Rattle.passify.specs.Rows.{own_code, framed}
 use Rattle.passify.proofs.Joined.{form_on}
 use Rattle.passify.proofs.Kept.{names_keep, well_keeps}
 use Rattle.passify.proofs.Counted.{none_paid}
-use Rattle.passify.proofs.Standing.{own_is, led_for, point_terms, edges_placed, ensures_read, link_for, link_width}
-use Rattle.passify.proofs.Pointed.{gone_at, none_priced, row_none, row_from}
+use Rattle.passify.proofs.Standing.{own_is, led_for, point_terms, edges_go, link_for, link_width}
+use Rattle.passify.proofs.Pointed.{gone_at, none_priced, row_does, row_none, row_from}
 use Rattle.passify.proofs.point.row.Goals as goal
 
 pub run_list-requires-clause-runs : goal.run_list-requires-clause-runs
@@ -28,9 +22,9 @@ run_list-requires-clause-runs c =
     let u = c.args.unrolled.now in
     let own = own_is u c.args.place c.index.result.now c.index-code.result.now c.requires.formed c.requires.place c.index.ensures c.index-code.ensures in
     let code : (own_code u c.args.place).list ≡ Some c.in-Some.list = ap (λ (k : Code). k.list) (sym own) ∙ c.in-Some.is in
-    led_for (unrolled_of u) c.args.sweep.now.entry c.args.names.now c.requires.sweep.form c.requires.names.same (placed u c.args.place)
+    led_for (frame_unrolled_of u) c.args.sweep.now.entry c.args.names.now c.requires.sweep.form c.requires.names.same (framed u c.args.place)
     (statements c.deref.result.now)
-    (ap action_of code ∙ ap (λ (z : List Stmt). Executes (statements z)) (sym c.deref.ensures.value))
+    (row_does u c.args.place c.in-Some.list c.requires.deed code ∙ ap (λ (z : List Stmt). Executes (statements z)) (sym c.deref.ensures.value))
     (point_terms u c.args.place c.requires.walkable c.requires.formed c.requires.place)
 
 pub writes_kept-requires-clause-stores : goal.writes_kept-requires-clause-stores
@@ -46,23 +40,15 @@ leave-requires-clause-well c =
     let e = c.in_ok-odd.ensures in
     well_keeps e.grew s e.typed (well_keeps d.grew s d.typed (well_keeps b.grew s b.typed (well_keeps a.grew s a.typed c.requires.well)))
 
-pub leave-requires-clause-places : goal.leave-requires-clause-places
-leave-requires-clause-places c =
+pub leave-requires-clause-goes : goal.leave-requires-clause-goes
+leave-requires-clause-goes c =
     let u = c.args.unrolled.now in
+    let n = c.in_ok-left.left.names in
     let own = own_is u c.args.place c.index.result.now c.index-code.result.now c.requires.formed c.requires.place c.index.ensures c.index-code.ensures in
     let code : (own_code u c.args.place).list ≡ Some c.in-Some.list = ap (λ (k : Code). k.list) (sym own) ∙ c.in-Some.is in
-    subst (λ (z : List Edge). (i : ℕ) (x : Edge) → i < length z →
-    IsPlaceOf (length c.args.sweep.now.met.items) (slice_index_or z i x).aim) (sym c.edges_at-list.ensures)
-    (edges_placed u c.args.place c.requires.walkable c.requires.formed c.requires.place c.in-Some.list c.args.sweep.now code c.requires.sweep)
-
-pub leave-requires-clause-reads : goal.leave-requires-clause-reads
-leave-requires-clause-reads c =
-    let n = c.in_ok-left.left.names in
-    subst (λ (z : List NoteLine). (i : ℕ) → i < length z → IsReadable (form_of n) (slice_index_or (map note_line_of z) i no_line).says)
-    (sym c.deref-3.ensures.value)
-    (ensures_read c.args.unrolled.now c.args.sweep.now n c.requires.walkable c.requires.sweep
-    (form_on c.args.sweep.now.entry c.args.names.now n c.requires.names.same
-    c.in_ok-left.ensures.form))
+    subst (λ (z : List Edge). (e : Edge) → Contains z e → CanGo u (length c.args.sweep.now.met.items) n e.aim) (sym c.edges_at-list.ensures)
+    (edges_go u c.args.place c.requires.walkable c.requires.formed c.requires.place c.requires.deed c.in-Some.list code c.args.sweep.now n c.requires.roots
+    c.requires.sweep (form_on c.args.sweep.now.entry c.args.names.now n c.requires.names.same c.in_ok-left.ensures.form))
 
 pub leave-requires-clause-next : goal.leave-requires-clause-next
 leave-requires-clause-next c =
@@ -92,7 +78,8 @@ returns-in_default c =
     let own = own_is u c.args.place c.index.result.now c.index-code.result.now c.requires.formed c.requires.place c.index.ensures c.index-code.ensures in
     let none : (own_code u c.args.place).list ≡ None = ap (λ (k : Code). k.list) (sym own) ∙ c.in_default.is in
     row_none u c.args.place c.args.names.now c.args.dag.now c.args.sweep.now c.args.rest.0 c.requires.well c.requires.rest none
-    (none_paid u c.args.place (none_priced u c.args.place none (point_terms u c.args.place c.requires.walkable c.requires.formed c.requires.place)))
+    (none_paid u c.args.place (none_priced u c.args.place c.requires.deed none
+    (point_terms u c.args.place c.requires.walkable c.requires.formed c.requires.place)))
 
 pub returns : goal.returns
 returns c =
@@ -104,7 +91,7 @@ returns c =
     c.leave.new.sweep c.args.rest.0
     c.in_ok-last.last.0 c.in-Some.list c.deref.result.now c.in_ok-left.left c.deref-2.result.now c.in_ok-wrote.wrote.0 c.in_ok-odd.odd.0 _
     c.in_ok-next.next.0
-    c.entry_link-link.result.0 (map note_line_of c.deref-3.result.now) c.edges_at-list.result.now
+    c.entry_link-link.result.0 c.edges_at-list.result.now
     (record {
       walkable = c.requires.walkable;
       formed = c.requires.formed;
@@ -113,10 +100,11 @@ returns c =
       well = c.requires.well;
       names = c.requires.names;
       rest_bit = c.requires.rest;
+      roots = c.requires.roots;
+      row = c.requires.deed;
       code = code;
       items_are = c.deref.ensures.value;
       stored_are = c.deref-2.ensures.value;
-      lines_are = ap (λ (z : List NoteLine). map note_line_of z) c.deref-3.ensures.value;
       edges_are = c.edges_at-list.ensures;
       left = c.in_ok-left.ensures;
       kept = c.in_ok-wrote.ensures;

@@ -1,36 +1,21 @@
-use Rattle.std.proofs.Common.{◌≡◌, ◌+◌, ◌-◌, ◌<◌, ℕ, suc, refl, length, subst, arith}
+use Rattle.std.proofs.Common.{sym, subst, ◌-◌, ℕ}
 use Rattle.question_form.specs.Views.{unrolled_of}
 use Rattle.passify.specs.Lasts.{AreCarriedTo}
-use Rattle.passify.proofs.Visited.{points_count, states_on, swept_passive}
+use Rattle.passify.proofs.Headless.{carried_of_frame, frame_walkable, is_headed, passive_of_frame}
+use Rattle.passify.proofs.Standing.{points_length}
 use Rattle.passify.proofs.sweeping.passive_to_last.Goals as goal
 
-pub loop-place-init : goal.loop-place-init
-loop-place-init c = record { swept = c.in_ok-sweep.ensures; states = λ i l. absurd (omega (arith, l)); last = λ i e. absurd (omega arith) }
+pub swept-requires-clause-walkable : goal.swept-requires-clause-walkable
+swept-requires-clause-walkable c = frame_walkable c.args.unrolled.now c.requires.headless c.requires.walkable
 
-pub loop-place-preserved : goal.loop-place-preserved
-loop-place-preserved c = record {
-  swept = c.in_ok-last.ensures.swept;
-  states = λ i l.
-      let within : i < c.loop-place.place + 1 = omega (arith, l) in
-      states_on (unrolled_of c.args.unrolled.now) c.loop-place.dag c.visit.new.dag c.loop-place.place c.in_ok-last.last c.loop-place.invariant.states
-      c.in_ok-last.ensures.kept c.in_ok-last.ensures.carried i within;
-  last = λ i e.
-      let same : c.loop-place.place ≡ i = omega arith in
-      subst (λ (n : ℕ). AreCarriedTo (unrolled_of c.args.unrolled.now) n c.visit.new.dag c.in_ok-last.last) same c.in_ok-last.ensures.carried;
-}
+pub swept-requires-clause-headed : goal.swept-requires-clause-headed
+swept-requires-clause-headed c = is_headed c.args.unrolled.now c.requires.headless
 
 pub returns-clause-passive : goal.returns-clause-passive
-returns-clause-passive c =
-    swept_passive c.args.unrolled.now c.loop-place.place _ c.loop-place.sweep refl refl refl refl refl
-    (omega (arith, c.loop-place-test.false, c.len-place-end.ensures, c.args.unrolled.now.points.ok.0))
-    (omega (arith, c.loop-place.auto.place-end, c.len-place-end.ensures, c.args.unrolled.now.points.ok.0)) c.loop-place.invariant.swept
-    c.loop-place.invariant.states
+returns-clause-passive c = passive_of_frame c.args.unrolled.now c.requires.headless c.in_ok-all.all.passive c.in_ok-all.ensures.passive
 
 pub returns-clause-last : goal.returns-clause-last
 returns-clause-last c =
-    let u = c.args.unrolled.now in
-    let count = points_count u u.points.items in
-    let some = c.requires.walkable.some in
-    let last : suc (length (unrolled_of u).points - 1) ≡ c.loop-place.place =
-    omega (arith, c.loop-place-test.false, c.loop-place.auto.place-end, c.len-place-end.ensures, u.points.ok.0) in
-    c.loop-place.invariant.last (length (unrolled_of u).points - 1) last
+    subst (λ (n : ℕ). AreCarriedTo (unrolled_of c.args.unrolled.now) (n - 1) c.in_ok-all.all.passive.dag c.in_ok-all.all.last)
+    (sym (points_length c.args.unrolled.now c.args.unrolled.now.points.items))
+    (carried_of_frame c.args.unrolled.now c.requires.headless _ c.in_ok-all.all.passive.dag c.in_ok-all.all.last c.in_ok-all.ensures.last)

@@ -1,10 +1,9 @@
 use Rattle.std.proofs.Common.{Option, Some, None, ◌+◌, ◌∙◌, sym, subst, arith}
 use Rattle.std.specs.Vec.{with_item}
 use Rattle.term_names.specs.declared.names.Names.{Names}
-use Rattle.passify.specs.Handled.{IsHandled}
 use Rattle.passify.specs.Sweeps.{AreWell}
-use Rattle.passify.specs.Swept.{AreSwept}
-use Rattle.question_form.specs.Views.{unrolled_of}
+use Rattle.passify.specs.Swept.{AreSwept, IsPassed}
+use Rattle.question_form.specs.FrameViews.{frame_unrolled_of}
 use Rattle.passify.proofs.Visited.{carried_there, carries_on, forget_well, handled_by, met_within, none_met, passed_by, place, stays_carried, taken_was, zero_met}
 use Rattle.passify.proofs.sweeping.visit.Goals as goal
 
@@ -36,14 +35,14 @@ returns-in-Some-eq0-clause-swept c =
     (zero_met c.args.unrolled.now c.args.place c.args.dag.now c.args.sweep.now c.requires.swept c.requires.place c.index-met.result.now c.index-met.ensures
     (λ x. c.in-Some-eq0.ensures.some x ∙ c.in-Some-eq0.field-0-test)))
 
-pub handle-requires-clause-well : goal.handle-requires-clause-well
-handle-requires-clause-well c =
+pub pass-requires-clause-well : goal.pass-requires-clause-well
+pass-requires-clause-well c =
     subst (λ (o : Option Names). AreWell c.args.dag.now (record c.args.sweep.now { states = with_item c.args.sweep.now.states c.args.place o }))
     (sym c.replace-state.ensures.after)
     (forget_well c.args.dag.now c.args.sweep.now c.args.place c.requires.swept.well)
 
-pub handle-requires-clause-names : goal.handle-requires-clause-names
-handle-requires-clause-names c =
+pub pass-requires-clause-names : goal.pass-requires-clause-names
+pass-requires-clause-names c =
     c.requires.swept.well.states c.args.place c.in-Some.names
     (taken_was c.args.unrolled.now c.args.place c.args.dag.now c.args.sweep.now c.requires.swept c.requires.place c.index_mut.result.now c.replace-state.result
     (Some c.in-Some.names) c.index_mut.ensures.value
@@ -60,16 +59,16 @@ returns-in-None-clause-swept c =
     c.index_mut.ensures.value c.replace-state.ensures.value
     c.in-None.is)))
 
-pub returns-in_ok-handle-in-Some-clause-swept : goal.returns-in_ok-handle-in-Some-clause-swept
-returns-in_ok-handle-in-Some-clause-swept c =
-    handled_by c.args.unrolled.now c.args.place c.args.dag.now c.args.sweep.now c.requires.swept c.requires.place c.handle.new.dag c.handle.new.sweep
+pub returns-in_ok-pass-in-Some-clause-swept : goal.returns-in_ok-pass-in-Some-clause-swept
+returns-in_ok-pass-in-Some-clause-swept c =
+    handled_by c.args.unrolled.now c.args.place c.args.dag.now c.args.sweep.now c.requires.swept c.requires.place c.pass.new.dag c.pass.new.sweep
     c.in-Some.names
     (taken_was c.args.unrolled.now c.args.place c.args.dag.now c.args.sweep.now c.requires.swept c.requires.place c.index_mut.result.now c.replace-state.result
     (Some c.in-Some.names) c.index_mut.ensures.value
     c.replace-state.ensures.value c.in-Some.is)
-    (subst (λ (o : Option Names). IsHandled c.args.unrolled.now c.args.dag.now c.handle.new.dag
-    (record c.args.sweep.now { states = with_item c.args.sweep.now.states c.args.place o }) c.handle.new.sweep c.args.place c.in-Some.names)
-    c.replace-state.ensures.after c.in_ok-handle-in-Some.ensures)
+    (subst (λ (o : Option Names). IsPassed c.args.unrolled.now c.args.dag.now c.pass.new.dag
+    (record c.args.sweep.now { states = with_item c.args.sweep.now.states c.args.place o }) c.pass.new.sweep c.args.place c.in-Some.names)
+    c.replace-state.ensures.after c.in_ok-pass-in-Some.ensures)
 
 pub returns-in-None-clause-carried : goal.returns-in-None-clause-carried
 returns-in-None-clause-carried c =
@@ -86,14 +85,17 @@ returns-in-Some-eq0-clause-carried c =
     (Some c.in-Some.names) c.index_mut.ensures.value
     c.replace-state.ensures.value c.in-Some.is)
 
-pub returns-in_ok-handle-in-Some-clause-carried : goal.returns-in_ok-handle-in-Some-clause-carried
-returns-in_ok-handle-in-Some-clause-carried c =
-    carries_on (unrolled_of c.args.unrolled.now) c.args.place c.args.dag.now c.handle.new.dag c.in-Some.names c.in_ok-handle-in-Some.ensures.steps.grew
+pub returns-in_ok-pass-in-Some-clause-carried : goal.returns-in_ok-pass-in-Some-clause-carried
+returns-in_ok-pass-in-Some-clause-carried c =
+    carries_on (frame_unrolled_of c.args.unrolled.now) c.args.place c.args.dag.now c.pass.new.dag c.in-Some.names c.in_ok-pass-in-Some.ensures.grew
     (carried_there c.args.unrolled.now c.args.place c.args.dag.now c.args.sweep.now c.requires.swept c.requires.place c.in-Some.names
     (taken_was c.args.unrolled.now c.args.place c.args.dag.now c.args.sweep.now c.requires.swept c.requires.place c.index_mut.result.now c.replace-state.result
     (Some c.in-Some.names) c.index_mut.ensures.value
     c.replace-state.ensures.value c.in-Some.is))
 
-pub returns-in_ok-handle-in-Some-clause-kept : goal.returns-in_ok-handle-in-Some-clause-kept
-returns-in_ok-handle-in-Some-clause-kept c i names h =
-    stays_carried (unrolled_of c.args.unrolled.now) i c.args.dag.now c.handle.new.dag names c.in_ok-handle-in-Some.ensures.steps.grew h
+pub returns-in_ok-pass-in-Some-clause-kept : goal.returns-in_ok-pass-in-Some-clause-kept
+returns-in_ok-pass-in-Some-clause-kept c i names h =
+    stays_carried (frame_unrolled_of c.args.unrolled.now) i c.args.dag.now c.pass.new.dag names c.in_ok-pass-in-Some.ensures.grew h
+
+pub pass-requires-clause-sweep : goal.pass-requires-clause-sweep
+pass-requires-clause-sweep c = record { form = c.requires.swept.sweep.form; at = c.requires.swept.sweep.at; places = c.requires.swept.sweep.places }

@@ -1,6 +1,0 @@
-use Rattle.passify.proofs.Begun.{row_more}
-use Rattle.passify.proofs.sweeping.bits_at_entry.Goals as goal
-
-pub loop-preserved : goal.loop-preserved
-loop-preserved c = row_more c.args.yes c.args.never c.loop.bits.items c.push-in-loop.new.self.items c.loop.counter c.loop.auto.counter
-    c.in_ok-push-2.ensures.items c.loop.invariant
