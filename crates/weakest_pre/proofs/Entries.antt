@@ -35,7 +35,7 @@ use Rattle.note_terms.specs.Steps.{IsStep}
 use Rattle.note_terms.specs.Lines.{AreStateTerms, IsLine, IsStateOf}
 use Rattle.note_terms.proofs.Steps.{step_made, step_kept, step_as, step_on, step_keeps, bits_and}
 use Rattle.note_terms.proofs.Valued.{denotes_stays, names_stay, is_state_stays, range_at, range_length, line_enough}
-use Rattle.weakest_pre.specs.Entry.{said, all_hold, all_true, AreTrue, IsEntryBit}
+use Rattle.weakest_pre.specs.Entry.{said, all_hold, all_true, without_points, AreTrue, IsEntryBit}
 
 -- whether a row can stand at the address that a word is
 pub place_step : (narrow : Bool) (hi : ℕ) → hi ≡ bool_byte (not narrow) → (a b c d : List TermNode) (v l z t : ℕ) → v < length a →
@@ -144,11 +144,11 @@ entry_made u a b c d e low regs flags now l s t big lines pr pf pe pl above belo
           (grew_on a d e (0 + (0 + 2)) (0 + (0 + 0)) 0 0 ((regs + flags + 1) + (1 + 5)) (sum_by line_price lines) (sum_by bytes_loaded lines) 0 0
           (4 * line_steps lines)
           (grew_on a b d 0 0 0 0 ((regs + flags + 1)) (0 + 2) (0 + 0) 0 0 (1 + 5) names.grew grew_c) all.grew);
-      inputs = inputs_on a d e (IsNamedBelow u 0)
-          (inputs_on a b d (IsNamedBelow u 0)
-          (inputs_more a b (IsOfForm low regs flags) (IsNamedBelow u 0) (λ m i h. named_of u low regs flags m pr pf i h) names.inputs)
-          (inputs_more b d (λ m. ⊥) (IsNamedBelow u 0) (λ m i h. absurd h) (inputs_on b c d _ pc_step.inputs aligned.inputs)))
-          (inputs_more d e (λ m. ⊥) (IsNamedBelow u 0) (λ m i h. absurd h) all.inputs);
+      inputs = inputs_on a d e (IsNamedBelow (without_points u) 0)
+          (inputs_on a b d (IsNamedBelow (without_points u) 0)
+          (inputs_more a b (IsOfForm low regs flags) (IsNamedBelow (without_points u) 0) (λ m i h. named_of (without_points u) low regs flags m pr pf i h) names.inputs)
+          (inputs_more b d (λ m. ⊥) (IsNamedBelow (without_points u) 0) (λ m i h. absurd h) (inputs_on b c d _ pc_step.inputs aligned.inputs)))
+          (inputs_more d e (λ m. ⊥) (IsNamedBelow (without_points u) 0) (λ m i h. absurd h) all.inputs);
       typed = all.typed;
       width = all.width;
       value = λ x ok.

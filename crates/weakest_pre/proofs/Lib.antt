@@ -1,6 +1,7 @@
 pub mod Copying
 pub mod Entries
 pub mod FoldedCopies
+pub mod FrameTold
 pub mod KnownRegisters
 pub mod KnownWords
 pub mod Marks

@@ -1,4 +1,4 @@
--- What the term of a question says, from that of the entry condition and a passive program.
+-- What the bit of the entry condition says, and a bit that is tied to it.
 use Rattle.std.proofs.Common.{inl, inr, ◌≡◌, ◌↔◌, ℕ, ◌+◌, Bool, true, false, ◌&&◌, if◌then◌else◌, bit_and, List, [], ◌∷◌, length, map, Contains, refl, ap, sym, ◌∙◌, arith, Option, None, Some}
 use Rattle.std.specs.List.{list_all}
 use Rattle.std.proofs.lemmas.Bool.{false≢true, eqb-true, eq-eqb}
@@ -9,29 +9,22 @@ use Rattle.word_spec.specs.State.{State}
 use Rattle.bilv_spec.specs.Notes.{NoteLine, value, is_true}
 use Rattle.bilv_spec.specs.Run.{false_line}
 use Rattle.bilv_spec.specs.Questions.{Reading, IsReading}
-use Rattle.call_spec.specs.Calls.{Question, EntryQuestion}
-use Rattle.term_spec.specs.Terms.{TermReading, InRange, TermNode, BinaryNode, HasWidth, term_word, term_gates, term_loads, term_stores, term_joins}
+use Rattle.term_spec.specs.Terms.{TermReading, InRange, TermNode, RegisterNode, FlagNode, ChoiceNode, BaseNode, MemoryNode, ConstantNode, BinaryNode, NotNode, SelectNode, ExtractNode, ConcatNode, ExtendNode, LoadNode, StoreNode, JoinNode, TakeNode, HasWidth, term_word, term_gates, term_loads, term_stores, term_joins}
 use Rattle.walk_spec.specs.Unrolled.{UnrolledProgram, state_at}
-use Rattle.walk_spec.specs.Unrolling.{IsWalkable}
-use Rattle.walk_spec.specs.Sweep.{swept}
-use Rattle.term_spec.specs.Passive.{Passive, UnderAll, Tells, IsPassive, ends_held}
-use Rattle.term_spec.specs.WalkQuestions.{MeetsLines, IsTrueButBytes, IsNamedBelow, term_reading, TellsQuestion}
-use Rattle.term_spec.proofs.HeldAnswers.{held_answers}
-use Rattle.term_spec.proofs.PriceSums.{parts_add_up}
+use Rattle.term_spec.specs.WalkQuestions.{MeetsLines, IsNamedBelow, term_reading}
 use Rattle.term_dag.specs.Nodes.{IsInput}
 use Rattle.term_dag.specs.Made.{IsMade}
 use Rattle.term_dag.proofs.Growth.{grew_on, grew_more, inputs_on, inputs_more}
 use Rattle.term_names.specs.Chosen.{at_entry}
-use Rattle.term_names.proofs.OfForm.{named_all, reading_in_range}
+use Rattle.term_names.proofs.OfForm.{reading_in_range}
 use Rattle.note_terms.specs.Steps.{IsStep}
-use Rattle.note_terms.proofs.Steps.{step_made, bits_and}
-use Rattle.weakest_pre.specs.Entry.{meets, IsEntryBit}
+use Rattle.note_terms.proofs.Steps.{step_made}
+use Rattle.weakest_pre.specs.Entry.{meets, without_points, IsEntryBit}
 use Rattle.weakest_pre.specs.declared.facts.Facts.{Facts}
 use Rattle.weakest_pre.specs.Known.{AreFactsOf}
 use Rattle.weakest_pre.specs.Copies.{IsMoved}
 use Rattle.weakest_pre.specs.Folded.{IsMetBy, IsFoldedCopy}
 use Rattle.weakest_pre.specs.Roots.{IsTied}
-use Rattle.weakest_pre.proofs.Moved.{copied_named}
 
 -- two tests that are both true
 pub both_true : (p q : Bool) → (p && q) ≡ true → (p ≡ true) × (q ≡ true)
@@ -115,77 +108,29 @@ pub bit_one : (b : Bool) → bit b ≡ 1 → b ≡ true
 bit_one true h = refl
 bit_one false h = absurd (omega arith)
 
--- a question by the tests of the entry condition and of what is held in the end
-question_by : (u : UnrolledProgram) (r : Reading) (question : Question) (word : ℕ) → IsWalkable u →
-    word ≡ bit (meets u r.state && ends_held question (swept u r)) →
-    (word ≡ 1) ↔ IsTrueButBytes u r question
-question_by u r question word walkable is =
-    let law = held_answers u walkable.some walkable.later r question in
-    let lines = lines_met u r.state in (
-      (λ h. let k = both_true _ _ (bit_one _ (sym is ∙ h)) in law.1 (lines.0 k.0, k.1)),
-      (λ h. let k = law.0 h in is ∙ ap bit (true_both _ _ (lines.1 k.0) k.1)),
-    )
-
 -- an empty list has no node
-nothing_there : (m : TermNode) (A : Type 0) → Contains [] m → A
+pub nothing_there : (m : TermNode) (A : Type 0) → Contains [] m → A
 nothing_there m A c = let l = c.1 in absurd (omega arith)
+
+-- what is named without the points is the program's
+with_points : (u : UnrolledProgram) (m : TermNode) → IsNamedBelow (without_points u) 0 m → IsNamedBelow u 0 m
+with_points u (RegisterNode p n) h = h
+with_points u (FlagNode p f) h = h
+with_points u (ChoiceNode i) h = let l = h.0 in absurd (omega arith)
+with_points u (BaseNode p j) h = h
+with_points u (MemoryNode p) h = h
+with_points u (ConstantNode w v) h = h
+with_points u (BinaryNode o w a b) h = h
+with_points u (NotNode w a) h = h
+with_points u (SelectNode w c a b) h = h
+with_points u (ExtractNode hi lo a) h = h
+with_points u (ConcatNode high low a b) h = h
+with_points u (ExtendNode s n m a) h = h
+with_points u (LoadNode n e m a) h = h
+with_points u (StoreNode n e m a v) h = h
+with_points u (JoinNode c a b) h = h
+with_points u (TakeNode n m a p) h = h
 
 -- the inputs of the entry condition
 pub entry_named : (u : UnrolledProgram) (new : List TermNode) (t : ℕ) → IsEntryBit u [] new t → (m : TermNode) → Contains new m → IsInput m → IsNamedBelow u 0 m
-entry_named u new t h m c i = elim (h.inputs m c i) [ inl none ↦ nothing_there m (IsNamedBelow u 0 m) none | inr named ↦ named ]
-
--- a test with nothing more
-and_true : (b : Bool) → b ≡ (b && true)
-and_true true = refl
-and_true false = refl
-
--- the question whether there is an entry state
-pub entry_told : (u : UnrolledProgram) (new : List TermNode) (t : ℕ) → IsWalkable u → IsEntryBit u [] new t →
-    TellsQuestion u EntryQuestion (record { nodes = new; root = t })
-entry_told u new t walkable h =
-    let parts = parts_add_up u in
-    let grew = h.grew in
-    record {
-      terms = record {
-        typed = h.typed;
-        named = λ m c. named_all u m (entry_named u new t h m c);
-        gates = omega (arith, grew.gates, parts.0);
-        loads = omega (arith, grew.loads, parts.1);
-        stores = omega (arith, grew.stores);
-        joins = omega (arith, grew.joins);
-        few = omega (arith, grew.few, parts.2);
-      };
-      root = h.width;
-      means = λ r k e. question_by u r EntryQuestion _ walkable (entry_tells u [] new t h r k e ∙ ap bit (and_true (meets u r.state)));
-    }
-
--- the questions about the run
-pub end_told : (u : UnrolledProgram) (q : Passive) (mid new : List TermNode) (question : Question) (entry end t : ℕ) → IsWalkable u → IsPassive u q →
-    IsEntryBit u [] mid entry →
-    UnderAll u (λ r. Tells q.nodes (term_reading u r) end (ends_held question (swept u r))) → IsTied q.nodes mid new entry end t →
-    TellsQuestion u question (record { nodes = new; root = t })
-end_told u q mid new question entry end t walkable passive h tells tied =
-    let parts = parts_add_up u in
-    let grew = h.grew in
-    let more = tied.grew in
-    let room = passive.terms in
-    record {
-      terms = record {
-        typed = tied.typed;
-        named = λ m c. named_all u m (λ i. elim (tied.inputs m c i) [
-          | inl old ↦ entry_named u mid entry h m old i
-          | inr copied ↦ copied_named u 0 q.nodes m copied room.named
-        ]);
-        gates = omega (arith, grew.gates, more.gates, room.gates, parts.0);
-        loads = omega (arith, grew.loads, more.loads, room.loads, parts.1);
-        stores = omega (arith, grew.stores, more.stores, room.stores);
-        joins = omega (arith, grew.joins, more.joins, room.joins);
-        few = omega (arith, grew.few, more.few, room.few, parts.2);
-      };
-      root = tied.width;
-      means = λ r k e.
-          let x = term_reading u r in
-          question_by u r question _ walkable
-          (tied.value x (reading_in_range u r k) ∙ ap (λ (v : ℕ). bit_and v (term_word x q.nodes end)) (entry_tells u [] mid entry h r k e)
-          ∙ ap (bit_and (bit (meets u r.state))) (tells r k e) ∙ bits_and (meets u r.state) (ends_held question (swept u r)));
-    }
+entry_named u new t h m c i = elim (h.inputs m c i) [ inl none ↦ nothing_there m (IsNamedBelow u 0 m) none | inr named ↦ with_points u m named ]

@@ -1,12 +1,13 @@
 //! The entry condition as a term.
 
-ghost use Rattle.std.specs.Prelude.{◌≡◌, ◌<◌, IfOk, Contains};
+ghost use Rattle.std.specs.Prelude.{◌≡◌, ◌<◌, true, IfOk, Contains};
 ghost use Rattle.word_spec.specs.Words.{bit};
 ghost use Rattle.machine_spec.specs.Machine.{is_place};
 ghost use Rattle.machine_spec.specs.Bil.{And};
 ghost use Rattle.term_spec.specs.Terms.{BinaryNode, AreTyped, HasWidth, term_word};
 ghost use Rattle.term_dag.specs.Made.{IsMade};
-ghost use Rattle.walk_spec.specs.Unrolling.{IsReadable, IsWalkable};
+ghost use Rattle.walk_spec.specs.Unrolled.{is_register_of};
+ghost use Rattle.walk_spec.specs.Unrolling.{IsReadable};
 ghost use Rattle.notes_value.specs.Views.{expr_of};
 ghost use Rattle.notes_value.specs.declared.notes.NoteLine as declared;
 ghost use Rattle.question_form.specs.Views.{unrolled_of};
@@ -14,7 +15,7 @@ ghost use Rattle.term_names.specs.Views.{form_of};
 ghost use Rattle.term_names.specs.Chosen.{HaveSameForm};
 ghost use Rattle.note_terms.specs.Steps.{IsStep};
 ghost use Rattle.note_terms.specs.Lines.{AreStateTerms};
-ghost use Rattle.weakest_pre.specs.Entry.{AreTrue, IsEntryBit, said};
+ghost use Rattle.weakest_pre.specs.Entry.{AreTrue, HasReadableLines, IsEntryBit, said};
 
 use note_terms::{Now, line};
 use notes_value::NoteLine;
@@ -90,7 +91,8 @@ pub fn all_true<'a>(
 
 /// Whether the entry condition is met, but for the bytes of the file. The error is want of memory.
 pub fn entry_bit(alloc: Global, dag: &mut Dag, unrolled: &Unrolled) -> Result<Term, AllocError>
-    requires walkable { IsWalkable (unrolled_of unrolled.now) }
+    requires link { is_register_of (unrolled_of unrolled.now) unrolled.now.link ≡ true }
+    requires lines { HasReadableLines (unrolled_of unrolled.now) }
     requires typed { AreTyped dag.old }
     ensures { IfOk result (λ t. IsEntryBit (unrolled_of unrolled.now) dag.old dag.new t.0) }
 {

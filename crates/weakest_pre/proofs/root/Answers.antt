@@ -1,19 +1,22 @@
-use Rattle.call_spec.specs.Calls.{FailQuestion, TurnQuestion}
-use Rattle.question_form.specs.Questions.{passive_of}
-use Rattle.weakest_pre.proofs.Told.{entry_told, end_told}
+use Rattle.std.proofs.Common.{refl, sym, subst}
+use Rattle.term_dag.specs.declared.nodes.Term.{Term}
+use Rattle.question_form.specs.declared.questions.Asked.{Asked}
+use Rattle.weakest_pre.specs.Roots.{IsTied, IsTiedBy}
+use Rattle.weakest_pre.proofs.root.Goals.{in-Fail, in-Step, in-Turn}
 use Rattle.weakest_pre.proofs.root.Goals as goal
 
 pub returns-in-Entry : goal.returns-in-Entry
-returns-in-Entry c = rw c.in-Entry.is (entry_told _ _ _ c.requires.walkable c.requires.entry)
+returns-in-Entry c =
+    subst (λ (a : Asked). IsTiedBy c.args.passive.now a c.args.dag.now c.args.entry.0 (record { nodes = c.args.dag.now; root = c.args.entry.0 }))
+    (sym c.in-Entry.is) (refl, refl)
 
-pub returns-in_ok-bit-in-Fail : goal.returns-in_ok-bit-in-Fail
-returns-in_ok-bit-in-Fail c =
-    let q = c.requires.passive in
-    rw c.in-Fail.is (end_told _ (passive_of c.args.passive.now) _ _ FailQuestion _ _ _ c.requires.walkable q c.requires.entry q.failing
-    c.in_ok-bit-in-Fail.ensures)
-
-pub returns-in_ok-bit-in-Turn : goal.returns-in_ok-bit-in-Turn
-returns-in_ok-bit-in-Turn c =
-    let q = c.requires.passive in
-    rw c.in-Turn.is (end_told _ (passive_of c.args.passive.now) _ _ TurnQuestion _ _ _ c.requires.walkable q c.requires.entry q.turning
-    c.in_ok-bit-in-Turn.ensures)
+pub returns : goal.returns
+returns c =
+    let p = c.args.passive.now in
+    let by = λ (a : Asked). IsTiedBy p a c.args.dag.now c.args.entry.0 (record { nodes = c.tied.new.dag; root = c.in_ok-bit.bit.0 }) in
+    let of = λ (z : Term). IsTied p.dag c.args.dag.now c.tied.new.dag c.args.entry.0 z.0 c.in_ok-bit.bit.0 in
+    elim c.match-asked.branch [
+      | in-Fail w ↦ subst by (sym w.in-Fail.is) (subst of w.end-is c.in_ok-bit.ensures)
+      | in-Step w ↦ subst by (sym w.in-Step.is) (subst of w.end-is c.in_ok-bit.ensures)
+      | in-Turn w ↦ subst by (sym w.in-Turn.is) (subst of w.end-is c.in_ok-bit.ensures)
+    ]

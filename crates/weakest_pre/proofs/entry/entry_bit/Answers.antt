@@ -9,7 +9,7 @@ use Rattle.weakest_pre.proofs.entry.entry_bit.Goals as goal
 pub index-link-requires : goal.index-link-requires
 index-link-requires c =
     let layout = layout_of c.args.unrolled.now.form in
-    let h = in_range c.args.unrolled.now.link layout.first (length layout.registers) c.requires.walkable.link in
+    let h = in_range c.args.unrolled.now.link layout.first (length layout.registers) c.requires.link in
     let e = c.registers-first.ensures in
     let count = c.in_ok-names.ensures.registers in
     omega (arith, h.0, h.1, e.first, e.count, count, c.in_ok-names.names.registers.ok.0)
@@ -17,7 +17,7 @@ index-link-requires c =
 pub is_at_place-requires-clause-word : goal.is_at_place-requires-clause-word
 is_at_place-requires-clause-word c =
     let layout = layout_of c.args.unrolled.now.form in
-    let h = in_range c.args.unrolled.now.link layout.first (length layout.registers) c.requires.walkable.link in
+    let h = in_range c.args.unrolled.now.link layout.first (length layout.registers) c.requires.link in
     let e = c.registers-first.ensures in
     link_word _ _ _ _ _ _ _ _ c.args.unrolled.now.link _ c.index-link.result.now c.in_ok-names.ensures c.in_ok-pc.ensures (omega (arith, h.0, e.first))
     (omega (arith, h.1, e.first, e.count)) c.index-link.ensures
@@ -27,7 +27,7 @@ all_true-requires-clause-reads c =
     let e = c.registers-first.ensures in
     let n = c.in_ok-names.ensures in
     lines_read (unrolled_of c.args.unrolled.now) c.in_ok-names.names _ c.args.unrolled.now.notes.now.required.items c.deref.ensures.value refl
-    (same_range _ _ _ _ (n.first ∙ e.first) (n.registers ∙ e.count)) (sym (n.flags ∙ c.flag_count.ensures)) c.requires.walkable.requires
+    (same_range _ _ _ _ (n.first ∙ e.first) (n.registers ∙ e.count)) (sym (n.flags ∙ c.flag_count.ensures)) c.requires.lines
 
 pub all_true-requires-clause-now : goal.all_true-requires-clause-now
 all_true-requires-clause-now c =
@@ -42,7 +42,7 @@ all_true-requires-clause-entry c =
 pub returns : goal.returns
 returns c =
     let layout = layout_of c.args.unrolled.now.form in
-    let h = in_range c.args.unrolled.now.link layout.first (length layout.registers) c.requires.walkable.link in
+    let h = in_range c.args.unrolled.now.link layout.first (length layout.registers) c.requires.link in
     let e = c.registers-first.ensures in
     let n = c.in_ok-names.ensures in
     entry_made (unrolled_of c.args.unrolled.now) _ _ _ _ _ _ _ _ _ _ _ _ _ _ (same_range _ _ _ _ e.first e.count) (sym c.flag_count.ensures) refl
