@@ -1,23 +1,26 @@
 -- Agreements of base reads, one after another.
-use Rattle.std.proofs.Common.{◌≡◌, ◌⊎◌, inl, inr, ℕ, zero, suc, ◌+◌, ◌-◌, ◌*◌, ◌<◌, ◌≤◌, ◌^◌, ◌==◌, true, List, [], ◌∷◌, ◌++◌, length, length-append, append-nil, get_or, refl, ap, sym, ◌∙◌, subst, arith}
-use Rattle.std.specs.Prelude.{slice_index, map}
+use Rattle.std.proofs.Common.{◌≡◌, ◌⊎◌, inl, inr, ℕ, zero, suc, ◌+◌, ◌-◌, ◌*◌, ◌<◌, ◌≤◌, ◌^◌, ◌==◌, Bool, true, false, List, [], ◌∷◌, ◌++◌, length, length-append, append-nil, get_or, refl, ap, sym, ◌∙◌, subst, arith}
+use Rattle.std.specs.Prelude.{◌&&◌, slice_index, map, Contains}
 use Rattle.term_dag.specs.declared.nodes.Term.{Term}
 use Rattle.std.proofs.lemmas.Bool.{cases_lt}
 use Rattle.std.proofs.lemmas.Bool.Decides.{nat_tests}
 use Rattle.std.proofs.lemmas.List.{get_or_append_left}
 use Rattle.term_dag.proofs.ListLaws.{last}
-use Rattle.std.proofs.lemmas.List.Elements.{Contains-push_cases, Contains-push, Contains-append_left}
+use Rattle.std.proofs.lemmas.List.Elements.{Contains-append_left, Contains-append_right, Contains-append_cases}
 use Rattle.word_spec.specs.Words.{add, sub, bit}
 use Rattle.term_spec.specs.Terms.{TermReading, HasWidth, term_word}
 use Rattle.term_dag.proofs.Ranges.{word_fits}
 use Rattle.mem_cells.specs.declared.building.Build.{Build}
 use Rattle.mem_cells.specs.declared.cells.Agreement.{Agreement}
+use Rattle.mem_cells.specs.declared.parts.Parts.{Parts}
 use Rattle.mem_cells.specs.declared.pieces.Split.{Split}
+use Rattle.mem_cells.specs.Parts.{part_of, is_read, one_if}
 use Rattle.mem_cells.specs.Pieces.{IsSplit, lies_apart}
 use Rattle.mem_cells.specs.Building.{read_places, IsBuilt, Grown, IsWord}
-use Rattle.mem_cells.specs.Ties.{address_of, sum_at, AreSums, AreTies, Before}
+use Rattle.mem_cells.specs.Ties.{address_of, agreement, agreements_of, parts_at, shared, sum_at, AreBothRead, AreSums, AreTies, Before}
 use Rattle.mem_cells.proofs.Growing.{grown_word, grown_width, mapped_length}
 use Rattle.mem_cells.proofs.Chains.{split_kept}
+use Rattle.mem_cells.proofs.PartReads.{in_one, of_one}
 
 -- addresses stay as nodes are added
 pub address_kept : (a b : Build) (g r : ℕ) (x : TermReading) (j : ℕ) → IsBuilt a → Grown a b g r → read_places b ≡ read_places a → j < length (read_places a) →
@@ -25,16 +28,18 @@ pub address_kept : (a b : Build) (g r : ℕ) (x : TermReading) (j : ℕ) → IsB
 address_kept a b g r x j c p e l = ap (λ z. term_word x b.dag (slice_index z j)) e ∙ grown_word a b g r x (slice_index (read_places a) j) p (c.addresses j l).0
 
 -- agreements stay as nodes are added
-pub ties_kept : (a b : Build) (g r : ℕ) (ts : List Agreement) (pairs : ℕ → ℕ → Type 0) → IsBuilt a → Grown a b g r → read_places b ≡ read_places a →
-    ((i j : ℕ) → pairs i j → (i < length (read_places a)) × (j < length (read_places a))) → AreTies a ts pairs → AreTies b ts pairs
-ties_kept a b g r ts pairs c p e within h = record {
+pub ties_kept : (a b : Build) (g r : ℕ) (parts : List Parts) (ts : List Agreement) (pairs : ℕ → ℕ → Type 0) → IsBuilt a → Grown a b g r →
+    read_places b ≡ read_places a → ((i j : ℕ) → pairs i j → (i < length (read_places a)) × (j < length (read_places a))) → AreTies a parts ts pairs →
+    AreTies b parts ts pairs
+ties_kept a b g r parts ts pairs c p e within h = record {
   formed = λ t k. let f = h.formed t k in (grown_width a b g r 1 t.condition.0 p f.0, omega (arith, f.1, ap length e), omega (arith, f.2, ap length e));
+  read = h.read;
   sound = λ x i t k o.
       let f = h.formed t k in
       address_kept a b g r x t.read c p e f.1 ∙ h.sound x i t k (sym (grown_word a b g r x t.condition.0 p f.0.0) ∙ o) ∙ sym
       (address_kept a b g r x t.other c p e f.2);
-  complete = λ x i base q m n s z.
-      h.complete x i base (λ t k o. q t k (grown_word a b g r x t.condition.0 p (h.formed t k).0.0 ∙ o)) m n s
+  complete = λ x i base q part m n s rm rn z.
+      h.complete x i base (λ t k o. q t k (grown_word a b g r x t.condition.0 p (h.formed t k).0.0 ∙ o)) part m n s rm rn
       (sym (address_kept a b g r x m c p e (within m n s).0) ∙ z ∙ address_kept a b g r x n c p e (within m n s).1);
 }
 
@@ -44,28 +49,79 @@ one_is a b h = grind (arith, nat_tests)
 pub is_one : (a b : ℕ) → a ≡ b → bit (a == b) ≡ 1
 is_one a b h = grind (arith, nat_tests)
 
--- one more agreement
-pub ties_next : (b : Build) (ts : List Agreement) (pairs : ℕ → ℕ → Type 0) (t : Agreement) → AreTies b ts pairs → t.read < length (read_places b) →
-    t.other < length (read_places b) →
-    IsWord b.dag 1 t.condition.0 (λ x. bit (address_of b x t.read == address_of b x t.other)) →
-    AreTies b (ts ++ t ∷ []) (λ i j. pairs i j ⊎ (i ≡ t.read) × (j ≡ t.other))
-ties_next b ts pairs t h lr lo w = record {
-  formed = λ a k. elim (Contains-push_cases ts t a k) [
-    | inl m ↦ h.formed a m
-    | inr e ↦ subst (λ (z : Agreement). HasWidth b.dag 1 z.condition.0 × (z.read < length (read_places b)) ×
-        (z.other < length (read_places b))) e (w.place, lr, lo)
-  ];
-  sound = λ x i a k. elim (Contains-push_cases ts t a k) [
-    | inl m ↦ h.sound x i a m
-    | inr e ↦ subst (λ (z : Agreement). term_word x b.dag z.condition.0 ≡ 1 →
-        address_of b x z.read ≡ address_of b x z.other) e (λ o. one_is _ _ (sym (w.value x i) ∙ o))
-  ];
-  complete = λ x i base q m n s z. elim s [
-    | inl p ↦ h.complete x i base (λ a k. q a (Contains-append_left ts (t ∷ []) a k)) m n p z
-    | inr p ↦ ap base p.0 ∙ q t (Contains-push ts t) (w.value x i ∙ is_one _ _ (ap (address_of b x) (sym p.0) ∙ z ∙ ap (address_of b x) p.1)) ∙ sym
-        (ap base p.1)
-  ];
-}
+-- what agreements of the parts of two addresses say
+pub both_true : (a b : Bool) → (a && b) ≡ true → (a ≡ true) × (b ≡ true)
+both_true true b e = (refl, e)
+both_true false b e = absurd (cc)
+
+pub and_true : (a b : Bool) → a ≡ true → b ≡ true → (a && b) ≡ true
+and_true true b h e = e
+and_true false b h e = absurd (cc)
+
+-- one of the agreements of the parts of two addresses
+pub record IsSaid (parts : List Parts) (t : Term) (i j : ℕ) (a : Agreement) : Type 0 where
+  pub condition : a.condition ≡ t
+  pub read : a.read ≡ i
+  pub other : a.other ≡ j
+  pub both : AreBothRead parts a
+
+said_by : (parts : List Parts) (t : Term) (i j p : ℕ) (a : Agreement) → (is_read parts p i ≡ true) × (is_read parts p j ≡ true) → a ≡ agreement t p i j →
+    IsSaid parts t i j a
+said_by parts t i j p a h e = subst (IsSaid parts t i j) (sym e) (record { condition = refl; read = refl; other = refl; both = h })
+
+pub said_of : (parts : List Parts) (t : Term) (i j : ℕ) (a : Agreement) → Contains (agreements_of (shared (parts_at parts i) (parts_at parts j)) t i j) a →
+    IsSaid parts t i j a
+said_of parts t i j a h =
+    let r = shared (parts_at parts i) (parts_at parts j) in
+    elim (Contains-append_cases (one_if r.entry (agreement t 0 i j)) (one_if r.head (agreement t 1 i j)) a h) [
+      | inl k ↦ (let o = of_one r.entry (agreement t 0 i j) a k in
+          said_by parts t i j 0 a (both_true (parts_at parts i).entry (parts_at parts j).entry o.0) o.1)
+      | inr k ↦ (let o = of_one r.head (agreement t 1 i j) a k in
+          said_by parts t i j 1 a (both_true (parts_at parts i).head (parts_at parts j).head o.0) o.1)
+    ]
+
+said_for : (parts : List Parts) (t : Term) (i j p : ℕ) → is_read parts p i ≡ true → is_read parts p j ≡ true →
+    Contains (agreements_of (shared (parts_at parts i) (parts_at parts j)) t i j) (agreement t p i j)
+said_for parts t i j zero h k =
+    let r = shared (parts_at parts i) (parts_at parts j) in
+    Contains-append_left (one_if r.entry (agreement t 0 i j)) (one_if r.head (agreement t 1 i j)) (agreement t 0 i j)
+    (in_one r.entry (agreement t 0 i j) (and_true (parts_at parts i).entry (parts_at parts j).entry h k))
+said_for parts t i j (suc zero) h k =
+    let r = shared (parts_at parts i) (parts_at parts j) in
+    Contains-append_right (one_if r.entry (agreement t 0 i j)) (one_if r.head (agreement t 1 i j)) (agreement t 1 i j)
+    (in_one r.head (agreement t 1 i j) (and_true (parts_at parts i).head (parts_at parts j).head h k))
+said_for parts t i j (suc (suc p)) h k = absurd (cc)
+
+-- agreements of two addresses more
+pub ties_next : (b : Build) (parts : List Parts) (ts : List Agreement) (pairs : ℕ → ℕ → Type 0) (t : Term) (i j : ℕ) → AreTies b parts ts pairs →
+    i < length (read_places b) → j < length (read_places b) → IsWord b.dag 1 t.0 (λ x. bit (address_of b x i == address_of b x j)) →
+    AreTies b parts (ts ++ agreements_of (shared (parts_at parts i) (parts_at parts j)) t i j) (λ m n. pairs m n ⊎ (m ≡ i) × (n ≡ j))
+ties_next b parts ts pairs t i j h li lj w =
+    let us = agreements_of (shared (parts_at parts i) (parts_at parts j)) t i j in
+    record {
+      formed = λ a k. elim (Contains-append_cases ts us a k) [
+        | inl m ↦ h.formed a m
+        | inr m ↦ (
+            let e = said_of parts t i j a m in
+            (subst (λ (z : Term). HasWidth b.dag 1 z.0) (sym e.condition) w.place, omega (arith, e.read, li), omega (arith, e.other, lj)))
+      ];
+      read = λ a k. elim (Contains-append_cases ts us a k) [ inl m ↦ h.read a m | inr m ↦ (said_of parts t i j a m).both ];
+      sound = λ x r a k o. elim (Contains-append_cases ts us a k) [
+        | inl m ↦ h.sound x r a m o
+        | inr m ↦ (
+            let e = said_of parts t i j a m in
+            ap (address_of b x) e.read ∙ one_is (address_of b x i) (address_of b x j)
+            (sym (w.value x r) ∙ ap (λ z. term_word x b.dag z.0) (sym e.condition) ∙ o)
+            ∙ ap (address_of b x) (sym e.other))
+      ];
+      complete = λ x r base q p m n s rm rn z. elim s [
+        | inl d ↦ h.complete x r base (λ a k. q a (Contains-append_left ts us a k)) p m n d rm rn z
+        | inr d ↦ (
+            let inside = said_for parts t i j p (ap (is_read parts p) (sym d.0) ∙ rm) (ap (is_read parts p) (sym d.1) ∙ rn) in
+            ap (base p) d.0 ∙ q (agreement t p i j) (Contains-append_right ts us (agreement t p i j) inside)
+            (w.value x r ∙ is_one (address_of b x i) (address_of b x j) (ap (address_of b x) (sym d.0) ∙ z ∙ ap (address_of b x) d.1)) ∙ ap (base p) (sym d.1))
+      ];
+    }
 
 sums_differ : (b o s : ℕ) → b < 2 ^ 32 → o < 2 ^ 32 → s < 2 ^ 32 → 1 ≤ sub 32 o s → add 32 b o ≡ add 32 b s → ⊥
 sums_differ b o s hb ho hs h e = absurd (omega (arith, hb, ho, hs, h, e))
@@ -74,14 +130,16 @@ apart_is : (p q : Split) → lies_apart p q 1 ≡ true → (p.base.0 ≡ q.base.
 apart_is p q h = grind (arith, nat_tests)
 
 -- two reads that are surely apart need none
-pub ties_apart : (b : Build) (ts : List Agreement) (pairs : ℕ → ℕ → Type 0) (sums : List Split) (i j : ℕ) → IsBuilt b → AreSums b sums →
+pub ties_apart : (b : Build) (parts : List Parts) (ts : List Agreement) (pairs : ℕ → ℕ → Type 0) (sums : List Split) (i j : ℕ) → IsBuilt b → AreSums b sums →
     i < length (read_places b) → j < length (read_places b) →
-    lies_apart (sum_at sums i) (sum_at sums j) 1 ≡ true → AreTies b ts pairs → AreTies b ts (λ m n. pairs m n ⊎ (m ≡ i) × (n ≡ j))
-ties_apart b ts pairs sums i j c a li lj t h = record {
+    lies_apart (sum_at sums i) (sum_at sums j) 1 ≡ true → AreTies b parts ts pairs →
+    AreTies b parts ts (λ m n. pairs m n ⊎ (m ≡ i) × (n ≡ j))
+ties_apart b parts ts pairs sums i j c a li lj t h = record {
   formed = h.formed;
+  read = h.read;
   sound = h.sound;
-  complete = λ x r base q m n s z. elim s [
-    | inl p ↦ h.complete x r base q m n p z
+  complete = λ x r base q part m n s rm rn z. elim s [
+    | inl p ↦ h.complete x r base q part m n p rm rn z
     | inr p ↦ (
         let d = apart_is (sum_at sums i) (sum_at sums j) t in
         let f = a i li in
@@ -96,8 +154,35 @@ ties_apart b ts pairs sums i j c a li lj t h = record {
 }
 
 -- fewer pairs
-pub ties_fewer : (b : Build) (ts : List Agreement) (ps qs : ℕ → ℕ → Type 0) → ((i j : ℕ) → qs i j → ps i j) → AreTies b ts ps → AreTies b ts qs
-ties_fewer b ts ps qs f h = record { formed = h.formed; sound = h.sound; complete = λ x i base q m n s z. h.complete x i base q m n (f m n s) z }
+pub ties_fewer : (b : Build) (parts : List Parts) (ts : List Agreement) (ps qs : ℕ → ℕ → Type 0) → ((i j : ℕ) → qs i j → ps i j) → AreTies b parts ts ps →
+    AreTies b parts ts qs
+ties_fewer b parts ts ps qs f h = record {
+  formed = h.formed;
+  read = h.read;
+  sound = h.sound;
+  complete = λ x i base q part m n s rm rn z. h.complete x i base q part m n (f m n s) rm rn z;
+}
+
+-- two addresses at which no part is read need none
+pub ties_unread : (b : Build) (parts : List Parts) (ts : List Agreement) (pairs : ℕ → ℕ → Type 0) (i j : ℕ) →
+    ((p : ℕ) → is_read parts p i ≡ true → is_read parts p j ≡ true → ⊥) → AreTies b parts ts pairs →
+    AreTies b parts ts (λ m n. pairs m n ⊎ (m ≡ i) × (n ≡ j))
+ties_unread b parts ts pairs i j u h = record {
+  formed = h.formed;
+  read = h.read;
+  sound = h.sound;
+  complete = λ x r base q part m n s rm rn z. elim s [
+    | inl p ↦ h.complete x r base q part m n p rm rn z
+    | inr p ↦ absurd (u part (ap (is_read parts part) (sym p.0) ∙ rm) (ap (is_read parts part) (sym p.1) ∙ rn))
+  ];
+}
+
+-- so it is, where they have no part in common
+none_shared : (parts : List Parts) (i j : ℕ) → ((p : ℕ) → part_of (shared (parts_at parts i) (parts_at parts j)) p ≡ true → ⊥) → (p : ℕ) →
+    is_read parts p i ≡ true → is_read parts p j ≡ true → ⊥
+none_shared parts i j n zero a b = n 0 (and_true (parts_at parts i).entry (parts_at parts j).entry a b)
+none_shared parts i j n (suc zero) a b = n 1 (and_true (parts_at parts i).head (parts_at parts j).head a b)
+none_shared parts i j n (suc (suc p)) a b = absurd (cc)
 
 -- one pair more
 pub one_pair : (other read i j : ℕ) → Before other (read + 1) i j → Before other read i j ⊎ (i ≡ read) × (j ≡ other)
@@ -133,38 +218,43 @@ sums_kept a b g sums c p h j l =
     subst (λ (z : List ℕ). IsSplit b.dag (slice_index z j) (sum_at sums j).base.0 (sum_at sums j).offset) (sym e)
     (split_kept a b g 0 (slice_index (read_places a) j) (sum_at sums j).base.0 (sum_at sums j).offset p (c.addresses j k).0 (h j k))
 
--- a tie of two reads
-pub tied : (a b : Build) (g : ℕ) (ts us : List Agreement) (t : Agreement) (left right other read : ℕ) → IsBuilt a → Grown a b g 0 → us ≡ ts ++ t ∷ [] →
-    t.read ≡ read → t.other ≡ other → read < other → other < length (read_places a) →
+-- a tie of two addresses
+pub tied : (a b : Build) (g : ℕ) (parts : List Parts) (ts us : List Agreement) (t : Term) (r : Parts) (left right other read : ℕ) → IsBuilt a → Grown a b g 0 →
+    us ≡ ts ++ agreements_of r t read other → r ≡ shared (parts_at parts read) (parts_at parts other) → read < other → other < length (read_places a) →
     left ≡ slice_index (read_places a) read → right ≡ slice_index (read_places a) other →
-    IsWord b.dag 1 t.condition.0 (λ x. bit (term_word x a.dag left == term_word x a.dag right)) →
-    AreTies a ts (Before other read) → AreTies b us (Before other (read + 1))
-tied a b g ts us t left right other read c p e er eo l lo hl hr w h =
+    IsWord b.dag 1 t.0 (λ x. bit (term_word x a.dag left == term_word x a.dag right)) →
+    AreTies a parts ts (Before other read) → AreTies b parts us (Before other (read + 1))
+tied a b g parts ts us t r left right other read c p e er l lo hl hr w h =
     let s = same_reads a b g p in
-    let lr : t.read < length (read_places a) = omega (arith, er, l, lo) in
-    let lt : t.other < length (read_places a) = omega (arith, eo, lo) in
-    subst (λ (z : List Agreement). AreTies b z (Before other (read + 1))) (sym e)
-    (ties_fewer b (ts ++ t ∷ []) (λ i j. Before other read i j ⊎ (i ≡ t.read) × (j ≡ t.other)) (Before other (read + 1))
-    (λ i j k. elim (one_pair other read i j k) [ inl m ↦ inl m | inr m ↦ inr (m.0 ∙ sym er, m.1 ∙ sym eo) ])
-    (ties_next b ts (Before other read) t (ties_kept a b g 0 ts (Before other read) c p s (pairs_within _ other read lo) h) (omega (arith, lr, ap length s))
-    (omega (arith, lt, ap length s))
+    let lr : read < length (read_places a) = omega (arith, l, lo) in
+    subst (λ (z : List Agreement). AreTies b parts z (Before other (read + 1))) (sym (e ∙ ap (λ z. ts ++ agreements_of z t read other) er))
+    (ties_fewer b parts (ts ++ agreements_of (shared (parts_at parts read) (parts_at parts other)) t read other)
+    (λ i j. Before other read i j ⊎ (i ≡ read) × (j ≡ other)) (Before other (read + 1)) (one_pair other read)
+    (ties_next b parts ts (Before other read) t read other (ties_kept a b g 0 parts ts (Before other read) c p s (pairs_within _ other read lo) h)
+    (omega (arith, lr, ap length s)) (omega (arith, lo, ap length s))
     (record {
       place = w.place;
       value = λ x i.
           w.value x i
-          ∙ ap (λ z. bit (z == term_word x a.dag right)) (ap (term_word x a.dag) (hl ∙ ap (slice_index (read_places a)) (sym er)) ∙ sym
-          (address_kept a b g 0 x t.read c p s lr))
-          ∙ ap (λ z. bit (address_of b x t.read == z)) (ap (term_word x a.dag) (hr ∙ ap (slice_index (read_places a)) (sym eo)) ∙ sym
-          (address_kept a b g 0 x t.other c p s lt));
+          ∙ ap (λ z. bit (z == term_word x a.dag right)) (ap (term_word x a.dag) hl ∙ sym (address_kept a b g 0 x read c p s lr))
+          ∙ ap (λ z. bit (address_of b x read == z)) (ap (term_word x a.dag) hr ∙ sym (address_kept a b g 0 x other c p s lo));
     })))
 
--- two reads that are surely apart
-pub untied : (a : Build) (ts : List Agreement) (sums : List Split) (other read : ℕ) → IsBuilt a → AreSums a sums → read < other →
+-- two addresses that are surely apart
+pub untied : (a : Build) (parts : List Parts) (ts : List Agreement) (sums : List Split) (other read : ℕ) → IsBuilt a → AreSums a sums → read < other →
     other < length (read_places a) →
-    lies_apart (sum_at sums read) (sum_at sums other) 1 ≡ true → AreTies a ts (Before other read) → AreTies a ts (Before other (read + 1))
-untied a ts sums other read c s l lo t h =
-    ties_fewer a ts (λ i j. Before other read i j ⊎ (i ≡ read) × (j ≡ other)) (Before other (read + 1)) (one_pair other read)
-    (ties_apart a ts (Before other read) sums read other c s (omega (arith, l, lo)) lo t h)
+    lies_apart (sum_at sums read) (sum_at sums other) 1 ≡ true → AreTies a parts ts (Before other read) → AreTies a parts ts (Before other (read + 1))
+untied a parts ts sums other read c s l lo t h =
+    ties_fewer a parts ts (λ i j. Before other read i j ⊎ (i ≡ read) × (j ≡ other)) (Before other (read + 1)) (one_pair other read)
+    (ties_apart a parts ts (Before other read) sums read other c s (omega (arith, l, lo)) lo t h)
+
+-- two addresses without a part in common
+pub unshared : (a : Build) (parts : List Parts) (ts : List Agreement) (r : Parts) (other read : ℕ) → r ≡ shared (parts_at parts read) (parts_at parts other) →
+    ((p : ℕ) → part_of r p ≡ true → ⊥) → AreTies a parts ts (Before other read) → AreTies a parts ts (Before other (read + 1))
+unshared a parts ts r other read e n h =
+    ties_fewer a parts ts (λ i j. Before other read i j ⊎ (i ≡ read) × (j ≡ other)) (Before other (read + 1)) (one_pair other read)
+    (ties_unread a parts ts (Before other read) read other
+    (none_shared parts read other (subst (λ (z : Parts). (p : ℕ) → part_of z p ≡ true → ⊥) e n)) h)
 
 -- an address of a list of terms, by its place
 pub mapped_at : (ts : List Term) (i : ℕ) (d : Term) → i < length ts → (get_or ts i d).0 ≡ slice_index (map (λ (z : Term). z.0) ts) i
@@ -202,11 +292,12 @@ one_row_more (suc j) =
     ap (λ z. 16 * (suc j * z) + 32 * suc j) p ∙ e ∙ ap (λ z. 16 * ((suc j + 1) * z)) (sym q)
 
 -- no reads, no pairs
-pub ties_none : (b : Build) → AreTies b [] (Before 0 0)
-ties_none b = record {
+pub ties_none : (b : Build) (parts : List Parts) → AreTies b parts [] (Before 0 0)
+ties_none b parts = record {
   formed = λ a k. absurd (omega (arith, k.1));
+  read = λ a k. absurd (omega (arith, k.1));
   sound = λ x i a k. absurd (omega (arith, k.1));
-  complete = λ x i base q m n s z. absurd (none m n s);
+  complete = λ x i base q part m n s rm rn z. absurd (none m n s);
 }
   where
     none : (m n : ℕ) → Before 0 0 m n → ⊥

@@ -1,12 +1,12 @@
 -- The bytes of pieces, one after another.
-use Rattle.std.proofs.Common.{◌≡◌, ℕ, zero, suc, ◌+◌, ◌<◌, ◌≤◌, Bool, true, false, List, [], ◌∷◌, ◌++◌, length, take, get_or, true≢false, refl, ap, sym, ◌∙◌, subst, arith, inl, inr}
+use Rattle.std.proofs.Common.{◌≡◌, ℕ, zero, suc, ◌+◌, ◌<◌, Bool, true, false, List, [], ◌∷◌, ◌++◌, length, take, get_or, true≢false, refl, ap, sym, ◌∙◌, subst, arith, inl, inr}
 use Rattle.std.specs.Prelude.{sum_by}
 use Rattle.std.proofs.lemmas.Bool.{cases_lt}
 use Rattle.std.proofs.lemmas.List.{get_or_append_left}
 use Rattle.std.proofs.lemmas.List.Sums.{sum_by-append}
 use Rattle.word_spec.specs.Words.{add}
 use Rattle.word_spec.specs.Memory.{Memory}
-use Rattle.term_spec.specs.Terms.{TermReading, InRange, TermNode, HasWidth, term_word, select}
+use Rattle.term_spec.specs.Terms.{TermReading, InRange, HasWidth, term_word, select}
 use Rattle.term_dag.specs.declared.nodes.Term.{Term}
 use Rattle.term_dag.proofs.ListLaws.{last}
 use Rattle.mem_cells.specs.declared.building.Build.{Build}
@@ -14,9 +14,9 @@ use Rattle.mem_cells.specs.declared.pieces.Split.{Split}
 use Rattle.mem_cells.specs.declared.pieces.StoredByte.{StoredByte}
 use Rattle.mem_cells.specs.declared.pieces.Piece.{Piece}
 use Rattle.mem_cells.specs.declared.pieces.Piece.TheVariants.{Entry, Store, Join}
-use Rattle.mem_cells.specs.Pieces.{puts, put_bytes, piece_byte, piece_at, piece_reads, stored_at, ends_in, bool_at, link, IsSplit, AreBytes, IsStored, IsPiece, ArePieces, IsRising, Needs, AreClosed}
+use Rattle.mem_cells.specs.Pieces.{puts, put_bytes, piece_byte, piece_at, stored_at, ends_in, bool_at, link, IsSplit, AreBytes, IsStored, IsPiece, ArePieces, IsRising, Needs, AreClosed}
 use Rattle.mem_cells.specs.Building.{IsBuilt, Grown, IsByte, IsByteOf}
-use Rattle.mem_cells.proofs.Growing.{grown_word, grown_width, gives_before}
+use Rattle.mem_cells.proofs.Growing.{grown_word, grown_width, gives_before, part_kept}
 use Rattle.mem_cells.proofs.Puts.{puts_same, put_within}
 
 -- what is kept of pieces as cells grow
@@ -36,13 +36,13 @@ stored_kept a b g r stored s f n p h = record {
       ∙ ap (λ z. add 32 (add 32 z s.offset) k) (sym (grown_word a b g r x s.base.0 p h.base.0));
 }
 
-pub piece_kept : (a b : Build) (g r : ℕ) (stored : List StoredByte) (q : ℕ) (z : Piece) → Grown a b g r → IsPiece a.dag stored q z → IsPiece b.dag stored q z
-piece_kept a b g r stored q Entry p h = h
+pub piece_kept : (a b : Build) (g r : ℕ) (stored : List StoredByte) (q : ℕ) (z : Piece) → Grown a b g r → IsPiece a stored q z → IsPiece b stored q z
+piece_kept a b g r stored q (Entry part) p h = part_kept a b part p.question h
 piece_kept a b g r stored q (Store m s f n) p h = (h.0, stored_kept a b g r stored s f n p h.1)
 piece_kept a b g r stored q (Join c m n) p h = (grown_width a b g r 1 c.0 p h.0, h.1, h.2)
 
-pub pieces_kept : (a b : Build) (g r : ℕ) (stored : List StoredByte) (pieces : List Piece) → Grown a b g r → ArePieces a.dag stored pieces →
-    ArePieces b.dag stored pieces
+pub pieces_kept : (a b : Build) (g r : ℕ) (stored : List StoredByte) (pieces : List Piece) → Grown a b g r → ArePieces a stored pieces →
+    ArePieces b stored pieces
 pieces_kept a b g r stored pieces p h q l = piece_kept a b g r stored q (piece_at pieces q) p (h q l)
 
 pub split_kept : (a b : Build) (g r t base offset : ℕ) → Grown a b g r → t < length a.dag → IsSplit a.dag t base offset → IsSplit b.dag t base offset
@@ -53,10 +53,10 @@ split_kept a b g r t base offset p l h = record {
 }
 
 -- pieces rise
-pub piece_rises : (nodes : List TermNode) (stored : List StoredByte) (q : ℕ) (z : Piece) → IsPiece nodes stored q z → IsRising q z
-piece_rises nodes stored q Entry h = tt
-piece_rises nodes stored q (Store m s f n) h = h.0
-piece_rises nodes stored q (Join c a b) h = (h.1, h.2)
+pub piece_rises : (b : Build) (stored : List StoredByte) (q : ℕ) (z : Piece) → IsPiece b stored q z → IsRising q z
+piece_rises b stored q (Entry p) h = tt
+piece_rises b stored q (Store m s f n) h = h.0
+piece_rises b stored q (Join c m n) h = (h.1, h.2)
 
 -- stored bytes have their words as cells grow
 bytes_same : (a b : Build) (g r : ℕ) (x : TermReading) (stored : List StoredByte) (f n t y : ℕ) → Grown a b g r → AreBytes a.dag stored f n → t < length a.dag →
@@ -71,11 +71,11 @@ bytes_same a b g r x stored f n t y p h l =
 -- the byte of a piece over terms that have the bytes of the pieces that it needs
 pub piece_agrees : (a b : Build) (g r : ℕ) (x : TermReading) (stored : List StoredByte) (q : ℕ) (z : Piece) (at : Split) (t : ℕ) (chain : List Term)
     (bytes : ℕ → ℕ) (marks : List Bool) →
-    IsBuilt a → Grown a b g r → InRange x → IsPiece a.dag stored q z → HasWidth a.dag 32 t → IsSplit a.dag t at.base.0 at.offset → Needs marks at z →
+    IsBuilt a → Grown a b g r → InRange x → IsPiece a stored q z → HasWidth a.dag 32 t → IsSplit a.dag t at.base.0 at.offset → Needs marks at z →
     ((p : ℕ) → p < q → bool_at marks p ≡ true → term_word x b.dag (link chain p) ≡ bytes p) →
-    piece_byte (term_word x b.dag) (x.mem 0) (λ p. term_word x b.dag (link chain p)) stored z (term_word x b.dag t)
-    ≡ piece_byte (term_word x a.dag) (x.mem 0) bytes stored z (term_word x a.dag t)
-piece_agrees a b g r x stored q Entry at t chain bytes marks c p i h w s n e = ap (x.mem 0) (grown_word a b g r x t p w.0)
+    piece_byte (term_word x b.dag) x.mem (λ p. term_word x b.dag (link chain p)) stored z (term_word x b.dag t)
+    ≡ piece_byte (term_word x a.dag) x.mem bytes stored z (term_word x a.dag t)
+piece_agrees a b g r x stored q (Entry part) at t chain bytes marks c p i h w s n e = ap (x.mem part) (grown_word a b g r x t p w.0)
 piece_agrees a b g r x stored q (Store m to f k) at t chain bytes marks c p i h w s n e =
     bytes_same a b g r x stored f k t (term_word x b.dag (link chain m)) p h.1.are w.0 ∙ below (ends_in at to k) refl
   where
@@ -116,34 +116,6 @@ sum_next f pieces q l =
     in e) ∙ ap (sum_by f) (take_next pieces q l) ∙ sum_by-append f (take q pieces) (piece_at pieces q ∷ [])
     ∙ (let e : sum_by f (take q pieces) + (0 + f (piece_at pieces q)) ≡ sum_by f (take q pieces) + f (piece_at pieces q) = omega arith in e)
 
--- only the first piece reads the memory at entry
-reads_none : (nodes : List TermNode) (stored : List StoredByte) (q : ℕ) (z : Piece) → 1 ≤ q → IsPiece nodes stored q z → piece_reads z ≡ 0
-reads_none nodes stored q Entry l h = absurd (omega (arith, l, h))
-reads_none nodes stored q (Store m s f n) l h = refl
-reads_none nodes stored q (Join c a b) l h = refl
-
-reads_one : (z : Piece) → piece_reads z ≤ 1
-reads_one Entry = omega arith
-reads_one (Store m s f n) = omega arith
-reads_one (Join c a b) = omega arith
-
-pub one_read : (nodes : List TermNode) (stored : List StoredByte) (pieces : List Piece) (q : ℕ) → ArePieces nodes stored pieces → q ≤ length pieces →
-    sum_by piece_reads (take q pieces) ≤ 1
-one_read nodes stored pieces zero h l = omega arith
-one_read nodes stored pieces (suc zero) h l =
-    let e : suc zero ≡ 0 + 1 = omega arith in
-    omega (arith, ap (λ k. sum_by piece_reads (take k pieces)) e, sum_next piece_reads pieces 0 (omega (arith, l)), reads_one (piece_at pieces 0))
-one_read nodes stored pieces (suc (suc q)) h l =
-    let e : suc (suc q) ≡ suc q + 1 = omega arith in
-    omega (
-      arith,
-      ap (λ k. sum_by piece_reads (take k pieces)) e,
-      sum_next piece_reads pieces (suc q) (omega (arith, l)),
-      reads_none nodes stored (suc q)
-          (piece_at pieces (suc q)) (omega arith) (h (suc q) (omega (arith, l))),
-      one_read nodes stored pieces (suc q) h (omega (arith, l)),
-    )
-
 -- an element within a list does not hang on what stands for one behind it
 pub any_default : {X : Type 0} → (xs : List X) (i : ℕ) (d e : X) → i < length xs → get_or xs i d ≡ get_or xs i e
 any_default [] i d e l = absurd (omega arith)
@@ -151,12 +123,12 @@ any_default (x ∷ xs) zero d e l = refl
 any_default (x ∷ xs) (suc i) d e l = any_default xs i d e (omega arith)
 
 -- a piece of a list, as a call has it
-pub piece_here : (nodes : List TermNode) (stored other : List StoredByte) (pieces : List Piece) (q n : ℕ) (z : Piece) → ArePieces nodes stored pieces →
+pub piece_here : (b : Build) (stored other : List StoredByte) (pieces : List Piece) (q n : ℕ) (z : Piece) → ArePieces b stored pieces →
     q < length pieces → other ≡ stored → n ≡ q →
-    z ≡ piece_at pieces q → IsPiece nodes other n z
-piece_here nodes stored other pieces q n z h l e f g =
-    subst (λ (s : List StoredByte). IsPiece nodes s n z) (sym e) (subst
-    (λ (k : ℕ). IsPiece nodes stored k z) (sym f) (subst (IsPiece nodes stored q) (sym g) (h q l)))
+    z ≡ piece_at pieces q → IsPiece b other n z
+piece_here b stored other pieces q n z h l e f g =
+    subst (λ (s : List StoredByte). IsPiece b s n z) (sym e) (subst
+    (λ (k : ℕ). IsPiece b stored k z) (sym f) (subst (IsPiece b stored q) (sym g) (h q l)))
 
 -- the links up to a number
 abbrev pub AreLinks : (old new : Build) → List StoredByte → List Piece → List Bool → (address : ℕ) → (q : ℕ) → List Term → Type 0
@@ -165,24 +137,24 @@ AreLinks old new stored pieces marks t q chain = (p : ℕ) → p < q → bool_at
 -- one more link, of a marked piece
 pub marked_next : (old mid new : Build) (g r h s : ℕ) (stored other : List StoredByte) (pieces : List Piece) (marks : List Bool) (at : Split) (t q : ℕ)
     (chain same : List Term) (z : Piece) (y : Term) →
-    IsBuilt old → ArePieces old.dag stored pieces → q < length pieces → AreClosed marks pieces at 0 → q < length marks → bool_at marks q ≡ true →
+    IsBuilt old → ArePieces old stored pieces → q < length pieces → AreClosed marks pieces at 0 → q < length marks → bool_at marks q ≡ true →
     IsSplit old.dag t at.base.0 at.offset →
     HasWidth old.dag 32 t → other ≡ stored → same ≡ chain → z ≡ piece_at pieces q → length chain ≡ q → Grown old mid g r →
     AreLinks old mid stored pieces marks t q chain → Grown mid new h s →
-    IsByte new y.0 (λ x. piece_byte (term_word x mid.dag) (x.mem 0) (λ p. term_word x mid.dag (link same p)) other z (term_word x mid.dag t)) →
+    IsByte new y.0 (λ x. piece_byte (term_word x mid.dag) x.mem (λ p. term_word x mid.dag (link same p)) other z (term_word x mid.dag t)) →
     AreLinks old new stored pieces marks t (q + 1) (chain ++ y ∷ [])
 marked_next old mid new g r h s stored other pieces marks at t q chain same z y c d l e m k i w eo es ez n p f v b p' lp mp = elim (cases_lt p' q) [
   | inl j ↦ subst (IsByteOf old new stored pieces p' t) (sym (linked chain y p' (omega (arith, n, j))))
       (byte_later old mid new g r h s stored pieces p' t (link chain p') p.built v (f p' j mp))
   | inr j ↦ (
       let a : p' ≡ q = omega (arith, lp, j) in
-      let one : IsByte new y.0 (λ x. piece_byte (term_word x mid.dag) (x.mem 0)
+      let one : IsByte new y.0 (λ x. piece_byte (term_word x mid.dag) x.mem
       (λ p. term_word x mid.dag (link chain p)) stored (piece_at pieces q) (term_word x mid.dag t)) =
-      subst (λ (u : List StoredByte). IsByte new y.0 (λ x. piece_byte (term_word x mid.dag) (x.mem 0)
+      subst (λ (u : List StoredByte). IsByte new y.0 (λ x. piece_byte (term_word x mid.dag) x.mem
       (λ p. term_word x mid.dag (link chain p)) u (piece_at pieces q) (term_word x mid.dag t))) eo
-      (subst (λ (u : List Term). IsByte new y.0 (λ x. piece_byte (term_word x mid.dag) (x.mem 0)
+      (subst (λ (u : List Term). IsByte new y.0 (λ x. piece_byte (term_word x mid.dag) x.mem
       (λ p. term_word x mid.dag (link u p)) other (piece_at pieces q) (term_word x mid.dag t))) es
-      (subst (λ (u : Piece). IsByte new y.0 (λ x. piece_byte (term_word x mid.dag) (x.mem 0)
+      (subst (λ (u : Piece). IsByte new y.0 (λ x. piece_byte (term_word x mid.dag) x.mem
       (λ p. term_word x mid.dag (link same p)) other u (term_word x mid.dag t))) ez b)) in
       subst (IsByteOf old new stored pieces p' t) (sym (linked_last chain y p' (a ∙ sym n)))
       (subst (λ (u : ℕ). IsByteOf old new stored pieces u t y.0) (sym a) (record {
@@ -205,10 +177,10 @@ unmarked_next old new stored pieces marks t q chain y k n f p lp mp = elim (case
 ]
 
 -- the byte of a piece over terms that were there before
-pub piece_words : (a b : Build) (g r : ℕ) (x : TermReading) (m : Memory) (stored : List StoredByte) (q : ℕ) (z : Piece) (bytes : ℕ → ℕ) (i : ℕ) →
-    Grown a b g r → IsPiece a.dag stored q z →
+pub piece_words : (a b : Build) (g r : ℕ) (x : TermReading) (m : ℕ → Memory) (stored : List StoredByte) (q : ℕ) (z : Piece) (bytes : ℕ → ℕ) (i : ℕ) →
+    Grown a b g r → IsPiece a stored q z →
     piece_byte (term_word x b.dag) m bytes stored z i ≡ piece_byte (term_word x a.dag) m bytes stored z i
-piece_words a b g r x m stored q Entry bytes i p h = refl
+piece_words a b g r x m stored q (Entry part) bytes i p h = refl
 piece_words a b g r x m stored q (Store d to f k) bytes i p h =
     puts_same i _ _ _ _ k (bytes d)
     (λ n l. grown_word a b g r x (stored_at stored (f + n)).address.0 p (h.1.are.addresses n l).0)
@@ -216,13 +188,13 @@ piece_words a b g r x m stored q (Store d to f k) bytes i p h =
 piece_words a b g r x m stored q (Join c d e) bytes i p h = ap (λ z. select z (bytes d) (bytes e)) (grown_word a b g r x c.0 p h.0.0)
 
 -- the byte of a piece at the address of a term that was there before
-pub byte_before : (a b d : Build) (g r : ℕ) (stored : List StoredByte) (pieces : List Piece) (q n t y : ℕ) → Grown a b g r → ArePieces a.dag stored pieces →
+pub byte_before : (a b d : Build) (g r : ℕ) (stored : List StoredByte) (pieces : List Piece) (q n t y : ℕ) → Grown a b g r → ArePieces a stored pieces →
     t < length a.dag → n ≡ q →
     IsByteOf b d stored pieces n t y → IsByteOf a d stored pieces q t y
 byte_before a b d g r stored pieces q n t y p h l e k = subst (λ (z : ℕ). IsByteOf a d stored pieces z t y) e (record {
   place = k.place;
   value = λ x i v bytes f. k.value x i v bytes (λ j m.
       f j m
-      ∙ ap (piece_byte (term_word x a.dag) (x.mem 0) bytes stored (piece_at pieces j)) (sym (grown_word a b g r x t p l))
-      ∙ sym (piece_words a b g r x (x.mem 0) stored j (piece_at pieces j) bytes (term_word x b.dag t) p (h j m)));
+      ∙ ap (piece_byte (term_word x a.dag) x.mem bytes stored (piece_at pieces j)) (sym (grown_word a b g r x t p l))
+      ∙ sym (piece_words a b g r x x.mem stored j (piece_at pieces j) bytes (term_word x b.dag t) p (h j m)));
 })

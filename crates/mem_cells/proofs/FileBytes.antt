@@ -13,10 +13,11 @@ use Rattle.std.proofs.lemmas.List.Kept.{Contains-dedup_nat, Contains-from_dedup}
 use Rattle.std.proofs.lemmas.Map.Keys.{IsStrictlyIncreasing-dedup}
 use Rattle.std.proofs.lemmas.Bool.Decides.{nat_tests}
 use Rattle.word_spec.specs.Words.{add}
-use Rattle.walk_spec.specs.Unrolled.{ByteRun, byte_in_run, byte_of_runs}
+use Rattle.walk_spec.specs.Unrolled.{ByteRun, byte_in_run, byte_of_runs, is_in}
 use Rattle.term_spec.specs.WalkQuestions.{is_asked}
 use Rattle.known_bytes.specs.declared.listing.Known.{Known}
 use Rattle.known_bytes.specs.Runs.{run_of, sum_of}
+use Rattle.question_form.specs.Views.{kept_of}
 use Rattle.mem_cells.specs.declared.file_bytes.FileByte.{FileByte}
 use Rattle.mem_cells.specs.Asked.{byte_of_run, file_byte, and_byte, AreFileBytes}
 
@@ -164,53 +165,62 @@ pub few_known : (known : List Known) (xs : List ℕ) (i n : ℕ) → IsStrictlyI
 few_known known xs i n h l e =
     omega (arith, e, ap (hits (is_known (map run_of known))) (take_all i xs l), hits_runs (map run_of known) xs (rises_by xs 0 (λ k. omega arith) h))
 
-and_more : (runs : List ByteRun) (xs : List ℕ) (bytes : List FileByte) (a : ℕ) (o : Option ℕ) → o ≡ byte_of_runs runs a →
-    AreFileBytes runs (Contains xs) bytes →
-    AreFileBytes runs (Contains (xs ++ a ∷ [])) (and_byte bytes a o)
-and_more runs xs bytes a None e h = record {
-  sound = λ f k. let s = h.sound f k in (Contains-append_left xs (a ∷ []) f.at s.0, s.1);
+and_more : (runs : List ByteRun) (heads : ℕ → Bool) (xs : List ℕ) (bytes : List FileByte) (a : ℕ) (o : Option ℕ) → o ≡ byte_of_runs runs a →
+    AreFileBytes runs (Contains xs) heads bytes →
+    AreFileBytes runs (Contains (xs ++ a ∷ [])) heads (and_byte bytes a (heads a) o)
+and_more runs heads xs bytes a None e h = record {
+  sound = λ f k. let s = h.sound f k in (Contains-append_left xs (a ∷ []) f.at s.0, s.1, s.2);
   complete = λ y b k g. elim (Contains-push_cases xs a y k) [
     | inl m ↦ h.complete y b m g
     | inr q ↦ (let z : None ≡ Some b = e ∙ ap (byte_of_runs runs) q ∙ g in absurd (cc))
   ];
 }
-and_more runs xs bytes a (Some c) e h = record {
-  sound = λ f k. elim (Contains-push_cases bytes (file_byte a c) f k) [
-    | inl m ↦ (let s = h.sound f m in (Contains-append_left xs (a ∷ []) f.at s.0, s.1))
-    | inr q ↦ subst (λ (z : FileByte). Contains (xs ++ a ∷ []) z.at × (byte_of_runs runs z.at ≡ Some z.byte)) q (Contains-push xs a, sym e)
+and_more runs heads xs bytes a (Some c) e h = record {
+  sound = λ f k. elim (Contains-push_cases bytes (file_byte heads a c) f k) [
+    | inl m ↦ (let s = h.sound f m in (Contains-append_left xs (a ∷ []) f.at s.0, s.1, s.2))
+    | inr q ↦ subst (λ (z : FileByte). Contains (xs ++ a ∷ []) z.at × (byte_of_runs runs z.at ≡ Some z.byte) × (z.head ≡ heads z.at)) q
+        (Contains-push xs a, sym e, refl)
   ];
   complete = λ y b k g. elim (Contains-push_cases xs a y k) [
-    | inl m ↦ Contains-append_left bytes (file_byte a c ∷ []) (file_byte y b) (h.complete y b m g)
+    | inl m ↦ Contains-append_left bytes (file_byte heads a c ∷ []) (file_byte heads y b) (h.complete y b m g)
     | inr q ↦ (
         let z : Some c ≡ Some b = e ∙ ap (byte_of_runs runs) q ∙ g in
         let w : c ≡ b = (cc) in
-        subst (λ (i : ℕ). Contains (bytes ++ file_byte a c ∷ []) (file_byte i b)) q (subst
-        (λ (i : ℕ). Contains (bytes ++ file_byte a c ∷ []) (file_byte a i)) w (Contains-push bytes (file_byte a c))))
+        subst (λ (i : ℕ). Contains (bytes ++ file_byte heads a c ∷ []) (file_byte heads i b)) q (subst
+        (λ (i : ℕ). Contains (bytes ++ file_byte heads a c ∷ []) (file_byte heads a i)) w (Contains-push bytes (file_byte heads a c))))
   ];
 }
 
 -- the bytes of one address more
-pub file_next : (runs : List ByteRun) (xs : List ℕ) (i d : ℕ) (bytes more : List FileByte) (o : Option ℕ) → i < length xs →
-    more ≡ and_byte bytes (get_or xs i d) o → o ≡ byte_of_runs runs (get_or xs i d) →
-    AreFileBytes runs (Contains (take i xs)) bytes → AreFileBytes runs (Contains (take (i + 1) xs)) more
-file_next runs xs i d bytes more o l e f h =
-    subst (λ (z : List FileByte). AreFileBytes runs (Contains (take (i + 1) xs)) z) (sym e)
-    (subst (λ (z : List ℕ). AreFileBytes runs (Contains z) (and_byte bytes (get_or xs i d) o)) (sym (take_more xs i d l))
-    (and_more runs (take i xs) bytes (get_or xs i d) o f h))
+pub file_next : (runs : List ByteRun) (heads : ℕ → Bool) (xs : List ℕ) (i d : ℕ) (bytes more : List FileByte) (head : Bool) (o : Option ℕ) → i < length xs →
+    more ≡ and_byte bytes (get_or xs i d) head o → head ≡ heads (get_or xs i d) → o ≡ byte_of_runs runs (get_or xs i d) →
+    AreFileBytes runs (Contains (take i xs)) heads bytes → AreFileBytes runs (Contains (take (i + 1) xs)) heads more
+file_next runs heads xs i d bytes more head o l e g f h =
+    subst (λ (z : List FileByte). AreFileBytes runs (Contains (take (i + 1) xs)) heads z) (sym (e ∙ ap (λ t. and_byte bytes (get_or xs i d) t o) g))
+    (subst (λ (z : List ℕ). AreFileBytes runs (Contains z) heads (and_byte bytes (get_or xs i d) (heads (get_or xs i d)) o)) (sym (take_more xs i d l))
+    (and_more runs heads (take i xs) bytes (get_or xs i d) o f h))
 
-count_by_found : (bytes : List FileByte) (a : ℕ) (o : Option ℕ) → length (and_byte bytes a o) ≡ length bytes + (if is_some o then 1 else 0)
-count_by_found bytes a None = omega arith
-count_by_found bytes a (Some b) = length-append bytes (file_byte a b ∷ [])
+count_by_found : (bytes : List FileByte) (a : ℕ) (head : Bool) (o : Option ℕ) → length (and_byte bytes a head o) ≡ length bytes + (if is_some o then 1 else 0)
+count_by_found bytes a head None = omega arith
+count_by_found bytes a head (Some b) = length-append bytes (file_byte (λ i. head) a b ∷ [])
 
 -- their count
-pub count_next : (runs : List ByteRun) (xs : List ℕ) (i d : ℕ) (bytes more : List FileByte) (o : Option ℕ) → i < length xs →
-    more ≡ and_byte bytes (get_or xs i d) o → o ≡ byte_of_runs runs (get_or xs i d) →
+pub count_next : (runs : List ByteRun) (xs : List ℕ) (i d : ℕ) (bytes more : List FileByte) (head : Bool) (o : Option ℕ) → i < length xs →
+    more ≡ and_byte bytes (get_or xs i d) head o → o ≡ byte_of_runs runs (get_or xs i d) →
     length bytes ≡ hits (is_known runs) (take i xs) → length more ≡ hits (is_known runs) (take (i + 1) xs)
-count_next runs xs i d bytes more o l e f h =
-    ap length e ∙ count_by_found bytes (get_or xs i d) o ∙ ap (λ z. z + (if is_some o then 1 else 0)) h ∙ ap
+count_next runs xs i d bytes more head o l e f h =
+    ap length e ∙ count_by_found bytes (get_or xs i d) head o ∙ ap (λ z. z + (if is_some o then 1 else 0)) h ∙ ap
     (λ z. hits (is_known runs) (take i xs) + (if is_some z then 1 else 0)) f
     ∙ sym (hits_push (is_known runs) (take i xs) (get_or xs i d)) ∙ ap (hits (is_known runs)) (sym (take_more xs i d l))
 
 -- of other words for the same addresses
-pub file_same : (runs : List ByteRun) (p q : ℕ → Type 0) (bytes : List FileByte) → ((a : ℕ) → p a ↔ q a) → AreFileBytes runs p bytes → AreFileBytes runs q bytes
-file_same runs p q bytes f h = record { sound = λ y k. let s = h.sound y k in ((f y.at).0 s.0, s.1); complete = λ a b k g. h.complete a b ((f a).1 k) g }
+pub file_same : (runs : List ByteRun) (p q : ℕ → Type 0) (heads : ℕ → Bool) (bytes : List FileByte) → ((a : ℕ) → p a ↔ q a) → AreFileBytes runs p heads bytes →
+    AreFileBytes runs q heads bytes
+file_same runs p q heads bytes f h = record {
+  sound = λ y k. let s = h.sound y k in ((f y.at).0 s.0, s.1, s.2);
+  complete = λ a b k g. h.complete a b ((f a).1 k) g;
+}
+
+-- the kept runs from a place on hold an address
+abbrev pub kept_from : List (ℕ × ℕ) → (place at : ℕ) → Bool
+kept_from kept i a = is_in (map kept_of (drop i kept)) a

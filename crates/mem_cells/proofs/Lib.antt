@@ -4,9 +4,11 @@ pub mod Chains
 pub mod FileBytes
 pub mod Gathered
 pub mod Growing
+pub mod Headless
 pub mod LoadedBytes
 pub mod Lowerings
 pub mod Made
+pub mod PartReads
 pub mod PushedPieces
 pub mod Puts
 pub mod Splits

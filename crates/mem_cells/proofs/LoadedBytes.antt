@@ -26,13 +26,13 @@ raised_word old mid new g r a c k t p w e f = record {
 
 -- memories of pieces stay so as cells grow
 pub memories_later : (a b : Build) (g r : ℕ) (x : TermReading) (stored : List StoredByte) (pieces : List Piece) (m : ℕ → Memory) → Grown a b g r →
-    ArePieces a.dag stored pieces →
-    AreMemories (term_word x a.dag) (x.mem 0) stored pieces m → AreMemories (term_word x b.dag) (x.mem 0) stored pieces m
-memories_later a b g r x stored pieces m p h f i l q k = f i l q k ∙ sym (piece_words a b g r x (x.mem 0) stored q (piece_at pieces q) (λ n. m n i) i p (h q k))
+    ArePieces a stored pieces →
+    AreMemories (term_word x a.dag) x.mem stored pieces m → AreMemories (term_word x b.dag) x.mem stored pieces m
+memories_later a b g r x stored pieces m p h f i l q k = f i l q k ∙ sym (piece_words a b g r x x.mem stored q (piece_at pieces q) (λ n. m n i) i p (h q k))
 
 -- the byte of a memory some bytes behind an address
 pub behind : (old mid new : Build) (g r : ℕ) (stored : List StoredByte) (pieces : List Piece) (q a c at t : ℕ) → Grown old mid g r →
-    ArePieces old.dag stored pieces →
+    ArePieces old stored pieces →
     IsWord mid.dag 32 at (λ x. add 32 (term_word x old.dag a) c) → IsByteOf mid new stored pieces q at t →
     IsOfMemory old new stored pieces q 8 t (λ x m. m (add 32 (term_word x old.dag a) c))
 behind old mid new g r stored pieces q a c at t p h w b = record {
@@ -63,7 +63,7 @@ next_number Big n f = let z : suc n ≡ n + 1 = omega arith in ap (λ k. number 
 
 -- one more byte of a load
 pub next_load : (old mid low new : Build) (g r h s k u : ℕ) (stored : List StoredByte) (pieces : List Piece) (q a n w b t : ℕ) (e : Endian) →
-    ArePieces old.dag stored pieces → HasWidth old.dag 32 a →
+    ArePieces old stored pieces → HasWidth old.dag 32 a →
     Grown old mid g r → Grown mid low h s → Grown low new k u → IsOfMemory old mid stored pieces q (8 * n) w (λ x m. load e n m (term_word x old.dag a)) →
     IsOfMemory mid low stored pieces q 8 b (λ x m. m (add 32 (term_word x mid.dag a) n)) →
     IsWord new.dag (8 * (n + 1)) t (λ x. with_byte e n (term_word x low.dag w) (term_word x low.dag b)) →

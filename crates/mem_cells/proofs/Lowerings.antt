@@ -1,5 +1,5 @@
 -- Each kind of term as cells.
-use Rattle.std.proofs.Common.{◌≡◌, ℕ, zero, suc, ◌+◌, ◌*◌, ◌^◌, ◌<◌, ◌≤◌, List, [], ◌∷◌, ◌++◌, length, take, refl, ap, sym, ◌∙◌, subst, arith}
+use Rattle.std.proofs.Common.{◌≡◌, Bool, true, false, true≢false, ℕ, zero, suc, ◌+◌, ◌*◌, ◌^◌, ◌<◌, ◌≤◌, List, [], ◌∷◌, ◌++◌, length, take, refl, ap, sym, ◌∙◌, subst, arith}
 use Rattle.std.specs.Prelude.{sum_by, slice_index, nat_lt, if◌then◌else◌, Contains}
 use Rattle.std.specs.List.{AllByRecursion}
 use Rattle.std.proofs.lemmas.List.{get_or-take}
@@ -10,25 +10,28 @@ use Rattle.word_spec.specs.Words.{add, sub}
 use Rattle.word_spec.specs.Memory.{Memory, Endian, number, load, store, byte_of}
 use Rattle.term_spec.specs.Terms.{TermReading, InRange, TermNode, RegisterNode, FlagNode, ChoiceNode, BaseNode, MemoryNode, ConstantNode, BinaryNode, NotNode, SelectNode, ExtractNode, ConcatNode, ExtendNode, LoadNode, StoreNode, JoinNode, TakeNode, AreTyped, IsTypedOver, HasWidth, node_at, node_value, values_from, value_at, width_of, word_value, select, term_word, term_value, term_gates, term_loads, own_gates, own_loads}
 use Rattle.term_spec.specs.Cells.{IsOfWords}
-use Rattle.walk_spec.specs.Unrolled.{UnrolledProgram}
-use Rattle.term_spec.specs.WalkQuestions.{IsNamedBelow, AreNamedBelow}
-use Rattle.question_form.specs.Questions.{program_of_question}
+use Rattle.frame_spec.specs.FrameWalk.{UnrolledProgram}
+use Rattle.frame_terms.specs.PassiveFrames.{IsNamedBelow, AreNamedBelow}
+use Rattle.question_form.specs.declared.questions.Question.{Question}
+use Rattle.question_form.specs.FrameQuestions.{frame_of_question, heads_of_question}
 use Rattle.term_dag.specs.declared.nodes.Term.{Term}
 use Rattle.term_dag.specs.Made.{operands, moved}
 use Rattle.term_dag.proofs.ListLaws.{longer, unfolds, typed_before, typed_here, place_before}
 use Rattle.term_dag.proofs.Ranges.{word_only, result_is_width}
-use Rattle.term_dag.proofs.Copies.{moved_typed, moved_value, moved_width, moved_gates, moved_loads, moved_named}
+use Rattle.term_dag.proofs.Copies.{moved_typed, moved_value, moved_width, moved_gates, moved_loads}
 use Rattle.mem_cells.specs.declared.building.Build.{Build}
 use Rattle.mem_cells.specs.declared.pieces.StoredByte.{StoredByte}
 use Rattle.mem_cells.specs.declared.pieces.Piece.{Piece}
 use Rattle.mem_cells.specs.declared.pieces.Piece.TheVariants.{Entry, Store, Join}
 use Rattle.mem_cells.specs.Pieces.{puts, link, stored_at, piece_gates, piece_at, IsStored, IsPiece}
-use Rattle.mem_cells.specs.Building.{program_of_build, read_places, IsBuilt, Grown, GivesAll, IsWord, IsOfMemory, IsStore, IsOwnNode}
+use Rattle.mem_cells.specs.Parts.{frame_of_build, heads_of_build, HasPart}
+use Rattle.mem_cells.specs.Building.{read_places, IsBuilt, Grown, GivesAll, IsWord, IsOfMemory, IsStore, IsOwnNode}
 use Rattle.mem_cells.specs.Lowering.{source_of, Mean, Stands, AreLowered, IsNext, IsNextOf}
-use Rattle.mem_cells.proofs.Growing.{grown_none, named_more}
+use Rattle.mem_cells.proofs.Growing.{grown_none, named_more, named_moved}
 use Rattle.mem_cells.proofs.Chains.{pieces_kept}
 use Rattle.mem_cells.proofs.LoadedBytes.{memories_later}
-use Rattle.mem_cells.proofs.PushedPieces.{longer_same, longer_by, pieces_pushed, and_memory, other_memory, that_memory, memory_of, memories_pushed, first_piece}
+use Rattle.mem_cells.proofs.PartReads.{two_parts}
+use Rattle.mem_cells.proofs.PushedPieces.{piece_old, longer_same, longer_by, pieces_pushed, and_memory, other_memory, that_memory, memory_of, memories_pushed}
 use Rattle.mem_cells.proofs.Steps.{word_stands, memory_stands, costs_next}
 
 -- the operands of a word that is no load are words
@@ -74,9 +77,10 @@ word_facts ns (StoreNode n e m a v) h w = absurd w
 word_facts ns (JoinNode c a b) h w = absurd w
 word_facts ns (TakeNode n m a p) h w = absurd w
 
-pub next_word : (ns : List TermNode) (d : ℕ) (u : UnrolledProgram) (n : TermNode) → AreTyped ns → IsNext u ns d n → IsOfWords n → (1 ≤ width_of n) ×
+pub next_word : (ns : List TermNode) (d : ℕ) (u : UnrolledProgram) (heads : Bool) (n : TermNode) → AreTyped ns → IsNext u heads ns d n → IsOfWords n →
+    (1 ≤ width_of n) ×
     (own_loads n ≡ 0)
-next_word ns d u n h x w = word_facts ns n (typed_here ns d n h x.within x.is) w
+next_word ns d u heads n h x w = word_facts ns n (typed_here ns d n h x.within x.is) w
 
 -- they are words before it
 words_before : (ns : List TermNode) (d : ℕ) (P : ℕ → Type 0) (n : TermNode) → AreTyped ns → d < length ns → n ≡ node_at ns d → 1 ≤ width_of n →
@@ -91,30 +95,31 @@ words_before ns d P n h l e s o f =
 
 -- words stand for them
 pub operands_there : (ns : List TermNode) (d : ℕ) (b : Build) (words : List Term) (numbers : List ℕ) (stored : List StoredByte) (pieces : List Piece)
-    (u : UnrolledProgram) (n : TermNode) →
-    AreLowered ns d b words numbers stored pieces → IsNext u ns d n → 1 ≤ width_of n → own_loads n ≡ 0 → AllByRecursion (λ a. a < length words) (operands n)
-operands_there ns d b words numbers stored pieces u n h x w o =
+    (u : UnrolledProgram) (heads : Bool) (n : TermNode) →
+    AreLowered ns d b words numbers stored pieces → IsNext u heads ns d n → 1 ≤ width_of n → own_loads n ≡ 0 → AllByRecursion (λ a. a < length words)
+    (operands n)
+operands_there ns d b words numbers stored pieces u heads n h x w o =
     words_before ns d (λ a. a < length words) n h.typed x.within x.is w o (λ a l k. omega (arith, l, h.stands.word_count))
 
 moved_own : (ns : List TermNode) (d : ℕ) (b : Build) (words : List Term) (numbers : List ℕ) (stored : List StoredByte) (pieces : List Piece)
-    (u : UnrolledProgram) (n : TermNode) →
-    AreLowered ns d b words numbers stored pieces → IsNext u ns d n → 1 ≤ width_of n → own_loads n ≡ 0 →
-    IsOwnNode u (length (read_places b)) b.dag (moved (link words) n)
-moved_own ns d b words numbers stored pieces u n h x w o = record {
+    (u : UnrolledProgram) (heads : Bool) (n : TermNode) →
+    AreLowered ns d b words numbers stored pieces → IsNext u heads ns d n → 1 ≤ width_of n → own_loads n ≡ 0 →
+    IsOwnNode u heads (length (read_places b)) b.dag (moved (link words) n)
+moved_own ns d b words numbers stored pieces u heads n h x w o = record {
   typed = moved_typed ns b.dag (link words) n (typed_here ns d n h.typed x.within x.is)
       (words_before ns d (λ a. HasWidth b.dag (width_of (node_at ns a)) (link words a)) n h.typed x.within x.is w o (λ a l k. h.stands.widths a l k));
   word = omega (arith, moved_width (link words) n, w);
   loads = moved_loads (link words) n ∙ o;
-  named = moved_named u (length (read_places b)) (link words) n (named_more u 0 (length (read_places b)) n (omega arith) x.named);
+  named = named_moved u heads (length (read_places b)) (link words) n (named_more u heads 0 (length (read_places b)) n (omega arith) x.named);
 }
 
 -- so the node over these words may be made
 pub word_own : (ns : List TermNode) (d : ℕ) (b : Build) (words : List Term) (numbers : List ℕ) (stored : List StoredByte) (pieces : List Piece)
-    (u : UnrolledProgram) (n m : TermNode) →
-    AreLowered ns d b words numbers stored pieces → IsNext u ns d n → 1 ≤ width_of n → own_loads n ≡ 0 → m ≡ moved (link words) n →
-    IsOwnNode u (length (read_places b)) b.dag m
-word_own ns d b words numbers stored pieces u n m h x w o e = subst (IsOwnNode u (length (read_places b)) b.dag) (sym e)
-    (moved_own ns d b words numbers stored pieces u n h x w o)
+    (u : UnrolledProgram) (heads : Bool) (n m : TermNode) →
+    AreLowered ns d b words numbers stored pieces → IsNext u heads ns d n → 1 ≤ width_of n → own_loads n ≡ 0 → m ≡ moved (link words) n →
+    IsOwnNode u heads (length (read_places b)) b.dag m
+word_own ns d b words numbers stored pieces u heads n m h x w o e = subst (IsOwnNode u heads (length (read_places b)) b.dag) (sym e)
+    (moved_own ns d b words numbers stored pieces u heads n h x w o)
 
 -- a word that stands for a word has its value
 there : (ns : List TermNode) (d : ℕ) (b : Build) (words : List Term) (numbers : List ℕ) (stored : List StoredByte) (pieces : List Piece) (x : TermReading)
@@ -128,11 +133,12 @@ there ns d b words numbers stored pieces x m h y a l k =
 
 -- one more word that is no load
 pub word_lowered : (ns : List TermNode) (d : ℕ) (a b : Build) (words more : List Term) (numbers others : List ℕ) (stored : List StoredByte)
-    (pieces : List Piece) (u : UnrolledProgram) (n m : TermNode) (t : Term) (k : ℕ) →
-    AreLowered ns d a words numbers stored pieces → IsNext u ns d n → 1 ≤ width_of n → own_loads n ≡ 0 → m ≡ moved (link words) n → Grown a b (own_gates m) 0 →
+    (pieces : List Piece) (u : UnrolledProgram) (heads : Bool) (n m : TermNode) (t : Term) (k : ℕ) →
+    AreLowered ns d a words numbers stored pieces → IsNext u heads ns d n → 1 ≤ width_of n → own_loads n ≡ 0 → m ≡ moved (link words) n → Grown a b
+    (own_gates m) 0 →
     IsWord b.dag (width_of m) t.0 (λ x. (node_value x (values_from x [] a.dag) m).word) → more ≡ words ++ t ∷ [] → others ≡ numbers ++ k ∷ [] →
     AreLowered ns (d + 1) b more others stored pieces
-word_lowered ns d a b words more numbers others stored pieces u n m t k h x w o e p v ew en =
+word_lowered ns d a b words more numbers others stored pieces u heads n m t k h x w o e p v ew en =
     let width : width_of m ≡ width_of (node_at ns d) = ap width_of e ∙ moved_width (link words) n ∙ ap width_of x.is in
     record {
       typed = h.typed;
@@ -168,8 +174,9 @@ pub record IsLoadOf (ns : List TermNode) (d : ℕ) (n m a : ℕ) : Type 0 where
 at_before : (ns : List TermNode) (d w t : ℕ) → d < length ns → HasWidth (take d ns) w t → (t < d) × (width_of (node_at ns t) ≡ w)
 at_before ns d w t l h = let b = place_before ns d w t l h in (b, sym (ap width_of (get_or-take d ns t (MemoryNode 0) b)) ∙ h.1)
 
-pub load_of : (ns : List TermNode) (d : ℕ) (u : UnrolledProgram) (n m a : ℕ) (e : Endian) → AreTyped ns → IsNext u ns d (LoadNode n e m a) → IsLoadOf ns d n m a
-load_of ns d u n m a e h x =
+pub load_of : (ns : List TermNode) (d : ℕ) (u : UnrolledProgram) (heads : Bool) (n m a : ℕ) (e : Endian) → AreTyped ns →
+    IsNext u heads ns d (LoadNode n e m a) → IsLoadOf ns d n m a
+load_of ns d u heads n m a e h x =
     let t = typed_before ns d (LoadNode n e m a) h x.within x.is in
     record { bytes = t.0; memory = at_before ns d 0 m x.within t.1; address = at_before ns d 32 a x.within t.2 }
 
@@ -183,13 +190,13 @@ load_same e n a b f g q h =
 
 -- one more load
 pub load_lowered : (ns : List TermNode) (d : ℕ) (a b : Build) (words more : List Term) (numbers others : List ℕ) (stored : List StoredByte)
-    (pieces : List Piece) (u : UnrolledProgram) (n m p : ℕ) (e : Endian) (memory at : ℕ)
+    (pieces : List Piece) (u : UnrolledProgram) (heads : Bool) (n m p : ℕ) (e : Endian) (memory at : ℕ)
     (t : Term) (k : ℕ) →
-    AreLowered ns d a words numbers stored pieces → IsNext u ns d (LoadNode n e m p) → memory ≡ slice_index numbers m → at ≡ link words p →
+    AreLowered ns d a words numbers stored pieces → IsNext u heads ns d (LoadNode n e m p) → memory ≡ slice_index numbers m → at ≡ link words p →
     Grown a b (n * (64 + sum_by piece_gates pieces)) n → IsOfMemory a b stored pieces memory (8 * n) t.0 (λ x f. load e n f (term_word x a.dag at)) →
     more ≡ words ++ t ∷ [] → others ≡ numbers ++ k ∷ [] → AreLowered ns (d + 1) b more others stored pieces
-load_lowered ns d a b words more numbers others stored pieces u n m p e memory at t k h x em ea g v ew en =
-    let o = load_of ns d u n m p e h.typed x in
+load_lowered ns d a b words more numbers others stored pieces u heads n m p e memory at t k h x em ea g v ew en =
+    let o = load_of ns d u heads n m p e h.typed x in
     let width : 8 * n ≡ width_of (node_at ns d) = ap width_of x.is in
     record {
       typed = h.typed;
@@ -215,28 +222,29 @@ pub record IsStoreOf (ns : List TermNode) (d : ℕ) (n m a v : ℕ) : Type 0 whe
   pub address : (a < d) × (width_of (node_at ns a) ≡ 32)
   pub value : (v < d) × (width_of (node_at ns v) ≡ 8 * n)
 
-pub store_of : (ns : List TermNode) (d : ℕ) (u : UnrolledProgram) (n m a v : ℕ) (e : Endian) → AreTyped ns → IsNext u ns d (StoreNode n e m a v) →
+pub store_of : (ns : List TermNode) (d : ℕ) (u : UnrolledProgram) (heads : Bool) (n m a v : ℕ) (e : Endian) → AreTyped ns →
+    IsNext u heads ns d (StoreNode n e m a v) →
     IsStoreOf ns d n m a v
-store_of ns d u n m a v e h x =
+store_of ns d u heads n m a v e h x =
     let t = typed_before ns d (StoreNode n e m a v) h x.within x.is in
     record { bytes = t.0; memory = at_before ns d 0 m x.within t.1; address = at_before ns d 32 a x.within t.2; value = at_before ns d (8 * n) v x.within t.3 }
 
 store_piece : (a b : Build) (stored : List StoredByte) (m at v n count : ℕ) (e : Endian) (p : Piece) → m < count → IsStore a b stored m at v n e p →
-    IsPiece b.dag stored count p
-store_piece a b stored m at v n count e Entry l h = absurd h
+    IsPiece b stored count p
+store_piece a b stored m at v n count e (Entry part) l h = absurd h
 store_piece a b stored m at v n count e (Store q s f k) l h =
     (omega (arith, l, h.0), subst (λ (z : ℕ). IsStored b.dag stored s f z) (sym h.1) h.2.stored_bytes)
 store_piece a b stored m at v n count e (Join c q r) l h = absurd h
 
 store_gates : (a b : Build) (stored : List StoredByte) (m at v n : ℕ) (e : Endian) (p : Piece) → IsStore a b stored m at v n e p → piece_gates p ≡ 40 * n
-store_gates a b stored m at v n e Entry h = absurd h
+store_gates a b stored m at v n e (Entry part) h = absurd h
 store_gates a b stored m at v n e (Store q s f k) h = ap (λ z. 40 * z) h.1
 store_gates a b stored m at v n e (Join c q r) h = absurd h
 
 store_memory : (a b : Build) (stored : List StoredByte) (m at v n : ℕ) (e : Endian) (p : Piece) (x : TermReading) (f : ℕ → Memory) (i : ℕ) → InRange x →
     i < 2 ^ 32 → IsStore a b stored m at v n e p →
-    memory_of (term_word x b.dag) (x.mem 0) f stored p i ≡ store e n (f m) (term_word x a.dag at) (term_word x a.dag v) i
-store_memory a b stored m at v n e Entry x f i r l h = absurd h
+    memory_of (term_word x b.dag) x.mem f stored p i ≡ store e n (f m) (term_word x a.dag at) (term_word x a.dag v) i
+store_memory a b stored m at v n e (Entry part) x f i r l h = absurd h
 store_memory a b stored m at v n e (Store q s g k) x f i r l h =
     ap (λ z. puts i (λ j. term_word x b.dag (stored_at stored (g + j)).address.0) (λ j. term_word x b.dag (stored_at stored (g + j)).value.0) z (f q i)) h.1
     ∙ ap (λ z. puts i (λ j. term_word x b.dag (stored_at stored (g + j)).address.0) (λ j. term_word x b.dag (stored_at stored (g + j)).value.0) n (f z i)) h.0
@@ -249,14 +257,14 @@ store_same e n a b v w i f g p q h =
 
 -- one more store
 pub store_lowered : (ns : List TermNode) (d : ℕ) (a b : Build) (words more : List Term) (numbers others : List ℕ) (stored after rest : List StoredByte)
-    (pieces longest : List Piece) (u : UnrolledProgram)
+    (pieces longest : List Piece) (u : UnrolledProgram) (heads : Bool)
     (n m p v : ℕ) (e : Endian) (memory at value k : ℕ) (piece : Piece) (t : Term) →
-    AreLowered ns d a words numbers stored pieces → IsNext u ns d (StoreNode n e m p v) → memory ≡ slice_index numbers m → at ≡ link words p →
+    AreLowered ns d a words numbers stored pieces → IsNext u heads ns d (StoreNode n e m p v) → memory ≡ slice_index numbers m → at ≡ link words p →
     value ≡ link words v →
     Grown a b (n * 64) 0 → after ≡ stored ++ rest → IsStore a b after memory at value n e piece → k ≡ length pieces →
     more ≡ words ++ t ∷ [] → others ≡ numbers ++ k ∷ [] → longest ≡ pieces ++ piece ∷ [] → AreLowered ns (d + 1) b more others after longest
-store_lowered ns d a b words more numbers others stored after rest pieces longest u n m p v e memory at value k piece t h x em ea ev g es s ek ew en ep =
-    let o = store_of ns d u n m p v e h.typed x in
+store_lowered ns d a b words more numbers others stored after rest pieces longest u heads n m p v e memory at value k piece t h x em ea ev g es s ek ew en ep =
+    let o = store_of ns d u heads n m p v e h.typed x in
     let in_range : memory < length pieces = omega (arith, em, h.stands.within m o.memory.0 o.memory.1) in
     let y = longer_by stored rest after es in
     let is = store_piece a b after memory at value n (length pieces) e piece in_range s in
@@ -269,11 +277,11 @@ store_lowered ns d a b words more numbers others stored after rest pieces longes
           (subst (λ (z : List ℕ). Stands ns (d + 1) b (words ++ t ∷ []) z after longest) (sym en)
           (subst (λ (z : List Piece). Stands ns (d + 1) b (words ++ t ∷ []) (numbers ++ k ∷ []) after z) (sym ep)
           (memory_stands ns d a b (n * 64) 0 words numbers stored after pieces (pieces ++ piece ∷ []) t k g h.stands (sym (ap width_of x.is))
-          (pieces_pushed b.dag stored after pieces piece y old is) (omega (arith, count)) (omega (arith, count, ek))
+          (pieces_pushed b stored after pieces piece y old is) (omega (arith, count)) (piece_old pieces piece) (omega (arith, count, ek))
           (λ z i w f c.
-          let new = memory_of (term_word z b.dag) (z.mem 0) f after piece in (
+          let new = memory_of (term_word z b.dag) z.mem f after piece in (
             and_memory f (length pieces) new,
-            memories_pushed b.dag (term_word z b.dag) (z.mem 0) stored after pieces piece f y old is
+            memories_pushed b (term_word z b.dag) z.mem stored after pieces piece f y old is
                 (memories_later a b (n * 64) 0 z stored pieces f g h.stands.pieces c.are),
             λ q j l. other_memory f (length pieces) new q j l,
             λ j l.
@@ -296,8 +304,9 @@ pub record IsJoinOf (ns : List TermNode) (d : ℕ) (c m n : ℕ) : Type 0 where
   pub when_true : (m < d) × (width_of (node_at ns m) ≡ 0)
   pub when_false : (n < d) × (width_of (node_at ns n) ≡ 0)
 
-pub join_of : (ns : List TermNode) (d : ℕ) (u : UnrolledProgram) (c m n : ℕ) → AreTyped ns → IsNext u ns d (JoinNode c m n) → IsJoinOf ns d c m n
-join_of ns d u c m n h x =
+pub join_of : (ns : List TermNode) (d : ℕ) (u : UnrolledProgram) (heads : Bool) (c m n : ℕ) → AreTyped ns → IsNext u heads ns d (JoinNode c m n) →
+    IsJoinOf ns d c m n
+join_of ns d u heads c m n h x =
     let t = typed_before ns d (JoinNode c m n) h x.within x.is in
     record { condition = at_before ns d 1 c x.within t.0; when_true = at_before ns d 0 m x.within t.1; when_false = at_before ns d 0 n x.within t.2 }
 
@@ -306,21 +315,21 @@ select_same c d a b e f p q r = ap (λ z. select z a e) p ∙ ap (λ z. select d
 
 -- one more join
 pub join_lowered : (ns : List TermNode) (d : ℕ) (a : Build) (words more : List Term) (numbers others : List ℕ) (stored : List StoredByte)
-    (pieces longest : List Piece) (u : UnrolledProgram)
+    (pieces longest : List Piece) (u : UnrolledProgram) (heads : Bool)
     (c m n : ℕ) (condition : Term) (when_true when_false k : ℕ) (t : Term) →
-    AreLowered ns d a words numbers stored pieces → IsNext u ns d (JoinNode c m n) → condition.0 ≡ link words c → when_true ≡ slice_index numbers m →
+    AreLowered ns d a words numbers stored pieces → IsNext u heads ns d (JoinNode c m n) → condition.0 ≡ link words c → when_true ≡ slice_index numbers m →
     when_false ≡ slice_index numbers n → k ≡ length pieces →
     more ≡ words ++ t ∷ [] → others ≡ numbers ++ k ∷ [] → longest ≡ pieces ++ Join condition when_true when_false ∷ [] →
     AreLowered ns (d + 1) a more others stored longest
-join_lowered ns d a words more numbers others stored pieces longest u c m n condition when_true when_false k t h x ec et ef ek ew en ep =
-    let o = join_of ns d u c m n h.typed x in
+join_lowered ns d a words more numbers others stored pieces longest u heads c m n condition when_true when_false k t h x ec et ef ek ew en ep =
+    let o = join_of ns d u heads c m n h.typed x in
     let piece : Piece = Join condition when_true when_false in
     let y = longer_same stored in
     let g = grown_none a h.stands.built in
     let w : HasWidth a.dag 1 condition.0 =
     subst (λ (z : ℕ). HasWidth a.dag z condition.0) o.condition.1
     (subst (HasWidth a.dag (width_of (node_at ns c))) (sym ec) (h.stands.widths c o.condition.0 (omega (arith, o.condition.1)))) in
-    let is : IsPiece a.dag stored (length pieces) piece =
+    let is : IsPiece a stored (length pieces) piece =
     (w, omega (arith, et, h.stands.within m o.when_true.0 o.when_true.1), omega (arith, ef, h.stands.within n o.when_false.0 o.when_false.1)) in
     let count = longer pieces piece in
     record {
@@ -330,11 +339,11 @@ join_lowered ns d a words more numbers others stored pieces longest u c m n cond
           (subst (λ (z : List ℕ). Stands ns (d + 1) a (words ++ t ∷ []) z stored longest) (sym en)
           (subst (λ (z : List Piece). Stands ns (d + 1) a (words ++ t ∷ []) (numbers ++ k ∷ []) stored z) (sym ep)
           (memory_stands ns d a a 0 0 words numbers stored stored pieces (pieces ++ piece ∷ []) t k g h.stands (sym (ap width_of x.is))
-          (pieces_pushed a.dag stored stored pieces piece y h.stands.pieces is) (omega (arith, count)) (omega (arith, count, ek))
+          (pieces_pushed a stored stored pieces piece y h.stands.pieces is) (omega (arith, count)) (piece_old pieces piece) (omega (arith, count, ek))
           (λ z i v f e.
-          let new = memory_of (term_word z a.dag) (z.mem 0) f stored piece in (
+          let new = memory_of (term_word z a.dag) z.mem f stored piece in (
             and_memory f (length pieces) new,
-            memories_pushed a.dag (term_word z a.dag) (z.mem 0) stored stored pieces piece f y h.stands.pieces is e.are,
+            memories_pushed a (term_word z a.dag) z.mem stored stored pieces piece f y h.stands.pieces is e.are,
             λ q j l. other_memory f (length pieces) new q j l,
             λ j l.
                 that_memory f (length pieces) new k j ek
@@ -350,31 +359,31 @@ join_lowered ns d a words more numbers others stored pieces longest u c m n cond
           (omega (arith, ap (sum_by piece_gates) ep, sum_by-append piece_gates pieces (piece ∷ [])));
     }
 
--- the memory at entry
+-- the memory of a part
 pub entry_lowered : (ns : List TermNode) (d : ℕ) (a : Build) (words more : List Term) (numbers others : List ℕ) (stored : List StoredByte) (pieces : List Piece)
-    (u : UnrolledProgram) (part : ℕ) (t : Term) →
-    AreLowered ns d a words numbers stored pieces → IsNext u ns d (MemoryNode part) → more ≡ words ++ t ∷ [] → others ≡ numbers ++ 0 ∷ [] →
-    AreLowered ns (d + 1) a more others stored pieces
-entry_lowered ns d a words more numbers others stored pieces u part t h x ew en =
-    let first = first_piece a.dag stored (piece_at pieces 0) (h.stands.pieces 0 (omega (arith, h.stands.some))) in
+    (u : UnrolledProgram) (heads : Bool) (part : ℕ) (t : Term) →
+    AreLowered ns d a words numbers stored pieces → IsNext u heads ns d (MemoryNode part) → HasPart a part → more ≡ words ++ t ∷ [] →
+    others ≡ numbers ++ part ∷ [] → AreLowered ns (d + 1) a more others stored pieces
+entry_lowered ns d a words more numbers others stored pieces u heads part t h x has ew en =
+    let first = h.stands.entries part has in
     record {
       typed = h.typed;
       few = omega (arith, x.within);
       stands = subst (λ (z : List Term). Stands ns (d + 1) a z others stored pieces) (sym ew)
           (subst (λ (z : List ℕ). Stands ns (d + 1) a (words ++ t ∷ []) z stored pieces) (sym en)
-          (memory_stands ns d a a 0 0 words numbers stored stored pieces pieces t 0 (grown_none a h.stands.built) h.stands
-          (sym (ap width_of x.is)) h.stands.pieces (omega arith) (omega (arith, h.stands.some))
+          (memory_stands ns d a a 0 0 words numbers stored stored pieces pieces t part (grown_none a h.stands.built) h.stands
+          (sym (ap width_of x.is)) h.stands.pieces (omega arith) (λ q l. refl) first.0
           (λ z i v f e. (
             f,
             e.are,
             λ q j l. refl,
             λ j l.
-                e.are j l 0 (omega (arith, h.stands.some))
-                ∙ ap (λ q. memory_of (term_word z a.dag) (z.mem 0) f stored q j) first
-                ∙ ap (λ k. z.mem k j) (sym x.named)
+                e.are j l part first.0
+                ∙ ap (λ q. memory_of (term_word z a.dag) z.mem f stored q j) first.1
                 ∙ ap (λ q. q.bytes j) (sym (of_node z ns d (MemoryNode part) h.typed x.within x.is)),
           ))));
-      costs = costs_next ns d (MemoryNode part) (term_gates a.dag) (length (read_places a)) (sum_by piece_gates pieces) (term_gates a.dag) (length (read_places a))
+      costs = costs_next ns d (MemoryNode part) (term_gates a.dag) (length (read_places a)) (sum_by piece_gates pieces) (term_gates a.dag) (length
+          (read_places a))
           (sum_by piece_gates pieces) x.within x.is h.costs (omega arith) (omega arith) (omega arith);
     }
 
@@ -387,18 +396,41 @@ built_nothing a e f = record {
   loads = ap term_loads e;
   addresses = λ j l. absurd (omega (arith, l, ap length f));
   early = λ j i l h. absurd (omega (arith, l, ap length f));
+  read = λ j l. absurd (omega (arith, l, ap length f));
 }
 
-entry_is : (nodes : List TermNode) (q : ℕ) → q < 1 → IsPiece nodes [] q (piece_at (Entry ∷ []) q)
-entry_is nodes zero l = refl
-entry_is nodes (suc q) l = absurd (omega (arith, l))
+-- the memories that the parts begin with
+abbrev pub starts : (heads : Bool) → List Piece
+starts heads = Entry 0 ∷ (if heads then Entry 1 ∷ [] else [])
 
-entry_has : (w : ℕ → ℕ) (m : Memory) (i q : ℕ) → q < 1 → m i ≡ memory_of w m (λ p. m) [] (piece_at (Entry ∷ []) q) i
-entry_has w m i zero l = refl
-entry_has w m i (suc q) l = absurd (omega (arith, l))
+start_is : (a : Build) (heads : Bool) → heads_of_build a ≡ heads → (q : ℕ) → q < length (starts heads) → IsPiece a [] q (piece_at (starts heads) q)
+start_is a true e zero l = tt
+start_is a true e (suc zero) l = e
+start_is a true e (suc (suc q)) l = absurd (omega (arith, l))
+start_is a false e zero l = tt
+start_is a false e (suc q) l = absurd (omega (arith, l))
+
+start_has : (w : ℕ → ℕ) (m : ℕ → Memory) (heads : Bool) (i q : ℕ) → q < length (starts heads) → m q i ≡ memory_of w m m [] (piece_at (starts heads) q) i
+start_has w m true i zero l = refl
+start_has w m true i (suc zero) l = refl
+start_has w m true i (suc (suc q)) l = absurd (omega (arith, l))
+start_has w m false i zero l = refl
+start_has w m false i (suc q) l = absurd (omega (arith, l))
+
+starts_with : (a : Build) (heads : Bool) → heads_of_build a ≡ heads → (p : ℕ) → p < 2 → HasPart a p →
+    (p < length (starts heads)) × (piece_at (starts heads) p ≡ Entry p)
+starts_with a true e zero l h = (omega arith, refl)
+starts_with a true e (suc zero) l h = (omega arith, refl)
+starts_with a false e zero l h = (omega arith, refl)
+starts_with a false e (suc zero) l h = absurd (true≢false (sym h ∙ e))
+starts_with a heads e (suc (suc p)) l h = absurd (omega (arith, l))
+
+starts_free : (heads : Bool) → sum_by piece_gates (starts heads) ≡ 0
+starts_free true = refl
+starts_free false = refl
 
 -- no term is lowered yet
-none_lowered : (ns : List TermNode) (a : Build) → AreTyped ns → a.dag ≡ [] → read_places a ≡ [] → AreLowered ns 0 a [] [] [] (Entry ∷ [])
+none_lowered : (ns : List TermNode) (a : Build) → AreTyped ns → a.dag ≡ [] → read_places a ≡ [] → AreLowered ns 0 a [] [] [] (starts (heads_of_build a))
 none_lowered ns a h e f = record {
   typed = h;
   few = omega arith;
@@ -406,25 +438,25 @@ none_lowered ns a h e f = record {
     built = built_nothing a e f;
     word_count = refl;
     number_count = refl;
-    some = omega arith;
-    pieces = entry_is a.dag;
+    entries = λ p q. starts_with a (heads_of_build a) refl p (two_parts a p q) q;
+    pieces = start_is a (heads_of_build a) refl;
     widths = λ t l k. absurd (omega (arith, l));
     within = λ t l k. absurd (omega (arith, l));
     means = λ x i v. (
-      λ q. x.mem 0,
+      x.mem,
       record {
-        are = λ i l q b. entry_has (term_word x a.dag) (x.mem 0) i q b;
+        are = λ i l q b. start_has (term_word x a.dag) x.mem (heads_of_build a) i q b;
         words = λ t l k. absurd (omega (arith, l));
         bytes = λ t l k i b. absurd (omega (arith, l));
       },
     );
   };
-  costs = record { gates = omega (arith, ap term_gates e); reads = omega (arith, ap length f); below = omega arith };
+  costs = record { gates = omega (arith, ap term_gates e); reads = omega (arith, ap length f); below = omega (arith, starts_free (heads_of_build a)) };
 }
 
 pub start_lowered : (ns : List TermNode) (a : Build) (words : List Term) (numbers : List ℕ) (stored : List StoredByte) (pieces : List Piece) → AreTyped ns →
     a.dag ≡ [] → read_places a ≡ [] → words ≡ [] → numbers ≡ [] →
-    stored ≡ [] → pieces ≡ Entry ∷ [] → AreLowered ns 0 a words numbers stored pieces
+    stored ≡ [] → pieces ≡ starts (heads_of_build a) → AreLowered ns 0 a words numbers stored pieces
 start_lowered ns a words numbers stored pieces h e f ew en es ep =
     subst (λ (z : List Term). AreLowered ns 0 a z numbers stored pieces) (sym ew)
     (subst (λ (z : List ℕ). AreLowered ns 0 a [] z stored pieces) (sym en)
@@ -433,14 +465,13 @@ start_lowered ns a words numbers stored pieces h e f ew en es ep =
 
 -- the next node of a question
 pub next_of : (a b : Build) (d : ℕ) (n : TermNode) → b.question ≡ a.question → d < length (source_of a) → n ≡ node_at (source_of a) d →
-    AreNamedBelow (program_of_build a) 0 (source_of a) → IsNextOf d b n
+    AreNamedBelow (frame_of_build a) (heads_of_build a) 0 (source_of a) → IsNextOf d b n
 next_of a b d n e l is h =
     let es : source_of b ≡ source_of a = ap (λ q. q.now.dag) e in
-    let eu : program_of_build b ≡ program_of_build a = ap (λ q. program_of_question q.now) e in
     record {
       within = omega (arith, l, ap length es);
       is = is ∙ ap (λ z. node_at z d) (sym es);
-      named = subst (λ (u : UnrolledProgram). IsNamedBelow u 0 n) (sym eu)
+      named = subst (λ (z : Question). IsNamedBelow (frame_of_question z) (heads_of_question z) 0 n) (ap (λ q. q.now) (sym e))
           (h n (subst (Contains (source_of a)) (sym is) (Contains-get_or (source_of a) d (MemoryNode 0) l)));
     }
 

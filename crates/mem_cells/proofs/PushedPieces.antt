@@ -8,6 +8,7 @@ use Rattle.word_spec.specs.Words.{add}
 use Rattle.word_spec.specs.Memory.{Memory}
 use Rattle.term_spec.specs.Terms.{TermNode, HasWidth, term_word, select}
 use Rattle.term_dag.proofs.ListLaws.{last, longer}
+use Rattle.mem_cells.specs.declared.building.Build.{Build}
 use Rattle.mem_cells.specs.declared.pieces.Split.{Split}
 use Rattle.mem_cells.specs.declared.pieces.StoredByte.{StoredByte}
 use Rattle.mem_cells.specs.declared.pieces.Piece.{Piece}
@@ -32,23 +33,23 @@ longer_by stored more others e = record {
 }
 
 -- the byte of a piece hangs on the pieces below
-below_same : (w : ℕ → ℕ) (m : Memory) (stored : List StoredByte) (q : ℕ) (z : Piece) (f g : ℕ → ℕ) (i : ℕ) → IsRising q z → ((p : ℕ) → p < q → f p ≡ g p) →
+below_same : (w : ℕ → ℕ) (m : ℕ → Memory) (stored : List StoredByte) (q : ℕ) (z : Piece) (f g : ℕ → ℕ) (i : ℕ) → IsRising q z → ((p : ℕ) → p < q → f p ≡ g p) →
     piece_byte w m f stored z i ≡ piece_byte w m g stored z i
-below_same w m stored q Entry f g i h e = refl
+below_same w m stored q (Entry part) f g i h e = refl
 below_same w m stored q (Store p s k n) f g i h e = ap (puts i (λ j. w (stored_at stored (k + j)).address.0)
     (λ j. w (stored_at stored (k + j)).value.0) n) (e p h)
 below_same w m stored q (Join c a b) f g i h e = ap (λ z. select (w c.0) z (f b)) (e a h.0) ∙ ap (select (w c.0) (g a)) (e b h.1)
 
 -- and on bytes that are stored already
-stored_same : (nodes : List TermNode) (w : ℕ → ℕ) (m : Memory) (f : ℕ → ℕ) (stored others : List StoredByte) (q : ℕ) (z : Piece) (i : ℕ) →
-    IsLonger stored others → IsPiece nodes stored q z →
+stored_same : (build : Build) (w : ℕ → ℕ) (m : ℕ → Memory) (f : ℕ → ℕ) (stored others : List StoredByte) (q : ℕ) (z : Piece) (i : ℕ) →
+    IsLonger stored others → IsPiece build stored q z →
     piece_byte w m f others z i ≡ piece_byte w m f stored z i
-stored_same nodes w m f stored others q Entry i l h = refl
-stored_same nodes w m f stored others q (Store p s k n) i l h =
+stored_same build w m f stored others q (Entry part) i l h = refl
+stored_same build w m f stored others q (Store p s k n) i l h =
     puts_same i _ _ _ _ n (f p)
     (λ j b. ap (λ z. w z.address.0) (l.same (k + j) (omega (arith, h.1.are.within, b))))
     (λ j b. ap (λ z. w z.value.0) (l.same (k + j) (omega (arith, h.1.are.within, b))))
-stored_same nodes w m f stored others q (Join c a b) i l h = refl
+stored_same build w m f stored others q (Join c a b) i l h = refl
 
 bytes_longer : (nodes : List TermNode) (stored others : List StoredByte) (s : Split) (f n : ℕ) → IsLonger stored others → IsStored nodes stored s f n →
     IsStored nodes others s f n
@@ -66,27 +67,27 @@ bytes_longer nodes stored others s f n e h = record {
       ≡ add 32 (add 32 (term_word x nodes s.base.0) s.offset) k) (sym (e.same (f + k) (omega (arith, h.are.within, l)))) (h.places x i k l);
 }
 
-piece_longer : (nodes : List TermNode) (stored others : List StoredByte) (q : ℕ) (z : Piece) → IsLonger stored others → IsPiece nodes stored q z →
-    IsPiece nodes others q z
-piece_longer nodes stored others q Entry e h = h
-piece_longer nodes stored others q (Store m s f n) e h = (h.0, bytes_longer nodes stored others s f n e h.1)
-piece_longer nodes stored others q (Join c a b) e h = h
+piece_longer : (build : Build) (stored others : List StoredByte) (q : ℕ) (z : Piece) → IsLonger stored others → IsPiece build stored q z →
+    IsPiece build others q z
+piece_longer build stored others q (Entry part) e h = h
+piece_longer build stored others q (Store m s f n) e h = (h.0, bytes_longer build.dag stored others s f n e h.1)
+piece_longer build stored others q (Join c a b) e h = h
 
-piece_old : (pieces : List Piece) (p : Piece) (q : ℕ) → q < length pieces → piece_at (pieces ++ p ∷ []) q ≡ piece_at pieces q
-piece_old pieces p q l = get_or_append_left pieces (p ∷ []) Entry q l
+pub piece_old : (pieces : List Piece) (p : Piece) (q : ℕ) → q < length pieces → piece_at (pieces ++ p ∷ []) q ≡ piece_at pieces q
+piece_old pieces p q l = get_or_append_left pieces (p ∷ []) (Entry 0) q l
 
 piece_last : (pieces : List Piece) (p : Piece) (q : ℕ) → q ≡ length pieces → piece_at (pieces ++ p ∷ []) q ≡ p
-piece_last pieces p q e = ap (piece_at (pieces ++ p ∷ [])) e ∙ last pieces p Entry
+piece_last pieces p q e = ap (piece_at (pieces ++ p ∷ [])) e ∙ last pieces p (Entry 0)
 
 -- pieces with one more
-pub pieces_pushed : (nodes : List TermNode) (stored others : List StoredByte) (pieces : List Piece) (p : Piece) → IsLonger stored others →
-    ArePieces nodes stored pieces → IsPiece nodes others (length pieces) p →
-    ArePieces nodes others (pieces ++ p ∷ [])
-pieces_pushed nodes stored others pieces p e h k q l = elim (cases_lt q (length pieces)) [
-  | inl j ↦ subst (IsPiece nodes others q) (sym (piece_old pieces p q j)) (piece_longer nodes stored others q (piece_at pieces q) e (h q j))
+pub pieces_pushed : (build : Build) (stored others : List StoredByte) (pieces : List Piece) (p : Piece) → IsLonger stored others →
+    ArePieces build stored pieces → IsPiece build others (length pieces) p →
+    ArePieces build others (pieces ++ p ∷ [])
+pieces_pushed build stored others pieces p e h k q l = elim (cases_lt q (length pieces)) [
+  | inl j ↦ subst (IsPiece build others q) (sym (piece_old pieces p q j)) (piece_longer build stored others q (piece_at pieces q) e (h q j))
   | inr j ↦ (
       let a : q ≡ length pieces = omega (arith, j, l, longer pieces p) in
-      subst (IsPiece nodes others q) (sym (piece_last pieces p q a)) (subst (λ (z : ℕ). IsPiece nodes others z p) (sym a) k))
+      subst (IsPiece build others q) (sym (piece_last pieces p q a)) (subst (λ (z : ℕ). IsPiece build others z p) (sym a) k))
 ]
 
 -- memories with one more
@@ -100,33 +101,27 @@ pub that_memory : (m : ℕ → Memory) (n : ℕ) (new : Memory) (q i : ℕ) → 
 that_memory m n new q i e = ap (λ t. if t then new i else m q i) (let f : (q == n) ≡ true = grind (arith, nat_tests) in f)
 
 -- the memory of a piece, over those of others
-abbrev pub memory_of : (ℕ → ℕ) → Memory → (ℕ → Memory) → List StoredByte → Piece → Memory
+abbrev pub memory_of : (ℕ → ℕ) → (ℕ → Memory) → (ℕ → Memory) → List StoredByte → Piece → Memory
 memory_of w m memories stored p i = piece_byte w m (λ q. memories q i) stored p i
 
-pub memories_pushed : (nodes : List TermNode) (w : ℕ → ℕ) (m : Memory) (stored others : List StoredByte) (pieces : List Piece) (p : Piece) (memories : ℕ →
+pub memories_pushed : (build : Build) (w : ℕ → ℕ) (m : ℕ → Memory) (stored others : List StoredByte) (pieces : List Piece) (p : Piece) (memories : ℕ →
     Memory) → IsLonger stored others →
-    ArePieces nodes stored pieces → IsPiece nodes others (length pieces) p → AreMemories w m stored pieces memories →
+    ArePieces build stored pieces → IsPiece build others (length pieces) p → AreMemories w m stored pieces memories →
     AreMemories w m others (pieces ++ p ∷ []) (and_memory memories (length pieces) (memory_of w m memories others p))
-memories_pushed nodes w m stored others pieces p memories e h k f i l q b =
+memories_pushed build w m stored others pieces p memories e h k f i l q b =
     let new = memory_of w m memories others p in
     elim (cases_lt q (length pieces)) [
       | inl j ↦ other_memory memories (length pieces) new q i j ∙ f i l q j
           ∙ below_same w m stored q (piece_at pieces q) (λ z. memories z i)
-          (λ z. and_memory memories (length pieces) new z i) i (piece_rises nodes stored q (piece_at pieces q) (h q j))
+          (λ z. and_memory memories (length pieces) new z i) i (piece_rises build stored q (piece_at pieces q) (h q j))
           (λ z a. sym (other_memory memories (length pieces) new z i (omega (arith, a, j))))
-          ∙ sym (stored_same nodes w m (λ z. and_memory memories (length pieces) new z i) stored others q (piece_at pieces q) i e (h q j))
+          ∙ sym (stored_same build w m (λ z. and_memory memories (length pieces) new z i) stored others q (piece_at pieces q) i e (h q j))
           ∙ ap (λ y. piece_byte w m (λ z. and_memory memories (length pieces) new z i) others y i) (sym (piece_old pieces p q j))
       | inr j ↦ (
           let a : q ≡ length pieces = omega (arith, j, b, longer pieces p) in
           that_memory memories (length pieces) new q i a
           ∙ below_same w m others (length pieces) p (λ z. memories z i)
-          (λ z. and_memory memories (length pieces) new z i) i (piece_rises nodes others (length pieces) p k)
+          (λ z. and_memory memories (length pieces) new z i) i (piece_rises build others (length pieces) p k)
           (λ z c. sym (other_memory memories (length pieces) new z i c))
           ∙ ap (λ y. piece_byte w m (λ z. and_memory memories (length pieces) new z i) others y i) (sym (piece_last pieces p q a)))
     ]
-
--- the first piece is the memory at entry
-pub first_piece : (nodes : List TermNode) (stored : List StoredByte) (z : Piece) → IsPiece nodes stored 0 z → z ≡ Entry
-first_piece nodes stored Entry h = refl
-first_piece nodes stored (Store m s f n) h = absurd (omega (arith, h.0))
-first_piece nodes stored (Join c a b) h = absurd (omega (arith, h.1))

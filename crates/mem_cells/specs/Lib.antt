@@ -1,7 +1,10 @@
 pub mod Asked
 pub mod Building
+pub mod FrameViews
 pub mod Lowering
+pub mod Parts
 pub mod Pieces
+pub mod Tells
 pub mod Ties
 pub mod Views
 pub mod Words

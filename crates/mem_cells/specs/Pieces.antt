@@ -4,10 +4,12 @@ use Rattle.word_spec.specs.Words.{add, sub}
 use Rattle.word_spec.specs.Memory.{Memory}
 use Rattle.term_spec.specs.Terms.{TermReading, InRange, TermNode, term_word, select, HasWidth}
 use Rattle.term_dag.specs.declared.nodes.Term.{Term}
+use Rattle.mem_cells.specs.declared.building.Build.{Build}
 use Rattle.mem_cells.specs.declared.pieces.Split.{Split}
 use Rattle.mem_cells.specs.declared.pieces.StoredByte.{StoredByte}
 use Rattle.mem_cells.specs.declared.pieces.Piece.{Piece}
 use Rattle.mem_cells.specs.declared.pieces.Piece.TheVariants.{Entry, Store, Join}
+use Rattle.mem_cells.specs.Parts.{HasPart}
 
 -- a term is the sum of a base and an offset
 pub record IsSplit (nodes : List TermNode) (t base offset : ℕ) : Type 0 where
@@ -34,11 +36,11 @@ bool_at marks j = slice_index_or marks j false
 
 -- the piece of a number
 abbrev pub piece_at : List Piece → ℕ → Piece
-piece_at pieces q = slice_index_or pieces q Entry
+piece_at pieces q = slice_index_or pieces q (Entry 0)
 
 -- a piece is over pieces below a number
 abbrev pub IsRising : (q : ℕ) → Piece → Type 0
-IsRising q Entry = Unit {0}
+IsRising q (Entry p) = Unit {0}
 IsRising q (Store m s f n) = m < q
 IsRising q (Join c a b) = (a < q) × (b < q)
 
@@ -48,7 +50,7 @@ AreRising pieces = (q : ℕ) → q < length pieces → IsRising q (piece_at piec
 
 -- the pieces that the byte at an address of a piece needs are marked
 abbrev pub Needs : List Bool → (address : Split) → Piece → Type 0
-Needs marks at Entry = Unit {0}
+Needs marks at (Entry p) = Unit {0}
 Needs marks at (Store m s f n) = ends_in at s n ≡ false → bool_at marks m ≡ true
 Needs marks at (Join c a b) = (bool_at marks a ≡ true) × (bool_at marks b ≡ true)
 
@@ -73,9 +75,9 @@ puts i at v (suc k) b = if i == at k then v k else puts i at v k b
 abbrev pub put_bytes : (ℕ → ℕ) → List StoredByte → (first bytes : ℕ) → (address : ℕ) → (below : ℕ) → ℕ
 put_bytes w stored f n a b = puts (w a) (λ k. w (stored_at stored (f + k)).address.0) (λ k. w (stored_at stored (f + k)).value.0) n b
 
--- The byte at an address of a piece, by the words of terms, the memory at entry, and the bytes that the pieces have at the address.
-abbrev pub piece_byte : (ℕ → ℕ) → Memory → (bytes : ℕ → ℕ) → List StoredByte → Piece → (address : ℕ) → ℕ
-piece_byte w m below stored Entry i = m i
+-- The byte at an address of a piece, by the words of terms, the parts' memories, and the bytes that the pieces have at the address.
+abbrev pub piece_byte : (ℕ → ℕ) → (ℕ → Memory) → (bytes : ℕ → ℕ) → List StoredByte → Piece → (address : ℕ) → ℕ
+piece_byte w m below stored (Entry p) i = m p i
 piece_byte w m below stored (Store p s f n) i = puts i (λ k. w (stored_at stored (f + k)).address.0) (λ k. w (stored_at stored (f + k)).value.0) n (below p)
 piece_byte w m below stored (Join c a b) i = select (w c.0) (below a) (below b)
 
@@ -94,27 +96,21 @@ pub record IsStored (nodes : List TermNode) (stored : List StoredByte) (at : Spl
   pub places : (x : TermReading) → InRange x → (k : ℕ) → k < bytes →
       term_word x nodes (stored_at stored (first + k)).address.0 ≡ add 32 (add 32 (term_word x nodes at.base.0) at.offset) k
 
--- a piece is over terms of nodes, stored bytes and pieces below a number; the memory at entry is the first
-abbrev pub IsPiece : List TermNode → List StoredByte → (q : ℕ) → Piece → Type 0
-IsPiece nodes stored q Entry = q ≡ 0
-IsPiece nodes stored q (Store m s f n) = (m < q) × IsStored nodes stored s f n
-IsPiece nodes stored q (Join c a b) = HasWidth nodes 1 c.0 × (a < q) × (b < q)
+-- a piece is over terms of what is built, stored bytes and pieces below a number, or is the memory of a part
+abbrev pub IsPiece : Build → List StoredByte → (q : ℕ) → Piece → Type 0
+IsPiece build stored q (Entry p) = HasPart build p
+IsPiece build stored q (Store m s f n) = (m < q) × IsStored build.dag stored s f n
+IsPiece build stored q (Join c a b) = HasWidth build.dag 1 c.0 × (a < q) × (b < q)
 
 -- each piece is
-abbrev pub ArePieces : List TermNode → List StoredByte → List Piece → Type 0
-ArePieces nodes stored pieces = (q : ℕ) → q < length pieces → IsPiece nodes stored q (piece_at pieces q)
+abbrev pub ArePieces : Build → List StoredByte → List Piece → Type 0
+ArePieces build stored pieces = (q : ℕ) → q < length pieces → IsPiece build stored q (piece_at pieces q)
 
 -- the gates that the byte of a piece takes at most, over those of the pieces before it
 abbrev pub piece_gates : Piece → ℕ
-piece_gates Entry = 0
+piece_gates (Entry p) = 0
 piece_gates (Store m s f n) = 40 * n
 piece_gates (Join c a b) = 8
-
--- the reads of the memory at entry that it takes
-abbrev pub piece_reads : Piece → ℕ
-piece_reads Entry = 1
-piece_reads (Store m s f n) = 0
-piece_reads (Join c a b) = 0
 
 -- the term that has the byte of a piece
 abbrev pub link : List Term → ℕ → ℕ
@@ -122,6 +118,6 @@ link chain q = (slice_index_or chain q (record { 0 = 0 })).0
 
 -- the pieces that the byte of a piece needs have theirs
 abbrev pub HasLinks : List TermNode → List Term → (address : Split) → Piece → Type 0
-HasLinks nodes chain at Entry = Unit {0}
+HasLinks nodes chain at (Entry p) = Unit {0}
 HasLinks nodes chain at (Store m s f n) = ends_in at s n ≡ false → HasWidth nodes 8 (link chain m)
 HasLinks nodes chain at (Join c a b) = HasWidth nodes 8 (link chain a) × HasWidth nodes 8 (link chain b)

@@ -1,13 +1,15 @@
 //! Which bytes of the file the base reads have.
 
-ghost use Rattle.std.specs.Prelude.{◌≡◌, ℕ, ◌+◌, ◌*◌, ◌<◌, true, length, take, IfOk, OnOk};
+ghost use Rattle.std.specs.Prelude.{◌≡◌, ℕ, ◌+◌, ◌*◌, ◌<◌, ◌++◌, true, length, take, IfOk, OnOk};
 ghost use Rattle.term_spec.specs.Terms.{TermReading, term_word};
 ghost use Rattle.mem_cells.specs.Building.{read_places, IsBuilt, Grown, IsWord};
-ghost use Rattle.mem_cells.specs.Asked.{file_byte_at, AreAsked, AskedOf, AskedTo};
+ghost use Rattle.mem_cells.specs.Parts.{one_if, KeepsParts};
+ghost use Rattle.mem_cells.specs.Asked.{asked_of_parts, file_byte_at, parts_asked, AreAsked, AskedOf, AskedTo};
 
 use crate::building::Build;
 use crate::cells::AskedByte;
 use crate::file_bytes::FileByte;
+use crate::parts::Parts;
 use std::alloc::{AllocError, Global};
 use term_dag::{Dag, Node, Op, Term};
 
@@ -22,10 +24,54 @@ fn is_zero(dag: &Dag, term: Term) -> bool
     }
 }
 
-/// Says that a read has a byte of the file where it is at its address, if it may be.
+/// The parts of whose memories a byte is asked.
+fn parts_for(parts: Parts, byte: FileByte) -> Parts
+    ensures { result ≡ parts_asked parts byte }
+{
+    Parts {
+        entry: parts.entry,
+        head: parts.head && byte.head,
+    }
+}
+
+/// One more byte, if it is asked.
+fn and_asked(asked: &mut Vec<AskedByte>, is_asked: bool, byte: AskedByte) -> Result<(), AllocError>
+    ensures { OnOk result (asked.new.items ≡ asked.old.items ++ one_if is_asked byte) }
+{
+    if is_asked {
+        asked.push(byte)?;
+        return Ok(());
+    }
+    Ok(())
+}
+
+/// Says for parts that a read has a byte where a bit is 1.
+fn ask_parts(
+    asked: &mut Vec<AskedByte>,
+    parts: Parts,
+    condition: Term,
+    read: u32,
+    byte: u8,
+) -> Result<(), AllocError>
+    ensures { OnOk result (asked.new.items ≡ asked.old.items ++ asked_of_parts parts condition read byte) }
+{
+    let entry = AskedByte {
+        condition,
+        part: 0,
+        read,
+        byte,
+    };
+    and_asked(asked, parts.entry, entry)?;
+    and_asked(asked, parts.head, AskedByte { part: 1, ..entry })?;
+    Ok(())
+}
+
+/// Says for each part that is read at an address that the read has a byte of the file where it is at its address, if it may be and the byte is asked of the
+/// part.
 fn ask(
     build: &mut Build,
     asked: &mut Vec<AskedByte>,
+    parts: &[Parts],
     file: &[FileByte],
     place: usize,
     address: Term,
@@ -35,12 +81,18 @@ fn ask(
     requires place { place < length file.now }
     requires address { IsWord build.old.dag 32 address.0 (λ x. (file_byte_at file.now place).at) }
     requires read { read < length (read_places build.old) }
-    requires asked { AreAsked build.old file.now asked.old.items
+    requires parts { length parts.now ≡ length (read_places build.old) }
+    requires asked { AreAsked build.old parts.now file.now asked.old.items
         (AskedTo (length (read_places build.old)) (take place file.now) (file_byte_at file.now place) read) }
     ensures grown { OnOk result (Grown build.old build.new 32 0) }
-    ensures asked { OnOk result (AreAsked build.new file.now asked.new.items
+    ensures kept { OnOk result (KeepsParts build.old build.new) }
+    ensures asked { OnOk result (AreAsked build.new parts.now file.now asked.new.items
         (AskedTo (length (read_places build.new)) (take place file.now) (file_byte_at file.now place) (read + 1))) }
 {
+    let asked_parts = parts_for(parts[read as usize], file[place]);
+    if asked_parts.is_none() {
+        return Ok(());
+    }
     let left = build.addresses[read as usize];
     let condition = build.make(Node::Binary {
         op: Op::Equal,
@@ -51,18 +103,15 @@ fn ask(
     if is_zero(&build.dag, condition) {
         return Ok(());
     }
-    asked.push(AskedByte {
-        condition,
-        read,
-        byte: file[place].byte,
-    })?;
+    ask_parts(asked, asked_parts, condition, read, file[place].byte)?;
     Ok(())
 }
 
-/// Says it of each read.
+/// Says it of each address.
 fn ask_reads(
     build: &mut Build,
     asked: &mut Vec<AskedByte>,
+    parts: &[Parts],
     file: &[FileByte],
     place: usize,
     count: u32,
@@ -70,29 +119,34 @@ fn ask_reads(
     requires built { IsBuilt build.old }
     requires place { place < length file.now }
     requires count { count ≡ length (read_places build.old) }
-    requires asked { AreAsked build.old file.now asked.old.items (AskedOf (length (read_places build.old)) (take place file.now)) }
+    requires parts { length parts.now ≡ length (read_places build.old) }
+    requires asked { AreAsked build.old parts.now file.now asked.old.items (AskedOf (length (read_places build.old)) (take place file.now)) }
     ensures grown { OnOk result (Grown build.old build.new (32 * count) 0) }
-    ensures asked { OnOk result (AreAsked build.new file.now asked.new.items (AskedOf (length (read_places build.new)) (take (place + 1) file.now))) }
+    ensures kept { OnOk result (KeepsParts build.old build.new) }
+    ensures asked { OnOk result (AreAsked build.new parts.now file.now asked.new.items (AskedOf (length (read_places build.new)) (take (place + 1) file.now))) }
 {
     let address = build.make(Node::Constant {
         width: 32,
         value: file[place].at as u64,
     })?;
     for read in 0..count {
-        ask(build, asked, file, place, address, read)?;
+        ask(build, asked, parts, file, place, address, read)?;
     }
     Ok(())
 }
 
-/// Which of some bytes of the file the reads have. More reads than 32 bits number are want of memory.
+/// Which of some bytes of the file the reads have, by the parts that are read at each address. More addresses than 32 bits number are want of memory.
 pub fn ask_bytes(
     build: &mut Build,
     alloc: Global,
+    parts: &[Parts],
     file: &[FileByte],
 ) -> Result<Vec<AskedByte>, AllocError>
     requires built { IsBuilt build.old }
+    requires parts { length parts.now ≡ length (read_places build.old) }
     ensures grown { OnOk result (Grown build.old build.new (32 * (length (read_places build.old) * length file.now)) 0) }
-    ensures asked { IfOk result (λ v. AreAsked build.new file.now v.items (AskedOf (length (read_places build.new)) file.now)) }
+    ensures kept { OnOk result (KeepsParts build.old build.new) }
+    ensures asked { IfOk result (λ v. AreAsked build.new parts.now file.now v.items (AskedOf (length (read_places build.new)) file.now)) }
 {
     let count = build.addresses.len();
     if count > u32::MAX as usize {
@@ -100,7 +154,7 @@ pub fn ask_bytes(
     }
     let mut asked = Vec::new(alloc);
     for place in 0..file.len() {
-        ask_reads(build, &mut asked, file, place, count as u32)?;
+        ask_reads(build, &mut asked, parts, file, place, count as u32)?;
     }
     Ok(asked)
 }

@@ -1,12 +1,16 @@
 //! Cells as they are built.
 
-ghost use Rattle.std.specs.Prelude.{◌≡◌, ℕ, ◌+◌, ◌*◌, ◌-◌, ◌<◌, ◌≤◌, ◌==◌, if◌then◌else◌, true, [], length, slice_index, slice_index_or, sum_by, IfOk, IfSome, OnOk};
-ghost use Rattle.term_spec.specs.Terms.{TermReading, InRange, TermNode, HasWidth, node_value, own_gates, term_word, values_from, width_of};
+ghost use Rattle.std.specs.Prelude.{◌≡◌, ℕ, ◌+◌, ◌*◌, ◌-◌, ◌<◌, ◌≤◌, ◌⊎◌, ◌==◌, if◌then◌else◌, true, [], length, slice_index, slice_index_or, sum_by, Contains, IfOk, IfSome, OnOk};
+ghost use Rattle.term_spec.specs.Terms.{TermReading, InRange, TermNode, BaseNode, HasWidth, node_value, own_gates, term_word, values_from, width_of};
 ghost use Rattle.term_dag.specs.Nodes.{node_of};
-ghost use Rattle.mem_cells.specs.Pieces.{AreBytes, AreClosed, ArePieces, bool_at, IsPiece, HasLinks, IsSplit, link, piece_at, piece_byte, piece_gates, piece_reads, put_bytes, stored_at};
-ghost use Rattle.mem_cells.specs.Building.{program_of_build, read_places, IsBuilt, GivesAll, Grown, IsOwnNode, IsWord, IsByte, IsByteOf};
+ghost use Rattle.mem_cells.specs.Pieces.{AreBytes, AreClosed, ArePieces, bool_at, IsPiece, HasLinks, IsSplit, link, piece_at, piece_byte, piece_gates, put_bytes, stored_at};
+ghost use Rattle.mem_cells.specs.declared.pieces.Piece.TheVariants.{Entry};
+ghost use Rattle.mem_cells.specs.Parts.{frame_of_build, heads_of_build, HasPart};
+ghost use Rattle.mem_cells.specs.Building.{read_places, IsBuilt, GivesAll, Grown, IsNumber, IsNumberFor, IsOwnNode, IsWord, IsByte, IsByteOf};
 
-use crate::pieces::{Memories, Piece, Split, StoredByte, is_apart, is_within, marked, sum_of};
+use crate::pieces::{
+    Memories, Piece, Split, StoredByte, first_part, is_apart, is_within, marked, sum_of,
+};
 use question_form::Question;
 use std::alloc::{AllocError, Global};
 use std::collections::BTreeMap;
@@ -17,9 +21,9 @@ use term_dag::{Dag, Node, Op, Term};
 pub struct Build<'a> {
     pub question: &'a Question<'a>,
     pub dag: Dag,
-    /// The addresses of the base reads.
+    /// The addresses of the base reads, by their numbers.
     pub addresses: Vec<Term>,
-    /// A read of an address, by the address's place. What it says is looked up before it is used.
+    /// The number of an address, by the address's place. What it says is looked up before it is used.
     pub seen: BTreeMap<u32, u32>,
 }
 
@@ -27,58 +31,97 @@ impl<'a> Build<'a> {
     /// The term of a node over words.
     pub fn make(&mut self, node: Node) -> Result<Term, AllocError>
         requires built { IsBuilt self.old }
-        requires own { IsOwnNode (program_of_build self.old) (length (read_places self.old)) self.old.dag (node_of node) }
+        requires own { IsOwnNode (frame_of_build self.old) (heads_of_build self.old) (length (read_places self.old)) self.old.dag (node_of node) }
         ensures grown { OnOk result (Grown self.old self.new (own_gates (node_of node)) 0) }
         ensures word { IfOk result (λ t. IsWord self.new.dag (width_of (node_of node)) t.0
             (λ x. (node_value x (values_from x [] self.old.dag) (node_of node)).word)) }
+        ensures parts { OnOk result ((p j : ℕ) → Contains self.new.dag (BaseNode p j) → Contains self.old.dag (BaseNode p j) ⊎ (BaseNode p j ≡ node_of node)) }
     {
         let term = self.dag.mk(node)?;
         Ok(term)
     }
 
-    /// A read that is made of an address.
-    fn seen_read(&self, address: Term) -> Option<u32>
-        ensures { IfSome result (λ j. (j < length (read_places self.now)) × (slice_index (read_places self.now) j ≡ address.0)) }
+    /// The number of an address that is read.
+    fn seen_number(&self, address: Term) -> Option<u32>
+        ensures { IfSome result (λ j. IsNumber self.now address.0 j) }
     {
-        let read = *self.seen.get(&address.0)?;
-        if (read as usize) < self.addresses.len() && self.addresses[read as usize].0 == address.0 {
-            return Some(read);
+        let number = *self.seen.get(&address.0)?;
+        if (number as usize) < self.addresses.len()
+            && self.addresses[number as usize].0 == address.0
+        {
+            return Some(number);
         }
         None
     }
 
-    /// A new read of an address.
-    fn new_read(&mut self, address: Term) -> Result<Term, AllocError>
+    /// A new number of an address, at which a part is read.
+    fn new_number(&mut self, part: u32, address: Term) -> Result<u32, AllocError>
         requires built { IsBuilt self.old }
+        requires part { HasPart self.old part }
         requires address { HasWidth self.old.dag 32 address.0 }
         ensures grown { OnOk result (Grown self.old self.new 0 1) }
-        ensures byte { IfOk result (λ t. IsByte self.new t.0 (λ x. x.mem 0 (term_word x self.old.dag address.0))) }
+        ensures number { IfOk result (λ j. IsNumber self.new address.0 j) }
     {
-        let read = self.addresses.len();
-        if read >= u32::MAX as usize {
+        let number = self.addresses.len();
+        if number >= u32::MAX as usize {
             return Err(AllocError);
         }
-        let byte = self.dag.keep(Node::Base {
-            part: 0,
-            read: read as u32,
+        let _byte = self.dag.keep(Node::Base {
+            part,
+            read: number as u32,
         })?;
         self.addresses.push(address)?;
-        self.seen.insert(address.0, read as u32)?;
-        Ok(byte)
+        self.seen.insert(address.0, number as u32)?;
+        Ok(number as u32)
     }
 
-    /// The byte of the memory at entry at an address.
-    fn read(&mut self, address: Term) -> Result<Term, AllocError>
+    /// The number of an address. One that is new is that of a read of a part.
+    fn number(&mut self, part: u32, address: Term) -> Result<u32, AllocError>
         requires built { IsBuilt self.old }
+        requires part { HasPart self.old part }
         requires address { HasWidth self.old.dag 32 address.0 }
         ensures grown { OnOk result (Grown self.old self.new 0 1) }
-        ensures byte { IfOk result (λ t. IsByte self.new t.0 (λ x. x.mem 0 (term_word x self.old.dag address.0))) }
+        ensures number { IfOk result (λ j. IsNumber self.new address.0 j) }
     {
-        if let Some(read) = self.seen_read(address) {
-            let byte = self.dag.keep(Node::Base { part: 0, read })?;
-            return Ok(byte);
+        if let Some(number) = self.seen_number(address) {
+            return Ok(number);
         }
-        let byte = self.new_read(address)?;
+        let number = self.new_number(part, address)?;
+        Ok(number)
+    }
+
+    /// The number of an address, if a marked piece is the memory of a part; else any.
+    fn number_for(
+        &mut self,
+        memories: &Memories,
+        marks: &[bool],
+        address: Term,
+    ) -> Result<u32, AllocError>
+        requires built { IsBuilt self.old }
+        requires pieces { ArePieces self.old memories.now.stored.items memories.now.pieces.items }
+        requires few { length marks.now ≤ length memories.now.pieces.items }
+        requires address { HasWidth self.old.dag 32 address.0 }
+        ensures grown { OnOk result (Grown self.old self.new 0 1) }
+        ensures number { IfOk result (λ j. IsNumberFor self.new memories.now.pieces.items marks.now address.0 j) }
+    {
+        match first_part(&memories.pieces, marks) {
+            None => Ok(0),
+            Some(part) => {
+                let number = self.number(part, address)?;
+                Ok(number)
+            }
+        }
+    }
+
+    /// The byte of the memory of a part at the address of a number.
+    fn read(&mut self, part: u32, number: u32) -> Result<Term, AllocError>
+        requires built { IsBuilt self.old }
+        requires part { HasPart self.old part }
+        requires number { number < length (read_places self.old) }
+        ensures grown { OnOk result (Grown self.old self.new 0 0) }
+        ensures byte { IfOk result (λ t. IsByte self.new t.0 (λ x. x.mem part (term_word x self.old.dag (slice_index (read_places self.old) number)))) }
+    {
+        let byte = self.dag.keep(Node::Base { part, read: number })?;
         Ok(byte)
     }
 
@@ -141,19 +184,21 @@ impl<'a> Build<'a> {
         chain: &[Term],
         at: Split,
         address: Term,
+        number: u32,
     ) -> Result<Term, AllocError>
         requires built { IsBuilt self.old }
-        requires piece { IsPiece self.old.dag stored.now (length chain.now) piece }
+        requires piece { IsPiece self.old stored.now (length chain.now) piece }
+        requires number { (p : ℕ) → piece ≡ Entry p → IsNumber self.old address.0 number }
         requires links { HasLinks self.old.dag chain.now at piece }
         requires split { IsSplit self.old.dag address.0 at.base.0 at.offset }
         requires address { HasWidth self.old.dag 32 address.0 }
-        ensures grown { OnOk result (Grown self.old self.new (piece_gates piece) (piece_reads piece)) }
-        ensures byte { IfOk result (λ t. IsByte self.new t.0 (λ x. piece_byte (term_word x self.old.dag) (x.mem 0)
+        ensures grown { OnOk result (Grown self.old self.new (piece_gates piece) 0) }
+        ensures byte { IfOk result (λ t. IsByte self.new t.0 (λ x. piece_byte (term_word x self.old.dag) x.mem
             (λ q. term_word x self.old.dag (link chain.now q)) stored.now piece (term_word x self.old.dag address.0))) }
     {
         match piece {
-            Piece::Entry => {
-                let byte = self.read(address)?;
+            Piece::Entry(part) => {
+                let byte = self.read(part, number)?;
                 Ok(byte)
             }
             Piece::Store {
@@ -195,22 +240,31 @@ impl<'a> Build<'a> {
         marks: &[bool],
         at: Split,
         address: Term,
+        number: u32,
     ) -> Result<Term, AllocError>
         requires built { IsBuilt self.old }
-        requires pieces { ArePieces self.old.dag memories.now.stored.items memories.now.pieces.items }
+        requires pieces { ArePieces self.old memories.now.stored.items memories.now.pieces.items }
+        requires number { IsNumberFor self.old memories.now.pieces.items marks.now address.0 number }
         requires some { 1 ≤ length marks.now }
         requires few { length marks.now ≤ length memories.now.pieces.items }
         requires last { bool_at marks.now (length marks.now - 1) ≡ true }
         requires closed { AreClosed marks.now memories.now.pieces.items at 0 }
         requires split { IsSplit self.old.dag address.0 at.base.0 at.offset }
         requires address { HasWidth self.old.dag 32 address.0 }
-        ensures grown { OnOk result (Grown self.old self.new (sum_by piece_gates memories.now.pieces.items) 1) }
+        ensures grown { OnOk result (Grown self.old self.new (sum_by piece_gates memories.now.pieces.items) 0) }
         ensures byte { IfOk result (λ t. IsByteOf self.old self.new memories.now.stored.items memories.now.pieces.items (length marks.now - 1) address.0 t.0) }
     {
         let mut chain = Vec::with_capacity(alloc, marks.len())?;
         for q in 0..marks.len() {
             let byte = if marks[q] {
-                self.step(&memories.stored, memories.pieces[q], &chain, at, address)?
+                self.step(
+                    &memories.stored,
+                    memories.pieces[q],
+                    &chain,
+                    at,
+                    address,
+                    number,
+                )?
             } else {
                 address
             };
@@ -228,7 +282,7 @@ impl<'a> Build<'a> {
         address: Term,
     ) -> Result<Term, AllocError>
         requires built { IsBuilt self.old }
-        requires pieces { ArePieces self.old.dag memories.now.stored.items memories.now.pieces.items }
+        requires pieces { ArePieces self.old memories.now.stored.items memories.now.pieces.items }
         requires memory { memory < length memories.now.pieces.items }
         requires address { HasWidth self.old.dag 32 address.0 }
         ensures grown { OnOk result (Grown self.old self.new (sum_by piece_gates memories.now.pieces.items) 1) }
@@ -240,7 +294,8 @@ impl<'a> Build<'a> {
         })?;
         let at = sum_of(&self.dag, zero, address);
         let marks = marked(alloc, &memories.pieces, memory, at)?;
-        let byte = self.chain(alloc, memories, &marks, at, address)?;
+        let number = self.number_for(memories, &marks, address)?;
+        let byte = self.chain(alloc, memories, &marks, at, address, number)?;
         Ok(byte)
     }
 }

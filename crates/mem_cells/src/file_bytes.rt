@@ -2,10 +2,11 @@
 
 ghost use Rattle.std.specs.Prelude.{◌≡◌, ℕ, ◌+◌, ◌<◌, ◌≤◌, ◌↔◌, true, List, ◌++◌, length, map, drop, Contains, IfOk, OnOk};
 ghost use Rattle.std.specs.List.Sorted.{IsStrictlyIncreasing};
-ghost use Rattle.walk_spec.specs.Unrolled.{byte_of_runs};
+ghost use Rattle.walk_spec.specs.Unrolled.{byte_of_runs, is_in};
 ghost use Rattle.term_spec.specs.WalkQuestions.{is_asked};
 ghost use Rattle.known_bytes.specs.Runs.{run_of, sum_of};
-ghost use Rattle.mem_cells.specs.Asked.{and_byte, byte_of_run, AreFileBytes};
+ghost use Rattle.question_form.specs.Views.{kept_of};
+ghost use Rattle.mem_cells.specs.Asked.{and_byte, byte_of_run, head_asks, AreFileBytes};
 
 use known_bytes::Known;
 use std::alloc::{AllocError, Global};
@@ -15,6 +16,8 @@ use std::alloc::{AllocError, Global};
 pub struct FileByte {
     pub at: u32,
     pub byte: u8,
+    /// It is asked of the head's memory too.
+    pub head: bool,
 }
 
 /// Numbers, each once and rising. The error is want of memory.
@@ -90,23 +93,57 @@ fn known_byte(known: &[Known], from: usize, at: u32) -> Option<u8>
     None
 }
 
+/// Whether a kept run holds an address.
+pub fn is_kept(kept: &[(u32, u32)], at: u32) -> bool
+    ensures { result ≡ is_in (map kept_of kept.now) at }
+{
+    for place in 0..kept.len() {
+        let (low, high) = kept[place];
+        if low <= at && at <= high {
+            return true;
+        }
+    }
+    false
+}
+
+/// Whether the byte at an address is asked of the head's memory: it has the kept bytes, if the question is of heads.
+fn is_of_head(of_heads: bool, kept: &[(u32, u32)], at: u32) -> bool
+    ensures { result ≡ head_asks of_heads kept.now at }
+{
+    if of_heads {
+        return is_kept(kept, at);
+    }
+    false
+}
+
 /// One more byte, if there is one at an address.
-fn add_byte(bytes: &mut Vec<FileByte>, at: u32, found: Option<u8>) -> Result<(), AllocError>
-    ensures { OnOk result (bytes.new.items ≡ and_byte bytes.old.items at found) }
+fn add_byte(
+    bytes: &mut Vec<FileByte>,
+    at: u32,
+    head: bool,
+    found: Option<u8>,
+) -> Result<(), AllocError>
+    ensures { OnOk result (bytes.new.items ≡ and_byte bytes.old.items at head found) }
 {
     match found {
         None => Ok(()),
         Some(byte) => {
-            bytes.push(FileByte { at, byte })?;
+            bytes.push(FileByte { at, byte, head })?;
             Ok(())
         }
     }
 }
 
 /// The bytes that runs have at addresses, which rise. The error is want of memory.
-fn bytes_at(alloc: Global, known: &[Known], asked: &[u32]) -> Result<Vec<FileByte>, AllocError>
+fn bytes_at(
+    alloc: Global,
+    known: &[Known],
+    asked: &[u32],
+    of_heads: bool,
+    kept: &[(u32, u32)],
+) -> Result<Vec<FileByte>, AllocError>
     requires { IsStrictlyIncreasing asked.now }
-    ensures are { IfOk result (λ v. AreFileBytes (map run_of known.now) (Contains asked.now) v.items) }
+    ensures are { IfOk result (λ v. AreFileBytes (map run_of known.now) (Contains asked.now) (head_asks of_heads kept.now) v.items) }
     ensures few { IfOk result (λ v. length v.items ≤ sum_of known.now) }
 {
     let mut bytes = Vec::new(alloc);
@@ -114,22 +151,27 @@ fn bytes_at(alloc: Global, known: &[Known], asked: &[u32]) -> Result<Vec<FileByt
     for at in asked {
         from = passed(known, from, *at);
         let found = known_byte(known, from, *at);
-        add_byte(&mut bytes, *at, found)?;
+        let head = is_of_head(of_heads, kept, *at);
+        add_byte(&mut bytes, *at, head, found)?;
     }
     Ok(bytes)
 }
 
-/// The bytes of the file that are asked: no more than it has. The error is want of memory.
+/// The bytes of the file that are asked, no more than it has, and of the head's memory those that are kept, if the question is of heads. The error is want of
+/// memory.
 pub fn asked_bytes(
     alloc: Global,
     known: &[Known],
     literals: &[u32],
     added: &[u32],
+    of_heads: bool,
+    kept: &[(u32, u32)],
 ) -> Result<Vec<FileByte>, AllocError>
-    ensures are { IfOk result (λ v. AreFileBytes (map run_of known.now) (λ a. is_asked added.now literals.now a ≡ true) v.items) }
+    ensures are { IfOk result (λ v. AreFileBytes (map run_of known.now) (λ a. is_asked added.now literals.now a ≡ true)
+        (head_asks of_heads kept.now) v.items) }
     ensures few { IfOk result (λ v. length v.items ≤ sum_of known.now) }
 {
     let asked = asked_addresses(alloc, added, literals)?;
-    let bytes = bytes_at(alloc, known, &asked)?;
+    let bytes = bytes_at(alloc, known, &asked, of_heads, kept)?;
     Ok(bytes)
 }

@@ -9,9 +9,11 @@ mod file_bytes;
 mod loads;
 mod lowering;
 mod making;
+mod parts;
 mod pieces;
 mod stores;
 mod ties;
 
-pub use cells::{Agreement, AskedByte, Celled, CelledWords};
-pub use making::{cells_some, cells_with_words};
+pub use cells::{Agreement, AskedByte, BaseRead, Celled, CelledWords};
+pub use file_bytes::is_kept;
+pub use making::{cells_some, cells_with_words, frame_cells};

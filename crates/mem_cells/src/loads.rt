@@ -42,7 +42,7 @@ fn byte_behind(
     bytes: u8,
 ) -> Result<Term, AllocError>
     requires built { IsBuilt build.old }
-    requires pieces { ArePieces build.old.dag memories.now.stored.items memories.now.pieces.items }
+    requires pieces { ArePieces build.old memories.now.stored.items memories.now.pieces.items }
     requires memory { memory < length memories.now.pieces.items }
     requires address { HasWidth build.old.dag 32 address.0 }
     ensures grown { OnOk result (Grown build.old build.new (64 + sum_by piece_gates memories.now.pieces.items) 1) }
@@ -101,7 +101,7 @@ pub fn load(
     big: bool,
 ) -> Result<Term, AllocError>
     requires built { IsBuilt build.old }
-    requires pieces { ArePieces build.old.dag memories.now.stored.items memories.now.pieces.items }
+    requires pieces { ArePieces build.old memories.now.stored.items memories.now.pieces.items }
     requires memory { memory < length memories.now.pieces.items }
     requires address { HasWidth build.old.dag 32 address.0 }
     requires bytes { IsBytes bytes }

@@ -1,15 +1,17 @@
 //! The terms of a question as cells.
 
-ghost use Rattle.std.specs.Prelude.{◌≡◌, ◌+◌, ◌<◌, [], length, map, slice_index, Contains, IfOk, OnOk};
+ghost use Rattle.std.specs.Prelude.{◌≡◌, ◌+◌, ◌<◌, if◌then◌else◌, [], ◌∷◌, length, map, slice_index, Contains, IfOk, OnOk};
 ghost use Rattle.std.specs.List.{AllByRecursion};
 ghost use Rattle.term_spec.specs.Cells.{IsOfWords};
 ghost use Rattle.term_spec.specs.Terms.{LoadNode, StoreNode, JoinNode, MemoryNode, AreTyped};
-ghost use Rattle.term_spec.specs.WalkQuestions.{AreNamedBelow};
+ghost use Rattle.frame_terms.specs.PassiveFrames.{AreNamedBelow};
 ghost use Rattle.word_spec.specs.Memory.{endian};
 ghost use Rattle.term_dag.specs.Nodes.{node_of};
 ghost use Rattle.term_dag.specs.Made.{moved, operands};
 ghost use Rattle.mem_cells.specs.Pieces.{link};
-ghost use Rattle.mem_cells.specs.Building.{program_of_build, read_places, IsBuilt};
+ghost use Rattle.mem_cells.specs.declared.pieces.Piece.TheVariants.{Entry};
+ghost use Rattle.mem_cells.specs.Building.{read_places, IsBuilt};
+ghost use Rattle.mem_cells.specs.Parts.{frame_of_build, heads_of_build};
 ghost use Rattle.mem_cells.specs.Lowering.{source_of, Lowers, IsNextOf};
 ghost use Rattle.mem_cells.specs.Words.{places_of};
 ghost use Rattle.term_dag.specs.declared.nodes.Term.{Term};
@@ -157,16 +159,15 @@ fn lower_join(
     Ok(())
 }
 
-/// The next term, the memory at entry.
+/// The next term, the memory of a part.
 fn lower_entry(build: &Build, lowered: &mut Lowered, part: u32) -> Result<(), AllocError>
     requires lowered { Lowers (length lowered.old.words.items) build.now lowered.old }
     requires next { IsNextOf (length lowered.old.words.items) build.now (MemoryNode part) }
     ensures { OnOk result (Lowers (length lowered.old.words.items + 1) build.now lowered.new) }
 {
     let _ = build;
-    let _ = part;
     lowered.words.push(Term(0))?;
-    lowered.numbers.push(0)?;
+    lowered.numbers.push(part as usize)?;
     Ok(())
 }
 
@@ -207,12 +208,24 @@ fn lower(
     Ok(())
 }
 
+/// The memories that the parts begin with: the entry's, and the head's, if there is one.
+fn entries(alloc: Global, heads: bool) -> Result<Vec<Piece>, AllocError>
+    ensures { IfOk result (λ v. v.items ≡ Entry 0 ∷ (if heads then Entry 1 ∷ [] else [])) }
+{
+    let mut pieces = vec![in alloc; Piece::Entry(0)]?;
+    if heads {
+        pieces.push(Piece::Entry(1))?;
+        return Ok(pieces);
+    }
+    Ok(pieces)
+}
+
 /// All terms.
 pub fn lower_all(build: &mut Build, alloc: Global) -> Result<Lowered, AllocError>
     requires nodes { build.old.dag ≡ [] }
     requires reads { read_places build.old ≡ [] }
     requires typed { AreTyped (source_of build.old) }
-    requires named { AreNamedBelow (program_of_build build.old) 0 (source_of build.old) }
+    requires named { AreNamedBelow (frame_of_build build.old) (heads_of_build build.old) 0 (source_of build.old) }
     ensures question { OnOk result (build.new.question ≡ build.old.question) }
     ensures lowered { IfOk result (λ l. Lowers (length (source_of build.old)) build.new l) }
 {
@@ -225,7 +238,7 @@ pub fn lower_all(build: &mut Build, alloc: Global) -> Result<Lowered, AllocError
         words: Vec::with_capacity(alloc, count)?,
         numbers: Vec::with_capacity(alloc, count)?,
         memories: Memories {
-            pieces: vec![in alloc; Piece::Entry]?,
+            pieces: entries(alloc, question.passive.unrolled.heads)?,
             stored: Vec::new(alloc),
         },
     };

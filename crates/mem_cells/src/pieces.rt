@@ -1,7 +1,8 @@
 //! Memories as pieces, and which of them the byte at an address needs.
 
-ghost use Rattle.std.specs.Prelude.{◌≡◌, ℕ, ◌+◌, ◌<◌, ◌≤◌, ◌⊎◌, Bool, true, false, List, length, slice_get, slice_index_or, IfOk};
+ghost use Rattle.std.specs.Prelude.{◌≡◌, ℕ, ◌+◌, ◌<◌, ◌≤◌, ◌⊎◌, Bool, true, false, List, length, slice_get, slice_index_or, IfOk, IfSome, IfNone};
 ghost use Rattle.term_spec.specs.Terms.{AreTyped, HasWidth};
+ghost use Rattle.mem_cells.specs.declared.pieces.Piece.TheVariants.{Entry};
 ghost use Rattle.mem_cells.specs.Pieces.{ends_in, lies_apart, bool_at, AreRising, IsRising, Needs, AreClosed, IsSplit, IsZero, piece_at};
 
 use std::alloc::{AllocError, Global};
@@ -24,8 +25,8 @@ pub struct StoredByte {
 /// A memory, over earlier ones by their numbers.
 #[derive(Clone, Copy)]
 pub enum Piece {
-    /// The memory at entry.
-    Entry,
+    /// The memory that a part begins with.
+    Entry(u32),
     /// A memory with some bytes stored at an address, those from a place of a list on.
     Store {
         memory: usize,
@@ -95,6 +96,22 @@ pub fn is_apart(address: Split, first: Split, bytes: u8) -> bool
     address.base.0 == first.base.0 && address.offset.wrapping_sub(first.offset) >= bytes as u32
 }
 
+/// The part of the first marked piece that is the memory of one.
+pub fn first_part(pieces: &[Piece], marks: &[bool]) -> Option<u32>
+    requires { length marks.now ≤ length pieces.now }
+    ensures some { IfSome result (λ p. (q : ℕ) × (q < length marks.now) × (piece_at pieces.now q ≡ Entry p)) }
+    ensures none { IfNone result ((q p : ℕ) → q < length marks.now → bool_at marks.now q ≡ true → piece_at pieces.now q ≡ Entry p → ⊥) }
+{
+    for q in 0..marks.len() {
+        if marks[q] {
+            if let Piece::Entry(part) = pieces[q] {
+                return Some(part);
+            }
+        }
+    }
+    None
+}
+
 /// Marks the memories that the byte at an address of a memory needs.
 fn mark(marks: &mut Vec<bool>, piece: Piece, address: Split)
     requires { IsRising (length marks.old.items) piece }
@@ -104,7 +121,7 @@ fn mark(marks: &mut Vec<bool>, piece: Piece, address: Split)
     ensures below { (q j : ℕ) → IsRising q piece → q ≤ j → bool_at marks.new.items j ≡ bool_at marks.old.items j }
 {
     match piece {
-        Piece::Entry => {}
+        Piece::Entry(_) => {}
         Piece::Store {
             memory,
             at,

@@ -1,7 +1,7 @@
-use Rattle.std.proofs.Common.{◌<◌, length, refl, ap, ◌∙◌, arith}
-use Rattle.mem_cells.proofs.Growing.{mapped_length}
+use Rattle.std.proofs.Common.{◌<◌, inl, inr, length, refl, ap, ◌∙◌, arith}
+use Rattle.mem_cells.proofs.Growing.{grown_none, grown_more, mapped_length}
 use Rattle.mem_cells.proofs.Agreements.{mapped_at, read_width}
-use Rattle.mem_cells.proofs.Asks.{asked_one, asked_none_of}
+use Rattle.mem_cells.proofs.Asks.{asked_one, asked_none_of, asked_unread}
 use Rattle.mem_cells.proofs.asking.ask.Goals as goal
 
 pub make-requires-clause-own : goal.make-requires-clause-own
@@ -23,7 +23,8 @@ pub returns-then-is_zero-clause-asked : goal.returns-then-is_zero-clause-asked
 returns-then-is_zero-clause-asked c =
     let a = c.args.build.now in
     let l : c.args.read < length a.addresses.items = omega (arith, c.requires.read, mapped_length a.addresses.items) in
-    asked_none_of a c.make.new.self 32 c.args.file.now c.args.asked.now.items c.index-left.result.now.0 c.args.address.0 c.args.place c.args.read
+    asked_none_of a c.make.new.self 32 c.args.parts.now c.args.file.now c.args.asked.now.items c.index-left.result.now.0 c.args.address.0 c.args.place
+    c.args.read
     c.in_ok-condition.condition.0 c.requires.built
     c.in_ok-condition.ensures.grown c.requires.read (ap (λ z. z.0) c.index-left.ensures ∙ mapped_at a.addresses.items c.args.read _ l) c.requires.address
     c.in_ok-condition.ensures.word
@@ -33,8 +34,22 @@ pub returns-clause-asked : goal.returns-clause-asked
 returns-clause-asked c =
     let a = c.args.build.now in
     let l : c.args.read < length a.addresses.items = omega (arith, c.requires.read, mapped_length a.addresses.items) in
-    asked_one a c.make.new.self 32 c.args.file.now c.args.asked.now.items c.push.new.self.items _ c.index-left.result.now.0 c.args.address.0 c.args.place
-    c.args.read c.requires.built
-    c.in_ok-condition.ensures.grown c.in_ok-push.ensures.items refl refl c.requires.place c.requires.read (ap
-    (λ z. z.0) c.index-left.ensures ∙ mapped_at a.addresses.items c.args.read _ l) c.requires.address
+    asked_one a c.make.new.self 32 c.args.parts.now c.args.file.now c.args.asked.now.items _ _ c.parts_for-asked_parts.result c.index-left.result.now.0
+    c.args.address.0 c.args.place c.args.read c.requires.built c.in_ok-condition.ensures.grown c.in_ok-ask_parts.ensures c.parts_for-asked_parts.ensures
+    c.requires.place c.requires.read (ap (λ z. z.0) c.index-left.ensures ∙ mapped_at a.addresses.items c.args.read _ l) c.requires.address
     c.in_ok-condition.ensures.word c.requires.asked
+
+pub returns-clause-kept : goal.returns-clause-kept
+returns-clause-kept c p j h = elim (c.in_ok-condition.ensures.parts p j h) [ inl k ↦ k | inr e ↦ absurd (cc) ]
+
+pub returns-then-is_zero-clause-kept : goal.returns-then-is_zero-clause-kept
+returns-then-is_zero-clause-kept c p j h = elim (c.in_ok-condition.ensures.parts p j h) [ inl k ↦ k | inr e ↦ absurd (cc) ]
+
+pub returns-then-is_none-clause-grown : goal.returns-then-is_none-clause-grown
+returns-then-is_none-clause-grown c = grown_more c.args.build.now c.args.build.now 0 0 32 0 (omega arith) (omega arith)
+    (grown_none c.args.build.now c.requires.built)
+
+pub returns-then-is_none-clause-asked : goal.returns-then-is_none-clause-asked
+returns-then-is_none-clause-asked c =
+    asked_unread c.args.build.now c.args.parts.now c.args.file.now c.args.asked.now.items c.parts_for-asked_parts.result c.args.place c.args.read
+    c.parts_for-asked_parts.ensures (c.is_none.ensures c.if-is_none.true) c.requires.asked

@@ -1,6 +1,7 @@
 use Rattle.std.proofs.Common.{◌≤◌, map, length, ◌∙◌, arith}
 use Rattle.std.specs.Prelude.{slice_index}
 use Rattle.known_bytes.specs.Runs.{run_of}
+use Rattle.mem_cells.specs.Asked.{head_asks}
 use Rattle.mem_cells.proofs.FileBytes.{file_next, count_next, few_known}
 use Rattle.mem_cells.proofs.file_bytes.bytes_at.Goals as goal
 
@@ -15,8 +16,10 @@ loop-at-preserved c =
     record {
       within = c.passed-from.ensures.within;
       same = λ a k q. let g : slice_index xs i ≤ a = omega (arith, q, c.requires i k) in c.passed-from.ensures.same a g ∙ h.same a l g;
-      are = file_next runs xs i 0 c.loop-at.bytes.items c.add_byte.new.bytes.items c.known_byte-found.result l c.in_ok-add_byte.ensures f h.are;
-      count = count_next runs xs i 0 c.loop-at.bytes.items c.add_byte.new.bytes.items c.known_byte-found.result l c.in_ok-add_byte.ensures f h.count;
+      are = file_next runs (head_asks c.args.of_heads c.args.kept.now) xs i 0 c.loop-at.bytes.items c.add_byte.new.bytes.items c.is_of_head-head.result
+          c.known_byte-found.result l c.in_ok-add_byte.ensures c.is_of_head-head.ensures f h.are;
+      count = count_next runs xs i 0 c.loop-at.bytes.items c.add_byte.new.bytes.items c.is_of_head-head.result c.known_byte-found.result l
+          c.in_ok-add_byte.ensures f h.count;
     }
 
 pub returns-clause-few : goal.returns-clause-few

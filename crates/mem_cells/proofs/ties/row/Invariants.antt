@@ -1,10 +1,12 @@
 use Rattle.std.proofs.Common.{◌*◌}
 use Rattle.mem_cells.specs.Building.{Grown}
+use Rattle.mem_cells.specs.Parts.{KeepsParts}
 use Rattle.mem_cells.specs.Ties.{AreTies, Before}
 use Rattle.mem_cells.proofs.ties.row.Given as goal
 
 abbrev pub invariant-loop-read : goal.invariant-loop-read
 invariant-loop-read l = record {
   grown : Grown l.fn.build l.build (32 * l.read) 0;
-  ties : AreTies l.build l.agrees.items (Before l.other l.read);
+  kept : KeepsParts l.fn.build l.build;
+  ties : AreTies l.build l.parts l.agrees.items (Before l.other l.read);
 }
