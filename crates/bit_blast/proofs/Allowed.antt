@@ -11,14 +11,15 @@ use Rattle.word_gates.specs.Numbers.{number}
 use Rattle.word_gates.proofs.Words.{no_bit}
 use Rattle.std.proofs.lemmas.Bool.Decides.{nat_tests}
 use Rattle.term_spec.specs.Terms.{TermReading, TermNode, HasWidth, node_at, width_of, term_word, value_at}
-use Rattle.term_spec.specs.Cells as walk
-use Rattle.term_spec.specs.Cells.{Cells, Agrees, HasByte, IsAllowed, AreFormed}
+use Rattle.frame_terms.specs.FrameCells as frames
+use Rattle.frame_terms.specs.FrameCells.{Cells, Agrees, HasByte}
 use Rattle.gates.specs.declared.bit.Bit.{Bit}
 use Rattle.mem_cells.specs.declared.cells.Agreement.{Agreement}
 use Rattle.mem_cells.specs.declared.cells.AskedByte.{AskedByte}
-use Rattle.mem_cells.specs.Views.{agreement_of, asked_of}
+use Rattle.mem_cells.specs.FrameViews.{frame_agreement_of, frame_asked_of}
 use Rattle.bit_blast.specs.declared.input_places.InputPlaces.{InputPlaces}
 use Rattle.bit_blast.specs.BitWords.{shapes, values_of}
+use Rattle.bit_blast.specs.Places.{HasRead}
 use Rattle.bit_blast.specs.Said.{agrees_at, asked_at, byte_at, CanAgree, CanBeAsked}
 
 implies_to : (w a b : ℕ) → (not (w == 1) || (a == b)) ≡ true → w ≡ 1 → a ≡ b
@@ -39,71 +40,73 @@ implies_from w a b f = by (w == 1) refl
 -- what the words of cells and the bytes of reads are under a valuation
 pub record AreMeant (c : Cells) (p : InputPlaces) (bits : List Bit) (ws : List (Vec Bit)) (v : ℕ → Bool) (x : TermReading) : Type 0 where
   pub words : (t : ℕ) → t < length c.nodes → (value_at (values_of v ws) t).word ≡ term_word x c.nodes t
-  pub bytes : (j : ℕ) → j < p.reads → byte_at p bits v j ≡ x.base 0 j
+  pub bytes : (part j : ℕ) → HasRead p part j → byte_at p bits v part j ≡ x.base part j
 
 module _ (c : Cells) (p : InputPlaces) (bits : List Bit) (ws : List (Vec Bit)) (v : ℕ → Bool) (x : TermReading) (m : AreMeant c p bits ws v x) where
-  agrees_to : (a : Agreement) → a.condition.0 < length c.nodes → a.read < p.reads → a.other < p.reads → agrees_at p bits ws v a ≡ true → Agrees c x (agreement_of a)
+  agrees_to : (a : Agreement) → a.condition.0 < length c.nodes → HasRead p a.part a.read → HasRead p a.part a.other → agrees_at p bits ws v a ≡ true →
+      Agrees c x (frame_agreement_of a)
   agrees_to a l r o h e =
-      sym (m.bytes a.read r) ∙ implies_to (value_at (values_of v ws) a.condition.0).word (byte_at p bits v a.read) (byte_at p bits v a.other) h
-      (m.words a.condition.0 l ∙ e) ∙ m.bytes a.other o
+      sym (m.bytes a.part a.read r) ∙ implies_to (value_at (values_of v ws) a.condition.0).word (byte_at p bits v a.part a.read) (byte_at p bits v a.part a.other) h
+      (m.words a.condition.0 l ∙ e) ∙ m.bytes a.part a.other o
 
-  agrees_from : (a : Agreement) → a.condition.0 < length c.nodes → a.read < p.reads → a.other < p.reads → Agrees c x (agreement_of a) →
+  agrees_from : (a : Agreement) → a.condition.0 < length c.nodes → HasRead p a.part a.read → HasRead p a.part a.other → Agrees c x (frame_agreement_of a) →
       agrees_at p bits ws v a ≡ true
   agrees_from a l r o f =
-      implies_from (value_at (values_of v ws) a.condition.0).word (byte_at p bits v a.read) (byte_at p bits v a.other)
-      (λ e. m.bytes a.read r ∙ f (sym (m.words a.condition.0 l) ∙ e) ∙ sym (m.bytes a.other o))
+      implies_from (value_at (values_of v ws) a.condition.0).word (byte_at p bits v a.part a.read) (byte_at p bits v a.part a.other)
+      (λ e. m.bytes a.part a.read r ∙ f (sym (m.words a.condition.0 l) ∙ e) ∙ sym (m.bytes a.part a.other o))
 
-  asked_to : (a : AskedByte) → a.condition.0 < length c.nodes → a.read < p.reads → asked_at p bits ws v a ≡ true → HasByte c x (asked_of a)
-  asked_to a l r h e = sym (m.bytes a.read r) ∙ implies_to (value_at (values_of v ws) a.condition.0).word (byte_at p bits v a.read) a.byte h
+  asked_to : (a : AskedByte) → a.condition.0 < length c.nodes → HasRead p a.part a.read → asked_at p bits ws v a ≡ true → HasByte c x (frame_asked_of a)
+  asked_to a l r h e = sym (m.bytes a.part a.read r) ∙ implies_to (value_at (values_of v ws) a.condition.0).word (byte_at p bits v a.part a.read) a.byte h
       (m.words a.condition.0 l ∙ e)
 
-  asked_from : (a : AskedByte) → a.condition.0 < length c.nodes → a.read < p.reads → HasByte c x (asked_of a) → asked_at p bits ws v a ≡ true
+  asked_from : (a : AskedByte) → a.condition.0 < length c.nodes → HasRead p a.part a.read → HasByte c x (frame_asked_of a) → asked_at p bits ws v a ≡ true
   asked_from a l r f =
-      implies_from (value_at (values_of v ws) a.condition.0).word (byte_at p bits v a.read) a.byte (λ e. m.bytes a.read r ∙ f (sym (m.words a.condition.0 l) ∙ e))
+      implies_from (value_at (values_of v ws) a.condition.0).word (byte_at p bits v a.part a.read) a.byte
+      (λ e. m.bytes a.part a.read r ∙ f (sym (m.words a.condition.0 l) ∙ e))
 
   -- what is formed of an agreement, and of an asked byte
-  abbrev FormedAgreement : walk.Agreement → Type 0
-  FormedAgreement a = HasWidth c.nodes 1 a.condition × (a.read < length c.addresses) × (a.other < length c.addresses)
+  abbrev FormedAgreement : frames.Agreement → Type 0
+  FormedAgreement a = HasWidth c.nodes 1 a.condition × HasRead p a.part a.read × HasRead p a.part a.other
 
-  abbrev FormedByte : walk.AskedByte → Type 0
-  FormedByte a = HasWidth c.nodes 1 a.condition × (a.read < length c.addresses) × (a.byte < 256)
+  abbrev FormedByte : frames.AskedByte → Type 0
+  FormedByte a = HasWidth c.nodes 1 a.condition × HasRead p a.part a.read
 
-  pub all_agree : (xs : List Agreement) → p.reads ≡ length c.addresses → ((a : walk.Agreement) → Contains (map agreement_of xs) a → FormedAgreement a) →
-      list_all (agrees_at p bits ws v) xs ≡ true → (a : walk.Agreement) → Contains (map agreement_of xs) a → Agrees c x a
-  all_agree [] r f h a k = absurd (omega (arith, k.1))
-  all_agree (y ∷ ys) r f h a (zero, k, e) =
-      let q = f (agreement_of y) (0, omega arith, refl) in
-      subst (Agrees c x) e (agrees_to y q.0.0 (omega (arith, q.1)) (omega (arith, q.2)) (and_parts (agrees_at p bits ws v y) (list_all (agrees_at p bits ws v) ys) h).0)
-  all_agree (y ∷ ys) r f h a (suc i, k, e) =
-      all_agree ys r (λ b n. f b (suc n.0, (let l = n.1 in omega arith), n.2)) (and_parts (agrees_at p bits ws v y) (list_all (agrees_at p bits ws v) ys) h).1 a
+  pub all_agree : (xs : List Agreement) → ((a : frames.Agreement) → Contains (map frame_agreement_of xs) a → FormedAgreement a) →
+      list_all (agrees_at p bits ws v) xs ≡ true → (a : frames.Agreement) → Contains (map frame_agreement_of xs) a → Agrees c x a
+  all_agree [] f h a k = absurd (omega (arith, k.1))
+  all_agree (y ∷ ys) f h a (zero, k, e) =
+      let q = f (frame_agreement_of y) (0, omega arith, refl) in
+      subst (Agrees c x) e (agrees_to y q.0.0 q.1 q.2 (and_parts (agrees_at p bits ws v y) (list_all (agrees_at p bits ws v) ys) h).0)
+  all_agree (y ∷ ys) f h a (suc i, k, e) =
+      all_agree ys (λ b n. f b (suc n.0, (let l = n.1 in omega arith), n.2)) (and_parts (agrees_at p bits ws v y) (list_all (agrees_at p bits ws v) ys) h).1 a
       (i, omega arith, e)
 
-  pub agree_all : (xs : List Agreement) → p.reads ≡ length c.addresses → ((a : walk.Agreement) → Contains (map agreement_of xs) a → FormedAgreement a) →
-      ((a : walk.Agreement) → Contains (map agreement_of xs) a → Agrees c x a) → list_all (agrees_at p bits ws v) xs ≡ true
-  agree_all [] r f h = refl
-  agree_all (y ∷ ys) r f h =
-      let q = f (agreement_of y) (0, omega arith, refl) in
+  pub agree_all : (xs : List Agreement) → ((a : frames.Agreement) → Contains (map frame_agreement_of xs) a → FormedAgreement a) →
+      ((a : frames.Agreement) → Contains (map frame_agreement_of xs) a → Agrees c x a) → list_all (agrees_at p bits ws v) xs ≡ true
+  agree_all [] f h = refl
+  agree_all (y ∷ ys) f h =
+      let q = f (frame_agreement_of y) (0, omega arith, refl) in
       and_from (agrees_at p bits ws v y) (list_all (agrees_at p bits ws v) ys)
-      (agrees_from y q.0.0 (omega (arith, q.1)) (omega (arith, q.2)) (h (agreement_of y) (0, omega arith, refl)))
-      (agree_all ys r (λ b n. f b (suc n.0, (let l = n.1 in omega arith), n.2)) (λ b n. h b (suc n.0, (let l = n.1 in omega arith), n.2)))
+      (agrees_from y q.0.0 q.1 q.2 (h (frame_agreement_of y) (0, omega arith, refl)))
+      (agree_all ys (λ b n. f b (suc n.0, (let l = n.1 in omega arith), n.2)) (λ b n. h b (suc n.0, (let l = n.1 in omega arith), n.2)))
 
-  pub all_asked : (xs : List AskedByte) → p.reads ≡ length c.addresses → ((a : walk.AskedByte) → Contains (map asked_of xs) a → FormedByte a) →
-      list_all (asked_at p bits ws v) xs ≡ true → (a : walk.AskedByte) → Contains (map asked_of xs) a → HasByte c x a
-  all_asked [] r f h a k = absurd (omega (arith, k.1))
-  all_asked (y ∷ ys) r f h a (zero, k, e) =
-      let q = f (asked_of y) (0, omega arith, refl) in
-      subst (HasByte c x) e (asked_to y q.0.0 (omega (arith, q.1)) (and_parts (asked_at p bits ws v y) (list_all (asked_at p bits ws v) ys) h).0)
-  all_asked (y ∷ ys) r f h a (suc i, k, e) =
-      all_asked ys r (λ b n. f b (suc n.0, (let l = n.1 in omega arith), n.2)) (and_parts (asked_at p bits ws v y) (list_all (asked_at p bits ws v) ys) h).1 a
+  pub all_asked : (xs : List AskedByte) → ((a : frames.AskedByte) → Contains (map frame_asked_of xs) a → FormedByte a) →
+      list_all (asked_at p bits ws v) xs ≡ true → (a : frames.AskedByte) → Contains (map frame_asked_of xs) a → HasByte c x a
+  all_asked [] f h a k = absurd (omega (arith, k.1))
+  all_asked (y ∷ ys) f h a (zero, k, e) =
+      let q = f (frame_asked_of y) (0, omega arith, refl) in
+      subst (HasByte c x) e (asked_to y q.0.0 q.1 (and_parts (asked_at p bits ws v y) (list_all (asked_at p bits ws v) ys) h).0)
+  all_asked (y ∷ ys) f h a (suc i, k, e) =
+      all_asked ys (λ b n. f b (suc n.0, (let l = n.1 in omega arith), n.2)) (and_parts (asked_at p bits ws v y) (list_all (asked_at p bits ws v) ys) h).1 a
       (i, omega arith, e)
 
-  pub asked_all : (xs : List AskedByte) → p.reads ≡ length c.addresses → ((a : walk.AskedByte) → Contains (map asked_of xs) a → FormedByte a) →
-      ((a : walk.AskedByte) → Contains (map asked_of xs) a → HasByte c x a) → list_all (asked_at p bits ws v) xs ≡ true
-  asked_all [] r f h = refl
-  asked_all (y ∷ ys) r f h =
-      let q = f (asked_of y) (0, omega arith, refl) in
-      and_from (asked_at p bits ws v y) (list_all (asked_at p bits ws v) ys) (asked_from y q.0.0 (omega (arith, q.1)) (h (asked_of y) (0, omega arith, refl)))
-      (asked_all ys r (λ b n. f b (suc n.0, (let l = n.1 in omega arith), n.2)) (λ b n. h b (suc n.0, (let l = n.1 in omega arith), n.2)))
+  pub asked_all : (xs : List AskedByte) → ((a : frames.AskedByte) → Contains (map frame_asked_of xs) a → FormedByte a) →
+      ((a : frames.AskedByte) → Contains (map frame_asked_of xs) a → HasByte c x a) → list_all (asked_at p bits ws v) xs ≡ true
+  asked_all [] f h = refl
+  asked_all (y ∷ ys) f h =
+      let q = f (frame_asked_of y) (0, omega arith, refl) in
+      and_from (asked_at p bits ws v y) (list_all (asked_at p bits ws v) ys) (asked_from y q.0.0 q.1 (h (frame_asked_of y) (0, omega arith, refl)))
+      (asked_all ys (λ b n. f b (suc n.0, (let l = n.1 in omega arith), n.2)) (λ b n. h b (suc n.0, (let l = n.1 in omega arith), n.2)))
 
 -- ---- what is formed can be tied
 
@@ -113,34 +116,34 @@ has_width nodes ws t c f h = (omega (arith, c, h.0), f t h.0 ∙ h.1)
 
 pub can_agree : (c : Cells) (p : InputPlaces) (ws : List (Vec Bit)) → length (shapes ws) ≡ length c.nodes →
     ((i : ℕ) → i < length c.nodes → width_of (node_at (shapes ws) i) ≡ width_of (node_at c.nodes i)) →
-    p.reads ≡ length c.addresses → (xs : List Agreement) →
-    ((a : walk.Agreement) → Contains (map agreement_of xs) a → HasWidth c.nodes 1 a.condition × (a.read < length c.addresses) ×
-    (a.other < length c.addresses)) → All (CanAgree p ws) xs
-can_agree c p ws l w r [] f i d k = absurd (omega arith)
-can_agree c p ws l w r (y ∷ ys) f zero d k =
-    let q = f (agreement_of y) (0, omega arith, refl) in
-    record { condition = has_width c.nodes ws y.condition.0 l w q.0; read = omega (arith, q.1); other = omega (arith, q.2) }
-can_agree c p ws l w r (y ∷ ys) f (suc i) d k = can_agree c p ws l w r ys (λ b n. f b (suc n.0, (let m = n.1 in omega arith), n.2)) i d (omega arith)
+    (xs : List Agreement) →
+    ((a : frames.Agreement) → Contains (map frame_agreement_of xs) a → HasWidth c.nodes 1 a.condition × HasRead p a.part a.read ×
+    HasRead p a.part a.other) → All (CanAgree p ws) xs
+can_agree c p ws l w [] f i d k = absurd (omega arith)
+can_agree c p ws l w (y ∷ ys) f zero d k =
+    let q = f (frame_agreement_of y) (0, omega arith, refl) in
+    record { condition = has_width c.nodes ws y.condition.0 l w q.0; read = q.1; other = q.2 }
+can_agree c p ws l w (y ∷ ys) f (suc i) d k = can_agree c p ws l w ys (λ b n. f b (suc n.0, (let m = n.1 in omega arith), n.2)) i d (omega arith)
 
 pub can_be_asked : (c : Cells) (p : InputPlaces) (ws : List (Vec Bit)) → length (shapes ws) ≡ length c.nodes →
     ((i : ℕ) → i < length c.nodes → width_of (node_at (shapes ws) i) ≡ width_of (node_at c.nodes i)) →
-    p.reads ≡ length c.addresses → (xs : List AskedByte) →
-    ((a : walk.AskedByte) → Contains (map asked_of xs) a → HasWidth c.nodes 1 a.condition × (a.read < length c.addresses) × (a.byte < 256)) →
+    (xs : List AskedByte) →
+    ((a : frames.AskedByte) → Contains (map frame_asked_of xs) a → HasWidth c.nodes 1 a.condition × HasRead p a.part a.read) →
     All (CanBeAsked p ws) xs
-can_be_asked c p ws l w r [] f i d k = absurd (omega arith)
-can_be_asked c p ws l w r (y ∷ ys) f zero d k =
-    let q = f (asked_of y) (0, omega arith, refl) in
-    record { condition = has_width c.nodes ws y.condition.0 l w q.0; read = omega (arith, q.1) }
-can_be_asked c p ws l w r (y ∷ ys) f (suc i) d k = can_be_asked c p ws l w r ys (λ b n. f b (suc n.0, (let m = n.1 in omega arith), n.2)) i d (omega arith)
+can_be_asked c p ws l w [] f i d k = absurd (omega arith)
+can_be_asked c p ws l w (y ∷ ys) f zero d k =
+    let q = f (frame_asked_of y) (0, omega arith, refl) in
+    record { condition = has_width c.nodes ws y.condition.0 l w q.0; read = q.1 }
+can_be_asked c p ws l w (y ∷ ys) f (suc i) d k = can_be_asked c p ws l w ys (λ b n. f b (suc n.0, (let m = n.1 in omega arith), n.2)) i d (omega arith)
 
 -- ---- one more is said
 
 -- what a read of a list past its end would give
 abbrev pub no_agreement : Agreement
-no_agreement = record { condition = record { 0 = 0 }; read = 0; other = 0 }
+no_agreement = record { condition = record { 0 = 0 }; part = 0; read = 0; other = 0 }
 
 abbrev pub no_asked : AskedByte
-no_asked = record { condition = record { 0 = 0 }; read = 0; byte = 0 }
+no_asked = record { condition = record { 0 = 0 }; part = 0; read = 0; byte = 0 }
 
 and_assoc : (a b c : Bool) → ((a && b) && c) ≡ (a && (b && c))
 and_assoc true b c = refl

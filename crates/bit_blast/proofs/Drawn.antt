@@ -1,5 +1,5 @@
 -- The choices that are drawn, place by place.
-use Rattle.std.proofs.Common.{◌≡◌, ℕ, zero, suc, ◌+◌, ◌<◌, ◌≤◌, Bool, true, false, List, [], ◌∷◌, ◌++◌, length, map, get_or, refl, ap, sym, ◌∙◌, subst, arith, inl, inr}
+use Rattle.std.proofs.Common.{◌≡◌, ℕ, zero, suc, ◌+◌, ◌*◌, ◌<◌, ◌≤◌, Bool, true, false, List, [], ◌∷◌, ◌++◌, length, map, get_or, refl, ap, sym, ◌∙◌, subst, arith, inl, inr}
 use Rattle.std.specs.Prelude.{Option, Some, None, slice_index_or, if◌then◌else◌}
 use Rattle.std.proofs.lemmas.Bool.{cases_lt}
 use Rattle.std.proofs.lemmas.List.{get_or_append_left, length_push, map-append}
@@ -88,3 +88,8 @@ pub mapped_push : (g : ℕ → ℕ) (k : ℕ) → map g (from_to 0 (k + 1)) ≡ 
 mapped_push g k =
     ap (λ z. map g (from_to 0 z)) (let e : k + 1 ≡ suc k = omega arith in e) ∙ ap (map g) (range_push 0 k) ∙ map-append g (from_to 0 k) ((0 + k) ∷ [])
     ∙ ap (λ z. map g (from_to 0 k) ++ g z ∷ []) (let e : 0 + k ≡ k = omega arith in e)
+
+-- the states of the entry and of the head
+pub few_states : (b : Bool) (n : ℕ) → n + (if b then n else 0) ≤ 2 * n
+few_states true n = omega arith
+few_states false n = omega arith

@@ -44,11 +44,11 @@ byte_at (x ∷ xs) h (suc k) d l =
     ap (λ z. if z then x.1 else byte_in xs (get_or xs k d).0) (let e : ((get_or xs k d).0 == x.0) ≡ false = grind (arith, nat_tests) in e)
     ∙ byte_at xs (tail_rises x xs h) k d (omega (arith, l))
 
-byte_has : (xs : List (ℕ × ℕ)) (a b : ℕ) → AreRising xs → Contains xs (a, b) → byte_in xs a ≡ b
+pub byte_has : (xs : List (ℕ × ℕ)) (a b : ℕ) → AreRising xs → Contains xs (a, b) → byte_in xs a ≡ b
 byte_has xs a b h (k, l, e) = ap (λ (z : ℕ × ℕ). byte_in xs z.0) (sym e) ∙ byte_at xs h k (a, b) l ∙ ap (λ (z : ℕ × ℕ). z.1) e
 
 -- bytes that are not listed are 0, so those that are 0 need not be
-byte_same : (xs : List (ℕ × ℕ)) (a : ℕ) → AreRising xs → byte_in (filter (λ x. nat_lt 0 x.1) xs) a ≡ byte_in xs a
+pub byte_same : (xs : List (ℕ × ℕ)) (a : ℕ) → AreRising xs → byte_in (filter (λ x. nat_lt 0 x.1) xs) a ≡ byte_in xs a
 byte_same [] a h = refl
 byte_same (x ∷ xs) a h = elim (truth (nat_lt 0 x.1)) [
   | inl t ↦ ap (λ z. byte_in (if z then x ∷ filter (λ y. nat_lt 0 y.1) xs else filter (λ y. nat_lt 0 y.1) xs) a) t
@@ -82,7 +82,9 @@ first_at (x ∷ xs) d h (suc k) l = elim (truth ((get_or xs k d).0 == x.0)) [
 -- reads that some memory gives are so
 pub one_by_memory : (u : UnrolledProgram) (c : Cells) → AreFormed u c → (x : TermReading) (m : Memory) → Gives c (with_mem x m) → AreOne c x
 one_by_memory u c formed x m gives i j l k e =
-    gives i l ∙ ap m (term_free x m c.nodes (slice_index c.addresses i) formed.words ∙ e ∙ sym (term_free x m c.nodes (slice_index c.addresses j) formed.words))
+    gives i l
+    ∙ ap m (term_free x (λ p. m) c.nodes (slice_index c.addresses i) formed.words ∙ e
+    ∙ sym (term_free x (λ p. m) c.nodes (slice_index c.addresses j) formed.words))
     ∙ sym (gives j k)
 
 -- some memory has the byte of each read whose address is not known
@@ -101,7 +103,7 @@ one_memory u c x one xs us reads free = (
         let q : j < length c.addresses = omega (arith, m, reads.count) in
         reads.byte i p ∙ one i j p q (sym (reads.address i p) ∙ e ∙ reads.address j q) ∙ sym (reads.byte j q)
 
-free_none : (o : Option ℕ) → is_free o ≡ true → o ≡ None
+pub free_none : (o : Option ℕ) → is_free o ≡ true → o ≡ None
 free_none None h = refl
 free_none (Some b) h = absurd (cc)
 
@@ -151,7 +153,8 @@ module _ (u : UnrolledProgram) (c : Cells) (formed : AreFormed u c) (v : ℕ →
   pub it_gives : ((a : ℕ) → ¬ IsBroken u c (reading u c v) a) → Gives c (with_mem (reading u c v) (λ a. known_or (byte_of_runs u.known (word 32 a)) listed a))
   it_gives whole j l =
       let m = λ (a : ℕ). known_or (byte_of_runs u.known (word 32 a)) listed a in
-      sym (ap m (term_free (reading u c v) m c.nodes (slice_index c.addresses j) formed.words) ∙ ap (λ z. known_or (byte_of_runs u.known z) listed at) here
+      sym (ap m (term_free (reading u c v) (λ p. m) c.nodes (slice_index c.addresses j) formed.words)
+      ∙ ap (λ z. known_or (byte_of_runs u.known z) listed at) here
       ∙ by (byte_of_runs u.known at) refl)
     where
       at : ℕ

@@ -1,7 +1,8 @@
 -- The places of the inputs of cells: the reading of a valuation is at them, and the cells' nodes name inputs that have places.
-use Rattle.std.proofs.Common.{◌≡◌, ℕ, ◌+◌, ◌-◌, ◌*◌, ◌<◌, Bool, true, false, List, length, ap, sym, ◌∙◌, subst, arith}
+use Rattle.std.proofs.Common.{◌≡◌, ℕ, zero, suc, ◌+◌, ◌-◌, ◌*◌, ◌<◌, ◌≤◌, Bool, true, false, List, length, refl, ap, sym, ◌∙◌, subst, arith}
 use Rattle.std.specs.Prelude.{nat_lt, nat_eq, slice_index_or, if◌then◌else◌, Option, Some, None, unwrap_or}
 use Rattle.std.specs.List.{list_any}
+use Rattle.std.proofs.lemmas.Bool.{false≢true}
 use Rattle.std.proofs.lemmas.Bool.Decides.{nat_tests}
 use Rattle.term_spec.specs.Terms.{TermNode, RegisterNode, FlagNode, ChoiceNode, BaseNode, MemoryNode, ConstantNode, BinaryNode, NotNode, SelectNode, ExtractNode, ConcatNode, ExtendNode, LoadNode, StoreNode, JoinNode, TakeNode}
 use Rattle.walk_spec.specs.Unrolled.{UnrolledProgram, point_at, is_register_of, is_flag_of}
@@ -11,8 +12,9 @@ use Rattle.term_spec.specs.ClauseForm.{bits_from, drawn_below, first_flag, first
 use Rattle.walk_laws.proofs.InputPlaces.{range_length}
 use Rattle.word_gates.specs.Numbers.{input_number}
 use Rattle.bit_blast.specs.declared.input_places.InputPlaces.{InputPlaces}
-use Rattle.bit_blast.specs.Places.{IsNamed, IsReadingAt}
+use Rattle.bit_blast.specs.Places.{HasPart, HasRead, IsNamed, IsRead, IsReadingAt, first_of}
 use Rattle.bit_blast.specs.Laid.{ArePlaces}
+use Rattle.bit_blast.proofs.PartPlaces.{behind_entry}
 use Rattle.bit_blast.proofs.InputNumbers.{bits_are, in_range, any_in_range, place_in_range, drawn_less}
 
 module _ (u : UnrolledProgram) (c : Cells) (p : InputPlaces) (is : ArePlaces u c p) where
@@ -23,7 +25,7 @@ module _ (u : UnrolledProgram) (c : Cells) (p : InputPlaces) (is : ArePlaces u c
   flag_first = omega (arith, is.order.flag, registers_are)
 
   pub choice_first : p.first_choice ≡ first_choice u
-  choice_first = omega (arith, is.order.choice, flag_first, is.flags)
+  choice_first = omega (arith, is.order.head, behind_entry p is.order is.heads, flag_first, is.flags)
 
   pub byte_first : p.first_byte ≡ first_byte u
   byte_first = omega (arith, is.order.byte, choice_first, is.drawn.all)
@@ -31,15 +33,19 @@ module _ (u : UnrolledProgram) (c : Cells) (p : InputPlaces) (is : ArePlaces u c
   pub inputs_are : p.inputs ≡ inputs u c
   inputs_are = omega (arith, is.order.all, byte_first, is.reads)
 
+  -- each address is read at entry
+  pub entry_read : (j : ℕ) → j < length c.addresses → HasRead p 0 j
+  entry_read j l = (j, (is.entry j l, omega (arith, is.reads)))
+
   -- a node of the cells names an input that has a place
   pub named : (n : TermNode) → IsNamedBelow u (length c.addresses) n → IsNamed p n
   named (RegisterNode part n) h =
-      let q = in_range p.first_register p.registers n (subst (λ (z : List ℕ). list_any (nat_eq n) z ≡ true) is.registers h.1) in (h.0, q.0, q.1)
-  named (FlagNode part f) h = let k = h.1 in let l : f < u.flags = grind (arith, nat_tests) in (h.0, omega (arith, is.flags))
+      let q = in_range p.first_register p.registers n (subst (λ (z : List ℕ). list_any (nat_eq n) z ≡ true) is.registers h.1) in (subst (HasPart p) (sym h.0) tt, q.0, q.1)
+  named (FlagNode part f) h = let k = h.1 in let l : f < u.flags = grind (arith, nat_tests) in (subst (HasPart p) (sym h.0) tt, omega (arith, is.flags))
   named (ChoiceNode i) h =
       let e = is.drawn.each i h.0 ∙ ap (λ z. if z then Some (drawn_below u i) else None) h.1 in
       (drawn_below u i, (omega (arith, h.0, is.drawn.places), e, omega (arith, is.drawn.all, drawn_less u i (length u.points) h.1 h.0)))
-  named (BaseNode part j) h = (h.0, omega (arith, is.reads, h.1))
+  named (BaseNode part j) h = subst (λ (z : ℕ). HasRead p z j) (sym h.0) (entry_read j h.1)
   named (MemoryNode part) h = tt
   named (ConstantNode w v) h = tt
   named (BinaryNode o w a b) h = tt
@@ -61,21 +67,48 @@ module _ (u : UnrolledProgram) (c : Cells) (p : InputPlaces) (is : ArePlaces u c
       bits_are v (first_choice u + 2 * drawn_below u i) 2 ∙ ap (λ z. input_number v z 2) h
   chosen v i k false o e f = absurd (let g : None ≡ Some k = sym e ∙ f in cc)
 
-  -- the reading of a valuation
-  pub reading_at : (v : ℕ → Bool) → IsReadingAt p v (reading u c v)
-  reading_at v = record {
-    registers = λ n l m.
+  -- the numbers of the reading of a valuation
+  module _ (v : ℕ → Bool) where
+    pub register_at : (n : ℕ) → p.first_register ≤ n → n < p.first_register + p.registers →
+        (reading u c v).regs 0 n ≡ input_number v (32 * (n - p.first_register)) 32
+    register_at n l m =
         let e : is_register_of u n ≡ true = subst (λ (z : List ℕ). list_any (nat_eq n) z
         ≡ true) (sym is.registers) (any_in_range p.first_register p.registers n l m) in
         let f : place_in u.registers n ≡ n - p.first_register = ap (λ z. place_in z n) is.registers ∙ place_in_range p.first_register p.registers n l m in
         ap (λ z. if z then bits_from v (32 * place_in u.registers n) 32 else 0) e ∙ ap
-        (λ z. bits_from v (32 * z) 32) f ∙ bits_are v (32 * (n - p.first_register)) 32;
-    flags = λ f l.
+        (λ z. bits_from v (32 * z) 32) f ∙ bits_are v (32 * (n - p.first_register)) 32
+
+    pub flag_at : (f : ℕ) → f < p.flags → (reading u c v).flags 0 f ≡ input_number v (p.first_flag + f) 1
+    flag_at f l =
         let e : is_flag_of u f ≡ true = (let k : f < u.flags = omega (arith, is.flags) in grind (arith, nat_tests)) in
-        ap (λ z. if z then bits_from v (first_flag u + f) 1 else 0) e ∙ ap (λ z. bits_from v (z + f) 1) (sym flag_first) ∙ bits_are v (p.first_flag + f) 1;
-    choices = λ i k d. chosen v i k ((point_at u i).draws) (slice_index_or p.drawn.items i None) (is.drawn.each i (omega (arith, d.0, is.drawn.places))) d.1;
-    bytes = λ j l.
-        let e : nat_lt j (length c.addresses) ≡ true = (let k : j < length c.addresses = omega (arith, is.reads) in grind (arith, nat_tests)) in
+        ap (λ z. if z then bits_from v (first_flag u + f) 1 else 0) e ∙ ap (λ z. bits_from v (z + f) 1) (sym flag_first) ∙ bits_are v (p.first_flag + f) 1
+
+    pub byte_at : (j : ℕ) → j < length c.addresses → (reading u c v).base 0 j ≡ input_number v (p.first_byte + 8 * j) 8
+    byte_at j l =
+        let e : nat_lt j (length c.addresses) ≡ true = grind (arith, nat_tests) in
         ap (λ z. if z then bits_from v (first_byte u + 8 * j) 8 else 0) e ∙ ap
-        (λ z. bits_from v (z + 8 * j) 8) (sym byte_first) ∙ bits_are v (p.first_byte + 8 * j) 8;
+        (λ z. bits_from v (z + 8 * j) 8) (sym byte_first) ∙ bits_are v (p.first_byte + 8 * j) 8
+
+    -- there is no part but the entry's
+    origin : (part : ℕ) → HasPart p part → first_of p part ≡ 0
+    origin zero h = refl
+    origin (suc zero) h = absurd (false≢true (sym is.heads ∙ h))
+    origin (suc (suc i)) h = absurd h
+
+    byte_of : (part j k : ℕ) → IsRead p part j k → (reading u c v).base part j ≡ input_number v (p.first_byte + 8 * k) 8
+    byte_of zero j k h = let q = is.entry_only j k h.0 in byte_at j q.1 ∙ ap (λ z. input_number v (p.first_byte + 8 * z) 8) (sym q.0)
+    byte_of (suc zero) j k h = absurd (is.head_none j k h.0)
+    byte_of (suc (suc i)) j k h = absurd (let e = h.0 in cc)
+
+  -- the reading of a valuation
+  pub reading_at : (v : ℕ → Bool) → IsReadingAt p v (reading u c v)
+  reading_at v = record {
+    registers = λ part n h l m.
+        register_at v n l m
+        ∙ ap (λ z. input_number v z 32) (let o = origin v part h in let e : 32 * (n - p.first_register) ≡ first_of p part + 32 * (n - p.first_register) = omega arith
+        in e);
+    flags = λ part f h l.
+        flag_at v f l ∙ ap (λ z. input_number v z 1) (let o = origin v part h in let e : p.first_flag + f ≡ first_of p part + p.first_flag + f = omega arith in e);
+    choices = λ i k d. chosen v i k ((point_at u i).draws) (slice_index_or p.drawn.items i None) (is.drawn.each i (omega (arith, d.0, is.drawn.places))) d.1;
+    bytes = byte_of v;
   }

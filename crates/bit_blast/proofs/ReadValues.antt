@@ -14,12 +14,12 @@ use Rattle.bit_blast.specs.declared.input_places.InputPlaces.{InputPlaces}
 use Rattle.bit_blast.specs.Laid.{ArePlaces}
 use Rattle.bit_blast.specs.ReadBytes.{AreBeside, AreReads, HasInputs, address_word}
 use Rattle.bit_blast.proofs.InputNumbers.{bits_are}
-use Rattle.bit_blast.proofs.Placed.{reading_at}
+use Rattle.bit_blast.proofs.Placed.{byte_at}
 use Rattle.bit_blast.proofs.StartInputs.{small_byte}
 
 pub byte_is : (u : UnrolledProgram) (c : Cells) (v : ℕ → Bool) (p : InputPlaces) → ArePlaces u c p → (j : ℕ) → j < length c.addresses →
     bits_from v (p.first_byte + 8 * j) 8 ≡ (reading u c v).base 0 j
-byte_is u c v p placed j l = bits_are v (p.first_byte + 8 * j) 8 ∙ sym ((reading_at u c p placed v).bytes j (omega (arith, placed.reads, l)))
+byte_is u c v p placed j l = bits_are v (p.first_byte + 8 * j) 8 ∙ sym (byte_at u c p placed v j l)
 
 agrees : (u : UnrolledProgram) (c : Cells) (v : ℕ → Bool) (r : Reading) → HasInputs u c v r → Agree u (length c.addresses) (reading_of r) (reading u c v)
 agrees u c v r h = record {

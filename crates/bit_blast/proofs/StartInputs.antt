@@ -29,7 +29,7 @@ use Rattle.bit_blast.specs.Steps.{AreChoices, choice_at, choice_by, count_met, i
 use Rattle.bit_blast.proofs.Follows.{follows}
 use Rattle.bit_blast.proofs.InputNumbers.{bits_are, drawn_less, in_range}
 use Rattle.bit_blast.proofs.StepChoices.{any_default}
-use Rattle.bit_blast.proofs.Placed.{choice_first, reading_at}
+use Rattle.bit_blast.proofs.Placed.{choice_first, flag_at, register_at}
 
 -- ---- numbers of bits
 
@@ -50,7 +50,7 @@ byte_below a = omega arith
 
 -- ---- lists
 
-map_ranges : (f g : ℕ → ℕ) (a b k : ℕ) → ((q : ℕ) → q < k → f (a + q) ≡ g (b + q)) → map f (from_to a k) ≡ map g (from_to b k)
+pub map_ranges : (f g : ℕ → ℕ) (a b k : ℕ) → ((q : ℕ) → q < k → f (a + q) ≡ g (b + q)) → map f (from_to a k) ≡ map g (from_to b k)
 map_ranges f g a b zero h = refl
 map_ranges f g a b (suc k) h =
     let head : f a ≡ g b = ap f (let e : a ≡ a + 0 = omega arith in e) ∙ h 0 (omega arith) ∙ ap g (let e : b + 0 ≡ b = omega arith in e) in
@@ -117,13 +117,13 @@ module _ (u : UnrolledProgram) (c : Cells) (v : ℕ → Bool) (p : InputPlaces) 
   register_is n a e h =
       let q = in_range p.first_register p.registers n (subst (λ (z : List ℕ). list_any (nat_eq n) z ≡ true) placed.registers h) in
       small_word a _ ((reading_in_range u c v).regs 0 n)
-      (e q.0 q.1 ∙ bits_are v (32 * (n - p.first_register)) 32 ∙ sym ((reading_at u c p placed v).registers n q.0 q.1))
+      (e q.0 q.1 ∙ bits_are v (32 * (n - p.first_register)) 32 ∙ sym (register_at u c p placed v n q.0 q.1))
 
   pub flag_of : (f a : ℕ) → (f < p.flags → a ≡ bits_from v (p.first_flag + f) 1) → is_flag_of u f ≡ true → a % 2 ≡ (reading u c v).flags 0 f
   flag_of f a e h =
       let k : f < u.flags = grind (arith, nat_tests) in
       let l : f < p.flags = omega (arith, placed.flags) in
-      small_flag a _ ((reading_in_range u c v).flags 0 f) (e l ∙ bits_are v (p.first_flag + f) 1 ∙ sym ((reading_at u c p placed v).flags f l))
+      small_flag a _ ((reading_in_range u c v).flags 0 f) (e l ∙ bits_are v (p.first_flag + f) 1 ∙ sym (flag_at u c p placed v f l))
 
   pub choice_is : (i : ℕ) → i < length u.points → choice_at p v i ≡ (reading u c v).choice i
   choice_is i l = ap (choice_by p v) (placed.drawn.each i l) ∙ by ((point_at u i).draws)
@@ -139,13 +139,13 @@ module _ (u : UnrolledProgram) (c : Cells) (v : ℕ → Bool) (p : InputPlaces) 
   registers_are =
       sym (ap (map ((reading u c v).regs 0)) placed.registers
       ∙ map_ranges ((reading u c v).regs 0) (λ q. bits_from v (32 * q) 32) p.first_register 0 p.registers (λ q l.
-      (reading_at u c p placed v).registers (p.first_register + q) (omega arith) (omega arith)
+      register_at u c p placed v (p.first_register + q) (omega arith) (omega arith)
       ∙ ap (λ z. input_number v (32 * z) 32) (let e : p.first_register + q - p.first_register ≡ 0 + q = omega arith in e) ∙ sym (bits_are v (32 * (0 + q)) 32)))
 
   flag_bit : (f : ℕ) → f < u.flags → bit_at f (bits_from v p.first_flag p.flags) ≡ (reading u c v).flags 0 f
   flag_bit f l =
       let k : f < p.flags = omega (arith, placed.flags) in
-      let e = (reading_at u c p placed v).flags f k ∙ sym (bits_are v (p.first_flag + f) 1) in
+      let e = flag_at u c p placed v f k ∙ sym (bits_are v (p.first_flag + f) 1) in
       one_bit_same _ _ (let z : bit_at f (bits_from v p.first_flag p.flags) < 2 = omega arith in z) ((reading_in_range u c v).flags 0 f)
       (bit_is v p.first_flag p.flags f k ∙ sym (flag_is v (p.first_flag + f)) ∙ sym (ap (λ z. z == 1) e))
 

@@ -155,15 +155,15 @@ front r rest bytes x w old new zero' apart e f = elim (truth (nat_le r.first w &
       | inr g ↦ ap (λ z. if z && nat_lt w (r.first + min (length r.bytes.now) (r.last - r.first + 1)) then slice_index r.bytes.now (w - r.first) else old) g
     ]
 
-pub run_front : (runs : List Known) (bytes : List (ℕ × ℕ)) (i m k : ℕ) (d : Known) (x old new : ℕ) → AreRuns runs →
-    All (λ (b : ℕ × ℕ). byte_of_runs (map run_of runs) b.0 ≡ None) bytes → i < length runs → m ≡ i + 1 → k ≡ i →
+pub run_front_at : (runs : List Known) (bytes : List (ℕ × ℕ)) (i m k : ℕ) (d : Known) (x old new : ℕ) → AreRuns runs →
+    ((j : ℕ) (b : ℕ × ℕ) → j < length bytes → (get_or bytes j b).0 ≡ word 32 x → byte_of_runs (map run_of runs) (get_or bytes j b).0 ≡ None) → i < length runs → m ≡ i + 1 → k ≡ i →
     old ≡ known_or (byte_of_runs (map run_of (drop m runs)) (word 32 x)) bytes x →
     new ≡ filled (get_or runs i d) (min (length (get_or runs i d).bytes.now) ((get_or runs i d).last - (get_or runs i d).first + 1)) (word 32 x) old →
     new ≡ known_or (byte_of_runs (map run_of (drop k runs)) (word 32 x)) bytes x
-run_front runs bytes i m k d x old new are unknown l p q e f =
+run_front_at runs bytes i m k d x old new are unknown l p q e f =
     front (get_or runs i d) (drop (i + 1) runs) bytes x (word 32 x) old new
     (λ none t. byte_none bytes (word 32 x) (λ j b n s. not_none runs i d (word 32 x) l t (subst
-    (λ (z : ℕ). byte_of_runs (map run_of runs) z ≡ None) s (unknown j b n))))
+    (λ (z : ℕ). byte_of_runs (map run_of runs) z ≡ None) s (unknown j b n s))))
     (λ t. none_behind (drop (i + 1) runs) (word 32 x) (λ j b n.
     let g = ap (λ (z : Known). z.first) (get_or-drop (i + 1) runs j b) in
     let r = are.rising i (i + 1 + j) b (omega arith) (omega (arith, n, length-drop (i + 1) runs)) in
@@ -175,3 +175,10 @@ run_front runs bytes i m k d x old new are unknown l p q e f =
     omega arith))
     (e ∙ ap (λ z. known_or (byte_of_runs (map run_of (drop z runs)) (word 32 x)) bytes x) p) f
     ∙ sym (ap (λ z. known_or (byte_of_runs (map run_of z) (word 32 x)) bytes x) (ap (λ z. drop z runs) q ∙ drop_more runs i d l))
+
+pub run_front : (runs : List Known) (bytes : List (ℕ × ℕ)) (i m k : ℕ) (d : Known) (x old new : ℕ) → AreRuns runs →
+    All (λ (b : ℕ × ℕ). byte_of_runs (map run_of runs) b.0 ≡ None) bytes → i < length runs → m ≡ i + 1 → k ≡ i →
+    old ≡ known_or (byte_of_runs (map run_of (drop m runs)) (word 32 x)) bytes x →
+    new ≡ filled (get_or runs i d) (min (length (get_or runs i d).bytes.now) ((get_or runs i d).last - (get_or runs i d).first + 1)) (word 32 x) old →
+    new ≡ known_or (byte_of_runs (map run_of (drop k runs)) (word 32 x)) bytes x
+run_front runs bytes i m k d x old new are unknown = run_front_at runs bytes i m k d x old new are (λ j b n s. unknown j b n)

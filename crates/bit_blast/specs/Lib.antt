@@ -1,5 +1,6 @@
 pub mod BitWords
 pub mod Broken
+pub mod CellClauses
 pub mod CellWords
 pub mod Followed
 pub mod Laid

@@ -5,6 +5,9 @@ ghost use Rattle.walk_spec.specs.Unrolled.{UnrolledProgram};
 ghost use Rattle.term_spec.specs.Cells.{Cells, AreFormed};
 ghost use Rattle.term_spec.specs.ClauseForm.{bits_from, reading};
 ghost use Rattle.term_dag.specs.declared.nodes.Term.{Term};
+ghost use Rattle.frame_terms.specs.HeadlessTerms.{as_cells};
+ghost use Rattle.question_form.specs.FrameViews.{IsHeadless};
+ghost use Rattle.mem_cells.specs.FrameViews.{frame_cells_of};
 ghost use Rattle.mem_cells.specs.Views.{cells_of, program_of_cells};
 ghost use Rattle.bit_blast.specs.Laid.{ArePlaces};
 ghost use Rattle.bit_blast.specs.ReadBytes.{AreBeside, AreReads, HasInputs, address_word};
@@ -77,6 +80,8 @@ fn beside(
 
 /// The address and the byte of each base read, as values give them. The error is want of memory, which 2^28 points or base reads are.
 pub fn read_bytes(alloc: Global, c: &Celled, values: &[bool]) -> Result<Vec<(u32, u8)>, AllocError>
+    requires flat { frame_cells_of c.now ≡ as_cells (cells_of c.now) }
+    requires headless { IsHeadless c.now.question.now.passive.now.unrolled.now }
     requires formed { AreFormed (program_of_cells c.now) (cells_of c.now) }
     ensures { IfOk result (λ xs. AreReads (cells_of c.now) (reading (program_of_cells c.now) (cells_of c.now) (valuation values.now)) xs.items) }
 {

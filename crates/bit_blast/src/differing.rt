@@ -3,6 +3,9 @@ ghost use Rattle.std.specs.Prelude.{◌≡◌, ◌↔◌, ◌++◌, ℕ, [], ◌
 ghost use Rattle.std.specs.List.Sorted.{IsStrictlyIncreasing};
 ghost use Rattle.term_spec.specs.Cells.{AreFormed};
 ghost use Rattle.known_bytes.specs.Runs.{run_of};
+ghost use Rattle.frame_terms.specs.HeadlessTerms.{as_cells};
+ghost use Rattle.question_form.specs.FrameViews.{IsHeadless};
+ghost use Rattle.mem_cells.specs.FrameViews.{frame_cells_of};
 ghost use Rattle.mem_cells.specs.Views.{cells_of, program_of_cells};
 ghost use Rattle.bit_blast.specs.Broken.{AreBroken, differs};
 
@@ -42,7 +45,7 @@ fn differing_reads(
 }
 
 /// Addresses, rising and each once. The error is want of memory.
-fn addresses_in_order(mut found: Vec<u32>) -> Result<Vec<u32>, AllocError>
+pub fn addresses_in_order(mut found: Vec<u32>) -> Result<Vec<u32>, AllocError>
     ensures rise { IfOk result (λ v. IsStrictlyIncreasing v.items) }
     ensures same { IfOk result (λ v. (x : ℕ) → Contains found.items x ↔ Contains v.items x) }
 {
@@ -57,6 +60,8 @@ fn addresses_in_order(mut found: Vec<u32>) -> Result<Vec<u32>, AllocError>
 ///
 /// Want of memory, which more than 2^28 points or base reads are.
 pub fn broken(alloc: Global, c: &Celled, values: &[bool]) -> Result<Vec<u32>, AllocError>
+    requires flat { frame_cells_of c.now ≡ as_cells (cells_of c.now) }
+    requires headless { IsHeadless c.now.question.now.passive.now.unrolled.now }
     requires formed { AreFormed (program_of_cells c.now) (cells_of c.now) }
     ensures { IfOk result (λ v. AreBroken c.now values.now v.items) }
 {

@@ -8,6 +8,9 @@ ghost use Rattle.walk_spec.specs.Unrolled.{byte_of_runs};
 ghost use Rattle.term_spec.specs.Cells.{AreFormed, Gives};
 ghost use Rattle.term_spec.specs.ClauseForm.{IsBroken, reading};
 ghost use Rattle.known_bytes.specs.Runs.{run_of};
+ghost use Rattle.frame_terms.specs.HeadlessTerms.{as_cells};
+ghost use Rattle.question_form.specs.FrameViews.{IsHeadless};
+ghost use Rattle.mem_cells.specs.FrameViews.{frame_cells_of};
 ghost use Rattle.mem_cells.specs.Views.{cells_of, program_of_cells};
 ghost use Rattle.bit_blast.specs.ReadBytes.{AreOne, is_unknown};
 
@@ -50,7 +53,7 @@ fn unknown_reads(
 }
 
 /// Bytes by rising addresses, each once, where no two of one address differ. The error is want of memory.
-fn bytes_in_order(mut found: Vec<(u32, u8)>) -> Result<Vec<(u32, u8)>, AllocError>
+pub fn bytes_in_order(mut found: Vec<(u32, u8)>) -> Result<Vec<(u32, u8)>, AllocError>
     requires one { (m : ℕ → ℕ) × ((x : ℕ × ℕ) → Contains found.items x → m x.0 ≡ x.1) }
     ensures rise { IfOk result (λ v. AreRising v.items) }
     ensures same { IfOk result (λ v. (x : ℕ × ℕ) → Contains found.items x ↔ Contains v.items x) }
@@ -61,7 +64,7 @@ fn bytes_in_order(mut found: Vec<(u32, u8)>) -> Result<Vec<(u32, u8)>, AllocErro
 }
 
 /// The bytes that are not 0.
-fn not_zero(mut found: Vec<(u32, u8)>) -> Vec<(u32, u8)>
+pub fn not_zero(mut found: Vec<(u32, u8)>) -> Vec<(u32, u8)>
     ensures { result.items ≡ filter (λ x. nat_lt 0 x.1) found.items }
 {
     found.retain(|byte| byte.1 > 0);
@@ -75,6 +78,8 @@ fn not_zero(mut found: Vec<(u32, u8)>) -> Vec<(u32, u8)>
 ///
 /// Want of memory, which more than 2^28 points or base reads are.
 pub fn memory_of(alloc: Global, c: &Celled, values: &[bool]) -> Result<Vec<(u32, u8)>, AllocError>
+    requires flat { frame_cells_of c.now ≡ as_cells (cells_of c.now) }
+    requires headless { IsHeadless c.now.question.now.passive.now.unrolled.now }
     requires formed { AreFormed (program_of_cells c.now) (cells_of c.now) }
     requires one { AreOne (cells_of c.now) (reading (program_of_cells c.now) (cells_of c.now) (valuation values.now)) }
     requires whole { (a : ℕ) → ¬ IsBroken (program_of_cells c.now) (cells_of c.now)

@@ -4,7 +4,7 @@ ghost use Rattle.term_spec.specs.Terms.{TermReading, node_value, own_gates, widt
 ghost use Rattle.term_dag.specs.Nodes.{IsWordInput, node_of};
 ghost use Rattle.gates.specs.Circuits.{Netlist, next, Within};
 ghost use Rattle.word_gates.specs.Numbers.{input_number, number, IsWord};
-ghost use Rattle.bit_blast.specs.Places.{AreInOrder, IsNamed, IsReadingAt, seen};
+ghost use Rattle.bit_blast.specs.Places.{AreInOrder, HasPart, IsNamed, IsReadingAt, first_of, seen};
 
 use crate::input_places::InputPlaces;
 use gates::Bit;
@@ -25,6 +25,16 @@ fn input_width(node: Node) -> usize
     }
 }
 
+/// The first of the inputs of a part's state.
+fn first_of(places: &InputPlaces, part: u32) -> u32
+    requires part { HasPart places.now part }
+    requires order { AreInOrder places.now }
+    ensures is { result ≡ first_of places.now part }
+    ensures within { result + places.now.first_head ≤ places.now.first_choice }
+{
+    if part == 0 { 0 } else { places.first_head }
+}
+
 /// The first of the inputs that a node is.
 pub fn first_input(places: &InputPlaces, node: Node) -> u32
     requires input { IsWordInput (node_of node) }
@@ -36,13 +46,18 @@ pub fn first_input(places: &InputPlaces, node: Node) -> u32
 {
     let _all = places.inputs;
     match node {
-        Node::Register { number, .. } => 32 * (number - places.first_register) as u32,
-        Node::Flag { number, .. } => places.first_flag + number as u32,
+        Node::Register { part, number } => {
+            first_of(places, part) + 32 * (number - places.first_register) as u32
+        }
+        Node::Flag { part, number } => first_of(places, part) + places.first_flag + number as u32,
         Node::Choice(place) => match places.drawn[place as usize] {
             Some(choice) => places.first_choice + 2 * choice,
             None => unreachable!(),
         },
-        Node::Base { read, .. } => places.first_byte + 8 * read,
+        Node::Base { part, read } => match places.read(part, read) {
+            Some(place) => places.first_byte + 8 * place,
+            None => unreachable!(),
+        },
         _ => unreachable!(),
     }
 }

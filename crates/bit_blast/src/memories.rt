@@ -13,7 +13,7 @@ use known_bytes::Known;
 use std::alloc::{AllocError, Global};
 
 /// Stores a byte.
-fn put(memory: &mut Bytes32, a: u32, value: u8) -> Result<(), AllocError>
+pub fn put(memory: &mut Bytes32, a: u32, value: u8) -> Result<(), AllocError>
     ensures value { OnOk result ((x : ℕ) → memory_of memory.new.entries x ≡ (if word 32 x == a then value else memory_of memory.old.entries x)) }
     ensures below { OnOk result (AreBytes (memory_of memory.old.entries) → AreBytes (memory_of memory.new.entries)) }
 {
@@ -22,7 +22,7 @@ fn put(memory: &mut Bytes32, a: u32, value: u8) -> Result<(), AllocError>
 }
 
 /// The memory of bytes by their addresses, of which the first of an address counts.
-fn of_bytes(alloc: Global, bytes: &[(u32, u8)]) -> Result<Bytes32, AllocError>
+pub fn of_bytes(alloc: Global, bytes: &[(u32, u8)]) -> Result<Bytes32, AllocError>
     ensures value { IfOk result (λ memory. (x : ℕ) → memory_of memory.entries x ≡ memory_of bytes.now x) }
     ensures below { IfOk result (λ memory. AreBytes (memory_of memory.entries)) }
 {

@@ -4,7 +4,7 @@ ghost use Rattle.std.specs.List.{list_all};
 ghost use Rattle.word_gates.specs.Numbers.{input_number, number};
 ghost use Rattle.gates.specs.Circuits.{Within};
 ghost use Rattle.gates.specs.Pushes.{satisfied, AreOver};
-ghost use Rattle.bit_blast.specs.Places.{AreInOrder};
+ghost use Rattle.bit_blast.specs.Places.{AreInOrder, HasRead};
 ghost use Rattle.bit_blast.specs.Said.{agrees_at, asked_at, byte_at, CanAgree, CanBeAsked};
 ghost use Rattle.bit_blast.specs.BitWords.{AreWithin};
 
@@ -17,16 +17,19 @@ use mem_cells::{Agreement, AskedByte};
 use std::alloc::AllocError;
 
 /// The bits of a base read.
-fn read_bits<'a>(places: &InputPlaces, inputs: &'a [Bit], read: u32) -> &'a [Bit]
-    requires within { read < places.now.reads }
+fn read_bits<'a>(places: &InputPlaces, inputs: &'a [Bit], part: u32, read: u32) -> &'a [Bit]
+    requires there { HasRead places.now part read }
     requires order { AreInOrder places.now }
     requires all { length inputs.now ≡ places.now.inputs }
     ensures len { length result.now ≡ 8 }
     ensures within { (n : ℕ) → Within n inputs.now → Within n result.now }
-    ensures value { (v : ℕ → Bool) → number v result.now ≡ byte_at places.now inputs.now v read }
+    ensures value { (v : ℕ → Bool) → number v result.now ≡ byte_at places.now inputs.now v part read }
 {
     let _all = places.inputs;
-    let first = places.first_byte as usize + 8 * read as usize;
+    let Some(place) = places.read(part, read) else {
+        unreachable!()
+    };
+    let first = places.first_byte as usize + 8 * place as usize;
     &inputs[first..first + 8]
 }
 
@@ -48,8 +51,8 @@ pub fn tie_agreements(
     for i in 0..agrees.len() {
         let agreement = agrees[i];
         let condition = operand(words, agreement.condition);
-        let a = read_bits(places, inputs, agreement.read);
-        let b = read_bits(places, inputs, agreement.other);
+        let a = read_bits(places, inputs, agreement.part, agreement.read);
+        let b = read_bits(places, inputs, agreement.part, agreement.other);
         tie_words(ties, condition[0], a, b)?;
     }
     Ok(())
@@ -73,7 +76,7 @@ pub fn tie_asked(
     for i in 0..asked.len() {
         let byte = asked[i];
         let condition = operand(words, byte.condition);
-        let bits = read_bits(places, inputs, byte.read);
+        let bits = read_bits(places, inputs, byte.part, byte.read);
         tie_byte(ties, condition[0], bits, byte.byte)?;
     }
     Ok(())

@@ -13,6 +13,9 @@ ghost use Rattle.known_bytes.specs.Runs.{AreRuns};
 ghost use Rattle.term_dag.specs.Readings.{reading_of};
 ghost use Rattle.start_value.specs.Starts.{written_of};
 ghost use Rattle.question_form.specs.Questions.{passive_of};
+ghost use Rattle.frame_terms.specs.HeadlessTerms.{as_cells};
+ghost use Rattle.question_form.specs.FrameViews.{IsHeadless};
+ghost use Rattle.mem_cells.specs.FrameViews.{frame_cells_of};
 ghost use Rattle.mem_cells.specs.Views.{cells_of, program_of_cells};
 ghost use Rattle.bit_blast.specs.Followed.{AreFollowed, IsStartReading};
 ghost use Rattle.bit_blast.specs.Laid.{ArePlaces};
@@ -92,6 +95,8 @@ fn start_with(
     bytes: Vec<(u32, u8)>,
     values: &[bool],
 ) -> Result<Start, AllocError>
+    requires flat { frame_cells_of c.now ≡ as_cells (cells_of c.now) }
+    requires headless { IsHeadless c.now.question.now.passive.now.unrolled.now }
     requires walkable { IsWalkable (program_of_cells c.now) }
     requires passive { IsPassive (program_of_cells c.now) (passive_of c.now.question.now.passive.now) }
     requires runs { AreRuns c.now.question.now.passive.now.unrolled.now.known.items }
@@ -122,6 +127,8 @@ fn start_with(
 ///
 /// Want of memory, which more than 2^28 points or base reads are.
 pub fn start_of(alloc: Global, c: &Celled, values: &[bool]) -> Result<Start, AllocError>
+    requires flat { frame_cells_of c.now ≡ as_cells (cells_of c.now) }
+    requires headless { IsHeadless c.now.question.now.passive.now.unrolled.now }
     requires formed { AreFormed (program_of_cells c.now) (cells_of c.now) }
     requires one { AreOne (cells_of c.now) (reading (program_of_cells c.now) (cells_of c.now) (valuation values.now)) }
     requires unbroken { (a : ℕ) → IsBroken (program_of_cells c.now) (cells_of c.now)

@@ -11,7 +11,7 @@ use std::alloc::{AllocError, Global};
 use term_dag::Term;
 
 /// Lists the choice of a step where it is not 0.
-fn list_choice(choices: &mut Vec<(u64, u8)>, step: u64, choice: u8) -> Result<(), AllocError>
+pub fn list_choice(choices: &mut Vec<(u64, u8)>, step: u64, choice: u8) -> Result<(), AllocError>
     ensures { OnOk result (choices.new.items ≡ with_choice choices.old.items step choice) }
 {
     if choice > 0 {

@@ -1,0 +1,380 @@
+-- The inputs of cells of frames stand in the order of their list.
+use Rattle.std.proofs.Common.{◌≡◌, inl, inr, refl, ap, sym, ◌∙◌, subst, arith, ℕ, zero, suc, ◌+◌, ◌-◌, ◌*◌, ◌<◌, ◌≤◌, Bool, true, false, List, [], ◌∷◌, ◌++◌, Option, Some, None, length}
+use Rattle.std.specs.Prelude.{◌==◌, Contains, map, nat_eq, nat_lt, slice_get, slice_index_or}
+use Rattle.std.specs.List.{flat_map, list_any}
+use Rattle.std.proofs.lemmas.Bool.{cases_lt}
+use Rattle.std.proofs.lemmas.Bool.Decides.{nat_tests}
+use Rattle.std.proofs.lemmas.Option.{slice_get_within}
+use Rattle.word_spec.specs.Words.{bit}
+use Rattle.word_spec.specs.RowFiles.{from_to}
+use Rattle.term_spec.specs.Terms.{TermReading, InRange, TermNode, RegisterNode, FlagNode, ChoiceNode, BaseNode, MemoryNode, ConstantNode, BinaryNode, NotNode, SelectNode, ExtractNode, ConcatNode, ExtendNode, LoadNode, StoreNode, JoinNode, TakeNode}
+use Rattle.bilv_spec.proofs.PointSteps.{in_filter}
+use Rattle.frame_spec.specs.FrameWalk.{Action, Executes, Arrives, StepsOver, Gift, UnrolledProgram, point_at}
+use Rattle.frame_terms.specs.PassiveFrames.{DrawsAt, IsNamedBelow, NamesMemory}
+use Rattle.frame_terms.specs.FrameCells as cells
+use Rattle.frame_terms.specs.FrameCells.{AreFormed, BaseRead, Cells}
+use Rattle.frame_terms.specs.FrameClauseForm.{PartInput, RegisterBit, FlagBit, ChoiceBit, ByteBit, HasBits, register_bits, flag_bits, head_bits, drawn_places, gift_bits, input_list}
+use Rattle.walk_laws.proofs.InputOrder.{block_length, get_of, length_append, row_length}
+use Rattle.walk_laws.proofs.InputPlaces.{range_get, range_length}
+use Rattle.word_gates.specs.Numbers.{input_number}
+use Rattle.bit_blast.specs.declared.input_places.InputPlaces.{InputPlaces}
+use Rattle.bit_blast.specs.CellClauses.{AreReadsOf}
+use Rattle.bit_blast.specs.Laid.{AreFramePlaces, ArePartReads}
+use Rattle.bit_blast.specs.Places.{HasPart, HasRead, IsDrawn, IsNamed, IsRead, IsReadingAt, first_of, reads_of}
+use Rattle.bit_blast.proofs.InputNumbers.{in_range}
+use Rattle.bit_blast.proofs.InputsAt.{reading_of}
+use Rattle.bit_blast.proofs.PartPlaces.{behind_entry, behind_head}
+use Rattle.bit_blast.proofs.Segments.{HasFrom, bits_from_first, first_from_bits, from_at, joined, row_from, row_to, rows_from, rows_long, rows_to, split, word_from, word_to}
+
+some : {X : Type 0} {a b : X} → Some a ≡ Some b → a ≡ b
+some h = (cc)
+
+-- an element of a range
+range_is : (a n k y : ℕ) → slice_get (from_to a n) k ≡ Some y → (k < n) × (y ≡ a + k)
+range_is a zero k y e = absurd (cc)
+range_is a (suc n) zero y e = (omega arith, sym (some e) ∙ (let z : a ≡ a + 0 = omega arith in z))
+range_is a (suc n) (suc k) y e = let h = range_is (a + 1) n k y e in (let l = h.0 in omega arith, (let f = h.1 in omega arith))
+
+-- what is listed is within
+pub option_within : (xs : List (Option ℕ)) (i k : ℕ) → slice_index_or xs i None ≡ Some k → i < length xs
+option_within [] i k e = absurd (cc)
+option_within (x ∷ xs) zero k e = omega arith
+option_within (x ∷ xs) (suc i) k e = let l = option_within xs i k e in omega arith
+
+flag_to : (b : Bool) (n : ℕ) → n < 2 → b ≡ (n == 1) → n ≡ bit b + 2 * 0
+flag_to true zero l e = absurd (let f : true ≡ false = e in cc)
+flag_to false zero l e = omega arith
+flag_to true (suc zero) l e = omega arith
+flag_to false (suc zero) l e = absurd (let f : false ≡ true = e in cc)
+flag_to b (suc (suc n)) l e = absurd (omega arith)
+
+flag_from : (b : Bool) (n : ℕ) → n ≡ bit b + 2 * 0 → b ≡ (n == 1)
+flag_from true n e = let f : n ≡ 1 = omega arith in sym (ap (λ z. z == 1) f)
+flag_from false n e = let f : n ≡ 0 = omega arith in sym (ap (λ z. z == 1) f)
+
+module _ (u : UnrolledProgram) (heads : Bool) (c : Cells) (p : InputPlaces) (is : AreFramePlaces u heads c p) where
+  -- nothing is given
+  no_bits_by : (i : ℕ) (a : Action) → ((x : Gift) → a ≡ StepsOver x → ⊥) → gift_bits u i a ≡ []
+  no_bits_by i (Executes list) f = refl
+  no_bits_by i Arrives f = refl
+  no_bits_by i (StepsOver x) f = absurd (f x refl)
+
+  no_bits : (a n : ℕ) → a + n ≤ length u.points → flat_map (λ i. gift_bits u i (point_at u i).does) (from_to a n) ≡ []
+  no_bits a zero l = refl
+  no_bits a (suc n) l =
+      ap (λ z. z ++ flat_map (λ i. gift_bits u i (point_at u i).does) (from_to (a + 1) n))
+      (no_bits_by a (point_at u a).does (λ x e. is.no_gift a x (record { place = omega arith; does = e }))) ∙ no_bits (a + 1) n (omega arith)
+
+  abbrev registers : ℕ → List PartInput
+  registers part = register_bits part u.registers
+
+  abbrev flags : ℕ → List PartInput
+  flags part = flag_bits part (from_to 0 u.flags)
+
+  abbrev choices : List PartInput
+  choices = flat_map (λ i. map (ChoiceBit i) (from_to 0 2)) (drawn_places u)
+
+  abbrev read_bits : BaseRead → List PartInput
+  read_bits b = map (ByteBit b.part b.address) (from_to 0 8)
+
+  abbrev bytes : List PartInput
+  bytes = flat_map read_bits c.reads
+
+  abbrev inputs : List PartInput
+  inputs = registers 0 ++ (flags 0 ++ (head_bits u heads ++ (choices ++ bytes)))
+
+  list_is : input_list u heads c ≡ inputs
+  list_is = ap (λ z. registers 0 ++ (flags 0 ++ (head_bits u heads ++ (choices ++ (z ++ bytes))))) (no_bits 0 (length u.points) (omega arith))
+
+  -- their lengths
+  registers_are : length u.registers ≡ p.registers
+  registers_are = ap length is.registers ∙ range_length p.first_register p.registers
+
+  registers_long : (part : ℕ) → length (registers part) ≡ p.first_flag
+  registers_long part =
+      block_length (RegisterBit part) 32 u.registers
+      ∙ (let a = registers_are in let b = is.order.flag in let e : 32 * length u.registers ≡ p.first_flag = omega arith in e)
+
+  flags_long : (part : ℕ) → length (flags part) ≡ p.flags
+  flags_long part = row_length (FlagBit part) 0 u.flags ∙ is.flags
+
+  state_long : (part : ℕ) → length (registers part ++ flags part) ≡ p.first_head
+  state_long part =
+      length_append (registers part) (flags part)
+      ∙ (let a = registers_long part in let b = flags_long part in let d = is.order.head in
+      let e : length (registers part) + length (flags part) ≡ p.first_head = omega arith in e)
+
+  head_long_by : (h : Bool) → p.heads ≡ h → p.first_head + length (head_bits u h) ≡ p.first_choice
+  head_long_by true e = let a = state_long 1 in let b = behind_head p is.order e in omega arith
+  head_long_by false e = let b = behind_entry p is.order e in omega arith
+
+  head_long : p.first_head + length (head_bits u heads) ≡ p.first_choice
+  head_long = head_long_by heads is.head_is
+
+  choices_long : p.first_choice + length choices ≡ p.first_byte
+  choices_long =
+      let a = block_length ChoiceBit 2 (drawn_places u) in let b = is.order.byte in let d = is.choices in omega arith
+
+  bytes_long : length bytes ≡ 8 * p.reads
+  bytes_long =
+      rows_long (λ i. false) (reading_of p (λ i. false)) read_bits 8 (λ b. row_length (ByteBit b.part b.address) 0 8) c.reads
+      ∙ ap (λ z. 8 * z) (sym is.reads)
+
+  pub inputs_long : length (input_list u heads c) ≡ p.inputs
+  inputs_long =
+      ap length list_is
+      ∙ (let a = length_append (registers 0) (flags 0 ++ (head_bits u heads ++ (choices ++ bytes))) in
+      let b = length_append (flags 0) (head_bits u heads ++ (choices ++ bytes)) in
+      let d = length_append (head_bits u heads) (choices ++ bytes) in
+      let e = length_append choices bytes in
+      let f = registers_long 0 in let g = flags_long 0 in let h = head_long in let i = choices_long in let j = bytes_long in
+      let k = is.order.head in let l = is.order.all in
+      let m : length inputs ≡ p.inputs = omega arith in m)
+
+  -- a base read has its number
+  same_number : (formed : AreFormed u heads c) (q k : ℕ) (b : BaseRead) → slice_get c.reads q ≡ Some b → slice_get c.reads k ≡ Some b → q ≡ k
+  same_number formed q k b e f = elim (cases_lt q k) [
+    | inl l ↦ absurd (formed.once q k b l e f)
+    | inr l ↦ elim (cases_lt k q) [
+      | inl m ↦ absurd (formed.once k q b m f e)
+      | inr m ↦ omega arith
+    ]
+  ]
+
+  number_by : (formed : AreFormed u heads c) (part j k : ℕ) (places : List (Option ℕ)) → ArePartReads part (length c.addresses) c.reads places →
+      j < length c.addresses → slice_get c.reads k ≡ Some (record { part = part; address = j }) → slice_index_or places j None ≡ Some k
+  number_by formed part j k places are l e =
+      let q = are.each j k l e in
+      q.1 ∙ ap Some (same_number formed q.0 k (record { part = part; address = j }) (are.right j q.0 q.1) e)
+
+  read_placed_by : (formed : AreFormed u heads c) (part j k : ℕ) → NamesMemory u heads part → j < length c.addresses →
+      slice_get c.reads k ≡ Some (record { part = part; address = j }) → IsRead p part j k
+  read_placed_by formed zero j k named l e = (
+    number_by formed 0 j k p.entry_reads.items is.entry l e,
+    (let m = slice_get_within c.reads k (record { part = 0; address = j }) e in let n = is.reads in omega arith),
+  )
+  read_placed_by formed (suc zero) j k named l e = (
+    number_by formed 1 j k p.head_reads.items is.head l e,
+    (let m = slice_get_within c.reads k (record { part = 1; address = j }) e in let n = is.reads in omega arith),
+  )
+  read_placed_by formed (suc (suc i)) j k (x, w, at, inside) l e = absurd (is.no_gift i x at)
+
+  read_placed : (formed : AreFormed u heads c) (b : BaseRead) (k : ℕ) → slice_get c.reads k ≡ Some b → IsRead p b.part b.address k
+  read_placed formed b k e =
+      let h = formed.reads b (of_get c.reads k b e) in read_placed_by formed b.part b.address k h.0 h.1 e
+    where
+      of_get : (xs : List BaseRead) (i : ℕ) (x : BaseRead) → slice_get xs i ≡ Some x → Contains xs x
+      of_get [] i x h = absurd (cc)
+      of_get (y ∷ xs) zero x h = (0, omega arith, some h)
+      of_get (y ∷ xs) (suc i) x h = let q = of_get xs i x h in (suc q.0, (let l = q.1 in omega arith), q.2)
+
+  pub read_there : (formed : AreFormed u heads c) (part j : ℕ) → cells.IsRead c part j → HasRead p part j
+  read_there formed part j h =
+      let q = get_of c.reads (record { part = part; address = j }) h in (q.0, read_placed formed (record { part = part; address = j }) q.0 q.1)
+
+  pub reads_are : AreFormed u heads c → AreReadsOf p c
+  reads_are formed = record {
+    agrees = λ a k. (let f = formed.agrees a k in (f.0, read_there formed a.part a.read f.1, read_there formed a.part a.other f.2));
+    asked = λ a k. (let f = formed.asked a k in (f.0, read_there formed a.part a.read f.1));
+  }
+
+  -- a place that draws has its number
+  drawn_number : (i k : ℕ) → slice_get (drawn_places u) k ≡ Some i → IsDrawn p i k
+  drawn_number i k e =
+      let d = is.drawn_each i k e in
+      (option_within p.drawn.items i k d, d, (let l = slice_get_within (drawn_places u) k i e in let m = is.choices in omega arith))
+
+  pub drawn_there : (i : ℕ) → DrawsAt u i → (k : ℕ) × IsDrawn p i k
+  drawn_there i h =
+      let r : Contains (from_to 0 (length u.points)) i = in_from 0 (length u.points) i (omega arith) (let l = h.0 in omega arith) in
+      let q = get_of (drawn_places u) i (in_filter (λ j. (point_at u j).draws) (from_to 0 (length u.points)) i r h.1) in
+      (q.0, drawn_number i q.0 q.1)
+    where
+      in_from : (a n j : ℕ) → a ≤ j → j < a + n → Contains (from_to a n) j
+      in_from a zero j l m = absurd (omega arith)
+      in_from a (suc n) j l m = elim (cases_lt a j) [
+        | inl b ↦ (let q = in_from (a + 1) n j (omega arith) (omega arith) in (suc q.0, (let o = q.1 in omega arith), q.2))
+        | inr b ↦ (0, omega arith, (let e : a ≡ j = omega arith in e))
+      ]
+
+  -- the nodes of cells name inputs that have places
+  pub number_of : (n : ℕ) → list_any (nat_eq n) u.registers ≡ true → (p.first_register ≤ n) × (n < p.first_register + p.registers)
+  number_of n h = in_range p.first_register p.registers n (subst (λ (z : List ℕ). list_any (nat_eq n) z ≡ true) is.registers h)
+
+  pub flag_of : (f : ℕ) → nat_lt f u.flags ≡ true → f < p.flags
+  flag_of f h = let l : f < u.flags = grind (arith, nat_tests) in omega (arith, is.flags)
+
+  named_by : (formed : AreFormed u heads c) (n : TermNode) → Contains c.nodes n → IsNamedBelow u heads (length c.addresses) n → IsNamed p n
+  named_by formed (RegisterNode zero n) k h = (let q = number_of n h in (tt, q.0, q.1))
+  named_by formed (RegisterNode (suc zero) n) k h = (let q = number_of n h.1 in (is.head_is ∙ h.0, q.0, q.1))
+  named_by formed (RegisterNode (suc (suc i)) n) k (has, (x, at, inside)) = absurd (is.no_gift i x at)
+  named_by formed (FlagNode zero f) k h = (tt, flag_of f h)
+  named_by formed (FlagNode (suc zero) f) k h = (is.head_is ∙ h.0, flag_of f h.1)
+  named_by formed (FlagNode (suc (suc i)) f) k (has, (x, at, inside)) = absurd (is.no_gift i x at)
+  named_by formed (ChoiceNode i) k h = drawn_there i h
+  named_by formed (BaseNode part j) k h = read_there formed part j (formed.bases part j k)
+  named_by formed (MemoryNode part) k h = tt
+  named_by formed (ConstantNode w v) k h = tt
+  named_by formed (BinaryNode o w a b) k h = tt
+  named_by formed (NotNode w a) k h = tt
+  named_by formed (SelectNode w d a b) k h = tt
+  named_by formed (ExtractNode hi lo a) k h = tt
+  named_by formed (ConcatNode high low a b) k h = tt
+  named_by formed (ExtendNode s n m a) k h = tt
+  named_by formed (LoadNode n e m a) k h = tt
+  named_by formed (StoreNode n e m a v) k h = tt
+  named_by formed (JoinNode d a b) k h = tt
+  named_by formed (TakeNode n m a part) k h = tt
+
+  pub named : AreFormed u heads c → (n : TermNode) → Contains c.nodes n → IsNamed p n
+  named formed n k = named_by formed n k (formed.named n k)
+
+  -- the segments of the inputs
+  module _ (v : ℕ → Bool) (x : TermReading) (range : InRange x) where
+    record Segments : Type 0 where
+      regs : HasFrom v x 0 (registers 0)
+      flags : HasFrom v x p.first_flag (flags 0)
+      head : HasFrom v x p.first_head (head_bits u heads)
+      choices : HasFrom v x p.first_choice choices
+      bytes : HasFrom v x p.first_byte bytes
+
+    segments : HasBits (input_list u heads c) v x → Segments
+    segments h =
+        let a = split v x (registers 0) (flags 0 ++ (head_bits u heads ++ (choices ++ bytes))) 0
+        (bits_from_first v x inputs (subst (λ (l : List PartInput). HasBits l v x) list_is h)) in
+        let b = split v x (flags 0) (head_bits u heads ++ (choices ++ bytes)) p.first_flag
+        (from_at v x (0 + length (registers 0)) p.first_flag (flags 0 ++ (head_bits u heads ++ (choices ++ bytes))) (let l = registers_long 0 in omega arith)
+        a.1) in
+        let d = split v x (head_bits u heads) (choices ++ bytes) p.first_head
+        (from_at v x (p.first_flag + length (flags 0)) p.first_head (head_bits u heads ++ (choices ++ bytes))
+        (let l = flags_long 0 in let m = is.order.head in omega arith) b.1) in
+        let e = split v x choices bytes p.first_choice
+        (from_at v x (p.first_head + length (head_bits u heads)) p.first_choice (choices ++ bytes) head_long d.1) in
+        record {
+          regs = a.0;
+          flags = b.0;
+          head = d.0;
+          choices = e.0;
+          bytes = from_at v x (p.first_choice + length choices) p.first_byte bytes choices_long e.1;
+        }
+
+    from_segments : Segments → HasBits (input_list u heads c) v x
+    from_segments s =
+        subst (λ (l : List PartInput). HasBits l v x) (sym list_is)
+        (first_from_bits v x inputs
+        (joined v x (registers 0) (flags 0 ++ (head_bits u heads ++ (choices ++ bytes))) 0 s.regs
+        (from_at v x p.first_flag (0 + length (registers 0)) (flags 0 ++ (head_bits u heads ++ (choices ++ bytes))) (let l = registers_long 0 in omega arith)
+        (joined v x (flags 0) (head_bits u heads ++ (choices ++ bytes)) p.first_flag s.flags
+        (from_at v x p.first_head (p.first_flag + length (flags 0)) (head_bits u heads ++ (choices ++ bytes))
+        (let l = flags_long 0 in let m = is.order.head in omega arith)
+        (joined v x (head_bits u heads) (choices ++ bytes) p.first_head s.head
+        (from_at v x p.first_choice (p.first_head + length (head_bits u heads)) (choices ++ bytes) (sym head_long)
+        (joined v x choices bytes p.first_choice s.choices
+        (from_at v x p.first_byte (p.first_choice + length choices) bytes (sym choices_long) s.bytes)))))))))
+
+    -- registers
+    regs_to : (part f : ℕ) → HasFrom v x f (registers part) → (n : ℕ) → p.first_register ≤ n → n < p.first_register + p.registers →
+        x.regs part n ≡ input_number v (f + 32 * (n - p.first_register)) 32
+    regs_to part f h n l m =
+        let get : slice_get u.registers (n - p.first_register) ≡ Some n = ap (λ z. slice_get z (n - p.first_register)) is.registers
+        ∙ range_get p.first_register p.registers (n - p.first_register) (omega arith)
+        ∙ ap Some (let e : p.first_register + (n - p.first_register) ≡ n = omega arith in e) in
+        word_to v x (RegisterBit part n) (x.regs part n) 32 (λ b. refl) (f + 32 * (n - p.first_register)) (range.regs part n)
+        (rows_to v x (λ y. map (RegisterBit part y) (from_to 0 32)) 32 (λ y. row_length (RegisterBit part y) 0 32) u.registers f h (n - p.first_register) n get)
+
+    regs_from : (part f : ℕ) →
+        ((n : ℕ) → p.first_register ≤ n → n < p.first_register + p.registers → x.regs part n ≡ input_number v (f + 32 * (n - p.first_register)) 32) →
+        HasFrom v x f (registers part)
+    regs_from part f h =
+        rows_from v x (λ y. map (RegisterBit part y) (from_to 0 32)) 32 (λ y. row_length (RegisterBit part y) 0 32) u.registers f
+        (λ k y e.
+        (let r = range_is p.first_register p.registers k y (ap (λ z. slice_get z k) (sym is.registers) ∙ e) in
+        let l = r.0 in
+        let m = r.1 in
+        word_from v x (RegisterBit part y) (x.regs part y) 32 (λ b. refl) (f + 32 * k)
+        (h y (omega arith) (omega arith) ∙ ap (λ z. input_number v (f + 32 * z) 32) (let g : y - p.first_register ≡ k = omega arith in g))))
+
+    -- flags
+    flags_to : (part f : ℕ) → HasFrom v x f (flags part) → (k : ℕ) → k < p.flags → x.flags part k ≡ input_number v (f + k) 1
+    flags_to part f h k l =
+        flag_to (v (suc (f + k))) (x.flags part k) (range.flags part k)
+        (row_to v x (FlagBit part) 0 u.flags f h k (let e = is.flags in omega arith)
+        ∙ ap (λ z. x.flags part z == 1) (let e : 0 + k ≡ k = omega arith in e))
+
+    flags_from : (part f : ℕ) → ((k : ℕ) → k < p.flags → x.flags part k ≡ input_number v (f + k) 1) → HasFrom v x f (flags part)
+    flags_from part f h =
+        row_from v x (FlagBit part) 0 u.flags f
+        (λ k l.
+        flag_from (v (suc (f + k))) (x.flags part k) (h k (let e = is.flags in omega arith))
+        ∙ ap (λ z. x.flags part z == 1) (let e : k ≡ 0 + k = omega arith in e))
+
+    -- the head's
+    head_to : p.heads ≡ true → HasFrom v x p.first_head (head_bits u heads) →
+        HasFrom v x p.first_head (registers 1) × HasFrom v x (p.first_head + p.first_flag) (flags 1)
+    head_to e h =
+        let s = split v x (registers 1) (flags 1) p.first_head (subst (λ (z : Bool). HasFrom v x p.first_head (head_bits u z)) (sym is.head_is ∙ e) h) in
+        (s.0, from_at v x (p.first_head + length (registers 1)) (p.first_head + p.first_flag) (flags 1) (ap (λ z. p.first_head + z) (registers_long 1)) s.1)
+
+    head_from_by : (z : Bool) →
+        (z ≡ true → HasFrom v x p.first_head (registers 1) × HasFrom v x (p.first_head + p.first_flag) (flags 1)) →
+        HasFrom v x p.first_head (head_bits u z)
+    head_from_by true h =
+        let s = h refl in
+        joined v x (registers 1) (flags 1) p.first_head s.0
+        (from_at v x (p.first_head + p.first_flag) (p.first_head + length (registers 1)) (flags 1) (ap (λ z. p.first_head + z) (sym (registers_long 1))) s.1)
+    head_from_by false h = tt
+
+    -- from the bits to the numbers
+    at_segments : Segments → IsReadingAt p v x
+    at_segments s = record {
+      registers = regs_at;
+      flags = flags_at;
+      choices = λ i k d.
+          word_to v x (ChoiceBit i) (x.choice i) 2 (λ b. refl) (p.first_choice + 2 * k) (range.choice i)
+          (rows_to v x (λ y. map (ChoiceBit y) (from_to 0 2)) 2 (λ y. row_length (ChoiceBit y) 0 2) (drawn_places u) p.first_choice s.choices k i
+          (is.drawn i k d.1));
+      bytes = λ part j k h. byte_at part j k (listed part j k h.0);
+    }
+      where
+        regs_at : (part n : ℕ) → HasPart p part → p.first_register ≤ n → n < p.first_register + p.registers →
+            x.regs part n ≡ input_number v (first_of p part + 32 * (n - p.first_register)) 32
+        regs_at zero n h l m = regs_to 0 0 s.regs n l m
+        regs_at (suc zero) n h l m = regs_to 1 p.first_head (head_to h s.head).0 n l m
+        regs_at (suc (suc i)) n h l m = absurd h
+
+        flags_at : (part f : ℕ) → HasPart p part → f < p.flags → x.flags part f ≡ input_number v (first_of p part + p.first_flag + f) 1
+        flags_at zero f h l = flags_to 0 p.first_flag s.flags f l ∙ ap (λ z. input_number v (z + f) 1) (let e : p.first_flag ≡ 0 + p.first_flag = omega arith in e)
+        flags_at (suc zero) f h l = flags_to 1 (p.first_head + p.first_flag) (head_to h s.head).1 f l
+        flags_at (suc (suc i)) f h l = absurd h
+
+        listed : (part j k : ℕ) → slice_index_or (reads_of p part) j None ≡ Some k → slice_get c.reads k ≡ Some (record { part = part; address = j })
+        listed zero j k e = is.entry.right j k e
+        listed (suc zero) j k e = is.head.right j k e
+        listed (suc (suc i)) j k e = absurd (cc)
+
+        byte_at : (part j k : ℕ) → slice_get c.reads k ≡ Some (record { part = part; address = j }) → x.base part j ≡ input_number v (p.first_byte + 8 * k) 8
+        byte_at part j k e =
+            word_to v x (ByteBit part j) (x.base part j) 8 (λ b. refl) (p.first_byte + 8 * k) (range.base part j)
+            (rows_to v x read_bits 8 (λ b. row_length (ByteBit b.part b.address) 0 8) c.reads p.first_byte s.bytes k (record { part = part; address = j }) e)
+
+    -- and back
+    segments_at : AreFormed u heads c → IsReadingAt p v x → Segments
+    segments_at formed at = record {
+      regs = regs_from 0 0 (λ n l m. at.registers 0 n tt l m);
+      flags = flags_from 0 p.first_flag
+          (λ k l. at.flags 0 k tt l ∙ ap (λ z. input_number v (z + k) 1) (let e : 0 + p.first_flag ≡ p.first_flag = omega arith in e));
+      head = head_from_by heads (λ e.
+          (let h = is.head_is ∙ e in (regs_from 1 p.first_head (λ n l m. at.registers 1 n h l m), flags_from 1 (p.first_head + p.first_flag) (λ k l. at.flags 1 k h l))));
+      choices = rows_from v x (λ y. map (ChoiceBit y) (from_to 0 2)) 2 (λ y. row_length (ChoiceBit y) 0 2) (drawn_places u) p.first_choice
+          (λ k i e. word_from v x (ChoiceBit i) (x.choice i) 2 (λ b. refl) (p.first_choice + 2 * k) (at.choices i k (drawn_number i k e)));
+      bytes = rows_from v x read_bits 8 (λ b. row_length (ByteBit b.part b.address) 0 8) c.reads p.first_byte
+          (λ k b e.
+          word_from v x (ByteBit b.part b.address) (x.base b.part b.address) 8 (λ i. refl) (p.first_byte + 8 * k)
+          (at.bytes b.part b.address k (read_placed formed b k e)));
+    }
+
+    pub at_of_bits : HasBits (input_list u heads c) v x → IsReadingAt p v x
+    at_of_bits h = at_segments (segments h)
+
+    pub bits_of_at : AreFormed u heads c → IsReadingAt p v x → HasBits (input_list u heads c) v x
+    bits_of_at formed at = from_segments (segments_at formed at)
