@@ -1,70 +1,32 @@
--- Known addresses that are asked become more from round to round, and there are no more than 2^32.
-use Rattle.std.proofs.Common.{◌≡◌, refl, sym, subst, ℕ, zero, suc, ◌-◌, ◌<◌, ◌≤◌, ◌^◌, inl, inr, Bool, List, [], arith}
-use Rattle.std.specs.Prelude.{length, Contains, slice_index}
-use Rattle.std.proofs.lemmas.List.Elements.{Contains-get_or, at_from_Contains}
+-- The answer of a question, from round to round.
+use Rattle.std.proofs.Common.{◌≡◌, sym, subst, ℕ, Bool, List}
+use Rattle.std.specs.Prelude.{Contains}
 use Rattle.call_spec.specs.Calls.{Question as Asked}
 use Rattle.walk_spec.specs.Unrolled.{UnrolledProgram}
 use Rattle.term_spec.specs.WalkQuestions.{is_asked}
 use Rattle.question_form.specs.Views.{kind_of, unrolled_of}
 use Rattle.question_form.specs.Questions.{program_of_question, question_of}
 use Rattle.call_form.specs.declared.kind.Kind.{Kind}
+use Rattle.question_form.specs.Asked.{asked_of}
+use Rattle.question_form.proofs.OfKinds.{is_of_kind}
 use Rattle.question_form.specs.declared.questions.Passive.{Passive}
 use Rattle.question_form.specs.declared.questions.Question.{Question}
 use Rattle.bilv_spec.specs.Run.{Program}
 use Rattle.machine_spec.specs.StateText.{Layout}
 use Rattle.verdict.specs.Grounds.{Answers, AnswersOver, IsAnswered, IsAnsweredOver, IsGround, IsQuestionOf}
-use Rattle.verdict.specs.Rounds.{AreAdded, AreFurther, AreMore, AreRising, IsAskable, IsDecided, IsMerged, IsRound}
+use Rattle.verdict.specs.Rounds.{AreAdded, AreFurther, AreMore, IsAskable, IsDecided, IsRound}
 use Rattle.verdict.specs.declared.deciding.Decided.{Decided}
 use Rattle.verdict.specs.declared.verdicts.Answered.{Answered}
 use Rattle.verdict.specs.declared.verdicts.Answered.TheVariants as answer
 use Rattle.verdict.specs.declared.rounds.Round.{Round}
 use Rattle.verdict.specs.declared.rounds.Round.TheVariants as round
 
--- at first none are asked
-pub added_none : (u : UnrolledProgram) (added : List ℕ) → added ≡ [] → AreAdded u added
-added_none u added e = subst (λ (z : List ℕ). AreAdded u z) (sym e) (record {
-  rise = λ i j lt end. absurd (omega arith);
-  known = λ a has. let q = at_from_Contains [] a has in absurd (omega (arith, q.1));
-})
-
--- the next round asks these and the further ones
-pub added_merged : (u : UnrolledProgram) (added further joined : List ℕ) → AreAdded u added → AreFurther u added further → IsMerged added further joined →
-    AreAdded u joined
-added_merged u added further joined h f m = record {
-  rise = m.rise;
-  known =
-      λ a has. elim (m.only a has) [ inl old ↦ h.known a old | inr new ↦ f.are.known a new ];
-}
-
--- rising numbers are at least their places
-at_least : (xs : List ℕ) → AreRising xs → (i : ℕ) → i < length xs → i ≤ slice_index xs i
-at_least xs rise zero lt = omega arith
-at_least xs rise (suc i) lt = let before = at_least xs rise i (omega (arith, lt)) in let next = rise i (suc i) (omega arith) lt in omega (arith, before, next)
-
-few_by : (xs : List ℕ) → AreRising xs → ((a : ℕ) → Contains xs a → a < 2 ^ 32) → (n : ℕ) → length xs ≡ n → n ≤ 2 ^ 32
-few_by xs rise small zero e = omega arith
-few_by xs rise small (suc n) e =
-    let last = at_least xs rise n (omega (arith, e)) in
-    let below = small (slice_index xs n) (Contains-get_or xs n 0 (omega (arith, e))) in
-    omega (arith, last, below)
-
-pub added_few : (u : UnrolledProgram) (added : List ℕ) → AreAdded u added → length added ≤ 2 ^ 32
-added_few u added h = few_by added h.rise (λ a has. (h.known a has).0) (length added) refl
-
--- so rounds end
-pub fewer_left : (u : UnrolledProgram) (added asked joined : List ℕ) → asked ≡ added → AreMore u asked joined →
-    2 ^ 32 - length joined < 2 ^ 32 - length added
-fewer_left u added asked joined e h =
-    let most = added_few u joined h.are in
-    let more : length added < length joined = subst (λ (z : List ℕ). length z < length joined) e h.longer in
-    omega (arith, most, more)
-
 -- known bytes that are asked, those from the beginning among them
 pub record AreFrom (u : UnrolledProgram) (first added : List ℕ) : Type 0 where
   pub are : AreAdded u added
   pub keep : (a : ℕ) → Contains first a → Contains added a
 
-pub from_first : (p : Passive) (kind : Kind) (q : Question) (first : List ℕ) → (q.passive.now ≡ p) × (q.kind ≡ kind) →
+pub from_first : (p : Passive) (kind : Kind) (q : Question) (first : List ℕ) → (q.passive.now ≡ p) × (q.asked ≡ asked_of kind) →
     AreAdded (unrolled_of p.unrolled.now) first → AreFrom (program_of_question q) first first
 from_first p kind q first h are =
     record { are = subst (λ (z : Passive). AreAdded (unrolled_of z.unrolled.now) first) (sym h.0) are; keep = λ a has. has }
@@ -78,11 +40,11 @@ answers : (p : Passive) (kind : Kind) (q : Question) (added : List ℕ) (conflic
     AnswersOver (program_of_question q) (question_of q) added conflicts a →
     AnswersOver (unrolled_of p.unrolled.now) (kind_of kind) added conflicts a
 answers p kind q added conflicts a h is =
-    subst (λ (k : Kind). AnswersOver (unrolled_of p.unrolled.now) (kind_of k) added conflicts a) h.kind_is
+    subst (λ (k : Asked). AnswersOver (unrolled_of p.unrolled.now) k added conflicts a) (is_of_kind q kind h.kind_is)
     (subst (λ (z : Passive). AnswersOver (unrolled_of z.unrolled.now) (question_of q) added conflicts a) h.of is)
 
 -- after the last round
-pub decided : (p : Passive) (kind : Kind) (q : Question) (first asked : List ℕ) (conflicts : ℕ) (d : Decided) → (q.passive.now ≡ p) × (q.kind ≡ kind) →
+pub decided : (p : Passive) (kind : Kind) (q : Question) (first asked : List ℕ) (conflicts : ℕ) (d : Decided) → (q.passive.now ≡ p) × (q.asked ≡ asked_of kind) →
     AreFrom (program_of_question q) first d.asked.items → asked ≡ d.asked.items →
     AnswersOver (program_of_question q) (question_of q) asked conflicts d.answered →
     IsDecided (unrolled_of p.unrolled.now) (kind_of kind) conflicts first d
@@ -114,7 +76,7 @@ pub round_breaks : (q : Question) (added : List ℕ) (conflicts : ℕ) (r : Roun
 round_breaks q added conflicts r list h is = subst (λ (z : Round). IsRound q added conflicts z) is h
 
 -- questions can be asked of a question's passive program
-pub askable_question : (p : Passive) (kind : Kind) (q : Question) → (q.passive.now ≡ p) × (q.kind ≡ kind) → IsAskable p → IsAskable q.passive.now
+pub askable_question : (p : Passive) (kind : Kind) (q : Question) → (q.passive.now ≡ p) × (q.asked ≡ asked_of kind) → IsAskable p → IsAskable q.passive.now
 askable_question p kind q h is = subst IsAskable (sym h.0) is
 
 -- the same of equal lists

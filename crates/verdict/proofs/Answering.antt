@@ -1,10 +1,6 @@
 -- What the layers below the clauses say of a question gives its answer.
-use Rattle.std.proofs.Common.{◌≡◌, refl, sym, ap, subst, ◌∙◌, ℕ, ◌<◌, ◌^◌, Bool, true, false, List, Some, None, arith}
-use Rattle.std.specs.Prelude.{if◌then◌else◌, nat_eq, length, Contains, slice_index, ◌↔◌}
-use Rattle.std.specs.List.{list_any}
-use Rattle.std.specs.Cmp.{IsEquivalence}
-use Rattle.std.proofs.lemmas.Map.Views.{list_any-from_Contains}
-use Rattle.std.proofs.lemmas.Bool.Decides.{nat_tests}
+use Rattle.std.proofs.Common.{◌≡◌, refl, sym, subst, ◌∙◌, ℕ, ◌<◌, ◌^◌, Bool, true, false, List, Some, None}
+use Rattle.std.specs.Prelude.{if◌then◌else◌, length, Contains, slice_index, ◌↔◌}
 use Rattle.clause_spec.specs.Clauses.{Cnf, Satisfies}
 use Rattle.clause_spec.specs.Refutation.{LogLine, IsRefutation}
 use Rattle.clause_spec.specs.Empowering.{IsSpent}
@@ -26,7 +22,9 @@ use Rattle.walk_laws.proofs.InputsWithin.{reading_in_range}
 use Rattle.walk_laws.proofs.QuestionClauses.{asks_same, clauses_of_question, of_question}
 use Rattle.walk_laws.proofs.StartReadings.{values_give_start, start_is_written, broken_is_new}
 use Rattle.verdict.specs.Grounds.{IsGround, IsFollowedBy, RefutesOver}
-use Rattle.verdict.specs.Rounds.{AreAdded, AreFurther, AreRising}
+use Rattle.asked_bytes.specs.AskedBytes.{AreRising}
+use Rattle.asked_bytes.proofs.Adding.{any_contained}
+use Rattle.verdict.specs.Rounds.{AreAdded, AreFurther}
 
 -- a byte that is known by a test is one where the test says so
 known_test : (b : Bool) (x y : ℕ) → (if b then Some x else None) ≡ Some y → b ≡ true
@@ -55,17 +53,6 @@ layered p k layout u g added h question t c term cells =
       term = term;
       cells = cells;
     }
-
-nat_equal : IsEquivalence nat_eq
-nat_equal = record {
-  refl = λ x. grind (arith, nat_tests);
-  symm = λ x y. grind (arith, nat_tests);
-  congr = λ x y z h. let e : x ≡ y = grind (arith, nat_tests) in ap (λ n. nat_eq n z) e;
-}
-
--- what a list contains is found by a test of its elements
-pub any_contained : (xs : List ℕ) (a : ℕ) → Contains xs a → list_any (nat_eq a) xs ≡ true
-any_contained xs a has = list_any-from_Contains nat_equal a xs has
 
 module _ (u : UnrolledProgram) (question : Question) (added : List ℕ) (t : QuestionTerm) (c : Cells) (cnf : Cnf) (h : AreAdded u added)
     (term : TellsQuestion u question t) (cells : TellsCells u t (is_asked added u.literals) c) (clauses : TellsClauses u c cnf) where

@@ -34,7 +34,7 @@ use Rattle.verdict.specs.declared.verdicts.Answered.TheVariants.{Sat, Refuted}
 use Rattle.call_form.specs.declared.budget.Budget.{Budget}
 use Rattle.verdict.specs.declared.verdicts.Verdict.TheVariants.{Holds, Vacuous}
 use Rattle.verdict.proofs.Adding.{answered, of_decided}
-use Rattle.verdict.proofs.Answering.{any_contained}
+use Rattle.asked_bytes.proofs.Adding.{any_contained}
 use Rattle.verdict.proofs.Endings.{fails_by}
 use Rattle.verdict.proofs.Grounding.{count_points}
 use Rattle.verdict.proofs.Judging.{entry_state, holds, vacuous}

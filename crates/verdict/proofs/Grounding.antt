@@ -30,7 +30,8 @@ use Rattle.question_form.specs.declared.unrolled.Unrolled.{Unrolled}
 use Rattle.question_form.specs.declared.unrolled.Point.{Point}
 use Rattle.question_form.specs.declared.questions.Passive.{Passive}
 use Rattle.passify.specs.Made.{IsPassiveOf}
-use Rattle.question_form.specs.Forms.{IsFormed}
+use Rattle.question_form.specs.Forms.{IsFormed, AreRootsFormed}
+use Rattle.question_form.specs.FrameViews.{IsHeadless}
 use Rattle.start_value.specs.Starts.{layout_of}
 use Rattle.unroller.specs.Lookups.{HasForm}
 use Rattle.bilv_spec.proofs.ProgramRows.{cell_small}
@@ -144,7 +145,7 @@ module _ (file : List ℕ) (notes : Notes) (entry : ℕ) (m : Machine) (form : L
   module _ (u : Unrolled) (un : IsUnrolling p b.unroll (unrolled_of u)) (formed : IsFormed u) (few : length u.points.items ≤ b.points) (has : HasForm m u)
       (addresses : (i : ℕ) → i < length (unrolled_of u).points →
       (point_at (unrolled_of u) i).point.at < 2 ^ 32) (layout : layout_of u.form ≡ form) (runs : AreRuns u.known.items)
-      (beyond : (x : ℕ) → 2 ^ 32 ≤ x → byte_of_runs (unrolled_of u).known x ≡ None) where
+      (beyond : (x : ℕ) → 2 ^ 32 ≤ x → byte_of_runs (unrolled_of u).known x ≡ None) (headless : IsHeadless u) (roots : AreRootsFormed u) where
     laid : IsLaidOut form (unrolled_of u)
     laid = subst (λ (l : Layout). IsLaidOut l (unrolled_of u)) layout has.laid
 
@@ -163,6 +164,8 @@ module _ (file : List ℕ) (notes : Notes) (entry : ℕ) (m : Machine) (form : L
       measurable = record {
         walkable = unrolling_is_walkable p b.unroll (unrolled_of u) un form fitted laid readable_notes at addresses;
         formed = formed;
+        headless = headless;
+        roots = roots;
         bytes = bytes;
         runs = runs;
       };
@@ -175,9 +178,11 @@ module _ (file : List ℕ) (notes : Notes) (entry : ℕ) (m : Machine) (form : L
   pub unrolled_within : {E : Type 0} (r : Result Unrolled E) → IfOk r (λ u. IsUnrolling p b.unroll (unrolled_of u)) → IfOk r (λ u. IsFormed u) →
       IfOk r (λ u. length u.points.items ≤ b.points) → IfOk r (λ u. HasForm m u) →
       IfOk r (λ u. (i : ℕ) → i < length (unrolled_of u).points → (point_at (unrolled_of u) i).point.at < 2 ^ 32) → IfOk r (λ u. layout_of u.form ≡ form) →
-      IfOk r (λ u. AreRuns u.known.items) → ((x : ℕ) → 2 ^ 32 ≤ x → IfOk r (λ u. byte_of_runs (unrolled_of u).known x ≡ None)) → IfOk r (IsUnrolledOf p form b)
-  unrolled_within (Ok u) un formed few has addresses layout runs beyond = is_unrolled u un formed few has addresses layout runs beyond
-  unrolled_within (Err e) un formed few has addresses layout runs beyond = tt
+      IfOk r (λ u. AreRuns u.known.items) → ((x : ℕ) → 2 ^ 32 ≤ x → IfOk r (λ u. byte_of_runs (unrolled_of u).known x ≡ None)) →
+      IfOk r (λ u. IsHeadless u) → IfOk r (λ u. AreRootsFormed u) → IfOk r (IsUnrolledOf p form b)
+  unrolled_within (Ok u) un formed few has addresses layout runs beyond headless roots =
+      is_unrolled u un formed few has addresses layout runs beyond headless roots
+  unrolled_within (Err e) un formed few has addresses layout runs beyond headless roots = tt
 
 -- there are no more points, and the price is above the budget or within it
 module _ (p : Program) (form : Layout) (b : Budget) (u : Unrolled) (h : IsUnrolledOf p form b u) where
@@ -197,6 +202,7 @@ module _ (p : Program) (form : Layout) (b : Budget) (u : Unrolled) (h : IsUnroll
 -- the passive program of an unrolled one that can be measured can be asked
 pub askable : (u : Unrolled) (q : Passive) → IsMeasurable u → IsPassiveOf u q → IsAskable q
 askable u q measurable of = record {
+  headless = subst IsHeadless (sym of.of) measurable.headless;
   walkable = subst (λ (z : Unrolled). IsWalkable (unrolled_of z)) (sym of.of) measurable.walkable;
   bytes = subst (λ (z : Unrolled). HasBytes (unrolled_of z)) (sym of.of) measurable.bytes;
   runs = subst (λ (z : Unrolled). AreRuns z.known.items) (sym of.of) measurable.runs;

@@ -1,10 +1,8 @@
 pub mod Answering
-pub mod Merging
 pub mod Judging
 pub mod RoundAnswers
 pub mod Endings
 pub mod Adding
-pub mod Beside
 pub mod Grounding
 pub mod ThreeQuestions
 pub mod Certifies

@@ -8,7 +8,10 @@ use Rattle.question_form.specs.Questions.{program_of_question, question_of}
 use Rattle.question_form.specs.Views.{kind_of, unrolled_of}
 use Rattle.question_form.specs.declared.questions.Passive.{Passive}
 use Rattle.question_form.specs.declared.questions.Question.{Question}
+use Rattle.call_spec.specs.Calls.{Question as Asked}
 use Rattle.call_form.specs.declared.kind.Kind.{Kind}
+use Rattle.question_form.specs.Asked.{asked_of}
+use Rattle.question_form.proofs.OfKinds.{is_of_kind}
 use Rattle.smtlib_print.specs.Numbered.{AreApart}
 use Rattle.smtlib_print.specs.Told.{TellsScript}
 use Rattle.smtlib_print.proofs.Programs.{script_of_program}
@@ -26,12 +29,12 @@ module _ (q : Passive) (question : Question) (of : question.passive.now ≡ q) w
     pub points_apart : AreApart (program_of_question question)
     points_apart = subst (λ (z : Passive). AreApart (unrolled_of z.unrolled.now)) (sym of) ground.unrolling.points.once
 
-    pub script_says : layout_of q.unrolled.now.form ≡ layout → (kind : Kind) → question.kind ≡ kind → (text : List ℕ) →
+    pub script_says : layout_of q.unrolled.now.form ≡ layout → (kind : Kind) → question.asked ≡ asked_of kind → (text : List ℕ) →
         TellsScript (program_of_question question) (layout_of question.passive.now.unrolled.now.form) (question_of question) text →
         IsScript p layout k (kind_of kind) text
     script_says form kind is text told =
         let u = unrolled_of q.unrolled.now in
         let here = subst (λ (z : Passive). TellsScript (unrolled_of z.unrolled.now) (layout_of z.unrolled.now.form) (question_of question) text) of told in
-        let asked = subst (λ (z : Kind). TellsScript u (layout_of q.unrolled.now.form) (kind_of z) text) is here in
+        let asked = subst (λ (z : Asked). TellsScript u (layout_of q.unrolled.now.form) z text) (is_of_kind question kind is) here in
         script_of_program p ground.lawful k u ground.unrolling layout (kind_of kind) text
         (subst (λ (z : Layout). TellsScript u z (kind_of kind) text) form asked)

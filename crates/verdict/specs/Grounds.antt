@@ -17,6 +17,7 @@ use Rattle.walk_spec.specs.Unrolling.{IsUnrolling, IsLaidOut}
 use Rattle.term_spec.specs.WalkQuestions.{is_asked}
 use Rattle.walk_laws.specs.Layers.{IsFitting}
 use Rattle.call_form.specs.declared.kind.Kind.{Kind}
+use Rattle.question_form.specs.Asked.{asked_of}
 use Rattle.question_form.specs.declared.questions.Passive.{Passive}
 use Rattle.question_form.specs.declared.questions.Question as asked
 use Rattle.cnf_form.specs.Views.{proof_of}
@@ -73,4 +74,4 @@ Answers u question conflicts a = (p : Program) (k : ℕ) (layout : Layout) → I
 -- a question is that of a passive program
 pub record IsQuestionOf (p : Passive) (kind : Kind) (q : asked.Question) : Type 0 where
   pub of : q.passive.now ≡ p
-  pub kind_is : q.kind ≡ kind
+  pub kind_is : q.asked ≡ asked_of kind

@@ -6,7 +6,8 @@ use Rattle.bilv_spec.specs.Points.{HasMore, IsPrice}
 use Rattle.bilv_spec.specs.Run.{Program}
 use Rattle.machine_spec.specs.StateText.{Layout}
 use Rattle.known_bytes.specs.Runs.{AreRuns}
-use Rattle.question_form.specs.Forms.{IsFormed}
+use Rattle.question_form.specs.Forms.{IsFormed, AreRootsFormed}
+use Rattle.question_form.specs.FrameViews.{IsHeadless}
 use Rattle.question_form.specs.Views.{unrolled_of}
 use Rattle.question_form.specs.declared.unrolled.Unrolled.{Unrolled}
 use Rattle.walk_spec.specs.Unrolling.{IsWalkable}
@@ -21,6 +22,8 @@ use Rattle.verdict.specs.declared.measuring.Measured.TheVariants.{Above, Within}
 pub record IsMeasurable (u : Unrolled) : Type 0 where
   pub walkable : IsWalkable (unrolled_of u)
   pub formed : IsFormed u
+  pub headless : IsHeadless u
+  pub roots : AreRootsFormed u
   pub bytes : HasBytes (unrolled_of u)
   pub runs : AreRuns u.known.items
 

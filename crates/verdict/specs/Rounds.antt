@@ -1,5 +1,5 @@
 -- What a round of a question comes to.
-use Rattle.std.specs.Prelude.{ℕ, ◌≡◌, ◌<◌, ◌+◌, ◌^◌, ◌⊎◌, Bool, List, Some, length, map, slice_index, Contains}
+use Rattle.std.specs.Prelude.{ℕ, ◌≡◌, ◌<◌, Bool, List, Some, length, Contains}
 use Rattle.term_spec.specs.Passive.{IsPassive}
 use Rattle.walk_spec.specs.Unrolled.{UnrolledProgram, byte_of_runs}
 use Rattle.walk_spec.specs.Unrolling.{IsWalkable}
@@ -9,9 +9,10 @@ use Rattle.start_value.specs.Starts.{written_of}
 use Rattle.bit_blast.specs.Broken.{AreBroken}
 use Rattle.mem_cells.specs.Views.{cells_of, program_of_cells}
 use Rattle.mem_cells.specs.declared.cells.Celled.{Celled}
-use Rattle.known_bytes.specs.declared.listing.Known.{Known}
-use Rattle.known_bytes.specs.Runs.{AreRuns, run_of}
+use Rattle.known_bytes.specs.Runs.{AreRuns}
+use Rattle.asked_bytes.specs.AskedBytes as asking
 use Rattle.question_form.specs.Questions.{passive_of, program_of_question, question_of}
+use Rattle.question_form.specs.FrameViews.{IsHeadless}
 use Rattle.question_form.specs.Views.{unrolled_of}
 use Rattle.question_form.specs.declared.questions.Passive.{Passive}
 use Rattle.question_form.specs.declared.questions.Question.{Question}
@@ -28,54 +29,21 @@ HasBytes u = (a b : ℕ) → byte_of_runs u.known a ≡ Some b → b < 256
 
 -- a passive program of which questions can be asked
 pub record IsAskable (q : Passive) : Type 0 where
+  pub headless : IsHeadless q.unrolled.now
   pub walkable : IsWalkable (unrolled_of q.unrolled.now)
   pub bytes : HasBytes (unrolled_of q.unrolled.now)
   pub runs : AreRuns q.unrolled.now.known.items
   pub tells : IsPassive (unrolled_of q.unrolled.now) (passive_of q)
 
--- numbers in strictly rising order
-abbrev pub AreRising : List ℕ → Type 0
-AreRising list = (i j : ℕ) → i < j → j < length list → slice_index list i < slice_index list j
+-- addresses that are asked, further ones, and more, of the known bytes of a program
+abbrev pub AreAdded : UnrolledProgram → (added : List ℕ) → Type 0
+AreAdded u added = asking.AreAdded u.known added
 
--- rising addresses of known bytes
-pub record AreAdded (u : UnrolledProgram) (added : List ℕ) : Type 0 where
-  pub rise : AreRising added
-  pub known : (a : ℕ) → Contains added a → (a < 2 ^ 32) × ((b : ℕ) × (byte_of_runs u.known a ≡ Some b))
+abbrev pub AreFurther : UnrolledProgram → (added further : List ℕ) → Type 0
+AreFurther u added further = asking.AreFurther u.known added further
 
--- some more, of which none was among those
-pub record AreFurther (u : UnrolledProgram) (added further : List ℕ) : Type 0 where
-  pub are : AreAdded u further
-  pub some : 0 < length further
-  pub new : (a : ℕ) → Contains further a → ¬ Contains added a
-
--- more than before, those before among them
-pub record AreMore (u : UnrolledProgram) (added more : List ℕ) : Type 0 where
-  pub are : AreAdded u more
-  pub longer : length added < length more
-  pub keep : (a : ℕ) → Contains added a → Contains more a
-
--- rising addresses of known bytes before one, of which none was among those that were added
-pub record AreBeside (known : List Known) (added : List ℕ) (before : ℕ) (found : List ℕ) : Type 0 where
-  pub rise : AreRising found
-  pub known_byte : (a : ℕ) → Contains found a → (a < 2 ^ 32) × ((b : ℕ) × (byte_of_runs (map run_of known) a ≡ Some b))
-  pub new : (a : ℕ) → Contains found a → ¬ Contains added a
-  pub below : (a : ℕ) → Contains found a → a < before
-
--- Of two rising lists without common elements the first ones of each are put together, rising, before all that are left.
-pub record IsMerging (xs ys : List ℕ) (i j : ℕ) (joined : List ℕ) : Type 0 where
-  pub rise : AreRising joined
-  pub only : (a : ℕ) → Contains joined a → Contains xs a ⊎ Contains ys a
-  pub kept : (n : ℕ) → n < i → Contains joined (slice_index xs n)
-  pub count : length joined ≡ i + j
-  pub below : (a : ℕ) → Contains joined a → i < length xs → a < slice_index xs i
-  pub under : (a : ℕ) → Contains joined a → j < length ys → a < slice_index ys j
-
--- two lists are put together
-pub record IsMerged (xs ys joined : List ℕ) : Type 0 where
-  pub rise : AreRising joined
-  pub only : (a : ℕ) → Contains joined a → Contains xs a ⊎ Contains ys a
-  pub keep : (a : ℕ) → Contains xs a → Contains joined a
-  pub count : length joined ≡ length xs + length ys
+abbrev pub AreMore : UnrolledProgram → (added more : List ℕ) → Type 0
+AreMore u added more = asking.AreMore u.known added more
 
 -- the question's answer, or further known bytes to ask
 abbrev pub IsRound : Question → (added : List ℕ) → (conflicts : ℕ) → Round → Type 0

@@ -1,53 +1,15 @@
 //! Questions, decided in rounds.
-ghost use Rattle.std.specs.Prelude.{◌≡◌, ◌≤◌, ◌<◌, ◌⊎◌, ℕ, true, false, IfOk, Contains, length, slice_index};
+ghost use Rattle.std.specs.Prelude.{◌≤◌, IfOk};
 ghost use Rattle.question_form.specs.Questions.{program_of_question};
 ghost use Rattle.question_form.specs.Views.{kind_of, unrolled_of};
-ghost use Rattle.verdict.specs.Rounds.{AreAdded, AreFurther, AreMore, AreRising, IsAskable, IsDecided, IsMerged};
+ghost use Rattle.verdict.specs.Rounds.{AreAdded, AreFurther, AreMore, IsAskable, IsDecided};
 ghost use Rattle.verdict.specs.Grounds.{Answers};
 
 use crate::Answered;
-use crate::blocks::known_beside;
 use crate::rounds::{Round, one_round};
 use question_form::{Kind, Passive, Question};
 use std::alloc::{AllocError, Global};
 use weakest_pre::question;
-
-/// Whether the next of two lists is that of the first one, by places in each, one of which is within its list.
-fn comes_first(added: &[u32], i: usize, further: &[u32], j: usize) -> bool
-    requires some { i < length added.now ⊎ j < length further.now }
-    ensures first { result ≡ true → (i < length added.now) × (j < length further.now → slice_index added.now i < slice_index further.now j) }
-    ensures second { result ≡ false → (j < length further.now) × (i < length added.now → slice_index further.now j ≤ slice_index added.now i) }
-{
-    if i >= added.len() {
-        return false;
-    }
-    if j >= further.len() {
-        return true;
-    }
-    added[i] < further[j]
-}
-
-/// The addresses with further ones, rising; both are rising, and have no address in common. The error is want of memory.
-fn with_further(alloc: Global, added: &[u32], further: &[u32]) -> Result<Vec<u32>, AllocError>
-    requires added { AreRising added.now }
-    requires further { AreRising further.now }
-    requires apart { (a : ℕ) → Contains further.now a → ¬ Contains added.now a }
-    ensures { IfOk result (λ v. IsMerged added.now further.now v.items) }
-{
-    let mut joined = Vec::new(alloc);
-    let mut i = 0;
-    let mut j = 0;
-    while i < added.len() || j < further.len() {
-        if comes_first(added, i, further, j) {
-            joined.push(added[i])?;
-            i += 1;
-        } else {
-            joined.push(further[j])?;
-            j += 1;
-        }
-    }
-    Ok(joined)
-}
 
 /// The addresses whose bytes the next round asks: those that were asked, and the known ones in the blocks of the broken ones. The error is want of memory.
 pub fn asked_next(
@@ -60,13 +22,8 @@ pub fn asked_next(
     requires broken { AreFurther (program_of_question question.now) added.now broken.now }
     ensures { IfOk result (λ v. AreMore (program_of_question question.now) added.now v.items) }
 {
-    let beside = known_beside(alloc, &question.passive.unrolled.known, added, broken)?;
-    if beside.is_empty() {
-        let joined = with_further(alloc, added, broken)?;
-        return Ok(joined);
-    }
-    let joined = with_further(alloc, added, &beside)?;
-    Ok(joined)
+    let more = asked_bytes::asked_next(alloc, &question.passive.unrolled.known, added, broken)?;
+    Ok(more)
 }
 
 /// What a question comes to, and the addresses whose bytes were asked for it besides those of literals.

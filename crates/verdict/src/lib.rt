@@ -1,7 +1,6 @@
 //! The verdict on a function: its points, its price and its three questions, each answer with what shows it.
 #![tactic(auto)]
 
-mod blocks;
 mod certifying;
 mod deciding;
 mod early;

@@ -1,9 +1,11 @@
 //! One round of a question: its clauses over some bytes of the file, and what the search says of them.
-ghost use Rattle.std.specs.Prelude.{◌≤◌, IfOk};
+ghost use Rattle.std.specs.Prelude.{◌≡◌, ◌≤◌, IfOk};
 ghost use Rattle.clause_spec.specs.Clauses.{valuation};
 ghost use Rattle.term_spec.specs.Cells.{AreFormed};
 ghost use Rattle.term_spec.specs.ClauseForm.{reading};
 ghost use Rattle.bit_blast.specs.ReadBytes.{AreOne};
+ghost use Rattle.frame_terms.specs.HeadlessTerms.{as_cells};
+ghost use Rattle.mem_cells.specs.FrameViews.{frame_cells_of};
 ghost use Rattle.mem_cells.specs.Views.{cells_of, program_of_cells};
 ghost use Rattle.term_spec.specs.WalkQuestions.{TellsQuestion};
 ghost use Rattle.question_form.specs.Questions.{program_of_question, question_of, term_of};
@@ -28,6 +30,7 @@ pub enum Round {
 
 /// What satisfying values come to: the start that they give, or the known bytes that they have not.
 fn judge_values(alloc: Global, celled: &Celled, values: &[bool]) -> Result<Round, AllocError>
+    requires flat { frame_cells_of celled.now ≡ as_cells (cells_of celled.now) }
     requires formed { AreFormed (program_of_cells celled.now) (cells_of celled.now) }
     requires one { AreOne (cells_of celled.now) (reading (program_of_cells celled.now) (cells_of celled.now) (valuation values.now)) }
     requires askable { IsAskable celled.now.question.now.passive.now }

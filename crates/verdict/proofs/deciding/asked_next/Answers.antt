@@ -1,20 +1,17 @@
-use Rattle.std.proofs.Common.{arith}
-use Rattle.std.proofs.lemmas.Bool.Decides.{nat_tests}
-use Rattle.verdict.proofs.Beside.{asks_more, beside_further}
+use Rattle.std.proofs.Common.{sym, subst, List, map}
+use Rattle.known_bytes.specs.declared.listing.Known.{Known}
+use Rattle.known_bytes.specs.Runs.{run_of}
+use Rattle.asked_bytes.specs.AskedBytes.{AreAdded, AreFurther, AreMore}
 use Rattle.verdict.proofs.deciding.asked_next.Goals as goal
 
-pub returns-then-is_empty : goal.returns-then-is_empty
-returns-then-is_empty c =
-    asks_more c.args.question.now c.args.added.now c.args.broken.now c.in_ok-joined.joined.items c.requires.added c.requires.broken c.in_ok-joined.ensures
+pub asked_next-requires-clause-added : goal.asked_next-requires-clause-added
+asked_next-requires-clause-added c =
+    subst (λ (z : List Known). AreAdded (map run_of z) c.args.added.now) (sym c.deref.ensures.value) c.requires.added
 
-pub with_further-requires-2-clause-apart : goal.with_further-requires-2-clause-apart
-with_further-requires-2-clause-apart c =
-    (beside_further c.args.question.now c.deref.result.now c.args.added.now c.in_ok-beside.beside.items c.deref-2.result.now c.deref.ensures.value
-    c.in_ok-beside.ensures (let is = c.is_empty.ensures in let not = c.if-is_empty.false in grind (arith, is, not, nat_tests)) c.deref-2.ensures.value).new
+pub asked_next-requires-clause-broken : goal.asked_next-requires-clause-broken
+asked_next-requires-clause-broken c =
+    subst (λ (z : List Known). AreFurther (map run_of z) c.args.added.now c.args.broken.now) (sym c.deref.ensures.value) c.requires.broken
 
 pub returns : goal.returns
 returns c =
-    asks_more c.args.question.now c.args.added.now c.deref-2.result.now c.in_ok-joined-2.joined.items c.requires.added
-    (beside_further c.args.question.now c.deref.result.now c.args.added.now c.in_ok-beside.beside.items c.deref-2.result.now c.deref.ensures.value
-    c.in_ok-beside.ensures (let is = c.is_empty.ensures in let not = c.if-is_empty.false in grind (arith, is, not, nat_tests)) c.deref-2.ensures.value)
-    c.in_ok-joined-2.ensures
+    subst (λ (z : List Known). AreMore (map run_of z) c.args.added.now c.in_ok-more.more.items) c.deref.ensures.value c.in_ok-more.ensures

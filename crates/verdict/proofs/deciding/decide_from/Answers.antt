@@ -1,7 +1,8 @@
 use Rattle.std.proofs.Common.{sym, subst, ◌∙◌, ℕ, List}
 use Rattle.question_form.specs.Questions.{program_of_question}
 use Rattle.verdict.specs.Rounds.{AreAdded}
-use Rattle.verdict.proofs.Adding.{from_first, from_more, further_same, fewer_left, decided, round_answers, round_breaks, askable_question}
+use Rattle.asked_bytes.proofs.Adding.{fewer_left}
+use Rattle.verdict.proofs.Adding.{from_first, from_more, further_same, decided, round_answers, round_breaks, askable_question}
 use Rattle.verdict.proofs.deciding.decide_from.Goals as goal
 
 pub loop-asked-init : goal.loop-asked-init
@@ -34,7 +35,7 @@ asked_next-requires-clause-broken c =
 
 pub loop-asked-smaller : goal.loop-asked-smaller
 loop-asked-smaller c =
-    fewer_left (program_of_question c.in_ok-question.question) c.loop-asked.asked.items c.deref-in-Broken.result.now c.in_ok-asked-in-Broken.asked.items
+    fewer_left (program_of_question c.in_ok-question.question).known c.loop-asked.asked.items c.deref-in-Broken.result.now c.in_ok-asked-in-Broken.asked.items
     c.deref-in-Broken.ensures.value c.in_ok-asked-in-Broken.ensures
 
 pub loop-asked-preserved : goal.loop-asked-preserved

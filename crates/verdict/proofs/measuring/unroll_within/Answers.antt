@@ -9,5 +9,4 @@ returns-clause-unrolled g c =
     (budget_of c.args.budget.now) g.met.M.Machine.lawful g.met.M.Machine.fitted c.bytes.ensures c.requires.over
     c.ranges.entry.fits c.args.budget.now.in_range.points.1 c.unroll.result
     c.unroll.ensures.unrolled c.unroll.ensures.formed c.unroll.ensures.few c.unroll.ensures.form c.unroll.ensures.addresses c.unroll.ensures.layout
-    c.unroll.ensures.runs
-    c.unroll.ensures.beyond
+    c.unroll.ensures.runs c.unroll.ensures.beyond c.unroll.ensures.headless c.unroll.ensures.roots

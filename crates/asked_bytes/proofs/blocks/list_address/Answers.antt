@@ -1,6 +1,6 @@
 use Rattle.std.proofs.Common.{◌+◌, arith}
-use Rattle.verdict.proofs.Beside.{beside_later, beside_more}
-use Rattle.verdict.proofs.blocks.list_address.Goals as goal
+use Rattle.asked_bytes.proofs.Beside.{beside_later, beside_more}
+use Rattle.asked_bytes.proofs.blocks.list_address.Goals as goal
 
 pub returns-then-not-is_known : goal.returns-then-not-is_known
 returns-then-not-is_known c = beside_later c.args.known.now c.args.added.now c.args.address (c.args.address + 1) c.args.found.now.items c.requires.before

@@ -1,6 +1,6 @@
 use Rattle.std.specs.Prelude.{◌-◌}
-use Rattle.verdict.specs.Rounds.{AreBeside}
-use Rattle.verdict.proofs.blocks.list_stretch.Given as goal
+use Rattle.asked_bytes.specs.AskedBytes.{AreBeside}
+use Rattle.asked_bytes.proofs.blocks.list_stretch.Given as goal
 
 abbrev pub invariant-loop-next : goal.invariant-loop-next
 invariant-loop-next l = AreBeside l.known l.added l.next l.found.items

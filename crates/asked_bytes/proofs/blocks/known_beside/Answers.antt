@@ -1,6 +1,6 @@
 use Rattle.std.proofs.Common.{arith}
-use Rattle.verdict.proofs.Beside.{beside_none, beside_later}
-use Rattle.verdict.proofs.blocks.known_beside.Goals as goal
+use Rattle.asked_bytes.proofs.Beside.{beside_none, beside_later}
+use Rattle.asked_bytes.proofs.blocks.known_beside.Goals as goal
 
 pub list_stretch-requires-clause-before : goal.list_stretch-requires-clause-before
 list_stretch-requires-clause-before c =

@@ -1,6 +1,6 @@
 use Rattle.std.proofs.Common.{length, ◌+◌, ◌-◌}
-use Rattle.verdict.proofs.Merging.{IsMergingWithin}
-use Rattle.verdict.proofs.deciding.with_further.Given as goal
+use Rattle.asked_bytes.proofs.Merging.{IsMergingWithin}
+use Rattle.asked_bytes.proofs.joining.with_further.Given as goal
 
 abbrev pub invariant-loop-i : goal.invariant-loop-i
 invariant-loop-i l = IsMergingWithin l.fn.added l.fn.further l.i l.j l.joined.items

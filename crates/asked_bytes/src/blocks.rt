@@ -3,7 +3,7 @@
 ghost use Rattle.std.specs.Prelude.{◌≡◌, ◌+◌, ◌≤◌, ◌^◌, ℕ, true, false, Some, Contains, IfOk, OnOk, map};
 ghost use Rattle.walk_spec.specs.Unrolled.{byte_of_runs};
 ghost use Rattle.known_bytes.specs.Runs.{run_of};
-ghost use Rattle.verdict.specs.Rounds.{AreBeside, AreRising};
+ghost use Rattle.asked_bytes.specs.AskedBytes.{AreBeside, AreRising};
 
 use known_bytes::Known;
 use std::alloc::{AllocError, Global};

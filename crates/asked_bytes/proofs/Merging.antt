@@ -4,7 +4,7 @@ use Rattle.std.specs.Prelude.{length, Contains, slice_index, nat_lt}
 use Rattle.std.proofs.lemmas.Bool.Decides.{nat_tests}
 use Rattle.std.proofs.lemmas.List.{length-append}
 use Rattle.std.proofs.lemmas.List.Elements.{Contains-append_left, Contains-get_or, Contains-push, Contains-push_cases, at_from_Contains}
-use Rattle.verdict.specs.Rounds.{AreRising, IsMerging, IsMerged}
+use Rattle.asked_bytes.specs.AskedBytes.{AreRising, IsMerging, IsMerged}
 
 -- a number that is at most another is below it or equal
 split_by : (m n : ℕ) (b : Bool) → nat_lt m n ≡ b → m ≤ n → (m < n) ⊎ (m ≡ n)

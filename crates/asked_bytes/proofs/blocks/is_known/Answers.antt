@@ -1,7 +1,7 @@
 use Rattle.std.proofs.Common.{arith}
 use Rattle.std.proofs.lemmas.Bool.Decides.{nat_tests}
-use Rattle.verdict.proofs.Beside.{none, within_run}
-use Rattle.verdict.proofs.blocks.is_known.Goals as goal
+use Rattle.asked_bytes.proofs.Beside.{none, within_run}
+use Rattle.asked_bytes.proofs.blocks.is_known.Goals as goal
 
 pub returns-then-known-at : goal.returns-then-known-at
 returns-then-known-at c is =

@@ -1,6 +1,6 @@
 use Rattle.std.proofs.Common.{◌+◌, arith}
 use Rattle.unroller.proofs.Ordered.{absent}
-use Rattle.verdict.proofs.blocks.is_among.Goals as goal
+use Rattle.asked_bytes.proofs.blocks.is_among.Goals as goal
 
 pub returns-in-Err : goal.returns-in-Err
 returns-in-Err c is =

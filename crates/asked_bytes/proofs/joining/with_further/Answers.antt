@@ -1,6 +1,6 @@
 use Rattle.std.proofs.Common.{arith}
-use Rattle.verdict.proofs.Merging.{begins, takes_first, takes_second, ends}
-use Rattle.verdict.proofs.deciding.with_further.Goals as goal
+use Rattle.asked_bytes.proofs.Merging.{begins, takes_first, takes_second, ends}
+use Rattle.asked_bytes.proofs.joining.with_further.Goals as goal
 
 pub loop-i-init : goal.loop-i-init
 loop-i-init c = begins c.args.added.now c.args.further.now c.requires.added c.requires.further c.requires.apart c.new-joined.result.items

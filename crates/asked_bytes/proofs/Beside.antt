@@ -6,11 +6,9 @@ use Rattle.std.proofs.lemmas.List.Elements.{Contains-push_cases, at_from_Contain
 use Rattle.walk_spec.specs.Unrolled.{ByteRun, byte_in_run, byte_of_runs}
 use Rattle.known_bytes.specs.declared.listing.Known.{Known}
 use Rattle.known_bytes.specs.Runs.{run_of}
-use Rattle.question_form.specs.Questions.{program_of_question}
-use Rattle.question_form.specs.declared.questions.Question.{Question}
-use Rattle.verdict.specs.Rounds.{AreAdded, AreBeside, AreFurther, AreMore, IsMerged}
-use Rattle.verdict.proofs.Adding.{added_merged}
-use Rattle.verdict.proofs.Merging.{snoc_rises}
+use Rattle.asked_bytes.specs.AskedBytes.{AreAdded, AreBeside, AreFurther, AreMore, IsMerged}
+use Rattle.asked_bytes.proofs.Adding.{added_merged}
+use Rattle.asked_bytes.proofs.Merging.{snoc_rises}
 
 head_by : (t : Bool) (r : ByteRun) (rest : Option ByteRun) (a : ℕ) → (t ≡ false → (b : ℕ) × (byte_in_run a rest ≡ Some b)) →
     (b : ℕ) × (byte_in_run a (if t then Some r else rest) ≡ Some b)
@@ -77,19 +75,16 @@ beside_more known added a old more h e small byte apart = subst (λ (z : List �
   ];
 })
 
--- those of a question's program, if there are some
-pub beside_further : (q : Question) (known : List Known) (added found further : List ℕ) → known ≡ q.passive.now.unrolled.now.known.items →
-    (before : ℕ) × AreBeside known added before found → 0 < length found → further ≡ found → AreFurther (program_of_question q) added further
-beside_further q known added found further e (before, h) some f = subst (λ (z : List ℕ). AreFurther (program_of_question q) added z) (sym f)
-    (record { are = record { rise = h.rise; known = byte }; some = some; new = h.new })
-  where
-    byte : (a : ℕ) → Contains found a → (a < 2 ^ 32) × ((b : ℕ) × (byte_of_runs (program_of_question q).known a ≡ Some b))
-    byte a has = subst (λ (z : List Known). (a < 2 ^ 32) × ((b : ℕ) × (byte_of_runs (map run_of z) a ≡ Some b))) e (h.known_byte a has)
+-- those that were found, if there are some
+pub beside_further : (known : List Known) (added found further : List ℕ) → (before : ℕ) × AreBeside known added before found → 0 < length found →
+    further ≡ found → AreFurther (map run_of known) added further
+beside_further known added found further (before, h) some f = subst (λ (z : List ℕ). AreFurther (map run_of known) added z) (sym f)
+    (record { are = record { rise = h.rise; known = h.known_byte }; some = some; new = h.new })
 
--- the next round asks more
-pub asks_more : (q : Question) (added further joined : List ℕ) → AreAdded (program_of_question q) added → AreFurther (program_of_question q) added further →
-    IsMerged added further joined → AreMore (program_of_question q) added joined
-asks_more q added further joined h f m = record { are = added_merged (program_of_question q) added further joined h f m; longer = longer; keep = m.keep }
+-- more is asked
+pub asks_more : (runs : List ByteRun) (added further joined : List ℕ) → AreAdded runs added → AreFurther runs added further → IsMerged added further joined →
+    AreMore runs added joined
+asks_more runs added further joined h f m = record { are = added_merged runs added further joined h f m; longer = longer; keep = m.keep }
   where
     longer : length added < length joined
     longer = let count = m.count in let some = f.some in omega (arith, count, some)
