@@ -2,10 +2,13 @@
 ghost use Rattle.std.specs.Prelude.{◌≡◌, ◌<◌, true, false};
 ghost use Rattle.bilv_spec.specs.Files.{is_rv};
 ghost use Rattle.machine_spec.specs.RvMachine.{rv32};
+ghost use Rattle.frame_terms.specs.HeadlessTerms.{as_cells};
+ghost use Rattle.mem_cells.specs.FrameViews.{frame_cells_of};
 ghost use Rattle.mem_cells.specs.Views.{cells_of, program_of_cells};
 ghost use Rattle.notes_value.specs.NoteViews.{notes_of};
 ghost use Rattle.notes_value.specs.Reads.{AreReadable};
 ghost use Rattle.term_spec.specs.Cells.{AreFormed};
+ghost use Rattle.verdict.specs.Rounds.{IsAskable};
 
 use crate::programs::Case;
 use crate::propagation::satisfy;
@@ -76,7 +79,7 @@ fn ask_clauses(
     let mut wrong = 0usize;
     for _ in 0..500 {
         let registers = registers(&mut seed);
-        let truth = is_true(alloc, case, &registers, celled.question.kind)?;
+        let truth = is_true(alloc, case, &registers, celled.question.asked)?;
         let told = truth_of(alloc, celled, clauses, &registers, case.words)?;
         trues = trues.saturating_add(usize::from(truth));
         wrong = wrong.saturating_add(usize::from(told != Some(truth)));
@@ -87,6 +90,8 @@ fn ask_clauses(
 /// The same by the clauses of cells.
 pub fn count_clauses(alloc: Global, celled: &Celled, case: &Case) -> Result<[usize; 2], AllocError>
     requires formed { AreFormed (program_of_cells celled.now) (cells_of celled.now) }
+    requires flat { frame_cells_of celled.now ≡ as_cells (cells_of celled.now) }
+    requires askable { IsAskable celled.now.question.now.passive.now }
     requires machine { is_rv case.now.image.now ≡ true }
     requires readable { AreReadable (rv32 false).has_register (notes_of case.now.notes.now) }
 {
@@ -102,6 +107,8 @@ pub fn broken_zeros(
     at: u32,
 ) -> Result<[usize; 3], AllocError>
     requires formed { AreFormed (program_of_cells celled.now) (cells_of celled.now) }
+    requires flat { frame_cells_of celled.now ≡ as_cells (cells_of celled.now) }
+    requires askable { IsAskable celled.now.question.now.passive.now }
     requires place { place < 31 }
 {
     let mut registers = [0u32; 31];

@@ -35,7 +35,7 @@ fn ask(alloc: Global, question: &Question, case: &Case) -> Result<[usize; 2], Al
     let mut wrong = 0usize;
     for _ in 0..100 {
         let registers = registers(&mut seed);
-        let truth = is_true(alloc, case, &registers, question.kind)?;
+        let truth = is_true(alloc, case, &registers, question.asked)?;
         let told = is_told(alloc, question, &registers, case.words)?;
         trues = trues.saturating_add(usize::from(truth));
         wrong = wrong.saturating_add(usize::from(told != truth));

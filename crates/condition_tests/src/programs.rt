@@ -1,6 +1,6 @@
 //! Small programs.
 ghost use Rattle.std.specs.Prelude.{IfOk};
-ghost use Rattle.verdict.specs.Rounds.{AreRising};
+ghost use Rattle.asked_bytes.specs.AskedBytes.{AreRising};
 
 use elf32_reader::Image;
 use notes_value::Notes;

@@ -14,7 +14,7 @@ use byte_mem::{Bytes32, Endian};
 use elf32_reader::Image;
 use known_bytes::known_stretch;
 use notes_value::Notes;
-use question_form::Kind;
+use question_form::Asked;
 use rv_lift::Rv32;
 use start_value::Start;
 use std::alloc::{AllocError, Global};
@@ -102,7 +102,7 @@ pub fn is_true(
     alloc: Global,
     case: &Case,
     registers: &[u32],
-    kind: Kind,
+    asked: Asked,
 ) -> Result<bool, AllocError>
     requires machine { is_rv case.now.image.now ≡ true }
     requires readable { AreReadable (rv32 false).has_register (notes_of case.now.notes.now) }
@@ -115,9 +115,9 @@ pub fn is_true(
         return Ok(false);
     }
     match run::<Rv32<0>>(alloc, image, notes, ENTRY, &start, Some(k), 1000)? {
-        Ending::Exit { .. } => Ok(kind == Kind::Entry),
-        Ending::Failed { .. } => Ok(kind != Kind::Turn),
-        Ending::Turned { .. } => Ok(kind != Kind::Fail),
+        Ending::Exit { .. } => Ok(asked == Asked::Entry),
+        Ending::Failed { .. } => Ok(asked == Asked::Entry || asked == Asked::Fail),
+        Ending::Turned { .. } => Ok(asked == Asked::Entry || asked == Asked::Turn),
         Ending::Left { .. } => Err(AllocError),
     }
 }

@@ -2,11 +2,14 @@
 ghost use Rattle.std.specs.Prelude.{◌≡◌, ◌<◌, ◌≤◌, true, false, IfOk};
 ghost use Rattle.bilv_spec.specs.Files.{is_rv, order_of, program_of};
 ghost use Rattle.machine_spec.specs.RvMachine.{rv32};
+ghost use Rattle.frame_terms.specs.HeadlessTerms.{as_cells};
+ghost use Rattle.mem_cells.specs.FrameViews.{frame_cells_of};
 ghost use Rattle.mem_cells.specs.Views.{cells_of, program_of_cells};
 ghost use Rattle.notes_value.specs.NoteViews.{notes_of};
 ghost use Rattle.notes_value.specs.Reads.{AreOver, AreReadable};
 ghost use Rattle.verdict.specs.Measures.{IsMeasurable};
-ghost use Rattle.verdict.specs.Rounds.{AreRising, IsAskable};
+ghost use Rattle.asked_bytes.specs.AskedBytes.{AreRising};
+ghost use Rattle.verdict.specs.Rounds.{IsAskable};
 ghost use Rattle.question_form.specs.Questions.{program_of_question, question_of, term_of};
 ghost use Rattle.term_spec.specs.Cells.{AreFormed};
 ghost use Rattle.term_spec.specs.WalkQuestions.{TellsQuestion};
@@ -88,6 +91,8 @@ fn study_cells(
     study: Study,
 ) -> Result<[usize; 4], AllocError>
     requires formed { AreFormed (program_of_cells celled.now) (cells_of celled.now) }
+    requires flat { frame_cells_of celled.now ≡ as_cells (cells_of celled.now) }
+    requires askable { IsAskable celled.now.question.now.passive.now }
     requires machine { is_rv case.now.image.now ≡ true }
     requires readable { AreReadable (rv32 false).has_register (notes_of case.now.notes.now) }
 {

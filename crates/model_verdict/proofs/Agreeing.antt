@@ -13,6 +13,8 @@ use Rattle.question_form.specs.Views.{kind_of, unrolled_of}
 use Rattle.question_form.specs.declared.questions.Passive.{Passive}
 use Rattle.question_form.specs.declared.questions.Question as asked
 use Rattle.call_form.specs.declared.kind.Kind.{Kind}
+use Rattle.question_form.specs.Asked.{asked_of}
+use Rattle.question_form.proofs.OfKinds.{is_of_kind}
 use Rattle.model_verdict.specs.Readings.{HasKnown, StandsFor}
 
 drawn_choice : (b : Bool) (n : ℕ) → b ≡ true → (if b then n else 0) ≡ n
@@ -78,8 +80,8 @@ had u y r question q tells b e has n is stands = (
 )
 
 -- the term of a question that is asked
-pub tells_of : (p : Passive) (kind : Kind) (q : asked.Question) → q.passive.now ≡ p → q.kind ≡ kind →
+pub tells_of : (p : Passive) (kind : Kind) (q : asked.Question) → q.passive.now ≡ p → q.asked ≡ asked_of kind →
     TellsQuestion (program_of_question q) (question_of q) (term_of q) → TellsQuestion (unrolled_of p.unrolled.now) (kind_of kind) (term_of q)
 tells_of p kind q of kind_is tells =
     subst (λ (z : Passive). TellsQuestion (unrolled_of z.unrolled.now) (kind_of kind) (term_of q)) of
-    (subst (λ (k : Kind). TellsQuestion (program_of_question q) (kind_of k) (term_of q)) kind_is tells)
+    (subst (λ (k : Question). TellsQuestion (program_of_question q) k (term_of q)) (is_of_kind q kind kind_is) tells)

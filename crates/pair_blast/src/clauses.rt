@@ -10,7 +10,7 @@ ghost use Rattle.cnf_form.specs.Views.{cnf_of};
 ghost use Rattle.gates.specs.Circuits.{next, Grows, Holds};
 ghost use Rattle.gates.specs.Pushes.{satisfied, AreOver};
 ghost use Rattle.bit_blast.specs.Laid.{ArePlaces};
-ghost use Rattle.pair_form.specs.Views.{pair_question_of, program_of_side_cells, side_cells_of};
+ghost use Rattle.pair_form.specs.Views.{AreOfProgram, pair_question_of, program_of_side_cells, side_cells_of};
 ghost use Rattle.pair_blast.specs.PairWords.{HaveSameWidths, bits_compared};
 
 use crate::ends::tie_exits;
@@ -45,6 +45,8 @@ fn tie_sides(
     second: &SideCells,
     kind: PairKind,
 ) -> Result<(), AllocError>
+    requires first_of { AreOfProgram first.now.celled }
+    requires second_of { AreOfProgram second.now.celled }
     requires first_formed { AreFormed (program_of_side_cells first.now) (side_cells_of first.now).cells }
     requires second_formed { AreFormed (program_of_side_cells second.now) (side_cells_of second.now).cells }
     requires entries { HaveSameWidths (side_cells_of first.now).cells.nodes (side_cells_of first.now).entries
@@ -92,6 +94,8 @@ pub fn blast_two(
     second: &SideCells,
     kind: PairKind,
 ) -> Result<Cnf, AllocError>
+    requires first_of { AreOfProgram first.now.celled }
+    requires second_of { AreOfProgram second.now.celled }
     requires first_formed { AreFormed (program_of_side_cells first.now) (side_cells_of first.now).cells }
     requires second_formed { AreFormed (program_of_side_cells second.now) (side_cells_of second.now).cells }
     requires entries { HaveSameWidths (side_cells_of first.now).cells.nodes (side_cells_of first.now).entries

@@ -11,6 +11,7 @@ ghost use Rattle.mem_cells.specs.Views.{cells_of, program_of_cells};
 ghost use Rattle.bit_blast.specs.Laid.{ArePlaces};
 ghost use Rattle.bit_blast.specs.Places.{seen};
 ghost use Rattle.bit_blast.specs.CellWords.{AreCellWords};
+ghost use Rattle.pair_form.specs.Views.{AreOfProgram};
 ghost use Rattle.pair_blast.specs.PairWords.{AreAlike, AreWordsWhere, words_read};
 
 use crate::linked::linked_inputs;
@@ -32,6 +33,7 @@ fn side_words(
     inputs: &[Bit],
     c: &Celled,
 ) -> Result<Vec<Vec<Bit>>, AllocError>
+    requires of { AreOfProgram c.now }
     requires formed { AreFormed (program_of_cells c.now) (cells_of c.now) }
     requires placed { ArePlaces (program_of_cells c.now) (cells_of c.now) places.now }
     requires all { length inputs.now ≡ places.now.inputs }
@@ -56,6 +58,7 @@ pub fn first_words(
     places: &InputPlaces,
     c: &Celled,
 ) -> Result<Vec<Vec<Bit>>, AllocError>
+    requires of { AreOfProgram c.now }
     requires formed { AreFormed (program_of_cells c.now) (cells_of c.now) }
     requires placed { ArePlaces (program_of_cells c.now) (cells_of c.now) places.now }
     requires all { places.now.inputs ≤ circuit.old.inputs }
@@ -83,6 +86,7 @@ pub fn second_words(
     before: u32,
     second: &SideCells,
 ) -> Result<Vec<Vec<Bit>>, AllocError>
+    requires of { AreOfProgram second.now.celled }
     requires formed { AreFormed (program_of_cells second.now.celled) (cells_of second.now.celled) }
     requires placed { ArePlaces (program_of_cells second.now.celled) (cells_of second.now.celled) places.now }
     requires all { before + places.now.inputs ≤ circuit.old.inputs }

@@ -1,9 +1,13 @@
 -- The values as those of the definitions.
-use Rattle.std.specs.Prelude.{List, map}
+use Rattle.std.specs.Prelude.{◌≡◌, List, map}
 use Rattle.call_spec.specs.Calls.{PairQuestion, PairOfStates, DifferenceOfExits}
 use Rattle.walk_spec.specs.Unrolled.{UnrolledProgram}
 use Rattle.pair_spec.specs.PairTerms as spec
+use Rattle.frame_terms.specs.HeadlessTerms.{as_cells}
+use Rattle.question_form.specs.FrameViews.{IsHeadless}
 use Rattle.question_form.specs.Questions.{program_of_question}
+use Rattle.mem_cells.specs.FrameViews.{frame_cells_of}
+use Rattle.mem_cells.specs.declared.cells.Celled.{Celled}
 use Rattle.mem_cells.specs.Views.{cells_of, program_of_cells}
 use Rattle.mem_cells.specs.Words.{places_of}
 use Rattle.pair_form.specs.declared.kinds.PairKind.{PairKind}
@@ -22,6 +26,11 @@ program_of_side_question s = program_of_question s.question
 
 abbrev pub program_of_side_cells : SideCells → UnrolledProgram
 program_of_side_cells c = program_of_cells c.celled
+
+-- the cells are those of a program, which has no head, and reads the memory at entry alone
+pub record AreOfProgram (c : Celled) : Type 0 where
+  pub headless : IsHeadless c.question.now.passive.now.unrolled.now
+  pub flat : frame_cells_of c ≡ as_cells (cells_of c)
 
 -- the terms of a side
 abbrev pub side_term_of : SideQuestion → spec.SideTerm

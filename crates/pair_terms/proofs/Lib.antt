@@ -13,3 +13,4 @@ pub mod Blank
 pub mod ExitOf
 pub mod SideReady
 pub mod Led
+pub mod PlacedRoots

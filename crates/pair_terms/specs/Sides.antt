@@ -13,6 +13,7 @@ use Rattle.term_names.specs.Chosen.{at_entry}
 use Rattle.pair_spec.specs.Links.{Link}
 use Rattle.pair_spec.specs.Pairs.{shared_bytes}
 use Rattle.pair_spec.specs.PairTerms.{HaveWords, HaveWidths, all_entry_words, entry_widths, with_exit_place, TellsSide, TellsSideCells}
+use Rattle.question_form.specs.FrameViews.{IsHeadless}
 use Rattle.question_form.specs.Views.{unrolled_of}
 use Rattle.weakest_pre.specs.Entry.{meets}
 use Rattle.weakest_pre.specs.Copies.{IsMoved}
@@ -48,6 +49,7 @@ TellsSideOf s second links question = (u : UnrolledProgram) → IsPlacedAs u (pr
 
 -- the terms of a side can be made cells: terms over the program, whose root is a bit, and whose words have a width
 pub record CanBeCells (s : SideQuestion) : Type 0 where
+  pub headless : IsHeadless s.question.passive.now.unrolled.now
   pub terms : (room : Room) × AreTermsWithin (program_of_side_question s) room s.question.dag
   pub root : HasWidth s.question.dag 1 s.question.root.0
   pub entries : AllByRecursion (IsWordAt s.question.dag) (places_of s.entries.items)

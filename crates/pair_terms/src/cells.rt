@@ -2,7 +2,7 @@
 
 ghost use Rattle.std.specs.Prelude.{◌≡◌, ℕ, ◌<◌, ◌≤◌, ◌++◌, Some, IfOk, drop, length, take};
 ghost use Rattle.walk_spec.specs.Unrolled.{byte_of_runs};
-ghost use Rattle.pair_form.specs.Views.{program_of_side_question};
+ghost use Rattle.pair_form.specs.Views.{AreOfProgram, program_of_side_question};
 ghost use Rattle.pair_terms.specs.Sides.{CanBeCells, TellsCellsOf};
 
 use mem_cells::{CelledWords, cells_with_words};
@@ -51,6 +51,7 @@ pub fn side_cells<'a>(
     requires bytes { (a b : ℕ) → byte_of_runs (program_of_side_question side.now).known a ≡ Some b → b < 256 }
     ensures of { IfOk result (λ c. c.celled.question.now ≡ side.now.question) }
     ensures tells { IfOk result (λ c. TellsCellsOf side.now added.now c) }
+    ensures of_program { IfOk result (λ c. AreOfProgram c.celled) }
 {
     let count = side.entries.len();
     let words = words_of(alloc, side)?;

@@ -9,7 +9,8 @@ ghost use Rattle.walk_spec.specs.Unrolling.{IsWalkable};
 ghost use Rattle.walk_spec.specs.Prices.{line_steps, variables_of};
 ghost use Rattle.start_value.specs.declared.layout.Layout.{Layout};
 ghost use Rattle.question_form.specs.Views.{aim_of, edge_of, unrolled_of};
-ghost use Rattle.question_form.specs.Forms.{IsFormed};
+ghost use Rattle.question_form.specs.Forms.{IsFormed, AreRootsFormed};
+ghost use Rattle.question_form.specs.FrameViews.{IsHeadless};
 ghost use Rattle.passify.specs.Lasts.{AreCarriedTo, CarriesTo};
 ghost use Rattle.links_lang.specs.Views.{links_of};
 ghost use Rattle.pair_spec.specs.Pairs.{same_bytes};
@@ -197,6 +198,8 @@ pub fn exit_terms<'a>(
     links: &[Link],
     second: bool,
 ) -> Result<ExitTerms<'a>, AllocError>
+    requires headless { IsHeadless unrolled.now }
+    requires roots { AreRootsFormed unrolled.now }
     requires walkable { IsWalkable (unrolled_of unrolled.now) }
     requires formed { IsFormed unrolled.now }
     requires more { 1 < length unrolled.now.points.items }

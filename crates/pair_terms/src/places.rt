@@ -2,7 +2,8 @@
 
 ghost use Rattle.std.specs.Prelude.{◌≡◌, IfOk, map};
 ghost use Rattle.question_form.specs.Views.{unrolled_of};
-ghost use Rattle.question_form.specs.Forms.{IsFormed};
+ghost use Rattle.question_form.specs.Forms.{IsFormed, AreRootsFormed};
+ghost use Rattle.question_form.specs.FrameViews.{IsHeadless};
 ghost use Rattle.pair_spec.specs.PairTerms.{with_exit_place};
 ghost use Rattle.pair_terms.specs.Places.{UnrollingLeavesByLink, edge_led};
 
@@ -50,6 +51,8 @@ pub fn with_exit_place<'a>(
     ensures formed { IfOk result (λ v. IsFormed v) }
     ensures form { IfOk result (λ v. v.form ≡ unrolled.entry.form) }
     ensures known { IfOk result (λ v. v.known ≡ unrolled.entry.known) }
+    ensures headless { IsHeadless unrolled.entry → IfOk result (λ v. IsHeadless v) }
+    ensures roots { IsHeadless unrolled.entry → AreRootsFormed unrolled.entry → IfOk result (λ v. AreRootsFormed v) }
 {
     let mut placed = unrolled;
     let (places, codes) = (placed.points.len(), placed.codes.len());

@@ -3,6 +3,7 @@
 ghost use Rattle.std.specs.Prelude.{◌≡◌, ℕ, List, ◌∷◌, IfOk};
 ghost use Rattle.term_spec.specs.Terms.{AreTyped, HasWidth};
 ghost use Rattle.walk_spec.specs.Unrolling.{IsWalkable};
+ghost use Rattle.question_form.specs.FrameViews.{IsHeadless};
 ghost use Rattle.question_form.specs.Views.{unrolled_of};
 ghost use Rattle.links_lang.specs.Views.{links_of};
 ghost use Rattle.pair_spec.specs.PairTerms.{HaveWidths};
@@ -15,7 +16,7 @@ use crate::exits::ExitTerms;
 use crate::words::link_terms;
 use links_lang::Link;
 use pair_form::{PairKind, SideQuestion};
-use question_form::{Kind, Question, Unrolled};
+use question_form::{Asked, Question, Unrolled};
 use std::alloc::{AllocError, Global};
 use term_dag::{Dag, Term};
 use term_names::entry_names;
@@ -117,6 +118,7 @@ pub fn side<'a>(
     second: bool,
     kind: PairKind,
 ) -> Result<SideQuestion<'a>, AllocError>
+    requires headless { IsHeadless exit.now.passive.unrolled.now }
     requires walkable { IsWalkable (program_of_exit exit.now) }
     requires links { AreLinksOfSide second exit.now.passive.unrolled.now.form links.now }
     requires terms { AreExitTerms second (links_of links.now) exit.now }
@@ -131,7 +133,7 @@ pub fn side<'a>(
     let tied = tied_by(alloc, &mut dag, exit, entry, kind)?;
     let question = Question {
         passive: &exit.passive,
-        kind: Kind::Entry,
+        asked: Asked::Entry,
         dag,
         root: tied.root,
     };

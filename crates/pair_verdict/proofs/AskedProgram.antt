@@ -15,7 +15,8 @@ use Rattle.pair_spec.proofs.Asking.{points_of}
 use Rattle.program_points.specs.Listed.{IsTooMany}
 use Rattle.program_points.specs.declared.values.PointsFault.{PointsFault}
 use Rattle.program_points.specs.declared.values.PointsFault.TheVariants.{TooMany}
-use Rattle.question_form.specs.Forms.{IsFormed}
+use Rattle.question_form.specs.Forms.{IsFormed, AreRootsFormed}
+use Rattle.question_form.specs.FrameViews.{IsHeadless}
 use Rattle.question_form.specs.Views.{unrolled_of}
 use Rattle.question_form.specs.declared.unrolled.Unrolled.{Unrolled}
 use Rattle.start_value.specs.Starts.{layout_of}
@@ -37,7 +38,8 @@ module _ (file : List ℕ) (notes : Notes) (entry : ℕ) (m : Machine) (form : L
 
   module _ (u : Unrolled) (un : IsUnrolling p b.unroll (unrolled_of u)) (formed : IsFormed u) (few : length u.points.items ≤ b.points) (has : HasForm m u)
       (addresses : (i : ℕ) → i < length (unrolled_of u).points → (point_at (unrolled_of u) i).point.at < 2 ^ 32) (layout : layout_of u.form ≡ form)
-      (runs : AreRuns u.known.items) (beyond : (x : ℕ) → 2 ^ 32 ≤ x → byte_of_runs (unrolled_of u).known x ≡ None) where
+      (runs : AreRuns u.known.items) (beyond : (x : ℕ) → 2 ^ 32 ≤ x → byte_of_runs (unrolled_of u).known x ≡ None) (headless : IsHeadless u)
+      (roots : AreRootsFormed u) where
     laid : IsLaidOut form (unrolled_of u)
     laid = subst (λ (l : Layout). IsLaidOut l (unrolled_of u)) layout has.laid
 
@@ -53,6 +55,8 @@ module _ (file : List ℕ) (notes : Notes) (entry : ℕ) (m : Machine) (form : L
         walkable = unrolling_is_walkable p b.unroll (unrolled_of u) un form fitted laid
             (all_readable (unrolled_of u) m.has_register m.has_flag notes un.registers un.flags over) at addresses;
         formed = formed;
+        headless = headless;
+        roots = roots;
         bytes = bytes;
         runs = runs;
       };

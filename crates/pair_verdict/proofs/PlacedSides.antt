@@ -22,7 +22,8 @@ use Rattle.pair_terms.specs.Words.{AreLinksOfSide}
 use Rattle.pair_terms.specs.declared.exits.ExitTerms.{ExitTerms}
 use Rattle.pair_terms.proofs.ByLink.{unrolling_leaves_by_link}
 use Rattle.passify.specs.Made.{IsPassiveOf}
-use Rattle.question_form.specs.Forms.{IsFormed}
+use Rattle.question_form.specs.Forms.{IsFormed, AreRootsFormed}
+use Rattle.question_form.specs.FrameViews.{IsHeadless}
 use Rattle.question_form.specs.Views.{unrolled_of}
 use Rattle.question_form.specs.declared.questions.Passive.{Passive}
 use Rattle.question_form.specs.declared.unrolled.Unrolled.{Unrolled}
@@ -43,7 +44,8 @@ more_points u = simp (length-append, length-map)
 
 module _ (s : Sided) (second : Bool) (links : List Link) (b : Budget) (most : b.points ≤ 16777216) (u v : Unrolled)
     (is : IsUnrolledOf (asking second links (program_of_side s)) (layout_of s.layout) b u) (form : layout_of u.form ≡ layout_of s.layout)
-    (placed : unrolled_of v ≡ with_exit_place (unrolled_of u)) (formed : IsFormed v) (same_form : v.form ≡ u.form) (known : v.known ≡ u.known) where
+    (placed : unrolled_of v ≡ with_exit_place (unrolled_of u)) (formed : IsFormed v) (same_form : v.form ≡ u.form) (known : v.known ≡ u.known)
+    (headless : IsHeadless v) (roots : AreRootsFormed v) where
   counted : length v.points.items ≡ length (unrolled_of u).points + 1
   counted =
       sym (count_points v v.points.items) ∙ ap (λ (z : UnrolledProgram). length z.points) placed ∙ more_points (unrolled_of u)
@@ -61,6 +63,8 @@ module _ (s : Sided) (second : Bool) (links : List Link) (b : Budget) (most : b.
     measurable = record {
       walkable = subst IsWalkable (sym placed) (exit_place_walks (unrolled_of u) is.measurable.walkable);
       formed = formed;
+      headless = headless;
+      roots = roots;
       bytes = subst HasBytes (sym placed) is.measurable.bytes;
       runs = subst (λ k. AreRuns k.items) (sym known) is.measurable.runs;
     };
@@ -117,6 +121,7 @@ module _ (s : Sided) (second : Bool) (links : List declared.Link) (k : ℕ) (v :
   is_ready few = record {
     same = ap unrolled_of (of ∙ sym passive.of);
     askable = askable v q h.measurable passive;
+    headless = subst IsHeadless (sym of) h.measurable.headless;
     few = subst (λ (z : Unrolled). length z.points.items ≤ 2 ^ 28) (sym of) h.few;
     links_are = subst (λ (z : Unrolled). AreLinksOfSide second z.form links) (sym of) linked;
     terms = terms;

@@ -39,7 +39,7 @@ use Rattle.walk_spec.specs.Unrolled.{UnrolledProgram, byte_of_runs}
 use Rattle.term_spec.specs.WalkQuestions.{is_asked}
 use Rattle.verdict.specs.Grounds.{IsGround}
 use Rattle.verdict.specs.Rounds.{AreAdded, HasBytes}
-use Rattle.verdict.proofs.Answering.{any_contained}
+use Rattle.asked_bytes.proofs.Adding.{any_contained}
 use Rattle.pair_verdict.specs.PairRounds.{AreNew, AreValues, IsAskableSide, IsPairAnswered, IsShown}
 use Rattle.pair_verdict.specs.declared.verdicts.PairAnswered.TheVariants.{Sat}
 use Rattle.pair_verdict.proofs.OwnExits.{own_as}

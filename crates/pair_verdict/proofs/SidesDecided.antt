@@ -12,7 +12,7 @@ use Rattle.question_form.specs.Views.{unrolled_of}
 use Rattle.question_form.specs.declared.questions.Passive.{Passive}
 use Rattle.walk_spec.specs.Unrolled.{UnrolledProgram}
 use Rattle.verdict.specs.Rounds.{AreFurther}
-use Rattle.verdict.proofs.Adding.{added_few, added_none}
+use Rattle.asked_bytes.proofs.Adding.{added_few, added_none}
 use Rattle.pair_spec.specs.Links.{Link}
 use Rattle.pair_verdict.specs.PairRounds.{AreAsked, AreNew, IsAskableSide, IsReady, PairAnswers}
 use Rattle.pair_verdict.specs.declared.verdicts.PairAnswered.{PairAnswered}
@@ -24,15 +24,15 @@ further_of u added found h some = record { are = h.are; some = some; new = h.new
 
 -- at first nothing is asked
 pub asked_none : (u w : UnrolledProgram) (a : Asked) → a.first.items ≡ [] → a.second.items ≡ [] → AreAsked u w a
-asked_none u w a e f = record { of_first = added_none u a.first.items e; of_second = added_none w a.second.items f }
+asked_none u w a e f = record { of_first = added_none u.known a.first.items e; of_second = added_none w.known a.second.items f }
 
 -- so rounds end
 pub fewer_left : (u w : UnrolledProgram) (old new : Asked) → AreAsked u w new →
     length old.first.items + length old.second.items < length new.first.items + length new.second.items →
     2 ^ 33 - (length new.first.items + length new.second.items) < 2 ^ 33 - (length old.first.items + length old.second.items)
 fewer_left u w old new h more =
-    let first = added_few u new.first.items h.of_first in
-    let second = added_few w new.second.items h.of_second in
+    let first = added_few u.known new.first.items h.of_first in
+    let second = added_few w.known new.second.items h.of_second in
     omega (arith, first, second, more)
 
 -- a side that is made of the terms at an exit

@@ -29,6 +29,7 @@ use Rattle.pair_spec.specs.PairEvidence.{RefutesPair, SpendsPair}
 use Rattle.links_lang.specs.Views.{links_of}
 use Rattle.links_lang.specs.declared.links.Link as declared
 use Rattle.mem_cells.specs.declared.cells.Celled.{Celled}
+use Rattle.question_form.specs.FrameViews.{IsHeadless}
 use Rattle.pair_terms.specs.Sides.{AreExitTerms, CanBeCells, IsPlacedAs, TellsSideOf, program_of_exit}
 use Rattle.pair_terms.specs.Words.{AreLinksOfSide}
 use Rattle.pair_terms.specs.declared.exits.ExitTerms.{ExitTerms}
@@ -86,6 +87,7 @@ second_placed s = program_of_side_question s.second.now
 pub record IsReady (second : Bool) (links : List declared.Link) (e : ExitTerms) (q : Passive) : Type 0 where
   pub same : program_of_exit e ≡ unrolled_of q.unrolled.now
   pub askable : IsAskable q
+  pub headless : IsHeadless e.passive.unrolled.now
   pub few : length e.passive.unrolled.now.points.items ≤ 2 ^ 28
   pub links_are : AreLinksOfSide second e.passive.unrolled.now.form links
   pub terms : AreExitTerms second (links_of links) e

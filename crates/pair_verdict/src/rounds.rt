@@ -2,7 +2,7 @@
 ghost use Rattle.std.specs.Prelude.{◌≡◌, ◌≤◌, ◌<◌, ◌-◌, ◌^◌, IfOk, filter, length, nat_lt};
 ghost use Rattle.links_lang.specs.Views.{AreLinksOf, links_of};
 ghost use Rattle.mem_cells.specs.Views.{cells_of, program_of_cells};
-ghost use Rattle.pair_form.specs.Views.{pair_question_of};
+ghost use Rattle.pair_form.specs.Views.{AreOfProgram, pair_question_of};
 ghost use Rattle.start_value.specs.Starts.{written_of};
 ghost use Rattle.term_spec.specs.ClauseForm.{inputs};
 ghost use Rattle.pair_spec.specs.ExitPlaces.{before_step};
@@ -91,20 +91,22 @@ fn start_by(
     passive: &Passive,
     values: &[bool],
 ) -> Result<Start, AllocError>
-    requires { AreSound celled values.now passive.now }
+    requires of { AreOfProgram celled }
+    requires sound { AreSound celled values.now passive.now }
     ensures { IfOk result (IsShown celled.entry values.now) }
 {
     let Celled {
         question,
         dag,
         addresses,
+        reads,
         agrees,
         asked,
         root,
     } = celled;
     let plain = Question {
         passive,
-        kind: question.kind,
+        asked: question.asked,
         dag: Dag::new(alloc),
         root: question.root,
     };
@@ -112,6 +114,7 @@ fn start_by(
         question: &plain,
         dag,
         addresses,
+        reads,
         agrees,
         asked,
         root,
@@ -130,6 +133,8 @@ fn starts_by(
     values: &[bool],
     later: &[bool],
 ) -> Result<PairAnswered, AllocError>
+    requires first_of { AreOfProgram first }
+    requires second_of { AreOfProgram second }
     requires first { AreSound first values.now sides.now.first_passive.now }
     requires second { AreSound second later.now sides.now.second_passive.now }
     ensures { IfOk result (AreShown first.entry second.entry values.now later.now) }
@@ -152,6 +157,8 @@ fn judge_values(
     values: &[bool],
     later: &[bool],
 ) -> Result<PairRound, AllocError>
+    requires first_of { AreOfProgram first.celled }
+    requires second_of { AreOfProgram second.celled }
     requires first { AreValuesOf first values.now sides.now.first_passive.now }
     requires second { AreValuesOf second later.now sides.now.second_passive.now }
     ensures { IfOk result (AreJudged first.entry second.entry values.now later.now) }

@@ -14,4 +14,5 @@ mod words;
 pub use declarations::draws;
 pub use laws::{scripts_are_of_programs, scripts_tell};
 pub use numbering::numbers;
+pub use ordering::frame;
 pub use scripts::script;

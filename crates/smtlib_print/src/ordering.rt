@@ -19,7 +19,7 @@ pub struct Placed {
 }
 
 /// The frame of a stack by its number, above one of a lower number; the empty stack has none.
-fn frame(frames: &[Frame], stack: usize) -> Option<Frame>
+pub fn frame(frames: &[Frame], stack: usize) -> Option<Frame>
     ensures { MatchOption result (stack_at frames.now stack ≡ [])
         (λ f. (f.below < stack) × (stack_at frames.now stack ≡ f.top ∷ stack_at frames.now f.below)) }
 {

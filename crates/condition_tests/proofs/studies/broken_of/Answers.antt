@@ -1,5 +1,6 @@
 use Rattle.call_form.specs.declared.kind.Kind.TheVariants.{Fail}
 use Rattle.verdict.proofs.Adding.{askable_question}
+use Rattle.verdict.proofs.RoundAnswers.{askable_cells}
 use Rattle.condition_tests.proofs.studies.broken_of.Goals as goal
 
 pub question-requires-clause-walkable : goal.question-requires-clause-walkable
@@ -14,4 +15,9 @@ cells_some-requires-clause-bytes c =
     askable.bytes
 
 pub broken_zeros-requires-clause-formed : goal.broken_zeros-requires-clause-formed
-broken_zeros-requires-clause-formed c = c.in_ok-celled.ensures.tells.formed
+broken_zeros-requires-clause-formed c = c.in_ok-celled.ensures.cells.tells.formed
+
+pub broken_zeros-requires-clause-askable : goal.broken_zeros-requires-clause-askable
+broken_zeros-requires-clause-askable c =
+    askable_cells c.in_ok-question.question _ c.in_ok-celled.celled c.in_ok-celled.ensures.cells
+    (askable_question c.args.passive.now Fail c.in_ok-question.question c.in_ok-question.ensures.of c.requires.askable)

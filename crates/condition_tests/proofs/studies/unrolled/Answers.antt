@@ -11,4 +11,4 @@ returns g c =
     (record { unroll = c.args.k; points = 65536; size = 1; conflicts = 1 }) g.met.M.Machine.lawful g.met.M.Machine.fitted
     c.bytes.ensures c.requires.over (omega arith) (omega arith)
     c.unroll.result c.unroll.ensures.unrolled c.unroll.ensures.formed c.unroll.ensures.few c.unroll.ensures.form c.unroll.ensures.addresses
-    c.unroll.ensures.layout c.unroll.ensures.runs c.unroll.ensures.beyond)
+    c.unroll.ensures.layout c.unroll.ensures.runs c.unroll.ensures.beyond c.unroll.ensures.headless c.unroll.ensures.roots)

@@ -6,6 +6,7 @@ use Rattle.mem_cells.specs.Views.{cells_of}
 use Rattle.question_form.specs.declared.questions.Question.{Question}
 use Rattle.question_form.specs.Questions.{program_of_question, term_of}
 use Rattle.term_spec.specs.WalkQuestions.{is_asked}
+use Rattle.question_form.specs.FrameViews.{IsHeadless}
 use Rattle.pair_form.specs.Views.{program_of_side_question}
 use Rattle.mem_cells.specs.Words.{places_of}
 use Rattle.pair_terms.proofs.CellsTold.{each_word, all_words, cells_count, cells_from}
@@ -26,7 +27,7 @@ halves-requires c =
     let side = c.args.side.now in
     let words = c.in_ok-celled.field-0.words in
     let l = cells_count side.question.dag (cells_of c.in_ok-celled.field-0.celled) side.entries.items side.exits.items c.in_ok-words.words.items
-    c.deref.result.now words.items c.deref.ensures.value c.in_ok-words.ensures c.in_ok-celled.ensures.tells.each in
+    c.deref.result.now words.items c.deref.ensures.value c.in_ok-words.ensures c.in_ok-celled.ensures.cells.tells.each in
     omega (arith, l, c.len-count.ensures, side.entries.ok.0, ap length c.deref-2.ensures.value)
 
 pub returns-clause-tells : goal.returns-clause-tells
@@ -41,4 +42,10 @@ returns-clause-tells c = λ u second links question p h.
     (c.deref.ensures.value ∙ c.in_ok-words.ensures) (omega (arith, c.len-count.ensures, side.entries.ok.0))
     (c.in_ok-split.ensures.first ∙ ap (take count) c.deref-2.ensures.value) (c.in_ok-split.ensures.last ∙ ap (drop count) c.deref-2.ensures.value) p h
     (subst (λ (q : Question). TellsWithWords (program_of_question q) (term_of side.question) (places_of c.deref.result.now)
-    (is_asked c.args.added.now w.literals) cells (places_of words.items)) c.in_ok-celled.ensures.of c.in_ok-celled.ensures.tells)
+    (is_asked c.args.added.now w.literals) cells (places_of words.items)) c.in_ok-celled.ensures.cells.of c.in_ok-celled.ensures.cells.tells)
+
+pub returns-clause-of_program : goal.returns-clause-of_program
+returns-clause-of_program c = record {
+  headless = subst (λ (q : Question). IsHeadless q.passive.now.unrolled.now) (sym c.in_ok-celled.ensures.cells.of) c.requires.ready.headless;
+  flat = c.in_ok-celled.ensures.flat;
+}

@@ -28,4 +28,4 @@ returns-clause-ready c =
     (places_of c.in_ok-tied.tied.exits.items)
     (subst (λ (z : List TermNode). IsEntryBit w z c.entry_bit.new.dag c.in_ok-entry.entry.0) c.new-dag.ensures c.in_ok-entry.ensures)
     c.in_ok-entries.ensures c.requires.terms.within c.requires.terms.tells c.in_ok-tied.ensures in
-    record { terms = k.terms; root = k.bit_of; entries = k.entries; exits = k.exits }
+    record { headless = c.requires.headless; terms = k.terms; root = k.bit_of; entries = k.entries; exits = k.exits }

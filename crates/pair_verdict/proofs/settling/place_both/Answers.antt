@@ -22,8 +22,10 @@ returns c =
     record {
       first = is_placed p.first.now false (links_of p.links.now) (budget_of p.budget.now) p.budget.now.in_range.points.1 c.in_ok-one.one c.in_ok-first.first
           c.in_ok-one.ensures.unrolled c.in_ok-one.ensures.form c.in_ok-first.ensures.program c.in_ok-first.ensures.formed c.in_ok-first.ensures.form
-          c.in_ok-first.ensures.known;
+          c.in_ok-first.ensures.known (c.in_ok-first.ensures.headless c.in_ok-one.ensures.unrolled.measurable.headless)
+          (c.in_ok-first.ensures.roots c.in_ok-one.ensures.unrolled.measurable.headless c.in_ok-one.ensures.unrolled.measurable.roots);
       second = is_placed p.second.now true (links_of p.links.now) (budget_of p.budget.now) p.budget.now.in_range.points.1 c.in_ok-two.two
           c.in_ok-second.second c.in_ok-two.ensures.unrolled c.in_ok-two.ensures.form c.in_ok-second.ensures.program c.in_ok-second.ensures.formed
-          c.in_ok-second.ensures.form c.in_ok-second.ensures.known;
+          c.in_ok-second.ensures.form c.in_ok-second.ensures.known (c.in_ok-second.ensures.headless c.in_ok-two.ensures.unrolled.measurable.headless)
+          (c.in_ok-second.ensures.roots c.in_ok-two.ensures.unrolled.measurable.headless c.in_ok-two.ensures.unrolled.measurable.roots);
     }

@@ -26,7 +26,7 @@ returns-in-Ok-clause-unrolled g c =
     (λ (p : Program) (f : Layout). IsUnrolledOf (asking c.args.second links p) f (budget_of c.args.budget.now) u)
     (asked_unrolled s.image.now (notes_of s.notes.now) s.entry m form (budget_of c.args.budget.now) g.met.M.Machine.lawful g.met.M.Machine.fitted
     c.requires.sided.bytes (over s m form c.requires.machine c.requires.form c.requires.sided) (omega (arith)) c.args.budget.now.in_range.points.1 asked u
-    (e.unrolled asked c.flags_asked-out.ensures.set) e.formed e.few e.form e.addresses e.layout e.runs e.beyond)
+    (e.unrolled asked c.flags_asked-out.ensures.set) e.formed e.few e.form e.addresses e.layout e.runs e.beyond e.headless e.roots)
 
 pub unreachable-requires : goal.unreachable-requires
 unreachable-requires g c =
