@@ -1,0 +1,3 @@
+mod EvaluatedLines
+mod PointTotals
+mod FrameCosts

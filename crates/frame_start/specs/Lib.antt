@@ -1,0 +1,5 @@
+pub mod Files
+pub mod Inputs
+pub mod Kept
+pub mod Met
+pub mod Reads

@@ -1,0 +1,156 @@
+//! The base reads of each part, as values give them.
+ghost use Rattle.std.specs.Prelude.{◌≡◌, ℕ, ◌<◌, ◌++◌, [], ◌∷◌, Contains, if◌then◌else◌, ◌^◌, filter, length, map, slice_index, slice_index_or, IfOk, OnOk};
+ghost use Rattle.clause_spec.specs.Clauses.{valuation};
+ghost use Rattle.term_spec.specs.Terms.{TermReading};
+ghost use Rattle.frame_terms.specs.FrameCells.{AreFormed};
+ghost use Rattle.frame_terms.specs.FrameStarts.{HasValues};
+ghost use Rattle.term_dag.specs.declared.nodes.Term.{Term};
+ghost use Rattle.question_form.specs.FrameQuestions as questions;
+ghost use Rattle.question_form.specs.FrameQuestions.{heads_of_question};
+ghost use Rattle.mem_cells.specs.declared.cells.BaseRead.{BaseRead};
+ghost use Rattle.mem_cells.specs.FrameViews.{frame_cells_of, frame_of_cells};
+ghost use Rattle.bit_blast.specs.Laid.{AreFramePlaces};
+ghost use Rattle.bit_blast.specs.ReadBytes.{address_word};
+ghost use Rattle.frame_start.specs.Reads.{HaveReads, is_of, pair_at};
+
+use crate::inputs::part_inputs;
+use bit_blast::{InputPlaces, choices_by_place};
+use byte_mem::Bytes32;
+use mem_cells::{BaseRead, Celled};
+use question_form::Question;
+use std::alloc::{AllocError, Global};
+use term_dag::{Parts, Reading, Term};
+
+/// The address and the byte of each base read of the entry's part, and of the head's where the question speaks of head states.
+#[derive(Drop)]
+pub struct Reads {
+    pub entry: Vec<(u32, u8)>,
+    pub head: Vec<(u32, u8)>,
+}
+
+/// Whether a question speaks of head states, which its frame has.
+pub fn speaks_of_heads(question: &Question) -> bool
+    ensures { result ≡ questions.is_of_heads question.now }
+{
+    if question.passive.unrolled.heads {
+        return question.asked.speaks_of_heads();
+    }
+    false
+}
+
+/// Lists the address and the byte of a base read, if it is of a part.
+fn list_read(
+    found: &mut Vec<(u32, u8)>,
+    addresses: &[Term],
+    words: &[u64],
+    bytes: &[u8],
+    read: BaseRead,
+    part: u32,
+) -> Result<(), AllocError>
+    requires place { read.address < length addresses.now }
+    requires byte { read.address < length bytes.now }
+    requires within { (d : Term) → (slice_index_or addresses.now read.address d).0 < length words.now }
+    requires small { address_word addresses.now words.now read.address < 2 ^ 32 }
+    ensures { OnOk result (found.new.items ≡ found.old.items ++ map (pair_at addresses.now words.now bytes.now) (filter (is_of part) (read ∷ []))) }
+{
+    if read.part == part {
+        let place = read.address as usize;
+        let address = words[addresses[place].0 as usize] as u32;
+        found.push((address, bytes[place]))?;
+        return Ok(());
+    }
+    Ok(())
+}
+
+/// The addresses and the bytes of the base reads of a part.
+fn reads_of_part(
+    alloc: Global,
+    reads: &[BaseRead],
+    addresses: &[Term],
+    words: &[u64],
+    bytes: &[u8],
+    part: u32,
+) -> Result<Vec<(u32, u8)>, AllocError>
+    requires places { (b : BaseRead) → Contains reads.now b → b.address < length addresses.now }
+    requires count { length addresses.now ≡ length bytes.now }
+    requires within { (j : ℕ) (d : Term) → j < length addresses.now → (slice_index_or addresses.now j d).0 < length words.now }
+    requires small { (j : ℕ) → j < length addresses.now → address_word addresses.now words.now j < 2 ^ 32 }
+    ensures { IfOk result (λ v. v.items ≡ map (pair_at addresses.now words.now bytes.now) (filter (is_of part) reads.now)) }
+{
+    let mut found = Vec::new(alloc);
+    for i in 0..reads.len() {
+        list_read(&mut found, addresses, words, bytes, reads[i], part)?;
+    }
+    Ok(found)
+}
+
+/// The base reads of the head's part, if the question speaks of head states.
+fn reads_of_head(
+    alloc: Global,
+    c: &Celled,
+    words: &[u64],
+    bytes: &[u8],
+) -> Result<Vec<(u32, u8)>, AllocError>
+    requires places { (b : BaseRead) → Contains c.now.reads.items b → b.address < length c.now.addresses.items }
+    requires count { length c.now.addresses.items ≡ length bytes.now }
+    requires within { (j : ℕ) (d : Term) → j < length c.now.addresses.items → (slice_index_or c.now.addresses.items j d).0 < length words.now }
+    requires small { (j : ℕ) → j < length c.now.addresses.items → address_word c.now.addresses.items words.now j < 2 ^ 32 }
+    ensures { IfOk result (λ v. v.items ≡ (if questions.is_of_heads c.now.question.now
+        then map (pair_at c.now.addresses.items words.now bytes.now) (filter (is_of 1) c.now.reads.items) else [])) }
+{
+    if speaks_of_heads(c.question) {
+        let reads = reads_of_part(alloc, &c.reads, &c.addresses, words, bytes, 1)?;
+        return Ok(reads);
+    }
+    Ok(Vec::new(alloc))
+}
+
+/// The base reads that values give. The error is want of memory, which 2^32 addresses are.
+pub fn reads_of_values(
+    alloc: Global,
+    c: &Celled,
+    places: &InputPlaces,
+    values: &[bool],
+) -> Result<Reads, AllocError>
+    requires formed { AreFormed (frame_of_cells c.now) (heads_of_question c.now.question.now) (frame_cells_of c.now) }
+    requires placed { AreFramePlaces (frame_of_cells c.now) (heads_of_question c.now.question.now) (frame_cells_of c.now) places.now }
+    ensures { IfOk result (λ r. (x : TermReading) →
+        HasValues (frame_of_cells c.now) (heads_of_question c.now.question.now) (frame_cells_of c.now) (valuation values.now) x →
+        HaveReads (frame_cells_of c.now) (questions.is_of_heads c.now.question.now) x r) }
+{
+    let count = c.addresses.len();
+    if count > u32::MAX as usize {
+        return Err(AllocError);
+    }
+    let choices = choices_by_place(alloc, places, values)?;
+    let entry = part_inputs(
+        alloc,
+        places,
+        values,
+        0,
+        count,
+        choices,
+        Bytes32::new(alloc),
+    )?;
+    let head = part_inputs(
+        alloc,
+        places,
+        values,
+        1,
+        count,
+        Vec::new(alloc),
+        Bytes32::new(alloc),
+    )?;
+    let others = [head];
+    let parts = Parts {
+        first: &entry,
+        others: &others,
+    };
+    let words = c.dag.values_of_parts(alloc, &parts)?;
+    let of_entry = reads_of_part(alloc, &c.reads, &c.addresses, &words, &entry.base, 0)?;
+    let of_head = reads_of_head(alloc, c, &words, &others[0].base)?;
+    Ok(Reads {
+        entry: of_entry,
+        head: of_head,
+    })
+}
