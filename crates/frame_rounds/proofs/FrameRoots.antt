@@ -1,0 +1,85 @@
+-- The roots of an unrolled frame as a value, and their anchors.
+use Rattle.std.proofs.Common.{◌≡◌, refl, ap, sym, ◌∙◌, subst, arith, ℕ, zero, suc, ◌<◌, Bool, true, List, [], ◌∷◌, Option, Some, None, length}
+use Rattle.std.specs.Prelude.{◌&&◌, Contains, slice_index_or}
+use Rattle.std.specs.Global.{Vec}
+use Rattle.std.proofs.lemmas.List.{get_or_default, length-map}
+use Rattle.program_points.specs.declared.values.Root as listed
+use Rattle.program_points.specs.Listed.{anchor_of}
+use Rattle.program_points.specs.Tables.{stacks_of}
+use Rattle.frame_spec.specs.Frames.{Contract, Frame}
+use Rattle.frame_spec.specs.FramePoints.{Anchor, AtEntry, AtHead, IsAnchor, first_of, has_heads}
+use Rattle.frame_spec.specs.FrameWalk.{Gift, Root, StepsOver, no_root, root_at}
+use Rattle.frame_spec.specs.FrameWalk as walks
+use Rattle.frame_spec.specs.FrameUnrolling.{IsRootOf, IsUnrolling}
+use Rattle.frame_spec.proofs.OfSegments.{heads}
+use Rattle.frame_laws.proofs.FrameAnswers.{head_anchor}
+use Rattle.frame_terms.specs.FrameStarts.{IsWrittenAnchor}
+use Rattle.frame_terms.specs.PassiveFrames.{IsWalkable}
+use Rattle.bil_ast.specs.declared.statements.Stmt.{Stmt}
+use Rattle.question_form.specs.declared.unrolled.Deed.{Deed}
+use Rattle.question_form.specs.declared.unrolled.Deed.TheVariants.{Row, Arrival}
+use Rattle.question_form.specs.declared.unrolled.Point.{Point}
+use Rattle.question_form.specs.declared.unrolled.Unrolled.{Unrolled}
+use Rattle.question_form.specs.Forms.{AreRootsFormed}
+use Rattle.question_form.specs.FrameViews.{action_of, anchor_at, frame_unrolled_of, points_of, root_of}
+use Rattle.question_form.specs.Views.{code_of}
+use Rattle.unroller.specs.RootPoints.{BeginAtOwn, IsEntryFirst}
+use Rattle.frame_start.proofs.ChosenSteps.{root_anchor, root_inside}
+
+-- no point steps over a call
+steps_by : (deed : Deed) (list : Option (Vec Stmt)) (x : Gift) → action_of deed list ≡ StepsOver x → ⊥
+steps_by Row None x e = absurd (cc)
+steps_by Row (Some list) x e = absurd (cc)
+steps_by Arrival list x e = absurd (cc)
+
+pub no_step : (un : Unrolled) (qs : List Point) (i : ℕ) (x : Gift) → (slice_index_or (points_of un qs) i walks.no_point).does ≡ StepsOver x → ⊥
+no_step un [] i x e = absurd (cc)
+no_step un (q ∷ qs) zero x e = steps_by q.deed (code_of un q).list x e
+no_step un (q ∷ qs) (suc i) x e = no_step un qs i x e
+
+first_anchor : (entry : ℕ) (anchor : Anchor) → (first_of entry anchor).anchor ≡ anchor
+first_anchor entry AtEntry = refl
+first_anchor entry (AtHead stack a) = refl
+
+-- the first root is the entry's
+pub entry_anchor : (un : Unrolled) → IsEntryFirst un → anchor_at un 0 ≡ AtEntry
+entry_anchor un h = ap (λ (o : Option listed.Root). anchor_of (stacks_of un.frames.items) o) h.1
+
+module _ (un : Unrolled) (walkable : IsWalkable (frame_unrolled_of un)) (formed : AreRootsFormed un) (own : BeginAtOwn un) (f : Frame)
+    (contracts : List Contract) (k : ℕ) (unrolling : IsUnrolling f contracts k (frame_unrolled_of un)) where
+  -- the anchor that a root is of is that of its number
+  anchor_same : (n : ℕ) (anchor : Anchor) → n < length un.roots.items → IsRootOf f (frame_unrolled_of un) (root_at (frame_unrolled_of un) n) anchor →
+      anchor ≡ anchor_at un n
+  anchor_same n anchor l is =
+      sym (first_anchor f.program.entry anchor) ∙ ap (λ (z : _). z.anchor) (sym is.point) ∙ root_anchor un walkable formed own n l
+
+  -- a root of an anchor has a number
+  pub numbered : (root : Root) (anchor : Anchor) → Contains (frame_unrolled_of un).roots root → IsRootOf f (frame_unrolled_of un) root anchor →
+      (n : ℕ) × (n < length un.roots.items) × (root ≡ root_at (frame_unrolled_of un) n) × (anchor ≡ anchor_at un n)
+  numbered root anchor (n, l, e) is =
+      let inside : n < length un.roots.items = (let c = length-map un.roots.items (root_of un) in omega arith) in
+      let same : root_at (frame_unrolled_of un) n ≡ root = get_or_default (frame_unrolled_of un).roots n no_root root l ∙ e in
+      (n, inside, sym same, anchor_same n anchor inside (subst (λ (z : Root). IsRootOf f (frame_unrolled_of un) z anchor) (sym same) is))
+
+  -- the root of a number is that of its anchor
+  pub root_of_number : (n : ℕ) → n < length un.roots.items → IsAnchor f k (anchor_at un n) ×
+      IsRootOf f (frame_unrolled_of un) (root_at (frame_unrolled_of un) n) (anchor_at un n)
+  root_of_number n l =
+      let q = unrolling.roots (root_at (frame_unrolled_of un) n) (root_inside un walkable formed own n l) in
+      let same = anchor_same n q.0 l q.2 in (
+        subst (λ (z : Anchor). IsAnchor f k z) same q.1,
+        subst (λ (z : Anchor). IsRootOf f (frame_unrolled_of un) (root_at (frame_unrolled_of un) n) z) same q.2,
+      )
+
+  -- where a segment begins at a head there is one
+  pub head_there : (stack : List ℕ) (a n : ℕ) → n < length un.roots.items → AtHead stack a ≡ anchor_at un n → has_heads f ≡ true
+  head_there stack a n l e =
+      heads f a (head_anchor f k (first_of f.program.entry (AtHead stack a)) (subst (λ (z : Anchor). IsAnchor f k z) (sym e) (root_of_number n l).0))
+
+  pub head_written : (asks : Bool) → asks ≡ true → (stack : List ℕ) (a n : ℕ) → n < length un.roots.items → AtHead stack a ≡ anchor_at un n →
+      IsWrittenAnchor (has_heads f && asks) (anchor_at un n)
+  head_written asks is stack a n l e =
+      subst (λ (z : Anchor). IsWrittenAnchor (has_heads f && asks) z) e (both (has_heads f) asks (head_there stack a n l e) is)
+    where
+      both : (a b : Bool) → a ≡ true → b ≡ true → (a && b) ≡ true
+      both a b p q = ap (λ z. z && b) p ∙ q

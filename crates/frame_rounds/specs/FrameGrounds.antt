@@ -1,0 +1,84 @@
+-- What a question of a frame comes to.
+use Rattle.std.specs.Prelude.{ℕ, ◌≡◌, ◌≤◌, ◌<◌, ◌+◌, ◌^◌, true, ◌&&◌, List, [], length, map, slice_index_or}
+use Rattle.std.specs.Global.{Vec}
+use Rattle.word_spec.specs.Words.{word}
+use Rattle.machine_spec.specs.StateText.{Layout, IsWritten, last_step, start_of}
+use Rattle.bilv_spec.specs.Answers.{known_byte}
+use Rattle.bilv_spec.specs.PointLaws.{HasLawfulRows, ReadsMemory}
+use Rattle.bilv_spec.specs.Points.{is_known_at}
+use Rattle.bilv_spec.specs.Verdict.{IsEntryState}
+use Rattle.frame_spec.specs.Frames.{Contract, Frame, is_head}
+use Rattle.frame_spec.specs.FramePoints.{AtEntry, AtHead, has_heads}
+use Rattle.frame_spec.specs.FrameQuestions.{Question, EntryQuestion, FailQuestion, StepQuestion, TurnQuestion, asks_head}
+use Rattle.frame_spec.specs.FrameReports.{IsShown, Refutes, Shown, Spends, shown_start}
+use Rattle.frame_spec.specs.FrameRuns.{Start}
+use Rattle.frame_spec.specs.FrameUnrolling.{IsUnrolling}
+use Rattle.frame_spec.specs.FrameVerdict.{IsStart, RunFails, RunTurns, Whole}
+use Rattle.frame_laws.specs.RunOfFrame.{IsAmong}
+use Rattle.frame_terms.specs.FrameStarts.{IsWrittenAnchor, shown_of}
+use Rattle.cnf_form.specs.Views.{proof_of}
+use Rattle.start_value.specs.Starts.{layout_of, written_of}
+use Rattle.question_form.specs.declared.unrolled.Unrolled.{Unrolled}
+use Rattle.question_form.specs.FrameViews.{anchor_at, frame_unrolled_of}
+use Rattle.frame_rounds.specs.declared.answers.FrameAnswered.{FrameAnswered}
+use Rattle.frame_rounds.specs.declared.answers.FrameAnswered.TheVariants.{Sat, Refuted, Spent}
+use Rattle.frame_rounds.specs.declared.answers.Segments.{Segments}
+
+-- The unrolled frame is that of a frame that steps over no contract, over the form of its states, in which the steps of its points can be written. Heads are
+-- addresses that a state can be at.
+pub record IsFrameGround (f : Frame) (contracts : List Contract) (k : ℕ) (layout : Layout) (u : Unrolled) : Type 0 where
+  pub lawful : HasLawfulRows f.program
+  pub reads : ReadsMemory f.program
+  pub low : (a : ℕ) → is_head f a ≡ true → a < 2 ^ 32
+  pub among : IsAmong f contracts
+  pub alone : f.stepped ≡ []
+  pub unrolling : IsUnrolling f contracts k (frame_unrolled_of u)
+  pub heads : u.heads ≡ has_heads f
+  pub form : layout_of u.form ≡ layout
+  pub steps : length (frame_unrolled_of u).points ≤ last_step + 1
+
+-- the choices of the root of a number, by the steps of its segment
+abbrev pub choices_at : List (Vec (ℕ × ℕ)) → ℕ → List (ℕ × ℕ)
+choices_at lists i = slice_index_or (map (λ v. v.items) lists) i []
+
+-- what is shown of the segment of the root of a number
+abbrev pub shown_at : Unrolled → Segments → ℕ → Shown
+shown_at u s i = shown_of (written_of s.parts.entry) (written_of s.parts.head) (anchor_at u i) (choices_at s.choices.items i)
+
+-- What is shown can be written, and is a start whose run ends like this. It has no contract steps, so that no contract of the notes matters.
+abbrev pub ShowsStart : Frame → ℕ → Layout → (Frame → ℕ → Start → Type 0) → Shown → Type 0
+ShowsStart f k layout Ends s =
+    (w : Whole) → IsShown w f layout s × IsStart f k (shown_start w f layout s) × Ends f k (shown_start w f layout s)
+
+-- the segment of the root of a number begins at a head
+abbrev pub IsHeadRoot : Unrolled → ℕ → Type 0
+IsHeadRoot u i = (i < length u.roots.items) × ((stack : List ℕ) × (a : ℕ) × (anchor_at u i ≡ AtHead stack a))
+
+-- What is shown makes the question true: the entry is an entry state; the entry's segment, that of the first root, has an event; that of some root at a head has
+-- one; that of some root makes one backward transfer too many.
+abbrev pub ShowsQuestion : Frame → ℕ → Layout → Unrolled → Segments → Question → Type 0
+ShowsQuestion f k layout u s EntryQuestion =
+    IsWritten layout (is_known_at f.program) (written_of s.parts.entry)
+    × IsEntryState f.program (start_of layout f.program.entry (λ a. known_byte f.program (word 32 a)) (written_of s.parts.entry)).state
+ShowsQuestion f k layout u s FailQuestion = (anchor_at u 0 ≡ AtEntry) × ShowsStart f k layout RunFails (shown_at u s 0)
+ShowsQuestion f k layout u s StepQuestion = (i : ℕ) × IsHeadRoot u i × ShowsStart f k layout RunFails (shown_at u s i)
+ShowsQuestion f k layout u s TurnQuestion = (i : ℕ) × (i < length u.roots.items) × ShowsStart f k layout RunTurns (shown_at u s i)
+
+-- The segments are shown: each root that can be has its choices, and what is shown makes the question true.
+pub record AreSegments (f : Frame) (k : ℕ) (layout : Layout) (question : Question) (u : Unrolled) (s : Segments) : Type 0 where
+  pub count : length s.choices.items ≡ length u.roots.items
+  pub shown : (w : Whole) (i : ℕ) → i < length u.roots.items → IsWrittenAnchor (has_heads f && asks_head question) (anchor_at u i) →
+      IsShown w f layout (shown_at u s i)
+  pub shows : ShowsQuestion f k layout u s question
+
+-- A question is answered: by segments that show it; by a refutation; or by a log that spends the conflicts.
+abbrev pub IsFrameAnswered : Frame → ℕ → Layout → Question → Unrolled → (conflicts : ℕ) → FrameAnswered → Type 0
+IsFrameAnswered f k layout question u conflicts (Sat s) = AreSegments f k layout question u s
+IsFrameAnswered f k layout question u conflicts (Refuted proof) = Refutes f k question (proof_of proof)
+IsFrameAnswered f k layout question u conflicts (Spent proof) = Spends f k question conflicts (proof_of proof)
+
+-- it is the answer for every frame of which the unrolled frame is
+abbrev pub AnswersFrame : Unrolled → Question → (conflicts : ℕ) → FrameAnswered → Type 0
+AnswersFrame u question conflicts a =
+    (f : Frame) (contracts : List Contract) (k : ℕ) (layout : Layout) → IsFrameGround f contracts k layout u →
+    IsFrameAnswered f k layout question u conflicts a

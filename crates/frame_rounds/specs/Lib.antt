@@ -1,0 +1,2 @@
+pub mod FrameGrounds
+pub mod FrameRounds
