@@ -1,0 +1,8 @@
+pub mod StackTops
+pub mod HeadStates
+pub mod Wholes
+pub mod RefutedFrames
+pub mod SegmentRuns
+pub mod FrameReporting
+pub mod Trying
+pub mod Grounding
