@@ -1,12 +1,11 @@
 -- The endings of texts and the lines that begin a head part are read back.
-use Rattle.std.proofs.Common.{◌≡◌, ℕ, ◌+◌, ◌-◌, ◌^◌, ◌<◌, ◌≤◌, refl, ap, ◌∙◌, arith, Bool, true, List, [], ◌∷◌, ◌++◌, Option, Some, None}
-use Rattle.std.specs.Prelude.{◌&&◌, nat_lt, nat_le, codes}
-use Rattle.std.specs.List.{list_all}
+use Rattle.std.proofs.Common.{◌≡◌, ℕ, ◌-◌, ◌^◌, ◌<◌, ◌≤◌, refl, ap, ◌∙◌, arith, true, List, [], ◌∷◌, ◌++◌, Option, Some, None}
+use Rattle.std.specs.Prelude.{nat_lt, nat_le, codes}
 use Rattle.std.specs.Option.{option_map}
 use Rattle.std.proofs.lemmas.Bool.Decides.{nat_tests}
 use Rattle.word_spec.specs.Texts.{word_text, number_text, joined, words_in, decimal_word, hex_word, at_most}
 use Rattle.machine_spec.specs.Endings.{Event, AssertFails, FetchFails, NoRow, HalfwordFails, CodeWritten, Trapped, AlignFails, JumpFails, EnsureFails, FailsBy, UnknownBy, event_words, place_words}
-use Rattle.machine_spec.specs.StateText.{Layout, IsEvent, NamedLine, StateLine, last_step, place_of, value_names, place_in, register_line, line_of, line_of_words}
+use Rattle.machine_spec.specs.StateText.{Layout, IsEvent, NamedLine, last_step, place_of, value_names, place_in, register_line, line_of_words}
 use Rattle.machine_spec.proofs.Spelling.{Above, AllAbove, words_in_joined, joined_above, number_above, decimal_back, hex_back, hex_word_above}
 use Rattle.machine_spec.proofs.StateLines.{IsLayout, and_true, line_back, is_plain}
 use Rattle.frame_spec.specs.Frames.{FrameEvent, OfStep, InvariantFails, NeedsFails, WritesFails, GivesFails, ModifiesFails}
@@ -20,11 +19,11 @@ pub place_back : (at step : ℕ) → at < 2 ^ 32 → step ≤ last_step → plac
 place_back at step h k = rw (hex_back 8 at h, at_most_back last_step step k (omega arith)) refl
 
 -- the bytes of words
-plain_above : (w : List ℕ) → is_plain w ≡ true → Above 32 w
+pub plain_above : (w : List ℕ) → is_plain w ≡ true → Above 32 w
 plain_above [] e = tt
 plain_above (b ∷ w) e = let p = and_true (nat_lt 32 b) (is_plain w) e in (grind (arith, nat_tests, p.0), plain_above w p.1)
 
-place_above : (at step : ℕ) → step ≤ last_step → AllAbove 32 (place_words at step)
+pub place_above : (at step : ℕ) → step ≤ last_step → AllAbove 32 (place_words at step)
 place_above at step h = (plain_above (codes "at") refl, (hex_word_above 8 at, (plain_above (codes "step") refl, (number_above step (omega arith), tt))))
 
 numbered_above : (w : List ℕ) (m : ℕ) (rest : List (List ℕ)) → is_plain w ≡ true → m < 2 ^ 64 → AllAbove 32 rest → AllAbove 32 (w ∷ number_text m ∷ rest)
@@ -41,7 +40,7 @@ step_event_above AlignFails rest b above = (plain_above (codes "align") refl, ab
 step_event_above JumpFails rest b above = (plain_above (codes "jump") refl, above)
 step_event_above (EnsureFails m) rest b above = numbered_above (codes "ensure") m rest refl b above
 
-event_above : (e : FrameEvent) (rest : List (List ℕ)) → IsFrameEvent e → AllAbove 32 rest → AllAbove 32 (frame_event_words e ++ rest)
+pub event_above : (e : FrameEvent) (rest : List (List ℕ)) → IsFrameEvent e → AllAbove 32 rest → AllAbove 32 (frame_event_words e ++ rest)
 event_above (OfStep e) rest b above = step_event_above e rest b above
 event_above (InvariantFails m) rest b above = numbered_above (codes "invariant") m rest refl b above
 event_above (NeedsFails m) rest b above = numbered_above (codes "needs") m rest refl b above
@@ -66,7 +65,7 @@ ending_line_above (NotInductiveBy e at step) b =
     joined_above (codes "not") (codes "inductive" ∷ frame_event_words e ++ place_words at step) (ending_above (NotInductiveBy e at step) b)
 
 -- a register has one value
-no_register : (layout : Layout) (o : Option ℕ) (a b : List ℕ) (ws : List (List ℕ)) → register_line layout o (a ∷ b ∷ ws) ≡ None
+pub no_register : (layout : Layout) (o : Option ℕ) (a b : List ℕ) (ws : List (List ℕ)) → register_line layout o (a ∷ b ∷ ws) ≡ None
 no_register layout None a b ws = refl
 no_register layout (Some i) a b ws = refl
 

@@ -1,13 +1,13 @@
 -- A text without a head part says what it says without heads.
-use Rattle.std.proofs.Common.{◌≡◌, ℕ, suc, ◌+◌, refl, ap, sym, ◌∙◌, arith, Bool, true, false, List, [], ◌∷◌, ◌++◌, Option, Some, None, length, map}
+use Rattle.std.proofs.Common.{◌≡◌, ℕ, suc, ◌+◌, refl, ap, sym, ◌∙◌, arith, Bool, false, List, [], ◌∷◌, Option, Some, None, length, map}
 use Rattle.std.specs.Prelude.{◌&&◌, ◌||◌, not, nat_lt, nat_le, ◌==◌}
 use Rattle.std.specs.List.{list_any, list_all}
 use Rattle.std.specs.Option.{option_map}
 use Rattle.std.proofs.lemmas.Bool.Decides.{nat_tests}
 use Rattle.word_spec.specs.Texts.{words_in, split_lines}
 use Rattle.machine_spec.specs.Endings.{NamedEnding}
-use Rattle.machine_spec.specs.StateText.{Layout, StateText, StateLine, NamedLine, MachineLine, RegisterLine, ByteLine, ChoiceLine, EndLine, StateFault, StateLineFault, StateRegisterFault, StateByteFault, StateChoiceFault, StateEndFault, is_byte_below, is_choice_below, is_end_line, is_behind_bytes, lines_of_head, missed, unless, or_else, line_refusal, end_refusal, refused_or, first_refused, written_in, Told, StateIs, StateRefused, told_by, told_of, line_of, state_of}
-use Rattle.frame_texts_spec.specs.FrameTexts.{Checks, FramedText, FramedEnding, framed, named_in, first_of, new_ending, ending_of, mark_of, Part, part_from, part_of, some_ending, entry_part, plain_told, told_behind, framed_told, FramedTold, FramedIs, FramedRefused, OfPart, framed_of}
+use Rattle.machine_spec.specs.StateText.{Layout, StateLine, NamedLine, MachineLine, RegisterLine, ByteLine, ChoiceLine, EndLine, StateFault, StateLineFault, StateRegisterFault, StateByteFault, StateChoiceFault, StateEndFault, is_byte_below, is_choice_below, is_end_line, is_behind_bytes, lines_of_head, missed, unless, or_else, line_refusal, end_refusal, refused_or, first_refused, Told, StateIs, StateRefused, told_by, told_of, line_of, state_of}
+use Rattle.frame_texts_spec.specs.FrameTexts.{Checks, FramedEnding, framed, named_in, first_of, new_ending, ending_of, part_from, part_of, some_ending, entry_part, plain_told, told_behind, framed_told, framed_of}
 use Rattle.frame_texts_spec.specs.FrameTextLaws.{without_head, IsPlainFirst, HasNoMark, HasNoHeadPart, HeadlessIsStateText}
 
 -- lines that a later line does not tell apart

@@ -1,7 +1,6 @@
 -- Each text is told once.
-use Rattle.std.proofs.Common.{◌≡◌, ℕ, refl, ap, sym, ◌∙◌, List, ◌⊎◌, inl, inr}
-use Rattle.machine_spec.specs.StateText.{Layout}
-use Rattle.frame_texts_spec.specs.FrameTexts.{FramedText, FrameFault, FramedTold, FramedIs, FramedRefused, Checks, framed_of}
+use Rattle.std.proofs.Common.{◌≡◌, ℕ, refl, sym, ◌∙◌, ◌⊎◌, inl, inr}
+use Rattle.frame_texts_spec.specs.FrameTexts.{FramedText, FrameFault, FramedTold, FramedIs, FramedRefused, framed_of}
 use Rattle.frame_texts_spec.specs.FrameTextLaws.{IsToldOnce, OneReading}
 
 either_told : (told : FramedTold) → ((t : FramedText) × (told ≡ FramedIs t)) ⊎ ((n : ℕ) × (f : FrameFault) × (told ≡ FramedRefused n f))

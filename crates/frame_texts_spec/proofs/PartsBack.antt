@@ -1,5 +1,5 @@
 -- A printed text is read back as the same state, part by part.
-use Rattle.std.proofs.Common.{◌≡◌, ℕ, suc, ◌+◌, ◌^◌, ◌<◌, ◌≤◌, refl, ap, sym, ◌∙◌, subst, arith, Bool, true, false, List, [], ◌∷◌, ◌++◌, Option, Some, None, length, map, get_or, drop, append_assoc}
+use Rattle.std.proofs.Common.{◌≡◌, ℕ, suc, ◌+◌, ◌^◌, ◌<◌, ◌≤◌, refl, ap, sym, ◌∙◌, subst, arith, Bool, true, false, List, [], ◌∷◌, ◌++◌, Option, Some, None, length, map, append_assoc}
 use Rattle.std.specs.Prelude.{All, ◌==◌, ◌&&◌, codes, if◌then◌else◌}
 use Rattle.std.proofs.lemmas.Bool.Decides.{nat_tests}
 use Rattle.std.proofs.lemmas.List.{map-append}
@@ -8,32 +8,32 @@ use Rattle.word_spec.specs.State.{Written}
 use Rattle.word_spec.specs.Memory.{Endian, Little, Big}
 use Rattle.word_spec.specs.Profiles.{Profile, V4, V4T, V5}
 use Rattle.word_spec.specs.Texts.{in_front, joined, line, lines, split_lines, words_in}
-use Rattle.machine_spec.specs.Endings.{NamedEnding, named_words}
-use Rattle.machine_spec.specs.StateText.{Layout, StateText, StateLine, NamedLine, MachineLine, ByteLine, ChoiceLine, EndLine, StateFault, IsWritten, rv_layout, arm_layout, words_of_line, register_lines, flag_bits, lines_behind, state_lines, printed, line_of, line_refusal, refused_or, first_refused, Told, StateIs, StateRefused, told_by, told_of, state_of}
+use Rattle.machine_spec.specs.Endings.{named_words}
+use Rattle.machine_spec.specs.StateText.{Layout, StateText, StateLine, NamedLine, MachineLine, ByteLine, ChoiceLine, EndLine, StateFault, IsWritten, rv_layout, arm_layout, words_of_line, register_lines, flag_bits, lines_behind, state_lines, printed, line_of, line_refusal, refused_or, first_refused, StateIs, StateRefused, told_by, told_of, state_of}
 use Rattle.machine_spec.proofs.Spelling.{Above}
 use Rattle.machine_spec.proofs.StateLines.{IsLayout, line_back, rv_is_layout, arm_is_layout}
 use Rattle.machine_spec.proofs.StateBack.{printed_back}
 use Rattle.machine_spec.proofs.StateRead.{told_is_printed}
 use Rattle.frame_spec.specs.FrameReports.{WrittenHead}
-use Rattle.frame_texts_spec.specs.FrameTexts.{FramedText, FramedEnding, ending_words, head_line, stack_line, content_lines, last_lines, line_texts, lines_of_parts, framed_lines, framed_printed, Checks, IsWrittenHead, IsHeadPart, IsFramed, is_none, FramedRefused, HeadFault, ending_of, Mark, HeadMark, StackMark, mark_of, mark_unless, mark_in, Part, part_from, part_of, Stack, stack_from, stack_of, some_ending, entry_part, head_part, closed, bad_return, head_told, told_registers, told_stack, told_head, told_mark, plain_told, told_parts, told_behind, framed_told, FramedTold, FramedIs, framed_of}
-use Rattle.frame_texts_spec.specs.FrameTextLaws.{HasNoMark, IsReadBackIn, PrintedIsReadBack}
+use Rattle.frame_texts_spec.specs.FrameTexts.{FramedText, FramedEnding, ending_words, head_line, stack_line, content_lines, last_lines, line_texts, lines_of_parts, framed_lines, framed_printed, Checks, IsWrittenHead, IsHeadPart, IsFramed, is_none, FramedRefused, HeadFault, Mark, HeadMark, StackMark, mark_of, mark_unless, mark_in, Part, part_from, part_of, stack_from, stack_of, some_ending, entry_part, head_part, closed, bad_return, head_told, told_registers, told_stack, told_head, told_mark, plain_told, told_behind, framed_told, FramedIs, framed_of}
+use Rattle.frame_texts_spec.specs.FrameTextLaws.{HasNoMark, PrintedIsReadBack}
 use Rattle.frame_texts_spec.proofs.EndingsBack.{ending_back, ending_line_above, HasMarks, head_above, stack_above, head_back, stack_back}
 use Rattle.frame_texts_spec.proofs.Headless.{whole_part}
 
 -- a line has no line feed
-abbrev NoFeed : List ℕ → Type 0
+abbrev pub NoFeed : List ℕ → Type 0
 NoFeed [] = Unit {0}
 NoFeed (b ∷ w) = ((b == 10) ≡ false) × NoFeed w
 
-abbrev AllNoFeed : List (List ℕ) → Type 0
+abbrev pub AllNoFeed : List (List ℕ) → Type 0
 AllNoFeed [] = Unit {0}
 AllNoFeed (l ∷ ls) = NoFeed l × AllNoFeed ls
 
-no_feed : (w : List ℕ) → Above 31 w → NoFeed w
+pub no_feed : (w : List ℕ) → Above 31 w → NoFeed w
 no_feed [] p = tt
 no_feed (b ∷ w) p = (grind (arith, nat_tests, p.0), no_feed w p.1)
 
-split_no_feed : (text : List ℕ) → AllNoFeed (split_lines text)
+pub split_no_feed : (text : List ℕ) → AllNoFeed (split_lines text)
 split_no_feed [] = tt
 split_no_feed (b ∷ rest) = by_test (b == 10) refl (split_lines rest) (split_no_feed rest)
   where
@@ -46,20 +46,20 @@ line_split : (l rest : List ℕ) → NoFeed l → split_lines (line l ++ rest) �
 line_split [] rest p = refl
 line_split (b ∷ l) rest p = rw (p.0, line_split l rest p.1) refl
 
-lines_split : (ls : List (List ℕ)) → AllNoFeed ls → split_lines (lines ls) ≡ ls
+pub lines_split : (ls : List (List ℕ)) → AllNoFeed ls → split_lines (lines ls) ≡ ls
 lines_split [] p = refl
 lines_split (l ∷ ls) p = line_split l (lines ls) p.0 ∙ ap (λ x. l ∷ x) (lines_split ls p.1)
 
-feeds-append : (ls ms : List (List ℕ)) → AllNoFeed ls → AllNoFeed ms → AllNoFeed (ls ++ ms)
+pub feeds-append : (ls ms : List (List ℕ)) → AllNoFeed ls → AllNoFeed ms → AllNoFeed (ls ++ ms)
 feeds-append [] ms p q = q
 feeds-append (l ∷ ls) ms p q = (p.0, feeds-append ls ms p.1 q)
 
-feeds_before : (ls ms : List (List ℕ)) → AllNoFeed (ls ++ ms) → AllNoFeed ls
+pub feeds_before : (ls ms : List (List ℕ)) → AllNoFeed (ls ++ ms) → AllNoFeed ls
 feeds_before [] ms p = tt
 feeds_before (l ∷ ls) ms p = (p.0, feeds_before ls ms p.1)
 
 -- lines of a state that is told are all of the grammar
-abbrev AllSaid : List (Option StateLine) → Type 0
+abbrev pub AllSaid : List (Option StateLine) → Type 0
 AllSaid [] = Unit {0}
 AllSaid (None ∷ ls) = ⊥
 AllSaid (Some l ∷ ls) = AllSaid ls
@@ -76,7 +76,7 @@ all_said layout known (Some l ∷ ls) before e =
     all_said layout known ls (l ∷ before)
     (not_refused (length before + 1) (line_refusal layout known before l) (first_refused layout known (l ∷ before) ls) e)
 
-told_said : (layout : Layout) (known : ℕ → Bool) (ls : List (Option StateLine)) (t : StateText) → told_of layout known ls ≡ StateIs t → AllSaid ls
+pub told_said : (layout : Layout) (known : ℕ → Bool) (ls : List (Option StateLine)) (t : StateText) → told_of layout known ls ≡ StateIs t → AllSaid ls
 told_said layout known ls t e = by_refusal (first_refused layout known [] ls) refl e
   where
     by_refusal : (r : Option (ℕ × StateFault)) → first_refused layout known [] ls ≡ r → told_by layout r ls ≡ StateIs t → AllSaid ls
@@ -196,7 +196,7 @@ module _ (layout : Layout) (good : IsLayout layout) (known : ℕ → Bool) (w : 
     last_is : last_lines w ≡ EndLine ∷ []
     last_is = ap (λ cs. map (λ c. ChoiceLine c.0 c.1) cs ++ EndLine ∷ []) none
 
-    content_is : line_texts layout (lines_behind layout w) ≡ content ++ codes "end" ∷ []
+    pub content_is : line_texts layout (lines_behind layout w) ≡ content ++ codes "end" ∷ []
     content_is =
         texts_are ∙ ap (λ x. machine ∷ line_texts layout (content_lines layout w ++ x)) last_is
         ∙ ap (λ x. machine ∷ x) (map-append (λ l. joined (words_of_line layout l)) (content_lines layout w) (EndLine ∷ []))
@@ -213,7 +213,7 @@ module _ (layout : Layout) (good : IsLayout layout) (known : ℕ → Bool) (w : 
     content_marks = marks_before layout content (codes "end" ∷ []) (subst (HasNoMark layout) content_is start_marks)
 
 module _ (layout : Layout) (good : IsLayout layout) (marks : HasMarks layout) (c : Checks) where
-  parts_feeds : (w : Written) → IsWritten layout c.known w → (h : Option WrittenHead) → IsHeadPart layout c w h → AllNoFeed (lines_of_parts layout w h)
+  pub parts_feeds : (w : Written) → IsWritten layout c.known w → (h : Option WrittenHead) → IsHeadPart layout c w h → AllNoFeed (lines_of_parts layout w h)
   parts_feeds w written None part = start_feeds layout good c.known w written
   parts_feeds w written (Some h) part =
       feeds-append (line_texts layout (MachineLine ∷ content_lines layout w))
@@ -236,7 +236,7 @@ module _ (layout : Layout) (good : IsLayout layout) (marks : HasMarks layout) (c
       ∙ ap (λ (p : Part). told_registers layout c n w h.at h.stack (line + length h.stack) p.lines p.behind) (whole_part layout rest free)
       ∙ ap (head_told n w h.at h.stack (line + length h.stack)) (head_start_told layout good c.kept h.start part.start)
 
-  parts_back : (n : FramedEnding) (w : Written) → IsWritten layout c.known w → (h : Option WrittenHead) → IsHeadPart layout c w h →
+  pub parts_back : (n : FramedEnding) (w : Written) → IsWritten layout c.known w → (h : Option WrittenHead) → IsHeadPart layout c w h →
       told_behind layout c (Some n) (part_of layout (lines_of_parts layout w h)) ≡ FramedIs (record { named = n; start = w; head = h })
   parts_back n w written None part =
       ap (told_behind layout c (Some n))
@@ -263,12 +263,12 @@ module _ (layout : Layout) (good : IsLayout layout) (marks : HasMarks layout) (c
       ∙ ap (λ n. told_behind layout c n (part_of layout (lines_of_parts layout t.start t.head))) (ending_back layout good t.named p.named)
       ∙ parts_back t.named t.start p.start t.head p.head
 
-rv_marks : (compressed : Bool) → HasMarks (rv_layout compressed)
+pub rv_marks : (compressed : Bool) → HasMarks (rv_layout compressed)
 unfolding digits
 rv_marks true = record { no_head = refl; no_stack = refl }
 rv_marks false = record { no_head = refl; no_stack = refl }
 
-arm_marks : (e : Endian) (profile : Profile) → HasMarks (arm_layout e profile)
+pub arm_marks : (e : Endian) (profile : Profile) → HasMarks (arm_layout e profile)
 unfolding digits
 arm_marks Little V4 = record { no_head = refl; no_stack = refl }
 arm_marks Little V4T = record { no_head = refl; no_stack = refl }

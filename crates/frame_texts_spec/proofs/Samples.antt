@@ -7,7 +7,7 @@ use Rattle.word_spec.specs.Memory.{Big}
 use Rattle.word_spec.specs.Profiles.{V4}
 use Rattle.machine_spec.specs.StateText.{Layout, arm_layout, StateRegisterFault, StateByteFault, StateEndFault, StateLineFault}
 use Rattle.frame_spec.specs.Frames.{InvariantFails}
-use Rattle.frame_texts_spec.specs.FrameTexts.{FramedText, NotInductiveBy, FramedTurns, head_line, stack_line, framed_lines, Checks, no_checks, OfPart, HeadFault, FramedTold, FramedIs, FramedRefused, framed_told}
+use Rattle.frame_texts_spec.specs.FrameTexts.{FramedText, NotInductiveBy, FramedTurns, head_line, framed_lines, no_checks, OfPart, HeadFault, FramedTold, FramedIs, FramedRefused, framed_told}
 
 abbrev layout : Layout
 layout = arm_layout Big V4

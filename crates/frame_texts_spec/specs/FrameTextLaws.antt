@@ -1,10 +1,10 @@
 -- What is claimed of texts with head parts.
-use Rattle.std.specs.Prelude.{ℕ, ◌≡◌, Bool, ◌⊎◌, List, [], ◌∷◌, Option, Some, None, map}
+use Rattle.std.specs.Prelude.{ℕ, ◌≡◌, Bool, ◌⊎◌, List, [], ◌∷◌, None}
 use Rattle.word_spec.specs.Texts.{words_in, split_lines}
 use Rattle.machine_spec.specs.StateText.{Layout, rv_layout, arm_layout, Told, StateIs, StateRefused, state_of}
 use Rattle.word_spec.specs.Memory.{Endian}
 use Rattle.word_spec.specs.Profiles.{Profile}
-use Rattle.frame_texts_spec.specs.FrameTexts.{Checks, FramedText, IsFramed, framed, framed_printed, new_ending, mark_of, FrameFault, OfPart, FramedTold, FramedIs, FramedRefused, framed_of}
+use Rattle.frame_texts_spec.specs.FrameTexts.{Checks, FramedText, IsFramed, framed, framed_lines, framed_printed, new_ending, mark_of, FrameFault, OfPart, FramedTold, FramedIs, FramedRefused, framed_of}
 
 -- what a text of a run of the tables says, among texts that may have a head part
 abbrev pub without_head : Told → FramedTold
@@ -37,6 +37,11 @@ IsReadBackIn layout = (c : Checks) (t : FramedText) → IsFramed layout c t → 
 -- so in the layouts of all machines
 abbrev pub PrintedIsReadBack : Type 0
 PrintedIsReadBack = ((compressed : Bool) → IsReadBackIn (rv_layout compressed)) × ((e : Endian) (profile : Profile) → IsReadBackIn (arm_layout e profile))
+
+-- What a text says can be written, and its lines are those that are printed of it.
+abbrev pub ToldIsFramed : Type 0
+ToldIsFramed = (layout : Layout) (c : Checks) (text : List ℕ) (t : FramedText) → framed_of layout c text ≡ FramedIs t →
+    IsFramed layout c t × (split_lines text ≡ framed_lines layout t)
 
 -- Each text says one state, or is refused at one line with one fault, and never both.
 abbrev pub IsToldOnce : FramedTold → Type 0

@@ -6,8 +6,8 @@ use Rattle.std.specs.Option.{option_map}
 use Rattle.std.specs.Str.{bytes_eq}
 use Rattle.word_spec.specs.Texts.{word_text, number_text, lines, joined, words_in, split_lines, decimal_word, hex_word, at_most}
 use Rattle.word_spec.specs.State.{Written}
-use Rattle.machine_spec.specs.Endings.{Event, NamedEnding, FailsBy, UnknownBy, event_words, place_words}
-use Rattle.machine_spec.specs.StateText.{Layout, IsWritten, IsEvent, last_step, StateLine, NamedLine, MachineLine, ByteLine, ChoiceLine, EndLine, words_of_line, register_lines, flag_bits, lines_behind, value_names, lines_of_head, place_of, event_of_word, event_of_line, line_of, StateFault, StateLineFault, StateRegisterFault, StateByteFault, Told, StateIs, StateRefused, told_of}
+use Rattle.machine_spec.specs.Endings.{NamedEnding, FailsBy, UnknownBy, event_words, place_words}
+use Rattle.machine_spec.specs.StateText.{Layout, IsWritten, IsEvent, last_step, StateLine, NamedLine, MachineLine, ByteLine, ChoiceLine, EndLine, words_of_line, register_lines, flag_bits, lines_behind, place_of, event_of_word, event_of_line, line_of, StateFault, StateLineFault, StateRegisterFault, Told, StateIs, StateRefused, told_of}
 use Rattle.frame_spec.specs.Frames.{FrameEvent, OfStep, InvariantFails, NeedsFails, WritesFails, GivesFails, ModifiesFails}
 use Rattle.frame_spec.specs.FrameReports.{WrittenHead, Shown, ByEvent, ByTurn, Report, NamedReport, NotInductiveReport}
 

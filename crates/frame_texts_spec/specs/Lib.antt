@@ -1,2 +1,6 @@
 pub mod FrameTexts
 pub mod FrameTextLaws
+pub mod FrameReplays
+pub mod CallTexts
+pub mod CallReplays
+pub mod CallTextLaws
