@@ -4,6 +4,7 @@ use Rattle.word_spec.specs.Texts.{joined, lines}
 use Rattle.machine_spec.specs.Endings as run
 use Rattle.machine_spec.specs.StateText as texts
 use Rattle.frame_spec.specs.Frames as frames
+use Rattle.frame_spec.specs.FrameReports.{WrittenHead}
 use Rattle.start_value.specs.Starts.{written_of}
 use Rattle.state_text.specs.declared.start.Event.{Event}
 use Rattle.state_text.specs.declared.start.Event.TheVariants.{AssertFails, FetchFails, NoRow, HalfwordFails, CodeWritten, Trapped, AlignFails, JumpFails, EnsureFails}
@@ -11,6 +12,7 @@ use Rattle.state_text.specs.declared.start.FrameEvent.{FrameEvent}
 use Rattle.state_text.specs.declared.start.FrameEvent.TheVariants.{OfStep, InvariantFails}
 use Rattle.state_text.specs.declared.start.NamedEnding.{NamedEnding}
 use Rattle.state_text.specs.declared.start.NamedEnding.TheVariants.{FailsBy, UnknownBy}
+use Rattle.state_text.specs.declared.start.HeadStart.{HeadStart}
 use Rattle.state_text.specs.declared.start.StateText.{StateText}
 
 -- the event
@@ -38,6 +40,10 @@ named_of (UnknownBy k at step) = run.UnknownBy k at step
 -- the start with its ending
 abbrev pub text_of : StateText → texts.StateText
 text_of t = record { named = named_of t.named; start = written_of t.start }
+
+-- a head state with its choices, as it is written
+abbrev pub written_head_of : HeadStart → WrittenHead
+written_head_of h = record { at = h.at; stack = h.stack.items; start = written_of h.start }
 
 -- the text of a line, without its line feed
 abbrev pub line_text : texts.Layout → texts.StateLine → List ℕ

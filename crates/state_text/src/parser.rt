@@ -18,7 +18,11 @@ use start_value::Layout;
 use std::alloc::{AllocError, Global};
 
 /// The ending that a first line says; any other line is a line fault there.
-fn first_named(
+///
+/// # Errors
+///
+/// Where memory runs out.
+pub fn first_named(
     alloc: Global,
     layout: Layout,
     text: &[u8],

@@ -66,8 +66,8 @@ pub fn push_number(alloc: Global, out: &mut Vec<u8>, n: u64) -> Result<(), Alloc
     Ok(())
 }
 
-/// Appends the words of an event, and what its first word is.
-fn push_event(alloc: Global, out: &mut Vec<u8>, event: Event) -> Result<(), AllocError>
+/// Appends the words of an event. What an `Err` leaves is open.
+pub fn push_event(alloc: Global, out: &mut Vec<u8>, event: Event) -> Result<(), AllocError>
     ensures { OnOk result (out.new.items ≡ out.old.items ++ joined (event_words (event_of event))) }
 {
     match event {
@@ -133,8 +133,8 @@ fn push_named(alloc: Global, out: &mut Vec<u8>, named: NamedEnding) -> Result<()
     Ok(())
 }
 
-/// Appends the line of the machine.
-fn push_machine(out: &mut Vec<u8>, layout: Layout) -> Result<(), AllocError>
+/// Appends the line of the machine. What an `Err` leaves is open.
+pub fn push_machine(out: &mut Vec<u8>, layout: Layout) -> Result<(), AllocError>
     ensures { OnOk result (out.new.items ≡ out.old.items ++ line (line_text (layout_of layout) MachineLine)) }
 {
     push_text(out, b"state ")?;
@@ -203,8 +203,8 @@ fn push_choice_line(
     Ok(())
 }
 
-/// Appends the lines of registers in order.
-fn push_registers(
+/// Appends the lines of registers in order. What an `Err` leaves is open.
+pub fn push_registers(
     alloc: Global,
     out: &mut Vec<u8>,
     layout: Layout,
@@ -218,8 +218,8 @@ fn push_registers(
     Ok(())
 }
 
-/// Appends the lines of the `count` lowest flags, the highest first, from a place on.
-fn push_flags(
+/// Appends the lines of the `count` lowest flags, the highest first, from a place on. What an `Err` leaves is open.
+pub fn push_flags(
     alloc: Global,
     out: &mut Vec<u8>,
     layout: Layout,
@@ -245,8 +245,8 @@ fn push_flags(
     Ok(())
 }
 
-/// Appends the lines of bytes.
-fn push_bytes(out: &mut Vec<u8>, bytes: &[(u32, u8)]) -> Result<(), AllocError>
+/// Appends the lines of bytes. What an `Err` leaves is open.
+pub fn push_bytes(out: &mut Vec<u8>, bytes: &[(u32, u8)]) -> Result<(), AllocError>
     ensures { (layout : texts.Layout) → OnOk result (out.new.items ≡ out.old.items ++ lines_text layout (map (λ b. ByteLine b.0 b.1) bytes.now)) }
 {
     for (at, v) in bytes {
@@ -255,8 +255,12 @@ fn push_bytes(out: &mut Vec<u8>, bytes: &[(u32, u8)]) -> Result<(), AllocError>
     Ok(())
 }
 
-/// Appends the lines of choices.
-fn push_choices(alloc: Global, out: &mut Vec<u8>, choices: &[(u64, u8)]) -> Result<(), AllocError>
+/// Appends the lines of choices. What an `Err` leaves is open.
+pub fn push_choices(
+    alloc: Global,
+    out: &mut Vec<u8>,
+    choices: &[(u64, u8)],
+) -> Result<(), AllocError>
     ensures { (layout : texts.Layout) → OnOk result (out.new.items ≡ out.old.items ++ lines_text layout (map (λ c. ChoiceLine c.0 c.1) choices.now)) }
 {
     for (step, choice) in choices {

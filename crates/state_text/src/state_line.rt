@@ -26,14 +26,14 @@ pub(crate) enum StateLine {
 }
 
 /// Whether a word is this text.
-fn is_word(word: &[u8], text: &[u8]) -> bool
+pub fn is_word(word: &[u8], text: &[u8]) -> bool
     ensures { result ≡ bytes_eq word.now text.now }
 {
     word == text
 }
 
 /// The address and the number of a step that four words say.
-pub(crate) fn place_of(at: &[u8], address: &[u8], step: &[u8], number: &[u8]) -> Option<(u32, u64)>
+pub fn place_of(at: &[u8], address: &[u8], step: &[u8], number: &[u8]) -> Option<(u32, u64)>
     ensures { result ≡ place_of at.now address.now step.now number.now }
 {
     if !is_word(at, b"at") || !is_word(step, b"step") {
@@ -45,7 +45,7 @@ pub(crate) fn place_of(at: &[u8], address: &[u8], step: &[u8], number: &[u8]) ->
 }
 
 /// The event of one word.
-pub(crate) fn event_of_word(word: &[u8]) -> Option<Event>
+pub fn event_of_word(word: &[u8]) -> Option<Event>
     ensures { option_map event_of result ≡ event_of_word word.now }
 {
     if is_word(word, b"fetch") {
@@ -73,7 +73,7 @@ pub(crate) fn event_of_word(word: &[u8]) -> Option<Event>
 }
 
 /// The event of a line of notes.
-pub(crate) fn event_of_line(word: &[u8], number: &[u8]) -> Option<Event>
+pub fn event_of_line(word: &[u8], number: &[u8]) -> Option<Event>
     ensures { option_map event_of result ≡ event_of_line word.now (at_most 18446744073709551615 (decimal_word number.now)) }
 {
     let line = decimal_at_most(u64::MAX, number)?;

@@ -13,8 +13,6 @@ use Rattle.frame_spec.specs.FrameRuns.{FrameStep, Start}
 use Rattle.frame_spec.specs.FrameVerdict.{Whole, entry_frame}
 use Rattle.frame_spec.specs.FrameReports.{WrittenHead, shown_start}
 use Rattle.frame_spec.specs.FrameFound.{Found, FoundExit, FoundEvent, FoundTurn, FoundCut, FoundBreak, FoundLeft}
-use Rattle.start_value.specs.Starts.{written_of}
-use Rattle.state_text.specs.declared.start.HeadStart.{HeadStart}
 use Rattle.state_text.specs.Starts.{frame_event_of}
 use Rattle.table_run.specs.declared.ending.FrameEnding.{FrameEnding}
 use Rattle.table_run.specs.declared.ending.FrameEnding.TheVariants as ending
@@ -75,10 +73,6 @@ start_by entry choices head given = record { state = entry; head = head; choices
 -- the segment from an entry state with choices, and from a place if there is one, begins at a place that is no head's arrival
 abbrev pub Begins : Frame → State → Option Place → Place → Type 0
 Begins f entry head c = runs.begins f entry head ≡ runs.Going 0 0 c
-
--- a head state with its choices, as it is written
-abbrev pub written_head_of : HeadStart → WrittenHead
-written_head_of h = record { at = h.at; stack = h.stack.items; start = written_of h.start }
 
 -- a state has the bytes of the file that are kept
 abbrev pub HasKept : Program → State → Type 0

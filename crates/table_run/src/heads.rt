@@ -12,7 +12,8 @@ ghost use Rattle.frame_spec.specs.FrameVerdict.{IsHeadState};
 ghost use Rattle.start_value.specs.Starts.{written_of};
 ghost use Rattle.notes_value.specs.NoteViews.{notes_of};
 ghost use Rattle.notes_value.specs.Reads.{AreReadable};
-ghost use Rattle.table_run.specs.FrameEnds.{frame_of, HasKept, written_head_of};
+ghost use Rattle.state_text.specs.Starts.{written_head_of};
+ghost use Rattle.table_run.specs.FrameEnds.{frame_of, HasKept};
 
 use crate::lines::false_invariant;
 use crate::memory::memory_given;

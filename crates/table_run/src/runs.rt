@@ -17,8 +17,9 @@ ghost use Rattle.notes_value.specs.NoteViews.{notes_of};
 ghost use Rattle.notes_value.specs.Reads.{AreReadable};
 ghost use Rattle.table_run.specs.Programs.{program_of};
 ghost use Rattle.table_run.specs.Endings.{found_of};
+ghost use Rattle.state_text.specs.Starts.{written_head_of};
 ghost use Rattle.table_run.specs.FrameEnds as ends;
-ghost use Rattle.table_run.specs.FrameEnds.{Begins, IsOfTables, frame_found_of, frame_of, start_by, start_shown, written_head_of};
+ghost use Rattle.table_run.specs.FrameEnds.{Begins, IsOfTables, frame_found_of, frame_of, start_by, start_shown};
 ghost use Rattle.notes_index.specs.Indexed.{AreIndexed};
 
 use crate::choices::choice_at;

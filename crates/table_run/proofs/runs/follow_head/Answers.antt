@@ -6,7 +6,8 @@ use Rattle.frame_spec.specs.FrameFound.{found_within}
 use Rattle.frame_spec.specs.FrameReports.{head_place}
 use Rattle.notes_value.specs.NoteViews.{notes_of}
 use Rattle.table_run.specs.Programs.{program_of}
-use Rattle.table_run.specs.FrameEnds.{frame_found_of, frame_of, start_by, written_head_of}
+use Rattle.state_text.specs.Starts.{written_head_of}
+use Rattle.table_run.specs.FrameEnds.{frame_found_of, frame_of, start_by}
 use Rattle.table_run.proofs.FrameStarts.{head_begins}
 use Rattle.table_run.proofs.runs.follow_head.Goals as goal
 

@@ -5,7 +5,8 @@ use Rattle.bilv_spec.specs.Run.{Program}
 use Rattle.frame_spec.specs.FrameReports.{WrittenHead, head_place}
 use Rattle.start_value.specs.Starts.{written_of}
 use Rattle.notes_value.specs.NoteViews.{notes_of}
-use Rattle.table_run.specs.FrameEnds.{frame_found_of, frame_of, start_by, start_shown, written_head_of}
+use Rattle.state_text.specs.Starts.{written_head_of}
+use Rattle.table_run.specs.FrameEnds.{frame_found_of, frame_of, start_by, start_shown}
 use Rattle.table_run.proofs.FrameStarts.{found_same, gifts_shown, shown_entry, shown_head}
 use Rattle.table_run.proofs.runs.run_frame.Goals as goal
 

@@ -1,0 +1,8 @@
+use Rattle.frame_text.proofs.FirstLines.{few_words, many_words}
+use Rattle.frame_text.proofs.ending.event_at.Goals as goal
+
+pub returns-in_default : goal.returns-in_default
+returns-in_default c = few_words c.args.any c.args.words.now c.in_default.len_below
+
+pub returns-in_default-2 : goal.returns-in_default-2
+returns-in_default-2 c = many_words c.args.any c.args.words.now c.in_default.len_at_least
