@@ -7,6 +7,6 @@ mod replays;
 mod running;
 mod texts;
 
-pub use reading::{Reading, read_text};
+pub use reading::{Reading, known_line, read_text};
 pub use replays::{REPORT_LIMIT, replay};
-pub use texts::{Replay, push_found, refused, too_large};
+pub use texts::{Replay, false_require, push_found, refused, too_large, unaligned};

@@ -50,7 +50,7 @@ fn alike_at(image: &Image, notes: &Notes, seen: Alike, at: u32) -> Alike
 }
 
 /// The number of the first line of a byte that the file gives, for bytes on lines that follow each other from a number on.
-fn known_line(image: &Image, notes: &Notes, bytes: &[(u32, u8)], first: u64) -> Option<u64>
+pub fn known_line(image: &Image, notes: &Notes, bytes: &[(u32, u8)], first: u64) -> Option<u64>
     requires { first < 2 ^ 32 }
     ensures { (m : Machine) (entry : ℕ) (told : Told) →
         let known = is_known_at (program_of m image.now (notes_of notes.now) entry) in

@@ -52,7 +52,11 @@ pub fn too_large(alloc: Global) -> Result<Replay, AllocError>
 }
 
 /// The answer where no row can stand at the address in the link register.
-pub(crate) fn unaligned(alloc: Global) -> Result<Replay, AllocError>
+///
+/// # Errors
+///
+/// Want of memory.
+pub fn unaligned(alloc: Global) -> Result<Replay, AllocError>
     ensures { (p : Program) (named : endings.NamedEnding) (start : Start) →
         IfOk result (λ r. plain_answer r.status r.text.items ≡ start_answer false p named start) }
 {
@@ -92,7 +96,11 @@ pub fn refused(alloc: Global, line: u64, kind: StateFault) -> Result<Replay, All
 }
 
 /// The answer where a require line is the first that is false.
-pub(crate) fn false_require(alloc: Global, line: u32) -> Result<Replay, AllocError>
+///
+/// # Errors
+///
+/// Want of memory.
+pub fn false_require(alloc: Global, line: u32) -> Result<Replay, AllocError>
     ensures { (named : endings.NamedEnding) (found : reports.Found) →
         IfOk result (λ r. plain_answer r.status r.text.items ≡ require_answer (Some line) named found) }
 {

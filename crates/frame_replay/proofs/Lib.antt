@@ -1,0 +1,5 @@
+pub mod Judged
+pub mod Written
+pub mod Replayed
+pub mod Headless
+pub mod Returned

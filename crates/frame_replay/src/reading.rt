@@ -1,0 +1,103 @@
+//! What the text of a report over frames says of a program.
+ghost use Rattle.std.specs.Prelude.{◌≡◌, ℕ, IfOk, option_map};
+ghost use Rattle.std.specs.List.Sorted.{IsStrictlyIncreasing};
+ghost use Rattle.machine_spec.specs.Machine.{Machine};
+ghost use Rattle.frame_texts_spec.specs.FrameTexts.{framed_of};
+ghost use Rattle.frame_text.specs.Readings.{judged_head, seen_head};
+ghost use Rattle.state_text.specs.Starts.{written_head_of};
+ghost use Rattle.start_value.specs.Starts.{layout_of};
+ghost use Rattle.frame_replay.specs.Readings.{checks_by, judged_lines, told_of};
+
+use crate::judging::{HeadLines, refused_line};
+use elf32_reader::Image;
+use frame_text::{FrameFault, FramedFault, FramedText, SeenHead, parse_framed};
+use notes_value::Notes;
+use start_value::Layout;
+use state_text::HeadStart;
+use std::alloc::{AllocError, Global};
+
+/// A line that is refused, counted from 1, with its least fault.
+#[derive(Clone, Copy)]
+pub(crate) struct Refusal {
+    pub(crate) line: u64,
+    pub(crate) kind: FrameFault,
+}
+
+/// What a text says: a segment, or nothing, refused at its first refused line.
+#[derive(Drop)]
+pub(crate) enum Reading {
+    /// The segment with its ending.
+    State(FramedText),
+    Refused(Refusal),
+}
+
+/// The lines of a head part that was read.
+fn lines_of(head: Option<&HeadStart>) -> Option<HeadLines>
+    ensures { option_map judged_lines result ≡ option_map (λ h. judged_head (written_head_of h.now)) head.entry }
+{
+    match head {
+        None => None,
+        Some(head) => Some(HeadLines {
+            at: head.at,
+            stack: &head.stack,
+            bytes: &head.start.bytes,
+        }),
+    }
+}
+
+/// The lines of a head part before a refused line.
+fn lines_seen(head: Option<&SeenHead>) -> Option<HeadLines>
+    ensures { option_map judged_lines result ≡ option_map (λ h. seen_head h.now) head.entry }
+{
+    match head {
+        None => None,
+        Some(head) => Some(HeadLines {
+            at: head.at,
+            stack: &head.stack,
+            bytes: &head.bytes,
+        }),
+    }
+}
+
+/// What a text says in the layout of its machine, of a program whose invariants stand on lines of these numbers and whose calls return to these addresses; both
+/// rise. The error is want of memory.
+pub(crate) fn read_framed(
+    alloc: Global,
+    image: &Image,
+    notes: &Notes,
+    invariants: &[u32],
+    returns: &[u32],
+    layout: Layout,
+    text: &[u8],
+) -> Result<Reading, AllocError>
+    requires invariants { IsStrictlyIncreasing invariants.now }
+    requires returns { IsStrictlyIncreasing returns.now }
+    ensures { (m : Machine) (entry : ℕ) → IfOk result (λ r.
+        framed_of (layout_of layout) (checks_by m image.now notes.now invariants.now returns.now entry) text.now ≡ told_of r) }
+{
+    match parse_framed(alloc, text, layout) {
+        Ok(segment) => {
+            let head = lines_of(segment.head.as_ref());
+            match refused_line(
+                image,
+                notes,
+                invariants,
+                returns,
+                layout,
+                &segment.start.bytes,
+                head,
+            ) {
+                None => Ok(Reading::State(segment)),
+                Some(refusal) => Ok(Reading::Refused(refusal)),
+            }
+        }
+        Err(FramedFault::Refused { line, kind, seen }) => {
+            let head = lines_seen(seen.head.as_ref());
+            match refused_line(image, notes, invariants, returns, layout, &seen.bytes, head) {
+                None => Ok(Reading::Refused(Refusal { line, kind })),
+                Some(refusal) => Ok(Reading::Refused(refusal)),
+            }
+        }
+        Err(FramedFault::Memory) => Err(AllocError),
+    }
+}

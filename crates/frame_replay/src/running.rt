@@ -1,0 +1,139 @@
+//! The segment of a named ending.
+ghost use Rattle.std.specs.Prelude.{◌≡◌, ℕ, ◌+◌, ◌≤◌, IfOk, IfSome, option_map};
+ghost use Rattle.std.specs.List.Sorted.{IsStrictlyIncreasing};
+ghost use Rattle.bilv_spec.specs.Elf.{loaded, is_kept};
+ghost use Rattle.bilv_spec.specs.EntryFaults.{IsEntryStateFault};
+ghost use Rattle.bilv_spec.specs.Files.{order_of, program_of};
+ghost use Rattle.bilv_spec.specs.Points.{is_known_at};
+ghost use Rattle.machine_spec.specs.StateText.{IsWritten, last_step};
+ghost use Rattle.call_spec.specs.Calls.{plain_answer};
+ghost use Rattle.frame_spec.specs.Frames.{Frame};
+ghost use Rattle.frame_spec.specs.FrameRuns as runs;
+ghost use Rattle.frame_spec.specs.FrameReports.{head_of};
+ghost use Rattle.frame_texts_spec.specs.FrameTexts as endings;
+ghost use Rattle.frame_texts_spec.specs.FrameReplays.{bound_of, step_of, false_at_head, run_answer};
+ghost use Rattle.start_value.specs.Starts.{written_of};
+ghost use Rattle.state_text.specs.Starts.{written_head_of};
+ghost use Rattle.frame_text.specs.Texts.{framed_ending_of, framed_text_of};
+ghost use Rattle.notes_value.specs.NoteViews.{notes_of};
+ghost use Rattle.notes_value.specs.Reads.{AreReadable};
+ghost use Rattle.table_run.specs.Endings.{fault_of, IsLinesFault};
+ghost use Rattle.table_run.specs.FrameEnds.{frame_of, start_shown};
+ghost use Rattle.frame_replay.specs.Readings.{IsHeadWritten};
+
+use crate::texts::{compared, false_invariant};
+use elf32_reader::Image;
+use frame_text::{FramedEnding, FramedText};
+use machine_law::Machine;
+use notes_value::Notes;
+use report_replay::{Replay, false_require, unaligned};
+use state_text::HeadStart;
+use std::alloc::{AllocError, Global};
+use table_run::{EntryFault, head_ok, head_state, lines_ok, run_frame, start_state};
+
+/// The bound on backward transfers that an ending names.
+fn bound(named: FramedEnding) -> Option<u64>
+    ensures { result ≡ bound_of (framed_ending_of named) }
+{
+    match named {
+        FramedEnding::Turns { k, .. } => Some(k),
+        _ => None,
+    }
+}
+
+/// The number of the step of an ending.
+fn step_of(named: FramedEnding) -> u64
+    ensures { result ≡ step_of (framed_ending_of named) }
+{
+    match named {
+        FramedEnding::Fails { step, .. } => step,
+        FramedEnding::Turns { step, .. } => step,
+        FramedEnding::NotInductive { step, .. } => step,
+    }
+}
+
+/// The answer to a start that has a fault. The error is want of memory.
+fn faulted(alloc: Global, fault: EntryFault) -> Result<Replay, AllocError>
+    requires { IsLinesFault fault }
+    ensures { (f : Frame) (named : endings.FramedEnding) (start : runs.Start) → IsEntryStateFault f.program start.state (fault_of fault) →
+        IfOk result (λ r. plain_answer r.status r.text.items ≡ run_answer f named start) }
+{
+    match fault {
+        EntryFault::Link => unaligned(alloc),
+        EntryFault::Require { line } => false_require(alloc, line),
+        EntryFault::Byte { .. } => unreachable!(),
+    }
+}
+
+/// The number of the first invariant of a head that is false in its state, for an entry state. The error is want of memory.
+fn false_at<M: Machine>(
+    alloc: Global,
+    image: &Image,
+    notes: &Notes,
+    invariants: &[u32],
+    entry: &M::State,
+    head: Option<&HeadStart>,
+) -> Result<Option<u32>, AllocError>
+    requires order { order_of image.now ≡ M.machine.endian }
+    requires readable { AreReadable M.machine.has_register (notes_of notes.now) }
+    requires rising { IsStrictlyIncreasing invariants.now }
+    requires head { IfSome head (λ h. IsWritten M.form (λ a. is_kept (loaded image.now a)) (written_of h.now.start)) }
+    ensures { (at : ℕ) → IfOk result (λ o.
+        let f = frame_of (program_of M.machine image.now (notes_of notes.now) at) invariants.now in
+        o ≡ false_at_head f (M.State.view entry.now) (head_of f M.form (option_map (λ h. written_head_of h.now) head.entry))) }
+{
+    match head {
+        None => Ok(None),
+        Some(head) => {
+            let state = head_state::<M>(alloc, image, head)?;
+            match head_ok::<M>(image, notes, invariants, entry, &state) {
+                Ok(()) => Ok(None),
+                Err(line) => Ok(Some(line)),
+            }
+        }
+    }
+}
+
+/// The answer to a named ending with its start and its head state. The error is want of memory.
+pub(crate) fn run_named<M: Machine>(
+    alloc: Global,
+    image: &Image,
+    notes: &Notes,
+    invariants: &[u32],
+    entry: u32,
+    text: &FramedText,
+) -> Result<Replay, AllocError>
+    requires order { order_of image.now ≡ M.machine.endian }
+    requires readable { AreReadable M.machine.has_register (notes_of notes.now) }
+    requires rising { IsStrictlyIncreasing invariants.now }
+    requires start { IsWritten M.form (is_known_at (program_of M.machine image.now (notes_of notes.now) entry)) (written_of text.now.start) }
+    requires head { IsHeadWritten M.form image.now text.now.head }
+    requires step { step_of (framed_ending_of text.now.named) ≤ last_step }
+    ensures { IfOk result (λ r. plain_answer r.status r.text.items
+        ≡ run_answer (frame_of (program_of M.machine image.now (notes_of notes.now) entry) invariants.now) (framed_ending_of text.now.named)
+        (start_shown (program_of M.machine image.now (notes_of notes.now) entry) invariants.now M.form (written_of text.now.start)
+        (option_map written_head_of text.now.head))) }
+{
+    let state = start_state::<M>(alloc, image, notes, entry, &text.start)?;
+    if let Err(fault) = lines_ok::<M>(image, notes, &state) {
+        return faulted(alloc, fault);
+    }
+    let head = text.head.as_ref();
+    if let Some(line) = false_at::<M>(alloc, image, notes, invariants, &state, head)? {
+        return false_invariant(alloc, line);
+    }
+    let named = text.named;
+    let limit = step_of(named) + 1;
+    let ending = run_frame::<M>(
+        alloc,
+        image,
+        notes,
+        invariants,
+        entry,
+        &text.start,
+        head,
+        bound(named),
+        limit,
+    )?;
+    compared(alloc, named, head.is_some(), ending)
+}
