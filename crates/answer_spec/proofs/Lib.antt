@@ -1,3 +1,4 @@
 pub mod AnswersOnce
 pub mod Replayed
+pub mod Wholes
 pub mod WorkSamples

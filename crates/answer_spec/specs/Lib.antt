@@ -1,2 +1,4 @@
+pub mod FrameAnswers
+pub mod FrameAnswerLaws
 pub mod Outcomes
 pub mod AnswerLaws

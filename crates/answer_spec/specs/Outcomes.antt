@@ -4,15 +4,14 @@ use Rattle.call_spec.specs.Outside.{Rose, Appends}
 use Rattle.bilv_spec.specs.Run.{Program}
 use Rattle.call_spec.specs.Calls.{Options, default_options, Evidence, NoEvidence, Answer, plain_answer, default_budget, Surroundings, AfterRead}
 use Rattle.bilv_spec.specs.Files.{layout_of}
-use Rattle.bilv_spec.specs.Answers.{IsReported}
 use Rattle.notes_spec.specs.Upgrades.{upgraded}
+use Rattle.frame_spec.specs.FrameVerdict.{Whole}
 use Rattle.notes_spec.specs.Verified.{AfterImage, AfterNotes, IsVerified, notes_limit}
 use Rattle.command_spec.specs.Commands.{usage_text, PairNames, Command, Verify, Lift, Graph, Script, Replay, Certify, Check, SelfRun, Upgrade, Model, Equal, Differ}
 use Rattle.bilv_spec.specs.LiftText.{IsLiftText}
 use Rattle.bilv_spec.specs.GraphText.{IsGraphText}
 use Rattle.bilv_spec.specs.Scripts.{IsScriptAnswer}
 use Rattle.bilv_spec.specs.Certified.{IsCertified}
-use Rattle.bilv_spec.specs.Replays.{replay_answer}
 use Rattle.model_spec.specs.Models.{AfterBudgets, IsModelAnswer}
 use Rattle.pair_spec.specs.Links.{Link}
 use Rattle.pair_spec.specs.Equals.{side_of, AfterElfOf, AfterNotesOf, AfterLinks, IsPairReported}
@@ -20,6 +19,7 @@ use Rattle.pair_spec.specs.Differs.{differ_answer}
 use Rattle.clause_spec.specs.Checks.{IsChecked}
 use Rattle.command_spec.specs.Work.{work_file, work_notes, work_text}
 use Rattle.word_spec.specs.Texts.{line, line_feed}
+use Rattle.answer_spec.specs.FrameAnswers.{AfterFrames, IsVerifiedWhole, IsReplayedWhole}
 
 -- the answer behind the reading of an ELF file, and its refusals
 abbrev pub AfterElf : Surroundings → (elf : List ℕ) → (Next : List ℕ → Answer → Type 0) → Answer → Type 0
@@ -28,6 +28,10 @@ AfterElf s elf Next = AfterRead s elf (λ file. AfterImage file (Next file))
 -- The answer behind the reading of an ELF file and of notes, in this order: the notes are read once the file is accepted.
 abbrev pub AfterBoth : Surroundings → Options → (elf notes : List ℕ) → (Next : List ℕ → Program → Answer → Type 0) → Answer → Type 0
 AfterBoth s o elf notes Next = AfterElf s elf (λ file. AfterRead s notes (λ text. AfterNotes o file text (Next file)))
+
+-- so where the notes may have invariants
+abbrev pub AfterWhole : Surroundings → Options → (elf notes : List ℕ) → (Next : List ℕ → Whole → Answer → Type 0) → Answer → Type 0
+AfterWhole s o elf notes Next = AfterElf s elf (λ file. AfterRead s notes (λ text. AfterFrames o file text (Next file)))
 
 -- The answer behind the reading of what two functions and their links are, in this order: both ELF files, both notes with their symbols, the links.
 abbrev pub AfterPair : Surroundings → Options → PairNames → (Next : (first second : List ℕ) → (p q : Program) → List Link → Answer → Type 0) →
@@ -62,12 +66,12 @@ upgrade_answer text =
 
 -- The right answer to a command: refusals come in the order in which files are read, and a report's text is read once the program is found.
 abbrev pub IsRightAnswer : Surroundings → Command → Answer → Type 0
-IsRightAnswer s (Verify o elf notes b) = AfterBoth s o elf notes (λ file p. IsReported p (layout_of o file) b)
+IsRightAnswer s (Verify o elf notes b) = AfterWhole s o elf notes (λ file. IsVerifiedWhole (layout_of o file) b)
 IsRightAnswer s (Lift o elf) = AfterElf s elf (IsLifted o)
 IsRightAnswer s (Graph o elf notes) = AfterBoth s o elf notes (λ file p. IsGraphed p)
 IsRightAnswer s (Script o elf notes kind b) = AfterBoth s o elf notes (λ file p. IsScriptAnswer p (layout_of o file) b kind)
 IsRightAnswer s (Replay o elf notes report) =
-    AfterBoth s o elf notes (λ file p. AfterRead s report (λ text a. a ≡ replay_answer p (layout_of o file) text))
+    AfterWhole s o elf notes (λ file w. AfterRead s report (λ text. IsReplayedWhole (layout_of o file) text w))
 IsRightAnswer s (Certify o elf notes kind b) = AfterBoth s o elf notes (λ file p a. IsCertified p b kind a.status a.text a.evidence)
 IsRightAnswer s (Check certificate) = AfterRead s certificate (λ text a. IsChecked text a.status a.text × (a.evidence ≡ NoEvidence))
 IsRightAnswer s (SelfRun seed count) = IsSelfRun seed count
