@@ -5,7 +5,6 @@ use Rattle.std.proofs.lemmas.List.{append_cancel_left}
 use Rattle.word_spec.specs.State.{Written}
 use Rattle.word_spec.specs.Texts.{line}
 use Rattle.machine_spec.specs.Endings.{NamedEnding, FailsBy, UnknownBy, named_line}
-use Rattle.machine_spec.specs.StateText.{printed}
 use Rattle.clause_spec.specs.Checks.{text_limit}
 use Rattle.call_spec.specs.Calls.{Answer, Budget, Evidence, Question, EntryQuestion, FailQuestion, TurnQuestion, plain_answer, Options, Surroundings}
 use Rattle.call_spec.specs.Outside.{Appends}

@@ -1,5 +1,5 @@
 -- A verification's answer is the report of what the program comes to, and there is one such answer but for the run that it shows.
-use Rattle.std.proofs.Common.{◌≡◌, ◌≢◌, ℕ, ◌<◌, ◌≤◌, refl, ap, sym, ◌∙◌, subst, arith, List, Some}
+use Rattle.std.proofs.Common.{◌≡◌, ◌≢◌, ℕ, ◌<◌, ◌≤◌, refl, ap, sym, ◌∙◌, subst, arith, List, [], Some}
 use Rattle.call_spec.specs.Outside.{Held, Bytes, Agrees, Rose, Appends}
 use Rattle.bilv_spec.specs.Run.{Program, Run, Failed, Turned, IsOver}
 use Rattle.machine_spec.specs.Endings.{Event}
@@ -10,14 +10,17 @@ use Rattle.word_spec.specs.State.{Written}
 use Rattle.call_spec.specs.Calls.{Options, Budget, Evidence, Refutations, EntryRefuted, RunOf, SpentOn, Count, Answer, plain_answer, Surroundings, AfterRead, read_failed, was_read}
 use Rattle.bilv_spec.specs.Files.{layout_of}
 use Rattle.bilv_spec.specs.Answers.{Report, HoldsReport, VacuousReport, FailsReport, UnrollReport, PointsReport, SizeReport, ConflictsReport, IsRightReport, EndsAs, start_in, report_answer, report_text, status_of, IsReported}
-use Rattle.notes_spec.specs.Verified.{IsAccepted, IsFound, AfterImage, elf_refused, elf_accepted, AfterNotes, notes_refused, program_found}
+use Rattle.frame_spec.specs.FrameVerdict.{Whole}
+use Rattle.notes_spec.specs.Verified.{IsAccepted, IsFound, AfterImage, elf_refused, elf_accepted}
 use Rattle.command_spec.specs.Commands.{Verify}
+use Rattle.answer_spec.specs.FrameAnswers.{dialect_for, IsFrameFound, AfterFrames, frames_refused, frames_found, IsVerifiedWhole}
 use Rattle.answer_spec.specs.Outcomes.{IsOutcome, whole, cut, no_memory}
+use Rattle.answer_spec.proofs.Wholes.{by_invariants, found_program, programs_are_whole}
 use Rattle.bilv_spec.proofs.AllPoints.{one_price}
 use Rattle.bilv_spec.proofs.One.{one_verdict}
 use Rattle.bilv_spec.proofs.Over.{one_end}
-use Rattle.answer_laws.specs.Completeness.{Finding, TooManyPoints, TooLarge, HasVerdict, ComesTo, Says, IsSpentEvidence, ShowsRun, Answers, elf_is_refused, notes_are_refused, is_reported, AreTold, AreSameButRun}
-use Rattle.answer_laws.proofs.OneProgram.{one_program, one_elf_refusal, refused_or_accepted, one_notes_refusal, refused_or_found}
+use Rattle.answer_laws.specs.Completeness.{Finding, TooManyPoints, TooLarge, HasVerdict, ComesTo, Says, IsSpentEvidence, ShowsRun, Answers, elf_is_refused, notes_are_refused, is_reported, frames_are_reported, HaveNoInvariants, AreTold, AreSameButRun}
+use Rattle.answer_laws.proofs.OneProgram.{one_program, one_elf_refusal, refused_or_accepted, one_refusal_in, not_refused}
 
 -- two prices of a program are one, so that it can't be both within the size and above it
 one_above : (p : Program) (k n m size : ℕ) → IsPrice p k n → IsPrice p k m → n ≤ size → size < m → ⊥
@@ -59,9 +62,12 @@ reported o file text b a p unspent found (r, e, right, is) =
     is_reported p f.0 r e found f.1 f.2 right is
 
 by_notes : (o : Options) (file text : List ℕ) (b : Budget) (a : Answer) → (¬ IsSpentEvidence a.evidence) → IsAccepted file →
-    AfterNotes o file text (λ p. IsReported p (layout_of o file) b) a → Answers o file text b a
-by_notes o file text b a unspent accepted (notes_refused written h is) = notes_are_refused written accepted h is
-by_notes o file text b a unspent accepted (program_found p found next) = reported o file text b a p unspent found next
+    AfterFrames o file text (IsVerifiedWhole (layout_of o file) b) a → Answers o file text b a
+by_notes o file text b a unspent accepted (frames_refused written h is) = notes_are_refused written accepted h is
+by_notes o file text b a unspent accepted (frames_found w found next) =
+    by_invariants w.invariants _ _ (Answers o file text b a)
+    (λ none right. reported o file text b a w.program unspent (found_program o file text w none found) right)
+    (λ some right. frames_are_reported w found some right) next
 
 pub read_calm : {Next : List ℕ → Answer → Type 0} {a : Answer} (s : Surroundings) (name file : List ℕ) → s.held name ≡ Bytes file →
     (¬ Rose (s.shelf_before name) (s.shelf_after name)) → AfterRead s name Next a → Next file a
@@ -71,7 +77,7 @@ read_calm {Next} {a} s name file held calm (was_read bytes agrees next) =
 
 by_image : (s : Surroundings) (o : Options) (elf notes file text : List ℕ) (b : Budget) (a : Answer) → AreTold s elf notes file text →
     (¬ IsSpentEvidence a.evidence) →
-    AfterImage file (AfterRead s notes (λ text. AfterNotes o file text (λ p. IsReported p (layout_of o file) b))) a → Answers o file text b a
+    AfterImage file (AfterRead s notes (λ text. AfterFrames o file text (IsVerifiedWhole (layout_of o file) b))) a → Answers o file text b a
 by_image s o elf notes file text b a told unspent (elf_refused written h is) = elf_is_refused written h is
 by_image s o elf notes file text b a told unspent (elf_accepted accepted next) =
     by_notes o file text b a unspent accepted (read_calm s notes text told.notes_held told.notes_calm next)
@@ -221,21 +227,30 @@ two_reports o file b p q f g r t e d same x y s u right other =
     one_report q (layout_of o file) b g r t e d (subst (Says r) finding s) u
     (subst (λ (z : Program). IsRightReport z (layout_of o file) b r e) same right) other
 
-pub one_answer : (o : Options) (file text : List ℕ) (b : Budget) (a c : Answer) → Answers o file text b a → Answers o file text b c → AreSameButRun a c
-one_answer o file text b a c (elf_is_refused v x i) (elf_is_refused w y j) =
+-- a program has no invariants
+no_frames : (o : Options) (file text : List ℕ) (w : Whole) (p : Program) → IsFrameFound o file text w → w.invariants ≢ [] → IsFound o file text p → ⊥
+no_frames o file text w p found some is = some ((programs_are_whole o file text p is).1 w found).1
+
+pub one_answer : (o : Options) (file text : List ℕ) (b : Budget) (a c : Answer) → HaveNoInvariants o file text → Answers o file text b a →
+    Answers o file text b c → AreSameButRun a c
+one_answer o file text b a c none (elf_is_refused v x i) (elf_is_refused w y j) =
     same_answer a c (i ∙ ap (plain_answer 4) (one_elf_refusal file v w x y) ∙ sym j)
-one_answer o file text b a c (elf_is_refused v x i) (notes_are_refused w accepted y j) = absurd (refused_or_accepted file v x accepted)
-one_answer o file text b a c (elf_is_refused v x i) (is_reported p f r e found y s right j) = absurd (refused_or_accepted file v x found.0)
-one_answer o file text b a c (notes_are_refused v accepted x i) (elf_is_refused w y j) = absurd (refused_or_accepted file w y accepted)
-one_answer o file text b a c (notes_are_refused v accepted x i) (notes_are_refused w too y j) =
-    same_answer a c (i ∙ ap (plain_answer 5) (one_notes_refusal o file text v w x y) ∙ sym j)
-one_answer o file text b a c (notes_are_refused v accepted x i) (is_reported p f r e found y s right j) = absurd (refused_or_found o file text v p x found)
-one_answer o file text b a c (is_reported p f r e found x s right i) (elf_is_refused w y j) = absurd (refused_or_accepted file w y found.0)
-one_answer o file text b a c (is_reported p f r e found x s right i) (notes_are_refused w accepted y j) = absurd (refused_or_found o file text w p y found)
-one_answer o file text b a c (is_reported p f r e found x s right i) (is_reported q g t d too y u other j) =
+one_answer o file text b a c none (elf_is_refused v x i) (notes_are_refused w accepted y j) = absurd (refused_or_accepted file v x accepted)
+one_answer o file text b a c none (elf_is_refused v x i) (is_reported p f r e found y s right j) = absurd (refused_or_accepted file v x found.0)
+one_answer o file text b a c none (notes_are_refused v accepted x i) (elf_is_refused w y j) = absurd (refused_or_accepted file w y accepted)
+one_answer o file text b a c none (notes_are_refused v accepted x i) (notes_are_refused w too y j) =
+    same_answer a c (i ∙ ap (plain_answer 5) (one_refusal_in (dialect_for text) o file text v w x y) ∙ sym j)
+one_answer o file text b a c none (notes_are_refused v accepted x i) (is_reported p f r e found y s right j) =
+    absurd (not_refused o file text v p x found)
+one_answer o file text b a c none (is_reported p f r e found x s right i) (elf_is_refused w y j) = absurd (refused_or_accepted file w y found.0)
+one_answer o file text b a c none (is_reported p f r e found x s right i) (notes_are_refused w accepted y j) =
+    absurd (not_refused o file text w p y found)
+one_answer o file text b a c none (is_reported p f r e found x s right i) (is_reported q g t d too y u other j) =
     subst (λ (z : Answer). AreSameButRun z c) (sym i)
     (subst (λ (z : Answer). AreSameButRun (report_answer (layout_of o file) b r e) z) (sym j)
     (two_reports o file b p q f g r t e d (one_program o file text p q found too) x y s u right other))
+one_answer o file text b a c none (frames_are_reported w found some right) other = absurd (some (none w found))
+one_answer o file text b a c none other (frames_are_reported w found some right) = absurd (some (none w found))
 
 -- what is reported of the files' program is what it comes to
 reported_as : (s : Surroundings) (o : Options) (file text : List ℕ) (b : Budget) (status : ℕ) (shown : Evidence) (p : Program) → IsFound o file text p →
@@ -244,7 +259,8 @@ reported_as : (s : Surroundings) (o : Options) (file text : List ℕ) (b : Budge
     (r : Report) × Says r f × IsRightReport p (layout_of o file) b r shown × (status ≡ status_of r)
     × Appends s.text_before (report_text (layout_of o file) b r shown) s.text_after
 reported_as s o file text b status shown p found f comes a (elf_is_refused w x i) e d appends = absurd (refused_or_accepted file w x found.0)
-reported_as s o file text b status shown p found f comes a (notes_are_refused w accepted x i) e d appends = absurd (refused_or_found o file text w p x found)
+reported_as s o file text b status shown p found f comes a (notes_are_refused w accepted x i) e d appends = absurd (not_refused o file text w p x found)
+reported_as s o file text b status shown p found f comes a (frames_are_reported w too some right) e d appends = absurd (no_frames o file text w p too some found)
 reported_as s o file text b status shown p found f comes a (is_reported q g r t too other says right i) e d appends =
     let same : q ≡ p = one_program o file text q p too found in
     let finding : g ≡ f = one_finding p b g f (subst (λ (z : Program). ComesTo z b g) same other) comes in

@@ -16,3 +16,7 @@ pub mod TwoCalls
 pub mod AcceptedStarts
 pub mod AcceptedRuns
 pub mod Compared
+pub mod FoundFrames
+pub mod Inductive
+pub mod FramedEnds
+pub mod FrameReplays

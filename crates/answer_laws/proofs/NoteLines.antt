@@ -4,20 +4,20 @@ use Rattle.std.specs.Prelude.{◌==◌, ◌&&◌, not, if◌then◌else◌}
 use Rattle.word_spec.specs.Memory.{Endian}
 use Rattle.word_spec.specs.State.{State}
 use Rattle.machine_spec.specs.Machine.{Row, How, On, Direct, DirectCall, Indirect, IndirectCall, Exception, EnvironmentCall, Breakpoint, SoftwareInterrupt, OddHalfword, UnalignedLoad, Outcome, Goes, Raises}
-use Rattle.bilv_spec.specs.Notes.{NoteLine, Assert, value, is_true}
-use Rattle.notes_spec.specs.NotesGrammar.{Says, Nothing, EntryIs, RequireIs, EnsureIs, AssertIs, TargetsAre, FixedIs, VersionIs, ConstIs, LoadedIs, InvariantIs, NeedIs, GiveIs, ModifiesAre, WritesAre, AreLines, after, is_second, line_limit, lines_of, ensures_of, asserts_of}
-use Rattle.notes_spec.specs.Scopes.{Scope, begin}
+use Rattle.bilv_spec.specs.Notes.{Notes, NoteLine, Assert, value, is_true}
+use Rattle.notes_spec.specs.NotesGrammar.{Says, Nothing, EntryIs, RequireIs, EnsureIs, AssertIs, TargetsAre, FixedIs, VersionIs, ConstIs, LoadedIs, InvariantIs, NeedIs, GiveIs, ModifiesAre, WritesAre, AreLines, after, is_second, line_limit, lines_of, ensures_of, asserts_of, IsNotesText}
+use Rattle.notes_spec.specs.Scopes.{Vocabulary, Scope, begin}
 use Rattle.call_spec.specs.Calls.{Options}
 use Rattle.notes_spec.specs.Programs.{IsProgram, vocabulary_of}
 use Rattle.machine_spec.specs.StateText.{IsEvent}
 use Rattle.bilv_spec.specs.Run.{Program, Place, Step, Stops, Arrives, Exits, false_assert, false_line, step, after_asserts, by_fetch, by_row, after_row, exception_event, going_on, aligned_transfer, transfer, leave, exit_or, exit_by, return_or, allowed, exit}
 
 -- the numbers of lines are small
-abbrev AreFewAsserts : List Assert → Type 0
+abbrev pub AreFewAsserts : List Assert → Type 0
 AreFewAsserts [] = Unit {0}
 AreFewAsserts (a ∷ rest) = (a.line < 2 ^ 64) × AreFewAsserts rest
 
-abbrev AreFewLines : List NoteLine → Type 0
+abbrev pub AreFewLines : List NoteLine → Type 0
 AreFewLines [] = Unit {0}
 AreFewLines (l ∷ rest) = (l.line < 2 ^ 64) × AreFewLines rest
 
@@ -71,16 +71,17 @@ few_texts : (is_second : Bool) (n : ℕ) → n ≤ line_limit is_second → n �
 few_texts true n h = h
 few_texts false n h = omega arith
 
+-- a text says few lines
+pub text_lines : (v : Vocabulary) (text : List ℕ) (notes : Notes) → IsNotesText v text notes → AreFewAsserts notes.asserts × AreFewLines notes.ensures
+text_lines v text notes is =
+    let count = as_many (begin v (is_second (lines_of text))) (lines_of text) is.says is.lines in
+    let short = few_texts (is_second (lines_of text)) (length (lines_of text)) is.short in
+    let few : 1 + length is.says ≤ 8192 = omega arith in
+    (subst AreFewAsserts is.notes_are.3 (few_asserts 1 is.says few), subst AreFewLines is.notes_are.2 (few_lines 1 is.says few))
+
 pub few_note_lines : (o : Options) (file text : List ℕ) (p : Program) → IsProgram o file text p → HasFewLines p
 few_note_lines o file text p is =
-    let text_is = is.2 in
-    let count = as_many (begin (vocabulary_of o file) (is_second (lines_of text))) (lines_of text) text_is.says text_is.lines in
-    let short = few_texts (is_second (lines_of text)) (length (lines_of text)) text_is.short in
-    let few : 1 + length text_is.says ≤ 8192 = omega arith in
-    subst HasFewLines (sym is.4) (record {
-      asserts = subst AreFewAsserts text_is.notes_are.3 (few_asserts 1 text_is.says few);
-      ensures = subst AreFewLines text_is.notes_are.2 (few_lines 1 text_is.says few);
-    })
+    let few = text_lines (vocabulary_of o file) text is.0 is.2 in subst HasFewLines (sym is.4) (record { asserts = few.0; ensures = few.1 })
 
 some_line : (b : Bool) (o : Option ℕ) (n l : ℕ) → n < 2 ^ 64 → (o ≡ Some l → l < 2 ^ 64) → (if b then o else Some n) ≡ Some l → l < 2 ^ 64
 some_line true o n l h f e = f e
@@ -95,7 +96,7 @@ line_is_few e [] now entry l few is = absurd (cc)
 line_is_few e (x ∷ rest) now entry l few is =
     some_line (is_true (value e x.says now entry)) (false_line e rest now entry) x.line l few.0 (λ i. line_is_few e rest now entry l few.1 i) is
 
-assert_is_few : (e : Endian) (asserts : List Assert) (now entry : State) (l : ℕ) → AreFewAsserts asserts →
+pub assert_is_few : (e : Endian) (asserts : List Assert) (now entry : State) (l : ℕ) → AreFewAsserts asserts →
     false_assert e asserts now entry ≡ Some l → l < 2 ^ 64
 assert_is_few e [] now entry l few is = absurd (cc)
 assert_is_few e (a ∷ rest) now entry l few is =

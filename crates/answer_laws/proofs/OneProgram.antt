@@ -11,9 +11,11 @@ use Rattle.notes_spec.specs.Programs.{vocabulary_of, IsProgram}
 use Rattle.notes_spec.specs.Verified.{IsAccepted, IsElfRefused, elf_large, elf_fault, elf_fault_text, AreNotesRefused, AreNotesRefusedIn, notes_limit, notes_large, notes_fault, no_function, ambiguous, note_fault_text, ambiguous_text, IsFound}
 use Rattle.bilv_spec.proofs.Faults as elf
 use Rattle.notes_spec.proofs.NotesFirst as notes
-use Rattle.notes_spec.specs.Scopes.{Dialect, Plain, Paired, in_dialect}
+use Rattle.notes_spec.specs.Scopes.{Vocabulary, Dialect, Plain, Paired, in_dialect}
 use Rattle.notes_spec.proofs.NotesSaid.{one_reading}
 use Rattle.notes_spec.proofs.Dialects.{paired_is_plain}
+use Rattle.answer_spec.specs.FrameAnswers.{dialect_for}
+use Rattle.answer_spec.proofs.Wholes.{programs_are_whole}
 
 same_notes : (o : Options) (file text : List ℕ) (m n : Notes) → IsNotesText (vocabulary_of o file) text m → IsNotesText (vocabulary_of o file) text n → m ≡ n
 same_notes o file text m n a b = one_reading (vocabulary_of o file) text m n a b
@@ -42,14 +44,12 @@ refused_or_accepted file _ (elf_large h) a = omega (arith, h, a.0)
 refused_or_accepted file _ (elf_fault f h e) a = a.1 f e.0
 
 -- notes without a fault have no first fault
-faultless : (o : Options) (file text : List ℕ) (m : Notes) (n : ℕ) (f : NoteFault) → IsNotesText (vocabulary_of o file) text m →
-    IsFirstNoteFault (vocabulary_of o file) text n f → ⊥
-faultless o file text m n f a b = notes.never_both (vocabulary_of o file) text m n f a b
+faultless : (v : Vocabulary) (text : List ℕ) (m : Notes) (n : ℕ) (f : NoteFault) → IsNotesText v text m → IsFirstNoteFault v text n f → ⊥
+faultless v text m n f a b = notes.never_both v text m n f a b
 
-same_name : (o : Options) (file text : List ℕ) (m n : Notes) (x y : List ℕ) → IsNotesText (vocabulary_of o file) text m → IsNotesText (vocabulary_of o file) text n →
-    m.entry ≡ Named x → n.entry ≡ Named y → x ≡ y
-same_name o file text m n x y a b e d =
-    let same : Named x ≡ Named y = sym e ∙ ap (λ z. z.entry) (same_notes o file text m n a b) ∙ d in cc
+same_name : (v : Vocabulary) (text : List ℕ) (m n : Notes) (x y : List ℕ) → IsNotesText v text m → IsNotesText v text n → m.entry ≡ Named x →
+    n.entry ≡ Named y → x ≡ y
+same_name v text m n x y a b e d = let same : Named x ≡ Named y = sym e ∙ ap (λ z. z.entry) (one_reading v text m n a b) ∙ d in cc
 
 same_least : (narrow : Bool) (file name : List ℕ) (a b c d : ℕ) → IsAmbiguous narrow file name a b → IsAmbiguous narrow file name c d → (a ≡ c) × (b ≡ d)
 same_least narrow file name a b c d x y =
@@ -72,28 +72,29 @@ same_least narrow file name a b c d x y =
     second e (inr h) (inl g) = let l = below in absurd (omega arith)
     second e (inr h) (inr g) = omega arith
 
-pub one_notes_refusal : (o : Options) (file text v w : List ℕ) → AreNotesRefused o file text v → AreNotesRefused o file text w → v ≡ w
-one_notes_refusal o file text _ _ (notes_large h) (notes_large k) = refl
-one_notes_refusal o file text _ _ (notes_large h) (notes_fault n f k e) = absurd (omega arith)
-one_notes_refusal o file text _ _ (notes_large h) (no_function n name k t e none) = absurd (omega arith)
-one_notes_refusal o file text _ _ (notes_large h) (ambiguous n name a c k t e two) = absurd (omega arith)
-one_notes_refusal o file text _ _ (notes_fault m f h x) (notes_large k) = absurd (omega arith)
-one_notes_refusal o file text _ _ (notes_fault m f h x) (notes_fault n g k e) =
-    let same = notes.one_fault (vocabulary_of o file) text m n f g x e in
+-- notes are refused with one text in a dialect
+pub one_refusal_in : (d : Dialect) (o : Options) (file text v w : List ℕ) → AreNotesRefusedIn d o file text v → AreNotesRefusedIn d o file text w → v ≡ w
+one_refusal_in d o file text _ _ (notes_large h) (notes_large k) = refl
+one_refusal_in d o file text _ _ (notes_large h) (notes_fault n f k e) = absurd (omega arith)
+one_refusal_in d o file text _ _ (notes_large h) (no_function n name k t e none) = absurd (omega arith)
+one_refusal_in d o file text _ _ (notes_large h) (ambiguous n name a c k t e two) = absurd (omega arith)
+one_refusal_in d o file text _ _ (notes_fault m f h x) (notes_large k) = absurd (omega arith)
+one_refusal_in d o file text _ _ (notes_fault m f h x) (notes_fault n g k e) =
+    let same = notes.one_fault (in_dialect d (vocabulary_of o file)) text m n f g x e in
     ap (λ z. note_fault_text z f) same.0 ∙ ap (note_fault_text n) same.1
-one_notes_refusal o file text _ _ (notes_fault m f h x) (no_function n name k t e none) = absurd (faultless o file text n m f t x)
-one_notes_refusal o file text _ _ (notes_fault m f h x) (ambiguous n name a c k t e two) = absurd (faultless o file text n m f t x)
-one_notes_refusal o file text _ _ (no_function m name h t e none) (notes_large k) = absurd (omega arith)
-one_notes_refusal o file text _ _ (no_function m name h t e none) (notes_fault n f k x) = absurd (faultless o file text m n f t x)
-one_notes_refusal o file text _ _ (no_function m name h t e none) (no_function n other k u d never) = refl
-one_notes_refusal o file text _ _ (no_function m name h t e none) (ambiguous n other a c k u d two) =
-    absurd (none a (subst (λ (z : List ℕ). IsFunction (machine_of o file).narrow file z a) (sym (same_name o file text m n name other t u e d)) two.0))
-one_notes_refusal o file text _ _ (ambiguous m name a c h t e two) (notes_large k) = absurd (omega arith)
-one_notes_refusal o file text _ _ (ambiguous m name a c h t e two) (notes_fault n f k x) = absurd (faultless o file text m n f t x)
-one_notes_refusal o file text _ _ (ambiguous m name a c h t e two) (no_function n other k u d none) =
-    absurd (none a (subst (λ (z : List ℕ). IsFunction (machine_of o file).narrow file z a) (same_name o file text m n name other t u e d) two.0))
-one_notes_refusal o file text _ _ (ambiguous m name a c h t e two) (ambiguous n other a' c' k u d few) =
-    let second = subst (λ (z : List ℕ). IsAmbiguous (machine_of o file).narrow file z a c) (same_name o file text m n name other t u e d) two in
+one_refusal_in d o file text _ _ (notes_fault m f h x) (no_function n name k t e none) = absurd (faultless (in_dialect d (vocabulary_of o file)) text n m f t x)
+one_refusal_in d o file text _ _ (notes_fault m f h x) (ambiguous n name a c k t e two) = absurd (faultless (in_dialect d (vocabulary_of o file)) text n m f t x)
+one_refusal_in d o file text _ _ (no_function m name h t e none) (notes_large k) = absurd (omega arith)
+one_refusal_in d o file text _ _ (no_function m name h t e none) (notes_fault n f k x) = absurd (faultless (in_dialect d (vocabulary_of o file)) text m n f t x)
+one_refusal_in d o file text _ _ (no_function m name h t e none) (no_function n other k u j never) = refl
+one_refusal_in d o file text _ _ (no_function m name h t e none) (ambiguous n other a c k u j two) =
+    absurd (none a (subst (λ (z : List ℕ). IsFunction (machine_of o file).narrow file z a) (sym (same_name (in_dialect d (vocabulary_of o file)) text m n name other t u e j)) two.0))
+one_refusal_in d o file text _ _ (ambiguous m name a c h t e two) (notes_large k) = absurd (omega arith)
+one_refusal_in d o file text _ _ (ambiguous m name a c h t e two) (notes_fault n f k x) = absurd (faultless (in_dialect d (vocabulary_of o file)) text m n f t x)
+one_refusal_in d o file text _ _ (ambiguous m name a c h t e two) (no_function n other k u j none) =
+    absurd (none a (subst (λ (z : List ℕ). IsFunction (machine_of o file).narrow file z a) (same_name (in_dialect d (vocabulary_of o file)) text m n name other t u e j) two.0))
+one_refusal_in d o file text _ _ (ambiguous m name a c h t e two) (ambiguous n other a' c' k u j few) =
+    let second = subst (λ (z : List ℕ). IsAmbiguous (machine_of o file).narrow file z a c) (same_name (in_dialect d (vocabulary_of o file)) text m n name other t u e j) two in
     let same = same_least (machine_of o file).narrow file other a c a' c' second few in
     ap (λ z. ambiguous_text z c) same.0 ∙ ap (ambiguous_text a') same.1
 
@@ -118,6 +119,11 @@ refused_by d o file text _ m entry (ambiguous k name a c h t e two) short is at 
 
 pub refused_or_found : (o : Options) (file text w : List ℕ) (p : Program) → AreNotesRefused o file text w → IsFound o file text p → ⊥
 refused_or_found o file text w p refused is = refused_by Plain o file text w is.2.0 is.2.1 refused is.1 is.2.2 is.2.3
+
+-- notes that are refused as they are read name no program
+pub not_refused : (o : Options) (file text written : List ℕ) (p : Program) → AreNotesRefusedIn (dialect_for text) o file text written → IsFound o file text p → ⊥
+not_refused o file text written p refused found =
+    refused_or_found o file text written p (subst (λ d. AreNotesRefusedIn d o file text written) (programs_are_whole o file text p found).0 refused) found
 
 -- so where two functions are compared
 pub paired_refused_or_found : (o : Options) (file text w : List ℕ) (p : Program) → AreNotesRefusedIn Paired o file text w → IsFound o file text p → ⊥

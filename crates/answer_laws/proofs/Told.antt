@@ -2,13 +2,13 @@
 use Rattle.std.proofs.Common.{◌≡◌, ◌≢◌, ℕ, List, Some, subst}
 use Rattle.std.specs.Prelude.{codes}
 use Rattle.call_spec.specs.Calls.{Answer, Evidence, NoEvidence, Options, Surroundings, AfterRead, read_failed, was_read}
-use Rattle.bilv_spec.specs.Answers.{IsReported}
 use Rattle.bilv_spec.specs.Certified.{IsCertified}
 use Rattle.bilv_spec.specs.Files.{layout_of}
 use Rattle.command_spec.specs.Commands.{Command, Verify, Lift, Graph, Script, Replay, Certify, Check, SelfRun, Upgrade, Model, Equal, Differ, PairNames}
-use Rattle.answer_spec.specs.Outcomes.{AfterBoth, AfterPair, IsLifted, IsGraphed, IsRightAnswer, upgrade_answer, IsOutcome, whole, cut, no_memory}
+use Rattle.frame_spec.specs.FrameVerdict.{Whole}
+use Rattle.answer_spec.specs.FrameAnswers.{AfterFrames, frames_refused, frames_found, IsVerifiedWhole, IsReplayedWhole}
+use Rattle.answer_spec.specs.Outcomes.{AfterBoth, AfterWhole, AfterPair, IsLifted, IsGraphed, IsRightAnswer, upgrade_answer, IsOutcome, whole, cut, no_memory}
 use Rattle.call_spec.specs.Outside.{Agrees, Rose}
-use Rattle.bilv_spec.specs.Replays.{replay_answer}
 use Rattle.call_spec.specs.Calls.{Budget}
 use Rattle.model_spec.specs.Models.{AfterBudgets, points, size, within, IsModelAnswer}
 use Rattle.pair_spec.specs.Differs.{differ_answer}
@@ -19,7 +19,7 @@ use Rattle.clause_spec.specs.Checks.{IsChecked}
 use Rattle.bilv_spec.specs.Run.{Program}
 use Rattle.bilv_spec.specs.Scripts.{IsScriptAnswer}
 use Rattle.notes_spec.specs.Verified.{AfterImage, elf_refused, elf_accepted, AfterNotes, notes_refused, program_found}
-use Rattle.answer_laws.specs.Told.{IsTold, IsPairTold, AreToldTo, AfterFiles, AfterPairFiles, IsAnswerTo, IsAnswered}
+use Rattle.answer_laws.specs.Told.{IsTold, IsPairTold, AreToldTo, AfterFiles, AfterWholeFiles, AfterPairFiles, IsAnswerTo, IsAnswered}
 
 budgets_met : (p : Program) (b : Budget) (Next Other : Answer → Type 0) (a : Answer) → (Next a → Other a) → AfterBudgets p b Next a →
     AfterBudgets p b Other a
@@ -52,6 +52,21 @@ module _ (s : Surroundings) (content : List ℕ → List ℕ) where
       image_told elf (AfterRead s notes notes_next) (AfterNotes o (content elf) (content notes) Other) a
       (λ next. notes_told o elf notes (Next (content elf)) Other a step (read_told notes notes_next a notes_is next))
       (read_told elf (λ file. AfterImage file (AfterRead s notes (λ text. AfterNotes o file text (Next file)))) a elf_is due)
+
+  -- the same where the notes may have invariants
+  frames_told : (o : Options) (elf notes : List ℕ) (Next Other : Whole → Answer → Type 0) (a : Answer) → ((w : Whole) → Next w a → Other w a) →
+      AfterFrames o (content elf) (content notes) Next a → AfterFrames o (content elf) (content notes) Other a
+  frames_told o elf notes Next Other a step (frames_refused written x is) = frames_refused written x is
+  frames_told o elf notes Next Other a step (frames_found w x next) = frames_found w x (step w next)
+
+  whole_told : (o : Options) (elf notes : List ℕ) (Next : List ℕ → Whole → Answer → Type 0) (Other : Whole → Answer → Type 0) (a : Answer) →
+      ((w : Whole) → Next (content elf) w a → Other w a) → IsTold s content elf → IsTold s content notes → AfterWhole s o elf notes Next a →
+      AfterWholeFiles o (content elf) (content notes) Other a
+  whole_told o elf notes Next Other a step elf_is notes_is due =
+      let notes_next : List ℕ → Answer → Type 0 = λ text. AfterFrames o (content elf) text (Next (content elf)) in
+      image_told elf (AfterRead s notes notes_next) (AfterFrames o (content elf) (content notes) Other) a
+      (λ next. frames_told o elf notes (Next (content elf)) Other a step (read_told notes notes_next a notes_is next))
+      (read_told elf (λ file. AfterImage file (AfterRead s notes (λ text. AfterFrames o file text (Next file)))) a elf_is due)
 
   -- the same behind the files of a pair
   elf_of_told : (word file : List ℕ) (Next Other : Answer → Type 0) (a : Answer) → (Next a → Other a) → AfterElfOf word file Next a →
@@ -87,16 +102,16 @@ module _ (s : Surroundings) (content : List ℕ → List ℕ) where
 
   pub answer_told : (c : Command) (a : Answer) → AreToldTo s content c → IsRightAnswer s c a → IsAnswerTo content c a
   answer_told (Verify o elf notes b) a told due =
-      both_told o elf notes (λ file p. IsReported p (layout_of o file) b) (λ p. IsReported p (layout_of o (content elf)) b) a (λ p is. is) told.0 told.1 due
+      whole_told o elf notes (λ file. IsVerifiedWhole (layout_of o file) b) (IsVerifiedWhole (layout_of o (content elf)) b) a (λ w is. is) told.0 told.1 due
   answer_told (Lift o elf) a told due = read_told elf (λ file. AfterImage file (IsLifted o file)) a told due
   answer_told (Graph o elf notes) a told due = both_told o elf notes (λ file p. IsGraphed p) IsGraphed a (λ p is. is) told.0 told.1 due
   answer_told (Script o elf notes kind b) a told due =
       both_told o elf notes (λ file p. IsScriptAnswer p (layout_of o file) b kind) (λ p. IsScriptAnswer p (layout_of o (content elf)) b kind) a (λ p is. is)
       told.0 told.1 due
   answer_told (Replay o elf notes report) a told due =
-      both_told o elf notes (λ file p. AfterRead s report (λ text x. x ≡ replay_answer p (layout_of o file) text))
-      (λ p x. x ≡ replay_answer p (layout_of o (content elf)) (content report)) a
-      (λ p is. read_told report (λ text x. x ≡ replay_answer p (layout_of o (content elf)) text) a told.2 is) told.0 told.1 due
+      whole_told o elf notes (λ file w. AfterRead s report (λ text. IsReplayedWhole (layout_of o file) text w))
+      (IsReplayedWhole (layout_of o (content elf)) (content report)) a
+      (λ w is. read_told report (λ text. IsReplayedWhole (layout_of o (content elf)) text w) a told.2 is) told.0 told.1 due
   answer_told (Certify o elf notes kind b) a told due =
       both_told o elf notes (λ file p x. IsCertified p b kind x.status x.text x.evidence) (λ p x. IsCertified p b kind x.status x.text x.evidence) a
       (λ p is. is) told.0 told.1 due

@@ -5,10 +5,10 @@ use Rattle.std.proofs.lemmas.List.{append_cancel_left}
 use Rattle.answer_laws.specs.Completeness.{ShowsRun}
 use Rattle.answer_laws.specs.Replayed.{AreBytes, IsReplayable}
 use Rattle.answer_laws.proofs.EndingNames.{right_report_replays}
-use Rattle.answer_laws.proofs.OneProgram.{one_program, refused_or_accepted, refused_or_found}
+use Rattle.answer_laws.proofs.OneProgram.{not_refused, refused_or_accepted}
 use Rattle.answer_spec.specs.AnswerLaws.{named_of}
 use Rattle.call_spec.specs.Calls.{Answer, Budget, Evidence, NoEvidence, RunOf, Refutations, EntryRefuted, SpentOn, Count, Two, Both, SpentOnPair, plain_answer, Options, Surroundings, AfterRead, read_failed, was_read, Question}
-use Rattle.bilv_spec.specs.Answers.{Report, HoldsReport, VacuousReport, FailsReport, UnrollReport, PointsReport, SizeReport, ConflictsReport, IsRightReport, IsReported, report_answer, report_text}
+use Rattle.bilv_spec.specs.Answers.{Report, HoldsReport, VacuousReport, FailsReport, UnrollReport, PointsReport, SizeReport, ConflictsReport, IsRightReport, report_answer, report_text}
 use Rattle.clause_spec.specs.Certificates.{certificate_text}
 use Rattle.bilv_spec.specs.Certified as certified
 use Rattle.bilv_spec.specs.Certified.{IsCertified}
@@ -23,10 +23,12 @@ use Rattle.clause_spec.specs.Checks.{text_limit, IsChecked}
 use Rattle.machine_spec.specs.Endings.{NamedEnding, FailsBy, UnknownBy, named_line}
 use Rattle.bilv_spec.specs.Run.{Program}
 use Rattle.word_spec.specs.Texts.{line}
-use Rattle.notes_spec.specs.Verified.{AfterImage, elf_refused, elf_accepted, AfterNotes, notes_refused, program_found, IsFound, IsVerified}
+use Rattle.notes_spec.specs.Verified.{AfterImage, elf_refused, elf_accepted, AfterNotes, notes_refused, program_found, IsFound}
+use Rattle.answer_spec.specs.FrameAnswers.{AfterFrames, frames_refused, frames_found, IsVerifiedWhole, IsReplayedWhole}
+use Rattle.answer_spec.proofs.Wholes.{by_invariants, found_program, programs_are_whole, without_invariants}
 use Rattle.bilv_spec.proofs.CertifiedQuestions.{certified_is_accepted}
 use Rattle.clause_spec.proofs.OneCheck.{one_check}
-use Rattle.answer_laws.specs.Told.{AreToldTo, AfterFiles}
+use Rattle.answer_laws.specs.Told.{AreToldTo, AfterWholeFiles}
 use Rattle.answer_laws.specs.TwoCalls.{Writes, Sufficed, IsPrinted}
 use Rattle.answer_laws.proofs.Told.{answer_told, outcome_told}
 
@@ -146,21 +148,24 @@ pub bare : (a : Answer) (status : ℕ) (written : List ℕ) → a ≡ plain_answ
 bare a status written is shows = subst ShowsRun (ap (λ (x : Answer). x.evidence) is) shows
 
 run_of_notes : (o : Options) (file text : List ℕ) (b : Budget) (a : Answer) → ShowsRun a.evidence →
-    AfterNotes o file text (λ p. IsReported p (layout_of o file) b) a →
+    AfterFrames o file text (IsVerifiedWhole (layout_of o file) b) a →
     IsOfRun o file text b a
-run_of_notes o file text b a shows (notes_refused written x is) = absurd (bare a 5 written is shows)
-run_of_notes o file text b a shows (program_found p x is) =
-    record {
-      program = p;
-      found = x;
+run_of_notes o file text b a shows (frames_refused written x is) = absurd (bare a 5 written is shows)
+run_of_notes o file text b a shows (frames_found w x next) =
+    by_invariants w.invariants _ _ (IsOfRun o file text b a)
+    (λ none is. record {
+      program = w.program;
+      found = found_program o file text w none x;
       report = is.0;
       evidence = is.1;
       right = is.2;
       is = is.3;
       shows = subst ShowsRun (ap (λ (x : Answer). x.evidence) is.3) shows;
-    }
+    })
+    (λ some is. absurd (bare a _ _ is.3 shows)) next
 
-run_of_file : (o : Options) (file text : List ℕ) (b : Budget) (a : Answer) → ShowsRun a.evidence → IsVerified o file text b a → IsOfRun o file text b a
+run_of_file : (o : Options) (file text : List ℕ) (b : Budget) (a : Answer) → ShowsRun a.evidence →
+    AfterWholeFiles o file text (IsVerifiedWhole (layout_of o file) b) a → IsOfRun o file text b a
 run_of_file o file text b a shows (elf_refused written x is) = absurd (bare a 4 written is shows)
 run_of_file o file text b a shows (elf_accepted x next) = run_of_notes o file text b a shows next
 
@@ -173,12 +178,13 @@ report_written s o content elf notes b first e told (cut a n due l appends rose 
 report_written s o content elf notes b first e told (no_memory appends status evidence) shows = absurd (subst ShowsRun evidence shows)
 
 -- the answer to a report over files that are a program
-replay_found : (o : Options) (file text : List ℕ) (p : Program) (a : Answer) (due : Program → Answer) → IsFound o file text p →
-    AfterFiles o file text (λ q x. x ≡ due q) a →
-    a ≡ due p
-replay_found o file text p a due found (elf_refused written x is) = absurd (refused_or_accepted file written x found.0)
-replay_found o file text p a due found (elf_accepted accepted (notes_refused written x is)) = absurd (refused_or_found o file text written p x found)
-replay_found o file text p a due found (elf_accepted accepted (program_found q x is)) = is ∙ ap due (one_program o file text q p x found)
+replay_found : (o : Options) (file text report : List ℕ) (p : Program) (a : Answer) → IsFound o file text p →
+    AfterWholeFiles o file text (IsReplayedWhole (layout_of o file) report) a → a ≡ replay_answer p (layout_of o file) report
+replay_found o file text report p a found (elf_refused written x is) = absurd (refused_or_accepted file written x found.0)
+replay_found o file text report p a found (elf_accepted accepted (frames_refused written x is)) = absurd (not_refused o file text written p x found)
+replay_found o file text report p a found (elf_accepted accepted (frames_found w x next)) =
+    let same = (programs_are_whole o file text p found).1 w x in
+    (without_invariants w.invariants _ _ same.1).0 next ∙ ap (λ q. replay_answer q (layout_of o file) report) same.0
 
 module _ (t : Surroundings) (o : Options) (content : List ℕ → List ℕ) (elf notes report : List ℕ) (status : ℕ) (f : Evidence) where
   -- the answer to a report that is replayed over a program is written
@@ -189,7 +195,7 @@ module _ (t : Surroundings) (o : Options) (content : List ℕ → List ℕ) (elf
   replay_written p n found replays told sufficed outcome =
       let answered = outcome_told t content (Replay o elf notes report) status f told sufficed.0 sufficed.1 outcome in
       let same : answered.0 ≡ plain_answer 0 (line (codes "replayed " ++ named_line n)) =
-      replay_found o (content elf) (content notes) p answered.0 (λ q. replay_answer q (layout_of o (content elf)) (content report)) found answered.1
+      replay_found o (content elf) (content notes) (content report) p answered.0 found answered.1
       ∙ replays in
       let written = subst (λ x. Appends t.text_before x t.text_after) (ap (λ (x : Answer). x.text) same) answered.4 in
       (answered.2 ∙ ap (λ (x : Answer). x.status) same, written)

@@ -6,3 +6,5 @@ pub mod Upgrading
 pub mod Told
 pub mod TwoCalls
 pub mod Compared
+pub mod Invariants
+pub mod FrameReplayed

@@ -5,8 +5,8 @@ use Rattle.call_spec.specs.Calls.{Answer, Evidence, NoEvidence, Options, Surroun
 use Rattle.bilv_spec.specs.Certified.{IsCertified}
 use Rattle.bilv_spec.specs.Files.{layout_of}
 use Rattle.command_spec.specs.Commands.{Command, Verify, Lift, Graph, Script, Replay, Certify, Check, SelfRun, Upgrade, Model, Equal, Differ, PairNames}
+use Rattle.answer_spec.specs.FrameAnswers.{AfterFrames, IsVerifiedWhole, IsReplayedWhole}
 use Rattle.answer_spec.specs.Outcomes.{IsLifted, IsGraphed, IsSelfRun, upgrade_answer}
-use Rattle.bilv_spec.specs.Replays.{replay_answer}
 use Rattle.model_spec.specs.Models.{AfterBudgets, IsModelAnswer}
 use Rattle.pair_spec.specs.Differs.{differ_answer}
 use Rattle.pair_spec.specs.Links.{Link}
@@ -14,7 +14,8 @@ use Rattle.pair_spec.specs.Equals.{side_of, ByContents, IsCompared}
 use Rattle.clause_spec.specs.Checks.{IsChecked}
 use Rattle.bilv_spec.specs.Run.{Program}
 use Rattle.bilv_spec.specs.Scripts.{IsScriptAnswer}
-use Rattle.notes_spec.specs.Verified.{AfterImage, AfterNotes, IsVerified}
+use Rattle.frame_spec.specs.FrameVerdict.{Whole}
+use Rattle.notes_spec.specs.Verified.{AfterImage, AfterNotes}
 
 -- the file of a name is told, by what the names' files are, and the count of its faults did not rise
 abbrev pub IsTold : Surroundings → (content : List ℕ → List ℕ) → (name : List ℕ) → Type 0
@@ -45,6 +46,10 @@ AreToldTo s content (Differ o names report) = IsPairTold s content names × IsTo
 abbrev pub AfterFiles : Options → (file text : List ℕ) → (Program → Answer → Type 0) → Answer → Type 0
 AfterFiles o file text Next = AfterImage file (AfterNotes o file text Next)
 
+-- so where the notes may have invariants
+abbrev pub AfterWholeFiles : Options → (file text : List ℕ) → (Whole → Answer → Type 0) → Answer → Type 0
+AfterWholeFiles o file text Next = AfterImage file (AfterFrames o file text Next)
+
 -- the answer to the five files of a pair: the refusal of the first that is refused, or what is due to their programs and links
 abbrev pub AfterPairFiles : Options → (content : List ℕ → List ℕ) → PairNames → (Program → Program → List Link → Answer → Type 0) → Answer → Type 0
 AfterPairFiles o content names Next =
@@ -52,12 +57,12 @@ AfterPairFiles o content names Next =
 
 -- the answer to a command, by what the names' files are
 abbrev pub IsAnswerTo : (content : List ℕ → List ℕ) → Command → Answer → Type 0
-IsAnswerTo content (Verify o elf notes b) = IsVerified o (content elf) (content notes) b
+IsAnswerTo content (Verify o elf notes b) = AfterWholeFiles o (content elf) (content notes) (IsVerifiedWhole (layout_of o (content elf)) b)
 IsAnswerTo content (Lift o elf) = AfterImage (content elf) (IsLifted o (content elf))
 IsAnswerTo content (Graph o elf notes) = AfterFiles o (content elf) (content notes) IsGraphed
 IsAnswerTo content (Script o elf notes kind b) = AfterFiles o (content elf) (content notes) (λ p. IsScriptAnswer p (layout_of o (content elf)) b kind)
 IsAnswerTo content (Replay o elf notes report) =
-    AfterFiles o (content elf) (content notes) (λ p a. a ≡ replay_answer p (layout_of o (content elf)) (content report))
+    AfterWholeFiles o (content elf) (content notes) (IsReplayedWhole (layout_of o (content elf)) (content report))
 IsAnswerTo content (Certify o elf notes kind b) = AfterFiles o (content elf) (content notes) (λ p a. IsCertified p b kind a.status a.text a.evidence)
 IsAnswerTo content (Check certificate) = λ a. IsChecked (content certificate) a.status a.text × (a.evidence ≡ NoEvidence)
 IsAnswerTo content (SelfRun seed count) = IsSelfRun seed count

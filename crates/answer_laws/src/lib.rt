@@ -2,6 +2,7 @@
 //! contract is the law.
 #![tactic(auto)]
 
+pub mod invariants;
 pub mod pairs;
 pub mod readings;
 pub mod reports;
