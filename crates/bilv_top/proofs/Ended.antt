@@ -5,14 +5,14 @@ use Rattle.bilv_spec.specs.Run.{Program}
 use Rattle.call_spec.specs.Calls.{Options, Answer, Budget, NoEvidence, Surroundings, AfterRead}
 use Rattle.bilv_spec.specs.Files.{layout_of}
 use Rattle.call_spec.specs.Outside.{Appends, Rose}
-use Rattle.bilv_spec.specs.Answers.{IsReported}
 use Rattle.notes_spec.specs.Verified.{AfterImage, elf_refused, elf_accepted, AfterNotes, notes_refused, program_found}
 use Rattle.bilv_spec.specs.Certified.{IsCertified}
 use Rattle.clause_spec.specs.Checks.{IsChecked}
-use Rattle.bilv_spec.specs.Replays.{replay_answer}
+use Rattle.frame_spec.specs.FrameVerdict.{Whole}
 use Rattle.bilv_spec.specs.Scripts.{IsScriptAnswer}
 use Rattle.command_spec.specs.Commands.{Command, Verify, Lift, Graph, Script, Replay, Certify, Check, SelfRun, Upgrade, Model, Equal, Differ}
-use Rattle.answer_spec.specs.Outcomes.{AfterBoth, IsLifted, IsGraphed, upgrade_answer, IsDueAnswer, IsOutcome, whole, cut, no_memory}
+use Rattle.answer_spec.specs.FrameAnswers.{AfterFrames, frames_refused, frames_found, IsVerifiedWhole, IsReplayedWhole}
+use Rattle.answer_spec.specs.Outcomes.{AfterBoth, AfterWhole, IsLifted, IsGraphed, upgrade_answer, IsDueAnswer, IsOutcome, whole, cut, no_memory}
 use Rattle.answer_laws.specs.Completeness.{AreTold, IsSpentEvidence}
 use Rattle.answer_laws.specs.Told.{AreToldTo, IsAnswered}
 use Rattle.answer_laws.specs.Upgrading.{KeepsVerdict}
@@ -40,6 +40,11 @@ notes_next : (o : Options) (file text : List ℕ) (Next Other : Program → Answ
 notes_next o file text Next Other a step (notes_refused written x is) = notes_refused written x is
 notes_next o file text Next Other a step (program_found p x next) = program_found p x (step p next)
 
+frames_next : (o : Options) (file text : List ℕ) (Next Other : Whole → Answer → Type 0) (a : Answer) → ((w : Whole) → Next w a → Other w a) →
+    AfterFrames o file text Next a → AfterFrames o file text Other a
+frames_next o file text Next Other a step (frames_refused written x is) = frames_refused written x is
+frames_next o file text Next Other a step (frames_found w x next) = frames_found w x (step w next)
+
 nothing_appended : (text : Option (List ℕ)) → Appends text [] text
 nothing_appended None = refl
 nothing_appended (Some text) = ap Some (sym (append-nil text))
@@ -58,6 +63,16 @@ module _ (s : Surroundings) (before after : Option (List ℕ)) (sink_before sink
       (read_met s before after sink_before sink_after notes (λ text. AfterNotes o file text (Next file)) (λ text. AfterNotes o file text (Other file)) a
       (λ text. notes_next o file text (Next file) (Other file) a (step file))))
 
+  whole_met : (o : Options) (elf notes : List ℕ) (Next Other : List ℕ → Whole → Answer → Type 0) (a : Answer) →
+      ((file : List ℕ) (w : Whole) → Next file w a → Other file w a) → AfterWhole s o elf notes Next a → AfterWhole there o elf notes Other a
+  whole_met o elf notes Next Other a step =
+      read_met s before after sink_before sink_after elf (λ file. AfterImage file (AfterRead s notes (λ text. AfterFrames o file text (Next file))))
+      (λ file. AfterImage file (AfterRead there notes (λ text. AfterFrames o file text (Other file)))) a
+      (λ file. image_next file (AfterRead s notes (λ text. AfterFrames o file text (Next file)))
+      (AfterRead there notes (λ text. AfterFrames o file text (Other file))) a
+      (read_met s before after sink_before sink_after notes (λ text. AfterFrames o file text (Next file)) (λ text. AfterFrames o file text (Other file)) a
+      (λ text. frames_next o file text (Next file) (Other file) a (step file))))
+
   read_same : (name : List ℕ) (Next : List ℕ → Answer → Type 0) (a : Answer) → AfterRead s name Next a → AfterRead there name Next a
   read_same name Next a = read_met s before after sink_before sink_after name Next Next a (λ bytes next. next)
 
@@ -68,14 +83,15 @@ module _ (s : Surroundings) (before after : Option (List ℕ)) (sink_before sink
   -- what is written changes no answer that is due
   due_met : (c : Option Command) (a : Answer) → IsDueAnswer s c a → IsDueAnswer there c a
   due_met None a due = due
-  due_met (Some (Verify o elf notes b)) a due = both_same o elf notes (λ file p. IsReported p (layout_of o file) b) a due
+  due_met (Some (Verify o elf notes b)) a due =
+      whole_met o elf notes (λ file. IsVerifiedWhole (layout_of o file) b) (λ file. IsVerifiedWhole (layout_of o file) b) a (λ file w is. is) due
   due_met (Some (Lift o elf)) a due = read_same elf (λ file. AfterImage file (IsLifted o file)) a due
   due_met (Some (Graph o elf notes)) a due = both_same o elf notes (λ file p. IsGraphed p) a due
   due_met (Some (Script o elf notes q b)) a due = both_same o elf notes (λ file p. IsScriptAnswer p (layout_of o file) b q) a due
   due_met (Some (Replay o elf notes report)) a due =
-      both_met o elf notes (λ file p. AfterRead s report (λ text x. x ≡ replay_answer p (layout_of o file) text))
-      (λ file p. AfterRead there report (λ text x. x ≡ replay_answer p (layout_of o file) text)) a
-      (λ file p. read_same report (λ text x. x ≡ replay_answer p (layout_of o file) text) a) due
+      whole_met o elf notes (λ file w. AfterRead s report (λ text. IsReplayedWhole (layout_of o file) text w))
+      (λ file w. AfterRead there report (λ text. IsReplayedWhole (layout_of o file) text w)) a
+      (λ file w. read_same report (λ text. IsReplayedWhole (layout_of o file) text w) a) due
   due_met (Some (Certify o elf notes q b)) a due = both_same o elf notes (λ file p x. IsCertified p b q x.status x.text x.evidence) a due
   due_met (Some (Check name)) a due = read_same name (λ text x. IsChecked text x.status x.text × (x.evidence ≡ NoEvidence)) a due
   due_met (Some (SelfRun seed count)) a due = due

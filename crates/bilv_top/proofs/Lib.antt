@@ -6,6 +6,7 @@ pub mod MetPairs
 pub mod Ended
 pub mod Verdicts
 pub mod Founds
+pub mod Segments
 pub mod Made
 pub mod Modelled
 pub mod Compared

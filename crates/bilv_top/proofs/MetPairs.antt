@@ -3,7 +3,7 @@ use Rattle.std.proofs.Common.{ℕ, List, Option}
 use Rattle.std.specs.Prelude.{codes}
 use Rattle.answer_spec.specs.Outcomes.{AfterPair}
 use Rattle.bilv_spec.specs.Run.{Program}
-use Rattle.call_spec.specs.Calls.{Options, Answer, Surroundings, AfterRead}
+use Rattle.call_spec.specs.Calls.{Options, Answer, Surroundings}
 use Rattle.command_spec.specs.Commands.{PairNames}
 use Rattle.io_edges.specs.Met.{met}
 use Rattle.io_edges.proofs.Meeting.{read_met}

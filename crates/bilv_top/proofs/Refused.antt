@@ -1,20 +1,15 @@
 -- What is answered where the inputs of a command are refused.
-use Rattle.std.proofs.Common.{◌≡◌, ℕ, ◌≤◌, List, Option, Bool, length, true, false, ◌∙◌, refl, ap, sym, subst, arith}
-use Rattle.std.specs.Prelude.{codes, if◌then◌else◌}
-use mathlib.Core.Path.{fun_ext}
+use Rattle.std.proofs.Common.{◌≡◌, ℕ, ◌≤◌, List, length, refl, sym, subst, arith}
+use Rattle.std.specs.Prelude.{codes}
 use Rattle.call_spec.specs.Outside.{Held, Agrees, Rose}
 use Rattle.bilv_spec.specs.Run.{Program}
-use Rattle.bilv_spec.specs.Notes.{Expr, Notes, Function, At, Named}
+use Rattle.bilv_spec.specs.Notes.{Notes, Function, At, Named}
 use Rattle.notes_spec.specs.NotesGrammar.{IsNotesText}
 use Rattle.notes_spec.specs.NotesFaults.{NoteFault, IsFirstNoteFault}
 use Rattle.call_spec.specs.Calls.{Options, Answer, plain_answer, Surroundings, AfterRead, read_failed, was_read}
-use Rattle.bilv_spec.specs.Files.{machine_of, is_rv, program_of, IsFunctionAt}
-use Rattle.notes_spec.specs.Programs.{names_of, vocabulary_of}
-use Rattle.machine_spec.specs.Machine as machines
-use Rattle.notes_spec.specs.Scopes.{Dialect, Paired, in_dialect}
-use Rattle.bilv_spec.proofs.ProgramRows.{risc_v_has_one_option, arm_has_one_option}
-use Rattle.notes_spec.specs.RvNames.{rv_names}
-use Rattle.notes_spec.specs.ArmNames.{arm_names}
+use Rattle.bilv_spec.specs.Files.{machine_of, program_of, IsFunctionAt}
+use Rattle.notes_spec.specs.Programs.{vocabulary_of}
+use Rattle.notes_spec.specs.Scopes.{Dialect, Plain, Paired, in_dialect}
 use Rattle.word_spec.specs.Texts.{line}
 use Rattle.answer_spec.specs.Outcomes.{AfterElf}
 use Rattle.notes_spec.specs.Verified.{AfterImage, elf_refused, elf_accepted, AfterNotes, notes_refused, program_found, IsElfRefused, elf_large, elf_fault, AreNotesRefusedIn, notes_large, notes_fault, no_function, ambiguous, note_fault_text, elf_fault_text, IsFound, IsAccepted, elf_limit, notes_limit}
@@ -30,7 +25,7 @@ use Rattle.bilv_top.specs.declared.answer.Step.{Step}
 use Rattle.bilv_top.specs.declared.answer.Step.TheVariants.{Answered, Go}
 use Rattle.bilv_top.specs.declared.inputs.Found.{Found}
 use Rattle.notes_spec.proofs.Dialects.{paired_is_plain}
-use Rattle.bilv_top.specs.Due.{IsUnread, failed, longer, AreNotesAnswered, AreNotesAnsweredIn, IsNotesAnswer, unread, refused, IsFoundIn, IsFoundBy}
+use Rattle.bilv_top.specs.Due.{IsUnread, failed, longer, AreNotesAnswered, AreNotesAnsweredIn, IsNotesAnswer, IsNotesAnswerIn, unread, refused, IsFoundIn, IsFoundBy}
 use Rattle.bilv_top.specs.Names.{IsMissedFunction, missed_text}
 
 -- notes that were found where two functions are compared are notes of one function
@@ -120,10 +115,10 @@ pub unread_since : (held : Held) (a b c limit : ℕ) (large answer : Answer) →
 unread_since held a b c limit large answer le (failed rose is) = failed (rose_since a b c le rose) is
 unread_since held a b c limit large answer le (longer long is) = longer long is
 
-pub answer_since : (held : Held) (a b c : ℕ) (o : Options) (file : List ℕ) (answer : Answer) → a ≤ b → IsNotesAnswer held b c o file answer →
-    IsNotesAnswer held a c o file answer
-answer_since held a b c o file answer le (unread is) = unread (unread_since held a b c notes_limit _ answer le is)
-answer_since held a b c o file answer le (refused text agrees answered) = refused text agrees answered
+pub answer_since : (d : List ℕ → Dialect) (held : Held) (a b c : ℕ) (o : Options) (file : List ℕ) (answer : Answer) → a ≤ b →
+    IsNotesAnswerIn d held b c o file answer → IsNotesAnswerIn d held a c o file answer
+answer_since d held a b c o file answer le (unread is) = unread (unread_since held a b c notes_limit _ answer le is)
+answer_since d held a b c o file answer le (refused text agrees answered) = refused text agrees answered
 
 -- what is read of a file whose count never fell before
 pub read_since : (s t : Surroundings) (name : List ℕ) (Next : List ℕ → Answer → Type 0) (a : Answer) → s.held name ≡ t.held name →
@@ -149,7 +144,7 @@ module _ (s : Surroundings) (o : Options) (elf notes file : List ℕ) (Next : Li
   both_answered (elf_accepted accepted is) =
       elf_accepts s elf (λ file. AfterRead s notes (λ text. AfterNotes o file text (Next file text))) a file agrees accepted
       (notes_answered s o notes file (Next file) a
-      (answer_since (s.held notes) (s.shelf_before notes) before (s.shelf_after notes) o file a le (subst
+      (answer_since (λ text. Plain) (s.held notes) (s.shelf_before notes) before (s.shelf_after notes) o file a le (subst
       (λ h. IsNotesAnswer h before (s.shelf_after notes) o file a) same is)))
 
   -- a program is found

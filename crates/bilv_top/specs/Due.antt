@@ -2,6 +2,7 @@
 use Rattle.std.specs.Prelude.{ℕ, ◌≡◌, List, codes}
 use Rattle.call_spec.specs.Outside.{Held, Agrees, IsLonger, Rose}
 use Rattle.call_spec.specs.Calls.{Options, Answer, plain_answer, read_fault}
+use Rattle.answer_spec.specs.FrameAnswers.{dialect_for}
 use Rattle.bilv_spec.specs.Files.{machine_of, IsFunctionAt}
 use Rattle.notes_spec.specs.Scopes.{Dialect, Plain, in_dialect}
 use Rattle.notes_spec.specs.Programs.{vocabulary_of}
@@ -25,10 +26,17 @@ AreNotesAnsweredIn d o file text a = (written : List ℕ) × AreNotesRefusedIn d
 abbrev pub AreNotesAnswered : Options → (file text : List ℕ) → Answer → Type 0
 AreNotesAnswered = AreNotesAnsweredIn Plain
 
--- the answer where no program is found over an accepted file: the notes of a name were not read, or are refused
-pub data IsNotesAnswer (held : Held) (before after : ℕ) (o : Options) (file : List ℕ) (a : Answer) : Type 0 where
-  unread : IsUnread held before after notes_limit (plain_answer 5 (line (codes "notes: TooLarge"))) a → IsNotesAnswer held before after o file a
-  refused : (text : List ℕ) → Agrees held text → AreNotesAnswered o file text a → IsNotesAnswer held before after o file a
+-- The answer where no function is found over an accepted file: the notes of a name were not read, or are refused in the dialect of their text.
+pub data IsNotesAnswerIn (d : List ℕ → Dialect) (held : Held) (before after : ℕ) (o : Options) (file : List ℕ) (a : Answer) : Type 0 where
+  unread : IsUnread held before after notes_limit (plain_answer 5 (line (codes "notes: TooLarge"))) a → IsNotesAnswerIn d held before after o file a
+  refused : (text : List ℕ) → Agrees held text → AreNotesAnsweredIn (d text) o file text a → IsNotesAnswerIn d held before after o file a
+
+-- so of notes without invariants, and of notes that may have them
+abbrev pub IsNotesAnswer : (held : Held) → (before after : ℕ) → Options → (file : List ℕ) → Answer → Type 0
+IsNotesAnswer = IsNotesAnswerIn (λ text. Plain)
+
+abbrev pub IsFramesAnswer : (held : Held) → (before after : ℕ) → Options → (file : List ℕ) → Answer → Type 0
+IsFramesAnswer = IsNotesAnswerIn dialect_for
 
 -- the file's machine has the registers and flags that the notes name, whatever its options
 pub record IsOverFile (file : List ℕ) (f : Found) : Type 0 where

@@ -7,3 +7,4 @@ pub mod Chosen
 pub mod Tasks
 pub mod Pairs
 pub mod Reads
+pub mod Frames

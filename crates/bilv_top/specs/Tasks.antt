@@ -1,5 +1,5 @@
 -- What is asked about a program, and its answer.
-use Rattle.std.specs.Prelude.{ℕ, ◌≡◌, List}
+use Rattle.std.specs.Prelude.{◌≡◌}
 use Rattle.call_spec.specs.Calls.{Answer, Surroundings, AfterRead}
 use Rattle.bilv_spec.specs.Answers.{IsReported}
 use Rattle.bilv_spec.specs.Certified.{IsCertified}

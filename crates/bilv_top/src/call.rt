@@ -20,6 +20,7 @@ ghost use Rattle.bilv_top.specs.Reads.{files_of, files_of_line};
 use crate::answer::{Answer, Evidence};
 use crate::certificate::check_certificate;
 use crate::comparing::{PairTask, compare_named};
+use crate::frame_tasks::{FrameTask, answer_framed};
 use crate::lift::lift;
 use crate::reading::answer;
 use crate::selfrun::selfrun;
@@ -52,7 +53,7 @@ fn obey<H: Shelf>(alloc: Global, command: Command, shelf: &mut H) -> Result<Answ
             notes,
             options,
             budget,
-        } => answer_about(alloc, shelf, elf, notes, options, Task::Report(budget)),
+        } => answer_framed(alloc, shelf, elf, notes, options, FrameTask::Report(budget)),
         Command::Lift { elf, options } => lift(alloc, shelf, elf, options),
         Command::Graph {
             elf,
@@ -78,7 +79,7 @@ fn obey<H: Shelf>(alloc: Global, command: Command, shelf: &mut H) -> Result<Answ
             notes,
             options,
             state,
-        } => answer_about(alloc, shelf, elf, notes, options, Task::Replay(state)),
+        } => answer_framed(alloc, shelf, elf, notes, options, FrameTask::Replay(state)),
         Command::Certify {
             elf,
             notes,

@@ -71,7 +71,7 @@ pub fn refuse_elf(alloc: Global, fault: ElfFault) -> Result<Answer, AllocError>
 }
 
 /// The address of the function of notes, by some options of the image.
-fn entry_of(image: &Image, notes: &Notes, options: Options) -> Result<u32, SymFault>
+pub fn entry_of(image: &Image, notes: &Notes, options: Options) -> Result<u32, SymFault>
     ensures { MatchResult result (IsFunctionAt (machine_of (options_of options) image.now).narrow image.now (function_of notes.now.entry))
         (IsMissedFunction (machine_of (options_of options) image.now).narrow image.now (function_of notes.now.entry)) }
 {
@@ -82,7 +82,7 @@ fn entry_of(image: &Image, notes: &Notes, options: Options) -> Result<u32, SymFa
 }
 
 /// The answer to notes with a faulty line. The error is want of memory.
-fn refuse_line(alloc: Global, fault: NoteFault) -> Result<Answer, AllocError>
+pub fn refuse_line(alloc: Global, fault: NoteFault) -> Result<Answer, AllocError>
     ensures { IfOk result (λ a. answer_of a ≡ plain_answer 5 (verified.note_fault_text fault.line (fault_of fault.kind))) }
 {
     let words = note_fault_words(fault.kind);
@@ -95,7 +95,7 @@ fn refuse_line(alloc: Global, fault: NoteFault) -> Result<Answer, AllocError>
 }
 
 /// The answer to notes whose function is not found. The error is want of memory.
-fn refuse_name(alloc: Global, fault: SymFault) -> Result<Answer, AllocError>
+pub fn refuse_name(alloc: Global, fault: SymFault) -> Result<Answer, AllocError>
     ensures { IfOk result (λ a. answer_of a ≡ plain_answer 5 (missed_text fault)) }
 {
     match fault {

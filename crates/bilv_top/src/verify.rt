@@ -1,18 +1,25 @@
 //! The answer that verifies.
 ghost use Rattle.std.specs.Prelude.{IfOk};
+ghost use Rattle.std.specs.List.Sorted.{IsStrictlyIncreasing};
+ghost use Rattle.answer_spec.specs.FrameAnswers.{IsFrameReported};
 ghost use Rattle.bilv_spec.specs.Answers.{IsReported};
 ghost use Rattle.bilv_spec.specs.Files.{program_of};
 ghost use Rattle.bilv_top.specs.Answers.{answer_of};
 ghost use Rattle.bilv_top.specs.Chosen.{IsMachineOf};
 ghost use Rattle.bilv_top.specs.Due.{IsOverFile};
 ghost use Rattle.command_line.specs.Commands.{budget_of};
+ghost use Rattle.machine_spec.specs.Machine.{IsAtPlace};
 ghost use Rattle.notes_value.specs.NoteViews.{notes_of};
+ghost use Rattle.table_run.specs.FrameEnds.{whole_of};
 
 use crate::answer::Answer;
+use crate::frame_reports::frame_report;
+use crate::framed::Framed;
 use crate::inputs::Found;
 use crate::reports::report;
 use command_line::Budget;
 use elf32_reader::Image;
+use frame_verdict::verify_frame;
 use machine_law::Machine;
 use std::alloc::{AllocError, Global};
 use verdict::verify as verdict_of;
@@ -31,5 +38,33 @@ pub fn report_by<M: Machine>(
 {
     let verdict = verdict_of::<M>(alloc, image, &found.notes, found.entry, &budget)?;
     let answer = report(alloc, M::layout(), budget, verdict)?;
+    Ok(answer)
+}
+
+/// The report on a function of a machine whose notes have invariants. The error is want of memory.
+pub fn report_frames_by<M: Machine>(
+    alloc: Global,
+    image: &Image,
+    framed: &Framed,
+    budget: Budget,
+) -> Result<Answer, AllocError>
+    requires machine { IsMachineOf image.now M.machine }
+    requires found { IsOverFile image.now framed.now.found }
+    requires place { IsAtPlace M.machine.narrow framed.now.found.entry }
+    requires rising { IsStrictlyIncreasing framed.now.invariants.items }
+    ensures { IfOk result (λ a. IsFrameReported
+        (whole_of (program_of M.machine image.now (notes_of framed.now.found.notes) framed.now.found.entry) framed.now.invariants.items) M.form
+        (budget_of budget) (answer_of a)) }
+{
+    let found = &framed.found;
+    let verdict = verify_frame::<M>(
+        alloc,
+        image,
+        &found.notes,
+        &framed.invariants,
+        found.entry,
+        &budget,
+    )?;
+    let answer = frame_report(alloc, M::layout(), budget, verdict)?;
     Ok(answer)
 }

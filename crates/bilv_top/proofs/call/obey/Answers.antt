@@ -1,19 +1,19 @@
 use Rattle.bilv_top.proofs.call.obey.Goals as goal
 
 pub returns-in-Verify-clause-right : goal.returns-in-Verify-clause-right
-returns-in-Verify-clause-right g c = rw c.in-Verify.is c.answer_about.ensures.answered
+returns-in-Verify-clause-right g c = rw c.in-Verify.is c.answer_framed.ensures.answered
 
 pub returns-in-Lift-clause-right : goal.returns-in-Lift-clause-right
 returns-in-Lift-clause-right g c = rw c.in-Lift.is c.lift.ensures.right
 
 pub returns-in-Graph-clause-right : goal.returns-in-Graph-clause-right
-returns-in-Graph-clause-right g c = rw c.in-Graph.is c.answer_about-in-Graph.ensures.answered
+returns-in-Graph-clause-right g c = rw c.in-Graph.is c.answer_about.ensures.answered
 
 pub returns-in-Script-clause-right : goal.returns-in-Script-clause-right
 returns-in-Script-clause-right g c = rw c.in-Script.is c.answer_about-in-Script.ensures.answered
 
 pub returns-in-Replay-clause-right : goal.returns-in-Replay-clause-right
-returns-in-Replay-clause-right g c = rw c.in-Replay.is c.answer_about-in-Replay.ensures.answered
+returns-in-Replay-clause-right g c = rw c.in-Replay.is c.answer_framed-in-Replay.ensures.answered
 
 pub returns-in-Certify-clause-right : goal.returns-in-Certify-clause-right
 returns-in-Certify-clause-right g c = rw c.in-Certify.is c.answer_about-in-Certify.ensures.answered
@@ -37,19 +37,19 @@ pub returns-in-Differ-clause-right : goal.returns-in-Differ-clause-right
 returns-in-Differ-clause-right g c = rw c.in-Differ.is c.compare_named-in-Differ.ensures.compared
 
 pub returns-in-Verify-clause-begun : goal.returns-in-Verify-clause-begun
-returns-in-Verify-clause-begun g c = rw c.in-Verify.is c.answer_about.ensures.begun
+returns-in-Verify-clause-begun g c = rw c.in-Verify.is c.answer_framed.ensures.begun
 
 pub returns-in-Lift-clause-begun : goal.returns-in-Lift-clause-begun
 returns-in-Lift-clause-begun g c = rw c.in-Lift.is c.lift.ensures.begun
 
 pub returns-in-Graph-clause-begun : goal.returns-in-Graph-clause-begun
-returns-in-Graph-clause-begun g c = rw c.in-Graph.is c.answer_about-in-Graph.ensures.begun
+returns-in-Graph-clause-begun g c = rw c.in-Graph.is c.answer_about.ensures.begun
 
 pub returns-in-Script-clause-begun : goal.returns-in-Script-clause-begun
 returns-in-Script-clause-begun g c = rw c.in-Script.is c.answer_about-in-Script.ensures.begun
 
 pub returns-in-Replay-clause-begun : goal.returns-in-Replay-clause-begun
-returns-in-Replay-clause-begun g c = rw c.in-Replay.is c.answer_about-in-Replay.ensures.begun
+returns-in-Replay-clause-begun g c = rw c.in-Replay.is c.answer_framed-in-Replay.ensures.begun
 
 pub returns-in-Certify-clause-begun : goal.returns-in-Certify-clause-begun
 returns-in-Certify-clause-begun g c = rw c.in-Certify.is c.answer_about-in-Certify.ensures.begun

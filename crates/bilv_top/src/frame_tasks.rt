@@ -1,0 +1,183 @@
+//! What is asked about a function whose notes may have invariants, and its answer on the machine of the file.
+ghost use Rattle.std.specs.Prelude.{◌≡◌, ◌≢◌, ◌≤◌, ℕ, List, [], ◌∷◌, IfOk};
+ghost use Rattle.bilv_spec.specs.Files.{layout_of, machine_of, program_of};
+ghost use Rattle.machine_spec.specs.Machine.{IsAtPlace};
+ghost use Rattle.std.specs.List.Sorted.{IsStrictlyIncreasing};
+ghost use Rattle.answer_spec.specs.Outcomes.{AfterWhole};
+ghost use Rattle.command_line.specs.Commands.{options_of};
+ghost use Rattle.notes_value.specs.NoteViews.{notes_of};
+ghost use Rattle.table_run.specs.FrameEnds.{whole_of};
+ghost use Rattle.io_edges.specs.Met.{seen};
+ghost use Rattle.io_edges.specs.Begun.{AreBegun};
+ghost use Rattle.bilv_top.specs.Answers.{answer_of};
+ghost use Rattle.bilv_top.specs.Chosen.{IsMachineOf};
+ghost use Rattle.bilv_top.specs.Due.{IsOverFile};
+ghost use Rattle.bilv_top.specs.Frames.{IsFramedBy, IsFramedDone, IsSegmented, names_of_frame_task, plain_task};
+
+use crate::answer::{Answer, Step};
+use crate::framed::{Framed, read_framed};
+use crate::inputs::read_elf;
+use crate::machines::{layout, on_machine};
+use crate::replay::replay_frames_by;
+use crate::tasks::{Task, answer_on};
+use crate::verify::report_frames_by;
+use arm_lift::Arm;
+use command_line::{Budget, Options};
+use elf32_reader::Image;
+use io_edges::Shelf;
+use machine_law::Machine;
+use rv_lift::Rv32;
+use start_value::{Layout, Profile};
+use std::alloc::{AllocError, Global};
+
+/// What is asked about a function whose notes may have invariants.
+#[derive(Clone, Copy)]
+pub enum FrameTask<'a> {
+    /// The report of its verdict within budgets.
+    Report(Budget),
+    /// Whether the segment, or the run, from the start of the report of this name ends as the report says.
+    Replay(&'a str),
+}
+
+/// The same, of a function without invariants.
+fn without_invariants<'a>(task: FrameTask<'a>) -> Task<'a>
+    ensures { result ≡ plain_task task.entry }
+{
+    match task {
+        FrameTask::Report(budget) => Task::Report(budget),
+        FrameTask::Replay(name) => Task::Replay(name),
+    }
+}
+
+/// The answer to a task about a function of a machine whose notes have invariants. The error is out of memory.
+#[tactic(auto, using(io_edges::proofs::Beginning::begun_none))]
+fn answer_framed_by<M: Machine, H: Shelf>(
+    alloc: Global,
+    shelf: &mut H,
+    image: &Image,
+    framed: &Framed,
+    task: FrameTask,
+) -> Result<Answer, AllocError>
+    requires machine { IsMachineOf image.now M.machine }
+    requires found { IsOverFile image.now framed.now.found }
+    requires place { IsAtPlace M.machine.narrow framed.now.found.entry }
+    requires rising { IsStrictlyIncreasing framed.now.invariants.items }
+    ensures keeps { (n : List ℕ) → H.holds shelf.new n ≡ H.holds shelf.old n }
+    ensures never_falls { (n : List ℕ) → H.faults shelf.old n ≤ H.faults shelf.new n }
+    ensures begun { AreBegun (H.begun shelf.old) (H.begun shelf.new) (names_of_frame_task task.entry) }
+    ensures done { IfOk result (λ a. IsSegmented (seen (H.holds shelf.old) (H.faults shelf.old) (H.faults shelf.new)) task.entry M.form
+        (whole_of (program_of M.machine image.now (notes_of framed.now.found.notes) framed.now.found.entry) framed.now.invariants.items) (answer_of a)) }
+{
+    match task {
+        FrameTask::Report(budget) => report_frames_by::<M>(alloc, image, framed, budget),
+        FrameTask::Replay(name) => replay_frames_by::<M, H>(alloc, shelf, image, framed, name),
+    }
+}
+
+/// The same, of the machine that a file is of by some options.
+fn answer_framed_of<M: Machine, H: Shelf>(
+    alloc: Global,
+    shelf: &mut H,
+    image: &Image,
+    framed: &Framed,
+    options: Options,
+    task: FrameTask,
+) -> Result<Answer, AllocError>
+    requires machine { machine_of (options_of options) image.now ≡ M.machine }
+    requires form { layout_of (options_of options) image.now ≡ M.form }
+    requires found { IsOverFile image.now framed.now.found }
+    requires place { IsAtPlace (machine_of (options_of options) image.now).narrow framed.now.found.entry }
+    requires rising { IsStrictlyIncreasing framed.now.invariants.items }
+    ensures keeps { (n : List ℕ) → H.holds shelf.new n ≡ H.holds shelf.old n }
+    ensures never_falls { (n : List ℕ) → H.faults shelf.old n ≤ H.faults shelf.new n }
+    ensures begun { AreBegun (H.begun shelf.old) (H.begun shelf.new) (names_of_frame_task task.entry) }
+    ensures done { IfOk result (λ a. IsSegmented (seen (H.holds shelf.old) (H.faults shelf.old) (H.faults shelf.new)) task.entry
+        (layout_of (options_of options) image.now)
+        (whole_of (program_of (machine_of (options_of options) image.now) image.now (notes_of framed.now.found.notes) framed.now.found.entry)
+        framed.now.invariants.items) (answer_of a)) }
+{
+    answer_framed_by::<M, H>(alloc, shelf, image, framed, task)
+}
+
+/// The same, by the file and some options.
+fn answer_segmented_on<H: Shelf>(
+    alloc: Global,
+    shelf: &mut H,
+    image: &Image,
+    framed: &Framed,
+    options: Options,
+    task: FrameTask,
+) -> Result<Answer, AllocError>
+    requires found { IsOverFile image.now framed.now.found }
+    requires place { IsAtPlace (machine_of (options_of options) image.now).narrow framed.now.found.entry }
+    requires rising { IsStrictlyIncreasing framed.now.invariants.items }
+    ensures keeps { (n : List ℕ) → H.holds shelf.new n ≡ H.holds shelf.old n }
+    ensures never_falls { (n : List ℕ) → H.faults shelf.old n ≤ H.faults shelf.new n }
+    ensures begun { AreBegun (H.begun shelf.old) (H.begun shelf.new) (names_of_frame_task task.entry) }
+    ensures done { IfOk result (λ a. IsSegmented (seen (H.holds shelf.old) (H.faults shelf.old) (H.faults shelf.new)) task.entry
+        (layout_of (options_of options) image.now)
+        (whole_of (program_of (machine_of (options_of options) image.now) image.now (notes_of framed.now.found.notes) framed.now.found.entry)
+        framed.now.invariants.items) (answer_of a)) }
+{
+    on_machine!(
+        image,
+        options,
+        answer_framed_of[H](alloc, shelf, image, framed, options, task)
+    )
+}
+
+/// The answer to a task about a function, by whether its notes have invariants. The error is out of memory.
+fn answer_framed_on<H: Shelf>(
+    alloc: Global,
+    shelf: &mut H,
+    image: &Image,
+    framed: &Framed,
+    options: Options,
+    task: FrameTask,
+) -> Result<Answer, AllocError>
+    requires found { IsOverFile image.now framed.now.found }
+    requires place { IsAtPlace (machine_of (options_of options) image.now).narrow framed.now.found.entry }
+    requires rising { IsStrictlyIncreasing framed.now.invariants.items }
+    ensures keeps { (n : List ℕ) → H.holds shelf.new n ≡ H.holds shelf.old n }
+    ensures never_falls { (n : List ℕ) → H.faults shelf.old n ≤ H.faults shelf.new n }
+    ensures begun { AreBegun (H.begun shelf.old) (H.begun shelf.new) (names_of_frame_task task.entry) }
+    ensures done { IfOk result (λ a. IsFramedDone (seen (H.holds shelf.old) (H.faults shelf.old) (H.faults shelf.new)) task.entry
+        (layout_of (options_of options) image.now)
+        (whole_of (program_of (machine_of (options_of options) image.now) image.now (notes_of framed.now.found.notes) framed.now.found.entry)
+        framed.now.invariants.items) (answer_of a)) }
+{
+    if framed.invariants.is_empty() {
+        let task = without_invariants(task);
+        return answer_on(alloc, shelf, image, &framed.found, options, task);
+    }
+    answer_segmented_on(alloc, shelf, image, framed, options, task)
+}
+
+/// The answer to a task about the function that the ELF file and the notes of two names are, or to what refuses them. The error is out of memory, which a price
+/// of 2^128 - 1 or more counts as too, and want of numbers for terms.
+pub fn answer_framed<H: Shelf>(
+    alloc: Global,
+    shelf: &mut H,
+    elf: &str,
+    notes: &str,
+    options: Options,
+    task: FrameTask,
+) -> Result<Answer, AllocError>
+    ensures keeps { (n : List ℕ) → H.holds shelf.new n ≡ H.holds shelf.old n }
+    ensures never_falls { (n : List ℕ) → H.faults shelf.old n ≤ H.faults shelf.new n }
+    ensures begun { AreBegun (H.begun shelf.old) (H.begun shelf.new) (elf.now ∷ notes.now ∷ names_of_frame_task task.entry) }
+    ensures answered { IfOk result (λ a. AfterWhole (seen (H.holds shelf.old) (H.faults shelf.old) (H.faults shelf.new)) (options_of options) elf.now notes.now
+        (λ file. IsFramedDone (seen (H.holds shelf.old) (H.faults shelf.old) (H.faults shelf.new)) task.entry (layout_of (options_of options) file))
+        (answer_of a)) }
+{
+    let file = match read_elf(alloc, shelf, elf)? {
+        Step::Go(file) => file,
+        Step::Answered(answer) => return Ok(answer),
+    };
+    match read_framed(alloc, shelf, &file, notes, options)? {
+        Step::Go((image, framed)) => {
+            answer_framed_on(alloc, shelf, &image, &framed, options, task)
+        }
+        Step::Answered(answer) => Ok(answer),
+    }
+}
